@@ -1,13 +1,31 @@
-// A library with one function.
+//! The values of the transaction manager: numbers with a range, the calls and lines of a script, the entries
+//! of a history, the messages between the two sides, and the small collections that contracts see as lists.
 #![tactic(auto)]
 
-ghost use Rattle.std.specs.Prelude.{◌≡◌};
-ghost use Rattle.dtx_values.specs.Echo.{echo_of};
+mod call;
+mod entry;
+mod limits;
+mod message;
+mod note;
+mod number;
+mod outbox;
+mod record;
+mod resource;
+mod script;
+mod trace;
+mod words;
 
-// The `ensures` clause is the contract: what `echo` returns is `echo_of` of its argument, a definition
-// in `specs/Echo.antt`, which a caller's clause can cite too.
-pub fn echo(x: usize) -> usize
-    ensures { result ≡ echo_of x }
-{
-    x
-}
+pub use call::Call;
+pub use entry::{Answer, Ask, Entry, LogNote, Party, Request, ScopeNote};
+pub use limits::{DURABLES, ENLISTMENTS, ROOM};
+pub use message::{Conn, Dir, Info, Message};
+pub use note::{Note, Plan, Reply};
+pub use number::{ActorNo, CloneNo, EnlNo, RmNo, ScopeNo, TxNo};
+pub use outbox::Outbox;
+pub use record::{Differs, LogRecord};
+pub use resource::Resource;
+pub use script::{BadCause, Body, EnlistOption, Line, Opening, Script, Support};
+pub use trace::{Place, Trace};
+pub use words::{
+    Cause, Class, CloneKind, Image, Iso, IsoWord, Outcome, ScopeOption, Status, Timeout, Vote,
+};

@@ -1,0 +1,10 @@
+//! Limits that several crates name. They are a definition of this project.
+
+/// The most enlistments that one transaction may have, waiting ones counted.
+pub const ENLISTMENTS: usize = 32;
+
+/// The most durable or promotable enlistments of one transaction, waiting ones counted.
+pub const DURABLES: usize = 16;
+
+/// The most entries, and the most messages, that one step makes.
+pub const ROOM: usize = 64;

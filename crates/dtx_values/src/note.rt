@@ -1,0 +1,33 @@
+//! What an enlistment is told, what it replies, and what its line plans.
+use crate::words::{Outcome, Vote};
+
+/// The notifications of System.Transactions. `Hand` is SinglePhaseCommit before a promotion, `Single` the same
+/// after it.
+#[derive(Clone, Copy, PartialEq, Eq, Debug)]
+pub enum Note {
+    Init,
+    Prepare,
+    Promote,
+    Hand,
+    Single,
+    Commit,
+    Rollback,
+    InDoubt,
+}
+
+/// A reply. A vote answers Prepare, `Promote` Promote, `Owner` Hand and Single, `Ack` Commit.
+#[derive(Clone, Copy, PartialEq, Eq, Debug)]
+pub enum Reply {
+    Vote(Vote),
+    Promote(bool),
+    Owner(Outcome),
+    Ack,
+}
+
+/// What an enlistment's line says that it replies. `None` is silent.
+#[derive(Clone, Copy, PartialEq, Eq, Debug)]
+pub struct Plan {
+    pub vote: Option<Vote>,
+    pub owner: Option<Outcome>,
+    pub promote: Option<bool>,
+}
