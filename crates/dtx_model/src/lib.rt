@@ -1,13 +1,8 @@
-// A library with one function.
+//! The definitions over histories, scripts and traces, which every other crate's contracts cite. They stand in `specs/`, in the
+//! order in which a reader should meet them: Words, Entries, Messages, Outcome; Observed, Steps, Caused; Replay, History; Grammar,
+//! TraceText. `docs/DEFINITIONS.md` says each of them in words.
 #![tactic(auto)]
 
-ghost use Rattle.std.specs.Prelude.{◌≡◌};
-ghost use Rattle.dtx_model.specs.Echo.{echo_of};
+mod row;
 
-// The `ensures` clause is the contract: what `echo` returns is `echo_of` of its argument, a definition
-// in `specs/Echo.antt`, which a caller's clause can cite too.
-pub fn echo(x: usize) -> usize
-    ensures { result ≡ echo_of x }
-{
-    x
-}
+pub use row::Row;

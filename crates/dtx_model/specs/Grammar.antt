@@ -1,0 +1,121 @@
+-- Script grammar, for the lines that are run: which bytes are which script. Each line has one spelling.
+use Rattle.std.specs.Prelude.{ℕ, ◌+◌, ◌≡◌, ◌≢◌, ◌≤◌, ◌==◌, nat_le, Bool, true, false, ◌&&◌, not, List, [], ◌∷◌, ◌++◌, length, codes, decimal, Option, Some, None}
+use Rattle.std.specs.List.{flat_map, join_with_byte}
+use Rattle.dtx_values.specs.declared.number.TxNo.{TxNo}
+use Rattle.dtx_values.specs.declared.script.Body.{Body}
+use Rattle.dtx_values.specs.declared.script.Body.TheVariants.{Begin, Volatile, Commit}
+use Rattle.dtx_values.specs.declared.script.EnlistOption.{EnlistOption}
+use Rattle.dtx_values.specs.declared.script.EnlistOption.TheVariants.{Plain, DuringPrepare}
+use Rattle.dtx_values.specs.declared.script.Line.{Line}
+use Rattle.dtx_values.specs.declared.words.Timeout.{Timeout}
+use Rattle.dtx_values.specs.declared.words.Timeout.TheVariants.{Default, Milliseconds}
+use Rattle.dtx_values.specs.declared.words.Vote.{Vote}
+use Rattle.dtx_values.specs.declared.words.Vote.TheVariants.{Yes, No, Done}
+use Rattle.dtx_model.specs.Words.{has, each, always, past_of}
+
+-- a name: a letter and a number
+abbrev pub actor_name : ℕ → List ℕ
+actor_name n = codes "a" ++ decimal n
+
+abbrev pub transaction_name : ℕ → List ℕ
+transaction_name n = codes "t" ++ decimal n
+
+abbrev pub enlistment_name : ℕ → List ℕ
+enlistment_name n = codes "e" ++ decimal n
+
+abbrev pub timeout_word : Timeout → List ℕ
+timeout_word Default = codes "default"
+timeout_word (Milliseconds n) = decimal n
+
+abbrev pub option_word : EnlistOption → List ℕ
+option_word Plain = codes "none"
+option_word DuringPrepare = codes "during"
+
+abbrev pub vote_word : Option Vote → List ℕ
+vote_word (Some Yes) = codes "yes"
+vote_word (Some No) = codes "no"
+vote_word (Some Done) = codes "done"
+vote_word None = codes "silent"
+
+-- the words of a command
+abbrev pub command_words : Body → List (List ℕ)
+command_words (Begin t d) = codes "begin" ∷ transaction_name t.value ∷ timeout_word d ∷ []
+command_words (Volatile t e o v) = codes "volatile" ∷ transaction_name t.value ∷ enlistment_name e.value ∷ option_word o ∷ vote_word v ∷ []
+command_words (Commit t) = codes "commit" ∷ transaction_name t.value ∷ []
+command_words _ = []
+
+-- the words of a line: its actor and its command
+abbrev pub words : Line → List (List ℕ)
+words l = actor_name l.actor.value ∷ command_words l.body
+
+-- a line's bytes: its words with exactly one space between them, and LF
+abbrev pub line_text : Line → List ℕ
+line_text l = join_with_byte 32 (words l) ++ 10 ∷ []
+
+abbrev pub script_text : List Line → List ℕ
+script_text s = flat_map line_text s
+
+-- the lines that are run: begin, volatile with `none` and the vote yes or done, and commit
+abbrev pub is_run : Body → Bool
+is_run (Begin t d) = true
+is_run (Volatile t e Plain (Some Yes)) = true
+is_run (Volatile t e Plain (Some Done)) = true
+is_run (Commit t) = true
+is_run _ = false
+
+-- the name of a transaction or an enlistment
+pub data Name : Type 0 where
+  OfTransaction : ℕ → Name
+  OfEnlistment : ℕ → Name
+
+abbrev pub same_name : Name → Name → Bool
+same_name (OfTransaction n) (OfTransaction m) = n == m
+same_name (OfEnlistment n) (OfEnlistment m) = n == m
+same_name _ _ = false
+
+-- the names that a command makes
+abbrev pub makes : Body → List Name
+makes (Begin t d) = OfTransaction t.value ∷ []
+makes (Volatile t e o v) = OfEnlistment e.value ∷ []
+makes _ = []
+
+-- the names that a command uses
+abbrev pub uses : Body → List Name
+uses (Volatile t e o v) = OfTransaction t.value ∷ []
+uses (Commit t) = OfTransaction t.value ∷ []
+uses _ = []
+
+-- a line of these makes the name
+abbrev pub is_made : List Line → Name → Bool
+is_made before n = has (λ l. has (λ m. same_name n m) (makes l.body)) before
+
+-- the line makes names that weren't made before, and uses names that were
+abbrev pub is_named_well : List Line → Line → Bool
+is_named_well before l = each (λ n. not (is_made before n)) (makes l.body) && each (λ n. is_made before n) (uses l.body)
+
+-- the line has at most 200 bytes before its LF
+abbrev pub is_short : Line → Bool
+is_short l = nat_le (length (line_text l)) 201
+
+-- the lines are a script: each is run, none is too long, they end by byte 1,048,576, and names are made once, before they are used
+pub record IsScript (s : List Line) : Type 0 where
+  pub run : each (λ l. is_run l.body) s ≡ true
+  pub short : each is_short s ≡ true
+  pub within : length (script_text s) ≤ 1048576
+  pub named : always is_named_well (past_of s) ≡ true
+
+-- Reads: these bytes are this script
+pub record Reads (b : List ℕ) (s : List Line) : Type 0 where
+  pub bytes : b ≡ script_text s
+  pub script : IsScript s
+
+-- line n of these bytes is the first that isn't run yet: the lines before it are a script, something is left, and no line that could follow
+-- them stands there
+pub record IsNotYet (b : List ℕ) (n : ℕ) : Type 0 where
+  pub before : List Line
+  pub rest : List ℕ
+  pub bytes : b ≡ script_text before ++ rest
+  pub script : IsScript before
+  pub number : n ≡ length before + 1
+  pub left : rest ≢ []
+  pub unread : (l : Line) (after : List ℕ) → rest ≡ line_text l ++ after → IsScript (before ++ l ∷ []) → ⊥

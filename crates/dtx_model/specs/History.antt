@@ -1,0 +1,28 @@
+-- The traces of a replay of a script. A trace stands oldest first here, as it is printed.
+use Rattle.std.specs.Prelude.{◌≡◌, true, List}
+use Rattle.dtx_values.specs.declared.number.TxNo.{TxNo}
+use Rattle.dtx_values.specs.declared.entry.Entry.{Entry}
+use Rattle.dtx_values.specs.declared.script.Line.{Line}
+use Rattle.dtx_values.specs.declared.words.Outcome.TheVariants.{Committed}
+use Rattle.dtx_model.specs.Words.{has, past_of}
+use Rattle.dtx_model.specs.Entries.{is_commit, is_client_told}
+use Rattle.dtx_model.specs.Outcome.{justified, agree}
+use Rattle.dtx_model.specs.Caused.{Caused, Settled}
+use Rattle.dtx_model.specs.Replay.{Placed, history, IsReplayed, calls, due_calls}
+
+-- IsHistory: each transaction's history is caused by the script and settled, each line has its call exactly once and in order, and the
+-- steps came in the order of a replay
+pub record IsHistory (s : List Line) (T : List Placed) : Type 0 where
+  pub caused : (t : TxNo) → Caused s t.value (history t.value (past_of T))
+  pub settled : (t : TxNo) → Settled s (history t.value (past_of T))
+  pub called : calls (past_of T) ≡ due_calls s (past_of s)
+  pub replayed : IsReplayed s (past_of T)
+
+-- what is told in each transaction is just, and nobody is told the opposite of what another is told
+pub record HasOneOutcome (T : List Placed) : Type 0 where
+  pub just : (t : TxNo) → justified (history t.value (past_of T)) ≡ true
+  pub agrees : (t : TxNo) → agree (history t.value (past_of T)) ≡ true
+
+-- each transaction that was asked to commit is committed: its client was told so
+abbrev pub IsComplete : List Placed → Type 0
+IsComplete T = (t : TxNo) → has is_commit (history t.value (past_of T)) ≡ true → has (is_client_told Committed) (history t.value (past_of T)) ≡ true

@@ -1,0 +1,90 @@
+-- In which order a replay takes its steps. A trace is read newest first here.
+use Rattle.std.specs.Prelude.{ℕ, suc, ◌≡◌, ◌==◌, nat_le, nat_lt, Bool, true, false, ◌&&◌, ◌||◌, List, [], ◌∷◌, length, map, Option, Some, None, if◌then◌else◌}
+use Rattle.dtx_values.specs.declared.number.TxNo.{TxNo}
+use Rattle.dtx_values.specs.declared.number.ActorNo.{ActorNo}
+use Rattle.dtx_values.specs.declared.call.Call.{Call}
+use Rattle.dtx_values.specs.declared.entry.Entry.{Entry}
+use Rattle.dtx_values.specs.declared.entry.Entry.TheVariants.{Called}
+use Rattle.dtx_values.specs.declared.script.Line.{Line}
+use Rattle.dtx_values.specs.declared.trace.Place.{Place}
+use Rattle.dtx_values.specs.declared.trace.Place.TheVariants.{Transaction}
+use Rattle.dtx_model.specs.Words.{onto, past_of, put, all_of}
+use Rattle.dtx_model.specs.Observed.{observe}
+use Rattle.dtx_model.specs.Steps.{Step, Calls, call_of, block, pending}
+use Rattle.dtx_model.specs.Caused.{Settled}
+
+-- a trace: entries with their places
+abbrev pub Placed : Type 0
+Placed = Place × Entry
+
+abbrev pub is_at : ℕ → Place → Bool
+is_at t (Transaction u) = t == u.value
+is_at t _ = false
+
+-- the history of transaction t: the entries of the trace at t
+abbrev pub history : ℕ → List Placed → List Entry
+history t [] = []
+history t (x ∷ past) = if is_at t x.0 then x.1 ∷ history t past else history t past
+
+-- a block of entries at a transaction
+abbrev pub placed : TxNo → List Entry → List Placed
+placed t es = map (λ e. (Transaction t, e)) es
+
+-- the trace with the block of a step of t behind it
+abbrev pub after_step : TxNo → Step → List Placed → List Placed
+after_step t m T = onto T (placed t (block (observe (history t.value T)) m))
+
+-- what line n does: its call
+abbrev pub after_call : Line → ℕ → Option (TxNo × Call) → List Placed → List Placed
+after_call l n (Some c) T = after_step c.0 (Calls n l.actor c.1) T
+after_call l n None T = T
+
+-- the lines, newest first, were run in order, and this is their trace
+abbrev pub LinesRan : List Line → List Line → List Placed → Type 0
+LinesRan s [] T = T ≡ []
+LinesRan s (l ∷ before) T = (past : List Placed) × LinesRan s before past × (T ≡ after_call l (suc (length before)) (call_of s l.body) past)
+
+-- going round from u, v comes before t
+abbrev pub is_passed : ℕ → ℕ → ℕ → Bool
+is_passed u t v = if nat_le u t then nat_le u v && nat_lt v t else nat_le u v || nat_lt v t
+
+-- at the end it is t's turn behind u's, with this step: the first that is pending at t, and going round from u nothing is pending before
+pub record IsTurn (s : List Line) (T : List Placed) (u : ℕ) (t : TxNo) (m : Step) : Type 0 where
+  pub others : List Step
+  pub first : pending s (observe (history t.value T)) ≡ m ∷ others
+  pub passed : (v : TxNo) → is_passed u t.value v.value ≡ true → Settled s (history v.value T)
+
+-- whose turn was the last; t1's at first
+abbrev pub last_turn : List (TxNo × Step) → ℕ
+last_turn [] = 1
+last_turn (x ∷ xs) = x.0.value
+
+-- behind the lines t1, t2 and so on were settled in rounds; these are the turns, newest first
+abbrev pub RoundsRan : List Line → List Placed → List (TxNo × Step) → List Placed → Type 0
+RoundsRan s start [] T = T ≡ start
+RoundsRan s start (x ∷ xs) T = (past : List Placed) × RoundsRan s start xs past × IsTurn s past (last_turn xs) x.0 x.1 × (T ≡ after_step x.0 x.1 past)
+
+-- the trace of a replay: what the lines did in order, and then the rounds
+pub record IsReplayed (s : List Line) (T : List Placed) : Type 0 where
+  pub by_lines : List Placed
+  pub lines : LinesRan s (past_of s) by_lines
+  pub turns : List (TxNo × Step)
+  pub rounds : RoundsRan s by_lines turns T
+
+-- the calls of a trace: the place, the line and the actor of each
+abbrev pub called_of : Placed → Option (Place × ℕ × ActorNo)
+called_of (p, Called n a x) = Some (p, n, a)
+called_of _ = None
+
+abbrev pub calls : List Placed → List (Place × ℕ × ActorNo)
+calls T = all_of called_of T
+
+-- the call that line n, by this actor, is to write
+abbrev pub due_call : ℕ → ActorNo → Option (TxNo × Call) → Option (Place × ℕ × ActorNo)
+due_call n a (Some c) = Some (Transaction c.0, n, a)
+due_call n a None = None
+
+-- the calls that the lines are to write, newest first
+abbrev pub due_calls : List Line → List Line → List (Place × ℕ × ActorNo)
+due_calls s [] = []
+due_calls s (l ∷ before) = put (due_call (suc (length before)) l.actor (call_of s l.body)) (due_calls s before)
