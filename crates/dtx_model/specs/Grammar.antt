@@ -63,6 +63,11 @@ is_run (Volatile t e Plain (Some Done)) = true
 is_run (Commit t) = true
 is_run _ = false
 
+-- a timeout is a number up to 4,294,967,295; the types of the other numbers keep their ranges
+abbrev pub is_in_range : Body → Bool
+is_in_range (Begin t (Milliseconds n)) = nat_le n 4294967295
+is_in_range _ = true
+
 -- the name of a transaction or an enlistment
 pub data Name : Type 0 where
   OfTransaction : ℕ → Name
@@ -97,9 +102,11 @@ is_named_well before l = each (λ n. not (is_made before n)) (makes l.body) && e
 abbrev pub is_short : Line → Bool
 is_short l = nat_le (length (line_text l)) 201
 
--- the lines are a script: each is run, none is too long, they end by byte 1,048,576, and names are made once, before they are used
+-- the lines are a script: each is run, its numbers are in their ranges, none is too long, they end by byte 1,048,576, and names are made
+-- once, before they are used
 pub record IsScript (s : List Line) : Type 0 where
   pub run : each (λ l. is_run l.body) s ≡ true
+  pub in_range : each (λ l. is_in_range l.body) s ≡ true
   pub short : each is_short s ≡ true
   pub within : length (script_text s) ≤ 1048576
   pub named : always is_named_well (past_of s) ≡ true

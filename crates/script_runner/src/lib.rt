@@ -1,2 +1,6 @@
 //! Runs scripts: the top call of the program.
 #![tactic(auto)]
+
+mod machine;
+mod plans;
+mod rows;

@@ -1,0 +1,109 @@
+//! The table of one transaction's enlistments, in order of number.
+ghost use Rattle.std.specs.Prelude.{◌≡◌, ◌<◌, ◌≤◌, ◌+◌, ◌^◌, map, find, length, vec_len, vec_capacity};
+ghost use Rattle.std.specs.List.{insert};
+ghost use Rattle.dtx_model.specs.Observed.{row_after, insert_row};
+ghost use Rattle.dtx_model.specs.Steps.{is_to_tell, is_unasked, all_voted};
+ghost use Rattle.dtx_model.specs.Entries.{is_volatile};
+ghost use Rattle.dtx_model.specs.declared.row.Row.{Row};
+
+use dtx_model::Row;
+use dtx_values::{Ask, Class, Entry, Party, Vote};
+
+/// The row with what the entry changes in it.
+fn row_with(r: Row, x: Entry) -> Row
+    ensures { result ≡ row_after x r }
+{
+    match x {
+        Entry::Asked(e, Ask::Prepare) => Row {
+            asked: r.enlistment == e || r.asked,
+            ..r
+        },
+        Entry::Voted(e, v) => Row {
+            vote: if r.enlistment == e { Some(v) } else { r.vote },
+            ..r
+        },
+        Entry::Told(Party::Enl(e), _) => Row {
+            told: r.enlistment == e || r.told,
+            ..r
+        },
+        _ => r,
+    }
+}
+
+/// Changes each row as the entry does.
+pub fn update(rows: &mut [Row], x: Entry)
+    ensures { rows.new ≡ map (λ r. row_after x r) rows.old }
+{
+    for r in rows.iter_mut() {
+        *r = row_with(*r, x);
+    }
+}
+
+/// The index at which a row of this number goes.
+fn place(rows: &[Row], n: u32) -> usize
+    ensures within { result ≤ length rows.now }
+    ensures there { (r : Row) → r.enlistment.value ≡ n → insert rows.now result r ≡ insert_row r rows.now }
+{
+    for (i, q) in rows.iter().enumerate() {
+        if q.enlistment.get() >= n {
+            return i;
+        }
+    }
+    rows.len()
+}
+
+/// Adds a row at its place in the order of numbers.
+pub fn add(rows: &mut Vec<Row>, r: Row)
+    requires { vec_len rows.old < vec_capacity rows.old }
+    ensures items { rows.new.items ≡ insert_row r rows.old.items }
+    ensures capacity { vec_capacity rows.old ≤ vec_capacity rows.new }
+{
+    let at = place(rows, r.enlistment.get());
+    match rows.insert(at, r) {
+        Ok(()) => {}
+        Err(_) => unreachable!(),
+    }
+}
+
+fn is_volatile(c: Class) -> bool
+    ensures { result ≡ is_volatile c }
+{
+    match c {
+        Class::Zero | Class::One => true,
+        _ => false,
+    }
+}
+
+fn is_to_tell(r: &Row) -> bool
+    ensures { result ≡ is_to_tell r.now }
+{
+    let hears = match r.vote {
+        None | Some(Vote::Yes) => true,
+        Some(_) => false,
+    };
+    is_volatile(r.class) && !r.told && hears
+}
+
+/// The lowest enlistment that is still to be told the outcome.
+pub fn first_to_tell(rows: &[Row]) -> Option<Row>
+    ensures { result ≡ find is_to_tell rows.now }
+{
+    rows.iter().copied().find(|r| is_to_tell(r))
+}
+
+/// The lowest volatile that wasn't asked to prepare.
+pub fn first_unasked(rows: &[Row]) -> Option<Row>
+    ensures { result ≡ find is_unasked rows.now }
+{
+    rows.iter()
+        .copied()
+        .find(|r| is_volatile(r.class) && !r.asked)
+}
+
+/// Whether every volatile voted.
+pub fn all_voted(rows: &[Row]) -> bool
+    ensures { result ≡ all_voted rows.now }
+{
+    rows.iter()
+        .all(|r| !is_volatile(r.class) || r.vote.is_some())
+}
