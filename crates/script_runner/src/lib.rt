@@ -3,4 +3,5 @@
 
 mod machine;
 mod plans;
+mod replay;
 mod rows;

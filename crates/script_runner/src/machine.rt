@@ -1,16 +1,17 @@
 //! What one transaction knows of its own history, and the entries that its steps make.
-ghost use Rattle.std.specs.Prelude.{◌≡◌, ◌<◌, ◌≤◌, ◌-◌, ◌+◌, [], ◌∷◌, find, IfOk, IsTrue, length, true};
+ghost use Rattle.std.specs.Prelude.{◌≡◌, ◌<◌, ◌≤◌, ◌-◌, ◌+◌, [], ◌∷◌, false, find, IfOk, not, true};
 ghost use Rattle.dtx_values.specs.Outgoing.{with};
-ghost use Rattle.dtx_values.specs.declared.entry.Entry.TheVariants.{Voted};
+ghost use Rattle.dtx_model.specs.Outcome.{is_empty};
 ghost use Rattle.dtx_model.specs.Observed.{track, track_all, observe};
-ghost use Rattle.dtx_model.specs.Steps.{Calls, act_by, act_entries, answer, behind_begin, block, facts, is_fine, is_to_tell, limit_of, tell, undecided_act};
-ghost use Rattle.script_runner.specs.Machine.{MayNote};
+ghost use Rattle.dtx_model.specs.Steps.{Calls, act_by, act_entries, answer, behind_begin, block, due_replies, facts, is_fine, is_to_tell, limit_of, pending, tell, undecided_act};
+ghost use Rattle.script_runner.specs.Machine.{DoesFirst, IsFirstReply, MayNote};
 
-use crate::rows::{add, all_voted, first_to_tell, first_unasked, update};
+use crate::plans::Plans;
+use crate::rows::{add, all_voted, first_due, first_to_tell, first_unasked, update};
 use dtx_model::Row;
 use dtx_values::{
-    ActorNo, Answer, Ask, Call, Class, ENLISTMENTS, EnlistOption, Entry, Outbox, Outcome, Party,
-    Timeout,
+    ActorNo, Answer, Ask, Call, Class, ENLISTMENTS, EnlNo, EnlistOption, Entry, Outbox, Outcome,
+    Party, Timeout, Vote,
 };
 use std::alloc::{AllocError, Global};
 use std::marker::Model;
@@ -184,51 +185,85 @@ impl Machine {
         }
     }
 
-    fn tell(&mut self, o: Outcome, out: &mut Outbox)
+    fn tell(&mut self, o: Outcome, out: &mut Outbox) -> bool
         requires { 1 ≤ out.old.room }
+        ensures acted { result ≡ not (is_empty (tell o (find is_to_tell self.old.table) self.old.told_client)) }
         ensures state { self.new ≡ track_all self.old (tell o (find is_to_tell self.old.table) self.old.told_client) }
         ensures out { out.new ≡ with out.old (tell o (find is_to_tell self.old.table) self.old.told_client) }
     {
         match first_to_tell(&self.rows) {
             Some(r) => self.write(Entry::Told(Party::Enl(r.enlistment), o), out),
             None => {
-                if !self.told_client {
-                    self.write(Entry::Told(Party::Client, o), out);
+                if self.told_client {
+                    return false;
                 }
+                self.write(Entry::Told(Party::Client, o), out);
             }
         }
+        true
     }
 
-    fn undecided_act(&mut self, out: &mut Outbox)
+    fn undecided_act(&mut self, out: &mut Outbox) -> bool
         requires { 1 ≤ out.old.room }
+        ensures acted { result ≡ not (is_empty (undecided_act self.old)) }
         ensures state { self.new ≡ track_all self.old (undecided_act self.old) }
         ensures out { out.new ≡ with out.old (undecided_act self.old) }
     {
         if !self.commit {
-            return;
+            return false;
         }
         if !self.sealed {
-            return self.write(Entry::Sealed, out);
+            self.write(Entry::Sealed, out);
+            return true;
         }
         match first_unasked(&self.rows) {
             Some(r) => self.write(Entry::Asked(r.enlistment, Ask::Prepare), out),
             None => {
-                if all_voted(&self.rows) {
-                    self.write(Entry::Decided(Outcome::Committed), out);
+                if !all_voted(&self.rows) {
+                    return false;
                 }
+                self.write(Entry::Decided(Outcome::Committed), out);
             }
         }
+        true
     }
 
-    /// Does the local act, if one is pending.
-    fn act(&mut self, out: &mut Outbox)
+    /// Does the local act; false where none is pending.
+    fn act(&mut self, out: &mut Outbox) -> bool
         requires { 1 ≤ out.old.room }
+        ensures acted { result ≡ not (is_empty (act_entries self.old)) }
         ensures state { self.new ≡ track_all self.old (act_entries self.old) }
         ensures out { out.new ≡ with out.old (act_entries self.old) }
     {
         match self.decided {
             Some(o) => self.tell(o, out),
             None => self.undecided_act(out),
+        }
+    }
+
+    /// The lowest enlistment whose reply is due, with the vote that its line plans.
+    fn due(&self, plans: &Plans) -> Option<(EnlNo, Vote)>
+        ensures { IsFirstReply result (due_replies plans.now self.now) }
+    {
+        match self.decided {
+            Some(_) => None,
+            None => first_due(&self.rows, plans),
+        }
+    }
+
+    /// Does the first pending step; false where none is.
+    pub fn advance(&mut self, plans: &Plans, out: &mut Outbox) -> bool
+        requires { 1 ≤ out.old.room }
+        ensures some { result ≡ true → DoesFirst plans.now self.old self.new out.old out.new }
+        ensures none { result ≡ false → pending plans.now self.old ≡ [] }
+        ensures unchanged { result ≡ false → self.new ≡ self.old }
+    {
+        match self.due(plans) {
+            Some((e, v)) => {
+                self.write(Entry::Voted(e, v), out);
+                true
+            }
+            None => self.act(out),
         }
     }
 }

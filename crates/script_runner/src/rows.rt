@@ -1,13 +1,15 @@
 //! The table of one transaction's enlistments, in order of number.
 ghost use Rattle.std.specs.Prelude.{◌≡◌, ◌<◌, ◌≤◌, ◌+◌, ◌^◌, map, find, length, vec_len, vec_capacity};
-ghost use Rattle.std.specs.List.{insert};
+ghost use Rattle.std.specs.List.{filter_map, insert};
 ghost use Rattle.dtx_model.specs.Observed.{row_after, insert_row};
-ghost use Rattle.dtx_model.specs.Steps.{is_to_tell, is_unasked, all_voted};
+ghost use Rattle.dtx_model.specs.Steps.{due_reply, is_to_tell, is_unasked, all_voted};
 ghost use Rattle.dtx_model.specs.Entries.{is_volatile};
+ghost use Rattle.script_runner.specs.Machine.{IsFirstReply};
 ghost use Rattle.dtx_model.specs.declared.row.Row.{Row};
 
+use crate::plans::Plans;
 use dtx_model::Row;
-use dtx_values::{Ask, Class, Entry, Party, Vote};
+use dtx_values::{Ask, Class, EnlNo, Entry, Party, Vote};
 
 /// The row with what the entry changes in it.
 fn row_with(r: Row, x: Entry) -> Row
@@ -106,4 +108,18 @@ pub fn all_voted(rows: &[Row]) -> bool
 {
     rows.iter()
         .all(|r| !is_volatile(r.class) || r.vote.is_some())
+}
+
+/// The lowest enlistment that was asked and hasn't voted, and whose plan isn't silent, with that plan.
+pub fn first_due(rows: &[Row], plans: &Plans) -> Option<(EnlNo, Vote)>
+    ensures { IsFirstReply result (filter_map (λ r. due_reply plans.now r) rows.now) }
+{
+    for r in rows {
+        if r.asked && r.vote.is_none() {
+            if let Some(v) = plans.vote(r.enlistment) {
+                return Some((r.enlistment, v));
+            }
+        }
+    }
+    None
 }
