@@ -13,6 +13,8 @@ mod source;
 mod standard;
 mod sure;
 mod tape;
+#[cfg(test)]
+mod tests;
 
 pub use failure::{Failed, WriteError};
 pub use memory::{MemSink, MemSource};

@@ -62,7 +62,9 @@ impl Source for MemSource {
             (λ n. n ≡ min self.old.piece (min (length into.old) (length self.old.rest))) }
         ensures bytes { IfOk result (λ n. take n into.new ≡ take n self.old.rest) }
         ensures taken { IfOk result (λ n. self.new ≡ record self.old {
-            rest = drop n self.old.rest; calls = counted false self.old.calls }) }
+          rest = drop n self.old.rest;
+          calls = counted false self.old.calls;
+        }) }
         ensures finished { IfOk result (λ n. n ≡ 0 → self.old.rest ≡ []) }
         ensures failed { OnErr result
             (self.new ≡ record self.old { calls = counted true self.old.calls }) }
@@ -136,7 +138,9 @@ impl Sink for MemSink {
         ensures planned { IsErrOf result WriteError.Failed ↔ FailsNext self.old.calls }
         ensures amount { IfOk result (λ n. n ≡ min self.old.piece (length from.now)) }
         ensures added { IfOk result (λ n. self.new ≡ record self.old {
-            kept = self.old.kept ++ take n from.now; calls = counted false self.old.calls }) }
+          kept = self.old.kept ++ take n from.now;
+          calls = counted false self.old.calls;
+        }) }
         ensures moves { IfOk result (λ n. 0 < n) }
         ensures failed { IfErr result (λ e. e ≡ WriteError.Failed →
             self.new ≡ record self.old { calls = counted true self.old.calls }) }

@@ -6,7 +6,6 @@ use crate::{Failed, Sink, Source, WriteError};
 use std::io::{ErrorKind, Input, Print, Read};
 use std::marker::Model;
 
-
 /// The standard input. It tells nothing of what is left.
 ///
 /// A clause sees it as its count of faults.
