@@ -1,5 +1,5 @@
 -- Lists that are read or written a piece at a time.
-use Rattle.std.proofs.Common.{◌≡◌, ℕ, ◌+◌, ◌≤◌, List, ◌++◌, [], take, drop, length, arith, ◌∙◌, sym, ap, append_assoc, length-append, length-drop}
+use Rattle.std.proofs.Common.{◌≡◌, ℕ, ◌+◌, ◌≤◌, List, ◌++◌, [], take, drop, length, arith, ◌∙◌, sym, ap, append_assoc, length-append}
 use Rattle.std.proofs.lemmas.List.{take-append-drop, take-take, drop-take, drop-drop, length-take, append-nil, take_all}
 
 -- the first m + n are the first m, and then the first n of the rest
