@@ -3,6 +3,13 @@
 //! A [`Source`] is read and a [`Sink`] is written. Each has a meaning, the bytes that are left or were
 //! written, where it tells them, and a count of faults that never falls. `Failed` comes only from a
 //! call in which that count rose, or stands at the last value of its `u64`.
+//!
+//! - [`MemSource`] and [`MemSink`] hold bytes in memory, and fail at the calls that one names.
+//! - [`SureSource`] and [`SureSink`] hold bytes in memory, and never fail.
+//! - [`StdSource`] and [`StdSink`] are the input and the output of the process. They tell nothing of
+//!   their content, so no clause says which bytes they give or take.
+//!
+//! All rules here are definitions of this project.
 #![tactic(auto)]
 
 mod failure;

@@ -10,10 +10,11 @@ use crate::{Failed, Sink, Source, WriteError};
 use std::alloc::Global;
 use std::marker::Model;
 
-/// A source over bytes in memory. It tells what is left.
+/// A source over bytes in memory, whose calls fail where one says so. It tells what is left. A definition
+/// of this project.
 ///
-/// A clause sees it as a `Feed`: the bytes that are left, how many a read gives at most, and which of
-/// its calls fail.
+/// A clause sees it as a `Feed`: the bytes that are left, how many a read gives at most, and its calls.
+/// A read that doesn't fail gives as many bytes as a piece has, as fit and as are left.
 #[derive(Drop)]
 pub struct MemSource {
     tape: Tape,
@@ -35,7 +36,8 @@ impl Model for MemSource {
 impl MemSource {
     /// A source that gives `bytes`, at most `piece` of them in a read, where `piece` is at least 1.
     ///
-    /// Its calls are numbered from 1. A call whose number stands in `fail` fails.
+    /// Its calls are numbered from 1, in order of calling. A call whose number stands in `fail` answers
+    /// [`Failed`] and does nothing but count.
     pub fn new(bytes: Vec<u8>, piece: usize, fail: Vec<u64>) -> MemSource
         requires { 1 ≤ piece }
         ensures rest { result.rest ≡ bytes.items }
@@ -79,10 +81,11 @@ impl Source for MemSource {
     }
 }
 
-/// A sink in memory. It tells what was written.
+/// A sink in memory, whose calls fail where one says so. It tells what was written. A definition of this
+/// project.
 ///
-/// A clause sees it as a `Store`: the bytes that were written, how many a write takes at most, and
-/// which of its calls fail.
+/// A clause sees it as a `Store`: the bytes that were written, how many a write takes at most, and its
+/// calls. A write that doesn't fail takes as many bytes as a piece has and as there are.
 #[derive(Drop)]
 pub struct MemSink {
     kept: Vec<u8>,
@@ -104,8 +107,9 @@ impl Model for MemSink {
 impl MemSink {
     /// An empty sink that takes at most `piece` bytes in a write, where `piece` is at least 1.
     ///
-    /// Its calls are numbered from 1. A call whose number stands in `fail` fails. A call that answers
-    /// [`WriteError::Memory`] takes no number.
+    /// Its calls are numbered from 1, in order of calling. A call whose number stands in `fail` answers
+    /// [`WriteError::Failed`] and does nothing but count. A call that answers [`WriteError::Memory`] does
+    /// nothing at all, so the next one has its number.
     pub fn new(alloc: Global, piece: usize, fail: Vec<u64>) -> MemSink
         requires { 1 ≤ piece }
         ensures kept { result.kept ≡ [] }

@@ -13,7 +13,7 @@ pub trait Sink {
     /// The bytes that were written so far, in order, or none where the sink doesn't tell them.
     ghost written: { Self → Option (List ℕ) };
 
-    /// How many calls met a fault, up to the last value of a `u64`.
+    /// How many calls met a fault, where the count stays at the last value of a `u64`.
     ghost faults: { Self → ℕ };
 
     /// Writes bytes from the start of `from`, which isn't empty, and returns how many were written.

@@ -13,17 +13,18 @@ pub trait Source {
     /// The bytes that are left to read, in order, or none where the source doesn't tell them.
     ghost left: { Self → Option (List ℕ) };
 
-    /// How many calls met a fault, up to the last value of a `u64`.
+    /// How many calls met a fault, where the count stays at the last value of a `u64`.
     ghost faults: { Self → ℕ };
 
-    /// Reads into the start of `into`, which isn't empty, and returns how many bytes came.
+    /// Reads bytes into the start of `into`, which isn't empty, and returns how many came.
     ///
-    /// `Ok(n)` has `n` at most the length of `into`. Where what is left is told, it gives its first `n`
-    /// bytes and takes them away, and `Ok(0)` comes only at the end.
+    /// `Ok(n)` has `n` at most the length of `into`. Where what is left is told, its first `n` bytes now
+    /// stand in `into` and are left no more. `Ok(0)` is the end of the input: nothing is left.
     ///
     /// # Errors
     ///
-    /// [`Failed`], only where the count of faults rose: what is left then stays.
+    /// [`Failed`], only where the count of faults rose. What is left then stays, and what `into` holds is
+    /// open.
     fn read(&mut self, into: &mut [u8]) -> Result<usize, Failed>
         requires { 0 < length into.old }
         ensures room { IfOk result (λ n. n ≤ length into.old) }

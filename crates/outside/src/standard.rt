@@ -6,7 +6,10 @@ use crate::{Failed, Sink, Source, WriteError};
 use std::io::{ErrorKind, Input, Print, Read};
 use std::marker::Model;
 
-/// The standard input. It tells nothing of what is left.
+/// The standard input. It tells nothing of what is left. A definition of this project.
+///
+/// A read gives what the system gives at once, and waits where nothing is there yet. It reads again after
+/// a signal. Any other error is a fault.
 ///
 /// A clause sees it as its count of faults.
 #[derive(Drop)]
@@ -55,8 +58,10 @@ impl<R: Input> Source for StdSource<R> {
     }
 }
 
-/// The standard output, with no buffer: what a write reports has left the process. It tells nothing of
-/// what was written.
+/// The standard output. It tells nothing of what was written. A definition of this project.
+///
+/// It has no buffer: what a write reports has left the process. It writes again after a signal. Any other
+/// error is a fault, as where the output is closed or full, and so is a write of no byte.
 ///
 /// A clause sees it as its count of faults.
 #[derive(Drop)]

@@ -9,6 +9,7 @@ use std::alloc::Global;
 use std::marker::Model;
 
 /// A source over bytes in memory that never fails. It tells what is left, and its count of faults is 0.
+/// A definition of this project.
 ///
 /// A clause sees it as the bytes that are left.
 #[derive(Drop)]
@@ -51,7 +52,8 @@ impl Source for SureSource {
     }
 }
 
-/// A sink in memory that never fails. It tells what was written, and its count of faults is 0.
+/// A sink in memory that never fails, though memory may run out. It tells what was written, and its count
+/// of faults is 0. A definition of this project.
 ///
 /// A clause sees it as the bytes that were written.
 #[derive(Drop)]

@@ -1,5 +1,6 @@
 // What no clause says: that the calls go well, in this order.
-ghost use Rattle.std.specs.Prelude.{◌<◌, ◌≤◌, length, IfOk};
+ghost use Rattle.std.specs.Prelude.{◌≡◌, ◌<◌, ◌≤◌, length, IfOk, IfErr, OnErr, IsOk};
+ghost use Rattle.outside.specs.Faults.{Rose};
 
 use crate::{Failed, MemSink, MemSource, Sink, Source, SureSink, SureSource, WriteError};
 use std::test::Fail;
@@ -7,16 +8,37 @@ use std::test::Fail;
 // A read through the bound.
 fn read_from<S: Source>(source: &mut S, into: &mut [u8]) -> Result<usize, Failed>
     requires { 0 < length into.old }
-    ensures { IfOk result (λ n. n ≤ length into.old) }
+    ensures room { IfOk result (λ n. n ≤ length into.old) }
+    ensures cause { OnErr result (Rose (S.faults source.old) (S.faults source.new)) }
 {
     source.read(into)
+}
+
+// By the clauses of the bound alone, no read of a sure source fails.
+fn read_surely(source: &mut SureSource, into: &mut [u8]) -> Result<usize, Failed>
+    requires { 0 < length into.old }
+    ensures { IsOk result }
+{
+    read_from(source, into)
 }
 
 // A write through the bound.
 fn write_to<S: Sink>(sink: &mut S, from: &[u8]) -> Result<usize, WriteError>
     requires { 0 < length from.now }
+    ensures cause { IfErr result
+        (λ e. e ≡ WriteError.Failed → Rose (S.faults sink.old) (S.faults sink.new)) }
+    ensures stalled { IfOk result (λ n. n ≡ 0 → Rose (S.faults sink.old) (S.faults sink.new)) }
 {
     sink.write(from)
+}
+
+// By the clauses of the bound alone, a write to a sure sink writes something, or no memory is left.
+fn write_surely(sink: &mut SureSink, from: &[u8]) -> Result<usize, WriteError>
+    requires { 0 < length from.now }
+    ensures moves { IfOk result (λ n. 0 < n) }
+    ensures memory { IfErr result (λ e. e ≡ WriteError.Memory) }
+{
+    write_to(sink, from)
 }
 
 #[test]
@@ -77,19 +99,19 @@ fn sink_in_memory_takes_pieces_and_fails_as_planned(rt: HostRuntime) -> Result<(
 fn sure_source_gives_all(rt: HostRuntime) -> Result<(), Fail> {
     let mut source = SureSource::new(b"abc".to_vec(rt.alloc())?);
     let mut into = [0u8; 2];
-    assert_eq!(rt; read_from(&mut source, &mut into), Ok(2));
+    assert_eq!(rt; read_surely(&mut source, &mut into), Ok(2));
     assert_eq!(rt; into.as_slice(), b"ab".as_slice());
-    assert_eq!(rt; read_from(&mut source, &mut into), Ok(1));
+    assert_eq!(rt; read_surely(&mut source, &mut into), Ok(1));
     assert_eq!(rt; into[0], b'c');
-    assert_eq!(rt; read_from(&mut source, &mut into), Ok(0));
+    assert_eq!(rt; read_surely(&mut source, &mut into), Ok(0));
     Ok(())
 }
 
 #[test]
 fn sure_sink_takes_all(rt: HostRuntime) -> Result<(), Fail> {
     let mut sink = SureSink::new(rt.alloc());
-    assert_eq!(rt; write_to(&mut sink, b"ab"), Ok(2));
-    assert_eq!(rt; write_to(&mut sink, b"c"), Ok(1));
+    assert_eq!(rt; write_surely(&mut sink, b"ab"), Ok(2));
+    assert_eq!(rt; write_surely(&mut sink, b"c"), Ok(1));
     assert_eq!(rt; sink.bytes(), b"abc".as_slice());
     Ok(())
 }
