@@ -1,13 +1,31 @@
-// A library with one function.
+//! The outside: where bytes come from and where they go, and what stands in for both in memory.
+//!
+//! A [`Source`] is read and a [`Sink`] is written. Each has a meaning, the bytes that are left or were
+//! written, where it tells them, and a count of faults that never falls. `Failed` comes only from a
+//! call in which that count rose, or stands at the last value of its `u64`.
+//!
+//! - [`MemSource`] and [`MemSink`] hold bytes in memory, and fail at the calls that one names.
+//! - [`SureSource`] and [`SureSink`] hold bytes in memory, and never fail.
+//! - [`StdSource`] and [`StdSink`] are the input and the output of the process. They tell nothing of
+//!   their content, so no clause says which bytes they give or take.
+//!
+//! All rules here are definitions of this project.
 #![tactic(auto)]
 
-ghost use Rattle.std.specs.Prelude.{◌≡◌};
-ghost use Rattle.outside.specs.Echo.{echo_of};
+mod failure;
+mod memory;
+mod plan;
+mod sink;
+mod source;
+mod standard;
+mod sure;
+mod tape;
+#[cfg(test)]
+mod tests;
 
-// The `ensures` clause is the contract: what `echo` returns is `echo_of` of its argument, a definition
-// in `specs/Echo.antt`, which a caller's clause can cite too.
-pub fn echo(x: usize) -> usize
-    ensures { result ≡ echo_of x }
-{
-    x
-}
+pub use failure::{Failed, WriteError};
+pub use memory::{MemSink, MemSource};
+pub use sink::Sink;
+pub use source::Source;
+pub use standard::{StdSink, StdSource};
+pub use sure::{SureSink, SureSource};
