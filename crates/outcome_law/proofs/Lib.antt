@@ -1,3 +1,5 @@
 pub mod Bools
 pub mod Scans
 pub mod Tracks
+pub mod Pending
+pub mod Replays
