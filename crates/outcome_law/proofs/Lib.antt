@@ -3,3 +3,6 @@ pub mod Scans
 pub mod Tracks
 pub mod Pending
 pub mod Replays
+pub mod Tables
+pub mod Rules
+pub mod Blocks

@@ -41,7 +41,7 @@ has-at p [] k x e h = absurd cc
 has-at p (y ∷ xs) zero x e h = let same : y ≡ x = cc in let first : p y ≡ true = rw same h in rw first refl
 has-at p (y ∷ xs) (suc k) x e h = or_right (p y) (has p xs) (has-at p xs k x e h)
 
-and_swap : (a b c : Bool) → (a && (b && c)) ≡ (b && (a && c))
+pub and_swap : (a b c : Bool) → (a && (b && c)) ≡ (b && (a && c))
 and_swap true b c = refl
 and_swap false true c = refl
 and_swap false false c = refl
