@@ -6,3 +6,4 @@ pub mod Replays
 pub mod Tables
 pub mod Rules
 pub mod Blocks
+pub mod Settled
