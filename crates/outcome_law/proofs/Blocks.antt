@@ -1,5 +1,5 @@
 -- Each block of each step that may come keeps the rules.
-use Rattle.std.proofs.Common.{◌≡◌, ℕ, zero, suc, ◌==◌, Bool, true, false, ◌&&◌, ◌||◌, List, [], ◌∷◌, ◌++◌, length, Option, Some, None, refl, arith, ◌∙◌, ap, sym, subst}
+use Rattle.std.proofs.Common.{◌≡◌, ℕ, zero, suc, ◌==◌, Bool, true, false, ◌&&◌, ◌||◌, List, [], ◌∷◌, length, Option, Some, None, refl, arith, ap, sym, subst}
 use Rattle.std.specs.Prelude.{is_some, is_none, not, find, nat_le, if◌then◌else◌}
 use Rattle.std.specs.List.{filter_map}
 use Rattle.std.proofs.lemmas.Bool.Decides.{nat_tests}
@@ -9,11 +9,9 @@ use Rattle.dtx_values.specs.declared.number.TxNo.{TxNo}
 use Rattle.dtx_values.specs.declared.call.Call.{Call}
 use Rattle.dtx_values.specs.declared.call.Call.TheVariants.{Begin, Volatile, Commit}
 use Rattle.dtx_values.specs.declared.entry.Answer.{Answer}
-use Rattle.dtx_values.specs.declared.entry.Answer.TheVariants.{Fine, NotBegun, Ended, TooLate, Many}
-use Rattle.dtx_values.specs.declared.entry.Ask.TheVariants.{Prepare}
+use Rattle.dtx_values.specs.declared.entry.Answer.TheVariants.{Fine, NotBegun, TooLate, Many}
 use Rattle.dtx_values.specs.declared.entry.Entry.{Entry}
-use Rattle.dtx_values.specs.declared.entry.Entry.TheVariants.{Called, Began, Enlisted, CommitAsked, Asked, Voted, Sealed, Decided, Told}
-use Rattle.dtx_values.specs.declared.entry.Party.TheVariants.{Client, Enl}
+use Rattle.dtx_values.specs.declared.entry.Entry.TheVariants.{Called, Sealed}
 use Rattle.dtx_values.specs.declared.note.Reply.{Reply}
 use Rattle.dtx_values.specs.declared.note.Reply.TheVariants.{Vote as VoteReply}
 use Rattle.dtx_values.specs.declared.script.Body.{Body}
@@ -21,24 +19,23 @@ use Rattle.dtx_values.specs.declared.script.Body.TheVariants.{Begin as BeginLine
 use Rattle.dtx_values.specs.declared.script.EnlistOption.{EnlistOption}
 use Rattle.dtx_values.specs.declared.script.EnlistOption.TheVariants.{Plain, DuringPrepare}
 use Rattle.dtx_values.specs.declared.script.Line.{Line}
-use Rattle.dtx_values.specs.declared.words.Class.TheVariants.{Zero, One}
 use Rattle.dtx_values.specs.declared.words.Outcome.{Outcome}
-use Rattle.dtx_values.specs.declared.words.Outcome.TheVariants.{Committed, Aborted, InDoubt}
+use Rattle.dtx_values.specs.declared.words.Outcome.TheVariants.{Committed}
 use Rattle.dtx_values.specs.declared.words.Vote.{Vote}
-use Rattle.dtx_values.specs.declared.words.Vote.TheVariants.{Yes, No, Done}
+use Rattle.dtx_values.specs.declared.words.Vote.TheVariants.{Yes, Done}
 use Rattle.dtx_model.specs.declared.row.Row.{Row}
-use Rattle.dtx_model.specs.Words.{has, each, always, latest, or_else, onto, past_of}
+use Rattle.dtx_model.specs.Words.{has, each, latest, or_else, onto, past_of}
 use Rattle.dtx_model.specs.Entries.{is_commit, is_sealed, is_vote, is_volatile, is_good, decision_of, is_decision, is_told_client, is_began}
 use Rattle.dtx_model.specs.Grammar.{is_run}
 use Rattle.dtx_model.specs.Observed.{Observed, observe, rows}
 use Rattle.dtx_model.specs.Outcome.{enlisted}
-use Rattle.dtx_model.specs.Steps.{Step, Calls, Replies, Acts, call_of, class_of, answer, behind_begin, behind_end, is_fine, facts, facts_if, reply_entries, tell, behind_seal, undecided_act, act_by, act_entries, line_vote, planned_vote, vote_step, due_reply, due_replies, act_if, pending, is_to_tell, is_unasked, all_voted, block}
+use Rattle.dtx_model.specs.Steps.{Step, Calls, Replies, Acts, call_of, class_of, answer, behind_end, is_fine, facts, facts_if, reply_entries, tell, behind_seal, act_by, act_entries, line_vote, planned_vote, vote_step, due_reply, due_replies, act_if, pending, is_to_tell, is_unasked, all_voted, block}
 use Rattle.dtx_model.specs.Caused.{line_at, IsCallOf, MayCome, Ran, Caused}
 use Rattle.outcome_law.proofs.Bools.{and_left, and_right, and_both, not_false}
 use Rattle.outcome_law.proofs.Scans.{each_more, each_both, each-append, each-at, has-at, each-past_of, has-past_of}
 use Rattle.outcome_law.proofs.Pending.{passes, each-filter_map, each_if}
 use Rattle.outcome_law.proofs.Tables.{each_voted}
-use Rattle.outcome_law.proofs.Rules.{all_cast, rule, ruled, each_volatile, decision_from_latest, undecided, decided_committed}
+use Rattle.outcome_law.proofs.Rules.{all_cast, ruled, each_volatile, decision_from_latest, undecided, decided_committed}
 
 -- each line is run
 abbrev pub all_run : List Line → Bool

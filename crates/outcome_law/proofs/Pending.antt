@@ -1,5 +1,5 @@
 -- Which steps are pending, and which entries no block but a call's has.
-use Rattle.std.proofs.Common.{◌≡◌, ℕ, Bool, true, false, ◌&&◌, ◌||◌, List, [], ◌∷◌, ◌++◌, Option, Some, None, refl}
+use Rattle.std.proofs.Common.{◌≡◌, Bool, true, false, ◌&&◌, List, [], ◌∷◌, Option, Some, None, refl}
 use Rattle.std.specs.Prelude.{is_some, is_none, find, not, if◌then◌else◌}
 use Rattle.std.specs.List.{filter_map, cons_option}
 use Rattle.dtx_values.specs.declared.number.EnlNo.{EnlNo}
@@ -7,7 +7,6 @@ use Rattle.dtx_values.specs.declared.call.Call.{Call}
 use Rattle.dtx_values.specs.declared.call.Call.TheVariants.{Begin, Volatile, Commit}
 use Rattle.dtx_values.specs.declared.entry.Entry.{Entry}
 use Rattle.dtx_values.specs.declared.entry.Entry.TheVariants.{Called, Sealed}
-use Rattle.dtx_values.specs.declared.note.Reply.{Reply}
 use Rattle.dtx_values.specs.declared.note.Reply.TheVariants.{Vote as VoteReply}
 use Rattle.dtx_values.specs.declared.script.Line.{Line}
 use Rattle.dtx_values.specs.declared.words.Outcome.{Outcome}
@@ -15,7 +14,7 @@ use Rattle.dtx_values.specs.declared.words.Vote.{Vote}
 use Rattle.dtx_model.specs.declared.row.Row.{Row}
 use Rattle.dtx_model.specs.Words.{each}
 use Rattle.dtx_model.specs.Observed.{Observed}
-use Rattle.dtx_model.specs.Steps.{Step, Calls, Replies, Acts, facts, facts_if, reply_entries, tell, behind_seal, undecided_act, act_by, act_entries, vote_step, due_reply, due_replies, act_if, planned_vote, pending, is_to_tell, is_unasked, all_voted, block}
+use Rattle.dtx_model.specs.Steps.{Step, Calls, Replies, Acts, facts, facts_if, tell, behind_seal, act_by, act_entries, vote_step, due_reply, due_replies, act_if, planned_vote, pending, is_to_tell, is_unasked, all_voted, block}
 use Rattle.outcome_law.proofs.Bools.{and_both}
 use Rattle.outcome_law.proofs.Scans.{each-append}
 

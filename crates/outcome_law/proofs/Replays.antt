@@ -1,6 +1,5 @@
 -- What a replay does is caused by its script in each transaction, and has each line's call once and in order.
-use Rattle.std.proofs.Common.{◌≡◌, ℕ, zero, suc, ◌+◌, ◌<◌, ◌==◌, Bool, true, false, ◌||◌, List, [], ◌∷◌, length, Option, Some, None, refl, arith, ◌∙◌, ap, sym, subst}
-use Rattle.std.specs.Prelude.{if◌then◌else◌}
+use Rattle.std.proofs.Common.{◌≡◌, ℕ, suc, ◌+◌, ◌<◌, ◌==◌, Bool, true, false, List, [], ◌∷◌, length, Option, Some, None, refl, arith, ◌∙◌, ap, sym, subst}
 use Rattle.std.specs.List.{slice_get}
 use Rattle.std.proofs.lemmas.Bool.Decides.{nat_tests}
 use Rattle.dtx_values.specs.declared.number.ActorNo.{ActorNo}
@@ -11,11 +10,11 @@ use Rattle.dtx_values.specs.declared.entry.Entry.TheVariants.{Called}
 use Rattle.dtx_values.specs.declared.script.Line.{Line}
 use Rattle.dtx_values.specs.declared.trace.Place.{Place}
 use Rattle.dtx_values.specs.declared.trace.Place.TheVariants.{Transaction}
-use Rattle.dtx_model.specs.Words.{has, each, onto, past_of, put, all_of}
+use Rattle.dtx_model.specs.Words.{has, each, onto, past_of, put}
 use Rattle.dtx_model.specs.Entries.{is_call}
 use Rattle.dtx_model.specs.Observed.{observe}
 use Rattle.dtx_model.specs.Steps.{Step, Calls, Replies, Acts, call_of, answer, is_fine, facts, facts_if, block, pending}
-use Rattle.dtx_model.specs.Caused.{line_at, IsCallOf, MayCome, Ran, Caused}
+use Rattle.dtx_model.specs.Caused.{line_at, MayCome, Caused}
 use Rattle.dtx_model.specs.Replay.{Placed, history, placed, after_step, after_call, LinesRan, IsTurn, last_turn, RoundsRan, IsReplayed, called_of, calls, due_call, due_calls}
 use Rattle.outcome_law.proofs.Bools.{or_false, and_left, and_right}
 use Rattle.outcome_law.proofs.Scans.{has-onto}

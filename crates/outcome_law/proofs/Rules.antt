@@ -1,19 +1,17 @@
 -- What must stand before each entry, and what follows: what is told is just, and no two are told opposite outcomes.
-use Rattle.std.proofs.Common.{◌≡◌, ℕ, ◌==◌, Bool, true, false, ◌&&◌, ◌||◌, List, [], ◌∷◌, Option, Some, None, refl, ◌∙◌, ap, sym}
-use Rattle.std.specs.Prelude.{is_some, not, filter, if◌then◌else◌}
-use Rattle.dtx_values.specs.declared.number.EnlNo.{EnlNo}
+use Rattle.std.proofs.Common.{◌≡◌, ℕ, ◌==◌, Bool, true, false, ◌&&◌, ◌||◌, List, [], ◌∷◌, Some, None, refl, ◌∙◌, ap}
+use Rattle.std.specs.Prelude.{is_some, not, filter}
 use Rattle.dtx_values.specs.declared.entry.Entry.{Entry}
 use Rattle.dtx_values.specs.declared.entry.Entry.TheVariants.{Called, Began, Cloned, Enlisted, CommitAsked, Asked, Voted, Sealed, Decided, Told, Promoted, OwnerAnswered}
-use Rattle.dtx_values.specs.declared.entry.Party.TheVariants.{Client, Enl}
+use Rattle.dtx_values.specs.declared.entry.Party.TheVariants.{Client}
 use Rattle.dtx_values.specs.declared.script.Line.{Line}
-use Rattle.dtx_values.specs.declared.words.Class.{Class}
 use Rattle.dtx_values.specs.declared.words.Outcome.{Outcome}
-use Rattle.dtx_values.specs.declared.words.Outcome.TheVariants.{Committed, Aborted, InDoubt}
-use Rattle.dtx_model.specs.Words.{has, each, ever, always, latest, put, all_of}
-use Rattle.dtx_model.specs.Entries.{is_commit, is_sealed, is_promoted, is_volatile, enlisted_of, clone_of, is_vote, is_good, is_good_vote, decision_of, is_decision, is_told_client, is_client_told, is_final}
-use Rattle.dtx_model.specs.Outcome.{enlisted, volatiles, durables, voters, is_complete, ready, is_empty, by_seal, by_owner, by_log, evidence, may_tell, is_just, justified, is_decided_again, agree}
+use Rattle.dtx_values.specs.declared.words.Outcome.TheVariants.{Committed, Aborted}
+use Rattle.dtx_model.specs.Words.{has, each, ever, always, latest, all_of}
+use Rattle.dtx_model.specs.Entries.{is_commit, is_sealed, is_promoted, is_volatile, clone_of, is_vote, is_good, is_good_vote, decision_of, is_decision, is_told_client, is_client_told, is_final}
+use Rattle.dtx_model.specs.Outcome.{enlisted, durables, voters, is_complete, ready, is_empty, by_seal, by_owner, by_log, evidence, may_tell, is_just, justified, is_decided_again, agree}
 use Rattle.dtx_model.specs.Steps.{planned_vote}
-use Rattle.outcome_law.proofs.Bools.{and_left, and_right, and_both, or_false, or_right, or_case, not_true, not_false, not_both}
+use Rattle.outcome_law.proofs.Bools.{and_left, and_right, and_both, or_false, or_right, not_true, not_false, not_both}
 use Rattle.outcome_law.proofs.Scans.{each_more}
 
 -- each enlistment voted
@@ -150,7 +148,7 @@ sure_ready : (s : List Line) (h : List Entry) → ruled s h ≡ true → IsSure 
 unfolding ready
 sure_ready s h r k =
     let good : each (λ x. has (is_good_vote x.0.value) h) (enlisted h) ≡ true =
-        each_more (λ x. has (is_vote x.0.value) h) (λ x. has (is_good_vote x.0.value) h) (λ x. good_from_vote s x.0.value h r) (enlisted h) k.cast in
+    each_more (λ x. has (is_vote x.0.value) h) (λ x. has (is_good_vote x.0.value) h) (λ x. good_from_vote s x.0.value h r) (enlisted h) k.cast in
     three_hold (has is_commit h) (each (λ c. is_complete h c) (all_of clone_of h)) (each (λ x. has (is_good_vote x.0.value) h) (voters h))
     (sealed_commit s h r k.sealed) (ap (λ cs. each (λ c. is_complete h c) cs) (no_clones s h r)) (ap (λ xs. each (λ x. has (is_good_vote x.0.value) h) xs) (voters-enlisted s h r) ∙ good)
 
@@ -159,7 +157,7 @@ sure_evidence : (s : List Line) (h : List Entry) → ruled s h ≡ true → IsSu
 unfolding evidence by_seal
 sure_evidence s h r k =
     let sealed : by_seal h ≡ true =
-        three_hold (has is_sealed h) (not (has is_promoted h)) (is_empty (durables h)) k.sealed (not_false (has is_promoted h) (none_promoted s h r)) (ap (λ xs. is_empty xs) (no_durables s h r)) in
+    three_hold (has is_sealed h) (not (has is_promoted h)) (is_empty (durables h)) k.sealed (not_false (has is_promoted h) (none_promoted s h r)) (ap (λ xs. is_empty xs) (no_durables s h r)) in
     and_both (ready h) (by_seal h || by_owner h || by_log h) (sure_ready s h r k) (one_of_three (by_seal h) (by_owner h) (by_log h) sealed)
 
 -- the rule of a decision

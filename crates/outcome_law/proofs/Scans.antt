@@ -1,9 +1,9 @@
 -- Facts on scans of a list, and on histories with a block behind them.
-use Rattle.std.proofs.Common.{◌≡◌, ℕ, zero, suc, Bool, true, false, ◌&&◌, ◌||◌, List, [], ◌∷◌, ◌++◌, Option, Some, None, refl, map, ◌∙◌, ap, sym}
-use Rattle.std.specs.Prelude.{is_some, find, if◌then◌else◌}
-use Rattle.std.specs.List.{slice_get, filter_map}
-use Rattle.dtx_model.specs.Words.{has, each, latest, or_else, onto, past_of}
-use Rattle.outcome_law.proofs.Bools.{and_left, and_right, and_both, or_false, or_first, or_second, or_right}
+use Rattle.std.proofs.Common.{◌≡◌, ℕ, zero, suc, Bool, true, false, ◌&&◌, ◌||◌, List, [], ◌∷◌, ◌++◌, Option, Some, None, refl, map, ◌∙◌, ap}
+use Rattle.std.specs.Prelude.{find, if◌then◌else◌}
+use Rattle.std.specs.List.{slice_get}
+use Rattle.dtx_model.specs.Words.{has, each, onto, past_of}
+use Rattle.outcome_law.proofs.Bools.{and_left, and_right, and_both, or_right}
 
 -- where each passes p, and what passes p passes q, each passes q
 pub each_more : {A : Type 0} (p q : A → Bool) → ((x : A) → p x ≡ true → q x ≡ true) → (xs : List A) → each p xs ≡ true → each q xs ≡ true

@@ -1,5 +1,5 @@
 -- A settled history that was asked to commit is committed, and its client was told so.
-use Rattle.std.proofs.Common.{◌≡◌, ℕ, Bool, true, false, ◌&&◌, ◌||◌, List, [], ◌∷◌, ◌++◌, Option, Some, None, refl, sym}
+use Rattle.std.proofs.Common.{◌≡◌, Bool, true, false, ◌&&◌, ◌||◌, List, [], ◌∷◌, ◌++◌, Option, Some, None, refl}
 use Rattle.std.specs.Prelude.{is_some, is_none, not, find, if◌then◌else◌}
 use Rattle.std.specs.List.{filter_map, cons_option}
 use Rattle.dtx_values.specs.declared.number.EnlNo.{EnlNo}
@@ -13,8 +13,7 @@ use Rattle.dtx_model.specs.declared.row.Row.{Row}
 use Rattle.dtx_model.specs.Words.{has, each, latest}
 use Rattle.dtx_model.specs.Entries.{is_commit, is_sealed, is_volatile, decision_of, is_told_client, is_client_told}
 use Rattle.dtx_model.specs.Observed.{observe, rows}
-use Rattle.dtx_model.specs.Outcome.{enlisted}
-use Rattle.dtx_model.specs.Steps.{Step, tell, behind_seal, undecided_act, act_by, act_entries, planned_vote, vote_step, due_reply, due_replies, act_if, pending, is_to_tell, is_unasked, all_voted}
+use Rattle.dtx_model.specs.Steps.{tell, behind_seal, act_by, act_entries, planned_vote, vote_step, due_reply, due_replies, act_if, pending, is_to_tell, is_unasked, all_voted}
 use Rattle.dtx_model.specs.Caused.{Settled}
 use Rattle.outcome_law.proofs.Bools.{not_false, or_first, or_second, and_both, not_both}
 use Rattle.outcome_law.proofs.Scans.{each_both, find_none}

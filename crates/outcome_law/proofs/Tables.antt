@@ -1,5 +1,5 @@
 -- The table of a history: what its rows have to do with the enlistments and the votes.
-use Rattle.std.proofs.Common.{◌≡◌, ℕ, ◌==◌, Bool, true, false, ◌&&◌, ◌||◌, List, [], ◌∷◌, Option, Some, None, refl, ◌∙◌, ap}
+use Rattle.std.proofs.Common.{◌≡◌, ◌==◌, Bool, true, false, ◌&&◌, ◌||◌, List, [], ◌∷◌, Option, Some, None, refl, ◌∙◌, ap}
 use Rattle.std.specs.Prelude.{is_some, not, nat_lt, if◌then◌else◌}
 use Rattle.dtx_values.specs.declared.number.EnlNo.{EnlNo}
 use Rattle.dtx_values.specs.declared.entry.Entry.{Entry}
@@ -12,7 +12,6 @@ use Rattle.dtx_model.specs.Entries.{is_vote, is_volatile}
 use Rattle.dtx_model.specs.Observed.{fresh_row, insert_row, row_after, rows}
 use Rattle.dtx_model.specs.Outcome.{enlisted}
 use Rattle.dtx_model.specs.Steps.{all_voted}
-use Rattle.outcome_law.proofs.Bools.{and_both}
 use Rattle.outcome_law.proofs.Scans.{each_more, each_both, each-map, and_swap}
 
 each-insert_step : (p : Row → Bool) (b : Bool) (r q : Row) (qs rest : List Row) → each p rest ≡ (p r && each p qs)
