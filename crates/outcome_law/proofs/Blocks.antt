@@ -60,10 +60,12 @@ latest_some f (x ∷ xs) h = step (f x) (latest f xs) (has (λ x. is_some (f x))
     step (Some x) q b ih h = refl
     step None q b ih h = ih h
 
+-- a good vote that is given under a test passes
 good_if : (b : Bool) (v : Vote) → is_good v ≡ true → passes is_good (if b then Some v else None) ≡ true
 good_if true v h = h
 good_if false v h = refl
 
+-- the vote of a line that is run is yes or done
 run_good : (e : ℕ) (b : Body) → is_run b ≡ true → passes is_good (line_vote e b) ≡ true
 run_good e (VolatileLine t f Plain (Some Yes)) h = good_if (e == f.value) Yes refl
 run_good e (VolatileLine t f Plain (Some Done)) h = good_if (e == f.value) Done refl
@@ -82,11 +84,13 @@ is_good_step (Replies e (VoteReply v)) = is_good v
 is_good_step (Replies e _) = false
 is_good_step _ = true
 
+-- a reply that is due is its plan, so it is good where the plan is
 due_good : (b : Bool) (e : EnlNo) (o : Option Vote) → passes is_good o ≡ true → passes is_good_step (vote_step b e o) ≡ true
 due_good true e (Some v) h = h
 due_good true e None h = refl
 due_good false e o h = refl
 
+-- the local act is no reply
 acts_good : (xs : List Entry) → each is_good_step (act_if xs) ≡ true
 acts_good [] = refl
 acts_good (x ∷ xs) = refl
@@ -100,16 +104,20 @@ pending_good s o run =
     (each-filter_map is_good_step (λ r. due_reply s r) (λ r. due_good (r.asked && is_none r.vote) r.enlistment (planned_vote s r.enlistment.value) (planned_good s r.enlistment.value run)) o.table))
     (acts_good (act_entries o))
 
+-- what is given under a test that holds is there
 some_if : (b : Bool) (v : Vote) → b ≡ true → is_some (if b then Some v else None) ≡ true
 some_if true v h = refl
 some_if false v h = absurd cc
 
+-- a number is equal to itself
 same_number : (n : ℕ) → (n == n) ≡ true
 same_number n = grind (arith, nat_tests)
 
+-- two that are given and equal have equal calls
 same_call : (p q : TxNo × Call) → Some p ≡ Some q → p.1 ≡ q.1
 same_call p q e = let same : p ≡ q = cc in ap (λ (w : TxNo × Call). w.1) same
 
+-- the body of a line that is run, where it enlists e, plans a vote of e
 body_plans : (s : List Line) (b : Body) (name : TxNo) (u : TxNo) (e : EnlNo) (x : EnlistOption) (v : Option Vote) → is_run b ≡ true → call_of s b ≡ Some (name, Volatile u e x v)
     → is_some (line_vote e.value b) ≡ true
 body_plans s (VolatileLine t f Plain (Some Yes)) name u e x v h k =
@@ -125,10 +133,12 @@ body_plans s (BeginLine t d) name u e x v h k = let call : Begin t d ≡ Volatil
 body_plans s (CommitLine t) name u e x v h k = let call : Commit t ≡ Volatile u e x v = same_call (t, Commit t) (name, Volatile u e x v) k in absurd cc
 body_plans s _ name u e x v h k = absurd cc
 
+-- where each line is run, line n is run
 line_is_run : (s : List Line) (n : ℕ) (l : Line) → all_run s ≡ true → line_at s n ≡ Some l → is_run l.body ≡ true
 line_is_run s zero l run e = absurd cc
 line_is_run s (suc n) l run e = each-at (λ l. is_run l.body) s n l run e
 
+-- where line n passes, some line of the script passes
 line_stands : (p : Line → Bool) (s : List Line) (n : ℕ) (l : Line) → line_at s n ≡ Some l → p l ≡ true → has p s ≡ true
 line_stands p s zero l e h = absurd cc
 line_stands p s (suc n) l e h = has-at p s n l e h
@@ -141,6 +151,7 @@ call_plans s t n a u e x v run k =
     (has-past_of (λ l. is_some (line_vote e.value l.body)) s
     (line_stands (λ l. is_some (line_vote e.value l.body)) s n k.line k.stands (body_plans s k.line.body k.name u e x v (line_is_run s n k.line run k.stands) k.gives)))
 
+-- a call of volatile that was answered ok stood behind no seal
 fine_open : (begun : Bool) (d : Option Outcome) (sealed many : Bool)
     → is_fine (if not begun then NotBegun else behind_end d (if sealed then TooLate else if many then Many 32 else Fine)) ≡ true → sealed ≡ false
 fine_open false d sealed many h = absurd cc
@@ -148,10 +159,12 @@ fine_open true (Some x) sealed many h = absurd cc
 fine_open true None true many h = absurd cc
 fine_open true None false many h = refl
 
+-- what a call of volatile enlists is volatile
 volatile_class : (x : EnlistOption) → is_volatile (class_of x) ≡ true
 volatile_class Plain = refl
 volatile_class DuringPrepare = refl
 
+-- the facts of a call keep the rules
 facts_keep : (s : List Line) (t n : ℕ) (a : ActorNo) (h : List Entry) (y : Answer) (c : Call) (b : Bool) → all_run s ≡ true → ruled s h ≡ true → IsCallOf s t n a c
     → is_fine (answer (observe h) c) ≡ b → ruled s (onto (Called n a y ∷ h) (facts_if b (facts (observe h) c))) ≡ true
 unfolding answer observe
@@ -165,11 +178,13 @@ facts_keep s t n a h y (Volatile u e x v) true run r k f =
 facts_keep s t n a h y (Commit u) true run r k f = r
 facts_keep s t n a h y _ true run r k f = r
 
+-- what is told behind a decision keeps the rules
 tell_keeps : (s : List Line) (h : List Entry) (q : Option Row) (b : Bool) → has is_decision h ≡ true → ruled s h ≡ true → ruled s (onto h (tell Committed q b)) ≡ true
 tell_keeps s h (Some q) b d r = and_both (has is_decision h) (ruled s h) d r
 tell_keeps s h None true d r = r
 tell_keeps s h None false d r = and_both (has is_decision h) (ruled s h) d r
 
+-- where a holds, and b wherever a does, b holds
 cast_step : (a b : Bool) → a ≡ true → (not a || b) ≡ true → b ≡ true
 cast_step true b h k = k
 cast_step false b h k = absurd cc
@@ -180,6 +195,7 @@ voted_cast s h r v =
     each_both (λ x. is_volatile x.1) (λ x. not (is_volatile x.1) || has (is_vote x.0.value) h) (λ x. has (is_vote x.0.value) h)
     (λ x. cast_step (is_volatile x.1) (has (is_vote x.0.value) h)) (enlisted h) (each_volatile s h r) (each_voted h v)
 
+-- the local act behind the seal keeps the rules
 seal_keeps : (s : List Line) (h : List Entry) (q : Option Row) (v : Bool) → all_voted (rows h) ≡ v → has is_sealed h ≡ true → has is_decision h ≡ false → ruled s h ≡ true
     → ruled s (onto h (behind_seal q v)) ≡ true
 seal_keeps s h (Some q) v e k d r = and_both (has is_sealed h) (ruled s h) k r
@@ -189,12 +205,14 @@ seal_keeps s h None true e k d r =
     (and_both (not (has is_decision h)) (all_cast h) (not_false (has is_decision h) d) (voted_cast s h r e))) r
 seal_keeps s h None false e k d r = r
 
+-- the local act while nothing is decided keeps the rules
 open_keeps : (s : List Line) (h : List Entry) (commit sealed : Bool) (q : Option Row) (v : Bool) → has is_commit h ≡ commit → has is_sealed h ≡ sealed → all_voted (rows h) ≡ v
     → has is_decision h ≡ false → ruled s h ≡ true → ruled s (onto h (if not commit then [] else if not sealed then Sealed ∷ [] else behind_seal q v)) ≡ true
 open_keeps s h false sealed q v c k e d r = r
 open_keeps s h true false q v c k e d r = and_both (has is_commit h) (ruled s h) c r
 open_keeps s h true true q v c k e d r = seal_keeps s h q v e k d r
 
+-- the local act keeps the rules
 act_keeps : (s : List Line) (h : List Entry) (d : Option Outcome) → latest decision_of h ≡ d → ruled s h ≡ true → ruled s (onto h (act_by d (observe h))) ≡ true
 unfolding observe
 act_keeps s h (Some x) e r =
@@ -204,6 +222,7 @@ act_keeps s h (Some x) e r =
 act_keeps s h None e r =
     open_keeps s h (has is_commit h) (has is_sealed h) (find is_unasked (rows h)) (all_voted (rows h)) refl refl refl (undecided h e) r
 
+-- a good reply keeps the rules
 reply_keeps : (s : List Line) (h : List Entry) (e : EnlNo) (y : Reply) → is_good_step (Replies e y) ≡ true → ruled s h ≡ true → ruled s (onto h (reply_entries e y)) ≡ true
 reply_keeps s h e (VoteReply v) g r = and_both (is_good v) (ruled s h) g r
 reply_keeps s h e _ g r = r

@@ -55,3 +55,31 @@ not_false false h = refl
 -- a test isn't both true and false
 pub not_both : (a : Bool) → a ≡ true → a ≡ false → ⊥
 not_both a p q = cc
+
+-- two of three tests that all hold in another order
+pub and_swap : (a b c : Bool) → (a && (b && c)) ≡ (b && (a && c))
+and_swap true b c = refl
+and_swap false true c = refl
+and_swap false false c = refl
+
+-- two of three tests of which one holds in another order
+pub or_swap : (a b c : Bool) → (a || (b || c)) ≡ (b || (a || c))
+or_swap true true c = refl
+or_swap true false c = refl
+or_swap false b c = refl
+
+-- where each of three holds, all hold
+pub three_hold : (a b c : Bool) → a ≡ true → b ≡ true → c ≡ true → (a && b && c) ≡ true
+three_hold true true c p q r = r
+three_hold true false c p q r = absurd cc
+three_hold false b c p q r = absurd cc
+
+-- where the first of three holds, one holds
+pub one_of_three : (a b c : Bool) → a ≡ true → (a || b || c) ≡ true
+one_of_three true b c p = refl
+one_of_three false b c p = absurd cc
+
+-- what needs a test that fails fails
+pub and_never : (a : Bool) → (a && false) ≡ false
+and_never true = refl
+and_never false = refl

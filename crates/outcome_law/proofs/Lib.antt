@@ -7,3 +7,4 @@ pub mod Tables
 pub mod Rules
 pub mod Blocks
 pub mod Settled
+pub mod Examples

@@ -37,11 +37,13 @@ abbrev pub is_no_call : Step → Bool
 is_no_call (Calls n a c) = false
 is_no_call _ = true
 
+-- a reply that is due is no call
 due_no_call : (b : Bool) (e : EnlNo) (o : Option Vote) → passes is_no_call (vote_step b e o) ≡ true
 due_no_call true e (Some v) = refl
 due_no_call true e None = refl
 due_no_call false e o = refl
 
+-- the local act is no call
 acts_no_call : (xs : List Entry) → each is_no_call (act_if xs) ≡ true
 acts_no_call [] = refl
 acts_no_call (x ∷ xs) = refl
@@ -72,22 +74,26 @@ facts_not_called o (Volatile t e x v) true = refl
 facts_not_called o (Commit t) true = refl
 facts_not_called o _ true = refl
 
+-- what is told is no call
 tell_not_called : (x : Outcome) (r : Option Row) (b : Bool) → each is_not_called (tell x r b) ≡ true
 tell_not_called x (Some r) b = refl
 tell_not_called x None true = refl
 tell_not_called x None false = refl
 
+-- what comes behind the seal is no call
 seal_not_called : (r : Option Row) (b : Bool) → each is_not_called (behind_seal r b) ≡ true
 seal_not_called (Some r) b = refl
 seal_not_called None true = refl
 seal_not_called None false = refl
 
+-- what the local act does while nothing is decided is no call
 undecided_not_called : (commit sealed : Bool) (r : Option Row) (b : Bool)
     → each is_not_called (if not commit then [] else if not sealed then Sealed ∷ [] else behind_seal r b) ≡ true
 undecided_not_called false sealed r b = refl
 undecided_not_called true false r b = refl
 undecided_not_called true true r b = seal_not_called r b
 
+-- what the local act does is no call
 act_not_called : (d : Option Outcome) (o : Observed) → each is_not_called (act_by d o) ≡ true
 act_not_called (Some x) o = tell_not_called x (find is_to_tell o.table) o.told_client
 act_not_called None o = undecided_not_called o.commit o.sealed (find is_unasked o.table) (all_voted o.table)

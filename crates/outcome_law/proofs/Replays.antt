@@ -36,6 +36,7 @@ history-other u t T (x ∷ es) e =
 pub caused-step : (s : List Line) (u : ℕ) (m : Step) (h : List Entry) → Caused s u h → MayCome s u h m → Caused s u (onto h (block (observe h) m))
 caused-step s u m h r k = (m ∷ r.0, (h, r.1, k, refl))
 
+-- a step of t keeps the history of u caused: by cases, u is t or another
 by_name : (s : List Line) (t : TxNo) (m : Step) (T : List Placed) → ((u : TxNo) → Caused s u.value (history u.value T)) → MayCome s t.value (history t.value T) m
     → (u : TxNo) (b : Bool) → (u.value == t.value) ≡ b → Caused s u.value (history u.value (after_step t m T))
 by_name s t m T ih k u true e =
@@ -69,6 +70,7 @@ line-onto before rest l =
     let found : slice_get (onto (l ∷ rest) before) (length before + 0) ≡ Some l = slice_get-onto before (l ∷ rest) 0 in
     ap (λ n. slice_get (onto (l ∷ rest) before) n) none ∙ found
 
+-- what has no call hasn't this call
 facts_not_call : (n : ℕ) (es : List Entry) → each is_not_called es ≡ true → has (is_call n) es ≡ false
 facts_not_call n [] h = refl
 facts_not_call n (x ∷ es) h =
@@ -85,6 +87,7 @@ placed_uncalled n u t T es true e k h =
     ap (λ h. has (is_call n) h) (history-same u t T es e) ∙ has-onto (is_call n) (history u T) es ∙ or_false (has (is_call n) es) (has (is_call n) (history u T)) k h
 placed_uncalled n u t T es false e k h = ap (λ h. has (is_call n) h) (history-other u t T es e) ∙ h
 
+-- a line leaves a history without the call of any other line
 call_uncalled : (n m u : ℕ) (l : Line) (T : List Placed) (o : Option (TxNo × Call)) → (n == m) ≡ false → has (is_call n) (history u T) ≡ false
     → has (is_call n) (history u (after_call l m o T)) ≡ false
 unfolding block
@@ -104,6 +107,7 @@ lines_uncalled s (l ∷ before) T r n k u =
     subst (λ T. has (is_call n) (history u T) ≡ false) (sym r.2)
     (call_uncalled n (suc (length before)) u l r.0 (call_of s l.body) other (lines_uncalled s before r.0 r.1 n earlier u))
 
+-- what a line does keeps each history caused, where its call is new
 call_caused : (s : List Line) (l : Line) (n : ℕ) (T : List Placed) (o : Option (TxNo × Call)) → call_of s l.body ≡ o → line_at s n ≡ Some l
     → ((u : ℕ) → has (is_call n) (history u T) ≡ false) → ((u : TxNo) → Caused s u.value (history u.value T))
     → (u : TxNo) → Caused s u.value (history u.value (after_call l n o T))
@@ -121,6 +125,7 @@ lines_caused s (l ∷ before) rest T e r u =
     (call_caused s l (suc (length before)) r.0 (call_of s l.body) refl stands
     (λ v. lines_uncalled s before r.0 r.1 (suc (length before)) (omega arith) v) (lines_caused s before (l ∷ rest) r.0 e r.1) u)
 
+-- the first step that is pending may come
 first_may : (s : List Line) (t : ℕ) (h : List Entry) (m : Step) (others : List Step) → pending s (observe h) ≡ m ∷ others → is_no_call m ≡ true → MayCome s t h m
 first_may s t h (Calls n a c) others e k = absurd cc
 first_may s t h (Replies f r) others e k = (0, ap (λ ms. slice_get ms 0) e)
@@ -147,6 +152,7 @@ rounds_caused s start (x ∷ xs) T ih r u =
 pub replayed_caused : (s : List Line) (T : List Placed) → IsReplayed s T → (t : TxNo) → Caused s t.value (history t.value T)
 replayed_caused s T r = rounds_caused s r.by_lines r.turns T (lines_caused s (past_of s) [] r.by_lines (sym (past_of-onto [] s)) r.lines) r.rounds
 
+-- an entry that is no call isn't counted
 one_not_called : (t : TxNo) (x : Entry) (rest : List (Place × ℕ × ActorNo)) → is_not_called x ≡ true → put (called_of (Transaction t, x)) rest ≡ rest
 one_not_called t (Called n a y) rest h = absurd cc
 one_not_called t _ rest h = refl
@@ -158,6 +164,7 @@ calls-placed t T (x ∷ es) h =
     calls-placed t ((Transaction t, x) ∷ T) es (and_right (is_not_called x) (each is_not_called es) h)
     ∙ one_not_called t x (calls T) (and_left (is_not_called x) (each is_not_called es) h)
 
+-- a line adds its call
 call_counted : (l : Line) (n : ℕ) (T : List Placed) (o : Option (TxNo × Call)) → calls (after_call l n o T) ≡ put (due_call n l.actor o) (calls T)
 unfolding block
 call_counted l n T None = refl
@@ -165,12 +172,14 @@ call_counted l n T (Some c) =
     let o = observe (history c.0.value T) in
     calls-placed c.0 ((Transaction c.0, Called n l.actor (answer o c.1)) ∷ T) (facts_if (is_fine (answer o c.1)) (facts o c.1)) (facts_not_called o c.1 (is_fine (answer o c.1)))
 
+-- the lines have each one's call once and in order
 lines_called : (s bs : List Line) (T : List Placed) → LinesRan s bs T → calls T ≡ due_calls s bs
 lines_called s [] T r = ap (λ T. calls T) r
 lines_called s (l ∷ before) T r =
     let n = suc (length before) in
     ap (λ T. calls T) r.2 ∙ call_counted l n r.0 (call_of s l.body) ∙ ap (λ rest. put (due_call n l.actor (call_of s l.body)) rest) (lines_called s before r.0 r.1)
 
+-- the rounds add no call
 rounds_called : (s : List Line) (start : List Placed) (turns : List (TxNo × Step)) (T : List Placed) → RoundsRan s start turns T → calls T ≡ calls start
 rounds_called s start [] T r = ap (λ T. calls T) r
 rounds_called s start (x ∷ xs) T r =

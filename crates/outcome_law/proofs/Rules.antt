@@ -11,7 +11,7 @@ use Rattle.dtx_model.specs.Words.{has, each, ever, always, latest, all_of}
 use Rattle.dtx_model.specs.Entries.{is_commit, is_sealed, is_promoted, is_volatile, clone_of, is_vote, is_good, is_good_vote, decision_of, is_decision, is_told_client, is_client_told, is_final}
 use Rattle.dtx_model.specs.Outcome.{enlisted, durables, voters, is_complete, ready, is_empty, by_seal, by_owner, by_log, evidence, may_tell, is_just, justified, is_decided_again, agree}
 use Rattle.dtx_model.specs.Steps.{planned_vote}
-use Rattle.outcome_law.proofs.Bools.{and_left, and_right, and_both, or_false, or_right, not_true, not_false, not_both}
+use Rattle.outcome_law.proofs.Bools.{and_left, and_right, and_both, or_false, or_right, not_true, not_false, not_both, three_hold, one_of_three, and_never}
 use Rattle.outcome_law.proofs.Scans.{each_more}
 
 -- each enlistment voted
@@ -35,9 +35,11 @@ rule s h _ = false
 abbrev pub ruled : List Line → List Entry → Bool
 ruled s h = always (rule s) h
 
+-- the newest entry keeps its rule
 first_rule : (s : List Line) (x : Entry) (h : List Entry) → ruled s (x ∷ h) ≡ true → rule s h x ≡ true
 first_rule s x h r = and_left (rule s h x) (ruled s h) r
 
+-- the entries before the newest keep theirs
 other_rules : (s : List Line) (x : Entry) (h : List Entry) → ruled s (x ∷ h) ≡ true → ruled s h ≡ true
 other_rules s x h r = and_right (rule s h x) (ruled s h) r
 
@@ -46,10 +48,12 @@ none_ruled : (s : List Line) (p : Entry → Bool) → ((h : List Entry) (x : Ent
 none_ruled s p sub [] r = refl
 none_ruled s p sub (x ∷ h) r = or_false (p x) (has p h) (sub h x (first_rule s x h r)) (none_ruled s p sub h (other_rules s x h r))
 
+-- what keeps its rule is no promotion
 not_promoted : (s : List Line) (h : List Entry) (x : Entry) → rule s h x ≡ true → is_promoted x ≡ false
 not_promoted s h (Promoted u c) r = absurd cc
 not_promoted s h _ r = refl
 
+-- what keeps its rule aborts nothing
 not_aborted : (s : List Line) (h : List Entry) (x : Entry) → rule s h x ≡ true → is_final Aborted x ≡ false
 not_aborted s h (Told p Committed) r = refl
 not_aborted s h (Told p _) r = absurd cc
@@ -117,6 +121,7 @@ sealed_commit s (Sealed ∷ h) r k = first_rule s Sealed h r
 sealed_commit s (CommitAsked ∷ h) r k = refl
 sealed_commit s (x ∷ h) r k = sealed_commit s h (other_rules s x h r) k
 
+-- one step of `good_from_vote`
 good_step : (b g n m : Bool) → g ≡ true → (n ≡ true → m ≡ true) → (b || n) ≡ true → ((b && g) || m) ≡ true
 good_step true true n m p ih h = refl
 good_step true false n m p ih h = absurd cc
@@ -133,15 +138,6 @@ good_from_vote s e (x ∷ h) r k = good_from_vote s e h (other_rules s x h r) k
 pub record IsSure (h : List Entry) : Type 0 where
   pub sealed : has is_sealed h ≡ true
   pub cast : all_cast h ≡ true
-
-three_hold : (a b c : Bool) → a ≡ true → b ≡ true → c ≡ true → (a && b && c) ≡ true
-three_hold true true c p q r = r
-three_hold true false c p q r = absurd cc
-three_hold false b c p q r = absurd cc
-
-one_of_three : (a b c : Bool) → a ≡ true → (a || b || c) ≡ true
-one_of_three true b c p = refl
-one_of_three false b c p = absurd cc
 
 -- what is sealed with all votes cast is ready
 sure_ready : (s : List Line) (h : List Entry) → ruled s h ≡ true → IsSure h → ready h ≡ true
@@ -202,6 +198,7 @@ ruled_justified s [] r = refl
 ruled_justified s (x ∷ h) r =
     and_both (is_just h x) (always is_just h) (one_just s h x (other_rules s x h r) (first_rule s x h r)) (ruled_justified s h (other_rules s x h r))
 
+-- what keeps its rule is no second decision
 one_decision : (s : List Line) (h : List Entry) (x : Entry) → rule s h x ≡ true → is_decided_again h x ≡ false
 one_decision s h (Decided Committed) k = not_true (has is_decision h) (and_left (not (has is_decision h)) (all_cast h) (and_right (has is_sealed h) (not (has is_decision h) && all_cast h) k))
 one_decision s h (Decided _) k = absurd cc
@@ -211,10 +208,6 @@ one_decision s h _ k = refl
 pub decided_once : (s : List Line) (h : List Entry) → ruled s h ≡ true → ever is_decided_again h ≡ false
 decided_once s [] r = refl
 decided_once s (x ∷ h) r = or_false (is_decided_again h x) (ever is_decided_again h) (one_decision s h x (first_rule s x h r)) (decided_once s h (other_rules s x h r))
-
-and_never : (a : Bool) → (a && false) ≡ false
-and_never true = refl
-and_never false = refl
 
 -- no two are told opposite outcomes
 pub ruled_agree : (s : List Line) (h : List Entry) → ruled s h ≡ true → agree h ≡ true

@@ -3,7 +3,7 @@ use Rattle.std.proofs.Common.{◌≡◌, ℕ, zero, suc, Bool, true, false, ◌&
 use Rattle.std.specs.Prelude.{find, if◌then◌else◌}
 use Rattle.std.specs.List.{slice_get}
 use Rattle.dtx_model.specs.Words.{has, each, onto, past_of}
-use Rattle.outcome_law.proofs.Bools.{and_left, and_right, and_both, or_right}
+use Rattle.outcome_law.proofs.Bools.{and_left, and_right, and_both, or_right, and_swap, or_swap}
 
 -- where each passes p, and what passes p passes q, each passes q
 pub each_more : {A : Type 0} (p q : A → Bool) → ((x : A) → p x ≡ true → q x ≡ true) → (xs : List A) → each p xs ≡ true → each q xs ≡ true
@@ -41,16 +41,6 @@ has-at p [] k x e h = absurd cc
 has-at p (y ∷ xs) zero x e h = let same : y ≡ x = cc in let first : p y ≡ true = rw same h in rw first refl
 has-at p (y ∷ xs) (suc k) x e h = or_right (p y) (has p xs) (has-at p xs k x e h)
 
-pub and_swap : (a b c : Bool) → (a && (b && c)) ≡ (b && (a && c))
-and_swap true b c = refl
-and_swap false true c = refl
-and_swap false false c = refl
-
-or_swap : (a b c : Bool) → (a || (b || c)) ≡ (b || (a || c))
-or_swap true true c = refl
-or_swap true false c = refl
-or_swap false b c = refl
-
 -- each passes with a block behind: each passes in the block and in the history
 pub each-onto : {A : Type 0} (p : A → Bool) → (h xs : List A) → each p (onto h xs) ≡ (each p xs && each p h)
 each-onto p h [] = refl
@@ -85,6 +75,10 @@ has-past_of p xs h = has-onto p [] xs ∙ first (has p xs) h
 pub onto-append : {A : Type 0} → (h xs ys : List A) → onto h (xs ++ ys) ≡ onto (onto h xs) ys
 onto-append h [] ys = refl
 onto-append h (x ∷ xs) ys = onto-append (x ∷ h) xs ys
+
+-- a list with one more at its end, read newest first, has it in front
+pub past_of-push : {A : Type 0} → (xs : List A) (x : A) → past_of (xs ++ x ∷ []) ≡ x ∷ past_of xs
+past_of-push xs x = onto-append [] xs (x ∷ [])
 
 -- none was found: none passes
 pub find_none : {A : Type 0} (p : A → Bool) → (xs : List A) → find p xs ≡ None → has p xs ≡ false

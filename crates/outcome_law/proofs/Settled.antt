@@ -30,6 +30,7 @@ append_second : {A : Type 0} (xs ys : List A) → xs ++ ys ≡ [] → ys ≡ []
 append_second [] ys e = e
 append_second (x ∷ xs) ys e = absurd cc
 
+-- where no act is pending, it has no entries
 no_act : (xs : List Entry) → act_if xs ≡ [] → xs ≡ []
 no_act [] e = refl
 no_act (x ∷ xs) e = absurd cc
@@ -78,22 +79,26 @@ all_asked_voted s h r q d =
     (each_both (λ r. not (is_unasked r)) (λ r. is_some (planned_vote s r.enlistment.value)) both (λ r. and_both (not (is_unasked r)) (is_some (planned_vote s r.enlistment.value))) (rows h) asked planned)
     (each_none (λ r. due_reply s r) (rows h) d)
 
+-- where nothing is left to be told, the client was told
 told_all : (x : Outcome) (q : Option Row) (b : Bool) → tell x q b ≡ [] → b ≡ true
 told_all x (Some q) b e = absurd cc
 told_all x None true e = refl
 told_all x None false e = absurd cc
 
+-- where nothing comes behind the seal, each was asked and some haven't voted
 seal_stuck : (q : Option Row) (v : Bool) → behind_seal q v ≡ [] → (q ≡ None) × (v ≡ false)
 seal_stuck (Some q) v e = absurd cc
 seal_stuck None true e = absurd cc
 seal_stuck None false e = (refl, refl)
 
+-- where commit was asked and the local act has nothing to do, each was asked and some haven't voted
 open_stuck : (commit sealed : Bool) (q : Option Row) (v : Bool) → commit ≡ true → (if not commit then [] else if not sealed then Sealed ∷ [] else behind_seal q v) ≡ []
     → (q ≡ None) × (v ≡ false)
 open_stuck false sealed q v c e = absurd cc
 open_stuck true false q v c e = absurd cc
 open_stuck true true q v c e = seal_stuck q v e
 
+-- by cases: it was decided, or nothing was
 by_decision : (s : List Line) (h : List Entry) (d : Option Outcome) → latest decision_of h ≡ d → ruled s h ≡ true → has is_commit h ≡ true
     → act_by d (observe h) ≡ [] → (if is_some d then [] else filter_map (λ r. due_reply s r) (rows h)) ≡ [] → has (is_client_told Committed) h ≡ true
 unfolding observe

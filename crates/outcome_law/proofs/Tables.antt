@@ -12,8 +12,10 @@ use Rattle.dtx_model.specs.Entries.{is_vote, is_volatile}
 use Rattle.dtx_model.specs.Observed.{fresh_row, insert_row, row_after, rows}
 use Rattle.dtx_model.specs.Outcome.{enlisted}
 use Rattle.dtx_model.specs.Steps.{all_voted}
-use Rattle.outcome_law.proofs.Scans.{each_more, each_both, each-map, and_swap}
+use Rattle.outcome_law.proofs.Bools.{and_swap}
+use Rattle.outcome_law.proofs.Scans.{each_more, each_both, each-map}
 
+-- one step of `each-insert`
 each-insert_step : (p : Row → Bool) (b : Bool) (r q : Row) (qs rest : List Row) → each p rest ≡ (p r && each p qs)
     → each p (if b then q ∷ rest else r ∷ q ∷ qs) ≡ (p r && (p q && each p qs))
 each-insert_step p true r q qs rest ih = ap (λ x. p q && x) ih ∙ and_swap (p q) (p r) (each p qs)
@@ -37,6 +39,7 @@ each-rows f (x ∷ h) = each-rows f h
 abbrev pub is_cast : List Entry → Row → Bool
 is_cast h r = not (is_some r.vote) || has (is_vote r.enlistment.value) h
 
+-- one vote more: what is cast stays cast
 cast_step : (b : Bool) (v : Vote) (o : Option Vote) (g : Bool) → (not (is_some o) || g) ≡ true → (not (is_some (or_else (if b then Some v else None) o)) || (b || g)) ≡ true
 cast_step true v o g h = refl
 cast_step false v o g h = h
@@ -52,6 +55,7 @@ each_cast (Voted e v ∷ h) =
     ∙ each_more (is_cast h) (λ r. is_cast (Voted e v ∷ h) (row_after (Voted e v) r)) (λ r k. cast_step (r.enlistment.value == e.value) v r.vote (has (is_vote r.enlistment.value) h) k) (rows h) (each_cast h)
 each_cast (x ∷ h) = each_cast h
 
+-- from one test to the next to the last
 voted_step : (a b c : Bool) → (not a || b) ≡ true → (not b || c) ≡ true → (not a || c) ≡ true
 voted_step true true c h k = k
 voted_step true false c h k = absurd cc
