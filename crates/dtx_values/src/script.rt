@@ -43,14 +43,7 @@ pub enum Body {
     Volatile(TxNo, EnlNo, EnlistOption, Option<Vote>),
     Durable(TxNo, EnlNo, RmNo, Support),
     /// The plans of its vote, of its answer as owner, and of its promotion.
-    Promotable(
-        TxNo,
-        EnlNo,
-        RmNo,
-        Option<Vote>,
-        Option<Outcome>,
-        Option<bool>,
-    ),
+    Promotable(TxNo, EnlNo, RmNo, Option<Vote>, Option<Outcome>, Option<bool>),
     Clone(TxNo, CloneNo, CloneKind),
     Complete(CloneNo),
     Commit(TxNo),

@@ -94,6 +94,7 @@ reply-of s (r ∷ rs) step others k = go (r.asked && is_none r.vote) (planned_vo
   where
     later : IsReplyOf rs step → IsReplyOf (r ∷ rs) step
     later i = (i.0, i.1, i.2, or_right (unvoted r && not (unvoted (row_after (Voted i.0 i.1) r))) _ i.3)
+
     go : (b : Bool) (p : Option Vote) → (r.asked && is_none r.vote) ≡ b → cons_option (vote_step b r.enlistment p) (filter_map (λ q. due_reply s q) rs) ≡ step ∷ others
         → (filter_map (λ q. due_reply s q) rs ≡ step ∷ others → IsReplyOf rs step) → IsReplyOf (r ∷ rs) step
     go true (Some v) b k ih =
@@ -230,12 +231,14 @@ steps_left-pending s o step others k = by_due (due_replies s o) refl k
     replies None ds e =
         let i = reply-of s o.table step ds e in
         subst (λ (m : Step). steps_left (track_all o (block o m)) < steps_left o) (sym i.2) (steps_left-voted o i.0 i.1 i.3)
+
     acts : (es : List Entry) → act_entries o ≡ es → act_if es ≡ step ∷ others → steps_left (track_all o (block o step)) < steps_left o
     acts [] e f = absurd (cc)
     acts (x ∷ xs) e f =
         let same : Acts ≡ step = cc in
         let some : not (is_empty (act_entries o)) ≡ true = rw e refl in
         subst (λ (m : Step). steps_left (track_all o (block o m)) < steps_left o) same (steps_left-act o o.decided refl some)
+
     by_due : (ds : List Step) → due_replies s o ≡ ds → ds ++ act_if (act_entries o) ≡ step ∷ others → steps_left (track_all o (block o step)) < steps_left o
     by_due [] e f = acts (act_entries o) refl f
     by_due (d ∷ ds) e f = let same : d ≡ step = cc in replies o.decided ds (e ∙ ap (λ (m : Step). m ∷ ds) same)

@@ -53,13 +53,13 @@ tied_after ms trace new t m after es tied here state written =
     let seen : after ≡ observe (onto (history t.value (past_of trace)) es) = state ∙ (ap (λ (o : Observed). track_all o es) (machine-at ms trace t m tied here) ∙ sym (observe-onto (history t.value (past_of trace)) es)) in
     let same : (u : TxNo) → (u.value == t.value) ≡ true → u.value ≡ t.value → slice_get (set ms i after) (u.value - 1) ≡ Some (observe (history u.value (past_of new))) =
     λ u k e.
-        let shown : history u.value (past_of new) ≡ onto (history t.value (past_of trace)) es =
-        ap (history u.value) past ∙ (history-same u.value t (past_of trace) es k ∙ ap (λ (n : ℕ). onto (history n (past_of trace)) es) e) in
-        ap (λ (n : ℕ). slice_get (set ms i after) (n - 1)) e
-        ∙ (slice_get-get_or (set ms i after) i after (rw length-set within) ∙ ap Some (get_or-set_same ms i after after within ∙ (seen ∙ ap observe (sym shown)))) in
+    let shown : history u.value (past_of new) ≡ onto (history t.value (past_of trace)) es =
+    ap (history u.value) past ∙ (history-same u.value t (past_of trace) es k ∙ ap (λ (n : ℕ). onto (history n (past_of trace)) es) e) in
+    ap (λ (n : ℕ). slice_get (set ms i after) (n - 1)) e
+    ∙ (slice_get-get_or (set ms i after) i after (rw length-set within) ∙ ap Some (get_or-set_same ms i after after within ∙ (seen ∙ ap observe (sym shown)))) in
     let other : (u : TxNo) → (u.value == t.value) ≡ false → u.value ≢ t.value → slice_get (set ms i after) (u.value - 1) ≡ Some (observe (history u.value (past_of new))) =
     λ u k e.
-        let shown : history u.value (past_of new) ≡ history u.value (past_of trace) = ap (history u.value) past ∙ history-other u.value t (past_of trace) es k in
-        let apart : u.value - 1 ≢ i = λ d. e (omega (arith, d, u.in_range.0, t.in_range.0)) in
-        slice_get-set_other ms i (u.value - 1) after apart ∙ (tied.ties u ∙ ap (λ (h : List Entry). Some (observe h)) (sym shown)) in
+    let shown : history u.value (past_of new) ≡ history u.value (past_of trace) = ap (history u.value) past ∙ history-other u.value t (past_of trace) es k in
+    let apart : u.value - 1 ≢ i = λ d. e (omega (arith, d, u.in_range.0, t.in_range.0)) in
+    slice_get-set_other ms i (u.value - 1) after apart ∙ (tied.ties u ∙ ap (λ (h : List Entry). Some (observe h)) (sym shown)) in
     record { many = length-set ms i after ∙ tied.many; ties = λ u. elim (eqb_tells u.value t.value) [ inl k ↦ same u k.0 k.1 | inr k ↦ other u k.0 k.1 ] }

@@ -1,15 +1,19 @@
 //! A replay: the lines in order, and then the rounds at the end.
-ghost use Rattle.std.specs.Prelude.{◌≡◌, ◌≤◌, ◌+◌, [], ◌++◌, IfOk, OnOk, Ok, true, false, length, replicate, vec_len, vec_capacity};
+ghost use Rattle.std.specs.Prelude.{◌≡◌, ◌≤◌, ◌+◌, List, [], ◌++◌, IfOk, OnOk, Ok, true, false, length, replicate, vec_len, vec_capacity};
+ghost use Rattle.dtx_values.specs.declared.script.Line.{Line};
 ghost use Rattle.dtx_model.specs.Words.{past_of};
 ghost use Rattle.dtx_model.specs.Observed.{observe};
-ghost use Rattle.dtx_model.specs.Steps.{Calls};
+ghost use Rattle.dtx_model.specs.Steps.{Calls, call_of};
 ghost use Rattle.dtx_model.specs.Caused.{Settled};
-ghost use Rattle.dtx_model.specs.Replay.{after_step, history, placed};
-ghost use Rattle.script_runner.specs.Running.{Advances};
+ghost use Rattle.dtx_model.specs.Replay.{LinesRan, Placed, after_call, after_step, history, placed};
+ghost use Rattle.dtx_model.specs.History.{HasOneOutcome, IsComplete, IsHistory};
+ghost use Rattle.dtx_model.specs.Grammar.{IsScript};
+ghost use Rattle.script_runner.specs.Running.{Advances, IsSettledBelow};
 
 use crate::machine::Machine;
 use crate::plans::Plans;
-use dtx_values::{ActorNo, Call, Entry, Line, Outbox, Place, ROOM, TxNo};
+use dtx_values::{ActorNo, Body, Call, Entry, Line, Outbox, Place, ROOM, Script, Trace, TxNo};
+use outcome_law::{completeness, one_outcome, replay};
 use std::alloc::{AllocError, Global};
 use std::marker::Model;
 
@@ -98,4 +102,94 @@ impl<'a> Run<'a> {
         append(&mut self.trace, t, self.out.entries());
         Ok(true)
     }
+
+    /// Does the pending steps of transaction t, each time the first, until none is left.
+    fn settle(&mut self, t: TxNo) -> Result<(), AllocError>
+        ensures script { self.new.script ≡ self.old.script }
+        ensures settled { OnOk result ((start : List Placed) → IsSettledBelow self.old.script start t.value self.old.trace → IsSettledBelow self.old.script start (t.value + 1) self.new.trace) }
+    {
+        loop {
+            if !self.advance(t)? {
+                return Ok(());
+            }
+        }
+    }
+
+    /// Settles t1, t2 and so on in turn. No step of one makes another's pending, so one round leaves nothing.
+    fn settle_all(&mut self) -> Result<(), AllocError>
+        ensures script { self.new.script ≡ self.old.script }
+        ensures settled { OnOk result ((start : List Placed) → IsSettledBelow self.old.script start 1 self.old.trace → IsSettledBelow self.old.script start 257 self.new.trace) }
+    {
+        for n in 1..257 {
+            let t = TxNo::new(n).unwrap();
+            self.settle(t)?;
+        }
+        Ok(())
+    }
+
+    /// Does what line n does: its call.
+    fn line(&mut self, n: u32, l: &Line) -> Result<(), AllocError>
+        ensures script { self.new.script ≡ self.old.script }
+        ensures done { OnOk result (past_of self.new.trace ≡ after_call l.now n (call_of self.old.script l.now.body) (past_of self.old.trace)) }
+    {
+        match call_of(l.body) {
+            Some((t, c)) => self.call(n, l.actor, t, &c),
+            None => Ok(()),
+        }
+    }
+
+    /// Runs the lines in order.
+    fn lines(&mut self) -> Result<(), AllocError>
+        requires start { self.old.trace ≡ [] }
+        requires few { length self.old.script ≤ 1048576 }
+        ensures script { self.new.script ≡ self.old.script }
+        ensures ran { OnOk result (LinesRan self.old.script (past_of self.old.script) (past_of self.new.trace)) }
+    {
+        let lines = self.plans.lines();
+        let mut n = 0;
+        for l in lines {
+            n += 1;
+            self.line(n, l)?;
+        }
+        Ok(())
+    }
+
+    /// The trace so far.
+    fn into_trace(self) -> Trace
+        ensures { result ≡ self.trace }
+    {
+        Trace::new(self.trace)
+    }
+}
+
+/// The transaction that a line calls, and the call.
+fn call_of(body: Body) -> Option<(TxNo, Call)>
+    ensures { (s : List Line) → result ≡ call_of s body }
+{
+    match body {
+        Body::Begin(t, d) => Some((t, Call::Begin(t, d))),
+        Body::Volatile(t, e, o, v) => Some((t, Call::Volatile(t, e, o, v))),
+        Body::Commit(t) => Some((t, Call::Commit(t))),
+        _ => None,
+    }
+}
+
+/// Replays a script: runs its lines in order, and settles its transactions.
+///
+/// # Errors
+///
+/// [`AllocError`] where memory ran out.
+pub fn run_replay(alloc: Global, s: &Script) -> Result<Trace, AllocError>
+    requires { IsScript s.now }
+    ensures history { IfOk result (λ T. IsHistory s.now T) }
+    ensures outcome { IfOk result (λ T. HasOneOutcome T) }
+    ensures complete { IfOk result (λ T. IsComplete T) }
+{
+    one_outcome();
+    completeness();
+    replay();
+    let mut run = Run::new(alloc, s.lines())?;
+    run.lines()?;
+    run.settle_all()?;
+    Ok(run.into_trace())
 }
