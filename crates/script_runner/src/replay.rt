@@ -1,11 +1,12 @@
 //! A replay: the lines in order, and then the rounds at the end.
 ghost use Rattle.std.specs.Prelude.{◌≡◌, ◌≤◌, ◌+◌, List, [], ◌++◌, IfOk, OnOk, Ok, true, false, length, replicate, vec_len, vec_capacity};
+ghost use Rattle.dtx_values.specs.declared.number.TxNo.{TxNo};
 ghost use Rattle.dtx_values.specs.declared.script.Line.{Line};
 ghost use Rattle.dtx_model.specs.Words.{past_of};
 ghost use Rattle.dtx_model.specs.Observed.{observe};
 ghost use Rattle.dtx_model.specs.Steps.{Calls, call_of};
 ghost use Rattle.dtx_model.specs.Caused.{Settled};
-ghost use Rattle.dtx_model.specs.Replay.{LinesRan, Placed, after_call, after_step, history, placed};
+ghost use Rattle.dtx_model.specs.Replay.{IsReplayed, LinesRan, Placed, after_call, after_step, history, placed};
 ghost use Rattle.dtx_model.specs.History.{HasOneOutcome, IsComplete, IsHistory};
 ghost use Rattle.dtx_model.specs.Grammar.{IsScript};
 ghost use Rattle.script_runner.specs.Running.{Advances, IsSettledBelow};
@@ -156,7 +157,7 @@ impl<'a> Run<'a> {
 
     /// The trace so far.
     fn into_trace(self) -> Trace
-        ensures { result ≡ self.trace }
+        ensures { result ≡ self.entry.trace }
     {
         Trace::new(self.trace)
     }
@@ -174,6 +175,18 @@ fn call_of(body: Body) -> Option<(TxNo, Call)>
     }
 }
 
+/// The trace of what the lines do in order, and of the rounds behind them.
+fn trace_of(alloc: Global, lines: &[Line]) -> Result<Trace, AllocError>
+    requires { length lines.now ≤ 1048576 }
+    ensures replayed { IfOk result (λ T. IsReplayed lines.now (past_of T)) }
+    ensures settled { IfOk result (λ T. (t : TxNo) → Settled lines.now (history t.value (past_of T))) }
+{
+    let mut run = Run::new(alloc, lines)?;
+    run.lines()?;
+    run.settle_all()?;
+    Ok(run.into_trace())
+}
+
 /// Replays a script: runs its lines in order, and settles its transactions.
 ///
 /// # Errors
@@ -188,8 +201,6 @@ pub fn run_replay(alloc: Global, s: &Script) -> Result<Trace, AllocError>
     one_outcome();
     completeness();
     replay();
-    let mut run = Run::new(alloc, s.lines())?;
-    run.lines()?;
-    run.settle_all()?;
-    Ok(run.into_trace())
+    let trace = trace_of(alloc, s.lines())?;
+    Ok(trace)
 }
