@@ -31,7 +31,7 @@ use Rattle.dtx_model.specs.Observed.{Observed, observe, rows}
 use Rattle.dtx_model.specs.Outcome.{enlisted}
 use Rattle.dtx_model.specs.Steps.{Step, Calls, Replies, Acts, call_of, class_of, answer, behind_end, is_fine, facts, facts_if, reply_entries, tell, behind_seal, act_by, act_entries, line_vote, planned_vote, vote_step, due_reply, due_replies, act_if, pending, is_to_tell, is_unasked, all_voted, block}
 use Rattle.dtx_model.specs.Caused.{line_at, IsCallOf, MayCome, Ran, Caused}
-use Rattle.outcome_law.proofs.Bools.{and_left, and_right, and_both, not_false}
+use Rattle.dtx_model.proofs.Bools.{and_left, and_right, and_both, not_false}
 use Rattle.outcome_law.proofs.Scans.{each_more, each_both, each-append, each-at, has-at, each-past_of, has-past_of}
 use Rattle.outcome_law.proofs.Pending.{passes, each-filter_map, each_if}
 use Rattle.outcome_law.proofs.Tables.{each_voted}

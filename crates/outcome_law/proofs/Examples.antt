@@ -28,7 +28,7 @@ use Rattle.dtx_model.specs.Outcome.{ready, by_seal, by_owner, by_log, evidence, 
 use Rattle.dtx_model.specs.Steps.{Step, Replies, Acts, answer, act_entries, block, pending}
 use Rattle.dtx_model.specs.Caused.{Caused, Settled}
 use Rattle.dtx_model.specs.Replay.{Placed, history, placed, LinesRan, IsTurn, RoundsRan, IsReplayed, is_passed}
-use Rattle.outcome_law.proofs.Bools.{and_left, and_right}
+use Rattle.dtx_model.proofs.Bools.{and_left, and_right}
 use Rattle.outcome_law.proofs.Replays.{replayed_caused}
 
 -- the names of the examples

@@ -1,6 +1,4 @@
-pub mod Bools
 pub mod Scans
-pub mod Tracks
 pub mod Pending
 pub mod Replays
 pub mod Tables

@@ -15,7 +15,7 @@ use Rattle.dtx_model.specs.declared.row.Row.{Row}
 use Rattle.dtx_model.specs.Words.{each}
 use Rattle.dtx_model.specs.Observed.{Observed}
 use Rattle.dtx_model.specs.Steps.{Step, Calls, Replies, Acts, facts, facts_if, tell, behind_seal, act_by, act_entries, vote_step, due_reply, due_replies, act_if, planned_vote, pending, is_to_tell, is_unasked, all_voted, block}
-use Rattle.outcome_law.proofs.Bools.{and_both}
+use Rattle.dtx_model.proofs.Bools.{and_both}
 use Rattle.outcome_law.proofs.Scans.{each-append}
 
 -- what is there passes

@@ -15,22 +15,11 @@ use Rattle.dtx_model.specs.Entries.{is_call}
 use Rattle.dtx_model.specs.Observed.{observe}
 use Rattle.dtx_model.specs.Steps.{Step, Calls, Replies, Acts, call_of, answer, is_fine, facts, facts_if, block, pending}
 use Rattle.dtx_model.specs.Caused.{line_at, MayCome, Caused}
+use Rattle.dtx_model.proofs.Histories.{history-other, history-same}
 use Rattle.dtx_model.specs.Replay.{Placed, history, placed, after_step, after_call, LinesRan, IsTurn, last_turn, RoundsRan, IsReplayed, called_of, calls, due_call, due_calls}
-use Rattle.outcome_law.proofs.Bools.{or_false, and_left, and_right}
+use Rattle.dtx_model.proofs.Bools.{or_false, and_left, and_right}
 use Rattle.outcome_law.proofs.Scans.{has-onto}
 use Rattle.outcome_law.proofs.Pending.{is_no_call, pending_no_call, is_not_called, facts_not_called, block_not_called}
-
--- the history of a transaction with a block of its own behind
-pub history-same : (u : ℕ) (t : TxNo) (T : List Placed) (es : List Entry) → (u == t.value) ≡ true → history u (onto T (placed t es)) ≡ onto (history u T) es
-history-same u t T [] e = refl
-history-same u t T (x ∷ es) e =
-    let first : history u ((Transaction t, x) ∷ T) ≡ x ∷ history u T = rw e refl in history-same u t ((Transaction t, x) ∷ T) es e ∙ ap (λ h. onto h es) first
-
--- the history of a transaction with a block of another's behind
-pub history-other : (u : ℕ) (t : TxNo) (T : List Placed) (es : List Entry) → (u == t.value) ≡ false → history u (onto T (placed t es)) ≡ history u T
-history-other u t T [] e = refl
-history-other u t T (x ∷ es) e =
-    let first : history u ((Transaction t, x) ∷ T) ≡ history u T = rw e refl in history-other u t ((Transaction t, x) ∷ T) es e ∙ first
 
 -- what is caused, with the block of a step that may come behind, is caused
 pub caused-step : (s : List Line) (u : ℕ) (m : Step) (h : List Entry) → Caused s u h → MayCome s u h m → Caused s u (onto h (block (observe h) m))

@@ -11,7 +11,7 @@ use Rattle.dtx_model.specs.Words.{has, each, ever, always, latest, all_of}
 use Rattle.dtx_model.specs.Entries.{is_commit, is_sealed, is_promoted, is_volatile, clone_of, is_vote, is_good, is_good_vote, decision_of, is_decision, is_told_client, is_client_told, is_final}
 use Rattle.dtx_model.specs.Outcome.{enlisted, durables, voters, is_complete, ready, is_empty, by_seal, by_owner, by_log, evidence, may_tell, is_just, justified, is_decided_again, agree}
 use Rattle.dtx_model.specs.Steps.{planned_vote}
-use Rattle.outcome_law.proofs.Bools.{and_left, and_right, and_both, or_false, or_right, not_true, not_false, not_both, three_hold, one_of_three, and_never}
+use Rattle.dtx_model.proofs.Bools.{and_left, and_right, and_both, or_false, or_right, not_true, not_false, not_both, three_hold, one_of_three, and_never}
 use Rattle.outcome_law.proofs.Scans.{each_more}
 
 -- each enlistment voted

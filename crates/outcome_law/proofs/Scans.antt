@@ -3,7 +3,7 @@ use Rattle.std.proofs.Common.{◌≡◌, ℕ, zero, suc, Bool, true, false, ◌&
 use Rattle.std.specs.Prelude.{find, if◌then◌else◌}
 use Rattle.std.specs.List.{slice_get}
 use Rattle.dtx_model.specs.Words.{has, each, onto, past_of}
-use Rattle.outcome_law.proofs.Bools.{and_left, and_right, and_both, or_right, and_swap, or_swap}
+use Rattle.dtx_model.proofs.Bools.{and_left, and_right, and_both, or_right, and_swap, or_swap}
 
 -- where each passes p, and what passes p passes q, each passes q
 pub each_more : {A : Type 0} (p q : A → Bool) → ((x : A) → p x ≡ true → q x ≡ true) → (xs : List A) → each p xs ≡ true → each q xs ≡ true
@@ -70,15 +70,6 @@ has-past_of p xs h = has-onto p [] xs ∙ first (has p xs) h
     first : (a : Bool) → a ≡ true → (a || false) ≡ true
     first true h = refl
     first false h = h
-
--- two blocks behind a history are the first, and then the second
-pub onto-append : {A : Type 0} → (h xs ys : List A) → onto h (xs ++ ys) ≡ onto (onto h xs) ys
-onto-append h [] ys = refl
-onto-append h (x ∷ xs) ys = onto-append (x ∷ h) xs ys
-
--- a list with one more at its end, read newest first, has it in front
-pub past_of-push : {A : Type 0} → (xs : List A) (x : A) → past_of (xs ++ x ∷ []) ≡ x ∷ past_of xs
-past_of-push xs x = onto-append [] xs (x ∷ [])
 
 -- none was found: none passes
 pub find_none : {A : Type 0} (p : A → Bool) → (xs : List A) → find p xs ≡ None → has p xs ≡ false

@@ -15,7 +15,7 @@ use Rattle.dtx_model.specs.Entries.{is_commit, is_sealed, is_volatile, decision_
 use Rattle.dtx_model.specs.Observed.{observe, rows}
 use Rattle.dtx_model.specs.Steps.{tell, behind_seal, act_by, act_entries, planned_vote, vote_step, due_reply, due_replies, act_if, pending, is_to_tell, is_unasked, all_voted}
 use Rattle.dtx_model.specs.Caused.{Settled}
-use Rattle.outcome_law.proofs.Bools.{not_false, or_first, or_second, and_both, not_both}
+use Rattle.dtx_model.proofs.Bools.{not_false, or_first, or_second, and_both, not_both}
 use Rattle.outcome_law.proofs.Scans.{each_both, find_none}
 use Rattle.outcome_law.proofs.Tables.{each-rows}
 use Rattle.outcome_law.proofs.Rules.{ruled, each_planned, told_committed}

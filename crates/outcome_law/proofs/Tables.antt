@@ -12,7 +12,7 @@ use Rattle.dtx_model.specs.Entries.{is_vote, is_volatile}
 use Rattle.dtx_model.specs.Observed.{fresh_row, insert_row, row_after, rows}
 use Rattle.dtx_model.specs.Outcome.{enlisted}
 use Rattle.dtx_model.specs.Steps.{all_voted}
-use Rattle.outcome_law.proofs.Bools.{and_swap}
+use Rattle.dtx_model.proofs.Bools.{and_swap}
 use Rattle.outcome_law.proofs.Scans.{each_more, each_both, each-map}
 
 -- one step of `each-insert`

@@ -7,8 +7,7 @@ ghost use Rattle.dtx_values.specs.declared.entry.Entry.{Entry};
 ghost use Rattle.dtx_values.specs.declared.script.Line.{Line};
 ghost use Rattle.dtx_values.specs.declared.number.TxNo.{TxNo};
 ghost use Rattle.dtx_values.specs.declared.words.Outcome.TheVariants.{Committed};
-ghost use Rattle.dtx_model.specs.Words.{has, each, onto, past_of};
-ghost use Rattle.dtx_model.specs.Observed.{observe, track_all};
+ghost use Rattle.dtx_model.specs.Words.{has, each, past_of};
 ghost use Rattle.dtx_model.specs.Entries.{is_commit, is_client_told};
 ghost use Rattle.dtx_model.specs.Outcome.{justified, agree};
 ghost use Rattle.dtx_model.specs.Caused.{Caused, Settled};
@@ -33,9 +32,4 @@ pub fn completeness()
 pub fn replay()
     ensures caused { (s : List Line) (T : List Placed) → IsReplayed s T → (t : TxNo) → Caused s t.value (history t.value T) }
     ensures called { (s : List Line) (T : List Placed) → IsReplayed s T → calls T ≡ due_calls s (past_of s) }
-{}
-
-/// What is kept entry by entry is what is read of the history.
-pub fn tracking()
-    ensures { (h : List Entry) (xs : List Entry) → observe (onto h xs) ≡ track_all (observe h) xs }
 {}

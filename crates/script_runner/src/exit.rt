@@ -1,0 +1,19 @@
+//! How the top call ends.
+
+/// How the top call ends. The order in which the answers are given is Usage, ReadFault, NotYet, WriteFault; want of memory may come at any
+/// point.
+#[derive(Clone, Copy, PartialEq, Eq, Debug)]
+pub enum Exit {
+    /// All was read, run and written.
+    Fine,
+    /// The words are none of the program's.
+    Usage,
+    /// The line, from 1, that is the first that isn't run yet.
+    NotYet(u32),
+    /// The source met a fault.
+    ReadFault,
+    /// The sink met a fault.
+    WriteFault,
+    /// Memory ran out.
+    Memory,
+}
