@@ -1,10 +1,10 @@
 -- Lemmas on the words for histories.
-use Rattle.std.proofs.Common.{◌≡◌, ℕ, ◌==◌, Bool, true, false, List, [], ◌∷◌, ◌++◌, map, refl, ap, sym, ◌∙◌, if◌then◌else◌}
+use Rattle.std.proofs.Common.{◌≡◌, ℕ, ◌==◌, true, false, List, [], ◌∷◌, ◌++◌, refl, ◌∙◌}
 use Rattle.dtx_values.specs.declared.number.TxNo.{TxNo}
 use Rattle.dtx_values.specs.declared.entry.Entry.{Entry}
 use Rattle.dtx_values.specs.declared.trace.Place.TheVariants.{Transaction}
 use Rattle.dtx_model.specs.Words.{onto, past_of}
-use Rattle.dtx_model.specs.Observed.{Observed, observe, track, track_all}
+use Rattle.dtx_model.specs.Observed.{observe, track, track_all}
 use Rattle.dtx_model.specs.Replay.{Placed, history, placed}
 
 -- two blocks behind each other are one

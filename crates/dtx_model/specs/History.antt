@@ -1,7 +1,6 @@
 -- The traces of a replay of a script. A trace stands oldest first here, as it is printed.
 use Rattle.std.specs.Prelude.{◌≡◌, true, List}
 use Rattle.dtx_values.specs.declared.number.TxNo.{TxNo}
-use Rattle.dtx_values.specs.declared.entry.Entry.{Entry}
 use Rattle.dtx_values.specs.declared.script.Line.{Line}
 use Rattle.dtx_values.specs.declared.words.Outcome.TheVariants.{Committed}
 use Rattle.dtx_model.specs.Words.{has, past_of}

@@ -1,6 +1,6 @@
 -- Who votes, what is evidence, a veto or doubt, what may be told, and who agrees. These definitions read one history and know of
 -- no phase, queue, slot or place of the commit right.
-use Rattle.std.specs.Prelude.{ℕ, Bool, true, false, ◌&&◌, ◌||◌, ◌==◌, not, List, [], ◌∷◌, ◌++◌, filter, Option, Some, None, is_none, if◌then◌else◌}
+use Rattle.std.specs.Prelude.{Bool, true, false, ◌&&◌, ◌||◌, ◌==◌, not, List, [], ◌∷◌, ◌++◌, filter, if◌then◌else◌}
 use Rattle.dtx_values.specs.declared.number.CloneNo.{CloneNo}
 use Rattle.dtx_values.specs.declared.number.EnlNo.{EnlNo}
 use Rattle.dtx_values.specs.declared.entry.Entry.{Entry}
@@ -21,7 +21,7 @@ use Rattle.dtx_values.specs.declared.words.Outcome.{Outcome}
 use Rattle.dtx_values.specs.declared.words.Outcome.TheVariants.{Committed, Aborted, InDoubt}
 use Rattle.dtx_values.specs.declared.words.Vote.TheVariants.{No}
 use Rattle.dtx_model.specs.Words.{has, each, ever, always, all_of}
-use Rattle.dtx_model.specs.Entries.{is_commit, is_sealed, is_promoted, is_record, is_yes, is_hand, is_any_hand, handed_of, is_owner, is_any_owner, is_lost, is_volatile, enlisted_of, clone_of, is_completed, is_vote, is_good_vote, is_commit_got, is_yes_got, is_vote_got, is_decision, is_final}
+use Rattle.dtx_model.specs.Entries.{is_commit, is_sealed, is_promoted, is_record, is_yes, is_hand, is_any_hand, handed_of, is_owner, is_any_owner, is_volatile, enlisted_of, clone_of, is_completed, is_vote, is_good_vote, is_commit_got, is_yes_got, is_vote_got, is_decision, is_final}
 use Rattle.dtx_model.specs.Messages.{has_line}
 
 -- the enlistments with their classes, newest first

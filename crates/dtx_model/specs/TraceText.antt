@@ -1,5 +1,5 @@
 -- TraceText in the plain form, for the entries of the lines that are run.
-use Rattle.std.specs.Prelude.{ℕ, suc, ◌+◌, List, [], ◌∷◌, ◌++◌, codes, decimal}
+use Rattle.std.specs.Prelude.{ℕ, suc, List, [], ◌∷◌, ◌++◌, codes, decimal}
 use Rattle.dtx_values.specs.declared.entry.Answer.{Answer}
 use Rattle.dtx_values.specs.declared.entry.Answer.TheVariants.{Fine, NotBegun, Ended, TooLate, Many}
 use Rattle.dtx_values.specs.declared.entry.Ask.{Ask}
