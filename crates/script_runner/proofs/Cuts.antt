@@ -1,5 +1,6 @@
 -- Texts cut at a separator.
-use Rattle.std.proofs.Common.{◌≡◌, ℕ, ◌==◌, Bool, true, false, ◌||◌, List, [], ◌∷◌, ◌++◌, refl, ap, sym, ◌∙◌, arith, rules}
+use Rattle.std.proofs.Common.{◌≡◌, ℕ, ◌==◌, Bool, true, false, ◌||◌, List, [], ◌∷◌, ◌++◌, refl, ap, sym, ◌∙◌, arith, rules, Option, Some, None, IfNone, IsSome}
+use Rattle.std.proofs.lemmas.Bool.{false≢true}
 use Rattle.std.proofs.lemmas.Bool.Decides.{nat_tests}
 use Rattle.std.proofs.lemmas.List.Folds.{list_any-append}
 use Rattle.dtx_model.specs.Words.{has}
@@ -36,3 +37,8 @@ without_append c [] ys hx hy = hy
 without_append c (x ∷ xs) ys hx hy =
     let k = without_append c xs ys (tail_without c x xs hx) hy in
     grind (arith, nat_tests)
+
+-- a fact for `None`, where there is no value
+pub if_none : {A : Type 0} (P : Type 0) (o : Option A) → ((IsSome o → ⊥) → P) → IfNone o P
+if_none P None f = f (λ s. absurd (false≢true s))
+if_none P (Some x) f = tt

@@ -8,6 +8,7 @@ use Rattle.std.proofs.lemmas.List.{length-take-le}
 use Rattle.std.proofs.Math.Seq.{take-length}
 use Rattle.std.proofs.lemmas.Fmt.{decimal_nonempty, length-decimal-le, first_decimal, digits_decimal, digits_value-decimal, decimal-digits_value, decimal_digit, decimal_injective}
 use Rattle.script_runner.specs.Reader.{IsWithout}
+use Rattle.script_runner.proofs.Cuts.{cut_same}
 use Rattle.std.proofs.lemmas.Int.Digits.{digits_value_more, digits_more}
 use Rattle.std.proofs.lemmas.Str.Parse.{IsNumeralModel, numerals_by_value, tells_digits, digit_at, digit_from_value, digits_value_short}
 
@@ -103,3 +104,10 @@ without_digits c (x ∷ xs) h d =
 -- nor does a number's text
 pub without_decimal : (c n : ℕ) → c < 48 → n < 2 ^ 64 → IsWithout c (decimal n)
 without_decimal c n h k = without_digits c (decimal n) h (digits_decimal own n k)
+
+-- a text whose first word is a name
+pub cut_name : (letter n : ℕ) (w a b r : List ℕ) → letter ≢ 32 → n < 2 ^ 64 → w ≡ a ++ 32 ∷ b → IsWithout 32 a → w ≡ letter ∷ (decimal n ++ 32 ∷ r) → (a ≡ letter ∷ decimal n) × (b ≡ r)
+cut_name letter n w a b r other small e h k =
+    let named = without_decimal 32 n (omega arith) small in
+    let whole : IsWithout 32 (letter ∷ decimal n) = grind (arith, nat_tests) in
+    cut_same 32 a (letter ∷ decimal n) b r h whole (sym e ∙ k)

@@ -1,14 +1,12 @@
 //! The lines of a script: each has one spelling.
-ghost use Rattle.std.specs.Prelude.{◌≡◌, ◌≢◌, ◌∷◌, ◌++◌, List, ℕ, true, Some, codes, IfSome, IfNone};
+ghost use Rattle.std.specs.Prelude.{IfSome, IfNone};
 ghost use Rattle.dtx_values.specs.declared.number.TxNo.{TxNo};
 ghost use Rattle.dtx_values.specs.declared.number.EnlNo.{EnlNo};
 ghost use Rattle.dtx_values.specs.declared.script.Body.{Body};
 ghost use Rattle.dtx_values.specs.declared.script.Line.{Line};
 ghost use Rattle.dtx_values.specs.declared.words.Timeout.{Timeout};
 ghost use Rattle.dtx_values.specs.declared.words.Vote.{Vote};
-ghost use Rattle.dtx_model.specs.Entries.{is_good};
-ghost use Rattle.dtx_model.specs.Grammar.{transaction_name, enlistment_name, timeout_word, vote_word, line_text, is_short};
-ghost use Rattle.script_runner.specs.Reader.{fits, IsCommand, IsLine};
+ghost use Rattle.script_runner.specs.Reader.{IsBegin, IsVolatile, IsCommand, IsLine};
 
 use crate::words::{actor, cut, enlistment, timeout, transaction, vote};
 use dtx_values::{Body, EnlNo, EnlistOption, Line, Timeout, TxNo, Vote};
@@ -18,8 +16,8 @@ const LINE_LENGTH: usize = 200;
 
 /// Reads the words behind `begin`.
 fn begin(words: &[u8]) -> Option<(TxNo, Timeout)>
-    ensures some { IfSome result (λ p. (words.now ≡ transaction_name p.0.value ++ 32 ∷ timeout_word p.1) × (fits p.1 ≡ true)) }
-    ensures none { IfNone result ((t : TxNo) (d : Timeout) → fits d ≡ true → words.now ≢ transaction_name t.value ++ 32 ∷ timeout_word d) }
+    ensures some { IfSome result (λ p. IsBegin words.now p.0 p.1) }
+    ensures none { IfNone result ((t : TxNo) (d : Timeout) → IsBegin words.now t d → ⊥) }
 {
     let (t, d) = cut(words, b' ')?;
     Some((transaction(t)?, timeout(d)?))
@@ -27,8 +25,8 @@ fn begin(words: &[u8]) -> Option<(TxNo, Timeout)>
 
 /// Reads the words behind `volatile`.
 fn volatile(words: &[u8]) -> Option<(TxNo, EnlNo, Vote)>
-    ensures some { IfSome result (λ p. (words.now ≡ transaction_name p.0.value ++ 32 ∷ (enlistment_name p.1.value ++ 32 ∷ (codes "none" ++ 32 ∷ vote_word (Some p.2)))) × (is_good p.2 ≡ true)) }
-    ensures none { IfNone result ((t : TxNo) (e : EnlNo) (v : Vote) → is_good v ≡ true → words.now ≢ transaction_name t.value ++ 32 ∷ (enlistment_name e.value ++ 32 ∷ (codes "none" ++ 32 ∷ vote_word (Some v)))) }
+    ensures some { IfSome result (λ p. IsVolatile words.now p.0 p.1 p.2) }
+    ensures none { IfNone result ((t : TxNo) (e : EnlNo) (v : Vote) → IsVolatile words.now t e v → ⊥) }
 {
     let (t, rest) = cut(words, b' ')?;
     let (e, rest) = cut(rest, b' ')?;

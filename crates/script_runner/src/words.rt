@@ -66,7 +66,6 @@ fn name(word: &[u8], letter: u8) -> Option<u32>
 }
 
 /// Reads an actor's name.
-#[tactic(auto, using(crate::proofs::Numbers::same_number))]
 pub fn actor(word: &[u8]) -> Option<ActorNo>
     ensures some { IfSome result (λ a. word.now ≡ actor_name a.value) }
     ensures none { IfNone result ((a : ActorNo) → word.now ≢ actor_name a.value) }
@@ -75,7 +74,6 @@ pub fn actor(word: &[u8]) -> Option<ActorNo>
 }
 
 /// Reads a transaction's name.
-#[tactic(auto, using(crate::proofs::Numbers::same_number))]
 pub fn transaction(word: &[u8]) -> Option<TxNo>
     ensures some { IfSome result (λ t. word.now ≡ transaction_name t.value) }
     ensures none { IfNone result ((t : TxNo) → word.now ≢ transaction_name t.value) }
@@ -84,7 +82,6 @@ pub fn transaction(word: &[u8]) -> Option<TxNo>
 }
 
 /// Reads an enlistment's name.
-#[tactic(auto, using(crate::proofs::Numbers::same_number))]
 pub fn enlistment(word: &[u8]) -> Option<EnlNo>
     ensures some { IfSome result (λ e. word.now ≡ enlistment_name e.value) }
     ensures none { IfNone result ((e : EnlNo) → word.now ≢ enlistment_name e.value) }
