@@ -1,5 +1,7 @@
 -- Which words a command's text begins with.
 use Rattle.std.proofs.Common.{◌≡◌, ◌≢◌, ℕ, ◌^◌, ◌<◌, Bool, true, false, List, [], ◌∷◌, ◌++◌, refl, ap, sym, ◌∙◌, arith, rules, codes, Some, None}
+use Rattle.std.specs.List.{join_with_byte}
+use Rattle.dtx_values.specs.declared.script.Line.{Line}
 use Rattle.dtx_values.specs.declared.number.TxNo.{TxNo}
 use Rattle.dtx_values.specs.declared.number.EnlNo.{EnlNo}
 use Rattle.dtx_values.specs.declared.script.Body.{Body}
@@ -9,9 +11,10 @@ use Rattle.dtx_values.specs.declared.words.Timeout.{Timeout}
 use Rattle.dtx_values.specs.declared.words.Timeout.TheVariants.{Default, Milliseconds}
 use Rattle.dtx_values.specs.declared.words.Vote.{Vote}
 use Rattle.dtx_values.specs.declared.words.Vote.TheVariants.{Yes, No, Done}
-use Rattle.dtx_model.specs.Grammar.{transaction_name, vote_word, is_run, is_in_range}
-use Rattle.script_runner.specs.Reader.{IsWithout, IsBegin, IsVolatile, IsCommand}
+use Rattle.dtx_model.specs.Grammar.{actor_name, transaction_name, vote_word, command_words, is_run, is_in_range}
+use Rattle.script_runner.specs.Reader.{IsWithout, IsBegin, IsVolatile, IsCommand, IsLine}
 use Rattle.script_runner.proofs.Cuts.{cut_same}
+use Rattle.script_runner.proofs.Numbers.{cut_name}
 
 -- a command's first word, and what stands behind it
 pub data IsCut (name rest : List ℕ) : Type 0 where
@@ -37,3 +40,16 @@ cut_command (Commit t) text name rest h e k =
     let s = cut_same 32 name (codes "commit") rest _ k refl (sym e ∙ h.spelled) in
     OfCommit t s.0 s.1
 cut_command _ text name rest h e k = absurd (cc (h.run))
+
+-- a command that is run has words, which stand behind a space
+pub spaced_command : (w : List ℕ) (b : Body) → is_run b ≡ true → join_with_byte 32 (w ∷ command_words b) ≡ w ++ 32 ∷ join_with_byte 32 (command_words b)
+spaced_command w (Begin t d) h = refl
+spaced_command w (Volatile t e o v) h = refl
+spaced_command w (Commit t) h = refl
+spaced_command w _ h = absurd (cc h)
+
+-- a line's first word is its actor's name, and its command stands behind it
+pub cut_line : (l : Line) (text name rest : List ℕ) → IsLine text l → text ≡ name ++ 32 ∷ rest → IsWithout 32 name → (name ≡ actor_name l.actor.value) × IsCommand rest l.body
+cut_line l text name rest h e k =
+    let s = cut_name 97 l.actor.value text name rest (join_with_byte 32 (command_words l.body)) (omega arith) (omega arith) e k (h.spelled ∙ spaced_command (actor_name l.actor.value) l.body h.run) in
+    (s.0, record { run = h.run; in_range = h.in_range; spelled = s.1 })

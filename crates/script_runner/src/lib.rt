@@ -1,8 +1,10 @@
 //! Runs scripts: the top call of the program.
 #![tactic(auto)]
 
+mod draft;
 mod lines;
 mod machine;
 mod plans;
+mod reader;
 mod rows;
 mod words;

@@ -1,12 +1,13 @@
 //! The lines of a script: each has one spelling.
-ghost use Rattle.std.specs.Prelude.{IfSome, IfNone};
+ghost use Rattle.std.specs.Prelude.{◌≡◌, ◌≢◌, ◌++◌, ℕ, List, IfSome, IfNone};
 ghost use Rattle.dtx_values.specs.declared.number.TxNo.{TxNo};
 ghost use Rattle.dtx_values.specs.declared.number.EnlNo.{EnlNo};
 ghost use Rattle.dtx_values.specs.declared.script.Body.{Body};
 ghost use Rattle.dtx_values.specs.declared.script.Line.{Line};
 ghost use Rattle.dtx_values.specs.declared.words.Timeout.{Timeout};
 ghost use Rattle.dtx_values.specs.declared.words.Vote.{Vote};
-ghost use Rattle.script_runner.specs.Reader.{IsBegin, IsVolatile, IsCommand, IsLine};
+ghost use Rattle.script_runner.specs.Reader.{IsBegin, IsVolatile, IsCommand, IsLine, IsRunLine};
+ghost use Rattle.dtx_model.specs.Grammar.{line_text};
 
 use crate::words::{actor, cut, enlistment, timeout, transaction, vote};
 use dtx_values::{Body, EnlNo, EnlistOption, Line, Timeout, TxNo, Vote};
@@ -67,4 +68,16 @@ fn line(text: &[u8]) -> Option<Line>
         actor: actor(name)?,
         body: command(rest)?,
     })
+}
+
+/// Reads the first line, and gives what follows it.
+pub fn first_line(bytes: &[u8]) -> Option<(Line, &[u8])>
+    ensures some { IfSome result (λ p. (bytes.now ≡ line_text p.0 ++ p.1.now) × IsRunLine p.0) }
+    ensures none { IfNone result ((l : Line) (after : List ℕ) → IsRunLine l → bytes.now ≢ line_text l ++ after) }
+{
+    let (text, after) = cut(bytes, b'\n')?;
+    if text.len() > LINE_LENGTH {
+        return None;
+    }
+    Some((line(text)?, after))
 }

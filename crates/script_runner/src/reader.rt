@@ -1,0 +1,40 @@
+//! Reads scripts.
+ghost use Rattle.std.specs.Prelude.{◌≡◌, ◌≤◌, ℕ, Ok, IfSome, IfNone, IfOk, List, length};
+ghost use Rattle.dtx_values.specs.declared.script.Line.{Line};
+ghost use Rattle.dtx_model.specs.Grammar.{script_text, IsScript};
+ghost use Rattle.script_runner.specs.Reader.{Continues};
+
+use crate::draft::Draft;
+use crate::lines::first_line;
+use dtx_values::{Line, Script};
+use std::alloc::{AllocError, Global};
+
+/// The most bytes of a script.
+const SCRIPT_LENGTH: usize = 1_048_576;
+
+/// What the bytes are.
+#[derive(Drop)]
+pub enum Reading {
+    /// They are this script.
+    Script(Script),
+    /// The line of this number, from 1, is the first that isn't run yet.
+    NotYet(u32),
+}
+
+/// Reads the line at the front where it may follow the draft, whose lines have `taken` bytes, and gives what
+/// follows it.
+fn next_line<'a>(draft: &Draft, taken: usize, bytes: &'a [u8]) -> Option<(Line, &'a [u8])>
+    requires script { IsScript draft.now }
+    requires taken { taken ≡ length (script_text draft.now) }
+    ensures some { IfSome result (λ p. Continues draft.now bytes.now p.0 p.1.now) }
+    ensures none { IfNone result ((l : Line) (after : List ℕ) → Continues draft.now bytes.now l after → ⊥) }
+{
+    let (line, after) = first_line(bytes)?;
+    if taken + (bytes.len() - after.len()) > SCRIPT_LENGTH {
+        return None;
+    }
+    if !draft.accepts(&line) {
+        return None;
+    }
+    Some((line, after))
+}
