@@ -19,7 +19,7 @@ number_without : (c n : ℕ) (r : List ℕ) → c < 48 → n < 2 ^ 64 → IsWith
 number_without c n r h k e = without_append c (decimal n) r (without_decimal c n h k) e
 
 -- a command that is run has no LF, nor has the actor's name before it
-command_without : (a : ActorNo) (b : Body) → is_run b ≡ true → is_in_range b ≡ true → IsWithout 10 (join_with_byte 32 (actor_name a.value ∷ command_words b))
+pub command_without : (a : ActorNo) (b : Body) → is_run b ≡ true → is_in_range b ≡ true → IsWithout 10 (join_with_byte 32 (actor_name a.value ∷ command_words b))
 command_without a (Begin t Default) h k = number_without 10 a.value _ (omega arith) (omega arith) (number_without 10 t.value _ (omega arith) (omega arith) refl)
 command_without a (Begin t (Milliseconds n)) h k =
     let below : n ≤ 4294967295 = grind (arith, nat_tests) in
@@ -30,7 +30,7 @@ command_without a (Commit t) h k = number_without 10 a.value _ (omega arith) (om
 command_without a _ h k = absurd (cc h)
 
 -- what follows a line stands behind its LF
-line_text-append : (l : Line) (after : List ℕ) → line_text l ++ after ≡ join_with_byte 32 (words l) ++ 10 ∷ after
+pub line_text-append : (l : Line) (after : List ℕ) → line_text l ++ after ≡ join_with_byte 32 (words l) ++ 10 ∷ after
 line_text-append l after = append_assoc (join_with_byte 32 (words l)) (10 ∷ []) after
 
 -- bytes that are cut at their first LF begin with no other line than what stands before it

@@ -111,3 +111,9 @@ cut_name letter n w a b r other small e h k =
     let named = without_decimal 32 n (omega arith) small in
     let whole : IsWithout 32 (letter ∷ decimal n) = grind (arith, nat_tests) in
     cut_same 32 a (letter ∷ decimal n) b r h whole (sym e ∙ k)
+
+-- a name has no space
+pub name_without : (letter n : ℕ) → letter ≢ 32 → n < 2 ^ 64 → IsWithout 32 (letter ∷ decimal n)
+name_without letter n other small =
+    let named = without_decimal 32 n (omega arith) small in
+    grind (arith, nat_tests)

@@ -1,11 +1,11 @@
 -- Scripts that grow by a line.
 use Rattle.std.proofs.Common.{◌≡◌, ◌≢◌, ℕ, ◌+◌, ◌<◌, ◌≤◌, Bool, true, false, ◌&&◌, List, [], ◌∷◌, ◌++◌, length, refl, ap, sym, ◌∙◌, arith, rules, append_assoc, length-append, subst}
-use Rattle.std.specs.List.{flat_map, list_all}
+use Rattle.std.specs.List.{join_with_byte}
 use Rattle.std.proofs.lemmas.Bool.Decides.{nat_tests}
-use Rattle.std.proofs.lemmas.List.Folds.{list_all-append}
+use Rattle.std.proofs.lemmas.List.{append-nil}
 use Rattle.dtx_values.specs.declared.script.Line.{Line}
 use Rattle.dtx_model.specs.Words.{each, always, past_of}
-use Rattle.dtx_model.specs.Grammar.{line_text, script_text, is_run, is_in_range, is_short, is_named_well, IsScript}
+use Rattle.dtx_model.specs.Grammar.{words, line_text, script_text, is_run, is_in_range, is_short, is_named_well, IsScript}
 use Rattle.dtx_model.proofs.Histories.{past_of-snoc}
 use Rattle.script_runner.specs.Reader.{IsRunLine, Continues}
 
@@ -68,3 +68,14 @@ last_named s l h = and_left (is_named_well (past_of s) l) (always is_named_well 
 -- the last line of a script ends within its limit
 pub last_within : (s : List Line) (l : Line) → IsScript (s ++ l ∷ []) → length (script_text s) + length (line_text l) ≤ 1048576
 last_within s l h = omega (arith, length-script_text-snoc s l, h.within)
+
+-- the bytes of a script that goes on
+pub bytes_more : (s : List Line) (l : Line) (bytes rest after : List ℕ) → bytes ≡ script_text s ++ rest → rest ≡ line_text l ++ after → bytes ≡ script_text (s ++ l ∷ []) ++ after
+bytes_more s l bytes rest after e k =
+    let text : script_text (s ++ l ∷ []) ≡ script_text s ++ line_text l = script_text-append s (l ∷ []) ∙ ap (λ t. script_text s ++ t) (append-nil (line_text l)) in
+    e ∙ ap (λ t. script_text s ++ t) k ∙ sym (append_assoc (script_text s) (line_text l) after) ∙ ap (λ t. t ++ after) (sym text)
+
+-- a script has no more lines than bytes
+pub length_script : (s : List Line) → length s ≤ length (script_text s)
+length_script [] = omega arith
+length_script (l ∷ s) = omega (arith, length_script s, length-append (line_text l) (script_text s), length-append (join_with_byte 32 (words l)) (10 ∷ []))

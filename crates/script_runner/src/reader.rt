@@ -3,6 +3,7 @@ ghost use Rattle.std.specs.Prelude.{◌≡◌, ◌≤◌, ℕ, Ok, IfSome, IfNon
 ghost use Rattle.dtx_values.specs.declared.script.Line.{Line};
 ghost use Rattle.dtx_model.specs.Grammar.{script_text, IsScript};
 ghost use Rattle.script_runner.specs.Reader.{Continues};
+ghost use Rattle.script_runner.specs.Reading.{IsReading};
 
 use crate::draft::Draft;
 use crate::lines::first_line;
@@ -37,4 +38,22 @@ fn next_line<'a>(draft: &Draft, taken: usize, bytes: &'a [u8]) -> Option<(Line, 
         return None;
     }
     Some((line, after))
+}
+
+/// Reads the bytes of a script.
+pub fn read_script(alloc: Global, bytes: &[u8]) -> Result<Reading, AllocError>
+    ensures { IfOk result (λ r. IsReading bytes.now r) }
+{
+    let mut draft = Draft::new(alloc)?;
+    let mut rest = bytes;
+    while !rest.is_empty() {
+        match next_line(&draft, bytes.len() - rest.len(), rest) {
+            Some((line, after)) => {
+                draft.push(line)?;
+                rest = after;
+            }
+            None => return Ok(Reading::NotYet(draft.len() as u32 + 1)),
+        }
+    }
+    Ok(Reading::Script(draft.into_script()))
 }
