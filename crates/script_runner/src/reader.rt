@@ -1,7 +1,7 @@
 //! Reads scripts.
 ghost use Rattle.std.specs.Prelude.{◌≡◌, ◌≤◌, ℕ, Ok, IfSome, IfNone, IfOk, List, length};
 ghost use Rattle.dtx_values.specs.declared.script.Line.{Line};
-ghost use Rattle.dtx_model.specs.Grammar.{script_text, IsScript};
+ghost use Rattle.dtx_model.specs.Grammar.{script_text, IsScript, Reads, IsNotYet};
 ghost use Rattle.script_runner.specs.Reader.{Continues};
 ghost use Rattle.script_runner.specs.Reading.{IsReading};
 
@@ -56,4 +56,12 @@ pub fn read_script(alloc: Global, bytes: &[u8]) -> Result<Reading, AllocError>
         }
     }
     Ok(Reading::Script(draft.into_script()))
+}
+
+/// Bytes are one script, or have one first line that isn't run yet, and never both.
+pub fn reads_exactly()
+    ensures one { (b : List ℕ) (s r : List Line) → Reads b s → Reads b r → s ≡ r }
+    ensures either { (b : List ℕ) (s : List Line) (n : ℕ) → Reads b s → IsNotYet b n → ⊥ }
+    ensures first { (b : List ℕ) (n m : ℕ) → IsNotYet b n → IsNotYet b m → n ≡ m }
+{
 }
