@@ -1,17 +1,17 @@
 -- Which words a command's text begins with.
-use Rattle.std.proofs.Common.{◌≡◌, ◌≢◌, ℕ, ◌^◌, ◌<◌, Bool, true, false, List, [], ◌∷◌, ◌++◌, refl, ap, sym, ◌∙◌, arith, rules, codes, Some, None}
+use Rattle.std.proofs.Common.{◌≡◌, ℕ, true, List, ◌∷◌, ◌++◌, refl, sym, ◌∙◌, arith, codes, Some}
 use Rattle.std.specs.List.{join_with_byte}
 use Rattle.dtx_values.specs.declared.script.Line.{Line}
 use Rattle.dtx_values.specs.declared.number.TxNo.{TxNo}
 use Rattle.dtx_values.specs.declared.number.EnlNo.{EnlNo}
 use Rattle.dtx_values.specs.declared.script.Body.{Body}
 use Rattle.dtx_values.specs.declared.script.Body.TheVariants.{Begin, Volatile, Commit}
-use Rattle.dtx_values.specs.declared.script.EnlistOption.TheVariants.{Plain, DuringPrepare}
+use Rattle.dtx_values.specs.declared.script.EnlistOption.TheVariants.{Plain}
 use Rattle.dtx_values.specs.declared.words.Timeout.{Timeout}
 use Rattle.dtx_values.specs.declared.words.Timeout.TheVariants.{Default, Milliseconds}
 use Rattle.dtx_values.specs.declared.words.Vote.{Vote}
-use Rattle.dtx_values.specs.declared.words.Vote.TheVariants.{Yes, No, Done}
-use Rattle.dtx_model.specs.Grammar.{actor_name, transaction_name, enlistment_name, timeout_word, option_word, vote_word, command_words, is_run, is_in_range}
+use Rattle.dtx_values.specs.declared.words.Vote.TheVariants.{Yes, Done}
+use Rattle.dtx_model.specs.Grammar.{actor_name, transaction_name, enlistment_name, timeout_word, option_word, vote_word, command_words, is_run}
 use Rattle.script_runner.specs.Reader.{IsWithout, IsBegin, IsVolatile, IsCommand, IsLine}
 use Rattle.script_runner.proofs.Cuts.{cut_same}
 use Rattle.script_runner.proofs.Numbers.{cut_name}

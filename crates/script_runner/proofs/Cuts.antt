@@ -1,9 +1,7 @@
 -- Texts cut at a separator.
-use Rattle.std.proofs.Common.{◌≡◌, ℕ, ◌==◌, Bool, true, false, ◌||◌, List, [], ◌∷◌, ◌++◌, refl, ap, sym, ◌∙◌, arith, rules, Option, Some, None, IfNone, IsSome}
+use Rattle.std.proofs.Common.{◌≡◌, ℕ, List, [], ◌∷◌, ◌++◌, refl, arith, Option, Some, None, IfNone, IsSome}
 use Rattle.std.proofs.lemmas.Bool.{false≢true}
 use Rattle.std.proofs.lemmas.Bool.Decides.{nat_tests}
-use Rattle.std.proofs.lemmas.List.Folds.{list_any-append}
-use Rattle.dtx_model.specs.Words.{has}
 use Rattle.script_runner.specs.Reader.{IsWithout}
 
 -- a byte of a text without c isn't c

@@ -1,5 +1,5 @@
 -- Longer inputs.
-use Rattle.std.proofs.Common.{◌≡◌, ◌≢◌, ℕ, ◌+◌, ◌-◌, ◌<◌, ◌≤◌, min, List, [], ◌∷◌, ◌++◌, length, take, drop, refl, ap, sym, ◌∙◌, arith, rules, append_assoc, length-append, length-drop}
+use Rattle.std.proofs.Common.{◌≡◌, ◌≢◌, ℕ, ◌<◌, ◌≤◌, List, [], ◌∷◌, ◌++◌, length, take, drop, refl, ap, sym, ◌∙◌, arith, append_assoc, length-append, length-drop}
 use Rattle.std.proofs.lemmas.List.{length-take, take-append-drop}
 use Rattle.dtx_values.specs.declared.script.Line.{Line}
 use Rattle.dtx_model.specs.Grammar.{line_text, script_text, IsScript, IsNotYet}
@@ -27,16 +27,16 @@ line_in_front k b rest after before l h e s f =
 -- the line that isn't run yet in a long front isn't run yet in the whole
 longer_than : (k : ℕ) (b : List ℕ) (n : ℕ) → 1048576 < k → IsNotYet (take k b) n → IsNotYet b n
 longer_than k b n h y = record {
-    before = y.before;
-    rest = y.rest ++ drop k b;
-    bytes = sym (take-append-drop k b) ∙ ap (λ t. t ++ drop k b) y.bytes ∙ append_assoc (script_text y.before) y.rest (drop k b);
-    script = y.script;
-    number = y.number;
-    left = nonempty-append y.rest (drop k b) y.left;
-    unread = λ l after e s.
+  before = y.before;
+  rest = y.rest ++ drop k b;
+  bytes = sym (take-append-drop k b) ∙ ap (λ t. t ++ drop k b) y.bytes ∙ append_assoc (script_text y.before) y.rest (drop k b);
+  script = y.script;
+  number = y.number;
+  left = nonempty-append y.rest (drop k b) y.left;
+  unread = λ l after e s.
       let inside = line_in_front k b y.rest after y.before l h y.bytes s e in
-      y.unread l (drop (length (line_text l)) y.rest) (front_of_first (line_text l) y.rest (drop k b) after e inside) s
-  }
+      y.unread l (drop (length (line_text l)) y.rest) (front_of_first (line_text l) y.rest (drop k b) after e inside) s;
+}
 
 -- what isn't run yet in the first 1,048,577 bytes isn't run yet in the whole: a script ends before the last of them
 pub longer : (b : List ℕ) (n : ℕ) → IsNotYet (take 1048577 b) n → IsNotYet b n

@@ -1,5 +1,5 @@
 -- Words that are numbers.
-use Rattle.std.proofs.Common.{◌≡◌, ◌≢◌, ℕ, zero, suc, ◌+◌, ◌-◌, ◌*◌, ◌^◌, ◌<◌, ◌≤◌, ◌==◌, Bool, true, false, List, [], ◌∷◌, ◌++◌, length, take, get_or, refl, ap, sym, ◌∙◌, subst, arith, rules, decimal}
+use Rattle.std.proofs.Common.{◌≡◌, ◌≢◌, ℕ, zero, suc, ◌+◌, ◌-◌, ◌*◌, ◌^◌, ◌<◌, ◌≤◌, List, [], ◌∷◌, ◌++◌, length, take, get_or, refl, ap, sym, ◌∙◌, subst, arith, decimal}
 use Rattle.std.specs.Char.{digit_value}
 use Rattle.std.specs.Int.{IsInRange}
 use Rattle.std.specs.Str.Parse.{AllDigits, digits_value}
@@ -30,12 +30,12 @@ decimal_first (suc n) h e = absurd (omega (arith, first_decimal (suc n) (omega a
 -- the text of a number shows that number
 pub decimal_number : (n : ℕ) → n < 2 ^ 32 → IsNumber (decimal n) n
 decimal_number n h = record {
-    digits = digits_decimal own n (omega arith);
-    value = digits_value-decimal own n (omega arith);
-    nonempty = decimal_nonempty n (omega arith);
-    short = length-decimal-le 10 n (omega arith) (omega arith) (omega arith);
-    first = decimal_first n h
-  }
+  digits = digits_decimal own n (omega arith);
+  value = digits_value-decimal own n (omega arith);
+  nonempty = decimal_nonempty n (omega arith);
+  short = length-decimal-le 10 n (omega arith) (omega arith) (omega arith);
+  first = decimal_first n h;
+}
 
 -- a word that is a number's text shows that number
 pub number_from_text : (w : List ℕ) (n : ℕ) → n < 2 ^ 32 → w ≡ decimal n → IsNumber w n

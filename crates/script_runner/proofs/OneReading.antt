@@ -1,5 +1,5 @@
 -- Bytes are one script, or have one first line that isn't run yet.
-use Rattle.std.proofs.Common.{◌≡◌, ◌≢◌, ℕ, ◌+◌, ◌<◌, ◌≤◌, Bool, true, false, ◌&&◌, List, [], ◌∷◌, ◌++◌, length, refl, ap, ap₂, sym, ◌∙◌, subst, arith, rules, append_assoc, length-append}
+use Rattle.std.proofs.Common.{◌≡◌, ℕ, Bool, true, List, [], ◌∷◌, ◌++◌, length, refl, ap, ap₂, sym, ◌∙◌, subst, arith, append_assoc, length-append}
 use Rattle.std.proofs.lemmas.List.{append-nil}
 use Rattle.std.specs.List.{join_with_byte}
 use Rattle.dtx_values.specs.declared.script.Line.{Line}
@@ -18,8 +18,9 @@ Runs (l ∷ s) = IsRunLine l × Runs s
 runs : (s : List Line) → each (λ (l : Line). is_run l.body) s ≡ true → each (λ (l : Line). is_in_range l.body) s ≡ true → each is_short s ≡ true → Runs s
 runs [] p q r = tt
 runs (l ∷ s) p q r = (
-    record { run = and_left _ _ p; in_range = and_left _ _ q; short = and_left _ _ r },
-    runs s (and_right (is_run l.body) _ p) (and_right (is_in_range l.body) _ q) (and_right (is_short l) _ r))
+  record { run = and_left _ _ p; in_range = and_left _ _ q; short = and_left _ _ r },
+  runs s (and_right (is_run l.body) _ p) (and_right (is_in_range l.body) _ q) (and_right (is_short l) _ r),
+)
 
 script_runs : (s : List Line) → IsScript s → Runs s
 script_runs s h = runs s h.run h.in_range h.short
@@ -54,12 +55,12 @@ always-front t past (x ∷ xs) h = and_right (t past x) _ (always-front t (x ∷
 -- the front of a script is a script
 script_front : (s r : List Line) → IsScript (s ++ r) → IsScript s
 script_front s r h = record {
-    run = each-front (λ (l : Line). is_run l.body) s r h.run;
-    in_range = each-front (λ (l : Line). is_in_range l.body) s r h.in_range;
-    short = each-front is_short s r h.short;
-    within = omega (arith, h.within, ap length (script_text-append s r), length-append (script_text s) (script_text r));
-    named = always-front is_named_well (past_of s) r (ap (λ p. always is_named_well p) (sym (onto-append [] s r)) ∙ h.named)
-  }
+  run = each-front (λ (l : Line). is_run l.body) s r h.run;
+  in_range = each-front (λ (l : Line). is_in_range l.body) s r h.in_range;
+  short = each-front is_short s r h.short;
+  within = omega (arith, h.within, ap length (script_text-append s r), length-append (script_text s) (script_text r));
+  named = always-front is_named_well (past_of s) r (ap (λ p. always is_named_well p) (sym (onto-append [] s r)) ∙ h.named);
+}
 
 script_to : (s : List Line) (l : Line) (r : List Line) → IsScript (s ++ l ∷ r) → IsScript (s ++ l ∷ [])
 script_to s l r h = script_front (s ++ l ∷ []) r (subst IsScript (sym (append_assoc s (l ∷ []) r)) h)

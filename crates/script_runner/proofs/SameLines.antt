@@ -1,5 +1,5 @@
 -- Each text is that of one line.
-use Rattle.std.proofs.Common.{◌≡◌, ◌≢◌, ℕ, ◌+◌, ◌^◌, ◌<◌, ◌≤◌, Bool, true, false, List, [], ◌∷◌, ◌++◌, length, refl, ap, ap₂, sym, ◌∙◌, arith, rules, codes, Some, None, decimal}
+use Rattle.std.proofs.Common.{◌≡◌, ℕ, ◌^◌, ◌<◌, ◌≤◌, true, List, ◌∷◌, ◌++◌, refl, ap, ap₂, sym, ◌∙◌, arith, codes, Some, decimal}
 use Rattle.std.specs.List.{join_with_byte}
 use Rattle.std.specs.Int.{IsInRange}
 use Rattle.std.proofs.lemmas.Bool.Decides.{nat_tests}
@@ -18,11 +18,11 @@ use Rattle.dtx_values.specs.declared.words.Timeout.TheVariants.{Default, Millise
 use Rattle.dtx_values.specs.declared.words.Vote.{Vote}
 use Rattle.dtx_values.specs.declared.words.Vote.TheVariants.{Yes, No, Done}
 use Rattle.dtx_model.specs.Entries.{is_good}
-use Rattle.dtx_model.specs.Grammar.{actor_name, transaction_name, enlistment_name, timeout_word, vote_word, words, command_words, line_text, is_run, is_in_range}
-use Rattle.script_runner.specs.Reader.{IsWithout, fits, IsBegin, IsVolatile, IsCommand, IsLine, IsRunLine}
+use Rattle.dtx_model.specs.Grammar.{actor_name, transaction_name, enlistment_name, timeout_word, vote_word, words, command_words, line_text}
+use Rattle.script_runner.specs.Reader.{fits, IsBegin, IsVolatile, IsCommand, IsLine, IsRunLine}
 use Rattle.script_runner.proofs.Cuts.{cut_same}
 use Rattle.script_runner.proofs.Numbers.{cut_name, digit_of_number, name_without}
-use Rattle.script_runner.proofs.Commands.{IsCut, OfBegin, OfVolatile, OfCommit, cut_command, HasFirst, first_word, spaced_command, cut_line}
+use Rattle.script_runner.proofs.Commands.{IsCut, OfBegin, OfVolatile, OfCommit, cut_command, first_word, spaced_command, cut_line}
 use Rattle.script_runner.proofs.LineTexts.{line_text-append, command_without}
 
 -- numbers with one value are one

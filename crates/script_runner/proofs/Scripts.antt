@@ -1,13 +1,12 @@
 -- Scripts that grow by a line.
-use Rattle.std.proofs.Common.{◌≡◌, ◌≢◌, ℕ, ◌+◌, ◌<◌, ◌≤◌, Bool, true, false, ◌&&◌, List, [], ◌∷◌, ◌++◌, length, refl, ap, sym, ◌∙◌, arith, rules, append_assoc, length-append, subst}
+use Rattle.std.proofs.Common.{◌≡◌, ℕ, ◌+◌, ◌≤◌, Bool, true, false, ◌&&◌, List, [], ◌∷◌, ◌++◌, length, refl, ap, sym, ◌∙◌, arith, append_assoc, length-append}
 use Rattle.std.specs.List.{join_with_byte}
-use Rattle.std.proofs.lemmas.Bool.Decides.{nat_tests}
 use Rattle.std.proofs.lemmas.List.{append-nil}
 use Rattle.dtx_values.specs.declared.script.Line.{Line}
 use Rattle.dtx_model.specs.Words.{each, always, past_of}
 use Rattle.dtx_model.specs.Grammar.{words, line_text, script_text, is_run, is_in_range, is_short, is_named_well, IsScript}
 use Rattle.dtx_model.proofs.Histories.{past_of-snoc}
-use Rattle.script_runner.specs.Reader.{IsRunLine, Continues}
+use Rattle.script_runner.specs.Reader.{IsRunLine}
 
 and_true : (a b : Bool) → a ≡ true → b ≡ true → (a && b) ≡ true
 and_true true b p q = q
@@ -46,20 +45,20 @@ script_none = record { run = refl; in_range = refl; short = refl; within = omega
 -- a script goes on with a line that is run, while it isn't too long and names are made once, before they are used
 pub script_more : (s : List Line) (l : Line) → IsScript s → IsRunLine l → length (script_text s) + length (line_text l) ≤ 1048576 → is_named_well (past_of s) l ≡ true → IsScript (s ++ l ∷ [])
 script_more s l h k w n = record {
-    run = each-snoc (λ (x : Line). is_run x.body) s l h.run k.run;
-    in_range = each-snoc (λ (x : Line). is_in_range x.body) s l h.in_range k.in_range;
-    short = each-snoc is_short s l h.short k.short;
-    within = omega (arith, length-script_text-snoc s l);
-    named = ap (λ p. always is_named_well p) (past_of-snoc s l) ∙ and_true (is_named_well (past_of s) l) _ n h.named
-  }
+  run = each-snoc (λ (x : Line). is_run x.body) s l h.run k.run;
+  in_range = each-snoc (λ (x : Line). is_in_range x.body) s l h.in_range k.in_range;
+  short = each-snoc is_short s l h.short k.short;
+  within = omega (arith, length-script_text-snoc s l);
+  named = ap (λ p. always is_named_well p) (past_of-snoc s l) ∙ and_true (is_named_well (past_of s) l) _ n h.named;
+}
 
 -- the last line of a script is run
 pub last_run : (s : List Line) (l : Line) → IsScript (s ++ l ∷ []) → IsRunLine l
 last_run s l h = record {
-    run = each-last (λ (x : Line). is_run x.body) s l h.run;
-    in_range = each-last (λ (x : Line). is_in_range x.body) s l h.in_range;
-    short = each-last is_short s l h.short
-  }
+  run = each-last (λ (x : Line). is_run x.body) s l h.run;
+  in_range = each-last (λ (x : Line). is_in_range x.body) s l h.in_range;
+  short = each-last is_short s l h.short;
+}
 
 -- the last line of a script makes names that weren't made, and uses names that were
 pub last_named : (s : List Line) (l : Line) → IsScript (s ++ l ∷ []) → is_named_well (past_of s) l ≡ true

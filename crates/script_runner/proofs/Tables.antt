@@ -1,5 +1,5 @@
 -- Tables of the names that lines make.
-use Rattle.std.proofs.Common.{◌≡◌, ℕ, ◌+◌, ◌<◌, ◌≤◌, ◌==◌, Bool, true, false, ◌&&◌, ◌||◌, not, List, [], ◌∷◌, ◌++◌, length, refl, ap, sym, ◌∙◌, arith, rules, get_or, replicate, slice_index_or, subst}
+use Rattle.std.proofs.Common.{◌≡◌, ℕ, ◌<◌, Bool, false, List, [], length, ap, sym, ◌∙◌, replicate, slice_index_or, subst}
 use Rattle.std.proofs.lemmas.List.{get_or-replicate}
 use Rattle.dtx_values.specs.declared.script.Line.{Line}
 use Rattle.script_runner.specs.Reader.{AreMade}

@@ -1,5 +1,5 @@
 //! Reads scripts.
-ghost use Rattle.std.specs.Prelude.{◌≡◌, ◌≤◌, ℕ, Ok, IfSome, IfNone, IfOk, List, length};
+ghost use Rattle.std.specs.Prelude.{◌≡◌, ℕ, IfSome, IfNone, IfOk, List, length, take};
 ghost use Rattle.dtx_values.specs.declared.script.Line.{Line};
 ghost use Rattle.dtx_model.specs.Grammar.{script_text, IsScript, Reads, IsNotYet};
 ghost use Rattle.script_runner.specs.Reader.{Continues};
@@ -58,10 +58,63 @@ pub fn read_script(alloc: Global, bytes: &[u8]) -> Result<Reading, AllocError>
     Ok(Reading::Script(draft.into_script()))
 }
 
-/// Bytes are one script, or have one first line that isn't run yet, and never both.
+/// Bytes are one script, or have one first line that isn't run yet, and never both. What isn't run yet in the
+/// first 1,048,577 bytes isn't run yet in the whole.
 pub fn reads_exactly()
     ensures one { (b : List ℕ) (s r : List Line) → Reads b s → Reads b r → s ≡ r }
     ensures either { (b : List ℕ) (s : List Line) (n : ℕ) → Reads b s → IsNotYet b n → ⊥ }
     ensures first { (b : List ℕ) (n m : ℕ) → IsNotYet b n → IsNotYet b m → n ≡ m }
-{
+    ensures longer { (b : List ℕ) (n : ℕ) → IsNotYet (take 1048577 b) n → IsNotYet b n }
+{}
+
+#[cfg(test)]
+mod tests {
+    use super::{Reading, read_script};
+    use std::alloc::AllocError;
+
+    #[test]
+    fn reads_lines(rt: HostRuntime) -> Result<(), AllocError> {
+        let cases: [(&str, Result<usize, u32>); 26] = [
+            ("", Ok(0)),
+            ("a1 begin t1 0\n", Ok(1)),
+            (
+                "a1 begin t1 default\na16 volatile t1 e1 none yes\na2 commit t1\n",
+                Ok(3),
+            ),
+            ("a1 begin t1 4294967295\n", Ok(1)),
+            ("a1 begin t1 4294967296\n", Err(1)),
+            ("a1 begin t1 0\na1 rollback t1\n", Err(2)),
+            ("a1 begin t1 0", Err(1)),
+            ("a1 begin t1 0\na1 commit t1", Err(2)),
+            ("\n", Err(1)),
+            ("a1 begin t1 0\n\n", Err(2)),
+            ("a1 begin t1 00\n", Err(1)),
+            ("a01 begin t1 0\n", Err(1)),
+            ("a0 begin t1 0\n", Err(1)),
+            ("a17 begin t1 0\n", Err(1)),
+            ("a1 begin t257 0\n", Err(1)),
+            ("a1  begin t1 0\n", Err(1)),
+            ("a1 begin t1 0 \n", Err(1)),
+            (" a1 begin t1 0\n", Err(1)),
+            ("a1 begin t1 0\r\n", Err(1)),
+            ("a1 begin t1 0\na2 begin t1 default\n", Err(2)),
+            ("a1 commit t1\n", Err(1)),
+            ("a1 volatile t1 e1 none yes\n", Err(1)),
+            ("a1 begin t1 0\na1 volatile t1 e1 during yes\n", Err(2)),
+            ("a1 begin t1 0\na1 volatile t1 e1 none no\n", Err(2)),
+            ("a1 begin t1 0\na1 volatile t1 e10000 none yes\n", Err(2)),
+            (
+                "a1 begin t1 0\na1 volatile t1 e1 none yes\na1 volatile t1 e1 none done\n",
+                Err(3),
+            ),
+        ];
+        for (text, want) in cases {
+            let found = match read_script(rt.alloc(), text.as_bytes())? {
+                Reading::Script(s) => Ok(s.lines().len()),
+                Reading::NotYet(n) => Err(n),
+            };
+            assert!(rt; found == want, "at {text}");
+        }
+        Ok(())
+    }
 }

@@ -1,5 +1,5 @@
-use Rattle.std.proofs.Common.{rules, arith}
-use Rattle.script_runner.proofs.Commands.{IsCut, OfBegin, OfVolatile, OfCommit, cut_command}
+use Rattle.std.proofs.Common.{rules}
+use Rattle.script_runner.proofs.Commands.{OfBegin, OfVolatile, OfCommit, cut_command}
 use Rattle.script_runner.proofs.lines.command.Goals as goal
 
 pub returns-clause-none : goal.returns-clause-none

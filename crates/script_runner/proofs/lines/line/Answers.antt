@@ -1,4 +1,4 @@
-use Rattle.std.proofs.Common.{rules, arith}
+use Rattle.std.proofs.Common.{rules}
 use Rattle.dtx_values.specs.declared.script.Line.{Line}
 use Rattle.script_runner.specs.Reader.{IsLine}
 use Rattle.script_runner.proofs.Cuts.{if_none}

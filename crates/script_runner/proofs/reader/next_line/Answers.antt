@@ -1,4 +1,4 @@
-use Rattle.std.proofs.Common.{rules, arith, sym, ◌∙◌, length, ap, length-append}
+use Rattle.std.proofs.Common.{arith, sym, ◌∙◌, length, ap, length-append}
 use Rattle.script_runner.proofs.Scripts.{last_run, last_named, last_within}
 use Rattle.script_runner.proofs.SameLines.{same_line}
 use Rattle.dtx_model.specs.Grammar.{line_text}

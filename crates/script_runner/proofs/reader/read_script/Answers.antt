@@ -1,4 +1,4 @@
-use Rattle.std.proofs.Common.{rules, arith}
+use Rattle.std.proofs.Common.{arith}
 use Rattle.script_runner.proofs.Scripts.{length_script}
 use Rattle.script_runner.proofs.reader.read_script.Goals as goal
 

@@ -4,9 +4,9 @@ use Rattle.script_runner.proofs.reader.read_script.Given as goal
 
 abbrev pub invariant-loop-rest : goal.invariant-loop-rest
 invariant-loop-rest l = record {
-    bytes : l.bytes ≡ script_text l.draft ++ l.rest;
-    script : IsScript l.draft
-  }
+  bytes : l.bytes ≡ script_text l.draft ++ l.rest;
+  script : IsScript l.draft;
+}
 
 abbrev pub decreases-loop-rest : goal.decreases-loop-rest
 decreases-loop-rest l = length l.rest

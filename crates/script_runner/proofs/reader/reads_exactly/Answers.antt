@@ -10,3 +10,6 @@ returns-clause-either c = script_or_not
 
 pub returns-clause-first : goal.returns-clause-first
 returns-clause-first c = one_line
+
+pub returns-clause-longer : goal.returns-clause-longer
+returns-clause-longer c = longer

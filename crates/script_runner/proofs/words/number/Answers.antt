@@ -30,9 +30,9 @@ returns-then-not-is_ascii_digit-clause-none c =
 
 pub loop-b-preserved : goal.loop-b-preserved
 loop-b-preserved c = record {
-    digits = digits_one_more c.args.word.now c.loop-b.b-index _ (omega arith) refl (search rules) c.loop-b.invariant.digits;
-    value = value_more c.args.word.now c.loop-b.b-index _ c.loop-b.value _ (omega arith) refl (search rules) (omega arith) (omega arith)
-  }
+  digits = digits_one_more c.args.word.now c.loop-b.b-index _ (omega arith) refl (search rules) c.loop-b.invariant.digits;
+  value = value_more c.args.word.now c.loop-b.b-index _ c.loop-b.value _ (omega arith) refl (search rules) (omega arith) (omega arith);
+}
 
 pub returns-then-value-from-clause-none : goal.returns-then-value-from-clause-none
 returns-then-value-from-clause-none c =
