@@ -2,10 +2,21 @@
 #![tactic(auto)]
 
 mod draft;
+mod exit;
 mod lines;
 mod machine;
 mod plans;
+mod printer;
+mod program;
 mod reader;
 mod replay;
 mod rows;
+#[cfg(test)]
+mod tests;
+mod transfer;
 mod words;
+
+pub use exit::Exit;
+pub use program::run_program;
+pub use reader::reads_exactly;
+pub use replay::run_replay;

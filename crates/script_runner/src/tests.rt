@@ -1,0 +1,126 @@
+//! Runs of the top call over sources and sinks in memory.
+use crate::{Exit, run_program};
+use outside::{MemSink, MemSource, SureSink, SureSource};
+use std::alloc::{AllocError, Global};
+use std::process::Abort;
+use std::test::Fail;
+
+/// The words `replay`.
+fn replay(alloc: Global) -> Result<Vec<String>, AllocError> {
+    let mut words = Vec::new(alloc);
+    words.push(String::from_str(alloc, "replay")?)?;
+    Ok(words)
+}
+
+const ONE_VOLATILE: &str = "a1 begin t1 0\na1 volatile t1 e1 none yes\na1 commit t1\n";
+
+const ONE_VOLATILE_TRACE: &str = "1 t1 call 1 a1 ok\n2 t1 began 600000\n3 t1 call 2 a1 ok\n4 t1 enlisted e1 one\n5 t1 call 3 a1 ok\n6 t1 commit\n7 t1 sealed\n8 t1 ask e1 prepare\n9 t1 vote e1 yes\n10 t1 decided committed\n11 t1 told e1 committed\n12 t1 told client committed\n";
+
+/// Scripts with the whole text of their traces.
+const RUNS: [(&str, &str); 6] = [
+    (ONE_VOLATILE, ONE_VOLATILE_TRACE),
+    ("", ""),
+    (
+        "a1 begin t1 default\na1 commit t1\n",
+        "1 t1 call 1 a1 ok\n2 t1 began 60000\n3 t1 call 2 a1 ok\n4 t1 commit\n5 t1 sealed\n6 t1 decided committed\n7 t1 told client committed\n",
+    ),
+    (
+        "a1 begin t1 default\na1 volatile t1 e1 none done\na1 volatile t1 e2 none yes\na1 commit t1\n",
+        "1 t1 call 1 a1 ok\n2 t1 began 60000\n3 t1 call 2 a1 ok\n4 t1 enlisted e1 one\n5 t1 call 3 a1 ok\n6 t1 enlisted e2 one\n7 t1 call 4 a1 ok\n8 t1 commit\n9 t1 sealed\n10 t1 ask e1 prepare\n11 t1 vote e1 done\n12 t1 ask e2 prepare\n13 t1 vote e2 yes\n14 t1 decided committed\n15 t1 told e2 committed\n16 t1 told client committed\n",
+    ),
+    (
+        "a1 begin t1 default\na1 commit t1\na1 commit t1\n",
+        "1 t1 call 1 a1 ok\n2 t1 began 60000\n3 t1 call 2 a1 ok\n4 t1 commit\n5 t1 call 3 a1 toolate\n6 t1 sealed\n7 t1 decided committed\n8 t1 told client committed\n",
+    ),
+    (
+        "a1 begin t2 700000\na2 begin t1 1\na1 commit t2\na2 commit t1\na2 volatile t1 e9 none yes\n",
+        "1 t2 call 1 a1 ok\n2 t2 began 600000\n3 t1 call 2 a2 ok\n4 t1 began 1\n5 t2 call 3 a1 ok\n6 t2 commit\n7 t1 call 4 a2 ok\n8 t1 commit\n9 t1 call 5 a2 ok\n10 t1 enlisted e9 one\n11 t1 sealed\n12 t1 ask e9 prepare\n13 t1 vote e9 yes\n14 t1 decided committed\n15 t1 told e9 committed\n16 t1 told client committed\n17 t2 sealed\n18 t2 decided committed\n19 t2 told client committed\n",
+    ),
+];
+
+#[test]
+fn scripts_have_their_traces(rt: HostRuntime) -> Result<(), Fail> {
+    let words = replay(rt.alloc())?;
+    for (script, trace) in RUNS {
+        for piece in [1, 7, 100_000] {
+            let bytes = Vec::from_slice(rt.alloc(), script.as_bytes())?;
+            let mut source = MemSource::new(bytes, piece, Vec::new(rt.alloc()));
+            let mut sink = MemSink::new(rt.alloc(), piece, Vec::new(rt.alloc()));
+            let exit = run_program(rt.alloc(), &words, &mut source, &mut sink);
+            assert_eq!(rt; exit, Exit::Fine, "at {script}");
+            assert!(rt; sink.bytes() == trace.as_bytes(), "at {script}");
+        }
+    }
+    Ok(())
+}
+
+#[test]
+fn a_thirty_third_enlistment_is_refused(rt: HostRuntime) -> Result<(), Fail> {
+    let words = replay(rt.alloc())?;
+    let mut script = String::from_str(rt.alloc(), "a1 begin t1 default\n")?;
+    for e in 1..34 {
+        script.push_str(&format!(in rt.alloc(); "a1 volatile t1 e{e} none yes\n")?)?;
+    }
+    let mut source = SureSource::new(script.into_bytes());
+    let mut sink = SureSink::new(rt.alloc());
+    let exit = run_program(rt.alloc(), &words, &mut source, &mut sink);
+    assert_eq!(rt; exit, Exit::Fine);
+    let end = b"65 t1 call 33 a1 ok\n66 t1 enlisted e32 one\n67 t1 call 34 a1 many 32\n";
+    assert!(rt; sink.bytes().ends_with(end));
+    Ok(())
+}
+
+/// The exit of a run that writes nothing.
+fn unwritten(
+    rt: &impl Abort,
+    alloc: Global,
+    words: &[&str],
+    script: &str,
+    fail: &[u64],
+) -> Result<Exit, AllocError> {
+    let mut given = Vec::new(alloc);
+    for word in words {
+        given.push(String::from_str(alloc, word)?)?;
+    }
+    let bytes = Vec::from_slice(alloc, script.as_bytes())?;
+    let mut source = MemSource::new(bytes, 10, Vec::from_slice(alloc, fail)?);
+    let mut sink = MemSink::new(alloc, 10, Vec::new(alloc));
+    let exit = run_program(alloc, &given, &mut source, &mut sink);
+    assert!(rt; sink.bytes().is_empty());
+    Ok(exit)
+}
+
+#[test]
+fn refusals_write_nothing(rt: HostRuntime) -> Result<(), Fail> {
+    let rollback = "a1 begin t1 0\na1 rollback t1\n";
+    let cases: [(&[&str], &str, &[u64], Exit); 7] = [
+        (&["replay"], rollback, &[], Exit::NotYet(2)),
+        (&["replay"], "a1 begin t1 0", &[], Exit::NotYet(1)),
+        (&["replay"], ONE_VOLATILE, &[1], Exit::ReadFault),
+        (&["replay"], ONE_VOLATILE, &[3], Exit::ReadFault),
+        (&["replay", "now"], ONE_VOLATILE, &[1], Exit::Usage),
+        (&["reply"], ONE_VOLATILE, &[1], Exit::Usage),
+        (&[], ONE_VOLATILE, &[1], Exit::Usage),
+    ];
+    for (words, script, fail, want) in cases {
+        let exit = unwritten(&rt, rt.alloc(), words, script, fail)?;
+        assert_eq!(rt; exit, want, "at {script}");
+    }
+    Ok(())
+}
+
+#[test]
+fn a_failing_sink_has_a_part_of_the_text(rt: HostRuntime) -> Result<(), Fail> {
+    let words = replay(rt.alloc())?;
+    for (call, written) in [(1, 0), (2, 10), (4, 30)] {
+        let bytes = Vec::from_slice(rt.alloc(), ONE_VOLATILE.as_bytes())?;
+        let mut source = MemSource::new(bytes, 10, Vec::new(rt.alloc()));
+        let fail = Vec::from_slice(rt.alloc(), &[call])?;
+        let mut sink = MemSink::new(rt.alloc(), 10, fail);
+        let exit = run_program(rt.alloc(), &words, &mut source, &mut sink);
+        assert_eq!(rt; exit, Exit::WriteFault);
+        assert_eq!(rt; sink.bytes().len(), written);
+        assert!(rt; ONE_VOLATILE_TRACE.as_bytes().starts_with(sink.bytes()));
+    }
+    Ok(())
+}
