@@ -5,3 +5,4 @@ mod machine;
 mod plans;
 mod replay;
 mod rows;
+mod transfer;
