@@ -1,5 +1,5 @@
 -- Bytes that are read or written a piece at a time, up to where that stops.
-use Rattle.std.proofs.Common.{◌≡◌, ℕ, ◌+◌, ◌-◌, ◌<◌, ◌≤◌, List, ◌++◌, [], take, drop, length, arith, ◌∙◌, sym, ap}
+use Rattle.std.proofs.Common.{◌≡◌, ℕ, ◌<◌, ◌≤◌, List, ◌++◌, [], take, drop, length, arith, ◌∙◌, sym, ap}
 use Rattle.std.specs.Prelude.{Option, Some}
 use Rattle.std.proofs.lemmas.List.{take-append-drop, length-drop, append-nil, drop_all}
 use Rattle.script_runner.specs.Transfer.{IsPartWritten}

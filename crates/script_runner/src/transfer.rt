@@ -1,5 +1,5 @@
 //! Reads a source to its end, and writes bytes to a sink until all are written.
-ghost use Rattle.std.specs.Prelude.{◌≡◌, ◌≤◌, ◌++◌, None, Some, take, drop, vec_len, IfOk, IfErr, OnOk, OnErr};
+ghost use Rattle.std.specs.Prelude.{◌≡◌, ◌≤◌, ◌++◌, take, drop, vec_len, IfOk, IfErr, OnOk, OnErr};
 ghost use Rattle.std.specs.Option.{ForSome};
 ghost use Rattle.outside.specs.Faults.{Rose};
 ghost use Rattle.script_runner.specs.Transfer.{IsPartWritten};
@@ -38,7 +38,8 @@ pub enum WriteStop {
 ///
 /// # Errors
 ///
-/// - [`ReadError::Fault`], only where the source's count of faults rose.
+/// - [`ReadError::Fault`], only where the source's count of faults rose, or stands at the last value of its
+///   `u64`.
 /// - [`ReadError::Memory`] where no memory was left.
 ///
 /// How much of the source was read is then open.
@@ -71,7 +72,7 @@ pub fn read_all<S: Source>(alloc: Global, source: &mut S) -> Result<Vec<u8>, Rea
 ///
 /// # Errors
 ///
-/// - [`WriteStop::Fault`], only where the sink's count of faults rose.
+/// - [`WriteStop::Fault`], only where the sink's count of faults rose, or stands at the last value of its `u64`.
 /// - [`WriteStop::Memory`] where no memory was left.
 ///
 /// Only the first of the bytes are then written, and not all of them.

@@ -1,5 +1,5 @@
 // What no clause says: that reads and writes in memory end well where no call fails.
-ghost use Rattle.std.specs.Prelude.{◌≡◌, ◌<◌, ◌≤◌, ◌^◌, ◌-◌, ◌++◌, None, length, take, drop, IfOk, IfErr, OnOk};
+ghost use Rattle.std.specs.Prelude.{◌≡◌, ◌≤◌, ◌^◌, ◌-◌, ◌++◌, None, take, drop, IfOk, IfErr, OnOk};
 
 use super::{MOST, ReadError, WriteStop, read_all, write_all};
 use outside::{MemSink, MemSource, Sink, Source, SureSink, SureSource, WriteError};
