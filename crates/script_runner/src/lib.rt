@@ -3,5 +3,7 @@
 
 mod machine;
 mod plans;
+mod printer;
 mod replay;
 mod rows;
+mod tail;
