@@ -11,6 +11,7 @@ mod program;
 mod reader;
 mod replay;
 mod rows;
+mod tail;
 #[cfg(test)]
 mod tests;
 mod transfer;

@@ -1,84 +1,15 @@
-//! Prints traces in the plain form: a line for each entry, with its number, its place and its words. A line is made
-//! from its end to its start, as the digits of its numbers are, and then copied as a whole: this takes half the time of
-//! copying each word.
-ghost use Rattle.std.specs.Prelude.{◌≡◌, ◌≤◌, ◌+◌, [], ◌++◌, IfOk, decimal, length};
+//! Prints traces in the plain form: a line for each entry, with its number, its place and its words.
+ghost use Rattle.std.specs.Prelude.{◌≡◌, ◌≤◌, ◌+◌, [], ◌++◌, IfOk, codes, decimal, length};
 ghost use Rattle.dtx_values.specs.declared.entry.Entry.TheVariants.{Called};
 ghost use Rattle.dtx_model.specs.Grammar.{enlistment_name};
 ghost use Rattle.dtx_model.specs.TraceText.{answer_text, ask_text, cast_vote_text, class_text, entry_text, outcome_text, party_text, place_text, trace_line, trace_text};
 
+use crate::tail::Tail;
 use dtx_values::{ActorNo, Answer, Ask, Class, EnlNo, Entry, Outcome, Party, Place, Trace, Vote};
-use itoa::write_digits;
 use std::alloc::{AllocError, Global};
-use std::marker::Model;
-
-/// Room for the longest line.
-const LINE_ROOM: usize = 128;
 
 /// The bytes that are set aside for each line of a trace: a little more than the mean.
 const MEAN_LINE: usize = 32;
-
-/// The end of a line. Contracts see its bytes.
-#[derive(Drop)]
-struct Tail {
-    bytes: [u8; LINE_ROOM],
-    start: usize,
-}
-
-impl Model for Tail {
-    ghost use Rattle.std.specs.Prelude.{ℕ, List, ◌≤◌, drop};
-
-    ghost Value = { List ℕ };
-
-    ghost view = { λ t. drop t.start t.bytes };
-
-    ghost invariant = { λ t. t.start ≤ 128 };
-}
-
-impl Tail {
-    fn new() -> Tail
-        ensures { result ≡ [] }
-    {
-        Tail {
-            bytes: [0; LINE_ROOM],
-            start: LINE_ROOM,
-        }
-    }
-
-    fn clear(&mut self)
-        ensures { self.new ≡ [] }
-    {
-        self.start = LINE_ROOM;
-    }
-
-    fn as_slice(&self) -> &[u8]
-        ensures { result.now ≡ self.now }
-    {
-        &self.bytes[self.start..]
-    }
-
-    /// Puts a text before what is there.
-    #[inline(always)]
-    fn put(&mut self, text: &[u8])
-        requires { length text.now + length self.old ≤ 128 }
-        ensures text { self.new ≡ text.now ++ self.old }
-        ensures length { length self.new ≡ length text.now + length self.old }
-    {
-        let end = self.start;
-        let start = end - text.len();
-        self.bytes[start..end].copy_from_slice(text);
-        self.start = start;
-    }
-
-    /// Puts a number before what is there.
-    #[inline]
-    fn put_number(&mut self, n: u64)
-        requires { 20 + length self.old ≤ 128 }
-        ensures text { self.new ≡ decimal n ++ self.old }
-        ensures length { length self.new ≤ 20 + length self.old }
-    {
-        self.start = write_digits(n, &mut self.bytes, self.start);
-    }
-}
 
 fn put_outcome(tail: &mut Tail, o: Outcome)
     requires { 9 + length tail.old ≤ 128 }
@@ -148,6 +79,18 @@ fn put_enlistment(tail: &mut Tail, e: EnlNo)
     ensures length { length tail.new ≤ 21 + length tail.old }
 {
     put_name(tail, b"e", e.get());
+}
+
+/// Puts a word, an enlistment and a space.
+#[inline(always)]
+fn put_of(tail: &mut Tail, word: &[u8], e: EnlNo)
+    requires { length word.now + 22 + length tail.old ≤ 128 }
+    ensures text { tail.new ≡ word.now ++ enlistment_name e.value ++ codes " " ++ tail.old }
+    ensures length { length tail.new ≤ length word.now + 22 + length tail.old }
+{
+    tail.put(b" ");
+    put_enlistment(tail, e);
+    tail.put(word);
 }
 
 fn put_place(tail: &mut Tail, p: Place)
@@ -221,22 +164,16 @@ fn put_entry(tail: &mut Tail, x: Entry)
         }
         Entry::Enlisted(e, class) => {
             put_class(tail, class);
-            tail.put(b" ");
-            put_enlistment(tail, e);
-            tail.put(b"enlisted ");
+            put_of(tail, b"enlisted ", e);
         }
         Entry::CommitAsked => tail.put(b"commit"),
         Entry::Asked(e, ask) => {
             put_ask(tail, ask);
-            tail.put(b" ");
-            put_enlistment(tail, e);
-            tail.put(b"ask ");
+            put_of(tail, b"ask ", e);
         }
         Entry::Voted(e, vote) => {
             put_vote(tail, vote);
-            tail.put(b" ");
-            put_enlistment(tail, e);
-            tail.put(b"vote ");
+            put_of(tail, b"vote ", e);
         }
         Entry::Sealed => tail.put(b"sealed"),
         Entry::Decided(outcome) => {

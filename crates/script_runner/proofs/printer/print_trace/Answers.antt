@@ -1,6 +1,6 @@
-use Rattle.std.proofs.Common.{◌≡◌, ◌+◌, ◌++◌, List, ℕ, ap, sym, ◌∙◌}
+use Rattle.std.proofs.Common.{ap, ◌∙◌}
 use Rattle.std.proofs.lemmas.List.{take_all}
-use Rattle.dtx_model.specs.TraceText.{lines_from, trace_line, trace_text}
+use Rattle.dtx_model.specs.TraceText.{lines_from, trace_text}
 use Rattle.script_runner.proofs.Printing.{lines-step}
 use Rattle.script_runner.proofs.printer.print_trace.Goals as goal
 

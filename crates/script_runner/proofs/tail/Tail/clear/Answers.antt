@@ -1,6 +1,6 @@
-use Rattle.std.proofs.Common.{rules, ◌≡◌, ◌≤◌, length}
+use Rattle.std.proofs.Common.{rules, ◌≤◌, length}
 use Rattle.std.proofs.lemmas.List.{drop_all}
-use Rattle.script_runner.proofs.printer.Tail.clear.Goals as goal
+use Rattle.script_runner.proofs.tail.Tail.clear.Goals as goal
 
 pub returns : goal.returns
 returns c =

@@ -1,0 +1,45 @@
+use Rattle.std.proofs.Common.{◌≡◌, List, ℕ, ◌∙◌, ap, subst, inl, inr}
+use Rattle.dtx_model.specs.Grammar.{IsNotYet}
+use Rattle.script_runner.specs.Refusal.{IsRefused}
+use Rattle.script_runner.specs.declared.exit.Exit.TheVariants.{NotYet}
+use Rattle.script_runner.specs.declared.program.Refusal.{Refusal}
+use Rattle.script_runner.proofs.Programs.{is_cut_short, is_written, left-none, never_refused}
+use Rattle.script_runner.proofs.program.run_program.Goals as goal
+
+pub returns-in-Err-NotYet-clause-refused : goal.returns-in-Err-NotYet-clause-refused
+returns-in-Err-NotYet-clause-refused g c n words b told bad =
+    let read = c.deref.ensures.value ∙ c.in-Ok.ensures.read b told in
+    let line = c.in-Err-NotYet.line in
+    let refused : IsNotYet c.deref.result.now line = subst (λ (e : Refusal). IsRefused c.deref.result.now e) c.in-Err-NotYet.field-0-is c.in-Err-NotYet.ensures.refused in
+    let here : IsNotYet b line = c.reads_exactly.ensures.longer b line (subst (λ (x : List ℕ). IsNotYet x line) read refused) in
+    inl (ap NotYet (c.reads_exactly.ensures.first b line n here bad))
+
+pub returns-in-Ok-write_all-clause-headline : goal.returns-in-Ok-write_all-clause-headline
+returns-in-Ok-write_all-clause-headline g c k =
+    is_written _ _ _ c.deref.result.now c.in-Ok-replayed.text.items c.deref-2.result.now (λ b told. c.deref.ensures.value ∙ c.in-Ok.ensures.read b told) c.in-Ok-replayed.ensures.text
+    c.deref-2.ensures.value c.in-Ok-write_all.ensures.all
+
+pub returns-in-Ok-write_all-clause-read : goal.returns-in-Ok-write_all-clause-read
+returns-in-Ok-write_all-clause-read g c k =
+    left-none _ _ c.deref.result.now c.in-Ok-replayed.text.items (λ b told. c.deref.ensures.value ∙ c.in-Ok.ensures.read b told) c.in-Ok-replayed.ensures.text c.in-Ok.ensures.left
+
+pub returns-in-Ok-write_all-clause-refused : goal.returns-in-Ok-write_all-clause-refused
+returns-in-Ok-write_all-clause-refused g c n words b told bad =
+    absurd
+    (never_refused c.reads_exactly.ensures.either _ c.deref.result.now c.in-Ok-replayed.text.items (λ x t. c.deref.ensures.value ∙ c.in-Ok.ensures.read x t) c.in-Ok-replayed.ensures.text n b told bad)
+
+pub returns-in-Err-Fault-write_all-clause-refused : goal.returns-in-Err-Fault-write_all-clause-refused
+returns-in-Err-Fault-write_all-clause-refused g c n words b told bad =
+    absurd
+    (never_refused c.reads_exactly.ensures.either _ c.deref.result.now c.in-Ok-replayed.text.items (λ x t. c.deref.ensures.value ∙ c.in-Ok.ensures.read x t) c.in-Ok-replayed.ensures.text n b told bad)
+
+pub returns-in-Err-Fault-write_all-clause-cut_short : goal.returns-in-Err-Fault-write_all-clause-cut_short
+returns-in-Err-Fault-write_all-clause-cut_short g c k =
+    is_cut_short _ _ _ c.deref.result.now c.in-Ok-replayed.text.items c.deref-2.result.now (λ b told. c.deref.ensures.value ∙ c.in-Ok.ensures.read b told) c.in-Ok-replayed.ensures.text
+    c.deref-2.ensures.value c.in-Err-Fault-write_all.ensures.part
+
+pub returns-clause-memory : goal.returns-clause-memory
+returns-clause-memory g c k =
+    inr
+    (is_cut_short _ _ _ c.deref.result.now c.in-Ok-replayed.text.items c.deref-2.result.now (λ b told. c.deref.ensures.value ∙ c.in-Ok.ensures.read b told) c.in-Ok-replayed.ensures.text
+    c.deref-2.ensures.value c.in-Err-Memory-write_all.ensures.part)
