@@ -48,6 +48,7 @@ pub record HasFirst (b : Body) : Type 0 where
   pub spelled : join_with_byte 32 (command_words b) ≡ name ++ 32 ∷ rest
   pub apart : IsWithout 32 name
 
+-- each command that is run has one
 pub first_word : (b : Body) → is_run b ≡ true → HasFirst b
 first_word (Begin t d) h = record { name = codes "begin"; rest = transaction_name t.value ++ 32 ∷ timeout_word d; spelled = refl; apart = refl }
 first_word (Volatile t e o v) h = record { name = codes "volatile"; rest = transaction_name t.value ++ 32 ∷ (enlistment_name e.value ++ 32 ∷ (option_word o ++ 32 ∷ vote_word v)); spelled = refl; apart = refl }

@@ -8,6 +8,7 @@ use Rattle.script_runner.specs.Reader.{IsWithout}
 head_differs : (c x : ℕ) (xs : List ℕ) → IsWithout c (x ∷ xs) → c ≡ x → ⊥
 head_differs c x xs h e = grind (arith, nat_tests)
 
+-- the rest of a text without c is without c
 tail_without : (c x : ℕ) (xs : List ℕ) → IsWithout c (x ∷ xs) → IsWithout c xs
 tail_without c x xs h = grind (arith, nat_tests)
 

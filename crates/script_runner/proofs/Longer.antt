@@ -15,6 +15,7 @@ front_of_first (u ∷ us) (x ∷ xs) ys vs e h =
     let rest = front_of_first us xs ys vs tail (omega arith) in
     ap (λ z. z ∷ xs) head ∙ ap (λ zs. u ∷ zs) rest
 
+-- what begins with something isn't empty
 nonempty-append : (xs ys : List ℕ) → xs ≢ [] → xs ++ ys ≢ []
 nonempty-append [] ys h e = h refl
 nonempty-append (x ∷ xs) ys h e = cc

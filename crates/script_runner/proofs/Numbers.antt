@@ -12,6 +12,7 @@ use Rattle.script_runner.proofs.Cuts.{cut_same}
 use Rattle.std.proofs.lemmas.Int.Digits.{digits_value_more, digits_more}
 use Rattle.std.proofs.lemmas.Str.Parse.{IsNumeralModel, numerals_by_value, tells_digits, digit_at, digit_from_value, digits_value_short}
 
+-- std's own words for digits and their value
 own : IsNumeralModel (AllDigits 10) (digits_value 10)
 own = numerals_by_value (AllDigits 10) tells_digits
 
@@ -23,6 +24,7 @@ pub record IsNumber (w : List ℕ) (n : ℕ) : Type 0 where
   pub short : length w ≤ 10
   pub first : get_or w 0 0 ≡ 48 → length w ≡ 1
 
+-- only the text of 0 begins with `0`
 decimal_first : (n : ℕ) → n < 2 ^ 32 → get_or (decimal n) 0 0 ≡ 48 → length (decimal n) ≡ 1
 decimal_first zero h e = ap length (decimal_digit 0 (omega arith))
 decimal_first (suc n) h e = absurd (omega (arith, first_decimal (suc n) (omega arith) (omega arith)))

@@ -15,6 +15,7 @@ abbrev Runs : List Line → Type 0
 Runs [] = Unit {0}
 Runs (l ∷ s) = IsRunLine l × Runs s
 
+-- the lines of a script are run
 runs : (s : List Line) → each (λ (l : Line). is_run l.body) s ≡ true → each (λ (l : Line). is_in_range l.body) s ≡ true → each is_short s ≡ true → Runs s
 runs [] p q r = tt
 runs (l ∷ s) p q r = (
@@ -22,6 +23,7 @@ runs (l ∷ s) p q r = (
   runs s (and_right (is_run l.body) _ p) (and_right (is_in_range l.body) _ q) (and_right (is_short l) _ r),
 )
 
+-- the same, said of the script
 script_runs : (s : List Line) → IsScript s → Runs s
 script_runs s h = runs s h.run h.in_range h.short
 
@@ -30,10 +32,12 @@ data Compared (s r : List Line) (a b : List ℕ) : Type 0 where
   Front : (q : List Line) → r ≡ s ++ q → a ≡ script_text q ++ b → Compared s r a b
   Beyond : (l : Line) (q : List Line) → s ≡ r ++ l ∷ q → b ≡ line_text l ++ (script_text q ++ a) → Compared s r a b
 
+-- one line before both changes nothing
 compare_more : (l m : Line) (s r : List Line) (a b : List ℕ) → l ≡ m → Compared s r a b → Compared (l ∷ s) (m ∷ r) a b
 compare_more l m s r a b e (Front q h k) = Front q (ap₂ (λ x xs. x ∷ xs) (sym e) h) k
 compare_more l m s r a b e (Beyond n q h k) = Beyond n q (ap₂ (λ x xs. x ∷ xs) e h) k
 
+-- two scripts before the same bytes compare
 compared : (s r : List Line) (a b : List ℕ) → Runs s → Runs r → script_text s ++ a ≡ script_text r ++ b → Compared s r a b
 compared [] r a b hs hr e = Front r refl e
 compared (l ∷ s) [] a b hs hr e = Beyond l s refl (sym e ∙ append_assoc (line_text l) (script_text s) a)
@@ -41,6 +45,7 @@ compared (l ∷ s) (m ∷ r) a b hs hr e =
     let k = same_line l m (script_text s ++ a) (script_text r ++ b) hs.0 hr.0 (sym (append_assoc (line_text l) (script_text s) a) ∙ e ∙ append_assoc (line_text m) (script_text r) b) in
     compare_more l m s r a b k.0 (compared s r a b hs.1 hr.1 k.1)
 
+-- where each passes, each of the front passes
 each-front : {A : Type 0} (p : A → Bool) (xs ys : List A) → each p (xs ++ ys) ≡ true → each p xs ≡ true
 each-front p [] ys h = refl
 each-front p (x ∷ xs) ys h =
@@ -48,6 +53,7 @@ each-front p (x ∷ xs) ys h =
     let k = each-front p xs ys (and_right (p x) _ h) in
     rw e k
 
+-- where each passes with what stands before it, each of the past does
 always-front : {A : Type 0} (t : List A → A → Bool) (past xs : List A) → always t (onto past xs) ≡ true → always t past ≡ true
 always-front t past [] h = h
 always-front t past (x ∷ xs) h = and_right (t past x) _ (always-front t (x ∷ past) xs h)
@@ -62,6 +68,7 @@ script_front s r h = record {
   named = always-front is_named_well (past_of s) r (ap (λ p. always is_named_well p) (sym (onto-append [] s r)) ∙ h.named);
 }
 
+-- a script up to one of its lines is a script
 script_to : (s : List Line) (l : Line) (r : List Line) → IsScript (s ++ l ∷ r) → IsScript (s ++ l ∷ [])
 script_to s l r h = script_front (s ++ l ∷ []) r (subst IsScript (sym (append_assoc s (l ∷ []) r)) h)
 
@@ -69,19 +76,23 @@ script_to s l r h = script_front (s ++ l ∷ []) r (subst IsScript (sym (append_
 line_nonempty : (l : Line) (a : List ℕ) → [] ≡ line_text l ++ a → ⊥
 line_nonempty l a e = omega (arith, ap length e, length-append (line_text l) a, length-append (join_with_byte 32 (words l)) (10 ∷ []))
 
+-- nothing stands behind anything in an empty list
 nothing_behind : (xs ys : List ℕ) → [] ≡ xs ++ ys → ys ≡ []
 nothing_behind [] ys e = sym e
 nothing_behind (x ∷ xs) ys e = absurd (cc e)
 
+-- two scripts with nothing behind them are one
 both : (s r : List Line) → Compared s r [] [] → s ≡ r
 both s r (Front [] e k) = sym (e ∙ append-nil s)
 both s r (Front (l ∷ q) e k) = absurd (line_nonempty l (script_text q ++ []) (k ∙ append_assoc (line_text l) (script_text q) []))
 both s r (Beyond l q e k) = absurd (line_nonempty l (script_text q ++ []) k)
 
+-- a script with nothing behind it doesn't compare with lines of which the next isn't run yet
 neither : (s : List Line) (b : List ℕ) (n : ℕ) (y : IsNotYet b n) → IsScript s → Compared s y.before [] y.rest → ⊥
 neither s b n y h (Front q e k) = y.left (nothing_behind (script_text q) y.rest k)
 neither s b n y h (Beyond l q e k) = y.unread l (script_text q ++ []) k (script_to y.before l q (subst IsScript e h))
 
+-- two lines that are the first that isn't run yet have one number
 same_number : (b : List ℕ) (n m : ℕ) (y : IsNotYet b n) (z : IsNotYet b m) → Compared y.before z.before y.rest z.rest → n ≡ m
 same_number b n m y z (Front [] e k) = omega (arith, y.number, z.number, ap length (e ∙ append-nil y.before))
 same_number b n m y z (Front (l ∷ q) e k) =

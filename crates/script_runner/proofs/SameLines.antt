@@ -47,6 +47,7 @@ not_default n h e =
     let d : IsInRange 48 57 100 = digit_of_number (codes "default") n 0 h (omega arith) e in
     omega arith
 
+-- a timeout in its range is below 2 ^ 32
 below : (n : ℕ) → fits (Milliseconds n) ≡ true → n < 2 ^ 32
 below n h = grind (arith, nat_tests)
 

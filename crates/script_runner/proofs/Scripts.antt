@@ -8,6 +8,7 @@ use Rattle.dtx_model.specs.Grammar.{words, line_text, script_text, is_run, is_in
 use Rattle.dtx_model.proofs.Histories.{past_of-snoc}
 use Rattle.script_runner.specs.Reader.{IsRunLine}
 
+-- what a Bool `and` says of its two sides
 and_true : (a b : Bool) → a ≡ true → b ≡ true → (a && b) ≡ true
 and_true true b p q = q
 and_true false b p q = p
