@@ -43,13 +43,12 @@ settled-advanced s start t trace new b a =
     λ v k. ap (history v.value) a.done ∙ history-other v.value t (past_of trace) es (other v k) in
     record {
       turns = (t, a.step) ∷ b.turns;
-      rounds =
-        (
-          past_of trace,
-          b.rounds,
-          record { others = a.others; first = a.first; passed = λ v p. b.below v (passed-below (last_turn b.turns) t.value v.value b.reached p) },
-          a.done
-        );
+      rounds = (
+        past_of trace,
+        b.rounds,
+        record { others = a.others; first = a.first; passed = λ v p. b.below v (passed-below (last_turn b.turns) t.value v.value b.reached p) },
+        a.done,
+      );
       reached = omega arith;
       below = λ v k. subst (λ (h : List Entry). Settled s h) (sym (same v k)) (b.below v k);
     }
@@ -63,6 +62,7 @@ settled-next s start t trace b here =
       rounds = b.rounds;
       reached = let k = b.reached in omega arith;
       below = λ v k. elim (eqb_tells v.value t.value) [
-      inl e ↦ subst (λ n. Settled s (history n (past_of trace))) (sym e.1) here
-      | inr e ↦ b.below v (omega (arith, e.1, k)) ];
+        | inl e ↦ subst (λ n. Settled s (history n (past_of trace))) (sym e.1) here
+        | inr e ↦ b.below v (omega (arith, e.1, k))
+      ];
     }

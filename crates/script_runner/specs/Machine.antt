@@ -1,5 +1,5 @@
 -- What a machine does.
-use Rattle.std.specs.Prelude.{◌≡◌, ◌<◌, List, [], ◌∷◌, length, Option, Some, None}
+use Rattle.std.specs.Prelude.{ℕ, ◌==◌, false, ◌≡◌, ◌<◌, List, [], ◌∷◌, length, Option, Some, None}
 use Rattle.dtx_values.specs.Outgoing.{Outgoing, with}
 use Rattle.dtx_values.specs.declared.number.EnlNo.{EnlNo}
 use Rattle.dtx_values.specs.declared.entry.Entry.{Entry}
@@ -7,13 +7,18 @@ use Rattle.dtx_values.specs.declared.entry.Entry.TheVariants.{Enlisted}
 use Rattle.dtx_values.specs.declared.note.Reply.TheVariants.{Vote as VoteReply}
 use Rattle.dtx_values.specs.declared.script.Line.{Line}
 use Rattle.dtx_values.specs.declared.words.Vote.{Vote}
-use Rattle.dtx_model.specs.Observed.{Observed, track_all}
+use Rattle.dtx_model.specs.declared.row.Row.{Row}
+use Rattle.dtx_model.specs.Observed.{Observed, row_after, track_all}
 use Rattle.dtx_model.specs.Steps.{Step, Replies, block, pending}
 
 -- the table has room for what the entry adds
 abbrev pub MayNote : Observed → Entry → Type 0
 MayNote o (Enlisted e c) = length o.table < 32
 MayNote o _ = Unit {0}
+
+-- the entry changes no row but those of this number
+abbrev pub ChangesOnly : ℕ → Entry → Type 0
+ChangesOnly e x = (r : Row) → (r.enlistment.value == e) ≡ false → row_after x r ≡ r
 
 -- the first of these replies is this vote, or there is none
 abbrev pub IsFirstReply : Option (EnlNo × Vote) → List Step → Type 0

@@ -73,7 +73,7 @@ impl Machine {
     }
 
     /// The one place where what is kept changes.
-    #[tactic(auto, unfolding(dtx_model::specs::Observed::track))]
+    #[tactic(auto, using(crate::proofs::Changes::changing), unfolding(dtx_model::specs::Observed::track))]
     fn note(&mut self, x: Entry)
         requires { MayNote self.old x }
         ensures { self.new ≡ track self.old x }
@@ -92,13 +92,12 @@ impl Machine {
                     told: false,
                 },
             ),
-            Entry::Asked(_, _) | Entry::Voted(_, _) => update(&mut self.rows, x),
-            Entry::Told(p, _) => {
-                update(&mut self.rows, x);
-                if p == Party::Client {
-                    self.told_client = true;
-                }
-            }
+            Entry::Asked(e, _) => update(&mut self.rows, e, &x),
+            Entry::Voted(e, _) => update(&mut self.rows, e, &x),
+            Entry::Told(party, _) => match party {
+                Party::Enl(e) => update(&mut self.rows, e, &x),
+                Party::Client => self.told_client = true,
+            },
             Entry::Decided(o) => self.decided = Some(o),
             _ => {}
         }

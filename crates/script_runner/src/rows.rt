@@ -4,40 +4,55 @@ ghost use Rattle.std.specs.List.{filter_map, insert};
 ghost use Rattle.dtx_model.specs.Observed.{row_after, insert_row};
 ghost use Rattle.dtx_model.specs.Steps.{due_reply, is_to_tell, is_unasked, all_voted};
 ghost use Rattle.dtx_model.specs.Entries.{is_volatile};
-ghost use Rattle.script_runner.specs.Machine.{IsFirstReply};
+ghost use Rattle.script_runner.specs.Machine.{ChangesOnly, IsFirstReply};
 ghost use Rattle.dtx_model.specs.declared.row.Row.{Row};
 
 use crate::plans::Plans;
 use dtx_model::Row;
 use dtx_values::{Ask, Class, EnlNo, Entry, Party, Vote};
 
-/// The row with what the entry changes in it.
-fn row_with(r: Row, x: Entry) -> Row
-    ensures { result ≡ row_after x r }
+/// Changes a row as the entry does.
+fn change(r: &mut Row, x: &Entry)
+    ensures { r.new ≡ row_after x.now r.old }
 {
-    match x {
-        Entry::Asked(e, Ask::Prepare) => Row {
-            asked: r.enlistment == e || r.asked,
-            ..r
-        },
-        Entry::Voted(e, v) => Row {
-            vote: if r.enlistment == e { Some(v) } else { r.vote },
-            ..r
-        },
-        Entry::Told(Party::Enl(e), _) => Row {
-            told: r.enlistment == e || r.told,
-            ..r
-        },
-        _ => r,
+    match *x {
+        Entry::Asked(e, Ask::Prepare) => {
+            if r.enlistment == e {
+                r.asked = true;
+            }
+        }
+        Entry::Voted(e, v) => {
+            if r.enlistment == e {
+                r.vote = Some(v);
+            }
+        }
+        Entry::Told(Party::Enl(e), _) => {
+            if r.enlistment == e {
+                r.told = true;
+            }
+        }
+        _ => {}
     }
 }
 
-/// Changes each row as the entry does.
-pub fn update(rows: &mut [Row], x: Entry)
-    ensures { rows.new ≡ map (λ r. row_after x r) rows.old }
+/// Changes the row as the entry does, which changes rows of enlistment e alone.
+#[inline(always)]
+fn change_of(r: &mut Row, e: EnlNo, x: &Entry)
+    requires { ChangesOnly e.value x.now }
+    ensures { r.new ≡ row_after x.now r.old }
+{
+    if r.enlistment == e {
+        change(r, x);
+    }
+}
+
+/// Changes each row as the entry does, which changes rows of enlistment e alone.
+pub fn update(rows: &mut [Row], e: EnlNo, x: &Entry)
+    requires { ChangesOnly e.value x.now }
+    ensures { rows.new ≡ map (λ r. row_after x.now r) rows.old }
 {
     for r in rows.iter_mut() {
-        *r = row_with(*r, x);
+        change_of(r, e, x);
     }
 }
 
@@ -79,11 +94,13 @@ fn is_volatile(c: Class) -> bool
 fn is_to_tell(r: &Row) -> bool
     ensures { result ≡ is_to_tell r.now }
 {
-    let hears = match r.vote {
-        None | Some(Vote::Yes) => true,
+    if r.told {
+        return false;
+    }
+    match r.vote {
+        None | Some(Vote::Yes) => is_volatile(r.class),
         Some(_) => false,
-    };
-    is_volatile(r.class) && !r.told && hears
+    }
 }
 
 /// The lowest enlistment that is still to be told the outcome.

@@ -14,7 +14,8 @@ fn replay(alloc: Global) -> Result<Vec<String>, AllocError> {
 
 const ONE_VOLATILE: &str = "a1 begin t1 0\na1 volatile t1 e1 none yes\na1 commit t1\n";
 
-const ONE_VOLATILE_TRACE: &str = "1 t1 call 1 a1 ok\n2 t1 began 600000\n3 t1 call 2 a1 ok\n4 t1 enlisted e1 one\n5 t1 call 3 a1 ok\n6 t1 commit\n7 t1 sealed\n8 t1 ask e1 prepare\n9 t1 vote e1 yes\n10 t1 decided committed\n11 t1 told e1 committed\n12 t1 told client committed\n";
+const ONE_VOLATILE_TRACE: &str =
+    "1 t1 call 1 a1 ok\n2 t1 began 600000\n3 t1 call 2 a1 ok\n4 t1 enlisted e1 one\n5 t1 call 3 a1 ok\n6 t1 commit\n7 t1 sealed\n8 t1 ask e1 prepare\n9 t1 vote e1 yes\n10 t1 decided committed\n11 t1 told e1 committed\n12 t1 told client committed\n";
 
 /// Scripts with the whole text of their traces.
 const RUNS: [(&str, &str); 6] = [

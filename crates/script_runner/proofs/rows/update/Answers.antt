@@ -6,14 +6,14 @@ use Rattle.script_runner.proofs.rows.update.Goals as goal
 
 pub loop-r-preserved : goal.loop-r-preserved
 loop-r-preserved c =
-    let f : Row → Row = λ r. row_after c.args.x r in
+    let f : Row → Row = λ r. row_after c.args.x.now r in
     let i = c.loop-r.r-index in
     let lt : i < length c.args.rows.now = omega arith in
     let d = c.r-item.result in
-    rw (c.row_with.ensures, c.loop-r.invariant, mapped_get f c.args.rows.now i d lt, add-one) (mapped_more f c.args.rows.now i d lt)
+    rw (c.change_of.ensures, c.loop-r.invariant, mapped_get f c.args.rows.now i d lt, add-one) (mapped_more f c.args.rows.now i d lt)
 
 pub returns : goal.returns
 returns c =
-    let f : Row → Row = λ r. row_after c.args.x r in
+    let f : Row → Row = λ r. row_after c.args.x.now r in
     let e : c.loop-r.r-index ≡ length c.args.rows.now = omega arith in
     rw (c.loop-r.invariant, e) (mapped_all f c.args.rows.now)
