@@ -1,5 +1,5 @@
 -- Which rows an entry changes.
-use Rattle.std.proofs.Common.{◌≡◌, ℕ, ◌==◌, true, false, List, map, refl}
+use Rattle.std.proofs.Common.{◌≡◌, true, List, map, refl}
 use Rattle.dtx_values.specs.declared.number.EnlNo.{EnlNo}
 use Rattle.dtx_values.specs.declared.entry.Ask.{Ask}
 use Rattle.dtx_values.specs.declared.entry.Ask.TheVariants.{Prepare, Promote, Single}

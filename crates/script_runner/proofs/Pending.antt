@@ -1,5 +1,5 @@
 -- Which step is the first pending one.
-use Rattle.std.proofs.Common.{◌≡◌, Bool, true, false, ◌&&◌, not, List, [], ◌∷◌, ◌++◌, Option, Some, is_none, refl, ap, sym, ◌∙◌}
+use Rattle.std.proofs.Common.{◌≡◌, true, false, not, List, [], ◌∷◌, ◌++◌, Some, is_none, refl}
 use Rattle.std.specs.List.{filter_map}
 use Rattle.dtx_values.specs.Outgoing.{Outgoing, with}
 use Rattle.dtx_values.specs.declared.number.EnlNo.{EnlNo}
@@ -11,7 +11,7 @@ use Rattle.dtx_values.specs.declared.words.Vote.{Vote}
 use Rattle.dtx_model.specs.declared.row.Row.{Row}
 use Rattle.dtx_model.specs.Observed.{Observed, track_all}
 use Rattle.dtx_model.specs.Outcome.{is_empty}
-use Rattle.dtx_model.specs.Steps.{Step, Replies, Acts, act_entries, act_if, block, due_replies, due_reply, pending, planned_vote, vote_step}
+use Rattle.dtx_model.specs.Steps.{Replies, Acts, act_entries, act_if, block, due_replies, due_reply, pending, planned_vote}
 use Rattle.script_runner.specs.Machine.{DoesFirst, IsFirstReply}
 
 -- a row that was asked, hasn't voted, and has a plan: its reply comes first

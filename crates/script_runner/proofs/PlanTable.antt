@@ -1,9 +1,9 @@
 -- The table of plans, line by line.
-use Rattle.std.proofs.Common.{◌≡◌, ℕ, ◌<◌, ◌==◌, Bool, true, false, List, [], ◌∷◌, ◌++◌, length, Option, Some, None, get_or, set, replicate, refl, ap, sym, ◌∙◌, if◌then◌else◌}
+use Rattle.std.proofs.Common.{◌≡◌, ℕ, List, [], ◌∷◌, ◌++◌, length, Option, None, get_or, replicate, ap, sym, ◌∙◌}
 use Rattle.std.proofs.lemmas.List.{get_or-replicate, length-replicate}
 use Rattle.dtx_values.specs.declared.script.Line.{Line}
 use Rattle.dtx_values.specs.declared.words.Vote.{Vote}
-use Rattle.dtx_model.specs.Words.{latest, or_else, past_of}
+use Rattle.dtx_model.specs.Words.{latest, or_else}
 use Rattle.dtx_model.specs.Steps.{line_vote, planned_vote}
 use Rattle.dtx_model.proofs.Histories.{past_of-snoc}
 use Rattle.script_runner.specs.Plans.{ArePlanned}

@@ -1,5 +1,5 @@
 -- From what the parts of the top call say to what it promises.
-use Rattle.std.proofs.Common.{◌≡◌, ◌⊎◌, ℕ, Bool, true, false, IsTrue, map, get_or, Global, String, ◌+◌, ◌-◌, ◌<◌, ◌≤◌, min, List, [], ◌∷◌, ◌++◌, length, take, drop, Option, Some, refl, ap, sym, ◌∙◌, subst, arith}
+use Rattle.std.proofs.Common.{◌≡◌, ℕ, Bool, IsTrue, map, get_or, Global, String, ◌<◌, ◌≤◌, List, [], ◌∷◌, ◌++◌, length, take, drop, Option, Some, refl, ap, sym, ◌∙◌, subst, arith}
 use Rattle.std.proofs.Math.ListN.{drop_of_length-le}
 use Rattle.std.proofs.lemmas.List.{length-take, take_all}
 use Rattle.std.specs.Option.{ForSome}
@@ -8,8 +8,7 @@ use lib.Pointwise.{pointwise}
 use lib.Dec.{eqb}
 use Rattle.std.specs.Cmp.Lexicographic.{bytes_decides}
 use Rattle.dtx_values.specs.declared.script.Line.{Line}
-use Rattle.dtx_model.specs.Grammar.{IsNotYet, Reads, script_text}
-use Rattle.dtx_model.specs.TraceText.{trace_text}
+use Rattle.dtx_model.specs.Grammar.{IsNotYet, Reads}
 use Rattle.script_runner.specs.Program.{IsCutShort, IsReplayOf, IsWritten}
 use Rattle.script_runner.specs.Refusal.{IsReplayText}
 use Rattle.script_runner.specs.Transfer.{IsPartWritten}

@@ -1,16 +1,9 @@
 -- What a replay gives is a history of its script.
-use Rattle.std.proofs.Common.{◌≡◌, ℕ, ◌+◌, ◌<◌, ◌≤◌, Bool, true, List, [], ◌∷◌, ◌++◌, length, refl, ap, sym, ◌∙◌, subst, arith, length-append}
-use Rattle.dtx_values.specs.declared.number.TxNo.{TxNo}
-use Rattle.dtx_values.specs.declared.entry.Entry.{Entry}
+use Rattle.std.proofs.Common.{◌≤◌, List, [], ◌∷◌, length, refl, arith, length-append}
 use Rattle.dtx_values.specs.declared.script.Line.{Line}
-use Rattle.dtx_values.specs.declared.words.Outcome.TheVariants.{Committed}
-use Rattle.dtx_model.specs.Words.{each, has, past_of}
-use Rattle.dtx_model.specs.Entries.{is_commit, is_client_told}
-use Rattle.dtx_model.specs.Outcome.{justified, agree}
-use Rattle.dtx_model.specs.Caused.{Caused, Settled}
-use Rattle.dtx_model.specs.Replay.{LinesRan, Placed, IsReplayed, calls, due_calls, history}
-use Rattle.dtx_model.specs.History.{HasOneOutcome, IsComplete, IsHistory}
-use Rattle.dtx_model.specs.Grammar.{is_run, line_text, script_text}
+use Rattle.dtx_model.specs.Words.{past_of}
+use Rattle.dtx_model.specs.Replay.{LinesRan, Placed, IsReplayed}
+use Rattle.dtx_model.specs.Grammar.{script_text}
 use Rattle.script_runner.specs.Running.{IsSettledBelow}
 
 -- a script has no more lines than bytes

@@ -1,14 +1,14 @@
 -- The rounds at the end of a replay, step by step.
-use Rattle.std.proofs.Common.{◌≡◌, ℕ, suc, ◌+◌, ◌<◌, ◌≤◌, ◌==◌, nat_le, nat_lt, Bool, true, false, ◌&&◌, List, [], ◌∷◌, length, refl, ap, sym, ◌∙◌, subst, arith, ◌⊎◌, inl, inr}
+use Rattle.std.proofs.Common.{◌≡◌, ℕ, ◌+◌, ◌<◌, ◌≤◌, ◌==◌, true, false, List, ◌∷◌, refl, ap, sym, ◌∙◌, subst, arith, inl, inr}
 use Rattle.std.proofs.lemmas.Bool.Decides.{Decides-eqb, eqb_tells, nat_tests}
 use Rattle.dtx_values.specs.declared.number.TxNo.{TxNo}
 use Rattle.dtx_values.specs.declared.entry.Entry.{Entry}
 use Rattle.dtx_values.specs.declared.script.Line.{Line}
-use Rattle.dtx_model.specs.Words.{onto, past_of}
+use Rattle.dtx_model.specs.Words.{past_of}
 use Rattle.dtx_model.specs.Observed.{Observed, observe, track_all}
 use Rattle.dtx_model.specs.Caused.{Settled}
-use Rattle.dtx_model.specs.Replay.{Placed, history, is_passed, last_turn, placed}
-use Rattle.dtx_model.specs.Steps.{Step, block}
+use Rattle.dtx_model.specs.Replay.{Placed, history, is_passed, last_turn}
+use Rattle.dtx_model.specs.Steps.{block}
 use Rattle.dtx_model.proofs.Histories.{history-other, history-same, observe-onto}
 use Rattle.script_runner.specs.Running.{Advances, IsSettledBelow}
 use Rattle.script_runner.proofs.Measure.{steps_left, steps_left-pending}

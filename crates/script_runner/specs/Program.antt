@@ -2,7 +2,7 @@
 use Rattle.std.specs.Prelude.{ℕ, ◌≡◌, List, [], ◌∷◌, ◌++◌, codes, Option, Some}
 use Rattle.std.specs.Option.{ForSome}
 use Rattle.dtx_values.specs.declared.script.Line.{Line}
-use Rattle.dtx_model.specs.Grammar.{IsScript, Reads}
+use Rattle.dtx_model.specs.Grammar.{Reads}
 use Rattle.dtx_model.specs.History.{HasOneOutcome, IsComplete, IsHistory}
 use Rattle.dtx_model.specs.Replay.{Placed}
 use Rattle.dtx_model.specs.TraceText.{trace_text}

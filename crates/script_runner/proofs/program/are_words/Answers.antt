@@ -1,5 +1,4 @@
-use Rattle.std.proofs.Common.{◌≡◌, ◌∙◌, ap, List, ℕ, codes}
-use Rattle.std.specs.String.{string_bytes}
+use Rattle.std.proofs.Common.{◌∙◌, ap, List, ℕ, codes}
 use lib.Pointwise.{pointwise}
 use lib.Dec.{eqb}
 use Rattle.script_runner.proofs.Programs.{one_word}

@@ -1,4 +1,4 @@
-use Rattle.std.proofs.Common.{◌≡◌, List, ℕ, ◌∙◌, ap, subst, inl, inr}
+use Rattle.std.proofs.Common.{List, ℕ, ◌∙◌, ap, subst, inl, inr}
 use Rattle.dtx_model.specs.Grammar.{IsNotYet}
 use Rattle.script_runner.specs.Refusal.{IsRefused}
 use Rattle.script_runner.specs.declared.exit.Exit.TheVariants.{NotYet}

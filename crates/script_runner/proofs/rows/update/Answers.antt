@@ -1,4 +1,4 @@
-use Rattle.std.proofs.Common.{◌≡◌, ℕ, ◌<◌, length, arith, add-one, ◌∙◌}
+use Rattle.std.proofs.Common.{◌≡◌, ◌<◌, length, arith, add-one}
 use Rattle.dtx_model.specs.Observed.{row_after}
 use Rattle.dtx_model.specs.declared.row.Row.{Row}
 use Rattle.script_runner.proofs.Mapping.{mapped_get, mapped_more, mapped_all}

@@ -1,5 +1,5 @@
-use Rattle.std.proofs.Common.{◌≡◌, [], ◌∷◌, sym, ◌∙◌, refl}
-use Rattle.dtx_model.specs.Observed.{track, track_all}
+use Rattle.std.proofs.Common.{sym, ◌∙◌}
+use Rattle.dtx_model.specs.Observed.{track_all}
 use Rattle.script_runner.proofs.Pending.{does_act, does_reply, pending-none, track_all-none}
 use Rattle.script_runner.proofs.machine.Machine.advance.Goals as goal
 

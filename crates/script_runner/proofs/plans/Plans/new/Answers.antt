@@ -1,7 +1,6 @@
-use Rattle.std.proofs.Common.{◌≡◌, ◌+◌, ◌∷◌, [], ◌++◌, take, List, sym, ◌∙◌, ap}
+use Rattle.std.proofs.Common.{◌≡◌, ◌+◌, ◌∷◌, [], ◌++◌, take, sym, ◌∙◌, ap}
 use Rattle.std.proofs.lemmas.List.{take_more}
 use Rattle.dtx_values.specs.declared.script.Line.{Line}
-use Rattle.script_runner.specs.Plans.{ArePlanned}
 use Rattle.script_runner.proofs.PlanTable.{planned-none, planned-snoc}
 use Rattle.script_runner.proofs.plans.Plans.new.Goals as goal
 

@@ -1,4 +1,4 @@
-use Rattle.std.proofs.Common.{◌≡◌, List, Bool, true, Ok, subst, ◌∙◌}
+use Rattle.std.proofs.Common.{◌≡◌, List, true, Ok, subst, ◌∙◌}
 use Rattle.dtx_values.specs.declared.script.Line.{Line}
 use Rattle.script_runner.specs.Running.{Advances}
 use Rattle.script_runner.proofs.Rounds.{advanced-smaller, settled-advanced}
