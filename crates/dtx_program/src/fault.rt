@@ -41,3 +41,33 @@ impl Fault {
         }
     }
 }
+
+#[cfg(test)]
+mod tests {
+    use super::Fault;
+    use script_runner::Exit;
+    use std::test::Fail;
+
+    #[test]
+    fn exits_have_their_texts_and_statuses(rt: HostRuntime) -> Result<(), Fail> {
+        assert!(rt; Fault::of(Exit::Fine).is_ok());
+        let cases = [
+            (Exit::Usage, "dtx: usage", 2),
+            (Exit::ReadFault, "dtx: read fault", 5),
+            (Exit::WriteFault, "dtx: write fault", 6),
+            (Exit::Memory, "dtx: out of memory", 8),
+            (Exit::NotYet(2), "dtx: line 2: not built yet", 9),
+        ];
+        for (exit, text, status) in cases {
+            match Fault::of(exit) {
+                Ok(()) => assert!(rt; false, "no fault at {text}"),
+                Err(fault) => {
+                    assert_eq!(rt; fault.status(), status, "at {text}");
+                    let said = fault.to_string(rt.alloc())?;
+                    assert!(rt; said.as_str() == text, "{said} at {text}");
+                }
+            }
+        }
+        Ok(())
+    }
+}
