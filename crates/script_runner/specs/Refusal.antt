@@ -1,11 +1,10 @@
 -- What stands in the way of a replay.
-use Rattle.std.specs.Prelude.{ℕ, ◌≡◌, List}
+use Rattle.std.specs.Prelude.{ℕ, ◌≡◌, List, Some}
 use Rattle.dtx_values.specs.declared.script.Line.{Line}
 use Rattle.dtx_model.specs.Grammar.{IsNotYet}
 use Rattle.dtx_model.specs.Replay.{Placed}
 use Rattle.dtx_model.specs.TraceText.{trace_text}
 use Rattle.script_runner.specs.Program.{IsReplayOf}
-use Rattle.std.specs.Prelude.{Some}
 use Rattle.script_runner.specs.declared.program.Refusal.{Refusal}
 use Rattle.script_runner.specs.declared.program.Refusal.TheVariants.{NotYet, Memory}
 
