@@ -2,6 +2,7 @@
 -- The rows are those of begin, of a volatile enlistment without options that votes yes or done, and of commit.
 use Rattle.std.specs.Prelude.{ℕ, ◌==◌, min, nat_le, Bool, true, false, ◌&&◌, ◌||◌, not, List, [], ◌∷◌, ◌++◌, length, find, Option, Some, None, is_some, is_none, if◌then◌else◌}
 use Rattle.std.specs.List.{filter_map}
+use Rattle.dtx_values.specs.declared.limits.TheConstants.{ENLISTMENTS}
 use Rattle.dtx_values.specs.declared.number.ActorNo.{ActorNo}
 use Rattle.dtx_values.specs.declared.number.EnlNo.{EnlNo}
 use Rattle.dtx_values.specs.declared.number.TxNo.{TxNo}
@@ -64,7 +65,7 @@ abbrev pub behind_begin : Observed → Answer → Answer
 behind_begin o a = if not o.begun then NotBegun else behind_end o.decided a
 
 unfoldable pub answer : Observed → Call → Answer
-answer o (Volatile t e x v) = behind_begin o (if o.sealed then TooLate else if nat_le 32 (length o.table) then Many 32 else Fine)
+answer o (Volatile t e x v) = behind_begin o (if o.sealed then TooLate else if nat_le ENLISTMENTS (length o.table) then Many ENLISTMENTS else Fine)
 answer o (Commit t) = behind_begin o (if o.commit then TooLate else Fine)
 answer o _ = Fine
 

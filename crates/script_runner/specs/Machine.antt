@@ -1,6 +1,7 @@
 -- What a machine does.
 use Rattle.std.specs.Prelude.{ℕ, ◌==◌, false, ◌≡◌, ◌<◌, List, [], ◌∷◌, length, Option, Some, None}
 use Rattle.dtx_values.specs.Outgoing.{Outgoing, with}
+use Rattle.dtx_values.specs.declared.limits.TheConstants.{ENLISTMENTS}
 use Rattle.dtx_values.specs.declared.number.EnlNo.{EnlNo}
 use Rattle.dtx_values.specs.declared.entry.Entry.{Entry}
 use Rattle.dtx_values.specs.declared.entry.Entry.TheVariants.{Enlisted}
@@ -13,7 +14,7 @@ use Rattle.dtx_model.specs.Steps.{Step, Replies, block, pending}
 
 -- the table has room for what the entry adds
 abbrev pub MayNote : Observed → Entry → Type 0
-MayNote o (Enlisted e c) = length o.table < 32
+MayNote o (Enlisted e c) = length o.table < ENLISTMENTS
 MayNote o _ = Unit {0}
 
 -- the entry changes no row but those of this number

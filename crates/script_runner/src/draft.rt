@@ -8,10 +8,10 @@ use std::alloc::{AllocError, Global};
 use std::marker::Model;
 
 /// One more than the greatest number of a transaction.
-const TRANSACTIONS: usize = 257;
+const TRANSACTION_NAMES: usize = 257;
 
 /// One more than the greatest number of an enlistment.
-const ENLISTMENTS: usize = 10_000;
+const ENLISTMENT_NAMES: usize = 10_000;
 
 /// Lines, with tables of the names that they make. Contracts see the lines.
 #[derive(Drop)]
@@ -40,8 +40,8 @@ impl Draft {
     {
         Ok(Draft {
             lines: Vec::new(alloc),
-            transactions: vec![in alloc; false; TRANSACTIONS]?,
-            enlistments: vec![in alloc; false; ENLISTMENTS]?,
+            transactions: vec![in alloc; false; TRANSACTION_NAMES]?,
+            enlistments: vec![in alloc; false; ENLISTMENT_NAMES]?,
         })
     }
 

@@ -29,6 +29,7 @@ pub struct Machine {
 
 impl Model for Machine {
     ghost use Rattle.std.specs.Prelude.{◌≤◌, vec_capacity};
+    ghost use Rattle.dtx_values.specs.declared.limits.TheConstants.{ENLISTMENTS};
     ghost use Rattle.dtx_model.specs.Observed.{Observed};
 
     ghost Value = { Observed };
@@ -42,7 +43,7 @@ impl Model for Machine {
       told_client = m.told_client;
     } };
 
-    ghost invariant = { λ m. 32 ≤ vec_capacity m.rows };
+    ghost invariant = { λ m. ENLISTMENTS ≤ vec_capacity m.rows };
 }
 
 /// A timeout in milliseconds: `default` is one minute, 0 is the most, ten minutes, and no timeout is longer.

@@ -21,6 +21,9 @@ use std::marker::Model;
 /// The number of transactions that a script can name.
 const TRANSACTIONS: usize = 256;
 
+/// One more than the greatest number of a transaction.
+const BEYOND: u32 = 257;
+
 /// A replay under way: its script's plans, its transactions by number, and its trace. Contracts see the script and the trace.
 #[derive(Drop)]
 pub struct Run<'a> {
@@ -121,7 +124,7 @@ impl<'a> Run<'a> {
         ensures script { self.new.script ≡ self.old.script }
         ensures settled { OnOk result ((start : List Placed) → IsSettledBelow self.old.script start 1 self.old.trace → IsSettledBelow self.old.script start 257 self.new.trace) }
     {
-        for n in 1..257 {
+        for n in 1..BEYOND {
             let t = TxNo::new(n).unwrap();
             self.settle(t)?;
         }
