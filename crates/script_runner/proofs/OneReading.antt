@@ -7,7 +7,8 @@ use Rattle.dtx_model.specs.Words.{each, always, onto, past_of}
 use Rattle.dtx_model.specs.Grammar.{words, line_text, script_text, is_run, is_in_range, is_short, is_named_well, IsScript, Reads, IsNotYet}
 use Rattle.dtx_model.proofs.Histories.{onto-append}
 use Rattle.script_runner.specs.Reader.{IsRunLine}
-use Rattle.script_runner.proofs.Scripts.{and_left, and_right, script_text-append}
+use Rattle.dtx_model.proofs.Bools.{and_left, and_right}
+use Rattle.script_runner.proofs.Scripts.{script_text-append}
 use Rattle.script_runner.proofs.SameLines.{same_line}
 
 -- each line is run

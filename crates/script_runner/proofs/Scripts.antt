@@ -1,30 +1,18 @@
 -- Scripts that grow by a line.
-use Rattle.std.proofs.Common.{◌≡◌, ℕ, ◌+◌, ◌≤◌, Bool, true, false, ◌&&◌, List, [], ◌∷◌, ◌++◌, length, refl, ap, sym, ◌∙◌, arith, append_assoc, length-append}
+use Rattle.std.proofs.Common.{◌≡◌, ℕ, ◌+◌, ◌≤◌, Bool, true, List, [], ◌∷◌, ◌++◌, length, refl, ap, sym, ◌∙◌, arith, append_assoc, length-append}
 use Rattle.std.specs.List.{join_with_byte}
 use Rattle.std.proofs.lemmas.List.{append-nil}
 use Rattle.dtx_values.specs.declared.script.Line.{Line}
+use Rattle.dtx_model.proofs.Bools.{and_both, and_left, and_right}
 use Rattle.dtx_model.specs.Words.{each, always, past_of}
 use Rattle.dtx_model.specs.Grammar.{words, line_text, script_text, is_run, is_in_range, is_short, is_named_well, IsScript}
 use Rattle.dtx_model.proofs.Histories.{past_of-snoc}
 use Rattle.script_runner.specs.Reader.{IsRunLine}
 
--- what a Bool `and` says of its two sides
-and_true : (a b : Bool) → a ≡ true → b ≡ true → (a && b) ≡ true
-and_true true b p q = q
-and_true false b p q = p
-
-pub and_left : (a b : Bool) → (a && b) ≡ true → a ≡ true
-and_left true b p = refl
-and_left false b p = p
-
-pub and_right : (a b : Bool) → (a && b) ≡ true → b ≡ true
-and_right true b p = p
-and_right false b p = absurd (cc p)
-
 -- each of a list passes, and one more
 each-snoc : {A : Type 0} (p : A → Bool) (xs : List A) (x : A) → each p xs ≡ true → p x ≡ true → each p (xs ++ x ∷ []) ≡ true
-each-snoc p [] x h k = and_true (p x) true k refl
-each-snoc p (y ∷ xs) x h k = and_true (p y) _ (and_left (p y) _ h) (each-snoc p xs x (and_right (p y) _ h) k)
+each-snoc p [] x h k = and_both (p x) true k refl
+each-snoc p (y ∷ xs) x h k = and_both (p y) _ (and_left (p y) _ h) (each-snoc p xs x (and_right (p y) _ h) k)
 
 -- where each of a list passes, its last passes
 each-last : {A : Type 0} (p : A → Bool) (xs : List A) (x : A) → each p (xs ++ x ∷ []) ≡ true → p x ≡ true
@@ -50,7 +38,7 @@ script_more s l h k w n = record {
   in_range = each-snoc (λ (x : Line). is_in_range x.body) s l h.in_range k.in_range;
   short = each-snoc is_short s l h.short k.short;
   within = omega (arith, length-script_text-snoc s l);
-  named = ap (λ p. always is_named_well p) (past_of-snoc s l) ∙ and_true (is_named_well (past_of s) l) _ n h.named;
+  named = ap (λ p. always is_named_well p) (past_of-snoc s l) ∙ and_both (is_named_well (past_of s) l) _ n h.named;
 }
 
 -- the last line of a script is run
