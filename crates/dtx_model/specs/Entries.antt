@@ -1,5 +1,5 @@
 -- Tests on one entry.
-use Rattle.std.specs.Prelude.{ℕ, Bool, true, false, ◌==◌, ◌&&◌, Option, Some, None, if◌then◌else◌}
+use Rattle.std.specs.Prelude.{ℕ, Bool, true, false, ◌==◌, ◌&&◌, Option, Some, None}
 use Rattle.dtx_values.specs.declared.number.EnlNo.{EnlNo}
 use Rattle.dtx_values.specs.declared.number.CloneNo.{CloneNo}
 use Rattle.dtx_values.specs.declared.entry.Entry.{Entry}
@@ -17,9 +17,10 @@ use Rattle.dtx_values.specs.declared.words.Outcome.TheVariants.{Committed, Abort
 use Rattle.dtx_values.specs.declared.words.Vote.{Vote}
 use Rattle.dtx_values.specs.declared.words.Vote.TheVariants.{No}
 
-abbrev pub is_began : Entry → Bool
-is_began (Began d) = true
-is_began _ = false
+-- the timeout in milliseconds, where the transaction was begun
+abbrev pub began_of : Entry → Option ℕ
+began_of (Began d) = Some d
+began_of _ = None
 
 -- the call of this line
 abbrev pub is_call : ℕ → Entry → Bool
@@ -106,10 +107,6 @@ abbrev pub is_asked : ℕ → Entry → Bool
 is_asked e (Asked f Prepare) = e == f.value
 is_asked e _ = false
 
-abbrev pub vote_of : ℕ → Entry → Option Vote
-vote_of e (Voted f v) = if e == f.value then Some v else None
-vote_of e _ = None
-
 -- a vote of this enlistment
 abbrev pub is_vote : ℕ → Entry → Bool
 is_vote e (Voted f v) = e == f.value
@@ -150,13 +147,15 @@ abbrev pub is_decision : Entry → Bool
 is_decision (Decided o) = true
 is_decision _ = false
 
+-- this enlistment was told an outcome
 abbrev pub is_told : ℕ → Entry → Bool
 is_told e (Told (Enl f) o) = e == f.value
 is_told e _ = false
 
-abbrev pub is_told_client : Entry → Bool
-is_told_client (Told Client o) = true
-is_told_client _ = false
+-- what the client was told
+abbrev pub client_told_of : Entry → Option Outcome
+client_told_of (Told Client o) = Some o
+client_told_of _ = None
 
 -- the client was told this outcome
 abbrev pub is_client_told : Outcome → Entry → Bool

@@ -2,10 +2,12 @@
 use Rattle.std.specs.Prelude.{ℕ, ◌+◌, ◌≡◌, ◌≢◌, ◌≤◌, ◌==◌, nat_le, Bool, true, false, ◌&&◌, not, List, [], ◌∷◌, ◌++◌, length, codes, decimal, Option, Some, None}
 use Rattle.std.specs.List.{flat_map, join_with_byte}
 use Rattle.dtx_values.specs.declared.script.Body.{Body}
-use Rattle.dtx_values.specs.declared.script.Body.TheVariants.{Begin, Volatile, Commit}
+use Rattle.dtx_values.specs.declared.script.Body.TheVariants.{Begin, Volatile, Clone, Complete, Commit, Rollback, Status, Await, Tick, Do}
 use Rattle.dtx_values.specs.declared.script.EnlistOption.{EnlistOption}
 use Rattle.dtx_values.specs.declared.script.EnlistOption.TheVariants.{Plain, DuringPrepare}
 use Rattle.dtx_values.specs.declared.script.Line.{Line}
+use Rattle.dtx_values.specs.declared.words.CloneKind.{CloneKind}
+use Rattle.dtx_values.specs.declared.words.CloneKind.TheVariants.{Block, Rollback as RollbackKind}
 use Rattle.dtx_values.specs.declared.words.Timeout.{Timeout}
 use Rattle.dtx_values.specs.declared.words.Timeout.TheVariants.{Default, Milliseconds}
 use Rattle.dtx_values.specs.declared.words.Vote.{Vote}
@@ -22,6 +24,9 @@ transaction_name n = codes "t" ++ decimal n
 abbrev pub enlistment_name : ℕ → List ℕ
 enlistment_name n = codes "e" ++ decimal n
 
+abbrev pub clone_name : ℕ → List ℕ
+clone_name n = codes "c" ++ decimal n
+
 abbrev pub timeout_word : Timeout → List ℕ
 timeout_word Default = codes "default"
 timeout_word (Milliseconds n) = decimal n
@@ -36,11 +41,22 @@ vote_word (Some No) = codes "no"
 vote_word (Some Done) = codes "done"
 vote_word None = codes "silent"
 
+abbrev pub kind_word : CloneKind → List ℕ
+kind_word Block = codes "block"
+kind_word RollbackKind = codes "rollback"
+
 -- the words of a command
 abbrev pub command_words : Body → List (List ℕ)
 command_words (Begin t d) = codes "begin" ∷ transaction_name t.value ∷ timeout_word d ∷ []
 command_words (Volatile t e o v) = codes "volatile" ∷ transaction_name t.value ∷ enlistment_name e.value ∷ option_word o ∷ vote_word v ∷ []
+command_words (Clone t c k) = codes "clone" ∷ transaction_name t.value ∷ clone_name c.value ∷ kind_word k ∷ []
+command_words (Complete c) = codes "complete" ∷ clone_name c.value ∷ []
 command_words (Commit t) = codes "commit" ∷ transaction_name t.value ∷ []
+command_words (Rollback t) = codes "rollback" ∷ transaction_name t.value ∷ []
+command_words (Status t) = codes "status" ∷ transaction_name t.value ∷ []
+command_words (Await t) = codes "await" ∷ transaction_name t.value ∷ []
+command_words (Tick t n) = codes "tick" ∷ transaction_name t.value ∷ decimal n ∷ []
+command_words (Do t k n) = codes "do" ∷ transaction_name t.value ∷ decimal k ∷ decimal n ∷ []
 command_words _ = []
 
 -- the words of a line: its actor and its command
@@ -54,39 +70,62 @@ line_text l = join_with_byte 32 (words l) ++ 10 ∷ []
 abbrev pub script_text : List Line → List ℕ
 script_text s = flat_map line_text s
 
--- the lines that are run: begin, volatile with `none` and the vote yes or done, and commit
+-- the lines that are run: begin, volatile, clone, complete, commit, rollback, status, await, tick and do
 abbrev pub is_run : Body → Bool
 is_run (Begin t d) = true
-is_run (Volatile t e Plain (Some Yes)) = true
-is_run (Volatile t e Plain (Some Done)) = true
+is_run (Volatile t e o v) = true
+is_run (Clone t c k) = true
+is_run (Complete c) = true
 is_run (Commit t) = true
+is_run (Rollback t) = true
+is_run (Status t) = true
+is_run (Await t) = true
+is_run (Tick t n) = true
+is_run (Do t k n) = true
 is_run _ = false
 
--- a timeout is a number up to 4,294,967,295; the types of the other numbers keep their ranges
+-- n is from the first number to the last
+abbrev pub is_from : ℕ → ℕ → ℕ → Bool
+is_from low high n = nat_le low n && nat_le n high
+
+-- a timeout is a number up to 4,294,967,295, a tick from 1 to 1,000,000,000, and a `do` takes a place from 1 to 99 and a number from 1 to
+-- 999; the types of the other numbers keep their ranges
 abbrev pub is_in_range : Body → Bool
 is_in_range (Begin t (Milliseconds n)) = nat_le n 4294967295
+is_in_range (Tick t n) = is_from 1 1000000000 n
+is_in_range (Do t k n) = is_from 1 99 k && is_from 1 999 n
 is_in_range _ = true
 
--- the name of a transaction or an enlistment
+-- the name of a transaction, an enlistment or a clone
 pub data Name : Type 0 where
   OfTransaction : ℕ → Name
   OfEnlistment : ℕ → Name
+  OfClone : ℕ → Name
 
 abbrev pub same_name : Name → Name → Bool
 same_name (OfTransaction n) (OfTransaction m) = n == m
 same_name (OfEnlistment n) (OfEnlistment m) = n == m
+same_name (OfClone n) (OfClone m) = n == m
 same_name _ _ = false
 
 -- the names that a command makes
 abbrev pub makes : Body → List Name
 makes (Begin t d) = OfTransaction t.value ∷ []
 makes (Volatile t e o v) = OfEnlistment e.value ∷ []
+makes (Clone t c k) = OfClone c.value ∷ []
 makes _ = []
 
 -- the names that a command uses
 abbrev pub uses : Body → List Name
 uses (Volatile t e o v) = OfTransaction t.value ∷ []
+uses (Clone t c k) = OfTransaction t.value ∷ []
+uses (Complete c) = OfClone c.value ∷ []
 uses (Commit t) = OfTransaction t.value ∷ []
+uses (Rollback t) = OfTransaction t.value ∷ []
+uses (Status t) = OfTransaction t.value ∷ []
+uses (Await t) = OfTransaction t.value ∷ []
+uses (Tick t n) = OfTransaction t.value ∷ []
+uses (Do t k n) = OfTransaction t.value ∷ []
 uses _ = []
 
 -- a line of these makes the name
@@ -96,6 +135,10 @@ is_made before n = has (λ l. has (λ m. same_name n m) (makes l.body)) before
 -- the line makes names that weren't made before, and uses names that were
 abbrev pub is_named_well : List Line → Line → Bool
 is_named_well before l = each (λ n. not (is_made before n)) (makes l.body) && each (λ n. is_made before n) (uses l.body)
+
+-- each line makes names that weren't made before it, and uses names that were
+abbrev pub are_named_well : List Line → Bool
+are_named_well s = always is_named_well (past_of s)
 
 -- the line has at most 200 bytes before its LF
 abbrev pub is_short : Line → Bool
@@ -108,7 +151,7 @@ pub record IsScript (s : List Line) : Type 0 where
   pub in_range : each (λ l. is_in_range l.body) s ≡ true
   pub short : each is_short s ≡ true
   pub within : length (script_text s) ≤ 1048576
-  pub named : always is_named_well (past_of s) ≡ true
+  pub named : are_named_well s ≡ true
 
 -- Reads: these bytes are this script
 pub record Reads (b : List ℕ) (s : List Line) : Type 0 where

@@ -1,14 +1,15 @@
 -- In which order a replay takes its steps. A trace is read newest first here.
-use Rattle.std.specs.Prelude.{ℕ, suc, ◌≡◌, ◌==◌, nat_le, nat_lt, Bool, true, false, ◌&&◌, ◌||◌, List, [], ◌∷◌, length, map, Option, Some, None, if◌then◌else◌}
+use Rattle.std.specs.Prelude.{ℕ, zero, suc, ◌≡◌, ◌≤◌, ◌<◌, ◌==◌, nat_le, nat_lt, Bool, true, false, ◌&&◌, ◌||◌, List, [], ◌∷◌, length, map, Option, Some, None, if◌then◌else◌}
 use Rattle.dtx_values.specs.declared.number.TxNo.{TxNo}
 use Rattle.dtx_values.specs.declared.number.ActorNo.{ActorNo}
 use Rattle.dtx_values.specs.declared.call.Call.{Call}
+use Rattle.dtx_values.specs.declared.call.Call.TheVariants.{Await, Do}
 use Rattle.dtx_values.specs.declared.entry.Entry.{Entry}
 use Rattle.dtx_values.specs.declared.entry.Entry.TheVariants.{Called}
 use Rattle.dtx_values.specs.declared.script.Line.{Line}
 use Rattle.dtx_values.specs.declared.trace.Place.{Place}
 use Rattle.dtx_values.specs.declared.trace.Place.TheVariants.{Transaction}
-use Rattle.dtx_model.specs.Words.{onto, past_of, put, all_of}
+use Rattle.dtx_model.specs.Words.{kth, onto, past_of, put, all_of}
 use Rattle.dtx_model.specs.Observed.{observe}
 use Rattle.dtx_model.specs.Steps.{Step, Calls, call_of, block, pending}
 use Rattle.dtx_model.specs.Caused.{Settled}
@@ -34,15 +35,34 @@ placed t es = map (λ e. (Transaction t, e)) es
 abbrev pub after_step : TxNo → Step → List Placed → List Placed
 after_step t m T = onto T (placed t (block (observe (history t.value T)) m))
 
--- what line n does: its call
-abbrev pub after_call : Line → ℕ → Option (TxNo × Call) → List Placed → List Placed
-after_call l n (Some c) T = after_step c.0 (Calls n l.actor c.1) T
-after_call l n None T = T
+-- so many steps of t were done behind this trace, each the k-th that was pending
+abbrev pub StepsRan : List Line → TxNo → ℕ → ℕ → List Placed → List Placed → Type 0
+StepsRan s t k zero start T = T ≡ start
+StepsRan s t k (suc m) start T =
+    (past : List Placed) × StepsRan s t k m start past × (step : Step) × (kth (pending s (observe (history t.value past))) k ≡ Some step) × (T ≡ after_step t step past)
+
+-- a `do` that says n times the k-th: so many steps were done, at most n, and fewer only where fewer than k are pending then
+pub record HasDone (s : List Line) (t : TxNo) (k n m : ℕ) (start before : List Placed) : Type 0 where
+  pub ran : StepsRan s t k m start before
+  pub most : m ≤ n
+  pub stopped : m < n → kth (pending s (observe (history t.value before))) k ≡ None
+
+-- an `await`: the first pending step was done until none was left
+pub record HasSettled (s : List Line) (t : TxNo) (m : ℕ) (start before : List Placed) : Type 0 where
+  pub ran : StepsRan s t 1 m start before
+  pub settled : Settled s (history t.value before)
+
+-- what line n does: its call, behind the steps of a `do` or an `await`
+abbrev pub LineRan : List Line → ActorNo → ℕ → Option (TxNo × Call) → List Placed → List Placed → Type 0
+LineRan s a i (Some (t, Do u k n)) start T = (m : ℕ) × (before : List Placed) × HasDone s t k n m start before × (T ≡ after_step t (Calls i a (Do u k n) m) before)
+LineRan s a i (Some (t, Await u)) start T = (m : ℕ) × (before : List Placed) × HasSettled s t m start before × (T ≡ after_step t (Calls i a (Await u) 0) before)
+LineRan s a i (Some (t, c)) start T = T ≡ after_step t (Calls i a c 0) start
+LineRan s a i None start T = T ≡ start
 
 -- the lines, newest first, were run in order, and this is their trace
 abbrev pub LinesRan : List Line → List Line → List Placed → Type 0
 LinesRan s [] T = T ≡ []
-LinesRan s (l ∷ before) T = (past : List Placed) × LinesRan s before past × (T ≡ after_call l (suc (length before)) (call_of s l.body) past)
+LinesRan s (l ∷ before) T = (past : List Placed) × LinesRan s before past × LineRan s l.actor (suc (length before)) (call_of s l.body) past T
 
 -- going round from u, v comes before t
 abbrev pub is_passed : ℕ → ℕ → ℕ → Bool

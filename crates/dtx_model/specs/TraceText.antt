@@ -1,11 +1,11 @@
 -- TraceText in the plain form, for the entries of the lines that are run.
 use Rattle.std.specs.Prelude.{ℕ, suc, List, [], ◌∷◌, ◌++◌, codes, decimal}
 use Rattle.dtx_values.specs.declared.entry.Answer.{Answer}
-use Rattle.dtx_values.specs.declared.entry.Answer.TheVariants.{Fine, NotBegun, Ended, TooLate, Many}
+use Rattle.dtx_values.specs.declared.entry.Answer.TheVariants.{Fine, StillActive, OutcomeIs, StillOpen, Did, NotBegun, Ended, TooLate, Many, NoSuch, Already}
 use Rattle.dtx_values.specs.declared.entry.Ask.{Ask}
 use Rattle.dtx_values.specs.declared.entry.Ask.TheVariants.{Prepare, Promote, Single}
 use Rattle.dtx_values.specs.declared.entry.Entry.{Entry}
-use Rattle.dtx_values.specs.declared.entry.Entry.TheVariants.{Called, Began, Enlisted, CommitAsked, Asked, Voted, Sealed, Decided, Told}
+use Rattle.dtx_values.specs.declared.entry.Entry.TheVariants.{Called, Began, Cloned, Completed, Enlisted, CommitAsked, RollbackAsked, Clock, TimedOut, Late, Asked, Voted, Sealed, Decided, Told}
 use Rattle.dtx_values.specs.declared.entry.Party.{Party}
 use Rattle.dtx_values.specs.declared.entry.Party.TheVariants.{Client, Enl}
 use Rattle.dtx_values.specs.declared.trace.Place.{Place}
@@ -16,7 +16,7 @@ use Rattle.dtx_values.specs.declared.words.Outcome.{Outcome}
 use Rattle.dtx_values.specs.declared.words.Outcome.TheVariants.{Committed, Aborted, InDoubt}
 use Rattle.dtx_values.specs.declared.words.Vote.{Vote}
 use Rattle.dtx_values.specs.declared.words.Vote.TheVariants.{Yes, No, Done}
-use Rattle.dtx_model.specs.Grammar.{actor_name, transaction_name, enlistment_name}
+use Rattle.dtx_model.specs.Grammar.{actor_name, transaction_name, enlistment_name, clone_name, kind_word}
 use Rattle.dtx_model.specs.Replay.{Placed}
 
 abbrev pub place_text : Place → List ℕ
@@ -32,10 +32,16 @@ outcome_text InDoubt = codes "indoubt"
 -- the answers that the lines that are run can have
 abbrev pub answer_text : Answer → List ℕ
 answer_text Fine = codes "ok"
+answer_text StillActive = codes "active"
+answer_text (OutcomeIs x) = outcome_text x
+answer_text StillOpen = codes "open"
+answer_text (Did n) = codes "did " ++ decimal n
 answer_text NotBegun = codes "notbegun"
 answer_text (Ended x) = codes "ended " ++ outcome_text x
 answer_text TooLate = codes "toolate"
 answer_text (Many n) = codes "many " ++ decimal n
+answer_text NoSuch = codes "nosuch"
+answer_text Already = codes "already"
 answer_text _ = []
 
 abbrev pub class_text : Class → List ℕ
@@ -63,8 +69,14 @@ party_text (Enl e) = enlistment_name e.value
 abbrev pub entry_text : Entry → List ℕ
 entry_text (Called n a x) = codes "call " ++ decimal n ++ codes " " ++ actor_name a.value ++ codes " " ++ answer_text x
 entry_text (Began n) = codes "began " ++ decimal n
+entry_text (Cloned c k) = codes "cloned " ++ clone_name c.value ++ codes " " ++ kind_word k
+entry_text (Completed c) = codes "completed " ++ clone_name c.value
 entry_text (Enlisted e c) = codes "enlisted " ++ enlistment_name e.value ++ codes " " ++ class_text c
 entry_text CommitAsked = codes "commit"
+entry_text RollbackAsked = codes "rollback"
+entry_text (Clock n) = codes "clock " ++ decimal n
+entry_text TimedOut = codes "timedout"
+entry_text Late = codes "late"
 entry_text (Asked e a) = codes "ask " ++ enlistment_name e.value ++ codes " " ++ ask_text a
 entry_text (Voted e v) = codes "vote " ++ enlistment_name e.value ++ codes " " ++ cast_vote_text v
 entry_text Sealed = codes "sealed"

@@ -1,5 +1,5 @@
 -- Words on histories. A history is read newest first: `e ∷ past` is the history `past` with e behind it.
-use Rattle.std.specs.Prelude.{Bool, true, false, ◌&&◌, ◌||◌, List, [], ◌∷◌, Option, Some, None}
+use Rattle.std.specs.Prelude.{ℕ, zero, suc, Bool, true, false, ◌&&◌, ◌||◌, List, [], ◌∷◌, Option, Some, None, slice_get}
 use Rattle.std.specs.List.{list_any, list_all}
 
 -- some item passes
@@ -48,3 +48,8 @@ onto past (e ∷ es) = onto (e ∷ past) es
 -- the history whose entries stand in this list, oldest first
 abbrev pub past_of : {E : Type 0} → List E → List E
 past_of xs = onto [] xs
+
+-- the k-th item, from 1
+abbrev pub kth : {A : Type 0} → List A → ℕ → Option A
+kth xs zero = None
+kth xs (suc k) = slice_get xs k

@@ -6,5 +6,8 @@ pub const ENLISTMENTS: usize = 32;
 /// The most durable or promotable enlistments of one transaction, waiting ones counted.
 pub const DURABLES: usize = 16;
 
+/// The most dependent clones of one transaction.
+pub const CLONES: usize = 32;
+
 /// The most entries, and the most messages, that one step makes.
 pub const ROOM: usize = 64;

@@ -1,35 +1,61 @@
-//! The laws over histories: one outcome, completeness, and that a replay is a history. Each is the contract of a public function with an
-//! empty body, so that what calls it has the law.
+//! The laws over histories: one outcome, completeness, what a replay is, and that the tables are the history's. Each is the contract of a
+//! public function with an empty body, so that what calls it has the law.
 #![tactic(auto)]
 
-ghost use Rattle.std.specs.Prelude.{◌≡◌, ℕ, true, List};
+ghost use Rattle.std.specs.Prelude.{◌≡◌, ℕ, true, false, List, ◌∷◌, ◌++◌, Bool, Some, slice_get};
+ghost use Rattle.dtx_values.specs.declared.call.Call.{Call};
 ghost use Rattle.dtx_values.specs.declared.entry.Entry.{Entry};
-ghost use Rattle.dtx_values.specs.declared.script.Line.{Line};
+ghost use Rattle.dtx_values.specs.declared.number.CloneNo.{CloneNo};
+ghost use Rattle.dtx_values.specs.declared.number.EnlNo.{EnlNo};
 ghost use Rattle.dtx_values.specs.declared.number.TxNo.{TxNo};
+ghost use Rattle.dtx_values.specs.declared.row.CloneRow.{CloneRow};
+ghost use Rattle.dtx_values.specs.declared.script.Line.{Line};
+ghost use Rattle.dtx_values.specs.declared.words.Class.{Class};
+ghost use Rattle.dtx_values.specs.declared.words.CloneKind.{CloneKind};
 ghost use Rattle.dtx_values.specs.declared.words.Outcome.TheVariants.{Committed};
-ghost use Rattle.dtx_model.specs.Words.{has, each, past_of};
-ghost use Rattle.dtx_model.specs.Entries.{is_commit, is_client_told};
-ghost use Rattle.dtx_model.specs.Outcome.{justified, agree};
-ghost use Rattle.dtx_model.specs.Caused.{Caused, Settled};
-ghost use Rattle.dtx_model.specs.Replay.{Placed, history, IsReplayed, calls, due_calls};
-ghost use Rattle.dtx_model.specs.Grammar.{is_run};
+ghost use Rattle.dtx_values.specs.Table.{Enlistment};
+ghost use Rattle.dtx_model.specs.Words.{has, each, all_of, past_of};
+ghost use Rattle.dtx_model.specs.Entries.{is_sealed, is_decision, is_client_told, clone_of};
+ghost use Rattle.dtx_model.specs.Outcome.{enlisted, evidence, justified, agree};
+ghost use Rattle.dtx_model.specs.Observed.{observe, rows, clone_rows};
+ghost use Rattle.dtx_model.specs.Seen.{IsSeen, IsCloneSeen};
+ghost use Rattle.dtx_model.specs.Steps.{call_of, is_evident};
+ghost use Rattle.dtx_model.specs.Caused.{Caused, Settled, is_new};
+ghost use Rattle.dtx_model.specs.Replay.{Placed, history, IsReplayed, LinesRan, calls, due_calls};
+ghost use Rattle.dtx_model.specs.History.{CanCommit};
+ghost use Rattle.dtx_model.specs.Grammar.{are_named_well};
 
-/// The law of one outcome, for the histories of scripts of the lines that are run: what is told is just, and no two are told opposite
-/// outcomes. (Presumed abort: a commit is told on evidence alone.)
+/// The law of one outcome: in a history that a script causes, what is told is just, and no two are told opposite outcomes. (Presumed
+/// abort: a commit is told on evidence alone.) Of the script it needs that names are made once, before they are used.
 pub fn one_outcome()
-    ensures just { (s : List Line) (t : ℕ) (h : List Entry) → each (λ l. is_run l.body) s ≡ true → Caused s t h → justified h ≡ true }
-    ensures agrees { (s : List Line) (t : ℕ) (h : List Entry) → each (λ l. is_run l.body) s ≡ true → Caused s t h → agree h ≡ true }
+    ensures just { (s : List Line) (t : ℕ) (h : List Entry) → are_named_well s ≡ true → Caused s t h → justified h ≡ true }
+    ensures agrees { (s : List Line) (t : ℕ) (h : List Entry) → are_named_well s ≡ true → Caused s t h → agree h ≡ true }
 {}
 
-/// A settled transaction of such a script that was asked to commit is committed: its client was told so.
+/// A settled transaction that can commit is committed: its client was told so.
 pub fn completeness()
-    ensures { (s : List Line) (t : ℕ) (h : List Entry) → each (λ l. is_run l.body) s ≡ true → Caused s t h → Settled s h → has is_commit h ≡ true
+    ensures { (s : List Line) (t : ℕ) (h : List Entry) → are_named_well s ≡ true → Caused s t h → Settled s h → CanCommit s h
         → has (is_client_told Committed) h ≡ true }
 {}
 
-/// What a replay does in its order is caused by its script in each transaction, and has each line's call exactly once and in order.
-/// The trace is read newest first.
+/// What a replay does in its order is caused by its script in each transaction, and has each line's call exactly once and in order. What
+/// a line's call makes is new where the lines before it ran. The trace is read newest first.
 pub fn replay()
     ensures caused { (s : List Line) (T : List Placed) → IsReplayed s T → (t : TxNo) → Caused s t.value (history t.value T) }
     ensures called { (s : List Line) (T : List Placed) → IsReplayed s T → calls T ≡ due_calls s (past_of s) }
+    ensures fresh { (s xs ys : List Line) (l : Line) (T : List Placed) (t : TxNo) (c : Call) → s ≡ xs ++ l ∷ ys → are_named_well s ≡ true → LinesRan s (past_of xs) T
+        → call_of s l.body ≡ Some (t, c) → is_new (observe (history t.value T)) c ≡ true }
+{}
+
+/// The tables of a history that a script causes say what its entries say: of each enlistment, of each clone, and whether evidence stands
+/// while nothing is decided.
+pub fn tables()
+    ensures enlisted { (h : List Entry) (f : EnlNo → Class → Bool) → each (λ x. f x.0 x.1.class) (rows h) ≡ each (λ x. f x.0 x.1) (enlisted h) }
+    ensures cloned { (h : List Entry) (f : CloneNo → CloneKind → Bool) → each (λ r. f r.clone r.kind) (clone_rows h) ≡ each (λ c. f c.0 c.1) (all_of clone_of h) }
+    ensures rows { (s : List Line) (t : ℕ) (h : List Entry) → are_named_well s ≡ true → Caused s t h
+        → (k : ℕ) (x : Enlistment) → slice_get (rows h) k ≡ Some x → IsSeen h x }
+    ensures clones { (s : List Line) (t : ℕ) (h : List Entry) → are_named_well s ≡ true → Caused s t h
+        → (k : ℕ) (r : CloneRow) → slice_get (clone_rows h) k ≡ Some r → IsCloneSeen h r }
+    ensures evidence { (s : List Line) (t : ℕ) (h : List Entry) → are_named_well s ≡ true → Caused s t h → has is_decision h ≡ false
+        → is_evident (has is_sealed h) (rows h) ≡ evidence h }
 {}

@@ -1,0 +1,10 @@
+//! The dependent clones of one transaction (`DependentClone` of System.Transactions). No call but the constructor takes memory.
+#![tactic(auto)]
+
+mod clones;
+mod refusal;
+#[cfg(test)]
+mod tests;
+
+pub use clones::Clones;
+pub use refusal::CloneRefusal;

@@ -1,0 +1,41 @@
+-- What a history shows of one enlistment and of one clone, entry by entry, beside the rows of the tables.
+use Rattle.std.specs.Prelude.{ℕ, ◌≡◌, ◌==◌, Bool, List, [], ◌∷◌, Option, Some, None, if◌then◌else◌}
+use Rattle.dtx_values.specs.declared.number.EnlNo.{EnlNo}
+use Rattle.dtx_values.specs.declared.entry.Ask.TheVariants.{Prepare}
+use Rattle.dtx_values.specs.declared.entry.Entry.{Entry}
+use Rattle.dtx_values.specs.declared.entry.Entry.TheVariants.{Asked, Enlisted, Voted}
+use Rattle.dtx_values.specs.declared.row.CloneRow.{CloneRow}
+use Rattle.dtx_values.specs.declared.words.Vote.{Vote}
+use Rattle.dtx_values.specs.Table.{Enlistment, is_marked, voted_before}
+use Rattle.dtx_model.specs.Words.{has, each, latest, all_of}
+use Rattle.dtx_model.specs.Entries.{is_asked, is_vote, is_completed}
+use Rattle.dtx_model.specs.Observed.{rows}
+
+abbrev pub asked_of : Entry → Option EnlNo
+asked_of (Asked e Prepare) = Some e
+asked_of _ = None
+
+-- who was asked to prepare before this enlistment came
+abbrev pub asked_before : ℕ → List Entry → List EnlNo
+asked_before e [] = []
+asked_before e (Enlisted f c ∷ past) = if e == f.value then all_of asked_of past else asked_before e past
+asked_before e (x ∷ past) = asked_before e past
+
+-- each that was asked to prepare before this enlistment came voted
+abbrev pub waited_for : List Entry → ℕ → Bool
+waited_for h e = each (λ f. has (is_vote f.value) h) (asked_before e h)
+
+abbrev pub vote_of : ℕ → Entry → Option Vote
+vote_of e (Voted f v) = if e == f.value then Some v else None
+vote_of e _ = None
+
+-- the row says what the history shows of its enlistment: whether it was asked to prepare, its vote, and whether each that was asked
+-- before it came voted
+pub record IsSeen (h : List Entry) (x : Enlistment) : Type 0 where
+  pub marked : is_marked x ≡ has (is_asked x.0.value) h
+  pub voted : x.1.vote ≡ latest (vote_of x.0.value) h
+  pub waited : voted_before x.1.added (rows h) ≡ waited_for h x.0.value
+
+-- the row says whether its clone was completed
+abbrev pub IsCloneSeen : List Entry → CloneRow → Type 0
+IsCloneSeen h r = r.complete ≡ has (is_completed r.clone.value) h

@@ -1,0 +1,71 @@
+-- What must stand before each entry: the table of which entries come where, for the commands that are run.
+use Rattle.std.proofs.Common.{◌≡◌, ℕ, ◌==◌, Bool, true, false, ◌&&◌, ◌||◌, List, [], ◌∷◌, Option, Some, None, refl}
+use Rattle.std.specs.Prelude.{not}
+use Rattle.dtx_values.specs.declared.entry.Ask.TheVariants.{Prepare}
+use Rattle.dtx_values.specs.declared.entry.Entry.{Entry}
+use Rattle.dtx_values.specs.declared.entry.Entry.TheVariants.{Called, Began, Cloned, Completed, Enlisted, CommitAsked, RollbackAsked, Clock, TimedOut, Late, Asked, Voted, Sealed, Decided, Told}
+use Rattle.dtx_values.specs.declared.entry.Party.TheVariants.{Client}
+use Rattle.dtx_values.specs.declared.words.Outcome.{Outcome}
+use Rattle.dtx_values.specs.declared.words.Outcome.TheVariants.{Committed, Aborted, InDoubt}
+use Rattle.dtx_model.specs.Words.{has, each, always, latest, all_of}
+use Rattle.dtx_model.specs.Entries.{same_outcome, is_commit, is_sealed, is_volatile, clone_of, is_asked, is_vote, decision_of, is_decision}
+use Rattle.dtx_model.specs.Outcome.{enlisted, is_complete, may_tell}
+use Rattle.dtx_model.specs.Waves.{is_zero}
+use Rattle.dtx_model.proofs.Bools.{and_left, and_right}
+
+abbrev pub is_enlisted : ℕ → Entry → Bool
+is_enlisted e (Enlisted f c) = e == f.value
+is_enlisted e _ = false
+
+abbrev pub is_cloned : ℕ → Entry → Bool
+is_cloned c (Cloned d k) = c == d.value
+is_cloned c _ = false
+
+-- each clone is complete
+abbrev pub all_complete : List Entry → Bool
+all_complete h = each (λ c. is_complete h c) (all_of clone_of h)
+
+-- each Zero enlistment voted
+abbrev pub zeros_cast : List Entry → Bool
+zeros_cast h = each (λ x. not (is_zero x.1) || has (is_vote x.0.value) h) (enlisted h)
+
+-- this outcome was decided
+abbrev pub is_decided : Outcome → Option Outcome → Bool
+is_decided x (Some y) = same_outcome x y
+is_decided x None = false
+
+-- the outcomes that are told without doubt
+abbrev pub is_certain : Outcome → Bool
+is_certain InDoubt = false
+is_certain _ = true
+
+-- the rule of each entry. What has no rule doesn't come.
+abbrev pub rule : List Entry → Entry → Bool
+rule h (Called n a x) = true
+rule h (Began d) = true
+rule h (Clock n) = true
+rule h Late = true
+rule h TimedOut = true
+rule h RollbackAsked = true
+rule h (Enlisted e c) = not (has is_decision h) && not (has is_sealed h) && not (has (is_enlisted e.value) h) && is_volatile c
+rule h (Cloned c k) = not (has is_decision h) && not (has is_commit h) && not (has (is_cloned c.value) h)
+rule h (Completed c) = not (has is_decision h) && has (is_cloned c.value) h
+rule h CommitAsked = not (has is_decision h) && not (has is_commit h)
+rule h (Asked e Prepare) = not (has is_decision h) && has is_commit h && has (is_enlisted e.value) h && not (has (is_asked e.value) h)
+rule h (Voted e v) = not (has is_decision h) && has (is_enlisted e.value) h && has (is_asked e.value) h && not (has (is_vote e.value) h)
+rule h Sealed = not (has is_decision h) && has is_commit h && all_complete h && zeros_cast h
+rule h (Decided x) = not (has is_decision h) && is_certain x && may_tell h Client x
+rule h (Told p x) = is_certain x && is_decided x (latest decision_of h)
+rule h _ = false
+
+-- each entry keeps its rule
+abbrev pub ruled : List Entry → Bool
+ruled h = always rule h
+
+-- the newest entry keeps its rule
+pub first_rule : (x : Entry) (h : List Entry) → ruled (x ∷ h) ≡ true → rule h x ≡ true
+first_rule x h r = and_left (rule h x) (ruled h) r
+
+-- the entries before the newest keep theirs
+pub other_rules : (x : Entry) (h : List Entry) → ruled (x ∷ h) ≡ true → ruled h ≡ true
+other_rules x h r = and_right (rule h x) (ruled h) r

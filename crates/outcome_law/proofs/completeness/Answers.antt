@@ -1,6 +1,0 @@
-use Rattle.outcome_law.proofs.Blocks.{caused_ruled}
-use Rattle.outcome_law.proofs.Settled.{settled_committed}
-use Rattle.outcome_law.proofs.completeness.Goals as goal
-
-pub returns : goal.returns
-returns c = λ s t h run r e k. settled_committed s h (caused_ruled s t h run r) e k
