@@ -13,12 +13,12 @@ abbrev pub AreWords : List (List ℕ) → Type 0
 AreWords ws = ws ≡ codes "replay" ∷ []
 
 -- T is a settled history of the script s that the source gave: what is told is just, nobody is told the opposite of what another is told, and
--- each transaction that was asked to commit is committed. Where the source tells its bytes, they are that script.
+-- each transaction that can commit is committed. Where the source tells its bytes, they are that script.
 pub record IsReplayOf (given : Option (List ℕ)) (s : List Line) (T : List Placed) : Type 0 where
   pub read : ForSome given (λ b. Reads b s)
   pub history : IsHistory s T
   pub outcome : HasOneOutcome T
-  pub complete : IsComplete T
+  pub complete : IsComplete s T
 
 -- the headline: there is a trace, a settled history of the script with one outcome for each transaction, and the sink, where it tells what was
 -- written, gained exactly its text

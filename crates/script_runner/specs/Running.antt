@@ -1,11 +1,11 @@
 -- A replay under way.
-use Rattle.std.specs.Prelude.{ℕ, ◌-◌, ◌<◌, ◌≤◌, ◌≡◌, List, ◌∷◌, length, Some, slice_get}
+use Rattle.std.specs.Prelude.{ℕ, ◌-◌, ◌<◌, ◌≤◌, ◌≡◌, List, length, Some, slice_get}
 use Rattle.dtx_values.specs.declared.number.TxNo.{TxNo}
 use Rattle.dtx_values.specs.declared.script.Line.{Line}
-use Rattle.dtx_model.specs.Words.{past_of}
+use Rattle.dtx_model.specs.Words.{kth, past_of}
 use Rattle.dtx_model.specs.Observed.{Observed, observe}
 use Rattle.dtx_model.specs.Caused.{Settled}
-use Rattle.dtx_model.specs.Replay.{Placed, RoundsRan, history, after_step, last_turn}
+use Rattle.dtx_model.specs.Replay.{Placed, HasSettled, RoundsRan, StepsRan, history, after_step, last_turn}
 use Rattle.dtx_model.specs.Steps.{Step, pending}
 
 pub record Running : Type 0 where
@@ -17,16 +17,24 @@ pub record AreTied (machines : List Observed) (trace : List Placed) : Type 0 whe
   pub many : length machines ≡ 256
   pub ties : (t : TxNo) → slice_get machines (t.value - 1) ≡ Some (observe (history t.value (past_of trace)))
 
--- the first pending step of t was done
-pub record Advances (s : List Line) (t : TxNo) (old new : List Placed) : Type 0 where
+-- the k-th pending step of t was done
+pub record Advances (s : List Line) (t : TxNo) (k : ℕ) (old new : List Placed) : Type 0 where
   pub step : Step
-  pub others : List Step
-  pub first : pending s (observe (history t.value (past_of old))) ≡ step ∷ others
+  pub stands : kth (pending s (observe (history t.value (past_of old)))) k ≡ Some step
   pub done : past_of new ≡ after_step t step (past_of old)
 
--- in rounds that began behind these entries, the transactions below t are settled, and no turn of one above t came yet
-pub record IsSettledBelow (s : List Line) (start : List Placed) (t : ℕ) (trace : List Placed) : Type 0 where
+-- so many steps of t were done, each the k-th that was pending
+abbrev pub StepsDone : List Line → TxNo → ℕ → ℕ → List Placed → List Placed → Type 0
+StepsDone s t k m old new = StepsRan s t k m (past_of old) (past_of new)
+
+-- the first pending step of t was done until none was left
+abbrev pub Settles : List Line → TxNo → List Placed → List Placed → Type 0
+Settles s t old new = (m : ℕ) × HasSettled s t m (past_of old) (past_of new)
+
+-- in rounds that began behind these entries, the transactions below t are settled, and no turn of one above t came yet; the trace is read
+-- newest first
+pub record IsSettledBelow (s : List Line) (start : List Placed) (t : ℕ) (T : List Placed) : Type 0 where
   pub turns : List (TxNo × Step)
-  pub rounds : RoundsRan s start turns (past_of trace)
+  pub rounds : RoundsRan s start turns T
   pub reached : last_turn turns ≤ t
-  pub below : (v : TxNo) → v.value < t → Settled s (history v.value (past_of trace))
+  pub below : (v : TxNo) → v.value < t → Settled s (history v.value T)

@@ -2,15 +2,16 @@
 #![tactic(auto)]
 
 mod draft;
+mod due;
 mod exit;
 mod lines;
+mod listeners;
 mod machine;
 mod plans;
 mod printer;
 mod program;
 mod reader;
 mod replay;
-mod rows;
 mod tail;
 #[cfg(test)]
 mod tests;

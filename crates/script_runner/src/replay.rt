@@ -1,15 +1,16 @@
 //! A replay: the lines in order, and then the rounds at the end.
-ghost use Rattle.std.specs.Prelude.{◌≡◌, ◌≤◌, ◌+◌, List, [], ◌++◌, IfOk, OnOk, Ok, true, false, length, replicate, vec_len, vec_capacity};
+ghost use Rattle.std.specs.Prelude.{◌≡◌, ◌≤◌, ◌+◌, List, [], ◌++◌, IfOk, OnErr, OnOk, None, Ok, Some, true, false, length, replicate, vec_len, vec_capacity};
+ghost use Rattle.dtx_values.specs.declared.call.Call.{Call};
 ghost use Rattle.dtx_values.specs.declared.number.TxNo.{TxNo};
 ghost use Rattle.dtx_values.specs.declared.script.Line.{Line};
-ghost use Rattle.dtx_model.specs.Words.{past_of};
+ghost use Rattle.dtx_model.specs.Words.{kth, past_of};
 ghost use Rattle.dtx_model.specs.Observed.{observe};
-ghost use Rattle.dtx_model.specs.Steps.{Calls, call_of};
-ghost use Rattle.dtx_model.specs.Caused.{Settled};
-ghost use Rattle.dtx_model.specs.Replay.{IsReplayed, LinesRan, Placed, after_call, after_step, history, placed};
+ghost use Rattle.dtx_model.specs.Steps.{Calls, call_of, pending};
+ghost use Rattle.dtx_model.specs.Caused.{Settled, is_new};
+ghost use Rattle.dtx_model.specs.Replay.{HasDone, IsReplayed, LineRan, LinesRan, Placed, after_step, history, placed};
 ghost use Rattle.dtx_model.specs.History.{HasOneOutcome, IsComplete, IsHistory};
 ghost use Rattle.dtx_model.specs.Grammar.{IsScript};
-ghost use Rattle.script_runner.specs.Running.{Advances, IsSettledBelow};
+ghost use Rattle.script_runner.specs.Running.{Advances, IsSettledBelow, Settles};
 
 use crate::machine::Machine;
 use crate::plans::Plans;
@@ -77,43 +78,58 @@ impl<'a> Run<'a> {
         })
     }
 
-    /// Does the call that line n gives transaction t.
-    fn call(&mut self, n: u32, actor: ActorNo, t: TxNo, c: &Call) -> Result<(), AllocError>
+    /// Does the call that line n gives transaction t, for which so many steps were done.
+    fn call(&mut self, n: u32, actor: ActorNo, t: TxNo, c: &Call, done: u16) -> Result<(), AllocError>
+        requires { is_new (observe (history t.value (past_of self.old.trace))) c.now ≡ true }
         ensures script { self.new.script ≡ self.old.script }
-        ensures done { OnOk result (past_of self.new.trace ≡ after_step t (Calls n actor c.now) (past_of self.old.trace)) }
+        ensures done { OnOk result (past_of self.new.trace ≡ after_step t (Calls n actor c.now done) (past_of self.old.trace)) }
     {
         self.trace.reserve(ROOM)?;
         self.out.clear();
         let machine = &mut self.machines[t.get() as usize - 1];
-        machine.call(actor, n, c, &mut self.out);
+        machine.call(actor, n, c, done, &mut self.out);
         append(&mut self.trace, t, self.out.entries());
         Ok(())
     }
 
-    /// Does the first pending step of transaction t; false where none is.
-    fn advance(&mut self, t: TxNo) -> Result<bool, AllocError>
+    /// Does the k-th pending step of transaction t; false where fewer than k are pending.
+    fn step(&mut self, t: TxNo, k: u8) -> Result<bool, AllocError>
         ensures script { self.new.script ≡ self.old.script }
-        ensures some { result ≡ Ok true → Advances self.old.script t self.old.trace self.new.trace }
-        ensures none { result ≡ Ok false → Settled self.old.script (history t.value (past_of self.old.trace)) }
+        ensures some { result ≡ Ok true → Advances self.old.script t k self.old.trace self.new.trace }
+        ensures none { result ≡ Ok false → kth (pending self.old.script (observe (history t.value (past_of self.old.trace)))) k ≡ None }
         ensures unchanged { result ≡ Ok false → self.new ≡ self.old }
+        ensures memory { OnErr result (self.new ≡ self.old) }
     {
         self.trace.reserve(ROOM)?;
         self.out.clear();
         let machine = &mut self.machines[t.get() as usize - 1];
-        if !machine.advance(&self.plans, &mut self.out) {
+        if !machine.step(&self.plans, k, &mut self.out) {
             return Ok(false);
         }
         append(&mut self.trace, t, self.out.entries());
         Ok(true)
     }
 
+    /// Does the k-th pending step of transaction t, n times, and stops where there are fewer; how often it did.
+    fn steps(&mut self, t: TxNo, k: u8, n: u16) -> Result<u16, AllocError>
+        ensures script { self.new.script ≡ self.old.script }
+        ensures done { IfOk result (λ m. HasDone self.old.script t k n m (past_of self.old.trace) (past_of self.new.trace)) }
+    {
+        for m in 0..n {
+            if !self.step(t, k)? {
+                return Ok(m);
+            }
+        }
+        Ok(n)
+    }
+
     /// Does the pending steps of transaction t, each time the first, until none is left.
     fn settle(&mut self, t: TxNo) -> Result<(), AllocError>
         ensures script { self.new.script ≡ self.old.script }
-        ensures settled { OnOk result ((start : List Placed) → IsSettledBelow self.old.script start t.value self.old.trace → IsSettledBelow self.old.script start (t.value + 1) self.new.trace) }
+        ensures settled { OnOk result (Settles self.old.script t self.old.trace self.new.trace) }
     {
         loop {
-            if !self.advance(t)? {
+            if !self.step(t, 1)? {
                 return Ok(());
             }
         }
@@ -131,13 +147,24 @@ impl<'a> Run<'a> {
         Ok(())
     }
 
-    /// Does what line n does: its call.
+    /// Does what line n does: its call, behind the steps of a `do` or an `await`.
     fn line(&mut self, n: u32, l: &Line) -> Result<(), AllocError>
+        requires { (t : TxNo) (c : Call) → call_of self.old.script l.now.body ≡ Some (t, c) → is_new (observe (history t.value (past_of self.old.trace))) c ≡ true }
         ensures script { self.new.script ≡ self.old.script }
-        ensures done { OnOk result (past_of self.new.trace ≡ after_call l.now n (call_of self.old.script l.now.body) (past_of self.old.trace)) }
+        ensures done { OnOk result (LineRan self.old.script l.now.actor n (call_of self.old.script l.now.body) (past_of self.old.trace) (past_of self.new.trace)) }
     {
-        match call_of(l.body) {
-            Some((t, c)) => self.call(n, l.actor, t, &c),
+        match call_of(&self.plans, l.body) {
+            Some((t, c)) => match c {
+                Call::Do(_, k, times) => {
+                    let done = self.steps(t, k, times)?;
+                    self.call(n, l.actor, t, &c, done)
+                }
+                Call::Await(_) => {
+                    self.settle(t)?;
+                    self.call(n, l.actor, t, &c, 0)
+                }
+                _ => self.call(n, l.actor, t, &c, 0),
+            },
             None => Ok(()),
         }
     }
@@ -145,10 +172,11 @@ impl<'a> Run<'a> {
     /// Runs the lines in order.
     fn lines(&mut self) -> Result<(), AllocError>
         requires start { self.old.trace ≡ [] }
-        requires few { length self.old.script ≤ 1048576 }
+        requires script { IsScript self.old.script }
         ensures script { self.new.script ≡ self.old.script }
         ensures ran { OnOk result (LinesRan self.old.script (past_of self.old.script) (past_of self.new.trace)) }
     {
+        replay();
         let lines = self.plans.lines();
         let mut n = 0;
         for l in lines {
@@ -167,20 +195,27 @@ impl<'a> Run<'a> {
 }
 
 /// The transaction that a line calls, and the call.
-fn call_of(body: Body) -> Option<(TxNo, Call)>
-    ensures { (s : List Line) → result ≡ call_of s body }
+fn call_of(plans: &Plans, body: Body) -> Option<(TxNo, Call)>
+    ensures { result ≡ call_of plans.now body }
 {
     match body {
         Body::Begin(t, d) => Some((t, Call::Begin(t, d))),
         Body::Volatile(t, e, o, v) => Some((t, Call::Volatile(t, e, o, v))),
+        Body::Clone(t, c, k) => Some((t, Call::Clone(t, c, k))),
+        Body::Complete(c) => Some((plans.transaction(c)?, Call::Complete(c))),
         Body::Commit(t) => Some((t, Call::Commit(t))),
+        Body::Rollback(t) => Some((t, Call::Rollback(t))),
+        Body::Status(t) => Some((t, Call::Status(t))),
+        Body::Await(t) => Some((t, Call::Await(t))),
+        Body::Tick(t, n) => Some((t, Call::Tick(t, n))),
+        Body::Do(t, k, n) => Some((t, Call::Do(t, k, n))),
         _ => None,
     }
 }
 
 /// The trace of what the lines do in order, and of the rounds behind them.
 fn trace_of(alloc: Global, lines: &[Line]) -> Result<Trace, AllocError>
-    requires { length lines.now ≤ 1048576 }
+    requires { IsScript lines.now }
     ensures replayed { IfOk result (λ T. IsReplayed lines.now (past_of T)) }
     ensures settled { IfOk result (λ T. (t : TxNo) → Settled lines.now (history t.value (past_of T))) }
 {
@@ -199,7 +234,7 @@ pub fn run_replay(alloc: Global, s: &Script) -> Result<Trace, AllocError>
     requires { IsScript s.now }
     ensures history { IfOk result (λ T. IsHistory s.now T) }
     ensures outcome { IfOk result (λ T. HasOneOutcome T) }
-    ensures complete { IfOk result (λ T. IsComplete T) }
+    ensures complete { IfOk result (λ T. IsComplete s.now T) }
 {
     one_outcome();
     completeness();
