@@ -3,6 +3,9 @@
 //! TraceText. `docs/DEFINITIONS.md` says each of them in words.
 #![tactic(auto)]
 
+mod entries;
+mod messages;
 mod row;
+mod scans;
 
 pub use row::Row;
