@@ -1,2 +1,4 @@
 pub mod Bools
 pub mod Histories
+pub mod Reading
+pub mod Prefixes

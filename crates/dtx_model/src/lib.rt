@@ -4,8 +4,12 @@
 #![tactic(auto)]
 
 mod entries;
+mod doubt;
+mod evidence;
+pub mod judge;
 mod messages;
 mod row;
 mod scans;
+mod veto;
 
 pub use row::Row;

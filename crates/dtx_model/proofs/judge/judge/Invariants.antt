@@ -1,0 +1,5 @@
+use Rattle.dtx_model.specs.Judge.{IsGoodTo}
+use Rattle.dtx_model.proofs.judge.judge.Given as goal
+
+abbrev pub invariant-loop-i : goal.invariant-loop-i
+invariant-loop-i l = IsGoodTo l.h l.i
