@@ -2,3 +2,4 @@ pub mod Bools
 pub mod Histories
 pub mod Reading
 pub mod Prefixes
+pub mod Faults

@@ -100,14 +100,6 @@ has-volatile p xs = has_past_item volatiles p (some_by_entry enlisted_of (λ x. 
 pub each-durable : (p : EnlNo × Class → Bool) (xs : List Entry) → each p (durables (past_of xs)) ≡ each (λ x. each p (durables (x ∷ []))) xs
 each-durable p xs = each_past_item durables p (some_by_entry enlisted_of (λ x. not (is_volatile x.1))) xs
 
-get-append : {A : Type 0} (xs ys : List A) → slice_get (xs ++ ys) 0 ≡ or_else (slice_get xs 0) (slice_get ys 0)
-get-append [] ys = refl
-get-append (x ∷ xs) ys = refl
-
--- the newest durable is the newest entry's, else that of what stands before
-pub newest_durable : (x : Entry) (past : List Entry) → slice_get (durables (x ∷ past)) 0 ≡ or_else (slice_get (durables (x ∷ [])) 0) (slice_get (durables past) 0)
-newest_durable x past = ap (λ ds. slice_get ds 0) ((some_by_entry enlisted_of (λ d. not (is_volatile d.1))).more x past) ∙ get-append (durables (x ∷ [])) (durables past)
-
 -- the voters are the volatiles, and behind a promotion the durables too
 pub each-voter : (p : EnlNo × Class → Bool) (h : List Entry) → each p (voters h) ≡ (if has is_promoted h then each p (volatiles h) && each p (durables h) else each p (volatiles h))
 each-voter p h = elim (has is_promoted h) as (λ b. each p (cond b (volatiles h ++ durables h) (volatiles h)) ≡ cond b (each p (volatiles h) && each p (durables h)) (each p (volatiles h))) [ true ↦ list_all-append p (volatiles h) (durables h) | false ↦ refl ]
@@ -117,6 +109,7 @@ owner_of : (h : List Entry) (x z : EnlNo × Class) (zs : List (EnlNo × Class)) 
     → owner_committed h (z ∷ zs) ≡ (each (λ y. x.0.value == y.0.value) (z ∷ zs) && can_own x.1 && has (is_hand x.0.value) h && has (is_owner x.0.value Committed) h)
 owner_of h x z zs e = subst (λ (w : EnlNo × Class). owner_committed h (z ∷ zs) ≡ (each (λ y. w.0.value == y.0.value) (z ∷ zs) && can_own w.1 && has (is_hand w.0.value) h && has (is_owner w.0.value Committed) h)) e (rw (eq-eqb z.0.value z.0.value refl) refl)
 
+-- the one durable that is in question, by the one that was enlisted last
 pub owner-first : (h : List Entry) (ds : List (EnlNo × Class)) (x : EnlNo × Class) → slice_get ds 0 ≡ Some x
     → owner_committed h ds ≡ (each (λ y. x.0.value == y.0.value) ds && can_own x.1 && has (is_hand x.0.value) h && has (is_owner x.0.value Committed) h)
 owner-first h [] x e = absurd cc
@@ -125,7 +118,5 @@ owner-first h (z ∷ zs) x e = owner_of h x z zs cc
 pub no_owner : (h : List Entry) (ds : List (EnlNo × Class)) → slice_get ds 0 ≡ None → owner_committed h ds ≡ false
 no_owner h [] e = refl
 no_owner h (z ∷ zs) e = absurd cc
-
-pub ruleset owning = (owner-first, no_owner)
 
 pub ruleset reading = (has-past, each-clone, has-clone, has-handed, each-volatile, has-volatile, each-durable, each-voter)

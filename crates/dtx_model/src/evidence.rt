@@ -185,7 +185,7 @@ fn is_owner_committed(h: &[Entry], e: EnlNo, c: Class) -> bool
 }
 
 /// Whether the one durable or promotable can own the commit, was handed it and answered committed.
-#[tactic(auto, using(crate::proofs::Reading::owning))]
+#[tactic(auto, using(crate::proofs::Reading::no_owner))]
 fn has_owner_committed(h: &[Entry]) -> bool
     ensures { result ≡ owner_committed (past_of h.now) (durables (past_of h.now)) }
 {

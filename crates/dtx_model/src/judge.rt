@@ -91,3 +91,42 @@ pub fn judge(h: &[Entry]) -> Verdict
     }
     Verdict::Fine
 }
+
+#[cfg(test)]
+mod tests {
+    use super::*;
+    use dtx_values::{Ask, Cause, Class, CloneKind, CloneNo, Conn, Dir, EnlNo, Message, Vote};
+    use std::test::Fail;
+
+    #[test]
+    fn judges_histories(rt: HostRuntime) -> Result<(), Fail> {
+        let e1 = EnlNo::new(1).unwrap();
+        let c1 = CloneNo::new(1).unwrap();
+        let committed = Outcome::Committed;
+        let aborted = Outcome::Aborted;
+        let in_doubt = Outcome::InDoubt;
+        let client = Party::Client;
+        let cases: [(&[Entry], Verdict); 3] = [
+            (&[], Verdict::Fine),
+            (&[Entry::Told(client, committed)], Verdict::NotJustified(0)),
+            (
+                &[
+                    Entry::Began(60_000),
+                    Entry::Enlisted(e1, Class::One),
+                    Entry::CommitAsked,
+                    Entry::Sealed,
+                    Entry::Asked(e1, Ask::Prepare),
+                    Entry::Voted(e1, Vote::Yes),
+                    Entry::Decided(committed),
+                    Entry::Told(Party::Enl(e1), committed),
+                    Entry::Told(client, committed),
+                ],
+                Verdict::Fine,
+            ),
+        ];
+        for (h, want) in cases {
+            assert_eq!(rt; judge(h), want);
+        }
+        Ok(())
+    }
+}

@@ -1,4 +1,4 @@
-use Rattle.dtx_model.specs.Judge.{IsGoodTo}
+use Rattle.dtx_model.proofs.Faults.{IsGoodTo}
 use Rattle.dtx_model.proofs.judge.judge.Given as goal
 
 abbrev pub invariant-loop-i : goal.invariant-loop-i
