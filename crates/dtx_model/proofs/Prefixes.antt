@@ -1,5 +1,5 @@
 -- What a history that is kept oldest first shows up to an entry.
-use Rattle.std.proofs.Common.{◌≡◌, ℕ, ◌+◌, ◌<◌, Bool, true, false, ◌&&◌, ◌||◌, not, ◌⊎◌, inl, inr, List, [], ◌∷◌, ◌++◌, length, get_or, take, drop, refl, ap, sym, ◌∙◌, add-one, drop-cons}
+use Rattle.std.proofs.Common.{◌≡◌, ℕ, ◌+◌, ◌<◌, Bool, true, false, ◌&&◌, not, ◌⊎◌, inl, inr, List, [], ◌∷◌, length, get_or, take, drop, refl, ap, sym, ◌∙◌}
 use Rattle.std.proofs.lemmas.List.{take_more, take-append-drop}
 use Rattle.dtx_values.specs.declared.entry.Entry.{Entry}
 use Rattle.dtx_values.specs.declared.words.Outcome.TheVariants.{Committed, Aborted}
@@ -67,9 +67,9 @@ decided_twice false = refl
 disagree-onto : (h xs : List Entry) → agree h ≡ false → agree (onto h xs) ≡ false
 unfolding agree
 disagree-onto h xs k = elim (disagreed (has (is_final Committed) h) (has (is_final Aborted) h) (ever is_decided_again h) k) [
-    inl p ↦ rw (has-onto (is_final Committed) h xs p.0, has-onto (is_final Aborted) h xs p.1) refl
+  | inl p ↦ rw (has-onto (is_final Committed) h xs p.0, has-onto (is_final Aborted) h xs p.1) refl
   | inr q ↦ rw (ever-onto is_decided_again h xs q) (decided_twice _)
-  ]
+]
 
 -- where the first i entries disagree, the history does
 pub disagree-later : (xs : List Entry) (i : ℕ) → agree (past_of (take i xs)) ≡ false → agree (past_of xs) ≡ false

@@ -1,6 +1,6 @@
 -- Questions on a history that is kept oldest first.
-use Rattle.std.proofs.Common.{◌≡◌, ℕ, Bool, true, false, cond, ◌==◌, ◌&&◌, ◌||◌, not, List, [], ◌∷◌, ◌++◌, Option, Some, None, slice_get, if◌then◌else◌, refl, ap, sym, subst, ◌∙◌}
-use Rattle.std.specs.List.{list_any, list_all, filter}
+use Rattle.std.proofs.Common.{◌≡◌, Bool, true, false, cond, ◌==◌, ◌&&◌, ◌||◌, not, List, [], ◌∷◌, ◌++◌, Option, Some, None, slice_get, if◌then◌else◌, refl, ap, subst, ◌∙◌}
+use Rattle.std.specs.List.{filter}
 use Rattle.std.proofs.lemmas.Bool.{eq-eqb}
 use Rattle.std.proofs.lemmas.List.Folds.{list_all-append, list_any-append}
 use Rattle.dtx_values.specs.declared.number.CloneNo.{CloneNo}
@@ -9,7 +9,7 @@ use Rattle.dtx_values.specs.declared.entry.Entry.{Entry}
 use Rattle.dtx_values.specs.declared.words.Class.{Class}
 use Rattle.dtx_values.specs.declared.words.CloneKind.{CloneKind}
 use Rattle.dtx_values.specs.declared.words.Outcome.TheVariants.{Committed}
-use Rattle.dtx_model.specs.Words.{has, each, or_else, onto, past_of, put, all_of}
+use Rattle.dtx_model.specs.Words.{has, each, onto, past_of, put, all_of}
 use Rattle.dtx_model.specs.Entries.{is_promoted, is_hand, is_owner, is_volatile, enlisted_of, clone_of, handed_of}
 use Rattle.dtx_model.specs.Outcome.{volatiles, durables, voters, can_own, owner_committed}
 

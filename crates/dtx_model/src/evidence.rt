@@ -127,13 +127,7 @@ fn newer_durable(x: &Entry, older: Option<(EnlNo, Class)>) -> Option<(EnlNo, Cla
     ensures { result ≡ or_else (slice_get (durables (x.now ∷ [])) 0) older }
 {
     match *x {
-        Entry::Enlisted(e, c) => {
-            if is_volatile(c) {
-                older
-            } else {
-                Some((e, c))
-            }
-        }
+        Entry::Enlisted(e, c) => { if is_volatile(c) { older } else { Some((e, c)) } }
         _ => older,
     }
 }
@@ -178,10 +172,7 @@ fn is_only_durable(h: &[Entry], e: EnlNo) -> bool
 fn is_owner_committed(h: &[Entry], e: EnlNo, c: Class) -> bool
     ensures { result ≡ (each (λ y. e.value == y.0.value) (durables (past_of h.now)) && can_own c && has (is_hand e.value) (past_of h.now) && has (is_owner e.value Committed) (past_of h.now)) }
 {
-    is_only_durable(h, e)
-        && can_own(c)
-        && has_hand(h, e)
-        && has_owner(h, e, Outcome::Committed)
+    is_only_durable(h, e) && can_own(c) && has_hand(h, e) && has_owner(h, e, Outcome::Committed)
 }
 
 /// Whether the one durable or promotable can own the commit, was handed it and answered committed.

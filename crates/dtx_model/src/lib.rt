@@ -3,8 +3,8 @@
 //! Grammar, TraceText. `docs/DEFINITIONS.md` says each of them in words. The code here is the judge of histories.
 #![tactic(auto)]
 
-mod entries;
 mod doubt;
+mod entries;
 mod evidence;
 pub mod judge;
 mod messages;

@@ -4,8 +4,13 @@ ghost use Rattle.dtx_model.specs.Words.{has};
 ghost use Rattle.dtx_model.specs.Entries.{is_commit, is_sealed, is_promoted, is_record, is_yes, is_hand, is_any_hand, is_owner, is_any_owner, is_completed, is_vote, is_good_vote, is_decision, is_final, is_commit_got, is_yes_got, is_vote_got};
 ghost use Rattle.dtx_model.specs.Outcome.{is_begin_end, is_voter_end, is_outcome_got};
 
-use crate::entries::{is_any_hand, is_any_owner, is_commit, is_completed, is_decision, is_final, is_good_vote, is_hand, is_owner, is_promoted, is_record, is_sealed, is_vote, is_yes};
-use crate::messages::{is_begin_end, is_commit_got, is_outcome_got, is_vote_got, is_voter_end, is_yes_got};
+use crate::entries::{
+    is_any_hand, is_any_owner, is_commit, is_completed, is_decision, is_final, is_good_vote,
+    is_hand, is_owner, is_promoted, is_record, is_sealed, is_vote, is_yes,
+};
+use crate::messages::{
+    is_begin_end, is_commit_got, is_outcome_got, is_vote_got, is_voter_end, is_yes_got,
+};
 use dtx_values::{CloneNo, EnlNo, Entry, Outcome};
 
 /// Whether commit was asked.

@@ -1,4 +1,4 @@
-use Rattle.std.proofs.Common.{◌≡◌, sym, ◌∙◌}
+use Rattle.std.proofs.Common.{sym, ◌∙◌}
 use Rattle.dtx_model.specs.Words.{past_of}
 use Rattle.dtx_model.specs.Outcome.{durables}
 use Rattle.dtx_model.proofs.Reading.{owner-first}

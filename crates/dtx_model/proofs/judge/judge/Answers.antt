@@ -1,4 +1,3 @@
-use Rattle.std.proofs.Common.{◌≡◌}
 use Rattle.dtx_model.specs.Judge.{IsNotJustifiedAt, IsDisagreementAt}
 use Rattle.dtx_model.proofs.Faults.{good_at_first, good_more, not_just_at, disagrees_at, not_fine, no_agreement}
 use Rattle.dtx_model.proofs.judge.judge.Goals as goal
@@ -24,5 +23,5 @@ returns-then-not-is_just-clause-fine c =
 pub returns-then-not-agrees-clause-fine : goal.returns-then-not-agrees-clause-fine
 returns-then-not-agrees-clause-fine c =
     let w : IsDisagreementAt c.args.h.now c.loop-i.i =
-        disagrees_at c.args.h.now c.loop-i.i c.index-h-i.result c.loop-i-test.true c.index-h-i.is c.loop-i.invariant c.if-not-is_just.ensures c.if-not-agrees.ensures in
+    disagrees_at c.args.h.now c.loop-i.i c.index-h-i.result c.loop-i-test.true c.index-h-i.is c.loop-i.invariant c.if-not-is_just.ensures c.if-not-agrees.ensures in
     (λ e. absurd cc, λ p. absurd (no_agreement c.args.h.now c.loop-i.i w p.1))
