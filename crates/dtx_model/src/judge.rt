@@ -1,4 +1,5 @@
-//! The judge of histories: the first place at which one breaks the rules of one outcome.
+//! The judge of histories: the first place at which one breaks the rules of one outcome. What it asks of a history is written from the
+//! definitions in `specs/Outcome.antt`, with no memory and in no more than a few passes over the entries for each entry.
 ghost use Rattle.std.specs.Prelude.{◌≡◌, ◌↔◌, true};
 ghost use Rattle.dtx_model.specs.Words.{has, ever, past_of};
 ghost use Rattle.dtx_model.specs.Entries.{is_decision, is_final};
@@ -75,8 +76,11 @@ fn agrees(h: &[Entry]) -> bool
     !(has_final(h, Outcome::Committed) && has_final(h, Outcome::Aborted)) && !has_two_decisions(h)
 }
 
-/// The verdict on a history, oldest entry first: the first place at which something is told that may not be told there (presumed abort: a
-/// commit is told on evidence alone), or at which two parts of it disagree on the outcome.
+/// The verdict on a history, oldest entry first: the first place at which something is told that may not be told there, or at which two
+/// parts of the history disagree on the outcome.
+///
+/// The rules are the atomicity of a transaction (all hear one outcome, decided once) and presumed abort (a commit is told on evidence
+/// alone). The judge reads the entries alone, and knows nothing of how they came about.
 pub fn judge(h: &[Entry]) -> Verdict
     ensures fine { (result ≡ Verdict.Fine) ↔ ((justified (past_of h.now) ≡ true) × (agree (past_of h.now) ≡ true)) }
     ensures first { IsVerdict h.now result }
