@@ -1,2 +1,5 @@
 pub mod Bools
 pub mod Histories
+pub mod Reading
+pub mod Prefixes
+pub mod Faults

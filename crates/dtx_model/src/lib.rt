@@ -1,8 +1,16 @@
 //! The definitions over histories, scripts and traces, which every other crate's contracts cite. They stand in `specs/`, in the
-//! order in which a reader should meet them: Words, Entries, Messages, Outcome; Waves, Observed, Steps, Caused; Replay, History; Grammar,
-//! TraceText. `docs/DEFINITIONS.md` says each of them in words.
+//! order in which a reader should meet them: Words, Entries, Messages, Outcome, Judge; Waves, Observed, Seen, Steps, Caused; Replay,
+//! History; Grammar, TraceText. `docs/DEFINITIONS.md` says each of them in words. The code here is the judge of histories.
 #![tactic(auto)]
 
+mod doubt;
+mod entries;
+mod evidence;
 mod listener;
+mod messages;
+mod scans;
+mod verdict;
+mod veto;
 
 pub use listener::Listener;
+pub use verdict::{Verdict, judge};
