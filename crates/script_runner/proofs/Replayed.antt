@@ -12,9 +12,9 @@ length-script_text [] = omega arith
 length-script_text (l ∷ ls) = let ih = length-script_text ls in simp length-append (omega arith)
 
 -- before the first turn
-pub settled-none : (s : List Line) (trace : List Placed) → IsSettledBelow s (past_of trace) 1 trace
-settled-none s trace = record { turns = []; rounds = refl; reached = omega arith; below = λ v k. absurd (omega (arith, v.in_range.0, k)) }
+pub settled-none : (s : List Line) (T : List Placed) → IsSettledBelow s T 1 T
+settled-none s T = record { turns = []; rounds = refl; reached = omega arith; below = λ v k. absurd (omega (arith, v.in_range.0, k)) }
 
 -- the lines, and then the rounds
-pub is_replayed : (s : List Line) (lines trace : List Placed) → LinesRan s (past_of s) (past_of lines) → IsSettledBelow s (past_of lines) 257 trace → IsReplayed s (past_of trace)
+pub is_replayed : (s : List Line) (lines trace : List Placed) → LinesRan s (past_of s) (past_of lines) → IsSettledBelow s (past_of lines) 257 (past_of trace) → IsReplayed s (past_of trace)
 is_replayed s lines trace ran b = record { by_lines = past_of lines; lines = ran; turns = b.turns; rounds = b.rounds }
