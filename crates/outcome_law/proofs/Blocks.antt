@@ -5,8 +5,7 @@ use Rattle.dtx_values.specs.declared.script.Line.{Line}
 use Rattle.dtx_model.specs.Grammar.{are_named_well}
 use Rattle.dtx_model.specs.Caused.{Caused}
 use Rattle.outcome_law.proofs.Rule.{ruled}
-use Rattle.outcome_law.proofs.Evidence.{unsealed_open}
-use Rattle.outcome_law.proofs.Rules.{ruled_justified}
+use Rattle.outcome_law.proofs.Going.{IsKept, no_keeps}
 
 -- a history that a script causes keeps the rules
 pub caused_ruled : (s : List Line) (t : ℕ) (h : List Entry) → are_named_well s ≡ true → Caused s t h → ruled h ≡ true
