@@ -188,26 +188,21 @@ commit_keeps h k d c o =
     none_each (λ c. not (blocks c.1) && not (is_complete h c)) (λ c. blocks c.1 || is_complete h c) (λ c. closed_step (blocks c.1) (is_complete h c)) (all_of clone_of h) o in
     keep CommitAsked h k (commit_rule h d c) (commit_step (has is_decision h) (has is_no_vote h) (has is_commit h) (all_closed h) closed)
 
--- what may come of a vote: nothing is decided, and its enlistment was asked and hasn't voted
-pub record IsDue (h : List Entry) (e : ℕ) : Type 0 where
-  pub undone : has is_decision h ≡ false
-  pub stands : has (is_enlisted e) h ≡ true
-  pub asked : has (is_asked e) h ≡ true
-  pub unvoted : has (is_vote e) h ≡ false
-
--- the rule of a vote
-vote_rule : (h : List Entry) (e : EnlNo) (v : Vote) → IsDue h e.value → rule h (Voted e v) ≡ true
-vote_rule h e v q =
-    and_four (not (has is_decision h)) (has (is_enlisted e.value) h) (has (is_asked e.value) h) (not (has (is_vote e.value) h))
-    (not_false (has is_decision h) q.undone) q.stands q.asked (not_false (has (is_vote e.value) h) q.unvoted)
-
 -- a vote yes keeps it
-pub yes_keeps : (h : List Entry) (e : EnlNo) → IsKept h → IsDue h e.value → IsKept (Voted e Yes ∷ h)
-yes_keeps h e k q = keep (Voted e Yes) h k (vote_rule h e Yes q) (λ g. g)
+pub yes_keeps : (h : List Entry) (e : EnlNo) → IsKept h → rule h (Voted e Yes) ≡ true → IsKept (Voted e Yes ∷ h)
+yes_keeps h e k q = keep (Voted e Yes) h k q (λ g. g)
 
 -- a vote done keeps it
-pub done_keeps : (h : List Entry) (e : EnlNo) → IsKept h → IsDue h e.value → IsKept (Voted e Done ∷ h)
-done_keeps h e k q = keep (Voted e Done) h k (vote_rule h e Done q) (λ g. g)
+pub done_keeps : (h : List Entry) (e : EnlNo) → IsKept h → rule h (Voted e Done) ≡ true → IsKept (Voted e Done ∷ h)
+done_keeps h e k q = keep (Voted e Done) h k q (λ g. g)
+
+-- the rule of a vote: nothing is decided, and its enlistment stands and hasn't voted
+vote_rule : (d s a v : Bool) → (not d && s && a && not v) ≡ true → (d ≡ false) × (s ≡ true) × (v ≡ false)
+vote_rule false true true false q = (refl, refl, refl)
+vote_rule true s a v q = absurd cc
+vote_rule false false a v q = absurd cc
+vote_rule false true false v q = absurd cc
+vote_rule false true true true q = absurd cc
 
 -- who hasn't voted hasn't voted well
 unvoted_step : (e : ℕ) (x : Entry) → is_vote e x ≡ false → is_good_vote e x ≡ false
@@ -239,10 +234,11 @@ unwilling_open : (h : List Entry) → ruled h ≡ true → well_cast h ≡ false
 unwilling_open h r w = evidence-sealed h r ∙ ap (λ b. has is_sealed h && b) w ∙ and_never (has is_sealed h)
 
 -- a vote no aborts
-pub no_keeps : (h : List Entry) (e : EnlNo) → IsKept h → IsDue h e.value → IsKept (Decided Aborted ∷ Voted e No ∷ h)
+pub no_keeps : (h : List Entry) (e : EnlNo) → IsKept h → rule h (Voted e No) ≡ true → IsKept (Decided Aborted ∷ Voted e No ∷ h)
 no_keeps h e k q =
-    let none = has_less (is_vote e.value) (is_good_vote e.value) (unvoted_step e.value) h q.unvoted in
-    let rules : ruled (Voted e No ∷ h) ≡ true = and_both (rule h (Voted e No)) (ruled h) (vote_rule h e No q) k.rules in
-    aborted_keeps (Voted e No ∷ h) rules q.undone (first_vetoed (Voted e No) h refl (unwilling_open h k.rules (unwilling h h e.value q.stands none)))
+    let due = vote_rule (has is_decision h) (has (is_enlisted e.value) h) (has (is_asked e.value) h) (has (is_vote e.value) h) q in
+    let none = has_less (is_vote e.value) (is_good_vote e.value) (unvoted_step e.value) h due.2 in
+    let rules : ruled (Voted e No ∷ h) ≡ true = and_both (rule h (Voted e No)) (ruled h) q k.rules in
+    aborted_keeps (Voted e No ∷ h) rules due.0 (first_vetoed (Voted e No) h refl (unwilling_open h k.rules (unwilling h h e.value due.1 none)))
     (unwilling_open (Voted e No ∷ h) rules
-    (unwilling h (Voted e No ∷ h) e.value q.stands (or_false ((e.value == e.value) && false) (has (is_good_vote e.value) h) (and_never (e.value == e.value)) none)))
+    (unwilling h (Voted e No ∷ h) e.value due.1 (or_false ((e.value == e.value) && false) (has (is_good_vote e.value) h) (and_never (e.value == e.value)) none)))

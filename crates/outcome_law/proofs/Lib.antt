@@ -5,4 +5,6 @@ pub mod Rules
 pub mod Awaited
 pub mod Picks
 pub mod Going
+pub mod Calls
+pub mod Acts
 pub mod Blocks
