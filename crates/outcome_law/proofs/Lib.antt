@@ -8,3 +8,4 @@ pub mod Going
 pub mod Calls
 pub mod Acts
 pub mod Blocks
+pub mod Examples
