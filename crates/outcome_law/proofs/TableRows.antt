@@ -1,6 +1,6 @@
 -- The tables of a history: what their rows have to do with its entries.
 use Rattle.std.proofs.Common.{◌≡◌, ℕ, ◌==◌, Bool, true, false, ◌&&◌, ◌||◌, List, [], ◌∷◌, ◌++◌, Option, Some, None, refl, ◌∙◌, ap, sym, subst, map}
-use Rattle.std.specs.Prelude.{is_some, not, if◌then◌else◌}
+use Rattle.std.specs.Prelude.{find, is_some, not, if◌then◌else◌}
 use Rattle.std.specs.List.{slice_get}
 use Rattle.std.proofs.Math.Bool.{or-false}
 use Rattle.std.proofs.lemmas.Bool.{eqb-true}
@@ -24,6 +24,7 @@ use Rattle.dtx_model.specs.Seen.{vote_of, IsCloneSeen}
 use Rattle.dtx_model.specs.Steps.{voted_well, all_voted}
 use Rattle.dtx_model.specs.Waves.{is_zero, zeros_voted}
 use Rattle.dtx_model.proofs.Bools.{and_left, and_right, or_false, or_second, or_right, not_true}
+use Rattle.outcome_law.proofs.Scans.{find-at}
 use Rattle.outcome_law.proofs.Lists.{eq_self, eq_swap, apart, and_second, and_third, and_fourth, OfEach, of-at, of-more, of-map, of-insert, of-behind, of-all, each_same, has_same, each_kept, has_kept, if_kept, each-insert, has-insert, each-behind, has-behind}
 use Rattle.outcome_law.proofs.Rule.{is_enlisted, is_cloned, zeros_cast, rule, ruled, first_rule, other_rules}
 
@@ -318,3 +319,19 @@ commit_vetoed h r =
     open_rollbacks h r
     ∙ has_same (λ c. not (blocks c.1) && not (is_complete h c)) (λ c. is_rollback c.1 && not (is_complete h c)) (all_of clone_of h)
     (of-all (λ c. (not (blocks c.1) && not (is_complete h c)) ≡ (is_rollback c.1 && not (is_complete h c))) (λ c. ap (λ b. b && not (is_complete h c)) (rollback_kind c.1)) (all_of clone_of h))
+
+-- the row at a place is of an enlistment of the history
+pub rows_enlisted : (h : List Entry) (k : ℕ) (x : Enlistment) → ruled h ≡ true → slice_get (rows h) k ≡ Some x → has (is_enlisted x.0.value) h ≡ true
+rows_enlisted h k x r e = (row_seen h k x r e).stands
+
+-- the row that was found says what the history shows of its enlistment
+pub found_seen : (p : Enlistment → Bool) (h : List Entry) (x : Enlistment) → ruled h ≡ true → find p (rows h) ≡ Some x → IsRow h x
+found_seen p h x r e = let found = find-at p (rows h) x e in row_seen h found.0 x r found.1
+
+-- each row is volatile with a vote yes or done where each enlistment is volatile and voted so
+pub evident_seen : (h : List Entry) → ruled h ≡ true
+    → each (λ x. is_volatile x.1.class && voted_well x.1.vote) (rows h) ≡ each (λ x. is_volatile x.1 && has (is_good_vote x.0.value) h) (enlisted h)
+evident_seen h r =
+    each_same (λ x. is_volatile x.1.class && voted_well x.1.vote) (λ x. is_volatile x.1.class && has (is_good_vote x.0.value) h) (rows h)
+    (of-more (IsRow h) (λ x. (is_volatile x.1.class && voted_well x.1.vote) ≡ (is_volatile x.1.class && has (is_good_vote x.0.value) h)) (λ x w. ap (λ b. is_volatile x.1.class && b) w.well) (rows h) (rows_seen h r))
+    ∙ each_rows (λ e c. is_volatile c && has (is_good_vote e.value) h) h
