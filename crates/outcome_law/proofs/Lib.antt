@@ -2,3 +2,4 @@ pub mod Scans
 pub mod Rule
 pub mod Lists
 pub mod TableRows
+pub mod Waves

@@ -4,9 +4,9 @@ use Rattle.std.specs.Prelude.{nat_lt, not, is_some, if◌then◌else◌}
 use Rattle.std.specs.List.{slice_get}
 use Rattle.std.proofs.lemmas.Bool.{eqb-true}
 use Rattle.std.proofs.lemmas.Bool.Decides.{nat_tests}
-use Rattle.dtx_values.specs.Table.{insert_by}
+use Rattle.dtx_values.specs.Table.{how_many, insert_by}
 use Rattle.dtx_model.specs.Words.{has, each}
-use Rattle.dtx_model.proofs.Bools.{and_swap, or_swap}
+use Rattle.dtx_model.proofs.Bools.{and_swap, or_right, or_swap}
 use Rattle.outcome_law.proofs.Scans.{each-map}
 
 -- a number is itself
@@ -136,3 +136,31 @@ each-behind p x (y ∷ ys) = ap (λ b. p y && b) (each-behind p x ys) ∙ and_sw
 pub has-behind : {A : Type 0} (p : A → Bool) (x : A) (xs : List A) → has p (xs ++ x ∷ []) ≡ (p x || has p xs)
 has-behind p x [] = refl
 has-behind p x (y ∷ ys) = ap (λ b. p y || b) (has-behind p x ys) ∙ or_swap (p y) (p x) (has p ys)
+
+-- what P and Q hold of each, they hold of each together
+pub of-both : {A : Type 0} (P Q : A → Type 0) (xs : List A) → OfEach P xs → OfEach Q xs → OfEach (λ x. P x × Q x) xs
+of-both P Q [] h k = tt
+of-both P Q (x ∷ xs) h k = ((h.0, k.0), of-both P Q xs h.1 k.1)
+
+-- of each it is so that where it passes, one passes
+pub of-has : {A : Type 0} (p : A → Bool) (xs : List A) → OfEach (λ x. p x ≡ true → has p xs ≡ true) xs
+of-has p [] = tt
+of-has p (x ∷ xs) = (
+  λ h. rw h refl,
+  of-more (λ y. p y ≡ true → has p xs ≡ true) (λ y. p y ≡ true → has p (x ∷ xs) ≡ true) (λ y f h. or_right (p x) (has p xs) (f h)) xs (of-has p xs),
+)
+
+-- as many pass with one more at its place that doesn't
+pub how_many-insert : {A : Type 0} (p : A → Bool) (key : A → ℕ) (x : A) → p x ≡ false → (xs : List A) → how_many p (insert_by key x xs) ≡ how_many p xs
+how_many-insert p key x f [] = rw f refl
+how_many-insert p key x f (y ∷ ys) = step p (nat_lt (key y) (key x)) x y ys (insert_by key x ys) f (how_many-insert p key x f ys)
+  where
+    step : {A : Type 0} (p : A → Bool) (b : Bool) (x y : A) (ys rest : List A) → p x ≡ false → how_many p rest ≡ how_many p ys
+        → how_many p (if b then y ∷ rest else x ∷ y ∷ ys) ≡ how_many p (y ∷ ys)
+    step p true x y ys rest f ih = ap (λ n. if p y then suc n else n) ih
+    step p false x y ys rest f ih = rw f refl
+
+-- what f makes of an item passes as the item does: as many pass as before
+pub how_many_kept : {A : Type 0} (p : A → Bool) (f : A → A) → ((x : A) → p (f x) ≡ p x) → (xs : List A) → how_many p (map f xs) ≡ how_many p xs
+how_many_kept p f same [] = refl
+how_many_kept p f same (x ∷ xs) = ap (λ b. if b then suc (how_many p (map f xs)) else how_many p (map f xs)) (same x) ∙ ap (λ n. if p x then suc n else n) (how_many_kept p f same xs)
