@@ -9,3 +9,6 @@ pub mod Calls
 pub mod Acts
 pub mod Blocks
 pub mod Examples
+pub mod Lists
+pub mod TableRows
+pub mod Waves
