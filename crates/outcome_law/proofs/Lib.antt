@@ -1,2 +1,4 @@
 pub mod Scans
 pub mod Rule
+pub mod Pending
+pub mod Names
