@@ -2,3 +2,4 @@ pub mod Scans
 pub mod Rule
 pub mod Pending
 pub mod Names
+pub mod Replays
