@@ -1,5 +1,5 @@
 -- Names are made once: what the call of a line makes is new in each history where that line wasn't called yet.
-use Rattle.std.proofs.Common.{◌≡◌, ℕ, zero, suc, ◌==◌, Bool, true, false, ◌&&◌, ◌||◌, List, [], ◌∷◌, ◌++◌, map, Option, Some, None, refl, arith, ◌∙◌, ap, sym, subst}
+use Rattle.std.proofs.Common.{◌≡◌, ℕ, zero, suc, ◌==◌, Bool, true, false, ◌||◌, List, [], ◌∷◌, ◌++◌, map, Option, Some, None, refl, arith, ◌∙◌, ap, sym, subst}
 use Rattle.std.specs.Prelude.{not, nat_lt, if◌then◌else◌}
 use Rattle.std.specs.List.{slice_get}
 use Rattle.std.proofs.lemmas.Bool.Decides.{nat_tests}
@@ -7,7 +7,7 @@ use Rattle.dtx_values.specs.declared.number.ActorNo.{ActorNo}
 use Rattle.dtx_values.specs.declared.number.CloneNo.{CloneNo}
 use Rattle.dtx_values.specs.declared.number.TxNo.{TxNo}
 use Rattle.dtx_values.specs.declared.call.Call.{Call}
-use Rattle.dtx_values.specs.declared.call.Call.TheVariants.{Begin, Volatile, Clone, Complete, Commit, Rollback, Tick}
+use Rattle.dtx_values.specs.declared.call.Call.TheVariants.{Volatile, Clone, Commit, Tick}
 use Rattle.dtx_values.specs.declared.entry.Ask.TheVariants.{Prepare}
 use Rattle.dtx_values.specs.declared.entry.Entry.{Entry}
 use Rattle.dtx_values.specs.declared.entry.Entry.TheVariants.{Called, Cloned, Completed, Enlisted, Asked, Voted}
@@ -15,15 +15,15 @@ use Rattle.dtx_values.specs.declared.row.Row.{Row}
 use Rattle.dtx_values.specs.declared.script.Body.{Body}
 use Rattle.dtx_values.specs.declared.script.Body.TheVariants.{Volatile as VolatileLine, Clone as CloneLine, Complete as CompleteLine}
 use Rattle.dtx_values.specs.declared.script.Line.{Line}
-use Rattle.dtx_values.specs.Table.{Enlistment, is_of, insert_by, marks, mark_row, vote_row, with_mark, with_row, with_vote, number_of, fresh_row}
-use Rattle.dtx_values.specs.Clones.{is_clone, is_open_rollback, with_clone, with_complete}
-use Rattle.dtx_model.specs.Words.{has, each, always, kth, onto, past_of}
+use Rattle.dtx_values.specs.Table.{Enlistment, is_of, insert_by, marks, mark_row, vote_row, number_of, fresh_row}
+use Rattle.dtx_values.specs.Clones.{is_clone, is_open_rollback}
+use Rattle.dtx_model.specs.Words.{has, each, always, kth, onto}
 use Rattle.dtx_model.specs.Entries.{is_call}
 use Rattle.dtx_model.specs.Observed.{Observed, observe, rows, clone_rows}
 use Rattle.dtx_model.specs.Steps.{Step, Calls, Replies, Acts, call_of, complete_call, transaction_of, answer, is_fine, facts, facts_if, veto_if, reaches, ticked, time_up, is_late, block}
 use Rattle.dtx_model.specs.Caused.{IsCallOf, MayCome, Ran, Caused, is_new}
 use Rattle.dtx_model.specs.Grammar.{Name, OfTransaction, OfEnlistment, OfClone, same_name, makes, is_made, is_named_well, are_named_well}
-use Rattle.dtx_model.proofs.Bools.{and_left, and_right, and_both, or_false, or_right, or_case, or_swap, not_true, not_false, not_both}
+use Rattle.dtx_model.proofs.Bools.{and_left, and_right, or_false, or_right, or_case, or_swap, not_true, not_false, not_both}
 use Rattle.outcome_law.proofs.Rule.{is_enlisted, is_cloned}
 use Rattle.outcome_law.proofs.Scans.{has-onto}
 use Rattle.outcome_law.proofs.Pending.{is_plain, veto_plain, time_plain, block_plain}
@@ -238,17 +238,17 @@ has-clone_rows c (Completed d ∷ h) =
     has-map (is_clone c) (λ r. record { clone = r.clone; kind = r.kind; complete = is_clone d.value r || r.complete }) (λ r. refl) (clone_rows h) ∙ has-clone_rows c h
 has-clone_rows c (x ∷ h) = has-clone_rows c h
 
--- where no entry brings the name of an enlistment, none is of that enlistment
-not_enlisted : (e : ℕ) (h : List Entry) → has (is_namer (OfEnlistment e)) h ≡ has (is_enlisted e) h
-not_enlisted e [] = refl
-not_enlisted e (Enlisted f c ∷ h) = ap (λ b. (e == f.value) || b) (not_enlisted e h)
-not_enlisted e (x ∷ h) = not_enlisted e h
+-- what brings the name of an enlistment is that enlistment's entry
+enlisted_namer : (e : ℕ) (h : List Entry) → has (is_namer (OfEnlistment e)) h ≡ has (is_enlisted e) h
+enlisted_namer e [] = refl
+enlisted_namer e (Enlisted f c ∷ h) = ap (λ b. (e == f.value) || b) (enlisted_namer e h)
+enlisted_namer e (x ∷ h) = enlisted_namer e h
 
--- where no entry brings the name of a clone, none is of that clone
-not_cloned : (c : ℕ) (h : List Entry) → has (is_namer (OfClone c)) h ≡ has (is_cloned c) h
-not_cloned c [] = refl
-not_cloned c (Cloned d k ∷ h) = ap (λ b. (c == d.value) || b) (not_cloned c h)
-not_cloned c (x ∷ h) = not_cloned c h
+-- what brings the name of a clone is that clone's entry
+cloned_namer : (c : ℕ) (h : List Entry) → has (is_namer (OfClone c)) h ≡ has (is_cloned c) h
+cloned_namer c [] = refl
+cloned_namer c (Cloned d k ∷ h) = ap (λ b. (c == d.value) || b) (cloned_namer c h)
+cloned_namer c (x ∷ h) = cloned_namer c h
 
 -- what the call of a line makes is new where the line wasn't called
 pub caused_new : (s : List Line) (t n : ℕ) (a : ActorNo) (c : Call) (h : List Entry) → are_named_well s ≡ true → Caused s t h → IsCallOf s t n a c → has (is_call n) h ≡ false
@@ -257,9 +257,9 @@ unfolding observe
 caused_new s t n a (Volatile u e o v) h w r k f =
     let same : (e.value == e.value) ≡ true = grind (arith, nat_tests) in
     let none : has (is_namer (OfEnlistment e.value)) h ≡ false = not_named s t n a (Volatile u e o v) (OfEnlistment e.value) h w r k f same in
-    not_false (has (is_of e.value) (rows h)) (has-rows e.value h ∙ sym (not_enlisted e.value h) ∙ none)
+    not_false (has (is_of e.value) (rows h)) (has-rows e.value h ∙ sym (enlisted_namer e.value h) ∙ none)
 caused_new s t n a (Clone u c x) h w r k f =
     let same : (c.value == c.value) ≡ true = grind (arith, nat_tests) in
     let none : has (is_namer (OfClone c.value)) h ≡ false = not_named s t n a (Clone u c x) (OfClone c.value) h w r k f same in
-    not_false (has (is_clone c.value) (clone_rows h)) (has-clone_rows c.value h ∙ sym (not_cloned c.value h) ∙ none)
+    not_false (has (is_clone c.value) (clone_rows h)) (has-clone_rows c.value h ∙ sym (cloned_namer c.value h) ∙ none)
 caused_new s t n a _ h w r k f = refl

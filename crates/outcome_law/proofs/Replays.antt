@@ -19,7 +19,7 @@ use Rattle.dtx_model.specs.Observed.{observe}
 use Rattle.dtx_model.specs.Steps.{Step, Calls, Replies, Acts, call_of, answer, is_fine, facts, facts_if, block, pending}
 use Rattle.dtx_model.specs.Caused.{IsCallOf, MayAnswer, MayCome, Caused, is_new}
 use Rattle.dtx_model.specs.Grammar.{are_named_well}
-use Rattle.dtx_model.specs.Replay.{Placed, history, placed, after_step, StepsRan, HasDone, HasSettled, LineRan, LinesRan, IsTurn, RoundsRan, IsReplayed, called_of, calls, due_call, due_calls}
+use Rattle.dtx_model.specs.Replay.{Placed, history, placed, after_step, StepsRan, LineRan, LinesRan, IsTurn, RoundsRan, IsReplayed, called_of, calls, due_call, due_calls}
 use Rattle.dtx_model.proofs.Bools.{and_left, and_right, or_false, or_right}
 use Rattle.dtx_model.proofs.Histories.{history-other, history-same}
 use Rattle.outcome_law.proofs.Scans.{each-at, has-onto}
@@ -70,7 +70,7 @@ kth_caused s t k m T ih e =
 kth_not_called : (s : List Line) (h : List Entry) (k : ℕ) (m : Step) → kth (pending s (observe h)) k ≡ Some m → each is_not_called (block (observe h) m) ≡ true
 kth_not_called s h k m e = plain_not_called (block (observe h) m) (block_plain (observe h) m (kth_no_call s h k m e))
 
--- what is told to no line's call hasn't this call
+-- what has no call hasn't this call
 not_this_call : (n : ℕ) (es : List Entry) → each is_not_called es ≡ true → has (is_call n) es ≡ false
 not_this_call n [] h = refl
 not_this_call n (x ∷ es) h =
