@@ -3,3 +3,4 @@ pub mod Rule
 pub mod Pending
 pub mod Names
 pub mod Replays
+pub mod ReplayExample
