@@ -27,7 +27,7 @@ use Rattle.dtx_model.proofs.Bools.{and_left, and_right, and_both, or_right, not_
 use Rattle.outcome_law.proofs.Scans.{each_more, each_both, each-append, each-at}
 use Rattle.outcome_law.proofs.Picks.{is_well, each_from_at, each_picked, found_well, none_each}
 use Rattle.outcome_law.proofs.Rule.{is_enlisted, all_complete, zeros_cast, is_decided, is_certain, rule, ruled}
-use Rattle.outcome_law.proofs.Awaited.{row_enlisted, row_marked, row_voted, each_rows, zeros_seen, open_blocks_seen}
+use Rattle.outcome_law.proofs.TableRows.{rows_enlisted, row_marked, row_voted, zeros_seen, all_voted_seen, open_blocks}
 use Rattle.outcome_law.proofs.Evidence.{well_cast, each_volatile, evidence-sealed}
 use Rattle.outcome_law.proofs.Rules.{may_certain, decided_may, undecided}
 use Rattle.outcome_law.proofs.Going.{is_no_vote, all_closed, going_willing, going_closed, IsKept, keep, and_three, and_four, yes_keeps, done_keeps, no_keeps}
@@ -65,7 +65,7 @@ due_well s h r d =
     (each_from_at (λ x. is_well (may_reply h) (due_reply s x)) (rows h)
     (λ k x e. vote_well h (is_marked x && not (has_voted x)) x.0 (planned_vote s x.0.value)
     (due_rule (is_marked x) (has_voted x) (has is_decision h) (has (is_enlisted x.0.value) h) (has (is_asked x.0.value) h) (has (is_vote x.0.value) h)
-    d (row_enlisted h r k x e) (row_marked h r k x e) (row_voted h r k x e))))
+    d (rows_enlisted h k x r e) (row_marked h k x r e) (row_voted h k x r e))))
 
 -- each reply that is pending is a vote that may come
 pending_well : (s : List Line) (h : List Entry) → ruled h ≡ true → each (may_reply h) (pending s (observe h)) ≡ true
@@ -127,7 +127,7 @@ next_well h first r d c =
     (found_well (may_be_asked (rows h) first) (λ x. rule h (Asked x.0 Prepare)) (rows h)
     (each_from_at (λ x. not (may_be_asked (rows h) first x) || rule h (Asked x.0 Prepare)) (rows h)
     (λ k x e. ask_step (is_class first x.1.class) (is_marked x) _ (has is_decision h) (has is_commit h) (has (is_enlisted x.0.value) h) (has (is_asked x.0.value) h)
-    d c (row_enlisted h r k x e) (row_marked h r k x e))))
+    d c (rows_enlisted h k x r e) (row_marked h k x r e))))
 
 -- what comes in phase zero keeps it
 before_keeps : (h : List Entry) (q : Option EnlNo) (over : Bool) → IsKept h → is_well (λ e. rule h (Asked e Prepare)) q ≡ true → (over ≡ true → rule h Sealed ≡ true)
@@ -160,7 +160,7 @@ unfolding is_over
 seal_rule h k d c o =
     let both = and_left (zeros_voted (rows h) && not (has is_open_block (clone_rows h))) (0 == 0) o in
     let zeros = sym (zeros_seen h k.rules) ∙ and_left (zeros_voted (rows h)) (not (has is_open_block (clone_rows h))) both in
-    let shut = sym (open_blocks_seen h k.rules) ∙ not_true (has is_open_block (clone_rows h)) (and_right (zeros_voted (rows h)) (not (has is_open_block (clone_rows h))) both) in
+    let shut = sym (open_blocks h k.rules) ∙ not_true (has is_open_block (clone_rows h)) (and_right (zeros_voted (rows h)) (not (has is_open_block (clone_rows h))) both) in
     let complete : all_complete h ≡ true =
     each_both (λ c. not (blocks c.1) || is_complete h c) (λ c. blocks c.1 || is_complete h c) (λ c. is_complete h c) (λ c. complete_step (blocks c.1) (is_complete h c)) (all_of clone_of h)
     (none_each (λ c. blocks c.1 && not (is_complete h c)) (λ c. not (blocks c.1) || is_complete h c) (λ c. shut_step (blocks c.1) (is_complete h c)) (all_of clone_of h) shut)
@@ -188,11 +188,8 @@ cast_step false b h k = absurd cc
 -- where all rows have votes, each enlistment voted
 all_cast : (h : List Entry) → ruled h ≡ true → all_voted (rows h) ≡ true → each (λ x. has (is_vote x.0.value) h) (enlisted h) ≡ true
 all_cast h r a =
-    let volatile : each (λ (x : Enlistment). is_volatile x.1.class) (rows h) ≡ true = each_rows (λ e c. is_volatile c) h ∙ each_volatile h r in
-    let voted = each_both (λ (x : Enlistment). is_volatile x.1.class) (λ x. not (is_volatile x.1.class) || has_voted x) has_voted
-    (λ x. cast_step (is_volatile x.1.class) (has_voted x)) (rows h) volatile a in
-    sym (each_rows (λ e c. has (is_vote e.value) h) h)
-    ∙ each_from_at (λ x. has (is_vote x.0.value) h) (rows h) (λ k x e. sym (row_voted h r k x e) ∙ each-at has_voted (rows h) k x voted e)
+    each_both (λ x. is_volatile x.1) (λ x. not (is_volatile x.1) || has (is_vote x.0.value) h) (λ x. has (is_vote x.0.value) h)
+    (λ x. cast_step (is_volatile x.1) (has (is_vote x.0.value) h)) (enlisted h) (each_volatile h r) (sym (all_voted_seen h r) ∙ a)
 
 -- where it is sealed and all voted, it may be committed
 commit_rule : (h : List Entry) → IsKept h → has is_decision h ≡ false → has is_sealed h ≡ true → all_voted (rows h) ≡ true → rule h (Decided Committed) ≡ true

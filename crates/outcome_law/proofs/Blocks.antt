@@ -11,7 +11,7 @@ use Rattle.outcome_law.proofs.Rule.{ruled}
 use Rattle.outcome_law.proofs.Going.{IsKept}
 use Rattle.outcome_law.proofs.Calls.{call_keeps}
 use Rattle.outcome_law.proofs.Acts.{reply_keeps, act_keeps}
-use Rattle.outcome_law.proofs.Awaited.{caused_new}
+use Rattle.outcome_law.proofs.Names.{caused_new}
 
 -- the block of a step that may come keeps it
 step_keeps : (s : List Line) (t : ℕ) (h : List Entry) (m : Step) → are_named_well s ≡ true → Caused s t h → MayCome s t h m → IsKept h → IsKept (onto h (block (observe h) m))

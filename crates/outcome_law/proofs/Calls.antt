@@ -13,14 +13,15 @@ use Rattle.dtx_values.specs.declared.words.Outcome.{Outcome}
 use Rattle.dtx_values.specs.Table.{Enlistment, is_of}
 use Rattle.dtx_values.specs.Clones.{blocks, is_clone, is_complete_clone, is_open_rollback}
 use Rattle.dtx_model.specs.Words.{has, each, latest, onto, all_of}
-use Rattle.dtx_model.specs.Entries.{is_commit, is_sealed, is_volatile, clone_of, decision_of, is_decision, began_of}
+use Rattle.dtx_model.specs.Entries.{is_commit, is_sealed, is_volatile, clone_of, is_good_vote, decision_of, is_decision, began_of}
 use Rattle.dtx_model.specs.Observed.{observe, rows, clone_rows, clock}
 use Rattle.dtx_model.specs.Outcome.{enlisted, is_complete, ready, by_seal, by_owner, by_log, evidence}
 use Rattle.dtx_model.specs.Steps.{limit_of, class_of, behind_begin, behind_end, volatile_answer, clone_answer, complete_answer, unless_late, answer, is_fine, veto_if, ticked, reaches, voted_well, is_evident, is_late, time_up, facts, facts_if}
 use Rattle.dtx_model.specs.Caused.{is_new}
 use Rattle.dtx_model.proofs.Bools.{or_first, or_second, not_true}
 use Rattle.outcome_law.proofs.Rule.{is_enlisted, is_cloned, ruled}
-use Rattle.outcome_law.proofs.Awaited.{enlisted_in_rows, evident_seen, open_rollbacks_seen, clone_stands}
+use Rattle.outcome_law.proofs.Picks.{each_and}
+use Rattle.outcome_law.proofs.TableRows.{enlisted_in_rows, evident_seen, open_rollbacks, clone_stands}
 use Rattle.outcome_law.proofs.Evidence.{well_cast, each_volatile, evidence-sealed}
 use Rattle.outcome_law.proofs.Rules.{undecided}
 use Rattle.outcome_law.proofs.Going.{IsKept, keep, enlisted_keeps, cloned_keeps, completed_keeps, rollback_keeps, timeout_keeps, refused_keeps, commit_keeps}
@@ -28,7 +29,7 @@ use Rattle.outcome_law.proofs.Going.{IsKept, keep, enlisted_keeps, cloned_keeps,
 -- the rows show whether evidence stands
 pub evidence_seen : (h : List Entry) → ruled h ≡ true → is_evident (has is_sealed h) (rows h) ≡ evidence h
 evidence_seen h r =
-    ap (λ b. has is_sealed h && b) (evident_seen h r) ∙ ap (λ b. has is_sealed h && (b && well_cast h)) (each_volatile h r) ∙ sym (evidence-sealed h r)
+    ap (λ b. has is_sealed h && b) (evident_seen h r ∙ each_and (λ x. is_volatile x.1) (λ x. has (is_good_vote x.0.value) h) (enlisted h) (each_volatile h r)) ∙ sym (evidence-sealed h r)
 
 -- an answer ok stands where it was begun and nothing is decided
 fine_behind : (l : Option ℕ) (d : Option Outcome) (a : Answer) → is_fine (behind_begin l (behind_end d a)) ≡ true → (d ≡ None) × (is_fine a ≡ true)
@@ -107,7 +108,7 @@ call_keeps h n a y (Complete c) m true k w f =
 call_keeps h n a y (Commit t) m true k w f =
     let fine = fine_behind (latest began_of h) (latest decision_of h) (unless_late (has is_commit h)) f in
     asked_commit (Called n a y ∷ h) (has is_open_rollback (clone_rows h)) (keep (Called n a y) h k refl (λ g. g)) (undecided h fine.0) (late_fine (has is_commit h) fine.1)
-    (sym (open_rollbacks_seen h k.rules))
+    (sym (open_rollbacks h k.rules))
 call_keeps h n a y (Rollback t) m true k w f =
     let fine = fine_behind (latest began_of h) (latest decision_of h) (unless_late (has is_sealed h)) f in
     rollback_keeps (Called n a y ∷ h) (keep (Called n a y) h k refl (λ g. g)) (undecided h fine.0) (late_fine (has is_sealed h) fine.1)
