@@ -1,7 +1,7 @@
 -- The block of each reply that is due and of each local act keeps the rules.
-use Rattle.std.proofs.Common.{◌≡◌, ℕ, zero, suc, ◌==◌, Bool, true, false, ◌&&◌, ◌||◌, List, [], ◌∷◌, Option, Some, None, refl, ◌∙◌, ap, sym, subst}
+use Rattle.std.proofs.Common.{◌≡◌, ℕ, zero, suc, ◌==◌, Bool, true, false, ◌&&◌, ◌||◌, List, [], ◌∷◌, Option, Some, None, refl, ◌∙◌, ap, sym}
 use Rattle.std.specs.Prelude.{is_some, find, not, if◌then◌else◌}
-use Rattle.std.specs.List.{slice_get, filter_map}
+use Rattle.std.specs.List.{filter_map}
 use Rattle.dtx_values.specs.declared.number.EnlNo.{EnlNo}
 use Rattle.dtx_values.specs.declared.entry.Ask.TheVariants.{Prepare}
 use Rattle.dtx_values.specs.declared.entry.Entry.{Entry}
@@ -22,15 +22,16 @@ use Rattle.dtx_model.specs.Entries.{same_outcome, is_commit, is_sealed, is_volat
 use Rattle.dtx_model.specs.Observed.{observe, rows, clone_rows, listeners}
 use Rattle.dtx_model.specs.Outcome.{enlisted, is_complete, evidence, may_tell}
 use Rattle.dtx_model.specs.Waves.{is_class, may_be_asked, name_of, next_ask, zeros_voted, is_over}
-use Rattle.dtx_model.specs.Steps.{Step, Calls, Replies, Acts, reply_entries, is_to_tell, tell, before_seal, all_voted, behind_seal, undecided_act, act_by, act_entries, planned_vote, vote_step, due_reply, due_replies, act_if, pending}
-use Rattle.dtx_model.proofs.Bools.{and_left, and_right, and_both, or_right, not_true, not_false}
+use Rattle.dtx_model.specs.Steps.{Step, Replies, reply_entries, is_to_tell, tell, before_seal, all_voted, behind_seal, undecided_act, act_by, act_entries, planned_vote, vote_step, due_reply, due_replies, act_if, pending}
+use Rattle.dtx_model.proofs.Bools.{and_left, and_right, and_both, or_right, not_true, not_false, three_hold}
 use Rattle.outcome_law.proofs.Scans.{each_more, each_both, each-append, each-at}
-use Rattle.outcome_law.proofs.Picks.{is_well, each_from_at, each_picked, found_well, none_each}
+use Rattle.outcome_law.proofs.Pending.{passes}
+use Rattle.outcome_law.proofs.Picks.{each_from_at, each_picked, found_well, none_each}
 use Rattle.outcome_law.proofs.Rule.{is_enlisted, all_complete, zeros_cast, is_decided, is_certain, rule, ruled}
 use Rattle.outcome_law.proofs.TableRows.{rows_enlisted, row_marked, row_voted, zeros_seen, all_voted_seen, open_blocks}
 use Rattle.outcome_law.proofs.Evidence.{well_cast, each_volatile, evidence-sealed}
 use Rattle.outcome_law.proofs.Rules.{may_certain, decided_may, undecided}
-use Rattle.outcome_law.proofs.Going.{is_no_vote, all_closed, going_willing, going_closed, IsKept, keep, and_three, and_four, yes_keeps, done_keeps, no_keeps}
+use Rattle.outcome_law.proofs.Going.{is_no_vote, going_willing, going_closed, IsKept, keep, and_four, yes_keeps, done_keeps, no_keeps}
 
 -- a reply is a vote that may come here
 abbrev pub may_reply : List Entry → Step → Bool
@@ -43,7 +44,7 @@ due_rule : (m v d s a w : Bool) → d ≡ false → s ≡ true → m ≡ a → v
 due_rule m v d s a w p q e f k = and_four (not d) s a (not w) (not_false d p) q (sym e ∙ and_left m (not v) k) (ap (λ b. not b) (sym f) ∙ and_right m (not v) k)
 
 -- a vote that is due where a test holds may come where it may under that test
-vote_well : (h : List Entry) (b : Bool) (e : EnlNo) (o : Option Vote) → (b ≡ true → rule h (Voted e Yes) ≡ true) → is_well (may_reply h) (vote_step b e o) ≡ true
+vote_well : (h : List Entry) (b : Bool) (e : EnlNo) (o : Option Vote) → (b ≡ true → rule h (Voted e Yes) ≡ true) → passes (may_reply h) (vote_step b e o) ≡ true
 vote_well h true e (Some v) f = f refl
 vote_well h true e None f = refl
 vote_well h false e o f = refl
@@ -62,7 +63,7 @@ each_unless p None xs f = f refl
 due_well : (s : List Line) (h : List Entry) → ruled h ≡ true → has is_decision h ≡ false → each (may_reply h) (filter_map (due_reply s) (rows h)) ≡ true
 due_well s h r d =
     each_picked (may_reply h) (due_reply s) (rows h)
-    (each_from_at (λ x. is_well (may_reply h) (due_reply s x)) (rows h)
+    (each_from_at (λ x. passes (may_reply h) (due_reply s x)) (rows h)
     (λ k x e. vote_well h (is_marked x && not (has_voted x)) x.0 (planned_vote s x.0.value)
     (due_rule (is_marked x) (has_voted x) (has is_decision h) (has (is_enlisted x.0.value) h) (has (is_asked x.0.value) h) (has (is_vote x.0.value) h)
     d (rows_enlisted h k x r e) (row_marked h k x r e) (row_voted h k x r e))))
@@ -115,12 +116,12 @@ ask_step true false w d t s a p q u e = or_right (not w) (not d && t && s && not
 ask_step false m w d t s a p q u e = refl
 
 -- the name of what passes passes
-name_well : (h : List Entry) (o : Option Enlistment) → is_well (λ x. rule h (Asked x.0 Prepare)) o ≡ true → is_well (λ e. rule h (Asked e Prepare)) (name_of o) ≡ true
+name_well : (h : List Entry) (o : Option Enlistment) → passes (λ x. rule h (Asked x.0 Prepare)) o ≡ true → passes (λ e. rule h (Asked e Prepare)) (name_of o) ≡ true
 name_well h (Some x) q = q
 name_well h None q = refl
 
 -- the next that is asked may be asked
-next_well : (h : List Entry) (first : Bool) → ruled h ≡ true → has is_decision h ≡ false → has is_commit h ≡ true → is_well (λ e. rule h (Asked e Prepare)) (next_ask (rows h) first) ≡ true
+next_well : (h : List Entry) (first : Bool) → ruled h ≡ true → has is_decision h ≡ false → has is_commit h ≡ true → passes (λ e. rule h (Asked e Prepare)) (next_ask (rows h) first) ≡ true
 unfolding next_ask
 next_well h first r d c =
     name_well h (find (may_be_asked (rows h) first) (rows h))
@@ -130,14 +131,14 @@ next_well h first r d c =
     d c (rows_enlisted h k x r e) (row_marked h k x r e))))
 
 -- what comes in phase zero keeps it
-before_keeps : (h : List Entry) (q : Option EnlNo) (over : Bool) → IsKept h → is_well (λ e. rule h (Asked e Prepare)) q ≡ true → (over ≡ true → rule h Sealed ≡ true)
+before_keeps : (h : List Entry) (q : Option EnlNo) (over : Bool) → IsKept h → passes (λ e. rule h (Asked e Prepare)) q ≡ true → (over ≡ true → rule h Sealed ≡ true)
     → IsKept (onto h (before_seal q over))
 before_keeps h (Some e) over k w f = keep (Asked e Prepare) h k w (λ g. g)
 before_keeps h None true k w f = keep Sealed h k (f refl) (λ g. g)
 before_keeps h None false k w f = k
 
 -- what comes behind the seal keeps it
-behind_keeps : (h : List Entry) (q : Option EnlNo) (voted : Bool) → IsKept h → is_well (λ e. rule h (Asked e Prepare)) q ≡ true → (voted ≡ true → rule h (Decided Committed) ≡ true)
+behind_keeps : (h : List Entry) (q : Option EnlNo) (voted : Bool) → IsKept h → passes (λ e. rule h (Asked e Prepare)) q ≡ true → (voted ≡ true → rule h (Decided Committed) ≡ true)
     → IsKept (onto h (behind_seal q voted))
 behind_keeps h (Some e) voted k w f = keep (Asked e Prepare) h k w (λ g. g)
 behind_keeps h None true k w f = keep (Decided Committed) h k (f refl) (λ g. refl)
@@ -197,7 +198,7 @@ unfolding may_tell
 commit_rule h k d s a =
     let good : well_cast h ≡ true =
     each_more (λ x. has (is_vote x.0.value) h) (λ x. has (is_good_vote x.0.value) h) (λ x. voted_good x.0.value h (going_willing h d k.going)) (enlisted h) (all_cast h k.rules a) in
-    and_three (not (has is_decision h)) true (evidence h) (not_false (has is_decision h) d) refl (evidence-sealed h k.rules ∙ and_both (has is_sealed h) (well_cast h) s good)
+    three_hold (not (has is_decision h)) true (evidence h) (not_false (has is_decision h) d) refl (evidence-sealed h k.rules ∙ and_both (has is_sealed h) (well_cast h) s good)
 
 -- the local act while nothing is decided keeps it
 undecided_keeps : (h : List Entry) (commit sealed : Bool) (xs ys : List Entry) → IsKept h → (commit ≡ true → sealed ≡ false → IsKept (onto h xs)) → (commit ≡ true → sealed ≡ true → IsKept (onto h ys))

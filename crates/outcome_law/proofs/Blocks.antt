@@ -6,7 +6,7 @@ use Rattle.dtx_model.specs.Words.{onto}
 use Rattle.dtx_model.specs.Grammar.{are_named_well}
 use Rattle.dtx_model.specs.Observed.{observe}
 use Rattle.dtx_model.specs.Steps.{Step, Calls, Replies, Acts, answer, is_fine, act_entries, block}
-use Rattle.dtx_model.specs.Caused.{MayCome, Ran, Caused, is_new}
+use Rattle.dtx_model.specs.Caused.{MayCome, Ran, Caused}
 use Rattle.outcome_law.proofs.Rule.{ruled}
 use Rattle.outcome_law.proofs.Going.{IsKept}
 use Rattle.outcome_law.proofs.Calls.{call_keeps}

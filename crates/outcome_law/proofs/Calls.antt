@@ -1,6 +1,6 @@
 -- The block of each call that may come keeps the rules.
-use Rattle.std.proofs.Common.{◌≡◌, ℕ, Bool, true, false, ◌&&◌, ◌||◌, List, [], ◌∷◌, Option, Some, None, refl, ◌∙◌, ap, sym}
-use Rattle.std.specs.Prelude.{is_some, not, if◌then◌else◌}
+use Rattle.std.proofs.Common.{◌≡◌, ℕ, Bool, true, false, ◌&&◌, List, [], ◌∷◌, Option, Some, None, refl, ◌∙◌, ap, sym}
+use Rattle.std.specs.Prelude.{is_some, if◌then◌else◌}
 use Rattle.dtx_values.specs.declared.number.ActorNo.{ActorNo}
 use Rattle.dtx_values.specs.declared.call.Call.{Call}
 use Rattle.dtx_values.specs.declared.call.Call.TheVariants.{Begin, Volatile, Clone, Complete, Commit, Rollback, Tick}
@@ -11,18 +11,18 @@ use Rattle.dtx_values.specs.declared.script.EnlistOption.{EnlistOption}
 use Rattle.dtx_values.specs.declared.script.EnlistOption.TheVariants.{Plain, DuringPrepare}
 use Rattle.dtx_values.specs.declared.words.Outcome.{Outcome}
 use Rattle.dtx_values.specs.Table.{Enlistment, is_of}
-use Rattle.dtx_values.specs.Clones.{blocks, is_clone, is_complete_clone, is_open_rollback}
-use Rattle.dtx_model.specs.Words.{has, each, latest, onto, all_of}
-use Rattle.dtx_model.specs.Entries.{is_commit, is_sealed, is_volatile, clone_of, is_good_vote, decision_of, is_decision, began_of}
+use Rattle.dtx_values.specs.Clones.{is_clone, is_complete_clone, is_open_rollback}
+use Rattle.dtx_model.specs.Words.{has, latest, onto}
+use Rattle.dtx_model.specs.Entries.{is_commit, is_sealed, is_volatile, is_good_vote, decision_of, is_decision, began_of}
 use Rattle.dtx_model.specs.Observed.{observe, rows, clone_rows, clock}
-use Rattle.dtx_model.specs.Outcome.{enlisted, is_complete, ready, by_seal, by_owner, by_log, evidence}
-use Rattle.dtx_model.specs.Steps.{limit_of, class_of, behind_begin, behind_end, volatile_answer, clone_answer, complete_answer, unless_late, answer, is_fine, veto_if, ticked, reaches, voted_well, is_evident, is_late, time_up, facts, facts_if}
+use Rattle.dtx_model.specs.Outcome.{enlisted, ready, by_seal, by_owner, by_log, evidence, is_veto}
+use Rattle.dtx_model.specs.Steps.{limit_of, class_of, behind_begin, behind_end, volatile_answer, clone_answer, complete_answer, unless_late, answer, is_fine, veto_if, ticked, reaches, is_evident, is_late, time_up, facts, facts_if}
 use Rattle.dtx_model.specs.Caused.{is_new}
 use Rattle.dtx_model.proofs.Bools.{or_first, or_second, not_true}
-use Rattle.outcome_law.proofs.Rule.{is_enlisted, is_cloned, ruled}
+use Rattle.outcome_law.proofs.Rule.{ruled}
 use Rattle.outcome_law.proofs.Picks.{each_and}
-use Rattle.outcome_law.proofs.TableRows.{enlisted_in_rows, evident_seen, open_rollbacks, clone_stands}
-use Rattle.outcome_law.proofs.Evidence.{well_cast, each_volatile, evidence-sealed}
+use Rattle.outcome_law.proofs.TableRows.{enlisted_in_rows, evident_seen, commit_vetoed, clone_stands}
+use Rattle.outcome_law.proofs.Evidence.{each_volatile, evidence-sealed}
 use Rattle.outcome_law.proofs.Rules.{undecided}
 use Rattle.outcome_law.proofs.Going.{IsKept, keep, enlisted_keeps, cloned_keeps, completed_keeps, rollback_keeps, timeout_keeps, refused_keeps, commit_keeps}
 
@@ -62,11 +62,10 @@ volatile_class : (x : EnlistOption) → is_volatile (class_of x) ≡ true
 volatile_class Plain = refl
 volatile_class DuringPrepare = refl
 
--- commit keeps it, over an open clone that makes it a veto and over none
-asked_commit : (h : List Entry) (b : Bool) → IsKept h → has is_decision h ≡ false → has is_commit h ≡ false
-    → has (λ c. not (blocks c.1) && not (is_complete h c)) (all_of clone_of h) ≡ b → IsKept (onto h (facts_if true (CommitAsked ∷ veto_if b)))
-asked_commit h true k d c o = refused_keeps h k d c o
-asked_commit h false k d c o = commit_keeps h k d c o
+-- commit keeps it, whether it is a veto or none
+asked_commit : (h : List Entry) (b : Bool) → IsKept h → has is_decision h ≡ false → has is_commit h ≡ false → is_veto h CommitAsked ≡ b → IsKept (onto h (CommitAsked ∷ veto_if b))
+asked_commit h true k d c v = refused_keeps h k d c v
+asked_commit h false k d c v = commit_keeps h k d c v
 
 -- nothing is some: it is none
 unsome : (d : Option Outcome) → is_some d ≡ false → d ≡ None
@@ -108,7 +107,7 @@ call_keeps h n a y (Complete c) m true k w f =
 call_keeps h n a y (Commit t) m true k w f =
     let fine = fine_behind (latest began_of h) (latest decision_of h) (unless_late (has is_commit h)) f in
     asked_commit (Called n a y ∷ h) (has is_open_rollback (clone_rows h)) (keep (Called n a y) h k refl (λ g. g)) (undecided h fine.0) (late_fine (has is_commit h) fine.1)
-    (sym (open_rollbacks h k.rules))
+    (sym (commit_vetoed h k.rules))
 call_keeps h n a y (Rollback t) m true k w f =
     let fine = fine_behind (latest began_of h) (latest decision_of h) (unless_late (has is_sealed h)) f in
     rollback_keeps (Called n a y ∷ h) (keep (Called n a y) h k refl (λ g. g)) (undecided h fine.0) (late_fine (has is_sealed h) fine.1)

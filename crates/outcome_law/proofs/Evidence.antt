@@ -1,5 +1,5 @@
 -- What the rules say of evidence: nothing is promoted, handed or durable, so evidence stands where it is sealed and each voted well.
-use Rattle.std.proofs.Common.{◌≡◌, ℕ, ◌==◌, Bool, true, false, ◌&&◌, ◌||◌, List, [], ◌∷◌, refl, ◌∙◌, ap}
+use Rattle.std.proofs.Common.{◌≡◌, Bool, true, false, ◌&&◌, ◌||◌, List, [], ◌∷◌, refl, ◌∙◌, ap}
 use Rattle.std.specs.Prelude.{not, filter}
 use Rattle.dtx_values.specs.declared.number.EnlNo.{EnlNo}
 use Rattle.dtx_values.specs.declared.entry.Entry.{Entry}
@@ -8,7 +8,7 @@ use Rattle.dtx_values.specs.declared.words.Class.{Class}
 use Rattle.dtx_model.specs.Words.{has, each, all_of}
 use Rattle.dtx_model.specs.Entries.{is_commit, is_sealed, is_promoted, is_record, is_yes, is_any_hand, is_volatile, clone_of, is_good_vote, is_decision}
 use Rattle.dtx_model.specs.Outcome.{enlisted, durables, voters, is_complete, ready, is_empty, by_seal, owner_committed, by_owner, by_log, evidence}
-use Rattle.dtx_model.proofs.Bools.{and_left, and_right, and_both, or_false, or_right, not_true, not_both}
+use Rattle.dtx_model.proofs.Bools.{and_left, and_right, and_both, or_false, or_right, not_both}
 use Rattle.outcome_law.proofs.Scans.{each_more}
 use Rattle.outcome_law.proofs.Rule.{is_enlisted, is_cloned, all_complete, zeros_cast, rule, ruled, first_rule, other_rules}
 

@@ -1,26 +1,26 @@
 -- What stands at the end of each block while nothing is decided, and which single entries keep it.
-use Rattle.std.proofs.Common.{◌≡◌, ◌==◌, ℕ, Bool, true, false, ◌&&◌, ◌||◌, List, [], ◌∷◌, refl, ◌∙◌, ap, sym}
+use Rattle.std.proofs.Common.{◌≡◌, ◌==◌, ℕ, Bool, true, false, ◌&&◌, ◌||◌, List, [], ◌∷◌, refl, ◌∙◌, ap}
 use Rattle.std.specs.Prelude.{not}
 use Rattle.std.proofs.lemmas.Bool.{eqb-true}
 use Rattle.dtx_values.specs.declared.number.CloneNo.{CloneNo}
 use Rattle.dtx_values.specs.declared.number.EnlNo.{EnlNo}
 use Rattle.dtx_values.specs.declared.entry.Entry.{Entry}
 use Rattle.dtx_values.specs.declared.entry.Entry.TheVariants.{Cloned, Completed, Enlisted, CommitAsked, RollbackAsked, TimedOut, Voted, Decided}
-use Rattle.dtx_values.specs.declared.entry.Party.TheVariants.{Client}
 use Rattle.dtx_values.specs.declared.words.Class.{Class}
 use Rattle.dtx_values.specs.declared.words.CloneKind.{CloneKind}
 use Rattle.dtx_values.specs.declared.words.CloneKind.TheVariants.{Block, Rollback}
 use Rattle.dtx_values.specs.declared.words.Outcome.TheVariants.{Aborted}
-use Rattle.dtx_values.specs.declared.words.Vote.{Vote}
 use Rattle.dtx_values.specs.declared.words.Vote.TheVariants.{Yes, No, Done}
 use Rattle.dtx_values.specs.Clones.{blocks}
 use Rattle.dtx_model.specs.Words.{has, each, all_of}
-use Rattle.dtx_model.specs.Entries.{is_commit, is_sealed, is_yes, is_any_hand, is_volatile, clone_of, is_asked, is_vote, is_good, is_good_vote, is_decision}
-use Rattle.dtx_model.specs.Outcome.{enlisted, is_complete, ready, by_seal, by_owner, by_log, evidence, is_rollback, is_veto, is_first_veto, vetoed, may_tell}
-use Rattle.dtx_model.proofs.Bools.{and_left, and_right, and_both, or_false, or_right, not_true, not_false, not_both, and_never}
+use Rattle.dtx_model.specs.Entries.{is_commit, is_sealed, is_yes, is_any_hand, is_volatile, clone_of, is_good_vote, is_decision}
+use Rattle.dtx_model.specs.Outcome.{enlisted, is_complete, ready, by_seal, by_owner, by_log, evidence, is_rollback, is_veto, vetoed, may_tell}
+use Rattle.dtx_model.proofs.Bools.{and_left, and_right, and_both, or_false, or_right, not_true, not_false, not_both, three_hold, and_never}
 use Rattle.outcome_law.proofs.Scans.{each_more}
-use Rattle.outcome_law.proofs.Picks.{has_less, none_each, has_more}
-use Rattle.outcome_law.proofs.Rule.{is_enlisted, is_cloned, is_certain, rule, ruled, first_rule, other_rules}
+use Rattle.outcome_law.proofs.Picks.{none_each}
+use Rattle.outcome_law.proofs.Rule.{is_enlisted, is_cloned, rule, ruled}
+use Rattle.outcome_law.proofs.TableRows.{voted_enlisted, voted_once, unvoted_unwell}
+use Rattle.outcome_law.proofs.Rules.{open_rule}
 use Rattle.outcome_law.proofs.Evidence.{well_cast, none_yes, none_handed, sealed_closed, evidence-sealed, unsealed_open}
 
 -- a vote no
@@ -77,13 +77,9 @@ commit_step true n c x e g = refl
 commit_step false true c x e g = g
 commit_step false false c x e g = e
 
--- where each of two holds, and a third, all hold
-pub and_three : (a b c : Bool) → a ≡ true → b ≡ true → c ≡ true → (a && b && c) ≡ true
-and_three a b c p q r = and_both (a && b) c (and_both a b p q) r
-
 -- where each of four holds, all hold
 pub and_four : (a b c d : Bool) → a ≡ true → b ≡ true → c ≡ true → d ≡ true → (a && b && c && d) ≡ true
-and_four a b c d p q r s = and_both (a && b && c) d (and_three a b c p q r) s
+and_four a b c d p q r s = and_both (a && b && c) d (three_hold a b c p q r) s
 
 -- one more enlistment keeps it
 pub enlisted_keeps : (h : List Entry) (e : EnlNo) (c : Class) → IsKept h → has is_decision h ≡ false → has is_sealed h ≡ false → has (is_enlisted e.value) h ≡ false → is_volatile c ≡ true
@@ -97,7 +93,7 @@ enlisted_keeps h e c k d s n v =
 pub cloned_keeps : (h : List Entry) (c : CloneNo) (d : CloneKind) → IsKept h → has is_decision h ≡ false → has is_commit h ≡ false → has (is_cloned c.value) h ≡ false → IsKept (Cloned c d ∷ h)
 cloned_keeps h c d k u m n =
     keep (Cloned c d) h k
-    (and_three (not (has is_decision h)) (not (has is_commit h)) (not (has (is_cloned c.value) h)) (not_false (has is_decision h) u) (not_false (has is_commit h) m) (not_false (has (is_cloned c.value) h) n))
+    (three_hold (not (has is_decision h)) (not (has is_commit h)) (not (has (is_cloned c.value) h)) (not_false (has is_decision h) u) (not_false (has is_commit h) m) (not_false (has (is_cloned c.value) h) n))
     (going_step (has is_decision h) (has is_no_vote h) (has is_commit h) (all_closed h) (all_closed (Cloned c d ∷ h)) (λ t. absurd (not_both (has is_commit h) t m)))
 
 -- what blocks or is complete does with one more complete
@@ -119,7 +115,7 @@ unfolding may_tell
 aborted_keeps h r d v e =
     record {
       rules = and_both (not (has is_decision h) && true && (vetoed h && not (evidence h))) (ruled h)
-        (and_three (not (has is_decision h)) true (vetoed h && not (evidence h)) (not_false (has is_decision h) d) refl
+        (three_hold (not (has is_decision h)) true (vetoed h && not (evidence h)) (not_false (has is_decision h) d) refl
         (and_both (vetoed h) (not (evidence h)) v (not_false (evidence h) e))) r;
       going = refl;
     }
@@ -155,37 +151,28 @@ commit_unsealed h r c = step (has is_sealed h) (λ s. not_both (has is_commit h)
     step true f = absurd (f refl)
     step false f = refl
 
--- a clone that isn't of the kind that a commit waits for makes it a veto
-rolls_back : (k : CloneKind) (b : Bool) → (not (blocks k) && b) ≡ (is_rollback k && b)
-rolls_back Block b = refl
-rolls_back Rollback b = refl
-
 -- the rule of commit
 commit_rule : (h : List Entry) → has is_decision h ≡ false → has is_commit h ≡ false → rule h CommitAsked ≡ true
 commit_rule h d c = and_both (not (has is_decision h)) (not (has is_commit h)) (not_false (has is_decision h) d) (not_false (has is_commit h) c)
 
--- commit over an open clone that makes it a veto aborts
-pub refused_keeps : (h : List Entry) → IsKept h → has is_decision h ≡ false → has is_commit h ≡ false
-    → has (λ c. not (blocks c.1) && not (is_complete h c)) (all_of clone_of h) ≡ true → IsKept (Decided Aborted ∷ CommitAsked ∷ h)
-refused_keeps h k d c o =
+-- commit that is a veto aborts
+pub refused_keeps : (h : List Entry) → IsKept h → has is_decision h ≡ false → has is_commit h ≡ false → is_veto h CommitAsked ≡ true → IsKept (Decided Aborted ∷ CommitAsked ∷ h)
+refused_keeps h k d c v =
     let rules : ruled (CommitAsked ∷ h) ≡ true = and_both (rule h CommitAsked) (ruled h) (commit_rule h d c) k.rules in
     let unsealed = commit_unsealed h k.rules c in
-    let veto : is_veto h CommitAsked ≡ true =
-    has_more (λ c. not (blocks c.1) && not (is_complete h c)) (λ c. is_rollback c.1 && not (is_complete h c)) (λ c. rolls_back c.1 (not (is_complete h c))) (all_of clone_of h) o in
-    aborted_keeps (CommitAsked ∷ h) rules d (first_vetoed CommitAsked h veto (unsealed_open h k.rules unsealed)) (unsealed_open (CommitAsked ∷ h) rules unsealed)
+    aborted_keeps (CommitAsked ∷ h) rules d (first_vetoed CommitAsked h v (unsealed_open h k.rules unsealed)) (unsealed_open (CommitAsked ∷ h) rules unsealed)
 
--- what isn't open is closed
-closed_step : (b x : Bool) → (not b && not x) ≡ false → (b || x) ≡ true
-closed_step true x k = refl
-closed_step false true k = refl
-closed_step false false k = absurd cc
+-- a clone that makes no commit a veto is closed
+closed_step : (k : CloneKind) (x : Bool) → (is_rollback k && not x) ≡ false → (blocks k || x) ≡ true
+closed_step Block x e = refl
+closed_step Rollback true e = refl
+closed_step Rollback false e = absurd cc
 
--- commit over no such clone keeps it
-pub commit_keeps : (h : List Entry) → IsKept h → has is_decision h ≡ false → has is_commit h ≡ false
-    → has (λ c. not (blocks c.1) && not (is_complete h c)) (all_of clone_of h) ≡ false → IsKept (CommitAsked ∷ h)
-commit_keeps h k d c o =
+-- commit that is no veto keeps it
+pub commit_keeps : (h : List Entry) → IsKept h → has is_decision h ≡ false → has is_commit h ≡ false → is_veto h CommitAsked ≡ false → IsKept (CommitAsked ∷ h)
+commit_keeps h k d c v =
     let closed : all_closed h ≡ true =
-    none_each (λ c. not (blocks c.1) && not (is_complete h c)) (λ c. blocks c.1 || is_complete h c) (λ c. closed_step (blocks c.1) (is_complete h c)) (all_of clone_of h) o in
+    none_each (λ c. is_rollback c.1 && not (is_complete h c)) (λ c. blocks c.1 || is_complete h c) (λ c. closed_step c.1 (is_complete h c)) (all_of clone_of h) v in
     keep CommitAsked h k (commit_rule h d c) (commit_step (has is_decision h) (has is_no_vote h) (has is_commit h) (all_closed h) closed)
 
 -- a vote yes keeps it
@@ -195,19 +182,6 @@ yes_keeps h e k q = keep (Voted e Yes) h k q (λ g. g)
 -- a vote done keeps it
 pub done_keeps : (h : List Entry) (e : EnlNo) → IsKept h → rule h (Voted e Done) ≡ true → IsKept (Voted e Done ∷ h)
 done_keeps h e k q = keep (Voted e Done) h k q (λ g. g)
-
--- the rule of a vote: nothing is decided, and its enlistment stands and hasn't voted
-vote_rule : (d s a v : Bool) → (not d && s && a && not v) ≡ true → (d ≡ false) × (s ≡ true) × (v ≡ false)
-vote_rule false true true false q = (refl, refl, refl)
-vote_rule true s a v q = absurd cc
-vote_rule false false a v q = absurd cc
-vote_rule false true false v q = absurd cc
-vote_rule false true true true q = absurd cc
-
--- who hasn't voted hasn't voted well
-unvoted_step : (e : ℕ) (x : Entry) → is_vote e x ≡ false → is_good_vote e x ≡ false
-unvoted_step e (Voted f v) k = ap (λ b. b && is_good v) k
-unvoted_step e _ k = refl
 
 -- what each enlistment passes, one that stands passes
 enlisted_passes : (q : ℕ → Bool) (e : ℕ) (h : List Entry) → each (λ x. q x.0.value) (enlisted h) ≡ true → has (is_enlisted e) h ≡ true → q e ≡ true
@@ -236,9 +210,10 @@ unwilling_open h r w = evidence-sealed h r ∙ ap (λ b. has is_sealed h && b) w
 -- a vote no aborts
 pub no_keeps : (h : List Entry) (e : EnlNo) → IsKept h → rule h (Voted e No) ≡ true → IsKept (Decided Aborted ∷ Voted e No ∷ h)
 no_keeps h e k q =
-    let due = vote_rule (has is_decision h) (has (is_enlisted e.value) h) (has (is_asked e.value) h) (has (is_vote e.value) h) q in
-    let none = has_less (is_vote e.value) (is_good_vote e.value) (unvoted_step e.value) h due.2 in
+    let stands = voted_enlisted e No h q in
+    let none = unvoted_unwell e.value h (voted_once e No h q) in
     let rules : ruled (Voted e No ∷ h) ≡ true = and_both (rule h (Voted e No)) (ruled h) q k.rules in
-    aborted_keeps (Voted e No ∷ h) rules due.0 (first_vetoed (Voted e No) h refl (unwilling_open h k.rules (unwilling h h e.value due.1 none)))
+    aborted_keeps (Voted e No ∷ h) rules (not_true (has is_decision h) (open_rule h (Voted e No) refl q))
+    (first_vetoed (Voted e No) h refl (unwilling_open h k.rules (unwilling h h e.value stands none)))
     (unwilling_open (Voted e No ∷ h) rules
-    (unwilling h (Voted e No ∷ h) e.value due.1 (or_false ((e.value == e.value) && false) (has (is_good_vote e.value) h) (and_never (e.value == e.value)) none)))
+    (unwilling h (Voted e No ∷ h) e.value stands (or_false ((e.value == e.value) && false) (has (is_good_vote e.value) h) (and_never (e.value == e.value)) none)))

@@ -1,5 +1,5 @@
 -- What follows from the rules: what is told is just, and no two are told opposite outcomes.
-use Rattle.std.proofs.Common.{◌≡◌, Bool, true, false, ◌&&◌, ◌||◌, List, [], ◌∷◌, Option, Some, None, refl, subst, ◌∙◌, ap}
+use Rattle.std.proofs.Common.{◌≡◌, Bool, true, false, ◌&&◌, List, [], ◌∷◌, Option, Some, None, refl, subst, ◌∙◌, ap}
 use Rattle.std.specs.Prelude.{not}
 use Rattle.dtx_values.specs.declared.entry.Ask.TheVariants.{Prepare}
 use Rattle.dtx_values.specs.declared.entry.Entry.{Entry}
@@ -80,7 +80,7 @@ first_of_four : (a b c d : Bool) → (a && b && c && d) ≡ true → a ≡ true
 first_of_four a b c d k = first_of_three a b c (and_left (a && b && c) d k)
 
 -- they come where nothing was decided
-open_rule : (h : List Entry) (x : Entry) → is_open x ≡ true → rule h x ≡ true → not (has is_decision h) ≡ true
+pub open_rule : (h : List Entry) (x : Entry) → is_open x ≡ true → rule h x ≡ true → not (has is_decision h) ≡ true
 open_rule h (Enlisted e c) k r = first_of_four (not (has is_decision h)) _ _ (is_volatile c) r
 open_rule h (Cloned c d) k r = first_of_three (not (has is_decision h)) _ (not (has (is_cloned c.value) h)) r
 open_rule h (Completed c) k r = and_left (not (has is_decision h)) (has (is_cloned c.value) h) r
