@@ -82,9 +82,10 @@ time_keeps h true false k f = let w = f refl in timeout_keeps h k w.0 w.1
 -- a timeout that isn't late comes while nothing is decided and no evidence stands
 not_late : (h : List Entry) → ruled h ≡ true → is_late (observe h) ≡ false → (has is_decision h ≡ false) × (evidence h ≡ false)
 unfolding observe
-not_late h r l =
-    (undecided h (unsome (latest decision_of h) (or_first (is_some (latest decision_of h)) (is_evident (has is_sealed h) (rows h)) l)),
-    sym (evidence_seen h r) ∙ or_second (is_some (latest decision_of h)) (is_evident (has is_sealed h) (rows h)) l)
+not_late h r l = (
+  undecided h (unsome (latest decision_of h) (or_first (is_some (latest decision_of h)) (is_evident (has is_sealed h) (rows h)) l)),
+  sym (evidence_seen h r) ∙ or_second (is_some (latest decision_of h)) (is_evident (has is_sealed h) (rows h)) l,
+)
 
 -- the entries of a call keep it
 pub call_keeps : (h : List Entry) (n : ℕ) (a : ActorNo) (y : Answer) (c : Call) (m : ℕ) (b : Bool) → IsKept h → is_new (observe h) c ≡ true → is_fine (answer (observe h) c m) ≡ b

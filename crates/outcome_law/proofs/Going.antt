@@ -115,8 +115,8 @@ unfolding may_tell
 aborted_keeps h r d v e =
     record {
       rules = and_both (not (has is_decision h) && true && (vetoed h && not (evidence h))) (ruled h)
-        (three_hold (not (has is_decision h)) true (vetoed h && not (evidence h)) (not_false (has is_decision h) d) refl
-        (and_both (vetoed h) (not (evidence h)) v (not_false (evidence h) e))) r;
+          (three_hold (not (has is_decision h)) true (vetoed h && not (evidence h)) (not_false (has is_decision h) d) refl
+          (and_both (vetoed h) (not (evidence h)) v (not_false (evidence h) e))) r;
       going = refl;
     }
 
