@@ -3,3 +3,4 @@ pub mod Rule
 pub mod Lists
 pub mod TableRows
 pub mod Waves
+pub mod Settled
