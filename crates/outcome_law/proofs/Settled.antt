@@ -1,8 +1,7 @@
 -- A settled history that can commit is committed, and its client was told so.
-use Rattle.std.proofs.Common.{◌≡◌, ℕ, Bool, true, false, ◌&&◌, ◌||◌, List, [], ◌∷◌, ◌++◌, Option, Some, None, refl, ◌∙◌, ap, sym}
+use Rattle.std.proofs.Common.{◌≡◌, ℕ, Bool, true, false, ◌&&◌, ◌||◌, List, [], ◌∷◌, ◌++◌, Option, Some, None, refl, ◌∙◌}
 use Rattle.std.specs.Prelude.{is_some, is_none, not, find, if◌then◌else◌}
 use Rattle.std.specs.List.{filter_map, cons_option}
-use Rattle.dtx_values.specs.declared.number.CloneNo.{CloneNo}
 use Rattle.dtx_values.specs.declared.number.EnlNo.{EnlNo}
 use Rattle.dtx_values.specs.declared.entry.Entry.{Entry}
 use Rattle.dtx_values.specs.declared.entry.Entry.TheVariants.{Enlisted, Voted, Sealed, Decided, Told}
@@ -10,7 +9,6 @@ use Rattle.dtx_values.specs.declared.entry.Party.TheVariants.{Client}
 use Rattle.dtx_values.specs.declared.script.Line.{Line}
 use Rattle.dtx_values.specs.declared.words.Class.{Class}
 use Rattle.dtx_values.specs.declared.words.Class.TheVariants.{Zero, One}
-use Rattle.dtx_values.specs.declared.words.CloneKind.{CloneKind}
 use Rattle.dtx_values.specs.declared.words.Outcome.{Outcome}
 use Rattle.dtx_values.specs.declared.words.Outcome.TheVariants.{Committed, Aborted, InDoubt}
 use Rattle.dtx_values.specs.declared.words.Vote.{Vote}
@@ -22,12 +20,12 @@ use Rattle.dtx_model.specs.Entries.{is_commit, is_sealed, is_vote, is_volatile, 
 use Rattle.dtx_model.specs.History.{CanCommit}
 use Rattle.dtx_model.specs.Outcome.{enlisted, is_complete, evidence, is_veto, is_first_veto, vetoed, may_tell}
 use Rattle.dtx_model.specs.Observed.{observe, rows, clone_rows}
-use Rattle.dtx_model.specs.Steps.{Step, tell, before_seal, behind_seal, undecided_act, act_by, act_entries, planned_vote, vote_step, due_reply, due_replies, act_if, pending, is_to_tell, all_voted, voted_well}
+use Rattle.dtx_model.specs.Steps.{tell, before_seal, behind_seal, undecided_act, act_by, act_entries, planned_vote, vote_step, due_reply, due_replies, act_if, pending, is_to_tell, all_voted, voted_well}
 use Rattle.dtx_model.specs.Waves.{is_zero, is_one, may_be_asked, name_of, next_ask, zeros_voted, is_over}
 use Rattle.dtx_model.specs.Caused.{Settled}
 use Rattle.dtx_model.proofs.Bools.{and_left, and_right, and_both, not_false, or_first, or_second, or_right, not_both, not_true}
 use Rattle.outcome_law.proofs.Lists.{and_second, and_fourth}
-use Rattle.outcome_law.proofs.Rule.{is_enlisted, all_complete, zeros_cast, is_decided, is_certain, ruled, first_rule, other_rules}
+use Rattle.outcome_law.proofs.Rule.{is_enlisted, all_complete, zeros_cast, is_decided, ruled, first_rule, other_rules}
 use Rattle.outcome_law.proofs.Scans.{each_more, each_both, find_none}
 use Rattle.outcome_law.proofs.TableRows.{each_rows, zeros_seen, open_blocks}
 
@@ -103,7 +101,8 @@ not_aborted (x ∷ h) r v = not_aborted h (other_rules x h r) (or_second (is_vet
 client_committed : (h : List Entry) → ruled h ≡ true → ever is_veto h ≡ false → is_some (latest client_told_of h) ≡ true → has (is_client_told Committed) h ≡ true
 client_committed [] r v k = absurd cc
 client_committed (Told Client Committed ∷ h) r v k = refl
-client_committed (Told Client Aborted ∷ h) r v k = absurd (not_both (is_decided Aborted (latest decision_of h)) (first_rule (Told Client Aborted) h r) (not_aborted h (other_rules (Told Client Aborted) h r) v))
+client_committed (Told Client Aborted ∷ h) r v k =
+    absurd (not_both (is_decided Aborted (latest decision_of h)) (first_rule (Told Client Aborted) h r) (not_aborted h (other_rules (Told Client Aborted) h r) v))
 client_committed (Told Client InDoubt ∷ h) r v k = absurd cc
 client_committed (x ∷ h) r v k = client_committed h (other_rules x h r) (or_second (is_veto h x) (ever is_veto h) v) k
 
