@@ -23,10 +23,11 @@ use Rattle.dtx_model.specs.Observed.{observe, rows, clone_rows}
 use Rattle.dtx_model.specs.Steps.{tell, before_seal, behind_seal, undecided_act, act_by, act_entries, planned_vote, vote_step, due_reply, due_replies, act_if, pending, is_to_tell, all_voted, voted_well}
 use Rattle.dtx_model.specs.Waves.{is_zero, is_one, may_be_asked, name_of, next_ask, zeros_voted, is_over}
 use Rattle.dtx_model.specs.Caused.{Settled}
-use Rattle.dtx_model.proofs.Bools.{and_left, and_right, and_both, not_false, or_first, or_second, or_right, not_both, not_true}
+use Rattle.dtx_model.proofs.Bools.{and_left, and_right, and_both, not_false, or_second, or_right, not_both, not_true, and_never}
 use Rattle.outcome_law.proofs.Lists.{and_second, and_fourth}
 use Rattle.outcome_law.proofs.Rule.{is_enlisted, all_complete, zeros_cast, is_decided, ruled, first_rule, other_rules}
 use Rattle.outcome_law.proofs.Scans.{each_more, each_both, find_none}
+use Rattle.outcome_law.proofs.Picks.{none_each}
 use Rattle.outcome_law.proofs.TableRows.{each_rows, zeros_seen, open_blocks}
 
 -- two lists together are empty: the first is
@@ -54,20 +55,11 @@ settled_act : (s : List Line) (h : List Entry) → Settled s h → act_entries (
 unfolding pending
 settled_act s h e = no_act (act_entries (observe h)) (append_second (due_replies s (observe h)) (act_if (act_entries (observe h))) e)
 
--- none passes: each fails
-each_not : {A : Type 0} (p : A → Bool) (xs : List A) → has p xs ≡ false → each (λ x. not (p x)) xs ≡ true
-each_not p [] h = refl
-each_not p (x ∷ xs) h = and_both (not (p x)) (each (λ x. not (p x)) xs) (not_false (p x) (or_first (p x) (has p xs) h)) (each_not p xs (or_second (p x) (has p xs) h))
-
--- each fails where what it lacks each has: none passes
+-- where each passes q, none passes p and fails q
 none_open : {A : Type 0} (p q : A → Bool) (xs : List A) → each q xs ≡ true → has (λ x. p x && not (q x)) xs ≡ false
 none_open p q [] h = refl
 none_open p q (x ∷ xs) h =
     let first : q x ≡ true = and_left (q x) (each q xs) h in rw (first, and_never (p x)) (none_open p q xs (and_right (q x) (each q xs) h))
-  where
-    and_never : (a : Bool) → (a && false) ≡ false
-    and_never true = refl
-    and_never false = refl
 
 -- nothing is given: each gives nothing
 each_none : {A B : Type 0} (f : A → Option B) (xs : List A) → filter_map f xs ≡ [] → each (λ x. is_none (f x)) xs ≡ true
@@ -78,7 +70,7 @@ each_none f (x ∷ xs) e = step (f x) (filter_map f xs) (each (λ x. is_none (f 
     step (Some y) ys b ih e = absurd cc
     step None ys b ih e = ih e
 
--- what is a veto behind which no evidence stood is a veto
+-- where no veto stands, none stands behind which there was no evidence
 first_veto : (h : List Entry) → ever is_veto h ≡ false → ever is_first_veto h ≡ false
 first_veto [] v = refl
 first_veto (x ∷ h) v = step (is_veto h x) (evidence h) (ever is_veto h) (ever is_first_veto h) (first_veto h) v
@@ -152,7 +144,7 @@ answered_before n xs h = each_more has_answered (λ q. not (is_asked_before q.1.
 -- where nobody is to be asked, none of the class may be
 none_asked : (xs : List Enlistment) (zero : Bool) → next_ask xs zero ≡ None → each (λ x. not (may_be_asked xs zero x)) xs ≡ true
 unfolding next_ask
-none_asked xs zero e = each_not (may_be_asked xs zero) xs (find_none (may_be_asked xs zero) xs (nameless (find (may_be_asked xs zero) xs) e))
+none_asked xs zero e = none_each (may_be_asked xs zero) (λ x. not (may_be_asked xs zero x)) (λ x. not_false (may_be_asked xs zero x)) xs (find_none (may_be_asked xs zero) xs (nameless (find (may_be_asked xs zero) xs) e))
   where
     nameless : (o : Option Enlistment) → name_of o ≡ None → o ≡ None
     nameless (Some x) e = absurd cc
