@@ -12,6 +12,7 @@ pub mod Calls
 pub mod Acts
 pub mod Blocks
 pub mod Waves
+pub mod Settled
 pub mod Replays
 pub mod ReplayExample
 pub mod Examples

@@ -1,5 +1,5 @@
 -- The tables of a history: what their rows have to do with its entries.
-use Rattle.std.proofs.Common.{◌≡◌, ℕ, ◌==◌, Bool, true, false, ◌&&◌, ◌||◌, List, [], ◌∷◌, ◌++◌, Option, Some, None, refl, ◌∙◌, ap, sym, subst, map}
+use Rattle.std.proofs.Common.{◌≡◌, ℕ, ◌==◌, Bool, true, false, ◌&&◌, ◌||◌, List, [], ◌∷◌, Option, Some, None, refl, ◌∙◌, ap, sym, subst}
 use Rattle.std.specs.Prelude.{find, is_some, not, if◌then◌else◌}
 use Rattle.std.specs.List.{slice_get}
 use Rattle.std.proofs.Math.Bool.{or-false}
@@ -23,7 +23,7 @@ use Rattle.dtx_model.specs.Outcome.{enlisted, is_complete, is_rollback, is_veto}
 use Rattle.dtx_model.specs.Seen.{vote_of, IsCloneSeen}
 use Rattle.dtx_model.specs.Steps.{voted_well, all_voted}
 use Rattle.dtx_model.specs.Waves.{is_zero, zeros_voted}
-use Rattle.dtx_model.proofs.Bools.{and_left, and_right, or_false, or_second, or_right, not_true}
+use Rattle.dtx_model.proofs.Bools.{and_right, or_false, or_second, or_right, not_true}
 use Rattle.outcome_law.proofs.Scans.{find-at}
 use Rattle.outcome_law.proofs.Lists.{eq_self, eq_swap, apart, and_second, and_third, and_fourth, OfEach, of-at, of-more, of-map, of-insert, of-behind, of-all, each_same, has_same, each_kept, has_kept, if_kept, each-insert, has-insert, each-behind, has-behind}
 use Rattle.outcome_law.proofs.Rule.{is_enlisted, is_cloned, zeros_cast, rule, ruled, first_rule, other_rules}
@@ -191,7 +191,9 @@ rows_seen (Asked e Prepare ∷ h) r =
 rows_seen (Voted e v ∷ h) r =
     of-map (IsRow h) (IsRow (Voted e v ∷ h)) (λ x. if is_of e.value x then (x.0, vote_row v x.1) else x)
     (λ x. voted_seen e v h x (is_of e.value x) (eq_swap x.0.value e.value) (voted_once e v h (first_rule (Voted e v) h r))) (rows h) (rows_seen h (other_rules (Voted e v) h r))
-rows_seen (x ∷ h) r = of-more (IsRow h) (IsRow (x ∷ h)) (λ q w. record { stands = w.stands; marked = w.marked; voted = w.voted; vote = w.vote; well = w.well }) (rows h) (rows_seen h (other_rules x h r))
+rows_seen (x ∷ h) r =
+    of-more (IsRow h) (IsRow (x ∷ h)) (λ q w. record { stands = w.stands; marked = w.marked; voted = w.voted; vote = w.vote; well = w.well }) (rows h)
+    (rows_seen h (other_rules x h r))
 
 -- the row at a place says what the history shows of its enlistment
 pub row_seen : (h : List Entry) (k : ℕ) (x : Enlistment) → ruled h ≡ true → slice_get (rows h) k ≡ Some x → IsRow h x
@@ -333,5 +335,6 @@ pub evident_seen : (h : List Entry) → ruled h ≡ true
     → each (λ x. is_volatile x.1.class && voted_well x.1.vote) (rows h) ≡ each (λ x. is_volatile x.1 && has (is_good_vote x.0.value) h) (enlisted h)
 evident_seen h r =
     each_same (λ x. is_volatile x.1.class && voted_well x.1.vote) (λ x. is_volatile x.1.class && has (is_good_vote x.0.value) h) (rows h)
-    (of-more (IsRow h) (λ x. (is_volatile x.1.class && voted_well x.1.vote) ≡ (is_volatile x.1.class && has (is_good_vote x.0.value) h)) (λ x w. ap (λ b. is_volatile x.1.class && b) w.well) (rows h) (rows_seen h r))
+    (of-more (IsRow h) (λ x. (is_volatile x.1.class && voted_well x.1.vote) ≡ (is_volatile x.1.class && has (is_good_vote x.0.value) h))
+    (λ x w. ap (λ b. is_volatile x.1.class && b) w.well) (rows h) (rows_seen h r))
     ∙ each_rows (λ e c. is_volatile c && has (is_good_vote e.value) h) h

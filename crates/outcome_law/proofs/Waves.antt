@@ -1,6 +1,6 @@
 -- The waves of a history: by its row, an enlistment waits for the votes of those that were asked to prepare before it came.
 use Rattle.std.proofs.Common.{◌≡◌, ℕ, ◌==◌, ◌<◌, ◌≤◌, suc, Bool, true, false, ◌&&◌, ◌||◌, List, [], ◌∷◌, Option, Some, None, refl, ◌∙◌, ap, map, subst, sym, arith}
-use Rattle.std.specs.Prelude.{is_some, nat_lt, not, if◌then◌else◌}
+use Rattle.std.specs.Prelude.{is_some, not, if◌then◌else◌}
 use Rattle.std.specs.List.{slice_get}
 use Rattle.std.proofs.Math.Nat.{le_trans}
 use Rattle.std.proofs.lemmas.Bool.{eqb-true}
@@ -16,7 +16,7 @@ use Rattle.dtx_model.specs.Words.{has, each, all_of}
 use Rattle.dtx_model.specs.Entries.{is_vote}
 use Rattle.dtx_model.specs.Observed.{rows}
 use Rattle.dtx_model.specs.Seen.{asked_of, asked_before, waited_for, IsSeen}
-use Rattle.dtx_model.proofs.Bools.{and_swap, or_case}
+use Rattle.dtx_model.proofs.Bools.{and_swap}
 use Rattle.outcome_law.proofs.Lists.{eq_self, eq_swap, apart, OfEach, of-at, of-more, of-map, of-insert, of-both, of-has, each_same, each_kept, if_kept, each-insert, how_many-insert, how_many_kept}
 use Rattle.outcome_law.proofs.Rule.{is_enlisted, ruled, first_rule, other_rules}
 use Rattle.outcome_law.proofs.TableRows.{enlisted_in_rows, enlisted_once, asked_enlisted, IsRow, rows_seen, row_seen}
