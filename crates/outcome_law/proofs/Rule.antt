@@ -1,12 +1,12 @@
 -- What must stand before each entry: the table of which entries come where, for the commands that are run.
-use Rattle.std.proofs.Common.{◌≡◌, ℕ, ◌==◌, Bool, true, false, ◌&&◌, ◌||◌, List, [], ◌∷◌, Option, Some, None, refl}
+use Rattle.std.proofs.Common.{◌≡◌, ℕ, ◌==◌, Bool, true, false, ◌&&◌, ◌||◌, List, ◌∷◌, Option, Some, None}
 use Rattle.std.specs.Prelude.{not}
 use Rattle.dtx_values.specs.declared.entry.Ask.TheVariants.{Prepare}
 use Rattle.dtx_values.specs.declared.entry.Entry.{Entry}
 use Rattle.dtx_values.specs.declared.entry.Entry.TheVariants.{Called, Began, Cloned, Completed, Enlisted, CommitAsked, RollbackAsked, Clock, TimedOut, Late, Asked, Voted, Sealed, Decided, Told}
 use Rattle.dtx_values.specs.declared.entry.Party.TheVariants.{Client}
 use Rattle.dtx_values.specs.declared.words.Outcome.{Outcome}
-use Rattle.dtx_values.specs.declared.words.Outcome.TheVariants.{Committed, Aborted, InDoubt}
+use Rattle.dtx_values.specs.declared.words.Outcome.TheVariants.{InDoubt}
 use Rattle.dtx_model.specs.Words.{has, each, always, latest, all_of}
 use Rattle.dtx_model.specs.Entries.{same_outcome, is_commit, is_sealed, is_volatile, clone_of, is_asked, is_vote, decision_of, is_decision}
 use Rattle.dtx_model.specs.Outcome.{enlisted, is_complete, may_tell}

@@ -1,5 +1,5 @@
 -- Facts on scans of a list, and on histories with a block behind them.
-use Rattle.std.proofs.Common.{◌≡◌, ℕ, zero, suc, Bool, true, false, ◌&&◌, ◌||◌, List, [], ◌∷◌, ◌++◌, Option, Some, None, refl, map, ◌∙◌, ap}
+use Rattle.std.proofs.Common.{◌≡◌, ℕ, zero, suc, Bool, true, false, ◌&&◌, ◌||◌, List, [], ◌∷◌, ◌++◌, Option, Some, None, refl, map, ◌∙◌, ap, subst}
 use Rattle.std.specs.Prelude.{find, if◌then◌else◌}
 use Rattle.std.specs.List.{slice_get}
 use Rattle.dtx_model.specs.Words.{has, each, onto, past_of}
@@ -79,3 +79,13 @@ find_none p (x ∷ xs) h = step (p x) x (find p xs) (has p xs) (find_none p xs) 
     step : {A : Type 0} (b : Bool) (x : A) (o : Option A) (rest : Bool) → (o ≡ None → rest ≡ false) → (if b then Some x else o) ≡ None → (b || rest) ≡ false
     step true x o rest ih h = absurd cc
     step false x o rest ih h = ih h
+
+-- what was found stands at a place, and passes
+pub find-at : {A : Type 0} (p : A → Bool) → (xs : List A) (x : A) → find p xs ≡ Some x → (k : ℕ) × (slice_get xs k ≡ Some x) × (p x ≡ true)
+find-at p [] x h = absurd cc
+find-at p (y ∷ xs) x h = step p (p y) y x xs refl (find-at p xs x) h
+  where
+    step : {A : Type 0} (p : A → Bool) (b : Bool) (y x : A) (xs : List A) → p y ≡ b → (find p xs ≡ Some x → (k : ℕ) × (slice_get xs k ≡ Some x) × (p x ≡ true))
+        → (if b then Some y else find p xs) ≡ Some x → (k : ℕ) × (slice_get (y ∷ xs) k ≡ Some x) × (p x ≡ true)
+    step p true y x xs passes ih h = let same : y ≡ x = cc in (zero, ap Some same, subst (λ z. p z ≡ true) same passes)
+    step p false y x xs passes ih h = let found = ih h in (suc found.0, found.1, found.2)

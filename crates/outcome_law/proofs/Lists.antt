@@ -1,0 +1,166 @@
+-- What holds of each item of a list, and scans of a list with an item more or with its items changed.
+use Rattle.std.proofs.Common.{◌≡◌, ℕ, ◌==◌, zero, suc, Bool, true, false, ◌&&◌, ◌||◌, List, [], ◌∷◌, ◌++◌, Some, refl, map, ◌∙◌, ap, subst, arith}
+use Rattle.std.specs.Prelude.{nat_lt, if◌then◌else◌}
+use Rattle.std.specs.List.{slice_get}
+use Rattle.std.proofs.lemmas.Bool.{eqb-true}
+use Rattle.std.proofs.lemmas.Bool.Decides.{nat_tests}
+use Rattle.dtx_values.specs.Table.{how_many, insert_by}
+use Rattle.dtx_model.specs.Words.{has, each}
+use Rattle.dtx_model.proofs.Bools.{and_swap, or_right, or_swap}
+use Rattle.outcome_law.proofs.Scans.{each-map}
+
+-- a number is itself
+pub eq_self : (n : ℕ) → (n == n) ≡ true
+eq_self n = grind (arith, nat_tests)
+
+-- which of two equal numbers stands first doesn't matter
+pub eq_swap : (a b : ℕ) → (a == b) ≡ (b == a)
+eq_swap a b = grind (arith, nat_tests)
+
+-- where one number passes and another doesn't, they differ
+pub apart : (p : ℕ → Bool) (a b : ℕ) → p a ≡ false → p b ≡ true → (a == b) ≡ false
+apart p a b h k = step (a == b) refl
+  where
+    step : (t : Bool) → (a == b) ≡ t → t ≡ false
+    step true e = let same : a ≡ b = eqb-true a b e in absurd cc
+    step false e = refl
+
+-- where four hold, the second holds
+pub and_second : (a b c d : Bool) → (a && b && c && d) ≡ true → b ≡ true
+and_second true true c d h = refl
+and_second true false c d h = absurd cc
+and_second false b c d h = absurd cc
+
+-- where four hold, the third holds
+pub and_third : (a b c d : Bool) → (a && b && c && d) ≡ true → c ≡ true
+and_third true true true d h = refl
+and_third true true false d h = absurd cc
+and_third true false c d h = absurd cc
+and_third false b c d h = absurd cc
+
+-- where four hold, the fourth holds
+pub and_fourth : (a b c d : Bool) → (a && b && c && d) ≡ true → d ≡ true
+and_fourth true true true d h = h
+and_fourth true true false d h = absurd cc
+and_fourth true false c d h = absurd cc
+and_fourth false b c d h = absurd cc
+
+-- P holds of each item
+abbrev pub OfEach : {A : Type 0} → (A → Type 0) → List A → Type 0
+OfEach P [] = Unit {0}
+OfEach P (x ∷ xs) = P x × OfEach P xs
+
+-- what holds of each holds of the one at a place
+pub of-at : {A : Type 0} (P : A → Type 0) (xs : List A) (k : ℕ) (x : A) → OfEach P xs → slice_get xs k ≡ Some x → P x
+of-at P [] k x h e = absurd cc
+of-at P (y ∷ xs) zero x h e = let same : y ≡ x = cc in subst P same h.0
+of-at P (y ∷ xs) (suc k) x h e = of-at P xs k x h.1 e
+
+-- where P gives Q, what is P of each is Q of each
+pub of-more : {A : Type 0} (P Q : A → Type 0) → ((x : A) → P x → Q x) → (xs : List A) → OfEach P xs → OfEach Q xs
+of-more P Q sub [] h = tt
+of-more P Q sub (x ∷ xs) h = (sub x h.0, of-more P Q sub xs h.1)
+
+-- where P of an item gives Q of what f makes of it, Q holds of each that f makes
+pub of-map : {A B : Type 0} (P : A → Type 0) (Q : B → Type 0) (f : A → B) → ((x : A) → P x → Q (f x)) → (xs : List A) → OfEach P xs → OfEach Q (map f xs)
+of-map P Q f sub [] h = tt
+of-map P Q f sub (x ∷ xs) h = (sub x h.0, of-map P Q f sub xs h.1)
+
+-- what holds of one and of each other holds of each with the one at its place
+pub of-insert : {A : Type 0} (P : A → Type 0) (key : A → ℕ) (x : A) → P x → (xs : List A) → OfEach P xs → OfEach P (insert_by key x xs)
+of-insert P key x p [] h = (p, tt)
+of-insert P key x p (y ∷ ys) h = step P (nat_lt (key y) (key x)) x y ys (insert_by key x ys) p h (of-insert P key x p ys h.1)
+  where
+    step : {A : Type 0} (P : A → Type 0) (b : Bool) (x y : A) (ys rest : List A) → P x → OfEach P (y ∷ ys) → OfEach P rest → OfEach P (if b then y ∷ rest else x ∷ y ∷ ys)
+    step P true x y ys rest p h k = (h.0, k)
+    step P false x y ys rest p h k = (p, h)
+
+-- what holds of each and of one more holds of each with the one behind
+pub of-behind : {A : Type 0} (P : A → Type 0) (x : A) → P x → (xs : List A) → OfEach P xs → OfEach P (xs ++ x ∷ [])
+of-behind P x p [] h = (p, tt)
+of-behind P x p (y ∷ ys) h = (h.0, of-behind P x p ys h.1)
+
+-- two tests that say the same of each: each passes the one as the other
+pub each_same : {A : Type 0} (p q : A → Bool) (xs : List A) → OfEach (λ x. p x ≡ q x) xs → each p xs ≡ each q xs
+each_same p q [] h = refl
+each_same p q (x ∷ xs) h = ap (λ b. b && each p xs) h.0 ∙ ap (λ b. q x && b) (each_same p q xs h.1)
+
+-- two tests that say the same of each: one passes the one as the other
+pub has_same : {A : Type 0} (p q : A → Bool) (xs : List A) → OfEach (λ x. p x ≡ q x) xs → has p xs ≡ has q xs
+has_same p q [] h = refl
+has_same p q (x ∷ xs) h = ap (λ b. b || has p xs) h.0 ∙ ap (λ b. q x || b) (has_same p q xs h.1)
+
+-- what is so of every item is so of each
+pub of-all : {A : Type 0} (P : A → Type 0) → ((x : A) → P x) → (xs : List A) → OfEach P xs
+of-all P all [] = tt
+of-all P all (x ∷ xs) = (all x, of-all P all xs)
+
+-- what f makes of an item passes as the item does: each passes as before
+pub each_kept : {A : Type 0} (p : A → Bool) (f : A → A) → ((x : A) → p (f x) ≡ p x) → (xs : List A) → each p (map f xs) ≡ each p xs
+each_kept p f same xs = each-map p f xs ∙ each_same (λ x. p (f x)) p xs (of-all (λ x. p (f x) ≡ p x) same xs)
+
+-- what f makes of an item passes as the item does: one passes as before
+pub has_kept : {A : Type 0} (p : A → Bool) (f : A → A) → ((x : A) → p (f x) ≡ p x) → (xs : List A) → has p (map f xs) ≡ has p xs
+has_kept p f same [] = refl
+has_kept p f same (x ∷ xs) = ap (λ b. b || has p (map f xs)) (same x) ∙ ap (λ b. p x || b) (has_kept p f same xs)
+
+-- one of two that pass alike passes as the second
+pub if_kept : {A : Type 0} (p : A → Bool) (b : Bool) (y x : A) → p y ≡ p x → p (if b then y else x) ≡ p x
+if_kept p true y x e = e
+if_kept p false y x e = refl
+
+-- each passes with one more at its place where it passes and each other does
+pub each-insert : {A : Type 0} (p : A → Bool) (key : A → ℕ) (x : A) (xs : List A) → each p (insert_by key x xs) ≡ (p x && each p xs)
+each-insert p key x [] = refl
+each-insert p key x (y ∷ ys) = step p (nat_lt (key y) (key x)) x y ys (insert_by key x ys) (each-insert p key x ys)
+  where
+    step : {A : Type 0} (p : A → Bool) (b : Bool) (x y : A) (ys rest : List A) → each p rest ≡ (p x && each p ys) → each p (if b then y ∷ rest else x ∷ y ∷ ys) ≡ (p x && (p y && each p ys))
+    step p true x y ys rest ih = ap (λ b. p y && b) ih ∙ and_swap (p y) (p x) (each p ys)
+    step p false x y ys rest ih = refl
+
+-- one passes with one more at its place where it passes or another does
+pub has-insert : {A : Type 0} (p : A → Bool) (key : A → ℕ) (x : A) (xs : List A) → has p (insert_by key x xs) ≡ (p x || has p xs)
+has-insert p key x [] = refl
+has-insert p key x (y ∷ ys) = step p (nat_lt (key y) (key x)) x y ys (insert_by key x ys) (has-insert p key x ys)
+  where
+    step : {A : Type 0} (p : A → Bool) (b : Bool) (x y : A) (ys rest : List A) → has p rest ≡ (p x || has p ys) → has p (if b then y ∷ rest else x ∷ y ∷ ys) ≡ (p x || (p y || has p ys))
+    step p true x y ys rest ih = ap (λ b. p y || b) ih ∙ or_swap (p y) (p x) (has p ys)
+    step p false x y ys rest ih = refl
+
+-- each passes with one more behind where it passes and each other does
+pub each-behind : {A : Type 0} (p : A → Bool) (x : A) (xs : List A) → each p (xs ++ x ∷ []) ≡ (p x && each p xs)
+each-behind p x [] = refl
+each-behind p x (y ∷ ys) = ap (λ b. p y && b) (each-behind p x ys) ∙ and_swap (p y) (p x) (each p ys)
+
+-- one passes with one more behind where it passes or another does
+pub has-behind : {A : Type 0} (p : A → Bool) (x : A) (xs : List A) → has p (xs ++ x ∷ []) ≡ (p x || has p xs)
+has-behind p x [] = refl
+has-behind p x (y ∷ ys) = ap (λ b. p y || b) (has-behind p x ys) ∙ or_swap (p y) (p x) (has p ys)
+
+-- what P and Q hold of each, they hold of each together
+pub of-both : {A : Type 0} (P Q : A → Type 0) (xs : List A) → OfEach P xs → OfEach Q xs → OfEach (λ x. P x × Q x) xs
+of-both P Q [] h k = tt
+of-both P Q (x ∷ xs) h k = ((h.0, k.0), of-both P Q xs h.1 k.1)
+
+-- of each it is so that where it passes, one passes
+pub of-has : {A : Type 0} (p : A → Bool) (xs : List A) → OfEach (λ x. p x ≡ true → has p xs ≡ true) xs
+of-has p [] = tt
+of-has p (x ∷ xs) = (
+  λ h. rw h refl,
+  of-more (λ y. p y ≡ true → has p xs ≡ true) (λ y. p y ≡ true → has p (x ∷ xs) ≡ true) (λ y f h. or_right (p x) (has p xs) (f h)) xs (of-has p xs),
+)
+
+-- as many pass with one more at its place that doesn't
+pub how_many-insert : {A : Type 0} (p : A → Bool) (key : A → ℕ) (x : A) → p x ≡ false → (xs : List A) → how_many p (insert_by key x xs) ≡ how_many p xs
+how_many-insert p key x f [] = rw f refl
+how_many-insert p key x f (y ∷ ys) = step p (nat_lt (key y) (key x)) x y ys (insert_by key x ys) f (how_many-insert p key x f ys)
+  where
+    step : {A : Type 0} (p : A → Bool) (b : Bool) (x y : A) (ys rest : List A) → p x ≡ false → how_many p rest ≡ how_many p ys
+        → how_many p (if b then y ∷ rest else x ∷ y ∷ ys) ≡ how_many p (y ∷ ys)
+    step p true x y ys rest f ih = ap (λ n. if p y then suc n else n) ih
+    step p false x y ys rest f ih = rw f refl
+
+-- what f makes of an item passes as the item does: as many pass as before
+pub how_many_kept : {A : Type 0} (p : A → Bool) (f : A → A) → ((x : A) → p (f x) ≡ p x) → (xs : List A) → how_many p (map f xs) ≡ how_many p xs
+how_many_kept p f same [] = refl
+how_many_kept p f same (x ∷ xs) = ap (λ b. if b then suc (how_many p (map f xs)) else how_many p (map f xs)) (same x) ∙ ap (λ n. if p x then suc n else n) (how_many_kept p f same xs)

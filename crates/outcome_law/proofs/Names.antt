@@ -1,0 +1,265 @@
+-- Names are made once: what the call of a line makes is new in each history where that line wasn't called yet.
+use Rattle.std.proofs.Common.{◌≡◌, ℕ, zero, suc, ◌==◌, Bool, true, false, ◌||◌, List, [], ◌∷◌, ◌++◌, map, Option, Some, None, refl, arith, ◌∙◌, ap, sym, subst}
+use Rattle.std.specs.Prelude.{not, nat_lt, if◌then◌else◌}
+use Rattle.std.specs.List.{slice_get}
+use Rattle.std.proofs.lemmas.Bool.Decides.{nat_tests}
+use Rattle.dtx_values.specs.declared.number.ActorNo.{ActorNo}
+use Rattle.dtx_values.specs.declared.number.CloneNo.{CloneNo}
+use Rattle.dtx_values.specs.declared.number.TxNo.{TxNo}
+use Rattle.dtx_values.specs.declared.call.Call.{Call}
+use Rattle.dtx_values.specs.declared.call.Call.TheVariants.{Volatile, Clone, Commit, Tick}
+use Rattle.dtx_values.specs.declared.entry.Ask.TheVariants.{Prepare}
+use Rattle.dtx_values.specs.declared.entry.Entry.{Entry}
+use Rattle.dtx_values.specs.declared.entry.Entry.TheVariants.{Called, Cloned, Completed, Enlisted, Asked, Voted}
+use Rattle.dtx_values.specs.declared.row.Row.{Row}
+use Rattle.dtx_values.specs.declared.script.Body.{Body}
+use Rattle.dtx_values.specs.declared.script.Body.TheVariants.{Volatile as VolatileLine, Clone as CloneLine, Complete as CompleteLine}
+use Rattle.dtx_values.specs.declared.script.Line.{Line}
+use Rattle.dtx_values.specs.Table.{Enlistment, is_of, insert_by, marks, mark_row, vote_row, number_of, fresh_row}
+use Rattle.dtx_values.specs.Clones.{is_clone, is_open_rollback}
+use Rattle.dtx_model.specs.Words.{has, each, always, kth, onto}
+use Rattle.dtx_model.specs.Entries.{is_call}
+use Rattle.dtx_model.specs.Observed.{Observed, observe, rows, clone_rows}
+use Rattle.dtx_model.specs.Steps.{Step, Calls, Replies, Acts, call_of, complete_call, transaction_of, answer, is_fine, facts, facts_if, veto_if, reaches, ticked, time_up, is_late, block}
+use Rattle.dtx_model.specs.Caused.{IsCallOf, MayCome, Ran, Caused, is_new}
+use Rattle.dtx_model.specs.Grammar.{Name, OfTransaction, OfEnlistment, OfClone, same_name, makes, is_made, is_named_well, are_named_well}
+use Rattle.dtx_model.proofs.Bools.{and_left, and_right, or_false, or_right, or_case, or_swap, not_true, not_false, not_both}
+use Rattle.outcome_law.proofs.Rule.{is_enlisted, is_cloned}
+use Rattle.outcome_law.proofs.Scans.{has-onto}
+use Rattle.outcome_law.proofs.Pending.{is_plain, veto_plain, time_plain, block_plain}
+
+-- the line makes this name
+abbrev pub is_maker : Name → Line → Bool
+is_maker x l = has (λ m. same_name x m) (makes l.body)
+
+-- the call makes this name
+abbrev pub call_makes : Name → Call → Bool
+call_makes x (Volatile t e o v) = same_name x (OfEnlistment e.value)
+call_makes x (Clone t c k) = same_name x (OfClone c.value)
+call_makes x _ = false
+
+-- the entry brings this name
+abbrev pub is_namer : Name → Entry → Bool
+is_namer x (Enlisted e c) = same_name x (OfEnlistment e.value)
+is_namer x (Cloned c k) = same_name x (OfClone c.value)
+is_namer x _ = false
+
+-- names that the test finds the same are the same
+same_is : (x y : Name) → same_name x y ≡ true → x ≡ y
+same_is (OfTransaction n) (OfTransaction m) h = let same : n ≡ m = grind (arith, nat_tests) in ap (λ k. OfTransaction k) same
+same_is (OfEnlistment n) (OfEnlistment m) h = let same : n ≡ m = grind (arith, nat_tests) in ap (λ k. OfEnlistment k) same
+same_is (OfClone n) (OfClone m) h = let same : n ≡ m = grind (arith, nat_tests) in ap (λ k. OfClone k) same
+same_is _ _ h = absurd cc
+
+-- none of these names was made before, so none of them is one that was
+made_twice : (before : List Line) (x : Name) (ns : List Name) → each (λ n. not (is_made before n)) ns ≡ true → has (λ m. same_name x m) ns ≡ true → is_made before x ≡ false
+made_twice before x [] h k = absurd cc
+made_twice before x (n ∷ ns) h k =
+    or_case (same_name x n) (has (λ m. same_name x m) ns)
+    (λ e. ap (λ y. is_made before y) (same_is x n e) ∙ not_true (is_made before n) (and_left (not (is_made before n)) (each (λ n. not (is_made before n)) ns) h))
+    (λ e. made_twice before x ns (and_right (not (is_made before n)) (each (λ n. not (is_made before n)) ns) h) e) k
+
+-- what holds of each with those before it, with others behind, held before
+always-before : {E : Type 0} (t : List E → E → Bool) (h xs : List E) → always t (onto h xs) ≡ true → always t h ≡ true
+always-before t h [] k = k
+always-before t h (x ∷ xs) k = and_right (t h x) (always t h) (always-before t (x ∷ h) xs k)
+
+-- no line behind those that made a name makes it again
+not_again : (x : Name) (rest s : List Line) (j : ℕ) (l : Line) → always is_named_well (onto rest s) ≡ true → slice_get s j ≡ Some l → is_made rest x ≡ true → is_maker x l ≡ true → ⊥
+not_again x rest [] j l h e k m = cc
+not_again x rest (y ∷ s) zero l h e k m =
+    let same : y ≡ l = cc in
+    let well : is_named_well rest y ≡ true = and_left (is_named_well rest y) (always is_named_well rest) (always-before is_named_well (y ∷ rest) s h) in
+    let maker : is_maker x y ≡ true = subst (λ z. is_maker x z ≡ true) (sym same) m in
+    not_both (is_made rest x) k (made_twice rest x (makes y.body) (and_left (each (λ n. not (is_made rest n)) (makes y.body)) _ well) maker)
+not_again x rest (y ∷ s) (suc j) l h e k m = not_again x (y ∷ rest) s j l h e (or_right (is_maker x y) (is_made rest x) k) m
+
+-- the name of the newest line was made
+made_first : (x : Name) (y l : Line) (rest : List Line) → Some y ≡ Some l → is_maker x l ≡ true → is_made (y ∷ rest) x ≡ true
+made_first x y l rest e m =
+    let same : l ≡ y = cc in
+    let maker : is_maker x y ≡ true = subst (λ z. is_maker x z ≡ true) same m in
+    rw maker refl
+
+-- two lines that make the same name stand at the same place
+same_place : (x : Name) (rest s : List Line) (i j : ℕ) (k l : Line) → always is_named_well (onto rest s) ≡ true → slice_get s i ≡ Some k → slice_get s j ≡ Some l
+    → is_maker x k ≡ true → is_maker x l ≡ true → i ≡ j
+same_place x rest [] i j k l h e f p q = absurd cc
+same_place x rest (y ∷ s) zero zero k l h e f p q = refl
+same_place x rest (y ∷ s) zero (suc j) k l h e f p q = absurd (not_again x (y ∷ rest) s j l h f (made_first x y k rest e p) q)
+same_place x rest (y ∷ s) (suc i) zero k l h e f p q = absurd (not_again x (y ∷ rest) s i k h e (made_first x y l rest f q) p)
+same_place x rest (y ∷ s) (suc i) (suc j) k l h e f p q = ap suc (same_place x (y ∷ rest) s i j k l h e f p q)
+
+-- two lines of a script in which names are made once that make the same name are the same line
+made_once : (x : Name) (s : List Line) (n m : ℕ) (k l : Line) → are_named_well s ≡ true → kth s n ≡ Some k → kth s m ≡ Some l → is_maker x k ≡ true → is_maker x l ≡ true → n ≡ m
+made_once x s zero m k l h e f p q = absurd cc
+made_once x s (suc n) zero k l h e f p q = absurd cc
+made_once x s (suc n) (suc m) k l h e f p q = ap suc (same_place x [] s n m k l h e f p q)
+
+-- the line with whose body a call is given makes what the call makes
+line_makes : (s : List Line) (x : Name) (b : Body) (t : TxNo) (c : Call) → call_of s b ≡ Some (t, c) → call_makes x c ≡ true → has (λ m. same_name x m) (makes b) ≡ true
+line_makes s x b t c e k = by_body s x b (subst (λ o. passed x o ≡ true) (sym e) k)
+  where
+    passed : Name → Option (TxNo × Call) → Bool
+    passed x (Some c) = call_makes x c.1
+    passed x None = false
+
+    by_clone : (x : Name) (c : CloneNo) (o : Option TxNo) → passed x (complete_call c o) ≡ true → ⊥
+    by_clone x c (Some t) h = cc
+    by_clone x c None h = cc
+
+    by_body : (s : List Line) (x : Name) (b : Body) → passed x (call_of s b) ≡ true → has (λ m. same_name x m) (makes b) ≡ true
+    by_body s x (VolatileLine t e o v) h = rw h refl
+    by_body s x (CloneLine t c k) h = rw h refl
+    by_body s x (CompleteLine c) h = absurd (by_clone x c (transaction_of s c.value) h)
+    by_body s x _ h = absurd cc
+
+-- what is plain brings no name
+plain_no_name : (x : Name) (es : List Entry) → each is_plain es ≡ true → has (is_namer x) es ≡ false
+plain_no_name x [] h = refl
+plain_no_name x (y ∷ es) h =
+    or_false (is_namer x y) (has (is_namer x) es) (one x y (and_left (is_plain y) (each is_plain es) h)) (plain_no_name x es (and_right (is_plain y) (each is_plain es) h))
+  where
+    one : (x : Name) (y : Entry) → is_plain y ≡ true → is_namer x y ≡ false
+    one x (Enlisted e c) h = absurd cc
+    one x (Cloned c k) h = absurd cc
+    one x _ h = refl
+
+-- a fact that brings a name is of a call that makes it
+facts_make : (x : Name) (o : Observed) (c : Call) (b : Bool) → has (is_namer x) (facts_if b (facts o c)) ≡ true → call_makes x c ≡ true
+facts_make x o c false h = absurd cc
+facts_make x o (Volatile t e v p) true h = or_case (same_name x (OfEnlistment e.value)) false (λ k. k) (λ k. absurd cc) h
+facts_make x o (Clone t c k) true h = or_case (same_name x (OfClone c.value)) false (λ k. k) (λ k. absurd cc) h
+facts_make x o (Commit t) true h = absurd (not_both _ h (plain_no_name x (veto_if (has is_open_rollback o.clones)) (veto_plain (has is_open_rollback o.clones))))
+facts_make x o (Tick t n) true h =
+    let reached = reaches o.limit o.clock (ticked o.clock n) in
+    absurd (not_both _ h (plain_no_name x (if reached then time_up (is_late o) else []) (time_plain reached (is_late o))))
+facts_make x o _ true h = absurd cc
+
+-- the line that makes this name was called in the history
+record IsMade (s : List Line) (h : List Entry) (x : Name) : Type 0 where
+  number : ℕ
+  line : Line
+  stands : kth s number ≡ Some line
+  maker : is_maker x line ≡ true
+  called : has (is_call number) h ≡ true
+
+-- what was made before a block was made behind it too
+made_behind : (s : List Line) (h es : List Entry) (x : Name) → IsMade s h x → IsMade s (onto h es) x
+made_behind s h es x r =
+    record {
+      number = r.number;
+      line = r.line;
+      stands = r.stands;
+      maker = r.maker;
+      called = has-onto (is_call r.number) h es ∙ or_right (has (is_call r.number) es) (has (is_call r.number) h) r.called;
+    }
+
+-- a block that brings a name is of the call of a line that makes it
+block_made : (s : List Line) (t : ℕ) (h : List Entry) (x : Name) (m : Step) → MayCome s t h m → has (is_namer x) (block (observe h) m) ≡ true → IsMade s (onto h (block (observe h) m)) x
+unfolding block
+block_made s t h x (Calls n a c d) k e =
+    let y = answer (observe h) c d in
+    let es = facts_if (is_fine y) (facts (observe h) c) in
+    let same : (n == n) ≡ true = grind (arith, nat_tests) in
+    let here : has (is_call n) (Called n a y ∷ es) ≡ true = rw same refl in
+    record {
+      number = n;
+      line = k.0.line;
+      stands = k.0.stands;
+      maker = line_makes s x k.0.line.body k.0.name c k.0.gives (facts_make x (observe h) c (is_fine y) e);
+      called = has-onto (is_call n) h (Called n a y ∷ es) ∙ ap (λ b. b || has (is_call n) h) here;
+    }
+block_made s t h x (Replies f r) k e = absurd (not_both _ e (plain_no_name x (block (observe h) (Replies f r)) (block_plain (observe h) (Replies f r) refl)))
+block_made s t h x Acts k e = absurd (not_both _ e (plain_no_name x (block (observe h) Acts) (block_plain (observe h) Acts refl)))
+
+-- each name in the history of a script is of a line that was called
+named_made : (s : List Line) (t : ℕ) (x : Name) (steps : List Step) (h : List Entry) → Ran s t steps h → has (is_namer x) h ≡ true → IsMade s h x
+named_made s t x [] h r k = absurd (not_both (has (is_namer x) h) k (ap (λ h. has (is_namer x) h) r))
+named_made s t x (m ∷ ms) h r k =
+    let es = block (observe r.0) m in
+    let split : (has (is_namer x) es || has (is_namer x) r.0) ≡ true = sym (has-onto (is_namer x) r.0 es) ∙ ap (λ h. has (is_namer x) h) (sym r.3) ∙ k in
+    subst (λ h. IsMade s h x) (sym r.3)
+    (or_case (has (is_namer x) es) (has (is_namer x) r.0) (λ e. block_made s t r.0 x m r.2 e) (λ e. made_behind s r.0 es x (named_made s t x ms r.0 r.1 e)) split)
+
+-- what the call of a line makes has no entry where the line wasn't called
+not_named : (s : List Line) (t n : ℕ) (a : ActorNo) (c : Call) (x : Name) (h : List Entry) → are_named_well s ≡ true → Caused s t h → IsCallOf s t n a c → has (is_call n) h ≡ false
+    → call_makes x c ≡ true → has (is_namer x) h ≡ false
+not_named s t n a c x h w r k u m = by_cases (has (is_namer x) h) refl
+  where
+    by_cases : (b : Bool) → has (is_namer x) h ≡ b → has (is_namer x) h ≡ false
+    by_cases false e = e
+    by_cases true e =
+        let made = named_made s t x r.0 h r.1 e in
+        let maker = line_makes s x k.line.body k.name c k.gives m in
+        let same : made.number ≡ n = made_once x s made.number n made.line k.line w made.stands k.stands made.maker maker in
+        absurd (not_both (has (is_call n) h) (subst (λ i. has (is_call i) h ≡ true) same made.called) u)
+
+-- one passes with one more put in its place: it passes or one did
+has-insert_by : {A : Type 0} (p : A → Bool) (key : A → ℕ) (x : A) (ys : List A) → has p (insert_by key x ys) ≡ (p x || has p ys)
+has-insert_by p key x [] = refl
+has-insert_by p key x (y ∷ ys) = step p x y (insert_by key x ys) ys (nat_lt (key y) (key x)) (has-insert_by p key x ys)
+  where
+    step : {A : Type 0} (p : A → Bool) (x y : A) (zs ys : List A) (b : Bool) → has p zs ≡ (p x || has p ys) → has p (if b then y ∷ zs else x ∷ y ∷ ys) ≡ (p x || (p y || has p ys))
+    step p x y zs ys true e = ap (λ b. p y || b) e ∙ or_swap (p y) (p x) (has p ys)
+    step p x y zs ys false e = refl
+
+-- one passes behind changes that the test doesn't see: one passed
+has-map : {A : Type 0} (p : A → Bool) (f : A → A) → ((x : A) → p (f x) ≡ p x) → (xs : List A) → has p (map f xs) ≡ has p xs
+has-map p f same [] = refl
+has-map p f same (x ∷ xs) = ap (λ b. b || has p (map f xs)) (same x) ∙ ap (λ b. p x || b) (has-map p f same xs)
+
+-- one passes with one more at the end: it passes or one did
+has-snoc : {A : Type 0} (p : A → Bool) (xs : List A) (x : A) → has p (xs ++ x ∷ []) ≡ (p x || has p xs)
+has-snoc p [] x = refl
+has-snoc p (y ∷ xs) x = ap (λ b. p y || b) (has-snoc p xs x) ∙ or_swap (p y) (p x) (has p xs)
+
+-- another row keeps the number
+keeps_number : (e : ℕ) (x : Enlistment) (r : Row) (b : Bool) → is_of e (if b then (x.0, r) else x) ≡ is_of e x
+keeps_number e x r true = refl
+keeps_number e x r false = refl
+
+-- the table has the enlistments that came
+pub has-rows : (e : ℕ) (h : List Entry) → has (is_of e) (rows h) ≡ has (is_enlisted e) h
+has-rows e [] = refl
+has-rows e (Enlisted f c ∷ h) = has-insert_by (is_of e) number_of (f, fresh_row c (marks (rows h))) (rows h) ∙ ap (λ b. (e == f.value) || b) (has-rows e h)
+has-rows e (Asked f Prepare ∷ h) =
+    let xs = rows h in
+    has-map (is_of e) (λ x. if is_of f.value x then (x.0, mark_row (marks xs) x.1) else x) (λ x. keeps_number e x (mark_row (marks xs) x.1) (is_of f.value x)) xs ∙ has-rows e h
+has-rows e (Voted f v ∷ h) =
+    has-map (is_of e) (λ x. if is_of f.value x then (x.0, vote_row v x.1) else x) (λ x. keeps_number e x (vote_row v x.1) (is_of f.value x)) (rows h) ∙ has-rows e h
+has-rows e (x ∷ h) = has-rows e h
+
+-- the clones are those that came
+pub has-clone_rows : (c : ℕ) (h : List Entry) → has (is_clone c) (clone_rows h) ≡ has (is_cloned c) h
+has-clone_rows c [] = refl
+has-clone_rows c (Cloned d k ∷ h) = has-snoc (is_clone c) (clone_rows h) (record { clone = d; kind = k; complete = false }) ∙ ap (λ b. (c == d.value) || b) (has-clone_rows c h)
+has-clone_rows c (Completed d ∷ h) =
+    has-map (is_clone c) (λ r. record { clone = r.clone; kind = r.kind; complete = is_clone d.value r || r.complete }) (λ r. refl) (clone_rows h) ∙ has-clone_rows c h
+has-clone_rows c (x ∷ h) = has-clone_rows c h
+
+-- what brings the name of an enlistment is that enlistment's entry
+enlisted_namer : (e : ℕ) (h : List Entry) → has (is_namer (OfEnlistment e)) h ≡ has (is_enlisted e) h
+enlisted_namer e [] = refl
+enlisted_namer e (Enlisted f c ∷ h) = ap (λ b. (e == f.value) || b) (enlisted_namer e h)
+enlisted_namer e (x ∷ h) = enlisted_namer e h
+
+-- what brings the name of a clone is that clone's entry
+cloned_namer : (c : ℕ) (h : List Entry) → has (is_namer (OfClone c)) h ≡ has (is_cloned c) h
+cloned_namer c [] = refl
+cloned_namer c (Cloned d k ∷ h) = ap (λ b. (c == d.value) || b) (cloned_namer c h)
+cloned_namer c (x ∷ h) = cloned_namer c h
+
+-- what the call of a line makes is new where the line wasn't called
+pub caused_new : (s : List Line) (t n : ℕ) (a : ActorNo) (c : Call) (h : List Entry) → are_named_well s ≡ true → Caused s t h → IsCallOf s t n a c → has (is_call n) h ≡ false
+    → is_new (observe h) c ≡ true
+unfolding observe
+caused_new s t n a (Volatile u e o v) h w r k f =
+    let same : (e.value == e.value) ≡ true = grind (arith, nat_tests) in
+    let none : has (is_namer (OfEnlistment e.value)) h ≡ false = not_named s t n a (Volatile u e o v) (OfEnlistment e.value) h w r k f same in
+    not_false (has (is_of e.value) (rows h)) (has-rows e.value h ∙ sym (enlisted_namer e.value h) ∙ none)
+caused_new s t n a (Clone u c x) h w r k f =
+    let same : (c.value == c.value) ≡ true = grind (arith, nat_tests) in
+    let none : has (is_namer (OfClone c.value)) h ≡ false = not_named s t n a (Clone u c x) (OfClone c.value) h w r k f same in
+    not_false (has (is_clone c.value) (clone_rows h)) (has-clone_rows c.value h ∙ sym (cloned_namer c.value h) ∙ none)
+caused_new s t n a _ h w r k f = refl

@@ -1,0 +1,152 @@
+-- Which steps are pending, and which entries no block but a call's has.
+use Rattle.std.proofs.Common.{◌≡◌, Bool, true, false, ◌&&◌, List, [], ◌∷◌, Option, Some, None, refl}
+use Rattle.std.specs.Prelude.{is_some, find, not, if◌then◌else◌}
+use Rattle.std.specs.List.{filter_map, cons_option}
+use Rattle.dtx_values.specs.declared.number.EnlNo.{EnlNo}
+use Rattle.dtx_values.specs.declared.call.Call.{Call}
+use Rattle.dtx_values.specs.declared.call.Call.TheVariants.{Begin, Volatile, Clone, Complete, Commit, Rollback, Tick}
+use Rattle.dtx_values.specs.declared.entry.Entry.{Entry}
+use Rattle.dtx_values.specs.declared.entry.Entry.TheVariants.{Called, Cloned, Enlisted}
+use Rattle.dtx_values.specs.declared.note.Reply.TheVariants.{Vote as VoteReply}
+use Rattle.dtx_values.specs.declared.script.Line.{Line}
+use Rattle.dtx_values.specs.declared.words.Outcome.{Outcome}
+use Rattle.dtx_values.specs.declared.words.Vote.{Vote}
+use Rattle.dtx_values.specs.Table.{has_voted, is_marked}
+use Rattle.dtx_values.specs.Clones.{is_open_rollback}
+use Rattle.dtx_model.specs.declared.listener.Listener.{Listener}
+use Rattle.dtx_model.specs.Words.{has, each}
+use Rattle.dtx_model.specs.Waves.{is_over, next_ask}
+use Rattle.dtx_model.specs.Observed.{Observed}
+use Rattle.dtx_model.specs.Steps.{Step, Calls, Replies, Acts, facts, facts_if, veto_if, reaches, ticked, time_up, is_late, is_no, tell, is_to_tell, before_seal, behind_seal, all_voted, undecided_act, act_by, act_entries, vote_step, due_reply, due_replies, act_if, planned_vote, pending, block}
+use Rattle.dtx_model.proofs.Bools.{and_both}
+use Rattle.outcome_law.proofs.Scans.{each-append, each_more}
+
+-- what is there passes
+abbrev pub passes : {A : Type 0} → (A → Bool) → Option A → Bool
+passes p (Some x) = p x
+passes p None = true
+
+-- each passes of what f gives where what it gives passes
+pub each-filter_map : {A B : Type 0} (p : B → Bool) (f : A → Option B) → ((x : A) → passes p (f x) ≡ true) → (xs : List A) → each p (filter_map f xs) ≡ true
+each-filter_map p f sub [] = refl
+each-filter_map p f sub (x ∷ xs) = step p (f x) (filter_map f xs) (sub x) (each-filter_map p f sub xs)
+  where
+    step : {B : Type 0} (p : B → Bool) (o : Option B) (ys : List B) → passes p o ≡ true → each p ys ≡ true → each p (cons_option o ys) ≡ true
+    step p (Some y) ys h k = and_both (p y) (each p ys) h k
+    step p None ys h k = k
+
+-- no call
+abbrev pub is_no_call : Step → Bool
+is_no_call (Calls n a c m) = false
+is_no_call _ = true
+
+-- a reply that is due is no call
+due_no_call : (b : Bool) (e : EnlNo) (o : Option Vote) → passes is_no_call (vote_step b e o) ≡ true
+due_no_call true e (Some v) = refl
+due_no_call true e None = refl
+due_no_call false e o = refl
+
+-- the local act is no call
+acts_no_call : (xs : List Entry) → each is_no_call (act_if xs) ≡ true
+acts_no_call [] = refl
+acts_no_call (x ∷ xs) = refl
+
+-- whichever of two lists it is, each passes where each passes in both
+pub each_if : {A : Type 0} (p : A → Bool) (b : Bool) (xs ys : List A) → each p xs ≡ true → each p ys ≡ true → each p (if b then xs else ys) ≡ true
+each_if p true xs ys h k = h
+each_if p false xs ys h k = k
+
+-- no call is pending
+pub pending_no_call : (s : List Line) (o : Observed) → each is_no_call (pending s o) ≡ true
+unfolding pending
+pending_no_call s o =
+    each-append is_no_call (due_replies s o) (act_if (act_entries o))
+    (
+    each_if is_no_call (is_some o.decided) [] (filter_map (due_reply s) o.table) refl
+    (each-filter_map is_no_call (due_reply s) (λ x. due_no_call (is_marked x && not (has_voted x)) x.0 (planned_vote s x.0.value)) o.table)
+    )
+    (acts_no_call (act_entries o))
+
+-- an entry that isn't a call
+abbrev pub is_not_called : Entry → Bool
+is_not_called (Called n a x) = false
+is_not_called _ = true
+
+-- an entry that is no call and brings no name
+abbrev pub is_plain : Entry → Bool
+is_plain (Called n a x) = false
+is_plain (Enlisted e c) = false
+is_plain (Cloned c k) = false
+is_plain _ = true
+
+-- what is plain is no call
+pub plain_not_called : (es : List Entry) → each is_plain es ≡ true → each is_not_called es ≡ true
+plain_not_called es h = each_more is_plain is_not_called one es h
+  where
+    one : (x : Entry) → is_plain x ≡ true → is_not_called x ≡ true
+    one (Called n a y) h = absurd cc
+    one _ h = refl
+
+-- a veto, where it stands, is plain
+pub veto_plain : (b : Bool) → each is_plain (veto_if b) ≡ true
+veto_plain true = refl
+veto_plain false = refl
+
+-- the end of the time is plain
+pub time_plain : (reached late : Bool) → each is_plain (if reached then time_up late else []) ≡ true
+time_plain true true = refl
+time_plain true false = refl
+time_plain false late = refl
+
+-- the facts of a call are no calls
+pub facts_not_called : (o : Observed) (c : Call) (b : Bool) → each is_not_called (facts_if b (facts o c)) ≡ true
+facts_not_called o c false = refl
+facts_not_called o (Begin t d) true = refl
+facts_not_called o (Volatile t e x v) true = refl
+facts_not_called o (Clone t c k) true = refl
+facts_not_called o (Complete c) true = refl
+facts_not_called o (Commit t) true = plain_not_called (veto_if (has is_open_rollback o.clones)) (veto_plain (has is_open_rollback o.clones))
+facts_not_called o (Rollback t) true = refl
+facts_not_called o (Tick t n) true =
+    let reached = reaches o.limit o.clock (ticked o.clock n) in
+    plain_not_called (if reached then time_up (is_late o) else []) (time_plain reached (is_late o))
+facts_not_called o _ true = refl
+
+-- what is told is plain
+tell_plain : (x : Outcome) (l : Option Listener) (told : Option Outcome) → each is_plain (tell x l told) ≡ true
+tell_plain x (Some l) told = refl
+tell_plain x None (Some y) = refl
+tell_plain x None None = refl
+
+-- what comes in phase zero is plain
+zero_plain : (e : Option EnlNo) (over : Bool) → each is_plain (before_seal e over) ≡ true
+zero_plain (Some e) over = refl
+zero_plain None true = refl
+zero_plain None false = refl
+
+-- what comes behind the seal is plain
+seal_plain : (e : Option EnlNo) (voted : Bool) → each is_plain (behind_seal e voted) ≡ true
+seal_plain (Some e) voted = refl
+seal_plain None true = refl
+seal_plain None false = refl
+
+-- what the local act does while nothing is decided is plain
+undecided_plain : (commit sealed : Bool) (xs ys : List Entry) → each is_plain xs ≡ true → each is_plain ys ≡ true → each is_plain (undecided_act commit sealed xs ys) ≡ true
+undecided_plain false sealed xs ys h k = refl
+undecided_plain true false xs ys h k = h
+undecided_plain true true xs ys h k = k
+
+-- what the local act does is plain
+act_plain : (d : Option Outcome) (o : Observed) → each is_plain (act_by d o) ≡ true
+act_plain (Some x) o = tell_plain x (find (is_to_tell o.table) o.listeners) o.told_client
+act_plain None o =
+    undecided_plain o.commit o.sealed (before_seal (next_ask o.table true) (is_over o.table o.clones 0)) (behind_seal (next_ask o.table false) (all_voted o.table))
+    (zero_plain (next_ask o.table true) (is_over o.table o.clones 0)) (seal_plain (next_ask o.table false) (all_voted o.table))
+
+-- the block of a reply or of the local act is plain
+pub block_plain : (o : Observed) (m : Step) → is_no_call m ≡ true → each is_plain (block o m) ≡ true
+unfolding block act_entries
+block_plain o (Calls n a c m) h = absurd cc
+block_plain o (Replies e (VoteReply v)) h = veto_plain (is_no v)
+block_plain o (Replies e _) h = refl
+block_plain o Acts h = act_plain o.decided o

@@ -1,0 +1,45 @@
+-- What holds of each item of a list by its place, and what is found or picked of it.
+use Rattle.std.proofs.Common.{◌≡◌, ℕ, zero, suc, Bool, true, false, ◌&&◌, ◌||◌, List, [], ◌∷◌, Option, Some, None, refl, ap}
+use Rattle.std.specs.Prelude.{find, not, if◌then◌else◌}
+use Rattle.std.specs.List.{slice_get, filter_map, cons_option}
+use Rattle.dtx_model.specs.Words.{has, each}
+use Rattle.dtx_model.proofs.Bools.{and_left, and_right, and_both, or_first, or_second}
+use Rattle.outcome_law.proofs.Pending.{passes}
+
+-- where the one at each place passes, each passes
+pub each_from_at : {A : Type 0} (p : A → Bool) (xs : List A) → ((k : ℕ) (x : A) → slice_get xs k ≡ Some x → p x ≡ true) → each p xs ≡ true
+each_from_at p [] f = refl
+each_from_at p (x ∷ xs) f = and_both (p x) (each p xs) (f zero x refl) (each_from_at p xs (λ k y e. f (suc k) y e))
+
+-- what is picked of each passes where it does of each
+pub each_picked : {A B : Type 0} (p : B → Bool) (f : A → Option B) (xs : List A) → each (λ x. passes p (f x)) xs ≡ true → each p (filter_map f xs) ≡ true
+each_picked p f [] h = refl
+each_picked p f (x ∷ xs) h =
+    step p (f x) (filter_map f xs) (and_left (passes p (f x)) (each (λ x. passes p (f x)) xs) h) (each_picked p f xs (and_right (passes p (f x)) (each (λ x. passes p (f x)) xs) h))
+  where
+    step : {B : Type 0} (p : B → Bool) (o : Option B) (ys : List B) → passes p o ≡ true → each p ys ≡ true → each p (cons_option o ys) ≡ true
+    step p (Some y) ys h k = and_both (p y) (each p ys) h k
+    step p None ys h k = k
+
+-- what was found passes where each that could be found does
+pub found_well : {A : Type 0} (p q : A → Bool) (xs : List A) → each (λ x. not (p x) || q x) xs ≡ true → passes q (find p xs) ≡ true
+found_well p q [] h = refl
+found_well p q (x ∷ xs) h = step q (p x) x (find p xs) (and_left (not (p x) || q x) (each (λ x. not (p x) || q x) xs) h) (found_well p q xs (and_right (not (p x) || q x) (each (λ x. not (p x) || q x) xs) h))
+  where
+    step : {A : Type 0} (q : A → Bool) (b : Bool) (x : A) (o : Option A) → (not b || q x) ≡ true → passes q o ≡ true → passes q (if b then Some x else o) ≡ true
+    step q true x o h k = h
+    step q false x o h k = k
+
+-- none passes the one, so each passes the other
+pub none_each : {A : Type 0} (p q : A → Bool) → ((x : A) → p x ≡ false → q x ≡ true) → (xs : List A) → has p xs ≡ false → each q xs ≡ true
+none_each p q sub [] h = refl
+none_each p q sub (x ∷ xs) h = and_both (q x) (each q xs) (sub x (or_first (p x) (has p xs) h)) (none_each p q sub xs (or_second (p x) (has p xs) h))
+
+-- where each passes the one, each passes both as it passes the other
+pub each_and : {A : Type 0} (p q : A → Bool) (xs : List A) → each p xs ≡ true → each (λ x. p x && q x) xs ≡ each q xs
+each_and p q [] h = refl
+each_and p q (x ∷ xs) h = step (p x) (q x) (each (λ x. p x && q x) xs) (each q xs) (and_left (p x) (each p xs) h) (each_and p q xs (and_right (p x) (each p xs) h))
+  where
+    step : (a b c d : Bool) → a ≡ true → c ≡ d → ((a && b) && c) ≡ (b && d)
+    step true b c d e f = ap (λ r. b && r) f
+    step false b c d e f = absurd cc

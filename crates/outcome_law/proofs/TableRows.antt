@@ -1,0 +1,340 @@
+-- The tables of a history: what their rows have to do with its entries.
+use Rattle.std.proofs.Common.{◌≡◌, ℕ, ◌==◌, Bool, true, false, ◌&&◌, ◌||◌, List, [], ◌∷◌, Option, Some, None, refl, ◌∙◌, ap, sym, subst}
+use Rattle.std.specs.Prelude.{find, is_some, not, if◌then◌else◌}
+use Rattle.std.specs.List.{slice_get}
+use Rattle.std.proofs.Math.Bool.{or-false}
+use Rattle.std.proofs.lemmas.Bool.{eqb-true}
+use Rattle.dtx_values.specs.declared.number.CloneNo.{CloneNo}
+use Rattle.dtx_values.specs.declared.number.EnlNo.{EnlNo}
+use Rattle.dtx_values.specs.declared.entry.Ask.TheVariants.{Prepare}
+use Rattle.dtx_values.specs.declared.entry.Entry.{Entry}
+use Rattle.dtx_values.specs.declared.entry.Entry.TheVariants.{Cloned, Completed, CommitAsked, Enlisted, Asked, Voted}
+use Rattle.dtx_values.specs.declared.row.CloneRow.{CloneRow}
+use Rattle.dtx_values.specs.declared.words.Class.{Class}
+use Rattle.dtx_values.specs.declared.words.CloneKind.{CloneKind}
+use Rattle.dtx_values.specs.declared.words.CloneKind.TheVariants.{Block, Rollback}
+use Rattle.dtx_values.specs.declared.words.Vote.{Vote}
+use Rattle.dtx_values.specs.Table.{Enlistment, is_of, is_marked, has_voted, marks, number_of, fresh_row, unless_there, mark_row, vote_row}
+use Rattle.dtx_values.specs.Clones.{is_clone, blocks, is_open_block, is_open_rollback}
+use Rattle.dtx_model.specs.Words.{has, each, latest, or_else, all_of}
+use Rattle.dtx_model.specs.Entries.{is_decision, is_sealed, is_commit, clone_of, is_completed, is_asked, is_vote, is_good, is_good_vote, is_volatile}
+use Rattle.dtx_model.specs.Observed.{rows, clone_rows}
+use Rattle.dtx_model.specs.Outcome.{enlisted, is_complete, is_rollback, is_veto}
+use Rattle.dtx_model.specs.Seen.{vote_of, IsCloneSeen}
+use Rattle.dtx_model.specs.Steps.{voted_well, all_voted}
+use Rattle.dtx_model.specs.Waves.{is_zero, zeros_voted}
+use Rattle.dtx_model.proofs.Bools.{and_right, or_false, or_second, or_right, not_true}
+use Rattle.outcome_law.proofs.Scans.{find-at}
+use Rattle.outcome_law.proofs.Lists.{eq_self, eq_swap, apart, and_second, and_third, and_fourth, OfEach, of-at, of-more, of-map, of-insert, of-behind, of-all, each_same, has_same, each_kept, has_kept, if_kept, each-insert, has-insert, each-behind, has-behind}
+use Rattle.outcome_law.proofs.Rule.{is_enlisted, is_cloned, zeros_cast, rule, ruled, first_rule, other_rules}
+
+-- what each row passes by its number and class, each enlistment passes
+pub each_rows : (f : EnlNo → Class → Bool) (h : List Entry) → each (λ x. f x.0 x.1.class) (rows h) ≡ each (λ x. f x.0 x.1) (enlisted h)
+each_rows f [] = refl
+each_rows f (Enlisted e c ∷ h) = each-insert (λ x. f x.0 x.1.class) number_of (e, fresh_row c (marks (rows h))) (rows h) ∙ ap (λ b. f e c && b) (each_rows f h)
+each_rows f (Asked e Prepare ∷ h) =
+    each_kept (λ x. f x.0 x.1.class) (λ x. if is_of e.value x then (x.0, mark_row (marks (rows h)) x.1) else x)
+    (λ x. if_kept (λ x. f x.0 x.1.class) (is_of e.value x) (x.0, mark_row (marks (rows h)) x.1) x refl) (rows h) ∙ each_rows f h
+each_rows f (Voted e v ∷ h) =
+    each_kept (λ x. f x.0 x.1.class) (λ x. if is_of e.value x then (x.0, vote_row v x.1) else x)
+    (λ x. if_kept (λ x. f x.0 x.1.class) (is_of e.value x) (x.0, vote_row v x.1) x refl) (rows h) ∙ each_rows f h
+each_rows f (x ∷ h) = each_rows f h
+
+-- an enlistment stands in the table where it was enlisted
+pub enlisted_in_rows : (n : ℕ) (h : List Entry) → has (is_of n) (rows h) ≡ has (is_enlisted n) h
+enlisted_in_rows n [] = refl
+enlisted_in_rows n (Enlisted e c ∷ h) = has-insert (is_of n) number_of (e, fresh_row c (marks (rows h))) (rows h) ∙ ap (λ b. (n == e.value) || b) (enlisted_in_rows n h)
+enlisted_in_rows n (Asked e Prepare ∷ h) =
+    has_kept (is_of n) (λ x. if is_of e.value x then (x.0, mark_row (marks (rows h)) x.1) else x)
+    (λ x. if_kept (is_of n) (is_of e.value x) (x.0, mark_row (marks (rows h)) x.1) x refl) (rows h) ∙ enlisted_in_rows n h
+enlisted_in_rows n (Voted e v ∷ h) =
+    has_kept (is_of n) (λ x. if is_of e.value x then (x.0, vote_row v x.1) else x)
+    (λ x. if_kept (is_of n) (is_of e.value x) (x.0, vote_row v x.1) x refl) (rows h) ∙ enlisted_in_rows n h
+enlisted_in_rows n (x ∷ h) = enlisted_in_rows n h
+
+-- what is enlisted wasn't before
+pub enlisted_once : (e : EnlNo) (c : Class) (h : List Entry) → rule h (Enlisted e c) ≡ true → has (is_enlisted e.value) h ≡ false
+enlisted_once e c h r = not_true (has (is_enlisted e.value) h) (and_third (not (has is_decision h)) (not (has is_sealed h)) (not (has (is_enlisted e.value) h)) (is_volatile c) r)
+
+-- what is asked was enlisted
+pub asked_enlisted : (e : EnlNo) (h : List Entry) → rule h (Asked e Prepare) ≡ true → has (is_enlisted e.value) h ≡ true
+asked_enlisted e h r = and_third (not (has is_decision h)) (has is_commit h) (has (is_enlisted e.value) h) (not (has (is_asked e.value) h)) r
+
+-- what votes was enlisted
+pub voted_enlisted : (e : EnlNo) (v : Vote) (h : List Entry) → rule h (Voted e v) ≡ true → has (is_enlisted e.value) h ≡ true
+voted_enlisted e v h r = and_second (not (has is_decision h)) (has (is_enlisted e.value) h) (has (is_asked e.value) h) (not (has (is_vote e.value) h)) r
+
+-- what votes hadn't
+pub voted_once : (e : EnlNo) (v : Vote) (h : List Entry) → rule h (Voted e v) ≡ true → has (is_vote e.value) h ≡ false
+voted_once e v h r =
+    not_true (has (is_vote e.value) h) (and_fourth (not (has is_decision h)) (has (is_enlisted e.value) h) (has (is_asked e.value) h) (not (has (is_vote e.value) h)) r)
+
+-- what wasn't enlisted wasn't asked
+pub unenlisted_unasked : (n : ℕ) (h : List Entry) → ruled h ≡ true → has (is_enlisted n) h ≡ false → has (is_asked n) h ≡ false
+unenlisted_unasked n [] r e = refl
+unenlisted_unasked n (Enlisted f c ∷ h) r e = unenlisted_unasked n h (other_rules (Enlisted f c) h r) (or_second (n == f.value) (has (is_enlisted n) h) e)
+unenlisted_unasked n (Asked f Prepare ∷ h) r e =
+    or_false (n == f.value) (has (is_asked n) h) (apart (λ m. has (is_enlisted m) h) n f.value e (asked_enlisted f h (first_rule (Asked f Prepare) h r)))
+    (unenlisted_unasked n h (other_rules (Asked f Prepare) h r) e)
+unenlisted_unasked n (x ∷ h) r e = unenlisted_unasked n h (other_rules x h r) e
+
+-- what wasn't enlisted didn't vote
+pub unenlisted_unvoted : (n : ℕ) (h : List Entry) → ruled h ≡ true → has (is_enlisted n) h ≡ false → has (is_vote n) h ≡ false
+unenlisted_unvoted n [] r e = refl
+unenlisted_unvoted n (Enlisted f c ∷ h) r e = unenlisted_unvoted n h (other_rules (Enlisted f c) h r) (or_second (n == f.value) (has (is_enlisted n) h) e)
+unenlisted_unvoted n (Voted f v ∷ h) r e =
+    or_false (n == f.value) (has (is_vote n) h) (apart (λ m. has (is_enlisted m) h) n f.value e (voted_enlisted f v h (first_rule (Voted f v) h r)))
+    (unenlisted_unvoted n h (other_rules (Voted f v) h r) e)
+unenlisted_unvoted n (x ∷ h) r e = unenlisted_unvoted n h (other_rules x h r) e
+
+-- what didn't vote has no vote
+pub unvoted_latest : (n : ℕ) (h : List Entry) → has (is_vote n) h ≡ false → latest (vote_of n) h ≡ None
+unvoted_latest n [] k = refl
+unvoted_latest n (Voted f v ∷ h) k = step (n == f.value) (has (is_vote n) h) v (latest (vote_of n) h) (unvoted_latest n h) k
+  where
+    step : (b g : Bool) (v : Vote) (o : Option Vote) → (g ≡ false → o ≡ None) → (b || g) ≡ false → or_else (if b then Some v else None) o ≡ None
+    step true g v o ih k = absurd cc
+    step false g v o ih k = ih k
+unvoted_latest n (x ∷ h) k = unvoted_latest n h k
+
+-- what didn't vote didn't vote well
+pub unvoted_unwell : (n : ℕ) (h : List Entry) → has (is_vote n) h ≡ false → has (is_good_vote n) h ≡ false
+unvoted_unwell n [] k = refl
+unvoted_unwell n (Voted f v ∷ h) k = step (n == f.value) (has (is_vote n) h) (is_good v) (has (is_good_vote n) h) (unvoted_unwell n h) k
+  where
+    step : (b g w m : Bool) → (g ≡ false → m ≡ false) → (b || g) ≡ false → ((b && w) || m) ≡ false
+    step true g w m ih k = absurd cc
+    step false g w m ih k = ih k
+unvoted_unwell n (x ∷ h) k = unvoted_unwell n h k
+
+-- the row says what the history shows of its enlistment, and is in it
+pub record IsRow (h : List Entry) (x : Enlistment) : Type 0 where
+  pub stands : has (is_enlisted x.0.value) h ≡ true
+  pub marked : is_marked x ≡ has (is_asked x.0.value) h
+  pub voted : has_voted x ≡ has (is_vote x.0.value) h
+  pub vote : x.1.vote ≡ latest (vote_of x.0.value) h
+  pub well : voted_well x.1.vote ≡ has (is_good_vote x.0.value) h
+
+-- the row of an enlistment that has just come
+fresh_seen : (e : EnlNo) (c : Class) (n : ℕ) (h : List Entry) → ruled h ≡ true → has (is_enlisted e.value) h ≡ false → IsRow (Enlisted e c ∷ h) (e, fresh_row c n)
+fresh_seen e c n h r k =
+    let silent = unenlisted_unvoted e.value h r k in
+    record {
+      stands = rw (eq_self e.value) refl;
+      marked = sym (unenlisted_unasked e.value h r k);
+      voted = sym silent;
+      vote = sym (unvoted_latest e.value h silent);
+      well = sym (unvoted_unwell e.value h silent);
+    }
+
+-- a row that stands, behind an enlistment
+older_seen : (e : EnlNo) (c : Class) (h : List Entry) (x : Enlistment) → IsRow h x → IsRow (Enlisted e c ∷ h) x
+older_seen e c h x w =
+    record {
+      stands = or_right (x.0.value == e.value) (has (is_enlisted x.0.value) h) w.stands;
+      marked = w.marked;
+      voted = w.voted;
+      vote = w.vote;
+      well = w.well;
+    }
+
+-- what stands there or is put there is there
+there : {A : Type 0} (o : Option A) (x : A) → is_some (unless_there o x) ≡ true
+there (Some y) x = refl
+there None x = refl
+
+-- what isn't there is nothing
+none_there : {A : Type 0} (o : Option A) → is_some o ≡ false → o ≡ None
+none_there (Some y) h = absurd cc
+none_there None h = refl
+
+-- a row behind an ask to prepare, which is its own or another's
+asked_seen : (e : EnlNo) (n : ℕ) (h : List Entry) (x : Enlistment) (b : Bool) → (x.0.value == e.value) ≡ b → IsRow h x
+    → IsRow (Asked e Prepare ∷ h) (if b then (x.0, mark_row n x.1) else x)
+asked_seen e n h x true same w = record { stands = w.stands; marked = rw same (there x.1.asked n); voted = w.voted; vote = w.vote; well = w.well }
+asked_seen e n h x false other w = record { stands = w.stands; marked = rw other w.marked; voted = w.voted; vote = w.vote; well = w.well }
+
+-- a row behind a vote, which is its own or another's
+voted_seen : (e : EnlNo) (v : Vote) (h : List Entry) (x : Enlistment) (b : Bool) → (x.0.value == e.value) ≡ b → has (is_vote e.value) h ≡ false → IsRow h x
+    → IsRow (Voted e v ∷ h) (if b then (x.0, vote_row v x.1) else x)
+voted_seen e v h x true same once w =
+    let number : x.0.value ≡ e.value = eqb-true x.0.value e.value same in
+    let silent : has (is_vote x.0.value) h ≡ false = subst (λ n. has (is_vote n) h ≡ false) (sym number) once in
+    let gone : x.1.vote ≡ None = none_there x.1.vote (w.voted ∙ silent) in
+    let unwell : has (is_good_vote x.0.value) h ≡ false = unvoted_unwell x.0.value h silent in
+    record {
+      stands = w.stands;
+      marked = w.marked;
+      voted = rw same (there x.1.vote v);
+      vote = rw same (ap (λ o. unless_there o v) gone);
+      well = rw (same, unwell, or-false (is_good v)) (ap (λ o. voted_well (unless_there o v)) gone);
+    }
+voted_seen e v h x false other once w =
+    record {
+      stands = w.stands;
+      marked = w.marked;
+      voted = rw other w.voted;
+      vote = rw other w.vote;
+      well = rw other w.well;
+    }
+
+-- each row says what the history shows of its enlistment
+pub rows_seen : (h : List Entry) → ruled h ≡ true → OfEach (IsRow h) (rows h)
+rows_seen [] r = tt
+rows_seen (Enlisted e c ∷ h) r =
+    of-insert (IsRow (Enlisted e c ∷ h)) number_of (e, fresh_row c (marks (rows h)))
+    (fresh_seen e c (marks (rows h)) h (other_rules (Enlisted e c) h r) (enlisted_once e c h (first_rule (Enlisted e c) h r))) (rows h)
+    (of-more (IsRow h) (IsRow (Enlisted e c ∷ h)) (older_seen e c h) (rows h) (rows_seen h (other_rules (Enlisted e c) h r)))
+rows_seen (Asked e Prepare ∷ h) r =
+    of-map (IsRow h) (IsRow (Asked e Prepare ∷ h)) (λ x. if is_of e.value x then (x.0, mark_row (marks (rows h)) x.1) else x)
+    (λ x. asked_seen e (marks (rows h)) h x (is_of e.value x) (eq_swap x.0.value e.value)) (rows h) (rows_seen h (other_rules (Asked e Prepare) h r))
+rows_seen (Voted e v ∷ h) r =
+    of-map (IsRow h) (IsRow (Voted e v ∷ h)) (λ x. if is_of e.value x then (x.0, vote_row v x.1) else x)
+    (λ x. voted_seen e v h x (is_of e.value x) (eq_swap x.0.value e.value) (voted_once e v h (first_rule (Voted e v) h r))) (rows h) (rows_seen h (other_rules (Voted e v) h r))
+rows_seen (x ∷ h) r =
+    of-more (IsRow h) (IsRow (x ∷ h)) (λ q w. record { stands = w.stands; marked = w.marked; voted = w.voted; vote = w.vote; well = w.well }) (rows h)
+    (rows_seen h (other_rules x h r))
+
+-- the row at a place says what the history shows of its enlistment
+pub row_seen : (h : List Entry) (k : ℕ) (x : Enlistment) → ruled h ≡ true → slice_get (rows h) k ≡ Some x → IsRow h x
+row_seen h k x r e = of-at (IsRow h) (rows h) k x (rows_seen h r) e
+
+-- the row is marked where its enlistment was asked to prepare
+pub row_marked : (h : List Entry) (k : ℕ) (x : Enlistment) → ruled h ≡ true → slice_get (rows h) k ≡ Some x → is_marked x ≡ has (is_asked x.0.value) h
+row_marked h k x r e = (row_seen h k x r e).marked
+
+-- the row has a vote where its enlistment voted
+pub row_voted : (h : List Entry) (k : ℕ) (x : Enlistment) → ruled h ≡ true → slice_get (rows h) k ≡ Some x → has_voted x ≡ has (is_vote x.0.value) h
+row_voted h k x r e = (row_seen h k x r e).voted
+
+-- the row's vote is yes or done where its enlistment voted so
+pub row_well : (h : List Entry) (k : ℕ) (x : Enlistment) → ruled h ≡ true → slice_get (rows h) k ≡ Some x → voted_well x.1.vote ≡ has (is_good_vote x.0.value) h
+row_well h k x r e = (row_seen h k x r e).well
+
+-- the row's vote is that of its enlistment
+pub row_vote : (h : List Entry) (k : ℕ) (x : Enlistment) → ruled h ≡ true → slice_get (rows h) k ≡ Some x → x.1.vote ≡ latest (vote_of x.0.value) h
+row_vote h k x r e = (row_seen h k x r e).vote
+
+-- where each row of a class that p names has a vote, each such enlistment voted
+pub class_voted : (p : Class → Bool) (h : List Entry) → ruled h ≡ true
+    → each (λ x. not (p x.1.class) || has_voted x) (rows h) ≡ each (λ x. not (p x.1) || has (is_vote x.0.value) h) (enlisted h)
+class_voted p h r =
+    each_same (λ x. not (p x.1.class) || has_voted x) (λ x. not (p x.1.class) || has (is_vote x.0.value) h) (rows h)
+    (of-more (IsRow h) (λ x. (not (p x.1.class) || has_voted x) ≡ (not (p x.1.class) || has (is_vote x.0.value) h)) (λ x w. ap (λ b. not (p x.1.class) || b) w.voted) (rows h) (rows_seen h r))
+    ∙ each_rows (λ e c. not (p c) || has (is_vote e.value) h) h
+
+-- each Zero row has a vote where each Zero enlistment voted
+pub zeros_seen : (h : List Entry) → ruled h ≡ true → zeros_voted (rows h) ≡ zeros_cast h
+zeros_seen h r = class_voted is_zero h r
+
+-- each volatile row has a vote where each volatile enlistment voted
+pub all_voted_seen : (h : List Entry) → ruled h ≡ true → all_voted (rows h) ≡ each (λ x. not (is_volatile x.1) || has (is_vote x.0.value) h) (enlisted h)
+all_voted_seen h r = class_voted is_volatile h r
+
+-- each row's vote is yes or done where each enlistment voted so
+pub well_seen : (h : List Entry) → ruled h ≡ true → each (λ x. voted_well x.1.vote) (rows h) ≡ each (λ x. has (is_good_vote x.0.value) h) (enlisted h)
+well_seen h r =
+    each_same (λ x. voted_well x.1.vote) (λ x. has (is_good_vote x.0.value) h) (rows h)
+    (of-more (IsRow h) (λ x. voted_well x.1.vote ≡ has (is_good_vote x.0.value) h) (λ x w. w.well) (rows h) (rows_seen h r))
+    ∙ each_rows (λ e c. has (is_good_vote e.value) h) h
+
+-- what each row of a clone passes by its number and kind, each clone passes
+pub each_clones : (f : CloneNo → CloneKind → Bool) (h : List Entry) → each (λ r. f r.clone r.kind) (clone_rows h) ≡ each (λ c. f c.0 c.1) (all_of clone_of h)
+each_clones f [] = refl
+each_clones f (Cloned c k ∷ h) = each-behind (λ r. f r.clone r.kind) (record { clone = c; kind = k; complete = false }) (clone_rows h) ∙ ap (λ b. f c k && b) (each_clones f h)
+each_clones f (Completed c ∷ h) =
+    each_kept (λ r. f r.clone r.kind) (λ r. record { clone = r.clone; kind = r.kind; complete = is_clone c.value r || r.complete }) (λ r. refl) (clone_rows h) ∙ each_clones f h
+each_clones f (x ∷ h) = each_clones f h
+
+-- what some row of a clone passes by its number and kind, some clone passes
+pub has_clones : (f : CloneNo → CloneKind → Bool) (h : List Entry) → has (λ r. f r.clone r.kind) (clone_rows h) ≡ has (λ c. f c.0 c.1) (all_of clone_of h)
+has_clones f [] = refl
+has_clones f (Cloned c k ∷ h) = has-behind (λ r. f r.clone r.kind) (record { clone = c; kind = k; complete = false }) (clone_rows h) ∙ ap (λ b. f c k || b) (has_clones f h)
+has_clones f (Completed c ∷ h) =
+    has_kept (λ r. f r.clone r.kind) (λ r. record { clone = r.clone; kind = r.kind; complete = is_clone c.value r || r.complete }) (λ r. refl) (clone_rows h) ∙ has_clones f h
+has_clones f (x ∷ h) = has_clones f h
+
+-- a clone stands among the rows where it was made
+pub clone_stands : (n : ℕ) (h : List Entry) → has (is_clone n) (clone_rows h) ≡ has (is_cloned n) h
+clone_stands n [] = refl
+clone_stands n (Cloned c k ∷ h) = has-behind (is_clone n) (record { clone = c; kind = k; complete = false }) (clone_rows h) ∙ ap (λ b. (n == c.value) || b) (clone_stands n h)
+clone_stands n (Completed c ∷ h) =
+    has_kept (is_clone n) (λ r. record { clone = r.clone; kind = r.kind; complete = is_clone c.value r || r.complete }) (λ r. refl) (clone_rows h) ∙ clone_stands n h
+clone_stands n (x ∷ h) = clone_stands n h
+
+-- what is cloned wasn't before
+pub cloned_once : (c : CloneNo) (k : CloneKind) (h : List Entry) → rule h (Cloned c k) ≡ true → has (is_cloned c.value) h ≡ false
+cloned_once c k h r = not_true (has (is_cloned c.value) h) (and_right (not (has is_decision h) && not (has is_commit h)) (not (has (is_cloned c.value) h)) r)
+
+-- what is completed was cloned
+pub completed_cloned : (c : CloneNo) (h : List Entry) → rule h (Completed c) ≡ true → has (is_cloned c.value) h ≡ true
+completed_cloned c h r = and_right (not (has is_decision h)) (has (is_cloned c.value) h) r
+
+-- what wasn't cloned wasn't completed
+pub uncloned_uncompleted : (n : ℕ) (h : List Entry) → ruled h ≡ true → has (is_cloned n) h ≡ false → has (is_completed n) h ≡ false
+uncloned_uncompleted n [] r e = refl
+uncloned_uncompleted n (Cloned c k ∷ h) r e = uncloned_uncompleted n h (other_rules (Cloned c k) h r) (or_second (n == c.value) (has (is_cloned n) h) e)
+uncloned_uncompleted n (Completed c ∷ h) r e =
+    or_false (n == c.value) (has (is_completed n) h) (apart (λ m. has (is_cloned m) h) n c.value e (completed_cloned c h (first_rule (Completed c) h r)))
+    (uncloned_uncompleted n h (other_rules (Completed c) h r) e)
+uncloned_uncompleted n (x ∷ h) r e = uncloned_uncompleted n h (other_rules x h r) e
+
+-- each clone's row says whether it was completed
+pub clones_seen : (h : List Entry) → ruled h ≡ true → OfEach (IsCloneSeen h) (clone_rows h)
+clones_seen [] r = tt
+clones_seen (Cloned c k ∷ h) r =
+    of-behind (IsCloneSeen h) (record { clone = c; kind = k; complete = false })
+    (sym (uncloned_uncompleted c.value h (other_rules (Cloned c k) h r) (cloned_once c k h (first_rule (Cloned c k) h r)))) (clone_rows h) (clones_seen h (other_rules (Cloned c k) h r))
+clones_seen (Completed c ∷ h) r =
+    of-map (IsCloneSeen h) (IsCloneSeen (Completed c ∷ h)) (λ r. record { clone = r.clone; kind = r.kind; complete = is_clone c.value r || r.complete })
+    (λ r w. ap (λ b. b || r.complete) (eq_swap c.value r.clone.value) ∙ ap (λ b. (r.clone.value == c.value) || b) w) (clone_rows h) (clones_seen h (other_rules (Completed c) h r))
+clones_seen (x ∷ h) r = clones_seen h (other_rules x h r)
+
+-- the clone's row at a place says whether it was completed
+pub clone_seen : (h : List Entry) (k : ℕ) (c : CloneRow) → ruled h ≡ true → slice_get (clone_rows h) k ≡ Some c → c.complete ≡ has (is_completed c.clone.value) h
+clone_seen h k c r e = of-at (IsCloneSeen h) (clone_rows h) k c (clones_seen h r) e
+
+-- where p passes the kind of a clone that isn't complete, as the rows and as the history show it
+pub open_clones : (p : CloneKind → Bool) (h : List Entry) → ruled h ≡ true
+    → has (λ c. p c.kind && not c.complete) (clone_rows h) ≡ has (λ c. p c.1 && not (is_complete h c)) (all_of clone_of h)
+open_clones p h r =
+    has_same (λ c. p c.kind && not c.complete) (λ c. p c.kind && not (has (is_completed c.clone.value) h)) (clone_rows h)
+    (of-more (IsCloneSeen h) (λ c. (p c.kind && not c.complete) ≡ (p c.kind && not (has (is_completed c.clone.value) h))) (λ c w. ap (λ b. p c.kind && not b) w) (clone_rows h) (clones_seen h r))
+    ∙ has_clones (λ c k. p k && not (has (is_completed c.value) h)) h
+
+-- a blocking clone is open by the rows where it is by the history
+pub open_blocks : (h : List Entry) → ruled h ≡ true → has is_open_block (clone_rows h) ≡ has (λ c. blocks c.1 && not (is_complete h c)) (all_of clone_of h)
+open_blocks h r = open_clones blocks h r
+
+-- a clone that makes a commit a veto is open by the rows where it is by the history
+pub open_rollbacks : (h : List Entry) → ruled h ≡ true → has is_open_rollback (clone_rows h) ≡ has (λ c. not (blocks c.1) && not (is_complete h c)) (all_of clone_of h)
+open_rollbacks h r = open_clones (λ k. not (blocks k)) h r
+
+-- a clone that doesn't block makes a commit a veto
+rollback_kind : (k : CloneKind) → not (blocks k) ≡ is_rollback k
+rollback_kind Block = refl
+rollback_kind Rollback = refl
+
+-- a commit is a veto where such a clone is open by the rows
+pub commit_vetoed : (h : List Entry) → ruled h ≡ true → has is_open_rollback (clone_rows h) ≡ is_veto h CommitAsked
+commit_vetoed h r =
+    open_rollbacks h r
+    ∙ has_same (λ c. not (blocks c.1) && not (is_complete h c)) (λ c. is_rollback c.1 && not (is_complete h c)) (all_of clone_of h)
+    (of-all (λ c. (not (blocks c.1) && not (is_complete h c)) ≡ (is_rollback c.1 && not (is_complete h c))) (λ c. ap (λ b. b && not (is_complete h c)) (rollback_kind c.1)) (all_of clone_of h))
+
+-- the row at a place is of an enlistment of the history
+pub rows_enlisted : (h : List Entry) (k : ℕ) (x : Enlistment) → ruled h ≡ true → slice_get (rows h) k ≡ Some x → has (is_enlisted x.0.value) h ≡ true
+rows_enlisted h k x r e = (row_seen h k x r e).stands
+
+-- the row that was found says what the history shows of its enlistment
+pub found_seen : (p : Enlistment → Bool) (h : List Entry) (x : Enlistment) → ruled h ≡ true → find p (rows h) ≡ Some x → IsRow h x
+found_seen p h x r e = let found = find-at p (rows h) x e in row_seen h found.0 x r found.1
+
+-- each row is volatile with a vote yes or done where each enlistment is volatile and voted so
+pub evident_seen : (h : List Entry) → ruled h ≡ true
+    → each (λ x. is_volatile x.1.class && voted_well x.1.vote) (rows h) ≡ each (λ x. is_volatile x.1 && has (is_good_vote x.0.value) h) (enlisted h)
+evident_seen h r =
+    each_same (λ x. is_volatile x.1.class && voted_well x.1.vote) (λ x. is_volatile x.1.class && has (is_good_vote x.0.value) h) (rows h)
+    (of-more (IsRow h) (λ x. (is_volatile x.1.class && voted_well x.1.vote) ≡ (is_volatile x.1.class && has (is_good_vote x.0.value) h))
+    (λ x w. ap (λ b. is_volatile x.1.class && b) w.well) (rows h) (rows_seen h r))
+    ∙ each_rows (λ e c. is_volatile c && has (is_good_vote e.value) h) h

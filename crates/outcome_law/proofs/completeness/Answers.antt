@@ -1,0 +1,6 @@
+use Rattle.outcome_law.proofs.Blocks.{caused_ruled}
+use Rattle.outcome_law.proofs.Settled.{settled_committed}
+use Rattle.outcome_law.proofs.completeness.Goals as goal
+
+pub returns : goal.returns
+returns c = λ s t h named run settled can. settled_committed s h (caused_ruled s t h named run) settled can

@@ -1,0 +1,20 @@
+use Rattle.outcome_law.proofs.TableRows.{each_rows, each_clones, clone_seen}
+use Rattle.outcome_law.proofs.Waves.{row_is_seen}
+use Rattle.outcome_law.proofs.Calls.{evidence_seen}
+use Rattle.outcome_law.proofs.Blocks.{caused_ruled}
+use Rattle.outcome_law.proofs.tables.Goals as goal
+
+pub returns-clause-enlisted : goal.returns-clause-enlisted
+returns-clause-enlisted c = λ h f. each_rows f h
+
+pub returns-clause-cloned : goal.returns-clause-cloned
+returns-clause-cloned c = λ h f. each_clones f h
+
+pub returns-clause-rows : goal.returns-clause-rows
+returns-clause-rows c = λ s t h named run k x e. row_is_seen h k x (caused_ruled s t h named run) e
+
+pub returns-clause-clones : goal.returns-clause-clones
+returns-clause-clones c = λ s t h named run k r e. clone_seen h k r (caused_ruled s t h named run) e
+
+pub returns-clause-evidence : goal.returns-clause-evidence
+returns-clause-evidence c = λ s t h named run d. evidence_seen h (caused_ruled s t h named run)
