@@ -1,12 +1,12 @@
 -- What a table refuses, each exactly where.
-use Rattle.std.specs.Prelude.{ℕ, ◌==◌, nat_le, Bool, true, false, ◌&&◌, not, List, length, Option, Some, None, if◌then◌else◌}
-use Rattle.std.specs.List.{list_any, find}
+use Rattle.std.specs.Prelude.{ℕ, nat_le, Bool, true, false, ◌&&◌, not, List, length, Option, Some, None, if◌then◌else◌}
+use Rattle.std.specs.List.{list_any}
 use Rattle.dtx_values.specs.declared.limits.TheConstants.{DURABLES, ENLISTMENTS}
 use Rattle.dtx_values.specs.declared.number.EnlNo.{EnlNo}
 use Rattle.dtx_values.specs.declared.row.Row.{Row}
 use Rattle.dtx_values.specs.declared.words.Class.{Class}
 use Rattle.dtx_values.specs.declared.words.Class.TheVariants.{Zero, One}
-use Rattle.dtx_values.specs.Table.{Enlistment, has_voted, how_many, is_marked, is_of}
+use Rattle.dtx_values.specs.Table.{Enlistment, how_many, is_of}
 use Rattle.enlist_table.specs.declared.refusal.AddRefusal.{AddRefusal}
 use Rattle.enlist_table.specs.declared.refusal.AddRefusal.TheVariants.{Twice, Many}
 use Rattle.enlist_table.specs.declared.refusal.TableRefusal.{TableRefusal}

@@ -1,0 +1,6 @@
+use Rattle.std.proofs.Common.{◌≡◌, ◌++◌, take, drop}
+use Rattle.dtx_values.specs.Table.{Enlistment, insert_by, number_of}
+use Rattle.enlist_table.proofs.table.place.Given as goal
+
+abbrev pub invariant-loop-i : goal.invariant-loop-i
+invariant-loop-i l = (x : Enlistment) → x.0.value ≡ l.n → insert_by number_of x l.rows ≡ take l.i l.rows ++ insert_by number_of x (drop l.i l.rows)
