@@ -145,9 +145,9 @@ behind_keeps h None true k w f = keep (Decided Committed) h k (f refl) (λ g. re
 behind_keeps h None false k w f = k
 
 -- what neither waits nor is open is complete
-complete_step : (b x : Bool) → (not b || x) ≡ true → (b || x) ≡ true → x ≡ true
-complete_step true x p q = p
-complete_step false x p q = q
+close_step : (b x : Bool) → (not b || x) ≡ true → (b || x) ≡ true → x ≡ true
+close_step true x p q = p
+close_step false x p q = q
 
 -- what isn't open blocks nothing
 shut_step : (b x : Bool) → (b && not x) ≡ false → (not b || x) ≡ true
@@ -156,14 +156,14 @@ shut_step true false p = absurd cc
 shut_step false x p = refl
 
 -- where phase zero is over, it may be sealed
-seal_rule : (h : List Entry) → IsKept h → has is_decision h ≡ false → has is_commit h ≡ true → is_over (rows h) (clone_rows h) 0 ≡ true → rule h Sealed ≡ true
+may_seal : (h : List Entry) → IsKept h → has is_decision h ≡ false → has is_commit h ≡ true → is_over (rows h) (clone_rows h) 0 ≡ true → rule h Sealed ≡ true
 unfolding is_over
-seal_rule h k d c o =
+may_seal h k d c o =
     let both = and_left (zeros_voted (rows h) && not (has is_open_block (clone_rows h))) (0 == 0) o in
     let zeros = sym (zeros_seen h k.rules) ∙ and_left (zeros_voted (rows h)) (not (has is_open_block (clone_rows h))) both in
     let shut = sym (open_blocks h k.rules) ∙ not_true (has is_open_block (clone_rows h)) (and_right (zeros_voted (rows h)) (not (has is_open_block (clone_rows h))) both) in
     let complete : all_complete h ≡ true =
-    each_both (λ c. not (blocks c.1) || is_complete h c) (λ c. blocks c.1 || is_complete h c) (λ c. is_complete h c) (λ c. complete_step (blocks c.1) (is_complete h c)) (all_of clone_of h)
+    each_both (λ c. not (blocks c.1) || is_complete h c) (λ c. blocks c.1 || is_complete h c) (λ c. is_complete h c) (λ c. close_step (blocks c.1) (is_complete h c)) (all_of clone_of h)
     (none_each (λ c. blocks c.1 && not (is_complete h c)) (λ c. not (blocks c.1) || is_complete h c) (λ c. shut_step (blocks c.1) (is_complete h c)) (all_of clone_of h) shut)
     (going_closed h d c k.going) in
     and_four (not (has is_decision h)) (has is_commit h) (all_complete h) (zeros_cast h) (not_false (has is_decision h) d) c complete zeros
@@ -193,9 +193,9 @@ all_cast h r a =
     (λ x. cast_step (is_volatile x.1) (has (is_vote x.0.value) h)) (enlisted h) (each_volatile h r) (sym (all_voted_seen h r) ∙ a)
 
 -- where it is sealed and all voted, it may be committed
-commit_rule : (h : List Entry) → IsKept h → has is_decision h ≡ false → has is_sealed h ≡ true → all_voted (rows h) ≡ true → rule h (Decided Committed) ≡ true
+may_commit : (h : List Entry) → IsKept h → has is_decision h ≡ false → has is_sealed h ≡ true → all_voted (rows h) ≡ true → rule h (Decided Committed) ≡ true
 unfolding may_tell
-commit_rule h k d s a =
+may_commit h k d s a =
     let good : well_cast h ≡ true =
     each_more (λ x. has (is_vote x.0.value) h) (λ x. has (is_good_vote x.0.value) h) (λ x. voted_good x.0.value h (going_willing h d k.going)) (enlisted h) (all_cast h k.rules a) in
     three_hold (not (has is_decision h)) true (evidence h) (not_false (has is_decision h) d) refl (evidence-sealed h k.rules ∙ and_both (has is_sealed h) (well_cast h) s good)
@@ -214,5 +214,5 @@ act_keeps h (Some x) e k = tell_keeps h x (find (is_to_tell (rows h)) (listeners
 act_keeps h None e k =
     let d = undecided h e in
     undecided_keeps h (has is_commit h) (has is_sealed h) _ _ k
-    (λ c s. before_keeps h (next_ask (rows h) true) (is_over (rows h) (clone_rows h) 0) k (next_well h true k.rules d c) (seal_rule h k d c))
-    (λ c s. behind_keeps h (next_ask (rows h) false) (all_voted (rows h)) k (next_well h false k.rules d c) (commit_rule h k d s))
+    (λ c s. before_keeps h (next_ask (rows h) true) (is_over (rows h) (clone_rows h) 0) k (next_well h true k.rules d c) (may_seal h k d c))
+    (λ c s. behind_keeps h (next_ask (rows h) false) (all_voted (rows h)) k (next_well h false k.rules d c) (may_commit h k d s))

@@ -93,7 +93,8 @@ enlisted_keeps h e c k d s n v =
 pub cloned_keeps : (h : List Entry) (c : CloneNo) (d : CloneKind) → IsKept h → has is_decision h ≡ false → has is_commit h ≡ false → has (is_cloned c.value) h ≡ false → IsKept (Cloned c d ∷ h)
 cloned_keeps h c d k u m n =
     keep (Cloned c d) h k
-    (three_hold (not (has is_decision h)) (not (has is_commit h)) (not (has (is_cloned c.value) h)) (not_false (has is_decision h) u) (not_false (has is_commit h) m) (not_false (has (is_cloned c.value) h) n))
+    (three_hold (not (has is_decision h)) (not (has is_commit h)) (not (has (is_cloned c.value) h))
+    (not_false (has is_decision h) u) (not_false (has is_commit h) m) (not_false (has (is_cloned c.value) h) n))
     (going_step (has is_decision h) (has is_no_vote h) (has is_commit h) (all_closed h) (all_closed (Cloned c d ∷ h)) (λ t. absurd (not_both (has is_commit h) t m)))
 
 -- what blocks or is complete does with one more complete

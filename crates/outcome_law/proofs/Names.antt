@@ -1,6 +1,6 @@
 -- Names are made once: what the call of a line makes is new in each history where that line wasn't called yet.
-use Rattle.std.proofs.Common.{◌≡◌, ℕ, zero, suc, ◌==◌, Bool, true, false, ◌||◌, List, [], ◌∷◌, ◌++◌, map, Option, Some, None, refl, arith, ◌∙◌, ap, sym, subst}
-use Rattle.std.specs.Prelude.{not, nat_lt, if◌then◌else◌}
+use Rattle.std.proofs.Common.{◌≡◌, ℕ, zero, suc, ◌==◌, Bool, true, false, ◌||◌, List, [], ◌∷◌, Option, Some, None, refl, arith, ◌∙◌, ap, sym, subst}
+use Rattle.std.specs.Prelude.{not, if◌then◌else◌}
 use Rattle.std.specs.List.{slice_get}
 use Rattle.std.proofs.lemmas.Bool.Decides.{nat_tests}
 use Rattle.dtx_values.specs.declared.number.ActorNo.{ActorNo}
@@ -8,14 +8,12 @@ use Rattle.dtx_values.specs.declared.number.CloneNo.{CloneNo}
 use Rattle.dtx_values.specs.declared.number.TxNo.{TxNo}
 use Rattle.dtx_values.specs.declared.call.Call.{Call}
 use Rattle.dtx_values.specs.declared.call.Call.TheVariants.{Volatile, Clone, Commit, Tick}
-use Rattle.dtx_values.specs.declared.entry.Ask.TheVariants.{Prepare}
 use Rattle.dtx_values.specs.declared.entry.Entry.{Entry}
-use Rattle.dtx_values.specs.declared.entry.Entry.TheVariants.{Called, Cloned, Completed, Enlisted, Asked, Voted}
-use Rattle.dtx_values.specs.declared.row.Row.{Row}
+use Rattle.dtx_values.specs.declared.entry.Entry.TheVariants.{Called, Cloned, Enlisted}
 use Rattle.dtx_values.specs.declared.script.Body.{Body}
 use Rattle.dtx_values.specs.declared.script.Body.TheVariants.{Volatile as VolatileLine, Clone as CloneLine, Complete as CompleteLine}
 use Rattle.dtx_values.specs.declared.script.Line.{Line}
-use Rattle.dtx_values.specs.Table.{Enlistment, is_of, insert_by, marks, mark_row, vote_row, number_of, fresh_row}
+use Rattle.dtx_values.specs.Table.{is_of}
 use Rattle.dtx_values.specs.Clones.{is_clone, is_open_rollback}
 use Rattle.dtx_model.specs.Words.{has, each, always, kth, onto}
 use Rattle.dtx_model.specs.Entries.{is_call}
@@ -23,9 +21,11 @@ use Rattle.dtx_model.specs.Observed.{Observed, observe, rows, clone_rows}
 use Rattle.dtx_model.specs.Steps.{Step, Calls, Replies, Acts, call_of, complete_call, transaction_of, answer, is_fine, facts, facts_if, veto_if, reaches, ticked, time_up, is_late, block}
 use Rattle.dtx_model.specs.Caused.{IsCallOf, MayCome, Ran, Caused, is_new}
 use Rattle.dtx_model.specs.Grammar.{Name, OfTransaction, OfEnlistment, OfClone, same_name, makes, is_made, is_named_well, are_named_well}
-use Rattle.dtx_model.proofs.Bools.{and_left, and_right, or_false, or_right, or_case, or_swap, not_true, not_false, not_both}
+use Rattle.dtx_model.proofs.Bools.{and_left, and_right, or_false, or_right, or_case, not_true, not_false, not_both}
 use Rattle.outcome_law.proofs.Rule.{is_enlisted, is_cloned}
 use Rattle.outcome_law.proofs.Scans.{has-onto}
+use Rattle.outcome_law.proofs.Lists.{eq_self}
+use Rattle.outcome_law.proofs.TableRows.{enlisted_in_rows, clone_stands}
 use Rattle.outcome_law.proofs.Pending.{is_plain, veto_plain, time_plain, block_plain}
 
 -- the line makes this name
@@ -161,7 +161,7 @@ unfolding block
 block_made s t h x (Calls n a c d) k e =
     let y = answer (observe h) c d in
     let es = facts_if (is_fine y) (facts (observe h) c) in
-    let same : (n == n) ≡ true = grind (arith, nat_tests) in
+    let same = eq_self n in
     let here : has (is_call n) (Called n a y ∷ es) ≡ true = rw same refl in
     record {
       number = n;
@@ -195,49 +195,6 @@ not_named s t n a c x h w r k u m = by_cases (has (is_namer x) h) refl
         let same : made.number ≡ n = made_once x s made.number n made.line k.line w made.stands k.stands made.maker maker in
         absurd (not_both (has (is_call n) h) (subst (λ i. has (is_call i) h ≡ true) same made.called) u)
 
--- one passes with one more put in its place: it passes or one did
-has-insert_by : {A : Type 0} (p : A → Bool) (key : A → ℕ) (x : A) (ys : List A) → has p (insert_by key x ys) ≡ (p x || has p ys)
-has-insert_by p key x [] = refl
-has-insert_by p key x (y ∷ ys) = step p x y (insert_by key x ys) ys (nat_lt (key y) (key x)) (has-insert_by p key x ys)
-  where
-    step : {A : Type 0} (p : A → Bool) (x y : A) (zs ys : List A) (b : Bool) → has p zs ≡ (p x || has p ys) → has p (if b then y ∷ zs else x ∷ y ∷ ys) ≡ (p x || (p y || has p ys))
-    step p x y zs ys true e = ap (λ b. p y || b) e ∙ or_swap (p y) (p x) (has p ys)
-    step p x y zs ys false e = refl
-
--- one passes behind changes that the test doesn't see: one passed
-has-map : {A : Type 0} (p : A → Bool) (f : A → A) → ((x : A) → p (f x) ≡ p x) → (xs : List A) → has p (map f xs) ≡ has p xs
-has-map p f same [] = refl
-has-map p f same (x ∷ xs) = ap (λ b. b || has p (map f xs)) (same x) ∙ ap (λ b. p x || b) (has-map p f same xs)
-
--- one passes with one more at the end: it passes or one did
-has-snoc : {A : Type 0} (p : A → Bool) (xs : List A) (x : A) → has p (xs ++ x ∷ []) ≡ (p x || has p xs)
-has-snoc p [] x = refl
-has-snoc p (y ∷ xs) x = ap (λ b. p y || b) (has-snoc p xs x) ∙ or_swap (p y) (p x) (has p xs)
-
--- another row keeps the number
-keeps_number : (e : ℕ) (x : Enlistment) (r : Row) (b : Bool) → is_of e (if b then (x.0, r) else x) ≡ is_of e x
-keeps_number e x r true = refl
-keeps_number e x r false = refl
-
--- the table has the enlistments that came
-pub has-rows : (e : ℕ) (h : List Entry) → has (is_of e) (rows h) ≡ has (is_enlisted e) h
-has-rows e [] = refl
-has-rows e (Enlisted f c ∷ h) = has-insert_by (is_of e) number_of (f, fresh_row c (marks (rows h))) (rows h) ∙ ap (λ b. (e == f.value) || b) (has-rows e h)
-has-rows e (Asked f Prepare ∷ h) =
-    let xs = rows h in
-    has-map (is_of e) (λ x. if is_of f.value x then (x.0, mark_row (marks xs) x.1) else x) (λ x. keeps_number e x (mark_row (marks xs) x.1) (is_of f.value x)) xs ∙ has-rows e h
-has-rows e (Voted f v ∷ h) =
-    has-map (is_of e) (λ x. if is_of f.value x then (x.0, vote_row v x.1) else x) (λ x. keeps_number e x (vote_row v x.1) (is_of f.value x)) (rows h) ∙ has-rows e h
-has-rows e (x ∷ h) = has-rows e h
-
--- the clones are those that came
-pub has-clone_rows : (c : ℕ) (h : List Entry) → has (is_clone c) (clone_rows h) ≡ has (is_cloned c) h
-has-clone_rows c [] = refl
-has-clone_rows c (Cloned d k ∷ h) = has-snoc (is_clone c) (clone_rows h) (record { clone = d; kind = k; complete = false }) ∙ ap (λ b. (c == d.value) || b) (has-clone_rows c h)
-has-clone_rows c (Completed d ∷ h) =
-    has-map (is_clone c) (λ r. record { clone = r.clone; kind = r.kind; complete = is_clone d.value r || r.complete }) (λ r. refl) (clone_rows h) ∙ has-clone_rows c h
-has-clone_rows c (x ∷ h) = has-clone_rows c h
-
 -- what brings the name of an enlistment is that enlistment's entry
 enlisted_namer : (e : ℕ) (h : List Entry) → has (is_namer (OfEnlistment e)) h ≡ has (is_enlisted e) h
 enlisted_namer e [] = refl
@@ -255,11 +212,11 @@ pub caused_new : (s : List Line) (t n : ℕ) (a : ActorNo) (c : Call) (h : List 
     → is_new (observe h) c ≡ true
 unfolding observe
 caused_new s t n a (Volatile u e o v) h w r k f =
-    let same : (e.value == e.value) ≡ true = grind (arith, nat_tests) in
+    let same = eq_self e.value in
     let none : has (is_namer (OfEnlistment e.value)) h ≡ false = not_named s t n a (Volatile u e o v) (OfEnlistment e.value) h w r k f same in
-    not_false (has (is_of e.value) (rows h)) (has-rows e.value h ∙ sym (enlisted_namer e.value h) ∙ none)
+    not_false (has (is_of e.value) (rows h)) (enlisted_in_rows e.value h ∙ sym (enlisted_namer e.value h) ∙ none)
 caused_new s t n a (Clone u c x) h w r k f =
-    let same : (c.value == c.value) ≡ true = grind (arith, nat_tests) in
+    let same = eq_self c.value in
     let none : has (is_namer (OfClone c.value)) h ≡ false = not_named s t n a (Clone u c x) (OfClone c.value) h w r k f same in
-    not_false (has (is_clone c.value) (clone_rows h)) (has-clone_rows c.value h ∙ sym (cloned_namer c.value h) ∙ none)
+    not_false (has (is_clone c.value) (clone_rows h)) (clone_stands c.value h ∙ sym (cloned_namer c.value h) ∙ none)
 caused_new s t n a _ h w r k f = refl

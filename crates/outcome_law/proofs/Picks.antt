@@ -24,7 +24,9 @@ each_picked p f (x ∷ xs) h =
 -- what was found passes where each that could be found does
 pub found_well : {A : Type 0} (p q : A → Bool) (xs : List A) → each (λ x. not (p x) || q x) xs ≡ true → passes q (find p xs) ≡ true
 found_well p q [] h = refl
-found_well p q (x ∷ xs) h = step q (p x) x (find p xs) (and_left (not (p x) || q x) (each (λ x. not (p x) || q x) xs) h) (found_well p q xs (and_right (not (p x) || q x) (each (λ x. not (p x) || q x) xs) h))
+found_well p q (x ∷ xs) h =
+    step q (p x) x (find p xs) (and_left (not (p x) || q x) (each (λ x. not (p x) || q x) xs) h)
+    (found_well p q xs (and_right (not (p x) || q x) (each (λ x. not (p x) || q x) xs) h))
   where
     step : {A : Type 0} (q : A → Bool) (b : Bool) (x : A) (o : Option A) → (not b || q x) ≡ true → passes q o ≡ true → passes q (if b then Some x else o) ≡ true
     step q true x o h k = h

@@ -140,8 +140,8 @@ decided_same InDoubt (Some Aborted) k = absurd cc
 decided_same x None k = absurd cc
 
 -- equal outcomes are the same
-same_is : (x y : Outcome) → same_outcome x y ≡ true → x ≡ y
-same_is x y k = let e : Some y ≡ Some x = decided_same x (Some y) k in cc
+same_outcome_is : (x y : Outcome) → same_outcome x y ≡ true → x ≡ y
+same_outcome_is x y k = let e : Some y ≡ Some x = decided_same x (Some y) k in cc
 
 -- what an entry tells or decides is just
 one_just : (h : List Entry) (x : Entry) → ruled h ≡ true → rule h x ≡ true → is_just h x ≡ true
@@ -172,7 +172,7 @@ pub final_decided : (x : Outcome) (h : List Entry) → ruled h ≡ true → has 
 final_decided x [] r k = absurd cc
 final_decided x (Told p y ∷ h) r k =
     or_case (same_outcome x y) (has (is_final x) h)
-    (λ e. let same : x ≡ y = same_is x y e in rw same (and_right (is_certain y) (is_decided y (latest decision_of h)) (first_rule (Told p y) h r)))
+    (λ e. let same : x ≡ y = same_outcome_is x y e in rw same (and_right (is_certain y) (is_decided y (latest decision_of h)) (first_rule (Told p y) h r)))
     (final_decided x h (other_rules (Told p y) h r)) k
 final_decided x (Decided y ∷ h) r k =
     or_case (same_outcome x y) (has (is_final x) h) (λ e. e)
