@@ -1,9 +1,10 @@
 //! The clones.
-ghost use Rattle.std.specs.Prelude.{◌≡◌, ◌==◌, [], length, IfErr, IfOk, OnErr, OnOk, None, Some};
+ghost use Rattle.std.specs.Prelude.{◌≡◌, ◌≤◌, ◌==◌, [], length, map, vec_capacity, IfErr, IfOk, OnErr, OnOk, None, Some};
 ghost use Rattle.std.specs.List.{list_any};
 ghost use Rattle.dtx_values.specs.Table.{how_many};
 ghost use Rattle.dtx_values.specs.Clones.{is_clone, is_complete_clone, is_open_block, is_open_rollback, with_clone, with_complete};
 ghost use Rattle.dependent_clones.specs.Refusals.{clone_refusal, complete_refusal, kind_of};
+ghost use Rattle.dependent_clones.specs.Distinct.{complete_in};
 
 use crate::refusal::CloneRefusal;
 use dtx_values::{CLONES, CloneKind, CloneNo, CloneRow};
@@ -17,15 +18,49 @@ pub struct Clones {
 }
 
 impl Model for Clones {
-    ghost use Rattle.std.specs.Prelude.{List, ◌≤◌, vec_capacity, length};
+    ghost use Rattle.std.specs.Prelude.{List, ◌≡◌, ◌≤◌, true, vec_capacity, length};
     ghost use Rattle.dtx_values.specs.declared.limits.TheConstants.{CLONES};
     ghost use Rattle.dtx_values.specs.declared.row.CloneRow.{CloneRow};
+    ghost use Rattle.dependent_clones.specs.Distinct.{distinct};
 
     ghost Value = { List CloneRow };
 
     ghost view = { λ c. c.rows.items };
 
-    ghost invariant = { λ c. (CLONES ≤ vec_capacity c.rows) × (length c.rows.items ≤ CLONES) };
+    ghost invariant = { λ c. (CLONES ≤ vec_capacity c.rows) × (length c.rows.items ≤ CLONES) × (distinct c.rows.items ≡ true) };
+}
+
+/// Whether it blocks, and isn't complete.
+fn is_open_block(r: &CloneRow) -> bool
+    ensures { result ≡ is_open_block r.now }
+{
+    r.kind == CloneKind::Block && !r.complete
+}
+
+/// Whether it makes a commit a veto, and isn't complete.
+fn is_open_rollback(r: &CloneRow) -> bool
+    ensures { result ≡ is_open_rollback r.now }
+{
+    r.kind == CloneKind::Rollback && !r.complete
+}
+
+/// Completes the row, where it is this clone's.
+fn complete_in(r: &mut CloneRow, c: CloneNo)
+    ensures { r.new ≡ complete_in c.value r.old }
+{
+    if r.clone == c {
+        r.complete = true;
+    }
+}
+
+/// Completes a clone's row.
+fn complete(rows: &mut Vec<CloneRow>, c: CloneNo)
+    ensures items { rows.new.items ≡ map (λ r. complete_in c.value r) rows.old.items }
+    ensures capacity { vec_capacity rows.old ≤ vec_capacity rows.new }
+{
+    for r in rows.iter_mut() {
+        complete_in(r, c);
+    }
 }
 
 impl Clones {
@@ -128,35 +163,21 @@ impl Clones {
         if self.is_complete(c) {
             return Err(CloneRefusal::Already(c));
         }
-        for r in self.rows.iter_mut() {
-            if r.clone == c {
-                r.complete = true;
-            }
-        }
+        complete(&mut self.rows, c);
         Ok(())
-    }
-
-    fn open(&self, kind: CloneKind) -> u8 {
-        let mut n = 0;
-        for r in self.rows.as_slice() {
-            if r.kind == kind && !r.complete {
-                n += 1;
-            }
-        }
-        n
     }
 
     /// How many blocking clones aren't complete.
     pub fn blocking_left(&self) -> u8
         ensures { result ≡ how_many is_open_block self.now }
     {
-        self.open(CloneKind::Block)
+        self.rows.iter().filter(|r| is_open_block(r)).count() as u8
     }
 
     /// How many rollback clones aren't complete.
     pub fn rollback_left(&self) -> u8
         ensures { result ≡ how_many is_open_rollback self.now }
     {
-        self.open(CloneKind::Rollback)
+        self.rows.iter().filter(|r| is_open_rollback(r)).count() as u8
     }
 }
