@@ -1,32 +1,64 @@
 -- Lines, and the LF behind each.
-use Rattle.std.proofs.Common.{◌≡◌, ℕ, ◌+◌, ◌^◌, ◌<◌, ◌≤◌, true, List, [], ◌∷◌, ◌++◌, length, refl, ap, sym, ◌∙◌, arith, Some, decimal, append_assoc, length-append}
+use Rattle.std.proofs.Common.{◌≡◌, ℕ, ◌+◌, ◌^◌, ◌<◌, ◌≤◌, true, List, [], ◌∷◌, ◌++◌, length, refl, ap, sym, ◌∙◌, arith, Option, Some, None, decimal, append_assoc, length-append}
 use Rattle.std.specs.List.{join_with_byte}
 use Rattle.std.proofs.lemmas.Bool.Decides.{nat_tests}
 use Rattle.dtx_values.specs.declared.number.ActorNo.{ActorNo}
 use Rattle.dtx_values.specs.declared.script.Body.{Body}
-use Rattle.dtx_values.specs.declared.script.Body.TheVariants.{Begin, Volatile, Commit}
-use Rattle.dtx_values.specs.declared.script.EnlistOption.TheVariants.{Plain}
+use Rattle.dtx_values.specs.declared.script.Body.TheVariants.{Begin, Volatile, Clone, Complete, Commit, Rollback, Status, Await, Tick, Do}
+use Rattle.dtx_values.specs.declared.script.EnlistOption.{EnlistOption}
+use Rattle.dtx_values.specs.declared.script.EnlistOption.TheVariants.{Plain, DuringPrepare}
 use Rattle.dtx_values.specs.declared.script.Line.{Line}
+use Rattle.dtx_values.specs.declared.words.CloneKind.{CloneKind}
+use Rattle.dtx_values.specs.declared.words.CloneKind.TheVariants.{Block, Rollback as RollbackKind}
 use Rattle.dtx_values.specs.declared.words.Timeout.TheVariants.{Default, Milliseconds}
-use Rattle.dtx_values.specs.declared.words.Vote.TheVariants.{Yes, Done}
-use Rattle.dtx_model.specs.Grammar.{actor_name, words, command_words, line_text, is_run, is_in_range}
+use Rattle.dtx_values.specs.declared.words.Vote.{Vote}
+use Rattle.dtx_values.specs.declared.words.Vote.TheVariants.{Yes, No, Done}
+use Rattle.dtx_model.specs.Grammar.{actor_name, transaction_name, words, command_words, option_word, vote_word, kind_word, line_text, is_run, is_in_range}
 use Rattle.script_runner.specs.Reader.{IsWithout}
 use Rattle.script_runner.proofs.Cuts.{cut_same, cut_none, without_append}
 use Rattle.script_runner.proofs.Numbers.{without_decimal}
 
--- a number and a text without c are so together
-number_without : (c n : ℕ) (r : List ℕ) → c < 48 → n < 2 ^ 64 → IsWithout c r → IsWithout c (decimal n ++ r)
-number_without c n r h k e = without_append c (decimal n) r (without_decimal c n h k) e
+-- a number and a text without LF are so together
+number_without : (n : ℕ) (r : List ℕ) → n < 2 ^ 64 → IsWithout 10 r → IsWithout 10 (decimal n ++ r)
+number_without n r k e = without_append 10 (decimal n) r (without_decimal 10 n (omega arith) k) e
+
+-- an option has no LF, nor has a vote or a clone's kind
+option_without : (o : EnlistOption) → IsWithout 10 (option_word o)
+option_without Plain = refl
+option_without DuringPrepare = refl
+
+vote_without : (v : Option Vote) → IsWithout 10 (vote_word v)
+vote_without (Some Yes) = refl
+vote_without (Some No) = refl
+vote_without (Some Done) = refl
+vote_without None = refl
+
+kind_without : (k : CloneKind) → IsWithout 10 (kind_word k)
+kind_without Block = refl
+kind_without RollbackKind = refl
 
 -- a command that is run has no LF, nor has the actor's name before it
 pub command_without : (a : ActorNo) (b : Body) → is_run b ≡ true → is_in_range b ≡ true → IsWithout 10 (join_with_byte 32 (actor_name a.value ∷ command_words b))
-command_without a (Begin t Default) h k = number_without 10 a.value _ (omega arith) (omega arith) (number_without 10 t.value _ (omega arith) (omega arith) refl)
+command_without a (Begin t Default) h k = number_without a.value _ (omega arith) (number_without t.value _ (omega arith) refl)
 command_without a (Begin t (Milliseconds n)) h k =
     let below : n ≤ 4294967295 = grind (arith, nat_tests) in
-    number_without 10 a.value _ (omega arith) (omega arith) (number_without 10 t.value _ (omega arith) (omega arith) (without_decimal 10 n (omega arith) (omega arith)))
-command_without a (Volatile t e Plain (Some Yes)) h k = number_without 10 a.value _ (omega arith) (omega arith) (number_without 10 t.value _ (omega arith) (omega arith) (number_without 10 e.value _ (omega arith) (omega arith) refl))
-command_without a (Volatile t e Plain (Some Done)) h k = number_without 10 a.value _ (omega arith) (omega arith) (number_without 10 t.value _ (omega arith) (omega arith) (number_without 10 e.value _ (omega arith) (omega arith) refl))
-command_without a (Commit t) h k = number_without 10 a.value _ (omega arith) (omega arith) (without_decimal 10 t.value (omega arith) (omega arith))
+    number_without a.value _ (omega arith) (number_without t.value _ (omega arith) (without_decimal 10 n (omega arith) (omega arith)))
+command_without a (Volatile t e o v) h k =
+    let last = without_append 10 (option_word o) (32 ∷ vote_word v) (option_without o) (vote_without v) in
+    number_without a.value _ (omega arith) (number_without t.value _ (omega arith) (number_without e.value _ (omega arith) last))
+command_without a (Clone t c o) h k = number_without a.value _ (omega arith) (number_without t.value _ (omega arith) (number_without c.value _ (omega arith) (kind_without o)))
+command_without a (Complete c) h k = number_without a.value _ (omega arith) (without_decimal 10 c.value (omega arith) (omega arith))
+command_without a (Commit t) h k = number_without a.value _ (omega arith) (without_decimal 10 t.value (omega arith) (omega arith))
+command_without a (Rollback t) h k = number_without a.value _ (omega arith) (without_decimal 10 t.value (omega arith) (omega arith))
+command_without a (Status t) h k = number_without a.value _ (omega arith) (without_decimal 10 t.value (omega arith) (omega arith))
+command_without a (Await t) h k = number_without a.value _ (omega arith) (without_decimal 10 t.value (omega arith) (omega arith))
+command_without a (Tick t n) h k =
+    let below : n ≤ 1000000000 = grind (arith, nat_tests) in
+    number_without a.value _ (omega arith) (number_without t.value _ (omega arith) (without_decimal 10 n (omega arith) (omega arith)))
+command_without a (Do t i n) h k =
+    let place : i ≤ 99 = grind (arith, nat_tests) in
+    let below : n ≤ 999 = grind (arith, nat_tests) in
+    number_without a.value _ (omega arith) (number_without t.value _ (omega arith) (number_without i _ (omega arith) (without_decimal 10 n (omega arith) (omega arith))))
 command_without a _ h k = absurd (cc h)
 
 -- what follows a line stands behind its LF

@@ -7,6 +7,9 @@ use Rattle.std.proofs.lemmas.Bool.Decides.{nat_tests}
 use Rattle.std.proofs.lemmas.List.{length-take-le}
 use Rattle.std.proofs.Math.Seq.{take-length}
 use Rattle.std.proofs.lemmas.Fmt.{decimal_nonempty, length-decimal-le, first_decimal, digits_decimal, digits_value-decimal, decimal-digits_value, decimal_digit, decimal_injective}
+use Rattle.dtx_values.specs.declared.script.EnlistOption.{EnlistOption}
+use Rattle.dtx_values.specs.declared.script.EnlistOption.TheVariants.{Plain, DuringPrepare}
+use Rattle.dtx_model.specs.Grammar.{option_word}
 use Rattle.script_runner.specs.Reader.{IsWithout}
 use Rattle.script_runner.proofs.Cuts.{cut_same}
 use Rattle.std.proofs.lemmas.Int.Digits.{digits_value_more, digits_more}
@@ -119,3 +122,8 @@ pub name_without : (letter n : ℕ) → letter ≢ 32 → n < 2 ^ 64 → IsWitho
 name_without letter n other small =
     let named = without_decimal 32 n (omega arith) small in
     grind (arith, nat_tests)
+
+-- an option has no space
+pub option_apart : (o : EnlistOption) → IsWithout 32 (option_word o)
+option_apart Plain = refl
+option_apart DuringPrepare = refl

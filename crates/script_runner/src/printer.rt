@@ -1,11 +1,11 @@
 //! Prints traces in the plain form: a line for each entry, with its number, its place and its words.
 ghost use Rattle.std.specs.Prelude.{◌≡◌, ◌≤◌, ◌+◌, [], ◌++◌, IfOk, codes, decimal, length};
 ghost use Rattle.dtx_values.specs.declared.entry.Entry.TheVariants.{Called};
-ghost use Rattle.dtx_model.specs.Grammar.{enlistment_name};
+ghost use Rattle.dtx_model.specs.Grammar.{enlistment_name, clone_name, kind_word};
 ghost use Rattle.dtx_model.specs.TraceText.{answer_text, ask_text, cast_vote_text, class_text, entry_text, outcome_text, party_text, place_text, trace_line, trace_text};
 
 use crate::tail::Tail;
-use dtx_values::{ActorNo, Answer, Ask, Class, EnlNo, Entry, Outcome, Party, Place, Trace, Vote};
+use dtx_values::{ActorNo, Answer, Ask, Class, CloneKind, CloneNo, EnlNo, Entry, Outcome, Party, Place, Trace, Vote};
 use std::alloc::{AllocError, Global};
 
 /// The bytes that are set aside for each line of a trace: a little more than the mean.
@@ -61,6 +61,17 @@ fn put_vote(tail: &mut Tail, v: Vote)
     }
 }
 
+fn put_kind(tail: &mut Tail, k: CloneKind)
+    requires { 8 + length tail.old ≤ 128 }
+    ensures text { tail.new ≡ kind_word k ++ tail.old }
+    ensures length { length tail.new ≤ 8 + length tail.old }
+{
+    match k {
+        CloneKind::Block => tail.put(b"block"),
+        CloneKind::Rollback => tail.put(b"rollback"),
+    }
+}
+
 /// Puts a letter and a number.
 #[inline(always)]
 fn put_name(tail: &mut Tail, letter: &[u8; 1], n: u32)
@@ -79,6 +90,15 @@ fn put_enlistment(tail: &mut Tail, e: EnlNo)
     ensures length { length tail.new ≤ 21 + length tail.old }
 {
     put_name(tail, b"e", e.get());
+}
+
+#[inline(always)]
+fn put_clone(tail: &mut Tail, c: CloneNo)
+    requires { 21 + length tail.old ≤ 128 }
+    ensures text { tail.new ≡ clone_name c.value ++ tail.old }
+    ensures length { length tail.new ≤ 21 + length tail.old }
+{
+    put_name(tail, b"c", c.get());
 }
 
 /// Puts a word, an enlistment and a space.
@@ -123,6 +143,13 @@ fn put_answer(tail: &mut Tail, a: Answer)
 {
     match a {
         Answer::Fine => tail.put(b"ok"),
+        Answer::StillActive => tail.put(b"active"),
+        Answer::OutcomeIs(o) => put_outcome(tail, o),
+        Answer::StillOpen => tail.put(b"open"),
+        Answer::Did(n) => {
+            tail.put_number(u64::from(n));
+            tail.put(b"did ");
+        }
         Answer::NotBegun => tail.put(b"notbegun"),
         Answer::Ended(o) => {
             put_outcome(tail, o);
@@ -133,6 +160,8 @@ fn put_answer(tail: &mut Tail, a: Answer)
             tail.put_number(u64::from(n));
             tail.put(b"many ");
         }
+        Answer::NoSuch => tail.put(b"nosuch"),
+        Answer::Already => tail.put(b"already"),
         _ => {}
     }
 }
@@ -162,11 +191,28 @@ fn put_entry(tail: &mut Tail, x: Entry)
             tail.put_number(u64::from(milliseconds));
             tail.put(b"began ");
         }
+        Entry::Cloned(c, kind) => {
+            put_kind(tail, kind);
+            tail.put(b" ");
+            put_clone(tail, c);
+            tail.put(b"cloned ");
+        }
+        Entry::Completed(c) => {
+            put_clone(tail, c);
+            tail.put(b"completed ");
+        }
         Entry::Enlisted(e, class) => {
             put_class(tail, class);
             put_of(tail, b"enlisted ", e);
         }
         Entry::CommitAsked => tail.put(b"commit"),
+        Entry::RollbackAsked => tail.put(b"rollback"),
+        Entry::Clock(milliseconds) => {
+            tail.put_number(milliseconds);
+            tail.put(b"clock ");
+        }
+        Entry::TimedOut => tail.put(b"timedout"),
+        Entry::Late => tail.put(b"late"),
         Entry::Asked(e, ask) => {
             put_ask(tail, ask);
             put_of(tail, b"ask ", e);

@@ -1,15 +1,17 @@
 //! The words of a line.
-ghost use Rattle.std.specs.Prelude.{◌≡◌, ◌≢◌, ◌<◌, ◌^◌, ◌∷◌, ◌++◌, ℕ, true, IfSome, IfNone, decimal};
+ghost use Rattle.std.specs.Prelude.{◌≡◌, ◌≢◌, ◌≤◌, ◌<◌, ◌^◌, ◌∷◌, ◌++◌, ℕ, true, List, Option, IfSome, IfNone, decimal};
 ghost use Rattle.dtx_values.specs.declared.number.ActorNo.{ActorNo};
 ghost use Rattle.dtx_values.specs.declared.number.TxNo.{TxNo};
 ghost use Rattle.dtx_values.specs.declared.number.EnlNo.{EnlNo};
+ghost use Rattle.dtx_values.specs.declared.number.CloneNo.{CloneNo};
+ghost use Rattle.dtx_values.specs.declared.script.EnlistOption.{EnlistOption};
+ghost use Rattle.dtx_values.specs.declared.words.CloneKind.{CloneKind};
 ghost use Rattle.dtx_values.specs.declared.words.Timeout.{Timeout};
 ghost use Rattle.dtx_values.specs.declared.words.Vote.{Vote};
-ghost use Rattle.dtx_model.specs.Entries.{is_good};
-ghost use Rattle.dtx_model.specs.Grammar.{actor_name, transaction_name, enlistment_name, timeout_word, vote_word};
+ghost use Rattle.dtx_model.specs.Grammar.{actor_name, transaction_name, enlistment_name, clone_name, timeout_word, option_word, vote_word, kind_word};
 ghost use Rattle.script_runner.specs.Reader.{IsWithout, fits};
 
-use dtx_values::{ActorNo, EnlNo, Timeout, TxNo, Vote};
+use dtx_values::{ActorNo, CloneKind, CloneNo, EnlNo, EnlistOption, Timeout, TxNo, Vote};
 
 /// What stands before the first separator, and what stands behind it.
 pub fn cut(bytes: &[u8], separator: u8) -> Option<(&[u8], &[u8])>
@@ -89,6 +91,26 @@ pub fn enlistment(word: &[u8]) -> Option<EnlNo>
     EnlNo::new(name(word, b'e')?)
 }
 
+/// Reads a clone's name.
+pub fn clone(word: &[u8]) -> Option<CloneNo>
+    ensures some { IfSome result (λ c. word.now ≡ clone_name c.value) }
+    ensures none { IfNone result ((c : CloneNo) → word.now ≢ clone_name c.value) }
+{
+    CloneNo::new(name(word, b'c')?)
+}
+
+/// Reads a number from `low` to `high`.
+pub fn number_from(word: &[u8], low: u32, high: u32) -> Option<u32>
+    ensures some { IfSome result (λ n. (word.now ≡ decimal n) × ((low ≤ n) × (n ≤ high))) }
+    ensures none { IfNone result ((n : ℕ) → low ≤ n → n ≤ high → word.now ≢ decimal n) }
+{
+    let n = number(word)?;
+    if n < low || high < n {
+        return None;
+    }
+    Some(n)
+}
+
 /// Reads a timeout: the word `default`, or milliseconds.
 pub fn timeout(word: &[u8]) -> Option<Timeout>
     ensures some { IfSome result (λ d. (word.now ≡ timeout_word d) × (fits d ≡ true)) }
@@ -100,16 +122,59 @@ pub fn timeout(word: &[u8]) -> Option<Timeout>
     Some(Timeout::Milliseconds(number(word)?))
 }
 
-/// Reads a vote that is run: `yes` or `done`.
-pub fn vote(word: &[u8]) -> Option<Vote>
-    ensures some { IfSome result (λ v. (word.now ≡ vote_word (Some v)) × (is_good v ≡ true)) }
-    ensures none { IfNone result ((v : Vote) → is_good v ≡ true → word.now ≢ vote_word (Some v)) }
+/// Reads the option of a volatile enlistment: `none` or `during`.
+pub fn option(word: &[u8]) -> Option<EnlistOption>
+    ensures some { IfSome result (λ o. word.now ≡ option_word o) }
+    ensures none { IfNone result ((o : EnlistOption) → word.now ≢ option_word o) }
 {
-    if word == b"yes".as_slice() {
-        return Some(Vote::Yes);
+    if word == b"none".as_slice() {
+        return Some(EnlistOption::Plain);
     }
-    if word == b"done".as_slice() {
-        return Some(Vote::Done);
+    if word == b"during".as_slice() {
+        return Some(EnlistOption::DuringPrepare);
     }
     None
+}
+
+/// Reads the plan of a vote: `yes`, `no`, `done`, or `silent`, which is no vote.
+pub fn vote(word: &[u8]) -> Option<Option<Vote>>
+    ensures some { IfSome result (λ v. word.now ≡ vote_word v) }
+    ensures none { IfNone result ((v : Option Vote) → word.now ≢ vote_word v) }
+{
+    if word == b"yes".as_slice() {
+        return Some(Some(Vote::Yes));
+    }
+    if word == b"no".as_slice() {
+        return Some(Some(Vote::No));
+    }
+    if word == b"done".as_slice() {
+        return Some(Some(Vote::Done));
+    }
+    if word == b"silent".as_slice() {
+        return Some(None);
+    }
+    None
+}
+
+/// Reads what a clone does to a commit: `block` or `rollback`.
+pub fn kind(word: &[u8]) -> Option<CloneKind>
+    ensures some { IfSome result (λ k. word.now ≡ kind_word k) }
+    ensures none { IfNone result ((k : CloneKind) → word.now ≢ kind_word k) }
+{
+    if word == b"block".as_slice() {
+        return Some(CloneKind::Block);
+    }
+    if word == b"rollback".as_slice() {
+        return Some(CloneKind::Rollback);
+    }
+    None
+}
+
+/// Reads the transaction that the words begin with, and gives the words behind it.
+pub fn leading(words: &[u8]) -> Option<(TxNo, &[u8])>
+    ensures some { IfSome result (λ p. words.now ≡ transaction_name p.0.value ++ 32 ∷ p.1.now) }
+    ensures none { IfNone result ((t : TxNo) (rest : List ℕ) → words.now ≢ transaction_name t.value ++ 32 ∷ rest) }
+{
+    let (t, rest) = cut(words, b' ')?;
+    Some((transaction(t)?, rest))
 }
