@@ -1,6 +1,5 @@
 -- Which replies are due, row by row.
-use Rattle.std.proofs.Common.{◌≡◌, ℕ, zero, suc, ◌+◌, ◌<◌, List, [], ◌∷◌, ◌++◌, length, drop, Option, Some, None, true, slice_get, refl, ap, sym, ◌∙◌, subst, arith, append_assoc, length-append}
-use Rattle.std.proofs.lemmas.List.{drop_more}
+use Rattle.std.proofs.Common.{◌≡◌, ℕ, ◌+◌, List, [], ◌∷◌, ◌++◌, length, drop, Option, Some, None, true, slice_get, refl, ap, sym, ◌∙◌, subst, arith, append_assoc, length-append}
 use Rattle.std.specs.List.{cons_option, filter_map}
 use Rattle.dtx_values.specs.declared.note.Reply.TheVariants.{Vote as VoteReply}
 use Rattle.dtx_values.specs.declared.script.Line.{Line}

@@ -1,12 +1,11 @@
 -- How many steps of a transaction can still come: each pending step makes it less.
-use Rattle.std.proofs.Common.{◌≡◌, ℕ, zero, suc, ◌+◌, ◌<◌, ◌≤◌, ◌==◌, Bool, true, false, ◌&&◌, ◌||◌, not, List, [], ◌∷◌, ◌++◌, map, find, length, Option, Some, None, is_some, cond, if◌then◌else◌, slice_get, refl, sym, subst, arith, ◌⊎◌, inl, inr}
+use Rattle.std.proofs.Common.{◌≡◌, ℕ, zero, suc, ◌+◌, ◌<◌, ◌≤◌, ◌==◌, Bool, true, false, ◌&&◌, ◌||◌, not, List, [], ◌∷◌, ◌++◌, find, Option, Some, None, is_some, if◌then◌else◌, slice_get, refl, sym, subst, arith, ◌⊎◌, inl, inr}
 use Rattle.std.specs.List.{cons_option, filter_map}
 use Rattle.std.proofs.lemmas.Bool.Decides.{Decides-eqb}
 use Rattle.dtx_values.specs.declared.number.EnlNo.{EnlNo}
 use Rattle.dtx_values.specs.declared.entry.Ask.TheVariants.{Prepare}
 use Rattle.dtx_values.specs.declared.entry.Entry.{Entry}
-use Rattle.dtx_values.specs.declared.entry.Entry.TheVariants.{Asked, Decided, Sealed, Told, Voted}
-use Rattle.dtx_values.specs.declared.entry.Party.TheVariants.{Client, Enl}
+use Rattle.dtx_values.specs.declared.entry.Entry.TheVariants.{Asked, Decided, Sealed, Voted}
 use Rattle.dtx_values.specs.declared.note.Reply.TheVariants.{Vote as VoteReply}
 use Rattle.dtx_values.specs.declared.script.Line.{Line}
 use Rattle.dtx_values.specs.declared.words.Outcome.{Outcome}
@@ -14,7 +13,7 @@ use Rattle.dtx_values.specs.declared.words.Vote.{Vote}
 use Rattle.dtx_values.specs.Table.{Enlistment, has_voted, how_many, is_marked, is_of, mark_row, marks, unless_there, vote_row, voted_before, with_vote}
 use Rattle.dtx_model.specs.declared.listener.Listener.{Listener}
 use Rattle.dtx_model.specs.Words.{has, kth}
-use Rattle.dtx_model.specs.Waves.{hears, is_class, is_over, may_be_asked, name_of, next_ask}
+use Rattle.dtx_model.specs.Waves.{is_class, is_over, may_be_asked, name_of, next_ask}
 use Rattle.dtx_model.specs.Observed.{Observed, hear, track, track_all}
 use Rattle.dtx_model.specs.Outcome.{is_empty}
 use Rattle.dtx_model.specs.Steps.{Step, Acts, Replies, act_by, act_entries, act_if, all_voted, before_seal, behind_seal, block, due_replies, due_reply, is_no, is_to_tell, pending, planned_vote, tell, undecided_act, veto_if, vote_step}

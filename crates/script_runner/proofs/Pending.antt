@@ -1,5 +1,5 @@
--- Which step is the first pending one.
-use Rattle.std.proofs.Common.{◌≡◌, true, false, not, List, [], ◌∷◌, ◌++◌, Some, is_none, refl}
+-- Which step is the k-th pending one.
+use Rattle.std.proofs.Common.{◌≡◌, ◌≢◌, ℕ, zero, suc, ◌+◌, ◌-◌, ◌&&◌, true, false, not, List, [], ◌∷◌, ◌++◌, length, Option, Some, None, is_some, if◌then◌else◌, slice_get, refl, ap, sym, ◌∙◌, subst, arith}
 use Rattle.std.specs.List.{filter_map}
 use Rattle.dtx_values.specs.Outgoing.{Outgoing, with}
 use Rattle.dtx_values.specs.declared.number.EnlNo.{EnlNo}
@@ -7,24 +7,25 @@ use Rattle.dtx_values.specs.declared.entry.Entry.{Entry}
 use Rattle.dtx_values.specs.declared.entry.Entry.TheVariants.{Voted}
 use Rattle.dtx_values.specs.declared.note.Reply.TheVariants.{Vote as VoteReply}
 use Rattle.dtx_values.specs.declared.script.Line.{Line}
+use Rattle.dtx_values.specs.declared.words.Outcome.{Outcome}
 use Rattle.dtx_values.specs.declared.words.Vote.{Vote}
-use Rattle.dtx_model.specs.declared.row.Row.{Row}
+use Rattle.dtx_values.specs.Table.{is_marked, is_of}
+use Rattle.dtx_model.specs.Words.{kth}
 use Rattle.dtx_model.specs.Observed.{Observed, track_all}
 use Rattle.dtx_model.specs.Outcome.{is_empty}
-use Rattle.dtx_model.specs.Steps.{Replies, Acts, act_entries, act_if, block, due_replies, due_reply, pending, planned_vote}
-use Rattle.script_runner.specs.Machine.{DoesFirst, IsFirstReply}
-
--- a row that was asked, hasn't voted, and has a plan: its reply comes first
-pub filter_map-due : (s : List Line) (r : Row) (rs : List Row) (v : Vote) → r.asked ≡ true → is_none r.vote ≡ true → planned_vote s r.enlistment.value ≡ Some v
-    → filter_map (λ q. due_reply s q) (r ∷ rs) ≡ Replies r.enlistment (VoteReply v) ∷ filter_map (λ q. due_reply s q) rs
-filter_map-due s r rs v a n p = rw (a, n, p) refl
+use Rattle.dtx_model.specs.Steps.{Replies, Acts, act_entries, act_if, block, due_replies, due_reply, is_no, pending, veto_if}
+use Rattle.dtx_model.proofs.Bools.{and_left, and_right, and_both}
+use Rattle.volatile_enlist.specs.Refusals.{was_asked}
+use Rattle.script_runner.specs.Machine.{DoesKth}
+use Rattle.script_runner.proofs.Counting.{has-more}
+use Rattle.script_runner.proofs.Measure.{reply_at, unvoted}
 
 -- the entries of an act, and whether there are any
-pub act_if-some : (es : List Entry) → not (is_empty es) ≡ true → act_if es ≡ Acts ∷ []
+act_if-some : (es : List Entry) → not (is_empty es) ≡ true → act_if es ≡ Acts ∷ []
 act_if-some [] k = cc
 act_if-some (x ∷ xs) k = refl
 
-pub act_if-none : (es : List Entry) → not (is_empty es) ≡ false → act_if es ≡ []
+act_if-none : (es : List Entry) → not (is_empty es) ≡ false → act_if es ≡ []
 act_if-none [] k = refl
 act_if-none (x ∷ xs) k = cc
 
@@ -34,33 +35,74 @@ unfolding track_all
 track_all-none o [] k = refl
 track_all-none o (x ∷ xs) k = cc
 
--- a reply that is due comes first
-pub does_reply : (s : List Line) (old new : Observed) (out after : Outgoing) (e : EnlNo) (v : Vote) → IsFirstReply (Some (e, v)) (due_replies s old)
-    → new ≡ track_all old (Voted e v ∷ []) → after ≡ with out (Voted e v ∷ []) → DoesFirst s old new out after
+-- the k-th stands at the place before k
+kth-place : {A : Type 0} (xs : List A) (k : ℕ) → k ≢ 0 → kth xs k ≡ slice_get xs (k - 1)
+kth-place xs zero d = absurd (d refl)
+kth-place xs (suc k) d = let same : suc k - 1 ≡ k = omega arith in ap (slice_get xs) (sym same)
+
+-- what stands in the first list stands there with another behind it
+at_first : {A : Type 0} (xs ys : List A) (k : ℕ) (x : A) → slice_get xs k ≡ Some x → slice_get (xs ++ ys) k ≡ Some x
+at_first [] ys k x e = absurd (cc)
+at_first (z ∷ xs) ys zero x e = e
+at_first (z ∷ xs) ys (suc k) x e = at_first xs ys k x e
+
+-- what stands behind the first list stands in the second
+at_second : {A : Type 0} (xs ys : List A) (k n : ℕ) → k ≡ length xs + n → slice_get (xs ++ ys) k ≡ slice_get ys n
+at_second {A = A} xs ys k n e = subst (λ j. slice_get (xs ++ ys) j ≡ slice_get ys n) (sym e) (go xs)
+  where
+    go : (zs : List A) → slice_get (zs ++ ys) (length zs + n) ≡ slice_get ys n
+    go [] = let same : 0 + n ≡ n = omega arith in ap (slice_get ys) same
+    go (z ∷ zs) = let shift : length (z ∷ zs) + n ≡ suc (length zs + n) = omega arith in ap (slice_get ((z ∷ zs) ++ ys)) shift ∙ go zs
+
+-- an enlistment whose reply is due was asked
+pub due_asked : (s : List Line) (o : Observed) (k : ℕ) (e : EnlNo) (v : Vote) → slice_get (due_replies s o) k ≡ Some (Replies e (VoteReply v)) → was_asked e.value o.table ≡ true
+due_asked s o k e v found = by o.decided found
+  where
+    by : (d : Option Outcome) → slice_get (if is_some d then [] else filter_map (due_reply s) o.table) k ≡ Some (Replies e (VoteReply v)) → was_asked e.value o.table ≡ true
+    by (Some x) f = absurd (cc)
+    by None f =
+        let i = reply_at s o.table k (Replies e (VoteReply v)) f in
+        let same : i.0 ≡ e = cc in
+        has-more (λ x. is_of i.0.value x && (is_marked x && unvoted x)) (λ x. is_of e.value x && is_marked x)
+        (λ x h. and_both (is_of e.value x) (is_marked x) (subst (λ f. is_of f.value x ≡ true) same (and_left (is_of i.0.value x) (is_marked x && unvoted x) h)) (and_left (is_marked x) (unvoted x) (and_right (is_of i.0.value x) (is_marked x && unvoted x) h)))
+        o.table i.3
+
+-- a reply that is due at the place before k is the k-th step
+pub does_reply : (s : List Line) (k : ℕ) (old new : Observed) (out after : Outgoing) (e : EnlNo) (v : Vote) → k ≢ 0 → slice_get (due_replies s old) (k - 1) ≡ Some (Replies e (VoteReply v))
+    → new ≡ track_all old (Voted e v ∷ veto_if (is_no v)) → after ≡ with out (Voted e v ∷ veto_if (is_no v)) → DoesKth s k old new out after
 unfolding block pending
-does_reply s old new out after e v due state written =
+does_reply s k old new out after e v d due state written =
     record {
       step = Replies e (VoteReply v);
-      others = due.0 ++ act_if (act_entries old);
-      first = rw due.1 refl;
+      stands = kth-place (pending s old) k d ∙ at_first (due_replies s old) (act_if (act_entries old)) (k - 1) (Replies e (VoteReply v)) due;
       state = state;
       written = written;
     }
 
--- where no reply is due the act comes first
-pub does_act : (s : List Line) (old new : Observed) (out after : Outgoing) → due_replies s old ≡ [] → not (is_empty (act_entries old)) ≡ true
-    → new ≡ track_all old (act_entries old) → after ≡ with out (act_entries old) → DoesFirst s old new out after
+-- the act stands behind the replies
+pub does_act : (s : List Line) (k n : ℕ) (old new : Observed) (out after : Outgoing) → k ≢ 0 → k - 1 ≡ length (due_replies s old) + n → n ≡ 0 → not (is_empty (act_entries old)) ≡ true
+    → new ≡ track_all old (act_entries old) → after ≡ with out (act_entries old) → DoesKth s k old new out after
 unfolding block pending
-does_act s old new out after none acts state written =
+does_act s k n old new out after d place z acts state written =
     record {
       step = Acts;
-      others = [];
-      first = rw none (act_if-some (act_entries old) acts);
+      stands = kth-place (pending s old) k d ∙ (at_second (due_replies s old) (act_if (act_entries old)) (k - 1) 0 (omega (arith, place, z)) ∙ ap (λ ms. slice_get ms 0) (act_if-some (act_entries old) acts));
       state = state;
       written = written;
     }
 
--- where no reply is due and no act is there, nothing is pending
-pub pending-none : (s : List Line) (o : Observed) → due_replies s o ≡ [] → not (is_empty (act_entries o)) ≡ false → pending s o ≡ []
+-- where no act is there, nothing stands behind the replies
+pub no_act : (s : List Line) (k n : ℕ) (o : Observed) → k ≢ 0 → k - 1 ≡ length (due_replies s o) + n → n ≡ 0 → not (is_empty (act_entries o)) ≡ false → kth (pending s o) k ≡ None
 unfolding pending
-pending-none s o none acts = rw none (act_if-none (act_entries o) acts)
+no_act s k n o d place z acts =
+    kth-place (pending s o) k d ∙ (at_second (due_replies s o) (act_if (act_entries o)) (k - 1) 0 (omega (arith, place, z)) ∙ ap (λ ms. slice_get ms 0) (act_if-none (act_entries o) acts))
+
+-- nothing stands behind the act
+pub beyond_act : (s : List Line) (k n : ℕ) (o : Observed) → k ≢ 0 → k - 1 ≡ length (due_replies s o) + n → n ≢ 0 → kth (pending s o) k ≡ None
+unfolding pending
+beyond_act s k n o d place more = kth-place (pending s o) k d ∙ (at_second (due_replies s o) (act_if (act_entries o)) (k - 1) n place ∙ beyond (act_entries o) n more)
+  where
+    beyond : (es : List Entry) (n : ℕ) → n ≢ 0 → slice_get (act_if es) n ≡ None
+    beyond es zero d = absurd (d refl)
+    beyond [] (suc n) d = refl
+    beyond (x ∷ xs) (suc n) d = refl

@@ -1,13 +1,14 @@
 -- What a replay gives is a history of its script.
-use Rattle.std.proofs.Common.{◌≤◌, List, [], ◌∷◌, length, refl, arith, length-append}
+use Rattle.std.proofs.Common.{◌≡◌, ◌≤◌, ℕ, List, [], ◌∷◌, ◌++◌, ap, drop, length, refl, arith, length-append, sym, take, ◌∙◌}
+use Rattle.std.proofs.lemmas.List.{take-append-drop}
 use Rattle.dtx_values.specs.declared.script.Line.{Line}
 use Rattle.dtx_model.specs.Words.{past_of}
 use Rattle.dtx_model.specs.Replay.{LinesRan, Placed, IsReplayed}
-use Rattle.dtx_model.specs.Grammar.{script_text}
+use Rattle.dtx_model.specs.Grammar.{IsScript, script_text}
 use Rattle.script_runner.specs.Running.{IsSettledBelow}
 
 -- a script has no more lines than bytes
-pub length-script_text : (s : List Line) → length s ≤ length (script_text s)
+length-script_text : (s : List Line) → length s ≤ length (script_text s)
 length-script_text [] = omega arith
 length-script_text (l ∷ ls) = let ih = length-script_text ls in simp length-append (omega arith)
 
@@ -18,3 +19,11 @@ settled-none s T = record { turns = []; rounds = refl; reached = omega arith; be
 -- the lines, and then the rounds
 pub is_replayed : (s : List Line) (lines trace : List Placed) → LinesRan s (past_of s) (past_of lines) → IsSettledBelow s (past_of lines) 257 (past_of trace) → IsReplayed s (past_of trace)
 is_replayed s lines trace ran b = record { by_lines = past_of lines; lines = ran; turns = b.turns; rounds = b.rounds }
+
+-- a script has at most so many lines
+pub few : (s : List Line) → IsScript s → length s ≤ 1048576
+few s k = let bytes = length-script_text s in let within = k.within in omega arith
+
+-- a list cut at one of its items
+pub split_at : {A : Type 0} (xs : List A) (i : ℕ) (x : A) (rest : List A) → drop i xs ≡ x ∷ rest → xs ≡ take i xs ++ x ∷ rest
+split_at xs i x rest e = sym (take-append-drop i xs) ∙ ap (λ ys. take i xs ++ ys) e

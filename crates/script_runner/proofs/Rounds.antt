@@ -10,7 +10,7 @@ use Rattle.dtx_model.specs.Caused.{Settled}
 use Rattle.dtx_model.specs.Replay.{Placed, StepsRan, after_step, history, is_passed, last_turn}
 use Rattle.dtx_model.specs.Steps.{Step, block, pending}
 use Rattle.dtx_model.proofs.Histories.{history-other, history-same, observe-onto}
-use Rattle.script_runner.specs.Running.{Advances, IsSettledBelow, StepsDone}
+use Rattle.script_runner.specs.Running.{Advances, IsSettledBelow, Settles, StepsDone}
 use Rattle.script_runner.proofs.Measure.{steps_left, steps_left-pending}
 
 -- going round from u, what comes before a later t is below it
@@ -63,7 +63,7 @@ settled-advanced s start t T m b stands =
     }
 
 -- and so do steps in a row, each the first that is pending
-pub settled-steps : (s : List Line) (start : List Placed) (t : TxNo) (m : ℕ) (T after : List Placed) → IsSettledBelow s start t.value T → StepsRan s t 1 m T after
+settled-steps : (s : List Line) (start : List Placed) (t : TxNo) (m : ℕ) (T after : List Placed) → IsSettledBelow s start t.value T → StepsRan s t 1 m T after
     → IsSettledBelow s start t.value after
 settled-steps s start t zero T after b ran = subst (λ (U : List Placed). IsSettledBelow s start t.value U) (sym ran) b
 settled-steps s start t (suc m) T after b ran =
@@ -71,7 +71,7 @@ settled-steps s start t (suc m) T after b ran =
     (settled-advanced s start t ran.0 ran.2 (settled-steps s start t m T ran.0 b ran.1) ran.3)
 
 -- where t is settled too, the next one is next
-pub settled-next : (s : List Line) (start : List Placed) (t : TxNo) (T : List Placed) → IsSettledBelow s start t.value T → Settled s (history t.value T)
+settled-next : (s : List Line) (start : List Placed) (t : TxNo) (T : List Placed) → IsSettledBelow s start t.value T → Settled s (history t.value T)
     → IsSettledBelow s start (t.value + 1) T
 settled-next s start t T b here =
     record {
@@ -83,3 +83,8 @@ settled-next s start t T b here =
         | inr e ↦ b.below v (omega (arith, e.1, k))
       ];
     }
+
+-- settling t, where the transactions below it are settled
+pub settles-next : (s : List Line) (start : List Placed) (t : TxNo) (old new : List Placed) → IsSettledBelow s start t.value (past_of old) → Settles s t old new
+    → IsSettledBelow s start (t.value + 1) (past_of new)
+settles-next s start t old new b did = settled-next s start t (past_of new) (settled-steps s start t did.0 (past_of old) (past_of new) b did.1.ran) did.1.settled

@@ -1,5 +1,5 @@
 -- What a machine does.
-use Rattle.std.specs.Prelude.{ℕ, ◌==◌, ◌+◌, true, ◌≡◌, List, ◌∷◌, length, Option, Some, None, slice_get}
+use Rattle.std.specs.Prelude.{ℕ, ◌+◌, true, ◌≡◌, List, length, Some, None, slice_get}
 use Rattle.dtx_values.specs.Outgoing.{Outgoing, with}
 use Rattle.dtx_values.specs.declared.entry.Entry.{Entry}
 use Rattle.dtx_values.specs.declared.entry.Entry.TheVariants.{Cloned, Enlisted, Voted}

@@ -5,13 +5,14 @@ ghost use Rattle.dtx_values.specs.Outgoing.{with};
 ghost use Rattle.dtx_values.specs.Clones.{is_open_rollback};
 ghost use Rattle.dtx_values.specs.Table.{Enlistment};
 ghost use Rattle.dtx_model.specs.Outcome.{is_empty};
-ghost use Rattle.dtx_values.specs.declared.entry.Entry.TheVariants.{Enlisted};
+ghost use Rattle.dtx_values.specs.declared.entry.Entry.TheVariants.{Enlisted, Voted};
+ghost use Rattle.dtx_values.specs.declared.note.Reply.TheVariants.{Vote as VoteReply};
 ghost use Rattle.dtx_model.specs.Entries.{is_volatile};
-ghost use Rattle.dtx_model.specs.Words.{has, kth};
+ghost use Rattle.dtx_model.specs.Words.{each, has, kth};
 ghost use Rattle.dtx_model.specs.Waves.{is_over, next_ask};
 ghost use Rattle.dtx_model.specs.Observed.{track, track_all, observe};
 ghost use Rattle.dtx_model.specs.Caused.{is_new};
-ghost use Rattle.dtx_model.specs.Steps.{Calls, act_by, act_entries, all_voted, answer, before_seal, behind_begin, behind_end, behind_seal, block, clone_answer, complete_answer, due_replies, facts, is_evident, is_fine, is_late, is_to_tell, limit_of, pending, reaches, reply_entries, status_answer, await_answer, tell, tick_facts, ticked, time_up, undecided_act, unless_late, unless_over, veto_if, volatile_answer, voted_well};
+ghost use Rattle.dtx_model.specs.Steps.{Calls, act_by, act_entries, all_voted, answer, before_seal, behind_begin, behind_end, behind_seal, block, clone_answer, complete_answer, due_replies, facts, is_evident, is_fine, is_no, is_to_tell, limit_of, pending, reaches, reply_entries, status_answer, await_answer, tell, tick_facts, ticked, time_up, undecided_act, unless_late, unless_over, veto_if, volatile_answer, voted_well};
 ghost use Rattle.script_runner.specs.Machine.{DoesKth, IsDueAt, MayNote};
 
 use crate::due::{Due, due_at};
@@ -113,14 +114,34 @@ fn voted_well(v: Option<Vote>) -> bool
     }
 }
 
+fn is_no(v: Vote) -> bool
+    ensures { result ≡ is_no v }
+{
+    match v {
+        Vote::No => true,
+        _ => false,
+    }
+}
+
+/// Whether it is volatile and voted yes or done.
+fn is_well(x: &(EnlNo, Row)) -> bool
+    ensures { result ≡ (is_volatile x.now.1.class && voted_well x.now.1.vote) }
+{
+    is_volatile(x.1.class) && voted_well(x.1.vote)
+}
+
+/// Whether each is volatile and voted yes or done.
+fn are_well(rows: &[(EnlNo, Row)]) -> bool
+    ensures { result ≡ each (λ x. is_volatile x.1.class && voted_well x.1.vote) rows.now }
+{
+    rows.iter().all(|x| is_well(x))
+}
+
 /// Whether evidence by the seal stands, as the rows show it.
 fn is_evident(sealed: bool, rows: &[(EnlNo, Row)]) -> bool
     ensures { result ≡ is_evident sealed rows.now }
 {
-    sealed
-        && rows
-            .iter()
-            .all(|x| is_volatile(x.1.class) && voted_well(x.1.vote))
+    sealed && are_well(rows)
 }
 
 /// Whether every volatile voted.
@@ -152,18 +173,20 @@ impl Machine {
     }
 
     /// Adds an enlistment to the table, and to whom the outcome is told.
+    #[tactic(auto, unfolding(dtx_model::specs::Observed::track))]
     fn enlist(&mut self, e: EnlNo, class: Class)
         requires { MayNote self.old (Enlisted e class) }
         ensures { self.new ≡ track self.old (Enlisted e class) }
     {
-        if self.table.add(e, class).is_ok() {
-            add(
+        match self.table.add(e, class) {
+            Ok(()) => add(
                 &mut self.listeners,
                 Listener {
                     enlistment: e,
                     told: false,
                 },
-            );
+            ),
+            Err(_) => unreachable!(),
         }
     }
 
@@ -180,7 +203,9 @@ impl Machine {
             Entry::Sealed => self.sealed = true,
             Entry::Enlisted(e, class) => self.enlist(e, class),
             Entry::Cloned(c, kind) => {
-                let _ = self.clones.clone_of(c, kind == CloneKind::Block, self.commit);
+                let _ = self
+                    .clones
+                    .clone_of(c, kind == CloneKind::Block, self.commit);
             }
             Entry::Completed(c) => {
                 let _ = self.clones.complete(c);
@@ -290,9 +315,10 @@ impl Machine {
         match *c {
             Call::Volatile(_, _, _, _) => self.unless_over(self.volatile_answer()),
             Call::Clone(_, _, _) => self.unless_over(self.clone_answer()),
-            Call::Complete(c) => self.unless_over(
-                self.complete_answer(self.clones.stands(c), self.clones.is_complete(c)),
-            ),
+            Call::Complete(c) => self.unless_over(self.complete_answer(
+                self.clones.stands(c),
+                self.clones.is_complete(c),
+            )),
             Call::Commit(_) => self.unless_over(self.unless_late(self.commit)),
             Call::Rollback(_) => self.unless_over(self.unless_late(self.sealed)),
             Call::Status(_) => self.behind_begin(self.status_answer()),
@@ -314,6 +340,14 @@ impl Machine {
     {
         self.note(x);
         out.put(x);
+    }
+
+    /// Whether a rollback clone isn't complete.
+    #[tactic(auto, using(crate::proofs::Notes::some_left))]
+    fn has_open_rollback(&self) -> bool
+        ensures { result ≡ has is_open_rollback self.now.clones }
+    {
+        self.clones.rollback_left() > 0
     }
 
     /// Writes a veto where the test holds.
@@ -366,7 +400,7 @@ impl Machine {
             Call::Clone(_, c, kind) => self.write(Entry::Cloned(c, kind), out),
             Call::Complete(c) => self.write(Entry::Completed(c), out),
             Call::Commit(_) => {
-                let is_veto = self.clones.rollback_left() > 0;
+                let is_veto = self.has_open_rollback();
                 self.write(Entry::CommitAsked, out);
                 self.veto_if(is_veto, out);
             }
@@ -471,6 +505,17 @@ impl Machine {
         }
     }
 
+    /// Takes a vote; a No is a veto.
+    fn vote(&mut self, e: EnlNo, v: Vote, out: &mut Outbox)
+        requires asked { MayNote self.old (Voted e v) }
+        requires room { 2 ≤ out.old.room }
+        ensures state { self.new ≡ track_all self.old (reply_entries e (VoteReply v)) }
+        ensures out { out.new ≡ with out.old (reply_entries e (VoteReply v)) }
+    {
+        self.write(Entry::Voted(e, v), out);
+        self.veto_if(is_no(v), out);
+    }
+
     /// The reply that is due at place k, from 0.
     fn due(&self, plans: &Plans, k: usize) -> Due
         ensures { IsDueAt (due_replies plans.now self.now) k result }
@@ -493,12 +538,15 @@ impl Machine {
         }
         match self.due(plans, k as usize - 1) {
             Due::Reply(e, v) => {
-                self.write(Entry::Voted(e, v), out);
-                self.veto_if(v == Vote::No, out);
+                self.vote(e, v, out);
                 true
             }
-            Due::Beyond(0) => self.act(out),
-            Due::Beyond(_) => false,
+            Due::Beyond(n) => {
+                if n > 0 {
+                    return false;
+                }
+                self.act(out)
+            }
         }
     }
 }

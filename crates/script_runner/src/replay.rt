@@ -79,7 +79,14 @@ impl<'a> Run<'a> {
     }
 
     /// Does the call that line n gives transaction t, for which so many steps were done.
-    fn call(&mut self, n: u32, actor: ActorNo, t: TxNo, c: &Call, done: u16) -> Result<(), AllocError>
+    fn call(
+        &mut self,
+        n: u32,
+        actor: ActorNo,
+        t: TxNo,
+        c: &Call,
+        done: u16,
+    ) -> Result<(), AllocError>
         requires { is_new (observe (history t.value (past_of self.old.trace))) c.now ≡ true }
         ensures script { self.new.script ≡ self.old.script }
         ensures done { OnOk result (past_of self.new.trace ≡ after_step t (Calls n actor c.now done) (past_of self.old.trace)) }
@@ -138,7 +145,7 @@ impl<'a> Run<'a> {
     /// Settles t1, t2 and so on in turn. No step of one makes another's pending, so one round leaves nothing.
     fn settle_all(&mut self) -> Result<(), AllocError>
         ensures script { self.new.script ≡ self.old.script }
-        ensures settled { OnOk result ((start : List Placed) → IsSettledBelow self.old.script start 1 self.old.trace → IsSettledBelow self.old.script start 257 self.new.trace) }
+        ensures settled { OnOk result ((start : List Placed) → IsSettledBelow self.old.script start 1 (past_of self.old.trace) → IsSettledBelow self.old.script start 257 (past_of self.new.trace)) }
     {
         for n in 1..BEYOND {
             let t = TxNo::new(n).unwrap();

@@ -1,8 +1,7 @@
-use Rattle.std.proofs.Common.{◌≡◌, ◌+◌, ◌∷◌, Option, drop, ap, sym, subst, ◌∙◌, arith, true}
+use Rattle.std.proofs.Common.{◌≡◌, ◌+◌, ◌∷◌, drop, ap, sym, subst, ◌∙◌, arith, true}
 use Rattle.std.proofs.lemmas.List.{drop_more}
-use Rattle.dtx_values.specs.declared.words.Vote.{Vote}
 use Rattle.dtx_values.specs.Table.{Enlistment}
-use Rattle.dtx_model.specs.Steps.{due_reply, vote_step}
+use Rattle.dtx_model.specs.Steps.{vote_step}
 use Rattle.script_runner.proofs.DueReplies.{IsPassed, passed-more, passed-same, reply_here}
 use Rattle.script_runner.proofs.due.due_at.Goals as goal
 use Rattle.script_runner.proofs.due.due_at.Goals.{in-Some+else-left-eq0, in_default}

@@ -1,14 +1,10 @@
-use Rattle.std.proofs.Common.{List, arith, subst}
+use Rattle.std.proofs.Common.{List, subst}
 use Rattle.dtx_values.specs.declared.number.TxNo.{TxNo}
 use Rattle.dtx_values.specs.declared.script.Line.{Line}
 use Rattle.dtx_model.specs.Caused.{Caused, Settled}
 use Rattle.dtx_model.specs.Replay.{IsReplayed, history}
 use Rattle.dtx_model.specs.Words.{past_of}
-use Rattle.script_runner.proofs.Replayed.{length-script_text}
 use Rattle.script_runner.proofs.replay.run_replay.Goals as goal
-
-pub trace_of-requires : goal.trace_of-requires
-trace_of-requires c = rw c.lines.ensures (omega (arith, length-script_text c.args.s.now, c.requires.within))
 
 pub returns-clause-history : goal.returns-clause-history
 returns-clause-history c =
@@ -25,8 +21,8 @@ returns-clause-outcome c =
     let ran : IsReplayed s T = subst (λ (ls : List Line). IsReplayed ls T) c.lines.ensures c.in_ok-trace.ensures.replayed in
     let caused : (t : TxNo) → Caused s t.value (history t.value T) = c.replay.ensures.caused s T ran in
     record {
-      just = λ t. c.one_outcome.ensures.just s t.value (history t.value T) c.requires.run (caused t);
-      agrees = λ t. c.one_outcome.ensures.agrees s t.value (history t.value T) c.requires.run (caused t);
+      just = λ t. c.one_outcome.ensures.just s t.value (history t.value T) c.requires.named (caused t);
+      agrees = λ t. c.one_outcome.ensures.agrees s t.value (history t.value T) c.requires.named (caused t);
     }
 
 pub returns-clause-complete : goal.returns-clause-complete
@@ -35,4 +31,4 @@ returns-clause-complete c =
     let T = past_of c.in_ok-trace.trace in
     let ran : IsReplayed s T = subst (λ (ls : List Line). IsReplayed ls T) c.lines.ensures c.in_ok-trace.ensures.replayed in
     let settled : (t : TxNo) → Settled s (history t.value T) = subst (λ (ls : List Line). (t : TxNo) → Settled ls (history t.value T)) c.lines.ensures c.in_ok-trace.ensures.settled in
-    λ t asked. c.completeness.ensures s t.value (history t.value T) c.requires.run (c.replay.ensures.caused s T ran t) (settled t) asked
+    λ t asked. c.completeness.ensures s t.value (history t.value T) c.requires.named (c.replay.ensures.caused s T ran t) (settled t) asked

@@ -13,16 +13,16 @@ returns-clause-replayed c =
     let first : c.in_ok-run.run'.script ≡ c.args.lines.now = ap (λ (r : Running). r.script) c.in_ok-run.ensures in
     let ran : LinesRan c.args.lines.now (past_of c.args.lines.now) (past_of lines) =
     subst (λ (s : List Line). LinesRan s (past_of s) (past_of lines)) first c.in_ok-lines.ensures.ran in
-    let below : IsSettledBelow c.args.lines.now (past_of lines) 257 c.settle_all.new.self.trace =
-    subst (λ (s : List Line). IsSettledBelow s (past_of lines) 257 c.settle_all.new.self.trace) (c.in_ok-lines.ensures.script ∙ first)
-    (c.in_ok-settle_all.ensures.settled (past_of lines) (settled-none _ lines)) in
+    let below : IsSettledBelow c.args.lines.now (past_of lines) 257 (past_of c.settle_all.new.self.trace) =
+    subst (λ (s : List Line). IsSettledBelow s (past_of lines) 257 (past_of c.settle_all.new.self.trace)) (c.in_ok-lines.ensures.script ∙ first)
+    (c.in_ok-settle_all.ensures.settled (past_of lines) (settled-none _ (past_of lines))) in
     subst (λ (T : List Placed). IsReplayed c.args.lines.now (past_of T)) (sym c.into_trace.ensures) (is_replayed c.args.lines.now lines c.settle_all.new.self.trace ran below)
 
 pub returns-clause-settled : goal.returns-clause-settled
 returns-clause-settled c =
     let lines = c.lines.new.self.trace in
     let first : c.in_ok-run.run'.script ≡ c.args.lines.now = ap (λ (r : Running). r.script) c.in_ok-run.ensures in
-    let below : IsSettledBelow c.args.lines.now (past_of lines) 257 c.settle_all.new.self.trace =
-    subst (λ (s : List Line). IsSettledBelow s (past_of lines) 257 c.settle_all.new.self.trace) (c.in_ok-lines.ensures.script ∙ first)
-    (c.in_ok-settle_all.ensures.settled (past_of lines) (settled-none _ lines)) in
+    let below : IsSettledBelow c.args.lines.now (past_of lines) 257 (past_of c.settle_all.new.self.trace) =
+    subst (λ (s : List Line). IsSettledBelow s (past_of lines) 257 (past_of c.settle_all.new.self.trace)) (c.in_ok-lines.ensures.script ∙ first)
+    (c.in_ok-settle_all.ensures.settled (past_of lines) (settled-none _ (past_of lines))) in
     λ t. subst (λ (T : List Placed). Settled c.args.lines.now (history t.value (past_of T))) (sym c.into_trace.ensures) (below.below t (omega (arith, t.in_range.1)))

@@ -9,7 +9,7 @@ use Rattle.script_runner.proofs.replay.Run.call.Goals as goal
 pub invariant_of-self-2 : goal.invariant_of-self-2
 invariant_of-self-2 c =
     let m = c.index_mut-machine.result.now in
-    let step = Calls c.args.n c.args.actor c.args.c.now in
+    let step = Calls c.args.n c.args.actor c.args.c.now c.args.done in
     let written : c.append.new.trace.items ≡ c.self.inside.trace.items ++ placed c.args.t (block m step) =
     rw (c.append.ensures, c.entries.ensures.value, c.call.ensures.out, c.clear.ensures, c.reserve.ensures.items) refl in
     rw c.get.ensures.value (tied_after _ c.self.inside.trace.items _ c.args.t m _ (block m step) c.self.invariant (rw c.get.ensures.value at c.index_mut-machine.ensures.value) c.call.ensures.state written)
@@ -17,7 +17,7 @@ invariant_of-self-2 c =
 pub returns-clause-done : goal.returns-clause-done
 returns-clause-done c =
     let m = c.index_mut-machine.result.now in
-    let step = Calls c.args.n c.args.actor c.args.c.now in
+    let step = Calls c.args.n c.args.actor c.args.c.now c.args.done in
     let written : c.append.new.trace.items ≡ c.self.inside.trace.items ++ placed c.args.t (block m step) =
     rw (c.append.ensures, c.entries.ensures.value, c.call.ensures.out, c.clear.ensures, c.reserve.ensures.items) refl in
     subst (λ (r : Running). past_of c.append.new.trace.items ≡ after_step c.args.t step (past_of r.trace)) c.self.view_is

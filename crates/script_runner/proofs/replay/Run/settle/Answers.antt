@@ -1,16 +1,28 @@
-use Rattle.std.proofs.Common.{◌≡◌, List, true, Ok, subst, ◌∙◌}
+use Rattle.std.proofs.Common.{◌≡◌, ℕ, suc, List, true, false, Ok, None, subst, sym, ◌∙◌}
 use Rattle.dtx_values.specs.declared.script.Line.{Line}
-use Rattle.script_runner.specs.Running.{Advances}
-use Rattle.script_runner.proofs.Rounds.{advanced-smaller, settled-advanced}
+use Rattle.dtx_model.specs.Observed.{observe}
+use Rattle.dtx_model.specs.Replay.{HasSettled, history}
+use Rattle.dtx_model.specs.Steps.{pending}
+use Rattle.dtx_model.specs.Words.{kth, past_of}
+use Rattle.script_runner.specs.Running.{Advances, Running}
+use Rattle.script_runner.proofs.Rounds.{advanced-smaller, none-first, steps-more}
 use Rattle.script_runner.proofs.replay.Run.settle.Goals as goal
+
+pub returns-then-not-branch-clause-settled : goal.returns-then-not-branch-clause-settled
+returns-then-not-branch-clause-settled c =
+    let done : c.step.result ≡ Ok false = cc in
+    let none : kth (pending c.args.self.now.script (observe (history c.args.t.value (past_of c.loop.self.trace)))) 1 ≡ None =
+    subst (λ (s : List Line). kth (pending s (observe (history c.args.t.value (past_of c.loop.self.trace)))) 1 ≡ None) c.loop.invariant.0 (c.step.ensures.none done) in
+    subst (λ (r : Running). (m : ℕ) × HasSettled c.args.self.now.script c.args.t m (past_of c.args.self.now.trace) (past_of r.trace)) (sym (c.step.ensures.unchanged done))
+    (c.loop.invariant.1, record { ran = c.loop.invariant.2; settled = none-first _ none })
 
 pub loop-smaller : goal.loop-smaller
 loop-smaller c =
-    let some : c.advance.result ≡ Ok true = cc in
-    advanced-smaller _ c.args.t c.loop.self.trace c.advance.new.self.trace (c.advance.ensures.some some)
+    let some : c.step.result ≡ Ok true = cc in
+    advanced-smaller _ c.args.t 1 c.loop.self.trace c.step.new.self.trace (c.step.ensures.some some)
 
 pub loop-preserved : goal.loop-preserved
 loop-preserved c =
-    let some : c.advance.result ≡ Ok true = cc in
-    let did = subst (λ (s : List Line). Advances s c.args.t c.loop.self.trace c.advance.new.self.trace) c.loop.invariant.0 (c.advance.ensures.some some) in
-    (c.advance.ensures.script ∙ c.loop.invariant.0, λ start b. settled-advanced _ start c.args.t c.loop.self.trace _ (c.loop.invariant.1 start b) did)
+    let some : c.step.result ≡ Ok true = cc in
+    let did = subst (λ (s : List Line). Advances s c.args.t 1 c.loop.self.trace c.step.new.self.trace) c.loop.invariant.0 (c.step.ensures.some some) in
+    (c.step.ensures.script ∙ c.loop.invariant.0, suc c.loop.invariant.1, steps-more _ c.args.t 1 c.loop.invariant.1 c.args.self.now.trace c.loop.self.trace c.step.new.self.trace c.loop.invariant.2 did)

@@ -1,7 +1,10 @@
 use Rattle.std.proofs.Common.{◌≡◌, List}
 use Rattle.dtx_model.specs.Replay.{Placed}
+use Rattle.dtx_model.specs.Words.{past_of}
 use Rattle.script_runner.specs.Running.{IsSettledBelow}
 use Rattle.script_runner.proofs.replay.Run.settle_all.Given as goal
 
 abbrev pub invariant-loop-n : goal.invariant-loop-n
-invariant-loop-n l = (l.self.script ≡ l.initial.self.script) × ((start : List Placed) → IsSettledBelow l.initial.self.script start 1 l.initial.self.trace → IsSettledBelow l.initial.self.script start l.n l.self.trace)
+invariant-loop-n l =
+    (l.self.script ≡ l.initial.self.script)
+    × ((start : List Placed) → IsSettledBelow l.initial.self.script start 1 (past_of l.initial.self.trace) → IsSettledBelow l.initial.self.script start l.n (past_of l.self.trace))
