@@ -21,7 +21,13 @@ fn calls(rt: &impl Abort) -> [(u32, Call, Result<(), CloneRefusal>, u8, u8); 11]
     [
         (9, Call::Complete, Err(CloneRefusal::NoSuch(c9)), 0, 0),
         (1, Call::Make(true, false), Ok(()), 1, 0),
-        (1, Call::Make(false, false), Err(CloneRefusal::Twice(c1)), 1, 0),
+        (
+            1,
+            Call::Make(false, false),
+            Err(CloneRefusal::Twice(c1)),
+            1,
+            0,
+        ),
         (3, Call::Make(true, false), Ok(()), 2, 0),
         (2, Call::Make(false, false), Ok(()), 2, 1),
         (1, Call::Complete, Ok(()), 1, 1),
@@ -48,7 +54,12 @@ fn clones_are_made_and_completed(rt: HostRuntime) -> Result<(), Fail> {
         assert_eq!(rt; clones.rollback_left(), rollback, "at {n}");
     }
     assert_eq!(rt; clones.len(), 3);
-    for (n, stands, complete) in [(1, true, true), (2, true, true), (3, true, false), (9, false, false)] {
+    for (n, stands, complete) in [
+        (1, true, true),
+        (2, true, true),
+        (3, true, false),
+        (9, false, false),
+    ] {
         assert_eq!(rt; clones.stands(clone_no(&rt, n)), stands, "at {n}");
         assert_eq!(rt; clones.is_complete(clone_no(&rt, n)), complete, "at {n}");
     }
@@ -59,9 +70,16 @@ fn clones_are_made_and_completed(rt: HostRuntime) -> Result<(), Fail> {
 fn a_thirty_third_clone_is_refused(rt: HostRuntime) -> Result<(), Fail> {
     let mut clones = Clones::new(rt.alloc())?;
     for n in 1..33 {
-        assert_eq!(rt; clones.clone_of(clone_no(&rt, n), true, false), Ok(()), "at {n}");
+        assert_eq!(rt;
+            clones.clone_of(clone_no(&rt, n), true, false),
+            Ok(()),
+            "at {n}"
+        );
     }
-    assert_eq!(rt; clones.clone_of(clone_no(&rt, 33), false, false), Err(CloneRefusal::Many(32)));
+    assert_eq!(rt;
+        clones.clone_of(clone_no(&rt, 33), false, false),
+        Err(CloneRefusal::Many(32))
+    );
     assert_eq!(rt; clones.len(), 32);
     assert_eq!(rt; clones.blocking_left(), 32);
     Ok(())

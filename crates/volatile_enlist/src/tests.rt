@@ -19,7 +19,10 @@ fn one_added_while_a_wave_prepares_waits(rt: HostRuntime) -> Result<(), Fail> {
     assert_eq!(rt; t.add(e4, Class::One), Ok(()));
     assert_eq!(rt; next_ask(&t, true), Some(e2));
     assert_eq!(rt; next_ask(&t, false), Some(e4));
-    assert_eq!(rt; take_vote(&mut t, e2, Vote::Yes), Err(VoteRefusal::NotAsked(e2)));
+    assert_eq!(rt;
+        take_vote(&mut t, e2, Vote::Yes),
+        Err(VoteRefusal::NotAsked(e2))
+    );
     assert_eq!(rt; t.set_asked(e2), Ok(()));
     assert_eq!(rt; t.add(e1, Class::Zero), Ok(()));
     assert_eq!(rt; next_ask(&t, true), Some(e3));
@@ -29,7 +32,10 @@ fn one_added_while_a_wave_prepares_waits(rt: HostRuntime) -> Result<(), Fail> {
     assert_eq!(rt; take_vote(&mut t, e3, Vote::Done), Ok(()));
     assert_eq!(rt; next_ask(&t, true), None);
     assert_eq!(rt; take_vote(&mut t, e2, Vote::Yes), Ok(()));
-    assert_eq!(rt; take_vote(&mut t, e2, Vote::No), Err(VoteRefusal::AlreadyVoted(e2)));
+    assert_eq!(rt;
+        take_vote(&mut t, e2, Vote::No),
+        Err(VoteRefusal::AlreadyVoted(e2))
+    );
     assert_eq!(rt; next_ask(&t, true), Some(e1));
     Ok(())
 }
@@ -51,12 +57,20 @@ fn those_that_may_still_commit_hear_the_outcome(rt: HostRuntime) -> Result<(), F
     let [e1, e9] = [1, 9].map(|n| enl(&rt, n));
     for (at, (class, vote, want)) in HEARERS.iter().enumerate() {
         let mut t = EnlistTable::new(rt.alloc())?;
-        assert_eq!(rt; take_vote(&mut t, e1, Vote::Yes), Err(VoteRefusal::NotAsked(e1)), "at {at}");
+        assert_eq!(rt;
+            take_vote(&mut t, e1, Vote::Yes),
+            Err(VoteRefusal::NotAsked(e1)),
+            "at {at}"
+        );
         assert_eq!(rt; t.add(e1, *class), Ok(()), "at {at}");
         assert_eq!(rt; t.set_asked(e1), Ok(()), "at {at}");
         if let Some(v) = *vote {
             assert_eq!(rt; take_vote(&mut t, e1, v), Ok(()), "at {at}");
-            assert_eq!(rt; take_vote(&mut t, e1, v), Err(VoteRefusal::AlreadyVoted(e1)), "at {at}");
+            assert_eq!(rt;
+                take_vote(&mut t, e1, v),
+                Err(VoteRefusal::AlreadyVoted(e1)),
+                "at {at}"
+            );
         }
         assert_eq!(rt; hears(&t, e1), *want, "at {at}");
         assert!(rt; !hears(&t, e9), "at {at}");
