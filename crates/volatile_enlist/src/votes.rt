@@ -7,6 +7,13 @@ use crate::refusal::VoteRefusal;
 use dtx_values::{EnlNo, Vote};
 use enlist_table::EnlistTable;
 
+/// Whether the enlistment was asked to prepare.
+fn was_asked(t: &EnlistTable, e: EnlNo) -> bool
+    ensures { result ≡ was_asked e.value t.now }
+{
+    t.rows().iter().any(|x| x.0 == e && x.1.asked.is_some())
+}
+
 /// Takes the vote of an enlistment that was asked to prepare.
 ///
 /// # Errors
@@ -19,11 +26,11 @@ pub fn take_vote(t: &mut EnlistTable, e: EnlNo, v: Vote) -> Result<(), VoteRefus
     ensures allowed { OnOk result (vote_refusal e t.old ≡ None) }
     ensures taken { was_asked e.value t.old ≡ true → t.new ≡ with_vote e.value v t.old }
 {
-    match t.state_of(e) {
-        Some(r) if r.asked.is_some() => match t.set_vote(e, v) {
-            Ok(()) => Ok(()),
-            Err(_) => Err(VoteRefusal::AlreadyVoted(e)),
-        },
-        _ => Err(VoteRefusal::NotAsked(e)),
+    if !was_asked(t, e) {
+        return Err(VoteRefusal::NotAsked(e));
+    }
+    match t.set_vote(e, v) {
+        Ok(()) => Ok(()),
+        Err(_) => Err(VoteRefusal::AlreadyVoted(e)),
     }
 }
