@@ -13,7 +13,7 @@ use Rattle.dtx_values.specs.declared.words.CloneKind.TheVariants.{Block, Rollbac
 use Rattle.dtx_values.specs.declared.words.Timeout.TheVariants.{Default, Milliseconds}
 use Rattle.dtx_values.specs.declared.words.Vote.{Vote}
 use Rattle.dtx_values.specs.declared.words.Vote.TheVariants.{Yes, No, Done}
-use Rattle.dtx_model.specs.Grammar.{actor_name, transaction_name, words, command_words, option_word, vote_word, kind_word, line_text, is_run, is_in_range}
+use Rattle.dtx_model.specs.Grammar.{actor_name, words, command_words, option_word, vote_word, kind_word, line_text, is_run, is_in_range}
 use Rattle.script_runner.specs.Reader.{IsWithout}
 use Rattle.script_runner.proofs.Cuts.{cut_same, cut_none, without_append}
 use Rattle.script_runner.proofs.Numbers.{without_decimal}
@@ -66,7 +66,8 @@ pub line_text-append : (l : Line) (after : List ℕ) → line_text l ++ after �
 line_text-append l after = append_assoc (join_with_byte 32 (words l)) (10 ∷ []) after
 
 -- bytes that are cut at their first LF begin with no other line than what stands before it
-pub cut_first_line : (l : Line) (bytes text rest after : List ℕ) → is_run l.body ≡ true → is_in_range l.body ≡ true → bytes ≡ text ++ 10 ∷ rest → IsWithout 10 text → bytes ≡ line_text l ++ after → (text ≡ join_with_byte 32 (words l)) × (rest ≡ after)
+pub cut_first_line : (l : Line) (bytes text rest after : List ℕ) → is_run l.body ≡ true → is_in_range l.body ≡ true → bytes ≡ text ++ 10 ∷ rest → IsWithout 10 text
+    → bytes ≡ line_text l ++ after → (text ≡ join_with_byte 32 (words l)) × (rest ≡ after)
 cut_first_line l bytes text rest after h k e t s = cut_same 10 text (join_with_byte 32 (words l)) rest after t (command_without l.actor l.body h k) (sym e ∙ s ∙ line_text-append l after)
 
 -- bytes without LF begin with no line

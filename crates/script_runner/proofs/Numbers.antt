@@ -1,5 +1,5 @@
 -- Words that are numbers.
-use Rattle.std.proofs.Common.{◌≡◌, ◌≢◌, ℕ, zero, suc, ◌+◌, ◌-◌, ◌*◌, ◌^◌, ◌<◌, ◌≤◌, List, [], ◌∷◌, ◌++◌, length, take, get_or, refl, ap, sym, ◌∙◌, subst, arith, decimal}
+use Rattle.std.proofs.Common.{◌≡◌, ◌≢◌, ℕ, zero, suc, ◌+◌, ◌-◌, ◌*◌, ◌^◌, ◌<◌, ◌≤◌, true, List, [], ◌∷◌, ◌++◌, length, take, get_or, refl, ap, sym, ◌∙◌, subst, arith, decimal}
 use Rattle.std.specs.Char.{digit_value}
 use Rattle.std.specs.Int.{IsInRange}
 use Rattle.std.specs.Str.Parse.{AllDigits, digits_value}
@@ -9,8 +9,12 @@ use Rattle.std.proofs.Math.Seq.{take-length}
 use Rattle.std.proofs.lemmas.Fmt.{decimal_nonempty, length-decimal-le, first_decimal, digits_decimal, digits_value-decimal, decimal-digits_value, decimal_digit, decimal_injective}
 use Rattle.dtx_values.specs.declared.script.EnlistOption.{EnlistOption}
 use Rattle.dtx_values.specs.declared.script.EnlistOption.TheVariants.{Plain, DuringPrepare}
-use Rattle.dtx_model.specs.Grammar.{option_word}
-use Rattle.script_runner.specs.Reader.{IsWithout}
+use Rattle.dtx_values.specs.declared.number.TxNo.{TxNo}
+use Rattle.dtx_values.specs.declared.script.Body.TheVariants.{Begin}
+use Rattle.dtx_values.specs.declared.words.Timeout.{Timeout}
+use Rattle.dtx_values.specs.declared.words.Timeout.TheVariants.{Default, Milliseconds}
+use Rattle.dtx_model.specs.Grammar.{is_from, is_in_range, option_word}
+use Rattle.script_runner.specs.Reader.{IsWithout, fits}
 use Rattle.script_runner.proofs.Cuts.{cut_same}
 use Rattle.std.proofs.lemmas.Int.Digits.{digits_value_more, digits_more}
 use Rattle.std.proofs.lemmas.Str.Parse.{IsNumeralModel, numerals_by_value, tells_digits, digit_at, digit_from_value, digits_value_short}
@@ -127,3 +131,16 @@ name_without letter n other small =
 pub option_apart : (o : EnlistOption) → IsWithout 32 (option_word o)
 option_apart Plain = refl
 option_apart DuringPrepare = refl
+
+-- a beginning's timeout is in its range
+pub fits_begin : (t : TxNo) (d : Timeout) → is_in_range (Begin t d) ≡ true → fits d ≡ true
+fits_begin t Default h = refl
+fits_begin t (Milliseconds n) h = h
+
+-- a number from low to high is at least low
+pub from_low : (low high n : ℕ) → is_from low high n ≡ true → low ≤ n
+from_low low high n h = grind (arith, nat_tests)
+
+-- and at most high
+pub to_high : (low high n : ℕ) → is_from low high n ≡ true → n ≤ high
+to_high low high n h = grind (arith, nat_tests)

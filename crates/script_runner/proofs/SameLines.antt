@@ -1,5 +1,5 @@
 -- Each text is that of one line.
-use Rattle.std.proofs.Common.{◌≡◌, ℕ, ◌^◌, ◌<◌, ◌≤◌, ◌==◌, ◌&&◌, Bool, true, false, List, [], ◌∷◌, ◌++◌, refl, ap, ap₂, sym, ◌∙◌, arith, codes, Option, Some, None, decimal}
+use Rattle.std.proofs.Common.{◌≡◌, ℕ, ◌^◌, ◌<◌, ◌≤◌, true, List, ◌∷◌, ◌++◌, refl, ap, ap₂, sym, ◌∙◌, arith, codes, Option, Some, None, decimal}
 use Rattle.std.specs.List.{join_with_byte}
 use Rattle.std.specs.Int.{IsInRange}
 use Rattle.std.proofs.lemmas.Bool.Decides.{nat_tests}
@@ -21,11 +21,12 @@ use Rattle.dtx_values.specs.declared.words.Timeout.{Timeout}
 use Rattle.dtx_values.specs.declared.words.Timeout.TheVariants.{Default, Milliseconds}
 use Rattle.dtx_values.specs.declared.words.Vote.{Vote}
 use Rattle.dtx_values.specs.declared.words.Vote.TheVariants.{Yes, No, Done}
-use Rattle.dtx_model.specs.Grammar.{actor_name, transaction_name, enlistment_name, clone_name, timeout_word, option_word, vote_word, kind_word, words, command_words, line_text, is_run, is_from, is_in_range}
+use Rattle.dtx_model.specs.Grammar.{actor_name, transaction_name, enlistment_name, clone_name, timeout_word, option_word, vote_word, kind_word, words, command_words, line_text}
+use Rattle.dtx_model.specs.Grammar.{is_run, is_from, is_in_range}
 use Rattle.script_runner.specs.Reader.{fits, IsCommand, IsLine, IsRunLine}
-use Rattle.script_runner.proofs.Cuts.{cut_same}
-use Rattle.dtx_model.proofs.Bools.{and_both, and_left, and_right}
-use Rattle.script_runner.proofs.Numbers.{digit_of_number, name_without, option_apart, without_decimal}
+use Rattle.dtx_model.proofs.Bools.{and_left, and_right}
+use Rattle.script_runner.proofs.Numbers.{digit_of_number, fits_begin, name_without, option_apart, without_decimal}
+use Rattle.script_runner.proofs.Cuts.{cut_same, same_bytes, same_bytes-self}
 use Rattle.script_runner.proofs.Commands.{command_name, behind_name, has_name, cut_command, cut_line}
 use Rattle.script_runner.proofs.LineTexts.{line_text-append, command_without}
 
@@ -100,11 +101,6 @@ same_timeout (Milliseconds n) (Milliseconds m) h k s =
     let hm = below m k in
     ap Milliseconds (decimal_injective n m (omega arith) (omega arith) s)
 
--- a beginning's timeout is in its range
-fits_begin : (t : TxNo) (d : Timeout) → is_in_range (Begin t d) ≡ true → fits d ≡ true
-fits_begin t Default h = refl
-fits_begin t (Milliseconds n) h = h
-
 -- no vote is spelled `silent`
 not_silent : (v : Vote) → vote_word (Some v) ≡ vote_word None → ⊥
 not_silent Yes s = absurd (cc s)
@@ -162,19 +158,6 @@ same_do t u i j m n h k e =
     let third = decimal_injective m n (small 1 999 m (omega arith) (and_right (is_from 1 99 i) _ h)) (small 1 999 n (omega arith) (and_right (is_from 1 99 j) _ k)) second.1 in
     cc (first.0, second.0, third)
 
--- whether two texts are one
-abbrev same_bytes : List ℕ → List ℕ → Bool
-same_bytes [] [] = true
-same_bytes (x ∷ xs) (y ∷ ys) = (x == y) && same_bytes xs ys
-same_bytes _ _ = false
-
--- a text is the same as itself
-same_bytes-self : (xs : List ℕ) → same_bytes xs xs ≡ true
-same_bytes-self [] = refl
-same_bytes-self (x ∷ xs) =
-    let here : (x == x) ≡ true = grind (arith, nat_tests) in
-    and_both (x == x) _ here (same_bytes-self xs)
-
 -- two commands with one name and one text behind it are one
 same_body : (b d : Body) → is_run b ≡ true → is_run d ≡ true → is_in_range b ≡ true → is_in_range d ≡ true → same_bytes (command_name b) (command_name d) ≡ true → behind_name b ≡ behind_name d → b ≡ d
 same_body (Begin t x) (Begin u y) r s h k n e =
@@ -214,5 +197,7 @@ same_spelled l m text h k =
 -- bytes begin with one line only
 pub same_line : (l m : Line) (a b : List ℕ) → IsRunLine l → IsRunLine m → line_text l ++ a ≡ line_text m ++ b → (l ≡ m) × (a ≡ b)
 same_line l m a b h k e =
-    let s = cut_same 10 (join_with_byte 32 (words l)) (join_with_byte 32 (words m)) a b (command_without l.actor l.body h.run h.in_range) (command_without m.actor m.body k.run k.in_range) (sym (line_text-append l a) ∙ e ∙ line_text-append m b) in
+    let cl = command_without l.actor l.body h.run h.in_range in
+    let cm = command_without m.actor m.body k.run k.in_range in
+    let s = cut_same 10 (join_with_byte 32 (words l)) (join_with_byte 32 (words m)) a b cl cm (sym (line_text-append l a) ∙ e ∙ line_text-append m b) in
     (same_spelled l m (join_with_byte 32 (words l)) (record { run = h.run; in_range = h.in_range; spelled = refl }) (record { run = k.run; in_range = k.in_range; spelled = s.0 }), s.1)
