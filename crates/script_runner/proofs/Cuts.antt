@@ -1,5 +1,5 @@
 -- Texts cut at a separator.
-use Rattle.std.proofs.Common.{◌≡◌, ℕ, ◌==◌, ◌&&◌, Bool, true, false, List, [], ◌∷◌, ◌++◌, refl, arith, Option, Some, None, IfNone, IsSome}
+use Rattle.std.proofs.Common.{◌≡◌, ℕ, List, [], ◌∷◌, ◌++◌, refl, arith, Option, Some, None, IfNone, IsSome}
 use Rattle.std.proofs.lemmas.Bool.{false≢true}
 use Rattle.std.proofs.lemmas.Bool.Decides.{nat_tests}
 use Rattle.script_runner.specs.Reader.{IsWithout}
@@ -41,17 +41,3 @@ without_append c (x ∷ xs) ys hx hy =
 pub if_none : {A : Type 0} (P : Type 0) (o : Option A) → ((IsSome o → ⊥) → P) → IfNone o P
 if_none P None f = f (λ s. absurd (false≢true s))
 if_none P (Some x) f = tt
-
--- whether two texts are one
-abbrev pub same_bytes : List ℕ → List ℕ → Bool
-same_bytes [] [] = true
-same_bytes (x ∷ xs) (y ∷ ys) = (x == y) && same_bytes xs ys
-same_bytes _ _ = false
-
--- a text is the same as itself
-pub same_bytes-self : (xs : List ℕ) → same_bytes xs xs ≡ true
-same_bytes-self [] = refl
-same_bytes-self (x ∷ xs) =
-    let here : (x == x) ≡ true = grind (arith, nat_tests) in
-    let rest = same_bytes-self xs in
-    cc (here, rest)

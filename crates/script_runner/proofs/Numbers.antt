@@ -7,14 +7,8 @@ use Rattle.std.proofs.lemmas.Bool.Decides.{nat_tests}
 use Rattle.std.proofs.lemmas.List.{length-take-le}
 use Rattle.std.proofs.Math.Seq.{take-length}
 use Rattle.std.proofs.lemmas.Fmt.{decimal_nonempty, length-decimal-le, first_decimal, digits_decimal, digits_value-decimal, decimal-digits_value, decimal_digit, decimal_injective}
-use Rattle.dtx_values.specs.declared.script.EnlistOption.{EnlistOption}
-use Rattle.dtx_values.specs.declared.script.EnlistOption.TheVariants.{Plain, DuringPrepare}
-use Rattle.dtx_values.specs.declared.number.TxNo.{TxNo}
-use Rattle.dtx_values.specs.declared.script.Body.TheVariants.{Begin}
-use Rattle.dtx_values.specs.declared.words.Timeout.{Timeout}
-use Rattle.dtx_values.specs.declared.words.Timeout.TheVariants.{Default, Milliseconds}
-use Rattle.dtx_model.specs.Grammar.{is_from, is_in_range, option_word}
-use Rattle.script_runner.specs.Reader.{IsWithout, fits}
+use Rattle.dtx_model.specs.Grammar.{is_from}
+use Rattle.script_runner.specs.Reader.{IsWithout}
 use Rattle.script_runner.proofs.Cuts.{cut_same}
 use Rattle.std.proofs.lemmas.Int.Digits.{digits_value_more, digits_more}
 use Rattle.std.proofs.lemmas.Str.Parse.{IsNumeralModel, numerals_by_value, tells_digits, digit_at, digit_from_value, digits_value_short}
@@ -126,16 +120,6 @@ pub name_without : (letter n : ℕ) → letter ≢ 32 → n < 2 ^ 64 → IsWitho
 name_without letter n other small =
     let named = without_decimal 32 n (omega arith) small in
     grind (arith, nat_tests)
-
--- an option has no space
-pub option_apart : (o : EnlistOption) → IsWithout 32 (option_word o)
-option_apart Plain = refl
-option_apart DuringPrepare = refl
-
--- a beginning's timeout is in its range
-pub fits_begin : (t : TxNo) (d : Timeout) → is_in_range (Begin t d) ≡ true → fits d ≡ true
-fits_begin t Default h = refl
-fits_begin t (Milliseconds n) h = h
 
 -- a number from low to high is at least low
 pub from_low : (low high n : ℕ) → is_from low high n ≡ true → low ≤ n

@@ -1,5 +1,5 @@
 -- Each text is that of one line.
-use Rattle.std.proofs.Common.{◌≡◌, ℕ, ◌^◌, ◌<◌, ◌≤◌, true, List, ◌∷◌, ◌++◌, refl, ap, ap₂, sym, ◌∙◌, arith, codes, Option, Some, None, decimal}
+use Rattle.std.proofs.Common.{◌≡◌, ℕ, ◌^◌, ◌<◌, ◌≤◌, ◌==◌, ◌&&◌, Bool, true, false, List, [], ◌∷◌, ◌++◌, refl, ap, ap₂, sym, ◌∙◌, arith, codes, Option, Some, None, decimal}
 use Rattle.std.specs.List.{join_with_byte}
 use Rattle.std.specs.Int.{IsInRange}
 use Rattle.std.proofs.lemmas.Bool.Decides.{nat_tests}
@@ -25,10 +25,10 @@ use Rattle.dtx_model.specs.Grammar.{actor_name, transaction_name, enlistment_nam
 use Rattle.dtx_model.specs.Grammar.{is_run, is_from, is_in_range}
 use Rattle.script_runner.specs.Reader.{fits, IsCommand, IsLine, IsRunLine}
 use Rattle.dtx_model.proofs.Bools.{and_left, and_right}
-use Rattle.script_runner.proofs.Numbers.{digit_of_number, fits_begin, name_without, option_apart, without_decimal}
-use Rattle.script_runner.proofs.Cuts.{cut_same, same_bytes, same_bytes-self}
+use Rattle.script_runner.proofs.Numbers.{digit_of_number, name_without, to_high, without_decimal}
+use Rattle.script_runner.proofs.Cuts.{cut_same}
 use Rattle.script_runner.proofs.Commands.{command_name, behind_name, has_name, cut_command, cut_line}
-use Rattle.script_runner.proofs.LineTexts.{line_text-append, command_without}
+use Rattle.script_runner.proofs.LineTexts.{line_text-append, command_without, option_apart}
 
 -- numbers with one value are one
 same_actor : (a b : ActorNo) → a.value ≡ b.value → a ≡ b
@@ -101,6 +101,11 @@ same_timeout (Milliseconds n) (Milliseconds m) h k s =
     let hm = below m k in
     ap Milliseconds (decimal_injective n m (omega arith) (omega arith) s)
 
+-- a beginning's timeout is in its range
+fits_begin : (t : TxNo) (d : Timeout) → is_in_range (Begin t d) ≡ true → fits d ≡ true
+fits_begin t Default h = refl
+fits_begin t (Milliseconds n) h = h
+
 -- no vote is spelled `silent`
 not_silent : (v : Vote) → vote_word (Some v) ≡ vote_word None → ⊥
 not_silent Yes s = absurd (cc s)
@@ -131,9 +136,7 @@ same_kind _ _ s = absurd (cc s)
 
 -- a number up to 1,000,000,000 is below 2 ^ 64
 small : (low high n : ℕ) → high ≤ 1000000000 → is_from low high n ≡ true → n < 2 ^ 64
-small low high n h k =
-    let below : n ≤ high = grind (arith, nat_tests) in
-    omega arith
+small low high n h k = omega (arith, to_high low high n k)
 
 -- two volatile enlistments with one text are one
 same_volatile : (t u : TxNo) (e f : EnlNo) (o p : EnlistOption) (v w : Option Vote) → behind_name (Volatile t e o v) ≡ behind_name (Volatile u f p w) → Volatile t e o v ≡ Volatile u f p w
@@ -157,6 +160,20 @@ same_do t u i j m n h k e =
     let second = same_counted i j _ _ (small 1 99 i (omega arith) (and_left _ _ h)) (small 1 99 j (omega arith) (and_left _ _ k)) first.1 in
     let third = decimal_injective m n (small 1 999 m (omega arith) (and_right (is_from 1 99 i) _ h)) (small 1 999 n (omega arith) (and_right (is_from 1 99 j) _ k)) second.1 in
     cc (first.0, second.0, third)
+
+-- whether two texts are one
+abbrev same_bytes : List ℕ → List ℕ → Bool
+same_bytes [] [] = true
+same_bytes (x ∷ xs) (y ∷ ys) = (x == y) && same_bytes xs ys
+same_bytes _ _ = false
+
+-- a text is the same as itself
+same_bytes-self : (xs : List ℕ) → same_bytes xs xs ≡ true
+same_bytes-self [] = refl
+same_bytes-self (x ∷ xs) =
+    let here : (x == x) ≡ true = grind (arith, nat_tests) in
+    let rest = same_bytes-self xs in
+    cc (here, rest)
 
 -- two commands with one name and one text behind it are one
 same_body : (b d : Body) → is_run b ≡ true → is_run d ≡ true → is_in_range b ≡ true → is_in_range d ≡ true → same_bytes (command_name b) (command_name d) ≡ true → behind_name b ≡ behind_name d → b ≡ d

@@ -6,7 +6,8 @@ use Rattle.dtx_values.specs.declared.words.Vote.{Vote}
 use Rattle.dtx_model.specs.Grammar.{transaction_name, enlistment_name, option_word, vote_word}
 use Rattle.script_runner.specs.Reader.{IsWithout, IsVolatile}
 use Rattle.script_runner.proofs.Cuts.{cut_none, cut_same, if_none}
-use Rattle.script_runner.proofs.Numbers.{cut_name, option_apart}
+use Rattle.script_runner.proofs.LineTexts.{option_apart}
+use Rattle.script_runner.proofs.Numbers.{cut_name}
 use Rattle.script_runner.proofs.SameLines.{same_leading}
 use Rattle.script_runner.proofs.lines.volatile.Goals as goal
 
