@@ -1,10 +1,10 @@
 -- A command's name, and the text behind it.
-use Rattle.std.proofs.Common.{◌≡◌, ℕ, true, List, [], ◌∷◌, ◌++◌, refl, sym, ◌∙◌, arith, codes, Option, Some, decimal}
+use Rattle.std.proofs.Common.{◌≡◌, ◌≢◌, ℕ, true, List, [], ◌∷◌, ◌++◌, refl, sym, ◌∙◌, arith, codes, decimal}
 use Rattle.std.specs.List.{join_with_byte}
 use Rattle.dtx_values.specs.declared.script.Line.{Line}
 use Rattle.dtx_values.specs.declared.script.Body.{Body}
 use Rattle.dtx_values.specs.declared.script.Body.TheVariants.{Begin, Volatile, Clone, Complete, Commit, Rollback, Status, Await, Tick, Do}
-use Rattle.dtx_model.specs.Grammar.{actor_name, transaction_name, enlistment_name, clone_name, timeout_word, option_word, vote_word, kind_word, command_words, is_run, is_in_range}
+use Rattle.dtx_model.specs.Grammar.{actor_name, transaction_name, enlistment_name, clone_name, timeout_word, option_word, vote_word, kind_word, command_words, is_run}
 use Rattle.script_runner.specs.Reader.{IsWithout, IsCommand, IsLine}
 use Rattle.script_runner.proofs.Cuts.{cut_same}
 use Rattle.script_runner.proofs.Numbers.{cut_name}
@@ -63,8 +63,36 @@ cut_command b text name rest h e k =
     let n = has_name b h.run in
     cut_same 32 name (command_name b) rest (behind_name b) k n.apart (sym e ∙ h.spelled ∙ n.spelled)
 
+-- a name that is none of a command's
+pub record IsOther (name : List ℕ) : Type 0 where
+  pub begin : name ≢ codes "begin"
+  pub volatile : name ≢ codes "volatile"
+  pub clone : name ≢ codes "clone"
+  pub complete : name ≢ codes "complete"
+  pub commit : name ≢ codes "commit"
+  pub rollback : name ≢ codes "rollback"
+  pub status : name ≢ codes "status"
+  pub await : name ≢ codes "await"
+  pub tick : name ≢ codes "tick"
+  pub steps : name ≢ codes "do"
+
+-- no command that is run has such a name
+pub no_other : (b : Body) (name : List ℕ) → is_run b ≡ true → IsOther name → name ≡ command_name b → ⊥
+no_other (Begin t d) name h o e = o.begin e
+no_other (Volatile t f p v) name h o e = o.volatile e
+no_other (Clone t c k) name h o e = o.clone e
+no_other (Complete c) name h o e = o.complete e
+no_other (Commit t) name h o e = o.commit e
+no_other (Rollback t) name h o e = o.rollback e
+no_other (Status t) name h o e = o.status e
+no_other (Await t) name h o e = o.await e
+no_other (Tick t n) name h o e = o.tick e
+no_other (Do t k n) name h o e = o.steps e
+no_other _ name h o _ = cc h
+
 -- a line's first word is its actor's name, and its command stands behind it
 pub cut_line : (l : Line) (text name rest : List ℕ) → IsLine text l → text ≡ name ++ 32 ∷ rest → IsWithout 32 name → (name ≡ actor_name l.actor.value) × IsCommand rest l.body
 cut_line l text name rest h e k =
-    let s = cut_name 97 l.actor.value text name rest (join_with_byte 32 (command_words l.body)) (omega arith) (omega arith) e k (h.spelled ∙ (has_name l.body h.run).spaced (actor_name l.actor.value)) in
+    let whole = h.spelled ∙ (has_name l.body h.run).spaced (actor_name l.actor.value) in
+    let s = cut_name 97 l.actor.value text name rest (join_with_byte 32 (command_words l.body)) (omega arith) (omega arith) e k whole in
     (s.0, record { run = h.run; in_range = h.in_range; spelled = s.1 })

@@ -13,16 +13,22 @@ use Rattle.dtx_values.specs.declared.words.CloneKind.TheVariants.{Block, Rollbac
 use Rattle.dtx_values.specs.declared.words.Timeout.TheVariants.{Default, Milliseconds}
 use Rattle.dtx_values.specs.declared.words.Vote.{Vote}
 use Rattle.dtx_values.specs.declared.words.Vote.TheVariants.{Yes, No, Done}
-use Rattle.dtx_model.specs.Grammar.{actor_name, transaction_name, words, command_words, option_word, vote_word, kind_word, line_text, is_run, is_in_range}
+use Rattle.dtx_model.specs.Grammar.{actor_name, words, command_words, option_word, vote_word, kind_word, line_text, is_run, is_from, is_in_range}
+use Rattle.dtx_model.proofs.Bools.{and_left, and_right}
 use Rattle.script_runner.specs.Reader.{IsWithout}
 use Rattle.script_runner.proofs.Cuts.{cut_same, cut_none, without_append}
-use Rattle.script_runner.proofs.Numbers.{without_decimal}
+use Rattle.script_runner.proofs.Numbers.{to_high, without_decimal}
 
 -- a number and a text without LF are so together
 number_without : (n : ℕ) (r : List ℕ) → n < 2 ^ 64 → IsWithout 10 r → IsWithout 10 (decimal n ++ r)
 number_without n r k e = without_append 10 (decimal n) r (without_decimal 10 n (omega arith) k) e
 
--- an option has no LF, nor has a vote or a clone's kind
+-- an option has no space
+pub option_apart : (o : EnlistOption) → IsWithout 32 (option_word o)
+option_apart Plain = refl
+option_apart DuringPrepare = refl
+
+-- nor has it an LF, nor has a vote or a clone's kind
 option_without : (o : EnlistOption) → IsWithout 10 (option_word o)
 option_without Plain = refl
 option_without DuringPrepare = refl
@@ -53,11 +59,11 @@ command_without a (Rollback t) h k = number_without a.value _ (omega arith) (wit
 command_without a (Status t) h k = number_without a.value _ (omega arith) (without_decimal 10 t.value (omega arith) (omega arith))
 command_without a (Await t) h k = number_without a.value _ (omega arith) (without_decimal 10 t.value (omega arith) (omega arith))
 command_without a (Tick t n) h k =
-    let below : n ≤ 1000000000 = grind (arith, nat_tests) in
+    let below = to_high 1 1000000000 n k in
     number_without a.value _ (omega arith) (number_without t.value _ (omega arith) (without_decimal 10 n (omega arith) (omega arith)))
 command_without a (Do t i n) h k =
-    let place : i ≤ 99 = grind (arith, nat_tests) in
-    let below : n ≤ 999 = grind (arith, nat_tests) in
+    let place = to_high 1 99 i (and_left _ _ k) in
+    let below = to_high 1 999 n (and_right (is_from 1 99 i) _ k) in
     number_without a.value _ (omega arith) (number_without t.value _ (omega arith) (number_without i _ (omega arith) (without_decimal 10 n (omega arith) (omega arith))))
 command_without a _ h k = absurd (cc h)
 
@@ -66,7 +72,8 @@ pub line_text-append : (l : Line) (after : List ℕ) → line_text l ++ after �
 line_text-append l after = append_assoc (join_with_byte 32 (words l)) (10 ∷ []) after
 
 -- bytes that are cut at their first LF begin with no other line than what stands before it
-pub cut_first_line : (l : Line) (bytes text rest after : List ℕ) → is_run l.body ≡ true → is_in_range l.body ≡ true → bytes ≡ text ++ 10 ∷ rest → IsWithout 10 text → bytes ≡ line_text l ++ after → (text ≡ join_with_byte 32 (words l)) × (rest ≡ after)
+pub cut_first_line : (l : Line) (bytes text rest after : List ℕ) → is_run l.body ≡ true → is_in_range l.body ≡ true → bytes ≡ text ++ 10 ∷ rest → IsWithout 10 text
+    → bytes ≡ line_text l ++ after → (text ≡ join_with_byte 32 (words l)) × (rest ≡ after)
 cut_first_line l bytes text rest after h k e t s = cut_same 10 text (join_with_byte 32 (words l)) rest after t (command_without l.actor l.body h k) (sym e ∙ s ∙ line_text-append l after)
 
 -- bytes without LF begin with no line

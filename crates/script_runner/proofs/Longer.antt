@@ -21,9 +21,12 @@ nonempty-append [] ys h e = h refl
 nonempty-append (x ∷ xs) ys h e = cc
 
 -- a line of a script that ends by byte 1,048,576 stands in the front
-line_in_front : (k : ℕ) (b rest after : List ℕ) (before : List Line) (l : Line) → 1048576 < k → take k b ≡ script_text before ++ rest → IsScript (before ++ l ∷ []) → rest ++ drop k b ≡ line_text l ++ after → length (line_text l) ≤ length rest
+line_in_front : (k : ℕ) (b rest after : List ℕ) (before : List Line) (l : Line) → 1048576 < k → take k b ≡ script_text before ++ rest → IsScript (before ++ l ∷ [])
+    → rest ++ drop k b ≡ line_text l ++ after → length (line_text l) ≤ length rest
 line_in_front k b rest after before l h e s f =
-    omega (arith, last_within before l s, length-take k b, length-drop k b, ap length e, length-append (script_text before) rest, ap length f, length-append rest (drop k b), length-append (line_text l) after)
+    let front = length-append (script_text before) rest in
+    let whole = length-append rest (drop k b) in
+    omega (arith, last_within before l s, length-take k b, length-drop k b, ap length e, front, ap length f, whole, length-append (line_text l) after)
 
 -- the line that isn't run yet in a long front isn't run yet in the whole
 longer_than : (k : ℕ) (b : List ℕ) (n : ℕ) → 1048576 < k → IsNotYet (take k b) n → IsNotYet b n

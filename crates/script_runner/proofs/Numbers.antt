@@ -1,5 +1,5 @@
 -- Words that are numbers.
-use Rattle.std.proofs.Common.{◌≡◌, ◌≢◌, ℕ, zero, suc, ◌+◌, ◌-◌, ◌*◌, ◌^◌, ◌<◌, ◌≤◌, List, [], ◌∷◌, ◌++◌, length, take, get_or, refl, ap, sym, ◌∙◌, subst, arith, decimal}
+use Rattle.std.proofs.Common.{◌≡◌, ◌≢◌, ℕ, zero, suc, ◌+◌, ◌-◌, ◌*◌, ◌^◌, ◌<◌, ◌≤◌, true, List, [], ◌∷◌, ◌++◌, length, take, get_or, refl, ap, sym, ◌∙◌, subst, arith, decimal}
 use Rattle.std.specs.Char.{digit_value}
 use Rattle.std.specs.Int.{IsInRange}
 use Rattle.std.specs.Str.Parse.{AllDigits, digits_value}
@@ -7,9 +7,7 @@ use Rattle.std.proofs.lemmas.Bool.Decides.{nat_tests}
 use Rattle.std.proofs.lemmas.List.{length-take-le}
 use Rattle.std.proofs.Math.Seq.{take-length}
 use Rattle.std.proofs.lemmas.Fmt.{decimal_nonempty, length-decimal-le, first_decimal, digits_decimal, digits_value-decimal, decimal-digits_value, decimal_digit, decimal_injective}
-use Rattle.dtx_values.specs.declared.script.EnlistOption.{EnlistOption}
-use Rattle.dtx_values.specs.declared.script.EnlistOption.TheVariants.{Plain, DuringPrepare}
-use Rattle.dtx_model.specs.Grammar.{option_word}
+use Rattle.dtx_model.specs.Grammar.{is_from}
 use Rattle.script_runner.specs.Reader.{IsWithout}
 use Rattle.script_runner.proofs.Cuts.{cut_same}
 use Rattle.std.proofs.lemmas.Int.Digits.{digits_value_more, digits_more}
@@ -123,7 +121,10 @@ name_without letter n other small =
     let named = without_decimal 32 n (omega arith) small in
     grind (arith, nat_tests)
 
--- an option has no space
-pub option_apart : (o : EnlistOption) → IsWithout 32 (option_word o)
-option_apart Plain = refl
-option_apart DuringPrepare = refl
+-- a number from low to high is at least low
+pub from_low : (low high n : ℕ) → is_from low high n ≡ true → low ≤ n
+from_low low high n h = grind (arith, nat_tests)
+
+-- and at most high
+pub to_high : (low high n : ℕ) → is_from low high n ≡ true → n ≤ high
+to_high low high n h = grind (arith, nat_tests)

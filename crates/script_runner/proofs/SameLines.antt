@@ -21,13 +21,14 @@ use Rattle.dtx_values.specs.declared.words.Timeout.{Timeout}
 use Rattle.dtx_values.specs.declared.words.Timeout.TheVariants.{Default, Milliseconds}
 use Rattle.dtx_values.specs.declared.words.Vote.{Vote}
 use Rattle.dtx_values.specs.declared.words.Vote.TheVariants.{Yes, No, Done}
-use Rattle.dtx_model.specs.Grammar.{actor_name, transaction_name, enlistment_name, clone_name, timeout_word, option_word, vote_word, kind_word, words, command_words, line_text, is_run, is_from, is_in_range}
+use Rattle.dtx_model.specs.Grammar.{actor_name, transaction_name, enlistment_name, clone_name, timeout_word, option_word, vote_word, kind_word, words, command_words, line_text}
+use Rattle.dtx_model.specs.Grammar.{is_run, is_from, is_in_range}
 use Rattle.script_runner.specs.Reader.{fits, IsCommand, IsLine, IsRunLine}
+use Rattle.dtx_model.proofs.Bools.{and_left, and_right}
+use Rattle.script_runner.proofs.Numbers.{digit_of_number, name_without, to_high, without_decimal}
 use Rattle.script_runner.proofs.Cuts.{cut_same}
-use Rattle.dtx_model.proofs.Bools.{and_both, and_left, and_right}
-use Rattle.script_runner.proofs.Numbers.{digit_of_number, name_without, option_apart, without_decimal}
 use Rattle.script_runner.proofs.Commands.{command_name, behind_name, has_name, cut_command, cut_line}
-use Rattle.script_runner.proofs.LineTexts.{line_text-append, command_without}
+use Rattle.script_runner.proofs.LineTexts.{line_text-append, command_without, option_apart}
 
 -- numbers with one value are one
 same_actor : (a b : ActorNo) → a.value ≡ b.value → a ≡ b
@@ -135,9 +136,7 @@ same_kind _ _ s = absurd (cc s)
 
 -- a number up to 1,000,000,000 is below 2 ^ 64
 small : (low high n : ℕ) → high ≤ 1000000000 → is_from low high n ≡ true → n < 2 ^ 64
-small low high n h k =
-    let below : n ≤ high = grind (arith, nat_tests) in
-    omega arith
+small low high n h k = omega (arith, to_high low high n k)
 
 -- two volatile enlistments with one text are one
 same_volatile : (t u : TxNo) (e f : EnlNo) (o p : EnlistOption) (v w : Option Vote) → behind_name (Volatile t e o v) ≡ behind_name (Volatile u f p w) → Volatile t e o v ≡ Volatile u f p w
@@ -173,7 +172,8 @@ same_bytes-self : (xs : List ℕ) → same_bytes xs xs ≡ true
 same_bytes-self [] = refl
 same_bytes-self (x ∷ xs) =
     let here : (x == x) ≡ true = grind (arith, nat_tests) in
-    and_both (x == x) _ here (same_bytes-self xs)
+    let rest = same_bytes-self xs in
+    cc (here, rest)
 
 -- two commands with one name and one text behind it are one
 same_body : (b d : Body) → is_run b ≡ true → is_run d ≡ true → is_in_range b ≡ true → is_in_range d ≡ true → same_bytes (command_name b) (command_name d) ≡ true → behind_name b ≡ behind_name d → b ≡ d
@@ -214,5 +214,7 @@ same_spelled l m text h k =
 -- bytes begin with one line only
 pub same_line : (l m : Line) (a b : List ℕ) → IsRunLine l → IsRunLine m → line_text l ++ a ≡ line_text m ++ b → (l ≡ m) × (a ≡ b)
 same_line l m a b h k e =
-    let s = cut_same 10 (join_with_byte 32 (words l)) (join_with_byte 32 (words m)) a b (command_without l.actor l.body h.run h.in_range) (command_without m.actor m.body k.run k.in_range) (sym (line_text-append l a) ∙ e ∙ line_text-append m b) in
+    let cl = command_without l.actor l.body h.run h.in_range in
+    let cm = command_without m.actor m.body k.run k.in_range in
+    let s = cut_same 10 (join_with_byte 32 (words l)) (join_with_byte 32 (words m)) a b cl cm (sym (line_text-append l a) ∙ e ∙ line_text-append m b) in
     (same_spelled l m (join_with_byte 32 (words l)) (record { run = h.run; in_range = h.in_range; spelled = refl }) (record { run = k.run; in_range = k.in_range; spelled = s.0 }), s.1)

@@ -14,7 +14,8 @@ pub new_table : (n : ℕ) (xs : List Bool) → length xs ≡ n → xs ≡ replic
 new_table n xs h e = record { long = h; unset = λ k b. ap (λ ys. slice_index_or ys k false) e ∙ get_or-replicate n k false false b }
 
 -- new tables say that no name is made
-pub new_tables : (s : List Line) (transactions enlistments clones : List Bool) → s ≡ [] → IsUnset 257 transactions → IsUnset 10000 enlistments → IsUnset 10000 clones → AreMade s transactions enlistments clones
+pub new_tables : (s : List Line) (transactions enlistments clones : List Bool) → s ≡ [] → IsUnset 257 transactions → IsUnset 10000 enlistments → IsUnset 10000 clones
+    → AreMade s transactions enlistments clones
 new_tables s ts es cs empty t e c = subst (λ (r : List Line). AreMade r ts es cs) (sym empty) (record {
   transactions_long = t.long;
   enlistments_long = e.long;

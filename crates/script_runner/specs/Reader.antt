@@ -12,7 +12,8 @@ use Rattle.dtx_values.specs.declared.words.Timeout.{Timeout}
 use Rattle.dtx_values.specs.declared.words.Timeout.TheVariants.{Default, Milliseconds}
 use Rattle.dtx_values.specs.declared.words.Vote.{Vote}
 use Rattle.dtx_model.specs.Words.{has, past_of}
-use Rattle.dtx_model.specs.Grammar.{transaction_name, enlistment_name, clone_name, timeout_word, option_word, vote_word, kind_word, command_words, words, line_text, is_run, is_from, is_in_range, is_short, is_made, OfTransaction, OfEnlistment, OfClone, IsScript}
+use Rattle.dtx_model.specs.Grammar.{transaction_name, enlistment_name, clone_name, timeout_word, option_word, vote_word, kind_word, command_words, words, line_text, is_run}
+use Rattle.dtx_model.specs.Grammar.{is_from, is_in_range, is_short, is_made, OfTransaction, OfEnlistment, OfClone, IsScript}
 
 -- no byte is c
 abbrev pub IsWithout : ℕ → List ℕ → Type 0

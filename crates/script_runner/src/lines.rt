@@ -12,7 +12,9 @@ ghost use Rattle.dtx_values.specs.declared.words.Vote.{Vote};
 ghost use Rattle.script_runner.specs.Reader.{IsBegin, IsVolatile, IsClone, IsTick, IsDo, IsCommand, IsLine, IsRunLine};
 ghost use Rattle.dtx_model.specs.Grammar.{line_text};
 
-use crate::words::{actor, clone, cut, enlistment, kind, leading, number_from, option, timeout, transaction, vote};
+use crate::words::{
+    actor, clone, cut, enlistment, kind, leading, number_from, option, timeout, transaction, vote,
+};
 use dtx_values::{Body, CloneKind, CloneNo, EnlNo, EnlistOption, Line, Timeout, TxNo, Vote};
 
 /// The most bytes of a line before its LF.

@@ -74,7 +74,7 @@ mod tests {
 
     #[test]
     fn reads_lines(rt: HostRuntime) -> Result<(), AllocError> {
-        let cases: [(&str, Result<usize, u32>); 26] = [
+        let cases: [(&str, Result<usize, u32>); 56] = [
             ("", Ok(0)),
             ("a1 begin t1 0\n", Ok(1)),
             (
@@ -83,7 +83,7 @@ mod tests {
             ),
             ("a1 begin t1 4294967295\n", Ok(1)),
             ("a1 begin t1 4294967296\n", Err(1)),
-            ("a1 begin t1 0\na1 rollback t1\n", Err(2)),
+            ("a1 begin t1 0\na1 marshal t1\n", Err(2)),
             ("a1 begin t1 0", Err(1)),
             ("a1 begin t1 0\na1 commit t1", Err(2)),
             ("\n", Err(1)),
@@ -100,13 +100,58 @@ mod tests {
             ("a1 begin t1 0\na2 begin t1 default\n", Err(2)),
             ("a1 commit t1\n", Err(1)),
             ("a1 volatile t1 e1 none yes\n", Err(1)),
-            ("a1 begin t1 0\na1 volatile t1 e1 during yes\n", Err(2)),
-            ("a1 begin t1 0\na1 volatile t1 e1 none no\n", Err(2)),
+            ("a1 begin t1 0\na1 volatile t1 e1 during silent\n", Ok(2)),
+            ("a1 begin t1 0\na1 volatile t1 e1 none no\n", Ok(2)),
+            ("a1 begin t1 0\na1 volatile t1 e1 none none\n", Err(2)),
+            ("a1 begin t1 0\na1 volatile t1 e1 plain yes\n", Err(2)),
+            ("a1 begin t1 0\na1 volatile t1 e1 none\n", Err(2)),
+            ("a1 begin t1 0\na1 volatile t1 e1 none yes no\n", Err(2)),
             ("a1 begin t1 0\na1 volatile t1 e10000 none yes\n", Err(2)),
             (
                 "a1 begin t1 0\na1 volatile t1 e1 none yes\na1 volatile t1 e1 none done\n",
                 Err(3),
             ),
+            (
+                "a1 begin t1 0\na1 clone t1 c1 block\na2 clone t1 c9999 rollback\na2 complete c1\n",
+                Ok(4),
+            ),
+            ("a1 begin t1 0\na1 clone t1 c1 none\n", Err(2)),
+            ("a1 begin t1 0\na1 clone t1 c10000 block\n", Err(2)),
+            ("a1 begin t1 0\na1 clone t1 c1\n", Err(2)),
+            (
+                "a1 begin t1 0\na1 clone t1 c1 block\na1 clone t1 c1 block\n",
+                Err(3),
+            ),
+            ("a1 clone t1 c1 block\n", Err(1)),
+            ("a1 begin t1 0\na1 complete c1\n", Err(2)),
+            (
+                "a1 begin t1 0\na1 clone t1 c1 block\na1 complete c2\n",
+                Err(3),
+            ),
+            (
+                "a1 begin t1 0\na1 rollback t1\na1 status t1\na1 await t1\na1 commit t1\n",
+                Ok(5),
+            ),
+            ("a1 rollback t1\n", Err(1)),
+            ("a1 status t1\n", Err(1)),
+            ("a1 await t1\n", Err(1)),
+            ("a1 begin t1 0\na1 await t1 0\n", Err(2)),
+            (
+                "a1 begin t1 0\na1 tick t1 1\na1 tick t1 1000000000\n",
+                Ok(3),
+            ),
+            ("a1 begin t1 0\na1 tick t1 0\n", Err(2)),
+            ("a1 begin t1 0\na1 tick t1 1000000001\n", Err(2)),
+            ("a1 begin t1 0\na1 tick t1 01\n", Err(2)),
+            ("a1 begin t1 0\na1 tick t1\n", Err(2)),
+            ("a1 tick t1 1\n", Err(1)),
+            ("a1 begin t1 0\na1 do t1 1 1\na1 do t1 99 999\n", Ok(3)),
+            ("a1 begin t1 0\na1 do t1 0 1\n", Err(2)),
+            ("a1 begin t1 0\na1 do t1 100 1\n", Err(2)),
+            ("a1 begin t1 0\na1 do t1 1 0\n", Err(2)),
+            ("a1 begin t1 0\na1 do t1 1 1000\n", Err(2)),
+            ("a1 begin t1 0\na1 do t1 1\n", Err(2)),
+            ("a1 do t1 1 1\n", Err(1)),
         ];
         for (text, want) in cases {
             let found = match read_script(rt.alloc(), text.as_bytes())? {

@@ -4,8 +4,12 @@ use Rattle.dtx_values.specs.declared.script.Line.{Line}
 use Rattle.dtx_model.specs.Grammar.{line_text}
 use Rattle.script_runner.specs.Reader.{IsRunLine}
 use Rattle.script_runner.proofs.Cuts.{if_none}
-use Rattle.script_runner.proofs.LineTexts.{cut_first_line, length-line_text}
+use Rattle.script_runner.proofs.LineTexts.{cut_first_line, no_first_line, length-line_text}
 use Rattle.script_runner.proofs.lines.first_line.Goals as goal
+
+pub returns-in_err-text-clause-none : goal.returns-in_err-text-clause-none
+returns-in_err-text-clause-none c = if_none ((l : Line) (after : List ℕ) → IsRunLine l → c.args.bytes.now ≢ line_text l ++ after) _ (λ _ l after h e.
+    no_first_line l c.args.bytes.now after (search rules) e)
 
 pub returns-then-text-gt-LINE_LENGTH-clause-none : goal.returns-then-text-gt-LINE_LENGTH-clause-none
 returns-then-text-gt-LINE_LENGTH-clause-none c = λ l after h e.
