@@ -4,10 +4,10 @@ ghost use Rattle.dtx_model.specs.Words.{has, ever, past_of, all_of};
 ghost use Rattle.dtx_model.specs.Entries.{clone_of, is_yes, is_any_hand, is_hand, is_vote};
 ghost use Rattle.dtx_model.specs.Outcome.{is_rollback, is_complete, is_veto_end, is_veto, is_first_veto, vetoed};
 
-use crate::evidence::{has_evidence, is_complete};
+use crate::evidence::has_evidence;
 use crate::messages::has_line;
 use crate::scans::{
-    has_any_hand, has_commit_got, has_hand, has_vote, has_vote_got, has_yes, has_yes_got,
+    has_any_hand, has_commit_got, has_completed, has_hand, has_vote, has_vote_got, has_yes, has_yes_got,
 };
 use dtx_values::{CloneKind, Conn, Dir, EnlNo, Entry, Message, Outcome, Request, Vote};
 
@@ -51,30 +51,25 @@ fn is_veto_message(h: &[Entry], c: Conn, d: Dir, m: Message) -> bool
 }
 
 /// Whether the entry gives a rollback clone that isn't complete in h.
+#[tactic(auto, using(crate::proofs::Reading::reading))]
 fn is_open_rollback(h: &[Entry], x: &Entry) -> bool
     ensures { result ≡ has (λ c. is_rollback c.1 && not (is_complete (past_of h.now) c)) (all_of clone_of (x.now ∷ [])) }
 {
     match *x {
-        Entry::Cloned(c, CloneKind::Rollback) => !is_complete(h, c),
+        Entry::Cloned(c, CloneKind::Rollback) => !has_completed(h, c),
         _ => false,
     }
 }
 
-fn any_open_rollback(h: &[Entry]) -> bool
+/// Whether a call of commit is a veto behind h: a rollback clone isn't complete.
+fn has_open_rollback(h: &[Entry]) -> bool
     ensures { result ≡ has (λ x. has (λ c. is_rollback c.1 && not (is_complete (past_of h.now) c)) (all_of clone_of (x ∷ []))) h.now }
 {
     h.iter().any(|x| is_open_rollback(h, x))
 }
 
-/// Whether a call of commit is a veto behind h: a rollback clone isn't complete.
-#[tactic(auto, using(crate::proofs::Reading::reading))]
-fn has_open_rollback(h: &[Entry]) -> bool
-    ensures { result ≡ has (λ c. is_rollback c.1 && not (is_complete (past_of h.now) c)) (all_of clone_of (past_of h.now)) }
-{
-    any_open_rollback(h)
-}
-
 /// Whether the entry is a veto behind h.
+#[tactic(auto, using(crate::proofs::Reading::reading))]
 fn is_veto(h: &[Entry], x: &Entry) -> bool
     ensures { result ≡ is_veto (past_of h.now) x.now }
 {
