@@ -4,15 +4,15 @@
 ghost use Rattle.std.specs.Prelude.{◌≡◌, ◌==◌, ◌&&◌, [], ◌∷◌, slice_get};
 ghost use Rattle.dtx_values.specs.declared.words.Outcome.TheVariants.{Committed};
 ghost use Rattle.dtx_model.specs.Words.{has, each, past_of, all_of, or_else};
-ghost use Rattle.dtx_model.specs.Entries.{clone_of, is_completed, is_good_vote, is_hand, is_owner};
-ghost use Rattle.dtx_model.specs.Outcome.{is_complete, volatiles, durables, voters, ready, can_own, is_empty, by_seal, owner_committed, by_owner, by_log, evidence};
+ghost use Rattle.dtx_model.specs.Entries.{clone_of, is_good_vote, is_hand, is_owner};
+ghost use Rattle.dtx_model.specs.Outcome.{is_complete, volatiles, durables, voters, ready, can_own, by_seal, owner_committed, by_owner, by_log, evidence};
 
-use crate::entries::{can_own, is_volatile};
+use crate::entries::is_volatile;
 use crate::scans::{
     has_commit, has_completed, has_good_vote, has_hand, has_owner, has_promotion, has_record,
     has_seal,
 };
-use dtx_values::{Class, CloneNo, EnlNo, Entry, Outcome};
+use dtx_values::{Class, EnlNo, Entry, Outcome};
 
 /// Whether the clone that the entry gives, where it gives one, is complete in h.
 #[tactic(auto, using(crate::proofs::Reading::reading))]
@@ -131,7 +131,10 @@ fn is_only_durable(h: &[Entry], e: EnlNo) -> bool
 fn is_owner_committed(h: &[Entry], e: EnlNo, c: Class) -> bool
     ensures { result ≡ (each (λ y. e.value == y.0.value) (durables (past_of h.now)) && can_own c && has (is_hand e.value) (past_of h.now) && has (is_owner e.value Committed) (past_of h.now)) }
 {
-    is_only_durable(h, e) && can_own(c) && has_hand(h, e) && has_owner(h, e, Outcome::Committed)
+    is_only_durable(h, e)
+        && matches!(c, Class::DurableSingle | Class::Promotable)
+        && has_hand(h, e)
+        && has_owner(h, e, Outcome::Committed)
 }
 
 /// Whether the one durable or promotable can own the commit, was handed it and answered committed.
