@@ -11,36 +11,22 @@ use crate::scans::{
 };
 use dtx_values::{EnlNo, Entry, Outcome, Party};
 
-/// Whether this owner answered in doubt in h.
-#[tactic(auto, using(crate::proofs::Reading::reading))]
-fn is_in_doubt(h: &[Entry], e: EnlNo) -> bool
-    ensures { result ≡ has (is_owner e.value InDoubt) (past_of h.now) }
-{
-    has_owner(h, e, Outcome::InDoubt)
-}
-
 /// Whether the entry handed the commit to an owner that answered in doubt in h.
+#[tactic(auto, using(crate::proofs::Reading::reading))]
 fn is_handed_in_doubt(h: &[Entry], x: &Entry) -> bool
     ensures { result ≡ has (λ e. has (is_owner e.value InDoubt) (past_of h.now)) (all_of handed_of (x.now ∷ [])) }
 {
     match *x {
-        Entry::Handed(e) => is_in_doubt(h, e),
+        Entry::Handed(e) => has_owner(h, e, Outcome::InDoubt),
         _ => false,
     }
 }
 
-fn any_handed_in_doubt(h: &[Entry]) -> bool
+/// Whether an owner was handed the commit and answered in doubt.
+fn has_handed_in_doubt(h: &[Entry]) -> bool
     ensures { result ≡ has (λ x. has (λ e. has (is_owner e.value InDoubt) (past_of h.now)) (all_of handed_of (x ∷ []))) h.now }
 {
     h.iter().any(|x| is_handed_in_doubt(h, x))
-}
-
-/// Whether an owner was handed the commit and answered in doubt.
-#[tactic(auto, using(crate::proofs::Reading::reading))]
-fn has_handed_in_doubt(h: &[Entry]) -> bool
-    ensures { result ≡ has (λ e. has (is_owner e.value InDoubt) (past_of h.now)) (all_of handed_of (past_of h.now)) }
-{
-    any_handed_in_doubt(h)
 }
 
 /// Whether the entry is the loss of an owner that was handed the commit in h and hadn't answered.
@@ -67,7 +53,8 @@ fn has_lost_owner(h: &[Entry]) -> bool
     false
 }
 
-#[tactic(auto, unfolding(crate::specs::Outcome::owner_doubt))]
+/// Whether the owner answered in doubt, or was lost behind the handing without an answer.
+#[tactic(auto, using(crate::proofs::Reading::reading), unfolding(crate::specs::Outcome::owner_doubt))]
 fn is_owner_in_doubt(h: &[Entry]) -> bool
     ensures { result ≡ owner_doubt (past_of h.now) }
 {
@@ -100,21 +87,15 @@ fn is_volatile_entry(e: EnlNo, x: &Entry) -> bool
     }
 }
 
-fn any_volatile_entry(h: &[Entry], e: EnlNo) -> bool
+/// Whether e is a volatile.
+fn has_volatile(h: &[Entry], e: EnlNo) -> bool
     ensures { result ≡ has (λ x. has (λ y. e.value == y.0.value) (volatiles (x ∷ []))) h.now }
 {
     h.iter().any(|x| is_volatile_entry(e, x))
 }
 
-/// Whether e is a volatile.
-#[tactic(auto, using(crate::proofs::Reading::reading))]
-fn has_volatile(h: &[Entry], e: EnlNo) -> bool
-    ensures { result ≡ has (λ y. e.value == y.0.value) (volatiles (past_of h.now)) }
-{
-    any_volatile_entry(h, e)
-}
-
 /// Whether this party may hear that the outcome is in doubt: the client and the volatiles may.
+#[tactic(auto, using(crate::proofs::Reading::reading))]
 pub(crate) fn hears_doubt(h: &[Entry], p: Party) -> bool
     ensures { result ≡ hears_doubt (past_of h.now) p }
 {

@@ -1,7 +1,6 @@
-//! One function for each test on an entry, as `specs/Entries.antt` and `specs/Outcome.antt` have it.
+//! One function for each test on an entry, as `specs/Entries.antt` has it.
 ghost use Rattle.std.specs.Prelude.{◌≡◌};
-ghost use Rattle.dtx_model.specs.Entries.{is_commit, is_sealed, is_promoted, is_record, is_yes, is_hand, is_any_hand, same_outcome, is_owner, is_any_owner, is_volatile, is_completed, is_vote, is_good, is_good_vote, is_decision, is_final};
-ghost use Rattle.dtx_model.specs.Outcome.{can_own};
+ghost use Rattle.dtx_model.specs.Entries.{is_commit, is_sealed, is_promoted, is_record, is_yes, is_hand, is_any_hand, is_owner, is_any_owner, is_volatile, is_completed, is_vote, is_good_vote, is_decision, is_final};
 
 use dtx_values::{Class, CloneNo, EnlNo, Entry, Outcome, Vote};
 
@@ -61,24 +60,12 @@ pub(crate) fn is_any_hand(x: &Entry) -> bool
     matches!(x, Entry::Handed(_))
 }
 
-/// Whether two outcomes are one.
-pub(crate) fn same_outcome(o: Outcome, p: Outcome) -> bool
-    ensures { result ≡ same_outcome o p }
-{
-    match (o, p) {
-        (Outcome::Committed, Outcome::Committed) => true,
-        (Outcome::Aborted, Outcome::Aborted) => true,
-        (Outcome::InDoubt, Outcome::InDoubt) => true,
-        _ => false,
-    }
-}
-
 /// Whether this owner answered so.
 pub(crate) fn is_owner(e: EnlNo, o: Outcome, x: &Entry) -> bool
     ensures { result ≡ is_owner e.value o x.now }
 {
     match *x {
-        Entry::OwnerAnswered(f, p) => e == f && same_outcome(o, p),
+        Entry::OwnerAnswered(f, p) => e == f && o == p,
         _ => false,
     }
 }
@@ -103,16 +90,6 @@ pub(crate) fn is_volatile(c: Class) -> bool
     }
 }
 
-/// Whether an enlistment of this class can own the commit.
-pub(crate) fn can_own(c: Class) -> bool
-    ensures { result ≡ can_own c }
-{
-    match c {
-        Class::DurableSingle | Class::Promotable => true,
-        _ => false,
-    }
-}
-
 /// Whether this clone was completed.
 pub(crate) fn is_completed(c: CloneNo, x: &Entry) -> bool
     ensures { result ≡ is_completed c.value x.now }
@@ -133,22 +110,12 @@ pub(crate) fn is_vote(e: EnlNo, x: &Entry) -> bool
     }
 }
 
-/// Whether the vote is yes or done.
-fn is_good(v: Vote) -> bool
-    ensures { result ≡ is_good v }
-{
-    match v {
-        Vote::No => false,
-        _ => true,
-    }
-}
-
 /// Whether this enlistment voted yes or done.
 pub(crate) fn is_good_vote(e: EnlNo, x: &Entry) -> bool
     ensures { result ≡ is_good_vote e.value x.now }
 {
     match *x {
-        Entry::Voted(f, v) => e == f && is_good(v),
+        Entry::Voted(f, v) => e == f && !matches!(v, Vote::No),
         _ => false,
     }
 }
@@ -165,9 +132,7 @@ pub(crate) fn is_final(o: Outcome, x: &Entry) -> bool
     ensures { result ≡ is_final o x.now }
 {
     match *x {
-        Entry::Told(_, p) => same_outcome(o, p),
-        Entry::Decided(p) => same_outcome(o, p),
-        Entry::OwnerAnswered(_, p) => same_outcome(o, p),
+        Entry::Told(_, p) | Entry::Decided(p) | Entry::OwnerAnswered(_, p) => o == p,
         _ => false,
     }
 }

@@ -4,102 +4,68 @@
 ghost use Rattle.std.specs.Prelude.{◌≡◌, ◌==◌, ◌&&◌, [], ◌∷◌, slice_get};
 ghost use Rattle.dtx_values.specs.declared.words.Outcome.TheVariants.{Committed};
 ghost use Rattle.dtx_model.specs.Words.{has, each, past_of, all_of, or_else};
-ghost use Rattle.dtx_model.specs.Entries.{clone_of, is_completed, is_good_vote, is_hand, is_owner};
-ghost use Rattle.dtx_model.specs.Outcome.{is_complete, volatiles, durables, voters, ready, can_own, is_empty, by_seal, owner_committed, by_owner, by_log, evidence};
+ghost use Rattle.dtx_model.specs.Entries.{clone_of, is_good_vote, is_hand, is_owner};
+ghost use Rattle.dtx_model.specs.Outcome.{is_complete, volatiles, durables, voters, ready, can_own, by_seal, owner_committed, by_owner, by_log, evidence};
 
-use crate::entries::{can_own, is_volatile};
+use crate::entries::is_volatile;
 use crate::scans::{
     has_commit, has_completed, has_good_vote, has_hand, has_owner, has_promotion, has_record,
     has_seal,
 };
-use dtx_values::{Class, CloneNo, EnlNo, Entry, Outcome};
-
-/// Whether this clone is complete in h.
-#[tactic(auto, using(crate::proofs::Reading::reading))]
-pub(crate) fn is_complete(h: &[Entry], c: CloneNo) -> bool
-    ensures { result ≡ has (is_completed c.value) (past_of h.now) }
-{
-    has_completed(h, c)
-}
+use dtx_values::{Class, EnlNo, Entry, Outcome};
 
 /// Whether the clone that the entry gives, where it gives one, is complete in h.
+#[tactic(auto, using(crate::proofs::Reading::reading))]
 fn is_clone_complete(h: &[Entry], x: &Entry) -> bool
     ensures { result ≡ each (λ c. is_complete (past_of h.now) c) (all_of clone_of (x.now ∷ [])) }
 {
     match *x {
-        Entry::Cloned(c, _) => is_complete(h, c),
+        Entry::Cloned(c, _) => has_completed(h, c),
         _ => true,
     }
 }
 
-fn each_clone_complete(h: &[Entry]) -> bool
+/// Whether each clone is complete.
+fn are_clones_complete(h: &[Entry]) -> bool
     ensures { result ≡ each (λ x. each (λ c. is_complete (past_of h.now) c) (all_of clone_of (x ∷ []))) h.now }
 {
     h.iter().all(|x| is_clone_complete(h, x))
 }
 
-/// Whether each clone is complete.
-#[tactic(auto, using(crate::proofs::Reading::reading))]
-fn are_clones_complete(h: &[Entry]) -> bool
-    ensures { result ≡ each (λ c. is_complete (past_of h.now) c) (all_of clone_of (past_of h.now)) }
-{
-    each_clone_complete(h)
-}
-
-/// Whether this enlistment voted yes or done in h.
-#[tactic(auto, using(crate::proofs::Reading::reading))]
-fn is_for(h: &[Entry], e: EnlNo) -> bool
-    ensures { result ≡ has (is_good_vote e.value) (past_of h.now) }
-{
-    has_good_vote(h, e)
-}
-
 /// Whether the volatile that the entry enlists, where it enlists one, voted yes or done in h.
+#[tactic(auto, using(crate::proofs::Reading::reading))]
 fn is_volatile_for(h: &[Entry], x: &Entry) -> bool
     ensures { result ≡ each (λ y. has (is_good_vote y.0.value) (past_of h.now)) (volatiles (x.now ∷ [])) }
 {
     match *x {
-        Entry::Enlisted(e, c) => !is_volatile(c) || is_for(h, e),
+        Entry::Enlisted(e, c) => !is_volatile(c) || has_good_vote(h, e),
         _ => true,
     }
 }
 
-fn each_volatile_for(h: &[Entry]) -> bool
+/// Whether each volatile voted yes or done.
+fn are_volatiles_for(h: &[Entry]) -> bool
     ensures { result ≡ each (λ x. each (λ y. has (is_good_vote y.0.value) (past_of h.now)) (volatiles (x ∷ []))) h.now }
 {
     h.iter().all(|x| is_volatile_for(h, x))
 }
 
-/// Whether each volatile voted yes or done.
-#[tactic(auto, using(crate::proofs::Reading::reading))]
-fn are_volatiles_for(h: &[Entry]) -> bool
-    ensures { result ≡ each (λ y. has (is_good_vote y.0.value) (past_of h.now)) (volatiles (past_of h.now)) }
-{
-    each_volatile_for(h)
-}
-
 /// Whether the durable or promotable that the entry enlists, where it enlists one, voted yes or done in h.
+#[tactic(auto, using(crate::proofs::Reading::reading))]
 fn is_durable_for(h: &[Entry], x: &Entry) -> bool
     ensures { result ≡ each (λ y. has (is_good_vote y.0.value) (past_of h.now)) (durables (x.now ∷ [])) }
 {
     match *x {
-        Entry::Enlisted(e, c) => is_volatile(c) || is_for(h, e),
+        Entry::Enlisted(e, c) => is_volatile(c) || has_good_vote(h, e),
         _ => true,
     }
 }
 
-fn each_durable_for(h: &[Entry]) -> bool
+/// Whether each durable and promotable voted yes or done.
+fn are_durables_for(h: &[Entry]) -> bool
     ensures { result ≡ each (λ x. each (λ y. has (is_good_vote y.0.value) (past_of h.now)) (durables (x ∷ []))) h.now }
 {
     h.iter().all(|x| is_durable_for(h, x))
-}
-
-/// Whether each durable and promotable voted yes or done.
-#[tactic(auto, using(crate::proofs::Reading::reading))]
-fn are_durables_for(h: &[Entry]) -> bool
-    ensures { result ≡ each (λ y. has (is_good_vote y.0.value) (past_of h.now)) (durables (past_of h.now)) }
-{
-    each_durable_for(h)
 }
 
 /// Whether each voter voted yes or done.
@@ -153,18 +119,11 @@ fn is_no_other_durable(e: EnlNo, x: &Entry) -> bool
     }
 }
 
-fn each_no_other_durable(h: &[Entry], e: EnlNo) -> bool
+/// Whether e is the only durable or promotable.
+fn is_only_durable(h: &[Entry], e: EnlNo) -> bool
     ensures { result ≡ each (λ x. each (λ y. e.value == y.0.value) (durables (x ∷ []))) h.now }
 {
     h.iter().all(|x| is_no_other_durable(e, x))
-}
-
-/// Whether e is the only durable or promotable.
-#[tactic(auto, using(crate::proofs::Reading::reading))]
-fn is_only_durable(h: &[Entry], e: EnlNo) -> bool
-    ensures { result ≡ each (λ y. e.value == y.0.value) (durables (past_of h.now)) }
-{
-    each_no_other_durable(h, e)
 }
 
 /// Whether e is the only durable or promotable, can own the commit by its class, was handed it and answered committed.
@@ -172,7 +131,10 @@ fn is_only_durable(h: &[Entry], e: EnlNo) -> bool
 fn is_owner_committed(h: &[Entry], e: EnlNo, c: Class) -> bool
     ensures { result ≡ (each (λ y. e.value == y.0.value) (durables (past_of h.now)) && can_own c && has (is_hand e.value) (past_of h.now) && has (is_owner e.value Committed) (past_of h.now)) }
 {
-    is_only_durable(h, e) && can_own(c) && has_hand(h, e) && has_owner(h, e, Outcome::Committed)
+    is_only_durable(h, e)
+        && matches!(c, Class::DurableSingle | Class::Promotable)
+        && has_hand(h, e)
+        && has_owner(h, e, Outcome::Committed)
 }
 
 /// Whether the one durable or promotable can own the commit, was handed it and answered committed.

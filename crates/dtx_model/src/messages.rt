@@ -1,92 +1,80 @@
 //! Tests on what came over a connection, as `specs/Messages.antt`, `specs/Entries.antt` and `specs/Outcome.antt` have them.
 ghost use Rattle.std.specs.Prelude.{◌≡◌};
 ghost use Rattle.dtx_model.specs.Entries.{is_commit_got, is_yes_got, is_vote_got};
-ghost use Rattle.dtx_model.specs.Messages.{is_begin_up, is_begin_down, is_voter_up, is_voter_down, is_enlist_up, is_enlist_down, is_reenlist_up, is_reenlist_down, has_line};
+ghost use Rattle.dtx_model.specs.Messages.{is_enlist_up, is_enlist_down, is_reenlist_up, is_reenlist_down, has_line};
 ghost use Rattle.dtx_model.specs.Outcome.{is_begin_end, is_voter_end, is_outcome_got};
 
 use dtx_values::{Conn, Dir, EnlNo, Entry, Message};
 
-fn is_begin_up(m: Message) -> bool
-    ensures { result ≡ is_begin_up m }
+/// Whether the message has a line on b in this direction.
+fn is_on_begin(d: Dir, m: Message) -> bool
+    ensures { result ≡ has_line Conn.Begin d m }
 {
-    match m {
-        Message::BeginBegin | Message::BeginCommit | Message::BeginAbort => true,
-        _ => false,
+    match d {
+        Dir::Up => matches!(
+            m,
+            Message::BeginBegin | Message::BeginCommit | Message::BeginAbort
+        ),
+        Dir::Down => matches!(
+            m,
+            Message::BeginBegun(_) | Message::BeginCommitted | Message::BeginAborted
+        ),
     }
 }
 
-fn is_begin_down(m: Message) -> bool
-    ensures { result ≡ is_begin_down m }
+/// Whether the message has a line on v in this direction.
+fn is_on_voter(d: Dir, m: Message) -> bool
+    ensures { result ≡ has_line Conn.Voter d m }
 {
-    match m {
-        Message::BeginBegun(_) | Message::BeginCommitted | Message::BeginAborted => true,
-        _ => false,
+    match d {
+        Dir::Up => matches!(
+            m,
+            Message::VoterVoter(_) | Message::VoterYes | Message::VoterNo
+        ),
+        Dir::Down => matches!(
+            m,
+            Message::VoterCreated
+                | Message::VoterRefused(_)
+                | Message::VoterAsk
+                | Message::VoterCommit
+                | Message::VoterAbort
+        ),
     }
 }
 
-fn is_voter_up(m: Message) -> bool
-    ensures { result ≡ is_voter_up m }
+/// Whether the message has a line on the connection of an enlistment in this direction.
+fn is_on_enlist(d: Dir, m: Message) -> bool
+    ensures up { d ≡ Dir.Up → result ≡ is_enlist_up m }
+    ensures down { d ≡ Dir.Down → result ≡ is_enlist_down m }
 {
-    match m {
-        Message::VoterVoter(_) | Message::VoterYes | Message::VoterNo => true,
-        _ => false,
+    match d {
+        Dir::Up => matches!(
+            m,
+            Message::EnlistEnlist(_)
+                | Message::EnlistPrepared
+                | Message::EnlistNo
+                | Message::EnlistReadonly
+                | Message::EnlistAck
+        ),
+        Dir::Down => matches!(
+            m,
+            Message::EnlistEnlisted
+                | Message::EnlistRefused(_)
+                | Message::EnlistPrepare
+                | Message::EnlistCommit
+                | Message::EnlistAbort
+        ),
     }
 }
 
-fn is_voter_down(m: Message) -> bool
-    ensures { result ≡ is_voter_down m }
+/// Whether the message has a line on the connection of a reenlistment in this direction.
+fn is_on_reenlist(d: Dir, m: Message) -> bool
+    ensures up { d ≡ Dir.Up → result ≡ is_reenlist_up m }
+    ensures down { d ≡ Dir.Down → result ≡ is_reenlist_down m }
 {
-    match m {
-        Message::VoterCreated
-        | Message::VoterRefused(_)
-        | Message::VoterAsk
-        | Message::VoterCommit
-        | Message::VoterAbort => true,
-        _ => false,
-    }
-}
-
-fn is_enlist_up(m: Message) -> bool
-    ensures { result ≡ is_enlist_up m }
-{
-    match m {
-        Message::EnlistEnlist(_)
-        | Message::EnlistPrepared
-        | Message::EnlistNo
-        | Message::EnlistReadonly
-        | Message::EnlistAck => true,
-        _ => false,
-    }
-}
-
-fn is_enlist_down(m: Message) -> bool
-    ensures { result ≡ is_enlist_down m }
-{
-    match m {
-        Message::EnlistEnlisted
-        | Message::EnlistRefused(_)
-        | Message::EnlistPrepare
-        | Message::EnlistCommit
-        | Message::EnlistAbort => true,
-        _ => false,
-    }
-}
-
-fn is_reenlist_up(m: Message) -> bool
-    ensures { result ≡ is_reenlist_up m }
-{
-    match m {
-        Message::ReenlistReenlist(_) | Message::ReenlistAck => true,
-        _ => false,
-    }
-}
-
-fn is_reenlist_down(m: Message) -> bool
-    ensures { result ≡ is_reenlist_down m }
-{
-    match m {
-        Message::ReenlistCommitted | Message::ReenlistAborted => true,
-        _ => false,
+    match d {
+        Dir::Up => matches!(m, Message::ReenlistReenlist(_) | Message::ReenlistAck),
+        Dir::Down => matches!(m, Message::ReenlistCommitted | Message::ReenlistAborted),
     }
 }
 
@@ -94,15 +82,11 @@ fn is_reenlist_down(m: Message) -> bool
 pub(crate) fn has_line(c: Conn, d: Dir, m: Message) -> bool
     ensures { result ≡ has_line c d m }
 {
-    match (c, d) {
-        (Conn::Begin, Dir::Up) => is_begin_up(m),
-        (Conn::Begin, Dir::Down) => is_begin_down(m),
-        (Conn::Voter, Dir::Up) => is_voter_up(m),
-        (Conn::Voter, Dir::Down) => is_voter_down(m),
-        (Conn::Enl(_), Dir::Up) => is_enlist_up(m),
-        (Conn::Enl(_), Dir::Down) => is_enlist_down(m),
-        (Conn::Again(_), Dir::Up) => is_reenlist_up(m),
-        (Conn::Again(_), Dir::Down) => is_reenlist_down(m),
+    match c {
+        Conn::Begin => is_on_begin(d, m),
+        Conn::Voter => is_on_voter(d, m),
+        Conn::Enl(_) => is_on_enlist(d, m),
+        Conn::Again(_) => is_on_reenlist(d, m),
     }
 }
 

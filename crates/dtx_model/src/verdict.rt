@@ -1,8 +1,7 @@
 //! The judge of histories: the first place at which one breaks the rules of one outcome. What it asks of a history is what the definitions
 //! in `specs/Outcome.antt` ask. It takes no memory, and reads what stands before an entry again for each entry.
 ghost use Rattle.std.specs.Prelude.{◌≡◌, ◌↔◌, true};
-ghost use Rattle.dtx_model.specs.Words.{has, ever, past_of};
-ghost use Rattle.dtx_model.specs.Entries.{is_decision, is_final};
+ghost use Rattle.dtx_model.specs.Words.{ever, past_of};
 ghost use Rattle.dtx_model.specs.Outcome.{may_tell, is_just, justified, is_decided_again, agree};
 ghost use Rattle.dtx_model.specs.Judge.{IsVerdict};
 

@@ -1,15 +1,16 @@
 //! Vetoes: what justifies an abort.
 ghost use Rattle.std.specs.Prelude.{◌≡◌, [], ◌∷◌, ◌&&◌, not};
-ghost use Rattle.dtx_model.specs.Words.{has, ever, past_of, all_of};
-ghost use Rattle.dtx_model.specs.Entries.{clone_of, is_yes, is_any_hand, is_hand, is_vote};
+ghost use Rattle.dtx_model.specs.Words.{has, past_of, all_of};
+ghost use Rattle.dtx_model.specs.Entries.{clone_of};
 ghost use Rattle.dtx_model.specs.Outcome.{is_rollback, is_complete, is_veto_end, is_veto, is_first_veto, vetoed};
 
-use crate::evidence::{has_evidence, is_complete};
+use crate::evidence::has_evidence;
 use crate::messages::has_line;
 use crate::scans::{
-    has_any_hand, has_commit_got, has_hand, has_vote, has_vote_got, has_yes, has_yes_got,
+    has_any_hand, has_commit_got, has_completed, has_hand, has_vote, has_vote_got, has_yes,
+    has_yes_got,
 };
-use dtx_values::{CloneKind, Conn, Dir, EnlNo, Entry, Message, Outcome, Request, Vote};
+use dtx_values::{CloneKind, Conn, Dir, Entry, Outcome, Request, Vote};
 
 /// Whether the end of this connection, seen on this side, is a veto behind h.
 #[tactic(auto, using(crate::proofs::Reading::reading))]
@@ -27,59 +28,32 @@ fn is_veto_end(h: &[Entry], c: Conn, d: Dir) -> bool
     }
 }
 
-/// Whether a rollback or a timeout is a veto behind h: the local side hasn't given its right to abort away.
-#[tactic(auto, using(crate::proofs::Reading::reading))]
-fn is_free(h: &[Entry]) -> bool
-    ensures { result ≡ (not (has is_yes (past_of h.now)) && not (has is_any_hand (past_of h.now))) }
-{
-    !has_yes(h) && !has_any_hand(h)
-}
-
-/// Whether the loss of e is a veto behind h: it neither voted nor was handed the commit.
-#[tactic(auto, using(crate::proofs::Reading::reading))]
-fn is_lost_early(h: &[Entry], e: EnlNo) -> bool
-    ensures { result ≡ (not (has (is_vote e.value) (past_of h.now)) && not (has (is_hand e.value) (past_of h.now))) }
-{
-    !has_vote(h, e) && !has_hand(h, e)
-}
-
-/// Whether a message is a veto behind h: one that has no line counts as the end of its connection.
-fn is_veto_message(h: &[Entry], c: Conn, d: Dir, m: Message) -> bool
-    ensures { result ≡ is_veto (past_of h.now) (Entry.Got c d m) }
-{
-    !has_line(c, d, m) && is_veto_end(h, c, d)
-}
-
 /// Whether the entry gives a rollback clone that isn't complete in h.
+#[tactic(auto, using(crate::proofs::Reading::reading))]
 fn is_open_rollback(h: &[Entry], x: &Entry) -> bool
     ensures { result ≡ has (λ c. is_rollback c.1 && not (is_complete (past_of h.now) c)) (all_of clone_of (x.now ∷ [])) }
 {
     match *x {
-        Entry::Cloned(c, CloneKind::Rollback) => !is_complete(h, c),
+        Entry::Cloned(c, CloneKind::Rollback) => !has_completed(h, c),
         _ => false,
     }
 }
 
-fn any_open_rollback(h: &[Entry]) -> bool
+/// Whether a call of commit is a veto behind h: a rollback clone isn't complete.
+fn has_open_rollback(h: &[Entry]) -> bool
     ensures { result ≡ has (λ x. has (λ c. is_rollback c.1 && not (is_complete (past_of h.now) c)) (all_of clone_of (x ∷ []))) h.now }
 {
     h.iter().any(|x| is_open_rollback(h, x))
 }
 
-/// Whether a call of commit is a veto behind h: a rollback clone isn't complete.
-#[tactic(auto, using(crate::proofs::Reading::reading))]
-fn has_open_rollback(h: &[Entry]) -> bool
-    ensures { result ≡ has (λ c. is_rollback c.1 && not (is_complete (past_of h.now) c)) (all_of clone_of (past_of h.now)) }
-{
-    any_open_rollback(h)
-}
-
 /// Whether the entry is a veto behind h.
+#[tactic(auto, using(crate::proofs::Reading::reading))]
 fn is_veto(h: &[Entry], x: &Entry) -> bool
     ensures { result ≡ is_veto (past_of h.now) x.now }
 {
     match *x {
-        Entry::RollbackAsked | Entry::TimedOut => is_free(h),
+        // The local side hasn't given its right to abort away.
+        Entry::RollbackAsked | Entry::TimedOut => !has_yes(h) && !has_any_hand(h),
         Entry::Voted(_, Vote::No) => true,
         Entry::OwnerAnswered(_, Outcome::Aborted) => true,
         Entry::PromoteReply(_, fine) => !fine,
@@ -87,9 +61,11 @@ fn is_veto(h: &[Entry], x: &Entry) -> bool
         Entry::LogFull => true,
         Entry::Restarted(found) => !found,
         Entry::CommitAsked => has_open_rollback(h),
-        Entry::Lost(e) => is_lost_early(h, e),
+        // It neither voted nor was handed the commit.
+        Entry::Lost(e) => !has_vote(h, e) && !has_hand(h, e),
         Entry::Down(c, d) => is_veto_end(h, c, d),
-        Entry::Got(c, d, m) => is_veto_message(h, c, d, m),
+        // A message that has no line counts as the end of its connection.
+        Entry::Got(c, d, m) => !has_line(c, d, m) && is_veto_end(h, c, d),
         _ => false,
     }
 }
