@@ -18,7 +18,7 @@ const ONE_VOLATILE_TRACE: &str =
     "1 t1 call 1 a1 ok\n2 t1 began 600000\n3 t1 call 2 a1 ok\n4 t1 enlisted e1 one\n5 t1 call 3 a1 ok\n6 t1 commit\n7 t1 sealed\n8 t1 ask e1 prepare\n9 t1 vote e1 yes\n10 t1 decided committed\n11 t1 told e1 committed\n12 t1 told client committed\n";
 
 /// Scripts with the whole text of their traces.
-const RUNS: [(&str, &str); 6] = [
+const RUNS: [(&str, &str); 11] = [
     (ONE_VOLATILE, ONE_VOLATILE_TRACE),
     ("", ""),
     (
@@ -36,6 +36,26 @@ const RUNS: [(&str, &str); 6] = [
     (
         "a1 begin t2 700000\na2 begin t1 1\na1 commit t2\na2 commit t1\na2 volatile t1 e9 none yes\n",
         "1 t2 call 1 a1 ok\n2 t2 began 600000\n3 t1 call 2 a2 ok\n4 t1 began 1\n5 t2 call 3 a1 ok\n6 t2 commit\n7 t1 call 4 a2 ok\n8 t1 commit\n9 t1 call 5 a2 ok\n10 t1 enlisted e9 one\n11 t1 sealed\n12 t1 ask e9 prepare\n13 t1 vote e9 yes\n14 t1 decided committed\n15 t1 told e9 committed\n16 t1 told client committed\n17 t2 sealed\n18 t2 decided committed\n19 t2 told client committed\n",
+    ),
+    (
+        "a1 begin t1 default\na1 clone t1 c1 block\na1 commit t1\na1 tick t1 59999\na1 tick t1 1\n",
+        "1 t1 call 1 a1 ok\n2 t1 began 60000\n3 t1 call 2 a1 ok\n4 t1 cloned c1 block\n5 t1 call 3 a1 ok\n6 t1 commit\n7 t1 call 4 a1 ok\n8 t1 clock 59999\n9 t1 call 5 a1 ok\n10 t1 clock 60000\n11 t1 timedout\n12 t1 decided aborted\n13 t1 told client aborted\n",
+    ),
+    (
+        "a1 begin t1 default\na1 clone t1 c1 rollback\na1 commit t1\na2 complete c1\n",
+        "1 t1 call 1 a1 ok\n2 t1 began 60000\n3 t1 call 2 a1 ok\n4 t1 cloned c1 rollback\n5 t1 call 3 a1 ok\n6 t1 commit\n7 t1 decided aborted\n8 t1 call 4 a2 ended aborted\n9 t1 told client aborted\n",
+    ),
+    (
+        "a1 begin t1 default\na1 commit t1\na1 do t1 1 1\na1 tick t1 60000\n",
+        "1 t1 call 1 a1 ok\n2 t1 began 60000\n3 t1 call 2 a1 ok\n4 t1 commit\n5 t1 sealed\n6 t1 call 3 a1 did 1\n7 t1 call 4 a1 ok\n8 t1 clock 60000\n9 t1 late\n10 t1 decided committed\n11 t1 told client committed\n",
+    ),
+    (
+        "a1 begin t1 default\na1 status t1\na1 rollback t1\na1 status t1\n",
+        "1 t1 call 1 a1 ok\n2 t1 began 60000\n3 t1 call 2 a1 active\n4 t1 call 3 a1 ok\n5 t1 rollback\n6 t1 decided aborted\n7 t1 call 4 a1 aborted\n8 t1 told client aborted\n",
+    ),
+    (
+        "a1 begin t1 0\na1 volatile t1 e1 none no\na1 volatile t1 e2 none yes\na1 commit t1\n",
+        "1 t1 call 1 a1 ok\n2 t1 began 600000\n3 t1 call 2 a1 ok\n4 t1 enlisted e1 one\n5 t1 call 3 a1 ok\n6 t1 enlisted e2 one\n7 t1 call 4 a1 ok\n8 t1 commit\n9 t1 sealed\n10 t1 ask e1 prepare\n11 t1 vote e1 no\n12 t1 decided aborted\n13 t1 told e2 aborted\n14 t1 told client aborted\n",
     ),
 ];
 
@@ -93,9 +113,9 @@ fn unwritten(
 
 #[test]
 fn refusals_write_nothing(rt: HostRuntime) -> Result<(), Fail> {
-    let rollback = "a1 begin t1 0\na1 rollback t1\n";
+    let marshal = "a1 begin t1 0\na1 marshal t1\n";
     let cases: [(&[&str], &str, &[u64], Exit); 7] = [
-        (&["replay"], rollback, &[], Exit::NotYet(2)),
+        (&["replay"], marshal, &[], Exit::NotYet(2)),
         (&["replay"], "a1 begin t1 0", &[], Exit::NotYet(1)),
         (&["replay"], ONE_VOLATILE, &[1], Exit::ReadFault),
         (&["replay"], ONE_VOLATILE, &[3], Exit::ReadFault),
