@@ -8,12 +8,12 @@ ghost use Rattle.script_runner.specs.Program.{AreWords, IsCutShort, IsWritten};
 ghost use Rattle.script_runner.specs.Refusal.{IsRefused, IsReplayText};
 
 use crate::exit::Exit;
-use crate::printer::print_trace;
-use crate::reader::{Reading, read_script, reads_exactly};
 use crate::replay::run_replay;
 use crate::transfer::{ReadError, WriteStop, read_all, write_all};
 use outside::{Sink, Source};
+use script_text::{Reading, read_script, reads_exactly};
 use std::alloc::Global;
+use trace_text::print_trace;
 
 /// Whether the words are the one word `replay`.
 fn are_words(words: &[String]) -> bool

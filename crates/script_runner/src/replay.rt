@@ -90,6 +90,7 @@ impl<'a> Run<'a> {
         requires { is_new (observe (history t.value (past_of self.old.trace))) c.now ≡ true }
         ensures script { self.new.script ≡ self.old.script }
         ensures done { OnOk result (past_of self.new.trace ≡ after_step t (Calls n actor c.now done) (past_of self.old.trace)) }
+        ensures memory { OnErr result (self.new ≡ self.old) }
     {
         self.trace.reserve(ROOM)?;
         self.out.clear();

@@ -1,0 +1,9 @@
+pub mod Commands
+pub mod Cuts
+pub mod LineTexts
+pub mod Longer
+pub mod Numbers
+pub mod OneReading
+pub mod SameLines
+pub mod Scripts
+pub mod Tables

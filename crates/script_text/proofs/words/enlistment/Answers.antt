@@ -1,0 +1,11 @@
+use Rattle.std.proofs.Common.{◌≢◌, rules, arith}
+use Rattle.dtx_values.specs.declared.number.EnlNo.{EnlNo}
+use Rattle.dtx_model.specs.Grammar.{enlistment_name}
+use Rattle.script_text.proofs.Cuts.{if_none}
+use Rattle.script_text.proofs.Numbers.{same_number}
+use Rattle.script_text.proofs.words.enlistment.Goals as goal
+
+pub returns-clause-none : goal.returns-clause-none
+returns-clause-none c = if_none ((x : EnlNo) → c.args.word.now ≢ enlistment_name x.value) c.new.result (λ no x e.
+    let same = same_number c.args.word.now 101 c.in_ok-name.field-0 x.value (omega arith) (omega arith) (search rules) e in
+    no (c.new.ensures.in_range.1 (omega arith, omega arith)))
