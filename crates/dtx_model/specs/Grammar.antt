@@ -1,6 +1,8 @@
 -- Script grammar, for the lines that are run: which bytes are which script. Each line has one spelling.
 use Rattle.std.specs.Prelude.{ℕ, ◌+◌, ◌≡◌, ◌≢◌, ◌≤◌, ◌==◌, nat_le, Bool, true, false, ◌&&◌, not, List, [], ◌∷◌, ◌++◌, length, codes, decimal, Option, Some, None}
 use Rattle.std.specs.List.{flat_map, join_with_byte}
+use Rattle.dtx_values.specs.declared.message.Conn.{Conn}
+use Rattle.dtx_values.specs.declared.message.Conn.TheVariants.{Begin as OnBegin, Voter as OnVoter, Enl as OnEnl, Again}
 use Rattle.dtx_values.specs.declared.script.Body.{Body}
 use Rattle.dtx_values.specs.declared.script.Body.TheVariants.{Begin, Volatile, Clone, Complete, Commit, Rollback, Status, Await, Tick, Do}
 use Rattle.dtx_values.specs.declared.script.EnlistOption.{EnlistOption}
@@ -8,6 +10,10 @@ use Rattle.dtx_values.specs.declared.script.EnlistOption.TheVariants.{Plain, Dur
 use Rattle.dtx_values.specs.declared.script.Line.{Line}
 use Rattle.dtx_values.specs.declared.words.CloneKind.{CloneKind}
 use Rattle.dtx_values.specs.declared.words.CloneKind.TheVariants.{Block, Rollback as RollbackKind}
+use Rattle.dtx_values.specs.declared.words.Image.{Image}
+use Rattle.dtx_values.specs.declared.words.Image.TheVariants.{Lose, Keep, Torn}
+use Rattle.dtx_values.specs.declared.words.Iso.{Iso}
+use Rattle.dtx_values.specs.declared.words.Iso.TheVariants.{Serializable, RepeatableRead, ReadCommitted, ReadUncommitted, Snapshot, Chaos, Unspecified}
 use Rattle.dtx_values.specs.declared.words.Timeout.{Timeout}
 use Rattle.dtx_values.specs.declared.words.Timeout.TheVariants.{Default, Milliseconds}
 use Rattle.dtx_values.specs.declared.words.Vote.{Vote}
@@ -26,6 +32,33 @@ enlistment_name n = codes "e" ++ decimal n
 
 abbrev pub clone_name : ℕ → List ℕ
 clone_name n = codes "c" ++ decimal n
+
+abbrev pub scope_name : ℕ → List ℕ
+scope_name n = codes "s" ++ decimal n
+
+abbrev pub manager_name : ℕ → List ℕ
+manager_name n = codes "r" ++ decimal n
+
+-- a connection: b, v, that of an enlistment, or that of its reenlistment
+abbrev pub connection_word : Conn → List ℕ
+connection_word OnBegin = codes "b"
+connection_word OnVoter = codes "v"
+connection_word (OnEnl e) = enlistment_name e.value
+connection_word (Again e) = codes "x" ++ decimal e.value
+
+abbrev pub image_word : Image → List ℕ
+image_word Lose = codes "lose"
+image_word Keep = codes "keep"
+image_word Torn = codes "torn"
+
+abbrev pub iso_word : Iso → List ℕ
+iso_word Serializable = codes "serializable"
+iso_word RepeatableRead = codes "repeatableread"
+iso_word ReadCommitted = codes "readcommitted"
+iso_word ReadUncommitted = codes "readuncommitted"
+iso_word Snapshot = codes "snapshot"
+iso_word Chaos = codes "chaos"
+iso_word Unspecified = codes "unspecified"
 
 abbrev pub timeout_word : Timeout → List ℕ
 timeout_word Default = codes "default"
