@@ -1,6 +1,6 @@
 //! The definitions over histories, scripts and traces, which every other crate's contracts cite. They stand in `specs/`, in the
 //! order in which a reader should meet them: Words, Entries, Messages, Outcome, Judge; Waves, Observed, Seen, Steps, Caused; Replay,
-//! History; Grammar, TraceText. `docs/DEFINITIONS.md` says each of them in words. The code here is the judge of histories.
+//! History; Grammar, Faults, TraceText. `docs/DEFINITIONS.md` says each of them in words. The code here is the judge of histories.
 #![tactic(auto)]
 
 mod doubt;

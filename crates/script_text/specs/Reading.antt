@@ -1,10 +1,10 @@
--- What a reading says of the bytes.
+-- What a refusal says of the bytes.
 use Rattle.std.specs.Prelude.{ℕ, List}
-use Rattle.dtx_model.specs.Grammar.{Reads, IsNotYet}
-use Rattle.script_text.specs.declared.reader.Reading.{Reading}
-use Rattle.script_text.specs.declared.reader.Reading.TheVariants.{Script, NotYet}
+use Rattle.dtx_model.specs.Faults.{Bad}
+use Rattle.script_text.specs.declared.reader.ScriptError.{ScriptError}
+use Rattle.script_text.specs.declared.reader.ScriptError.TheVariants.{BadScript, Memory}
 
--- the bytes are what the reading says
-abbrev pub IsReading : List ℕ → Reading → Type 0
-IsReading b (Script s) = Reads b s
-IsReading b (NotYet n) = IsNotYet b n
+-- the bytes are bad at this line for this cause; nothing is said of want of memory
+abbrev pub IsRefused : List ℕ → ScriptError → Type 0
+IsRefused b (BadScript n c) = Bad b n c
+IsRefused b Memory = Unit {0}
