@@ -20,7 +20,7 @@ use Rattle.dtx_model.specs.Entries.{is_call}
 use Rattle.dtx_model.specs.Observed.{Observed, observe, rows, clone_rows}
 use Rattle.dtx_model.specs.Steps.{Step, Calls, Replies, Acts, call_of, complete_call, transaction_of, answer, is_fine, facts, facts_if, veto_if, reaches, ticked, time_up, is_late, block}
 use Rattle.dtx_model.specs.Caused.{IsCallOf, MayCome, Ran, Caused, is_new}
-use Rattle.dtx_model.specs.Grammar.{Name, OfTransaction, OfEnlistment, OfClone, same_name, makes, is_made, is_named_well, are_named_well}
+use Rattle.dtx_model.specs.Grammar.{Name, OfTransaction, OfEnlistment, OfClone, OfScope, same_name, makes, is_made, is_named_well, are_named_well}
 use Rattle.dtx_model.proofs.Bools.{and_left, and_right, or_false, or_right, or_case, not_true, not_false, not_both}
 use Rattle.outcome_law.proofs.Rule.{is_enlisted, is_cloned}
 use Rattle.outcome_law.proofs.Scans.{has-onto}
@@ -49,6 +49,7 @@ same_is : (x y : Name) → same_name x y ≡ true → x ≡ y
 same_is (OfTransaction n) (OfTransaction m) h = let same : n ≡ m = grind (arith, nat_tests) in ap (λ k. OfTransaction k) same
 same_is (OfEnlistment n) (OfEnlistment m) h = let same : n ≡ m = grind (arith, nat_tests) in ap (λ k. OfEnlistment k) same
 same_is (OfClone n) (OfClone m) h = let same : n ≡ m = grind (arith, nat_tests) in ap (λ k. OfClone k) same
+same_is (OfScope n) (OfScope m) h = let same : n ≡ m = grind (arith, nat_tests) in ap (λ k. OfScope k) same
 same_is _ _ h = absurd cc
 
 -- none of these names was made before, so none of them is one that was

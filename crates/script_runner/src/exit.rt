@@ -1,14 +1,17 @@
 //! How the top call ends.
+use script_text::BadCause;
 
-/// How the top call ends. The order in which the answers are given is Usage, ReadFault, NotYet, WriteFault; want of memory may come at any
-/// point.
+/// How the top call ends. The order in which the answers are given is Usage, ReadFault, BadScript, NotYet, WriteFault; want of memory may
+/// come at any point.
 #[derive(Clone, Copy, PartialEq, Eq, Debug)]
 pub enum Exit {
     /// All was read, run and written.
     Fine,
     /// The words are none of the program's.
     Usage,
-    /// The line, from 1, that is the first that isn't run yet.
+    /// The first bad line, from 1, and its first cause.
+    BadScript(u32, BadCause),
+    /// The bytes are a script; this line, from 1, is the first that isn't run yet.
     NotYet(u32),
     /// The source met a fault.
     ReadFault,

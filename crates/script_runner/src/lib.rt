@@ -15,3 +15,4 @@ mod transfer;
 pub use exit::Exit;
 pub use program::run_program;
 pub use replay::run_replay;
+pub use script_text::BadCause;

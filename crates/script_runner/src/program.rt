@@ -1,17 +1,22 @@
 //! The top call.
-ghost use Rattle.std.specs.Prelude.{◌≡◌, ◌⊎◌, ◌↔◌, ◌≤◌, ℕ, [], Some, drop, map, IfErr, IfOk, IsTrue, length};
+ghost use Rattle.std.specs.Prelude.{◌≡◌, ◌⊎◌, ◌↔◌, ◌≤◌, ℕ, [], Some, drop, map, true, IfErr, IfNone, IfOk, IfSome, IsTrue, length};
 ghost use Rattle.std.specs.Option.{ForSome};
 ghost use Rattle.std.specs.String.{string_bytes};
 ghost use Rattle.outside.specs.Faults.{Rose};
-ghost use Rattle.dtx_model.specs.Grammar.{IsNotYet};
+ghost use Rattle.dtx_values.specs.declared.script.BadCause.{BadCause};
+ghost use Rattle.dtx_model.specs.Words.{each};
+ghost use Rattle.dtx_model.specs.Grammar.{IsNotRun, IsNotYet, Reads, is_run};
+ghost use Rattle.dtx_model.specs.Faults.{Bad};
 ghost use Rattle.script_runner.specs.Program.{AreWords, IsCutShort, IsWritten};
+ghost use Rattle.script_runner.specs.Judged.{IsJudged};
 ghost use Rattle.script_runner.specs.Refusal.{IsRefused, IsReplayText};
 
 use crate::exit::Exit;
 use crate::replay::run_replay;
 use crate::transfer::{ReadError, WriteStop, read_all, write_all};
+use dtx_values::{Body, Line};
 use outside::{Sink, Source};
-use script_text::{Reading, read_script, reads_exactly};
+use script_text::{BadCause, Script, ScriptError, read_script, reads_exactly};
 use std::alloc::Global;
 use trace_text::print_trace;
 
@@ -28,21 +33,66 @@ fn are_words(words: &[String]) -> bool
 /// Why bytes have no replay.
 #[derive(Clone, Copy, PartialEq, Eq, Debug)]
 enum Refusal {
+    Bad(u32, BadCause),
     NotYet(u32),
     Memory,
 }
 
-/// The text of the replay of the script that these bytes are.
-fn replayed(alloc: Global, bytes: &[u8]) -> Result<Vec<u8>, Refusal>
-    requires { length bytes.now ≤ 1048577 }
-    ensures text { IfOk result (λ text. IsReplayText bytes.now text.items) }
+/// Whether lines of this command are run.
+fn is_run(body: Body) -> bool
+    ensures { result ≡ is_run body }
+{
+    match body {
+        Body::Begin(_, _)
+        | Body::Volatile(_, _, _, _)
+        | Body::Clone(_, _, _)
+        | Body::Complete(_)
+        | Body::Commit(_)
+        | Body::Rollback(_)
+        | Body::Status(_)
+        | Body::Await(_)
+        | Body::Tick(_, _)
+        | Body::Do(_, _, _) => true,
+        _ => false,
+    }
+}
+
+/// The first line, from 1, that isn't run yet.
+fn first_not_run(lines: &[Line]) -> Option<u32>
+    requires { length lines.now ≤ 1048576 }
+    ensures some { IfSome result (λ n. IsNotRun lines.now n) }
+    ensures none { IfNone result (each (λ l. is_run l.body) lines.now ≡ true) }
+{
+    for (i, l) in lines.iter().enumerate() {
+        if !is_run(l.body) {
+            return Some(i as u32 + 1);
+        }
+    }
+    None
+}
+
+/// The script that these bytes are, where each of its lines is run.
+fn runnable(alloc: Global, bytes: &[u8]) -> Result<Script, Refusal>
+    ensures script { IfOk result (λ s. Reads bytes.now s × (each (λ l. is_run l.body) s ≡ true)) }
     ensures refused { IfErr result (λ e. IsRefused bytes.now e) }
 {
     let script = match read_script(alloc, bytes) {
-        Ok(Reading::Script(script)) => script,
-        Ok(Reading::NotYet(line)) => return Err(Refusal::NotYet(line)),
-        Err(_) => return Err(Refusal::Memory),
+        Ok(script) => script,
+        Err(ScriptError::BadScript(line, cause)) => return Err(Refusal::Bad(line, cause)),
+        Err(ScriptError::Memory) => return Err(Refusal::Memory),
     };
+    match first_not_run(script.lines()) {
+        Some(line) => Err(Refusal::NotYet(line)),
+        None => Ok(script),
+    }
+}
+
+/// The text of the replay of the script that these bytes are.
+fn replayed(alloc: Global, bytes: &[u8]) -> Result<Vec<u8>, Refusal>
+    ensures text { IfOk result (λ text. IsReplayText bytes.now text.items) }
+    ensures refused { IfErr result (λ e. IsRefused bytes.now e) }
+{
+    let script = runnable(alloc, bytes)?;
     let trace = match run_replay(alloc, &script) {
         Ok(trace) => trace,
         Err(_) => return Err(Refusal::Memory),
@@ -71,10 +121,13 @@ pub fn run_program<S: Source, K: Sink>(
     ensures usage { (result ≡ Exit.Usage) ↔ (AreWords (map string_bytes words.now) → ⊥) }
     ensures unread { result ≡ Exit.Usage → source.new ≡ source.old }
 
-    // NotYet(n) comes exactly where line n is the first that isn't run yet; what else may come there is a fault or want of memory.
+    // BadScript(n, c) comes exactly where line n is the first bad one and c its first cause, and NotYet(n) exactly where the bytes are a
+    // script and line n is the first that isn't run yet; what else may come there is a fault or want of memory.
+    ensures bad { (n : ℕ) (c : BadCause) → result ≡ Exit.BadScript n c → ForSome (S.left source.old) (λ b. Bad b n c) }
+    ensures bad_refused { (n : ℕ) (c : BadCause) → AreWords (map string_bytes words.now) → ForSome (S.left source.old) (λ b. Bad b n c → (result ≡ Exit.BadScript n c) ⊎ ((result ≡ Exit.ReadFault) ⊎ (result ≡ Exit.Memory))) }
     ensures not_yet { (n : ℕ) → result ≡ Exit.NotYet n → ForSome (S.left source.old) (λ b. IsNotYet b n) }
-    ensures judged { (n : ℕ) → result ≡ Exit.NotYet n → ForSome (S.left source.old) (λ b. S.left source.new ≡ Some (drop 1048577 b)) }
-    ensures refused { (n : ℕ) → AreWords (map string_bytes words.now) → ForSome (S.left source.old) (λ b. IsNotYet b n → (result ≡ Exit.NotYet n) ⊎ ((result ≡ Exit.ReadFault) ⊎ (result ≡ Exit.Memory))) }
+    ensures not_yet_refused { (n : ℕ) → AreWords (map string_bytes words.now) → ForSome (S.left source.old) (λ b. IsNotYet b n → (result ≡ Exit.NotYet n) ⊎ ((result ≡ Exit.ReadFault) ⊎ (result ≡ Exit.Memory))) }
+    ensures judged { IsJudged result → ForSome (S.left source.old) (λ b. S.left source.new ≡ Some (drop 1048577 b)) }
 
     // Faults are those of the source and of the sink in this call.
     ensures read_fault { result ≡ Exit.ReadFault → Rose (S.faults source.old) (S.faults source.new) }
@@ -83,7 +136,7 @@ pub fn run_program<S: Source, K: Sink>(
     // What was written: the whole text with Fine, above; else a part of it, or nothing.
     ensures cut_short { result ≡ Exit.WriteFault → IsCutShort (S.left source.old) (K.written sink.old) (K.written sink.new) }
     ensures memory { result ≡ Exit.Memory → (sink.new ≡ sink.old) ⊎ IsCutShort (S.left source.old) (K.written sink.old) (K.written sink.new) }
-    ensures unwritten { (result ≡ Exit.Usage) ⊎ ((result ≡ Exit.ReadFault) ⊎ ((n : ℕ) × (result ≡ Exit.NotYet n))) → sink.new ≡ sink.old }
+    ensures unwritten { (result ≡ Exit.Usage) ⊎ ((result ≡ Exit.ReadFault) ⊎ IsJudged result) → sink.new ≡ sink.old }
 {
     reads_exactly();
     if !are_words(words) {
@@ -96,6 +149,7 @@ pub fn run_program<S: Source, K: Sink>(
     };
     let text = match replayed(alloc, &bytes) {
         Ok(text) => text,
+        Err(Refusal::Bad(line, cause)) => return Exit::BadScript(line, cause),
         Err(Refusal::NotYet(line)) => return Exit::NotYet(line),
         Err(Refusal::Memory) => return Exit::Memory,
     };

@@ -3,13 +3,13 @@ ghost use Rattle.std.specs.Prelude.{◌≡◌, ◌≤◌, ◌+◌, List, [], ◌
 ghost use Rattle.dtx_values.specs.declared.call.Call.{Call};
 ghost use Rattle.dtx_values.specs.declared.number.TxNo.{TxNo};
 ghost use Rattle.dtx_values.specs.declared.script.Line.{Line};
-ghost use Rattle.dtx_model.specs.Words.{kth, past_of};
+ghost use Rattle.dtx_model.specs.Words.{each, kth, past_of};
 ghost use Rattle.dtx_model.specs.Observed.{observe};
 ghost use Rattle.dtx_model.specs.Steps.{Calls, call_of, pending};
 ghost use Rattle.dtx_model.specs.Caused.{Settled, is_new};
 ghost use Rattle.dtx_model.specs.Replay.{HasDone, IsReplayed, LineRan, LinesRan, Placed, after_step, history, placed};
 ghost use Rattle.dtx_model.specs.History.{HasOneOutcome, IsComplete, IsHistory};
-ghost use Rattle.dtx_model.specs.Grammar.{IsScript};
+ghost use Rattle.dtx_model.specs.Grammar.{IsScript, is_run};
 ghost use Rattle.script_runner.specs.Running.{Advances, IsSettledBelow, Settles};
 
 use crate::machine::Machine;
@@ -239,7 +239,8 @@ fn trace_of(alloc: Global, lines: &[Line]) -> Result<Trace, AllocError>
 ///
 /// [`AllocError`] where memory ran out.
 pub fn run_replay(alloc: Global, s: &Script) -> Result<Trace, AllocError>
-    requires { IsScript s.now }
+    requires script { IsScript s.now }
+    requires run { each (λ l. is_run l.body) s.now ≡ true }
     ensures history { IfOk result (λ T. IsHistory s.now T) }
     ensures outcome { IfOk result (λ T. HasOneOutcome T) }
     ensures complete { IfOk result (λ T. IsComplete s.now T) }

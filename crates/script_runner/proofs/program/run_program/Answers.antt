@@ -1,18 +1,42 @@
 use Rattle.std.proofs.Common.{List, ℕ, ◌∙◌, ap, subst, inl, inr}
+use Rattle.dtx_model.specs.Faults.{Bad}
 use Rattle.dtx_model.specs.Grammar.{IsNotYet}
 use Rattle.script_runner.specs.Refusal.{IsRefused}
-use Rattle.script_runner.specs.declared.exit.Exit.TheVariants.{NotYet}
+use Rattle.script_runner.specs.declared.exit.Exit.TheVariants.{BadScript, NotYet}
 use Rattle.script_runner.specs.declared.program.Refusal.{Refusal}
-use Rattle.script_runner.proofs.Programs.{is_cut_short, is_written, left-none, never_refused}
+use Rattle.script_runner.proofs.Programs.{is_cut_short, is_written, left-none, never_bad, never_not_yet, not_yet-all, one_not_yet}
 use Rattle.script_runner.proofs.program.run_program.Goals as goal
 
-pub returns-in-Err-NotYet-clause-refused : goal.returns-in-Err-NotYet-clause-refused
-returns-in-Err-NotYet-clause-refused g c n words b told bad =
+pub returns-in-Err-Bad-clause-bad_refused : goal.returns-in-Err-Bad-clause-bad_refused
+returns-in-Err-Bad-clause-bad_refused g c n cause words b told bad =
+    let read = c.deref.ensures.value ∙ c.in-Ok.ensures.read b told in
+    let found : Bad c.deref.result.now c.in-Err-Bad.line c.in-Err-Bad.cause = subst (λ (e : Refusal). IsRefused c.deref.result.now e) c.in-Err-Bad.field-0-is c.in-Err-Bad.ensures.refused in
+    let here = c.reads_exactly.ensures.longer b c.in-Err-Bad.line c.in-Err-Bad.cause (subst (λ (x : List ℕ). Bad x c.in-Err-Bad.line c.in-Err-Bad.cause) read found) in
+    let same = c.reads_exactly.ensures.first b c.in-Err-Bad.line n c.in-Err-Bad.cause cause here bad in
+    inl (λ i. BadScript (same.0 i) (same.1 i))
+
+pub returns-in-Err-Bad-clause-not_yet_refused : goal.returns-in-Err-Bad-clause-not_yet_refused
+returns-in-Err-Bad-clause-not_yet_refused g c n words b told bad =
+    let read = c.deref.ensures.value ∙ c.in-Ok.ensures.read b told in
+    let found : Bad c.deref.result.now c.in-Err-Bad.line c.in-Err-Bad.cause = subst (λ (e : Refusal). IsRefused c.deref.result.now e) c.in-Err-Bad.field-0-is c.in-Err-Bad.ensures.refused in
+    let here = c.reads_exactly.ensures.longer b c.in-Err-Bad.line c.in-Err-Bad.cause (subst (λ (x : List ℕ). Bad x c.in-Err-Bad.line c.in-Err-Bad.cause) read found) in
+    absurd (c.reads_exactly.ensures.either b bad.lines c.in-Err-Bad.line c.in-Err-Bad.cause bad.reads here)
+
+pub returns-in-Err-NotYet-clause-bad_refused : goal.returns-in-Err-NotYet-clause-bad_refused
+returns-in-Err-NotYet-clause-bad_refused g c n cause words b told bad =
     let read = c.deref.ensures.value ∙ c.in-Ok.ensures.read b told in
     let line = c.in-Err-NotYet.line in
     let refused : IsNotYet c.deref.result.now line = subst (λ (e : Refusal). IsRefused c.deref.result.now e) c.in-Err-NotYet.field-0-is c.in-Err-NotYet.ensures.refused in
-    let here : IsNotYet b line = c.reads_exactly.ensures.longer b line (subst (λ (x : List ℕ). IsNotYet x line) read refused) in
-    inl (ap NotYet (c.reads_exactly.ensures.first b line n here bad))
+    let here = not_yet-all b line (subst (λ (x : List ℕ). IsNotYet x line) read refused) in
+    absurd (c.reads_exactly.ensures.either b here.lines n cause here.reads bad)
+
+pub returns-in-Err-NotYet-clause-not_yet_refused : goal.returns-in-Err-NotYet-clause-not_yet_refused
+returns-in-Err-NotYet-clause-not_yet_refused g c n words b told bad =
+    let read = c.deref.ensures.value ∙ c.in-Ok.ensures.read b told in
+    let line = c.in-Err-NotYet.line in
+    let refused : IsNotYet c.deref.result.now line = subst (λ (e : Refusal). IsRefused c.deref.result.now e) c.in-Err-NotYet.field-0-is c.in-Err-NotYet.ensures.refused in
+    let here : IsNotYet b line = not_yet-all b line (subst (λ (x : List ℕ). IsNotYet x line) read refused) in
+    inl (ap NotYet (one_not_yet c.reads_exactly.ensures.one b line n here bad))
 
 pub returns-in-Ok-write_all-clause-headline : goal.returns-in-Ok-write_all-clause-headline
 returns-in-Ok-write_all-clause-headline g c k =
@@ -23,15 +47,21 @@ pub returns-in-Ok-write_all-clause-read : goal.returns-in-Ok-write_all-clause-re
 returns-in-Ok-write_all-clause-read g c k =
     left-none _ _ c.deref.result.now c.in-Ok-replayed.text.items (λ b told. c.deref.ensures.value ∙ c.in-Ok.ensures.read b told) c.in-Ok-replayed.ensures.text c.in-Ok.ensures.left
 
-pub returns-in-Ok-write_all-clause-refused : goal.returns-in-Ok-write_all-clause-refused
-returns-in-Ok-write_all-clause-refused g c n words b told bad =
-    absurd
-    (never_refused c.reads_exactly.ensures.either _ c.deref.result.now c.in-Ok-replayed.text.items (λ x t. c.deref.ensures.value ∙ c.in-Ok.ensures.read x t) c.in-Ok-replayed.ensures.text n b told bad)
+pub returns-in-Ok-write_all-clause-bad_refused : goal.returns-in-Ok-write_all-clause-bad_refused
+returns-in-Ok-write_all-clause-bad_refused g c n cause words b told bad =
+    absurd (never_bad c.reads_exactly.ensures.either _ c.deref.result.now c.in-Ok-replayed.text.items (λ x t. c.deref.ensures.value ∙ c.in-Ok.ensures.read x t) c.in-Ok-replayed.ensures.text n cause b told bad)
 
-pub returns-in-Err-Fault-write_all-clause-refused : goal.returns-in-Err-Fault-write_all-clause-refused
-returns-in-Err-Fault-write_all-clause-refused g c n words b told bad =
-    absurd
-    (never_refused c.reads_exactly.ensures.either _ c.deref.result.now c.in-Ok-replayed.text.items (λ x t. c.deref.ensures.value ∙ c.in-Ok.ensures.read x t) c.in-Ok-replayed.ensures.text n b told bad)
+pub returns-in-Ok-write_all-clause-not_yet_refused : goal.returns-in-Ok-write_all-clause-not_yet_refused
+returns-in-Ok-write_all-clause-not_yet_refused g c n words b told bad =
+    absurd (never_not_yet c.reads_exactly.ensures.one _ c.deref.result.now c.in-Ok-replayed.text.items (λ x t. c.deref.ensures.value ∙ c.in-Ok.ensures.read x t) c.in-Ok-replayed.ensures.text n b told bad)
+
+pub returns-in-Err-Fault-write_all-clause-bad_refused : goal.returns-in-Err-Fault-write_all-clause-bad_refused
+returns-in-Err-Fault-write_all-clause-bad_refused g c n cause words b told bad =
+    absurd (never_bad c.reads_exactly.ensures.either _ c.deref.result.now c.in-Ok-replayed.text.items (λ x t. c.deref.ensures.value ∙ c.in-Ok.ensures.read x t) c.in-Ok-replayed.ensures.text n cause b told bad)
+
+pub returns-in-Err-Fault-write_all-clause-not_yet_refused : goal.returns-in-Err-Fault-write_all-clause-not_yet_refused
+returns-in-Err-Fault-write_all-clause-not_yet_refused g c n words b told bad =
+    absurd (never_not_yet c.reads_exactly.ensures.one _ c.deref.result.now c.in-Ok-replayed.text.items (λ x t. c.deref.ensures.value ∙ c.in-Ok.ensures.read x t) c.in-Ok-replayed.ensures.text n b told bad)
 
 pub returns-in-Err-Fault-write_all-clause-cut_short : goal.returns-in-Err-Fault-write_all-clause-cut_short
 returns-in-Err-Fault-write_all-clause-cut_short g c k =

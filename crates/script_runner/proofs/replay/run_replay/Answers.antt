@@ -21,8 +21,8 @@ returns-clause-outcome c =
     let ran : IsReplayed s T = subst (λ (ls : List Line). IsReplayed ls T) c.lines.ensures c.in_ok-trace.ensures.replayed in
     let caused : (t : TxNo) → Caused s t.value (history t.value T) = c.replay.ensures.caused s T ran in
     record {
-      just = λ t. c.one_outcome.ensures.just s t.value (history t.value T) c.requires.named (caused t);
-      agrees = λ t. c.one_outcome.ensures.agrees s t.value (history t.value T) c.requires.named (caused t);
+      just = λ t. c.one_outcome.ensures.just s t.value (history t.value T) c.requires.script.named (caused t);
+      agrees = λ t. c.one_outcome.ensures.agrees s t.value (history t.value T) c.requires.script.named (caused t);
     }
 
 pub returns-clause-complete : goal.returns-clause-complete
@@ -31,4 +31,4 @@ returns-clause-complete c =
     let T = past_of c.in_ok-trace.trace in
     let ran : IsReplayed s T = subst (λ (ls : List Line). IsReplayed ls T) c.lines.ensures c.in_ok-trace.ensures.replayed in
     let settled : (t : TxNo) → Settled s (history t.value T) = subst (λ (ls : List Line). (t : TxNo) → Settled ls (history t.value T)) c.lines.ensures c.in_ok-trace.ensures.settled in
-    λ t asked. c.completeness.ensures s t.value (history t.value T) c.requires.named (c.replay.ensures.caused s T ran t) (settled t) asked
+    λ t asked. c.completeness.ensures s t.value (history t.value T) c.requires.script.named (c.replay.ensures.caused s T ran t) (settled t) asked
