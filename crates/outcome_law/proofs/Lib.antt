@@ -11,6 +11,7 @@ pub mod Going
 pub mod Calls
 pub mod Acts
 pub mod Blocks
+pub mod Timely
 pub mod Waves
 pub mod Settled
 pub mod Replays

@@ -6,7 +6,7 @@ use Rattle.dtx_values.specs.declared.number.EnlNo.{EnlNo}
 use Rattle.dtx_values.specs.declared.call.Call.{Call}
 use Rattle.dtx_values.specs.declared.call.Call.TheVariants.{Begin, Volatile, Clone, Complete, Commit, Rollback, Tick}
 use Rattle.dtx_values.specs.declared.entry.Entry.{Entry}
-use Rattle.dtx_values.specs.declared.entry.Entry.TheVariants.{Called, Cloned, Enlisted}
+use Rattle.dtx_values.specs.declared.entry.Entry.TheVariants.{Called, Cloned, Enlisted, Asked, Voted, Sealed, Decided, Told}
 use Rattle.dtx_values.specs.declared.note.Reply.TheVariants.{Vote as VoteReply}
 use Rattle.dtx_values.specs.declared.script.Line.{Line}
 use Rattle.dtx_values.specs.declared.words.Outcome.{Outcome}
@@ -87,10 +87,33 @@ plain_not_called es h = each_more is_plain is_not_called one es h
     one (Called n a y) h = absurd cc
     one _ h = refl
 
+-- the entries of a reply and of the local act
+abbrev pub is_deed : Entry → Bool
+is_deed (Asked e a) = true
+is_deed (Voted e v) = true
+is_deed Sealed = true
+is_deed (Decided x) = true
+is_deed (Told p x) = true
+is_deed _ = false
+
+-- a deed is plain
+deeds_plain : (es : List Entry) → each is_deed es ≡ true → each is_plain es ≡ true
+deeds_plain es h = each_more is_deed is_plain one es h
+  where
+    one : (x : Entry) → is_deed x ≡ true → is_plain x ≡ true
+    one (Called n a y) h = absurd cc
+    one (Enlisted e c) h = absurd cc
+    one (Cloned c k) h = absurd cc
+    one _ h = refl
+
+-- a veto, where it stands, is a deed
+pub veto_deed : (b : Bool) → each is_deed (veto_if b) ≡ true
+veto_deed true = refl
+veto_deed false = refl
+
 -- a veto, where it stands, is plain
 pub veto_plain : (b : Bool) → each is_plain (veto_if b) ≡ true
-veto_plain true = refl
-veto_plain false = refl
+veto_plain b = deeds_plain (veto_if b) (veto_deed b)
 
 -- the end of the time is plain
 pub time_plain : (reached late : Bool) → each is_plain (if reached then time_up late else []) ≡ true
@@ -112,41 +135,45 @@ facts_not_called o (Tick t n) true =
     plain_not_called (if reached then time_up (is_late o) else []) (time_plain reached (is_late o))
 facts_not_called o _ true = refl
 
--- what is told is plain
-tell_plain : (x : Outcome) (l : Option Listener) (told : Option Outcome) → each is_plain (tell x l told) ≡ true
-tell_plain x (Some l) told = refl
-tell_plain x None (Some y) = refl
-tell_plain x None None = refl
+-- what is told is a deed
+tell_deed : (x : Outcome) (l : Option Listener) (told : Option Outcome) → each is_deed (tell x l told) ≡ true
+tell_deed x (Some l) told = refl
+tell_deed x None (Some y) = refl
+tell_deed x None None = refl
 
--- what comes in phase zero is plain
-zero_plain : (e : Option EnlNo) (over : Bool) → each is_plain (before_seal e over) ≡ true
-zero_plain (Some e) over = refl
-zero_plain None true = refl
-zero_plain None false = refl
+-- what comes in phase zero is a deed
+zero_deed : (e : Option EnlNo) (over : Bool) → each is_deed (before_seal e over) ≡ true
+zero_deed (Some e) over = refl
+zero_deed None true = refl
+zero_deed None false = refl
 
--- what comes behind the seal is plain
-seal_plain : (e : Option EnlNo) (voted : Bool) → each is_plain (behind_seal e voted) ≡ true
-seal_plain (Some e) voted = refl
-seal_plain None true = refl
-seal_plain None false = refl
+-- what comes behind the seal is a deed
+seal_deed : (e : Option EnlNo) (voted : Bool) → each is_deed (behind_seal e voted) ≡ true
+seal_deed (Some e) voted = refl
+seal_deed None true = refl
+seal_deed None false = refl
 
--- what the local act does while nothing is decided is plain
-undecided_plain : (commit sealed : Bool) (xs ys : List Entry) → each is_plain xs ≡ true → each is_plain ys ≡ true → each is_plain (undecided_act commit sealed xs ys) ≡ true
-undecided_plain false sealed xs ys h k = refl
-undecided_plain true false xs ys h k = h
-undecided_plain true true xs ys h k = k
+-- what the local act does while nothing is decided is a deed
+undecided_deed : (commit sealed : Bool) (xs ys : List Entry) → each is_deed xs ≡ true → each is_deed ys ≡ true → each is_deed (undecided_act commit sealed xs ys) ≡ true
+undecided_deed false sealed xs ys h k = refl
+undecided_deed true false xs ys h k = h
+undecided_deed true true xs ys h k = k
 
--- what the local act does is plain
-act_plain : (d : Option Outcome) (o : Observed) → each is_plain (act_by d o) ≡ true
-act_plain (Some x) o = tell_plain x (find (is_to_tell o.table) o.listeners) o.told_client
-act_plain None o =
-    undecided_plain o.commit o.sealed (before_seal (next_ask o.table true) (is_over o.table o.clones 0)) (behind_seal (next_ask o.table false) (all_voted o.table))
-    (zero_plain (next_ask o.table true) (is_over o.table o.clones 0)) (seal_plain (next_ask o.table false) (all_voted o.table))
+-- what the local act does is a deed
+act_deed : (d : Option Outcome) (o : Observed) → each is_deed (act_by d o) ≡ true
+act_deed (Some x) o = tell_deed x (find (is_to_tell o.table) o.listeners) o.told_client
+act_deed None o =
+    undecided_deed o.commit o.sealed (before_seal (next_ask o.table true) (is_over o.table o.clones 0)) (behind_seal (next_ask o.table false) (all_voted o.table))
+    (zero_deed (next_ask o.table true) (is_over o.table o.clones 0)) (seal_deed (next_ask o.table false) (all_voted o.table))
+
+-- the block of a reply or of the local act has deeds alone
+pub block_deed : (o : Observed) (m : Step) → is_no_call m ≡ true → each is_deed (block o m) ≡ true
+unfolding block act_entries
+block_deed o (Calls n a c m) h = absurd cc
+block_deed o (Replies e (VoteReply v)) h = veto_deed (is_no v)
+block_deed o (Replies e _) h = refl
+block_deed o Acts h = act_deed o.decided o
 
 -- the block of a reply or of the local act is plain
 pub block_plain : (o : Observed) (m : Step) → is_no_call m ≡ true → each is_plain (block o m) ≡ true
-unfolding block act_entries
-block_plain o (Calls n a c m) h = absurd cc
-block_plain o (Replies e (VoteReply v)) h = veto_plain (is_no v)
-block_plain o (Replies e _) h = refl
-block_plain o Acts h = act_plain o.decided o
+block_plain o m h = deeds_plain (block o m) (block_deed o m h)
