@@ -1,3 +1,4 @@
+pub mod Tests
 pub mod Scans
 pub mod Lists
 pub mod Picks
@@ -15,5 +16,5 @@ pub mod Timely
 pub mod Waves
 pub mod Settled
 pub mod Replays
-pub mod ReplayExample
 pub mod Examples
+pub mod ReplayExample

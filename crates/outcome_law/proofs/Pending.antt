@@ -17,23 +17,10 @@ use Rattle.dtx_model.specs.declared.listener.Listener.{Listener}
 use Rattle.dtx_model.specs.Words.{has, each}
 use Rattle.dtx_model.specs.Waves.{is_over, next_ask}
 use Rattle.dtx_model.specs.Observed.{Observed}
-use Rattle.dtx_model.specs.Steps.{Step, Calls, Replies, Acts, facts, facts_if, veto_if, reaches, ticked, time_up, is_late, is_no, tell, is_to_tell, before_seal, behind_seal, all_voted, undecided_act, act_by, act_entries, vote_step, due_reply, due_replies, act_if, planned_vote, pending, block}
-use Rattle.dtx_model.proofs.Bools.{and_both}
+use Rattle.dtx_model.specs.Steps.{Step, Calls, Replies, Acts, facts, facts_if, veto_if, reaches, ticked, time_up, is_late, is_no, vote_step, due_reply, due_replies, planned_vote, pending, block}
+use Rattle.dtx_model.specs.Steps.{tell, is_to_tell, before_seal, behind_seal, all_voted, undecided_act, act_by, act_entries, act_if}
 use Rattle.outcome_law.proofs.Scans.{each-append, each_more}
-
--- what is there passes
-abbrev pub passes : {A : Type 0} → (A → Bool) → Option A → Bool
-passes p (Some x) = p x
-passes p None = true
-
--- each passes of what f gives where what it gives passes
-pub each-filter_map : {A B : Type 0} (p : B → Bool) (f : A → Option B) → ((x : A) → passes p (f x) ≡ true) → (xs : List A) → each p (filter_map f xs) ≡ true
-each-filter_map p f sub [] = refl
-each-filter_map p f sub (x ∷ xs) = step p (f x) (filter_map f xs) (sub x) (each-filter_map p f sub xs)
-  where
-    step : {B : Type 0} (p : B → Bool) (o : Option B) (ys : List B) → passes p o ≡ true → each p ys ≡ true → each p (cons_option o ys) ≡ true
-    step p (Some y) ys h k = and_both (p y) (each p ys) h k
-    step p None ys h k = k
+use Rattle.outcome_law.proofs.Picks.{passes, each_from_at, each_picked}
 
 -- no call
 abbrev pub is_no_call : Step → Bool
@@ -52,7 +39,7 @@ acts_no_call [] = refl
 acts_no_call (x ∷ xs) = refl
 
 -- whichever of two lists it is, each passes where each passes in both
-pub each_if : {A : Type 0} (p : A → Bool) (b : Bool) (xs ys : List A) → each p xs ≡ true → each p ys ≡ true → each p (if b then xs else ys) ≡ true
+each_if : {A : Type 0} (p : A → Bool) (b : Bool) (xs ys : List A) → each p xs ≡ true → each p ys ≡ true → each p (if b then xs else ys) ≡ true
 each_if p true xs ys h k = h
 each_if p false xs ys h k = k
 
@@ -63,7 +50,8 @@ pending_no_call s o =
     each-append is_no_call (due_replies s o) (act_if (act_entries o))
     (
     each_if is_no_call (is_some o.decided) [] (filter_map (due_reply s) o.table) refl
-    (each-filter_map is_no_call (due_reply s) (λ x. due_no_call (is_marked x && not (has_voted x)) x.0 (planned_vote s x.0.value)) o.table)
+    (each_picked is_no_call (due_reply s) o.table
+    (each_from_at (λ x. passes is_no_call (due_reply s x)) o.table (λ k x e. due_no_call (is_marked x && not (has_voted x)) x.0 (planned_vote s x.0.value))))
     )
     (acts_no_call (act_entries o))
 
