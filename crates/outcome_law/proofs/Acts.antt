@@ -1,5 +1,5 @@
 -- The block of each reply that is due and of each local act keeps the rules.
-use Rattle.std.proofs.Common.{◌≡◌, ℕ, zero, suc, ◌==◌, Bool, true, false, ◌&&◌, ◌||◌, List, [], ◌∷◌, Option, Some, None, refl, ◌∙◌, ap, sym}
+use Rattle.std.proofs.Common.{◌≡◌, ℕ, ◌==◌, Bool, true, false, ◌&&◌, ◌||◌, List, [], ◌∷◌, Option, Some, None, refl, ◌∙◌, ap, sym}
 use Rattle.std.specs.Prelude.{is_some, find, not, if◌then◌else◌}
 use Rattle.std.specs.List.{filter_map}
 use Rattle.dtx_values.specs.declared.number.EnlNo.{EnlNo}

@@ -9,7 +9,7 @@ use Rattle.dtx_model.specs.Words.{has, each, all_of}
 use Rattle.dtx_model.specs.Entries.{is_commit, is_sealed, is_promoted, is_record, is_yes, is_any_hand, is_volatile, clone_of, is_good_vote, is_decision}
 use Rattle.dtx_model.specs.Outcome.{enlisted, durables, voters, is_complete, ready, is_empty, by_seal, owner_committed, by_owner, by_log, evidence}
 use Rattle.dtx_model.proofs.Bools.{and_left, and_right, and_both, or_false, or_right, not_both, not_true, and_never}
-use Rattle.outcome_law.proofs.Tests.{and_second, and_third}
+use Rattle.outcome_law.proofs.Tests.{second_of_four, third_of_four}
 use Rattle.outcome_law.proofs.Scans.{each_more}
 use Rattle.outcome_law.proofs.Rule.{is_enlisted, is_cloned, all_complete, zeros_cast, rule, ruled, first_rule, other_rules}
 
@@ -93,8 +93,8 @@ sealed_closed [] r k = absurd cc
 sealed_closed (Sealed ∷ h) r k =
     let rule = first_rule Sealed h r in
     record {
-      commit = and_second (not (has is_decision h)) (has is_commit h) (all_complete h) (zeros_cast h) rule;
-      complete = and_third (not (has is_decision h)) (has is_commit h) (all_complete h) (zeros_cast h) rule;
+      commit = second_of_four (not (has is_decision h)) (has is_commit h) (all_complete h) (zeros_cast h) rule;
+      complete = third_of_four (not (has is_decision h)) (has is_commit h) (all_complete h) (zeros_cast h) rule;
     }
 sealed_closed (CommitAsked ∷ h) r k = let w = sealed_closed h (other_rules CommitAsked h r) k in record { commit = refl; complete = w.complete }
 sealed_closed (Cloned c d ∷ h) r k =

@@ -15,7 +15,7 @@ use Rattle.dtx_values.specs.Clones.{blocks}
 use Rattle.dtx_model.specs.Words.{has, each, all_of}
 use Rattle.dtx_model.specs.Entries.{is_commit, is_sealed, is_yes, is_any_hand, is_volatile, clone_of, is_good_vote, is_decision}
 use Rattle.dtx_model.specs.Outcome.{enlisted, is_complete, ready, by_seal, by_owner, by_log, evidence, is_rollback, is_veto, vetoed, may_tell}
-use Rattle.dtx_model.proofs.Bools.{and_left, and_right, and_both, or_false, or_right, not_true, not_false, not_both, three_hold, and_never}
+use Rattle.dtx_model.proofs.Bools.{and_left, and_right, and_both, or_false, not_true, not_false, not_both, three_hold, and_never}
 use Rattle.outcome_law.proofs.Tests.{four_hold, or_between, refuted}
 use Rattle.outcome_law.proofs.Scans.{each_more}
 use Rattle.outcome_law.proofs.Picks.{none_each}

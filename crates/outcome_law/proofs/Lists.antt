@@ -1,11 +1,11 @@
 -- What holds of each item of a list, and scans of a list with an item more or with its items changed.
-use Rattle.std.proofs.Common.{◌≡◌, ℕ, ◌==◌, zero, suc, Bool, true, false, ◌&&◌, ◌||◌, List, [], ◌∷◌, ◌++◌, Some, refl, map, ◌∙◌, ap, subst, arith}
+use Rattle.std.proofs.Common.{◌≡◌, ℕ, zero, suc, Bool, true, false, ◌&&◌, ◌||◌, List, [], ◌∷◌, ◌++◌, Some, refl, map, ◌∙◌, ap, subst}
 use Rattle.std.specs.Prelude.{nat_lt, if◌then◌else◌}
 use Rattle.std.specs.List.{slice_get}
+use Rattle.std.proofs.lemmas.List.Folds.{list_all-map}
 use Rattle.dtx_values.specs.Table.{how_many, insert_by}
 use Rattle.dtx_model.specs.Words.{has, each}
 use Rattle.dtx_model.proofs.Bools.{and_swap, or_right, or_swap}
-use Rattle.outcome_law.proofs.Scans.{each-map}
 
 -- P holds of each item
 abbrev pub OfEach : {A : Type 0} → (A → Type 0) → List A → Type 0
@@ -59,7 +59,7 @@ of-all P all (x ∷ xs) = (all x, of-all P all xs)
 
 -- what f makes of an item passes as the item does: each passes as before
 pub each_kept : {A : Type 0} (p : A → Bool) (f : A → A) → ((x : A) → p (f x) ≡ p x) → (xs : List A) → each p (map f xs) ≡ each p xs
-each_kept p f same xs = each-map p f xs ∙ each_same (λ x. p (f x)) p xs (of-all (λ x. p (f x) ≡ p x) same xs)
+each_kept p f same xs = list_all-map p f xs ∙ each_same (λ x. p (f x)) p xs (of-all (λ x. p (f x) ≡ p x) same xs)
 
 -- what f makes of an item passes as the item does: one passes as before
 pub has_kept : {A : Type 0} (p : A → Bool) (f : A → A) → ((x : A) → p (f x) ≡ p x) → (xs : List A) → has p (map f xs) ≡ has p xs

@@ -21,9 +21,10 @@ use Rattle.dtx_model.specs.Observed.{Observed, observe, rows, clone_rows}
 use Rattle.dtx_model.specs.Steps.{Step, Calls, Replies, Acts, call_of, complete_call, transaction_of, answer, is_fine, facts, facts_if, veto_if, reaches, ticked, time_up, is_late, block}
 use Rattle.dtx_model.specs.Caused.{IsCallOf, MayCome, Ran, Caused, is_new}
 use Rattle.dtx_model.specs.Grammar.{Name, OfTransaction, OfEnlistment, OfClone, same_name, makes, is_made, is_named_well, are_named_well}
-use Rattle.dtx_model.proofs.Bools.{and_left, and_right, or_false, or_right, or_case, not_true, not_false, not_both}
+use Rattle.dtx_model.proofs.Bools.{and_left, and_right, or_right, or_case, not_true, not_false, not_both}
+use Rattle.dtx_model.proofs.Reading.{has-onto}
 use Rattle.outcome_law.proofs.Rule.{is_enlisted, is_cloned}
-use Rattle.outcome_law.proofs.Scans.{has-onto, none_more}
+use Rattle.outcome_law.proofs.Scans.{none_more}
 use Rattle.outcome_law.proofs.Tests.{eq_self}
 use Rattle.outcome_law.proofs.TableRows.{enlisted_in_rows, clone_stands}
 use Rattle.outcome_law.proofs.Pending.{is_plain, veto_plain, time_plain, block_plain}

@@ -23,8 +23,9 @@ use Rattle.dtx_model.specs.Grammar.{are_named_well}
 use Rattle.dtx_model.specs.Replay.{Placed, history, placed, after_step, StepsRan, LineRan, LinesRan, IsTurn, RoundsRan, IsReplayed, called_of, calls, due_call, due_calls}
 use Rattle.dtx_model.proofs.Bools.{and_left, and_right, or_false, or_right}
 use Rattle.dtx_model.proofs.Histories.{history-other, history-same}
+use Rattle.dtx_model.proofs.Reading.{has-onto}
 use Rattle.outcome_law.proofs.Tests.{eq_self}
-use Rattle.outcome_law.proofs.Scans.{each-kth, has-onto, none_more}
+use Rattle.outcome_law.proofs.Scans.{each-kth, none_more}
 use Rattle.outcome_law.proofs.Pending.{is_no_call, pending_no_call, is_not_called, facts_not_called, block_plain, plain_not_called}
 use Rattle.outcome_law.proofs.Names.{caused_new}
 

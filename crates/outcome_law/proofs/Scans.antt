@@ -1,9 +1,10 @@
--- Facts on scans of a list, and on histories with a block behind them.
-use Rattle.std.proofs.Common.{◌≡◌, ℕ, zero, suc, Bool, true, false, ◌&&◌, ◌||◌, List, [], ◌∷◌, ◌++◌, Option, Some, None, refl, map, ◌∙◌, ap, subst}
+-- Facts on scans of a list.
+use Rattle.std.proofs.Common.{◌≡◌, ℕ, zero, suc, Bool, true, false, ◌||◌, List, [], ◌∷◌, ◌++◌, Option, Some, None, refl, ◌∙◌}
 use Rattle.std.specs.Prelude.{find, if◌then◌else◌}
 use Rattle.std.specs.List.{slice_get}
-use Rattle.dtx_model.specs.Words.{has, each, onto, kth}
-use Rattle.dtx_model.proofs.Bools.{and_left, and_right, and_both, or_false, or_swap}
+use Rattle.std.proofs.lemmas.List.Folds.{list_all-append}
+use Rattle.dtx_model.specs.Words.{has, each, kth}
+use Rattle.dtx_model.proofs.Bools.{and_left, and_right, and_both, or_false}
 
 -- where each passes p, and what passes p passes q, each passes q
 pub each_more : {A : Type 0} (p q : A → Bool) → ((x : A) → p x ≡ true → q x ≡ true) → (xs : List A) → each p xs ≡ true → each q xs ≡ true
@@ -25,18 +26,12 @@ each_both p q r sub (x ∷ xs) h k =
     and_both (r x) (each r xs) (sub x (and_left (p x) (each p xs) h) (and_left (q x) (each q xs) k))
     (each_both p q r sub xs (and_right (p x) (each p xs) h) (and_right (q x) (each q xs) k))
 
--- each passes p in the list of what f gives: each passes the test by f
-pub each-map : {A B : Type 0} (p : B → Bool) (f : A → B) → (xs : List A) → each p (map f xs) ≡ each (λ x. p (f x)) xs
-each-map p f [] = refl
-each-map p f (x ∷ xs) = ap (λ b. p (f x) && b) (each-map p f xs)
-
 -- each passes p in two lists together where each does in both
 pub each-append : {A : Type 0} (p : A → Bool) → (xs ys : List A) → each p xs ≡ true → each p ys ≡ true → each p (xs ++ ys) ≡ true
-each-append p [] ys h k = k
-each-append p (x ∷ xs) ys h k = and_both (p x) (each p (xs ++ ys)) (and_left (p x) (each p xs) h) (each-append p xs ys (and_right (p x) (each p xs) h) k)
+each-append p xs ys h k = list_all-append p xs ys ∙ and_both (each p xs) (each p ys) h k
 
 -- where each passes, the one at a place passes
-pub each-at : {A : Type 0} (p : A → Bool) → (xs : List A) (k : ℕ) (x : A) → each p xs ≡ true → slice_get xs k ≡ Some x → p x ≡ true
+each-at : {A : Type 0} (p : A → Bool) → (xs : List A) (k : ℕ) (x : A) → each p xs ≡ true → slice_get xs k ≡ Some x → p x ≡ true
 each-at p [] k x h e = absurd cc
 each-at p (y ∷ xs) zero x h e = let same : y ≡ x = cc in let first : p y ≡ true = and_left (p y) (each p xs) h in rw (← same) first
 each-at p (y ∷ xs) (suc k) x h e = each-at p xs k x (and_right (p y) (each p xs) h) e
@@ -45,15 +40,6 @@ each-at p (y ∷ xs) (suc k) x h e = each-at p xs k x (and_right (p y) (each p x
 pub each-kth : {A : Type 0} (p : A → Bool) (xs : List A) (k : ℕ) (x : A) → each p xs ≡ true → kth xs k ≡ Some x → p x ≡ true
 each-kth p xs zero x h e = absurd cc
 each-kth p xs (suc k) x h e = each-at p xs k x h e
-
--- one passes with a block behind: one passes in the block or in the history
-pub has-onto : {A : Type 0} (p : A → Bool) → (h xs : List A) → has p (onto h xs) ≡ (has p xs || has p h)
-has-onto p h [] = refl
-has-onto p h (x ∷ xs) = has-onto p (x ∷ h) xs ∙ or_swap (has p xs) (p x) (has p h) ∙ assoc (p x) (has p xs) (has p h)
-  where
-    assoc : (a b c : Bool) → (a || (b || c)) ≡ ((a || b) || c)
-    assoc true b c = refl
-    assoc false b c = refl
 
 -- none was found: none passes
 pub find_none : {A : Type 0} (p : A → Bool) → (xs : List A) → find p xs ≡ None → has p xs ≡ false

@@ -25,7 +25,7 @@ use Rattle.dtx_model.specs.Steps.{planned_vote, vote_step, due_reply, due_replie
 use Rattle.dtx_model.specs.Waves.{is_zero, is_one, may_be_asked, name_of, next_ask, zeros_voted, is_over}
 use Rattle.dtx_model.specs.Caused.{Settled}
 use Rattle.dtx_model.proofs.Bools.{and_left, and_right, and_both, not_false, or_second, or_right, not_both, not_true, and_never}
-use Rattle.outcome_law.proofs.Tests.{and_second, and_fourth, or_between}
+use Rattle.outcome_law.proofs.Tests.{second_of_four, fourth_of_four, or_between}
 use Rattle.outcome_law.proofs.Rule.{is_enlisted, all_complete, zeros_cast, is_decided, ruled, first_rule, other_rules}
 use Rattle.outcome_law.proofs.Scans.{each_more, none_more, each_both, find_none}
 use Rattle.outcome_law.proofs.Picks.{none_each}
@@ -100,10 +100,10 @@ client_committed (x ∷ h) r v k = client_committed h (other_rules x h r) (or_se
 -- sealed is only where each Zero enlistment voted
 sealed_zeros : (h : List Entry) → ruled h ≡ true → has is_sealed h ≡ true → zeros_cast h ≡ true
 sealed_zeros [] r k = absurd cc
-sealed_zeros (Sealed ∷ h) r k = and_fourth (not (has is_decision h)) (has is_commit h) (all_complete h) (zeros_cast h) (first_rule Sealed h r)
+sealed_zeros (Sealed ∷ h) r k = fourth_of_four (not (has is_decision h)) (has is_commit h) (all_complete h) (zeros_cast h) (first_rule Sealed h r)
 sealed_zeros (Enlisted e c ∷ h) r k =
     let rule = first_rule (Enlisted e c) h r in
-    let unsealed = not_true (has is_sealed h) (and_second (not (has is_decision h)) (not (has is_sealed h)) (not (has (is_enlisted e.value) h)) (is_volatile c) rule) in
+    let unsealed = not_true (has is_sealed h) (second_of_four (not (has is_decision h)) (not (has is_sealed h)) (not (has (is_enlisted e.value) h)) (is_volatile c) rule) in
     absurd (not_both (has is_sealed h) k unsealed)
 sealed_zeros (Voted e w ∷ h) r k =
     each_more (λ x. not (is_zero x.1) || has (is_vote x.0.value) h) (λ x. not (is_zero x.1) || has (is_vote x.0.value) (Voted e w ∷ h))

@@ -24,7 +24,7 @@ use Rattle.dtx_model.specs.Seen.{vote_of, IsCloneSeen}
 use Rattle.dtx_model.specs.Steps.{voted_well, all_voted}
 use Rattle.dtx_model.specs.Waves.{is_zero, zeros_voted}
 use Rattle.dtx_model.proofs.Bools.{and_right, or_false, or_second, or_right, not_true}
-use Rattle.outcome_law.proofs.Tests.{eq_self, eq_swap, apart, and_second, and_third, and_fourth}
+use Rattle.outcome_law.proofs.Tests.{eq_self, eq_swap, apart, second_of_four, third_of_four, fourth_of_four}
 use Rattle.outcome_law.proofs.Lists.{OfEach, of-at, of-more, of-map, of-insert, of-behind, of-all, each_same, has_same, each_kept, has_kept, if_kept, each-insert, has-insert, each-behind, has-behind}
 use Rattle.outcome_law.proofs.Rule.{is_enlisted, is_cloned, zeros_cast, rule, ruled, first_rule, other_rules}
 
@@ -54,20 +54,20 @@ enlisted_in_rows n (x ∷ h) = enlisted_in_rows n h
 
 -- what is enlisted wasn't before
 pub enlisted_once : (e : EnlNo) (c : Class) (h : List Entry) → rule h (Enlisted e c) ≡ true → has (is_enlisted e.value) h ≡ false
-enlisted_once e c h r = not_true (has (is_enlisted e.value) h) (and_third (not (has is_decision h)) (not (has is_sealed h)) (not (has (is_enlisted e.value) h)) (is_volatile c) r)
+enlisted_once e c h r = not_true (has (is_enlisted e.value) h) (third_of_four (not (has is_decision h)) (not (has is_sealed h)) (not (has (is_enlisted e.value) h)) (is_volatile c) r)
 
 -- what is asked was enlisted
 pub asked_enlisted : (e : EnlNo) (h : List Entry) → rule h (Asked e Prepare) ≡ true → has (is_enlisted e.value) h ≡ true
-asked_enlisted e h r = and_third (not (has is_decision h)) (has is_commit h) (has (is_enlisted e.value) h) (not (has (is_asked e.value) h)) r
+asked_enlisted e h r = third_of_four (not (has is_decision h)) (has is_commit h) (has (is_enlisted e.value) h) (not (has (is_asked e.value) h)) r
 
 -- what votes was enlisted
 pub voted_enlisted : (e : EnlNo) (v : Vote) (h : List Entry) → rule h (Voted e v) ≡ true → has (is_enlisted e.value) h ≡ true
-voted_enlisted e v h r = and_second (not (has is_decision h)) (has (is_enlisted e.value) h) (has (is_asked e.value) h) (not (has (is_vote e.value) h)) r
+voted_enlisted e v h r = second_of_four (not (has is_decision h)) (has (is_enlisted e.value) h) (has (is_asked e.value) h) (not (has (is_vote e.value) h)) r
 
 -- what votes hadn't
 pub voted_once : (e : EnlNo) (v : Vote) (h : List Entry) → rule h (Voted e v) ≡ true → has (is_vote e.value) h ≡ false
 voted_once e v h r =
-    not_true (has (is_vote e.value) h) (and_fourth (not (has is_decision h)) (has (is_enlisted e.value) h) (has (is_asked e.value) h) (not (has (is_vote e.value) h)) r)
+    not_true (has (is_vote e.value) h) (fourth_of_four (not (has is_decision h)) (has (is_enlisted e.value) h) (has (is_asked e.value) h) (not (has (is_vote e.value) h)) r)
 
 -- what wasn't enlisted wasn't asked
 unenlisted_unasked : (n : ℕ) (h : List Entry) → ruled h ≡ true → has (is_enlisted n) h ≡ false → has (is_asked n) h ≡ false

@@ -2,7 +2,7 @@
 use Rattle.std.proofs.Common.{◌≡◌, ℕ, ◌==◌, Bool, true, false, ◌&&◌, ◌||◌, refl, arith}
 use Rattle.std.proofs.lemmas.Bool.{eqb-true}
 use Rattle.std.proofs.lemmas.Bool.Decides.{nat_tests}
-use Rattle.dtx_model.proofs.Bools.{and_left, and_both, or_right, three_hold}
+use Rattle.dtx_model.proofs.Bools.{and_left, and_right, and_both, or_right, three_hold}
 
 -- a number is itself
 pub eq_self : (n : ℕ) → (n == n) ≡ true
@@ -20,26 +20,6 @@ apart p a b h k = step (a == b) refl
     step true e = let same : a ≡ b = eqb-true a b e in absurd cc
     step false e = refl
 
--- where four hold, the second holds
-pub and_second : (a b c d : Bool) → (a && b && c && d) ≡ true → b ≡ true
-and_second true true c d h = refl
-and_second true false c d h = absurd cc
-and_second false b c d h = absurd cc
-
--- where four hold, the third holds
-pub and_third : (a b c d : Bool) → (a && b && c && d) ≡ true → c ≡ true
-and_third true true true d h = refl
-and_third true true false d h = absurd cc
-and_third true false c d h = absurd cc
-and_third false b c d h = absurd cc
-
--- where four hold, the fourth holds
-pub and_fourth : (a b c d : Bool) → (a && b && c && d) ≡ true → d ≡ true
-and_fourth true true true d h = h
-and_fourth true true false d h = absurd cc
-and_fourth true false c d h = absurd cc
-and_fourth false b c d h = absurd cc
-
 -- where all of three hold, the first does
 pub first_of_three : (a b c : Bool) → (a && b && c) ≡ true → a ≡ true
 first_of_three a b c k = and_left a b (and_left (a && b) c k)
@@ -47,6 +27,18 @@ first_of_three a b c k = and_left a b (and_left (a && b) c k)
 -- where all of four hold, the first does
 pub first_of_four : (a b c d : Bool) → (a && b && c && d) ≡ true → a ≡ true
 first_of_four a b c d k = first_of_three a b c (and_left (a && b && c) d k)
+
+-- where all of four hold, the second does
+pub second_of_four : (a b c d : Bool) → (a && b && c && d) ≡ true → b ≡ true
+second_of_four a b c d k = and_right a b (and_left (a && b) c (and_left (a && b && c) d k))
+
+-- where all of four hold, the third does
+pub third_of_four : (a b c d : Bool) → (a && b && c && d) ≡ true → c ≡ true
+third_of_four a b c d k = and_right (a && b) c (and_left (a && b && c) d k)
+
+-- where all of four hold, the fourth does
+pub fourth_of_four : (a b c d : Bool) → (a && b && c && d) ≡ true → d ≡ true
+fourth_of_four a b c d k = and_right (a && b && c) d k
 
 -- where each of four holds, all hold
 pub four_hold : (a b c d : Bool) → a ≡ true → b ≡ true → c ≡ true → d ≡ true → (a && b && c && d) ≡ true
