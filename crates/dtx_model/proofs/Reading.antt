@@ -32,7 +32,8 @@ and_turn true false c = refl
 and_turn false true c = refl
 and_turn false false c = refl
 
-has-onto : {E : Type 0} (p : E → Bool) (h xs : List E) → has p (onto h xs) ≡ (has p xs || has p h)
+-- one passes with a block behind: one passes in the block or in the history
+pub has-onto : {E : Type 0} (p : E → Bool) (h xs : List E) → has p (onto h xs) ≡ (has p xs || has p h)
 has-onto p h [] = refl
 has-onto p h (x ∷ xs) = has-onto p (x ∷ h) xs ∙ or_turn (p x) (has p xs) (has p h)
 

@@ -1,14 +1,14 @@
--- What a history shows of one enlistment and of one clone, entry by entry, beside the rows of the tables.
-use Rattle.std.specs.Prelude.{ℕ, ◌≡◌, ◌==◌, Bool, List, [], ◌∷◌, Option, Some, None, if◌then◌else◌}
+-- What a history shows of one enlistment and of one clone, entry by entry, beside the rows of the tables; and of the timeout.
+use Rattle.std.specs.Prelude.{ℕ, ◌≡◌, ◌==◌, nat_le, Bool, true, false, ◌&&◌, not, List, [], ◌∷◌, Option, Some, None, if◌then◌else◌}
 use Rattle.dtx_values.specs.declared.number.EnlNo.{EnlNo}
 use Rattle.dtx_values.specs.declared.entry.Ask.TheVariants.{Prepare}
 use Rattle.dtx_values.specs.declared.entry.Entry.{Entry}
-use Rattle.dtx_values.specs.declared.entry.Entry.TheVariants.{Asked, Enlisted, Voted}
+use Rattle.dtx_values.specs.declared.entry.Entry.TheVariants.{Asked, Clock, Enlisted, Late, TimedOut, Voted}
 use Rattle.dtx_values.specs.declared.row.CloneRow.{CloneRow}
 use Rattle.dtx_values.specs.declared.words.Vote.{Vote}
 use Rattle.dtx_values.specs.Table.{Enlistment, is_marked, voted_before}
 use Rattle.dtx_model.specs.Words.{has, each, latest, all_of}
-use Rattle.dtx_model.specs.Entries.{is_asked, is_vote, is_completed}
+use Rattle.dtx_model.specs.Entries.{began_of, is_asked, is_vote, is_completed}
 use Rattle.dtx_model.specs.Observed.{rows}
 
 abbrev pub asked_of : Entry → Option EnlNo
@@ -39,3 +39,24 @@ pub record IsSeen (h : List Entry) (x : Enlistment) : Type 0 where
 -- the row says whether its clone was completed
 abbrev pub IsCloneSeen : List Entry → CloneRow → Type 0
 IsCloneSeen h r = r.complete ≡ has (is_completed r.clone.value) h
+
+-- a tick brought the clock to n or past it
+abbrev pub is_clock_from : ℕ → Entry → Bool
+is_clock_from n (Clock m) = nat_le n m
+is_clock_from n _ = false
+
+-- a clock at n reaches this timeout, and no tick before it did
+abbrev pub is_first_over : Option ℕ → ℕ → List Entry → Bool
+is_first_over (Some d) n past = nat_le d n && not (has (is_clock_from d) past)
+is_first_over None n past = false
+
+-- the newest entry is the first clock that reaches the timeout
+abbrev pub is_behind_first : List Entry → Bool
+is_behind_first (Clock n ∷ past) = is_first_over (latest began_of past) n past
+is_behind_first _ = false
+
+-- where the entry is of a timeout, it stands directly behind the first clock that reached it
+abbrev pub is_timely : List Entry → Entry → Bool
+is_timely h TimedOut = is_behind_first h
+is_timely h Late = is_behind_first h
+is_timely h _ = true

@@ -1,5 +1,5 @@
 -- The block of each reply that is due and of each local act keeps the rules.
-use Rattle.std.proofs.Common.{◌≡◌, ℕ, zero, suc, ◌==◌, Bool, true, false, ◌&&◌, ◌||◌, List, [], ◌∷◌, Option, Some, None, refl, ◌∙◌, ap, sym}
+use Rattle.std.proofs.Common.{◌≡◌, ℕ, ◌==◌, Bool, true, false, ◌&&◌, ◌||◌, List, [], ◌∷◌, Option, Some, None, refl, ◌∙◌, ap, sym}
 use Rattle.std.specs.Prelude.{is_some, find, not, if◌then◌else◌}
 use Rattle.std.specs.List.{filter_map}
 use Rattle.dtx_values.specs.declared.number.EnlNo.{EnlNo}
@@ -22,16 +22,17 @@ use Rattle.dtx_model.specs.Entries.{same_outcome, is_commit, is_sealed, is_volat
 use Rattle.dtx_model.specs.Observed.{observe, rows, clone_rows, listeners}
 use Rattle.dtx_model.specs.Outcome.{enlisted, is_complete, evidence, may_tell}
 use Rattle.dtx_model.specs.Waves.{is_class, may_be_asked, name_of, next_ask, zeros_voted, is_over}
-use Rattle.dtx_model.specs.Steps.{Step, Replies, reply_entries, is_to_tell, tell, before_seal, all_voted, behind_seal, undecided_act, act_by, act_entries, planned_vote, vote_step, due_reply, due_replies, act_if, pending}
+use Rattle.dtx_model.specs.Steps.{Step, Replies, reply_entries, planned_vote, vote_step, due_reply, due_replies, pending}
+use Rattle.dtx_model.specs.Steps.{is_to_tell, tell, before_seal, all_voted, behind_seal, undecided_act, act_by, act_entries, act_if}
 use Rattle.dtx_model.proofs.Bools.{and_left, and_right, and_both, or_right, not_true, not_false, three_hold}
-use Rattle.outcome_law.proofs.Scans.{each_more, each_both, each-append, each-at}
-use Rattle.outcome_law.proofs.Pending.{passes}
-use Rattle.outcome_law.proofs.Picks.{each_from_at, each_picked, found_well, none_each}
+use Rattle.outcome_law.proofs.Tests.{four_hold}
+use Rattle.outcome_law.proofs.Scans.{each_more, each_both, each-append, each-kth}
+use Rattle.outcome_law.proofs.Picks.{passes, each_from_at, each_picked, found_well, none_each}
 use Rattle.outcome_law.proofs.Rule.{is_enlisted, all_complete, zeros_cast, is_decided, is_certain, rule, ruled}
 use Rattle.outcome_law.proofs.TableRows.{rows_enlisted, row_marked, row_voted, zeros_seen, all_voted_seen, open_blocks}
 use Rattle.outcome_law.proofs.Evidence.{well_cast, each_volatile, evidence-sealed}
 use Rattle.outcome_law.proofs.Rules.{may_certain, decided_may, undecided}
-use Rattle.outcome_law.proofs.Going.{is_no_vote, going_willing, going_closed, IsKept, keep, and_four, yes_keeps, done_keeps, no_keeps}
+use Rattle.outcome_law.proofs.Going.{is_no_vote, going_willing, going_closed, IsKept, keep, yes_keeps, done_keeps, no_keeps}
 
 -- a reply is a vote that may come here
 abbrev pub may_reply : List Entry → Step → Bool
@@ -41,7 +42,7 @@ may_reply h _ = true
 
 -- who was asked and hasn't voted may vote
 due_rule : (m v d s a w : Bool) → d ≡ false → s ≡ true → m ≡ a → v ≡ w → (m && not v) ≡ true → (not d && s && a && not w) ≡ true
-due_rule m v d s a w p q e f k = and_four (not d) s a (not w) (not_false d p) q (sym e ∙ and_left m (not v) k) (ap (λ b. not b) (sym f) ∙ and_right m (not v) k)
+due_rule m v d s a w p q e f k = four_hold (not d) s a (not w) (not_false d p) q (sym e ∙ and_left m (not v) k) (ap (λ b. not b) (sym f) ∙ and_right m (not v) k)
 
 -- a vote that is due where a test holds may come where it may under that test
 vote_well : (h : List Entry) (b : Bool) (e : EnlNo) (o : Option Vote) → (b ≡ true → rule h (Voted e Yes) ≡ true) → passes (may_reply h) (vote_step b e o) ≡ true
@@ -76,11 +77,6 @@ pending_well s h r =
     (each_unless (may_reply h) (latest decision_of h) (filter_map (due_reply s) (rows h)) (λ e. due_well s h r (undecided h e)))
     (acts_well h (act_entries (observe h)))
 
--- where each passes, the k-th passes
-each_kth : {A : Type 0} (p : A → Bool) (xs : List A) (k : ℕ) (x : A) → each p xs ≡ true → kth xs k ≡ Some x → p x ≡ true
-each_kth p xs zero x h e = absurd cc
-each_kth p xs (suc k) x h e = each-at p xs k x h e
-
 -- the entries of a vote that may come keep it
 vote_keeps : (h : List Entry) (e : EnlNo) (y : Reply) → IsKept h → may_reply h (Replies e y) ≡ true → IsKept (onto h (reply_entries e y))
 vote_keeps h e (VoteReply Yes) k q = yes_keeps h e k q
@@ -90,7 +86,7 @@ vote_keeps h e _ k q = absurd cc
 
 -- the entries of a reply that is pending keep it
 pub reply_keeps : (s : List Line) (h : List Entry) (e : EnlNo) (y : Reply) (k : ℕ) → IsKept h → kth (pending s (observe h)) k ≡ Some (Replies e y) → IsKept (onto h (reply_entries e y))
-reply_keeps s h e y k i p = vote_keeps h e y i (each_kth (may_reply h) (pending s (observe h)) k (Replies e y) (pending_well s h i.rules) p)
+reply_keeps s h e y k i p = vote_keeps h e y i (each-kth (may_reply h) (pending s (observe h)) k (Replies e y) (pending_well s h i.rules) p)
 
 -- an outcome is itself
 same_self : (x : Outcome) → same_outcome x x ≡ true
@@ -112,7 +108,7 @@ tell_keeps h x None None k q = keep (Told Client x) h k q (λ g. g)
 -- who may be asked and wasn't
 ask_step : (c m w d t s a : Bool) → d ≡ false → t ≡ true → s ≡ true → m ≡ a → (not (c && not m && w) || (not d && t && s && not a)) ≡ true
 ask_step true true w d t s a p q u e = refl
-ask_step true false w d t s a p q u e = or_right (not w) (not d && t && s && not a) (and_four (not d) t s (not a) (not_false d p) q u (ap (λ b. not b) (sym e)))
+ask_step true false w d t s a p q u e = or_right (not w) (not d && t && s && not a) (four_hold (not d) t s (not a) (not_false d p) q u (ap (λ b. not b) (sym e)))
 ask_step false m w d t s a p q u e = refl
 
 -- the name of what passes passes
@@ -121,7 +117,8 @@ name_well h (Some x) q = q
 name_well h None q = refl
 
 -- the next that is asked may be asked
-next_well : (h : List Entry) (first : Bool) → ruled h ≡ true → has is_decision h ≡ false → has is_commit h ≡ true → passes (λ e. rule h (Asked e Prepare)) (next_ask (rows h) first) ≡ true
+next_well : (h : List Entry) (first : Bool) → ruled h ≡ true → has is_decision h ≡ false → has is_commit h ≡ true
+    → passes (λ e. rule h (Asked e Prepare)) (next_ask (rows h) first) ≡ true
 unfolding next_ask
 next_well h first r d c =
     name_well h (find (may_be_asked (rows h) first) (rows h))
@@ -166,7 +163,7 @@ may_seal h k d c o =
     each_both (λ c. not (blocks c.1) || is_complete h c) (λ c. blocks c.1 || is_complete h c) (λ c. is_complete h c) (λ c. close_step (blocks c.1) (is_complete h c)) (all_of clone_of h)
     (none_each (λ c. blocks c.1 && not (is_complete h c)) (λ c. not (blocks c.1) || is_complete h c) (λ c. shut_step (blocks c.1) (is_complete h c)) (all_of clone_of h) shut)
     (going_closed h d c k.going) in
-    and_four (not (has is_decision h)) (has is_commit h) (all_complete h) (zeros_cast h) (not_false (has is_decision h) d) c complete zeros
+    four_hold (not (has is_decision h)) (has is_commit h) (all_complete h) (zeros_cast h) (not_false (has is_decision h) d) c complete zeros
 
 -- one step of `voted_good`
 good_step : (b v g : Bool) → (v ≡ true → g ≡ true) → (b || v) ≡ true → ((b && true) || g) ≡ true
@@ -201,8 +198,8 @@ may_commit h k d s a =
     three_hold (not (has is_decision h)) true (evidence h) (not_false (has is_decision h) d) refl (evidence-sealed h k.rules ∙ and_both (has is_sealed h) (well_cast h) s good)
 
 -- the local act while nothing is decided keeps it
-undecided_keeps : (h : List Entry) (commit sealed : Bool) (xs ys : List Entry) → IsKept h → (commit ≡ true → sealed ≡ false → IsKept (onto h xs)) → (commit ≡ true → sealed ≡ true → IsKept (onto h ys))
-    → IsKept (onto h (undecided_act commit sealed xs ys))
+undecided_keeps : (h : List Entry) (commit sealed : Bool) (xs ys : List Entry) → IsKept h → (commit ≡ true → sealed ≡ false → IsKept (onto h xs))
+    → (commit ≡ true → sealed ≡ true → IsKept (onto h ys)) → IsKept (onto h (undecided_act commit sealed xs ys))
 undecided_keeps h false sealed xs ys k f g = k
 undecided_keeps h true false xs ys k f g = f refl refl
 undecided_keeps h true true xs ys k f g = g refl refl

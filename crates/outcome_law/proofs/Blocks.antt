@@ -26,10 +26,6 @@ ran_kept : (s : List Line) (t : ℕ) (steps : List Step) (h : List Entry) → ar
 ran_kept s t [] h named r = subst IsKept (sym r) (record { rules = refl; going = refl })
 ran_kept s t (m ∷ ms) h named r = subst IsKept (sym r.3) (step_keeps s t r.0 m named (ms, r.1) r.2 (ran_kept s t ms r.0 named r.1))
 
--- what holds at the end of each block holds of a history that a script causes
-pub caused_kept : (s : List Line) (t : ℕ) (h : List Entry) → are_named_well s ≡ true → Caused s t h → IsKept h
-caused_kept s t h named r = ran_kept s t r.0 h named r.1
-
 -- a history that a script causes keeps the rules
 pub caused_ruled : (s : List Line) (t : ℕ) (h : List Entry) → are_named_well s ≡ true → Caused s t h → ruled h ≡ true
-caused_ruled s t h named r = (caused_kept s t h named r).rules
+caused_ruled s t h named r = (ran_kept s t r.0 h named r.1).rules

@@ -16,12 +16,13 @@ use Rattle.dtx_model.specs.Words.{has, latest, onto}
 use Rattle.dtx_model.specs.Entries.{is_commit, is_sealed, is_volatile, is_good_vote, decision_of, is_decision, began_of}
 use Rattle.dtx_model.specs.Observed.{observe, rows, clone_rows, clock}
 use Rattle.dtx_model.specs.Outcome.{enlisted, ready, by_seal, by_owner, by_log, evidence, is_veto}
-use Rattle.dtx_model.specs.Steps.{limit_of, class_of, behind_begin, behind_end, volatile_answer, clone_answer, complete_answer, unless_late, answer, is_fine, veto_if, ticked, reaches, is_evident, is_late, time_up, facts, facts_if}
+use Rattle.dtx_model.specs.Steps.{limit_of, class_of, behind_begin, behind_end, volatile_answer, clone_answer, complete_answer, unless_late, answer, is_fine}
+use Rattle.dtx_model.specs.Steps.{veto_if, ticked, reaches, is_evident, is_late, time_up, facts, facts_if}
 use Rattle.dtx_model.specs.Caused.{is_new}
 use Rattle.dtx_model.proofs.Bools.{or_first, or_second, not_true}
 use Rattle.outcome_law.proofs.Rule.{ruled}
 use Rattle.outcome_law.proofs.Picks.{each_and}
-use Rattle.outcome_law.proofs.TableRows.{enlisted_in_rows, evident_seen, commit_vetoed, clone_stands}
+use Rattle.outcome_law.proofs.TableRows.{none_there, enlisted_in_rows, evident_seen, commit_vetoed, clone_stands}
 use Rattle.outcome_law.proofs.Evidence.{each_volatile, evidence-sealed}
 use Rattle.outcome_law.proofs.Rules.{undecided}
 use Rattle.outcome_law.proofs.Going.{IsKept, keep, enlisted_keeps, cloned_keeps, completed_keeps, rollback_keeps, timeout_keeps, refused_keeps, commit_keeps}
@@ -67,11 +68,6 @@ asked_commit : (h : List Entry) (b : Bool) → IsKept h → has is_decision h �
 asked_commit h true k d c v = refused_keeps h k d c v
 asked_commit h false k d c v = commit_keeps h k d c v
 
--- nothing is some: it is none
-unsome : (d : Option Outcome) → is_some d ≡ false → d ≡ None
-unsome (Some x) k = absurd cc
-unsome None k = refl
-
 -- the clock that reaches the timeout, or doesn't, keeps it
 time_keeps : (h : List Entry) (reached late : Bool) → IsKept h → (late ≡ false → (has is_decision h ≡ false) × (evidence h ≡ false))
     → IsKept (onto h (if reached then time_up late else []))
@@ -83,7 +79,7 @@ time_keeps h true false k f = let w = f refl in timeout_keeps h k w.0 w.1
 not_late : (h : List Entry) → ruled h ≡ true → is_late (observe h) ≡ false → (has is_decision h ≡ false) × (evidence h ≡ false)
 unfolding observe
 not_late h r l = (
-  undecided h (unsome (latest decision_of h) (or_first (is_some (latest decision_of h)) (is_evident (has is_sealed h) (rows h)) l)),
+  undecided h (none_there (latest decision_of h) (or_first (is_some (latest decision_of h)) (is_evident (has is_sealed h) (rows h)) l)),
   sym (evidence_seen h r) ∙ or_second (is_some (latest decision_of h)) (is_evident (has is_sealed h) (rows h)) l,
 )
 

@@ -8,7 +8,8 @@ use Rattle.dtx_values.specs.declared.words.Class.{Class}
 use Rattle.dtx_model.specs.Words.{has, each, all_of}
 use Rattle.dtx_model.specs.Entries.{is_commit, is_sealed, is_promoted, is_record, is_yes, is_any_hand, is_volatile, clone_of, is_good_vote, is_decision}
 use Rattle.dtx_model.specs.Outcome.{enlisted, durables, voters, is_complete, ready, is_empty, by_seal, owner_committed, by_owner, by_log, evidence}
-use Rattle.dtx_model.proofs.Bools.{and_left, and_right, and_both, or_false, or_right, not_both}
+use Rattle.dtx_model.proofs.Bools.{and_left, and_right, and_both, or_false, or_right, not_both, not_true, and_never}
+use Rattle.outcome_law.proofs.Tests.{second_of_four, third_of_four}
 use Rattle.outcome_law.proofs.Scans.{each_more}
 use Rattle.outcome_law.proofs.Rule.{is_enlisted, is_cloned, all_complete, zeros_cast, rule, ruled, first_rule, other_rules}
 
@@ -37,7 +38,7 @@ not_hand h (Handed e) r = absurd cc
 not_hand h _ r = refl
 
 -- nothing is promoted
-pub none_promoted : (h : List Entry) → ruled h ≡ true → has is_promoted h ≡ false
+none_promoted : (h : List Entry) → ruled h ≡ true → has is_promoted h ≡ false
 none_promoted = none_ruled is_promoted not_promoted
 
 -- the local side said no yes
@@ -80,21 +81,8 @@ pub record IsClosed (h : List Entry) : Type 0 where
   pub commit : has is_commit h ≡ true
   pub complete : all_complete h ≡ true
 
--- the rule of the seal
-seal_rule : (d c a z : Bool) → (not d && c && a && z) ≡ true → (c ≡ true) × (a ≡ true)
-seal_rule false true true z k = (refl, refl)
-seal_rule false true false z k = absurd cc
-seal_rule false false a z k = absurd cc
-seal_rule true c a z k = absurd cc
-
--- no clone comes behind commit
-clone_rule : (d c n : Bool) → (not d && not c && n) ≡ true → c ≡ false
-clone_rule false false n k = refl
-clone_rule false true n k = absurd cc
-clone_rule true c n k = absurd cc
-
 -- what is complete stays complete with one more
-pub complete_more : (c : Entry) (h : List Entry) → all_of clone_of (c ∷ h) ≡ all_of clone_of h → all_complete h ≡ true → all_complete (c ∷ h) ≡ true
+complete_more : (c : Entry) (h : List Entry) → all_of clone_of (c ∷ h) ≡ all_of clone_of h → all_complete h ≡ true → all_complete (c ∷ h) ≡ true
 complete_more x h e k =
     ap (λ cs. each (λ c. is_complete (x ∷ h) c) cs) e
     ∙ each_more (λ c. is_complete h c) (λ c. is_complete (x ∷ h) c) (λ c k. or_right _ (is_complete h c) k) (all_of clone_of h) k
@@ -103,11 +91,16 @@ complete_more x h e k =
 pub sealed_closed : (h : List Entry) → ruled h ≡ true → has is_sealed h ≡ true → IsClosed h
 sealed_closed [] r k = absurd cc
 sealed_closed (Sealed ∷ h) r k =
-    let w = seal_rule (has is_decision h) (has is_commit h) (all_complete h) (zeros_cast h) (first_rule Sealed h r) in record { commit = w.0; complete = w.1 }
+    let rule = first_rule Sealed h r in
+    record {
+      commit = second_of_four (not (has is_decision h)) (has is_commit h) (all_complete h) (zeros_cast h) rule;
+      complete = third_of_four (not (has is_decision h)) (has is_commit h) (all_complete h) (zeros_cast h) rule;
+    }
 sealed_closed (CommitAsked ∷ h) r k = let w = sealed_closed h (other_rules CommitAsked h r) k in record { commit = refl; complete = w.complete }
 sealed_closed (Cloned c d ∷ h) r k =
     let w = sealed_closed h (other_rules (Cloned c d) h r) k in
-    absurd (not_both (has is_commit h) w.commit (clone_rule (has is_decision h) (has is_commit h) (not (has (is_cloned c.value) h)) (first_rule (Cloned c d) h r)))
+    let rule = and_left (not (has is_decision h) && not (has is_commit h)) (not (has (is_cloned c.value) h)) (first_rule (Cloned c d) h r) in
+    absurd (not_both (has is_commit h) w.commit (not_true (has is_commit h) (and_right (not (has is_decision h)) (not (has is_commit h)) rule)))
 sealed_closed (Completed c ∷ h) r k =
     let w = sealed_closed h (other_rules (Completed c) h r) k in record { commit = w.commit; complete = complete_more (Completed c) h refl w.complete }
 sealed_closed (x ∷ h) r k = let w = sealed_closed h (other_rules x h r) k in record { commit = w.commit; complete = w.complete }
@@ -127,10 +120,6 @@ seal_step true true true false f g = refl
 seal_step true true false w f g = let k = g refl in absurd cc
 seal_step true false a w f g = let k = f refl in absurd cc
 seal_step false c a w f g = and_never (c && a && w)
-  where
-    and_never : (a : Bool) → (a && false) ≡ false
-    and_never true = refl
-    and_never false = refl
 
 -- evidence stands where it is sealed and each voted well
 pub evidence-sealed : (h : List Entry) → ruled h ≡ true → evidence h ≡ (has is_sealed h && well_cast h)

@@ -1,4 +1,4 @@
--- Histories, good and bad, that show what the definitions of evidence, vetoes and agreement say. Each stands oldest first.
+-- Histories, good and bad, that show what the definitions of evidence, vetoes, agreement and timeouts say. Each stands oldest first.
 use Rattle.std.proofs.Common.{◌≡◌, Bool, true, false, List, [], ◌∷◌, ◌++◌, refl, lit≤}
 use Rattle.dtx_values.specs.declared.number.ActorNo.{ActorNo}
 use Rattle.dtx_values.specs.declared.number.CloneNo.{CloneNo}
@@ -6,14 +6,16 @@ use Rattle.dtx_values.specs.declared.number.EnlNo.{EnlNo}
 use Rattle.dtx_values.specs.declared.entry.Answer.TheVariants.{Fine}
 use Rattle.dtx_values.specs.declared.entry.Ask.TheVariants.{Prepare}
 use Rattle.dtx_values.specs.declared.entry.Entry.{Entry}
-use Rattle.dtx_values.specs.declared.entry.Entry.TheVariants.{Called, Began, Cloned, Completed, Enlisted, CommitAsked, RollbackAsked, TimedOut, Asked, Voted, Sealed, Handed, OwnerAnswered, Decided, Told, Promoted, Lost, Logged}
+use Rattle.dtx_values.specs.declared.entry.Entry.TheVariants.{Called, Began, Cloned, Completed, Enlisted, CommitAsked, RollbackAsked, Clock, TimedOut, Late}
+use Rattle.dtx_values.specs.declared.entry.Entry.TheVariants.{Asked, Voted, Sealed, Handed, OwnerAnswered, Decided, Told, Promoted, Lost, Logged}
 use Rattle.dtx_values.specs.declared.entry.Party.TheVariants.{Client, Enl}
 use Rattle.dtx_values.specs.declared.words.Cause.TheVariants.{Two}
 use Rattle.dtx_values.specs.declared.words.Class.TheVariants.{Zero, One, DurableSingle, DurableTwo}
 use Rattle.dtx_values.specs.declared.words.CloneKind.TheVariants.{Block, Rollback}
 use Rattle.dtx_values.specs.declared.words.Outcome.TheVariants.{Committed, Aborted, InDoubt}
 use Rattle.dtx_values.specs.declared.words.Vote.TheVariants.{Yes, No, Done}
-use Rattle.dtx_model.specs.Words.{past_of}
+use Rattle.dtx_model.specs.Words.{always, past_of}
+use Rattle.dtx_model.specs.Seen.{is_timely}
 use Rattle.dtx_model.specs.Outcome.{ready, by_seal, by_owner, by_log, evidence, vetoed, owner_doubt, coordinator_doubt, doubt, may_tell, justified, agree}
 
 -- the names of the examples
@@ -227,8 +229,12 @@ pub rollback_told : just_in (Began 600000 ∷ Enlisted e1 One ∷ RollbackAsked 
 unfolding justified may_tell evidence ready by_seal by_owner by_log vetoed
 rollback_told = refl
 
+-- one voted yes and another no
+abbrev pub one_no_e2 : List Entry
+one_no_e2 = CommitAsked ∷ Sealed ∷ Asked e1 Prepare ∷ Voted e1 Yes ∷ Asked e2 Prepare ∷ Voted e2 No ∷ Decided Aborted ∷ []
+
 -- a vote no aborts, though another voted yes
-pub one_no_aborts : just_in (Began 600000 ∷ Enlisted e1 One ∷ Enlisted e2 One ∷ CommitAsked ∷ Sealed ∷ Asked e1 Prepare ∷ Voted e1 Yes ∷ Asked e2 Prepare ∷ Voted e2 No ∷ Decided Aborted ∷ []) ≡ true
+pub one_no_aborts : just_in (Began 600000 ∷ Enlisted e1 One ∷ Enlisted e2 One ∷ one_no_e2) ≡ true
 unfolding justified may_tell evidence ready by_seal by_owner by_log vetoed
 one_no_aborts = refl
 
@@ -236,3 +242,31 @@ one_no_aborts = refl
 pub decided_apart : agree_in (Began 600000 ∷ CommitAsked ∷ Sealed ∷ Decided Committed ∷ Told Client Aborted ∷ []) ≡ false
 unfolding agree
 decided_apart = refl
+
+-- the timeouts in this history, oldest first, come where they may
+abbrev pub timely_in : List Entry → Bool
+timely_in xs = always is_timely (past_of xs)
+
+-- a timeout at the first tick that reaches it
+pub first_tick_is_timely : timely_in (Began 10 ∷ Clock 4 ∷ Clock 12 ∷ TimedOut ∷ Decided Aborted ∷ Clock 30 ∷ []) ≡ true
+first_tick_is_timely = refl
+
+-- one before it is reached
+pub early_is_untimely : timely_in (Began 10 ∷ Clock 4 ∷ TimedOut ∷ []) ≡ false
+early_is_untimely = refl
+
+-- one at a later tick
+pub later_is_untimely : timely_in (Began 10 ∷ Clock 12 ∷ Clock 30 ∷ Late ∷ []) ≡ false
+later_is_untimely = refl
+
+-- a second one
+pub second_is_untimely : timely_in (Began 10 ∷ Clock 12 ∷ TimedOut ∷ Clock 30 ∷ TimedOut ∷ []) ≡ false
+second_is_untimely = refl
+
+-- two behind one tick
+pub doubled_is_untimely : timely_in (Began 10 ∷ Clock 12 ∷ TimedOut ∷ Late ∷ []) ≡ false
+doubled_is_untimely = refl
+
+-- one of what wasn't begun
+pub unbegun_is_untimely : timely_in (Clock 12 ∷ TimedOut ∷ []) ≡ false
+unbegun_is_untimely = refl

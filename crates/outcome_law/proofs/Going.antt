@@ -15,7 +15,8 @@ use Rattle.dtx_values.specs.Clones.{blocks}
 use Rattle.dtx_model.specs.Words.{has, each, all_of}
 use Rattle.dtx_model.specs.Entries.{is_commit, is_sealed, is_yes, is_any_hand, is_volatile, clone_of, is_good_vote, is_decision}
 use Rattle.dtx_model.specs.Outcome.{enlisted, is_complete, ready, by_seal, by_owner, by_log, evidence, is_rollback, is_veto, vetoed, may_tell}
-use Rattle.dtx_model.proofs.Bools.{and_left, and_right, and_both, or_false, or_right, not_true, not_false, not_both, three_hold, and_never}
+use Rattle.dtx_model.proofs.Bools.{and_left, and_right, and_both, or_false, not_true, not_false, not_both, three_hold, and_never}
+use Rattle.outcome_law.proofs.Tests.{four_hold, or_between, refuted}
 use Rattle.outcome_law.proofs.Scans.{each_more}
 use Rattle.outcome_law.proofs.Picks.{none_each}
 use Rattle.outcome_law.proofs.Rule.{is_enlisted, is_cloned, rule, ruled}
@@ -77,30 +78,22 @@ commit_step true n c x e g = refl
 commit_step false true c x e g = g
 commit_step false false c x e g = e
 
--- where each of four holds, all hold
-pub and_four : (a b c d : Bool) → a ≡ true → b ≡ true → c ≡ true → d ≡ true → (a && b && c && d) ≡ true
-and_four a b c d p q r s = and_both (a && b && c) d (three_hold a b c p q r) s
-
 -- one more enlistment keeps it
-pub enlisted_keeps : (h : List Entry) (e : EnlNo) (c : Class) → IsKept h → has is_decision h ≡ false → has is_sealed h ≡ false → has (is_enlisted e.value) h ≡ false → is_volatile c ≡ true
-    → IsKept (Enlisted e c ∷ h)
+pub enlisted_keeps : (h : List Entry) (e : EnlNo) (c : Class) → IsKept h → has is_decision h ≡ false → has is_sealed h ≡ false
+    → has (is_enlisted e.value) h ≡ false → is_volatile c ≡ true → IsKept (Enlisted e c ∷ h)
 enlisted_keeps h e c k d s n v =
     keep (Enlisted e c) h k
-    (and_four (not (has is_decision h)) (not (has is_sealed h)) (not (has (is_enlisted e.value) h)) (is_volatile c)
+    (four_hold (not (has is_decision h)) (not (has is_sealed h)) (not (has (is_enlisted e.value) h)) (is_volatile c)
     (not_false (has is_decision h) d) (not_false (has is_sealed h) s) (not_false (has (is_enlisted e.value) h) n) v) (λ g. g)
 
 -- one more clone keeps it
-pub cloned_keeps : (h : List Entry) (c : CloneNo) (d : CloneKind) → IsKept h → has is_decision h ≡ false → has is_commit h ≡ false → has (is_cloned c.value) h ≡ false → IsKept (Cloned c d ∷ h)
+pub cloned_keeps : (h : List Entry) (c : CloneNo) (d : CloneKind) → IsKept h → has is_decision h ≡ false → has is_commit h ≡ false
+    → has (is_cloned c.value) h ≡ false → IsKept (Cloned c d ∷ h)
 cloned_keeps h c d k u m n =
     keep (Cloned c d) h k
     (three_hold (not (has is_decision h)) (not (has is_commit h)) (not (has (is_cloned c.value) h))
     (not_false (has is_decision h) u) (not_false (has is_commit h) m) (not_false (has (is_cloned c.value) h) n))
     (going_step (has is_decision h) (has is_no_vote h) (has is_commit h) (all_closed h) (all_closed (Cloned c d ∷ h)) (λ t. absurd (not_both (has is_commit h) t m)))
-
--- what blocks or is complete does with one more complete
-complete_step : (b x y : Bool) → (b || y) ≡ true → (b || (x || y)) ≡ true
-complete_step true x y k = refl
-complete_step false x y k = or_right x y k
 
 -- one more complete keeps it
 pub completed_keeps : (h : List Entry) (c : CloneNo) → IsKept h → has is_decision h ≡ false → has (is_cloned c.value) h ≡ true → IsKept (Completed c ∷ h)
@@ -108,10 +101,10 @@ completed_keeps h c k u n =
     keep (Completed c) h k (and_both (not (has is_decision h)) (has (is_cloned c.value) h) (not_false (has is_decision h) u) n)
     (going_step (has is_decision h) (has is_no_vote h) (has is_commit h) (all_closed h) (all_closed (Completed c ∷ h))
     (λ t. each_more (λ d. blocks d.1 || is_complete h d) (λ d. blocks d.1 || is_complete (Completed c ∷ h) d)
-    (λ d. complete_step (blocks d.1) (d.0.value == c.value) (is_complete h d)) (all_of clone_of h)))
+    (λ d. or_between (blocks d.1) (d.0.value == c.value) (is_complete h d)) (all_of clone_of h)))
 
 -- an abort behind a veto keeps it
-pub aborted_keeps : (h : List Entry) → ruled h ≡ true → has is_decision h ≡ false → vetoed h ≡ true → evidence h ≡ false → IsKept (Decided Aborted ∷ h)
+aborted_keeps : (h : List Entry) → ruled h ≡ true → has is_decision h ≡ false → vetoed h ≡ true → evidence h ≡ false → IsKept (Decided Aborted ∷ h)
 unfolding may_tell
 aborted_keeps h r d v e =
     record {
@@ -122,13 +115,10 @@ aborted_keeps h r d v e =
     }
 
 -- a veto behind which no evidence stood yet
-pub first_vetoed : (x : Entry) (h : List Entry) → is_veto h x ≡ true → evidence h ≡ false → vetoed (x ∷ h) ≡ true
+first_vetoed : (x : Entry) (h : List Entry) → is_veto h x ≡ true → evidence h ≡ false → vetoed (x ∷ h) ≡ true
 unfolding vetoed
-first_vetoed x h v e = or_left (is_veto h x && not (evidence h)) (vetoed h) (and_both (is_veto h x) (not (evidence h)) v (not_false (evidence h) e))
-  where
-    or_left : (a b : Bool) → a ≡ true → (a || b) ≡ true
-    or_left true b k = refl
-    or_left false b k = absurd cc
+first_vetoed x h v e =
+    let first : (is_veto h x && not (evidence h)) ≡ true = and_both (is_veto h x) (not (evidence h)) v (not_false (evidence h) e) in rw first refl
 
 -- nothing stands against a rollback or a timeout
 free : (h : List Entry) → ruled h ≡ true → (not (has is_yes h) && not (has is_any_hand h)) ≡ true
@@ -145,12 +135,8 @@ unfolding evidence ready by_seal by_owner by_log
 timeout_keeps h k d e = aborted_keeps (TimedOut ∷ h) k.rules d (first_vetoed TimedOut h (free h k.rules) e) e
 
 -- commit was asked only of what isn't sealed
-pub commit_unsealed : (h : List Entry) → ruled h ≡ true → has is_commit h ≡ false → has is_sealed h ≡ false
-commit_unsealed h r c = step (has is_sealed h) (λ s. not_both (has is_commit h) (sealed_closed h r s).commit c)
-  where
-    step : (s : Bool) → (s ≡ true → ⊥) → s ≡ false
-    step true f = absurd (f refl)
-    step false f = refl
+commit_unsealed : (h : List Entry) → ruled h ≡ true → has is_commit h ≡ false → has is_sealed h ≡ false
+commit_unsealed h r c = refuted (has is_sealed h) (λ s. not_both (has is_commit h) (sealed_closed h r s).commit c)
 
 -- the rule of commit
 commit_rule : (h : List Entry) → has is_decision h ≡ false → has is_commit h ≡ false → rule h CommitAsked ≡ true
@@ -198,11 +184,8 @@ enlisted_passes q e (x ∷ h) a s = enlisted_passes q e h a s
 
 -- one that hasn't voted well is left
 unwilling : (h k : List Entry) (e : ℕ) → has (is_enlisted e) h ≡ true → has (is_good_vote e) k ≡ false → each (λ x. has (is_good_vote x.0.value) k) (enlisted h) ≡ false
-unwilling h k e s g = step (each (λ x. has (is_good_vote x.0.value) k) (enlisted h)) (λ w. not_both (has (is_good_vote e) k) (enlisted_passes (λ f. has (is_good_vote f) k) e h w s) g)
-  where
-    step : (w : Bool) → (w ≡ true → ⊥) → w ≡ false
-    step true f = absurd (f refl)
-    step false f = refl
+unwilling h k e s g =
+    refuted (each (λ x. has (is_good_vote x.0.value) k) (enlisted h)) (λ w. not_both (has (is_good_vote e) k) (enlisted_passes (λ f. has (is_good_vote f) k) e h w s) g)
 
 -- where one hasn't voted well there is no evidence
 unwilling_open : (h : List Entry) → ruled h ≡ true → well_cast h ≡ false → evidence h ≡ false

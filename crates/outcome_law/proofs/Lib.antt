@@ -1,3 +1,4 @@
+pub mod Tests
 pub mod Scans
 pub mod Lists
 pub mod Picks
@@ -11,8 +12,9 @@ pub mod Going
 pub mod Calls
 pub mod Acts
 pub mod Blocks
+pub mod Timely
 pub mod Waves
 pub mod Settled
 pub mod Replays
-pub mod ReplayExample
 pub mod Examples
+pub mod ReplayExample

@@ -1,49 +1,11 @@
 -- What holds of each item of a list, and scans of a list with an item more or with its items changed.
-use Rattle.std.proofs.Common.{◌≡◌, ℕ, ◌==◌, zero, suc, Bool, true, false, ◌&&◌, ◌||◌, List, [], ◌∷◌, ◌++◌, Some, refl, map, ◌∙◌, ap, subst, arith}
+use Rattle.std.proofs.Common.{◌≡◌, ℕ, zero, suc, Bool, true, false, ◌&&◌, ◌||◌, List, [], ◌∷◌, ◌++◌, Some, refl, map, ◌∙◌, ap, subst}
 use Rattle.std.specs.Prelude.{nat_lt, if◌then◌else◌}
 use Rattle.std.specs.List.{slice_get}
-use Rattle.std.proofs.lemmas.Bool.{eqb-true}
-use Rattle.std.proofs.lemmas.Bool.Decides.{nat_tests}
+use Rattle.std.proofs.lemmas.List.Folds.{list_all-map}
 use Rattle.dtx_values.specs.Table.{how_many, insert_by}
 use Rattle.dtx_model.specs.Words.{has, each}
 use Rattle.dtx_model.proofs.Bools.{and_swap, or_right, or_swap}
-use Rattle.outcome_law.proofs.Scans.{each-map}
-
--- a number is itself
-pub eq_self : (n : ℕ) → (n == n) ≡ true
-eq_self n = grind (arith, nat_tests)
-
--- which of two equal numbers stands first doesn't matter
-pub eq_swap : (a b : ℕ) → (a == b) ≡ (b == a)
-eq_swap a b = grind (arith, nat_tests)
-
--- where one number passes and another doesn't, they differ
-pub apart : (p : ℕ → Bool) (a b : ℕ) → p a ≡ false → p b ≡ true → (a == b) ≡ false
-apart p a b h k = step (a == b) refl
-  where
-    step : (t : Bool) → (a == b) ≡ t → t ≡ false
-    step true e = let same : a ≡ b = eqb-true a b e in absurd cc
-    step false e = refl
-
--- where four hold, the second holds
-pub and_second : (a b c d : Bool) → (a && b && c && d) ≡ true → b ≡ true
-and_second true true c d h = refl
-and_second true false c d h = absurd cc
-and_second false b c d h = absurd cc
-
--- where four hold, the third holds
-pub and_third : (a b c d : Bool) → (a && b && c && d) ≡ true → c ≡ true
-and_third true true true d h = refl
-and_third true true false d h = absurd cc
-and_third true false c d h = absurd cc
-and_third false b c d h = absurd cc
-
--- where four hold, the fourth holds
-pub and_fourth : (a b c d : Bool) → (a && b && c && d) ≡ true → d ≡ true
-and_fourth true true true d h = h
-and_fourth true true false d h = absurd cc
-and_fourth true false c d h = absurd cc
-and_fourth false b c d h = absurd cc
 
 -- P holds of each item
 abbrev pub OfEach : {A : Type 0} → (A → Type 0) → List A → Type 0
@@ -97,7 +59,7 @@ of-all P all (x ∷ xs) = (all x, of-all P all xs)
 
 -- what f makes of an item passes as the item does: each passes as before
 pub each_kept : {A : Type 0} (p : A → Bool) (f : A → A) → ((x : A) → p (f x) ≡ p x) → (xs : List A) → each p (map f xs) ≡ each p xs
-each_kept p f same xs = each-map p f xs ∙ each_same (λ x. p (f x)) p xs (of-all (λ x. p (f x) ≡ p x) same xs)
+each_kept p f same xs = list_all-map p f xs ∙ each_same (λ x. p (f x)) p xs (of-all (λ x. p (f x) ≡ p x) same xs)
 
 -- what f makes of an item passes as the item does: one passes as before
 pub has_kept : {A : Type 0} (p : A → Bool) (f : A → A) → ((x : A) → p (f x) ≡ p x) → (xs : List A) → has p (map f xs) ≡ has p xs
@@ -114,7 +76,8 @@ pub each-insert : {A : Type 0} (p : A → Bool) (key : A → ℕ) (x : A) (xs : 
 each-insert p key x [] = refl
 each-insert p key x (y ∷ ys) = step p (nat_lt (key y) (key x)) x y ys (insert_by key x ys) (each-insert p key x ys)
   where
-    step : {A : Type 0} (p : A → Bool) (b : Bool) (x y : A) (ys rest : List A) → each p rest ≡ (p x && each p ys) → each p (if b then y ∷ rest else x ∷ y ∷ ys) ≡ (p x && (p y && each p ys))
+    step : {A : Type 0} (p : A → Bool) (b : Bool) (x y : A) (ys rest : List A) → each p rest ≡ (p x && each p ys)
+        → each p (if b then y ∷ rest else x ∷ y ∷ ys) ≡ (p x && (p y && each p ys))
     step p true x y ys rest ih = ap (λ b. p y && b) ih ∙ and_swap (p y) (p x) (each p ys)
     step p false x y ys rest ih = refl
 
@@ -123,7 +86,8 @@ pub has-insert : {A : Type 0} (p : A → Bool) (key : A → ℕ) (x : A) (xs : L
 has-insert p key x [] = refl
 has-insert p key x (y ∷ ys) = step p (nat_lt (key y) (key x)) x y ys (insert_by key x ys) (has-insert p key x ys)
   where
-    step : {A : Type 0} (p : A → Bool) (b : Bool) (x y : A) (ys rest : List A) → has p rest ≡ (p x || has p ys) → has p (if b then y ∷ rest else x ∷ y ∷ ys) ≡ (p x || (p y || has p ys))
+    step : {A : Type 0} (p : A → Bool) (b : Bool) (x y : A) (ys rest : List A) → has p rest ≡ (p x || has p ys)
+        → has p (if b then y ∷ rest else x ∷ y ∷ ys) ≡ (p x || (p y || has p ys))
     step p true x y ys rest ih = ap (λ b. p y || b) ih ∙ or_swap (p y) (p x) (has p ys)
     step p false x y ys rest ih = refl
 

@@ -21,10 +21,11 @@ use Rattle.dtx_model.specs.Observed.{Observed, observe, rows, clone_rows}
 use Rattle.dtx_model.specs.Steps.{Step, Calls, Replies, Acts, call_of, complete_call, transaction_of, answer, is_fine, facts, facts_if, veto_if, reaches, ticked, time_up, is_late, block}
 use Rattle.dtx_model.specs.Caused.{IsCallOf, MayCome, Ran, Caused, is_new}
 use Rattle.dtx_model.specs.Grammar.{Name, OfTransaction, OfEnlistment, OfClone, OfScope, same_name, makes, is_made, is_named_well, are_named_well}
-use Rattle.dtx_model.proofs.Bools.{and_left, and_right, or_false, or_right, or_case, not_true, not_false, not_both}
+use Rattle.dtx_model.proofs.Bools.{and_left, and_right, or_right, or_case, not_true, not_false, not_both}
+use Rattle.dtx_model.proofs.Reading.{has-onto}
 use Rattle.outcome_law.proofs.Rule.{is_enlisted, is_cloned}
-use Rattle.outcome_law.proofs.Scans.{has-onto}
-use Rattle.outcome_law.proofs.Lists.{eq_self}
+use Rattle.outcome_law.proofs.Scans.{none_more}
+use Rattle.outcome_law.proofs.Tests.{eq_self}
 use Rattle.outcome_law.proofs.TableRows.{enlisted_in_rows, clone_stands}
 use Rattle.outcome_law.proofs.Pending.{is_plain, veto_plain, time_plain, block_plain}
 
@@ -66,7 +67,8 @@ always-before t h [] k = k
 always-before t h (x ∷ xs) k = and_right (t h x) (always t h) (always-before t (x ∷ h) xs k)
 
 -- no line behind those that made a name makes it again
-not_again : (x : Name) (rest s : List Line) (j : ℕ) (l : Line) → always is_named_well (onto rest s) ≡ true → slice_get s j ≡ Some l → is_made rest x ≡ true → is_maker x l ≡ true → ⊥
+not_again : (x : Name) (rest s : List Line) (j : ℕ) (l : Line) → always is_named_well (onto rest s) ≡ true → slice_get s j ≡ Some l
+    → is_made rest x ≡ true → is_maker x l ≡ true → ⊥
 not_again x rest [] j l h e k m = cc
 not_again x rest (y ∷ s) zero l h e k m =
     let same : y ≡ l = cc in
@@ -92,7 +94,8 @@ same_place x rest (y ∷ s) (suc i) zero k l h e f p q = absurd (not_again x (y 
 same_place x rest (y ∷ s) (suc i) (suc j) k l h e f p q = ap suc (same_place x (y ∷ rest) s i j k l h e f p q)
 
 -- two lines of a script in which names are made once that make the same name are the same line
-made_once : (x : Name) (s : List Line) (n m : ℕ) (k l : Line) → are_named_well s ≡ true → kth s n ≡ Some k → kth s m ≡ Some l → is_maker x k ≡ true → is_maker x l ≡ true → n ≡ m
+made_once : (x : Name) (s : List Line) (n m : ℕ) (k l : Line) → are_named_well s ≡ true → kth s n ≡ Some k → kth s m ≡ Some l
+    → is_maker x k ≡ true → is_maker x l ≡ true → n ≡ m
 made_once x s zero m k l h e f p q = absurd cc
 made_once x s (suc n) zero k l h e f p q = absurd cc
 made_once x s (suc n) (suc m) k l h e f p q = ap suc (same_place x [] s n m k l h e f p q)
@@ -117,9 +120,7 @@ line_makes s x b t c e k = by_body s x b (subst (λ o. passed x o ≡ true) (sym
 
 -- what is plain brings no name
 plain_no_name : (x : Name) (es : List Entry) → each is_plain es ≡ true → has (is_namer x) es ≡ false
-plain_no_name x [] h = refl
-plain_no_name x (y ∷ es) h =
-    or_false (is_namer x y) (has (is_namer x) es) (one x y (and_left (is_plain y) (each is_plain es) h)) (plain_no_name x es (and_right (is_plain y) (each is_plain es) h))
+plain_no_name x es h = none_more is_plain (is_namer x) (one x) es h
   where
     one : (x : Name) (y : Entry) → is_plain y ≡ true → is_namer x y ≡ false
     one x (Enlisted e c) h = absurd cc

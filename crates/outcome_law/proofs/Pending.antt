@@ -1,12 +1,12 @@
 -- Which steps are pending, and which entries no block but a call's has.
 use Rattle.std.proofs.Common.{◌≡◌, Bool, true, false, ◌&&◌, List, [], ◌∷◌, Option, Some, None, refl}
 use Rattle.std.specs.Prelude.{is_some, find, not, if◌then◌else◌}
-use Rattle.std.specs.List.{filter_map, cons_option}
+use Rattle.std.specs.List.{filter_map}
 use Rattle.dtx_values.specs.declared.number.EnlNo.{EnlNo}
 use Rattle.dtx_values.specs.declared.call.Call.{Call}
 use Rattle.dtx_values.specs.declared.call.Call.TheVariants.{Begin, Volatile, Clone, Complete, Commit, Rollback, Tick}
 use Rattle.dtx_values.specs.declared.entry.Entry.{Entry}
-use Rattle.dtx_values.specs.declared.entry.Entry.TheVariants.{Called, Cloned, Enlisted}
+use Rattle.dtx_values.specs.declared.entry.Entry.TheVariants.{Called, Cloned, Enlisted, Asked, Voted, Sealed, Decided, Told}
 use Rattle.dtx_values.specs.declared.note.Reply.TheVariants.{Vote as VoteReply}
 use Rattle.dtx_values.specs.declared.script.Line.{Line}
 use Rattle.dtx_values.specs.declared.words.Outcome.{Outcome}
@@ -17,23 +17,10 @@ use Rattle.dtx_model.specs.declared.listener.Listener.{Listener}
 use Rattle.dtx_model.specs.Words.{has, each}
 use Rattle.dtx_model.specs.Waves.{is_over, next_ask}
 use Rattle.dtx_model.specs.Observed.{Observed}
-use Rattle.dtx_model.specs.Steps.{Step, Calls, Replies, Acts, facts, facts_if, veto_if, reaches, ticked, time_up, is_late, is_no, tell, is_to_tell, before_seal, behind_seal, all_voted, undecided_act, act_by, act_entries, vote_step, due_reply, due_replies, act_if, planned_vote, pending, block}
-use Rattle.dtx_model.proofs.Bools.{and_both}
+use Rattle.dtx_model.specs.Steps.{Step, Calls, Replies, Acts, facts, facts_if, veto_if, reaches, ticked, time_up, is_late, is_no, vote_step, due_reply, due_replies, planned_vote, pending, block}
+use Rattle.dtx_model.specs.Steps.{tell, is_to_tell, before_seal, behind_seal, all_voted, undecided_act, act_by, act_entries, act_if}
 use Rattle.outcome_law.proofs.Scans.{each-append, each_more}
-
--- what is there passes
-abbrev pub passes : {A : Type 0} → (A → Bool) → Option A → Bool
-passes p (Some x) = p x
-passes p None = true
-
--- each passes of what f gives where what it gives passes
-pub each-filter_map : {A B : Type 0} (p : B → Bool) (f : A → Option B) → ((x : A) → passes p (f x) ≡ true) → (xs : List A) → each p (filter_map f xs) ≡ true
-each-filter_map p f sub [] = refl
-each-filter_map p f sub (x ∷ xs) = step p (f x) (filter_map f xs) (sub x) (each-filter_map p f sub xs)
-  where
-    step : {B : Type 0} (p : B → Bool) (o : Option B) (ys : List B) → passes p o ≡ true → each p ys ≡ true → each p (cons_option o ys) ≡ true
-    step p (Some y) ys h k = and_both (p y) (each p ys) h k
-    step p None ys h k = k
+use Rattle.outcome_law.proofs.Picks.{passes, each_from_at, each_picked}
 
 -- no call
 abbrev pub is_no_call : Step → Bool
@@ -52,7 +39,7 @@ acts_no_call [] = refl
 acts_no_call (x ∷ xs) = refl
 
 -- whichever of two lists it is, each passes where each passes in both
-pub each_if : {A : Type 0} (p : A → Bool) (b : Bool) (xs ys : List A) → each p xs ≡ true → each p ys ≡ true → each p (if b then xs else ys) ≡ true
+each_if : {A : Type 0} (p : A → Bool) (b : Bool) (xs ys : List A) → each p xs ≡ true → each p ys ≡ true → each p (if b then xs else ys) ≡ true
 each_if p true xs ys h k = h
 each_if p false xs ys h k = k
 
@@ -63,7 +50,8 @@ pending_no_call s o =
     each-append is_no_call (due_replies s o) (act_if (act_entries o))
     (
     each_if is_no_call (is_some o.decided) [] (filter_map (due_reply s) o.table) refl
-    (each-filter_map is_no_call (due_reply s) (λ x. due_no_call (is_marked x && not (has_voted x)) x.0 (planned_vote s x.0.value)) o.table)
+    (each_picked is_no_call (due_reply s) o.table
+    (each_from_at (λ x. passes is_no_call (due_reply s x)) o.table (λ k x e. due_no_call (is_marked x && not (has_voted x)) x.0 (planned_vote s x.0.value))))
     )
     (acts_no_call (act_entries o))
 
@@ -87,10 +75,33 @@ plain_not_called es h = each_more is_plain is_not_called one es h
     one (Called n a y) h = absurd cc
     one _ h = refl
 
+-- the entries of a reply and of the local act
+abbrev pub is_deed : Entry → Bool
+is_deed (Asked e a) = true
+is_deed (Voted e v) = true
+is_deed Sealed = true
+is_deed (Decided x) = true
+is_deed (Told p x) = true
+is_deed _ = false
+
+-- a deed is plain
+deeds_plain : (es : List Entry) → each is_deed es ≡ true → each is_plain es ≡ true
+deeds_plain es h = each_more is_deed is_plain one es h
+  where
+    one : (x : Entry) → is_deed x ≡ true → is_plain x ≡ true
+    one (Called n a y) h = absurd cc
+    one (Enlisted e c) h = absurd cc
+    one (Cloned c k) h = absurd cc
+    one _ h = refl
+
+-- a veto, where it stands, is a deed
+pub veto_deed : (b : Bool) → each is_deed (veto_if b) ≡ true
+veto_deed true = refl
+veto_deed false = refl
+
 -- a veto, where it stands, is plain
 pub veto_plain : (b : Bool) → each is_plain (veto_if b) ≡ true
-veto_plain true = refl
-veto_plain false = refl
+veto_plain b = deeds_plain (veto_if b) (veto_deed b)
 
 -- the end of the time is plain
 pub time_plain : (reached late : Bool) → each is_plain (if reached then time_up late else []) ≡ true
@@ -112,41 +123,45 @@ facts_not_called o (Tick t n) true =
     plain_not_called (if reached then time_up (is_late o) else []) (time_plain reached (is_late o))
 facts_not_called o _ true = refl
 
--- what is told is plain
-tell_plain : (x : Outcome) (l : Option Listener) (told : Option Outcome) → each is_plain (tell x l told) ≡ true
-tell_plain x (Some l) told = refl
-tell_plain x None (Some y) = refl
-tell_plain x None None = refl
+-- what is told is a deed
+tell_deed : (x : Outcome) (l : Option Listener) (told : Option Outcome) → each is_deed (tell x l told) ≡ true
+tell_deed x (Some l) told = refl
+tell_deed x None (Some y) = refl
+tell_deed x None None = refl
 
--- what comes in phase zero is plain
-zero_plain : (e : Option EnlNo) (over : Bool) → each is_plain (before_seal e over) ≡ true
-zero_plain (Some e) over = refl
-zero_plain None true = refl
-zero_plain None false = refl
+-- what comes in phase zero is a deed
+zero_deed : (e : Option EnlNo) (over : Bool) → each is_deed (before_seal e over) ≡ true
+zero_deed (Some e) over = refl
+zero_deed None true = refl
+zero_deed None false = refl
 
--- what comes behind the seal is plain
-seal_plain : (e : Option EnlNo) (voted : Bool) → each is_plain (behind_seal e voted) ≡ true
-seal_plain (Some e) voted = refl
-seal_plain None true = refl
-seal_plain None false = refl
+-- what comes behind the seal is a deed
+seal_deed : (e : Option EnlNo) (voted : Bool) → each is_deed (behind_seal e voted) ≡ true
+seal_deed (Some e) voted = refl
+seal_deed None true = refl
+seal_deed None false = refl
 
--- what the local act does while nothing is decided is plain
-undecided_plain : (commit sealed : Bool) (xs ys : List Entry) → each is_plain xs ≡ true → each is_plain ys ≡ true → each is_plain (undecided_act commit sealed xs ys) ≡ true
-undecided_plain false sealed xs ys h k = refl
-undecided_plain true false xs ys h k = h
-undecided_plain true true xs ys h k = k
+-- what the local act does while nothing is decided is a deed
+undecided_deed : (commit sealed : Bool) (xs ys : List Entry) → each is_deed xs ≡ true → each is_deed ys ≡ true → each is_deed (undecided_act commit sealed xs ys) ≡ true
+undecided_deed false sealed xs ys h k = refl
+undecided_deed true false xs ys h k = h
+undecided_deed true true xs ys h k = k
 
--- what the local act does is plain
-act_plain : (d : Option Outcome) (o : Observed) → each is_plain (act_by d o) ≡ true
-act_plain (Some x) o = tell_plain x (find (is_to_tell o.table) o.listeners) o.told_client
-act_plain None o =
-    undecided_plain o.commit o.sealed (before_seal (next_ask o.table true) (is_over o.table o.clones 0)) (behind_seal (next_ask o.table false) (all_voted o.table))
-    (zero_plain (next_ask o.table true) (is_over o.table o.clones 0)) (seal_plain (next_ask o.table false) (all_voted o.table))
+-- what the local act does is a deed
+act_deed : (d : Option Outcome) (o : Observed) → each is_deed (act_by d o) ≡ true
+act_deed (Some x) o = tell_deed x (find (is_to_tell o.table) o.listeners) o.told_client
+act_deed None o =
+    undecided_deed o.commit o.sealed (before_seal (next_ask o.table true) (is_over o.table o.clones 0)) (behind_seal (next_ask o.table false) (all_voted o.table))
+    (zero_deed (next_ask o.table true) (is_over o.table o.clones 0)) (seal_deed (next_ask o.table false) (all_voted o.table))
+
+-- the block of a reply or of the local act has deeds alone
+pub block_deed : (o : Observed) (m : Step) → is_no_call m ≡ true → each is_deed (block o m) ≡ true
+unfolding block act_entries
+block_deed o (Calls n a c m) h = absurd cc
+block_deed o (Replies e (VoteReply v)) h = veto_deed (is_no v)
+block_deed o (Replies e _) h = refl
+block_deed o Acts h = act_deed o.decided o
 
 -- the block of a reply or of the local act is plain
 pub block_plain : (o : Observed) (m : Step) → is_no_call m ≡ true → each is_plain (block o m) ≡ true
-unfolding block act_entries
-block_plain o (Calls n a c m) h = absurd cc
-block_plain o (Replies e (VoteReply v)) h = veto_plain (is_no v)
-block_plain o (Replies e _) h = refl
-block_plain o Acts h = act_plain o.decided o
+block_plain o m h = deeds_plain (block o m) (block_deed o m h)

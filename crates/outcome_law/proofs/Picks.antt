@@ -4,7 +4,11 @@ use Rattle.std.specs.Prelude.{find, not, if◌then◌else◌}
 use Rattle.std.specs.List.{slice_get, filter_map, cons_option}
 use Rattle.dtx_model.specs.Words.{has, each}
 use Rattle.dtx_model.proofs.Bools.{and_left, and_right, and_both, or_first, or_second}
-use Rattle.outcome_law.proofs.Pending.{passes}
+
+-- what is there passes
+abbrev pub passes : {A : Type 0} → (A → Bool) → Option A → Bool
+passes p (Some x) = p x
+passes p None = true
 
 -- where the one at each place passes, each passes
 pub each_from_at : {A : Type 0} (p : A → Bool) (xs : List A) → ((k : ℕ) (x : A) → slice_get xs k ≡ Some x → p x ≡ true) → each p xs ≡ true

@@ -2,8 +2,6 @@
 use Rattle.std.proofs.Common.{◌≡◌, ℕ, ◌==◌, Bool, true, false, List, [], ◌∷◌, ◌++◌, Some, refl, arith, lit≤, subst, sym}
 use Rattle.std.specs.Prelude.{nat_le, nat_lt}
 use Rattle.std.proofs.lemmas.Bool.Decides.{nat_tests}
-use Rattle.dtx_values.specs.declared.number.ActorNo.{ActorNo}
-use Rattle.dtx_values.specs.declared.number.EnlNo.{EnlNo}
 use Rattle.dtx_values.specs.declared.number.TxNo.{TxNo}
 use Rattle.dtx_values.specs.declared.entry.Answer.TheVariants.{Fine, Did, OutcomeIs}
 use Rattle.dtx_values.specs.declared.entry.Ask.TheVariants.{Prepare}
@@ -27,16 +25,11 @@ use Rattle.dtx_model.specs.Replay.{Placed, history, placed, StepsRan, HasDone, H
 use Rattle.dtx_model.specs.History.{IsHistory}
 use Rattle.dtx_model.proofs.Bools.{and_left, and_right}
 use Rattle.dtx_model.proofs.Histories.{history-other, history-same}
+use Rattle.outcome_law.proofs.Examples.{a1, e1}
 use Rattle.outcome_law.proofs.Replays.{replayed_caused, replayed_called}
-
-abbrev pub a1 : ActorNo
-a1 = record { value = 1; in_range = (lit≤ tt, lit≤ tt) }
 
 abbrev pub t1 : TxNo
 t1 = record { value = 1; in_range = (lit≤ tt, lit≤ tt) }
-
-abbrev pub e1 : EnlNo
-e1 = record { value = 1; in_range = (lit≤ tt, lit≤ tt) }
 
 -- the lines `a1 begin t1 0`, `a1 volatile t1 e1 none yes`, `a1 commit t1` and `a1 do t1 1 2`
 abbrev pub four_lines : List Line

@@ -1,5 +1,6 @@
 -- What a replay does is caused by its script in each transaction, has each line's call once and in order, and makes each name anew.
-use Rattle.std.proofs.Common.{◌≡◌, ℕ, zero, suc, ◌+◌, ◌<◌, ◌==◌, Bool, true, false, ◌||◌, List, [], ◌∷◌, ◌++◌, length, Option, Some, None, refl, arith, append-nil, ◌∙◌, ap, sym, subst}
+use Rattle.std.proofs.Common.{◌≡◌, ℕ, zero, suc, ◌+◌, ◌<◌, ◌==◌, Bool, true, false, ◌||◌, List, [], ◌∷◌, ◌++◌, length, Option, Some, None}
+use Rattle.std.proofs.Common.{refl, arith, append-nil, ◌∙◌, ap, sym, subst}
 use Rattle.std.specs.Prelude.{is_some}
 use Rattle.std.specs.List.{slice_get}
 use Rattle.std.proofs.lemmas.Bool.Decides.{nat_tests}
@@ -22,7 +23,9 @@ use Rattle.dtx_model.specs.Grammar.{are_named_well}
 use Rattle.dtx_model.specs.Replay.{Placed, history, placed, after_step, StepsRan, LineRan, LinesRan, IsTurn, RoundsRan, IsReplayed, called_of, calls, due_call, due_calls}
 use Rattle.dtx_model.proofs.Bools.{and_left, and_right, or_false, or_right}
 use Rattle.dtx_model.proofs.Histories.{history-other, history-same}
-use Rattle.outcome_law.proofs.Scans.{each-at, has-onto}
+use Rattle.dtx_model.proofs.Reading.{has-onto}
+use Rattle.outcome_law.proofs.Tests.{eq_self}
+use Rattle.outcome_law.proofs.Scans.{each-kth, none_more}
 use Rattle.outcome_law.proofs.Pending.{is_no_call, pending_no_call, is_not_called, facts_not_called, block_plain, plain_not_called}
 use Rattle.outcome_law.proofs.Names.{caused_new}
 
@@ -31,7 +34,7 @@ abbrev AllCaused : List Line → List Placed → Type 0
 AllCaused s T = (u : TxNo) → Caused s u.value (history u.value T)
 
 -- what is caused, with the block of a step that may come behind, is caused
-pub caused-step : (s : List Line) (u : ℕ) (m : Step) (h : List Entry) → Caused s u h → MayCome s u h m → Caused s u (onto h (block (observe h) m))
+caused-step : (s : List Line) (u : ℕ) (m : Step) (h : List Entry) → Caused s u h → MayCome s u h m → Caused s u (onto h (block (observe h) m))
 caused-step s u m h r k = (m ∷ r.0, (h, r.1, k, refl))
 
 -- a step of t keeps the history of u caused: by cases, u is t or another
@@ -39,20 +42,19 @@ by_name : (s : List Line) (t : TxNo) (m : Step) (T : List Placed) → AllCaused 
     → (u : TxNo) (b : Bool) → (u.value == t.value) ≡ b → Caused s u.value (history u.value (after_step t m T))
 by_name s t m T ih k u true e =
     let same : t.value ≡ u.value = grind (arith, nat_tests) in
-    let here : (t.value == t.value) ≡ true = grind (arith, nat_tests) in
+    let here = eq_self t.value in
     let grown : Caused s t.value (onto (history t.value T) (block (observe (history t.value T)) m)) = caused-step s t.value m (history t.value T) (ih t) k in
     let at_t : Caused s t.value (history t.value (after_step t m T)) = subst (λ h. Caused s t.value h) (sym (history-same t.value t T (block (observe (history t.value T)) m) here)) grown in
     subst (λ n. Caused s n (history n (after_step t m T))) same at_t
 by_name s t m T ih k u false e = subst (λ h. Caused s u.value h) (sym (history-other u.value t T (block (observe (history t.value T)) m) e)) (ih u)
 
 -- a step that may come keeps each transaction's history caused
-pub after_step_caused : (s : List Line) (t : TxNo) (m : Step) (T : List Placed) → AllCaused s T → MayCome s t.value (history t.value T) m → AllCaused s (after_step t m T)
+after_step_caused : (s : List Line) (t : TxNo) (m : Step) (T : List Placed) → AllCaused s T → MayCome s t.value (history t.value T) m → AllCaused s (after_step t m T)
 after_step_caused s t m T ih k u = by_name s t m T ih k u (u.value == t.value) refl
 
 -- the k-th step that is pending is no call
 kth_no_call : (s : List Line) (h : List Entry) (k : ℕ) (m : Step) → kth (pending s (observe h)) k ≡ Some m → is_no_call m ≡ true
-kth_no_call s h zero m e = absurd cc
-kth_no_call s h (suc k) m e = each-at is_no_call (pending s (observe h)) k m (pending_no_call s (observe h)) e
+kth_no_call s h k m e = each-kth is_no_call (pending s (observe h)) k m (pending_no_call s (observe h)) e
 
 -- the k-th step that is pending may come
 kth_may : (s : List Line) (t : ℕ) (h : List Entry) (k : ℕ) (m : Step) → kth (pending s (observe h)) k ≡ Some m → is_no_call m ≡ true → MayCome s t h m
@@ -72,9 +74,7 @@ kth_not_called s h k m e = plain_not_called (block (observe h) m) (block_plain (
 
 -- what has no call hasn't this call
 not_this_call : (n : ℕ) (es : List Entry) → each is_not_called es ≡ true → has (is_call n) es ≡ false
-not_this_call n [] h = refl
-not_this_call n (x ∷ es) h =
-    or_false (is_call n x) (has (is_call n) es) (one n x (and_left (is_not_called x) (each is_not_called es) h)) (not_this_call n es (and_right (is_not_called x) (each is_not_called es) h))
+not_this_call n es h = none_more is_not_called (is_call n) (one n) es h
   where
     one : (n : ℕ) (x : Entry) → is_not_called x ≡ true → is_call n x ≡ false
     one n (Called m a y) h = absurd cc

@@ -3,7 +3,8 @@ use Rattle.std.proofs.Common.{◌≡◌, Bool, true, false, ◌&&◌, List, [], 
 use Rattle.std.specs.Prelude.{not}
 use Rattle.dtx_values.specs.declared.entry.Ask.TheVariants.{Prepare}
 use Rattle.dtx_values.specs.declared.entry.Entry.{Entry}
-use Rattle.dtx_values.specs.declared.entry.Entry.TheVariants.{Called, Began, Cloned, Completed, Enlisted, CommitAsked, RollbackAsked, Clock, TimedOut, Late, Asked, Voted, Sealed, Decided, Told, OwnerAnswered}
+use Rattle.dtx_values.specs.declared.entry.Entry.TheVariants.{Called, Began, Cloned, Completed, Enlisted, CommitAsked, RollbackAsked, Clock, TimedOut, Late}
+use Rattle.dtx_values.specs.declared.entry.Entry.TheVariants.{Asked, Voted, Sealed, Decided, Told, OwnerAnswered}
 use Rattle.dtx_values.specs.declared.entry.Party.{Party}
 use Rattle.dtx_values.specs.declared.entry.Party.TheVariants.{Client}
 use Rattle.dtx_values.specs.declared.words.Outcome.{Outcome}
@@ -12,6 +13,7 @@ use Rattle.dtx_model.specs.Words.{has, ever, always, latest}
 use Rattle.dtx_model.specs.Entries.{same_outcome, is_commit, is_volatile, is_asked, is_vote, decision_of, is_decision, is_final}
 use Rattle.dtx_model.specs.Outcome.{ready, by_seal, by_owner, by_log, evidence, is_first_veto, vetoed, may_tell, is_just, justified, is_decided_again, agree}
 use Rattle.dtx_model.proofs.Bools.{and_left, and_right, and_both, or_false, or_right, or_case, not_true, not_both}
+use Rattle.outcome_law.proofs.Tests.{first_of_three, first_of_four}
 use Rattle.outcome_law.proofs.Rule.{is_cloned, all_complete, zeros_cast, is_decided, is_certain, rule, ruled, first_rule, other_rules}
 
 -- this outcome is certain and may be told to anybody
@@ -21,7 +23,7 @@ may_be h Aborted = vetoed h && not (evidence h)
 may_be h InDoubt = false
 
 -- what is certain and may be told to the client may be told to anybody
-pub certain_may_be : (h : List Entry) (x : Outcome) → (is_certain x && may_tell h Client x) ≡ true → may_be h x ≡ true
+certain_may_be : (h : List Entry) (x : Outcome) → (is_certain x && may_tell h Client x) ≡ true → may_be h x ≡ true
 unfolding may_tell
 certain_may_be h Committed k = k
 certain_may_be h Aborted k = k
@@ -48,7 +50,7 @@ may_more h k Aborted e v m =
 may_more h k InDoubt e v m = m
 
 -- what was decided stands there
-pub decision_from_latest : (h : List Entry) (x : Outcome) → latest decision_of h ≡ Some x → has is_decision h ≡ true
+decision_from_latest : (h : List Entry) (x : Outcome) → latest decision_of h ≡ Some x → has is_decision h ≡ true
 decision_from_latest [] x e = absurd cc
 decision_from_latest (Decided y ∷ h) x e = refl
 decision_from_latest (_ ∷ h) x e = decision_from_latest h x e
@@ -71,14 +73,6 @@ is_open Sealed = true
 is_open (Decided x) = true
 is_open _ = false
 
--- where all of three hold, the first does
-first_of_three : (a b c : Bool) → (a && b && c) ≡ true → a ≡ true
-first_of_three a b c k = and_left a b (and_left (a && b) c k)
-
--- where all of four hold, the first does
-first_of_four : (a b c d : Bool) → (a && b && c && d) ≡ true → a ≡ true
-first_of_four a b c d k = first_of_three a b c (and_left (a && b && c) d k)
-
 -- they come where nothing was decided
 pub open_rule : (h : List Entry) (x : Entry) → is_open x ≡ true → rule h x ≡ true → not (has is_decision h) ≡ true
 open_rule h (Enlisted e c) k r = first_of_four (not (has is_decision h)) _ _ (is_volatile c) r
@@ -96,7 +90,7 @@ not_behind : {C : Type 0} (y : Entry) (h : List Entry) (x : Outcome) → latest 
 not_behind y h x e k r = absurd (not_both (has is_decision h) (decision_from_latest h x e) (not_true (has is_decision h) (open_rule h y k (first_rule y h r))))
 
 -- the rule of a decision
-pub decision_rule : (h : List Entry) (x : Outcome) → rule h (Decided x) ≡ true → may_be h x ≡ true
+decision_rule : (h : List Entry) (x : Outcome) → rule h (Decided x) ≡ true → may_be h x ≡ true
 decision_rule h x k =
     certain_may_be h x
     (and_both (is_certain x) (may_tell h Client x) (and_right (not (has is_decision h)) (is_certain x) (and_left (not (has is_decision h) && is_certain x) (may_tell h Client x) k))
@@ -168,7 +162,7 @@ decided_once [] r = refl
 decided_once (x ∷ h) r = or_false (is_decided_again h x) (ever is_decided_again h) (one_decision h x (first_rule x h r)) (decided_once h (other_rules x h r))
 
 -- an outcome that is final is what was decided
-pub final_decided : (x : Outcome) (h : List Entry) → ruled h ≡ true → has (is_final x) h ≡ true → is_decided x (latest decision_of h) ≡ true
+final_decided : (x : Outcome) (h : List Entry) → ruled h ≡ true → has (is_final x) h ≡ true → is_decided x (latest decision_of h) ≡ true
 final_decided x [] r k = absurd cc
 final_decided x (Told p y ∷ h) r k =
     or_case (same_outcome x y) (has (is_final x) h)

@@ -20,13 +20,14 @@ use Rattle.dtx_model.specs.Entries.{is_commit, is_sealed, is_vote, is_volatile, 
 use Rattle.dtx_model.specs.History.{CanCommit}
 use Rattle.dtx_model.specs.Outcome.{enlisted, is_complete, evidence, is_veto, is_first_veto, vetoed, may_tell}
 use Rattle.dtx_model.specs.Observed.{observe, rows, clone_rows}
-use Rattle.dtx_model.specs.Steps.{tell, before_seal, behind_seal, undecided_act, act_by, act_entries, planned_vote, vote_step, due_reply, due_replies, act_if, pending, is_to_tell, all_voted, voted_well}
+use Rattle.dtx_model.specs.Steps.{tell, before_seal, behind_seal, undecided_act, act_by, act_entries, act_if, is_to_tell}
+use Rattle.dtx_model.specs.Steps.{planned_vote, vote_step, due_reply, due_replies, pending, all_voted, voted_well}
 use Rattle.dtx_model.specs.Waves.{is_zero, is_one, may_be_asked, name_of, next_ask, zeros_voted, is_over}
 use Rattle.dtx_model.specs.Caused.{Settled}
 use Rattle.dtx_model.proofs.Bools.{and_left, and_right, and_both, not_false, or_second, or_right, not_both, not_true, and_never}
-use Rattle.outcome_law.proofs.Lists.{and_second, and_fourth}
+use Rattle.outcome_law.proofs.Tests.{second_of_four, fourth_of_four, or_between}
 use Rattle.outcome_law.proofs.Rule.{is_enlisted, all_complete, zeros_cast, is_decided, ruled, first_rule, other_rules}
-use Rattle.outcome_law.proofs.Scans.{each_more, each_both, find_none}
+use Rattle.outcome_law.proofs.Scans.{each_more, none_more, each_both, find_none}
 use Rattle.outcome_law.proofs.Picks.{none_each}
 use Rattle.outcome_law.proofs.TableRows.{each_rows, zeros_seen, open_blocks}
 
@@ -57,9 +58,7 @@ settled_act s h e = no_act (act_entries (observe h)) (append_second (due_replies
 
 -- where each passes q, none passes p and fails q
 none_open : {A : Type 0} (p q : A → Bool) (xs : List A) → each q xs ≡ true → has (λ x. p x && not (q x)) xs ≡ false
-none_open p q [] h = refl
-none_open p q (x ∷ xs) h =
-    let first : q x ≡ true = and_left (q x) (each q xs) h in rw (first, and_never (p x)) (none_open p q xs (and_right (q x) (each q xs) h))
+none_open p q xs h = none_more q (λ x. p x && not (q x)) (λ x k. rw k (and_never (p x))) xs h
 
 -- nothing is given: each gives nothing
 each_none : {A B : Type 0} (f : A → Option B) (xs : List A) → filter_map f xs ≡ [] → each (λ x. is_none (f x)) xs ≡ true
@@ -101,18 +100,14 @@ client_committed (x ∷ h) r v k = client_committed h (other_rules x h r) (or_se
 -- sealed is only where each Zero enlistment voted
 sealed_zeros : (h : List Entry) → ruled h ≡ true → has is_sealed h ≡ true → zeros_cast h ≡ true
 sealed_zeros [] r k = absurd cc
-sealed_zeros (Sealed ∷ h) r k = and_fourth (not (has is_decision h)) (has is_commit h) (all_complete h) (zeros_cast h) (first_rule Sealed h r)
+sealed_zeros (Sealed ∷ h) r k = fourth_of_four (not (has is_decision h)) (has is_commit h) (all_complete h) (zeros_cast h) (first_rule Sealed h r)
 sealed_zeros (Enlisted e c ∷ h) r k =
     let rule = first_rule (Enlisted e c) h r in
-    let unsealed = not_true (has is_sealed h) (and_second (not (has is_decision h)) (not (has is_sealed h)) (not (has (is_enlisted e.value) h)) (is_volatile c) rule) in
+    let unsealed = not_true (has is_sealed h) (second_of_four (not (has is_decision h)) (not (has is_sealed h)) (not (has (is_enlisted e.value) h)) (is_volatile c) rule) in
     absurd (not_both (has is_sealed h) k unsealed)
 sealed_zeros (Voted e w ∷ h) r k =
     each_more (λ x. not (is_zero x.1) || has (is_vote x.0.value) h) (λ x. not (is_zero x.1) || has (is_vote x.0.value) (Voted e w ∷ h))
-    (λ x. voted_more (not (is_zero x.1)) (is_vote x.0.value (Voted e w)) (has (is_vote x.0.value) h)) (enlisted h) (sealed_zeros h (other_rules (Voted e w) h r) k)
-  where
-    voted_more : (z b g : Bool) → (z || g) ≡ true → (z || (b || g)) ≡ true
-    voted_more true b g h = refl
-    voted_more false b g h = or_right b g h
+    (λ x. or_between (not (is_zero x.1)) (is_vote x.0.value (Voted e w)) (has (is_vote x.0.value) h)) (enlisted h) (sealed_zeros h (other_rules (Voted e w) h r) k)
 sealed_zeros (x ∷ h) r k = sealed_zeros h (other_rules x h r) k
 
 -- the row, where it is marked, has a vote
@@ -144,7 +139,9 @@ answered_before n xs h = each_more has_answered (λ q. not (is_asked_before q.1.
 -- where nobody is to be asked, none of the class may be
 none_asked : (xs : List Enlistment) (zero : Bool) → next_ask xs zero ≡ None → each (λ x. not (may_be_asked xs zero x)) xs ≡ true
 unfolding next_ask
-none_asked xs zero e = none_each (may_be_asked xs zero) (λ x. not (may_be_asked xs zero x)) (λ x. not_false (may_be_asked xs zero x)) xs (find_none (may_be_asked xs zero) xs (nameless (find (may_be_asked xs zero) xs) e))
+none_asked xs zero e =
+    none_each (may_be_asked xs zero) (λ x. not (may_be_asked xs zero x)) (λ x. not_false (may_be_asked xs zero x)) xs
+    (find_none (may_be_asked xs zero) xs (nameless (find (may_be_asked xs zero) xs) e))
   where
     nameless : (o : Option Enlistment) → name_of o ≡ None → o ≡ None
     nameless (Some x) e = absurd cc
@@ -195,7 +192,8 @@ seal_stuck None true e = absurd cc
 seal_stuck None false e = (refl, refl)
 
 -- by cases: it is sealed, or it isn't
-by_seal : {C : Type 0} (s : List Line) (h : List Entry) (commit sealed : Bool) → has is_sealed h ≡ sealed → commit ≡ true → ruled h ≡ true → CanCommit s h → each has_answered (rows h) ≡ true
+by_seal : {C : Type 0} (s : List Line) (h : List Entry) (commit sealed : Bool) → has is_sealed h ≡ sealed → commit ≡ true → ruled h ≡ true → CanCommit s h
+    → each has_answered (rows h) ≡ true
     → undecided_act commit sealed (before_seal (next_ask (rows h) true) (is_over (rows h) (clone_rows h) 0)) (behind_seal (next_ask (rows h) false) (all_voted (rows h))) ≡ [] → C
 unfolding is_over
 by_seal s h false sealed k c r can a e = absurd cc

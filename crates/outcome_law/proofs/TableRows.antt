@@ -1,6 +1,6 @@
 -- The tables of a history: what their rows have to do with its entries.
 use Rattle.std.proofs.Common.{◌≡◌, ℕ, ◌==◌, Bool, true, false, ◌&&◌, ◌||◌, List, [], ◌∷◌, Option, Some, None, refl, ◌∙◌, ap, sym, subst}
-use Rattle.std.specs.Prelude.{find, is_some, not, if◌then◌else◌}
+use Rattle.std.specs.Prelude.{is_some, not, if◌then◌else◌}
 use Rattle.std.specs.List.{slice_get}
 use Rattle.std.proofs.Math.Bool.{or-false}
 use Rattle.std.proofs.lemmas.Bool.{eqb-true}
@@ -24,8 +24,8 @@ use Rattle.dtx_model.specs.Seen.{vote_of, IsCloneSeen}
 use Rattle.dtx_model.specs.Steps.{voted_well, all_voted}
 use Rattle.dtx_model.specs.Waves.{is_zero, zeros_voted}
 use Rattle.dtx_model.proofs.Bools.{and_right, or_false, or_second, or_right, not_true}
-use Rattle.outcome_law.proofs.Scans.{find-at}
-use Rattle.outcome_law.proofs.Lists.{eq_self, eq_swap, apart, and_second, and_third, and_fourth, OfEach, of-at, of-more, of-map, of-insert, of-behind, of-all, each_same, has_same, each_kept, has_kept, if_kept, each-insert, has-insert, each-behind, has-behind}
+use Rattle.outcome_law.proofs.Tests.{eq_self, eq_swap, apart, second_of_four, third_of_four, fourth_of_four}
+use Rattle.outcome_law.proofs.Lists.{OfEach, of-at, of-more, of-map, of-insert, of-behind, of-all, each_same, has_same, each_kept, has_kept, if_kept, each-insert, has-insert, each-behind, has-behind}
 use Rattle.outcome_law.proofs.Rule.{is_enlisted, is_cloned, zeros_cast, rule, ruled, first_rule, other_rules}
 
 -- what each row passes by its number and class, each enlistment passes
@@ -54,23 +54,23 @@ enlisted_in_rows n (x ∷ h) = enlisted_in_rows n h
 
 -- what is enlisted wasn't before
 pub enlisted_once : (e : EnlNo) (c : Class) (h : List Entry) → rule h (Enlisted e c) ≡ true → has (is_enlisted e.value) h ≡ false
-enlisted_once e c h r = not_true (has (is_enlisted e.value) h) (and_third (not (has is_decision h)) (not (has is_sealed h)) (not (has (is_enlisted e.value) h)) (is_volatile c) r)
+enlisted_once e c h r = not_true (has (is_enlisted e.value) h) (third_of_four (not (has is_decision h)) (not (has is_sealed h)) (not (has (is_enlisted e.value) h)) (is_volatile c) r)
 
 -- what is asked was enlisted
 pub asked_enlisted : (e : EnlNo) (h : List Entry) → rule h (Asked e Prepare) ≡ true → has (is_enlisted e.value) h ≡ true
-asked_enlisted e h r = and_third (not (has is_decision h)) (has is_commit h) (has (is_enlisted e.value) h) (not (has (is_asked e.value) h)) r
+asked_enlisted e h r = third_of_four (not (has is_decision h)) (has is_commit h) (has (is_enlisted e.value) h) (not (has (is_asked e.value) h)) r
 
 -- what votes was enlisted
 pub voted_enlisted : (e : EnlNo) (v : Vote) (h : List Entry) → rule h (Voted e v) ≡ true → has (is_enlisted e.value) h ≡ true
-voted_enlisted e v h r = and_second (not (has is_decision h)) (has (is_enlisted e.value) h) (has (is_asked e.value) h) (not (has (is_vote e.value) h)) r
+voted_enlisted e v h r = second_of_four (not (has is_decision h)) (has (is_enlisted e.value) h) (has (is_asked e.value) h) (not (has (is_vote e.value) h)) r
 
 -- what votes hadn't
 pub voted_once : (e : EnlNo) (v : Vote) (h : List Entry) → rule h (Voted e v) ≡ true → has (is_vote e.value) h ≡ false
 voted_once e v h r =
-    not_true (has (is_vote e.value) h) (and_fourth (not (has is_decision h)) (has (is_enlisted e.value) h) (has (is_asked e.value) h) (not (has (is_vote e.value) h)) r)
+    not_true (has (is_vote e.value) h) (fourth_of_four (not (has is_decision h)) (has (is_enlisted e.value) h) (has (is_asked e.value) h) (not (has (is_vote e.value) h)) r)
 
 -- what wasn't enlisted wasn't asked
-pub unenlisted_unasked : (n : ℕ) (h : List Entry) → ruled h ≡ true → has (is_enlisted n) h ≡ false → has (is_asked n) h ≡ false
+unenlisted_unasked : (n : ℕ) (h : List Entry) → ruled h ≡ true → has (is_enlisted n) h ≡ false → has (is_asked n) h ≡ false
 unenlisted_unasked n [] r e = refl
 unenlisted_unasked n (Enlisted f c ∷ h) r e = unenlisted_unasked n h (other_rules (Enlisted f c) h r) (or_second (n == f.value) (has (is_enlisted n) h) e)
 unenlisted_unasked n (Asked f Prepare ∷ h) r e =
@@ -79,7 +79,7 @@ unenlisted_unasked n (Asked f Prepare ∷ h) r e =
 unenlisted_unasked n (x ∷ h) r e = unenlisted_unasked n h (other_rules x h r) e
 
 -- what wasn't enlisted didn't vote
-pub unenlisted_unvoted : (n : ℕ) (h : List Entry) → ruled h ≡ true → has (is_enlisted n) h ≡ false → has (is_vote n) h ≡ false
+unenlisted_unvoted : (n : ℕ) (h : List Entry) → ruled h ≡ true → has (is_enlisted n) h ≡ false → has (is_vote n) h ≡ false
 unenlisted_unvoted n [] r e = refl
 unenlisted_unvoted n (Enlisted f c ∷ h) r e = unenlisted_unvoted n h (other_rules (Enlisted f c) h r) (or_second (n == f.value) (has (is_enlisted n) h) e)
 unenlisted_unvoted n (Voted f v ∷ h) r e =
@@ -88,7 +88,7 @@ unenlisted_unvoted n (Voted f v ∷ h) r e =
 unenlisted_unvoted n (x ∷ h) r e = unenlisted_unvoted n h (other_rules x h r) e
 
 -- what didn't vote has no vote
-pub unvoted_latest : (n : ℕ) (h : List Entry) → has (is_vote n) h ≡ false → latest (vote_of n) h ≡ None
+unvoted_latest : (n : ℕ) (h : List Entry) → has (is_vote n) h ≡ false → latest (vote_of n) h ≡ None
 unvoted_latest n [] k = refl
 unvoted_latest n (Voted f v ∷ h) k = step (n == f.value) (has (is_vote n) h) v (latest (vote_of n) h) (unvoted_latest n h) k
   where
@@ -139,12 +139,12 @@ older_seen e c h x w =
     }
 
 -- what stands there or is put there is there
-there : {A : Type 0} (o : Option A) (x : A) → is_some (unless_there o x) ≡ true
+pub there : {A : Type 0} (o : Option A) (x : A) → is_some (unless_there o x) ≡ true
 there (Some y) x = refl
 there None x = refl
 
 -- what isn't there is nothing
-none_there : {A : Type 0} (o : Option A) → is_some o ≡ false → o ≡ None
+pub none_there : {A : Type 0} (o : Option A) → is_some o ≡ false → o ≡ None
 none_there (Some y) h = absurd cc
 none_there None h = refl
 
@@ -207,16 +207,8 @@ row_marked h k x r e = (row_seen h k x r e).marked
 pub row_voted : (h : List Entry) (k : ℕ) (x : Enlistment) → ruled h ≡ true → slice_get (rows h) k ≡ Some x → has_voted x ≡ has (is_vote x.0.value) h
 row_voted h k x r e = (row_seen h k x r e).voted
 
--- the row's vote is yes or done where its enlistment voted so
-pub row_well : (h : List Entry) (k : ℕ) (x : Enlistment) → ruled h ≡ true → slice_get (rows h) k ≡ Some x → voted_well x.1.vote ≡ has (is_good_vote x.0.value) h
-row_well h k x r e = (row_seen h k x r e).well
-
--- the row's vote is that of its enlistment
-pub row_vote : (h : List Entry) (k : ℕ) (x : Enlistment) → ruled h ≡ true → slice_get (rows h) k ≡ Some x → x.1.vote ≡ latest (vote_of x.0.value) h
-row_vote h k x r e = (row_seen h k x r e).vote
-
 -- where each row of a class that p names has a vote, each such enlistment voted
-pub class_voted : (p : Class → Bool) (h : List Entry) → ruled h ≡ true
+class_voted : (p : Class → Bool) (h : List Entry) → ruled h ≡ true
     → each (λ x. not (p x.1.class) || has_voted x) (rows h) ≡ each (λ x. not (p x.1) || has (is_vote x.0.value) h) (enlisted h)
 class_voted p h r =
     each_same (λ x. not (p x.1.class) || has_voted x) (λ x. not (p x.1.class) || has (is_vote x.0.value) h) (rows h)
@@ -231,13 +223,6 @@ zeros_seen h r = class_voted is_zero h r
 pub all_voted_seen : (h : List Entry) → ruled h ≡ true → all_voted (rows h) ≡ each (λ x. not (is_volatile x.1) || has (is_vote x.0.value) h) (enlisted h)
 all_voted_seen h r = class_voted is_volatile h r
 
--- each row's vote is yes or done where each enlistment voted so
-pub well_seen : (h : List Entry) → ruled h ≡ true → each (λ x. voted_well x.1.vote) (rows h) ≡ each (λ x. has (is_good_vote x.0.value) h) (enlisted h)
-well_seen h r =
-    each_same (λ x. voted_well x.1.vote) (λ x. has (is_good_vote x.0.value) h) (rows h)
-    (of-more (IsRow h) (λ x. voted_well x.1.vote ≡ has (is_good_vote x.0.value) h) (λ x w. w.well) (rows h) (rows_seen h r))
-    ∙ each_rows (λ e c. has (is_good_vote e.value) h) h
-
 -- what each row of a clone passes by its number and kind, each clone passes
 pub each_clones : (f : CloneNo → CloneKind → Bool) (h : List Entry) → each (λ r. f r.clone r.kind) (clone_rows h) ≡ each (λ c. f c.0 c.1) (all_of clone_of h)
 each_clones f [] = refl
@@ -247,7 +232,7 @@ each_clones f (Completed c ∷ h) =
 each_clones f (x ∷ h) = each_clones f h
 
 -- what some row of a clone passes by its number and kind, some clone passes
-pub has_clones : (f : CloneNo → CloneKind → Bool) (h : List Entry) → has (λ r. f r.clone r.kind) (clone_rows h) ≡ has (λ c. f c.0 c.1) (all_of clone_of h)
+has_clones : (f : CloneNo → CloneKind → Bool) (h : List Entry) → has (λ r. f r.clone r.kind) (clone_rows h) ≡ has (λ c. f c.0 c.1) (all_of clone_of h)
 has_clones f [] = refl
 has_clones f (Cloned c k ∷ h) = has-behind (λ r. f r.clone r.kind) (record { clone = c; kind = k; complete = false }) (clone_rows h) ∙ ap (λ b. f c k || b) (has_clones f h)
 has_clones f (Completed c ∷ h) =
@@ -263,15 +248,15 @@ clone_stands n (Completed c ∷ h) =
 clone_stands n (x ∷ h) = clone_stands n h
 
 -- what is cloned wasn't before
-pub cloned_once : (c : CloneNo) (k : CloneKind) (h : List Entry) → rule h (Cloned c k) ≡ true → has (is_cloned c.value) h ≡ false
+cloned_once : (c : CloneNo) (k : CloneKind) (h : List Entry) → rule h (Cloned c k) ≡ true → has (is_cloned c.value) h ≡ false
 cloned_once c k h r = not_true (has (is_cloned c.value) h) (and_right (not (has is_decision h) && not (has is_commit h)) (not (has (is_cloned c.value) h)) r)
 
 -- what is completed was cloned
-pub completed_cloned : (c : CloneNo) (h : List Entry) → rule h (Completed c) ≡ true → has (is_cloned c.value) h ≡ true
+completed_cloned : (c : CloneNo) (h : List Entry) → rule h (Completed c) ≡ true → has (is_cloned c.value) h ≡ true
 completed_cloned c h r = and_right (not (has is_decision h)) (has (is_cloned c.value) h) r
 
 -- what wasn't cloned wasn't completed
-pub uncloned_uncompleted : (n : ℕ) (h : List Entry) → ruled h ≡ true → has (is_cloned n) h ≡ false → has (is_completed n) h ≡ false
+uncloned_uncompleted : (n : ℕ) (h : List Entry) → ruled h ≡ true → has (is_cloned n) h ≡ false → has (is_completed n) h ≡ false
 uncloned_uncompleted n [] r e = refl
 uncloned_uncompleted n (Cloned c k ∷ h) r e = uncloned_uncompleted n h (other_rules (Cloned c k) h r) (or_second (n == c.value) (has (is_cloned n) h) e)
 uncloned_uncompleted n (Completed c ∷ h) r e =
@@ -280,7 +265,7 @@ uncloned_uncompleted n (Completed c ∷ h) r e =
 uncloned_uncompleted n (x ∷ h) r e = uncloned_uncompleted n h (other_rules x h r) e
 
 -- each clone's row says whether it was completed
-pub clones_seen : (h : List Entry) → ruled h ≡ true → OfEach (IsCloneSeen h) (clone_rows h)
+clones_seen : (h : List Entry) → ruled h ≡ true → OfEach (IsCloneSeen h) (clone_rows h)
 clones_seen [] r = tt
 clones_seen (Cloned c k ∷ h) r =
     of-behind (IsCloneSeen h) (record { clone = c; kind = k; complete = false })
@@ -295,7 +280,7 @@ pub clone_seen : (h : List Entry) (k : ℕ) (c : CloneRow) → ruled h ≡ true 
 clone_seen h k c r e = of-at (IsCloneSeen h) (clone_rows h) k c (clones_seen h r) e
 
 -- where p passes the kind of a clone that isn't complete, as the rows and as the history show it
-pub open_clones : (p : CloneKind → Bool) (h : List Entry) → ruled h ≡ true
+open_clones : (p : CloneKind → Bool) (h : List Entry) → ruled h ≡ true
     → has (λ c. p c.kind && not c.complete) (clone_rows h) ≡ has (λ c. p c.1 && not (is_complete h c)) (all_of clone_of h)
 open_clones p h r =
     has_same (λ c. p c.kind && not c.complete) (λ c. p c.kind && not (has (is_completed c.clone.value) h)) (clone_rows h)
@@ -306,10 +291,6 @@ open_clones p h r =
 pub open_blocks : (h : List Entry) → ruled h ≡ true → has is_open_block (clone_rows h) ≡ has (λ c. blocks c.1 && not (is_complete h c)) (all_of clone_of h)
 open_blocks h r = open_clones blocks h r
 
--- a clone that makes a commit a veto is open by the rows where it is by the history
-pub open_rollbacks : (h : List Entry) → ruled h ≡ true → has is_open_rollback (clone_rows h) ≡ has (λ c. not (blocks c.1) && not (is_complete h c)) (all_of clone_of h)
-open_rollbacks h r = open_clones (λ k. not (blocks k)) h r
-
 -- a clone that doesn't block makes a commit a veto
 rollback_kind : (k : CloneKind) → not (blocks k) ≡ is_rollback k
 rollback_kind Block = refl
@@ -318,17 +299,13 @@ rollback_kind Rollback = refl
 -- a commit is a veto where such a clone is open by the rows
 pub commit_vetoed : (h : List Entry) → ruled h ≡ true → has is_open_rollback (clone_rows h) ≡ is_veto h CommitAsked
 commit_vetoed h r =
-    open_rollbacks h r
-    ∙ has_same (λ c. not (blocks c.1) && not (is_complete h c)) (λ c. is_rollback c.1 && not (is_complete h c)) (all_of clone_of h)
-    (of-all (λ c. (not (blocks c.1) && not (is_complete h c)) ≡ (is_rollback c.1 && not (is_complete h c))) (λ c. ap (λ b. b && not (is_complete h c)) (rollback_kind c.1)) (all_of clone_of h))
+    has_same is_open_rollback (λ c. is_rollback c.kind && not c.complete) (clone_rows h)
+    (of-all (λ c. is_open_rollback c ≡ (is_rollback c.kind && not c.complete)) (λ c. ap (λ b. b && not c.complete) (rollback_kind c.kind)) (clone_rows h))
+    ∙ open_clones is_rollback h r
 
 -- the row at a place is of an enlistment of the history
 pub rows_enlisted : (h : List Entry) (k : ℕ) (x : Enlistment) → ruled h ≡ true → slice_get (rows h) k ≡ Some x → has (is_enlisted x.0.value) h ≡ true
 rows_enlisted h k x r e = (row_seen h k x r e).stands
-
--- the row that was found says what the history shows of its enlistment
-pub found_seen : (p : Enlistment → Bool) (h : List Entry) (x : Enlistment) → ruled h ≡ true → find p (rows h) ≡ Some x → IsRow h x
-found_seen p h x r e = let found = find-at p (rows h) x e in row_seen h found.0 x r found.1
 
 -- each row is volatile with a vote yes or done where each enlistment is volatile and voted so
 pub evident_seen : (h : List Entry) → ruled h ≡ true

@@ -1,5 +1,6 @@
 -- The waves of a history: by its row, an enlistment waits for the votes of those that were asked to prepare before it came.
-use Rattle.std.proofs.Common.{◌≡◌, ℕ, ◌==◌, ◌<◌, ◌≤◌, suc, Bool, true, false, ◌&&◌, ◌||◌, List, [], ◌∷◌, Option, Some, None, refl, ◌∙◌, ap, map, subst, sym, arith}
+use Rattle.std.proofs.Common.{◌≡◌, ℕ, ◌==◌, ◌<◌, ◌≤◌, suc, Bool, true, false, ◌&&◌, ◌||◌, List, [], ◌∷◌, Option, Some, None, map}
+use Rattle.std.proofs.Common.{refl, ◌∙◌, ap, subst, sym, arith}
 use Rattle.std.specs.Prelude.{is_some, not, if◌then◌else◌}
 use Rattle.std.specs.List.{slice_get}
 use Rattle.std.proofs.Math.Nat.{le_trans}
@@ -17,9 +18,10 @@ use Rattle.dtx_model.specs.Entries.{is_vote}
 use Rattle.dtx_model.specs.Observed.{rows}
 use Rattle.dtx_model.specs.Seen.{asked_of, asked_before, waited_for, IsSeen}
 use Rattle.dtx_model.proofs.Bools.{and_swap}
-use Rattle.outcome_law.proofs.Lists.{eq_self, eq_swap, apart, OfEach, of-at, of-more, of-map, of-insert, of-both, of-has, each_same, each_kept, if_kept, each-insert, how_many-insert, how_many_kept}
+use Rattle.outcome_law.proofs.Tests.{eq_self, eq_swap, apart}
+use Rattle.outcome_law.proofs.Lists.{OfEach, of-at, of-more, of-map, of-insert, of-both, of-has, each_same, each_kept, if_kept, each-insert, how_many-insert, how_many_kept}
 use Rattle.outcome_law.proofs.Rule.{is_enlisted, ruled, first_rule, other_rules}
-use Rattle.outcome_law.proofs.TableRows.{enlisted_in_rows, enlisted_once, asked_enlisted, IsRow, rows_seen, row_seen}
+use Rattle.outcome_law.proofs.TableRows.{enlisted_in_rows, enlisted_once, asked_enlisted, IsRow, there, rows_seen, row_seen}
 
 -- the row as it is behind an ask to prepare of this enlistment, behind so many marks
 abbrev pub marked : ℕ → ℕ → Enlistment → Enlistment
@@ -47,10 +49,6 @@ each-marked e n v [] = refl
 each-marked e n v (x ∷ xs) =
     ap (λ b. passes_marked v (marked e n x) && b) (each-marked e n v xs) ∙ step e n v x (has (is_of e) xs) (each (passes_marked v) xs) (is_of e x) refl
   where
-    there : (o : Option ℕ) (n : ℕ) → is_some (unless_there o n) ≡ true
-    there (Some k) n = refl
-    there None n = refl
-
     step : (e n : ℕ) (v : ℕ → Bool) (x : Enlistment) (h rest b : Bool) → (e == x.0.value) ≡ b
         → (passes_marked v (if b then (x.0, mark_row n x.1) else x) && ((not h || v e) && rest)) ≡ ((not (b || h) || v e) && (passes_marked v x && rest))
     step e n v x h rest true same =
@@ -120,7 +118,8 @@ IsBelow n q = is_asked_before q.1.asked n ≡ is_marked q
 asked_below : (n m : ℕ) (x : Enlistment) (b : Bool) → n ≤ m → ((b && not (is_marked x)) ≡ true → n < m) → IsBelow n x → IsBelow m (if b then (x.0, mark_row n x.1) else x)
 asked_below n m x true l more w = mark x.1.asked n m l more w
   where
-    mark : (o : Option ℕ) (n m : ℕ) → n ≤ m → (not (is_some o) ≡ true → n < m) → is_asked_before o n ≡ is_some o → is_asked_before (unless_there o n) m ≡ is_some (unless_there o n)
+    mark : (o : Option ℕ) (n m : ℕ) → n ≤ m → (not (is_some o) ≡ true → n < m) → is_asked_before o n ≡ is_some o
+        → is_asked_before (unless_there o n) m ≡ is_some (unless_there o n)
     mark (Some k) n m l more w = grind (arith, nat_tests)
     mark None n m l more w = let above : n < m = more refl in grind (arith, nat_tests)
 asked_below n m x false l more w = mark x.1.asked n m l w
@@ -169,7 +168,7 @@ asked_kept : (e n a : ℕ) (v : ℕ → Bool) (x : Enlistment) → a ≤ n → p
 asked_kept e n a v x l = if_kept (passes_before a v) (is_of e x) (x.0, mark_row n x.1) x (ap (λ b. not b || v x.0.value) (later_mark a n x.1.asked l))
 
 -- a wave is a wave of the row behind an ask or a vote
-pub own_wave : (h : List Entry) (b : Bool) (y x : Enlistment) → y.0 ≡ x.0 → y.1.added ≡ x.1.added → IsWave h x → IsWave h (if b then y else x)
+own_wave : (h : List Entry) (b : Bool) (y x : Enlistment) → y.0 ≡ x.0 → y.1.added ≡ x.1.added → IsWave h x → IsWave h (if b then y else x)
 own_wave h true y x same_name same_place w =
     record {
       behind = subst (λ n. n ≤ marks (rows h)) (sym same_place) w.behind;
@@ -226,7 +225,7 @@ rows_waves (Voted e v ∷ h) r =
 rows_waves (x ∷ h) r = of-more (IsWave h) (IsWave (x ∷ h)) (λ q w. record { behind = w.behind; waits = w.waits }) (rows h) (rows_waves h (other_rules x h r))
 
 -- each that was asked before the row was added has a vote by the rows where it has by the history
-pub row_waited : (h : List Entry) (k : ℕ) (x : Enlistment) → ruled h ≡ true → slice_get (rows h) k ≡ Some x → voted_before x.1.added (rows h) ≡ waited_for h x.0.value
+row_waited : (h : List Entry) (k : ℕ) (x : Enlistment) → ruled h ≡ true → slice_get (rows h) k ≡ Some x → voted_before x.1.added (rows h) ≡ waited_for h x.0.value
 row_waited h k x r e =
     let w = of-at (IsWave h) (rows h) k x (rows_waves h r) e in
     each_same (λ q. not (is_asked_before q.1.asked x.1.added) || has_voted q) (passes_before x.1.added (λ f. has (is_vote f) h)) (rows h)

@@ -2,6 +2,7 @@ use Rattle.outcome_law.proofs.TableRows.{each_rows, each_clones, clone_seen}
 use Rattle.outcome_law.proofs.Waves.{row_is_seen}
 use Rattle.outcome_law.proofs.Calls.{evidence_seen}
 use Rattle.outcome_law.proofs.Blocks.{caused_ruled}
+use Rattle.outcome_law.proofs.Timely.{caused_timely}
 use Rattle.outcome_law.proofs.tables.Goals as goal
 
 pub returns-clause-enlisted : goal.returns-clause-enlisted
@@ -18,3 +19,6 @@ returns-clause-clones c = λ s t h named run k r e. clone_seen h k r (caused_rul
 
 pub returns-clause-evidence : goal.returns-clause-evidence
 returns-clause-evidence c = λ s t h named run d. evidence_seen h (caused_ruled s t h named run)
+
+pub returns-clause-timed : goal.returns-clause-timed
+returns-clause-timed c = λ s t h named run. caused_timely s t h run

@@ -1,0 +1,55 @@
+-- Facts on tests of several parts, and on tests of numbers.
+use Rattle.std.proofs.Common.{◌≡◌, ℕ, ◌==◌, Bool, true, false, ◌&&◌, ◌||◌, refl, arith}
+use Rattle.std.proofs.lemmas.Bool.{eqb-true}
+use Rattle.std.proofs.lemmas.Bool.Decides.{nat_tests}
+use Rattle.dtx_model.proofs.Bools.{and_left, and_right, and_both, or_right, three_hold}
+
+-- a number is itself
+pub eq_self : (n : ℕ) → (n == n) ≡ true
+eq_self n = grind (arith, nat_tests)
+
+-- which of two equal numbers stands first doesn't matter
+pub eq_swap : (a b : ℕ) → (a == b) ≡ (b == a)
+eq_swap a b = grind (arith, nat_tests)
+
+-- where one number passes and another doesn't, they differ
+pub apart : (p : ℕ → Bool) (a b : ℕ) → p a ≡ false → p b ≡ true → (a == b) ≡ false
+apart p a b h k = step (a == b) refl
+  where
+    step : (t : Bool) → (a == b) ≡ t → t ≡ false
+    step true e = let same : a ≡ b = eqb-true a b e in absurd cc
+    step false e = refl
+
+-- where all of three hold, the first does
+pub first_of_three : (a b c : Bool) → (a && b && c) ≡ true → a ≡ true
+first_of_three a b c k = and_left a b (and_left (a && b) c k)
+
+-- where all of four hold, the first does
+pub first_of_four : (a b c d : Bool) → (a && b && c && d) ≡ true → a ≡ true
+first_of_four a b c d k = first_of_three a b c (and_left (a && b && c) d k)
+
+-- where all of four hold, the second does
+pub second_of_four : (a b c d : Bool) → (a && b && c && d) ≡ true → b ≡ true
+second_of_four a b c d k = and_right a b (and_left (a && b) c (and_left (a && b && c) d k))
+
+-- where all of four hold, the third does
+pub third_of_four : (a b c d : Bool) → (a && b && c && d) ≡ true → c ≡ true
+third_of_four a b c d k = and_right (a && b) c (and_left (a && b && c) d k)
+
+-- where all of four hold, the fourth does
+pub fourth_of_four : (a b c d : Bool) → (a && b && c && d) ≡ true → d ≡ true
+fourth_of_four a b c d k = and_right (a && b && c) d k
+
+-- where each of four holds, all hold
+pub four_hold : (a b c d : Bool) → a ≡ true → b ≡ true → c ≡ true → d ≡ true → (a && b && c && d) ≡ true
+four_hold a b c d p q r s = and_both (a && b && c) d (three_hold a b c p q r) s
+
+-- where the first or the third of three holds, one holds
+pub or_between : (a b c : Bool) → (a || c) ≡ true → (a || (b || c)) ≡ true
+or_between true b c k = refl
+or_between false b c k = or_right b c k
+
+-- a test that can't be true is false
+pub refuted : (b : Bool) → (b ≡ true → ⊥) → b ≡ false
+refuted true f = absurd (f refl)
+refuted false f = refl
