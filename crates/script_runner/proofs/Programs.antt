@@ -1,5 +1,5 @@
 -- From what the parts of the top call say to what it promises.
-use Rattle.std.proofs.Common.{◌≡◌, ℕ, zero, suc, Bool, true, false, slice_get, IsTrue, map, get_or, Global, String, ◌<◌, ◌≤◌, List, [], ◌∷◌, ◌++◌, length, take, drop, Option, Some, None, refl, ap, sym, ◌∙◌, subst, arith}
+use Rattle.std.proofs.Common.{◌≡◌, ◌+◌, ◌-◌, ℕ, zero, suc, Bool, true, false, slice_get, IsTrue, map, get_or, Global, String, ◌<◌, ◌≤◌, List, [], ◌∷◌, ◌++◌, length, take, drop, Option, Some, None, refl, ap, sym, ◌∙◌, subst, arith}
 use Rattle.std.proofs.Math.ListN.{drop_of_length-le}
 use Rattle.std.proofs.lemmas.List.{length-take, take_all}
 use Rattle.std.specs.Option.{ForSome}
@@ -94,6 +94,13 @@ each-fails p (x ∷ xs) (suc k) l h e d = each-fails p xs k l (and_right (p x) (
 all_run_none : (s : List Line) (n : ℕ) → each (λ l. is_run l.body) s ≡ true → IsNotRun s n → ⊥
 all_run_none s zero run k = let none : None ≡ Some k.line = k.stands in cc
 all_run_none s (suc n) run k = each-fails (λ l. is_run l.body) s n k.line run k.stands k.not_run
+
+-- a line at a place, with each before it run
+pub first_not_run : (s : List Line) (i : ℕ) (l : Line) → slice_get s i ≡ Some l → is_run l.body ≡ false → each (λ x. is_run x.body) (take i s) ≡ true → IsNotRun s (i + 1)
+first_not_run s i l stands fails before =
+    let next : i + 1 ≡ suc i = omega arith in
+    let less : (i + 1) - 1 ≡ i = omega arith in
+    record { line = l; stands = ap (kth s) next ∙ stands; not_run = fails; before = subst (λ k. each (λ x. is_run x.body) (take k s) ≡ true) (sym less) before }
 
 -- what is replayed has no line that isn't run yet
 pub never_not_yet : OneReading → (given : Option (List ℕ)) (bytes text : List ℕ) → IsFront given bytes → (r : IsReplayText bytes text) → (n : ℕ) → ForSome given (λ b. IsNotYet b n → ⊥)
