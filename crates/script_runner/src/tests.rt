@@ -1,5 +1,5 @@
 //! Runs of the top call over sources and sinks in memory.
-use crate::{Exit, run_program};
+use crate::{BadCause, Exit, run_program};
 use outside::{MemSink, MemSource, SureSink, SureSource};
 use std::alloc::{AllocError, Global};
 use std::process::Abort;
@@ -114,9 +114,50 @@ fn unwritten(
 #[test]
 fn refusals_write_nothing(rt: HostRuntime) -> Result<(), Fail> {
     let marshal = "a1 begin t1 0\na1 marshal t1\n";
-    let cases: [(&[&str], &str, &[u64], Exit); 7] = [
+    let cases: [(&[&str], &str, &[u64], Exit); 13] = [
         (&["replay"], marshal, &[], Exit::NotYet(2)),
-        (&["replay"], "a1 begin t1 0", &[], Exit::NotYet(1)),
+        (
+            &["replay"],
+            "a1 begin t1\n",
+            &[],
+            Exit::BadScript(1, BadCause::MissingWord),
+        ),
+        (
+            &["replay"],
+            "a1 begin t1 default",
+            &[],
+            Exit::BadScript(1, BadCause::NoNewline),
+        ),
+        (
+            &["replay"],
+            "a1 xxxxxxxxxxxxxxxxxxxxxxxxxxxxxxxxxxxxxxxxxxxxxxxxxxxxxxxxxxxxxxxxxxxxxxxxxxxxxxxxxxxxxxxxxxxxxxxxxxxxxxxxxxxxxxxxxxxxxxxxxxxxxxxxxxxxxxxxxxxxxxxxxxxxxxxxxxxxxxxxxxxxxxxxxxxxxxxxxxxxxxxxxxxxxxxxxxxxx\n",
+            &[],
+            Exit::BadScript(1, BadCause::UnknownWord),
+        ),
+        (
+            &["replay"],
+            "a1 xxxxxxxxxxxxxxxxxxxxxxxxxxxxxxxxxxxxxxxxxxxxxxxxxxxxxxxxxxxxxxxxxxxxxxxxxxxxxxxxxxxxxxxxxxxxxxxxxxxxxxxxxxxxxxxxxxxxxxxxxxxxxxxxxxxxxxxxxxxxxxxxxxxxxxxxxxxxxxxxxxxxxxxxxxxxxxxxxxxxxxxxxxxxxxxxxxxxxx\n",
+            &[],
+            Exit::BadScript(1, BadCause::LongLine),
+        ),
+        (
+            &["replay"],
+            "a1 begin t257 0\n",
+            &[],
+            Exit::BadScript(1, BadCause::BadNumber),
+        ),
+        (
+            &["replay"],
+            "a1 begin t1 0\na1 marshal t1\na1 commit t2\n",
+            &[],
+            Exit::BadScript(3, BadCause::NameUnknown),
+        ),
+        (
+            &["replay"],
+            "a1 begin t1\n",
+            &[1],
+            Exit::ReadFault,
+        ),
         (&["replay"], ONE_VOLATILE, &[1], Exit::ReadFault),
         (&["replay"], ONE_VOLATILE, &[3], Exit::ReadFault),
         (&["replay", "now"], ONE_VOLATILE, &[1], Exit::Usage),
