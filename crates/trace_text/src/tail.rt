@@ -6,7 +6,7 @@ use itoa::write_digits;
 use std::marker::Model;
 
 /// Room for the longest line.
-const LINE_ROOM: usize = 128;
+const LINE_ROOM: usize = 160;
 
 /// The end of a line. Contracts see its bytes.
 #[derive(Drop)]
@@ -22,7 +22,7 @@ impl Model for Tail {
 
     ghost view = { λ t. drop t.start t.bytes };
 
-    ghost invariant = { λ t. t.start ≤ 128 };
+    ghost invariant = { λ t. t.start ≤ 160 };
 }
 
 impl Tail {
@@ -53,7 +53,7 @@ impl Tail {
     /// Puts a text before what is there.
     #[inline(always)]
     pub fn put(&mut self, text: &[u8])
-        requires { length text.now + length self.old ≤ 128 }
+        requires { length text.now + length self.old ≤ 160 }
         ensures text { self.new ≡ text.now ++ self.old }
         ensures length { length self.new ≡ length text.now + length self.old }
     {
@@ -66,7 +66,7 @@ impl Tail {
     /// Puts a number before what is there.
     #[inline]
     pub fn put_number(&mut self, n: u64)
-        requires { 20 + length self.old ≤ 128 }
+        requires { 20 + length self.old ≤ 160 }
         ensures text { self.new ≡ decimal n ++ self.old }
         ensures length { length self.new ≤ 20 + length self.old }
     {

@@ -4,5 +4,5 @@ use Rattle.trace_text.proofs.tail.Tail.clear.Goals as goal
 
 pub returns : goal.returns
 returns c =
-    let long : length c.self.inside.bytes ≤ 128 = search rules in
-    drop_all 128 c.self.inside.bytes long
+    let long : length c.self.inside.bytes ≤ 160 = search rules in
+    drop_all 160 c.self.inside.bytes long

@@ -1,0 +1,330 @@
+//! The entries of a history.
+ghost use Rattle.std.specs.Prelude.{◌≡◌, ◌≤◌, ◌+◌, ◌++◌, codes, length, true};
+ghost use Rattle.dtx_values.specs.declared.entry.Entry.TheVariants.{Answered, Asked, Called, Cloned, Completed, Cut, Decided, Down, Enlisted, LogWord, OwnerAnswered, Promoted, PromoteReply, Promoting, Recovered, Requested, Restarted, Scope, Told, Voted};
+ghost use Rattle.dtx_model.specs.Grammar.{enlistment_name};
+ghost use Rattle.dtx_model.specs.TraceText.{entry_text, sent_text};
+ghost use Rattle.trace_text.specs.Printed.{is_event};
+
+use crate::answers::put_answer;
+use crate::messages::put_sent;
+use crate::names::{
+    put_actor, put_ambient, put_clone, put_connection, put_enlistment, put_identifier, put_manager,
+    put_numbered, put_party, put_scope,
+};
+use crate::tail::Tail;
+use crate::words::{
+    put_ask, put_cause, put_class, put_direction, put_found, put_image, put_kind, put_outcome,
+    put_reply, put_request, put_vote,
+};
+use dtx_values::{
+    ActorNo, Answer, Ask, Cause, Class, CloneKind, CloneNo, Conn, Dir, EnlNo, Entry, LogNote,
+    Message, Outcome, Party, Request, RmNo, ScopeNote, Vote,
+};
+
+/// Puts a word and an enlistment.
+#[inline(always)]
+fn put_of(tail: &mut Tail, word: &[u8], e: EnlNo)
+    requires { length word.now + 21 + length tail.old ≤ 160 }
+    ensures text { tail.new ≡ word.now ++ enlistment_name e.value ++ tail.old }
+    ensures length { length tail.new ≤ length word.now + 21 + length tail.old }
+{
+    put_enlistment(tail, e);
+    tail.put(word);
+}
+
+/// Puts the answer of a call, its actor and the line of the script.
+fn put_call(tail: &mut Tail, line: u32, actor: ActorNo, answer: Answer)
+    requires { 91 + length tail.old ≤ 160 }
+    ensures text { tail.new ≡ entry_text (Called line actor answer) ++ tail.old }
+    ensures length { length tail.new ≤ 91 + length tail.old }
+{
+    put_answer(tail, answer);
+    tail.put(b" ");
+    put_actor(tail, actor);
+    tail.put(b" ");
+    put_numbered(tail, b"call ", u64::from(line));
+}
+
+/// Puts the answer that a call had waited for.
+fn put_answered(tail: &mut Tail, line: u32, answer: Answer)
+    requires { 91 + length tail.old ≤ 160 }
+    ensures text { tail.new ≡ entry_text (Answered line answer) ++ tail.old }
+    ensures length { length tail.new ≤ 91 + length tail.old }
+{
+    put_answer(tail, answer);
+    tail.put(b" ");
+    put_numbered(tail, b"answer ", u64::from(line));
+}
+
+fn put_cloned(tail: &mut Tail, c: CloneNo, kind: CloneKind)
+    requires { 91 + length tail.old ≤ 160 }
+    ensures text { tail.new ≡ entry_text (Cloned c kind) ++ tail.old }
+    ensures length { length tail.new ≤ 91 + length tail.old }
+{
+    put_kind(tail, kind);
+    tail.put(b" ");
+    put_clone(tail, c);
+    tail.put(b"cloned ");
+}
+
+fn put_completed(tail: &mut Tail, c: CloneNo)
+    requires { 91 + length tail.old ≤ 160 }
+    ensures text { tail.new ≡ entry_text (Completed c) ++ tail.old }
+    ensures length { length tail.new ≤ 91 + length tail.old }
+{
+    put_clone(tail, c);
+    tail.put(b"completed ");
+}
+
+fn put_enlisted(tail: &mut Tail, e: EnlNo, class: Class)
+    requires { 91 + length tail.old ≤ 160 }
+    ensures text { tail.new ≡ entry_text (Enlisted e class) ++ tail.old }
+    ensures length { length tail.new ≤ 91 + length tail.old }
+{
+    put_class(tail, class);
+    tail.put(b" ");
+    put_of(tail, b"enlisted ", e);
+}
+
+fn put_asked(tail: &mut Tail, e: EnlNo, ask: Ask)
+    requires { 91 + length tail.old ≤ 160 }
+    ensures text { tail.new ≡ entry_text (Asked e ask) ++ tail.old }
+    ensures length { length tail.new ≤ 91 + length tail.old }
+{
+    put_ask(tail, ask);
+    tail.put(b" ");
+    put_of(tail, b"ask ", e);
+}
+
+fn put_voted(tail: &mut Tail, e: EnlNo, vote: Vote)
+    requires { 91 + length tail.old ≤ 160 }
+    ensures text { tail.new ≡ entry_text (Voted e vote) ++ tail.old }
+    ensures length { length tail.new ≤ 91 + length tail.old }
+{
+    put_vote(tail, vote);
+    tail.put(b" ");
+    put_of(tail, b"vote ", e);
+}
+
+fn put_promote_reply(tail: &mut Tail, e: EnlNo, ok: bool)
+    requires { 91 + length tail.old ≤ 160 }
+    ensures text { tail.new ≡ entry_text (PromoteReply e ok) ++ tail.old }
+    ensures length { length tail.new ≤ 91 + length tail.old }
+{
+    put_reply(tail, ok);
+    tail.put(b" ");
+    put_of(tail, b"promote ", e);
+}
+
+fn put_requested(tail: &mut Tail, e: EnlNo, request: Request)
+    requires { 91 + length tail.old ≤ 160 }
+    ensures text { tail.new ≡ entry_text (Requested e request) ++ tail.old }
+    ensures length { length tail.new ≤ 91 + length tail.old }
+{
+    put_request(tail, request);
+    tail.put(b" ");
+    put_of(tail, b"request ", e);
+}
+
+fn put_owner_answer(tail: &mut Tail, e: EnlNo, outcome: Outcome)
+    requires { 91 + length tail.old ≤ 160 }
+    ensures text { tail.new ≡ entry_text (OwnerAnswered e outcome) ++ tail.old }
+    ensures length { length tail.new ≤ 91 + length tail.old }
+{
+    put_outcome(tail, outcome);
+    tail.put(b" ");
+    put_of(tail, b"owner ", e);
+}
+
+fn put_decided(tail: &mut Tail, outcome: Outcome)
+    requires { 91 + length tail.old ≤ 160 }
+    ensures text { tail.new ≡ entry_text (Decided outcome) ++ tail.old }
+    ensures length { length tail.new ≤ 91 + length tail.old }
+{
+    put_outcome(tail, outcome);
+    tail.put(b"decided ");
+}
+
+fn put_told(tail: &mut Tail, party: Party, outcome: Outcome)
+    requires { 91 + length tail.old ≤ 160 }
+    ensures text { tail.new ≡ entry_text (Told party outcome) ++ tail.old }
+    ensures length { length tail.new ≤ 91 + length tail.old }
+{
+    put_outcome(tail, outcome);
+    tail.put(b" ");
+    put_party(tail, party);
+    tail.put(b"told ");
+}
+
+fn put_promoting(tail: &mut Tail, cause: Cause)
+    requires { 91 + length tail.old ≤ 160 }
+    ensures text { tail.new ≡ entry_text (Promoting cause) ++ tail.old }
+    ensures length { length tail.new ≤ 91 + length tail.old }
+{
+    put_cause(tail, cause);
+    tail.put(b"promoting ");
+}
+
+fn put_promoted(tail: &mut Tail, id: u128, cause: Cause)
+    requires { 91 + length tail.old ≤ 160 }
+    ensures text { tail.new ≡ entry_text (Promoted id cause) ++ tail.old }
+    ensures length { length tail.new ≤ 91 + length tail.old }
+{
+    put_cause(tail, cause);
+    tail.put(b" ");
+    put_identifier(tail, id);
+    tail.put(b"promoted ");
+}
+
+/// Puts a word and a message.
+#[inline(always)]
+fn put_wire(tail: &mut Tail, word: &[u8], c: Conn, d: Dir, m: Message)
+    requires { length word.now + 67 + length tail.old ≤ 160 }
+    ensures text { tail.new ≡ word.now ++ sent_text c d m ++ tail.old }
+    ensures length { length tail.new ≤ length word.now + 67 + length tail.old }
+{
+    put_sent(tail, c, d, m);
+    tail.put(word);
+}
+
+/// Puts how many messages were kept upward and downward on a connection that was cut.
+fn put_cut(tail: &mut Tail, c: Conn, up: u32, down: u32)
+    requires { 91 + length tail.old ≤ 160 }
+    ensures text { tail.new ≡ entry_text (Cut c up down) ++ tail.old }
+    ensures length { length tail.new ≤ 91 + length tail.old }
+{
+    put_numbered(tail, b" ", u64::from(down));
+    put_numbered(tail, b" ", u64::from(up));
+    put_connection(tail, c);
+    tail.put(b"cut ");
+}
+
+/// Puts the end of a connection that was seen.
+fn put_end(tail: &mut Tail, c: Conn, d: Dir)
+    requires { 91 + length tail.old ≤ 160 }
+    ensures text { tail.new ≡ entry_text (Down c d) ++ tail.old }
+    ensures length { length tail.new ≤ 91 + length tail.old }
+{
+    put_direction(tail, d);
+    tail.put(b" ");
+    put_connection(tail, c);
+    tail.put(b"down ");
+}
+
+fn put_restarted(tail: &mut Tail, found: bool)
+    requires { 91 + length tail.old ≤ 160 }
+    ensures text { tail.new ≡ entry_text (Restarted found) ++ tail.old }
+    ensures length { length tail.new ≤ 91 + length tail.old }
+{
+    put_found(tail, found);
+    tail.put(b"restarted ");
+}
+
+fn put_recovered(tail: &mut Tail, r: RmNo)
+    requires { 91 + length tail.old ≤ 160 }
+    ensures text { tail.new ≡ entry_text (Recovered r) ++ tail.old }
+    ensures length { length tail.new ≤ 91 + length tail.old }
+{
+    put_manager(tail, r);
+    tail.put(b"recovered ");
+}
+
+fn put_scope_note(tail: &mut Tail, x: ScopeNote)
+    requires { 91 + length tail.old ≤ 160 }
+    ensures text { tail.new ≡ entry_text (Scope x) ++ tail.old }
+    ensures length { length tail.new ≤ 91 + length tail.old }
+{
+    match x {
+        ScopeNote::Opened(s, t) => {
+            put_ambient(tail, t);
+            tail.put(b" ");
+            put_scope(tail, s);
+            tail.put(b"opened ");
+        }
+        ScopeNote::Finished(s) => {
+            put_scope(tail, s);
+            tail.put(b"finished ");
+        }
+        ScopeNote::Closed(s) => {
+            put_scope(tail, s);
+            tail.put(b"closed ");
+        }
+    }
+}
+
+fn put_log_note(tail: &mut Tail, x: LogNote)
+    requires { 91 + length tail.old ≤ 160 }
+    ensures text { tail.new ≡ entry_text (LogWord x) ++ tail.old }
+    ensures length { length tail.new ≤ 91 + length tail.old }
+{
+    match x {
+        LogNote::Armed(n, image) => {
+            put_image(tail, image);
+            tail.put(b" ");
+            put_numbered(tail, b"armed ", u64::from(n));
+        }
+        LogNote::Opened(n) => put_numbered(tail, b"opened ", u64::from(n)),
+    }
+}
+
+/// Puts an entry of one word.
+fn put_event(tail: &mut Tail, x: Entry)
+    requires event { is_event x ≡ true }
+    requires room { 16 + length tail.old ≤ 160 }
+    ensures text { tail.new ≡ entry_text x ++ tail.old }
+    ensures length { length tail.new ≤ 16 + length tail.old }
+{
+    match x {
+        Entry::CommitAsked => tail.put(b"commit"),
+        Entry::RollbackAsked => tail.put(b"rollback"),
+        Entry::TimedOut => tail.put(b"timedout"),
+        Entry::Late => tail.put(b"late"),
+        Entry::Sealed => tail.put(b"sealed"),
+        Entry::LocalYes => tail.put(b"yes"),
+        Entry::PromotionFailed => tail.put(b"promotionfailed"),
+        Entry::Logged => tail.put(b"logged"),
+        Entry::LogFull => tail.put(b"logfull"),
+        Entry::Freed => tail.put(b"freed"),
+        Entry::Stopped => tail.put(b"stopped"),
+        _ => unreachable!(),
+    }
+}
+
+pub fn put_entry(tail: &mut Tail, x: Entry)
+    requires { 91 + length tail.old ≤ 160 }
+    ensures text { tail.new ≡ entry_text x ++ tail.old }
+    ensures length { length tail.new ≤ 91 + length tail.old }
+{
+    match x {
+        Entry::Called(line, actor, answer) => put_call(tail, line, actor, answer),
+        Entry::Answered(line, answer) => put_answered(tail, line, answer),
+        Entry::Began(milliseconds) => put_numbered(tail, b"began ", u64::from(milliseconds)),
+        Entry::Cloned(c, kind) => put_cloned(tail, c, kind),
+        Entry::Completed(c) => put_completed(tail, c),
+        Entry::Enlisted(e, class) => put_enlisted(tail, e, class),
+        Entry::Init(e) => put_of(tail, b"init ", e),
+        Entry::Clock(milliseconds) => put_numbered(tail, b"clock ", milliseconds),
+        Entry::Asked(e, ask) => put_asked(tail, e, ask),
+        Entry::Voted(e, vote) => put_voted(tail, e, vote),
+        Entry::PromoteReply(e, ok) => put_promote_reply(tail, e, ok),
+        Entry::Requested(e, request) => put_requested(tail, e, request),
+        Entry::Handed(e) => put_of(tail, b"hand ", e),
+        Entry::OwnerAnswered(e, outcome) => put_owner_answer(tail, e, outcome),
+        Entry::Decided(outcome) => put_decided(tail, outcome),
+        Entry::Told(party, outcome) => put_told(tail, party, outcome),
+        Entry::Promoting(cause) => put_promoting(tail, cause),
+        Entry::Promoted(id, cause) => put_promoted(tail, id, cause),
+        Entry::Sent(c, d, m) => put_wire(tail, b"sent ", c, d, m),
+        Entry::Got(c, d, m) => put_wire(tail, b"got ", c, d, m),
+        Entry::Cut(c, up, down) => put_cut(tail, c, up, down),
+        Entry::Down(c, d) => put_end(tail, c, d),
+        Entry::Lost(e) => put_of(tail, b"lost ", e),
+        Entry::Restarted(found) => put_restarted(tail, found),
+        Entry::Reenlisted(e) => put_of(tail, b"reenlisted ", e),
+        Entry::Recovered(r) => put_recovered(tail, r),
+        Entry::Acked(e) => put_of(tail, b"acked ", e),
+        Entry::Scope(note) => put_scope_note(tail, note),
+        Entry::LogWord(note) => put_log_note(tail, note),
+        _ => put_event(tail, x),
+    }
+}

@@ -1,0 +1,157 @@
+//! The words of a trace: each puts its word before the line's end that is there.
+ghost use Rattle.std.specs.Prelude.{◌≡◌, ◌≤◌, ◌+◌, ◌++◌, length};
+ghost use Rattle.dtx_model.specs.Grammar.{image_word, iso_word, kind_word};
+ghost use Rattle.dtx_model.specs.TraceText.{ask_text, cast_vote_text, cause_text, class_text, direction_text, found_text, outcome_text, promote_text, request_text};
+
+use crate::tail::Tail;
+use dtx_values::{Ask, Cause, Class, CloneKind, Dir, Image, Iso, Outcome, Request, Vote};
+
+pub fn put_outcome(tail: &mut Tail, o: Outcome)
+    requires { 16 + length tail.old ≤ 160 }
+    ensures text { tail.new ≡ outcome_text o ++ tail.old }
+    ensures length { length tail.new ≤ 16 + length tail.old }
+{
+    match o {
+        Outcome::Committed => tail.put(b"committed"),
+        Outcome::Aborted => tail.put(b"aborted"),
+        Outcome::InDoubt => tail.put(b"indoubt"),
+    }
+}
+
+pub fn put_class(tail: &mut Tail, c: Class)
+    requires { 16 + length tail.old ≤ 160 }
+    ensures text { tail.new ≡ class_text c ++ tail.old }
+    ensures length { length tail.new ≤ 16 + length tail.old }
+{
+    match c {
+        Class::Zero => tail.put(b"zero"),
+        Class::One => tail.put(b"one"),
+        Class::DurableTwo => tail.put(b"two"),
+        Class::DurableSingle => tail.put(b"single"),
+        Class::Promotable => tail.put(b"promotable"),
+    }
+}
+
+pub fn put_ask(tail: &mut Tail, a: Ask)
+    requires { 16 + length tail.old ≤ 160 }
+    ensures text { tail.new ≡ ask_text a ++ tail.old }
+    ensures length { length tail.new ≤ 16 + length tail.old }
+{
+    match a {
+        Ask::Prepare => tail.put(b"prepare"),
+        Ask::Promote => tail.put(b"promote"),
+        Ask::Single => tail.put(b"single"),
+    }
+}
+
+pub fn put_vote(tail: &mut Tail, v: Vote)
+    requires { 16 + length tail.old ≤ 160 }
+    ensures text { tail.new ≡ cast_vote_text v ++ tail.old }
+    ensures length { length tail.new ≤ 16 + length tail.old }
+{
+    match v {
+        Vote::Yes => tail.put(b"yes"),
+        Vote::No => tail.put(b"no"),
+        Vote::Done => tail.put(b"done"),
+    }
+}
+
+pub fn put_kind(tail: &mut Tail, k: CloneKind)
+    requires { 16 + length tail.old ≤ 160 }
+    ensures text { tail.new ≡ kind_word k ++ tail.old }
+    ensures length { length tail.new ≤ 16 + length tail.old }
+{
+    match k {
+        CloneKind::Block => tail.put(b"block"),
+        CloneKind::Rollback => tail.put(b"rollback"),
+    }
+}
+
+pub fn put_request(tail: &mut Tail, r: Request)
+    requires { 16 + length tail.old ≤ 160 }
+    ensures text { tail.new ≡ request_text r ++ tail.old }
+    ensures length { length tail.new ≤ 16 + length tail.old }
+{
+    match r {
+        Request::Commit => tail.put(b"commit"),
+        Request::Abort => tail.put(b"abort"),
+    }
+}
+
+pub fn put_cause(tail: &mut Tail, c: Cause)
+    requires { 16 + length tail.old ≤ 160 }
+    ensures text { tail.new ≡ cause_text c ++ tail.old }
+    ensures length { length tail.new ≤ 16 + length tail.old }
+{
+    match c {
+        Cause::Two => tail.put(b"two"),
+        Cause::Second => tail.put(b"second"),
+        Cause::Beside => tail.put(b"beside"),
+        Cause::Marshal => tail.put(b"marshal"),
+    }
+}
+
+pub fn put_direction(tail: &mut Tail, d: Dir)
+    requires { 16 + length tail.old ≤ 160 }
+    ensures text { tail.new ≡ direction_text d ++ tail.old }
+    ensures length { length tail.new ≤ 16 + length tail.old }
+{
+    match d {
+        Dir::Up => tail.put(b"up"),
+        Dir::Down => tail.put(b"down"),
+    }
+}
+
+pub fn put_isolation(tail: &mut Tail, i: Iso)
+    requires { 16 + length tail.old ≤ 160 }
+    ensures text { tail.new ≡ iso_word i ++ tail.old }
+    ensures length { length tail.new ≤ 16 + length tail.old }
+{
+    match i {
+        Iso::Serializable => tail.put(b"serializable"),
+        Iso::RepeatableRead => tail.put(b"repeatableread"),
+        Iso::ReadCommitted => tail.put(b"readcommitted"),
+        Iso::ReadUncommitted => tail.put(b"readuncommitted"),
+        Iso::Snapshot => tail.put(b"snapshot"),
+        Iso::Chaos => tail.put(b"chaos"),
+        Iso::Unspecified => tail.put(b"unspecified"),
+    }
+}
+
+pub fn put_image(tail: &mut Tail, i: Image)
+    requires { 16 + length tail.old ≤ 160 }
+    ensures text { tail.new ≡ image_word i ++ tail.old }
+    ensures length { length tail.new ≤ 16 + length tail.old }
+{
+    match i {
+        Image::Lose => tail.put(b"lose"),
+        Image::Keep => tail.put(b"keep"),
+        Image::Torn => tail.put(b"torn"),
+    }
+}
+
+/// Puts whether a promotable enlistment could promote.
+pub fn put_reply(tail: &mut Tail, ok: bool)
+    requires { 16 + length tail.old ≤ 160 }
+    ensures text { tail.new ≡ promote_text ok ++ tail.old }
+    ensures length { length tail.new ≤ 16 + length tail.old }
+{
+    if ok {
+        tail.put(b"ok");
+    } else {
+        tail.put(b"fail");
+    }
+}
+
+/// Puts whether a record was found.
+pub fn put_found(tail: &mut Tail, found: bool)
+    requires { 16 + length tail.old ≤ 160 }
+    ensures text { tail.new ≡ found_text found ++ tail.old }
+    ensures length { length tail.new ≤ 16 + length tail.old }
+{
+    if found {
+        tail.put(b"found");
+    } else {
+        tail.put(b"none");
+    }
+}
