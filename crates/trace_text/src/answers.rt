@@ -3,12 +3,10 @@ ghost use Rattle.std.specs.Prelude.{◌≡◌, ◌≤◌, ◌+◌, ◌++◌, len
 ghost use Rattle.dtx_values.specs.declared.entry.Answer.TheVariants.{Connected, Ended, Id, Isolation, Nested, Over};
 ghost use Rattle.dtx_model.specs.TraceText.{answer_text};
 
-use crate::names::{
-    put_ambient, put_enlistment, put_identifier, put_manager, put_numbered, put_scope,
-};
-use crate::tail::Tail;
-use crate::words::{put_isolation, put_outcome};
+use crate::names::{put_ambient, put_identifier};
+use crate::words::put_outcome;
 use dtx_values::{Answer, EnlNo, Iso, Outcome, RmNo, ScopeNo};
+use line_tail::{Tail, put_enlistment, put_isolation, put_manager, put_numbered, put_scope};
 
 /// Puts the identifier of a promoted transaction.
 fn put_id(tail: &mut Tail, id: u128)

@@ -7,18 +7,18 @@ ghost use Rattle.trace_text.specs.Printed.{is_event};
 
 use crate::answers::put_answer;
 use crate::messages::put_sent;
-use crate::names::{
-    put_actor, put_ambient, put_clone, put_connection, put_enlistment, put_identifier, put_manager,
-    put_numbered, put_party, put_scope,
-};
-use crate::tail::Tail;
+use crate::names::{put_ambient, put_identifier, put_party};
 use crate::words::{
-    put_ask, put_cause, put_class, put_direction, put_found, put_image, put_kind, put_outcome,
-    put_reply, put_request, put_vote,
+    put_ask, put_cause, put_class, put_direction, put_found, put_outcome, put_reply, put_request,
+    put_vote,
 };
 use dtx_values::{
     ActorNo, Answer, Ask, Cause, Class, CloneKind, CloneNo, Conn, Dir, EnlNo, Entry, LogNote,
     Message, Outcome, Party, Request, RmNo, ScopeNote, Vote,
+};
+use line_tail::{
+    Tail, put_actor, put_clone, put_connection, put_enlistment, put_image, put_kind, put_manager,
+    put_numbered, put_scope,
 };
 
 /// Puts a word and an enlistment.

@@ -6,7 +6,6 @@ mod entries;
 mod messages;
 mod names;
 mod printer;
-mod tail;
 mod words;
 
 pub use dtx_values::{Place, Trace};

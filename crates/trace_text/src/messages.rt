@@ -2,10 +2,9 @@
 ghost use Rattle.std.specs.Prelude.{◌≡◌, ◌≤◌, ◌+◌, ◌++◌, length};
 ghost use Rattle.dtx_model.specs.TraceText.{message_text, sent_text};
 
-use crate::names::{put_connection, put_numbered};
-use crate::tail::Tail;
 use crate::words::put_direction;
 use dtx_values::{Conn, Dir, Message};
+use line_tail::{Tail, put_connection, put_numbered};
 
 /// Puts the name of a message.
 fn put_message(tail: &mut Tail, m: Message)

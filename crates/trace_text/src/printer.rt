@@ -4,8 +4,8 @@ ghost use Rattle.dtx_model.specs.TraceText.{trace_line, trace_text};
 
 use crate::entries::put_entry;
 use crate::names::put_place;
-use crate::tail::Tail;
 use dtx_values::{Entry, Place, Trace};
+use line_tail::Tail;
 use std::alloc::{AllocError, Global};
 
 /// The bytes that are set aside for each line of a trace: a little more than the mean.

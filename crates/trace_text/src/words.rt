@@ -1,10 +1,9 @@
 //! The words of a trace: each puts its word before the line's end that is there.
 ghost use Rattle.std.specs.Prelude.{◌≡◌, ◌≤◌, ◌+◌, ◌++◌, length};
-ghost use Rattle.dtx_model.specs.Grammar.{image_word, iso_word, kind_word};
 ghost use Rattle.dtx_model.specs.TraceText.{ask_text, cast_vote_text, cause_text, class_text, direction_text, found_text, outcome_text, promote_text, request_text};
 
-use crate::tail::Tail;
-use dtx_values::{Ask, Cause, Class, CloneKind, Dir, Image, Iso, Outcome, Request, Vote};
+use dtx_values::{Ask, Cause, Class, Dir, Outcome, Request, Vote};
+use line_tail::Tail;
 
 pub fn put_outcome(tail: &mut Tail, o: Outcome)
     requires { 16 + length tail.old ≤ 160 }
@@ -56,17 +55,6 @@ pub fn put_vote(tail: &mut Tail, v: Vote)
     }
 }
 
-pub fn put_kind(tail: &mut Tail, k: CloneKind)
-    requires { 16 + length tail.old ≤ 160 }
-    ensures text { tail.new ≡ kind_word k ++ tail.old }
-    ensures length { length tail.new ≤ 16 + length tail.old }
-{
-    match k {
-        CloneKind::Block => tail.put(b"block"),
-        CloneKind::Rollback => tail.put(b"rollback"),
-    }
-}
-
 pub fn put_request(tail: &mut Tail, r: Request)
     requires { 16 + length tail.old ≤ 160 }
     ensures text { tail.new ≡ request_text r ++ tail.old }
@@ -99,34 +87,6 @@ pub fn put_direction(tail: &mut Tail, d: Dir)
     match d {
         Dir::Up => tail.put(b"up"),
         Dir::Down => tail.put(b"down"),
-    }
-}
-
-pub fn put_isolation(tail: &mut Tail, i: Iso)
-    requires { 16 + length tail.old ≤ 160 }
-    ensures text { tail.new ≡ iso_word i ++ tail.old }
-    ensures length { length tail.new ≤ 16 + length tail.old }
-{
-    match i {
-        Iso::Serializable => tail.put(b"serializable"),
-        Iso::RepeatableRead => tail.put(b"repeatableread"),
-        Iso::ReadCommitted => tail.put(b"readcommitted"),
-        Iso::ReadUncommitted => tail.put(b"readuncommitted"),
-        Iso::Snapshot => tail.put(b"snapshot"),
-        Iso::Chaos => tail.put(b"chaos"),
-        Iso::Unspecified => tail.put(b"unspecified"),
-    }
-}
-
-pub fn put_image(tail: &mut Tail, i: Image)
-    requires { 16 + length tail.old ≤ 160 }
-    ensures text { tail.new ≡ image_word i ++ tail.old }
-    ensures length { length tail.new ≤ 16 + length tail.old }
-{
-    match i {
-        Image::Lose => tail.put(b"lose"),
-        Image::Keep => tail.put(b"keep"),
-        Image::Torn => tail.put(b"torn"),
     }
 }
 

@@ -1,6 +1,6 @@
 use Rattle.std.proofs.Common.{rules, ◌≡◌, ◌≤◌, ◌-◌, decimal, length, ap, sym, ◌∙◌, arith, length-append, length-drop}
 use Rattle.std.proofs.lemmas.Fmt.{length-decimal-le}
-use Rattle.trace_text.proofs.tail.Tail.put_number.Goals as goal
+use Rattle.line_tail.proofs.tail.Tail.put_number.Goals as goal
 
 pub write_digits-self-inside-requires : goal.write_digits-self-inside-requires
 write_digits-self-inside-requires c =

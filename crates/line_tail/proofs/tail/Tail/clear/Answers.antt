@@ -1,6 +1,6 @@
 use Rattle.std.proofs.Common.{rules, ◌≤◌, length}
 use Rattle.std.proofs.lemmas.List.{drop_all}
-use Rattle.trace_text.proofs.tail.Tail.clear.Goals as goal
+use Rattle.line_tail.proofs.tail.Tail.clear.Goals as goal
 
 pub returns : goal.returns
 returns c =
