@@ -71,6 +71,10 @@ clean_digits (x ∷ xs) d =
     let here : is_from 33 126 x ≡ true = in_range 33 126 x (omega arith) (omega arith) in
     and_both (is_from 33 126 x) (each (λ b. is_from 33 126 b) xs) here (clean_digits xs d.1)
 
--- so is a number's text
+-- a number's text has digits alone
+pub digits_of_decimal : (n : ℕ) → n < 2 ^ 64 → AllDigits 10 (decimal n)
+digits_of_decimal n h = digits_decimal own n h
+
+-- it is clean
 pub clean_decimal : (n : ℕ) → n < 2 ^ 64 → each (λ b. is_from 33 126 b) (decimal n) ≡ true
-clean_decimal n h = clean_digits (decimal n) (digits_decimal own n h)
+clean_decimal n h = clean_digits (decimal n) (digits_of_decimal n h)

@@ -1,9 +1,6 @@
-pub mod Commands
-pub mod Cuts
+pub mod Forms
+pub mod Figures
+pub mod CleanWords
 pub mod LineTexts
-pub mod Longer
-pub mod Numbers
-pub mod OneReading
+pub mod Fitting
 pub mod SameLines
-pub mod Scripts
-pub mod Tables
