@@ -4,3 +4,5 @@ pub mod CleanWords
 pub mod LineTexts
 pub mod Fitting
 pub mod SameLines
+pub mod Scripts
+pub mod GoodLines
