@@ -1,8 +1,12 @@
-pub mod Forms
-pub mod Figures
 pub mod CleanWords
-pub mod LineTexts
+pub mod Figures
 pub mod Fitting
+pub mod Forms
+pub mod GoodLines
+pub mod LineTexts
+pub mod Longer
+pub mod Meanings
+pub mod OneReading
 pub mod SameLines
 pub mod Scripts
-pub mod GoodLines
+pub mod SomeReading
