@@ -1,5 +1,5 @@
 -- Words without spaces.
-use Rattle.std.proofs.Common.{◌≡◌, ℕ, ◌+◌, ◌^◌, ◌<◌, ◌≤◌, ◌==◌, ◌&&◌, ◌||◌, Bool, true, false, List, [], ◌∷◌, ◌++◌, refl, ap, sym, ◌∙◌, subst, arith, Option, Some, None, decimal}
+use Rattle.std.proofs.Common.{◌≡◌, ℕ, ◌^◌, ◌<◌, ◌≤◌, ◌==◌, ◌&&◌, ◌||◌, Bool, true, List, [], ◌∷◌, refl, subst, arith, Option, Some, None}
 use Rattle.std.specs.Prelude.{nat_le}
 use Rattle.std.proofs.lemmas.Bool.Decides.{nat_tests}
 use Rattle.dtx_model.specs.Words.{has, each}
@@ -32,7 +32,7 @@ clean_letter : (b : ℕ) (cs : List ℕ) → each (λ b. is_from 33 126 b) cs �
 clean_letter b [] h k = absurd (cc k)
 clean_letter b (c ∷ cs) h k =
     or_case (b == c) (has (λ c. b == c) cs) (λ e. let q : b ≡ c = grind (arith, nat_tests) in rw q (and_left (is_from 33 126 c) (each (λ b. is_from 33 126 b) cs) h))
-        (clean_letter b cs (and_right (is_from 33 126 c) (each (λ b. is_from 33 126 b) cs) h)) k
+    (clean_letter b cs (and_right (is_from 33 126 c) (each (λ b. is_from 33 126 b) cs) h)) k
 
 -- numbers that aren't large are written by clean bytes
 clean_written : (low high : ℕ) (w : List ℕ) → nat_le high 4294967295 ≡ true → writes low high w ≡ true → is_clean w ≡ true
@@ -59,10 +59,10 @@ clean_word s w h k =
     let rest = and_right (each is_clean s.words) (each (λ b. is_from 33 126 b) s.letters && (nat_le s.most 9999 && has_small_numbers s.number)) h in
     let numbers = and_right (each (λ b. is_from 33 126 b) s.letters) (nat_le s.most 9999 && has_small_numbers s.number) rest in
     or_case (has (same_bytes w) s.words || is_name s w) (is_number s.number w)
-        (or_case (has (same_bytes w) s.words) (is_name s w)
-            (clean_same w s.words (and_left (each is_clean s.words) (each (λ b. is_from 33 126 b) s.letters && (nat_le s.most 9999 && has_small_numbers s.number)) h))
-            (clean_name s w (and_left (each (λ b. is_from 33 126 b) s.letters) (nat_le s.most 9999 && has_small_numbers s.number) rest) (and_left (nat_le s.most 9999) (has_small_numbers s.number) numbers)))
-        (clean_number s.number w (and_right (nat_le s.most 9999) (has_small_numbers s.number) numbers)) k
+    (or_case (has (same_bytes w) s.words) (is_name s w)
+    (clean_same w s.words (and_left (each is_clean s.words) (each (λ b. is_from 33 126 b) s.letters && (nat_le s.most 9999 && has_small_numbers s.number)) h))
+    (clean_name s w (and_left (each (λ b. is_from 33 126 b) s.letters) (nat_le s.most 9999 && has_small_numbers s.number) rest) (and_left (nat_le s.most 9999) (has_small_numbers s.number) numbers)))
+    (clean_number s.number w (and_right (nat_le s.most 9999) (has_small_numbers s.number) numbers)) k
 
 -- words that fill a form of such places are clean
 clean_form : (f : List Slot) (ws : List (List ℕ)) → each is_clean_slot f ≡ true → fits f ws ≡ true → each is_clean ws ≡ true
@@ -71,13 +71,13 @@ clean_form [] (w ∷ ws) h k = absurd (cc k)
 clean_form (s ∷ f) [] h k = absurd (cc k)
 clean_form (s ∷ f) (w ∷ ws) h k =
     and_both (is_clean w) (each is_clean ws) (clean_word s w (and_left (is_clean_slot s) (each is_clean_slot f) h) (and_left (allows s w) (fits f ws) k))
-        (clean_form f ws (and_right (is_clean_slot s) (each is_clean_slot f) h) (and_right (allows s w) (fits f ws) k))
+    (clean_form f ws (and_right (is_clean_slot s) (each is_clean_slot f) h) (and_right (allows s w) (fits f ws) k))
 
 clean_some : (forms : List (List Slot)) (ws : List (List ℕ)) → each (λ f. each is_clean_slot f) forms ≡ true → fits_some forms ws ≡ true → each is_clean ws ≡ true
 clean_some [] ws h k = absurd (cc k)
 clean_some (f ∷ fs) ws h k =
     or_case (fits f ws) (fits_some fs ws) (clean_form f ws (and_left (each is_clean_slot f) (each (λ f. each is_clean_slot f) fs) h))
-        (clean_some fs ws (and_right (each is_clean_slot f) (each (λ f. each is_clean_slot f) fs) h)) k
+    (clean_some fs ws (and_right (each is_clean_slot f) (each (λ f. each is_clean_slot f) fs) h)) k
 
 -- words that fill the form of a line are clean
 pub clean_line : (ws : List (List ℕ)) → fits_some line_forms ws ≡ true → each is_clean ws ≡ true

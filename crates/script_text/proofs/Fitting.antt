@@ -1,5 +1,5 @@
 -- Lines whose numbers are in their ranges fill a form.
-use Rattle.std.proofs.Common.{◌≡◌, ℕ, zero, suc, ◌+◌, ◌^◌, ◌<◌, ◌≤◌, ◌==◌, ◌&&◌, ◌||◌, Bool, true, false, List, [], ◌∷◌, refl, ap, sym, ◌∙◌, arith, codes, decimal, Option, Some, None}
+use Rattle.std.proofs.Common.{◌≡◌, ℕ, zero, suc, ◌^◌, ◌<◌, ◌≤◌, ◌==◌, ◌||◌, Bool, true, false, List, [], ◌∷◌, refl, ◌∙◌, arith, decimal, Option, Some, None}
 use Rattle.std.proofs.lemmas.Bool.Decides.{nat_tests}
 use Rattle.dtx_values.specs.declared.message.Conn.{Conn}
 use Rattle.dtx_values.specs.declared.message.Conn.TheVariants.{Begin as OnBegin, Voter as OnVoter, Enl as OnEnl, Again}
@@ -159,6 +159,7 @@ body_fits Par h = at_form Par 26 refl
 body_fits (Open s (Required t d i)) h = at_form (Open s (Required t d i)) 1 (and_both _ _ (scope_allowed s) ((and_both _ _ (tx_allowed t) (and_both _ _ (timeout_allowed d h) (and_both _ _ (iso_allowed i) refl)))))
 body_fits (Open s (RequiresNew t d i)) h = at_form (Open s (RequiresNew t d i)) 2 (and_both _ _ (scope_allowed s) ((and_both _ _ (tx_allowed t) (and_both _ _ (timeout_allowed d h) (and_both _ _ (iso_allowed i) refl)))))
 body_fits (Open s Suppress) h = at_form (Open s Suppress) 3 (and_both _ _ (scope_allowed s) refl)
+
 -- forms behind an actor
 abbrev pub with_actor : List (List Slot) → List (List Slot)
 with_actor [] = []

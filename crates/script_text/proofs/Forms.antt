@@ -1,11 +1,9 @@
 -- Words that fill a form.
-use Rattle.std.proofs.Common.{◌≡◌, ℕ, Bool, true, false, ◌&&◌, ◌||◌, List, [], ◌∷◌, refl, ap, sym, ◌∙◌, Option, Some, None}
+use Rattle.std.proofs.Common.{◌≡◌, ℕ, Bool, true, false, ◌&&◌, List, [], ◌∷◌, refl, sym, ◌∙◌, None}
 use Rattle.std.specs.List.{filter_map}
-use Rattle.std.proofs.lemmas.Bool.{false≢true}
-use Rattle.dtx_values.specs.declared.script.BadCause.{BadCause}
 use Rattle.dtx_model.specs.Words.{has}
 use Rattle.dtx_model.specs.Outcome.{is_empty}
-use Rattle.dtx_model.specs.Faults.{Slot, allows, behind, word_fault, word_cause}
+use Rattle.dtx_model.specs.Faults.{Slot, allows, behind, word_fault}
 
 -- each place of the form allows its word, and no word is left
 abbrev pub fits : List Slot → List (List ℕ) → Bool

@@ -1,13 +1,13 @@
 -- Lines at the front of bytes.
-use Rattle.std.proofs.Common.{◌≡◌, ℕ, ◌+◌, ◌≤◌, ◌<◌, ◌&&◌, Bool, true, false, List, [], ◌∷◌, ◌++◌, length, refl, ap, sym, ◌∙◌, subst, arith, append_assoc, length-append, decimal, Option, Some, None}
-use Rattle.std.specs.Prelude.{not, nat_lt, nat_le, if◌then◌else◌}
+use Rattle.std.proofs.Common.{◌≡◌, ℕ, ◌+◌, ◌≤◌, Bool, true, false, List, [], ◌∷◌, ◌++◌, length, refl, ap, sym, ◌∙◌, subst, arith, append_assoc, length-append, decimal, Option, Some, None}
+use Rattle.std.specs.Prelude.{not, nat_lt, if◌then◌else◌}
 use Rattle.std.specs.List.{join_with_byte}
 use Rattle.std.proofs.lemmas.Bool.Decides.{nat_tests}
 use Rattle.dtx_values.specs.declared.script.BadCause.{BadCause}
 use Rattle.dtx_values.specs.declared.script.BadCause.TheVariants.{TooLong, LongLine, NoNewline, BadByte}
 use Rattle.dtx_values.specs.declared.script.Line.{Line}
 use Rattle.dtx_model.specs.Words.{each, past_of}
-use Rattle.dtx_model.specs.Grammar.{words, command_words, line_text, script_text, is_from, is_in_range, is_short, IsScript}
+use Rattle.dtx_model.specs.Grammar.{words, command_words, line_text, script_text, is_in_range, is_short, IsScript}
 use Rattle.dtx_model.specs.Faults.{front, has_newline, words_of, reach, form_fault, name_fault, word_fault, line_forms, IsBadFor, ByForm, ByNames}
 use Rattle.script_text.proofs.Forms.{fits_none}
 use Rattle.script_text.proofs.CleanWords.{is_clean, clean_line}

@@ -1,5 +1,5 @@
 -- Longer inputs.
-use Rattle.std.proofs.Common.{◌≡◌, ◌≢◌, ℕ, ◌+◌, ◌<◌, ◌≤◌, ◌==◌, Bool, true, false, List, [], ◌∷◌, ◌++◌, length, take, drop, refl, ap, sym, ◌∙◌, subst, arith, append_assoc, length-append, length-drop, Option, Some, None, if◌then◌else◌}
+use Rattle.std.proofs.Common.{◌≡◌, ◌≢◌, ℕ, ◌+◌, ◌<◌, ◌≤◌, ◌==◌, Bool, true, false, List, [], ◌∷◌, ◌++◌, length, take, drop, refl, ap, sym, ◌∙◌, subst, arith, append_assoc, length-append, length-drop, Some}
 use Rattle.std.specs.Prelude.{nat_lt}
 use Rattle.std.proofs.lemmas.Bool.Decides.{nat_tests}
 use Rattle.std.proofs.lemmas.List.{length-take, take-append-drop, append-nil}
@@ -8,8 +8,7 @@ use Rattle.dtx_values.specs.declared.script.BadCause.TheVariants.{TooLong}
 use Rattle.dtx_values.specs.declared.script.Line.{Line}
 use Rattle.dtx_model.specs.Grammar.{script_text}
 use Rattle.dtx_model.specs.Faults.{front, has_newline, reach, form_fault, words_of, IsBadFor, ByForm, ByNames, Bad}
-use Rattle.script_text.proofs.LineTexts.{cut_front}
-use Rattle.script_text.proofs.GoodLines.{IsFormed, none_formed}
+use Rattle.script_text.proofs.GoodLines.{none_formed}
 
 -- what begins with something isn't empty
 nonempty-append : (xs ys : List ℕ) → xs ≢ [] → xs ++ ys ≢ []

@@ -1,5 +1,5 @@
 -- What stands at a place of a form, and the command whose words fill a form.
-use Rattle.std.proofs.Common.{◌≡◌, ℕ, ◌≤◌, ◌==◌, ◌&&◌, ◌||◌, Bool, true, false, List, [], ◌∷◌, refl, ap, ap₂, sym, ◌∙◌, arith, codes, decimal, map, Option, Some, None, ◌⊎◌, inl, inr}
+use Rattle.std.proofs.Common.{◌≡◌, ℕ, ◌==◌, ◌&&◌, ◌||◌, Bool, true, false, List, [], ◌∷◌, refl, ap, ap₂, sym, ◌∙◌, arith, codes, decimal, map, Option, Some, None, ◌⊎◌, inl, inr}
 use Rattle.std.proofs.lemmas.Bool.Decides.{nat_tests}
 use Rattle.dtx_values.specs.declared.message.Conn.{Conn}
 use Rattle.dtx_values.specs.declared.message.Conn.TheVariants.{Begin as OnBegin, Voter as OnVoter, Enl as OnEnl, Again}
@@ -14,15 +14,12 @@ use Rattle.dtx_values.specs.declared.script.Body.TheVariants.{Begin, Open, Finis
 use Rattle.dtx_values.specs.declared.script.EnlistOption.{EnlistOption}
 use Rattle.dtx_values.specs.declared.script.EnlistOption.TheVariants.{Plain, DuringPrepare}
 use Rattle.dtx_values.specs.declared.script.Line.{Line}
-use Rattle.dtx_values.specs.declared.script.Opening.{Opening}
 use Rattle.dtx_values.specs.declared.script.Opening.TheVariants.{Required, RequiresNew, Suppress}
-use Rattle.dtx_values.specs.declared.script.Support.{Support}
 use Rattle.dtx_values.specs.declared.script.Support.TheVariants.{SinglePhase, TwoPhase}
 use Rattle.dtx_values.specs.declared.words.CloneKind.{CloneKind}
 use Rattle.dtx_values.specs.declared.words.CloneKind.TheVariants.{Block, Rollback as RollbackKind}
 use Rattle.dtx_values.specs.declared.words.Image.{Image}
 use Rattle.dtx_values.specs.declared.words.Image.TheVariants.{Lose as LoseImage, Keep, Torn}
-use Rattle.dtx_values.specs.declared.words.Iso.{Iso}
 use Rattle.dtx_values.specs.declared.words.Iso.TheVariants.{Serializable, RepeatableRead, ReadCommitted, ReadUncommitted, Snapshot, Chaos, Unspecified}
 use Rattle.dtx_values.specs.declared.words.IsoWord.{IsoWord}
 use Rattle.dtx_values.specs.declared.words.IsoWord.TheVariants.{Default as DefaultIso, Level}
@@ -34,7 +31,7 @@ use Rattle.dtx_values.specs.declared.words.Vote.{Vote}
 use Rattle.dtx_values.specs.declared.words.Vote.TheVariants.{Yes, No, Done}
 use Rattle.dtx_model.specs.Words.{has}
 use Rattle.dtx_model.specs.Grammar.{actor_name, transaction_name, enlistment_name, clone_name, scope_name, manager_name, connection_word, image_word, asked_iso_word, timeout_word, option_word, vote_word, owner_word, promote_word, kind_word, words, command_words, is_from, is_timeout, is_in_range}
-use Rattle.dtx_model.specs.Faults.{Slot, one_of, word, named, number, allows, is_name, same_bytes, writes, actor_slot, transaction_slot, enlistment_slot, clone_slot, scope_slot, manager_slot, connection_slot, timeout_slot, iso_slot, option_slot, vote_slot, owner_slot, promote_slot, kind_slot, image_slot, command_forms, line_forms}
+use Rattle.dtx_model.specs.Faults.{Slot, one_of, word, named, number, allows, same_bytes, writes, actor_slot, transaction_slot, enlistment_slot, clone_slot, scope_slot, manager_slot, connection_slot, timeout_slot, iso_slot, option_slot, vote_slot, owner_slot, promote_slot, kind_slot, image_slot, command_forms, line_forms}
 use Rattle.dtx_model.proofs.Bools.{and_both, and_left, and_right, or_case, or_right}
 use Rattle.script_text.proofs.Figures.{Within, same_bytes_are, writes_one, to_high, from_low}
 use Rattle.script_text.proofs.Fitting.{with_actor}
@@ -156,7 +153,7 @@ connected : (b : ℕ) (bs : List ℕ) → ((b == 101) || ((b == 120) || false)) 
 connected b bs h k =
     let e = enlisted bs k in
     or_case (b == 101) ((b == 120) || false) (λ q. (OnEnl e.0, ap₂ (λ x xs. x ∷ xs) (one_number b 101 q) e.1))
-        (λ q. (Again e.0, ap₂ (λ x xs. x ∷ xs) (one_number b 120 (first_holds (b == 120) q)) e.1)) h
+    (λ q. (Again e.0, ap₂ (λ x xs. x ∷ xs) (one_number b 120 (first_holds (b == 120) q)) e.1)) h
 
 connection_means : Means Conn connection_word connection_slot
 connection_means [] h = absurd (cc h)
@@ -164,7 +161,7 @@ connection_means (b ∷ bs) h =
     let fixed = has (same_bytes (b ∷ bs)) connection_slot.words in
     let letter = (b == 101) || ((b == 120) || false) in
     or_case fixed (letter && writes 1 9999 bs) (found Conn connection_word (OnBegin ∷ OnVoter ∷ []) (b ∷ bs)) (λ k. connected b bs (and_left letter (writes 1 9999 bs) k) (and_right letter (writes 1 9999 bs) k))
-        (first_holds (fixed || (letter && writes 1 9999 bs)) h)
+    (first_holds (fixed || (letter && writes 1 9999 bs)) h)
 
 -- words fill a form
 record Fits (f : List Slot) (ws : List (List ℕ)) : Type 0 where
@@ -458,7 +455,7 @@ from_some C ws (f ∷ fs) each h = or_case (fits f ws) (fits_some fs ws) (λ k. 
 command_of : (ws : List (List ℕ)) → fits_some command_forms ws ≡ true → IsCommand ws
 command_of ws h =
     from_some (IsCommand ws) ws command_forms
-        (made_begin ws, (made_open_required ws, (made_open_new ws, (made_open_suppress ws, (made_finish ws, (made_close ws, (made_current ws, (made_volatile ws, (made_durable_single ws, (made_durable_two ws, (made_promotable ws, (made_clone ws, (made_complete ws, (made_commit ws, (made_rollback ws, (made_marshal ws, (made_status ws, (made_await ws, (made_tick ws, (made_do ws, (made_lose ws, (made_gone ws, (made_reenlist ws, (made_recovered ws, (made_stop ws, (made_restart ws, (made_par ws, tt))))))))))))))))))))))))))) h
+    (made_begin ws, (made_open_required ws, (made_open_new ws, (made_open_suppress ws, (made_finish ws, (made_close ws, (made_current ws, (made_volatile ws, (made_durable_single ws, (made_durable_two ws, (made_promotable ws, (made_clone ws, (made_complete ws, (made_commit ws, (made_rollback ws, (made_marshal ws, (made_status ws, (made_await ws, (made_tick ws, (made_do ws, (made_lose ws, (made_gone ws, (made_reenlist ws, (made_recovered ws, (made_stop ws, (made_restart ws, (made_par ws, tt))))))))))))))))))))))))))) h
 
 -- words that fill a form behind an actor are an actor and words that fill a form
 no_actor : (fs : List (List Slot)) → fits_some (with_actor fs) [] ≡ true → ⊥
@@ -469,8 +466,8 @@ behind_actor : (fs : List (List Slot)) (w : List ℕ) (ws : List (List ℕ)) →
 behind_actor [] w ws h = absurd (cc h)
 behind_actor (f ∷ fs) w ws h =
     or_case (allows actor_slot w && fits f ws) (fits_some (with_actor fs) (w ∷ ws))
-        (λ k. (and_left (allows actor_slot w) (fits f ws) k, ap (λ b. b || fits_some fs ws) (and_right (allows actor_slot w) (fits f ws) k)))
-        (λ k. let r = behind_actor fs w ws k in (r.0, or_right (fits f ws) (fits_some fs ws) r.1)) h
+    (λ k. (and_left (allows actor_slot w) (fits f ws) k, ap (λ b. b || fits_some fs ws) (and_right (allows actor_slot w) (fits f ws) k)))
+    (λ k. let r = behind_actor fs w ws k in (r.0, or_right (fits f ws) (fits_some fs ws) r.1)) h
 
 -- the words are those of a line whose numbers are in their ranges
 pub record IsLine (ws : List (List ℕ)) : Type 0 where

@@ -1,11 +1,11 @@
 -- Bytes are one script, or have one first bad line with one first cause.
-use Rattle.std.proofs.Common.{◌≡◌, ◌≢◌, ℕ, ◌+◌, Bool, true, List, [], ◌∷◌, ◌++◌, length, refl, ap, ap₂, sym, ◌∙◌, subst, arith, append_assoc, Some, None}
+use Rattle.std.proofs.Common.{◌≡◌, ℕ, Bool, true, List, [], ◌∷◌, ◌++◌, length, refl, ap, ap₂, sym, ◌∙◌, subst, arith, append_assoc, Some}
 use Rattle.std.proofs.lemmas.List.{append-nil}
 use Rattle.dtx_values.specs.declared.script.BadCause.{BadCause}
 use Rattle.dtx_values.specs.declared.script.Line.{Line}
 use Rattle.dtx_model.specs.Words.{each, past_of}
 use Rattle.dtx_model.specs.Grammar.{line_text, script_text, is_in_range, IsScript, Reads}
-use Rattle.dtx_model.specs.Faults.{form_fault, name_fault, words_of, front, IsBadFor, ByForm, ByNames, Bad}
+use Rattle.dtx_model.specs.Faults.{name_fault, IsBadFor, ByForm, ByNames, Bad}
 use Rattle.dtx_model.proofs.Bools.{and_left, and_right}
 use Rattle.script_text.proofs.GoodLines.{same_first, not_bad_here}
 use Rattle.script_text.proofs.SameLines.{same_line}

@@ -66,7 +66,7 @@ pub record IsGood (before : List Line) (l : Line) : Type 0 where
 well_named : (past : List Line) (l : Line) → is_named_well past l ≡ true → is_of_kind past l.body ≡ true → is_par_once past l.body ≡ true → name_fault past l ≡ None
 well_named past l n k p =
     rw (and_left (each (λ m. not (is_made past m)) (makes l.body)) (each (λ m. is_made past m) (uses l.body)) n, and_right (each (λ m. not (is_made past m)) (makes l.body)) (each (λ m. is_made past m) (uses l.body)) n, k, p)
-        refl
+    refl
 
 -- the first of four tests that fails
 abbrev first_failure : Bool → Bool → Bool → Bool → Option BadCause

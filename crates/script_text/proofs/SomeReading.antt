@@ -11,7 +11,7 @@ use Rattle.dtx_model.specs.Faults.{front, has_newline, words_of, reach, form_fau
 use Rattle.script_text.proofs.Forms.{none_fits}
 use Rattle.script_text.proofs.LineTexts.{behind_front, join_words, cut_front}
 use Rattle.script_text.proofs.Meanings.{IsLine, line_of}
-use Rattle.script_text.proofs.Scripts.{IsGood, script_none, script_more, bytes_more, line_nonempty}
+use Rattle.script_text.proofs.Scripts.{IsGood, script_none, script_more, bytes_more}
 use Rattle.script_text.proofs.GoodLines.{IsFormed, none_formed, line_text-append}
 
 -- what bytes are
@@ -61,8 +61,8 @@ behind_script k b before [] h e s = inl (before, record { bytes = e ∙ append-n
 behind_script zero b before (x ∷ xs) h e s = absurd (omega arith)
 behind_script (suc k) b before (x ∷ xs) h e s =
     one_more b before (x ∷ xs) (λ q. cc q) e s (λ l after f g.
-        let shorter : length after ≤ k = omega (arith, ap length f, length-append (line_text l) after, length-append (join_with_byte 32 (words l)) (10 ∷ [])) in
-        behind_script k b (before ++ l ∷ []) after shorter (bytes_more before l b (x ∷ xs) after e f) (script_more before l s g))
+    let shorter : length after ≤ k = omega (arith, ap length f, length-append (line_text l) after, length-append (join_with_byte 32 (words l)) (10 ∷ [])) in
+    behind_script k b (before ++ l ∷ []) after shorter (bytes_more before l b (x ∷ xs) after e f) (script_more before l s g))
 
 -- bytes are a script, or have a first bad line
 pub script_or_first_bad : (b : List ℕ) → ((s : List Line) × Reads b s) ⊎ ((n : ℕ) × (c : BadCause) × Bad b n c)
