@@ -1,5 +1,6 @@
 pub mod CleanWords
 pub mod Figures
+pub mod Filled
 pub mod Fitting
 pub mod Forms
 pub mod GoodLines

@@ -10,7 +10,7 @@ use Rattle.dtx_model.specs.Grammar.{words, line_text, script_text, IsScript, Rea
 use Rattle.dtx_model.specs.Faults.{front, has_newline, words_of, reach, form_fault, name_fault, line_forms, IsBadFor, ByForm, ByNames, Bad}
 use Rattle.script_text.proofs.Forms.{none_fits}
 use Rattle.script_text.proofs.LineTexts.{behind_front, join_words, cut_front}
-use Rattle.script_text.proofs.Meanings.{IsLine, line_of}
+use Rattle.script_text.proofs.Filled.{IsLine, line_of}
 use Rattle.script_text.proofs.Scripts.{IsGood, script_none, script_more, bytes_more}
 use Rattle.script_text.proofs.GoodLines.{IsFormed, none_formed, line_text-append}
 
