@@ -1,5 +1,5 @@
 -- Lines whose numbers are in their ranges fill a form.
-use Rattle.std.proofs.Common.{◌≡◌, ℕ, zero, suc, ◌^◌, ◌<◌, ◌≤◌, ◌==◌, ◌||◌, Bool, true, false, List, [], ◌∷◌, refl, ◌∙◌, arith, decimal, Option, Some, None}
+use Rattle.std.proofs.Common.{◌&&◌, ◌≡◌, ℕ, zero, suc, ◌^◌, ◌<◌, ◌≤◌, ◌==◌, ◌||◌, Bool, true, false, List, [], ◌∷◌, refl, ◌∙◌, arith, decimal, Option, Some, None}
 use Rattle.std.proofs.lemmas.Bool.Decides.{nat_tests}
 use Rattle.dtx_values.specs.declared.message.Conn.{Conn}
 use Rattle.dtx_values.specs.declared.message.Conn.TheVariants.{Begin as OnBegin, Voter as OnVoter, Enl as OnEnl, Again}
@@ -10,7 +10,8 @@ use Rattle.dtx_values.specs.declared.number.CloneNo.{CloneNo}
 use Rattle.dtx_values.specs.declared.number.ScopeNo.{ScopeNo}
 use Rattle.dtx_values.specs.declared.number.RmNo.{RmNo}
 use Rattle.dtx_values.specs.declared.script.Body.{Body}
-use Rattle.dtx_values.specs.declared.script.Body.TheVariants.{Begin, Open, Finish, Close, Current, Volatile, Durable, Promotable, Clone, Complete, Commit, Rollback, Marshal, Status, Await, Tick, Do, Lose, Gone, Reenlist, Recovered, Stop, Restart, Par}
+use Rattle.dtx_values.specs.declared.script.Body.TheVariants.{Begin, Open, Finish, Close, Current, Volatile, Durable, Promotable, Clone, Complete, Commit, Rollback, Marshal}
+use Rattle.dtx_values.specs.declared.script.Body.TheVariants.{Status, Await, Tick, Do, Lose, Gone, Reenlist, Recovered, Stop, Restart, Par}
 use Rattle.dtx_values.specs.declared.script.EnlistOption.{EnlistOption}
 use Rattle.dtx_values.specs.declared.script.EnlistOption.TheVariants.{Plain, DuringPrepare}
 use Rattle.dtx_values.specs.declared.script.Line.{Line}
@@ -30,8 +31,11 @@ use Rattle.dtx_values.specs.declared.words.Timeout.TheVariants.{Default, Millise
 use Rattle.dtx_values.specs.declared.words.Vote.{Vote}
 use Rattle.dtx_values.specs.declared.words.Vote.TheVariants.{Yes, No, Done}
 use Rattle.dtx_model.specs.Words.{has}
-use Rattle.dtx_model.specs.Grammar.{actor_name, transaction_name, enlistment_name, clone_name, scope_name, manager_name, connection_word, image_word, asked_iso_word, timeout_word, option_word, vote_word, owner_word, promote_word, kind_word, words, command_words, is_from, is_timeout, is_in_range}
-use Rattle.dtx_model.specs.Faults.{Slot, named, number, allows, is_name, same_bytes, writes, actor_slot, transaction_slot, enlistment_slot, clone_slot, scope_slot, manager_slot, connection_slot, timeout_slot, iso_slot, option_slot, vote_slot, owner_slot, promote_slot, kind_slot, image_slot, command_forms, line_forms}
+use Rattle.dtx_model.specs.Grammar.{actor_name, transaction_name, enlistment_name, clone_name, scope_name, manager_name, words, command_words, is_from, is_timeout, is_in_range}
+use Rattle.dtx_model.specs.Grammar.{connection_word, image_word, asked_iso_word, timeout_word, option_word, vote_word, owner_word, promote_word, kind_word}
+use Rattle.dtx_model.specs.Faults.{Slot, named, number, allows, is_name, same_bytes, writes, command_forms, line_forms}
+use Rattle.dtx_model.specs.Faults.{actor_slot, transaction_slot, enlistment_slot, clone_slot, scope_slot, manager_slot}
+use Rattle.dtx_model.specs.Faults.{connection_slot, timeout_slot, iso_slot, option_slot, vote_slot, owner_slot, promote_slot, kind_slot, image_slot}
 use Rattle.dtx_model.proofs.Bools.{and_both, and_left, and_right, or_right}
 use Rattle.script_text.proofs.Figures.{writes_decimal, in_range}
 use Rattle.script_text.proofs.Forms.{fits, fits_some}
@@ -72,7 +76,8 @@ connection_allowed (Again e) = rw (writes_decimal 1 9999 e.value (omega arith) (
 
 timeout_allowed : (d : Timeout) → is_timeout d ≡ true → allows timeout_slot (timeout_word d) ≡ true
 timeout_allowed Default h = refl
-timeout_allowed (Milliseconds n) h = or_right (has (same_bytes (decimal n)) timeout_slot.words || is_name timeout_slot (decimal n)) (writes 0 4294967295 (decimal n)) (writes_decimal 0 4294967295 n (omega arith) h)
+timeout_allowed (Milliseconds n) h =
+    or_right (has (same_bytes (decimal n)) timeout_slot.words || is_name timeout_slot (decimal n)) (writes 0 4294967295 (decimal n)) (writes_decimal 0 4294967295 n (omega arith) h)
 
 -- so are the words of lists
 iso_allowed : (i : IsoWord) → allows iso_slot (asked_iso_word i) ≡ true
@@ -127,38 +132,42 @@ at_some [] i ws h = absurd (cc h)
 at_some (f ∷ fs) zero ws h = rw h refl
 at_some (f ∷ fs) (suc i) ws h = or_right (fits f ws) (fits_some fs ws) (at_some fs i ws h)
 
-at_form : (b : Body) (i : ℕ) → fits_at command_forms i (command_words b) ≡ true → fits_some command_forms (command_words b) ≡ true
-at_form b i h = at_some command_forms i (command_words b) h
+-- one more word is allowed
+also : {a b : Bool} → a ≡ true → b ≡ true → (a && b) ≡ true
+also {a} {b} h k = and_both a b h k
 
--- a command whose numbers are in their ranges fills a form
-body_fits : (b : Body) → is_in_range b ≡ true → fits_some command_forms (command_words b) ≡ true
-body_fits (Begin t d) h = at_form (Begin t d) 0 (and_both _ _ (tx_allowed t) (and_both _ _ (timeout_allowed d h) refl))
-body_fits (Finish s) h = at_form (Finish s) 4 (and_both _ _ (scope_allowed s) refl)
-body_fits (Close s) h = at_form (Close s) 5 (and_both _ _ (scope_allowed s) refl)
-body_fits Current h = at_form Current 6 refl
-body_fits (Volatile t e o v) h = at_form (Volatile t e o v) 7 (and_both _ _ (tx_allowed t) (and_both _ _ (enl_allowed e) (and_both _ _ (option_allowed o) (and_both _ _ (vote_allowed v) refl))))
-body_fits (Durable t e r (SinglePhase v o)) h = at_form (Durable t e r (SinglePhase v o)) 8 (and_both _ _ (tx_allowed t) (and_both _ _ (enl_allowed e) (and_both _ _ (manager_allowed r) ((and_both _ _ (vote_allowed v) (and_both _ _ (owner_allowed o) refl))))))
-body_fits (Durable t e r (TwoPhase v)) h = at_form (Durable t e r (TwoPhase v)) 9 (and_both _ _ (tx_allowed t) (and_both _ _ (enl_allowed e) (and_both _ _ (manager_allowed r) ((and_both _ _ (vote_allowed v) refl)))))
-body_fits (Promotable t e r v o p) h = at_form (Promotable t e r v o p) 10 (and_both _ _ (tx_allowed t) (and_both _ _ (enl_allowed e) (and_both _ _ (manager_allowed r) (and_both _ _ (vote_allowed v) (and_both _ _ (owner_allowed o) (and_both _ _ (promote_allowed p) refl))))))
-body_fits (Clone t c k) h = at_form (Clone t c k) 11 (and_both _ _ (tx_allowed t) (and_both _ _ (clone_allowed c) (and_both _ _ (kind_allowed k) refl)))
-body_fits (Complete c) h = at_form (Complete c) 12 (and_both _ _ (clone_allowed c) refl)
-body_fits (Commit t) h = at_form (Commit t) 13 (and_both _ _ (tx_allowed t) refl)
-body_fits (Rollback t) h = at_form (Rollback t) 14 (and_both _ _ (tx_allowed t) refl)
-body_fits (Marshal t) h = at_form (Marshal t) 15 (and_both _ _ (tx_allowed t) refl)
-body_fits (Status t) h = at_form (Status t) 16 (and_both _ _ (tx_allowed t) refl)
-body_fits (Await t) h = at_form (Await t) 17 (and_both _ _ (tx_allowed t) refl)
-body_fits (Tick t n) h = at_form (Tick t n) 18 (and_both _ _ (tx_allowed t) (and_both _ _ (number_allowed 1 1000000000 n (omega arith) h) refl))
-body_fits (Do t k n) h = at_form (Do t k n) 19 (and_both _ _ (tx_allowed t) (and_both _ _ (number_allowed 1 99 k (omega arith) (and_left (is_from 1 99 k) (is_from 1 999 n) h)) (and_both _ _ (number_allowed 1 999 n (omega arith) (and_right (is_from 1 99 k) (is_from 1 999 n) h)) refl)))
-body_fits (Lose t c up down) h = at_form (Lose t c up down) 20 (and_both _ _ (tx_allowed t) (and_both _ _ (connection_allowed c) (and_both _ _ (number_allowed 0 999 up (omega arith) (and_left (is_from 0 999 up) (is_from 0 999 down) h)) (and_both _ _ (number_allowed 0 999 down (omega arith) (and_right (is_from 0 999 up) (is_from 0 999 down) h)) refl))))
-body_fits (Gone e) h = at_form (Gone e) 21 (and_both _ _ (enl_allowed e) refl)
-body_fits (Reenlist e) h = at_form (Reenlist e) 22 (and_both _ _ (enl_allowed e) refl)
-body_fits (Recovered t r) h = at_form (Recovered t r) 23 (and_both _ _ (tx_allowed t) (and_both _ _ (manager_allowed r) refl))
-body_fits (Stop n i) h = at_form (Stop n i) 24 (and_both _ _ (number_allowed 1 99 n (omega arith) h) (and_both _ _ (image_allowed i) refl))
-body_fits Restart h = at_form Restart 25 refl
-body_fits Par h = at_form Par 26 refl
-body_fits (Open s (Required t d i)) h = at_form (Open s (Required t d i)) 1 (and_both _ _ (scope_allowed s) ((and_both _ _ (tx_allowed t) (and_both _ _ (timeout_allowed d h) (and_both _ _ (iso_allowed i) refl)))))
-body_fits (Open s (RequiresNew t d i)) h = at_form (Open s (RequiresNew t d i)) 2 (and_both _ _ (scope_allowed s) ((and_both _ _ (tx_allowed t) (and_both _ _ (timeout_allowed d h) (and_both _ _ (iso_allowed i) refl)))))
-body_fits (Open s Suppress) h = at_form (Open s Suppress) 3 (and_both _ _ (scope_allowed s) refl)
+-- a command whose numbers are in their ranges fills this form
+body_fills : (b : Body) → is_in_range b ≡ true → (i : ℕ) × (fits_at command_forms i (command_words b) ≡ true)
+body_fills (Begin t d) h = (0, also (tx_allowed t) (also (timeout_allowed d h) refl))
+body_fills (Open s (Required t d i)) h = (1, also (scope_allowed s) (also (tx_allowed t) (also (timeout_allowed d h) (also (iso_allowed i) refl))))
+body_fills (Open s (RequiresNew t d i)) h = (2, also (scope_allowed s) (also (tx_allowed t) (also (timeout_allowed d h) (also (iso_allowed i) refl))))
+body_fills (Open s Suppress) h = (3, also (scope_allowed s) refl)
+body_fills (Finish s) h = (4, also (scope_allowed s) refl)
+body_fills (Close s) h = (5, also (scope_allowed s) refl)
+body_fills Current h = (6, refl)
+body_fills (Volatile t e o v) h = (7, also (tx_allowed t) (also (enl_allowed e) (also (option_allowed o) (also (vote_allowed v) refl))))
+body_fills (Durable t e r (SinglePhase v o)) h = (8, also (tx_allowed t) (also (enl_allowed e) (also (manager_allowed r) (also (vote_allowed v) (also (owner_allowed o) refl)))))
+body_fills (Durable t e r (TwoPhase v)) h = (9, also (tx_allowed t) (also (enl_allowed e) (also (manager_allowed r) (also (vote_allowed v) refl))))
+body_fills (Promotable t e r v o p) h =
+    (10, also (tx_allowed t) (also (enl_allowed e) (also (manager_allowed r) (also (vote_allowed v) (also (owner_allowed o) (also (promote_allowed p) refl))))))
+body_fills (Clone t c k) h = (11, also (tx_allowed t) (also (clone_allowed c) (also (kind_allowed k) refl)))
+body_fills (Complete c) h = (12, also (clone_allowed c) refl)
+body_fills (Commit t) h = (13, also (tx_allowed t) refl)
+body_fills (Rollback t) h = (14, also (tx_allowed t) refl)
+body_fills (Marshal t) h = (15, also (tx_allowed t) refl)
+body_fills (Status t) h = (16, also (tx_allowed t) refl)
+body_fills (Await t) h = (17, also (tx_allowed t) refl)
+body_fills (Tick t n) h = (18, also (tx_allowed t) (also (number_allowed 1 1000000000 n (omega arith) h) refl))
+body_fills (Do t k n) h =
+    (19, also (tx_allowed t) (also (number_allowed 1 99 k (omega arith) (and_left _ _ h)) (also (number_allowed 1 999 n (omega arith) (and_right (is_from 1 99 k) _ h)) refl)))
+body_fills (Lose t c u d) h =
+    (20, also (tx_allowed t) (also (connection_allowed c) (also (number_allowed 0 999 u (omega arith) (and_left _ _ h)) (also (number_allowed 0 999 d (omega arith) (and_right (is_from 0 999 u) _ h)) refl))))
+body_fills (Gone e) h = (21, also (enl_allowed e) refl)
+body_fills (Reenlist e) h = (22, also (enl_allowed e) refl)
+body_fills (Recovered t r) h = (23, also (tx_allowed t) (also (manager_allowed r) refl))
+body_fills (Stop n i) h = (24, also (number_allowed 1 99 n (omega arith) h) (also (image_allowed i) refl))
+body_fills Restart h = (25, refl)
+body_fills Par h = (26, refl)
 
 -- forms behind an actor
 abbrev pub with_actor : List (List Slot) → List (List Slot)
@@ -176,4 +185,6 @@ actor_fits (f ∷ fs) a ws h = rw (h, actor_fits fs a ws h) refl
 
 -- a line whose numbers are in their ranges fills a form
 pub line_fits : (l : Line) → is_in_range l.body ≡ true → fits_some line_forms (words l) ≡ true
-line_fits l h = actor_fits command_forms (actor_name l.actor.value) (command_words l.body) (actor_allowed l.actor) ∙ body_fits l.body h
+line_fits l h =
+    let form = body_fills l.body h in
+    actor_fits command_forms (actor_name l.actor.value) (command_words l.body) (actor_allowed l.actor) ∙ at_some command_forms form.0 (command_words l.body) form.1

@@ -15,7 +15,8 @@ use Rattle.dtx_values.specs.declared.number.CloneNo.{CloneNo}
 use Rattle.dtx_values.specs.declared.number.ScopeNo.{ScopeNo}
 use Rattle.dtx_values.specs.declared.number.RmNo.{RmNo}
 use Rattle.dtx_values.specs.declared.script.Body.{Body}
-use Rattle.dtx_values.specs.declared.script.Body.TheVariants.{Begin, Open, Finish, Close, Current, Volatile, Durable, Promotable, Clone, Complete, Commit, Rollback, Marshal, Status, Await, Tick, Do, Lose, Gone, Reenlist, Recovered, Stop, Restart, Par}
+use Rattle.dtx_values.specs.declared.script.Body.TheVariants.{Begin, Open, Finish, Close, Current, Volatile, Durable, Promotable, Clone, Complete, Commit, Rollback, Marshal}
+use Rattle.dtx_values.specs.declared.script.Body.TheVariants.{Status, Await, Tick, Do, Lose, Gone, Reenlist, Recovered, Stop, Restart, Par}
 use Rattle.dtx_values.specs.declared.script.EnlistOption.{EnlistOption}
 use Rattle.dtx_values.specs.declared.script.EnlistOption.TheVariants.{Plain, DuringPrepare}
 use Rattle.dtx_values.specs.declared.script.Line.{Line}
@@ -37,7 +38,9 @@ use Rattle.dtx_values.specs.declared.words.Timeout.{Timeout}
 use Rattle.dtx_values.specs.declared.words.Timeout.TheVariants.{Default, Milliseconds}
 use Rattle.dtx_values.specs.declared.words.Vote.{Vote}
 use Rattle.dtx_values.specs.declared.words.Vote.TheVariants.{Yes, No, Done}
-use Rattle.dtx_model.specs.Grammar.{actor_name, transaction_name, enlistment_name, clone_name, scope_name, manager_name, connection_word, image_word, asked_iso_word, timeout_word, option_word, vote_word, owner_word, promote_word, kind_word, opening_words, support_words, words, command_words, is_from, is_timeout, is_opening_in_range, is_in_range}
+use Rattle.dtx_model.specs.Grammar.{actor_name, transaction_name, enlistment_name, clone_name, scope_name, manager_name, words, command_words, opening_words, support_words}
+use Rattle.dtx_model.specs.Grammar.{connection_word, image_word, asked_iso_word, timeout_word, option_word, vote_word, owner_word, promote_word, kind_word}
+use Rattle.dtx_model.specs.Grammar.{is_from, is_timeout, is_opening_in_range, is_in_range}
 use Rattle.dtx_model.specs.Faults.{same_bytes}
 use Rattle.dtx_model.proofs.Bools.{and_left, and_right}
 use Rattle.script_text.proofs.Figures.{same_bytes-self, to_high, digits_of_decimal}
@@ -61,29 +64,29 @@ scope_of_value m n e = λ i. record { value = e i; in_range = is_prop→PathP (�
 manager_of_value : (m n : RmNo) → m.value ≡ n.value → m ≡ n
 manager_of_value m n e = λ i. record { value = e i; in_range = is_prop→PathP (λ j. (1 ≤ e j) × (e j ≤ 16)) (λ j. hlevel le_prop) m.in_range n.in_range i }
 
--- the part of two equal lists at each place
-part0 : {a b : List ℕ} {x y : List (List ℕ)} → a ∷ x ≡ b ∷ y → a ≡ b
-part0 {b} e = ap first_of_words e
+-- the words of two equal lists, each by its place
+first : {a b : List ℕ} {x y : List (List ℕ)} → a ∷ x ≡ b ∷ y → a ≡ b
+first {b} e = ap first_of e
   where
-    first_of_words : List (List ℕ) → List ℕ
-    first_of_words [] = b
-    first_of_words (w ∷ ws) = w
+    first_of : List (List ℕ) → List ℕ
+    first_of [] = b
+    first_of (w ∷ ws) = w
 
-rest0 : {a b : List ℕ} {x y : List (List ℕ)} → a ∷ x ≡ b ∷ y → x ≡ y
-rest0 e = ap rest_of_words e
+rest : {a b : List ℕ} {x y : List (List ℕ)} → a ∷ x ≡ b ∷ y → x ≡ y
+rest e = ap rest_of e
   where
-    rest_of_words : List (List ℕ) → List (List ℕ)
-    rest_of_words [] = []
-    rest_of_words (w ∷ ws) = ws
+    rest_of : List (List ℕ) → List (List ℕ)
+    rest_of [] = []
+    rest_of (w ∷ ws) = ws
 
-rest1 : {a b c d : List ℕ} {x y : List (List ℕ)} → a ∷ c ∷ x ≡ b ∷ d ∷ y → x ≡ y
-rest1 e = rest0 (rest0 e)
+second : {a b c d : List ℕ} {x y : List (List ℕ)} → a ∷ c ∷ x ≡ b ∷ d ∷ y → c ≡ d
+second e = first (rest e)
 
-rest2 : {a b c d f g : List ℕ} {x y : List (List ℕ)} → a ∷ c ∷ f ∷ x ≡ b ∷ d ∷ g ∷ y → x ≡ y
-rest2 e = rest0 (rest1 e)
+third : {a b c d f g : List ℕ} {x y : List (List ℕ)} → a ∷ c ∷ f ∷ x ≡ b ∷ d ∷ g ∷ y → f ≡ g
+third e = second (rest e)
 
-rest3 : {a b c d f g h k : List ℕ} {x y : List (List ℕ)} → a ∷ c ∷ f ∷ h ∷ x ≡ b ∷ d ∷ g ∷ k ∷ y → x ≡ y
-rest3 e = rest0 (rest2 e)
+fourth : {a b c d f g h k : List ℕ} {x y : List (List ℕ)} → a ∷ c ∷ f ∷ h ∷ x ≡ b ∷ d ∷ g ∷ k ∷ y → h ≡ k
+fourth e = third (rest e)
 
 -- words that differ aren't equal
 apart : (v w : List ℕ) → same_bytes v w ≡ false → v ≡ w → ⊥
@@ -221,51 +224,60 @@ first_word (w ∷ ws) = w
 -- openings with one text are one
 same_opening : (o p : Opening) → is_opening_in_range o ≡ true → is_opening_in_range p ≡ true → opening_words o ≡ opening_words p → o ≡ p
 same_opening (Required t d i) (Required u f j) h k e =
-    λ x. Required (tx_named t u (part0 (rest0 e)) x) (same_timeout d f h k (part0 (rest1 e)) x) (same_iso i j (part0 (rest2 e)) x)
+    λ x. Required (tx_named t u (second e) x) (same_timeout d f h k (third e) x) (same_iso i j (fourth e) x)
 same_opening (RequiresNew t d i) (RequiresNew u f j) h k e =
-    λ x. RequiresNew (tx_named t u (part0 (rest0 e)) x) (same_timeout d f h k (part0 (rest1 e)) x) (same_iso i j (part0 (rest2 e)) x)
+    λ x. RequiresNew (tx_named t u (second e) x) (same_timeout d f h k (third e) x) (same_iso i j (fourth e) x)
 same_opening Suppress Suppress h k e = refl
-same_opening o p h k e = absurd (apart (first_word (opening_words o)) (first_word (opening_words p)) refl (part0 e))
+same_opening o p h k e = absurd (apart (first_word (opening_words o)) (first_word (opening_words p)) refl (first e))
 
 -- replies with one text are one
 same_support : (s r : Support) → support_words s ≡ support_words r → s ≡ r
-same_support (SinglePhase v o) (SinglePhase w p) e = λ x. SinglePhase (same_vote v w (part0 (rest0 e)) x) (same_owner o p (part0 (rest1 e)) x)
-same_support (TwoPhase v) (TwoPhase w) e = ap (λ x. TwoPhase x) (same_vote v w (part0 (rest0 e)))
-same_support s r e = absurd (apart (first_word (support_words s)) (first_word (support_words r)) refl (part0 e))
+same_support (SinglePhase v o) (SinglePhase w p) e = λ x. SinglePhase (same_vote v w (second e) x) (same_owner o p (third e) x)
+same_support (TwoPhase v) (TwoPhase w) e = ap (λ x. TwoPhase x) (same_vote v w (second e))
+same_support s r e = absurd (apart (first_word (support_words s)) (first_word (support_words r)) refl (first e))
 
 -- commands with one text are one
 same_body : (b d : Body) → is_in_range b ≡ true → is_in_range d ≡ true → command_words b ≡ command_words d → b ≡ d
-same_body (Begin m0 m1) (Begin n0 n1) h k e = λ x. Begin (tx_named m0 n0 (part0 (rest0 e)) x) (same_timeout m1 n1 h k (part0 (rest1 e)) x)
-same_body (Open m0 m1) (Open n0 n1) h k e = λ x. Open (scope_named m0 n0 (part0 (rest0 e)) x) (same_opening m1 n1 h k (rest1 e) x)
-same_body (Finish m0) (Finish n0) h k e = λ x. Finish (scope_named m0 n0 (part0 (rest0 e)) x)
-same_body (Close m0) (Close n0) h k e = λ x. Close (scope_named m0 n0 (part0 (rest0 e)) x)
-same_body Current Current h k e = refl
-same_body (Volatile m0 m1 m2 m3) (Volatile n0 n1 n2 n3) h k e =
-    λ x. Volatile (tx_named m0 n0 (part0 (rest0 e)) x) (enl_named m1 n1 (part0 (rest1 e)) x) (same_option m2 n2 (part0 (rest2 e)) x) (same_vote m3 n3 (part0 (rest3 e)) x)
-same_body (Durable m0 m1 m2 m3) (Durable n0 n1 n2 n3) h k e =
-    λ x. Durable (tx_named m0 n0 (part0 (rest0 e)) x) (enl_named m1 n1 (part0 (rest1 e)) x) (manager_named m2 n2 (part0 (rest2 e)) x) (same_support m3 n3 (rest3 e) x)
-same_body (Promotable m0 m1 m2 m3 m4 m5) (Promotable n0 n1 n2 n3 n4 n5) h k e =
-    λ x. Promotable (tx_named m0 n0 (part0 (rest0 e)) x) (enl_named m1 n1 (part0 (rest1 e)) x) (manager_named m2 n2 (part0 (rest2 e)) x) (same_vote m3 n3 (part0 (rest3 e)) x) (same_owner m4 n4 (part0 (rest0 (rest3 e))) x) (same_promote m5 n5 (part0 (rest1 (rest3 e))) x)
-same_body (Clone m0 m1 m2) (Clone n0 n1 n2) h k e = λ x. Clone (tx_named m0 n0 (part0 (rest0 e)) x) (clone_named m1 n1 (part0 (rest1 e)) x) (same_kind m2 n2 (part0 (rest2 e)) x)
-same_body (Complete m0) (Complete n0) h k e = λ x. Complete (clone_named m0 n0 (part0 (rest0 e)) x)
-same_body (Commit m0) (Commit n0) h k e = λ x. Commit (tx_named m0 n0 (part0 (rest0 e)) x)
-same_body (Rollback m0) (Rollback n0) h k e = λ x. Rollback (tx_named m0 n0 (part0 (rest0 e)) x)
-same_body (Marshal m0) (Marshal n0) h k e = λ x. Marshal (tx_named m0 n0 (part0 (rest0 e)) x)
-same_body (Status m0) (Status n0) h k e = λ x. Status (tx_named m0 n0 (part0 (rest0 e)) x)
-same_body (Await m0) (Await n0) h k e = λ x. Await (tx_named m0 n0 (part0 (rest0 e)) x)
-same_body (Tick m0 m1) (Tick n0 n1) h k e = λ x. Tick (tx_named m0 n0 (part0 (rest0 e)) x) (same_within 1 1000000000 m1 n1 (omega arith) h k (part0 (rest1 e)) x)
-same_body (Do m0 m1 m2) (Do n0 n1 n2) h k e =
-    λ x. Do (tx_named m0 n0 (part0 (rest0 e)) x) (same_within 1 99 m1 n1 (omega arith) (and_left (is_from 1 99 m1) (is_from 1 999 m2) h) (and_left (is_from 1 99 n1) (is_from 1 999 n2) k) (part0 (rest1 e)) x) (same_within 1 999 m2 n2 (omega arith) (and_right (is_from 1 99 m1) (is_from 1 999 m2) h) (and_right (is_from 1 99 n1) (is_from 1 999 n2) k) (part0 (rest2 e)) x)
-same_body (Lose m0 m1 m2 m3) (Lose n0 n1 n2 n3) h k e =
-    λ x. Lose (tx_named m0 n0 (part0 (rest0 e)) x) (same_connection m1 n1 (part0 (rest1 e)) x) (same_within 0 999 m2 n2 (omega arith) (and_left (is_from 0 999 m2) (is_from 0 999 m3) h) (and_left (is_from 0 999 n2) (is_from 0 999 n3) k) (part0 (rest2 e)) x) (same_within 0 999 m3 n3 (omega arith) (and_right (is_from 0 999 m2) (is_from 0 999 m3) h) (and_right (is_from 0 999 n2) (is_from 0 999 n3) k) (part0 (rest3 e)) x)
-same_body (Gone m0) (Gone n0) h k e = λ x. Gone (enl_named m0 n0 (part0 (rest0 e)) x)
-same_body (Reenlist m0) (Reenlist n0) h k e = λ x. Reenlist (enl_named m0 n0 (part0 (rest0 e)) x)
-same_body (Recovered m0 m1) (Recovered n0 n1) h k e = λ x. Recovered (tx_named m0 n0 (part0 (rest0 e)) x) (manager_named m1 n1 (part0 (rest1 e)) x)
-same_body (Stop m0 m1) (Stop n0 n1) h k e = λ x. Stop (same_within 1 99 m0 n0 (omega arith) h k (part0 (rest0 e)) x) (same_image m1 n1 (part0 (rest1 e)) x)
-same_body Restart Restart h k e = refl
-same_body Par Par h k e = refl
-same_body b d h k e = absurd (apart (first_word (command_words b)) (first_word (command_words d)) refl (part0 e))
+same_body (Begin t d) (Begin u f) h k z = λ i. Begin (tx_named t u (second z) i) (same_timeout d f h k (third z) i)
+same_body (Open s o) (Open r p) h k z = λ i. Open (scope_named s r (second z) i) (same_opening o p h k (rest (rest z)) i)
+same_body (Finish s) (Finish r) h k z = ap (λ x. Finish x) (scope_named s r (second z))
+same_body (Close s) (Close r) h k z = ap (λ x. Close x) (scope_named s r (second z))
+same_body Current Current h k z = refl
+same_body (Volatile t e o v) (Volatile u f p w) h k z =
+    λ i. Volatile (tx_named t u (second z) i) (enl_named e f (third z) i) (same_option o p (fourth z) i) (same_vote v w (fourth (rest z)) i)
+same_body (Durable t e m x) (Durable u f n y) h k z =
+    λ i. Durable (tx_named t u (second z) i) (enl_named e f (third z) i) (manager_named m n (fourth z) i) (same_support x y (rest (rest (rest (rest z)))) i)
+same_body (Promotable t e m v a p) (Promotable u f n w b q) h k z =
+    λ i. Promotable (tx_named t u (second z) i) (enl_named e f (third z) i) (manager_named m n (fourth z) i)
+        (same_vote v w (fourth (rest z)) i) (same_owner a b (fourth (rest (rest z))) i) (same_promote p q (fourth (rest (rest (rest z)))) i)
+same_body (Clone t c x) (Clone u d y) h k z = λ i. Clone (tx_named t u (second z) i) (clone_named c d (third z) i) (same_kind x y (fourth z) i)
+same_body (Complete c) (Complete d) h k z = ap (λ x. Complete x) (clone_named c d (second z))
+same_body (Commit t) (Commit u) h k z = ap (λ x. Commit x) (tx_named t u (second z))
+same_body (Rollback t) (Rollback u) h k z = ap (λ x. Rollback x) (tx_named t u (second z))
+same_body (Marshal t) (Marshal u) h k z = ap (λ x. Marshal x) (tx_named t u (second z))
+same_body (Status t) (Status u) h k z = ap (λ x. Status x) (tx_named t u (second z))
+same_body (Await t) (Await u) h k z = ap (λ x. Await x) (tx_named t u (second z))
+same_body (Tick t i) (Tick u j) h k z =
+    let count = same_within 1 1000000000 i j (omega arith) h k (third z) in
+    λ x. Tick (tx_named t u (second z) x) (count x)
+same_body (Do t i m) (Do u j n) h k z =
+    let count = same_within 1 99 i j (omega arith) (and_left _ _ h) (and_left _ _ k) (third z) in
+    let more = same_within 1 999 m n (omega arith) (and_right (is_from 1 99 i) _ h) (and_right (is_from 1 99 j) _ k) (fourth z) in
+    λ x. Do (tx_named t u (second z) x) (count x) (more x)
+same_body (Lose t c i m) (Lose u d j n) h k z =
+    let count = same_within 0 999 i j (omega arith) (and_left _ _ h) (and_left _ _ k) (fourth z) in
+    let more = same_within 0 999 m n (omega arith) (and_right (is_from 0 999 i) _ h) (and_right (is_from 0 999 j) _ k) (fourth (rest z)) in
+    λ x. Lose (tx_named t u (second z) x) (same_connection c d (third z) x) (count x) (more x)
+same_body (Gone e) (Gone f) h k z = ap (λ x. Gone x) (enl_named e f (second z))
+same_body (Reenlist e) (Reenlist f) h k z = ap (λ x. Reenlist x) (enl_named e f (second z))
+same_body (Recovered t m) (Recovered u n) h k z = λ i. Recovered (tx_named t u (second z) i) (manager_named m n (third z) i)
+same_body (Stop i v) (Stop j w) h k z =
+    let count = same_within 1 99 i j (omega arith) h k (second z) in
+    λ x. Stop (count x) (same_image v w (third z) x)
+same_body Restart Restart h k z = refl
+same_body Par Par h k z = refl
+same_body b d h k z = absurd (apart (first_word (command_words b)) (first_word (command_words d)) refl (first z))
 
 -- lines with one text are one
 pub same_line : (l m : Line) → is_in_range l.body ≡ true → is_in_range m.body ≡ true → words l ≡ words m → l ≡ m
-same_line l m h k e = λ x. record { actor = actor_named l.actor m.actor (part0 e) x; body = same_body l.body m.body h k (rest0 e) x }
+same_line l m h k e = λ x. record { actor = actor_named l.actor m.actor (first e) x; body = same_body l.body m.body h k (rest e) x }
