@@ -13,6 +13,7 @@ use Rattle.script_text.proofs.Forms.{fits, fits_some}
 abbrev pub is_clean : List ℕ → Bool
 is_clean w = each (λ b. is_from 33 126 b) w
 
+-- a number that stands there is no larger than a timeout can be
 abbrev has_small_numbers : Option (ℕ × ℕ) → Bool
 has_small_numbers (Some r) = nat_le r.1 4294967295
 has_small_numbers None = true
@@ -42,6 +43,7 @@ clean_written low high w h k =
     let small : n.0.0 < 2 ^ 64 = omega (arith, to_high low high n.0.0 n.0.1) in
     subst (λ (v : List ℕ). is_clean v ≡ true) n.1 (clean_decimal n.0.0 small)
 
+-- a name is clean
 clean_name : (s : Slot) (w : List ℕ) → each (λ b. is_from 33 126 b) s.letters ≡ true → nat_le s.most 9999 ≡ true → is_name s w ≡ true → is_clean w ≡ true
 clean_name s [] h k e = absurd (cc e)
 clean_name s (b ∷ bs) h k e =
@@ -49,6 +51,7 @@ clean_name s (b ∷ bs) h k e =
     let first = clean_letter b s.letters h (and_left (has (λ c. b == c) s.letters) (writes 1 s.most bs) e) in
     and_both (is_from 33 126 b) (is_clean bs) first (clean_written 1 s.most bs most (and_right (has (λ c. b == c) s.letters) (writes 1 s.most bs) e))
 
+-- so is a number
 clean_number : (o : Option (ℕ × ℕ)) (w : List ℕ) → has_small_numbers o ≡ true → is_number o w ≡ true → is_clean w ≡ true
 clean_number (Some r) w h e = clean_written r.0 r.1 w h e
 clean_number None w h e = absurd (cc e)
@@ -73,6 +76,7 @@ clean_form (s ∷ f) (w ∷ ws) h k =
     and_both (is_clean w) (each is_clean ws) (clean_word s w (and_left (is_clean_slot s) (each is_clean_slot f) h) (and_left (allows s w) (fits f ws) k))
     (clean_form f ws (and_right (is_clean_slot s) (each is_clean_slot f) h) (and_right (allows s w) (fits f ws) k))
 
+-- where words fill one of some forms of such places, they are clean
 clean_some : (forms : List (List Slot)) (ws : List (List ℕ)) → each (λ f. each is_clean_slot f) forms ≡ true → fits_some forms ws ≡ true → each is_clean ws ≡ true
 clean_some [] ws h k = absurd (cc k)
 clean_some (f ∷ fs) ws h k =

@@ -1,6 +1,5 @@
 -- The command whose words fill a form.
-use Rattle.std.proofs.Common.{◌≡◌, ℕ, ◌&&◌, ◌||◌, true, List, [], ◌∷◌, refl, ap, ap₂, ◌∙◌, codes, decimal}
-use Rattle.dtx_values.specs.declared.number.ActorNo.{ActorNo}
+use Rattle.std.proofs.Common.{◌≡◌, ℕ, ◌&&◌, ◌||◌, true, List, [], ◌∷◌, refl, ap, ap₂, ◌∙◌, codes}
 use Rattle.dtx_values.specs.declared.script.Body.{Body}
 use Rattle.dtx_values.specs.declared.script.Body.TheVariants.{Begin, Open, Finish, Close, Current, Volatile, Durable, Promotable, Clone, Complete, Commit, Rollback, Marshal}
 use Rattle.dtx_values.specs.declared.script.Body.TheVariants.{Status, Await, Tick, Do, Lose, Gone, Reenlist, Recovered, Stop, Restart, Par}
@@ -15,6 +14,7 @@ use Rattle.script_text.proofs.Fitting.{with_actor}
 use Rattle.script_text.proofs.Forms.{fits, fits_some}
 use Rattle.script_text.proofs.Meanings.{Means, listed, counted, actor, transaction, enlistment, clone, scope, manager, connection, timeout, iso, option, vote, owner, promote, kind, image}
 
+infixr 10 ◌beside◌
 -- what is left of the words fills what is left of a form; with what was in front of it, it is all words
 record Left (in_front : List (List ℕ) → List (List ℕ)) (f : List Slot) (ws : List (List ℕ)) : Type 0 where
   rest : List (List ℕ)
@@ -34,6 +34,7 @@ cut_one {in_front} {s} {f} m (w ∷ rest) h e =
     let x = m.value w (and_left (allows s w) (fits f rest) h) in
     record { value = x.0; left = record { rest = rest; fills = and_right (allows s w) (fits f rest) h; whole = ap (λ v. in_front (v ∷ rest)) x.1 ∙ e } }
 
+-- the same, said of what is left
 cut : {A : Type 0} {spell : A → List ℕ} {in_front : List (List ℕ) → List (List ℕ)} {s : Slot} {f : List Slot} {ws : List (List ℕ)} → Means A spell s
     → Left in_front (s ∷ f) ws → Cut A spell in_front f ws
 cut m h = cut_one m h.rest h.fills h.whole
@@ -47,6 +48,7 @@ ends_with : (in_front : List (List ℕ) → List (List ℕ)) (ws rest : List (Li
 ends_with in_front ws [] h e = e
 ends_with in_front ws (w ∷ rest) h e = absurd (cc h)
 
+-- the same, said of what is left
 ends : {in_front : List (List ℕ) → List (List ℕ)} {ws : List (List ℕ)} → Left in_front [] ws → in_front [] ≡ ws
 ends {in_front} {ws} h = ends_with in_front ws h.rest h.fills h.whole
 
@@ -60,23 +62,25 @@ pub record IsCommand (ws : List (List ℕ)) : Type 0 where
   pub in_range : is_in_range body ≡ true
   pub is : command_words body ≡ ws
 
--- words that fill a form of one fixed word, and of one and a value
+-- words that fill a form of one fixed word
 alone : (b : Body) (v : List ℕ) {ws : List (List ℕ)} → is_in_range b ≡ true → command_words b ≡ v ∷ [] → Fills (word v ∷ []) ws → IsCommand ws
 alone b v r e h = record { body = b; in_range = r; is = e ∙ ends (fixed h) }
 
+-- words that fill a form of a fixed word and a value
 of_one : {A : Type 0} {spell : A → List ℕ} {s : Slot} {ws : List (List ℕ)} → Means A spell s → (b : A → Body) (v : List ℕ) → ((x : A) → is_in_range (b x) ≡ true)
     → ((x : A) → command_words (b x) ≡ v ∷ spell x ∷ []) → Fills (word v ∷ s ∷ []) ws → IsCommand ws
 of_one m b v r e h =
     let x = cut m (fixed h) in
     record { body = b x.value; in_range = r x.value; is = e x.value ∙ ends x.left }
 
--- and words that fill each other form
+-- `begin`: its words are those of a command
 made_begin : {ws : List (List ℕ)} → Fills (word (codes "begin") ∷ transaction_slot ∷ timeout_slot ∷ []) ws → IsCommand ws
 made_begin h =
     let t = cut transaction (fixed h) in
     let d = cut timeout t.left in
     record { body = Begin t.value d.value.0; in_range = d.value.1; is = ends d.left }
 
+-- `open` with `required`
 made_open_required : {ws : List (List ℕ)} → Fills (word (codes "open") ∷ scope_slot ∷ word (codes "required") ∷ transaction_slot ∷ timeout_slot ∷ iso_slot ∷ []) ws → IsCommand ws
 made_open_required h =
     let s = cut scope (fixed h) in
@@ -85,6 +89,7 @@ made_open_required h =
     let i = cut iso d.left in
     record { body = Open s.value (Required t.value d.value.0 i.value); in_range = d.value.1; is = ends i.left }
 
+-- `open` with `requiresnew`
 made_open_new : {ws : List (List ℕ)} → Fills (word (codes "open") ∷ scope_slot ∷ word (codes "requiresnew") ∷ transaction_slot ∷ timeout_slot ∷ iso_slot ∷ []) ws → IsCommand ws
 made_open_new h =
     let s = cut scope (fixed h) in
@@ -93,11 +98,13 @@ made_open_new h =
     let i = cut iso d.left in
     record { body = Open s.value (RequiresNew t.value d.value.0 i.value); in_range = d.value.1; is = ends i.left }
 
+-- `open` with `suppress`
 made_open_suppress : {ws : List (List ℕ)} → Fills (word (codes "open") ∷ scope_slot ∷ word (codes "suppress") ∷ []) ws → IsCommand ws
 made_open_suppress h =
     let s = cut scope (fixed h) in
     record { body = Open s.value Suppress; in_range = refl; is = ends (fixed s.left) }
 
+-- `volatile`
 made_volatile : {ws : List (List ℕ)} → Fills (word (codes "volatile") ∷ transaction_slot ∷ enlistment_slot ∷ option_slot ∷ vote_slot ∷ []) ws → IsCommand ws
 made_volatile h =
     let t = cut transaction (fixed h) in
@@ -106,6 +113,7 @@ made_volatile h =
     let v = cut vote o.left in
     record { body = Volatile t.value e.value o.value v.value; in_range = refl; is = ends v.left }
 
+-- `durable` with `single`
 made_durable_single : {ws : List (List ℕ)} → Fills (word (codes "durable") ∷ transaction_slot ∷ enlistment_slot ∷ manager_slot ∷ word (codes "single") ∷ vote_slot ∷ owner_slot ∷ []) ws → IsCommand ws
 made_durable_single h =
     let t = cut transaction (fixed h) in
@@ -115,6 +123,7 @@ made_durable_single h =
     let o = cut owner v.left in
     record { body = Durable t.value e.value r.value (SinglePhase v.value o.value); in_range = refl; is = ends o.left }
 
+-- `durable` with `two`
 made_durable_two : {ws : List (List ℕ)} → Fills (word (codes "durable") ∷ transaction_slot ∷ enlistment_slot ∷ manager_slot ∷ word (codes "two") ∷ vote_slot ∷ []) ws → IsCommand ws
 made_durable_two h =
     let t = cut transaction (fixed h) in
@@ -123,6 +132,7 @@ made_durable_two h =
     let v = cut vote (fixed r.left) in
     record { body = Durable t.value e.value r.value (TwoPhase v.value); in_range = refl; is = ends v.left }
 
+-- `promotable`
 made_promotable : {ws : List (List ℕ)} → Fills (word (codes "promotable") ∷ transaction_slot ∷ enlistment_slot ∷ manager_slot ∷ vote_slot ∷ owner_slot ∷ promote_slot ∷ []) ws → IsCommand ws
 made_promotable h =
     let t = cut transaction (fixed h) in
@@ -133,6 +143,7 @@ made_promotable h =
     let p = cut promote o.left in
     record { body = Promotable t.value e.value r.value v.value o.value p.value; in_range = refl; is = ends p.left }
 
+-- `clone`
 made_clone : {ws : List (List ℕ)} → Fills (word (codes "clone") ∷ transaction_slot ∷ clone_slot ∷ kind_slot ∷ []) ws → IsCommand ws
 made_clone h =
     let t = cut transaction (fixed h) in
@@ -140,12 +151,14 @@ made_clone h =
     let k = cut kind c.left in
     record { body = Clone t.value c.value k.value; in_range = refl; is = ends k.left }
 
+-- `tick`
 made_tick : {ws : List (List ℕ)} → Fills (word (codes "tick") ∷ transaction_slot ∷ number 1 1000000000 ∷ []) ws → IsCommand ws
 made_tick h =
     let t = cut transaction (fixed h) in
     let n = cut (counted 1 1000000000) t.left in
     record { body = Tick t.value n.value.0; in_range = n.value.1; is = ends n.left }
 
+-- `do`
 made_do : {ws : List (List ℕ)} → Fills (word (codes "do") ∷ transaction_slot ∷ number 1 99 ∷ number 1 999 ∷ []) ws → IsCommand ws
 made_do h =
     let t = cut transaction (fixed h) in
@@ -153,6 +166,7 @@ made_do h =
     let n = cut (counted 1 999) k.left in
     record { body = Do t.value k.value.0 n.value.0; in_range = and_both (is_from 1 99 k.value.0) (is_from 1 999 n.value.0) k.value.1 n.value.1; is = ends n.left }
 
+-- `lose`
 made_lose : {ws : List (List ℕ)} → Fills (word (codes "lose") ∷ transaction_slot ∷ connection_slot ∷ number 0 999 ∷ number 0 999 ∷ []) ws → IsCommand ws
 made_lose h =
     let t = cut transaction (fixed h) in
@@ -161,12 +175,14 @@ made_lose h =
     let d = cut (counted 0 999) u.left in
     record { body = Lose t.value c.value u.value.0 d.value.0; in_range = and_both (is_from 0 999 u.value.0) (is_from 0 999 d.value.0) u.value.1 d.value.1; is = ends d.left }
 
+-- `recovered`
 made_recovered : {ws : List (List ℕ)} → Fills (word (codes "recovered") ∷ transaction_slot ∷ manager_slot ∷ []) ws → IsCommand ws
 made_recovered h =
     let t = cut transaction (fixed h) in
     let r = cut manager t.left in
     record { body = Recovered t.value r.value; in_range = refl; is = ends r.left }
 
+-- `stop`
 made_stop : {ws : List (List ℕ)} → Fills (word (codes "stop") ∷ number 1 99 ∷ image_slot ∷ []) ws → IsCommand ws
 made_stop h =
     let n = cut (counted 1 99) (fixed h) in
@@ -183,50 +199,54 @@ from_some : (C : Type 0) (ws : List (List ℕ)) (fs : List (List Slot)) → ForE
 from_some C ws [] each h = absurd (cc h)
 from_some C ws (f ∷ fs) each h = or_case (fits f ws) (fits_some fs ws) (λ k. each.0 (record { rest = ws; fills = k; whole = refl })) (from_some C ws fs each.1) h
 
--- so is each form
+-- one form more
+◌beside◌ : {A B : Type 0} → A → B → A × B
+◌beside◌ a b = (a, b)
+
+-- each form's words are those of a command
 each_form : (ws : List (List ℕ)) → ForEach (λ f. Fills f ws → IsCommand ws) command_forms
-each_form ws = (
-    made_begin,
-    (made_open_required,
-    (made_open_new,
-    (made_open_suppress,
-    (of_one scope (λ x. Finish x) (codes "finish") (λ x. refl) (λ x. refl),
-    (of_one scope (λ x. Close x) (codes "close") (λ x. refl) (λ x. refl),
-    (alone Current (codes "current") refl refl,
-    (made_volatile,
-    (made_durable_single,
-    (made_durable_two,
-    (made_promotable,
-    (made_clone,
-    (of_one clone (λ x. Complete x) (codes "complete") (λ x. refl) (λ x. refl),
-    (of_one transaction (λ x. Commit x) (codes "commit") (λ x. refl) (λ x. refl),
-    (of_one transaction (λ x. Rollback x) (codes "rollback") (λ x. refl) (λ x. refl),
-    (of_one transaction (λ x. Marshal x) (codes "marshal") (λ x. refl) (λ x. refl),
-    (of_one transaction (λ x. Status x) (codes "status") (λ x. refl) (λ x. refl),
-    (of_one transaction (λ x. Await x) (codes "await") (λ x. refl) (λ x. refl),
-    (made_tick,
-    (made_do,
-    (made_lose,
-    (of_one enlistment (λ x. Gone x) (codes "gone") (λ x. refl) (λ x. refl),
-    (of_one enlistment (λ x. Reenlist x) (codes "reenlist") (λ x. refl) (λ x. refl),
-    (made_recovered,
-    (made_stop,
-    (alone Restart (codes "restart") refl refl,
-    (alone Par (codes "par") refl refl,
-    tt))))))))))))))))))))))))))
-)
+each_form ws =
+    made_begin
+    beside made_open_required
+    beside made_open_new
+    beside made_open_suppress
+    beside of_one scope (λ x. Finish x) (codes "finish") (λ x. refl) (λ x. refl)
+    beside of_one scope (λ x. Close x) (codes "close") (λ x. refl) (λ x. refl)
+    beside alone Current (codes "current") refl refl
+    beside made_volatile
+    beside made_durable_single
+    beside made_durable_two
+    beside made_promotable
+    beside made_clone
+    beside of_one clone (λ x. Complete x) (codes "complete") (λ x. refl) (λ x. refl)
+    beside of_one transaction (λ x. Commit x) (codes "commit") (λ x. refl) (λ x. refl)
+    beside of_one transaction (λ x. Rollback x) (codes "rollback") (λ x. refl) (λ x. refl)
+    beside of_one transaction (λ x. Marshal x) (codes "marshal") (λ x. refl) (λ x. refl)
+    beside of_one transaction (λ x. Status x) (codes "status") (λ x. refl) (λ x. refl)
+    beside of_one transaction (λ x. Await x) (codes "await") (λ x. refl) (λ x. refl)
+    beside made_tick
+    beside made_do
+    beside made_lose
+    beside of_one enlistment (λ x. Gone x) (codes "gone") (λ x. refl) (λ x. refl)
+    beside of_one enlistment (λ x. Reenlist x) (codes "reenlist") (λ x. refl) (λ x. refl)
+    beside made_recovered
+    beside made_stop
+    beside alone Restart (codes "restart") refl refl
+    beside alone Par (codes "par") refl refl
+    beside tt
 
 -- words that fill a form behind an actor are an actor and words that fill a form
 no_actor : (fs : List (List Slot)) → fits_some (with_actor fs) [] ≡ true → ⊥
 no_actor [] h = cc h
 no_actor (f ∷ fs) h = no_actor fs h
 
+-- more words that do are an actor and words that fill a form
 behind_actor : (fs : List (List Slot)) (w : List ℕ) (ws : List (List ℕ)) → fits_some (with_actor fs) (w ∷ ws) ≡ true → (allows actor_slot w ≡ true) × (fits_some fs ws ≡ true)
 behind_actor [] w ws h = absurd (cc h)
 behind_actor (f ∷ fs) w ws h =
     or_case (allows actor_slot w && fits f ws) (fits_some (with_actor fs) (w ∷ ws))
-        (λ k. (and_left (allows actor_slot w) (fits f ws) k, ap (λ b. b || fits_some fs ws) (and_right (allows actor_slot w) (fits f ws) k)))
-        (λ k. let r = behind_actor fs w ws k in (r.0, or_right (fits f ws) (fits_some fs ws) r.1)) h
+    (λ k. (and_left (allows actor_slot w) (fits f ws) k, ap (λ b. b || fits_some fs ws) (and_right (allows actor_slot w) (fits f ws) k)))
+    (λ k. let r = behind_actor fs w ws k in (r.0, or_right (fits f ws) (fits_some fs ws) r.1)) h
 
 -- the words are those of a line whose numbers are in their ranges
 pub record IsLine (ws : List (List ℕ)) : Type 0 where

@@ -50,36 +50,44 @@ name_allowed letter most n h k e =
     let same : (letter == letter) ≡ true = grind (arith, nat_tests) in
     rw (same, writes_decimal 1 most n h (in_range 1 most n k e)) refl
 
+-- an actor's name is allowed where one stands
 pub actor_allowed : (a : ActorNo) → allows actor_slot (actor_name a.value) ≡ true
 actor_allowed a = name_allowed 97 16 a.value (omega arith) (omega arith) (omega arith)
 
+-- so is a transaction's
 tx_allowed : (t : TxNo) → allows transaction_slot (transaction_name t.value) ≡ true
 tx_allowed t = name_allowed 116 256 t.value (omega arith) (omega arith) (omega arith)
 
+-- an enlistment's
 enl_allowed : (e : EnlNo) → allows enlistment_slot (enlistment_name e.value) ≡ true
 enl_allowed e = name_allowed 101 9999 e.value (omega arith) (omega arith) (omega arith)
 
+-- a clone's
 clone_allowed : (c : CloneNo) → allows clone_slot (clone_name c.value) ≡ true
 clone_allowed c = name_allowed 99 9999 c.value (omega arith) (omega arith) (omega arith)
 
+-- a scope's
 scope_allowed : (s : ScopeNo) → allows scope_slot (scope_name s.value) ≡ true
 scope_allowed s = name_allowed 115 9999 s.value (omega arith) (omega arith) (omega arith)
 
+-- and a manager's
 manager_allowed : (r : RmNo) → allows manager_slot (manager_name r.value) ≡ true
 manager_allowed r = name_allowed 114 16 r.value (omega arith) (omega arith) (omega arith)
 
+-- a connection is allowed where one stands
 connection_allowed : (c : Conn) → allows connection_slot (connection_word c) ≡ true
 connection_allowed OnBegin = refl
 connection_allowed OnVoter = refl
 connection_allowed (OnEnl e) = rw (writes_decimal 1 9999 e.value (omega arith) (in_range 1 9999 e.value (omega arith) (omega arith))) refl
 connection_allowed (Again e) = rw (writes_decimal 1 9999 e.value (omega arith) (in_range 1 9999 e.value (omega arith) (omega arith))) refl
 
+-- so is a timeout in its range
 timeout_allowed : (d : Timeout) → is_timeout d ≡ true → allows timeout_slot (timeout_word d) ≡ true
 timeout_allowed Default h = refl
 timeout_allowed (Milliseconds n) h =
     or_right (has (same_bytes (decimal n)) timeout_slot.words || is_name timeout_slot (decimal n)) (writes 0 4294967295 (decimal n)) (writes_decimal 0 4294967295 n (omega arith) h)
 
--- so are the words of lists
+-- an isolation level is allowed where one stands
 iso_allowed : (i : IsoWord) → allows iso_slot (asked_iso_word i) ≡ true
 iso_allowed DefaultIso = refl
 iso_allowed (Level Serializable) = refl
@@ -90,31 +98,37 @@ iso_allowed (Level Snapshot) = refl
 iso_allowed (Level Chaos) = refl
 iso_allowed (Level Unspecified) = refl
 
+-- an option
 option_allowed : (o : EnlistOption) → allows option_slot (option_word o) ≡ true
 option_allowed Plain = refl
 option_allowed DuringPrepare = refl
 
+-- a vote's plan
 vote_allowed : (v : Option Vote) → allows vote_slot (vote_word v) ≡ true
 vote_allowed (Some Yes) = refl
 vote_allowed (Some No) = refl
 vote_allowed (Some Done) = refl
 vote_allowed None = refl
 
+-- the plan of an owner's answer
 owner_allowed : (o : Option Outcome) → allows owner_slot (owner_word o) ≡ true
 owner_allowed (Some Committed) = refl
 owner_allowed (Some Aborted) = refl
 owner_allowed (Some InDoubt) = refl
 owner_allowed None = refl
 
+-- a promotion's plan
 promote_allowed : (p : Option Bool) → allows promote_slot (promote_word p) ≡ true
 promote_allowed (Some true) = refl
 promote_allowed (Some false) = refl
 promote_allowed None = refl
 
+-- a clone's kind
 kind_allowed : (k : CloneKind) → allows kind_slot (kind_word k) ≡ true
 kind_allowed Block = refl
 kind_allowed RollbackKind = refl
 
+-- an image
 image_allowed : (i : Image) → allows image_slot (image_word i) ≡ true
 image_allowed LoseImage = refl
 image_allowed Keep = refl
@@ -159,9 +173,13 @@ body_fills (Status t) h = (16, also (tx_allowed t) refl)
 body_fills (Await t) h = (17, also (tx_allowed t) refl)
 body_fills (Tick t n) h = (18, also (tx_allowed t) (also (number_allowed 1 1000000000 n (omega arith) h) refl))
 body_fills (Do t k n) h =
-    (19, also (tx_allowed t) (also (number_allowed 1 99 k (omega arith) (and_left _ _ h)) (also (number_allowed 1 999 n (omega arith) (and_right (is_from 1 99 k) _ h)) refl)))
+    let place = number_allowed 1 99 k (omega arith) (and_left _ _ h) in
+    let times = number_allowed 1 999 n (omega arith) (and_right (is_from 1 99 k) _ h) in
+    (19, also (tx_allowed t) (also place (also times refl)))
 body_fills (Lose t c u d) h =
-    (20, also (tx_allowed t) (also (connection_allowed c) (also (number_allowed 0 999 u (omega arith) (and_left _ _ h)) (also (number_allowed 0 999 d (omega arith) (and_right (is_from 0 999 u) _ h)) refl))))
+    let up = number_allowed 0 999 u (omega arith) (and_left _ _ h) in
+    let down = number_allowed 0 999 d (omega arith) (and_right (is_from 0 999 u) _ h) in
+    (20, also (tx_allowed t) (also (connection_allowed c) (also up (also down refl))))
 body_fills (Gone e) h = (21, also (enl_allowed e) refl)
 body_fills (Reenlist e) h = (22, also (enl_allowed e) refl)
 body_fills (Recovered t r) h = (23, also (tx_allowed t) (also (manager_allowed r) refl))

@@ -28,6 +28,7 @@ pub record IsFormed (taken : ℕ) (bs : List ℕ) : Type 0 where
 not_less : (m n : ℕ) → n ≤ m → nat_lt m n ≡ false
 not_less m n h = grind (arith, nat_tests)
 
+-- and the other way round
 at_most : (m n : ℕ) → nat_lt m n ≡ false → n ≤ m
 at_most m n h = grind (arith, nat_tests)
 

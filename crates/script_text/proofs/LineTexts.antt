@@ -22,9 +22,11 @@ behind_front (b ∷ bs) = if b == 10 then bs else behind_front bs
 wider : (b : ℕ) → is_from 33 126 b ≡ true → is_from 32 126 b ≡ true
 wider b h = grind (arith, nat_tests)
 
+-- it isn't a space
 no_space : (b : ℕ) → is_from 33 126 b ≡ true → (b == 32) ≡ false
 no_space b h = grind (arith, nat_tests)
 
+-- a byte of a line isn't LF
 no_newline : (b : ℕ) → is_from 32 126 b ≡ true → (b == 10) ≡ false
 no_newline b h = grind (arith, nat_tests)
 
@@ -91,6 +93,7 @@ join_space : (ws : List (List ℕ)) → is_empty ws ≡ false → join_with_byte
 join_space [] h = absurd (cc h)
 join_space (w ∷ ws) h = refl
 
+-- a byte in front leaves a word
 push_some : (b : ℕ) (ws : List (List ℕ)) → is_empty (push b ws) ≡ false
 push_some b [] = refl
 push_some b (w ∷ ws) = refl
@@ -115,6 +118,7 @@ join_split (b ∷ bs) = by (b == 32) refl (join_split bs)
         rw e (join_space (split bs) (split_some bs) ∙ ap (λ x. 32 ∷ x) h ∙ ap (λ x. x ∷ bs) q)
     by false e h = rw e (join_push b (split bs) ∙ ap (λ x. b ∷ x) h)
 
+-- so are a line's words, joined
 pub join_words : (bs : List ℕ) → join_with_byte 32 (words_of bs) ≡ bs
 join_words [] = refl
 join_words (b ∷ bs) = join_split (b ∷ bs)

@@ -1,8 +1,8 @@
 -- Longer inputs.
-use Rattle.std.proofs.Common.{◌≡◌, ◌≢◌, ℕ, ◌+◌, ◌<◌, ◌≤◌, ◌==◌, Bool, true, false, List, [], ◌∷◌, ◌++◌, length, take, drop, refl, ap, sym, ◌∙◌, subst, arith, append_assoc, length-append, length-drop, Some}
+use Rattle.std.proofs.Common.{◌≡◌, ◌≢◌, ℕ, ◌+◌, ◌<◌, ◌≤◌, ◌==◌, Bool, true, false, List, [], ◌∷◌, ◌++◌, length, take, drop, refl, ap, sym, ◌∙◌, subst, arith, append_assoc, length-append, Some}
 use Rattle.std.specs.Prelude.{nat_lt}
 use Rattle.std.proofs.lemmas.Bool.Decides.{nat_tests}
-use Rattle.std.proofs.lemmas.List.{length-take, take-append-drop, append-nil}
+use Rattle.std.proofs.lemmas.List.{length-drop, length-take, take-append-drop, append-nil}
 use Rattle.dtx_values.specs.declared.script.BadCause.{BadCause}
 use Rattle.dtx_values.specs.declared.script.BadCause.TheVariants.{TooLong}
 use Rattle.dtx_values.specs.declared.script.Line.{Line}
@@ -81,6 +81,7 @@ form_more taken bs more c false e h f =
     let later : form_fault taken (bs ++ more) ≡ Some TooLong = too_long taken (bs ++ more) (omega (arith, front_reaches bs more e)) in
     later ∙ sym now ∙ f
 
+-- so are the names of its line
 bad_more : (before : List Line) (rest more : List ℕ) (c : BadCause) → (has_newline rest ≡ false → 1048576 < length (script_text before) + length rest) → IsBadFor before rest c
     → IsBadFor before (rest ++ more) c
 bad_more before rest more c h (ByForm e) = ByForm (form_more (length (script_text before)) rest more c (has_newline rest) refl h e)

@@ -45,26 +45,31 @@ use Rattle.dtx_model.specs.Faults.{same_bytes}
 use Rattle.dtx_model.proofs.Bools.{and_left, and_right}
 use Rattle.script_text.proofs.Figures.{same_bytes-self, to_high, digits_of_decimal}
 
--- numbers with one value are one
+-- actors with one number are one
 actor_of_value : (m n : ActorNo) → m.value ≡ n.value → m ≡ n
 actor_of_value m n e = λ i. record { value = e i; in_range = is_prop→PathP (λ j. (1 ≤ e j) × (e j ≤ 16)) (λ j. hlevel le_prop) m.in_range n.in_range i }
 
+-- so are transactions
 tx_of_value : (m n : TxNo) → m.value ≡ n.value → m ≡ n
 tx_of_value m n e = λ i. record { value = e i; in_range = is_prop→PathP (λ j. (1 ≤ e j) × (e j ≤ 256)) (λ j. hlevel le_prop) m.in_range n.in_range i }
 
+-- enlistments
 enl_of_value : (m n : EnlNo) → m.value ≡ n.value → m ≡ n
 enl_of_value m n e = λ i. record { value = e i; in_range = is_prop→PathP (λ j. (1 ≤ e j) × (e j ≤ 9999)) (λ j. hlevel le_prop) m.in_range n.in_range i }
 
+-- clones
 clone_of_value : (m n : CloneNo) → m.value ≡ n.value → m ≡ n
 clone_of_value m n e = λ i. record { value = e i; in_range = is_prop→PathP (λ j. (1 ≤ e j) × (e j ≤ 9999)) (λ j. hlevel le_prop) m.in_range n.in_range i }
 
+-- scopes
 scope_of_value : (m n : ScopeNo) → m.value ≡ n.value → m ≡ n
 scope_of_value m n e = λ i. record { value = e i; in_range = is_prop→PathP (λ j. (1 ≤ e j) × (e j ≤ 9999)) (λ j. hlevel le_prop) m.in_range n.in_range i }
 
+-- and managers
 manager_of_value : (m n : RmNo) → m.value ≡ n.value → m ≡ n
 manager_of_value m n e = λ i. record { value = e i; in_range = is_prop→PathP (λ j. (1 ≤ e j) × (e j ≤ 16)) (λ j. hlevel le_prop) m.in_range n.in_range i }
 
--- the words of two equal lists, each by its place
+-- the first words of two equal lists
 first : {a b : List ℕ} {x y : List (List ℕ)} → a ∷ x ≡ b ∷ y → a ≡ b
 first {b} e = ap first_of e
   where
@@ -72,6 +77,7 @@ first {b} e = ap first_of e
     first_of [] = b
     first_of (w ∷ ws) = w
 
+-- the rest of two equal lists
 rest : {a b : List ℕ} {x y : List (List ℕ)} → a ∷ x ≡ b ∷ y → x ≡ y
 rest e = ap rest_of e
   where
@@ -79,12 +85,15 @@ rest e = ap rest_of e
     rest_of [] = []
     rest_of (w ∷ ws) = ws
 
+-- their second words
 second : {a b c d : List ℕ} {x y : List (List ℕ)} → a ∷ c ∷ x ≡ b ∷ d ∷ y → c ≡ d
 second e = first (rest e)
 
+-- their third
 third : {a b c d f g : List ℕ} {x y : List (List ℕ)} → a ∷ c ∷ f ∷ x ≡ b ∷ d ∷ g ∷ y → f ≡ g
 third e = second (rest e)
 
+-- their fourth
 fourth : {a b c d f g h k : List ℕ} {x y : List (List ℕ)} → a ∷ c ∷ f ∷ h ∷ x ≡ b ∷ d ∷ g ∷ k ∷ y → h ≡ k
 fourth e = third (rest e)
 
@@ -98,21 +107,27 @@ number_of_name letter m n h k e =
     let rest : decimal m ≡ decimal n = cc in
     decimal_injective m n h k rest
 
+-- actors with one name are one
 actor_named : (m n : ActorNo) → actor_name m.value ≡ actor_name n.value → m ≡ n
 actor_named m n e = actor_of_value m n (number_of_name 97 m.value n.value (omega arith) (omega arith) e)
 
+-- so are transactions
 tx_named : (m n : TxNo) → transaction_name m.value ≡ transaction_name n.value → m ≡ n
 tx_named m n e = tx_of_value m n (number_of_name 116 m.value n.value (omega arith) (omega arith) e)
 
+-- enlistments
 enl_named : (m n : EnlNo) → enlistment_name m.value ≡ enlistment_name n.value → m ≡ n
 enl_named m n e = enl_of_value m n (number_of_name 101 m.value n.value (omega arith) (omega arith) e)
 
+-- clones
 clone_named : (m n : CloneNo) → clone_name m.value ≡ clone_name n.value → m ≡ n
 clone_named m n e = clone_of_value m n (number_of_name 99 m.value n.value (omega arith) (omega arith) e)
 
+-- scopes
 scope_named : (m n : ScopeNo) → scope_name m.value ≡ scope_name n.value → m ≡ n
 scope_named m n e = scope_of_value m n (number_of_name 115 m.value n.value (omega arith) (omega arith) e)
 
+-- and managers
 manager_named : (m n : RmNo) → manager_name m.value ≡ manager_name n.value → m ≡ n
 manager_named m n e = manager_of_value m n (number_of_name 114 m.value n.value (omega arith) (omega arith) e)
 
@@ -149,7 +164,7 @@ level_apart Snapshot = refl
 level_apart Chaos = refl
 level_apart Unspecified = refl
 
--- words of lists with one text are one
+-- isolation levels with one text are one
 same_iso : (v w : IsoWord) → asked_iso_word v ≡ asked_iso_word w → v ≡ w
 same_iso DefaultIso DefaultIso e = refl
 same_iso (Level Serializable) (Level Serializable) e = refl
@@ -162,17 +177,19 @@ same_iso (Level Unspecified) (Level Unspecified) e = refl
 same_iso DefaultIso (Level v) e = absurd (apart (asked_iso_word DefaultIso) (asked_iso_word (Level v)) (level_apart v) e)
 same_iso v w e = absurd (apart (asked_iso_word v) (asked_iso_word w) refl e)
 
+-- options with one text are one
 same_option : (v w : EnlistOption) → option_word v ≡ option_word w → v ≡ w
 same_option Plain Plain e = refl
 same_option DuringPrepare DuringPrepare e = refl
 same_option v w e = absurd (apart (option_word v) (option_word w) refl e)
 
--- no plan is spelled `silent` but none
+-- no vote is spelled `silent`
 vote_apart : (v : Vote) → same_bytes (vote_word None) (vote_word (Some v)) ≡ false
 vote_apart Yes = refl
 vote_apart No = refl
 vote_apart Done = refl
 
+-- so are votes' plans
 same_vote : (v w : Option Vote) → vote_word v ≡ vote_word w → v ≡ w
 same_vote (Some Yes) (Some Yes) e = refl
 same_vote (Some No) (Some No) e = refl
@@ -181,11 +198,13 @@ same_vote None None e = refl
 same_vote None (Some v) e = absurd (apart (vote_word None) (vote_word (Some v)) (vote_apart v) e)
 same_vote v w e = absurd (apart (vote_word v) (vote_word w) refl e)
 
+-- nor is an owner's answer
 owner_apart : (v : Outcome) → same_bytes (owner_word None) (owner_word (Some v)) ≡ false
 owner_apart Committed = refl
 owner_apart Aborted = refl
 owner_apart InDoubt = refl
 
+-- plans of owners' answers with one text are one
 same_owner : (v w : Option Outcome) → owner_word v ≡ owner_word w → v ≡ w
 same_owner (Some Committed) (Some Committed) e = refl
 same_owner (Some Aborted) (Some Aborted) e = refl
@@ -194,10 +213,12 @@ same_owner None None e = refl
 same_owner None (Some v) e = absurd (apart (owner_word None) (owner_word (Some v)) (owner_apart v) e)
 same_owner v w e = absurd (apart (owner_word v) (owner_word w) refl e)
 
+-- nor is a promotion's
 promote_apart : (v : Bool) → same_bytes (promote_word None) (promote_word (Some v)) ≡ false
 promote_apart true = refl
 promote_apart false = refl
 
+-- promotions' plans with one text are one
 same_promote : (v w : Option Bool) → promote_word v ≡ promote_word w → v ≡ w
 same_promote (Some true) (Some true) e = refl
 same_promote (Some false) (Some false) e = refl
@@ -205,11 +226,13 @@ same_promote None None e = refl
 same_promote None (Some v) e = absurd (apart (promote_word None) (promote_word (Some v)) (promote_apart v) e)
 same_promote v w e = absurd (apart (promote_word v) (promote_word w) refl e)
 
+-- clones' kinds with one text are one
 same_kind : (v w : CloneKind) → kind_word v ≡ kind_word w → v ≡ w
 same_kind Block Block e = refl
 same_kind RollbackKind RollbackKind e = refl
 same_kind v w e = absurd (apart (kind_word v) (kind_word w) refl e)
 
+-- images with one text are one
 same_image : (v w : Image) → image_word v ≡ image_word w → v ≡ w
 same_image LoseImage LoseImage e = refl
 same_image Keep Keep e = refl
@@ -249,7 +272,7 @@ same_body (Durable t e m x) (Durable u f n y) h k z =
     λ i. Durable (tx_named t u (second z) i) (enl_named e f (third z) i) (manager_named m n (fourth z) i) (same_support x y (rest (rest (rest (rest z)))) i)
 same_body (Promotable t e m v a p) (Promotable u f n w b q) h k z =
     λ i. Promotable (tx_named t u (second z) i) (enl_named e f (third z) i) (manager_named m n (fourth z) i)
-        (same_vote v w (fourth (rest z)) i) (same_owner a b (fourth (rest (rest z))) i) (same_promote p q (fourth (rest (rest (rest z)))) i)
+    (same_vote v w (fourth (rest z)) i) (same_owner a b (fourth (rest (rest z))) i) (same_promote p q (fourth (rest (rest (rest z)))) i)
 same_body (Clone t c x) (Clone u d y) h k z = λ i. Clone (tx_named t u (second z) i) (clone_named c d (third z) i) (same_kind x y (fourth z) i)
 same_body (Complete c) (Complete d) h k z = ap (λ x. Complete x) (clone_named c d (second z))
 same_body (Commit t) (Commit u) h k z = ap (λ x. Commit x) (tx_named t u (second z))

@@ -40,6 +40,7 @@ always-past : {A : Type 0} (t : List A → A → Bool) (past xs : List A) → al
 always-past t past [] h = h
 always-past t past (x ∷ xs) h = and_right (t past x) _ (always-past t (x ∷ past) xs h)
 
+-- so does each of the front
 always-front : {A : Type 0} (t : List A → A → Bool) (xs ys : List A) → always t (past_of (xs ++ ys)) ≡ true → always t (past_of xs) ≡ true
 always-front t xs ys h = always-past t (past_of xs) ys (ap (always t) (sym (onto-append [] xs ys)) ∙ h)
 
@@ -48,6 +49,7 @@ pub script_text-append : (s r : List Line) → script_text (s ++ r) ≡ script_t
 script_text-append [] r = refl
 script_text-append (l ∷ s) r = ap (λ t. line_text l ++ t) (script_text-append s r) ∙ sym (append_assoc (line_text l) (script_text s) (script_text r))
 
+-- its length with one more
 length-script_text-snoc : (s : List Line) (l : Line) → length (script_text (s ++ l ∷ [])) ≡ length (script_text s) + length (line_text l)
 length-script_text-snoc s l = omega (arith, ap length (script_text-append s (l ∷ [])), length-append (script_text s) (script_text (l ∷ [])), length-append (line_text l) [])
 
@@ -65,8 +67,9 @@ pub record IsGood (before : List Line) (l : Line) : Type 0 where
 -- a line that makes and uses names well, with enlistments of the right kind, and isn't a second `par`, has no fault by its names
 well_named : (past : List Line) (l : Line) → is_named_well past l ≡ true → is_of_kind past l.body ≡ true → is_par_once past l.body ≡ true → name_fault past l ≡ None
 well_named past l n k p =
-    rw (and_left (each (λ m. not (is_made past m)) (makes l.body)) (each (λ m. is_made past m) (uses l.body)) n, and_right (each (λ m. not (is_made past m)) (makes l.body)) (each (λ m. is_made past m) (uses l.body)) n, k, p)
-    refl
+    let made = each (λ m. not (is_made past m)) (makes l.body) in
+    let used = each (λ m. is_made past m) (uses l.body) in
+    rw (and_left made used n, and_right made used n, k, p) refl
 
 -- the first of four tests that fails
 abbrev first_failure : Bool → Bool → Bool → Bool → Option BadCause

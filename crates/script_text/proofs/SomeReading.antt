@@ -27,7 +27,8 @@ begins_with : (rest : List ℕ) (y : IsLine (words_of (front rest))) → has_new
 begins_with rest y h = cut_front rest h ∙ ap (λ t. t ++ 10 ∷ behind_front rest) (sym (front_is rest y)) ∙ sym (line_text-append y.line (behind_front rest))
 
 -- a line without fault is good
-without_fault : (before : List Line) (rest : List ℕ) (y : IsLine (words_of (front rest))) → IsFormed (length (script_text before)) rest → name_fault (past_of before) y.line ≡ None → IsGood before y.line
+without_fault : (before : List Line) (rest : List ℕ) (y : IsLine (words_of (front rest))) → IsFormed (length (script_text before)) rest
+    → name_fault (past_of before) y.line ≡ None → IsGood before y.line
 without_fault before rest y f n =
     let long : length (line_text y.line) ≡ length (front rest) + 1 = omega (arith, length-append (join_with_byte 32 (words y.line)) (10 ∷ []), ap length (front_is rest y)) in
     let far : reach rest ≡ length (front rest) + 1 = rw f.newline refl in
