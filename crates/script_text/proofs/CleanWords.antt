@@ -7,7 +7,7 @@ use Rattle.dtx_model.specs.Grammar.{is_from}
 use Rattle.dtx_model.specs.Faults.{Slot, allows, is_name, is_number, same_bytes, writes, line_forms}
 use Rattle.dtx_model.proofs.Bools.{and_both, and_left, and_right, or_case}
 use Rattle.script_text.proofs.Figures.{same_bytes_are, writes_one, clean_decimal, to_high}
-use Rattle.script_text.proofs.Forms.{fits, fits_some}
+use Rattle.script_text.proofs.WordFaults.{fits, fits_some}
 
 -- no byte of the word is a space or none that a line may have
 abbrev pub is_clean : List ℕ → Bool
@@ -26,14 +26,13 @@ is_clean_slot s = each is_clean s.words && (each (λ b. is_from 33 126 b) s.lett
 clean_same : (w : List ℕ) (vs : List (List ℕ)) → each is_clean vs ≡ true → has (same_bytes w) vs ≡ true → is_clean w ≡ true
 clean_same w [] h k = absurd (cc k)
 clean_same w (v ∷ vs) h k =
-    or_case (same_bytes w v) (has (same_bytes w) vs) (λ e. rw (same_bytes_are w v e) (and_left (is_clean v) (each is_clean vs) h)) (clean_same w vs (and_right (is_clean v) (each is_clean vs) h)) k
+    or_case (same_bytes w v) (has (same_bytes w) vs) (λ e. rw (same_bytes_are w v e) (and_left _ _ h)) (clean_same w vs (and_right _ _ h)) k
 
 -- what is one of some clean bytes is clean
 clean_letter : (b : ℕ) (cs : List ℕ) → each (λ b. is_from 33 126 b) cs ≡ true → has (λ c. b == c) cs ≡ true → is_from 33 126 b ≡ true
 clean_letter b [] h k = absurd (cc k)
 clean_letter b (c ∷ cs) h k =
-    or_case (b == c) (has (λ c. b == c) cs) (λ e. let q : b ≡ c = grind (arith, nat_tests) in rw q (and_left (is_from 33 126 c) (each (λ b. is_from 33 126 b) cs) h))
-    (clean_letter b cs (and_right (is_from 33 126 c) (each (λ b. is_from 33 126 b) cs) h)) k
+    or_case (b == c) (has (λ c. b == c) cs) (λ e. let q : b ≡ c = grind (arith, nat_tests) in rw q (and_left _ _ h)) (clean_letter b cs (and_right _ _ h)) k
 
 -- numbers that aren't large are written by clean bytes
 clean_written : (low high : ℕ) (w : List ℕ) → nat_le high 4294967295 ≡ true → writes low high w ≡ true → is_clean w ≡ true
@@ -48,8 +47,8 @@ clean_name : (s : Slot) (w : List ℕ) → each (λ b. is_from 33 126 b) s.lette
 clean_name s [] h k e = absurd (cc e)
 clean_name s (b ∷ bs) h k e =
     let most : nat_le s.most 4294967295 ≡ true = grind (arith, nat_tests) in
-    let first = clean_letter b s.letters h (and_left (has (λ c. b == c) s.letters) (writes 1 s.most bs) e) in
-    and_both (is_from 33 126 b) (is_clean bs) first (clean_written 1 s.most bs most (and_right (has (λ c. b == c) s.letters) (writes 1 s.most bs) e))
+    let first = clean_letter b s.letters h (and_left _ _ e) in
+    and_both (is_from 33 126 b) (is_clean bs) first (clean_written 1 s.most bs most (and_right _ _ e))
 
 -- so is a number
 clean_number : (o : Option (ℕ × ℕ)) (w : List ℕ) → has_small_numbers o ≡ true → is_number o w ≡ true → is_clean w ≡ true
@@ -59,13 +58,11 @@ clean_number None w h e = absurd (cc e)
 -- so what such a place allows is clean
 clean_word : (s : Slot) (w : List ℕ) → is_clean_slot s ≡ true → allows s w ≡ true → is_clean w ≡ true
 clean_word s w h k =
-    let rest = and_right (each is_clean s.words) (each (λ b. is_from 33 126 b) s.letters && (nat_le s.most 9999 && has_small_numbers s.number)) h in
-    let numbers = and_right (each (λ b. is_from 33 126 b) s.letters) (nat_le s.most 9999 && has_small_numbers s.number) rest in
-    or_case (has (same_bytes w) s.words || is_name s w) (is_number s.number w)
-    (or_case (has (same_bytes w) s.words) (is_name s w)
-    (clean_same w s.words (and_left (each is_clean s.words) (each (λ b. is_from 33 126 b) s.letters && (nat_le s.most 9999 && has_small_numbers s.number)) h))
-    (clean_name s w (and_left (each (λ b. is_from 33 126 b) s.letters) (nat_le s.most 9999 && has_small_numbers s.number) rest) (and_left (nat_le s.most 9999) (has_small_numbers s.number) numbers)))
-    (clean_number s.number w (and_right (nat_le s.most 9999) (has_small_numbers s.number) numbers)) k
+    let rest = and_right _ _ h in
+    let numbers = and_right _ _ rest in
+    let named = clean_name s w (and_left _ _ rest) (and_left _ _ numbers) in
+    let by_words = or_case (has (same_bytes w) s.words) (is_name s w) (clean_same w s.words (and_left _ _ h)) named in
+    or_case (has (same_bytes w) s.words || is_name s w) (is_number s.number w) by_words (clean_number s.number w (and_right _ _ numbers)) k
 
 -- words that fill a form of such places are clean
 clean_form : (f : List Slot) (ws : List (List ℕ)) → each is_clean_slot f ≡ true → fits f ws ≡ true → each is_clean ws ≡ true
@@ -73,15 +70,12 @@ clean_form [] [] h k = refl
 clean_form [] (w ∷ ws) h k = absurd (cc k)
 clean_form (s ∷ f) [] h k = absurd (cc k)
 clean_form (s ∷ f) (w ∷ ws) h k =
-    and_both (is_clean w) (each is_clean ws) (clean_word s w (and_left (is_clean_slot s) (each is_clean_slot f) h) (and_left (allows s w) (fits f ws) k))
-    (clean_form f ws (and_right (is_clean_slot s) (each is_clean_slot f) h) (and_right (allows s w) (fits f ws) k))
+    and_both (is_clean w) (each is_clean ws) (clean_word s w (and_left _ _ h) (and_left _ _ k)) (clean_form f ws (and_right _ _ h) (and_right _ _ k))
 
 -- where words fill one of some forms of such places, they are clean
 clean_some : (forms : List (List Slot)) (ws : List (List ℕ)) → each (λ f. each is_clean_slot f) forms ≡ true → fits_some forms ws ≡ true → each is_clean ws ≡ true
 clean_some [] ws h k = absurd (cc k)
-clean_some (f ∷ fs) ws h k =
-    or_case (fits f ws) (fits_some fs ws) (clean_form f ws (and_left (each is_clean_slot f) (each (λ f. each is_clean_slot f) fs) h))
-    (clean_some fs ws (and_right (each is_clean_slot f) (each (λ f. each is_clean_slot f) fs) h)) k
+clean_some (f ∷ fs) ws h k = or_case (fits f ws) (fits_some fs ws) (clean_form f ws (and_left _ _ h)) (clean_some fs ws (and_right _ _ h)) k
 
 -- words that fill the form of a line are clean
 pub clean_line : (ws : List (List ℕ)) → fits_some line_forms ws ≡ true → each is_clean ws ≡ true

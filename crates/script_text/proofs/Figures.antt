@@ -33,7 +33,7 @@ pub same_bytes_are : (xs ys : List ℕ) → same_bytes xs ys ≡ true → xs ≡
 same_bytes_are [] [] h = refl
 same_bytes_are [] (y ∷ ys) h = absurd (cc h)
 same_bytes_are (x ∷ xs) [] h = absurd (cc h)
-same_bytes_are (x ∷ xs) (y ∷ ys) h = ap₂ (λ b bs. b ∷ bs) (are_equal x y (and_left (x == y) _ h)) (same_bytes_are xs ys (and_right (x == y) _ h))
+same_bytes_are (x ∷ xs) (y ∷ ys) h = ap₂ (λ b bs. b ∷ bs) (are_equal x y (and_left _ _ h)) (same_bytes_are xs ys (and_right _ _ h))
 
 -- a number from low to high is at most high
 pub to_high : (low high n : ℕ) → is_from low high n ≡ true → n ≤ high
@@ -60,8 +60,8 @@ Within low high = (n : ℕ) × (is_from low high n ≡ true)
 -- a word that writes a number in the range is the text of one
 pub writes_one : (low high : ℕ) (w : List ℕ) → writes low high w ≡ true → (n : Within low high) × (decimal n.0 ≡ w)
 writes_one low high w h =
-    let e = same_bytes_are w (decimal (value_from 0 w)) (and_left (same_bytes w (decimal (value_from 0 w))) (is_from low high (value_from 0 w)) h) in
-    ((value_from 0 w, and_right (same_bytes w (decimal (value_from 0 w))) (is_from low high (value_from 0 w)) h), sym e)
+    let e = same_bytes_are w (decimal (value_from 0 w)) (and_left _ _ h) in
+    ((value_from 0 w, and_right _ _ h), sym e)
 
 -- digits are bytes without space
 clean_digits : (ds : List ℕ) → AllDigits 10 ds → each (λ b. is_from 33 126 b) ds ≡ true

@@ -11,7 +11,7 @@ use Rattle.dtx_model.specs.Faults.{Slot, word, number, allows, command_forms, li
 use Rattle.dtx_model.specs.Faults.{connection_slot, timeout_slot, iso_slot, option_slot, vote_slot, owner_slot, promote_slot, kind_slot, image_slot}
 use Rattle.dtx_model.proofs.Bools.{and_both, and_left, and_right, or_case, or_right}
 use Rattle.script_text.proofs.Fitting.{with_actor}
-use Rattle.script_text.proofs.Forms.{fits, fits_some}
+use Rattle.script_text.proofs.WordFaults.{fits, fits_some}
 use Rattle.script_text.proofs.Meanings.{Means, listed, counted, actor, transaction, enlistment, clone, scope, manager, connection, timeout, iso, option, vote, owner, promote, kind, image}
 
 infixr 10 ◌beside◌
@@ -31,8 +31,8 @@ cut_one : {A : Type 0} {spell : A → List ℕ} {in_front : List (List ℕ) → 
     → (rest : List (List ℕ)) → fits (s ∷ f) rest ≡ true → in_front rest ≡ ws → Cut A spell in_front f ws
 cut_one m [] h e = absurd (cc h)
 cut_one {in_front} {s} {f} m (w ∷ rest) h e =
-    let x = m.value w (and_left (allows s w) (fits f rest) h) in
-    record { value = x.0; left = record { rest = rest; fills = and_right (allows s w) (fits f rest) h; whole = ap (λ v. in_front (v ∷ rest)) x.1 ∙ e } }
+    let x = m.value w (and_left _ _ h) in
+    record { value = x.0; left = record { rest = rest; fills = and_right _ _ h; whole = ap (λ v. in_front (v ∷ rest)) x.1 ∙ e } }
 
 -- the same, said of what is left
 cut : {A : Type 0} {spell : A → List ℕ} {in_front : List (List ℕ) → List (List ℕ)} {s : Slot} {f : List Slot} {ws : List (List ℕ)} → Means A spell s
@@ -245,7 +245,7 @@ behind_actor : (fs : List (List Slot)) (w : List ℕ) (ws : List (List ℕ)) →
 behind_actor [] w ws h = absurd (cc h)
 behind_actor (f ∷ fs) w ws h =
     or_case (allows actor_slot w && fits f ws) (fits_some (with_actor fs) (w ∷ ws))
-    (λ k. (and_left (allows actor_slot w) (fits f ws) k, ap (λ b. b || fits_some fs ws) (and_right (allows actor_slot w) (fits f ws) k)))
+    (λ k. (and_left _ _ k, ap (λ b. b || fits_some fs ws) (and_right _ _ k)))
     (λ k. let r = behind_actor fs w ws k in (r.0, or_right (fits f ws) (fits_some fs ws) r.1)) h
 
 -- the words are those of a line whose numbers are in their ranges

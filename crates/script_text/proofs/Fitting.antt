@@ -38,7 +38,7 @@ use Rattle.dtx_model.specs.Faults.{actor_slot, transaction_slot, enlistment_slot
 use Rattle.dtx_model.specs.Faults.{connection_slot, timeout_slot, iso_slot, option_slot, vote_slot, owner_slot, promote_slot, kind_slot, image_slot}
 use Rattle.dtx_model.proofs.Bools.{and_both, and_left, and_right, or_right}
 use Rattle.script_text.proofs.Figures.{writes_decimal, in_range}
-use Rattle.script_text.proofs.Forms.{fits, fits_some}
+use Rattle.script_text.proofs.WordFaults.{fits, fits_some}
 
 -- a number in its range is allowed where one stands
 number_allowed : (low high n : ℕ) → high < 2 ^ 64 → is_from low high n ≡ true → allows (number low high) (decimal n) ≡ true

@@ -2,7 +2,6 @@ pub mod CleanWords
 pub mod Figures
 pub mod Filled
 pub mod Fitting
-pub mod Forms
 pub mod GoodLines
 pub mod LineTexts
 pub mod Longer
@@ -11,3 +10,4 @@ pub mod OneReading
 pub mod SameLines
 pub mod Scripts
 pub mod SomeReading
+pub mod WordFaults

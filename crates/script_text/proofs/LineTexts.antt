@@ -33,28 +33,28 @@ no_newline b h = grind (arith, nat_tests)
 -- a clean word before a text is a text
 text_word : (w t : List ℕ) → is_clean w ≡ true → is_text t ≡ true → is_text (w ++ t) ≡ true
 text_word [] t h k = k
-text_word (b ∷ w) t h k = and_both (is_from 32 126 b) (is_text (w ++ t)) (wider b (and_left (is_from 33 126 b) (is_clean w) h)) (text_word w t (and_right (is_from 33 126 b) (is_clean w) h) k)
+text_word (b ∷ w) t h k = and_both (is_from 32 126 b) (is_text (w ++ t)) (wider b (and_left _ _ h)) (text_word w t (and_right _ _ h) k)
 
 -- a clean word is a text
 text_alone : (w : List ℕ) → is_clean w ≡ true → is_text w ≡ true
 text_alone [] h = refl
-text_alone (b ∷ w) h = and_both (is_from 32 126 b) (is_text w) (wider b (and_left (is_from 33 126 b) (is_clean w) h)) (text_alone w (and_right (is_from 33 126 b) (is_clean w) h))
+text_alone (b ∷ w) h = and_both (is_from 32 126 b) (is_text w) (wider b (and_left _ _ h)) (text_alone w (and_right _ _ h))
 
 -- clean words are a text together
 pub text_words : (ws : List (List ℕ)) → each is_clean ws ≡ true → is_text (join_with_byte 32 ws) ≡ true
 text_words [] h = refl
-text_words (w ∷ []) h = text_alone w (and_left (is_clean w) true h)
-text_words (w ∷ v ∷ ws) h = text_word w (32 ∷ join_with_byte 32 (v ∷ ws)) (and_left (is_clean w) (each is_clean (v ∷ ws)) h) (text_words (v ∷ ws) (and_right (is_clean w) (each is_clean (v ∷ ws)) h))
+text_words (w ∷ []) h = text_alone w (and_left _ _ h)
+text_words (w ∷ v ∷ ws) h = text_word w (32 ∷ join_with_byte 32 (v ∷ ws)) (and_left _ _ h) (text_words (v ∷ ws) (and_right _ _ h))
 
 -- a text before an LF is the front
 pub front_text : (t a : List ℕ) → is_text t ≡ true → front (t ++ 10 ∷ a) ≡ t
 front_text [] a h = refl
-front_text (b ∷ t) a h = rw (no_newline b (and_left (is_from 32 126 b) (is_text t) h)) (ap (λ x. b ∷ x) (front_text t a (and_right (is_from 32 126 b) (is_text t) h)))
+front_text (b ∷ t) a h = rw (no_newline b (and_left _ _ h)) (ap (λ x. b ∷ x) (front_text t a (and_right _ _ h)))
 
 -- and what follows the LF is behind it
 pub behind_text : (t a : List ℕ) → is_text t ≡ true → behind_front (t ++ 10 ∷ a) ≡ a
 behind_text [] a h = refl
-behind_text (b ∷ t) a h = rw (no_newline b (and_left (is_from 32 126 b) (is_text t) h)) (behind_text t a (and_right (is_from 32 126 b) (is_text t) h))
+behind_text (b ∷ t) a h = rw (no_newline b (and_left _ _ h)) (behind_text t a (and_right _ _ h))
 
 -- an LF is there
 pub newline_there : (t a : List ℕ) → has_newline (t ++ 10 ∷ a) ≡ true
@@ -73,9 +73,9 @@ split_alone (b ∷ w) h = rw (no_space b (and_left (is_from 33 126 b) (is_clean 
 
 -- clean words that are joined are split into the same words
 split_joined : (w : List ℕ) (ws : List (List ℕ)) → each is_clean (w ∷ ws) ≡ true → split (join_with_byte 32 (w ∷ ws)) ≡ w ∷ ws
-split_joined w [] h = split_alone w (and_left (is_clean w) true h)
+split_joined w [] h = split_alone w (and_left _ _ h)
 split_joined w (v ∷ ws) h =
-    split_word w (join_with_byte 32 (v ∷ ws)) (and_left (is_clean w) (each is_clean (v ∷ ws)) h) ∙ ap (λ x. w ∷ x) (split_joined v ws (and_right (is_clean w) (each is_clean (v ∷ ws)) h))
+    split_word w (join_with_byte 32 (v ∷ ws)) (and_left _ _ h) ∙ ap (λ x. w ∷ x) (split_joined v ws (and_right _ _ h))
 
 -- so are the words of a line, the first of which isn't empty
 pub words_joined : (b : ℕ) (w : List ℕ) (ws : List (List ℕ)) → each is_clean ((b ∷ w) ∷ ws) ≡ true → words_of (join_with_byte 32 ((b ∷ w) ∷ ws)) ≡ (b ∷ w) ∷ ws

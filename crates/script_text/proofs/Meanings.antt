@@ -51,8 +51,8 @@ name_of letter most [] h = absurd (cc h)
 name_of letter most (b ∷ bs) h =
     let right = (b == letter) || false in
     let k : (right && writes 1 most bs) ≡ true = first_holds (right && writes 1 most bs) h in
-    let n = writes_one 1 most bs (and_right right (writes 1 most bs) k) in
-    (n.0, ap₂ (λ x xs. x ∷ xs) (one_number b letter (first_holds (b == letter) (and_left right (writes 1 most bs) k))) n.1)
+    let n = writes_one 1 most bs (and_right _ _ k) in
+    (n.0, ap₂ (λ x xs. x ∷ xs) (one_number b letter (first_holds (b == letter) (and_left _ _ k))) n.1)
 
 -- an actor's name
 pub actor : Means ActorNo (λ x. actor_name x.value) actor_slot
@@ -183,7 +183,7 @@ connection_of (b ∷ bs) h =
     let fixed = has (same_bytes (b ∷ bs)) connection_slot.words in
     let letter = (b == 101) || ((b == 120) || false) in
     or_case fixed (letter && writes 1 9999 bs) (found connection_word (OnBegin ∷ OnVoter ∷ []) (b ∷ bs))
-    (λ k. connected b bs (and_left letter (writes 1 9999 bs) k) (and_right letter (writes 1 9999 bs) k)) (first_holds (fixed || (letter && writes 1 9999 bs)) h)
+    (λ k. connected b bs (and_left _ _ k) (and_right _ _ k)) (first_holds (fixed || (letter && writes 1 9999 bs)) h)
 
 -- a connection
 pub connection : Means Conn connection_word connection_slot

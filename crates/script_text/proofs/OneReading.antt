@@ -31,8 +31,8 @@ compared [] r a b hs hr e = Front r refl e
 compared (l ∷ s) [] a b hs hr e = Beyond l s refl (sym e ∙ append_assoc (line_text l) (script_text s) a)
 compared (l ∷ s) (m ∷ r) a b hs hr e =
     let both = sym (append_assoc (line_text l) (script_text s) a) ∙ e ∙ append_assoc (line_text m) (script_text r) b in
-    let k = same_first l m (script_text s ++ a) (script_text r ++ b) (and_left (is_in_range l.body) (are_in_range s) hs) (and_left (is_in_range m.body) (are_in_range r) hr) both in
-    compare_more l m s r a b k.0 (compared s r a b (and_right (is_in_range l.body) (are_in_range s) hs) (and_right (is_in_range m.body) (are_in_range r) hr) k.1)
+    let k = same_first l m (script_text s ++ a) (script_text r ++ b) (and_left _ _ hs) (and_left _ _ hr) both in
+    compare_more l m s r a b k.0 (compared s r a b (and_right _ _ hs) (and_right _ _ hr) k.1)
 
 -- a script up to one of its lines is a script
 script_to : (s : List Line) (l : Line) (r : List Line) → IsScript (s ++ l ∷ r) → IsScript (s ++ l ∷ [])

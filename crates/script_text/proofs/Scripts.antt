@@ -15,17 +15,17 @@ use Rattle.dtx_model.proofs.Histories.{onto-append, past_of-snoc}
 -- each of a list passes, and one more
 each-snoc : {A : Type 0} (p : A → Bool) (xs : List A) (x : A) → each p xs ≡ true → p x ≡ true → each p (xs ++ x ∷ []) ≡ true
 each-snoc p [] x h k = and_both (p x) true k refl
-each-snoc p (y ∷ xs) x h k = and_both (p y) _ (and_left (p y) _ h) (each-snoc p xs x (and_right (p y) _ h) k)
+each-snoc p (y ∷ xs) x h k = and_both (p y) _ (and_left _ _ h) (each-snoc p xs x (and_right _ _ h) k)
 
 -- where each of a list passes, its last passes
 each-last : {A : Type 0} (p : A → Bool) (xs : List A) (x : A) → each p (xs ++ x ∷ []) ≡ true → p x ≡ true
-each-last p [] x h = and_left (p x) true h
-each-last p (y ∷ xs) x h = each-last p xs x (and_right (p y) _ h)
+each-last p [] x h = and_left _ _ h
+each-last p (y ∷ xs) x h = each-last p xs x (and_right _ _ h)
 
 -- where each passes, each of the front passes
 each-front : {A : Type 0} (p : A → Bool) (xs ys : List A) → each p (xs ++ ys) ≡ true → each p xs ≡ true
 each-front p [] ys h = refl
-each-front p (x ∷ xs) ys h = and_both (p x) (each p xs) (and_left (p x) (each p (xs ++ ys)) h) (each-front p xs ys (and_right (p x) (each p (xs ++ ys)) h))
+each-front p (x ∷ xs) ys h = and_both (p x) (each p xs) (and_left _ _ h) (each-front p xs ys (and_right _ _ h))
 
 -- each passes with what stands before it, and one more
 always-snoc : {A : Type 0} (t : List A → A → Bool) (xs : List A) (x : A) → always t (past_of xs) ≡ true → t (past_of xs) x ≡ true → always t (past_of (xs ++ x ∷ [])) ≡ true
@@ -33,12 +33,12 @@ always-snoc t xs x h k = ap (always t) (past_of-snoc xs x) ∙ and_both (t (past
 
 -- where each passes with what stands before it, the last does
 always-last : {A : Type 0} (t : List A → A → Bool) (xs : List A) (x : A) → always t (past_of (xs ++ x ∷ [])) ≡ true → t (past_of xs) x ≡ true
-always-last t xs x h = and_left (t (past_of xs) x) (always t (past_of xs)) (ap (always t) (sym (past_of-snoc xs x)) ∙ h)
+always-last t xs x h = and_left _ _ (ap (always t) (sym (past_of-snoc xs x)) ∙ h)
 
 -- where each passes with what stands before it, each of the past does
 always-past : {A : Type 0} (t : List A → A → Bool) (past xs : List A) → always t (onto past xs) ≡ true → always t past ≡ true
 always-past t past [] h = h
-always-past t past (x ∷ xs) h = and_right (t past x) _ (always-past t (x ∷ past) xs h)
+always-past t past (x ∷ xs) h = and_right _ _ (always-past t (x ∷ past) xs h)
 
 -- so does each of the front
 always-front : {A : Type 0} (t : List A → A → Bool) (xs ys : List A) → always t (past_of (xs ++ ys)) ≡ true → always t (past_of xs) ≡ true

@@ -1,4 +1,4 @@
--- Words that fill a form.
+-- Which words have no fault: those that fill a form.
 use Rattle.std.proofs.Common.{◌≡◌, ℕ, Bool, true, false, ◌&&◌, List, [], ◌∷◌, refl, sym, ◌∙◌, None}
 use Rattle.std.specs.List.{filter_map}
 use Rattle.dtx_model.specs.Words.{has}
