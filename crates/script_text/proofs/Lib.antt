@@ -1,9 +1,13 @@
-pub mod Commands
-pub mod Cuts
+pub mod CleanWords
+pub mod Figures
+pub mod Filled
+pub mod Fitting
+pub mod GoodLines
 pub mod LineTexts
 pub mod Longer
-pub mod Numbers
+pub mod Meanings
 pub mod OneReading
 pub mod SameLines
 pub mod Scripts
-pub mod Tables
+pub mod SomeReading
+pub mod WordFaults

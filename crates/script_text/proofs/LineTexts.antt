@@ -1,89 +1,137 @@
--- Lines, and the LF behind each.
-use Rattle.std.proofs.Common.{◌≡◌, ℕ, ◌+◌, ◌^◌, ◌<◌, ◌≤◌, true, List, [], ◌∷◌, ◌++◌, length, refl, ap, sym, ◌∙◌, arith, Option, Some, None, decimal, append_assoc, length-append}
+-- Lines cut into words, and words joined to lines.
+use Rattle.std.proofs.Common.{◌≡◌, ℕ, ◌==◌, Bool, true, false, List, [], ◌∷◌, ◌++◌, refl, ap, ◌∙◌, arith, if◌then◌else◌}
 use Rattle.std.specs.List.{join_with_byte}
 use Rattle.std.proofs.lemmas.Bool.Decides.{nat_tests}
-use Rattle.dtx_values.specs.declared.number.ActorNo.{ActorNo}
-use Rattle.dtx_values.specs.declared.script.Body.{Body}
-use Rattle.dtx_values.specs.declared.script.Body.TheVariants.{Begin, Volatile, Clone, Complete, Commit, Rollback, Status, Await, Tick, Do}
-use Rattle.dtx_values.specs.declared.script.EnlistOption.{EnlistOption}
-use Rattle.dtx_values.specs.declared.script.EnlistOption.TheVariants.{Plain, DuringPrepare}
-use Rattle.dtx_values.specs.declared.script.Line.{Line}
-use Rattle.dtx_values.specs.declared.words.CloneKind.{CloneKind}
-use Rattle.dtx_values.specs.declared.words.CloneKind.TheVariants.{Block, Rollback as RollbackKind}
-use Rattle.dtx_values.specs.declared.words.Timeout.TheVariants.{Default, Milliseconds}
-use Rattle.dtx_values.specs.declared.words.Vote.{Vote}
-use Rattle.dtx_values.specs.declared.words.Vote.TheVariants.{Yes, No, Done}
-use Rattle.dtx_model.specs.Grammar.{actor_name, words, command_words, option_word, vote_word, kind_word, line_text, is_run, is_from, is_in_range}
-use Rattle.dtx_model.proofs.Bools.{and_left, and_right}
-use Rattle.script_text.specs.Reader.{IsWithout}
-use Rattle.script_text.proofs.Cuts.{cut_same, cut_none, without_append}
-use Rattle.script_text.proofs.Numbers.{to_high, without_decimal}
+use Rattle.dtx_model.specs.Words.{each}
+use Rattle.dtx_model.specs.Outcome.{is_empty}
+use Rattle.dtx_model.specs.Grammar.{is_from}
+use Rattle.dtx_model.specs.Faults.{front, has_newline, push, split, words_of}
+use Rattle.dtx_model.proofs.Bools.{and_both, and_left, and_right, or_right}
+use Rattle.script_text.proofs.CleanWords.{is_clean}
 
--- a number and a text without LF are so together
-number_without : (n : ℕ) (r : List ℕ) → n < 2 ^ 64 → IsWithout 10 r → IsWithout 10 (decimal n ++ r)
-number_without n r k e = without_append 10 (decimal n) r (without_decimal 10 n (omega arith) k) e
+-- each byte may stand in a line
+abbrev pub is_text : List ℕ → Bool
+is_text bs = each (λ b. is_from 32 126 b) bs
 
--- an option has no space
-pub option_apart : (o : EnlistOption) → IsWithout 32 (option_word o)
-option_apart Plain = refl
-option_apart DuringPrepare = refl
+-- the bytes behind the first LF
+abbrev pub behind_front : List ℕ → List ℕ
+behind_front [] = []
+behind_front (b ∷ bs) = if b == 10 then bs else behind_front bs
 
--- nor has it an LF, nor has a vote or a clone's kind
-option_without : (o : EnlistOption) → IsWithout 10 (option_word o)
-option_without Plain = refl
-option_without DuringPrepare = refl
+-- a byte without space is one of a line, and isn't LF or space
+wider : (b : ℕ) → is_from 33 126 b ≡ true → is_from 32 126 b ≡ true
+wider b h = grind (arith, nat_tests)
 
-vote_without : (v : Option Vote) → IsWithout 10 (vote_word v)
-vote_without (Some Yes) = refl
-vote_without (Some No) = refl
-vote_without (Some Done) = refl
-vote_without None = refl
+-- it isn't a space
+no_space : (b : ℕ) → is_from 33 126 b ≡ true → (b == 32) ≡ false
+no_space b h = grind (arith, nat_tests)
 
-kind_without : (k : CloneKind) → IsWithout 10 (kind_word k)
-kind_without Block = refl
-kind_without RollbackKind = refl
+-- a byte of a line isn't LF
+no_newline : (b : ℕ) → is_from 32 126 b ≡ true → (b == 10) ≡ false
+no_newline b h = grind (arith, nat_tests)
 
--- a command that is run has no LF, nor has the actor's name before it
-pub command_without : (a : ActorNo) (b : Body) → is_run b ≡ true → is_in_range b ≡ true → IsWithout 10 (join_with_byte 32 (actor_name a.value ∷ command_words b))
-command_without a (Begin t Default) h k = number_without a.value _ (omega arith) (number_without t.value _ (omega arith) refl)
-command_without a (Begin t (Milliseconds n)) h k =
-    let below : n ≤ 4294967295 = grind (arith, nat_tests) in
-    number_without a.value _ (omega arith) (number_without t.value _ (omega arith) (without_decimal 10 n (omega arith) (omega arith)))
-command_without a (Volatile t e o v) h k =
-    let last = without_append 10 (option_word o) (32 ∷ vote_word v) (option_without o) (vote_without v) in
-    number_without a.value _ (omega arith) (number_without t.value _ (omega arith) (number_without e.value _ (omega arith) last))
-command_without a (Clone t c o) h k = number_without a.value _ (omega arith) (number_without t.value _ (omega arith) (number_without c.value _ (omega arith) (kind_without o)))
-command_without a (Complete c) h k = number_without a.value _ (omega arith) (without_decimal 10 c.value (omega arith) (omega arith))
-command_without a (Commit t) h k = number_without a.value _ (omega arith) (without_decimal 10 t.value (omega arith) (omega arith))
-command_without a (Rollback t) h k = number_without a.value _ (omega arith) (without_decimal 10 t.value (omega arith) (omega arith))
-command_without a (Status t) h k = number_without a.value _ (omega arith) (without_decimal 10 t.value (omega arith) (omega arith))
-command_without a (Await t) h k = number_without a.value _ (omega arith) (without_decimal 10 t.value (omega arith) (omega arith))
-command_without a (Tick t n) h k =
-    let below = to_high 1 1000000000 n k in
-    number_without a.value _ (omega arith) (number_without t.value _ (omega arith) (without_decimal 10 n (omega arith) (omega arith)))
-command_without a (Do t i n) h k =
-    let place = to_high 1 99 i (and_left _ _ k) in
-    let below = to_high 1 999 n (and_right (is_from 1 99 i) _ k) in
-    number_without a.value _ (omega arith) (number_without t.value _ (omega arith) (number_without i _ (omega arith) (without_decimal 10 n (omega arith) (omega arith))))
-command_without a _ h k = absurd (cc h)
+-- a clean word before a text is a text
+text_word : (w t : List ℕ) → is_clean w ≡ true → is_text t ≡ true → is_text (w ++ t) ≡ true
+text_word [] t h k = k
+text_word (b ∷ w) t h k = and_both (is_from 32 126 b) (is_text (w ++ t)) (wider b (and_left _ _ h)) (text_word w t (and_right _ _ h) k)
 
--- what follows a line stands behind its LF
-pub line_text-append : (l : Line) (after : List ℕ) → line_text l ++ after ≡ join_with_byte 32 (words l) ++ 10 ∷ after
-line_text-append l after = append_assoc (join_with_byte 32 (words l)) (10 ∷ []) after
+-- a clean word is a text
+text_alone : (w : List ℕ) → is_clean w ≡ true → is_text w ≡ true
+text_alone [] h = refl
+text_alone (b ∷ w) h = and_both (is_from 32 126 b) (is_text w) (wider b (and_left _ _ h)) (text_alone w (and_right _ _ h))
 
--- bytes that are cut at their first LF begin with no other line than what stands before it
-pub cut_first_line : (l : Line) (bytes text rest after : List ℕ) → is_run l.body ≡ true → is_in_range l.body ≡ true → bytes ≡ text ++ 10 ∷ rest → IsWithout 10 text
-    → bytes ≡ line_text l ++ after → (text ≡ join_with_byte 32 (words l)) × (rest ≡ after)
-cut_first_line l bytes text rest after h k e t s = cut_same 10 text (join_with_byte 32 (words l)) rest after t (command_without l.actor l.body h k) (sym e ∙ s ∙ line_text-append l after)
+-- clean words are a text together
+pub text_words : (ws : List (List ℕ)) → each is_clean ws ≡ true → is_text (join_with_byte 32 ws) ≡ true
+text_words [] h = refl
+text_words (w ∷ []) h = text_alone w (and_left _ _ h)
+text_words (w ∷ v ∷ ws) h = text_word w (32 ∷ join_with_byte 32 (v ∷ ws)) (and_left _ _ h) (text_words (v ∷ ws) (and_right _ _ h))
 
--- bytes without LF begin with no line
-pub no_first_line : (l : Line) (bytes after : List ℕ) → IsWithout 10 bytes → bytes ≡ line_text l ++ after → ⊥
-no_first_line l bytes after t s = cut_none 10 bytes (join_with_byte 32 (words l)) after t (s ∙ line_text-append l after)
+-- a text before an LF is the front
+pub front_text : (t a : List ℕ) → is_text t ≡ true → front (t ++ 10 ∷ a) ≡ t
+front_text [] a h = refl
+front_text (b ∷ t) a h = rw (no_newline b (and_left _ _ h)) (ap (λ x. b ∷ x) (front_text t a (and_right _ _ h)))
 
--- the length of a line
-pub length-line_text : (l : Line) (text : List ℕ) → text ≡ join_with_byte 32 (words l) → length (line_text l) ≡ length text + 1
-length-line_text l text e = omega (arith, length-append (join_with_byte 32 (words l)) (10 ∷ []), ap length e)
+-- and what follows the LF is behind it
+pub behind_text : (t a : List ℕ) → is_text t ≡ true → behind_front (t ++ 10 ∷ a) ≡ a
+behind_text [] a h = refl
+behind_text (b ∷ t) a h = rw (no_newline b (and_left _ _ h)) (behind_text t a (and_right _ _ h))
 
--- bytes begin with the line whose text stands before their first LF
-pub spelled_line : (l : Line) (bytes text rest : List ℕ) → bytes ≡ text ++ 10 ∷ rest → text ≡ join_with_byte 32 (words l) → bytes ≡ line_text l ++ rest
-spelled_line l bytes text rest e s = e ∙ ap (λ t. t ++ 10 ∷ rest) s ∙ sym (line_text-append l rest)
+-- an LF is there
+pub newline_there : (t a : List ℕ) → has_newline (t ++ 10 ∷ a) ≡ true
+newline_there [] a = refl
+newline_there (b ∷ t) a = or_right (b == 10) (has_newline (t ++ 10 ∷ a)) (newline_there t a)
+
+-- a clean word is split off at the space behind it
+split_word : (w t : List ℕ) → is_clean w ≡ true → split (w ++ 32 ∷ t) ≡ w ∷ split t
+split_word [] t h = refl
+split_word (b ∷ w) t h = rw (no_space b (and_left (is_from 33 126 b) (is_clean w) h), split_word w t (and_right (is_from 33 126 b) (is_clean w) h)) refl
+
+-- a clean word isn't split
+split_alone : (w : List ℕ) → is_clean w ≡ true → split w ≡ w ∷ []
+split_alone [] h = refl
+split_alone (b ∷ w) h = rw (no_space b (and_left (is_from 33 126 b) (is_clean w) h), split_alone w (and_right (is_from 33 126 b) (is_clean w) h)) refl
+
+-- clean words that are joined are split into the same words
+split_joined : (w : List ℕ) (ws : List (List ℕ)) → each is_clean (w ∷ ws) ≡ true → split (join_with_byte 32 (w ∷ ws)) ≡ w ∷ ws
+split_joined w [] h = split_alone w (and_left _ _ h)
+split_joined w (v ∷ ws) h =
+    split_word w (join_with_byte 32 (v ∷ ws)) (and_left _ _ h) ∙ ap (λ x. w ∷ x) (split_joined v ws (and_right _ _ h))
+
+-- so are the words of a line, the first of which isn't empty
+pub words_joined : (b : ℕ) (w : List ℕ) (ws : List (List ℕ)) → each is_clean ((b ∷ w) ∷ ws) ≡ true → words_of (join_with_byte 32 ((b ∷ w) ∷ ws)) ≡ (b ∷ w) ∷ ws
+words_joined b w [] h = split_joined (b ∷ w) [] h
+words_joined b w (v ∷ ws) h = split_joined (b ∷ w) (v ∷ ws) h
+
+-- a byte in front of the first word is in front of the words joined
+join_push : (b : ℕ) (ws : List (List ℕ)) → join_with_byte 32 (push b ws) ≡ b ∷ join_with_byte 32 ws
+join_push b [] = refl
+join_push b (w ∷ []) = refl
+join_push b (w ∷ v ∷ ws) = refl
+
+-- an empty word in front is a space in front
+join_space : (ws : List (List ℕ)) → is_empty ws ≡ false → join_with_byte 32 ([] ∷ ws) ≡ 32 ∷ join_with_byte 32 ws
+join_space [] h = absurd (cc h)
+join_space (w ∷ ws) h = refl
+
+-- a byte in front leaves a word
+push_some : (b : ℕ) (ws : List (List ℕ)) → is_empty (push b ws) ≡ false
+push_some b [] = refl
+push_some b (w ∷ ws) = refl
+
+-- there is a word
+split_some : (bs : List ℕ) → is_empty (split bs) ≡ false
+split_some [] = refl
+split_some (b ∷ bs) = by (b == 32) refl
+  where
+    by : (k : Bool) → (b == 32) ≡ k → is_empty (split (b ∷ bs)) ≡ false
+    by true e = rw e refl
+    by false e = rw e (push_some b (split bs))
+
+-- the words between the spaces, joined by spaces, are the bytes again
+join_split : (bs : List ℕ) → join_with_byte 32 (split bs) ≡ bs
+join_split [] = refl
+join_split (b ∷ bs) = by (b == 32) refl (join_split bs)
+  where
+    by : (k : Bool) → (b == 32) ≡ k → join_with_byte 32 (split bs) ≡ bs → join_with_byte 32 (split (b ∷ bs)) ≡ b ∷ bs
+    by true e h =
+        let q : 32 ≡ b = grind (arith, nat_tests) in
+        rw e (join_space (split bs) (split_some bs) ∙ ap (λ x. 32 ∷ x) h ∙ ap (λ x. x ∷ bs) q)
+    by false e h = rw e (join_push b (split bs) ∙ ap (λ x. b ∷ x) h)
+
+-- so are a line's words, joined
+pub join_words : (bs : List ℕ) → join_with_byte 32 (words_of bs) ≡ bs
+join_words [] = refl
+join_words (b ∷ bs) = join_split (b ∷ bs)
+
+-- bytes with an LF are cut at the first
+pub cut_front : (bs : List ℕ) → has_newline bs ≡ true → bs ≡ front bs ++ 10 ∷ behind_front bs
+cut_front [] h = absurd (cc h)
+cut_front (b ∷ bs) h = by (b == 10) refl (cut_front bs)
+  where
+    by : (k : Bool) → (b == 10) ≡ k → (has_newline bs ≡ true → bs ≡ front bs ++ 10 ∷ behind_front bs) → b ∷ bs ≡ front (b ∷ bs) ++ 10 ∷ behind_front (b ∷ bs)
+    by true e f =
+        let q : b ≡ 10 = grind (arith, nat_tests) in
+        rw e (ap (λ x. x ∷ bs) q)
+    by false e f =
+        let k : has_newline bs ≡ true = rw e at h in
+        rw e (ap (λ x. b ∷ x) (f k))

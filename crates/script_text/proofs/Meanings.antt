@@ -1,0 +1,190 @@
+-- What may stand at a place of a form: each word that the place allows is the text of a value.
+use Rattle.std.proofs.Common.{◌≡◌, ℕ, ◌==◌, ◌&&◌, ◌||◌, Bool, true, false, List, [], ◌∷◌, refl, ap₂, sym, arith, codes, decimal, map, Option, Some, None, ◌⊎◌, inl, inr}
+use Rattle.std.proofs.lemmas.Bool.Decides.{nat_tests}
+use Rattle.dtx_values.specs.declared.message.Conn.{Conn}
+use Rattle.dtx_values.specs.declared.message.Conn.TheVariants.{Begin as OnBegin, Voter as OnVoter, Enl as OnEnl, Again}
+use Rattle.dtx_values.specs.declared.number.ActorNo.{ActorNo}
+use Rattle.dtx_values.specs.declared.number.TxNo.{TxNo}
+use Rattle.dtx_values.specs.declared.number.EnlNo.{EnlNo}
+use Rattle.dtx_values.specs.declared.number.CloneNo.{CloneNo}
+use Rattle.dtx_values.specs.declared.number.ScopeNo.{ScopeNo}
+use Rattle.dtx_values.specs.declared.number.RmNo.{RmNo}
+use Rattle.dtx_values.specs.declared.script.EnlistOption.{EnlistOption}
+use Rattle.dtx_values.specs.declared.script.EnlistOption.TheVariants.{Plain, DuringPrepare}
+use Rattle.dtx_values.specs.declared.words.CloneKind.{CloneKind}
+use Rattle.dtx_values.specs.declared.words.CloneKind.TheVariants.{Block, Rollback as RollbackKind}
+use Rattle.dtx_values.specs.declared.words.Image.{Image}
+use Rattle.dtx_values.specs.declared.words.Image.TheVariants.{Lose, Keep, Torn}
+use Rattle.dtx_values.specs.declared.words.Iso.TheVariants.{Serializable, RepeatableRead, ReadCommitted, ReadUncommitted, Snapshot, Chaos, Unspecified}
+use Rattle.dtx_values.specs.declared.words.IsoWord.{IsoWord}
+use Rattle.dtx_values.specs.declared.words.IsoWord.TheVariants.{Default as DefaultIso, Level}
+use Rattle.dtx_values.specs.declared.words.Outcome.{Outcome}
+use Rattle.dtx_values.specs.declared.words.Outcome.TheVariants.{Committed, Aborted, InDoubt}
+use Rattle.dtx_values.specs.declared.words.Timeout.{Timeout}
+use Rattle.dtx_values.specs.declared.words.Timeout.TheVariants.{Default, Milliseconds}
+use Rattle.dtx_values.specs.declared.words.Vote.{Vote}
+use Rattle.dtx_values.specs.declared.words.Vote.TheVariants.{Yes, No, Done}
+use Rattle.dtx_model.specs.Words.{has}
+use Rattle.dtx_model.specs.Grammar.{actor_name, transaction_name, enlistment_name, clone_name, scope_name, manager_name, is_timeout}
+use Rattle.dtx_model.specs.Grammar.{connection_word, image_word, asked_iso_word, timeout_word, option_word, vote_word, owner_word, promote_word, kind_word}
+use Rattle.dtx_model.specs.Faults.{Slot, one_of, named, number, allows, same_bytes, writes, actor_slot, transaction_slot, enlistment_slot, clone_slot, scope_slot, manager_slot}
+use Rattle.dtx_model.specs.Faults.{connection_slot, timeout_slot, iso_slot, option_slot, vote_slot, owner_slot, promote_slot, kind_slot, image_slot}
+use Rattle.dtx_model.proofs.Bools.{and_left, and_right, or_case}
+use Rattle.script_text.proofs.Figures.{Within, same_bytes_are, writes_one, to_high, from_low}
+
+-- whatever word the place allows is the text of a value
+pub record Means (A : Type 0) (spell : A → List ℕ) (s : Slot) : Type 0 where
+  pub value : (w : List ℕ) → allows s w ≡ true → (x : A) × (spell x ≡ w)
+
+-- either holds, and the second doesn't
+first_holds : (a : Bool) → (a || false) ≡ true → a ≡ true
+first_holds true h = refl
+first_holds false h = h
+
+-- numbers that are the same
+one_number : (b c : ℕ) → (b == c) ≡ true → c ≡ b
+one_number b c h = grind (arith, nat_tests)
+
+-- a name of one letter has a number in its range
+name_of : (letter most : ℕ) (w : List ℕ) → allows (named (letter ∷ []) most) w ≡ true → (n : Within 1 most) × (letter ∷ decimal n.0 ≡ w)
+name_of letter most [] h = absurd (cc h)
+name_of letter most (b ∷ bs) h =
+    let right = (b == letter) || false in
+    let k : (right && writes 1 most bs) ≡ true = first_holds (right && writes 1 most bs) h in
+    let n = writes_one 1 most bs (and_right _ _ k) in
+    (n.0, ap₂ (λ x xs. x ∷ xs) (one_number b letter (first_holds (b == letter) (and_left _ _ k))) n.1)
+
+-- an actor's name
+pub actor : Means ActorNo (λ x. actor_name x.value) actor_slot
+actor = record {
+  value = λ w h. let n = name_of 97 16 w h in (record { value = n.0.0; in_range = (from_low 1 16 n.0.0 n.0.1, to_high 1 16 n.0.0 n.0.1) }, n.1);
+}
+
+-- a transaction's name
+pub transaction : Means TxNo (λ x. transaction_name x.value) transaction_slot
+transaction = record {
+  value = λ w h. let n = name_of 116 256 w h in (record { value = n.0.0; in_range = (from_low 1 256 n.0.0 n.0.1, to_high 1 256 n.0.0 n.0.1) }, n.1);
+}
+
+-- an enlistment's
+pub enlistment : Means EnlNo (λ x. enlistment_name x.value) enlistment_slot
+enlistment = record {
+  value = λ w h. let n = name_of 101 9999 w h in (record { value = n.0.0; in_range = (from_low 1 9999 n.0.0 n.0.1, to_high 1 9999 n.0.0 n.0.1) }, n.1);
+}
+
+-- a clone's
+pub clone : Means CloneNo (λ x. clone_name x.value) clone_slot
+clone = record {
+  value = λ w h. let n = name_of 99 9999 w h in (record { value = n.0.0; in_range = (from_low 1 9999 n.0.0 n.0.1, to_high 1 9999 n.0.0 n.0.1) }, n.1);
+}
+
+-- a scope's
+pub scope : Means ScopeNo (λ x. scope_name x.value) scope_slot
+scope = record {
+  value = λ w h. let n = name_of 115 9999 w h in (record { value = n.0.0; in_range = (from_low 1 9999 n.0.0 n.0.1, to_high 1 9999 n.0.0 n.0.1) }, n.1);
+}
+
+-- a manager's
+pub manager : Means RmNo (λ x. manager_name x.value) manager_slot
+manager = record {
+  value = λ w h. let n = name_of 114 16 w h in (record { value = n.0.0; in_range = (from_low 1 16 n.0.0 n.0.1, to_high 1 16 n.0.0 n.0.1) }, n.1);
+}
+
+-- a number in its range
+number_of : (low high : ℕ) (w : List ℕ) → allows (number low high) w ≡ true → (n : Within low high) × (decimal n.0 ≡ w)
+number_of low high [] h = writes_one low high [] h
+number_of low high (b ∷ bs) h = writes_one low high (b ∷ bs) h
+
+-- so a number stands for itself
+pub counted : (low high : ℕ) → Means (Within low high) (λ n. decimal n.0) (number low high)
+counted low high = record { value = number_of low high }
+
+-- a word of a list is one of the list
+in_list : (vs : List (List ℕ)) (w : List ℕ) → allows (one_of vs) w ≡ true → has (same_bytes w) vs ≡ true
+in_list vs [] h = first_holds (has (same_bytes []) vs) (first_holds (has (same_bytes []) vs || false) h)
+in_list vs (b ∷ bs) h = first_holds (has (same_bytes (b ∷ bs)) vs) (first_holds (has (same_bytes (b ∷ bs)) vs || false) h)
+
+-- a text that is among those of some values is that of one
+found : {A : Type 0} (spell : A → List ℕ) (xs : List A) (w : List ℕ) → has (same_bytes w) (map spell xs) ≡ true → (x : A) × (spell x ≡ w)
+found spell [] w h = absurd (cc h)
+found spell (x ∷ xs) w h = or_case (same_bytes w (spell x)) (has (same_bytes w) (map spell xs)) (λ e. (x, sym (same_bytes_are w (spell x) e))) (found spell xs w) h
+
+-- so words of lists stand for values
+pub listed : {A : Type 0} (spell : A → List ℕ) (xs : List A) → Means A spell (one_of (map spell xs))
+listed spell xs = record { value = λ w h. found spell xs w (in_list (map spell xs) w h) }
+
+-- an isolation level
+pub iso : Means IsoWord asked_iso_word iso_slot
+iso =
+    listed asked_iso_word
+    (DefaultIso ∷ Level Serializable ∷ Level RepeatableRead ∷ Level ReadCommitted ∷ Level ReadUncommitted ∷ Level Snapshot ∷ Level Chaos ∷ Level Unspecified ∷ [])
+
+-- an option
+pub option : Means EnlistOption option_word option_slot
+option = listed option_word (Plain ∷ DuringPrepare ∷ [])
+
+-- a vote's plan
+pub vote : Means (Option Vote) vote_word vote_slot
+vote = listed vote_word (Some Yes ∷ Some No ∷ Some Done ∷ None ∷ [])
+
+-- the plan of an owner's answer
+pub owner : Means (Option Outcome) owner_word owner_slot
+owner = listed owner_word (Some Committed ∷ Some Aborted ∷ Some InDoubt ∷ None ∷ [])
+
+-- a promotion's plan
+pub promote : Means (Option Bool) promote_word promote_slot
+promote = listed promote_word (Some true ∷ Some false ∷ None ∷ [])
+
+-- a clone's kind
+pub kind : Means CloneKind kind_word kind_slot
+kind = listed kind_word (Block ∷ RollbackKind ∷ [])
+
+-- an image
+pub image : Means Image image_word image_slot
+image = listed image_word (Lose ∷ Keep ∷ Torn ∷ [])
+
+-- a timeout is `default`, or a number in its range
+abbrev pub Timed : Type 0
+Timed = (d : Timeout) × (is_timeout d ≡ true)
+
+-- either is the text of a timeout
+timed : (w : List ℕ) → (((same_bytes w (codes "default") || false) || false) ≡ true) ⊎ (writes 0 4294967295 w ≡ true) → (d : Timed) × (timeout_word d.0 ≡ w)
+timed w (inl h) = ((Default, refl), sym (same_bytes_are w (codes "default") (first_holds (same_bytes w (codes "default")) (first_holds (same_bytes w (codes "default") || false) h))))
+timed w (inr h) =
+    let n = writes_one 0 4294967295 w h in
+    ((Milliseconds n.0.0, n.0.1), n.1)
+
+-- so is what the place allows
+timeout_of : (w : List ℕ) → allows timeout_slot w ≡ true → (d : Timed) × (timeout_word d.0 ≡ w)
+timeout_of [] h = timed [] (or_case ((same_bytes [] (codes "default") || false) || false) (writes 0 4294967295 []) inl inr h)
+timeout_of (b ∷ bs) h = timed (b ∷ bs) (or_case ((same_bytes (b ∷ bs) (codes "default") || false) || false) (writes 0 4294967295 (b ∷ bs)) inl inr h)
+
+-- a timeout
+pub timeout : Means Timed (λ d. timeout_word d.0) timeout_slot
+timeout = record { value = timeout_of }
+
+-- a connection is `b`, `v`, or a letter and an enlistment's number
+enlisted : (bs : List ℕ) → writes 1 9999 bs ≡ true → (e : EnlNo) × (decimal e.value ≡ bs)
+enlisted bs h =
+    let n = writes_one 1 9999 bs h in
+    (record { value = n.0.0; in_range = (from_low 1 9999 n.0.0 n.0.1, to_high 1 9999 n.0.0 n.0.1) }, n.1)
+
+-- a letter and a number are the text of a connection
+connected : (b : ℕ) (bs : List ℕ) → ((b == 101) || ((b == 120) || false)) ≡ true → writes 1 9999 bs ≡ true → (c : Conn) × (connection_word c ≡ b ∷ bs)
+connected b bs h k =
+    let e = enlisted bs k in
+    or_case (b == 101) ((b == 120) || false) (λ q. (OnEnl e.0, ap₂ (λ x xs. x ∷ xs) (one_number b 101 q) e.1))
+    (λ q. (Again e.0, ap₂ (λ x xs. x ∷ xs) (one_number b 120 (first_holds (b == 120) q)) e.1)) h
+
+-- so is what the place allows
+connection_of : (w : List ℕ) → allows connection_slot w ≡ true → (c : Conn) × (connection_word c ≡ w)
+connection_of [] h = absurd (cc h)
+connection_of (b ∷ bs) h =
+    let fixed = has (same_bytes (b ∷ bs)) connection_slot.words in
+    let letter = (b == 101) || ((b == 120) || false) in
+    or_case fixed (letter && writes 1 9999 bs) (found connection_word (OnBegin ∷ OnVoter ∷ []) (b ∷ bs))
+    (λ k. connected b bs (and_left _ _ k) (and_right _ _ k)) (first_holds (fixed || (letter && writes 1 9999 bs)) h)
+
+-- a connection
+pub connection : Means Conn connection_word connection_slot
+connection = record { value = connection_of }
