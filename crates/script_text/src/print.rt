@@ -1,0 +1,411 @@
+//! Prints scripts: each line has one text. A line is made from its end to its start.
+ghost use Rattle.std.specs.Prelude.{◌≡◌, ◌≤◌, ◌+◌, [], ◌∷◌, ◌++◌, IfOk, codes, length, true};
+ghost use Rattle.std.specs.List.{join_with_byte};
+ghost use Rattle.dtx_values.specs.declared.script.Body.TheVariants.{Begin, Open, Volatile, Durable, Promotable, Clone, Tick, Do, Lose, Recovered, Stop};
+ghost use Rattle.script_text.specs.Print.{is_short};
+ghost use Rattle.dtx_model.specs.Grammar.{IsScript, Reads, asked_iso_word, command_words, line_text, option_word, owner_word, promote_word, script_text, timeout_word, scope_name, transaction_name, vote_word};
+
+use dtx_values::{
+    Body, CloneKind, CloneNo, Conn, EnlNo, EnlistOption, Image, IsoWord, Line, Opening, Outcome,
+    RmNo, ScopeNo, Script, Support, Timeout, TxNo, Vote,
+};
+use line_tail::{
+    Tail, put_actor, put_clone, put_connection, put_enlistment, put_image, put_isolation, put_kind,
+    put_manager, put_scope, put_transaction,
+};
+use std::alloc::{AllocError, Global};
+
+/// The bytes that are set aside for each line of a script: a little more than the mean.
+const MEAN_LINE: usize = 32;
+
+fn put_option(tail: &mut Tail, o: EnlistOption)
+    requires { 16 + length tail.old ≤ 160 }
+    ensures text { tail.new ≡ option_word o ++ tail.old }
+    ensures length { length tail.new ≤ 16 + length tail.old }
+{
+    match o {
+        EnlistOption::Plain => tail.put(b"none"),
+        EnlistOption::DuringPrepare => tail.put(b"during"),
+    }
+}
+
+fn put_vote_plan(tail: &mut Tail, v: Option<Vote>)
+    requires { 16 + length tail.old ≤ 160 }
+    ensures text { tail.new ≡ vote_word v ++ tail.old }
+    ensures length { length tail.new ≤ 16 + length tail.old }
+{
+    match v {
+        Some(Vote::Yes) => tail.put(b"yes"),
+        Some(Vote::No) => tail.put(b"no"),
+        Some(Vote::Done) => tail.put(b"done"),
+        None => tail.put(b"silent"),
+    }
+}
+
+fn put_owner_plan(tail: &mut Tail, o: Option<Outcome>)
+    requires { 16 + length tail.old ≤ 160 }
+    ensures text { tail.new ≡ owner_word o ++ tail.old }
+    ensures length { length tail.new ≤ 16 + length tail.old }
+{
+    match o {
+        Some(Outcome::Committed) => tail.put(b"committed"),
+        Some(Outcome::Aborted) => tail.put(b"aborted"),
+        Some(Outcome::InDoubt) => tail.put(b"indoubt"),
+        None => tail.put(b"silent"),
+    }
+}
+
+fn put_promote_plan(tail: &mut Tail, p: Option<bool>)
+    requires { 16 + length tail.old ≤ 160 }
+    ensures text { tail.new ≡ promote_word p ++ tail.old }
+    ensures length { length tail.new ≤ 16 + length tail.old }
+{
+    match p {
+        Some(true) => tail.put(b"ok"),
+        Some(false) => tail.put(b"fail"),
+        None => tail.put(b"silent"),
+    }
+}
+
+fn put_timeout(tail: &mut Tail, d: Timeout)
+    requires { 20 + length tail.old ≤ 160 }
+    ensures text { tail.new ≡ timeout_word d ++ tail.old }
+    ensures length { length tail.new ≤ 20 + length tail.old }
+{
+    match d {
+        Timeout::Default => tail.put(b"default"),
+        Timeout::Milliseconds(n) => tail.put_number(u64::from(n)),
+    }
+}
+
+fn put_asked_isolation(tail: &mut Tail, i: IsoWord)
+    requires { 16 + length tail.old ≤ 160 }
+    ensures text { tail.new ≡ asked_iso_word i ++ tail.old }
+    ensures length { length tail.new ≤ 16 + length tail.old }
+{
+    match i {
+        IsoWord::Default => tail.put(b"default"),
+        IsoWord::Level(i) => put_isolation(tail, i),
+    }
+}
+
+/// Puts a word, a space and a transaction.
+fn put_of(tail: &mut Tail, word: &[u8], t: TxNo)
+    requires { length word.now + 21 + length tail.old ≤ 160 }
+    ensures text { tail.new ≡ word.now ++ transaction_name t.value ++ tail.old }
+    ensures length { length tail.new ≤ length word.now + 21 + length tail.old }
+{
+    put_transaction(tail, t);
+    tail.put(word);
+}
+
+fn put_begin(tail: &mut Tail, t: TxNo, d: Timeout)
+    requires { 118 + length tail.old ≤ 160 }
+    ensures text { tail.new ≡ join_with_byte 32 (command_words (Begin t d)) ++ tail.old }
+    ensures length { length tail.new ≤ 118 + length tail.old }
+{
+    put_timeout(tail, d);
+    tail.put(b" ");
+    put_of(tail, b"begin ", t);
+}
+
+/// Puts the words of a scope that may make a transaction; `word` is that of its option.
+fn put_opened(tail: &mut Tail, s: ScopeNo, word: &[u8], t: TxNo, d: Timeout, i: IsoWord)
+    requires short { length word.now ≤ 11 }
+    requires room { 118 + length tail.old ≤ 160 }
+    ensures text { tail.new ≡ join_with_byte 32 (codes "open" ∷ scope_name s.value ∷ word.now ∷ transaction_name t.value ∷ timeout_word d ∷ asked_iso_word i ∷ []) ++ tail.old }
+    ensures length { length tail.new ≤ 118 + length tail.old }
+{
+    put_asked_isolation(tail, i);
+    tail.put(b" ");
+    put_timeout(tail, d);
+    tail.put(b" ");
+    put_transaction(tail, t);
+    tail.put(b" ");
+    tail.put(word);
+    tail.put(b" ");
+    put_scope(tail, s);
+    tail.put(b"open ");
+}
+
+fn put_open(tail: &mut Tail, s: ScopeNo, o: Opening)
+    requires { 118 + length tail.old ≤ 160 }
+    ensures text { tail.new ≡ join_with_byte 32 (command_words (Open s o)) ++ tail.old }
+    ensures length { length tail.new ≤ 118 + length tail.old }
+{
+    match o {
+        Opening::Required(t, d, i) => put_opened(tail, s, b"required", t, d, i),
+        Opening::RequiresNew(t, d, i) => put_opened(tail, s, b"requiresnew", t, d, i),
+        Opening::Suppress => {
+            tail.put(b" suppress");
+            put_scope(tail, s);
+            tail.put(b"open ");
+        }
+    }
+}
+
+fn put_volatile(tail: &mut Tail, t: TxNo, e: EnlNo, o: EnlistOption, v: Option<Vote>)
+    requires { 118 + length tail.old ≤ 160 }
+    ensures text { tail.new ≡ join_with_byte 32 (command_words (Volatile t e o v)) ++ tail.old }
+    ensures length { length tail.new ≤ 118 + length tail.old }
+{
+    put_vote_plan(tail, v);
+    tail.put(b" ");
+    put_option(tail, o);
+    tail.put(b" ");
+    put_enlistment(tail, e);
+    tail.put(b" ");
+    put_of(tail, b"volatile ", t);
+}
+
+fn put_durable(tail: &mut Tail, t: TxNo, e: EnlNo, r: RmNo, s: Support)
+    requires { 118 + length tail.old ≤ 160 }
+    ensures text { tail.new ≡ join_with_byte 32 (command_words (Durable t e r s)) ++ tail.old }
+    ensures length { length tail.new ≤ 118 + length tail.old }
+{
+    match s {
+        Support::SinglePhase(v, o) => {
+            put_owner_plan(tail, o);
+            tail.put(b" ");
+            put_vote_plan(tail, v);
+            tail.put(b" single ");
+        }
+        Support::TwoPhase(v) => {
+            put_vote_plan(tail, v);
+            tail.put(b" two ");
+        }
+    }
+    put_manager(tail, r);
+    tail.put(b" ");
+    put_enlistment(tail, e);
+    tail.put(b" ");
+    put_of(tail, b"durable ", t);
+}
+
+fn put_promotable(
+    tail: &mut Tail,
+    t: TxNo,
+    e: EnlNo,
+    r: RmNo,
+    v: Option<Vote>,
+    o: Option<Outcome>,
+    p: Option<bool>,
+)
+    requires { 127 + length tail.old ≤ 160 }
+    ensures text { tail.new ≡ join_with_byte 32 (command_words (Promotable t e r v o p)) ++ tail.old }
+    ensures length { length tail.new ≤ 127 + length tail.old }
+{
+    put_promote_plan(tail, p);
+    tail.put(b" ");
+    put_owner_plan(tail, o);
+    tail.put(b" ");
+    put_vote_plan(tail, v);
+    tail.put(b" ");
+    put_manager(tail, r);
+    tail.put(b" ");
+    put_enlistment(tail, e);
+    tail.put(b" ");
+    put_of(tail, b"promotable ", t);
+}
+
+fn put_clone_made(tail: &mut Tail, t: TxNo, c: CloneNo, k: CloneKind)
+    requires { 118 + length tail.old ≤ 160 }
+    ensures text { tail.new ≡ join_with_byte 32 (command_words (Clone t c k)) ++ tail.old }
+    ensures length { length tail.new ≤ 118 + length tail.old }
+{
+    put_kind(tail, k);
+    tail.put(b" ");
+    put_clone(tail, c);
+    tail.put(b" ");
+    put_of(tail, b"clone ", t);
+}
+
+fn put_tick(tail: &mut Tail, t: TxNo, n: u32)
+    requires { 118 + length tail.old ≤ 160 }
+    ensures text { tail.new ≡ join_with_byte 32 (command_words (Tick t n)) ++ tail.old }
+    ensures length { length tail.new ≤ 118 + length tail.old }
+{
+    tail.put_number(u64::from(n));
+    tail.put(b" ");
+    put_of(tail, b"tick ", t);
+}
+
+fn put_do(tail: &mut Tail, t: TxNo, k: u8, n: u16)
+    requires { 118 + length tail.old ≤ 160 }
+    ensures text { tail.new ≡ join_with_byte 32 (command_words (Do t k n)) ++ tail.old }
+    ensures length { length tail.new ≤ 118 + length tail.old }
+{
+    tail.put_number(u64::from(n));
+    tail.put(b" ");
+    tail.put_number(u64::from(k));
+    tail.put(b" ");
+    put_of(tail, b"do ", t);
+}
+
+fn put_lose(tail: &mut Tail, t: TxNo, c: Conn, up: u16, down: u16)
+    requires { 118 + length tail.old ≤ 160 }
+    ensures text { tail.new ≡ join_with_byte 32 (command_words (Lose t c up down)) ++ tail.old }
+    ensures length { length tail.new ≤ 118 + length tail.old }
+{
+    tail.put_number(u64::from(down));
+    tail.put(b" ");
+    tail.put_number(u64::from(up));
+    tail.put(b" ");
+    put_connection(tail, c);
+    tail.put(b" ");
+    put_of(tail, b"lose ", t);
+}
+
+fn put_recovered(tail: &mut Tail, t: TxNo, r: RmNo)
+    requires { 118 + length tail.old ≤ 160 }
+    ensures text { tail.new ≡ join_with_byte 32 (command_words (Recovered t r)) ++ tail.old }
+    ensures length { length tail.new ≤ 118 + length tail.old }
+{
+    put_manager(tail, r);
+    tail.put(b" ");
+    put_of(tail, b"recovered ", t);
+}
+
+fn put_stop(tail: &mut Tail, n: u8, i: Image)
+    requires { 118 + length tail.old ≤ 160 }
+    ensures text { tail.new ≡ join_with_byte 32 (command_words (Stop n i)) ++ tail.old }
+    ensures length { length tail.new ≤ 118 + length tail.old }
+{
+    put_image(tail, i);
+    tail.put(b" ");
+    tail.put_number(u64::from(n));
+    tail.put(b"stop ");
+}
+
+/// Puts a command that names a scope, a clone or an enlistment alone, or nothing.
+fn put_short(tail: &mut Tail, b: Body)
+    requires { 127 + length tail.old ≤ 160 }
+    ensures text { is_short b ≡ true → tail.new ≡ join_with_byte 32 (command_words b) ++ tail.old }
+    ensures length { length tail.new ≤ 127 + length tail.old }
+{
+    match b {
+        Body::Finish(s) => {
+            put_scope(tail, s);
+            tail.put(b"finish ");
+        }
+        Body::Close(s) => {
+            put_scope(tail, s);
+            tail.put(b"close ");
+        }
+        Body::Current => tail.put(b"current"),
+        Body::Complete(c) => {
+            put_clone(tail, c);
+            tail.put(b"complete ");
+        }
+        Body::Gone(e) => {
+            put_enlistment(tail, e);
+            tail.put(b"gone ");
+        }
+        Body::Reenlist(e) => {
+            put_enlistment(tail, e);
+            tail.put(b"reenlist ");
+        }
+        Body::Restart => tail.put(b"restart"),
+        Body::Par => tail.put(b"par"),
+        _ => {}
+    }
+}
+
+fn put_command(tail: &mut Tail, b: Body)
+    requires { 127 + length tail.old ≤ 160 }
+    ensures text { tail.new ≡ join_with_byte 32 (command_words b) ++ tail.old }
+    ensures length { length tail.new ≤ 127 + length tail.old }
+{
+    match b {
+        Body::Begin(t, d) => put_begin(tail, t, d),
+        Body::Open(s, o) => put_open(tail, s, o),
+        Body::Volatile(t, e, o, v) => put_volatile(tail, t, e, o, v),
+        Body::Durable(t, e, r, s) => put_durable(tail, t, e, r, s),
+        Body::Promotable(t, e, r, v, o, p) => put_promotable(tail, t, e, r, v, o, p),
+        Body::Clone(t, c, k) => put_clone_made(tail, t, c, k),
+        Body::Commit(t) => put_of(tail, b"commit ", t),
+        Body::Rollback(t) => put_of(tail, b"rollback ", t),
+        Body::Marshal(t) => put_of(tail, b"marshal ", t),
+        Body::Status(t) => put_of(tail, b"status ", t),
+        Body::Await(t) => put_of(tail, b"await ", t),
+        Body::Tick(t, n) => put_tick(tail, t, n),
+        Body::Do(t, k, n) => put_do(tail, t, k, n),
+        Body::Lose(t, c, up, down) => put_lose(tail, t, c, up, down),
+        Body::Recovered(t, r) => put_recovered(tail, t, r),
+        Body::Stop(n, i) => put_stop(tail, n, i),
+        _ => put_short(tail, b),
+    }
+}
+
+/// Makes a line.
+fn put_line(tail: &mut Tail, l: &Line)
+    requires { tail.old ≡ [] }
+    ensures { tail.new ≡ line_text l.now }
+{
+    tail.put(b"\n");
+    put_command(tail, l.body);
+    tail.put(b" ");
+    put_actor(tail, l.actor);
+}
+
+/// The text of a script, by which it is read again.
+///
+/// # Errors
+///
+/// [`AllocError`] where memory ran out.
+pub fn print_script(alloc: Global, s: &Script) -> Result<Vec<u8>, AllocError>
+    ensures text { IfOk result (λ v. v.items ≡ script_text s.now) }
+    ensures read { IfOk result (λ v. IsScript s.now → Reads v.items s.now) }
+{
+    let lines = s.lines();
+    let mut text = Vec::with_capacity(alloc, lines.len().saturating_mul(MEAN_LINE))?;
+    let mut tail = Tail::new();
+    for l in lines {
+        tail.clear();
+        put_line(&mut tail, l);
+        text.extend_from_slice(tail.as_slice())?;
+    }
+    Ok(text)
+}
+
+#[cfg(test)]
+mod tests {
+    use super::print_script;
+    use crate::reader::read_script;
+    use std::test::Fail;
+
+    /// A script with each form of each command.
+    const FORMS: &str = "a1 begin t1 default\na2 begin t2 0\na3 begin t3 4294967295\n\
+        a1 open s1 required t4 default default\na1 open s2 requiresnew t5 60000 readuncommitted\n\
+        a1 open s3 required t6 0 serializable\na1 open s4 requiresnew t7 1 repeatableread\n\
+        a1 open s5 required t8 2 readcommitted\na1 open s6 required t9 3 snapshot\n\
+        a1 open s7 required t10 4 chaos\na1 open s8 required t11 5 unspecified\n\
+        a1 open s9 suppress\na1 finish s9\na1 close s9\na1 current\n\
+        a1 volatile t1 e1 none yes\na1 volatile t1 e2 during silent\n\
+        a1 durable t1 e3 r1 single no committed\na1 durable t1 e4 r16 single done silent\n\
+        a1 durable t1 e5 r2 two yes\na1 promotable t1 e6 r3 yes aborted ok\n\
+        a1 promotable t1 e7 r3 yes indoubt fail\na1 promotable t1 e9999 r3 yes silent silent\n\
+        a1 clone t1 c1 block\na1 clone t1 c9999 rollback\na1 complete c1\na1 commit t1\n\
+        a1 rollback t1\na1 marshal t1\na1 status t1\na1 await t1\na16 tick t1 1000000000\n\
+        a1 do t1 99 999\na1 lose t1 b 0 1\na1 lose t1 v 2 3\na1 lose t1 e3 4 5\na1 lose t1 x3 999 6\n\
+        a1 gone e3\na1 reenlist e3\na1 recovered t1 r1\na1 stop 1 lose\na1 stop 2 keep\n\
+        a1 stop 99 torn\na1 restart\na1 par\n";
+
+    #[test]
+    fn prints_what_was_read(rt: HostRuntime) -> Result<(), Fail> {
+        for text in [
+            "",
+            "a1 begin t1 0\na1 volatile t1 e1 none yes\na1 commit t1\n",
+            FORMS,
+        ] {
+            match read_script(rt.alloc(), text.as_bytes()) {
+                Ok(script) => {
+                    let printed = print_script(rt.alloc(), &script)?;
+                    assert!(rt; printed.as_slice() == text.as_bytes(), "at {text}");
+                }
+                Err(e) => assert!(rt; false, "{e:?} at {text}"),
+            }
+        }
+        Ok(())
+    }
+}
