@@ -1,6 +1,7 @@
 //! The entries of a history.
 ghost use Rattle.std.specs.Prelude.{◌≡◌, ◌≤◌, ◌+◌, ◌++◌, codes, length, true};
-ghost use Rattle.dtx_values.specs.declared.entry.Entry.TheVariants.{Answered, Asked, Called, Cloned, Completed, Cut, Decided, Down, Enlisted, LogWord, OwnerAnswered, Promoted, PromoteReply, Promoting, Recovered, Requested, Restarted, Scope, Told, Voted};
+ghost use Rattle.dtx_values.specs.declared.entry.Entry.TheVariants.{Answered, Asked, Called, Cloned, Completed, Cut, Decided, Down, Enlisted, LogWord};
+ghost use Rattle.dtx_values.specs.declared.entry.Entry.TheVariants.{OwnerAnswered, Promoted, PromoteReply, Promoting, Recovered, Requested, Restarted, Scope, Told, Voted};
 ghost use Rattle.dtx_model.specs.Grammar.{enlistment_name};
 ghost use Rattle.dtx_model.specs.TraceText.{entry_text, sent_text};
 ghost use Rattle.trace_text.specs.Printed.{is_event};
