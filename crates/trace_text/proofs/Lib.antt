@@ -1,2 +1,5 @@
 pub mod Identifier
 pub mod Printing
+pub mod ReadCuts
+pub mod ReadNames
+pub mod ReadNumbers
