@@ -6,6 +6,8 @@ mod entries;
 mod messages;
 mod names;
 mod printer;
+mod read_answers;
+mod read_entries;
 mod read_messages;
 mod read_words;
 mod tail;
