@@ -4,3 +4,4 @@ pub mod ReadCuts
 pub mod ReadIdentifiers
 pub mod ReadNames
 pub mod ReadNumbers
+pub mod ReadPieces

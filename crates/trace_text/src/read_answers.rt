@@ -14,6 +14,7 @@ use dtx_values::{Answer, Outcome};
 /// Reads an answer of a call that goes on or ended.
 fn plain(key: &[u8]) -> Option<Answer>
     ensures some { IfSome result (λ y. (x : Answer) → key.now ≡ front 32 (answer_text x) → y ≡ x) }
+    ensures fit { IfSome result (λ y. is_answer_fit y ≡ true) }
     ensures none { IfNone result ((x : Answer) → is_plain_answer x ≡ true → key.now ≢ front 32 (answer_text x)) }
 {
     if key == b"ok".as_slice() {
@@ -52,6 +53,7 @@ fn plain(key: &[u8]) -> Option<Answer>
 /// Reads an answer that refuses a call.
 fn refusal(key: &[u8]) -> Option<Answer>
     ensures some { IfSome result (λ y. (x : Answer) → key.now ≡ front 32 (answer_text x) → y ≡ x) }
+    ensures fit { IfSome result (λ y. is_answer_fit y ≡ true) }
     ensures none { IfNone result ((x : Answer) → is_refusal x ≡ true → key.now ≢ front 32 (answer_text x)) }
 {
     if key == b"notbegun".as_slice() {
@@ -84,6 +86,7 @@ fn refusal(key: &[u8]) -> Option<Answer>
 /// Reads an answer of several words.
 fn detailed(key: &[u8], rest: &[u8]) -> Option<Answer>
     ensures some { IfSome result (λ y. (x : Answer) → is_answer_fit x ≡ true → key.now ≡ front 32 (answer_text x) → rest.now ≡ behind 32 (answer_text x) → y ≡ x) }
+    ensures fit { IfSome result (λ y. is_answer_fit y ≡ true) }
     ensures none { IfNone result ((x : Answer) → is_detailed x ≡ true → key.now ≢ front 32 (answer_text x)) }
 {
     if key == b"id".as_slice() {
@@ -119,7 +122,8 @@ fn detailed(key: &[u8], rest: &[u8]) -> Option<Answer>
 
 /// Reads an answer.
 pub fn answer(text: &[u8]) -> Answer
-    ensures { (x : Answer) → is_answer_fit x ≡ true → text.now ≡ answer_text x → result ≡ x }
+    ensures found { (x : Answer) → is_answer_fit x ≡ true → text.now ≡ answer_text x → result ≡ x }
+    ensures fit { is_answer_fit result ≡ true }
 {
     let (key, rest) = cut(text, b' ');
     if let Some(x) = plain(key) {

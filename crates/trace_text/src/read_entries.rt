@@ -1,5 +1,5 @@
 //! Entries, read freely as the words are.
-ghost use Rattle.std.specs.Prelude.{◌≡◌, ◌≢◌, ◌∷◌, ◌++◌, ℕ, List, Option, true, codes, IfSome, IfNone};
+ghost use Rattle.std.specs.Prelude.{◌≡◌, ◌≢◌, ◌∷◌, ◌++◌, ℕ, List, Option, true, false, codes, IfSome, IfNone};
 ghost use Rattle.dtx_values.specs.declared.entry.Entry.{Entry};
 ghost use Rattle.dtx_values.specs.declared.entry.Party.{Party};
 ghost use Rattle.dtx_values.specs.declared.message.Conn.{Conn};
@@ -72,6 +72,7 @@ fn ambient(word: &[u8]) -> Option<TxNo>
 /// Reads an entry of its keyword alone.
 fn event(key: &[u8]) -> Option<Entry>
     ensures some { IfSome result (λ y. (x : Entry) → is_event x ≡ true → key.now ≡ entry_text x → y ≡ x) }
+    ensures fit { IfSome result (λ y. (p : Place) → is_entry_fit p y ≡ true) }
     ensures none { IfNone result ((x : Entry) → is_event x ≡ true → key.now ≢ entry_text x) }
 {
     if key == b"commit".as_slice() {
@@ -113,6 +114,7 @@ fn event(key: &[u8]) -> Option<Entry>
 /// Reads an entry of an enlistment alone.
 fn of_enlistment(key: &[u8], rest: &[u8]) -> Option<Entry>
     ensures some { IfSome result (λ y. (x : Entry) → key.now ≡ front 32 (entry_text x) → rest.now ≡ behind 32 (entry_text x) → y ≡ x) }
+    ensures fit { IfSome result (λ y. (p : Place) → is_entry_fit p y ≡ true) }
     ensures none { IfNone result ((x : Entry) → is_of_enlistment x ≡ true → key.now ≢ front 32 (entry_text x)) }
 {
     let e = enlistment(rest);
@@ -146,6 +148,7 @@ fn leading(words: &[u8]) -> (EnlNo, &[u8])
 /// Reads an entry of an enlistment and a word.
 fn about_enlistment(key: &[u8], rest: &[u8]) -> Option<Entry>
     ensures some { IfSome result (λ y. (x : Entry) → key.now ≡ front 32 (entry_text x) → rest.now ≡ behind 32 (entry_text x) → y ≡ x) }
+    ensures fit { IfSome result (λ y. (p : Place) → is_entry_fit p y ≡ true) }
     ensures none { IfNone result ((x : Entry) → is_about_enlistment x ≡ true → key.now ≢ front 32 (entry_text x)) }
 {
     let (e, word) = leading(rest);
@@ -173,6 +176,7 @@ fn about_enlistment(key: &[u8], rest: &[u8]) -> Option<Entry>
 /// Reads an entry of one word behind its keyword, other than an enlistment.
 fn of_word(key: &[u8], rest: &[u8]) -> Option<Entry>
     ensures some { IfSome result (λ y. (p : Place) (x : Entry) → is_entry_fit p x ≡ true → key.now ≡ front 32 (entry_text x) → rest.now ≡ behind 32 (entry_text x) → y ≡ x) }
+    ensures fit { IfSome result (λ y. (p : Place) → is_entry_fit p y ≡ true) }
     ensures none { IfNone result ((x : Entry) → is_of_word x ≡ true → key.now ≢ front 32 (entry_text x)) }
 {
     if key == b"began".as_slice() {
@@ -208,6 +212,7 @@ fn of_word(key: &[u8], rest: &[u8]) -> Option<Entry>
 /// Reads an entry of two words behind its keyword, or one that shares its keyword with one of them.
 fn of_words(key: &[u8], rest: &[u8]) -> Option<Entry>
     ensures some { IfSome result (λ y. (p : Place) (x : Entry) → is_entry_fit p x ≡ true → key.now ≡ front 32 (entry_text x) → rest.now ≡ behind 32 (entry_text x) → y ≡ x) }
+    ensures fit { IfSome result (λ y. (p : Place) → is_entry_fit p y ≡ true) }
     ensures none { IfNone result ((x : Entry) → is_of_words x ≡ true → key.now ≢ front 32 (entry_text x)) }
 {
     let (first, last) = cut(rest, b' ');
@@ -238,6 +243,7 @@ fn of_words(key: &[u8], rest: &[u8]) -> Option<Entry>
 /// Reads the answer of a call.
 fn call(key: &[u8], rest: &[u8]) -> Option<Entry>
     ensures some { IfSome result (λ y. (p : Place) (x : Entry) → is_entry_fit p x ≡ true → key.now ≡ front 32 (entry_text x) → rest.now ≡ behind 32 (entry_text x) → y ≡ x) }
+    ensures fit { IfSome result (λ y. (p : Place) → is_entry_fit p y ≡ true) }
     ensures none { IfNone result ((x : Entry) → is_call x ≡ true → key.now ≢ front 32 (entry_text x)) }
 {
     let (first, last) = cut(rest, b' ');
@@ -253,7 +259,8 @@ fn call(key: &[u8], rest: &[u8]) -> Option<Entry>
 
 /// Reads an entry on a connection.
 fn crossing(at: Place, key: &[u8], rest: &[u8]) -> Entry
-    ensures { (x : Entry) → is_entry_fit at x ≡ true → is_event x ≡ false → is_of_enlistment x ≡ false → is_about_enlistment x ≡ false → is_of_word x ≡ false → is_of_words x ≡ false → is_call x ≡ false → key.now ≡ front 32 (entry_text x) → rest.now ≡ behind 32 (entry_text x) → result ≡ x }
+    ensures found { (x : Entry) → is_entry_fit at x ≡ true → is_event x ≡ false → is_of_enlistment x ≡ false → is_about_enlistment x ≡ false → is_of_word x ≡ false → is_of_words x ≡ false → is_call x ≡ false → key.now ≡ front 32 (entry_text x) → rest.now ≡ behind 32 (entry_text x) → result ≡ x }
+    ensures fit { is_entry_fit at result ≡ true }
 {
     let (first, last) = cut(rest, b' ');
     let conn = connection(first);
@@ -271,7 +278,8 @@ fn crossing(at: Place, key: &[u8], rest: &[u8]) -> Entry
 
 /// Reads an entry at this place.
 pub fn entry(at: Place, text: &[u8]) -> Entry
-    ensures { (x : Entry) → is_entry_fit at x ≡ true → text.now ≡ entry_text x → result ≡ x }
+    ensures found { (x : Entry) → is_entry_fit at x ≡ true → text.now ≡ entry_text x → result ≡ x }
+    ensures fit { is_entry_fit at result ≡ true }
 {
     if let Some(x) = event(text) {
         return x;

@@ -1,6 +1,8 @@
 //! Messages, read freely as the words are.
 ghost use Rattle.std.specs.Prelude.{◌≡◌, true};
+ghost use Rattle.dtx_values.specs.declared.message.Conn.{Conn};
 ghost use Rattle.dtx_values.specs.declared.message.Message.{Message};
+ghost use Rattle.dtx_values.specs.declared.trace.Place.{Place};
 ghost use Rattle.dtx_model.specs.Messages.{is_begin_up, is_begin_down, is_voter_up, is_voter_down, is_enlist_up, is_enlist_down, is_reenlist_up, is_reenlist_down, has_line};
 ghost use Rattle.dtx_model.specs.TraceText.{id_at, is_message_fit, message_text};
 ghost use Rattle.trace_text.specs.ReadWords.{front, behind};
@@ -23,7 +25,9 @@ pub fn identifier_at(place: Place) -> u128
 
 /// Reads a message upward on b.
 fn begin_up(name: &[u8]) -> Message
-    ensures { (m : Message) → is_begin_up m ≡ true → name.now ≡ front 32 (message_text m) → result ≡ m }
+    ensures found { (m : Message) → is_begin_up m ≡ true → name.now ≡ front 32 (message_text m) → result ≡ m }
+    ensures line { is_begin_up result ≡ true }
+    ensures fit { (p : Place) (c : Conn) → is_message_fit p c result ≡ true }
 {
     if name == b"begin".as_slice() {
         return Message::BeginBegin;
@@ -36,7 +40,9 @@ fn begin_up(name: &[u8]) -> Message
 
 /// Reads a message downward on b.
 fn begin_down(place: Place, name: &[u8]) -> Message
-    ensures { (m : Message) → is_begin_down m ≡ true → is_message_fit place Conn.Begin m ≡ true → name.now ≡ front 32 (message_text m) → result ≡ m }
+    ensures found { (m : Message) → is_begin_down m ≡ true → is_message_fit place Conn.Begin m ≡ true → name.now ≡ front 32 (message_text m) → result ≡ m }
+    ensures line { is_begin_down result ≡ true }
+    ensures fit { is_message_fit place Conn.Begin result ≡ true }
 {
     if name == b"begun".as_slice() {
         return Message::BeginBegun(identifier_at(place));
@@ -49,7 +55,9 @@ fn begin_down(place: Place, name: &[u8]) -> Message
 
 /// Reads a message upward on v.
 fn voter_up(place: Place, name: &[u8]) -> Message
-    ensures { (m : Message) → is_voter_up m ≡ true → is_message_fit place Conn.Voter m ≡ true → name.now ≡ front 32 (message_text m) → result ≡ m }
+    ensures found { (m : Message) → is_voter_up m ≡ true → is_message_fit place Conn.Voter m ≡ true → name.now ≡ front 32 (message_text m) → result ≡ m }
+    ensures line { is_voter_up result ≡ true }
+    ensures fit { is_message_fit place Conn.Voter result ≡ true }
 {
     if name == b"voter".as_slice() {
         return Message::VoterVoter(identifier_at(place));
@@ -62,7 +70,9 @@ fn voter_up(place: Place, name: &[u8]) -> Message
 
 /// Reads a message downward on v, with the cause of a refusal.
 fn voter_down(place: Place, name: &[u8], cause: &[u8]) -> Message
-    ensures { (m : Message) → is_voter_down m ≡ true → is_message_fit place Conn.Voter m ≡ true → name.now ≡ front 32 (message_text m) → cause.now ≡ behind 32 (message_text m) → result ≡ m }
+    ensures found { (m : Message) → is_voter_down m ≡ true → is_message_fit place Conn.Voter m ≡ true → name.now ≡ front 32 (message_text m) → cause.now ≡ behind 32 (message_text m) → result ≡ m }
+    ensures line { is_voter_down result ≡ true }
+    ensures fit { is_message_fit place Conn.Voter result ≡ true }
 {
     if name == b"created".as_slice() {
         return Message::VoterCreated;
@@ -94,7 +104,9 @@ fn info_at(place: Place, e: EnlNo) -> Info
 
 /// Reads a message upward on the connection of an enlistment.
 fn enlist_up(place: Place, e: EnlNo, name: &[u8]) -> Message
-    ensures { (m : Message) → is_enlist_up m ≡ true → is_message_fit place (Conn.Enl e) m ≡ true → name.now ≡ front 32 (message_text m) → result ≡ m }
+    ensures found { (m : Message) → is_enlist_up m ≡ true → is_message_fit place (Conn.Enl e) m ≡ true → name.now ≡ front 32 (message_text m) → result ≡ m }
+    ensures line { is_enlist_up result ≡ true }
+    ensures fit { is_message_fit place (Conn.Enl e) result ≡ true }
 {
     if name == b"enlist".as_slice() {
         return Message::EnlistEnlist(info_at(place, e));
@@ -113,7 +125,9 @@ fn enlist_up(place: Place, e: EnlNo, name: &[u8]) -> Message
 
 /// Reads a message downward on the connection of an enlistment, with the cause of a refusal.
 fn enlist_down(place: Place, e: EnlNo, name: &[u8], cause: &[u8]) -> Message
-    ensures { (m : Message) → is_enlist_down m ≡ true → is_message_fit place (Conn.Enl e) m ≡ true → name.now ≡ front 32 (message_text m) → cause.now ≡ behind 32 (message_text m) → result ≡ m }
+    ensures found { (m : Message) → is_enlist_down m ≡ true → is_message_fit place (Conn.Enl e) m ≡ true → name.now ≡ front 32 (message_text m) → cause.now ≡ behind 32 (message_text m) → result ≡ m }
+    ensures line { is_enlist_down result ≡ true }
+    ensures fit { is_message_fit place (Conn.Enl e) result ≡ true }
 {
     if name == b"enlisted".as_slice() {
         return Message::EnlistEnlisted;
@@ -132,7 +146,9 @@ fn enlist_down(place: Place, e: EnlNo, name: &[u8], cause: &[u8]) -> Message
 
 /// Reads a message upward on the connection of a reenlistment.
 fn reenlist_up(place: Place, e: EnlNo, name: &[u8]) -> Message
-    ensures { (m : Message) → is_reenlist_up m ≡ true → is_message_fit place (Conn.Again e) m ≡ true → name.now ≡ front 32 (message_text m) → result ≡ m }
+    ensures found { (m : Message) → is_reenlist_up m ≡ true → is_message_fit place (Conn.Again e) m ≡ true → name.now ≡ front 32 (message_text m) → result ≡ m }
+    ensures line { is_reenlist_up result ≡ true }
+    ensures fit { is_message_fit place (Conn.Again e) result ≡ true }
 {
     if name == b"ack".as_slice() {
         return Message::ReenlistAck;
@@ -142,7 +158,9 @@ fn reenlist_up(place: Place, e: EnlNo, name: &[u8]) -> Message
 
 /// Reads a message downward on the connection of a reenlistment.
 fn reenlist_down(name: &[u8]) -> Message
-    ensures { (m : Message) → is_reenlist_down m ≡ true → name.now ≡ front 32 (message_text m) → result ≡ m }
+    ensures found { (m : Message) → is_reenlist_down m ≡ true → name.now ≡ front 32 (message_text m) → result ≡ m }
+    ensures line { is_reenlist_down result ≡ true }
+    ensures fit { (p : Place) (c : Conn) → is_message_fit p c result ≡ true }
 {
     if name == b"committed".as_slice() {
         return Message::ReenlistCommitted;
@@ -152,7 +170,9 @@ fn reenlist_down(name: &[u8]) -> Message
 
 /// Reads a message of this connection in this direction, with what its text leaves out.
 pub fn message(place: Place, conn: Conn, dir: Dir, text: &[u8]) -> Message
-    ensures { (m : Message) → has_line conn dir m ≡ true → is_message_fit place conn m ≡ true → text.now ≡ message_text m → result ≡ m }
+    ensures found { (m : Message) → has_line conn dir m ≡ true → is_message_fit place conn m ≡ true → text.now ≡ message_text m → result ≡ m }
+    ensures line { has_line conn dir result ≡ true }
+    ensures fit { is_message_fit place conn result ≡ true }
 {
     let (name, cause) = cut(text, b' ');
     match (conn, dir) {
