@@ -1,13 +1,14 @@
 -- Words that are numbers.
-use Rattle.std.proofs.Common.{◌≡◌, ◌≢◌, ℕ, zero, suc, ◌+◌, ◌-◌, ◌*◌, ◌^◌, ◌<◌, ◌≤◌, true, List, [], ◌∷◌, ◌++◌, length, take, get_or, refl, ap, sym, ◌∙◌, subst, arith, decimal}
+use Rattle.std.proofs.Common.{◌≡◌, ◌≢◌, ℕ, zero, suc, ◌+◌, ◌-◌, ◌*◌, ◌/◌, ◌%◌, ◌^◌, ◌<◌, ◌≤◌, ◌==◌, if◌then◌else◌, Bool, true, false, List, [], ◌∷◌, ◌++◌, length, take, get_or, refl, ap, sym, ◌∙◌, subst, arith, decimal}
 use Rattle.std.specs.Char.{digit_value}
+use Rattle.std.specs.Fmt.{digits, digits_onto, digit_glyph}
 use Rattle.std.specs.Int.{IsInRange}
 use Rattle.std.specs.Str.Parse.{AllDigits, digits_value}
 use Rattle.std.proofs.lemmas.Bool.Decides.{nat_tests}
 use Rattle.std.proofs.lemmas.List.{length-take-le}
 use Rattle.std.proofs.Math.Seq.{take-length}
 use Rattle.std.proofs.lemmas.Fmt.{decimal_nonempty, length-decimal-le, first_decimal, digits_decimal, digits_value-decimal, decimal-digits_value, decimal_digit, decimal_injective}
-use Rattle.dtx_model.specs.Grammar.{is_from}
+use Rattle.dtx_model.proofs.Bools.{or_false}
 use Rattle.trace_text.specs.ReadWords.{IsWithout}
 use Rattle.trace_text.proofs.ReadCuts.{cut_same}
 use Rattle.std.proofs.lemmas.Int.Digits.{digits_value_more, digits_more}
@@ -64,27 +65,29 @@ pub value_of_read : (w : List ℕ) (i n m : ℕ) → i ≡ length w → n ≡ di
 value_of_read w i n m k e small t =
     e ∙ ap (λ j. digits_value 10 (take j w)) k ∙ ap (λ v. digits_value 10 v) (take-length w) ∙ (number_from_text w m small t).value
 
--- a word is the name of one number only
-pub same_number : (w : List ℕ) (letter n m : ℕ) → n < 2 ^ 64 → m < 2 ^ 64 → w ≡ letter ∷ decimal n → w ≡ letter ∷ decimal m → n ≡ m
-same_number w letter n m hn hm en em =
-    let e : decimal n ≡ decimal m = cc in
-    decimal_injective n m (omega arith) (omega arith) e
+-- a digit is no byte below `0`
+glyph_without : (c d : ℕ) → c < 48 → (digit_glyph false d == c) ≡ false
+glyph_without c d h = grind (arith, nat_tests)
 
--- digits hold no byte below `0`
-without_digits : (c : ℕ) (ds : List ℕ) → c < 48 → AllDigits 10 ds → IsWithout c ds
-without_digits c [] h d = refl
-without_digits c (x ∷ xs) h d =
-    let r = digit_from_value x d.0 in
-    let k = without_digits c xs h d.1 in
-    grind (arith, nat_tests)
+-- of two texts without c either is so
+either_without : (c : ℕ) (b : Bool) (xs ys : List ℕ) → IsWithout c xs → IsWithout c ys → IsWithout c (if b then xs else ys)
+either_without c true xs ys h k = h
+either_without c false xs ys h k = k
 
--- nor does a number's text
-pub without_decimal : (c n : ℕ) → c < 48 → n < 2 ^ 64 → IsWithout c (decimal n)
-without_decimal c n h k = without_digits c (decimal n) h (digits_decimal own n k)
+-- digits before a text without c leave it so
+digits_without : (c k n : ℕ) (acc : List ℕ) → c < 48 → IsWithout c acc → IsWithout c (digits_onto k 10 false n acc)
+digits_without c zero n acc h w = w
+digits_without c (suc k) n acc h w =
+    let more : IsWithout c (digit_glyph false (n % 10) ∷ acc) = or_false (digit_glyph false (n % 10) == c) _ (glyph_without c (n % 10) h) w in
+    either_without c (n / 10 == 0) _ _ more (digits_without c k (n / 10) (digit_glyph false (n % 10) ∷ acc) h more)
+
+-- a number's text holds no byte below `0`
+pub without_decimal : (c n : ℕ) → c < 48 → IsWithout c (decimal n)
+unfolding digits
+without_decimal c n h = digits_without c 64 n [] h refl
 
 -- a name has no space
-pub name_without : (letter n : ℕ) → letter ≢ 32 → n < 2 ^ 64 → IsWithout 32 (letter ∷ decimal n)
-name_without letter n other small =
-    let named = without_decimal 32 n (omega arith) small in
+pub name_without : (letter n : ℕ) → letter ≢ 32 → IsWithout 32 (letter ∷ decimal n)
+name_without letter n other =
+    let named = without_decimal 32 n (omega arith) in
     grind (arith, nat_tests)
-

@@ -1,3 +1,4 @@
 pub mod Printed
-pub mod ReadWords
 pub mod ReadGroups
+pub mod ReadTrace
+pub mod ReadWords

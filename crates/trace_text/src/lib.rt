@@ -9,9 +9,12 @@ mod printer;
 mod read_answers;
 mod read_entries;
 mod read_messages;
+
 mod read_words;
+mod reader;
 mod tail;
 mod words;
 
 pub use dtx_values::{Place, Trace};
 pub use printer::print_trace;
+pub use reader::{TraceError, read_trace, reads_traces_exactly};

@@ -71,7 +71,7 @@ fn ambient(word: &[u8]) -> Option<TxNo>
 
 /// Reads an entry of its keyword alone.
 fn event(key: &[u8]) -> Option<Entry>
-    ensures some { IfSome result (λ y. (x : Entry) → is_event x ≡ true → key.now ≡ entry_text x → y ≡ x) }
+    ensures some { IfSome result (λ y. (x : Entry) → key.now ≡ entry_text x → y ≡ x) }
     ensures fit { IfSome result (λ y. (p : Place) → is_entry_fit p y ≡ true) }
     ensures none { IfNone result ((x : Entry) → is_event x ≡ true → key.now ≢ entry_text x) }
 {

@@ -1,6 +1,6 @@
-use Rattle.std.proofs.Common.{◌≡◌, ◌∙◌, codes, sym, rules}
+use Rattle.std.proofs.Common.{◌≡◌, ◌∙◌, codes, length, sym, rules}
 use Rattle.trace_text.proofs.ReadCuts.{same_text}
-use Rattle.trace_text.proofs.ReadPieces.{cloned_found, told_found, promoted_found, down_found, armed_found, log_opened_found, opened_found}
+use Rattle.trace_text.proofs.ReadPieces.{cloned_found, told_found, promoted_found, down_found, armed_found, log_opened_found, opened_found, no_length}
 use Rattle.trace_text.proofs.read_entries.of_words.Goals as goal
 
 pub returns-then-eq-clause-some : goal.returns-then-eq-clause-some
@@ -31,7 +31,8 @@ returns-then-eq-5-clause-some c = λ p x f k r.
 pub returns-then-is_empty-clause-some : goal.returns-then-is_empty-clause-some
 returns-then-is_empty-clause-some c = λ p x f k r.
     let named : c.args.key.now ≡ codes "opened" = search rules in
-    log_opened_found p x _ _ _ _ f (same_text _ _ (sym named ∙ k)) r c.cut.ensures.front c.cut.ensures.behind (search rules) c.number16.ensures
+    let nothing : length c.cut.result.1.now ≡ 0 = search rules in
+    log_opened_found p x _ _ _ _ f (same_text _ _ (sym named ∙ k)) r c.cut.ensures.front c.cut.ensures.behind (no_length _ nothing) c.number16.ensures
 
 pub returns-then-eq-6-clause-some : goal.returns-then-eq-6-clause-some
 returns-then-eq-6-clause-some c = λ p x f k r.
