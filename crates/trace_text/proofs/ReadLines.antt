@@ -1,5 +1,6 @@
 -- A line holds no LF but the one at its end.
-use Rattle.std.proofs.Common.{◌≡◌, ℕ, Bool, true, false, List, [], ◌∷◌, ◌++◌, codes, decimal, Option, Some, None, refl, ap, sym, ◌∙◌, arith, append_assoc}
+use Rattle.std.proofs.Common.{◌≡◌, ℕ, Bool, true, false, List, [], ◌∷◌, ◌++◌, codes, decimal, Option, Some, None, refl, ap, subst, sym, ◌∙◌, arith, append_assoc, length, length-append, take, ◌≤◌}
+use Rattle.std.proofs.lemmas.List.{take_at}
 use Rattle.dtx_values.specs.declared.words.Outcome.{Outcome}
 use Rattle.dtx_values.specs.declared.words.Outcome.TheVariants.{Committed, Aborted, InDoubt}
 use Rattle.dtx_values.specs.declared.words.Class.{Class}
@@ -37,12 +38,13 @@ use Rattle.dtx_values.specs.declared.trace.Place.{Place}
 use Rattle.dtx_values.specs.declared.trace.Place.TheVariants.{Context, Transaction, Log}
 use Rattle.dtx_model.specs.Grammar.{actor_name, connection_word, iso_word, kind_word, image_word}
 use Rattle.dtx_model.specs.Replay.{Placed}
-use Rattle.dtx_model.specs.TraceText.{ambient_text, answer_text, ask_text, cast_vote_text, cause_text, class_text, direction_text, entry_text, found_text, id_text, message_text, outcome_text, party_text, place_text, promote_text, request_text, trace_line}
+use Rattle.dtx_model.specs.TraceText.{ambient_text, answer_text, ask_text, cast_vote_text, cause_text, class_text, direction_text, entry_text, found_text, is_entry_fit, is_fit, id_text, message_text, outcome_text, party_text, place_text, promote_text, request_text, trace_line}
 use Rattle.trace_text.specs.ReadTrace.{line_body}
-use Rattle.trace_text.specs.ReadWords.{front, IsWithout}
+use Rattle.trace_text.specs.ReadWords.{front, behind, IsWithout}
 use Rattle.trace_text.proofs.ReadCuts.{cut_same, front_cut, without_append}
 use Rattle.trace_text.proofs.ReadIdentifiers.{id_without}
-use Rattle.trace_text.proofs.ReadNumbers.{without_decimal}
+use Rattle.trace_text.proofs.ReadNumbers.{name_without, without_decimal}
+use Rattle.trace_text.proofs.ReadPieces.{cut_spaced, cut_twice}
 
 -- a number has no LF
 number : (n : ℕ) → IsWithout 10 (decimal n)
@@ -210,3 +212,25 @@ front_line n x after = ap (λ t. front 10 t) (line-append n x after) ∙ front_c
 -- two lines at the front of one text are followed by one text
 pub same_after : (n m : ℕ) (x y : Placed) (a b : List ℕ) → trace_line n x ++ a ≡ trace_line m y ++ b → a ≡ b
 same_after n m x y a b e = (cut_same 10 (line_body n x) (line_body m y) a b (body_without n x) (body_without m y) (sym (line-append n x a) ∙ e ∙ line-append m y b)).1
+
+-- a place has no space
+place_apart : (p : Place) → IsWithout 32 (place_text p)
+place_apart (Context a) = name_without 97 a.value (omega arith)
+place_apart (Transaction t) = name_without 116 t.value (omega arith)
+place_apart Log = refl
+
+-- the place and the entry of a line are found
+pub placed_found : (n : ℕ) (x : Placed) (at : Place) (y : Entry) (text rest name words : List ℕ) → text ≡ line_body n x → rest ≡ behind 32 text → name ≡ front 32 rest → words ≡ behind 32 rest → is_fit x ≡ true
+    → ((p : Place) → name ≡ place_text p → at ≡ p) → ((z : Entry) → is_entry_fit at z ≡ true → words ≡ entry_text z → y ≡ z) → (at ≡ x.0) × (y ≡ x.1)
+placed_found n x at y text rest name words e r f l fit hp hy =
+    let k = cut_twice text (front 32 text) rest (decimal n) (place_text x.0) (entry_text x.1) refl r e (without_decimal 32 n (omega arith)) in
+    let j = cut_spaced rest name words (place_text x.0) (entry_text x.1) f l k.last (place_apart x.0) in
+    let same : at ≡ x.0 = hp x.0 j.first in
+    (same, hy x.1 (subst (λ (p : Place). is_entry_fit p x.1 ≡ true) (sym same) fit) j.last)
+
+-- where a text begins with this entry's line, it is no shorter than that line, and begins with its bytes
+pub line_fits : (n : ℕ) (x : Placed) (b line after : List ℕ) → b ≡ trace_line n x ++ after → line ≡ trace_line n x → length line ≤ length b
+line_fits n x b line after e h = omega (arith, ap length e, ap length h, length-append (trace_line n x) after)
+
+pub line_taken : (n : ℕ) (x : Placed) (b line after : List ℕ) → b ≡ trace_line n x ++ after → line ≡ trace_line n x → take (length line) b ≡ line
+line_taken n x b line after e h = ap (λ t. take (length line) t) (e ∙ ap (λ t. t ++ after) (sym h)) ∙ take_at line after (length line) refl

@@ -12,7 +12,7 @@ use Rattle.trace_text.proofs.ReadLines.{same_after}
 lines_push : (n m : ℕ) (xs : List Placed) (x : Placed) → m ≡ n + length xs → lines_from n (xs ++ x ∷ []) ≡ lines_from n xs ++ trace_line m x
 lines_push n m [] x e =
     let same : n ≡ m = omega arith in
-    sym (append-nil (trace_line n x)) ∙ ap (λ k. trace_line k x) same
+    append-nil (trace_line n x) ∙ ap (λ k. trace_line k x) same
 lines_push n m (y ∷ xs) x e =
     ap (λ t. trace_line n y ++ t) (lines_push (suc n) m xs x (omega arith)) ∙ sym (append_assoc (trace_line n y) (lines_from (suc n) xs) (trace_line m x))
 
@@ -23,9 +23,9 @@ text_push b rest after xs x m e n r =
     e ∙ ap (λ t. lines_from 1 xs ++ t) r ∙ sym (append_assoc (lines_from 1 xs) (trace_line m x) after) ∙ ap (λ t. t ++ after) (sym (lines_push 1 m xs x (omega arith)))
 
 -- no entry has no text
-pub text_none : (b : List ℕ) → b ≡ trace_text [] ++ b
+pub text_none : (b : List ℕ) (xs : List Placed) → xs ≡ [] → b ≡ trace_text xs ++ b
 unfolding trace_text
-text_none b = refl
+text_none b xs e = ap (λ t. lines_from 1 t ++ b) (sym e)
 
 -- one fit entry more leaves all fit
 pub fit_push : (xs : List Placed) (x : Placed) → each is_fit xs ≡ true → is_fit x ≡ true → each is_fit (xs ++ x ∷ []) ≡ true

@@ -60,12 +60,10 @@ pub fn read_trace(alloc: Global, bytes: &[u8]) -> Result<Trace, TraceError>
     let mut rest = bytes;
     while !rest.is_empty() {
         match first_line(entries.len() + 1, rest) {
-            Some((x, after)) => {
-                if entries.push(x).is_err() {
-                    return Err(TraceError::Memory);
-                }
-                rest = after;
-            }
+            Some((x, after)) => match entries.push(x) {
+                Ok(()) => rest = after,
+                Err(_) => return Err(TraceError::Memory),
+            },
             None => return Err(TraceError::BadLine(entries.len() as u64 + 1)),
         }
     }
