@@ -38,7 +38,6 @@ without_append c (x ∷ xs) ys hx hy =
     let k = without_append c xs ys (tail_without c x xs hx) hy in
     grind (arith, nat_tests)
 
-
 -- a separator is found where it stands
 here : (c : ℕ) → (c == c) ≡ true
 here c = grind (arith, nat_tests)

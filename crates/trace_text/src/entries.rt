@@ -8,8 +8,8 @@ ghost use Rattle.trace_text.specs.Printed.{is_event};
 use crate::answers::put_answer;
 use crate::messages::put_sent;
 use crate::names::{
-    put_actor, put_ambient, put_clone, put_connection, put_enlistment, put_identifier,
-    put_manager, put_numbered, put_party, put_scope,
+    put_actor, put_ambient, put_clone, put_connection, put_enlistment, put_identifier, put_manager,
+    put_numbered, put_party, put_scope,
 };
 use crate::tail::Tail;
 use crate::words::{

@@ -127,5 +127,10 @@ pub fn put_identifier(tail: &mut Tail, id: u128)
     ensures length { length tail.new ≤ 36 + length tail.old }
 {
     let mut buffer = [0; 36];
-    tail.put(Uuid::from_u128(id).hyphenated().encode_lower(&mut buffer).as_bytes());
+    tail.put(
+        Uuid::from_u128(id)
+            .hyphenated()
+            .encode_lower(&mut buffer)
+            .as_bytes(),
+    );
 }

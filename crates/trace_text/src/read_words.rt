@@ -109,7 +109,11 @@ pub fn identifier(word: &[u8]) -> u128
 fn named(word: &[u8]) -> u32
     ensures { (letter n : ℕ) → n < 2 ^ 32 → word.now ≡ letter ∷ decimal n → result ≡ n }
 {
-    if word.is_empty() { 0 } else { number32(&word[1..]) }
+    if word.is_empty() {
+        0
+    } else {
+        number32(&word[1..])
+    }
 }
 
 /// Reads an actor's name.

@@ -5,7 +5,7 @@ use Rattle.trace_text.proofs.ReadTraces.{text_none, text_push, fit_push}
 use Rattle.trace_text.proofs.reader.read_trace.Goals as goal
 
 pub loop-rest-init : goal.loop-rest-init
-loop-rest-init c = 
+loop-rest-init c =
     let none : c.new-entries.result.items ≡ [] = search rules in
     record {
       bytes = text_none c.args.bytes.now c.new-entries.result.items none;
@@ -13,7 +13,7 @@ loop-rest-init c =
     }
 
 pub loop-rest-preserved : goal.loop-rest-preserved
-loop-rest-preserved c = 
+loop-rest-preserved c =
     let more : c.push.new.self.items ≡ c.loop-rest.entries.items ++ c.in-Some.x ∷ [] = search rules in
     let first = c.in-Some.ensures.some in
     let number : c.len.result + 1 ≡ length c.loop-rest.entries.items + 1 = search rules in
