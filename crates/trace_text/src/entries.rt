@@ -1,6 +1,7 @@
 //! The entries of a history.
 ghost use Rattle.std.specs.Prelude.{◌≡◌, ◌≤◌, ◌+◌, ◌++◌, codes, length, true};
-ghost use Rattle.dtx_values.specs.declared.entry.Entry.TheVariants.{Answered, Asked, Called, Cloned, Completed, Cut, Decided, Down, Enlisted, LogWord, OwnerAnswered, Promoted, PromoteReply, Promoting, Recovered, Requested, Restarted, Scope, Told, Voted};
+ghost use Rattle.dtx_values.specs.declared.entry.Entry.TheVariants.{Answered, Asked, Called, Cloned, Completed, Cut, Decided, Down, Enlisted, LogWord};
+ghost use Rattle.dtx_values.specs.declared.entry.Entry.TheVariants.{OwnerAnswered, Promoted, PromoteReply, Promoting, Recovered, Requested, Restarted, Scope, Told, Voted};
 ghost use Rattle.dtx_model.specs.Grammar.{enlistment_name};
 ghost use Rattle.dtx_model.specs.TraceText.{entry_text, sent_text};
 ghost use Rattle.trace_text.specs.Printed.{is_event};
@@ -67,6 +68,15 @@ fn put_cloned(tail: &mut Tail, c: CloneNo, kind: CloneKind)
     tail.put(b"cloned ");
 }
 
+fn put_completed(tail: &mut Tail, c: CloneNo)
+    requires { 91 + length tail.old ≤ 160 }
+    ensures text { tail.new ≡ entry_text (Completed c) ++ tail.old }
+    ensures length { length tail.new ≤ 91 + length tail.old }
+{
+    put_clone(tail, c);
+    tail.put(b"completed ");
+}
+
 fn put_enlisted(tail: &mut Tail, e: EnlNo, class: Class)
     requires { 91 + length tail.old ≤ 160 }
     ensures text { tail.new ≡ entry_text (Enlisted e class) ++ tail.old }
@@ -127,6 +137,15 @@ fn put_owner_answer(tail: &mut Tail, e: EnlNo, outcome: Outcome)
     put_of(tail, b"owner ", e);
 }
 
+fn put_decided(tail: &mut Tail, outcome: Outcome)
+    requires { 91 + length tail.old ≤ 160 }
+    ensures text { tail.new ≡ entry_text (Decided outcome) ++ tail.old }
+    ensures length { length tail.new ≤ 91 + length tail.old }
+{
+    put_outcome(tail, outcome);
+    tail.put(b"decided ");
+}
+
 fn put_told(tail: &mut Tail, party: Party, outcome: Outcome)
     requires { 91 + length tail.old ≤ 160 }
     ensures text { tail.new ≡ entry_text (Told party outcome) ++ tail.old }
@@ -138,6 +157,15 @@ fn put_told(tail: &mut Tail, party: Party, outcome: Outcome)
     tail.put(b"told ");
 }
 
+fn put_promoting(tail: &mut Tail, cause: Cause)
+    requires { 91 + length tail.old ≤ 160 }
+    ensures text { tail.new ≡ entry_text (Promoting cause) ++ tail.old }
+    ensures length { length tail.new ≤ 91 + length tail.old }
+{
+    put_cause(tail, cause);
+    tail.put(b"promoting ");
+}
+
 fn put_promoted(tail: &mut Tail, id: u128, cause: Cause)
     requires { 91 + length tail.old ≤ 160 }
     ensures text { tail.new ≡ entry_text (Promoted id cause) ++ tail.old }
@@ -147,6 +175,17 @@ fn put_promoted(tail: &mut Tail, id: u128, cause: Cause)
     tail.put(b" ");
     put_identifier(tail, id);
     tail.put(b"promoted ");
+}
+
+/// Puts a word and a message.
+#[inline(always)]
+fn put_wire(tail: &mut Tail, word: &[u8], c: Conn, d: Dir, m: Message)
+    requires { length word.now + 67 + length tail.old ≤ 160 }
+    ensures text { tail.new ≡ word.now ++ sent_text c d m ++ tail.old }
+    ensures length { length tail.new ≤ length word.now + 67 + length tail.old }
+{
+    put_sent(tail, c, d, m);
+    tail.put(word);
 }
 
 /// Puts how many messages were kept upward and downward on a connection that was cut.
@@ -171,6 +210,24 @@ fn put_end(tail: &mut Tail, c: Conn, d: Dir)
     tail.put(b" ");
     put_connection(tail, c);
     tail.put(b"down ");
+}
+
+fn put_restarted(tail: &mut Tail, found: bool)
+    requires { 91 + length tail.old ≤ 160 }
+    ensures text { tail.new ≡ entry_text (Restarted found) ++ tail.old }
+    ensures length { length tail.new ≤ 91 + length tail.old }
+{
+    put_found(tail, found);
+    tail.put(b"restarted ");
+}
+
+fn put_recovered(tail: &mut Tail, r: RmNo)
+    requires { 91 + length tail.old ≤ 160 }
+    ensures text { tail.new ≡ entry_text (Recovered r) ++ tail.old }
+    ensures length { length tail.new ≤ 91 + length tail.old }
+{
+    put_manager(tail, r);
+    tail.put(b"recovered ");
 }
 
 fn put_scope_note(tail: &mut Tail, x: ScopeNote)
@@ -232,62 +289,6 @@ fn put_event(tail: &mut Tail, x: Entry)
         Entry::Stopped => tail.put(b"stopped"),
         _ => unreachable!(),
     }
-}
-
-fn put_completed(tail: &mut Tail, c: CloneNo)
-    requires { 91 + length tail.old ≤ 160 }
-    ensures text { tail.new ≡ entry_text (Completed c) ++ tail.old }
-    ensures length { length tail.new ≤ 91 + length tail.old }
-{
-    put_clone(tail, c);
-    tail.put(b"completed ");
-}
-
-fn put_decided(tail: &mut Tail, outcome: Outcome)
-    requires { 91 + length tail.old ≤ 160 }
-    ensures text { tail.new ≡ entry_text (Decided outcome) ++ tail.old }
-    ensures length { length tail.new ≤ 91 + length tail.old }
-{
-    put_outcome(tail, outcome);
-    tail.put(b"decided ");
-}
-
-fn put_promoting(tail: &mut Tail, cause: Cause)
-    requires { 91 + length tail.old ≤ 160 }
-    ensures text { tail.new ≡ entry_text (Promoting cause) ++ tail.old }
-    ensures length { length tail.new ≤ 91 + length tail.old }
-{
-    put_cause(tail, cause);
-    tail.put(b"promoting ");
-}
-
-fn put_restarted(tail: &mut Tail, found: bool)
-    requires { 91 + length tail.old ≤ 160 }
-    ensures text { tail.new ≡ entry_text (Restarted found) ++ tail.old }
-    ensures length { length tail.new ≤ 91 + length tail.old }
-{
-    put_found(tail, found);
-    tail.put(b"restarted ");
-}
-
-fn put_recovered(tail: &mut Tail, r: RmNo)
-    requires { 91 + length tail.old ≤ 160 }
-    ensures text { tail.new ≡ entry_text (Recovered r) ++ tail.old }
-    ensures length { length tail.new ≤ 91 + length tail.old }
-{
-    put_manager(tail, r);
-    tail.put(b"recovered ");
-}
-
-/// Puts a word and a message.
-#[inline(always)]
-fn put_wire(tail: &mut Tail, word: &[u8], c: Conn, d: Dir, m: Message)
-    requires { length word.now + 67 + length tail.old ≤ 160 }
-    ensures text { tail.new ≡ word.now ++ sent_text c d m ++ tail.old }
-    ensures length { length tail.new ≤ length word.now + 67 + length tail.old }
-{
-    put_sent(tail, c, d, m);
-    tail.put(word);
 }
 
 pub fn put_entry(tail: &mut Tail, x: Entry)

@@ -127,10 +127,6 @@ pub fn put_identifier(tail: &mut Tail, id: u128)
     ensures length { length tail.new ≤ 36 + length tail.old }
 {
     let mut buffer = [0; 36];
-    tail.put(
-        Uuid::from_u128(id)
-            .hyphenated()
-            .encode_lower(&mut buffer)
-            .as_bytes(),
-    );
+    let text = Uuid::from_u128(id).hyphenated().encode_lower(&mut buffer);
+    tail.put(text.as_bytes());
 }

@@ -42,68 +42,274 @@ pub fn print_trace(alloc: Global, t: &Trace) -> Result<Vec<u8>, AllocError>
 #[cfg(test)]
 mod tests {
     use super::*;
-    use dtx_values::TxNo;
+    use dtx_values::{
+        ActorNo, Answer, Ask, Cause, Class, CloneKind, CloneNo, Conn, Dir, EnlNo, Image, Info, Iso,
+        LogNote, Message, Outcome, Party, Request, RmNo, ScopeNo, ScopeNote, TxNo, Vote,
+    };
     use std::test::Fail;
 
+    /// The text of a trace of this entry alone, in the log.
+    fn printed(alloc: Global, x: Entry) -> Result<Vec<u8>, AllocError> {
+        print_trace(alloc, &Trace::new(vec![in alloc; (Place::Log, x)]?))
+    }
+
+    /// What is wanted of it: these words, and others before them.
+    fn wanted(alloc: Global, before: &str, words: &str) -> Result<Vec<u8>, AllocError> {
+        let mut text = Vec::with_capacity(alloc, 128)?;
+        for part in ["1 log ", before, words, "\n"] {
+            text.extend_from_slice(part.as_bytes())?;
+        }
+        Ok(text)
+    }
+
     #[test]
-    fn prints_lines(rt: HostRuntime) -> Result<(), Fail> {
+    fn numbers_lines(rt: HostRuntime) -> Result<(), Fail> {
         let t1 = Place::Transaction(TxNo::new(1).unwrap());
-        let a1 = ActorNo::new(1).unwrap();
-        let e1 = EnlNo::new(1).unwrap();
-        let c7 = CloneNo::new(7).unwrap();
+        let a3 = Place::Context(ActorNo::new(3).unwrap());
         let entries = vec![in rt.alloc();
-            (t1, Entry::Called(1, a1, Answer::Fine)),
-            (t1, Entry::Began(600_000)),
-            (t1, Entry::Called(2, a1, Answer::Fine)),
-            (t1, Entry::Enlisted(e1, Class::One)),
-            (t1, Entry::Called(3, a1, Answer::Fine)),
             (t1, Entry::CommitAsked),
-            (t1, Entry::Sealed),
-            (t1, Entry::Asked(e1, Ask::Prepare)),
-            (t1, Entry::Voted(e1, Vote::Yes)),
-            (t1, Entry::Decided(Outcome::Committed)),
-            (t1, Entry::Told(Party::Enl(e1), Outcome::Committed)),
-            (t1, Entry::Told(Party::Client, Outcome::Committed)),
-            (
-                Place::Context(ActorNo::new(3).unwrap()),
-                Entry::Called(40, a1, Answer::NotBegun)
-            ),
-            (
-                Place::Log,
-                Entry::Called(41, a1, Answer::Ended(Outcome::Aborted))
-            ),
-            (t1, Entry::Called(42, a1, Answer::TooLate)),
-            (t1, Entry::Called(43, a1, Answer::Many(32))),
-            (t1, Entry::Cloned(c7, CloneKind::Block)),
-            (t1, Entry::Cloned(c7, CloneKind::Rollback)),
-            (t1, Entry::Completed(c7)),
-            (t1, Entry::RollbackAsked),
-            (t1, Entry::Clock(u64::MAX)),
-            (t1, Entry::TimedOut),
+            (a3, Entry::Sealed),
+            (Place::Log, Entry::Freed),
             (t1, Entry::Late),
-            (t1, Entry::Called(44, a1, Answer::StillActive)),
-            (
-                t1,
-                Entry::Called(45, a1, Answer::OutcomeIs(Outcome::InDoubt))
-            ),
-            (t1, Entry::Called(46, a1, Answer::StillOpen)),
-            (t1, Entry::Called(47, a1, Answer::Did(999))),
-            (t1, Entry::Called(48, a1, Answer::NoSuch)),
-            (t1, Entry::Called(u32::MAX, a1, Answer::Already)),
+            (t1, Entry::Late),
+            (t1, Entry::Late),
+            (t1, Entry::Late),
+            (t1, Entry::Late),
+            (t1, Entry::Late),
+            (t1, Entry::Clock(0)),
         ]?;
         let text = print_trace(rt.alloc(), &Trace::new(entries))?;
-        let expected =
-            "1 t1 call 1 a1 ok\n2 t1 began 600000\n3 t1 call 2 a1 ok\n4 t1 enlisted e1 one\n\
-            5 t1 call 3 a1 ok\n6 t1 commit\n7 t1 sealed\n8 t1 ask e1 prepare\n9 t1 vote e1 yes\n\
-            10 t1 decided committed\n11 t1 told e1 committed\n12 t1 told client committed\n\
-            13 a3 call 40 a1 notbegun\n14 log call 41 a1 ended aborted\n\
-            15 t1 call 42 a1 toolate\n16 t1 call 43 a1 many 32\n\
-            17 t1 cloned c7 block\n18 t1 cloned c7 rollback\n19 t1 completed c7\n\
-            20 t1 rollback\n21 t1 clock 18446744073709551615\n22 t1 timedout\n23 t1 late\n\
-            24 t1 call 44 a1 active\n25 t1 call 45 a1 indoubt\n26 t1 call 46 a1 open\n\
-            27 t1 call 47 a1 did 999\n28 t1 call 48 a1 nosuch\n\
-            29 t1 call 4294967295 a1 already\n";
+        let expected = "1 t1 commit\n2 a3 sealed\n3 log freed\n4 t1 late\n5 t1 late\n6 t1 late\n\
+            7 t1 late\n8 t1 late\n9 t1 late\n10 t1 clock 0\n";
         assert_eq!(rt; text.as_slice(), expected.as_bytes());
+        Ok(())
+    }
+
+    #[test]
+    fn prints_entries(rt: HostRuntime) -> Result<(), Fail> {
+        let a16 = ActorNo::new(16).unwrap();
+        let c7 = CloneNo::new(7).unwrap();
+        let [e1, e9] = [1, 9999].map(|n| EnlNo::new(n).expect(&rt, "no such number"));
+        let r2 = RmNo::new(2).unwrap();
+        let s3 = ScopeNo::new(3).unwrap();
+        let t256 = TxNo::new(256).unwrap();
+        let rows: [(Entry, &str); 62] = [
+            (
+                Entry::Called(u32::MAX, a16, Answer::Fine),
+                "call 4294967295 a16 ok",
+            ),
+            (Entry::Answered(40, Answer::StillOpen), "answer 40 open"),
+            (Entry::Began(600_000), "began 600000"),
+            (Entry::Cloned(c7, CloneKind::Block), "cloned c7 block"),
+            (Entry::Cloned(c7, CloneKind::Rollback), "cloned c7 rollback"),
+            (Entry::Completed(c7), "completed c7"),
+            (Entry::Enlisted(e1, Class::Zero), "enlisted e1 zero"),
+            (Entry::Enlisted(e1, Class::One), "enlisted e1 one"),
+            (Entry::Enlisted(e1, Class::DurableTwo), "enlisted e1 two"),
+            (
+                Entry::Enlisted(e1, Class::DurableSingle),
+                "enlisted e1 single",
+            ),
+            (
+                Entry::Enlisted(e1, Class::Promotable),
+                "enlisted e1 promotable",
+            ),
+            (Entry::Init(e1), "init e1"),
+            (Entry::CommitAsked, "commit"),
+            (Entry::RollbackAsked, "rollback"),
+            (Entry::Clock(u64::MAX), "clock 18446744073709551615"),
+            (Entry::TimedOut, "timedout"),
+            (Entry::Late, "late"),
+            (Entry::Asked(e1, Ask::Prepare), "ask e1 prepare"),
+            (Entry::Asked(e1, Ask::Promote), "ask e1 promote"),
+            (Entry::Asked(e1, Ask::Single), "ask e1 single"),
+            (Entry::Voted(e1, Vote::Yes), "vote e1 yes"),
+            (Entry::Voted(e1, Vote::No), "vote e1 no"),
+            (Entry::Voted(e1, Vote::Done), "vote e1 done"),
+            (Entry::PromoteReply(e1, true), "promote e1 ok"),
+            (Entry::PromoteReply(e1, false), "promote e1 fail"),
+            (Entry::Requested(e1, Request::Commit), "request e1 commit"),
+            (Entry::Requested(e1, Request::Abort), "request e1 abort"),
+            (Entry::Sealed, "sealed"),
+            (Entry::Handed(e1), "hand e1"),
+            (
+                Entry::OwnerAnswered(e1, Outcome::InDoubt),
+                "owner e1 indoubt",
+            ),
+            (Entry::LocalYes, "yes"),
+            (Entry::Decided(Outcome::Committed), "decided committed"),
+            (
+                Entry::Told(Party::Enl(e1), Outcome::Aborted),
+                "told e1 aborted",
+            ),
+            (
+                Entry::Told(Party::Client, Outcome::InDoubt),
+                "told client indoubt",
+            ),
+            (Entry::Promoting(Cause::Two), "promoting two"),
+            (Entry::Promoting(Cause::Second), "promoting second"),
+            (Entry::Promoting(Cause::Beside), "promoting beside"),
+            (Entry::Promoting(Cause::Marshal), "promoting marshal"),
+            (
+                Entry::Promoted((1 << 64) + 1, Cause::Two),
+                "promoted 00000000-0000-0001-0000-000000000001 two",
+            ),
+            (Entry::PromotionFailed, "promotionfailed"),
+            (
+                Entry::Sent(Conn::Begin, Dir::Up, Message::BeginBegin),
+                "sent b up begin",
+            ),
+            (
+                Entry::Got(Conn::Voter, Dir::Down, Message::VoterAsk),
+                "got v down ask",
+            ),
+            (Entry::Cut(Conn::Again(e9), 999, 0), "cut x9999 999 0"),
+            (Entry::Down(Conn::Enl(e1), Dir::Down), "down e1 down"),
+            (Entry::Lost(e9), "lost e9999"),
+            (Entry::Logged, "logged"),
+            (Entry::LogFull, "logfull"),
+            (Entry::Freed, "freed"),
+            (Entry::Stopped, "stopped"),
+            (Entry::Restarted(true), "restarted found"),
+            (Entry::Restarted(false), "restarted none"),
+            (Entry::Reenlisted(e1), "reenlisted e1"),
+            (Entry::Recovered(r2), "recovered r2"),
+            (Entry::Acked(e1), "acked e1"),
+            (
+                Entry::Scope(ScopeNote::Opened(s3, Some(t256))),
+                "opened s3 t256",
+            ),
+            (Entry::Scope(ScopeNote::Opened(s3, None)), "opened s3 none"),
+            (Entry::Scope(ScopeNote::Finished(s3)), "finished s3"),
+            (Entry::Scope(ScopeNote::Closed(s3)), "closed s3"),
+            (
+                Entry::LogWord(LogNote::Armed(99, Image::Lose)),
+                "armed 99 lose",
+            ),
+            (
+                Entry::LogWord(LogNote::Armed(1, Image::Keep)),
+                "armed 1 keep",
+            ),
+            (
+                Entry::LogWord(LogNote::Armed(1, Image::Torn)),
+                "armed 1 torn",
+            ),
+            (Entry::LogWord(LogNote::Opened(1024)), "opened 1024"),
+        ];
+        for (x, words) in rows {
+            assert_eq!(rt;
+                printed(rt.alloc(), x)?,
+                wanted(rt.alloc(), "", words)?,
+                "at {words}"
+            );
+        }
+        Ok(())
+    }
+
+    #[test]
+    fn prints_answers(rt: HostRuntime) -> Result<(), Fail> {
+        let e9 = EnlNo::new(9999).unwrap();
+        let r2 = RmNo::new(2).unwrap();
+        let s3 = ScopeNo::new(3).unwrap();
+        let t256 = TxNo::new(256).unwrap();
+        let rows: [(Answer, &str); 30] = [
+            (Answer::Fine, "ok"),
+            (Answer::True, "true"),
+            (Answer::False, "false"),
+            (Answer::Wait, "wait"),
+            (
+                Answer::Id(0x0123_4567_89ab_cdef_0000_0000_0000_00ff),
+                "id 01234567-89ab-cdef-0000-0000000000ff",
+            ),
+            (Answer::StillActive, "active"),
+            (Answer::OutcomeIs(Outcome::Committed), "committed"),
+            (Answer::StillOpen, "open"),
+            (Answer::Did(999), "did 999"),
+            (Answer::NotBegun, "notbegun"),
+            (Answer::Ended(Outcome::Aborted), "ended aborted"),
+            (Answer::TooLate, "toolate"),
+            (Answer::Many(32), "many 32"),
+            (Answer::NoSuch, "nosuch"),
+            (Answer::Already, "already"),
+            (Answer::Finished, "finished"),
+            (Answer::Over(r2), "over r2"),
+            (Answer::Connected(e9), "connected e9999"),
+            (Answer::Stopped, "stopped"),
+            (Answer::Deep, "deep"),
+            (
+                Answer::Isolation(Iso::Serializable, Iso::RepeatableRead),
+                "isolation serializable repeatableread",
+            ),
+            (
+                Answer::Isolation(Iso::ReadCommitted, Iso::ReadUncommitted),
+                "isolation readcommitted readuncommitted",
+            ),
+            (
+                Answer::Isolation(Iso::Snapshot, Iso::Chaos),
+                "isolation snapshot chaos",
+            ),
+            (
+                Answer::Isolation(Iso::Unspecified, Iso::Chaos),
+                "isolation unspecified chaos",
+            ),
+            (Answer::NoScope, "noscope"),
+            (Answer::Nested(s3), "nested s3"),
+            (Answer::Ambient(Some(t256)), "t256"),
+            (Answer::Ambient(None), "none"),
+            (Answer::Fault, "fault"),
+            (Answer::NotALog(512), "notalog 512"),
+        ];
+        for (answer, words) in rows {
+            let text = printed(rt.alloc(), Entry::Answered(7, answer))?;
+            assert_eq!(rt; text, wanted(rt.alloc(), "answer 7 ", words)?, "at {words}");
+        }
+        Ok(())
+    }
+
+    #[test]
+    fn prints_messages(rt: HostRuntime) -> Result<(), Fail> {
+        let id = (1 << 64) + 1;
+        let e1 = EnlNo::new(1).unwrap();
+        let rm = RmNo::new(1).unwrap();
+        let info = Info { id, rm, enl: e1 };
+        let rows: [(Message, &str); 28] = [
+            (Message::BeginBegin, "begin"),
+            (Message::BeginCommit, "commit"),
+            (Message::BeginAbort, "abort"),
+            (Message::BeginBegun(id), "begun"),
+            (Message::BeginCommitted, "committed"),
+            (Message::BeginAborted, "aborted"),
+            (Message::VoterVoter(id), "voter"),
+            (Message::VoterYes, "yes"),
+            (Message::VoterNo, "no"),
+            (Message::VoterCreated, "created"),
+            (Message::VoterRefused(2), "refused 2"),
+            (Message::VoterAsk, "ask"),
+            (Message::VoterCommit, "commit"),
+            (Message::VoterAbort, "abort"),
+            (Message::EnlistEnlist(info), "enlist"),
+            (Message::EnlistPrepared, "prepared"),
+            (Message::EnlistNo, "no"),
+            (Message::EnlistReadonly, "readonly"),
+            (Message::EnlistAck, "ack"),
+            (Message::EnlistEnlisted, "enlisted"),
+            (Message::EnlistRefused(1), "refused 1"),
+            (Message::EnlistPrepare, "prepare"),
+            (Message::EnlistCommit, "commit"),
+            (Message::EnlistAbort, "abort"),
+            (Message::ReenlistReenlist(info), "reenlist"),
+            (Message::ReenlistAck, "ack"),
+            (Message::ReenlistCommitted, "committed"),
+            (Message::ReenlistAborted, "aborted"),
+        ];
+        for (m, words) in rows {
+            let text = printed(rt.alloc(), Entry::Sent(Conn::Begin, Dir::Up, m))?;
+            assert_eq!(rt;
+                text,
+                wanted(rt.alloc(), "sent b up ", words)?,
+                "at {words}"
+            );
+        }
         Ok(())
     }
 }

@@ -1,4 +1,4 @@
-use Rattle.std.proofs.Common.{◌≡◌, length, ap, ◌∙◌, arith, length-append}
+use Rattle.std.proofs.Common.{◌≡◌, length, ap, ◌∙◌, arith}
 use Rattle.dtx_model.specs.TraceText.{id_text}
 use Rattle.trace_text.proofs.Identifier.{length-id}
 use Rattle.trace_text.proofs.names.put_identifier.Goals as goal
