@@ -1,1 +1,4 @@
 pub mod Printed
+pub mod ReadGroups
+pub mod ReadTrace
+pub mod ReadWords

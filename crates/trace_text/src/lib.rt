@@ -6,7 +6,13 @@ mod entries;
 mod messages;
 mod names;
 mod printer;
+mod read_answers;
+mod read_entries;
+mod read_messages;
+mod read_words;
+mod reader;
 mod words;
 
 pub use dtx_values::{Place, Trace};
 pub use printer::print_trace;
+pub use reader::{TraceError, read_trace, reads_traces_exactly};

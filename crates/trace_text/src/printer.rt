@@ -12,7 +12,7 @@ use std::alloc::{AllocError, Global};
 const MEAN_LINE: usize = 32;
 
 /// Makes the line of an entry.
-fn put_line(tail: &mut Tail, number: usize, x: (Place, Entry))
+pub fn put_line(tail: &mut Tail, number: usize, x: (Place, Entry))
     requires { tail.old ≡ [] }
     ensures { tail.new ≡ trace_line number x }
 {

@@ -1,0 +1,24 @@
+use Rattle.std.proofs.Common.{◌≡◌, ◌≢◌, ◌∙◌, ◌≤◌, ap, arith, length, rules, take}
+use Rattle.dtx_model.specs.TraceText.{trace_line}
+use Rattle.trace_text.specs.ReadTrace.{line_body}
+use Rattle.trace_text.specs.ReadWords.{front}
+use Rattle.trace_text.proofs.ReadLines.{front_line, line_fits, line_taken}
+use Rattle.trace_text.proofs.reader.first_line.Goals as goal
+
+pub returns-then-bytes-line-clause-none : goal.returns-then-bytes-line-clause-none
+returns-then-bytes-line-clause-none c = λ x after f e.
+    let text : c.cut.result.0.now ≡ line_body c.args.number x = c.cut.ensures.front ∙ ap (λ t. front 10 t) e ∙ front_line c.args.number x after in
+    let same : c.placed-x.result ≡ x = c.placed-x.ensures.found c.args.number x f text in
+    let printed : c.as_slice-line.result.now ≡ trace_line c.args.number c.placed-x.result = search rules in
+    let line : c.as_slice-line.result.now ≡ trace_line c.args.number x = printed ∙ ap (λ y. trace_line c.args.number y) same in
+    let fits : length c.as_slice-line.result.now ≤ length c.args.bytes.now = line_fits c.args.number x c.args.bytes.now c.as_slice-line.result.now after e line in
+    omega arith
+
+pub returns-then-ne-clause-none : goal.returns-then-ne-clause-none
+returns-then-ne-clause-none c = λ x after f e.
+    let text : c.cut.result.0.now ≡ line_body c.args.number x = c.cut.ensures.front ∙ ap (λ t. front 10 t) e ∙ front_line c.args.number x after in
+    let same : c.placed-x.result ≡ x = c.placed-x.ensures.found c.args.number x f text in
+    let printed : c.as_slice-line.result.now ≡ trace_line c.args.number c.placed-x.result = search rules in
+    let line : c.as_slice-line.result.now ≡ trace_line c.args.number x = printed ∙ ap (λ y. trace_line c.args.number y) same in
+    let other : c.split_at.result.0.now ≢ c.as_slice-line.result.now = search rules in
+    other (c.split_at.ensures.front ∙ line_taken c.args.number x c.args.bytes.now c.as_slice-line.result.now after e line)

@@ -1,0 +1,304 @@
+//! Entries, read freely as the words are.
+ghost use Rattle.std.specs.Prelude.{◌≡◌, ◌≢◌, ◌∷◌, ◌++◌, ℕ, List, Option, true, false, codes, IfSome, IfNone};
+ghost use Rattle.dtx_values.specs.declared.entry.Entry.{Entry};
+ghost use Rattle.dtx_values.specs.declared.entry.Party.{Party};
+ghost use Rattle.dtx_values.specs.declared.message.Conn.{Conn};
+ghost use Rattle.dtx_values.specs.declared.number.EnlNo.{EnlNo};
+ghost use Rattle.dtx_values.specs.declared.number.TxNo.{TxNo};
+ghost use Rattle.dtx_values.specs.declared.trace.Place.{Place};
+ghost use Rattle.dtx_model.specs.Grammar.{enlistment_name, connection_word};
+ghost use Rattle.dtx_model.specs.TraceText.{ambient_text, entry_text, party_text, place_text, is_entry_fit};
+ghost use Rattle.trace_text.specs.Printed.{is_event};
+ghost use Rattle.trace_text.specs.ReadGroups.{is_of_enlistment, is_about_enlistment, is_of_word, is_of_words, is_call};
+ghost use Rattle.trace_text.specs.ReadWords.{front, behind};
+
+use crate::read_answers::answer;
+use crate::read_messages::message;
+use crate::read_words::{
+    actor, ask, cause, class, clone, cut, direction, enlistment, identifier, image, kind, manager,
+    number, number8, number16, number32, outcome, request, scope, transaction, vote,
+};
+use dtx_values::{Conn, EnlNo, Entry, LogNote, Party, Place, ScopeNote, TxNo};
+
+/// Reads a place.
+pub fn place(word: &[u8]) -> Place
+    ensures { (p : Place) → word.now ≡ place_text p → result ≡ p }
+{
+    if word == b"log".as_slice() {
+        return Place::Log;
+    }
+    if !word.is_empty() && word[0] == b'a' {
+        return Place::Context(actor(word));
+    }
+    Place::Transaction(transaction(word))
+}
+
+/// Reads who is told.
+fn party(word: &[u8]) -> Party
+    ensures { (p : Party) → word.now ≡ party_text p → result ≡ p }
+{
+    if word == b"client".as_slice() {
+        return Party::Client;
+    }
+    Party::Enl(enlistment(word))
+}
+
+/// Reads a connection.
+fn connection(word: &[u8]) -> Conn
+    ensures { (c : Conn) → word.now ≡ connection_word c → result ≡ c }
+{
+    if word == b"b".as_slice() {
+        return Conn::Begin;
+    }
+    if word == b"v".as_slice() {
+        return Conn::Voter;
+    }
+    if !word.is_empty() && word[0] == b'e' {
+        return Conn::Enl(enlistment(word));
+    }
+    Conn::Again(enlistment(word))
+}
+
+/// Reads the ambient transaction.
+fn ambient(word: &[u8]) -> Option<TxNo>
+    ensures { (t : Option TxNo) → word.now ≡ ambient_text t → result ≡ t }
+{
+    if word == b"none".as_slice() {
+        return None;
+    }
+    Some(transaction(word))
+}
+
+/// Reads an entry of its keyword alone.
+fn event(key: &[u8]) -> Option<Entry>
+    ensures some { IfSome result (λ y. (x : Entry) → key.now ≡ entry_text x → y ≡ x) }
+    ensures fit { IfSome result (λ y. (p : Place) → is_entry_fit p y ≡ true) }
+    ensures none { IfNone result ((x : Entry) → is_event x ≡ true → key.now ≢ entry_text x) }
+{
+    if key == b"commit".as_slice() {
+        return Some(Entry::CommitAsked);
+    }
+    if key == b"rollback".as_slice() {
+        return Some(Entry::RollbackAsked);
+    }
+    if key == b"timedout".as_slice() {
+        return Some(Entry::TimedOut);
+    }
+    if key == b"late".as_slice() {
+        return Some(Entry::Late);
+    }
+    if key == b"sealed".as_slice() {
+        return Some(Entry::Sealed);
+    }
+    if key == b"yes".as_slice() {
+        return Some(Entry::LocalYes);
+    }
+    if key == b"promotionfailed".as_slice() {
+        return Some(Entry::PromotionFailed);
+    }
+    if key == b"logged".as_slice() {
+        return Some(Entry::Logged);
+    }
+    if key == b"logfull".as_slice() {
+        return Some(Entry::LogFull);
+    }
+    if key == b"freed".as_slice() {
+        return Some(Entry::Freed);
+    }
+    if key == b"stopped".as_slice() {
+        return Some(Entry::Stopped);
+    }
+    None
+}
+
+/// Reads an entry of an enlistment alone.
+fn of_enlistment(key: &[u8], rest: &[u8]) -> Option<Entry>
+    ensures some { IfSome result (λ y. (x : Entry) → key.now ≡ front 32 (entry_text x) → rest.now ≡ behind 32 (entry_text x) → y ≡ x) }
+    ensures fit { IfSome result (λ y. (p : Place) → is_entry_fit p y ≡ true) }
+    ensures none { IfNone result ((x : Entry) → is_of_enlistment x ≡ true → key.now ≢ front 32 (entry_text x)) }
+{
+    let e = enlistment(rest);
+    if key == b"init".as_slice() {
+        return Some(Entry::Init(e));
+    }
+    if key == b"hand".as_slice() {
+        return Some(Entry::Handed(e));
+    }
+    if key == b"lost".as_slice() {
+        return Some(Entry::Lost(e));
+    }
+    if key == b"reenlisted".as_slice() {
+        return Some(Entry::Reenlisted(e));
+    }
+    if key == b"acked".as_slice() {
+        return Some(Entry::Acked(e));
+    }
+    None
+}
+
+/// The enlistment at the front of these words, and the word behind it.
+fn leading(words: &[u8]) -> (EnlNo, &[u8])
+    ensures name { (e : EnlNo) (r : List ℕ) → words.now ≡ enlistment_name e.value ++ codes " " ++ r → result.0 ≡ e }
+    ensures behind { (e : EnlNo) (r : List ℕ) → words.now ≡ enlistment_name e.value ++ codes " " ++ r → result.1.now ≡ r }
+{
+    let (name, word) = cut(words, b' ');
+    (enlistment(name), word)
+}
+
+/// Reads an entry of an enlistment and a word.
+fn about_enlistment(key: &[u8], rest: &[u8]) -> Option<Entry>
+    ensures some { IfSome result (λ y. (x : Entry) → key.now ≡ front 32 (entry_text x) → rest.now ≡ behind 32 (entry_text x) → y ≡ x) }
+    ensures fit { IfSome result (λ y. (p : Place) → is_entry_fit p y ≡ true) }
+    ensures none { IfNone result ((x : Entry) → is_about_enlistment x ≡ true → key.now ≢ front 32 (entry_text x)) }
+{
+    let (e, word) = leading(rest);
+    if key == b"enlisted".as_slice() {
+        return Some(Entry::Enlisted(e, class(word)));
+    }
+    if key == b"ask".as_slice() {
+        return Some(Entry::Asked(e, ask(word)));
+    }
+    if key == b"vote".as_slice() {
+        return Some(Entry::Voted(e, vote(word)));
+    }
+    if key == b"promote".as_slice() {
+        return Some(Entry::PromoteReply(e, word == b"ok".as_slice()));
+    }
+    if key == b"request".as_slice() {
+        return Some(Entry::Requested(e, request(word)));
+    }
+    if key == b"owner".as_slice() {
+        return Some(Entry::OwnerAnswered(e, outcome(word)));
+    }
+    None
+}
+
+/// Reads an entry of one word behind its keyword, other than an enlistment.
+fn of_word(key: &[u8], rest: &[u8]) -> Option<Entry>
+    ensures some { IfSome result (λ y. (p : Place) (x : Entry) → is_entry_fit p x ≡ true → key.now ≡ front 32 (entry_text x) → rest.now ≡ behind 32 (entry_text x) → y ≡ x) }
+    ensures fit { IfSome result (λ y. (p : Place) → is_entry_fit p y ≡ true) }
+    ensures none { IfNone result ((x : Entry) → is_of_word x ≡ true → key.now ≢ front 32 (entry_text x)) }
+{
+    if key == b"began".as_slice() {
+        return Some(Entry::Began(number32(rest)));
+    }
+    if key == b"completed".as_slice() {
+        return Some(Entry::Completed(clone(rest)));
+    }
+    if key == b"clock".as_slice() {
+        return Some(Entry::Clock(number(rest)));
+    }
+    if key == b"decided".as_slice() {
+        return Some(Entry::Decided(outcome(rest)));
+    }
+    if key == b"promoting".as_slice() {
+        return Some(Entry::Promoting(cause(rest)));
+    }
+    if key == b"restarted".as_slice() {
+        return Some(Entry::Restarted(rest == b"found".as_slice()));
+    }
+    if key == b"recovered".as_slice() {
+        return Some(Entry::Recovered(manager(rest)));
+    }
+    if key == b"finished".as_slice() {
+        return Some(Entry::Scope(ScopeNote::Finished(scope(rest))));
+    }
+    if key == b"closed".as_slice() {
+        return Some(Entry::Scope(ScopeNote::Closed(scope(rest))));
+    }
+    None
+}
+
+/// Reads an entry of two words behind its keyword, or one that shares its keyword with one of them.
+fn of_words(key: &[u8], rest: &[u8]) -> Option<Entry>
+    ensures some { IfSome result (λ y. (p : Place) (x : Entry) → is_entry_fit p x ≡ true → key.now ≡ front 32 (entry_text x) → rest.now ≡ behind 32 (entry_text x) → y ≡ x) }
+    ensures fit { IfSome result (λ y. (p : Place) → is_entry_fit p y ≡ true) }
+    ensures none { IfNone result ((x : Entry) → is_of_words x ≡ true → key.now ≢ front 32 (entry_text x)) }
+{
+    let (first, last) = cut(rest, b' ');
+    if key == b"cloned".as_slice() {
+        return Some(Entry::Cloned(clone(first), kind(last)));
+    }
+    if key == b"told".as_slice() {
+        return Some(Entry::Told(party(first), outcome(last)));
+    }
+    if key == b"promoted".as_slice() {
+        return Some(Entry::Promoted(identifier(first), cause(last)));
+    }
+    if key == b"down".as_slice() {
+        return Some(Entry::Down(connection(first), direction(last)));
+    }
+    if key == b"armed".as_slice() {
+        return Some(Entry::LogWord(LogNote::Armed(number8(first), image(last))));
+    }
+    if key == b"opened".as_slice() {
+        if last.is_empty() {
+            return Some(Entry::LogWord(LogNote::Opened(number16(rest))));
+        }
+        return Some(Entry::Scope(ScopeNote::Opened(scope(first), ambient(last))));
+    }
+    None
+}
+
+/// Reads the answer of a call.
+fn call(key: &[u8], rest: &[u8]) -> Option<Entry>
+    ensures some { IfSome result (λ y. (p : Place) (x : Entry) → is_entry_fit p x ≡ true → key.now ≡ front 32 (entry_text x) → rest.now ≡ behind 32 (entry_text x) → y ≡ x) }
+    ensures fit { IfSome result (λ y. (p : Place) → is_entry_fit p y ≡ true) }
+    ensures none { IfNone result ((x : Entry) → is_call x ≡ true → key.now ≢ front 32 (entry_text x)) }
+{
+    let (first, last) = cut(rest, b' ');
+    if key == b"call".as_slice() {
+        let (name, text) = cut(last, b' ');
+        return Some(Entry::Called(number32(first), actor(name), answer(text)));
+    }
+    if key == b"answer".as_slice() {
+        return Some(Entry::Answered(number32(first), answer(last)));
+    }
+    None
+}
+
+/// Reads an entry on a connection.
+fn crossing(at: Place, key: &[u8], rest: &[u8]) -> Entry
+    ensures found { (x : Entry) → is_entry_fit at x ≡ true → is_event x ≡ false → is_of_enlistment x ≡ false → is_about_enlistment x ≡ false → is_of_word x ≡ false → is_of_words x ≡ false → is_call x ≡ false → key.now ≡ front 32 (entry_text x) → rest.now ≡ behind 32 (entry_text x) → result ≡ x }
+    ensures fit { is_entry_fit at result ≡ true }
+{
+    let (first, last) = cut(rest, b' ');
+    let conn = connection(first);
+    let (word, text) = cut(last, b' ');
+    if key == b"cut".as_slice() {
+        return Entry::Cut(conn, number32(word), number32(text));
+    }
+    let d = direction(word);
+    let m = message(at, conn, d, text);
+    if key == b"sent".as_slice() {
+        return Entry::Sent(conn, d, m);
+    }
+    Entry::Got(conn, d, m)
+}
+
+/// Reads an entry at this place.
+pub fn entry(at: Place, text: &[u8]) -> Entry
+    ensures found { (x : Entry) → is_entry_fit at x ≡ true → text.now ≡ entry_text x → result ≡ x }
+    ensures fit { is_entry_fit at result ≡ true }
+{
+    if let Some(x) = event(text) {
+        return x;
+    }
+    let (key, rest) = cut(text, b' ');
+    if let Some(x) = of_enlistment(key, rest) {
+        return x;
+    }
+    if let Some(x) = about_enlistment(key, rest) {
+        return x;
+    }
+    if let Some(x) = of_word(key, rest) {
+        return x;
+    }
+    if let Some(x) = of_words(key, rest) {
+        return x;
+    }
+    if let Some(x) = call(key, rest) {
+        return x;
+    }
+    crossing(at, key, rest)
+}
