@@ -1,9 +1,6 @@
-pub mod Commands
 pub mod Cuts
-pub mod LineTexts
-pub mod Longer
 pub mod Numbers
-pub mod OneReading
-pub mod SameLines
-pub mod Scripts
-pub mod Tables
+pub mod Slots
+pub mod Places
+pub mod Splits
+pub mod Forms

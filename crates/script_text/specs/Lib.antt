@@ -1,2 +1,1 @@
 pub mod Reader
-pub mod Reading

@@ -1,10 +1,8 @@
 //! Texts of scripts.
 #![tactic(auto)]
 
-mod draft;
-mod lines;
-mod reader;
+mod commands;
+mod cursor;
 mod words;
 
-pub use dtx_values::{Line, Script};
-pub use reader::{Reading, read_script, reads_exactly};
+pub use dtx_values::{BadCause, Line, Script};
