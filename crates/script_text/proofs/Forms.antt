@@ -1,12 +1,12 @@
 -- The faults of words by forms that share their first place.
-use Rattle.std.proofs.Common.{◌≡◌, ℕ, ◌||◌, ◌&&◌, ◌∙◌, Bool, true, false, List, [], ◌∷◌, refl, ap, Option, Some, None, if◌then◌else◌}
+use Rattle.std.proofs.Common.{◌≡◌, ℕ, ◌||◌, ◌&&◌, ◌∙◌, Bool, true, false, List, [], ◌∷◌, refl, ap, Option, Some, None, if◌then◌else◌, codes}
 use Rattle.std.specs.List.{filter_map}
 use Rattle.dtx_values.specs.declared.script.BadCause.{BadCause}
 use Rattle.dtx_values.specs.declared.script.BadCause.TheVariants.{MissingWord}
 use Rattle.dtx_model.specs.Words.{has}
 use Rattle.dtx_model.specs.Outcome.{is_empty}
-use Rattle.dtx_model.specs.Faults.{Slot, allows, behind, looks_named, looks_numbered, wants_number, word_cause, word_fault}
-use Rattle.script_text.specs.Reader.{IsAt, ahead, place_fault, end_fault, cause_of, is_misnamed, is_misnumbered, is_numbered, first_fault, tail}
+use Rattle.dtx_model.specs.Faults.{Slot, allows, behind, looks_named, looks_numbered, wants_number, word_cause, word_fault, command_forms, line_forms, actor_slot, transaction_slot, enlistment_slot, scope_slot, manager_slot}
+use Rattle.script_text.specs.Reader.{IsAt, ahead, place_fault, end_fault, cause_of, is_misnamed, is_misnumbered, is_numbered, first_fault, tail, opening_forms, support_forms}
 
 -- the two ways to say that a word looks like a name, or like a number
 named-by_letters : (s : Slot) (w : List ℕ) → looks_named s w ≡ is_misnamed s.letters w
@@ -83,5 +83,23 @@ pub filled : (ws : List (List ℕ)) → word_fault ([] ∷ []) ws ≡ end_fault 
 unfolding end_fault
 filled [] = refl
 filled (w ∷ ws) = refl
+
+-- the words behind `open`, behind a durable's manager and behind an actor
+pub open_forms : (ws : List (List ℕ)) → word_fault command_forms (codes "open" ∷ ws) ≡ first_fault (place_fault scope_slot ws) (word_fault opening_forms (tail ws))
+open_forms ws = shared scope_slot _ _ ws
+
+-- the words behind `durable`
+pub durable_forms : (ws : List (List ℕ)) → word_fault command_forms (codes "durable" ∷ ws) ≡ first_fault (place_fault transaction_slot ws)
+    (first_fault (place_fault enlistment_slot (tail ws)) (first_fault (place_fault manager_slot (tail (tail ws))) (word_fault support_forms (tail (tail (tail ws))))))
+durable_forms ws =
+    let last = shared manager_slot _ _ (tail (tail ws)) in
+    let second : word_fault (ahead enlistment_slot (ahead manager_slot support_forms)) (tail ws)
+        ≡ first_fault (place_fault enlistment_slot (tail ws)) (first_fault (place_fault manager_slot (tail (tail ws))) (word_fault support_forms (tail (tail (tail ws)))))
+        = shared enlistment_slot _ _ (tail ws) ∙ ap (λ o. first_fault (place_fault enlistment_slot (tail ws)) o) last in
+    shared transaction_slot _ _ ws ∙ ap (λ o. first_fault (place_fault transaction_slot ws) o) second
+
+-- the words of a line
+pub line_form : (ws : List (List ℕ)) → word_fault line_forms ws ≡ first_fault (place_fault actor_slot ws) (word_fault command_forms (tail ws))
+line_form ws = shared actor_slot _ _ ws
 
 pub ruleset forms = (single, first-some, first-none, filled)

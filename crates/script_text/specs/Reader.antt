@@ -3,9 +3,12 @@ use Rattle.std.specs.Prelude.{ℕ, ◌≡◌, ◌≢◌, ◌==◌, ◌<◌, ◌|
 use Rattle.dtx_values.specs.declared.script.BadCause.{BadCause}
 use Rattle.dtx_values.specs.declared.script.BadCause.TheVariants.{MissingWord, UnknownWord, BadNumber, ExtraWord}
 use Rattle.dtx_values.specs.declared.script.Body.{Body}
+use Rattle.dtx_values.specs.declared.script.Opening.{Opening}
+use Rattle.dtx_values.specs.declared.script.Support.{Support}
+use Rattle.dtx_values.specs.declared.script.Line.{Line}
 use Rattle.dtx_model.specs.Words.{has}
-use Rattle.dtx_model.specs.Grammar.{command_words, is_in_range}
-use Rattle.dtx_model.specs.Faults.{Slot, allows, is_digit, is_letter, split, command_forms, word_fault}
+use Rattle.dtx_model.specs.Grammar.{words, command_words, opening_words, support_words, is_in_range, is_opening_in_range}
+use Rattle.dtx_model.specs.Faults.{Slot, allows, is_digit, is_letter, split, command_forms, word, transaction_slot, timeout_slot, iso_slot, vote_slot, owner_slot, word_fault, line_forms, words_of}
 
 -- no byte is c
 abbrev pub IsWithout : ℕ → List ℕ → Type 0
@@ -77,3 +80,48 @@ IsOther w (k ∷ ks) = (w ≢ k) × IsOther w ks
 -- what a command's reader says of its own word and the words behind it
 abbrev pub IsRead : List ℕ → List (List ℕ) → Result Body BadCause → Type 0
 IsRead w ws r = IsAnswer (w ∷ ws) (word_fault command_forms (w ∷ ws)) r
+
+-- the commands of transactions, enlistments and clones
+abbrev pub making_words : List (List ℕ)
+making_words = codes "begin" ∷ codes "volatile" ∷ codes "durable" ∷ codes "promotable" ∷ codes "clone" ∷ codes "complete" ∷ codes "commit" ∷ codes "rollback" ∷ []
+
+-- those of scopes and of a transaction's threads and messages
+abbrev pub asking_words : List (List ℕ)
+asking_words = codes "open" ∷ codes "finish" ∷ codes "close" ∷ codes "current" ∷ codes "marshal" ∷ codes "status" ∷ codes "await" ∷ codes "par" ∷ []
+
+-- those of time, steps, losses and recovery
+abbrev pub running_words : List (List ℕ)
+running_words = codes "tick" ∷ codes "do" ∷ codes "lose" ∷ codes "gone" ∷ codes "reenlist" ∷ codes "recovered" ∷ codes "stop" ∷ codes "restart" ∷ []
+
+-- the forms behind a scope's name
+abbrev pub opening_forms : List (List Slot)
+opening_forms =
+    (word (codes "required") ∷ transaction_slot ∷ timeout_slot ∷ iso_slot ∷ [])
+    ∷ (word (codes "requiresnew") ∷ transaction_slot ∷ timeout_slot ∷ iso_slot ∷ [])
+    ∷ (word (codes "suppress") ∷ [])
+    ∷ []
+
+abbrev pub opening_keys : List (List ℕ)
+opening_keys = codes "required" ∷ codes "requiresnew" ∷ codes "suppress" ∷ []
+
+-- what a reader of the words behind a scope's name says of them
+abbrev pub IsOpening : List (List ℕ) → Result Opening BadCause → Type 0
+IsOpening ws (Ok o) = (ws ≡ opening_words o) × (is_opening_in_range o ≡ true) × (word_fault opening_forms ws ≡ None)
+IsOpening ws (Err c) = word_fault opening_forms ws ≡ Some c
+
+-- the forms behind a durable's manager
+abbrev pub support_forms : List (List Slot)
+support_forms = (word (codes "single") ∷ vote_slot ∷ owner_slot ∷ []) ∷ (word (codes "two") ∷ vote_slot ∷ []) ∷ []
+
+abbrev pub support_keys : List (List ℕ)
+support_keys = codes "single" ∷ codes "two" ∷ []
+
+-- what a reader of the words behind a durable's manager says of them
+abbrev pub IsSupport : List (List ℕ) → Result Support BadCause → Type 0
+IsSupport ws (Ok s) = (ws ≡ support_words s) × (word_fault support_forms ws ≡ None)
+IsSupport ws (Err c) = word_fault support_forms ws ≡ Some c
+
+-- what a reader of a line without its LF says of its words
+abbrev pub IsLine : List ℕ → Result Line BadCause → Type 0
+IsLine t (Ok l) = (words_of t ≡ words l) × (is_in_range l.body ≡ true) × (word_fault line_forms (words_of t) ≡ None)
+IsLine t (Err c) = word_fault line_forms (words_of t) ≡ Some c

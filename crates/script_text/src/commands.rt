@@ -1,28 +1,40 @@
-//! The commands of a line.
-ghost use Rattle.std.specs.Prelude.{codes};
-ghost use Rattle.script_text.specs.Reader.{IsRead};
+//! The line, by its words.
+ghost use Rattle.std.specs.Prelude.{◌≡◌};
+ghost use Rattle.dtx_model.specs.Faults.{command_forms, word_fault};
+ghost use Rattle.script_text.specs.Reader.{IsAnswer, IsLine};
 
+use crate::asking::asking;
 use crate::cursor::Words;
-use dtx_values::{BadCause, Body};
+use crate::making::making;
+use crate::running::running;
+use dtx_values::{BadCause, Body, Line};
 
-/// Reads the words behind `begin`.
-#[tactic(auto, using(crate::proofs::Forms::forms))]
-fn begin(words: &mut Words<'_>) -> Result<Body, BadCause>
-    ensures { IsRead (codes "begin") words.old result }
+/// Reads a command.
+fn command(words: &mut Words<'_>) -> Result<Body, BadCause>
+    ensures { IsAnswer words.old (word_fault command_forms words.old) result }
 {
-    let t = words.transaction()?;
-    let d = words.timeout()?;
-    words.end()?;
-    Ok(Body::Begin(t, d))
+    let Some(word) = words.next() else {
+        return Err(BadCause::MissingWord);
+    };
+    if let Some(body) = making(word, words) {
+        return body;
+    }
+    if let Some(body) = asking(word, words) {
+        return body;
+    }
+    if let Some(body) = running(word, words) {
+        return body;
+    }
+    Err(BadCause::UnknownWord)
 }
 
-/// Reads the words behind `tick`.
-#[tactic(auto, using(crate::proofs::Forms::forms))]
-fn tick(words: &mut Words<'_>) -> Result<Body, BadCause>
-    ensures { IsRead (codes "tick") words.old result }
+/// Reads a line without its LF.
+#[tactic(auto, using(crate::proofs::Forms::forms, crate::proofs::Forms::line_form))]
+pub fn line(text: &[u8]) -> Result<Line, BadCause>
+    ensures { IsLine text.now result }
 {
-    let t = words.transaction()?;
-    let n = words.number(1, 1_000_000_000)?;
-    words.end()?;
-    Ok(Body::Tick(t, n))
+    let mut words = Words::new(text);
+    let actor = words.actor()?;
+    let body = command(&mut words)?;
+    Ok(Line { actor, body })
 }

@@ -13,6 +13,7 @@ use dtx_values::{
 use std::marker::Model;
 
 /// The words of a line that are left. Contracts see their list.
+#[derive(Drop)]
 pub struct Words<'a> {
     some: bool,
     rest: &'a [u8],

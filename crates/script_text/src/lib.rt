@@ -1,8 +1,12 @@
 //! Texts of scripts.
 #![tactic(auto)]
 
+mod asking;
 mod commands;
 mod cursor;
+mod making;
+mod parts;
+mod running;
 mod words;
 
 pub use dtx_values::{BadCause, Line, Script};
