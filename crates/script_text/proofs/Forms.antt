@@ -78,6 +78,16 @@ pub first-none : (o : Option BadCause) → first_fault None o ≡ o
 unfolding first_fault
 first-none o = refl
 
+-- where the first word is taken, the form goes on behind it
+pub pass_one : (s : Slot) (f : List Slot) (ws : List (List ℕ)) (w : List ℕ) (new : List (List ℕ)) → IsAt s ws w new → word_fault ((s ∷ f) ∷ []) ws ≡ word_fault (f ∷ []) new
+unfolding first_fault
+pass_one s f ws w new h = single s f ws ∙ rw (h.1, h.2) refl
+
+-- where it may not stand, there is its cause
+pub stop_one : (s : Slot) (f : List Slot) (ws : List (List ℕ)) (c : BadCause) → place_fault s ws ≡ Some c → word_fault ((s ∷ f) ∷ []) ws ≡ Some c
+unfolding first_fault
+stop_one s f ws c h = single s f ws ∙ rw h refl
+
 -- a form that is filled
 pub filled : (ws : List (List ℕ)) → word_fault ([] ∷ []) ws ≡ end_fault ws
 unfolding end_fault

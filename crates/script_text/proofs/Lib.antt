@@ -4,3 +4,4 @@ pub mod Slots
 pub mod Places
 pub mod Splits
 pub mod Forms
+pub mod Keys
