@@ -1,5 +1,5 @@
 -- What the reader's parts read.
-use Rattle.std.specs.Prelude.{ℕ, ◌≡◌, ◌≢◌, ◌==◌, ◌<◌, ◌||◌, ◌&&◌, not, Bool, true, false, List, ◌∷◌, [], codes, Option, Some, None, Result, Ok, Err, length, slice_index_or, if◌then◌else◌}
+use Rattle.std.specs.Prelude.{ℕ, ◌≡◌, ◌≢◌, ◌==◌, ◌<◌, ◌≤◌, ◌||◌, ◌&&◌, not, Bool, true, false, List, ◌∷◌, [], codes, Option, Some, None, Result, Ok, Err, length, slice_index_or, if◌then◌else◌}
 use Rattle.dtx_values.specs.declared.script.BadCause.{BadCause}
 use Rattle.dtx_values.specs.declared.script.BadCause.TheVariants.{MissingWord, UnknownWord, BadNumber, ExtraWord}
 use Rattle.dtx_values.specs.declared.script.Body.{Body}
@@ -7,7 +7,7 @@ use Rattle.dtx_values.specs.declared.script.Opening.{Opening}
 use Rattle.dtx_values.specs.declared.script.Support.{Support}
 use Rattle.dtx_values.specs.declared.script.Line.{Line}
 use Rattle.dtx_model.specs.Words.{has}
-use Rattle.dtx_model.specs.Grammar.{words, command_words, opening_words, support_words, is_in_range, is_opening_in_range}
+use Rattle.dtx_model.specs.Grammar.{words, command_words, opening_words, support_words, is_in_range, is_opening_in_range, is_made, is_lasting, is_lasting_of, is_par, OfTransaction, OfEnlistment, OfClone, OfScope}
 use Rattle.dtx_model.specs.Faults.{Slot, allows, is_digit, is_letter, split, command_forms, word, transaction_slot, timeout_slot, iso_slot, vote_slot, owner_slot, word_fault, line_forms, words_of}
 
 -- no byte is c
@@ -125,3 +125,18 @@ IsSupport ws (Err c) = word_fault support_forms ws ≡ Some c
 abbrev pub IsLine : List ℕ → Result Line BadCause → Type 0
 IsLine t (Ok l) = (words_of t ≡ words l) × (is_in_range l.body ≡ true) × (word_fault line_forms (words_of t) ≡ None)
 IsLine t (Err c) = word_fault line_forms (words_of t) ≡ Some c
+
+-- the tables say of each number whether its name is made, and of each enlistment of which transaction it is a durable or promotable one: 0 for none
+pub record AreMade (past : List Line) (transactions enlistments clones scopes : List Bool) (owners : List ℕ) (par : Bool) : Type 0 where
+  pub transactions_long : length transactions ≡ 257
+  pub enlistments_long : length enlistments ≡ 10000
+  pub clones_long : length clones ≡ 10000
+  pub scopes_long : length scopes ≡ 10000
+  pub owners_long : length owners ≡ 10000
+  pub transaction : (n : ℕ) → n < 257 → slice_index_or transactions n false ≡ is_made past (OfTransaction n)
+  pub enlistment : (n : ℕ) → n < 10000 → slice_index_or enlistments n false ≡ is_made past (OfEnlistment n)
+  pub clone : (n : ℕ) → n < 10000 → slice_index_or clones n false ≡ is_made past (OfClone n)
+  pub scope : (n : ℕ) → n < 10000 → slice_index_or scopes n false ≡ is_made past (OfScope n)
+  pub lasting : (n : ℕ) → n < 10000 → not (slice_index_or owners n 0 == 0) ≡ is_lasting past n
+  pub owner : (t n : ℕ) → 1 ≤ t → n < 10000 → (t == slice_index_or owners n 0) ≡ is_lasting_of past t n
+  pub par_stands : par ≡ has (λ l. is_par l.body) past

@@ -4,6 +4,7 @@
 mod asking;
 mod commands;
 mod cursor;
+mod draft;
 mod making;
 mod parts;
 mod running;
