@@ -5,3 +5,5 @@ pub mod Places
 pub mod Splits
 pub mod Forms
 pub mod Keys
+pub mod Tables
+pub mod Fronts

@@ -1,14 +1,14 @@
 -- What the reader's parts read.
-use Rattle.std.specs.Prelude.{ℕ, ◌≡◌, ◌≢◌, ◌==◌, ◌<◌, ◌≤◌, ◌||◌, ◌&&◌, not, Bool, true, false, List, ◌∷◌, [], codes, Option, Some, None, Result, Ok, Err, length, slice_index_or, if◌then◌else◌}
+use Rattle.std.specs.Prelude.{ℕ, ◌≡◌, ◌≢◌, ◌==◌, ◌<◌, ◌≤◌, ◌||◌, ◌&&◌, not, Bool, true, false, List, ◌∷◌, ◌++◌, [], codes, Option, Some, None, Result, Ok, Err, length, slice_index_or, if◌then◌else◌}
 use Rattle.dtx_values.specs.declared.script.BadCause.{BadCause}
 use Rattle.dtx_values.specs.declared.script.BadCause.TheVariants.{MissingWord, UnknownWord, BadNumber, ExtraWord}
 use Rattle.dtx_values.specs.declared.script.Body.{Body}
 use Rattle.dtx_values.specs.declared.script.Opening.{Opening}
 use Rattle.dtx_values.specs.declared.script.Support.{Support}
 use Rattle.dtx_values.specs.declared.script.Line.{Line}
-use Rattle.dtx_model.specs.Words.{has}
-use Rattle.dtx_model.specs.Grammar.{words, command_words, opening_words, support_words, is_in_range, is_opening_in_range, is_made, is_lasting, is_lasting_of, is_par, OfTransaction, OfEnlistment, OfClone, OfScope}
-use Rattle.dtx_model.specs.Faults.{Slot, allows, is_digit, is_letter, split, command_forms, word, transaction_slot, timeout_slot, iso_slot, vote_slot, owner_slot, word_fault, line_forms, words_of}
+use Rattle.dtx_model.specs.Words.{has, past_of}
+use Rattle.dtx_model.specs.Grammar.{words, line_text, IsScript, command_words, opening_words, support_words, is_in_range, is_opening_in_range, is_made, is_lasting, is_lasting_of, is_par, OfTransaction, OfEnlistment, OfClone, OfScope}
+use Rattle.dtx_model.specs.Faults.{Slot, allows, is_digit, is_letter, split, command_forms, word, transaction_slot, timeout_slot, iso_slot, vote_slot, owner_slot, word_fault, line_forms, words_of, name_fault}
 
 -- no byte is c
 abbrev pub IsWithout : ℕ → List ℕ → Type 0
@@ -140,3 +140,7 @@ pub record AreMade (past : List Line) (transactions enlistments clones scopes : 
   pub lasting : (n : ℕ) → n < 10000 → not (slice_index_or owners n 0 == 0) ≡ is_lasting past n
   pub owner : (t n : ℕ) → 1 ≤ t → n < 10000 → (t == slice_index_or owners n 0) ≡ is_lasting_of past t n
   pub par_stands : par ≡ has (λ l. is_par l.body) past
+
+-- the bytes begin with this line, which may follow these ones
+abbrev pub Continues : List Line → List ℕ → Line → List ℕ → Type 0
+Continues s bytes l after = (bytes ≡ line_text l ++ after) × IsScript (s ++ l ∷ []) × (name_fault (past_of s) l ≡ None)

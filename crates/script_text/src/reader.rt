@@ -1,0 +1,108 @@
+//! Reads scripts.
+ghost use Rattle.std.specs.Prelude.{◌≡◌, ◌≤◌, ◌+◌, ◌++◌, ◌∷◌, IfOk, IfErr, length, true};
+ghost use Rattle.dtx_model.specs.Words.{each};
+ghost use Rattle.dtx_model.specs.Grammar.{is_from, script_text, IsScript, Reads};
+ghost use Rattle.dtx_model.specs.Faults.{front, form_fault, line_forms, word_fault, words_of, IsBadFor};
+ghost use Rattle.script_text.specs.Reader.{Continues};
+ghost use Rattle.script_text.specs.Reading.{IsRefused};
+
+use crate::commands::line;
+use crate::draft::Draft;
+use crate::words::cut;
+use dtx_values::{BadCause, Line, Script};
+use std::alloc::Global;
+
+/// The most bytes of a script.
+const SCRIPT_LENGTH: usize = 1_048_576;
+
+/// The most bytes of a line before its LF.
+const LINE_LENGTH: usize = 200;
+
+/// Why bytes are no script.
+#[derive(Clone, Copy, PartialEq, Eq, Debug)]
+pub enum ScriptError {
+    /// The first bad line, from 1, and its first cause.
+    BadScript(u32, BadCause),
+    Memory,
+}
+
+fn are_printable(text: &[u8]) -> bool
+    ensures { result ≡ each (is_from 32 126) text.now }
+{
+    text.iter().all(|b| 32 <= *b && *b <= 126)
+}
+
+/// The text of the line at the front, without its LF, and what follows it, behind so many bytes. Its words are
+/// not looked at.
+fn front_line(taken: usize, rest: &[u8]) -> Result<(&[u8], &[u8]), BadCause>
+    requires { taken ≤ 1048576 }
+    ensures text { IfOk result (λ p. front rest.now ≡ p.0.now) }
+    ensures cut { IfOk result (λ p. rest.now ≡ p.0.now ++ 10 ∷ p.1.now) }
+    ensures short { IfOk result (λ p. length p.0.now ≤ 200) }
+    ensures within { IfOk result (λ p. taken + length p.0.now + 1 ≤ 1048576) }
+    ensures words { IfOk result (λ p. form_fault taken rest.now ≡ word_fault line_forms (words_of p.0.now)) }
+    ensures bad { IfErr result (λ c. form_fault taken rest.now ≡ Some c) }
+{
+    let Some((text, after)) = cut(rest, b'\n') else {
+        if taken + rest.len() > SCRIPT_LENGTH {
+            return Err(BadCause::TooLong);
+        }
+        if rest.len() > LINE_LENGTH {
+            return Err(BadCause::LongLine);
+        }
+        return Err(BadCause::NoNewline);
+    };
+    if taken + (text.len() + 1) > SCRIPT_LENGTH {
+        return Err(BadCause::TooLong);
+    }
+    if text.len() > LINE_LENGTH {
+        return Err(BadCause::LongLine);
+    }
+    if !are_printable(text) {
+        return Err(BadCause::BadByte);
+    }
+    Ok((text, after))
+}
+
+/// Reads the line at the front where it may follow the draft, whose lines have `taken` bytes, and gives what
+/// follows it.
+fn next_line<'a>(
+    draft: &Draft,
+    taken: usize,
+    rest: &'a [u8],
+) -> Result<(Line, &'a [u8]), BadCause>
+    requires script { IsScript draft.now }
+    requires taken { taken ≡ length (script_text draft.now) }
+    ensures ok { IfOk result (λ p. Continues draft.now rest.now p.0 p.1.now) }
+    ensures bad { IfErr result (λ c. IsBadFor draft.now rest.now c) }
+{
+    let (text, after) = front_line(taken, rest)?;
+    let line = line(text)?;
+    match draft.fault(&line) {
+        Some(cause) => Err(cause),
+        None => Ok((line, after)),
+    }
+}
+
+/// Reads the bytes of a script.
+pub fn read_script(alloc: Global, bytes: &[u8]) -> Result<Script, ScriptError>
+    ensures read { IfOk result (λ s. Reads bytes.now s) }
+    ensures bad { IfErr result (λ e. IsRefused bytes.now e) }
+{
+    let Ok(mut draft) = Draft::new(alloc) else {
+        return Err(ScriptError::Memory);
+    };
+    let mut rest = bytes;
+    while !rest.is_empty() {
+        match next_line(&draft, bytes.len() - rest.len(), rest) {
+            Ok((line, after)) => {
+                if draft.push(line).is_err() {
+                    return Err(ScriptError::Memory);
+                }
+                rest = after;
+            }
+            Err(cause) => return Err(ScriptError::BadScript(draft.len() as u32 + 1, cause)),
+        }
+    }
+    Ok(draft.into_script())
+}
