@@ -8,7 +8,7 @@ use Rattle.dtx_values.specs.declared.script.Line.{Line}
 use Rattle.dtx_model.specs.Words.{has, each}
 use Rattle.dtx_model.specs.Grammar.{is_from, words, line_text}
 use Rattle.dtx_model.specs.Faults.{front, has_newline, reach, push, split, words_of, form_fault, word_fault, line_forms}
-use Rattle.dtx_model.proofs.Bools.{or_first, or_second}
+use Rattle.dtx_model.proofs.Bools.{or_first, or_second, or_right}
 use Rattle.script_text.specs.Reader.{IsWithout}
 
 -- bytes with an LF have the line before it at their front
@@ -18,11 +18,7 @@ front_cut (b ∷ t) r h = rw (or_first (b == 10) (has (λ x. x == 10) t) h, fron
 
 newline_cut : (t r : List ℕ) → has_newline (t ++ 10 ∷ r) ≡ true
 newline_cut [] r = refl
-newline_cut (b ∷ t) r = rw (newline_cut t r) (or_true (b == 10))
-  where
-    or_true : (a : Bool) → (if a then true else true) ≡ true
-    or_true true = refl
-    or_true false = refl
+newline_cut (b ∷ t) r = or_right (b == 10) _ (newline_cut t r)
 
 -- bytes without LF are all in front
 pub front_whole : (t : List ℕ) → IsWithout 10 t → front t ≡ t
@@ -102,13 +98,24 @@ split_first (b ∷ bs) = either (b == 32)
     either true = record { first = []; others = split bs; is = refl }
     either false = pushed_first b (split bs)
 
+join_empty : (ws : List (List ℕ)) → HasFirst ws → join_with_byte 32 ([] ∷ ws) ≡ 32 ∷ join_with_byte 32 ws
+join_empty ws h = rw h.is refl
+
+join_pushed : (b : ℕ) (ws : List (List ℕ)) → HasFirst ws → join_with_byte 32 (push b ws) ≡ b ∷ join_with_byte 32 ws
+join_pushed b ws h = rw h.is (join_push b h.first h.others)
+
+-- words split at a first byte are the bytes again
+join_more : (b : ℕ) (bs : List ℕ) (t : Bool) → (b == 32) ≡ t → join_with_byte 32 (split bs) ≡ bs → join_with_byte 32 (if t then [] ∷ split bs else push b (split bs)) ≡ b ∷ bs
+join_more b bs true e h =
+    let space : b ≡ 32 = grind (arith, nat_tests) in
+    join_empty (split bs) (split_first bs) ∙ ap (λ t. 32 ∷ t) h ∙ ap (λ x. x ∷ bs) (sym space)
+join_more b bs false e h = join_pushed b (split bs) (split_first bs) ∙ ap (λ t. b ∷ t) h
+
 join_split : (bs : List ℕ) → join_with_byte 32 (split bs) ≡ bs
 join_split [] = refl
-join_split (b ∷ bs) = either (b == 32) refl
-  where
-    either : (t : Bool) → (b == 32) ≡ t → join_with_byte 32 (if t then [] ∷ split bs else push b (split bs)) ≡ b ∷ bs
-    either t e = ?
+join_split (b ∷ bs) = join_more b bs (b == 32) refl (join_split bs)
 
+-- so are those of a line
 pub join_words : (bs : List ℕ) → join_with_byte 32 (words_of bs) ≡ bs
 join_words [] = refl
 join_words (b ∷ bs) = join_split (b ∷ bs)

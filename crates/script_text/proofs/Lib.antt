@@ -7,3 +7,4 @@ pub mod Forms
 pub mod Keys
 pub mod Tables
 pub mod Fronts
+pub mod Scripts
