@@ -2,7 +2,6 @@
 use Rattle.std.proofs.Common.{◌≡◌, ℕ, ◌||◌, ◌&&◌, ◌∙◌, Bool, true, false, List, [], ◌∷◌, refl, ap, Option, Some, None, if◌then◌else◌, codes}
 use Rattle.std.specs.List.{filter_map}
 use Rattle.dtx_values.specs.declared.script.BadCause.{BadCause}
-use Rattle.dtx_values.specs.declared.script.BadCause.TheVariants.{MissingWord}
 use Rattle.dtx_model.specs.Words.{has}
 use Rattle.dtx_model.specs.Outcome.{is_empty}
 use Rattle.dtx_model.specs.Faults.{Slot, allows, behind, looks_named, looks_numbered, wants_number, word_cause, word_fault, command_forms, line_forms, actor_slot, transaction_slot, enlistment_slot, scope_slot, manager_slot}

@@ -7,7 +7,7 @@ use Rattle.dtx_values.specs.declared.script.BadCause.TheVariants.{TooLong, LongL
 use Rattle.dtx_values.specs.declared.script.Line.{Line}
 use Rattle.dtx_model.specs.Words.{has, each}
 use Rattle.dtx_model.specs.Grammar.{is_from, words, line_text}
-use Rattle.dtx_model.specs.Faults.{front, has_newline, reach, push, split, words_of, form_fault, word_fault, line_forms}
+use Rattle.dtx_model.specs.Faults.{front, has_newline, push, split, words_of, form_fault, word_fault, line_forms}
 use Rattle.dtx_model.proofs.Bools.{or_first, or_second, or_right}
 use Rattle.script_text.specs.Reader.{IsWithout}
 

@@ -1,12 +1,11 @@
 -- Words that are none of the words that forms begin with.
-use Rattle.std.proofs.Common.{◌≡◌, ◌≢◌, ℕ, ◌==◌, ◌||◌, ◌&&◌, not, Bool, true, false, List, [], ◌∷◌, ◌++◌, refl, arith, Option, Some, None, sym, subst, rules}
+use Rattle.std.proofs.Common.{◌≡◌, ◌≢◌, ℕ, ◌||◌, true, false, List, [], ◌∷◌, ◌++◌, refl, Some, None, subst, rules}
 use Rattle.std.specs.List.{filter_map}
-use Rattle.std.proofs.lemmas.Bool.Decides.{nat_tests}
 use Rattle.dtx_values.specs.declared.script.BadCause.TheVariants.{UnknownWord}
-use Rattle.dtx_model.specs.Words.{has, each}
+use Rattle.dtx_model.specs.Words.{has}
 use Rattle.dtx_model.specs.Outcome.{is_empty}
-use Rattle.dtx_model.specs.Faults.{Slot, allows, one_of, same_bytes, behind, looks_named, looks_numbered, wants_number, word, word_cause, word_fault, command_forms}
-use Rattle.dtx_model.proofs.Bools.{and_left, and_right, or_false, or_case}
+use Rattle.dtx_model.specs.Faults.{Slot, same_bytes, behind, looks_named, looks_numbered, wants_number, word, word_fault, command_forms}
+use Rattle.dtx_model.proofs.Bools.{or_false, or_case}
 use Rattle.script_text.specs.Reader.{IsOther, opening_forms, opening_keys, making_words, asking_words, running_words}
 use Rattle.script_text.proofs.Numbers.{same_bytes-equal}
 use Rattle.script_text.proofs.Slots.{allows-none}

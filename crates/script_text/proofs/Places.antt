@@ -1,9 +1,9 @@
 -- The faults of words, place by place.
-use Rattle.std.proofs.Common.{◌≡◌, ℕ, ◌||◌, ◌&&◌, Bool, true, false, List, [], ◌∷◌, refl, Option, Some, None, sym, subst, ◌∙◌, ap, decimal}
+use Rattle.std.proofs.Common.{◌≡◌, ℕ, true, false, List, [], ◌∷◌, refl, Some, None, ◌∙◌, ap}
 use Rattle.dtx_values.specs.declared.script.BadCause.{BadCause}
-use Rattle.dtx_values.specs.declared.script.BadCause.TheVariants.{MissingWord, UnknownWord, BadNumber, ExtraWord}
+use Rattle.dtx_values.specs.declared.script.BadCause.TheVariants.{MissingWord}
 use Rattle.dtx_model.specs.Faults.{Slot, allows}
-use Rattle.script_text.specs.Reader.{IsAt, place_fault, end_fault, cause_of, is_numbered, tail}
+use Rattle.script_text.specs.Reader.{IsAt, place_fault, cause_of, is_numbered, tail}
 
 -- no word is there
 pub missing : (s : Slot) (old : List (List ℕ)) → old ≡ [] → place_fault s old ≡ Some MissingWord

@@ -1,5 +1,5 @@
 -- What may stand at a place.
-use Rattle.std.proofs.Common.{◌≡◌, ◌≢◌, ℕ, ◌==◌, ◌||◌, ◌&&◌, ◌^◌, ◌<◌, Bool, true, false, List, [], ◌∷◌, refl, arith, Option, Some, None, decimal}
+use Rattle.std.proofs.Common.{◌≡◌, ℕ, ◌==◌, ◌||◌, ◌^◌, ◌<◌, Bool, true, false, List, [], ◌∷◌, refl, arith, Option, Some, None, decimal}
 use Rattle.dtx_values.specs.declared.message.Conn.{Conn}
 use Rattle.dtx_values.specs.declared.message.Conn.TheVariants.{Begin as OnBegin, Voter as OnVoter, Enl as OnEnl, Again}
 use Rattle.dtx_values.specs.declared.script.EnlistOption.{EnlistOption}
@@ -8,7 +8,6 @@ use Rattle.dtx_values.specs.declared.words.CloneKind.{CloneKind}
 use Rattle.dtx_values.specs.declared.words.CloneKind.TheVariants.{Block, Rollback as RollbackKind}
 use Rattle.dtx_values.specs.declared.words.Image.{Image}
 use Rattle.dtx_values.specs.declared.words.Image.TheVariants.{Lose, Keep, Torn}
-use Rattle.dtx_values.specs.declared.words.Iso.{Iso}
 use Rattle.dtx_values.specs.declared.words.Iso.TheVariants.{Serializable, RepeatableRead, ReadCommitted, ReadUncommitted, Snapshot, Chaos, Unspecified}
 use Rattle.dtx_values.specs.declared.words.IsoWord.{IsoWord}
 use Rattle.dtx_values.specs.declared.words.Outcome.{Outcome}
@@ -19,9 +18,9 @@ use Rattle.dtx_values.specs.declared.words.Vote.{Vote}
 use Rattle.dtx_values.specs.declared.words.Vote.TheVariants.{Yes, No, Done}
 use Rattle.dtx_values.specs.declared.words.IsoWord.TheVariants.{Default as DefaultIso, Level}
 use Rattle.dtx_model.specs.Words.{has}
-use Rattle.dtx_model.proofs.Bools.{or_false, and_both, or_right}
+use Rattle.dtx_model.proofs.Bools.{or_false, or_right}
 use Rattle.dtx_model.specs.Grammar.{is_from, is_timeout, connection_word, timeout_word, option_word, vote_word, owner_word, promote_word, kind_word, image_word, asked_iso_word}
-use Rattle.dtx_model.specs.Faults.{Slot, same_bytes, writes, one_of, named, number, is_name, is_number, allows, connection_slot, timeout_slot, option_slot, vote_slot, owner_slot, promote_slot, kind_slot, image_slot, iso_slot}
+use Rattle.dtx_model.specs.Faults.{Slot, same_bytes, writes, one_of, named, number, is_name, allows, connection_slot, timeout_slot, option_slot, vote_slot, owner_slot, promote_slot, kind_slot, image_slot, iso_slot}
 use Rattle.script_text.specs.Reader.{IsOther}
 use Rattle.script_text.proofs.Numbers.{same_bytes-other, writes-decimal, to_high}
 use Rattle.std.proofs.lemmas.Bool.Decides.{nat_tests}

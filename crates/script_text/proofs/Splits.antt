@@ -1,8 +1,7 @@
 -- Bytes split at their spaces.
-use Rattle.std.proofs.Common.{◌≡◌, ℕ, ◌==◌, Bool, true, false, List, [], ◌∷◌, ◌++◌, refl, ap, sym, ◌∙◌, Some, arith, if◌then◌else◌}
-use Rattle.std.proofs.lemmas.Bool.Decides.{nat_tests}
+use Rattle.std.proofs.Common.{◌≡◌, ℕ, ◌==◌, Bool, true, false, List, [], ◌∷◌, ◌++◌, refl, Some, if◌then◌else◌}
 use Rattle.dtx_values.specs.declared.script.BadCause.TheVariants.{ExtraWord}
-use Rattle.dtx_model.specs.Faults.{push, split, words_of}
+use Rattle.dtx_model.specs.Faults.{push, split}
 use Rattle.dtx_model.proofs.Bools.{or_first, or_second}
 use Rattle.dtx_model.specs.Words.{has}
 use Rattle.script_text.specs.Reader.{IsWithout, words_left, end_fault}

@@ -1,4 +1,4 @@
-use Rattle.std.proofs.Common.{rules, arith, ◌≡◌, ◌∷◌, ◌∙◌, Some, codes}
+use Rattle.std.proofs.Common.{arith, ◌≡◌, ◌∷◌, ◌∙◌, Some, codes}
 use Rattle.dtx_model.specs.Faults.{word_fault, command_forms}
 use Rattle.script_text.proofs.Forms.{pass_one, stop_one}
 use Rattle.script_text.proofs.making.promotable.Goals as goal

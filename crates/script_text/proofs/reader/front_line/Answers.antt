@@ -1,5 +1,5 @@
 use Rattle.std.proofs.Common.{arith, rules, true, false}
-use Rattle.script_text.proofs.Fronts.{front_cut, cut_front, whole_front, too_long, long_line, no_newline, cut_line}
+use Rattle.script_text.proofs.Fronts.{cut_front, whole_front, too_long, long_line, no_newline, cut_line}
 use Rattle.script_text.proofs.reader.front_line.Goals as goal
 
 pub returns-then-taken-rest-gt-SCRIPT_LENGTH-clause-bad : goal.returns-then-taken-rest-gt-SCRIPT_LENGTH-clause-bad

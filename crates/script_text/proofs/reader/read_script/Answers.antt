@@ -1,6 +1,5 @@
-use Rattle.std.proofs.Common.{◌≡◌, ◌≢◌, ◌++◌, ◌∷◌, [], List, ℕ, arith, rules, sym, subst}
-use Rattle.dtx_values.specs.declared.script.Line.{Line}
-use Rattle.dtx_model.specs.Grammar.{script_text, IsScript}
+use Rattle.std.proofs.Common.{◌≡◌, ◌++◌, ◌∷◌, [], arith, rules, sym, subst}
+use Rattle.dtx_model.specs.Grammar.{IsScript}
 use Rattle.script_text.proofs.Scripts.{bytes_more, length_script}
 use Rattle.script_text.proofs.reader.read_script.Goals as goal
 

@@ -1,4 +1,4 @@
-use Rattle.std.proofs.Common.{arith, rules, subst, sym, false, ◌≡◌, List, ℕ}
+use Rattle.std.proofs.Common.{arith, rules, false, ◌≡◌}
 use Rattle.dtx_model.specs.Grammar.{is_from}
 use Rattle.dtx_model.specs.Faults.{allows, number}
 use Rattle.script_text.proofs.Cuts.{if_none}

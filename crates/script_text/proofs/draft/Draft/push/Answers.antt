@@ -1,9 +1,7 @@
-use Rattle.std.proofs.Common.{◌≡◌, ◌∷◌, [], ◌++◌, None, ◌∙◌, ap, sym, subst, rules, List, ℕ}
-use Rattle.dtx_values.specs.declared.script.Line.{Line}
+use Rattle.std.proofs.Common.{◌≡◌, ◌∷◌, [], ◌++◌, None, ◌∙◌, ap, rules}
 use Rattle.dtx_model.specs.Words.{past_of}
 use Rattle.dtx_model.specs.Faults.{name_fault}
 use Rattle.dtx_model.proofs.Histories.{past_of-snoc}
-use Rattle.script_text.specs.Reader.{AreMade}
 use Rattle.script_text.proofs.Tables.{lasting_more}
 use Rattle.script_text.proofs.draft.Draft.push.Goals as goal
 
