@@ -103,8 +103,8 @@ pub durable_forms : (ws : List (List ℕ)) → word_fault command_forms (codes "
 durable_forms ws =
     let last = shared manager_slot _ _ (tail (tail ws)) in
     let second : word_fault (ahead enlistment_slot (ahead manager_slot support_forms)) (tail ws)
-        ≡ first_fault (place_fault enlistment_slot (tail ws)) (first_fault (place_fault manager_slot (tail (tail ws))) (word_fault support_forms (tail (tail (tail ws)))))
-        = shared enlistment_slot _ _ (tail ws) ∙ ap (λ o. first_fault (place_fault enlistment_slot (tail ws)) o) last in
+    ≡ first_fault (place_fault enlistment_slot (tail ws)) (first_fault (place_fault manager_slot (tail (tail ws))) (word_fault support_forms (tail (tail (tail ws)))))
+    = shared enlistment_slot _ _ (tail ws) ∙ ap (λ o. first_fault (place_fault enlistment_slot (tail ws)) o) last in
     shared transaction_slot _ _ ws ∙ ap (λ o. first_fault (place_fault transaction_slot ws) o) second
 
 -- the words of a line

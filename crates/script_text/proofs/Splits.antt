@@ -42,4 +42,3 @@ last_word s rest t h = rw t (split_none rest h)
 
 pub left_over : (s : Bool) (rest : List ℕ) → s ≡ true → end_fault (words_left s rest) ≡ Some ExtraWord
 left_over s rest t = rw t (split_some rest)
-

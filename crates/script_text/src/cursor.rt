@@ -7,8 +7,8 @@ ghost use Rattle.script_text.specs.Reader.{IsAt, place_fault, end_fault};
 use crate::words;
 use crate::words::{cause, cut};
 use dtx_values::{
-    ActorNo, BadCause, CloneKind, CloneNo, Conn, EnlNo, EnlistOption, Image, IsoWord, Outcome, RmNo,
-    ScopeNo, Timeout, TxNo, Vote,
+    ActorNo, BadCause, CloneKind, CloneNo, Conn, EnlNo, EnlistOption, Image, IsoWord, Outcome,
+    RmNo, ScopeNo, Timeout, TxNo, Vote,
 };
 use std::marker::Model;
 

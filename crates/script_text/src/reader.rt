@@ -66,11 +66,7 @@ fn front_line(taken: usize, rest: &[u8]) -> Result<(&[u8], &[u8]), BadCause>
 
 /// Reads the line at the front where it may follow the draft, whose lines have `taken` bytes, and gives what
 /// follows it.
-fn next_line<'a>(
-    draft: &Draft,
-    taken: usize,
-    rest: &'a [u8],
-) -> Result<(Line, &'a [u8]), BadCause>
+fn next_line<'a>(draft: &Draft, taken: usize, rest: &'a [u8]) -> Result<(Line, &'a [u8]), BadCause>
     requires script { IsScript draft.now }
     requires taken { taken ≡ length (script_text draft.now) }
     ensures ok { IfOk result (λ p. Continues draft.now rest.now p.0 p.1.now) }
@@ -127,19 +123,58 @@ mod tests {
             ("", 0),
             ("a1 begin t1 0\n", 1),
             ("a16 begin t256 4294967295\n", 1),
-            ("a1 begin t1 default\na16 volatile t1 e1 none yes\na2 commit t1\n", 3),
-            ("a1 open s1 required t1 0 default\na1 open s9999 requiresnew t2 default chaos\na1 open s3 suppress\na1 finish s1\na1 close s3\na1 current\n", 6),
-            ("a1 begin t1 0\na1 open s1 required t2 5 serializable\na1 open s2 required t3 5 repeatableread\na1 open s3 required t4 5 readcommitted\n", 4),
-            ("a1 open s4 required t5 5 readuncommitted\na1 open s5 required t6 5 snapshot\na1 open s6 required t7 5 unspecified\na1 commit t7\n", 4),
-            ("a1 begin t1 0\na1 volatile t1 e1 during silent\na1 volatile t1 e9999 none no\na1 volatile t1 e2 none done\n", 4),
-            ("a1 begin t1 0\na1 durable t1 e1 r1 single yes committed\na1 durable t1 e2 r16 single no aborted\na1 durable t1 e3 r2 single done indoubt\n", 4),
-            ("a1 begin t1 0\na1 durable t1 e4 r2 single silent silent\na1 durable t1 e5 r3 two yes\n", 3),
-            ("a1 begin t1 0\na1 promotable t1 e1 r1 yes committed ok\na1 promotable t1 e2 r1 no silent fail\na1 promotable t1 e3 r1 done aborted silent\n", 4),
-            ("a1 begin t1 0\na1 clone t1 c1 block\na2 clone t1 c9999 rollback\na2 complete c1\n", 4),
-            ("a1 begin t1 0\na1 rollback t1\na1 marshal t1\na1 status t1\na1 await t1\na1 commit t1\n", 6),
-            ("a1 begin t1 0\na1 tick t1 1\na1 tick t1 1000000000\na1 do t1 1 1\na1 do t1 99 999\n", 5),
-            ("a1 begin t1 0\na1 durable t1 e1 r1 two yes\na1 lose t1 b 0 999\na1 lose t1 v 0 0\na1 lose t1 e1 1 2\na1 lose t1 x1 999 0\na1 gone e1\na1 reenlist e1\n", 8),
-            ("a1 begin t1 0\na1 recovered t1 r16\na1 stop 1 lose\na1 stop 99 keep\na1 stop 5 torn\na1 restart\na1 par\n", 7),
+            (
+                "a1 begin t1 default\na16 volatile t1 e1 none yes\na2 commit t1\n",
+                3,
+            ),
+            (
+                "a1 open s1 required t1 0 default\na1 open s9999 requiresnew t2 default chaos\na1 open s3 suppress\na1 finish s1\na1 close s3\na1 current\n",
+                6,
+            ),
+            (
+                "a1 begin t1 0\na1 open s1 required t2 5 serializable\na1 open s2 required t3 5 repeatableread\na1 open s3 required t4 5 readcommitted\n",
+                4,
+            ),
+            (
+                "a1 open s4 required t5 5 readuncommitted\na1 open s5 required t6 5 snapshot\na1 open s6 required t7 5 unspecified\na1 commit t7\n",
+                4,
+            ),
+            (
+                "a1 begin t1 0\na1 volatile t1 e1 during silent\na1 volatile t1 e9999 none no\na1 volatile t1 e2 none done\n",
+                4,
+            ),
+            (
+                "a1 begin t1 0\na1 durable t1 e1 r1 single yes committed\na1 durable t1 e2 r16 single no aborted\na1 durable t1 e3 r2 single done indoubt\n",
+                4,
+            ),
+            (
+                "a1 begin t1 0\na1 durable t1 e4 r2 single silent silent\na1 durable t1 e5 r3 two yes\n",
+                3,
+            ),
+            (
+                "a1 begin t1 0\na1 promotable t1 e1 r1 yes committed ok\na1 promotable t1 e2 r1 no silent fail\na1 promotable t1 e3 r1 done aborted silent\n",
+                4,
+            ),
+            (
+                "a1 begin t1 0\na1 clone t1 c1 block\na2 clone t1 c9999 rollback\na2 complete c1\n",
+                4,
+            ),
+            (
+                "a1 begin t1 0\na1 rollback t1\na1 marshal t1\na1 status t1\na1 await t1\na1 commit t1\n",
+                6,
+            ),
+            (
+                "a1 begin t1 0\na1 tick t1 1\na1 tick t1 1000000000\na1 do t1 1 1\na1 do t1 99 999\n",
+                5,
+            ),
+            (
+                "a1 begin t1 0\na1 durable t1 e1 r1 two yes\na1 lose t1 b 0 999\na1 lose t1 v 0 0\na1 lose t1 e1 1 2\na1 lose t1 x1 999 0\na1 gone e1\na1 reenlist e1\n",
+                8,
+            ),
+            (
+                "a1 begin t1 0\na1 recovered t1 r16\na1 stop 1 lose\na1 stop 99 keep\na1 stop 5 torn\na1 restart\na1 par\n",
+                7,
+            ),
         ];
         for (text, want) in cases {
             assert!(rt; found(rt.alloc(), text.as_bytes()) == Ok(want), "at {text}");
@@ -171,20 +206,40 @@ mod tests {
             ("a1 par par\n", 1, BadCause::ExtraWord),
             ("a1 begin t1 0 0\n", 1, BadCause::ExtraWord),
             ("a1 open s1 suppress t1\n", 1, BadCause::ExtraWord),
-            ("a1 durable t1 e1 r1 two yes committed\n", 1, BadCause::ExtraWord),
+            (
+                "a1 durable t1 e1 r1 two yes committed\n",
+                1,
+                BadCause::ExtraWord,
+            ),
             ("b1 begin t1 0\n", 1, BadCause::UnknownWord),
             ("a begin t1 0\n", 1, BadCause::UnknownWord),
             ("ax begin t1 0\n", 1, BadCause::UnknownWord),
             ("a1 begins t1 0\n", 1, BadCause::UnknownWord),
             ("a1 7 t1 0\n", 1, BadCause::UnknownWord),
             ("a1 begin e1 0\n", 1, BadCause::UnknownWord),
-            ("a1 open s1 require t1 0 default\n", 1, BadCause::UnknownWord),
-            ("a1 open s1 required t1 0 Default\n", 1, BadCause::UnknownWord),
+            (
+                "a1 open s1 require t1 0 default\n",
+                1,
+                BadCause::UnknownWord,
+            ),
+            (
+                "a1 open s1 required t1 0 Default\n",
+                1,
+                BadCause::UnknownWord,
+            ),
             ("a1 volatile t1 e1 plain yes\n", 1, BadCause::UnknownWord),
             ("a1 volatile t1 e1 none none\n", 1, BadCause::UnknownWord),
             ("a1 durable t1 e1 r1 three yes\n", 1, BadCause::UnknownWord),
-            ("a1 durable t1 e1 r1 single yes maybe\n", 1, BadCause::UnknownWord),
-            ("a1 promotable t1 e1 r1 yes silent yes\n", 1, BadCause::UnknownWord),
+            (
+                "a1 durable t1 e1 r1 single yes maybe\n",
+                1,
+                BadCause::UnknownWord,
+            ),
+            (
+                "a1 promotable t1 e1 r1 yes silent yes\n",
+                1,
+                BadCause::UnknownWord,
+            ),
             ("a1 clone t1 c1 none\n", 1, BadCause::UnknownWord),
             ("a1 stop 1 tear\n", 1, BadCause::UnknownWord),
         ];
@@ -254,24 +309,68 @@ mod tests {
     #[test]
     fn refuses_names(rt: HostRuntime) -> Result<(), AllocError> {
         let cases: [(&str, u32, BadCause); 37] = [
-            ("a1 begin t1 0\na2 begin t1 default\n", 2, BadCause::NameTwice),
-            ("a1 begin t1 0\na1 open s1 required t1 0 default\n", 2, BadCause::NameTwice),
-            ("a1 open s1 required t1 0 default\na1 open s1 suppress\n", 2, BadCause::NameTwice),
-            ("a1 open s1 requiresnew t1 0 default\na1 begin t1 0\n", 2, BadCause::NameTwice),
-            ("a1 begin t1 0\na1 volatile t1 e1 none yes\na1 volatile t1 e1 none done\n", 3, BadCause::NameTwice),
-            ("a1 begin t1 0\na1 volatile t1 e1 none yes\na1 durable t1 e1 r1 two yes\n", 3, BadCause::NameTwice),
-            ("a1 begin t1 0\na1 durable t1 e1 r1 two yes\na1 promotable t2 e1 r1 yes silent ok\n", 3, BadCause::NameTwice),
-            ("a1 begin t1 0\na1 clone t1 c1 block\na1 clone t1 c1 block\n", 3, BadCause::NameTwice),
+            (
+                "a1 begin t1 0\na2 begin t1 default\n",
+                2,
+                BadCause::NameTwice,
+            ),
+            (
+                "a1 begin t1 0\na1 open s1 required t1 0 default\n",
+                2,
+                BadCause::NameTwice,
+            ),
+            (
+                "a1 open s1 required t1 0 default\na1 open s1 suppress\n",
+                2,
+                BadCause::NameTwice,
+            ),
+            (
+                "a1 open s1 requiresnew t1 0 default\na1 begin t1 0\n",
+                2,
+                BadCause::NameTwice,
+            ),
+            (
+                "a1 begin t1 0\na1 volatile t1 e1 none yes\na1 volatile t1 e1 none done\n",
+                3,
+                BadCause::NameTwice,
+            ),
+            (
+                "a1 begin t1 0\na1 volatile t1 e1 none yes\na1 durable t1 e1 r1 two yes\n",
+                3,
+                BadCause::NameTwice,
+            ),
+            (
+                "a1 begin t1 0\na1 durable t1 e1 r1 two yes\na1 promotable t2 e1 r1 yes silent ok\n",
+                3,
+                BadCause::NameTwice,
+            ),
+            (
+                "a1 begin t1 0\na1 clone t1 c1 block\na1 clone t1 c1 block\n",
+                3,
+                BadCause::NameTwice,
+            ),
             ("a1 commit t1\n", 1, BadCause::NameUnknown),
-            ("a1 open s1 suppress\na1 commit t1\n", 2, BadCause::NameUnknown),
+            (
+                "a1 open s1 suppress\na1 commit t1\n",
+                2,
+                BadCause::NameUnknown,
+            ),
             ("a1 volatile t1 e1 none yes\n", 1, BadCause::NameUnknown),
             ("a1 durable t1 e1 r1 two yes\n", 1, BadCause::NameUnknown),
-            ("a1 promotable t1 e1 r1 yes silent ok\n", 1, BadCause::NameUnknown),
+            (
+                "a1 promotable t1 e1 r1 yes silent ok\n",
+                1,
+                BadCause::NameUnknown,
+            ),
             ("a1 clone t1 c1 block\n", 1, BadCause::NameUnknown),
             ("a1 finish s1\n", 1, BadCause::NameUnknown),
             ("a1 close s1\n", 1, BadCause::NameUnknown),
             ("a1 begin t1 0\na1 complete c1\n", 2, BadCause::NameUnknown),
-            ("a1 begin t1 0\na1 clone t1 c1 block\na1 complete c2\n", 3, BadCause::NameUnknown),
+            (
+                "a1 begin t1 0\na1 clone t1 c1 block\na1 complete c2\n",
+                3,
+                BadCause::NameUnknown,
+            ),
             ("a1 rollback t1\n", 1, BadCause::NameUnknown),
             ("a1 marshal t1\n", 1, BadCause::NameUnknown),
             ("a1 status t1\n", 1, BadCause::NameUnknown),
@@ -279,16 +378,44 @@ mod tests {
             ("a1 tick t1 1\n", 1, BadCause::NameUnknown),
             ("a1 do t1 1 1\n", 1, BadCause::NameUnknown),
             ("a1 lose t1 b 0 0\n", 1, BadCause::NameUnknown),
-            ("a1 begin t1 0\na1 lose t1 e1 0 0\n", 2, BadCause::NameUnknown),
-            ("a1 begin t1 0\na1 lose t1 x1 0 0\n", 2, BadCause::NameUnknown),
+            (
+                "a1 begin t1 0\na1 lose t1 e1 0 0\n",
+                2,
+                BadCause::NameUnknown,
+            ),
+            (
+                "a1 begin t1 0\na1 lose t1 x1 0 0\n",
+                2,
+                BadCause::NameUnknown,
+            ),
             ("a1 recovered t1 r1\n", 1, BadCause::NameUnknown),
             ("a1 gone e1\n", 1, BadCause::NameUnknown),
             ("a1 reenlist e1\n", 1, BadCause::NameUnknown),
-            ("a1 begin t1 0\na1 volatile t1 e1 none yes\na1 gone e1\n", 3, BadCause::WrongKind),
-            ("a1 begin t1 0\na1 volatile t1 e1 none yes\na1 reenlist e1\n", 3, BadCause::WrongKind),
-            ("a1 begin t1 0\na1 volatile t1 e1 none yes\na1 lose t1 e1 0 0\n", 3, BadCause::WrongKind),
-            ("a1 begin t1 0\na1 begin t2 0\na1 durable t1 e1 r1 two yes\na1 lose t2 e1 0 0\n", 4, BadCause::WrongKind),
-            ("a1 begin t1 0\na1 begin t2 0\na1 promotable t1 e1 r1 yes silent ok\na1 lose t2 x1 0 0\n", 4, BadCause::WrongKind),
+            (
+                "a1 begin t1 0\na1 volatile t1 e1 none yes\na1 gone e1\n",
+                3,
+                BadCause::WrongKind,
+            ),
+            (
+                "a1 begin t1 0\na1 volatile t1 e1 none yes\na1 reenlist e1\n",
+                3,
+                BadCause::WrongKind,
+            ),
+            (
+                "a1 begin t1 0\na1 volatile t1 e1 none yes\na1 lose t1 e1 0 0\n",
+                3,
+                BadCause::WrongKind,
+            ),
+            (
+                "a1 begin t1 0\na1 begin t2 0\na1 durable t1 e1 r1 two yes\na1 lose t2 e1 0 0\n",
+                4,
+                BadCause::WrongKind,
+            ),
+            (
+                "a1 begin t1 0\na1 begin t2 0\na1 promotable t1 e1 r1 yes silent ok\na1 lose t2 x1 0 0\n",
+                4,
+                BadCause::WrongKind,
+            ),
             ("a1 par\na2 par\n", 2, BadCause::ParTwice),
             ("a1 begin t1 0\na2 begin t1 0 0\n", 2, BadCause::ExtraWord),
         ];
@@ -303,7 +430,7 @@ mod tests {
     fn long_line(alloc: Global, n: usize) -> Result<Vec<u8>, AllocError> {
         let mut bytes = Vec::new(alloc);
         bytes.extend_from_slice(b"a1 commit t")?;
-        while bytes.len() < n {
+        for _ in 11..n {
             bytes.push(b'1')?;
         }
         bytes.push(b'\n')?;
@@ -312,12 +439,18 @@ mod tests {
 
     #[test]
     fn a_line_has_at_most_200_bytes(rt: HostRuntime) -> Result<(), AllocError> {
-        let short = long_line(rt.alloc(), 200)?;
-        let long = long_line(rt.alloc(), 201)?;
-        assert!(rt; found(rt.alloc(), &short) == Err(ScriptError::BadScript(1, BadCause::BadNumber)));
+        let mut short = long_line(rt.alloc(), 200)?;
+        let mut long = long_line(rt.alloc(), 201)?;
+        assert!(rt;
+            found(rt.alloc(), &short) == Err(ScriptError::BadScript(1, BadCause::BadNumber))
+        );
         assert!(rt; found(rt.alloc(), &long) == Err(ScriptError::BadScript(1, BadCause::LongLine)));
-        assert!(rt; found(rt.alloc(), &short[..200]) == Err(ScriptError::BadScript(1, BadCause::NoNewline)));
-        assert!(rt; found(rt.alloc(), &long[..201]) == Err(ScriptError::BadScript(1, BadCause::LongLine)));
+        short.truncate(200);
+        long.truncate(201);
+        assert!(rt;
+            found(rt.alloc(), &short) == Err(ScriptError::BadScript(1, BadCause::NoNewline))
+        );
+        assert!(rt; found(rt.alloc(), &long) == Err(ScriptError::BadScript(1, BadCause::LongLine)));
         Ok(())
     }
 
@@ -340,14 +473,22 @@ mod tests {
         assert!(rt; bytes.len() == 1_048_576);
         assert!(rt; found(rt.alloc(), &bytes) == Ok(80_660));
         bytes.extend_from_slice(b"a1 par\n")?;
-        assert!(rt; found(rt.alloc(), &bytes) == Err(ScriptError::BadScript(80_661, BadCause::TooLong)));
+        assert!(rt;
+            found(rt.alloc(), &bytes) == Err(ScriptError::BadScript(80_661, BadCause::TooLong))
+        );
         let mut bytes = whole_script(rt.alloc())?;
         bytes.truncate(1_048_575);
-        assert!(rt; found(rt.alloc(), &bytes) == Err(ScriptError::BadScript(80_660, BadCause::NoNewline)));
+        assert!(rt;
+            found(rt.alloc(), &bytes) == Err(ScriptError::BadScript(80_660, BadCause::NoNewline))
+        );
         bytes.push(b' ')?;
-        assert!(rt; found(rt.alloc(), &bytes) == Err(ScriptError::BadScript(80_660, BadCause::NoNewline)));
+        assert!(rt;
+            found(rt.alloc(), &bytes) == Err(ScriptError::BadScript(80_660, BadCause::NoNewline))
+        );
         bytes.push(b'\n')?;
-        assert!(rt; found(rt.alloc(), &bytes) == Err(ScriptError::BadScript(80_660, BadCause::TooLong)));
+        assert!(rt;
+            found(rt.alloc(), &bytes) == Err(ScriptError::BadScript(80_660, BadCause::TooLong))
+        );
         Ok(())
     }
 }

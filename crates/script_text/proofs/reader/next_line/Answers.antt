@@ -22,5 +22,5 @@ returns-in-None-clause-ok c =
     let spelled = spelled_line l bytes text after c.in_ok-text.ensures.cut c.in_ok-line.ensures.0 in
     let long = length-line_text l bytes text after c.in_ok-text.ensures.cut spelled in
     let script = script_more c.args.draft.now l c.requires.script c.in_ok-line.ensures.1
-        (omega (arith, long, c.in_ok-text.ensures.short)) (omega (arith, long, c.in_ok-text.ensures.within, c.requires.taken)) named in
+    (omega (arith, long, c.in_ok-text.ensures.short)) (omega (arith, long, c.in_ok-text.ensures.within, c.requires.taken)) named in
     (spelled, script, named)
