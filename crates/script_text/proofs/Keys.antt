@@ -57,4 +57,5 @@ unknown_opening w ws h = unknown w ws opening_keys opening_forms h (search (rule
 -- another word than those of commands is unknown where a command begins
 pub unknown_command : (w : List ℕ) (ws : List (List ℕ)) → IsOther w making_words → IsOther w asking_words → IsOther w running_words → word_fault command_forms (w ∷ ws) ≡ Some UnknownWord
 unknown_command w ws h k n =
-    unknown w ws (making_words ++ asking_words ++ running_words) command_forms (others w (making_words ++ asking_words) running_words (others w making_words asking_words h k) n) (search (rules, AlsoForm, NoForm) depth 60)
+    let other = others w (making_words ++ asking_words) running_words (others w making_words asking_words h k) n in
+    unknown w ws (making_words ++ asking_words ++ running_words) command_forms other (search (rules, AlsoForm, NoForm) depth 60)

@@ -1,10 +1,9 @@
-pub mod Cuts
-pub mod Numbers
-pub mod Slots
-pub mod Places
-pub mod Splits
 pub mod Forms
-pub mod Keys
-pub mod Tables
 pub mod Fronts
+pub mod Keys
+pub mod Numbers
+pub mod Places
 pub mod Scripts
+pub mod Slots
+pub mod Splits
+pub mod Tables

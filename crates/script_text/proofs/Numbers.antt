@@ -1,5 +1,7 @@
 -- Words that are numbers.
-use Rattle.std.proofs.Common.{◌≡◌, ◌≢◌, ℕ, zero, suc, ◌+◌, ◌-◌, ◌*◌, ◌^◌, ◌<◌, ◌≤◌, ◌==◌, Bool, true, false, List, [], ◌∷◌, length, take, get_or, refl, ap, sym, ◌∙◌, subst, arith, decimal}
+use Rattle.std.proofs.Common.{◌≡◌, ◌≢◌, ℕ, zero, suc, ◌+◌, ◌-◌, ◌*◌, ◌^◌, ◌<◌, ◌≤◌, ◌==◌, Bool, true, false, List, []}
+use Rattle.std.proofs.Common.{◌∷◌, length, take, get_or, refl, ap, sym, ◌∙◌, subst, arith, decimal, Option, Some, None, IfNone, IsSome}
+use Rattle.std.proofs.lemmas.Bool.{false≢true}
 use Rattle.std.specs.Char.{digit_value}
 use Rattle.std.specs.Int.{IsInRange}
 use Rattle.std.specs.Str.Parse.{AllDigits, digits_value, digits_value_after}
@@ -10,7 +12,6 @@ use Rattle.std.proofs.lemmas.Fmt.{decimal_nonempty, length-decimal-le, first_dec
 use Rattle.dtx_model.specs.Grammar.{is_from}
 use Rattle.dtx_model.specs.Faults.{same_bytes, value_from, writes}
 use Rattle.dtx_model.proofs.Bools.{and_both, and_left, and_right}
-use Rattle.script_text.specs.Reader.{IsWithout}
 use Rattle.std.proofs.lemmas.Int.Digits.{digits_value_more, digits_more}
 use Rattle.std.proofs.lemmas.Str.Parse.{IsNumeralModel, numerals_by_value, tells_digits, digit_at, digit_from_value, digits_value_short}
 
@@ -91,18 +92,6 @@ pub value_of_read : (w : List ℕ) (i n m : ℕ) → i ≡ length w → n ≡ di
 value_of_read w i n m k e small t =
     e ∙ ap (λ j. digits_value 10 (take j w)) k ∙ ap (λ v. digits_value 10 v) (take-length w) ∙ (number_from_text w m small t).value
 
--- digits hold no byte below `0`
-without_digits : (c : ℕ) (ds : List ℕ) → c < 48 → AllDigits 10 ds → IsWithout c ds
-without_digits c [] h d = refl
-without_digits c (x ∷ xs) h d =
-    let r = digit_from_value x d.0 in
-    let k = without_digits c xs h d.1 in
-    grind (arith, nat_tests)
-
--- nor does a number's text
-pub without_decimal : (c n : ℕ) → c < 48 → n < 2 ^ 64 → IsWithout c (decimal n)
-without_decimal c n h k = without_digits c (decimal n) h (digits_decimal own n k)
-
 -- a number from low to high is at most high
 pub to_high : (low high n : ℕ) → is_from low high n ≡ true → n ≤ high
 to_high low high n h = grind (arith, nat_tests)
@@ -157,3 +146,8 @@ writes-none low high w h f = never (writes low high w) (λ e.
     let within : is_from low high (value_from 0 w) ≡ true = and_right (same_bytes w (decimal (value_from 0 w))) _ e in
     let below : value_from 0 w ≤ high = to_high low high (value_from 0 w) within in
     f (value_from 0 w) (omega arith) equal)
+
+-- a fact for `None`, where there is no value
+pub if_none : {A : Type 0} (P : Type 0) (o : Option A) → ((IsSome o → ⊥) → P) → IfNone o P
+if_none P None f = f (λ s. absurd (false≢true s))
+if_none P (Some x) f = tt

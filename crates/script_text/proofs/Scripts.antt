@@ -24,10 +24,6 @@ script_text-append (l ∷ s) r = ap (λ t. line_text l ++ t) (script_text-append
 length-script_text-snoc : (s : List Line) (l : Line) → length (script_text (s ++ l ∷ [])) ≡ length (script_text s) + length (line_text l)
 length-script_text-snoc s l = omega (arith, ap length (script_text-append s (l ∷ [])), length-append (script_text s) (script_text (l ∷ [])), length-append (line_text l) [])
 
--- no line is a script
-pub script_none : IsScript []
-script_none = record { in_range = refl; short = refl; within = omega arith; named = refl; kinds = refl; par = refl }
-
 -- a line's names have no fault
 record IsFaultless (past : List Line) (l : Line) : Type 0 where
   pub new : each (λ n. not (is_made past n)) (makes l.body) ≡ true

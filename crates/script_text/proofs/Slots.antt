@@ -20,7 +20,8 @@ use Rattle.dtx_values.specs.declared.words.IsoWord.TheVariants.{Default as Defau
 use Rattle.dtx_model.specs.Words.{has}
 use Rattle.dtx_model.proofs.Bools.{or_false, or_right}
 use Rattle.dtx_model.specs.Grammar.{is_from, is_timeout, connection_word, timeout_word, option_word, vote_word, owner_word, promote_word, kind_word, image_word, asked_iso_word}
-use Rattle.dtx_model.specs.Faults.{Slot, same_bytes, writes, one_of, named, number, is_name, allows, connection_slot, timeout_slot, option_slot, vote_slot, owner_slot, promote_slot, kind_slot, image_slot, iso_slot}
+use Rattle.dtx_model.specs.Faults.{Slot, same_bytes, writes, one_of, named, number, is_name, allows, connection_slot}
+use Rattle.dtx_model.specs.Faults.{timeout_slot, option_slot, vote_slot, owner_slot, promote_slot, kind_slot, image_slot, iso_slot}
 use Rattle.script_text.specs.Reader.{IsOther}
 use Rattle.script_text.proofs.Numbers.{same_bytes-other, writes-decimal, to_high}
 use Rattle.std.proofs.lemmas.Bool.Decides.{nat_tests}

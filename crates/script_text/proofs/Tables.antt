@@ -1,5 +1,6 @@
 -- Tables of the names that lines make.
-use Rattle.std.proofs.Common.{◌≡◌, ℕ, ◌<◌, ◌≤◌, ◌==◌, ◌||◌, ◌&&◌, Bool, true, false, List, [], ◌∷◌, length, refl, ap, sym, ◌∙◌, arith, replicate, slice_index_or, slice_set, subst, Option, None, if◌then◌else◌, ◌⊎◌, inl, inr}
+use Rattle.std.proofs.Common.{◌≡◌, ℕ, ◌<◌, ◌≤◌, ◌==◌, ◌||◌, ◌&&◌, Bool, true, false, List, [], ◌∷◌, length, refl}
+use Rattle.std.proofs.Common.{ap, sym, ◌∙◌, arith, replicate, slice_index_or, slice_set, subst, Option, None, if◌then◌else◌, ◌⊎◌, inl, inr}
 use Rattle.std.specs.Prelude.{not}
 use Rattle.std.proofs.lemmas.Bool.Decides.{nat_tests}
 use Rattle.std.proofs.lemmas.List.{get_or-replicate, get_or-set_same, get_or-set_other, length-set}
@@ -133,7 +134,8 @@ pub lasting_more : (past : List Line) (l : Line) (t : TxNo) (e : EnlNo) (ts es c
 lasting_more past l t e ts es cs ss os par m h a =
     let line = lasting_line l.body t e m in
     let new = no_twice past l _ refl h in
-    let unmade : is_made past (OfEnlistment e.value) ≡ false = not_true _ (and_left (not (is_made past (OfEnlistment e.value))) true (sym (ap (λ ns. each (λ n. not (is_made past n)) ns) line.makes_name) ∙ new)) in
+    let one = sym (ap (λ ns. each (λ n. not (is_made past n)) ns) line.makes_name) ∙ new in
+    let unmade : is_made past (OfEnlistment e.value) ≡ false = not_true _ (and_left (not (is_made past (OfEnlistment e.value))) true one) in
     record {
       transactions_long = a.transactions_long;
       enlistments_long = length-set es e.value true ∙ a.enlistments_long;

@@ -7,8 +7,10 @@ use Rattle.dtx_values.specs.declared.script.Opening.{Opening}
 use Rattle.dtx_values.specs.declared.script.Support.{Support}
 use Rattle.dtx_values.specs.declared.script.Line.{Line}
 use Rattle.dtx_model.specs.Words.{has, past_of}
-use Rattle.dtx_model.specs.Grammar.{words, line_text, IsScript, command_words, opening_words, support_words, is_in_range, is_opening_in_range, is_made, is_lasting, is_lasting_of, is_par, OfTransaction, OfEnlistment, OfClone, OfScope}
-use Rattle.dtx_model.specs.Faults.{Slot, allows, is_digit, is_letter, split, command_forms, word, transaction_slot, timeout_slot, iso_slot, vote_slot, owner_slot, word_fault, line_forms, words_of, name_fault}
+use Rattle.dtx_model.specs.Grammar.{words, line_text, IsScript, command_words, opening_words, support_words, is_in_range, is_opening_in_range}
+use Rattle.dtx_model.specs.Grammar.{is_made, is_lasting, is_lasting_of, is_par, OfTransaction, OfEnlistment, OfClone, OfScope}
+use Rattle.dtx_model.specs.Faults.{Slot, allows, is_digit, is_letter, split, command_forms, word, transaction_slot}
+use Rattle.dtx_model.specs.Faults.{timeout_slot, iso_slot, vote_slot, owner_slot, word_fault, line_forms, words_of, name_fault}
 
 -- no byte is c
 abbrev pub IsWithout : ℕ → List ℕ → Type 0
@@ -112,9 +114,6 @@ IsOpening ws (Err c) = word_fault opening_forms ws ≡ Some c
 -- the forms behind a durable's manager
 abbrev pub support_forms : List (List Slot)
 support_forms = (word (codes "single") ∷ vote_slot ∷ owner_slot ∷ []) ∷ (word (codes "two") ∷ vote_slot ∷ []) ∷ []
-
-abbrev pub support_keys : List (List ℕ)
-support_keys = codes "single" ∷ codes "two" ∷ []
 
 -- what a reader of the words behind a durable's manager says of them
 abbrev pub IsSupport : List (List ℕ) → Result Support BadCause → Type 0

@@ -1,8 +1,10 @@
 //! The words of a line.
 ghost use Rattle.std.specs.Prelude.{◌≡◌, ◌≢◌, ◌==◌, ◌<◌, ◌^◌, ◌∷◌, ◌++◌, [], ℕ, true, false, Option, IfSome, IfNone, decimal};
 ghost use Rattle.dtx_model.specs.Words.{has};
-ghost use Rattle.dtx_model.specs.Grammar.{actor_name, transaction_name, enlistment_name, clone_name, scope_name, manager_name, connection_word, timeout_word, option_word, vote_word, owner_word, promote_word, kind_word, image_word, asked_iso_word, is_from, is_timeout};
-ghost use Rattle.dtx_model.specs.Faults.{allows, named, number as number_slot, is_digit, is_letter, actor_slot, transaction_slot, enlistment_slot, clone_slot, scope_slot, manager_slot, connection_slot, timeout_slot, option_slot, vote_slot, owner_slot, promote_slot, kind_slot, image_slot, iso_slot};
+ghost use Rattle.dtx_model.specs.Grammar.{actor_name, transaction_name, enlistment_name, clone_name, scope_name, manager_name, connection_word, timeout_word, option_word};
+ghost use Rattle.dtx_model.specs.Grammar.{vote_word, owner_word, promote_word, kind_word, image_word, asked_iso_word, is_from, is_timeout};
+ghost use Rattle.dtx_model.specs.Faults.{allows, named, number as number_slot, is_digit, is_letter, actor_slot, transaction_slot, enlistment_slot, clone_slot, scope_slot};
+ghost use Rattle.dtx_model.specs.Faults.{manager_slot, connection_slot, timeout_slot, option_slot, vote_slot, owner_slot, promote_slot, kind_slot, image_slot, iso_slot};
 ghost use Rattle.script_text.specs.Reader.{IsWithout, is_misnamed, is_misnumbered, cause_of};
 
 use dtx_values::{

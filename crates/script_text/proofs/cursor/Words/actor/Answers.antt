@@ -8,7 +8,8 @@ use Rattle.script_text.proofs.cursor.Words.actor.Goals as goal
 
 pub returns-in-Some-actor-clause-ok : goal.returns-in-Some-actor-clause-ok
 returns-in-Some-actor-clause-ok c =
-    taken actor_slot c.args.self.now c.in-Some.word.now (actor_name c.in-Some-actor.a.value) c.next.new.self (search rules) c.in-Some-actor.ensures.some (name_allowed 97 16 c.in-Some-actor.a.value (omega arith) (grind (arith, nat_tests)))
+    taken actor_slot c.args.self.now c.in-Some.word.now (actor_name c.in-Some-actor.a.value) c.next.new.self (search rules) c.in-Some-actor.ensures.some
+    (name_allowed 97 16 c.in-Some-actor.a.value (omega arith) (grind (arith, nat_tests)))
 
 pub returns-in-None-clause-err : goal.returns-in-None-clause-err
 returns-in-None-clause-err c =

@@ -8,7 +8,8 @@ use Rattle.script_text.proofs.cursor.Words.clone.Goals as goal
 
 pub returns-in-Some-clone-clause-ok : goal.returns-in-Some-clone-clause-ok
 returns-in-Some-clone-clause-ok c =
-    taken clone_slot c.args.self.now c.in-Some.word.now (clone_name c.in-Some-clone.c.value) c.next.new.self (search rules) c.in-Some-clone.ensures.some (name_allowed 99 9999 c.in-Some-clone.c.value (omega arith) (grind (arith, nat_tests)))
+    taken clone_slot c.args.self.now c.in-Some.word.now (clone_name c.in-Some-clone.c.value) c.next.new.self (search rules) c.in-Some-clone.ensures.some
+    (name_allowed 99 9999 c.in-Some-clone.c.value (omega arith) (grind (arith, nat_tests)))
 
 pub returns-in-None-clause-err : goal.returns-in-None-clause-err
 returns-in-None-clause-err c =

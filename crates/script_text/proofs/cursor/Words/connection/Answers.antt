@@ -7,7 +7,8 @@ use Rattle.script_text.proofs.cursor.Words.connection.Goals as goal
 
 pub returns-in-Some-connection-clause-ok : goal.returns-in-Some-connection-clause-ok
 returns-in-Some-connection-clause-ok c =
-    taken connection_slot c.args.self.now c.in-Some.word.now (connection_word c.in-Some-connection.c) c.next.new.self (search rules) c.in-Some-connection.ensures.some (connection_allowed c.in-Some-connection.c)
+    taken connection_slot c.args.self.now c.in-Some.word.now (connection_word c.in-Some-connection.c) c.next.new.self (search rules) c.in-Some-connection.ensures.some
+    (connection_allowed c.in-Some-connection.c)
 
 pub returns-in-None-clause-err : goal.returns-in-None-clause-err
 returns-in-None-clause-err c =

@@ -8,7 +8,8 @@ use Rattle.script_text.proofs.cursor.Words.enlistment.Goals as goal
 
 pub returns-in-Some-enlistment-clause-ok : goal.returns-in-Some-enlistment-clause-ok
 returns-in-Some-enlistment-clause-ok c =
-    taken enlistment_slot c.args.self.now c.in-Some.word.now (enlistment_name c.in-Some-enlistment.e.value) c.next.new.self (search rules) c.in-Some-enlistment.ensures.some (name_allowed 101 9999 c.in-Some-enlistment.e.value (omega arith) (grind (arith, nat_tests)))
+    taken enlistment_slot c.args.self.now c.in-Some.word.now (enlistment_name c.in-Some-enlistment.e.value) c.next.new.self (search rules) c.in-Some-enlistment.ensures.some
+    (name_allowed 101 9999 c.in-Some-enlistment.e.value (omega arith) (grind (arith, nat_tests)))
 
 pub returns-in-None-clause-err : goal.returns-in-None-clause-err
 returns-in-None-clause-err c =

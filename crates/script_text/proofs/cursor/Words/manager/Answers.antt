@@ -8,7 +8,8 @@ use Rattle.script_text.proofs.cursor.Words.manager.Goals as goal
 
 pub returns-in-Some-manager-clause-ok : goal.returns-in-Some-manager-clause-ok
 returns-in-Some-manager-clause-ok c =
-    taken manager_slot c.args.self.now c.in-Some.word.now (manager_name c.in-Some-manager.r.value) c.next.new.self (search rules) c.in-Some-manager.ensures.some (name_allowed 114 16 c.in-Some-manager.r.value (omega arith) (grind (arith, nat_tests)))
+    taken manager_slot c.args.self.now c.in-Some.word.now (manager_name c.in-Some-manager.r.value) c.next.new.self (search rules) c.in-Some-manager.ensures.some
+    (name_allowed 114 16 c.in-Some-manager.r.value (omega arith) (grind (arith, nat_tests)))
 
 pub returns-in-None-clause-err : goal.returns-in-None-clause-err
 returns-in-None-clause-err c =

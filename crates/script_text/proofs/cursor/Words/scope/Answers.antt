@@ -8,7 +8,8 @@ use Rattle.script_text.proofs.cursor.Words.scope.Goals as goal
 
 pub returns-in-Some-scope-clause-ok : goal.returns-in-Some-scope-clause-ok
 returns-in-Some-scope-clause-ok c =
-    taken scope_slot c.args.self.now c.in-Some.word.now (scope_name c.in-Some-scope.s.value) c.next.new.self (search rules) c.in-Some-scope.ensures.some (name_allowed 115 9999 c.in-Some-scope.s.value (omega arith) (grind (arith, nat_tests)))
+    taken scope_slot c.args.self.now c.in-Some.word.now (scope_name c.in-Some-scope.s.value) c.next.new.self (search rules) c.in-Some-scope.ensures.some
+    (name_allowed 115 9999 c.in-Some-scope.s.value (omega arith) (grind (arith, nat_tests)))
 
 pub returns-in-None-clause-err : goal.returns-in-None-clause-err
 returns-in-None-clause-err c =

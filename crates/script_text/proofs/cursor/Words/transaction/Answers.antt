@@ -8,7 +8,8 @@ use Rattle.script_text.proofs.cursor.Words.transaction.Goals as goal
 
 pub returns-in-Some-transaction-clause-ok : goal.returns-in-Some-transaction-clause-ok
 returns-in-Some-transaction-clause-ok c =
-    taken transaction_slot c.args.self.now c.in-Some.word.now (transaction_name c.in-Some-transaction.t.value) c.next.new.self (search rules) c.in-Some-transaction.ensures.some (name_allowed 116 256 c.in-Some-transaction.t.value (omega arith) (grind (arith, nat_tests)))
+    taken transaction_slot c.args.self.now c.in-Some.word.now (transaction_name c.in-Some-transaction.t.value) c.next.new.self (search rules) c.in-Some-transaction.ensures.some
+    (name_allowed 116 256 c.in-Some-transaction.t.value (omega arith) (grind (arith, nat_tests)))
 
 pub returns-in-None-clause-err : goal.returns-in-None-clause-err
 returns-in-None-clause-err c =
