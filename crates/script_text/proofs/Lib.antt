@@ -1,3 +1,12 @@
+pub mod Numbers
+pub mod Slots
+pub mod Places
+pub mod Splits
+pub mod Forms
+pub mod Fronts
+pub mod Keys
+pub mod Growing
+pub mod Tables
 pub mod CleanWords
 pub mod Figures
 pub mod Filled
@@ -11,3 +20,4 @@ pub mod SameLines
 pub mod Scripts
 pub mod SomeReading
 pub mod WordFaults
+pub mod Printing

@@ -1,15 +1,17 @@
 -- Words that are numbers.
-use Rattle.std.proofs.Common.{◌≡◌, ◌≢◌, ℕ, zero, suc, ◌+◌, ◌-◌, ◌*◌, ◌^◌, ◌<◌, ◌≤◌, true, List, [], ◌∷◌, ◌++◌, length, take, get_or, refl, ap, sym, ◌∙◌, subst, arith, decimal}
+use Rattle.std.proofs.Common.{◌≡◌, ◌≢◌, ℕ, zero, suc, ◌+◌, ◌-◌, ◌*◌, ◌^◌, ◌<◌, ◌≤◌, ◌==◌, Bool, true, false, List, []}
+use Rattle.std.proofs.Common.{◌∷◌, length, take, get_or, refl, ap, sym, ◌∙◌, subst, arith, decimal, Option, Some, None, IfNone, IsSome}
+use Rattle.std.proofs.lemmas.Bool.{false≢true}
 use Rattle.std.specs.Char.{digit_value}
 use Rattle.std.specs.Int.{IsInRange}
-use Rattle.std.specs.Str.Parse.{AllDigits, digits_value}
+use Rattle.std.specs.Str.Parse.{AllDigits, digits_value, digits_value_after}
 use Rattle.std.proofs.lemmas.Bool.Decides.{nat_tests}
 use Rattle.std.proofs.lemmas.List.{length-take-le}
 use Rattle.std.proofs.Math.Seq.{take-length}
-use Rattle.std.proofs.lemmas.Fmt.{decimal_nonempty, length-decimal-le, first_decimal, digits_decimal, digits_value-decimal, decimal-digits_value, decimal_digit, decimal_injective}
+use Rattle.std.proofs.lemmas.Fmt.{decimal_nonempty, length-decimal-le, first_decimal, digits_decimal, digits_value-decimal, decimal-digits_value, decimal_digit}
 use Rattle.dtx_model.specs.Grammar.{is_from}
-use Rattle.script_text.specs.Reader.{IsWithout}
-use Rattle.script_text.proofs.Cuts.{cut_same}
+use Rattle.dtx_model.specs.Faults.{same_bytes, value_from, writes}
+use Rattle.dtx_model.proofs.Bools.{and_both, and_left, and_right}
 use Rattle.std.proofs.lemmas.Int.Digits.{digits_value_more, digits_more}
 use Rattle.std.proofs.lemmas.Str.Parse.{IsNumeralModel, numerals_by_value, tells_digits, digit_at, digit_from_value, digits_value_short}
 
@@ -90,41 +92,62 @@ pub value_of_read : (w : List ℕ) (i n m : ℕ) → i ≡ length w → n ≡ di
 value_of_read w i n m k e small t =
     e ∙ ap (λ j. digits_value 10 (take j w)) k ∙ ap (λ v. digits_value 10 v) (take-length w) ∙ (number_from_text w m small t).value
 
--- a word is the name of one number only
-pub same_number : (w : List ℕ) (letter n m : ℕ) → n < 2 ^ 32 → m < 2 ^ 32 → w ≡ letter ∷ decimal n → w ≡ letter ∷ decimal m → n ≡ m
-same_number w letter n m hn hm en em =
-    let e : decimal n ≡ decimal m = cc in
-    decimal_injective n m (omega arith) (omega arith) e
-
--- digits hold no byte below `0`
-without_digits : (c : ℕ) (ds : List ℕ) → c < 48 → AllDigits 10 ds → IsWithout c ds
-without_digits c [] h d = refl
-without_digits c (x ∷ xs) h d =
-    let r = digit_from_value x d.0 in
-    let k = without_digits c xs h d.1 in
-    grind (arith, nat_tests)
-
--- nor does a number's text
-pub without_decimal : (c n : ℕ) → c < 48 → n < 2 ^ 64 → IsWithout c (decimal n)
-without_decimal c n h k = without_digits c (decimal n) h (digits_decimal own n k)
-
--- a text whose first word is a name
-pub cut_name : (letter n : ℕ) (w a b r : List ℕ) → letter ≢ 32 → n < 2 ^ 64 → w ≡ a ++ 32 ∷ b → IsWithout 32 a → w ≡ letter ∷ (decimal n ++ 32 ∷ r) → (a ≡ letter ∷ decimal n) × (b ≡ r)
-cut_name letter n w a b r other small e h k =
-    let named = without_decimal 32 n (omega arith) small in
-    let whole : IsWithout 32 (letter ∷ decimal n) = grind (arith, nat_tests) in
-    cut_same 32 a (letter ∷ decimal n) b r h whole (sym e ∙ k)
-
--- a name has no space
-pub name_without : (letter n : ℕ) → letter ≢ 32 → n < 2 ^ 64 → IsWithout 32 (letter ∷ decimal n)
-name_without letter n other small =
-    let named = without_decimal 32 n (omega arith) small in
-    grind (arith, nat_tests)
-
--- a number from low to high is at least low
-pub from_low : (low high n : ℕ) → is_from low high n ≡ true → low ≤ n
-from_low low high n h = grind (arith, nat_tests)
-
--- and at most high
+-- a number from low to high is at most high
 pub to_high : (low high n : ℕ) → is_from low high n ≡ true → n ≤ high
 to_high low high n h = grind (arith, nat_tests)
+
+-- what digits write behind those of m, by either word
+value_from-digits : (m : ℕ) (ds : List ℕ) → AllDigits 10 ds → value_from m ds ≡ digits_value_after 10 m ds
+value_from-digits m [] d = refl
+value_from-digits m (x ∷ xs) d =
+    let step : m * 10 + (x - 48) ≡ m * 10 + digit_value x = omega (arith, digit_value-digit x d.0) in
+    ap (λ k. value_from k xs) step ∙ value_from-digits (m * 10 + digit_value x) xs d.1
+
+-- the value of a number's text
+pub value_from-decimal : (n : ℕ) → n < 2 ^ 64 → value_from 0 (decimal n) ≡ n
+value_from-decimal n h = value_from-digits 0 (decimal n) (digits_decimal own n h) ∙ digits_value-decimal own n h
+
+-- a word is the same as itself
+pub same_bytes-refl : (w : List ℕ) → same_bytes w w ≡ true
+same_bytes-refl [] = refl
+same_bytes-refl (x ∷ w) = and_both (x == x) (same_bytes w w) (grind (arith, nat_tests)) (same_bytes-refl w)
+
+-- words that are the same are equal
+pub same_bytes-equal : (v w : List ℕ) → same_bytes v w ≡ true → v ≡ w
+same_bytes-equal [] [] h = refl
+same_bytes-equal [] (y ∷ w) h = absurd cc
+same_bytes-equal (x ∷ v) [] h = absurd cc
+same_bytes-equal (x ∷ v) (y ∷ w) h =
+    let rest = same_bytes-equal v w (and_right (x == y) _ h) in
+    let head : x ≡ y = grind (arith, nat_tests, and_left (x == y) (same_bytes v w) h) in
+    cc
+
+-- what can't be true is false
+pub never : (b : Bool) → (b ≡ true → ⊥) → b ≡ false
+never true h = absurd (h refl)
+never false h = refl
+
+-- a word that is another isn't the same
+pub same_bytes-other : (v w : List ℕ) → v ≢ w → same_bytes v w ≡ false
+same_bytes-other v w h = never (same_bytes v w) (λ e. h (same_bytes-equal v w e))
+
+-- a number's text in a range writes a number of that range
+pub writes-decimal : (low high n : ℕ) → n < 2 ^ 64 → is_from low high n ≡ true → writes low high (decimal n) ≡ true
+writes-decimal low high n h r = rw (value_from-decimal n h, same_bytes-refl (decimal n)) r
+
+-- a number's text out of a range writes none
+pub writes-out : (low high n : ℕ) → n < 2 ^ 64 → is_from low high n ≡ false → writes low high (decimal n) ≡ false
+writes-out low high n h r = rw (value_from-decimal n h, same_bytes-refl (decimal n)) r
+
+-- a word that is no number's text writes none
+pub writes-none : (low high : ℕ) (w : List ℕ) → high < 2 ^ 32 → ((n : ℕ) → n < 2 ^ 32 → w ≢ decimal n) → writes low high w ≡ false
+writes-none low high w h f = never (writes low high w) (λ e.
+    let equal = same_bytes-equal w (decimal (value_from 0 w)) (and_left _ (is_from low high (value_from 0 w)) e) in
+    let within : is_from low high (value_from 0 w) ≡ true = and_right (same_bytes w (decimal (value_from 0 w))) _ e in
+    let below : value_from 0 w ≤ high = to_high low high (value_from 0 w) within in
+    f (value_from 0 w) (omega arith) equal)
+
+-- a fact for `None`, where there is no value
+pub if_none : {A : Type 0} (P : Type 0) (o : Option A) → ((IsSome o → ⊥) → P) → IfNone o P
+if_none P None f = f (λ s. absurd (false≢true s))
+if_none P (Some x) f = tt

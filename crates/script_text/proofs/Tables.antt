@@ -1,7 +1,22 @@
 -- Tables of the names that lines make.
-use Rattle.std.proofs.Common.{◌≡◌, ℕ, ◌<◌, Bool, false, List, [], length, ap, sym, ◌∙◌, replicate, slice_index_or, subst}
-use Rattle.std.proofs.lemmas.List.{get_or-replicate}
+use Rattle.std.proofs.Common.{◌≡◌, ℕ, ◌<◌, ◌≤◌, ◌==◌, ◌||◌, ◌&&◌, Bool, true, false, List, [], ◌∷◌, length, refl}
+use Rattle.std.proofs.Common.{ap, sym, ◌∙◌, arith, replicate, slice_index_or, slice_set, subst, Option, None, if◌then◌else◌, ◌⊎◌, inl, inr}
+use Rattle.std.specs.Prelude.{not}
+use Rattle.std.proofs.lemmas.Bool.Decides.{nat_tests}
+use Rattle.std.proofs.lemmas.List.{get_or-replicate, get_or-set_same, get_or-set_other, length-set}
+use Rattle.dtx_values.specs.declared.number.TxNo.{TxNo}
+use Rattle.dtx_values.specs.declared.number.EnlNo.{EnlNo}
+use Rattle.dtx_values.specs.declared.number.RmNo.{RmNo}
+use Rattle.dtx_values.specs.declared.script.Body.{Body}
+use Rattle.dtx_values.specs.declared.script.Body.TheVariants.{Durable, Promotable}
 use Rattle.dtx_values.specs.declared.script.Line.{Line}
+use Rattle.dtx_values.specs.declared.script.Support.{Support}
+use Rattle.dtx_values.specs.declared.words.Outcome.{Outcome}
+use Rattle.dtx_values.specs.declared.words.Vote.{Vote}
+use Rattle.dtx_model.specs.Words.{has, each, past_of}
+use Rattle.dtx_model.specs.Grammar.{makes, makes_lasting, makes_lasting_of, is_made, is_lasting, is_lasting_of, is_par, same_name, OfEnlistment}
+use Rattle.dtx_model.specs.Faults.{name_fault}
+use Rattle.dtx_model.proofs.Bools.{or_first, or_second, or_false, not_true, and_left}
 use Rattle.script_text.specs.Reader.{AreMade}
 
 -- a table of n places, none of which is set
@@ -14,13 +29,124 @@ pub new_table : (n : ℕ) (xs : List Bool) → length xs ≡ n → xs ≡ replic
 new_table n xs h e = record { long = h; unset = λ k b. ap (λ ys. slice_index_or ys k false) e ∙ get_or-replicate n k false false b }
 
 -- new tables say that no name is made
-pub new_tables : (s : List Line) (transactions enlistments clones : List Bool) → s ≡ [] → IsUnset 257 transactions → IsUnset 10000 enlistments → IsUnset 10000 clones
-    → AreMade s transactions enlistments clones
-new_tables s ts es cs empty t e c = subst (λ (r : List Line). AreMade r ts es cs) (sym empty) (record {
+pub new_tables : (s : List Line) (transactions enlistments clones scopes : List Bool) (owners : List ℕ) → s ≡ [] → IsUnset 257 transactions → IsUnset 10000 enlistments → IsUnset 10000 clones
+    → IsUnset 10000 scopes → length owners ≡ 10000 → owners ≡ replicate 10000 0 → AreMade (past_of s) transactions enlistments clones scopes owners false
+new_tables s ts es cs ss os empty t e c p n z = subst (λ (r : List Line). AreMade (past_of r) ts es cs ss os false) (sym empty) (record {
   transactions_long = t.long;
   enlistments_long = e.long;
   clones_long = c.long;
+  scopes_long = p.long;
+  owners_long = n;
   transaction = t.unset;
   enlistment = e.unset;
   clone = c.unset;
+  scope = p.unset;
+  lasting = λ k b. rw (none_owned os z k b) refl;
+  owner = λ t k l b. rw (none_owned os z k b) (grind (arith, nat_tests));
+  par_stands = refl;
 })
+  where
+    none_owned : (os : List ℕ) → os ≡ replicate 10000 0 → (k : ℕ) → k < 10000 → slice_index_or os k 0 ≡ 0
+    none_owned os z k b = ap (λ ys. slice_index_or ys k 0) z ∙ get_or-replicate 10000 k 0 0 b
+
+-- a command that makes the enlistment as a lasting one makes its name
+unmade_here : (e : ℕ) (b : Body) → has (λ m. same_name (OfEnlistment e) m) (makes b) ≡ false → makes_lasting e b ≡ false
+unmade_here e (Durable t f r s) h = or_first (e == f.value) false h
+unmade_here e (Promotable t f r v o p) h = or_first (e == f.value) false h
+unmade_here e _ h = refl
+
+unmade_here_of : (t e : ℕ) (b : Body) → makes_lasting e b ≡ false → makes_lasting_of t e b ≡ false
+unmade_here_of t e (Durable u f r s) h = rw h (grind (arith, nat_tests))
+unmade_here_of t e (Promotable u f r v o p) h = rw h (grind (arith, nat_tests))
+unmade_here_of t e _ h = refl
+
+-- an enlistment that wasn't made isn't a durable or promotable one of any transaction
+unmade_of : (t e : ℕ) (past : List Line) → is_made past (OfEnlistment e) ≡ false → is_lasting_of past t e ≡ false
+unmade_of t e [] h = refl
+unmade_of t e (l ∷ past) h =
+    let here = unmade_here e l.body (or_first (has (λ m. same_name (OfEnlistment e) m) (makes l.body)) (is_made past (OfEnlistment e)) h) in
+    or_false (makes_lasting_of t e l.body) _ (unmade_here_of t e l.body here) (unmade_of t e past (or_second (has (λ m. same_name (OfEnlistment e) m) (makes l.body)) _ h))
+
+-- a command makes this enlistment as a durable or promotable one of this transaction
+record IsLasting (b : Body) (t e : ℕ) : Type 0 where
+  pub makes_name : makes b ≡ OfEnlistment e ∷ []
+  pub lasting : (n : ℕ) → makes_lasting n b ≡ (n == e)
+  pub owner : (u n : ℕ) → makes_lasting_of u n b ≡ ((u == t) && (n == e))
+  pub no_par : is_par b ≡ false
+
+-- it is a durable or a promotable one
+abbrev pub MakesLasting : Body → TxNo → EnlNo → Type 0
+MakesLasting b t e = ((r : RmNo) × (s : Support) × (b ≡ Durable t e r s)) ⊎ ((r : RmNo) × (v : Option Vote) × (o : Option Outcome) × (p : Option Bool) × (b ≡ Promotable t e r v o p))
+
+lasting_line : (b : Body) (t : TxNo) (e : EnlNo) → MakesLasting b t e → IsLasting b t.value e.value
+lasting_line b t e (inl w) = subst (λ (x : Body). IsLasting x t.value e.value) (sym w.2) (record { makes_name = refl; lasting = λ n. refl; owner = λ u n. refl; no_par = refl })
+lasting_line b t e (inr w) = subst (λ (x : Body). IsLasting x t.value e.value) (sym w.4) (record { makes_name = refl; lasting = λ n. refl; owner = λ u n. refl; no_par = refl })
+
+-- a place of a table behind a write
+written_bool : (xs : List Bool) (e n : ℕ) (b : Bool) → e < length xs → (n == e) ≡ b → slice_index_or (slice_set xs e true) n false ≡ (b || slice_index_or xs n false)
+written_bool xs e n true k q = let same : n ≡ e = grind (arith, nat_tests) in rw same (get_or-set_same xs e true false k)
+written_bool xs e n false k q = get_or-set_other xs e n true false (λ same. grind (arith, nat_tests))
+
+written_owner : (xs : List ℕ) (e n t : ℕ) (b : Bool) → e < length xs → (n == e) ≡ b → slice_index_or (slice_set xs e t) n 0 ≡ (if b then t else slice_index_or xs n 0)
+written_owner xs e n t true k q = let same : n ≡ e = grind (arith, nat_tests) in rw same (get_or-set_same xs e t 0 k)
+written_owner xs e n t false k q = get_or-set_other xs e n t 0 (λ same. grind (arith, nat_tests))
+
+-- a line whose names have no fault makes new names
+no_twice : (past : List Line) (l : Line) (b : Bool) → each (λ n. not (is_made past n)) (makes l.body) ≡ b → name_fault past l ≡ None → b ≡ true
+no_twice past l true e h = refl
+no_twice past l false e h = absurd (cc (rw e at h))
+
+-- what a table of owners says of a number, behind a line that makes one
+owner_there : (past : List Line) (b : Body) (os : List ℕ) (t e u n : ℕ) (same : Bool) → IsLasting b t e → is_lasting_of past u e ≡ false → e < length os → (n == e) ≡ same
+    → (u == slice_index_or os n 0) ≡ is_lasting_of past u n → (u == slice_index_or (slice_set os e t) n 0) ≡ (makes_lasting_of u n b || is_lasting_of past u n)
+owner_there past b os t e u n true h none k q old =
+    let equal : n ≡ e = grind (arith, nat_tests) in
+    let gone : is_lasting_of past u n ≡ false = ap (λ m. is_lasting_of past u m) equal ∙ none in
+    rw (written_owner os e n t true k q, h.owner u n, q, gone) (and_true (u == t))
+  where
+    and_true : (x : Bool) → x ≡ ((x && true) || false)
+    and_true true = refl
+    and_true false = refl
+owner_there past b os t e u n false h none k q old = rw (written_owner os e n t false k q, h.owner u n, q) (old ∙ and_false (u == t) _)
+  where
+    and_false : (x y : Bool) → y ≡ ((x && false) || y)
+    and_false true y = refl
+    and_false false y = refl
+
+lasting_there : (past : List Line) (b : Body) (os : List ℕ) (t e n : ℕ) (same : Bool) → IsLasting b t e → 1 ≤ t → e < length os → (n == e) ≡ same
+    → not (slice_index_or os n 0 == 0) ≡ is_lasting past n → not (slice_index_or (slice_set os e t) n 0 == 0) ≡ (makes_lasting n b || is_lasting past n)
+lasting_there past b os t e n true h k m q old =
+    let some : (t == 0) ≡ false = grind (arith, nat_tests) in
+    rw (written_owner os e n t true m q, h.lasting n, q, some) refl
+lasting_there past b os t e n false h k m q old = rw (written_owner os e n t false m q, h.lasting n, q) old
+
+enlistment_there : (past : List Line) (b : Body) (es : List Bool) (t e n : ℕ) → IsLasting b t e → e < length es → slice_index_or es n false ≡ is_made past (OfEnlistment n)
+    → slice_index_or (slice_set es e true) n false ≡ (has (λ m. same_name (OfEnlistment n) m) (makes b) || is_made past (OfEnlistment n))
+enlistment_there past b es t e n h m old = rw (written_bool es e n (n == e) m refl, h.makes_name, old) (or_fold (n == e) _)
+  where
+    or_fold : (x y : Bool) → (x || y) ≡ ((x || false) || y)
+    or_fold true y = refl
+    or_fold false y = refl
+
+-- the tables behind a line that makes a durable or promotable enlistment
+pub lasting_more : (past : List Line) (l : Line) (t : TxNo) (e : EnlNo) (ts es cs ss : List Bool) (os : List ℕ) (par : Bool) → MakesLasting l.body t e → name_fault past l ≡ None
+    → AreMade past ts es cs ss os par → AreMade (l ∷ past) ts (slice_set es e.value true) cs ss (slice_set os e.value t.value) par
+lasting_more past l t e ts es cs ss os par m h a =
+    let line = lasting_line l.body t e m in
+    let new = no_twice past l _ refl h in
+    let one = sym (ap (λ ns. each (λ n. not (is_made past n)) ns) line.makes_name) ∙ new in
+    let unmade : is_made past (OfEnlistment e.value) ≡ false = not_true _ (and_left (not (is_made past (OfEnlistment e.value))) true one) in
+    record {
+      transactions_long = a.transactions_long;
+      enlistments_long = length-set es e.value true ∙ a.enlistments_long;
+      clones_long = a.clones_long;
+      scopes_long = a.scopes_long;
+      owners_long = length-set os e.value t.value ∙ a.owners_long;
+      transaction = λ n k. rw line.makes_name (a.transaction n k);
+      enlistment = λ n k. enlistment_there past l.body es t.value e.value n line (omega (arith, a.enlistments_long)) (a.enlistment n k);
+      clone = λ n k. rw line.makes_name (a.clone n k);
+      scope = λ n k. rw line.makes_name (a.scope n k);
+      lasting = λ n k. lasting_there past l.body os t.value e.value n (n == e.value) line (omega arith) (omega (arith, a.owners_long)) refl (a.lasting n k);
+      owner = λ u n j k. owner_there past l.body os t.value e.value u n (n == e.value) line (unmade_of u e.value past unmade) (omega (arith, a.owners_long)) refl (a.owner u n j k);
+      par_stands = rw line.no_par a.par_stands;
+    }

@@ -1,81 +1,145 @@
 -- What the reader's parts read.
-use Rattle.std.specs.Prelude.{ℕ, ◌≡◌, ◌==◌, nat_le, Bool, true, false, List, ◌∷◌, [], ◌++◌, decimal, Option, length, ◌<◌, slice_index_or}
-use Rattle.std.specs.List.{join_with_byte}
-use Rattle.dtx_values.specs.declared.number.TxNo.{TxNo}
-use Rattle.dtx_values.specs.declared.number.EnlNo.{EnlNo}
-use Rattle.dtx_values.specs.declared.number.CloneNo.{CloneNo}
+use Rattle.std.specs.Prelude.{ℕ, ◌≡◌, ◌≢◌, ◌==◌, ◌<◌, ◌≤◌, ◌||◌, ◌&&◌, not, Bool, true, false, List, ◌∷◌, ◌++◌, [], codes, Option, Some, None, Result, Ok, Err, length, slice_index_or, if◌then◌else◌}
+use Rattle.dtx_values.specs.declared.script.BadCause.{BadCause}
+use Rattle.dtx_values.specs.declared.script.BadCause.TheVariants.{MissingWord, UnknownWord, BadNumber, ExtraWord}
 use Rattle.dtx_values.specs.declared.script.Body.{Body}
-use Rattle.dtx_values.specs.declared.script.EnlistOption.{EnlistOption}
+use Rattle.dtx_values.specs.declared.script.Opening.{Opening}
+use Rattle.dtx_values.specs.declared.script.Support.{Support}
 use Rattle.dtx_values.specs.declared.script.Line.{Line}
-use Rattle.dtx_values.specs.declared.words.CloneKind.{CloneKind}
-use Rattle.dtx_values.specs.declared.words.Timeout.{Timeout}
-use Rattle.dtx_values.specs.declared.words.Timeout.TheVariants.{Default, Milliseconds}
-use Rattle.dtx_values.specs.declared.words.Vote.{Vote}
 use Rattle.dtx_model.specs.Words.{has, past_of}
-use Rattle.dtx_model.specs.Grammar.{transaction_name, enlistment_name, clone_name, timeout_word, option_word, vote_word, kind_word, command_words, words, line_text, is_run}
-use Rattle.dtx_model.specs.Grammar.{is_from, is_in_range, is_short, is_made, OfTransaction, OfEnlistment, OfClone, IsScript}
+use Rattle.dtx_model.specs.Grammar.{words, line_text, IsScript, command_words, opening_words, support_words, is_in_range, is_opening_in_range}
+use Rattle.dtx_model.specs.Grammar.{is_made, is_lasting, is_lasting_of, is_par, OfTransaction, OfEnlistment, OfClone, OfScope}
+use Rattle.dtx_model.specs.Faults.{Slot, allows, is_digit, is_letter, split, command_forms, word, transaction_slot}
+use Rattle.dtx_model.specs.Faults.{timeout_slot, iso_slot, vote_slot, owner_slot, word_fault, line_forms, words_of, name_fault}
 
 -- no byte is c
 abbrev pub IsWithout : ℕ → List ℕ → Type 0
 IsWithout c bs = has (λ b. b == c) bs ≡ false
 
--- the timeout is in its range
-abbrev pub fits : Timeout → Bool
-fits Default = true
-fits (Milliseconds n) = nat_le n 4294967295
+-- the words that are left: none, or those of these bytes
+abbrev pub words_left : Bool → List ℕ → List (List ℕ)
+words_left true bs = split bs
+words_left false bs = []
 
--- the text behind `begin`
-pub record IsBegin (text : List ℕ) (t : TxNo) (d : Timeout) : Type 0 where
-  pub in_range : fits d ≡ true
-  pub spelled : text ≡ transaction_name t.value ++ 32 ∷ timeout_word d
+-- the words behind the first
+abbrev pub tail : List (List ℕ) → List (List ℕ)
+tail [] = []
+tail (w ∷ ws) = ws
 
--- the text behind `volatile`
-pub record IsVolatile (text : List ℕ) (t : TxNo) (e : EnlNo) (o : EnlistOption) (v : Option Vote) : Type 0 where
-  pub spelled : text ≡ transaction_name t.value ++ 32 ∷ (enlistment_name e.value ++ 32 ∷ (option_word o ++ 32 ∷ vote_word v))
+-- the word has one of these letters and a digit behind it
+abbrev pub is_misnamed : List ℕ → List ℕ → Bool
+is_misnamed letters (b ∷ d ∷ ds) = has (λ c. b == c) letters && is_digit d
+is_misnamed letters _ = false
 
--- the text behind `clone`
-pub record IsClone (text : List ℕ) (t : TxNo) (c : CloneNo) (k : CloneKind) : Type 0 where
-  pub spelled : text ≡ transaction_name t.value ++ 32 ∷ (clone_name c.value ++ 32 ∷ kind_word k)
+-- the word begins with a digit or has no letter
+abbrev pub is_misnumbered : List ℕ → Bool
+is_misnumbered [] = false
+is_misnumbered (b ∷ bs) = is_digit b || not (has is_letter (b ∷ bs))
 
--- the text behind `tick`
-pub record IsTick (text : List ℕ) (t : TxNo) (n : ℕ) : Type 0 where
-  pub in_range : is_from 1 1000000000 n ≡ true
-  pub spelled : text ≡ transaction_name t.value ++ 32 ∷ decimal n
+-- the cause where a word isn't allowed at a place for a name of these letters, or for a number
+unfoldable pub cause_of : List ℕ → Bool → List ℕ → BadCause
+cause_of letters numbered w = if is_misnamed letters w || (numbered && is_misnumbered w) then BadNumber else UnknownWord
 
--- the text behind `do`
-pub record IsDo (text : List ℕ) (t : TxNo) (k n : ℕ) : Type 0 where
-  pub place_in_range : is_from 1 99 k ≡ true
-  pub number_in_range : is_from 1 999 n ≡ true
-  pub spelled : text ≡ transaction_name t.value ++ 32 ∷ (decimal k ++ 32 ∷ decimal n)
+-- a number may stand there
+abbrev pub is_numbered : Option (ℕ × ℕ) → Bool
+is_numbered (Some r) = true
+is_numbered None = false
 
--- the text is that of this command, which is run, with numbers in their ranges
-pub record IsCommand (text : List ℕ) (b : Body) : Type 0 where
-  pub run : is_run b ≡ true
-  pub in_range : is_in_range b ≡ true
-  pub spelled : text ≡ join_with_byte 32 (command_words b)
+-- the fault of the first word at a place: none where it is allowed there
+unfoldable pub place_fault : Slot → List (List ℕ) → Option BadCause
+place_fault s [] = Some MissingWord
+place_fault s (w ∷ ws) = if allows s w then None else Some (cause_of s.letters (is_numbered s.number) w)
 
--- the text, without its LF, is that of this line, which is run, with numbers in their ranges
-pub record IsLine (text : List ℕ) (l : Line) : Type 0 where
-  pub run : is_run l.body ≡ true
-  pub in_range : is_in_range l.body ≡ true
-  pub spelled : text ≡ join_with_byte 32 (words l)
+-- the first fault of two
+unfoldable pub first_fault : Option BadCause → Option BadCause → Option BadCause
+first_fault (Some c) o = Some c
+first_fault None o = o
 
--- the line is run, its numbers are in their ranges, and it isn't too long
-pub record IsRunLine (l : Line) : Type 0 where
-  pub run : is_run l.body ≡ true
-  pub in_range : is_in_range l.body ≡ true
-  pub short : is_short l ≡ true
+-- no word may be left
+unfoldable pub end_fault : List (List ℕ) → Option BadCause
+end_fault [] = None
+end_fault (w ∷ ws) = Some ExtraWord
 
--- the tables say of each number whether its name is made
-pub record AreMade (s : List Line) (transactions enlistments clones : List Bool) : Type 0 where
+-- each form with this place in front
+abbrev pub ahead : Slot → List (List Slot) → List (List Slot)
+ahead s [] = []
+ahead s (f ∷ fs) = (s ∷ f) ∷ ahead s fs
+
+-- these words begin with this one, which may stand at that place
+abbrev pub IsAt : Slot → List (List ℕ) → List ℕ → List (List ℕ) → Type 0
+IsAt s old w new = (old ≡ w ∷ new) × (place_fault s old ≡ None) × (tail old ≡ new)
+
+-- what a command's reader says of its words, whose first fault is this one
+abbrev pub IsAnswer : List (List ℕ) → Option BadCause → Result Body BadCause → Type 0
+IsAnswer ws f (Ok b) = (ws ≡ command_words b) × (is_in_range b ≡ true) × (f ≡ None)
+IsAnswer ws f (Err c) = f ≡ Some c
+
+-- the word is none of these
+abbrev pub IsOther : List ℕ → List (List ℕ) → Type 0
+IsOther w [] = Unit {0}
+IsOther w (k ∷ ks) = (w ≢ k) × IsOther w ks
+
+-- what a command's reader says of its own word and the words behind it
+abbrev pub IsRead : List ℕ → List (List ℕ) → Result Body BadCause → Type 0
+IsRead w ws r = IsAnswer (w ∷ ws) (word_fault command_forms (w ∷ ws)) r
+
+-- the commands of transactions, enlistments and clones
+abbrev pub making_words : List (List ℕ)
+making_words = codes "begin" ∷ codes "volatile" ∷ codes "durable" ∷ codes "promotable" ∷ codes "clone" ∷ codes "complete" ∷ codes "commit" ∷ codes "rollback" ∷ []
+
+-- those of scopes and of a transaction's threads and messages
+abbrev pub asking_words : List (List ℕ)
+asking_words = codes "open" ∷ codes "finish" ∷ codes "close" ∷ codes "current" ∷ codes "marshal" ∷ codes "status" ∷ codes "await" ∷ codes "par" ∷ []
+
+-- those of time, steps, losses and recovery
+abbrev pub running_words : List (List ℕ)
+running_words = codes "tick" ∷ codes "do" ∷ codes "lose" ∷ codes "gone" ∷ codes "reenlist" ∷ codes "recovered" ∷ codes "stop" ∷ codes "restart" ∷ []
+
+-- the forms behind a scope's name
+abbrev pub opening_forms : List (List Slot)
+opening_forms =
+    (word (codes "required") ∷ transaction_slot ∷ timeout_slot ∷ iso_slot ∷ [])
+    ∷ (word (codes "requiresnew") ∷ transaction_slot ∷ timeout_slot ∷ iso_slot ∷ [])
+    ∷ (word (codes "suppress") ∷ [])
+    ∷ []
+
+abbrev pub opening_keys : List (List ℕ)
+opening_keys = codes "required" ∷ codes "requiresnew" ∷ codes "suppress" ∷ []
+
+-- what a reader of the words behind a scope's name says of them
+abbrev pub IsOpening : List (List ℕ) → Result Opening BadCause → Type 0
+IsOpening ws (Ok o) = (ws ≡ opening_words o) × (is_opening_in_range o ≡ true) × (word_fault opening_forms ws ≡ None)
+IsOpening ws (Err c) = word_fault opening_forms ws ≡ Some c
+
+-- the forms behind a durable's manager
+abbrev pub support_forms : List (List Slot)
+support_forms = (word (codes "single") ∷ vote_slot ∷ owner_slot ∷ []) ∷ (word (codes "two") ∷ vote_slot ∷ []) ∷ []
+
+-- what a reader of the words behind a durable's manager says of them
+abbrev pub IsSupport : List (List ℕ) → Result Support BadCause → Type 0
+IsSupport ws (Ok s) = (ws ≡ support_words s) × (word_fault support_forms ws ≡ None)
+IsSupport ws (Err c) = word_fault support_forms ws ≡ Some c
+
+-- what a reader of a line without its LF says of its words
+abbrev pub IsLine : List ℕ → Result Line BadCause → Type 0
+IsLine t (Ok l) = (words_of t ≡ words l) × (is_in_range l.body ≡ true) × (word_fault line_forms (words_of t) ≡ None)
+IsLine t (Err c) = word_fault line_forms (words_of t) ≡ Some c
+
+-- the tables say of each number whether its name is made, and of each enlistment of which transaction it is a durable or promotable one: 0 for none
+pub record AreMade (past : List Line) (transactions enlistments clones scopes : List Bool) (owners : List ℕ) (par : Bool) : Type 0 where
   pub transactions_long : length transactions ≡ 257
   pub enlistments_long : length enlistments ≡ 10000
   pub clones_long : length clones ≡ 10000
-  pub transaction : (n : ℕ) → n < 257 → slice_index_or transactions n false ≡ is_made (past_of s) (OfTransaction n)
-  pub enlistment : (n : ℕ) → n < 10000 → slice_index_or enlistments n false ≡ is_made (past_of s) (OfEnlistment n)
-  pub clone : (n : ℕ) → n < 10000 → slice_index_or clones n false ≡ is_made (past_of s) (OfClone n)
+  pub scopes_long : length scopes ≡ 10000
+  pub owners_long : length owners ≡ 10000
+  pub transaction : (n : ℕ) → n < 257 → slice_index_or transactions n false ≡ is_made past (OfTransaction n)
+  pub enlistment : (n : ℕ) → n < 10000 → slice_index_or enlistments n false ≡ is_made past (OfEnlistment n)
+  pub clone : (n : ℕ) → n < 10000 → slice_index_or clones n false ≡ is_made past (OfClone n)
+  pub scope : (n : ℕ) → n < 10000 → slice_index_or scopes n false ≡ is_made past (OfScope n)
+  pub lasting : (n : ℕ) → n < 10000 → not (slice_index_or owners n 0 == 0) ≡ is_lasting past n
+  pub owner : (t n : ℕ) → 1 ≤ t → n < 10000 → (t == slice_index_or owners n 0) ≡ is_lasting_of past t n
+  pub par_stands : par ≡ has (λ l. is_par l.body) past
 
 -- the bytes begin with this line, which may follow these ones
-pub record Continues (s : List Line) (bytes : List ℕ) (l : Line) (after : List ℕ) : Type 0 where
-  pub spelled : bytes ≡ line_text l ++ after
-  pub script : IsScript (s ++ l ∷ [])
+abbrev pub Continues : List Line → List ℕ → Line → List ℕ → Type 0
+Continues s bytes l after = (bytes ≡ line_text l ++ after) × IsScript (s ++ l ∷ []) × (name_fault (past_of s) l ≡ None)

@@ -1,9 +1,11 @@
 //! The lines that are read so far.
-ghost use Rattle.std.specs.Prelude.{◌≡◌, ◌++◌, [], ◌∷◌, IfOk, OnOk, length};
-ghost use Rattle.dtx_model.specs.Words.{past_of};
-ghost use Rattle.dtx_model.specs.Grammar.{is_made, is_named_well, OfTransaction, OfEnlistment, OfClone};
+ghost use Rattle.std.specs.Prelude.{◌≡◌, ◌++◌, [], ◌∷◌, IfOk, OnOk, None, not, length};
+ghost use Rattle.dtx_model.specs.Words.{each, has, past_of};
+ghost use Rattle.dtx_model.specs.Grammar.{is_made, makes, uses, opening_makes, connection_uses, is_lasting, is_lasting_of};
+ghost use Rattle.dtx_model.specs.Grammar.{is_connection_of, is_of_kind, is_par, OfTransaction, OfEnlistment, OfClone, OfScope};
+ghost use Rattle.dtx_model.specs.Faults.{name_fault};
 
-use dtx_values::{Body, CloneNo, EnlNo, Line, Script, TxNo};
+use dtx_values::{BadCause, Body, CloneNo, Conn, EnlNo, Line, Opening, ScopeNo, Script, TxNo};
 use std::alloc::{AllocError, Global};
 use std::marker::Model;
 
@@ -16,6 +18,9 @@ const ENLISTMENT_NAMES: usize = 10_000;
 /// One more than the greatest number of a clone.
 const CLONE_NAMES: usize = 10_000;
 
+/// One more than the greatest number of a scope.
+const SCOPE_NAMES: usize = 10_000;
+
 /// Lines, with tables of the names that they make. Contracts see the lines.
 #[derive(Drop)]
 pub struct Draft {
@@ -23,18 +28,23 @@ pub struct Draft {
     transactions: Vec<bool>,
     enlistments: Vec<bool>,
     clones: Vec<bool>,
+    scopes: Vec<bool>,
+    /// The transaction of each durable or promotable enlistment; 0 for none.
+    owners: Vec<u32>,
+    par: bool,
 }
 
 impl Model for Draft {
     ghost use Rattle.std.specs.Prelude.{List};
     ghost use Rattle.dtx_values.specs.declared.script.Line.{Line};
+    ghost use Rattle.dtx_model.specs.Words.{past_of};
     ghost use Rattle.script_text.specs.Reader.{AreMade};
 
     ghost Value = { List Line };
 
     ghost view = { λ d. d.lines.items };
 
-    ghost invariant = { λ d. AreMade d.lines.items d.transactions.items d.enlistments.items d.clones.items };
+    ghost invariant = { λ d. AreMade (past_of d.lines.items) d.transactions.items d.enlistments.items d.clones.items d.scopes.items d.owners.items d.par };
 }
 
 impl Draft {
@@ -47,6 +57,9 @@ impl Draft {
             transactions: vec![in alloc; false; TRANSACTION_NAMES]?,
             enlistments: vec![in alloc; false; ENLISTMENT_NAMES]?,
             clones: vec![in alloc; false; CLONE_NAMES]?,
+            scopes: vec![in alloc; false; SCOPE_NAMES]?,
+            owners: vec![in alloc; 0; ENLISTMENT_NAMES]?,
+            par: false,
         })
     }
 
@@ -75,34 +88,156 @@ impl Draft {
         self.clones[c.get() as usize]
     }
 
-    /// Whether the line makes names that weren't made, and uses names that were.
-    pub fn accepts(&self, line: &Line) -> bool
-        ensures { result ≡ is_named_well (past_of self.now) line.now }
+    fn has_scope(&self, s: ScopeNo) -> bool
+        ensures { result ≡ is_made (past_of self.now) (OfScope s.value) }
     {
-        match line.body {
+        self.scopes[s.get() as usize]
+    }
+
+    /// Whether the enlistment is a durable or promotable one.
+    fn is_lasting(&self, e: EnlNo) -> bool
+        ensures { result ≡ is_lasting (past_of self.now) e.value }
+    {
+        self.owners[e.get() as usize] != 0
+    }
+
+    /// Whether it is a durable or promotable one of this transaction.
+    fn is_lasting_of(&self, t: TxNo, e: EnlNo) -> bool
+        ensures { result ≡ is_lasting_of (past_of self.now) t.value e.value }
+    {
+        t.get() == self.owners[e.get() as usize]
+    }
+
+    fn has_par(&self) -> bool
+        ensures { result ≡ has (λ l. is_par l.body) (past_of self.now) }
+    {
+        self.par
+    }
+
+    /// Whether the opening's transaction wasn't made.
+    fn opens_new(&self, o: Opening) -> bool
+        ensures { result ≡ each (λ n. not (is_made (past_of self.now) n)) (opening_makes o) }
+    {
+        match o {
+            Opening::Required(t, _, _) | Opening::RequiresNew(t, _, _) => !self.has_transaction(t),
+            Opening::Suppress => true,
+        }
+    }
+
+    /// Whether the names that the command makes weren't made.
+    fn makes_new(&self, body: &Body) -> bool
+        ensures { result ≡ each (λ n. not (is_made (past_of self.now) n)) (makes body.now) }
+    {
+        match *body {
             Body::Begin(t, _) => !self.has_transaction(t),
-            Body::Volatile(t, e, _, _) => !self.has_enlistment(e) && self.has_transaction(t),
-            Body::Clone(t, c, _) => !self.has_clone(c) && self.has_transaction(t),
-            Body::Complete(c) => self.has_clone(c),
-            Body::Commit(t)
-            | Body::Rollback(t)
-            | Body::Status(t)
-            | Body::Await(t)
-            | Body::Tick(t, _)
-            | Body::Do(t, _, _) => self.has_transaction(t),
+            Body::Open(s, o) => !self.has_scope(s) && self.opens_new(o),
+            Body::Volatile(_, e, _, _)
+            | Body::Durable(_, e, _, _)
+            | Body::Promotable(_, e, _, _, _, _) => !self.has_enlistment(e),
+            Body::Clone(_, c, _) => !self.has_clone(c),
             _ => true,
         }
     }
 
-    /// Adds a line at the end.
+    /// Whether the connection's enlistment was made.
+    fn connects_known(&self, c: Conn) -> bool
+        ensures { result ≡ each (λ n. is_made (past_of self.now) n) (connection_uses c) }
+    {
+        match c {
+            Conn::Enl(e) | Conn::Again(e) => self.has_enlistment(e),
+            _ => true,
+        }
+    }
+
+    /// Whether the names that the command uses were made.
+    fn uses_known(&self, body: &Body) -> bool
+        ensures { result ≡ each (λ n. is_made (past_of self.now) n) (uses body.now) }
+    {
+        match *body {
+            Body::Finish(s) | Body::Close(s) => self.has_scope(s),
+            Body::Complete(c) => self.has_clone(c),
+            Body::Gone(e) | Body::Reenlist(e) => self.has_enlistment(e),
+            Body::Lose(t, c, _, _) => self.has_transaction(t) && self.connects_known(c),
+            Body::Volatile(t, _, _, _)
+            | Body::Durable(t, _, _, _)
+            | Body::Promotable(t, _, _, _, _, _)
+            | Body::Clone(t, _, _)
+            | Body::Commit(t)
+            | Body::Rollback(t)
+            | Body::Marshal(t)
+            | Body::Status(t)
+            | Body::Await(t)
+            | Body::Tick(t, _)
+            | Body::Do(t, _, _)
+            | Body::Recovered(t, _) => self.has_transaction(t),
+            _ => true,
+        }
+    }
+
+    /// Whether the connection's enlistment is a durable or promotable one of this transaction.
+    fn is_connection_of(&self, t: TxNo, c: Conn) -> bool
+        ensures { result ≡ is_connection_of (past_of self.now) t.value c }
+    {
+        match c {
+            Conn::Enl(e) | Conn::Again(e) => self.is_lasting_of(t, e),
+            _ => true,
+        }
+    }
+
+    /// Whether each enlistment that the command names is of the kind that it asks for.
+    fn is_of_kind(&self, body: &Body) -> bool
+        ensures { result ≡ is_of_kind (past_of self.now) body.now }
+    {
+        match *body {
+            Body::Gone(e) | Body::Reenlist(e) => self.is_lasting(e),
+            Body::Lose(t, c, _, _) => self.is_connection_of(t, c),
+            _ => true,
+        }
+    }
+
+    /// The first fault of a line's names behind these lines.
+    pub fn fault(&self, line: &Line) -> Option<BadCause>
+        ensures { result ≡ name_fault (past_of self.now) line.now }
+    {
+        if !self.makes_new(&line.body) {
+            return Some(BadCause::NameTwice);
+        }
+        if !self.uses_known(&line.body) {
+            return Some(BadCause::NameUnknown);
+        }
+        if !self.is_of_kind(&line.body) {
+            return Some(BadCause::WrongKind);
+        }
+        if line.body == Body::Par && self.has_par() {
+            return Some(BadCause::ParTwice);
+        }
+        None
+    }
+
+    /// Adds a line at the end, whose names have no fault.
     pub fn push(&mut self, line: Line) -> Result<(), AllocError>
+        requires { name_fault (past_of self.old) line ≡ None }
         ensures { OnOk result (self.new ≡ self.old ++ line ∷ []) }
     {
         self.lines.push(line)?;
         match line.body {
             Body::Begin(t, _) => self.transactions[t.get() as usize] = true,
+            Body::Open(s, o) => {
+                self.scopes[s.get() as usize] = true;
+                match o {
+                    Opening::Required(t, _, _) | Opening::RequiresNew(t, _, _) => {
+                        self.transactions[t.get() as usize] = true;
+                    }
+                    Opening::Suppress => {}
+                }
+            }
             Body::Volatile(_, e, _, _) => self.enlistments[e.get() as usize] = true,
+            Body::Durable(t, e, _, _) | Body::Promotable(t, e, _, _, _, _) => {
+                self.enlistments[e.get() as usize] = true;
+                self.owners[e.get() as usize] = t.get();
+            }
             Body::Clone(_, c, _) => self.clones[c.get() as usize] = true,
+            Body::Par => self.par = true,
             _ => {}
         }
         Ok(())

@@ -1,10 +1,19 @@
 //! Texts of scripts.
 #![tactic(auto)]
 
+mod asking;
+mod commands;
+mod cursor;
 mod draft;
-mod lines;
+mod laws;
+mod making;
+mod parts;
+mod print;
 mod reader;
+mod running;
 mod words;
 
-pub use dtx_values::{Line, Script};
-pub use reader::{Reading, read_script, reads_exactly};
+pub use dtx_values::{BadCause, Line, Script};
+pub use laws::reads_exactly;
+pub use print::print_script;
+pub use reader::{ScriptError, read_script};

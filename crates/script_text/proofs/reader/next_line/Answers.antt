@@ -1,18 +1,26 @@
-use Rattle.std.proofs.Common.{arith, sym, ◌∙◌, length, ap, length-append}
-use Rattle.script_text.proofs.Scripts.{last_run, last_named, last_within}
-use Rattle.script_text.proofs.SameLines.{same_line}
-use Rattle.dtx_model.specs.Grammar.{line_text}
+use Rattle.std.proofs.Common.{◌≡◌, None, Some, arith, rules, ap, sym, ◌∙◌}
+use Rattle.dtx_model.specs.Words.{past_of}
+use Rattle.dtx_model.specs.Faults.{form_fault, name_fault, words_of, ByNames}
+use Rattle.script_text.proofs.Fronts.{spelled_line}
+use Rattle.script_text.proofs.Growing.{length-line_text, script_more}
 use Rattle.script_text.proofs.reader.next_line.Goals as goal
 
-pub returns-then-taken-bytes-gt-SCRIPT_LENGTH-clause-none : goal.returns-then-taken-bytes-gt-SCRIPT_LENGTH-clause-none
-returns-then-taken-bytes-gt-SCRIPT_LENGTH-clause-none c = λ l after h.
-    let m = c.in_ok-line.line in
-    let same = same_line l m after c.in_ok-line.after.now (last_run c.args.draft.now l h.script) c.in_ok-line.ensures.some.1 (sym h.spelled ∙ c.in_ok-line.ensures.some.0) in
-    omega (arith, last_within c.args.draft.now l h.script, ap length h.spelled, length-append (line_text l) after, ap length same.1)
+pub returns-in-Some-clause-bad : goal.returns-in-Some-clause-bad
+returns-in-Some-clause-bad c =
+    let l = c.in_ok-line.line in
+    let form : form_fault c.args.taken c.args.rest.now ≡ None = c.in_ok-text.ensures.words ∙ c.in_ok-line.ensures.2 in
+    let fault : name_fault (past_of c.args.draft.now) l ≡ Some c.in-Some.cause = search rules in
+    ByNames l (ap (λ n. form_fault n c.args.rest.now) (sym c.requires.taken) ∙ form) (ap words_of c.in_ok-text.ensures.text ∙ c.in_ok-line.ensures.0) c.in_ok-line.ensures.1 fault
 
-pub returns-then-not-accepts-clause-none : goal.returns-then-not-accepts-clause-none
-returns-then-not-accepts-clause-none c = λ l after h.
-    let m = c.in_ok-line.line in
-    let same = same_line l m after c.in_ok-line.after.now (last_run c.args.draft.now l h.script) c.in_ok-line.ensures.some.1 (sym h.spelled ∙ c.in_ok-line.ensures.some.0) in
-    let named = last_named c.args.draft.now l h.script in
-    cc (same.0, named)
+pub returns-in-None-clause-ok : goal.returns-in-None-clause-ok
+returns-in-None-clause-ok c =
+    let l = c.in_ok-line.line in
+    let bytes = c.args.rest.now in
+    let text = c.in_ok-text.text.now in
+    let after = c.in_ok-text.after.now in
+    let named : name_fault (past_of c.args.draft.now) l ≡ None = search rules in
+    let spelled = spelled_line l bytes text after c.in_ok-text.ensures.cut c.in_ok-line.ensures.0 in
+    let long = length-line_text l bytes text after c.in_ok-text.ensures.cut spelled in
+    let script = script_more c.args.draft.now l c.requires.script c.in_ok-line.ensures.1
+    (omega (arith, long, c.in_ok-text.ensures.short)) (omega (arith, long, c.in_ok-text.ensures.within, c.requires.taken)) named in
+    (spelled, script, named)

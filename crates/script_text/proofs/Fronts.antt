@@ -1,0 +1,127 @@
+-- The line at the front of bytes.
+use Rattle.std.proofs.Common.{◌≡◌, ℕ, ◌+◌, ◌≤◌, ◌<◌, ◌==◌, Bool, true, false, List, [], ◌∷◌, ◌++◌, length, refl, ap, sym, ◌∙◌, arith, Some, append_assoc, if◌then◌else◌, nat_lt}
+use Rattle.std.specs.Prelude.{not}
+use Rattle.std.specs.List.{join_with_byte}
+use Rattle.std.proofs.lemmas.Bool.Decides.{nat_tests}
+use Rattle.dtx_values.specs.declared.script.BadCause.TheVariants.{TooLong, LongLine, NoNewline, BadByte}
+use Rattle.dtx_values.specs.declared.script.Line.{Line}
+use Rattle.dtx_model.specs.Words.{has, each}
+use Rattle.dtx_model.specs.Grammar.{is_from, words, line_text}
+use Rattle.dtx_model.specs.Faults.{front, has_newline, push, split, words_of, form_fault, word_fault, line_forms}
+use Rattle.dtx_model.proofs.Bools.{or_first, or_second, or_right}
+use Rattle.script_text.specs.Reader.{IsWithout}
+
+-- bytes with an LF have the line before it at their front
+pub front_cut : (t r : List ℕ) → IsWithout 10 t → front (t ++ 10 ∷ r) ≡ t
+front_cut [] r h = refl
+front_cut (b ∷ t) r h = rw (or_first (b == 10) (has (λ x. x == 10) t) h, front_cut t r (or_second (b == 10) _ h)) refl
+
+newline_cut : (t r : List ℕ) → has_newline (t ++ 10 ∷ r) ≡ true
+newline_cut [] r = refl
+newline_cut (b ∷ t) r = or_right (b == 10) _ (newline_cut t r)
+
+-- bytes without LF are all in front
+pub front_whole : (t : List ℕ) → IsWithout 10 t → front t ≡ t
+front_whole [] h = refl
+front_whole (b ∷ t) h = rw (or_first (b == 10) (has (λ x. x == 10) t) h, front_whole t (or_second (b == 10) _ h)) refl
+
+-- how a line is cut: its text, and whether an LF is there
+pub record IsFront (bs t : List ℕ) (n : ℕ) (l : Bool) : Type 0 where
+  pub text : front bs ≡ t
+  pub newline : has_newline bs ≡ l
+  pub reached : n ≡ length t + (if l then 1 else 0)
+
+pub cut_front : (bs t r : List ℕ) → bs ≡ t ++ 10 ∷ r → IsWithout 10 t → IsFront bs t (length t + 1) true
+cut_front bs t r e h = record { text = rw e (front_cut t r h); newline = rw e (newline_cut t r); reached = refl }
+
+pub whole_front : (bs : List ℕ) → IsWithout 10 bs → IsFront bs bs (length bs) false
+whole_front bs h = record { text = front_whole bs h; newline = h; reached = omega arith }
+
+-- the line reaches too far
+pub too_long : (taken : ℕ) (bs t : List ℕ) (n : ℕ) (l : Bool) → IsFront bs t n l → 1048576 < taken + n → form_fault taken bs ≡ Some TooLong
+unfolding form_fault
+too_long taken bs t n l f k =
+    let long : nat_lt 1048576 (taken + n) ≡ true = grind (arith, nat_tests) in
+    rw (f.text, f.newline, sym f.reached, long) refl
+
+-- it has too many bytes
+pub long_line : (taken : ℕ) (bs t : List ℕ) (n : ℕ) (l : Bool) → IsFront bs t n l → taken + n ≤ 1048576 → 200 < length t → form_fault taken bs ≡ Some LongLine
+unfolding form_fault
+long_line taken bs t n l f k m =
+    let within : nat_lt 1048576 (taken + n) ≡ false = grind (arith, nat_tests) in
+    let long : nat_lt 200 (length t) ≡ true = grind (arith, nat_tests) in
+    rw (f.text, f.newline, sym f.reached, within, long) refl
+
+-- its LF isn't there
+pub no_newline : (taken : ℕ) (bs : List ℕ) → IsWithout 10 bs → taken + length bs ≤ 1048576 → length bs ≤ 200 → form_fault taken bs ≡ Some NoNewline
+unfolding form_fault
+no_newline taken bs h k m =
+    let f = whole_front bs h in
+    let within : nat_lt 1048576 (taken + length bs) ≡ false = grind (arith, nat_tests) in
+    let short : nat_lt 200 (length bs) ≡ false = grind (arith, nat_tests) in
+    rw (f.text, f.newline, sym f.reached, within, short) refl
+
+-- a byte isn't printed, or only the words are left to look at
+pub cut_line : (taken : ℕ) (bs t r : List ℕ) (b : Bool) → bs ≡ t ++ 10 ∷ r → IsWithout 10 t → taken + length t + 1 ≤ 1048576 → length t ≤ 200 → each (is_from 32 126) t ≡ b
+    → form_fault taken bs ≡ (if b then word_fault line_forms (words_of t) else Some BadByte)
+unfolding form_fault
+cut_line taken bs t r b e h k m p =
+    let f = cut_front bs t r e h in
+    let within : nat_lt 1048576 (taken + (length t + 1)) ≡ false = grind (arith, nat_tests) in
+    let short : nat_lt 200 (length t) ≡ false = grind (arith, nat_tests) in
+    rw (f.text, f.newline, within, short, p) (not_turn b _ _)
+  where
+    not_turn : {A : Type 0} (b : Bool) (x y : A) → (if not b then y else x) ≡ (if b then x else y)
+    not_turn true x y = refl
+    not_turn false x y = refl
+
+-- words are the bytes again when they are joined
+join_push : (b : ℕ) (w : List ℕ) (ws : List (List ℕ)) → join_with_byte 32 (push b (w ∷ ws)) ≡ b ∷ join_with_byte 32 (w ∷ ws)
+join_push b w [] = refl
+join_push b w (v ∷ ws) = refl
+
+-- bytes have a first word
+pub record HasFirst (ws : List (List ℕ)) : Type 0 where
+  pub first : List ℕ
+  pub others : List (List ℕ)
+  pub is : ws ≡ first ∷ others
+
+pushed_first : (b : ℕ) (ws : List (List ℕ)) → HasFirst (push b ws)
+pushed_first b [] = record { first = b ∷ []; others = []; is = refl }
+pushed_first b (w ∷ ws) = record { first = b ∷ w; others = ws; is = refl }
+
+split_first : (bs : List ℕ) → HasFirst (split bs)
+split_first [] = record { first = []; others = []; is = refl }
+split_first (b ∷ bs) = either (b == 32)
+  where
+    either : (t : Bool) → HasFirst (if t then [] ∷ split bs else push b (split bs))
+    either true = record { first = []; others = split bs; is = refl }
+    either false = pushed_first b (split bs)
+
+join_empty : (ws : List (List ℕ)) → HasFirst ws → join_with_byte 32 ([] ∷ ws) ≡ 32 ∷ join_with_byte 32 ws
+join_empty ws h = rw h.is refl
+
+join_pushed : (b : ℕ) (ws : List (List ℕ)) → HasFirst ws → join_with_byte 32 (push b ws) ≡ b ∷ join_with_byte 32 ws
+join_pushed b ws h = rw h.is (join_push b h.first h.others)
+
+-- words split at a first byte are the bytes again
+join_more : (b : ℕ) (bs : List ℕ) (t : Bool) → (b == 32) ≡ t → join_with_byte 32 (split bs) ≡ bs → join_with_byte 32 (if t then [] ∷ split bs else push b (split bs)) ≡ b ∷ bs
+join_more b bs true e h =
+    let space : b ≡ 32 = grind (arith, nat_tests) in
+    join_empty (split bs) (split_first bs) ∙ ap (λ t. 32 ∷ t) h ∙ ap (λ x. x ∷ bs) (sym space)
+join_more b bs false e h = join_pushed b (split bs) (split_first bs) ∙ ap (λ t. b ∷ t) h
+
+join_split : (bs : List ℕ) → join_with_byte 32 (split bs) ≡ bs
+join_split [] = refl
+join_split (b ∷ bs) = join_more b bs (b == 32) refl (join_split bs)
+
+-- so are those of a line
+pub join_words : (bs : List ℕ) → join_with_byte 32 (words_of bs) ≡ bs
+join_words [] = refl
+join_words (b ∷ bs) = join_split (b ∷ bs)
+
+-- bytes begin with the line whose words stand before their first LF
+pub spelled_line : (l : Line) (bytes text after : List ℕ) → bytes ≡ text ++ 10 ∷ after → words_of text ≡ words l → bytes ≡ line_text l ++ after
+spelled_line l bytes text after e w =
+    let same : text ≡ join_with_byte 32 (words l) = sym (join_words text) ∙ ap (join_with_byte 32) w in
+    e ∙ ap (λ t. t ++ 10 ∷ after) same ∙ sym (append_assoc (join_with_byte 32 (words l)) (10 ∷ []) after)
