@@ -1,5 +1,5 @@
 -- Answers and entries are found by their words.
-use Rattle.std.proofs.Common.{◌≡◌, ◌≢◌, ℕ, ◌+◌, ◌^◌, ◌<◌, ◌≤◌, nat_le, ◌||◌, Bool, true, false, List, [], ◌∷◌, ◌++◌, codes, decimal, length, Option, Some, None, refl, ap, sym, ◌∙◌, arith, append_assoc}
+use Rattle.std.proofs.Common.{◌≡◌, ◌≢◌, ℕ, ◌^◌, ◌<◌, nat_le, ◌||◌, Bool, true, false, List, [], ◌∷◌, ◌++◌, codes, decimal, length, Option, Some, None, refl, ap, sym, ◌∙◌, arith, append_assoc}
 use Rattle.std.specs.Int.{IsInRange}
 use Rattle.std.proofs.lemmas.Bool.Decides.{nat_tests}
 use Rattle.dtx_values.specs.declared.entry.Answer.{Answer}
@@ -28,7 +28,7 @@ use Rattle.dtx_values.specs.declared.words.CloneKind.{CloneKind}
 use Rattle.dtx_values.specs.declared.words.Image.{Image}
 use Rattle.dtx_values.specs.declared.words.Outcome.{Outcome}
 use Rattle.dtx_values.specs.declared.words.Outcome.TheVariants.{Committed, Aborted, InDoubt}
-use Rattle.dtx_model.specs.Grammar.{actor_name, clone_name, connection_word, enlistment_name, image_word, kind_word, scope_name, transaction_name}
+use Rattle.dtx_model.specs.Grammar.{actor_name, clone_name, connection_word, image_word, kind_word, scope_name, transaction_name}
 use Rattle.dtx_model.specs.Messages.{has_line}
 use Rattle.dtx_model.specs.TraceText.{ambient_text, answer_text, cause_text, direction_text, entry_text, id_text, message_text, outcome_text, party_text, is_answer_fit, is_entry_fit, is_message_fit}
 use Rattle.dtx_model.proofs.Bools.{and_left, and_right, or_right}

@@ -1,4 +1,4 @@
-use Rattle.std.proofs.Common.{◌∙◌, ap, arith, refl, codes}
+use Rattle.std.proofs.Common.{arith}
 use Rattle.dtx_model.specs.Grammar.{enlistment_name}
 use Rattle.trace_text.proofs.ReadNumbers.{name_without}
 use Rattle.trace_text.proofs.ReadPieces.{cut_spaced}

@@ -1,4 +1,4 @@
-use Rattle.std.proofs.Common.{◌≡◌, ◌++◌, ◌∷◌, [], ◌+◌, length, true, ap, sym, ◌∙◌, refl, rules}
+use Rattle.std.proofs.Common.{◌≡◌, ◌++◌, ◌∷◌, [], ◌+◌, length, ap, sym, ◌∙◌, rules}
 use Rattle.dtx_model.specs.Words.{each}
 use Rattle.dtx_model.specs.TraceText.{is_fit, trace_text}
 use Rattle.trace_text.proofs.ReadTraces.{text_none, text_push, fit_push}
