@@ -220,7 +220,8 @@ place_apart (Transaction t) = name_without 116 t.value (omega arith)
 place_apart Log = refl
 
 -- the place and the entry of a line are found
-pub placed_found : (n : ℕ) (x : Placed) (at : Place) (y : Entry) (text rest name words : List ℕ) → text ≡ line_body n x → rest ≡ behind 32 text → name ≡ front 32 rest → words ≡ behind 32 rest → is_fit x ≡ true
+pub placed_found : (n : ℕ) (x : Placed) (at : Place) (y : Entry) (text rest name words : List ℕ) → text ≡ line_body n x → rest ≡ behind 32 text → name ≡ front 32 rest
+    → words ≡ behind 32 rest → is_fit x ≡ true
     → ((p : Place) → name ≡ place_text p → at ≡ p) → ((z : Entry) → is_entry_fit at z ≡ true → words ≡ entry_text z → y ≡ z) → (at ≡ x.0) × (y ≡ x.1)
 placed_found n x at y text rest name words e r f l fit hp hy =
     let k = cut_twice text (front 32 text) rest (decimal n) (place_text x.0) (entry_text x.1) refl r e (without_decimal 32 n (omega arith)) in

@@ -1,5 +1,5 @@
 -- Numbers with one value are one.
-use Rattle.std.proofs.Common.{◌≡◌, ℕ, ◌≤◌}
+use Rattle.std.proofs.Common.{◌≡◌, ◌≤◌}
 use mathlib.Core.HLevel.{is_prop→PathP}
 use native.Mathlib.Bridge.{le_prop}
 use Rattle.dtx_values.specs.declared.number.ActorNo.{ActorNo}

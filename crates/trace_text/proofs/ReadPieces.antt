@@ -1,5 +1,5 @@
 -- Answers and entries are found by their words.
-use Rattle.std.proofs.Common.{◌≡◌, ◌≢◌, ℕ, ◌+◌, ◌^◌, ◌<◌, ◌≤◌, nat_le, ◌||◌, Bool, true, false, List, [], ◌∷◌, ◌++◌, codes, decimal, length, Option, Some, None, refl, ap, sym, ◌∙◌, arith, append_assoc}
+use Rattle.std.proofs.Common.{◌≡◌, ◌≢◌, ℕ, ◌^◌, ◌<◌, nat_le, ◌||◌, Bool, true, false, List, [], ◌∷◌, ◌++◌, codes, decimal, length, Option, Some, None, refl, ap, sym, ◌∙◌, arith, append_assoc}
 use Rattle.std.specs.Int.{IsInRange}
 use Rattle.std.proofs.lemmas.Bool.Decides.{nat_tests}
 use Rattle.dtx_values.specs.declared.entry.Answer.{Answer}
@@ -28,7 +28,7 @@ use Rattle.dtx_values.specs.declared.words.CloneKind.{CloneKind}
 use Rattle.dtx_values.specs.declared.words.Image.{Image}
 use Rattle.dtx_values.specs.declared.words.Outcome.{Outcome}
 use Rattle.dtx_values.specs.declared.words.Outcome.TheVariants.{Committed, Aborted, InDoubt}
-use Rattle.dtx_model.specs.Grammar.{actor_name, clone_name, connection_word, enlistment_name, image_word, kind_word, scope_name, transaction_name}
+use Rattle.dtx_model.specs.Grammar.{actor_name, clone_name, connection_word, image_word, kind_word, scope_name, transaction_name}
 use Rattle.dtx_model.specs.Messages.{has_line}
 use Rattle.dtx_model.specs.TraceText.{ambient_text, answer_text, cause_text, direction_text, entry_text, id_text, message_text, outcome_text, party_text, is_answer_fit, is_entry_fit, is_message_fit}
 use Rattle.dtx_model.proofs.Bools.{and_left, and_right, or_right}
@@ -54,7 +54,8 @@ cut_spaced text first last a r f l e h =
     }
 
 -- the first of three words with spaces between them is cut off there
-pub cut_twice : (text first last a b r : List ℕ) → first ≡ front 32 text → last ≡ behind 32 text → text ≡ a ++ codes " " ++ b ++ codes " " ++ r → IsWithout 32 a → AreCut first last a (b ++ codes " " ++ r)
+pub cut_twice : (text first last a b r : List ℕ) → first ≡ front 32 text → last ≡ behind 32 text → text ≡ a ++ codes " " ++ b ++ codes " " ++ r → IsWithout 32 a
+    → AreCut first last a (b ++ codes " " ++ r)
 cut_twice text first last a b r f l e h =
     cut_spaced text first last a (b ++ codes " " ++ r) f l (e ∙ ap (λ t. t ++ r) (append_assoc (a ++ codes " ") b (codes " ")) ∙ append_assoc (a ++ codes " ") (b ++ codes " ") r) h
 
@@ -87,7 +88,8 @@ late_found (Ambient None) e s = absurd (cc s)
 late_found _ e s = absurd (cc s)
 
 -- an answer that names an enlistment is found
-pub connected_found : (x : Answer) (y : EnlNo) (rest : List ℕ) → same_bytes (codes "connected") (front 32 (answer_text x)) ≡ true → rest ≡ behind 32 (answer_text x) → ((letter : ℕ) (e : EnlNo) → rest ≡ letter ∷ decimal e.value → y ≡ e) → Connected y ≡ x
+pub connected_found : (x : Answer) (y : EnlNo) (rest : List ℕ) → same_bytes (codes "connected") (front 32 (answer_text x)) ≡ true → rest ≡ behind 32 (answer_text x)
+    → ((letter : ℕ) (e : EnlNo) → rest ≡ letter ∷ decimal e.value → y ≡ e) → Connected y ≡ x
 connected_found (Connected e) y rest s r hy = ap Connected (hy 101 e r)
 connected_found (Ambient (Some t)) y rest s r hy = absurd (cc s)
 connected_found (OutcomeIs Committed) y rest s r hy = absurd (cc s)
@@ -144,7 +146,8 @@ log_key (Armed n i) k h = or_left (same_bytes k (codes "armed")) _ h
 log_key (LogOpened n) k h = or_right (same_bytes k (codes "armed")) _ h
 
 -- a clone's making is found
-pub cloned_found : (x : Entry) (y : CloneNo) (z : CloneKind) (rest first last : List ℕ) → same_bytes (codes "cloned") (front 32 (entry_text x)) ≡ true → rest ≡ behind 32 (entry_text x) → first ≡ front 32 rest
+pub cloned_found : (x : Entry) (y : CloneNo) (z : CloneKind) (rest first last : List ℕ) → same_bytes (codes "cloned") (front 32 (entry_text x)) ≡ true → rest ≡ behind 32 (entry_text x)
+    → first ≡ front 32 rest
     → last ≡ behind 32 rest → ((c : CloneNo) → first ≡ clone_name c.value → y ≡ c) → ((k : CloneKind) → last ≡ kind_word k → z ≡ k) → Cloned y z ≡ x
 cloned_found (Cloned a b) y z rest first last s e f l hy hz =
     let k = cut_spaced rest first last (clone_name a.value) (kind_word b) f l e (name_without 99 a.value (omega arith)) in
@@ -154,7 +157,8 @@ cloned_found (LogWord o) y z rest first last s e f l hy hz = absurd (cc (log_key
 cloned_found _ y z rest first last s e f l hy hz = absurd (cc s)
 
 -- an outcome that is told is found
-pub told_found : (x : Entry) (y : Party) (z : Outcome) (rest first last : List ℕ) → same_bytes (codes "told") (front 32 (entry_text x)) ≡ true → rest ≡ behind 32 (entry_text x) → first ≡ front 32 rest
+pub told_found : (x : Entry) (y : Party) (z : Outcome) (rest first last : List ℕ) → same_bytes (codes "told") (front 32 (entry_text x)) ≡ true → rest ≡ behind 32 (entry_text x)
+    → first ≡ front 32 rest
     → last ≡ behind 32 rest → ((p : Party) → first ≡ party_text p → y ≡ p) → ((o : Outcome) → last ≡ outcome_text o → z ≡ o) → Told y z ≡ x
 told_found (Told a b) y z rest first last s e f l hy hz =
     let k = cut_spaced rest first last (party_text a) (outcome_text b) f l e (party_apart a) in
@@ -164,7 +168,8 @@ told_found (LogWord o) y z rest first last s e f l hy hz = absurd (cc (log_key o
 told_found _ y z rest first last s e f l hy hz = absurd (cc s)
 
 -- a promotion is found
-pub promoted_found : (p : Place) (x : Entry) (y : ℕ) (z : Cause) (rest first last : List ℕ) → is_entry_fit p x ≡ true → same_bytes (codes "promoted") (front 32 (entry_text x)) ≡ true → rest ≡ behind 32 (entry_text x)
+pub promoted_found : (p : Place) (x : Entry) (y : ℕ) (z : Cause) (rest first last : List ℕ) → is_entry_fit p x ≡ true → same_bytes (codes "promoted") (front 32 (entry_text x)) ≡ true
+    → rest ≡ behind 32 (entry_text x)
     → first ≡ front 32 rest → last ≡ behind 32 rest → ((u : ℕ) → u < 2 ^ 128 → first ≡ id_text u → y ≡ u) → ((c : Cause) → last ≡ cause_text c → z ≡ c) → Promoted y z ≡ x
 promoted_found p (Promoted a b) y z rest first last fit s e f l hy hz =
     let k = cut_spaced rest first last (id_text a) (cause_text b) f l e (id_without 32 a (omega arith)) in
@@ -185,7 +190,8 @@ down_found (LogWord o) y z rest first last s e f l hy hz = absurd (cc (log_key o
 down_found _ y z rest first last s e f l hy hz = absurd (cc s)
 
 -- an armed stop is found
-pub armed_found : (p : Place) (x : Entry) (y : ℕ) (z : Image) (rest first last : List ℕ) → is_entry_fit p x ≡ true → same_bytes (codes "armed") (front 32 (entry_text x)) ≡ true → rest ≡ behind 32 (entry_text x)
+pub armed_found : (p : Place) (x : Entry) (y : ℕ) (z : Image) (rest first last : List ℕ) → is_entry_fit p x ≡ true → same_bytes (codes "armed") (front 32 (entry_text x)) ≡ true
+    → rest ≡ behind 32 (entry_text x)
     → first ≡ front 32 rest → last ≡ behind 32 rest → ((n : ℕ) → n < 2 ^ 8 → first ≡ decimal n → y ≡ n) → ((i : Image) → last ≡ image_word i → z ≡ i) → LogWord (Armed y z) ≡ x
 armed_found p (LogWord (Armed a b)) y z rest first last fit s e f l hy hz =
     let small : a < 2 ^ 8 = grind (arith, nat_tests) in
@@ -205,7 +211,8 @@ ambient_word None e = cc e
 ambient_word (Some t) e = cc e
 
 -- an opened log is found
-pub log_opened_found : (p : Place) (x : Entry) (y : ℕ) (rest first last : List ℕ) → is_entry_fit p x ≡ true → same_bytes (codes "opened") (front 32 (entry_text x)) ≡ true → rest ≡ behind 32 (entry_text x)
+pub log_opened_found : (p : Place) (x : Entry) (y : ℕ) (rest first last : List ℕ) → is_entry_fit p x ≡ true → same_bytes (codes "opened") (front 32 (entry_text x)) ≡ true
+    → rest ≡ behind 32 (entry_text x)
     → first ≡ front 32 rest → last ≡ behind 32 rest → last ≡ [] → ((n : ℕ) → n < 2 ^ 16 → rest ≡ decimal n → y ≡ n) → LogWord (LogOpened y) ≡ x
 log_opened_found p (LogWord (LogOpened a)) y rest first last fit s e f l n hy =
     let small : a < 2 ^ 16 = grind (arith, nat_tests) in
@@ -216,8 +223,10 @@ log_opened_found p (Scope (Opened a b)) y rest first last fit s e f l n hy =
 log_opened_found p _ y rest first last fit s e f l n hy = absurd (cc s)
 
 -- so is an opened scope
-pub opened_found : (p : Place) (x : Entry) (y : ScopeNo) (z : Option TxNo) (rest first last : List ℕ) → is_entry_fit p x ≡ true → same_bytes (codes "opened") (front 32 (entry_text x)) ≡ true → rest ≡ behind 32 (entry_text x)
-    → first ≡ front 32 rest → last ≡ behind 32 rest → last ≢ [] → ((c : ScopeNo) → first ≡ scope_name c.value → y ≡ c) → ((t : Option TxNo) → last ≡ ambient_text t → z ≡ t) → Scope (Opened y z) ≡ x
+pub opened_found : (p : Place) (x : Entry) (y : ScopeNo) (z : Option TxNo) (rest first last : List ℕ) → is_entry_fit p x ≡ true
+    → same_bytes (codes "opened") (front 32 (entry_text x)) ≡ true → rest ≡ behind 32 (entry_text x)
+    → first ≡ front 32 rest → last ≡ behind 32 rest → last ≢ [] → ((c : ScopeNo) → first ≡ scope_name c.value → y ≡ c) → ((t : Option TxNo) → last ≡ ambient_text t → z ≡ t)
+    → Scope (Opened y z) ≡ x
 opened_found p (Scope (Opened a b)) y z rest first last fit s e f l n hy hz =
     let k = cut_spaced rest first last (scope_name a.value) (ambient_text b) f l e (name_without 115 a.value (omega arith)) in
     cc (hy a k.first, hz b k.last)
@@ -227,8 +236,10 @@ opened_found p (LogWord (LogOpened a)) y z rest first last fit s e f l n hy hz =
 opened_found p _ y z rest first last fit s e f l n hy hz = absurd (cc s)
 
 -- a call's answer is found
-pub called_found : (p : Place) (x : Entry) (y : ℕ) (z : ActorNo) (v : Answer) (rest first last name text : List ℕ) → is_entry_fit p x ≡ true → same_bytes (codes "call") (front 32 (entry_text x)) ≡ true → rest ≡ behind 32 (entry_text x)
-    → first ≡ front 32 rest → last ≡ behind 32 rest → name ≡ front 32 last → text ≡ behind 32 last → ((n : ℕ) → n < 2 ^ 32 → first ≡ decimal n → y ≡ n) → ((a : ActorNo) → name ≡ actor_name a.value → z ≡ a)
+pub called_found : (p : Place) (x : Entry) (y : ℕ) (z : ActorNo) (v : Answer) (rest first last name text : List ℕ) → is_entry_fit p x ≡ true
+    → same_bytes (codes "call") (front 32 (entry_text x)) ≡ true → rest ≡ behind 32 (entry_text x)
+    → first ≡ front 32 rest → last ≡ behind 32 rest → name ≡ front 32 last → text ≡ behind 32 last → ((n : ℕ) → n < 2 ^ 32 → first ≡ decimal n → y ≡ n) → ((a : ActorNo)
+    → name ≡ actor_name a.value → z ≡ a)
     → ((w : Answer) → is_answer_fit w ≡ true → text ≡ answer_text w → v ≡ w) → Called y z v ≡ x
 called_found p (Called n a w) y z v rest first last name text fit s e f l g m hy hz hv =
     let below = and_left (nat_le n 4294967295) (is_answer_fit w) fit in
@@ -241,7 +252,8 @@ called_found p (LogWord o) y z v rest first last name text fit s e f l g m hy hz
 called_found p _ y z v rest first last name text fit s e f l g m hy hz hv = absurd (cc s)
 
 -- a later answer is found
-pub answered_found : (p : Place) (x : Entry) (y : ℕ) (v : Answer) (rest first last : List ℕ) → is_entry_fit p x ≡ true → same_bytes (codes "answer") (front 32 (entry_text x)) ≡ true → rest ≡ behind 32 (entry_text x)
+pub answered_found : (p : Place) (x : Entry) (y : ℕ) (v : Answer) (rest first last : List ℕ) → is_entry_fit p x ≡ true → same_bytes (codes "answer") (front 32 (entry_text x)) ≡ true
+    → rest ≡ behind 32 (entry_text x)
     → first ≡ front 32 rest → last ≡ behind 32 rest → ((n : ℕ) → n < 2 ^ 32 → first ≡ decimal n → y ≡ n) → ((w : Answer) → is_answer_fit w ≡ true → last ≡ answer_text w → v ≡ w) → Answered y v ≡ x
 answered_found p (Answered n w) y v rest first last fit s e f l hy hv =
     let below = and_left (nat_le n 4294967295) (is_answer_fit w) fit in
@@ -253,8 +265,10 @@ answered_found p (LogWord o) y v rest first last fit s e f l hy hv = absurd (cc 
 answered_found p _ y v rest first last fit s e f l hy hv = absurd (cc s)
 
 -- what is kept of a cut connection is found
-pub cut_found : (p : Place) (x : Entry) (y : Conn) (z v : ℕ) (rest first last word text : List ℕ) → is_entry_fit p x ≡ true → same_bytes (codes "cut") (front 32 (entry_text x)) ≡ true → rest ≡ behind 32 (entry_text x)
-    → first ≡ front 32 rest → last ≡ behind 32 rest → word ≡ front 32 last → text ≡ behind 32 last → ((c : Conn) → first ≡ connection_word c → y ≡ c) → ((n : ℕ) → n < 2 ^ 32 → word ≡ decimal n → z ≡ n)
+pub cut_found : (p : Place) (x : Entry) (y : Conn) (z v : ℕ) (rest first last word text : List ℕ) → is_entry_fit p x ≡ true → same_bytes (codes "cut") (front 32 (entry_text x)) ≡ true
+    → rest ≡ behind 32 (entry_text x)
+    → first ≡ front 32 rest → last ≡ behind 32 rest → word ≡ front 32 last → text ≡ behind 32 last → ((c : Conn) → first ≡ connection_word c → y ≡ c) → ((n : ℕ) → n < 2 ^ 32
+    → word ≡ decimal n → z ≡ n)
     → ((n : ℕ) → n < 2 ^ 32 → text ≡ decimal n → v ≡ n) → Cut y z v ≡ x
 cut_found p (Cut c i j) y z v rest first last word text fit s e f l g m hy hz hv =
     let up = and_left (nat_le i 4294967295) (nat_le j 4294967295) fit in
@@ -275,8 +289,10 @@ record AreFound (y : Conn) (z : Dir) (m : Message) (c : Conn) (d : Dir) (w : Mes
   message : m ≡ w
 
 -- the message of a crossing is found
-message_found : (p : Place) (c y : Conn) (d z : Dir) (w m : Message) (rest first last word text : List ℕ) → has_line c d w ≡ true → is_message_fit p c w ≡ true → rest ≡ connection_word c ++ codes " " ++ direction_text d ++ codes " " ++ message_text w
-    → first ≡ front 32 rest → last ≡ behind 32 rest → word ≡ front 32 last → text ≡ behind 32 last → ((e : Conn) → first ≡ connection_word e → y ≡ e) → ((e : Dir) → word ≡ direction_text e → z ≡ e)
+message_found : (p : Place) (c y : Conn) (d z : Dir) (w m : Message) (rest first last word text : List ℕ) → has_line c d w ≡ true → is_message_fit p c w ≡ true
+    → rest ≡ connection_word c ++ codes " " ++ direction_text d ++ codes " " ++ message_text w
+    → first ≡ front 32 rest → last ≡ behind 32 rest → word ≡ front 32 last → text ≡ behind 32 last → ((e : Conn) → first ≡ connection_word e → y ≡ e) → ((e : Dir)
+    → word ≡ direction_text e → z ≡ e)
     → ((v : Message) → has_line y z v ≡ true → is_message_fit p y v ≡ true → text ≡ message_text v → m ≡ v) → AreFound y z m c d w
 message_found p c y d z w m rest first last word text line fit e f l g n hy hz hm =
     let k = cut_twice rest first last (connection_word c) (direction_text d) (message_text w) f l e (connection_apart c) in
@@ -288,11 +304,14 @@ message_found p c y d z w m rest first last word text line fit e f l g n hy hz h
     record { conn = conn; dir = dir; message = hm w here there h.last }
 
 -- a message that is sent is found
-pub sent_found : (p : Place) (x : Entry) (y : Conn) (z : Dir) (m : Message) (rest first last word text : List ℕ) → is_entry_fit p x ≡ true → same_bytes (codes "sent") (front 32 (entry_text x)) ≡ true → rest ≡ behind 32 (entry_text x)
-    → first ≡ front 32 rest → last ≡ behind 32 rest → word ≡ front 32 last → text ≡ behind 32 last → ((e : Conn) → first ≡ connection_word e → y ≡ e) → ((e : Dir) → word ≡ direction_text e → z ≡ e)
+pub sent_found : (p : Place) (x : Entry) (y : Conn) (z : Dir) (m : Message) (rest first last word text : List ℕ) → is_entry_fit p x ≡ true
+    → same_bytes (codes "sent") (front 32 (entry_text x)) ≡ true → rest ≡ behind 32 (entry_text x)
+    → first ≡ front 32 rest → last ≡ behind 32 rest → word ≡ front 32 last → text ≡ behind 32 last → ((e : Conn) → first ≡ connection_word e → y ≡ e) → ((e : Dir)
+    → word ≡ direction_text e → z ≡ e)
     → ((v : Message) → has_line y z v ≡ true → is_message_fit p y v ≡ true → text ≡ message_text v → m ≡ v) → Sent y z m ≡ x
 sent_found p (Sent c d w) y z m rest first last word text fit s e f l g n hy hz hm =
-    let k = message_found p c y d z w m rest first last word text (and_left (has_line c d w) (is_message_fit p c w) fit) (and_right (has_line c d w) (is_message_fit p c w) fit) e f l g n hy hz hm in
+    let k = message_found p c y d z w m rest first last word text (and_left (has_line c d w) (is_message_fit p c w) fit) (and_right (has_line c d w)
+    (is_message_fit p c w) fit) e f l g n hy hz hm in
     cc (k.conn, k.dir, k.message)
 sent_found p (Scope o) y z m rest first last word text fit s e f l g n hy hz hm = absurd (cc (scope_key o (codes "sent") s))
 sent_found p (LogWord o) y z m rest first last word text fit s e f l g n hy hz hm = absurd (cc (log_key o (codes "sent") s))
@@ -308,11 +327,14 @@ pub record IsCrossing (x : Entry) : Type 0 where
   pub call : is_call x ≡ false
 
 -- and a message that came is found
-pub got_found : (p : Place) (x : Entry) (y : Conn) (z : Dir) (m : Message) (rest first last word text : List ℕ) → is_entry_fit p x ≡ true → IsCrossing x → codes "cut" ≢ front 32 (entry_text x) → codes "sent" ≢ front 32 (entry_text x)
-    → rest ≡ behind 32 (entry_text x) → first ≡ front 32 rest → last ≡ behind 32 rest → word ≡ front 32 last → text ≡ behind 32 last → ((e : Conn) → first ≡ connection_word e → y ≡ e) → ((e : Dir) → word ≡ direction_text e → z ≡ e)
+pub got_found : (p : Place) (x : Entry) (y : Conn) (z : Dir) (m : Message) (rest first last word text : List ℕ) → is_entry_fit p x ≡ true → IsCrossing x
+    → codes "cut" ≢ front 32 (entry_text x) → codes "sent" ≢ front 32 (entry_text x)
+    → rest ≡ behind 32 (entry_text x) → first ≡ front 32 rest → last ≡ behind 32 rest → word ≡ front 32 last → text ≡ behind 32 last → ((e : Conn) → first ≡ connection_word e → y ≡ e)
+    → ((e : Dir) → word ≡ direction_text e → z ≡ e)
     → ((v : Message) → has_line y z v ≡ true → is_message_fit p y v ≡ true → text ≡ message_text v → m ≡ v) → Got y z m ≡ x
 got_found p (Got c d w) y z m rest first last word text fit o a b e f l g n hy hz hm =
-    let k = message_found p c y d z w m rest first last word text (and_left (has_line c d w) (is_message_fit p c w) fit) (and_right (has_line c d w) (is_message_fit p c w) fit) e f l g n hy hz hm in
+    let k = message_found p c y d z w m rest first last word text (and_left (has_line c d w) (is_message_fit p c w) fit) (and_right (has_line c d w)
+    (is_message_fit p c w) fit) e f l g n hy hz hm in
     cc (k.conn, k.dir, k.message)
 got_found p (Sent c d w) y z m rest first last word text fit o a b e f l g n hy hz hm = absurd (b refl)
 got_found p (Cut c i j) y z m rest first last word text fit o a b e f l g n hy hz hm = absurd (a refl)

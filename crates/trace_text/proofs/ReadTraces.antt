@@ -1,5 +1,5 @@
 -- Texts of traces, line by line.
-use Rattle.std.proofs.Common.{◌≡◌, ◌≢◌, ℕ, zero, suc, ◌+◌, ◌<◌, ◌≤◌, ◌&&◌, true, List, [], ◌∷◌, ◌++◌, codes, length, length-append, refl, ap, sym, ◌∙◌, arith, append_assoc}
+use Rattle.std.proofs.Common.{◌≡◌, ◌≢◌, ℕ, suc, ◌+◌, ◌<◌, true, List, [], ◌∷◌, ◌++◌, length, length-append, refl, ap, sym, ◌∙◌, arith, append_assoc}
 use Rattle.std.proofs.lemmas.List.{append-nil}
 use Rattle.dtx_model.specs.Words.{each}
 use Rattle.dtx_model.specs.Replay.{Placed}
@@ -17,7 +17,8 @@ lines_push n m (y ∷ xs) x e =
     ap (λ t. trace_line n y ++ t) (lines_push (suc n) m xs x (omega arith)) ∙ sym (append_assoc (trace_line n y) (lines_from (suc n) xs) (trace_line m x))
 
 -- the same for a trace whose text the bytes begin with
-pub text_push : (b rest after : List ℕ) (xs : List Placed) (x : Placed) (m : ℕ) → b ≡ trace_text xs ++ rest → m ≡ length xs + 1 → rest ≡ trace_line m x ++ after → b ≡ trace_text (xs ++ x ∷ []) ++ after
+pub text_push : (b rest after : List ℕ) (xs : List Placed) (x : Placed) (m : ℕ) → b ≡ trace_text xs ++ rest → m ≡ length xs + 1 → rest ≡ trace_line m x ++ after
+    → b ≡ trace_text (xs ++ x ∷ []) ++ after
 unfolding trace_text
 text_push b rest after xs x m e n r =
     e ∙ ap (λ t. lines_from 1 xs ++ t) r ∙ sym (append_assoc (lines_from 1 xs) (trace_line m x) after) ∙ ap (λ t. t ++ after) (sym (lines_push 1 m xs x (omega arith)))
@@ -58,16 +59,20 @@ unfolding trace_text
 text_or_bad b T n h k = walk 1 n T k.before k.rest (sym h.spelled ∙ k.bytes) h.fit k.left (omega (arith, k.number)) k.unread
 
 -- two runs of lines before one that no trace has are of one length
-meet : (k n m : ℕ) (xs ys : List Placed) (r s : List ℕ) → lines_from k xs ++ r ≡ lines_from k ys ++ s → each is_fit xs ≡ true → each is_fit ys ≡ true → n ≡ k + length xs → m ≡ k + length ys → IsUnread n r → IsUnread m s → n ≡ m
+meet : (k n m : ℕ) (xs ys : List Placed) (r s : List ℕ) → lines_from k xs ++ r ≡ lines_from k ys ++ s → each is_fit xs ≡ true → each is_fit ys ≡ true → n ≡ k + length xs
+    → m ≡ k + length ys → IsUnread n r → IsUnread m s → n ≡ m
 meet k n m [] [] r s e f g hn hm u v = omega arith
 meet k n m (x ∷ xs) [] r s e f g hn hm u v =
     let same : k ≡ m = omega arith in
-    absurd (v x (lines_from (suc k) xs ++ r) (and_left (is_fit x) (each is_fit xs) f) (sym e ∙ append_assoc (trace_line k x) (lines_from (suc k) xs) r ∙ ap (λ i. trace_line i x ++ (lines_from (suc k) xs ++ r)) same))
+    absurd (v x (lines_from (suc k) xs ++ r) (and_left (is_fit x) (each is_fit xs) f) (sym e ∙ append_assoc (trace_line k x) (lines_from (suc k) xs) r ∙ ap (λ i. trace_line i x ++
+    (lines_from (suc k) xs ++ r)) same))
 meet k n m [] (y ∷ ys) r s e f g hn hm u v =
     let same : k ≡ n = omega arith in
-    absurd (u y (lines_from (suc k) ys ++ s) (and_left (is_fit y) (each is_fit ys) g) (e ∙ append_assoc (trace_line k y) (lines_from (suc k) ys) s ∙ ap (λ i. trace_line i y ++ (lines_from (suc k) ys ++ s)) same))
+    absurd (u y (lines_from (suc k) ys ++ s) (and_left (is_fit y) (each is_fit ys) g) (e ∙ append_assoc (trace_line k y) (lines_from (suc k) ys) s ∙ ap (λ i. trace_line i y ++ (lines_from
+    (suc k) ys ++ s)) same))
 meet k n m (x ∷ xs) (y ∷ ys) r s e f g hn hm u v =
-    let after = same_after k k x y (lines_from (suc k) xs ++ r) (lines_from (suc k) ys ++ s) (sym (append_assoc (trace_line k x) (lines_from (suc k) xs) r) ∙ e ∙ append_assoc (trace_line k y) (lines_from (suc k) ys) s) in
+    let after = same_after k k x y (lines_from (suc k) xs ++ r) (lines_from (suc k) ys ++ s) (sym (append_assoc (trace_line k x) (lines_from (suc k) xs) r) ∙ e ∙ append_assoc
+    (trace_line k y) (lines_from (suc k) ys) s) in
     meet (suc k) n m xs ys r s after (and_right (is_fit x) (each is_fit xs) f) (and_right (is_fit y) (each is_fit ys) g) (omega arith) (omega arith) u v
 
 -- so the first bad line is one

@@ -1,9 +1,9 @@
 -- Groups of answers and entries, by their keywords.
 use Rattle.std.specs.Prelude.{Bool, true, false}
 use Rattle.dtx_values.specs.declared.entry.Answer.{Answer}
-use Rattle.dtx_values.specs.declared.entry.Answer.TheVariants.{Fine, True, False, Wait, Id, StillActive, OutcomeIs, StillOpen, Did, NotBegun, Ended, TooLate, Many, NoSuch, Already, Finished, Over, Connected, Stopped, Deep, Isolation, NoScope, Nested, Ambient, Fault, NotALog}
+use Rattle.dtx_values.specs.declared.entry.Answer.TheVariants.{Fine, True, False, Wait, Id, StillActive, OutcomeIs, StillOpen, Did, NotBegun, Ended, TooLate, Many, NoSuch, Already, Finished, Over, Connected, Stopped, Deep, Isolation, NoScope, Nested, Fault, NotALog}
 use Rattle.dtx_values.specs.declared.entry.Entry.{Entry}
-use Rattle.dtx_values.specs.declared.entry.Entry.TheVariants.{Called, Answered, Began, Cloned, Completed, Enlisted, Init, Clock, Asked, Voted, PromoteReply, Requested, Handed, OwnerAnswered, Decided, Told, Promoting, Promoted, Sent, Got, Cut, Down, Lost, Restarted, Reenlisted, Recovered, Acked, Scope, LogWord}
+use Rattle.dtx_values.specs.declared.entry.Entry.TheVariants.{Called, Answered, Began, Cloned, Completed, Enlisted, Init, Clock, Asked, Voted, PromoteReply, Requested, Handed, OwnerAnswered, Decided, Told, Promoting, Promoted, Down, Lost, Restarted, Reenlisted, Recovered, Acked, Scope, LogWord}
 use Rattle.dtx_values.specs.declared.entry.LogNote.TheVariants.{Armed, Opened as LogOpened}
 use Rattle.dtx_values.specs.declared.entry.ScopeNote.TheVariants.{Opened, Finished as ScopeFinished, Closed}
 

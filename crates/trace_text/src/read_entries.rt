@@ -259,7 +259,8 @@ fn call(key: &[u8], rest: &[u8]) -> Option<Entry>
 
 /// Reads an entry on a connection.
 fn crossing(at: Place, key: &[u8], rest: &[u8]) -> Entry
-    ensures found { (x : Entry) → is_entry_fit at x ≡ true → is_event x ≡ false → is_of_enlistment x ≡ false → is_about_enlistment x ≡ false → is_of_word x ≡ false → is_of_words x ≡ false → is_call x ≡ false → key.now ≡ front 32 (entry_text x) → rest.now ≡ behind 32 (entry_text x) → result ≡ x }
+    ensures found { (x : Entry) → is_entry_fit at x ≡ true → is_event x ≡ false → is_of_enlistment x ≡ false → is_about_enlistment x ≡ false → is_of_word x ≡ false →
+        is_of_words x ≡ false → is_call x ≡ false → key.now ≡ front 32 (entry_text x) → rest.now ≡ behind 32 (entry_text x) → result ≡ x }
     ensures fit { is_entry_fit at result ≡ true }
 {
     let (first, last) = cut(rest, b' ');

@@ -1,4 +1,4 @@
-use Rattle.std.proofs.Common.{◌∙◌, sym, rules}
+use Rattle.std.proofs.Common.{rules}
 use Rattle.trace_text.proofs.ReadIdentifiers.{reenlist_found}
 use Rattle.trace_text.proofs.read_messages.reenlist_up.Goals as goal
 

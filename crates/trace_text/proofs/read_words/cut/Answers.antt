@@ -1,4 +1,4 @@
-use Rattle.std.proofs.Common.{◌≡◌, ◌++◌, ◌∷◌, ◌∙◌, ap, sym, rules, arith, length, take, drop, []}
+use Rattle.std.proofs.Common.{◌∙◌, ap, sym, rules, arith, length}
 use Rattle.std.proofs.lemmas.List.{drop_all}
 use Rattle.trace_text.specs.ReadWords.{front, behind}
 use Rattle.trace_text.proofs.ReadCuts.{front_cut, behind_cut, front_whole, behind_whole}

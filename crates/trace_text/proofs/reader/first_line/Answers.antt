@@ -1,4 +1,4 @@
-use Rattle.std.proofs.Common.{◌≡◌, ◌≢◌, ◌∙◌, ◌≤◌, ap, arith, length, rules, take}
+use Rattle.std.proofs.Common.{◌≡◌, ◌≢◌, ◌∙◌, ◌≤◌, ap, arith, length, rules}
 use Rattle.dtx_model.specs.TraceText.{trace_line}
 use Rattle.trace_text.specs.ReadTrace.{line_body}
 use Rattle.trace_text.specs.ReadWords.{front}

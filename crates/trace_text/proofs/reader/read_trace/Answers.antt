@@ -1,4 +1,4 @@
-use Rattle.std.proofs.Common.{◌≡◌, ◌++◌, ◌∷◌, [], ◌+◌, length, true, ap, sym, ◌∙◌, refl, rules}
+use Rattle.std.proofs.Common.{◌≡◌, ◌++◌, ◌∷◌, [], ◌+◌, length, ap, sym, ◌∙◌, rules}
 use Rattle.dtx_model.specs.Words.{each}
 use Rattle.dtx_model.specs.TraceText.{is_fit, trace_text}
 use Rattle.trace_text.proofs.ReadTraces.{text_none, text_push, fit_push}
@@ -18,6 +18,7 @@ loop-rest-preserved c =
     let first = c.in-Some.ensures.some in
     let number : c.len.result + 1 ≡ length c.loop-rest.entries.items + 1 = search rules in
     record {
-      bytes = text_push c.args.bytes.now c.loop-rest.rest.now c.in-Some.after.now c.loop-rest.entries.items c.in-Some.x (c.len.result + 1) c.loop-rest.invariant.bytes number first.0 ∙ ap (λ t. trace_text t ++ c.in-Some.after.now) (sym more);
+      bytes = text_push c.args.bytes.now c.loop-rest.rest.now c.in-Some.after.now c.loop-rest.entries.items c.in-Some.x (c.len.result + 1) c.loop-rest.invariant.bytes number first.0 ∙ ap
+          (λ t. trace_text t ++ c.in-Some.after.now) (sym more);
       fit = ap (λ t. each is_fit t) more ∙ fit_push c.loop-rest.entries.items c.in-Some.x c.loop-rest.invariant.fit first.1;
     }
