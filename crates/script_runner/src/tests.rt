@@ -152,12 +152,7 @@ fn refusals_write_nothing(rt: HostRuntime) -> Result<(), Fail> {
             &[],
             Exit::BadScript(3, BadCause::NameUnknown),
         ),
-        (
-            &["replay"],
-            "a1 begin t1\n",
-            &[1],
-            Exit::ReadFault,
-        ),
+        (&["replay"], "a1 begin t1\n", &[1], Exit::ReadFault),
         (&["replay"], ONE_VOLATILE, &[1], Exit::ReadFault),
         (&["replay"], ONE_VOLATILE, &[3], Exit::ReadFault),
         (&["replay", "now"], ONE_VOLATILE, &[1], Exit::Usage),

@@ -1,4 +1,4 @@
-use Rattle.std.proofs.Common.{List, ℕ, ◌∙◌, ap, subst, inl, inr}
+use Rattle.std.proofs.Common.{◌≡◌, List, ℕ, ◌∙◌, ap, subst, inl, inr}
 use Rattle.dtx_model.specs.Faults.{Bad}
 use Rattle.dtx_model.specs.Grammar.{IsNotYet}
 use Rattle.script_runner.specs.Refusal.{IsRefused}
@@ -29,6 +29,15 @@ returns-in-Err-NotYet-clause-bad_refused g c n cause words b told bad =
     let refused : IsNotYet c.deref.result.now line = subst (λ (e : Refusal). IsRefused c.deref.result.now e) c.in-Err-NotYet.field-0-is c.in-Err-NotYet.ensures.refused in
     let here = not_yet-all b line (subst (λ (x : List ℕ). IsNotYet x line) read refused) in
     absurd (c.reads_exactly.ensures.either b here.lines n cause here.reads bad)
+
+pub returns-in-Err-NotYet-clause-not_yet : goal.returns-in-Err-NotYet-clause-not_yet
+returns-in-Err-NotYet-clause-not_yet g c n k b told =
+    let read = c.deref.ensures.value ∙ c.in-Ok.ensures.read b told in
+    let line = c.in-Err-NotYet.line in
+    let refused : IsNotYet c.deref.result.now line = subst (λ (e : Refusal). IsRefused c.deref.result.now e) c.in-Err-NotYet.field-0-is c.in-Err-NotYet.ensures.refused in
+    let here : IsNotYet b line = not_yet-all b line (subst (λ (x : List ℕ). IsNotYet x line) read refused) in
+    let same : line ≡ n = cc in
+    subst (λ (m : ℕ). IsNotYet b m) same here
 
 pub returns-in-Err-NotYet-clause-not_yet_refused : goal.returns-in-Err-NotYet-clause-not_yet_refused
 returns-in-Err-NotYet-clause-not_yet_refused g c n words b told bad =
