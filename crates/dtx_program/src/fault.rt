@@ -98,88 +98,113 @@ impl Fault {
 mod tests {
     use super::Fault;
     use script_runner::{BadCause, Exit};
-    use std::test::Fail;
+    use std::alloc::{AllocError, Global};
+    use std::process::Abort;
 
-    #[test]
-    fn exits_have_their_texts_and_statuses(rt: HostRuntime) -> Result<(), Fail> {
-        assert!(rt; Fault::of(Exit::Fine).is_ok());
-        let cases = [
-            (Exit::Usage, "dtx: usage", 2),
-            (
-                Exit::BadScript(1, BadCause::TooLong),
-                "dtx: line 1: script too long",
-                3,
-            ),
-            (
-                Exit::BadScript(2, BadCause::LongLine),
-                "dtx: line 2: line too long",
-                3,
-            ),
-            (
-                Exit::BadScript(3, BadCause::NoNewline),
-                "dtx: line 3: no newline",
-                3,
-            ),
-            (
-                Exit::BadScript(4, BadCause::BadByte),
-                "dtx: line 4: bad byte",
-                3,
-            ),
-            (
-                Exit::BadScript(5, BadCause::MissingWord),
-                "dtx: line 5: missing word",
-                3,
-            ),
-            (
-                Exit::BadScript(6, BadCause::UnknownWord),
-                "dtx: line 6: unknown word",
-                3,
-            ),
-            (
-                Exit::BadScript(7, BadCause::BadNumber),
-                "dtx: line 7: bad number",
-                3,
-            ),
-            (
-                Exit::BadScript(8, BadCause::ExtraWord),
-                "dtx: line 8: extra word",
-                3,
-            ),
-            (
-                Exit::BadScript(9, BadCause::NameTwice),
-                "dtx: line 9: name made twice",
-                3,
-            ),
-            (
-                Exit::BadScript(10, BadCause::NameUnknown),
-                "dtx: line 10: unknown name",
-                3,
-            ),
-            (
-                Exit::BadScript(11, BadCause::WrongKind),
-                "dtx: line 11: wrong kind",
-                3,
-            ),
-            (
-                Exit::BadScript(12, BadCause::ParTwice),
-                "dtx: line 12: par twice",
-                3,
-            ),
-            (Exit::ReadFault, "dtx: read fault", 5),
-            (Exit::WriteFault, "dtx: write fault", 6),
-            (Exit::Memory, "dtx: out of memory", 8),
-            (Exit::NotYet(2), "dtx: line 2: not built yet", 9),
-        ];
-        for (exit, text, status) in cases {
-            match Fault::of(exit) {
-                Ok(()) => assert!(rt; false, "no fault at {text}"),
-                Err(fault) => {
-                    assert_eq!(rt; fault.status(), status, "at {text}");
-                    let said = fault.to_string(rt.alloc())?;
-                    assert!(rt; said.as_str() == text, "{said} at {text}");
-                }
+    /// Whether this exit says this text and ends with this status.
+    fn says(
+        rt: &impl Abort,
+        alloc: Global,
+        exit: Exit,
+        text: &str,
+        status: u8,
+    ) -> Result<(), AllocError> {
+        match Fault::of(exit) {
+            Ok(()) => assert!(rt; false, "no fault"),
+            Err(fault) => {
+                assert_eq!(rt; fault.status(), status, "at {text}");
+                let said = fault.to_string(alloc)?;
+                assert!(rt; said.as_str() == text, "{said} at {text}");
             }
         }
+        Ok(())
+    }
+
+    /// Whether a bad line 7 for this cause says this text.
+    fn bad(rt: &impl Abort, alloc: Global, cause: BadCause, text: &str) -> Result<(), AllocError> {
+        says(rt, alloc, Exit::BadScript(7, cause), text, 3)
+    }
+
+    #[test]
+    fn exits_have_their_texts_and_statuses(rt: HostRuntime) -> Result<(), AllocError> {
+        assert!(rt; Fault::of(Exit::Fine).is_ok());
+        says(&rt, rt.alloc(), Exit::Usage, "dtx: usage", 2)?;
+        says(&rt, rt.alloc(), Exit::ReadFault, "dtx: read fault", 5)?;
+        says(&rt, rt.alloc(), Exit::WriteFault, "dtx: write fault", 6)?;
+        says(&rt, rt.alloc(), Exit::Memory, "dtx: out of memory", 8)?;
+        let not_yet = "dtx: line 2: not built yet";
+        says(&rt, rt.alloc(), Exit::NotYet(2), not_yet, 9)
+    }
+
+    #[test]
+    fn bad_lines_have_their_texts(rt: HostRuntime) -> Result<(), AllocError> {
+        bad(
+            &rt,
+            rt.alloc(),
+            BadCause::TooLong,
+            "dtx: line 7: script too long",
+        )?;
+        bad(
+            &rt,
+            rt.alloc(),
+            BadCause::LongLine,
+            "dtx: line 7: line too long",
+        )?;
+        bad(
+            &rt,
+            rt.alloc(),
+            BadCause::NoNewline,
+            "dtx: line 7: no newline",
+        )?;
+        bad(&rt, rt.alloc(), BadCause::BadByte, "dtx: line 7: bad byte")?;
+        bad(
+            &rt,
+            rt.alloc(),
+            BadCause::MissingWord,
+            "dtx: line 7: missing word",
+        )?;
+        bad(
+            &rt,
+            rt.alloc(),
+            BadCause::UnknownWord,
+            "dtx: line 7: unknown word",
+        )?;
+        bad(
+            &rt,
+            rt.alloc(),
+            BadCause::BadNumber,
+            "dtx: line 7: bad number",
+        )?;
+        bad(
+            &rt,
+            rt.alloc(),
+            BadCause::ExtraWord,
+            "dtx: line 7: extra word",
+        )?;
+        bad(
+            &rt,
+            rt.alloc(),
+            BadCause::NameTwice,
+            "dtx: line 7: name made twice",
+        )?;
+        bad(
+            &rt,
+            rt.alloc(),
+            BadCause::NameUnknown,
+            "dtx: line 7: unknown name",
+        )?;
+        bad(
+            &rt,
+            rt.alloc(),
+            BadCause::WrongKind,
+            "dtx: line 7: wrong kind",
+        )?;
+        bad(
+            &rt,
+            rt.alloc(),
+            BadCause::ParTwice,
+            "dtx: line 7: par twice",
+        )?;
         Ok(())
     }
 }
