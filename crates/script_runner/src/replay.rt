@@ -15,7 +15,7 @@ ghost use Rattle.script_runner.specs.Running.{Advances, IsSettledBelow, Settles}
 use crate::machine::Machine;
 use crate::plans::Plans;
 use dtx_values::{ActorNo, Body, Call, Entry, Line, Outbox, Place, ROOM, Script, Trace, TxNo};
-use outcome_law::{completeness, one_outcome, replay};
+use outcome_law::{completeness, one_outcome, replay, tables};
 use std::alloc::{AllocError, Global};
 use std::marker::Model;
 
@@ -248,6 +248,7 @@ pub fn run_replay(alloc: Global, s: &Script) -> Result<Trace, AllocError>
     one_outcome();
     completeness();
     replay();
+    tables();
     let trace = trace_of(alloc, s.lines())?;
     Ok(trace)
 }
