@@ -1,5 +1,5 @@
 -- Which histories of a transaction a script causes.
-use Rattle.std.specs.Prelude.{ℕ, ◌≡◌, ◌≤◌, Bool, true, false, ◌||◌, not, List, [], ◌∷◌, Some, is_some}
+use Rattle.std.specs.Prelude.{ℕ, ◌≡◌, ◌≤◌, Bool, true, false, ◌||◌, not, List, [], ◌∷◌, Some, is_some, slice_get}
 use Rattle.dtx_values.specs.declared.number.ActorNo.{ActorNo}
 use Rattle.dtx_values.specs.declared.number.TxNo.{TxNo}
 use Rattle.dtx_values.specs.declared.call.Call.{Call}
@@ -12,15 +12,17 @@ use Rattle.dtx_model.specs.Words.{has, kth, onto}
 use Rattle.dtx_model.specs.Entries.{is_call}
 use Rattle.dtx_model.specs.Observed.{Observed, observe}
 use Rattle.dtx_model.specs.Outcome.{is_empty}
-use Rattle.dtx_model.specs.Steps.{Step, Calls, Replies, Acts, call_of, block, pending}
+use Rattle.dtx_model.specs.Steps.{Step, Calls, Replies, Acts, block, pending}
+use Rattle.dtx_model.specs.Contexts.{calls_by, lines_before}
 
--- line n of the script, from 1, is by this actor, and gives transaction t this call
+-- line n of the script, from 1, is by this actor, and gives transaction t this call, by its own words or as a scope line
 pub record IsCallOf (s : List Line) (t n : ℕ) (actor : ActorNo) (call : Call) : Type 0 where
   pub line : Line
   pub stands : kth s n ≡ Some line
   pub by_actor : line.actor ≡ actor
   pub name : TxNo
-  pub gives : call_of s line.body ≡ Some (name, call)
+  pub place : ℕ
+  pub gives : slice_get (calls_by s (lines_before s n) line) place ≡ Some (name, call)
   pub at_t : name.value ≡ t
 
 -- the call may answer here, for which so many steps were done: a `do` counts at most as many as it says, and an `await` answers

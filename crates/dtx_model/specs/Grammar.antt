@@ -154,6 +154,10 @@ script_text s = flat_map line_text s
 -- the lines that are run: begin, volatile, clone, complete, commit, rollback, status, await, tick and do
 abbrev pub is_run : Body → Bool
 is_run (Begin t d) = true
+is_run (Open s o) = true
+is_run (Finish s) = true
+is_run (Close s) = true
+is_run Current = true
 is_run (Volatile t e o v) = true
 is_run (Clone t c k) = true
 is_run (Complete c) = true
@@ -163,6 +167,7 @@ is_run (Status t) = true
 is_run (Await t) = true
 is_run (Tick t n) = true
 is_run (Do t k n) = true
+is_run Par = true
 is_run _ = false
 
 -- n is from the first number to the last

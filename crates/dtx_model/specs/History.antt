@@ -1,5 +1,6 @@
 -- The traces of a replay of a script. A trace stands oldest first here, as it is printed.
 use Rattle.std.specs.Prelude.{◌≡◌, true, false, List}
+use Rattle.dtx_values.specs.declared.number.ActorNo.{ActorNo}
 use Rattle.dtx_values.specs.declared.number.TxNo.{TxNo}
 use Rattle.dtx_values.specs.declared.entry.Entry.{Entry}
 use Rattle.dtx_values.specs.declared.script.Line.{Line}
@@ -9,13 +10,15 @@ use Rattle.dtx_model.specs.Entries.{is_commit, is_client_told, clone_of}
 use Rattle.dtx_model.specs.Outcome.{enlisted, is_complete, is_veto, justified, agree}
 use Rattle.dtx_model.specs.Steps.{planned_vote, voted_well}
 use Rattle.dtx_model.specs.Caused.{Caused, Settled}
-use Rattle.dtx_model.specs.Replay.{Placed, history, IsReplayed, calls, due_calls}
+use Rattle.dtx_model.specs.Contexts.{context}
+use Rattle.dtx_model.specs.Replay.{Placed, at_context, history, IsReplayed, calls, due_calls}
 
--- IsHistory: each transaction's history is caused by the script and settled, each line has its call exactly once and in order, and the
--- steps came in the order of a replay
+-- IsHistory: each transaction's history is caused by the script and settled, each context has the entries that its actor's lines make
+-- there, each line has its call exactly once at each of its places and in order, and the steps came in the order of a replay
 pub record IsHistory (s : List Line) (T : List Placed) : Type 0 where
   pub caused : (t : TxNo) → Caused s t.value (history t.value (past_of T))
   pub settled : (t : TxNo) → Settled s (history t.value (past_of T))
+  pub contexts : (a : ActorNo) → at_context a.value (past_of T) ≡ context a.value (past_of s)
   pub called : calls (past_of T) ≡ due_calls s (past_of s)
   pub replayed : IsReplayed s (past_of T)
 

@@ -12,13 +12,14 @@ mod outbox;
 mod record;
 mod resource;
 mod row;
+mod scope;
 mod script;
 mod trace;
 mod words;
 
 pub use call::Call;
 pub use entry::{Answer, Ask, Entry, LogNote, Party, Request, ScopeNote};
-pub use limits::{CLONES, DURABLES, ENLISTMENTS, ROOM};
+pub use limits::{CLONES, DURABLES, ENLISTMENTS, ROOM, SCOPES};
 pub use message::{Conn, Dir, Info, Message};
 pub use note::{Note, Plan, Reply};
 pub use number::{ActorNo, CloneNo, EnlNo, RmNo, ScopeNo, TxNo};
@@ -26,6 +27,7 @@ pub use outbox::Outbox;
 pub use record::{Differs, LogRecord};
 pub use resource::Resource;
 pub use row::{CloneRow, Row};
+pub use scope::{Closed, Entered, OpenScope};
 pub use script::{BadCause, Body, EnlistOption, Line, Opening, Script, Support};
 pub use trace::{Place, Trace};
 pub use words::{

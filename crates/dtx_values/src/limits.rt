@@ -9,5 +9,8 @@ pub const DURABLES: usize = 16;
 /// The most dependent clones of one transaction.
 pub const CLONES: usize = 32;
 
+/// The most scopes that are open in one context.
+pub const SCOPES: usize = 64;
+
 /// The most entries, and the most messages, that one step makes.
 pub const ROOM: usize = 64;
