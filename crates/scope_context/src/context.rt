@@ -1,5 +1,5 @@
 //! A context.
-ghost use Rattle.std.specs.Prelude.{◌≡◌, ◌≤◌, List, [], ◌∷◌, false, length, map, vec_capacity, Err, None, Some, IfErr, IfOk, OnErr, OnOk};
+ghost use Rattle.std.specs.Prelude.{◌≡◌, ◌≤◌, List, [], ◌∷◌, false, true, length, map, vec_capacity, Err, None, Some, IfErr, IfOk, OnErr, OnOk};
 ghost use Rattle.dtx_values.specs.declared.number.ScopeNo.{ScopeNo};
 ghost use Rattle.dtx_model.specs.Words.{has, onto, past_of};
 ghost use Rattle.dtx_model.specs.Scopes.{ScopeEntry, Opens, Finishes, Closes, beneath, closing, entering, is_scope, open_scopes, rolled_back, taken_off};
