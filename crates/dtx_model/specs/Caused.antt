@@ -3,7 +3,7 @@ use Rattle.std.specs.Prelude.{ℕ, ◌≡◌, ◌≤◌, Bool, true, false, ◌|
 use Rattle.dtx_values.specs.declared.number.ActorNo.{ActorNo}
 use Rattle.dtx_values.specs.declared.number.TxNo.{TxNo}
 use Rattle.dtx_values.specs.declared.call.Call.{Call}
-use Rattle.dtx_values.specs.declared.call.Call.TheVariants.{Volatile, Clone, Await, Do}
+use Rattle.dtx_values.specs.declared.call.Call.TheVariants.{Volatile, Durable, Promotable, Clone, Await, Do}
 use Rattle.dtx_values.specs.declared.entry.Entry.{Entry}
 use Rattle.dtx_values.specs.declared.script.Line.{Line}
 use Rattle.dtx_values.specs.Table.{is_of}
@@ -54,5 +54,7 @@ Settled s h = pending s (observe h) ≡ []
 -- the enlistment or the clone that the call makes doesn't stand yet
 abbrev pub is_new : Observed → Call → Bool
 is_new o (Volatile t e x v) = not (has (is_of e.value) o.table)
+is_new o (Durable t e r s) = not (has (is_of e.value) o.table)
+is_new o (Promotable t e r v x p) = not (has (is_of e.value) o.table)
 is_new o (Clone t c k) = not (has (is_clone c.value) o.clones)
 is_new o _ = true

@@ -2,15 +2,16 @@
 use Rattle.std.specs.Prelude.{ℕ, ◌==◌, Bool, false, ◌||◌, List, [], ◌∷◌, map, Option}
 use Rattle.dtx_values.specs.declared.entry.Ask.TheVariants.{Prepare}
 use Rattle.dtx_values.specs.declared.entry.Entry.{Entry}
-use Rattle.dtx_values.specs.declared.entry.Entry.TheVariants.{Cloned, Completed, Enlisted, Clock, Asked, Voted, Told}
+use Rattle.dtx_values.specs.declared.entry.Entry.TheVariants.{Cloned, Completed, Enlisted, Clock, Asked, Voted, Told, Lost}
 use Rattle.dtx_values.specs.declared.entry.Party.TheVariants.{Enl}
+use Rattle.dtx_values.specs.declared.number.EnlNo.{EnlNo}
 use Rattle.dtx_values.specs.declared.row.CloneRow.{CloneRow}
 use Rattle.dtx_values.specs.declared.words.Outcome.{Outcome}
 use Rattle.dtx_values.specs.Table.{Enlistment, insert_by, with_mark, with_row, with_vote}
 use Rattle.dtx_values.specs.Clones.{with_clone, with_complete}
 use Rattle.dtx_model.specs.declared.listener.Listener.{Listener}
 use Rattle.dtx_model.specs.Words.{has, latest, or_else}
-use Rattle.dtx_model.specs.Entries.{began_of, is_commit, is_sealed, decision_of, client_told_of}
+use Rattle.dtx_model.specs.Entries.{began_of, is_commit, is_sealed, decision_of, client_told_of, handed_of}
 
 -- what the entry changes in the table: an enlistment adds its row, an ask to prepare marks one, and a vote stands in one
 abbrev pub rows_after : Entry → List Enlistment → List Enlistment
@@ -40,15 +41,20 @@ listener_number l = l.enlistment.value
 
 -- the listener was told, where it is the one of this number
 abbrev pub hear : ℕ → Listener → Listener
-hear e l = record { enlistment = l.enlistment; told = (e == l.enlistment.value) || l.told }
+hear e l = record { enlistment = l.enlistment; told = (e == l.enlistment.value) || l.told; lost = l.lost }
 
--- what the entry changes in the listeners: an enlistment is one, and an outcome is told to one
+-- the listener is lost, where it is the one of this number
+abbrev pub lose : ℕ → Listener → Listener
+lose e l = record { enlistment = l.enlistment; told = l.told; lost = (e == l.enlistment.value) || l.lost }
+
+-- what the entry changes in the listeners: an enlistment is one, an outcome is told to one, and one is lost
 abbrev pub listeners_after : Entry → List Listener → List Listener
-listeners_after (Enlisted e c) ls = insert_by listener_number (record { enlistment = e; told = false }) ls
+listeners_after (Enlisted e c) ls = insert_by listener_number (record { enlistment = e; told = false; lost = false }) ls
 listeners_after (Told (Enl e) o) ls = map (hear e.value) ls
+listeners_after (Lost e) ls = map (lose e.value) ls
 listeners_after _ ls = ls
 
--- the enlistments and whether each was told the outcome, in order of number
+-- the enlistments, whether each was told the outcome and whether it is lost, in order of number
 abbrev pub listeners : List Entry → List Listener
 listeners [] = []
 listeners (x ∷ past) = listeners_after x (listeners past)
@@ -71,6 +77,8 @@ pub record Observed : Type 0 where
   pub table : List Enlistment
   pub clones : List CloneRow
   pub listeners : List Listener
+  -- to whom the commit was handed
+  pub handed : Option EnlNo
   pub decided : Option Outcome
   -- what the client was told
   pub told_client : Option Outcome
@@ -85,6 +93,7 @@ observe h =
       table = rows h;
       clones = clone_rows h;
       listeners = listeners h;
+      handed = latest handed_of h;
       decided = latest decision_of h;
       told_client = latest client_told_of h;
     }
@@ -100,6 +109,7 @@ track o x =
       table = rows_after x o.table;
       clones = clones_after x o.clones;
       listeners = listeners_after x o.listeners;
+      handed = or_else (handed_of x) o.handed;
       decided = or_else (decision_of x) o.decided;
       told_client = or_else (client_told_of x) o.told_client;
     }

@@ -1,41 +1,48 @@
 -- The steps of one transaction: what a call answers, which steps are pending, and the entries of each.
--- The rows are those of begin, volatile, clone, complete, commit, rollback, status, await, tick and do.
+-- The rows are those of begin, volatile, durable, promotable, clone, complete, commit, rollback, status, await, tick, do and gone, while
+-- nothing is promoted.
 use Rattle.std.specs.Prelude.{ℕ, ◌+◌, ◌==◌, min, nat_le, nat_lt, Bool, true, false, ◌&&◌, ◌||◌, not, List, [], ◌∷◌, ◌++◌, length, find, Option, Some, None, is_some, if◌then◌else◌}
 use Rattle.std.specs.List.{filter_map}
-use Rattle.dtx_values.specs.declared.limits.TheConstants.{CLONES, ENLISTMENTS}
+use Rattle.dtx_values.specs.declared.limits.TheConstants.{CLONES, DURABLES, ENLISTMENTS}
 use Rattle.dtx_values.specs.declared.number.ActorNo.{ActorNo}
 use Rattle.dtx_values.specs.declared.number.CloneNo.{CloneNo}
 use Rattle.dtx_values.specs.declared.number.EnlNo.{EnlNo}
 use Rattle.dtx_values.specs.declared.number.TxNo.{TxNo}
 use Rattle.dtx_values.specs.declared.call.Call.{Call}
-use Rattle.dtx_values.specs.declared.call.Call.TheVariants.{Begin, Volatile, Clone, Complete, Commit, Rollback, Status, Await, Tick, Do}
+use Rattle.dtx_values.specs.declared.call.Call.TheVariants.{Begin, Volatile, Durable, Promotable, Clone, Complete, Commit, Rollback, Status, Await, Tick, Do, Gone}
 use Rattle.dtx_values.specs.declared.entry.Answer.{Answer}
-use Rattle.dtx_values.specs.declared.entry.Answer.TheVariants.{Fine, StillActive, OutcomeIs, StillOpen, Did, NotBegun, Ended, TooLate, Many, NoSuch, Already}
+use Rattle.dtx_values.specs.declared.entry.Answer.TheVariants.{Fine, True, False, Wait, StillActive, OutcomeIs, StillOpen, Did, NotBegun, Ended, TooLate, Many, NoSuch, Already}
 use Rattle.dtx_values.specs.declared.entry.Ask.TheVariants.{Prepare}
 use Rattle.dtx_values.specs.declared.entry.Entry.{Entry}
-use Rattle.dtx_values.specs.declared.entry.Entry.TheVariants.{Called, Began, Cloned, Completed, Enlisted, CommitAsked, RollbackAsked, Clock, TimedOut, Late, Asked, Voted, Sealed, Decided, Told}
+use Rattle.dtx_values.specs.declared.entry.Entry.TheVariants.{Called, Began, Cloned, Completed, Enlisted, CommitAsked, RollbackAsked, Clock, TimedOut, Late, Asked, Voted, Sealed, Handed, OwnerAnswered, Decided, Told, Init, Lost}
 use Rattle.dtx_values.specs.declared.entry.Party.TheVariants.{Client, Enl}
 use Rattle.dtx_values.specs.declared.note.Reply.{Reply}
-use Rattle.dtx_values.specs.declared.note.Reply.TheVariants.{Vote as VoteReply}
+use Rattle.dtx_values.specs.declared.note.Reply.TheVariants.{Vote as VoteReply, Owner as OwnerReply}
+use Rattle.dtx_values.specs.declared.note.Note.{Note}
+use Rattle.dtx_values.specs.declared.note.Note.TheVariants.{Prepare as PrepareNote, Hand as HandNote}
 use Rattle.dtx_values.specs.declared.script.Body.{Body}
-use Rattle.dtx_values.specs.declared.script.Body.TheVariants.{Begin as BeginLine, Volatile as VolatileLine, Clone as CloneLine, Complete as CompleteLine, Commit as CommitLine, Rollback as RollbackLine, Status as StatusLine, Await as AwaitLine, Tick as TickLine, Do as DoLine}
+use Rattle.dtx_values.specs.declared.script.Body.TheVariants.{Begin as BeginLine, Volatile as VolatileLine, Durable as DurableLine, Promotable as PromotableLine, Gone as GoneLine, Clone as CloneLine, Complete as CompleteLine, Commit as CommitLine, Rollback as RollbackLine, Status as StatusLine, Await as AwaitLine, Tick as TickLine, Do as DoLine}
 use Rattle.dtx_values.specs.declared.script.EnlistOption.{EnlistOption}
 use Rattle.dtx_values.specs.declared.script.EnlistOption.TheVariants.{Plain, DuringPrepare}
 use Rattle.dtx_values.specs.declared.script.Line.{Line}
+use Rattle.dtx_values.specs.declared.script.Support.{Support}
+use Rattle.dtx_values.specs.declared.script.Support.TheVariants.{SinglePhase, TwoPhase}
 use Rattle.dtx_values.specs.declared.words.Class.{Class}
-use Rattle.dtx_values.specs.declared.words.Class.TheVariants.{Zero, One}
+use Rattle.dtx_values.specs.declared.words.Class.TheVariants.{Zero, One, DurableSingle, Promotable as PromotableClass}
 use Rattle.dtx_values.specs.declared.words.Outcome.{Outcome}
-use Rattle.dtx_values.specs.declared.words.Outcome.TheVariants.{Committed, Aborted}
+use Rattle.dtx_values.specs.declared.words.Cause.{Cause}
+use Rattle.dtx_values.specs.declared.words.Outcome.TheVariants.{Committed, Aborted, InDoubt}
 use Rattle.dtx_values.specs.declared.words.Timeout.{Timeout}
 use Rattle.dtx_values.specs.declared.words.Timeout.TheVariants.{Default, Milliseconds}
 use Rattle.dtx_values.specs.declared.words.Vote.{Vote}
 use Rattle.dtx_values.specs.declared.words.Vote.TheVariants.{No}
-use Rattle.dtx_values.specs.Table.{Enlistment, has_voted, is_marked}
+use Rattle.dtx_values.specs.Table.{Enlistment, has_voted, how_many, is_marked, is_of}
 use Rattle.dtx_values.specs.Clones.{is_clone, is_complete_clone, is_open_rollback}
 use Rattle.dtx_model.specs.declared.listener.Listener.{Listener}
 use Rattle.dtx_model.specs.Words.{has, each, latest, past_of}
 use Rattle.dtx_model.specs.Entries.{is_good, is_volatile}
 use Rattle.dtx_model.specs.Waves.{hears, is_over, next_ask}
+use Rattle.dtx_model.specs.Owners.{cause_of, is_lasting, may_own, owner_of}
 use Rattle.dtx_model.specs.Observed.{Observed}
 
 -- one step: a line's call by its actor, with the steps that were done for it before it answers, which only a `do` counts;
@@ -58,10 +65,26 @@ abbrev pub complete_call : CloneNo → Option TxNo → Option (TxNo × Call)
 complete_call c (Some t) = Some (t, Complete c)
 complete_call c None = None
 
+-- the transaction of an enlistment: that of the line that makes it
+abbrev pub enlistment_made : ℕ → Body → Option TxNo
+enlistment_made e (VolatileLine t f o v) = if e == f.value then Some t else None
+enlistment_made e (DurableLine t f r s) = if e == f.value then Some t else None
+enlistment_made e (PromotableLine t f r v o p) = if e == f.value then Some t else None
+enlistment_made e _ = None
+
+abbrev pub transaction_with : List Line → ℕ → Option TxNo
+transaction_with s e = latest (λ l. enlistment_made e l.body) (past_of s)
+
+abbrev pub gone_call : EnlNo → Option TxNo → Option (TxNo × Call)
+gone_call e (Some t) = Some (t, Gone e)
+gone_call e None = None
+
 -- the transaction that a line calls, and the call
 abbrev pub call_of : List Line → Body → Option (TxNo × Call)
 call_of s (BeginLine t d) = Some (t, Begin t d)
 call_of s (VolatileLine t e o v) = Some (t, Volatile t e o v)
+call_of s (DurableLine t e r x) = Some (t, Durable t e r x)
+call_of s (PromotableLine t e r v o p) = Some (t, Promotable t e r v o p)
 call_of s (CloneLine t c k) = Some (t, Clone t c k)
 call_of s (CompleteLine c) = complete_call c (transaction_of s c.value)
 call_of s (CommitLine t) = Some (t, Commit t)
@@ -70,6 +93,7 @@ call_of s (StatusLine t) = Some (t, Status t)
 call_of s (AwaitLine t) = Some (t, Await t)
 call_of s (TickLine t n) = Some (t, Tick t n)
 call_of s (DoLine t k n) = Some (t, Do t k n)
+call_of s (GoneLine e) = gone_call e (transaction_with s e.value)
 call_of s _ = None
 
 -- `default` is 60,000 milliseconds, 0 means 600,000, and more than 600,000 is cut to it
@@ -82,7 +106,7 @@ class_of Plain = One
 class_of DuringPrepare = Zero
 
 -- AnswerOf. Two answers stand before the others: `notbegun`, from which begin is exempt, and `ended` where it was decided, which
--- status, await, tick and do don't give.
+-- status, await, tick, do and gone don't give.
 abbrev pub behind_begin : Option ℕ → Answer → Answer
 behind_begin (Some d) a = a
 behind_begin None a = NotBegun
@@ -98,6 +122,23 @@ unless_over o a = behind_begin o.limit (behind_end o.decided a)
 abbrev pub volatile_answer : Bool → List Enlistment → Answer
 volatile_answer sealed xs = if sealed then TooLate else if nat_le ENLISTMENTS (length xs) then Many ENLISTMENTS else Fine
 
+-- the durable can own the commit
+abbrev pub is_single : Support → Bool
+is_single (SinglePhase v o) = true
+is_single (TwoPhase v) = false
+
+abbrev pub wait_for : Option Cause → Answer
+wait_for (Some c) = Wait
+wait_for None = Fine
+
+abbrev pub durable_answer : Bool → Bool → List Enlistment → Answer
+durable_answer sealed single xs =
+    if sealed then TooLate else if nat_le ENLISTMENTS (length xs) then Many ENLISTMENTS else if nat_le DURABLES (how_many is_lasting xs) then Many DURABLES
+    else wait_for (cause_of xs single)
+
+abbrev pub promotable_answer : Bool → List Enlistment → Answer
+promotable_answer sealed xs = if sealed then TooLate else if not (may_own xs false) then False else if nat_le ENLISTMENTS (length xs) then Many ENLISTMENTS else True
+
 abbrev pub clone_answer : Bool → ℕ → Answer
 clone_answer commit n = if commit then TooLate else if nat_le CLONES n then Many CLONES else Fine
 
@@ -107,6 +148,9 @@ complete_answer stands complete = if not stands then NoSuch else if complete the
 abbrev pub unless_late : Bool → Answer
 unless_late late = if late then TooLate else Fine
 
+abbrev pub gone_answer : Bool → Bool → Answer
+gone_answer stands lost = if not stands then NoSuch else if lost then Already else Fine
+
 abbrev pub status_answer : Option Outcome → Answer
 status_answer (Some x) = OutcomeIs x
 status_answer None = StillActive
@@ -115,9 +159,19 @@ abbrev pub await_answer : Option Outcome → Answer
 await_answer (Some x) = OutcomeIs x
 await_answer None = StillOpen
 
+-- the enlistment stands
+abbrev pub stands : Observed → ℕ → Bool
+stands o e = has (is_of e) o.table
+
+-- the enlistment is lost
+abbrev pub is_gone : Observed → ℕ → Bool
+is_gone o e = has (λ l. (e == l.enlistment.value) && l.lost) o.listeners
+
 -- the answer of a call for which so many steps were done
 unfoldable pub answer : Observed → Call → ℕ → Answer
 answer o (Volatile t e x v) m = unless_over o (volatile_answer o.sealed o.table)
+answer o (Durable t e r x) m = unless_over o (durable_answer o.sealed (is_single x) o.table)
+answer o (Promotable t e r v x p) m = unless_over o (promotable_answer o.sealed o.table)
 answer o (Clone t c k) m = unless_over o (clone_answer o.commit (length o.clones))
 answer o (Complete c) m = unless_over o (complete_answer (has (is_clone c.value) o.clones) (has (is_complete_clone c.value) o.clones))
 answer o (Commit t) m = unless_over o (unless_late o.commit)
@@ -126,11 +180,18 @@ answer o (Status t) m = behind_begin o.limit (status_answer o.decided)
 answer o (Await t) m = behind_begin o.limit (await_answer o.told_client)
 answer o (Tick t n) m = behind_begin o.limit Fine
 answer o (Do t k n) m = behind_begin o.limit (Did m)
+answer o (Gone e) m = behind_begin o.limit (gone_answer (stands o e.value) (is_gone o e.value))
 answer o _ m = Fine
 
 abbrev pub is_fine : Answer → Bool
 is_fine Fine = true
 is_fine _ = false
+
+-- the call was done: its facts follow
+abbrev pub is_done : Answer → Bool
+is_done Fine = true
+is_done True = true
+is_done _ = false
 
 -- a veto decides that it is aborted, in the same step
 abbrev pub veto : List Entry
@@ -157,9 +218,9 @@ voted_well None = false
 abbrev pub is_evident : Bool → List Enlistment → Bool
 is_evident sealed xs = sealed && each (λ x. is_volatile x.1.class && voted_well x.1.vote) xs
 
--- the timeout comes too late: it was decided, or evidence stands
+-- the timeout comes too late: it was decided, the commit was handed over, or evidence stands
 abbrev pub is_late : Observed → Bool
-is_late o = is_some o.decided || is_evident o.sealed o.table
+is_late o = is_some o.decided || is_some o.handed || is_evident o.sealed o.table
 
 abbrev pub time_up : Bool → List Entry
 time_up late = if late then Late ∷ [] else TimedOut ∷ veto
@@ -168,15 +229,39 @@ time_up late = if late then Late ∷ [] else TimedOut ∷ veto
 abbrev pub tick_facts : Observed → ℕ → List Entry
 tick_facts o n = Clock n ∷ (if reaches o.limit o.clock n then time_up (is_late o) else [])
 
--- the facts of a call that was answered ok
+-- the commit was handed to this enlistment
+abbrev pub is_handed : Option EnlNo → ℕ → Bool
+is_handed (Some f) e = e == f.value
+is_handed None e = false
+
+-- the enlistment voted
+abbrev pub voted : List Enlistment → ℕ → Bool
+voted xs e = has (λ x. is_of e x && has_voted x) xs
+
+-- how a lost enlistment ends the transaction: in doubt where it was handed the commit, else aborted
+abbrev pub lost_outcome : Bool → Outcome
+lost_outcome handed = if handed then InDoubt else Aborted
+
+abbrev pub decided_if : Bool → Outcome → List Entry
+decided_if true x = Decided x ∷ []
+decided_if false x = []
+
+-- an enlistment is lost: that decides, where nothing is decided and it hasn't voted
+abbrev pub gone_facts : Observed → EnlNo → List Entry
+gone_facts o e = Lost e ∷ decided_if (not (is_some o.decided) && not (voted o.table e.value)) (lost_outcome (is_handed o.handed e.value))
+
+-- the facts of a call that was done
 abbrev pub facts : Observed → Call → List Entry
 facts o (Begin t d) = Began (limit_of d) ∷ []
 facts o (Volatile t e x v) = Enlisted e (class_of x) ∷ []
+facts o (Durable t e r x) = Enlisted e DurableSingle ∷ []
+facts o (Promotable t e r v x p) = Enlisted e PromotableClass ∷ Init e ∷ []
 facts o (Clone t c k) = Cloned c k ∷ []
 facts o (Complete c) = Completed c ∷ []
 facts o (Commit t) = CommitAsked ∷ veto_if (has is_open_rollback o.clones)
 facts o (Rollback t) = RollbackAsked ∷ veto
 facts o (Tick t n) = tick_facts o (ticked o.clock n)
+facts o (Gone e) = gone_facts o e
 facts o _ = []
 
 abbrev pub facts_if : Bool → List Entry → List Entry
@@ -187,14 +272,27 @@ abbrev pub is_no : Vote → Bool
 is_no No = true
 is_no _ = false
 
--- the entries of a reply: a vote No is a veto
+-- the entries of a reply: a vote No is a veto, and an owner's answer decides
 abbrev pub reply_entries : EnlNo → Reply → List Entry
 reply_entries e (VoteReply v) = Voted e v ∷ veto_if (is_no v)
+reply_entries e (OwnerReply x) = OwnerAnswered e x ∷ Decided x ∷ []
 reply_entries e _ = []
 
--- still to be told the outcome: it wasn't, and it hears
-abbrev pub is_to_tell : List Enlistment → Listener → Bool
-is_to_tell xs l = not l.told && hears xs l.enlistment.value
+abbrev pub is_aborted : Outcome → Bool
+is_aborted Aborted = true
+is_aborted _ = false
+
+-- this enlistment is durable or promotable
+abbrev pub lasts : List Enlistment → ℕ → Bool
+lasts xs e = has (λ x. is_of e x && is_lasting x) xs
+
+-- an abort is told to a durable or promotable too, unless it was handed the commit or is lost
+abbrev pub hears_abort : Observed → Listener → Bool
+hears_abort o l = lasts o.table l.enlistment.value && not (is_handed o.handed l.enlistment.value) && not l.lost
+
+-- still to be told the outcome: it wasn't, and it is a volatile that hears, or hears of an abort
+abbrev pub is_to_tell : Observed → Outcome → Listener → Bool
+is_to_tell o x l = not l.told && (hears o.table l.enlistment.value || (is_aborted x && hears_abort o l))
 
 -- the lowest that is still to be told, and then the client
 abbrev pub tell : Outcome → Option Listener → Option Outcome → List Entry
@@ -210,19 +308,25 @@ before_seal None over = if over then Sealed ∷ [] else []
 abbrev pub all_voted : List Enlistment → Bool
 all_voted xs = each (λ x. not (is_volatile x.1.class) || has_voted x) xs
 
--- behind the seal: the lowest that wasn't asked is asked; when all voted, it is committed
-abbrev pub behind_seal : Option EnlNo → Bool → List Entry
-behind_seal (Some e) voted = Asked e Prepare ∷ []
-behind_seal None voted = if voted then Decided Committed ∷ [] else []
+-- the commit is handed to the owner, once; where nothing is durable or promotable, it is committed
+abbrev pub commit_act : Bool → Option EnlNo → List Entry
+commit_act true owner = []
+commit_act false (Some e) = Handed e ∷ []
+commit_act false None = Decided Committed ∷ []
+
+-- behind the seal: the lowest that wasn't asked is asked; when all voted, the commit is handed over or decided
+abbrev pub behind_seal : Option EnlNo → Bool → List Entry → List Entry
+behind_seal (Some e) voted commit = Asked e Prepare ∷ []
+behind_seal None voted commit = if voted then commit else []
 
 -- while nothing is decided: nothing before commit was asked, then phase zero, then what is behind the seal
 abbrev pub undecided_act : Bool → Bool → List Entry → List Entry → List Entry
 undecided_act commit sealed before behind = if not commit then [] else if not sealed then before else behind
 
 abbrev pub act_by : Option Outcome → Observed → List Entry
-act_by (Some x) o = tell x (find (is_to_tell o.table) o.listeners) o.told_client
+act_by (Some x) o = tell x (find (is_to_tell o x) o.listeners) o.told_client
 act_by None o =
-    undecided_act o.commit o.sealed (before_seal (next_ask o.table true) (is_over o.table o.clones 0)) (behind_seal (next_ask o.table false) (all_voted o.table))
+    undecided_act o.commit o.sealed (before_seal (next_ask o.table true) (is_over o.table o.clones 0)) (behind_seal (next_ask o.table false) (all_voted o.table) (commit_act (is_some o.handed) (owner_of o.table)))
 
 -- the entries of the local act: the first that applies. None where no act is pending.
 unfoldable pub act_entries : Observed → List Entry
@@ -230,29 +334,72 @@ act_entries o = act_by o.decided o
 
 -- the block of a step: the entries that it makes
 unfoldable pub block : Observed → Step → List Entry
-block o (Calls line actor c m) = Called line actor (answer o c m) ∷ facts_if (is_fine (answer o c m)) (facts o c)
+block o (Calls line actor c m) = Called line actor (answer o c m) ∷ facts_if (is_done (answer o c m)) (facts o c)
 block o (Replies e r) = reply_entries e r
 block o Acts = act_entries o
 
--- Plan: what the line that makes the enlistment says that it votes; none is silent
+-- Plan: what the line that makes the enlistment says that it replies; none is silent. The vote:
 abbrev pub line_vote : ℕ → Body → Option Vote
 line_vote e (VolatileLine t f o v) = if e == f.value then v else None
+line_vote e (DurableLine t f r (SinglePhase v o)) = if e == f.value then v else None
+line_vote e (DurableLine t f r (TwoPhase v)) = if e == f.value then v else None
+line_vote e (PromotableLine t f r v o p) = if e == f.value then v else None
 line_vote e _ = None
 
 abbrev pub planned_vote : List Line → ℕ → Option Vote
 planned_vote s e = latest (λ l. line_vote e l.body) (past_of s)
 
--- the reply that is due of this enlistment: it was asked, hasn't voted, and its plan isn't silent
-abbrev pub vote_step : Bool → EnlNo → Option Vote → Option Step
-vote_step true e (Some v) = Some (Replies e (VoteReply v))
-vote_step _ e _ = None
+-- the answer as owner of the commit:
+abbrev pub line_owner : ℕ → Body → Option Outcome
+line_owner e (DurableLine t f r (SinglePhase v o)) = if e == f.value then o else None
+line_owner e (PromotableLine t f r v o p) = if e == f.value then o else None
+line_owner e _ = None
 
-abbrev pub due_reply : List Line → Enlistment → Option Step
-due_reply s x = vote_step (is_marked x && not (has_voted x)) x.0 (planned_vote s x.0.value)
+abbrev pub planned_owner : List Line → ℕ → Option Outcome
+planned_owner s e = latest (λ l. line_owner e l.body) (past_of s)
 
--- the replies that are due, by number of enlistment; a volatile's isn't due once it was decided
+-- and whether it can be promoted
+abbrev pub line_promotion : ℕ → Body → Option Bool
+line_promotion e (PromotableLine t f r v o p) = if e == f.value then p else None
+line_promotion e _ = None
+
+abbrev pub planned_promotion : List Line → ℕ → Option Bool
+planned_promotion s e = latest (λ l. line_promotion e l.body) (past_of s)
+
+-- to what a reply of the enlistment is due: to prepare where it was asked and hasn't voted, and to the handing of the commit
+abbrev pub open_note : Bool → Bool → Option Note
+open_note asked handed = if asked then Some PrepareNote else if handed then Some HandNote else None
+
+-- none is due of one that is lost, or once it was decided
+abbrev pub due_note : Observed → Enlistment → Option Note
+due_note o x =
+    if is_some o.decided || is_gone o x.0.value then None else open_note (is_marked x && not (has_voted x)) (is_handed o.handed x.0.value)
+
+abbrev pub vote_reply : Option Vote → Option Reply
+vote_reply (Some v) = Some (VoteReply v)
+vote_reply None = None
+
+abbrev pub owner_reply : Option Outcome → Option Reply
+owner_reply (Some x) = Some (OwnerReply x)
+owner_reply None = None
+
+-- the reply that an enlistment plans to a note
+abbrev pub planned_reply : List Line → ℕ → Option Note → Option Reply
+planned_reply s e (Some PrepareNote) = vote_reply (planned_vote s e)
+planned_reply s e (Some HandNote) = owner_reply (planned_owner s e)
+planned_reply s e _ = None
+
+abbrev pub reply_step : EnlNo → Option Reply → Option Step
+reply_step e (Some r) = Some (Replies e r)
+reply_step e None = None
+
+-- the reply that is due of this enlistment, where its plan isn't silent
+abbrev pub due_reply : List Line → Observed → Enlistment → Option Step
+due_reply s o x = reply_step x.0 (planned_reply s x.0.value (due_note o x))
+
+-- the replies that are due, by number of enlistment
 abbrev pub due_replies : List Line → Observed → List Step
-due_replies s o = if is_some o.decided then [] else filter_map (due_reply s) o.table
+due_replies s o = filter_map (due_reply s o) o.table
 
 abbrev pub act_if : List Entry → List Step
 act_if [] = []
