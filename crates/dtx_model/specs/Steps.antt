@@ -272,6 +272,14 @@ abbrev pub is_no : Vote → Bool
 is_no No = true
 is_no _ = false
 
+abbrev pub is_no_vote : Option Vote → Bool
+is_no_vote (Some v) = is_no v
+is_no_vote None = false
+
+-- the enlistment voted No
+abbrev pub voted_no : Enlistment → Bool
+voted_no x = is_no_vote x.1.vote
+
 -- the entries of a reply: a vote No is a veto, and an owner's answer decides
 abbrev pub reply_entries : EnlNo → Reply → List Entry
 reply_entries e (VoteReply v) = Voted e v ∷ veto_if (is_no v)
@@ -392,6 +400,28 @@ planned_reply s e _ = None
 abbrev pub reply_step : EnlNo → Option Reply → Option Step
 reply_step e (Some r) = Some (Replies e r)
 reply_step e None = None
+
+-- to what a reply of the enlistment of this number is due
+abbrev pub note_of : Observed → Option Enlistment → Option Note
+note_of o (Some x) = due_note o x
+note_of o None = None
+
+unfoldable pub due_of : Observed → ℕ → Option Note
+due_of o e = note_of o (find (is_of e) o.table)
+
+abbrev pub with_note : EnlNo → Option Note → Option (EnlNo × Note)
+with_note e (Some n) = Some (e, n)
+with_note e None = None
+
+-- the enlistments of which a reply is due, with the note, by number
+unfoldable pub all_due : Observed → List (EnlNo × Note)
+all_due o = filter_map (λ x. with_note x.0 (due_note o x)) o.table
+
+-- the reply fits the note: a vote answers prepare, an owner's answer the handing
+abbrev pub fits : Reply → Note → Bool
+fits (VoteReply v) PrepareNote = true
+fits (OwnerReply x) HandNote = true
+fits _ _ = false
 
 -- the reply that is due of this enlistment, where its plan isn't silent
 abbrev pub due_reply : List Line → Observed → Enlistment → Option Step

@@ -1,0 +1,8 @@
+//! The light committer: what a transaction that isn't promoted does with the commit once everybody voted.
+#![tactic(auto)]
+
+mod decision;
+#[cfg(test)]
+mod tests;
+
+pub use decision::{LightAct, decide, owner_lost};
