@@ -19,3 +19,4 @@ pub mod Settled
 pub mod Replays
 pub mod Examples
 pub mod ReplayExample
+pub mod ScopeExample

@@ -136,7 +136,7 @@ is_history =
     }
 
 -- between t1's turn and t1's next no transaction is passed
-none_passed : (n : ℕ) → is_passed 1 1 n ≡ true → ⊥
+pub none_passed : (n : ℕ) → is_passed 1 1 n ≡ true → ⊥
 none_passed n p =
     let above : nat_le 1 n ≡ true = and_left (nat_le 1 n) (nat_lt n 1) p in
     let below : nat_lt n 1 ≡ true = and_right (nat_le 1 n) (nat_lt n 1) p in

@@ -1,5 +1,5 @@
 -- The calls that scope lines give transactions: begin, commit and rollback, each of another transaction.
-use Rattle.std.proofs.Common.{◌≡◌, ℕ, zero, suc, ◌==◌, Bool, true, false, ◌⊎◌, inl, inr, List, [], ◌∷◌, map, Option, Some, None, refl, sym, ap, ◌∙◌}
+use Rattle.std.proofs.Common.{◌≡◌, ℕ, zero, suc, ◌==◌, Bool, true, false, ◌⊎◌, inl, inr, List, [], ◌∷◌, map, Option, Some, None, refl}
 use Rattle.std.specs.Prelude.{if◌then◌else◌}
 use Rattle.std.specs.List.{slice_get}
 use Rattle.dtx_values.specs.declared.number.TxNo.{TxNo}
@@ -14,12 +14,12 @@ use Rattle.dtx_values.specs.declared.scope.Entered.{Entered}
 use Rattle.dtx_values.specs.declared.scope.Entered.TheVariants.{Made}
 use Rattle.dtx_values.specs.declared.scope.OpenScope.{OpenScope}
 use Rattle.dtx_values.specs.declared.script.Body.{Body}
-use Rattle.dtx_values.specs.declared.script.Body.TheVariants.{Open, Finish, Close, Current}
+use Rattle.dtx_values.specs.declared.script.Body.TheVariants.{Open, Close}
 use Rattle.dtx_values.specs.declared.script.Line.{Line}
 use Rattle.dtx_values.specs.declared.words.Timeout.{Timeout}
 use Rattle.dtx_model.specs.Words.{has, put, all_of}
 use Rattle.dtx_model.specs.Scopes.{entering, enter_answer, close_answer, closing, once, rolled_back, taken_off, transaction_of}
-use Rattle.dtx_model.specs.Contexts.{option_in, name_in, timeout_in, isolation_in, begin_calls, opening_calls, ending_calls, closing_calls, scope_calls, scopes_of, calls_by}
+use Rattle.dtx_model.specs.Contexts.{option_in, name_in, timeout_in, isolation_in, opening_calls, closing_calls, scope_calls, scopes_of, calls_by}
 use Rattle.dtx_model.specs.Steps.{call_of}
 use Rattle.dtx_model.specs.Caused.{MayAnswer}
 use Rattle.dtx_model.proofs.Bools.{or_right}
@@ -33,6 +33,7 @@ is_scope_call (Commit t) = true
 is_scope_call (Rollback t) = true
 is_scope_call _ = false
 
+-- a transaction is given such a call
 abbrev pub IsScopeCall : TxNo × Call → Type 0
 IsScopeCall c = is_scope_call c.1 ≡ true
 
@@ -42,7 +43,7 @@ opening_plain Fine d (Made t) = (refl, tt)
 opening_plain Fine d _ = tt
 opening_plain _ d e = tt
 
--- and closing such ones
+-- and closing such ones, or none
 closing_plain : (x : Answer) (e : Closed) (ts : List TxNo) → OfEach IsScopeCall (closing_calls x e ts)
 closing_plain Fine (CommitAtClose t) ts = (refl, tt)
 closing_plain Fine (RollbackAtClose t) ts = (refl, tt)
@@ -87,7 +88,7 @@ abbrev pub AreApart : List (TxNo × Call) → Type 0
 AreApart [] = Unit {0}
 AreApart (c ∷ cs) = OfEach (IsBeside c.0) cs × AreApart cs
 
--- each as a rollback
+-- a rollback of each of these
 abbrev rollbacks : List TxNo → List (TxNo × Call)
 rollbacks ts = map (λ t. (t, Rollback t)) ts
 
@@ -103,7 +104,7 @@ once_beside t before (u ∷ us) h =
     step true e without more = without
     step false e without more = (apart (λ n. has (λ v. n == v.value) before) u.value t.value e h, more)
 
--- what is given once is no two times of one transaction
+-- no transaction is given twice
 once_apart : (before ts : List TxNo) → AreApart (rollbacks (once before ts))
 once_apart before [] = tt
 once_apart before (t ∷ ts) = step (has (λ u. t.value == u.value) before) (once_apart before ts) (once_apart (t ∷ before) ts)
