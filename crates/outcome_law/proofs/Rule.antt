@@ -1,15 +1,17 @@
 -- What must stand before each entry: the table of which entries come where, for the commands that are run.
-use Rattle.std.proofs.Common.{◌≡◌, ℕ, ◌==◌, Bool, true, false, ◌&&◌, ◌||◌, List, ◌∷◌, Option, Some, None}
+use Rattle.std.proofs.Common.{◌≡◌, ℕ, ◌==◌, Bool, true, false, ◌&&◌, ◌||◌, List, [], ◌∷◌, Option, Some, None}
 use Rattle.std.specs.Prelude.{not}
 use Rattle.dtx_values.specs.declared.entry.Ask.TheVariants.{Prepare}
 use Rattle.dtx_values.specs.declared.entry.Entry.{Entry}
-use Rattle.dtx_values.specs.declared.entry.Entry.TheVariants.{Called, Began, Cloned, Completed, Enlisted, CommitAsked, RollbackAsked, Clock, TimedOut, Late, Asked, Voted, Sealed, Decided, Told}
+use Rattle.dtx_values.specs.declared.entry.Entry.TheVariants.{Called, Began, Cloned, Completed, Enlisted, CommitAsked, RollbackAsked, Clock, TimedOut, Late, Asked, Voted, Sealed, Handed, OwnerAnswered, Decided, Told, Init, Lost}
 use Rattle.dtx_values.specs.declared.entry.Party.TheVariants.{Client}
+use Rattle.dtx_values.specs.declared.number.EnlNo.{EnlNo}
+use Rattle.dtx_values.specs.declared.words.Class.{Class}
 use Rattle.dtx_values.specs.declared.words.Outcome.{Outcome}
 use Rattle.dtx_values.specs.declared.words.Outcome.TheVariants.{InDoubt}
 use Rattle.dtx_model.specs.Words.{has, each, always, latest, all_of}
-use Rattle.dtx_model.specs.Entries.{same_outcome, is_commit, is_sealed, is_volatile, clone_of, is_asked, is_vote, decision_of, is_decision}
-use Rattle.dtx_model.specs.Outcome.{enlisted, is_complete, may_tell}
+use Rattle.dtx_model.specs.Entries.{same_outcome, is_commit, is_sealed, is_volatile, clone_of, is_asked, is_vote, is_hand, is_any_hand, is_lost, decision_of, is_decision}
+use Rattle.dtx_model.specs.Outcome.{can_own, durables, enlisted, hears_doubt, is_complete, is_empty, may_tell}
 use Rattle.dtx_model.specs.Waves.{is_zero}
 use Rattle.dtx_model.proofs.Bools.{and_left, and_right}
 
@@ -39,6 +41,20 @@ abbrev pub is_certain : Outcome → Bool
 is_certain InDoubt = false
 is_certain _ = true
 
+-- each volatile voted
+abbrev pub volatiles_cast : List Entry → Bool
+volatiles_cast h = each (λ x. not (is_volatile x.1) || has (is_vote x.0.value) h) (enlisted h)
+
+-- this enlistment alone is durable or promotable, and can own the commit
+abbrev pub is_only : ℕ → List (EnlNo × Class) → Bool
+is_only e (x ∷ []) = (e == x.0.value) && can_own x.1
+is_only e _ = false
+
+-- some owner answered
+abbrev pub is_answer : Entry → Bool
+is_answer (OwnerAnswered e x) = true
+is_answer _ = false
+
 -- the rule of each entry. What has no rule doesn't come.
 abbrev pub rule : List Entry → Entry → Bool
 rule h (Called n a x) = true
@@ -47,15 +63,19 @@ rule h (Clock n) = true
 rule h Late = true
 rule h TimedOut = true
 rule h RollbackAsked = true
-rule h (Enlisted e c) = not (has is_decision h) && not (has is_sealed h) && not (has (is_enlisted e.value) h) && is_volatile c
+rule h (Init e) = true
+rule h (Enlisted e c) = not (has is_decision h) && not (has is_sealed h) && not (has (is_enlisted e.value) h) && (is_volatile c || (can_own c && is_empty (durables h)))
 rule h (Cloned c k) = not (has is_decision h) && not (has is_commit h) && not (has (is_cloned c.value) h)
 rule h (Completed c) = not (has is_decision h) && has (is_cloned c.value) h
 rule h CommitAsked = not (has is_decision h) && not (has is_commit h)
 rule h (Asked e Prepare) = not (has is_decision h) && has is_commit h && has (is_enlisted e.value) h && not (has (is_asked e.value) h)
 rule h (Voted e v) = not (has is_decision h) && has (is_enlisted e.value) h && has (is_asked e.value) h && not (has (is_vote e.value) h)
 rule h Sealed = not (has is_decision h) && has is_commit h && all_complete h && zeros_cast h
-rule h (Decided x) = not (has is_decision h) && is_certain x && may_tell h Client x
-rule h (Told p x) = is_certain x && is_decided x (latest decision_of h)
+rule h (Handed e) = not (has is_decision h) && has is_sealed h && volatiles_cast h && is_only e.value (durables h) && not (has is_any_hand h)
+rule h (OwnerAnswered e x) = not (has is_decision h) && has (is_hand e.value) h && not (has is_answer h)
+rule h (Lost e) = has (is_enlisted e.value) h && not (has (is_lost e.value) h)
+rule h (Decided x) = not (has is_decision h) && may_tell h Client x
+rule h (Told p x) = is_decided x (latest decision_of h) && (is_certain x || hears_doubt h p)
 rule h _ = false
 
 -- each entry keeps its rule

@@ -4,13 +4,16 @@
 
 ghost use Rattle.std.specs.Prelude.{◌≡◌, ℕ, true, false, List, ◌∷◌, ◌++◌, Bool, Some, slice_get};
 ghost use Rattle.dtx_values.specs.declared.call.Call.{Call};
+ghost use Rattle.dtx_values.specs.declared.call.Call.TheVariants.{Durable};
 ghost use Rattle.dtx_values.specs.declared.entry.Entry.{Entry};
 ghost use Rattle.dtx_values.specs.declared.number.ActorNo.{ActorNo};
 ghost use Rattle.dtx_values.specs.declared.number.CloneNo.{CloneNo};
 ghost use Rattle.dtx_values.specs.declared.number.EnlNo.{EnlNo};
+ghost use Rattle.dtx_values.specs.declared.number.RmNo.{RmNo};
 ghost use Rattle.dtx_values.specs.declared.number.TxNo.{TxNo};
 ghost use Rattle.dtx_values.specs.declared.row.CloneRow.{CloneRow};
 ghost use Rattle.dtx_values.specs.declared.script.Line.{Line};
+ghost use Rattle.dtx_values.specs.declared.script.Support.{Support};
 ghost use Rattle.dtx_values.specs.declared.words.Class.{Class};
 ghost use Rattle.dtx_values.specs.declared.words.CloneKind.{CloneKind};
 ghost use Rattle.dtx_values.specs.declared.words.Outcome.TheVariants.{Committed};
@@ -18,20 +21,31 @@ ghost use Rattle.dtx_values.specs.Table.{Enlistment};
 ghost use Rattle.dtx_model.specs.Words.{has, each, always, all_of, past_of};
 ghost use Rattle.dtx_model.specs.Entries.{is_sealed, is_decision, is_client_told, clone_of};
 ghost use Rattle.dtx_model.specs.Outcome.{enlisted, evidence, justified, agree};
+ghost use Rattle.dtx_model.specs.Learned.{Learned};
 ghost use Rattle.dtx_model.specs.Observed.{observe, rows, clone_rows};
+ghost use Rattle.dtx_model.specs.Owners.{is_lasting};
+ghost use Rattle.dtx_model.specs.Promotes.{promotes};
+ghost use Rattle.dtx_model.specs.Wires.{WireRun};
 ghost use Rattle.dtx_model.specs.Seen.{IsSeen, IsCloneSeen, is_timely};
 ghost use Rattle.dtx_model.specs.Steps.{call_of, is_evident};
 ghost use Rattle.dtx_model.specs.Contexts.{context};
 ghost use Rattle.dtx_model.specs.Caused.{Caused, Settled, is_new};
 ghost use Rattle.dtx_model.specs.Replay.{Placed, history, at_context, IsReplayed, LinesRan, calls, due_calls};
 ghost use Rattle.dtx_model.specs.History.{CanCommit};
-ghost use Rattle.dtx_model.specs.Grammar.{are_named_well};
+ghost use Rattle.dtx_model.specs.Grammar.{are_named_well, is_run_line};
 
 /// The law of one outcome: in a history that a script causes, what is told is just, and no two are told opposite outcomes. (Presumed
 /// abort: a commit is told on evidence alone.) Of the script it needs that names are made once, before they are used.
 pub fn one_outcome()
     ensures just { (s : List Line) (t : ℕ) (h : List Entry) → are_named_well s ≡ true → Caused s t h → justified h ≡ true }
     ensures agrees { (s : List Line) (t : ℕ) (h : List Entry) → are_named_well s ≡ true → Caused s t h → agree h ≡ true }
+    ensures learned { (s : List Line) (t : ℕ) (h : List Entry) → are_named_well s ≡ true → Caused s t h → Learned s h }
+{}
+
+/// A history that a script causes is promoted in order, and what it gets over a connection was sent there in that order.
+pub fn crossings()
+    ensures promotes { (s : List Line) (t : ℕ) (h : List Entry) → are_named_well s ≡ true → Caused s t h → promotes s t h ≡ true }
+    ensures wires { (s : List Line) (t : ℕ) (h : List Entry) → are_named_well s ≡ true → Caused s t h → WireRun h }
 {}
 
 /// A settled transaction that can commit is committed: its client was told so.
@@ -49,6 +63,8 @@ pub fn replay()
     ensures called { (s : List Line) (T : List Placed) → IsReplayed s T → calls T ≡ due_calls s (past_of s) }
     ensures fresh { (s xs ys : List Line) (l : Line) (T : List Placed) (t : TxNo) (c : Call) → s ≡ xs ++ l ∷ ys → are_named_well s ≡ true → LinesRan s (past_of xs) T
         → call_of s l.body ≡ Some (t, c) → is_new (observe (history t.value T)) c ≡ true }
+    ensures alone { (s xs ys : List Line) (l : Line) (T : List Placed) (t u : TxNo) (e : EnlNo) (r : RmNo) (x : Support) → s ≡ xs ++ l ∷ ys → are_named_well s ≡ true
+        → LinesRan s (past_of xs) T → is_run_line (past_of xs) l ≡ true → call_of s l.body ≡ Some (t, Durable u e r x) → has is_lasting (rows (history t.value T)) ≡ false }
 {}
 
 /// The tables of a history that a script causes say what its entries say: of each enlistment, of each clone, and whether evidence stands
