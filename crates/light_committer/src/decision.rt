@@ -22,12 +22,11 @@ pub enum LightAct {
 }
 
 /// What is done with the commit behind the seal: nothing while a volatile enlistment hasn't voted or once it was handed over; else it is handed to the
-/// owner, or committed where there is none.
+/// owner, or committed where there is none. Evidence by the seal stands then, unless a volatile voted No.
 pub fn decide(t: &EnlistTable, handed: bool) -> LightAct
-    requires no_no { has voted_no t.now ≡ false }
-    requires one { how_many is_lasting t.now ≤ 1 }
+    requires { how_many is_lasting t.now ≤ 1 }
     ensures act { result ≡ light_act t.now handed }
-    ensures evident { result ≡ CommitNow → is_evident true t.now ≡ true }
+    ensures evident { result ≡ CommitNow → has voted_no t.now ≡ false → is_evident true t.now ≡ true }
 {
     if handed || !all_voted(t.rows()) {
         return LightAct::Nothing;

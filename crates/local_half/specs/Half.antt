@@ -1,5 +1,5 @@
 -- The local side of a transaction.
-use Rattle.std.specs.Prelude.{ℕ, ◌≡◌, ◌&&◌, Bool, true, false, not, List, Option, Some, None}
+use Rattle.std.specs.Prelude.{ℕ, ◌≡◌, ◌&&◌, ◌||◌, Bool, true, false, not, List, Option, Some, None}
 use Rattle.dtx_values.specs.declared.call.Call.{Call}
 use Rattle.dtx_values.specs.declared.call.Call.TheVariants.{Durable, Marshal, Await, Do, Lose, Gone, Reenlist, Recovered}
 use Rattle.dtx_values.specs.declared.entry.Entry.{Entry}
@@ -9,6 +9,7 @@ use Rattle.dtx_values.specs.declared.note.Reply.{Reply}
 use Rattle.dtx_values.specs.declared.number.TxNo.{TxNo}
 use Rattle.dtx_values.specs.Table.{Enlistment}
 use Rattle.dtx_model.specs.Words.{has}
+use Rattle.dtx_model.specs.Entries.{is_volatile}
 use Rattle.dtx_model.specs.Owners.{is_lasting}
 use Rattle.dtx_model.specs.Observed.{Observed, track_all}
 use Rattle.dtx_model.specs.Steps.{fits, is_single}
@@ -46,9 +47,9 @@ abbrev pub fits_due : Reply → Option Note → Bool
 fits_due r (Some n) = fits r n
 fits_due r None = true
 
--- the tables take what the entry adds
+-- the tables take what the entry adds, and nothing lasting comes beside another
 abbrev pub MayNote : Observed → Entry → Type 0
-MayNote o (Enlisted e c) = add_refusal e c o.table ≡ None
+MayNote o (Enlisted e c) = (add_refusal e c o.table ≡ None) × ((is_volatile c || not (has is_lasting o.table)) ≡ true)
 MayNote o (Cloned c k) = clone_refusal c o.commit o.clones ≡ None
 MayNote o (Voted e v) = was_asked e.value o.table ≡ true
 MayNote o _ = Unit {0}

@@ -9,7 +9,7 @@ ghost use Rattle.dtx_values.specs.declared.entry.Entry.TheVariants.{Enlisted, Vo
 ghost use Rattle.dtx_values.specs.declared.note.Note.{Note};
 ghost use Rattle.dtx_model.specs.Outcome.{is_empty};
 ghost use Rattle.dtx_model.specs.Entries.{is_volatile};
-ghost use Rattle.dtx_model.specs.Words.{each, has};
+ghost use Rattle.dtx_model.specs.Words.{has, kth};
 ghost use Rattle.dtx_model.specs.Waves.{is_over, next_ask};
 ghost use Rattle.dtx_model.specs.Owners.{owner_of};
 ghost use Rattle.dtx_model.specs.Observed.{observe, track, track_all};
@@ -18,6 +18,8 @@ ghost use Rattle.dtx_model.specs.Steps.{Calls, act_entries, all_due, all_voted, 
 ghost use Rattle.local_half.specs.Half.{MayNote, after, fits_due, is_alone, is_its_own};
 
 use crate::listeners::{add, first_to_tell, is_gone, lose, tell};
+use crate::time::{limit_of, reaches, ticked};
+use crate::votes::{all_voted, is_evident, is_no, is_single, lasting};
 use dependent_clones::Clones;
 use dtx_model::Listener;
 use dtx_values::{
@@ -55,6 +57,8 @@ pub struct LocalHalf {
 impl Model for LocalHalf {
     ghost use Rattle.std.specs.Prelude.{◌≤◌, ◌≡◌, length, vec_capacity};
     ghost use Rattle.dtx_values.specs.declared.limits.TheConstants.{ENLISTMENTS};
+    ghost use Rattle.dtx_values.specs.Table.{how_many};
+    ghost use Rattle.dtx_model.specs.Owners.{is_lasting};
     ghost use Rattle.local_half.specs.Half.{Half};
 
     ghost Value = { Half };
@@ -75,100 +79,21 @@ impl Model for LocalHalf {
       };
     } };
 
-    ghost invariant = { λ m. (ENLISTMENTS ≤ vec_capacity m.listeners) × (length m.listeners.items ≡ length m.table) };
+    ghost invariant = { λ m. (ENLISTMENTS ≤ vec_capacity m.listeners) × (length m.listeners.items ≡ length m.table) × (how_many is_lasting m.table ≤ 1) };
 }
 
-/// A timeout in milliseconds: `default` is one minute, 0 is the most, ten minutes, and no timeout is longer.
-fn limit_of(d: Timeout) -> u32
-    ensures { result ≡ limit_of d }
-{
-    match d {
-        Timeout::Default => 60_000,
-        Timeout::Milliseconds(0) => 600_000,
-        Timeout::Milliseconds(n) => n.min(600_000),
-    }
-}
-
-/// The clock behind a tick: it stays at the last value of its `u64`.
-fn ticked(clock: u64, n: u32) -> u64
-    ensures { result ≡ ticked clock n }
-{
-    clock.saturating_add(u64::from(n))
-}
-
-/// Whether a tick to n is the first that reaches the timeout.
-fn reaches(limit: Option<u32>, clock: u64, n: u64) -> bool
-    ensures { result ≡ reaches limit clock n }
-{
-    match limit {
-        Some(d) => clock < u64::from(d) && u64::from(d) <= n,
-        None => false,
-    }
-}
-
-fn is_volatile(c: Class) -> bool
-    ensures { result ≡ is_volatile c }
-{
-    match c {
-        Class::Zero | Class::One => true,
-        _ => false,
-    }
-}
-
-fn voted_well(v: Option<Vote>) -> bool
-    ensures { result ≡ voted_well v }
-{
-    match v {
-        Some(Vote::Yes) | Some(Vote::Done) => true,
-        _ => false,
-    }
-}
-
-fn is_no(v: Vote) -> bool
-    ensures { result ≡ is_no v }
-{
-    match v {
-        Vote::No => true,
-        _ => false,
-    }
-}
-
-/// Whether it is volatile and voted yes or done.
-fn is_well(x: &(EnlNo, Row)) -> bool
-    ensures { result ≡ (is_volatile x.now.1.class && voted_well x.now.1.vote) }
-{
-    is_volatile(x.1.class) && voted_well(x.1.vote)
-}
-
-/// Whether each is volatile and voted yes or done.
-fn are_well(rows: &[(EnlNo, Row)]) -> bool
-    ensures { result ≡ each (λ x. is_volatile x.1.class && voted_well x.1.vote) rows.now }
-{
-    rows.iter().all(|x| is_well(x))
-}
-
-/// Whether evidence by the seal stands, as the rows show it.
-fn is_evident(sealed: bool, rows: &[(EnlNo, Row)]) -> bool
-    ensures { result ≡ is_evident sealed rows.now }
-{
-    sealed && are_well(rows)
-}
-
-/// Whether every volatile voted.
-fn all_voted(rows: &[(EnlNo, Row)]) -> bool
-    ensures { result ≡ all_voted rows.now }
-{
-    rows.iter()
-        .all(|x| !is_volatile(x.1.class) || x.1.vote.is_some())
-}
-
-impl Machine {
-    /// A transaction of which nothing is known yet.
+impl LocalHalf {
+    /// The local side of this transaction, of which nothing is known yet.
+    ///
+    /// # Errors
+    ///
+    /// [`AllocError`] where memory ran out.
     #[tactic(auto, unfolding(dtx_model::specs::Observed::observe))]
-    pub fn new(alloc: Global) -> Result<Self, AllocError>
-        ensures { IfOk result (λ m. m ≡ observe []) }
+    pub fn new(alloc: Global, t: TxNo) -> Result<Self, AllocError>
+        ensures { IfOk result (λ m. m ≡ record { transaction = t; seen = observe [] }) }
     {
-        Ok(Machine {
+        Ok(LocalHalf {
+            transaction: t,
             limit: None,
             clock: 0,
             commit: false,
@@ -177,16 +102,60 @@ impl Machine {
             clones: Clones::new(alloc)?,
             listeners: Vec::with_capacity(alloc, ENLISTMENTS)?,
             waves: Waves::new(),
+            handed: None,
             decided: None,
             told_client: None,
         })
     }
 
+    /// The transaction.
+    pub fn transaction(&self) -> TxNo
+        ensures { result ≡ self.now.transaction }
+    {
+        self.transaction
+    }
+
+    /// Whether it was begun.
+    pub fn is_begun(&self) -> bool
+        ensures { result ≡ is_some self.now.seen.limit }
+    {
+        self.limit.is_some()
+    }
+
+    /// The enlistments, with their rows, in order of number.
+    pub fn rows(&self) -> &[(EnlNo, Row)]
+        ensures { result.now ≡ self.now.seen.table }
+    {
+        self.table.rows()
+    }
+
+    /// Whether the enlistment stands.
+    pub fn stands(&self, e: EnlNo) -> bool
+        ensures { result ≡ stands self.now.seen e.value }
+    {
+        self.table.rows().iter().any(|x| x.0 == e)
+    }
+
+    /// Whether the enlistment is lost.
+    pub fn is_gone(&self, e: EnlNo) -> bool
+        ensures { result ≡ is_gone self.now.seen e.value }
+    {
+        is_gone(&self.listeners, e)
+    }
+
+    /// What the client was told.
+    pub fn told_client(&self) -> Option<Outcome>
+        ensures { result ≡ self.now.seen.told_client }
+    {
+        self.told_client
+    }
+
     /// Adds an enlistment to the table, and to whom the outcome is told.
     #[tactic(auto, unfolding(dtx_model::specs::Observed::track))]
     fn enlist(&mut self, e: EnlNo, class: Class)
-        requires { MayNote self.old (Enlisted e class) }
-        ensures { self.new ≡ track self.old (Enlisted e class) }
+        requires { MayNote self.old.seen (Enlisted e class) }
+        ensures transaction { self.new.transaction ≡ self.old.transaction }
+        ensures seen { self.new.seen ≡ track self.old.seen (Enlisted e class) }
     {
         match self.table.add(e, class) {
             Ok(()) => add(
@@ -194,6 +163,7 @@ impl Machine {
                 Listener {
                     enlistment: e,
                     told: false,
+                    lost: false,
                 },
             ),
             Err(_) => unreachable!(),
@@ -203,8 +173,9 @@ impl Machine {
     /// The one place where what is kept changes.
     #[tactic(auto, unfolding(dtx_model::specs::Observed::track))]
     fn note(&mut self, x: Entry)
-        requires { MayNote self.old x }
-        ensures { self.new ≡ track self.old x }
+        requires { MayNote self.old.seen x }
+        ensures transaction { self.new.transaction ≡ self.old.transaction }
+        ensures seen { self.new.seen ≡ track self.old.seen x }
     {
         match x {
             Entry::Began(d) => self.limit = Some(d),
@@ -228,6 +199,8 @@ impl Machine {
             Entry::Voted(e, v) => {
                 let _ = take_vote(&mut self.table, e, v);
             }
+            Entry::Handed(e) => self.handed = Some(e),
+            Entry::Lost(e) => lose(&mut self.listeners, e),
             Entry::Told(party, o) => match party {
                 Party::Enl(e) => tell(&mut self.listeners, e),
                 Party::Client => self.told_client = Some(o),
@@ -239,7 +212,7 @@ impl Machine {
 
     /// The answer behind `notbegun`.
     fn behind_begin(&self, a: Answer) -> Answer
-        ensures { result ≡ behind_begin self.now.limit a }
+        ensures { result ≡ behind_begin self.now.seen.limit a }
     {
         match self.limit {
             Some(_) => a,
@@ -249,7 +222,7 @@ impl Machine {
 
     /// The answer behind `notbegun` and `ended`.
     fn unless_over(&self, a: Answer) -> Answer
-        ensures { result ≡ unless_over self.now a }
+        ensures { result ≡ unless_over self.now.seen a }
     {
         self.behind_begin(match self.decided {
             Some(o) => Answer::Ended(o),
@@ -258,7 +231,7 @@ impl Machine {
     }
 
     fn volatile_answer(&self) -> Answer
-        ensures { result ≡ volatile_answer self.now.sealed self.now.table }
+        ensures { result ≡ volatile_answer self.now.seen.sealed self.now.seen.table }
     {
         if self.sealed {
             return Answer::TooLate;
@@ -269,8 +242,41 @@ impl Machine {
         Answer::Fine
     }
 
+    fn durable_answer(&self, single: bool) -> Answer
+        ensures { result ≡ durable_answer self.now.seen.sealed single self.now.seen.table }
+    {
+        if self.sealed {
+            return Answer::TooLate;
+        }
+        if self.table.rows().len() >= ENLISTMENTS {
+            return Answer::Many(ENLISTMENTS as u8);
+        }
+        if lasting(self.table.rows()) >= DURABLES {
+            return Answer::Many(DURABLES as u8);
+        }
+        match cause_of(&self.table, single) {
+            Some(_) => Answer::Wait,
+            None => Answer::Fine,
+        }
+    }
+
+    fn promotable_answer(&self) -> Answer
+        ensures { result ≡ promotable_answer self.now.seen.sealed self.now.seen.table }
+    {
+        if self.sealed {
+            return Answer::TooLate;
+        }
+        if !try_own(&self.table, false) {
+            return Answer::False;
+        }
+        if self.table.rows().len() >= ENLISTMENTS {
+            return Answer::Many(ENLISTMENTS as u8);
+        }
+        Answer::True
+    }
+
     fn clone_answer(&self) -> Answer
-        ensures { result ≡ clone_answer self.now.commit (length self.now.clones) }
+        ensures { result ≡ clone_answer self.now.seen.commit (length self.now.seen.clones) }
     {
         if self.commit {
             return Answer::TooLate;
@@ -294,20 +300,11 @@ impl Machine {
     }
 
     fn status_answer(&self) -> Answer
-        ensures { result ≡ status_answer self.now.decided }
+        ensures { result ≡ status_answer self.now.seen.decided }
     {
         match self.decided {
             Some(o) => Answer::OutcomeIs(o),
             None => Answer::StillActive,
-        }
-    }
-
-    fn await_answer(&self) -> Answer
-        ensures { result ≡ await_answer self.now.told_client }
-    {
-        match self.told_client {
-            Some(o) => Answer::OutcomeIs(o),
-            None => Answer::StillOpen,
         }
     }
 
@@ -317,13 +314,16 @@ impl Machine {
         if late { Answer::TooLate } else { Answer::Fine }
     }
 
-    /// The first answer whose condition holds, of a call for which so many steps were done.
+    /// The first answer whose condition holds.
     #[tactic(auto, unfolding(dtx_model::specs::Steps::answer))]
-    fn answer(&self, c: &Call, done: u16) -> Answer
-        ensures { result ≡ answer self.now c.now done }
+    fn answer(&self, c: &Call) -> Answer
+        requires { is_its_own c.now ≡ true }
+        ensures { result ≡ answer self.now.seen c.now 0 }
     {
         match *c {
             Call::Volatile(_, _, _, _) => self.unless_over(self.volatile_answer()),
+            Call::Durable(_, _, _, support) => self.unless_over(self.durable_answer(is_single(support))),
+            Call::Promotable(_, _, _, _, _, _) => self.unless_over(self.promotable_answer()),
             Call::Clone(_, _, _) => self.unless_over(self.clone_answer()),
             Call::Complete(c) => self.unless_over(self.complete_answer(
                 self.clones.stands(c),
@@ -332,20 +332,18 @@ impl Machine {
             Call::Commit(_) => self.unless_over(self.unless_late(self.commit)),
             Call::Rollback(_) => self.unless_over(self.unless_late(self.sealed)),
             Call::Status(_) => self.behind_begin(self.status_answer()),
-            Call::Await(_) => self.behind_begin(self.await_answer()),
             Call::Tick(_, _) => self.behind_begin(Answer::Fine),
-            Call::Do(_, _, _) => self.behind_begin(Answer::Did(done)),
             _ => Answer::Fine,
         }
     }
 }
 
 #[tactic(auto, using(crate::proofs::Writing::outgoing), unfolding(dtx_model::specs::Observed::track, dtx_model::specs::Observed::track_all, dtx_model::specs::Steps::answer, dtx_model::specs::Steps::block, dtx_model::specs::Steps::act_entries))]
-impl Machine {
+impl LocalHalf {
     fn write(&mut self, x: Entry, out: &mut Outbox)
-        requires noted { MayNote self.old x }
+        requires noted { MayNote self.old.seen x }
         requires room { 0 < out.old.room }
-        ensures state { self.new ≡ track self.old x }
+        ensures state { self.new ≡ after self.old (x ∷ []) }
         ensures out { out.new ≡ with out.old (x ∷ []) }
     {
         self.note(x);
@@ -355,15 +353,26 @@ impl Machine {
     /// Whether a rollback clone isn't complete.
     #[tactic(auto, using(crate::proofs::Notes::some_left))]
     fn has_open_rollback(&self) -> bool
-        ensures { result ≡ has is_open_rollback self.now.clones }
+        ensures { result ≡ has is_open_rollback self.now.seen.clones }
     {
         self.clones.rollback_left() > 0
+    }
+
+    /// Writes the decision where the test holds.
+    fn decide_if(&mut self, is_over: bool, o: Outcome, out: &mut Outbox)
+        requires { 1 ≤ out.old.room }
+        ensures state { self.new ≡ after self.old (decided_if is_over o) }
+        ensures out { out.new ≡ with out.old (decided_if is_over o) }
+    {
+        if is_over {
+            self.write(Entry::Decided(o), out);
+        }
     }
 
     /// Writes a veto where the test holds.
     fn veto_if(&mut self, is_veto: bool, out: &mut Outbox)
         requires { 1 ≤ out.old.room }
-        ensures state { self.new ≡ track_all self.old (veto_if is_veto) }
+        ensures state { self.new ≡ after self.old (veto_if is_veto) }
         ensures out { out.new ≡ with out.old (veto_if is_veto) }
     {
         if is_veto {
@@ -371,14 +380,23 @@ impl Machine {
         }
     }
 
+    /// Whether a timeout comes too late.
+    fn is_late(&self) -> bool
+        ensures { result ≡ is_late self.now.seen }
+    {
+        self.decided.is_some()
+            || self.handed.is_some()
+            || is_evident(self.sealed, self.table.rows())
+    }
+
     /// Writes what a tick to n does: the clock, and at the first that reaches the timeout either a veto or that it comes too late.
     fn tick(&mut self, n: u64, out: &mut Outbox)
         requires { 3 ≤ out.old.room }
-        ensures state { self.new ≡ track_all self.old (tick_facts self.old n) }
-        ensures out { out.new ≡ with out.old (tick_facts self.old n) }
+        ensures state { self.new ≡ after self.old (tick_facts self.old.seen n) }
+        ensures out { out.new ≡ with out.old (tick_facts self.old.seen n) }
     {
         let is_first = reaches(self.limit, self.clock, n);
-        let is_late = self.decided.is_some() || is_evident(self.sealed, self.table.rows());
+        let is_late = self.is_late();
         self.write(Entry::Clock(n), out);
         if is_first {
             if is_late {
@@ -390,13 +408,14 @@ impl Machine {
         }
     }
 
-    /// Writes the facts of a call that was answered ok.
+    /// Writes the facts of a call that was done.
     fn facts(&mut self, c: &Call, out: &mut Outbox)
-        requires fine { (m : ℕ) × (is_fine (answer self.old c.now m) ≡ true) }
-        requires new { is_new self.old c.now ≡ true }
+        requires own { is_its_own c.now ≡ true }
+        requires done { is_done (answer self.old.seen c.now 0) ≡ true }
+        requires new { is_new self.old.seen c.now ≡ true }
         requires room { 3 ≤ out.old.room }
-        ensures state { self.new ≡ track_all self.old (facts self.old c.now) }
-        ensures out { out.new ≡ with out.old (facts self.old c.now) }
+        ensures state { self.new ≡ after self.old (facts self.old.seen c.now) }
+        ensures out { out.new ≡ with out.old (facts self.old.seen c.now) }
     {
         match *c {
             Call::Begin(_, d) => self.write(Entry::Began(limit_of(d)), out),
@@ -406,6 +425,11 @@ impl Machine {
                     EnlistOption::DuringPrepare => Class::Zero,
                 };
                 self.write(Entry::Enlisted(e, class), out);
+            }
+            Call::Durable(_, e, _, _) => self.write(Entry::Enlisted(e, Class::DurableSingle), out),
+            Call::Promotable(_, e, _, _, _, _) => {
+                self.write(Entry::Enlisted(e, Class::Promotable), out);
+                self.write(Entry::Init(e), out);
             }
             Call::Clone(_, c, kind) => self.write(Entry::Cloned(c, kind), out),
             Call::Complete(c) => self.write(Entry::Completed(c), out),
@@ -423,27 +447,63 @@ impl Machine {
         }
     }
 
-    /// Does a call, for which so many steps were done: its entry, and behind it its facts.
-    pub fn call(&mut self, actor: ActorNo, line: u32, c: &Call, done: u16, out: &mut Outbox)
-        requires new { is_new self.old c.now ≡ true }
+    /// Does a call: writes its entry, and behind it its facts.
+    ///
+    /// Until promotion comes, a durable call comes with single-phase support and with nothing durable or promotable there.
+    pub fn call(&mut self, actor: ActorNo, line: u32, c: &Call, out: &mut Outbox) -> Answer
+        requires own { is_its_own c.now ≡ true }
+        requires new { is_new self.old.seen c.now ≡ true }
+        requires alone { is_alone self.old.seen.table c.now ≡ true }
         requires room { 4 ≤ out.old.room }
-        ensures state { self.new ≡ track_all self.old (block self.old (Calls line actor c.now done)) }
-        ensures out { out.new ≡ with out.old (block self.old (Calls line actor c.now done)) }
+        ensures answer { result ≡ answer self.old.seen c.now 0 }
+        ensures state { self.new ≡ after self.old (block self.old.seen (Calls line actor c.now 0)) }
+        ensures out { out.new ≡ with out.old (block self.old.seen (Calls line actor c.now 0)) }
     {
-        let answer = self.answer(c, done);
+        let answer = self.answer(c);
         self.write(Entry::Called(line, actor, answer), out);
-        if answer == Answer::Fine {
+        if answer == Answer::Fine || answer == Answer::True {
             self.facts(c, out);
         }
+        answer
+    }
+
+    /// Loses an enlistment. Where it hasn't voted and nothing is decided, that decides: in doubt where it was handed the commit, else aborted.
+    ///
+    /// `linked` says whether one of its connections is open; until promotion comes none is.
+    pub fn gone(&mut self, e: EnlNo, linked: bool, out: &mut Outbox)
+        requires stands { gone_answer (stands self.old.seen e.value) (is_gone self.old.seen e.value) ≡ Fine }
+        requires unlinked { linked ≡ false }
+        requires room { 2 ≤ out.old.room }
+        ensures state { self.new ≡ after self.old (gone_facts self.old.seen e) }
+        ensures out { out.new ≡ with out.old (gone_facts self.old.seen e) }
+    {
+        let is_over = self.decided.is_none() && !linked && !self.voted(e);
+        let outcome = owner_lost(self.is_handed(e));
+        self.write(Entry::Lost(e), out);
+        self.decide_if(is_over, outcome, out);
+    }
+
+    /// Whether the enlistment voted.
+    fn voted(&self, e: EnlNo) -> bool
+        ensures { result ≡ voted self.now.seen.table e.value }
+    {
+        self.table.rows().iter().any(|x| x.0 == e && x.1.vote.is_some())
+    }
+
+    /// Whether the commit was handed to the enlistment.
+    fn is_handed(&self, e: EnlNo) -> bool
+        ensures { result ≡ is_handed self.now.seen.handed e.value }
+    {
+        self.handed == Some(e)
     }
 
     fn tell(&mut self, o: Outcome, out: &mut Outbox) -> bool
         requires { 1 ≤ out.old.room }
-        ensures acted { result ≡ not (is_empty (tell o (find (is_to_tell self.old.table) self.old.listeners) self.old.told_client)) }
-        ensures state { self.new ≡ track_all self.old (tell o (find (is_to_tell self.old.table) self.old.listeners) self.old.told_client) }
-        ensures out { out.new ≡ with out.old (tell o (find (is_to_tell self.old.table) self.old.listeners) self.old.told_client) }
+        ensures acted { result ≡ not (is_empty (tell o (find (is_to_tell self.old.seen o) self.old.seen.listeners) self.old.seen.told_client)) }
+        ensures state { self.new ≡ after self.old (tell o (find (is_to_tell self.old.seen o) self.old.seen.listeners) self.old.seen.told_client) }
+        ensures out { out.new ≡ with out.old (tell o (find (is_to_tell self.old.seen o) self.old.seen.listeners) self.old.seen.told_client) }
     {
-        match first_to_tell(&self.listeners, &self.table) {
+        match first_to_tell(&self.listeners, &self.table, self.handed, o) {
             Some(l) => self.write(Entry::Told(Party::Enl(l.enlistment), o), out),
             None => {
                 if self.told_client.is_some() {
@@ -458,9 +518,9 @@ impl Machine {
     /// Phase zero: asks the next, or seals when it is over.
     fn before_seal(&mut self, out: &mut Outbox) -> bool
         requires { 1 ≤ out.old.room }
-        ensures acted { result ≡ not (is_empty (before_seal (next_ask self.old.table true) (is_over self.old.table self.old.clones 0))) }
-        ensures state { self.new ≡ track_all self.old (before_seal (next_ask self.old.table true) (is_over self.old.table self.old.clones 0)) }
-        ensures out { out.new ≡ with out.old (before_seal (next_ask self.old.table true) (is_over self.old.table self.old.clones 0)) }
+        ensures acted { result ≡ not (is_empty (before_seal (next_ask self.old.seen.table true) (is_over self.old.seen.table self.old.seen.clones 0))) }
+        ensures state { self.new ≡ after self.old (before_seal (next_ask self.old.seen.table true) (is_over self.old.seen.table self.old.seen.clones 0)) }
+        ensures out { out.new ≡ with out.old (before_seal (next_ask self.old.seen.table true) (is_over self.old.seen.table self.old.seen.clones 0)) }
     {
         match self.waves.next_wave(&self.table) {
             Some(e) => self.write(Entry::Asked(e, Ask::Prepare), out),
@@ -474,31 +534,49 @@ impl Machine {
         true
     }
 
-    /// Behind the seal: asks the next, or commits when all voted.
-    fn behind_seal(&mut self, out: &mut Outbox) -> bool
-        requires { 1 ≤ out.old.room }
-        ensures acted { result ≡ not (is_empty (behind_seal (next_ask self.old.table false) (all_voted self.old.table))) }
-        ensures state { self.new ≡ track_all self.old (behind_seal (next_ask self.old.table false) (all_voted self.old.table)) }
-        ensures out { out.new ≡ with out.old (behind_seal (next_ask self.old.table false) (all_voted self.old.table)) }
+    /// Hands the commit to the owner, once, or commits where nothing is durable or promotable.
+    fn commit(&mut self, out: &mut Outbox) -> bool
+        requires voted { all_voted self.old.seen.table ≡ true }
+        requires room { 1 ≤ out.old.room }
+        ensures acted { result ≡ not (is_empty (commit_act (is_some self.old.seen.handed) (owner_of self.old.seen.table))) }
+        ensures state { self.new ≡ after self.old (commit_act (is_some self.old.seen.handed) (owner_of self.old.seen.table)) }
+        ensures out { out.new ≡ with out.old (commit_act (is_some self.old.seen.handed) (owner_of self.old.seen.table)) }
     {
-        match next_ask(&self.table, false) {
-            Some(e) => self.write(Entry::Asked(e, Ask::Prepare), out),
-            None => {
-                if !all_voted(self.table.rows()) {
-                    return false;
-                }
-                self.write(Entry::Decided(Outcome::Committed), out);
-            }
+        match decide(&self.table, self.handed.is_some()) {
+            LightAct::Nothing => return false,
+            LightAct::HandTo(e) => self.write(Entry::Handed(e), out),
+            LightAct::CommitNow => self.write(Entry::Decided(Outcome::Committed), out),
         }
         true
     }
 
-    /// Does the local act; false where none is pending.
-    fn act(&mut self, out: &mut Outbox) -> bool
+    /// Behind the seal: asks the next, or does what is to be done with the commit when all voted.
+    fn behind_seal(&mut self, out: &mut Outbox) -> bool
         requires { 1 ≤ out.old.room }
-        ensures acted { result ≡ not (is_empty (act_entries self.old)) }
-        ensures state { self.new ≡ track_all self.old (act_entries self.old) }
-        ensures out { out.new ≡ with out.old (act_entries self.old) }
+        ensures acted { result ≡ not (is_empty (behind_seal (next_ask self.old.seen.table false) (all_voted self.old.seen.table) (commit_act (is_some self.old.seen.handed) (owner_of self.old.seen.table)))) }
+        ensures state { self.new ≡ after self.old (behind_seal (next_ask self.old.seen.table false) (all_voted self.old.seen.table) (commit_act (is_some self.old.seen.handed) (owner_of self.old.seen.table))) }
+        ensures out { out.new ≡ with out.old (behind_seal (next_ask self.old.seen.table false) (all_voted self.old.seen.table) (commit_act (is_some self.old.seen.handed) (owner_of self.old.seen.table))) }
+    {
+        match next_ask(&self.table, false) {
+            Some(e) => {
+                self.write(Entry::Asked(e, Ask::Prepare), out);
+                true
+            }
+            None => {
+                if !all_voted(self.table.rows()) {
+                    return false;
+                }
+                self.commit(out)
+            }
+        }
+    }
+
+    /// Does the local act; false exactly where none is pending.
+    pub fn act(&mut self, out: &mut Outbox) -> bool
+        requires { 1 ≤ out.old.room }
+        ensures acted { result ≡ not (is_empty (act_entries self.old.seen)) }
+        ensures state { self.new ≡ after self.old (act_entries self.old.seen) }
+        ensures out { out.new ≡ with out.old (act_entries self.old.seen) }
     {
         match self.decided {
             Some(o) => self.tell(o, out),
@@ -515,48 +593,68 @@ impl Machine {
         }
     }
 
-    /// Takes a vote; a No is a veto.
-    fn vote(&mut self, e: EnlNo, v: Vote, out: &mut Outbox)
-        requires asked { MayNote self.old (Voted e v) }
-        requires room { 2 ≤ out.old.room }
-        ensures state { self.new ≡ track_all self.old (reply_entries e (VoteReply v)) }
-        ensures out { out.new ≡ with out.old (reply_entries e (VoteReply v)) }
+    /// To what a reply of the enlistment is due; `None` exactly where none is.
+    pub fn due_of(&self, e: EnlNo) -> Option<Note>
+        ensures { result ≡ due_of self.now.seen e.value }
     {
-        self.write(Entry::Voted(e, v), out);
-        self.veto_if(is_no(v), out);
-    }
-
-    /// The reply that is due at place k, from 0.
-    fn due(&self, plans: &Plans, k: usize) -> Due
-        ensures { IsDueAt (due_replies plans.now self.now) k result }
-    {
-        match self.decided {
-            Some(_) => Due::Beyond(k),
-            None => due_at(self.table.rows(), plans, k),
+        match self.table.state_of(e) {
+            Some(row) => self.due_note(&(e, row)),
+            None => None,
         }
     }
 
-    /// Does the k-th pending step; false where fewer than k are pending, or k is 0.
-    pub fn step(&mut self, plans: &Plans, k: u8, out: &mut Outbox) -> bool
-        requires { 2 ≤ out.old.room }
-        ensures some { result ≡ true → DoesKth plans.now k self.old self.new out.old out.new }
-        ensures none { result ≡ false → kth (pending plans.now self.old) k ≡ None }
-        ensures unchanged { result ≡ false → self.new ≡ self.old }
+    /// To what a reply of the enlistment with this row is due.
+    fn due_note(&self, x: &(EnlNo, Row)) -> Option<Note>
+        ensures { result ≡ due_note self.now.seen x.now }
     {
-        if k == 0 {
+        if self.decided.is_some() || self.is_gone(x.0) {
+            return None;
+        }
+        if x.1.asked.is_some() && x.1.vote.is_none() {
+            return Some(Note::Prepare);
+        }
+        if self.is_handed(x.0) {
+            return Some(Note::Hand);
+        }
+        None
+    }
+
+    /// The lowest enlistment of which a reply is due, with the note; `None` exactly where none is due.
+    pub fn due(&self) -> Option<(EnlNo, Note)>
+        ensures { result ≡ kth (all_due self.now.seen) 1 }
+    {
+        for x in self.table.rows() {
+            if let Some(note) = self.due_note(x) {
+                return Some((x.0, note));
+            }
+        }
+        None
+    }
+
+    /// Takes a reply; false exactly where none of the enlistment is due, and then nothing changes. A vote No is a veto, and an owner's answer decides.
+    pub fn reply(&mut self, e: EnlNo, r: Reply, out: &mut Outbox) -> bool
+        requires fits { fits_due r (due_of self.old.seen e.value) ≡ true }
+        requires room { 2 ≤ out.old.room }
+        ensures due { result ≡ is_some (due_of self.old.seen e.value) }
+        ensures state { result ≡ true → self.new ≡ after self.old (reply_entries e r) }
+        ensures out { result ≡ true → out.new ≡ with out.old (reply_entries e r) }
+        ensures unchanged { result ≡ false → self.new ≡ self.old }
+        ensures unwritten { result ≡ false → out.new ≡ out.old }
+    {
+        if self.due_of(e).is_none() {
             return false;
         }
-        match self.due(plans, k as usize - 1) {
-            Due::Reply(e, v) => {
-                self.vote(e, v, out);
-                true
+        match r {
+            Reply::Vote(v) => {
+                self.write(Entry::Voted(e, v), out);
+                self.veto_if(is_no(v), out);
             }
-            Due::Beyond(n) => {
-                if n > 0 {
-                    return false;
-                }
-                self.act(out)
+            Reply::Owner(o) => {
+                self.write(Entry::OwnerAnswered(e, o), out);
+                self.write(Entry::Decided(o), out);
             }
+            Reply::Promote(_) | Reply::Ack => {}
         }
+        true
     }
 }

@@ -5,5 +5,7 @@ mod half;
 mod listeners;
 #[cfg(test)]
 mod tests;
+mod time;
+mod votes;
 
 pub use half::LocalHalf;

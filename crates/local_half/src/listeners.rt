@@ -56,12 +56,27 @@ pub fn tell(listeners: &mut [Listener], e: EnlNo)
     }
 }
 
-/// The lowest enlistment that is still to be told the outcome.
-pub fn first_to_tell(listeners: &[Listener], table: &EnlistTable) -> Option<Listener>
-    ensures { result ≡ find (is_to_tell table.now) listeners.now }
+/// Takes down that the enlistment is lost.
+fn lose_one(l: &mut Listener, e: EnlNo)
+    ensures { l.new ≡ lose e.value l.old }
 {
-    listeners
-        .iter()
-        .copied()
-        .find(|l| !l.told && hears(table, l.enlistment))
+    if l.enlistment == e {
+        l.lost = true;
+    }
+}
+
+/// Takes down that the enlistment is lost.
+pub fn lose(listeners: &mut [Listener], e: EnlNo)
+    ensures { listeners.new ≡ map (lose e.value) listeners.old }
+{
+    for l in listeners.iter_mut() {
+        lose_one(l, e);
+    }
+}
+
+/// Whether the enlistment is lost.
+pub fn is_gone(listeners: &[Listener], e: EnlNo) -> bool
+    ensures { result ≡ list_any (λ l. (e.value == l.enlistment.value) && l.lost) listeners.now }
+{
+    listeners.iter().any(|l| l.enlistment == e && l.lost)
 }

@@ -1,0 +1,82 @@
+//! What the rows say of votes and owners.
+ghost use Rattle.std.specs.Prelude.{◌≡◌, ◌&&◌};
+ghost use Rattle.dtx_values.specs.Table.{how_many};
+ghost use Rattle.dtx_model.specs.Entries.{is_volatile};
+ghost use Rattle.dtx_model.specs.Owners.{is_lasting};
+ghost use Rattle.dtx_model.specs.Words.{each};
+ghost use Rattle.dtx_model.specs.Steps.{all_voted, is_evident, is_no, is_single, voted_well};
+
+use dtx_values::{Class, EnlNo, Row, Support, Vote};
+
+pub fn is_volatile(c: Class) -> bool
+    ensures { result ≡ is_volatile c }
+{
+    match c {
+        Class::Zero | Class::One => true,
+        _ => false,
+    }
+}
+
+pub fn voted_well(v: Option<Vote>) -> bool
+    ensures { result ≡ voted_well v }
+{
+    match v {
+        Some(Vote::Yes) | Some(Vote::Done) => true,
+        _ => false,
+    }
+}
+
+pub fn is_no(v: Vote) -> bool
+    ensures { result ≡ is_no v }
+{
+    match v {
+        Vote::No => true,
+        _ => false,
+    }
+}
+
+/// Whether it is volatile and voted yes or done.
+pub fn is_well(x: &(EnlNo, Row)) -> bool
+    ensures { result ≡ (is_volatile x.now.1.class && voted_well x.now.1.vote) }
+{
+    is_volatile(x.1.class) && voted_well(x.1.vote)
+}
+
+/// Whether each is volatile and voted yes or done.
+pub fn are_well(rows: &[(EnlNo, Row)]) -> bool
+    ensures { result ≡ each (λ x. is_volatile x.1.class && voted_well x.1.vote) rows.now }
+{
+    rows.iter().all(|x| is_well(x))
+}
+
+/// Whether evidence by the seal stands, as the rows show it.
+pub fn is_evident(sealed: bool, rows: &[(EnlNo, Row)]) -> bool
+    ensures { result ≡ is_evident sealed rows.now }
+{
+    sealed && are_well(rows)
+}
+
+/// Whether every volatile voted.
+pub fn all_voted(rows: &[(EnlNo, Row)]) -> bool
+    ensures { result ≡ all_voted rows.now }
+{
+    rows.iter()
+        .all(|x| !is_volatile(x.1.class) || x.1.vote.is_some())
+}
+
+/// How many are durable or promotable.
+pub fn lasting(rows: &[(EnlNo, Row)]) -> usize
+    ensures { result ≡ how_many is_lasting rows.now }
+{
+    rows.iter().filter(|x| !is_volatile(x.1.class)).count()
+}
+
+/// Whether the durable can own the commit.
+pub fn is_single(x: Support) -> bool
+    ensures { result ≡ is_single x }
+{
+    match x {
+        Support::SinglePhase(_, _) => true,
+        Support::TwoPhase(_) => false,
+    }
+}
