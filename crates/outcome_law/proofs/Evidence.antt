@@ -97,7 +97,7 @@ unsealed_unhanded (Handed e ∷ h) r s =
 unsealed_unhanded (x ∷ h) r s = unsealed_unhanded h (other_rules x h r) s
 
 -- what was handed to this one was handed to some
-hand_any : (e : ℕ) (x : Entry) → is_hand e x ≡ true → is_any_hand x ≡ true
+pub hand_any : (e : ℕ) (x : Entry) → is_hand e x ≡ true → is_any_hand x ≡ true
 hand_any e (Handed f) k = refl
 hand_any e _ k = k
 

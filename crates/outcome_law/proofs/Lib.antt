@@ -6,6 +6,7 @@ pub mod Rule
 pub mod TableRows
 pub mod Evidence
 pub mod Rules
+pub mod Owned
 pub mod Pending
 pub mod ScopeCalls
 pub mod Names

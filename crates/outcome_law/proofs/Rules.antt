@@ -195,7 +195,7 @@ final_cause x (OwnerAnswered f y ∷ h) r k =
 final_cause x (y ∷ h) r k = final_cause x h (other_rules y h r) k
 
 -- an answer is an owner's
-answered_any : (x : Outcome) (y : Entry) → is_answered x y ≡ true → is_answer y ≡ true
+pub answered_any : (x : Outcome) (y : Entry) → is_answered x y ≡ true → is_answer y ≡ true
 answered_any x (OwnerAnswered f o) k = refl
 answered_any x _ k = k
 
