@@ -42,7 +42,7 @@ not_yes h LocalYes r = absurd cc
 not_yes h _ r = refl
 
 -- nothing is promoted
-none_promoted : (h : List Entry) → ruled h ≡ true → has is_promoted h ≡ false
+pub none_promoted : (h : List Entry) → ruled h ≡ true → has is_promoted h ≡ false
 none_promoted = none_ruled is_promoted not_promoted
 
 -- the local side said no yes

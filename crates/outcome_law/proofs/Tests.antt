@@ -48,6 +48,10 @@ fourth_of_four a b c d k = and_right (a && b && c) d k
 pub four_hold : (a b c d : Bool) → a ≡ true → b ≡ true → c ≡ true → d ≡ true → (a && b && c && d) ≡ true
 four_hold a b c d p q r s = and_both (a && b && c) d (three_hold a b c p q r) s
 
+-- where each of five holds, all hold
+pub five_hold : (a b c d e : Bool) → a ≡ true → b ≡ true → c ≡ true → d ≡ true → e ≡ true → (a && b && c && d && e) ≡ true
+five_hold a b c d e p q r s t = and_both (a && b && c && d) e (four_hold a b c d p q r s) t
+
 -- where the first of two holds, one holds
 pub or_left : (a b : Bool) → a ≡ true → (a || b) ≡ true
 or_left true b k = refl
