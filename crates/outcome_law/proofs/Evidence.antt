@@ -248,7 +248,7 @@ answers_alone e o (OwnerAnswered f y ∷ h) r one =
 answers_alone e o (x ∷ h) r one = answers_alone e o h (other_rules x h r) one
 
 -- somebody was handed the commit
-hand_name : (h : List Entry) → has is_any_hand h ≡ true → (e : ℕ) × (has (is_hand e) h ≡ true)
+pub hand_name : (h : List Entry) → has is_any_hand h ≡ true → (e : ℕ) × (has (is_hand e) h ≡ true)
 hand_name [] k = absurd cc
 hand_name (Handed f ∷ h) k = (f.value, rw (eq_self f.value) refl)
 hand_name (x ∷ h) k = hand_name h k

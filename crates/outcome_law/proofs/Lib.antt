@@ -14,6 +14,7 @@ pub mod Going
 pub mod Calls
 pub mod Acts
 pub mod Blocks
+pub mod Plans
 pub mod Timely
 pub mod Waves
 pub mod Settled

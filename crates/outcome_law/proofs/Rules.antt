@@ -87,7 +87,7 @@ open_rule h (Decided x) k r = and_left (not (has is_decision h)) (may_tell h Cli
 open_rule h _ k r = absurd cc
 
 -- they don't come behind a decision
-not_behind : {C : Type 0} (y : Entry) (h : List Entry) (x : Outcome) → latest decision_of h ≡ Some x → is_open y ≡ true → ruled (y ∷ h) ≡ true → C
+pub not_behind : {C : Type 0} (y : Entry) (h : List Entry) (x : Outcome) → latest decision_of h ≡ Some x → is_open y ≡ true → ruled (y ∷ h) ≡ true → C
 not_behind y h x e k r = absurd (not_both (has is_decision h) (decision_from_latest h x e) (not_true (has is_decision h) (open_rule h y k (first_rule y h r))))
 
 -- the rule of a decision
