@@ -13,6 +13,7 @@ pub mod Names
 pub mod Going
 pub mod Calls
 pub mod Acts
+pub mod Beyond
 pub mod Blocks
 pub mod Plans
 pub mod Timely
