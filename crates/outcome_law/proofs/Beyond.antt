@@ -1,8 +1,7 @@
 -- What the rules leave out: nothing is promoted, nothing is sent or got over a connection, and nobody comes back.
-use Rattle.std.proofs.Common.{◌≡◌, ℕ, Bool, true, false, ◌&&◌, List, [], ◌∷◌, refl}
+use Rattle.std.proofs.Common.{◌≡◌, ℕ, Bool, true, List, [], ◌∷◌, refl}
 use Rattle.dtx_values.specs.declared.entry.Entry.{Entry}
-use Rattle.dtx_values.specs.declared.entry.Entry.TheVariants.{Down, Got, Promoted, Promoting, PromotionFailed, Reenlisted, Told}
-use Rattle.dtx_values.specs.declared.entry.Party.TheVariants.{Enl}
+use Rattle.dtx_values.specs.declared.entry.Entry.TheVariants.{Down, Got, Promoted, Promoting, PromotionFailed, Reenlisted}
 use Rattle.dtx_values.specs.declared.message.Conn.TheVariants.{Again}
 use Rattle.dtx_values.specs.declared.script.Line.{Line}
 use Rattle.dtx_model.specs.Words.{always}

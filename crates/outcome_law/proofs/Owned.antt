@@ -10,19 +10,20 @@ use Rattle.dtx_values.specs.declared.entry.Party.TheVariants.{Enl}
 use Rattle.dtx_values.specs.declared.words.Class.{Class}
 use Rattle.dtx_values.specs.Table.{Enlistment, insert_by, is_of, has_voted, marks, number_of, fresh_row, mark_row, vote_row}
 use Rattle.dtx_model.specs.declared.listener.Listener.{Listener}
-use Rattle.dtx_model.specs.Words.{has, each, latest, or_else}
+use Rattle.dtx_model.specs.Words.{has, latest}
 use Rattle.dtx_model.specs.Entries.{is_volatile, is_sealed, is_hand, is_any_hand, is_lost, is_vote, is_decision, handed_of}
 use Rattle.dtx_model.specs.Observed.{listener_number, hear, listeners, lose, rows}
-use Rattle.dtx_model.specs.Outcome.{can_own, durables, enlisted, hears_doubt, is_empty, ready, volatiles}
+use Rattle.dtx_model.specs.Outcome.{can_own, durables, enlisted, hears_doubt, is_empty, ready}
 use Rattle.dtx_model.specs.Owners.{is_lasting, lasting, only, owner_of}
 use Rattle.dtx_model.specs.Steps.{is_handed, voted}
 use Rattle.dtx_model.specs.Waves.{hears, still_hears}
-use Rattle.dtx_model.proofs.Bools.{and_left, and_right, and_never, or_first, or_second, or_case, or_right, not_both, not_true}
-use Rattle.outcome_law.proofs.Tests.{eq_self, eq_swap, fourth_of_four, or_left, refuted}
+use Rattle.dtx_model.proofs.Bools.{and_left, and_right, and_never, or_first, or_second, or_case, not_both, not_true}
+use Rattle.outcome_law.proofs.Tests.{eq_self, fourth_of_four}
 use Rattle.outcome_law.proofs.Scans.{has_more, has_less}
 use Rattle.outcome_law.proofs.Lists.{OfEach, has_kept, if_kept, has-insert}
 use Rattle.outcome_law.proofs.Rule.{is_enlisted, is_only, rule, ruled, first_rule, other_rules}
 use Rattle.outcome_law.proofs.TableRows.{IsRow, rows_seen}
+use Rattle.outcome_law.proofs.Evidence.{hand_any}
 
 -- what some row passes by its number and class, some enlistment passes
 pub has_rows : (f : EnlNo → Class → Bool) (h : List Entry) → has (λ x. f x.0 x.1.class) (rows h) ≡ has (λ x. f x.0 x.1) (enlisted h)
@@ -200,12 +201,8 @@ owner_none h r o = step (durables h) (durables_single h r) (sym (owner_seen h r)
 -- to whom the commit was handed by what is observed it was handed by the history
 pub hand_seen : (e : ℕ) (h : List Entry) → ruled h ≡ true → is_handed (latest handed_of h) e ≡ has (is_hand e) h
 hand_seen e [] r = refl
-hand_seen e (Handed f ∷ h) r = step (e == f.value) (has (is_hand e) h) (has_less (is_hand e) is_any_hand (any_hand e) h (none_yet f h (first_rule (Handed f) h r)))
+hand_seen e (Handed f ∷ h) r = step (e == f.value) (has (is_hand e) h) (has_less (is_hand e) is_any_hand (hand_any e) h (none_yet f h (first_rule (Handed f) h r)))
   where
-    any_hand : (e : ℕ) (x : Entry) → is_hand e x ≡ true → is_any_hand x ≡ true
-    any_hand e (Handed g) k = refl
-    any_hand e _ k = k
-
     none_yet : (f : EnlNo) (h : List Entry) → rule h (Handed f) ≡ true → has is_any_hand h ≡ false
     none_yet f h k = not_true (has is_any_hand h) (and_right (not (has is_decision h) && has is_sealed h && ready h && is_only f.value (durables h)) (not (has is_any_hand h)) k)
 

@@ -1,5 +1,5 @@
 -- In a history that a script causes, an owner answers what its line plans.
-use Rattle.std.proofs.Common.{◌≡◌, ℕ, Bool, true, false, ◌&&◌, List, [], ◌∷◌, Option, Some, None, refl, ◌∙◌, subst, sym}
+use Rattle.std.proofs.Common.{◌≡◌, ℕ, Bool, true, false, List, [], ◌∷◌, Option, Some, None, refl, subst, sym}
 use Rattle.std.specs.Prelude.{is_some, find, if◌then◌else◌}
 use Rattle.dtx_values.specs.declared.number.EnlNo.{EnlNo}
 use Rattle.dtx_values.specs.declared.call.Call.{Call}
@@ -16,7 +16,7 @@ use Rattle.dtx_values.specs.declared.words.Outcome.TheVariants.{Committed, Abort
 use Rattle.dtx_values.specs.declared.words.Vote.{Vote}
 use Rattle.dtx_values.specs.Clones.{is_open_rollback}
 use Rattle.dtx_model.specs.declared.listener.Listener.{Listener}
-use Rattle.dtx_model.specs.Words.{has, each, kth, onto}
+use Rattle.dtx_model.specs.Words.{has, each, onto}
 use Rattle.dtx_model.specs.Observed.{Observed, observe}
 use Rattle.dtx_model.specs.Owners.{owner_of}
 use Rattle.dtx_model.specs.Steps.{Step, Calls, Replies, Acts, reaches, ticked, is_late, time_up, veto_if, is_no, is_done, answer, is_handed, voted, lost_outcome, decided_if, facts, facts_if, reply_entries, block}

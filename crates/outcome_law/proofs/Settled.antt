@@ -19,7 +19,7 @@ use Rattle.dtx_model.specs.declared.listener.Listener.{Listener}
 use Rattle.dtx_model.specs.Words.{has, each, ever, latest, all_of}
 use Rattle.dtx_model.specs.Entries.{same_outcome, is_commit, is_sealed, is_yes, is_hand, is_owner, is_lost, is_vote, is_volatile, clone_of, handed_of, decision_of, is_decision, client_told_of, is_client_told}
 use Rattle.dtx_model.specs.History.{CanCommit, is_committed, is_granted, is_loss, is_willing}
-use Rattle.dtx_model.specs.Outcome.{can_own, durables, enlisted, is_complete, evidence, is_veto, is_first_veto, vetoed, is_lost_owner, owner_doubt, is_begin_end, is_voter_end, is_outcome_got, coordinator_doubt, doubt}
+use Rattle.dtx_model.specs.Outcome.{can_own, enlisted, is_complete, evidence, is_veto, is_first_veto, vetoed, is_lost_owner, owner_doubt, is_begin_end, is_voter_end, is_outcome_got, coordinator_doubt, doubt}
 use Rattle.dtx_model.specs.Owners.{is_promotable, owner_of}
 use Rattle.dtx_model.specs.Observed.{observe, rows, clone_rows}
 use Rattle.dtx_model.specs.Steps.{Step, tell, before_seal, commit_act, behind_seal, undecided_act, act_by, act_entries, act_if, is_to_tell}

@@ -48,15 +48,6 @@ fourth_of_four a b c d k = and_right (a && b && c) d k
 pub four_hold : (a b c d : Bool) → a ≡ true → b ≡ true → c ≡ true → d ≡ true → (a && b && c && d) ≡ true
 four_hold a b c d p q r s = and_both (a && b && c) d (three_hold a b c p q r) s
 
--- where each of five holds, all hold
-pub five_hold : (a b c d e : Bool) → a ≡ true → b ≡ true → c ≡ true → d ≡ true → e ≡ true → (a && b && c && d && e) ≡ true
-five_hold a b c d e p q r s t = and_both (a && b && c && d) e (four_hold a b c d p q r s) t
-
--- where the first of two holds, one holds
-pub or_left : (a b : Bool) → a ≡ true → (a || b) ≡ true
-or_left true b k = refl
-or_left false b k = absurd cc
-
 -- where all of five hold, the first does
 pub first_of_five : (a b c d e : Bool) → (a && b && c && d && e) ≡ true → a ≡ true
 first_of_five a b c d e k = first_of_four a b c d (and_left (a && b && c && d) e k)
@@ -72,6 +63,15 @@ third_of_five a b c d e k = third_of_four a b c d (and_left (a && b && c && d) e
 -- where all of five hold, the fourth does
 pub fourth_of_five : (a b c d e : Bool) → (a && b && c && d && e) ≡ true → d ≡ true
 fourth_of_five a b c d e k = fourth_of_four a b c d (and_left (a && b && c && d) e k)
+
+-- where each of five holds, all hold
+pub five_hold : (a b c d e : Bool) → a ≡ true → b ≡ true → c ≡ true → d ≡ true → e ≡ true → (a && b && c && d && e) ≡ true
+five_hold a b c d e p q r s t = and_both (a && b && c && d) e (four_hold a b c d p q r s) t
+
+-- where the first of two holds, one holds
+pub or_left : (a b : Bool) → a ≡ true → (a || b) ≡ true
+or_left true b k = refl
+or_left false b k = absurd cc
 
 -- where the first or the third of three holds, one holds
 pub or_between : (a b c : Bool) → (a || c) ≡ true → (a || (b || c)) ≡ true
