@@ -54,7 +54,7 @@ enlisted_in_rows n (x ∷ h) = enlisted_in_rows n h
 
 -- what is enlisted wasn't before
 pub enlisted_once : (e : EnlNo) (c : Class) (h : List Entry) → rule h (Enlisted e c) ≡ true → has (is_enlisted e.value) h ≡ false
-enlisted_once e c h r = not_true (has (is_enlisted e.value) h) (third_of_four (not (has is_decision h)) (not (has is_sealed h)) (not (has (is_enlisted e.value) h)) _ r)
+enlisted_once e c h r = not_true (has (is_enlisted e.value) h) (third_of_four (not (has is_decision h)) (not (has is_sealed h)) (not (has (is_enlisted e.value) h)) (is_volatile c) r)
 
 -- what is asked was enlisted
 pub asked_enlisted : (e : EnlNo) (h : List Entry) → rule h (Asked e Prepare) ≡ true → has (is_enlisted e.value) h ≡ true
