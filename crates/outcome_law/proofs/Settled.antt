@@ -256,7 +256,7 @@ none_due s h r d l e =
     each_more (λ x. is_none (due_reply s (observe h) x)) (λ x. is_none (open_reply s h x)) (λ x k. ap is_none (sym (reply_open s h x r d l)) ∙ k) (rows h)
     (each_none (due_reply s (observe h)) (rows h) e)
 
--- each row plans to vote yes or done
+-- each row is willing
 each_planned : (s : List Line) (h : List Entry) → CanCommit s h → each (λ x. is_willing s x.0.value x.1.class) (rows h) ≡ true
 each_planned s h c = each_rows (λ e k. is_willing s e.value k) h ∙ c.willing
 
