@@ -1,14 +1,15 @@
 -- The block of each reply that is due and of each local act keeps the rules.
-use Rattle.std.proofs.Common.{◌≡◌, ℕ, ◌==◌, Bool, true, false, ◌&&◌, ◌||◌, List, [], ◌∷◌, Option, Some, None, refl, ◌∙◌, ap, sym}
-use Rattle.std.specs.Prelude.{is_some, find, not, if◌then◌else◌}
-use Rattle.std.specs.List.{filter_map}
+use Rattle.std.proofs.Common.{◌≡◌, ℕ, ◌==◌, Bool, true, false, ◌&&◌, ◌||◌, List, [], ◌∷◌, Option, Some, None, refl, ◌∙◌, ap, sym, subst}
+use Rattle.std.specs.Prelude.{is_some, filter, find, not, if◌then◌else◌}
 use Rattle.dtx_values.specs.declared.number.EnlNo.{EnlNo}
 use Rattle.dtx_values.specs.declared.entry.Ask.TheVariants.{Prepare}
 use Rattle.dtx_values.specs.declared.entry.Entry.{Entry}
-use Rattle.dtx_values.specs.declared.entry.Entry.TheVariants.{Asked, Voted, Sealed, Decided, Told}
+use Rattle.dtx_values.specs.declared.entry.Entry.TheVariants.{Asked, Voted, Sealed, Handed, OwnerAnswered, Decided, Told}
 use Rattle.dtx_values.specs.declared.entry.Party.TheVariants.{Client, Enl}
 use Rattle.dtx_values.specs.declared.note.Reply.{Reply}
-use Rattle.dtx_values.specs.declared.note.Reply.TheVariants.{Vote as VoteReply}
+use Rattle.dtx_values.specs.declared.note.Note.{Note}
+use Rattle.dtx_values.specs.declared.note.Note.TheVariants.{Prepare as PrepareNote, Hand as HandNote}
+use Rattle.dtx_values.specs.declared.note.Reply.TheVariants.{Vote as VoteReply, Owner as OwnerReply}
 use Rattle.dtx_values.specs.declared.script.Line.{Line}
 use Rattle.dtx_values.specs.declared.words.Outcome.{Outcome}
 use Rattle.dtx_values.specs.declared.words.Outcome.TheVariants.{Committed, Aborted, InDoubt}
@@ -18,25 +19,28 @@ use Rattle.dtx_values.specs.Table.{Enlistment, has_voted, is_marked}
 use Rattle.dtx_values.specs.Clones.{blocks, is_open_block}
 use Rattle.dtx_model.specs.declared.listener.Listener.{Listener}
 use Rattle.dtx_model.specs.Words.{has, each, latest, onto, kth, all_of}
-use Rattle.dtx_model.specs.Entries.{same_outcome, is_commit, is_sealed, is_volatile, clone_of, is_asked, is_vote, is_good_vote, decision_of, is_decision}
+use Rattle.dtx_model.specs.Entries.{same_outcome, is_commit, is_sealed, is_volatile, clone_of, is_asked, is_vote, is_good_vote, is_hand, is_any_hand, is_promoted, handed_of, decision_of, is_decision}
 use Rattle.dtx_model.specs.Observed.{observe, rows, clone_rows, listeners}
-use Rattle.dtx_model.specs.Outcome.{enlisted, is_complete, evidence, may_tell}
-use Rattle.dtx_model.specs.Waves.{is_class, may_be_asked, name_of, next_ask, zeros_voted, is_over}
-use Rattle.dtx_model.specs.Steps.{Step, Replies, reply_entries, planned_vote, vote_step, due_reply, due_replies, pending}
-use Rattle.dtx_model.specs.Steps.{is_to_tell, tell, before_seal, all_voted, behind_seal, undecided_act, act_by, act_entries, act_if}
-use Rattle.dtx_model.proofs.Bools.{and_left, and_right, and_both, or_right, not_true, not_false, three_hold}
-use Rattle.outcome_law.proofs.Tests.{four_hold}
+use Rattle.dtx_model.specs.Outcome.{durables, enlisted, volatiles, voters, is_complete, is_empty, ready, by_seal, by_owner, by_log, evidence, hears_doubt, may_tell}
+use Rattle.dtx_model.specs.Owners.{owner_of}
+use Rattle.dtx_model.specs.Waves.{hears, is_class, may_be_asked, name_of, next_ask, zeros_voted, is_over}
+use Rattle.dtx_model.specs.Steps.{Step, Replies, reply_entries, planned_vote, planned_owner, open_note, due_note, vote_reply, owner_reply, planned_reply, reply_step, due_reply, due_replies, pending}
+use Rattle.dtx_model.specs.Steps.{is_gone, is_handed, hears_abort, is_to_tell, tell, commit_act, before_seal, all_voted, behind_seal, undecided_act, act_by, act_entries, act_if}
+use Rattle.dtx_model.proofs.Bools.{and_left, and_right, and_both, or_first, or_right, not_true, not_false, three_hold}
+use Rattle.outcome_law.proofs.Tests.{four_hold, five_hold, or_left}
 use Rattle.outcome_law.proofs.Scans.{each_more, each_both, each-append, each-kth}
 use Rattle.outcome_law.proofs.Picks.{passes, each_from_at, each_picked, found_well, none_each}
-use Rattle.outcome_law.proofs.Rule.{is_enlisted, all_complete, zeros_cast, is_decided, is_certain, rule, ruled}
-use Rattle.outcome_law.proofs.TableRows.{rows_enlisted, row_marked, row_voted, zeros_seen, all_voted_seen, open_blocks}
-use Rattle.outcome_law.proofs.Evidence.{well_cast, each_volatile, evidence-sealed}
-use Rattle.outcome_law.proofs.Rules.{may_certain, decided_may, undecided}
-use Rattle.outcome_law.proofs.Going.{is_no_vote, going_willing, going_closed, IsKept, keep, yes_keeps, done_keeps, no_keeps}
+use Rattle.outcome_law.proofs.Rule.{is_enlisted, is_only, is_answer, all_complete, zeros_cast, is_decided, is_certain, rule, ruled}
+use Rattle.outcome_law.proofs.TableRows.{none_there, rows_enlisted, row_marked, row_voted, zeros_seen, all_voted_seen, open_blocks}
+use Rattle.outcome_law.proofs.Evidence.{none_promoted, voters-volatile, sealed_closed}
+use Rattle.outcome_law.proofs.Rules.{undecided}
+use Rattle.outcome_law.proofs.Owned.{volatile_hears, owner_only, owner_none, hand_seen, any_hand_seen}
+use Rattle.outcome_law.proofs.Going.{is_no_vote, going_willing, going_unanswered, going_closed, IsKept, keep, yes_keeps, done_keeps, no_keeps, answer_keeps}
 
--- a reply is a vote that may come here
+-- a reply is a vote or an answer of an owner that may come here
 abbrev pub may_reply : List Entry → Step → Bool
 may_reply h (Replies e (VoteReply v)) = rule h (Voted e v)
+may_reply h (Replies e (OwnerReply x)) = rule h (OwnerAnswered e x)
 may_reply h (Replies e _) = false
 may_reply h _ = true
 
@@ -44,49 +48,80 @@ may_reply h _ = true
 due_rule : (m v d s a w : Bool) → d ≡ false → s ≡ true → m ≡ a → v ≡ w → (m && not v) ≡ true → (not d && s && a && not w) ≡ true
 due_rule m v d s a w p q e f k = four_hold (not d) s a (not w) (not_false d p) q (sym e ∙ and_left m (not v) k) (ap (λ b. not b) (sym f) ∙ and_right m (not v) k)
 
--- a vote that is due where a test holds may come where it may under that test
-vote_well : (h : List Entry) (b : Bool) (e : EnlNo) (o : Option Vote) → (b ≡ true → rule h (Voted e Yes) ≡ true) → passes (may_reply h) (vote_step b e o) ≡ true
-vote_well h true e (Some v) f = f refl
-vote_well h true e None f = refl
-vote_well h false e o f = refl
+-- who was handed the commit may answer while nobody answered
+answer_rule : (h : List Entry) (e : EnlNo) (x : Outcome) → IsKept h → has is_decision h ≡ false → is_handed (latest handed_of h) e.value ≡ true → rule h (OwnerAnswered e x) ≡ true
+answer_rule h e x k d w =
+    three_hold (not (has is_decision h)) (has (is_hand e.value) h) (not (has is_answer h)) (not_false (has is_decision h) d) (sym (hand_seen e.value h k.rules) ∙ w)
+    (not_false (has is_answer h) (going_unanswered h d k.going))
+
+-- a planned reply to a note may come where a reply to that note may
+plan_well : (s : List Line) (h : List Entry) (e : EnlNo) (n : Option Note) → (n ≡ Some PrepareNote → rule h (Voted e Yes) ≡ true)
+    → ((x : Outcome) → n ≡ Some HandNote → rule h (OwnerAnswered e x) ≡ true) → passes (may_reply h) (reply_step e (planned_reply s e.value n)) ≡ true
+plan_well s h e (Some PrepareNote) f g = vote h e (planned_vote s e.value) (f refl)
+  where
+    vote : (h : List Entry) (e : EnlNo) (o : Option Vote) → rule h (Voted e Yes) ≡ true → passes (may_reply h) (reply_step e (vote_reply o)) ≡ true
+    vote h e (Some v) k = k
+    vote h e None k = refl
+plan_well s h e (Some HandNote) f g = answer h e (planned_owner s e.value) (λ x. g x refl)
+  where
+    answer : (h : List Entry) (e : EnlNo) (o : Option Outcome) → ((x : Outcome) → rule h (OwnerAnswered e x) ≡ true) → passes (may_reply h) (reply_step e (owner_reply o)) ≡ true
+    answer h e (Some x) k = k x
+    answer h e None k = refl
+plan_well s h e _ f g = refl
+
+-- to prepare a reply is due of who was asked and hasn't voted
+prepare_due : (off asked handed : Bool) → (if off then None else open_note asked handed) ≡ Some PrepareNote → (off ≡ false) × (asked ≡ true)
+prepare_due true asked handed e = absurd cc
+prepare_due false true handed e = (refl, refl)
+prepare_due false false true e = absurd cc
+prepare_due false false false e = absurd cc
+
+-- to the handing a reply is due of who was handed the commit
+hand_due : (off asked handed : Bool) → (if off then None else open_note asked handed) ≡ Some HandNote → (off ≡ false) × (handed ≡ true)
+hand_due true asked handed e = absurd cc
+hand_due false true handed e = absurd cc
+hand_due false false true e = (refl, refl)
+hand_due false false false e = absurd cc
 
 -- the local act is no reply
 acts_well : (h : List Entry) (xs : List Entry) → each (may_reply h) (act_if xs) ≡ true
 acts_well h [] = refl
 acts_well h (x ∷ xs) = refl
 
--- each passes that stands only where nothing was decided
-each_unless : (p : Step → Bool) (d : Option Outcome) (xs : List Step) → (d ≡ None → each p xs ≡ true) → each p (if is_some d then [] else xs) ≡ true
-each_unless p (Some x) xs f = refl
-each_unless p None xs f = f refl
+-- where it isn't decided nor the other, nothing is decided
+off_undecided : (h : List Entry) (b : Bool) → (is_some (latest decision_of h) || b) ≡ false → has is_decision h ≡ false
+off_undecided h b k = undecided h (none_there (latest decision_of h) (or_first (is_some (latest decision_of h)) b k))
 
--- each reply that is due is a vote that may come
-due_well : (s : List Line) (h : List Entry) → ruled h ≡ true → has is_decision h ≡ false → each (may_reply h) (filter_map (due_reply s) (rows h)) ≡ true
-due_well s h r d =
-    each_picked (may_reply h) (due_reply s) (rows h)
-    (each_from_at (λ x. passes (may_reply h) (due_reply s x)) (rows h)
-    (λ k x e. vote_well h (is_marked x && not (has_voted x)) x.0 (planned_vote s x.0.value)
-    (due_rule (is_marked x) (has_voted x) (has is_decision h) (has (is_enlisted x.0.value) h) (has (is_asked x.0.value) h) (has (is_vote x.0.value) h)
-    d (rows_enlisted h k x r e) (row_marked h k x r e) (row_voted h k x r e))))
+-- each reply that is due may come
+due_well : (s : List Line) (h : List Entry) → IsKept h → each (may_reply h) (due_replies s (observe h)) ≡ true
+unfolding observe
+due_well s h i =
+    each_picked (may_reply h) (due_reply s (observe h)) (rows h)
+    (each_from_at (λ x. passes (may_reply h) (due_reply s (observe h) x)) (rows h)
+    (λ k x e. plan_well s h x.0 (due_note (observe h) x)
+    (λ n. let w = prepare_due (is_some (latest decision_of h) || is_gone (observe h) x.0.value) (is_marked x && not (has_voted x)) (is_handed (latest handed_of h) x.0.value) n in
+    due_rule (is_marked x) (has_voted x) (has is_decision h) (has (is_enlisted x.0.value) h) (has (is_asked x.0.value) h) (has (is_vote x.0.value) h)
+    (off_undecided h (is_gone (observe h) x.0.value) w.0) (rows_enlisted h k x i.rules e) (row_marked h k x i.rules e) (row_voted h k x i.rules e) w.1)
+    (λ y n. let w = hand_due (is_some (latest decision_of h) || is_gone (observe h) x.0.value) (is_marked x && not (has_voted x)) (is_handed (latest handed_of h) x.0.value) n in
+    answer_rule h x.0 y i (off_undecided h (is_gone (observe h) x.0.value) w.0) w.1)))
 
--- each reply that is pending is a vote that may come
-pending_well : (s : List Line) (h : List Entry) → ruled h ≡ true → each (may_reply h) (pending s (observe h)) ≡ true
-unfolding pending observe
-pending_well s h r =
-    each-append (may_reply h) (due_replies s (observe h)) (act_if (act_entries (observe h)))
-    (each_unless (may_reply h) (latest decision_of h) (filter_map (due_reply s) (rows h)) (λ e. due_well s h r (undecided h e)))
-    (acts_well h (act_entries (observe h)))
+-- each reply that is pending may come
+pending_well : (s : List Line) (h : List Entry) → IsKept h → each (may_reply h) (pending s (observe h)) ≡ true
+unfolding pending
+pending_well s h i =
+    each-append (may_reply h) (due_replies s (observe h)) (act_if (act_entries (observe h))) (due_well s h i) (acts_well h (act_entries (observe h)))
 
--- the entries of a vote that may come keep it
+-- the entries of a reply that may come keep it
 vote_keeps : (h : List Entry) (e : EnlNo) (y : Reply) → IsKept h → may_reply h (Replies e y) ≡ true → IsKept (onto h (reply_entries e y))
 vote_keeps h e (VoteReply Yes) k q = yes_keeps h e k q
 vote_keeps h e (VoteReply Done) k q = done_keeps h e k q
 vote_keeps h e (VoteReply No) k q = no_keeps h e k q
+vote_keeps h e (OwnerReply x) k q = answer_keeps h e x k q
 vote_keeps h e _ k q = absurd cc
 
 -- the entries of a reply that is pending keep it
 pub reply_keeps : (s : List Line) (h : List Entry) (e : EnlNo) (y : Reply) (k : ℕ) → IsKept h → kth (pending s (observe h)) k ≡ Some (Replies e y) → IsKept (onto h (reply_entries e y))
-reply_keeps s h e y k i p = vote_keeps h e y i (each-kth (may_reply h) (pending s (observe h)) k (Replies e y) (pending_well s h i.rules) p)
+reply_keeps s h e y k i p = vote_keeps h e y i (each-kth (may_reply h) (pending s (observe h)) k (Replies e y) (pending_well s h i) p)
 
 -- an outcome is itself
 same_self : (x : Outcome) → same_outcome x x ≡ true
@@ -95,15 +130,32 @@ same_self Aborted = refl
 same_self InDoubt = refl
 
 -- what was decided is told
-told_rule : (h : List Entry) (x : Outcome) → ruled h ≡ true → latest decision_of h ≡ Some x → (is_certain x && is_decided x (latest decision_of h)) ≡ true
-told_rule h x r e =
-    and_both (is_certain x) (is_decided x (latest decision_of h)) (may_certain h x (decided_may h r x e)) (ap (is_decided x) e ∙ same_self x)
+told_rule : (h : List Entry) (x : Outcome) → latest decision_of h ≡ Some x → is_decided x (latest decision_of h) ≡ true
+told_rule h x e = ap (is_decided x) e ∙ same_self x
+
+-- whoever is to be told may hear the outcome
+to_tell_well : (h : List Entry) (x : Outcome) → passes (λ l. is_certain x || hears_doubt h (Enl l.enlistment)) (find (is_to_tell (observe h) x) (listeners h)) ≡ true
+unfolding observe
+to_tell_well h x =
+    found_well (is_to_tell (observe h) x) (λ l. is_certain x || hears_doubt h (Enl l.enlistment)) (listeners h)
+    (each_from_at (λ l. not (is_to_tell (observe h) x l) || (is_certain x || hears_doubt h (Enl l.enlistment))) (listeners h) (λ k l e. well h x l))
+  where
+    in_doubt : (t b c q : Bool) → (b ≡ true → q ≡ true) → (not (not t && (b || (false && c))) || q) ≡ true
+    in_doubt true b c q f = refl
+    in_doubt false true c q f = f refl
+    in_doubt false false c q f = refl
+
+    well : (h : List Entry) (x : Outcome) (l : Listener) → (not (is_to_tell (observe h) x l) || (is_certain x || hears_doubt h (Enl l.enlistment))) ≡ true
+    well h Committed l = or_right (not (is_to_tell (observe h) Committed l)) true refl
+    well h Aborted l = or_right (not (is_to_tell (observe h) Aborted l)) true refl
+    well h InDoubt l = in_doubt l.told (hears (rows h) l.enlistment.value) (hears_abort (observe h) l) (hears_doubt h (Enl l.enlistment)) (volatile_hears h l.enlistment)
 
 -- what is told keeps it
-tell_keeps : (h : List Entry) (x : Outcome) (l : Option Listener) (t : Option Outcome) → IsKept h → (is_certain x && is_decided x (latest decision_of h)) ≡ true → IsKept (onto h (tell x l t))
-tell_keeps h x (Some l) t k q = keep (Told (Enl l.enlistment) x) h k q (λ g. g)
-tell_keeps h x None (Some y) k q = k
-tell_keeps h x None None k q = keep (Told Client x) h k q (λ g. g)
+tell_keeps : (h : List Entry) (x : Outcome) (l : Option Listener) (t : Option Outcome) → IsKept h → is_decided x (latest decision_of h) ≡ true
+    → passes (λ l. is_certain x || hears_doubt h (Enl l.enlistment)) l ≡ true → IsKept (onto h (tell x l t))
+tell_keeps h x (Some l) t k q w = keep (Told (Enl l.enlistment) x) h k (and_both (is_decided x (latest decision_of h)) (is_certain x || hears_doubt h (Enl l.enlistment)) q w) (λ g. g)
+tell_keeps h x None (Some y) k q w = k
+tell_keeps h x None None k q w = keep (Told Client x) h k (and_both (is_decided x (latest decision_of h)) (is_certain x || true) q (or_right (is_certain x) true refl)) (λ g. g)
 
 -- who may be asked and wasn't
 ask_step : (c m w d t s a : Bool) → d ≡ false → t ≡ true → s ≡ true → m ≡ a → (not (c && not m && w) || (not d && t && s && not a)) ≡ true
@@ -135,11 +187,18 @@ before_keeps h None true k w f = keep Sealed h k (f refl) (λ g. g)
 before_keeps h None false k w f = k
 
 -- what comes behind the seal keeps it
-behind_keeps : (h : List Entry) (q : Option EnlNo) (voted : Bool) → IsKept h → passes (λ e. rule h (Asked e Prepare)) q ≡ true → (voted ≡ true → rule h (Decided Committed) ≡ true)
-    → IsKept (onto h (behind_seal q voted))
-behind_keeps h (Some e) voted k w f = keep (Asked e Prepare) h k w (λ g. g)
-behind_keeps h None true k w f = keep (Decided Committed) h k (f refl) (λ g. refl)
-behind_keeps h None false k w f = k
+behind_keeps : (h : List Entry) (q : Option EnlNo) (voted : Bool) (commit : List Entry) → IsKept h → passes (λ e. rule h (Asked e Prepare)) q ≡ true
+    → (voted ≡ true → IsKept (onto h commit)) → IsKept (onto h (behind_seal q voted commit))
+behind_keeps h (Some e) voted commit k w f = keep (Asked e Prepare) h k w (λ g. g)
+behind_keeps h None true commit k w f = f refl
+behind_keeps h None false commit k w f = k
+
+-- the commit that is handed over or decided keeps it
+commit_act_keeps : (h : List Entry) (handed : Bool) (owner : Option EnlNo) → IsKept h → ((e : EnlNo) → handed ≡ false → owner ≡ Some e → rule h (Handed e) ≡ true)
+    → (owner ≡ None → rule h (Decided Committed) ≡ true) → IsKept (onto h (commit_act handed owner))
+commit_act_keeps h true owner k f g = k
+commit_act_keeps h false (Some e) k f g = keep (Handed e) h k (f e refl refl) (λ g. g)
+commit_act_keeps h false None k f g = keep (Decided Committed) h k (g refl) (λ g. refl)
 
 -- what neither waits nor is open is complete
 close_step : (b x : Bool) → (not b || x) ≡ true → (b || x) ≡ true → x ≡ true
@@ -178,24 +237,42 @@ voted_good e (Voted f Yes ∷ h) w k = good_step (e == f.value) (has (is_vote e)
 voted_good e (Voted f Done ∷ h) w k = good_step (e == f.value) (has (is_vote e) h) (has (is_good_vote e) h) (voted_good e h w) k
 voted_good e (x ∷ h) w k = voted_good e h w k
 
--- a volatile that voted if it is one voted
-cast_step : (a b : Bool) → a ≡ true → (not a || b) ≡ true → b ≡ true
-cast_step true b h k = k
-cast_step false b h k = absurd cc
+-- each of those that are picked passes where each passes that is picked
+each_filter : {A : Type 0} (p q : A → Bool) (xs : List A) → each (λ x. not (p x) || q x) xs ≡ true → each q (filter p xs) ≡ true
+each_filter p q [] h = refl
+each_filter p q (x ∷ xs) h =
+    step q (p x) x (filter p xs) (and_left (not (p x) || q x) (each (λ x. not (p x) || q x) xs) h) (each_filter p q xs (and_right (not (p x) || q x) (each (λ x. not (p x) || q x) xs) h))
+  where
+    step : {A : Type 0} (q : A → Bool) (b : Bool) (x : A) (ys : List A) → (not b || q x) ≡ true → each q ys ≡ true → each q (if b then x ∷ ys else ys) ≡ true
+    step q true x ys h k = and_both (q x) (each q ys) h k
+    step q false x ys h k = k
 
--- where all rows have votes, each enlistment voted
-all_cast : (h : List Entry) → ruled h ≡ true → all_voted (rows h) ≡ true → each (λ x. has (is_vote x.0.value) h) (enlisted h) ≡ true
-all_cast h r a =
-    each_both (λ x. is_volatile x.1) (λ x. not (is_volatile x.1) || has (is_vote x.0.value) h) (λ x. has (is_vote x.0.value) h)
-    (λ x. cast_step (is_volatile x.1) (has (is_vote x.0.value) h)) (enlisted h) (each_volatile h r) (sym (all_voted_seen h r) ∙ a)
+-- where it is sealed and all voted, it is ready
+may_ready : (h : List Entry) → IsKept h → has is_decision h ≡ false → has is_sealed h ≡ true → all_voted (rows h) ≡ true → ready h ≡ true
+unfolding ready
+may_ready h k d s a =
+    let closed = sealed_closed h k.rules s in
+    let cast : each (λ x. has (is_vote x.0.value) h) (volatiles h) ≡ true = each_filter (λ x. is_volatile x.1) (λ x. has (is_vote x.0.value) h) (enlisted h) (sym (all_voted_seen h k.rules) ∙ a) in
+    let good : each (λ x. has (is_good_vote x.0.value) h) (volatiles h) ≡ true =
+    each_more (λ x. has (is_vote x.0.value) h) (λ x. has (is_good_vote x.0.value) h) (λ x. voted_good x.0.value h (going_willing h d k.going)) (volatiles h) cast in
+    three_hold (has is_commit h) (all_complete h) (each (λ x. has (is_good_vote x.0.value) h) (voters h)) closed.commit closed.complete
+    (subst (λ xs. each (λ x. has (is_good_vote x.0.value) h) xs ≡ true) (sym (voters-volatile h k.rules)) good)
 
--- where it is sealed and all voted, it may be committed
-may_commit : (h : List Entry) → IsKept h → has is_decision h ≡ false → has is_sealed h ≡ true → all_voted (rows h) ≡ true → rule h (Decided Committed) ≡ true
-unfolding may_tell
-may_commit h k d s a =
-    let good : well_cast h ≡ true =
-    each_more (λ x. has (is_vote x.0.value) h) (λ x. has (is_good_vote x.0.value) h) (λ x. voted_good x.0.value h (going_willing h d k.going)) (enlisted h) (all_cast h k.rules a) in
-    three_hold (not (has is_decision h)) true (evidence h) (not_false (has is_decision h) d) refl (evidence-sealed h k.rules ∙ and_both (has is_sealed h) (well_cast h) s good)
+-- where it is sealed and ready and nothing is durable or promotable, it may be committed
+may_commit : (h : List Entry) → ruled h ≡ true → has is_decision h ≡ false → has is_sealed h ≡ true → ready h ≡ true → durables h ≡ [] → rule h (Decided Committed) ≡ true
+unfolding may_tell evidence by_seal
+may_commit h r d s a n =
+    let bare : is_empty (durables h) ≡ true = ap is_empty n in
+    let seal : by_seal h ≡ true = three_hold (has is_sealed h) (not (has is_promoted h)) (is_empty (durables h)) s (not_false (has is_promoted h) (none_promoted h r)) bare in
+    and_both (not (has is_decision h)) (evidence h) (not_false (has is_decision h) d)
+    (and_both (ready h) (by_seal h || by_owner h || by_log h) a (or_left (by_seal h || by_owner h) (by_log h) (or_left (by_seal h) (by_owner h) seal)))
+
+-- where it is sealed and ready and the commit wasn't handed over, it may be handed to the owner
+may_hand : (h : List Entry) (e : EnlNo) → ruled h ≡ true → has is_decision h ≡ false → has is_sealed h ≡ true → ready h ≡ true → is_some (latest handed_of h) ≡ false
+    → owner_of (rows h) ≡ Some e → rule h (Handed e) ≡ true
+may_hand h e r d s a u o =
+    five_hold (not (has is_decision h)) (has is_sealed h) (ready h) (is_only e.value (durables h)) (not (has is_any_hand h)) (not_false (has is_decision h) d) s a (owner_only h e r o)
+    (not_false (has is_any_hand h) (sym (any_hand_seen h) ∙ u))
 
 -- the local act while nothing is decided keeps it
 undecided_keeps : (h : List Entry) (commit sealed : Bool) (xs ys : List Entry) → IsKept h → (commit ≡ true → sealed ≡ false → IsKept (onto h xs))
@@ -207,9 +284,12 @@ undecided_keeps h true true xs ys k f g = g refl refl
 -- the local act keeps it
 pub act_keeps : (h : List Entry) (d : Option Outcome) → latest decision_of h ≡ d → IsKept h → IsKept (onto h (act_by d (observe h)))
 unfolding observe
-act_keeps h (Some x) e k = tell_keeps h x (find (is_to_tell (rows h)) (listeners h)) _ k (told_rule h x k.rules e)
+act_keeps h (Some x) e k = tell_keeps h x (find (is_to_tell (observe h) x) (listeners h)) _ k (told_rule h x e) (to_tell_well h x)
 act_keeps h None e k =
     let d = undecided h e in
     undecided_keeps h (has is_commit h) (has is_sealed h) _ _ k
     (λ c s. before_keeps h (next_ask (rows h) true) (is_over (rows h) (clone_rows h) 0) k (next_well h true k.rules d c) (may_seal h k d c))
-    (λ c s. behind_keeps h (next_ask (rows h) false) (all_voted (rows h)) k (next_well h false k.rules d c) (may_commit h k d s))
+    (λ c s. behind_keeps h (next_ask (rows h) false) (all_voted (rows h)) (commit_act (is_some (latest handed_of h)) (owner_of (rows h))) k (next_well h false k.rules d c)
+    (λ a. let set = may_ready h k d s a in
+    commit_act_keeps h (is_some (latest handed_of h)) (owner_of (rows h)) k (λ f u o. may_hand h f k.rules d s set u o)
+    (λ o. may_commit h k.rules d s set (owner_none h k.rules o))))

@@ -1,62 +1,129 @@
 -- The block of each call that may come keeps the rules.
-use Rattle.std.proofs.Common.{◌≡◌, ℕ, Bool, true, false, ◌&&◌, List, [], ◌∷◌, Option, Some, None, refl, ◌∙◌, ap, sym}
-use Rattle.std.specs.Prelude.{is_some, if◌then◌else◌}
+use Rattle.std.proofs.Common.{◌≡◌, ℕ, Bool, true, false, ◌&&◌, ◌||◌, List, [], ◌∷◌, Option, Some, None, refl, ◌∙◌, ap, sym}
+use Rattle.std.specs.Prelude.{is_some, length, nat_le, not, if◌then◌else◌}
 use Rattle.dtx_values.specs.declared.number.ActorNo.{ActorNo}
 use Rattle.dtx_values.specs.declared.call.Call.{Call}
-use Rattle.dtx_values.specs.declared.call.Call.TheVariants.{Begin, Volatile, Clone, Complete, Commit, Rollback, Tick}
+use Rattle.dtx_values.specs.declared.call.Call.TheVariants.{Begin, Volatile, Durable, Promotable, Clone, Complete, Commit, Rollback, Tick, Gone}
 use Rattle.dtx_values.specs.declared.entry.Answer.{Answer}
+use Rattle.dtx_values.specs.declared.entry.Answer.TheVariants.{True, False, Many}
 use Rattle.dtx_values.specs.declared.entry.Entry.{Entry}
-use Rattle.dtx_values.specs.declared.entry.Entry.TheVariants.{Called, Began, CommitAsked, Clock, Late}
+use Rattle.dtx_values.specs.declared.entry.Entry.TheVariants.{Called, Began, Enlisted, CommitAsked, Clock, Late, Init, Lost}
+use Rattle.dtx_values.specs.declared.limits.TheConstants.{DURABLES, ENLISTMENTS}
+use Rattle.dtx_values.specs.declared.number.EnlNo.{EnlNo}
 use Rattle.dtx_values.specs.declared.script.EnlistOption.{EnlistOption}
 use Rattle.dtx_values.specs.declared.script.EnlistOption.TheVariants.{Plain, DuringPrepare}
+use Rattle.dtx_values.specs.declared.words.Cause.TheVariants.{Two, Second, Beside}
+use Rattle.dtx_values.specs.declared.words.Class.{Class}
+use Rattle.dtx_values.specs.declared.words.Class.TheVariants.{Zero, One, DurableTwo, DurableSingle, Promotable as PromotableClass}
 use Rattle.dtx_values.specs.declared.words.Outcome.{Outcome}
-use Rattle.dtx_values.specs.Table.{Enlistment, is_of}
+use Rattle.dtx_values.specs.Table.{Enlistment, how_many, is_of}
 use Rattle.dtx_values.specs.Clones.{is_clone, is_complete_clone, is_open_rollback}
 use Rattle.dtx_model.specs.Words.{has, latest, onto}
-use Rattle.dtx_model.specs.Entries.{is_commit, is_sealed, is_volatile, is_good_vote, decision_of, is_decision, began_of}
+use Rattle.dtx_model.specs.Entries.{is_commit, is_sealed, is_volatile, is_vote, is_hand, is_any_hand, is_lost, decision_of, handed_of, is_decision, began_of}
 use Rattle.dtx_model.specs.Observed.{observe, rows, clone_rows, clock}
-use Rattle.dtx_model.specs.Outcome.{enlisted, ready, by_seal, by_owner, by_log, evidence, is_veto}
-use Rattle.dtx_model.specs.Steps.{limit_of, class_of, behind_begin, behind_end, volatile_answer, clone_answer, complete_answer, unless_late, answer, is_fine}
-use Rattle.dtx_model.specs.Steps.{veto_if, ticked, reaches, is_evident, is_late, time_up, facts, facts_if}
+use Rattle.dtx_model.specs.Outcome.{is_empty, ready, by_seal, by_owner, by_log, evidence, is_veto}
+use Rattle.dtx_model.specs.Owners.{cause_of, is_durable, is_lasting, is_promotable, may_own}
+use Rattle.dtx_model.specs.Steps.{limit_of, class_of, behind_begin, behind_end, volatile_answer, durable_answer, promotable_answer, is_single, wait_for, clone_answer, complete_answer, gone_answer, unless_late, answer, is_done}
+use Rattle.dtx_model.specs.Steps.{veto_if, ticked, reaches, is_evident, is_gone, is_handed, is_late, time_up, voted, lost_outcome, decided_if, facts, facts_if}
 use Rattle.dtx_model.specs.Caused.{is_new}
-use Rattle.dtx_model.proofs.Bools.{or_first, or_second, not_true}
-use Rattle.outcome_law.proofs.Rule.{ruled}
-use Rattle.outcome_law.proofs.Picks.{each_and}
+use Rattle.dtx_model.proofs.Bools.{and_both, or_false, or_first, or_second, not_both, not_false, not_true}
+use Rattle.outcome_law.proofs.Tests.{or_left, refuted}
+use Rattle.outcome_law.proofs.Rule.{is_answer, is_enlisted, rule, ruled}
 use Rattle.outcome_law.proofs.TableRows.{none_there, enlisted_in_rows, evident_seen, commit_vetoed, clone_stands}
-use Rattle.outcome_law.proofs.Evidence.{each_volatile, evidence-sealed}
+use Rattle.outcome_law.proofs.Evidence.{evidence-sealed}
 use Rattle.outcome_law.proofs.Rules.{undecided}
-use Rattle.outcome_law.proofs.Going.{IsKept, keep, enlisted_keeps, cloned_keeps, completed_keeps, rollback_keeps, timeout_keeps, refused_keeps, commit_keeps}
+use Rattle.outcome_law.proofs.Owned.{none_lasting, hand_seen, any_hand_seen, lost_seen, unvoted_seen}
+use Rattle.outcome_law.proofs.Going.{IsKept, keep, going_unanswered, enlisted_keeps, cloned_keeps, completed_keeps, rollback_keeps, timeout_keeps, refused_keeps, commit_keeps, lost_aborts, lost_doubts}
 
--- the rows show whether evidence stands
-pub evidence_seen : (h : List Entry) → ruled h ≡ true → is_evident (has is_sealed h) (rows h) ≡ evidence h
-evidence_seen h r =
-    ap (λ b. has is_sealed h && b) (evident_seen h r ∙ each_and (λ x. is_volatile x.1) (λ x. has (is_good_vote x.0.value) h) (enlisted h) (each_volatile h r)) ∙ sym (evidence-sealed h r)
+-- where no owner answered, the rows show whether evidence stands
+evidence_shown : (h : List Entry) → ruled h ≡ true → has is_answer h ≡ false → is_evident (has is_sealed h) (rows h) ≡ evidence h
+evidence_shown h r u = ap (λ b. has is_sealed h && b) (evident_seen h r) ∙ sym (evidence-sealed h r u)
 
--- an answer ok stands where it was begun and nothing is decided
-fine_behind : (l : Option ℕ) (d : Option Outcome) (a : Answer) → is_fine (behind_begin l (behind_end d a)) ≡ true → (d ≡ None) × (is_fine a ≡ true)
-fine_behind None d a k = absurd cc
-fine_behind (Some n) (Some x) a k = absurd cc
-fine_behind (Some n) None a k = (refl, k)
+-- while nothing is decided, the rows show whether evidence stands
+pub evidence_seen : (h : List Entry) → IsKept h → has is_decision h ≡ false → is_evident (has is_sealed h) (rows h) ≡ evidence h
+evidence_seen h k d = evidence_shown h k.rules (going_unanswered h d k.going)
 
--- a call of volatile that was answered ok stood behind no seal
-volatile_fine : (sealed : Bool) (xs : List Enlistment) → is_fine (volatile_answer sealed xs) ≡ true → sealed ≡ false
-volatile_fine true xs k = absurd cc
-volatile_fine false xs k = refl
+-- a call was done where it was begun and nothing is decided
+done_behind : (l : Option ℕ) (d : Option Outcome) (a : Answer) → is_done (behind_begin l (behind_end d a)) ≡ true → (d ≡ None) × (is_done a ≡ true)
+done_behind None d a k = absurd cc
+done_behind (Some n) (Some x) a k = absurd cc
+done_behind (Some n) None a k = (refl, k)
 
--- a call of clone that was answered ok stood behind no commit
-clone_fine : (commit : Bool) (n : ℕ) → is_fine (clone_answer commit n) ≡ true → commit ≡ false
-clone_fine true n k = absurd cc
-clone_fine false n k = refl
+-- a call of volatile that was done stood behind no seal
+volatile_done : (sealed : Bool) (xs : List Enlistment) → is_done (volatile_answer sealed xs) ≡ true → sealed ≡ false
+volatile_done true xs k = absurd cc
+volatile_done false xs k = refl
 
--- a call of complete that was answered ok is of a clone that stands
-complete_fine : (stands complete : Bool) → is_fine (complete_answer stands complete) ≡ true → stands ≡ true
-complete_fine true complete k = refl
-complete_fine false complete k = absurd cc
+-- what is neither durable nor promotable isn't lasting
+lasting_class : (c : Class) → not (is_volatile c) ≡ true → (is_durable c || is_promotable c) ≡ true
+lasting_class Zero k = absurd cc
+lasting_class One k = absurd cc
+lasting_class DurableTwo k = refl
+lasting_class DurableSingle k = refl
+lasting_class PromotableClass k = refl
 
--- a call that was answered ok didn't come too late
-late_fine : (late : Bool) → is_fine (unless_late late) ≡ true → late ≡ false
-late_fine true k = absurd cc
-late_fine false k = refl
+-- where no row is durable and none promotable, none is lasting
+none_lasts : (xs : List Enlistment) → has (λ x. is_durable x.1.class) xs ≡ false → has (λ x. is_promotable x.1.class) xs ≡ false → has is_lasting xs ≡ false
+none_lasts [] d p = refl
+none_lasts (x ∷ xs) d p =
+    or_false (is_lasting x) (has is_lasting xs)
+    (refuted (is_lasting x) (λ k. not_both (is_durable x.1.class || is_promotable x.1.class) (lasting_class x.1.class k)
+    (or_false (is_durable x.1.class) (is_promotable x.1.class) (or_first (is_durable x.1.class) (has (λ x. is_durable x.1.class) xs) d) (or_first (is_promotable x.1.class) (has (λ x. is_promotable x.1.class) xs) p))))
+    (none_lasts xs (or_second (is_durable x.1.class) (has (λ x. is_durable x.1.class) xs) d) (or_second (is_promotable x.1.class) (has (λ x. is_promotable x.1.class) xs) p))
+
+-- a durable call that has no cause to promote stands behind nothing durable or promotable
+causeless : (xs : List Enlistment) (single : Bool) → is_done (wait_for (cause_of xs single)) ≡ true → has is_lasting xs ≡ false
+unfolding cause_of
+causeless xs single k = step xs single (has (λ x. is_durable x.1.class) xs) (has (λ x. is_promotable x.1.class) xs) refl refl k
+  where
+    step : (xs : List Enlistment) (single d p : Bool) → has (λ x. is_durable x.1.class) xs ≡ d → has (λ x. is_promotable x.1.class) xs ≡ p
+        → is_done (wait_for (if d then Some Second else if p then Some Beside else if single then None else Some Two)) ≡ true → has is_lasting xs ≡ false
+    step xs single true p e f k = absurd cc
+    step xs single false true e f k = absurd cc
+    step xs single false false e f k = none_lasts xs e f
+
+-- a durable call that was done stood behind no seal, and behind nothing durable or promotable
+durable_done : (sealed single : Bool) (xs : List Enlistment) → is_done (durable_answer sealed single xs) ≡ true → (sealed ≡ false) × (has is_lasting xs ≡ false)
+durable_done true single xs k = absurd cc
+durable_done false single xs k = step single xs (nat_le ENLISTMENTS (length xs)) (nat_le DURABLES (how_many is_lasting xs)) k
+  where
+    step : (single : Bool) (xs : List Enlistment) (a b : Bool) → is_done (if a then Many ENLISTMENTS else if b then Many DURABLES else wait_for (cause_of xs single)) ≡ true
+        → (false ≡ false) × (has is_lasting xs ≡ false)
+    step single xs true b k = absurd cc
+    step single xs false true k = absurd cc
+    step single xs false false k = (refl, causeless xs single k)
+
+-- and so did a promotable call
+promotable_done : (sealed : Bool) (xs : List Enlistment) → is_done (promotable_answer sealed xs) ≡ true → (sealed ≡ false) × (has is_lasting xs ≡ false)
+unfolding may_own
+promotable_done true xs k = absurd cc
+promotable_done false xs k = step (has is_lasting xs) (nat_le ENLISTMENTS (length xs)) k
+  where
+    step : (l a : Bool) → is_done (if not (true && not l) then False else if a then Many ENLISTMENTS else True) ≡ true → (false ≡ false) × (l ≡ false)
+    step true a k = absurd cc
+    step false a k = (refl, refl)
+
+-- a call of clone that was done stood behind no commit
+clone_done : (commit : Bool) (n : ℕ) → is_done (clone_answer commit n) ≡ true → commit ≡ false
+clone_done true n k = absurd cc
+clone_done false n k = refl
+
+-- a call of complete that was done is of a clone that stands
+complete_done : (stands complete : Bool) → is_done (complete_answer stands complete) ≡ true → stands ≡ true
+complete_done true complete k = refl
+complete_done false complete k = absurd cc
+
+-- a call that was done didn't come too late
+late_done : (late : Bool) → is_done (unless_late late) ≡ true → late ≡ false
+late_done true k = absurd cc
+late_done false k = refl
+
+-- a call of gone that was done is of an enlistment that stands and wasn't lost
+gone_done : (l : Option ℕ) (stands lost : Bool) → is_done (behind_begin l (gone_answer stands lost)) ≡ true → (stands ≡ true) × (lost ≡ false)
+gone_done None stands lost k = absurd cc
+gone_done (Some n) false lost k = absurd cc
+gone_done (Some n) true true k = absurd cc
+gone_done (Some n) true false k = (refl, refl)
 
 -- what a call of volatile enlists is volatile
 volatile_class : (x : EnlistOption) → is_volatile (class_of x) ≡ true
@@ -69,47 +136,75 @@ asked_commit h true k d c v = refused_keeps h k d c v
 asked_commit h false k d c v = commit_keeps h k d c v
 
 -- the clock that reaches the timeout, or doesn't, keeps it
-time_keeps : (h : List Entry) (reached late : Bool) → IsKept h → (late ≡ false → (has is_decision h ≡ false) × (evidence h ≡ false))
+time_keeps : (h : List Entry) (reached late : Bool) → IsKept h → (late ≡ false → (has is_decision h ≡ false) × (has is_any_hand h ≡ false) × (evidence h ≡ false))
     → IsKept (onto h (if reached then time_up late else []))
 time_keeps h false late k f = k
 time_keeps h true true k f = keep Late h k refl (λ g. g)
-time_keeps h true false k f = let w = f refl in timeout_keeps h k w.0 w.1
+time_keeps h true false k f = let w = f refl in timeout_keeps h k w.0 w.1 w.2
 
--- a timeout that isn't late comes while nothing is decided and no evidence stands
-not_late : (h : List Entry) → ruled h ≡ true → is_late (observe h) ≡ false → (has is_decision h ≡ false) × (evidence h ≡ false)
+-- a timeout that isn't late comes while nothing is decided, the commit isn't handed over, and no evidence stands
+not_late : (h : List Entry) → IsKept h → is_late (observe h) ≡ false → (has is_decision h ≡ false) × (has is_any_hand h ≡ false) × (evidence h ≡ false)
 unfolding observe
-not_late h r l = (
-  undecided h (none_there (latest decision_of h) (or_first (is_some (latest decision_of h)) (is_evident (has is_sealed h) (rows h)) l)),
-  sym (evidence_seen h r) ∙ or_second (is_some (latest decision_of h)) (is_evident (has is_sealed h) (rows h)) l,
-)
+not_late h k l =
+    let decided = is_some (latest decision_of h) in
+    let handed = is_some (latest handed_of h) in
+    let evident = is_evident (has is_sealed h) (rows h) in
+    let first = or_first (decided || handed) evident l in
+    let d = undecided h (none_there (latest decision_of h) (or_first decided handed first)) in
+    (d, sym (any_hand_seen h) ∙ or_second decided handed first, sym (evidence_seen h k d) ∙ or_second (decided || handed) evident l)
+
+-- what is lost decides where nothing is decided and it didn't vote
+gone_keeps : (h : List Entry) (e : EnlNo) (decided voted handed : Bool) → IsKept h → rule h (Lost e) ≡ true → (decided ≡ false → has is_decision h ≡ false)
+    → (voted ≡ false → has (is_vote e.value) h ≡ false) → handed ≡ has (is_hand e.value) h → IsKept (onto (Lost e ∷ h) (decided_if (not decided && not voted) (lost_outcome handed)))
+gone_keeps h e true voted handed k q f g w = keep (Lost e) h k q (λ g. g)
+gone_keeps h e false true handed k q f g w = keep (Lost e) h k q (λ g. g)
+gone_keeps h e false false true k q f g w = lost_doubts h e k (f refl) q (sym w)
+gone_keeps h e false false false k q f g w = lost_aborts h e k (f refl) q (g refl) (sym w)
 
 -- the entries of a call keep it
-pub call_keeps : (h : List Entry) (n : ℕ) (a : ActorNo) (y : Answer) (c : Call) (m : ℕ) (b : Bool) → IsKept h → is_new (observe h) c ≡ true → is_fine (answer (observe h) c m) ≡ b
+pub call_keeps : (h : List Entry) (n : ℕ) (a : ActorNo) (y : Answer) (c : Call) (m : ℕ) (b : Bool) → IsKept h → is_new (observe h) c ≡ true → is_done (answer (observe h) c m) ≡ b
     → IsKept (onto (Called n a y ∷ h) (facts_if b (facts (observe h) c)))
 unfolding answer observe evidence ready by_seal by_owner by_log
 call_keeps h n a y c m false k w f = keep (Called n a y) h k refl (λ g. g)
 call_keeps h n a y (Begin t d) m true k w f = keep (Began (limit_of d)) (Called n a y ∷ h) (keep (Called n a y) h k refl (λ g. g)) refl (λ g. g)
 call_keeps h n a y (Volatile t e x v) m true k w f =
-    let fine = fine_behind (latest began_of h) (latest decision_of h) (volatile_answer (has is_sealed h) (rows h)) f in
-    enlisted_keeps (Called n a y ∷ h) e (class_of x) (keep (Called n a y) h k refl (λ g. g)) (undecided h fine.0) (volatile_fine (has is_sealed h) (rows h) fine.1)
-    (sym (enlisted_in_rows e.value h) ∙ not_true (has (is_of e.value) (rows h)) w) (volatile_class x)
+    let fine = done_behind (latest began_of h) (latest decision_of h) (volatile_answer (has is_sealed h) (rows h)) f in
+    enlisted_keeps (Called n a y ∷ h) e (class_of x) (keep (Called n a y) h k refl (λ g. g)) (undecided h fine.0) (volatile_done (has is_sealed h) (rows h) fine.1)
+    (sym (enlisted_in_rows e.value h) ∙ not_true (has (is_of e.value) (rows h)) w) (or_left (is_volatile (class_of x)) _ (volatile_class x))
+call_keeps h n a y (Durable t e r x) m true k w f =
+    let fine = done_behind (latest began_of h) (latest decision_of h) (durable_answer (has is_sealed h) (is_single x) (rows h)) f in
+    let first = durable_done (has is_sealed h) (is_single x) (rows h) fine.1 in
+    enlisted_keeps (Called n a y ∷ h) e DurableSingle (keep (Called n a y) h k refl (λ g. g)) (undecided h fine.0) first.0
+    (sym (enlisted_in_rows e.value h) ∙ not_true (has (is_of e.value) (rows h)) w) (ap is_empty (none_lasting h first.1))
+call_keeps h n a y (Promotable t e r v x p) m true k w f =
+    let fine = done_behind (latest began_of h) (latest decision_of h) (promotable_answer (has is_sealed h) (rows h)) f in
+    let first = promotable_done (has is_sealed h) (rows h) fine.1 in
+    keep (Init e) (Enlisted e PromotableClass ∷ Called n a y ∷ h)
+    (enlisted_keeps (Called n a y ∷ h) e PromotableClass (keep (Called n a y) h k refl (λ g. g)) (undecided h fine.0) first.0
+    (sym (enlisted_in_rows e.value h) ∙ not_true (has (is_of e.value) (rows h)) w) (ap is_empty (none_lasting h first.1))) refl (λ g. g)
 call_keeps h n a y (Clone t c d) m true k w f =
-    let fine = fine_behind (latest began_of h) (latest decision_of h) _ f in
-    cloned_keeps (Called n a y ∷ h) c d (keep (Called n a y) h k refl (λ g. g)) (undecided h fine.0) (clone_fine (has is_commit h) _ fine.1)
+    let fine = done_behind (latest began_of h) (latest decision_of h) _ f in
+    cloned_keeps (Called n a y ∷ h) c d (keep (Called n a y) h k refl (λ g. g)) (undecided h fine.0) (clone_done (has is_commit h) _ fine.1)
     (sym (clone_stands c.value h) ∙ not_true (has (is_clone c.value) (clone_rows h)) w)
 call_keeps h n a y (Complete c) m true k w f =
-    let fine = fine_behind (latest began_of h) (latest decision_of h) _ f in
+    let fine = done_behind (latest began_of h) (latest decision_of h) _ f in
     completed_keeps (Called n a y ∷ h) c (keep (Called n a y) h k refl (λ g. g)) (undecided h fine.0)
-    (sym (clone_stands c.value h) ∙ complete_fine (has (is_clone c.value) (clone_rows h)) (has (is_complete_clone c.value) (clone_rows h)) fine.1)
+    (sym (clone_stands c.value h) ∙ complete_done (has (is_clone c.value) (clone_rows h)) (has (is_complete_clone c.value) (clone_rows h)) fine.1)
 call_keeps h n a y (Commit t) m true k w f =
-    let fine = fine_behind (latest began_of h) (latest decision_of h) (unless_late (has is_commit h)) f in
-    asked_commit (Called n a y ∷ h) (has is_open_rollback (clone_rows h)) (keep (Called n a y) h k refl (λ g. g)) (undecided h fine.0) (late_fine (has is_commit h) fine.1)
+    let fine = done_behind (latest began_of h) (latest decision_of h) (unless_late (has is_commit h)) f in
+    asked_commit (Called n a y ∷ h) (has is_open_rollback (clone_rows h)) (keep (Called n a y) h k refl (λ g. g)) (undecided h fine.0) (late_done (has is_commit h) fine.1)
     (sym (commit_vetoed h k.rules))
 call_keeps h n a y (Rollback t) m true k w f =
-    let fine = fine_behind (latest began_of h) (latest decision_of h) (unless_late (has is_sealed h)) f in
-    rollback_keeps (Called n a y ∷ h) (keep (Called n a y) h k refl (λ g. g)) (undecided h fine.0) (late_fine (has is_sealed h) fine.1)
+    let fine = done_behind (latest began_of h) (latest decision_of h) (unless_late (has is_sealed h)) f in
+    rollback_keeps (Called n a y ∷ h) (keep (Called n a y) h k refl (λ g. g)) (undecided h fine.0) (late_done (has is_sealed h) fine.1)
 call_keeps h n a y (Tick t i) m true k w f =
     let z = ticked (clock h) i in
     time_keeps (Clock z ∷ Called n a y ∷ h) (reaches (latest began_of h) (clock h) z) (is_late (observe h))
-    (keep (Clock z) (Called n a y ∷ h) (keep (Called n a y) h k refl (λ g. g)) refl (λ g. g)) (not_late h k.rules)
+    (keep (Clock z) (Called n a y ∷ h) (keep (Called n a y) h k refl (λ g. g)) refl (λ g. g)) (not_late h k)
+call_keeps h n a y (Gone e) m true k w f =
+    let fine = gone_done (latest began_of h) (has (is_of e.value) (rows h)) (is_gone (observe h) e.value) f in
+    let lost = sym (lost_seen e.value h k.rules) ∙ fine.1 in
+    let rule : rule h (Lost e) ≡ true = and_both (has (is_enlisted e.value) h) (not (has (is_lost e.value) h)) (sym (enlisted_in_rows e.value h) ∙ fine.0) (not_false (has (is_lost e.value) h) lost) in
+    gone_keeps (Called n a y ∷ h) e (is_some (latest decision_of h)) (voted (rows h) e.value) (is_handed (latest handed_of h) e.value) (keep (Called n a y) h k refl (λ g. g)) rule
+    (λ d. undecided h (none_there (latest decision_of h) d)) (unvoted_seen h e.value k.rules fine.0) (hand_seen e.value h k.rules)
 call_keeps h n a y _ m true k w f = keep (Called n a y) h k refl (λ g. g)

@@ -5,24 +5,26 @@ use Rattle.std.proofs.lemmas.Bool.{eqb-true}
 use Rattle.dtx_values.specs.declared.number.CloneNo.{CloneNo}
 use Rattle.dtx_values.specs.declared.number.EnlNo.{EnlNo}
 use Rattle.dtx_values.specs.declared.entry.Entry.{Entry}
-use Rattle.dtx_values.specs.declared.entry.Entry.TheVariants.{Cloned, Completed, Enlisted, CommitAsked, RollbackAsked, TimedOut, Voted, Decided}
+use Rattle.dtx_values.specs.declared.entry.Entry.TheVariants.{Cloned, Completed, Enlisted, CommitAsked, RollbackAsked, TimedOut, Voted, Handed, OwnerAnswered, Decided, Lost}
 use Rattle.dtx_values.specs.declared.words.Class.{Class}
 use Rattle.dtx_values.specs.declared.words.CloneKind.{CloneKind}
 use Rattle.dtx_values.specs.declared.words.CloneKind.TheVariants.{Block, Rollback}
-use Rattle.dtx_values.specs.declared.words.Outcome.TheVariants.{Aborted}
+use Rattle.dtx_values.specs.declared.entry.Party.TheVariants.{Client}
+use Rattle.dtx_values.specs.declared.words.Outcome.{Outcome}
+use Rattle.dtx_values.specs.declared.words.Outcome.TheVariants.{Committed, Aborted, InDoubt}
 use Rattle.dtx_values.specs.declared.words.Vote.TheVariants.{Yes, No, Done}
 use Rattle.dtx_values.specs.Clones.{blocks}
 use Rattle.dtx_model.specs.Words.{has, each, all_of}
-use Rattle.dtx_model.specs.Entries.{is_commit, is_sealed, is_yes, is_any_hand, is_volatile, clone_of, is_good_vote, is_decision}
-use Rattle.dtx_model.specs.Outcome.{enlisted, is_complete, ready, by_seal, by_owner, by_log, evidence, is_rollback, is_veto, vetoed, may_tell}
-use Rattle.dtx_model.proofs.Bools.{and_left, and_right, and_both, or_false, not_true, not_false, not_both, three_hold, and_never}
-use Rattle.outcome_law.proofs.Tests.{four_hold, or_between, refuted}
-use Rattle.outcome_law.proofs.Scans.{each_more}
+use Rattle.dtx_model.specs.Entries.{is_commit, is_sealed, is_yes, is_hand, is_any_hand, is_owner, is_any_owner, is_lost, is_vote, is_volatile, clone_of, is_good_vote, is_decision, handed_of}
+use Rattle.dtx_model.specs.Outcome.{can_own, durables, enlisted, is_complete, is_empty, ready, by_seal, by_owner, by_log, evidence, is_rollback, is_veto, vetoed, is_lost_owner, owner_doubt, doubt, may_tell}
+use Rattle.dtx_model.proofs.Bools.{and_left, and_right, and_both, or_case, or_false, or_right, not_true, not_false, not_both, three_hold, and_never}
+use Rattle.outcome_law.proofs.Tests.{eq_swap, four_hold, or_between, or_left, refuted, second_of_three}
+use Rattle.outcome_law.proofs.Scans.{each_more, has_more, has_less}
 use Rattle.outcome_law.proofs.Picks.{none_each}
-use Rattle.outcome_law.proofs.Rule.{is_enlisted, is_cloned, rule, ruled}
+use Rattle.outcome_law.proofs.Rule.{is_enlisted, is_cloned, is_answer, rule, ruled}
 use Rattle.outcome_law.proofs.TableRows.{voted_enlisted, voted_once, unvoted_unwell}
-use Rattle.outcome_law.proofs.Rules.{open_rule}
-use Rattle.outcome_law.proofs.Evidence.{well_cast, none_yes, none_handed, sealed_closed, evidence-sealed, unsealed_open}
+use Rattle.outcome_law.proofs.Rules.{open_rule, answered_any}
+use Rattle.outcome_law.proofs.Evidence.{all_well, is_answered, none_yes, sealed_closed, hand_any, unsealed_unhanded, evidence-sealed, evidence-handed, unsealed_open}
 
 -- a vote no
 abbrev pub is_no_vote : Entry → Bool
@@ -33,9 +35,9 @@ is_no_vote _ = false
 abbrev pub all_closed : List Entry → Bool
 all_closed h = each (λ c. blocks c.1 || is_complete h c) (all_of clone_of h)
 
--- while nothing is decided nobody voted no, and behind commit no clone is open that makes a commit a veto
+-- while nothing is decided nobody voted no and no owner answered, and behind commit no clone is open that makes a commit a veto
 abbrev pub is_going : List Entry → Bool
-is_going h = has is_decision h || (not (has is_no_vote h) && (not (has is_commit h) || all_closed h))
+is_going h = has is_decision h || (not (has is_no_vote h) && not (has is_answer h) && (not (has is_commit h) || all_closed h))
 
 -- what holds at the end of each block
 pub record IsKept (h : List Entry) : Type 0 where
@@ -48,42 +50,52 @@ keep x h k r g = record { rules = and_both (rule h x) (ruled h) r k.rules; going
 
 -- where nothing is decided, nobody voted no
 pub going_willing : (h : List Entry) → has is_decision h ≡ false → is_going h ≡ true → has is_no_vote h ≡ false
-going_willing h d g = step (has is_decision h) (has is_no_vote h) (not (has is_commit h) || all_closed h) d g
+going_willing h d g = step (has is_decision h) (has is_no_vote h) (has is_answer h) (not (has is_commit h) || all_closed h) d g
   where
-    step : (d n c : Bool) → d ≡ false → (d || (not n && c)) ≡ true → n ≡ false
-    step true n c d g = absurd cc
-    step false true c d g = absurd cc
-    step false false c d g = refl
+    step : (d n w c : Bool) → d ≡ false → (d || (not n && not w && c)) ≡ true → n ≡ false
+    step true n w c d g = absurd cc
+    step false true w c d g = absurd cc
+    step false false w c d g = refl
+
+-- where nothing is decided, no owner answered
+pub going_unanswered : (h : List Entry) → has is_decision h ≡ false → is_going h ≡ true → has is_answer h ≡ false
+going_unanswered h d g = step (has is_decision h) (has is_no_vote h) (has is_answer h) (not (has is_commit h) || all_closed h) d g
+  where
+    step : (d n w c : Bool) → d ≡ false → (d || (not n && not w && c)) ≡ true → w ≡ false
+    step true n w c d g = absurd cc
+    step false true w c d g = absurd cc
+    step false false true c d g = absurd cc
+    step false false false c d g = refl
 
 -- where nothing is decided and commit was asked, no clone is open that makes a commit a veto
 pub going_closed : (h : List Entry) → has is_decision h ≡ false → has is_commit h ≡ true → is_going h ≡ true → all_closed h ≡ true
-going_closed h d c g = step (has is_decision h) (has is_no_vote h) (has is_commit h) (all_closed h) d c g
+going_closed h d c g = step (has is_decision h) (not (has is_no_vote h) && not (has is_answer h)) (has is_commit h) (all_closed h) d c g
   where
-    step : (d n c a : Bool) → d ≡ false → c ≡ true → (d || (not n && (not c || a))) ≡ true → a ≡ true
+    step : (d n c a : Bool) → d ≡ false → c ≡ true → (d || (n && (not c || a))) ≡ true → a ≡ true
     step true n c a d k g = absurd cc
-    step false true c a d k g = absurd cc
-    step false false false a d k g = absurd cc
-    step false false true a d k g = g
+    step false false c a d k g = absurd cc
+    step false true false a d k g = absurd cc
+    step false true true a d k g = g
 
 -- behind commit the clones are as closed as they were
-going_step : (d n c x y : Bool) → (c ≡ true → x ≡ true → y ≡ true) → (d || (not n && (not c || x))) ≡ true → (d || (not n && (not c || y))) ≡ true
+going_step : (d n c x y : Bool) → (c ≡ true → x ≡ true → y ≡ true) → (d || (n && (not c || x))) ≡ true → (d || (n && (not c || y))) ≡ true
 going_step true n c x y f g = refl
-going_step false true c x y f g = g
-going_step false false false x y f g = refl
-going_step false false true x y f g = f refl g
+going_step false false c x y f g = g
+going_step false true false x y f g = refl
+going_step false true true x y f g = f refl g
 
 -- commit is asked where the clones are closed
-commit_step : (d n c x : Bool) → x ≡ true → (d || (not n && (not c || x))) ≡ true → (d || (not n && x)) ≡ true
+commit_step : (d n c x : Bool) → x ≡ true → (d || (n && (not c || x))) ≡ true → (d || (n && x)) ≡ true
 commit_step true n c x e g = refl
-commit_step false true c x e g = g
-commit_step false false c x e g = e
+commit_step false false c x e g = g
+commit_step false true c x e g = e
 
 -- one more enlistment keeps it
 pub enlisted_keeps : (h : List Entry) (e : EnlNo) (c : Class) → IsKept h → has is_decision h ≡ false → has is_sealed h ≡ false
-    → has (is_enlisted e.value) h ≡ false → is_volatile c ≡ true → IsKept (Enlisted e c ∷ h)
+    → has (is_enlisted e.value) h ≡ false → (is_volatile c || (can_own c && is_empty (durables h))) ≡ true → IsKept (Enlisted e c ∷ h)
 enlisted_keeps h e c k d s n v =
     keep (Enlisted e c) h k
-    (four_hold (not (has is_decision h)) (not (has is_sealed h)) (not (has (is_enlisted e.value) h)) (is_volatile c)
+    (four_hold (not (has is_decision h)) (not (has is_sealed h)) (not (has (is_enlisted e.value) h)) (is_volatile c || (can_own c && is_empty (durables h)))
     (not_false (has is_decision h) d) (not_false (has is_sealed h) s) (not_false (has (is_enlisted e.value) h) n) v) (λ g. g)
 
 -- one more clone keeps it
@@ -93,26 +105,28 @@ cloned_keeps h c d k u m n =
     keep (Cloned c d) h k
     (three_hold (not (has is_decision h)) (not (has is_commit h)) (not (has (is_cloned c.value) h))
     (not_false (has is_decision h) u) (not_false (has is_commit h) m) (not_false (has (is_cloned c.value) h) n))
-    (going_step (has is_decision h) (has is_no_vote h) (has is_commit h) (all_closed h) (all_closed (Cloned c d ∷ h)) (λ t. absurd (not_both (has is_commit h) t m)))
+    (going_step (has is_decision h) (not (has is_no_vote h) && not (has is_answer h)) (has is_commit h) (all_closed h) (all_closed (Cloned c d ∷ h)) (λ t. absurd (not_both (has is_commit h) t m)))
 
 -- one more complete keeps it
 pub completed_keeps : (h : List Entry) (c : CloneNo) → IsKept h → has is_decision h ≡ false → has (is_cloned c.value) h ≡ true → IsKept (Completed c ∷ h)
 completed_keeps h c k u n =
     keep (Completed c) h k (and_both (not (has is_decision h)) (has (is_cloned c.value) h) (not_false (has is_decision h) u) n)
-    (going_step (has is_decision h) (has is_no_vote h) (has is_commit h) (all_closed h) (all_closed (Completed c ∷ h))
+    (going_step (has is_decision h) (not (has is_no_vote h) && not (has is_answer h)) (has is_commit h) (all_closed h) (all_closed (Completed c ∷ h))
     (λ t. each_more (λ d. blocks d.1 || is_complete h d) (λ d. blocks d.1 || is_complete (Completed c ∷ h) d)
     (λ d. or_between (blocks d.1) (d.0.value == c.value) (is_complete h d)) (all_of clone_of h)))
+
+-- a decision that may be told to the client keeps it
+pub decided_keeps : (h : List Entry) (x : Outcome) → ruled h ≡ true → has is_decision h ≡ false → may_tell h Client x ≡ true → IsKept (Decided x ∷ h)
+decided_keeps h x r d m =
+    record {
+      rules = and_both (rule h (Decided x)) (ruled h) (and_both (not (has is_decision h)) (may_tell h Client x) (not_false (has is_decision h) d) m) r;
+      going = refl;
+    }
 
 -- an abort behind a veto keeps it
 aborted_keeps : (h : List Entry) → ruled h ≡ true → has is_decision h ≡ false → vetoed h ≡ true → evidence h ≡ false → IsKept (Decided Aborted ∷ h)
 unfolding may_tell
-aborted_keeps h r d v e =
-    record {
-      rules = and_both (not (has is_decision h) && true && (vetoed h && not (evidence h))) (ruled h)
-          (three_hold (not (has is_decision h)) true (vetoed h && not (evidence h)) (not_false (has is_decision h) d) refl
-          (and_both (vetoed h) (not (evidence h)) v (not_false (evidence h) e))) r;
-      going = refl;
-    }
+aborted_keeps h r d v e = decided_keeps h Aborted r d (and_both (vetoed h) (not (evidence h)) v (not_false (evidence h) e))
 
 -- a veto behind which no evidence stood yet
 first_vetoed : (x : Entry) (h : List Entry) → is_veto h x ≡ true → evidence h ≡ false → vetoed (x ∷ h) ≡ true
@@ -120,19 +134,20 @@ unfolding vetoed
 first_vetoed x h v e =
     let first : (is_veto h x && not (evidence h)) ≡ true = and_both (is_veto h x) (not (evidence h)) v (not_false (evidence h) e) in rw first refl
 
--- nothing stands against a rollback or a timeout
-free : (h : List Entry) → ruled h ≡ true → (not (has is_yes h) && not (has is_any_hand h)) ≡ true
-free h r = and_both (not (has is_yes h)) (not (has is_any_hand h)) (not_false (has is_yes h) (none_yes h r)) (not_false (has is_any_hand h) (none_handed h r))
+-- where nothing is handed over, nothing stands against a rollback or a timeout
+free : (h : List Entry) → ruled h ≡ true → has is_any_hand h ≡ false → (not (has is_yes h) && not (has is_any_hand h)) ≡ true
+free h r u = and_both (not (has is_yes h)) (not (has is_any_hand h)) (not_false (has is_yes h) (none_yes h r)) (not_false (has is_any_hand h) u)
 
 -- a rollback aborts
 pub rollback_keeps : (h : List Entry) → IsKept h → has is_decision h ≡ false → has is_sealed h ≡ false → IsKept (Decided Aborted ∷ RollbackAsked ∷ h)
 rollback_keeps h k d s =
-    aborted_keeps (RollbackAsked ∷ h) k.rules d (first_vetoed RollbackAsked h (free h k.rules) (unsealed_open h k.rules s)) (unsealed_open (RollbackAsked ∷ h) k.rules s)
+    aborted_keeps (RollbackAsked ∷ h) k.rules d (first_vetoed RollbackAsked h (free h k.rules (unsealed_unhanded h k.rules s)) (unsealed_open h k.rules s))
+    (unsealed_open (RollbackAsked ∷ h) k.rules s)
 
--- the timeout aborts where no evidence stands
-pub timeout_keeps : (h : List Entry) → IsKept h → has is_decision h ≡ false → evidence h ≡ false → IsKept (Decided Aborted ∷ TimedOut ∷ h)
+-- the timeout aborts where nothing is handed over and no evidence stands
+pub timeout_keeps : (h : List Entry) → IsKept h → has is_decision h ≡ false → has is_any_hand h ≡ false → evidence h ≡ false → IsKept (Decided Aborted ∷ TimedOut ∷ h)
 unfolding evidence ready by_seal by_owner by_log
-timeout_keeps h k d e = aborted_keeps (TimedOut ∷ h) k.rules d (first_vetoed TimedOut h (free h k.rules) e) e
+timeout_keeps h k d u e = aborted_keeps (TimedOut ∷ h) k.rules d (first_vetoed TimedOut h (free h k.rules u) e) e
 
 -- commit was asked only of what isn't sealed
 commit_unsealed : (h : List Entry) → ruled h ≡ true → has is_commit h ≡ false → has is_sealed h ≡ false
@@ -160,7 +175,7 @@ pub commit_keeps : (h : List Entry) → IsKept h → has is_decision h ≡ false
 commit_keeps h k d c v =
     let closed : all_closed h ≡ true =
     none_each (λ c. is_rollback c.1 && not (is_complete h c)) (λ c. blocks c.1 || is_complete h c) (λ c. closed_step c.1 (is_complete h c)) (all_of clone_of h) v in
-    keep CommitAsked h k (commit_rule h d c) (commit_step (has is_decision h) (has is_no_vote h) (has is_commit h) (all_closed h) closed)
+    keep CommitAsked h k (commit_rule h d c) (commit_step (has is_decision h) (not (has is_no_vote h) && not (has is_answer h)) (has is_commit h) (all_closed h) closed)
 
 -- a vote yes keeps it
 pub yes_keeps : (h : List Entry) (e : EnlNo) → IsKept h → rule h (Voted e Yes) ≡ true → IsKept (Voted e Yes ∷ h)
@@ -183,21 +198,83 @@ enlisted_passes q e (Enlisted f c ∷ h) a s =
 enlisted_passes q e (x ∷ h) a s = enlisted_passes q e h a s
 
 -- one that hasn't voted well is left
-unwilling : (h k : List Entry) (e : ℕ) → has (is_enlisted e) h ≡ true → has (is_good_vote e) k ≡ false → each (λ x. has (is_good_vote x.0.value) k) (enlisted h) ≡ false
+unwilling : (h k : List Entry) (e : ℕ) → has (is_enlisted e) h ≡ true → has (is_good_vote e) k ≡ false
+    → each (λ x. is_volatile x.1 && has (is_good_vote x.0.value) k) (enlisted h) ≡ false
 unwilling h k e s g =
-    refuted (each (λ x. has (is_good_vote x.0.value) k) (enlisted h)) (λ w. not_both (has (is_good_vote e) k) (enlisted_passes (λ f. has (is_good_vote f) k) e h w s) g)
+    refuted (each (λ x. is_volatile x.1 && has (is_good_vote x.0.value) k) (enlisted h))
+    (λ w. not_both (has (is_good_vote e) k) (enlisted_passes (λ f. has (is_good_vote f) k) e h
+    (each_more (λ x. is_volatile x.1 && has (is_good_vote x.0.value) k) (λ x. has (is_good_vote x.0.value) k)
+    (λ x. and_right (is_volatile x.1) (has (is_good_vote x.0.value) k)) (enlisted h) w) s) g)
 
--- where one hasn't voted well there is no evidence
-unwilling_open : (h : List Entry) → ruled h ≡ true → well_cast h ≡ false → evidence h ≡ false
-unwilling_open h r w = evidence-sealed h r ∙ ap (λ b. has is_sealed h && b) w ∙ and_never (has is_sealed h)
+-- where no owner answered and one hasn't voted well there is no evidence
+unwilling_open : (h : List Entry) → ruled h ≡ true → has is_answer h ≡ false → all_well h ≡ false → evidence h ≡ false
+unwilling_open h r u w = evidence-sealed h r u ∙ ap (λ b. has is_sealed h && b) w ∙ and_never (has is_sealed h)
 
 -- a vote no aborts
 pub no_keeps : (h : List Entry) (e : EnlNo) → IsKept h → rule h (Voted e No) ≡ true → IsKept (Decided Aborted ∷ Voted e No ∷ h)
 no_keeps h e k q =
+    let d = not_true (has is_decision h) (open_rule h (Voted e No) refl q) in
+    let u = going_unanswered h d k.going in
     let stands = voted_enlisted e No h q in
     let none = unvoted_unwell e.value h (voted_once e No h q) in
     let rules : ruled (Voted e No ∷ h) ≡ true = and_both (rule h (Voted e No)) (ruled h) q k.rules in
-    aborted_keeps (Voted e No ∷ h) rules (not_true (has is_decision h) (open_rule h (Voted e No) refl q))
-    (first_vetoed (Voted e No) h refl (unwilling_open h k.rules (unwilling h h e.value stands none)))
-    (unwilling_open (Voted e No ∷ h) rules
+    aborted_keeps (Voted e No ∷ h) rules d (first_vetoed (Voted e No) h refl (unwilling_open h k.rules u (unwilling h h e.value stands none)))
+    (unwilling_open (Voted e No ∷ h) rules u
     (unwilling h (Voted e No ∷ h) e.value stands (or_false ((e.value == e.value) && false) (has (is_good_vote e.value) h) (and_never (e.value == e.value)) none)))
+
+-- what was answered by this owner was answered
+any_answer : (e : ℕ) (x : Entry) → is_any_owner e x ≡ true → is_answer x ≡ true
+any_answer e (OwnerAnswered f y) k = refl
+any_answer e _ k = k
+
+-- one that hasn't voted and wasn't handed the commit is lost: that aborts
+pub lost_aborts : (h : List Entry) (e : EnlNo) → IsKept h → has is_decision h ≡ false → rule h (Lost e) ≡ true → has (is_vote e.value) h ≡ false → has (is_hand e.value) h ≡ false
+    → IsKept (Decided Aborted ∷ Lost e ∷ h)
+unfolding evidence ready by_seal by_owner by_log
+lost_aborts h e k d q v u =
+    let stands = and_left (has (is_enlisted e.value) h) (not (has (is_lost e.value) h)) q in
+    let bare = unwilling_open h k.rules (going_unanswered h d k.going) (unwilling h h e.value stands (unvoted_unwell e.value h v)) in
+    let veto : is_veto h (Lost e) ≡ true = and_both (not (has (is_vote e.value) h)) (not (has (is_hand e.value) h)) (not_false (has (is_vote e.value) h) v) (not_false (has (is_hand e.value) h) u) in
+    aborted_keeps (Lost e ∷ h) (and_both (rule h (Lost e)) (ruled h) q k.rules) d (first_vetoed (Lost e) h veto bare) bare
+
+-- the one that was handed the commit is lost before its answer: that leaves it in doubt
+pub lost_doubts : (h : List Entry) (e : EnlNo) → IsKept h → has is_decision h ≡ false → rule h (Lost e) ≡ true → has (is_hand e.value) h ≡ true → IsKept (Decided InDoubt ∷ Lost e ∷ h)
+unfolding may_tell doubt owner_doubt
+lost_doubts h e k d q u =
+    let silent = has_less (is_any_owner e.value) is_answer (any_answer e.value) h (going_unanswered h d k.going) in
+    let lost : is_lost_owner h (Lost e) ≡ true = and_both (has (is_hand e.value) h) (not (has (is_any_owner e.value) h)) u (not_false (has (is_any_owner e.value) h) silent) in
+    decided_keeps (Lost e ∷ h) InDoubt (and_both (rule h (Lost e)) (ruled h) q k.rules) d (lost_step _ (is_lost_owner h (Lost e)) _ _ lost)
+  where
+    lost_step : (w q l c : Bool) → q ≡ true → ((w || (q || l)) || c) ≡ true
+    lost_step true q l c k = refl
+    lost_step false true l c k = refl
+    lost_step false false l c k = absurd cc
+
+-- whoever was handed the commit stands among them
+hand_listed : (e : ℕ) (h : List Entry) → has (is_hand e) h ≡ true → has (λ f. f.value == e) (all_of handed_of h) ≡ true
+hand_listed e [] k = k
+hand_listed e (Handed f ∷ h) k =
+    or_case (e == f.value) (has (is_hand e) h) (λ s. or_left (f.value == e) _ (eq_swap f.value e ∙ s)) (λ s. or_right (f.value == e) _ (hand_listed e h s)) k
+hand_listed e (x ∷ h) k = hand_listed e h k
+
+-- the owner's answer decides
+pub answer_keeps : (h : List Entry) (e : EnlNo) (x : Outcome) → IsKept h → rule h (OwnerAnswered e x) ≡ true → IsKept (Decided x ∷ OwnerAnswered e x ∷ h)
+unfolding may_tell doubt owner_doubt
+answer_keeps h e x k q =
+    let d = not_true (has is_decision h) (open_rule h (OwnerAnswered e x) refl q) in
+    let rules : ruled (OwnerAnswered e x ∷ h) ≡ true = and_both (rule h (OwnerAnswered e x)) (ruled h) q k.rules in
+    let hand = second_of_three (not (has is_decision h)) (has (is_hand e.value) h) (not (has is_answer h)) q in
+    by_outcome h e x k d rules hand (has_more (is_hand e.value) is_any_hand (hand_any e.value) h hand)
+  where
+    by_outcome : (h : List Entry) (e : EnlNo) (x : Outcome) → IsKept h → has is_decision h ≡ false → ruled (OwnerAnswered e x ∷ h) ≡ true → has (is_hand e.value) h ≡ true
+        → has is_any_hand h ≡ true → IsKept (Decided x ∷ OwnerAnswered e x ∷ h)
+    by_outcome h e Committed k d r s a = decided_keeps (OwnerAnswered e Committed ∷ h) Committed r d (evidence-handed (OwnerAnswered e Committed ∷ h) r a)
+    by_outcome h e Aborted k d r s a =
+        let silent = has_less (is_answered Committed) is_answer (answered_any Committed) h (going_unanswered h d k.going) in
+        aborted_keeps (OwnerAnswered e Aborted ∷ h) r d (first_vetoed (OwnerAnswered e Aborted) h refl (evidence-handed h k.rules a ∙ silent))
+        (evidence-handed (OwnerAnswered e Aborted ∷ h) r a ∙ silent)
+    by_outcome h e InDoubt k d r s a =
+        let heard : has (λ f. has (is_owner f.value InDoubt) (OwnerAnswered e InDoubt ∷ h)) (all_of handed_of h) ≡ true =
+        has_more (λ f. f.value == e.value) (λ f. has (is_owner f.value InDoubt) (OwnerAnswered e InDoubt ∷ h))
+        (λ f g. or_left ((f.value == e.value) && true) (has (is_owner f.value InDoubt) h) (and_both (f.value == e.value) true g refl)) (all_of handed_of h) (hand_listed e.value h s) in
+        decided_keeps (OwnerAnswered e InDoubt ∷ h) InDoubt r d (or_left _ _ (or_left _ _ heard))

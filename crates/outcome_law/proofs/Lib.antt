@@ -6,13 +6,16 @@ pub mod Rule
 pub mod TableRows
 pub mod Evidence
 pub mod Rules
+pub mod Owned
 pub mod Pending
 pub mod ScopeCalls
 pub mod Names
 pub mod Going
 pub mod Calls
 pub mod Acts
+pub mod Beyond
 pub mod Blocks
+pub mod Plans
 pub mod Timely
 pub mod Waves
 pub mod Settled

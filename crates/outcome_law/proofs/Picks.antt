@@ -1,5 +1,5 @@
 -- What holds of each item of a list by its place, and what is found or picked of it.
-use Rattle.std.proofs.Common.{◌≡◌, ℕ, zero, suc, Bool, true, false, ◌&&◌, ◌||◌, List, [], ◌∷◌, Option, Some, None, refl, ap}
+use Rattle.std.proofs.Common.{◌≡◌, ℕ, zero, suc, Bool, true, false, ◌||◌, List, [], ◌∷◌, Option, Some, None, refl}
 use Rattle.std.specs.Prelude.{find, not, if◌then◌else◌}
 use Rattle.std.specs.List.{slice_get, filter_map, cons_option}
 use Rattle.dtx_model.specs.Words.{has, each}
@@ -40,12 +40,3 @@ found_well p q (x ∷ xs) h =
 pub none_each : {A : Type 0} (p q : A → Bool) → ((x : A) → p x ≡ false → q x ≡ true) → (xs : List A) → has p xs ≡ false → each q xs ≡ true
 none_each p q sub [] h = refl
 none_each p q sub (x ∷ xs) h = and_both (q x) (each q xs) (sub x (or_first (p x) (has p xs) h)) (none_each p q sub xs (or_second (p x) (has p xs) h))
-
--- where each passes the one, each passes both as it passes the other
-pub each_and : {A : Type 0} (p q : A → Bool) (xs : List A) → each p xs ≡ true → each (λ x. p x && q x) xs ≡ each q xs
-each_and p q [] h = refl
-each_and p q (x ∷ xs) h = step (p x) (q x) (each (λ x. p x && q x) xs) (each q xs) (and_left (p x) (each p xs) h) (each_and p q xs (and_right (p x) (each p xs) h))
-  where
-    step : (a b c d : Bool) → a ≡ true → c ≡ d → ((a && b) && c) ≡ (b && d)
-    step true b c d e f = ap (λ r. b && r) f
-    step false b c d e f = absurd cc

@@ -11,7 +11,7 @@ use Rattle.dtx_values.specs.declared.words.Outcome.{Outcome}
 use Rattle.dtx_values.specs.declared.words.Outcome.TheVariants.{InDoubt}
 use Rattle.dtx_model.specs.Words.{has, each, always, latest, all_of}
 use Rattle.dtx_model.specs.Entries.{same_outcome, is_commit, is_sealed, is_volatile, clone_of, is_asked, is_vote, is_hand, is_any_hand, is_lost, decision_of, is_decision}
-use Rattle.dtx_model.specs.Outcome.{can_own, durables, enlisted, hears_doubt, is_complete, is_empty, may_tell}
+use Rattle.dtx_model.specs.Outcome.{can_own, durables, enlisted, hears_doubt, is_complete, is_empty, may_tell, ready}
 use Rattle.dtx_model.specs.Waves.{is_zero}
 use Rattle.dtx_model.proofs.Bools.{and_left, and_right}
 
@@ -41,10 +41,6 @@ abbrev pub is_certain : Outcome → Bool
 is_certain InDoubt = false
 is_certain _ = true
 
--- each volatile voted
-abbrev pub volatiles_cast : List Entry → Bool
-volatiles_cast h = each (λ x. not (is_volatile x.1) || has (is_vote x.0.value) h) (enlisted h)
-
 -- this enlistment alone is durable or promotable, and can own the commit
 abbrev pub is_only : ℕ → List (EnlNo × Class) → Bool
 is_only e (x ∷ []) = (e == x.0.value) && can_own x.1
@@ -71,7 +67,7 @@ rule h CommitAsked = not (has is_decision h) && not (has is_commit h)
 rule h (Asked e Prepare) = not (has is_decision h) && has is_commit h && has (is_enlisted e.value) h && not (has (is_asked e.value) h)
 rule h (Voted e v) = not (has is_decision h) && has (is_enlisted e.value) h && has (is_asked e.value) h && not (has (is_vote e.value) h)
 rule h Sealed = not (has is_decision h) && has is_commit h && all_complete h && zeros_cast h
-rule h (Handed e) = not (has is_decision h) && has is_sealed h && volatiles_cast h && is_only e.value (durables h) && not (has is_any_hand h)
+rule h (Handed e) = not (has is_decision h) && has is_sealed h && ready h && is_only e.value (durables h) && not (has is_any_hand h)
 rule h (OwnerAnswered e x) = not (has is_decision h) && has (is_hand e.value) h && not (has is_answer h)
 rule h (Lost e) = has (is_enlisted e.value) h && not (has (is_lost e.value) h)
 rule h (Decided x) = not (has is_decision h) && may_tell h Client x

@@ -4,7 +4,8 @@ use Rattle.std.specs.Prelude.{find, if◌then◌else◌}
 use Rattle.std.specs.List.{slice_get}
 use Rattle.std.proofs.lemmas.List.Folds.{list_all-append}
 use Rattle.dtx_model.specs.Words.{has, each, kth}
-use Rattle.dtx_model.proofs.Bools.{and_left, and_right, and_both, or_false}
+use Rattle.dtx_model.proofs.Bools.{and_left, and_right, and_both, or_case, or_false, or_right, not_both}
+use Rattle.outcome_law.proofs.Tests.{or_left, refuted}
 
 -- where each passes p, and what passes p passes q, each passes q
 pub each_more : {A : Type 0} (p q : A → Bool) → ((x : A) → p x ≡ true → q x ≡ true) → (xs : List A) → each p xs ≡ true → each q xs ≡ true
@@ -17,6 +18,16 @@ pub none_more : {A : Type 0} (p q : A → Bool) → ((x : A) → p x ≡ true �
 none_more p q sub [] h = refl
 none_more p q sub (x ∷ xs) h =
     or_false (q x) (has q xs) (sub x (and_left (p x) (each p xs) h)) (none_more p q sub xs (and_right (p x) (each p xs) h))
+
+-- where some passes p, and what passes p passes q, some passes q
+pub has_more : {A : Type 0} (p q : A → Bool) → ((x : A) → p x ≡ true → q x ≡ true) → (xs : List A) → has p xs ≡ true → has q xs ≡ true
+has_more p q sub [] h = h
+has_more p q sub (x ∷ xs) h =
+    or_case (p x) (has p xs) (λ k. or_left (q x) (has q xs) (sub x k)) (λ k. or_right (q x) (has q xs) (has_more p q sub xs k)) h
+
+-- where none passes q, and what passes p passes q, none passes p
+pub has_less : {A : Type 0} (p q : A → Bool) → ((x : A) → p x ≡ true → q x ≡ true) → (xs : List A) → has q xs ≡ false → has p xs ≡ false
+has_less p q sub xs h = refuted (has p xs) (λ k. not_both (has q xs) (has_more p q sub xs k) h)
 
 -- where each passes p and each passes q, and what passes both passes r, each passes r
 pub each_both : {A : Type 0} (p q r : A → Bool) → ((x : A) → p x ≡ true → q x ≡ true → r x ≡ true) → (xs : List A)

@@ -1,14 +1,15 @@
 -- A settled history that can commit is committed, and its client was told so.
-use Rattle.std.proofs.Common.{◌≡◌, ℕ, Bool, true, false, ◌&&◌, ◌||◌, List, [], ◌∷◌, ◌++◌, Option, Some, None, refl, ◌∙◌}
-use Rattle.std.specs.Prelude.{is_some, is_none, not, find, if◌then◌else◌}
+use Rattle.std.proofs.Common.{◌≡◌, ℕ, Bool, true, false, ◌&&◌, ◌||◌, List, [], ◌∷◌, ◌++◌, Option, Some, None, refl, ◌∙◌, ◌==◌, ap, sym, subst}
+use Rattle.std.specs.Prelude.{is_some, is_none, not, filter, find, if◌then◌else◌}
+use Rattle.std.proofs.lemmas.Bool.{eqb-true}
 use Rattle.std.specs.List.{filter_map, cons_option}
 use Rattle.dtx_values.specs.declared.number.EnlNo.{EnlNo}
 use Rattle.dtx_values.specs.declared.entry.Entry.{Entry}
-use Rattle.dtx_values.specs.declared.entry.Entry.TheVariants.{Enlisted, Voted, Sealed, Decided, Told}
+use Rattle.dtx_values.specs.declared.entry.Entry.TheVariants.{Enlisted, Voted, Sealed, Handed, OwnerAnswered, Decided, Told, Lost}
 use Rattle.dtx_values.specs.declared.entry.Party.TheVariants.{Client}
 use Rattle.dtx_values.specs.declared.script.Line.{Line}
 use Rattle.dtx_values.specs.declared.words.Class.{Class}
-use Rattle.dtx_values.specs.declared.words.Class.TheVariants.{Zero, One}
+use Rattle.dtx_values.specs.declared.words.Class.TheVariants.{Zero, One, DurableTwo, DurableSingle, Promotable}
 use Rattle.dtx_values.specs.declared.words.Outcome.{Outcome}
 use Rattle.dtx_values.specs.declared.words.Outcome.TheVariants.{Committed, Aborted, InDoubt}
 use Rattle.dtx_values.specs.declared.words.Vote.{Vote}
@@ -16,20 +17,25 @@ use Rattle.dtx_values.specs.Table.{Enlistment, is_marked, has_voted, is_asked_be
 use Rattle.dtx_values.specs.Clones.{blocks, is_open_block}
 use Rattle.dtx_model.specs.declared.listener.Listener.{Listener}
 use Rattle.dtx_model.specs.Words.{has, each, ever, latest, all_of}
-use Rattle.dtx_model.specs.Entries.{is_commit, is_sealed, is_vote, is_volatile, clone_of, decision_of, is_decision, client_told_of, is_client_told}
-use Rattle.dtx_model.specs.History.{CanCommit}
-use Rattle.dtx_model.specs.Outcome.{enlisted, is_complete, evidence, is_veto, is_first_veto, vetoed, may_tell}
+use Rattle.dtx_model.specs.Entries.{same_outcome, is_commit, is_sealed, is_yes, is_hand, is_owner, is_lost, is_vote, is_volatile, clone_of, handed_of, decision_of, is_decision, client_told_of, is_client_told}
+use Rattle.dtx_model.specs.History.{CanCommit, is_committed, is_granted, is_loss, is_willing}
+use Rattle.dtx_model.specs.Outcome.{can_own, enlisted, is_complete, evidence, is_veto, is_first_veto, vetoed, is_lost_owner, owner_doubt, is_begin_end, is_voter_end, is_outcome_got, coordinator_doubt, doubt}
+use Rattle.dtx_model.specs.Owners.{is_promotable, owner_of}
 use Rattle.dtx_model.specs.Observed.{observe, rows, clone_rows}
-use Rattle.dtx_model.specs.Steps.{tell, before_seal, behind_seal, undecided_act, act_by, act_entries, act_if, is_to_tell}
-use Rattle.dtx_model.specs.Steps.{planned_vote, vote_step, due_reply, due_replies, pending, all_voted, voted_well}
+use Rattle.dtx_model.specs.Steps.{Step, tell, before_seal, commit_act, behind_seal, undecided_act, act_by, act_entries, act_if, is_to_tell}
+use Rattle.dtx_model.specs.Steps.{planned_vote, planned_owner, planned_promotion, is_gone, is_handed, open_note, vote_reply, owner_reply, planned_reply, reply_step, due_reply, due_replies, pending, all_voted, voted_well}
 use Rattle.dtx_model.specs.Waves.{is_zero, is_one, may_be_asked, name_of, next_ask, zeros_voted, is_over}
 use Rattle.dtx_model.specs.Caused.{Settled}
-use Rattle.dtx_model.proofs.Bools.{and_left, and_right, and_both, not_false, or_second, or_right, not_both, not_true, and_never}
-use Rattle.outcome_law.proofs.Tests.{second_of_four, fourth_of_four, or_between}
-use Rattle.outcome_law.proofs.Rule.{is_enlisted, all_complete, zeros_cast, is_decided, ruled, first_rule, other_rules}
-use Rattle.outcome_law.proofs.Scans.{each_more, none_more, each_both, find_none}
+use Rattle.dtx_model.proofs.Bools.{and_left, and_right, and_both, not_false, or_false, or_second, or_right, not_both, not_true, and_never}
+use Rattle.outcome_law.proofs.Tests.{first_of_three, second_of_three, second_of_four, fourth_of_four, or_between, refuted}
+use Rattle.outcome_law.proofs.Rule.{is_enlisted, is_only, is_answer, all_complete, zeros_cast, is_decided, is_certain, ruled, first_rule, other_rules}
+use Rattle.outcome_law.proofs.Scans.{each_more, none_more, each_both, has_less, find_none}
 use Rattle.outcome_law.proofs.Picks.{none_each}
 use Rattle.outcome_law.proofs.TableRows.{each_rows, zeros_seen, open_blocks}
+use Rattle.outcome_law.proofs.Evidence.{is_answered, none_yes, hand_name, hand_stands}
+use Rattle.outcome_law.proofs.Rules.{decided_may, decided_same, not_behind}
+use Rattle.outcome_law.proofs.Owned.{any_hand_seen, hand_seen, lost_seen}
+use Rattle.outcome_law.proofs.Plans.{is_planned}
 
 -- two lists together are empty: the first is
 append_first : {A : Type 0} (xs ys : List A) → xs ++ ys ≡ [] → xs ≡ []
@@ -78,24 +84,109 @@ first_veto (x ∷ h) v = step (is_veto h x) (evidence h) (ever is_veto h) (ever 
     step true e r q ih v = absurd cc
     step false e r q ih v = ih v
 
--- without a veto, nothing decides that it is aborted
-not_aborted : (h : List Entry) → ruled h ≡ true → ever is_veto h ≡ false → is_decided Aborted (latest decision_of h) ≡ false
-unfolding may_tell vetoed
-not_aborted [] r v = refl
-not_aborted (Decided Aborted ∷ h) r v =
-    let told : vetoed h ≡ true = and_left (vetoed h) (not (evidence h)) (and_right (not (has is_decision h) && true) (vetoed h && not (evidence h)) (first_rule (Decided Aborted) h r)) in
-    absurd (not_both (vetoed h) told (first_veto h v))
-not_aborted (Decided _ ∷ h) r v = refl
-not_aborted (x ∷ h) r v = not_aborted h (other_rules x h r) (or_second (is_veto h x) (ever is_veto h) v)
+-- what the client was told was decided
+told_decided : (h : List Entry) (x : Outcome) → ruled h ≡ true → latest client_told_of h ≡ Some x → latest decision_of h ≡ Some x
+told_decided [] x r e = absurd cc
+told_decided (Told Client y ∷ h) x r e =
+    let same : y ≡ x = cc in
+    decided_same x (latest decision_of h)
+    (subst (λ o. is_decided o (latest decision_of h) ≡ true) same (and_left (is_decided y (latest decision_of h)) (is_certain y || true) (first_rule (Told Client y) h r)))
+told_decided (Decided y ∷ h) x r e = not_behind (Decided y) h x (told_decided h x (other_rules (Decided y) h r) e) refl r
+told_decided (y ∷ h) x r e = told_decided h x (other_rules y h r) e
 
--- without a veto, a client that was told anything was told that it is committed
-client_committed : (h : List Entry) → ruled h ≡ true → ever is_veto h ≡ false → is_some (latest client_told_of h) ≡ true → has (is_client_told Committed) h ≡ true
-client_committed [] r v k = absurd cc
-client_committed (Told Client Committed ∷ h) r v k = refl
-client_committed (Told Client Aborted ∷ h) r v k =
-    absurd (not_both (is_decided Aborted (latest decision_of h)) (first_rule (Told Client Aborted) h r) (not_aborted h (other_rules (Told Client Aborted) h r) v))
-client_committed (Told Client InDoubt ∷ h) r v k = absurd cc
-client_committed (x ∷ h) r v k = client_committed h (other_rules x h r) (or_second (is_veto h x) (ever is_veto h) v) k
+-- what was told last was told
+client_told : (h : List Entry) → latest client_told_of h ≡ Some Committed → has (is_client_told Committed) h ≡ true
+client_told [] e = absurd cc
+client_told (Told Client Committed ∷ h) e = refl
+client_told (Told Client Aborted ∷ h) e = absurd cc
+client_told (Told Client InDoubt ∷ h) e = absurd cc
+client_told (x ∷ h) e = client_told h e
+
+-- without a veto and without doubt, a client that was told anything was told that it is committed
+client_committed : (h : List Entry) (o : Option Outcome) → ruled h ≡ true → ever is_veto h ≡ false → doubt h ≡ false → latest client_told_of h ≡ o → is_some o ≡ true
+    → has (is_client_told Committed) h ≡ true
+unfolding vetoed
+client_committed h (Some Committed) r v d e k = client_told h e
+client_committed h (Some Aborted) r v d e k =
+    let may = decided_may h r Aborted (told_decided h Aborted r e) in
+    absurd (not_both (vetoed h) (and_left (vetoed h) (not (evidence h)) may) (first_veto h v))
+client_committed h (Some InDoubt) r v d e k = absurd (not_both (doubt h) (decided_may h r InDoubt (told_decided h InDoubt r e)) d)
+client_committed h None r v d e k = absurd cc
+
+-- where nothing was lost, no owner was
+unlost_owner : (h : List Entry) → has is_loss h ≡ false → ever is_lost_owner h ≡ false
+unlost_owner [] k = refl
+unlost_owner (Lost e ∷ h) k = absurd cc
+unlost_owner (x ∷ h) k = unlost_owner h (or_second (is_loss x) (has is_loss h) k)
+
+-- what each enlistment passes, the one durable or promotable passes
+only_passes : (f : EnlNo × Class → Bool) (g : ℕ → Bool) → ((x : EnlNo × Class) → can_own x.1 ≡ true → f x ≡ true → g x.0.value ≡ true)
+    → (e : ℕ) (xs : List (EnlNo × Class)) → is_only e (filter (λ x. not (is_volatile x.1)) xs) ≡ true → each f xs ≡ true → g e ≡ true
+only_passes f g sub e [] o k = absurd cc
+only_passes f g sub e (x ∷ xs) o k =
+    step f g sub e (is_volatile x.1) x (filter (λ x. not (is_volatile x.1)) xs) (and_left (f x) (each f xs) k)
+    (λ p. only_passes f g sub e xs p (and_right (f x) (each f xs) k)) o
+  where
+    step : (f : EnlNo × Class → Bool) (g : ℕ → Bool) → ((x : EnlNo × Class) → can_own x.1 ≡ true → f x ≡ true → g x.0.value ≡ true) → (e : ℕ) (v : Bool) (x : EnlNo × Class)
+        (ds : List (EnlNo × Class)) → f x ≡ true → (is_only e ds ≡ true → g e ≡ true) → is_only e (if not v then x ∷ ds else ds) ≡ true → g e ≡ true
+    step f g sub e true x ds k ih o = ih o
+    step f g sub e false x [] k ih o =
+        let same : e ≡ x.0.value = eqb-true e x.0.value (and_left (e == x.0.value) (can_own x.1) o) in rw same (sub x (and_right (e == x.0.value) (can_own x.1) o) k)
+    step f g sub e false x (y ∷ ds) k ih o = absurd cc
+
+-- whoever can own the commit is willing only if it plans to answer committed
+owner_willing : (v w p : Bool) (c : Class) → can_own c ≡ true → (v && (is_volatile c || w) && p) ≡ true → w ≡ true
+owner_willing v w p DurableSingle o k = and_right v w (and_left (v && w) p k)
+owner_willing v w p Promotable o k = and_right v w (and_left (v && w) p k)
+owner_willing v w p Zero o k = absurd cc
+owner_willing v w p One o k = absurd cc
+owner_willing v w p DurableTwo o k = absurd cc
+
+-- to whom the commit was handed it plans to answer committed
+hand_willing : (s : List Line) (h : List Entry) (e : ℕ) → ruled h ≡ true → each (λ x. is_willing s x.0.value x.1) (enlisted h) ≡ true → has (is_hand e) h ≡ true
+    → is_committed (planned_owner s e) ≡ true
+hand_willing s h e r w k =
+    only_passes (λ x. is_willing s x.0.value x.1) (λ n. is_committed (planned_owner s n))
+    (λ x o f. owner_willing (voted_well (planned_vote s x.0.value)) (is_committed (planned_owner s x.0.value)) (not (is_promotable x.1) || is_granted (planned_promotion s x.0.value)) x.1 o f)
+    e (enlisted h) (hand_stands e h r k).alone w
+
+-- where each owner answers as planned and is willing, none answered in doubt
+none_doubts : (s : List Line) (h : List Entry) (k : List Entry) → ((e : ℕ) → has (is_hand e) k ≡ true → is_committed (planned_owner s e) ≡ true)
+    → ruled h ≡ true → each (is_planned s) h ≡ true → ((e : ℕ) → has (is_hand e) h ≡ true → has (is_hand e) k ≡ true) → has (is_answered InDoubt) h ≡ false
+none_doubts s [] k w r p sub = refl
+none_doubts s (OwnerAnswered e Committed ∷ h) k w r p sub = none_doubts s h k w (other_rules (OwnerAnswered e Committed) h r) (and_right _ (each (is_planned s) h) p) sub
+none_doubts s (OwnerAnswered e Aborted ∷ h) k w r p sub = none_doubts s h k w (other_rules (OwnerAnswered e Aborted) h r) (and_right _ (each (is_planned s) h) p) sub
+none_doubts s (OwnerAnswered e InDoubt ∷ h) k w r p sub =
+    let handed = second_of_three (not (has is_decision h)) (has (is_hand e.value) h) (not (has is_answer h)) (first_rule (OwnerAnswered e InDoubt) h r) in
+    absurd (opposite (planned_owner s e.value) (w e.value (sub e.value handed)) (and_left (is_decided InDoubt (planned_owner s e.value)) (each (is_planned s) h) p))
+  where
+    opposite : (o : Option Outcome) → is_committed o ≡ true → is_decided InDoubt o ≡ true → ⊥
+    opposite (Some Committed) c d = cc
+    opposite (Some Aborted) c d = cc
+    opposite (Some InDoubt) c d = cc
+    opposite None c d = cc
+none_doubts s (Handed f ∷ h) k w r p sub = none_doubts s h k w (other_rules (Handed f) h r) p (λ e q. sub e (or_right (e == f.value) (has (is_hand e) h) q))
+none_doubts s (x ∷ h) k w r p sub = none_doubts s h k w (other_rules x h r) p sub
+
+-- an answer of this owner is such an answer
+owner_answered : (e : ℕ) (o : Outcome) (x : Entry) → is_owner e o x ≡ true → is_answered o x ≡ true
+owner_answered e o (OwnerAnswered f y) k = and_right (e == f.value) (same_outcome o y) k
+owner_answered e o _ k = k
+
+-- where nothing was lost and each owner is willing and answers as planned, there is no doubt
+no_doubt : (s : List Line) (h : List Entry) → ruled h ≡ true → each (is_planned s) h ≡ true → CanCommit s h → doubt h ≡ false
+unfolding doubt owner_doubt coordinator_doubt
+no_doubt s h r p can =
+    let none : has (is_answered InDoubt) h ≡ false = none_doubts s h h (λ e. hand_willing s h e r can.willing) r p (λ e k. k) in
+    let answers : has (λ e. has (is_owner e.value InDoubt) h) (all_of handed_of h) ≡ false =
+    nowhere (λ e. has (is_owner e.value InDoubt) h) (λ e. has_less (is_owner e.value InDoubt) (is_answered InDoubt) (owner_answered e.value InDoubt) h none) (all_of handed_of h) in
+    or_false (has (λ e. has (is_owner e.value InDoubt) h) (all_of handed_of h) || ever is_lost_owner h) (has is_yes h && has is_begin_end h && has is_voter_end h && not (has is_outcome_got h))
+    (or_false (has (λ e. has (is_owner e.value InDoubt) h) (all_of handed_of h)) (ever is_lost_owner h) answers (unlost_owner h can.unlost))
+    (ap (λ b. b && has is_begin_end h && has is_voter_end h && not (has is_outcome_got h)) (none_yes h r))
+  where
+    nowhere : (q : EnlNo → Bool) → ((e : EnlNo) → q e ≡ false) → (xs : List EnlNo) → has q xs ≡ false
+    nowhere q f [] = refl
+    nowhere q f (x ∷ xs) = or_false (q x) (has q xs) (f x) (nowhere q f xs)
 
 -- sealed is only where each Zero enlistment voted
 sealed_zeros : (h : List Entry) → ruled h ≡ true → has is_sealed h ≡ true → zeros_cast h ≡ true
@@ -103,7 +194,7 @@ sealed_zeros [] r k = absurd cc
 sealed_zeros (Sealed ∷ h) r k = fourth_of_four (not (has is_decision h)) (has is_commit h) (all_complete h) (zeros_cast h) (first_rule Sealed h r)
 sealed_zeros (Enlisted e c ∷ h) r k =
     let rule = first_rule (Enlisted e c) h r in
-    let unsealed = not_true (has is_sealed h) (second_of_four (not (has is_decision h)) (not (has is_sealed h)) (not (has (is_enlisted e.value) h)) (is_volatile c) rule) in
+    let unsealed = not_true (has is_sealed h) (second_of_four (not (has is_decision h)) (not (has is_sealed h)) (not (has (is_enlisted e.value) h)) _ rule) in
     absurd (not_both (has is_sealed h) k unsealed)
 sealed_zeros (Voted e w ∷ h) r k =
     each_more (λ x. not (is_zero x.1) || has (is_vote x.0.value) h) (λ x. not (is_zero x.1) || has (is_vote x.0.value) (Voted e w ∷ h))
@@ -114,19 +205,98 @@ sealed_zeros (x ∷ h) r k = sealed_zeros h (other_rules x h r) k
 abbrev pub has_answered : Enlistment → Bool
 has_answered x = not (is_marked x) || has_voted x
 
--- a row whose planned vote is yes or done, and isn't due, has a vote where it is marked
-row_step : (marked voted : Bool) (e : EnlNo) (o : Option Vote) → voted_well o ≡ true → is_none (vote_step (marked && not voted) e o) ≡ true → (not marked || voted) ≡ true
-row_step false voted e o p d = refl
-row_step true true e o p d = refl
-row_step true false e (Some v) p d = absurd cc
-row_step true false e None p d = absurd cc
+-- of a row of which nothing is due and whose planned vote is yes or done it is so that it has a vote where it is marked
+row_step : (s : List Line) (marked voted handed : Bool) (e : EnlNo) → voted_well (planned_vote s e.value) ≡ true
+    → is_none (reply_step e (planned_reply s e.value (open_note (marked && not voted) handed))) ≡ true → (not marked || voted) ≡ true
+row_step s false voted handed e p d = refl
+row_step s true true handed e p d = refl
+row_step s true false handed e p d = planned e (planned_vote s e.value) p d
+  where
+    planned : (e : EnlNo) (o : Option Vote) → voted_well o ≡ true → is_none (reply_step e (vote_reply o)) ≡ true → (false || false) ≡ true
+    planned e (Some v) p d = absurd cc
+    planned e None p d = absurd cc
 
--- where each plan is yes or done and no reply is due, each marked row has a vote
-each_answered : (s : List Line) (h : List Entry) → CanCommit s h → filter_map (due_reply s) (rows h) ≡ [] → each has_answered (rows h) ≡ true
+-- and it wasn't handed the commit where it plans to answer committed
+hand_step : (s : List Line) (asked handed : Bool) (e : EnlNo) → voted_well (planned_vote s e.value) ≡ true → is_committed (planned_owner s e.value) ≡ true
+    → is_none (reply_step e (planned_reply s e.value (open_note asked handed))) ≡ true → handed ≡ false
+hand_step s true handed e p o d = vote e handed (planned_vote s e.value) p d
+  where
+    vote : (e : EnlNo) (b : Bool) (o : Option Vote) → voted_well o ≡ true → is_none (reply_step e (vote_reply o)) ≡ true → b ≡ false
+    vote e b (Some v) p d = absurd cc
+    vote e b None p d = absurd cc
+hand_step s false false e p o d = refl
+hand_step s false true e p o d = owner e (planned_owner s e.value) o d
+  where
+    owner : (e : EnlNo) (o : Option Outcome) → is_committed o ≡ true → is_none (reply_step e (owner_reply o)) ≡ true → true ≡ false
+    owner e (Some x) p d = absurd cc
+    owner e None p d = absurd cc
+
+-- the reply that is due of the row where nothing is decided and nothing is lost
+abbrev pub open_reply : List Line → List Entry → Enlistment → Option Step
+open_reply s h x = reply_step x.0 (planned_reply s x.0.value (open_note (is_marked x && not (has_voted x)) (is_handed (latest handed_of h) x.0.value)))
+
+-- an enlistment that is lost is a loss
+lost_loss : (e : ℕ) (x : Entry) → is_lost e x ≡ true → is_loss x ≡ true
+lost_loss e (Lost f) k = refl
+lost_loss e _ k = absurd cc
+
+-- where nothing is decided and nothing is lost, that reply is due
+reply_open : (s : List Line) (h : List Entry) (x : Enlistment) → ruled h ≡ true → latest decision_of h ≡ None → has is_loss h ≡ false → due_reply s (observe h) x ≡ open_reply s h x
+unfolding observe
+reply_open s h x r d l =
+    let here : is_gone (observe h) x.0.value ≡ false = lost_seen x.0.value h r ∙ has_less (is_lost x.0.value) is_loss (lost_loss x.0.value) h l in
+    ap (λ b. reply_step x.0 (planned_reply s x.0.value (if b then None else open_note (is_marked x && not (has_voted x)) (is_handed (latest handed_of h) x.0.value))))
+    (or_false (is_some (latest decision_of h)) (is_gone (observe h) x.0.value) (ap is_some d) here)
+
+-- where no reply is due, none is of any row
+none_due : (s : List Line) (h : List Entry) → ruled h ≡ true → latest decision_of h ≡ None → has is_loss h ≡ false → due_replies s (observe h) ≡ []
+    → each (λ x. is_none (open_reply s h x)) (rows h) ≡ true
+unfolding observe
+none_due s h r d l e =
+    each_more (λ x. is_none (due_reply s (observe h) x)) (λ x. is_none (open_reply s h x)) (λ x k. ap is_none (sym (reply_open s h x r d l)) ∙ k) (rows h)
+    (each_none (due_reply s (observe h)) (rows h) e)
+
+-- each row is willing
+each_planned : (s : List Line) (h : List Entry) → CanCommit s h → each (λ x. is_willing s x.0.value x.1.class) (rows h) ≡ true
+each_planned s h c = each_rows (λ e k. is_willing s e.value k) h ∙ c.willing
+
+-- where each is willing and no reply is due, each marked row has a vote
+each_answered : (s : List Line) (h : List Entry) → CanCommit s h → each (λ x. is_none (open_reply s h x)) (rows h) ≡ true → each has_answered (rows h) ≡ true
 each_answered s h c d =
-    let planned : each (λ x. voted_well (planned_vote s x.0.value)) (rows h) ≡ true = each_rows (λ e k. voted_well (planned_vote s e.value)) h ∙ c.willing in
-    each_both (λ x. voted_well (planned_vote s x.0.value)) (λ x. is_none (due_reply s x)) has_answered
-    (λ x. row_step (is_marked x) (has_voted x) x.0 (planned_vote s x.0.value)) (rows h) planned (each_none (due_reply s) (rows h) d)
+    each_both (λ x. is_willing s x.0.value x.1.class) (λ x. is_none (open_reply s h x)) has_answered
+    (λ x w n. row_step s (is_marked x) (has_voted x) (is_handed (latest handed_of h) x.0.value) x.0 (first_of_three (voted_well (planned_vote s x.0.value)) _ _ w) n) (rows h) (each_planned s h c) d
+
+-- a row that can own the commit and is willing, and of which no reply is due, wasn't handed it
+still : (s : List Line) (h : List Entry) (x : Enlistment) → is_willing s x.0.value x.1.class ≡ true → is_none (open_reply s h x) ≡ true
+    → (not (can_own x.1.class) || not (is_handed (latest handed_of h) x.0.value)) ≡ true
+still s h x w n = step (can_own x.1.class) (not (is_handed (latest handed_of h) x.0.value)) (λ o. bare o)
+  where
+    step : (b c : Bool) → (b ≡ true → c ≡ true) → (not b || c) ≡ true
+    step true c f = f refl
+    step false c f = refl
+
+    bare : can_own x.1.class ≡ true → not (is_handed (latest handed_of h) x.0.value) ≡ true
+    bare o =
+        not_false (is_handed (latest handed_of h) x.0.value)
+        (hand_step s (is_marked x && not (has_voted x)) (is_handed (latest handed_of h) x.0.value) x.0 (first_of_three (voted_well (planned_vote s x.0.value)) _ _ w)
+        (owner_willing (voted_well (planned_vote s x.0.value)) (is_committed (planned_owner s x.0.value)) (not (is_promotable x.1.class) || is_granted (planned_promotion s x.0.value)) x.1.class o w) n)
+
+-- where each is willing and no reply is due, the commit isn't handed over
+none_handed : (s : List Line) (h : List Entry) → ruled h ≡ true → CanCommit s h → each (λ x. is_none (open_reply s h x)) (rows h) ≡ true → is_some (latest handed_of h) ≡ false
+none_handed s h r c d =
+    let each_still : each (λ x. not (can_own x.1.class) || not (is_handed (latest handed_of h) x.0.value)) (rows h) ≡ true =
+    each_both (λ x. is_willing s x.0.value x.1.class) (λ x. is_none (open_reply s h x)) (λ x. not (can_own x.1.class) || not (is_handed (latest handed_of h) x.0.value))
+    (still s h) (rows h) (each_planned s h c) d in
+    let of_each = sym (each_rows (λ e k. not (can_own k) || not (is_handed (latest handed_of h) e.value)) h) ∙ each_still in
+    refuted (is_some (latest handed_of h))
+    (λ k. let w = hand_name h (sym (any_hand_seen h) ∙ k) in
+    let none = only_passes (λ x. not (can_own x.1) || not (is_handed (latest handed_of h) x.0.value)) (λ n. not (is_handed (latest handed_of h) n))
+    (λ x o f. step (can_own x.1) (not (is_handed (latest handed_of h) x.0.value)) o f) w.0 (enlisted h) (hand_stands w.0 h r w.1).alone of_each in
+    not_both (is_handed (latest handed_of h) w.0) (hand_seen w.0 h r ∙ w.1) (not_true (is_handed (latest handed_of h) w.0) none))
+  where
+    step : (b c : Bool) → b ≡ true → (not b || c) ≡ true → c ≡ true
+    step true c e k = k
+    step false c e k = absurd cc
 
 -- where each marked row has a vote, each that was marked before any place has
 answered_before : (n : ℕ) (xs : List Enlistment) → each has_answered xs ≡ true → voted_before n xs ≡ true
@@ -185,35 +355,46 @@ zero_stuck (Some q) over e = absurd cc
 zero_stuck None true e = absurd cc
 zero_stuck None false e = (refl, refl)
 
--- where nothing comes behind the seal, nobody is to be asked and some haven't voted
-seal_stuck : (q : Option EnlNo) (voted : Bool) → behind_seal q voted ≡ [] → (q ≡ None) × (voted ≡ false)
-seal_stuck (Some q) voted e = absurd cc
-seal_stuck None true e = absurd cc
-seal_stuck None false e = (refl, refl)
+-- where nothing comes behind the seal, nobody is to be asked, and where all voted nothing comes to commit
+seal_stuck : (q : Option EnlNo) (voted : Bool) (commit : List Entry) → behind_seal q voted commit ≡ [] → (q ≡ None) × (voted ≡ true → commit ≡ [])
+seal_stuck (Some q) voted commit e = absurd cc
+seal_stuck None true commit e = (refl, λ k. e)
+seal_stuck None false commit e = (refl, λ k. absurd cc)
+
+-- where nothing comes to commit, the commit was handed over
+commit_stuck : (handed : Bool) (owner : Option EnlNo) → commit_act handed owner ≡ [] → handed ≡ true
+commit_stuck true owner e = refl
+commit_stuck false (Some f) e = absurd cc
+commit_stuck false None e = absurd cc
 
 -- by cases: it is sealed, or it isn't
 by_seal : {C : Type 0} (s : List Line) (h : List Entry) (commit sealed : Bool) → has is_sealed h ≡ sealed → commit ≡ true → ruled h ≡ true → CanCommit s h
-    → each has_answered (rows h) ≡ true
-    → undecided_act commit sealed (before_seal (next_ask (rows h) true) (is_over (rows h) (clone_rows h) 0)) (behind_seal (next_ask (rows h) false) (all_voted (rows h))) ≡ [] → C
+    → each has_answered (rows h) ≡ true → is_some (latest handed_of h) ≡ false
+    → undecided_act commit sealed (before_seal (next_ask (rows h) true) (is_over (rows h) (clone_rows h) 0))
+    (behind_seal (next_ask (rows h) false) (all_voted (rows h)) (commit_act (is_some (latest handed_of h)) (owner_of (rows h)))) ≡ [] → C
 unfolding is_over
-by_seal s h false sealed k c r can a e = absurd cc
-by_seal s h true false k c r can a e =
+by_seal s h false sealed k c r can a u e = absurd cc
+by_seal s h true false k c r can a u e =
     let stuck = zero_stuck (next_ask (rows h) true) (is_over (rows h) (clone_rows h) 0) e in
     let closed : has is_open_block (clone_rows h) ≡ false = open_blocks h r ∙ none_open (λ c. blocks c.1) (is_complete h) (all_of clone_of h) can.completed in
     let over : is_over (rows h) (clone_rows h) 0 ≡ true = rw (zeros_done (rows h) a stuck.0, closed) refl in
     absurd (not_both (is_over (rows h) (clone_rows h) 0) over stuck.1)
-by_seal s h true true k c r can a e =
-    let stuck = seal_stuck (next_ask (rows h) false) (all_voted (rows h)) e in
-    absurd (not_both (all_voted (rows h)) (ones_done (rows h) a (zeros_seen h r ∙ sealed_zeros h r k) stuck.0) stuck.1)
+by_seal s h true true k c r can a u e =
+    let stuck = seal_stuck (next_ask (rows h) false) (all_voted (rows h)) (commit_act (is_some (latest handed_of h)) (owner_of (rows h))) e in
+    let voted = ones_done (rows h) a (zeros_seen h r ∙ sealed_zeros h r k) stuck.0 in
+    absurd (not_both (is_some (latest handed_of h)) (commit_stuck (is_some (latest handed_of h)) (owner_of (rows h)) (stuck.1 voted)) u)
 
 -- by cases: it was decided, or nothing was
-by_decision : (s : List Line) (h : List Entry) (d : Option Outcome) → ruled h ≡ true → CanCommit s h
-    → act_by d (observe h) ≡ [] → (if is_some d then [] else filter_map (due_reply s) (rows h)) ≡ [] → has (is_client_told Committed) h ≡ true
+by_decision : (s : List Line) (h : List Entry) (d : Option Outcome) → latest decision_of h ≡ d → ruled h ≡ true → each (is_planned s) h ≡ true → CanCommit s h
+    → act_by d (observe h) ≡ [] → due_replies s (observe h) ≡ [] → has (is_client_told Committed) h ≡ true
 unfolding observe
-by_decision s h (Some x) r can a d = client_committed h r can.unvetoed (told_all x (find (is_to_tell (rows h)) (observe h).listeners) (latest client_told_of h) a)
-by_decision s h None r can a d = by_seal s h (has is_commit h) (has is_sealed h) refl can.asked r can (each_answered s h can d) a
+by_decision s h (Some x) f r p can a d =
+    client_committed h (latest client_told_of h) r can.unvetoed (no_doubt s h r p can) refl (told_all x (find (is_to_tell (observe h) x) (observe h).listeners) (latest client_told_of h) a)
+by_decision s h None f r p can a d =
+    let none = none_due s h r f can.unlost d in
+    by_seal s h (has is_commit h) (has is_sealed h) refl can.asked r can (each_answered s h can none) (none_handed s h r can none) a
 
--- a settled history that keeps the rules and can commit: its client was told that it is committed
-pub settled_committed : (s : List Line) (h : List Entry) → ruled h ≡ true → Settled s h → CanCommit s h → has (is_client_told Committed) h ≡ true
+-- a settled history that keeps the rules, in which owners answer as planned, and that can commit: its client was told that it is committed
+pub settled_committed : (s : List Line) (h : List Entry) → ruled h ≡ true → each (is_planned s) h ≡ true → Settled s h → CanCommit s h → has (is_client_told Committed) h ≡ true
 unfolding observe act_entries
-settled_committed s h r e can = by_decision s h (latest decision_of h) r can (settled_act s h e) (settled_replies s h e)
+settled_committed s h r p e can = by_decision s h (latest decision_of h) refl r p can (settled_act s h e) (settled_replies s h e)

@@ -24,6 +24,10 @@ apart p a b h k = step (a == b) refl
 pub first_of_three : (a b c : Bool) → (a && b && c) ≡ true → a ≡ true
 first_of_three a b c k = and_left a b (and_left (a && b) c k)
 
+-- where all of three hold, the second does
+pub second_of_three : (a b c : Bool) → (a && b && c) ≡ true → b ≡ true
+second_of_three a b c k = and_right a b (and_left (a && b) c k)
+
 -- where all of four hold, the first does
 pub first_of_four : (a b c d : Bool) → (a && b && c && d) ≡ true → a ≡ true
 first_of_four a b c d k = first_of_three a b c (and_left (a && b && c) d k)
@@ -44,6 +48,31 @@ fourth_of_four a b c d k = and_right (a && b && c) d k
 pub four_hold : (a b c d : Bool) → a ≡ true → b ≡ true → c ≡ true → d ≡ true → (a && b && c && d) ≡ true
 four_hold a b c d p q r s = and_both (a && b && c) d (three_hold a b c p q r) s
 
+-- where all of five hold, the first does
+pub first_of_five : (a b c d e : Bool) → (a && b && c && d && e) ≡ true → a ≡ true
+first_of_five a b c d e k = first_of_four a b c d (and_left (a && b && c && d) e k)
+
+-- where all of five hold, the second does
+pub second_of_five : (a b c d e : Bool) → (a && b && c && d && e) ≡ true → b ≡ true
+second_of_five a b c d e k = second_of_four a b c d (and_left (a && b && c && d) e k)
+
+-- where all of five hold, the third does
+pub third_of_five : (a b c d e : Bool) → (a && b && c && d && e) ≡ true → c ≡ true
+third_of_five a b c d e k = third_of_four a b c d (and_left (a && b && c && d) e k)
+
+-- where all of five hold, the fourth does
+pub fourth_of_five : (a b c d e : Bool) → (a && b && c && d && e) ≡ true → d ≡ true
+fourth_of_five a b c d e k = fourth_of_four a b c d (and_left (a && b && c && d) e k)
+
+-- where each of five holds, all hold
+pub five_hold : (a b c d e : Bool) → a ≡ true → b ≡ true → c ≡ true → d ≡ true → e ≡ true → (a && b && c && d && e) ≡ true
+five_hold a b c d e p q r s t = and_both (a && b && c && d) e (four_hold a b c d p q r s) t
+
+-- where the first of two holds, one holds
+pub or_left : (a b : Bool) → a ≡ true → (a || b) ≡ true
+or_left true b k = refl
+or_left false b k = absurd cc
+
 -- where the first or the third of three holds, one holds
 pub or_between : (a b c : Bool) → (a || c) ≡ true → (a || (b || c)) ≡ true
 or_between true b c k = refl
@@ -53,3 +82,8 @@ or_between false b c k = or_right b c k
 pub refuted : (b : Bool) → (b ≡ true → ⊥) → b ≡ false
 refuted true f = absurd (f refl)
 refuted false f = refl
+
+-- a test that can't be false is true
+pub held : (b : Bool) → (b ≡ false → ⊥) → b ≡ true
+held true f = refl
+held false f = absurd (f refl)

@@ -1,7 +1,7 @@
 use Rattle.outcome_law.proofs.TableRows.{each_rows, each_clones, clone_seen}
 use Rattle.outcome_law.proofs.Waves.{row_is_seen}
 use Rattle.outcome_law.proofs.Calls.{evidence_seen}
-use Rattle.outcome_law.proofs.Blocks.{caused_ruled}
+use Rattle.outcome_law.proofs.Blocks.{caused_kept, caused_ruled}
 use Rattle.outcome_law.proofs.Timely.{caused_timely}
 use Rattle.outcome_law.proofs.tables.Goals as goal
 
@@ -18,7 +18,7 @@ pub returns-clause-clones : goal.returns-clause-clones
 returns-clause-clones c = λ s t h named run k r e. clone_seen h k r (caused_ruled s t h named run) e
 
 pub returns-clause-evidence : goal.returns-clause-evidence
-returns-clause-evidence c = λ s t h named run d. evidence_seen h (caused_ruled s t h named run)
+returns-clause-evidence c = λ s t h named run. evidence_seen h (caused_kept s t h named run)
 
 pub returns-clause-timed : goal.returns-clause-timed
 returns-clause-timed c = λ s t h named run. caused_timely s t h run

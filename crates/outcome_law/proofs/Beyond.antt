@@ -1,0 +1,63 @@
+-- What the rules leave out: nothing is promoted, nothing is sent or got over a connection, and nobody comes back.
+use Rattle.std.proofs.Common.{◌≡◌, ℕ, Bool, true, List, [], ◌∷◌, refl}
+use Rattle.dtx_values.specs.declared.entry.Entry.{Entry}
+use Rattle.dtx_values.specs.declared.entry.Entry.TheVariants.{Down, Got, Promoted, Promoting, PromotionFailed, Reenlisted}
+use Rattle.dtx_values.specs.declared.message.Conn.TheVariants.{Again}
+use Rattle.dtx_values.specs.declared.script.Line.{Line}
+use Rattle.dtx_model.specs.Words.{always}
+use Rattle.dtx_model.specs.Learned.{is_learned, is_answered, are_answered, is_decided_there, Learned}
+use Rattle.dtx_model.specs.Promotes.{keeps_order, promotes}
+use Rattle.dtx_model.specs.Wires.{MayCross, WireRun}
+use Rattle.dtx_model.proofs.Bools.{and_both}
+use Rattle.outcome_law.proofs.Rule.{rule, ruled, first_rule, other_rules}
+
+-- what keeps its rule keeps the order of a promotion
+order_kept : (s : List Line) (t : ℕ) (h : List Entry) (x : Entry) → rule h x ≡ true → keeps_order s t h x ≡ true
+order_kept s t h (Promoting c) k = absurd cc
+order_kept s t h (Promoted u c) k = absurd cc
+order_kept s t h PromotionFailed k = absurd cc
+order_kept s t h _ k = refl
+
+-- what keeps the rules is promoted in order
+pub ruled_promotes : (s : List Line) (t : ℕ) (h : List Entry) → ruled h ≡ true → promotes s t h ≡ true
+unfolding promotes
+ruled_promotes s t [] r = refl
+ruled_promotes s t (x ∷ h) r =
+    and_both (keeps_order s t h x) (always (keeps_order s t) h) (order_kept s t h x (first_rule x h r)) (ruled_promotes s t h (other_rules x h r))
+
+-- what keeps its rule crosses no connection
+cross_kept : (h : List Entry) (x : Entry) → rule h x ≡ true → MayCross h x
+cross_kept h (Got c d m) k = absurd cc
+cross_kept h (Down c d) k = absurd cc
+cross_kept h _ k = tt
+
+-- what keeps the rules runs over its connections
+pub ruled_wires : (h : List Entry) → ruled h ≡ true → WireRun h
+ruled_wires [] r = tt
+ruled_wires (x ∷ h) r = (cross_kept h x (first_rule x h r), ruled_wires h (other_rules x h r))
+
+-- what keeps its rule behind what keeps its own is told behind no reenlistment
+rightly_told : (h : List Entry) (x : Entry) → ruled h ≡ true → is_learned h x ≡ true
+rightly_told (Got (Again f) d m ∷ h) x r = absurd cc
+rightly_told _ x r = refl
+
+-- what is learned is learned rightly
+ruled_learned : (h : List Entry) → ruled h ≡ true → always is_learned h ≡ true
+ruled_learned [] r = refl
+ruled_learned (x ∷ h) r = and_both (is_learned h x) (always is_learned h) (rightly_told h x (other_rules x h r)) (ruled_learned h (other_rules x h r))
+
+-- what keeps its rule is no reenlistment that waits
+answered_kept : (decided : Bool) (behind h : List Entry) (x : Entry) → rule h x ≡ true → is_answered decided behind x ≡ true
+answered_kept decided behind h (Reenlisted e) k = absurd cc
+answered_kept decided behind h _ k = refl
+
+-- each that came back was told, since nobody came back
+ruled_answered : (decided : Bool) (behind h : List Entry) → ruled h ≡ true → are_answered decided behind h ≡ true
+ruled_answered decided behind [] r = refl
+ruled_answered decided behind (x ∷ h) r =
+    and_both (is_answered decided behind x) (are_answered decided (x ∷ behind) h) (answered_kept decided behind h x (first_rule x h r))
+    (ruled_answered decided (x ∷ behind) h (other_rules x h r))
+
+-- in what keeps the rules whoever came back learns the outcome
+pub ruled_learns : (s : List Line) (h : List Entry) → ruled h ≡ true → Learned s h
+ruled_learns s h r = record { rightly = ruled_learned h r; answered = λ e. ruled_answered (is_decided_there h) [] h r }

@@ -1,0 +1,283 @@
+-- What the rows and the listeners show of the owner of the commit, of who hears of doubt, and of who is lost.
+use Rattle.std.proofs.Common.{◌≡◌, ℕ, ◌==◌, Bool, true, false, ◌&&◌, ◌||◌, List, [], ◌∷◌, map, Option, Some, None, refl, ◌∙◌, ap, sym, subst}
+use Rattle.std.specs.Prelude.{is_some, nat_lt, not, filter, if◌then◌else◌}
+use Rattle.std.proofs.lemmas.Bool.{eqb-true}
+use Rattle.dtx_values.specs.declared.number.EnlNo.{EnlNo}
+use Rattle.dtx_values.specs.declared.entry.Ask.TheVariants.{Prepare}
+use Rattle.dtx_values.specs.declared.entry.Entry.{Entry}
+use Rattle.dtx_values.specs.declared.entry.Entry.TheVariants.{Enlisted, Asked, Voted, Handed, Told, Lost}
+use Rattle.dtx_values.specs.declared.entry.Party.TheVariants.{Enl}
+use Rattle.dtx_values.specs.declared.words.Class.{Class}
+use Rattle.dtx_values.specs.Table.{Enlistment, insert_by, is_of, has_voted, marks, number_of, fresh_row, mark_row, vote_row}
+use Rattle.dtx_model.specs.declared.listener.Listener.{Listener}
+use Rattle.dtx_model.specs.Words.{has, latest}
+use Rattle.dtx_model.specs.Entries.{is_volatile, is_sealed, is_hand, is_any_hand, is_lost, is_vote, is_decision, handed_of}
+use Rattle.dtx_model.specs.Observed.{listener_number, hear, listeners, lose, rows}
+use Rattle.dtx_model.specs.Outcome.{can_own, durables, enlisted, hears_doubt, is_empty, ready}
+use Rattle.dtx_model.specs.Owners.{is_lasting, lasting, only, owner_of}
+use Rattle.dtx_model.specs.Steps.{is_handed, voted}
+use Rattle.dtx_model.specs.Waves.{hears, still_hears}
+use Rattle.dtx_model.proofs.Bools.{and_left, and_right, and_never, or_first, or_second, or_case, not_both, not_true}
+use Rattle.outcome_law.proofs.Tests.{eq_self, fourth_of_four}
+use Rattle.outcome_law.proofs.Scans.{has_more, has_less}
+use Rattle.outcome_law.proofs.Lists.{OfEach, has_kept, if_kept, has-insert}
+use Rattle.outcome_law.proofs.Rule.{is_enlisted, is_only, rule, ruled, first_rule, other_rules}
+use Rattle.outcome_law.proofs.TableRows.{IsRow, rows_seen}
+use Rattle.outcome_law.proofs.Evidence.{hand_any}
+
+-- what some row passes by its number and class, some enlistment passes
+pub has_rows : (f : EnlNo → Class → Bool) (h : List Entry) → has (λ x. f x.0 x.1.class) (rows h) ≡ has (λ x. f x.0 x.1) (enlisted h)
+has_rows f [] = refl
+has_rows f (Enlisted e c ∷ h) = has-insert (λ x. f x.0 x.1.class) number_of (e, fresh_row c (marks (rows h))) (rows h) ∙ ap (λ b. f e c || b) (has_rows f h)
+has_rows f (Asked e Prepare ∷ h) =
+    has_kept (λ x. f x.0 x.1.class) (λ x. if is_of e.value x then (x.0, mark_row (marks (rows h)) x.1) else x)
+    (λ x. if_kept (λ x. f x.0 x.1.class) (is_of e.value x) (x.0, mark_row (marks (rows h)) x.1) x refl) (rows h) ∙ has_rows f h
+has_rows f (Voted e v ∷ h) =
+    has_kept (λ x. f x.0 x.1.class) (λ x. if is_of e.value x then (x.0, vote_row v x.1) else x)
+    (λ x. if_kept (λ x. f x.0 x.1.class) (is_of e.value x) (x.0, vote_row v x.1) x refl) (rows h) ∙ has_rows f h
+has_rows f (x ∷ h) = has_rows f h
+
+-- some of those that pass p pass q where some pass both
+has_filter : {A : Type 0} (q p : A → Bool) (xs : List A) → has q (filter p xs) ≡ has (λ x. q x && p x) xs
+has_filter q p [] = refl
+has_filter q p (x ∷ xs) = step q x (p x) (filter p xs) (has (λ y. q y && p y) xs) (has_filter q p xs)
+  where
+    true_last : (b : Bool) → b ≡ (b && true)
+    true_last true = refl
+    true_last false = refl
+
+    step : {A : Type 0} (q : A → Bool) (x : A) (b : Bool) (ys : List A) (c : Bool) → has q ys ≡ c → has q (if b then x ∷ ys else ys) ≡ ((q x && b) || c)
+    step q x true ys c e = ap (λ d. q x || d) e ∙ ap (λ d. d || c) (true_last (q x))
+    step q x false ys c e = e ∙ sym (ap (λ d. d || c) (and_never (q x)))
+
+-- a volatile that hears the outcome hears of doubt
+pub volatile_hears : (h : List Entry) (e : EnlNo) → hears (rows h) e.value ≡ true → hears_doubt h (Enl e) ≡ true
+unfolding hears
+volatile_hears h e k =
+    has_filter (λ x. e.value == x.0.value) (λ x. is_volatile x.1) (enlisted h)
+    ∙ sym (has_rows (λ f c. (e.value == f.value) && is_volatile c) h)
+    ∙ has_more (λ x. is_of e.value x && is_volatile x.1.class && still_hears x.1.vote) (λ x. is_of e.value x && is_volatile x.1.class)
+    (λ x. and_left (is_of e.value x && is_volatile x.1.class) (still_hears x.1.vote)) (rows h) k
+
+-- none passes: none is picked
+filter_none : {A : Type 0} (p : A → Bool) (xs : List A) → has p xs ≡ false → filter p xs ≡ []
+filter_none p [] h = refl
+filter_none p (x ∷ xs) h = let first : p x ≡ false = or_first (p x) (has p xs) h in rw first (filter_none p xs (or_second (p x) (has p xs) h))
+
+-- where no row is durable or promotable, no enlistment is
+pub none_lasting : (h : List Entry) → has is_lasting (rows h) ≡ false → durables h ≡ []
+none_lasting h k = filter_none (λ x. not (is_volatile x.1)) (enlisted h) (sym (has_rows (λ e c. not (is_volatile c)) h) ∙ k)
+
+-- where no enlistment is durable or promotable, no row is
+lasting_none : (h : List Entry) → durables h ≡ [] → has is_lasting (rows h) ≡ false
+lasting_none h k = has_rows (λ e c. not (is_volatile c)) h ∙ nothing (λ x. not (is_volatile x.1)) (enlisted h) k
+  where
+    step : {A : Type 0} (b : Bool) (x : A) (ys : List A) (c : Bool) → (ys ≡ [] → c ≡ false) → (if b then x ∷ ys else ys) ≡ [] → (b || c) ≡ false
+    step true x ys c f e = absurd cc
+    step false x ys c f e = f e
+
+    nothing : {A : Type 0} (p : A → Bool) (xs : List A) → filter p xs ≡ [] → has p xs ≡ false
+    nothing p [] e = refl
+    nothing p (x ∷ xs) e = step (p x) x (filter p xs) (has p xs) (nothing p xs) e
+
+-- one more at its place that doesn't pass is not picked
+insert_other : {A : Type 0} (p : A → Bool) (key : A → ℕ) (x : A) (xs : List A) → p x ≡ false → filter p (insert_by key x xs) ≡ filter p xs
+insert_other p key x [] f = rw f refl
+insert_other p key x (y ∷ ys) f = step p (nat_lt (key y) (key x)) x y ys (insert_by key x ys) f (insert_other p key x ys f)
+  where
+    step : {A : Type 0} (p : A → Bool) (b : Bool) (x y : A) (ys rest : List A) → p x ≡ false → filter p rest ≡ filter p ys → filter p (if b then y ∷ rest else x ∷ y ∷ ys) ≡ filter p (y ∷ ys)
+    step p true x y ys rest f e = ap (λ zs. if p y then y ∷ zs else zs) e
+    step p false x y ys rest f e = rw f refl
+
+-- one more at its place that alone passes is picked
+insert_alone : {A : Type 0} (p : A → Bool) (key : A → ℕ) (x : A) (xs : List A) → p x ≡ true → has p xs ≡ false → filter p (insert_by key x xs) ≡ x ∷ []
+insert_alone p key x [] t n = rw t refl
+insert_alone p key x (y ∷ ys) t n =
+    step p (nat_lt (key y) (key x)) x y ys (insert_by key x ys) t (or_first (p y) (has p ys) n) (filter_none p ys (or_second (p y) (has p ys) n))
+    (insert_alone p key x ys t (or_second (p y) (has p ys) n))
+  where
+    step : {A : Type 0} (p : A → Bool) (b : Bool) (x y : A) (ys rest : List A) → p x ≡ true → p y ≡ false → filter p ys ≡ [] → filter p rest ≡ x ∷ []
+        → filter p (if b then y ∷ rest else x ∷ y ∷ ys) ≡ x ∷ []
+    step p true x y ys rest t f n e = rw f e
+    step p false x y ys rest t f n e = rw (t, f, n) refl
+
+-- what is picked of changed items is what is made of those picked
+filter-map : {A : Type 0} (p : A → Bool) (f : A → A) → ((x : A) → p (f x) ≡ p x) → (xs : List A) → filter p (map f xs) ≡ map f (filter p xs)
+filter-map p f same [] = refl
+filter-map p f same (x ∷ xs) = ap (λ b. if b then f x ∷ filter p (map f xs) else filter p (map f xs)) (same x) ∙ step f x (p x) (filter p xs) (filter p (map f xs)) (filter-map p f same xs)
+  where
+    step : {A : Type 0} (f : A → A) (x : A) (b : Bool) (ys zs : List A) → zs ≡ map f ys → (if b then f x ∷ zs else zs) ≡ map f (if b then x ∷ ys else ys)
+    step f x true ys zs e = ap (λ l. f x ∷ l) e
+    step f x false ys zs e = e
+
+-- the only one keeps its name
+only-map : (f : Enlistment → Enlistment) → ((x : Enlistment) → (f x).0 ≡ x.0) → (xs : List Enlistment) → only (map f xs) ≡ only xs
+only-map f same [] = refl
+only-map f same (x ∷ []) = ap (λ e. Some e) (same x)
+only-map f same (x ∷ y ∷ xs) = refl
+
+-- one of two of one name has that name
+if_named : (b : Bool) (y x : Enlistment) → y.0 ≡ x.0 → (if b then y else x).0 ≡ x.0
+if_named true y x e = e
+if_named false y x e = refl
+
+-- rows that keep name and class have the same owner
+kept_owner : (f : Enlistment → Enlistment) → ((x : Enlistment) → is_lasting (f x) ≡ is_lasting x) → ((x : Enlistment) → (f x).0 ≡ x.0) → (xs : List Enlistment)
+    → only (lasting (map f xs)) ≡ only (lasting xs)
+kept_owner f same name xs = ap only (filter-map is_lasting f same xs) ∙ only-map f name (lasting xs)
+
+-- the name of the one durable or promotable
+abbrev pub only_of : List (EnlNo × Class) → Option EnlNo
+only_of [] = None
+only_of (x ∷ []) = Some x.0
+only_of (x ∷ y ∷ xs) = None
+
+-- an enlistment that comes is volatile, or it is the first durable or promotable and can own the commit
+pub enlisted_class : (e : EnlNo) (c : Class) (h : List Entry) → rule h (Enlisted e c) ≡ true → (is_volatile c || (can_own c && is_empty (durables h))) ≡ true
+enlisted_class e c h r = fourth_of_four (not (has is_decision h)) (not (has is_sealed h)) (not (has (is_enlisted e.value) h)) _ r
+
+-- what is empty has nothing
+pub empty_list : {A : Type 0} (xs : List A) → is_empty xs ≡ true → xs ≡ []
+empty_list [] e = refl
+empty_list (x ∷ xs) e = absurd cc
+
+-- the owner by the rows is the one durable or promotable of the history
+owner_seen : (h : List Entry) → ruled h ≡ true → owner_of (rows h) ≡ only_of (durables h)
+unfolding owner_of
+owner_seen [] r = refl
+owner_seen (Enlisted e c ∷ h) r = step e c h (enlisted_class e c h (first_rule (Enlisted e c) h r)) (owner_seen h (other_rules (Enlisted e c) h r)) (is_volatile c) refl
+  where
+    step : (e : EnlNo) (c : Class) (h : List Entry) → (is_volatile c || (can_own c && is_empty (durables h))) ≡ true → only (lasting (rows h)) ≡ only_of (durables h)
+        → (b : Bool) → is_volatile c ≡ b → only (lasting (rows (Enlisted e c ∷ h))) ≡ only_of (if not (is_volatile c) then (e, c) ∷ durables h else durables h)
+    step e c h k ih true v = rw v (ap only (insert_other is_lasting number_of (e, fresh_row c (marks (rows h))) (rows h) (ap (λ b. not b) v)) ∙ ih)
+    step e c h k ih false v =
+        let first : (false || (can_own c && is_empty (durables h))) ≡ true = rw v at k in
+        let bare : durables h ≡ [] = empty_list (durables h) (and_right (can_own c) (is_empty (durables h)) first) in
+        rw (v, bare) (ap only (insert_alone is_lasting number_of (e, fresh_row c (marks (rows h))) (rows h) (ap (λ b. not b) v) (lasting_none h bare)))
+owner_seen (Asked e Prepare ∷ h) r =
+    kept_owner (λ x. if is_of e.value x then (x.0, mark_row (marks (rows h)) x.1) else x) (λ x. if_kept is_lasting (is_of e.value x) (x.0, mark_row (marks (rows h)) x.1) x refl)
+    (λ x. if_named (is_of e.value x) (x.0, mark_row (marks (rows h)) x.1) x refl) (rows h) ∙ owner_seen h (other_rules (Asked e Prepare) h r)
+owner_seen (Voted e v ∷ h) r =
+    kept_owner (λ x. if is_of e.value x then (x.0, vote_row v x.1) else x) (λ x. if_kept is_lasting (is_of e.value x) (x.0, vote_row v x.1) x refl)
+    (λ x. if_named (is_of e.value x) (x.0, vote_row v x.1) x refl) (rows h) ∙ owner_seen h (other_rules (Voted e v) h r)
+owner_seen (x ∷ h) r = owner_seen h (other_rules x h r)
+
+-- at most one stands, and it can own the commit
+abbrev pub is_single_owner : List (EnlNo × Class) → Bool
+is_single_owner [] = true
+is_single_owner (x ∷ []) = can_own x.1
+is_single_owner (x ∷ y ∷ xs) = false
+
+-- at most one durable or promotable stands, and it can own the commit
+pub durables_single : (h : List Entry) → ruled h ≡ true → is_single_owner (durables h) ≡ true
+durables_single [] r = refl
+durables_single (Enlisted e c ∷ h) r = step e c (durables h) (is_volatile c) (enlisted_class e c h (first_rule (Enlisted e c) h r)) (durables_single h (other_rules (Enlisted e c) h r))
+  where
+    step : (e : EnlNo) (c : Class) (ds : List (EnlNo × Class)) (v : Bool) → (v || (can_own c && is_empty ds)) ≡ true → is_single_owner ds ≡ true
+        → is_single_owner (if not v then (e, c) ∷ ds else ds) ≡ true
+    step e c ds true k s = s
+    step e c [] false k s = and_left (can_own c) true k
+    step e c (x ∷ xs) false k s = absurd (not_both (can_own c && false) k (and_never (can_own c)))
+durables_single (x ∷ h) r = durables_single h (other_rules x h r)
+
+-- the owner by the rows is the only durable or promotable, and can own the commit
+pub owner_only : (h : List Entry) (e : EnlNo) → ruled h ≡ true → owner_of (rows h) ≡ Some e → is_only e.value (durables h) ≡ true
+owner_only h e r o = step e (durables h) (durables_single h r) (sym (owner_seen h r) ∙ o)
+  where
+    step : (e : EnlNo) (ds : List (EnlNo × Class)) → is_single_owner ds ≡ true → only_of ds ≡ Some e → is_only e.value ds ≡ true
+    step e [] s o = absurd cc
+    step e (x ∷ []) s o = let same : x.0 ≡ e = cc in rw (ap (λ f. f.value) same, eq_self e.value) s
+    step e (x ∷ y ∷ ds) s o = absurd cc
+
+-- where the rows have no owner, nothing is durable or promotable
+pub owner_none : (h : List Entry) → ruled h ≡ true → owner_of (rows h) ≡ None → durables h ≡ []
+owner_none h r o = step (durables h) (durables_single h r) (sym (owner_seen h r) ∙ o)
+  where
+    step : (ds : List (EnlNo × Class)) → is_single_owner ds ≡ true → only_of ds ≡ None → ds ≡ []
+    step [] s o = refl
+    step (x ∷ []) s o = absurd cc
+    step (x ∷ y ∷ ds) s o = absurd cc
+
+-- to whom the commit was handed by what is observed it was handed by the history
+pub hand_seen : (e : ℕ) (h : List Entry) → ruled h ≡ true → is_handed (latest handed_of h) e ≡ has (is_hand e) h
+hand_seen e [] r = refl
+hand_seen e (Handed f ∷ h) r = step (e == f.value) (has (is_hand e) h) (has_less (is_hand e) is_any_hand (hand_any e) h (none_yet f h (first_rule (Handed f) h r)))
+  where
+    none_yet : (f : EnlNo) (h : List Entry) → rule h (Handed f) ≡ true → has is_any_hand h ≡ false
+    none_yet f h k = not_true (has is_any_hand h) (and_right (not (has is_decision h) && has is_sealed h && ready h && is_only f.value (durables h)) (not (has is_any_hand h)) k)
+
+    step : (a b : Bool) → b ≡ false → a ≡ (a || b)
+    step true b e = refl
+    step false b e = sym e
+hand_seen e (x ∷ h) r = hand_seen e h (other_rules x h r)
+
+-- the commit was handed over by what is observed where it was by the history
+pub any_hand_seen : (h : List Entry) → is_some (latest handed_of h) ≡ has is_any_hand h
+any_hand_seen [] = refl
+any_hand_seen (Handed f ∷ h) = refl
+any_hand_seen (x ∷ h) = any_hand_seen h
+
+-- some of the changed items pass the one test where some pass the other
+has_mapped : {A : Type 0} (p q : A → Bool) (f : A → A) → ((x : A) → p (f x) ≡ q x) → (xs : List A) → has p (map f xs) ≡ has q xs
+has_mapped p q f same [] = refl
+has_mapped p q f same (x ∷ xs) = ap (λ b. b || has p (map f xs)) (same x) ∙ ap (λ b. q x || b) (has_mapped p q f same xs)
+
+-- each enlistment is a listener
+listens : (n : ℕ) (h : List Entry) → has (λ l. n == l.enlistment.value) (listeners h) ≡ has (is_enlisted n) h
+listens n [] = refl
+listens n (Enlisted e c ∷ h) =
+    has-insert (λ l. n == l.enlistment.value) listener_number (record { enlistment = e; told = false; lost = false }) (listeners h) ∙ ap (λ b. (n == e.value) || b) (listens n h)
+listens n (Told (Enl e) o ∷ h) = has_kept (λ l. n == l.enlistment.value) (hear e.value) (λ l. refl) (listeners h) ∙ listens n h
+listens n (Lost e ∷ h) = has_kept (λ l. n == l.enlistment.value) (lose e.value) (λ l. refl) (listeners h) ∙ listens n h
+listens n (x ∷ h) = listens n h
+
+-- the listener is lost where its enlistment is
+abbrev pub is_lost_listener : ℕ → Listener → Bool
+is_lost_listener n l = (n == l.enlistment.value) && l.lost
+
+-- a listener is lost where the history says so
+pub lost_seen : (n : ℕ) (h : List Entry) → ruled h ≡ true → has (is_lost_listener n) (listeners h) ≡ has (is_lost n) h
+lost_seen n [] r = refl
+lost_seen n (Enlisted e c ∷ h) r =
+    has-insert (is_lost_listener n) listener_number (record { enlistment = e; told = false; lost = false }) (listeners h)
+    ∙ ap (λ b. b || has (is_lost_listener n) (listeners h)) (and_never (n == e.value)) ∙ lost_seen n h (other_rules (Enlisted e c) h r)
+lost_seen n (Told (Enl e) o ∷ h) r = has_kept (is_lost_listener n) (hear e.value) (λ l. refl) (listeners h) ∙ lost_seen n h (other_rules (Told (Enl e) o) h r)
+lost_seen n (Lost e ∷ h) r =
+    step n e h (and_left (has (is_enlisted e.value) h) (not (has (is_lost e.value) h)) (first_rule (Lost e) h r)) (lost_seen n h (other_rules (Lost e) h r)) (n == e.value) refl
+  where
+    own : (a b : Bool) → (a && (a || b)) ≡ a
+    own true b = refl
+    own false b = refl
+
+    others : (n m k : ℕ) (b : Bool) → (n == m) ≡ false → ((n == k) && ((m == k) || b)) ≡ ((n == k) && b)
+    others n m k b e = distinct (n == k) (m == k) refl refl
+      where
+        distinct : (x y : Bool) → (n == k) ≡ x → (m == k) ≡ y → (x && (y || b)) ≡ (x && b)
+        distinct true true p q = let first : n ≡ k = eqb-true n k p in let second : m ≡ k = eqb-true m k q in absurd (not_both (n == m) (rw (first, second) (eq_self k)) e)
+        distinct true false p q = refl
+        distinct false y p q = refl
+
+    step : (n : ℕ) (e : EnlNo) (h : List Entry) → has (is_enlisted e.value) h ≡ true → has (is_lost_listener n) (listeners h) ≡ has (is_lost n) h → (b : Bool) → (n == e.value) ≡ b
+        → has (is_lost_listener n) (map (lose e.value) (listeners h)) ≡ (b || has (is_lost n) h)
+    step n e h s ih true same =
+        let number : n ≡ e.value = eqb-true n e.value same in
+        has_mapped (is_lost_listener n) (λ l. n == l.enlistment.value) (lose e.value)
+        (λ l. subst (λ m. ((n == l.enlistment.value) && ((m == l.enlistment.value) || l.lost)) ≡ (n == l.enlistment.value)) number (own (n == l.enlistment.value) l.lost)) (listeners h)
+        ∙ listens n h ∙ subst (λ m. has (is_enlisted m) h ≡ true) (sym number) s
+    step n e h s ih false other =
+        has_kept (is_lost_listener n) (lose e.value) (λ l. others n e.value l.enlistment.value l.lost other) (listeners h) ∙ ih
+lost_seen n (x ∷ h) r = lost_seen n h (other_rules x h r)
+
+-- an enlistment whose row has no vote didn't vote
+pub unvoted_seen : (h : List Entry) (e : ℕ) → ruled h ≡ true → has (is_of e) (rows h) ≡ true → voted (rows h) e ≡ false → has (is_vote e) h ≡ false
+unvoted_seen h e r s v = of_row h e (rows h) (rows_seen h r) s v
+  where
+    of_row : (h : List Entry) (e : ℕ) (xs : List Enlistment) → OfEach (IsRow h) xs → has (is_of e) xs ≡ true → has (λ x. is_of e x && has_voted x) xs ≡ false → has (is_vote e) h ≡ false
+    of_row h e [] w s v = absurd cc
+    of_row h e (x ∷ xs) w s v =
+        or_case (is_of e x) (has (is_of e) xs)
+        (λ k. let same : e ≡ x.0.value = eqb-true e x.0.value k in
+        let none : (is_of e x && has_voted x) ≡ false = or_first (is_of e x && has_voted x) (has (λ x. is_of e x && has_voted x) xs) v in
+        let unvoted : has_voted x ≡ false = rw k at none in
+        rw same (sym w.0.voted ∙ unvoted))
+        (λ k. of_row h e xs w.1 k (or_second (is_of e x && has_voted x) (has (λ x. is_of e x && has_voted x) xs) v)) s
