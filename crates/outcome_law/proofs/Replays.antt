@@ -20,7 +20,7 @@ use Rattle.dtx_model.specs.Entries.{is_call}
 use Rattle.dtx_model.specs.Outcome.{is_empty}
 use Rattle.dtx_model.specs.Observed.{Observed, observe}
 use Rattle.dtx_model.specs.Scopes.{ScopeEntry, Opens, Finishes, Closes}
-use Rattle.dtx_model.specs.Steps.{Step, Calls, Replies, Acts, call_of, answer, is_fine, facts, facts_if, block, pending}
+use Rattle.dtx_model.specs.Steps.{Step, Calls, Replies, Acts, call_of, answer, is_done, facts, facts_if, block, pending}
 use Rattle.dtx_model.specs.Contexts.{scope_answer, scope_entries, scope_calls, scopes_of, written, called_with, scope_block, context, lines_before, calls_by}
 use Rattle.dtx_model.specs.Caused.{IsCallOf, MayAnswer, MayCome, Caused, is_new}
 use Rattle.dtx_model.specs.Grammar.{are_named_well}
@@ -109,8 +109,8 @@ calls-at p T (x ∷ es) h =
 other_call : (n m : ℕ) (a : ActorNo) (c : Call) (d : ℕ) (o : Observed) → (n == m) ≡ false → has (is_call n) (block o (Calls m a c d)) ≡ false
 unfolding block
 other_call n m a c d o e =
-    let es = facts_if (is_fine (answer o c d)) (facts o c) in
-    or_false (n == m) (has (is_call n) es) e (not_this_call n es (facts_not_called o c (is_fine (answer o c d))))
+    let es = facts_if (is_done (answer o c d)) (facts o c) in
+    or_false (n == m) (has (is_call n) es) e (not_this_call n es (facts_not_called o c (is_done (answer o c d))))
 
 -- the step of a call leaves each history without the call of any other line
 call_uncalled : (n m u : ℕ) (a : ActorNo) (t : TxNo) (c : Call) (d : ℕ) (T : List Placed) → (n == m) ≡ false
@@ -125,7 +125,7 @@ unfolding block
 call_counted m a t c d T =
     let o = observe (history t.value T) in
     let y = answer o c d in
-    calls-at (Transaction t) ((Transaction t, Called m a y) ∷ T) (facts_if (is_fine y) (facts o c)) (facts_not_called o c (is_fine y))
+    calls-at (Transaction t) ((Transaction t, Called m a y) ∷ T) (facts_if (is_done y) (facts o c)) (facts_not_called o c (is_done y))
 
 -- the steps of a `do` or an `await` keep each history caused
 steps_caused : (s : List Line) (t : TxNo) (k m : ℕ) (start T : List Placed) → AllCaused s start → StepsRan s t k m start T → AllCaused s T

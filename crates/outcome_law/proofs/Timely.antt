@@ -14,7 +14,7 @@ use Rattle.dtx_model.specs.Words.{has, each, always, latest, onto}
 use Rattle.dtx_model.specs.Entries.{began_of}
 use Rattle.dtx_model.specs.Observed.{observe, clock, clone_rows}
 use Rattle.dtx_model.specs.Seen.{is_clock_from, is_first_over, is_behind_first, is_timely}
-use Rattle.dtx_model.specs.Steps.{Step, Calls, Replies, Acts, answer, is_fine, veto_if, ticked, reaches, is_late, time_up, facts, facts_if, block}
+use Rattle.dtx_model.specs.Steps.{Step, Calls, Replies, Acts, answer, is_done, veto_if, ticked, reaches, is_late, time_up, facts, facts_if, block}
 use Rattle.dtx_model.specs.Caused.{Ran, Caused}
 use Rattle.dtx_model.proofs.Bools.{and_left, and_right, and_both, or_false, not_false}
 use Rattle.outcome_law.proofs.Pending.{is_deed, veto_deed, block_deed}
@@ -101,7 +101,7 @@ call_on h n a y _ true r = r
 -- the block of a step is on time
 step_on : (h : List Entry) (m : Step) → all_on_time h ≡ true → all_on_time (onto h (block (observe h) m)) ≡ true
 unfolding block
-step_on h (Calls n a c m) r = call_on h n a (answer (observe h) c m) c (is_fine (answer (observe h) c m)) r
+step_on h (Calls n a c m) r = call_on h n a (answer (observe h) c m) c (is_done (answer (observe h) c m)) r
 step_on h (Replies e y) r = deeds_on h (block (observe h) (Replies e y)) (block_deed (observe h) (Replies e y) refl) r
 step_on h Acts r = deeds_on h (block (observe h) Acts) (block_deed (observe h) Acts refl) r
 
