@@ -9,6 +9,7 @@ pub mod Rules
 pub mod Pending
 pub mod ScopeCalls
 pub mod Names
+pub mod Lasting
 pub mod Going
 pub mod Calls
 pub mod Acts
