@@ -21,3 +21,5 @@ pub mod Replays
 pub mod Examples
 pub mod ReplayExample
 pub mod ScopeExample
+pub mod OwnerExample
+pub mod LossExample
