@@ -1,5 +1,5 @@
 -- A replay of a script whose owner is lost behind the handing of the commit, and histories with losses, good and bad. Each stands oldest first.
-use Rattle.std.proofs.Common.{◌≡◌, ℕ, Bool, true, false, List, [], ◌∷◌, ◌++◌, refl, arith, lit≤}
+use Rattle.std.proofs.Common.{◌≡◌, true, false, List, [], ◌∷◌, ◌++◌, refl, arith, lit≤}
 use Rattle.dtx_values.specs.declared.entry.Answer.TheVariants.{Fine, Did, OutcomeIs}
 use Rattle.dtx_values.specs.declared.entry.Ask.TheVariants.{Prepare}
 use Rattle.dtx_values.specs.declared.entry.Entry.{Entry}
@@ -14,11 +14,11 @@ use Rattle.dtx_model.specs.Words.{past_of}
 use Rattle.dtx_model.specs.Waves.{next_ask, is_over, hears}
 use Rattle.dtx_model.specs.Observed.{observe}
 use Rattle.dtx_model.specs.Owners.{may_own, owner_of}
-use Rattle.dtx_model.specs.Outcome.{ready, by_seal, by_owner, by_log, evidence, vetoed, owner_doubt, coordinator_doubt, doubt, may_tell, justified, agree}
+use Rattle.dtx_model.specs.Outcome.{ready, by_seal, by_owner, by_log, evidence, vetoed, owner_doubt, coordinator_doubt, doubt, may_tell, justified}
 use Rattle.dtx_model.specs.Steps.{Acts, answer, act_entries, block, pending}
 use Rattle.dtx_model.specs.Caused.{Caused}
-use Rattle.dtx_model.specs.Replay.{StepsRan, HasDone, HasSettled, LinesRan, IsReplayed}
-use Rattle.outcome_law.proofs.Examples.{a1, e1, e2, just_in, agree_in, handed_e2}
+use Rattle.dtx_model.specs.Replay.{HasDone, HasSettled, LinesRan, IsReplayed}
+use Rattle.outcome_law.proofs.Examples.{a1, e1, e2, just_in, handed_e2}
 use Rattle.outcome_law.proofs.ReplayExample.{t1, at_t1}
 use Rattle.outcome_law.proofs.OwnerExample.{begin_line, promotable_line, commit_line, await_line, owner_joined}
 use Rattle.outcome_law.proofs.Replays.{replayed_caused}
@@ -96,8 +96,12 @@ pub losing_is_just : just_in losing_whole ≡ true
 unfolding justified may_tell doubt owner_doubt coordinator_doubt
 losing_is_just = refl
 
--- a volatile may hear that it is in doubt too
-pub volatile_hears_doubt : just_in (Began 600000 ∷ Enlisted e1 One ∷ Enlisted e2 DurableSingle ∷ CommitAsked ∷ Sealed ∷ Asked e1 Prepare ∷ Voted e1 Yes ∷ Handed e2 ∷ Lost e2 ∷ Decided InDoubt ∷ Told (Enl e1) InDoubt ∷ []) ≡ true
+-- a volatile that voted beside an owner, which is lost behind the handing
+abbrev pub lost_beside_e1 : List Entry
+lost_beside_e1 = Began 600000 ∷ Enlisted e1 One ∷ Enlisted e2 DurableSingle ∷ CommitAsked ∷ Sealed ∷ Asked e1 Prepare ∷ Voted e1 Yes ∷ Handed e2 ∷ Lost e2 ∷ []
+
+-- the volatile may hear that it is in doubt too
+pub volatile_hears_doubt : just_in (lost_beside_e1 ++ Decided InDoubt ∷ Told (Enl e1) InDoubt ∷ []) ≡ true
 unfolding justified may_tell doubt owner_doubt coordinator_doubt
 volatile_hears_doubt = refl
 

@@ -1,5 +1,5 @@
 -- A replay of a script with an owner of the commit, and histories with owners, good and bad. Each stands oldest first.
-use Rattle.std.proofs.Common.{◌≡◌, ℕ, Bool, true, false, List, [], ◌∷◌, ◌++◌, Some, refl, lit≤}
+use Rattle.std.proofs.Common.{◌≡◌, true, false, List, [], ◌∷◌, ◌++◌, Some, refl, lit≤}
 use Rattle.dtx_values.specs.declared.number.RmNo.{RmNo}
 use Rattle.dtx_values.specs.declared.entry.Answer.TheVariants.{Fine, True, OutcomeIs}
 use Rattle.dtx_values.specs.declared.entry.Ask.TheVariants.{Prepare}
