@@ -10,6 +10,7 @@ pub mod Owned
 pub mod Pending
 pub mod ScopeCalls
 pub mod Names
+pub mod Lasting
 pub mod Going
 pub mod Calls
 pub mod Acts
@@ -23,3 +24,5 @@ pub mod Replays
 pub mod Examples
 pub mod ReplayExample
 pub mod ScopeExample
+pub mod OwnerExample
+pub mod LossExample

@@ -1,17 +1,19 @@
 -- Names are made once: what the call of a line makes is new in each history where that line wasn't called yet.
-use Rattle.std.proofs.Common.{◌≡◌, ℕ, zero, suc, ◌==◌, Bool, true, false, ◌||◌, inl, inr, List, [], ◌∷◌, Option, Some, None, refl, arith, ◌∙◌, ap, sym, subst}
-use Rattle.std.specs.Prelude.{not, if◌then◌else◌}
+use Rattle.std.proofs.Common.{◌≡◌, ℕ, zero, suc, ◌==◌, Bool, true, false, ◌&&◌, ◌||◌, inl, inr, List, [], ◌∷◌, Option, Some, None, refl, arith, ◌∙◌, ap, sym, subst}
+use Rattle.std.specs.Prelude.{is_some, not, if◌then◌else◌}
 use Rattle.std.specs.List.{slice_get}
 use Rattle.std.proofs.lemmas.Bool.Decides.{nat_tests}
 use Rattle.dtx_values.specs.declared.number.ActorNo.{ActorNo}
 use Rattle.dtx_values.specs.declared.number.CloneNo.{CloneNo}
+use Rattle.dtx_values.specs.declared.number.EnlNo.{EnlNo}
 use Rattle.dtx_values.specs.declared.number.TxNo.{TxNo}
 use Rattle.dtx_values.specs.declared.call.Call.{Call}
-use Rattle.dtx_values.specs.declared.call.Call.TheVariants.{Volatile, Clone, Commit, Tick}
+use Rattle.dtx_values.specs.declared.call.Call.TheVariants.{Volatile, Durable, Promotable, Clone, Commit, Tick, Gone}
+use Rattle.dtx_values.specs.declared.entry.Answer.{Answer}
 use Rattle.dtx_values.specs.declared.entry.Entry.{Entry}
 use Rattle.dtx_values.specs.declared.entry.Entry.TheVariants.{Called, Cloned, Enlisted}
 use Rattle.dtx_values.specs.declared.script.Body.{Body}
-use Rattle.dtx_values.specs.declared.script.Body.TheVariants.{Volatile as VolatileLine, Clone as CloneLine, Complete as CompleteLine}
+use Rattle.dtx_values.specs.declared.script.Body.TheVariants.{Volatile as VolatileLine, Durable as DurableLine, Promotable as PromotableLine, Clone as CloneLine, Complete as CompleteLine, Gone as GoneLine}
 use Rattle.dtx_values.specs.declared.script.Line.{Line}
 use Rattle.dtx_values.specs.Table.{is_of}
 use Rattle.dtx_values.specs.Clones.{is_clone, is_open_rollback}
@@ -19,7 +21,7 @@ use Rattle.dtx_model.specs.Words.{has, each, always, kth, onto}
 use Rattle.dtx_model.specs.Entries.{is_call}
 use Rattle.dtx_model.specs.Observed.{Observed, observe, rows, clone_rows}
 use Rattle.dtx_model.specs.Contexts.{calls_by, lines_before}
-use Rattle.dtx_model.specs.Steps.{Step, Calls, Replies, Acts, call_of, complete_call, transaction_of, answer, is_fine, facts, facts_if, veto_if, reaches, ticked, time_up, is_late, block}
+use Rattle.dtx_model.specs.Steps.{Step, Calls, Replies, Acts, call_of, complete_call, transaction_of, gone_call, transaction_with, answer, is_done, facts, facts_if, veto_if, reaches, ticked, time_up, is_late, is_handed, voted, lost_outcome, decided_if, block}
 use Rattle.dtx_model.specs.Caused.{IsCallOf, MayCome, Ran, Caused, is_new}
 use Rattle.dtx_model.specs.Grammar.{Name, OfTransaction, OfEnlistment, OfClone, OfScope, same_name, makes, is_made, is_named_well, are_named_well}
 use Rattle.dtx_model.proofs.Bools.{and_left, and_right, or_right, or_case, not_true, not_false, not_both}
@@ -28,7 +30,7 @@ use Rattle.outcome_law.proofs.Rule.{is_enlisted, is_cloned}
 use Rattle.outcome_law.proofs.Scans.{none_more}
 use Rattle.outcome_law.proofs.Tests.{eq_self}
 use Rattle.outcome_law.proofs.TableRows.{enlisted_in_rows, clone_stands}
-use Rattle.outcome_law.proofs.Pending.{is_plain, veto_plain, time_plain, block_plain}
+use Rattle.outcome_law.proofs.Pending.{is_plain, veto_plain, time_plain, decided_plain, block_plain}
 use Rattle.outcome_law.proofs.ScopeCalls.{is_scope_call, given_call}
 
 -- the line makes this name
@@ -38,6 +40,8 @@ is_maker x l = has (λ m. same_name x m) (makes l.body)
 -- the call makes this name
 abbrev pub call_makes : Name → Call → Bool
 call_makes x (Volatile t e o v) = same_name x (OfEnlistment e.value)
+call_makes x (Durable t e r s) = same_name x (OfEnlistment e.value)
+call_makes x (Promotable t e r v o p) = same_name x (OfEnlistment e.value)
 call_makes x (Clone t c k) = same_name x (OfClone c.value)
 call_makes x _ = false
 
@@ -114,10 +118,17 @@ line_makes s x b t c e k = by_body s x b (subst (λ o. passed x o ≡ true) (sym
     by_clone x c (Some t) h = cc
     by_clone x c None h = cc
 
+    by_enlistment : (x : Name) (e : EnlNo) (o : Option TxNo) → passed x (gone_call e o) ≡ true → ⊥
+    by_enlistment x e (Some t) h = cc
+    by_enlistment x e None h = cc
+
     by_body : (s : List Line) (x : Name) (b : Body) → passed x (call_of s b) ≡ true → has (λ m. same_name x m) (makes b) ≡ true
     by_body s x (VolatileLine t e o v) h = rw h refl
+    by_body s x (DurableLine t e r y) h = rw h refl
+    by_body s x (PromotableLine t e r v o p) h = rw h refl
     by_body s x (CloneLine t c k) h = rw h refl
     by_body s x (CompleteLine c) h = absurd (by_clone x c (transaction_of s c.value) h)
+    by_body s x (GoneLine e) h = absurd (by_enlistment x e (transaction_with s e.value) h)
     by_body s x _ h = absurd cc
 
 -- a call as scope lines give it makes no name
@@ -144,58 +155,78 @@ plain_no_name x es h = none_more is_plain (is_namer x) (one x) es h
 facts_make : (x : Name) (o : Observed) (c : Call) (b : Bool) → has (is_namer x) (facts_if b (facts o c)) ≡ true → call_makes x c ≡ true
 facts_make x o c false h = absurd cc
 facts_make x o (Volatile t e v p) true h = or_case (same_name x (OfEnlistment e.value)) false (λ k. k) (λ k. absurd cc) h
+facts_make x o (Durable t e r y) true h = or_case (same_name x (OfEnlistment e.value)) false (λ k. k) (λ k. absurd cc) h
+facts_make x o (Promotable t e r v y p) true h = or_case (same_name x (OfEnlistment e.value)) false (λ k. k) (λ k. absurd cc) h
 facts_make x o (Clone t c k) true h = or_case (same_name x (OfClone c.value)) false (λ k. k) (λ k. absurd cc) h
 facts_make x o (Commit t) true h = absurd (not_both _ h (plain_no_name x (veto_if (has is_open_rollback o.clones)) (veto_plain (has is_open_rollback o.clones))))
 facts_make x o (Tick t n) true h =
     let reached = reaches o.limit o.clock (ticked o.clock n) in
     absurd (not_both _ h (plain_no_name x (if reached then time_up (is_late o) else []) (time_plain reached (is_late o))))
+facts_make x o (Gone e) true h =
+    let lost = not (is_some o.decided) && not (voted o.table e.value) in
+    let y = lost_outcome (is_handed o.handed e.value) in
+    absurd (not_both _ h (plain_no_name x (decided_if lost y) (decided_plain lost y)))
 facts_make x o _ true h = absurd cc
 
--- the line that makes this name was called in the history
-record IsMade (s : List Line) (h : List Entry) (x : Name) : Type 0 where
-  number : ℕ
-  line : Line
-  stands : kth s number ≡ Some line
-  maker : is_maker x line ≡ true
-  called : has (is_call number) h ≡ true
+-- a call that passes was made by its line in the history
+pub record IsCalled (s : List Line) (t : ℕ) (h : List Entry) (q : Call → Bool) : Type 0 where
+  pub number : ℕ
+  pub actor : ActorNo
+  pub call : Call
+  pub given : IsCallOf s t number actor call
+  pub passes : q call ≡ true
+  pub called : has (is_call number) h ≡ true
 
--- what was made before a block was made behind it too
-made_behind : (s : List Line) (h es : List Entry) (x : Name) → IsMade s h x → IsMade s (onto h es) x
-made_behind s h es x r =
+-- p passes no call and nothing plain, and the facts of a call only where q passes the call
+pub record IsFactOf (p : Entry → Bool) (q : Call → Bool) : Type 0 where
+  pub no_call : (n : ℕ) (a : ActorNo) (y : Answer) → p (Called n a y) ≡ false
+  pub no_deed : (es : List Entry) → each is_plain es ≡ true → has p es ≡ false
+  pub by_call : (o : Observed) (c : Call) (b : Bool) → has p (facts_if b (facts o c)) ≡ true → q c ≡ true
+
+-- what was called before a block was called behind it too
+called_behind : (s : List Line) (t : ℕ) (h es : List Entry) (q : Call → Bool) → IsCalled s t h q → IsCalled s t (onto h es) q
+called_behind s t h es q r =
     record {
       number = r.number;
-      line = r.line;
-      stands = r.stands;
-      maker = r.maker;
+      actor = r.actor;
+      call = r.call;
+      given = r.given;
+      passes = r.passes;
       called = has-onto (is_call r.number) h es ∙ or_right (has (is_call r.number) es) (has (is_call r.number) h) r.called;
     }
 
--- a block that brings a name is of the call of a line that makes it
-block_made : (s : List Line) (t : ℕ) (h : List Entry) (x : Name) (m : Step) → MayCome s t h m → has (is_namer x) (block (observe h) m) ≡ true → IsMade s (onto h (block (observe h) m)) x
+-- a block in which p passes is of a call that q passes
+block_called : (s : List Line) (t : ℕ) (h : List Entry) (p : Entry → Bool) (q : Call → Bool) → IsFactOf p q → (m : Step) → MayCome s t h m → has p (block (observe h) m) ≡ true
+    → IsCalled s t (onto h (block (observe h) m)) q
 unfolding block
-block_made s t h x (Calls n a c d) k e =
+block_called s t h p q f (Calls n a c d) k e =
     let y = answer (observe h) c d in
-    let es = facts_if (is_fine y) (facts (observe h) c) in
+    let es = facts_if (is_done y) (facts (observe h) c) in
     let same = eq_self n in
     let here : has (is_call n) (Called n a y ∷ es) ≡ true = rw same refl in
     record {
       number = n;
-      line = k.0.line;
-      stands = k.0.stands;
-      maker = giver_makes s (lines_before s n) x k.0.line k.0.place k.0.name c k.0.gives (facts_make x (observe h) c (is_fine y) e);
+      actor = a;
+      call = c;
+      given = k.0;
+      passes = or_case (p (Called n a y)) (has p es) (λ e. absurd (not_both (p (Called n a y)) e (f.no_call n a y))) (λ e. f.by_call (observe h) c (is_done y) e) e;
       called = has-onto (is_call n) h (Called n a y ∷ es) ∙ ap (λ b. b || has (is_call n) h) here;
     }
-block_made s t h x (Replies f r) k e = absurd (not_both _ e (plain_no_name x (block (observe h) (Replies f r)) (block_plain (observe h) (Replies f r) refl)))
-block_made s t h x Acts k e = absurd (not_both _ e (plain_no_name x (block (observe h) Acts) (block_plain (observe h) Acts refl)))
+block_called s t h p q f (Replies i r) k e = absurd (not_both _ e (f.no_deed (block (observe h) (Replies i r)) (block_plain (observe h) (Replies i r) refl)))
+block_called s t h p q f Acts k e = absurd (not_both _ e (f.no_deed (block (observe h) Acts) (block_plain (observe h) Acts refl)))
 
--- each name in the history of a script is of a line that was called
-named_made : (s : List Line) (t : ℕ) (x : Name) (steps : List Step) (h : List Entry) → Ran s t steps h → has (is_namer x) h ≡ true → IsMade s h x
-named_made s t x [] h r k = absurd (not_both (has (is_namer x) h) k (ap (λ h. has (is_namer x) h) r))
-named_made s t x (m ∷ ms) h r k =
+-- each fact in the history of a script is of a call of a line
+pub fact_called : (s : List Line) (t : ℕ) (p : Entry → Bool) (q : Call → Bool) → IsFactOf p q → (steps : List Step) (h : List Entry) → Ran s t steps h → has p h ≡ true → IsCalled s t h q
+fact_called s t p q f [] h r k = absurd (not_both (has p h) k (ap (λ h. has p h) r))
+fact_called s t p q f (m ∷ ms) h r k =
     let es = block (observe r.0) m in
-    let split : (has (is_namer x) es || has (is_namer x) r.0) ≡ true = sym (has-onto (is_namer x) r.0 es) ∙ ap (λ h. has (is_namer x) h) (sym r.3) ∙ k in
-    subst (λ h. IsMade s h x) (sym r.3)
-    (or_case (has (is_namer x) es) (has (is_namer x) r.0) (λ e. block_made s t r.0 x m r.2 e) (λ e. made_behind s r.0 es x (named_made s t x ms r.0 r.1 e)) split)
+    let split : (has p es || has p r.0) ≡ true = sym (has-onto p r.0 es) ∙ ap (λ h. has p h) (sym r.3) ∙ k in
+    subst (λ h. IsCalled s t h q) (sym r.3)
+    (or_case (has p es) (has p r.0) (λ e. block_called s t r.0 p q f m r.2 e) (λ e. called_behind s t r.0 es q (fact_called s t p q f ms r.0 r.1 e)) split)
+
+-- a name is brought by the facts of calls that make it
+names_of_calls : (x : Name) → IsFactOf (is_namer x) (call_makes x)
+names_of_calls x = record { no_call = λ n a y. refl; no_deed = λ es h. plain_no_name x es h; by_call = λ o c b h. facts_make x o c b h }
 
 -- what the call of a line makes has no entry where the line wasn't called
 not_named : (s : List Line) (t n : ℕ) (a : ActorNo) (c : Call) (x : Name) (h : List Entry) → are_named_well s ≡ true → Caused s t h → IsCallOf s t n a c → has (is_call n) h ≡ false
@@ -205,9 +236,10 @@ not_named s t n a c x h w r k u m = by_cases (has (is_namer x) h) refl
     by_cases : (b : Bool) → has (is_namer x) h ≡ b → has (is_namer x) h ≡ false
     by_cases false e = e
     by_cases true e =
-        let made = named_made s t x r.0 h r.1 e in
-        let maker = giver_makes s (lines_before s n) x k.line k.place k.name c k.gives m in
-        let same : made.number ≡ n = made_once x s made.number n made.line k.line w made.stands k.stands made.maker maker in
+        let made : IsCalled s t h (call_makes x) = fact_called s t (is_namer x) (call_makes x) (names_of_calls x) r.0 h r.1 e in
+        let first = giver_makes s (lines_before s made.number) x made.given.line made.given.place made.given.name made.call made.given.gives made.passes in
+        let second = giver_makes s (lines_before s n) x k.line k.place k.name c k.gives m in
+        let same : made.number ≡ n = made_once x s made.number n made.given.line k.line w made.given.stands k.stands first second in
         absurd (not_both (has (is_call n) h) (subst (λ i. has (is_call i) h ≡ true) same made.called) u)
 
 -- what brings the name of an enlistment is that enlistment's entry
@@ -222,14 +254,20 @@ cloned_namer c [] = refl
 cloned_namer c (Cloned d k ∷ h) = ap (λ b. (c == d.value) || b) (cloned_namer c h)
 cloned_namer c (x ∷ h) = cloned_namer c h
 
+-- an enlistment that the call of a line makes doesn't stand where the line wasn't called
+new_enlistment : (s : List Line) (t n : ℕ) (a : ActorNo) (c : Call) (e : EnlNo) (h : List Entry) → are_named_well s ≡ true → Caused s t h → IsCallOf s t n a c
+    → has (is_call n) h ≡ false → call_makes (OfEnlistment e.value) c ≡ true → not (has (is_of e.value) (rows h)) ≡ true
+new_enlistment s t n a c e h w r k f m =
+    let none : has (is_namer (OfEnlistment e.value)) h ≡ false = not_named s t n a c (OfEnlistment e.value) h w r k f m in
+    not_false (has (is_of e.value) (rows h)) (enlisted_in_rows e.value h ∙ sym (enlisted_namer e.value h) ∙ none)
+
 -- what the call of a line makes is new where the line wasn't called
 pub caused_new : (s : List Line) (t n : ℕ) (a : ActorNo) (c : Call) (h : List Entry) → are_named_well s ≡ true → Caused s t h → IsCallOf s t n a c → has (is_call n) h ≡ false
     → is_new (observe h) c ≡ true
 unfolding observe
-caused_new s t n a (Volatile u e o v) h w r k f =
-    let same = eq_self e.value in
-    let none : has (is_namer (OfEnlistment e.value)) h ≡ false = not_named s t n a (Volatile u e o v) (OfEnlistment e.value) h w r k f same in
-    not_false (has (is_of e.value) (rows h)) (enlisted_in_rows e.value h ∙ sym (enlisted_namer e.value h) ∙ none)
+caused_new s t n a (Volatile u e o v) h w r k f = new_enlistment s t n a (Volatile u e o v) e h w r k f (eq_self e.value)
+caused_new s t n a (Durable u e i x) h w r k f = new_enlistment s t n a (Durable u e i x) e h w r k f (eq_self e.value)
+caused_new s t n a (Promotable u e i v o p) h w r k f = new_enlistment s t n a (Promotable u e i v o p) e h w r k f (eq_self e.value)
 caused_new s t n a (Clone u c x) h w r k f =
     let same = eq_self c.value in
     let none : has (is_namer (OfClone c.value)) h ≡ false = not_named s t n a (Clone u c x) (OfClone c.value) h w r k f same in

@@ -1,24 +1,23 @@
 -- Which steps are pending, and which entries no block but a call's has.
 use Rattle.std.proofs.Common.{◌≡◌, Bool, true, false, ◌&&◌, List, [], ◌∷◌, Option, Some, None, refl}
 use Rattle.std.specs.Prelude.{is_some, find, not, if◌then◌else◌}
-use Rattle.std.specs.List.{filter_map}
 use Rattle.dtx_values.specs.declared.number.EnlNo.{EnlNo}
 use Rattle.dtx_values.specs.declared.call.Call.{Call}
-use Rattle.dtx_values.specs.declared.call.Call.TheVariants.{Begin, Volatile, Clone, Complete, Commit, Rollback, Tick}
+use Rattle.dtx_values.specs.declared.call.Call.TheVariants.{Begin, Volatile, Durable, Promotable, Clone, Complete, Commit, Rollback, Tick, Gone}
 use Rattle.dtx_values.specs.declared.entry.Entry.{Entry}
-use Rattle.dtx_values.specs.declared.entry.Entry.TheVariants.{Called, Cloned, Enlisted, Asked, Voted, Sealed, Decided, Told}
+use Rattle.dtx_values.specs.declared.entry.Entry.TheVariants.{Called, Cloned, Enlisted, Asked, Voted, Sealed, Handed, OwnerAnswered, Decided, Told}
+use Rattle.dtx_values.specs.declared.note.Reply.{Reply}
 use Rattle.dtx_values.specs.declared.note.Reply.TheVariants.{Vote as VoteReply}
 use Rattle.dtx_values.specs.declared.script.Line.{Line}
 use Rattle.dtx_values.specs.declared.words.Outcome.{Outcome}
-use Rattle.dtx_values.specs.declared.words.Vote.{Vote}
-use Rattle.dtx_values.specs.Table.{has_voted, is_marked}
 use Rattle.dtx_values.specs.Clones.{is_open_rollback}
 use Rattle.dtx_model.specs.declared.listener.Listener.{Listener}
 use Rattle.dtx_model.specs.Words.{has, each}
 use Rattle.dtx_model.specs.Waves.{is_over, next_ask}
 use Rattle.dtx_model.specs.Observed.{Observed}
-use Rattle.dtx_model.specs.Steps.{Step, Calls, Replies, Acts, facts, facts_if, veto_if, reaches, ticked, time_up, is_late, is_no, vote_step, due_reply, due_replies, planned_vote, pending, block}
-use Rattle.dtx_model.specs.Steps.{tell, is_to_tell, before_seal, behind_seal, all_voted, undecided_act, act_by, act_entries, act_if}
+use Rattle.dtx_model.specs.Owners.{owner_of}
+use Rattle.dtx_model.specs.Steps.{Step, Calls, Replies, Acts, facts, facts_if, veto_if, reaches, ticked, time_up, is_late, is_no, is_handed, voted, lost_outcome, decided_if, due_note, planned_reply, reply_step, due_reply, due_replies, pending, block}
+use Rattle.dtx_model.specs.Steps.{tell, is_to_tell, before_seal, commit_act, behind_seal, all_voted, undecided_act, act_by, act_entries, act_if}
 use Rattle.outcome_law.proofs.Scans.{each-append, each_more}
 use Rattle.outcome_law.proofs.Picks.{passes, each_from_at, each_picked}
 
@@ -28,31 +27,22 @@ is_no_call (Calls n a c m) = false
 is_no_call _ = true
 
 -- a reply that is due is no call
-due_no_call : (b : Bool) (e : EnlNo) (o : Option Vote) → passes is_no_call (vote_step b e o) ≡ true
-due_no_call true e (Some v) = refl
-due_no_call true e None = refl
-due_no_call false e o = refl
+due_no_call : (e : EnlNo) (r : Option Reply) → passes is_no_call (reply_step e r) ≡ true
+due_no_call e (Some r) = refl
+due_no_call e None = refl
 
 -- the local act is no call
 acts_no_call : (xs : List Entry) → each is_no_call (act_if xs) ≡ true
 acts_no_call [] = refl
 acts_no_call (x ∷ xs) = refl
 
--- whichever of two lists it is, each passes where each passes in both
-each_if : {A : Type 0} (p : A → Bool) (b : Bool) (xs ys : List A) → each p xs ≡ true → each p ys ≡ true → each p (if b then xs else ys) ≡ true
-each_if p true xs ys h k = h
-each_if p false xs ys h k = k
-
 -- no call is pending
 pub pending_no_call : (s : List Line) (o : Observed) → each is_no_call (pending s o) ≡ true
 unfolding pending
 pending_no_call s o =
     each-append is_no_call (due_replies s o) (act_if (act_entries o))
-    (
-    each_if is_no_call (is_some o.decided) [] (filter_map (due_reply s) o.table) refl
-    (each_picked is_no_call (due_reply s) o.table
-    (each_from_at (λ x. passes is_no_call (due_reply s x)) o.table (λ k x e. due_no_call (is_marked x && not (has_voted x)) x.0 (planned_vote s x.0.value))))
-    )
+    (each_picked is_no_call (due_reply s o) o.table
+    (each_from_at (λ x. passes is_no_call (due_reply s o x)) o.table (λ k x e. due_no_call x.0 (planned_reply s x.0.value (due_note o x)))))
     (acts_no_call (act_entries o))
 
 -- an entry that isn't a call
@@ -80,6 +70,8 @@ abbrev pub is_deed : Entry → Bool
 is_deed (Asked e a) = true
 is_deed (Voted e v) = true
 is_deed Sealed = true
+is_deed (Handed e) = true
+is_deed (OwnerAnswered e x) = true
 is_deed (Decided x) = true
 is_deed (Told p x) = true
 is_deed _ = false
@@ -103,6 +95,15 @@ veto_deed false = refl
 pub veto_plain : (b : Bool) → each is_plain (veto_if b) ≡ true
 veto_plain b = deeds_plain (veto_if b) (veto_deed b)
 
+-- a decision, where it stands, is a deed
+pub decided_deed : (b : Bool) (x : Outcome) → each is_deed (decided_if b x) ≡ true
+decided_deed true x = refl
+decided_deed false x = refl
+
+-- a decision, where it stands, is plain
+pub decided_plain : (b : Bool) (x : Outcome) → each is_plain (decided_if b x) ≡ true
+decided_plain b x = deeds_plain (decided_if b x) (decided_deed b x)
+
 -- the end of the time is plain
 pub time_plain : (reached late : Bool) → each is_plain (if reached then time_up late else []) ≡ true
 time_plain true true = refl
@@ -114,6 +115,8 @@ pub facts_not_called : (o : Observed) (c : Call) (b : Bool) → each is_not_call
 facts_not_called o c false = refl
 facts_not_called o (Begin t d) true = refl
 facts_not_called o (Volatile t e x v) true = refl
+facts_not_called o (Durable t e r x) true = refl
+facts_not_called o (Promotable t e r v x p) true = refl
 facts_not_called o (Clone t c k) true = refl
 facts_not_called o (Complete c) true = refl
 facts_not_called o (Commit t) true = plain_not_called (veto_if (has is_open_rollback o.clones)) (veto_plain (has is_open_rollback o.clones))
@@ -121,6 +124,10 @@ facts_not_called o (Rollback t) true = refl
 facts_not_called o (Tick t n) true =
     let reached = reaches o.limit o.clock (ticked o.clock n) in
     plain_not_called (if reached then time_up (is_late o) else []) (time_plain reached (is_late o))
+facts_not_called o (Gone e) true =
+    let lost = not (is_some o.decided) && not (voted o.table e.value) in
+    let x = lost_outcome (is_handed o.handed e.value) in
+    plain_not_called (decided_if lost x) (decided_plain lost x)
 facts_not_called o _ true = refl
 
 -- what is told is a deed
@@ -135,11 +142,17 @@ zero_deed (Some e) over = refl
 zero_deed None true = refl
 zero_deed None false = refl
 
+-- the handing of the commit, or its decision, is a deed
+commit_deed : (handed : Bool) (owner : Option EnlNo) → each is_deed (commit_act handed owner) ≡ true
+commit_deed true owner = refl
+commit_deed false (Some e) = refl
+commit_deed false None = refl
+
 -- what comes behind the seal is a deed
-seal_deed : (e : Option EnlNo) (voted : Bool) → each is_deed (behind_seal e voted) ≡ true
-seal_deed (Some e) voted = refl
-seal_deed None true = refl
-seal_deed None false = refl
+seal_deed : (e : Option EnlNo) (voted : Bool) (xs : List Entry) → each is_deed xs ≡ true → each is_deed (behind_seal e voted xs) ≡ true
+seal_deed (Some e) voted xs h = refl
+seal_deed None true xs h = h
+seal_deed None false xs h = refl
 
 -- what the local act does while nothing is decided is a deed
 undecided_deed : (commit sealed : Bool) (xs ys : List Entry) → each is_deed xs ≡ true → each is_deed ys ≡ true → each is_deed (undecided_act commit sealed xs ys) ≡ true
@@ -149,10 +162,11 @@ undecided_deed true true xs ys h k = k
 
 -- what the local act does is a deed
 act_deed : (d : Option Outcome) (o : Observed) → each is_deed (act_by d o) ≡ true
-act_deed (Some x) o = tell_deed x (find (is_to_tell o.table) o.listeners) o.told_client
+act_deed (Some x) o = tell_deed x (find (is_to_tell o x) o.listeners) o.told_client
 act_deed None o =
-    undecided_deed o.commit o.sealed (before_seal (next_ask o.table true) (is_over o.table o.clones 0)) (behind_seal (next_ask o.table false) (all_voted o.table))
-    (zero_deed (next_ask o.table true) (is_over o.table o.clones 0)) (seal_deed (next_ask o.table false) (all_voted o.table))
+    let commit = commit_act (is_some o.handed) (owner_of o.table) in
+    undecided_deed o.commit o.sealed (before_seal (next_ask o.table true) (is_over o.table o.clones 0)) (behind_seal (next_ask o.table false) (all_voted o.table) commit)
+    (zero_deed (next_ask o.table true) (is_over o.table o.clones 0)) (seal_deed (next_ask o.table false) (all_voted o.table) commit (commit_deed (is_some o.handed) (owner_of o.table)))
 
 -- the block of a reply or of the local act has deeds alone
 pub block_deed : (o : Observed) (m : Step) → is_no_call m ≡ true → each is_deed (block o m) ≡ true

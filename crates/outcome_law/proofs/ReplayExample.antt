@@ -6,7 +6,7 @@ use Rattle.dtx_values.specs.declared.number.TxNo.{TxNo}
 use Rattle.dtx_values.specs.declared.entry.Answer.TheVariants.{Fine, Did, OutcomeIs}
 use Rattle.dtx_values.specs.declared.entry.Ask.TheVariants.{Prepare}
 use Rattle.dtx_values.specs.declared.entry.Entry.{Entry}
-use Rattle.dtx_values.specs.declared.entry.Entry.TheVariants.{Called, Began, Enlisted, CommitAsked, Asked, Voted, Sealed, Decided, Told}
+use Rattle.dtx_values.specs.declared.entry.Entry.TheVariants.{Called, Began, Enlisted, CommitAsked, Asked, Voted, Sealed, Decided, Told, Got, Down}
 use Rattle.dtx_values.specs.declared.entry.Party.TheVariants.{Client, Enl}
 use Rattle.dtx_values.specs.declared.note.Reply.TheVariants.{Vote as VoteReply}
 use Rattle.dtx_values.specs.declared.script.Body.TheVariants.{Begin, Volatile, Commit, Await, Do}
@@ -16,14 +16,17 @@ use Rattle.dtx_values.specs.declared.words.Class.TheVariants.{One}
 use Rattle.dtx_values.specs.declared.words.Outcome.TheVariants.{Committed}
 use Rattle.dtx_values.specs.declared.words.Timeout.TheVariants.{Milliseconds}
 use Rattle.dtx_values.specs.declared.words.Vote.TheVariants.{Yes}
-use Rattle.dtx_model.specs.Words.{past_of}
+use Rattle.dtx_model.specs.Words.{has, past_of}
 use Rattle.dtx_model.specs.Waves.{next_ask, is_over, hears}
 use Rattle.dtx_model.specs.Observed.{observe}
+use Rattle.dtx_model.specs.Owners.{owner_of}
+use Rattle.dtx_model.specs.Promotes.{promotes}
+use Rattle.dtx_model.specs.Wires.{MayCross, WireRun}
 use Rattle.dtx_model.specs.Steps.{Step, Replies, Acts, answer, act_entries, block, pending}
 use Rattle.dtx_model.specs.Caused.{Settled}
 use Rattle.dtx_model.specs.Replay.{Placed, history, placed, StepsRan, HasDone, HasSettled, LinesRan, IsTurn, RoundsRan, IsReplayed, is_passed}
 use Rattle.dtx_model.specs.History.{IsHistory}
-use Rattle.dtx_model.proofs.Bools.{and_left, and_right}
+use Rattle.dtx_model.proofs.Bools.{and_left, and_right, or_first, or_second}
 use Rattle.dtx_model.proofs.Histories.{history-other, history-same}
 use Rattle.outcome_law.proofs.Examples.{a1, e1}
 use Rattle.outcome_law.proofs.Replays.{replayed_caused, replayed_called, replayed_noted}
@@ -89,7 +92,7 @@ four_run s = (at_t1 asked, (at_t1 joined, (at_t1 begun, ([], refl, refl), refl),
 
 -- the steps of the `await`
 await_steps : StepsRan script t1 1 4 (at_t1 did) (at_t1 told)
-unfolding block observe pending act_entries next_ask is_over hears
+unfolding block observe pending act_entries next_ask is_over owner_of hears
 await_steps = (
   at_t1 (did ++ Voted e1 Yes ∷ Decided Committed ∷ Told (Enl e1) Committed ∷ []),
   (
@@ -124,11 +127,40 @@ unfolding observe pending act_entries hears
 settled_all t true e = subst (λ h. Settled script h) (sym (history-same t.value t1 [] whole e)) refl
 settled_all t false e = subst (λ h. Settled script h) (sym (history-other t.value t1 [] whole e)) refl
 
+-- the entry came over a connection, or is the end of one
+abbrev pub is_crossing : Entry → Bool
+is_crossing (Got c d m) = true
+is_crossing (Down c d) = true
+is_crossing _ = false
+
+-- a history in which nothing comes over a connection runs over none
+pub no_crossing : (h : List Entry) → has is_crossing h ≡ false → WireRun h
+no_crossing [] e = tt
+no_crossing (x ∷ h) e = (one x h (or_first (is_crossing x) (has is_crossing h) e), no_crossing h (or_second (is_crossing x) (has is_crossing h) e))
+  where
+    one : (x : Entry) (h : List Entry) → is_crossing x ≡ false → MayCross h x
+    one (Got c d m) h e = absurd cc
+    one (Down c d) h e = absurd cc
+    one _ h e = tt
+
+-- nothing is promoted in any transaction
+promoted_none : (t : TxNo) (b : Bool) → (t.value == 1) ≡ b → promotes script t.value (history t.value (at_t1 whole)) ≡ true
+unfolding promotes
+promoted_none t true e = subst (λ h. promotes script t.value h ≡ true) (sym (history-same t.value t1 [] whole e)) refl
+promoted_none t false e = subst (λ h. promotes script t.value h ≡ true) (sym (history-other t.value t1 [] whole e)) refl
+
+-- and nothing comes over a connection
+crossed_none : (t : TxNo) (b : Bool) → (t.value == 1) ≡ b → WireRun (history t.value (at_t1 whole))
+crossed_none t true e = subst WireRun (sym (history-same t.value t1 [] whole e)) (no_crossing (past_of whole) refl)
+crossed_none t false e = subst WireRun (sym (history-other t.value t1 [] whole e)) tt
+
 -- the trace is a history of the script
 pub is_history : IsHistory script (placed t1 whole)
 is_history =
     record {
       caused = replayed_caused script (at_t1 whole) is_replayed;
+      promotes = λ t. promoted_none t (t.value == 1) refl;
+      wires = λ t. crossed_none t (t.value == 1) refl;
       settled = λ t. settled_all t (t.value == 1) refl;
       contexts = replayed_noted script (at_t1 whole) is_replayed;
       called = replayed_called script (at_t1 whole) is_replayed;
@@ -152,7 +184,7 @@ turns = (t1, Acts) ∷ (t1, Acts) ∷ (t1, Acts) ∷ (t1, Replies e1 (VoteReply 
 
 -- the rounds took these turns
 rounds_run : RoundsRan four_lines (at_t1 did) turns (at_t1 told)
-unfolding block observe pending act_entries next_ask is_over hears
+unfolding block observe pending act_entries next_ask is_over owner_of hears
 rounds_run = (
   at_t1 (did ++ Voted e1 Yes ∷ Decided Committed ∷ Told (Enl e1) Committed ∷ []),
   (
@@ -181,7 +213,7 @@ early_do r = let none = r.stopped (lit≤ tt) in cc
 
 -- an `await` doesn't answer while a step is pending
 pub early_await : (m : ℕ) → HasSettled script t1 m (at_t1 did) (at_t1 (did ++ Voted e1 Yes ∷ [])) → ⊥
-unfolding observe pending act_entries next_ask is_over
+unfolding observe pending act_entries next_ask is_over owner_of
 early_await m r = let none = r.settled in cc
 
 -- a trace that stops while a step is pending is no history

@@ -1,40 +1,45 @@
 -- What a replay does is caused by its script in each transaction, has each line's call once and in order, and makes each name anew.
 use Rattle.std.proofs.Common.{◌≡◌, ℕ, zero, suc, ◌+◌, ◌-◌, ◌<◌, ◌==◌, Bool, true, false, ◌||◌, List, [], ◌∷◌, ◌++◌, length, map, take, Option, Some, None}
 use Rattle.std.proofs.Common.{refl, arith, append-nil, ◌∙◌, ap, sym, subst}
-use Rattle.std.specs.Prelude.{is_some, if◌then◌else◌}
+use Rattle.std.specs.Prelude.{is_some, nat_lt, if◌then◌else◌}
 use Rattle.std.specs.List.{slice_get}
 use Rattle.std.proofs.lemmas.Bool.Decides.{nat_tests}
 use Rattle.dtx_values.specs.declared.number.ActorNo.{ActorNo}
+use Rattle.dtx_values.specs.declared.number.EnlNo.{EnlNo}
+use Rattle.dtx_values.specs.declared.number.RmNo.{RmNo}
 use Rattle.dtx_values.specs.declared.number.TxNo.{TxNo}
 use Rattle.dtx_values.specs.declared.call.Call.{Call}
-use Rattle.dtx_values.specs.declared.call.Call.TheVariants.{Await, Do}
+use Rattle.dtx_values.specs.declared.call.Call.TheVariants.{Durable, Await, Do}
 use Rattle.dtx_values.specs.declared.entry.Answer.{Answer}
 use Rattle.dtx_values.specs.declared.entry.Entry.{Entry}
 use Rattle.dtx_values.specs.declared.entry.Entry.TheVariants.{Called}
 use Rattle.dtx_values.specs.declared.scope.OpenScope.{OpenScope}
 use Rattle.dtx_values.specs.declared.script.Line.{Line}
+use Rattle.dtx_values.specs.declared.script.Support.{Support}
 use Rattle.dtx_values.specs.declared.trace.Place.{Place}
 use Rattle.dtx_values.specs.declared.trace.Place.TheVariants.{Context, Transaction}
 use Rattle.dtx_model.specs.Words.{has, each, kth, onto, past_of, put}
 use Rattle.dtx_model.specs.Entries.{is_call}
 use Rattle.dtx_model.specs.Outcome.{is_empty}
-use Rattle.dtx_model.specs.Observed.{Observed, observe}
+use Rattle.dtx_model.specs.Observed.{Observed, observe, rows}
+use Rattle.dtx_model.specs.Owners.{is_lasting}
 use Rattle.dtx_model.specs.Scopes.{ScopeEntry, Opens, Finishes, Closes}
-use Rattle.dtx_model.specs.Steps.{Step, Calls, Replies, Acts, call_of, answer, is_fine, facts, facts_if, block, pending}
+use Rattle.dtx_model.specs.Steps.{Step, Calls, Replies, Acts, call_of, answer, is_done, facts, facts_if, block, pending}
 use Rattle.dtx_model.specs.Contexts.{scope_answer, scope_entries, scope_calls, scopes_of, written, called_with, scope_block, context, lines_before, calls_by}
 use Rattle.dtx_model.specs.Caused.{IsCallOf, MayAnswer, MayCome, Caused, is_new}
-use Rattle.dtx_model.specs.Grammar.{are_named_well}
+use Rattle.dtx_model.specs.Grammar.{are_named_well, is_lasting_for, is_run_line}
 use Rattle.dtx_model.specs.Replay.{Placed, history, at_context, placed, noted, after_step, StepsRan, CallRan, after_calls, after_scope, LineRan, LinesRan, IsTurn, RoundsRan, IsReplayed}
 use Rattle.dtx_model.specs.Replay.{called_of, calls, at_its_context, due_of, due_calls}
-use Rattle.dtx_model.proofs.Bools.{and_left, and_right, or_false, or_right}
+use Rattle.dtx_model.proofs.Bools.{and_left, and_right, or_false, or_right, not_both}
 use Rattle.dtx_model.proofs.Histories.{onto-append, history-other, history-same, history-noted, context-same, context-other, context-placed, context-calls}
-use Rattle.dtx_model.proofs.Reading.{has-onto}
-use Rattle.outcome_law.proofs.Tests.{eq_self}
+use Rattle.dtx_model.proofs.Reading.{has-onto, has-past}
+use Rattle.outcome_law.proofs.Tests.{eq_self, refuted}
 use Rattle.outcome_law.proofs.Scans.{each-kth, none_more}
 use Rattle.outcome_law.proofs.Lists.{OfEach, of-all, of-both, of-more}
 use Rattle.outcome_law.proofs.Pending.{is_no_call, pending_no_call, is_not_called, facts_not_called, block_plain, plain_not_called}
 use Rattle.outcome_law.proofs.ScopeCalls.{IsScopeCall, IsBeside, AreApart, scope_calls_plain, scope_calls_apart, own_line, scope_call_may}
-use Rattle.outcome_law.proofs.Names.{caused_new}
+use Rattle.outcome_law.proofs.Names.{IsCalled, caused_new}
+use Rattle.outcome_law.proofs.Lasting.{call_lasts, lasting_called, giver_lasts, first_lasting}
 
 -- each transaction's history is caused
 abbrev AllCaused : List Line → List Placed → Type 0
@@ -109,8 +114,8 @@ calls-at p T (x ∷ es) h =
 other_call : (n m : ℕ) (a : ActorNo) (c : Call) (d : ℕ) (o : Observed) → (n == m) ≡ false → has (is_call n) (block o (Calls m a c d)) ≡ false
 unfolding block
 other_call n m a c d o e =
-    let es = facts_if (is_fine (answer o c d)) (facts o c) in
-    or_false (n == m) (has (is_call n) es) e (not_this_call n es (facts_not_called o c (is_fine (answer o c d))))
+    let es = facts_if (is_done (answer o c d)) (facts o c) in
+    or_false (n == m) (has (is_call n) es) e (not_this_call n es (facts_not_called o c (is_done (answer o c d))))
 
 -- the step of a call leaves each history without the call of any other line
 call_uncalled : (n m u : ℕ) (a : ActorNo) (t : TxNo) (c : Call) (d : ℕ) (T : List Placed) → (n == m) ≡ false
@@ -125,7 +130,7 @@ unfolding block
 call_counted m a t c d T =
     let o = observe (history t.value T) in
     let y = answer o c d in
-    calls-at (Transaction t) ((Transaction t, Called m a y) ∷ T) (facts_if (is_fine y) (facts o c)) (facts_not_called o c (is_fine y))
+    calls-at (Transaction t) ((Transaction t, Called m a y) ∷ T) (facts_if (is_done y) (facts o c)) (facts_not_called o c (is_done y))
 
 -- the steps of a `do` or an `await` keep each history caused
 steps_caused : (s : List Line) (t : TxNo) (k m : ℕ) (start T : List Placed) → AllCaused s start → StepsRan s t k m start T → AllCaused s T
@@ -479,3 +484,46 @@ ran_new s xs ys l T t c e w r g =
     let given : IsGiven s n l (t, c) = own_given s l n (t, c) g in
     caused_new s t.value n l.actor c (history t.value T) w (lines_caused s (past_of xs) (l ∷ ys) T whole r t)
     (record { line = l; stands = stands; by_actor = refl; name = t; place = given.0; gives = given.1; at_t = refl }) (lines_uncalled s (past_of xs) T r n (omega arith) t.value)
+
+-- the line at one of the first places is one of the first
+has-among : (p : Line → Bool) (xs ys : List Line) (k : ℕ) (l : Line) → slice_get (xs ++ ys) k ≡ Some l → k < length xs → p l ≡ true → has p xs ≡ true
+has-among p [] ys k l e b h = absurd (omega (arith, b))
+has-among p (x ∷ xs) ys zero l e b h = let same : x ≡ l = cc in rw (same, h) refl
+has-among p (x ∷ xs) ys (suc k) l e b h = let less : k < length xs = omega (arith, b) in or_right (p x) (has p xs) (has-among p xs ys k l e less h)
+
+-- the lines behind others are so many more
+length-onto : (h xs : List Line) → length (onto h xs) ≡ length xs + length h
+length-onto h [] = omega arith
+length-onto h (x ∷ xs) = length-onto (x ∷ h) xs ∙ omega arith
+
+-- a line that was called is one of those that ran
+called_among : (s xs rest : List Line) (n u : ℕ) (l : Line) (T : List Placed) (p : Line → Bool) → s ≡ xs ++ rest → LinesRan s (past_of xs) T → kth s n ≡ Some l
+    → has (is_call n) (history u T) ≡ true → p l ≡ true → has p (past_of xs) ≡ true
+called_among s xs rest zero u l T p e r stands called h = absurd cc
+called_among s xs rest (suc k) u l T p e r stands called h = by_place (nat_lt k (length xs)) refl
+  where
+    by_place : (b : Bool) → nat_lt k (length xs) ≡ b → has p (past_of xs) ≡ true
+    by_place true below = has-past p xs ∙ has-among p xs rest k l (ap (λ s. slice_get s k) (sym e) ∙ stands) (grind (arith, nat_tests)) h
+    by_place false above =
+        let many : length (past_of xs) ≡ length xs + length {A = Line} [] = length-onto [] xs in
+        let behind : length (past_of xs) < suc k = grind (arith, nat_tests) in
+        absurd (not_both (has (is_call (suc k)) (history u T)) called (lines_uncalled s (past_of xs) T r (suc k) behind u))
+
+-- where a durable or promotable stands, a line that ran makes one of its transaction
+ran_lasting : (s xs rest : List Line) (T : List Placed) (t : TxNo) → s ≡ xs ++ rest → LinesRan s (past_of xs) T → has is_lasting (rows (history t.value T)) ≡ true
+    → has (λ l. is_lasting_for t.value l.body) (past_of xs) ≡ true
+ran_lasting s xs rest T t e r k =
+    let h : List Entry = history t.value T in
+    let caused : Caused s t.value h = lines_caused s (past_of xs) rest T (e ∙ sym (onto-onto [] xs rest)) r t in
+    let made : IsCalled s t.value h call_lasts = lasting_called s t.value h caused k in
+    let g = made.given in
+    let lasts : is_lasting_for g.name.value g.line.body ≡ true = giver_lasts s (lines_before s made.number) g.line g.place g.name made.call g.gives made.passes in
+    called_among s xs rest made.number t.value g.line T (λ l. is_lasting_for t.value l.body) e r g.stands made.called
+    (subst (λ n. is_lasting_for n g.line.body ≡ true) g.at_t lasts)
+
+-- a durable of a line that is run comes where nothing durable or promotable stands
+pub ran_alone : (s xs ys : List Line) (l : Line) (T : List Placed) (t u : TxNo) (e : EnlNo) (r : RmNo) (x : Support) → s ≡ xs ++ l ∷ ys → LinesRan s (past_of xs) T
+    → is_run_line (past_of xs) l ≡ true → call_of s l.body ≡ Some (t, Durable u e r x) → has is_lasting (rows (history t.value T)) ≡ false
+ran_alone s xs ys l T t u e r x k ran run given =
+    refuted (has is_lasting (rows (history t.value T)))
+    (λ h. not_both (has (λ l. is_lasting_for t.value l.body) (past_of xs)) (ran_lasting s xs (l ∷ ys) T t k ran h) (first_lasting s (past_of xs) l.body t u e r x given run))

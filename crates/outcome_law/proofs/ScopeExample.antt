@@ -17,8 +17,9 @@ use Rattle.dtx_values.specs.declared.words.Iso.TheVariants.{Serializable, Snapsh
 use Rattle.dtx_values.specs.declared.words.IsoWord.TheVariants.{Default, Level}
 use Rattle.dtx_values.specs.declared.words.Outcome.TheVariants.{Aborted}
 use Rattle.dtx_values.specs.declared.words.Timeout.TheVariants.{Default as DefaultTimeout}
-use Rattle.dtx_model.specs.Words.{past_of}
+use Rattle.dtx_model.specs.Words.{has, past_of}
 use Rattle.dtx_model.specs.Observed.{observe}
+use Rattle.dtx_model.specs.Promotes.{promotes}
 use Rattle.dtx_model.specs.Steps.{Acts, answer, act_entries, block, pending}
 use Rattle.dtx_model.specs.Contexts.{scope_answer, scope_calls, scopes_of}
 use Rattle.dtx_model.specs.Caused.{Settled}
@@ -26,7 +27,7 @@ use Rattle.dtx_model.specs.Replay.{Placed, history, at_context, placed, noted, a
 use Rattle.dtx_model.specs.History.{IsHistory}
 use Rattle.dtx_model.proofs.Bools.{and_left, and_right}
 use Rattle.outcome_law.proofs.Examples.{a1}
-use Rattle.outcome_law.proofs.ReplayExample.{t1, none_passed}
+use Rattle.outcome_law.proofs.ReplayExample.{t1, is_crossing, no_crossing, none_passed}
 use Rattle.outcome_law.proofs.Replays.{replayed_called, replayed_caused, replayed_noted}
 
 abbrev t2 : TxNo
@@ -123,11 +124,26 @@ scoped_settled n true c e f = let same : 1 ≡ n = grind (arith, nat_tests) in s
 scoped_settled n false true e f = let same : 2 ≡ n = grind (arith, nat_tests) in subst (λ n. Settled scoped (history n (past_of told_both))) same refl
 scoped_settled n false false e f = rw (e, f) refl
 
+-- nothing is promoted in any transaction
+scoped_unpromoted : (n : ℕ) (b c : Bool) → (n == 1) ≡ b → (n == 2) ≡ c → promotes scoped n (history n (past_of told_both)) ≡ true
+unfolding promotes
+scoped_unpromoted n true c e f = let same : 1 ≡ n = grind (arith, nat_tests) in subst (λ n. promotes scoped n (history n (past_of told_both)) ≡ true) same refl
+scoped_unpromoted n false true e f = let same : 2 ≡ n = grind (arith, nat_tests) in subst (λ n. promotes scoped n (history n (past_of told_both)) ≡ true) same refl
+scoped_unpromoted n false false e f = rw (e, f) refl
+
+-- and nothing comes over a connection
+scoped_uncrossed : (n : ℕ) (b c : Bool) → (n == 1) ≡ b → (n == 2) ≡ c → has is_crossing (history n (past_of told_both)) ≡ false
+scoped_uncrossed n true c e f = let same : 1 ≡ n = grind (arith, nat_tests) in subst (λ n. has is_crossing (history n (past_of told_both)) ≡ false) same refl
+scoped_uncrossed n false true e f = let same : 2 ≡ n = grind (arith, nat_tests) in subst (λ n. has is_crossing (history n (past_of told_both)) ≡ false) same refl
+scoped_uncrossed n false false e f = rw (e, f) refl
+
 -- the trace is a history of the script
 pub scoped_history : IsHistory scoped told_both
 scoped_history =
     record {
       caused = replayed_caused scoped (past_of told_both) scoped_replayed;
+      promotes = λ t. scoped_unpromoted t.value (t.value == 1) (t.value == 2) refl refl;
+      wires = λ t. no_crossing (history t.value (past_of told_both)) (scoped_uncrossed t.value (t.value == 1) (t.value == 2) refl refl);
       settled = λ t. scoped_settled t.value (t.value == 1) (t.value == 2) refl refl;
       contexts = replayed_noted scoped (past_of told_both) scoped_replayed;
       called = replayed_called scoped (past_of told_both) scoped_replayed;

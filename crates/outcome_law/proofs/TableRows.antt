@@ -19,7 +19,7 @@ use Rattle.dtx_values.specs.Clones.{is_clone, blocks, is_open_block, is_open_rol
 use Rattle.dtx_model.specs.Words.{has, each, latest, or_else, all_of}
 use Rattle.dtx_model.specs.Entries.{is_decision, is_sealed, is_commit, clone_of, is_completed, is_asked, is_vote, is_good, is_good_vote, is_volatile}
 use Rattle.dtx_model.specs.Observed.{rows, clone_rows}
-use Rattle.dtx_model.specs.Outcome.{enlisted, is_complete, is_rollback, is_veto}
+use Rattle.dtx_model.specs.Outcome.{can_own, durables, enlisted, is_complete, is_empty, is_rollback, is_veto}
 use Rattle.dtx_model.specs.Seen.{vote_of, IsCloneSeen}
 use Rattle.dtx_model.specs.Steps.{voted_well, all_voted}
 use Rattle.dtx_model.specs.Waves.{is_zero, zeros_voted}
@@ -54,7 +54,7 @@ enlisted_in_rows n (x ∷ h) = enlisted_in_rows n h
 
 -- what is enlisted wasn't before
 pub enlisted_once : (e : EnlNo) (c : Class) (h : List Entry) → rule h (Enlisted e c) ≡ true → has (is_enlisted e.value) h ≡ false
-enlisted_once e c h r = not_true (has (is_enlisted e.value) h) (third_of_four (not (has is_decision h)) (not (has is_sealed h)) (not (has (is_enlisted e.value) h)) (is_volatile c) r)
+enlisted_once e c h r = not_true (has (is_enlisted e.value) h) (third_of_four (not (has is_decision h)) (not (has is_sealed h)) (not (has (is_enlisted e.value) h)) (is_volatile c || (can_own c && is_empty (durables h))) r)
 
 -- what is asked was enlisted
 pub asked_enlisted : (e : EnlNo) (h : List Entry) → rule h (Asked e Prepare) ≡ true → has (is_enlisted e.value) h ≡ true

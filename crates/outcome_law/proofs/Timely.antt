@@ -1,23 +1,23 @@
 -- A timeout comes directly behind the first tick that reaches it: the clock never falls, and a tick that reaches the timeout found it below.
 use Rattle.std.proofs.Common.{◌≡◌, ℕ, Bool, true, false, ◌&&◌, List, [], ◌∷◌, Option, Some, None, refl, arith, subst, sym}
-use Rattle.std.specs.Prelude.{nat_le, nat_lt, not, if◌then◌else◌}
+use Rattle.std.specs.Prelude.{is_some, nat_le, nat_lt, not, if◌then◌else◌}
 use Rattle.std.proofs.lemmas.Bool.Decides.{nat_tests}
 use Rattle.dtx_values.specs.declared.number.ActorNo.{ActorNo}
 use Rattle.dtx_values.specs.declared.call.Call.{Call}
-use Rattle.dtx_values.specs.declared.call.Call.TheVariants.{Commit, Tick}
+use Rattle.dtx_values.specs.declared.call.Call.TheVariants.{Commit, Tick, Gone}
 use Rattle.dtx_values.specs.declared.entry.Answer.{Answer}
 use Rattle.dtx_values.specs.declared.entry.Entry.{Entry}
-use Rattle.dtx_values.specs.declared.entry.Entry.TheVariants.{Called, Clock, CommitAsked, Late, TimedOut}
+use Rattle.dtx_values.specs.declared.entry.Entry.TheVariants.{Called, Clock, CommitAsked, Late, Lost, TimedOut}
 use Rattle.dtx_values.specs.declared.script.Line.{Line}
 use Rattle.dtx_values.specs.Clones.{is_open_rollback}
 use Rattle.dtx_model.specs.Words.{has, each, always, latest, onto}
-use Rattle.dtx_model.specs.Entries.{began_of}
-use Rattle.dtx_model.specs.Observed.{observe, clock, clone_rows}
+use Rattle.dtx_model.specs.Entries.{began_of, decision_of, handed_of}
+use Rattle.dtx_model.specs.Observed.{observe, clock, rows, clone_rows}
 use Rattle.dtx_model.specs.Seen.{is_clock_from, is_first_over, is_behind_first, is_timely}
-use Rattle.dtx_model.specs.Steps.{Step, Calls, Replies, Acts, answer, is_fine, veto_if, ticked, reaches, is_late, time_up, facts, facts_if, block}
+use Rattle.dtx_model.specs.Steps.{Step, Calls, Replies, Acts, answer, is_done, veto_if, ticked, reaches, is_late, time_up, is_handed, voted, lost_outcome, decided_if, facts, facts_if, block}
 use Rattle.dtx_model.specs.Caused.{Ran, Caused}
 use Rattle.dtx_model.proofs.Bools.{and_left, and_right, and_both, or_false, not_false}
-use Rattle.outcome_law.proofs.Pending.{is_deed, veto_deed, block_deed}
+use Rattle.outcome_law.proofs.Pending.{is_deed, veto_deed, decided_deed, block_deed}
 
 -- a clock isn't below the clock before it and fits a u64, and an entry of a timeout is timely
 abbrev is_on_time : List Entry → Entry → Bool
@@ -96,12 +96,16 @@ call_on h n a y (Tick t i) true r =
     let z = ticked (clock h) i in
     time_on (Clock z ∷ Called n a y ∷ h) (reaches (latest began_of h) (clock h) z) (is_late (observe h))
     (and_both (nat_le (clock h) z && nat_le z 18446744073709551615) (all_on_time h) (tick_rises (clock h) i (clock_fits h r)) r) (reaches_first h n a y (latest began_of h) z r)
+call_on h n a y (Gone e) true r =
+    let lost = not (is_some (latest decision_of h)) && not (voted (rows h) e.value) in
+    let x = lost_outcome (is_handed (latest handed_of h) e.value) in
+    deeds_on (Lost e ∷ Called n a y ∷ h) (decided_if lost x) (decided_deed lost x) r
 call_on h n a y _ true r = r
 
 -- the block of a step is on time
 step_on : (h : List Entry) (m : Step) → all_on_time h ≡ true → all_on_time (onto h (block (observe h) m)) ≡ true
 unfolding block
-step_on h (Calls n a c m) r = call_on h n a (answer (observe h) c m) c (is_fine (answer (observe h) c m)) r
+step_on h (Calls n a c m) r = call_on h n a (answer (observe h) c m) c (is_done (answer (observe h) c m)) r
 step_on h (Replies e y) r = deeds_on h (block (observe h) (Replies e y)) (block_deed (observe h) (Replies e y) refl) r
 step_on h Acts r = deeds_on h (block (observe h) Acts) (block_deed (observe h) Acts refl) r
 
