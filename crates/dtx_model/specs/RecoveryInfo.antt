@@ -30,9 +30,9 @@ bad_field b =
     if not (nat_le 1 (node_in b)) then Some 0 else if not (nat_le 1 (count_in b)) then Some 8 else if not (is_from_one 16 (manager_in b)) then Some 16
     else if not (is_from_one 9999 (enlistment_in b)) then Some 32 else None
 
--- each half of the identifier is at least 1
+-- each half of the identifier is from 1 to 2 ^ 64 - 1
 abbrev pub is_valid : Info → Bool
-is_valid i = nat_le 1 (i.id / 18446744073709551616) && nat_le 1 (i.id % 18446744073709551616)
+is_valid i = is_from_one 18446744073709551615 (i.id / 18446744073709551616) && nat_le 1 (i.id % 18446744073709551616)
 
 -- the bytes are this valid information
 pub record IsInfo (b : List ℕ) (i : Info) : Type 0 where
