@@ -2,7 +2,7 @@
 ghost use Rattle.std.specs.Prelude.{true, ◌≡◌, ◌≢◌, ◌≤◌, ◌+◌, ℕ, length, take, drop, Err, Ok, IfOk, IfSome, IsSome, ◌↔◌, Some};
 ghost use Rattle.std.specs.Int.{w64, w128, from_be_bytes};
 ghost use Rattle.dtx_values.specs.declared.message.Info.{Info};
-ghost use Rattle.dtx_model.specs.RecoveryInfo.{IsInfo, bad_field, enlistment_in, info_bytes, is_from_one, is_valid, manager_in};
+ghost use Rattle.dtx_model.specs.RecoveryInfo.{IsInfo, bad_field, enlistment_in, info_bytes, is_from_one, manager_in};
 ghost use Rattle.durable_enlist.specs.declared.info.BadInfo.TheVariants.{Length, Value};
 
 use dtx_values::{EnlNo, Info, RmNo};
@@ -18,6 +18,7 @@ pub enum BadInfo {
 
 /// The 36 bytes of recovery information: the identifier (16, the highest first), the manager (16, the highest first), the enlistment (4, the lowest
 /// first). (A definition of this project.)
+#[tactic(auto, unfolding(dtx_model::specs::RecoveryInfo::info_bytes))]
 pub fn write_info(i: &Info) -> [u8; 36]
     ensures { result ≡ info_bytes i.now }
 {
@@ -35,6 +36,7 @@ pub fn write_info(i: &Info) -> [u8; 36]
 /// - [`BadInfo::Length`] exactly where there aren't 36 bytes.
 /// - [`BadInfo::Value`] exactly where a field is bad: a node or a count of 0, a manager that isn't from 1 to 16, an enlistment that isn't from 1 to
 ///   9,999.
+#[tactic(auto, unfolding(dtx_model::specs::RecoveryInfo::bad_field, dtx_model::specs::RecoveryInfo::info_bytes))]
 pub fn parse_info(b: &[u8]) -> Result<Info, BadInfo>
     ensures info { IfOk result (λ i. IsInfo b.now i) }
     ensures written { (i : Info) → IsInfo b.now i → result ≡ Ok i }

@@ -3,8 +3,8 @@
 
 mod info;
 mod owner;
-
-
+#[cfg(test)]
+mod tests;
 
 pub use info::{BadInfo, parse_info, write_info};
 pub use owner::{cause_of, owner_of};

@@ -28,4 +28,4 @@ pub returns-clause-written : goal.returns-clause-written
 returns-clause-written c = λ i p.
     let j : Info = record { id = c.whole.result; rm = c.in-Some.rm; enl = c.in-Some-enlistment.enl } in
     ap Ok (same_info j i (c.whole.ensures ∙ written_id c.args.b.now i p) (c.in-Some.ensures.value ∙ written_manager c.args.b.now i p)
-      (c.in-Some-enlistment.ensures.value ∙ written_enlistment c.args.b.now i p))
+    (c.in-Some-enlistment.ensures.value ∙ written_enlistment c.args.b.now i p))
