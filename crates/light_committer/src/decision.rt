@@ -3,7 +3,7 @@ ghost use Rattle.std.specs.Prelude.{◌≡◌, ◌≤◌, true, false};
 ghost use Rattle.dtx_values.specs.Table.{how_many};
 ghost use Rattle.dtx_model.specs.Words.{has};
 ghost use Rattle.dtx_model.specs.Owners.{is_lasting};
-ghost use Rattle.dtx_model.specs.Steps.{is_evident, lost_outcome, voted_no};
+ghost use Rattle.dtx_model.specs.Steps.{all_voted, is_evident, lost_outcome, voted_no};
 ghost use Rattle.light_committer.specs.declared.decision.LightAct.TheVariants.{CommitNow};
 ghost use Rattle.light_committer.specs.LightAct.{light_act};
 
@@ -23,6 +23,7 @@ pub enum LightAct {
 
 /// What is done with the commit behind the seal: nothing while a volatile enlistment hasn't voted or once it was handed over; else it is handed to the
 /// owner, or committed where there is none. Evidence by the seal stands then, unless a volatile voted No.
+#[tactic(auto, using(crate::proofs::Alone::evident_unowned))]
 pub fn decide(t: &EnlistTable, handed: bool) -> LightAct
     requires { how_many is_lasting t.now ≤ 1 }
     ensures act { result ≡ light_act t.now handed }
@@ -48,8 +49,10 @@ pub fn owner_lost(handed: bool) -> Outcome
     }
 }
 
-/// Whether every volatile voted.
-fn all_voted(rows: &[(EnlNo, Row)]) -> bool {
+/// Whether each volatile enlistment voted.
+fn all_voted(rows: &[(EnlNo, Row)]) -> bool
+    ensures { result ≡ all_voted rows.now }
+{
     rows.iter()
         .all(|x| !matches!(x.1.class, Class::Zero | Class::One) || x.1.vote.is_some())
 }
