@@ -1,39 +1,36 @@
 //! What the local side of a transaction knows of its history, and the entries that its calls, replies and acts make.
-ghost use Rattle.std.specs.Prelude.{◌≡◌, ◌<◌, ◌≤◌, ◌==◌, ◌&&◌, [], ◌∷◌, ℕ, Bool, false, find, length, is_some, IfOk, None, Some, not, true};
-ghost use Rattle.std.specs.List.{list_any};
+ghost use Rattle.std.specs.Prelude.{◌≡◌, ◌<◌, ◌≤◌, [], ◌∷◌, false, find, length, is_some, IfOk, not, true};
 ghost use Rattle.dtx_values.specs.Outgoing.{with};
 ghost use Rattle.dtx_values.specs.Clones.{is_open_rollback};
-ghost use Rattle.dtx_values.specs.Table.{Enlistment, is_of};
+ghost use Rattle.dtx_values.specs.Table.{is_of};
 ghost use Rattle.dtx_values.specs.declared.entry.Answer.TheVariants.{Fine};
-ghost use Rattle.dtx_values.specs.declared.entry.Entry.TheVariants.{Enlisted, Voted};
-ghost use Rattle.dtx_values.specs.declared.note.Note.{Note};
+ghost use Rattle.dtx_values.specs.declared.entry.Entry.TheVariants.{Enlisted};
 ghost use Rattle.dtx_model.specs.Outcome.{is_empty};
-ghost use Rattle.dtx_model.specs.Entries.{is_volatile};
-ghost use Rattle.dtx_model.specs.Words.{has, kth};
+ghost use Rattle.dtx_model.specs.Words.{has, kth, put};
 ghost use Rattle.dtx_model.specs.Waves.{is_over, next_ask};
 ghost use Rattle.dtx_model.specs.Owners.{owner_of};
-ghost use Rattle.dtx_model.specs.Observed.{observe, track, track_all};
+ghost use Rattle.dtx_model.specs.Observed.{observe, track};
 ghost use Rattle.dtx_model.specs.Caused.{is_new};
-ghost use Rattle.dtx_model.specs.Steps.{Calls, act_entries, all_due, all_voted, answer, await_answer, before_seal, behind_begin, behind_end, behind_seal, block, clone_answer, commit_act, complete_answer, decided_if, due_note, due_of, durable_answer, facts, gone_answer, gone_facts, is_done, is_evident, is_gone, is_handed, is_late, is_no, is_single, is_to_tell, limit_of, lost_outcome, promotable_answer, reaches, reply_entries, stands, status_answer, tell, tick_facts, ticked, time_up, unless_late, unless_over, veto_if, volatile_answer, voted, voted_well};
+ghost use Rattle.dtx_model.specs.Steps.{Calls, act_entries, all_due, all_voted, answer, before_seal, behind_begin, behind_seal, block, clone_answer, commit_act, complete_answer, decided_if, due_note, due_of, durable_answer, facts, gone_answer, gone_facts, hears_abort, is_done, is_gone, is_handed, is_late, is_to_tell, lasts, promotable_answer, reply_entries, stands, status_answer, tell, tick_facts, unless_late, unless_over, veto_if, volatile_answer, voted};
 ghost use Rattle.local_half.specs.Half.{MayNote, after, fits_due, is_alone, is_its_own};
 
-use crate::listeners::{add, first_to_tell, is_gone, lose, tell};
+use crate::listeners::{add, is_gone, lose, tell};
 use crate::time::{limit_of, reaches, ticked};
-use crate::votes::{all_voted, is_evident, is_no, is_single, lasting};
+use crate::votes::{is_evident, is_no, is_single, is_volatile, lasting};
 use dependent_clones::Clones;
 use dtx_model::Listener;
 use dtx_values::{
-    ActorNo, Answer, Ask, CLONES, Call, Class, CloneKind, DURABLES, ENLISTMENTS, EnlNo, EnlistOption, Entry, Note,
-    Outbox, Outcome, Party, Reply, Row, Support, Timeout, TxNo, Vote,
+    ActorNo, Answer, Ask, CLONES, Call, Class, CloneKind, DURABLES, ENLISTMENTS, EnlNo,
+    EnlistOption, Entry, Note, Outbox, Outcome, Party, Reply, Row, TxNo,
 };
-use durable_enlist::{cause_of, owner_of};
+use durable_enlist::cause_of;
 use enlist_table::EnlistTable;
 use light_committer::{LightAct, decide, owner_lost};
 use phase_zero::Waves;
 use promotable_enlist::try_own;
 use std::alloc::{AllocError, Global};
 use std::marker::Model;
-use volatile_enlist::{next_ask, take_vote};
+use volatile_enlist::{hears, next_ask, take_vote};
 
 /// The local side of one transaction, while it isn't promoted. Contracts see what is observed of its history. Only the constructor takes memory; each call
 /// writes into an outbox that has room.
@@ -80,6 +77,26 @@ impl Model for LocalHalf {
     } };
 
     ghost invariant = { λ m. (ENLISTMENTS ≤ vec_capacity m.listeners) × (length m.listeners.items ≡ length m.table) × (how_many is_lasting m.table ≤ 1) };
+}
+
+/// What the completion of a clone is answered, once it is begun and while nothing is decided.
+fn complete_answer(stands: bool, complete: bool) -> Answer
+    ensures { result ≡ complete_answer stands complete }
+{
+    if !stands {
+        return Answer::NoSuch;
+    }
+    if complete {
+        return Answer::Already;
+    }
+    Answer::Fine
+}
+
+/// The answer behind `toolate`.
+fn unless_late(late: bool) -> Answer
+    ensures { result ≡ unless_late late }
+{
+    if late { Answer::TooLate } else { Answer::Fine }
 }
 
 impl LocalHalf {
@@ -230,6 +247,7 @@ impl LocalHalf {
         })
     }
 
+    /// What a volatile call is answered, once it is begun and while nothing is decided.
     fn volatile_answer(&self) -> Answer
         ensures { result ≡ volatile_answer self.now.seen.sealed self.now.seen.table }
     {
@@ -242,6 +260,7 @@ impl LocalHalf {
         Answer::Fine
     }
 
+    /// What a durable call is answered, once it is begun and while nothing is decided. One that can't own the commit, or doesn't come first, waits.
     fn durable_answer(&self, single: bool) -> Answer
         ensures { result ≡ durable_answer self.now.seen.sealed single self.now.seen.table }
     {
@@ -260,6 +279,7 @@ impl LocalHalf {
         }
     }
 
+    /// What a promotable call is answered, once it is begun and while nothing is decided.
     fn promotable_answer(&self) -> Answer
         ensures { result ≡ promotable_answer self.now.seen.sealed self.now.seen.table }
     {
@@ -275,6 +295,7 @@ impl LocalHalf {
         Answer::True
     }
 
+    /// What a call for a clone is answered, once it is begun and while nothing is decided.
     fn clone_answer(&self) -> Answer
         ensures { result ≡ clone_answer self.now.seen.commit (length self.now.seen.clones) }
     {
@@ -287,18 +308,7 @@ impl LocalHalf {
         Answer::Fine
     }
 
-    fn complete_answer(&self, stands: bool, complete: bool) -> Answer
-        ensures { result ≡ complete_answer stands complete }
-    {
-        if !stands {
-            return Answer::NoSuch;
-        }
-        if complete {
-            return Answer::Already;
-        }
-        Answer::Fine
-    }
-
+    /// What a call for the status is answered, once it is begun.
     fn status_answer(&self) -> Answer
         ensures { result ≡ status_answer self.now.seen.decided }
     {
@@ -306,12 +316,6 @@ impl LocalHalf {
             Some(o) => Answer::OutcomeIs(o),
             None => Answer::StillActive,
         }
-    }
-
-    fn unless_late(&self, late: bool) -> Answer
-        ensures { result ≡ unless_late late }
-    {
-        if late { Answer::TooLate } else { Answer::Fine }
     }
 
     /// The first answer whose condition holds.
@@ -322,15 +326,17 @@ impl LocalHalf {
     {
         match *c {
             Call::Volatile(_, _, _, _) => self.unless_over(self.volatile_answer()),
-            Call::Durable(_, _, _, support) => self.unless_over(self.durable_answer(is_single(support))),
+            Call::Durable(_, _, _, support) => self.unless_over(self.durable_answer(is_single(
+                support,
+            ))),
             Call::Promotable(_, _, _, _, _, _) => self.unless_over(self.promotable_answer()),
             Call::Clone(_, _, _) => self.unless_over(self.clone_answer()),
-            Call::Complete(c) => self.unless_over(self.complete_answer(
+            Call::Complete(c) => self.unless_over(complete_answer(
                 self.clones.stands(c),
                 self.clones.is_complete(c),
             )),
-            Call::Commit(_) => self.unless_over(self.unless_late(self.commit)),
-            Call::Rollback(_) => self.unless_over(self.unless_late(self.sealed)),
+            Call::Commit(_) => self.unless_over(unless_late(self.commit)),
+            Call::Rollback(_) => self.unless_over(unless_late(self.sealed)),
             Call::Status(_) => self.behind_begin(self.status_answer()),
             Call::Tick(_, _) => self.behind_begin(Answer::Fine),
             _ => Answer::Fine,
@@ -340,6 +346,7 @@ impl LocalHalf {
 
 #[tactic(auto, using(crate::proofs::Writing::outgoing), unfolding(dtx_model::specs::Observed::track, dtx_model::specs::Observed::track_all, dtx_model::specs::Steps::answer, dtx_model::specs::Steps::block, dtx_model::specs::Steps::act_entries))]
 impl LocalHalf {
+    /// Puts the entry out, and takes it down.
     fn write(&mut self, x: Entry, out: &mut Outbox)
         requires noted { MayNote self.old.seen x }
         requires room { 0 < out.old.room }
@@ -487,7 +494,10 @@ impl LocalHalf {
     fn voted(&self, e: EnlNo) -> bool
         ensures { result ≡ voted self.now.seen.table e.value }
     {
-        self.table.rows().iter().any(|x| x.0 == e && x.1.vote.is_some())
+        self.table
+            .rows()
+            .iter()
+            .any(|x| x.0 == e && x.1.vote.is_some())
     }
 
     /// Whether the commit was handed to the enlistment.
@@ -497,78 +507,110 @@ impl LocalHalf {
         self.handed == Some(e)
     }
 
-    fn tell(&mut self, o: Outcome, out: &mut Outbox) -> bool
-        requires { 1 ≤ out.old.room }
-        ensures acted { result ≡ not (is_empty (tell o (find (is_to_tell self.old.seen o) self.old.seen.listeners) self.old.seen.told_client)) }
-        ensures state { self.new ≡ after self.old (tell o (find (is_to_tell self.old.seen o) self.old.seen.listeners) self.old.seen.told_client) }
-        ensures out { out.new ≡ with out.old (tell o (find (is_to_tell self.old.seen o) self.old.seen.listeners) self.old.seen.told_client) }
+    /// Whether this enlistment is durable or promotable.
+    fn lasts(&self, e: EnlNo) -> bool
+        ensures { result ≡ lasts self.now.seen.table e.value }
     {
-        match first_to_tell(&self.listeners, &self.table, self.handed, o) {
-            Some(l) => self.write(Entry::Told(Party::Enl(l.enlistment), o), out),
+        self.table
+            .rows()
+            .iter()
+            .any(|x| x.0 == e && !is_volatile(x.1.class))
+    }
+
+    /// Whether it is durable or promotable, and an abort is told to it: it wasn't handed the commit, and isn't lost.
+    fn hears_abort(&self, l: &Listener) -> bool
+        ensures { result ≡ hears_abort self.now.seen l.now }
+    {
+        self.lasts(l.enlistment) && !self.is_handed(l.enlistment) && !l.lost
+    }
+
+    /// Whether the outcome is still to be told to it.
+    fn is_to_tell(&self, o: Outcome, l: &Listener) -> bool
+        ensures { result ≡ is_to_tell self.now.seen o l.now }
+    {
+        !l.told
+            && (hears(&self.table, l.enlistment) || (o == Outcome::Aborted && self.hears_abort(l)))
+    }
+
+    /// The lowest enlistment that is still to be told the outcome.
+    fn first_to_tell(&self, o: Outcome) -> Option<Listener>
+        ensures { result ≡ find (is_to_tell self.now.seen o) self.now.seen.listeners }
+    {
+        self.listeners
+            .iter()
+            .copied()
+            .find(|l| self.is_to_tell(o, l))
+    }
+
+    /// The entry that tells the outcome to the next: the lowest enlistment that is still to be told, and then the client.
+    fn next_told(&self, o: Outcome) -> Option<Entry>
+        ensures { put result [] ≡ tell o (find (is_to_tell self.now.seen o) self.now.seen.listeners) self.now.seen.told_client }
+    {
+        match self.first_to_tell(o) {
+            Some(l) => Some(Entry::Told(Party::Enl(l.enlistment), o)),
+            None => match self.told_client {
+                Some(_) => None,
+                None => Some(Entry::Told(Party::Client, o)),
+            },
+        }
+    }
+
+    /// The entry of phase zero: the next is asked, or it is over and the transaction is sealed.
+    fn next_before_seal(&self) -> Option<Entry>
+        ensures { put result [] ≡ before_seal (next_ask self.now.seen.table true) (is_over self.now.seen.table self.now.seen.clones 0) }
+    {
+        let mut waves = self.waves;
+        match waves.next_wave(&self.table) {
+            Some(e) => Some(Entry::Asked(e, Ask::Prepare)),
             None => {
-                if self.told_client.is_some() {
-                    return false;
+                if waves.is_over(&self.table, &self.clones, 0) {
+                    Some(Entry::Sealed)
+                } else {
+                    None
                 }
-                self.write(Entry::Told(Party::Client, o), out);
             }
         }
-        true
     }
 
-    /// Phase zero: asks the next, or seals when it is over.
-    fn before_seal(&mut self, out: &mut Outbox) -> bool
-        requires { 1 ≤ out.old.room }
-        ensures acted { result ≡ not (is_empty (before_seal (next_ask self.old.seen.table true) (is_over self.old.seen.table self.old.seen.clones 0))) }
-        ensures state { self.new ≡ after self.old (before_seal (next_ask self.old.seen.table true) (is_over self.old.seen.table self.old.seen.clones 0)) }
-        ensures out { out.new ≡ with out.old (before_seal (next_ask self.old.seen.table true) (is_over self.old.seen.table self.old.seen.clones 0)) }
-    {
-        match self.waves.next_wave(&self.table) {
-            Some(e) => self.write(Entry::Asked(e, Ask::Prepare), out),
-            None => {
-                if !self.waves.is_over(&self.table, &self.clones, 0) {
-                    return false;
-                }
-                self.write(Entry::Sealed, out);
-            }
-        }
-        true
-    }
-
-    /// Hands the commit to the owner, once, or commits where nothing is durable or promotable.
-    fn commit(&mut self, out: &mut Outbox) -> bool
-        requires voted { all_voted self.old.seen.table ≡ true }
-        requires room { 1 ≤ out.old.room }
-        ensures acted { result ≡ not (is_empty (commit_act (is_some self.old.seen.handed) (owner_of self.old.seen.table))) }
-        ensures state { self.new ≡ after self.old (commit_act (is_some self.old.seen.handed) (owner_of self.old.seen.table)) }
-        ensures out { out.new ≡ with out.old (commit_act (is_some self.old.seen.handed) (owner_of self.old.seen.table)) }
-    {
-        match decide(&self.table, self.handed.is_some()) {
-            LightAct::Nothing => return false,
-            LightAct::HandTo(e) => self.write(Entry::Handed(e), out),
-            LightAct::CommitNow => self.write(Entry::Decided(Outcome::Committed), out),
-        }
-        true
-    }
-
-    /// Behind the seal: asks the next, or does what is to be done with the commit when all voted.
-    fn behind_seal(&mut self, out: &mut Outbox) -> bool
-        requires { 1 ≤ out.old.room }
-        ensures acted { result ≡ not (is_empty (behind_seal (next_ask self.old.seen.table false) (all_voted self.old.seen.table) (commit_act (is_some self.old.seen.handed) (owner_of self.old.seen.table)))) }
-        ensures state { self.new ≡ after self.old (behind_seal (next_ask self.old.seen.table false) (all_voted self.old.seen.table) (commit_act (is_some self.old.seen.handed) (owner_of self.old.seen.table))) }
-        ensures out { out.new ≡ with out.old (behind_seal (next_ask self.old.seen.table false) (all_voted self.old.seen.table) (commit_act (is_some self.old.seen.handed) (owner_of self.old.seen.table))) }
+    /// The entry behind the seal: the next is asked; when all voted, the commit is handed to the owner, once, or it is committed where nothing is
+    /// durable or promotable.
+    fn next_behind_seal(&self) -> Option<Entry>
+        ensures { put result [] ≡ behind_seal (next_ask self.now.seen.table false) (all_voted self.now.seen.table) (commit_act (is_some self.now.seen.handed) (owner_of self.now.seen.table)) }
     {
         match next_ask(&self.table, false) {
-            Some(e) => {
-                self.write(Entry::Asked(e, Ask::Prepare), out);
-                true
-            }
+            Some(e) => Some(Entry::Asked(e, Ask::Prepare)),
+            None => match decide(&self.table, self.handed.is_some()) {
+                LightAct::Nothing => None,
+                LightAct::HandTo(e) => Some(Entry::Handed(e)),
+                LightAct::CommitNow => Some(Entry::Decided(Outcome::Committed)),
+            },
+        }
+    }
+
+    /// The entry of the local act; `None` exactly where none is pending.
+    fn next_act(&self) -> Option<Entry>
+        ensures { put result [] ≡ act_entries self.now.seen }
+    {
+        match self.decided {
+            Some(o) => self.next_told(o),
             None => {
-                if !all_voted(self.table.rows()) {
-                    return false;
+                if !self.commit {
+                    return None;
                 }
-                self.commit(out)
+                if self.sealed {
+                    self.next_behind_seal()
+                } else {
+                    self.next_before_seal()
+                }
             }
         }
+    }
+
+    /// Whether a local act is pending. It isn't done.
+    pub fn has_act(&self) -> bool
+        ensures { result ≡ not (is_empty (act_entries self.now.seen)) }
+    {
+        self.next_act().is_some()
     }
 
     /// Does the local act; false exactly where none is pending.
@@ -578,27 +620,29 @@ impl LocalHalf {
         ensures state { self.new ≡ after self.old (act_entries self.old.seen) }
         ensures out { out.new ≡ with out.old (act_entries self.old.seen) }
     {
-        match self.decided {
-            Some(o) => self.tell(o, out),
-            None => {
-                if !self.commit {
-                    return false;
-                }
-                if self.sealed {
-                    self.behind_seal(out)
-                } else {
-                    self.before_seal(out)
-                }
+        match self.next_act() {
+            Some(x) => {
+                self.write(x, out);
+                true
             }
+            None => false,
         }
     }
 
+    /// The enlistment with its row, where it stands.
+    fn enlistment(&self, e: EnlNo) -> Option<(EnlNo, Row)>
+        ensures { result ≡ find (is_of e.value) self.now.seen.table }
+    {
+        self.table.rows().iter().copied().find(|x| x.0 == e)
+    }
+
     /// To what a reply of the enlistment is due; `None` exactly where none is.
+    #[tactic(auto, unfolding(dtx_model::specs::Steps::due_of))]
     pub fn due_of(&self, e: EnlNo) -> Option<Note>
         ensures { result ≡ due_of self.now.seen e.value }
     {
-        match self.table.state_of(e) {
-            Some(row) => self.due_note(&(e, row)),
+        match self.enlistment(e) {
+            Some(x) => self.due_note(&x),
             None => None,
         }
     }
@@ -620,6 +664,7 @@ impl LocalHalf {
     }
 
     /// The lowest enlistment of which a reply is due, with the note; `None` exactly where none is due.
+    #[tactic(auto, unfolding(dtx_model::specs::Steps::all_due))]
     pub fn due(&self) -> Option<(EnlNo, Note)>
         ensures { result ≡ kth (all_due self.now.seen) 1 }
     {
@@ -649,9 +694,9 @@ impl LocalHalf {
                 self.write(Entry::Voted(e, v), out);
                 self.veto_if(is_no(v), out);
             }
-            Reply::Owner(o) => {
-                self.write(Entry::OwnerAnswered(e, o), out);
-                self.write(Entry::Decided(o), out);
+            Reply::Owner(outcome) => {
+                self.write(Entry::OwnerAnswered(e, outcome), out);
+                self.write(Entry::Decided(outcome), out);
             }
             Reply::Promote(_) | Reply::Ack => {}
         }

@@ -4,10 +4,11 @@ ghost use Rattle.dtx_values.specs.Table.{how_many};
 ghost use Rattle.dtx_model.specs.Entries.{is_volatile};
 ghost use Rattle.dtx_model.specs.Owners.{is_lasting};
 ghost use Rattle.dtx_model.specs.Words.{each};
-ghost use Rattle.dtx_model.specs.Steps.{all_voted, is_evident, is_no, is_single, voted_well};
+ghost use Rattle.dtx_model.specs.Steps.{is_evident, is_no, is_single, voted_well};
 
 use dtx_values::{Class, EnlNo, Row, Support, Vote};
 
+/// Whether the class is volatile.
 pub fn is_volatile(c: Class) -> bool
     ensures { result ≡ is_volatile c }
 {
@@ -17,6 +18,7 @@ pub fn is_volatile(c: Class) -> bool
     }
 }
 
+/// Whether it is the vote yes or done.
 pub fn voted_well(v: Option<Vote>) -> bool
     ensures { result ≡ voted_well v }
 {
@@ -26,6 +28,7 @@ pub fn voted_well(v: Option<Vote>) -> bool
     }
 }
 
+/// Whether it is the vote No.
 pub fn is_no(v: Vote) -> bool
     ensures { result ≡ is_no v }
 {
@@ -54,14 +57,6 @@ pub fn is_evident(sealed: bool, rows: &[(EnlNo, Row)]) -> bool
     ensures { result ≡ is_evident sealed rows.now }
 {
     sealed && are_well(rows)
-}
-
-/// Whether every volatile voted.
-pub fn all_voted(rows: &[(EnlNo, Row)]) -> bool
-    ensures { result ≡ all_voted rows.now }
-{
-    rows.iter()
-        .all(|x| !is_volatile(x.1.class) || x.1.vote.is_some())
 }
 
 /// How many are durable or promotable.
