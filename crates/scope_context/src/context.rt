@@ -1,11 +1,10 @@
 //! A context.
-ghost use Rattle.std.specs.Prelude.{◌≡◌, ◌≤◌, List, [], ◌∷◌, false, true, length, map, vec_capacity, Err, None, Some, IfErr, IfOk, OnErr, OnOk};
+ghost use Rattle.std.specs.Prelude.{◌≡◌, ◌<◌, ◌≤◌, ◌+◌, ◌++◌, List, [], ◌∷◌, false, true, length, map, vec_capacity, Err, None, Some, IfErr, IfOk, OnErr, OnOk};
 ghost use Rattle.dtx_values.specs.declared.number.ScopeNo.{ScopeNo};
-ghost use Rattle.dtx_model.specs.Words.{has, onto, past_of};
-ghost use Rattle.dtx_model.specs.Scopes.{ScopeEntry, Opens, Finishes, Closes, beneath, closing, entering, is_scope, open_scopes, rolled_back, taken_off};
+ghost use Rattle.dtx_model.specs.Words.{all_of, has, onto, past_of};
+ghost use Rattle.dtx_model.specs.Scopes.{ScopeEntry, Opens, Finishes, Closes, ambient, beneath, closing, closing_with, completed_in, differing, entering, is_complete_scope, is_scope, isolation_of, once, open_scopes, rolled_back, taken_off, transaction_in, transaction_of, with_complete};
 ghost use Rattle.scope_context.specs.declared.refusal.ScopeRefusal.TheVariants.{NestedWrongly, NoScope};
 ghost use Rattle.scope_context.specs.Refusals.{close_refusal, complete_refusal, current_result, enter_refusal};
-ghost use Rattle.scope_context.specs.Standing.{with_complete};
 
 use crate::refusal::ScopeRefusal;
 use dtx_values::{Closed, Entered, Iso, OpenScope, SCOPES, ScopeNo, ScopeOption, TxNo};
@@ -134,20 +133,15 @@ impl Context {
         if !self.is_open(s) {
             return Err(ScopeRefusal::NoScope(s));
         }
-        let Some(top) = self.scopes.pop() else {
+        let Some(top) = self.scopes.last().copied() else {
             return Ok(Closed::Nothing);
         };
         if top.scope == s {
+            self.scopes.pop();
             return Ok(closing(top));
         }
         self.rolled.clear();
-        self.roll_back(top);
-        while let Some(x) = self.scopes.pop() {
-            self.roll_back(x);
-            if x.scope == s {
-                break;
-            }
-        }
+        take_off(&mut self.scopes, &mut self.rolled, s);
         Err(ScopeRefusal::NestedWrongly(top.scope))
     }
 
@@ -180,15 +174,24 @@ impl Context {
         self.scopes.as_slice()
     }
 
-    fn is_open(&self, s: ScopeNo) -> bool {
+    /// Whether this scope is open here.
+    fn is_open(&self, s: ScopeNo) -> bool
+        ensures { result ≡ has (is_scope s.value) self.now.scopes }
+    {
         self.scopes.iter().any(|x| x.scope == s)
     }
 
-    fn is_complete(&self, s: ScopeNo) -> bool {
+    /// Whether this scope is open here and complete.
+    fn is_complete(&self, s: ScopeNo) -> bool
+        ensures { result ≡ has (is_complete_scope s.value) self.now.scopes }
+    {
         self.scopes.iter().any(|x| x.scope == s && x.complete)
     }
 
-    fn ambient(&self) -> Option<TxNo> {
+    /// The ambient transaction.
+    fn ambient(&self) -> Option<TxNo>
+        ensures { result ≡ ambient self.now.scopes }
+    {
         match self.scopes.last() {
             Some(top) => transaction_in(top.entered),
             None => None,
@@ -196,17 +199,17 @@ impl Context {
     }
 
     /// The isolation that the open scope asked for that made this transaction.
-    fn isolation(&self, t: TxNo) -> Option<Iso> {
-        for x in self.scopes.iter().rev() {
-            if x.entered == Entered::Made(t) {
-                return Some(x.isolation);
-            }
-        }
-        None
+    fn isolation(&self, t: TxNo) -> Option<Iso>
+        ensures { result ≡ isolation_of self.now.scopes t }
+    {
+        let made = self.scopes.iter().rev().copied().find(|x| x.entered == Entered::Made(t));
+        made.map(|x| x.isolation)
     }
 
     /// The isolation of the ambient transaction, where Required would join it and asks for another one.
-    fn differing(&self, o: ScopeOption, asked: Iso) -> Option<Iso> {
+    fn differing(&self, o: ScopeOption, asked: Iso) -> Option<Iso>
+        ensures { result ≡ differing o asked self.now.scopes }
+    {
         if o != ScopeOption::Required || asked == Iso::Unspecified {
             return None;
         }
@@ -215,7 +218,9 @@ impl Context {
     }
 
     /// What a scope that is opened so makes or joins.
-    fn entering(&self, o: ScopeOption, t: Option<TxNo>) -> Entered {
+    fn entering(&self, o: ScopeOption, t: Option<TxNo>) -> Entered
+        ensures { result ≡ entering o t self.now.scopes }
+    {
         match (o, self.ambient(), t) {
             (ScopeOption::Required, Some(a), _) => Entered::Joined(a),
             (ScopeOption::Suppress, _, _) => Entered::NoTx,
@@ -223,19 +228,12 @@ impl Context {
             (_, _, None) => Entered::NoTx,
         }
     }
-
-    /// Takes down that a scope's transaction is to be rolled back.
-    fn roll_back(&mut self, x: OpenScope) {
-        if let Some(t) = transaction_in(x.entered) {
-            if !self.rolled.contains(&t) {
-                self.rolled.push_reserved(t);
-            }
-        }
-    }
 }
 
 /// The transaction that a scope has.
-fn transaction_in(entered: Entered) -> Option<TxNo> {
+fn transaction_in(entered: Entered) -> Option<TxNo>
+    ensures { result ≡ transaction_in entered }
+{
     match entered {
         Entered::Made(t) | Entered::Joined(t) => Some(t),
         Entered::NoTx => None,
@@ -243,7 +241,9 @@ fn transaction_in(entered: Entered) -> Option<TxNo> {
 }
 
 /// What closing this scope does to its transaction.
-fn closing(x: OpenScope) -> Closed {
+fn closing(x: OpenScope) -> Closed
+    ensures { result ≡ closing_with x.complete x.entered }
+{
     match (x.complete, x.entered) {
         (true, Entered::Made(t)) => Closed::Commit(t),
         (false, Entered::Made(t)) | (false, Entered::Joined(t)) => Closed::Rollback(t),
@@ -251,11 +251,50 @@ fn closing(x: OpenScope) -> Closed {
     }
 }
 
+/// Completes the scope, where it is this one.
+fn completed_in(x: &mut OpenScope, s: ScopeNo)
+    ensures { x.new ≡ completed_in s.value x.old }
+{
+    if x.scope == s {
+        x.complete = true;
+    }
+}
+
 /// Completes a scope.
-fn complete(scopes: &mut Vec<OpenScope>, s: ScopeNo) {
+fn complete(scopes: &mut Vec<OpenScope>, s: ScopeNo)
+    ensures items { scopes.new.items ≡ map (completed_in s.value) scopes.old.items }
+    ensures capacity { vec_capacity scopes.old ≤ vec_capacity scopes.new }
+{
     for x in scopes.iter_mut() {
+        completed_in(x, s);
+    }
+}
+
+/// Takes down that this transaction is to be rolled back, unless that is taken down already.
+fn roll_back(rolled: &mut Vec<TxNo>, t: TxNo)
+    requires { length rolled.old.items < vec_capacity rolled.old }
+    ensures items { rolled.new.items ≡ rolled.old.items ++ once (past_of rolled.old.items) (t ∷ []) }
+    ensures capacity { vec_capacity rolled.old ≤ vec_capacity rolled.new }
+{
+    if !rolled.contains(&t) {
+        rolled.push_reserved(t);
+    }
+}
+
+/// Takes off a scope and all above it, the top first, and takes down that their transactions are to be rolled back.
+fn take_off(scopes: &mut Vec<OpenScope>, rolled: &mut Vec<TxNo>, s: ScopeNo)
+    requires { length rolled.old.items + length scopes.old.items ≤ vec_capacity rolled.old }
+    ensures left { past_of scopes.new.items ≡ beneath s.value (past_of scopes.old.items) }
+    ensures rolled { rolled.new.items ≡ rolled.old.items ++ once (past_of rolled.old.items) (all_of transaction_of (taken_off s.value (past_of scopes.old.items))) }
+    ensures scopes_capacity { vec_capacity scopes.old ≤ vec_capacity scopes.new }
+    ensures rolled_capacity { vec_capacity rolled.old ≤ vec_capacity rolled.new }
+{
+    while let Some(x) = scopes.pop() {
+        if let Some(t) = transaction_in(x.entered) {
+            roll_back(rolled, t);
+        }
         if x.scope == s {
-            x.complete = true;
+            return;
         }
     }
 }
