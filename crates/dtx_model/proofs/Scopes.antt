@@ -1,14 +1,13 @@
 -- What an entry makes of the scopes that are open.
-use Rattle.std.proofs.Common.{◌≡◌, ℕ, ◌==◌, Bool, true, false, ◌||◌, not, List, [], ◌∷◌, Some, None, map, refl, ap, sym, ◌∙◌, arith}
+use Rattle.std.proofs.Common.{◌≡◌, ℕ, ◌==◌, Bool, true, false, ◌||◌, List, [], ◌∷◌, Some, None, refl, ap, ◌∙◌, arith}
 use Rattle.std.specs.Bool.{if◌then◌else◌}
 use Rattle.std.proofs.lemmas.Bool.Decides.{nat_tests}
-use Rattle.dtx_values.specs.declared.entry.Entry.{Entry}
 use Rattle.dtx_values.specs.declared.number.ScopeNo.{ScopeNo}
 use Rattle.dtx_values.specs.declared.scope.Entered.{Entered}
 use Rattle.dtx_values.specs.declared.scope.OpenScope.{OpenScope}
 use Rattle.dtx_values.specs.declared.words.Iso.{Iso}
-use Rattle.dtx_model.specs.Words.{has, onto, put}
-use Rattle.dtx_model.specs.Scopes.{ScopeEntry, Opens, Finishes, Closes, finishes, closes, completed_in, is_scope, open_before, open_scopes, with_complete, without}
+use Rattle.dtx_model.specs.Words.{has, put}
+use Rattle.dtx_model.specs.Scopes.{ScopeEntry, Opens, Finishes, Closes, finishes, closes, is_scope, open_before, open_scopes, with_complete, without}
 use Rattle.dtx_model.proofs.Bools.{or_swap}
 
 -- of the entries behind, only those that close or finish a scope count

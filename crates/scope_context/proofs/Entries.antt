@@ -1,21 +1,20 @@
 -- What stands where a scope is completed, and where scopes are taken off.
-use Rattle.std.proofs.Common.{◌≡◌, ℕ, ◌==◌, ◌≤◌, Bool, true, false, ◌&&◌, ◌||◌, not, List, [], ◌∷◌, ◌++◌, length, map, Option, Some, None, append-nil, append_assoc, refl, ap, sym, subst, ◌∙◌, arith}
+use Rattle.std.proofs.Common.{◌≡◌, ℕ, ◌≤◌, true, false, ◌||◌, not, List, [], ◌∷◌, length, map, refl, ap, ◌∙◌, arith}
 use Rattle.std.specs.Bool.{if◌then◌else◌}
 use Rattle.std.proofs.lemmas.Bool.Decides.{nat_tests}
-use Rattle.dtx_values.specs.declared.number.TxNo.{TxNo}
 use Rattle.dtx_values.specs.declared.scope.OpenScope.{OpenScope}
-use Rattle.dtx_model.specs.Words.{all_of, has, onto, past_of, put}
-use Rattle.dtx_model.specs.Scopes.{ScopeEntry, Closes, beneath, completed_in, is_scope, once, open_scopes, taken_off, transaction_of, with_complete, without}
-use Rattle.dtx_model.proofs.Bools.{and_both, and_left, and_right, not_true, or_first, or_second}
-use Rattle.dtx_model.proofs.Histories.{past_of-snoc}
+use Rattle.dtx_model.specs.Words.{has, onto, past_of}
+use Rattle.dtx_model.specs.Scopes.{ScopeEntry, Closes, beneath, is_scope, open_scopes, taken_off, with_complete, without}
+use Rattle.dtx_model.proofs.Bools.{and_left, and_right, not_true, or_first, or_second}
 use Rattle.dtx_model.proofs.Scopes.{closes-scopes}
 use Rattle.scope_context.specs.Standing.{distinct}
 
--- a change of each item of a list is one of each of its history
+-- a change of each item of two lists is one of each item of the first with the second behind it
 map-onto : {A B : Type 0} (f : A → B) (h xs : List A) → onto (map f h) (map f xs) ≡ map f (onto h xs)
 map-onto f h [] = refl
 map-onto f h (x ∷ xs) = map-onto f (x ∷ h) xs
 
+-- a change of each item of a list is one of each of its history
 pub map-past : {A B : Type 0} (f : A → B) (xs : List A) → past_of (map f xs) ≡ map f (past_of xs)
 map-past f xs = map-onto f [] xs
 

@@ -1,7 +1,6 @@
 -- What a list shows, read from its end.
-use Rattle.std.proofs.Common.{◌≡◌, ℕ, ◌==◌, Bool, true, false, cond, List, [], ◌∷◌, length, Option, Some, None, is_some, reverse, refl, ap, sym, ◌∙◌}
+use Rattle.std.proofs.Common.{◌≡◌, ℕ, ◌==◌, true, false, cond, List, [], ◌∷◌, length, Option, Some, None, is_some, reverse, refl, ap, ◌∙◌}
 use Rattle.std.proofs.lemmas.List.{length-reverse}
-use Rattle.std.proofs.lemmas.List.Sorted.{IsPermutation-reverse, list_any-IsPermutation}
 use Rattle.std.specs.Bool.{if◌then◌else◌}
 use Rattle.std.specs.List.{find}
 use Rattle.std.specs.Option.{option_map}
@@ -10,7 +9,7 @@ use Rattle.dtx_values.specs.declared.scope.Entered.{Entered}
 use Rattle.dtx_values.specs.declared.scope.Entered.TheVariants.{Made, Joined, NoTx}
 use Rattle.dtx_values.specs.declared.number.TxNo.{TxNo}
 use Rattle.dtx_values.specs.declared.scope.OpenScope.{OpenScope}
-use Rattle.dtx_model.specs.Words.{has, latest, onto, or_else, past_of}
+use Rattle.dtx_model.specs.Words.{onto, or_else, past_of}
 use Rattle.dtx_model.specs.Scopes.{isolation_made, isolation_of}
 
 -- a block that is put behind others is it reversed, with the others
@@ -25,10 +24,6 @@ past-reverse xs = onto-reverse [] xs
 -- a history is as long as its list
 pub length-past : {E : Type 0} (xs : List E) → length (past_of xs) ≡ length xs
 length-past xs = ap length (past-reverse xs) ∙ length-reverse xs
-
--- one passes, whichever way the list is read
-pub has-past : {E : Type 0} (p : E → Bool) (xs : List E) → has p (past_of xs) ≡ has p xs
-has-past p xs = ap (has p) (past-reverse xs) ∙ sym (list_any-IsPermutation p xs (reverse xs) (IsPermutation-reverse xs))
 
 -- the isolation of the first scope that made the transaction
 isolation-first : (t : ℕ) (e : Entered) (x : OpenScope) (o : Option OpenScope) → or_else (isolation_made t e x.isolation) (option_map (λ x. x.isolation) o)

@@ -21,7 +21,7 @@ pub struct Context {
 }
 
 impl Model for Context {
-    ghost use Rattle.std.specs.Prelude.{◌≡◌, ◌==◌, ◌≤◌, true, length, vec_capacity};
+    ghost use Rattle.std.specs.Prelude.{◌≡◌, ◌≤◌, true, length, vec_capacity};
     ghost use Rattle.dtx_values.specs.declared.limits.TheConstants.{SCOPES};
     ghost use Rattle.dtx_model.specs.Words.{past_of};
     ghost use Rattle.scope_context.specs.Standing.{Standing, distinct};

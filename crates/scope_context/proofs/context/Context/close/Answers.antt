@@ -1,7 +1,7 @@
-use Rattle.std.proofs.Common.{◌≡◌, ◌∙◌, arith, ap, length, rules, subst, sym, true}
+use Rattle.std.proofs.Common.{◌≡◌, ◌∙◌, arith, ap, length, subst, sym, true}
 use Rattle.std.proofs.lemmas.Grind.{common_steps}
 use Rattle.dtx_model.specs.Words.{past_of}
-use Rattle.dtx_model.specs.Scopes.{beneath, open_scopes}
+use Rattle.dtx_model.specs.Scopes.{beneath}
 use Rattle.scope_context.specs.Standing.{Standing, distinct}
 use Rattle.scope_context.proofs.Entries.{closes-taken, distinct-beneath, length-beneath}
 use Rattle.scope_context.proofs.Pasts.{length-past}
@@ -18,10 +18,12 @@ pub invariant_of-self-2 : goal.invariant_of-self-2
 invariant_of-self-2 c =
     let s = c.args.s.value in
     let xs = c.self.inside.scopes.items in
-    let ys = c.take_off.new.scopes.items in
-    (omega arith, omega arith,
+    let ys = c.take_off.new.scopes.items in (
+      omega arith,
+      omega arith,
       omega (arith, length-past ys, ap length c.take_off.ensures.left, length-beneath s (past_of xs), length-past xs),
-      rw c.take_off.ensures.left (distinct-beneath s (past_of xs) c.self.invariant.3))
+      rw c.take_off.ensures.left (distinct-beneath s (past_of xs) c.self.invariant.3),
+    )
 
 pub returns-clause-entries : goal.returns-clause-entries
 returns-clause-entries c = λ es same there.

@@ -10,5 +10,5 @@ pub returns-clause-entries : goal.returns-clause-entries
 returns-clause-entries c = λ es same.
     let x : OpenScope = record { scope = c.args.s; entered = c.entering-entered.result; isolation = c.args.iso; complete = false } in
     let opened : past_of c.push_reserved.new.self.items ≡ x ∷ c.args.self.now.scopes =
-        ap past_of c.push_reserved.ensures.items ∙ past_of-snoc c.self.inside.scopes.items x ∙ ap (λ (v : Standing). x ∷ v.scopes) c.self.view_is in
+    ap past_of c.push_reserved.ensures.items ∙ past_of-snoc c.self.inside.scopes.items x ∙ ap (λ (v : Standing). x ∷ v.scopes) c.self.view_is in
     opens-scopes c.args.s c.entering-entered.result c.args.iso es ∙ ap (λ xs. x ∷ xs) same ∙ sym opened
