@@ -6,7 +6,8 @@ use Rattle.dtx_model.specs.Words.{has}
 use Rattle.dtx_model.specs.Outcome.{is_empty}
 use Rattle.dtx_model.specs.Faults.{Slot, allows, behind, looks_named, looks_numbered, wants_number, word_cause, word_fault}
 use Rattle.dtx_model.specs.Faults.{command_forms, line_forms, actor_slot, transaction_slot, enlistment_slot, scope_slot, manager_slot}
-use Rattle.script_text.specs.Reader.{IsAt, ahead, place_fault, end_fault, cause_of, is_misnamed, is_misnumbered, is_numbered, first_fault, tail, opening_forms, support_forms}
+use Rattle.script_words.specs.Places.{IsAt, place_fault, end_fault, cause_of, is_misnamed, is_misnumbered, is_numbered, tail}
+use Rattle.script_text.specs.Reader.{ahead, first_fault, opening_forms, support_forms}
 
 -- the two ways to say that a word looks like a name, or like a number
 named-by_letters : (s : Slot) (w : List ℕ) → looks_named s w ≡ is_misnamed s.letters w

@@ -9,7 +9,7 @@ use Rattle.dtx_model.specs.Words.{has, each}
 use Rattle.dtx_model.specs.Grammar.{is_from, words, line_text}
 use Rattle.dtx_model.specs.Faults.{front, has_newline, push, split, words_of, form_fault, word_fault, line_forms}
 use Rattle.dtx_model.proofs.Bools.{or_first, or_second, or_right}
-use Rattle.script_text.specs.Reader.{IsWithout}
+use Rattle.script_words.specs.Places.{IsWithout}
 
 -- bytes with an LF have the line before it at their front
 pub front_cut : (t r : List ℕ) → IsWithout 10 t → front (t ++ 10 ∷ r) ≡ t

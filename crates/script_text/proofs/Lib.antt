@@ -1,7 +1,3 @@
-pub mod Numbers
-pub mod Slots
-pub mod Places
-pub mod Splits
 pub mod Forms
 pub mod Fronts
 pub mod Keys
