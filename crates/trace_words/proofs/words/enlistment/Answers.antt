@@ -1,6 +1,6 @@
 use Rattle.std.proofs.Common.{◌≡◌, arith, rules}
-use Rattle.trace_text.proofs.ReadNames.{same_enlistment}
-use Rattle.trace_text.proofs.read_words.enlistment.Goals as goal
+use Rattle.trace_words.proofs.Names.{same_enlistment}
+use Rattle.trace_words.proofs.words.enlistment.Goals as goal
 
 pub returns : goal.returns
 returns c = λ letter a e.

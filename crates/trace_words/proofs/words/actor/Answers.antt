@@ -1,6 +1,6 @@
 use Rattle.std.proofs.Common.{◌≡◌, arith, rules}
-use Rattle.trace_text.proofs.ReadNames.{same_actor}
-use Rattle.trace_text.proofs.read_words.actor.Goals as goal
+use Rattle.trace_words.proofs.Names.{same_actor}
+use Rattle.trace_words.proofs.words.actor.Goals as goal
 
 pub returns : goal.returns
 returns c = λ a e.

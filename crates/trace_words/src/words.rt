@@ -19,7 +19,7 @@ ghost use Rattle.dtx_values.specs.declared.words.Outcome.{Outcome};
 ghost use Rattle.dtx_values.specs.declared.words.Vote.{Vote};
 ghost use Rattle.dtx_model.specs.Grammar.{actor_name, transaction_name, enlistment_name, clone_name, scope_name, manager_name, kind_word, image_word, iso_word};
 ghost use Rattle.dtx_model.specs.TraceText.{id_text, outcome_text, class_text, ask_text, cast_vote_text, request_text, cause_text, direction_text};
-ghost use Rattle.trace_text.specs.ReadWords.{front, behind, IsWithout};
+ghost use Rattle.trace_words.specs.Cuts.{front, behind, IsWithout};
 
 use dtx_values::{
     ActorNo, Ask, Cause, Class, CloneKind, CloneNo, Dir, EnlNo, Image, Iso, Outcome, Request, RmNo,

@@ -1,6 +1,6 @@
 use Rattle.std.proofs.Common.{◌≡◌, arith, rules}
-use Rattle.trace_text.proofs.ReadNames.{same_transaction}
-use Rattle.trace_text.proofs.read_words.transaction.Goals as goal
+use Rattle.trace_words.proofs.Names.{same_transaction}
+use Rattle.trace_words.proofs.words.transaction.Goals as goal
 
 pub returns : goal.returns
 returns c = λ a e.

@@ -1,6 +1,6 @@
 use Rattle.std.proofs.Common.{arith, rules, refl}
-use Rattle.trace_text.proofs.read_words.number.Goals as goal
-use Rattle.trace_text.proofs.ReadNumbers.{number_from_text, digit_of_number, value_more, digits_one_more, value_below, value_of_read}
+use Rattle.trace_words.proofs.words.number.Goals as goal
+use Rattle.trace_words.proofs.Numbers.{number_from_text, digit_of_number, value_more, digits_one_more, value_below, value_of_read}
 
 pub returns-then-word-gt20 : goal.returns-then-word-gt20
 returns-then-word-gt20 c = λ n small e. let k = number_from_text c.args.word.now n small e in omega arith

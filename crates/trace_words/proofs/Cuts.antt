@@ -3,7 +3,7 @@ use Rattle.std.proofs.Common.{◌≡◌, ℕ, ◌==◌, ◌&&◌, Bool, true, fa
 use Rattle.std.proofs.lemmas.Bool.Decides.{nat_tests}
 use Rattle.dtx_model.specs.Words.{has}
 use Rattle.dtx_model.proofs.Bools.{or_first, or_second}
-use Rattle.trace_text.specs.ReadWords.{front, behind, IsWithout}
+use Rattle.trace_words.specs.Cuts.{front, behind, IsWithout}
 
 -- a byte of a text without c isn't c
 head_differs : (c x : ℕ) (xs : List ℕ) → IsWithout c (x ∷ xs) → c ≡ x → ⊥

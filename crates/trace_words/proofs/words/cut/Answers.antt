@@ -1,8 +1,8 @@
 use Rattle.std.proofs.Common.{◌∙◌, ap, sym, rules, arith, length}
 use Rattle.std.proofs.lemmas.List.{drop_all}
-use Rattle.trace_text.specs.ReadWords.{front, behind}
-use Rattle.trace_text.proofs.ReadCuts.{front_cut, behind_cut, front_whole, behind_whole}
-use Rattle.trace_text.proofs.read_words.cut.Goals as goal
+use Rattle.trace_words.specs.Cuts.{front, behind}
+use Rattle.trace_words.proofs.Cuts.{front_cut, behind_cut, front_whole, behind_whole}
+use Rattle.trace_words.proofs.words.cut.Goals as goal
 
 pub returns-in-Some-clause-front : goal.returns-in-Some-clause-front
 returns-in-Some-clause-front c =

@@ -2,8 +2,8 @@ use Rattle.std.proofs.Common.{◌≡◌, ◌∙◌, ap, sym, unwrap_or, []}
 use Rattle.std.proofs.lemmas.Bool.{false≢true}
 use Rattle.std.specs.Int.{w128, from_be_bytes, to_be_bytes}
 use Rattle.uuid.proofs.OrderLemmas.{from_be_bytes-to_be_bytes_16}
-use Rattle.trace_text.proofs.ReadIdentifiers.{id_parses}
-use Rattle.trace_text.proofs.read_words.identifier.Goals as goal
+use Rattle.trace_words.proofs.Identifiers.{id_parses}
+use Rattle.trace_words.proofs.words.identifier.Goals as goal
 
 pub returns-in-Ok : goal.returns-in-Ok
 returns-in-Ok c = λ u small e.
