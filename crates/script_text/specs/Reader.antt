@@ -1,5 +1,6 @@
 -- What the reader's parts read.
-use Rattle.std.specs.Prelude.{ℕ, ◌≡◌, ◌==◌, ◌<◌, ◌≤◌, not, Bool, true, false, List, ◌∷◌, ◌++◌, [], codes, Option, Some, None, Result, Ok, Err, length, slice_index_or}
+use Rattle.std.specs.Prelude.{ℕ, ◌≡◌, ◌==◌, ◌<◌, Bool, true, false, List, ◌∷◌, ◌++◌, [], codes, Option, Some, None, is_some, Result, Ok, Err, length, slice_index_or}
+use Rattle.dtx_values.specs.declared.number.TxNo.{TxNo}
 use Rattle.dtx_values.specs.declared.script.BadCause.{BadCause}
 use Rattle.dtx_values.specs.declared.script.Body.{Body}
 use Rattle.dtx_values.specs.declared.script.Opening.{Opening}
@@ -72,8 +73,13 @@ abbrev pub IsLine : List ℕ → Result Line BadCause → Type 0
 IsLine t (Ok l) = (words_of t ≡ words l) × (is_in_range l.body ≡ true) × (word_fault line_forms (words_of t) ≡ None)
 IsLine t (Err c) = word_fault line_forms (words_of t) ≡ Some c
 
--- the tables say of each number whether its name is made, and of each enlistment of which transaction it is a durable or promotable one: 0 for none
-pub record AreMade (past : List Line) (transactions enlistments clones scopes : List Bool) (owners : List ℕ) (par : Bool) : Type 0 where
+-- the transaction of this number is the one there
+abbrev pub is_owner : ℕ → Option TxNo → Bool
+is_owner t (Some owner) = t == owner.value
+is_owner t None = false
+
+-- the tables say of each number whether its name is made, and of each enlistment of which transaction it is a durable or promotable one
+pub record AreMade (past : List Line) (transactions enlistments clones scopes : List Bool) (owners : List (Option TxNo)) (par : Bool) : Type 0 where
   pub transactions_long : length transactions ≡ 257
   pub enlistments_long : length enlistments ≡ 10000
   pub clones_long : length clones ≡ 10000
@@ -83,8 +89,8 @@ pub record AreMade (past : List Line) (transactions enlistments clones scopes : 
   pub enlistment : (n : ℕ) → n < 10000 → slice_index_or enlistments n false ≡ is_made past (OfEnlistment n)
   pub clone : (n : ℕ) → n < 10000 → slice_index_or clones n false ≡ is_made past (OfClone n)
   pub scope : (n : ℕ) → n < 10000 → slice_index_or scopes n false ≡ is_made past (OfScope n)
-  pub lasting : (n : ℕ) → n < 10000 → not (slice_index_or owners n 0 == 0) ≡ is_lasting past n
-  pub owner : (t n : ℕ) → 1 ≤ t → n < 10000 → (t == slice_index_or owners n 0) ≡ is_lasting_of past t n
+  pub lasting : (n : ℕ) → n < 10000 → is_some (slice_index_or owners n None) ≡ is_lasting past n
+  pub owner : (t n : ℕ) → n < 10000 → is_owner t (slice_index_or owners n None) ≡ is_lasting_of past t n
   pub par_stands : par ≡ has (λ l. is_par l.body) past
 
 -- the bytes begin with this line, which may follow these ones

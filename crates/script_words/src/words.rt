@@ -25,24 +25,28 @@ pub fn cut(bytes: &[u8], separator: u8) -> Option<(&[u8], &[u8])>
     None
 }
 
+/// Whether the byte is a digit.
 fn is_digit(b: u8) -> bool
     ensures { result ≡ is_digit b }
 {
     b'0' <= b && b <= b'9'
 }
 
+/// Whether the byte is a letter.
 fn is_letter(b: u8) -> bool
     ensures { result ≡ is_letter b }
 {
     (b'A' <= b && b <= b'Z') || (b'a' <= b && b <= b'z')
 }
 
+/// Whether the byte is one of these.
 fn is_one_of(b: u8, letters: &[u8]) -> bool
     ensures { result ≡ has (λ c. b == c) letters.now }
 {
     letters.iter().any(|c| b == *c)
 }
 
+/// Whether the word has a letter.
 fn has_letter(word: &[u8]) -> bool
     ensures { result ≡ has is_letter word.now }
 {
