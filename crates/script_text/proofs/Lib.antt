@@ -1,7 +1,6 @@
 pub mod Forms
 pub mod Fronts
 pub mod Keys
-pub mod Growing
 pub mod Tables
 pub mod CleanWords
 pub mod Figures

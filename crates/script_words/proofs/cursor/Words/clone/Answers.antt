@@ -1,15 +1,13 @@
-use Rattle.std.proofs.Common.{rules, arith}
-use Rattle.std.proofs.lemmas.Bool.Decides.{nat_tests}
+use Rattle.std.proofs.Common.{rules}
 use Rattle.dtx_model.specs.Grammar.{clone_name}
 use Rattle.dtx_model.specs.Faults.{clone_slot}
 use Rattle.script_words.proofs.Places.{taken, not_allowed}
-use Rattle.script_words.proofs.Slots.{name_allowed}
+use Rattle.script_words.proofs.Slots.{clone_allowed}
 use Rattle.script_words.proofs.cursor.Words.clone.Goals as goal
 
 pub returns-in-Some-clone-clause-ok : goal.returns-in-Some-clone-clause-ok
 returns-in-Some-clone-clause-ok c =
-    taken clone_slot c.args.self.now c.in-Some.word.now (clone_name c.in-Some-clone.c.value) c.next.new.self (search rules) c.in-Some-clone.ensures.some
-    (name_allowed 99 9999 c.in-Some-clone.c.value (omega arith) (grind (arith, nat_tests)))
+    taken clone_slot c.args.self.now c.in-Some.word.now (clone_name c.in-Some-clone.c.value) c.next.new.self (search rules) c.in-Some-clone.ensures.some (clone_allowed c.in-Some-clone.c)
 
 pub returns-in-None-clause-err : goal.returns-in-None-clause-err
 returns-in-None-clause-err c =

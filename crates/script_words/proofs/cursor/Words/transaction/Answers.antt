@@ -1,15 +1,13 @@
-use Rattle.std.proofs.Common.{rules, arith}
-use Rattle.std.proofs.lemmas.Bool.Decides.{nat_tests}
+use Rattle.std.proofs.Common.{rules}
 use Rattle.dtx_model.specs.Grammar.{transaction_name}
 use Rattle.dtx_model.specs.Faults.{transaction_slot}
 use Rattle.script_words.proofs.Places.{taken, not_allowed}
-use Rattle.script_words.proofs.Slots.{name_allowed}
+use Rattle.script_words.proofs.Slots.{transaction_allowed}
 use Rattle.script_words.proofs.cursor.Words.transaction.Goals as goal
 
 pub returns-in-Some-transaction-clause-ok : goal.returns-in-Some-transaction-clause-ok
 returns-in-Some-transaction-clause-ok c =
-    taken transaction_slot c.args.self.now c.in-Some.word.now (transaction_name c.in-Some-transaction.t.value) c.next.new.self (search rules) c.in-Some-transaction.ensures.some
-    (name_allowed 116 256 c.in-Some-transaction.t.value (omega arith) (grind (arith, nat_tests)))
+    taken transaction_slot c.args.self.now c.in-Some.word.now (transaction_name c.in-Some-transaction.t.value) c.next.new.self (search rules) c.in-Some-transaction.ensures.some (transaction_allowed c.in-Some-transaction.t)
 
 pub returns-in-None-clause-err : goal.returns-in-None-clause-err
 returns-in-None-clause-err c =
