@@ -51,6 +51,7 @@ opening_forms =
     ∷ (word (codes "suppress") ∷ [])
     ∷ []
 
+-- the words that they begin with
 abbrev pub opening_keys : List (List ℕ)
 opening_keys = codes "required" ∷ codes "requiresnew" ∷ codes "suppress" ∷ []
 
