@@ -1,39 +1,35 @@
 //! What the local side of a transaction knows of its history, and the entries that its calls, replies and acts make.
-ghost use Rattle.std.specs.Prelude.{◌≡◌, ◌<◌, ◌≤◌, ◌==◌, ◌&&◌, [], ◌∷◌, ℕ, Bool, false, find, length, is_some, IfOk, None, Some, not, true};
-ghost use Rattle.std.specs.List.{list_any};
+ghost use Rattle.std.specs.Prelude.{◌≡◌, ◌<◌, ◌≤◌, [], ◌∷◌, false, find, length, is_some, IfOk, not, true};
 ghost use Rattle.dtx_values.specs.Outgoing.{with};
 ghost use Rattle.dtx_values.specs.Clones.{is_open_rollback};
-ghost use Rattle.dtx_values.specs.Table.{Enlistment, is_of};
 ghost use Rattle.dtx_values.specs.declared.entry.Answer.TheVariants.{Fine};
-ghost use Rattle.dtx_values.specs.declared.entry.Entry.TheVariants.{Enlisted, Voted};
-ghost use Rattle.dtx_values.specs.declared.note.Note.{Note};
+ghost use Rattle.dtx_values.specs.declared.entry.Entry.TheVariants.{Enlisted};
 ghost use Rattle.dtx_model.specs.Outcome.{is_empty};
-ghost use Rattle.dtx_model.specs.Entries.{is_volatile};
-ghost use Rattle.dtx_model.specs.Words.{has, kth};
+ghost use Rattle.dtx_model.specs.Words.{has, kth, put};
 ghost use Rattle.dtx_model.specs.Waves.{is_over, next_ask};
 ghost use Rattle.dtx_model.specs.Owners.{owner_of};
-ghost use Rattle.dtx_model.specs.Observed.{observe, track, track_all};
+ghost use Rattle.dtx_model.specs.Observed.{observe, track};
 ghost use Rattle.dtx_model.specs.Caused.{is_new};
-ghost use Rattle.dtx_model.specs.Steps.{Calls, act_entries, all_due, all_voted, answer, await_answer, before_seal, behind_begin, behind_end, behind_seal, block, clone_answer, commit_act, complete_answer, decided_if, due_note, due_of, durable_answer, facts, gone_answer, gone_facts, is_done, is_evident, is_gone, is_handed, is_late, is_no, is_single, is_to_tell, limit_of, lost_outcome, promotable_answer, reaches, reply_entries, stands, status_answer, tell, tick_facts, ticked, time_up, unless_late, unless_over, veto_if, volatile_answer, voted, voted_well};
+ghost use Rattle.dtx_model.specs.Steps.{Calls, act_entries, all_due, all_voted, answer, before_seal, behind_begin, behind_seal, block, clone_answer, commit_act, complete_answer, decided_if, due_note, due_of, durable_answer, facts, gone_answer, gone_facts, hears_abort, is_done, is_gone, is_handed, is_late, is_to_tell, lasts, promotable_answer, reply_entries, stands, status_answer, tell, tick_facts, unless_late, unless_over, veto_if, volatile_answer, voted};
 ghost use Rattle.local_half.specs.Half.{MayNote, after, fits_due, is_alone, is_its_own};
 
-use crate::listeners::{add, first_to_tell, is_gone, lose, tell};
+use crate::listeners::{add, is_gone, lose, tell};
 use crate::time::{limit_of, reaches, ticked};
-use crate::votes::{all_voted, is_evident, is_no, is_single, lasting};
+use crate::votes::{is_evident, is_no, is_single, is_volatile, lasting};
 use dependent_clones::Clones;
 use dtx_model::Listener;
 use dtx_values::{
     ActorNo, Answer, Ask, CLONES, Call, Class, CloneKind, DURABLES, ENLISTMENTS, EnlNo, EnlistOption, Entry, Note,
-    Outbox, Outcome, Party, Reply, Row, Support, Timeout, TxNo, Vote,
+    Outbox, Outcome, Party, Reply, Row, TxNo,
 };
-use durable_enlist::{cause_of, owner_of};
+use durable_enlist::cause_of;
 use enlist_table::EnlistTable;
 use light_committer::{LightAct, decide, owner_lost};
 use phase_zero::Waves;
 use promotable_enlist::try_own;
 use std::alloc::{AllocError, Global};
 use std::marker::Model;
-use volatile_enlist::{next_ask, take_vote};
+use volatile_enlist::{hears, next_ask, take_vote};
 
 /// The local side of one transaction, while it isn't promoted. Contracts see what is observed of its history. Only the constructor takes memory; each call
 /// writes into an outbox that has room.
@@ -497,78 +493,105 @@ impl LocalHalf {
         self.handed == Some(e)
     }
 
-    fn tell(&mut self, o: Outcome, out: &mut Outbox) -> bool
-        requires { 1 ≤ out.old.room }
-        ensures acted { result ≡ not (is_empty (tell o (find (is_to_tell self.old.seen o) self.old.seen.listeners) self.old.seen.told_client)) }
-        ensures state { self.new ≡ after self.old (tell o (find (is_to_tell self.old.seen o) self.old.seen.listeners) self.old.seen.told_client) }
-        ensures out { out.new ≡ with out.old (tell o (find (is_to_tell self.old.seen o) self.old.seen.listeners) self.old.seen.told_client) }
+    /// Whether this enlistment is durable or promotable.
+    fn lasts(&self, e: EnlNo) -> bool
+        ensures { result ≡ lasts self.now.seen.table e.value }
     {
-        match first_to_tell(&self.listeners, &self.table, self.handed, o) {
-            Some(l) => self.write(Entry::Told(Party::Enl(l.enlistment), o), out),
+        self.table.rows().iter().any(|x| x.0 == e && !is_volatile(x.1.class))
+    }
+
+    /// Whether it is durable or promotable, and an abort is told to it: it wasn't handed the commit, and isn't lost.
+    fn hears_abort(&self, l: &Listener) -> bool
+        ensures { result ≡ hears_abort self.now.seen l.now }
+    {
+        self.lasts(l.enlistment) && !self.is_handed(l.enlistment) && !l.lost
+    }
+
+    /// Whether the outcome is still to be told to it.
+    fn is_to_tell(&self, o: Outcome, l: &Listener) -> bool
+        ensures { result ≡ is_to_tell self.now.seen o l.now }
+    {
+        !l.told
+            && (hears(&self.table, l.enlistment)
+                || (o == Outcome::Aborted && self.hears_abort(l)))
+    }
+
+    /// The lowest enlistment that is still to be told the outcome.
+    fn first_to_tell(&self, o: Outcome) -> Option<Listener>
+        ensures { result ≡ find (is_to_tell self.now.seen o) self.now.seen.listeners }
+    {
+        self.listeners.iter().copied().find(|l| self.is_to_tell(o, l))
+    }
+
+    /// The entry that tells the outcome to the next: the lowest enlistment that is still to be told, and then the client.
+    fn next_told(&self, o: Outcome) -> Option<Entry>
+        ensures { put result [] ≡ tell o (find (is_to_tell self.now.seen o) self.now.seen.listeners) self.now.seen.told_client }
+    {
+        match self.first_to_tell(o) {
+            Some(l) => Some(Entry::Told(Party::Enl(l.enlistment), o)),
+            None => match self.told_client {
+                Some(_) => None,
+                None => Some(Entry::Told(Party::Client, o)),
+            },
+        }
+    }
+
+    /// The entry of phase zero: the next is asked, or it is over and the transaction is sealed.
+    fn next_before_seal(&self) -> Option<Entry>
+        ensures { put result [] ≡ before_seal (next_ask self.now.seen.table true) (is_over self.now.seen.table self.now.seen.clones 0) }
+    {
+        let mut waves = self.waves;
+        match waves.next_wave(&self.table) {
+            Some(e) => Some(Entry::Asked(e, Ask::Prepare)),
             None => {
-                if self.told_client.is_some() {
-                    return false;
+                if waves.is_over(&self.table, &self.clones, 0) {
+                    Some(Entry::Sealed)
+                } else {
+                    None
                 }
-                self.write(Entry::Told(Party::Client, o), out);
             }
         }
-        true
     }
 
-    /// Phase zero: asks the next, or seals when it is over.
-    fn before_seal(&mut self, out: &mut Outbox) -> bool
-        requires { 1 ≤ out.old.room }
-        ensures acted { result ≡ not (is_empty (before_seal (next_ask self.old.seen.table true) (is_over self.old.seen.table self.old.seen.clones 0))) }
-        ensures state { self.new ≡ after self.old (before_seal (next_ask self.old.seen.table true) (is_over self.old.seen.table self.old.seen.clones 0)) }
-        ensures out { out.new ≡ with out.old (before_seal (next_ask self.old.seen.table true) (is_over self.old.seen.table self.old.seen.clones 0)) }
-    {
-        match self.waves.next_wave(&self.table) {
-            Some(e) => self.write(Entry::Asked(e, Ask::Prepare), out),
-            None => {
-                if !self.waves.is_over(&self.table, &self.clones, 0) {
-                    return false;
-                }
-                self.write(Entry::Sealed, out);
-            }
-        }
-        true
-    }
-
-    /// Hands the commit to the owner, once, or commits where nothing is durable or promotable.
-    fn commit(&mut self, out: &mut Outbox) -> bool
-        requires voted { all_voted self.old.seen.table ≡ true }
-        requires room { 1 ≤ out.old.room }
-        ensures acted { result ≡ not (is_empty (commit_act (is_some self.old.seen.handed) (owner_of self.old.seen.table))) }
-        ensures state { self.new ≡ after self.old (commit_act (is_some self.old.seen.handed) (owner_of self.old.seen.table)) }
-        ensures out { out.new ≡ with out.old (commit_act (is_some self.old.seen.handed) (owner_of self.old.seen.table)) }
-    {
-        match decide(&self.table, self.handed.is_some()) {
-            LightAct::Nothing => return false,
-            LightAct::HandTo(e) => self.write(Entry::Handed(e), out),
-            LightAct::CommitNow => self.write(Entry::Decided(Outcome::Committed), out),
-        }
-        true
-    }
-
-    /// Behind the seal: asks the next, or does what is to be done with the commit when all voted.
-    fn behind_seal(&mut self, out: &mut Outbox) -> bool
-        requires { 1 ≤ out.old.room }
-        ensures acted { result ≡ not (is_empty (behind_seal (next_ask self.old.seen.table false) (all_voted self.old.seen.table) (commit_act (is_some self.old.seen.handed) (owner_of self.old.seen.table)))) }
-        ensures state { self.new ≡ after self.old (behind_seal (next_ask self.old.seen.table false) (all_voted self.old.seen.table) (commit_act (is_some self.old.seen.handed) (owner_of self.old.seen.table))) }
-        ensures out { out.new ≡ with out.old (behind_seal (next_ask self.old.seen.table false) (all_voted self.old.seen.table) (commit_act (is_some self.old.seen.handed) (owner_of self.old.seen.table))) }
+    /// The entry behind the seal: the next is asked; when all voted, the commit is handed to the owner, once, or it is committed where nothing is
+    /// durable or promotable.
+    fn next_behind_seal(&self) -> Option<Entry>
+        ensures { put result [] ≡ behind_seal (next_ask self.now.seen.table false) (all_voted self.now.seen.table) (commit_act (is_some self.now.seen.handed) (owner_of self.now.seen.table)) }
     {
         match next_ask(&self.table, false) {
-            Some(e) => {
-                self.write(Entry::Asked(e, Ask::Prepare), out);
-                true
-            }
+            Some(e) => Some(Entry::Asked(e, Ask::Prepare)),
+            None => match decide(&self.table, self.handed.is_some()) {
+                LightAct::Nothing => None,
+                LightAct::HandTo(e) => Some(Entry::Handed(e)),
+                LightAct::CommitNow => Some(Entry::Decided(Outcome::Committed)),
+            },
+        }
+    }
+
+    /// The entry of the local act; `None` exactly where none is pending.
+    fn next_act(&self) -> Option<Entry>
+        ensures { put result [] ≡ act_entries self.now.seen }
+    {
+        match self.decided {
+            Some(o) => self.next_told(o),
             None => {
-                if !all_voted(self.table.rows()) {
-                    return false;
+                if !self.commit {
+                    return None;
                 }
-                self.commit(out)
+                if self.sealed {
+                    self.next_behind_seal()
+                } else {
+                    self.next_before_seal()
+                }
             }
         }
+    }
+
+    /// Whether a local act is pending. It isn't done.
+    pub fn has_act(&self) -> bool
+        ensures { result ≡ not (is_empty (act_entries self.now.seen)) }
+    {
+        self.next_act().is_some()
     }
 
     /// Does the local act; false exactly where none is pending.
@@ -578,18 +601,12 @@ impl LocalHalf {
         ensures state { self.new ≡ after self.old (act_entries self.old.seen) }
         ensures out { out.new ≡ with out.old (act_entries self.old.seen) }
     {
-        match self.decided {
-            Some(o) => self.tell(o, out),
-            None => {
-                if !self.commit {
-                    return false;
-                }
-                if self.sealed {
-                    self.behind_seal(out)
-                } else {
-                    self.before_seal(out)
-                }
+        match self.next_act() {
+            Some(x) => {
+                self.write(x, out);
+                true
             }
+            None => false,
         }
     }
 

@@ -1,15 +1,12 @@
 //! Whom the outcome is told to.
-ghost use Rattle.std.specs.Prelude.{◌≡◌, ◌<◌, ◌≤◌, ◌+◌, map, find, length, vec_len, vec_capacity};
-ghost use Rattle.std.specs.List.{insert};
+ghost use Rattle.std.specs.Prelude.{◌≡◌, ◌<◌, ◌≤◌, ◌+◌, ◌==◌, ◌&&◌, map, length, vec_len, vec_capacity};
+ghost use Rattle.std.specs.List.{insert, list_any};
 ghost use Rattle.dtx_values.specs.Table.{insert_by};
 ghost use Rattle.dtx_model.specs.declared.listener.Listener.{Listener};
-ghost use Rattle.dtx_model.specs.Observed.{hear, listener_number};
-ghost use Rattle.dtx_model.specs.Steps.{is_to_tell};
+ghost use Rattle.dtx_model.specs.Observed.{hear, listener_number, lose};
 
 use dtx_model::Listener;
 use dtx_values::EnlNo;
-use enlist_table::EnlistTable;
-use volatile_enlist::hears;
 
 /// The index at which a listener of this number goes.
 fn place(listeners: &[Listener], n: u32) -> usize

@@ -4,7 +4,7 @@ ghost use Rattle.dtx_values.specs.Table.{how_many};
 ghost use Rattle.dtx_model.specs.Entries.{is_volatile};
 ghost use Rattle.dtx_model.specs.Owners.{is_lasting};
 ghost use Rattle.dtx_model.specs.Words.{each};
-ghost use Rattle.dtx_model.specs.Steps.{all_voted, is_evident, is_no, is_single, voted_well};
+ghost use Rattle.dtx_model.specs.Steps.{is_evident, is_no, is_single, voted_well};
 
 use dtx_values::{Class, EnlNo, Row, Support, Vote};
 
@@ -54,14 +54,6 @@ pub fn is_evident(sealed: bool, rows: &[(EnlNo, Row)]) -> bool
     ensures { result ≡ is_evident sealed rows.now }
 {
     sealed && are_well(rows)
-}
-
-/// Whether every volatile voted.
-pub fn all_voted(rows: &[(EnlNo, Row)]) -> bool
-    ensures { result ≡ all_voted rows.now }
-{
-    rows.iter()
-        .all(|x| !is_volatile(x.1.class) || x.1.vote.is_some())
 }
 
 /// How many are durable or promotable.
