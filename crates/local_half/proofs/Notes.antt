@@ -1,72 +1,28 @@
--- What the tables take where a call was answered ok.
-use Rattle.std.proofs.Common.{◌≡◌, ℕ, suc, ◌<◌, ◌||◌, Bool, true, false, not, List, [], ◌∷◌, length, Option, Some, None, nat_le, nat_lt, if◌then◌else◌, refl, ap, arith}
-use Rattle.std.specs.List.{list_any}
+-- What the tables take.
+use Rattle.std.proofs.Common.{◌≡◌, ◌==◌, ℕ, suc, ◌||◌, ◌&&◌, Bool, true, false, not, List, [], ◌∷◌, length, Option, Some, None, nat_le, nat_lt, if◌then◌else◌, cond, is_some, find, refl, ap, arith, sym, ◌∙◌}
 use Rattle.std.proofs.lemmas.Bool.Decides.{nat_tests}
 use Rattle.dtx_values.specs.declared.entry.Answer.{Answer}
-use Rattle.dtx_values.specs.declared.entry.Answer.TheVariants.{Fine, Many, TooLate}
-use Rattle.dtx_values.specs.declared.number.CloneNo.{CloneNo}
+use Rattle.dtx_values.specs.declared.entry.Answer.TheVariants.{Fine, Many, False, True, TooLate}
+use Rattle.dtx_values.specs.declared.note.Note.{Note}
+use Rattle.dtx_values.specs.declared.note.Reply.TheVariants.{Vote as VoteReply}
 use Rattle.dtx_values.specs.declared.number.EnlNo.{EnlNo}
-use Rattle.dtx_values.specs.declared.script.EnlistOption.{EnlistOption}
-use Rattle.dtx_values.specs.declared.script.EnlistOption.TheVariants.{Plain, DuringPrepare}
+use Rattle.dtx_values.specs.declared.words.Cause.{Cause}
+use Rattle.dtx_values.specs.declared.words.Cause.TheVariants.{Two, Second, Beside}
 use Rattle.dtx_values.specs.declared.words.Class.{Class}
-use Rattle.dtx_values.specs.declared.words.CloneKind.{CloneKind}
-use Rattle.dtx_values.specs.declared.words.CloneKind.TheVariants.{Block, Rollback}
+use Rattle.dtx_values.specs.declared.words.Class.TheVariants.{Zero, One, DurableTwo, DurableSingle, Promotable}
 use Rattle.dtx_values.specs.declared.words.Outcome.{Outcome}
-use Rattle.dtx_values.specs.declared.row.CloneRow.{CloneRow}
-use Rattle.dtx_values.specs.Clones.{blocks, is_clone}
-use Rattle.dtx_values.specs.Table.{Enlistment, how_many, insert_by, is_of}
-use Rattle.dtx_model.specs.Steps.{behind_begin, behind_end, class_of, clone_answer, is_fine, volatile_answer}
+use Rattle.dtx_values.specs.declared.words.Vote.{Vote}
+use Rattle.dtx_values.specs.Table.{Enlistment, has_voted, how_many, insert_by, is_marked, is_of}
+use Rattle.dtx_values.proofs.Counts.{how_many-none}
+use Rattle.dtx_model.specs.Entries.{is_volatile}
+use Rattle.dtx_model.specs.Observed.{Observed}
+use Rattle.dtx_model.specs.Owners.{cause_of, is_durable, is_lasting, is_promotable, may_own}
+use Rattle.dtx_model.specs.Steps.{behind_begin, behind_end, due_of, durable_answer, is_done, is_gone, is_handed, note_of, open_note, promotable_answer, wait_for}
 use Rattle.dtx_model.specs.Words.{has}
-use Rattle.dtx_model.proofs.Bools.{not_true}
-use Rattle.enlist_table.specs.Refusals.{add_refusal, is_lasting, stands}
-use Rattle.enlist_table.specs.declared.refusal.AddRefusal.TheVariants.{Twice, Many as ManyRows}
-use Rattle.dependent_clones.specs.Refusals.{clone_refusal, kind_of}
-
--- an answer behind notbegun and ended is ok only where it is
-fine_inside : (limit : Option ℕ) (d : Option Outcome) (a : Answer) → is_fine (behind_begin limit (behind_end d a)) ≡ true → is_fine a ≡ true
-fine_inside None d a k = absurd (cc)
-fine_inside (Some l) (Some x) a k = absurd (cc)
-fine_inside (Some l) None a k = k
-
--- what no volatile's class is
-not_lasting : (x : EnlistOption) → is_lasting (class_of x) ≡ false
-not_lasting Plain = refl
-not_lasting DuringPrepare = refl
-
--- a new volatile that was answered ok is taken
-pub may_enlist : (limit : Option ℕ) (d : Option Outcome) (sealed : Bool) (xs : List Enlistment) (e : EnlNo) (x : EnlistOption)
-    → is_fine (behind_begin limit (behind_end d (volatile_answer sealed xs))) ≡ true → not (has (is_of e.value) xs) ≡ true → add_refusal e (class_of x) xs ≡ None
-may_enlist limit d sealed xs e x k fresh = step sealed (nat_le 32 (length xs)) (fine_inside limit d (volatile_answer sealed xs) k) refl
-  where
-    new : stands e.value xs ≡ false
-    new = not_true (has (is_of e.value) xs) fresh
-
-    step : (sealed many : Bool) → is_fine (if sealed then TooLate else if many then Many 32 else Fine) ≡ true → nat_le 32 (length xs) ≡ many → add_refusal e (class_of x) xs ≡ None
-    step true many k m = absurd (cc)
-    step false true k m = absurd (cc)
-    step false false k m = rw (new, m, not_lasting x) refl
-
--- a new clone that was answered ok is taken
-pub may_clone : (limit : Option ℕ) (d : Option Outcome) (commit : Bool) (cs : List CloneRow) (c : CloneNo)
-    → is_fine (behind_begin limit (behind_end d (clone_answer commit (length cs)))) ≡ true → not (has (is_clone c.value) cs) ≡ true → clone_refusal c commit cs ≡ None
-may_clone limit d commit cs c k fresh = step commit (nat_le 32 (length cs)) (fine_inside limit d (clone_answer commit (length cs)) k) refl
-  where
-    new : list_any (is_clone c.value) cs ≡ false
-    new = not_true (has (is_clone c.value) cs) fresh
-
-    step : (commit many : Bool) → is_fine (if commit then TooLate else if many then Many 32 else Fine) ≡ true → nat_le 32 (length cs) ≡ many → clone_refusal c commit cs ≡ None
-    step true many k m = absurd (cc)
-    step false true k m = absurd (cc)
-    step false false k m = rw (new, m) refl
-
--- where an enlistment is taken there is room for one
-pub room : (e : EnlNo) (c : Class) (xs : List Enlistment) → add_refusal e c xs ≡ None → length xs < 32
-room e c xs k = step (stands e.value xs) (nat_le 32 (length xs)) refl refl k
-  where
-    step : (a b : Bool) → stands e.value xs ≡ a → nat_le 32 (length xs) ≡ b → add_refusal e c xs ≡ None → length xs < 32
-    step true b t m k = let refused : add_refusal e c xs ≡ Some (Twice e) = rw t refl in absurd (cc)
-    step false true t m k = let refused : add_refusal e c xs ≡ Some (ManyRows 32) = rw (t, m) refl in absurd (cc)
-    step false false t m k = grind (arith, nat_tests)
+use Rattle.dtx_model.proofs.Bools.{and_never, not_false, not_true, or_false, or_first, or_second}
+use Rattle.enlist_table.specs.Refusals.{add_refusal, stands, is_lasting as lasts_in}
+use Rattle.local_half.specs.Half.{fits_due}
+use Rattle.volatile_enlist.specs.Refusals.{was_asked}
 
 -- one more item
 pub length-insert_by : {A : Type 0} (key : A → ℕ) (x : A) (ys : List A) → length (insert_by key x ys) ≡ suc (length ys)
@@ -86,9 +42,109 @@ some_left p (x ∷ xs) = step (p x) (some_left p xs)
     step true ih = grind (arith, nat_tests)
     step false ih = ih
 
--- the kind that the test for blocking gives
-pub kind-blocks : (k : CloneKind) (b : Bool) → blocks k ≡ b → kind_of b ≡ k
-kind-blocks Block true e = refl
-kind-blocks Block false e = absurd (cc)
-kind-blocks Rollback true e = absurd (cc)
-kind-blocks Rollback false e = refl
+-- a call is done behind notbegun and ended only where it is without them
+done_inside : (limit : Option ℕ) (d : Option Outcome) (a : Answer) → is_done (behind_begin limit (behind_end d a)) ≡ true → is_done a ≡ true
+done_inside None d a k = absurd (cc)
+done_inside (Some l) (Some x) a k = absurd (cc)
+done_inside (Some l) None a k = k
+
+-- the table's word for a lasting class
+lasts_in-same : (c : Class) → lasts_in c ≡ not (is_volatile c)
+lasts_in-same Zero = refl
+lasts_in-same One = refl
+lasts_in-same DurableTwo = refl
+lasts_in-same DurableSingle = refl
+lasts_in-same Promotable = refl
+
+-- the table counts as many where none lasts
+lasting-none : (xs : List Enlistment) → has is_lasting xs ≡ false → nat_le 16 (how_many (λ x. lasts_in x.1.class) xs) ≡ false
+lasting-none xs none =
+    let same : how_many (λ x. lasts_in x.1.class) xs ≡ how_many is_lasting xs = λ i. how_many (λ x. lasts_in-same x.1.class i) xs in
+    let zero : (how_many is_lasting xs == 0) ≡ true = how_many-none is_lasting xs ∙ not_false (has is_lasting xs) none in
+    grind (arith, nat_tests)
+
+-- a new one is taken where 32 don't stand and none lasts
+taken : (e : EnlNo) (c : Class) (xs : List Enlistment) → stands e.value xs ≡ false → nat_le 32 (length xs) ≡ false → has is_lasting xs ≡ false → add_refusal e c xs ≡ None
+taken e c xs new few none = rw (new, few, lasting-none xs none, and_never (lasts_in c)) refl
+
+-- a class that is neither durable nor promotable is volatile
+volatile_else : (c : Class) → is_durable c ≡ false → is_promotable c ≡ false → not (is_volatile c) ≡ false
+volatile_else Zero d p = refl
+volatile_else One d p = refl
+volatile_else DurableTwo d p = absurd (cc)
+volatile_else DurableSingle d p = absurd (cc)
+volatile_else Promotable d p = absurd (cc)
+
+-- none lasts where none is durable and none promotable
+none_lasts : (xs : List Enlistment) → has (λ x. is_durable x.1.class) xs ≡ false → has (λ x. is_promotable x.1.class) xs ≡ false → has is_lasting xs ≡ false
+none_lasts [] d p = refl
+none_lasts (x ∷ xs) d p =
+    or_false (is_lasting x) (has is_lasting xs)
+    (volatile_else x.1.class (or_first (is_durable x.1.class) (has (λ y. is_durable y.1.class) xs) d) (or_first (is_promotable x.1.class) (has (λ y. is_promotable y.1.class) xs) p))
+    (none_lasts xs (or_second (is_durable x.1.class) (has (λ y. is_durable y.1.class) xs) d) (or_second (is_promotable x.1.class) (has (λ y. is_promotable y.1.class) xs) p))
+
+-- where a durable call needn't wait, none lasts
+no_wait : (xs : List Enlistment) (single : Bool) → is_done (wait_for (cause_of xs single)) ≡ true → has is_lasting xs ≡ false
+unfolding cause_of
+no_wait xs single k = step (has (λ x. is_durable x.1.class) xs) (has (λ x. is_promotable x.1.class) xs) single refl refl k
+  where
+    step : (d p s : Bool) → has (λ x. is_durable x.1.class) xs ≡ d → has (λ x. is_promotable x.1.class) xs ≡ p
+        → is_done (wait_for (if d then Some Second else if p then Some Beside else if s then None else Some Two)) ≡ true → has is_lasting xs ≡ false
+    step true p s a b k = absurd (cc)
+    step false true s a b k = absurd (cc)
+    step false false s a b k = none_lasts xs a b
+
+-- a new durable one whose call is done is taken, and none lasts beside it
+pub may_last : (limit : Option ℕ) (d : Option Outcome) (sealed single : Bool) (xs : List Enlistment) (e : EnlNo)
+    → is_done (behind_begin limit (behind_end d (durable_answer sealed single xs))) ≡ true → not (has (is_of e.value) xs) ≡ true
+    → (add_refusal e DurableSingle xs ≡ None) × (not (has is_lasting xs) ≡ true)
+may_last limit d sealed single xs e k fresh = step sealed (nat_le 32 (length xs)) (nat_le 16 (how_many is_lasting xs)) refl (done_inside limit d (durable_answer sealed single xs) k)
+  where
+    step : (sealed many more : Bool) → nat_le 32 (length xs) ≡ many → is_done (if sealed then TooLate else if many then Many 32 else if more then Many 16 else wait_for (cause_of xs single)) ≡ true
+        → (add_refusal e DurableSingle xs ≡ None) × (not (has is_lasting xs) ≡ true)
+    step true many more m k = absurd (cc)
+    step false true more m k = absurd (cc)
+    step false false true m k = absurd (cc)
+    step false false false m k =
+        let none : has is_lasting xs ≡ false = no_wait xs single k in
+        (taken e DurableSingle xs (not_true (has (is_of e.value) xs) fresh) m none, not_false (has is_lasting xs) none)
+
+-- a new promotable one whose call is done is taken, and none lasts beside it
+pub may_promote : (limit : Option ℕ) (d : Option Outcome) (sealed : Bool) (xs : List Enlistment) (e : EnlNo)
+    → is_done (behind_begin limit (behind_end d (promotable_answer sealed xs))) ≡ true → not (has (is_of e.value) xs) ≡ true
+    → (add_refusal e Promotable xs ≡ None) × (not (has is_lasting xs) ≡ true)
+unfolding may_own
+may_promote limit d sealed xs e k fresh = step sealed (has is_lasting xs) (nat_le 32 (length xs)) refl refl (done_inside limit d (promotable_answer sealed xs) k)
+  where
+    step : (sealed lasts many : Bool) → has is_lasting xs ≡ lasts → nat_le 32 (length xs) ≡ many → is_done (if sealed then TooLate else if not (not lasts) then False else if many then Many 32 else True) ≡ true
+        → (add_refusal e Promotable xs ≡ None) × (not (has is_lasting xs) ≡ true)
+    step true lasts many l m k = absurd (cc)
+    step false true many l m k = absurd (cc)
+    step false false true l m k = absurd (cc)
+    step false false false l m k = (taken e Promotable xs (not_true (has (is_of e.value) xs) fresh) m l, not_false (has is_lasting xs) l)
+
+-- what is found passes the test, and may pass another
+found : {A : Type 0} (p q : A → Bool) (xs : List A) (x : A) → find p xs ≡ Some x → q x ≡ true → has (λ y. p y && q y) xs ≡ true
+found p q [] x f k = absurd (cc)
+found p q (y ∷ ys) x f k = step (p y) f (λ g. found p q ys x g k)
+  where
+    step : (b : Bool) → cond b (Some y) (find p ys) ≡ Some x → (find p ys ≡ Some x → has (λ z. p z && q z) ys ≡ true) → ((b && q y) || has (λ z. p z && q z) ys) ≡ true
+    step true f rest = let same : y ≡ x = cc in rw (same, k) refl
+    step false f rest = rest f
+
+-- an enlistment of which a vote is due was asked
+pub due-asked : (o : Observed) (e : ℕ) (v : Vote) → is_some (due_of o e) ≡ true → fits_due (VoteReply v) (due_of o e) ≡ true → was_asked e o.table ≡ true
+unfolding due_of
+due-asked o e v s f = by (find (is_of e) o.table) refl s f
+  where
+    marked : (over m n h : Bool) → is_some (if over then None else open_note (m && n) h) ≡ true → fits_due (VoteReply v) (if over then None else open_note (m && n) h) ≡ true → m ≡ true
+    marked true m n h s f = absurd (cc)
+    marked false true n h s f = refl
+    marked false false n true s f = absurd (cc)
+    marked false false n false s f = absurd (cc)
+
+    by : (r : Option Enlistment) → find (is_of e) o.table ≡ r → is_some (note_of o r) ≡ true → fits_due (VoteReply v) (note_of o r) ≡ true → was_asked e o.table ≡ true
+    by None r s f = absurd (cc)
+    by (Some x) r s f =
+        found (is_of e) is_marked o.table x r
+        (marked (is_some o.decided || is_gone o x.0.value) (is_marked x) (not (has_voted x)) (is_handed o.handed x.0.value) s f)

@@ -2,6 +2,7 @@
 ghost use Rattle.std.specs.Prelude.{◌≡◌, ◌<◌, ◌≤◌, [], ◌∷◌, false, find, length, is_some, IfOk, not, true};
 ghost use Rattle.dtx_values.specs.Outgoing.{with};
 ghost use Rattle.dtx_values.specs.Clones.{is_open_rollback};
+ghost use Rattle.dtx_values.specs.Table.{is_of};
 ghost use Rattle.dtx_values.specs.declared.entry.Answer.TheVariants.{Fine};
 ghost use Rattle.dtx_values.specs.declared.entry.Entry.TheVariants.{Enlisted};
 ghost use Rattle.dtx_model.specs.Outcome.{is_empty};
@@ -19,8 +20,8 @@ use crate::votes::{is_evident, is_no, is_single, is_volatile, lasting};
 use dependent_clones::Clones;
 use dtx_model::Listener;
 use dtx_values::{
-    ActorNo, Answer, Ask, CLONES, Call, Class, CloneKind, DURABLES, ENLISTMENTS, EnlNo, EnlistOption, Entry, Note,
-    Outbox, Outcome, Party, Reply, Row, TxNo,
+    ActorNo, Answer, Ask, CLONES, Call, Class, CloneKind, DURABLES, ENLISTMENTS, EnlNo,
+    EnlistOption, Entry, Note, Outbox, Outcome, Party, Reply, Row, TxNo,
 };
 use durable_enlist::cause_of;
 use enlist_table::EnlistTable;
@@ -318,7 +319,9 @@ impl LocalHalf {
     {
         match *c {
             Call::Volatile(_, _, _, _) => self.unless_over(self.volatile_answer()),
-            Call::Durable(_, _, _, support) => self.unless_over(self.durable_answer(is_single(support))),
+            Call::Durable(_, _, _, support) => self.unless_over(self.durable_answer(is_single(
+                support,
+            ))),
             Call::Promotable(_, _, _, _, _, _) => self.unless_over(self.promotable_answer()),
             Call::Clone(_, _, _) => self.unless_over(self.clone_answer()),
             Call::Complete(c) => self.unless_over(self.complete_answer(
@@ -483,7 +486,10 @@ impl LocalHalf {
     fn voted(&self, e: EnlNo) -> bool
         ensures { result ≡ voted self.now.seen.table e.value }
     {
-        self.table.rows().iter().any(|x| x.0 == e && x.1.vote.is_some())
+        self.table
+            .rows()
+            .iter()
+            .any(|x| x.0 == e && x.1.vote.is_some())
     }
 
     /// Whether the commit was handed to the enlistment.
@@ -497,7 +503,10 @@ impl LocalHalf {
     fn lasts(&self, e: EnlNo) -> bool
         ensures { result ≡ lasts self.now.seen.table e.value }
     {
-        self.table.rows().iter().any(|x| x.0 == e && !is_volatile(x.1.class))
+        self.table
+            .rows()
+            .iter()
+            .any(|x| x.0 == e && !is_volatile(x.1.class))
     }
 
     /// Whether it is durable or promotable, and an abort is told to it: it wasn't handed the commit, and isn't lost.
@@ -512,15 +521,17 @@ impl LocalHalf {
         ensures { result ≡ is_to_tell self.now.seen o l.now }
     {
         !l.told
-            && (hears(&self.table, l.enlistment)
-                || (o == Outcome::Aborted && self.hears_abort(l)))
+            && (hears(&self.table, l.enlistment) || (o == Outcome::Aborted && self.hears_abort(l)))
     }
 
     /// The lowest enlistment that is still to be told the outcome.
     fn first_to_tell(&self, o: Outcome) -> Option<Listener>
         ensures { result ≡ find (is_to_tell self.now.seen o) self.now.seen.listeners }
     {
-        self.listeners.iter().copied().find(|l| self.is_to_tell(o, l))
+        self.listeners
+            .iter()
+            .copied()
+            .find(|l| self.is_to_tell(o, l))
     }
 
     /// The entry that tells the outcome to the next: the lowest enlistment that is still to be told, and then the client.
@@ -610,12 +621,20 @@ impl LocalHalf {
         }
     }
 
+    /// The enlistment with its row, where it stands.
+    fn enlistment(&self, e: EnlNo) -> Option<(EnlNo, Row)>
+        ensures { result ≡ find (is_of e.value) self.now.seen.table }
+    {
+        self.table.rows().iter().copied().find(|x| x.0 == e)
+    }
+
     /// To what a reply of the enlistment is due; `None` exactly where none is.
+    #[tactic(auto, unfolding(dtx_model::specs::Steps::due_of))]
     pub fn due_of(&self, e: EnlNo) -> Option<Note>
         ensures { result ≡ due_of self.now.seen e.value }
     {
-        match self.table.state_of(e) {
-            Some(row) => self.due_note(&(e, row)),
+        match self.enlistment(e) {
+            Some(x) => self.due_note(&x),
             None => None,
         }
     }
@@ -637,6 +656,7 @@ impl LocalHalf {
     }
 
     /// The lowest enlistment of which a reply is due, with the note; `None` exactly where none is due.
+    #[tactic(auto, unfolding(dtx_model::specs::Steps::all_due))]
     pub fn due(&self) -> Option<(EnlNo, Note)>
         ensures { result ≡ kth (all_due self.now.seen) 1 }
     {
