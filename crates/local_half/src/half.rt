@@ -79,6 +79,26 @@ impl Model for LocalHalf {
     ghost invariant = { λ m. (ENLISTMENTS ≤ vec_capacity m.listeners) × (length m.listeners.items ≡ length m.table) × (how_many is_lasting m.table ≤ 1) };
 }
 
+/// What the completion of a clone is answered, once it is begun and while nothing is decided.
+fn complete_answer(stands: bool, complete: bool) -> Answer
+    ensures { result ≡ complete_answer stands complete }
+{
+    if !stands {
+        return Answer::NoSuch;
+    }
+    if complete {
+        return Answer::Already;
+    }
+    Answer::Fine
+}
+
+/// The answer behind `toolate`.
+fn unless_late(late: bool) -> Answer
+    ensures { result ≡ unless_late late }
+{
+    if late { Answer::TooLate } else { Answer::Fine }
+}
+
 impl LocalHalf {
     /// The local side of this transaction, of which nothing is known yet.
     ///
@@ -227,6 +247,7 @@ impl LocalHalf {
         })
     }
 
+    /// What a volatile call is answered, once it is begun and while nothing is decided.
     fn volatile_answer(&self) -> Answer
         ensures { result ≡ volatile_answer self.now.seen.sealed self.now.seen.table }
     {
@@ -239,6 +260,7 @@ impl LocalHalf {
         Answer::Fine
     }
 
+    /// What a durable call is answered, once it is begun and while nothing is decided. One that can't own the commit, or doesn't come first, waits.
     fn durable_answer(&self, single: bool) -> Answer
         ensures { result ≡ durable_answer self.now.seen.sealed single self.now.seen.table }
     {
@@ -257,6 +279,7 @@ impl LocalHalf {
         }
     }
 
+    /// What a promotable call is answered, once it is begun and while nothing is decided.
     fn promotable_answer(&self) -> Answer
         ensures { result ≡ promotable_answer self.now.seen.sealed self.now.seen.table }
     {
@@ -272,6 +295,7 @@ impl LocalHalf {
         Answer::True
     }
 
+    /// What a call for a clone is answered, once it is begun and while nothing is decided.
     fn clone_answer(&self) -> Answer
         ensures { result ≡ clone_answer self.now.seen.commit (length self.now.seen.clones) }
     {
@@ -284,18 +308,7 @@ impl LocalHalf {
         Answer::Fine
     }
 
-    fn complete_answer(&self, stands: bool, complete: bool) -> Answer
-        ensures { result ≡ complete_answer stands complete }
-    {
-        if !stands {
-            return Answer::NoSuch;
-        }
-        if complete {
-            return Answer::Already;
-        }
-        Answer::Fine
-    }
-
+    /// What a call for the status is answered, once it is begun.
     fn status_answer(&self) -> Answer
         ensures { result ≡ status_answer self.now.seen.decided }
     {
@@ -303,12 +316,6 @@ impl LocalHalf {
             Some(o) => Answer::OutcomeIs(o),
             None => Answer::StillActive,
         }
-    }
-
-    fn unless_late(&self, late: bool) -> Answer
-        ensures { result ≡ unless_late late }
-    {
-        if late { Answer::TooLate } else { Answer::Fine }
     }
 
     /// The first answer whose condition holds.
@@ -324,12 +331,12 @@ impl LocalHalf {
             ))),
             Call::Promotable(_, _, _, _, _, _) => self.unless_over(self.promotable_answer()),
             Call::Clone(_, _, _) => self.unless_over(self.clone_answer()),
-            Call::Complete(c) => self.unless_over(self.complete_answer(
+            Call::Complete(c) => self.unless_over(complete_answer(
                 self.clones.stands(c),
                 self.clones.is_complete(c),
             )),
-            Call::Commit(_) => self.unless_over(self.unless_late(self.commit)),
-            Call::Rollback(_) => self.unless_over(self.unless_late(self.sealed)),
+            Call::Commit(_) => self.unless_over(unless_late(self.commit)),
+            Call::Rollback(_) => self.unless_over(unless_late(self.sealed)),
             Call::Status(_) => self.behind_begin(self.status_answer()),
             Call::Tick(_, _) => self.behind_begin(Answer::Fine),
             _ => Answer::Fine,
@@ -339,6 +346,7 @@ impl LocalHalf {
 
 #[tactic(auto, using(crate::proofs::Writing::outgoing), unfolding(dtx_model::specs::Observed::track, dtx_model::specs::Observed::track_all, dtx_model::specs::Steps::answer, dtx_model::specs::Steps::block, dtx_model::specs::Steps::act_entries))]
 impl LocalHalf {
+    /// Puts the entry out, and takes it down.
     fn write(&mut self, x: Entry, out: &mut Outbox)
         requires noted { MayNote self.old.seen x }
         requires room { 0 < out.old.room }
@@ -686,9 +694,9 @@ impl LocalHalf {
                 self.write(Entry::Voted(e, v), out);
                 self.veto_if(is_no(v), out);
             }
-            Reply::Owner(o) => {
-                self.write(Entry::OwnerAnswered(e, o), out);
-                self.write(Entry::Decided(o), out);
+            Reply::Owner(outcome) => {
+                self.write(Entry::OwnerAnswered(e, outcome), out);
+                self.write(Entry::Decided(outcome), out);
             }
             Reply::Promote(_) | Reply::Ack => {}
         }

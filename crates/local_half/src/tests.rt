@@ -1,16 +1,200 @@
-//! A half that nothing was done to.
+//! Whole ways of a half: what each call answers, and the entries of each step.
+ghost use Rattle.std.specs.Prelude.{◌≡◌, true};
+ghost use Rattle.dtx_model.specs.Caused.{is_new};
+ghost use Rattle.local_half.specs.Half.{is_alone, is_its_own};
+
 use crate::LocalHalf;
-use dtx_values::{EnlNo, Outbox, Reply, TxNo};
+use dtx_values::{
+    ActorNo, Answer, Ask, Call, CloneNo, EnlNo, EnlistOption, Entry, Note, Outbox, Outcome, Party,
+    Reply, RmNo, Support, Timeout, TxNo, Vote,
+};
 use std::process::Abort;
 use std::test::Fail;
 
+fn transaction(rt: &impl Abort) -> TxNo {
+    TxNo::new(1).expect(rt, "no such number")
+}
+
+fn actor(rt: &impl Abort) -> ActorNo {
+    ActorNo::new(1).expect(rt, "no such number")
+}
+
+fn enl(rt: &impl Abort, n: u32) -> EnlNo {
+    EnlNo::new(n).expect(rt, "no such number")
+}
+
+/// Does a call that makes nothing, and says what it answered.
+fn call(rt: &impl Abort, half: &mut LocalHalf, c: &Call, out: &mut Outbox) -> Answer
+    requires own { is_its_own c.now ≡ true }
+    requires new { is_new half.old.seen c.now ≡ true }
+    requires alone { is_alone half.old.seen.table c.now ≡ true }
+{
+    out.clear();
+    half.call(actor(rt), 1, c, out)
+}
+
+/// Begins it, with a durable enlistment e1 and a volatile one e2, and asks for the commit.
+fn begin(rt: &impl Abort, half: &mut LocalHalf, out: &mut Outbox) {
+    let t = transaction(rt);
+    let [e1, e2] = [1, 2].map(|n| enl(rt, n));
+    assert!(rt; !half.is_begun());
+    assert_eq!(rt; call(rt, half, &Call::Status(t), out), Answer::NotBegun);
+    assert_eq!(rt;
+        call(rt, half, &Call::Begin(t, Timeout::Default), out),
+        Answer::Fine
+    );
+    assert!(rt; half.is_begun());
+    assert!(rt; half.rows().is_empty());
+    let single = Support::SinglePhase(None, None);
+    let rm = RmNo::new(1).expect(rt, "no such number");
+    assert_eq!(rt;
+        call(rt, half, &Call::Durable(t, e1, rm, single), out),
+        Answer::Fine
+    );
+    assert!(rt; half.stands(e1));
+    let stands = half.stands(e2);
+    assert!(rt; !stands);
+    let volatile = Call::Volatile(t, e2, EnlistOption::Plain, None);
+    assert_eq!(rt; call(rt, half, &volatile, out), Answer::Fine);
+    assert_eq!(rt; half.rows().len(), 2);
+    assert_eq!(rt; call(rt, half, &Call::Commit(t), out), Answer::Fine);
+}
+
+/// Does the local act, which is this entry alone.
+fn act(rt: &impl Abort, half: &mut LocalHalf, out: &mut Outbox, want: Entry) {
+    out.clear();
+    assert!(rt; half.has_act());
+    assert!(rt; half.act(out));
+    assert_eq!(rt; out.entries(), [want].as_slice());
+}
+
+/// Goes on until the commit is handed to e1.
+fn hand(rt: &impl Abort, half: &mut LocalHalf, out: &mut Outbox) {
+    let [e1, e2] = [1, 2].map(|n| enl(rt, n));
+    act(rt, half, out, Entry::Sealed);
+    act(rt, half, out, Entry::Asked(e2, Ask::Prepare));
+    assert!(rt; !half.has_act());
+    assert_eq!(rt; half.due(), Some((e2, Note::Prepare)));
+    let due = half.due_of(e2);
+    assert_eq!(rt; due, Some(Note::Prepare));
+    out.clear();
+    assert!(rt; half.reply(e2, Reply::Vote(Vote::Yes), out));
+    act(rt, half, out, Entry::Handed(e1));
+    assert_eq!(rt; half.due(), Some((e1, Note::Hand)));
+}
+
 #[test]
 fn no_reply_is_due_before_anything_was_asked(rt: HostRuntime) -> Result<(), Fail> {
-    let t1 = TxNo::new(1).expect(&rt, "no such number");
-    let e1 = EnlNo::new(1).expect(&rt, "no such number");
+    let e1 = enl(&rt, 1);
     let mut out = Outbox::with_room(rt.alloc())?;
-    let mut half = LocalHalf::new(rt.alloc(), t1)?;
+    let mut half = LocalHalf::new(rt.alloc(), transaction(&rt))?;
+    let due = half.due_of(e1);
+    assert_eq!(rt; due, None);
     assert!(rt; !half.reply(e1, Reply::Ack, &mut out));
     assert!(rt; out.entries().is_empty());
+    Ok(())
+}
+
+#[test]
+fn the_owner_decides_and_the_volatile_is_told(rt: HostRuntime) -> Result<(), Fail> {
+    let [e1, e2] = [1, 2].map(|n| enl(&rt, n));
+    let mut out = Outbox::with_room(rt.alloc())?;
+    let mut half = LocalHalf::new(rt.alloc(), transaction(&rt))?;
+    begin(&rt, &mut half, &mut out);
+    hand(&rt, &mut half, &mut out);
+    let due = half.due_of(e1);
+    assert_eq!(rt; due, Some(Note::Hand));
+    out.clear();
+    assert!(rt; half.reply(e1, Reply::Owner(Outcome::Committed), &mut out));
+    act(
+        &rt,
+        &mut half,
+        &mut out,
+        Entry::Told(Party::Enl(e2), Outcome::Committed),
+    );
+    act(
+        &rt,
+        &mut half,
+        &mut out,
+        Entry::Told(Party::Client, Outcome::Committed),
+    );
+    assert_eq!(rt; half.told_client(), Some(Outcome::Committed));
+    out.clear();
+    assert!(rt; !half.act(&mut out));
+    assert_eq!(rt; half.due(), None);
+    Ok(())
+}
+
+#[test]
+fn a_lost_owner_leaves_it_in_doubt(rt: HostRuntime) -> Result<(), Fail> {
+    let [e1, e2] = [1, 2].map(|n| enl(&rt, n));
+    let mut out = Outbox::with_room(rt.alloc())?;
+    let mut half = LocalHalf::new(rt.alloc(), transaction(&rt))?;
+    begin(&rt, &mut half, &mut out);
+    hand(&rt, &mut half, &mut out);
+    let stands = half.stands(e1);
+    let is_gone = half.is_gone(e1);
+    assert!(rt; stands);
+    assert!(rt; !is_gone);
+    out.clear();
+    half.gone(e1, false, &mut out);
+    assert_eq!(rt;
+        out.entries(),
+        [Entry::Lost(e1), Entry::Decided(Outcome::InDoubt)].as_slice()
+    );
+    assert!(rt; half.is_gone(e1));
+    act(
+        &rt,
+        &mut half,
+        &mut out,
+        Entry::Told(Party::Enl(e2), Outcome::InDoubt),
+    );
+    act(
+        &rt,
+        &mut half,
+        &mut out,
+        Entry::Told(Party::Client, Outcome::InDoubt),
+    );
+    assert!(rt; !half.has_act());
+    Ok(())
+}
+
+#[test]
+fn a_rollback_aborts(rt: HostRuntime) -> Result<(), Fail> {
+    let t = transaction(&rt);
+    let c1 = CloneNo::new(1).expect(&rt, "no such number");
+    let mut out = Outbox::with_room(rt.alloc())?;
+    let mut half = LocalHalf::new(rt.alloc(), t)?;
+    assert_eq!(rt; half.transaction(), t);
+    assert_eq!(rt;
+        call(&rt, &mut half, &Call::Complete(c1), &mut out),
+        Answer::NotBegun
+    );
+    assert_eq!(rt;
+        call(&rt, &mut half, &Call::Begin(t, Timeout::Default), &mut out),
+        Answer::Fine
+    );
+    assert_eq!(rt;
+        call(&rt, &mut half, &Call::Complete(c1), &mut out),
+        Answer::NoSuch
+    );
+    assert_eq!(rt;
+        call(&rt, &mut half, &Call::Tick(t, 59_999), &mut out),
+        Answer::Fine
+    );
+    assert_eq!(rt;
+        call(&rt, &mut half, &Call::Rollback(t), &mut out),
+        Answer::Fine
+    );
+    act(
+        &rt,
+        &mut half,
+        &mut out,
+        Entry::Told(Party::Client, Outcome::Aborted),
+    );
+    assert_eq!(rt;
+        call(&rt, &mut half, &Call::Status(t), &mut out),
+        Answer::OutcomeIs(Outcome::Aborted)
+    );
     Ok(())
 }

@@ -8,6 +8,7 @@ ghost use Rattle.dtx_model.specs.Steps.{is_evident, is_no, is_single, voted_well
 
 use dtx_values::{Class, EnlNo, Row, Support, Vote};
 
+/// Whether the class is volatile.
 pub fn is_volatile(c: Class) -> bool
     ensures { result ≡ is_volatile c }
 {
@@ -17,6 +18,7 @@ pub fn is_volatile(c: Class) -> bool
     }
 }
 
+/// Whether it is the vote yes or done.
 pub fn voted_well(v: Option<Vote>) -> bool
     ensures { result ≡ voted_well v }
 {
@@ -26,6 +28,7 @@ pub fn voted_well(v: Option<Vote>) -> bool
     }
 }
 
+/// Whether it is the vote No.
 pub fn is_no(v: Vote) -> bool
     ensures { result ≡ is_no v }
 {
