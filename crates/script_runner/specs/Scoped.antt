@@ -77,6 +77,6 @@ calls_given Rollbacks ts = rollbacks ts
 -- that its entries leave open
 pub record DoesScope (b : Body) (old new : Standing) (notes : List Entry) (x : Acted) : Type 0 where
   pub answer : scope_answer b old.scopes ≡ Some x.answer
-  pub notes : notes ≡ map written (scope_entries b old.scopes)
+  pub noted : notes ≡ map written (scope_entries b old.scopes)
   pub gives : calls_given x.gives new.rolled ≡ scope_calls b old.scopes
   pub scopes : (es : List ScopeEntry) → open_scopes es ≡ old.scopes → open_scopes (onto es (scope_entries b old.scopes)) ≡ new.scopes
