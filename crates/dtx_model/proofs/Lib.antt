@@ -3,3 +3,4 @@ pub mod Histories
 pub mod Reading
 pub mod Prefixes
 pub mod Faults
+pub mod Scopes

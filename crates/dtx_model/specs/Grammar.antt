@@ -151,7 +151,7 @@ line_text l = join_with_byte 32 (words l) ++ 10 ∷ []
 abbrev pub script_text : List Line → List ℕ
 script_text s = flat_map line_text s
 
--- the lines that are run: begin, volatile, clone, complete, commit, rollback, status, await, tick and do
+-- the lines that are run: begin, open, finish, close, current, volatile, clone, complete, commit, rollback, status, await, tick, do and par
 abbrev pub is_run : Body → Bool
 is_run (Begin t d) = true
 is_run (Open s o) = true

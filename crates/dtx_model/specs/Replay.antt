@@ -11,7 +11,7 @@ use Rattle.dtx_values.specs.declared.scope.OpenScope.{OpenScope}
 use Rattle.dtx_values.specs.declared.script.Line.{Line}
 use Rattle.dtx_values.specs.declared.trace.Place.{Place}
 use Rattle.dtx_values.specs.declared.trace.Place.TheVariants.{Context, Transaction}
-use Rattle.dtx_model.specs.Words.{kth, onto, past_of, put, all_of}
+use Rattle.dtx_model.specs.Words.{kth, onto, past_of, all_of}
 use Rattle.dtx_model.specs.Observed.{observe}
 use Rattle.dtx_model.specs.Steps.{Step, Calls, call_of, block, pending}
 use Rattle.dtx_model.specs.Contexts.{calls_by, scope_answer, scope_block, scope_calls, scopes_of}

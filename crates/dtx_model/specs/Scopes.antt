@@ -1,5 +1,5 @@
 -- The scopes of one context, as its entries show them. The entries are read newest first.
-use Rattle.std.specs.Prelude.{ℕ, ◌==◌, nat_le, Bool, true, false, ◌&&◌, not, List, [], ◌∷◌, length, map, Option, Some, None, if◌then◌else◌}
+use Rattle.std.specs.Prelude.{ℕ, ◌==◌, nat_le, Bool, true, false, ◌&&◌, ◌||◌, not, List, [], ◌∷◌, length, map, Option, Some, None, if◌then◌else◌}
 use Rattle.dtx_values.specs.declared.entry.Answer.{Answer}
 use Rattle.dtx_values.specs.declared.entry.Answer.TheVariants.{Fine, Already, Deep, Isolation, NoScope, Nested, Ambient}
 use Rattle.dtx_values.specs.declared.limits.TheConstants.{SCOPES}
@@ -59,6 +59,19 @@ transaction_in NoTx = None
 
 abbrev pub transaction_of : OpenScope → Option TxNo
 transaction_of x = transaction_in x.entered
+
+-- the scope, complete where it is of this number
+abbrev pub completed_in : ℕ → OpenScope → OpenScope
+completed_in s x = record { scope = x.scope; entered = x.entered; isolation = x.isolation; complete = is_scope s x || x.complete }
+
+-- the scopes with this one complete
+abbrev pub with_complete : ℕ → List OpenScope → List OpenScope
+with_complete s xs = map (completed_in s) xs
+
+-- the scopes without this one
+abbrev pub without : ℕ → List OpenScope → List OpenScope
+without s [] = []
+without s (x ∷ xs) = if is_scope s x then without s xs else x ∷ without s xs
 
 -- the ambient transaction: the top's
 abbrev pub ambient : List OpenScope → Option TxNo

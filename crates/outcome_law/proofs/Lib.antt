@@ -7,6 +7,7 @@ pub mod TableRows
 pub mod Evidence
 pub mod Rules
 pub mod Pending
+pub mod ScopeCalls
 pub mod Names
 pub mod Going
 pub mod Calls
@@ -18,3 +19,4 @@ pub mod Settled
 pub mod Replays
 pub mod Examples
 pub mod ReplayExample
+pub mod ScopeExample

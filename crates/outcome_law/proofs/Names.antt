@@ -1,5 +1,5 @@
 -- Names are made once: what the call of a line makes is new in each history where that line wasn't called yet.
-use Rattle.std.proofs.Common.{◌≡◌, ℕ, zero, suc, ◌==◌, Bool, true, false, ◌||◌, List, [], ◌∷◌, Option, Some, None, refl, arith, ◌∙◌, ap, sym, subst}
+use Rattle.std.proofs.Common.{◌≡◌, ℕ, zero, suc, ◌==◌, Bool, true, false, ◌||◌, inl, inr, List, [], ◌∷◌, Option, Some, None, refl, arith, ◌∙◌, ap, sym, subst}
 use Rattle.std.specs.Prelude.{not, if◌then◌else◌}
 use Rattle.std.specs.List.{slice_get}
 use Rattle.std.proofs.lemmas.Bool.Decides.{nat_tests}
@@ -18,6 +18,7 @@ use Rattle.dtx_values.specs.Clones.{is_clone, is_open_rollback}
 use Rattle.dtx_model.specs.Words.{has, each, always, kth, onto}
 use Rattle.dtx_model.specs.Entries.{is_call}
 use Rattle.dtx_model.specs.Observed.{Observed, observe, rows, clone_rows}
+use Rattle.dtx_model.specs.Contexts.{calls_by, lines_before}
 use Rattle.dtx_model.specs.Steps.{Step, Calls, Replies, Acts, call_of, complete_call, transaction_of, answer, is_fine, facts, facts_if, veto_if, reaches, ticked, time_up, is_late, block}
 use Rattle.dtx_model.specs.Caused.{IsCallOf, MayCome, Ran, Caused, is_new}
 use Rattle.dtx_model.specs.Grammar.{Name, OfTransaction, OfEnlistment, OfClone, OfScope, same_name, makes, is_made, is_named_well, are_named_well}
@@ -28,6 +29,7 @@ use Rattle.outcome_law.proofs.Scans.{none_more}
 use Rattle.outcome_law.proofs.Tests.{eq_self}
 use Rattle.outcome_law.proofs.TableRows.{enlisted_in_rows, clone_stands}
 use Rattle.outcome_law.proofs.Pending.{is_plain, veto_plain, time_plain, block_plain}
+use Rattle.outcome_law.proofs.ScopeCalls.{is_scope_call, given_call}
 
 -- the line makes this name
 abbrev pub is_maker : Name → Line → Bool
@@ -118,6 +120,17 @@ line_makes s x b t c e k = by_body s x b (subst (λ o. passed x o ≡ true) (sym
     by_body s x (CompleteLine c) h = absurd (by_clone x c (transaction_of s c.value) h)
     by_body s x _ h = absurd cc
 
+-- a call as scope lines give it makes no name
+scope_makes_none : (x : Name) (c : Call) → is_scope_call c ≡ true → call_makes x c ≡ true → ⊥
+scope_makes_none x (Volatile t e o v) h k = cc
+scope_makes_none x (Clone t c k) h m = cc
+scope_makes_none x _ h k = cc
+
+-- the line that gives a call makes what the call makes
+giver_makes : (s before : List Line) (x : Name) (l : Line) (k : ℕ) (t : TxNo) (c : Call) → slice_get (calls_by s before l) k ≡ Some (t, c) → call_makes x c ≡ true → is_maker x l ≡ true
+giver_makes s before x l k t c e m =
+    elim (given_call s before l k (t, c) e) [ inl own ↦ line_makes s x l.body t c own m | inr scope ↦ absurd (scope_makes_none x c scope m) ]
+
 -- what is plain brings no name
 plain_no_name : (x : Name) (es : List Entry) → each is_plain es ≡ true → has (is_namer x) es ≡ false
 plain_no_name x es h = none_more is_plain (is_namer x) (one x) es h
@@ -169,7 +182,7 @@ block_made s t h x (Calls n a c d) k e =
       number = n;
       line = k.0.line;
       stands = k.0.stands;
-      maker = line_makes s x k.0.line.body k.0.name c k.0.gives (facts_make x (observe h) c (is_fine y) e);
+      maker = giver_makes s (lines_before s n) x k.0.line k.0.place k.0.name c k.0.gives (facts_make x (observe h) c (is_fine y) e);
       called = has-onto (is_call n) h (Called n a y ∷ es) ∙ ap (λ b. b || has (is_call n) h) here;
     }
 block_made s t h x (Replies f r) k e = absurd (not_both _ e (plain_no_name x (block (observe h) (Replies f r)) (block_plain (observe h) (Replies f r) refl)))
@@ -193,7 +206,7 @@ not_named s t n a c x h w r k u m = by_cases (has (is_namer x) h) refl
     by_cases false e = e
     by_cases true e =
         let made = named_made s t x r.0 h r.1 e in
-        let maker = line_makes s x k.line.body k.name c k.gives m in
+        let maker = giver_makes s (lines_before s n) x k.line k.place k.name c k.gives m in
         let same : made.number ≡ n = made_once x s made.number n made.line k.line w made.stands k.stands made.maker maker in
         absurd (not_both (has (is_call n) h) (subst (λ i. has (is_call i) h ≡ true) same made.called) u)
 

@@ -26,7 +26,7 @@ use Rattle.dtx_model.specs.History.{IsHistory}
 use Rattle.dtx_model.proofs.Bools.{and_left, and_right}
 use Rattle.dtx_model.proofs.Histories.{history-other, history-same}
 use Rattle.outcome_law.proofs.Examples.{a1, e1}
-use Rattle.outcome_law.proofs.Replays.{replayed_caused, replayed_called}
+use Rattle.outcome_law.proofs.Replays.{replayed_caused, replayed_called, replayed_noted}
 
 abbrev pub t1 : TxNo
 t1 = record { value = 1; in_range = (lit≤ tt, lit≤ tt) }
@@ -130,12 +130,13 @@ is_history =
     record {
       caused = replayed_caused script (at_t1 whole) is_replayed;
       settled = λ t. settled_all t (t.value == 1) refl;
+      contexts = replayed_noted script (at_t1 whole) is_replayed;
       called = replayed_called script (at_t1 whole) is_replayed;
       replayed = is_replayed;
     }
 
 -- between t1's turn and t1's next no transaction is passed
-none_passed : (n : ℕ) → is_passed 1 1 n ≡ true → ⊥
+pub none_passed : (n : ℕ) → is_passed 1 1 n ≡ true → ⊥
 none_passed n p =
     let above : nat_le 1 n ≡ true = and_left (nat_le 1 n) (nat_lt n 1) p in
     let below : nat_lt n 1 ≡ true = and_right (nat_le 1 n) (nat_lt n 1) p in

@@ -1,32 +1,39 @@
 -- What a replay does is caused by its script in each transaction, has each line's call once and in order, and makes each name anew.
-use Rattle.std.proofs.Common.{◌≡◌, ℕ, zero, suc, ◌+◌, ◌<◌, ◌==◌, Bool, true, false, ◌||◌, List, [], ◌∷◌, ◌++◌, length, Option, Some, None}
+use Rattle.std.proofs.Common.{◌≡◌, ℕ, zero, suc, ◌+◌, ◌-◌, ◌<◌, ◌==◌, Bool, true, false, ◌||◌, List, [], ◌∷◌, ◌++◌, length, map, take, Option, Some, None}
 use Rattle.std.proofs.Common.{refl, arith, append-nil, ◌∙◌, ap, sym, subst}
-use Rattle.std.specs.Prelude.{is_some}
+use Rattle.std.specs.Prelude.{is_some, if◌then◌else◌}
 use Rattle.std.specs.List.{slice_get}
 use Rattle.std.proofs.lemmas.Bool.Decides.{nat_tests}
 use Rattle.dtx_values.specs.declared.number.ActorNo.{ActorNo}
 use Rattle.dtx_values.specs.declared.number.TxNo.{TxNo}
 use Rattle.dtx_values.specs.declared.call.Call.{Call}
 use Rattle.dtx_values.specs.declared.call.Call.TheVariants.{Await, Do}
+use Rattle.dtx_values.specs.declared.entry.Answer.{Answer}
 use Rattle.dtx_values.specs.declared.entry.Entry.{Entry}
 use Rattle.dtx_values.specs.declared.entry.Entry.TheVariants.{Called}
+use Rattle.dtx_values.specs.declared.scope.OpenScope.{OpenScope}
 use Rattle.dtx_values.specs.declared.script.Line.{Line}
 use Rattle.dtx_values.specs.declared.trace.Place.{Place}
-use Rattle.dtx_values.specs.declared.trace.Place.TheVariants.{Transaction}
+use Rattle.dtx_values.specs.declared.trace.Place.TheVariants.{Context, Transaction}
 use Rattle.dtx_model.specs.Words.{has, each, kth, onto, past_of, put}
 use Rattle.dtx_model.specs.Entries.{is_call}
 use Rattle.dtx_model.specs.Outcome.{is_empty}
-use Rattle.dtx_model.specs.Observed.{observe}
+use Rattle.dtx_model.specs.Observed.{Observed, observe}
+use Rattle.dtx_model.specs.Scopes.{ScopeEntry, Opens, Finishes, Closes}
 use Rattle.dtx_model.specs.Steps.{Step, Calls, Replies, Acts, call_of, answer, is_fine, facts, facts_if, block, pending}
+use Rattle.dtx_model.specs.Contexts.{scope_answer, scope_entries, scope_calls, scopes_of, written, called_with, scope_block, context, lines_before, calls_by}
 use Rattle.dtx_model.specs.Caused.{IsCallOf, MayAnswer, MayCome, Caused, is_new}
 use Rattle.dtx_model.specs.Grammar.{are_named_well}
-use Rattle.dtx_model.specs.Replay.{Placed, history, placed, after_step, StepsRan, LineRan, LinesRan, IsTurn, RoundsRan, IsReplayed, called_of, calls, due_call, due_calls}
+use Rattle.dtx_model.specs.Replay.{Placed, history, at_context, placed, noted, after_step, StepsRan, CallRan, after_calls, after_scope, LineRan, LinesRan, IsTurn, RoundsRan, IsReplayed}
+use Rattle.dtx_model.specs.Replay.{called_of, calls, at_its_context, due_of, due_calls}
 use Rattle.dtx_model.proofs.Bools.{and_left, and_right, or_false, or_right}
-use Rattle.dtx_model.proofs.Histories.{history-other, history-same}
+use Rattle.dtx_model.proofs.Histories.{onto-append, history-other, history-same, history-noted, context-same, context-other, context-placed, context-calls}
 use Rattle.dtx_model.proofs.Reading.{has-onto}
 use Rattle.outcome_law.proofs.Tests.{eq_self}
 use Rattle.outcome_law.proofs.Scans.{each-kth, none_more}
+use Rattle.outcome_law.proofs.Lists.{OfEach, of-all, of-both, of-more}
 use Rattle.outcome_law.proofs.Pending.{is_no_call, pending_no_call, is_not_called, facts_not_called, block_plain, plain_not_called}
+use Rattle.outcome_law.proofs.ScopeCalls.{IsScopeCall, IsBeside, AreApart, scope_calls_plain, scope_calls_apart, own_line, scope_call_may}
 use Rattle.outcome_law.proofs.Names.{caused_new}
 
 -- each transaction's history is caused
@@ -87,16 +94,38 @@ has-call-placed n u t T es true e k = ap (λ h. has (is_call n) h) (history-same
 has-call-placed n u t T es false e k = ap (λ h. has (is_call n) h) (history-other u t T es e)
 
 -- an entry that is no call isn't counted
-one_not_called : (t : TxNo) (x : Entry) (rest : List (Place × ℕ × ActorNo)) → is_not_called x ≡ true → put (called_of (Transaction t, x)) rest ≡ rest
-one_not_called t (Called n a y) rest h = absurd cc
-one_not_called t _ rest h = refl
+one_not_called : (p : Place) (x : Entry) (rest : List (Place × ℕ × ActorNo)) → is_not_called x ≡ true → put (called_of (p, x)) rest ≡ rest
+one_not_called p (Called n a y) rest h = absurd cc
+one_not_called p _ rest h = refl
 
 -- a block without a call leaves the calls
-calls-placed : (t : TxNo) (T : List Placed) (es : List Entry) → each is_not_called es ≡ true → calls (onto T (placed t es)) ≡ calls T
-calls-placed t T [] h = refl
-calls-placed t T (x ∷ es) h =
-    calls-placed t ((Transaction t, x) ∷ T) es (and_right (is_not_called x) (each is_not_called es) h)
-    ∙ one_not_called t x (calls T) (and_left (is_not_called x) (each is_not_called es) h)
+calls-at : (p : Place) (T : List Placed) (es : List Entry) → each is_not_called es ≡ true → calls (onto T (map (λ e. (p, e)) es)) ≡ calls T
+calls-at p T [] h = refl
+calls-at p T (x ∷ es) h =
+    calls-at p ((p, x) ∷ T) es (and_right (is_not_called x) (each is_not_called es) h)
+    ∙ one_not_called p x (calls T) (and_left (is_not_called x) (each is_not_called es) h)
+
+-- the block of a call of line m has no other line's call
+other_call : (n m : ℕ) (a : ActorNo) (c : Call) (d : ℕ) (o : Observed) → (n == m) ≡ false → has (is_call n) (block o (Calls m a c d)) ≡ false
+unfolding block
+other_call n m a c d o e =
+    let es = facts_if (is_fine (answer o c d)) (facts o c) in
+    or_false (n == m) (has (is_call n) es) e (not_this_call n es (facts_not_called o c (is_fine (answer o c d))))
+
+-- the step of a call leaves each history without the call of any other line
+call_uncalled : (n m u : ℕ) (a : ActorNo) (t : TxNo) (c : Call) (d : ℕ) (T : List Placed) → (n == m) ≡ false
+    → has (is_call n) (history u (after_step t (Calls m a c d) T)) ≡ has (is_call n) (history u T)
+call_uncalled n m u a t c d T e =
+    let o = observe (history t.value T) in
+    has-call-placed n u t T (block o (Calls m a c d)) (u == t.value) refl (other_call n m a c d o e)
+
+-- it adds its call to the trace
+call_counted : (m : ℕ) (a : ActorNo) (t : TxNo) (c : Call) (d : ℕ) (T : List Placed) → calls (after_step t (Calls m a c d) T) ≡ (Transaction t, m, a) ∷ calls T
+unfolding block
+call_counted m a t c d T =
+    let o = observe (history t.value T) in
+    let y = answer o c d in
+    calls-at (Transaction t) ((Transaction t, Called m a y) ∷ T) (facts_if (is_fine y) (facts o c)) (facts_not_called o c (is_fine y))
 
 -- the steps of a `do` or an `await` keep each history caused
 steps_caused : (s : List Line) (t : TxNo) (k m : ℕ) (start T : List Placed) → AllCaused s start → StepsRan s t k m start T → AllCaused s T
@@ -117,7 +146,13 @@ steps_called : (s : List Line) (t : TxNo) (k m : ℕ) (start T : List Placed) �
 steps_called s t k zero start T r = ap (λ T. calls T) r
 steps_called s t k (suc m) start T r =
     let h = history t.value r.0 in
-    ap (λ T. calls T) r.4 ∙ calls-placed t r.0 (block (observe h) r.2) (kth_not_called s h k r.2 r.3) ∙ steps_called s t k m start r.0 r.1
+    ap (λ T. calls T) r.4 ∙ calls-at (Transaction t) r.0 (block (observe h) r.2) (kth_not_called s h k r.2 r.3) ∙ steps_called s t k m start r.0 r.1
+
+-- nor to a context
+steps_beside : (s : List Line) (t : TxNo) (k m : ℕ) (start T : List Placed) → StepsRan s t k m start T → (a : ℕ) → at_context a T ≡ at_context a start
+steps_beside s t k zero start T r a = ap (λ T. at_context a T) r
+steps_beside s t k (suc m) start T r a =
+    ap (λ T. at_context a T) r.4 ∙ context-placed a t r.0 (block (observe (history t.value r.0)) r.2) ∙ steps_beside s t k m start r.0 r.1 a
 
 -- what line i with this call does: steps that were pending, each the one at this place, and then the call, which may answer there
 record HasCalled (s : List Line) (a : ActorNo) (i : ℕ) (t : TxNo) (c : Call) (start T : List Placed) : Type 0 where
@@ -129,51 +164,209 @@ record HasCalled (s : List Line) (a : ActorNo) (i : ℕ) (t : TxNo) (c : Call) (
   may : MayAnswer s (history t.value before) c done
   ends : T ≡ after_step t (Calls i a c done) before
 
--- each line with a call does so
-line_called : (s : List Line) (a : ActorNo) (i : ℕ) (t : TxNo) (c : Call) (start T : List Placed) → LineRan s a i (Some (t, c)) start T → HasCalled s a i t c start T
-line_called s a i t (Do u k n) start T r = record { place = k; count = r.0; done = r.0; before = r.1; steps = r.2.ran; may = r.2.most; ends = r.3 }
-line_called s a i t (Await u) start T r =
+-- each call by a line's own words does so
+call_ran : (s : List Line) (a : ActorNo) (i : ℕ) (t : TxNo) (c : Call) (start T : List Placed) → CallRan s a i (Some (t, c)) start T → HasCalled s a i t c start T
+call_ran s a i t (Do u k n) start T r = record { place = k; count = r.0; done = r.0; before = r.1; steps = r.2.ran; may = r.2.most; ends = r.3 }
+call_ran s a i t (Await u) start T r =
     let o = observe (history t.value r.1) in
     let may = or_right (is_some o.told_client) (is_empty (pending s o)) (ap (λ ms. is_empty ms) r.2.settled) in
     record { place = 1; count = r.0; done = 0; before = r.1; steps = r.2.ran; may = may; ends = r.3 }
-line_called s a i t _ start T r = record { place = 1; count = 0; done = 0; before = start; steps = refl; may = tt; ends = r }
+call_ran s a i t _ start T r = record { place = 1; count = 0; done = 0; before = start; steps = refl; may = tt; ends = r }
 
--- what a line does keeps each history caused, where its call is new
-line_caused : (s : List Line) (l : Line) (n : ℕ) (o : Option (TxNo × Call)) (start T : List Placed) → call_of s l.body ≡ o → kth s n ≡ Some l
-    → ((u : ℕ) → has (is_call n) (history u start) ≡ false) → AllCaused s start → LineRan s l.actor n o start T → AllCaused s T
-line_caused s l n None start T e stands new ih r = subst (λ T. AllCaused s T) (sym r) ih
-line_caused s l n (Some c) start T e stands new ih r =
-    let ran : HasCalled s l.actor n c.0 c.1 start T = line_called s l.actor n c.0 c.1 start T r in
-    let gives : IsCallOf s c.0.value n l.actor c.1 = record { line = l; stands = stands; by_actor = refl; name = c.0; gives = e; at_t = refl } in
-    let still : has (is_call n) (history c.0.value ran.before) ≡ false = steps_uncalled s c.0 ran.place ran.count start ran.before ran.steps n c.0.value ∙ new c.0.value in
+-- line n, which is l, gives a transaction this call
+abbrev IsGiven : List Line → ℕ → Line → TxNo × Call → Type 0
+IsGiven s n l c = (place : ℕ) × (slice_get (calls_by s (lines_before s n) l) place ≡ Some c)
+
+-- a call that line n gives and that doesn't stand yet keeps each history caused, where it may answer
+given_caused : (s : List Line) (l : Line) (n : ℕ) (c : TxNo × Call) (d : ℕ) (T : List Placed) → kth s n ≡ Some l → IsGiven s n l c → has (is_call n) (history c.0.value T) ≡ false
+    → MayAnswer s (history c.0.value T) c.1 d → AllCaused s T → AllCaused s (after_step c.0 (Calls n l.actor c.1 d) T)
+given_caused s l n c d T stands given new may ih =
+    let gives : IsCallOf s c.0.value n l.actor c.1 =
+    record { line = l; stands = stands; by_actor = refl; name = c.0; place = given.0; gives = given.1; at_t = refl } in
+    after_step_caused s c.0 (Calls n l.actor c.1 d) T ih (gives, new, may)
+
+-- and so does a call by its own words
+call_caused : (s : List Line) (l : Line) (n : ℕ) (c : TxNo × Call) (start T : List Placed) → kth s n ≡ Some l → IsGiven s n l c → has (is_call n) (history c.0.value start) ≡ false
+    → AllCaused s start → CallRan s l.actor n (Some c) start T → AllCaused s T
+call_caused s l n c start T stands given new ih r =
+    let ran : HasCalled s l.actor n c.0 c.1 start T = call_ran s l.actor n c.0 c.1 start T r in
+    let still : has (is_call n) (history c.0.value ran.before) ≡ false = steps_uncalled s c.0 ran.place ran.count start ran.before ran.steps n c.0.value ∙ new in
     subst (λ T. AllCaused s T) (sym ran.ends)
-    (after_step_caused s c.0 (Calls n l.actor c.1 ran.done) ran.before (steps_caused s c.0 ran.place ran.count start ran.before ih ran.steps) (gives, still, ran.may))
+    (given_caused s l n c ran.done ran.before stands given still ran.may (steps_caused s c.0 ran.place ran.count start ran.before ih ran.steps))
+
+-- the call doesn't stand yet at the transaction
+abbrev IsUncalled : ℕ → List Placed → TxNo × Call → Type 0
+IsUncalled n T c = has (is_call n) (history c.0.value T) ≡ false
+
+-- a call leaves the transactions of the others without it
+others_uncalled : (n : ℕ) (a : ActorNo) (c : TxNo × Call) (cs : List (TxNo × Call)) (T : List Placed) → OfEach (IsBeside c.0) cs → OfEach (IsUncalled n T) cs
+    → OfEach (IsUncalled n (after_step c.0 (Calls n a c.1 0) T)) cs
+others_uncalled n a c cs T apart new =
+    let es = block (observe (history c.0.value T)) (Calls n a c.1 0) in
+    of-more (λ d. IsBeside c.0 d × IsUncalled n T d) (IsUncalled n (after_step c.0 (Calls n a c.1 0) T))
+    (λ d h. ap (λ h. has (is_call n) h) (history-other d.0.value c.0 T es h.0) ∙ h.1) cs (of-both (IsBeside c.0) (IsUncalled n T) cs apart new)
+
+-- the calls of a scope line keep each history caused
+calls_caused : (s : List Line) (l : Line) (n : ℕ) (cs : List (TxNo × Call)) (T : List Placed) → kth s n ≡ Some l → OfEach (IsGiven s n l) cs → OfEach IsScopeCall cs → AreApart cs
+    → OfEach (IsUncalled n T) cs → AllCaused s T → AllCaused s (after_calls n l.actor cs T)
+calls_caused s l n [] T stands given plain apart new ih = ih
+calls_caused s l n (c ∷ cs) T stands given plain apart new ih =
+    calls_caused s l n cs (after_step c.0 (Calls n l.actor c.1 0) T) stands given.1 plain.1 apart.1 (others_uncalled n l.actor c cs T apart.0 new.1)
+    (given_caused s l n c 0 T stands given.0 new.0 (scope_call_may s (history c.0.value T) c.1 plain.0) ih)
+
+-- what is written at a context keeps each history caused
+noted_caused : (s : List Line) (a : ActorNo) (es : List Entry) (T : List Placed) → AllCaused s T → AllCaused s (onto T (noted a es))
+noted_caused s a es T ih u = subst (λ h. Caused s u.value h) (sym (history-noted u.value a T es)) (ih u)
+
+-- the calls of a scope line leave each history without the call of any other line
+calls_uncalled : (n m u : ℕ) (a : ActorNo) (cs : List (TxNo × Call)) (T : List Placed) → (n == m) ≡ false → has (is_call n) (history u (after_calls m a cs T)) ≡ has (is_call n) (history u T)
+calls_uncalled n m u a [] T e = refl
+calls_uncalled n m u a (c ∷ cs) T e = calls_uncalled n m u a cs (after_step c.0 (Calls m a c.1 0) T) e ∙ call_uncalled n m u a c.0 c.1 0 T e
+
+-- what is written at a context adds no call to a history
+noted_uncalled : (n u : ℕ) (a : ActorNo) (es : List Entry) (T : List Placed) → has (is_call n) (history u (onto T (noted a es))) ≡ has (is_call n) (history u T)
+noted_uncalled n u a es T = ap (λ h. has (is_call n) h) (history-noted u a T es)
+
+-- each of some items stands at a place
+of-places : {A : Type 0} → (xs : List A) → OfEach (λ x. (k : ℕ) × (slice_get xs k ≡ Some x)) xs
+of-places [] = tt
+of-places (x ∷ xs) = (
+  (0, refl),
+  of-more (λ y. (k : ℕ) × (slice_get xs k ≡ Some y)) (λ y. (k : ℕ) × (slice_get (x ∷ xs) k ≡ Some y)) (λ y h. (suc h.0, h.1)) xs (of-places xs),
+)
+
+-- and also where one is put in front
+of-put : {A : Type 0} (o : Option A) (xs : List A) → OfEach (λ x. (k : ℕ) × (slice_get (put o xs) k ≡ Some x)) xs
+of-put None xs = of-places xs
+of-put (Some x) xs = (of-places (x ∷ xs)).1
+
+-- a line gives each of its calls as a scope line
+scope_given : (s before : List Line) (l : Line) (n : ℕ) → lines_before s n ≡ before → OfEach (IsGiven s n l) (scope_calls l.body (scopes_of l.actor.value before))
+scope_given s before l n found =
+    subst (λ b. OfEach (IsGiven s n l) (scope_calls l.body (scopes_of l.actor.value b))) found
+    (of-put (call_of s l.body) (scope_calls l.body (scopes_of l.actor.value (lines_before s n))))
+
+-- a line gives the call by its own words
+own_given : (s : List Line) (l : Line) (n : ℕ) (c : TxNo × Call) → call_of s l.body ≡ Some c → IsGiven s n l c
+own_given s l n c e = (0, ap (λ o. slice_get (put o (scope_calls l.body (scopes_of l.actor.value (lines_before s n)))) 0) e)
+
+-- what a scope line writes keeps each history caused, where its calls don't stand yet
+scope_caused : (s before : List Line) (l : Line) (n : ℕ) (start : List Placed) → kth s n ≡ Some l → lines_before s n ≡ before → ((u : ℕ) → has (is_call n) (history u start) ≡ false)
+    → AllCaused s start → AllCaused s (after_scope n l (scopes_of l.actor.value before) start)
+scope_caused s before l n start stands found new ih =
+    let xs : List OpenScope = scopes_of l.actor.value before in
+    let es : List Entry = scope_block n l.actor l.body xs in
+    calls_caused s l n (scope_calls l.body xs) (onto start (noted l.actor es)) stands (scope_given s before l n found) (scope_calls_plain l.body xs) (scope_calls_apart l.body xs)
+    (of-all (IsUncalled n (onto start (noted l.actor es))) (λ c. noted_uncalled n c.0.value l.actor es start ∙ new c.0.value) (scope_calls l.body xs))
+    (noted_caused s l.actor es start ih)
+
+-- a line that calls by its own words writes no call as a scope line
+own_uncalled : (s : List Line) (l : Line) (n u : ℕ) (c : TxNo × Call) (xs : List OpenScope) (start : List Placed) → call_of s l.body ≡ Some c
+    → has (is_call n) (history u (after_scope n l xs start)) ≡ has (is_call n) (history u start)
+own_uncalled s l n u c xs start e =
+    let es : List Entry = scope_block n l.actor l.body xs in
+    ap (λ cs. has (is_call n) (history u (after_calls n l.actor cs (onto start (noted l.actor es))))) (own_line s l.body c xs e) ∙ noted_uncalled n u l.actor es start
+
+-- what a line does behind that keeps each history caused
+words_caused : (s : List Line) (l : Line) (n : ℕ) (o : Option (TxNo × Call)) (start T : List Placed) → kth s n ≡ Some l → call_of s l.body ≡ o
+    → ((c : TxNo × Call) → o ≡ Some c → has (is_call n) (history c.0.value start) ≡ false) → AllCaused s start → CallRan s l.actor n o start T → AllCaused s T
+words_caused s l n None start T stands e new ih r = subst (λ T. AllCaused s T) (sym r) ih
+words_caused s l n (Some c) start T stands e new ih r = call_caused s l n c start T stands (own_given s l n c e) (new c refl) ih r
+
+-- what a line does keeps each history caused, where no call of it stands yet
+line_caused : (s before : List Line) (l : Line) (start T : List Placed) → kth s (suc (length before)) ≡ Some l → lines_before s (suc (length before)) ≡ before
+    → ((u : ℕ) → has (is_call (suc (length before))) (history u start) ≡ false) → AllCaused s start → LineRan s before l start T → AllCaused s T
+line_caused s before l start T stands found new ih r =
+    let n : ℕ = suc (length before) in
+    let xs : List OpenScope = scopes_of l.actor.value before in
+    words_caused s l n (call_of s l.body) (after_scope n l xs start) T stands refl
+    (λ c e. own_uncalled s l n c.0.value c xs start e ∙ new c.0.value) (scope_caused s before l n start stands found new ih) r
+
+-- a call by a line's own words leaves a history without the call of any other line
+words_uncalled : (s : List Line) (a : ActorNo) (m : ℕ) (o : Option (TxNo × Call)) (start T : List Placed) (n u : ℕ) → (n == m) ≡ false → CallRan s a m o start T
+    → has (is_call n) (history u T) ≡ has (is_call n) (history u start)
+words_uncalled s a m None start T n u d r = ap (λ T. has (is_call n) (history u T)) r
+words_uncalled s a m (Some c) start T n u d r =
+    let ran : HasCalled s a m c.0 c.1 start T = call_ran s a m c.0 c.1 start T r in
+    ap (λ T. has (is_call n) (history u T)) ran.ends ∙ call_uncalled n m u a c.0 c.1 ran.done ran.before d
+    ∙ steps_uncalled s c.0 ran.place ran.count start ran.before ran.steps n u
 
 -- a line leaves a history without the call of any other line
-line_uncalled : (s : List Line) (a : ActorNo) (m : ℕ) (o : Option (TxNo × Call)) (start T : List Placed) (n u : ℕ) → (n == m) ≡ false → has (is_call n) (history u start) ≡ false
-    → LineRan s a m o start T → has (is_call n) (history u T) ≡ false
-unfolding block
-line_uncalled s a m None start T n u d h r = ap (λ T. has (is_call n) (history u T)) r ∙ h
-line_uncalled s a m (Some c) start T n u d h r =
-    let ran : HasCalled s a m c.0 c.1 start T = line_called s a m c.0 c.1 start T r in
-    let o = observe (history c.0.value ran.before) in
-    let y = answer o c.1 ran.done in
-    let es = facts_if (is_fine y) (facts o c.1) in
-    let other : has (is_call n) (Called m a y ∷ es) ≡ false = or_false (n == m) (has (is_call n) es) d (not_this_call n es (facts_not_called o c.1 (is_fine y))) in
-    ap (λ T. has (is_call n) (history u T)) ran.ends ∙ has-call-placed n u c.0 ran.before (Called m a y ∷ es) (u == c.0.value) refl other
-    ∙ steps_uncalled s c.0 ran.place ran.count start ran.before ran.steps n u ∙ h
+line_uncalled : (s before : List Line) (l : Line) (start T : List Placed) (n u : ℕ) → (n == suc (length before)) ≡ false → LineRan s before l start T
+    → has (is_call n) (history u T) ≡ has (is_call n) (history u start)
+line_uncalled s before l start T n u d r =
+    let m : ℕ = suc (length before) in
+    let xs : List OpenScope = scopes_of l.actor.value before in
+    let es : List Entry = scope_block m l.actor l.body xs in
+    words_uncalled s l.actor m (call_of s l.body) (after_scope m l xs start) T n u d r
+    ∙ calls_uncalled n m u l.actor (scope_calls l.body xs) (onto start (noted l.actor es)) d ∙ noted_uncalled n u l.actor es start
 
--- a line adds its call
-line_counted : (s : List Line) (a : ActorNo) (n : ℕ) (o : Option (TxNo × Call)) (start T : List Placed) → LineRan s a n o start T → calls T ≡ put (due_call n a o) (calls start)
-unfolding block
-line_counted s a n None start T r = ap (λ T. calls T) r
-line_counted s a n (Some c) start T r =
-    let ran : HasCalled s a n c.0 c.1 start T = line_called s a n c.0 c.1 start T r in
-    let o = observe (history c.0.value ran.before) in
-    let y = answer o c.1 ran.done in
-    ap (λ T. calls T) ran.ends
-    ∙ calls-placed c.0 ((Transaction c.0, Called n a y) ∷ ran.before) (facts_if (is_fine y) (facts o c.1)) (facts_not_called o c.1 (is_fine y))
-    ∙ ap (λ xs. put (due_call n a (Some c)) xs) (steps_called s c.0 ran.place ran.count start ran.before ran.steps)
+-- the call of a line at a transaction, as the trace counts it
+abbrev at_transaction : ℕ → ActorNo → TxNo × Call → Place × ℕ × ActorNo
+at_transaction n a c = (Transaction c.0, n, a)
+
+-- what a scope line does at its context is no call
+written_not_called : (es : List ScopeEntry) → each is_not_called (map written es) ≡ true
+written_not_called [] = refl
+written_not_called (Opens s x i ∷ es) = written_not_called es
+written_not_called (Finishes s ∷ es) = written_not_called es
+written_not_called (Closes s ∷ es) = written_not_called es
+
+-- a scope line adds one call at its context
+noted_counted : (n : ℕ) (a : ActorNo) (o : Option Answer) (es : List ScopeEntry) (T : List Placed) → calls (onto T (noted a (called_with n a o es))) ≡ onto (calls T) (at_its_context n a o)
+noted_counted n a None es T = refl
+noted_counted n a (Some x) es T = calls-at (Context a) ((Context a, Called n a x) ∷ T) (map written es) (written_not_called es)
+
+-- the calls of a scope line are added in order
+calls_counted : (n : ℕ) (a : ActorNo) (cs : List (TxNo × Call)) (T : List Placed) → calls (after_calls n a cs T) ≡ onto (calls T) (map (at_transaction n a) cs)
+calls_counted n a [] T = refl
+calls_counted n a (c ∷ cs) T =
+    calls_counted n a cs (after_step c.0 (Calls n a c.1 0) T) ∙ ap (λ ks. onto ks (map (at_transaction n a) cs)) (call_counted n a c.0 c.1 0 T)
+
+-- a call by a line's own words is added
+words_counted : (s : List Line) (a : ActorNo) (n : ℕ) (c : TxNo × Call) (start T : List Placed) → CallRan s a n (Some c) start T → calls T ≡ at_transaction n a c ∷ calls start
+words_counted s a n c start T r =
+    let ran : HasCalled s a n c.0 c.1 start T = call_ran s a n c.0 c.1 start T r in
+    ap (λ T. calls T) ran.ends ∙ call_counted n a c.0 c.1 ran.done ran.before
+    ∙ ap (λ ks. at_transaction n a c ∷ ks) (steps_called s c.0 ran.place ran.count start ran.before ran.steps)
+
+-- the calls of a line, in order: those that it gives as a scope line, or the one by its own words
+both_counted : (s : List Line) (a : ActorNo) (n : ℕ) (o : Option (TxNo × Call)) (cs : List (TxNo × Call)) (start T : List Placed) → ((c : TxNo × Call) → o ≡ Some c → cs ≡ [])
+    → CallRan s a n o (after_calls n a cs start) T → calls T ≡ onto (calls start) (map (at_transaction n a) (put o cs))
+both_counted s a n None cs start T own r = ap (λ T. calls T) r ∙ calls_counted n a cs start
+both_counted s a n (Some c) cs start T own r =
+    let none : cs ≡ [] = own c refl in
+    words_counted s a n c (after_calls n a cs start) T r ∙ ap (λ cs. at_transaction n a c ∷ calls (after_calls n a cs start)) none
+    ∙ ap (λ cs. onto (at_transaction n a c ∷ calls start) (map (at_transaction n a) cs)) (sym none)
+
+-- a line adds its calls
+line_counted : (s before : List Line) (l : Line) (start T : List Placed) → LineRan s before l start T → calls T ≡ onto (calls start) (due_of s before l)
+line_counted s before l start T r =
+    let n : ℕ = suc (length before) in
+    let a : ActorNo = l.actor in
+    let xs : List OpenScope = scopes_of a.value before in
+    let es : List Entry = scope_block n a l.body xs in
+    let due : List (Place × ℕ × ActorNo) = map (at_transaction n a) (calls_by s before l) in
+    both_counted s a n (call_of s l.body) (scope_calls l.body xs) (onto start (noted a es)) T (λ c e. own_line s l.body c xs e) r
+    ∙ ap (λ ks. onto ks due) (noted_counted n a (scope_answer l.body xs) (scope_entries l.body xs) start)
+    ∙ sym (onto-append (calls start) (at_its_context n a (scope_answer l.body xs)) due)
+
+-- a call by a line's own words leaves each context alone
+words_beside : (s : List Line) (a : ActorNo) (n : ℕ) (o : Option (TxNo × Call)) (start T : List Placed) → CallRan s a n o start T → (b : ℕ) → at_context b T ≡ at_context b start
+words_beside s a n None start T r b = ap (λ T. at_context b T) r
+words_beside s a n (Some c) start T r b =
+    let ran : HasCalled s a n c.0 c.1 start T = call_ran s a n c.0 c.1 start T r in
+    ap (λ T. at_context b T) ran.ends ∙ context-placed b c.0 ran.before (block (observe (history c.0.value ran.before)) (Calls n a c.1 ran.done))
+    ∙ steps_beside s c.0 ran.place ran.count start ran.before ran.steps b
+
+-- a line writes at a context its block alone
+line_noted : (s before : List Line) (l : Line) (start T : List Placed) → LineRan s before l start T → (b : ℕ)
+    → at_context b T ≡ at_context b (onto start (noted l.actor (scope_block (suc (length before)) l.actor l.body (scopes_of l.actor.value before))))
+line_noted s before l start T r b =
+    let n : ℕ = suc (length before) in
+    let xs : List OpenScope = scopes_of l.actor.value before in
+    words_beside s l.actor n (call_of s l.body) (after_scope n l xs start) T r b
+    ∙ context-calls b n l.actor (scope_calls l.body xs) (onto start (noted l.actor (scope_block n l.actor l.body xs)))
 
 -- read newest first and put back before others, a list is as it was
 onto-onto : {A : Type 0} → (h xs ys : List A) → onto ys (onto h xs) ≡ onto (xs ++ ys) h
@@ -193,28 +386,53 @@ line-onto before rest l =
     let found : slice_get (onto (l ∷ rest) before) (length before + 0) ≡ Some l = slice_get-onto before (l ∷ rest) 0 in
     ap (λ n. slice_get (onto (l ∷ rest) before) n) none ∙ found
 
+-- the lines before a block behind those
+take-onto : (bs xs : List Line) (k : ℕ) → take (length bs + k) (onto xs bs) ≡ onto (take k xs) bs
+take-onto [] xs k = let same : length {A = Line} [] + k ≡ k = omega arith in rw same refl
+take-onto (b ∷ bs) xs k =
+    let shift : length (b ∷ bs) + k ≡ length bs + suc k = omega arith in rw shift (take-onto bs (b ∷ xs) (suc k))
+
+-- the lines before the line behind them
+before-onto : (before rest : List Line) (l : Line) → lines_before (onto (l ∷ rest) before) (suc (length before)) ≡ before
+before-onto before rest l =
+    let none : suc (length before) - 1 ≡ length before + 0 = omega arith in
+    ap (λ k. past_of (take k (onto (l ∷ rest) before))) none ∙ ap (λ xs. past_of xs) (take-onto before (l ∷ rest) 0) ∙ onto-onto [] before [] ∙ append-nil before
+
 -- no line but those that were run was called
 lines_uncalled : (s bs : List Line) (T : List Placed) → LinesRan s bs T → (n : ℕ) → length bs < n → (u : ℕ) → has (is_call n) (history u T) ≡ false
 lines_uncalled s [] T r n k u = ap (λ T. has (is_call n) (history u T)) r
 lines_uncalled s (l ∷ before) T r n k u =
     let earlier : length before < n = omega arith in
     let other : (n == suc (length before)) ≡ false = grind (arith, nat_tests) in
-    line_uncalled s l.actor (suc (length before)) (call_of s l.body) r.0 T n u other (lines_uncalled s before r.0 r.1 n earlier u) r.2
+    line_uncalled s before l r.0 T n u other r.2 ∙ lines_uncalled s before r.0 r.1 n earlier u
 
 -- what the lines did is caused in each transaction
 lines_caused : (s bs rest : List Line) (T : List Placed) → s ≡ onto rest bs → LinesRan s bs T → AllCaused s T
 lines_caused s [] rest T e r = subst (λ T. AllCaused s T) (sym r) (λ u. ([], refl))
 lines_caused s (l ∷ before) rest T e r =
     let n = suc (length before) in
-    line_caused s l n (call_of s l.body) r.0 T refl (ap (λ s. kth s n) e ∙ line-onto before rest l)
+    line_caused s before l r.0 T (ap (λ s. kth s n) e ∙ line-onto before rest l) (ap (λ s. lines_before s n) e ∙ before-onto before rest l)
     (λ u. lines_uncalled s before r.0 r.1 n (omega arith) u) (lines_caused s before (l ∷ rest) r.0 e r.1) r.2
 
--- the lines have each one's call once and in order
+-- the lines have each one's calls once and in order
 lines_called : (s bs : List Line) (T : List Placed) → LinesRan s bs T → calls T ≡ due_calls s bs
 lines_called s [] T r = ap (λ T. calls T) r
-lines_called s (l ∷ before) T r =
-    let n = suc (length before) in
-    line_counted s l.actor n (call_of s l.body) r.0 T r.2 ∙ ap (λ rest. put (due_call n l.actor (call_of s l.body)) rest) (lines_called s before r.0 r.1)
+lines_called s (l ∷ before) T r = line_counted s before l r.0 T r.2 ∙ ap (λ rest. onto rest (due_of s before l)) (lines_called s before r.0 r.1)
+
+-- the lines write at each context what its actor's lines write there
+lines_noted : (s bs : List Line) (T : List Placed) → LinesRan s bs T → (a : ℕ) → at_context a T ≡ context a bs
+lines_noted s [] T r a = ap (λ T. at_context a T) r
+lines_noted s (l ∷ before) T r a = line_noted s before l r.0 T r.2 a ∙ by_actor (a == l.actor.value) refl (lines_noted s before r.0 r.1 a)
+  where
+    by_actor : (b : Bool) → (a == l.actor.value) ≡ b → at_context a r.0 ≡ context a before
+        → at_context a (onto r.0 (noted l.actor (scope_block (suc (length before)) l.actor l.body (scopes_of l.actor.value before))))
+        ≡ (if b then onto (context a before) (scope_block (suc (length before)) l.actor l.body (scopes_of a before)) else context a before)
+    by_actor true e ih =
+        let same : l.actor.value ≡ a = grind (arith, nat_tests) in
+        context-same a l.actor r.0 (scope_block (suc (length before)) l.actor l.body (scopes_of l.actor.value before)) e
+        ∙ ap (λ h. onto h (scope_block (suc (length before)) l.actor l.body (scopes_of l.actor.value before))) ih
+        ∙ ap (λ k. onto (context a before) (scope_block (suc (length before)) l.actor l.body (scopes_of k before))) same
+    by_actor false e ih = context-other a l.actor r.0 (scope_block (suc (length before)) l.actor l.body (scopes_of l.actor.value before)) e ∙ ih
 
 -- the step of a turn is the first that is pending
 turn_first : (s : List Line) (T : List Placed) (u : ℕ) (t : TxNo) (m : Step) → IsTurn s T u t m → kth (pending s (observe (history t.value T))) 1 ≡ Some m
@@ -231,7 +449,13 @@ rounds_called : (s : List Line) (start : List Placed) (turns : List (TxNo × Ste
 rounds_called s start [] T r = ap (λ T. calls T) r
 rounds_called s start (x ∷ xs) T r =
     let h = history x.0.value r.0 in
-    ap (λ T. calls T) r.3 ∙ calls-placed x.0 r.0 (block (observe h) x.1) (kth_not_called s h 1 x.1 (turn_first s r.0 _ x.0 x.1 r.2)) ∙ rounds_called s start xs r.0 r.1
+    ap (λ T. calls T) r.3 ∙ calls-at (Transaction x.0) r.0 (block (observe h) x.1) (kth_not_called s h 1 x.1 (turn_first s r.0 _ x.0 x.1 r.2)) ∙ rounds_called s start xs r.0 r.1
+
+-- and leave each context alone
+rounds_beside : (s : List Line) (start : List Placed) (turns : List (TxNo × Step)) (T : List Placed) → RoundsRan s start turns T → (a : ℕ) → at_context a T ≡ at_context a start
+rounds_beside s start [] T r a = ap (λ T. at_context a T) r
+rounds_beside s start (x ∷ xs) T r a =
+    ap (λ T. at_context a T) r.3 ∙ context-placed a x.0 r.0 (block (observe (history x.0.value r.0)) x.1) ∙ rounds_beside s start xs r.0 r.1 a
 
 -- what a replay does is caused by its script in each transaction
 pub replayed_caused : (s : List Line) (T : List Placed) → IsReplayed s T → (t : TxNo) → Caused s t.value (history t.value T)
@@ -241,6 +465,10 @@ replayed_caused s T r = rounds_caused s r.by_lines r.turns T (lines_caused s (pa
 pub replayed_called : (s : List Line) (T : List Placed) → IsReplayed s T → calls T ≡ due_calls s (past_of s)
 replayed_called s T r = rounds_called s r.by_lines r.turns T r.rounds ∙ lines_called s (past_of s) r.by_lines r.lines
 
+-- a replay writes at each context what its actor's lines write there
+pub replayed_noted : (s : List Line) (T : List Placed) → IsReplayed s T → (a : ActorNo) → at_context a.value T ≡ context a.value (past_of s)
+replayed_noted s T r a = rounds_beside s r.by_lines r.turns T r.rounds a.value ∙ lines_noted s (past_of s) r.by_lines r.lines a.value
+
 -- what a line's call makes is new where the lines before it ran
 pub ran_new : (s xs ys : List Line) (l : Line) (T : List Placed) (t : TxNo) (c : Call) → s ≡ xs ++ l ∷ ys → are_named_well s ≡ true → LinesRan s (past_of xs) T
     → call_of s l.body ≡ Some (t, c) → is_new (observe (history t.value T)) c ≡ true
@@ -248,5 +476,6 @@ ran_new s xs ys l T t c e w r g =
     let n = suc (length (past_of xs)) in
     let whole : s ≡ onto (l ∷ ys) (past_of xs) = e ∙ sym (onto-onto [] xs (l ∷ ys)) in
     let stands : kth s n ≡ Some l = ap (λ s. kth s n) whole ∙ line-onto (past_of xs) ys l in
+    let given : IsGiven s n l (t, c) = own_given s l n (t, c) g in
     caused_new s t.value n l.actor c (history t.value T) w (lines_caused s (past_of xs) (l ∷ ys) T whole r t)
-    (record { line = l; stands = stands; by_actor = refl; name = t; gives = g; at_t = refl }) (lines_uncalled s (past_of xs) T r n (omega arith) t.value)
+    (record { line = l; stands = stands; by_actor = refl; name = t; place = given.0; gives = given.1; at_t = refl }) (lines_uncalled s (past_of xs) T r n (omega arith) t.value)

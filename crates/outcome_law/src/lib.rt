@@ -5,6 +5,7 @@
 ghost use Rattle.std.specs.Prelude.{◌≡◌, ℕ, true, false, List, ◌∷◌, ◌++◌, Bool, Some, slice_get};
 ghost use Rattle.dtx_values.specs.declared.call.Call.{Call};
 ghost use Rattle.dtx_values.specs.declared.entry.Entry.{Entry};
+ghost use Rattle.dtx_values.specs.declared.number.ActorNo.{ActorNo};
 ghost use Rattle.dtx_values.specs.declared.number.CloneNo.{CloneNo};
 ghost use Rattle.dtx_values.specs.declared.number.EnlNo.{EnlNo};
 ghost use Rattle.dtx_values.specs.declared.number.TxNo.{TxNo};
@@ -20,8 +21,9 @@ ghost use Rattle.dtx_model.specs.Outcome.{enlisted, evidence, justified, agree};
 ghost use Rattle.dtx_model.specs.Observed.{observe, rows, clone_rows};
 ghost use Rattle.dtx_model.specs.Seen.{IsSeen, IsCloneSeen, is_timely};
 ghost use Rattle.dtx_model.specs.Steps.{call_of, is_evident};
+ghost use Rattle.dtx_model.specs.Contexts.{context};
 ghost use Rattle.dtx_model.specs.Caused.{Caused, Settled, is_new};
-ghost use Rattle.dtx_model.specs.Replay.{Placed, history, IsReplayed, LinesRan, calls, due_calls};
+ghost use Rattle.dtx_model.specs.Replay.{Placed, history, at_context, IsReplayed, LinesRan, calls, due_calls};
 ghost use Rattle.dtx_model.specs.History.{CanCommit};
 ghost use Rattle.dtx_model.specs.Grammar.{are_named_well};
 
@@ -38,10 +40,12 @@ pub fn completeness()
         → has (is_client_told Committed) h ≡ true }
 {}
 
-/// What a replay does in its order is caused by its script in each transaction, and has each line's call exactly once and in order. What
-/// a line's call makes is new where the lines before it ran. The trace is read newest first.
+/// What a replay does in its order is caused by its script in each transaction, is at each context what its actor's lines write there, and
+/// has each line's call exactly once at each of its places and in order. What a line's call makes is new where the lines before it ran.
+/// The trace is read newest first.
 pub fn replay()
     ensures caused { (s : List Line) (T : List Placed) → IsReplayed s T → (t : TxNo) → Caused s t.value (history t.value T) }
+    ensures contexts { (s : List Line) (T : List Placed) → IsReplayed s T → (a : ActorNo) → at_context a.value T ≡ context a.value (past_of s) }
     ensures called { (s : List Line) (T : List Placed) → IsReplayed s T → calls T ≡ due_calls s (past_of s) }
     ensures fresh { (s xs ys : List Line) (l : Line) (T : List Placed) (t : TxNo) (c : Call) → s ≡ xs ++ l ∷ ys → are_named_well s ≡ true → LinesRan s (past_of xs) T
         → call_of s l.body ≡ Some (t, c) → is_new (observe (history t.value T)) c ≡ true }

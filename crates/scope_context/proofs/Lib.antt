@@ -1,0 +1,2 @@
+mod Pasts
+mod Entries

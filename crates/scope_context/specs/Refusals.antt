@@ -1,5 +1,5 @@
 -- What a context refuses, each exactly where.
-use Rattle.std.specs.Prelude.{ℕ, Bool, true, false, not, List, [], ◌∷◌, Option, Some, None, Result, Ok, Err, if◌then◌else◌}
+use Rattle.std.specs.Prelude.{not, List, [], ◌∷◌, Option, Some, None, Result, Ok, Err, if◌then◌else◌}
 use Rattle.dtx_values.specs.declared.limits.TheConstants.{SCOPES}
 use Rattle.dtx_values.specs.declared.number.ScopeNo.{ScopeNo}
 use Rattle.dtx_values.specs.declared.number.TxNo.{TxNo}

@@ -1,5 +1,5 @@
 -- What stands in a context.
-use Rattle.std.specs.Prelude.{ℕ, Bool, true, ◌&&◌, ◌||◌, not, List, [], ◌∷◌, map}
+use Rattle.std.specs.Prelude.{Bool, true, ◌&&◌, not, List, [], ◌∷◌}
 use Rattle.dtx_values.specs.declared.number.TxNo.{TxNo}
 use Rattle.dtx_values.specs.declared.scope.OpenScope.{OpenScope}
 use Rattle.dtx_model.specs.Words.{has}
@@ -14,7 +14,3 @@ pub record Standing : Type 0 where
 abbrev pub distinct : List OpenScope → Bool
 distinct [] = true
 distinct (x ∷ xs) = not (has (is_scope x.scope.value) xs) && distinct xs
-
--- the scopes with this one complete
-abbrev pub with_complete : ℕ → List OpenScope → List OpenScope
-with_complete s xs = map (λ x. record { scope = x.scope; entered = x.entered; isolation = x.isolation; complete = is_scope s x || x.complete }) xs

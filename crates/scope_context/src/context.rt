@@ -1,11 +1,10 @@
 //! A context.
-ghost use Rattle.std.specs.Prelude.{◌≡◌, ◌≤◌, List, [], ◌∷◌, false, true, length, map, vec_capacity, Err, None, Some, IfErr, IfOk, OnErr, OnOk};
+ghost use Rattle.std.specs.Prelude.{◌≡◌, ◌==◌, ◌<◌, ◌≤◌, ◌+◌, ◌++◌, List, [], ◌∷◌, false, true, find, reverse, is_some, length, map, vec_capacity, Err, None, Some, IfErr, IfOk, OnErr, OnOk};
 ghost use Rattle.dtx_values.specs.declared.number.ScopeNo.{ScopeNo};
-ghost use Rattle.dtx_model.specs.Words.{has, onto, past_of};
-ghost use Rattle.dtx_model.specs.Scopes.{ScopeEntry, Opens, Finishes, Closes, beneath, closing, entering, is_scope, open_scopes, rolled_back, taken_off};
+ghost use Rattle.dtx_model.specs.Words.{all_of, has, onto, past_of, put};
+ghost use Rattle.dtx_model.specs.Scopes.{ScopeEntry, Opens, Finishes, Closes, ambient, beneath, closing, closing_with, completed_in, differing, entering, is_complete_scope, is_scope, isolation_made, isolation_of, makes_it, once, open_scopes, rolled_back, taken_off, transaction_in, transaction_of, with_complete};
 ghost use Rattle.scope_context.specs.declared.refusal.ScopeRefusal.TheVariants.{NestedWrongly, NoScope};
 ghost use Rattle.scope_context.specs.Refusals.{close_refusal, complete_refusal, current_result, enter_refusal};
-ghost use Rattle.scope_context.specs.Standing.{with_complete};
 
 use crate::refusal::ScopeRefusal;
 use dtx_values::{Closed, Entered, Iso, OpenScope, SCOPES, ScopeNo, ScopeOption, TxNo};
@@ -76,10 +75,10 @@ impl Context {
         if self.scopes.len() >= SCOPES {
             return Err(ScopeRefusal::TooDeep(SCOPES as u8));
         }
-        if let Some(found) = self.differing(o, iso) {
+        if let Some(found) = differing(&self.scopes, o, iso) {
             return Err(ScopeRefusal::IsolationDiffers(iso, found));
         }
-        let entered = self.entering(o, t);
+        let entered = entering(&self.scopes, o, t);
         self.scopes.push_reserved(OpenScope {
             scope: s,
             entered,
@@ -103,10 +102,10 @@ impl Context {
         ensures entries { OnOk result ((es : List ScopeEntry) → open_scopes es ≡ self.old.scopes → open_scopes (Finishes s ∷ es) ≡ self.new.scopes) }
         ensures rolled { self.new.rolled ≡ self.old.rolled }
     {
-        if !self.is_open(s) {
+        if !is_open(&self.scopes, s) {
             return Err(ScopeRefusal::NoScope(s));
         }
-        if self.is_complete(s) {
+        if is_complete(&self.scopes, s) {
             return Err(ScopeRefusal::AlreadyComplete(s));
         }
         complete(&mut self.scopes, s);
@@ -131,23 +130,18 @@ impl Context {
         ensures entries { (es : List ScopeEntry) → open_scopes es ≡ self.old.scopes → has (is_scope s.value) self.old.scopes ≡ true
             → open_scopes (onto es (map (λ x. Closes x.scope) (taken_off s.value self.old.scopes))) ≡ self.new.scopes }
     {
-        if !self.is_open(s) {
+        if !is_open(&self.scopes, s) {
             return Err(ScopeRefusal::NoScope(s));
         }
-        let Some(top) = self.scopes.pop() else {
+        let Some(top) = self.scopes.last().copied() else {
             return Ok(Closed::Nothing);
         };
         if top.scope == s {
+            self.scopes.pop();
             return Ok(closing(top));
         }
         self.rolled.clear();
-        self.roll_back(top);
-        while let Some(x) = self.scopes.pop() {
-            self.roll_back(x);
-            if x.scope == s {
-                break;
-            }
-        }
+        take_off(&mut self.scopes, &mut self.rolled, s);
         Err(ScopeRefusal::NestedWrongly(top.scope))
     }
 
@@ -179,63 +173,93 @@ impl Context {
     {
         self.scopes.as_slice()
     }
+}
 
-    fn is_open(&self, s: ScopeNo) -> bool {
-        self.scopes.iter().any(|x| x.scope == s)
+/// Whether this scope is among these, which stand in the order in which they were opened.
+fn is_open(scopes: &[OpenScope], s: ScopeNo) -> bool
+    ensures { result ≡ has (is_scope s.value) (reverse scopes.now) }
+{
+    scopes.iter().rev().any(|x| x.scope == s)
+}
+
+/// Whether this scope is among these and complete.
+fn is_complete(scopes: &[OpenScope], s: ScopeNo) -> bool
+    ensures { result ≡ has (is_complete_scope s.value) (reverse scopes.now) }
+{
+    scopes.iter().rev().any(|x| x.scope == s && x.complete)
+}
+
+/// The ambient transaction, where these scopes are open.
+fn ambient(scopes: &[OpenScope]) -> Option<TxNo>
+    ensures { result ≡ ambient (past_of scopes.now) }
+{
+    match scopes.last() {
+        Some(top) => transaction_in(top.entered),
+        None => None,
     }
+}
 
-    fn is_complete(&self, s: ScopeNo) -> bool {
-        self.scopes.iter().any(|x| x.scope == s && x.complete)
+/// Whether the scope made this transaction.
+fn has_made(x: &OpenScope, t: TxNo) -> bool
+    ensures { result ≡ is_some (isolation_made t.value x.now.entered x.now.isolation) }
+{
+    x.entered == Entered::Made(t)
+}
+
+/// The scope that made this transaction.
+fn maker(scopes: &[OpenScope], t: TxNo) -> Option<OpenScope>
+    ensures { result ≡ find (λ x. is_some (isolation_made t.value x.entered x.isolation)) (reverse scopes.now) }
+{
+    scopes.iter().rev().copied().find(|x| has_made(x, t))
+}
+
+/// The isolation that the open scope asked for that made this transaction.
+#[tactic(auto, using(crate::proofs::Pasts::isolation_found))]
+fn isolation(scopes: &[OpenScope], t: TxNo) -> Option<Iso>
+    ensures { result ≡ isolation_of (past_of scopes.now) t }
+{
+    maker(scopes, t).map(|x| x.isolation)
+}
+
+/// The isolation of the ambient transaction, where Required would join it and asks for another one.
+fn differing(scopes: &[OpenScope], o: ScopeOption, asked: Iso) -> Option<Iso>
+    ensures { result ≡ differing o asked (past_of scopes.now) }
+{
+    if o != ScopeOption::Required || asked == Iso::Unspecified {
+        return None;
     }
+    let found = isolation(scopes, ambient(scopes)?)?;
+    if found == asked { None } else { Some(found) }
+}
 
-    fn ambient(&self) -> Option<TxNo> {
-        match self.scopes.last() {
-            Some(top) => transaction_in(top.entered),
-            None => None,
-        }
+/// What a scope that is opened so makes or joins.
+fn entering(scopes: &[OpenScope], o: ScopeOption, t: Option<TxNo>) -> Entered
+    ensures { result ≡ entering o t (past_of scopes.now) }
+{
+    match o {
+        ScopeOption::Required => match ambient(scopes) {
+            Some(a) => Entered::Joined(a),
+            None => makes_it(t),
+        },
+        ScopeOption::RequiresNew => makes_it(t),
+        ScopeOption::Suppress => Entered::NoTx,
     }
+}
 
-    /// The isolation that the open scope asked for that made this transaction.
-    fn isolation(&self, t: TxNo) -> Option<Iso> {
-        for x in self.scopes.iter().rev() {
-            if x.entered == Entered::Made(t) {
-                return Some(x.isolation);
-            }
-        }
-        None
-    }
-
-    /// The isolation of the ambient transaction, where Required would join it and asks for another one.
-    fn differing(&self, o: ScopeOption, asked: Iso) -> Option<Iso> {
-        if o != ScopeOption::Required || asked == Iso::Unspecified {
-            return None;
-        }
-        let found = self.isolation(self.ambient()?)?;
-        if found == asked { None } else { Some(found) }
-    }
-
-    /// What a scope that is opened so makes or joins.
-    fn entering(&self, o: ScopeOption, t: Option<TxNo>) -> Entered {
-        match (o, self.ambient(), t) {
-            (ScopeOption::Required, Some(a), _) => Entered::Joined(a),
-            (ScopeOption::Suppress, _, _) => Entered::NoTx,
-            (_, _, Some(t)) => Entered::Made(t),
-            (_, _, None) => Entered::NoTx,
-        }
-    }
-
-    /// Takes down that a scope's transaction is to be rolled back.
-    fn roll_back(&mut self, x: OpenScope) {
-        if let Some(t) = transaction_in(x.entered) {
-            if !self.rolled.contains(&t) {
-                self.rolled.push_reserved(t);
-            }
-        }
+/// Makes the transaction of this name, where there is one.
+fn makes_it(t: Option<TxNo>) -> Entered
+    ensures { result ≡ makes_it t }
+{
+    match t {
+        Some(t) => Entered::Made(t),
+        None => Entered::NoTx,
     }
 }
 
 /// The transaction that a scope has.
-fn transaction_in(entered: Entered) -> Option<TxNo> {
+fn transaction_in(entered: Entered) -> Option<TxNo>
+    ensures { result ≡ transaction_in entered }
+{
     match entered {
         Entered::Made(t) | Entered::Joined(t) => Some(t),
         Entered::NoTx => None,
@@ -243,7 +267,9 @@ fn transaction_in(entered: Entered) -> Option<TxNo> {
 }
 
 /// What closing this scope does to its transaction.
-fn closing(x: OpenScope) -> Closed {
+fn closing(x: OpenScope) -> Closed
+    ensures { result ≡ closing_with x.complete x.entered }
+{
     match (x.complete, x.entered) {
         (true, Entered::Made(t)) => Closed::Commit(t),
         (false, Entered::Made(t)) | (false, Entered::Joined(t)) => Closed::Rollback(t),
@@ -251,11 +277,57 @@ fn closing(x: OpenScope) -> Closed {
     }
 }
 
+/// Completes the scope, where it is this one.
+fn completed_in(x: &mut OpenScope, s: ScopeNo)
+    ensures { x.new ≡ completed_in s.value x.old }
+{
+    if x.scope == s {
+        x.complete = true;
+    }
+}
+
 /// Completes a scope.
-fn complete(scopes: &mut Vec<OpenScope>, s: ScopeNo) {
+fn complete(scopes: &mut Vec<OpenScope>, s: ScopeNo)
+    ensures items { scopes.new.items ≡ map (completed_in s.value) scopes.old.items }
+    ensures capacity { vec_capacity scopes.old ≤ vec_capacity scopes.new }
+{
     for x in scopes.iter_mut() {
+        completed_in(x, s);
+    }
+}
+
+/// Whether this transaction is among these.
+fn is_in(ts: &[TxNo], t: TxNo) -> bool
+    ensures { result ≡ has (λ u. t.value == u.value) (reverse ts.now) }
+{
+    ts.iter().rev().any(|u| *u == t)
+}
+
+/// Takes down that this transaction, where there is one, is to be rolled back, unless that is taken down already.
+fn roll_back(rolled: &mut Vec<TxNo>, t: Option<TxNo>)
+    requires { length rolled.old.items < vec_capacity rolled.old }
+    ensures items { rolled.new.items ≡ rolled.old.items ++ once (past_of rolled.old.items) (put t []) }
+    ensures capacity { vec_capacity rolled.old ≤ vec_capacity rolled.new }
+{
+    if let Some(t) = t {
+        if !is_in(rolled, t) {
+            rolled.push_reserved(t);
+        }
+    }
+}
+
+/// Takes off a scope and all above it, the top first, and takes down that their transactions are to be rolled back.
+fn take_off(scopes: &mut Vec<OpenScope>, rolled: &mut Vec<TxNo>, s: ScopeNo)
+    requires { length rolled.old.items + length scopes.old.items ≤ vec_capacity rolled.old }
+    ensures left { past_of scopes.new.items ≡ beneath s.value (past_of scopes.old.items) }
+    ensures rolled { rolled.new.items ≡ rolled.old.items ++ once (past_of rolled.old.items) (all_of transaction_of (taken_off s.value (past_of scopes.old.items))) }
+    ensures scopes_capacity { vec_capacity scopes.old ≤ vec_capacity scopes.new }
+    ensures rolled_capacity { vec_capacity rolled.old ≤ vec_capacity rolled.new }
+{
+    while let Some(x) = scopes.pop() {
+        roll_back(rolled, transaction_in(x.entered));
         if x.scope == s {
-            x.complete = true;
+            return;
         }
     }
 }

@@ -1,10 +1,14 @@
 //! The answers of a context, and its limit.
+ghost use Rattle.std.specs.Prelude.{◌≡◌};
+
 use crate::{Closed, Context, Entered, ScopeRefusal};
 use dtx_values::{Iso, ScopeNo, ScopeOption, TxNo};
 use std::process::Abort;
 use std::test::Fail;
 
-fn scope(rt: &impl Abort, n: u32) -> ScopeNo {
+fn scope(rt: &impl Abort, n: u32) -> ScopeNo
+    ensures { result.value ≡ n }
+{
     ScopeNo::new(n).expect(rt, "no such number")
 }
 
@@ -46,7 +50,8 @@ fn a_complete_scope_no_longer_gives_its_transaction(rt: HostRuntime) -> Result<(
 fn closing_gives_back_the_ambient_of_before(rt: HostRuntime) -> Result<(), Fail> {
     let (s1, s2, t1) = (scope(&rt, 1), scope(&rt, 2), tx(&rt, 1));
     let mut c = Context::new(rt.alloc())?;
-    let _ = c.enter(s1, ScopeOption::Required, Some(t1), Iso::Serializable);
+    let outer = c.enter(s1, ScopeOption::Required, Some(t1), Iso::Serializable);
+    assert_eq!(rt; outer, Ok(Entered::Made(t1)));
     let inner = c.enter(s2, ScopeOption::Suppress, None, Iso::Unspecified);
     assert_eq!(rt; inner, Ok(Entered::NoTx));
     assert_eq!(rt; c.current(), Ok(None));

@@ -6,7 +6,8 @@ use Rattle.dtx_model.specs.Words.{has, each}
 use Rattle.dtx_model.specs.Grammar.{is_from}
 use Rattle.dtx_model.specs.Faults.{Slot, allows, is_name, is_number, same_bytes, writes, line_forms}
 use Rattle.dtx_model.proofs.Bools.{and_both, and_left, and_right, or_case}
-use Rattle.script_text.proofs.Figures.{same_bytes_are, writes_one, clean_decimal, to_high}
+use Rattle.script_words.proofs.Numbers.{same_bytes-equal, to_high}
+use Rattle.script_text.proofs.Figures.{writes_one, clean_decimal}
 use Rattle.script_text.proofs.WordFaults.{fits, fits_some}
 
 -- no byte of the word is a space or none that a line may have
@@ -26,7 +27,7 @@ is_clean_slot s = each is_clean s.words && (each (λ b. is_from 33 126 b) s.lett
 clean_same : (w : List ℕ) (vs : List (List ℕ)) → each is_clean vs ≡ true → has (same_bytes w) vs ≡ true → is_clean w ≡ true
 clean_same w [] h k = absurd (cc k)
 clean_same w (v ∷ vs) h k =
-    or_case (same_bytes w v) (has (same_bytes w) vs) (λ e. rw (same_bytes_are w v e) (and_left _ _ h)) (clean_same w vs (and_right _ _ h)) k
+    or_case (same_bytes w v) (has (same_bytes w) vs) (λ e. rw (same_bytes-equal w v e) (and_left _ _ h)) (clean_same w vs (and_right _ _ h)) k
 
 -- what is one of some clean bytes is clean
 clean_letter : (b : ℕ) (cs : List ℕ) → each (λ b. is_from 33 126 b) cs ≡ true → has (λ c. b == c) cs ≡ true → is_from 33 126 b ≡ true
@@ -39,7 +40,7 @@ clean_written : (low high : ℕ) (w : List ℕ) → nat_le high 4294967295 ≡ t
 clean_written low high w h k =
     let n = writes_one low high w k in
     let below : high ≤ 4294967295 = grind (arith, nat_tests) in
-    let small : n.0.0 < 2 ^ 64 = omega (arith, to_high low high n.0.0 n.0.1) in
+    let small : n.0.0 < 2 ^ 32 = omega (arith, to_high low high n.0.0 n.0.1) in
     subst (λ (v : List ℕ). is_clean v ≡ true) n.1 (clean_decimal n.0.0 small)
 
 -- a name is clean

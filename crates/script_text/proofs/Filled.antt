@@ -10,7 +10,7 @@ use Rattle.dtx_model.specs.Grammar.{words, command_words, is_from, is_in_range}
 use Rattle.dtx_model.specs.Faults.{Slot, word, number, allows, command_forms, line_forms, actor_slot, transaction_slot, enlistment_slot, clone_slot, scope_slot, manager_slot}
 use Rattle.dtx_model.specs.Faults.{connection_slot, timeout_slot, iso_slot, option_slot, vote_slot, owner_slot, promote_slot, kind_slot, image_slot}
 use Rattle.dtx_model.proofs.Bools.{and_both, and_left, and_right, or_case, or_right}
-use Rattle.script_text.proofs.Fitting.{with_actor}
+use Rattle.script_text.specs.Reader.{ahead}
 use Rattle.script_text.proofs.WordFaults.{fits, fits_some}
 use Rattle.script_text.proofs.Meanings.{Means, listed, counted, actor, transaction, enlistment, clone, scope, manager, connection, timeout, iso, option, vote, owner, promote, kind, image}
 
@@ -236,15 +236,15 @@ each_form ws =
     beside tt
 
 -- words that fill a form behind an actor are an actor and words that fill a form
-no_actor : (fs : List (List Slot)) → fits_some (with_actor fs) [] ≡ true → ⊥
+no_actor : (fs : List (List Slot)) → fits_some (ahead actor_slot fs) [] ≡ true → ⊥
 no_actor [] h = cc h
 no_actor (f ∷ fs) h = no_actor fs h
 
 -- more words that do are an actor and words that fill a form
-behind_actor : (fs : List (List Slot)) (w : List ℕ) (ws : List (List ℕ)) → fits_some (with_actor fs) (w ∷ ws) ≡ true → (allows actor_slot w ≡ true) × (fits_some fs ws ≡ true)
+behind_actor : (fs : List (List Slot)) (w : List ℕ) (ws : List (List ℕ)) → fits_some (ahead actor_slot fs) (w ∷ ws) ≡ true → (allows actor_slot w ≡ true) × (fits_some fs ws ≡ true)
 behind_actor [] w ws h = absurd (cc h)
 behind_actor (f ∷ fs) w ws h =
-    or_case (allows actor_slot w && fits f ws) (fits_some (with_actor fs) (w ∷ ws))
+    or_case (allows actor_slot w && fits f ws) (fits_some (ahead actor_slot fs) (w ∷ ws))
     (λ k. (and_left _ _ k, ap (λ b. b || fits_some fs ws) (and_right _ _ k)))
     (λ k. let r = behind_actor fs w ws k in (r.0, or_right (fits f ws) (fits_some fs ws) r.1)) h
 

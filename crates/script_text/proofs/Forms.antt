@@ -6,14 +6,16 @@ use Rattle.dtx_model.specs.Words.{has}
 use Rattle.dtx_model.specs.Outcome.{is_empty}
 use Rattle.dtx_model.specs.Faults.{Slot, allows, behind, looks_named, looks_numbered, wants_number, word_cause, word_fault}
 use Rattle.dtx_model.specs.Faults.{command_forms, line_forms, actor_slot, transaction_slot, enlistment_slot, scope_slot, manager_slot}
-use Rattle.script_text.specs.Reader.{IsAt, ahead, place_fault, end_fault, cause_of, is_misnamed, is_misnumbered, is_numbered, first_fault, tail, opening_forms, support_forms}
+use Rattle.script_words.specs.Places.{IsAt, place_fault, end_fault, cause_of, is_misnamed, is_misnumbered, is_numbered, tail}
+use Rattle.script_text.specs.Reader.{ahead, first_fault, opening_forms, support_forms}
 
--- the two ways to say that a word looks like a name, or like a number
+-- the two ways to say that a word looks like a name
 named-by_letters : (s : Slot) (w : List ℕ) → looks_named s w ≡ is_misnamed s.letters w
 named-by_letters s [] = refl
 named-by_letters s (b ∷ []) = refl
 named-by_letters s (b ∷ d ∷ ds) = refl
 
+-- and like a number
 numbered-by_place : (o : Option (ℕ × ℕ)) (w : List ℕ) → looks_numbered o w ≡ (is_numbered o && is_misnumbered w)
 numbered-by_place None [] = refl
 numbered-by_place None (b ∷ bs) = refl
@@ -35,15 +37,17 @@ unfilled : (s : Slot) (fs : List (List Slot)) → has is_empty (ahead s fs) ≡ 
 unfilled s [] = refl
 unfilled s (f ∷ fs) = unfilled s fs
 
--- they want a number where their first place does
+-- either of two equal tests is the first
 or_same : (a b : Bool) → (b ≡ a) → (a || b) ≡ a
 or_same true b e = refl
 or_same false b e = e
 
+-- a test beside none
 or_nothing : (a : Bool) → (a || false) ≡ a
 or_nothing true = refl
 or_nothing false = refl
 
+-- they want a number where their first place does
 wanted : (s : Slot) (f : List Slot) (fs : List (List Slot)) (w : List ℕ) → has (wants_number w) (ahead s (f ∷ fs)) ≡ (looks_named s w || looks_numbered s.number w)
 wanted s f [] w = or_nothing (looks_named s w || looks_numbered s.number w)
 wanted s f (g ∷ fs) w = or_same (looks_named s w || looks_numbered s.number w) _ (wanted s g fs w)
@@ -60,6 +64,7 @@ unfolding first_fault
 at_word s f fs w ws true h = rw (kept s (f ∷ fs) w h) refl
 at_word s f fs w ws false h = rw (dropped s (f ∷ fs) w h, first_cause s f fs w) refl
 
+-- forms with one first place have its fault, or that of what follows it
 pub shared : (s : Slot) (f : List Slot) (fs : List (List Slot)) (ws : List (List ℕ)) → word_fault (ahead s (f ∷ fs)) ws ≡ first_fault (place_fault s ws) (word_fault (f ∷ fs) (tail ws))
 unfolding first_fault place_fault
 shared s f fs [] = rw (unfilled s (f ∷ fs)) refl
@@ -69,11 +74,12 @@ shared s f fs (w ∷ ws) = at_word s f fs w ws (allows s w) refl
 pub single : (s : Slot) (f : List Slot) (ws : List (List ℕ)) → word_fault ((s ∷ f) ∷ []) ws ≡ first_fault (place_fault s ws) (word_fault (f ∷ []) (tail ws))
 single s f ws = shared s f [] ws
 
--- the first fault of two
+-- where there is a first fault, it is the one
 pub first-some : (c : BadCause) (o : Option BadCause) → first_fault (Some c) o ≡ Some c
 unfolding first_fault
 first-some c o = refl
 
+-- where there is none, it is the second
 pub first-none : (o : Option BadCause) → first_fault None o ≡ o
 unfolding first_fault
 first-none o = refl

@@ -7,18 +7,10 @@ use Rattle.dtx_values.specs.declared.script.BadCause.TheVariants.{TooLong, LongL
 use Rattle.dtx_values.specs.declared.script.Line.{Line}
 use Rattle.dtx_model.specs.Words.{has, each}
 use Rattle.dtx_model.specs.Grammar.{is_from, words, line_text}
-use Rattle.dtx_model.specs.Faults.{front, has_newline, push, split, words_of, form_fault, word_fault, line_forms}
-use Rattle.dtx_model.proofs.Bools.{or_first, or_second, or_right}
-use Rattle.script_text.specs.Reader.{IsWithout}
-
--- bytes with an LF have the line before it at their front
-pub front_cut : (t r : List ℕ) → IsWithout 10 t → front (t ++ 10 ∷ r) ≡ t
-front_cut [] r h = refl
-front_cut (b ∷ t) r h = rw (or_first (b == 10) (has (λ x. x == 10) t) h, front_cut t r (or_second (b == 10) _ h)) refl
-
-newline_cut : (t r : List ℕ) → has_newline (t ++ 10 ∷ r) ≡ true
-newline_cut [] r = refl
-newline_cut (b ∷ t) r = or_right (b == 10) _ (newline_cut t r)
+use Rattle.dtx_model.specs.Faults.{front, has_newline, words_of, form_fault, word_fault, line_forms}
+use Rattle.dtx_model.proofs.Bools.{or_first, or_second}
+use Rattle.script_words.specs.Places.{IsWithout}
+use Rattle.script_text.proofs.LineTexts.{front_cut, newline_there, join_words}
 
 -- bytes without LF are all in front
 pub front_whole : (t : List ℕ) → IsWithout 10 t → front t ≡ t
@@ -31,9 +23,11 @@ pub record IsFront (bs t : List ℕ) (n : ℕ) (l : Bool) : Type 0 where
   pub newline : has_newline bs ≡ l
   pub reached : n ≡ length t + (if l then 1 else 0)
 
+-- bytes with an LF are cut at the first
 pub cut_front : (bs t r : List ℕ) → bs ≡ t ++ 10 ∷ r → IsWithout 10 t → IsFront bs t (length t + 1) true
-cut_front bs t r e h = record { text = rw e (front_cut t r h); newline = rw e (newline_cut t r); reached = refl }
+cut_front bs t r e h = record { text = rw e (front_cut t r h); newline = rw e (newline_there t r); reached = refl }
 
+-- bytes without LF are not cut
 pub whole_front : (bs : List ℕ) → IsWithout 10 bs → IsFront bs bs (length bs) false
 whole_front bs h = record { text = front_whole bs h; newline = h; reached = omega arith }
 
@@ -74,51 +68,6 @@ cut_line taken bs t r b e h k m p =
     not_turn : {A : Type 0} (b : Bool) (x y : A) → (if not b then y else x) ≡ (if b then x else y)
     not_turn true x y = refl
     not_turn false x y = refl
-
--- words are the bytes again when they are joined
-join_push : (b : ℕ) (w : List ℕ) (ws : List (List ℕ)) → join_with_byte 32 (push b (w ∷ ws)) ≡ b ∷ join_with_byte 32 (w ∷ ws)
-join_push b w [] = refl
-join_push b w (v ∷ ws) = refl
-
--- bytes have a first word
-pub record HasFirst (ws : List (List ℕ)) : Type 0 where
-  pub first : List ℕ
-  pub others : List (List ℕ)
-  pub is : ws ≡ first ∷ others
-
-pushed_first : (b : ℕ) (ws : List (List ℕ)) → HasFirst (push b ws)
-pushed_first b [] = record { first = b ∷ []; others = []; is = refl }
-pushed_first b (w ∷ ws) = record { first = b ∷ w; others = ws; is = refl }
-
-split_first : (bs : List ℕ) → HasFirst (split bs)
-split_first [] = record { first = []; others = []; is = refl }
-split_first (b ∷ bs) = either (b == 32)
-  where
-    either : (t : Bool) → HasFirst (if t then [] ∷ split bs else push b (split bs))
-    either true = record { first = []; others = split bs; is = refl }
-    either false = pushed_first b (split bs)
-
-join_empty : (ws : List (List ℕ)) → HasFirst ws → join_with_byte 32 ([] ∷ ws) ≡ 32 ∷ join_with_byte 32 ws
-join_empty ws h = rw h.is refl
-
-join_pushed : (b : ℕ) (ws : List (List ℕ)) → HasFirst ws → join_with_byte 32 (push b ws) ≡ b ∷ join_with_byte 32 ws
-join_pushed b ws h = rw h.is (join_push b h.first h.others)
-
--- words split at a first byte are the bytes again
-join_more : (b : ℕ) (bs : List ℕ) (t : Bool) → (b == 32) ≡ t → join_with_byte 32 (split bs) ≡ bs → join_with_byte 32 (if t then [] ∷ split bs else push b (split bs)) ≡ b ∷ bs
-join_more b bs true e h =
-    let space : b ≡ 32 = grind (arith, nat_tests) in
-    join_empty (split bs) (split_first bs) ∙ ap (λ t. 32 ∷ t) h ∙ ap (λ x. x ∷ bs) (sym space)
-join_more b bs false e h = join_pushed b (split bs) (split_first bs) ∙ ap (λ t. b ∷ t) h
-
-join_split : (bs : List ℕ) → join_with_byte 32 (split bs) ≡ bs
-join_split [] = refl
-join_split (b ∷ bs) = join_more b bs (b == 32) refl (join_split bs)
-
--- so are those of a line
-pub join_words : (bs : List ℕ) → join_with_byte 32 (words_of bs) ≡ bs
-join_words [] = refl
-join_words (b ∷ bs) = join_split (b ∷ bs)
 
 -- bytes begin with the line whose words stand before their first LF
 pub spelled_line : (l : Line) (bytes text after : List ℕ) → bytes ≡ text ++ 10 ∷ after → words_of text ≡ words l → bytes ≡ line_text l ++ after

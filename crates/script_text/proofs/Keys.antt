@@ -6,9 +6,10 @@ use Rattle.dtx_model.specs.Words.{has}
 use Rattle.dtx_model.specs.Outcome.{is_empty}
 use Rattle.dtx_model.specs.Faults.{Slot, same_bytes, behind, looks_named, looks_numbered, wants_number, word, word_fault, command_forms}
 use Rattle.dtx_model.proofs.Bools.{or_false, or_case}
-use Rattle.script_text.specs.Reader.{IsOther, opening_forms, opening_keys, making_words, asking_words, running_words}
-use Rattle.script_text.proofs.Numbers.{same_bytes-equal}
-use Rattle.script_text.proofs.Slots.{allows-none}
+use Rattle.script_words.specs.Places.{IsOther}
+use Rattle.script_text.specs.Reader.{opening_forms, opening_keys, making_words, asking_words, running_words}
+use Rattle.script_words.proofs.Numbers.{same_bytes-equal}
+use Rattle.script_words.proofs.Slots.{allows-none}
 
 -- each form begins with one of these words
 data Keyed (ks : List (List ℕ)) : List (List Slot) → Type 0 where

@@ -1,11 +1,6 @@
-pub mod Numbers
-pub mod Slots
-pub mod Places
-pub mod Splits
 pub mod Forms
 pub mod Fronts
 pub mod Keys
-pub mod Growing
 pub mod Tables
 pub mod CleanWords
 pub mod Figures

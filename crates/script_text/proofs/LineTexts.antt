@@ -2,11 +2,13 @@
 use Rattle.std.proofs.Common.{◌≡◌, ℕ, ◌==◌, Bool, true, false, List, [], ◌∷◌, ◌++◌, refl, ap, ◌∙◌, arith, if◌then◌else◌}
 use Rattle.std.specs.List.{join_with_byte}
 use Rattle.std.proofs.lemmas.Bool.Decides.{nat_tests}
-use Rattle.dtx_model.specs.Words.{each}
+use Rattle.dtx_model.specs.Words.{each, has}
 use Rattle.dtx_model.specs.Outcome.{is_empty}
 use Rattle.dtx_model.specs.Grammar.{is_from}
 use Rattle.dtx_model.specs.Faults.{front, has_newline, push, split, words_of}
-use Rattle.dtx_model.proofs.Bools.{and_both, and_left, and_right, or_right}
+use Rattle.dtx_model.proofs.Bools.{and_both, and_left, and_right, or_false, or_first, or_second, or_right}
+use Rattle.script_words.specs.Places.{IsWithout}
+use Rattle.script_words.proofs.Splits.{split_at, split_none, split_some}
 use Rattle.script_text.proofs.CleanWords.{is_clean}
 
 -- each byte may stand in a line
@@ -18,13 +20,9 @@ abbrev pub behind_front : List ℕ → List ℕ
 behind_front [] = []
 behind_front (b ∷ bs) = if b == 10 then bs else behind_front bs
 
--- a byte without space is one of a line, and isn't LF or space
+-- a byte without space is one of a line
 wider : (b : ℕ) → is_from 33 126 b ≡ true → is_from 32 126 b ≡ true
 wider b h = grind (arith, nat_tests)
-
--- it isn't a space
-no_space : (b : ℕ) → is_from 33 126 b ≡ true → (b == 32) ≡ false
-no_space b h = grind (arith, nat_tests)
 
 -- a byte of a line isn't LF
 no_newline : (b : ℕ) → is_from 32 126 b ≡ true → (b == 10) ≡ false
@@ -46,10 +44,19 @@ text_words [] h = refl
 text_words (w ∷ []) h = text_alone w (and_left _ _ h)
 text_words (w ∷ v ∷ ws) h = text_word w (32 ∷ join_with_byte 32 (v ∷ ws)) (and_left _ _ h) (text_words (v ∷ ws) (and_right _ _ h))
 
+-- bytes with an LF have the line before it at their front
+pub front_cut : (t a : List ℕ) → IsWithout 10 t → front (t ++ 10 ∷ a) ≡ t
+front_cut [] a h = refl
+front_cut (b ∷ t) a h = rw (or_first (b == 10) (has (λ x. x == 10) t) h, front_cut t a (or_second (b == 10) _ h)) refl
+
+-- a text has no LF
+text_without : (t : List ℕ) → is_text t ≡ true → IsWithout 10 t
+text_without [] h = refl
+text_without (b ∷ t) h = or_false (b == 10) _ (no_newline b (and_left _ _ h)) (text_without t (and_right _ _ h))
+
 -- a text before an LF is the front
 pub front_text : (t a : List ℕ) → is_text t ≡ true → front (t ++ 10 ∷ a) ≡ t
-front_text [] a h = refl
-front_text (b ∷ t) a h = rw (no_newline b (and_left _ _ h)) (ap (λ x. b ∷ x) (front_text t a (and_right _ _ h)))
+front_text t a h = front_cut t a (text_without t h)
 
 -- and what follows the LF is behind it
 pub behind_text : (t a : List ℕ) → is_text t ≡ true → behind_front (t ++ 10 ∷ a) ≡ a
@@ -61,21 +68,16 @@ pub newline_there : (t a : List ℕ) → has_newline (t ++ 10 ∷ a) ≡ true
 newline_there [] a = refl
 newline_there (b ∷ t) a = or_right (b == 10) (has_newline (t ++ 10 ∷ a)) (newline_there t a)
 
--- a clean word is split off at the space behind it
-split_word : (w t : List ℕ) → is_clean w ≡ true → split (w ++ 32 ∷ t) ≡ w ∷ split t
-split_word [] t h = refl
-split_word (b ∷ w) t h = rw (no_space b (and_left (is_from 33 126 b) (is_clean w) h), split_word w t (and_right (is_from 33 126 b) (is_clean w) h)) refl
-
--- a clean word isn't split
-split_alone : (w : List ℕ) → is_clean w ≡ true → split w ≡ w ∷ []
-split_alone [] h = refl
-split_alone (b ∷ w) h = rw (no_space b (and_left (is_from 33 126 b) (is_clean w) h), split_alone w (and_right (is_from 33 126 b) (is_clean w) h)) refl
+-- a clean word has no space
+clean_without : (w : List ℕ) → is_clean w ≡ true → IsWithout 32 w
+clean_without [] h = refl
+clean_without (b ∷ w) h = or_false (b == 32) _ (grind (arith, nat_tests, and_left (is_from 33 126 b) (is_clean w) h)) (clean_without w (and_right (is_from 33 126 b) (is_clean w) h))
 
 -- clean words that are joined are split into the same words
 split_joined : (w : List ℕ) (ws : List (List ℕ)) → each is_clean (w ∷ ws) ≡ true → split (join_with_byte 32 (w ∷ ws)) ≡ w ∷ ws
-split_joined w [] h = split_alone w (and_left _ _ h)
+split_joined w [] h = split_none w (clean_without w (and_left _ _ h))
 split_joined w (v ∷ ws) h =
-    split_word w (join_with_byte 32 (v ∷ ws)) (and_left _ _ h) ∙ ap (λ x. w ∷ x) (split_joined v ws (and_right _ _ h))
+    split_at w (join_with_byte 32 (v ∷ ws)) (clean_without w (and_left _ _ h)) ∙ ap (λ x. w ∷ x) (split_joined v ws (and_right _ _ h))
 
 -- so are the words of a line, the first of which isn't empty
 pub words_joined : (b : ℕ) (w : List ℕ) (ws : List (List ℕ)) → each is_clean ((b ∷ w) ∷ ws) ≡ true → words_of (join_with_byte 32 ((b ∷ w) ∷ ws)) ≡ (b ∷ w) ∷ ws
@@ -92,20 +94,6 @@ join_push b (w ∷ v ∷ ws) = refl
 join_space : (ws : List (List ℕ)) → is_empty ws ≡ false → join_with_byte 32 ([] ∷ ws) ≡ 32 ∷ join_with_byte 32 ws
 join_space [] h = absurd (cc h)
 join_space (w ∷ ws) h = refl
-
--- a byte in front leaves a word
-push_some : (b : ℕ) (ws : List (List ℕ)) → is_empty (push b ws) ≡ false
-push_some b [] = refl
-push_some b (w ∷ ws) = refl
-
--- there is a word
-split_some : (bs : List ℕ) → is_empty (split bs) ≡ false
-split_some [] = refl
-split_some (b ∷ bs) = by (b == 32) refl
-  where
-    by : (k : Bool) → (b == 32) ≡ k → is_empty (split (b ∷ bs)) ≡ false
-    by true e = rw e refl
-    by false e = rw e (push_some b (split bs))
 
 -- the words between the spaces, joined by spaces, are the bytes again
 join_split : (bs : List ℕ) → join_with_byte 32 (split bs) ≡ bs

@@ -30,7 +30,8 @@ use Rattle.dtx_model.specs.Grammar.{connection_word, image_word, asked_iso_word,
 use Rattle.dtx_model.specs.Faults.{Slot, one_of, named, number, allows, same_bytes, writes, actor_slot, transaction_slot, enlistment_slot, clone_slot, scope_slot, manager_slot}
 use Rattle.dtx_model.specs.Faults.{connection_slot, timeout_slot, iso_slot, option_slot, vote_slot, owner_slot, promote_slot, kind_slot, image_slot}
 use Rattle.dtx_model.proofs.Bools.{and_left, and_right, or_case}
-use Rattle.script_text.proofs.Figures.{Within, same_bytes_are, writes_one, to_high, from_low}
+use Rattle.script_words.proofs.Numbers.{same_bytes-equal, to_high}
+use Rattle.script_text.proofs.Figures.{Within, writes_one, from_low}
 
 -- whatever word the place allows is the text of a value
 pub record Means (A : Type 0) (spell : A → List ℕ) (s : Slot) : Type 0 where
@@ -107,7 +108,7 @@ in_list vs (b ∷ bs) h = first_holds (has (same_bytes (b ∷ bs)) vs) (first_ho
 -- a text that is among those of some values is that of one
 found : {A : Type 0} (spell : A → List ℕ) (xs : List A) (w : List ℕ) → has (same_bytes w) (map spell xs) ≡ true → (x : A) × (spell x ≡ w)
 found spell [] w h = absurd (cc h)
-found spell (x ∷ xs) w h = or_case (same_bytes w (spell x)) (has (same_bytes w) (map spell xs)) (λ e. (x, sym (same_bytes_are w (spell x) e))) (found spell xs w) h
+found spell (x ∷ xs) w h = or_case (same_bytes w (spell x)) (has (same_bytes w) (map spell xs)) (λ e. (x, sym (same_bytes-equal w (spell x) e))) (found spell xs w) h
 
 -- so words of lists stand for values
 pub listed : {A : Type 0} (spell : A → List ℕ) (xs : List A) → Means A spell (one_of (map spell xs))
@@ -149,7 +150,7 @@ Timed = (d : Timeout) × (is_timeout d ≡ true)
 
 -- either is the text of a timeout
 timed : (w : List ℕ) → (((same_bytes w (codes "default") || false) || false) ≡ true) ⊎ (writes 0 4294967295 w ≡ true) → (d : Timed) × (timeout_word d.0 ≡ w)
-timed w (inl h) = ((Default, refl), sym (same_bytes_are w (codes "default") (first_holds (same_bytes w (codes "default")) (first_holds (same_bytes w (codes "default") || false) h))))
+timed w (inl h) = ((Default, refl), sym (same_bytes-equal w (codes "default") (first_holds (same_bytes w (codes "default")) (first_holds (same_bytes w (codes "default") || false) h))))
 timed w (inr h) =
     let n = writes_one 0 4294967295 w h in
     ((Milliseconds n.0.0, n.0.1), n.1)

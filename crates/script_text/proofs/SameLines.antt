@@ -43,7 +43,7 @@ use Rattle.dtx_model.specs.Grammar.{connection_word, image_word, asked_iso_word,
 use Rattle.dtx_model.specs.Grammar.{is_from, is_timeout, is_opening_in_range, is_in_range}
 use Rattle.dtx_model.specs.Faults.{same_bytes}
 use Rattle.dtx_model.proofs.Bools.{and_left, and_right}
-use Rattle.script_text.proofs.Figures.{same_bytes-self, to_high, digits_of_decimal}
+use Rattle.script_words.proofs.Numbers.{same_bytes-refl, to_high, decimal_number}
 
 -- actors with one number are one
 actor_of_value : (m n : ActorNo) → m.value ≡ n.value → m ≡ n
@@ -99,7 +99,7 @@ fourth e = third (rest e)
 
 -- words that differ aren't equal
 apart : (v w : List ℕ) → same_bytes v w ≡ false → v ≡ w → ⊥
-apart v w h e = false≢true (sym h ∙ ap (same_bytes v) (sym e) ∙ same_bytes-self v)
+apart v w h e = false≢true (sym h ∙ ap (same_bytes v) (sym e) ∙ same_bytes-refl v)
 
 -- names with one text are one
 number_of_name : (letter m n : ℕ) → m < 2 ^ 64 → n < 2 ^ 64 → letter ∷ decimal m ≡ letter ∷ decimal n → m ≡ n
@@ -136,8 +136,8 @@ same_within : (low high m n : ℕ) → high < 2 ^ 64 → is_from low high m ≡ 
 same_within low high m n h k l e = decimal_injective m n (omega (arith, to_high low high m k)) (omega (arith, to_high low high n l)) e
 
 -- a number isn't spelled `default`
-not_default : (n : ℕ) → n < 2 ^ 64 → decimal n ≡ codes "default" → ⊥
-not_default n h e = omega (arith, digit_from_value 100 (subst (AllDigits 10) e (digits_of_decimal n h)).0)
+not_default : (n : ℕ) → n < 2 ^ 32 → decimal n ≡ codes "default" → ⊥
+not_default n h e = omega (arith, digit_from_value 100 (subst (AllDigits 10) e ((decimal_number n h).digits)).0)
 
 -- timeouts with one text are one
 same_timeout : (d e : Timeout) → is_timeout d ≡ true → is_timeout e ≡ true → timeout_word d ≡ timeout_word e → d ≡ e

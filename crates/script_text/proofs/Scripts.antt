@@ -130,3 +130,12 @@ bytes_more s l bytes rest after e k =
 -- a line's text isn't empty
 pub line_nonempty : (l : Line) (a : List ℕ) → [] ≡ line_text l ++ a → ⊥
 line_nonempty l a e = omega (arith, ap length e, length-append (line_text l) a, length-append (join_with_byte 32 (words l)) (10 ∷ []))
+
+-- the length of a line
+pub length-line_text : (l : Line) (bytes text after : List ℕ) → bytes ≡ text ++ 10 ∷ after → bytes ≡ line_text l ++ after → length (line_text l) ≡ length text + 1
+length-line_text l bytes text after e s = omega (arith, ap length (sym e ∙ s), length-append text (10 ∷ after), length-append (line_text l) after)
+
+-- a script has no more lines than bytes
+pub length_script : (s : List Line) → length s ≤ length (script_text s)
+length_script [] = omega arith
+length_script (l ∷ s) = omega (arith, length_script s, length-append (line_text l) (script_text s), length-append (join_with_byte 32 (words l)) (10 ∷ []))

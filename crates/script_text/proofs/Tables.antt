@@ -1,9 +1,9 @@
 -- Tables of the names that lines make.
-use Rattle.std.proofs.Common.{◌≡◌, ℕ, ◌<◌, ◌≤◌, ◌==◌, ◌||◌, ◌&&◌, Bool, true, false, List, [], ◌∷◌, length, refl}
-use Rattle.std.proofs.Common.{ap, sym, ◌∙◌, arith, replicate, slice_index_or, slice_set, subst, Option, None, if◌then◌else◌, ◌⊎◌, inl, inr}
+use Rattle.std.proofs.Common.{◌≡◌, ℕ, ◌<◌, ◌==◌, ◌||◌, ◌&&◌, Bool, true, false, List, [], ◌∷◌, length, refl}
+use Rattle.std.proofs.Common.{ap, sym, ◌∙◌, arith, replicate, slice_index_or, slice_set, subst, Option, Some, None, is_some, if◌then◌else◌, ◌⊎◌, inl, inr}
 use Rattle.std.specs.Prelude.{not}
 use Rattle.std.proofs.lemmas.Bool.Decides.{nat_tests}
-use Rattle.std.proofs.lemmas.List.{get_or-replicate, get_or-set_same, get_or-set_other, length-set}
+use Rattle.std.proofs.lemmas.List.{get_or-replicate, get_or-set_same, get_or-set_other, length-set, length-replicate}
 use Rattle.dtx_values.specs.declared.number.TxNo.{TxNo}
 use Rattle.dtx_values.specs.declared.number.EnlNo.{EnlNo}
 use Rattle.dtx_values.specs.declared.number.RmNo.{RmNo}
@@ -17,7 +17,7 @@ use Rattle.dtx_model.specs.Words.{has, each, past_of}
 use Rattle.dtx_model.specs.Grammar.{makes, makes_lasting, makes_lasting_of, is_made, is_lasting, is_lasting_of, is_par, same_name, OfEnlistment}
 use Rattle.dtx_model.specs.Faults.{name_fault}
 use Rattle.dtx_model.proofs.Bools.{or_first, or_second, or_false, not_true, and_left}
-use Rattle.script_text.specs.Reader.{AreMade}
+use Rattle.script_text.specs.Reader.{AreMade, is_owner}
 
 -- a table of n places, none of which is set
 pub record IsUnset (n : ℕ) (xs : List Bool) : Type 0 where
@@ -29,25 +29,25 @@ pub new_table : (n : ℕ) (xs : List Bool) → length xs ≡ n → xs ≡ replic
 new_table n xs h e = record { long = h; unset = λ k b. ap (λ ys. slice_index_or ys k false) e ∙ get_or-replicate n k false false b }
 
 -- new tables say that no name is made
-pub new_tables : (s : List Line) (transactions enlistments clones scopes : List Bool) (owners : List ℕ) → s ≡ [] → IsUnset 257 transactions → IsUnset 10000 enlistments → IsUnset 10000 clones
-    → IsUnset 10000 scopes → length owners ≡ 10000 → owners ≡ replicate 10000 0 → AreMade (past_of s) transactions enlistments clones scopes owners false
-new_tables s ts es cs ss os empty t e c p n z = subst (λ (r : List Line). AreMade (past_of r) ts es cs ss os false) (sym empty) (record {
+pub new_tables : (s : List Line) (transactions enlistments clones scopes : List Bool) (owners : List (Option TxNo)) → s ≡ [] → IsUnset 257 transactions → IsUnset 10000 enlistments → IsUnset 10000 clones
+    → IsUnset 10000 scopes → owners ≡ replicate 10000 None → AreMade (past_of s) transactions enlistments clones scopes owners false
+new_tables s ts es cs ss os empty t e c p z = subst (λ (r : List Line). AreMade (past_of r) ts es cs ss os false) (sym empty) (record {
   transactions_long = t.long;
   enlistments_long = e.long;
   clones_long = c.long;
   scopes_long = p.long;
-  owners_long = n;
+  owners_long = ap length z ∙ length-replicate {A = Option TxNo} 10000 None;
   transaction = t.unset;
   enlistment = e.unset;
   clone = c.unset;
   scope = p.unset;
-  lasting = λ k b. rw (none_owned os z k b) refl;
-  owner = λ t k l b. rw (none_owned os z k b) (grind (arith, nat_tests));
+  lasting = λ k b. ap is_some (none_owned os z k b);
+  owner = λ t k b. ap (is_owner t) (none_owned os z k b);
   par_stands = refl;
 })
   where
-    none_owned : (os : List ℕ) → os ≡ replicate 10000 0 → (k : ℕ) → k < 10000 → slice_index_or os k 0 ≡ 0
-    none_owned os z k b = ap (λ ys. slice_index_or ys k 0) z ∙ get_or-replicate 10000 k 0 0 b
+    none_owned : (os : List (Option TxNo)) → os ≡ replicate 10000 None → (k : ℕ) → k < 10000 → slice_index_or os k None ≡ None
+    none_owned os z k b = ap (λ ys. slice_index_or ys k None) z ∙ get_or-replicate 10000 k None None b
 
 -- a command that makes the enlistment as a lasting one makes its name
 unmade_here : (e : ℕ) (b : Body) → has (λ m. same_name (OfEnlistment e) m) (makes b) ≡ false → makes_lasting e b ≡ false
@@ -55,6 +55,7 @@ unmade_here e (Durable t f r s) h = or_first (e == f.value) false h
 unmade_here e (Promotable t f r v o p) h = or_first (e == f.value) false h
 unmade_here e _ h = refl
 
+-- nor one of any transaction
 unmade_here_of : (t e : ℕ) (b : Body) → makes_lasting e b ≡ false → makes_lasting_of t e b ≡ false
 unmade_here_of t e (Durable u f r s) h = rw h (grind (arith, nat_tests))
 unmade_here_of t e (Promotable u f r v o p) h = rw h (grind (arith, nat_tests))
@@ -78,59 +79,56 @@ record IsLasting (b : Body) (t e : ℕ) : Type 0 where
 abbrev pub MakesLasting : Body → TxNo → EnlNo → Type 0
 MakesLasting b t e = ((r : RmNo) × (s : Support) × (b ≡ Durable t e r s)) ⊎ ((r : RmNo) × (v : Option Vote) × (o : Option Outcome) × (p : Option Bool) × (b ≡ Promotable t e r v o p))
 
+-- such a command makes it so
 lasting_line : (b : Body) (t : TxNo) (e : EnlNo) → MakesLasting b t e → IsLasting b t.value e.value
 lasting_line b t e (inl w) = subst (λ (x : Body). IsLasting x t.value e.value) (sym w.2) (record { makes_name = refl; lasting = λ n. refl; owner = λ u n. refl; no_par = refl })
 lasting_line b t e (inr w) = subst (λ (x : Body). IsLasting x t.value e.value) (sym w.4) (record { makes_name = refl; lasting = λ n. refl; owner = λ u n. refl; no_par = refl })
 
 -- a place of a table behind a write
-written_bool : (xs : List Bool) (e n : ℕ) (b : Bool) → e < length xs → (n == e) ≡ b → slice_index_or (slice_set xs e true) n false ≡ (b || slice_index_or xs n false)
-written_bool xs e n true k q = let same : n ≡ e = grind (arith, nat_tests) in rw same (get_or-set_same xs e true false k)
-written_bool xs e n false k q = get_or-set_other xs e n true false (λ same. grind (arith, nat_tests))
-
-written_owner : (xs : List ℕ) (e n t : ℕ) (b : Bool) → e < length xs → (n == e) ≡ b → slice_index_or (slice_set xs e t) n 0 ≡ (if b then t else slice_index_or xs n 0)
-written_owner xs e n t true k q = let same : n ≡ e = grind (arith, nat_tests) in rw same (get_or-set_same xs e t 0 k)
-written_owner xs e n t false k q = get_or-set_other xs e n t 0 (λ same. grind (arith, nat_tests))
+written : {A : Type 0} (xs : List A) (e n : ℕ) (x d : A) (b : Bool) → e < length xs → (n == e) ≡ b → slice_index_or (slice_set xs e x) n d ≡ (if b then x else slice_index_or xs n d)
+written xs e n x d true k q = let same : n ≡ e = grind (arith, nat_tests) in rw same (get_or-set_same xs e x d k)
+written xs e n x d false k q = get_or-set_other xs e n x d (λ same. grind (arith, nat_tests))
 
 -- a line whose names have no fault makes new names
 no_twice : (past : List Line) (l : Line) (b : Bool) → each (λ n. not (is_made past n)) (makes l.body) ≡ b → name_fault past l ≡ None → b ≡ true
 no_twice past l true e h = refl
 no_twice past l false e h = absurd (cc (rw e at h))
 
--- what a table of owners says of a number, behind a line that makes one
-owner_there : (past : List Line) (b : Body) (os : List ℕ) (t e u n : ℕ) (same : Bool) → IsLasting b t e → is_lasting_of past u e ≡ false → e < length os → (n == e) ≡ same
-    → (u == slice_index_or os n 0) ≡ is_lasting_of past u n → (u == slice_index_or (slice_set os e t) n 0) ≡ (makes_lasting_of u n b || is_lasting_of past u n)
+-- whose a number's enlistment is, behind a line that makes one
+owner_there : (past : List Line) (b : Body) (os : List (Option TxNo)) (t : TxNo) (e u n : ℕ) (same : Bool) → IsLasting b t.value e → is_lasting_of past u e ≡ false → e < length os → (n == e) ≡ same
+    → is_owner u (slice_index_or os n None) ≡ is_lasting_of past u n → is_owner u (slice_index_or (slice_set os e (Some t)) n None) ≡ (makes_lasting_of u n b || is_lasting_of past u n)
 owner_there past b os t e u n true h none k q old =
     let equal : n ≡ e = grind (arith, nat_tests) in
     let gone : is_lasting_of past u n ≡ false = ap (λ m. is_lasting_of past u m) equal ∙ none in
-    rw (written_owner os e n t true k q, h.owner u n, q, gone) (and_true (u == t))
+    rw (written os e n (Some t) None true k q, h.owner u n, q, gone) (and_true (u == t.value))
   where
     and_true : (x : Bool) → x ≡ ((x && true) || false)
     and_true true = refl
     and_true false = refl
-owner_there past b os t e u n false h none k q old = rw (written_owner os e n t false k q, h.owner u n, q) (old ∙ and_false (u == t) _)
+owner_there past b os t e u n false h none k q old = rw (written os e n (Some t) None false k q, h.owner u n, q) (old ∙ and_false (u == t.value) _)
   where
     and_false : (x y : Bool) → y ≡ ((x && false) || y)
     and_false true y = refl
     and_false false y = refl
 
-lasting_there : (past : List Line) (b : Body) (os : List ℕ) (t e n : ℕ) (same : Bool) → IsLasting b t e → 1 ≤ t → e < length os → (n == e) ≡ same
-    → not (slice_index_or os n 0 == 0) ≡ is_lasting past n → not (slice_index_or (slice_set os e t) n 0 == 0) ≡ (makes_lasting n b || is_lasting past n)
-lasting_there past b os t e n true h k m q old =
-    let some : (t == 0) ≡ false = grind (arith, nat_tests) in
-    rw (written_owner os e n t true m q, h.lasting n, q, some) refl
-lasting_there past b os t e n false h k m q old = rw (written_owner os e n t false m q, h.lasting n, q) old
+-- whether it is a durable or promotable one, behind that line
+lasting_there : (past : List Line) (b : Body) (os : List (Option TxNo)) (t : TxNo) (e n : ℕ) (same : Bool) → IsLasting b t.value e → e < length os → (n == e) ≡ same
+    → is_some (slice_index_or os n None) ≡ is_lasting past n → is_some (slice_index_or (slice_set os e (Some t)) n None) ≡ (makes_lasting n b || is_lasting past n)
+lasting_there past b os t e n true h m q old = rw (written os e n (Some t) None true m q, h.lasting n, q) refl
+lasting_there past b os t e n false h m q old = rw (written os e n (Some t) None false m q, h.lasting n, q) old
 
+-- whether its name is made, behind that line
 enlistment_there : (past : List Line) (b : Body) (es : List Bool) (t e n : ℕ) → IsLasting b t e → e < length es → slice_index_or es n false ≡ is_made past (OfEnlistment n)
     → slice_index_or (slice_set es e true) n false ≡ (has (λ m. same_name (OfEnlistment n) m) (makes b) || is_made past (OfEnlistment n))
-enlistment_there past b es t e n h m old = rw (written_bool es e n (n == e) m refl, h.makes_name, old) (or_fold (n == e) _)
+enlistment_there past b es t e n h m old = rw (written es e n true false (n == e) m refl, h.makes_name, old) (or_fold (n == e) _)
   where
-    or_fold : (x y : Bool) → (x || y) ≡ ((x || false) || y)
+    or_fold : (x y : Bool) → (if x then true else y) ≡ ((x || false) || y)
     or_fold true y = refl
     or_fold false y = refl
 
 -- the tables behind a line that makes a durable or promotable enlistment
-pub lasting_more : (past : List Line) (l : Line) (t : TxNo) (e : EnlNo) (ts es cs ss : List Bool) (os : List ℕ) (par : Bool) → MakesLasting l.body t e → name_fault past l ≡ None
-    → AreMade past ts es cs ss os par → AreMade (l ∷ past) ts (slice_set es e.value true) cs ss (slice_set os e.value t.value) par
+pub lasting_more : (past : List Line) (l : Line) (t : TxNo) (e : EnlNo) (ts es cs ss : List Bool) (os : List (Option TxNo)) (par : Bool) → MakesLasting l.body t e → name_fault past l ≡ None
+    → AreMade past ts es cs ss os par → AreMade (l ∷ past) ts (slice_set es e.value true) cs ss (slice_set os e.value (Some t)) par
 lasting_more past l t e ts es cs ss os par m h a =
     let line = lasting_line l.body t e m in
     let new = no_twice past l _ refl h in
@@ -141,12 +139,12 @@ lasting_more past l t e ts es cs ss os par m h a =
       enlistments_long = length-set es e.value true ∙ a.enlistments_long;
       clones_long = a.clones_long;
       scopes_long = a.scopes_long;
-      owners_long = length-set os e.value t.value ∙ a.owners_long;
+      owners_long = length-set os e.value (Some t) ∙ a.owners_long;
       transaction = λ n k. rw line.makes_name (a.transaction n k);
       enlistment = λ n k. enlistment_there past l.body es t.value e.value n line (omega (arith, a.enlistments_long)) (a.enlistment n k);
       clone = λ n k. rw line.makes_name (a.clone n k);
       scope = λ n k. rw line.makes_name (a.scope n k);
-      lasting = λ n k. lasting_there past l.body os t.value e.value n (n == e.value) line (omega arith) (omega (arith, a.owners_long)) refl (a.lasting n k);
-      owner = λ u n j k. owner_there past l.body os t.value e.value u n (n == e.value) line (unmade_of u e.value past unmade) (omega (arith, a.owners_long)) refl (a.owner u n j k);
+      lasting = λ n k. lasting_there past l.body os t e.value n (n == e.value) line (omega (arith, a.owners_long)) refl (a.lasting n k);
+      owner = λ u n k. owner_there past l.body os t e.value u n (n == e.value) line (unmade_of u e.value past unmade) (omega (arith, a.owners_long)) refl (a.owner u n k);
       par_stands = rw line.no_par a.par_stands;
     }

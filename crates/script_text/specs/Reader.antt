@@ -1,7 +1,7 @@
 -- What the reader's parts read.
-use Rattle.std.specs.Prelude.{ℕ, ◌≡◌, ◌≢◌, ◌==◌, ◌<◌, ◌≤◌, ◌||◌, ◌&&◌, not, Bool, true, false, List, ◌∷◌, ◌++◌, [], codes, Option, Some, None, Result, Ok, Err, length, slice_index_or, if◌then◌else◌}
+use Rattle.std.specs.Prelude.{ℕ, ◌≡◌, ◌==◌, ◌<◌, Bool, true, false, List, ◌∷◌, ◌++◌, [], codes, Option, Some, None, is_some, Result, Ok, Err, length, slice_index_or}
+use Rattle.dtx_values.specs.declared.number.TxNo.{TxNo}
 use Rattle.dtx_values.specs.declared.script.BadCause.{BadCause}
-use Rattle.dtx_values.specs.declared.script.BadCause.TheVariants.{MissingWord, UnknownWord, BadNumber, ExtraWord}
 use Rattle.dtx_values.specs.declared.script.Body.{Body}
 use Rattle.dtx_values.specs.declared.script.Opening.{Opening}
 use Rattle.dtx_values.specs.declared.script.Support.{Support}
@@ -9,75 +9,23 @@ use Rattle.dtx_values.specs.declared.script.Line.{Line}
 use Rattle.dtx_model.specs.Words.{has, past_of}
 use Rattle.dtx_model.specs.Grammar.{words, line_text, IsScript, command_words, opening_words, support_words, is_in_range, is_opening_in_range}
 use Rattle.dtx_model.specs.Grammar.{is_made, is_lasting, is_lasting_of, is_par, OfTransaction, OfEnlistment, OfClone, OfScope}
-use Rattle.dtx_model.specs.Faults.{Slot, allows, is_digit, is_letter, split, command_forms, word, transaction_slot}
+use Rattle.dtx_model.specs.Faults.{Slot, command_forms, word, transaction_slot}
 use Rattle.dtx_model.specs.Faults.{timeout_slot, iso_slot, vote_slot, owner_slot, word_fault, line_forms, words_of, name_fault}
-
--- no byte is c
-abbrev pub IsWithout : ℕ → List ℕ → Type 0
-IsWithout c bs = has (λ b. b == c) bs ≡ false
-
--- the words that are left: none, or those of these bytes
-abbrev pub words_left : Bool → List ℕ → List (List ℕ)
-words_left true bs = split bs
-words_left false bs = []
-
--- the words behind the first
-abbrev pub tail : List (List ℕ) → List (List ℕ)
-tail [] = []
-tail (w ∷ ws) = ws
-
--- the word has one of these letters and a digit behind it
-abbrev pub is_misnamed : List ℕ → List ℕ → Bool
-is_misnamed letters (b ∷ d ∷ ds) = has (λ c. b == c) letters && is_digit d
-is_misnamed letters _ = false
-
--- the word begins with a digit or has no letter
-abbrev pub is_misnumbered : List ℕ → Bool
-is_misnumbered [] = false
-is_misnumbered (b ∷ bs) = is_digit b || not (has is_letter (b ∷ bs))
-
--- the cause where a word isn't allowed at a place for a name of these letters, or for a number
-unfoldable pub cause_of : List ℕ → Bool → List ℕ → BadCause
-cause_of letters numbered w = if is_misnamed letters w || (numbered && is_misnumbered w) then BadNumber else UnknownWord
-
--- a number may stand there
-abbrev pub is_numbered : Option (ℕ × ℕ) → Bool
-is_numbered (Some r) = true
-is_numbered None = false
-
--- the fault of the first word at a place: none where it is allowed there
-unfoldable pub place_fault : Slot → List (List ℕ) → Option BadCause
-place_fault s [] = Some MissingWord
-place_fault s (w ∷ ws) = if allows s w then None else Some (cause_of s.letters (is_numbered s.number) w)
 
 -- the first fault of two
 unfoldable pub first_fault : Option BadCause → Option BadCause → Option BadCause
 first_fault (Some c) o = Some c
 first_fault None o = o
 
--- no word may be left
-unfoldable pub end_fault : List (List ℕ) → Option BadCause
-end_fault [] = None
-end_fault (w ∷ ws) = Some ExtraWord
-
 -- each form with this place in front
 abbrev pub ahead : Slot → List (List Slot) → List (List Slot)
 ahead s [] = []
 ahead s (f ∷ fs) = (s ∷ f) ∷ ahead s fs
 
--- these words begin with this one, which may stand at that place
-abbrev pub IsAt : Slot → List (List ℕ) → List ℕ → List (List ℕ) → Type 0
-IsAt s old w new = (old ≡ w ∷ new) × (place_fault s old ≡ None) × (tail old ≡ new)
-
 -- what a command's reader says of its words, whose first fault is this one
 abbrev pub IsAnswer : List (List ℕ) → Option BadCause → Result Body BadCause → Type 0
 IsAnswer ws f (Ok b) = (ws ≡ command_words b) × (is_in_range b ≡ true) × (f ≡ None)
 IsAnswer ws f (Err c) = f ≡ Some c
-
--- the word is none of these
-abbrev pub IsOther : List ℕ → List (List ℕ) → Type 0
-IsOther w [] = Unit {0}
-IsOther w (k ∷ ks) = (w ≢ k) × IsOther w ks
 
 -- what a command's reader says of its own word and the words behind it
 abbrev pub IsRead : List ℕ → List (List ℕ) → Result Body BadCause → Type 0
@@ -103,6 +51,7 @@ opening_forms =
     ∷ (word (codes "suppress") ∷ [])
     ∷ []
 
+-- the words that they begin with
 abbrev pub opening_keys : List (List ℕ)
 opening_keys = codes "required" ∷ codes "requiresnew" ∷ codes "suppress" ∷ []
 
@@ -125,8 +74,13 @@ abbrev pub IsLine : List ℕ → Result Line BadCause → Type 0
 IsLine t (Ok l) = (words_of t ≡ words l) × (is_in_range l.body ≡ true) × (word_fault line_forms (words_of t) ≡ None)
 IsLine t (Err c) = word_fault line_forms (words_of t) ≡ Some c
 
--- the tables say of each number whether its name is made, and of each enlistment of which transaction it is a durable or promotable one: 0 for none
-pub record AreMade (past : List Line) (transactions enlistments clones scopes : List Bool) (owners : List ℕ) (par : Bool) : Type 0 where
+-- the transaction of this number is the one there
+abbrev pub is_owner : ℕ → Option TxNo → Bool
+is_owner t (Some owner) = t == owner.value
+is_owner t None = false
+
+-- the tables say of each number whether its name is made, and of each enlistment of which transaction it is a durable or promotable one
+pub record AreMade (past : List Line) (transactions enlistments clones scopes : List Bool) (owners : List (Option TxNo)) (par : Bool) : Type 0 where
   pub transactions_long : length transactions ≡ 257
   pub enlistments_long : length enlistments ≡ 10000
   pub clones_long : length clones ≡ 10000
@@ -136,8 +90,8 @@ pub record AreMade (past : List Line) (transactions enlistments clones scopes : 
   pub enlistment : (n : ℕ) → n < 10000 → slice_index_or enlistments n false ≡ is_made past (OfEnlistment n)
   pub clone : (n : ℕ) → n < 10000 → slice_index_or clones n false ≡ is_made past (OfClone n)
   pub scope : (n : ℕ) → n < 10000 → slice_index_or scopes n false ≡ is_made past (OfScope n)
-  pub lasting : (n : ℕ) → n < 10000 → not (slice_index_or owners n 0 == 0) ≡ is_lasting past n
-  pub owner : (t n : ℕ) → 1 ≤ t → n < 10000 → (t == slice_index_or owners n 0) ≡ is_lasting_of past t n
+  pub lasting : (n : ℕ) → n < 10000 → is_some (slice_index_or owners n None) ≡ is_lasting past n
+  pub owner : (t n : ℕ) → n < 10000 → is_owner t (slice_index_or owners n None) ≡ is_lasting_of past t n
   pub par_stands : par ≡ has (λ l. is_par l.body) past
 
 -- the bytes begin with this line, which may follow these ones

@@ -1,10 +1,11 @@
 //! Commands of scopes, and of a transaction that ends elsewhere or is asked for.
 ghost use Rattle.std.specs.Prelude.{◌≡◌, codes, IfSome, IfNone};
-ghost use Rattle.script_text.specs.Reader.{IsRead, IsOther, asking_words};
+ghost use Rattle.script_text.specs.Reader.{IsRead, asking_words};
+ghost use Rattle.script_words.specs.Places.{IsOther};
 
-use crate::cursor::Words;
 use crate::parts::opening;
 use dtx_values::{BadCause, Body};
+use script_words::Words;
 
 /// Reads the words behind `open`.
 #[tactic(auto, using(crate::proofs::Forms::forms, crate::proofs::Forms::open_forms))]

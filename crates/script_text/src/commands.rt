@@ -4,10 +4,10 @@ ghost use Rattle.dtx_model.specs.Faults.{command_forms, word_fault};
 ghost use Rattle.script_text.specs.Reader.{IsAnswer, IsLine};
 
 use crate::asking::asking;
-use crate::cursor::Words;
 use crate::making::making;
 use crate::running::running;
 use dtx_values::{BadCause, Body, Line};
+use script_words::Words;
 
 /// Reads a command.
 fn command(words: &mut Words<'_>) -> Result<Body, BadCause>

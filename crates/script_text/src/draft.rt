@@ -1,5 +1,5 @@
 //! The lines that are read so far.
-ghost use Rattle.std.specs.Prelude.{◌≡◌, ◌++◌, [], ◌∷◌, IfOk, OnOk, None, not, length};
+ghost use Rattle.std.specs.Prelude.{◌≡◌, ◌++◌, [], ◌∷◌, IfOk, OnOk, None, not, length, replicate};
 ghost use Rattle.dtx_model.specs.Words.{each, has, past_of};
 ghost use Rattle.dtx_model.specs.Grammar.{is_made, makes, uses, opening_makes, connection_uses, is_lasting, is_lasting_of};
 ghost use Rattle.dtx_model.specs.Grammar.{is_connection_of, is_of_kind, is_par, OfTransaction, OfEnlistment, OfClone, OfScope};
@@ -29,9 +29,20 @@ pub struct Draft {
     enlistments: Vec<bool>,
     clones: Vec<bool>,
     scopes: Vec<bool>,
-    /// The transaction of each durable or promotable enlistment; 0 for none.
-    owners: Vec<u32>,
+    /// The transaction of each durable or promotable enlistment.
+    owners: Vec<Option<TxNo>>,
     par: bool,
+}
+
+/// A table in which no enlistment is a durable or promotable one.
+fn no_owners(alloc: Global) -> Result<Vec<Option<TxNo>>, AllocError>
+    ensures { IfOk result (λ v. v.items ≡ replicate 10000 None) }
+{
+    let mut owners = Vec::with_capacity(alloc, ENLISTMENT_NAMES)?;
+    for _slot in 0..ENLISTMENT_NAMES {
+        owners.push_reserved(None);
+    }
+    Ok(owners)
 }
 
 impl Model for Draft {
@@ -58,7 +69,7 @@ impl Draft {
             enlistments: vec![in alloc; false; ENLISTMENT_NAMES]?,
             clones: vec![in alloc; false; CLONE_NAMES]?,
             scopes: vec![in alloc; false; SCOPE_NAMES]?,
-            owners: vec![in alloc; 0; ENLISTMENT_NAMES]?,
+            owners: no_owners(alloc)?,
             par: false,
         })
     }
@@ -70,24 +81,28 @@ impl Draft {
         self.lines.len()
     }
 
+    /// Whether a line makes this transaction.
     fn has_transaction(&self, t: TxNo) -> bool
         ensures { result ≡ is_made (past_of self.now) (OfTransaction t.value) }
     {
         self.transactions[t.get() as usize]
     }
 
+    /// Whether a line makes this enlistment.
     fn has_enlistment(&self, e: EnlNo) -> bool
         ensures { result ≡ is_made (past_of self.now) (OfEnlistment e.value) }
     {
         self.enlistments[e.get() as usize]
     }
 
+    /// Whether a line makes this clone.
     fn has_clone(&self, c: CloneNo) -> bool
         ensures { result ≡ is_made (past_of self.now) (OfClone c.value) }
     {
         self.clones[c.get() as usize]
     }
 
+    /// Whether a line makes this scope.
     fn has_scope(&self, s: ScopeNo) -> bool
         ensures { result ≡ is_made (past_of self.now) (OfScope s.value) }
     {
@@ -98,16 +113,17 @@ impl Draft {
     fn is_lasting(&self, e: EnlNo) -> bool
         ensures { result ≡ is_lasting (past_of self.now) e.value }
     {
-        self.owners[e.get() as usize] != 0
+        self.owners[e.get() as usize].is_some()
     }
 
     /// Whether it is a durable or promotable one of this transaction.
     fn is_lasting_of(&self, t: TxNo, e: EnlNo) -> bool
         ensures { result ≡ is_lasting_of (past_of self.now) t.value e.value }
     {
-        t.get() == self.owners[e.get() as usize]
+        self.owners[e.get() as usize] == Some(t)
     }
 
+    /// Whether a line is `par`.
     fn has_par(&self) -> bool
         ensures { result ≡ has (λ l. is_par l.body) (past_of self.now) }
     {
@@ -234,7 +250,7 @@ impl Draft {
             Body::Volatile(_, e, _, _) => self.enlistments[e.get() as usize] = true,
             Body::Durable(t, e, _, _) | Body::Promotable(t, e, _, _, _, _) => {
                 self.enlistments[e.get() as usize] = true;
-                self.owners[e.get() as usize] = t.get();
+                self.owners[e.get() as usize] = Some(t);
             }
             Body::Clone(_, c, _) => self.clones[c.get() as usize] = true,
             Body::Par => self.par = true,

@@ -3,7 +3,6 @@
 
 mod asking;
 mod commands;
-mod cursor;
 mod draft;
 mod laws;
 mod making;
@@ -11,7 +10,6 @@ mod parts;
 mod print;
 mod reader;
 mod running;
-mod words;
 
 pub use dtx_values::{BadCause, Line, Script};
 pub use laws::reads_exactly;

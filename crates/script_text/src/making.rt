@@ -1,10 +1,11 @@
 //! Commands of transactions, enlistments and clones.
 ghost use Rattle.std.specs.Prelude.{◌≡◌, codes, IfSome, IfNone};
-ghost use Rattle.script_text.specs.Reader.{IsRead, IsOther, making_words};
+ghost use Rattle.script_text.specs.Reader.{IsRead, making_words};
+ghost use Rattle.script_words.specs.Places.{IsOther};
 
-use crate::cursor::Words;
 use crate::parts::support;
 use dtx_values::{BadCause, Body};
+use script_words::Words;
 
 /// Reads the words behind `begin`.
 #[tactic(auto, using(crate::proofs::Forms::forms))]

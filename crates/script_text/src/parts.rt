@@ -2,8 +2,8 @@
 ghost use Rattle.std.specs.Prelude.{◌≡◌, ◌∷◌, codes};
 ghost use Rattle.script_text.specs.Reader.{IsOpening, IsSupport};
 
-use crate::cursor::Words;
 use dtx_values::{BadCause, Opening, Support};
+use script_words::Words;
 
 /// Reads the words behind `required`.
 #[tactic(auto, using(crate::proofs::Forms::forms))]

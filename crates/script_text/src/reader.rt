@@ -8,8 +8,8 @@ ghost use Rattle.script_text.specs.Reading.{IsRefused};
 
 use crate::commands::line;
 use crate::draft::Draft;
-use crate::words::cut;
 use dtx_values::{BadCause, Line, Script};
+use script_words::cut;
 use std::alloc::Global;
 
 /// The most bytes of a script.

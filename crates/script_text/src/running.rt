@@ -1,9 +1,10 @@
 //! Commands of time, steps, losses and recovery.
 ghost use Rattle.std.specs.Prelude.{◌≡◌, codes, IfSome, IfNone};
-ghost use Rattle.script_text.specs.Reader.{IsRead, IsOther, running_words};
+ghost use Rattle.script_text.specs.Reader.{IsRead, running_words};
+ghost use Rattle.script_words.specs.Places.{IsOther};
 
-use crate::cursor::Words;
 use dtx_values::{BadCause, Body};
+use script_words::Words;
 
 /// The most milliseconds of a tick.
 const LONGEST_TICK: u32 = 1_000_000_000;

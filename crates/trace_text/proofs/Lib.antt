@@ -1,9 +1,6 @@
 pub mod Identifier
 pub mod Printing
-pub mod ReadCuts
-pub mod ReadIdentifiers
+pub mod ReadInfo
 pub mod ReadLines
-pub mod ReadNames
-pub mod ReadNumbers
 pub mod ReadPieces
 pub mod ReadTraces

@@ -34,10 +34,10 @@ use Rattle.dtx_model.specs.TraceText.{ambient_text, answer_text, cause_text, dir
 use Rattle.dtx_model.proofs.Bools.{and_left, and_right, or_right}
 use Rattle.trace_text.specs.Printed.{is_event}
 use Rattle.trace_text.specs.ReadGroups.{is_of_enlistment, is_about_enlistment, is_of_word, is_of_words, is_call, is_plain_answer, is_refusal, is_detailed}
-use Rattle.trace_text.specs.ReadWords.{front, behind, IsWithout}
-use Rattle.trace_text.proofs.ReadCuts.{front_cut, behind_cut, front_whole, behind_whole, same_bytes}
-use Rattle.trace_text.proofs.ReadIdentifiers.{id_without}
-use Rattle.trace_text.proofs.ReadNumbers.{digit_of_number, name_without, without_decimal}
+use Rattle.trace_words.specs.Cuts.{front, behind, IsWithout}
+use Rattle.trace_words.proofs.Cuts.{front_cut, behind_cut, front_whole, behind_whole, same_bytes}
+use Rattle.trace_words.proofs.Identifiers.{id_without}
+use Rattle.trace_words.proofs.Numbers.{digit_of_number, name_without, without_decimal}
 
 -- the words of a text that is cut at its first space
 pub record AreCut (f l a r : List ℕ) : Type 0 where

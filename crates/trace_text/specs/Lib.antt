@@ -1,4 +1,3 @@
 pub mod Printed
 pub mod ReadGroups
 pub mod ReadTrace
-pub mod ReadWords

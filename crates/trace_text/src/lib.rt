@@ -9,7 +9,6 @@ mod printer;
 mod read_answers;
 mod read_entries;
 mod read_messages;
-mod read_words;
 mod reader;
 mod words;
 

@@ -3,13 +3,13 @@ ghost use Rattle.std.specs.Prelude.{◌≡◌, ◌≢◌, true, IfSome, IfNone};
 ghost use Rattle.dtx_values.specs.declared.entry.Answer.{Answer};
 ghost use Rattle.dtx_model.specs.TraceText.{answer_text, is_answer_fit};
 ghost use Rattle.trace_text.specs.ReadGroups.{is_plain_answer, is_refusal, is_detailed};
-ghost use Rattle.trace_text.specs.ReadWords.{front, behind};
+ghost use Rattle.trace_words.specs.Cuts.{front, behind};
 
-use crate::read_words::{
+use dtx_values::{Answer, Outcome};
+use trace_words::{
     cut, enlistment, identifier, isolation, manager, number, number8, number16, outcome, scope,
     transaction,
 };
-use dtx_values::{Answer, Outcome};
 
 /// Reads an answer of a call that goes on or ended.
 fn plain(key: &[u8]) -> Option<Answer>

@@ -10,15 +10,15 @@ ghost use Rattle.dtx_model.specs.Grammar.{enlistment_name, connection_word};
 ghost use Rattle.dtx_model.specs.TraceText.{ambient_text, entry_text, party_text, place_text, is_entry_fit};
 ghost use Rattle.trace_text.specs.Printed.{is_event};
 ghost use Rattle.trace_text.specs.ReadGroups.{is_of_enlistment, is_about_enlistment, is_of_word, is_of_words, is_call};
-ghost use Rattle.trace_text.specs.ReadWords.{front, behind};
+ghost use Rattle.trace_words.specs.Cuts.{front, behind};
 
 use crate::read_answers::answer;
 use crate::read_messages::message;
-use crate::read_words::{
+use dtx_values::{Conn, EnlNo, Entry, LogNote, Party, Place, ScopeNote, TxNo};
+use trace_words::{
     actor, ask, cause, class, clone, cut, direction, enlistment, identifier, image, kind, manager,
     number, number8, number16, number32, outcome, request, scope, transaction, vote,
 };
-use dtx_values::{Conn, EnlNo, Entry, LogNote, Party, Place, ScopeNote, TxNo};
 
 /// Reads a place.
 pub fn place(word: &[u8]) -> Place

@@ -5,10 +5,10 @@ ghost use Rattle.dtx_values.specs.declared.message.Message.{Message};
 ghost use Rattle.dtx_values.specs.declared.trace.Place.{Place};
 ghost use Rattle.dtx_model.specs.Messages.{is_begin_up, is_begin_down, is_voter_up, is_voter_down, is_enlist_up, is_enlist_down, is_reenlist_up, is_reenlist_down, has_line};
 ghost use Rattle.dtx_model.specs.TraceText.{id_at, is_message_fit, message_text};
-ghost use Rattle.trace_text.specs.ReadWords.{front, behind};
+ghost use Rattle.trace_words.specs.Cuts.{front, behind};
 
-use crate::read_words::{cut, number8};
 use dtx_values::{Conn, Dir, EnlNo, Info, Message, Place, RmNo};
+use trace_words::{cut, number8};
 
 /// The node of the identifiers that messages have, in their upper 64 bits.
 const NODE: u128 = 18_446_744_073_709_551_616;

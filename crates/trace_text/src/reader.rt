@@ -6,10 +6,10 @@ ghost use Rattle.trace_text.specs.ReadTrace.{IsBadTrace, line_body};
 
 use crate::printer::put_line;
 use crate::read_entries::{entry, place};
-use crate::read_words::cut;
 use dtx_values::{Entry, Place, Trace};
 use line_tail::Tail;
 use std::alloc::Global;
+use trace_words::cut;
 
 /// Why bytes aren't the text of a trace.
 #[derive(Clone, Copy, PartialEq, Eq, Debug)]

@@ -1,8 +1,11 @@
-use Rattle.outcome_law.proofs.Replays.{ran_new, replayed_called, replayed_caused}
+use Rattle.outcome_law.proofs.Replays.{ran_new, replayed_called, replayed_caused, replayed_noted}
 use Rattle.outcome_law.proofs.replay.Goals as goal
 
 pub returns-clause-caused : goal.returns-clause-caused
 returns-clause-caused c = replayed_caused
+
+pub returns-clause-contexts : goal.returns-clause-contexts
+returns-clause-contexts c = replayed_noted
 
 pub returns-clause-called : goal.returns-clause-called
 returns-clause-called c = replayed_called

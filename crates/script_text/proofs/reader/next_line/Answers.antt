@@ -1,8 +1,10 @@
-use Rattle.std.proofs.Common.{◌≡◌, None, Some, arith, rules, ap, sym, ◌∙◌}
+use Rattle.std.proofs.Common.{◌≡◌, ◌≤◌, None, Some, length, arith, rules, ap, sym, ◌∙◌}
+use Rattle.std.proofs.lemmas.Bool.Decides.{nat_tests}
 use Rattle.dtx_model.specs.Words.{past_of}
+use Rattle.dtx_model.specs.Grammar.{line_text}
 use Rattle.dtx_model.specs.Faults.{form_fault, name_fault, words_of, ByNames}
 use Rattle.script_text.proofs.Fronts.{spelled_line}
-use Rattle.script_text.proofs.Growing.{length-line_text, script_more}
+use Rattle.script_text.proofs.Scripts.{IsGood, length-line_text, script_more}
 use Rattle.script_text.proofs.reader.next_line.Goals as goal
 
 pub returns-in-Some-clause-bad : goal.returns-in-Some-clause-bad
@@ -21,6 +23,11 @@ returns-in-None-clause-ok c =
     let named : name_fault (past_of c.args.draft.now) l ≡ None = search rules in
     let spelled = spelled_line l bytes text after c.in_ok-text.ensures.cut c.in_ok-line.ensures.0 in
     let long = length-line_text l bytes text after c.in_ok-text.ensures.cut spelled in
-    let script = script_more c.args.draft.now l c.requires.script c.in_ok-line.ensures.1
-    (omega (arith, long, c.in_ok-text.ensures.short)) (omega (arith, long, c.in_ok-text.ensures.within, c.requires.taken)) named in
-    (spelled, script, named)
+    let at_most : length (line_text l) ≤ 201 = omega (arith, long, c.in_ok-text.ensures.short) in
+    let good : IsGood c.args.draft.now l = record {
+      in_range = c.in_ok-line.ensures.1;
+      short = grind (arith, nat_tests);
+      within = omega (arith, long, c.in_ok-text.ensures.within, c.requires.taken);
+      names = named;
+    } in
+    (spelled, script_more c.args.draft.now l c.requires.script good, named)

@@ -1,6 +1,6 @@
 use Rattle.std.proofs.Common.{◌≡◌, ◌≢◌, ◌∙◌, false, codes, ap, rules}
 use Rattle.dtx_model.specs.TraceText.{answer_text}
-use Rattle.trace_text.specs.ReadWords.{front}
+use Rattle.trace_words.specs.Cuts.{front}
 use Rattle.trace_text.specs.ReadGroups.{is_plain_answer, is_refusal, is_detailed}
 use Rattle.trace_text.proofs.ReadPieces.{ambient_found}
 use Rattle.trace_text.proofs.read_answers.answer.Goals as goal

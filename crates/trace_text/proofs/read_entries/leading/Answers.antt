@@ -1,6 +1,6 @@
 use Rattle.std.proofs.Common.{arith}
 use Rattle.dtx_model.specs.Grammar.{enlistment_name}
-use Rattle.trace_text.proofs.ReadNumbers.{name_without}
+use Rattle.trace_words.proofs.Numbers.{name_without}
 use Rattle.trace_text.proofs.ReadPieces.{cut_spaced}
 use Rattle.trace_text.proofs.read_entries.leading.Goals as goal
 

@@ -1,6 +1,6 @@
 use Rattle.std.proofs.Common.{◌≡◌, ◌∙◌, codes, sym, rules}
-use Rattle.trace_text.proofs.ReadCuts.{same_text}
-use Rattle.trace_text.proofs.ReadIdentifiers.{enlist_found}
+use Rattle.trace_words.proofs.Cuts.{same_text}
+use Rattle.trace_text.proofs.ReadInfo.{enlist_found}
 use Rattle.trace_text.proofs.read_messages.enlist_up.Goals as goal
 
 pub returns-then-eq-clause-found : goal.returns-then-eq-clause-found

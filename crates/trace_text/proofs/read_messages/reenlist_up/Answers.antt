@@ -1,5 +1,5 @@
 use Rattle.std.proofs.Common.{rules}
-use Rattle.trace_text.proofs.ReadIdentifiers.{reenlist_found}
+use Rattle.trace_text.proofs.ReadInfo.{reenlist_found}
 use Rattle.trace_text.proofs.read_messages.reenlist_up.Goals as goal
 
 pub returns-clause-found : goal.returns-clause-found

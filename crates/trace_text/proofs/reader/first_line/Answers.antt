@@ -1,7 +1,7 @@
 use Rattle.std.proofs.Common.{◌≡◌, ◌≢◌, ◌∙◌, ◌≤◌, ap, arith, length, rules}
 use Rattle.dtx_model.specs.TraceText.{trace_line}
 use Rattle.trace_text.specs.ReadTrace.{line_body}
-use Rattle.trace_text.specs.ReadWords.{front}
+use Rattle.trace_words.specs.Cuts.{front}
 use Rattle.trace_text.proofs.ReadLines.{front_line, line_fits, line_taken}
 use Rattle.trace_text.proofs.reader.first_line.Goals as goal
 

@@ -8,10 +8,9 @@ invariant_of-result c =
     let es = c.in_ok-vec-2.field-0.items in
     let cs = c.in_ok-vec-3.field-0.items in
     let ss = c.in_ok-vec-4.field-0.items in
-    let os = c.in_ok-vec-5.field-0.items in
-    new_tables _ ts es cs ss os c.new.ensures.items
+    new_tables _ ts es cs ss _ c.new.ensures.items
     (new_table 257 ts (search rules) (c.in_ok-vec.ensures.items_if_clones_equal (λ y e. search rules)))
     (new_table 10000 es (search rules) (c.in_ok-vec-2.ensures.items_if_clones_equal (λ y e. search rules)))
     (new_table 10000 cs (search rules) (c.in_ok-vec-3.ensures.items_if_clones_equal (λ y e. search rules)))
     (new_table 10000 ss (search rules) (c.in_ok-vec-4.ensures.items_if_clones_equal (λ y e. search rules)))
-    (search rules) (c.in_ok-vec-5.ensures.items_if_clones_equal (λ y e. search rules))
+    (search rules)

@@ -1,0 +1,4 @@
+pub mod Numbers
+pub mod Slots
+pub mod Places
+pub mod Splits

@@ -1,0 +1,4 @@
+pub mod Cuts
+pub mod Identifiers
+pub mod Names
+pub mod Numbers
