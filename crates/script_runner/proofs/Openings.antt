@@ -26,7 +26,7 @@ use Rattle.dtx_model.specs.Grammar.{OfScope, are_named_well, is_made, is_named_w
 use Rattle.dtx_model.specs.Replay.{CallRan, LineRan, LinesRan, Placed, after_calls, after_scope, after_step, history, noted}
 use Rattle.dtx_model.specs.Steps.{Calls, call_of, is_fine}
 use Rattle.dtx_model.proofs.Bools.{and_left, and_right, not_both, not_true, or_case, or_right}
-use Rattle.dtx_model.proofs.Histories.{onto-append}
+use Rattle.dtx_model.proofs.Histories.{history-noted, onto-append}
 use Rattle.dtx_model.proofs.Prefixes.{past-more}
 use Rattle.dtx_model.proofs.Reading.{has-onto}
 use Rattle.scope_context.specs.Standing.{Standing}
@@ -35,11 +35,6 @@ use Rattle.script_runner.specs.Scoped.{AreOpen, IsUnopened, context_at, nothing_
 use Rattle.script_runner.proofs.Closing.{length-past}
 use Rattle.script_runner.proofs.Scoping.{no_scope_line}
 use Rattle.script_runner.proofs.Ties.{slice_get-set_other}
-
--- a block at a context leaves each transaction's history alone
-pub history-noted : (t : ℕ) (a : ActorNo) (T : List Placed) (es : List Entry) → history t (onto T (noted a es)) ≡ history t T
-history-noted t a T [] = refl
-history-noted t a T (x ∷ xs) = history-noted t a ((Context a, x) ∷ T) xs
 
 -- the machines stay tied behind a block at a context
 pub tied_noted : (ms : List Observed) (trace new : List Placed) (a : ActorNo) (es : List Entry) → AreTied ms trace → past_of new ≡ onto (past_of trace) (noted a es) → AreTied ms new
@@ -67,17 +62,17 @@ open_after cs before l new long behind ties a =
     let es = entries_of a.value before in
     elim (eqb_tells a.value l.actor.value) [
       | inl k ↦
-        let here : scopes_at a cs ≡ scopes_at l.actor cs = ap (λ n. scopes_in (slice_get cs (n - 1))) k.1 in
-        let found : scopes_at a (set cs i new) ≡ new.scopes =
-        ap (λ n. scopes_in (slice_get (set cs i new) (n - 1))) k.1
-        ∙ ap scopes_in (slice_get-get_or (set cs i new) i new (rw length-set within) ∙ ap Some (get_or-set_same cs i new new within)) in
-        let tie : open_scopes es ≡ scopes_at l.actor cs = sym (ties a) ∙ here in
-        let left : open_scopes (onto es (scope_entries l.body (open_scopes es))) ≡ new.scopes =
-        ap (λ (xs : List OpenScope). open_scopes (onto es (scope_entries l.body xs))) tie ∙ behind es tie in
-        found ∙ sym left ∙ sym (ap (λ b. open_scopes (if b then onto es (scope_entries l.body (open_scopes es)) else es)) k.0)
+          let here : scopes_at a cs ≡ scopes_at l.actor cs = ap (λ n. scopes_in (slice_get cs (n - 1))) k.1 in
+          let found : scopes_at a (set cs i new) ≡ new.scopes =
+          ap (λ n. scopes_in (slice_get (set cs i new) (n - 1))) k.1
+          ∙ ap scopes_in (slice_get-get_or (set cs i new) i new (rw length-set within) ∙ ap Some (get_or-set_same cs i new new within)) in
+          let tie : open_scopes es ≡ scopes_at l.actor cs = sym (ties a) ∙ here in
+          let left : open_scopes (onto es (scope_entries l.body (open_scopes es))) ≡ new.scopes =
+          ap (λ (xs : List OpenScope). open_scopes (onto es (scope_entries l.body xs))) tie ∙ behind es tie in
+          found ∙ sym left ∙ sym (ap (λ b. open_scopes (if b then onto es (scope_entries l.body (open_scopes es)) else es)) k.0)
       | inr k ↦
-        let apart : a.value - 1 ≢ i = λ d. k.1 (omega (arith, d, a.in_range.0, l.actor.in_range.0)) in
-        ap scopes_in (slice_get-set_other cs i (a.value - 1) new apart) ∙ ties a ∙ sym (ap (λ b. open_scopes (if b then onto es (scope_entries l.body (open_scopes es)) else es)) k.0)
+          let apart : a.value - 1 ≢ i = λ d. k.1 (omega (arith, d, a.in_range.0, l.actor.in_range.0)) in
+          ap scopes_in (slice_get-set_other cs i (a.value - 1) new apart) ∙ ties a ∙ sym (ap (λ b. open_scopes (if b then onto es (scope_entries l.body (open_scopes es)) else es)) k.0)
     ]
 
 -- a line that isn't answered at a context leaves the scopes as they are

@@ -1,8 +1,9 @@
 -- What a scope line does at its context is the definition's.
-use Rattle.std.proofs.Common.{◌≡◌, ℕ, suc, ◌+◌, ◌≤◌, Bool, true, false, ◌&&◌, List, [], ◌∷◌, ◌++◌, length, map, Option, Some, None, refl, ap, sym, ◌∙◌, append_assoc, arith}
+use Rattle.std.proofs.Common.{◌≡◌, ℕ, suc, ◌+◌, ◌≤◌, Bool, true, false, ◌&&◌, List, [], ◌∷◌, ◌++◌, length, map, Option, Some, None, refl, ap, sym, subst, ◌∙◌, append_assoc, arith}
 use Rattle.std.specs.Prelude.{if◌then◌else◌}
 use Rattle.std.proofs.lemmas.List.{length-map}
 use Rattle.dtx_values.specs.declared.call.Call.{Call}
+use Rattle.dtx_values.specs.declared.call.Call.TheVariants.{Volatile, Clone}
 use Rattle.dtx_values.specs.declared.entry.Answer.{Answer}
 use Rattle.dtx_values.specs.declared.entry.Answer.TheVariants.{Fine, Deep, Nested}
 use Rattle.dtx_values.specs.declared.entry.Entry.{Entry}
@@ -36,6 +37,8 @@ use Rattle.scope_context.specs.Refusals.{enter_refusal, if_differing}
 use Rattle.scope_context.specs.Standing.{Standing}
 use Rattle.scope_context.specs.declared.refusal.ScopeRefusal.{ScopeRefusal}
 use Rattle.scope_context.specs.declared.refusal.ScopeRefusal.TheVariants.{TooDeep, IsolationDiffers, NoScope, AlreadyComplete, NestedWrongly}
+use Rattle.outcome_law.proofs.Lists.{OfEach}
+use Rattle.outcome_law.proofs.ScopeCalls.{IsScopeCall, is_scope_call, scope_calls_plain}
 use Rattle.script_runner.specs.declared.contexts.Acted.{Acted}
 use Rattle.script_runner.specs.declared.contexts.Gives.TheVariants.{Nothing}
 use Rattle.script_runner.specs.Scoped.{DoesScope, calls_given, refused_answer, rollbacks}
@@ -119,40 +122,17 @@ few_notes b old new notes x did =
     let same : length notes ≡ length (scope_entries b old.scopes) = ap length did.noted ∙ length-map (scope_entries b old.scopes) written in
     omega arith
 
--- the calls of a scope line make no enlistment and no clone
-each-ending : (o : Observed) (x : Closed) → each (λ p. is_new o p.1) (ending_calls x) ≡ true
-each-ending o (Commit t) = refl
-each-ending o (Rollback t) = refl
-each-ending o NothingToDo = refl
+-- a call that scope lines give makes no enlistment and no clone
+plain_new : (o : Observed) (c : Call) → is_scope_call c ≡ true → is_new o c ≡ true
+plain_new o (Volatile t e x v) k = absurd (cc)
+plain_new o (Clone t d x) k = absurd (cc)
+plain_new o _ k = refl
 
-each-begin : (o : Observed) (d : Timeout) (x : Entered) → each (λ p. is_new o p.1) (begin_calls d x) ≡ true
-each-begin o d (Made t) = refl
-each-begin o d _ = refl
-
-each-rollback : (o : Observed) (ts : List TxNo) → each (λ p. is_new o p.1) (rollbacks ts) ≡ true
-each-rollback o [] = refl
-each-rollback o (t ∷ ts) = each-rollback o ts
-
-each-opening : (o : Observed) (a : Answer) (d : Timeout) (x : Entered) → each (λ p. is_new o p.1) (opening_calls a d x) ≡ true
-each-opening o Fine d x = each-begin o d x
-each-opening o _ d x = refl
-
-each-closing : (o : Observed) (a : Answer) (x : Closed) (ts : List TxNo) → each (λ p. is_new o p.1) (closing_calls a x ts) ≡ true
-each-closing o Fine x ts = each-ending o x
-each-closing o (Nested u) x ts = each-rollback o ts
-each-closing o _ x ts = refl
-
--- each call of a scope line
-each_scope_call : (o : Observed) (b : Body) (xs : List OpenScope) → each (λ p. is_new o p.1) (scope_calls b xs) ≡ true
-each_scope_call o (Open s w) xs = each-opening o (enter_answer (option_in w) (isolation_in w) xs) (timeout_in w) (entering (option_in w) (name_in w) xs)
-each_scope_call o (Close s) xs = each-closing o (close_answer s.value xs) (closing xs) (rolled_back s.value xs)
-each_scope_call o _ xs = refl
-
--- the one call of a scope line
+-- so the one call of a scope line makes nothing that stands already
 pub scope_call_new : (o : Observed) (b : Body) (xs : List OpenScope) (t : TxNo) (c : Call) → (t, c) ∷ [] ≡ scope_calls b xs → is_new o c ≡ true
 scope_call_new o b xs t c e =
-    let all : (is_new o c && true) ≡ true = ap (λ (cs : List (TxNo × Call)). each (λ p. is_new o p.1) cs) e ∙ each_scope_call o b xs in
-    and_left (is_new o c) true all
+    let all : OfEach IsScopeCall ((t, c) ∷ []) = subst (λ (cs : List (TxNo × Call)). OfEach IsScopeCall cs) (sym e) (scope_calls_plain b xs) in
+    plain_new o c all.0
 
 -- a call and the entries noted at a context are the block of the scope line
 pub noted_block : (trace new : List Placed) (n : ℕ) (a : ActorNo) (b : Body) (old after : Standing) (notes : List Entry) (x : Acted) → DoesScope b old after notes x
