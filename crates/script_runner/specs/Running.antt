@@ -7,9 +7,12 @@ use Rattle.dtx_model.specs.Observed.{Observed, observe}
 use Rattle.dtx_model.specs.Caused.{Settled}
 use Rattle.dtx_model.specs.Replay.{Placed, HasSettled, RoundsRan, StepsRan, history, after_step, last_turn}
 use Rattle.dtx_model.specs.Steps.{Step, pending}
+use Rattle.scope_context.specs.Standing.{Standing}
 
+-- its script, the contexts of its actors, and its trace
 pub record Running : Type 0 where
   pub script : List Line
+  pub contexts : List Standing
   pub trace : List Placed
 
 -- the machine of each transaction knows what its history in the trace shows

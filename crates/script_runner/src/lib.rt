@@ -1,6 +1,7 @@
 //! Runs scripts: the top call of the program.
 #![tactic(auto)]
 
+mod contexts;
 mod due;
 mod exit;
 mod listeners;

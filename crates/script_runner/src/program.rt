@@ -44,6 +44,10 @@ fn is_run(body: Body) -> bool
 {
     match body {
         Body::Begin(_, _)
+        | Body::Open(_, _)
+        | Body::Finish(_)
+        | Body::Close(_)
+        | Body::Current
         | Body::Volatile(_, _, _, _)
         | Body::Clone(_, _, _)
         | Body::Complete(_)
@@ -52,7 +56,8 @@ fn is_run(body: Body) -> bool
         | Body::Status(_)
         | Body::Await(_)
         | Body::Tick(_, _)
-        | Body::Do(_, _, _) => true,
+        | Body::Do(_, _, _)
+        | Body::Par => true,
         _ => false,
     }
 }

@@ -1,21 +1,25 @@
 //! A replay: the lines in order, and then the rounds at the end.
-ghost use Rattle.std.specs.Prelude.{◌≡◌, ◌≤◌, ◌+◌, List, [], ◌++◌, IfOk, OnErr, OnOk, None, Ok, Some, true, false, length, replicate, vec_len, vec_capacity};
+ghost use Rattle.std.specs.Prelude.{◌≡◌, ◌≤◌, ◌+◌, List, [], ◌∷◌, ◌++◌, IfOk, OnErr, OnOk, None, Ok, Some, true, false, length, map, replicate, vec_len, vec_capacity};
 ghost use Rattle.dtx_values.specs.declared.call.Call.{Call};
 ghost use Rattle.dtx_values.specs.declared.number.TxNo.{TxNo};
 ghost use Rattle.dtx_values.specs.declared.script.Line.{Line};
-ghost use Rattle.dtx_model.specs.Words.{each, kth, past_of};
+ghost use Rattle.dtx_model.specs.Words.{each, kth, onto, past_of};
 ghost use Rattle.dtx_model.specs.Observed.{observe};
 ghost use Rattle.dtx_model.specs.Steps.{Calls, call_of, pending};
 ghost use Rattle.dtx_model.specs.Caused.{Settled, is_new};
-ghost use Rattle.dtx_model.specs.Replay.{HasDone, IsReplayed, LineRan, LinesRan, Placed, after_step, history, placed};
+ghost use Rattle.dtx_model.specs.Contexts.{scope_block, scope_calls};
+ghost use Rattle.dtx_model.specs.Replay.{CallRan, HasDone, IsReplayed, LinesRan, Placed, after_calls, after_scope, after_step, history, noted};
 ghost use Rattle.dtx_model.specs.History.{HasOneOutcome, IsComplete, IsHistory};
 ghost use Rattle.dtx_model.specs.Grammar.{IsScript, is_run};
 ghost use Rattle.script_runner.specs.Running.{Advances, IsSettledBelow, Settles};
+ghost use Rattle.script_runner.specs.Scoped.{AreOpen, IsUnopened, calls_given, nothing_open, rollbacks, rolled_at, scopes_at};
 
+use crate::contexts::{Gives, act, contexts};
 use crate::machine::Machine;
 use crate::plans::Plans;
 use dtx_values::{ActorNo, Body, Call, Entry, Line, Outbox, Place, ROOM, Script, Trace, TxNo};
 use outcome_law::{completeness, one_outcome, replay, tables};
+use scope_context::Context;
 use std::alloc::{AllocError, Global};
 use std::marker::Model;
 
@@ -25,23 +29,29 @@ const TRANSACTIONS: usize = 256;
 /// One more than the greatest number of a transaction.
 const BEYOND: u32 = 257;
 
-/// A replay under way: its script's plans, its transactions by number, and its trace. Contracts see the script and the trace.
+/// A replay under way: its script's plans, its transactions and its actors' contexts by number, and its trace. Contracts see the script,
+/// the contexts and the trace.
 #[derive(Drop)]
 pub struct Run<'a> {
     plans: Plans<'a>,
     machines: Vec<Machine>,
+    contexts: Vec<Context>,
+    /// The entries of the step under way at a transaction.
     out: Outbox,
+    /// The entries of the line under way at a context, behind its call.
+    notes: Vec<Entry>,
     trace: Vec<(Place, Entry)>,
 }
 
 impl<'a> Model for Run<'a> {
+    ghost use Rattle.std.specs.Prelude.{◌≡◌, length};
     ghost use Rattle.script_runner.specs.Running.{Running, AreTied};
 
     ghost Value = { Running };
 
-    ghost view = { λ r. record { script = r.plans; trace = r.trace.items } };
+    ghost view = { λ r. record { script = r.plans; contexts = r.contexts.items; trace = r.trace.items } };
 
-    ghost invariant = { λ r. AreTied r.machines.items r.trace.items };
+    ghost invariant = { λ r. AreTied r.machines.items r.trace.items × (length r.contexts.items ≡ 16) };
 }
 
 /// As many transactions as a script can name, of which nothing is known yet.
@@ -55,25 +65,27 @@ fn machines(alloc: Global) -> Result<Vec<Machine>, AllocError>
     Ok(machines)
 }
 
-/// Puts the entries behind the trace, each at this transaction. The trace has room for them.
-fn append(trace: &mut Vec<(Place, Entry)>, t: TxNo, entries: &[Entry])
+/// Puts the entries behind the trace, each at this place. The trace has room for them.
+fn append(trace: &mut Vec<(Place, Entry)>, place: Place, entries: &[Entry])
     requires { vec_len trace.old + length entries.now ≤ vec_capacity trace.old }
-    ensures { trace.new.items ≡ trace.old.items ++ placed t entries.now }
+    ensures { trace.new.items ≡ trace.old.items ++ map (λ e. (place, e)) entries.now }
 {
     for e in entries {
-        trace.push_reserved((Place::Transaction(t), *e));
+        trace.push_reserved((place, *e));
     }
 }
 
 impl<'a> Run<'a> {
     /// A replay of these lines, before its first step.
     pub fn new(alloc: Global, lines: &'a [Line]) -> Result<Self, AllocError>
-        ensures { IfOk result (λ r. r ≡ record { script = lines.entry.now; trace = [] }) }
+        ensures { IfOk result (λ r. r ≡ record { script = lines.entry.now; contexts = replicate 16 nothing_open; trace = [] }) }
     {
         Ok(Run {
             plans: Plans::new(alloc, lines)?,
             machines: machines(alloc)?,
+            contexts: contexts(alloc)?,
             out: Outbox::with_room(alloc)?,
+            notes: Vec::new(alloc),
             trace: Vec::new(alloc),
         })
     }
@@ -89,6 +101,7 @@ impl<'a> Run<'a> {
     ) -> Result<(), AllocError>
         requires { is_new (observe (history t.value (past_of self.old.trace))) c.now ≡ true }
         ensures script { self.new.script ≡ self.old.script }
+        ensures contexts { self.new.contexts ≡ self.old.contexts }
         ensures done { OnOk result (past_of self.new.trace ≡ after_step t (Calls n actor c.now done) (past_of self.old.trace)) }
         ensures memory { OnErr result (self.new ≡ self.old) }
     {
@@ -96,13 +109,14 @@ impl<'a> Run<'a> {
         self.out.clear();
         let machine = &mut self.machines[t.get() as usize - 1];
         machine.call(actor, n, c, done, &mut self.out);
-        append(&mut self.trace, t, self.out.entries());
+        append(&mut self.trace, Place::Transaction(t), self.out.entries());
         Ok(())
     }
 
     /// Does the k-th pending step of transaction t; false where fewer than k are pending.
     fn step(&mut self, t: TxNo, k: u8) -> Result<bool, AllocError>
         ensures script { self.new.script ≡ self.old.script }
+        ensures contexts { self.new.contexts ≡ self.old.contexts }
         ensures some { result ≡ Ok true → Advances self.old.script t k self.old.trace self.new.trace }
         ensures none { result ≡ Ok false → kth (pending self.old.script (observe (history t.value (past_of self.old.trace)))) k ≡ None }
         ensures unchanged { result ≡ Ok false → self.new ≡ self.old }
@@ -114,13 +128,14 @@ impl<'a> Run<'a> {
         if !machine.step(&self.plans, k, &mut self.out) {
             return Ok(false);
         }
-        append(&mut self.trace, t, self.out.entries());
+        append(&mut self.trace, Place::Transaction(t), self.out.entries());
         Ok(true)
     }
 
     /// Does the k-th pending step of transaction t, n times, and stops where there are fewer; how often it did.
     fn steps(&mut self, t: TxNo, k: u8, n: u16) -> Result<u16, AllocError>
         ensures script { self.new.script ≡ self.old.script }
+        ensures contexts { self.new.contexts ≡ self.old.contexts }
         ensures done { IfOk result (λ m. HasDone self.old.script t k n m (past_of self.old.trace) (past_of self.new.trace)) }
     {
         for m in 0..n {
@@ -134,6 +149,7 @@ impl<'a> Run<'a> {
     /// Does the pending steps of transaction t, each time the first, until none is left.
     fn settle(&mut self, t: TxNo) -> Result<(), AllocError>
         ensures script { self.new.script ≡ self.old.script }
+        ensures contexts { self.new.contexts ≡ self.old.contexts }
         ensures settled { OnOk result (Settles self.old.script t self.old.trace self.new.trace) }
     {
         loop {
@@ -155,31 +171,97 @@ impl<'a> Run<'a> {
         Ok(())
     }
 
-    /// Does what line n does: its call, behind the steps of a `do` or an `await`.
-    fn line(&mut self, n: u32, l: &Line) -> Result<(), AllocError>
-        requires { (t : TxNo) (c : Call) → call_of self.old.script l.now.body ≡ Some (t, c) → is_new (observe (history t.value (past_of self.old.trace))) c ≡ true }
+    /// Writes what line n does at its actor's context: its call, and its entries; and which calls it gives transactions. Nothing, where it
+    /// is no scope line.
+    fn note(&mut self, n: u32, l: &Line) -> Result<Gives, AllocError>
+        requires { IsUnopened l.now.body (scopes_at l.now.actor self.old.contexts) }
         ensures script { self.new.script ≡ self.old.script }
-        ensures done { OnOk result (LineRan self.old.script l.now.actor n (call_of self.old.script l.now.body) (past_of self.old.trace) (past_of self.new.trace)) }
+        ensures block { OnOk result (past_of self.new.trace ≡ onto (past_of self.old.trace) (noted l.now.actor (scope_block n l.now.actor l.now.body (scopes_at l.now.actor self.old.contexts)))) }
+        ensures calls { IfOk result (λ g. calls_given g (rolled_at l.now.actor self.new.contexts) ≡ scope_calls l.now.body (scopes_at l.now.actor self.old.contexts)) }
+        ensures scopes { OnOk result ((before : List Line) → AreOpen self.old.contexts before → AreOpen self.new.contexts (l.now ∷ before)) }
+        ensures memory { OnErr result (self.new ≡ self.old) }
+    {
+        let context = &mut self.contexts[l.actor.get() as usize - 1];
+        let room = context.scopes().len() + 1;
+        self.notes.clear();
+        self.notes.reserve(room)?;
+        self.trace.reserve(room + 1)?;
+        let Some(acted) = act(context, l.body, &mut self.notes) else {
+            return Ok(Gives::Nothing);
+        };
+        let place = Place::Context(l.actor);
+        self.trace
+            .push_reserved((place, Entry::Called(n, l.actor, acted.answer)));
+        append(&mut self.trace, place, &self.notes);
+        Ok(acted.gives)
+    }
+
+    /// Does, as line n, a rollback of each transaction that the last nested close at this actor's context is to roll back, in order.
+    fn roll_back(&mut self, n: u32, actor: ActorNo) -> Result<(), AllocError>
+        ensures script { self.new.script ≡ self.old.script }
+        ensures contexts { self.new.contexts ≡ self.old.contexts }
+        ensures done { OnOk result (past_of self.new.trace ≡ after_calls n actor (rollbacks (rolled_at actor self.old.contexts)) (past_of self.old.trace)) }
+    {
+        let place = actor.get() as usize - 1;
+        for i in 0..self.contexts[place].rolled().len() {
+            let t = self.contexts[place].rolled()[i];
+            self.call(n, actor, t, &Call::Rollback(t), 0)?;
+        }
+        Ok(())
+    }
+
+    /// Does what line n does as a scope line: what it writes at its actor's context, and then the calls that it gives transactions.
+    fn scope(&mut self, n: u32, l: &Line) -> Result<(), AllocError>
+        requires { IsUnopened l.now.body (scopes_at l.now.actor self.old.contexts) }
+        ensures script { self.new.script ≡ self.old.script }
+        ensures done { OnOk result (past_of self.new.trace ≡ after_scope n l.now (scopes_at l.now.actor self.old.contexts) (past_of self.old.trace)) }
+        ensures scopes { OnOk result ((before : List Line) → AreOpen self.old.contexts before → AreOpen self.new.contexts (l.now ∷ before)) }
+    {
+        match self.note(n, l)? {
+            Gives::Nothing => Ok(()),
+            Gives::Call(t, c) => self.call(n, l.actor, t, &c, 0),
+            Gives::Rollbacks => self.roll_back(n, l.actor),
+        }
+    }
+
+    /// Does the call that line n gives transaction t by its own words, behind the steps of a `do` or an `await`.
+    fn own_call(&mut self, n: u32, actor: ActorNo, t: TxNo, c: &Call) -> Result<(), AllocError>
+        requires { is_new (observe (history t.value (past_of self.old.trace))) c.now ≡ true }
+        ensures script { self.new.script ≡ self.old.script }
+        ensures contexts { self.new.contexts ≡ self.old.contexts }
+        ensures done { OnOk result (CallRan self.old.script actor n (Some (t, c.now)) (past_of self.old.trace) (past_of self.new.trace)) }
+    {
+        match *c {
+            Call::Do(_, k, times) => {
+                let done = self.steps(t, k, times)?;
+                self.call(n, actor, t, c, done)
+            }
+            Call::Await(_) => {
+                self.settle(t)?;
+                self.call(n, actor, t, c, 0)
+            }
+            _ => self.call(n, actor, t, c, 0),
+        }
+    }
+
+    /// Does what line n does: its own call, or what it does as a scope line.
+    fn line(&mut self, n: u32, l: &Line) -> Result<(), AllocError>
+        requires new { (t : TxNo) (c : Call) → call_of self.old.script l.now.body ≡ Some (t, c) → is_new (observe (history t.value (past_of self.old.trace))) c ≡ true }
+        requires unopened { IsUnopened l.now.body (scopes_at l.now.actor self.old.contexts) }
+        ensures script { self.new.script ≡ self.old.script }
+        ensures done { OnOk result (CallRan self.old.script l.now.actor n (call_of self.old.script l.now.body) (after_scope n l.now (scopes_at l.now.actor self.old.contexts) (past_of self.old.trace)) (past_of self.new.trace)) }
+        ensures scopes { OnOk result ((before : List Line) → AreOpen self.old.contexts before → AreOpen self.new.contexts (l.now ∷ before)) }
     {
         match call_of(&self.plans, l.body) {
-            Some((t, c)) => match c {
-                Call::Do(_, k, times) => {
-                    let done = self.steps(t, k, times)?;
-                    self.call(n, l.actor, t, &c, done)
-                }
-                Call::Await(_) => {
-                    self.settle(t)?;
-                    self.call(n, l.actor, t, &c, 0)
-                }
-                _ => self.call(n, l.actor, t, &c, 0),
-            },
-            None => Ok(()),
+            Some((t, c)) => self.own_call(n, l.actor, t, &c),
+            None => self.scope(n, l),
         }
     }
 
     /// Runs the lines in order.
     fn lines(&mut self) -> Result<(), AllocError>
         requires start { self.old.trace ≡ [] }
+        requires contexts { AreOpen self.old.contexts [] }
         requires script { IsScript self.old.script }
         ensures script { self.new.script ≡ self.old.script }
         ensures ran { OnOk result (LinesRan self.old.script (past_of self.old.script) (past_of self.new.trace)) }

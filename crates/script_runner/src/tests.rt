@@ -59,18 +59,66 @@ const RUNS: [(&str, &str); 11] = [
     ),
 ];
 
+/// Scripts of scopes with the whole text of their traces.
+const SCOPE_RUNS: [(&str, &str); 6] = [
+    (
+        "a1 open s1 required t1 default snapshot\na1 open s2 required t2 default serializable\n",
+        "1 a1 call 1 a1 ok\n2 a1 opened s1 t1\n3 t1 call 1 a1 ok\n4 t1 began 60000\n5 a1 call 2 a1 isolation serializable snapshot\n",
+    ),
+    (
+        "a1 open s1 required t1 default default\na1 open s2 required t2 default default\na1 close s2\na1 finish s1\na1 close s1\n",
+        "1 a1 call 1 a1 ok\n2 a1 opened s1 t1\n3 t1 call 1 a1 ok\n4 t1 began 60000\n5 a1 call 2 a1 ok\n6 a1 opened s2 t1\n7 a1 call 3 a1 ok\n8 a1 closed s2\n9 t1 call 3 a1 ok\n10 t1 rollback\n11 t1 decided aborted\n12 a1 call 4 a1 ok\n13 a1 finished s1\n14 a1 call 5 a1 ok\n15 a1 closed s1\n16 t1 call 5 a1 ended aborted\n17 t1 told client aborted\n",
+    ),
+    (
+        "a1 open s1 required t1 default default\na1 open s2 requiresnew t2 default default\na1 close s1\n",
+        "1 a1 call 1 a1 ok\n2 a1 opened s1 t1\n3 t1 call 1 a1 ok\n4 t1 began 60000\n5 a1 call 2 a1 ok\n6 a1 opened s2 t2\n7 t2 call 2 a1 ok\n8 t2 began 60000\n9 a1 call 3 a1 nested s2\n10 a1 closed s2\n11 a1 closed s1\n12 t2 call 3 a1 ok\n13 t2 rollback\n14 t2 decided aborted\n15 t1 call 3 a1 ok\n16 t1 rollback\n17 t1 decided aborted\n18 t1 told client aborted\n19 t2 told client aborted\n",
+    ),
+    (
+        "a1 open s1 required t1 default default\na1 open s2 required t2 default default\na1 commit t2\n",
+        "1 a1 call 1 a1 ok\n2 a1 opened s1 t1\n3 t1 call 1 a1 ok\n4 t1 began 60000\n5 a1 call 2 a1 ok\n6 a1 opened s2 t1\n7 t2 call 3 a1 notbegun\n",
+    ),
+    (
+        "a1 open s1 required t1 default default\na1 open s2 suppress\na1 current\na1 close s2\na1 current\n",
+        "1 a1 call 1 a1 ok\n2 a1 opened s1 t1\n3 t1 call 1 a1 ok\n4 t1 began 60000\n5 a1 call 2 a1 ok\n6 a1 opened s2 none\n7 a1 call 3 a1 none\n8 a1 call 4 a1 ok\n9 a1 closed s2\n10 a1 call 5 a1 t1\n",
+    ),
+    (
+        "a1 open s1 suppress\na1 open s9 suppress\na1 close s9\na1 finish s1\na1 finish s1\na1 current\na1 close s9\n",
+        "1 a1 call 1 a1 ok\n2 a1 opened s1 none\n3 a1 call 2 a1 ok\n4 a1 opened s9 none\n5 a1 call 3 a1 ok\n6 a1 closed s9\n7 a1 call 4 a1 ok\n8 a1 finished s1\n9 a1 call 5 a1 already\n10 a1 call 6 a1 already\n11 a1 call 7 a1 noscope\n",
+    ),
+];
+
+/// Runs a script that is read and written in pieces of this size, and compares the whole text of its trace.
+fn has_its_trace(
+    rt: &impl Abort,
+    alloc: Global,
+    script: &str,
+    trace: &str,
+    piece: usize,
+) -> Result<(), AllocError> {
+    let words = replay(alloc)?;
+    let bytes = Vec::from_slice(alloc, script.as_bytes())?;
+    let mut source = MemSource::new(bytes, piece, Vec::new(alloc));
+    let mut sink = MemSink::new(alloc, piece, Vec::new(alloc));
+    let exit = run_program(alloc, &words, &mut source, &mut sink);
+    assert_eq!(rt; exit, Exit::Fine, "at {script}");
+    assert!(rt; sink.bytes() == trace.as_bytes(), "at {script}");
+    Ok(())
+}
+
 #[test]
 fn scripts_have_their_traces(rt: HostRuntime) -> Result<(), Fail> {
-    let words = replay(rt.alloc())?;
     for (script, trace) in RUNS {
         for piece in [1, 7, 100_000] {
-            let bytes = Vec::from_slice(rt.alloc(), script.as_bytes())?;
-            let mut source = MemSource::new(bytes, piece, Vec::new(rt.alloc()));
-            let mut sink = MemSink::new(rt.alloc(), piece, Vec::new(rt.alloc()));
-            let exit = run_program(rt.alloc(), &words, &mut source, &mut sink);
-            assert_eq!(rt; exit, Exit::Fine, "at {script}");
-            assert!(rt; sink.bytes() == trace.as_bytes(), "at {script}");
+            has_its_trace(&rt, rt.alloc(), script, trace, piece)?;
         }
+    }
+    Ok(())
+}
+
+#[test]
+fn scripts_of_scopes_have_their_traces(rt: HostRuntime) -> Result<(), Fail> {
+    for (script, trace) in SCOPE_RUNS {
+        has_its_trace(&rt, rt.alloc(), script, trace, 100_000)?;
     }
     Ok(())
 }

@@ -1,11 +1,16 @@
-use Rattle.std.proofs.Common.{◌≡◌, List, ap, arith, subst, sym, ◌∙◌}
+use Rattle.std.proofs.Common.{◌≡◌, List, [], ap, arith, subst, sym, ◌∙◌}
 use Rattle.dtx_values.specs.declared.script.Line.{Line}
 use Rattle.dtx_model.specs.Caused.{Settled}
 use Rattle.dtx_model.specs.Replay.{IsReplayed, LinesRan, Placed, history}
 use Rattle.dtx_model.specs.Words.{past_of}
 use Rattle.script_runner.specs.Running.{IsSettledBelow, Running}
+use Rattle.script_runner.specs.Scoped.{AreOpen}
+use Rattle.script_runner.proofs.Openings.{open_none}
 use Rattle.script_runner.proofs.Replayed.{is_replayed, settled-none}
 use Rattle.script_runner.proofs.replay.trace_of.Goals as goal
+
+pub lines-requires-clause-contexts : goal.lines-requires-clause-contexts
+lines-requires-clause-contexts c = subst (λ (r : Running). AreOpen r.contexts []) (sym c.in_ok-run.ensures) open_none
 
 pub returns-clause-replayed : goal.returns-clause-replayed
 returns-clause-replayed c =

@@ -12,7 +12,7 @@ invariant_of-self-2 c =
     let step = Calls c.args.n c.args.actor c.args.c.now c.args.done in
     let written : c.append.new.trace.items ≡ c.self.inside.trace.items ++ placed c.args.t (block m step) =
     rw (c.append.ensures, c.entries.ensures.value, c.call.ensures.out, c.clear.ensures, c.reserve.ensures.items) refl in
-    rw c.get.ensures.value (tied_after _ c.self.inside.trace.items _ c.args.t m _ (block m step) c.self.invariant (rw c.get.ensures.value at c.index_mut-machine.ensures.value) c.call.ensures.state written)
+    (rw c.get.ensures.value (tied_after _ c.self.inside.trace.items _ c.args.t m _ (block m step) c.self.invariant.0 (rw c.get.ensures.value at c.index_mut-machine.ensures.value) c.call.ensures.state written), c.self.invariant.1)
 
 pub returns-clause-done : goal.returns-clause-done
 returns-clause-done c =
@@ -21,4 +21,4 @@ returns-clause-done c =
     let written : c.append.new.trace.items ≡ c.self.inside.trace.items ++ placed c.args.t (block m step) =
     rw (c.append.ensures, c.entries.ensures.value, c.call.ensures.out, c.clear.ensures, c.reserve.ensures.items) refl in
     subst (λ (r : Running). past_of c.append.new.trace.items ≡ after_step c.args.t step (past_of r.trace)) c.self.view_is
-    (trace_after _ c.self.inside.trace.items _ c.args.t m step c.self.invariant (rw c.get.ensures.value at c.index_mut-machine.ensures.value) written)
+    (trace_after _ c.self.inside.trace.items _ c.args.t m step c.self.invariant.0 (rw c.get.ensures.value at c.index_mut-machine.ensures.value) written)

@@ -14,7 +14,7 @@ returns-then-not-branch-clause-settled c =
     let none : kth (pending c.args.self.now.script (observe (history c.args.t.value (past_of c.loop.self.trace)))) 1 ≡ None =
     subst (λ (s : List Line). kth (pending s (observe (history c.args.t.value (past_of c.loop.self.trace)))) 1 ≡ None) c.loop.invariant.0 (c.step.ensures.none done) in
     subst (λ (r : Running). (m : ℕ) × HasSettled c.args.self.now.script c.args.t m (past_of c.args.self.now.trace) (past_of r.trace)) (sym (c.step.ensures.unchanged done))
-    (c.loop.invariant.1, record { ran = c.loop.invariant.2; settled = none-first _ none })
+    (c.loop.invariant.2, record { ran = c.loop.invariant.3; settled = none-first _ none })
 
 pub loop-smaller : goal.loop-smaller
 loop-smaller c =
@@ -25,4 +25,4 @@ pub loop-preserved : goal.loop-preserved
 loop-preserved c =
     let some : c.step.result ≡ Ok true = cc in
     let did = subst (λ (s : List Line). Advances s c.args.t 1 c.loop.self.trace c.step.new.self.trace) c.loop.invariant.0 (c.step.ensures.some some) in
-    (c.step.ensures.script ∙ c.loop.invariant.0, suc c.loop.invariant.1, steps-more _ c.args.t 1 c.loop.invariant.1 c.args.self.now.trace c.loop.self.trace c.step.new.self.trace c.loop.invariant.2 did)
+    (c.step.ensures.script ∙ c.loop.invariant.0, c.step.ensures.contexts ∙ c.loop.invariant.1, suc c.loop.invariant.2, steps-more _ c.args.t 1 c.loop.invariant.2 c.args.self.now.trace c.loop.self.trace c.step.new.self.trace c.loop.invariant.3 did)

@@ -7,7 +7,7 @@ use Rattle.script_runner.specs.Running.{StepsDone}
 use Rattle.script_runner.proofs.replay.Run.settle.Given as goal
 
 abbrev pub invariant-loop : goal.invariant-loop
-invariant-loop l = (l.self.script ≡ l.initial.self.script) × (m : ℕ) × StepsDone l.initial.self.script l.t 1 m l.initial.self.trace l.self.trace
+invariant-loop l = (l.self.script ≡ l.initial.self.script) × (l.self.contexts ≡ l.initial.self.contexts) × (m : ℕ) × StepsDone l.initial.self.script l.t 1 m l.initial.self.trace l.self.trace
 
 abbrev pub decreases-loop : goal.decreases-loop
 decreases-loop l = steps_left (observe (history l.t.value (past_of l.self.trace)))
