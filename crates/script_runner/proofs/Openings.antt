@@ -67,17 +67,17 @@ open_after cs before l new long behind ties a =
     let es = entries_of a.value before in
     elim (eqb_tells a.value l.actor.value) [
       | inl k ↦
-        let here : scopes_at a cs ≡ scopes_at l.actor cs = ap (λ n. scopes_in (slice_get cs (n - 1))) k.1 in
-        let found : scopes_at a (set cs i new) ≡ new.scopes =
-        ap (λ n. scopes_in (slice_get (set cs i new) (n - 1))) k.1
-        ∙ ap scopes_in (slice_get-get_or (set cs i new) i new (rw length-set within) ∙ ap Some (get_or-set_same cs i new new within)) in
-        let tie : open_scopes es ≡ scopes_at l.actor cs = sym (ties a) ∙ here in
-        let left : open_scopes (onto es (scope_entries l.body (open_scopes es))) ≡ new.scopes =
-        ap (λ (xs : List OpenScope). open_scopes (onto es (scope_entries l.body xs))) tie ∙ behind es tie in
-        found ∙ sym left ∙ sym (ap (λ b. open_scopes (if b then onto es (scope_entries l.body (open_scopes es)) else es)) k.0)
+          let here : scopes_at a cs ≡ scopes_at l.actor cs = ap (λ n. scopes_in (slice_get cs (n - 1))) k.1 in
+          let found : scopes_at a (set cs i new) ≡ new.scopes =
+          ap (λ n. scopes_in (slice_get (set cs i new) (n - 1))) k.1
+          ∙ ap scopes_in (slice_get-get_or (set cs i new) i new (rw length-set within) ∙ ap Some (get_or-set_same cs i new new within)) in
+          let tie : open_scopes es ≡ scopes_at l.actor cs = sym (ties a) ∙ here in
+          let left : open_scopes (onto es (scope_entries l.body (open_scopes es))) ≡ new.scopes =
+          ap (λ (xs : List OpenScope). open_scopes (onto es (scope_entries l.body xs))) tie ∙ behind es tie in
+          found ∙ sym left ∙ sym (ap (λ b. open_scopes (if b then onto es (scope_entries l.body (open_scopes es)) else es)) k.0)
       | inr k ↦
-        let apart : a.value - 1 ≢ i = λ d. k.1 (omega (arith, d, a.in_range.0, l.actor.in_range.0)) in
-        ap scopes_in (slice_get-set_other cs i (a.value - 1) new apart) ∙ ties a ∙ sym (ap (λ b. open_scopes (if b then onto es (scope_entries l.body (open_scopes es)) else es)) k.0)
+          let apart : a.value - 1 ≢ i = λ d. k.1 (omega (arith, d, a.in_range.0, l.actor.in_range.0)) in
+          ap scopes_in (slice_get-set_other cs i (a.value - 1) new apart) ∙ ties a ∙ sym (ap (λ b. open_scopes (if b then onto es (scope_entries l.body (open_scopes es)) else es)) k.0)
     ]
 
 -- a line that isn't answered at a context leaves the scopes as they are

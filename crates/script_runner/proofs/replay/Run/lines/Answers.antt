@@ -48,7 +48,7 @@ loop-l-preserved c =
       c.line.ensures.script ∙ c.loop-l.invariant.1,
       subst (λ (before : List Line). AreOpen c.line.new.self.contexts before) (sym (past_next lines i l c.loop-l-test.true c.l-item.is)) (c.in_ok-line.ensures.scopes (past_of (take i lines)) c.loop-l.invariant.2),
       lines_more c.args.self.now.script c.loop-l.self.script lines i c.loop-l.n l c.loop-l.self.contexts (past_of c.loop-l.self.trace) (past_of c.line.new.self.trace) c.loop-l-test.true c.l-item.is
-      c.loop-l.invariant.0 c.loop-l.invariant.1 c.loop-l.invariant.2 c.loop-l.invariant.3 c.in_ok-line.ensures.done,
+          c.loop-l.invariant.0 c.loop-l.invariant.1 c.loop-l.invariant.2 c.loop-l.invariant.3 c.in_ok-line.ensures.done,
     )
 
 pub replay-requires : goal.replay-requires
