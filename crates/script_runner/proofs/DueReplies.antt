@@ -23,7 +23,7 @@ abbrev pub IsPassed : (Enlistment → Option Step) → List Enlistment → ℕ �
 IsPassed f xs k i left = (passed : List Step) × (filter_map f xs ≡ passed ++ filter_map f (drop i xs)) × (k ≡ length passed + left)
 
 -- the item behind a list
-at_end : {A : Type 0} (xs : List A) (y : A) (ys : List A) (k : ℕ) → k ≡ length xs → slice_get (xs ++ y ∷ ys) k ≡ Some y
+pub at_end : {A : Type 0} (xs : List A) (y : A) (ys : List A) (k : ℕ) → k ≡ length xs → slice_get (xs ++ y ∷ ys) k ≡ Some y
 at_end {A = A} xs y ys k e = subst (λ n. slice_get (xs ++ y ∷ ys) n ≡ Some y) (sym e) (go xs)
   where
     go : (zs : List A) → slice_get (zs ++ y ∷ ys) (length zs) ≡ Some y

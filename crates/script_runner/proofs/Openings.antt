@@ -30,24 +30,10 @@ use Rattle.dtx_model.proofs.Histories.{onto-append}
 use Rattle.dtx_model.proofs.Prefixes.{past-more}
 use Rattle.dtx_model.proofs.Reading.{has-onto}
 use Rattle.scope_context.specs.Standing.{Standing}
-use Rattle.script_runner.specs.Running.{AreTied}
 use Rattle.script_runner.specs.Scoped.{AreOpen, IsUnopened, context_at, nothing_open, rollbacks, scopes_at, scopes_in}
 use Rattle.script_runner.proofs.Closing.{length-past}
 use Rattle.script_runner.proofs.Scoping.{no_scope_line}
 use Rattle.script_runner.proofs.Ties.{slice_get-set_other}
-
--- a block at a context leaves each transaction's history alone
-pub history-noted : (t : ℕ) (a : ActorNo) (T : List Placed) (es : List Entry) → history t (onto T (noted a es)) ≡ history t T
-history-noted t a T [] = refl
-history-noted t a T (x ∷ xs) = history-noted t a ((Context a, x) ∷ T) xs
-
--- the machines stay tied behind a block at a context
-pub tied_noted : (ms : List Observed) (trace new : List Placed) (a : ActorNo) (es : List Entry) → AreTied ms trace → past_of new ≡ onto (past_of trace) (noted a es) → AreTied ms new
-tied_noted ms trace new a es tied written =
-    record {
-      many = tied.many;
-      ties = λ t. tied.ties t ∙ ap (λ (h : List Entry). Some (observe h)) (sym (ap (λ (T : List Placed). history t.value T) written ∙ history-noted t.value a (past_of trace) es));
-    }
 
 -- before the first line nothing is open
 pub open_none : AreOpen (replicate 16 nothing_open) []
