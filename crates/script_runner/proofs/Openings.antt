@@ -180,17 +180,22 @@ always-before : {E : Type 0} (t : List E → E → Bool) (h xs : List E) → alw
 always-before t h [] k = k
 always-before t h (x ∷ xs) k = and_right (t h x) (always t h) (always-before t (x ∷ h) xs k)
 
--- a name that a line of a script makes wasn't made before it
-not_made : (xs ys : List Line) (l : Line) → are_named_well (xs ++ l ∷ ys) ≡ true → each (λ n. not (is_made (past_of xs) n)) (makes l.body) ≡ true
-not_made xs ys l named =
+-- what holds of each line of a script with those before it holds of one of them
+pub always-here : (p : List Line → Line → Bool) (s xs ys : List Line) (l : Line) → s ≡ xs ++ l ∷ ys → always p (past_of s) ≡ true → p (past_of xs) l ≡ true
+always-here p s xs ys l split k =
     let before = past_of xs in
-    let all : always is_named_well (onto (l ∷ before) ys) ≡ true = ap (λ (h : List Line). always is_named_well h) (sym (onto-append [] xs (l ∷ ys))) ∙ named in
-    let well : is_named_well before l ≡ true = and_left (is_named_well before l) (always is_named_well before) (always-before is_named_well (l ∷ before) ys all) in
-    and_left (each (λ n. not (is_made before n)) (makes l.body)) (each (λ n. is_made before n) (uses l.body)) well
+    let all : always p (onto (l ∷ before) ys) ≡ true = ap (λ (h : List Line). always p h) (sym (ap past_of split ∙ onto-append [] xs (l ∷ ys))) ∙ k in
+    and_left (p before l) (always p before) (always-before p (l ∷ before) ys all)
+
+-- a name that a line of a script makes wasn't made before it
+not_made : (s xs ys : List Line) (l : Line) → s ≡ xs ++ l ∷ ys → are_named_well s ≡ true → each (λ n. not (is_made (past_of xs) n)) (makes l.body) ≡ true
+not_made s xs ys l split named =
+    let before = past_of xs in
+    and_left (each (λ n. not (is_made before n)) (makes l.body)) (each (λ n. is_made before n) (uses l.body)) (always-here is_named_well s xs ys l split named)
 
 -- a scope that a line of a script opens isn't open already
 pub unopened : (s xs ys : List Line) (l : Line) (cs : List Standing) → s ≡ xs ++ l ∷ ys → are_named_well s ≡ true → AreOpen cs (past_of xs) → IsUnopened l.body (scopes_at l.actor cs)
-unopened s xs ys l cs split named ties = by_body l.body (scopes_at l.actor cs) (ties l.actor) (not_made xs ys l (subst (λ (r : List Line). are_named_well r ≡ true) split named))
+unopened s xs ys l cs split named ties = by_body l.body (scopes_at l.actor cs) (ties l.actor) (not_made s xs ys l split named)
   where
     step : (u : ScopeNo) (found : List OpenScope) (b : Bool) → has (is_scope u.value) found ≡ b → found ≡ scopes_of l.actor.value (past_of xs) → is_made (past_of xs) (OfScope u.value) ≡ false
         → has (is_scope u.value) found ≡ false

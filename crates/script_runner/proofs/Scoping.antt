@@ -1,8 +1,9 @@
 -- What a scope line does at its context is the definition's.
-use Rattle.std.proofs.Common.{◌≡◌, ℕ, suc, ◌+◌, ◌≤◌, Bool, true, false, ◌&&◌, List, [], ◌∷◌, ◌++◌, length, map, Option, Some, None, refl, ap, sym, ◌∙◌, append_assoc, arith}
+use Rattle.std.proofs.Common.{◌≡◌, ℕ, suc, ◌+◌, ◌≤◌, Bool, true, false, List, [], ◌∷◌, ◌++◌, length, map, Option, Some, None, refl, ap, sym, ◌∙◌, subst, append_assoc, arith}
 use Rattle.std.specs.Prelude.{if◌then◌else◌}
 use Rattle.std.proofs.lemmas.List.{length-map}
 use Rattle.dtx_values.specs.declared.call.Call.{Call}
+use Rattle.dtx_values.specs.declared.call.Call.TheVariants.{Begin, Commit as CommitCall, Rollback as RollbackCall}
 use Rattle.dtx_values.specs.declared.entry.Answer.{Answer}
 use Rattle.dtx_values.specs.declared.entry.Answer.TheVariants.{Fine, Deep, Nested}
 use Rattle.dtx_values.specs.declared.entry.Entry.{Entry}
@@ -23,19 +24,20 @@ use Rattle.dtx_values.specs.declared.trace.Place.TheVariants.{Context}
 use Rattle.dtx_values.specs.declared.words.Iso.{Iso}
 use Rattle.dtx_values.specs.declared.words.ScopeOption.{ScopeOption}
 use Rattle.dtx_values.specs.declared.words.Timeout.{Timeout}
-use Rattle.dtx_model.specs.Words.{each, onto, past_of}
+use Rattle.dtx_model.specs.Words.{onto, past_of}
 use Rattle.dtx_model.specs.Observed.{Observed}
-use Rattle.dtx_model.specs.Caused.{is_new}
 use Rattle.dtx_model.specs.Scopes.{ScopeEntry, Opens, Finishes, Closes, close_answer, closing, complete_answer, differing, enter_answer, entering, is_deep, is_scope, open_scopes, rolled_back, taken_off, unless_differing}
 use Rattle.dtx_model.specs.Contexts.{begin_calls, called_with, closing_calls, ending_calls, entries_if, isolation_in, name_in, opening_calls, option_in, scope_answer, scope_block, scope_calls, scope_entries, timeout_in, took_off, written}
 use Rattle.dtx_model.specs.Replay.{Placed, noted}
 use Rattle.dtx_model.specs.Steps.{is_fine}
-use Rattle.dtx_model.proofs.Bools.{and_left}
 use Rattle.dtx_model.proofs.Histories.{onto-append}
+use Rattle.outcome_law.proofs.Lists.{OfEach}
+use Rattle.outcome_law.proofs.ScopeCalls.{IsScopeCall, is_scope_call, scope_calls_plain}
 use Rattle.scope_context.specs.Refusals.{enter_refusal, if_differing}
 use Rattle.scope_context.specs.Standing.{Standing}
 use Rattle.scope_context.specs.declared.refusal.ScopeRefusal.{ScopeRefusal}
 use Rattle.scope_context.specs.declared.refusal.ScopeRefusal.TheVariants.{TooDeep, IsolationDiffers, NoScope, AlreadyComplete, NestedWrongly}
+use Rattle.script_runner.specs.Calling.{IsReady}
 use Rattle.script_runner.specs.declared.contexts.Acted.{Acted}
 use Rattle.script_runner.specs.declared.contexts.Gives.TheVariants.{Nothing}
 use Rattle.script_runner.specs.Scoped.{DoesScope, calls_given, refused_answer, rollbacks}
@@ -119,40 +121,16 @@ few_notes b old new notes x did =
     let same : length notes ≡ length (scope_entries b old.scopes) = ap length did.noted ∙ length-map (scope_entries b old.scopes) written in
     omega arith
 
--- the calls of a scope line make no enlistment and no clone
-each-ending : (o : Observed) (x : Closed) → each (λ p. is_new o p.1) (ending_calls x) ≡ true
-each-ending o (Commit t) = refl
-each-ending o (Rollback t) = refl
-each-ending o NothingToDo = refl
-
-each-begin : (o : Observed) (d : Timeout) (x : Entered) → each (λ p. is_new o p.1) (begin_calls d x) ≡ true
-each-begin o d (Made t) = refl
-each-begin o d _ = refl
-
-each-rollback : (o : Observed) (ts : List TxNo) → each (λ p. is_new o p.1) (rollbacks ts) ≡ true
-each-rollback o [] = refl
-each-rollback o (t ∷ ts) = each-rollback o ts
-
-each-opening : (o : Observed) (a : Answer) (d : Timeout) (x : Entered) → each (λ p. is_new o p.1) (opening_calls a d x) ≡ true
-each-opening o Fine d x = each-begin o d x
-each-opening o _ d x = refl
-
-each-closing : (o : Observed) (a : Answer) (x : Closed) (ts : List TxNo) → each (λ p. is_new o p.1) (closing_calls a x ts) ≡ true
-each-closing o Fine x ts = each-ending o x
-each-closing o (Nested u) x ts = each-rollback o ts
-each-closing o _ x ts = refl
-
--- each call of a scope line
-each_scope_call : (o : Observed) (b : Body) (xs : List OpenScope) → each (λ p. is_new o p.1) (scope_calls b xs) ≡ true
-each_scope_call o (Open s w) xs = each-opening o (enter_answer (option_in w) (isolation_in w) xs) (timeout_in w) (entering (option_in w) (name_in w) xs)
-each_scope_call o (Close s) xs = each-closing o (close_answer s.value xs) (closing xs) (rolled_back s.value xs)
-each_scope_call o _ xs = refl
+-- a call of a scope line is answered, makes no enlistment and no clone, and is no durable
+pub scope_call_ready : (o : Observed) (c : Call) → is_scope_call c ≡ true → IsReady o c
+scope_call_ready o (Begin t d) k = record { answered = refl; new = refl; alone = refl }
+scope_call_ready o (CommitCall t) k = record { answered = refl; new = refl; alone = refl }
+scope_call_ready o (RollbackCall t) k = record { answered = refl; new = refl; alone = refl }
+scope_call_ready o _ k = absurd (cc)
 
 -- the one call of a scope line
-pub scope_call_new : (o : Observed) (b : Body) (xs : List OpenScope) (t : TxNo) (c : Call) → (t, c) ∷ [] ≡ scope_calls b xs → is_new o c ≡ true
-scope_call_new o b xs t c e =
-    let all : (is_new o c && true) ≡ true = ap (λ (cs : List (TxNo × Call)). each (λ p. is_new o p.1) cs) e ∙ each_scope_call o b xs in
-    and_left (is_new o c) true all
+pub given_ready : (o : Observed) (b : Body) (xs : List OpenScope) (t : TxNo) (c : Call) → (t, c) ∷ [] ≡ scope_calls b xs → IsReady o c
+given_ready o b xs t c e = scope_call_ready o c (subst (λ (cs : List (TxNo × Call)). OfEach IsScopeCall cs) (sym e) (scope_calls_plain b xs)).0
 
 -- a call and the entries noted at a context are the block of the scope line
 pub noted_block : (trace new : List Placed) (n : ℕ) (a : ActorNo) (b : Body) (old after : Standing) (notes : List Entry) (x : Acted) → DoesScope b old after notes x
