@@ -21,7 +21,6 @@ fn is_run_durable(support: Support, is_second: bool) -> bool
 
 /// Whether a line of this command is run, behind lines that made durables or promotables of these transactions.
 fn is_run(body: Body, lasting: &Lasting) -> bool
-    requires { length lasting.now ≡ 257 }
     ensures { (before : List Line) → AreLasting lasting.now before → result ≡ is_run before body }
 {
     match body {
