@@ -1,15 +1,15 @@
 -- Recovery information and its bytes.
-use Rattle.std.proofs.Common.{◌≡◌, ◌≢◌, ℕ, zero, suc, ◌+◌, ◌*◌, ◌/◌, ◌%◌, ◌^◌, ◌<◌, ◌≤◌, true, List, [], ◌∷◌, ◌++◌, length, take, drop, get_or, refl, ap, sym, subst, ◌∙◌, arith, append_assoc, length-drop}
+use Rattle.std.proofs.Common.{◌≡◌, ◌≢◌, ℕ, zero, suc, ◌+◌, ◌*◌, ◌/◌, ◌%◌, ◌^◌, ◌<◌, ◌≤◌, true, List, [], ◌∷◌, ◌++◌, length, take, drop, get_or, ap, sym, subst, ◌∙◌, arith, length-drop}
 use Rattle.std.proofs.Math.Seq.{take-add}
 use Rattle.std.proofs.lemmas.Bool.Decides.{nat_tests}
-use Rattle.std.proofs.lemmas.List.{drop-drop, get_or-drop, length-take-le, take-append-drop, take_all}
+use Rattle.std.proofs.lemmas.List.{get_or-drop, length-take-le, take-append-drop, take_all}
 use Rattle.std.proofs.lemmas.Nat.{div-mul-add, mod-mul-add, from_le_bytes-to_le_bytes_4, le_bytes_4}
-use Rattle.std.specs.Int.{w32, w64, w128, from_be_bytes, from_le_bytes, to_be_bytes, to_le_bytes}
+use Rattle.std.specs.Int.{w32, w64, w128, from_be_bytes, to_be_bytes, to_le_bytes}
 use mathlib.Core.HLevel.{is_prop→PathP}
 use native.Mathlib.Bridge.{le_prop}
 use Rattle.dtx_values.specs.declared.message.Info.{Info}
 use Rattle.dtx_model.specs.RecoveryInfo.{IsInfo, count_in, enlistment_in, info_bytes, is_id, manager_in, node_in}
-use Rattle.durable_enlist.proofs.Halves.{be_bytes_16, from_be_bytes-to_be_bytes_16, from_halves, half_small, to_halves}
+use Rattle.durable_enlist.proofs.Halves.{be_bytes_16, from_be_bytes-to_be_bytes_16, from_halves, half_small}
 
 -- each item is a byte
 abbrev pub AreBytes : List ℕ → Type 0

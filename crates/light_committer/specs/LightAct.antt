@@ -1,9 +1,8 @@
 -- What the light committer does behind the seal.
-use Rattle.std.specs.Prelude.{Bool, true, false, ◌||◌, not, nat_le, List, Option, Some, None, if◌then◌else◌}
+use Rattle.std.specs.Prelude.{Bool, ◌||◌, not, List, Option, Some, None, if◌then◌else◌}
 use Rattle.dtx_values.specs.declared.number.EnlNo.{EnlNo}
-use Rattle.dtx_values.specs.Table.{Enlistment, how_many}
-use Rattle.dtx_model.specs.Words.{each}
-use Rattle.dtx_model.specs.Owners.{is_lasting, owner_of}
+use Rattle.dtx_values.specs.Table.{Enlistment}
+use Rattle.dtx_model.specs.Owners.{owner_of}
 use Rattle.dtx_model.specs.Steps.{all_voted}
 use Rattle.light_committer.specs.declared.decision.LightAct.{LightAct}
 use Rattle.light_committer.specs.declared.decision.LightAct.TheVariants.{Nothing, HandTo, CommitNow}

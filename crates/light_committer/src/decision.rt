@@ -7,8 +7,8 @@ ghost use Rattle.dtx_model.specs.Steps.{all_voted, is_evident, lost_outcome, vot
 ghost use Rattle.light_committer.specs.declared.decision.LightAct.TheVariants.{CommitNow};
 ghost use Rattle.light_committer.specs.LightAct.{light_act};
 
-use durable_enlist::owner_of;
 use dtx_values::{Class, EnlNo, Outcome, Row};
+use durable_enlist::owner_of;
 use enlist_table::EnlistTable;
 
 /// What is done with the commit of a transaction that is sealed and isn't promoted.
@@ -53,6 +53,5 @@ pub fn owner_lost(handed: bool) -> Outcome
 fn all_voted(rows: &[(EnlNo, Row)]) -> bool
     ensures { result ≡ all_voted rows.now }
 {
-    rows.iter()
-        .all(|x| !matches!(x.1.class, Class::Zero | Class::One) || x.1.vote.is_some())
+    rows.iter().all(|x| !matches!(x.1.class, Class::Zero | Class::One) || x.1.vote.is_some())
 }

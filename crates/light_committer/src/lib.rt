@@ -2,7 +2,7 @@
 #![tactic(auto)]
 
 mod decision;
-
-
+#[cfg(test)]
+mod tests;
 
 pub use decision::{LightAct, decide, owner_lost};

@@ -1,5 +1,5 @@
 -- The local side of a transaction.
-use Rattle.std.specs.Prelude.{ℕ, ◌≡◌, ◌&&◌, ◌||◌, Bool, true, false, not, List, Option, Some, None}
+use Rattle.std.specs.Prelude.{◌≡◌, ◌&&◌, ◌||◌, Bool, true, false, not, List, Option, Some, None}
 use Rattle.dtx_values.specs.declared.call.Call.{Call}
 use Rattle.dtx_values.specs.declared.call.Call.TheVariants.{Durable, Marshal, Await, Do, Lose, Gone, Reenlist, Recovered}
 use Rattle.dtx_values.specs.declared.entry.Entry.{Entry}

@@ -1,5 +1,5 @@
 use Rattle.std.proofs.Common.{◌≡◌, ◌||◌, not, true, ap, arith, length, subst, sym, ◌∙◌}
-use Rattle.dtx_values.specs.Table.{Enlistment, fresh_row, marks, number_of}
+use Rattle.dtx_values.specs.Table.{fresh_row, marks, number_of}
 use Rattle.dtx_model.specs.Entries.{is_volatile}
 use Rattle.dtx_model.specs.Observed.{listener_number}
 use Rattle.dtx_model.specs.Owners.{is_lasting}
