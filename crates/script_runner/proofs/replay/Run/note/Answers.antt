@@ -1,11 +1,9 @@
-use Rattle.std.proofs.Common.{◌≡◌, ◌-◌, ◌++◌, ◌∷◌, [], List, ap, arith, length, refl, set, subst, sym, ◌∙◌}
+use Rattle.std.proofs.Common.{◌≡◌, ◌-◌, ◌∷◌, List, ap, arith, length, refl, set, subst, sym, ◌∙◌}
 use Rattle.std.proofs.Math.ListN.{length-set}
-use Rattle.dtx_values.specs.declared.entry.Entry.TheVariants.{Called}
 use Rattle.dtx_values.specs.declared.scope.OpenScope.{OpenScope}
-use Rattle.dtx_values.specs.declared.trace.Place.TheVariants.{Context}
 use Rattle.dtx_model.specs.Contexts.{scope_block, scope_calls, scope_entries}
 use Rattle.dtx_model.specs.Scopes.{ScopeEntry, open_scopes}
-use Rattle.dtx_model.specs.Replay.{Placed, noted}
+use Rattle.dtx_model.specs.Replay.{noted}
 use Rattle.dtx_model.specs.Words.{onto, past_of}
 use Rattle.script_runner.specs.Running.{Running}
 use Rattle.script_runner.specs.Scoped.{AreOpen, DoesScope, calls_given, rolled_in, scopes_at, scopes_in}
