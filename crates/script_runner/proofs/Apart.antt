@@ -1,25 +1,23 @@
 -- Each enlistment has one row, and it is found by its number.
-use Rattle.std.proofs.Common.{◌≡◌, ℕ, zero, suc, ◌==◌, Bool, true, false, ◌&&◌, ◌||◌, not, List, [], ◌∷◌, map, find, is_some, Some, slice_get, refl, ap, sym, ◌∙◌, subst}
+use Rattle.std.proofs.Common.{◌≡◌, ℕ, zero, suc, ◌==◌, Bool, true, false, ◌&&◌, not, List, [], ◌∷◌, map, find, is_some, Some, slice_get, refl, ap, ◌∙◌}
 use Rattle.std.specs.Prelude.{nat_lt, if◌then◌else◌}
 use Rattle.dtx_values.specs.declared.call.Call.{Call}
 use Rattle.dtx_values.specs.declared.call.Call.TheVariants.{Begin, Volatile, Durable, Promotable, Clone, Complete, Commit, Rollback, Tick, Gone}
-use Rattle.dtx_values.specs.declared.entry.Answer.{Answer}
 use Rattle.dtx_values.specs.declared.entry.Ask.TheVariants.{Prepare}
 use Rattle.dtx_values.specs.declared.entry.Entry.{Entry}
 use Rattle.dtx_values.specs.declared.entry.Entry.TheVariants.{Asked, CommitAsked, Enlisted, Voted}
 use Rattle.dtx_values.specs.declared.number.ActorNo.{ActorNo}
 use Rattle.dtx_values.specs.declared.number.EnlNo.{EnlNo}
-use Rattle.dtx_values.specs.declared.script.Line.{Line}
 use Rattle.dtx_values.specs.declared.words.Class.{Class}
 use Rattle.dtx_values.specs.declared.words.Class.TheVariants.{DurableSingle, Promotable as PromotableClass}
 use Rattle.dtx_values.specs.Clones.{is_open_rollback}
 use Rattle.dtx_values.specs.Table.{Enlistment, fresh_row, insert_by, is_of, mark_row, marks, number_of, vote_row, with_row}
 use Rattle.dtx_model.specs.Caused.{is_new}
-use Rattle.dtx_model.specs.Observed.{Observed, observe, rows}
+use Rattle.dtx_model.specs.Observed.{observe, rows}
 use Rattle.dtx_model.specs.Steps.{Step, Calls, answer, block, class_of, decided_if, facts, facts_if, gone_facts, is_done, is_handed, is_late, lost_outcome, reaches, tick_facts, ticked, time_up, veto_if, voted}
 use Rattle.dtx_model.specs.Words.{each, has, onto}
 use Rattle.dtx_model.proofs.Bools.{and_both, and_left, and_right, not_false, not_true, or_false, or_first, or_right, or_second}
-use Rattle.outcome_law.proofs.Lists.{has-insert, has_kept, if_kept}
+use Rattle.outcome_law.proofs.Lists.{has-insert, has_kept}
 use Rattle.outcome_law.proofs.Pending.{block_plain, decided_plain, is_no_call, is_plain, time_plain, veto_plain}
 use Rattle.outcome_law.proofs.Scans.{each_more}
 use Rattle.outcome_law.proofs.Tests.{eq_self, eq_swap}

@@ -20,7 +20,7 @@ use Rattle.dtx_model.specs.Observed.{Observed, hear, track, track_all}
 use Rattle.dtx_model.specs.Outcome.{is_empty}
 use Rattle.dtx_model.specs.Owners.{owner_of}
 use Rattle.dtx_model.specs.Steps.{Step, Acts, Replies, act_by, act_entries, act_if, all_voted, before_seal, behind_seal, block, commit_act, due_note, due_replies, is_gone, is_handed, is_no, is_to_tell, open_note, owner_reply, pending, planned_owner, planned_reply, planned_vote, reply_entries, tell, undecided_act, veto_if, vote_reply}
-use Rattle.dtx_model.proofs.Bools.{and_left, and_right, and_both, or_first, or_right}
+use Rattle.dtx_model.proofs.Bools.{and_left, and_right, and_both, or_right}
 use Rattle.outcome_law.proofs.Tests.{eq_self}
 use Rattle.outcome_law.proofs.TableRows.{there}
 use Rattle.script_runner.proofs.Counting.{falls, find-passes, has-found, has-more, how_many-map-le, how_many-map-lt}

@@ -17,11 +17,10 @@ use Rattle.dtx_values.specs.declared.script.Body.{Body}
 use Rattle.dtx_values.specs.declared.script.Body.TheVariants.{Open, Finish, Close, Current}
 use Rattle.dtx_values.specs.declared.script.Line.{Line}
 use Rattle.dtx_model.specs.Words.{has, each, always, onto, past_of, put}
-use Rattle.dtx_model.specs.Observed.{Observed, observe}
 use Rattle.dtx_model.specs.Scopes.{ScopeEntry, Opens, Finishes, Closes, close_answer, closes, complete_answer, enter_answer, entering, finishes, is_scope, open_before, open_scopes, taken_off}
 use Rattle.dtx_model.specs.Contexts.{called_with, entries_if, entries_of, isolation_in, name_in, option_in, scope_answer, scope_block, scope_calls, scope_entries, scopes_of, took_off}
 use Rattle.dtx_model.specs.Grammar.{OfScope, are_named_well, is_made, is_named_well, makes, opening_makes, same_name, uses}
-use Rattle.dtx_model.specs.Replay.{CallRan, LineRan, LinesRan, Placed, after_calls, after_scope, after_step, history, noted}
+use Rattle.dtx_model.specs.Replay.{CallRan, LineRan, LinesRan, Placed, after_calls, after_scope, after_step, noted}
 use Rattle.dtx_model.specs.Steps.{Calls, call_of, is_fine}
 use Rattle.dtx_model.proofs.Bools.{and_left, and_right, not_both, not_true, or_case, or_right}
 use Rattle.dtx_model.proofs.Histories.{onto-append}

@@ -1,5 +1,5 @@
 -- What is needed of the call of each line that is run.
-use Rattle.std.proofs.Common.{◌≡◌, ℕ, Bool, true, false, ◌&&◌, not, List, ◌∷◌, ◌++◌, Option, Some, None, refl, ap, sym, ◌∙◌, subst}
+use Rattle.std.proofs.Common.{◌≡◌, Bool, true, false, not, List, Option, Some, None, refl, ap, sym, ◌∙◌}
 use Rattle.dtx_values.specs.declared.call.Call.{Call}
 use Rattle.dtx_values.specs.declared.call.Call.TheVariants.{Durable}
 use Rattle.dtx_values.specs.declared.number.CloneNo.{CloneNo}
@@ -7,13 +7,12 @@ use Rattle.dtx_values.specs.declared.number.EnlNo.{EnlNo}
 use Rattle.dtx_values.specs.declared.number.RmNo.{RmNo}
 use Rattle.dtx_values.specs.declared.number.TxNo.{TxNo}
 use Rattle.dtx_values.specs.declared.script.Body.{Body}
-use Rattle.dtx_values.specs.declared.script.Body.TheVariants.{Begin as BeginLine, Volatile as VolatileLine, Durable as DurableLine, Promotable as PromotableLine, Clone as CloneLine, Complete as CompleteLine, Commit as CommitLine, Rollback as RollbackLine, Status as StatusLine, Await as AwaitLine, Tick as TickLine, Do as DoLine, Gone as GoneLine}
+use Rattle.dtx_values.specs.declared.script.Body.TheVariants.{Durable as DurableLine, Complete as CompleteLine, Gone as GoneLine}
 use Rattle.dtx_values.specs.declared.script.Line.{Line}
 use Rattle.dtx_values.specs.declared.script.Support.{Support}
 use Rattle.dtx_values.specs.declared.script.Support.TheVariants.{SinglePhase, TwoPhase}
-use Rattle.dtx_values.specs.Table.{Enlistment}
 use Rattle.dtx_model.specs.Caused.{is_new}
-use Rattle.dtx_model.specs.Grammar.{is_run, is_run_durable}
+use Rattle.dtx_model.specs.Grammar.{is_run}
 use Rattle.dtx_model.specs.Observed.{Observed}
 use Rattle.dtx_model.specs.Owners.{is_lasting}
 use Rattle.dtx_model.specs.Steps.{call_of, complete_call, gone_call, is_single, transaction_of, transaction_with}

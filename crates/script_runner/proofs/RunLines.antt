@@ -1,11 +1,10 @@
 -- Which lines of a script are run.
-use Rattle.std.proofs.Common.{◌≡◌, ℕ, zero, suc, ◌+◌, ◌-◌, ◌<◌, ◌≤◌, true, false, List, [], ◌∷◌, ◌++◌, length, take, get_or, slice_get, Some, None, refl, ap, sym, ◌∙◌, subst, arith}
+use Rattle.std.proofs.Common.{◌≡◌, ℕ, zero, suc, ◌+◌, ◌-◌, ◌<◌, true, false, List, [], ◌∷◌, ◌++◌, length, take, get_or, slice_get, Some, None, ap, sym, ◌∙◌, subst, arith}
 use Rattle.std.proofs.lemmas.Option.{slice_get-get_or}
 use Rattle.dtx_values.specs.declared.script.Line.{Line}
 use Rattle.dtx_model.specs.Grammar.{IsNotRun, are_run, is_run_line}
-use Rattle.dtx_model.specs.Words.{always, kth, past_of}
-use Rattle.dtx_model.proofs.Bools.{and_both}
-use Rattle.script_runner.proofs.Openings.{always-here, past_next}
+use Rattle.dtx_model.specs.Words.{kth, past_of}
+use Rattle.script_runner.proofs.Openings.{always-here}
 
 -- a list is cut at one of its items
 cut_here : {A : Type 0} (xs : List A) (i : ℕ) (x : A) → slice_get xs i ≡ Some x → (rest : List A) × (xs ≡ take i xs ++ x ∷ rest)

@@ -5,17 +5,14 @@ use Rattle.std.proofs.lemmas.List.{length-map}
 use Rattle.dtx_values.specs.declared.call.Call.{Call}
 use Rattle.dtx_values.specs.declared.call.Call.TheVariants.{Begin, Commit as CommitCall, Rollback as RollbackCall}
 use Rattle.dtx_values.specs.declared.entry.Answer.{Answer}
-use Rattle.dtx_values.specs.declared.entry.Answer.TheVariants.{Fine, Deep, Nested}
+use Rattle.dtx_values.specs.declared.entry.Answer.TheVariants.{Deep}
 use Rattle.dtx_values.specs.declared.entry.Entry.{Entry}
 use Rattle.dtx_values.specs.declared.entry.Entry.TheVariants.{Called}
 use Rattle.dtx_values.specs.declared.limits.TheConstants.{SCOPES}
 use Rattle.dtx_values.specs.declared.number.ActorNo.{ActorNo}
 use Rattle.dtx_values.specs.declared.number.ScopeNo.{ScopeNo}
 use Rattle.dtx_values.specs.declared.number.TxNo.{TxNo}
-use Rattle.dtx_values.specs.declared.scope.Closed.{Closed}
-use Rattle.dtx_values.specs.declared.scope.Closed.TheVariants.{Commit, Rollback, Nothing as NothingToDo}
 use Rattle.dtx_values.specs.declared.scope.Entered.{Entered}
-use Rattle.dtx_values.specs.declared.scope.Entered.TheVariants.{Made}
 use Rattle.dtx_values.specs.declared.scope.OpenScope.{OpenScope}
 use Rattle.dtx_values.specs.declared.script.Body.{Body}
 use Rattle.dtx_values.specs.declared.script.Body.TheVariants.{Open, Finish, Close, Current}
@@ -23,11 +20,10 @@ use Rattle.dtx_values.specs.declared.script.Opening.{Opening}
 use Rattle.dtx_values.specs.declared.trace.Place.TheVariants.{Context}
 use Rattle.dtx_values.specs.declared.words.Iso.{Iso}
 use Rattle.dtx_values.specs.declared.words.ScopeOption.{ScopeOption}
-use Rattle.dtx_values.specs.declared.words.Timeout.{Timeout}
 use Rattle.dtx_model.specs.Words.{onto, past_of}
 use Rattle.dtx_model.specs.Observed.{Observed}
-use Rattle.dtx_model.specs.Scopes.{ScopeEntry, Opens, Finishes, Closes, close_answer, closing, complete_answer, differing, enter_answer, entering, is_deep, is_scope, open_scopes, rolled_back, taken_off, unless_differing}
-use Rattle.dtx_model.specs.Contexts.{begin_calls, called_with, closing_calls, ending_calls, entries_if, isolation_in, name_in, opening_calls, option_in, scope_answer, scope_block, scope_calls, scope_entries, timeout_in, took_off, written}
+use Rattle.dtx_model.specs.Scopes.{ScopeEntry, Opens, Finishes, Closes, close_answer, complete_answer, differing, enter_answer, entering, is_deep, is_scope, open_scopes, taken_off, unless_differing}
+use Rattle.dtx_model.specs.Contexts.{called_with, entries_if, isolation_in, name_in, opening_calls, option_in, scope_answer, scope_block, scope_calls, scope_entries, timeout_in, took_off, written}
 use Rattle.dtx_model.specs.Replay.{Placed, noted}
 use Rattle.dtx_model.specs.Steps.{is_fine}
 use Rattle.dtx_model.proofs.Histories.{onto-append}
@@ -40,7 +36,7 @@ use Rattle.scope_context.specs.declared.refusal.ScopeRefusal.TheVariants.{TooDee
 use Rattle.script_runner.specs.Calling.{IsReady}
 use Rattle.script_runner.specs.declared.contexts.Acted.{Acted}
 use Rattle.script_runner.specs.declared.contexts.Gives.TheVariants.{Nothing}
-use Rattle.script_runner.specs.Scoped.{DoesScope, calls_given, refused_answer, rollbacks}
+use Rattle.script_runner.specs.Scoped.{DoesScope, calls_given, refused_answer}
 
 -- an opening that is refused has the answer of its refusal
 enter_refused : (o : ScopeOption) (i : Iso) (xs : List OpenScope) (r : ScopeRefusal) → enter_refusal o i xs ≡ Some r → enter_answer o i xs ≡ refused_answer r

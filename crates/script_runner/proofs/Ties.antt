@@ -1,5 +1,5 @@
 -- The halves of a replay stay tied to its trace.
-use Rattle.std.proofs.Common.{◌≡◌, ◌≢◌, ℕ, zero, suc, ◌+◌, ◌-◌, ◌<◌, ◌≤◌, ◌==◌, true, false, List, [], ◌∷◌, ◌++◌, length, Some, slice_get, get_or, set, refl, ap, sym, ◌∙◌, subst, arith, inl, inr}
+use Rattle.std.proofs.Common.{◌≡◌, ◌≢◌, ℕ, zero, suc, ◌+◌, ◌-◌, ◌<◌, ◌≤◌, ◌==◌, true, false, List, [], ◌∷◌, ◌++◌, length, Some, slice_get, get_or, set, refl, ap, sym, ◌∙◌, arith, inl, inr}
 use mathlib.Core.HLevel.{is_prop→PathP}
 use native.Mathlib.Bridge.{le_prop}
 use Rattle.std.proofs.lemmas.Bool.Decides.{eqb_tells}
@@ -124,7 +124,7 @@ pub blank_more : (hs : List Half) (n : ℕ) (t : TxNo) (h : Half) → length hs 
 blank_more hs n t h many number here blank u less =
     elim (eqb_tells u.value n) [
       | inl k ↦
-        let place : u.value - 1 ≡ length hs = omega (arith, many, k.1) in
-        at_end hs h [] (u.value - 1) place ∙ ap Some (here ∙ ap (λ (v : TxNo). half_of v []) (same_transaction t u (number ∙ sym k.1)))
+          let place : u.value - 1 ≡ length hs = omega (arith, many, k.1) in
+          at_end hs h [] (u.value - 1) place ∙ ap Some (here ∙ ap (λ (v : TxNo). half_of v []) (same_transaction t u (number ∙ sym k.1)))
       | inr k ↦ at_first hs (h ∷ []) (u.value - 1) (half_of u []) (blank u (omega (arith, less, k.1)))
     ]

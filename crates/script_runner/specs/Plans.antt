@@ -1,6 +1,5 @@
 -- Tables of what the lines of a script say of each enlistment and each clone, by number.
 use Rattle.std.specs.Prelude.{ℕ, ◌≡◌, ◌<◌, List, length, Option, None, slice_index_or}
-use Rattle.dtx_values.specs.declared.note.Plan.{Plan}
 use Rattle.dtx_values.specs.declared.number.TxNo.{TxNo}
 use Rattle.dtx_values.specs.declared.script.Body.{Body}
 use Rattle.dtx_values.specs.declared.script.Line.{Line}

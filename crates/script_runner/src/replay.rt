@@ -62,8 +62,8 @@ fn halves(alloc: Global) -> Result<Vec<LocalHalf>, AllocError>
     ensures { IfOk result (λ hs. AreTied hs.items []) }
 {
     let mut halves = Vec::with_capacity(alloc, TRANSACTIONS)?;
-    for n in 1..BEYOND {
-        let t = TxNo::new(n).unwrap();
+    for number in 1..BEYOND {
+        let t = TxNo::new(number).unwrap();
         halves.push_reserved(LocalHalf::new(alloc, t)?);
     }
     Ok(halves)

@@ -115,30 +115,29 @@ const OWNER_RUNS: [(&str, &str); 6] = [
     ),
 ];
 
-/// Runs a script that is read and written in pieces of this size, and compares the whole text of its trace.
+/// Runs a script that is read and written in pieces of several sizes, and compares the whole text of its trace.
 fn has_its_trace(
     rt: &impl Abort,
     alloc: Global,
     script: &str,
     trace: &str,
-    piece: usize,
 ) -> Result<(), AllocError> {
     let words = replay(alloc)?;
-    let bytes = Vec::from_slice(alloc, script.as_bytes())?;
-    let mut source = MemSource::new(bytes, piece, Vec::new(alloc));
-    let mut sink = MemSink::new(alloc, piece, Vec::new(alloc));
-    let exit = run_program(alloc, &words, &mut source, &mut sink);
-    assert_eq!(rt; exit, Exit::Fine, "at {script}");
-    assert!(rt; sink.bytes() == trace.as_bytes(), "at {script}");
+    for piece in [1, 7, 100_000] {
+        let bytes = Vec::from_slice(alloc, script.as_bytes())?;
+        let mut source = MemSource::new(bytes, piece, Vec::new(alloc));
+        let mut sink = MemSink::new(alloc, piece, Vec::new(alloc));
+        let exit = run_program(alloc, &words, &mut source, &mut sink);
+        assert_eq!(rt; exit, Exit::Fine, "at {script}");
+        assert!(rt; sink.bytes() == trace.as_bytes(), "at {script}");
+    }
     Ok(())
 }
 
 #[test]
 fn scripts_have_their_traces(rt: HostRuntime) -> Result<(), Fail> {
     for (script, trace) in RUNS {
-        for piece in [1, 7, 100_000] {
-            has_its_trace(&rt, rt.alloc(), script, trace, piece)?;
-        }
+        has_its_trace(&rt, rt.alloc(), script, trace)?;
     }
     Ok(())
 }
@@ -146,7 +145,7 @@ fn scripts_have_their_traces(rt: HostRuntime) -> Result<(), Fail> {
 #[test]
 fn scripts_of_scopes_have_their_traces(rt: HostRuntime) -> Result<(), Fail> {
     for (script, trace) in SCOPE_RUNS {
-        has_its_trace(&rt, rt.alloc(), script, trace, 100_000)?;
+        has_its_trace(&rt, rt.alloc(), script, trace)?;
     }
     Ok(())
 }
@@ -154,7 +153,7 @@ fn scripts_of_scopes_have_their_traces(rt: HostRuntime) -> Result<(), Fail> {
 #[test]
 fn scripts_of_owners_have_their_traces(rt: HostRuntime) -> Result<(), Fail> {
     for (script, trace) in OWNER_RUNS {
-        has_its_trace(&rt, rt.alloc(), script, trace, 100_000)?;
+        has_its_trace(&rt, rt.alloc(), script, trace)?;
     }
     Ok(())
 }

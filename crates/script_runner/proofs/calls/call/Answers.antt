@@ -1,10 +1,9 @@
-use Rattle.std.proofs.Common.{◌≡◌, ◌∷◌, [], List, ap, sym, ◌∙◌}
+use Rattle.std.proofs.Common.{◌∷◌, [], List, ap, ◌∙◌}
 use Rattle.dtx_values.specs.Outgoing.{with}
-use Rattle.dtx_values.specs.declared.call.Call.{Call}
 use Rattle.dtx_values.specs.declared.entry.Answer.{Answer}
 use Rattle.dtx_values.specs.declared.entry.Entry.{Entry}
 use Rattle.dtx_values.specs.declared.entry.Entry.TheVariants.{Called}
-use Rattle.dtx_model.specs.Steps.{Calls, behind_begin, block}
+use Rattle.dtx_model.specs.Steps.{behind_begin}
 use Rattle.local_half.specs.Half.{after}
 use Rattle.script_runner.proofs.Calling.{answers_itself, await_block, called_alone, do_block, gone_block, own_block}
 use Rattle.script_runner.proofs.calls.call.Goals as goal

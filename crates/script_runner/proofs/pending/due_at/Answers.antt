@@ -1,8 +1,4 @@
-use Rattle.std.proofs.Common.{◌≡◌, ◌+◌, ◌<◌, ◌∷◌, List, Option, None, Some, drop, length, get_or, slice_get, ap, sym, subst, ◌∙◌, arith}
-use Rattle.std.proofs.lemmas.List.{drop_more}
-use Rattle.std.proofs.lemmas.Option.{slice_get-get_or}
-use Rattle.dtx_values.specs.declared.note.Reply.{Reply}
-use Rattle.dtx_values.specs.Table.{Enlistment}
+use Rattle.std.proofs.Common.{ap, sym, subst, ◌∙◌, arith}
 use Rattle.dtx_model.specs.Steps.{Replies, due_reply, planned_reply, reply_step}
 use Rattle.script_runner.proofs.DueReplies.{IsPassed, due_here, passed-more, passed-same, reply_here}
 use Rattle.script_runner.proofs.pending.due_at.Goals as goal

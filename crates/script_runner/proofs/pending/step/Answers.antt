@@ -1,7 +1,4 @@
-use Rattle.std.proofs.Common.{◌≡◌, ◌≢◌, ◌-◌, ◌+◌, Some, slice_get, length, true, false, is_some, refl, ap, subst, arith, sym, ◌∙◌}
-use Rattle.dtx_model.specs.Steps.{Replies, due_replies}
-use Rattle.script_runner.specs.Pending.{IsDueAt}
-use Rattle.script_runner.specs.declared.pending.Due.{Due}
+use Rattle.std.proofs.Common.{◌≡◌, ◌-◌, true, is_some, sym, ◌∙◌}
 use Rattle.script_runner.proofs.DueReplies.{due_answers, reply_due}
 use Rattle.script_runner.proofs.Kth.{after-none, beyond_act, does_act, does_reply, no_act}
 use Rattle.script_runner.proofs.pending.step.Goals as goal

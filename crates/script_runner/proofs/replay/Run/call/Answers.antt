@@ -1,6 +1,6 @@
-use Rattle.std.proofs.Common.{◌≡◌, ◌++◌, true, ap, refl, subst, sym, ◌∙◌}
+use Rattle.std.proofs.Common.{◌≡◌, ◌++◌, true, refl, subst, sym}
 use Rattle.dtx_model.specs.Caused.{is_new}
-use Rattle.dtx_model.specs.Observed.{Observed, observe}
+use Rattle.dtx_model.specs.Observed.{observe}
 use Rattle.dtx_model.specs.Replay.{after_step, history, placed}
 use Rattle.dtx_model.specs.Steps.{Calls, block}
 use Rattle.dtx_model.specs.Words.{past_of}
@@ -24,9 +24,11 @@ invariant_of-self-2 c =
     let written : c.append.new.trace.items ≡ c.self.inside.trace.items ++ placed c.args.t (block h.seen step) =
     rw (c.append.ensures, c.entries.ensures.value, c.call.ensures.out, c.clear.ensures, c.reserve.ensures.items) refl in
     let fresh : is_new (observe (history c.args.t.value (past_of c.self.inside.trace.items))) c.args.c.now ≡ true =
-    subst (λ (r : Running). is_new (observe (history c.args.t.value (past_of r.trace))) c.args.c.now ≡ true) (sym c.self.view_is) c.requires.new in
-    (rw c.get.ensures.value
-    (tied_call _ c.self.inside.trace.items _ c.args.t h _ c.args.n c.args.actor c.args.c.now c.args.done c.self.invariant.0 (rw c.get.ensures.value at c.index_mut-half.ensures.value) fresh c.call.ensures.state written), c.self.invariant.1)
+    subst (λ (r : Running). is_new (observe (history c.args.t.value (past_of r.trace))) c.args.c.now ≡ true) (sym c.self.view_is) c.requires.new in (
+      rw c.get.ensures.value
+          (tied_call _ c.self.inside.trace.items _ c.args.t h _ c.args.n c.args.actor c.args.c.now c.args.done c.self.invariant.0 (rw c.get.ensures.value at c.index_mut-half.ensures.value) fresh c.call.ensures.state written),
+      c.self.invariant.1,
+    )
 
 pub returns-clause-done : goal.returns-clause-done
 returns-clause-done c =

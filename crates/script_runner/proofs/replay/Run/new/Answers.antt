@@ -1,8 +1,6 @@
-use Rattle.std.proofs.Common.{List, ap, length, subst, sym, ◌∙◌}
+use Rattle.std.proofs.Common.{ap, length, ◌∙◌}
 use Rattle.std.proofs.lemmas.List.{length-replicate}
-use Rattle.dtx_model.specs.Replay.{Placed}
 use Rattle.scope_context.specs.Standing.{Standing}
-use Rattle.script_runner.specs.Running.{AreTied}
 use Rattle.script_runner.specs.Scoped.{nothing_open}
 use Rattle.script_runner.proofs.replay.Run.new.Goals as goal
 

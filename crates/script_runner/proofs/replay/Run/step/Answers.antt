@@ -16,9 +16,11 @@ invariant_of-self-2 c =
     let h = c.index_mut-half.result.now in
     let did = c.step.ensures.some c.if-not-step.false in
     let written : c.append.new.trace.items ≡ c.self.inside.trace.items ++ placed c.args.t (block h.seen did.step) =
-    rw (c.append.ensures, c.entries.ensures.value, did.written, c.clear.ensures, c.reserve.ensures.items) refl in
-    (rw c.get.ensures.value
-    (tied_step c.self.inside.plans _ c.self.inside.trace.items _ c.args.t h _ c.args.k did.step c.self.invariant.0 (rw c.get.ensures.value at c.index_mut-half.ensures.value) did.stands did.state written), c.self.invariant.1)
+    rw (c.append.ensures, c.entries.ensures.value, did.written, c.clear.ensures, c.reserve.ensures.items) refl in (
+      rw c.get.ensures.value
+          (tied_step c.self.inside.plans _ c.self.inside.trace.items _ c.args.t h _ c.args.k did.step c.self.invariant.0 (rw c.get.ensures.value at c.index_mut-half.ensures.value) did.stands did.state written),
+      c.self.invariant.1,
+    )
 
 pub returns-clause-some : goal.returns-clause-some
 returns-clause-some c k =
