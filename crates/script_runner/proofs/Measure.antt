@@ -1,14 +1,16 @@
 -- How many steps of a transaction can still come: each pending step makes it less.
-use Rattle.std.proofs.Common.{◌≡◌, ℕ, zero, suc, ◌+◌, ◌<◌, ◌≤◌, ◌==◌, Bool, true, false, ◌&&◌, ◌||◌, not, List, [], ◌∷◌, ◌++◌, find, Option, Some, None, is_some, if◌then◌else◌, slice_get, refl, sym, subst, arith, ◌⊎◌, inl, inr}
-use Rattle.std.specs.List.{cons_option, filter_map}
-use Rattle.std.proofs.lemmas.Bool.Decides.{Decides-eqb}
+use Rattle.std.proofs.Common.{◌≡◌, ℕ, zero, suc, ◌+◌, ◌<◌, ◌≤◌, ◌==◌, Bool, true, false, ◌&&◌, ◌||◌, not, List, [], ◌∷◌, ◌++◌, find, Option, Some, None, is_some, if◌then◌else◌, slice_get, refl, ap, sym, ◌∙◌, subst, arith, ◌⊎◌, inl, inr}
 use Rattle.dtx_values.specs.declared.number.EnlNo.{EnlNo}
 use Rattle.dtx_values.specs.declared.entry.Ask.TheVariants.{Prepare}
 use Rattle.dtx_values.specs.declared.entry.Entry.{Entry}
-use Rattle.dtx_values.specs.declared.entry.Entry.TheVariants.{Asked, Decided, Sealed, Voted}
-use Rattle.dtx_values.specs.declared.note.Reply.TheVariants.{Vote as VoteReply}
+use Rattle.dtx_values.specs.declared.entry.Entry.TheVariants.{Asked, Decided, Handed, OwnerAnswered, Sealed, Voted}
+use Rattle.dtx_values.specs.declared.note.Note.{Note}
+use Rattle.dtx_values.specs.declared.note.Note.TheVariants.{Prepare as PrepareNote, Hand as HandNote}
+use Rattle.dtx_values.specs.declared.note.Reply.{Reply}
+use Rattle.dtx_values.specs.declared.note.Reply.TheVariants.{Vote as VoteReply, Owner as OwnerReply}
 use Rattle.dtx_values.specs.declared.script.Line.{Line}
 use Rattle.dtx_values.specs.declared.words.Outcome.{Outcome}
+use Rattle.dtx_values.specs.declared.words.Outcome.TheVariants.{Committed}
 use Rattle.dtx_values.specs.declared.words.Vote.{Vote}
 use Rattle.dtx_values.specs.Table.{Enlistment, has_voted, how_many, is_marked, is_of, mark_row, marks, unless_there, vote_row, voted_before, with_vote}
 use Rattle.dtx_model.specs.declared.listener.Listener.{Listener}
@@ -16,9 +18,13 @@ use Rattle.dtx_model.specs.Words.{has, kth}
 use Rattle.dtx_model.specs.Waves.{is_class, is_over, may_be_asked, name_of, next_ask}
 use Rattle.dtx_model.specs.Observed.{Observed, hear, track, track_all}
 use Rattle.dtx_model.specs.Outcome.{is_empty}
-use Rattle.dtx_model.specs.Steps.{Step, Acts, Replies, act_by, act_entries, act_if, all_voted, before_seal, behind_seal, block, due_replies, due_reply, is_no, is_to_tell, pending, planned_vote, tell, undecided_act, veto_if, vote_step}
+use Rattle.dtx_model.specs.Owners.{owner_of}
+use Rattle.dtx_model.specs.Steps.{Step, Acts, Replies, act_by, act_entries, act_if, all_voted, before_seal, behind_seal, block, commit_act, due_note, due_replies, is_gone, is_handed, is_no, is_to_tell, open_note, owner_reply, pending, planned_owner, planned_reply, planned_vote, reply_entries, tell, undecided_act, veto_if, vote_reply}
 use Rattle.dtx_model.proofs.Bools.{and_left, and_right, and_both, or_right}
+use Rattle.outcome_law.proofs.Tests.{eq_self}
+use Rattle.outcome_law.proofs.TableRows.{there}
 use Rattle.script_runner.proofs.Counting.{falls, find-passes, has-found, has-more, how_many-map-le, how_many-map-lt}
+use Rattle.script_runner.proofs.DueReplies.{IsDue, is_reply, reply_due}
 
 -- tests that tell an item that still has a step from one that hasn't
 abbrev pub unmarked : Enlistment → Bool
@@ -34,16 +40,11 @@ abbrev pub one_unless : Bool → ℕ
 one_unless true = 0
 one_unless false = 1
 
--- the asks, votes and notifications that can still come, the seal, the decision, and the client's notification
+-- the asks, votes and notifications that can still come, the seal, the handing, the decision, and the client's notification
 unfoldable pub steps_left : Observed → ℕ
 steps_left o =
-    how_many unmarked o.table + how_many unvoted o.table + how_many untold o.listeners + one_unless o.sealed + one_unless (is_some o.decided)
-    + one_unless (is_some o.told_client)
-
--- what stands or is put there is there
-there : {A : Type 0} (o : Option A) (x : A) → is_some (unless_there o x) ≡ true
-there (Some y) x = refl
-there None x = refl
+    how_many unmarked o.table + how_many unvoted o.table + how_many untold o.listeners + one_unless o.sealed + one_unless (is_some o.handed)
+    + one_unless (is_some o.decided) + one_unless (is_some o.told_client)
 
 -- one more mark
 abbrev pub mark : ℕ → ℕ → Enlistment → Enlistment
@@ -99,10 +100,6 @@ cast_falls e v x k =
     let here : is_of e x ≡ true = and_left (is_of e x) (unvoted x) k in
     rw (here, there x.1.vote v) (and_both (unvoted x) true (and_right (is_of e x) (unvoted x) k) refl)
 
--- a number is equal to itself
-same_number : (n : ℕ) → (n == n) ≡ true
-same_number n = (Decides-eqb n n).1 refl
-
 -- the next that is asked has a row without a mark
 pub asked_unmarked : (xs : List Enlistment) (z : Bool) (e : EnlNo) → next_ask xs z ≡ Some e → has (λ x. is_of e.value x && unmarked x) xs ≡ true
 unfolding next_ask
@@ -114,30 +111,7 @@ asked_unmarked xs z e k = step (find (may_be_asked xs z) xs) refl k
         let same : x.0 ≡ e = cc in
         let passes = find-passes (may_be_asked xs z) x xs f in
         let none : unmarked x ≡ true = and_right (is_class z x.1.class) (unmarked x) (and_left (is_class z x.1.class && unmarked x) (not z || voted_before x.1.added xs) passes) in
-        has-found (may_be_asked xs z) (λ y. is_of e.value y && unmarked y) x xs f (rw (← same) (and_both (x.0.value == x.0.value) (unmarked x) (same_number x.0.value) none))
-
--- the reply of a row that is marked and hasn't voted
-abbrev pub IsReplyOf : List Enlistment → Step → Type 0
-IsReplyOf xs step = (e : EnlNo) × (v : Vote) × (step ≡ Replies e (VoteReply v)) × (has (λ x. is_of e.value x && (is_marked x && unvoted x)) xs ≡ true)
-
--- each reply that is due is of such a row
-pub reply_at : (s : List Line) (xs : List Enlistment) (k : ℕ) (step : Step) → slice_get (filter_map (due_reply s) xs) k ≡ Some step → IsReplyOf xs step
-reply_at s [] k step e = absurd (cc)
-reply_at s (x ∷ xs) k step e = go (is_marked x && not (has_voted x)) (planned_vote s x.0.value) refl e (λ j f. reply_at s xs j step f)
-  where
-    later : IsReplyOf xs step → IsReplyOf (x ∷ xs) step
-    later i = (i.0, i.1, i.2, or_right (is_of i.0.value x && (is_marked x && unvoted x)) _ i.3)
-
-    first : (v : Vote) (j : ℕ) → (is_marked x && not (has_voted x)) ≡ true → slice_get (Replies x.0 (VoteReply v) ∷ filter_map (due_reply s) xs) j ≡ Some step
-        → ((j : ℕ) → slice_get (filter_map (due_reply s) xs) j ≡ Some step → IsReplyOf xs step) → IsReplyOf (x ∷ xs) step
-    first v zero b e ih = let same : step ≡ Replies x.0 (VoteReply v) = cc in (x.0, v, same, rw (same_number x.0.value, b) refl)
-    first v (suc j) b e ih = later (ih j e)
-
-    go : (b : Bool) (p : Option Vote) → (is_marked x && not (has_voted x)) ≡ b → slice_get (cons_option (vote_step b x.0 p) (filter_map (due_reply s) xs)) k ≡ Some step
-        → ((j : ℕ) → slice_get (filter_map (due_reply s) xs) j ≡ Some step → IsReplyOf xs step) → IsReplyOf (x ∷ xs) step
-    go true (Some v) b e ih = first v k b e ih
-    go true None b e ih = later (ih k e)
-    go false p b e ih = later (ih k e)
+        has-found (may_be_asked xs z) (λ y. is_of e.value y && unmarked y) x xs f (rw (← same) (and_both (x.0.value == x.0.value) (unmarked x) (eq_self x.0.value) none))
 
 -- one less for the decision, or as many
 decision_le : (d : Option Outcome) (b : Bool) (x : Outcome) → one_unless (is_some (if b then Some x else d)) ≤ one_unless (is_some d)
@@ -173,13 +147,13 @@ steps_left-asked o e k =
     omega arith
 
 -- somebody is told
-pub steps_left-tell : (o : Observed) (x : Outcome) (l : Option Listener) (t : Option Outcome) → find (is_to_tell o.table) o.listeners ≡ l → o.told_client ≡ t
+pub steps_left-tell : (o : Observed) (x : Outcome) (l : Option Listener) (t : Option Outcome) → find (is_to_tell o x) o.listeners ≡ l → o.told_client ≡ t
     → not (is_empty (tell x l t)) ≡ true → steps_left (track_all o (tell x l t)) < steps_left o
 unfolding steps_left track track_all
 steps_left-tell o x (Some l) t f d k =
-    let untold_now : untold l ≡ true = and_left (untold l) _ (find-passes (is_to_tell o.table) l o.listeners f) in
-    let falls_now : falls untold (hear l.enlistment.value) l ≡ true = rw (same_number l.enlistment.value) (and_both (untold l) true untold_now refl) in
-    let tells = how_many-map-lt untold (hear l.enlistment.value) (hear_keeps l.enlistment.value) o.listeners (has-found (is_to_tell o.table) (falls untold (hear l.enlistment.value)) l o.listeners f falls_now) in
+    let untold_now : untold l ≡ true = and_left (untold l) _ (find-passes (is_to_tell o x) l o.listeners f) in
+    let falls_now : falls untold (hear l.enlistment.value) l ≡ true = rw (eq_self l.enlistment.value) (and_both (untold l) true untold_now refl) in
+    let tells = how_many-map-lt untold (hear l.enlistment.value) (hear_keeps l.enlistment.value) o.listeners (has-found (is_to_tell o x) (falls untold (hear l.enlistment.value)) l o.listeners f falls_now) in
     omega arith
 steps_left-tell o x None (Some y) f d k = absurd (cc)
 steps_left-tell o x None None f d k = rw d (omega arith)
@@ -194,26 +168,87 @@ pub steps_left-decided : (o : Observed) (x : Outcome) → o.decided ≡ None →
 unfolding steps_left track track_all
 steps_left-decided o x n = rw n (omega arith)
 
+-- the handing of the commit
+steps_left-handed : (o : Observed) (e : EnlNo) → is_some o.handed ≡ false → steps_left (track_all o (Handed e ∷ [])) < steps_left o
+unfolding steps_left track track_all
+steps_left-handed o e n = rw n (omega arith)
+
+-- the owner's answer, which decides
+steps_left-owned : (o : Observed) (e : EnlNo) (x : Outcome) → o.decided ≡ None → steps_left (track_all o (OwnerAnswered e x ∷ Decided x ∷ [])) < steps_left o
+unfolding steps_left track track_all
+steps_left-owned o e x n = rw n (omega arith)
+
+-- the handing of the commit, or its decision
+steps_left-commit : (o : Observed) (handed : Bool) (owner : Option EnlNo) → is_some o.handed ≡ handed → o.decided ≡ None → not (is_empty (commit_act handed owner)) ≡ true
+    → steps_left (track_all o (commit_act handed owner)) < steps_left o
+steps_left-commit o true owner h d k = absurd (cc)
+steps_left-commit o false (Some e) h d k = steps_left-handed o e h
+steps_left-commit o false None h d k = steps_left-decided o Committed d
+
 -- the local act while nothing is decided
-pub steps_left-open : (o : Observed) (commit sealed : Bool) (p q : Option EnlNo) (over voted : Bool) → o.sealed ≡ sealed → o.decided ≡ None → next_ask o.table true ≡ p
-    → next_ask o.table false ≡ q → not (is_empty (undecided_act commit sealed (before_seal p over) (behind_seal q voted))) ≡ true
-    → steps_left (track_all o (undecided_act commit sealed (before_seal p over) (behind_seal q voted))) < steps_left o
-steps_left-open o false sealed p q over voted n d z u k = absurd (cc)
-steps_left-open o true false (Some e) q over voted n d z u k = steps_left-asked o e (asked_unmarked o.table true e z)
-steps_left-open o true false None q true voted n d z u k = steps_left-sealed o n
-steps_left-open o true false None q false voted n d z u k = absurd (cc)
-steps_left-open o true true p (Some e) over voted n d z u k = steps_left-asked o e (asked_unmarked o.table false e u)
-steps_left-open o true true p None over true n d z u k = steps_left-decided o _ d
-steps_left-open o true true p None over false n d z u k = absurd (cc)
+steps_left-open : (o : Observed) (commit sealed : Bool) (p q : Option EnlNo) (over voted : Bool) (es : List Entry) → o.sealed ≡ sealed → next_ask o.table true ≡ p
+    → next_ask o.table false ≡ q → (not (is_empty es) ≡ true → steps_left (track_all o es) < steps_left o) → not (is_empty (undecided_act commit sealed (before_seal p over) (behind_seal q voted es))) ≡ true
+    → steps_left (track_all o (undecided_act commit sealed (before_seal p over) (behind_seal q voted es))) < steps_left o
+steps_left-open o false sealed p q over voted es n z u less k = absurd (cc)
+steps_left-open o true false (Some e) q over voted es n z u less k = steps_left-asked o e (asked_unmarked o.table true e z)
+steps_left-open o true false None q true voted es n z u less k = steps_left-sealed o n
+steps_left-open o true false None q false voted es n z u less k = absurd (cc)
+steps_left-open o true true p (Some e) over voted es n z u less k = steps_left-asked o e (asked_unmarked o.table false e u)
+steps_left-open o true true p None over true es n z u less k = less k
+steps_left-open o true true p None over false es n z u less k = absurd (cc)
 
 -- the local act
-pub steps_left-act : (o : Observed) (d : Option Outcome) → o.decided ≡ d → not (is_empty (act_by d o)) ≡ true → steps_left (track_all o (act_by d o)) < steps_left o
-steps_left-act o (Some x) d k = steps_left-tell o x (find (is_to_tell o.table) o.listeners) o.told_client refl refl k
+steps_left-act : (o : Observed) (d : Option Outcome) → o.decided ≡ d → not (is_empty (act_by d o)) ≡ true → steps_left (track_all o (act_by d o)) < steps_left o
+steps_left-act o (Some x) d k = steps_left-tell o x (find (is_to_tell o x) o.listeners) o.told_client refl refl k
 steps_left-act o None d k =
-    steps_left-open o o.commit o.sealed (next_ask o.table true) (next_ask o.table false) (is_over o.table o.clones 0) (all_voted o.table) refl d refl refl k
+    steps_left-open o o.commit o.sealed (next_ask o.table true) (next_ask o.table false) (is_over o.table o.clones 0) (all_voted o.table) (commit_act (is_some o.handed) (owner_of o.table)) refl refl refl
+    (steps_left-commit o (is_some o.handed) (owner_of o.table) refl d) k
+
+-- where a reply is due, nothing is decided
+due_undecided : (o : Observed) (x : Enlistment) (n : Note) → due_note o x ≡ Some n → o.decided ≡ None
+due_undecided o x n k = step o.decided refl (is_gone o x.0.value) k
+  where
+    step : (d : Option Outcome) → o.decided ≡ d → (lost : Bool) → (if is_some d || lost then None else open_note (is_marked x && not (has_voted x)) (is_handed o.handed x.0.value)) ≡ Some n → d ≡ None
+    step (Some y) e lost k = absurd (cc)
+    step None e lost k = refl
+
+-- where a vote is due, the row is marked and hasn't voted
+due_unvoted : (o : Observed) (x : Enlistment) → due_note o x ≡ Some PrepareNote → (is_marked x && unvoted x) ≡ true
+due_unvoted o x k = step (is_some o.decided || is_gone o x.0.value) (is_marked x && unvoted x) (is_handed o.handed x.0.value) k
+  where
+    step : (over asked handed : Bool) → (if over then None else open_note asked handed) ≡ Some PrepareNote → asked ≡ true
+    step true asked handed k = absurd (cc)
+    step false true handed k = refl
+    step false false true k = absurd (cc)
+    step false false false k = absurd (cc)
+
+-- a row at a place that passes is one that passes
+has-at : {A : Type 0} (p : A → Bool) (xs : List A) (k : ℕ) (x : A) → slice_get xs k ≡ Some x → p x ≡ true → has p xs ≡ true
+has-at p [] k x f h = absurd (cc)
+has-at p (y ∷ ys) zero x f h = let same : x ≡ y = cc in rw (← same, h) refl
+has-at p (y ∷ ys) (suc k) x f h = or_right (p y) (has p ys) (has-at p ys k x f h)
+
+-- a reply
+steps_left-replied : (s : List Line) (o : Observed) (j : ℕ) (x : Enlistment) (n : Note) (r : Reply) → slice_get o.table j ≡ Some x → due_note o x ≡ Some n → planned_reply s x.0.value (Some n) ≡ Some r
+    → steps_left (track_all o (reply_entries x.0 r)) < steps_left o
+steps_left-replied s o j x PrepareNote r stands due planned = by (planned_vote s x.0.value) planned
+  where
+    by : (v : Option Vote) → vote_reply v ≡ Some r → steps_left (track_all o (reply_entries x.0 r)) < steps_left o
+    by None k = absurd (cc)
+    by (Some v) k =
+        let some = has-at (λ y. is_of x.0.value y && (is_marked y && unvoted y)) o.table j x stands (and_both (is_of x.0.value x) (is_marked x && unvoted x) (eq_self x.0.value) (due_unvoted o x due)) in
+        let same : VoteReply v ≡ r = cc in subst (λ (y : Reply). steps_left (track_all o (reply_entries x.0 y)) < steps_left o) same (steps_left-voted o x.0 v (is_no v) some)
+steps_left-replied s o j x HandNote r stands due planned = by (planned_owner s x.0.value) planned
+  where
+    by : (y : Option Outcome) → owner_reply y ≡ Some r → steps_left (track_all o (reply_entries x.0 r)) < steps_left o
+    by None k = absurd (cc)
+    by (Some y) k =
+        let same : OwnerReply y ≡ r = cc in
+        subst (λ (z : Reply). steps_left (track_all o (reply_entries x.0 z)) < steps_left o) same (steps_left-owned o x.0 y (due_undecided o x HandNote due))
+steps_left-replied s o j x _ r stands due planned = absurd (cc)
 
 -- the item at a place of two lists together stands in one of them
-pub at_append : {A : Type 0} (xs ys : List A) (k : ℕ) (x : A) → slice_get (xs ++ ys) k ≡ Some x → ((j : ℕ) × (slice_get xs j ≡ Some x)) ⊎ ((j : ℕ) × (slice_get ys j ≡ Some x))
+at_append : {A : Type 0} (xs ys : List A) (k : ℕ) (x : A) → slice_get (xs ++ ys) k ≡ Some x → ((j : ℕ) × (slice_get xs j ≡ Some x)) ⊎ ((j : ℕ) × (slice_get ys j ≡ Some x))
 at_append [] ys k x e = inr (k, e)
 at_append (z ∷ xs) ys zero x e = inl (0, e)
 at_append (z ∷ xs) ys (suc k) x e = elim (at_append xs ys k x e) [ inl i ↦ inl (suc i.0, i.1) | inr i ↦ inr i ]
@@ -223,13 +258,18 @@ pub steps_left-pending : (s : List Line) (o : Observed) (k : ℕ) (step : Step) 
 unfolding pending block act_entries
 steps_left-pending s o zero step e = absurd (cc)
 steps_left-pending s o (suc k) step e =
-    elim (at_append (due_replies s o) (act_if (act_entries o)) k step e) [ inl i ↦ replies o.decided i.0 i.1 | inr i ↦ acts (act_entries o) refl i.0 i.1 ]
+    elim (at_append (due_replies s o) (act_if (act_entries o)) k step e) [ inl i ↦ replies i.0 step i.1 | inr i ↦ acts (act_entries o) refl i.0 i.1 ]
   where
-    replies : (d : Option Outcome) (j : ℕ) → slice_get (if is_some d then [] else filter_map (due_reply s) o.table) j ≡ Some step → steps_left (track_all o (block o step)) < steps_left o
-    replies (Some x) j e = absurd (cc)
-    replies None j e =
-        let i = reply_at s o.table j step e in
-        subst (λ (m : Step). steps_left (track_all o (block o m)) < steps_left o) (sym i.2) (steps_left-voted o i.0 i.1 (is_no i.1) i.3)
+    replied : (j : ℕ) (e : EnlNo) (r : Reply) → slice_get (due_replies s o) j ≡ Some (Replies e r) → steps_left (track_all o (reply_entries e r)) < steps_left o
+    replied j e r f =
+        let d : IsDue s o e r = reply_due s o j e r f in
+        subst (λ (g : EnlNo). steps_left (track_all o (reply_entries g r)) < steps_left o) d.of_it
+        (steps_left-replied s o d.place d.row d.note r d.stands d.due (ap (λ (g : EnlNo). planned_reply s g.value (Some d.note)) d.of_it ∙ d.planned))
+
+    replies : (j : ℕ) (m : Step) → slice_get (due_replies s o) j ≡ Some m → steps_left (track_all o (block o m)) < steps_left o
+    replies j m f =
+        let i = is_reply s o j m f in
+        subst (λ (n : Step). steps_left (track_all o (block o n)) < steps_left o) (sym i.2) (replied j i.0 i.1 (f ∙ ap Some i.2))
 
     acts : (es : List Entry) → act_entries o ≡ es → (j : ℕ) → slice_get (act_if es) j ≡ Some step → steps_left (track_all o (block o step)) < steps_left o
     acts [] e j f = absurd (cc)

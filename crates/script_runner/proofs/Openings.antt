@@ -3,13 +3,12 @@ use Rattle.std.proofs.Common.{◌≡◌, ◌≢◌, ℕ, min, suc, ◌+◌, ◌-
 use Rattle.std.specs.Prelude.{not, if◌then◌else◌}
 use Rattle.std.proofs.lemmas.Bool.Decides.{eqb_tells}
 use Rattle.std.proofs.lemmas.List.{get_or-set_same, get_or-replicate, length-replicate, length-take, map-append, take_more}
-use Rattle.std.proofs.lemmas.Option.{get_or_from_slice_get, slice_get-get_or}
+use Rattle.std.proofs.lemmas.Option.{slice_get-get_or}
 use Rattle.std.proofs.Math.ListN.{length-set}
 use Rattle.dtx_values.specs.declared.call.Call.{Call}
 use Rattle.dtx_values.specs.declared.call.Call.TheVariants.{Rollback as RollbackCall}
 use Rattle.dtx_values.specs.declared.entry.Answer.{Answer}
 use Rattle.dtx_values.specs.declared.entry.Entry.{Entry}
-use Rattle.dtx_values.specs.declared.entry.Entry.TheVariants.{Called}
 use Rattle.dtx_values.specs.declared.number.ActorNo.{ActorNo}
 use Rattle.dtx_values.specs.declared.number.ScopeNo.{ScopeNo}
 use Rattle.dtx_values.specs.declared.number.TxNo.{TxNo}
@@ -17,32 +16,21 @@ use Rattle.dtx_values.specs.declared.scope.OpenScope.{OpenScope}
 use Rattle.dtx_values.specs.declared.script.Body.{Body}
 use Rattle.dtx_values.specs.declared.script.Body.TheVariants.{Open, Finish, Close, Current}
 use Rattle.dtx_values.specs.declared.script.Line.{Line}
-use Rattle.dtx_values.specs.declared.trace.Place.TheVariants.{Context}
 use Rattle.dtx_model.specs.Words.{has, each, always, onto, past_of, put}
-use Rattle.dtx_model.specs.Observed.{Observed, observe}
 use Rattle.dtx_model.specs.Scopes.{ScopeEntry, Opens, Finishes, Closes, close_answer, closes, complete_answer, enter_answer, entering, finishes, is_scope, open_before, open_scopes, taken_off}
 use Rattle.dtx_model.specs.Contexts.{called_with, entries_if, entries_of, isolation_in, name_in, option_in, scope_answer, scope_block, scope_calls, scope_entries, scopes_of, took_off}
 use Rattle.dtx_model.specs.Grammar.{OfScope, are_named_well, is_made, is_named_well, makes, opening_makes, same_name, uses}
-use Rattle.dtx_model.specs.Replay.{CallRan, LineRan, LinesRan, Placed, after_calls, after_scope, after_step, history, noted}
+use Rattle.dtx_model.specs.Replay.{CallRan, LineRan, LinesRan, Placed, after_calls, after_scope, after_step, noted}
 use Rattle.dtx_model.specs.Steps.{Calls, call_of, is_fine}
 use Rattle.dtx_model.proofs.Bools.{and_left, and_right, not_both, not_true, or_case, or_right}
-use Rattle.dtx_model.proofs.Histories.{history-noted, onto-append}
+use Rattle.dtx_model.proofs.Histories.{onto-append}
 use Rattle.dtx_model.proofs.Prefixes.{past-more}
 use Rattle.dtx_model.proofs.Reading.{has-onto}
 use Rattle.scope_context.specs.Standing.{Standing}
-use Rattle.script_runner.specs.Running.{AreTied}
 use Rattle.script_runner.specs.Scoped.{AreOpen, IsUnopened, context_at, nothing_open, rollbacks, scopes_at, scopes_in}
 use Rattle.script_runner.proofs.Closing.{length-past}
 use Rattle.script_runner.proofs.Scoping.{no_scope_line}
 use Rattle.script_runner.proofs.Ties.{slice_get-set_other}
-
--- the machines stay tied behind a block at a context
-pub tied_noted : (ms : List Observed) (trace new : List Placed) (a : ActorNo) (es : List Entry) → AreTied ms trace → past_of new ≡ onto (past_of trace) (noted a es) → AreTied ms new
-tied_noted ms trace new a es tied written =
-    record {
-      many = tied.many;
-      ties = λ t. tied.ties t ∙ ap (λ (h : List Entry). Some (observe h)) (sym (ap (λ (T : List Placed). history t.value T) written ∙ history-noted t.value a (past_of trace) es));
-    }
 
 -- before the first line nothing is open
 pub open_none : AreOpen (replicate 16 nothing_open) []
@@ -189,17 +177,22 @@ always-before : {E : Type 0} (t : List E → E → Bool) (h xs : List E) → alw
 always-before t h [] k = k
 always-before t h (x ∷ xs) k = and_right (t h x) (always t h) (always-before t (x ∷ h) xs k)
 
--- a name that a line of a script makes wasn't made before it
-not_made : (xs ys : List Line) (l : Line) → are_named_well (xs ++ l ∷ ys) ≡ true → each (λ n. not (is_made (past_of xs) n)) (makes l.body) ≡ true
-not_made xs ys l named =
+-- what holds of each line of a script with those before it holds of one of them
+pub always-here : (p : List Line → Line → Bool) (s xs ys : List Line) (l : Line) → s ≡ xs ++ l ∷ ys → always p (past_of s) ≡ true → p (past_of xs) l ≡ true
+always-here p s xs ys l split k =
     let before = past_of xs in
-    let all : always is_named_well (onto (l ∷ before) ys) ≡ true = ap (λ (h : List Line). always is_named_well h) (sym (onto-append [] xs (l ∷ ys))) ∙ named in
-    let well : is_named_well before l ≡ true = and_left (is_named_well before l) (always is_named_well before) (always-before is_named_well (l ∷ before) ys all) in
-    and_left (each (λ n. not (is_made before n)) (makes l.body)) (each (λ n. is_made before n) (uses l.body)) well
+    let all : always p (onto (l ∷ before) ys) ≡ true = ap (λ (h : List Line). always p h) (sym (ap past_of split ∙ onto-append [] xs (l ∷ ys))) ∙ k in
+    and_left (p before l) (always p before) (always-before p (l ∷ before) ys all)
+
+-- a name that a line of a script makes wasn't made before it
+not_made : (s xs ys : List Line) (l : Line) → s ≡ xs ++ l ∷ ys → are_named_well s ≡ true → each (λ n. not (is_made (past_of xs) n)) (makes l.body) ≡ true
+not_made s xs ys l split named =
+    let before = past_of xs in
+    and_left (each (λ n. not (is_made before n)) (makes l.body)) (each (λ n. is_made before n) (uses l.body)) (always-here is_named_well s xs ys l split named)
 
 -- a scope that a line of a script opens isn't open already
 pub unopened : (s xs ys : List Line) (l : Line) (cs : List Standing) → s ≡ xs ++ l ∷ ys → are_named_well s ≡ true → AreOpen cs (past_of xs) → IsUnopened l.body (scopes_at l.actor cs)
-unopened s xs ys l cs split named ties = by_body l.body (scopes_at l.actor cs) (ties l.actor) (not_made xs ys l (subst (λ (r : List Line). are_named_well r ≡ true) split named))
+unopened s xs ys l cs split named ties = by_body l.body (scopes_at l.actor cs) (ties l.actor) (not_made s xs ys l split named)
   where
     step : (u : ScopeNo) (found : List OpenScope) (b : Bool) → has (is_scope u.value) found ≡ b → found ≡ scopes_of l.actor.value (past_of xs) → is_made (past_of xs) (OfScope u.value) ≡ false
         → has (is_scope u.value) found ≡ false

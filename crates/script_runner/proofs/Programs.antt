@@ -1,5 +1,5 @@
 -- From what the parts of the top call say to what it promises.
-use Rattle.std.proofs.Common.{◌≡◌, ◌+◌, ◌-◌, ℕ, zero, suc, Bool, true, false, slice_get, IsTrue, map, get_or, Global, String, ◌<◌, ◌≤◌, List, [], ◌∷◌, ◌++◌, length, take, drop, Option, Some, None, refl, ap, sym, ◌∙◌, subst, arith}
+use Rattle.std.proofs.Common.{◌≡◌, ℕ, Bool, IsTrue, map, get_or, Global, String, ◌<◌, ◌≤◌, List, [], ◌∷◌, ◌++◌, length, take, drop, Option, Some, refl, ap, sym, ◌∙◌, subst, arith}
 use Rattle.std.proofs.Math.ListN.{drop_of_length-le}
 use Rattle.std.proofs.lemmas.List.{length-take, take_all}
 use Rattle.std.specs.Option.{ForSome}
@@ -9,13 +9,12 @@ use lib.Dec.{eqb}
 use Rattle.std.specs.Cmp.Lexicographic.{bytes_decides}
 use Rattle.dtx_values.specs.declared.script.Line.{Line}
 use Rattle.dtx_values.specs.declared.script.BadCause.{BadCause}
-use Rattle.dtx_model.specs.Words.{each, kth}
 use Rattle.dtx_model.specs.Faults.{Bad}
-use Rattle.dtx_model.specs.Grammar.{IsNotRun, IsNotYet, Reads, is_run}
-use Rattle.dtx_model.proofs.Bools.{and_left, and_right}
+use Rattle.dtx_model.specs.Grammar.{IsNotRun, IsNotYet, Reads}
 use Rattle.script_runner.specs.Program.{IsCutShort, IsReplayOf, IsWritten}
 use Rattle.script_runner.specs.Refusal.{IsReplayText}
 use Rattle.script_runner.specs.Transfer.{IsPartWritten}
+use Rattle.script_runner.proofs.RunLines.{all_run_none, one_not_run}
 
 -- a script in the bytes that are read ends before they do, so they are all
 pub length-read : (b : List ℕ) (s : List Line) → Reads (take 1048577 b) s → length b ≤ 1048576
@@ -84,46 +83,11 @@ pub never_bad : NeverBoth → (given : Option (List ℕ)) (bytes text : List ℕ
     → ForSome given (λ b. Bad b n c → ⊥)
 never_bad either given bytes text front r n c b told bad = either b r.lines n c ((replay-of given bytes text front r).read b told) bad
 
--- each line before the k-th passes, and the k-th doesn't: not each passes
-each-fails : (p : Line → Bool) (s : List Line) (k : ℕ) (l : Line) → each p s ≡ true → slice_get s k ≡ Some l → p l ≡ false → ⊥
-each-fails p [] k l h e d = absurd (cc)
-each-fails p (x ∷ xs) zero l h e d = let same : x ≡ l = cc in let first : p x ≡ true = and_left (p x) (each p xs) h in let fails : p x ≡ false = subst (λ y. p y ≡ false) (sym same) d in cc
-each-fails p (x ∷ xs) (suc k) l h e d = each-fails p xs k l (and_right (p x) (each p xs) h) e d
-
--- where each line is run, none isn't
-all_run_none : (s : List Line) (n : ℕ) → each (λ l. is_run l.body) s ≡ true → IsNotRun s n → ⊥
-all_run_none s zero run k = let none : None ≡ Some k.line = k.stands in cc
-all_run_none s (suc n) run k = each-fails (λ l. is_run l.body) s n k.line run k.stands k.not_run
-
--- a line at a place, with each before it run
-pub first_not_run : (s : List Line) (i : ℕ) (l : Line) → slice_get s i ≡ Some l → is_run l.body ≡ false → each (λ x. is_run x.body) (take i s) ≡ true → IsNotRun s (i + 1)
-first_not_run s i l stands fails before =
-    let next : i + 1 ≡ suc i = omega arith in
-    let less : (i + 1) - 1 ≡ i = omega arith in
-    record { line = l; stands = ap (kth s) next ∙ stands; not_run = fails; before = subst (λ k. each (λ x. is_run x.body) (take k s) ≡ true) (sym less) before }
-
 -- what is replayed has no line that isn't run yet
 pub never_not_yet : OneReading → (given : Option (List ℕ)) (bytes text : List ℕ) → IsFront given bytes → (r : IsReplayText bytes text) → (n : ℕ) → ForSome given (λ b. IsNotYet b n → ⊥)
 never_not_yet one given bytes text front r n b told bad =
     let same : bad.lines ≡ r.lines = one b bad.lines r.lines bad.reads ((replay-of given bytes text front r).read b told) in
     all_run_none r.lines n r.run (subst (λ (s : List Line). IsNotRun s n) same bad.first)
-
--- the first of these lines that fails stands before another that fails
-first_before : (p : Line → Bool) (s : List Line) (i j : ℕ) (l : Line) → each p (take j s) ≡ true → slice_get s i ≡ Some l → p l ≡ false → j ≤ i
-first_before p s i zero l h e d = omega arith
-first_before p [] i (suc j) l h e d = absurd (cc)
-first_before p (x ∷ xs) zero (suc j) l h e d = let same : x ≡ l = cc in let first : p x ≡ true = and_left (p x) (each p (take j xs)) h in let fails : p x ≡ false = subst (λ y. p y ≡ false) (sym same) d in absurd (cc)
-first_before p (x ∷ xs) (suc i) (suc j) l h e d = let less = first_before p xs i j l (and_right (p x) (each p (take j xs)) h) e d in omega arith
-
--- a script has one first line that isn't run yet
-one_not_run : (s : List Line) (n m : ℕ) → IsNotRun s n → IsNotRun s m → n ≡ m
-one_not_run s zero m a b = let none : None ≡ Some a.line = a.stands in absurd (cc)
-one_not_run s (suc n) zero a b = let none : None ≡ Some b.line = b.stands in absurd (cc)
-one_not_run s (suc n) (suc m) a b =
-    let p = λ (l : Line). is_run l.body in
-    let up : m ≤ n = first_before p s n m a.line (subst (λ k. each p (take k s) ≡ true) (omega arith) b.before) a.stands a.not_run in
-    let down : n ≤ m = first_before p s m n b.line (subst (λ k. each p (take k s) ≡ true) (omega arith) a.before) b.stands b.not_run in
-    omega arith
 
 -- bytes have one first line that isn't run yet
 pub one_not_yet : OneReading → (b : List ℕ) (n m : ℕ) → IsNotYet b n → IsNotYet b m → n ≡ m

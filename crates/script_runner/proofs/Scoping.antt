@@ -1,21 +1,18 @@
 -- What a scope line does at its context is the definition's.
-use Rattle.std.proofs.Common.{◌≡◌, ℕ, suc, ◌+◌, ◌≤◌, Bool, true, false, ◌&&◌, List, [], ◌∷◌, ◌++◌, length, map, Option, Some, None, refl, ap, sym, subst, ◌∙◌, append_assoc, arith}
+use Rattle.std.proofs.Common.{◌≡◌, ℕ, suc, ◌+◌, ◌≤◌, Bool, true, false, List, [], ◌∷◌, ◌++◌, length, map, Option, Some, None, refl, ap, sym, ◌∙◌, subst, append_assoc, arith}
 use Rattle.std.specs.Prelude.{if◌then◌else◌}
 use Rattle.std.proofs.lemmas.List.{length-map}
 use Rattle.dtx_values.specs.declared.call.Call.{Call}
-use Rattle.dtx_values.specs.declared.call.Call.TheVariants.{Volatile, Clone}
+use Rattle.dtx_values.specs.declared.call.Call.TheVariants.{Begin, Commit as CommitCall, Rollback as RollbackCall}
 use Rattle.dtx_values.specs.declared.entry.Answer.{Answer}
-use Rattle.dtx_values.specs.declared.entry.Answer.TheVariants.{Fine, Deep, Nested}
+use Rattle.dtx_values.specs.declared.entry.Answer.TheVariants.{Deep}
 use Rattle.dtx_values.specs.declared.entry.Entry.{Entry}
 use Rattle.dtx_values.specs.declared.entry.Entry.TheVariants.{Called}
 use Rattle.dtx_values.specs.declared.limits.TheConstants.{SCOPES}
 use Rattle.dtx_values.specs.declared.number.ActorNo.{ActorNo}
 use Rattle.dtx_values.specs.declared.number.ScopeNo.{ScopeNo}
 use Rattle.dtx_values.specs.declared.number.TxNo.{TxNo}
-use Rattle.dtx_values.specs.declared.scope.Closed.{Closed}
-use Rattle.dtx_values.specs.declared.scope.Closed.TheVariants.{Commit, Rollback, Nothing as NothingToDo}
 use Rattle.dtx_values.specs.declared.scope.Entered.{Entered}
-use Rattle.dtx_values.specs.declared.scope.Entered.TheVariants.{Made}
 use Rattle.dtx_values.specs.declared.scope.OpenScope.{OpenScope}
 use Rattle.dtx_values.specs.declared.script.Body.{Body}
 use Rattle.dtx_values.specs.declared.script.Body.TheVariants.{Open, Finish, Close, Current}
@@ -23,25 +20,23 @@ use Rattle.dtx_values.specs.declared.script.Opening.{Opening}
 use Rattle.dtx_values.specs.declared.trace.Place.TheVariants.{Context}
 use Rattle.dtx_values.specs.declared.words.Iso.{Iso}
 use Rattle.dtx_values.specs.declared.words.ScopeOption.{ScopeOption}
-use Rattle.dtx_values.specs.declared.words.Timeout.{Timeout}
-use Rattle.dtx_model.specs.Words.{each, onto, past_of}
+use Rattle.dtx_model.specs.Words.{onto, past_of}
 use Rattle.dtx_model.specs.Observed.{Observed}
-use Rattle.dtx_model.specs.Caused.{is_new}
-use Rattle.dtx_model.specs.Scopes.{ScopeEntry, Opens, Finishes, Closes, close_answer, closing, complete_answer, differing, enter_answer, entering, is_deep, is_scope, open_scopes, rolled_back, taken_off, unless_differing}
-use Rattle.dtx_model.specs.Contexts.{begin_calls, called_with, closing_calls, ending_calls, entries_if, isolation_in, name_in, opening_calls, option_in, scope_answer, scope_block, scope_calls, scope_entries, timeout_in, took_off, written}
+use Rattle.dtx_model.specs.Scopes.{ScopeEntry, Opens, Finishes, Closes, close_answer, complete_answer, differing, enter_answer, entering, is_deep, is_scope, open_scopes, taken_off, unless_differing}
+use Rattle.dtx_model.specs.Contexts.{called_with, entries_if, isolation_in, name_in, opening_calls, option_in, scope_answer, scope_block, scope_calls, scope_entries, timeout_in, took_off, written}
 use Rattle.dtx_model.specs.Replay.{Placed, noted}
 use Rattle.dtx_model.specs.Steps.{is_fine}
-use Rattle.dtx_model.proofs.Bools.{and_left}
 use Rattle.dtx_model.proofs.Histories.{onto-append}
+use Rattle.outcome_law.proofs.Lists.{OfEach}
+use Rattle.outcome_law.proofs.ScopeCalls.{IsScopeCall, is_scope_call, scope_calls_plain}
 use Rattle.scope_context.specs.Refusals.{enter_refusal, if_differing}
 use Rattle.scope_context.specs.Standing.{Standing}
 use Rattle.scope_context.specs.declared.refusal.ScopeRefusal.{ScopeRefusal}
 use Rattle.scope_context.specs.declared.refusal.ScopeRefusal.TheVariants.{TooDeep, IsolationDiffers, NoScope, AlreadyComplete, NestedWrongly}
-use Rattle.outcome_law.proofs.Lists.{OfEach}
-use Rattle.outcome_law.proofs.ScopeCalls.{IsScopeCall, is_scope_call, scope_calls_plain}
+use Rattle.script_runner.specs.Calling.{IsReady}
 use Rattle.script_runner.specs.declared.contexts.Acted.{Acted}
 use Rattle.script_runner.specs.declared.contexts.Gives.TheVariants.{Nothing}
-use Rattle.script_runner.specs.Scoped.{DoesScope, calls_given, refused_answer, rollbacks}
+use Rattle.script_runner.specs.Scoped.{DoesScope, calls_given, refused_answer}
 
 -- an opening that is refused has the answer of its refusal
 enter_refused : (o : ScopeOption) (i : Iso) (xs : List OpenScope) (r : ScopeRefusal) → enter_refusal o i xs ≡ Some r → enter_answer o i xs ≡ refused_answer r
@@ -122,17 +117,16 @@ few_notes b old new notes x did =
     let same : length notes ≡ length (scope_entries b old.scopes) = ap length did.noted ∙ length-map (scope_entries b old.scopes) written in
     omega arith
 
--- a call that scope lines give makes no enlistment and no clone
-plain_new : (o : Observed) (c : Call) → is_scope_call c ≡ true → is_new o c ≡ true
-plain_new o (Volatile t e x v) k = absurd (cc)
-plain_new o (Clone t d x) k = absurd (cc)
-plain_new o _ k = refl
+-- a call of a scope line is answered, makes no enlistment and no clone, and is no durable
+pub scope_call_ready : (o : Observed) (c : Call) → is_scope_call c ≡ true → IsReady o c
+scope_call_ready o (Begin t d) k = record { answered = refl; new = refl; alone = refl }
+scope_call_ready o (CommitCall t) k = record { answered = refl; new = refl; alone = refl }
+scope_call_ready o (RollbackCall t) k = record { answered = refl; new = refl; alone = refl }
+scope_call_ready o _ k = absurd (cc)
 
--- so the one call of a scope line makes nothing that stands already
-pub scope_call_new : (o : Observed) (b : Body) (xs : List OpenScope) (t : TxNo) (c : Call) → (t, c) ∷ [] ≡ scope_calls b xs → is_new o c ≡ true
-scope_call_new o b xs t c e =
-    let all : OfEach IsScopeCall ((t, c) ∷ []) = subst (λ (cs : List (TxNo × Call)). OfEach IsScopeCall cs) (sym e) (scope_calls_plain b xs) in
-    plain_new o c all.0
+-- the one call of a scope line
+pub given_ready : (o : Observed) (b : Body) (xs : List OpenScope) (t : TxNo) (c : Call) → (t, c) ∷ [] ≡ scope_calls b xs → IsReady o c
+given_ready o b xs t c e = scope_call_ready o c (subst (λ (cs : List (TxNo × Call)). OfEach IsScopeCall cs) (sym e) (scope_calls_plain b xs)).0
 
 -- a call and the entries noted at a context are the block of the scope line
 pub noted_block : (trace new : List Placed) (n : ℕ) (a : ActorNo) (b : Body) (old after : Standing) (notes : List Entry) (x : Acted) → DoesScope b old after notes x

@@ -17,7 +17,7 @@ AreWords ws = ws ≡ codes "replay" ∷ []
 pub record IsReplayOf (given : Option (List ℕ)) (s : List Line) (T : List Placed) : Type 0 where
   pub read : ForSome given (λ b. Reads b s)
   pub history : IsHistory s T
-  pub outcome : HasOneOutcome T
+  pub outcome : HasOneOutcome s T
   pub complete : IsComplete s T
 
 -- the headline: there is a trace, a settled history of the script with one outcome for each transaction, and the sink, where it tells what was

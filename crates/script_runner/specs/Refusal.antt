@@ -1,9 +1,8 @@
 -- What stands in the way of a replay.
 use Rattle.std.specs.Prelude.{ℕ, ◌≡◌, true, List, Some}
 use Rattle.dtx_values.specs.declared.script.Line.{Line}
-use Rattle.dtx_model.specs.Words.{each}
 use Rattle.dtx_model.specs.Faults.{Bad}
-use Rattle.dtx_model.specs.Grammar.{IsNotYet, is_run}
+use Rattle.dtx_model.specs.Grammar.{IsNotYet, are_run}
 use Rattle.dtx_model.specs.Replay.{Placed}
 use Rattle.dtx_model.specs.TraceText.{trace_text}
 use Rattle.script_runner.specs.Program.{IsReplayOf}
@@ -19,7 +18,7 @@ IsRefused b Memory = Unit {0}
 -- the text is that of a replay of the script that the bytes are, each of whose lines is run
 pub record IsReplayText (b text : List ℕ) : Type 0 where
   pub lines : List Line
-  pub run : each (λ l. is_run l.body) lines ≡ true
+  pub run : are_run lines ≡ true
   pub trace : List Placed
   pub replay : IsReplayOf (Some b) lines trace
   pub spelled : text ≡ trace_text trace

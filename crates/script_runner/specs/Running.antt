@@ -1,13 +1,15 @@
 -- A replay under way.
-use Rattle.std.specs.Prelude.{ℕ, ◌-◌, ◌<◌, ◌≤◌, ◌≡◌, List, length, Some, slice_get}
+use Rattle.std.specs.Prelude.{ℕ, ◌-◌, ◌<◌, ◌≤◌, ◌≡◌, true, List, length, Some, slice_get}
 use Rattle.dtx_values.specs.declared.number.TxNo.{TxNo}
 use Rattle.dtx_values.specs.declared.script.Line.{Line}
 use Rattle.dtx_model.specs.Words.{kth, past_of}
-use Rattle.dtx_model.specs.Observed.{Observed, observe}
+use Rattle.dtx_model.specs.Observed.{observe, rows}
 use Rattle.dtx_model.specs.Caused.{Settled}
 use Rattle.dtx_model.specs.Replay.{Placed, HasSettled, RoundsRan, StepsRan, history, after_step, last_turn}
 use Rattle.dtx_model.specs.Steps.{Step, pending}
+use Rattle.local_half.specs.Half.{Half}
 use Rattle.scope_context.specs.Standing.{Standing}
+use Rattle.script_runner.specs.Pending.{are_apart}
 
 -- its script, the contexts of its actors, and its trace
 pub record Running : Type 0 where
@@ -15,10 +17,15 @@ pub record Running : Type 0 where
   pub contexts : List Standing
   pub trace : List Placed
 
--- the machine of each transaction knows what its history in the trace shows
-pub record AreTied (machines : List Observed) (trace : List Placed) : Type 0 where
-  pub many : length machines ≡ 256
-  pub ties : (t : TxNo) → slice_get machines (t.value - 1) ≡ Some (observe (history t.value (past_of trace)))
+-- the half of transaction t that knows what its history in this trace shows; the trace is read newest first
+abbrev pub half_of : TxNo → List Placed → Half
+half_of t T = record { transaction = t; seen = observe (history t.value T) }
+
+-- the half of each transaction knows what its history in the trace shows, where each enlistment has one row
+pub record AreTied (halves : List Half) (trace : List Placed) : Type 0 where
+  pub many : length halves ≡ 256
+  pub ties : (t : TxNo) → slice_get halves (t.value - 1) ≡ Some (half_of t (past_of trace))
+  pub apart : (t : TxNo) → are_apart (rows (history t.value (past_of trace))) ≡ true
 
 -- the k-th pending step of t was done
 pub record Advances (s : List Line) (t : TxNo) (k : ℕ) (old new : List Placed) : Type 0 where

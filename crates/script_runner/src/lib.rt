@@ -1,11 +1,11 @@
 //! Runs scripts: the top call of the program.
 #![tactic(auto)]
 
+mod calls;
 mod contexts;
-mod due;
 mod exit;
-mod listeners;
-mod machine;
+mod not_run;
+mod pending;
 mod plans;
 mod program;
 mod replay;

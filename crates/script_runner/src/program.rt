@@ -1,20 +1,19 @@
 //! The top call.
-ghost use Rattle.std.specs.Prelude.{◌≡◌, ◌⊎◌, ◌↔◌, ◌≤◌, ℕ, [], Some, drop, map, true, IfErr, IfNone, IfOk, IfSome, IsTrue, length};
+ghost use Rattle.std.specs.Prelude.{◌≡◌, ◌⊎◌, ◌↔◌, ◌≤◌, ℕ, [], Some, drop, map, true, IfErr, IfOk, IsTrue};
 ghost use Rattle.std.specs.Option.{ForSome};
 ghost use Rattle.std.specs.String.{string_bytes};
 ghost use Rattle.outside.specs.Faults.{Rose};
 ghost use Rattle.dtx_values.specs.declared.script.BadCause.{BadCause};
-ghost use Rattle.dtx_model.specs.Words.{each};
-ghost use Rattle.dtx_model.specs.Grammar.{IsNotRun, IsNotYet, Reads, is_run};
+ghost use Rattle.dtx_model.specs.Grammar.{IsNotYet, Reads, are_run};
 ghost use Rattle.dtx_model.specs.Faults.{Bad};
 ghost use Rattle.script_runner.specs.Program.{AreWords, IsCutShort, IsWritten};
 ghost use Rattle.script_runner.specs.Judged.{IsJudged};
 ghost use Rattle.script_runner.specs.Refusal.{IsRefused, IsReplayText};
 
 use crate::exit::Exit;
+use crate::not_run::first_not_run;
 use crate::replay::run_replay;
 use crate::transfer::{ReadError, WriteStop, read_all, write_all};
-use dtx_values::{Body, Line};
 use outside::{Sink, Source};
 use script_text::{BadCause, Script, ScriptError, read_script, reads_exactly};
 use std::alloc::Global;
@@ -38,47 +37,9 @@ enum Refusal {
     Memory,
 }
 
-/// Whether lines of this command are run.
-fn is_run(body: Body) -> bool
-    ensures { result ≡ is_run body }
-{
-    match body {
-        Body::Begin(_, _)
-        | Body::Open(_, _)
-        | Body::Finish(_)
-        | Body::Close(_)
-        | Body::Current
-        | Body::Volatile(_, _, _, _)
-        | Body::Clone(_, _, _)
-        | Body::Complete(_)
-        | Body::Commit(_)
-        | Body::Rollback(_)
-        | Body::Status(_)
-        | Body::Await(_)
-        | Body::Tick(_, _)
-        | Body::Do(_, _, _)
-        | Body::Par => true,
-        _ => false,
-    }
-}
-
-/// The first line, from 1, that isn't run yet.
-fn first_not_run(lines: &[Line]) -> Option<u32>
-    requires { length lines.now ≤ 1048576 }
-    ensures some { IfSome result (λ n. IsNotRun lines.now n) }
-    ensures none { IfNone result (each (λ l. is_run l.body) lines.now ≡ true) }
-{
-    for (i, l) in lines.iter().enumerate() {
-        if !is_run(l.body) {
-            return Some(i as u32 + 1);
-        }
-    }
-    None
-}
-
 /// The script that these bytes are, where each of its lines is run.
 fn runnable(alloc: Global, bytes: &[u8]) -> Result<Script, Refusal>
-    ensures script { IfOk result (λ s. Reads bytes.now s × (each (λ l. is_run l.body) s ≡ true)) }
+    ensures script { IfOk result (λ s. Reads bytes.now s × (are_run s ≡ true)) }
     ensures refused { IfErr result (λ e. IsRefused bytes.now e) }
 {
     let script = match read_script(alloc, bytes) {

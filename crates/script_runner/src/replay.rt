@@ -3,22 +3,25 @@ ghost use Rattle.std.specs.Prelude.{◌≡◌, ◌≤◌, ◌+◌, List, [], ◌
 ghost use Rattle.dtx_values.specs.declared.call.Call.{Call};
 ghost use Rattle.dtx_values.specs.declared.number.TxNo.{TxNo};
 ghost use Rattle.dtx_values.specs.declared.script.Line.{Line};
-ghost use Rattle.dtx_model.specs.Words.{each, kth, onto, past_of};
+ghost use Rattle.dtx_model.specs.Words.{kth, onto, past_of};
 ghost use Rattle.dtx_model.specs.Observed.{observe};
 ghost use Rattle.dtx_model.specs.Steps.{Calls, call_of, pending};
-ghost use Rattle.dtx_model.specs.Caused.{Settled, is_new};
+ghost use Rattle.dtx_model.specs.Caused.{Settled};
 ghost use Rattle.dtx_model.specs.Contexts.{scope_block, scope_calls};
 ghost use Rattle.dtx_model.specs.Replay.{CallRan, HasDone, IsReplayed, LinesRan, Placed, after_calls, after_scope, after_step, history, noted};
 ghost use Rattle.dtx_model.specs.History.{HasOneOutcome, IsComplete, IsHistory};
-ghost use Rattle.dtx_model.specs.Grammar.{IsScript, is_run};
-ghost use Rattle.script_runner.specs.Running.{Advances, IsSettledBelow, Settles};
+ghost use Rattle.dtx_model.specs.Grammar.{IsScript, are_run};
+ghost use Rattle.script_runner.specs.Calling.{IsReady};
+ghost use Rattle.script_runner.specs.Running.{Advances, AreTied, IsSettledBelow, Settles};
 ghost use Rattle.script_runner.specs.Scoped.{AreOpen, IsUnopened, calls_given, nothing_open, rollbacks, rolled_at, scopes_at};
 
+use crate::calls::call;
 use crate::contexts::{Gives, act, contexts};
-use crate::machine::Machine;
+use crate::pending::step;
 use crate::plans::Plans;
 use dtx_values::{ActorNo, Body, Call, Entry, Line, Outbox, Place, ROOM, Script, Trace, TxNo};
-use outcome_law::{completeness, one_outcome, replay, tables};
+use local_half::LocalHalf;
+use outcome_law::{completeness, crossings, one_outcome, replay, tables};
 use scope_context::Context;
 use std::alloc::{AllocError, Global};
 use std::marker::Model;
@@ -34,7 +37,7 @@ const BEYOND: u32 = 257;
 #[derive(Drop)]
 pub struct Run<'a> {
     plans: Plans<'a>,
-    machines: Vec<Machine>,
+    halves: Vec<LocalHalf>,
     contexts: Vec<Context>,
     /// The entries of the step under way at a transaction.
     out: Outbox,
@@ -51,18 +54,19 @@ impl<'a> Model for Run<'a> {
 
     ghost view = { λ r. record { script = r.plans; contexts = r.contexts.items; trace = r.trace.items } };
 
-    ghost invariant = { λ r. AreTied r.machines.items r.trace.items × (length r.contexts.items ≡ 16) };
+    ghost invariant = { λ r. AreTied r.halves.items r.trace.items × (length r.contexts.items ≡ 16) };
 }
 
-/// As many transactions as a script can name, of which nothing is known yet.
-fn machines(alloc: Global) -> Result<Vec<Machine>, AllocError>
-    ensures { IfOk result (λ ms. ms.items ≡ replicate 256 (observe [])) }
+/// The local halves of the transactions that a script can name, in order of number, of which nothing is known yet.
+fn halves(alloc: Global) -> Result<Vec<LocalHalf>, AllocError>
+    ensures { IfOk result (λ hs. AreTied hs.items []) }
 {
-    let mut machines = Vec::with_capacity(alloc, TRANSACTIONS)?;
-    for _t in 0..TRANSACTIONS {
-        machines.push_reserved(Machine::new(alloc)?);
+    let mut halves = Vec::with_capacity(alloc, TRANSACTIONS)?;
+    for number in 1..BEYOND {
+        let t = TxNo::new(number).unwrap();
+        halves.push_reserved(LocalHalf::new(alloc, t)?);
     }
-    Ok(machines)
+    Ok(halves)
 }
 
 /// Puts the entries behind the trace, each at this place. The trace has room for them.
@@ -82,7 +86,7 @@ impl<'a> Run<'a> {
     {
         Ok(Run {
             plans: Plans::new(alloc, lines)?,
-            machines: machines(alloc)?,
+            halves: halves(alloc)?,
             contexts: contexts(alloc)?,
             out: Outbox::with_room(alloc)?,
             notes: Vec::new(alloc),
@@ -99,7 +103,7 @@ impl<'a> Run<'a> {
         c: &Call,
         done: u16,
     ) -> Result<(), AllocError>
-        requires { is_new (observe (history t.value (past_of self.old.trace))) c.now ≡ true }
+        requires { IsReady (observe (history t.value (past_of self.old.trace))) c.now }
         ensures script { self.new.script ≡ self.old.script }
         ensures contexts { self.new.contexts ≡ self.old.contexts }
         ensures done { OnOk result (past_of self.new.trace ≡ after_step t (Calls n actor c.now done) (past_of self.old.trace)) }
@@ -107,8 +111,8 @@ impl<'a> Run<'a> {
     {
         self.trace.reserve(ROOM)?;
         self.out.clear();
-        let machine = &mut self.machines[t.get() as usize - 1];
-        machine.call(actor, n, c, done, &mut self.out);
+        let half = &mut self.halves[t.get() as usize - 1];
+        call(half, actor, n, c, done, &mut self.out);
         append(&mut self.trace, Place::Transaction(t), self.out.entries());
         Ok(())
     }
@@ -124,8 +128,8 @@ impl<'a> Run<'a> {
     {
         self.trace.reserve(ROOM)?;
         self.out.clear();
-        let machine = &mut self.machines[t.get() as usize - 1];
-        if !machine.step(&self.plans, k, &mut self.out) {
+        let half = &mut self.halves[t.get() as usize - 1];
+        if !step(half, &self.plans, k, &mut self.out) {
             return Ok(false);
         }
         append(&mut self.trace, Place::Transaction(t), self.out.entries());
@@ -226,7 +230,7 @@ impl<'a> Run<'a> {
 
     /// Does the call that line n gives transaction t by its own words, behind the steps of a `do` or an `await`.
     fn own_call(&mut self, n: u32, actor: ActorNo, t: TxNo, c: &Call) -> Result<(), AllocError>
-        requires { is_new (observe (history t.value (past_of self.old.trace))) c.now ≡ true }
+        requires { IsReady (observe (history t.value (past_of self.old.trace))) c.now }
         ensures script { self.new.script ≡ self.old.script }
         ensures contexts { self.new.contexts ≡ self.old.contexts }
         ensures done { OnOk result (CallRan self.old.script actor n (Some (t, c.now)) (past_of self.old.trace) (past_of self.new.trace)) }
@@ -246,7 +250,7 @@ impl<'a> Run<'a> {
 
     /// Does what line n does: its own call, or what it does as a scope line.
     fn line(&mut self, n: u32, l: &Line) -> Result<(), AllocError>
-        requires new { (t : TxNo) (c : Call) → call_of self.old.script l.now.body ≡ Some (t, c) → is_new (observe (history t.value (past_of self.old.trace))) c ≡ true }
+        requires ready { (t : TxNo) (c : Call) → call_of self.old.script l.now.body ≡ Some (t, c) → IsReady (observe (history t.value (past_of self.old.trace))) c }
         requires unopened { IsUnopened l.now.body (scopes_at l.now.actor self.old.contexts) }
         ensures script { self.new.script ≡ self.old.script }
         ensures done { OnOk result (CallRan self.old.script l.now.actor n (call_of self.old.script l.now.body) (after_scope n l.now (scopes_at l.now.actor self.old.contexts) (past_of self.old.trace)) (past_of self.new.trace)) }
@@ -263,6 +267,7 @@ impl<'a> Run<'a> {
         requires start { self.old.trace ≡ [] }
         requires contexts { AreOpen self.old.contexts [] }
         requires script { IsScript self.old.script }
+        requires run { are_run self.old.script ≡ true }
         ensures script { self.new.script ≡ self.old.script }
         ensures ran { OnOk result (LinesRan self.old.script (past_of self.old.script) (past_of self.new.trace)) }
     {
@@ -291,21 +296,25 @@ fn call_of(plans: &Plans, body: Body) -> Option<(TxNo, Call)>
     match body {
         Body::Begin(t, d) => Some((t, Call::Begin(t, d))),
         Body::Volatile(t, e, o, v) => Some((t, Call::Volatile(t, e, o, v))),
+        Body::Durable(t, e, r, support) => Some((t, Call::Durable(t, e, r, support))),
+        Body::Promotable(t, e, r, v, o, p) => Some((t, Call::Promotable(t, e, r, v, o, p))),
         Body::Clone(t, c, k) => Some((t, Call::Clone(t, c, k))),
-        Body::Complete(c) => Some((plans.transaction(c)?, Call::Complete(c))),
+        Body::Complete(c) => Some((plans.transaction_of(c)?, Call::Complete(c))),
         Body::Commit(t) => Some((t, Call::Commit(t))),
         Body::Rollback(t) => Some((t, Call::Rollback(t))),
         Body::Status(t) => Some((t, Call::Status(t))),
         Body::Await(t) => Some((t, Call::Await(t))),
         Body::Tick(t, n) => Some((t, Call::Tick(t, n))),
         Body::Do(t, k, n) => Some((t, Call::Do(t, k, n))),
+        Body::Gone(e) => Some((plans.transaction_with(e)?, Call::Gone(e))),
         _ => None,
     }
 }
 
 /// The trace of what the lines do in order, and of the rounds behind them.
 fn trace_of(alloc: Global, lines: &[Line]) -> Result<Trace, AllocError>
-    requires { IsScript lines.now }
+    requires script { IsScript lines.now }
+    requires run { are_run lines.now ≡ true }
     ensures replayed { IfOk result (λ T. IsReplayed lines.now (past_of T)) }
     ensures settled { IfOk result (λ T. (t : TxNo) → Settled lines.now (history t.value (past_of T))) }
 {
@@ -322,12 +331,13 @@ fn trace_of(alloc: Global, lines: &[Line]) -> Result<Trace, AllocError>
 /// [`AllocError`] where memory ran out.
 pub fn run_replay(alloc: Global, s: &Script) -> Result<Trace, AllocError>
     requires script { IsScript s.now }
-    requires run { each (λ l. is_run l.body) s.now ≡ true }
+    requires run { are_run s.now ≡ true }
     ensures history { IfOk result (λ T. IsHistory s.now T) }
-    ensures outcome { IfOk result (λ T. HasOneOutcome T) }
+    ensures outcome { IfOk result (λ T. HasOneOutcome s.now T) }
     ensures complete { IfOk result (λ T. IsComplete s.now T) }
 {
     one_outcome();
+    crossings();
     completeness();
     replay();
     tables();

@@ -87,6 +87,34 @@ const SCOPE_RUNS: [(&str, &str); 6] = [
     ),
 ];
 
+/// Scripts of owners and of what is lost, with the whole text of their traces.
+const OWNER_RUNS: [(&str, &str); 6] = [
+    (
+        "a1 begin t1 default\na1 durable t1 e1 r1 single yes silent\na1 commit t1\na1 do t1 1 2\na1 tick t1 60000\na1 await t1\n",
+        "1 t1 call 1 a1 ok\n2 t1 began 60000\n3 t1 call 2 a1 ok\n4 t1 enlisted e1 single\n5 t1 call 3 a1 ok\n6 t1 commit\n7 t1 sealed\n8 t1 hand e1\n9 t1 call 4 a1 did 2\n10 t1 call 5 a1 ok\n11 t1 clock 60000\n12 t1 late\n13 t1 call 6 a1 open\n",
+    ),
+    (
+        "a1 begin t1 default\na1 volatile t1 e1 none yes\na1 durable t1 e2 r1 single yes indoubt\na1 commit t1\n",
+        "1 t1 call 1 a1 ok\n2 t1 began 60000\n3 t1 call 2 a1 ok\n4 t1 enlisted e1 one\n5 t1 call 3 a1 ok\n6 t1 enlisted e2 single\n7 t1 call 4 a1 ok\n8 t1 commit\n9 t1 sealed\n10 t1 ask e1 prepare\n11 t1 vote e1 yes\n12 t1 hand e2\n13 t1 owner e2 indoubt\n14 t1 decided indoubt\n15 t1 told e1 indoubt\n16 t1 told client indoubt\n",
+    ),
+    (
+        "a1 begin t1 default\na1 durable t1 e1 r1 single yes committed\na1 commit t1\na1 do t1 1 1\na1 gone e1\n",
+        "1 t1 call 1 a1 ok\n2 t1 began 60000\n3 t1 call 2 a1 ok\n4 t1 enlisted e1 single\n5 t1 call 3 a1 ok\n6 t1 commit\n7 t1 sealed\n8 t1 call 4 a1 did 1\n9 t1 call 5 a1 ok\n10 t1 lost e1\n11 t1 decided aborted\n12 t1 told client aborted\n",
+    ),
+    (
+        "a1 begin t1 default\na1 durable t1 e1 r1 single yes committed\na1 commit t1\na1 do t1 1 2\na1 gone e1\n",
+        "1 t1 call 1 a1 ok\n2 t1 began 60000\n3 t1 call 2 a1 ok\n4 t1 enlisted e1 single\n5 t1 call 3 a1 ok\n6 t1 commit\n7 t1 sealed\n8 t1 hand e1\n9 t1 call 4 a1 did 2\n10 t1 call 5 a1 ok\n11 t1 lost e1\n12 t1 decided indoubt\n13 t1 told client indoubt\n",
+    ),
+    (
+        "a1 begin t1 default\na1 promotable t1 e1 r1 yes committed ok\na1 commit t1\n",
+        "1 t1 call 1 a1 ok\n2 t1 began 60000\n3 t1 call 2 a1 true\n4 t1 enlisted e1 promotable\n5 t1 init e1\n6 t1 call 3 a1 ok\n7 t1 commit\n8 t1 sealed\n9 t1 hand e1\n10 t1 owner e1 committed\n11 t1 decided committed\n12 t1 told client committed\n",
+    ),
+    (
+        "a1 begin t1 default\na1 promotable t1 e1 r1 yes committed ok\na1 promotable t1 e2 r2 yes committed ok\n",
+        "1 t1 call 1 a1 ok\n2 t1 began 60000\n3 t1 call 2 a1 true\n4 t1 enlisted e1 promotable\n5 t1 init e1\n6 t1 call 3 a1 false\n",
+    ),
+];
+
 /// Runs a script that is read and written in pieces of several sizes, and compares the whole text of its trace.
 fn has_its_trace(
     rt: &impl Abort,
@@ -117,6 +145,14 @@ fn scripts_have_their_traces(rt: HostRuntime) -> Result<(), Fail> {
 #[test]
 fn scripts_of_scopes_have_their_traces(rt: HostRuntime) -> Result<(), Fail> {
     for (script, trace) in SCOPE_RUNS {
+        has_its_trace(&rt, rt.alloc(), script, trace)?;
+    }
+    Ok(())
+}
+
+#[test]
+fn scripts_of_owners_have_their_traces(rt: HostRuntime) -> Result<(), Fail> {
+    for (script, trace) in OWNER_RUNS {
         has_its_trace(&rt, rt.alloc(), script, trace)?;
     }
     Ok(())

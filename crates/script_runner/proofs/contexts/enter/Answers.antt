@@ -1,4 +1,3 @@
-use Rattle.std.proofs.Common.{◌≡◌, Some, ap, refl, subst, sym, ◌∙◌}
 use Rattle.script_runner.proofs.Scoping.{refuses_open}
 use Rattle.script_runner.proofs.contexts.enter.Goals as goal
 

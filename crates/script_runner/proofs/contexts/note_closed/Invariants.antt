@@ -1,5 +1,4 @@
-use Rattle.std.proofs.Common.{◌≡◌, ◌+◌, ◌++◌, drop, length, map, take, vec_capacity, vec_len}
-use Rattle.dtx_model.specs.Contexts.{written}
+use Rattle.std.proofs.Common.{◌≡◌, ◌+◌, ◌++◌, drop, length, take, vec_capacity, vec_len}
 use Rattle.dtx_model.specs.Scopes.{taken_off}
 use Rattle.dtx_model.specs.Words.{past_of}
 use Rattle.script_runner.proofs.Closing.{closed_notes}

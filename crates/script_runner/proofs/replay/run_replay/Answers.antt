@@ -12,7 +12,16 @@ returns-clause-history c =
     let T = past_of c.in_ok-trace.trace in
     let ran : IsReplayed s T = subst (λ (ls : List Line). IsReplayed ls T) c.lines.ensures c.in_ok-trace.ensures.replayed in
     let settled : (t : TxNo) → Settled s (history t.value T) = subst (λ (ls : List Line). (t : TxNo) → Settled ls (history t.value T)) c.lines.ensures c.in_ok-trace.ensures.settled in
-    record { caused = c.replay.ensures.caused s T ran; settled = settled; contexts = c.replay.ensures.contexts s T ran; called = c.replay.ensures.called s T ran; replayed = ran }
+    let caused : (t : TxNo) → Caused s t.value (history t.value T) = c.replay.ensures.caused s T ran in
+    record {
+      caused = caused;
+      promotes = λ t. c.crossings.ensures.promotes s t.value (history t.value T) c.requires.script.named (caused t);
+      wires = λ t. c.crossings.ensures.wires s t.value (history t.value T) c.requires.script.named (caused t);
+      settled = settled;
+      contexts = c.replay.ensures.contexts s T ran;
+      called = c.replay.ensures.called s T ran;
+      replayed = ran;
+    }
 
 pub returns-clause-outcome : goal.returns-clause-outcome
 returns-clause-outcome c =
@@ -23,6 +32,7 @@ returns-clause-outcome c =
     record {
       just = λ t. c.one_outcome.ensures.just s t.value (history t.value T) c.requires.script.named (caused t);
       agrees = λ t. c.one_outcome.ensures.agrees s t.value (history t.value T) c.requires.script.named (caused t);
+      learned = λ t. c.one_outcome.ensures.learned s t.value (history t.value T) c.requires.script.named (caused t);
     }
 
 pub returns-clause-complete : goal.returns-clause-complete

@@ -3,4 +3,4 @@ use Rattle.script_runner.specs.Plans.{ArePlanned}
 use Rattle.script_runner.proofs.plans.Plans.new.Given as goal
 
 abbrev pub invariant-loop-line : goal.invariant-loop-line
-invariant-loop-line l = ArePlanned (take l.line-index l.lines) l.votes.items l.transactions.items
+invariant-loop-line l = ArePlanned (take l.line-index l.lines) l.enlistments.items l.clones.items

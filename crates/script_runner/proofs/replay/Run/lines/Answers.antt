@@ -1,11 +1,16 @@
-use Rattle.std.proofs.Common.{◌≡◌, ◌+◌, ◌∷◌, ◌++◌, List, ap, arith, drop, length, subst, sym, take, ◌∙◌}
+use Rattle.std.proofs.Common.{◌≡◌, ◌+◌, ◌∷◌, ◌++◌, Some, true, List, ap, arith, drop, length, subst, sym, take, ◌∙◌}
 use Rattle.std.proofs.lemmas.List.{drop_more}
+use Rattle.dtx_values.specs.declared.call.Call.{Call}
 use Rattle.dtx_values.specs.declared.script.Line.{Line}
+use Rattle.dtx_model.specs.Grammar.{is_run_line}
+use Rattle.dtx_model.specs.Observed.{observe}
+use Rattle.dtx_model.specs.Replay.{history}
 use Rattle.dtx_model.specs.Steps.{call_of}
 use Rattle.dtx_model.specs.Words.{past_of}
 use Rattle.script_runner.specs.Running.{Running}
 use Rattle.script_runner.specs.Scoped.{AreOpen}
-use Rattle.script_runner.proofs.Openings.{lines_more, past_next, unopened}
+use Rattle.script_runner.proofs.Openings.{always-here, lines_more, past_next, unopened}
+use Rattle.script_runner.proofs.Ready.{line_ready}
 use Rattle.script_runner.proofs.Replayed.{few, split_at}
 use Rattle.script_runner.proofs.replay.Run.lines.Goals as goal
 
@@ -15,18 +20,24 @@ overflow_add-n c =
     let most = few c.args.self.now.script c.requires.script in
     omega (arith, same, most, c.loop-l.invariant.0, c.loop-l-test.true)
 
-pub line-requires-clause-new : goal.line-requires-clause-new
-line-requires-clause-new c =
+pub line-requires-clause-ready : goal.line-requires-clause-ready
+unfolding observe
+line-requires-clause-ready c =
     let s = c.args.self.now.script in
+    let T = past_of c.loop-l.self.trace in
     let lines = c.lines-lines.result.now in
     let i = c.loop-l.l-index in
     let l = c.l-item.result in
+    let xs = take i lines in
+    let ys = drop (i + 1) lines in
     let same : lines ≡ s = c.lines-lines.ensures ∙ ap (λ (r : Running). r.script) c.self.view_is in
-    let here : drop i lines ≡ l ∷ drop (i + 1) lines = drop_more lines i l c.loop-l-test.true ∙ ap (λ (x : Line). x ∷ drop (i + 1) lines) (sym c.l-item.is) in
-    let split : s ≡ take i lines ++ l ∷ drop (i + 1) lines = sym same ∙ split_at lines i l (drop (i + 1) lines) here in
+    let here : drop i lines ≡ l ∷ ys = drop_more lines i l c.loop-l-test.true ∙ ap (λ (x : Line). x ∷ ys) (sym c.l-item.is) in
+    let split : s ≡ xs ++ l ∷ ys = sym same ∙ split_at lines i l ys here in
+    let run : is_run_line (past_of xs) l ≡ true = always-here is_run_line s xs ys l split c.requires.run in
     λ t call gives.
-    c.replay.ensures.fresh s (take i lines) (drop (i + 1) lines) l (past_of c.loop-l.self.trace) t call split c.requires.script.named c.loop-l.invariant.3
-    (ap (λ (r : List Line). call_of r l.body) (sym c.loop-l.invariant.1) ∙ gives)
+    let given : call_of s l.body ≡ Some (t, call) = ap (λ (r : List Line). call_of r l.body) (sym c.loop-l.invariant.1) ∙ gives in
+    line_ready s (past_of xs) l.body (observe (history t.value T)) t call given run (c.replay.ensures.fresh s xs ys l T t call split c.requires.script.named c.loop-l.invariant.3 given)
+    (λ u e r x durable. c.replay.ensures.alone s xs ys l T t u e r x split c.requires.script.named c.loop-l.invariant.3 run (given ∙ ap (λ (d : Call). Some (t, d)) durable))
 
 pub line-requires-clause-unopened : goal.line-requires-clause-unopened
 line-requires-clause-unopened c =

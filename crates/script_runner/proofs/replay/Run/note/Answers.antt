@@ -1,17 +1,16 @@
-use Rattle.std.proofs.Common.{◌≡◌, ◌-◌, ◌++◌, ◌∷◌, [], List, ap, arith, length, refl, set, subst, sym, ◌∙◌}
+use Rattle.std.proofs.Common.{◌≡◌, ◌-◌, ◌∷◌, List, ap, arith, length, refl, set, subst, sym, ◌∙◌}
 use Rattle.std.proofs.Math.ListN.{length-set}
-use Rattle.dtx_values.specs.declared.entry.Entry.TheVariants.{Called}
 use Rattle.dtx_values.specs.declared.scope.OpenScope.{OpenScope}
-use Rattle.dtx_values.specs.declared.trace.Place.TheVariants.{Context}
 use Rattle.dtx_model.specs.Contexts.{scope_block, scope_calls, scope_entries}
 use Rattle.dtx_model.specs.Scopes.{ScopeEntry, open_scopes}
-use Rattle.dtx_model.specs.Replay.{Placed, noted}
+use Rattle.dtx_model.specs.Replay.{noted}
 use Rattle.dtx_model.specs.Words.{onto, past_of}
 use Rattle.script_runner.specs.Running.{Running}
 use Rattle.script_runner.specs.Scoped.{AreOpen, DoesScope, calls_given, rolled_in, scopes_at, scopes_in}
 use Rattle.script_runner.proofs.Closing.{length-past}
-use Rattle.script_runner.proofs.Openings.{context_here, context_put, open_after, tied_noted}
+use Rattle.script_runner.proofs.Openings.{context_here, context_put, open_after}
 use Rattle.script_runner.proofs.Scoping.{few_notes, noted_block}
+use Rattle.script_runner.proofs.Ties.{tied_noted}
 use Rattle.script_runner.proofs.replay.Run.note.Goals as goal
 
 pub append-requires : goal.append-requires
@@ -27,7 +26,7 @@ invariant_of-self-2 c =
     let did : DoesScope c.args.l.now.body c.index_mut-context.result.now c.act.new.context c.act.new.notes.items c.in-Some.acted = c.in-Some.ensures.some in
     let block = noted_block c.self.inside.trace.items c.append.new.trace.items c.args.n c.args.l.now.actor _ _ _ _ _ did
     (rw (c.append.ensures, c.deref.ensures.value, c.push_reserved.ensures.items, c.reserve-2.ensures.items) refl) in
-    (tied_noted c.self.inside.machines.items c.self.inside.trace.items c.append.new.trace.items c.args.l.now.actor (scope_block c.args.n c.args.l.now.actor c.args.l.now.body c.index_mut-context.result.now.scopes) c.self.invariant.0 block, rw length-set c.self.invariant.1)
+    (tied_noted c.self.inside.halves.items c.self.inside.trace.items c.append.new.trace.items c.args.l.now.actor (scope_block c.args.n c.args.l.now.actor c.args.l.now.body c.index_mut-context.result.now.scopes) c.self.invariant.0 block, rw length-set c.self.invariant.1)
 
 pub returns-clause-block : goal.returns-clause-block
 returns-clause-block c =

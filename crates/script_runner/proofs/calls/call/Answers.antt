@@ -1,0 +1,51 @@
+use Rattle.std.proofs.Common.{◌∷◌, [], List, ap, ◌∙◌}
+use Rattle.dtx_values.specs.Outgoing.{with}
+use Rattle.dtx_values.specs.declared.entry.Answer.{Answer}
+use Rattle.dtx_values.specs.declared.entry.Entry.{Entry}
+use Rattle.dtx_values.specs.declared.entry.Entry.TheVariants.{Called}
+use Rattle.dtx_model.specs.Steps.{behind_begin}
+use Rattle.local_half.specs.Half.{after}
+use Rattle.script_runner.proofs.Calling.{answers_itself, await_block, called_alone, do_block, gone_block, own_block}
+use Rattle.script_runner.proofs.calls.call.Goals as goal
+
+pub call-requires-clause-own : goal.call-requires-clause-own
+call-requires-clause-own c = answers_itself c.args.c.now c.requires.ready.answered c.in_default.not-Await c.in_default.not-Do c.in_default.not-Gone
+
+pub returns-in-Do-clause-state : goal.returns-in-Do-clause-state
+returns-in-Do-clause-state c =
+    let h = c.args.half.now in
+    rw (c.in-Do.is, do_block h.seen c.args.line c.args.actor c.in-Do.field-0 c.in-Do.field-1 c.in-Do.field-2 c.args.done) (called_alone h c.args.line c.args.actor _)
+
+pub returns-in-Do-clause-out : goal.returns-in-Do-clause-out
+returns-in-Do-clause-out c =
+    let h = c.args.half.now in
+    rw (c.in-Do.is, do_block h.seen c.args.line c.args.actor c.in-Do.field-0 c.in-Do.field-1 c.in-Do.field-2 c.args.done)
+    (c.put.ensures ∙ ap (λ (x : Answer). with c.args.out.now (Called c.args.line c.args.actor x ∷ [])) c.behind_begin-answer.ensures)
+
+pub returns-in-Await-clause-state : goal.returns-in-Await-clause-state
+returns-in-Await-clause-state c =
+    let h = c.args.half.now in
+    rw (c.in-Await.is, await_block h.seen c.args.line c.args.actor c.in-Await.field-0 c.args.done) (called_alone h c.args.line c.args.actor _)
+
+pub returns-in-Await-clause-out : goal.returns-in-Await-clause-out
+returns-in-Await-clause-out c =
+    let h = c.args.half.now in
+    rw (c.in-Await.is, await_block h.seen c.args.line c.args.actor c.in-Await.field-0 c.args.done)
+    (c.put-in-Await.ensures ∙ ap (λ (x : Answer). with c.args.out.now (Called c.args.line c.args.actor x ∷ [])) (c.behind_begin-answer-in-Await.ensures ∙ ap (behind_begin h.seen.limit) c.await_answer.ensures))
+
+pub returns-in-Gone-clause-state : goal.returns-in-Gone-clause-state
+returns-in-Gone-clause-state c =
+    let h = c.args.half.now in
+    rw c.in-Gone.is (c.gone.ensures.state ∙ ap (λ (es : List Entry). after h es) (gone_block h.seen c.args.line c.args.actor c.in-Gone.e c.args.done))
+
+pub returns-in-Gone-clause-out : goal.returns-in-Gone-clause-out
+returns-in-Gone-clause-out c =
+    let h = c.args.half.now in
+    rw c.in-Gone.is (c.gone.ensures.out ∙ ap (λ (es : List Entry). with c.args.out.now es) (gone_block h.seen c.args.line c.args.actor c.in-Gone.e c.args.done))
+
+pub returns-in_default : goal.returns-in_default
+returns-in_default c =
+    let h = c.args.half.now in
+    let own = answers_itself c.args.c.now c.requires.ready.answered c.in_default.not-Await c.in_default.not-Do c.in_default.not-Gone in
+    let same = own_block h.seen c.args.line c.args.actor c.args.c.now c.args.done own in
+    record { state = c.call.ensures.state ∙ ap (λ (es : List Entry). after h es) same; out = c.call.ensures.out ∙ ap (λ (es : List Entry). with c.args.out.now es) same }

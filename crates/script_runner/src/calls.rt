@@ -1,0 +1,77 @@
+//! The calls on a transaction: its half answers most of them, and await, do and gone are answered here.
+ghost use Rattle.std.specs.Prelude.{◌≡◌, ◌<◌, ◌≤◌, ◌∷◌, []};
+ghost use Rattle.dtx_values.specs.Outgoing.{with};
+ghost use Rattle.dtx_values.specs.declared.call.Call.TheVariants.{Gone};
+ghost use Rattle.dtx_values.specs.declared.entry.Entry.TheVariants.{Called};
+ghost use Rattle.dtx_model.specs.Steps.{Calls, await_answer, behind_begin, block, gone_answer, is_gone, stands};
+ghost use Rattle.local_half.specs.Half.{after};
+ghost use Rattle.script_runner.specs.Calling.{IsReady};
+
+use dtx_values::{ActorNo, Answer, Call, EnlNo, Entry, Outbox};
+use local_half::LocalHalf;
+
+/// The answer behind `notbegun`.
+fn behind_begin(half: &LocalHalf, a: Answer) -> Answer
+    ensures { result ≡ behind_begin half.now.seen.limit a }
+{
+    if half.is_begun() { a } else { Answer::NotBegun }
+}
+
+/// What an `await` is answered, once it is begun.
+fn await_answer(half: &LocalHalf) -> Answer
+    ensures { result ≡ await_answer half.now.seen.told_client }
+{
+    match half.told_client() {
+        Some(o) => Answer::OutcomeIs(o),
+        None => Answer::StillOpen,
+    }
+}
+
+/// What a `gone` is answered, once it is begun.
+fn gone_answer(half: &LocalHalf, e: EnlNo) -> Answer
+    ensures { result ≡ gone_answer (stands half.now.seen e.value) (is_gone half.now.seen e.value) }
+{
+    if !half.stands(e) {
+        return Answer::NoSuch;
+    }
+    if half.is_gone(e) {
+        return Answer::Already;
+    }
+    Answer::Fine
+}
+
+/// Does a `gone`: writes its entry, and loses the enlistment where that was answered ok.
+fn gone(half: &mut LocalHalf, actor: ActorNo, line: u32, e: EnlNo, out: &mut Outbox)
+    requires { 3 ≤ out.old.room }
+    ensures state { half.new ≡ after half.old (block half.old.seen (Calls line actor (Gone e) 0)) }
+    ensures out { out.new ≡ with out.old (block half.old.seen (Calls line actor (Gone e) 0)) }
+{
+    let answer = behind_begin(half, gone_answer(half, e));
+    out.put(Entry::Called(line, actor, answer));
+    if answer == Answer::Fine {
+        half.gone(e, false, out);
+    }
+}
+
+/// Does a call, for which so many steps were done: writes its entry, and behind it its facts.
+pub fn call(half: &mut LocalHalf, actor: ActorNo, line: u32, c: &Call, done: u16, out: &mut Outbox)
+    requires ready { IsReady half.old.seen c.now }
+    requires room { 4 ≤ out.old.room }
+    ensures state { half.new ≡ after half.old (block half.old.seen (Calls line actor c.now done)) }
+    ensures out { out.new ≡ with out.old (block half.old.seen (Calls line actor c.now done)) }
+{
+    match *c {
+        Call::Do(_, _, _) => {
+            let answer = behind_begin(half, Answer::Did(done));
+            out.put(Entry::Called(line, actor, answer));
+        }
+        Call::Await(_) => {
+            let answer = behind_begin(half, await_answer(half));
+            out.put(Entry::Called(line, actor, answer));
+        }
+        Call::Gone(e) => gone(half, actor, line, e, out),
+        _ => {
+            let _ = half.call(actor, line, c, out);
+        }
+    }
+}

@@ -1,0 +1,64 @@
+//! The pending steps of a transaction: the replies that are due, and behind them the local act.
+ghost use Rattle.std.specs.Prelude.{◌≡◌, ◌≤◌, None, true, false};
+ghost use Rattle.dtx_model.specs.Words.{kth};
+ghost use Rattle.dtx_model.specs.Steps.{due_replies, pending, planned_reply};
+ghost use Rattle.script_runner.specs.Pending.{DoesKth, IsDueAt, are_apart};
+
+use crate::plans::Plans;
+use dtx_values::{EnlNo, Note, Outbox, Reply};
+use local_half::LocalHalf;
+
+/// What stands at a place of the list of replies that are due.
+#[derive(Clone, Copy, PartialEq, Eq, Debug)]
+pub enum Due {
+    /// This enlistment's reply, as its line plans it.
+    Reply(EnlNo, Reply),
+    /// No reply: the place lies so many behind the last one.
+    Beyond(usize),
+}
+
+/// The reply that an enlistment plans to a note; `None` where it is silent.
+fn planned_reply(plans: &Plans, e: EnlNo, note: Option<Note>) -> Option<Reply>
+    ensures { result ≡ planned_reply plans.now e.value note }
+{
+    match note {
+        Some(Note::Prepare) => plans.vote(e).map(Reply::Vote),
+        Some(Note::Hand) => plans.owner(e).map(Reply::Owner),
+        _ => None,
+    }
+}
+
+/// The reply at place k, from 0, of those that are due, in order of the enlistments' numbers.
+fn due_at(half: &LocalHalf, plans: &Plans, k: usize) -> Due
+    requires { are_apart half.now.seen.table ≡ true }
+    ensures { IsDueAt (due_replies plans.now half.now.seen) k result }
+{
+    let mut left = k;
+    for x in half.rows() {
+        if let Some(reply) = planned_reply(plans, x.0, half.due_of(x.0)) {
+            if left == 0 {
+                return Due::Reply(x.0, reply);
+            }
+            left -= 1;
+        }
+    }
+    Due::Beyond(left)
+}
+
+/// Does the k-th pending step; false where fewer than k are pending, or k is 0.
+pub fn step(half: &mut LocalHalf, plans: &Plans, k: u8, out: &mut Outbox) -> bool
+    requires apart { are_apart half.old.seen.table ≡ true }
+    requires room { 2 ≤ out.old.room }
+    ensures some { result ≡ true → DoesKth plans.now k half.old half.new out.old out.new }
+    ensures none { result ≡ false → kth (pending plans.now half.old.seen) k ≡ None }
+    ensures unchanged { result ≡ false → half.new ≡ half.old }
+{
+    if k == 0 {
+        return false;
+    }
+    match due_at(half, plans, k as usize - 1) {
+        Due::Reply(e, reply) => half.reply(e, reply, out),
+        Due::Beyond(0) => half.act(out),
+        Due::Beyond(_) => false,
+    }
+}
