@@ -250,6 +250,26 @@ fn refusals_write_nothing(rt: HostRuntime) -> Result<(), Fail> {
 }
 
 #[test]
+fn a_durable_that_would_promote_is_not_run_yet(rt: HostRuntime) -> Result<(), Fail> {
+    let cases = [
+        (
+            "a1 begin t1 0\na1 durable t1 e1 r1 single yes committed\na1 durable t1 e2 r1 single yes committed\n",
+            3,
+        ),
+        (
+            "a1 begin t1 0\na1 promotable t1 e1 r1 yes committed ok\na1 durable t1 e2 r1 single yes committed\n",
+            3,
+        ),
+        ("a1 begin t1 0\na1 durable t1 e1 r1 two yes\n", 2),
+    ];
+    for (script, line) in cases {
+        let exit = unwritten(&rt, rt.alloc(), &["replay"], script, &[])?;
+        assert_eq!(rt; exit, Exit::NotYet(line), "at {script}");
+    }
+    Ok(())
+}
+
+#[test]
 fn a_failing_sink_has_a_part_of_the_text(rt: HostRuntime) -> Result<(), Fail> {
     let words = replay(rt.alloc())?;
     for (call, written) in [(1, 0), (2, 10), (4, 30)] {
