@@ -1,11 +1,12 @@
 -- The first fault of bytes.
-use Rattle.std.proofs.Common.{◌≡◌, ℕ, ◌+◌, ◌≤◌, Bool, true, not, cond, eqb, leb, List, [], ◌∷◌, ◌++◌, length, take, drop, get_or, Option, Some, None, refl, ap, sym, ◌∙◌, arith, length-append}
+use Rattle.std.proofs.Common.{◌≡◌, ℕ, ◌+◌, ◌*◌, ◌≤◌, Bool, true, not, cond, eqb, leb, List, [], ◌∷◌, ◌++◌, length, take, drop, get_or, Option, Some, None, refl, ap, sym, subst, ◌∙◌, arith, length-append}
 use Rattle.std.proofs.Math.Seq.{take-add}
 use Rattle.std.proofs.lemmas.Bool.Decides.{nat_tests}
 use Rattle.std.proofs.lemmas.List.{length-take-le, take_at}
 use Rattle.std.proofs.lemmas.Nat.{from_le_bytes-to_le_bytes_2}
 use Rattle.std.specs.Int.{w16, from_le_bytes, to_le_bytes}
-use Rattle.dtx_model.specs.Frames.{BodyKind, Empty, Identifier, Information, Reason, FrameFault, TooShort, NoType, WrongLength, bad_place, body_fault, body_kind, body_length, field_fault, frame, frame_fault, tag_fault}
+use Rattle.dtx_values.specs.declared.message.Message.{Message}
+use Rattle.dtx_model.specs.Frames.{BodyKind, Empty, Identifier, Information, Reason, FrameFault, TooShort, NoType, WrongLength, IsFrame, bad_place, body_fault, body_kind, body_length, field_fault, frame, frame_fault, tag_fault}
 use Rattle.dtx_model.specs.RecoveryInfo.{is_from_one}
 
 -- where three tests hold, what is chosen stands behind them
@@ -47,3 +48,15 @@ split_frame (p ∷ q ∷ r ∷ s ∷ xs) n long counted =
     let l : length (take n xs) ≡ n = length-take-le n xs (omega arith) in
     ap (λ k. p ∷ q ∷ to_le_bytes w16 k ++ take n xs) l ∙ ap (λ (ys : List ℕ). p ∷ q ∷ ys ++ take n xs) (sym counted) ∙ sym (take-add 4 n (p ∷ q ∷ r ∷ s ∷ xs))
 split_frame _ n long counted = absurd (omega arith)
+
+-- the two bytes of a length, read one by one
+pub two_bytes : (b : List ℕ) → 4 ≤ length b → get_or b 2 0 + get_or b 3 0 * 256 ≡ from_le_bytes w16 (take 2 (drop 2 b))
+two_bytes (p ∷ q ∷ r ∷ s ∷ xs) long = refl
+two_bytes _ long = absurd (omega arith)
+
+-- so bytes whose type, tag and body make the frame of a message begin with its frame
+pub framed : (b body : List ℕ) (l n : ℕ) (m : Message) → IsFrame (frame (get_or b 0 0) (get_or b 1 0) body) m → body ≡ take l (drop 4 b) → 4 + l ≤ length b → take 2 (drop 2 b) ≡ to_le_bytes w16 l
+    → n ≡ l → (4 + n ≤ length b) × IsFrame (take (4 + n) b) m
+framed b body l n m p cut long counted same =
+    let whole = ap (frame (get_or b 0 0) (get_or b 1 0)) cut ∙ split_frame b l long counted ∙ ap (λ k. take (4 + k) b) (sym same) in
+    (omega arith, subst (λ (xs : List ℕ). IsFrame xs m) whole p)

@@ -6,8 +6,8 @@ use Rattle.std.specs.Int.{w16, w128, from_be_bytes, to_be_bytes, to_le_bytes}
 use Rattle.dtx_values.specs.declared.message.Info.{Info}
 use Rattle.dtx_values.specs.declared.message.Message.{Message}
 use Rattle.dtx_values.specs.declared.message.Message.TheVariants.{BeginBegin, BeginCommit, BeginAbort, BeginBegun, BeginCommitted, BeginAborted, VoterVoter, VoterYes, VoterNo, VoterCreated, VoterRefused, VoterAsk, VoterCommit, VoterAbort, EnlistEnlist, EnlistPrepared, EnlistNo, EnlistReadonly, EnlistAck, EnlistEnlisted, EnlistRefused, EnlistPrepare, EnlistCommit, EnlistAbort, ReenlistReenlist, ReenlistAck, ReenlistCommitted, ReenlistAborted}
-use Rattle.dtx_model.specs.Frames.{BodyKind, IsFrame, bad_place, body_kind, body_length, frame, frame_fault, frame_of, id_body, is_valid}
-use Rattle.dtx_model.specs.Frames.BodyKind as kind
+use Rattle.dtx_model.specs.Frames.{BodyKind, FrameFault, IsFrame, bad_place, body_kind, body_length, frame, frame_fault, frame_of, id_body, is_valid}
+use Rattle.dtx_model.specs.Frames as kind
 use Rattle.dtx_model.specs.RecoveryInfo.{IsInfo, bad_field, info_bytes, is_from_one, is_id}
 use Rattle.durable_enlist.proofs.Halves.{from_be_bytes-to_be_bytes_16}
 use Rattle.durable_enlist.proofs.Infos.{same_info, written_enlistment, written_id, written_manager}
@@ -15,7 +15,7 @@ use Rattle.oletx_frames.specs.Bodies.{body_bytes}
 use Rattle.oletx_frames.specs.declared.parts.Body.{Body}
 use Rattle.oletx_frames.specs.declared.parts.Body.TheVariants.{Empty, Identifier, Information, Reason}
 use Rattle.oletx_frames.proofs.Faults.{length_small, whole_frame}
-use Rattle.oletx_frames.proofs.Identifiers.{good_id}
+use Rattle.oletx_frames.proofs.Identifiers.{good_id, good_info}
 
 -- the type, the tag and the body of a frame
 pub record Pieces : Type 0 where
@@ -121,10 +121,9 @@ length_is (Identifier u) = refl
 length_is (Information i) = refl
 length_is (Reason cause) = refl
 
--- valid information has no bad field
-good_info : (i : Info) → is_id i.id ≡ true → bad_field (info_bytes i) ≡ None
-unfolding bad_field info_bytes
-good_info i valid = ?
+-- a body has at most 36 bytes
+body_small : (x : Body) → length (body_bytes x) ≤ 36
+body_small x = omega (arith, length_is x, length_small (kind_in x))
 
 -- a valid body has no bad field
 good_body : (x : Body) → is_valid_body x ≡ true → bad_place (kind_in x) (body_bytes x) ≡ None
@@ -140,9 +139,27 @@ no_fault m rest valid =
     ap (λ (xs : List ℕ). frame_fault (xs ++ rest)) (frame_is m)
     ∙ whole_frame (pieces_of m).type (pieces_of m).tag (kind_in x) (body_bytes x) rest (type_is m) (kind_is m) (length_is x) (good_body x (sym (valid_is m) ∙ valid))
 
--- a body of valid pieces is told by its bytes
+-- a valid identifier is told by its bytes
+same_id : (u k : ℕ) → is_id u ≡ true → is_id k ≡ true → id_body u ≡ id_body k → u ≡ k
+same_id u k v w e =
+    sym (from_be_bytes-to_be_bytes_16 u (grind (arith, nat_tests))) ∙ ap (from_be_bytes w128) e ∙ from_be_bytes-to_be_bytes_16 k (grind (arith, nat_tests))
+
+-- so is valid information
+same_infos : (i j : Info) → is_id i.id ≡ true → is_id j.id ≡ true → info_bytes i ≡ info_bytes j → i ≡ j
+same_infos i j v w e =
+    let b = info_bytes i in
+    let p : IsInfo b i = record { valid = v; bytes = refl } in
+    let q : IsInfo b j = record { valid = w; bytes = e } in
+    same_info i j (sym (written_id b i p) ∙ written_id b j q) (sym (written_manager b i p) ∙ written_manager b j q) (sym (written_enlistment b i p) ∙ written_enlistment b j q)
+
+-- a valid body is told by its bytes
 same_body : (x y : Body) → is_valid_body x ≡ true → is_valid_body y ≡ true → body_bytes x ≡ body_bytes y → x ≡ y
-same_body = ?
+unfolding info_bytes
+same_body Empty Empty v w e = refl
+same_body (Identifier u) (Identifier k) v w e = ap Identifier (same_id u k v w e)
+same_body (Information i) (Information j) v w e = ap Information (same_infos i j v w e)
+same_body (Reason c) (Reason d) v w e = ap (λ (xs : List ℕ). Reason (get_or xs 0 0)) e
+same_body _ _ v w e = absurd (omega (arith, ap length e))
 
 -- frames that begin the same bytes have the same type, tag and body
 same_frames : (t n : ℕ) (f : List ℕ) (u k : ℕ) (g x y : List ℕ) → length f ≤ 36 → length g ≤ 36 → frame t n f ++ x ≡ frame u k g ++ y → (t ≡ u) × (n ≡ k) × (f ≡ g)
@@ -158,7 +175,13 @@ same_frames t n f u k g x y short small e =
 
 -- so no frame of a valid message begins another's
 pub same_messages : (m n : Message) (x y : List ℕ) → frame_of m ++ x ≡ frame_of n ++ y → is_valid m ≡ true → is_valid n ≡ true → m ≡ n
-same_messages m n x y e first second = ?
+same_messages m n x y e first second =
+    let f = pieces_of m in
+    let g = pieces_of n in
+    let framed = ap (λ (xs : List ℕ). xs ++ x) (sym (frame_is m)) ∙ e ∙ ap (λ (xs : List ℕ). xs ++ y) (frame_is n) in
+    let same = same_frames f.type f.tag (body_bytes f.body) g.type g.tag (body_bytes g.body) x y (body_small f.body) (body_small g.body) framed in
+    let body = same_body f.body g.body (sym (valid_is m) ∙ first) (sym (valid_is n) ∙ second) same.2 in
+    sym (named_back m) ∙ (λ k. named (same.0 k) (same.1 k) (body k)) ∙ named_back n
 
 -- bytes that begin with the frame of a valid message are read as this message
 pub read_same : (b : List ℕ) (m : Message) (k : ℕ) (n : Message) (rest : List ℕ) → k ≤ length b → IsFrame (take k b) m → is_valid n ≡ true → b ≡ frame_of n ++ rest
@@ -166,3 +189,9 @@ pub read_same : (b : List ℕ) (m : Message) (k : ℕ) (n : Message) (rest : Lis
 read_same b m k n rest within p valid is =
     let same = same_messages m n (drop k b) rest (ap (λ (xs : List ℕ). xs ++ drop k b) (sym p.bytes) ∙ take-append-drop k b ∙ is) p.valid valid in
     (same, sym (length-take-le k b within) ∙ ap length p.bytes ∙ ap (λ x. length (frame_of x)) same)
+
+-- nor has such a beginning a fault
+pub not_refused : (b : List ℕ) (m : Message) (rest : List ℕ) (f : FrameFault) → is_valid m ≡ true → b ≡ frame_of m ++ rest → frame_fault b ≡ Some f → ⊥
+not_refused b m rest f valid is fault =
+    let none : frame_fault b ≡ None = ap frame_fault is ∙ no_fault m rest valid in
+    cc (none, fault)
