@@ -166,8 +166,7 @@ same_frames : (t n : ℕ) (f : List ℕ) (u k : ℕ) (g x y : List ℕ) → leng
 same_frames t n f u k g x y short small e =
     let low = ap (λ (xs : List ℕ). get_or xs 2 0) e in
     let high = ap (λ (xs : List ℕ). get_or xs 3 0) e in
-    let same : length f ≡ length g = omega arith in
-    (
+    let same : length f ≡ length g = omega arith in (
       ap (λ (xs : List ℕ). get_or xs 0 0) e,
       ap (λ (xs : List ℕ). get_or xs 1 0) e,
       sym (take_at f x (length g) same) ∙ ap (λ (xs : List ℕ). take (length g) (drop 4 xs)) e ∙ take_at g y (length g) refl,
