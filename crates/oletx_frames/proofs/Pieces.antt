@@ -1,14 +1,14 @@
 -- Messages as the pieces of their frames, and back.
-use Rattle.std.proofs.Common.{◌≡◌, ℕ, ◌+◌, ◌≤◌, Bool, true, List, [], ◌∷◌, ◌++◌, length, take, drop, get_or, Option, Some, None, Ok, Result, refl, ap, sym, ◌∙◌, arith, if◌then◌else◌, ◌==◌}
+use Rattle.std.proofs.Common.{◌≡◌, ℕ, ◌≤◌, Bool, true, List, ◌++◌, length, take, drop, get_or, Some, None, refl, ap, sym, ◌∙◌, arith, if◌then◌else◌, ◌==◌}
 use Rattle.std.proofs.lemmas.List.{length-take-le, take-append-drop, take_at}
 use Rattle.std.proofs.lemmas.Bool.Decides.{nat_tests}
-use Rattle.std.specs.Int.{w16, w128, from_be_bytes, to_be_bytes, to_le_bytes}
+use Rattle.std.specs.Int.{w128, from_be_bytes}
 use Rattle.dtx_values.specs.declared.message.Info.{Info}
 use Rattle.dtx_values.specs.declared.message.Message.{Message}
 use Rattle.dtx_values.specs.declared.message.Message.TheVariants.{BeginBegin, BeginCommit, BeginAbort, BeginBegun, BeginCommitted, BeginAborted, VoterVoter, VoterYes, VoterNo, VoterCreated, VoterRefused, VoterAsk, VoterCommit, VoterAbort, EnlistEnlist, EnlistPrepared, EnlistNo, EnlistReadonly, EnlistAck, EnlistEnlisted, EnlistRefused, EnlistPrepare, EnlistCommit, EnlistAbort, ReenlistReenlist, ReenlistAck, ReenlistCommitted, ReenlistAborted}
 use Rattle.dtx_model.specs.Frames.{BodyKind, FrameFault, IsFrame, bad_place, body_kind, body_length, frame, frame_fault, frame_of, id_body, is_valid}
 use Rattle.dtx_model.specs.Frames as kind
-use Rattle.dtx_model.specs.RecoveryInfo.{IsInfo, bad_field, info_bytes, is_from_one, is_id}
+use Rattle.dtx_model.specs.RecoveryInfo.{IsInfo, info_bytes, is_from_one, is_id}
 use Rattle.durable_enlist.proofs.Halves.{from_be_bytes-to_be_bytes_16}
 use Rattle.durable_enlist.proofs.Infos.{same_info, written_enlistment, written_id, written_manager}
 use Rattle.oletx_frames.specs.Bodies.{body_bytes}

@@ -1,4 +1,5 @@
-use Rattle.std.proofs.Common.{◌≡◌, ◌+◌, ◌-◌, take, drop, ap, sym, ◌∙◌, arith}
+use Rattle.std.proofs.Common.{◌≡◌, ◌+◌, ◌-◌, take, drop, ap, ◌∙◌, arith}
+use Rattle.std.specs.Int.{w16, from_le_bytes}
 use Rattle.dtx_model.specs.Frames.{bad_place, body_length, field_fault}
 use Rattle.oletx_frames.specs.Shapes.{kind_of}
 use Rattle.oletx_frames.proofs.Faults.{length_passed, two_bytes}
@@ -10,5 +11,5 @@ returns-clause-next c =
     let k = kind_of c.args.shape in
     let l = c.body_length-length.ensures in
     let n : body_length k ≡ 4 + c.body_length-length.result - 4 = omega (arith, l) in
-    let counted = sym (two_bytes b c.if-b-lt4.false) ∙ sym c.from_le_bytes.ensures ∙ sym c.from.ensures ∙ c.if-from-length.false ∙ l in
+    let counted : from_le_bytes w16 (take 2 (drop 2 b)) ≡ body_length k = omega (arith, two_bytes b c.if-b-lt4.false, l) in
     length_passed b k (omega (arith, l)) counted ∙ ap (λ m. field_fault (bad_place k (take m (drop 4 b)))) n
