@@ -1,0 +1,3 @@
+pub mod Faults
+pub mod Identifiers
+pub mod Pieces
