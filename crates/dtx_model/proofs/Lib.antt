@@ -4,3 +4,4 @@ pub mod Reading
 pub mod Prefixes
 pub mod Faults
 pub mod Scopes
+pub mod Halves

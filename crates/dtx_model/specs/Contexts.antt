@@ -29,7 +29,7 @@ use Rattle.dtx_values.specs.declared.words.ScopeOption.TheVariants.{Required, Re
 use Rattle.dtx_values.specs.declared.words.Timeout.{Timeout}
 use Rattle.dtx_values.specs.declared.words.Timeout.TheVariants.{Default as DefaultTimeout}
 use Rattle.dtx_model.specs.Words.{onto, past_of, put}
-use Rattle.dtx_model.specs.Scopes.{ScopeEntry, Opens, Finishes, Closes, open_scopes, transaction_in, entering, enter_answer, complete_answer, current_answer, close_answer, closing, taken_off, rolled_back}
+use Rattle.dtx_model.specs.Scopes.{ScopeEntry, Opens, Finishes, Closes, open_scopes, transaction_in, entering, enter_answer, finish_answer, current_answer, close_answer, closing, taken_off, rolled_back}
 use Rattle.dtx_model.specs.Steps.{call_of, is_fine}
 
 -- the option, the name for a transaction, its timeout, and the isolation that an `open` writes; `default` asks for Serializable
@@ -60,7 +60,7 @@ isolation_in OpenSuppress = Unspecified
 -- the answer of a scope line, where these scopes are open; other lines have none here
 abbrev pub scope_answer : Body → List OpenScope → Option Answer
 scope_answer (Open s o) xs = Some (enter_answer (option_in o) (isolation_in o) xs)
-scope_answer (Finish s) xs = Some (complete_answer s.value xs)
+scope_answer (Finish s) xs = Some (finish_answer s.value xs)
 scope_answer (Close s) xs = Some (close_answer s.value xs)
 scope_answer Current xs = Some (current_answer xs)
 scope_answer _ xs = None
@@ -79,7 +79,7 @@ took_off _ = false
 -- the entries that a scope line makes at its context: `opened`, `finished`, or a `closed` for each scope taken off, the top first
 abbrev pub scope_entries : Body → List OpenScope → List ScopeEntry
 scope_entries (Open s o) xs = entries_if (is_fine (enter_answer (option_in o) (isolation_in o) xs)) (Opens s (entering (option_in o) (name_in o) xs) (isolation_in o) ∷ [])
-scope_entries (Finish s) xs = entries_if (is_fine (complete_answer s.value xs)) (Finishes s ∷ [])
+scope_entries (Finish s) xs = entries_if (is_fine (finish_answer s.value xs)) (Finishes s ∷ [])
 scope_entries (Close s) xs = entries_if (took_off (close_answer s.value xs)) (map (λ x. Closes x.scope) (taken_off s.value xs))
 scope_entries _ xs = []
 

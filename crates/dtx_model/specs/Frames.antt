@@ -3,7 +3,7 @@ use Rattle.std.specs.Prelude.{ℕ, ◌≡◌, ◌+◌, ◌==◌, nat_le, Bool, t
 use Rattle.std.specs.Int.{w16, w128, to_be_bytes, to_le_bytes, from_le_bytes}
 use Rattle.dtx_values.specs.declared.message.Message.{Message}
 use Rattle.dtx_values.specs.declared.message.Message.TheVariants.{BeginBegin, BeginCommit, BeginAbort, BeginBegun, BeginCommitted, BeginAborted, VoterVoter, VoterYes, VoterNo, VoterCreated, VoterRefused, VoterAsk, VoterCommit, VoterAbort, EnlistEnlist, EnlistPrepared, EnlistNo, EnlistReadonly, EnlistAck, EnlistEnlisted, EnlistRefused, EnlistPrepare, EnlistCommit, EnlistAbort, ReenlistReenlist, ReenlistAck, ReenlistCommitted, ReenlistAborted}
-use Rattle.dtx_model.specs.RecoveryInfo.{bad_field, count_in, info_bytes, is_from_one, is_id, node_in}
+use Rattle.dtx_model.specs.RecoveryInfo.{bad_field, bad_identifier, info_bytes, is_from_one, is_id}
 
 -- the frame of this type and tag with this body
 abbrev pub frame : ℕ → ℕ → List ℕ → List ℕ
@@ -89,10 +89,6 @@ body_length Empty = 0
 body_length Identifier = 16
 body_length Information = 36
 body_length Reason = 1
-
--- the place of the first bad field of an identifier: a node or a count of 0
-abbrev pub bad_identifier : List ℕ → Option ℕ
-bad_identifier b = if not (nat_le 1 (node_in b)) then Some 0 else if not (nat_le 1 (count_in b)) then Some 8 else None
 
 -- a cause that is neither 1 nor 2 is bad
 abbrev pub bad_reason : List ℕ → Option ℕ

@@ -2,7 +2,8 @@
 use Rattle.std.specs.Prelude.{ℕ, ◌+◌, ◌==◌, Bool, true, false, ◌&&◌, ◌||◌, not, List, [], ◌∷◌, Option, Some, None}
 use Rattle.dtx_values.specs.declared.entry.Answer.TheVariants.{Wait}
 use Rattle.dtx_values.specs.declared.entry.Entry.{Entry}
-use Rattle.dtx_values.specs.declared.entry.Entry.TheVariants.{Called, Got, Promoting, Promoted, PromotionFailed}
+use Rattle.dtx_values.specs.declared.entry.Entry.TheVariants.{Called, Got, Promoting, Promoted, PromotionFailed, Told}
+use Rattle.dtx_values.specs.declared.entry.Party.TheVariants.{Enl as Member}
 use Rattle.dtx_values.specs.declared.message.Conn.TheVariants.{Begin, Voter, Enl}
 use Rattle.dtx_values.specs.declared.message.Dir.TheVariants.{Down}
 use Rattle.dtx_values.specs.declared.message.Message.TheVariants.{BeginBegun, BeginAborted, VoterCreated, VoterRefused, VoterAbort, EnlistEnlisted, EnlistRefused, EnlistAbort}
@@ -11,6 +12,7 @@ use Rattle.dtx_values.specs.declared.script.Body.TheVariants.{Durable, Marshal}
 use Rattle.dtx_values.specs.declared.script.Line.{Line}
 use Rattle.dtx_values.specs.declared.words.Cause.{Cause}
 use Rattle.dtx_values.specs.declared.words.Cause.TheVariants.{Two, Second, Beside, Marshal as MarshalCause}
+use Rattle.dtx_values.specs.declared.words.Outcome.TheVariants.{Aborted}
 use Rattle.dtx_values.specs.Table.{Enlistment}
 use Rattle.dtx_model.specs.Words.{has, each, always, kth}
 use Rattle.dtx_model.specs.Entries.{is_promoted}
@@ -99,10 +101,20 @@ is_refusal (Got (Enl e) Down (EnlistRefused cause)) = true
 is_refusal (Got (Enl e) Down EnlistAbort) = true
 is_refusal _ = false
 
--- the history ends with a veto, a refusal or an abort
+-- the entry tells an enlistment that the outcome is aborted
+abbrev pub is_told_abort : ℕ → Entry → Bool
+is_told_abort e (Told (Member f) Aborted) = e == f.value
+is_told_abort e _ = false
+
+-- the history ends with an abort of an enlistment, which is told it directly behind
+abbrev pub ends_told : List Entry → Entry → Bool
+ends_told (Got (Enl e) Down EnlistAbort ∷ past) x = is_told_abort e.value x
+ends_told _ x = false
+
+-- the history ends with a veto, a refusal or an abort; behind the abort of an enlistment it may have been told
 abbrev pub ends_refused : List Entry → Bool
 ends_refused [] = false
-ends_refused (x ∷ past) = is_veto past x || is_refusal x
+ends_refused (x ∷ past) = is_veto past x || is_refusal x || ends_told past x
 
 -- the identifier of transaction t: the node 1 in the upper 64 bits, and t in the lower
 abbrev pub identifier_of : ℕ → ℕ

@@ -2,6 +2,7 @@
 use Rattle.std.specs.Prelude.{ℕ, ◌≡◌, ◌-◌, ◌/◌, ◌%◌, ◌^◌, nat_le, Bool, true, ◌&&◌, not, List, ◌++◌, take, drop, Option, Some, None, if◌then◌else◌}
 use Rattle.std.specs.Int.{w32, w64, w128, to_be_bytes, to_le_bytes, from_be_bytes, from_le_bytes}
 use Rattle.dtx_values.specs.declared.message.Info.{Info}
+use Rattle.dtx_model.specs.Words.{or_else}
 
 -- 36 bytes: the identifier, 16 with the highest first; the manager, 16 with the highest first; the enlistment, 4 with the lowest first
 unfoldable pub info_bytes : Info → List ℕ
@@ -24,11 +25,14 @@ manager_in b = from_be_bytes w128 (take 16 (drop 16 b))
 abbrev pub enlistment_in : List ℕ → ℕ
 enlistment_in b = from_le_bytes w32 (take 4 (drop 32 b))
 
--- the place of the first bad field: a node or a count of 0, a manager that isn't from 1 to 16, an enlistment that isn't from 1 to 9,999
+-- the place of the first bad field of an identifier: a node or a count of 0
+abbrev pub bad_identifier : List ℕ → Option ℕ
+bad_identifier b = if not (nat_le 1 (node_in b)) then Some 0 else if not (nat_le 1 (count_in b)) then Some 8 else None
+
+-- the place of the first bad field: of the identifier, a manager that isn't from 1 to 16, an enlistment that isn't from 1 to 9,999
 unfoldable pub bad_field : List ℕ → Option ℕ
 bad_field b =
-    if not (nat_le 1 (node_in b)) then Some 0 else if not (nat_le 1 (count_in b)) then Some 8 else if not (is_from_one 16 (manager_in b)) then Some 16
-    else if not (is_from_one 9999 (enlistment_in b)) then Some 32 else None
+    or_else (bad_identifier b) (if not (is_from_one 16 (manager_in b)) then Some 16 else if not (is_from_one 9999 (enlistment_in b)) then Some 32 else None)
 
 -- an identifier of 128 bits of which neither half is 0
 abbrev pub is_id : ℕ → Bool

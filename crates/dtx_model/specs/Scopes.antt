@@ -57,8 +57,8 @@ transaction_in (Made t) = Some t
 transaction_in (Joined t) = Some t
 transaction_in NoTx = None
 
-abbrev pub transaction_of : OpenScope → Option TxNo
-transaction_of x = transaction_in x.entered
+abbrev pub scope_transaction : OpenScope → Option TxNo
+scope_transaction x = transaction_in x.entered
 
 -- the scope, complete where it is of this number
 abbrev pub completed_in : ℕ → OpenScope → OpenScope
@@ -76,7 +76,7 @@ without s (x ∷ xs) = if is_scope s x then without s xs else x ∷ without s xs
 -- the ambient transaction: the top's
 abbrev pub ambient : List OpenScope → Option TxNo
 ambient [] = None
-ambient (x ∷ xs) = transaction_of x
+ambient (x ∷ xs) = scope_transaction x
 
 -- the isolation that a scope asked for, where it made this transaction
 abbrev pub isolation_made : ℕ → Entered → Iso → Option Iso
@@ -140,8 +140,8 @@ entering RequiresNew t xs = makes_it t
 entering Suppress t xs = NoTx
 
 -- the answer to completing a scope
-abbrev pub complete_answer : ℕ → List OpenScope → Answer
-complete_answer s xs = if not (has (is_scope s) xs) then NoScope else if has (is_complete_scope s) xs then Already else Fine
+abbrev pub finish_answer : ℕ → List OpenScope → Answer
+finish_answer s xs = if not (has (is_scope s) xs) then NoScope else if has (is_complete_scope s) xs then Already else Fine
 
 abbrev pub ambient_answer : Bool → Option TxNo → Answer
 ambient_answer complete t = if complete then Already else Ambient t
@@ -149,7 +149,7 @@ ambient_answer complete t = if complete then Already else Ambient t
 -- the answer to asking for the ambient transaction: a complete scope no longer gives it
 abbrev pub current_answer : List OpenScope → Answer
 current_answer [] = Ambient None
-current_answer (x ∷ xs) = ambient_answer x.complete (transaction_of x)
+current_answer (x ∷ xs) = ambient_answer x.complete (scope_transaction x)
 
 -- a scope that stands above this one on the top: it was opened in it and is still open
 abbrev pub top_above : ℕ → List OpenScope → Option ScopeNo
@@ -192,4 +192,4 @@ once before (t ∷ ts) = if has (λ u. t.value == u.value) before then once befo
 
 -- the transactions of the scopes that a nested close takes off, the top's first, each once
 abbrev pub rolled_back : ℕ → List OpenScope → List TxNo
-rolled_back s xs = once [] (all_of transaction_of (taken_off s xs))
+rolled_back s xs = once [] (all_of scope_transaction (taken_off s xs))

@@ -125,12 +125,17 @@ ends c d (Got e r m) = same_connection c e && same_direction d r && not (has_lin
 ends c Up Stopped = true
 ends c d _ = false
 
+-- an opening begins with no end seen; of one while the coordinator stands stopped the coordinator never sees one
+abbrev pub begins_ended : Dir → List Entry → Bool
+begins_ended Up past = is_stopped past
+begins_ended Down past = false
+
 abbrev pub ended_after : Bool → Bool → Bool → Bool
-ended_after opened ended before = if opened then false else ended || before
+ended_after opened begins ended = if opened then begins else ended
 
 abbrev pub is_ended : Conn → Dir → List Entry → Bool
 is_ended c d [] = false
-is_ended c d (x ∷ past) = ended_after (opens c x) (ends c d x) (is_ended c d past)
+is_ended c d (x ∷ past) = ended_after (opens c x) (begins_ended d past) (ends c d x || is_ended c d past)
 
 -- the message is the next on the way
 abbrev pub is_next : Message → List Message → Type 0

@@ -9,7 +9,7 @@ use mathlib.Core.HLevel.{is_prop→PathP}
 use native.Mathlib.Bridge.{le_prop}
 use Rattle.dtx_values.specs.declared.message.Info.{Info}
 use Rattle.dtx_model.specs.RecoveryInfo.{IsInfo, count_in, enlistment_in, info_bytes, is_id, manager_in, node_in}
-use Rattle.durable_enlist.proofs.Halves.{be_bytes_16, from_be_bytes-to_be_bytes_16, from_halves, half_small}
+use Rattle.dtx_model.proofs.Halves.{be_bytes_16, from_be_bytes-to_be_bytes_16, from_halves, half_small}
 
 -- each item is a byte
 abbrev pub AreBytes : List ℕ → Type 0

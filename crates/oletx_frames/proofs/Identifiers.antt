@@ -4,10 +4,10 @@ use Rattle.std.proofs.lemmas.Bool.Decides.{nat_tests}
 use Rattle.std.proofs.lemmas.List.{get_or-drop, get_or-take, get_or_past, length-take-le, take-append-drop}
 use Rattle.std.proofs.lemmas.Nat.{from_be_bytes-to_be_bytes_8}
 use Rattle.std.specs.Int.{w128, from_be_bytes, to_be_bytes}
-use Rattle.dtx_model.specs.Frames.{bad_identifier, id_body}
+use Rattle.dtx_model.specs.Frames.{id_body}
 use Rattle.dtx_values.specs.declared.message.Info.{Info}
-use Rattle.dtx_model.specs.RecoveryInfo.{IsInfo, bad_field, count_in, enlistment_in, info_bytes, is_from_one, is_id, manager_in, node_in}
-use Rattle.durable_enlist.proofs.Halves.{be_bytes_16, to_halves}
+use Rattle.dtx_model.specs.RecoveryInfo.{IsInfo, bad_field, bad_identifier, count_in, enlistment_in, info_bytes, is_from_one, is_id, manager_in, node_in}
+use Rattle.dtx_model.proofs.Halves.{be_bytes_16, to_halves}
 use Rattle.durable_enlist.proofs.Infos.{AreBytes, written_enlistment, written_manager}
 
 -- the bytes of the number that 16 bytes are read as are these bytes

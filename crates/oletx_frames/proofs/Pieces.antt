@@ -9,7 +9,7 @@ use Rattle.dtx_values.specs.declared.message.Message.TheVariants.{BeginBegin, Be
 use Rattle.dtx_model.specs.Frames.{BodyKind, FrameFault, IsFrame, bad_place, body_kind, body_length, frame, frame_fault, frame_of, id_body, is_valid}
 use Rattle.dtx_model.specs.Frames as kind
 use Rattle.dtx_model.specs.RecoveryInfo.{IsInfo, info_bytes, is_from_one, is_id}
-use Rattle.durable_enlist.proofs.Halves.{from_be_bytes-to_be_bytes_16}
+use Rattle.dtx_model.proofs.Halves.{from_be_bytes-to_be_bytes_16}
 use Rattle.durable_enlist.proofs.Infos.{same_info, written_enlistment, written_id, written_manager}
 use Rattle.oletx_frames.specs.Bodies.{body_bytes}
 use Rattle.oletx_frames.specs.declared.parts.Body.{Body}

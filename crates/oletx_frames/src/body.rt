@@ -1,7 +1,7 @@
 //! Reads the bodies of frames.
 ghost use Rattle.std.specs.Prelude.{◌≡◌, ◌≤◌, [], ◌∷◌, Some, true, length, IfErr, IfOk};
-ghost use Rattle.dtx_model.specs.Frames.{bad_identifier, bad_place, bad_reason, body_length, id_body};
-ghost use Rattle.dtx_model.specs.RecoveryInfo.{IsInfo, bad_field, is_from_one, is_id};
+ghost use Rattle.dtx_model.specs.Frames.{bad_place, bad_reason, body_length, id_body};
+ghost use Rattle.dtx_model.specs.RecoveryInfo.{IsInfo, bad_field, bad_identifier, is_from_one, is_id};
 ghost use Rattle.oletx_frames.specs.Shapes.{IsMade, kind_of};
 
 use crate::shape::Shape;

@@ -18,7 +18,7 @@ use Rattle.dtx_values.specs.declared.script.Body.TheVariants.{Open, Close}
 use Rattle.dtx_values.specs.declared.script.Line.{Line}
 use Rattle.dtx_values.specs.declared.words.Timeout.{Timeout}
 use Rattle.dtx_model.specs.Words.{has, put, all_of}
-use Rattle.dtx_model.specs.Scopes.{entering, enter_answer, close_answer, closing, once, rolled_back, taken_off, transaction_of}
+use Rattle.dtx_model.specs.Scopes.{entering, enter_answer, close_answer, closing, once, rolled_back, taken_off, scope_transaction}
 use Rattle.dtx_model.specs.Contexts.{option_in, name_in, timeout_in, isolation_in, opening_calls, closing_calls, scope_calls, scopes_of, calls_by}
 use Rattle.dtx_model.specs.Steps.{call_of}
 use Rattle.dtx_model.specs.Caused.{MayAnswer}
@@ -130,5 +130,5 @@ closing_apart _ e ts h = tt
 -- a scope line calls no transaction twice
 pub scope_calls_apart : (b : Body) (xs : List OpenScope) → AreApart (scope_calls b xs)
 scope_calls_apart (Open s o) xs = opening_apart (enter_answer (option_in o) (isolation_in o) xs) (timeout_in o) (entering (option_in o) (name_in o) xs)
-scope_calls_apart (Close s) xs = closing_apart (close_answer s.value xs) (closing xs) (rolled_back s.value xs) (once_apart [] (all_of transaction_of (taken_off s.value xs)))
+scope_calls_apart (Close s) xs = closing_apart (close_answer s.value xs) (closing xs) (rolled_back s.value xs) (once_apart [] (all_of scope_transaction (taken_off s.value xs)))
 scope_calls_apart _ xs = tt

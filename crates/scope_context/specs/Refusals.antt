@@ -7,7 +7,7 @@ use Rattle.dtx_values.specs.declared.scope.OpenScope.{OpenScope}
 use Rattle.dtx_values.specs.declared.words.Iso.{Iso}
 use Rattle.dtx_values.specs.declared.words.ScopeOption.{ScopeOption}
 use Rattle.dtx_model.specs.Words.{has}
-use Rattle.dtx_model.specs.Scopes.{differing, is_complete_scope, is_deep, is_scope, top_above, transaction_of}
+use Rattle.dtx_model.specs.Scopes.{differing, is_complete_scope, is_deep, is_scope, top_above, scope_transaction}
 use Rattle.scope_context.specs.declared.refusal.ScopeRefusal.{ScopeRefusal}
 use Rattle.scope_context.specs.declared.refusal.ScopeRefusal.TheVariants.{TooDeep, IsolationDiffers, NoScope, AlreadyComplete, NestedWrongly}
 
@@ -34,4 +34,4 @@ close_refusal s xs = if not (has (is_scope s.value) xs) then Some (NoScope s) el
 -- the ambient transaction, which a complete top no longer gives
 abbrev pub current_result : List OpenScope → Result (Option TxNo) ScopeRefusal
 current_result [] = Ok None
-current_result (x ∷ xs) = if x.complete then Err (AlreadyComplete x.scope) else Ok (transaction_of x)
+current_result (x ∷ xs) = if x.complete then Err (AlreadyComplete x.scope) else Ok (scope_transaction x)

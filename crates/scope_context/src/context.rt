@@ -2,7 +2,7 @@
 ghost use Rattle.std.specs.Prelude.{◌≡◌, ◌==◌, ◌<◌, ◌≤◌, ◌+◌, ◌++◌, List, [], ◌∷◌, false, true, find, reverse, is_some, length, map, vec_capacity, Err, None, Some, IfErr, IfOk, OnErr, OnOk};
 ghost use Rattle.dtx_values.specs.declared.number.ScopeNo.{ScopeNo};
 ghost use Rattle.dtx_model.specs.Words.{all_of, has, onto, past_of, put};
-ghost use Rattle.dtx_model.specs.Scopes.{ScopeEntry, Opens, Finishes, Closes, ambient, beneath, closing, closing_with, completed_in, differing, entering, is_complete_scope, is_scope, isolation_made, isolation_of, makes_it, once, open_scopes, rolled_back, taken_off, transaction_in, transaction_of, with_complete};
+ghost use Rattle.dtx_model.specs.Scopes.{ScopeEntry, Opens, Finishes, Closes, ambient, beneath, closing, closing_with, completed_in, differing, entering, is_complete_scope, is_scope, isolation_made, isolation_of, makes_it, once, open_scopes, rolled_back, taken_off, transaction_in, scope_transaction, with_complete};
 ghost use Rattle.scope_context.specs.declared.refusal.ScopeRefusal.TheVariants.{NestedWrongly, NoScope};
 ghost use Rattle.scope_context.specs.Refusals.{close_refusal, complete_refusal, current_result, enter_refusal};
 
@@ -320,7 +320,7 @@ fn roll_back(rolled: &mut Vec<TxNo>, t: Option<TxNo>)
 fn take_off(scopes: &mut Vec<OpenScope>, rolled: &mut Vec<TxNo>, s: ScopeNo)
     requires { length rolled.old.items + length scopes.old.items ≤ vec_capacity rolled.old }
     ensures left { past_of scopes.new.items ≡ beneath s.value (past_of scopes.old.items) }
-    ensures rolled { rolled.new.items ≡ rolled.old.items ++ once (past_of rolled.old.items) (all_of transaction_of (taken_off s.value (past_of scopes.old.items))) }
+    ensures rolled { rolled.new.items ≡ rolled.old.items ++ once (past_of rolled.old.items) (all_of scope_transaction (taken_off s.value (past_of scopes.old.items))) }
     ensures scopes_capacity { vec_capacity scopes.old ≤ vec_capacity scopes.new }
     ensures rolled_capacity { vec_capacity rolled.old ≤ vec_capacity rolled.new }
 {

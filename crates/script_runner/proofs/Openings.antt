@@ -17,7 +17,7 @@ use Rattle.dtx_values.specs.declared.script.Body.{Body}
 use Rattle.dtx_values.specs.declared.script.Body.TheVariants.{Open, Finish, Close, Current}
 use Rattle.dtx_values.specs.declared.script.Line.{Line}
 use Rattle.dtx_model.specs.Words.{has, each, always, onto, past_of, put}
-use Rattle.dtx_model.specs.Scopes.{ScopeEntry, Opens, Finishes, Closes, close_answer, closes, complete_answer, enter_answer, entering, finishes, is_scope, open_before, open_scopes, taken_off}
+use Rattle.dtx_model.specs.Scopes.{ScopeEntry, Opens, Finishes, Closes, close_answer, closes, finish_answer, enter_answer, entering, finishes, is_scope, open_before, open_scopes, taken_off}
 use Rattle.dtx_model.specs.Contexts.{called_with, entries_if, entries_of, isolation_in, name_in, option_in, scope_answer, scope_block, scope_calls, scope_entries, scopes_of, took_off}
 use Rattle.dtx_model.specs.Grammar.{OfScope, are_named_well, is_made, is_named_well, makes, opening_makes, same_name, uses}
 use Rattle.dtx_model.specs.Replay.{CallRan, LineRan, LinesRan, Placed, after_calls, after_scope, after_step, noted}
@@ -150,7 +150,7 @@ entries_make s (Open u o) xs h = step (is_fine (enter_answer (option_in o) (isol
         → ((s == u.value) || has (λ m. same_name (OfScope s) m) (opening_makes o)) ≡ true
     step true h = or_case (s == u.value) false (λ e. rw e refl) (λ e. absurd (cc)) h
     step false h = absurd (cc)
-entries_make s (Finish u) xs h = step (is_fine (complete_answer u.value xs)) h
+entries_make s (Finish u) xs h = step (is_fine (finish_answer u.value xs)) h
   where
     step : (b : Bool) → has (opens s) (entries_if b (Finishes u ∷ [])) ≡ true → false ≡ true
     step true h = h

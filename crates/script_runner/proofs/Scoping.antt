@@ -22,7 +22,7 @@ use Rattle.dtx_values.specs.declared.words.Iso.{Iso}
 use Rattle.dtx_values.specs.declared.words.ScopeOption.{ScopeOption}
 use Rattle.dtx_model.specs.Words.{onto, past_of}
 use Rattle.dtx_model.specs.Observed.{Observed}
-use Rattle.dtx_model.specs.Scopes.{ScopeEntry, Opens, Finishes, Closes, close_answer, complete_answer, differing, enter_answer, entering, is_deep, is_scope, open_scopes, taken_off, unless_differing}
+use Rattle.dtx_model.specs.Scopes.{ScopeEntry, Opens, Finishes, Closes, close_answer, finish_answer, differing, enter_answer, entering, is_deep, is_scope, open_scopes, taken_off, unless_differing}
 use Rattle.dtx_model.specs.Contexts.{called_with, entries_if, isolation_in, name_in, opening_calls, option_in, scope_answer, scope_block, scope_calls, scope_entries, timeout_in, took_off, written}
 use Rattle.dtx_model.specs.Replay.{Placed, noted}
 use Rattle.dtx_model.specs.Steps.{is_fine}
@@ -104,7 +104,7 @@ length-entries_if false es n k = omega arith
 few_entries : (b : Body) (xs : List OpenScope) → length (scope_entries b xs) ≤ length xs + 1
 few_entries (Open s o) xs =
     length-entries_if (is_fine (enter_answer (option_in o) (isolation_in o) xs)) (Opens s (entering (option_in o) (name_in o) xs) (isolation_in o) ∷ []) (length xs + 1) (omega arith)
-few_entries (Finish s) xs = length-entries_if (is_fine (complete_answer s.value xs)) (Finishes s ∷ []) (length xs + 1) (omega arith)
+few_entries (Finish s) xs = length-entries_if (is_fine (finish_answer s.value xs)) (Finishes s ∷ []) (length xs + 1) (omega arith)
 few_entries (Close s) xs =
     let taken = length-taken_off s.value xs in
     length-entries_if (took_off (close_answer s.value xs)) (map (λ x. Closes x.scope) (taken_off s.value xs)) (length xs + 1) (simp length-map (omega (arith, taken)))
