@@ -12,6 +12,7 @@
 //! All rules here are definitions of this project.
 #![tactic(auto)]
 
+mod disk;
 mod failure;
 mod memory;
 mod plan;
@@ -23,6 +24,8 @@ mod tape;
 #[cfg(test)]
 mod tests;
 
+pub use disk::Disk;
+pub use dtx_values::Image;
 pub use failure::{Failed, WriteError};
 pub use memory::{MemSink, MemSource};
 pub use sink::Sink;

@@ -1,0 +1,23 @@
+//! The coordinator's log: the commit records that are to outlive a crash, in slots with gates on a disk.
+//!
+//! A record that was appended stands in every image that a crash can leave, at every moment from then on, until it is freed. A call that a fault or an armed stop breaks off
+//! leaves each image as before, or as after it. The layout and the order of the device calls are a definition of this project; the rule that no record means abort is
+//! presumed abort's.
+#![tactic(auto)]
+
+mod device;
+mod empty;
+mod law;
+mod log;
+mod opening;
+mod reading;
+mod refusal;
+mod scratch;
+mod slots;
+mod stop;
+#[cfg(test)]
+mod tests;
+mod writing;
+
+pub use log::Log;
+pub use refusal::LogRefusal;

@@ -1,0 +1,76 @@
+//! The slots in memory.
+ghost use Rattle.std.specs.Prelude.{◌≡◌, ◌≤◌, ◌<◌, ◌×◌, ◌≢◌, [], None, Some, length, set, slice_index_or, IfNone, IfOk, IfSome, IsSome};
+ghost use Rattle.std.specs.Option.{option_map};
+ghost use Rattle.dtx_model.specs.Log.{first_of, record_of, without_first_of};
+ghost use Rattle.coordinator_log.specs.Slots.{lowest_closed, open_records};
+
+use dtx_values::LogRecord;
+use std::alloc::{AllocError, Global};
+use std::marker::Model;
+
+/// The 1,024 slots of a log. Contracts see the list of their records, with none where the gate is closed.
+#[derive(Drop)]
+pub struct Slots {
+    records: Vec<Option<LogRecord>>,
+}
+
+impl Model for Slots {
+    ghost use Rattle.std.specs.Prelude.{◌≡◌, List, Option, length, map};
+    ghost use Rattle.std.specs.Option.{option_map};
+    ghost use Rattle.dtx_model.specs.Log.{CommitRecord, record_of};
+
+    ghost Value = { List (Option CommitRecord) };
+
+    ghost view = { λ s. map (option_map record_of) s.records.items };
+
+    ghost invariant = { λ s. length s.records.items ≡ 1024 };
+}
+
+impl Slots {
+    /// All gates are closed.
+    pub fn new(alloc: Global) -> Result<Slots, AllocError>
+        ensures empty { IfOk result (λ s. open_records s ≡ []) }
+        ensures many { IfOk result (λ s. length s ≡ 1024) }
+    {
+    }
+
+    /// The lowest slot whose gate is closed.
+    pub fn lowest_closed(&self) -> Option<usize>
+        ensures some { IfSome result (λ k. (k < 1024) × (slice_index_or self.now k None ≡ None) × (lowest_closed self.now ≡ k)) }
+        ensures none { IfNone result (lowest_closed self.now ≡ 1024) }
+        ensures many { length self.now ≡ 1024 }
+    {
+    }
+
+    /// The lowest slot with a record of this identifier.
+    pub fn found(&self, id: u128) -> Option<usize>
+        ensures some { IfSome result (λ k. (k < 1024) × IsSome (slice_index_or self.now k None) × (first_of id (open_records self.now) ≡ slice_index_or self.now k None)) }
+        ensures rest { IfSome result (λ k. open_records (set self.now k None) ≡ without_first_of id (open_records self.now)) }
+        ensures none { IfNone result (first_of id (open_records self.now) ≡ None) }
+        ensures many { length self.now ≡ 1024 }
+    {
+    }
+
+    /// The record of slot k.
+    pub fn record(&self, k: usize) -> Option<&LogRecord>
+        requires { k < 1024 }
+        ensures { option_map (λ r. record_of r.now) result ≡ slice_index_or self.now k None }
+    {
+        self.records[k].as_ref()
+    }
+
+    /// Puts a record into slot k, or takes it out.
+    pub fn set(&mut self, k: usize, r: Option<LogRecord>)
+        requires { k < 1024 }
+        ensures slots { self.new ≡ set self.old k (option_map record_of r) }
+        ensures many { length self.new ≡ 1024 }
+    {
+        self.records[k] = r;
+    }
+
+    /// How many records there are.
+    pub fn count(&self) -> u16
+        ensures { result ≡ length (open_records self.now) }
+    {
+    }
+}

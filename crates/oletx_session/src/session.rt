@@ -1,0 +1,160 @@
+//! The connections of one transaction.
+ghost use Rattle.std.specs.Prelude.{◌≡◌, ◌≢◌, ◌⊎◌, ◌↔◌, ◌≤◌, ◌<◌, ◌+◌, ◌++◌, List, [], ℕ, Bool, Some, None, Err, true, false, length, min, take, IfOk, IfErr, IfSome, OnErr, OnOk, IsTrue, IsErrOf};
+ghost use Rattle.std.specs.List.{flat_map};
+ghost use Rattle.dtx_values.specs.declared.entry.Entry.{Entry};
+ghost use Rattle.dtx_values.specs.declared.entry.Entry.TheVariants.{Cut, Down as End, Got, Sent};
+ghost use Rattle.dtx_values.specs.declared.message.Dir.TheVariants.{Up, Down};
+ghost use Rattle.dtx_values.specs.declared.message.Message.{Message};
+ghost use Rattle.dtx_model.specs.Frames.{frame_of, is_valid};
+ghost use Rattle.dtx_model.specs.Messages.{has_line};
+ghost use Rattle.dtx_model.specs.Wires.{MayCross, is_stopped, opens};
+ghost use Rattle.oletx_frames.specs.declared.refusal.FrameRefusal.{FrameRefusal};
+ghost use Rattle.oletx_session.specs.Traffic.{Becomes, Delivers, Ends, IsCut, Spells, fresh, has_left, is_open, is_taken, lane, may_send, sent_on, wire_of};
+ghost use Rattle.oletx_session.specs.Carries.{Carries, IsStarted};
+
+use crate::packet::Packet;
+use crate::refusal::SessionRefusal;
+use dtx_values::{Conn, Dir, Message, ROOM};
+use oletx_frames::{FrameRefusal, decode, encode};
+use std::alloc::{AllocError, Global};
+use std::marker::Model;
+
+/// What is delivered to one side of a connection.
+#[derive(Clone, Copy, PartialEq, Eq, Debug)]
+pub enum Delivered {
+    /// The next message.
+    Msg(Message),
+    /// The bytes on the way don't begin with a frame.
+    BadFrame(FrameRefusal),
+    /// The end of the connection.
+    End,
+}
+
+/// What is known of a connection since it was started last.
+#[derive(Clone, Copy)]
+pub struct Link {
+    pub connection: Conn,
+    pub lost: bool,
+    /// Whether the coordinator saw the connection's end.
+    pub up_ended: bool,
+    /// Whether the local side saw it.
+    pub down_ended: bool,
+}
+
+/// The connections of one transaction.
+///
+/// A clause sees the connections that were started, each with the bytes on the way in both directions, and the room for calls of `start` and `send`.
+#[derive(Drop)]
+pub struct Session {
+    links: Vec<Link>,
+    /// What is on the way on all connections, in the order in which it was sent.
+    packets: Vec<Packet>,
+}
+
+impl Model for Session {
+    ghost use Rattle.oletx_session.specs.Traffic.{Traffic};
+
+    ghost Value = { Traffic };
+}
+
+impl Session {
+    /// No connection was started.
+    pub fn new(alloc: Global) -> Result<Session, AllocError>
+        ensures none { IfOk result (λ s. s.wires ≡ []) }
+        ensures carries { IfOk result (λ s. Carries s.wires []) }
+    {
+    }
+
+    /// Makes room for [`ROOM`] (64) calls of `start` and as many of `send`. While it lasts, neither needs memory.
+    pub fn reserve(&mut self) -> Result<(), AllocError>
+        ensures same { self.new.wires ≡ self.old.wires }
+        ensures room { OnOk result ((64 ≤ self.new.start_room) × (64 ≤ self.new.send_room)) }
+        ensures start_room { self.old.start_room ≤ self.new.start_room }
+        ensures send_room { self.old.send_room ≤ self.new.send_room }
+    {
+    }
+
+    /// Starts a connection. Nothing is on the way yet.
+    ///
+    /// # Errors
+    ///
+    /// - [`SessionRefusal::Taken`] exactly where the connection is open or has something left to deliver.
+    /// - [`SessionRefusal::Memory`], only where no room is left.
+    pub fn start(&mut self, c: Conn) -> Result<(), SessionRefusal>
+        ensures started { OnOk result (Becomes c (fresh c) self.old.wires self.new.wires) }
+        ensures taken { IsErrOf result (SessionRefusal.Taken c) ↔ (is_taken (wire_of c self.old.wires) ≡ true) }
+        ensures memory { IsErrOf result SessionRefusal.Memory → self.old.start_room ≡ 0 }
+        ensures only { IfErr result (λ e. (e ≡ SessionRefusal.Taken c) ⊎ (e ≡ SessionRefusal.Memory)) }
+        ensures unchanged { OnErr result (self.new.wires ≡ self.old.wires) }
+        ensures start_room { self.old.start_room ≤ self.new.start_room + 1 }
+        ensures send_room { self.old.send_room ≤ self.new.send_room }
+        ensures carries { OnOk result ((h : List Entry) → Carries self.old.wires h → IsStarted c self.new.wires h) }
+    {
+    }
+
+    /// Puts the frame of a valid message behind what is on the way. On a lost connection whose end the sender hasn't seen it is dropped.
+    ///
+    /// # Errors
+    ///
+    /// - [`SessionRefusal::NotOpen`] exactly where the connection was never started or its sender saw its end.
+    /// - [`SessionRefusal::Memory`], only where no room is left.
+    pub fn send(&mut self, c: Conn, d: Dir, m: &Message) -> Result<(), SessionRefusal>
+        requires { is_valid m.now ≡ true }
+        ensures sent { OnOk result (IfSome (wire_of c self.old.wires) (λ w. Becomes c (sent_on d m.now w) self.old.wires self.new.wires)) }
+        ensures not_open { IsErrOf result (SessionRefusal.NotOpen c) ↔ (may_send d (wire_of c self.old.wires) ≡ false) }
+        ensures memory { IsErrOf result SessionRefusal.Memory → self.old.send_room ≡ 0 }
+        ensures only { IfErr result (λ e. (e ≡ SessionRefusal.NotOpen c) ⊎ (e ≡ SessionRefusal.Memory)) }
+        ensures unchanged { OnErr result (self.new.wires ≡ self.old.wires) }
+        ensures start_room { self.old.start_room ≤ self.new.start_room }
+        ensures send_room { self.old.send_room ≤ self.new.send_room + 1 }
+        // over histories: a message that opens nothing, and the one that opens a connection that was just started
+        ensures carries { OnOk result ((h : List Entry) → Carries self.old.wires h → opens c (Sent c d m.now) ≡ false → Carries self.new.wires (Sent c d m.now ∷ h)) }
+        ensures opened { OnOk result ((h : List Entry) → IsStarted c self.old.wires h → opens c (Sent c d m.now) ≡ true → is_stopped h ≡ false
+            → Carries self.new.wires (Sent c d m.now ∷ h)) }
+    {
+    }
+
+    /// Takes what comes next to the side that gets in this direction: the next message, or the end of a lost connection behind the last one, once. `None` exactly where
+    /// nothing is left.
+    pub fn deliver(&mut self, c: Conn, d: Dir) -> Option<Delivered>
+        ensures none { (result ≡ None) ↔ (has_left d (wire_of c self.old.wires) ≡ false) }
+        ensures unchanged { result ≡ None → self.new.wires ≡ self.old.wires }
+        ensures message { (m : Message) → result ≡ Some (Delivered.Msg m) → IfSome (wire_of c self.old.wires) (λ w. Delivers c d m w self.old.wires self.new.wires) }
+        ensures end { result ≡ Some Delivered.End → IfSome (wire_of c self.old.wires) (λ w. Ends c d w self.old.wires self.new.wires) }
+        ensures never { (e : FrameRefusal) → result ≢ Some (Delivered.BadFrame e) }
+        ensures start_room { self.old.start_room ≤ self.new.start_room }
+        ensures send_room { self.old.send_room ≤ self.new.send_room }
+        // over histories: what is got was the next on the way, and an end comes where it may
+        ensures got { (m : Message) (h : List Entry) → result ≡ Some (Delivered.Msg m) → Carries self.old.wires h
+            → MayCross h (Got c d m) × (has_line c d m ≡ true → Carries self.new.wires (Got c d m ∷ h)) }
+        ensures down { (h : List Entry) → result ≡ Some Delivered.End → Carries self.old.wires h → MayCross h (End c d) × Carries self.new.wires (End c d ∷ h) }
+    {
+    }
+
+    /// Whether something is left to deliver in this direction.
+    pub fn has_left(&self, c: Conn, d: Dir) -> bool
+        ensures left { result ≡ has_left d (wire_of c self.now.wires) }
+        // what is on the way are frames of valid messages, one behind the other
+        ensures frames { IfSome (wire_of c self.now.wires) (λ w. (ms : List Message) × Spells (lane d w).bytes ms) }
+    {
+    }
+
+    /// Whether the connection is open: it was started, and isn't lost.
+    pub fn is_open(&self, c: Conn) -> bool
+        ensures { result ≡ is_open (wire_of c self.now.wires) }
+    {
+    }
+
+    /// Loses an open connection. The first `up` messages on the way upward and the first `down` on the way downward are kept, or all where fewer are left, and its end comes
+    /// behind them. It gives the numbers kept; `None` exactly where the connection isn't open. It takes no memory.
+    pub fn lose(&mut self, c: Conn, up: u32, down: u32) -> Option<(u32, u32)>
+        ensures none { (result ≡ None) ↔ (is_open (wire_of c self.old.wires) ≡ false) }
+        ensures unchanged { result ≡ None → self.new.wires ≡ self.old.wires }
+        ensures lost { IfSome result (λ k. IfSome (wire_of c self.old.wires) (λ w. (us ds : List Message) → Spells w.up.bytes us → Spells w.down.bytes ds
+            → IsCut c w us ds up down k self.old.wires self.new.wires)) }
+        ensures start_room { self.old.start_room ≤ self.new.start_room }
+        ensures send_room { self.old.send_room ≤ self.new.send_room }
+        ensures cut { (h : List Entry) → IfSome result (λ k. Carries self.old.wires h → Carries self.new.wires (Cut c k.0 k.1 ∷ h)) }
+    {
+    }
+}

@@ -1,0 +1,88 @@
+// A device of fixed length that outlives a crash.
+ghost use Rattle.std.specs.Prelude.{◌≡◌, ◌≤◌, ◌+◌, Bool, List, ℕ, length, take, drop, OnOk, OnErr, IsTrue};
+ghost use Rattle.outside.specs.Faults.{Rose};
+ghost use Rattle.outside.specs.Disk.{AreWithin, Follows, IsOnly, IsTorn, overwritten};
+
+use crate::Failed;
+use dtx_values::Image;
+
+/// A device of fixed length, whose content outlives a crash.
+///
+/// A disk that is honest tells what a read gives, and its images: what a crash now may leave. Between two successful syncs each range that was written may hold any bytes
+/// after a crash, and the bytes outside these ranges stay. After a successful sync a crash leaves what a read gives. A write that failed may leave any bytes in its range, and
+/// a sync that failed makes nothing safe. As a call may fail at any place, a crash inside a call leaves no more than a fault of that call does.
+///
+/// A disk that isn't honest tells nothing of content. Whether it is honest is said of its type, so no call changes it. The rules are a definition of this project.
+pub trait Disk {
+    /// Whether it tells what it holds.
+    ghost honest: { Bool };
+
+    /// Its length in bytes.
+    ghost size: { Self → ℕ };
+
+    /// What a read gives, from the first byte to the last.
+    ghost seen: { Self → List ℕ };
+
+    /// What a crash now may leave.
+    ghost image: { Self → List ℕ → Type 0 };
+
+    /// How many calls met a fault, where the count stays at the last value of a `u64`.
+    ghost faults: { Self → ℕ };
+
+    /// Its length in bytes.
+    fn len(&self) -> u64
+        ensures { result ≡ size self.now };
+
+    /// Reads the bytes from place `at` on, as many as `into` holds. They lie inside the device.
+    ///
+    /// # Errors
+    ///
+    /// [`Failed`], only where the count of faults rose.
+    fn read(&mut self, at: u64, into: &mut [u8]) -> Result<(), Failed>
+        requires { at + length into.old ≤ size self.old }
+        ensures bytes { IsTrue honest → OnOk result (into.new ≡ take (length into.old) (drop at (seen self.old))) }
+        ensures seen { IsTrue honest → seen self.new ≡ seen self.old }
+        ensures images { IsTrue honest → AreWithin (image self.old) (image self.new) }
+        ensures size { size self.new ≡ size self.old }
+        ensures grows { faults self.old ≤ faults self.new }
+        ensures cause { OnErr result (Rose (faults self.old) (faults self.new)) };
+
+    /// Writes the bytes over those from place `at` on. They lie inside the device.
+    ///
+    /// # Errors
+    ///
+    /// [`Failed`], only where the count of faults rose. The range may then hold any bytes.
+    fn write_at(&mut self, at: u64, from: &[u8]) -> Result<(), Failed>
+        requires { at + length from.now ≤ size self.old }
+        ensures written { IsTrue honest → OnOk result (seen self.new ≡ overwritten (seen self.old) at from.now) }
+        ensures images { IsTrue honest → Follows (IsTorn at (length from.now)) (image self.old) (image self.new) }
+        ensures size { size self.new ≡ size self.old }
+        ensures grows { faults self.old ≤ faults self.new }
+        ensures cause { OnErr result (Rose (faults self.old) (faults self.new)) };
+
+    /// Makes what a read gives safe.
+    ///
+    /// # Errors
+    ///
+    /// [`Failed`], only where the count of faults rose. Nothing more is safe then.
+    fn sync(&mut self) -> Result<(), Failed>
+        ensures durable { IsTrue honest → OnOk result (IsOnly (seen self.old) (image self.new)) }
+        ensures seen { IsTrue honest → seen self.new ≡ seen self.old }
+        ensures images { IsTrue honest → AreWithin (image self.old) (image self.new) }
+        ensures size { size self.new ≡ size self.old }
+        ensures grows { faults self.old ≤ faults self.new }
+        ensures cause { OnErr result (Rose (faults self.old) (faults self.new)) };
+
+    /// A crash: what a read gives from now on is one of the images. Which one is a wish. It makes nothing safe.
+    fn crash(&mut self, wish: Image)
+        ensures left { IsTrue honest → image self.old (seen self.new) }
+        ensures images { IsTrue honest → AreWithin (image self.old) (image self.new) }
+        ensures size { size self.new ≡ size self.old }
+        ensures count { faults self.new ≡ faults self.old };
+
+    /// What a read gives is one of the images.
+    ghost sees: { (d : Self) → IsTrue honest → image d (seen d) };
+
+    /// Each image is as long as the device.
+    ghost long: { (d : Self) (c : List ℕ) → IsTrue honest → image d c → length c ≡ size d };
+}
