@@ -6,6 +6,7 @@ use Rattle.std.proofs.lemmas.Nat.{from_be_bytes-to_be_bytes_8}
 use Rattle.std.specs.Int.{w128, from_be_bytes, to_be_bytes}
 use Rattle.dtx_model.specs.Frames.{id_body}
 use Rattle.dtx_values.specs.declared.message.Info.{Info}
+use Rattle.dtx_model.specs.Words.{or_else}
 use Rattle.dtx_model.specs.RecoveryInfo.{IsInfo, bad_field, bad_identifier, count_in, enlistment_in, info_bytes, is_from_one, is_id, manager_in, node_in}
 use Rattle.dtx_model.proofs.Halves.{be_bytes_16, to_halves}
 use Rattle.durable_enlist.proofs.Infos.{AreBytes, written_enlistment, written_manager}
@@ -37,10 +38,10 @@ count_of_id u = ap count_in (to_halves u) ∙ from_be_bytes-to_be_bytes_8 (u % 2
 two_good : (h l : ℕ) → 1 ≤ h → 1 ≤ l → cond {A = Option ℕ} (not (leb 1 h)) (Some 0) (cond (not (leb 1 l)) (Some 8) None) ≡ None
 two_good h l node count = grind (arith, nat_tests)
 
--- recovery information whose four fields are good has none either
-four_good : (h l m e : ℕ) → 1 ≤ h → 1 ≤ l → is_from_one 16 m ≡ true → is_from_one 9999 e ≡ true
-    → cond {A = Option ℕ} (not (leb 1 h)) (Some 0) (cond (not (leb 1 l)) (Some 8) (cond (not (is_from_one 16 m)) (Some 16) (cond (not (is_from_one 9999 e)) (Some 32) None))) ≡ None
-four_good h l m e node count manager enlistment = grind (arith, nat_tests)
+-- nor has a manager and an enlistment in their ranges
+numbers_good : (m e : ℕ) → is_from_one 16 m ≡ true → is_from_one 9999 e ≡ true
+    → cond {A = Option ℕ} (not (is_from_one 16 m)) (Some 16) (cond (not (is_from_one 9999 e)) (Some 32) None) ≡ None
+numbers_good m e manager enlistment = grind (arith, nat_tests)
 
 -- the node of a valid identifier isn't 0
 node_there : (u : ℕ) → is_id u ≡ true → 1 ≤ node_in (id_body u)
@@ -62,5 +63,6 @@ good_info i valid =
     let p : IsInfo b i = record { valid = valid; bytes = refl } in
     let m = written_manager b i p in
     let e = written_enlistment b i p in
-    four_good (node_in b) (count_in b) (manager_in b) (enlistment_in b) (node_there i.id valid) (count_there i.id valid) (ap (is_from_one 16) m ∙ grind (arith, nat_tests, i.rm.in_range))
-    (ap (is_from_one 9999) e ∙ grind (arith, nat_tests, i.enl.in_range))
+    let id : bad_identifier b ≡ None = two_good (node_in b) (count_in b) (node_there i.id valid) (count_there i.id valid) in
+    let numbers = numbers_good (manager_in b) (enlistment_in b) (ap (is_from_one 16) m ∙ grind (arith, nat_tests, i.rm.in_range)) (ap (is_from_one 9999) e ∙ grind (arith, nat_tests, i.enl.in_range)) in
+    λ j. or_else (id j) (numbers j)
