@@ -647,20 +647,24 @@ impl LocalHalf {
         }
     }
 
-    /// To what a reply of the enlistment with this row is due.
-    fn due_note(&self, x: &(EnlNo, Row)) -> Option<Note>
+    /// To what a reply of the enlistment with this row is due; `None` exactly where none is.
+    pub fn due_note(&self, x: &(EnlNo, Row)) -> Option<Note>
         ensures { result ≡ due_note self.now.seen x.now }
     {
-        if self.decided.is_some() || self.is_gone(x.0) {
+        if self.decided.is_some() {
             return None;
         }
-        if x.1.asked.is_some() && x.1.vote.is_none() {
-            return Some(Note::Prepare);
+        let note = if x.1.asked.is_some() && x.1.vote.is_none() {
+            Note::Prepare
+        } else if self.is_handed(x.0) {
+            Note::Hand
+        } else {
+            return None;
+        };
+        if self.is_gone(x.0) {
+            return None;
         }
-        if self.is_handed(x.0) {
-            return Some(Note::Hand);
-        }
-        None
+        Some(note)
     }
 
     /// The lowest enlistment of which a reply is due, with the note; `None` exactly where none is due.

@@ -2,7 +2,6 @@
 use Rattle.std.proofs.Common.{◌≡◌, ℕ, zero, suc, ◌+◌, ◌<◌, get_or, true, List, [], ◌∷◌, ◌++◌, length, drop, Option, Some, None, is_some, slice_get, refl, ap, sym, ◌∙◌, subst, arith, append_assoc, length-append}
 use Rattle.std.specs.List.{cons_option, filter_map}
 use Rattle.std.proofs.lemmas.List.{drop_more}
-use Rattle.std.proofs.lemmas.Option.{slice_get-get_or}
 use Rattle.dtx_values.specs.declared.note.Note.{Note}
 use Rattle.dtx_values.specs.declared.note.Note.TheVariants.{Prepare as PrepareNote, Hand as HandNote}
 use Rattle.dtx_values.specs.declared.note.Reply.{Reply}
@@ -84,15 +83,12 @@ unfolding due_of
 due_row o k x a e = ap (note_of o) (found_apart o.table k x a e)
 
 -- the row at a place, and the reply that its enlistment plans to the note to which one is due of it
-pub due_here : (s : List Line) (o : Observed) (k : ℕ) (x : Enlistment) (xs : List Enlistment) (r : Option Reply) → are_apart o.table ≡ true → xs ≡ o.table → k < length xs → x ≡ get_or xs k x
-    → r ≡ planned_reply s x.0.value (due_of o x.0.value) → (drop k o.table ≡ x ∷ drop (k + 1) o.table) × (due_reply s o x ≡ reply_step x.0 r)
-due_here s o k x xs r a same less here planned =
+pub due_here : (s : List Line) (o : Observed) (k : ℕ) (x : Enlistment) (xs : List Enlistment) (r : Option Reply) → xs ≡ o.table → k < length xs → x ≡ get_or xs k x
+    → r ≡ planned_reply s x.0.value (due_note o x) → (drop k o.table ≡ x ∷ drop (k + 1) o.table) × (due_reply s o x ≡ reply_step x.0 r)
+due_here s o k x xs r same less here planned =
     let within : k < length o.table = subst (λ (ys : List Enlistment). k < length ys) same less in
     let item : x ≡ get_or o.table k x = subst (λ (ys : List Enlistment). x ≡ get_or ys k x) same here in
-    let stands : slice_get o.table k ≡ Some x = slice_get-get_or {X = Enlistment} o.table k x within ∙ ap Some (sym item) in (
-      drop_more o.table k x within ∙ ap (λ (y : Enlistment). y ∷ drop (k + 1) o.table) (sym item),
-      ap (λ (n : Option Note). reply_step x.0 (planned_reply s x.0.value n)) (sym (due_row o k x a stands)) ∙ ap (reply_step x.0) (sym planned),
-    )
+    (drop_more o.table k x within ∙ ap (λ (y : Enlistment). y ∷ drop (k + 1) o.table) (sym item), ap (reply_step x.0) (sym planned))
 
 -- a reply that an enlistment plans fits its note
 planned_fits : (s : List Line) (e : ℕ) (n : Note) (r : Reply) → planned_reply s e (Some n) ≡ Some r → fits r n ≡ true

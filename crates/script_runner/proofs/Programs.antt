@@ -1,5 +1,5 @@
 -- From what the parts of the top call say to what it promises.
-use Rattle.std.proofs.Common.{◌≡◌, ℕ, Bool, IsTrue, map, get_or, Global, String, ◌<◌, ◌≤◌, List, [], ◌∷◌, ◌++◌, length, take, drop, Option, Some, refl, ap, sym, ◌∙◌, subst, arith}
+use Rattle.std.proofs.Common.{◌≡◌, ℕ, Bool, true, IsTrue, map, get_or, Global, String, ◌<◌, ◌≤◌, List, [], ◌∷◌, ◌++◌, length, take, drop, Option, Some, refl, ap, sym, ◌∙◌, subst, arith}
 use Rattle.std.proofs.Math.ListN.{drop_of_length-le}
 use Rattle.std.proofs.lemmas.List.{length-take, take_all}
 use Rattle.std.specs.Option.{ForSome}
@@ -10,9 +10,9 @@ use Rattle.std.specs.Cmp.Lexicographic.{bytes_decides}
 use Rattle.dtx_values.specs.declared.script.Line.{Line}
 use Rattle.dtx_values.specs.declared.script.BadCause.{BadCause}
 use Rattle.dtx_model.specs.Faults.{Bad}
-use Rattle.dtx_model.specs.Grammar.{IsNotRun, IsNotYet, Reads}
+use Rattle.dtx_model.specs.Grammar.{IsNotRun, IsNotYet, Reads, are_run}
 use Rattle.script_runner.specs.Program.{IsCutShort, IsReplayOf, IsWritten}
-use Rattle.script_runner.specs.Refusal.{IsReplayText}
+use Rattle.script_runner.specs.Refusal.{IsTextOf}
 use Rattle.script_runner.specs.Transfer.{IsPartWritten}
 use Rattle.script_runner.proofs.RunLines.{all_run_none, one_not_run}
 
@@ -29,42 +29,41 @@ reads-all b s r = subst (λ (x : List ℕ). Reads x s) (take_all 1048577 b (omeg
 abbrev pub IsFront : Option (List ℕ) → List ℕ → Type 0
 IsFront given bytes = ForSome given (λ b. bytes ≡ take 1048577 b)
 
-pub replay-of : (given : Option (List ℕ)) (bytes text : List ℕ) → IsFront given bytes → (r : IsReplayText bytes text) → IsReplayOf given r.lines r.trace
-replay-of given bytes text front r =
-    record {
-      read = λ b told. reads-all b r.lines (subst (λ (x : List ℕ). Reads x r.lines) (front b told) (r.replay.read bytes refl));
-      history = r.replay.history;
-      outcome = r.replay.outcome;
-      complete = r.replay.complete;
-    }
+-- so a script in what was read is the script of all
+pub reads-front : (given : Option (List ℕ)) (bytes : List ℕ) (s : List Line) → IsFront given bytes → Reads bytes s → ForSome given (λ b. Reads b s)
+reads-front given bytes s front reads b told = reads-all b s (subst (λ (x : List ℕ). Reads x s) (front b told) reads)
+
+pub replay-of : (given : Option (List ℕ)) (bytes : List ℕ) (s : List Line) (text : List ℕ) → IsFront given bytes → Reads bytes s → (t : IsTextOf s text) → IsReplayOf given s t.trace
+replay-of given bytes s text front reads t =
+    record { read = reads-front given bytes s front reads; history = t.history; outcome = t.outcome; complete = t.complete }
 
 -- the text was written whole
-pub is_written : (given before after : Option (List ℕ)) (bytes text out : List ℕ) → IsFront given bytes → IsReplayText bytes text → out ≡ text → ForSome before (λ w. after ≡ Some (w ++ out))
-    → IsWritten given before after
-is_written given before after bytes text out front r same gained =
+pub is_written : (given before after : Option (List ℕ)) (bytes : List ℕ) (s : List Line) (text out : List ℕ) → IsFront given bytes → Reads bytes s → IsTextOf s text → out ≡ text
+    → ForSome before (λ w. after ≡ Some (w ++ out)) → IsWritten given before after
+is_written given before after bytes s text out front reads t same gained =
     record {
-      lines = r.lines;
-      trace = r.trace;
-      replay = replay-of given bytes text front r;
-      gained = λ w told. gained w told ∙ ap (λ (x : List ℕ). Some (w ++ x)) (same ∙ r.spelled);
+      lines = s;
+      trace = t.trace;
+      replay = replay-of given bytes s text front reads t;
+      gained = λ w told. gained w told ∙ ap (λ (x : List ℕ). Some (w ++ x)) (same ∙ t.spelled);
     }
 
 -- a part of the text was written
-pub is_cut_short : (given before after : Option (List ℕ)) (bytes text out : List ℕ) → IsFront given bytes → IsReplayText bytes text → out ≡ text → ForSome before (λ w. IsPartWritten w out after)
-    → IsCutShort given before after
-is_cut_short given before after bytes text out front r same gained =
+pub is_cut_short : (given before after : Option (List ℕ)) (bytes : List ℕ) (s : List Line) (text out : List ℕ) → IsFront given bytes → Reads bytes s → IsTextOf s text → out ≡ text
+    → ForSome before (λ w. IsPartWritten w out after) → IsCutShort given before after
+is_cut_short given before after bytes s text out front reads t same gained =
     record {
-      lines = r.lines;
-      trace = r.trace;
-      replay = replay-of given bytes text front r;
-      gained = λ w told. subst (λ (x : List ℕ). IsPartWritten w x after) (same ∙ r.spelled) (gained w told);
+      lines = s;
+      trace = t.trace;
+      replay = replay-of given bytes s text front reads t;
+      gained = λ w told. subst (λ (x : List ℕ). IsPartWritten w x after) (same ∙ t.spelled) (gained w told);
     }
 
 -- nothing is left behind a script
-pub left-none : (given left : Option (List ℕ)) (bytes text : List ℕ) → IsFront given bytes → IsReplayText bytes text → ForSome given (λ b. left ≡ Some (drop 1048577 b))
+pub left-none : (given left : Option (List ℕ)) (bytes : List ℕ) (s : List Line) → IsFront given bytes → Reads bytes s → ForSome given (λ b. left ≡ Some (drop 1048577 b))
     → ForSome given (λ b. left ≡ Some [])
-left-none given left bytes text front r rest b told =
-    let few = length-read b r.lines (subst (λ (x : List ℕ). Reads x r.lines) (front b told) (r.replay.read bytes refl)) in
+left-none given left bytes s front reads rest b told =
+    let few = length-read b s (subst (λ (x : List ℕ). Reads x s) (front b told) reads) in
     rest b told ∙ ap Some (drop_of_length-le b {i = 1048577} (omega (arith, few)))
 
 -- the laws of readings that the top call uses
@@ -79,15 +78,15 @@ pub not_yet-all : (b : List ℕ) (n : ℕ) → IsNotYet (take 1048577 b) n → I
 not_yet-all b n k = record { lines = k.lines; reads = reads-all b k.lines k.reads; first = k.first }
 
 -- bytes that are a script aren't bad
-pub never_bad : NeverBoth → (given : Option (List ℕ)) (bytes text : List ℕ) → IsFront given bytes → (r : IsReplayText bytes text) → (n : ℕ) (c : BadCause)
-    → ForSome given (λ b. Bad b n c → ⊥)
-never_bad either given bytes text front r n c b told bad = either b r.lines n c ((replay-of given bytes text front r).read b told) bad
+pub never_bad : NeverBoth → (given : Option (List ℕ)) (bytes : List ℕ) (s : List Line) → IsFront given bytes → Reads bytes s → (n : ℕ) (c : BadCause) → ForSome given (λ b. Bad b n c → ⊥)
+never_bad either given bytes s front reads n c b told bad = either b s n c (reads-front given bytes s front reads b told) bad
 
 -- what is replayed has no line that isn't run yet
-pub never_not_yet : OneReading → (given : Option (List ℕ)) (bytes text : List ℕ) → IsFront given bytes → (r : IsReplayText bytes text) → (n : ℕ) → ForSome given (λ b. IsNotYet b n → ⊥)
-never_not_yet one given bytes text front r n b told bad =
-    let same : bad.lines ≡ r.lines = one b bad.lines r.lines bad.reads ((replay-of given bytes text front r).read b told) in
-    all_run_none r.lines n r.run (subst (λ (s : List Line). IsNotRun s n) same bad.first)
+pub never_not_yet : OneReading → (given : Option (List ℕ)) (bytes : List ℕ) (s : List Line) → IsFront given bytes → Reads bytes s → are_run s ≡ true → (n : ℕ)
+    → ForSome given (λ b. IsNotYet b n → ⊥)
+never_not_yet one given bytes s front reads run n b told bad =
+    let same : bad.lines ≡ s = one b bad.lines s bad.reads (reads-front given bytes s front reads b told) in
+    all_run_none s n run (subst (λ (r : List Line). IsNotRun r n) same bad.first)
 
 -- bytes have one first line that isn't run yet
 pub one_not_yet : OneReading → (b : List ℕ) (n m : ℕ) → IsNotYet b n → IsNotYet b m → n ≡ m

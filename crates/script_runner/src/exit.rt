@@ -1,7 +1,7 @@
 //! How the top call ends.
 use script_text::BadCause;
 
-/// How the top call ends. The order in which the answers are given is Usage, ReadFault, BadScript, NotYet, WriteFault; want of memory may
+/// How the top call ends. The order in which the answers are given is Usage, ReadFault, BadScript, NotYet, LogFault, WriteFault; want of memory may
 /// come at any point.
 #[derive(Clone, Copy, PartialEq, Eq, Debug)]
 pub enum Exit {
@@ -15,6 +15,8 @@ pub enum Exit {
     NotYet(u32),
     /// The source met a fault.
     ReadFault,
+    /// The disk met a fault while the log was formatted.
+    LogFault,
     /// The sink met a fault.
     WriteFault,
     /// Memory ran out.

@@ -30,12 +30,11 @@ fn planned_reply(plans: &Plans, e: EnlNo, note: Option<Note>) -> Option<Reply>
 
 /// The reply at place k, from 0, of those that are due, in order of the enlistments' numbers.
 fn due_at(half: &LocalHalf, plans: &Plans, k: usize) -> Due
-    requires { are_apart half.now.seen.table ≡ true }
     ensures { IsDueAt (due_replies plans.now half.now.seen) k result }
 {
     let mut left = k;
     for x in half.rows() {
-        if let Some(reply) = planned_reply(plans, x.0, half.due_of(x.0)) {
+        if let Some(reply) = planned_reply(plans, x.0, half.due_note(x)) {
             if left == 0 {
                 return Due::Reply(x.0, reply);
             }

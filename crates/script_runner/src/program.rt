@@ -1,22 +1,25 @@
 //! The top call.
-ghost use Rattle.std.specs.Prelude.{◌≡◌, ◌⊎◌, ◌↔◌, ◌≤◌, ℕ, [], Some, drop, map, true, IfErr, IfOk, IsTrue};
+ghost use Rattle.std.specs.Prelude.{◌≡◌, ◌⊎◌, ◌↔◌, ◌≤◌, ℕ, List, [], Ok, Some, drop, map, true, IfErr, IfOk, IsTrue};
 ghost use Rattle.std.specs.Option.{ForSome};
 ghost use Rattle.std.specs.String.{string_bytes};
 ghost use Rattle.outside.specs.Faults.{Rose};
 ghost use Rattle.dtx_values.specs.declared.script.BadCause.{BadCause};
-ghost use Rattle.dtx_model.specs.Grammar.{IsNotYet, Reads, are_run};
+ghost use Rattle.dtx_model.specs.Grammar.{IsNotYet, IsScript, Reads, are_run};
+ghost use Rattle.dtx_model.specs.Log.{log_has};
+ghost use Rattle.coordinator_log.specs.Slots.{open_records};
 ghost use Rattle.dtx_model.specs.Faults.{Bad};
 ghost use Rattle.script_runner.specs.Program.{AreWords, IsCutShort, IsWritten};
 ghost use Rattle.script_runner.specs.Judged.{IsJudged};
-ghost use Rattle.script_runner.specs.Refusal.{IsRefused, IsReplayText};
+ghost use Rattle.script_runner.specs.Refusal.{IsRefused, IsTextOf};
 
 use crate::exit::Exit;
 use crate::not_run::first_not_run;
 use crate::replay::run_replay;
 use crate::transfer::{ReadError, WriteStop, read_all, write_all};
-use outside::{Sink, Source};
+use coordinator_log::{Log, LogRefusal};
+use outside::{Disk, Sink, Source};
 use script_text::{BadCause, Script, ScriptError, read_script, reads_exactly};
-use std::alloc::Global;
+use std::alloc::{AllocError, Global};
 use trace_text::print_trace;
 
 /// Whether the words are the one word `replay`.
@@ -53,75 +56,114 @@ fn runnable(alloc: Global, bytes: &[u8]) -> Result<Script, Refusal>
     }
 }
 
-/// The text of the replay of the script that these bytes are.
-fn replayed(alloc: Global, bytes: &[u8]) -> Result<Vec<u8>, Refusal>
-    ensures text { IfOk result (λ text. IsReplayText bytes.now text.items) }
-    ensures refused { IfErr result (λ e. IsRefused bytes.now e) }
+/// The text of the replay of a script, over a log without records.
+fn replayed<D: Disk>(
+    alloc: Global,
+    script: &Script,
+    log: &mut Log<D>,
+) -> Result<Vec<u8>, AllocError>
+    requires script { IsScript script.now }
+    requires run { are_run script.now ≡ true }
+    ensures text { IfOk result (λ text. IsTextOf script.now text.items) }
+    ensures log { log.new ≡ log.old }
 {
-    let script = runnable(alloc, bytes)?;
-    let trace = match run_replay(alloc, &script) {
-        Ok(trace) => trace,
-        Err(_) => return Err(Refusal::Memory),
-    };
-    match print_trace(alloc, &trace) {
-        Ok(text) => Ok(text),
-        Err(_) => Err(Refusal::Memory),
+    let trace = run_replay(alloc, script, log)?;
+    print_trace(alloc, &trace)
+}
+
+/// Why the log wasn't formatted.
+#[derive(Clone, Copy, PartialEq, Eq, Debug)]
+enum FormatStop {
+    /// A call of the disk met a fault.
+    Fault,
+    /// No memory was left.
+    Memory,
+}
+
+/// Makes the disk an empty log, or hands it back.
+fn formatted<D: Disk>(alloc: Global, disk: D) -> Result<Log<D>, (FormatStop, D)>
+    requires { 524800 ≤ D.size disk }
+    ensures up { IfOk result (λ log. IsTrue log.up) }
+    ensures empty { IfOk result (λ log. open_records log.slots ≡ []) }
+    ensures fault { IfErr result (λ e. e.0 ≡ FormatStop.Fault → Rose (D.faults disk) (D.faults e.1)) }
+{
+    match Log::format(alloc, disk) {
+        Ok(log) => Ok(log),
+        Err((LogRefusal::Memory, disk)) => Err((FormatStop::Memory, disk)),
+        Err((_, disk)) => Err((FormatStop::Fault, disk)),
     }
 }
 
-/// Runs the program: where the words are `replay`, reads the script from the source, replays it, and writes the trace in the plain form to the
-/// sink.
+/// Runs the program: where the words are `replay`, reads the script from the source, formats the log on the disk, replays the script, and writes the trace in the plain
+/// form to the sink. It hands the disk back, which has at least 524,800 bytes.
 ///
-/// The source is read to its end, or to byte 1,048,577, before anything is judged, and the whole text is made before the first write.
-pub fn run_program<S: Source, K: Sink>(
+/// The source is read to its end, or to byte 1,048,577, before anything is judged; the log is formatted before the script is run; and the whole text is made before the
+/// first write.
+pub fn run_program<S: Source, K: Sink, D: Disk>(
     alloc: Global,
     words: &[String],
     source: &mut S,
     sink: &mut K,
-) -> Exit
-    // The headline.
-    ensures headline { result ≡ Exit.Fine → IsWritten (S.left source.old) (K.written sink.old) (K.written sink.new) }
-    ensures read { result ≡ Exit.Fine → ForSome (S.left source.old) (λ b. S.left source.new ≡ Some []) }
+    disk: D,
+) -> (Exit, D)
+    requires { 524800 ≤ D.size disk }
+
+    // The headline. At the end the log has no record, in what a read gives and in each image that a crash can leave.
+    ensures headline { result.0 ≡ Exit.Fine → IsWritten (S.left source.old) (K.written sink.old) (K.written sink.new) }
+    ensures log { IsTrue D.honest → (result.0 ≡ Exit.Fine) ⊎ (result.0 ≡ Exit.WriteFault) → (c : List ℕ) → D.image result.1 c → log_has c ≡ Ok [] }
+    ensures read { result.0 ≡ Exit.Fine → ForSome (S.left source.old) (λ b. S.left source.new ≡ Some []) }
 
     // Usage comes exactly by the words, and then nothing is read.
-    ensures usage { (result ≡ Exit.Usage) ↔ (AreWords (map string_bytes words.now) → ⊥) }
-    ensures unread { result ≡ Exit.Usage → source.new ≡ source.old }
+    ensures usage { (result.0 ≡ Exit.Usage) ↔ (AreWords (map string_bytes words.now) → ⊥) }
+    ensures unread { result.0 ≡ Exit.Usage → source.new ≡ source.old }
 
     // BadScript(n, c) comes exactly where line n is the first bad one and c its first cause, and NotYet(n) exactly where the bytes are a
-    // script and line n is the first that isn't run yet; what else may come there is a fault or want of memory.
-    ensures bad { (n : ℕ) (c : BadCause) → result ≡ Exit.BadScript n c → ForSome (S.left source.old) (λ b. Bad b n c) }
-    ensures bad_refused { (n : ℕ) (c : BadCause) → AreWords (map string_bytes words.now) → ForSome (S.left source.old) (λ b. Bad b n c → (result ≡ Exit.BadScript n c) ⊎ ((result ≡ Exit.ReadFault) ⊎ (result ≡ Exit.Memory))) }
-    ensures not_yet { (n : ℕ) → result ≡ Exit.NotYet n → ForSome (S.left source.old) (λ b. IsNotYet b n) }
-    ensures not_yet_refused { (n : ℕ) → AreWords (map string_bytes words.now) → ForSome (S.left source.old) (λ b. IsNotYet b n → (result ≡ Exit.NotYet n) ⊎ ((result ≡ Exit.ReadFault) ⊎ (result ≡ Exit.Memory))) }
-    ensures judged { IsJudged result → ForSome (S.left source.old) (λ b. S.left source.new ≡ Some (drop 1048577 b)) }
+    // script and line n is the first that isn't run yet; what else may come there is a fault of the source or want of memory.
+    ensures bad { (n : ℕ) (c : BadCause) → result.0 ≡ Exit.BadScript n c → ForSome (S.left source.old) (λ b. Bad b n c) }
+    ensures bad_refused { (n : ℕ) (c : BadCause) → AreWords (map string_bytes words.now) → ForSome (S.left source.old) (λ b. Bad b n c → (result.0 ≡ Exit.BadScript n c) ⊎ ((result.0 ≡ Exit.ReadFault) ⊎ (result.0 ≡ Exit.Memory))) }
+    ensures not_yet { (n : ℕ) → result.0 ≡ Exit.NotYet n → ForSome (S.left source.old) (λ b. IsNotYet b n) }
+    ensures not_yet_refused { (n : ℕ) → AreWords (map string_bytes words.now) → ForSome (S.left source.old) (λ b. IsNotYet b n → (result.0 ≡ Exit.NotYet n) ⊎ ((result.0 ≡ Exit.ReadFault) ⊎ (result.0 ≡ Exit.Memory))) }
+    ensures judged { IsJudged result.0 → ForSome (S.left source.old) (λ b. S.left source.new ≡ Some (drop 1048577 b)) }
 
-    // Faults are those of the source and of the sink in this call.
-    ensures read_fault { result ≡ Exit.ReadFault → Rose (S.faults source.old) (S.faults source.new) }
-    ensures write_fault { result ≡ Exit.WriteFault → Rose (K.faults sink.old) (K.faults sink.new) }
+    // Faults are those of the source, of the disk while the log was formatted, and of the sink in this call.
+    ensures read_fault { result.0 ≡ Exit.ReadFault → Rose (S.faults source.old) (S.faults source.new) }
+    ensures log_fault { result.0 ≡ Exit.LogFault → Rose (D.faults disk) (D.faults result.1) }
+    ensures write_fault { result.0 ≡ Exit.WriteFault → Rose (K.faults sink.old) (K.faults sink.new) }
 
-    // What was written: the whole text with Fine, above; else a part of it, or nothing.
-    ensures cut_short { result ≡ Exit.WriteFault → IsCutShort (S.left source.old) (K.written sink.old) (K.written sink.new) }
-    ensures memory { result ≡ Exit.Memory → (sink.new ≡ sink.old) ⊎ IsCutShort (S.left source.old) (K.written sink.old) (K.written sink.new) }
-    ensures unwritten { (result ≡ Exit.Usage) ⊎ ((result ≡ Exit.ReadFault) ⊎ IsJudged result) → sink.new ≡ sink.old }
+    // What was written: the whole text with Fine, above; else a part of it, or nothing. The disk is touched only where the script is run.
+    ensures cut_short { result.0 ≡ Exit.WriteFault → IsCutShort (S.left source.old) (K.written sink.old) (K.written sink.new) }
+    ensures memory { result.0 ≡ Exit.Memory → (sink.new ≡ sink.old) ⊎ IsCutShort (S.left source.old) (K.written sink.old) (K.written sink.new) }
+    ensures unwritten { (result.0 ≡ Exit.Usage) ⊎ ((result.0 ≡ Exit.ReadFault) ⊎ ((result.0 ≡ Exit.LogFault) ⊎ IsJudged result.0)) → sink.new ≡ sink.old }
+    ensures untouched { (result.0 ≡ Exit.Usage) ⊎ ((result.0 ≡ Exit.ReadFault) ⊎ IsJudged result.0) → result.1 ≡ disk }
 {
     reads_exactly();
     if !are_words(words) {
-        return Exit::Usage;
+        return (Exit::Usage, disk);
     }
     let bytes = match read_all(alloc, source) {
         Ok(bytes) => bytes,
-        Err(ReadError::Fault) => return Exit::ReadFault,
-        Err(ReadError::Memory) => return Exit::Memory,
+        Err(ReadError::Fault) => return (Exit::ReadFault, disk),
+        Err(ReadError::Memory) => return (Exit::Memory, disk),
     };
-    let text = match replayed(alloc, &bytes) {
-        Ok(text) => text,
-        Err(Refusal::Bad(line, cause)) => return Exit::BadScript(line, cause),
-        Err(Refusal::NotYet(line)) => return Exit::NotYet(line),
-        Err(Refusal::Memory) => return Exit::Memory,
+    let script = match runnable(alloc, &bytes) {
+        Ok(script) => script,
+        Err(Refusal::Bad(line, cause)) => return (Exit::BadScript(line, cause), disk),
+        Err(Refusal::NotYet(line)) => return (Exit::NotYet(line), disk),
+        Err(Refusal::Memory) => return (Exit::Memory, disk),
+    };
+    let mut log = match formatted(alloc, disk) {
+        Ok(log) => log,
+        Err((FormatStop::Fault, disk)) => return (Exit::LogFault, disk),
+        Err((FormatStop::Memory, disk)) => return (Exit::Memory, disk),
+    };
+    let replayed = replayed(alloc, &script, &mut log);
+    let disk = log.into_disk();
+    let Ok(text) = replayed else {
+        return (Exit::Memory, disk);
     };
     match write_all(sink, &text) {
-        Ok(()) => Exit::Fine,
-        Err(WriteStop::Fault) => Exit::WriteFault,
-        Err(WriteStop::Memory) => Exit::Memory,
+        Ok(()) => (Exit::Fine, disk),
+        Err(WriteStop::Fault) => (Exit::WriteFault, disk),
+        Err(WriteStop::Memory) => (Exit::Memory, disk),
     }
 }

@@ -19,9 +19,11 @@ use crate::calls::call;
 use crate::contexts::{Gives, act, contexts};
 use crate::pending::step;
 use crate::plans::Plans;
+use coordinator_log::Log;
 use dtx_values::{ActorNo, Body, Call, Entry, Line, Outbox, Place, ROOM, Script, Trace, TxNo};
 use local_half::LocalHalf;
 use outcome_law::{completeness, crossings, one_outcome, replay, tables};
+use outside::Disk;
 use scope_context::Context;
 use std::alloc::{AllocError, Global};
 use std::marker::Model;
@@ -324,14 +326,19 @@ fn trace_of(alloc: Global, lines: &[Line]) -> Result<Trace, AllocError>
     Ok(run.into_trace())
 }
 
-/// Replays a script: runs its lines in order, and settles its transactions.
+/// Replays a script: runs its lines in order, and settles its transactions. No line that is run yet commits at the coordinator, so the log stays as it is.
 ///
 /// # Errors
 ///
 /// [`AllocError`] where memory ran out.
-pub fn run_replay(alloc: Global, s: &Script) -> Result<Trace, AllocError>
+pub fn run_replay<D: Disk>(
+    alloc: Global,
+    s: &Script,
+    log: &mut Log<D>,
+) -> Result<Trace, AllocError>
     requires script { IsScript s.now }
     requires run { are_run s.now ≡ true }
+    ensures log { log.new ≡ log.old }
     ensures history { IfOk result (λ T. IsHistory s.now T) }
     ensures outcome { IfOk result (λ T. HasOneOutcome s.now T) }
     ensures complete { IfOk result (λ T. IsComplete s.now T) }

@@ -49,36 +49,44 @@ returns-in-Err-NotYet-clause-not_yet_refused g c n words b told bad =
 
 pub returns-in-Ok-write_all-clause-headline : goal.returns-in-Ok-write_all-clause-headline
 returns-in-Ok-write_all-clause-headline g c k =
-    is_written _ _ _ c.deref.result.now c.in-Ok-replayed.text.items c.deref-2.result.now (λ b told. c.deref.ensures.value ∙ c.in-Ok.ensures.read b told) c.in-Ok-replayed.ensures.text
-    c.deref-2.ensures.value c.in-Ok-write_all.ensures.all
+    is_written _ _ _ c.deref.result.now c.in-Ok-runnable.script c.in-Ok-replayed.text.items c.deref-2.result.now (λ b told. c.deref.ensures.value ∙ c.in-Ok.ensures.read b told) c.in-Ok-runnable.ensures.script.0
+    c.in-Ok-replayed.ensures.text c.deref-2.ensures.value c.in-Ok-write_all.ensures.all
 
 pub returns-in-Ok-write_all-clause-read : goal.returns-in-Ok-write_all-clause-read
 returns-in-Ok-write_all-clause-read g c k =
-    left-none _ _ c.deref.result.now c.in-Ok-replayed.text.items (λ b told. c.deref.ensures.value ∙ c.in-Ok.ensures.read b told) c.in-Ok-replayed.ensures.text c.in-Ok.ensures.left
-
-pub returns-in-Ok-write_all-clause-bad_refused : goal.returns-in-Ok-write_all-clause-bad_refused
-returns-in-Ok-write_all-clause-bad_refused g c n cause words b told bad =
-    absurd (never_bad c.reads_exactly.ensures.either _ c.deref.result.now c.in-Ok-replayed.text.items (λ x t. c.deref.ensures.value ∙ c.in-Ok.ensures.read x t) c.in-Ok-replayed.ensures.text n cause b told bad)
-
-pub returns-in-Ok-write_all-clause-not_yet_refused : goal.returns-in-Ok-write_all-clause-not_yet_refused
-returns-in-Ok-write_all-clause-not_yet_refused g c n words b told bad =
-    absurd (never_not_yet c.reads_exactly.ensures.one _ c.deref.result.now c.in-Ok-replayed.text.items (λ x t. c.deref.ensures.value ∙ c.in-Ok.ensures.read x t) c.in-Ok-replayed.ensures.text n b told bad)
-
-pub returns-in-Err-Fault-write_all-clause-bad_refused : goal.returns-in-Err-Fault-write_all-clause-bad_refused
-returns-in-Err-Fault-write_all-clause-bad_refused g c n cause words b told bad =
-    absurd (never_bad c.reads_exactly.ensures.either _ c.deref.result.now c.in-Ok-replayed.text.items (λ x t. c.deref.ensures.value ∙ c.in-Ok.ensures.read x t) c.in-Ok-replayed.ensures.text n cause b told bad)
-
-pub returns-in-Err-Fault-write_all-clause-not_yet_refused : goal.returns-in-Err-Fault-write_all-clause-not_yet_refused
-returns-in-Err-Fault-write_all-clause-not_yet_refused g c n words b told bad =
-    absurd (never_not_yet c.reads_exactly.ensures.one _ c.deref.result.now c.in-Ok-replayed.text.items (λ x t. c.deref.ensures.value ∙ c.in-Ok.ensures.read x t) c.in-Ok-replayed.ensures.text n b told bad)
+    left-none _ _ c.deref.result.now c.in-Ok-runnable.script (λ b told. c.deref.ensures.value ∙ c.in-Ok.ensures.read b told) c.in-Ok-runnable.ensures.script.0 c.in-Ok.ensures.left
 
 pub returns-in-Err-Fault-write_all-clause-cut_short : goal.returns-in-Err-Fault-write_all-clause-cut_short
 returns-in-Err-Fault-write_all-clause-cut_short g c k =
-    is_cut_short _ _ _ c.deref.result.now c.in-Ok-replayed.text.items c.deref-2.result.now (λ b told. c.deref.ensures.value ∙ c.in-Ok.ensures.read b told) c.in-Ok-replayed.ensures.text
-    c.deref-2.ensures.value c.in-Err-Fault-write_all.ensures.part
+    is_cut_short _ _ _ c.deref.result.now c.in-Ok-runnable.script c.in-Ok-replayed.text.items c.deref-2.result.now (λ b told. c.deref.ensures.value ∙ c.in-Ok.ensures.read b told) c.in-Ok-runnable.ensures.script.0
+    c.in-Ok-replayed.ensures.text c.deref-2.ensures.value c.in-Err-Fault-write_all.ensures.part
 
 pub returns-clause-memory : goal.returns-clause-memory
 returns-clause-memory g c k =
     inr
-    (is_cut_short _ _ _ c.deref.result.now c.in-Ok-replayed.text.items c.deref-2.result.now (λ b told. c.deref.ensures.value ∙ c.in-Ok.ensures.read b told) c.in-Ok-replayed.ensures.text
-    c.deref-2.ensures.value c.in-Err-Memory-write_all.ensures.part)
+    (is_cut_short _ _ _ c.deref.result.now c.in-Ok-runnable.script c.in-Ok-replayed.text.items c.deref-2.result.now (λ b told. c.deref.ensures.value ∙ c.in-Ok.ensures.read b told) c.in-Ok-runnable.ensures.script.0
+    c.in-Ok-replayed.ensures.text c.deref-2.ensures.value c.in-Err-Memory-write_all.ensures.part)
+
+pub returns-in-Ok-write_all-clause-bad_refused : goal.returns-in-Ok-write_all-clause-bad_refused
+returns-in-Ok-write_all-clause-bad_refused g c n cause words b told bad =
+    absurd (never_bad c.reads_exactly.ensures.either _ c.deref.result.now c.in-Ok-runnable.script (λ x t. c.deref.ensures.value ∙ c.in-Ok.ensures.read x t) c.in-Ok-runnable.ensures.script.0 n cause b told bad)
+
+pub returns-in-Ok-write_all-clause-not_yet_refused : goal.returns-in-Ok-write_all-clause-not_yet_refused
+returns-in-Ok-write_all-clause-not_yet_refused g c n words b told bad =
+    absurd (never_not_yet c.reads_exactly.ensures.one _ c.deref.result.now c.in-Ok-runnable.script (λ x t. c.deref.ensures.value ∙ c.in-Ok.ensures.read x t) c.in-Ok-runnable.ensures.script.0 c.in-Ok-runnable.ensures.script.1 n b told bad)
+
+pub returns-in-Err-Fault-write_all-clause-bad_refused : goal.returns-in-Err-Fault-write_all-clause-bad_refused
+returns-in-Err-Fault-write_all-clause-bad_refused g c n cause words b told bad =
+    absurd (never_bad c.reads_exactly.ensures.either _ c.deref.result.now c.in-Ok-runnable.script (λ x t. c.deref.ensures.value ∙ c.in-Ok.ensures.read x t) c.in-Ok-runnable.ensures.script.0 n cause b told bad)
+
+pub returns-in-Err-Fault-write_all-clause-not_yet_refused : goal.returns-in-Err-Fault-write_all-clause-not_yet_refused
+returns-in-Err-Fault-write_all-clause-not_yet_refused g c n words b told bad =
+    absurd (never_not_yet c.reads_exactly.ensures.one _ c.deref.result.now c.in-Ok-runnable.script (λ x t. c.deref.ensures.value ∙ c.in-Ok.ensures.read x t) c.in-Ok-runnable.ensures.script.0 c.in-Ok-runnable.ensures.script.1 n b told bad)
+
+pub returns-in-Err-Fault-formatted-clause-bad_refused : goal.returns-in-Err-Fault-formatted-clause-bad_refused
+returns-in-Err-Fault-formatted-clause-bad_refused g c n cause words b told bad =
+    absurd (never_bad c.reads_exactly.ensures.either _ c.deref.result.now c.in-Ok-runnable.script (λ x t. c.deref.ensures.value ∙ c.in-Ok.ensures.read x t) c.in-Ok-runnable.ensures.script.0 n cause b told bad)
+
+pub returns-in-Err-Fault-formatted-clause-not_yet_refused : goal.returns-in-Err-Fault-formatted-clause-not_yet_refused
+returns-in-Err-Fault-formatted-clause-not_yet_refused g c n words b told bad =
+    absurd (never_not_yet c.reads_exactly.ensures.one _ c.deref.result.now c.in-Ok-runnable.script (λ x t. c.deref.ensures.value ∙ c.in-Ok.ensures.read x t) c.in-Ok-runnable.ensures.script.0 c.in-Ok-runnable.ensures.script.1 n b told bad)
