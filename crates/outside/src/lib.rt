@@ -12,6 +12,7 @@
 //! All rules here are definitions of this project.
 #![tactic(auto)]
 
+mod buffers;
 mod disk;
 mod failure;
 mod memory;
