@@ -15,12 +15,14 @@
 mod buffers;
 mod disk;
 mod failure;
+mod mem_disk;
 mod memory;
 mod plan;
 mod sink;
 mod source;
 mod standard;
 mod sure;
+mod sure_disk;
 mod tape;
 #[cfg(test)]
 mod tests;
@@ -28,8 +30,10 @@ mod tests;
 pub use disk::Disk;
 pub use dtx_values::Image;
 pub use failure::{Failed, WriteError};
+pub use mem_disk::MemDisk;
 pub use memory::{MemSink, MemSource};
 pub use sink::Sink;
 pub use source::Source;
 pub use standard::{StdSink, StdSource};
 pub use sure::{SureSink, SureSource};
+pub use sure_disk::SureDisk;
