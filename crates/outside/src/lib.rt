@@ -15,6 +15,7 @@
 mod buffers;
 mod disk;
 mod failure;
+mod file_disk;
 mod mem_disk;
 mod memory;
 mod plan;
@@ -30,6 +31,7 @@ mod tests;
 pub use disk::Disk;
 pub use dtx_values::Image;
 pub use failure::{Failed, WriteError};
+pub use file_disk::FileDisk;
 pub use mem_disk::MemDisk;
 pub use memory::{MemSink, MemSource};
 pub use sink::Sink;
