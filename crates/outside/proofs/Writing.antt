@@ -37,9 +37,9 @@ IsTorn-along at n old new other same torn = record {
 pub Follows-torn : (kept synced torn kept' torn' : List ℕ) (at n : ℕ) → length torn ≡ length kept → IsTorn at n kept kept' → IsTorn at n torn torn' → Follows (IsTorn at n) (IsOneOf kept synced torn) (IsOneOf kept' synced torn')
 Follows-torn kept synced torn kept' torn' at n same x y c left =
     elim left.one [
-      inl e ↦ (kept, record { one = inl refl; long = refl }, IsTorn-along at n kept kept' c e x)
-    | inr rest ↦ elim rest [
-        inl e ↦ (c, record { one = inr (inl e); long = left.long ∙ x.long }, IsTorn-same at n c)
-      | inr e ↦ (torn, record { one = inr (inr refl); long = same }, IsTorn-along at n torn torn' c e y)
+      | inl e ↦ (kept, record { one = inl refl; long = refl }, IsTorn-along at n kept kept' c e x)
+      | inr rest ↦ elim rest [
+        | inl e ↦ (c, record { one = inr (inl e); long = left.long ∙ x.long }, IsTorn-same at n c)
+        | inr e ↦ (torn, record { one = inr (inr refl); long = same }, IsTorn-along at n torn torn' c e y)
       ]
     ]

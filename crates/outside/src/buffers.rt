@@ -27,7 +27,7 @@ impl Model for Buffers {
     ghost view = { λ b. record { kept = b.kept.items; synced = b.synced.items; torn = b.torn.items } };
 
     ghost invariant = { λ b. (length b.synced.items ≡ length b.kept.items)
-      × (length b.torn.items ≡ length b.kept.items) };
+        × (length b.torn.items ≡ length b.kept.items) };
 }
 
 impl Buffers {
@@ -81,7 +81,8 @@ impl Buffers {
 
     pub(crate) fn crash(&mut self, wish: Image)
         ensures wished { self.new ≡ record self.old {
-          kept = left_by wish self.old.kept self.old.synced self.old.torn } }
+          kept = left_by wish self.old.kept self.old.synced self.old.torn;
+        } }
         ensures size { length self.new.kept ≡ length self.old.kept }
         ensures left { IsOneOf self.old.kept self.old.synced self.old.torn self.new.kept }
         ensures images { AreWithin (IsOneOf self.old.kept self.old.synced self.old.torn)

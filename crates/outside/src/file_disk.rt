@@ -134,8 +134,7 @@ impl<R: Files> Disk for FileDisk<R> {
 
     fn crash(&mut self, _wish: Image)
         ensures { self.new ≡ self.old }
-    {
-    }
+    {}
 
     ghost sees = { λ d h. absurd (Prim.cc) };
 

@@ -100,7 +100,8 @@ impl Disk for SureDisk {
 
     fn crash(&mut self, wish: Image)
         ensures wished { self.new ≡ record self.old {
-          kept = left_by wish self.old.kept self.old.synced self.old.torn } }
+          kept = left_by wish self.old.kept self.old.synced self.old.torn;
+        } }
         ensures left { IsOneOf self.old.kept self.old.synced self.old.torn self.new.kept }
         ensures images { AreWithin (IsOneOf self.old.kept self.old.synced self.old.torn)
             (IsOneOf self.new.kept self.new.synced self.new.torn) }
