@@ -1,4 +1,5 @@
-//! The outside: where bytes come from and where they go, and what stands in for both in memory.
+//! The outside: where bytes come from, where they go and where they last, and what stands in for each in
+//! memory.
 //!
 //! A [`Source`] is read and a [`Sink`] is written. Each has a meaning, the bytes that are left or were
 //! written, where it tells them, and a count of faults that never falls. `Failed` comes only from a
@@ -8,6 +9,15 @@
 //! - [`SureSource`] and [`SureSink`] hold bytes in memory, and never fail.
 //! - [`StdSource`] and [`StdSink`] are the input and the output of the process. They tell nothing of
 //!   their content, so no clause says which bytes they give or take.
+//!
+//! A [`Disk`] has a fixed length, and is read and written at any place. Its content outlives a crash: what
+//! a crash may leave are its images, and a sync leaves one alone. Its faults are counted as those of the
+//! others.
+//!
+//! - [`MemDisk`] holds its bytes in memory, and fails at the calls that one names. An [`Image`] is what a
+//!   crash is wished to leave.
+//! - [`SureDisk`] holds its bytes in memory, and never fails.
+//! - [`FileDisk`] is a file of the system. It isn't honest: it tells nothing of its content.
 //!
 //! All rules here are definitions of this project.
 #![tactic(auto)]

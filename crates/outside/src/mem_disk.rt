@@ -89,11 +89,7 @@ impl Disk for MemDisk {
         ensures untouched { OnErr result (into.new ≡ into.old) }
         ensures grows { self.old.calls.failed ≤ self.new.calls.failed }
     {
-        let fails = self.plan.fails();
-        self.plan.count(fails);
-        if fails {
-            return Err(Failed);
-        }
+        self.plan.call()?;
         self.buffers.read(at as usize, into);
         Ok(())
     }
@@ -113,11 +109,7 @@ impl Disk for MemDisk {
         ensures size { length self.new.kept ≡ length self.old.kept }
         ensures grows { self.old.calls.failed ≤ self.new.calls.failed }
     {
-        let fails = self.plan.fails();
-        self.plan.count(fails);
-        if fails {
-            return Err(Failed);
-        }
+        self.plan.call()?;
         self.buffers.write(at as usize, from);
         Ok(())
     }
@@ -136,11 +128,7 @@ impl Disk for MemDisk {
             (IsOneOf self.new.kept self.new.synced self.new.torn) }
         ensures grows { self.old.calls.failed ≤ self.new.calls.failed }
     {
-        let fails = self.plan.fails();
-        self.plan.count(fails);
-        if fails {
-            return Err(Failed);
-        }
+        self.plan.call()?;
         self.buffers.sync();
         Ok(())
     }
