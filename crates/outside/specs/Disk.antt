@@ -22,3 +22,8 @@ AreWithin old new = (c : List ℕ) → new c → old c
 -- a crash leaves these bytes and nothing else
 abbrev pub IsOnly : List ℕ → (List ℕ → Type 0) → Type 0
 IsOnly bytes image = (c : List ℕ) → image c → c ≡ bytes
+
+-- a disk that tells nothing of what it holds: its length in bytes, and how many calls met a fault
+pub record Untold : Type 0 where
+  pub size : ℕ
+  pub faults : ℕ

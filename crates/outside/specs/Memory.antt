@@ -1,6 +1,9 @@
--- What is seen of a source and of a sink in memory.
-use Rattle.std.specs.Prelude.{ℕ, Bool, true, false, List, Contains}
+-- What is seen of a source, of a sink and of a disk in memory.
+use Rattle.std.specs.Prelude.{◌≡◌, ℕ, Bool, true, false, List, Contains, ◌⊎◌, length, replicate}
+use Rattle.dtx_values.specs.declared.Image.{Image}
+use Rattle.dtx_values.specs.declared.Image.TheVariants.{Lose, Keep, Torn}
 use Rattle.outside.specs.Faults.{one_more}
+use Rattle.outside.specs.Disk.{overwritten}
 
 -- the numbers of the calls that fail, how many calls came, and how many of them failed
 pub record Calls : Type 0 where
@@ -28,3 +31,43 @@ pub record Store : Type 0 where
   pub kept : List ℕ
   pub piece : ℕ
   pub calls : Calls
+
+-- the bytes of a disk: what a read gives, what was synced, and what is torn where it was written since
+pub record Images : Type 0 where
+  pub kept : List ℕ
+  pub synced : List ℕ
+  pub torn : List ℕ
+
+-- a disk whose calls are numbered: its bytes as in `Images`, and its calls
+pub record Device : Type 0 where
+  pub kept : List ℕ
+  pub synced : List ℕ
+  pub torn : List ℕ
+  pub calls : Calls
+
+-- as many bytes as n, each of which a crash has spoilt
+abbrev pub spoilt : ℕ → List ℕ
+spoilt n = replicate n 0xA5
+
+-- after these bytes were written at this place
+abbrev pub written : ℕ → List ℕ → Images → Images
+written at bytes d = record {
+  kept = overwritten d.kept at bytes;
+  synced = d.synced;
+  torn = overwritten d.torn at (spoilt (length bytes));
+}
+
+-- after a sync
+abbrev pub synced_of : Images → Images
+synced_of d = record { kept = d.kept; synced = d.kept; torn = d.kept }
+
+-- what a read gives after a crash with this wish: the first is what it gave, then what was synced and what is torn
+abbrev pub left_by : Image → List ℕ → List ℕ → List ℕ → List ℕ
+left_by Lose kept synced torn = synced
+left_by Keep kept synced torn = kept
+left_by Torn kept synced torn = torn
+
+-- a crash may leave one of these three, as long as the first
+pub record IsOneOf (kept synced torn bytes : List ℕ) : Type 0 where
+  pub one : (bytes ≡ kept) ⊎ ((bytes ≡ synced) ⊎ (bytes ≡ torn))
+  pub long : length bytes ≡ length kept

@@ -1,4 +1,5 @@
-//! The outside: where bytes come from and where they go, and what stands in for both in memory.
+//! The outside: where bytes come from, where they go and where they last, and what stands in for each in
+//! memory.
 //!
 //! A [`Source`] is read and a [`Sink`] is written. Each has a meaning, the bytes that are left or were
 //! written, where it tells them, and a count of faults that never falls. `Failed` comes only from a
@@ -9,17 +10,30 @@
 //! - [`StdSource`] and [`StdSink`] are the input and the output of the process. They tell nothing of
 //!   their content, so no clause says which bytes they give or take.
 //!
+//! A [`Disk`] has a fixed length, and is read and written at any place. Its content outlives a crash: what
+//! a crash may leave are its images, and a sync leaves one alone. Its faults are counted as those of the
+//! others.
+//!
+//! - [`MemDisk`] holds its bytes in memory, and fails at the calls that one names. An [`Image`] is what a
+//!   crash is wished to leave.
+//! - [`SureDisk`] holds its bytes in memory, and never fails.
+//! - [`FileDisk`] is a file of the system. It isn't honest: it tells nothing of its content.
+//!
 //! All rules here are definitions of this project.
 #![tactic(auto)]
 
+mod buffers;
 mod disk;
 mod failure;
+mod file_disk;
+mod mem_disk;
 mod memory;
 mod plan;
 mod sink;
 mod source;
 mod standard;
 mod sure;
+mod sure_disk;
 mod tape;
 #[cfg(test)]
 mod tests;
@@ -27,8 +41,11 @@ mod tests;
 pub use disk::Disk;
 pub use dtx_values::Image;
 pub use failure::{Failed, WriteError};
+pub use file_disk::FileDisk;
+pub use mem_disk::MemDisk;
 pub use memory::{MemSink, MemSource};
 pub use sink::Sink;
 pub use source::Source;
 pub use standard::{StdSink, StdSource};
 pub use sure::{SureSink, SureSource};
+pub use sure_disk::SureDisk;

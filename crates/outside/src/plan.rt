@@ -1,7 +1,8 @@
 // Which calls are to fail, and how many came and failed.
-ghost use Rattle.std.specs.Prelude.{◌≡◌, ◌≤◌, ◌↔◌, IsTrue};
+ghost use Rattle.std.specs.Prelude.{◌≡◌, ◌≤◌, ◌↔◌, IsTrue, OnOk, OnErr, IsErr, true, false};
 ghost use Rattle.outside.specs.Memory.{FailsNext, counted};
 
+use crate::Failed;
 use std::marker::Model;
 
 // A clause sees it as `Calls`.
@@ -47,5 +48,17 @@ impl Plan {
         if failed {
             self.failed = self.failed.saturating_add(1);
         }
+    }
+
+    // Counts a call, which fails where it is to fail.
+    pub(crate) fn call(&mut self) -> Result<(), Failed>
+        ensures planned { IsErr result ↔ FailsNext self.old }
+        ensures passed { OnOk result (self.new ≡ counted false self.old) }
+        ensures failed { OnErr result (self.new ≡ counted true self.old) }
+        ensures grows { self.old.failed ≤ self.new.failed }
+    {
+        let fails = self.fails();
+        self.count(fails);
+        if fails { Err(Failed) } else { Ok(()) }
     }
 }

@@ -2,7 +2,11 @@
 ghost use Rattle.std.specs.Prelude.{◌≡◌, ◌<◌, ◌≤◌, length, IfOk, IfErr, OnErr, IsOk};
 ghost use Rattle.outside.specs.Faults.{Rose};
 
-use crate::{Failed, MemSink, MemSource, Sink, Source, SureSink, SureSource, WriteError};
+use crate::{
+    Disk, Failed, FileDisk, Image, MemDisk, MemSink, MemSource, Sink, Source, SureDisk, SureSink,
+    SureSource, WriteError,
+};
+use std::fs;
 use std::test::Fail;
 
 // A read through the bound.
@@ -113,5 +117,192 @@ fn sure_sink_takes_all(rt: HostRuntime) -> Result<(), Fail> {
     assert_eq!(rt; write_surely(&mut sink, b"ab"), Ok(2));
     assert_eq!(rt; write_surely(&mut sink, b"c"), Ok(1));
     assert_eq!(rt; sink.bytes(), b"abc".as_slice());
+    Ok(())
+}
+
+// What is done to a disk.
+#[derive(Clone, Copy)]
+enum Step {
+    Write(u64, &'static [u8; 2]),
+    Sync,
+    Crash(Image),
+    Nothing,
+}
+
+// A write through the bound, which isn't tried where it doesn't fit.
+fn put<D: Disk>(disk: &mut D, at: u64, from: &[u8]) -> Result<(), Failed> {
+    let len = disk.len();
+    let n = from.len() as u64;
+    if n > len || at > len - n {
+        return Err(Failed);
+    }
+    disk.write_at(at, from)
+}
+
+// The first four bytes, read through the bound.
+fn first_four<D: Disk>(disk: &mut D) -> Result<[u8; 4], Failed> {
+    if disk.len() < 4 {
+        return Err(Failed);
+    }
+    let mut into = [0; 4];
+    disk.read(0, &mut into)?;
+    Ok(into)
+}
+
+// Does the steps, and says how many of them failed.
+fn failures<D: Disk>(disk: &mut D, steps: &[Step]) -> usize {
+    let mut failed = 0usize;
+    for step in steps {
+        let done = match step {
+            Step::Write(at, from) => put(disk, *at, from.as_slice()),
+            Step::Sync => disk.sync(),
+            Step::Crash(wish) => {
+                disk.crash(*wish);
+                Ok(())
+            }
+            Step::Nothing => Ok(()),
+        };
+        if done.is_err() {
+            failed = failed.saturating_add(1);
+        }
+    }
+    failed
+}
+
+// By the clauses of the bound alone, no sync of a sure disk fails.
+fn sync_surely(disk: &mut SureDisk) -> Result<(), Failed>
+    ensures { IsOk result }
+{
+    sync_through(disk)
+}
+
+// A sync through the bound.
+fn sync_through<D: Disk>(disk: &mut D) -> Result<(), Failed>
+    ensures cause { OnErr result (Rose (D.faults disk.old) (D.faults disk.new)) }
+{
+    disk.sync()
+}
+
+#[test]
+fn crash_leaves_the_image_that_is_wished(rt: HostRuntime) -> Result<(), Fail> {
+    let first = Step::Write(0, b"ab");
+    let second = Step::Write(1, b"cd");
+    let (lose, keep, torn) = (
+        Step::Crash(Image::Lose),
+        Step::Crash(Image::Keep),
+        Step::Crash(Image::Torn),
+    );
+    let table = [
+        ([first, lose, Step::Nothing, Step::Nothing], *b"\0\0\0\0"),
+        ([first, keep, Step::Nothing, Step::Nothing], *b"ab\0\0"),
+        (
+            [first, torn, Step::Nothing, Step::Nothing],
+            *b"\xA5\xA5\0\0",
+        ),
+        ([first, Step::Sync, second, lose], *b"ab\0\0"),
+        ([first, Step::Sync, second, keep], *b"acd\0"),
+        ([first, Step::Sync, second, torn], *b"a\xA5\xA5\0"),
+        ([first, keep, second, lose], *b"\0\0\0\0"),
+        ([first, keep, Step::Sync, lose], *b"ab\0\0"),
+    ];
+    for (row, (steps, want)) in table.iter().enumerate() {
+        let mut disk = MemDisk::new(rt.alloc(), 4, Vec::new(rt.alloc()))?;
+        assert_eq!(rt; failures(&mut disk, steps), 0, "at row {row}");
+        assert_eq!(rt; first_four(&mut disk), Ok(*want), "at row {row}");
+        let mut sure = SureDisk::new(rt.alloc(), 4)?;
+        assert_eq!(rt; failures(&mut sure, steps), 0, "at row {row}");
+        assert_eq!(rt; first_four(&mut sure), Ok(*want), "at row {row}");
+    }
+    Ok(())
+}
+
+#[test]
+fn failing_call_of_a_disk_changes_nothing(rt: HostRuntime) -> Result<(), Fail> {
+    let first = Step::Write(0, b"ab");
+    let second = Step::Write(1, b"cd");
+    let (lose, keep, torn) = (
+        Step::Crash(Image::Lose),
+        Step::Crash(Image::Keep),
+        Step::Crash(Image::Torn),
+    );
+    let table = [
+        (1, [first, second, keep, Step::Nothing], *b"\0cd\0"),
+        (1, [first, second, torn, Step::Nothing], *b"\0\xA5\xA5\0"),
+        (2, [first, second, Step::Sync, lose], *b"ab\0\0"),
+        (2, [first, keep, second, Step::Sync], *b"ab\0\0"),
+        (2, [first, Step::Sync, second, lose], *b"\0\0\0\0"),
+        (2, [first, Step::Sync, second, keep], *b"acd\0"),
+        (2, [first, Step::Sync, second, torn], *b"\xA5\xA5\xA5\0"),
+    ];
+    for (row, (fail, steps, want)) in table.iter().enumerate() {
+        let mut disk = MemDisk::new(rt.alloc(), 4, [*fail].to_vec(rt.alloc())?)?;
+        assert_eq!(rt; failures(&mut disk, steps), 1, "at row {row}");
+        assert_eq!(rt; first_four(&mut disk), Ok(*want), "at row {row}");
+    }
+    Ok(())
+}
+
+#[test]
+fn disk_in_memory_fails_at_the_read_that_is_named(rt: HostRuntime) -> Result<(), Fail> {
+    let mut disk = MemDisk::new(rt.alloc(), 4, [2].to_vec(rt.alloc())?)?;
+    assert_eq!(rt; first_four(&mut disk), Ok([0; 4]));
+    assert_eq!(rt; first_four(&mut disk), Err(Failed));
+    assert_eq!(rt; first_four(&mut disk), Ok([0; 4]));
+    Ok(())
+}
+
+#[test]
+fn disk_in_memory_has_its_size(rt: HostRuntime) -> Result<(), Fail> {
+    let none = MemDisk::new(rt.alloc(), 0, Vec::new(rt.alloc()))?;
+    assert_eq!(rt; none.len(), 0);
+    let mut sure = SureDisk::new(rt.alloc(), 512)?;
+    assert_eq!(rt; sure.len(), 512);
+    assert_eq!(rt; sync_surely(&mut sure), Ok(()));
+    Ok(())
+}
+
+#[test]
+fn disk_in_a_file_keeps_old_bytes_until_the_first_write(rt: HostRuntime) -> Result<(), Fail> {
+    let path = "disk_in_a_longer_file";
+    fs::write(&rt, path, "abcdefgh")?;
+    let mut disk = FileDisk::at_path(&rt, path, 6)?;
+    assert_eq!(rt; disk.len(), 6);
+    assert_eq!(rt; first_four(&mut disk), Ok(*b"abcd"));
+    assert_eq!(rt; fs::read_to_string(&rt, path)?.as_str(), "abcdefgh");
+    assert_eq!(rt; put(&mut disk, 1, b"xy"), Ok(()));
+    assert_eq!(rt; sync_through(&mut disk), Ok(()));
+    disk.crash(Image::Lose);
+    assert_eq!(rt; first_four(&mut disk), Ok(*b"axyd"));
+    assert_eq!(rt; fs::read_to_string(&rt, path)?.as_str(), "axydef");
+    let mut other = FileDisk::at_path(&rt, path, 6)?;
+    assert_eq!(rt; first_four(&mut other), Ok(*b"axyd"));
+    fs::remove_file(&rt, path)?;
+    Ok(())
+}
+
+#[test]
+fn disk_in_a_file_reads_zeros_that_are_not_there(rt: HostRuntime) -> Result<(), Fail> {
+    let path = "disk_in_a_shorter_file";
+    fs::write(&rt, path, "ab")?;
+    let mut disk = FileDisk::at_path(&rt, path, 6)?;
+    assert_eq!(rt; first_four(&mut disk), Ok(*b"ab\0\0"));
+    assert_eq!(rt; put(&mut disk, 3, b"x"), Ok(()));
+    assert_eq!(rt; first_four(&mut disk), Ok(*b"ab\0x"));
+    assert_eq!(rt; fs::read_to_string(&rt, path)?.as_str(), "ab\0x\0\0");
+    fs::remove_file(&rt, path)?;
+    Ok(())
+}
+
+#[test]
+fn disk_in_a_file_is_made_or_refused(rt: HostRuntime) -> Result<(), Fail> {
+    let path = "disk_in_a_new_file";
+    let mut disk = FileDisk::at_path(&rt, path, 4)?;
+    assert_eq!(rt; first_four(&mut disk), Ok([0; 4]));
+    assert_eq!(rt; fs::read_to_string(&rt, path)?.as_str(), "");
+    fs::remove_file(&rt, path)?;
+    for path in ["no_folder_here/disk", "."] {
+        let refused = FileDisk::at_path(&rt, path, 4).err();
+        assert_eq!(rt; refused, Some(WriteError::Failed), "at {path}");
+    }
     Ok(())
 }
