@@ -26,3 +26,4 @@ pub mod ReplayExample
 pub mod ScopeExample
 pub mod OwnerExample
 pub mod LossExample
+pub mod PromotionExample
