@@ -142,7 +142,11 @@ impl<R: Files> Disk for FileDisk<R> {
 }
 
 // Reads all of `into` from place `at` on. Zeros stand for the bytes that the file doesn't have.
-fn read_range<F: Read + Seek>(file: &mut F, at: u64, into: &mut [u8]) -> Result<(), Failed> {
+pub(crate) fn read_range<F: Read + Seek>(
+    file: &mut F,
+    at: u64,
+    into: &mut [u8],
+) -> Result<(), Failed> {
     if file.seek(SeekFrom::Start(at)).is_err() {
         return Err(Failed);
     }
@@ -165,7 +169,11 @@ fn read_range<F: Read + Seek>(file: &mut F, at: u64, into: &mut [u8]) -> Result<
 }
 
 // Writes all of `from` from place `at` on.
-fn write_range<F: Write + Seek>(file: &mut F, at: u64, from: &[u8]) -> Result<(), Failed> {
+pub(crate) fn write_range<F: Write + Seek>(
+    file: &mut F,
+    at: u64,
+    from: &[u8],
+) -> Result<(), Failed> {
     if file.seek(SeekFrom::Start(at)).is_err() {
         return Err(Failed);
     }

@@ -16,7 +16,8 @@ use std::marker::Model;
 /// Its images are three. `Lose` undoes every write since the last successful sync, `Keep` keeps every write,
 /// and `Torn` has the byte 0xA5 at each place that was written since the last successful sync. A crash makes
 /// what a read gives the image that is wished, and makes nothing safe: what was synced, and what is torn,
-/// stay. So a `Lose` behind a `Keep` with no sync between undoes the writes before either.
+/// stay. So a `Lose` behind a `Keep` with no sync between undoes the writes before either. What a crash
+/// undid, no later `Keep` brings back.
 ///
 /// A clause sees it as a `Device`: what a read gives, which is what `Keep` leaves, what `Lose` and `Torn`
 /// leave, and its calls. No call but `new` takes memory.

@@ -2,12 +2,14 @@
 ghost use Rattle.std.specs.Prelude.{◌≡◌, ◌<◌, ◌≤◌, length, IfOk, IfErr, OnErr, IsOk};
 ghost use Rattle.outside.specs.Faults.{Rose};
 
+use crate::file_disk::{read_range, write_range};
 use crate::{
     Disk, Failed, FileDisk, Image, MemDisk, MemSink, MemSource, Sink, Source, SureDisk, SureSink,
     SureSource, WriteError,
 };
-use std::fs;
+use std::io::{ErrorKind, Read, Seek, SeekFrom, Write};
 use std::test::Fail;
+use std::{fs, io};
 
 // A read through the bound.
 fn read_from<S: Source>(source: &mut S, into: &mut [u8]) -> Result<usize, Failed>
@@ -305,4 +307,79 @@ fn disk_in_a_file_is_made_or_refused(rt: HostRuntime) -> Result<(), Fail> {
         assert_eq!(rt; refused, Some(WriteError::Failed), "at {path}");
     }
     Ok(())
+}
+
+// Four bytes that come and go one at a time, where each second call is interrupted.
+#[derive(Drop)]
+struct SlowFile {
+    bytes: [u8; 4],
+    at: usize,
+    interrupted: bool,
+}
+
+impl SlowFile {
+    // Whether this call is to be interrupted.
+    fn turns(&mut self) -> bool {
+        self.interrupted = !self.interrupted;
+        self.interrupted
+    }
+}
+
+impl Read for SlowFile {
+    fn read(&mut self, buf: &mut [u8]) -> io::Result<usize> {
+        if self.turns() {
+            return Err(ErrorKind::Interrupted.into());
+        }
+        if self.at >= 4 || buf.is_empty() {
+            return Ok(0);
+        }
+        buf[0] = self.bytes[self.at];
+        self.at += 1;
+        Ok(1)
+    }
+}
+
+impl Write for SlowFile {
+    fn write(&mut self, buf: &[u8]) -> io::Result<usize> {
+        if self.turns() {
+            return Err(ErrorKind::Interrupted.into());
+        }
+        if self.at >= 4 || buf.is_empty() {
+            return Ok(0);
+        }
+        self.bytes[self.at] = buf[0];
+        self.at += 1;
+        Ok(1)
+    }
+
+    fn flush(&mut self) -> io::Result<()> {
+        Ok(())
+    }
+}
+
+impl Seek for SlowFile {
+    fn seek(&mut self, to: SeekFrom) -> io::Result<u64> {
+        let SeekFrom::Start(at) = to else {
+            return Err(ErrorKind::Unsupported.into());
+        };
+        self.at = at.min(4) as usize;
+        Ok(at)
+    }
+}
+
+#[test]
+fn range_of_a_file_is_read_and_written_to_its_end(rt: HostRuntime) {
+    let mut file = SlowFile {
+        bytes: *b"abcd",
+        at: 0,
+        interrupted: false,
+    };
+    for (at, want) in [(0, *b"abc"), (1, *b"bcd"), (2, *b"cd\0"), (9, *b"\0\0\0")] {
+        let mut into = [7; 3];
+        assert_eq!(rt; read_range(&mut file, at, &mut into), Ok(()), "at {at}");
+        assert_eq!(rt; into, want, "at {at}");
+    }
+    assert_eq!(rt; write_range(&mut file, 1, b"xy"), Ok(()));
+    assert_eq!(rt; file.bytes, *b"axyd");
+    assert_eq!(rt; write_range(&mut file, 3, b"zz"), Err(Failed));
 }
