@@ -61,10 +61,14 @@ pub enum Fault {
     NotYet(u32),
     #[error("dtx: read fault")]
     Read,
+    #[error("dtx: log fault")]
+    Log,
     #[error("dtx: write fault")]
     Write,
     #[error("dtx: out of memory")]
     Memory,
+    #[error("dtx: cannot open log")]
+    NoLog,
 }
 
 impl Fault {
@@ -76,6 +80,7 @@ impl Fault {
             Exit::BadScript(line, cause) => Err(Fault::BadScript(line, Mistake::of(cause))),
             Exit::NotYet(line) => Err(Fault::NotYet(line)),
             Exit::ReadFault => Err(Fault::Read),
+            Exit::LogFault => Err(Fault::Log),
             Exit::WriteFault => Err(Fault::Write),
             Exit::Memory => Err(Fault::Memory),
         }
@@ -88,8 +93,10 @@ impl Fault {
             Fault::BadScript(_, _) => 3,
             Fault::Read => 5,
             Fault::Write => 6,
+            Fault::Log => 7,
             Fault::Memory => 8,
             Fault::NotYet(_) => 9,
+            Fault::NoLog => 11,
         }
     }
 }
@@ -131,6 +138,7 @@ mod tests {
         says(&rt, rt.alloc(), Exit::Usage, "dtx: usage", 2)?;
         says(&rt, rt.alloc(), Exit::ReadFault, "dtx: read fault", 5)?;
         says(&rt, rt.alloc(), Exit::WriteFault, "dtx: write fault", 6)?;
+        says(&rt, rt.alloc(), Exit::LogFault, "dtx: log fault", 7)?;
         says(&rt, rt.alloc(), Exit::Memory, "dtx: out of memory", 8)?;
         let not_yet = "dtx: line 2: not built yet";
         says(&rt, rt.alloc(), Exit::NotYet(2), not_yet, 9)

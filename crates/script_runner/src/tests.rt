@@ -1,6 +1,9 @@
-//! Runs of the top call over sources and sinks in memory.
+//! Runs of the top call over sources, sinks and disks in memory.
+ghost use Rattle.std.specs.Prelude.{◌≡◌, length, IfOk};
+
 use crate::{BadCause, Exit, run_program};
-use outside::{MemSink, MemSource, SureSink, SureSource};
+use coordinator_log::Log;
+use outside::{MemDisk, MemSink, MemSource, SureSink, SureSource};
 use std::alloc::{AllocError, Global};
 use std::process::Abort;
 use std::test::Fail;
@@ -10,6 +13,13 @@ fn replay(alloc: Global) -> Result<Vec<String>, AllocError> {
     let mut words = Vec::new(alloc);
     words.push(String::from_str(alloc, "replay")?)?;
     Ok(words)
+}
+
+/// A disk for the log, whose calls of these numbers fail.
+fn disk(alloc: Global, fail: &[u64]) -> Result<MemDisk, AllocError>
+    ensures { IfOk result (λ d. length d.kept ≡ 524800) }
+{
+    MemDisk::new(alloc, 524_800, Vec::from_slice(alloc, fail)?)
 }
 
 const ONE_VOLATILE: &str = "a1 begin t1 0\na1 volatile t1 e1 none yes\na1 commit t1\n";
@@ -127,7 +137,8 @@ fn has_its_trace(
         let bytes = Vec::from_slice(alloc, script.as_bytes())?;
         let mut source = MemSource::new(bytes, piece, Vec::new(alloc));
         let mut sink = MemSink::new(alloc, piece, Vec::new(alloc));
-        let exit = run_program(alloc, &words, &mut source, &mut sink);
+        let disk = disk(alloc, &[])?;
+        let (exit, _disk) = run_program(alloc, &words, &mut source, &mut sink, disk);
         assert_eq!(rt; exit, Exit::Fine, "at {script}");
         assert!(rt; sink.bytes() == trace.as_bytes(), "at {script}");
     }
@@ -167,14 +178,15 @@ fn a_thirty_third_enlistment_is_refused(rt: HostRuntime) -> Result<(), Fail> {
     }
     let mut source = SureSource::new(script.into_bytes());
     let mut sink = SureSink::new(rt.alloc());
-    let exit = run_program(rt.alloc(), &words, &mut source, &mut sink);
+    let disk = disk(rt.alloc(), &[])?;
+    let (exit, _disk) = run_program(rt.alloc(), &words, &mut source, &mut sink, disk);
     assert_eq!(rt; exit, Exit::Fine);
     let end = b"65 t1 call 33 a1 ok\n66 t1 enlisted e32 one\n67 t1 call 34 a1 many 32\n";
     assert!(rt; sink.bytes().ends_with(end));
     Ok(())
 }
 
-/// The exit of a run that writes nothing.
+/// The exit of a run that writes nothing, over a disk whose first call fails.
 fn unwritten(
     rt: &impl Abort,
     alloc: Global,
@@ -189,7 +201,8 @@ fn unwritten(
     let bytes = Vec::from_slice(alloc, script.as_bytes())?;
     let mut source = MemSource::new(bytes, 10, Vec::from_slice(alloc, fail)?);
     let mut sink = MemSink::new(alloc, 10, Vec::new(alloc));
-    let exit = run_program(alloc, &given, &mut source, &mut sink);
+    let disk = disk(alloc, &[1])?;
+    let (exit, _disk) = run_program(alloc, &given, &mut source, &mut sink, disk);
     assert!(rt; sink.bytes().is_empty());
     Ok(exit)
 }
@@ -197,7 +210,8 @@ fn unwritten(
 #[test]
 fn refusals_write_nothing(rt: HostRuntime) -> Result<(), Fail> {
     let marshal = "a1 begin t1 0\na1 marshal t1\n";
-    let cases: [(&[&str], &str, &[u64], Exit); 13] = [
+    let cases: [(&[&str], &str, &[u64], Exit); 14] = [
+        (&["replay"], ONE_VOLATILE, &[], Exit::LogFault),
         (&["replay"], marshal, &[], Exit::NotYet(2)),
         (
             &["replay"],
@@ -277,10 +291,33 @@ fn a_failing_sink_has_a_part_of_the_text(rt: HostRuntime) -> Result<(), Fail> {
         let mut source = MemSource::new(bytes, 10, Vec::new(rt.alloc()));
         let fail = Vec::from_slice(rt.alloc(), &[call])?;
         let mut sink = MemSink::new(rt.alloc(), 10, fail);
-        let exit = run_program(rt.alloc(), &words, &mut source, &mut sink);
+        let disk = disk(rt.alloc(), &[])?;
+        let (exit, _disk) = run_program(rt.alloc(), &words, &mut source, &mut sink, disk);
         assert_eq!(rt; exit, Exit::WriteFault);
         assert_eq!(rt; sink.bytes().len(), written);
         assert!(rt; ONE_VOLATILE_TRACE.as_bytes().starts_with(sink.bytes()));
+    }
+    Ok(())
+}
+
+#[test]
+fn a_failing_disk_is_a_log_fault_and_a_whole_one_is_an_empty_log(
+    rt: HostRuntime,
+) -> Result<(), Fail> {
+    let words = replay(rt.alloc())?;
+    for call in 1..6 {
+        let bytes = Vec::from_slice(rt.alloc(), ONE_VOLATILE.as_bytes())?;
+        let mut source = SureSource::new(bytes);
+        let mut sink = SureSink::new(rt.alloc());
+        let disk = disk(rt.alloc(), &[call])?;
+        let (exit, disk) = run_program(rt.alloc(), &words, &mut source, &mut sink, disk);
+        if call < 5 {
+            assert_eq!(rt; exit, Exit::LogFault, "at call {call}");
+            assert!(rt; sink.bytes().is_empty());
+        } else {
+            assert_eq!(rt; exit, Exit::Fine, "at call {call}");
+            assert!(rt; Log::from_disk(rt.alloc(), disk).is_err());
+        }
     }
     Ok(())
 }

@@ -13,7 +13,7 @@ returns-in-Err-Bad-clause-bad_refused g c n cause words b told bad =
     let found : Bad c.deref.result.now c.in-Err-Bad.line c.in-Err-Bad.cause = subst (λ (e : Refusal). IsRefused c.deref.result.now e) c.in-Err-Bad.field-0-is c.in-Err-Bad.ensures.refused in
     let here = c.reads_exactly.ensures.longer b c.in-Err-Bad.line c.in-Err-Bad.cause (subst (λ (x : List ℕ). Bad x c.in-Err-Bad.line c.in-Err-Bad.cause) read found) in
     let same = c.reads_exactly.ensures.first b c.in-Err-Bad.line n c.in-Err-Bad.cause cause here bad in
-    inl (λ i. BadScript (same.0 i) (same.1 i))
+    rw c.in-Err-Bad.field-0-is (inl (λ i. BadScript (same.0 i) (same.1 i)))
 
 pub returns-in-Err-Bad-clause-not_yet_refused : goal.returns-in-Err-Bad-clause-not_yet_refused
 returns-in-Err-Bad-clause-not_yet_refused g c n words b told bad =
@@ -45,7 +45,7 @@ returns-in-Err-NotYet-clause-not_yet_refused g c n words b told bad =
     let line = c.in-Err-NotYet.line in
     let refused : IsNotYet c.deref.result.now line = subst (λ (e : Refusal). IsRefused c.deref.result.now e) c.in-Err-NotYet.field-0-is c.in-Err-NotYet.ensures.refused in
     let here : IsNotYet b line = not_yet-all b line (subst (λ (x : List ℕ). IsNotYet x line) read refused) in
-    inl (ap NotYet (one_not_yet c.reads_exactly.ensures.one b line n here bad))
+    rw c.in-Err-NotYet.field-0-is (inl (ap NotYet (one_not_yet c.reads_exactly.ensures.one b line n here bad)))
 
 pub returns-in-Ok-write_all-clause-headline : goal.returns-in-Ok-write_all-clause-headline
 returns-in-Ok-write_all-clause-headline g c k =
@@ -83,10 +83,10 @@ pub returns-in-Err-Fault-write_all-clause-not_yet_refused : goal.returns-in-Err-
 returns-in-Err-Fault-write_all-clause-not_yet_refused g c n words b told bad =
     absurd (never_not_yet c.reads_exactly.ensures.one _ c.deref.result.now c.in-Ok-runnable.script (λ x t. c.deref.ensures.value ∙ c.in-Ok.ensures.read x t) c.in-Ok-runnable.ensures.script.0 c.in-Ok-runnable.ensures.script.1 n b told bad)
 
-pub returns-in-Err-Fault-formatted-clause-bad_refused : goal.returns-in-Err-Fault-formatted-clause-bad_refused
-returns-in-Err-Fault-formatted-clause-bad_refused g c n cause words b told bad =
+pub returns-in-Err-Fault-default-clause-bad_refused : goal.returns-in-Err-Fault-default-clause-bad_refused
+returns-in-Err-Fault-default-clause-bad_refused g c n cause words b told bad =
     absurd (never_bad c.reads_exactly.ensures.either _ c.deref.result.now c.in-Ok-runnable.script (λ x t. c.deref.ensures.value ∙ c.in-Ok.ensures.read x t) c.in-Ok-runnable.ensures.script.0 n cause b told bad)
 
-pub returns-in-Err-Fault-formatted-clause-not_yet_refused : goal.returns-in-Err-Fault-formatted-clause-not_yet_refused
-returns-in-Err-Fault-formatted-clause-not_yet_refused g c n words b told bad =
+pub returns-in-Err-Fault-default-clause-not_yet_refused : goal.returns-in-Err-Fault-default-clause-not_yet_refused
+returns-in-Err-Fault-default-clause-not_yet_refused g c n words b told bad =
     absurd (never_not_yet c.reads_exactly.ensures.one _ c.deref.result.now c.in-Ok-runnable.script (λ x t. c.deref.ensures.value ∙ c.in-Ok.ensures.read x t) c.in-Ok-runnable.ensures.script.0 c.in-Ok-runnable.ensures.script.1 n b told bad)

@@ -7,7 +7,7 @@ use Rattle.dtx_model.specs.Words.{past_of}
 use Rattle.script_runner.proofs.replay.run_replay.Goals as goal
 
 pub returns-clause-history : goal.returns-clause-history
-returns-clause-history c =
+returns-clause-history g c =
     let s = c.args.s.now in
     let T = past_of c.in_ok-trace.trace in
     let ran : IsReplayed s T = subst (λ (ls : List Line). IsReplayed ls T) c.lines.ensures c.in_ok-trace.ensures.replayed in
@@ -24,7 +24,7 @@ returns-clause-history c =
     }
 
 pub returns-clause-outcome : goal.returns-clause-outcome
-returns-clause-outcome c =
+returns-clause-outcome g c =
     let s = c.args.s.now in
     let T = past_of c.in_ok-trace.trace in
     let ran : IsReplayed s T = subst (λ (ls : List Line). IsReplayed ls T) c.lines.ensures c.in_ok-trace.ensures.replayed in
@@ -36,7 +36,7 @@ returns-clause-outcome c =
     }
 
 pub returns-clause-complete : goal.returns-clause-complete
-returns-clause-complete c =
+returns-clause-complete g c =
     let s = c.args.s.now in
     let T = past_of c.in_ok-trace.trace in
     let ran : IsReplayed s T = subst (λ (ls : List Line). IsReplayed ls T) c.lines.ensures c.in_ok-trace.ensures.replayed in
