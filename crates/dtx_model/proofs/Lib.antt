@@ -5,3 +5,6 @@ pub mod Prefixes
 pub mod Faults
 pub mod Scopes
 pub mod Halves
+pub mod Digits
+pub mod Pasts
+pub mod SameNumbers
