@@ -37,7 +37,8 @@ use Rattle.trace_text.specs.ReadGroups.{is_of_enlistment, is_about_enlistment, i
 use Rattle.trace_words.specs.Cuts.{front, behind, IsWithout}
 use Rattle.trace_words.proofs.Cuts.{front_cut, behind_cut, front_whole, behind_whole, same_bytes}
 use Rattle.trace_words.proofs.Identifiers.{id_without}
-use Rattle.trace_words.proofs.Numbers.{digit_of_number, name_without, without_decimal}
+use Rattle.dtx_model.proofs.Digits.{digit_of_number}
+use Rattle.trace_words.proofs.Numbers.{name_without, without_decimal}
 
 -- the words of a text that is cut at its first space
 pub record AreCut (f l a r : List ℕ) : Type 0 where
