@@ -8,3 +8,5 @@ pub mod Halves
 pub mod Digits
 pub mod Pasts
 pub mod SameNumbers
+pub mod Counts
+pub mod Unowned

@@ -1,7 +1,7 @@
 -- Words that are numbers.
-use Rattle.std.proofs.Common.{◌≡◌, ◌≢◌, ℕ, zero, suc, ◌+◌, ◌-◌, ◌*◌, ◌^◌, ◌<◌, ◌≤◌, ◌==◌, Bool, true, false, List, []}
+use Rattle.std.proofs.Common.{◌≡◌, ◌≢◌, ℕ, zero, suc, ◌+◌, ◌-◌, ◌*◌, ◌^◌, ◌<◌, ◌≤◌, ◌==◌, true, false, List, []}
 use Rattle.std.proofs.Common.{◌∷◌, length, take, get_or, refl, ap, sym, ◌∙◌, subst, arith, decimal, Option, Some, None, IfNone, IsSome}
-use Rattle.std.proofs.lemmas.Bool.{false≢true}
+use Rattle.std.proofs.lemmas.Bool.{false_from_ne_true, false≢true}
 use Rattle.std.specs.Char.{digit_value}
 use Rattle.std.specs.Str.Parse.{AllDigits, digits_value, digits_value_after}
 use Rattle.std.proofs.lemmas.Bool.Decides.{nat_tests}
@@ -86,14 +86,9 @@ same_bytes-equal (x ∷ v) (y ∷ w) h =
     let head : x ≡ y = grind (arith, nat_tests, and_left (x == y) (same_bytes v w) h) in
     cc
 
--- what can't be true is false
-pub never : (b : Bool) → (b ≡ true → ⊥) → b ≡ false
-never true h = absurd (h refl)
-never false h = refl
-
 -- a word that is another isn't the same
 pub same_bytes-other : (v w : List ℕ) → v ≢ w → same_bytes v w ≡ false
-same_bytes-other v w h = never (same_bytes v w) (λ e. h (same_bytes-equal v w e))
+same_bytes-other v w h = false_from_ne_true (same_bytes v w) (λ e. h (same_bytes-equal v w e))
 
 -- a number's text in a range writes a number of that range
 pub writes-decimal : (low high n : ℕ) → n < 2 ^ 64 → is_from low high n ≡ true → writes low high (decimal n) ≡ true
@@ -105,7 +100,7 @@ writes-out low high n h r = rw (value_from-decimal n h, same_bytes-refl (decimal
 
 -- a word that is no number's text writes none
 pub writes-none : (low high : ℕ) (w : List ℕ) → high < 2 ^ 32 → ((n : ℕ) → n < 2 ^ 32 → w ≢ decimal n) → writes low high w ≡ false
-writes-none low high w h f = never (writes low high w) (λ e.
+writes-none low high w h f = false_from_ne_true (writes low high w) (λ e.
     let equal = same_bytes-equal w (decimal (value_from 0 w)) (and_left _ (is_from low high (value_from 0 w)) e) in
     let within : is_from low high (value_from 0 w) ≡ true = and_right (same_bytes w (decimal (value_from 0 w))) _ e in
     let below : value_from 0 w ≤ high = to_high low high (value_from 0 w) within in
