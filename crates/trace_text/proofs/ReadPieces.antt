@@ -1,6 +1,7 @@
 -- Answers and entries are found by their words.
 use Rattle.std.proofs.Common.{◌≡◌, ◌≢◌, ℕ, ◌^◌, ◌<◌, nat_le, ◌||◌, Bool, true, false, List, [], ◌∷◌, ◌++◌, codes, decimal, length, Option, Some, None, refl, ap, sym, ◌∙◌, arith, append_assoc}
 use Rattle.std.specs.Int.{IsInRange}
+use Rattle.std.proofs.lemmas.Bool.{or_left}
 use Rattle.std.proofs.lemmas.Bool.Decides.{nat_tests}
 use Rattle.dtx_values.specs.declared.entry.Answer.{Answer}
 use Rattle.dtx_values.specs.declared.entry.Answer.TheVariants.{True, TooLate, Connected, Ambient, OutcomeIs}
@@ -129,11 +130,6 @@ is_scope_key k = same_bytes k (codes "opened") || (same_bytes k (codes "finished
 
 abbrev is_log_key : List ℕ → Bool
 is_log_key k = same_bytes k (codes "armed") || same_bytes k (codes "opened")
-
--- where the first holds, either holds
-or_left : (a b : Bool) → a ≡ true → (a || b) ≡ true
-or_left true b h = refl
-or_left false b h = absurd cc
 
 -- a scope's entry begins with one of its keywords
 scope_key : (w : ScopeNote) (k : List ℕ) → same_bytes k (front 32 (entry_text (Scope w))) ≡ true → is_scope_key k ≡ true
