@@ -5,3 +5,8 @@ pub mod Prefixes
 pub mod Faults
 pub mod Scopes
 pub mod Halves
+pub mod Digits
+pub mod Pasts
+pub mod SameNumbers
+pub mod Counts
+pub mod Unowned

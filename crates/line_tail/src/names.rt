@@ -16,6 +16,7 @@ pub fn put_numbered(tail: &mut Tail, word: &[u8], n: u64)
     tail.put(word);
 }
 
+/// Puts the name of an actor.
 #[inline(always)]
 pub fn put_actor(tail: &mut Tail, a: ActorNo)
     requires { 21 + length tail.old ≤ 160 }
@@ -25,6 +26,7 @@ pub fn put_actor(tail: &mut Tail, a: ActorNo)
     put_numbered(tail, b"a", u64::from(a.get()));
 }
 
+/// Puts the name of a transaction.
 #[inline(always)]
 pub fn put_transaction(tail: &mut Tail, t: TxNo)
     requires { 21 + length tail.old ≤ 160 }
@@ -34,6 +36,7 @@ pub fn put_transaction(tail: &mut Tail, t: TxNo)
     put_numbered(tail, b"t", u64::from(t.get()));
 }
 
+/// Puts the name of an enlistment.
 #[inline(always)]
 pub fn put_enlistment(tail: &mut Tail, e: EnlNo)
     requires { 21 + length tail.old ≤ 160 }
@@ -43,6 +46,7 @@ pub fn put_enlistment(tail: &mut Tail, e: EnlNo)
     put_numbered(tail, b"e", u64::from(e.get()));
 }
 
+/// Puts the name of a clone.
 #[inline(always)]
 pub fn put_clone(tail: &mut Tail, c: CloneNo)
     requires { 21 + length tail.old ≤ 160 }
@@ -52,6 +56,7 @@ pub fn put_clone(tail: &mut Tail, c: CloneNo)
     put_numbered(tail, b"c", u64::from(c.get()));
 }
 
+/// Puts the name of a scope.
 #[inline(always)]
 pub fn put_scope(tail: &mut Tail, s: ScopeNo)
     requires { 21 + length tail.old ≤ 160 }
@@ -61,6 +66,7 @@ pub fn put_scope(tail: &mut Tail, s: ScopeNo)
     put_numbered(tail, b"s", u64::from(s.get()));
 }
 
+/// Puts the name of a manager.
 #[inline(always)]
 pub fn put_manager(tail: &mut Tail, r: RmNo)
     requires { 21 + length tail.old ≤ 160 }
@@ -70,6 +76,7 @@ pub fn put_manager(tail: &mut Tail, r: RmNo)
     put_numbered(tail, b"r", u64::from(r.get()));
 }
 
+/// Puts the word of a connection.
 pub fn put_connection(tail: &mut Tail, c: Conn)
     requires { 21 + length tail.old ≤ 160 }
     ensures text { tail.new ≡ connection_word c ++ tail.old }

@@ -5,6 +5,7 @@ ghost use Rattle.dtx_model.specs.Grammar.{image_word, iso_word, kind_word};
 use crate::tail::Tail;
 use dtx_values::{CloneKind, Image, Iso};
 
+/// Puts the kind of a clone.
 pub fn put_kind(tail: &mut Tail, k: CloneKind)
     requires { 16 + length tail.old ≤ 160 }
     ensures text { tail.new ≡ kind_word k ++ tail.old }
@@ -16,6 +17,7 @@ pub fn put_kind(tail: &mut Tail, k: CloneKind)
     }
 }
 
+/// Puts an isolation.
 pub fn put_isolation(tail: &mut Tail, i: Iso)
     requires { 16 + length tail.old ≤ 160 }
     ensures text { tail.new ≡ iso_word i ++ tail.old }
@@ -32,6 +34,7 @@ pub fn put_isolation(tail: &mut Tail, i: Iso)
     }
 }
 
+/// Puts what a crash is wished to leave of the writes since the last sync.
 pub fn put_image(tail: &mut Tail, i: Image)
     requires { 16 + length tail.old ≤ 160 }
     ensures text { tail.new ≡ image_word i ++ tail.old }

@@ -1,36 +1,15 @@
 -- At most one durable or promotable enlistment stands.
-use Rattle.std.proofs.Common.{◌≡◌, ◌≤◌, ◌==◌, ◌||◌, ℕ, suc, Bool, true, false, not, List, [], ◌∷◌, map, nat_lt, if◌then◌else◌, refl, arith}
+use Rattle.std.proofs.Common.{◌≡◌, ◌≤◌, ◌==◌, ◌||◌, ℕ, suc, Bool, true, false, not, List, if◌then◌else◌, refl, arith}
 use Rattle.std.proofs.lemmas.Bool.Decides.{nat_tests}
 use Rattle.dtx_values.specs.declared.number.EnlNo.{EnlNo}
 use Rattle.dtx_values.specs.declared.words.Class.{Class}
 use Rattle.dtx_values.specs.declared.words.Vote.{Vote}
-use Rattle.dtx_values.specs.Table.{Enlistment, fresh_row, how_many, insert_by, is_of, mark_row, marks, number_of, vote_row, with_mark, with_row, with_vote}
+use Rattle.dtx_values.specs.Table.{Enlistment, fresh_row, how_many, is_of, mark_row, marks, number_of, vote_row, with_mark, with_row, with_vote}
 use Rattle.dtx_values.proofs.Counts.{how_many-none}
 use Rattle.dtx_model.specs.Entries.{is_volatile}
 use Rattle.dtx_model.specs.Owners.{is_lasting}
 use Rattle.dtx_model.specs.Words.{has}
-
--- two counts in either order
-count-swap : (a b : Bool) (n : ℕ) → (if b then suc (if a then suc n else n) else (if a then suc n else n)) ≡ (if a then suc (if b then suc n else n) else (if b then suc n else n))
-count-swap true true n = refl
-count-swap true false n = refl
-count-swap false true n = refl
-count-swap false false n = refl
-
--- one more passes where the new item does
-pub how_many-insert_by : {A : Type 0} (p : A → Bool) (key : A → ℕ) (x : A) (ys : List A) → how_many p (insert_by key x ys) ≡ (if p x then suc (how_many p ys) else how_many p ys)
-how_many-insert_by p key x [] = refl
-how_many-insert_by p key x (y ∷ ys) =
-    let more = how_many-insert_by p key x ys in
-    elim (nat_lt (key y) (key x)) as (λ b. how_many p (if b then y ∷ insert_by key x ys else x ∷ y ∷ ys) ≡ (if p x then suc (how_many p (y ∷ ys)) else how_many p (y ∷ ys))) [
-      | true ↦ rw more (count-swap (p x) (p y) (how_many p ys))
-      | false ↦ refl
-    ]
-
--- as many pass behind a change that the test doesn't see
-pub how_many-map : {A : Type 0} (p : A → Bool) (f : A → A) → ((x : A) → p (f x) ≡ p x) → (xs : List A) → how_many p (map f xs) ≡ how_many p xs
-how_many-map p f same [] = refl
-how_many-map p f same (x ∷ xs) = rw (same x, how_many-map p f same xs) refl
+use Rattle.dtx_model.proofs.Counts.{how_many-insert_by, how_many-map}
 
 -- a mark makes nothing durable or promotable
 pub lasting-mark : (e : ℕ) (xs : List Enlistment) → how_many is_lasting (with_mark e xs) ≡ how_many is_lasting xs

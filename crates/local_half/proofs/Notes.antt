@@ -5,7 +5,6 @@ use Rattle.dtx_values.specs.declared.entry.Answer.{Answer}
 use Rattle.dtx_values.specs.declared.entry.Answer.TheVariants.{Many, False, True, TooLate}
 use Rattle.dtx_values.specs.declared.note.Reply.TheVariants.{Vote as VoteReply}
 use Rattle.dtx_values.specs.declared.number.EnlNo.{EnlNo}
-use Rattle.dtx_values.specs.declared.words.Cause.TheVariants.{Two, Second, Beside}
 use Rattle.dtx_values.specs.declared.words.Class.{Class}
 use Rattle.dtx_values.specs.declared.words.Class.TheVariants.{Zero, One, DurableTwo, DurableSingle, Promotable}
 use Rattle.dtx_values.specs.declared.words.Outcome.{Outcome}
@@ -14,10 +13,11 @@ use Rattle.dtx_values.specs.Table.{Enlistment, has_voted, how_many, insert_by, i
 use Rattle.dtx_values.proofs.Counts.{how_many-none}
 use Rattle.dtx_model.specs.Entries.{is_volatile}
 use Rattle.dtx_model.specs.Observed.{Observed}
-use Rattle.dtx_model.specs.Owners.{cause_of, is_durable, is_lasting, is_promotable, may_own}
+use Rattle.dtx_model.specs.Owners.{cause_of, is_lasting, may_own}
 use Rattle.dtx_model.specs.Steps.{behind_begin, behind_end, due_of, durable_answer, is_done, is_gone, is_handed, note_of, open_note, promotable_answer, wait_for}
 use Rattle.dtx_model.specs.Words.{has}
-use Rattle.dtx_model.proofs.Bools.{and_never, not_false, not_true, or_false, or_first, or_second}
+use Rattle.dtx_model.proofs.Bools.{and_never, not_false, not_true}
+use Rattle.dtx_model.proofs.Unowned.{causeless}
 use Rattle.enlist_table.specs.Refusals.{add_refusal, stands, is_lasting as lasts_in}
 use Rattle.local_half.specs.Half.{fits_due}
 use Rattle.volatile_enlist.specs.Refusals.{was_asked}
@@ -65,33 +65,6 @@ lasting-none xs none =
 taken : (e : EnlNo) (c : Class) (xs : List Enlistment) → stands e.value xs ≡ false → nat_le 32 (length xs) ≡ false → has is_lasting xs ≡ false → add_refusal e c xs ≡ None
 taken e c xs new few none = rw (new, few, lasting-none xs none, and_never (lasts_in c)) refl
 
--- a class that is neither durable nor promotable is volatile
-volatile_else : (c : Class) → is_durable c ≡ false → is_promotable c ≡ false → not (is_volatile c) ≡ false
-volatile_else Zero d p = refl
-volatile_else One d p = refl
-volatile_else DurableTwo d p = absurd (cc)
-volatile_else DurableSingle d p = absurd (cc)
-volatile_else Promotable d p = absurd (cc)
-
--- none lasts where none is durable and none promotable
-none_lasts : (xs : List Enlistment) → has (λ x. is_durable x.1.class) xs ≡ false → has (λ x. is_promotable x.1.class) xs ≡ false → has is_lasting xs ≡ false
-none_lasts [] d p = refl
-none_lasts (x ∷ xs) d p =
-    or_false (is_lasting x) (has is_lasting xs)
-    (volatile_else x.1.class (or_first (is_durable x.1.class) (has (λ y. is_durable y.1.class) xs) d) (or_first (is_promotable x.1.class) (has (λ y. is_promotable y.1.class) xs) p))
-    (none_lasts xs (or_second (is_durable x.1.class) (has (λ y. is_durable y.1.class) xs) d) (or_second (is_promotable x.1.class) (has (λ y. is_promotable y.1.class) xs) p))
-
--- where a durable call needn't wait, none lasts
-no_wait : (xs : List Enlistment) (single : Bool) → is_done (wait_for (cause_of xs single)) ≡ true → has is_lasting xs ≡ false
-unfolding cause_of
-no_wait xs single k = step (has (λ x. is_durable x.1.class) xs) (has (λ x. is_promotable x.1.class) xs) single refl refl k
-  where
-    step : (d p s : Bool) → has (λ x. is_durable x.1.class) xs ≡ d → has (λ x. is_promotable x.1.class) xs ≡ p
-        → is_done (wait_for (if d then Some Second else if p then Some Beside else if s then None else Some Two)) ≡ true → has is_lasting xs ≡ false
-    step true p s a b k = absurd (cc)
-    step false true s a b k = absurd (cc)
-    step false false s a b k = none_lasts xs a b
-
 -- a new durable one whose call is done is taken, and none lasts beside it
 pub may_last : (limit : Option ℕ) (d : Option Outcome) (sealed single : Bool) (xs : List Enlistment) (e : EnlNo)
     → is_done (behind_begin limit (behind_end d (durable_answer sealed single xs))) ≡ true → not (has (is_of e.value) xs) ≡ true
@@ -104,7 +77,7 @@ may_last limit d sealed single xs e k fresh = step sealed (nat_le 32 (length xs)
     step false true more m k = absurd (cc)
     step false false true m k = absurd (cc)
     step false false false m k =
-        let none : has is_lasting xs ≡ false = no_wait xs single k in
+        let none : has is_lasting xs ≡ false = causeless xs single k in
         (taken e DurableSingle xs (not_true (has (is_of e.value) xs) fresh) m none, not_false (has is_lasting xs) none)
 
 -- a new promotable one whose call is done is taken, and none lasts beside it

@@ -1,6 +1,7 @@
 -- The block of each reply that is due and of each local act keeps the rules.
 use Rattle.std.proofs.Common.{◌≡◌, ℕ, ◌==◌, Bool, true, false, ◌&&◌, ◌||◌, List, [], ◌∷◌, Option, Some, None, refl, ◌∙◌, ap, sym, subst}
 use Rattle.std.specs.Prelude.{is_some, filter, find, not, if◌then◌else◌}
+use Rattle.std.proofs.lemmas.Bool.{or_left}
 use Rattle.dtx_values.specs.declared.number.EnlNo.{EnlNo}
 use Rattle.dtx_values.specs.declared.entry.Ask.TheVariants.{Prepare}
 use Rattle.dtx_values.specs.declared.entry.Entry.{Entry}
@@ -27,7 +28,7 @@ use Rattle.dtx_model.specs.Waves.{hears, is_class, may_be_asked, name_of, next_a
 use Rattle.dtx_model.specs.Steps.{Step, Replies, reply_entries, planned_vote, planned_owner, open_note, due_note, vote_reply, owner_reply, planned_reply, reply_step, due_reply, due_replies, pending}
 use Rattle.dtx_model.specs.Steps.{is_gone, is_handed, hears_abort, is_to_tell, tell, commit_act, before_seal, all_voted, behind_seal, undecided_act, act_by, act_entries, act_if}
 use Rattle.dtx_model.proofs.Bools.{and_left, and_right, and_both, or_first, or_right, not_true, not_false, three_hold}
-use Rattle.outcome_law.proofs.Tests.{four_hold, five_hold, or_left}
+use Rattle.outcome_law.proofs.Tests.{four_hold, five_hold}
 use Rattle.outcome_law.proofs.Scans.{each_more, each_both, each-append, each-kth}
 use Rattle.outcome_law.proofs.Picks.{passes, each_from_at, each_picked, found_well, none_each}
 use Rattle.outcome_law.proofs.Rule.{is_enlisted, is_only, is_answer, all_complete, zeros_cast, is_decided, is_certain, rule, ruled}

@@ -1,6 +1,7 @@
 -- The block of each call that may come keeps the rules.
 use Rattle.std.proofs.Common.{◌≡◌, ℕ, Bool, true, false, ◌&&◌, ◌||◌, List, [], ◌∷◌, Option, Some, None, refl, ◌∙◌, ap, sym}
 use Rattle.std.specs.Prelude.{is_some, length, nat_le, not, if◌then◌else◌}
+use Rattle.std.proofs.lemmas.Bool.{or_left}
 use Rattle.dtx_values.specs.declared.number.ActorNo.{ActorNo}
 use Rattle.dtx_values.specs.declared.call.Call.{Call}
 use Rattle.dtx_values.specs.declared.call.Call.TheVariants.{Begin, Volatile, Durable, Promotable, Clone, Complete, Commit, Rollback, Tick, Gone}
@@ -12,9 +13,7 @@ use Rattle.dtx_values.specs.declared.limits.TheConstants.{DURABLES, ENLISTMENTS}
 use Rattle.dtx_values.specs.declared.number.EnlNo.{EnlNo}
 use Rattle.dtx_values.specs.declared.script.EnlistOption.{EnlistOption}
 use Rattle.dtx_values.specs.declared.script.EnlistOption.TheVariants.{Plain, DuringPrepare}
-use Rattle.dtx_values.specs.declared.words.Cause.TheVariants.{Two, Second, Beside}
-use Rattle.dtx_values.specs.declared.words.Class.{Class}
-use Rattle.dtx_values.specs.declared.words.Class.TheVariants.{Zero, One, DurableTwo, DurableSingle, Promotable as PromotableClass}
+use Rattle.dtx_values.specs.declared.words.Class.TheVariants.{DurableSingle, Promotable as PromotableClass}
 use Rattle.dtx_values.specs.declared.words.Outcome.{Outcome}
 use Rattle.dtx_values.specs.Table.{Enlistment, how_many, is_of}
 use Rattle.dtx_values.specs.Clones.{is_clone, is_complete_clone, is_open_rollback}
@@ -22,12 +21,12 @@ use Rattle.dtx_model.specs.Words.{has, latest, onto}
 use Rattle.dtx_model.specs.Entries.{is_commit, is_sealed, is_volatile, is_vote, is_hand, is_any_hand, is_lost, decision_of, handed_of, is_decision, began_of}
 use Rattle.dtx_model.specs.Observed.{observe, rows, clone_rows, clock}
 use Rattle.dtx_model.specs.Outcome.{is_empty, ready, by_seal, by_owner, by_log, evidence, is_veto}
-use Rattle.dtx_model.specs.Owners.{cause_of, is_durable, is_lasting, is_promotable, may_own}
+use Rattle.dtx_model.specs.Owners.{cause_of, is_lasting, may_own}
 use Rattle.dtx_model.specs.Steps.{limit_of, class_of, behind_begin, behind_end, volatile_answer, durable_answer, promotable_answer, is_single, wait_for, clone_answer, complete_answer, gone_answer, unless_late, answer, is_done}
 use Rattle.dtx_model.specs.Steps.{veto_if, ticked, reaches, is_evident, is_gone, is_handed, is_late, time_up, voted, lost_outcome, decided_if, facts, facts_if}
 use Rattle.dtx_model.specs.Caused.{is_new}
-use Rattle.dtx_model.proofs.Bools.{and_both, or_false, or_first, or_second, not_both, not_false, not_true}
-use Rattle.outcome_law.proofs.Tests.{or_left, refuted}
+use Rattle.dtx_model.proofs.Bools.{and_both, or_first, or_second, not_false, not_true}
+use Rattle.dtx_model.proofs.Unowned.{causeless}
 use Rattle.outcome_law.proofs.Rule.{is_answer, is_enlisted, rule, ruled}
 use Rattle.outcome_law.proofs.TableRows.{none_there, enlisted_in_rows, evident_seen, commit_vetoed, clone_stands}
 use Rattle.outcome_law.proofs.Evidence.{evidence-sealed}
@@ -53,34 +52,6 @@ done_behind (Some n) None a k = (refl, k)
 volatile_done : (sealed : Bool) (xs : List Enlistment) → is_done (volatile_answer sealed xs) ≡ true → sealed ≡ false
 volatile_done true xs k = absurd cc
 volatile_done false xs k = refl
-
--- what is neither durable nor promotable isn't lasting
-lasting_class : (c : Class) → not (is_volatile c) ≡ true → (is_durable c || is_promotable c) ≡ true
-lasting_class Zero k = absurd cc
-lasting_class One k = absurd cc
-lasting_class DurableTwo k = refl
-lasting_class DurableSingle k = refl
-lasting_class PromotableClass k = refl
-
--- where no row is durable and none promotable, none is lasting
-none_lasts : (xs : List Enlistment) → has (λ x. is_durable x.1.class) xs ≡ false → has (λ x. is_promotable x.1.class) xs ≡ false → has is_lasting xs ≡ false
-none_lasts [] d p = refl
-none_lasts (x ∷ xs) d p =
-    or_false (is_lasting x) (has is_lasting xs)
-    (refuted (is_lasting x) (λ k. not_both (is_durable x.1.class || is_promotable x.1.class) (lasting_class x.1.class k)
-    (or_false (is_durable x.1.class) (is_promotable x.1.class) (or_first (is_durable x.1.class) (has (λ x. is_durable x.1.class) xs) d) (or_first (is_promotable x.1.class) (has (λ x. is_promotable x.1.class) xs) p))))
-    (none_lasts xs (or_second (is_durable x.1.class) (has (λ x. is_durable x.1.class) xs) d) (or_second (is_promotable x.1.class) (has (λ x. is_promotable x.1.class) xs) p))
-
--- a durable call that has no cause to promote stands behind nothing durable or promotable
-causeless : (xs : List Enlistment) (single : Bool) → is_done (wait_for (cause_of xs single)) ≡ true → has is_lasting xs ≡ false
-unfolding cause_of
-causeless xs single k = step xs single (has (λ x. is_durable x.1.class) xs) (has (λ x. is_promotable x.1.class) xs) refl refl k
-  where
-    step : (xs : List Enlistment) (single d p : Bool) → has (λ x. is_durable x.1.class) xs ≡ d → has (λ x. is_promotable x.1.class) xs ≡ p
-        → is_done (wait_for (if d then Some Second else if p then Some Beside else if single then None else Some Two)) ≡ true → has is_lasting xs ≡ false
-    step xs single true p e f k = absurd cc
-    step xs single false true e f k = absurd cc
-    step xs single false false e f k = none_lasts xs e f
 
 -- a durable call that was done stood behind no seal, and behind nothing durable or promotable
 durable_done : (sealed single : Bool) (xs : List Enlistment) → is_done (durable_answer sealed single xs) ≡ true → (sealed ≡ false) × (has is_lasting xs ≡ false)

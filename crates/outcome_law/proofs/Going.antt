@@ -1,7 +1,7 @@
 -- What stands at the end of each block while nothing is decided, and which single entries keep it.
 use Rattle.std.proofs.Common.{◌≡◌, ◌==◌, ℕ, Bool, true, false, ◌&&◌, ◌||◌, List, [], ◌∷◌, refl, ◌∙◌, ap}
 use Rattle.std.specs.Prelude.{not}
-use Rattle.std.proofs.lemmas.Bool.{eqb-true}
+use Rattle.std.proofs.lemmas.Bool.{eqb-true, false_from_ne_true, or_left}
 use Rattle.dtx_values.specs.declared.number.CloneNo.{CloneNo}
 use Rattle.dtx_values.specs.declared.number.EnlNo.{EnlNo}
 use Rattle.dtx_values.specs.declared.entry.Entry.{Entry}
@@ -18,7 +18,7 @@ use Rattle.dtx_model.specs.Words.{has, each, all_of}
 use Rattle.dtx_model.specs.Entries.{is_commit, is_sealed, is_yes, is_hand, is_any_hand, is_owner, is_any_owner, is_lost, is_vote, is_volatile, clone_of, is_good_vote, is_decision, handed_of}
 use Rattle.dtx_model.specs.Outcome.{can_own, durables, enlisted, is_complete, is_empty, ready, by_seal, by_owner, by_log, evidence, is_rollback, is_veto, vetoed, is_lost_owner, owner_doubt, doubt, may_tell}
 use Rattle.dtx_model.proofs.Bools.{and_left, and_right, and_both, or_case, or_false, or_right, not_true, not_false, not_both, three_hold, and_never}
-use Rattle.outcome_law.proofs.Tests.{eq_swap, four_hold, or_between, or_left, refuted, second_of_three}
+use Rattle.outcome_law.proofs.Tests.{eq_swap, four_hold, or_between, second_of_three}
 use Rattle.outcome_law.proofs.Scans.{each_more, has_more, has_less}
 use Rattle.outcome_law.proofs.Picks.{none_each}
 use Rattle.outcome_law.proofs.Rule.{is_enlisted, is_cloned, is_answer, rule, ruled}
@@ -151,7 +151,7 @@ timeout_keeps h k d u e = aborted_keeps (TimedOut ∷ h) k.rules d (first_vetoed
 
 -- commit was asked only of what isn't sealed
 commit_unsealed : (h : List Entry) → ruled h ≡ true → has is_commit h ≡ false → has is_sealed h ≡ false
-commit_unsealed h r c = refuted (has is_sealed h) (λ s. not_both (has is_commit h) (sealed_closed h r s).commit c)
+commit_unsealed h r c = false_from_ne_true (has is_sealed h) (λ s. not_both (has is_commit h) (sealed_closed h r s).commit c)
 
 -- the rule of commit
 commit_rule : (h : List Entry) → has is_decision h ≡ false → has is_commit h ≡ false → rule h CommitAsked ≡ true
@@ -201,7 +201,7 @@ enlisted_passes q e (x ∷ h) a s = enlisted_passes q e h a s
 unwilling : (h k : List Entry) (e : ℕ) → has (is_enlisted e) h ≡ true → has (is_good_vote e) k ≡ false
     → each (λ x. is_volatile x.1 && has (is_good_vote x.0.value) k) (enlisted h) ≡ false
 unwilling h k e s g =
-    refuted (each (λ x. is_volatile x.1 && has (is_good_vote x.0.value) k) (enlisted h))
+    false_from_ne_true (each (λ x. is_volatile x.1 && has (is_good_vote x.0.value) k) (enlisted h))
     (λ w. not_both (has (is_good_vote e) k) (enlisted_passes (λ f. has (is_good_vote f) k) e h
     (each_more (λ x. is_volatile x.1 && has (is_good_vote x.0.value) k) (λ x. has (is_good_vote x.0.value) k)
     (λ x. and_right (is_volatile x.1) (has (is_good_vote x.0.value) k)) (enlisted h) w) s) g)

@@ -6,6 +6,7 @@ use Rattle.std.proofs.lemmas.List.Folds.{list_all-map}
 use Rattle.dtx_values.specs.Table.{how_many, insert_by}
 use Rattle.dtx_model.specs.Words.{has, each}
 use Rattle.dtx_model.proofs.Bools.{and_swap, or_right, or_swap}
+use Rattle.dtx_model.proofs.Counts.{how_many-insert_by}
 
 -- P holds of each item
 abbrev pub OfEach : {A : Type 0} → (A → Type 0) → List A → Type 0
@@ -116,15 +117,4 @@ of-has p (x ∷ xs) = (
 
 -- as many pass with one more at its place that doesn't
 pub how_many-insert : {A : Type 0} (p : A → Bool) (key : A → ℕ) (x : A) → p x ≡ false → (xs : List A) → how_many p (insert_by key x xs) ≡ how_many p xs
-how_many-insert p key x f [] = rw f refl
-how_many-insert p key x f (y ∷ ys) = step p (nat_lt (key y) (key x)) x y ys (insert_by key x ys) f (how_many-insert p key x f ys)
-  where
-    step : {A : Type 0} (p : A → Bool) (b : Bool) (x y : A) (ys rest : List A) → p x ≡ false → how_many p rest ≡ how_many p ys
-        → how_many p (if b then y ∷ rest else x ∷ y ∷ ys) ≡ how_many p (y ∷ ys)
-    step p true x y ys rest f ih = ap (λ n. if p y then suc n else n) ih
-    step p false x y ys rest f ih = rw f refl
-
--- what f makes of an item passes as the item does: as many pass as before
-pub how_many_kept : {A : Type 0} (p : A → Bool) (f : A → A) → ((x : A) → p (f x) ≡ p x) → (xs : List A) → how_many p (map f xs) ≡ how_many p xs
-how_many_kept p f same [] = refl
-how_many_kept p f same (x ∷ xs) = ap (λ b. if b then suc (how_many p (map f xs)) else how_many p (map f xs)) (same x) ∙ ap (λ n. if p x then suc n else n) (how_many_kept p f same xs)
+how_many-insert p key x f xs = how_many-insert_by p key x xs ∙ rw f refl

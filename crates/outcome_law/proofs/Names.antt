@@ -25,6 +25,7 @@ use Rattle.dtx_model.specs.Steps.{Step, Calls, Replies, Acts, call_of, complete_
 use Rattle.dtx_model.specs.Caused.{IsCallOf, MayCome, Ran, Caused, is_new}
 use Rattle.dtx_model.specs.Grammar.{Name, OfTransaction, OfEnlistment, OfClone, OfScope, same_name, makes, is_made, is_named_well, are_named_well}
 use Rattle.dtx_model.proofs.Bools.{and_left, and_right, or_right, or_case, not_true, not_false, not_both}
+use Rattle.dtx_model.proofs.Pasts.{always-before}
 use Rattle.dtx_model.proofs.Reading.{has-onto}
 use Rattle.outcome_law.proofs.Rule.{is_enlisted, is_cloned}
 use Rattle.outcome_law.proofs.Scans.{none_more}
@@ -66,11 +67,6 @@ made_twice before x (n ∷ ns) h k =
     or_case (same_name x n) (has (λ m. same_name x m) ns)
     (λ e. ap (λ y. is_made before y) (same_is x n e) ∙ not_true (is_made before n) (and_left (not (is_made before n)) (each (λ n. not (is_made before n)) ns) h))
     (λ e. made_twice before x ns (and_right (not (is_made before n)) (each (λ n. not (is_made before n)) ns) h) e) k
-
--- what holds of each with those before it, with others behind, held before
-always-before : {E : Type 0} (t : List E → E → Bool) (h xs : List E) → always t (onto h xs) ≡ true → always t h ≡ true
-always-before t h [] k = k
-always-before t h (x ∷ xs) k = and_right (t h x) (always t h) (always-before t (x ∷ h) xs k)
 
 -- no line behind those that made a name makes it again
 not_again : (x : Name) (rest s : List Line) (j : ℕ) (l : Line) → always is_named_well (onto rest s) ≡ true → slice_get s j ≡ Some l

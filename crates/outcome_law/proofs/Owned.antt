@@ -117,7 +117,7 @@ only-map f same (x ∷ []) = ap (λ e. Some e) (same x)
 only-map f same (x ∷ y ∷ xs) = refl
 
 -- one of two of one name has that name
-if_named : (b : Bool) (y x : Enlistment) → y.0 ≡ x.0 → (if b then y else x).0 ≡ x.0
+pub if_named : (b : Bool) (y x : Enlistment) → y.0 ≡ x.0 → (if b then y else x).0 ≡ x.0
 if_named true y x e = e
 if_named false y x e = refl
 

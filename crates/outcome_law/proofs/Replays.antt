@@ -4,6 +4,7 @@ use Rattle.std.proofs.Common.{refl, arith, append-nil, ◌∙◌, ap, sym, subst
 use Rattle.std.specs.Prelude.{is_some, nat_lt, if◌then◌else◌}
 use Rattle.std.specs.List.{slice_get}
 use Rattle.std.proofs.lemmas.Bool.Decides.{nat_tests}
+use Rattle.std.proofs.lemmas.Bool.{false_from_ne_true}
 use Rattle.dtx_values.specs.declared.number.ActorNo.{ActorNo}
 use Rattle.dtx_values.specs.declared.number.EnlNo.{EnlNo}
 use Rattle.dtx_values.specs.declared.number.RmNo.{RmNo}
@@ -33,7 +34,7 @@ use Rattle.dtx_model.specs.Replay.{called_of, calls, at_its_context, due_of, due
 use Rattle.dtx_model.proofs.Bools.{and_left, and_right, or_false, or_right, not_both}
 use Rattle.dtx_model.proofs.Histories.{onto-append, history-other, history-same, history-noted, context-same, context-other, context-placed, context-calls}
 use Rattle.dtx_model.proofs.Reading.{has-onto, has-past}
-use Rattle.outcome_law.proofs.Tests.{eq_self, refuted}
+use Rattle.outcome_law.proofs.Tests.{eq_self}
 use Rattle.outcome_law.proofs.Scans.{each-kth, none_more}
 use Rattle.outcome_law.proofs.Lists.{OfEach, of-all, of-both, of-more}
 use Rattle.outcome_law.proofs.Pending.{is_no_call, pending_no_call, is_not_called, facts_not_called, block_plain, plain_not_called}
@@ -525,5 +526,5 @@ ran_lasting s xs rest T t e r k =
 pub ran_alone : (s xs ys : List Line) (l : Line) (T : List Placed) (t u : TxNo) (e : EnlNo) (r : RmNo) (x : Support) → s ≡ xs ++ l ∷ ys → LinesRan s (past_of xs) T
     → is_run_line (past_of xs) l ≡ true → call_of s l.body ≡ Some (t, Durable u e r x) → has is_lasting (rows (history t.value T)) ≡ false
 ran_alone s xs ys l T t u e r x k ran run given =
-    refuted (has is_lasting (rows (history t.value T)))
+    false_from_ne_true (has is_lasting (rows (history t.value T)))
     (λ h. not_both (has (λ l. is_lasting_for t.value l.body) (past_of xs)) (ran_lasting s xs (l ∷ ys) T t k ran h) (first_lasting s (past_of xs) l.body t u e r x given run))

@@ -1,6 +1,7 @@
 -- What follows from the rules: what is told is just, and no two are told opposite outcomes.
 use Rattle.std.proofs.Common.{◌≡◌, Bool, true, false, ◌&&◌, ◌||◌, List, [], ◌∷◌, Option, Some, None, refl, subst, ◌∙◌, ap}
 use Rattle.std.specs.Prelude.{not}
+use Rattle.std.proofs.lemmas.Bool.{or_left, true_from_ne_false}
 use Rattle.dtx_values.specs.declared.entry.Ask.TheVariants.{Prepare}
 use Rattle.dtx_values.specs.declared.entry.Entry.{Entry}
 use Rattle.dtx_values.specs.declared.entry.Entry.TheVariants.{Called, Began, Cloned, Completed, Enlisted, CommitAsked, RollbackAsked, Clock, TimedOut, Late}
@@ -14,7 +15,7 @@ use Rattle.dtx_model.specs.Words.{has, ever, always, latest}
 use Rattle.dtx_model.specs.Entries.{same_outcome, is_commit, is_asked, is_vote, is_hand, is_any_hand, decision_of, is_decision, is_final}
 use Rattle.dtx_model.specs.Outcome.{ready, by_seal, by_owner, by_log, evidence, is_first_veto, vetoed, is_lost_owner, owner_doubt, coordinator_doubt, doubt, hears_doubt, may_tell, is_just, justified, is_decided_again, agree}
 use Rattle.dtx_model.proofs.Bools.{and_left, and_right, and_both, or_false, or_right, or_case, not_true, not_both}
-use Rattle.outcome_law.proofs.Tests.{first_of_three, first_of_four, first_of_five, held, or_left}
+use Rattle.outcome_law.proofs.Tests.{first_of_three, first_of_four, first_of_five}
 use Rattle.outcome_law.proofs.Scans.{has_more, has_less}
 use Rattle.outcome_law.proofs.Rule.{is_cloned, all_complete, zeros_cast, is_answer, is_decided, is_certain, rule, ruled, first_rule, other_rules}
 use Rattle.outcome_law.proofs.Evidence.{is_answered, unhanded_unanswered, evidence-handed}
@@ -201,7 +202,7 @@ answered_any x _ k = k
 
 -- what was answered was answered where the commit was handed over
 answered_handed : (x : Outcome) (h : List Entry) → ruled h ≡ true → has (is_answered x) h ≡ true → has is_any_hand h ≡ true
-answered_handed x h r k = held (has is_any_hand h) (λ e. not_both (has is_answer h) (has_more (is_answered x) is_answer (answered_any x) h k) (unhanded_unanswered h r e))
+answered_handed x h r k = true_from_ne_false (has is_any_hand h) (λ e. not_both (has is_answer h) (has_more (is_answered x) is_answer (answered_any x) h k) (unhanded_unanswered h r e))
 
 -- no owner answers behind an answer
 unanswered : (x : Outcome) (e : EnlNo) (y : Outcome) (h : List Entry) → rule h (OwnerAnswered e y) ≡ true → has (is_answered x) h ≡ false

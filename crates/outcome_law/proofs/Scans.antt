@@ -3,9 +3,9 @@ use Rattle.std.proofs.Common.{◌≡◌, ℕ, zero, suc, Bool, true, false, ◌|
 use Rattle.std.specs.Prelude.{find, if◌then◌else◌}
 use Rattle.std.specs.List.{slice_get}
 use Rattle.std.proofs.lemmas.List.Folds.{list_all-append}
+use Rattle.std.proofs.lemmas.Bool.{false_from_ne_true, or_left}
 use Rattle.dtx_model.specs.Words.{has, each, kth}
 use Rattle.dtx_model.proofs.Bools.{and_left, and_right, and_both, or_case, or_false, or_right, not_both}
-use Rattle.outcome_law.proofs.Tests.{or_left, refuted}
 
 -- where each passes p, and what passes p passes q, each passes q
 pub each_more : {A : Type 0} (p q : A → Bool) → ((x : A) → p x ≡ true → q x ≡ true) → (xs : List A) → each p xs ≡ true → each q xs ≡ true
@@ -27,7 +27,7 @@ has_more p q sub (x ∷ xs) h =
 
 -- where none passes q, and what passes p passes q, none passes p
 pub has_less : {A : Type 0} (p q : A → Bool) → ((x : A) → p x ≡ true → q x ≡ true) → (xs : List A) → has q xs ≡ false → has p xs ≡ false
-has_less p q sub xs h = refuted (has p xs) (λ k. not_both (has q xs) (has_more p q sub xs k) h)
+has_less p q sub xs h = false_from_ne_true (has p xs) (λ k. not_both (has q xs) (has_more p q sub xs k) h)
 
 -- where each passes p and each passes q, and what passes both passes r, each passes r
 pub each_both : {A : Type 0} (p q r : A → Bool) → ((x : A) → p x ≡ true → q x ≡ true → r x ≡ true) → (xs : List A)

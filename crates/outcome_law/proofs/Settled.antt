@@ -1,7 +1,7 @@
 -- A settled history that can commit is committed, and its client was told so.
 use Rattle.std.proofs.Common.{◌≡◌, ℕ, Bool, true, false, ◌&&◌, ◌||◌, List, [], ◌∷◌, ◌++◌, Option, Some, None, refl, ◌∙◌, ◌==◌, ap, sym, subst}
 use Rattle.std.specs.Prelude.{is_some, is_none, not, filter, find, if◌then◌else◌}
-use Rattle.std.proofs.lemmas.Bool.{eqb-true}
+use Rattle.std.proofs.lemmas.Bool.{eqb-true, false_from_ne_true}
 use Rattle.std.specs.List.{filter_map, cons_option}
 use Rattle.dtx_values.specs.declared.number.EnlNo.{EnlNo}
 use Rattle.dtx_values.specs.declared.entry.Entry.{Entry}
@@ -27,7 +27,7 @@ use Rattle.dtx_model.specs.Steps.{planned_vote, planned_owner, planned_promotion
 use Rattle.dtx_model.specs.Waves.{is_zero, is_one, may_be_asked, name_of, next_ask, zeros_voted, is_over}
 use Rattle.dtx_model.specs.Caused.{Settled}
 use Rattle.dtx_model.proofs.Bools.{and_left, and_right, and_both, not_false, or_false, or_second, or_right, not_both, not_true, and_never}
-use Rattle.outcome_law.proofs.Tests.{first_of_three, second_of_three, second_of_four, fourth_of_four, or_between, refuted}
+use Rattle.outcome_law.proofs.Tests.{first_of_three, second_of_three, second_of_four, fourth_of_four, or_between}
 use Rattle.outcome_law.proofs.Rule.{is_enlisted, is_only, is_answer, all_complete, zeros_cast, is_decided, is_certain, ruled, first_rule, other_rules}
 use Rattle.outcome_law.proofs.Scans.{each_more, none_more, each_both, has_less, find_none}
 use Rattle.outcome_law.proofs.Picks.{none_each}
@@ -288,7 +288,7 @@ none_handed s h r c d =
     each_both (λ x. is_willing s x.0.value x.1.class) (λ x. is_none (open_reply s h x)) (λ x. not (can_own x.1.class) || not (is_handed (latest handed_of h) x.0.value))
     (still s h) (rows h) (each_planned s h c) d in
     let of_each = sym (each_rows (λ e k. not (can_own k) || not (is_handed (latest handed_of h) e.value)) h) ∙ each_still in
-    refuted (is_some (latest handed_of h))
+    false_from_ne_true (is_some (latest handed_of h))
     (λ k. let w = hand_name h (sym (any_hand_seen h) ∙ k) in
     let none = only_passes (λ x. not (can_own x.1) || not (is_handed (latest handed_of h) x.0.value)) (λ n. not (is_handed (latest handed_of h) n))
     (λ x o f. step (can_own x.1) (not (is_handed (latest handed_of h) x.0.value)) o f) w.0 (enlisted h) (hand_stands w.0 h r w.1).alone of_each in

@@ -68,22 +68,7 @@ fourth_of_five a b c d e k = fourth_of_four a b c d (and_left (a && b && c && d)
 pub five_hold : (a b c d e : Bool) → a ≡ true → b ≡ true → c ≡ true → d ≡ true → e ≡ true → (a && b && c && d && e) ≡ true
 five_hold a b c d e p q r s t = and_both (a && b && c && d) e (four_hold a b c d p q r s) t
 
--- where the first of two holds, one holds
-pub or_left : (a b : Bool) → a ≡ true → (a || b) ≡ true
-or_left true b k = refl
-or_left false b k = absurd cc
-
 -- where the first or the third of three holds, one holds
 pub or_between : (a b c : Bool) → (a || c) ≡ true → (a || (b || c)) ≡ true
 or_between true b c k = refl
 or_between false b c k = or_right b c k
-
--- a test that can't be true is false
-pub refuted : (b : Bool) → (b ≡ true → ⊥) → b ≡ false
-refuted true f = absurd (f refl)
-refuted false f = refl
-
--- a test that can't be false is true
-pub held : (b : Bool) → (b ≡ false → ⊥) → b ≡ true
-held true f = refl
-held false f = absurd (f refl)

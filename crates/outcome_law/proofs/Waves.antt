@@ -18,8 +18,9 @@ use Rattle.dtx_model.specs.Entries.{is_vote}
 use Rattle.dtx_model.specs.Observed.{rows}
 use Rattle.dtx_model.specs.Seen.{asked_of, asked_before, waited_for, IsSeen}
 use Rattle.dtx_model.proofs.Bools.{and_swap}
+use Rattle.dtx_model.proofs.Counts.{how_many-map}
 use Rattle.outcome_law.proofs.Tests.{eq_self, eq_swap, apart}
-use Rattle.outcome_law.proofs.Lists.{OfEach, of-at, of-more, of-map, of-insert, of-both, of-has, each_same, each_kept, if_kept, each-insert, how_many-insert, how_many_kept}
+use Rattle.outcome_law.proofs.Lists.{OfEach, of-at, of-more, of-map, of-insert, of-both, of-has, each_same, each_kept, if_kept, each-insert, how_many-insert}
 use Rattle.outcome_law.proofs.Rule.{is_enlisted, ruled, first_rule, other_rules}
 use Rattle.outcome_law.proofs.TableRows.{enlisted_in_rows, enlisted_once, asked_enlisted, IsRow, there, rows_seen, row_seen}
 
@@ -144,7 +145,7 @@ marks_below (Asked e Prepare ∷ h) =
 marks_below (Voted e v ∷ h) =
     let n = marks (rows h) in
     let f = λ (x : Enlistment). if is_of e.value x then (x.0, vote_row v x.1) else x in
-    let kept : marks (map f (rows h)) ≡ n = how_many_kept is_marked f (λ x. if_kept is_marked (is_of e.value x) (x.0, vote_row v x.1) x refl) (rows h) in
+    let kept : marks (map f (rows h)) ≡ n = how_many-map is_marked f (λ x. if_kept is_marked (is_of e.value x) (x.0, vote_row v x.1) x refl) (rows h) in
     subst (λ m. OfEach (IsBelow m) (map f (rows h))) (sym kept)
     (of-map (IsBelow n) (IsBelow n) f (λ x w. voted_below n v x (is_of e.value x) w) (rows h) (marks_below h))
   where
@@ -215,7 +216,7 @@ rows_waves (Asked e Prepare ∷ h) r =
     })) (rows h) (rows_waves h (other_rules (Asked e Prepare) h r))
 rows_waves (Voted e v ∷ h) r =
     let f = λ (x : Enlistment). if is_of e.value x then (x.0, vote_row v x.1) else x in
-    let kept : marks (map f (rows h)) ≡ marks (rows h) = how_many_kept is_marked f (λ x. if_kept is_marked (is_of e.value x) (x.0, vote_row v x.1) x refl) (rows h) in
+    let kept : marks (map f (rows h)) ≡ marks (rows h) = how_many-map is_marked f (λ x. if_kept is_marked (is_of e.value x) (x.0, vote_row v x.1) x refl) (rows h) in
     of-map (IsWave h) (IsWave (Voted e v ∷ h)) f
     (λ x w. own_wave (Voted e v ∷ h) (is_of e.value x) (x.0, vote_row v x.1) x refl refl
     (record {

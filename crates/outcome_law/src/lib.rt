@@ -55,8 +55,8 @@ pub fn completeness()
 {}
 
 /// What a replay does in its order is caused by its script in each transaction, is at each context what its actor's lines write there, and
-/// has each line's call exactly once at each of its places and in order. What a line's call makes is new where the lines before it ran.
-/// The trace is read newest first.
+/// has each line's call exactly once at each of its places and in order. What a line's call makes is new where the lines before it ran, and a
+/// durable that is run finds nothing durable or promotable there. The trace is read newest first.
 pub fn replay()
     ensures caused { (s : List Line) (T : List Placed) → IsReplayed s T → (t : TxNo) → Caused s t.value (history t.value T) }
     ensures contexts { (s : List Line) (T : List Placed) → IsReplayed s T → (a : ActorNo) → at_context a.value T ≡ context a.value (past_of s) }

@@ -1,29 +1,14 @@
--- What a list shows, read from its end.
-use Rattle.std.proofs.Common.{◌≡◌, ℕ, ◌==◌, true, false, cond, List, [], ◌∷◌, length, Option, Some, None, is_some, reverse, refl, ap, ◌∙◌}
-use Rattle.std.proofs.lemmas.List.{length-reverse}
+-- The isolation of a transaction, read from its scopes.
+use Rattle.std.proofs.Common.{◌≡◌, ℕ, ◌==◌, true, false, cond, List, [], ◌∷◌, Option, Some, None, is_some, refl, ap, ◌∙◌}
 use Rattle.std.specs.Bool.{if◌then◌else◌}
 use Rattle.std.specs.List.{find}
 use Rattle.std.specs.Option.{option_map}
-use mathlib.Core.List.{reverse_aux}
 use Rattle.dtx_values.specs.declared.scope.Entered.{Entered}
 use Rattle.dtx_values.specs.declared.scope.Entered.TheVariants.{Made, Joined, NoTx}
 use Rattle.dtx_values.specs.declared.number.TxNo.{TxNo}
 use Rattle.dtx_values.specs.declared.scope.OpenScope.{OpenScope}
-use Rattle.dtx_model.specs.Words.{onto, or_else, past_of}
+use Rattle.dtx_model.specs.Words.{or_else}
 use Rattle.dtx_model.specs.Scopes.{isolation_made, isolation_of}
-
--- a block that is put behind others is it reversed, with the others
-onto-reverse : {E : Type 0} (h xs : List E) → onto h xs ≡ reverse_aux xs h
-onto-reverse h [] = refl
-onto-reverse h (x ∷ xs) = onto-reverse (x ∷ h) xs
-
--- the history of a list is it reversed
-pub past-reverse : {E : Type 0} (xs : List E) → past_of xs ≡ reverse xs
-past-reverse xs = onto-reverse [] xs
-
--- a history is as long as its list
-pub length-past : {E : Type 0} (xs : List E) → length (past_of xs) ≡ length xs
-length-past xs = ap length (past-reverse xs) ∙ length-reverse xs
 
 -- the isolation of the first scope that made the transaction
 isolation-first : (t : ℕ) (e : Entered) (x : OpenScope) (o : Option OpenScope) → or_else (isolation_made t e x.isolation) (option_map (λ x. x.isolation) o)

@@ -18,6 +18,7 @@ use Rattle.dtx_model.specs.Steps.{Step, Calls, answer, block, class_of, decided_
 use Rattle.dtx_model.specs.Words.{each, has, onto}
 use Rattle.dtx_model.proofs.Bools.{and_both, and_left, and_right, not_false, not_true, or_false, or_first, or_right, or_second}
 use Rattle.outcome_law.proofs.Lists.{has-insert, has_kept}
+use Rattle.outcome_law.proofs.Owned.{if_named}
 use Rattle.outcome_law.proofs.Pending.{block_plain, decided_plain, is_no_call, is_plain, time_plain, veto_plain}
 use Rattle.outcome_law.proofs.Scans.{each_more}
 use Rattle.outcome_law.proofs.Tests.{eq_self, eq_swap}
@@ -48,11 +49,6 @@ apart_kept f same (x ∷ xs) =
     ap (λ (e : EnlNo). has (is_of e.value) (map f xs)) (same x) ∙ has_kept (is_of x.0.value) f (λ y. ap (λ (e : EnlNo). x.0.value == e.value) (same y)) xs in
     ap (λ b. not b && are_apart (map f xs)) here ∙ ap (λ b. not (has (is_of x.0.value) xs) && b) (apart_kept f same xs)
 
--- one of two with the same number has it
-if_same : (b : Bool) (y x : Enlistment) → y.0 ≡ x.0 → (if b then y else x).0 ≡ x.0
-if_same true y x e = e
-if_same false y x e = refl
-
 -- the entry adds no row
 abbrev pub adds_none : Entry → Bool
 adds_none (Enlisted e c) = false
@@ -62,9 +58,9 @@ adds_none _ = true
 apart-entry : (x : Entry) (h : List Entry) → adds_none x ≡ true → are_apart (rows h) ≡ true → are_apart (rows (x ∷ h)) ≡ true
 apart-entry (Enlisted e c) h k a = absurd cc
 apart-entry (Asked e Prepare) h k a =
-    apart_kept (λ x. if is_of e.value x then (x.0, mark_row (marks (rows h)) x.1) else x) (λ x. if_same (is_of e.value x) (x.0, mark_row (marks (rows h)) x.1) x refl) (rows h) ∙ a
+    apart_kept (λ x. if is_of e.value x then (x.0, mark_row (marks (rows h)) x.1) else x) (λ x. if_named (is_of e.value x) (x.0, mark_row (marks (rows h)) x.1) x refl) (rows h) ∙ a
 apart-entry (Voted e v) h k a =
-    apart_kept (λ x. if is_of e.value x then (x.0, vote_row v x.1) else x) (λ x. if_same (is_of e.value x) (x.0, vote_row v x.1) x refl) (rows h) ∙ a
+    apart_kept (λ x. if is_of e.value x then (x.0, vote_row v x.1) else x) (λ x. if_named (is_of e.value x) (x.0, vote_row v x.1) x refl) (rows h) ∙ a
 apart-entry _ h k a = a
 
 -- and so does a block of such entries

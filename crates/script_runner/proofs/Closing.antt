@@ -1,27 +1,12 @@
 -- The walk of a close, from the top down.
-use Rattle.std.proofs.Common.{◌≡◌, ℕ, ◌+◌, ◌<◌, ◌==◌, true, false, List, [], ◌∷◌, ◌++◌, length, map, reverse, take, drop, get_or, refl, ap, sym, ◌∙◌, append_assoc, arith}
+use Rattle.std.proofs.Common.{◌≡◌, ℕ, ◌+◌, ◌<◌, ◌==◌, true, false, List, [], ◌∷◌, ◌++◌, length, map, take, drop, get_or, ap, sym, ◌∙◌, append_assoc}
 use Rattle.std.specs.Prelude.{if◌then◌else◌}
-use Rattle.std.proofs.lemmas.Bool.Decides.{nat_tests}
-use Rattle.std.proofs.lemmas.List.{drop_more, length-reverse, map-append, take_more}
-use mathlib.Core.List.{reverse_aux}
+use Rattle.std.proofs.lemmas.List.{drop_more, map-append, take_more}
 use Rattle.dtx_values.specs.declared.entry.Entry.{Entry}
 use Rattle.dtx_values.specs.declared.scope.OpenScope.{OpenScope}
-use Rattle.dtx_model.specs.Words.{onto, past_of}
 use Rattle.dtx_model.specs.Scopes.{Closes, taken_off}
 use Rattle.dtx_model.specs.Contexts.{written}
-
--- a block that is put behind others is it reversed, with the others
-onto-reverse : {E : Type 0} (h xs : List E) → onto h xs ≡ reverse_aux xs h
-onto-reverse h [] = refl
-onto-reverse h (x ∷ xs) = onto-reverse (x ∷ h) xs
-
--- the history of a list is it reversed
-pub past-reverse : {E : Type 0} (xs : List E) → reverse xs ≡ past_of xs
-past-reverse xs = sym (onto-reverse [] xs)
-
--- a history is as long as its list
-pub length-past : {E : Type 0} (xs : List E) → length (past_of xs) ≡ length xs
-length-past xs = ap length (sym (past-reverse xs)) ∙ length-reverse xs
+use Rattle.outcome_law.proofs.Tests.{eq_swap}
 
 -- the entries that say that these scopes are closed
 abbrev pub closed_notes : List OpenScope → List Entry
@@ -39,10 +24,6 @@ noted_more before notes after xs k x less here noted more =
     more ∙ ap (λ (es : List Entry). es ++ closed_notes (x ∷ [])) noted ∙ append_assoc before (closed_notes (take k xs)) (closed_notes (x ∷ []))
     ∙ ap (λ (es : List Entry). before ++ es) (sym (closed_notes-append (take k xs) (x ∷ [])) ∙ ap closed_notes (sym front))
 
--- two numbers are the same either way round
-same_test : (m n : ℕ) → (m == n) ≡ (n == m)
-same_test m n = grind (arith, nat_tests)
-
 -- what is taken off behind the first, where the one behind them isn't the one that is closed
 pub taken_more : (s : ℕ) (xs : List OpenScope) (k : ℕ) (x : OpenScope) → k < length xs → x ≡ get_or xs k x → (x.scope.value == s) ≡ false
     → taken_off s xs ≡ take k xs ++ taken_off s (drop k xs) → taken_off s xs ≡ take (k + 1) xs ++ taken_off s (drop (k + 1) xs)
@@ -51,7 +32,7 @@ taken_more s xs k x less here other taken =
     let left : drop k xs ≡ x ∷ rest = drop_more xs k x less ∙ ap (λ (y : OpenScope). y ∷ rest) (sym here) in
     let front : take (k + 1) xs ≡ take k xs ++ x ∷ [] = take_more xs k x less ∙ ap (λ (y : OpenScope). take k xs ++ y ∷ []) (sym here) in
     taken ∙ ap (λ (ys : List OpenScope). take k xs ++ taken_off s ys) left
-    ∙ ap (λ b. take k xs ++ (if b then x ∷ [] else x ∷ taken_off s rest)) (same_test s x.scope.value ∙ other)
+    ∙ ap (λ b. take k xs ++ (if b then x ∷ [] else x ∷ taken_off s rest)) (eq_swap s x.scope.value ∙ other)
     ∙ sym (append_assoc (take k xs) (x ∷ []) (taken_off s rest))
     ∙ ap (λ (ys : List OpenScope). ys ++ taken_off s rest) (sym front)
 
@@ -63,5 +44,5 @@ taken_last s xs k x less here same taken =
     let left : drop k xs ≡ x ∷ rest = drop_more xs k x less ∙ ap (λ (y : OpenScope). y ∷ rest) (sym here) in
     let front : take (k + 1) xs ≡ take k xs ++ x ∷ [] = take_more xs k x less ∙ ap (λ (y : OpenScope). take k xs ++ y ∷ []) (sym here) in
     taken ∙ ap (λ (ys : List OpenScope). take k xs ++ taken_off s ys) left
-    ∙ ap (λ b. take k xs ++ (if b then x ∷ [] else x ∷ taken_off s rest)) (same_test s x.scope.value ∙ same)
+    ∙ ap (λ b. take k xs ++ (if b then x ∷ [] else x ∷ taken_off s rest)) (eq_swap s x.scope.value ∙ same)
     ∙ sym front

@@ -49,12 +49,3 @@ has-found p q x (y ∷ ys) k h = step (p y) k (has-found p q x ys)
     step : (b : Bool) → cond b (Some y) (find p ys) ≡ Some x → (find p ys ≡ Some x → q x ≡ true → has q ys ≡ true) → has q (y ∷ ys) ≡ true
     step true e ih = let same : x ≡ y = cc in let first : q y ≡ true = subst (λ z. q z ≡ true) same h in rw first refl
     step false e ih = or_right (q y) (has q ys) (ih e h)
-
--- where one passes, and what passes passes another test, one passes that
-pub has-more : {A : Type 0} (p q : A → Bool) → ((x : A) → p x ≡ true → q x ≡ true) → (xs : List A) → has p xs ≡ true → has q xs ≡ true
-has-more p q sub [] h = absurd (let e : false ≡ true = h in cc)
-has-more p q sub (x ∷ xs) h = step (p x) (q x) (has p xs) (has q xs) (sub x) (has-more p q sub xs) h
-  where
-    step : (a b c d : Bool) → (a ≡ true → b ≡ true) → (c ≡ true → d ≡ true) → (a || c) ≡ true → (b || d) ≡ true
-    step true b c d f g h = rw (f refl) refl
-    step false b c d f g h = or_right b d (g h)

@@ -21,9 +21,10 @@ use Rattle.dtx_model.specs.Outcome.{is_empty}
 use Rattle.dtx_model.specs.Owners.{owner_of}
 use Rattle.dtx_model.specs.Steps.{Step, Acts, Replies, act_by, act_entries, act_if, all_voted, before_seal, behind_seal, block, commit_act, due_note, due_replies, is_gone, is_handed, is_no, is_to_tell, open_note, owner_reply, pending, planned_owner, planned_reply, planned_vote, reply_entries, tell, undecided_act, veto_if, vote_reply}
 use Rattle.dtx_model.proofs.Bools.{and_left, and_right, and_both, or_right}
+use Rattle.outcome_law.proofs.Scans.{has_more}
 use Rattle.outcome_law.proofs.Tests.{eq_self}
 use Rattle.outcome_law.proofs.TableRows.{there}
-use Rattle.script_runner.proofs.Counting.{falls, find-passes, has-found, has-more, how_many-map-le, how_many-map-lt}
+use Rattle.script_runner.proofs.Counting.{falls, find-passes, has-found, how_many-map-le, how_many-map-lt}
 use Rattle.script_runner.proofs.DueReplies.{IsDue, is_reply, reply_due}
 
 -- tests that tell an item that still has a step from one that hasn't
@@ -125,7 +126,7 @@ pub steps_left-voted : (o : Observed) (e : EnlNo) (v : Vote) (b : Bool) → has 
 unfolding steps_left track track_all
 steps_left-voted o e v b k =
     let some : has (falls unvoted (cast e.value v)) o.table ≡ true =
-    has-more (λ x. is_of e.value x && (is_marked x && unvoted x)) (falls unvoted (cast e.value v))
+    has_more (λ x. is_of e.value x && (is_marked x && unvoted x)) (falls unvoted (cast e.value v))
     (λ x h. cast_falls e.value v x (and_both (is_of e.value x) (unvoted x) (and_left (is_of e.value x) _ h) (and_right (is_marked x) (unvoted x) (and_right (is_of e.value x) _ h)))) o.table k in
     let votes = how_many-map-lt unvoted (cast e.value v) (cast_keeps_unvoted e.value v) o.table some in
     let asks = how_many-map-le unmarked (cast e.value v) (cast_keeps_unmarked e.value v) o.table in
@@ -141,7 +142,7 @@ pub steps_left-asked : (o : Observed) (e : EnlNo) → has (λ x. is_of e.value x
 unfolding steps_left track track_all
 steps_left-asked o e k =
     let n = marks o.table in
-    let some = has-more (λ x. is_of e.value x && unmarked x) (falls unmarked (mark e.value n)) (λ x h. mark_falls e.value n x h) o.table k in
+    let some = has_more (λ x. is_of e.value x && unmarked x) (falls unmarked (mark e.value n)) (λ x h. mark_falls e.value n x h) o.table k in
     let asks = how_many-map-lt unmarked (mark e.value n) (mark_keeps_unmarked e.value n) o.table some in
     let votes = how_many-map-le unvoted (mark e.value n) (mark_keeps_unvoted e.value n) o.table in
     omega arith

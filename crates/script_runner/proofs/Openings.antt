@@ -22,13 +22,13 @@ use Rattle.dtx_model.specs.Contexts.{called_with, entries_if, entries_of, isolat
 use Rattle.dtx_model.specs.Grammar.{OfScope, are_named_well, is_made, is_named_well, makes, opening_makes, same_name, uses}
 use Rattle.dtx_model.specs.Replay.{CallRan, LineRan, LinesRan, Placed, after_calls, after_scope, after_step, noted}
 use Rattle.dtx_model.specs.Steps.{Calls, call_of, is_fine}
-use Rattle.dtx_model.proofs.Bools.{and_left, and_right, not_both, not_true, or_case, or_right}
+use Rattle.dtx_model.proofs.Bools.{and_left, not_both, not_true, or_case, or_right}
 use Rattle.dtx_model.proofs.Histories.{onto-append}
+use Rattle.dtx_model.proofs.Pasts.{always-before, length-past}
 use Rattle.dtx_model.proofs.Prefixes.{past-more}
 use Rattle.dtx_model.proofs.Reading.{has-onto}
 use Rattle.scope_context.specs.Standing.{Standing}
 use Rattle.script_runner.specs.Scoped.{AreOpen, IsUnopened, context_at, nothing_open, rollbacks, scopes_at, scopes_in}
-use Rattle.script_runner.proofs.Closing.{length-past}
 use Rattle.script_runner.proofs.Scoping.{no_scope_line}
 use Rattle.script_runner.proofs.Ties.{slice_get-set_other}
 
@@ -171,11 +171,6 @@ opened_was_made s a (l ∷ before) h = step (a == l.actor.value) h (opened_was_m
         let xs = scope_entries l.body (open_scopes es) in
         or_case (has (opens s) xs) (has (opens s) es) (λ e. rw (entries_make s l.body (open_scopes es) e) refl) (λ e. or_right _ _ (ih e)) (sym (has-onto (opens s) es xs) ∙ h)
     step false h ih = or_right _ _ (ih h)
-
--- what holds of each with those before it, with others behind, held before
-always-before : {E : Type 0} (t : List E → E → Bool) (h xs : List E) → always t (onto h xs) ≡ true → always t h ≡ true
-always-before t h [] k = k
-always-before t h (x ∷ xs) k = and_right (t h x) (always t h) (always-before t (x ∷ h) xs k)
 
 -- what holds of each line of a script with those before it holds of one of them
 pub always-here : (p : List Line → Line → Bool) (s xs ys : List Line) (l : Line) → s ≡ xs ++ l ∷ ys → always p (past_of s) ≡ true → p (past_of xs) l ≡ true

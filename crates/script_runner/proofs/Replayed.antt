@@ -1,16 +1,12 @@
 -- What a replay gives is a history of its script.
-use Rattle.std.proofs.Common.{◌≡◌, ◌≤◌, ℕ, List, [], ◌∷◌, ◌++◌, ap, drop, length, refl, arith, length-append, sym, take, ◌∙◌}
+use Rattle.std.proofs.Common.{◌≡◌, ◌≤◌, ℕ, List, [], ◌∷◌, ◌++◌, ap, drop, length, refl, arith, sym, take, ◌∙◌}
 use Rattle.std.proofs.lemmas.List.{take-append-drop}
 use Rattle.dtx_values.specs.declared.script.Line.{Line}
 use Rattle.dtx_model.specs.Words.{past_of}
 use Rattle.dtx_model.specs.Replay.{LinesRan, Placed, IsReplayed}
-use Rattle.dtx_model.specs.Grammar.{IsScript, script_text}
+use Rattle.dtx_model.specs.Grammar.{IsScript}
 use Rattle.script_runner.specs.Running.{IsSettledBelow}
-
--- a script has no more lines than bytes
-length-script_text : (s : List Line) → length s ≤ length (script_text s)
-length-script_text [] = omega arith
-length-script_text (l ∷ ls) = let ih = length-script_text ls in simp length-append (omega arith)
+use Rattle.script_text.proofs.Scripts.{length_script}
 
 -- before the first turn
 pub settled-none : (s : List Line) (T : List Placed) → IsSettledBelow s T 1 T
@@ -22,7 +18,7 @@ is_replayed s lines trace ran b = record { by_lines = past_of lines; lines = ran
 
 -- a script has at most so many lines
 pub few : (s : List Line) → IsScript s → length s ≤ 1048576
-few s k = let bytes = length-script_text s in let within = k.within in omega arith
+few s k = let bytes = length_script s in let within = k.within in omega arith
 
 -- a list cut at one of its items
 pub split_at : {A : Type 0} (xs : List A) (i : ℕ) (x : A) (rest : List A) → drop i xs ≡ x ∷ rest → xs ≡ take i xs ++ x ∷ rest

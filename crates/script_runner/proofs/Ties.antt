@@ -1,7 +1,5 @@
 -- The halves of a replay stay tied to its trace.
-use Rattle.std.proofs.Common.{◌≡◌, ◌≢◌, ℕ, zero, suc, ◌+◌, ◌-◌, ◌<◌, ◌≤◌, ◌==◌, true, false, List, [], ◌∷◌, ◌++◌, length, Some, slice_get, get_or, set, refl, ap, sym, ◌∙◌, arith, inl, inr}
-use mathlib.Core.HLevel.{is_prop→PathP}
-use native.Mathlib.Bridge.{le_prop}
+use Rattle.std.proofs.Common.{◌≡◌, ◌≢◌, ℕ, zero, suc, ◌+◌, ◌-◌, ◌<◌, ◌==◌, true, false, List, [], ◌∷◌, ◌++◌, length, Some, slice_get, get_or, set, refl, ap, sym, ◌∙◌, arith, inl, inr}
 use Rattle.std.proofs.lemmas.Bool.Decides.{eqb_tells}
 use Rattle.std.proofs.lemmas.List.{get_or-set_same}
 use Rattle.std.proofs.lemmas.Option.{get_or_from_slice_get, slice_get-get_or}
@@ -19,16 +17,13 @@ use Rattle.dtx_model.specs.Steps.{Step, Calls, block, pending}
 use Rattle.outcome_law.proofs.Pending.{is_no_call, pending_no_call}
 use Rattle.outcome_law.proofs.Scans.{each-kth}
 use Rattle.dtx_model.proofs.Histories.{history-noted, history-other, history-same, observe-onto, onto-append}
+use Rattle.dtx_model.proofs.SameNumbers.{same_transaction}
 use Rattle.local_half.specs.Half.{Half, after}
 use Rattle.script_runner.specs.Pending.{are_apart}
 use Rattle.script_runner.specs.Running.{AreTied, half_of}
 use Rattle.script_runner.proofs.Apart.{apart-call, apart-step}
 use Rattle.script_runner.proofs.DueReplies.{at_end}
 use Rattle.script_runner.proofs.Kth.{at_first}
-
--- transactions of one number are one
-same_transaction : (a b : TxNo) → a.value ≡ b.value → a ≡ b
-same_transaction a b e = λ i. record { value = e i; in_range = is_prop→PathP (λ j. (1 ≤ e j) × (e j ≤ 256)) (λ j. hlevel le_prop) a.in_range b.in_range i }
 
 -- a write leaves the other places alone
 pub slice_get-set_other : {X : Type 0} (xs : List X) (i j : ℕ) (x : X) → j ≢ i → slice_get (set xs i x) j ≡ slice_get xs j

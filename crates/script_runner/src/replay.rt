@@ -331,11 +331,7 @@ fn trace_of(alloc: Global, lines: &[Line]) -> Result<Trace, AllocError>
 /// # Errors
 ///
 /// [`AllocError`] where memory ran out.
-pub fn run_replay<D: Disk>(
-    alloc: Global,
-    s: &Script,
-    log: &mut Log<D>,
-) -> Result<Trace, AllocError>
+pub fn run_replay<D: Disk>(alloc: Global, s: &Script, log: &mut Log<D>) -> Result<Trace, AllocError>
     requires script { IsScript s.now }
     requires run { are_run s.now ≡ true }
     ensures log { log.new ≡ log.old }

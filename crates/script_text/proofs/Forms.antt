@@ -1,6 +1,7 @@
 -- The faults of words by forms that share their first place.
 use Rattle.std.proofs.Common.{◌≡◌, ℕ, ◌||◌, ◌&&◌, ◌∙◌, Bool, true, false, List, [], ◌∷◌, refl, ap, Option, Some, None, if◌then◌else◌, codes}
 use Rattle.std.specs.List.{filter_map}
+use Rattle.std.proofs.Math.Bool.{or-false}
 use Rattle.dtx_values.specs.declared.script.BadCause.{BadCause}
 use Rattle.dtx_model.specs.Words.{has}
 use Rattle.dtx_model.specs.Outcome.{is_empty}
@@ -42,14 +43,9 @@ or_same : (a b : Bool) → (b ≡ a) → (a || b) ≡ a
 or_same true b e = refl
 or_same false b e = e
 
--- a test beside none
-or_nothing : (a : Bool) → (a || false) ≡ a
-or_nothing true = refl
-or_nothing false = refl
-
 -- they want a number where their first place does
 wanted : (s : Slot) (f : List Slot) (fs : List (List Slot)) (w : List ℕ) → has (wants_number w) (ahead s (f ∷ fs)) ≡ (looks_named s w || looks_numbered s.number w)
-wanted s f [] w = or_nothing (looks_named s w || looks_numbered s.number w)
+wanted s f [] w = or-false (looks_named s w || looks_numbered s.number w)
 wanted s f (g ∷ fs) w = or_same (looks_named s w || looks_numbered s.number w) _ (wanted s g fs w)
 
 -- their cause is that of their first place

@@ -1,11 +1,9 @@
 -- Each list of words is that of one line.
-use Rattle.std.proofs.Common.{◌≡◌, ℕ, ◌^◌, ◌<◌, ◌≤◌, Bool, true, false, List, [], ◌∷◌, refl, ap, sym, ◌∙◌, subst, arith, codes, decimal, Option, Some, None}
+use Rattle.std.proofs.Common.{◌≡◌, ℕ, ◌^◌, ◌<◌, Bool, true, false, List, [], ◌∷◌, refl, ap, sym, ◌∙◌, subst, arith, codes, decimal, Option, Some, None}
 use Rattle.std.specs.Str.Parse.{AllDigits}
 use Rattle.std.proofs.lemmas.Bool.{false≢true}
 use Rattle.std.proofs.lemmas.Fmt.{decimal_injective}
 use Rattle.std.proofs.lemmas.Str.Parse.{digit_from_value}
-use mathlib.Core.HLevel.{is_prop→PathP}
-use native.Mathlib.Bridge.{le_prop}
 use Rattle.dtx_values.specs.declared.message.Conn.{Conn}
 use Rattle.dtx_values.specs.declared.message.Conn.TheVariants.{Begin as OnBegin, Voter as OnVoter, Enl as OnEnl, Again}
 use Rattle.dtx_values.specs.declared.number.ActorNo.{ActorNo}
@@ -43,31 +41,8 @@ use Rattle.dtx_model.specs.Grammar.{connection_word, image_word, asked_iso_word,
 use Rattle.dtx_model.specs.Grammar.{is_from, is_timeout, is_opening_in_range, is_in_range}
 use Rattle.dtx_model.specs.Faults.{same_bytes}
 use Rattle.dtx_model.proofs.Bools.{and_left, and_right}
+use Rattle.dtx_model.proofs.SameNumbers.{same_actor, same_clone, same_enlistment, same_manager, same_scope, same_transaction}
 use Rattle.script_words.proofs.Numbers.{same_bytes-refl, to_high, decimal_number}
-
--- actors with one number are one
-actor_of_value : (m n : ActorNo) → m.value ≡ n.value → m ≡ n
-actor_of_value m n e = λ i. record { value = e i; in_range = is_prop→PathP (λ j. (1 ≤ e j) × (e j ≤ 16)) (λ j. hlevel le_prop) m.in_range n.in_range i }
-
--- so are transactions
-tx_of_value : (m n : TxNo) → m.value ≡ n.value → m ≡ n
-tx_of_value m n e = λ i. record { value = e i; in_range = is_prop→PathP (λ j. (1 ≤ e j) × (e j ≤ 256)) (λ j. hlevel le_prop) m.in_range n.in_range i }
-
--- enlistments
-enl_of_value : (m n : EnlNo) → m.value ≡ n.value → m ≡ n
-enl_of_value m n e = λ i. record { value = e i; in_range = is_prop→PathP (λ j. (1 ≤ e j) × (e j ≤ 9999)) (λ j. hlevel le_prop) m.in_range n.in_range i }
-
--- clones
-clone_of_value : (m n : CloneNo) → m.value ≡ n.value → m ≡ n
-clone_of_value m n e = λ i. record { value = e i; in_range = is_prop→PathP (λ j. (1 ≤ e j) × (e j ≤ 9999)) (λ j. hlevel le_prop) m.in_range n.in_range i }
-
--- scopes
-scope_of_value : (m n : ScopeNo) → m.value ≡ n.value → m ≡ n
-scope_of_value m n e = λ i. record { value = e i; in_range = is_prop→PathP (λ j. (1 ≤ e j) × (e j ≤ 9999)) (λ j. hlevel le_prop) m.in_range n.in_range i }
-
--- and managers
-manager_of_value : (m n : RmNo) → m.value ≡ n.value → m ≡ n
-manager_of_value m n e = λ i. record { value = e i; in_range = is_prop→PathP (λ j. (1 ≤ e j) × (e j ≤ 16)) (λ j. hlevel le_prop) m.in_range n.in_range i }
 
 -- the first words of two equal lists
 first : {a b : List ℕ} {x y : List (List ℕ)} → a ∷ x ≡ b ∷ y → a ≡ b
@@ -109,27 +84,27 @@ number_of_name letter m n h k e =
 
 -- actors with one name are one
 actor_named : (m n : ActorNo) → actor_name m.value ≡ actor_name n.value → m ≡ n
-actor_named m n e = actor_of_value m n (number_of_name 97 m.value n.value (omega arith) (omega arith) e)
+actor_named m n e = same_actor m n (number_of_name 97 m.value n.value (omega arith) (omega arith) e)
 
 -- so are transactions
 tx_named : (m n : TxNo) → transaction_name m.value ≡ transaction_name n.value → m ≡ n
-tx_named m n e = tx_of_value m n (number_of_name 116 m.value n.value (omega arith) (omega arith) e)
+tx_named m n e = same_transaction m n (number_of_name 116 m.value n.value (omega arith) (omega arith) e)
 
 -- enlistments
 enl_named : (m n : EnlNo) → enlistment_name m.value ≡ enlistment_name n.value → m ≡ n
-enl_named m n e = enl_of_value m n (number_of_name 101 m.value n.value (omega arith) (omega arith) e)
+enl_named m n e = same_enlistment m n (number_of_name 101 m.value n.value (omega arith) (omega arith) e)
 
 -- clones
 clone_named : (m n : CloneNo) → clone_name m.value ≡ clone_name n.value → m ≡ n
-clone_named m n e = clone_of_value m n (number_of_name 99 m.value n.value (omega arith) (omega arith) e)
+clone_named m n e = same_clone m n (number_of_name 99 m.value n.value (omega arith) (omega arith) e)
 
 -- scopes
 scope_named : (m n : ScopeNo) → scope_name m.value ≡ scope_name n.value → m ≡ n
-scope_named m n e = scope_of_value m n (number_of_name 115 m.value n.value (omega arith) (omega arith) e)
+scope_named m n e = same_scope m n (number_of_name 115 m.value n.value (omega arith) (omega arith) e)
 
 -- and managers
 manager_named : (m n : RmNo) → manager_name m.value ≡ manager_name n.value → m ≡ n
-manager_named m n e = manager_of_value m n (number_of_name 114 m.value n.value (omega arith) (omega arith) e)
+manager_named m n e = same_manager m n (number_of_name 114 m.value n.value (omega arith) (omega arith) e)
 
 -- numbers in a range with one text are one
 same_within : (low high m n : ℕ) → high < 2 ^ 64 → is_from low high m ≡ true → is_from low high n ≡ true → decimal m ≡ decimal n → m ≡ n
@@ -151,7 +126,7 @@ same_connection : (c d : Conn) → connection_word c ≡ connection_word d → c
 same_connection OnBegin OnBegin e = refl
 same_connection OnVoter OnVoter e = refl
 same_connection (OnEnl m) (OnEnl n) e = ap (λ x. OnEnl x) (enl_named m n e)
-same_connection (Again m) (Again n) e = ap (λ x. Again x) (enl_of_value m n (number_of_name 120 m.value n.value (omega arith) (omega arith) e))
+same_connection (Again m) (Again n) e = ap (λ x. Again x) (same_enlistment m n (number_of_name 120 m.value n.value (omega arith) (omega arith) e))
 same_connection c d e = absurd (apart (connection_word c) (connection_word d) refl e)
 
 -- no level is spelled `default`

@@ -7,10 +7,11 @@ use Rattle.dtx_values.specs.declared.script.BadCause.{BadCause}
 use Rattle.dtx_values.specs.declared.script.BadCause.TheVariants.{NameTwice, NameUnknown, WrongKind, ParTwice}
 use Rattle.dtx_values.specs.declared.script.Line.{Line}
 use Rattle.dtx_model.proofs.Bools.{and_both, and_left, and_right}
-use Rattle.dtx_model.specs.Words.{each, always, onto, past_of}
+use Rattle.dtx_model.specs.Words.{each, always, past_of}
 use Rattle.dtx_model.specs.Grammar.{words, line_text, script_text, is_in_range, is_short, is_made, makes, uses, is_named_well, is_of_kind, is_par_once, IsScript}
 use Rattle.dtx_model.specs.Faults.{name_fault}
 use Rattle.dtx_model.proofs.Histories.{onto-append, past_of-snoc}
+use Rattle.dtx_model.proofs.Pasts.{always-before}
 
 -- each of a list passes, and one more
 each-snoc : {A : Type 0} (p : A → Bool) (xs : List A) (x : A) → each p xs ≡ true → p x ≡ true → each p (xs ++ x ∷ []) ≡ true
@@ -35,14 +36,9 @@ always-snoc t xs x h k = ap (always t) (past_of-snoc xs x) ∙ and_both (t (past
 always-last : {A : Type 0} (t : List A → A → Bool) (xs : List A) (x : A) → always t (past_of (xs ++ x ∷ [])) ≡ true → t (past_of xs) x ≡ true
 always-last t xs x h = and_left _ _ (ap (always t) (sym (past_of-snoc xs x)) ∙ h)
 
--- where each passes with what stands before it, each of the past does
-always-past : {A : Type 0} (t : List A → A → Bool) (past xs : List A) → always t (onto past xs) ≡ true → always t past ≡ true
-always-past t past [] h = h
-always-past t past (x ∷ xs) h = and_right _ _ (always-past t (x ∷ past) xs h)
-
 -- so does each of the front
 always-front : {A : Type 0} (t : List A → A → Bool) (xs ys : List A) → always t (past_of (xs ++ ys)) ≡ true → always t (past_of xs) ≡ true
-always-front t xs ys h = always-past t (past_of xs) ys (ap (always t) (sym (onto-append [] xs ys)) ∙ h)
+always-front t xs ys h = always-before t (past_of xs) ys (ap (always t) (sym (onto-append [] xs ys)) ∙ h)
 
 -- the text of a script with more lines
 pub script_text-append : (s r : List Line) → script_text (s ++ r) ≡ script_text s ++ script_text r

@@ -18,6 +18,7 @@ use std::alloc::{AllocError, Global};
 /// The bytes that are set aside for each line of a script: a little more than the mean.
 const MEAN_LINE: usize = 32;
 
+/// Puts the option of a volatile enlistment.
 fn put_option(tail: &mut Tail, o: EnlistOption)
     requires { 16 + length tail.old ≤ 160 }
     ensures text { tail.new ≡ option_word o ++ tail.old }
@@ -29,6 +30,7 @@ fn put_option(tail: &mut Tail, o: EnlistOption)
     }
 }
 
+/// Puts the vote that is planned, or that none is cast.
 fn put_vote_plan(tail: &mut Tail, v: Option<Vote>)
     requires { 16 + length tail.old ≤ 160 }
     ensures text { tail.new ≡ vote_word v ++ tail.old }
@@ -42,6 +44,7 @@ fn put_vote_plan(tail: &mut Tail, v: Option<Vote>)
     }
 }
 
+/// Puts the outcome that the owner is to answer, or that it answers none.
 fn put_owner_plan(tail: &mut Tail, o: Option<Outcome>)
     requires { 16 + length tail.old ≤ 160 }
     ensures text { tail.new ≡ owner_word o ++ tail.old }
@@ -55,6 +58,7 @@ fn put_owner_plan(tail: &mut Tail, o: Option<Outcome>)
     }
 }
 
+/// Puts whether the promotion is to succeed, or that it gets no reply.
 fn put_promote_plan(tail: &mut Tail, p: Option<bool>)
     requires { 16 + length tail.old ≤ 160 }
     ensures text { tail.new ≡ promote_word p ++ tail.old }
@@ -67,6 +71,7 @@ fn put_promote_plan(tail: &mut Tail, p: Option<bool>)
     }
 }
 
+/// Puts a timeout.
 fn put_timeout(tail: &mut Tail, d: Timeout)
     requires { 20 + length tail.old ≤ 160 }
     ensures text { tail.new ≡ timeout_word d ++ tail.old }
@@ -78,6 +83,7 @@ fn put_timeout(tail: &mut Tail, d: Timeout)
     }
 }
 
+/// Puts the isolation that is asked for.
 fn put_asked_isolation(tail: &mut Tail, i: IsoWord)
     requires { 16 + length tail.old ≤ 160 }
     ensures text { tail.new ≡ asked_iso_word i ++ tail.old }
@@ -99,6 +105,7 @@ fn put_of(tail: &mut Tail, word: &[u8], t: TxNo)
     tail.put(word);
 }
 
+/// Puts the words of a begin.
 fn put_begin(tail: &mut Tail, t: TxNo, d: Timeout)
     requires { 118 + length tail.old ≤ 160 }
     ensures text { tail.new ≡ join_with_byte 32 (command_words (Begin t d)) ++ tail.old }
@@ -128,6 +135,7 @@ fn put_opened(tail: &mut Tail, s: ScopeNo, word: &[u8], t: TxNo, d: Timeout, i: 
     tail.put(b"open ");
 }
 
+/// Puts the words that open a scope.
 fn put_open(tail: &mut Tail, s: ScopeNo, o: Opening)
     requires { 118 + length tail.old ≤ 160 }
     ensures text { tail.new ≡ join_with_byte 32 (command_words (Open s o)) ++ tail.old }
@@ -144,6 +152,7 @@ fn put_open(tail: &mut Tail, s: ScopeNo, o: Opening)
     }
 }
 
+/// Puts the words of a volatile enlistment.
 fn put_volatile(tail: &mut Tail, t: TxNo, e: EnlNo, o: EnlistOption, v: Option<Vote>)
     requires { 118 + length tail.old ≤ 160 }
     ensures text { tail.new ≡ join_with_byte 32 (command_words (Volatile t e o v)) ++ tail.old }
@@ -158,6 +167,7 @@ fn put_volatile(tail: &mut Tail, t: TxNo, e: EnlNo, o: EnlistOption, v: Option<V
     put_of(tail, b"volatile ", t);
 }
 
+/// Puts the words of a durable enlistment.
 fn put_durable(tail: &mut Tail, t: TxNo, e: EnlNo, r: RmNo, s: Support)
     requires { 118 + length tail.old ≤ 160 }
     ensures text { tail.new ≡ join_with_byte 32 (command_words (Durable t e r s)) ++ tail.old }
@@ -182,6 +192,7 @@ fn put_durable(tail: &mut Tail, t: TxNo, e: EnlNo, r: RmNo, s: Support)
     put_of(tail, b"durable ", t);
 }
 
+/// Puts the words of a promotable enlistment.
 fn put_promotable(
     tail: &mut Tail,
     t: TxNo,
@@ -208,6 +219,7 @@ fn put_promotable(
     put_of(tail, b"promotable ", t);
 }
 
+/// Puts the words that make a clone.
 fn put_clone_made(tail: &mut Tail, t: TxNo, c: CloneNo, k: CloneKind)
     requires { 118 + length tail.old ≤ 160 }
     ensures text { tail.new ≡ join_with_byte 32 (command_words (Clone t c k)) ++ tail.old }
@@ -220,6 +232,7 @@ fn put_clone_made(tail: &mut Tail, t: TxNo, c: CloneNo, k: CloneKind)
     put_of(tail, b"clone ", t);
 }
 
+/// Puts the words of a tick.
 fn put_tick(tail: &mut Tail, t: TxNo, n: u32)
     requires { 118 + length tail.old ≤ 160 }
     ensures text { tail.new ≡ join_with_byte 32 (command_words (Tick t n)) ++ tail.old }
@@ -230,6 +243,7 @@ fn put_tick(tail: &mut Tail, t: TxNo, n: u32)
     put_of(tail, b"tick ", t);
 }
 
+/// Puts the words that do a pending step: which, and how often.
 fn put_do(tail: &mut Tail, t: TxNo, k: u8, n: u16)
     requires { 118 + length tail.old ≤ 160 }
     ensures text { tail.new ≡ join_with_byte 32 (command_words (Do t k n)) ++ tail.old }
@@ -242,6 +256,7 @@ fn put_do(tail: &mut Tail, t: TxNo, k: u8, n: u16)
     put_of(tail, b"do ", t);
 }
 
+/// Puts the words that lose a connection, and how many messages are kept upward and downward.
 fn put_lose(tail: &mut Tail, t: TxNo, c: Conn, up: u16, down: u16)
     requires { 118 + length tail.old ≤ 160 }
     ensures text { tail.new ≡ join_with_byte 32 (command_words (Lose t c up down)) ++ tail.old }
@@ -256,6 +271,7 @@ fn put_lose(tail: &mut Tail, t: TxNo, c: Conn, up: u16, down: u16)
     put_of(tail, b"lose ", t);
 }
 
+/// Puts the words that say that a manager has recovered.
 fn put_recovered(tail: &mut Tail, t: TxNo, r: RmNo)
     requires { 118 + length tail.old ≤ 160 }
     ensures text { tail.new ≡ join_with_byte 32 (command_words (Recovered t r)) ++ tail.old }
@@ -266,6 +282,7 @@ fn put_recovered(tail: &mut Tail, t: TxNo, r: RmNo)
     put_of(tail, b"recovered ", t);
 }
 
+/// Puts the words of a stop.
 fn put_stop(tail: &mut Tail, n: u8, i: Image)
     requires { 118 + length tail.old ≤ 160 }
     ensures text { tail.new ≡ join_with_byte 32 (command_words (Stop n i)) ++ tail.old }
@@ -311,6 +328,7 @@ fn put_short(tail: &mut Tail, b: Body)
     }
 }
 
+/// Puts a command.
 fn put_command(tail: &mut Tail, b: Body)
     requires { 127 + length tail.old ≤ 160 }
     ensures text { tail.new ≡ join_with_byte 32 (command_words b) ++ tail.old }

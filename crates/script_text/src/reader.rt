@@ -26,6 +26,7 @@ pub enum ScriptError {
     Memory,
 }
 
+/// Whether each byte is printable.
 fn are_printable(text: &[u8]) -> bool
     ensures { result ≡ each (is_from 32 126) text.now }
 {

@@ -1,23 +1,16 @@
 -- Words that are numbers.
-use Rattle.std.proofs.Common.{◌≡◌, ◌≢◌, ℕ, zero, suc, ◌+◌, ◌-◌, ◌*◌, ◌^◌, ◌<◌, ◌≤◌, ◌==◌, Bool, true, false, List, []}
+use Rattle.std.proofs.Common.{◌≡◌, ◌≢◌, ℕ, zero, suc, ◌+◌, ◌-◌, ◌*◌, ◌^◌, ◌<◌, ◌≤◌, ◌==◌, true, false, List, []}
 use Rattle.std.proofs.Common.{◌∷◌, length, take, get_or, refl, ap, sym, ◌∙◌, subst, arith, decimal, Option, Some, None, IfNone, IsSome}
-use Rattle.std.proofs.lemmas.Bool.{false≢true}
+use Rattle.std.proofs.lemmas.Bool.{false_from_ne_true, false≢true}
 use Rattle.std.specs.Char.{digit_value}
-use Rattle.std.specs.Int.{IsInRange}
 use Rattle.std.specs.Str.Parse.{AllDigits, digits_value, digits_value_after}
 use Rattle.std.proofs.lemmas.Bool.Decides.{nat_tests}
-use Rattle.std.proofs.lemmas.List.{length-take-le}
 use Rattle.std.proofs.Math.Seq.{take-length}
 use Rattle.std.proofs.lemmas.Fmt.{decimal_nonempty, length-decimal-le, first_decimal, digits_decimal, digits_value-decimal, decimal-digits_value, decimal_digit}
 use Rattle.dtx_model.specs.Grammar.{is_from}
 use Rattle.dtx_model.specs.Faults.{same_bytes, value_from, writes}
 use Rattle.dtx_model.proofs.Bools.{and_both, and_left, and_right}
-use Rattle.std.proofs.lemmas.Int.Digits.{digits_value_more, digits_more}
-use Rattle.std.proofs.lemmas.Str.Parse.{IsNumeralModel, numerals_by_value, tells_digits, digit_at, digit_from_value, digits_value_short}
-
--- std's own words for digits and their value
-own : IsNumeralModel (AllDigits 10) (digits_value 10)
-own = numerals_by_value (AllDigits 10) tells_digits
+use Rattle.dtx_model.proofs.Digits.{digit_value-digit, own}
 
 -- what the text of a number shows
 pub record IsNumber (w : List ℕ) (n : ℕ) : Type 0 where
@@ -46,33 +39,9 @@ decimal_number n h = record {
 pub number_from_text : (w : List ℕ) (n : ℕ) → n < 2 ^ 32 → w ≡ decimal n → IsNumber w n
 number_from_text w n h e = subst (λ (v : List ℕ). IsNumber v n) (sym e) (decimal_number n h)
 
--- no byte of a number's text is other than a digit
-pub digit_of_number : (w : List ℕ) (n i : ℕ) → n < 2 ^ 32 → i < length w → w ≡ decimal n → IsInRange 48 57 (get_or w i 0)
-digit_of_number w n i h k e = digit_at w i ((number_from_text w n h e).digits) k
-
 -- digits without leading zeros are the text of their value
 pub text_of_number : (w : List ℕ) (n : ℕ) → AllDigits 10 w → 0 < length w → (get_or w 0 0 ≡ 48 → length w ≡ 1) → digits_value 10 w ≡ n → n < 2 ^ 64 → w ≡ decimal n
 text_of_number w n d k z e h = sym (decimal-digits_value own w d k z (omega arith)) ∙ ap decimal e
-
--- a digit's value is how far it stands behind `0`
-pub digit_value-digit : (c : ℕ) → digit_value c < 10 → c ≡ digit_value c + 48
-digit_value-digit c h =
-    let r = digit_from_value c h in
-    grind (arith, nat_tests)
-
--- one digit more: the value
-pub value_more : (w : List ℕ) (i c n m : ℕ) → i < length w → c ≡ get_or w i 0 → digit_value c < 10 → n ≡ digits_value 10 (take i w) → m ≡ n * 10 + (c - 48) → m ≡ digits_value 10 (take (i + 1) w)
-value_more w i c n m h e d en em =
-    let d : digit_value (get_or w i 0) < 10 = subst (λ (x : ℕ). digit_value x < 10) e d in
-    omega (arith, digits_value_more 10 w i h, digit_value-digit (get_or w i 0) d)
-
--- one digit more: all are digits
-pub digits_one_more : (w : List ℕ) (i c : ℕ) → i < length w → c ≡ get_or w i 0 → digit_value c < 10 → AllDigits 10 (take i w) → AllDigits 10 (take (i + 1) w)
-digits_one_more w i c h e low d = digits_more 10 w i h d (subst (λ (x : ℕ). digit_value x < 10) e low)
-
--- up to ten digits are below 10 ^ 10
-pub value_below : (w : List ℕ) (i : ℕ) → i < length w → length w ≤ 10 → AllDigits 10 (take i w) → digits_value 10 (take i w) < 10 ^ 10
-value_below w i k h d = digits_value_short own (take i w) 10 d (omega (arith, length-take-le i w (omega arith)))
 
 -- `0` alone is the text of 0
 pub zero_text : (w : List ℕ) → length w ≡ 1 → get_or w 0 0 ≡ 48 → w ≡ decimal 0
@@ -86,11 +55,6 @@ text_of_read w i n k nonempty short first d e small =
     let whole : take i w ≡ w = ap (λ j. take j w) k ∙ take-length w in
     let value : digits_value 10 w ≡ n = ap (λ v. digits_value 10 v) (sym whole) ∙ sym e in
     text_of_number w n (subst (λ (v : List ℕ). AllDigits 10 v) whole d) nonempty (λ z. absurd (first z)) value (omega arith)
-
--- the value read is the number whose text the word is
-pub value_of_read : (w : List ℕ) (i n m : ℕ) → i ≡ length w → n ≡ digits_value 10 (take i w) → m < 2 ^ 32 → w ≡ decimal m → n ≡ m
-value_of_read w i n m k e small t =
-    e ∙ ap (λ j. digits_value 10 (take j w)) k ∙ ap (λ v. digits_value 10 v) (take-length w) ∙ (number_from_text w m small t).value
 
 -- a number from low to high is at most high
 pub to_high : (low high n : ℕ) → is_from low high n ≡ true → n ≤ high
@@ -122,14 +86,9 @@ same_bytes-equal (x ∷ v) (y ∷ w) h =
     let head : x ≡ y = grind (arith, nat_tests, and_left (x == y) (same_bytes v w) h) in
     cc
 
--- what can't be true is false
-pub never : (b : Bool) → (b ≡ true → ⊥) → b ≡ false
-never true h = absurd (h refl)
-never false h = refl
-
 -- a word that is another isn't the same
 pub same_bytes-other : (v w : List ℕ) → v ≢ w → same_bytes v w ≡ false
-same_bytes-other v w h = never (same_bytes v w) (λ e. h (same_bytes-equal v w e))
+same_bytes-other v w h = false_from_ne_true (same_bytes v w) (λ e. h (same_bytes-equal v w e))
 
 -- a number's text in a range writes a number of that range
 pub writes-decimal : (low high n : ℕ) → n < 2 ^ 64 → is_from low high n ≡ true → writes low high (decimal n) ≡ true
@@ -141,7 +100,7 @@ writes-out low high n h r = rw (value_from-decimal n h, same_bytes-refl (decimal
 
 -- a word that is no number's text writes none
 pub writes-none : (low high : ℕ) (w : List ℕ) → high < 2 ^ 32 → ((n : ℕ) → n < 2 ^ 32 → w ≢ decimal n) → writes low high w ≡ false
-writes-none low high w h f = never (writes low high w) (λ e.
+writes-none low high w h f = false_from_ne_true (writes low high w) (λ e.
     let equal = same_bytes-equal w (decimal (value_from 0 w)) (and_left _ (is_from low high (value_from 0 w)) e) in
     let within : is_from low high (value_from 0 w) ≡ true = and_right (same_bytes w (decimal (value_from 0 w))) _ e in
     let below : value_from 0 w ≤ high = to_high low high (value_from 0 w) within in

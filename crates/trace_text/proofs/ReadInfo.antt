@@ -12,7 +12,7 @@ use Rattle.dtx_model.specs.TraceText.{id_at, is_message_fit, message_text}
 use Rattle.dtx_model.proofs.Bools.{and_left, and_right}
 use Rattle.trace_words.specs.Cuts.{front}
 use Rattle.trace_words.proofs.Cuts.{same_bytes}
-use Rattle.trace_words.proofs.Names.{same_manager, same_enlistment}
+use Rattle.dtx_model.proofs.SameNumbers.{same_enlistment, same_manager}
 
 -- numbers that pass as equal are
 equal : (m n : ℕ) → (m == n) ≡ true → m ≡ n

@@ -1,6 +1,7 @@
 -- Answers and entries are found by their words.
 use Rattle.std.proofs.Common.{◌≡◌, ◌≢◌, ℕ, ◌^◌, ◌<◌, nat_le, ◌||◌, Bool, true, false, List, [], ◌∷◌, ◌++◌, codes, decimal, length, Option, Some, None, refl, ap, sym, ◌∙◌, arith, append_assoc}
 use Rattle.std.specs.Int.{IsInRange}
+use Rattle.std.proofs.lemmas.Bool.{or_left}
 use Rattle.std.proofs.lemmas.Bool.Decides.{nat_tests}
 use Rattle.dtx_values.specs.declared.entry.Answer.{Answer}
 use Rattle.dtx_values.specs.declared.entry.Answer.TheVariants.{True, TooLate, Connected, Ambient, OutcomeIs}
@@ -37,7 +38,8 @@ use Rattle.trace_text.specs.ReadGroups.{is_of_enlistment, is_about_enlistment, i
 use Rattle.trace_words.specs.Cuts.{front, behind, IsWithout}
 use Rattle.trace_words.proofs.Cuts.{front_cut, behind_cut, front_whole, behind_whole, same_bytes}
 use Rattle.trace_words.proofs.Identifiers.{id_without}
-use Rattle.trace_words.proofs.Numbers.{digit_of_number, name_without, without_decimal}
+use Rattle.dtx_model.proofs.Digits.{digit_of_number}
+use Rattle.trace_words.proofs.Numbers.{name_without, without_decimal}
 
 -- the words of a text that is cut at its first space
 pub record AreCut (f l a r : List ℕ) : Type 0 where
@@ -128,11 +130,6 @@ is_scope_key k = same_bytes k (codes "opened") || (same_bytes k (codes "finished
 
 abbrev is_log_key : List ℕ → Bool
 is_log_key k = same_bytes k (codes "armed") || same_bytes k (codes "opened")
-
--- where the first holds, either holds
-or_left : (a b : Bool) → a ≡ true → (a || b) ≡ true
-or_left true b h = refl
-or_left false b h = absurd cc
 
 -- a scope's entry begins with one of its keywords
 scope_key : (w : ScopeNote) (k : List ℕ) → same_bytes k (front 32 (entry_text (Scope w))) ≡ true → is_scope_key k ≡ true

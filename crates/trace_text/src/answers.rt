@@ -70,6 +70,7 @@ fn put_nested(tail: &mut Tail, s: ScopeNo)
     tail.put(b"nested ");
 }
 
+/// Puts an answer.
 pub fn put_answer(tail: &mut Tail, a: Answer)
     requires { 43 + length tail.old ≤ 160 }
     ensures text { tail.new ≡ answer_text a ++ tail.old }

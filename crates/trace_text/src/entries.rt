@@ -57,6 +57,7 @@ fn put_answered(tail: &mut Tail, line: u32, answer: Answer)
     put_numbered(tail, b"answer ", u64::from(line));
 }
 
+/// Puts a clone that was made and its kind.
 fn put_cloned(tail: &mut Tail, c: CloneNo, kind: CloneKind)
     requires { 91 + length tail.old ≤ 160 }
     ensures text { tail.new ≡ entry_text (Cloned c kind) ++ tail.old }
@@ -68,6 +69,7 @@ fn put_cloned(tail: &mut Tail, c: CloneNo, kind: CloneKind)
     tail.put(b"cloned ");
 }
 
+/// Puts a clone that was completed.
 fn put_completed(tail: &mut Tail, c: CloneNo)
     requires { 91 + length tail.old ≤ 160 }
     ensures text { tail.new ≡ entry_text (Completed c) ++ tail.old }
@@ -77,6 +79,7 @@ fn put_completed(tail: &mut Tail, c: CloneNo)
     tail.put(b"completed ");
 }
 
+/// Puts an enlistment that was made and its class.
 fn put_enlisted(tail: &mut Tail, e: EnlNo, class: Class)
     requires { 91 + length tail.old ≤ 160 }
     ensures text { tail.new ≡ entry_text (Enlisted e class) ++ tail.old }
@@ -87,6 +90,7 @@ fn put_enlisted(tail: &mut Tail, e: EnlNo, class: Class)
     put_of(tail, b"enlisted ", e);
 }
 
+/// Puts what an enlistment was asked.
 fn put_asked(tail: &mut Tail, e: EnlNo, ask: Ask)
     requires { 91 + length tail.old ≤ 160 }
     ensures text { tail.new ≡ entry_text (Asked e ask) ++ tail.old }
@@ -97,6 +101,7 @@ fn put_asked(tail: &mut Tail, e: EnlNo, ask: Ask)
     put_of(tail, b"ask ", e);
 }
 
+/// Puts the vote of an enlistment.
 fn put_voted(tail: &mut Tail, e: EnlNo, vote: Vote)
     requires { 91 + length tail.old ≤ 160 }
     ensures text { tail.new ≡ entry_text (Voted e vote) ++ tail.old }
@@ -107,6 +112,7 @@ fn put_voted(tail: &mut Tail, e: EnlNo, vote: Vote)
     put_of(tail, b"vote ", e);
 }
 
+/// Puts whether an enlistment could promote.
 fn put_promote_reply(tail: &mut Tail, e: EnlNo, ok: bool)
     requires { 91 + length tail.old ≤ 160 }
     ensures text { tail.new ≡ entry_text (PromoteReply e ok) ++ tail.old }
@@ -117,6 +123,7 @@ fn put_promote_reply(tail: &mut Tail, e: EnlNo, ok: bool)
     put_of(tail, b"promote ", e);
 }
 
+/// Puts what an enlistment requested.
 fn put_requested(tail: &mut Tail, e: EnlNo, request: Request)
     requires { 91 + length tail.old ≤ 160 }
     ensures text { tail.new ≡ entry_text (Requested e request) ++ tail.old }
@@ -127,6 +134,7 @@ fn put_requested(tail: &mut Tail, e: EnlNo, request: Request)
     put_of(tail, b"request ", e);
 }
 
+/// Puts the outcome that the owner answered.
 fn put_owner_answer(tail: &mut Tail, e: EnlNo, outcome: Outcome)
     requires { 91 + length tail.old ≤ 160 }
     ensures text { tail.new ≡ entry_text (OwnerAnswered e outcome) ++ tail.old }
@@ -137,6 +145,7 @@ fn put_owner_answer(tail: &mut Tail, e: EnlNo, outcome: Outcome)
     put_of(tail, b"owner ", e);
 }
 
+/// Puts the outcome that was decided.
 fn put_decided(tail: &mut Tail, outcome: Outcome)
     requires { 91 + length tail.old ≤ 160 }
     ensures text { tail.new ≡ entry_text (Decided outcome) ++ tail.old }
@@ -146,6 +155,7 @@ fn put_decided(tail: &mut Tail, outcome: Outcome)
     tail.put(b"decided ");
 }
 
+/// Puts the outcome that a party was told.
 fn put_told(tail: &mut Tail, party: Party, outcome: Outcome)
     requires { 91 + length tail.old ≤ 160 }
     ensures text { tail.new ≡ entry_text (Told party outcome) ++ tail.old }
@@ -157,6 +167,7 @@ fn put_told(tail: &mut Tail, party: Party, outcome: Outcome)
     tail.put(b"told ");
 }
 
+/// Puts the cause of a promotion that began.
 fn put_promoting(tail: &mut Tail, cause: Cause)
     requires { 91 + length tail.old ≤ 160 }
     ensures text { tail.new ≡ entry_text (Promoting cause) ++ tail.old }
@@ -166,6 +177,7 @@ fn put_promoting(tail: &mut Tail, cause: Cause)
     tail.put(b"promoting ");
 }
 
+/// Puts the identifier of a promoted transaction and the cause.
 fn put_promoted(tail: &mut Tail, id: u128, cause: Cause)
     requires { 91 + length tail.old ≤ 160 }
     ensures text { tail.new ≡ entry_text (Promoted id cause) ++ tail.old }
@@ -212,6 +224,7 @@ fn put_end(tail: &mut Tail, c: Conn, d: Dir)
     tail.put(b"down ");
 }
 
+/// Puts whether a restart found a record.
 fn put_restarted(tail: &mut Tail, found: bool)
     requires { 91 + length tail.old ≤ 160 }
     ensures text { tail.new ≡ entry_text (Restarted found) ++ tail.old }
@@ -221,6 +234,7 @@ fn put_restarted(tail: &mut Tail, found: bool)
     tail.put(b"restarted ");
 }
 
+/// Puts a manager that has recovered.
 fn put_recovered(tail: &mut Tail, r: RmNo)
     requires { 91 + length tail.old ≤ 160 }
     ensures text { tail.new ≡ entry_text (Recovered r) ++ tail.old }
@@ -230,6 +244,7 @@ fn put_recovered(tail: &mut Tail, r: RmNo)
     tail.put(b"recovered ");
 }
 
+/// Puts what became of a scope.
 fn put_scope_note(tail: &mut Tail, x: ScopeNote)
     requires { 91 + length tail.old ≤ 160 }
     ensures text { tail.new ≡ entry_text (Scope x) ++ tail.old }
@@ -253,6 +268,7 @@ fn put_scope_note(tail: &mut Tail, x: ScopeNote)
     }
 }
 
+/// Puts a note of the log.
 fn put_log_note(tail: &mut Tail, x: LogNote)
     requires { 91 + length tail.old ≤ 160 }
     ensures text { tail.new ≡ entry_text (LogWord x) ++ tail.old }
@@ -291,6 +307,7 @@ fn put_event(tail: &mut Tail, x: Entry)
     }
 }
 
+/// Puts an entry.
 pub fn put_entry(tail: &mut Tail, x: Entry)
     requires { 91 + length tail.old ≤ 160 }
     ensures text { tail.new ≡ entry_text x ++ tail.old }

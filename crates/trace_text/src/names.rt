@@ -6,6 +6,7 @@ use dtx_values::{Party, Place, TxNo};
 use line_tail::{Tail, put_actor, put_enlistment, put_transaction};
 use uuid::Uuid;
 
+/// Puts the place of an entry.
 pub fn put_place(tail: &mut Tail, p: Place)
     requires { 21 + length tail.old ≤ 160 }
     ensures text { tail.new ≡ place_text p ++ tail.old }
@@ -18,6 +19,7 @@ pub fn put_place(tail: &mut Tail, p: Place)
     }
 }
 
+/// Puts who is told an outcome.
 pub fn put_party(tail: &mut Tail, p: Party)
     requires { 21 + length tail.old ≤ 160 }
     ensures text { tail.new ≡ party_text p ++ tail.old }

@@ -5,6 +5,7 @@ ghost use Rattle.dtx_model.specs.TraceText.{ask_text, cast_vote_text, cause_text
 use dtx_values::{Ask, Cause, Class, Dir, Outcome, Request, Vote};
 use line_tail::Tail;
 
+/// Puts an outcome.
 pub fn put_outcome(tail: &mut Tail, o: Outcome)
     requires { 16 + length tail.old ≤ 160 }
     ensures text { tail.new ≡ outcome_text o ++ tail.old }
@@ -17,6 +18,7 @@ pub fn put_outcome(tail: &mut Tail, o: Outcome)
     }
 }
 
+/// Puts the class of an enlistment.
 pub fn put_class(tail: &mut Tail, c: Class)
     requires { 16 + length tail.old ≤ 160 }
     ensures text { tail.new ≡ class_text c ++ tail.old }
@@ -31,6 +33,7 @@ pub fn put_class(tail: &mut Tail, c: Class)
     }
 }
 
+/// Puts what is asked of an enlistment.
 pub fn put_ask(tail: &mut Tail, a: Ask)
     requires { 16 + length tail.old ≤ 160 }
     ensures text { tail.new ≡ ask_text a ++ tail.old }
@@ -43,6 +46,7 @@ pub fn put_ask(tail: &mut Tail, a: Ask)
     }
 }
 
+/// Puts a vote.
 pub fn put_vote(tail: &mut Tail, v: Vote)
     requires { 16 + length tail.old ≤ 160 }
     ensures text { tail.new ≡ cast_vote_text v ++ tail.old }
@@ -55,6 +59,7 @@ pub fn put_vote(tail: &mut Tail, v: Vote)
     }
 }
 
+/// Puts what an enlistment requests.
 pub fn put_request(tail: &mut Tail, r: Request)
     requires { 16 + length tail.old ≤ 160 }
     ensures text { tail.new ≡ request_text r ++ tail.old }
@@ -66,6 +71,7 @@ pub fn put_request(tail: &mut Tail, r: Request)
     }
 }
 
+/// Puts the cause of a promotion.
 pub fn put_cause(tail: &mut Tail, c: Cause)
     requires { 16 + length tail.old ≤ 160 }
     ensures text { tail.new ≡ cause_text c ++ tail.old }
@@ -79,6 +85,7 @@ pub fn put_cause(tail: &mut Tail, c: Cause)
     }
 }
 
+/// Puts the direction of a message.
 pub fn put_direction(tail: &mut Tail, d: Dir)
     requires { 16 + length tail.old ≤ 160 }
     ensures text { tail.new ≡ direction_text d ++ tail.old }

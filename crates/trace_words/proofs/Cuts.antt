@@ -1,5 +1,6 @@
 -- Texts cut at a separator.
 use Rattle.std.proofs.Common.{◌≡◌, ℕ, ◌==◌, ◌&&◌, Bool, true, false, List, [], ◌∷◌, ◌++◌, refl, ap, arith}
+use Rattle.std.proofs.lemmas.Bool.{eq-eqb}
 use Rattle.std.proofs.lemmas.Bool.Decides.{nat_tests}
 use Rattle.dtx_model.specs.Words.{has}
 use Rattle.dtx_model.proofs.Bools.{or_first, or_second}
@@ -38,22 +39,18 @@ without_append c (x ∷ xs) ys hx hy =
     let k = without_append c xs ys (tail_without c x xs hx) hy in
     grind (arith, nat_tests)
 
--- a separator is found where it stands
-here : (c : ℕ) → (c == c) ≡ true
-here c = grind (arith, nat_tests)
-
 -- a byte of a text without c isn't c, as a test
 other_byte : (c x : ℕ) (xs : List ℕ) → IsWithout c (x ∷ xs) → (x == c) ≡ false
 other_byte c x xs h = or_first (x == c) (has (λ b. b == c) xs) h
 
 -- what stands before the first c
 pub front_cut : (c : ℕ) (a b : List ℕ) → IsWithout c a → front c (a ++ c ∷ b) ≡ a
-front_cut c [] b h = rw (here c) refl
+front_cut c [] b h = rw (eq-eqb c c refl) refl
 front_cut c (x ∷ a) b h = rw (other_byte c x a h) (ap (λ (t : List ℕ). x ∷ t) (front_cut c a b (or_second (x == c) _ h)))
 
 -- and what stands behind it
 pub behind_cut : (c : ℕ) (a b : List ℕ) → IsWithout c a → behind c (a ++ c ∷ b) ≡ b
-behind_cut c [] b h = rw (here c) refl
+behind_cut c [] b h = rw (eq-eqb c c refl) refl
 behind_cut c (x ∷ a) b h = rw (other_byte c x a h) (behind_cut c a b (or_second (x == c) _ h))
 
 -- a text without c stands before it whole
@@ -75,7 +72,7 @@ same_bytes _ _ = false
 -- a text is the same as itself
 same_bytes-self : (xs : List ℕ) → same_bytes xs xs ≡ true
 same_bytes-self [] = refl
-same_bytes-self (x ∷ xs) = rw (here x) (same_bytes-self xs)
+same_bytes-self (x ∷ xs) = rw (eq-eqb x x refl) (same_bytes-self xs)
 
 -- texts that are one pass the test
 pub same_text : (xs ys : List ℕ) → xs ≡ ys → same_bytes xs ys ≡ true

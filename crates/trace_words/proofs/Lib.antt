@@ -1,4 +1,3 @@
 pub mod Cuts
 pub mod Identifiers
-pub mod Names
 pub mod Numbers

@@ -40,6 +40,7 @@ pub fn next_ask(t: &EnlistTable, zero: bool) -> Option<EnlNo>
     first_to_ask(t, zero).map(|x| x.0)
 }
 
+/// Whether the class is volatile.
 fn is_volatile(c: Class) -> bool
     ensures { result ≡ is_volatile c }
 {

@@ -1,6 +1,7 @@
 use Rattle.std.proofs.Common.{arith, rules, refl}
 use Rattle.script_words.proofs.words.number.Goals as goal
-use Rattle.script_words.proofs.Numbers.{number_from_text, digit_of_number, value_more, digits_one_more, value_below, zero_text, text_of_read, value_of_read}
+use Rattle.dtx_model.proofs.Digits.{digit_of_number, digits_one_more, value_below, value_more, value_of_read}
+use Rattle.script_words.proofs.Numbers.{number_from_text, text_of_read, zero_text}
 
 pub returns-then-is_empty-clause-none : goal.returns-then-is_empty-clause-none
 returns-then-is_empty-clause-none c = λ n small e. grind (arith, number_from_text c.args.word.now n small e)
@@ -10,12 +11,12 @@ returns-then-word-gt10-clause-none c = λ n small e. let k = number_from_text c.
 
 pub overflow_mul-value : goal.overflow_mul-value
 overflow_mul-value c =
-    let below = value_below c.args.word.now c.loop-b.b-index (omega arith) (omega arith) c.loop-b.invariant.digits in
+    let below = value_below c.args.word.now c.loop-b.b-index 10 (omega arith) (omega arith) c.loop-b.invariant.digits in
     omega arith
 
 pub overflow_add-value : goal.overflow_add-value
 overflow_add-value c =
-    let below = value_below c.args.word.now c.loop-b.b-index (omega arith) (omega arith) c.loop-b.invariant.digits in
+    let below = value_below c.args.word.now c.loop-b.b-index 10 (omega arith) (omega arith) c.loop-b.invariant.digits in
     omega arith
 
 pub returns-then-word-eq1-clause-some : goal.returns-then-word-eq1-clause-some
@@ -26,7 +27,7 @@ returns-then-word-eq48-clause-none c = λ n small e. let k = number_from_text c.
 
 pub returns-then-not-is_ascii_digit-clause-none : goal.returns-then-not-is_ascii_digit-clause-none
 returns-then-not-is_ascii_digit-clause-none c =
-    λ n small e. let k = digit_of_number c.args.word.now n c.loop-b.b-index small (omega arith) e in omega (arith, c.if-not-is_ascii_digit.ensures.cases)
+    λ n small e. let k = digit_of_number c.args.word.now n c.loop-b.b-index (omega arith) (omega arith) e in omega (arith, c.if-not-is_ascii_digit.ensures.cases)
 
 pub loop-b-preserved : goal.loop-b-preserved
 loop-b-preserved c = record {
@@ -36,7 +37,7 @@ loop-b-preserved c = record {
 
 pub returns-then-value-from-clause-none : goal.returns-then-value-from-clause-none
 returns-then-value-from-clause-none c =
-    λ n small e. let k = value_of_read c.args.word.now c.loop-b.b-index c.loop-b.value n (omega arith) c.loop-b.invariant.value small e in omega arith
+    λ n small e. let k = value_of_read c.args.word.now c.loop-b.b-index c.loop-b.value n (omega arith) c.loop-b.invariant.value (omega arith) e in omega arith
 
 pub returns-clause-some : goal.returns-clause-some
 returns-clause-some c =

@@ -1,5 +1,5 @@
 use Rattle.std.proofs.Common.{◌≡◌, arith, rules}
-use Rattle.trace_words.proofs.Names.{same_actor}
+use Rattle.dtx_model.proofs.SameNumbers.{same_actor}
 use Rattle.trace_words.proofs.words.actor.Goals as goal
 
 pub returns : goal.returns

@@ -1,5 +1,5 @@
 use Rattle.std.proofs.Common.{◌≡◌, arith, rules}
-use Rattle.trace_words.proofs.Names.{same_clone}
+use Rattle.dtx_model.proofs.SameNumbers.{same_clone}
 use Rattle.trace_words.proofs.words.clone.Goals as goal
 
 pub returns : goal.returns

@@ -1,5 +1,5 @@
 use Rattle.std.proofs.Common.{◌≡◌, arith, rules}
-use Rattle.trace_words.proofs.Names.{same_enlistment}
+use Rattle.dtx_model.proofs.SameNumbers.{same_enlistment}
 use Rattle.trace_words.proofs.words.enlistment.Goals as goal
 
 pub returns : goal.returns

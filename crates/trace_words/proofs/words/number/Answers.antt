@@ -1,18 +1,19 @@
 use Rattle.std.proofs.Common.{arith, rules, refl}
 use Rattle.trace_words.proofs.words.number.Goals as goal
-use Rattle.trace_words.proofs.Numbers.{number_from_text, digit_of_number, value_more, digits_one_more, value_below, value_of_read}
+use Rattle.dtx_model.proofs.Digits.{digit_of_number, digits_one_more, value_below, value_more, value_of_read}
+use Rattle.trace_words.proofs.Numbers.{number_from_text}
 
 pub returns-then-word-gt20 : goal.returns-then-word-gt20
 returns-then-word-gt20 c = λ n small e. let k = number_from_text c.args.word.now n small e in omega arith
 
 pub overflow_mul-value : goal.overflow_mul-value
 overflow_mul-value c =
-    let below = value_below c.args.word.now c.loop-b.b-index (omega arith) (omega arith) c.loop-b.invariant.digits in
+    let below = value_below c.args.word.now c.loop-b.b-index 20 (omega arith) (omega arith) c.loop-b.invariant.digits in
     omega arith
 
 pub overflow_add-value : goal.overflow_add-value
 overflow_add-value c =
-    let below = value_below c.args.word.now c.loop-b.b-index (omega arith) (omega arith) c.loop-b.invariant.digits in
+    let below = value_below c.args.word.now c.loop-b.b-index 20 (omega arith) (omega arith) c.loop-b.invariant.digits in
     omega arith
 
 pub returns-then-not-is_ascii_digit : goal.returns-then-not-is_ascii_digit

@@ -1,5 +1,5 @@
 use Rattle.std.proofs.Common.{◌≡◌, arith, rules}
-use Rattle.trace_words.proofs.Names.{same_transaction}
+use Rattle.dtx_model.proofs.SameNumbers.{same_transaction}
 use Rattle.trace_words.proofs.words.transaction.Goals as goal
 
 pub returns : goal.returns

@@ -4,7 +4,7 @@ use Rattle.dtx_model.specs.Words.{past_of}
 use Rattle.dtx_model.specs.Scopes.{beneath}
 use Rattle.scope_context.specs.Standing.{Standing, distinct}
 use Rattle.scope_context.proofs.Entries.{closes-taken, distinct-beneath, length-beneath}
-use Rattle.scope_context.proofs.Pasts.{length-past}
+use Rattle.dtx_model.proofs.Pasts.{length-past}
 use Rattle.scope_context.proofs.context.Context.close.Goals as goal
 
 pub returns-then-eq-clause-entries : goal.returns-then-eq-clause-entries

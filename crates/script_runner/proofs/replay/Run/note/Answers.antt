@@ -7,7 +7,7 @@ use Rattle.dtx_model.specs.Replay.{noted}
 use Rattle.dtx_model.specs.Words.{onto, past_of}
 use Rattle.script_runner.specs.Running.{Running}
 use Rattle.script_runner.specs.Scoped.{AreOpen, DoesScope, calls_given, rolled_in, scopes_at, scopes_in}
-use Rattle.script_runner.proofs.Closing.{length-past}
+use Rattle.dtx_model.proofs.Pasts.{length-past}
 use Rattle.script_runner.proofs.Openings.{context_here, context_put, open_after}
 use Rattle.script_runner.proofs.Scoping.{few_notes, noted_block}
 use Rattle.script_runner.proofs.Ties.{tied_noted}

@@ -1,0 +1,25 @@
+-- How many of a list pass a test.
+use Rattle.std.proofs.Common.{◌≡◌, ℕ, suc, Bool, true, false, List, [], ◌∷◌, map, nat_lt, if◌then◌else◌, refl}
+use Rattle.dtx_values.specs.Table.{how_many, insert_by}
+
+-- two counts in either order
+count-swap : (a b : Bool) (n : ℕ) → (if b then suc (if a then suc n else n) else (if a then suc n else n)) ≡ (if a then suc (if b then suc n else n) else (if b then suc n else n))
+count-swap true true n = refl
+count-swap true false n = refl
+count-swap false true n = refl
+count-swap false false n = refl
+
+-- one more passes where the new item does
+pub how_many-insert_by : {A : Type 0} (p : A → Bool) (key : A → ℕ) (x : A) (ys : List A) → how_many p (insert_by key x ys) ≡ (if p x then suc (how_many p ys) else how_many p ys)
+how_many-insert_by p key x [] = refl
+how_many-insert_by p key x (y ∷ ys) =
+    let more = how_many-insert_by p key x ys in
+    elim (nat_lt (key y) (key x)) as (λ b. how_many p (if b then y ∷ insert_by key x ys else x ∷ y ∷ ys) ≡ (if p x then suc (how_many p (y ∷ ys)) else how_many p (y ∷ ys))) [
+      | true ↦ rw more (count-swap (p x) (p y) (how_many p ys))
+      | false ↦ refl
+    ]
+
+-- as many pass behind a change that the test doesn't see
+pub how_many-map : {A : Type 0} (p : A → Bool) (f : A → A) → ((x : A) → p (f x) ≡ p x) → (xs : List A) → how_many p (map f xs) ≡ how_many p xs
+how_many-map p f same [] = refl
+how_many-map p f same (x ∷ xs) = rw (same x, how_many-map p f same xs) refl
