@@ -26,9 +26,9 @@ pub record Agrees (seen : List ℕ) (image : List ℕ → Type 0) (slots : List 
   pub durable : IsOnly seen image
 
 -- the same head, and the slots are these
-pub record HasSlots (was : List ℕ) (slots : List Slot) (now : List ℕ) : Type 0 where
+pub record HasSlots (was : List ℕ) (held : List Slot) (now : List ℕ) : Type 0 where
   pub same_head : take 512 now ≡ take 512 was
-  pub slots : slots_of now ≡ slots
+  pub slots : slots_of now ≡ held
 
 -- slot k is as before, or holds this; all else is as before
 abbrev pub IsEither : List ℕ → ℕ → Slot → List ℕ → Type 0

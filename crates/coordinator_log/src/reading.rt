@@ -11,4 +11,5 @@ pub fn read_record(b: &[u8]) -> Result<LogRecord, usize>
     ensures record { IsReadAs record_of result (record_at b.now) }
     ensures place { IfErr result (λ p. p < 512) }
 {
+    Err(b.len())
 }

@@ -1,5 +1,5 @@
 //! The slots in memory.
-ghost use Rattle.std.specs.Prelude.{◌≡◌, ◌≤◌, ◌<◌, ◌×◌, ◌≢◌, [], None, Some, length, set, slice_index_or, IfNone, IfOk, IfSome, IsSome};
+ghost use Rattle.std.specs.Prelude.{◌≡◌, ◌≤◌, ◌<◌, ◌≢◌, [], None, Some, length, replicate, set, slice_index_or, IfNone, IfOk, IfSome, IsSome};
 ghost use Rattle.std.specs.Option.{option_map};
 ghost use Rattle.dtx_model.specs.Log.{first_of, record_of, without_first_of};
 ghost use Rattle.coordinator_log.specs.Slots.{lowest_closed, open_records};
@@ -32,6 +32,8 @@ impl Slots {
         ensures empty { IfOk result (λ s. open_records s ≡ []) }
         ensures many { IfOk result (λ s. length s ≡ 1024) }
     {
+        let records = closed_gates(alloc, 1024)?;
+        Ok(Slots { records })
     }
 
     /// The lowest slot whose gate is closed.
@@ -40,6 +42,7 @@ impl Slots {
         ensures none { IfNone result (lowest_closed self.now ≡ 1024) }
         ensures many { length self.now ≡ 1024 }
     {
+        self.records.iter().position(|s| s.is_none())
     }
 
     /// The lowest slot with a record of this identifier.
@@ -49,6 +52,9 @@ impl Slots {
         ensures none { IfNone result (first_of id (open_records self.now) ≡ None) }
         ensures many { length self.now ≡ 1024 }
     {
+        self.records
+            .iter()
+            .position(|s| s.is_some_and(|r| r.id == id))
     }
 
     /// The record of slot k.
@@ -72,5 +78,14 @@ impl Slots {
     pub fn count(&self) -> u16
         ensures { result ≡ length (open_records self.now) }
     {
+        self.records.iter().filter(|s| s.is_some()).count() as u16
     }
+}
+
+// So many slots whose gates are closed.
+fn closed_gates(alloc: Global, n: usize) -> Result<Vec<Option<LogRecord>>, AllocError>
+    ensures closed { IfOk result (λ v. v.items ≡ replicate (length v.items) None) }
+    ensures many { IfOk result (λ v. length v.items ≡ n) }
+{
+    Ok(vec![in alloc; None; n]?)
 }
