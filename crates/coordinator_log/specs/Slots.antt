@@ -1,6 +1,7 @@
 -- The slots of a log, in memory and on a disk.
-use Rattle.std.specs.Prelude.{◌≡◌, ◌⊎◌, ℕ, suc, List, [], ◌∷◌, slice_index_or, take, map, set, Option, Some, None, Ok, Err}
+use Rattle.std.specs.Prelude.{◌≡◌, ◌⊎◌, ◌==◌, ℕ, suc, Bool, false, List, [], ◌∷◌, slice_index_or, take, map, set, Option, Some, None, Ok, Err}
 use Rattle.outside.specs.Disk.{IsOnly}
+use Rattle.dtx_values.specs.declared.record.LogRecord.{LogRecord}
 use Rattle.dtx_model.specs.Log.{CommitRecord, Slot, head, slots_of}
 
 -- the records of the slots whose gates are open, in order of slots
@@ -14,6 +15,11 @@ abbrev pub lowest_closed : List (Option CommitRecord) → ℕ
 lowest_closed [] = 0
 lowest_closed (None ∷ ss) = 0
 lowest_closed (Some r ∷ ss) = suc (lowest_closed ss)
+
+-- a slot of the program's memory has a record of this identifier
+abbrev pub has_record_of : ℕ → Option LogRecord → Bool
+has_record_of id None = false
+has_record_of id (Some r) = r.id == id
 
 -- a slot of the form that the log has
 abbrev pub formed : Option CommitRecord → Slot
