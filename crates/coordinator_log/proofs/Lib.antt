@@ -1,1 +1,2 @@
 mod OpenRecords
+mod SlotWrites

@@ -65,11 +65,11 @@ fn sync<D: Disk>(disk: &mut D, stop: &mut Stop) -> bool
     false
 }
 
-// Writes a record into slot k, whose gate is closed, by the bytes that are given for its body.
-fn store_by<D: Disk>(disk: &mut D, stop: &mut Stop, k: usize, r: &LogRecord, body: &mut [u8]) -> bool
+// Writes a record into slot k, whose gate is closed. Its body is laid out in the last 511 bytes of a block.
+fn store_by<D: Disk>(disk: &mut D, stop: &mut Stop, k: usize, r: &LogRecord, block: &mut [u8]) -> bool
     requires slot { k < 1024 }
     requires size { 524800 ≤ D.size disk.old }
-    requires body { length body.old ≡ 511 }
+    requires block { length block.old ≡ 512 }
     requires valid { is_id r.now.id ≡ true }
     ensures done { IsTrue D.honest → IsOnly (D.seen disk.old) (D.image disk.old) → IsClosed k (D.seen disk.old) → IsTrue result
         → HasSlots (D.seen disk.old) (set (slots_of (D.seen disk.old)) k (Ok (Some (record_of r.now)))) (D.seen disk.new) }
@@ -84,6 +84,7 @@ fn store_by<D: Disk>(disk: &mut D, stop: &mut Stop, k: usize, r: &LogRecord, bod
     ensures cause { IsFalse result → Rose (D.faults disk.old) (D.faults disk.new) ⊎ ((1 ≤ stop.old.left) × (stop.old.left ≤ 4) × (stop.new.left ≡ 0)) }
 {
     records_are_read_again();
+    let (_, body) = block.split_at_mut(1);
     write_record(r, body);
     let gate = 512 + 512 * k as u64;
     if !write(disk, stop, gate + 1, body) {
@@ -115,8 +116,7 @@ pub fn store<D: Disk>(disk: &mut D, stop: &mut Stop, k: usize, r: &LogRecord, sc
     ensures reached { 1 ≤ stop.old.left → stop.old.left ≤ 4 → IsFalse result }
     ensures cause { IsFalse result → Rose (D.faults disk.old) (D.faults disk.new) ⊎ ((1 ≤ stop.old.left) × (stop.old.left ≤ 4) × (stop.new.left ≡ 0)) }
 {
-    let (_, body) = scratch.block.split_at_mut(1);
-    store_by(disk, stop, k, r, body)
+    store_by(disk, stop, k, r, &mut scratch.block)
 }
 
 /// Closes the gate of slot k, which is open: true where that is on the disk, false where a call failed or the armed stop was reached.
