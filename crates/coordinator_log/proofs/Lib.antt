@@ -1,2 +1,6 @@
 mod OpenRecords
 mod SlotWrites
+mod Heads
+mod SlotReads
+mod Agreement
+mod Blanks
