@@ -1,11 +1,11 @@
 -- The slots in memory, those on the disk and the records that they stand for.
-use Rattle.std.specs.Prelude.{is_ok}
+use Rattle.std.specs.Prelude.{is_ok, IsSome}
 use Rattle.std.specs.List.{insert}
 use Rattle.std.proofs.Common.{◌≡◌, ◌⊎◌, inl, inr, ℕ, zero, suc, ◌+◌, ◌<◌, true, List, [], ◌∷◌, length, get_or, take, set, map, Result, Ok, Err, Option, Some, None, refl, sym, ap, ◌∙◌, arith}
 use Rattle.std.proofs.lemmas.List.{map-set}
 use Rattle.outside.specs.Disk.{IsOnly}
 use Rattle.dtx_model.specs.Log.{CommitRecord, Slot, ◌>>=◌, records_at, log_has, head, slots_of}
-use Rattle.coordinator_log.specs.Slots.{HasSlots, IsEither, Agrees, formed, open_records, lowest_closed}
+use Rattle.coordinator_log.specs.Slots.{HasSlots, IsEither, IsOpen, Agrees, formed, open_records, lowest_closed}
 use Rattle.coordinator_log.proofs.Heads.{same_self}
 
 -- the slots as contracts see them
@@ -37,6 +37,11 @@ formed_at [] k lt = absurd (omega arith)
 formed_at (s ∷ ss) zero lt = refl
 formed_at (s ∷ ss) (suc k) lt = formed_at ss k (omega arith)
 
+-- a record that is there
+some_is : (x : Option CommitRecord) → IsSome x → (r : CommitRecord) × (x ≡ Some r)
+some_is None some = absurd cc
+some_is (Some r) some = (r, refl)
+
 module _ (b : List ℕ) (image : List ℕ → Type 0) (ss : Held) (agrees : Agrees b image ss) (k : ℕ) (lt : k < length ss) where
   -- slot k on the disk is slot k in memory
   pub slot_formed : (x : Option CommitRecord) → get_or ss k None ≡ x → get_or (slots_of b) k (Err 0) ≡ formed x
@@ -54,6 +59,14 @@ module _ (b : List ℕ) (image : List ℕ → Type 0) (ss : Held) (agrees : Agre
   pub log_either : (x : Option CommitRecord) (rs : List CommitRecord) (c : List ℕ) → open_records (set ss k x) ≡ rs → IsEither b k (formed x) c → (log_has c ≡ Ok (open_records ss)) ⊎ (log_has c ≡ Ok rs)
   log_either x rs c is (inl same) = inl (log_same c same)
   log_either x rs c is (inr new) = inr (log_with x c new ∙ ap (λ (l : List CommitRecord). Ok l) is)
+
+  -- a record is in the lowest slot that is closed, or not yet
+  pub either_appended : (r : CommitRecord) (c : List ℕ) → lowest_closed ss ≡ k → IsEither b k (Ok (Some r)) c → (log_has c ≡ Ok (open_records ss)) ⊎ (log_has c ≡ Ok (insert (open_records ss) (lowest_closed ss) r))
+  either_appended r c low = log_either (Some r) _ c (insert_lowest ss k r low lt ∙ ap (λ (j : ℕ). insert (open_records ss) j r) (sym low))
+
+  -- a slot with a record in memory is open on the disk
+  pub slot_open : IsSome (get_or ss k None) → IsOpen k b
+  slot_open some = let r = some_is (get_or ss k None) some in (r.0, slot_formed (Some r.0) r.1)
 
   -- the disk agrees with the slots in memory, once slot k was written there and here
   pub agrees_with : (x : Option CommitRecord) (c : List ℕ) (left : List ℕ → Type 0) → HasSlots b (set (slots_of b) k (formed x)) c → IsOnly c left → Agrees c left (set ss k x)

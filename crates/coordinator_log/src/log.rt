@@ -134,6 +134,8 @@ impl<D: Disk> Log<D> {
             → IsErrOf result LogRefusal.StoppedNow }
         ensures cause { IsErrOf result LogRefusal.StoppedNow → (self.old.stop.left < 1) ⊎ (4 < self.old.stop.left) → Rose (D.faults self.old.disk) (D.faults self.new.disk) }
         ensures counted { OnOk result (self.new.stop ≡ record self.old.stop { left = self.old.stop.left - 4 }) }
+        ensures used { IsErrOf result LogRefusal.StoppedNow → Rose (D.faults self.old.disk) (D.faults self.new.disk) ⊎ (self.new.stop.left ≡ 0) }
+        ensures image { self.new.stop.image ≡ self.old.stop.image }
         ensures grows { D.faults self.old.disk ≤ D.faults self.new.disk }
         ensures life { self.new.life ≡ self.old.life }
     {
@@ -176,6 +178,8 @@ impl<D: Disk> Log<D> {
             → IsErrOf result LogRefusal.StoppedNow }
         ensures cause { IsErrOf result LogRefusal.StoppedNow → (self.old.stop.left < 1) ⊎ (2 < self.old.stop.left) → Rose (D.faults self.old.disk) (D.faults self.new.disk) }
         ensures counted { OnOk result (self.new.stop ≡ record self.old.stop { left = self.old.stop.left - 2 }) }
+        ensures used { IsErrOf result LogRefusal.StoppedNow → Rose (D.faults self.old.disk) (D.faults self.new.disk) ⊎ (self.new.stop.left ≡ 0) }
+        ensures image { self.new.stop.image ≡ self.old.stop.image }
         ensures grows { D.faults self.old.disk ≤ D.faults self.new.disk }
         ensures life { self.new.life ≡ self.old.life }
     {

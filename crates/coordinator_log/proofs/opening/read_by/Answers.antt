@@ -1,5 +1,6 @@
 use Rattle.std.specs.Option.{option_map}
-use Rattle.std.proofs.Common.{refl, ◌≡◌, ℕ, ◌+◌, ◌*◌, sym, ap, ◌∙◌, arith, map, take, drop, List, Option, Err}
+use Rattle.std.proofs.Common.{refl, ◌≡◌, ℕ, ◌+◌, ◌*◌, sym, ap, ◌∙◌, arith, length, map, take, drop, List, Option, Err}
+use Rattle.std.proofs.lemmas.List.{length-set}
 use Rattle.dtx_model.specs.Log.{CommitRecord, head, record_of, same_at, slot_at}
 use Rattle.coordinator_log.specs.Slots.{formed}
 use Rattle.coordinator_log.proofs.Heads.{bad_head, same_is}
@@ -26,7 +27,7 @@ loop-k-init g c =
       slots = λ h. refl;
       size = c.in-Ok.ensures.size;
       grows = c.in-Ok.ensures.grows;
-      many = omega arith;
+      many = λ more. absurd (omega arith);
       block = omega arith;
     }
 
@@ -52,13 +53,15 @@ loop-k-preserved g c =
       slots = λ h.
           let b = g.D.Disk.seen c.args.disk.now in
           let block : c.read-in-loop-k.new.into ≡ take 512 (drop (512 + 512 * k) b) = c.in-Ok-read.ensures.bytes h ∙ ap (λ (n : ℕ). take n (drop (512 + 512 * k) (g.D.Disk.seen c.loop-k.disk))) i.block ∙ ap (λ (l : List ℕ). take 512 (drop (512 + 512 * k) l)) (i.seen h) in
-          slots_more b k c.loop-k.slots (option_map record_of c.in-Ok-read_slot.s) c.loop-k-test.true i.many (i.slots h) (ap slot_at (sym block) ∙ c.in-Ok-read_slot.ensures.slot)
+          let put = option_map record_of c.in-Ok-read_slot.s in
+          let many : length c.loop-k.slots ≡ 1024 = sym (length-set c.loop-k.slots k put) ∙ ap length (sym c.set.ensures.slots) ∙ c.set.ensures.many in
+          slots_more b k c.loop-k.slots put c.loop-k-test.true many (i.slots h) (ap slot_at (sym block) ∙ c.in-Ok-read_slot.ensures.slot)
           ∙ ap (λ (l : List (Option CommitRecord)). map formed (take (k + 1) l)) (sym c.set.ensures.slots);
       size = c.in-Ok-read.ensures.size ∙ i.size;
       grows = omega (arith, c.in-Ok-read.ensures.grows);
-      many = c.set.ensures.many;
+      many = λ more. c.set.ensures.many;
       block = omega arith;
     }
 
 pub returns-clause-slots : goal.returns-clause-slots
-returns-clause-slots g c h = slots_all (g.D.Disk.seen c.args.disk.now) c.loop-k.k c.loop-k.slots c.loop-k-test.false c.loop-k.invariant.many (c.loop-k.invariant.slots h)
+returns-clause-slots g c h = slots_all (g.D.Disk.seen c.args.disk.now) c.loop-k.k c.loop-k.slots c.loop-k-test.false (c.loop-k.invariant.many (omega arith)) (c.loop-k.invariant.slots h)

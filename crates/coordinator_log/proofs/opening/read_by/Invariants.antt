@@ -1,4 +1,4 @@
-use Rattle.std.proofs.Common.{◌≡◌, ◌≤◌, length, take, map}
+use Rattle.std.proofs.Common.{◌≡◌, ◌≤◌, ◌<◌, length, take, map}
 use Rattle.std.specs.Prelude.{IsTrue}
 use Rattle.outside.specs.Disk.{AreWithin}
 use Rattle.dtx_model.specs.Log.{slots_of, head}
@@ -13,6 +13,6 @@ invariant-loop-k g l = record {
   slots : IsTrue g.D.Disk.honest → take l.k (slots_of (g.D.Disk.seen l.fn.disk)) ≡ map formed (take l.k l.slots);
   size : g.D.Disk.size l.disk ≡ g.D.Disk.size l.fn.disk;
   grows : g.D.Disk.faults l.fn.disk ≤ g.D.Disk.faults l.disk;
-  many : length l.slots ≡ 1024;
+  many : 0 < l.k → length l.slots ≡ 1024;
   block : length l.block ≡ 512;
 }
