@@ -1,8 +1,8 @@
 //! Writes an empty log.
-ghost use Rattle.std.specs.Prelude.{◌≡◌, ◌≤◌, [], length, replicate, OnErr, OnOk, Ok, IsTrue};
+ghost use Rattle.std.specs.Prelude.{◌≡◌, ◌≤◌, ℕ, length, replicate, take, OnErr, OnOk, None, Ok, IsTrue};
 ghost use Rattle.outside.specs.Disk.{IsOnly};
 ghost use Rattle.outside.specs.Faults.{Rose};
-ghost use Rattle.dtx_model.specs.Log.{head, log_has};
+ghost use Rattle.dtx_model.specs.Log.{head, slots_of};
 
 use outside::{Disk, Failed};
 
@@ -13,7 +13,8 @@ pub fn blank<D: Disk>(disk: &mut D, zeros: &[u8], wanted: &[u8]) -> Result<(), F
     requires many { length zeros.now ≡ 524800 }
     requires head { wanted.now ≡ head }
     requires long { length wanted.now ≡ 512 }
-    ensures done { IsTrue D.honest → OnOk result (log_has (D.seen disk.new) ≡ Ok []) }
+    ensures at_head { IsTrue D.honest → OnOk result (take 512 (D.seen disk.new) ≡ head) }
+    ensures slots { IsTrue D.honest → OnOk result ((n : ℕ) → n ≡ 1024 → slots_of (D.seen disk.new) ≡ replicate n (Ok None)) }
     ensures durable { IsTrue D.honest → OnOk result (IsOnly (D.seen disk.new) (D.image disk.new)) }
     ensures cause { OnErr result (Rose (D.faults disk.old) (D.faults disk.new)) }
     ensures size { D.size disk.new ≡ D.size disk.old }
