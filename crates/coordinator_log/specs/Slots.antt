@@ -1,6 +1,7 @@
 -- The slots of a log, in memory and on a disk.
-use Rattle.std.specs.Prelude.{◌≡◌, ◌⊎◌, ℕ, suc, List, [], ◌∷◌, slice_index_or, take, map, set, Option, Some, None, Ok, Err}
+use Rattle.std.specs.Prelude.{◌≡◌, ◌⊎◌, ◌==◌, ℕ, suc, Bool, false, List, [], ◌∷◌, slice_index_or, take, map, set, Option, Some, None, Ok, Err}
 use Rattle.outside.specs.Disk.{IsOnly}
+use Rattle.dtx_values.specs.declared.record.LogRecord.{LogRecord}
 use Rattle.dtx_model.specs.Log.{CommitRecord, Slot, head, slots_of}
 
 -- the records of the slots whose gates are open, in order of slots
@@ -15,6 +16,11 @@ lowest_closed [] = 0
 lowest_closed (None ∷ ss) = 0
 lowest_closed (Some r ∷ ss) = suc (lowest_closed ss)
 
+-- a slot of the program's memory has a record of this identifier
+abbrev pub has_record_of : ℕ → Option LogRecord → Bool
+has_record_of id None = false
+has_record_of id (Some r) = r.id == id
+
 -- a slot of the form that the log has
 abbrev pub formed : Option CommitRecord → Slot
 formed s = Ok s
@@ -26,9 +32,13 @@ pub record Agrees (seen : List ℕ) (image : List ℕ → Type 0) (slots : List 
   pub durable : IsOnly seen image
 
 -- the same head, and the slots are these
-pub record HasSlots (was : List ℕ) (slots : List Slot) (now : List ℕ) : Type 0 where
+pub record HasSlots (was : List ℕ) (held : List Slot) (now : List ℕ) : Type 0 where
   pub same_head : take 512 now ≡ take 512 was
+<<<<<<< HEAD
   pub held : slots_of now ≡ slots
+=======
+  pub slots : slots_of now ≡ held
+>>>>>>> 4772f02493f09982aa8c89d0147aa267a76c87e8
 
 -- slot k is as before, or holds this; all else is as before
 abbrev pub IsEither : List ℕ → ℕ → Slot → List ℕ → Type 0

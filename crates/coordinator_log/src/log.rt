@@ -12,12 +12,12 @@ use crate::device::{clear, store};
 use crate::empty::blank;
 use crate::opening::read_all;
 use crate::refusal::LogRefusal;
-use crate::scratch::Scratch;
+use crate::scratch::{Scratch, zeros};
 use crate::slots::Slots;
 use crate::stop::Stop;
 use dtx_values::LogRecord;
 use outside::{Disk, Image};
-use std::alloc::Global;
+use std::alloc::{AllocError, Global};
 
 /// The log over a disk of at least 524,800 bytes.
 ///
@@ -55,6 +55,19 @@ impl<D: Disk> Log<D> {
         ensures memory { IfErr result (λ e. e.0 ≡ LogRefusal.Memory → e.1 ≡ disk) }
         ensures size { IfErr result (λ e. D.size e.1 ≡ D.size disk) }
     {
+        let mut disk = disk;
+        let (slots, scratch) = match memory(alloc) {
+            Ok(made) => made,
+            Err(_) => return Err((LogRefusal::Memory, disk)),
+        };
+        let blanks = match zeros(alloc, 524800) {
+            Ok(blanks) => blanks,
+            Err(_) => return Err((LogRefusal::Memory, disk)),
+        };
+        match blank(&mut disk, &blanks, &scratch.wanted) {
+            Ok(()) => Ok(Log::up(disk, slots, scratch)),
+            Err(_) => Err((LogRefusal::Fault, disk)),
+        }
     }
 
     /// The log that stands on the disk. It is up, its life is 0, and no stop is armed. It syncs before it reads: nothing that was read before is safe.
@@ -79,6 +92,19 @@ impl<D: Disk> Log<D> {
         ensures left { IsTrue D.honest → IfErr result (λ e. (D.seen e.1 ≡ D.seen disk) × AreWithin (D.image disk) (D.image e.1)) }
         ensures size { IfErr result (λ e. D.size e.1 ≡ D.size disk) }
     {
+        let mut disk = disk;
+        let (mut slots, mut scratch) = match memory(alloc) {
+            Ok(made) => made,
+            Err(_) => return Err((LogRefusal::Memory, disk)),
+        };
+        match disk.sync() {
+            Ok(()) => (),
+            Err(_) => return Err((LogRefusal::Fault, disk)),
+        }
+        match read_all(&mut disk, &mut slots, &mut scratch) {
+            Ok(()) => Ok(Log::up(disk, slots, scratch)),
+            Err(e) => Err((e, disk)),
+        }
     }
 
     /// Writes a record into the lowest slot whose gate is closed, and gives the slot's number: the body, a sync, the gate, a sync. After that every image has the record.
@@ -108,6 +134,8 @@ impl<D: Disk> Log<D> {
             → IsErrOf result LogRefusal.StoppedNow }
         ensures cause { IsErrOf result LogRefusal.StoppedNow → (self.old.stop.left < 1) ⊎ (4 < self.old.stop.left) → Rose (D.faults self.old.disk) (D.faults self.new.disk) }
         ensures counted { OnOk result (self.new.stop ≡ record self.old.stop { left = self.old.stop.left - 4 }) }
+        ensures used { IsErrOf result LogRefusal.StoppedNow → Rose (D.faults self.old.disk) (D.faults self.new.disk) ⊎ (self.new.stop.left ≡ 0) }
+        ensures image { self.new.stop.image ≡ self.old.stop.image }
         ensures grows { D.faults self.old.disk ≤ D.faults self.new.disk }
         ensures life { self.new.life ≡ self.old.life }
     {
@@ -150,6 +178,8 @@ impl<D: Disk> Log<D> {
             → IsErrOf result LogRefusal.StoppedNow }
         ensures cause { IsErrOf result LogRefusal.StoppedNow → (self.old.stop.left < 1) ⊎ (2 < self.old.stop.left) → Rose (D.faults self.old.disk) (D.faults self.new.disk) }
         ensures counted { OnOk result (self.new.stop ≡ record self.old.stop { left = self.old.stop.left - 2 }) }
+        ensures used { IsErrOf result LogRefusal.StoppedNow → Rose (D.faults self.old.disk) (D.faults self.new.disk) ⊎ (self.new.stop.left ≡ 0) }
+        ensures image { self.new.stop.image ≡ self.old.stop.image }
         ensures grows { D.faults self.old.disk ≤ D.faults self.new.disk }
         ensures life { self.new.life ≡ self.old.life }
     {
@@ -250,5 +280,39 @@ impl<D: Disk> Log<D> {
         ensures disk { result ≡ self.disk }
         ensures images { IsTrue D.honest → IsTrue self.up → (c : List ℕ) → D.image result c → log_has c ≡ Ok (open_records self.slots) }
     {
+        self.disk
     }
+
+    // A log in its first life, with no stop armed.
+    fn up(disk: D, slots: Slots, scratch: Scratch) -> Log<D>
+        requires agrees { IsTrue D.honest → Agrees (D.seen disk) (D.image disk) slots }
+        requires room { 524800 ≤ D.size disk }
+        ensures disk { result.disk ≡ disk }
+        ensures slots { result.slots ≡ slots }
+        ensures up { IsTrue result.up }
+        ensures life { result.life ≡ 0 }
+        ensures unarmed { result.stop.left ≡ 0 }
+    {
+        Log {
+            disk,
+            slots,
+            scratch,
+            up: true,
+            life: 0,
+            stop: Stop {
+                left: 0,
+                image: Image::Lose,
+            },
+        }
+    }
+}
+
+// All the memory that a log needs.
+fn memory(alloc: Global) -> Result<(Slots, Scratch), AllocError>
+    ensures empty { IfOk result (λ m. open_records m.0 ≡ []) }
+    ensures many { IfOk result (λ m. length m.0 ≡ 1024) }
+{
+    let slots = Slots::new(alloc)?;
+    let scratch = Scratch::new(alloc)?;
+    Ok((slots, scratch))
 }

@@ -1,8 +1,8 @@
 //! The slots in memory.
-ghost use Rattle.std.specs.Prelude.{◌≡◌, ◌≤◌, ◌<◌, ◌≢◌, [], None, Some, length, set, slice_index_or, IfNone, IfOk, IfSome, IsSome};
+ghost use Rattle.std.specs.Prelude.{◌≡◌, ◌≤◌, ◌<◌, ◌≢◌, [], None, Some, length, replicate, set, slice_index_or, IfNone, IfOk, IfSome, IsSome, count_by, is_none, is_some, position};
 ghost use Rattle.std.specs.Option.{option_map};
 ghost use Rattle.dtx_model.specs.Log.{first_of, record_of, without_first_of};
-ghost use Rattle.coordinator_log.specs.Slots.{lowest_closed, open_records};
+ghost use Rattle.coordinator_log.specs.Slots.{has_record_of, lowest_closed, open_records};
 
 use dtx_values::LogRecord;
 use std::alloc::{AllocError, Global};
@@ -32,6 +32,8 @@ impl Slots {
         ensures empty { IfOk result (λ s. open_records s ≡ []) }
         ensures many { IfOk result (λ s. length s ≡ 1024) }
     {
+        let records = closed_gates(alloc, 1024)?;
+        Ok(Slots { records })
     }
 
     /// The lowest slot whose gate is closed.
@@ -40,6 +42,7 @@ impl Slots {
         ensures none { IfNone result (lowest_closed self.now ≡ 1024) }
         ensures many { length self.now ≡ 1024 }
     {
+        first_closed(&self.records)
     }
 
     /// The lowest slot with a record of this identifier.
@@ -49,6 +52,7 @@ impl Slots {
         ensures none { IfNone result (first_of id (open_records self.now) ≡ None) }
         ensures many { length self.now ≡ 1024 }
     {
+        first_with(&self.records, id)
     }
 
     /// The record of slot k.
@@ -72,5 +76,45 @@ impl Slots {
     pub fn count(&self) -> u16
         ensures { result ≡ length (open_records self.now) }
     {
+        open_gates(&self.records) as u16
     }
+}
+
+// So many slots whose gates are closed.
+fn closed_gates(alloc: Global, n: usize) -> Result<Vec<Option<LogRecord>>, AllocError>
+    ensures closed { IfOk result (λ v. v.items ≡ replicate (length v.items) None) }
+    ensures many { IfOk result (λ v. length v.items ≡ n) }
+{
+    Ok(vec![in alloc; None; n]?)
+}
+
+// The first slot whose gate is closed.
+fn first_closed(slots: &[Option<LogRecord>]) -> Option<usize>
+    ensures { result ≡ position is_none slots.now }
+{
+    slots.iter().position(|s| s.is_none())
+}
+
+// The first slot with a record of this identifier.
+fn first_with(slots: &[Option<LogRecord>], id: u128) -> Option<usize>
+    ensures { result ≡ position (has_record_of id) slots.now }
+{
+    slots.iter().position(|s| has_record(s, id))
+}
+
+// Whether a slot has a record of this identifier.
+fn has_record(slot: &Option<LogRecord>, id: u128) -> bool
+    ensures { result ≡ has_record_of id slot.now }
+{
+    match slot {
+        Some(r) => r.id == id,
+        None => false,
+    }
+}
+
+// How many gates are open.
+fn open_gates(slots: &[Option<LogRecord>]) -> usize
+    ensures { result ≡ count_by is_some slots.now }
+{
+    slots.iter().filter(|s| s.is_some()).count()
 }

@@ -1,0 +1,8 @@
+mod OpenRecords
+mod SlotWrites
+mod Heads
+mod SlotReads
+mod Agreement
+mod Blanks
+mod Loops
+mod Again

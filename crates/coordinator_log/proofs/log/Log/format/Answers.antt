@@ -1,0 +1,18 @@
+use Rattle.std.proofs.Common.{◌∙◌, ap, sym, map, List, Option, Ok}
+use Rattle.dtx_model.specs.Log.{CommitRecord}
+use Rattle.coordinator_log.specs.Slots.{open_records}
+use Rattle.coordinator_log.proofs.Agreement.{log_agrees}
+use Rattle.coordinator_log.proofs.Blanks.{all_closed}
+use Rattle.coordinator_log.proofs.log.Log.format.Goals as goal
+
+pub up-requires-clause-agrees : goal.up-requires-clause-agrees
+up-requires-clause-agrees g c h =
+    record {
+      at_head = c.in-Ok-blank.ensures.at_head h;
+      on_disk = c.in-Ok-blank.ensures.slots h _ c.in-Ok.ensures.many ∙ sym (all_closed c.in-Ok.made.0 c.in-Ok.ensures.empty);
+      durable = c.in-Ok-blank.ensures.durable h;
+    }
+
+pub returns-in-Ok-blank-clause-images : goal.returns-in-Ok-blank-clause-images
+returns-in-Ok-blank-clause-images g c h f left =
+    log_agrees _ _ _ (c.up.result.agrees h c.up.ensures.up) f left ∙ ap (λ (l : List (Option CommitRecord)). Ok (open_records l)) c.up.ensures.slots ∙ ap (λ (l : List CommitRecord). Ok l) c.in-Ok.ensures.empty
