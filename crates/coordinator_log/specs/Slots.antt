@@ -34,11 +34,7 @@ pub record Agrees (seen : List ℕ) (image : List ℕ → Type 0) (slots : List 
 -- the same head, and the slots are these
 pub record HasSlots (was : List ℕ) (held : List Slot) (now : List ℕ) : Type 0 where
   pub same_head : take 512 now ≡ take 512 was
-<<<<<<< HEAD
-  pub held : slots_of now ≡ slots
-=======
   pub slots : slots_of now ≡ held
->>>>>>> 4772f02493f09982aa8c89d0147aa267a76c87e8
 
 -- slot k is as before, or holds this; all else is as before
 abbrev pub IsEither : List ℕ → ℕ → Slot → List ℕ → Type 0
