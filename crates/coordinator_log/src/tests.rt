@@ -64,8 +64,8 @@ fn a_record_stands_until_it_is_freed(rt: HostRuntime) -> Result<(), Fail> {
 
 /// The bytes behind the gate of slot 0 with the record of transaction 1, up to the zeros.
 const FRONT: [u8; 40] = [
-    1, 1, 1, 0, 0, 0, 0, 0, 0, 0, 0, 1, 0, 0, 0, 0, 0, 0, 0, 1, 0, 0, 0, 0, 0, 0, 0, 0, 0, 0, 0, 0, 0,
-    0, 0, 1, 1, 0, 0, 0,
+    1, 1, 1, 0, 0, 0, 0, 0, 0, 0, 0, 1, 0, 0, 0, 0, 0, 0, 0, 1, 0, 0, 0, 0, 0, 0, 0, 0, 0, 0, 0, 0,
+    0, 0, 0, 1, 1, 0, 0, 0,
 ];
 
 #[test]
@@ -85,9 +85,15 @@ fn a_record_has_its_bytes(rt: HostRuntime) -> Result<(), Fail> {
 fn all_slots_take_records_and_then_none_does(rt: HostRuntime) -> Result<(), Fail> {
     let mut log = log(&rt, rt.alloc(), &[])?;
     for number in 1..1025u32 {
-        assert_eq!(rt; log.append(0, &record(&rt, number)), Ok((number - 1) as u16));
+        assert_eq!(rt;
+            log.append(0, &record(&rt, number)),
+            Ok((number - 1) as u16)
+        );
     }
-    assert_eq!(rt; log.append(0, &record(&rt, 1025)), Err(LogRefusal::Full(1024)));
+    assert_eq!(rt;
+        log.append(0, &record(&rt, 1025)),
+        Err(LogRefusal::Full(1024))
+    );
     assert_eq!(rt; log.free(0, id(7)), Ok(()));
     assert_eq!(rt; log.append(0, &record(&rt, 1025)), Ok(6));
     Ok(())
@@ -120,7 +126,10 @@ fn refused_with(
 
 #[test]
 fn bytes_that_are_no_log_are_refused_at_their_place(rt: HostRuntime) -> Result<(), Fail> {
-    assert_eq!(rt; refused(rt.alloc(), disk(rt.alloc(), &[])?), Some(LogRefusal::NotALog(0)));
+    assert_eq!(rt;
+        refused(rt.alloc(), disk(rt.alloc(), &[])?),
+        Some(LogRefusal::NotALog(0))
+    );
     let cases: [(u64, &[u8], Option<LogRefusal>); 6] = [
         (512, &[0], None),
         (1024, &[1], Some(LogRefusal::NotALog(1025))),
@@ -243,7 +252,11 @@ fn a_fault_stops_the_log_at_its_call(rt: HostRuntime) -> Result<(), Fail> {
     let cases = [(5, 0), (6, 0), (7, 0), (8, 1)];
     for (call, found) in cases {
         let mut log = log(&rt, rt.alloc(), &[call])?;
-        assert_eq!(rt; log.append(0, &record(&rt, 1)), Err(LogRefusal::StoppedNow), "at call {call}");
+        assert_eq!(rt;
+            log.append(0, &record(&rt, 1)),
+            Err(LogRefusal::StoppedNow),
+            "at call {call}"
+        );
         assert_eq!(rt; log.reopen(), Ok(found), "at call {call}");
     }
     let mut log = log(&rt, rt.alloc(), &[9])?;
