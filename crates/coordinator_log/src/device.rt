@@ -66,7 +66,13 @@ fn sync<D: Disk>(disk: &mut D, stop: &mut Stop) -> bool
 }
 
 // Writes a record into slot k, whose gate is closed. Its body is laid out in the last 511 bytes of a block.
-fn store_by<D: Disk>(disk: &mut D, stop: &mut Stop, k: usize, r: &LogRecord, block: &mut [u8]) -> bool
+fn store_by<D: Disk>(
+    disk: &mut D,
+    stop: &mut Stop,
+    k: usize,
+    r: &LogRecord,
+    block: &mut [u8],
+) -> bool
     requires slot { k < 1024 }
     requires size { 524800 ≤ D.size disk.old }
     requires block { length block.old ≡ 512 }
@@ -100,7 +106,13 @@ fn store_by<D: Disk>(disk: &mut D, stop: &mut Stop, k: usize, r: &LogRecord, blo
 }
 
 /// Writes a record into slot k, whose gate is closed: true where it is on the disk, false where a call failed or the armed stop was reached.
-pub fn store<D: Disk>(disk: &mut D, stop: &mut Stop, k: usize, r: &LogRecord, scratch: &mut Scratch) -> bool
+pub fn store<D: Disk>(
+    disk: &mut D,
+    stop: &mut Stop,
+    k: usize,
+    r: &LogRecord,
+    scratch: &mut Scratch,
+) -> bool
     requires slot { k < 1024 }
     requires size { 524800 ≤ D.size disk.old }
     requires valid { is_id r.now.id ≡ true }

@@ -46,7 +46,12 @@ fn same(want: &[u8], b: &[u8]) -> Result<usize, usize>
 }
 
 // Reads the head and each slot by way of a block.
-fn read_by<D: Disk>(disk: &mut D, slots: &mut Slots, wanted: &[u8], block: &mut [u8]) -> Result<(), LogRefusal>
+fn read_by<D: Disk>(
+    disk: &mut D,
+    slots: &mut Slots,
+    wanted: &[u8],
+    block: &mut [u8],
+) -> Result<(), LogRefusal>
     requires size { 524800 ≤ D.size disk.old }
     requires block { length block.old ≡ 512 }
     requires head { wanted.now ≡ head }
@@ -84,7 +89,11 @@ fn read_by<D: Disk>(disk: &mut D, slots: &mut Slots, wanted: &[u8], block: &mut 
 }
 
 /// Reads the head and each slot of a log.
-pub fn read_all<D: Disk>(disk: &mut D, slots: &mut Slots, scratch: &mut Scratch) -> Result<(), LogRefusal>
+pub fn read_all<D: Disk>(
+    disk: &mut D,
+    slots: &mut Slots,
+    scratch: &mut Scratch,
+) -> Result<(), LogRefusal>
     requires { 524800 ≤ D.size disk.old }
     ensures seen { IsTrue D.honest → D.seen disk.new ≡ D.seen disk.old }
     ensures images { IsTrue D.honest → AreWithin (D.image disk.old) (D.image disk.new) }

@@ -1,5 +1,5 @@
-use Rattle.std.proofs.Common.{◌≡◌, ◌<◌, refl, true, rules, arith, inl, ◌⊎◌, sym, ap, ◌∙◌, subst, List, Option, None, Some, length, get_or, set}
-use Rattle.dtx_model.specs.Log.{CommitRecord, record_of}
+use Rattle.std.proofs.Common.{◌≡◌, ◌<◌, refl, true, rules, arith, inl, sym, subst, List, Option, None, length, set}
+use Rattle.dtx_model.specs.Log.{CommitRecord}
 use Rattle.coordinator_log.specs.Slots.{Agrees, open_records}
 use Rattle.coordinator_log.proofs.Agreement.{slot_open, log_either, agrees_with, log_agrees, either_whole}
 use Rattle.coordinator_log.proofs.log.Log.free.Goals as goal
@@ -71,4 +71,3 @@ returns-clause-durable g c h f left =
     let s = c.in-Some.ensures.some in
     let lt : k < length ss = omega (arith, s.0, c.in-Some.ensures.many) in
     log_agrees _ _ _ (subst (λ (l : List (Option CommitRecord)). Agrees (g.D.Disk.seen c.clear.new.disk) (g.D.Disk.image c.clear.new.disk) l) (sym c.set.ensures.slots) (agrees_with _ _ ss a k lt (None) _ _ (c.clear.ensures.done h a.durable (slot_open _ _ ss a k lt s.1) c.if-not-clear.false) (c.clear.ensures.durable h c.if-not-clear.false))) f left
-
