@@ -1,9 +1,9 @@
 -- A disk of zeros behind a head holds no record.
 use Rattle.std.specs.Prelude.{replicate}
-use Rattle.std.proofs.Common.{◌≡◌, ℕ, zero, suc, ◌-◌, ◌+◌, ◌*◌, ◌≤◌, List, [], ◌∷◌, ◌++◌, length, get_or, take, drop, map, Option, Ok, Some, None, refl, sym, ap, ◌∙◌, arith}
+use Rattle.std.proofs.Common.{◌≡◌, ℕ, zero, suc, ◌-◌, ◌+◌, ◌*◌, ◌≤◌, List, [], ◌∷◌, ◌++◌, length, get_or, take, drop, map, Ok, Some, None, refl, sym, ap, ◌∙◌, arith}
 use Rattle.std.proofs.lemmas.List.{take_at, drop_at, drop-append-le, drop-replicate, length-replicate, get_or-take, get_or_append_left, get_or-replicate}
 use Rattle.outside.specs.Disk.{overwritten}
-use Rattle.dtx_model.specs.Log.{CommitRecord, Slot, slots_at, slot_at, slots_of, head}
+use Rattle.dtx_model.specs.Log.{Slot, slots_at, slot_at, slots_of, head}
 use Rattle.coordinator_log.specs.Slots.{formed, open_records}
 use Rattle.coordinator_log.proofs.OpenRecords.{Held}
 use Rattle.coordinator_log.proofs.SlotWrites.{closed_slot}

@@ -1,5 +1,5 @@
 //! The log.
-ghost use Rattle.std.specs.Prelude.{◌≡◌, ◌≢◌, ◌⊎◌, ◌↔◌, ◌≤◌, ◌<◌, ◌+◌, ◌-◌, ◌^◌, List, [], ℕ, length, true, IfOk, IfErr, IsOk, OnErr, OnOk, is_ok, if◌then◌else◌, Err, Ok, IsErrOf, IsTrue, IsFalse, None};
+ghost use Rattle.std.specs.Prelude.{◌≡◌, ◌≢◌, ◌⊎◌, ◌↔◌, ◌≤◌, ◌<◌, ◌+◌, ◌-◌, ◌^◌, List, [], ℕ, length, true, IfOk, IfErr, IsOk, OnOk, is_ok, if◌then◌else◌, Err, Ok, IsErrOf, IsTrue, IsFalse, None};
 ghost use Rattle.std.specs.List.{insert};
 ghost use Rattle.std.specs.Option.{option_map};
 ghost use Rattle.outside.specs.Disk.{AreWithin};
