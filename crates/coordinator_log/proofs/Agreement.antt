@@ -6,11 +6,8 @@ use Rattle.std.proofs.lemmas.List.{map-set}
 use Rattle.outside.specs.Disk.{IsOnly}
 use Rattle.dtx_model.specs.Log.{CommitRecord, Slot, ◌>>=◌, records_at, log_has, head, slots_of}
 use Rattle.coordinator_log.specs.Slots.{HasSlots, IsEither, IsOpen, Agrees, formed, open_records, lowest_closed}
+use Rattle.coordinator_log.proofs.OpenRecords.{Held}
 use Rattle.coordinator_log.proofs.Heads.{same_self}
-
--- the slots as contracts see them
-abbrev Held : Type 0
-Held = List (Option CommitRecord)
 
 -- a record in the lowest slot that is closed comes behind the records of those below it
 pub insert_lowest : (ss : Held) (k : ℕ) (r : CommitRecord) → lowest_closed ss ≡ k → k < length ss → open_records (set ss k (Some r)) ≡ insert (open_records ss) k r

@@ -1,10 +1,11 @@
 -- A disk of zeros behind a head holds no record.
 use Rattle.std.specs.Prelude.{replicate}
-use Rattle.std.proofs.Common.{◌≡◌, ℕ, zero, suc, ◌-◌, ◌+◌, ◌*◌, ◌≤◌, List, [], ◌∷◌, ◌++◌, length, get_or, take, drop, map, Option, Ok, Some, None, refl, sym, ap, ◌∙◌, arith}
+use Rattle.std.proofs.Common.{◌≡◌, ℕ, zero, suc, ◌-◌, ◌+◌, ◌*◌, ◌≤◌, List, [], ◌∷◌, ◌++◌, length, get_or, take, drop, map, Ok, Some, None, refl, sym, ap, ◌∙◌, arith}
 use Rattle.std.proofs.lemmas.List.{take_at, drop_at, drop-append-le, drop-replicate, length-replicate, get_or-take, get_or_append_left, get_or-replicate}
 use Rattle.outside.specs.Disk.{overwritten}
-use Rattle.dtx_model.specs.Log.{CommitRecord, Slot, slots_at, slot_at, slots_of, head}
+use Rattle.dtx_model.specs.Log.{Slot, slots_at, slot_at, slots_of, head}
 use Rattle.coordinator_log.specs.Slots.{formed, open_records}
+use Rattle.coordinator_log.proofs.OpenRecords.{Held}
 use Rattle.coordinator_log.proofs.SlotWrites.{closed_slot}
 
 -- slots of zeros hold none
@@ -38,7 +39,7 @@ slots_written b0 b1 b3 z w n zeros many long p1 p3 e =
     ap (λ (k : ℕ). slots_at k (drop 512 b3)) (sym e) ∙ ap (slots_at n) back ∙ slots_zero n (length z - 512) rest (omega arith)
 
 -- slots in memory without records are closed
-pub all_closed : (vs : List (Option CommitRecord)) → open_records vs ≡ [] → map formed vs ≡ replicate (length vs) (Ok None)
+pub all_closed : (vs : Held) → open_records vs ≡ [] → map formed vs ≡ replicate (length vs) (Ok None)
 all_closed [] e = refl
 all_closed (None ∷ vs) e = ap (λ (l : List Slot). Ok None ∷ l) (all_closed vs e)
 all_closed (Some r ∷ vs) e = absurd cc

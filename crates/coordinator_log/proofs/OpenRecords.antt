@@ -12,8 +12,12 @@ use Rattle.dtx_values.specs.declared.record.LogRecord.{LogRecord}
 use Rattle.dtx_model.specs.Log.{CommitRecord, first_of, record_of, without_first_of}
 use Rattle.coordinator_log.specs.Slots.{has_record_of, lowest_closed, open_records}
 
--- the slots as contracts see them
-abbrev pub records_in : List (Option LogRecord) → List (Option CommitRecord)
+-- slots, as contracts see them
+abbrev pub Held : Type 0
+Held = List (Option CommitRecord)
+
+-- the slots of the program, as contracts see them
+abbrev pub records_in : List (Option LogRecord) → Held
 records_in ss = map (option_map record_of) ss
 
 -- ---- where a test passes first
@@ -41,7 +45,7 @@ lowest_is (None ∷ ss) = refl
 lowest_is (Some r ∷ ss) = let h = lowest_is ss in omega arith
 
 -- no number of closed slots is past the last
-lowest_within : (vs : List (Option CommitRecord)) → lowest_closed vs ≤ length vs
+lowest_within : (vs : Held) → lowest_closed vs ≤ length vs
 lowest_within [] = omega arith
 lowest_within (None ∷ vs) = omega arith
 lowest_within (Some r ∷ vs) = let h = lowest_within vs in omega arith
@@ -63,15 +67,15 @@ pub none_closed : (ss : List (Option LogRecord)) → position is_none ss ≡ Non
 none_closed ss e = omega (arith, lowest_is ss, none_passes is_none ss e, lowest_within (records_in ss), length-map ss (option_map record_of))
 
 -- the same, of what a search found
-pub closed_some : (ss : List (Option LogRecord)) (vs : List (Option CommitRecord)) (n : ℕ) (found : Option ℕ) → records_in ss ≡ vs → length ss ≡ n → found ≡ position is_none ss
+pub closed_some : (ss : List (Option LogRecord)) (vs : Held) (n : ℕ) (found : Option ℕ) → records_in ss ≡ vs → length ss ≡ n → found ≡ position is_none ss
     → IfSome found (λ k. (k < n) × (get_or vs k None ≡ None) × (lowest_closed vs ≡ k))
 closed_some ss vs n None view long e = tt
 closed_some ss vs n (Some k) view long e =
     let at = closed_at ss k (sym e) in
-    (omega (arith, at.0), ap (λ (l : List (Option CommitRecord)). get_or l k None) (sym view) ∙ at.1, ap lowest_closed (sym view) ∙ at.2)
+    (omega (arith, at.0), ap (λ (l : Held). get_or l k None) (sym view) ∙ at.1, ap lowest_closed (sym view) ∙ at.2)
 
 -- the same, where none was found
-pub closed_none : (ss : List (Option LogRecord)) (vs : List (Option CommitRecord)) (n : ℕ) (found : Option ℕ) → records_in ss ≡ vs → length ss ≡ n → found ≡ position is_none ss
+pub closed_none : (ss : List (Option LogRecord)) (vs : Held) (n : ℕ) (found : Option ℕ) → records_in ss ≡ vs → length ss ≡ n → found ≡ position is_none ss
     → IfNone found (lowest_closed vs ≡ n)
 closed_none ss vs n None view long e = ap lowest_closed (sym view) ∙ none_closed ss (sym e) ∙ long
 closed_none ss vs n (Some k) view long e = tt
@@ -119,19 +123,19 @@ pub none_found : (ss : List (Option LogRecord)) (id : ℕ) → position (has_rec
 none_found ss id e = no_first id ss (none_passes (has_record_of id) ss e)
 
 -- the same, of what a search found
-pub found_some : (ss : List (Option LogRecord)) (vs : List (Option CommitRecord)) (n id : ℕ) (found : Option ℕ) → records_in ss ≡ vs → length ss ≡ n → found ≡ position (has_record_of id) ss
+pub found_some : (ss : List (Option LogRecord)) (vs : Held) (n id : ℕ) (found : Option ℕ) → records_in ss ≡ vs → length ss ≡ n → found ≡ position (has_record_of id) ss
     → IfSome found (λ k. (k < n) × IsSome (get_or vs k None) × (first_of id (open_records vs) ≡ get_or vs k None))
 found_some ss vs n id None view long e = tt
 found_some ss vs n id (Some k) view long e = let at = found_at ss id k (sym e) in (omega (arith, at.0), rw (← view) at.1, rw (← view) at.2)
 
 -- what is left where it is taken out
-pub found_rest : (ss : List (Option LogRecord)) (vs : List (Option CommitRecord)) (id : ℕ) (found : Option ℕ) → records_in ss ≡ vs → found ≡ position (has_record_of id) ss
+pub found_rest : (ss : List (Option LogRecord)) (vs : Held) (id : ℕ) (found : Option ℕ) → records_in ss ≡ vs → found ≡ position (has_record_of id) ss
     → IfSome found (λ k. open_records (set vs k None) ≡ without_first_of id (open_records vs))
 found_rest ss vs id None view e = tt
 found_rest ss vs id (Some k) view e = rw (← view) (found_at ss id k (sym e)).3
 
 -- the same, where none was found
-pub found_none : (ss : List (Option LogRecord)) (vs : List (Option CommitRecord)) (id : ℕ) (found : Option ℕ) → records_in ss ≡ vs → found ≡ position (has_record_of id) ss
+pub found_none : (ss : List (Option LogRecord)) (vs : Held) (id : ℕ) (found : Option ℕ) → records_in ss ≡ vs → found ≡ position (has_record_of id) ss
     → IfNone found (first_of id (open_records vs) ≡ None)
 found_none ss vs id None view e = rw (← view) (none_found ss id (sym e))
 found_none ss vs id (Some k) view e = tt

@@ -3,12 +3,9 @@ use Rattle.std.proofs.Common.{◌≡◌, ℕ, zero, suc, ◌+◌, ◌*◌, ◌�
 use Rattle.std.proofs.lemmas.List.{take_more, take_more_set, map_push, take_all}
 use Rattle.dtx_model.specs.Log.{CommitRecord, Slot, ◌>>=◌, records_at, log_has, head, slots_of, slot_at}
 use Rattle.coordinator_log.specs.Slots.{formed}
+use Rattle.coordinator_log.proofs.OpenRecords.{Held}
 use Rattle.coordinator_log.proofs.Heads.{same_self}
 use Rattle.coordinator_log.proofs.SlotWrites.{slot_is, slots_long, length-slots_of}
-
--- the slots as contracts see them
-abbrev Held : Type 0
-Held = List (Option CommitRecord)
 
 -- the first of some slots, and the rest
 first_slot : (s : Slot) (t : Option CommitRecord) (ss ts : List Slot) → s ∷ ss ≡ formed t ∷ ts → (s ≡ formed t) × (ss ≡ ts)

@@ -1,5 +1,5 @@
 //! The log.
-ghost use Rattle.std.specs.Prelude.{◌≡◌, ◌≢◌, ◌⊎◌, ◌↔◌, ◌≤◌, ◌<◌, ◌+◌, ◌-◌, ◌^◌, List, [], ℕ, length, true, IfOk, IfErr, IsOk, OnErr, OnOk, is_ok, if◌then◌else◌, Err, Ok, IsErrOf, IsTrue, IsFalse, None};
+ghost use Rattle.std.specs.Prelude.{◌≡◌, ◌≢◌, ◌⊎◌, ◌↔◌, ◌≤◌, ◌<◌, ◌+◌, ◌-◌, ◌^◌, List, [], ℕ, length, true, IfOk, IfErr, IsOk, OnOk, is_ok, if◌then◌else◌, Err, Ok, IsErrOf, IsTrue, IsFalse, None};
 ghost use Rattle.std.specs.List.{insert};
 ghost use Rattle.std.specs.Option.{option_map};
 ghost use Rattle.outside.specs.Disk.{AreWithin};
@@ -65,7 +65,7 @@ impl<D: Disk> Log<D> {
             Err(_) => return Err((LogRefusal::Memory, disk)),
         };
         match blank(&mut disk, &blanks, &scratch.wanted) {
-            Ok(()) => Ok(Log::up(disk, slots, scratch)),
+            Ok(()) => Ok(Log::over(disk, slots, scratch)),
             Err(_) => Err((LogRefusal::Fault, disk)),
         }
     }
@@ -102,7 +102,7 @@ impl<D: Disk> Log<D> {
             Err(_) => return Err((LogRefusal::Fault, disk)),
         }
         match read_all(&mut disk, &mut slots, &mut scratch) {
-            Ok(()) => Ok(Log::up(disk, slots, scratch)),
+            Ok(()) => Ok(Log::over(disk, slots, scratch)),
             Err(e) => Err((e, disk)),
         }
     }
@@ -278,13 +278,14 @@ impl<D: Disk> Log<D> {
     /// Hands the disk back.
     pub fn into_disk(self) -> D
         ensures disk { result ≡ self.disk }
+        ensures room { 524800 ≤ D.size result }
         ensures images { IsTrue D.honest → IsTrue self.up → (c : List ℕ) → D.image result c → log_has c ≡ Ok (open_records self.slots) }
     {
         self.disk
     }
 
-    // A log in its first life, with no stop armed.
-    fn up(disk: D, slots: Slots, scratch: Scratch) -> Log<D>
+    // The log over a disk that has these slots, in its first life, with no stop armed.
+    fn over(disk: D, slots: Slots, scratch: Scratch) -> Log<D>
         requires agrees { IsTrue D.honest → Agrees (D.seen disk) (D.image disk) slots }
         requires room { 524800 ≤ D.size disk }
         ensures disk { result.disk ≡ disk }

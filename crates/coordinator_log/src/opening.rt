@@ -1,5 +1,5 @@
 //! Reads a log from a disk.
-ghost use Rattle.std.specs.Prelude.{◌≡◌, ◌⊎◌, ◌≤◌, ◌<◌, List, ℕ, length, map, take, IfErr, OnOk, IsErrOf, IsTrue, Err, Ok, Option};
+ghost use Rattle.std.specs.Prelude.{◌≡◌, ◌⊎◌, ◌≤◌, ◌<◌, ℕ, length, map, take, IfErr, OnOk, IsErrOf, IsTrue, Err, Ok, Option};
 ghost use Rattle.std.specs.Option.{option_map};
 ghost use Rattle.outside.specs.Disk.{AreWithin};
 ghost use Rattle.outside.specs.Faults.{Rose};

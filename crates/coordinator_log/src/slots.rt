@@ -1,5 +1,5 @@
 //! The slots in memory.
-ghost use Rattle.std.specs.Prelude.{◌≡◌, ◌≤◌, ◌<◌, ◌≢◌, [], None, Some, length, replicate, set, slice_index_or, IfNone, IfOk, IfSome, IsSome, count_by, is_none, is_some, position};
+ghost use Rattle.std.specs.Prelude.{◌≡◌, ◌<◌, [], None, Some, length, replicate, set, slice_index_or, IfNone, IfOk, IfSome, IsSome, count_by, is_none, is_some, position};
 ghost use Rattle.std.specs.Option.{option_map};
 ghost use Rattle.dtx_model.specs.Log.{first_of, record_of, without_first_of};
 ghost use Rattle.coordinator_log.specs.Slots.{has_record_of, lowest_closed, open_records};

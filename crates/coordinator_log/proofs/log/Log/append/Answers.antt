@@ -1,4 +1,4 @@
-use Rattle.std.proofs.Common.{◌≡◌, ◌<◌, refl, true, rules, arith, inl, ◌⊎◌, sym, ap, ◌∙◌, subst, List, Option, None, Some, length, get_or, set}
+use Rattle.std.proofs.Common.{◌≡◌, ◌<◌, refl, true, rules, arith, inl, sym, ap, ◌∙◌, subst, List, Option, None, Some, length, set}
 use Rattle.dtx_model.specs.Log.{CommitRecord, record_of}
 use Rattle.coordinator_log.specs.Slots.{Agrees, open_records}
 use Rattle.coordinator_log.proofs.Agreement.{insert_lowest, slot_formed, log_either, either_appended, agrees_with, log_agrees, either_whole}

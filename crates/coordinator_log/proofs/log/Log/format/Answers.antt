@@ -1,12 +1,12 @@
-use Rattle.std.proofs.Common.{◌∙◌, ap, sym, map, List, Option, Ok}
+use Rattle.std.proofs.Common.{◌∙◌, ap, sym, List, Option, Ok}
 use Rattle.dtx_model.specs.Log.{CommitRecord}
 use Rattle.coordinator_log.specs.Slots.{open_records}
 use Rattle.coordinator_log.proofs.Agreement.{log_agrees}
 use Rattle.coordinator_log.proofs.Blanks.{all_closed}
 use Rattle.coordinator_log.proofs.log.Log.format.Goals as goal
 
-pub up-requires-clause-agrees : goal.up-requires-clause-agrees
-up-requires-clause-agrees g c h =
+pub over-requires-clause-agrees : goal.over-requires-clause-agrees
+over-requires-clause-agrees g c h =
     record {
       at_head = c.in-Ok-blank.ensures.at_head h;
       on_disk = c.in-Ok-blank.ensures.slots h _ c.in-Ok.ensures.many ∙ sym (all_closed c.in-Ok.made.0 c.in-Ok.ensures.empty);
@@ -15,4 +15,4 @@ up-requires-clause-agrees g c h =
 
 pub returns-in-Ok-blank-clause-images : goal.returns-in-Ok-blank-clause-images
 returns-in-Ok-blank-clause-images g c h f left =
-    log_agrees _ _ _ (c.up.result.agrees h c.up.ensures.up) f left ∙ ap (λ (l : List (Option CommitRecord)). Ok (open_records l)) c.up.ensures.slots ∙ ap (λ (l : List CommitRecord). Ok l) c.in-Ok.ensures.empty
+    log_agrees _ _ _ (c.over.result.agrees h c.over.ensures.up) f left ∙ ap (λ (l : List (Option CommitRecord)). Ok (open_records l)) c.over.ensures.slots ∙ ap (λ (l : List CommitRecord). Ok l) c.in-Ok.ensures.empty

@@ -1,5 +1,5 @@
-use Rattle.std.proofs.Common.{◌≡◌, ◌<◌, refl, true, rules, arith, inl, ◌⊎◌, sym, ap, ◌∙◌, subst, List, Option, None, Some, length, get_or, set}
-use Rattle.dtx_model.specs.Log.{CommitRecord, record_of}
+use Rattle.std.proofs.Common.{◌≡◌, ◌<◌, refl, true, rules, arith, inl, sym, subst, List, Option, None, length, set}
+use Rattle.dtx_model.specs.Log.{CommitRecord}
 use Rattle.coordinator_log.specs.Slots.{Agrees, open_records}
 use Rattle.coordinator_log.proofs.Agreement.{slot_open, log_either, agrees_with, log_agrees, either_whole}
 use Rattle.coordinator_log.proofs.log.Log.free.Goals as goal

@@ -7,7 +7,7 @@ use Rattle.coordinator_log.proofs.log.Log.from_disk.Goals as goal
 pub returns-in-Ok-read_all-clause-records : goal.returns-in-Ok-read_all-clause-records
 returns-in-Ok-read_all-clause-records g c h =
     ap log_has (sym (c.in-Ok-sync.ensures.seen h)) ∙ log_is (g.D.Disk.seen c.sync.new.self) c.read_all.new.slots (c.in-Ok-read_all.ensures.at_head h) (c.in-Ok-read_all.ensures.slots h)
-    ∙ ap (λ (l : List (Option CommitRecord)). Ok (open_records l)) (sym c.up.ensures.slots)
+    ∙ ap (λ (l : List (Option CommitRecord)). Ok (open_records l)) (sym c.over.ensures.slots)
 
 pub returns-in-Ok-read_all-clause-images : goal.returns-in-Ok-read_all-clause-images
-returns-in-Ok-read_all-clause-images g c h = log_agrees _ _ _ (c.up.result.agrees h c.up.ensures.up)
+returns-in-Ok-read_all-clause-images g c h = log_agrees _ _ _ (c.over.result.agrees h c.over.ensures.up)

@@ -1,4 +1,4 @@
-use Rattle.std.proofs.Common.{◌≡◌, ◌∙◌, [], ◌∷◌, ◌++◌, ap, length, List, ℕ, arith}
+use Rattle.std.proofs.Common.{◌≡◌, ◌∙◌, [], ◌∷◌, ◌++◌, ap, length, List, ℕ}
 use Rattle.std.specs.Prelude.{replicate}
 use Rattle.coordinator_log.proofs.Heads.{head_made, head_long}
 use Rattle.coordinator_log.proofs.scratch.Scratch.new.Goals as goal

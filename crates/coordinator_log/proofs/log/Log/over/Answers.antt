@@ -1,7 +1,7 @@
 use Rattle.std.specs.Prelude.{is_ok}
 use Rattle.std.proofs.Common.{ap}
 use Rattle.coordinator_log.proofs.Agreement.{log_agrees}
-use Rattle.coordinator_log.proofs.log.Log.up.Goals as goal
+use Rattle.coordinator_log.proofs.log.Log.over.Goals as goal
 
 pub invariant_of-result : goal.invariant_of-result
 invariant_of-result g c = record {
