@@ -4,12 +4,10 @@
 //! direction. (A definition of this project, after the connections of the coordinator's protocol.)
 #![tactic(auto)]
 
+mod link;
 mod packet;
+mod queue;
 mod refusal;
-mod session;
-#[cfg(test)]
-mod tests;
 
 pub use oletx_frames::FrameRefusal;
 pub use refusal::SessionRefusal;
-pub use session::{Delivered, Session};
