@@ -1,5 +1,5 @@
 -- Links in a list.
-use Rattle.std.proofs.Common.{◌≡◌, ℕ, zero, suc, ◌<◌, Bool, true, false, List, [], ◌∷◌, ◌++◌, length, get_or, set, position, Option, Some, None, is_some, refl, ap, sym, subst, ◌∙◌, arith, cond, inl, inr, nat_lt}
+use Rattle.std.proofs.Common.{◌≡◌, ℕ, zero, suc, ◌<◌, ◌≤◌, Bool, true, false, List, [], ◌∷◌, ◌++◌, length, get_or, set, position, Option, Some, None, is_some, refl, ap, sym, subst, ◌∙◌, arith, cond, inl, inr, nat_lt}
 use Rattle.std.specs.List.{find, position_or_len}
 use Rattle.std.proofs.lemmas.Bool.{cond-true, cond-false, cases_Bool, ltb-false}
 use Rattle.std.proofs.lemmas.List.Folds.{find_at}
@@ -58,11 +58,13 @@ module _ {X : Type 0} where
         | inr fails ↦ ap is_some (find_past p x xs fails) ∙ found_at p xs i d (omega arith) passes
       ]
 
-  -- where there is no first place, nothing is found
+  -- where there is no first place, the place that is looked for is past the end
+  pub no_place : (p : X → Bool) (xs : List X) → position p xs ≡ None → length xs ≤ position_or_len p xs
+  no_place p xs none = let i = position_or_len p xs in ltb-false i (length xs) (none_where (nat_lt i (length xs)) i none)
+
+  -- then nothing is found
   pub not_found : (p : X → Bool) (xs : List X) → position p xs ≡ None → find p xs ≡ None
-  not_found p xs none =
-      let i = position_or_len p xs in
-      find_at p xs ∙ slice_get_past xs i (ltb-false i (length xs) (none_where (nat_lt i (length xs)) i none))
+  not_found p xs none = find_at p xs ∙ slice_get_past xs (position_or_len p xs) (no_place p xs none)
 
 -- where a connection has a link, its place is found
 pub link_at : (ls : List Link) (l : Link) (i : ℕ) → position (is_of l.connection) ls ≡ Some i → is_some (link_of l.connection ls) ≡ true

@@ -2,8 +2,11 @@
 use Rattle.std.proofs.Common.{◌≡◌, ℕ, zero, suc, ◌+◌, ◌<◌, ◌≤◌, min, Bool, true, false, ◌&&◌, cond, List, [], ◌∷◌, ◌++◌, length, get_or, take, drop, position, filter, Some, None, refl, ap, sym, subst, ◌∙◌, arith, inl, inr, drop-cons}
 use Rattle.std.specs.List.{remove}
 use Rattle.std.proofs.lemmas.Bool.{and_cases, and_parts, cases_Bool, cond-false, cond-true, false≢true}
-use Rattle.std.proofs.lemmas.List.{length-append, length-take, take-append-drop, take_all, take_at, take-append-le, append-nil}
+use Rattle.std.proofs.lemmas.List.{length-take, take-append-drop, take_all, take_at, length-take-le}
 use Rattle.std.proofs.lemmas.List.Elements.{filter-append}
+use Rattle.std.proofs.lemmas.List.Edits.{length-remove}
+use Rattle.std.proofs.lemmas.List.Filters.{length-filter_more}
+use Rattle.std.proofs.lemmas.List.Sums.{fails_before_first}
 use Rattle.std.proofs.lemmas.List.Quantifiers.{position-Some}
 use Rattle.dtx_values.specs.declared.message.Conn.{Conn}
 use Rattle.dtx_values.specs.declared.message.Dir.{Dir}
@@ -11,6 +14,7 @@ use Rattle.dtx_model.specs.Wires.{same_connection, same_direction}
 use Rattle.oletx_session.specs.declared.packet.Packet.{Packet}
 use Rattle.oletx_session.specs.Queues.{AreSameElse, is_on, on_way}
 use Rattle.oletx_session.proofs.Conns.{same_is, same_way_is}
+use Rattle.oletx_session.proofs.Links.{no_place}
 
 module _ {X : Type 0} where
   -- a list is what stands before an item, the item and what stands behind it
@@ -44,7 +48,11 @@ module _ {X : Type 0} where
 
   -- where none passes at any place, nothing is kept
   pub filter_none : (p : X → Bool) (xs : List X) → position p xs ≡ None → filter p xs ≡ []
-  filter_none p xs none = ?
+  filter_none p [] none = refl
+  filter_none p (x ∷ xs) none =
+      let all = x ∷ xs in
+      let past = no_place p all none in
+      ap (filter p) (sym (take_all (length all) all (omega arith))) ∙ filter_before p all (length all) x (λ k h. fails_before_first p all k x (omega arith))
 
   -- the first that passes is taken out
   pub filter_first : (p : X → Bool) (xs : List X) (i : ℕ) (x : X) → position p xs ≡ Some i → x ≡ get_or xs i x → filter p xs ≡ x ∷ filter p (remove xs i)
@@ -81,3 +89,65 @@ pub record CutTo (c : Conn) (d : Dir) (keep kept place : ℕ) (old new : List Pa
   pub few : kept ≤ keep
   pub same : take keep (on_way c d new) ≡ take keep (on_way c d old)
   pub others : AreSameElse c d old new
+
+-- before the first step
+pub cut_start : (c : Conn) (d : Dir) (keep : ℕ) (ps : List Packet) → CutTo c d keep 0 0 ps ps
+cut_start c d keep ps = record { within = omega arith; counted = refl; few = omega arith; same = refl; others = λ x e other. refl }
+
+-- a packet of another lane is passed
+pub cut_past : (c : Conn) (d : Dir) (keep kept place : ℕ) (old new : List Packet) (p : Packet) → CutTo c d keep kept place old new → place < length new → p ≡ get_or new place p
+    → is_on c d p ≡ false → CutTo c d keep kept (place + 1) old new
+cut_past c d keep kept place old new p so_far within is off =
+    let P : Packet → Type 0 = λ q. is_on c d q ≡ false in
+    let none = cond-false {A = ℕ} (is_on c d (get_or new place p)) 1 0 (subst P is off) in
+    record {
+      within = omega arith;
+      counted = omega (arith, length-filter_more (is_on c d) new place p within, none, so_far.counted);
+      few = so_far.few;
+      same = so_far.same;
+      others = so_far.others;
+    }
+
+-- a packet of the lane is kept
+pub cut_kept : (c : Conn) (d : Dir) (keep kept place : ℕ) (old new : List Packet) (p : Packet) → CutTo c d keep kept place old new → place < length new → p ≡ get_or new place p
+    → is_on c d p ≡ true → kept < keep → CutTo c d keep (kept + 1) (place + 1) old new
+cut_kept c d keep kept place old new p so_far within is on more =
+    let P : Packet → Type 0 = λ q. is_on c d q ≡ true in
+    let one = cond-true {A = ℕ} (is_on c d (get_or new place p)) 1 0 (subst P is on) in
+    record {
+      within = omega arith;
+      counted = omega (arith, length-filter_more (is_on c d) new place p within, one, so_far.counted);
+      few = omega arith;
+      same = so_far.same;
+      others = so_far.others;
+    }
+
+-- a packet of the lane beyond those that are kept is taken out
+pub cut_out : (c : Conn) (d : Dir) (keep kept place : ℕ) (old new : List Packet) (p : Packet) → CutTo c d keep kept place old new → place < length new → p ≡ get_or new place p
+    → is_on c d p ≡ true → keep ≤ kept → CutTo c d keep kept place old (remove new place)
+cut_out c d keep kept place old new p so_far within is on enough =
+    let on_lane = is_on c d in
+    let front = take place new in
+    let back = drop (suc place) new in
+    let full : length (filter on_lane front) ≡ keep = omega (arith, so_far.counted, so_far.few) in
+    let same_front : take place (remove new place) ≡ front = take_at front back place (length-take-le place new so_far.within) in
+    record {
+      within = omega (arith, length-remove new place within);
+      counted = ap (λ xs. length (filter on_lane xs)) same_front ∙ so_far.counted;
+      few = so_far.few;
+      same =
+        ap (take keep) (filter_remove on_lane new place) ∙ take_at (filter on_lane front) (filter on_lane back) keep full
+        ∙ sym (ap (take keep) (filter_split on_lane new place p within is on) ∙ take_at (filter on_lane front) (p ∷ filter on_lane back) keep full) ∙ so_far.same;
+      others = λ x e other. else_remove c d new place p within is on x e other ∙ so_far.others x e other;
+    }
+
+-- behind the last packet so many are left as there were or as are to be kept
+pub cut_left : (c : Conn) (d : Dir) (keep kept place : ℕ) (old new : List Packet) → CutTo c d keep kept place old new → length new ≤ place → on_way c d new ≡ take keep (on_way c d old)
+cut_left c d keep kept place old new so_far end =
+    let all = ap (λ xs. length (on_way c d xs)) (take_all place new end) in
+    sym (take_all keep (on_way c d new) (omega (arith, all, so_far.counted, so_far.few))) ∙ so_far.same
+
+-- and their number was counted
+pub cut_count : (c : Conn) (d : Dir) (keep kept place : ℕ) (old new : List Packet) → CutTo c d keep kept place old new → length new ≤ place → kept ≡ min keep (length (on_way c d old))
+cut_count c d keep kept place old new so_far end =
+    sym so_far.counted ∙ ap (λ xs. length (on_way c d xs)) (take_all place new end) ∙ ap length (cut_left c d keep kept place old new so_far end) ∙ length-take keep (on_way c d old)

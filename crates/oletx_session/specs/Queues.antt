@@ -1,5 +1,5 @@
 -- The packets on the way, and what is seen of them.
-use Rattle.std.specs.Prelude.{◌≡◌, ℕ, Bool, true, false, ◌&&◌, List, [], ◌∷◌, ◌++◌, map, filter, take, Option, Some, None}
+use Rattle.std.specs.Prelude.{◌≡◌, ℕ, Bool, true, false, ◌&&◌, not, List, [], ◌∷◌, ◌++◌, map, filter, take, Option, Some, None}
 use Rattle.std.specs.List.{find, flat_map}
 use Rattle.dtx_values.specs.declared.message.Conn.{Conn}
 use Rattle.dtx_values.specs.declared.message.Dir.{Dir}
@@ -68,6 +68,14 @@ pub record Changes (c : Conn) (l : Link) (old new : List Link) : Type 0 where
 abbrev pub has_ended : Dir → Link → Bool
 has_ended Up l = l.up_ended
 has_ended Down l = l.down_ended
+
+-- the connection is lost, and its end wasn't seen in this direction
+abbrev pub is_ending : Dir → Link → Bool
+is_ending d l = l.lost && not (has_ended d l)
+
+-- the link once the connection is lost
+abbrev pub lost_link : Link → Link
+lost_link l = record l { lost = true }
 
 -- the link with its end seen in this direction
 abbrev pub ended_in : Dir → Link → Link

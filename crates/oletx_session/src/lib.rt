@@ -8,6 +8,8 @@ mod link;
 mod packet;
 mod queue;
 mod refusal;
+mod session;
 
 pub use oletx_frames::FrameRefusal;
 pub use refusal::SessionRefusal;
+pub use session::{Delivered, Session};

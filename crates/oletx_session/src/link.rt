@@ -2,7 +2,7 @@
 ghost use Rattle.std.specs.Prelude.{◌≡◌, ◌≤◌, ◌+◌, Some, IfNone, IfSome, OnErr, OnOk, is_some, length, position, vec_capacity, vec_len};
 ghost use Rattle.std.specs.Bool.{OnFalse, OnTrue};
 ghost use Rattle.dtx_model.specs.Wires.{same_connection};
-ghost use Rattle.oletx_session.specs.Queues.{Changes, ended_in, has_ended, is_of, link_of, new_link};
+ghost use Rattle.oletx_session.specs.Queues.{Changes, ended_in, has_ended, is_ending, is_of, link_of, lost_link, new_link};
 
 use dtx_values::{Conn, Dir};
 use std::alloc::AllocError;
@@ -39,6 +39,20 @@ impl Link {
             Dir::Up => self.up_ended,
             Dir::Down => self.down_ended,
         }
+    }
+
+    /// Whether the connection is lost, and its end wasn't seen in this direction.
+    pub(crate) fn is_ending(&self, d: Dir) -> bool
+        ensures { result ≡ is_ending d self.now }
+    {
+        self.lost && !self.has_ended(d)
+    }
+
+    /// The link once the connection is lost.
+    pub(crate) fn lost(self) -> Self
+        ensures { result ≡ lost_link self }
+    {
+        Link { lost: true, ..self }
     }
 
     /// The link with the connection's end seen in this direction.

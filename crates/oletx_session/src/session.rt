@@ -1,0 +1,231 @@
+//! The connections of one transaction.
+ghost use Rattle.std.specs.Prelude.{◌≡◌, ◌≢◌, ◌⊎◌, ◌↔◌, ◌≤◌, ◌<◌, ◌+◌, ◌++◌, List, [], ℕ, Bool, Some, None, Err, true, false, length, min, take, IfOk, IfErr, IfSome, OnErr, OnOk, IsTrue, IsErrOf};
+ghost use Rattle.std.specs.List.{flat_map};
+ghost use Rattle.dtx_values.specs.declared.entry.Entry.{Entry};
+ghost use Rattle.dtx_values.specs.declared.entry.Entry.TheVariants.{Cut, Down as End, Got, Sent};
+ghost use Rattle.dtx_values.specs.declared.message.Dir.TheVariants.{Up, Down};
+ghost use Rattle.dtx_values.specs.declared.message.Message.{Message};
+ghost use Rattle.dtx_model.specs.Frames.{IsFrame, frame_of, is_valid};
+ghost use Rattle.dtx_model.specs.Messages.{has_line};
+ghost use Rattle.dtx_model.specs.Wires.{MayCross, is_stopped, opens};
+ghost use Rattle.oletx_frames.specs.declared.refusal.FrameRefusal.{FrameRefusal};
+ghost use Rattle.oletx_session.specs.Traffic.{Becomes, Delivers, Ends, IsCut, Spells, fresh, has_left, is_open, is_taken, lane, may_send, opposite, sent_on, wire_of};
+ghost use Rattle.oletx_session.specs.Queues.{frame_in};
+ghost use Rattle.oletx_session.specs.Carries.{Carries, IsStarted};
+
+use crate::link::{Link, link_of, put, replace};
+use crate::packet::Packet;
+use crate::queue::{cut, is_any_on, take_first};
+use crate::refusal::SessionRefusal;
+use dtx_values::{Conn, Dir, Message, ROOM};
+use oletx_frames::FrameRefusal;
+use std::alloc::{AllocError, Global};
+use std::marker::Model;
+
+/// What is delivered to one side of a connection.
+#[derive(Clone, Copy, PartialEq, Eq, Debug)]
+pub enum Delivered {
+    /// The next message.
+    Msg(Message),
+    /// The bytes on the way don't begin with a frame.
+    BadFrame(FrameRefusal),
+    /// The end of the connection.
+    End,
+}
+
+/// The connections of one transaction.
+///
+/// A clause sees the connections that were started, each with the bytes on the way in both directions, and the room for calls of `start` and `send`.
+#[derive(Drop)]
+pub struct Session {
+    links: Vec<Link>,
+    /// What is on the way on all connections, in the order in which it was sent.
+    packets: Vec<Packet>,
+}
+
+impl Model for Session {
+    ghost use Rattle.std.specs.Prelude.{◌-◌, vec_capacity, vec_len};
+    ghost use Rattle.oletx_session.specs.Queues.{HasNoStray, wires_in};
+    ghost use Rattle.oletx_session.specs.Traffic.{Traffic};
+
+    ghost Value = { Traffic };
+
+    ghost invariant = { λ s. HasNoStray s.links.items s.packets.items };
+
+    ghost view = { λ s. record {
+      wires = wires_in s.packets.items s.links.items;
+      start_room = vec_capacity s.links - vec_len s.links;
+      send_room = vec_capacity s.packets - vec_len s.packets;
+    } };
+}
+
+/// The other direction.
+fn opposite(d: Dir) -> Dir
+    ensures { result ≡ opposite d }
+{
+    match d {
+        Dir::Up => Dir::Down,
+        Dir::Down => Dir::Up,
+    }
+}
+
+/// What is delivered with a packet.
+fn content_of(packet: &Packet) -> Delivered
+    ensures message { (m : Message) → result ≡ Delivered.Msg m → IsFrame (frame_in packet.now) m }
+    ensures never { (e : FrameRefusal) → result ≢ Delivered.BadFrame e }
+    ensures more { result ≢ Delivered.End }
+{
+    match packet.message() {
+        Ok(m) => Delivered::Msg(m),
+        Err(refusal) => Delivered::BadFrame(refusal),
+    }
+}
+
+impl Session {
+    /// No connection was started.
+    pub fn new(alloc: Global) -> Result<Session, AllocError>
+        ensures none { IfOk result (λ s. s.wires ≡ []) }
+    {
+        Ok(Session {
+            links: Vec::with_capacity(alloc, ROOM)?,
+            packets: Vec::with_capacity(alloc, ROOM)?,
+        })
+    }
+
+    /// Makes room for [`ROOM`] (64) calls of `start` and as many of `send`. While it lasts, neither needs memory.
+    pub fn reserve(&mut self) -> Result<(), AllocError>
+        ensures same { self.new.wires ≡ self.old.wires }
+        ensures room { OnOk result ((64 ≤ self.new.start_room) × (64 ≤ self.new.send_room)) }
+        ensures start_room { self.old.start_room ≤ self.new.start_room }
+        ensures send_room { self.old.send_room ≤ self.new.send_room }
+    {
+        self.links.reserve(ROOM)?;
+        self.packets.reserve(ROOM)
+    }
+
+    /// Starts a connection. Nothing is on the way yet.
+    ///
+    /// # Errors
+    ///
+    /// - [`SessionRefusal::Taken`] exactly where the connection is open or has something left to deliver.
+    /// - [`SessionRefusal::Memory`], only where no room is left.
+    pub fn start(&mut self, c: Conn) -> Result<(), SessionRefusal>
+        ensures started { OnOk result (Becomes c (fresh c) self.old.wires self.new.wires) }
+        ensures taken { IsErrOf result (SessionRefusal.Taken c) ↔ (is_taken (wire_of c self.old.wires) ≡ true) }
+        ensures memory { IsErrOf result SessionRefusal.Memory → self.old.start_room ≡ 0 }
+        ensures only { IfErr result (λ e. (e ≡ SessionRefusal.Taken c) ⊎ (e ≡ SessionRefusal.Memory)) }
+        ensures unchanged { OnErr result (self.new.wires ≡ self.old.wires) }
+        ensures start_room { self.old.start_room ≤ self.new.start_room + 1 }
+        ensures send_room { self.old.send_room ≤ self.new.send_room }
+    {
+        if self.is_taken(c) {
+            return Err(SessionRefusal::Taken(c));
+        }
+        match put(&mut self.links, Link::new(c)) {
+            Ok(()) => Ok(()),
+            Err(_) => Err(SessionRefusal::Memory),
+        }
+    }
+
+    /// Puts the frame of a valid message behind what is on the way. On a lost connection whose end the sender hasn't seen it is dropped.
+    ///
+    /// # Errors
+    ///
+    /// - [`SessionRefusal::NotOpen`] exactly where the connection was never started or its sender saw its end.
+    /// - [`SessionRefusal::Memory`], only where no room is left.
+    pub fn send(&mut self, c: Conn, d: Dir, m: &Message) -> Result<(), SessionRefusal>
+        requires { is_valid m.now ≡ true }
+        ensures sent { OnOk result (IfSome (wire_of c self.old.wires) (λ w. Becomes c (sent_on d m.now w) self.old.wires self.new.wires)) }
+        ensures not_open { IsErrOf result (SessionRefusal.NotOpen c) ↔ (may_send d (wire_of c self.old.wires) ≡ false) }
+        ensures memory { IsErrOf result SessionRefusal.Memory → self.old.send_room ≡ 0 }
+        ensures only { IfErr result (λ e. (e ≡ SessionRefusal.NotOpen c) ⊎ (e ≡ SessionRefusal.Memory)) }
+        ensures unchanged { OnErr result (self.new.wires ≡ self.old.wires) }
+        ensures start_room { self.old.start_room ≤ self.new.start_room }
+        ensures send_room { self.old.send_room ≤ self.new.send_room + 1 }
+    {
+        let Some(link) = link_of(&self.links, c) else {
+            return Err(SessionRefusal::NotOpen(c));
+        };
+        if link.has_ended(opposite(d)) {
+            return Err(SessionRefusal::NotOpen(c));
+        }
+        if link.lost {
+            return Ok(());
+        }
+        match self.packets.push(Packet::new(c, d, m)) {
+            Ok(()) => Ok(()),
+            Err(_) => Err(SessionRefusal::Memory),
+        }
+    }
+
+    /// Takes what comes next to the side that gets in this direction: the next message, or the end of a lost connection behind the last one, once. `None` exactly where
+    /// nothing is left.
+    pub fn deliver(&mut self, c: Conn, d: Dir) -> Option<Delivered>
+        ensures none { (result ≡ None) ↔ (has_left d (wire_of c self.old.wires) ≡ false) }
+        ensures unchanged { result ≡ None → self.new.wires ≡ self.old.wires }
+        ensures message { (m : Message) → result ≡ Some (Delivered.Msg m) → IfSome (wire_of c self.old.wires) (λ w. Delivers c d m w self.old.wires self.new.wires) }
+        ensures end { result ≡ Some Delivered.End → IfSome (wire_of c self.old.wires) (λ w. Ends c d w self.old.wires self.new.wires) }
+        ensures never { (e : FrameRefusal) → result ≢ Some (Delivered.BadFrame e) }
+        ensures start_room { self.old.start_room ≤ self.new.start_room }
+        ensures send_room { self.old.send_room ≤ self.new.send_room }
+    {
+        let link = link_of(&self.links, c)?;
+        if let Some(packet) = take_first(&mut self.packets, c, d) {
+            return Some(content_of(&packet));
+        }
+        if !link.is_ending(d) {
+            return None;
+        }
+        let _ = replace(&mut self.links, link.ended_in(d));
+        Some(Delivered::End)
+    }
+
+    /// Whether something is left to deliver in this direction.
+    pub fn has_left(&self, c: Conn, d: Dir) -> bool
+        ensures left { result ≡ has_left d (wire_of c self.now.wires) }
+        // what is on the way are frames of valid messages, one behind the other
+        ensures frames { IfSome (wire_of c self.now.wires) (λ w. (ms : List Message) × Spells (lane d w).bytes ms) }
+    {
+        match link_of(&self.links, c) {
+            Some(link) => is_any_on(&self.packets, c, d) || link.is_ending(d),
+            None => false,
+        }
+    }
+
+    /// Whether the connection is open: it was started, and isn't lost.
+    pub fn is_open(&self, c: Conn) -> bool
+        ensures { result ≡ is_open (wire_of c self.now.wires) }
+    {
+        match link_of(&self.links, c) {
+            Some(link) => !link.lost,
+            None => false,
+        }
+    }
+
+    /// Loses an open connection. The first `up` messages on the way upward and the first `down` on the way downward are kept, or all where fewer are left, and its end comes
+    /// behind them. It gives the numbers kept; `None` exactly where the connection isn't open. It takes no memory.
+    pub fn lose(&mut self, c: Conn, up: u32, down: u32) -> Option<(u32, u32)>
+        ensures none { (result ≡ None) ↔ (is_open (wire_of c self.old.wires) ≡ false) }
+        ensures unchanged { result ≡ None → self.new.wires ≡ self.old.wires }
+        ensures lost { IfSome result (λ k. IfSome (wire_of c self.old.wires) (λ w. (us ds : List Message) → Spells w.up.bytes us → Spells w.down.bytes ds
+            → IsCut c w us ds up down k self.old.wires self.new.wires)) }
+        ensures start_room { self.old.start_room ≤ self.new.start_room }
+        ensures send_room { self.old.send_room ≤ self.new.send_room }
+    {
+        let link = link_of(&self.links, c)?;
+        if link.lost {
+            return None;
+        }
+        let _ = replace(&mut self.links, link.lost());
+        let up = cut(&mut self.packets, c, Dir::Up, up);
+        let down = cut(&mut self.packets, c, Dir::Down, down);
+        Some((up, down))
+    }
+
+    /// Whether the connection is open, or has something left to deliver.
+    fn is_taken(&self, c: Conn) -> bool
+        ensures { result ≡ is_taken (wire_of c self.now.wires) }
+    {
+        self.is_open(c) || self.has_left(c, Dir::Up) || self.has_left(c, Dir::Down)
+    }
+}
