@@ -1,3 +1,6 @@
 pub mod Conns
 pub mod Links
 pub mod Packets
+pub mod Views
+pub mod Reading
+pub mod Moves
