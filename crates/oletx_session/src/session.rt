@@ -122,9 +122,10 @@ impl Session {
             return Err(SessionRefusal::Taken(c));
         }
         match put(&mut self.links, Link::new(c)) {
-            Ok(()) => Ok(()),
-            Err(_) => Err(SessionRefusal::Memory),
+            Ok(()) => (),
+            Err(_) => return Err(SessionRefusal::Memory),
         }
+        Ok(())
     }
 
     /// Puts the frame of a valid message behind what is on the way. On a lost connection whose end the sender hasn't seen it is dropped.
@@ -153,9 +154,10 @@ impl Session {
             return Ok(());
         }
         match self.packets.push(Packet::new(c, d, m)) {
-            Ok(()) => Ok(()),
-            Err(_) => Err(SessionRefusal::Memory),
+            Ok(()) => (),
+            Err(_) => return Err(SessionRefusal::Memory),
         }
+        Ok(())
     }
 
     /// Takes what comes next to the side that gets in this direction: the next message, or the end of a lost connection behind the last one, once. `None` exactly where
