@@ -1,8 +1,8 @@
 -- What a start, a message, an end and a loss make of what is seen.
-use Rattle.std.proofs.Common.{◌≡◌, ℕ, min, Bool, true, false, ◌&&◌, ◌||◌, cond, not, List, [], ◌∷◌, ◌++◌, length, take, Option, Some, None, IfSome, refl, ap, sym, subst, ◌∙◌, inl, inr}
+use Rattle.std.proofs.Common.{◌≡◌, ℕ, min, Bool, true, false, ◌&&◌, ◌||◌, cond, not, List, [], ◌∷◌, ◌++◌, length, take, Option, Some, None, IfSome, is_some, refl, ap, sym, subst, ◌∙◌, inl, inr}
 use Rattle.std.specs.List.{flat_map, list_any}
-use Rattle.std.specs.Option.{option_map}
-use Rattle.std.proofs.lemmas.Bool.{and_from, and_parts, and_left, and_right, cases_Bool, cond-false, cond-true, not-false, not-true, or_parts}
+use Rattle.std.specs.Bool.{OnTrue}
+use Rattle.std.proofs.lemmas.Bool.{and_from, and_parts, and_left, and_right, cases_Bool, cond-false, cond-true, not-false, not-true, or_left, or_parts, OnTrue_at}
 use Rattle.std.proofs.lemmas.List.{append-nil}
 use Rattle.std.proofs.lemmas.List.Concat.{flat_map-append}
 use Rattle.std.proofs.lemmas.List.Elements.{filter-append}
@@ -18,7 +18,7 @@ use Rattle.oletx_session.specs.Queues.{AreSameElse, Changes, HasNoStray, bytes_o
 use Rattle.oletx_session.specs.Traffic.{Becomes, Delivers, Ends, IsCut, Spells, Wire, fresh, has_left, is_open, is_empty, is_taken, lane, lost_with, may_send, opposite, sent_on, wire_of, with_bytes, with_end}
 use Rattle.oletx_session.proofs.Conns.{same_is, same_self, same_way}
 use Rattle.oletx_session.proofs.Reading.{count_read, front_read}
-use Rattle.oletx_session.proofs.Views.{AreOthers, any_bytes, becomes, lane_bytes, lane_ended, left_seen, link_is, made, others_else, others_push, stays, wire_found, wire_missing}
+use Rattle.oletx_session.proofs.Views.{AreOthers, any_bytes, becomes, lane_bytes, lane_ended, left_seen, link_is, made, packet_full, others_else, others_push, stays, wire_found, wire_missing}
 
 -- what holds of a found link's wire holds of the connection's
 of_found : (c : Conn) (ps : List Packet) (ls : List Link) (l : Link) (ws : List Wire) (P : Wire → Type 0) → wires_in ps ls ≡ ws → link_of c ls ≡ Some l → P (wire_in ps l) → IfSome (wire_of c ws) P
@@ -128,6 +128,32 @@ ended c d ps ls ks l ws seen found none ending changes =
       taken = subst P seen (subst Q (end_seen d ps l) all);
     })
 
+-- something is left where a packet is on the way
+pub left_packet : (c : Conn) (d : Dir) (ps rest : List Packet) (ls : List Link) (l : Link) (p : Packet) (ws : List Wire) → wires_in ps ls ≡ ws → link_of c ls ≡ Some l → on_way c d ps ≡ p ∷ rest
+    → has_left d (wire_of c ws) ≡ true
+left_packet c d ps rest ls l p ws seen found first =
+    left_seen c d ps ls l ws seen found
+    ∙ or_left (list_any (is_on c d) ps) (is_ending d l) (any_bytes c d ps ∙ ap not (ap (λ xs. is_empty (flat_map frame_in xs)) first ∙ packet_full p (flat_map frame_in rest)))
+
+-- where none is, the end may be
+pub left_end : (c : Conn) (d : Dir) (ps : List Packet) (ls : List Link) (l : Link) (ws : List Wire) → wires_in ps ls ≡ ws → link_of c ls ≡ Some l → on_way c d ps ≡ []
+    → has_left d (wire_of c ws) ≡ is_ending d l
+left_end c d ps ls l ws seen found none =
+    left_seen c d ps ls l ws seen found ∙ ap (λ b. b || is_ending d l) (any_bytes c d ps ∙ ap (λ xs. not (is_empty (flat_map frame_in xs))) none)
+
+-- what a connection's link was replaced by
+pub replaced : (c : Conn) (l k : Link) (ls ks : List Link) (r : Bool) → link_of c ls ≡ Some l → k.connection ≡ l.connection → r ≡ is_some (link_of k.connection ls)
+    → OnTrue r (Changes k.connection k ls ks) → Changes c k ls ks
+replaced c l k ls ks r found same was changed =
+    let here : k.connection ≡ c = same ∙ sym (same_found c ls l found) in
+    let P : Conn → Type 0 = λ x. Changes x k ls ks in
+    subst P here (OnTrue_at (was ∙ ap (λ x. is_some (link_of x ls)) here ∙ ap is_some found) changed)
+
+-- a link keeps its connection where its end is seen
+pub end_connection : (d : Dir) (l : Link) → (ended_in d l).connection ≡ l.connection
+end_connection Up l = refl
+end_connection Down l = refl
+
 -- no bytes are there where they are empty
 no_bytes : (b : List ℕ) → is_empty b ≡ true → b ≡ []
 no_bytes [] h = refl
@@ -161,14 +187,14 @@ started c ps ls ks ws seen none free changes =
     subst P seen (subst Q is all)
 
 -- a loss keeps the first packets of each lane
-pub lost : (c : Conn) (us ds : List Message) (u n : ℕ) (k : ℕ × ℕ) (ps mid qs : List Packet) (ls ks : List Link) (l : Link) (ws : List Wire) → wires_in ps ls ≡ ws → link_of c ls ≡ Some l
+pub lost : (c : Conn) (u n : ℕ) (k : ℕ × ℕ) (ps mid qs : List Packet) (ls ks : List Link) (l : Link) (ws : List Wire) → wires_in ps ls ≡ ws → link_of c ls ≡ Some l
     → Changes c (lost_link l) ls ks → on_way c Up mid ≡ take u (on_way c Up ps) → AreSameElse c Up ps mid → on_way c Down qs ≡ take n (on_way c Down mid) → AreSameElse c Down mid qs
     → k.0 ≡ min u (length (on_way c Up ps)) → k.1 ≡ min n (length (on_way c Down mid))
-    → IfSome (wire_of c ws) (λ w. Spells w.up.bytes us → Spells w.down.bytes ds → IsCut c w us ds u n k ws (wires_in qs ks))
-lost c us ds u n k ps mid qs ls ks l ws seen found changes up up_others down down_others kept_up kept_down =
+    → IfSome (wire_of c ws) (λ w. (us ds : List Message) → Spells w.up.bytes us → Spells w.down.bytes ds → IsCut c w us ds u n k ws (wires_in qs ks))
+lost c u n k ps mid qs ls ks l ws seen found changes up up_others down down_others kept_up kept_down =
     let w = wire_in ps l in
     let here = sym (same_found c ls l found) in
-    of_found c ps ls l ws (λ v. Spells v.up.bytes us → Spells v.down.bytes ds → IsCut c v us ds u n k ws (wires_in qs ks)) seen found (λ spell_up spell_down.
+    of_found c ps ls l ws (λ v. (us ds : List Message) → Spells v.up.bytes us → Spells v.down.bytes ds → IsCut c v us ds u n k ws (wires_in qs ks)) seen found (λ us ds spell_up spell_down.
     let up_spells : Spells (bytes_on c Up ps) us = (let P : Conn → Type 0 = λ x. Spells (bytes_on x Up ps) us in subst P here spell_up) in
     let down_spells : Spells (bytes_on c Down ps) ds = (let P : Conn → Type 0 = λ x. Spells (bytes_on x Down ps) ds in subst P here spell_down) in
     let down_same : on_way c Down mid ≡ on_way c Down ps = up_others c Down (and_right (same_connection c c) false refl) in
