@@ -4,3 +4,4 @@ pub mod Packets
 pub mod Views
 pub mod Reading
 pub mod Moves
+pub mod Histories

@@ -1,5 +1,5 @@
 //! The connections of one transaction.
-ghost use Rattle.std.specs.Prelude.{◌≡◌, ◌≢◌, ◌⊎◌, ◌↔◌, ◌≤◌, ◌<◌, ◌+◌, ◌++◌, List, [], ℕ, Bool, Some, None, Err, true, false, length, min, take, IfOk, IfErr, IfSome, OnErr, OnOk, IsTrue, IsErrOf};
+ghost use Rattle.std.specs.Prelude.{◌≡◌, ◌≢◌, ◌⊎◌, ◌↔◌, ◌≤◌, ◌<◌, ◌+◌, ◌∷◌, ◌++◌, List, [], ℕ, Bool, Some, None, Err, true, false, length, min, take, IfOk, IfErr, IfSome, OnErr, OnOk, IsTrue, IsErrOf};
 ghost use Rattle.std.specs.List.{flat_map};
 ghost use Rattle.dtx_values.specs.declared.entry.Entry.{Entry};
 ghost use Rattle.dtx_values.specs.declared.entry.Entry.TheVariants.{Cut, Down as End, Got, Sent};
@@ -85,6 +85,7 @@ impl Session {
     /// No connection was started.
     pub fn new(alloc: Global) -> Result<Session, AllocError>
         ensures none { IfOk result (λ s. s.wires ≡ []) }
+        ensures carries { IfOk result (λ s. Carries s.wires []) }
     {
         Ok(Session {
             links: Vec::with_capacity(alloc, ROOM)?,
@@ -117,6 +118,7 @@ impl Session {
         ensures unchanged { OnErr result (self.new.wires ≡ self.old.wires) }
         ensures start_room { self.old.start_room ≤ self.new.start_room + 1 }
         ensures send_room { self.old.send_room ≤ self.new.send_room }
+        ensures carries { OnOk result ((h : List Entry) → Carries self.old.wires h → IsStarted c self.new.wires h) }
     {
         if self.is_taken(c) {
             return Err(SessionRefusal::Taken(c));
@@ -143,6 +145,10 @@ impl Session {
         ensures unchanged { OnErr result (self.new.wires ≡ self.old.wires) }
         ensures start_room { self.old.start_room ≤ self.new.start_room }
         ensures send_room { self.old.send_room ≤ self.new.send_room + 1 }
+        // over histories: a message that opens nothing, and the one that opens a connection that was just started
+        ensures carries { OnOk result ((h : List Entry) → Carries self.old.wires h → opens c (Sent c d m.now) ≡ false → Carries self.new.wires (Sent c d m.now ∷ h)) }
+        ensures opened { OnOk result ((h : List Entry) → IsStarted c self.old.wires h → opens c (Sent c d m.now) ≡ true → is_stopped h ≡ false
+            → Carries self.new.wires (Sent c d m.now ∷ h)) }
     {
         let Some(link) = link_of(&self.links, c) else {
             return Err(SessionRefusal::NotOpen(c));
@@ -170,6 +176,10 @@ impl Session {
         ensures never { (e : FrameRefusal) → result ≢ Some (Delivered.BadFrame e) }
         ensures start_room { self.old.start_room ≤ self.new.start_room }
         ensures send_room { self.old.send_room ≤ self.new.send_room }
+        // over histories: what is got was the next on the way, and an end comes where it may
+        ensures got { (m : Message) (h : List Entry) → result ≡ Some (Delivered.Msg m) → Carries self.old.wires h
+            → MayCross h (Got c d m) × (has_line c d m ≡ true → Carries self.new.wires (Got c d m ∷ h)) }
+        ensures down { (h : List Entry) → result ≡ Some Delivered.End → Carries self.old.wires h → MayCross h (End c d) × Carries self.new.wires (End c d ∷ h) }
     {
         let link = link_of(&self.links, c)?;
         if let Some(packet) = take_first(&mut self.packets, c, d) {
@@ -213,6 +223,7 @@ impl Session {
             → IsCut c w us ds up down k self.old.wires self.new.wires)) }
         ensures start_room { self.old.start_room ≤ self.new.start_room }
         ensures send_room { self.old.send_room ≤ self.new.send_room }
+        ensures cut { (h : List Entry) → IfSome result (λ k. Carries self.old.wires h → Carries self.new.wires (Cut c k.0 k.1 ∷ h)) }
     {
         let link = link_of(&self.links, c)?;
         if link.lost {

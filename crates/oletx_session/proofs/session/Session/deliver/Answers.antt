@@ -1,9 +1,10 @@
 use Rattle.std.proofs.Common.{◌≡◌, ap, refl, sym, subst, ◌∙◌, Bool, true, false, None, Some, IfSome, List, [], ◌∷◌}
 use Rattle.oletx_session.specs.declared.link.Link.{Link}
 use Rattle.oletx_session.specs.declared.packet.Packet.{Packet}
-use Rattle.oletx_session.specs.Queues.{Changes, ended_in, is_ending, link_of, on_way, wires_in}
-use Rattle.oletx_session.specs.Traffic.{Ends, wire_of}
-use Rattle.oletx_session.proofs.Views.{no_stray, left_unstarted}
+use Rattle.oletx_session.specs.Queues.{Changes, ended_in, is_ending, link_of, on_way, wire_in, wires_in}
+use Rattle.oletx_session.specs.Traffic.{Delivers, Ends, wire_of}
+use Rattle.oletx_session.proofs.Histories.{at_wire, carried_end, carried_got, end_may, got_next}
+use Rattle.oletx_session.proofs.Views.{no_stray, left_unstarted, wire_found}
 use Rattle.oletx_session.proofs.Moves.{delivered, end_connection, ended, left_end, left_packet, replaced}
 use Rattle.oletx_session.proofs.session.Session.deliver.Goals as goal
 
@@ -63,3 +64,23 @@ returns-clause-end c = λ is.
     subst Q (sym (ap (λ v. v.items) c.in_default.ensures.unchanged))
     (ended c.args.c c.args.d own.packets.items own.links.items c.replace.new.links.items l c.args.self.now.wires (ap (λ t. t.wires) c.self.view_is) found c.in_default.ensures.none
     (sym c.if-not-is_ending.ensures) (subst P c.ended_in.ensures changes))
+
+pub returns-in-Some-clause-got : goal.returns-in-Some-clause-got
+returns-in-Some-clause-got c = λ m h is carries.
+    let own = c.self.inside in
+    let ws = c.args.self.now.wires in
+    let new = wires_in c.take_first.new.packets.items own.links.items in
+    let at = wire_found c.args.c own.packets.items own.links.items c.in_ok-link.link ws (ap (λ t. t.wires) c.self.view_is) (ap (link_of c.args.c) (sym c.deref.ensures.value) ∙ sym c.in_ok-link.ensures) in
+    let w = wire_in own.packets.items c.in_ok-link.link in
+    let delivers = at_wire c.args.c ws w (λ v. Delivers c.args.c c.args.d m v ws new) at (returns-in-Some-clause-message c m is) in
+    (got_next c.args.c c.args.d m w ws new h at delivers carries, λ line. carried_got c.args.c c.args.d m w ws new h at delivers carries line)
+
+pub returns-clause-down : goal.returns-clause-down
+returns-clause-down c = λ h is carries.
+    let own = c.self.inside in
+    let ws = c.args.self.now.wires in
+    let new = wires_in c.take_first.new.packets.items c.replace.new.links.items in
+    let at = wire_found c.args.c own.packets.items own.links.items c.in_ok-link.link ws (ap (λ t. t.wires) c.self.view_is) (ap (link_of c.args.c) (sym c.deref.ensures.value) ∙ sym c.in_ok-link.ensures) in
+    let w = wire_in own.packets.items c.in_ok-link.link in
+    let end = at_wire c.args.c ws w (λ v. Ends c.args.c c.args.d v ws new) at (returns-clause-end c is) in
+    (end_may c.args.c c.args.d w ws new h at end carries, carried_end c.args.c c.args.d w ws new h at end carries)

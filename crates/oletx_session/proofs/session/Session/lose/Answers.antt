@@ -1,10 +1,13 @@
 use Rattle.std.proofs.Common.{◌≡◌, ap, refl, sym, subst, ◌∙◌, Bool, true, false, not, None, Some, IfSome, List, [], ◌∷◌}
 use Rattle.dtx_values.specs.declared.message.Dir.TheVariants.{Up, Down}
+use Rattle.dtx_values.specs.declared.message.Message.{Message}
 use Rattle.oletx_session.specs.declared.link.Link.{Link}
 use Rattle.oletx_session.specs.declared.packet.Packet.{Packet}
-use Rattle.oletx_session.specs.Queues.{Changes, link_of, lost_link, on_way, wires_in}
-use Rattle.oletx_session.specs.Traffic.{is_open, wire_of}
+use Rattle.oletx_session.specs.Queues.{Changes, link_of, lost_link, on_way, wire_in, wires_in}
+use Rattle.oletx_session.specs.Traffic.{IsCut, Spells, is_open, wire_of}
+use Rattle.oletx_session.proofs.Histories.{at_wire, carried_cut}
 use Rattle.oletx_session.proofs.Views.{no_stray, others_else, wire_found, wire_missing}
+
 use Rattle.oletx_session.proofs.Moves.{lost, replaced}
 use Rattle.oletx_session.proofs.session.Session.lose.Goals as goal
 
@@ -52,3 +55,14 @@ returns-clause-lost c =
     let down = c.cut-down.ensures in
     lost c.args.c c.args.up c.args.down (c.cut-up.result, c.cut-down.result) own.packets.items c.cut-up.new.packets.items c.cut-down.new.packets.items own.links.items c.replace.new.links.items l
     c.args.self.now.wires (ap (λ t. t.wires) c.self.view_is) found (subst P c.lost.ensures changes) up.kept up.others down.kept down.others up.count down.count
+
+pub returns-clause-cut : goal.returns-clause-cut
+returns-clause-cut c = λ h carries.
+    let own = c.self.inside in
+    let ws = c.args.self.now.wires in
+    let new = wires_in c.cut-down.new.packets.items c.replace.new.links.items in
+    let at = wire_found c.args.c own.packets.items own.links.items c.in_ok-link.link ws (ap (λ t. t.wires) c.self.view_is) (ap (link_of c.args.c) (sym c.deref.ensures.value) ∙ sym c.in_ok-link.ensures) in
+    let w = wire_in own.packets.items c.in_ok-link.link in
+    let loss = at_wire c.args.c ws w (λ v. (us ds : List Message) → Spells v.up.bytes us → Spells v.down.bytes ds → IsCut c.args.c v us ds c.args.up c.args.down (c.cut-up.result, c.cut-down.result) ws new) at
+    (returns-clause-lost c) in
+    carried_cut c.args.c w c.args.up c.args.down (c.cut-up.result, c.cut-down.result) ws new h at loss carries

@@ -1,8 +1,9 @@
 use Rattle.std.proofs.Common.{◌≡◌, ap, refl, sym, subst, ◌∙◌, not, Bool, true, false, IfSome, List, ◌++◌, [], ◌∷◌}
 use Rattle.oletx_session.specs.declared.packet.Packet.{Packet}
-use Rattle.oletx_session.specs.Queues.{has_ended, link_of, on_way, wires_in}
+use Rattle.oletx_session.specs.Queues.{has_ended, link_of, on_way, wire_in, wires_in}
 use Rattle.oletx_session.specs.Traffic.{Becomes, may_send, opposite, sent_on, wire_of}
-use Rattle.oletx_session.proofs.Views.{no_stray, others_push, stays, wire_missing}
+use Rattle.oletx_session.proofs.Histories.{at_wire, carried_opened, carried_sent}
+use Rattle.oletx_session.proofs.Views.{no_stray, others_push, stays, wire_found, wire_missing}
 use Rattle.oletx_session.proofs.Moves.{send_seen, sent_lost, sent_push}
 use Rattle.oletx_session.proofs.session.Session.send.Goals as goal
 
@@ -70,3 +71,38 @@ returns-clause-not_open c =
     (ap (link_of c.args.c) (sym c.deref.ensures.value) ∙ sym c.in-Some.ensures) in
     let may = seen ∙ ap not (ap (λ d. has_ended d l) (sym c.opposite.ensures) ∙ sym c.if-has_ended.ensures) in
     (λ h. absurd cc, λ h. absurd (let both = sym may ∙ h in cc))
+
+pub returns-then-link-clause-carries : goal.returns-then-link-clause-carries
+returns-then-link-clause-carries c = λ h carries shut.
+    let own = c.self.inside in
+    let ws = c.args.self.now.wires in
+    let at = wire_found c.args.c own.packets.items own.links.items c.in-Some.link ws (ap (λ t. t.wires) c.self.view_is) (ap (link_of c.args.c) (sym c.deref.ensures.value) ∙ sym c.in-Some.ensures) in
+    let w = wire_in own.packets.items c.in-Some.link in
+    carried_sent c.args.c c.args.d c.args.m.now w ws ws h c.requires at (at_wire c.args.c ws w (λ v. Becomes c.args.c (sent_on c.args.d c.args.m.now v) ws ws) at (returns-then-link-clause-sent c)) carries shut
+
+pub returns-then-link-clause-opened : goal.returns-then-link-clause-opened
+returns-then-link-clause-opened c = λ h started opening running.
+    let own = c.self.inside in
+    let ws = c.args.self.now.wires in
+    let at = wire_found c.args.c own.packets.items own.links.items c.in-Some.link ws (ap (λ t. t.wires) c.self.view_is) (ap (link_of c.args.c) (sym c.deref.ensures.value) ∙ sym c.in-Some.ensures) in
+    let w = wire_in own.packets.items c.in-Some.link in
+    carried_opened c.args.c c.args.d c.args.m.now w ws ws h c.requires at (at_wire c.args.c ws w (λ v. Becomes c.args.c (sent_on c.args.d c.args.m.now v) ws ws) at (returns-then-link-clause-sent c)) started opening
+    running
+
+pub returns-clause-carries : goal.returns-clause-carries
+returns-clause-carries c = λ h carries shut.
+    let own = c.self.inside in
+    let ws = c.args.self.now.wires in
+    let new = wires_in c.push.new.self.items own.links.items in
+    let at = wire_found c.args.c own.packets.items own.links.items c.in-Some.link ws (ap (λ t. t.wires) c.self.view_is) (ap (link_of c.args.c) (sym c.deref.ensures.value) ∙ sym c.in-Some.ensures) in
+    let w = wire_in own.packets.items c.in-Some.link in
+    carried_sent c.args.c c.args.d c.args.m.now w ws new h c.requires at (at_wire c.args.c ws w (λ v. Becomes c.args.c (sent_on c.args.d c.args.m.now v) ws new) at (returns-clause-sent c)) carries shut
+
+pub returns-clause-opened : goal.returns-clause-opened
+returns-clause-opened c = λ h started opening running.
+    let own = c.self.inside in
+    let ws = c.args.self.now.wires in
+    let new = wires_in c.push.new.self.items own.links.items in
+    let at = wire_found c.args.c own.packets.items own.links.items c.in-Some.link ws (ap (λ t. t.wires) c.self.view_is) (ap (link_of c.args.c) (sym c.deref.ensures.value) ∙ sym c.in-Some.ensures) in
+    let w = wire_in own.packets.items c.in-Some.link in
+    carried_opened c.args.c c.args.d c.args.m.now w ws new h c.requires at (at_wire c.args.c ws w (λ v. Becomes c.args.c (sent_on c.args.d c.args.m.now v) ws new) at (returns-clause-sent c)) started opening running

@@ -1,6 +1,7 @@
 use Rattle.std.proofs.Common.{ap, refl, sym, subst}
 use Rattle.oletx_session.specs.declared.link.Link.{Link}
-use Rattle.oletx_session.specs.Queues.{Changes, new_link}
+use Rattle.oletx_session.specs.Queues.{Changes, new_link, wires_in}
+use Rattle.oletx_session.proofs.Histories.{carried_start}
 use Rattle.oletx_session.proofs.Views.{no_stray}
 use Rattle.oletx_session.proofs.Moves.{started}
 use Rattle.oletx_session.proofs.session.Session.start.Goals as goal
@@ -16,3 +17,8 @@ returns-clause-started c =
     let P : Link → Type 0 = λ l. Changes l.connection l own.links.items c.put.new.links.items in
     started c.args.c own.packets.items own.links.items c.put.new.links.items c.args.self.now.wires (ap (λ t. t.wires) c.self.view_is) c.self.invariant (sym c.if-is_taken.ensures)
     (subst P c.new.ensures c.in-Ok.ensures.changed)
+
+pub returns-clause-carries : goal.returns-clause-carries
+returns-clause-carries c = λ h carries.
+    let own = c.self.inside in
+    carried_start c.args.c c.args.self.now.wires (wires_in own.packets.items c.put.new.links.items) h (returns-clause-started c) carries
