@@ -14,11 +14,11 @@ use Rattle.dtx_model.specs.Frames.{frame_of, is_valid}
 use Rattle.dtx_model.specs.Messages.{has_line}
 use Rattle.dtx_model.specs.Outcome.{is_empty}
 use Rattle.dtx_model.specs.Words.{each}
-use Rattle.dtx_model.specs.Wires.{MayCross, begins_ended, ended_after, ends, holds, is_ended, is_kept, is_lost_wire, is_next, is_open_wire, is_opening, is_stopped, kept, left, left_after, loses, lost_after, lost_since, opened_with, opens, same_connection, same_direction, sent_behind, without_first}
-use Rattle.oletx_session.specs.Traffic.{AreSameBut, Becomes, Delivers, Ends, IsCut, Spells, Wire, fresh, lane, lost_with, opposite, sent_on, wire_of, with_bytes, with_end}
+use Rattle.dtx_model.specs.Wires.{MayCross, begins_ended, ended_after, ends, holds, is_ended, is_kept, is_lost_wire, is_next, is_open_wire, is_opening, is_stopped, kept, left, loses, lost_after, lost_since, opened_with, opens, same_connection, same_direction, sent_behind, without_first}
+use Rattle.oletx_session.specs.Traffic.{Becomes, Delivers, Ends, IsCut, Spells, Wire, fresh, lane, lost_with, sent_on, wire_of, with_bytes, with_end}
 use Rattle.oletx_session.specs.Carries.{Carries, IsLane, IsStarted, IsWire}
-use Rattle.oletx_session.proofs.Conns.{same_is, same_self, same_way, same_way_is}
-use Rattle.oletx_session.proofs.Reading.{IsFirst, first_read, none_read}
+use Rattle.oletx_session.proofs.Conns.{same_is, same_self, same_way_is}
+use Rattle.oletx_session.proofs.Reading.{first_read, none_read}
 
 -- what neither opens nor loses a connection leaves it as it was
 lost_kept : (x : Conn) (h : List Entry) (e : Entry) (o : Option Bool) → opens x e ≡ false → loses x e ≡ false → lost_after x h e o ≡ o
@@ -38,11 +38,13 @@ ended_kept x d h e shut kept =
 wire_kept : (x : Conn) (o : Option Wire) (h n : List Entry) → lost_since x n ≡ lost_since x h → ((d : Dir) → left x d n ≡ left x d h) → ((d : Dir) → is_ended x d n ≡ is_ended x d h) → IsWire x o h
     → IsWire x o n
 wire_kept x None h n lost queue ended is = lost ∙ is
-wire_kept x (Some w) h n lost queue ended is =
-    (lost ∙ is.0, λ d. record {
-      queue = (let P : List Message → Type 0 = λ ms. Spells (lane d w).bytes ms in subst P (sym (queue d)) (is.1 d).queue);
-      ended = (is.1 d).ended ∙ sym (ended d);
-    })
+wire_kept x (Some w) h n lost queue ended is = (
+  lost ∙ is.0,
+  λ d. record {
+    queue = (let P : List Message → Type 0 = λ ms. Spells (lane d w).bytes ms in subst P (sym (queue d)) (is.1 d).queue);
+    ended = (is.1 d).ended ∙ sym (ended d);
+  },
+)
 
 -- where one connection stands as the history says, and the others still do, all do
 spread : (c : Conn) (w : Wire) (old new : List Wire) (h n : List Entry) → Becomes c w old new → ((x : Conn) → same_connection x c ≡ false → IsWire x (wire_of x old) h) → IsWire c (Some w) n
@@ -50,11 +52,11 @@ spread : (c : Conn) (w : Wire) (old new : List Wire) (h n : List Entry) → Beco
     → ((x : Conn) → same_connection x c ≡ false → (d : Dir) → is_ended x d n ≡ is_ended x d h) → Carries new n
 spread c w old new h n becomes before here lost queue ended x =
     elim (cases_Bool (same_connection x c)) [
-      inl same ↦ (let P : Conn → Type 0 = λ y. IsWire y (wire_of y new) n in
-        let Q : Option Wire → Type 0 = λ o. IsWire c o n in
-        subst P (sym (same_is x c same)) (subst Q (sym becomes.here) here))
+      | inl same ↦ (let P : Conn → Type 0 = λ y. IsWire y (wire_of y new) n in
+          let Q : Option Wire → Type 0 = λ o. IsWire c o n in
+          subst P (sym (same_is x c same)) (subst Q (sym becomes.here) here))
       | inr other ↦ (let Q : Option Wire → Type 0 = λ o. IsWire x o n in
-        subst Q (sym (becomes.others x other)) (wire_kept x (wire_of x old) h n (lost x other) (queue x other) (ended x other) (before x other)))
+          subst Q (sym (becomes.others x other)) (wire_kept x (wire_of x old) h n (lost x other) (queue x other) (ended x other) (before x other)))
     ]
 
 -- a message opens no other connection
@@ -145,13 +147,13 @@ lane_bytes_from : (c : Conn) (d e : Dir) (b : List ℕ) (w : Wire) (h n : List E
     → is_ended c e n ≡ is_ended c e h → IsLane c e w h → IsLane c e (with_bytes d b w) n
 lane_bytes_from c d e b w h n ms queue spelled kept was =
     elim (cases_Bool (same_direction e d)) [
-      inl same ↦ (let way = same_way_is e d same in
-        let P : List ℕ → Type 0 = λ xs. Spells xs ms in
-        lane_from c e (with_bytes d b w) w h n ms (queue ∙ cond-true (same_direction e d) ms (left c e h) same)
-        (subst P (sym ((λ k. (lane (way k) (with_bytes d b w)).bytes) ∙ bytes_here d b w)) spelled) (bytes_ended d e b w) kept was.ended)
+      | inl same ↦ (let way = same_way_is e d same in
+          let P : List ℕ → Type 0 = λ xs. Spells xs ms in
+          lane_from c e (with_bytes d b w) w h n ms (queue ∙ cond-true (same_direction e d) ms (left c e h) same)
+          (subst P (sym ((λ k. (lane (way k) (with_bytes d b w)).bytes) ∙ bytes_here d b w)) spelled) (bytes_ended d e b w) kept was.ended)
       | inr other ↦ (let P : List ℕ → Type 0 = λ xs. Spells xs (left c e h) in
-        lane_from c e (with_bytes d b w) w h n (left c e h) (queue ∙ cond-false (same_direction e d) ms (left c e h) other)
-        (subst P (sym (bytes_there d e b w other)) was.queue) (bytes_ended d e b w) kept was.ended)
+          lane_from c e (with_bytes d b w) w h n (left c e h) (queue ∙ cond-false (same_direction e d) ms (left c e h) other)
+          (subst P (sym (bytes_there d e b w other)) was.queue) (bytes_ended d e b w) kept was.ended)
     ]
 
 -- whether the history says that the connection is open
@@ -165,17 +167,18 @@ sent_wire c d m w h valid shut is =
     let b = (lane d w).bytes ++ frame_of m in
     let lost = lost_kept c h (Sent c d m) (lost_since c h) shut refl in
     elim (cases_Bool w.lost) [
-      inl gone ↦ (let P : Wire → Type 0 = λ v. IsWire c (Some v) n in
-        let dropped = λ (e : Dir). sent_here c d e m h shut
+      | inl gone ↦ (let P : Wire → Type 0 = λ v. IsWire c (Some v) n in
+          let dropped = λ (e : Dir). sent_here c d e m h shut
           ∙ ap (λ b. cond (same_direction e d) (sent_behind b m (left c e h)) (left c e h)) (open_said c w h is.0 ∙ ap not gone) ∙ same_both (same_direction e d) (left c e h) in
-        subst P (sym (cond-true w.lost w (with_bytes d b w) gone)) (wire_kept c (Some w) h n lost dropped (λ e. ended_kept c e h (Sent c d m) shut (sent_ends c c e d m)) is))
+          subst P (sym (cond-true w.lost w (with_bytes d b w) gone)) (wire_kept c (Some w) h n lost dropped (λ e. ended_kept c e h (Sent c d m) shut (sent_ends c c e d m)) is))
       | inr open' ↦ (let P : Wire → Type 0 = λ v. IsWire c (Some v) n in
-        let ms = left c d h in
-        let behind = λ (e : Dir). sent_here c d e m h shut
+          let ms = left c d h in
+          let behind = λ (e : Dir). sent_here c d e m h shut
           ∙ ap (λ b. cond (same_direction e d) (sent_behind b m (left c e h)) (left c e h)) (open_said c w h is.0 ∙ ap not open') ∙ same_left e d (λ xs. xs ++ m ∷ []) (λ f. left c f h) in
-        subst P (sym (cond-false w.lost w (with_bytes d b w) open'))
-        (lost ∙ is.0 ∙ ap Some (sym (bytes_lost d b w)),
-          λ e. lane_bytes_from c d e b w h n (ms ++ m ∷ []) (behind e) (spell_behind (lane d w).bytes m ms valid (is.1 d).queue) (ended_kept c e h (Sent c d m) shut (sent_ends c c e d m)) (is.1 e)))
+          subst P (sym (cond-false w.lost w (with_bytes d b w) open')) (
+            lost ∙ is.0 ∙ ap Some (sym (bytes_lost d b w)),
+            λ e. lane_bytes_from c d e b w h n (ms ++ m ∷ []) (behind e) (spell_behind (lane d w).bytes m ms valid (is.1 d).queue) (ended_kept c e h (Sent c d m) shut (sent_ends c c e d m)) (is.1 e),
+          ))
     ]
   where
     same_both : (b : Bool) (ms : List Message) → cond b ms ms ≡ ms
@@ -210,14 +213,14 @@ spell_one m valid = spell_behind [] m [] valid (record { valid = refl; bytes = r
 opened_lane : (c : Conn) (e : Dir) (m : Message) (h : List Entry) → is_valid m ≡ true → opens c (Sent c Up m) ≡ true → is_stopped h ≡ false → IsLane c e (sent_on Up m (fresh c)) (Sent c Up m ∷ h)
 opened_lane c Up m h valid opening running = record {
   queue =
-    (let P : List Message → Type 0 = λ ms. Spells ([] ++ frame_of m) ms in
-    subst P (sym (cond-true (opens c (Sent c Up m)) (opened_with Up m (is_stopped h)) _ opening ∙ cond-false (is_stopped h) [] (m ∷ []) running)) (spell_one m valid));
+      (let P : List Message → Type 0 = λ ms. Spells ([] ++ frame_of m) ms in
+      subst P (sym (cond-true (opens c (Sent c Up m)) (opened_with Up m (is_stopped h)) _ opening ∙ cond-false (is_stopped h) [] (m ∷ []) running)) (spell_one m valid));
   ended = sym (ap (λ b. ended_after b (is_stopped h) (is_ended c Up h)) opening ∙ running);
 }
 opened_lane c Down m h valid opening running = record {
   queue =
-    (let P : List Message → Type 0 = λ ms. Spells [] ms in
-    subst P (sym (cond-true (opens c (Sent c Up m)) [] _ opening)) (record { valid = refl; bytes = refl }));
+      (let P : List Message → Type 0 = λ ms. Spells [] ms in
+      subst P (sym (cond-true (opens c (Sent c Up m)) [] _ opening)) (record { valid = refl; bytes = refl }));
   ended = sym (ap (λ b. ended_after b false (is_ended c Down h)) opening);
 }
 
@@ -262,9 +265,10 @@ got_wire c d m w rest h first valid line is =
     let read = first_read m rest (left c d h) valid (subst P first (is.1 d).queue) in
     let Q : List Message → Type 0 = λ ms. Spells rest ms in
     let spelled = subst Q (sym (ap without_first read.all)) read.spelled in
-    let kept = and_right (same_connection c c) (not (has_line c d m)) (not_from_true (has_line c d m) line) in
-    (lost_kept c h e (lost_since c h) refl kept ∙ is.0 ∙ ap Some (sym (bytes_lost d rest w)),
-      λ f. lane_bytes_from c d f rest w h n (without_first (left c d h)) (got_here c d f m h line ∙ same_left f d (λ g. left c g h)) spelled (ended_kept c f h e refl (got_ends c c d f m line)) (is.1 f))
+    let kept = and_right (same_connection c c) (not (has_line c d m)) (not_from_true (has_line c d m) line) in (
+      lost_kept c h e (lost_since c h) refl kept ∙ is.0 ∙ ap Some (sym (bytes_lost d rest w)),
+      λ f. lane_bytes_from c d f rest w h n (without_first (left c d h)) (got_here c d f m h line ∙ same_left f d (λ g. left c g h)) spelled (ended_kept c f h e refl (got_ends c c d f m line)) (is.1 f),
+    )
   where
     same_left : (e d : Dir) (q : Dir → List Message) → cond (same_direction e d) (without_first (q e)) (q e) ≡ cond (same_direction e d) (without_first (q d)) (q e)
     same_left Up Up q = refl

@@ -5,11 +5,9 @@ use Rattle.std.proofs.lemmas.Bool.{cond-true, cond-false, cases_Bool, ltb-false}
 use Rattle.std.proofs.lemmas.List.Folds.{find_at}
 use Rattle.std.proofs.lemmas.Option.{slice_get_past}
 use Rattle.std.proofs.lemmas.List.Quantifiers.{position-Some}
-use Rattle.dtx_values.specs.declared.message.Conn.{Conn}
-use Rattle.dtx_model.specs.Wires.{same_connection}
 use Rattle.oletx_session.specs.declared.link.Link.{Link}
 use Rattle.oletx_session.specs.Queues.{Changes, is_of, link_of}
-use Rattle.oletx_session.proofs.Conns.{not_same, same_is, same_self}
+use Rattle.oletx_session.proofs.Conns.{not_same, same_self}
 
 -- a choice that gives nothing was made against the value
 none_where : (b : Bool) (x : ℕ) → cond b (Some x) None ≡ None → b ≡ false
@@ -39,7 +37,7 @@ module _ {X : Type 0} where
   find_push p [] y none passes = cond-true (p y) (Some y) None passes
   find_push p (x ∷ xs) y none passes =
       elim (cases_Bool (p x)) [
-        inl holds ↦ absurd (let found = sym (cond-true (p x) (Some x) (find p xs) holds) ∙ none in cc)
+        | inl holds ↦ absurd (let found = sym (cond-true (p x) (Some x) (find p xs) holds) ∙ none in cc)
         | inr fails ↦ find_past p x (xs ++ y ∷ []) fails ∙ find_push p xs y (sym (find_past p x xs fails) ∙ none) passes
       ]
 
@@ -54,7 +52,7 @@ module _ {X : Type 0} where
   found_at p (x ∷ xs) zero d within passes = ap is_some (cond-true (p x) (Some x) (find p xs) passes)
   found_at p (x ∷ xs) (suc i) d within passes =
       elim (cases_Bool (p x)) [
-        inl holds ↦ ap is_some (cond-true (p x) (Some x) (find p xs) holds)
+        | inl holds ↦ ap is_some (cond-true (p x) (Some x) (find p xs) holds)
         | inr fails ↦ ap is_some (find_past p x xs fails) ∙ found_at p xs i d (omega arith) passes
       ]
 

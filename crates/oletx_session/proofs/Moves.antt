@@ -1,8 +1,8 @@
 -- What a start, a message, an end and a loss make of what is seen.
-use Rattle.std.proofs.Common.{◌≡◌, ℕ, min, Bool, true, false, ◌&&◌, ◌||◌, cond, not, List, [], ◌∷◌, ◌++◌, length, take, Option, Some, None, IfSome, is_some, refl, ap, sym, subst, ◌∙◌, inl, inr}
+use Rattle.std.proofs.Common.{◌≡◌, ℕ, min, Bool, true, false, ◌||◌, cond, not, List, [], ◌∷◌, ◌++◌, length, take, Option, Some, None, IfSome, is_some, refl, ap, sym, subst, ◌∙◌}
 use Rattle.std.specs.List.{flat_map, list_any}
 use Rattle.std.specs.Bool.{OnTrue}
-use Rattle.std.proofs.lemmas.Bool.{and_from, and_parts, and_left, and_right, cases_Bool, cond-false, cond-true, not-false, not-true, or_left, or_parts, OnTrue_at}
+use Rattle.std.proofs.lemmas.Bool.{and_from, and_parts, and_right, cond-false, cond-true, not-false, not-true, or_left, or_parts, OnTrue_at}
 use Rattle.std.proofs.lemmas.List.{append-nil}
 use Rattle.std.proofs.lemmas.List.Concat.{flat_map-append}
 use Rattle.std.proofs.lemmas.List.Elements.{filter-append}
@@ -18,7 +18,7 @@ use Rattle.oletx_session.specs.Queues.{AreSameElse, Changes, HasNoStray, bytes_o
 use Rattle.oletx_session.specs.Traffic.{Becomes, Delivers, Ends, IsCut, Spells, Wire, fresh, has_left, is_open, is_empty, is_taken, lane, lost_with, may_send, opposite, sent_on, wire_of, with_bytes, with_end}
 use Rattle.oletx_session.proofs.Conns.{same_is, same_self, same_way}
 use Rattle.oletx_session.proofs.Reading.{count_read, front_read}
-use Rattle.oletx_session.proofs.Views.{AreOthers, any_bytes, becomes, lane_bytes, lane_ended, left_seen, link_is, made, packet_full, others_else, others_push, stays, wire_found, wire_missing}
+use Rattle.oletx_session.proofs.Views.{AreOthers, any_bytes, becomes, lane_bytes, lane_ended, left_seen, link_is, made, packet_full, others_else, others_push, stays, wire_found}
 
 -- what holds of a found link's wire holds of the connection's
 of_found : (c : Conn) (ps : List Packet) (ls : List Link) (l : Link) (ws : List Wire) (P : Wire → Type 0) → wires_in ps ls ≡ ws → link_of c ls ≡ Some l → P (wire_in ps l) → IfSome (wire_of c ws) P

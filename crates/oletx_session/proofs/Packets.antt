@@ -1,7 +1,7 @@
 -- Packets in a list.
-use Rattle.std.proofs.Common.{◌≡◌, ℕ, zero, suc, ◌+◌, ◌<◌, ◌≤◌, min, Bool, true, false, ◌&&◌, cond, List, [], ◌∷◌, ◌++◌, length, get_or, take, drop, position, filter, Some, None, refl, ap, sym, subst, ◌∙◌, arith, inl, inr, drop-cons}
+use Rattle.std.proofs.Common.{◌≡◌, ℕ, zero, suc, ◌+◌, ◌<◌, ◌≤◌, min, Bool, true, false, ◌&&◌, List, [], ◌∷◌, ◌++◌, length, get_or, take, drop, position, filter, Some, None, refl, ap, sym, subst, ◌∙◌, arith, drop-cons}
 use Rattle.std.specs.List.{remove}
-use Rattle.std.proofs.lemmas.Bool.{and_cases, and_parts, cases_Bool, cond-false, cond-true, false≢true}
+use Rattle.std.proofs.lemmas.Bool.{and_parts, cond-false, cond-true}
 use Rattle.std.proofs.lemmas.List.{length-take, take-append-drop, take_all, take_at, length-take-le}
 use Rattle.std.proofs.lemmas.List.Elements.{filter-append}
 use Rattle.std.proofs.lemmas.List.Edits.{length-remove}
@@ -136,8 +136,8 @@ cut_out c d keep kept place old new p so_far within is on enough =
       counted = ap (λ xs. length (filter on_lane xs)) same_front ∙ so_far.counted;
       few = so_far.few;
       same =
-        ap (take keep) (filter_remove on_lane new place) ∙ take_at (filter on_lane front) (filter on_lane back) keep full
-        ∙ sym (ap (take keep) (filter_split on_lane new place p within is on) ∙ take_at (filter on_lane front) (p ∷ filter on_lane back) keep full) ∙ so_far.same;
+          ap (take keep) (filter_remove on_lane new place) ∙ take_at (filter on_lane front) (filter on_lane back) keep full
+          ∙ sym (ap (take keep) (filter_split on_lane new place p within is on) ∙ take_at (filter on_lane front) (p ∷ filter on_lane back) keep full) ∙ so_far.same;
       others = λ x e other. else_remove c d new place p within is on x e other ∙ so_far.others x e other;
     }
 

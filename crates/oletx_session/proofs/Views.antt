@@ -1,34 +1,32 @@
 -- What is seen of links and packets.
-use Rattle.std.proofs.Common.{◌≡◌, ℕ, zero, suc, ◌+◌, min, Bool, true, false, ◌&&◌, ◌||◌, cond, not, List, [], ◌∷◌, ◌++◌, length, take, filter, Option, Some, None, IfSome, refl, ap, sym, subst, ◌∙◌, arith, inl, inr}
+use Rattle.std.proofs.Common.{◌≡◌, ℕ, true, false, ◌&&◌, ◌||◌, not, List, [], ◌∷◌, ◌++◌, Option, Some, None, IfSome, refl, ap, sym, subst, ◌∙◌, inl, inr}
 use Rattle.std.specs.List.{flat_map, list_any}
 use Rattle.std.specs.Option.{option_map}
-use Rattle.std.proofs.lemmas.Bool.{and_from, and_parts, and_left, and_right, cases_Bool, cond-false, cond-true, or_left}
-use Rattle.std.proofs.lemmas.List.{append-nil, append_cancel_left}
-use Rattle.std.proofs.lemmas.List.Concat.{flat_map-append}
+use Rattle.std.proofs.lemmas.Bool.{and_from, and_left, cases_Bool, cond-false, cond-true, or_left}
+use Rattle.std.proofs.lemmas.List.{append-nil}
 use Rattle.std.proofs.lemmas.List.Elements.{filter-append}
 use Rattle.dtx_values.specs.declared.message.Conn.{Conn}
 use Rattle.dtx_values.specs.declared.message.Dir.{Dir}
 use Rattle.dtx_values.specs.declared.message.Dir.TheVariants.{Up, Down}
 use Rattle.dtx_values.specs.declared.message.Message.{Message}
-use Rattle.dtx_model.specs.Frames.{IsFrame, frame_of, is_valid}
+use Rattle.dtx_model.specs.Frames.{frame_of, is_valid}
 use Rattle.dtx_model.specs.Words.{each}
 use Rattle.dtx_model.specs.Wires.{same_connection, same_direction}
-use Rattle.oletx_frames.specs.Bodies.{body_bytes}
-use Rattle.oletx_frames.proofs.Pieces.{frame_is, pieces_of, same_messages}
+use Rattle.oletx_frames.proofs.Pieces.{frame_is}
 use Rattle.oletx_session.specs.declared.link.Link.{Link}
 use Rattle.oletx_session.specs.declared.packet.Packet.{Packet}
-use Rattle.oletx_session.specs.Queues.{AreSameElse, Changes, HasNoStray, bytes_on, ended_in, frame_in, has_ended, is_ending, is_of, is_on, link_of, lost_link, new_link, on_way, wire_in, wires_in}
-use Rattle.oletx_session.specs.Traffic.{AreSameBut, Becomes, Delivers, Ends, IsCut, Spells, Wire, fresh, has_left, is_empty, is_left, is_open, is_taken, lane, lost_with, may_send, opposite, sent_on, wire_of, with_bytes, with_end}
-use Rattle.oletx_session.proofs.Conns.{not_same_as, same_is, same_self, same_turned, same_way}
+use Rattle.oletx_session.specs.Queues.{AreSameElse, Changes, HasNoStray, bytes_on, frame_in, has_ended, is_ending, is_of, is_on, link_of, on_way, wire_in, wires_in}
+use Rattle.oletx_session.specs.Traffic.{Becomes, Spells, Wire, has_left, is_empty, lane, wire_of}
+use Rattle.oletx_session.proofs.Conns.{not_same_as, same_is}
 
 -- the wire of a connection is what is seen of its link
 pub wire_seen : (ps : List Packet) (ls : List Link) (c : Conn) → wire_of c (wires_in ps ls) ≡ option_map (wire_in ps) (link_of c ls)
 wire_seen ps [] c = refl
 wire_seen ps (l ∷ ls) c =
     elim (cases_Bool (is_of c l)) [
-      inl is ↦ cond-true (is_of c l) (Some (wire_in ps l)) (wire_of c (wires_in ps ls)) is ∙ sym (ap (option_map (wire_in ps)) (cond-true (is_of c l) (Some l) (link_of c ls) is))
+      | inl is ↦ cond-true (is_of c l) (Some (wire_in ps l)) (wire_of c (wires_in ps ls)) is ∙ sym (ap (option_map (wire_in ps)) (cond-true (is_of c l) (Some l) (link_of c ls) is))
       | inr other ↦ cond-false (is_of c l) (Some (wire_in ps l)) (wire_of c (wires_in ps ls)) other ∙ wire_seen ps ls c
-        ∙ sym (ap (option_map (wire_in ps)) (cond-false (is_of c l) (Some l) (link_of c ls) other))
+          ∙ sym (ap (option_map (wire_in ps)) (cond-false (is_of c l) (Some l) (link_of c ls) other))
     ]
 
 -- the link that is found for a connection is that connection's
@@ -36,7 +34,7 @@ pub link_is : (c : Conn) (ls : List Link) (l : Link) → link_of c ls ≡ Some l
 link_is c [] l h = absurd cc
 link_is c (k ∷ ls) l h =
     elim (cases_Bool (is_of c k)) [
-      inl is ↦ let same : k ≡ l = (let e = sym (cond-true (is_of c k) (Some k) (link_of c ls) is) ∙ h in cc) in let P : Link → Type 0 = λ x. is_of c x ≡ true in subst P same is
+      | inl is ↦ let same : k ≡ l = (let e = sym (cond-true (is_of c k) (Some k) (link_of c ls) is) ∙ h in cc) in let P : Link → Type 0 = λ x. is_of c x ≡ true in subst P same is
       | inr other ↦ link_is c ls l (sym (cond-false (is_of c k) (Some k) (link_of c ls) other) ∙ h)
     ]
 
@@ -64,7 +62,7 @@ pub becomes : (c : Conn) (l : Link) (ls ks : List Link) (ps qs : List Packet) �
 becomes c l ls ks ps qs changes others = record {
   here = wire_seen qs ks c ∙ ap (option_map (wire_in qs)) changes.here;
   others = λ x other.
-    wire_seen qs ks x ∙ ap (option_map (wire_in qs)) (changes.others x other) ∙ same_seen c x ps qs (link_of x ls) others other (link_is x ls) ∙ sym (wire_seen ps ls x);
+      wire_seen qs ks x ∙ ap (option_map (wire_in qs)) (changes.others x other) ∙ same_seen c x ps qs (link_of x ls) others other (link_is x ls) ∙ sym (wire_seen ps ls x);
 }
 
 -- a link that stays
@@ -79,7 +77,7 @@ others_else c d ps qs same x e other = same x e (and_left (same_connection x c) 
 pub no_stray : (c : Conn) (l : Link) (ls ks : List Link) (ps qs : List Packet) → Changes c l ls ks → AreOthers c ps qs → HasNoStray ls ps → HasNoStray ks qs
 no_stray c l ls ks ps qs changes others none x e missing =
     elim (cases_Bool (same_connection x c)) [
-      inl is ↦ (let P : Conn → Type 0 = λ y. link_of y ks ≡ None in let gone = subst P (same_is x c is) missing in let here = changes.here in absurd cc)
+      | inl is ↦ (let P : Conn → Type 0 = λ y. link_of y ks ≡ None in let gone = subst P (same_is x c is) missing in let here = changes.here in absurd cc)
       | inr other ↦ others x e other ∙ none x e (sym (changes.others x other) ∙ missing)
     ]
 
@@ -115,8 +113,8 @@ any_bytes c d (p ∷ ps) =
     let seen = λ (xs : List Packet). not (is_empty (flat_map frame_in xs)) in
     let rest = on_way c d ps in
     elim (cases_Bool (is_on c d p)) [
-      inl on ↦ or_left (is_on c d p) (list_any (is_on c d) ps) on
-        ∙ sym (ap seen (cond-true (is_on c d p) (p ∷ rest) rest on) ∙ ap not (packet_full p (bytes_on c d ps)))
+      | inl on ↦ or_left (is_on c d p) (list_any (is_on c d) ps) on
+          ∙ sym (ap seen (cond-true (is_on c d p) (p ∷ rest) rest on) ∙ ap not (packet_full p (bytes_on c d ps)))
       | inr off ↦ ap (λ b. b || list_any (is_on c d) ps) off ∙ any_bytes c d ps ∙ sym (ap seen (cond-false (is_on c d p) (p ∷ rest) rest off))
     ]
 
@@ -147,11 +145,13 @@ pub spelled : (ps : List Packet) → (ms : List Message) × Spells (flat_map fra
 spelled [] = ([], record { valid = refl; bytes = refl })
 spelled (p ∷ ps) =
     let held = p.framed in
-    let behind = spelled ps in
-    (held.0 ∷ behind.0, record {
-      valid = and_from (is_valid held.0) (each is_valid behind.0) held.1.valid behind.1.valid;
-      bytes = λ k. held.1.bytes k ++ behind.1.bytes k;
-    })
+    let behind = spelled ps in (
+      held.0 ∷ behind.0,
+      record {
+        valid = and_from (is_valid held.0) (each is_valid behind.0) held.1.valid behind.1.valid;
+        bytes = λ k. held.1.bytes k ++ behind.1.bytes k;
+      },
+    )
 
 -- so what is on the way on a connection spells messages
 pub frames_seen : (c : Conn) (d : Dir) (ps : List Packet) (ls : List Link) (l : Link) (ws : List Wire) → wires_in ps ls ≡ ws → link_of c ls ≡ Some l

@@ -1,5 +1,5 @@
 -- What a packet holds.
-use Rattle.std.specs.Prelude.{◌≡◌, ℕ, List, [], ◌++◌, true}
+use Rattle.std.specs.Prelude.{ℕ, List, [], ◌++◌, true}
 use Rattle.std.specs.Coded.{Coded-set, coded_bool, coded_list, coded_ℕ}
 use Rattle.std.proofs.Common.{ap, sym, ◌∙◌}
 use mathlib.Core.HLevel.{Σ_prop_path}

@@ -9,6 +9,8 @@ mod packet;
 mod queue;
 mod refusal;
 mod session;
+#[cfg(test)]
+mod tests;
 
 pub use oletx_frames::FrameRefusal;
 pub use refusal::SessionRefusal;

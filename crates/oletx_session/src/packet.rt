@@ -2,7 +2,6 @@
 ghost use Rattle.std.specs.Prelude.{◌≤◌, take};
 ghost use Rattle.oletx_session.specs.Framed.{HasMessage, HasMessage-prop};
 
-
 use dtx_values::{Conn, Dir, Message};
 use oletx_frames::{FrameRefusal, decode, encode};
 

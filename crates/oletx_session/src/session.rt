@@ -82,9 +82,10 @@ fn content_of(packet: &Packet) -> Delivered
 }
 
 impl Session {
-    /// No connection was started.
+    /// No connection was started, and there is room for [`ROOM`] (64) calls of `start` and as many of `send`.
     pub fn new(alloc: Global) -> Result<Session, AllocError>
         ensures none { IfOk result (λ s. s.wires ≡ []) }
+        ensures room { IfOk result (λ s. (64 ≤ s.start_room) × (64 ≤ s.send_room)) }
         ensures carries { IfOk result (λ s. Carries s.wires []) }
     {
         Ok(Session {

@@ -11,8 +11,8 @@ loop-place-preserved c =
     let P : List Packet → Type 0 = λ xs. CutTo c.args.c c.args.d c.args.keep c.loop-place.kept place c.args.packets.now.items xs in
     record {
       so_far =
-        subst P (sym c.remove.ensures.items)
-        (cut_out c.args.c c.args.d c.args.keep c.loop-place.kept place c.args.packets.now.items ps c.index.result.now past.so_far (omega arith) c.index.ensures (sym c.if-not-is_on.ensures) c.if-kept-keep.false);
+          subst P (sym c.remove.ensures.items)
+          (cut_out c.args.c c.args.d c.args.keep c.loop-place.kept place c.args.packets.now.items ps c.index.result.now past.so_far (omega arith) c.index.ensures (sym c.if-not-is_on.ensures) c.if-kept-keep.false);
       few = omega (arith, past.few, c.remove.ensures.len);
       capacity = omega (arith, past.capacity, c.remove.ensures.capacity);
     }

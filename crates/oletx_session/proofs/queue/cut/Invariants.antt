@@ -1,4 +1,4 @@
-use Rattle.std.proofs.Common.{◌≤◌, ◌-◌, length, vec_capacity, vec_len}
+use Rattle.std.proofs.Common.{◌≤◌, ◌-◌, vec_capacity, vec_len}
 use Rattle.oletx_session.proofs.Packets.{CutTo}
 use Rattle.oletx_session.proofs.queue.cut.Given as goal
 

@@ -1,4 +1,4 @@
-use Rattle.std.proofs.Common.{◌≡◌, ◌∷◌, Option, Some, None, IfNone, ap, sym, ◌∙◌, position, filter}
+use Rattle.std.proofs.Common.{◌∷◌, Option, Some, None, IfNone, ap, sym, ◌∙◌, position, filter}
 use Rattle.oletx_session.specs.declared.packet.Packet.{Packet}
 use Rattle.oletx_session.specs.Queues.{is_on, on_way}
 use Rattle.oletx_session.proofs.Packets.{else_first, filter_first, filter_none}

@@ -1,7 +1,7 @@
-use Rattle.std.proofs.Common.{◌≡◌, ap, refl, sym, subst, ◌∙◌, Bool, true, false, None, Some, IfSome, List, [], ◌∷◌}
+use Rattle.std.proofs.Common.{ap, refl, sym, subst, ◌∙◌, IfSome, List}
 use Rattle.oletx_session.specs.declared.link.Link.{Link}
 use Rattle.oletx_session.specs.declared.packet.Packet.{Packet}
-use Rattle.oletx_session.specs.Queues.{Changes, ended_in, is_ending, link_of, on_way, wire_in, wires_in}
+use Rattle.oletx_session.specs.Queues.{Changes, link_of, on_way, wire_in, wires_in}
 use Rattle.oletx_session.specs.Traffic.{Delivers, Ends, wire_of}
 use Rattle.oletx_session.proofs.Histories.{at_wire, carried_end, carried_got, end_may, got_next}
 use Rattle.oletx_session.proofs.Views.{no_stray, left_unstarted, wire_found}

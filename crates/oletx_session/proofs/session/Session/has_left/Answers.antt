@@ -1,4 +1,4 @@
-use Rattle.std.proofs.Common.{◌||◌, ap, sym, subst, ◌∙◌, Option, None, IfSome, List}
+use Rattle.std.proofs.Common.{◌||◌, ap, sym, subst, ◌∙◌, Option, IfSome, List}
 use Rattle.std.specs.List.{list_any}
 use Rattle.std.proofs.lemmas.Bool.{or_left}
 use Rattle.dtx_values.specs.declared.message.Message.{Message}

@@ -1,13 +1,11 @@
-use Rattle.std.proofs.Common.{◌≡◌, ap, refl, sym, subst, ◌∙◌, Bool, true, false, not, None, Some, IfSome, List, [], ◌∷◌}
+use Rattle.std.proofs.Common.{ap, refl, sym, subst, ◌∙◌, not, List}
 use Rattle.dtx_values.specs.declared.message.Dir.TheVariants.{Up, Down}
 use Rattle.dtx_values.specs.declared.message.Message.{Message}
 use Rattle.oletx_session.specs.declared.link.Link.{Link}
-use Rattle.oletx_session.specs.declared.packet.Packet.{Packet}
-use Rattle.oletx_session.specs.Queues.{Changes, link_of, lost_link, on_way, wire_in, wires_in}
-use Rattle.oletx_session.specs.Traffic.{IsCut, Spells, is_open, wire_of}
+use Rattle.oletx_session.specs.Queues.{Changes, link_of, wire_in, wires_in}
+use Rattle.oletx_session.specs.Traffic.{IsCut, Spells, is_open}
 use Rattle.oletx_session.proofs.Histories.{at_wire, carried_cut}
 use Rattle.oletx_session.proofs.Views.{no_stray, others_else, wire_found, wire_missing}
-
 use Rattle.oletx_session.proofs.Moves.{lost, replaced}
 use Rattle.oletx_session.proofs.session.Session.lose.Goals as goal
 

@@ -1,7 +1,7 @@
-use Rattle.std.proofs.Common.{◌≡◌, ap, refl, sym, subst, ◌∙◌, not, Bool, true, false, IfSome, List, ◌++◌, [], ◌∷◌}
+use Rattle.std.proofs.Common.{ap, refl, sym, subst, ◌∙◌, not, IfSome, List, ◌++◌, [], ◌∷◌}
 use Rattle.oletx_session.specs.declared.packet.Packet.{Packet}
 use Rattle.oletx_session.specs.Queues.{has_ended, link_of, on_way, wire_in, wires_in}
-use Rattle.oletx_session.specs.Traffic.{Becomes, may_send, opposite, sent_on, wire_of}
+use Rattle.oletx_session.specs.Traffic.{Becomes, may_send, sent_on, wire_of}
 use Rattle.oletx_session.proofs.Histories.{at_wire, carried_opened, carried_sent}
 use Rattle.oletx_session.proofs.Views.{no_stray, others_push, stays, wire_found, wire_missing}
 use Rattle.oletx_session.proofs.Moves.{send_seen, sent_lost, sent_push}

@@ -1,6 +1,6 @@
 use Rattle.std.proofs.Common.{ap, refl, sym, subst}
 use Rattle.oletx_session.specs.declared.link.Link.{Link}
-use Rattle.oletx_session.specs.Queues.{Changes, new_link, wires_in}
+use Rattle.oletx_session.specs.Queues.{Changes, wires_in}
 use Rattle.oletx_session.proofs.Histories.{carried_start}
 use Rattle.oletx_session.proofs.Views.{no_stray}
 use Rattle.oletx_session.proofs.Moves.{started}
