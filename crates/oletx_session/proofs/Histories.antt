@@ -25,6 +25,7 @@ lost_kept : (x : Conn) (h : List Entry) (e : Entry) (o : Option Bool) → opens 
 lost_kept x h e None shut kept = cond-false (opens x e) (Some (is_stopped h)) None shut
 lost_kept x h e (Some lost) shut kept = cond-false (opens x e) (Some (is_stopped h)) (Some (lost || loses x e)) shut ∙ ap Some (ap (λ b. lost || b) kept ∙ or_nothing lost)
   where
+    -- what is false adds nothing
     or_nothing : (b : Bool) → (b || false) ≡ b
     or_nothing true = refl
     or_nothing false = refl
@@ -121,21 +122,24 @@ sent_here c d e m h shut =
     cond-false (opens c (Sent c d m)) (opened_with e m (is_stopped h)) (cond (same_connection c c && same_direction e d) behind ms) shut
     ∙ ap (λ b. cond (b && same_direction e d) behind ms) (same_self c)
 
--- whether a wire with one lane's bytes changed is lost, and its lanes
+-- a wire with one lane's bytes changed is as lost as it was
 bytes_lost : (d : Dir) (b : List ℕ) (w : Wire) → (with_bytes d b w).lost ≡ w.lost
 bytes_lost Up b w = refl
 bytes_lost Down b w = refl
 
+-- and its ends are as seen as they were
 bytes_ended : (d e : Dir) (b : List ℕ) (w : Wire) → (lane e (with_bytes d b w)).ended ≡ (lane e w).ended
 bytes_ended Up Up b w = refl
 bytes_ended Up Down b w = refl
 bytes_ended Down Up b w = refl
 bytes_ended Down Down b w = refl
 
+-- the lane has these bytes
 bytes_here : (d : Dir) (b : List ℕ) (w : Wire) → (lane d (with_bytes d b w)).bytes ≡ b
 bytes_here Up b w = refl
 bytes_here Down b w = refl
 
+-- and the other has those that it had
 bytes_there : (d e : Dir) (b : List ℕ) (w : Wire) → same_direction e d ≡ false → (lane e (with_bytes d b w)).bytes ≡ (lane e w).bytes
 bytes_there Up Up b w other = absurd cc
 bytes_there Up Down b w other = refl
@@ -181,10 +185,12 @@ sent_wire c d m w h valid shut is =
           ))
     ]
   where
+    -- a choice between the same is the same
     same_both : (b : Bool) (ms : List Message) → cond b ms ms ≡ ms
     same_both true ms = refl
     same_both false ms = refl
 
+    -- where the directions are the same, so is what is left in them
     same_left : (e d : Dir) (f : List Message → List Message) (q : Dir → List Message) → cond (same_direction e d) (f (q e)) (q e) ≡ cond (same_direction e d) (f (q d)) (q e)
     same_left Up Up f q = refl
     same_left Up Down f q = refl
@@ -270,6 +276,7 @@ got_wire c d m w rest h first valid line is =
       λ f. lane_bytes_from c d f rest w h n (without_first (left c d h)) (got_here c d f m h line ∙ same_left f d (λ g. left c g h)) spelled (ended_kept c f h e refl (got_ends c c d f m line)) (is.1 f),
     )
   where
+    -- where the directions are the same, so is what is left in them
     same_left : (e d : Dir) (q : Dir → List Message) → cond (same_direction e d) (without_first (q e)) (q e) ≡ cond (same_direction e d) (without_first (q d)) (q e)
     same_left Up Up q = refl
     same_left Up Down q = refl
