@@ -1,2 +1,4 @@
 pub mod Traffic
 pub mod Carries
+pub mod Framed
+pub mod Queues

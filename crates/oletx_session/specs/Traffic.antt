@@ -32,14 +32,17 @@ abbrev pub wire_of : Conn → List Wire → Option Wire
 wire_of c [] = None
 wire_of c (w ∷ ws) = if same_connection c w.connection then Some w else wire_of c ws
 
+-- the connection in this direction
 abbrev pub lane : Dir → Wire → Lane
 lane Up w = w.up
 lane Down w = w.down
 
+-- the other direction
 abbrev pub opposite : Dir → Dir
 opposite Up = Down
 opposite Down = Up
 
+-- there are no bytes
 abbrev pub is_empty : List ℕ → Bool
 is_empty [] = true
 is_empty (b ∷ bs) = false
@@ -48,6 +51,7 @@ is_empty (b ∷ bs) = false
 abbrev pub is_left : Dir → Wire → Bool
 is_left d w = not (is_empty (lane d w).bytes) || (w.lost && not (lane d w).ended)
 
+-- the same, where the connection was started
 abbrev pub has_left : Dir → Option Wire → Bool
 has_left d (Some w) = is_left d w
 has_left d None = false

@@ -4,7 +4,9 @@
 //! direction. (A definition of this project, after the connections of the coordinator's protocol.)
 #![tactic(auto)]
 
+mod link;
 mod packet;
+mod queue;
 mod refusal;
 mod session;
 #[cfg(test)]

@@ -1,21 +1,24 @@
 //! The connections of one transaction.
-ghost use Rattle.std.specs.Prelude.{◌≡◌, ◌≢◌, ◌⊎◌, ◌↔◌, ◌≤◌, ◌<◌, ◌+◌, ◌++◌, List, [], ℕ, Bool, Some, None, Err, true, false, length, min, take, IfOk, IfErr, IfSome, OnErr, OnOk, IsTrue, IsErrOf};
+ghost use Rattle.std.specs.Prelude.{◌≡◌, ◌≢◌, ◌⊎◌, ◌↔◌, ◌≤◌, ◌<◌, ◌+◌, ◌∷◌, ◌++◌, List, [], ℕ, Bool, Some, None, Err, true, false, length, min, take, IfOk, IfErr, IfSome, OnErr, OnOk, IsTrue, IsErrOf};
 ghost use Rattle.std.specs.List.{flat_map};
 ghost use Rattle.dtx_values.specs.declared.entry.Entry.{Entry};
 ghost use Rattle.dtx_values.specs.declared.entry.Entry.TheVariants.{Cut, Down as End, Got, Sent};
 ghost use Rattle.dtx_values.specs.declared.message.Dir.TheVariants.{Up, Down};
 ghost use Rattle.dtx_values.specs.declared.message.Message.{Message};
-ghost use Rattle.dtx_model.specs.Frames.{frame_of, is_valid};
+ghost use Rattle.dtx_model.specs.Frames.{IsFrame, frame_of, is_valid};
 ghost use Rattle.dtx_model.specs.Messages.{has_line};
 ghost use Rattle.dtx_model.specs.Wires.{MayCross, is_stopped, opens};
 ghost use Rattle.oletx_frames.specs.declared.refusal.FrameRefusal.{FrameRefusal};
-ghost use Rattle.oletx_session.specs.Traffic.{Becomes, Delivers, Ends, IsCut, Spells, fresh, has_left, is_open, is_taken, lane, may_send, sent_on, wire_of};
+ghost use Rattle.oletx_session.specs.Traffic.{Becomes, Delivers, Ends, IsCut, Spells, fresh, has_left, is_open, is_taken, lane, may_send, opposite, sent_on, wire_of};
+ghost use Rattle.oletx_session.specs.Queues.{frame_in};
 ghost use Rattle.oletx_session.specs.Carries.{Carries, IsStarted};
 
+use crate::link::{Link, link_of, put, replace};
 use crate::packet::Packet;
+use crate::queue::{cut, is_any_on, take_first};
 use crate::refusal::SessionRefusal;
 use dtx_values::{Conn, Dir, Message, ROOM};
-use oletx_frames::{FrameRefusal, decode, encode};
+use oletx_frames::FrameRefusal;
 use std::alloc::{AllocError, Global};
 use std::marker::Model;
 
@@ -30,17 +33,6 @@ pub enum Delivered {
     End,
 }
 
-/// What is known of a connection since it was started last.
-#[derive(Clone, Copy)]
-pub struct Link {
-    pub connection: Conn,
-    pub lost: bool,
-    /// Whether the coordinator saw the connection's end.
-    pub up_ended: bool,
-    /// Whether the local side saw it.
-    pub down_ended: bool,
-}
-
 /// The connections of one transaction.
 ///
 /// A clause sees the connections that were started, each with the bytes on the way in both directions, and the room for calls of `start` and `send`.
@@ -52,17 +44,54 @@ pub struct Session {
 }
 
 impl Model for Session {
+    ghost use Rattle.std.specs.Prelude.{◌-◌, vec_capacity, vec_len};
+    ghost use Rattle.oletx_session.specs.Queues.{HasNoStray, wires_in};
     ghost use Rattle.oletx_session.specs.Traffic.{Traffic};
 
     ghost Value = { Traffic };
+
+    ghost invariant = { λ s. HasNoStray s.links.items s.packets.items };
+
+    ghost view = { λ s. record {
+      wires = wires_in s.packets.items s.links.items;
+      start_room = vec_capacity s.links - vec_len s.links;
+      send_room = vec_capacity s.packets - vec_len s.packets;
+    } };
+}
+
+/// The other direction.
+fn opposite(d: Dir) -> Dir
+    ensures { result ≡ opposite d }
+{
+    match d {
+        Dir::Up => Dir::Down,
+        Dir::Down => Dir::Up,
+    }
+}
+
+/// What is delivered with a packet.
+fn content_of(packet: &Packet) -> Delivered
+    ensures message { (m : Message) → result ≡ Delivered.Msg m → IsFrame (frame_in packet.now) m }
+    ensures never { (e : FrameRefusal) → result ≢ Delivered.BadFrame e }
+    ensures more { result ≢ Delivered.End }
+{
+    match packet.message() {
+        Ok(m) => Delivered::Msg(m),
+        Err(refusal) => Delivered::BadFrame(refusal),
+    }
 }
 
 impl Session {
-    /// No connection was started.
+    /// No connection was started, and there is room for [`ROOM`] (64) calls of `start` and as many of `send`.
     pub fn new(alloc: Global) -> Result<Session, AllocError>
         ensures none { IfOk result (λ s. s.wires ≡ []) }
+        ensures room { IfOk result (λ s. (64 ≤ s.start_room) × (64 ≤ s.send_room)) }
         ensures carries { IfOk result (λ s. Carries s.wires []) }
     {
+        Ok(Session {
+            links: Vec::with_capacity(alloc, ROOM)?,
+            packets: Vec::with_capacity(alloc, ROOM)?,
+        })
     }
 
     /// Makes room for [`ROOM`] (64) calls of `start` and as many of `send`. While it lasts, neither needs memory.
@@ -72,6 +101,8 @@ impl Session {
         ensures start_room { self.old.start_room ≤ self.new.start_room }
         ensures send_room { self.old.send_room ≤ self.new.send_room }
     {
+        self.links.reserve(ROOM)?;
+        self.packets.reserve(ROOM)
     }
 
     /// Starts a connection. Nothing is on the way yet.
@@ -90,6 +121,14 @@ impl Session {
         ensures send_room { self.old.send_room ≤ self.new.send_room }
         ensures carries { OnOk result ((h : List Entry) → Carries self.old.wires h → IsStarted c self.new.wires h) }
     {
+        if self.is_taken(c) {
+            return Err(SessionRefusal::Taken(c));
+        }
+        match put(&mut self.links, Link::new(c)) {
+            Ok(()) => (),
+            Err(_) => return Err(SessionRefusal::Memory),
+        }
+        Ok(())
     }
 
     /// Puts the frame of a valid message behind what is on the way. On a lost connection whose end the sender hasn't seen it is dropped.
@@ -112,6 +151,20 @@ impl Session {
         ensures opened { OnOk result ((h : List Entry) → IsStarted c self.old.wires h → opens c (Sent c d m.now) ≡ true → is_stopped h ≡ false
             → Carries self.new.wires (Sent c d m.now ∷ h)) }
     {
+        let Some(link) = link_of(&self.links, c) else {
+            return Err(SessionRefusal::NotOpen(c));
+        };
+        if link.has_ended(opposite(d)) {
+            return Err(SessionRefusal::NotOpen(c));
+        }
+        if link.lost {
+            return Ok(());
+        }
+        match self.packets.push(Packet::new(c, d, m)) {
+            Ok(()) => (),
+            Err(_) => return Err(SessionRefusal::Memory),
+        }
+        Ok(())
     }
 
     /// Takes what comes next to the side that gets in this direction: the next message, or the end of a lost connection behind the last one, once. `None` exactly where
@@ -129,6 +182,15 @@ impl Session {
             → MayCross h (Got c d m) × (has_line c d m ≡ true → Carries self.new.wires (Got c d m ∷ h)) }
         ensures down { (h : List Entry) → result ≡ Some Delivered.End → Carries self.old.wires h → MayCross h (End c d) × Carries self.new.wires (End c d ∷ h) }
     {
+        let link = link_of(&self.links, c)?;
+        if let Some(packet) = take_first(&mut self.packets, c, d) {
+            return Some(content_of(&packet));
+        }
+        if !link.is_ending(d) {
+            return None;
+        }
+        let _ = replace(&mut self.links, link.ended_in(d));
+        Some(Delivered::End)
     }
 
     /// Whether something is left to deliver in this direction.
@@ -137,12 +199,20 @@ impl Session {
         // what is on the way are frames of valid messages, one behind the other
         ensures frames { IfSome (wire_of c self.now.wires) (λ w. (ms : List Message) × Spells (lane d w).bytes ms) }
     {
+        match link_of(&self.links, c) {
+            Some(link) => is_any_on(&self.packets, c, d) || link.is_ending(d),
+            None => false,
+        }
     }
 
     /// Whether the connection is open: it was started, and isn't lost.
     pub fn is_open(&self, c: Conn) -> bool
         ensures { result ≡ is_open (wire_of c self.now.wires) }
     {
+        match link_of(&self.links, c) {
+            Some(link) => !link.lost,
+            None => false,
+        }
     }
 
     /// Loses an open connection. The first `up` messages on the way upward and the first `down` on the way downward are kept, or all where fewer are left, and its end comes
@@ -156,5 +226,20 @@ impl Session {
         ensures send_room { self.old.send_room ≤ self.new.send_room }
         ensures cut { (h : List Entry) → IfSome result (λ k. Carries self.old.wires h → Carries self.new.wires (Cut c k.0 k.1 ∷ h)) }
     {
+        let link = link_of(&self.links, c)?;
+        if link.lost {
+            return None;
+        }
+        let _ = replace(&mut self.links, link.lost());
+        let up = cut(&mut self.packets, c, Dir::Up, up);
+        let down = cut(&mut self.packets, c, Dir::Down, down);
+        Some((up, down))
+    }
+
+    /// Whether the connection is open, or has something left to deliver.
+    fn is_taken(&self, c: Conn) -> bool
+        ensures { result ≡ is_taken (wire_of c self.now.wires) }
+    {
+        self.is_open(c) || self.has_left(c, Dir::Up) || self.has_left(c, Dir::Down)
     }
 }

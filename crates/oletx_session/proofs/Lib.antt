@@ -1,0 +1,7 @@
+pub mod Conns
+pub mod Links
+pub mod Packets
+pub mod Views
+pub mod Reading
+pub mod Moves
+pub mod Histories
