@@ -76,8 +76,8 @@ fn a_record_has_its_bytes(rt: HostRuntime) -> Result<(), Fail> {
     assert_eq!(rt; disk.len(), LENGTH);
     let mut slot = [7; 512];
     assert!(rt; disk.read(512, &mut slot).is_ok());
-    assert_eq!(rt; &slot[..40], FRONT.as_slice());
-    assert!(rt; slot[40..].iter().all(|b| *b == 0));
+    assert!(rt; slot.starts_with(&FRONT));
+    assert!(rt; slot.iter().skip(FRONT.len()).all(|b| *b == 0));
     Ok(())
 }
 
