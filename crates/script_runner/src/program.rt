@@ -86,6 +86,7 @@ fn formatted<D: Disk>(alloc: Global, disk: D) -> Result<Log<D>, (FormatStop, D)>
     ensures up { IfOk result (λ log. IsTrue log.up) }
     ensures empty { IfOk result (λ log. open_records log.slots ≡ []) }
     ensures fault { IfErr result (λ e. e.0 ≡ FormatStop.Fault → Rose (D.faults disk) (D.faults e.1)) }
+    ensures room { IfErr result (λ e. 524800 ≤ D.size e.1) }
 {
     match Log::format(alloc, disk) {
         Ok(log) => Ok(log),
@@ -134,6 +135,7 @@ pub fn run_program<S: Source, K: Sink, D: Disk>(
     ensures cut_short { result.0 ≡ Exit.WriteFault → IsCutShort (S.left source.old) (K.written sink.old) (K.written sink.new) }
     ensures memory { result.0 ≡ Exit.Memory → (sink.new ≡ sink.old) ⊎ IsCutShort (S.left source.old) (K.written sink.old) (K.written sink.new) }
     ensures unwritten { (result.0 ≡ Exit.Usage) ⊎ ((result.0 ≡ Exit.ReadFault) ⊎ ((result.0 ≡ Exit.LogFault) ⊎ IsJudged result.0)) → sink.new ≡ sink.old }
+    ensures room { 524800 ≤ D.size result.1 }
     ensures untouched { (result.0 ≡ Exit.Usage) ⊎ ((result.0 ≡ Exit.ReadFault) ⊎ IsJudged result.0) → result.1 ≡ disk }
 {
     reads_exactly();
