@@ -1,14 +1,13 @@
 -- The slots of a log, in memory and on a disk.
 use Rattle.std.specs.Prelude.{◌≡◌, ◌⊎◌, ◌==◌, ℕ, suc, Bool, false, List, [], ◌∷◌, slice_index_or, take, map, set, Option, Some, None, Ok, Err}
+use Rattle.std.specs.List.{filter_map}
 use Rattle.outside.specs.Disk.{IsOnly}
 use Rattle.dtx_values.specs.declared.record.LogRecord.{LogRecord}
 use Rattle.dtx_model.specs.Log.{CommitRecord, Slot, head, slots_of}
 
 -- the records of the slots whose gates are open, in order of slots
 abbrev pub open_records : List (Option CommitRecord) → List CommitRecord
-open_records [] = []
-open_records (None ∷ ss) = open_records ss
-open_records (Some r ∷ ss) = r ∷ open_records ss
+open_records ss = filter_map (λ s. s) ss
 
 -- the number of the lowest slot whose gate is closed, or how many slots there are where none is
 abbrev pub lowest_closed : List (Option CommitRecord) → ℕ

@@ -20,20 +20,8 @@ pub fn blank<D: Disk>(disk: &mut D, zeros: &[u8], wanted: &[u8]) -> Result<(), F
     ensures size { D.size disk.new ≡ D.size disk.old }
     ensures grows { D.faults disk.old ≤ D.faults disk.new }
 {
-    match disk.write_at(0, zeros) {
-        Ok(()) => (),
-        Err(e) => return Err(e),
-    }
-    match disk.sync() {
-        Ok(()) => (),
-        Err(e) => return Err(e),
-    }
-    match disk.write_at(0, wanted) {
-        Ok(()) => (),
-        Err(e) => return Err(e),
-    }
-    match disk.sync() {
-        Ok(()) => Ok(()),
-        Err(e) => Err(e),
-    }
+    disk.write_at(0, zeros)?;
+    disk.sync()?;
+    disk.write_at(0, wanted)?;
+    disk.sync()
 }

@@ -2,6 +2,7 @@
 use Rattle.std.proofs.Common.{◌≡◌, ℕ, zero, suc, min, Bool, true, false, ◌&&◌, ◌||◌, cond, if◌then◌else◌, not, List, [], ◌∷◌, ◌++◌, length, take, Option, Some, None, IfSome, refl, ap, sym, subst, ◌∙◌, inl, inr}
 use Rattle.std.specs.List.{flat_map}
 use Rattle.std.proofs.lemmas.Bool.{and_from, and_parts, and_left, and_right, cases_Bool, cond-false, cond-true, not_from_true, or_right}
+use Rattle.std.proofs.Math.Bool.{or-false}
 use Rattle.std.proofs.lemmas.List.{append-nil, take_min}
 use Rattle.std.proofs.lemmas.List.Concat.{flat_map-append}
 use Rattle.dtx_values.specs.declared.entry.Entry.{Entry}
@@ -23,12 +24,7 @@ use Rattle.oletx_session.proofs.Reading.{first_read, none_read}
 -- what neither opens nor loses a connection leaves it as it was
 lost_kept : (x : Conn) (h : List Entry) (e : Entry) (o : Option Bool) → opens x e ≡ false → loses x e ≡ false → lost_after x h e o ≡ o
 lost_kept x h e None shut kept = cond-false (opens x e) (Some (is_stopped h)) None shut
-lost_kept x h e (Some lost) shut kept = cond-false (opens x e) (Some (is_stopped h)) (Some (lost || loses x e)) shut ∙ ap Some (ap (λ b. lost || b) kept ∙ or_nothing lost)
-  where
-    -- what is false adds nothing
-    or_nothing : (b : Bool) → (b || false) ≡ b
-    or_nothing true = refl
-    or_nothing false = refl
+lost_kept x h e (Some lost) shut kept = cond-false (opens x e) (Some (is_stopped h)) (Some (lost || loses x e)) shut ∙ ap Some (ap (λ b. lost || b) kept ∙ or-false lost)
 
 -- what neither opens nor ends a connection leaves it ended or not
 ended_kept : (x : Conn) (d : Dir) (h : List Entry) (e : Entry) → opens x e ≡ false → ends x d e ≡ false → is_ended x d (e ∷ h) ≡ is_ended x d h

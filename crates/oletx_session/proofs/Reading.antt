@@ -9,7 +9,8 @@ use Rattle.dtx_model.specs.Words.{each}
 use Rattle.oletx_frames.proofs.Pieces.{same_messages}
 use Rattle.oletx_session.specs.declared.packet.Packet.{Packet}
 use Rattle.oletx_session.specs.Queues.{frame_in}
-use Rattle.oletx_session.specs.Traffic.{Spells, is_empty}
+use Rattle.dtx_model.specs.Outcome.{is_empty}
+use Rattle.oletx_session.specs.Traffic.{Spells}
 use Rattle.oletx_session.proofs.Views.{frame_full, packet_full}
 
 -- the message is the first of these, and the bytes are the frames of the others

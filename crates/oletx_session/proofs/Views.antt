@@ -16,7 +16,8 @@ use Rattle.oletx_frames.proofs.Pieces.{frame_is}
 use Rattle.oletx_session.specs.declared.link.Link.{Link}
 use Rattle.oletx_session.specs.declared.packet.Packet.{Packet}
 use Rattle.oletx_session.specs.Queues.{AreSameElse, Changes, HasNoStray, bytes_on, frame_in, has_ended, is_ending, is_of, is_on, link_of, on_way, wire_in, wires_in}
-use Rattle.oletx_session.specs.Traffic.{Becomes, Spells, Wire, has_left, is_empty, lane, wire_of}
+use Rattle.dtx_model.specs.Outcome.{is_empty}
+use Rattle.oletx_session.specs.Traffic.{Becomes, Spells, Wire, has_left, lane, wire_of}
 use Rattle.oletx_session.proofs.Conns.{not_same_as, same_is}
 
 -- the wire of a connection is what is seen of its link

@@ -6,6 +6,7 @@ use Rattle.dtx_values.specs.declared.message.Dir.{Dir}
 use Rattle.dtx_values.specs.declared.message.Dir.TheVariants.{Up, Down}
 use Rattle.dtx_values.specs.declared.message.Message.{Message}
 use Rattle.dtx_model.specs.Words.{each}
+use Rattle.dtx_model.specs.Outcome.{is_empty}
 use Rattle.dtx_model.specs.Frames.{frame_of, is_valid}
 use Rattle.dtx_model.specs.Wires.{same_connection}
 
@@ -41,11 +42,6 @@ lane Down w = w.down
 abbrev pub opposite : Dir → Dir
 opposite Up = Down
 opposite Down = Up
-
--- there are no bytes
-abbrev pub is_empty : List ℕ → Bool
-is_empty [] = true
-is_empty (b ∷ bs) = false
 
 -- something is left to deliver in this direction: bytes, or the end of a lost connection that wasn't seen yet
 abbrev pub is_left : Dir → Wire → Bool
