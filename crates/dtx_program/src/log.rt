@@ -12,14 +12,12 @@ const OPTION: &str = "--log=";
 
 /// Takes the last word off where it is `--log=PATH`, and gives the path.
 pub fn take_path(alloc: Global, words: &mut Vec<String>) -> Result<Option<String>, Fault> {
-    match words.pop() {
-        Some(word) if word.starts_with(OPTION) => Ok(Some(path_in(alloc, word.as_str())?)),
-        Some(word) => match words.push(word) {
-            Ok(()) => Ok(None),
-            Err(_) => Err(Fault::Memory),
-        },
-        None => Ok(None),
-    }
+    let path = match words.last() {
+        Some(word) if word.starts_with(OPTION) => path_in(alloc, word.as_str())?,
+        _ => return Ok(None),
+    };
+    let _ = words.pop();
+    Ok(Some(path))
 }
 
 /// The path in a word `--log=PATH`.
