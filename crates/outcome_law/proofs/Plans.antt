@@ -142,7 +142,7 @@ unfolding pending
 pending_planned s o =
     each-append (is_planned_step s) (due_replies s o) (act_if (act_entries o))
     (each_picked (is_planned_step s) (due_reply s o) o.table
-    (each_from_at (λ x. passes (is_planned_step s) (due_reply s o x)) o.table (λ k x e. plan_planned s x.0 (due_note o x)))) (acts_planned s (act_entries o))
+    (each_from_at (λ x. passes (is_planned_step s) (due_reply s o x)) o.table (λ k x e. plan_planned s x.number (due_note o x)))) (acts_planned s (act_entries o))
 
 -- the entries of a reply that is planned are
 reply_planned : (s : List Line) (e : EnlNo) (r : Reply) → is_planned_step s (Replies e r) ≡ true → each (is_planned s) (reply_entries e r) ≡ true

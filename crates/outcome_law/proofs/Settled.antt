@@ -237,7 +237,7 @@ hand_step s false true e p o d = owner e (planned_owner s e.value) o d
 
 -- the reply that is due of the row where nothing is decided and nothing is lost
 abbrev pub open_reply : List Line → List Entry → Row → Option Step
-open_reply s h x = reply_step x.0 (planned_reply s x.0.value (open_note (is_marked x && not (has_voted x)) (is_handed (latest handed_of h) x.0.value)))
+open_reply s h x = reply_step x.number (planned_reply s x.number.value (open_note (is_marked x && not (has_voted x)) (is_handed (latest handed_of h) x.number.value)))
 
 -- an enlistment that is lost is a loss
 lost_loss : (e : ℕ) (x : Entry) → is_lost e x ≡ true → is_loss x ≡ true
@@ -248,9 +248,9 @@ lost_loss e _ k = absurd cc
 reply_open : (s : List Line) (h : List Entry) (x : Row) → ruled h ≡ true → latest decision_of h ≡ None → has is_loss h ≡ false → due_reply s (observe h) x ≡ open_reply s h x
 unfolding observe
 reply_open s h x r d l =
-    let here : is_gone (observe h) x.0.value ≡ false = lost_seen x.0.value h r ∙ has_less (is_lost x.0.value) is_loss (lost_loss x.0.value) h l in
-    ap (λ b. reply_step x.0 (planned_reply s x.0.value (if b then None else open_note (is_marked x && not (has_voted x)) (is_handed (latest handed_of h) x.0.value))))
-    (or_false (is_some (latest decision_of h)) (is_gone (observe h) x.0.value) (ap is_some d) here)
+    let here : is_gone (observe h) x.number.value ≡ false = lost_seen x.number.value h r ∙ has_less (is_lost x.number.value) is_loss (lost_loss x.number.value) h l in
+    ap (λ b. reply_step x.number (planned_reply s x.number.value (if b then None else open_note (is_marked x && not (has_voted x)) (is_handed (latest handed_of h) x.number.value))))
+    (or_false (is_some (latest decision_of h)) (is_gone (observe h) x.number.value) (ap is_some d) here)
 
 -- where no reply is due, none is of any row
 none_due : (s : List Line) (h : List Entry) → ruled h ≡ true → latest decision_of h ≡ None → has is_loss h ≡ false → due_replies s (observe h) ≡ []
@@ -261,35 +261,35 @@ none_due s h r d l e =
     (each_none (due_reply s (observe h)) (rows h) e)
 
 -- each row is willing
-each_planned : (s : List Line) (h : List Entry) → CanCommit s h → each (λ x. is_willing s x.0.value x.class) (rows h) ≡ true
+each_planned : (s : List Line) (h : List Entry) → CanCommit s h → each (λ x. is_willing s x.number.value x.class) (rows h) ≡ true
 each_planned s h c = each_rows (λ e k. is_willing s e.value k) h ∙ c.willing
 
 -- where each is willing and no reply is due, each marked row has a vote
 each_answered : (s : List Line) (h : List Entry) → CanCommit s h → each (λ x. is_none (open_reply s h x)) (rows h) ≡ true → each has_answered (rows h) ≡ true
 each_answered s h c d =
-    each_both (λ x. is_willing s x.0.value x.class) (λ x. is_none (open_reply s h x)) has_answered
-    (λ x w n. row_step s (is_marked x) (has_voted x) (is_handed (latest handed_of h) x.0.value) x.0 (first_of_three (voted_well (planned_vote s x.0.value)) _ _ w) n) (rows h) (each_planned s h c) d
+    each_both (λ x. is_willing s x.number.value x.class) (λ x. is_none (open_reply s h x)) has_answered
+    (λ x w n. row_step s (is_marked x) (has_voted x) (is_handed (latest handed_of h) x.number.value) x.number (first_of_three (voted_well (planned_vote s x.number.value)) _ _ w) n) (rows h) (each_planned s h c) d
 
 -- a row that can own the commit and is willing, and of which no reply is due, wasn't handed it
-still : (s : List Line) (h : List Entry) (x : Row) → is_willing s x.0.value x.class ≡ true → is_none (open_reply s h x) ≡ true
-    → (not (can_own x.class) || not (is_handed (latest handed_of h) x.0.value)) ≡ true
-still s h x w n = step (can_own x.class) (not (is_handed (latest handed_of h) x.0.value)) (λ o. bare o)
+still : (s : List Line) (h : List Entry) (x : Row) → is_willing s x.number.value x.class ≡ true → is_none (open_reply s h x) ≡ true
+    → (not (can_own x.class) || not (is_handed (latest handed_of h) x.number.value)) ≡ true
+still s h x w n = step (can_own x.class) (not (is_handed (latest handed_of h) x.number.value)) (λ o. bare o)
   where
     step : (b c : Bool) → (b ≡ true → c ≡ true) → (not b || c) ≡ true
     step true c f = f refl
     step false c f = refl
 
-    bare : can_own x.class ≡ true → not (is_handed (latest handed_of h) x.0.value) ≡ true
+    bare : can_own x.class ≡ true → not (is_handed (latest handed_of h) x.number.value) ≡ true
     bare o =
-        not_false (is_handed (latest handed_of h) x.0.value)
-        (hand_step s (is_marked x && not (has_voted x)) (is_handed (latest handed_of h) x.0.value) x.0 (first_of_three (voted_well (planned_vote s x.0.value)) _ _ w)
-        (owner_willing (voted_well (planned_vote s x.0.value)) (is_committed (planned_owner s x.0.value)) (not (is_promotable x.class) || is_granted (planned_promotion s x.0.value)) x.class o w) n)
+        not_false (is_handed (latest handed_of h) x.number.value)
+        (hand_step s (is_marked x && not (has_voted x)) (is_handed (latest handed_of h) x.number.value) x.number (first_of_three (voted_well (planned_vote s x.number.value)) _ _ w)
+        (owner_willing (voted_well (planned_vote s x.number.value)) (is_committed (planned_owner s x.number.value)) (not (is_promotable x.class) || is_granted (planned_promotion s x.number.value)) x.class o w) n)
 
 -- where each is willing and no reply is due, the commit isn't handed over
 none_handed : (s : List Line) (h : List Entry) → ruled h ≡ true → CanCommit s h → each (λ x. is_none (open_reply s h x)) (rows h) ≡ true → is_some (latest handed_of h) ≡ false
 none_handed s h r c d =
-    let each_still : each (λ x. not (can_own x.class) || not (is_handed (latest handed_of h) x.0.value)) (rows h) ≡ true =
-    each_both (λ x. is_willing s x.0.value x.class) (λ x. is_none (open_reply s h x)) (λ x. not (can_own x.class) || not (is_handed (latest handed_of h) x.0.value))
+    let each_still : each (λ x. not (can_own x.class) || not (is_handed (latest handed_of h) x.number.value)) (rows h) ≡ true =
+    each_both (λ x. is_willing s x.number.value x.class) (λ x. is_none (open_reply s h x)) (λ x. not (can_own x.class) || not (is_handed (latest handed_of h) x.number.value))
     (still s h) (rows h) (each_planned s h c) d in
     let of_each = sym (each_rows (λ e k. not (can_own k) || not (is_handed (latest handed_of h) e.value)) h) ∙ each_still in
     false_from_ne_true (is_some (latest handed_of h))

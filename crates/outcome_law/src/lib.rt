@@ -71,7 +71,7 @@ pub fn replay()
 /// The tables of a history that a script causes say what its entries say: of each enlistment, of each clone, and whether evidence stands
 /// while nothing is decided. And a timeout comes once, at the first tick that reaches it.
 pub fn tables()
-    ensures enlisted { (h : List Entry) (f : EnlNo → Class → Bool) → each (λ x. f x.0 x.class) (rows h) ≡ each (λ x. f x.0 x.1) (enlisted h) }
+    ensures enlisted { (h : List Entry) (f : EnlNo → Class → Bool) → each (λ x. f x.number x.class) (rows h) ≡ each (λ x. f x.0 x.1) (enlisted h) }
     ensures cloned { (h : List Entry) (f : CloneNo → CloneKind → Bool) → each (λ r. f r.clone r.kind) (clone_rows h) ≡ each (λ c. f c.0 c.1) (all_of clone_of h) }
     ensures rows { (s : List Line) (t : ℕ) (h : List Entry) → are_named_well s ≡ true → Caused s t h
         → (k : ℕ) (x : Row) → slice_get (rows h) k ≡ Some x → IsSeen h x }
