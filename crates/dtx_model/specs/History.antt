@@ -18,7 +18,7 @@ use Rattle.dtx_model.specs.Caused.{Caused, Settled}
 use Rattle.dtx_model.specs.Contexts.{context}
 use Rattle.dtx_model.specs.Promotes.{promotes}
 use Rattle.dtx_model.specs.Wires.{WireRun, holds}
-use Rattle.dtx_model.specs.Learned.{Learned}
+use Rattle.dtx_model.specs.Learned.{AreAnswered, Learned}
 use Rattle.dtx_model.specs.Replay.{Placed, at_context, history, IsReplayed, calls, due_calls}
 
 -- IsHistory: each transaction's history is caused by the script, promoted in order, runs over its connections and is settled, each context has the entries that its actor's lines make
@@ -36,7 +36,7 @@ pub record IsHistory (s : List Line) (T : List Placed) : Type 0 where
 pub record HasOneOutcome (s : List Line) (T : List Placed) : Type 0 where
   pub just : (t : TxNo) → justified (history t.value (past_of T)) ≡ true
   pub agrees : (t : TxNo) → agree (history t.value (past_of T)) ≡ true
-  pub learned : (t : TxNo) → Learned s (history t.value (past_of T))
+  pub learned : (t : TxNo) → Learned (history t.value (past_of T))
 
 abbrev pub is_committed : Option Outcome → Bool
 is_committed (Some Committed) = true
@@ -77,6 +77,7 @@ pub record CanCommit (s : List Line) (h : List Entry) : Type 0 where
   pub ended_by_none : has is_ending h ≡ false
   pub unlost : has is_loss h ≡ false
 
--- each transaction that can commit is committed: its client was told so
-abbrev pub IsComplete : List Line → List Placed → Type 0
-IsComplete s T = (t : TxNo) → CanCommit s (history t.value (past_of T)) → has (is_client_told Committed) (history t.value (past_of T)) ≡ true
+-- each transaction that can commit is committed, its client was told so; and each enlistment that came back was told
+pub record IsComplete (s : List Line) (T : List Placed) : Type 0 where
+  pub committed : (t : TxNo) → CanCommit s (history t.value (past_of T)) → has (is_client_told Committed) (history t.value (past_of T)) ≡ true
+  pub answered : (t : TxNo) → AreAnswered s (history t.value (past_of T))

@@ -66,8 +66,10 @@ are_answered decided behind (x ∷ past) = is_answered decided behind x && are_a
 abbrev pub is_decided_there : List Entry → Bool
 is_decided_there h = has is_record h || coordinator_aborted h
 
--- Learned: what is told over such a connection is the logged outcome, or abort where there is none; and where the history is settled, each that came
--- back was told
-pub record Learned (s : List Line) (h : List Entry) : Type 0 where
-  pub rightly : always is_learned h ≡ true
-  pub answered : Settled s h → are_answered (is_decided_there h) [] h ≡ true
+-- Learned: what is told over such a connection is the logged outcome, or abort where there is none
+abbrev pub Learned : List Entry → Type 0
+Learned h = always is_learned h ≡ true
+
+-- where the history is settled, each that came back was told
+abbrev pub AreAnswered : List Line → List Entry → Type 0
+AreAnswered s h = Settled s h → are_answered (is_decided_there h) [] h ≡ true
