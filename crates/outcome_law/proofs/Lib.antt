@@ -20,6 +20,7 @@ pub mod Plans
 pub mod Timely
 pub mod Waves
 pub mod Settled
+pub mod Silent
 pub mod Replays
 pub mod Examples
 pub mod ReplayExample

@@ -32,7 +32,7 @@ ghost use Rattle.dtx_model.specs.Steps.{call_of};
 ghost use Rattle.dtx_model.specs.Contexts.{context};
 ghost use Rattle.dtx_model.specs.Caused.{Caused, Settled, is_new};
 ghost use Rattle.dtx_model.specs.Replay.{Placed, history, at_context, IsReplayed, LinesRan, calls, due_calls};
-ghost use Rattle.dtx_model.specs.History.{CanCommit, IsHistory};
+ghost use Rattle.dtx_model.specs.History.{CanCommit, IsHistory, IsToldOrWaits};
 ghost use Rattle.dtx_model.specs.Grammar.{are_named_well, is_run_line};
 
 /// The law of one outcome: in a history that a script causes, what is told is just, and no two are told opposite outcomes. (Presumed
@@ -49,8 +49,10 @@ pub fn crossings()
     ensures wires { (s : List Line) (t : ℕ) (h : List Entry) → are_named_well s ≡ true → Caused s t h → WireRun h }
 {}
 
-/// A settled transaction that can commit is committed: its client was told so. And each enlistment that came back was told.
+/// A settled transaction that can commit is committed: its client was told so. Where commit was asked, the client was told some outcome, or a
+/// blocking clone is open, or an enlistment whose reply is needed plans none. And each enlistment that came back was told.
 pub fn completeness()
+    ensures told { (s : List Line) (t : ℕ) (h : List Entry) → are_named_well s ≡ true → Caused s t h → IsToldOrWaits s h }
     ensures committed { (s : List Line) (t : ℕ) (h : List Entry) → are_named_well s ≡ true → Caused s t h → Settled s h → CanCommit s h
         → has (is_client_told Committed) h ≡ true }
     ensures answered { (s : List Line) (t : ℕ) (h : List Entry) → are_named_well s ≡ true → Caused s t h → AreAnswered s h }
