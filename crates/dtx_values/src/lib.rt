@@ -19,7 +19,7 @@ mod words;
 
 pub use call::Call;
 pub use entry::{Answer, Ask, Entry, LogNote, Party, Request, ScopeNote};
-pub use limits::{CLONES, DURABLES, ENLISTMENTS, ROOM, SCOPES};
+pub use limits::{CLONES, DURABLES, ENLISTMENTS, LINE_BYTES, ROOM, SCOPES, SCRIPT_BYTES};
 pub use message::{Conn, Dir, Info, Message};
 pub use note::{Note, Plan, Reply};
 pub use number::{ActorNo, CloneNo, EnlNo, RmNo, ScopeNo, TxNo};

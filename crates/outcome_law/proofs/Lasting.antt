@@ -17,14 +17,14 @@ use Rattle.dtx_values.specs.declared.script.EnlistOption.TheVariants.{Plain, Dur
 use Rattle.dtx_values.specs.declared.script.Line.{Line}
 use Rattle.dtx_values.specs.declared.script.Support.{Support}
 use Rattle.dtx_values.specs.declared.script.Support.TheVariants.{SinglePhase, TwoPhase}
-use Rattle.dtx_values.specs.Table.{is_of, marks, number_of, fresh_row, mark_row, vote_row}
+use Rattle.dtx_values.specs.Table.{marks, voted}
 use Rattle.dtx_values.specs.Clones.{is_open_rollback}
 use Rattle.dtx_model.specs.Words.{has, each}
-use Rattle.dtx_model.specs.Entries.{is_volatile}
-use Rattle.dtx_model.specs.Owners.{is_lasting}
+use Rattle.dtx_values.specs.Row.{is_lasting, is_of, number_of, fresh_row, mark_row, vote_row}
+use Rattle.dtx_values.specs.Class.{is_volatile}
 use Rattle.dtx_model.specs.Observed.{Observed, rows}
 use Rattle.dtx_model.specs.Contexts.{calls_by}
-use Rattle.dtx_model.specs.Steps.{call_of, complete_call, transaction_of, gone_call, transaction_with, facts, facts_if, veto_if, reaches, ticked, time_up, is_late, is_handed, voted, lost_outcome, decided_if}
+use Rattle.dtx_model.specs.Steps.{call_of, complete_call, transaction_of, gone_call, transaction_with, facts, facts_if, veto_if, reaches, ticked, time_up, is_late, is_handed, lost_outcome, decided_if}
 use Rattle.dtx_model.specs.Caused.{Caused}
 use Rattle.dtx_model.specs.Grammar.{is_lasting_for, is_run}
 use Rattle.dtx_model.proofs.Bools.{or_case, not_true, not_both}
@@ -49,13 +49,13 @@ call_lasts _ = false
 -- a durable or promotable row stands where such an enlistment came
 lasting_rows : (h : List Entry) → has is_lasting (rows h) ≡ has is_enduring h
 lasting_rows [] = refl
-lasting_rows (Enlisted e c ∷ h) = has-insert is_lasting number_of (e, fresh_row c (marks (rows h))) (rows h) ∙ ap (λ b. not (is_volatile c) || b) (lasting_rows h)
+lasting_rows (Enlisted e c ∷ h) = has-insert is_lasting number_of (fresh_row e c (marks (rows h))) (rows h) ∙ ap (λ b. not (is_volatile c) || b) (lasting_rows h)
 lasting_rows (Asked e Prepare ∷ h) =
-    has_kept is_lasting (λ x. if is_of e.value x then (x.0, mark_row (marks (rows h)) x.1) else x)
-    (λ x. if_kept is_lasting (is_of e.value x) (x.0, mark_row (marks (rows h)) x.1) x refl) (rows h) ∙ lasting_rows h
+    has_kept is_lasting (λ x. if is_of e.value x then (mark_row (marks (rows h)) x) else x)
+    (λ x. if_kept is_lasting (is_of e.value x) (mark_row (marks (rows h)) x) x refl) (rows h) ∙ lasting_rows h
 lasting_rows (Voted e v ∷ h) =
-    has_kept is_lasting (λ x. if is_of e.value x then (x.0, vote_row v x.1) else x)
-    (λ x. if_kept is_lasting (is_of e.value x) (x.0, vote_row v x.1) x refl) (rows h) ∙ lasting_rows h
+    has_kept is_lasting (λ x. if is_of e.value x then (vote_row v x) else x)
+    (λ x. if_kept is_lasting (is_of e.value x) (vote_row v x) x refl) (rows h) ∙ lasting_rows h
 lasting_rows (x ∷ h) = lasting_rows h
 
 -- what is plain is no enlistment
@@ -78,7 +78,7 @@ facts_last o (Tick t n) true h =
     let reached = reaches o.limit o.clock (ticked o.clock n) in
     absurd (not_both _ h (plain_none (if reached then time_up (is_late o) else []) (time_plain reached (is_late o))))
 facts_last o (Gone e) true h =
-    let lost = not (is_some o.decided) && not (voted o.table e.value) in
+    let lost = not (is_some o.decided) && not (voted e.value o.table) in
     let x = lost_outcome (is_handed o.handed e.value) in
     absurd (not_both _ h (plain_none (decided_if lost x) (decided_plain lost x)))
 facts_last o _ true h = absurd cc

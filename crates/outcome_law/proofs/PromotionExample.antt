@@ -19,7 +19,7 @@ use Rattle.dtx_values.specs.declared.words.Outcome.TheVariants.{Committed, Abort
 use Rattle.dtx_values.specs.declared.words.Vote.TheVariants.{Yes}
 use Rattle.dtx_model.specs.Words.{past_of}
 use Rattle.dtx_model.specs.Outcome.{ready, by_seal, by_owner, by_log, evidence, vetoed, owner_doubt, coordinator_doubt, doubt, may_tell, justified, agree}
-use Rattle.dtx_model.specs.Owners.{cause_of}
+use Rattle.dtx_values.specs.Owners.{cause_of}
 use Rattle.dtx_model.specs.Promotes.{ends_refused, promotes}
 use Rattle.dtx_model.specs.Wires.{MayCross, WireRun, left}
 use Rattle.outcome_law.proofs.Examples.{a1, agree_in, e1, e2, just_in}
