@@ -73,6 +73,8 @@ impl<R: Files> Disk for FileDisk<R> {
 
     ghost image = { λ _ _. ⊥ };
 
+    ghost leaves = { λ _ _ _. ⊥ };
+
     ghost faults = { λ d. d.faults };
 
     fn len(&self) -> u64
@@ -137,6 +139,8 @@ impl<R: Files> Disk for FileDisk<R> {
     {}
 
     ghost sees = { λ d h. absurd (Prim.cc) };
+
+    ghost among = { λ wish d c h left. absurd left };
 
     ghost long = { λ d c h left. absurd left };
 }

@@ -73,6 +73,8 @@ impl Disk for MemDisk {
 
     ghost image = { λ d. IsOneOf d.kept d.synced d.torn };
 
+    ghost leaves = { λ wish d c. (c ≡ left_by wish d.kept d.synced d.torn) × IsOneOf d.kept d.synced d.torn c };
+
     ghost faults = { λ d. d.calls.failed };
 
     fn len(&self) -> u64
@@ -147,6 +149,8 @@ impl Disk for MemDisk {
     }
 
     ghost sees = { λ d h. record { one = inl refl; long = refl } };
+
+    ghost among = { λ wish d c h left. left.1 };
 
     ghost long = { λ d c h left. left.long };
 }

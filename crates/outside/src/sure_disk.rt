@@ -56,6 +56,8 @@ impl Disk for SureDisk {
 
     ghost image = { λ d. IsOneOf d.kept d.synced d.torn };
 
+    ghost leaves = { λ wish d c. (c ≡ left_by wish d.kept d.synced d.torn) × IsOneOf d.kept d.synced d.torn c };
+
     ghost faults = { λ _. 0 };
 
     fn len(&self) -> u64
@@ -111,6 +113,8 @@ impl Disk for SureDisk {
     }
 
     ghost sees = { λ d h. record { one = inl refl; long = refl } };
+
+    ghost among = { λ wish d c h left. left.1 };
 
     ghost long = { λ d c h left. left.long };
 }
