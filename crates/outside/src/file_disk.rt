@@ -4,11 +4,11 @@ ghost use Rattle.outside.specs.Faults.{one_more};
 
 use crate::{Disk, Failed, Image, WriteError};
 use std::fs::{File, OpenOptions};
+use std::io;
 use std::io::{ErrorKind, Read, Seek, SeekFrom, Write};
 use std::marker::Model;
 use std::path::Path;
 use std::rt::Files;
-use std::io;
 
 /// A disk in a file. It tells nothing of what it holds. A definition of this project.
 ///
