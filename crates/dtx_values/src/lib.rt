@@ -4,11 +4,14 @@
 
 mod call;
 mod entry;
+mod identifier;
+mod info;
 mod limits;
 mod message;
 mod note;
 mod number;
 mod outbox;
+mod pair;
 mod record;
 mod resource;
 mod row;
@@ -19,11 +22,14 @@ mod words;
 
 pub use call::Call;
 pub use entry::{Answer, Ask, Entry, LogNote, Party, Request, ScopeNote};
+pub use identifier::{is_identifier, read_identifier};
+pub use info::{BadInfo, parse_info, write_info};
 pub use limits::{CLONES, DURABLES, ENLISTMENTS, LINE_BYTES, ROOM, SCOPES, SCRIPT_BYTES};
 pub use message::{Conn, Dir, Info, Message};
 pub use note::{Note, Plan, Reply};
 pub use number::{ActorNo, CloneNo, EnlNo, RmNo, ScopeNo, TxNo};
 pub use outbox::Outbox;
+pub use pair::{read_pair, write_pair};
 pub use record::{Differs, LogRecord};
 pub use resource::Resource;
 pub use row::{CloneRow, Row};
