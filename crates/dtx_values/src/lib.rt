@@ -17,6 +17,8 @@ mod resource;
 mod row;
 mod scope;
 mod script;
+#[cfg(test)]
+mod tests;
 mod trace;
 mod words;
 
@@ -39,21 +41,3 @@ pub use trace::{Place, Trace};
 pub use words::{
     Cause, Class, CloneKind, Image, Iso, IsoWord, Outcome, ScopeOption, Status, Timeout, Vote,
 };
-
-#[cfg(test)]
-mod tests {
-    use super::*;
-    use std::test::Fail;
-
-    #[test]
-    fn an_outbox_has_its_room_again(rt: HostRuntime) -> Result<(), Fail> {
-        let mut out = Outbox::with_room(rt.alloc())?;
-        out.put(Entry::Sealed);
-        out.send(Conn::Begin, Dir::Up, Message::BeginBegin);
-        assert_eq!(rt; out.entries().len(), 1);
-        assert_eq!(rt; out.sends().len(), 1);
-        out.clear();
-        assert!(rt; out.entries().is_empty() && out.sends().is_empty());
-        Ok(())
-    }
-}
