@@ -1,7 +1,7 @@
-use Rattle.std.proofs.Common.{◌≡◌, true, ap, refl, sym, subst, ◌∙◌, IfSome, List, ◌++◌, [], ◌∷◌}
+use Rattle.std.proofs.Common.{ap, refl, sym, subst, ◌∙◌, IfSome, List}
 use Rattle.oletx_session.specs.declared.packet.Packet.{Packet}
 use Rattle.oletx_session.specs.Queues.{HasNoStray, wires_in}
-use Rattle.oletx_session.specs.Traffic.{Becomes, is_open, may_send, sent_on, wire_of}
+use Rattle.oletx_session.specs.Traffic.{Becomes, sent_on, wire_of}
 use Rattle.oletx_session.proofs.Histories.{carried_opened, carried_sent}
 use Rattle.oletx_session.proofs.Moves.{no_stray_sent, sent_dropped, sent_last}
 use Rattle.oletx_session.proofs.session.Session.send.Goals as goal
