@@ -1,6 +1,13 @@
 -- Bad: the first bad line of bytes that are no script, and its first cause.
 use Rattle.std.specs.Prelude.{ℕ, ◌≡◌, ◌≢◌, ◌+◌, ◌-◌, ◌*◌, ◌==◌, nat_lt, Bool, true, false, ◌&&◌, ◌||◌, not, List, [], ◌∷◌, ◌++◌, length, codes, decimal, Option, Some, None, if◌then◌else◌}
 use Rattle.std.specs.List.{filter_map}
+use Rattle.dtx_values.specs.declared.limits.TheConstants.{LINE_BYTES, SCRIPT_BYTES}
+use Rattle.dtx_values.specs.declared.number.TheConstants.ActorNo.{MAX as ACTORS}
+use Rattle.dtx_values.specs.declared.number.TheConstants.TxNo.{MAX as TRANSACTIONS}
+use Rattle.dtx_values.specs.declared.number.TheConstants.EnlNo.{MAX as ENLISTMENTS}
+use Rattle.dtx_values.specs.declared.number.TheConstants.CloneNo.{MAX as CLONES}
+use Rattle.dtx_values.specs.declared.number.TheConstants.ScopeNo.{MAX as SCOPES}
+use Rattle.dtx_values.specs.declared.number.TheConstants.RmNo.{MAX as MANAGERS}
 use Rattle.dtx_values.specs.declared.script.BadCause.{BadCause}
 use Rattle.dtx_values.specs.declared.script.BadCause.TheVariants.{TooLong, LongLine, NoNewline, BadByte, MissingWord, UnknownWord, BadNumber, ExtraWord, NameTwice, NameUnknown, WrongKind, ParTwice}
 use Rattle.dtx_values.specs.declared.script.Line.{Line}
@@ -95,25 +102,25 @@ looks_numbered (Some r) (b ∷ bs) = is_digit b || not (has is_letter (b ∷ bs)
 looks_numbered _ _ = false
 
 abbrev pub actor_slot : Slot
-actor_slot = named (codes "a") 16
+actor_slot = named (codes "a") ACTORS
 
 abbrev pub transaction_slot : Slot
-transaction_slot = named (codes "t") 256
+transaction_slot = named (codes "t") TRANSACTIONS
 
 abbrev pub enlistment_slot : Slot
-enlistment_slot = named (codes "e") 9999
+enlistment_slot = named (codes "e") ENLISTMENTS
 
 abbrev pub clone_slot : Slot
-clone_slot = named (codes "c") 9999
+clone_slot = named (codes "c") CLONES
 
 abbrev pub scope_slot : Slot
-scope_slot = named (codes "s") 9999
+scope_slot = named (codes "s") SCOPES
 
 abbrev pub manager_slot : Slot
-manager_slot = named (codes "r") 16
+manager_slot = named (codes "r") MANAGERS
 
 abbrev pub connection_slot : Slot
-connection_slot = record { words = codes "b" ∷ codes "v" ∷ []; letters = codes "ex"; most = 9999; number = None }
+connection_slot = record { words = codes "b" ∷ codes "v" ∷ []; letters = codes "ex"; most = ENLISTMENTS; number = None }
 
 abbrev pub timeout_slot : Slot
 timeout_slot = record { words = codes "default" ∷ []; letters = []; most = 0; number = Some (0, 4294967295) }
@@ -206,8 +213,8 @@ reach bs = length (front bs) + (if has_newline bs then 1 else 0)
 -- the first cause by the bytes of the line at the front, behind so many bytes: the first eight causes
 unfoldable pub form_fault : ℕ → List ℕ → Option BadCause
 form_fault taken bs =
-    if nat_lt 1048576 (taken + reach bs) then Some TooLong
-    else if nat_lt 200 (length (front bs)) then Some LongLine
+    if nat_lt SCRIPT_BYTES (taken + reach bs) then Some TooLong
+    else if nat_lt LINE_BYTES (length (front bs)) then Some LongLine
     else if not (has_newline bs) then Some NoNewline
     else if not (each (is_from 32 126) (front bs)) then Some BadByte
     else word_fault line_forms (words_of (front bs))

@@ -1,6 +1,7 @@
 -- Script grammar: which bytes are which script, and which lines are run. Each line has one spelling.
-use Rattle.std.specs.Prelude.{ℕ, ◌≡◌, ◌-◌, ◌≤◌, ◌==◌, nat_le, Bool, true, false, ◌&&◌, not, List, [], ◌∷◌, ◌++◌, length, codes, decimal, Option, Some, None, take}
+use Rattle.std.specs.Prelude.{ℕ, ◌≡◌, ◌+◌, ◌-◌, ◌≤◌, ◌==◌, nat_le, Bool, true, false, ◌&&◌, not, List, [], ◌∷◌, ◌++◌, length, codes, decimal, Option, Some, None, take}
 use Rattle.std.specs.List.{flat_map, join_with_byte}
+use Rattle.dtx_values.specs.declared.limits.TheConstants.{LINE_BYTES, SCRIPT_BYTES}
 use Rattle.dtx_values.specs.declared.message.Conn.{Conn}
 use Rattle.dtx_values.specs.declared.message.Conn.TheVariants.{Begin as OnBegin, Voter as OnVoter, Enl as OnEnl, Again}
 use Rattle.dtx_values.specs.declared.script.Body.{Body}
@@ -325,16 +326,16 @@ is_par _ = false
 abbrev pub is_par_once : List Line → Body → Bool
 is_par_once before b = not (is_par b && has (λ l. is_par l.body) before)
 
--- the line has at most 200 bytes before its LF
+-- the line, with its LF, is no longer than a line may be
 abbrev pub is_short : Line → Bool
-is_short l = nat_le (length (line_text l)) 201
+is_short l = nat_le (length (line_text l)) (LINE_BYTES + 1)
 
--- the lines are a script: numbers are in their ranges, no line is too long, they end by byte 1,048,576, names are made once, before they
+-- the lines are a script: numbers are in their ranges, no line is too long, nor are they together, names are made once, before they
 -- are used, enlistments are of the right kind, and there is at most one `par`
 pub record IsScript (s : List Line) : Type 0 where
   pub in_range : each (λ l. is_in_range l.body) s ≡ true
   pub short : each is_short s ≡ true
-  pub within : length (script_text s) ≤ 1048576
+  pub within : length (script_text s) ≤ SCRIPT_BYTES
   pub named : are_named_well s ≡ true
   pub kinds : always (λ before l. is_of_kind before l.body) (past_of s) ≡ true
   pub par : always (λ before l. is_par_once before l.body) (past_of s) ≡ true

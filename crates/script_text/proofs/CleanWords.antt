@@ -2,11 +2,13 @@
 use Rattle.std.proofs.Common.{◌≡◌, ℕ, ◌^◌, ◌<◌, ◌≤◌, ◌==◌, ◌&&◌, ◌||◌, Bool, true, List, [], ◌∷◌, refl, subst, arith, Option, Some, None}
 use Rattle.std.specs.Prelude.{nat_le}
 use Rattle.std.proofs.lemmas.Bool.Decides.{nat_tests}
+use Rattle.dtx_values.specs.declared.number.TheConstants.EnlNo.{MAX as ENLISTMENTS}
 use Rattle.dtx_model.specs.Words.{has, each}
 use Rattle.dtx_model.specs.Grammar.{is_from}
 use Rattle.dtx_model.specs.Faults.{Slot, allows, is_name, is_number, same_bytes, writes, line_forms}
 use Rattle.dtx_model.proofs.Bools.{and_both, and_left, and_right, or_case}
-use Rattle.script_words.proofs.Numbers.{same_bytes-equal, to_high}
+use Rattle.line_tail.proofs.SameBytes.{same_bytes-equal}
+use Rattle.script_words.proofs.Numbers.{to_high}
 use Rattle.script_text.proofs.Figures.{writes_one, clean_decimal}
 use Rattle.script_text.proofs.WordFaults.{fits, fits_some}
 
@@ -21,7 +23,7 @@ has_small_numbers None = true
 
 -- the place allows clean words only
 abbrev is_clean_slot : Slot → Bool
-is_clean_slot s = each is_clean s.words && (each (λ b. is_from 33 126 b) s.letters && (nat_le s.most 9999 && has_small_numbers s.number))
+is_clean_slot s = each is_clean s.words && (each (λ b. is_from 33 126 b) s.letters && (nat_le s.most ENLISTMENTS && has_small_numbers s.number))
 
 -- what is the same as a clean word is clean
 clean_same : (w : List ℕ) (vs : List (List ℕ)) → each is_clean vs ≡ true → has (same_bytes w) vs ≡ true → is_clean w ≡ true
@@ -44,7 +46,7 @@ clean_written low high w h k =
     subst (λ (v : List ℕ). is_clean v ≡ true) n.1 (clean_decimal n.0.0 small)
 
 -- a name is clean
-clean_name : (s : Slot) (w : List ℕ) → each (λ b. is_from 33 126 b) s.letters ≡ true → nat_le s.most 9999 ≡ true → is_name s w ≡ true → is_clean w ≡ true
+clean_name : (s : Slot) (w : List ℕ) → each (λ b. is_from 33 126 b) s.letters ≡ true → nat_le s.most ENLISTMENTS ≡ true → is_name s w ≡ true → is_clean w ≡ true
 clean_name s [] h k e = absurd (cc e)
 clean_name s (b ∷ bs) h k e =
     let most : nat_le s.most 4294967295 ≡ true = grind (arith, nat_tests) in

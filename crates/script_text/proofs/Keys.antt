@@ -8,7 +8,7 @@ use Rattle.dtx_model.specs.Faults.{Slot, same_bytes, behind, looks_named, looks_
 use Rattle.dtx_model.proofs.Bools.{or_false, or_case}
 use Rattle.script_words.specs.Places.{IsOther}
 use Rattle.script_text.specs.Reader.{opening_forms, opening_keys, making_words, asking_words, running_words}
-use Rattle.script_words.proofs.Numbers.{same_bytes-equal}
+use Rattle.line_tail.proofs.SameBytes.{same_bytes-equal}
 use Rattle.script_words.proofs.Slots.{allows-none}
 
 -- each form begins with one of these words

@@ -1,6 +1,12 @@
 -- What may stand at a place of a form: each word that the place allows is the text of a value.
 use Rattle.std.proofs.Common.{◌≡◌, ℕ, ◌==◌, ◌&&◌, ◌||◌, Bool, true, false, List, [], ◌∷◌, refl, ap₂, sym, arith, codes, decimal, map, Option, Some, None, ◌⊎◌, inl, inr}
 use Rattle.std.proofs.lemmas.Bool.Decides.{nat_tests}
+use Rattle.dtx_values.specs.declared.number.TheConstants.ActorNo.{MAX as ACTORS}
+use Rattle.dtx_values.specs.declared.number.TheConstants.TxNo.{MAX as TRANSACTIONS}
+use Rattle.dtx_values.specs.declared.number.TheConstants.EnlNo.{MAX as ENLISTMENTS}
+use Rattle.dtx_values.specs.declared.number.TheConstants.CloneNo.{MAX as CLONES}
+use Rattle.dtx_values.specs.declared.number.TheConstants.ScopeNo.{MAX as SCOPES}
+use Rattle.dtx_values.specs.declared.number.TheConstants.RmNo.{MAX as MANAGERS}
 use Rattle.dtx_values.specs.declared.message.Conn.{Conn}
 use Rattle.dtx_values.specs.declared.message.Conn.TheVariants.{Begin as OnBegin, Voter as OnVoter, Enl as OnEnl, Again}
 use Rattle.dtx_values.specs.declared.number.ActorNo.{ActorNo}
@@ -30,7 +36,8 @@ use Rattle.dtx_model.specs.Grammar.{connection_word, image_word, asked_iso_word,
 use Rattle.dtx_model.specs.Faults.{Slot, one_of, named, number, allows, same_bytes, writes, actor_slot, transaction_slot, enlistment_slot, clone_slot, scope_slot, manager_slot}
 use Rattle.dtx_model.specs.Faults.{connection_slot, timeout_slot, iso_slot, option_slot, vote_slot, owner_slot, promote_slot, kind_slot, image_slot}
 use Rattle.dtx_model.proofs.Bools.{and_left, and_right, or_case}
-use Rattle.script_words.proofs.Numbers.{same_bytes-equal, to_high}
+use Rattle.line_tail.proofs.SameBytes.{same_bytes-equal}
+use Rattle.script_words.proofs.Numbers.{to_high}
 use Rattle.script_text.proofs.Figures.{Within, writes_one, from_low}
 
 -- whatever word the place allows is the text of a value
@@ -58,37 +65,37 @@ name_of letter most (b ∷ bs) h =
 -- an actor's name
 pub actor : Means ActorNo (λ x. actor_name x.value) actor_slot
 actor = record {
-  value = λ w h. let n = name_of 97 16 w h in (record { value = n.0.0; in_range = (from_low 1 16 n.0.0 n.0.1, to_high 1 16 n.0.0 n.0.1) }, n.1);
+  value = λ w h. let n = name_of 97 ACTORS w h in (record { value = n.0.0; in_range = (from_low 1 ACTORS n.0.0 n.0.1, to_high 1 ACTORS n.0.0 n.0.1) }, n.1);
 }
 
 -- a transaction's name
 pub transaction : Means TxNo (λ x. transaction_name x.value) transaction_slot
 transaction = record {
-  value = λ w h. let n = name_of 116 256 w h in (record { value = n.0.0; in_range = (from_low 1 256 n.0.0 n.0.1, to_high 1 256 n.0.0 n.0.1) }, n.1);
+  value = λ w h. let n = name_of 116 TRANSACTIONS w h in (record { value = n.0.0; in_range = (from_low 1 TRANSACTIONS n.0.0 n.0.1, to_high 1 TRANSACTIONS n.0.0 n.0.1) }, n.1);
 }
 
 -- an enlistment's
 pub enlistment : Means EnlNo (λ x. enlistment_name x.value) enlistment_slot
 enlistment = record {
-  value = λ w h. let n = name_of 101 9999 w h in (record { value = n.0.0; in_range = (from_low 1 9999 n.0.0 n.0.1, to_high 1 9999 n.0.0 n.0.1) }, n.1);
+  value = λ w h. let n = name_of 101 ENLISTMENTS w h in (record { value = n.0.0; in_range = (from_low 1 ENLISTMENTS n.0.0 n.0.1, to_high 1 ENLISTMENTS n.0.0 n.0.1) }, n.1);
 }
 
 -- a clone's
 pub clone : Means CloneNo (λ x. clone_name x.value) clone_slot
 clone = record {
-  value = λ w h. let n = name_of 99 9999 w h in (record { value = n.0.0; in_range = (from_low 1 9999 n.0.0 n.0.1, to_high 1 9999 n.0.0 n.0.1) }, n.1);
+  value = λ w h. let n = name_of 99 CLONES w h in (record { value = n.0.0; in_range = (from_low 1 CLONES n.0.0 n.0.1, to_high 1 CLONES n.0.0 n.0.1) }, n.1);
 }
 
 -- a scope's
 pub scope : Means ScopeNo (λ x. scope_name x.value) scope_slot
 scope = record {
-  value = λ w h. let n = name_of 115 9999 w h in (record { value = n.0.0; in_range = (from_low 1 9999 n.0.0 n.0.1, to_high 1 9999 n.0.0 n.0.1) }, n.1);
+  value = λ w h. let n = name_of 115 SCOPES w h in (record { value = n.0.0; in_range = (from_low 1 SCOPES n.0.0 n.0.1, to_high 1 SCOPES n.0.0 n.0.1) }, n.1);
 }
 
 -- a manager's
 pub manager : Means RmNo (λ x. manager_name x.value) manager_slot
 manager = record {
-  value = λ w h. let n = name_of 114 16 w h in (record { value = n.0.0; in_range = (from_low 1 16 n.0.0 n.0.1, to_high 1 16 n.0.0 n.0.1) }, n.1);
+  value = λ w h. let n = name_of 114 MANAGERS w h in (record { value = n.0.0; in_range = (from_low 1 MANAGERS n.0.0 n.0.1, to_high 1 MANAGERS n.0.0 n.0.1) }, n.1);
 }
 
 -- a number in its range
@@ -165,13 +172,13 @@ pub timeout : Means Timed (λ d. timeout_word d.0) timeout_slot
 timeout = record { value = timeout_of }
 
 -- a connection is `b`, `v`, or a letter and an enlistment's number
-enlisted : (bs : List ℕ) → writes 1 9999 bs ≡ true → (e : EnlNo) × (decimal e.value ≡ bs)
+enlisted : (bs : List ℕ) → writes 1 ENLISTMENTS bs ≡ true → (e : EnlNo) × (decimal e.value ≡ bs)
 enlisted bs h =
-    let n = writes_one 1 9999 bs h in
-    (record { value = n.0.0; in_range = (from_low 1 9999 n.0.0 n.0.1, to_high 1 9999 n.0.0 n.0.1) }, n.1)
+    let n = writes_one 1 ENLISTMENTS bs h in
+    (record { value = n.0.0; in_range = (from_low 1 ENLISTMENTS n.0.0 n.0.1, to_high 1 ENLISTMENTS n.0.0 n.0.1) }, n.1)
 
 -- a letter and a number are the text of a connection
-connected : (b : ℕ) (bs : List ℕ) → ((b == 101) || ((b == 120) || false)) ≡ true → writes 1 9999 bs ≡ true → (c : Conn) × (connection_word c ≡ b ∷ bs)
+connected : (b : ℕ) (bs : List ℕ) → ((b == 101) || ((b == 120) || false)) ≡ true → writes 1 ENLISTMENTS bs ≡ true → (c : Conn) × (connection_word c ≡ b ∷ bs)
 connected b bs h k =
     let e = enlisted bs k in
     or_case (b == 101) ((b == 120) || false) (λ q. (OnEnl e.0, ap₂ (λ x xs. x ∷ xs) (one_number b 101 q) e.1))
@@ -183,8 +190,8 @@ connection_of [] h = absurd (cc h)
 connection_of (b ∷ bs) h =
     let fixed = has (same_bytes (b ∷ bs)) connection_slot.words in
     let letter = (b == 101) || ((b == 120) || false) in
-    or_case fixed (letter && writes 1 9999 bs) (found connection_word (OnBegin ∷ OnVoter ∷ []) (b ∷ bs))
-    (λ k. connected b bs (and_left _ _ k) (and_right _ _ k)) (first_holds (fixed || (letter && writes 1 9999 bs)) h)
+    or_case fixed (letter && writes 1 ENLISTMENTS bs) (found connection_word (OnBegin ∷ OnVoter ∷ []) (b ∷ bs))
+    (λ k. connected b bs (and_left _ _ k) (and_right _ _ k)) (first_holds (fixed || (letter && writes 1 ENLISTMENTS bs)) h)
 
 -- a connection
 pub connection : Means Conn connection_word connection_slot

@@ -3,6 +3,7 @@ use Rattle.std.proofs.Common.{◌≡◌, ◌≢◌, ℕ, true, zero, suc, ◌+�
 use Rattle.std.specs.List.{join_with_byte}
 use Rattle.std.proofs.lemmas.Bool.Decides.{nat_tests}
 use Rattle.std.proofs.lemmas.List.{append-nil}
+use Rattle.dtx_values.specs.declared.limits.TheConstants.{LINE_BYTES}
 use Rattle.dtx_values.specs.declared.script.BadCause.{BadCause}
 use Rattle.dtx_values.specs.declared.script.Line.{Line}
 use Rattle.dtx_model.specs.Words.{past_of}
@@ -32,7 +33,7 @@ without_fault : (before : List Line) (rest : List ℕ) (y : IsLine (words_of (fr
 without_fault before rest y f n =
     let long : length (line_text y.line) ≡ length (front rest) + 1 = omega (arith, length-append (join_with_byte 32 (words y.line)) (10 ∷ []), ap length (front_is rest y)) in
     let far : reach rest ≡ length (front rest) + 1 = rw f.newline refl in
-    let short : length (line_text y.line) ≤ 201 = omega (arith, f.short) in
+    let short : length (line_text y.line) ≤ LINE_BYTES + 1 = omega (arith, f.short) in
     record { in_range = y.in_range; short = grind (arith, nat_tests); within = omega (arith, f.within); names = n }
 
 -- what the bytes are, from what they are where the line at the front is good

@@ -1,6 +1,10 @@
 -- What the reader's parts read.
-use Rattle.std.specs.Prelude.{ℕ, ◌≡◌, ◌==◌, ◌<◌, Bool, true, false, List, ◌∷◌, ◌++◌, [], codes, Option, Some, None, is_some, Result, Ok, Err, length, slice_index_or}
+use Rattle.std.specs.Prelude.{ℕ, ◌≡◌, ◌==◌, ◌<◌, ◌+◌, Bool, true, false, List, ◌∷◌, ◌++◌, [], codes, Option, Some, None, is_some, Result, Ok, Err, length, slice_index_or}
 use Rattle.dtx_values.specs.declared.number.TxNo.{TxNo}
+use Rattle.dtx_values.specs.declared.number.TheConstants.TxNo.{MAX as TRANSACTIONS}
+use Rattle.dtx_values.specs.declared.number.TheConstants.EnlNo.{MAX as ENLISTMENTS}
+use Rattle.dtx_values.specs.declared.number.TheConstants.CloneNo.{MAX as CLONES}
+use Rattle.dtx_values.specs.declared.number.TheConstants.ScopeNo.{MAX as SCOPES}
 use Rattle.dtx_values.specs.declared.script.BadCause.{BadCause}
 use Rattle.dtx_values.specs.declared.script.Body.{Body}
 use Rattle.dtx_values.specs.declared.script.Opening.{Opening}
@@ -79,19 +83,20 @@ abbrev pub is_owner : ℕ → Option TxNo → Bool
 is_owner t (Some owner) = t == owner.value
 is_owner t None = false
 
--- the tables say of each number whether its name is made, and of each enlistment of which transaction it is a durable or promotable one
+-- the tables say at place n, from 0, whether the name of number n + 1 is made, and of which transaction that enlistment is a durable or
+-- promotable one
 pub record AreMade (past : List Line) (transactions enlistments clones scopes : List Bool) (owners : List (Option TxNo)) (par : Bool) : Type 0 where
-  pub transactions_long : length transactions ≡ 257
-  pub enlistments_long : length enlistments ≡ 10000
-  pub clones_long : length clones ≡ 10000
-  pub scopes_long : length scopes ≡ 10000
-  pub owners_long : length owners ≡ 10000
-  pub transaction : (n : ℕ) → n < 257 → slice_index_or transactions n false ≡ is_made past (OfTransaction n)
-  pub enlistment : (n : ℕ) → n < 10000 → slice_index_or enlistments n false ≡ is_made past (OfEnlistment n)
-  pub clone : (n : ℕ) → n < 10000 → slice_index_or clones n false ≡ is_made past (OfClone n)
-  pub scope : (n : ℕ) → n < 10000 → slice_index_or scopes n false ≡ is_made past (OfScope n)
-  pub lasting : (n : ℕ) → n < 10000 → is_some (slice_index_or owners n None) ≡ is_lasting past n
-  pub owner : (t n : ℕ) → n < 10000 → is_owner t (slice_index_or owners n None) ≡ is_lasting_of past t n
+  pub transactions_long : length transactions ≡ TRANSACTIONS
+  pub enlistments_long : length enlistments ≡ ENLISTMENTS
+  pub clones_long : length clones ≡ CLONES
+  pub scopes_long : length scopes ≡ SCOPES
+  pub owners_long : length owners ≡ ENLISTMENTS
+  pub transaction : (n : ℕ) → n < TRANSACTIONS → slice_index_or transactions n false ≡ is_made past (OfTransaction (n + 1))
+  pub enlistment : (n : ℕ) → n < ENLISTMENTS → slice_index_or enlistments n false ≡ is_made past (OfEnlistment (n + 1))
+  pub clone : (n : ℕ) → n < CLONES → slice_index_or clones n false ≡ is_made past (OfClone (n + 1))
+  pub scope : (n : ℕ) → n < SCOPES → slice_index_or scopes n false ≡ is_made past (OfScope (n + 1))
+  pub lasting : (n : ℕ) → n < ENLISTMENTS → is_some (slice_index_or owners n None) ≡ is_lasting past (n + 1)
+  pub owner : (t n : ℕ) → n < ENLISTMENTS → is_owner t (slice_index_or owners n None) ≡ is_lasting_of past t (n + 1)
   pub par_stands : par ≡ has (λ l. is_par l.body) past
 
 -- the bytes begin with this line, which may follow these ones

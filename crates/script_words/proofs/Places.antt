@@ -11,10 +11,10 @@ unfolding place_fault
 missing s old e = rw e refl
 
 -- the word may not stand there
-pub not_allowed : (s : Slot) (old : List (List ℕ)) (w : List ℕ) (new : List (List ℕ)) (c : BadCause) → old ≡ w ∷ new → allows s w ≡ false → c ≡ cause_of s.letters (is_numbered s.number) w
+pub misplaced : (s : Slot) (old : List (List ℕ)) (w : List ℕ) (new : List (List ℕ)) (c : BadCause) → old ≡ w ∷ new → allows s w ≡ false → c ≡ cause_of s.letters (is_numbered s.number) w
     → place_fault s old ≡ Some c
 unfolding place_fault
-not_allowed s old w new c e n k = rw (e, n, k) refl
+misplaced s old w new c e n k = rw (e, n, k) refl
 
 -- the word may stand there
 allowed : (s : Slot) (w : List ℕ) (new : List (List ℕ)) → allows s w ≡ true → place_fault s (w ∷ new) ≡ None

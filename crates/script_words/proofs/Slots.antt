@@ -1,5 +1,11 @@
 -- What may stand at a place.
 use Rattle.std.proofs.Common.{◌≡◌, ℕ, ◌==◌, ◌||◌, ◌^◌, ◌<◌, Bool, true, false, List, [], ◌∷◌, refl, arith, Option, Some, None, decimal}
+use Rattle.dtx_values.specs.declared.number.TheConstants.RmNo.{MAX as MANAGERS}
+use Rattle.dtx_values.specs.declared.number.TheConstants.ScopeNo.{MAX as SCOPES}
+use Rattle.dtx_values.specs.declared.number.TheConstants.CloneNo.{MAX as CLONES}
+use Rattle.dtx_values.specs.declared.number.TheConstants.EnlNo.{MAX as ENLISTMENTS}
+use Rattle.dtx_values.specs.declared.number.TheConstants.TxNo.{MAX as TRANSACTIONS}
+use Rattle.dtx_values.specs.declared.number.TheConstants.ActorNo.{MAX as ACTORS}
 use Rattle.dtx_values.specs.declared.message.Conn.{Conn}
 use Rattle.dtx_values.specs.declared.message.Conn.TheVariants.{Begin as OnBegin, Voter as OnVoter, Enl as OnEnl, Again}
 use Rattle.dtx_values.specs.declared.number.ActorNo.{ActorNo}
@@ -31,7 +37,8 @@ use Rattle.dtx_model.specs.Faults.{actor_slot, transaction_slot, enlistment_slot
 use Rattle.dtx_model.specs.Faults.{Slot, same_bytes, writes, one_of, named, number, is_name, allows, connection_slot}
 use Rattle.dtx_model.specs.Faults.{timeout_slot, option_slot, vote_slot, owner_slot, promote_slot, kind_slot, image_slot, iso_slot}
 use Rattle.script_words.specs.Places.{IsOther}
-use Rattle.script_words.proofs.Numbers.{same_bytes-other, writes-decimal, to_high}
+use Rattle.line_tail.proofs.SameBytes.{same_bytes-other}
+use Rattle.script_words.proofs.Numbers.{writes-decimal, to_high}
 use Rattle.std.proofs.lemmas.Bool.Decides.{nat_tests}
 
 -- no name may stand where no letter may
@@ -67,27 +74,27 @@ name_allowed letter most n h k =
 
 -- so an actor's name may
 pub actor_allowed : (a : ActorNo) → allows actor_slot (actor_name a.value) ≡ true
-actor_allowed a = name_allowed 97 16 a.value (omega arith) (grind (arith, nat_tests))
+actor_allowed a = name_allowed 97 ACTORS a.value (omega arith) (grind (arith, nat_tests))
 
 -- a transaction's
 pub transaction_allowed : (t : TxNo) → allows transaction_slot (transaction_name t.value) ≡ true
-transaction_allowed t = name_allowed 116 256 t.value (omega arith) (grind (arith, nat_tests))
+transaction_allowed t = name_allowed 116 TRANSACTIONS t.value (omega arith) (grind (arith, nat_tests))
 
 -- an enlistment's
 pub enlistment_allowed : (e : EnlNo) → allows enlistment_slot (enlistment_name e.value) ≡ true
-enlistment_allowed e = name_allowed 101 9999 e.value (omega arith) (grind (arith, nat_tests))
+enlistment_allowed e = name_allowed 101 ENLISTMENTS e.value (omega arith) (grind (arith, nat_tests))
 
 -- a clone's
 pub clone_allowed : (c : CloneNo) → allows clone_slot (clone_name c.value) ≡ true
-clone_allowed c = name_allowed 99 9999 c.value (omega arith) (grind (arith, nat_tests))
+clone_allowed c = name_allowed 99 CLONES c.value (omega arith) (grind (arith, nat_tests))
 
 -- a scope's
 pub scope_allowed : (s : ScopeNo) → allows scope_slot (scope_name s.value) ≡ true
-scope_allowed s = name_allowed 115 9999 s.value (omega arith) (grind (arith, nat_tests))
+scope_allowed s = name_allowed 115 SCOPES s.value (omega arith) (grind (arith, nat_tests))
 
 -- and a manager's
 pub manager_allowed : (r : RmNo) → allows manager_slot (manager_name r.value) ≡ true
-manager_allowed r = name_allowed 114 16 r.value (omega arith) (grind (arith, nat_tests))
+manager_allowed r = name_allowed 114 MANAGERS r.value (omega arith) (grind (arith, nat_tests))
 
 -- a timeout may stand at its place
 pub timeout_allowed : (d : Timeout) → is_timeout d ≡ true → allows timeout_slot (timeout_word d) ≡ true
@@ -100,8 +107,8 @@ timeout_allowed (Milliseconds n) k =
 pub connection_allowed : (c : Conn) → allows connection_slot (connection_word c) ≡ true
 connection_allowed OnBegin = refl
 connection_allowed OnVoter = refl
-connection_allowed (OnEnl e) = let k : is_from 1 9999 e.value ≡ true = grind (arith, nat_tests) in rw (writes-decimal 1 9999 e.value (omega arith) k) refl
-connection_allowed (Again e) = let k : is_from 1 9999 e.value ≡ true = grind (arith, nat_tests) in rw (writes-decimal 1 9999 e.value (omega arith) k) refl
+connection_allowed (OnEnl e) = let k : is_from 1 ENLISTMENTS e.value ≡ true = grind (arith, nat_tests) in rw (writes-decimal 1 ENLISTMENTS e.value (omega arith) k) refl
+connection_allowed (Again e) = let k : is_from 1 ENLISTMENTS e.value ≡ true = grind (arith, nat_tests) in rw (writes-decimal 1 ENLISTMENTS e.value (omega arith) k) refl
 
 -- so may the word of an option
 pub option_allowed : (o : EnlistOption) → allows option_slot (option_word o) ≡ true

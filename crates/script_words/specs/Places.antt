@@ -5,10 +5,6 @@ use Rattle.dtx_values.specs.declared.script.BadCause.TheVariants.{MissingWord, U
 use Rattle.dtx_model.specs.Words.{has}
 use Rattle.dtx_model.specs.Faults.{Slot, allows, is_digit, is_letter, split}
 
--- no byte is c
-abbrev pub IsWithout : ℕ → List ℕ → Type 0
-IsWithout c bs = has (λ b. b == c) bs ≡ false
-
 -- the words that are left: none, or those of these bytes
 abbrev pub words_left : Bool → List ℕ → List (List ℕ)
 words_left true bs = split bs

@@ -7,11 +7,12 @@ ghost use Rattle.dtx_model.specs.Faults.{timeout_slot, option_slot, vote_slot, o
 ghost use Rattle.script_words.specs.Places.{IsAt, place_fault, end_fault};
 
 use crate::words;
-use crate::words::{cause, cut};
+use crate::words::cause;
 use dtx_values::{
     ActorNo, BadCause, CloneKind, CloneNo, Conn, EnlNo, EnlistOption, Image, IsoWord, Outcome,
     RmNo, ScopeNo, Timeout, TxNo, Vote,
 };
+use line_tail::cut;
 use std::marker::Model;
 
 /// The words of a line that are left. Contracts see their list.

@@ -1,29 +1,16 @@
 //! The words of a line.
-ghost use Rattle.std.specs.Prelude.{◌≡◌, ◌≢◌, ◌==◌, ◌<◌, ◌^◌, ◌∷◌, ◌++◌, [], ℕ, true, false, Option, IfSome, IfNone, decimal};
+ghost use Rattle.std.specs.Prelude.{◌≡◌, ◌≢◌, ◌==◌, ◌<◌, ◌^◌, ◌∷◌, [], ℕ, true, false, Option, IfSome, IfNone, decimal};
 ghost use Rattle.dtx_model.specs.Words.{has};
 ghost use Rattle.dtx_model.specs.Grammar.{actor_name, transaction_name, enlistment_name, clone_name, scope_name, manager_name, connection_word, timeout_word, option_word};
 ghost use Rattle.dtx_model.specs.Grammar.{vote_word, owner_word, promote_word, kind_word, image_word, asked_iso_word, is_from, is_timeout};
 ghost use Rattle.dtx_model.specs.Faults.{allows, named, number as number_slot, is_digit, is_letter, actor_slot, transaction_slot, enlistment_slot, clone_slot, scope_slot};
 ghost use Rattle.dtx_model.specs.Faults.{manager_slot, connection_slot, timeout_slot, option_slot, vote_slot, owner_slot, promote_slot, kind_slot, image_slot, iso_slot};
-ghost use Rattle.script_words.specs.Places.{IsWithout, is_misnamed, is_misnumbered, cause_of};
+ghost use Rattle.script_words.specs.Places.{is_misnamed, is_misnumbered, cause_of};
 
 use dtx_values::{
     ActorNo, BadCause, CloneKind, CloneNo, Conn, EnlNo, EnlistOption, Image, Iso, IsoWord, Outcome,
     RmNo, ScopeNo, Timeout, TxNo, Vote,
 };
-
-/// What stands before the first separator, and what stands behind it.
-pub fn cut(bytes: &[u8], separator: u8) -> Option<(&[u8], &[u8])>
-    ensures some { IfSome result (λ parts. (bytes.now ≡ parts.0.now ++ separator ∷ parts.1.now) × IsWithout separator parts.0.now) }
-    ensures none { IfNone result (IsWithout separator bytes.now) }
-{
-    for (i, b) in bytes.iter().enumerate() {
-        if *b == separator {
-            return Some((&bytes[..i], &bytes[i + 1..]));
-        }
-    }
-    None
-}
 
 /// Whether the byte is a digit.
 fn is_digit(b: u8) -> bool
@@ -142,7 +129,7 @@ pub fn actor(word: &[u8]) -> Option<ActorNo>
     ensures some { IfSome result (λ a. word.now ≡ actor_name a.value) }
     ensures none { IfNone result (allows actor_slot word.now ≡ false) }
 {
-    ActorNo::new(name(word, b'a', 16)?)
+    ActorNo::new(name(word, b'a', ActorNo::MAX)?)
 }
 
 /// Reads a transaction's name.
@@ -150,7 +137,7 @@ pub fn transaction(word: &[u8]) -> Option<TxNo>
     ensures some { IfSome result (λ t. word.now ≡ transaction_name t.value) }
     ensures none { IfNone result (allows transaction_slot word.now ≡ false) }
 {
-    TxNo::new(name(word, b't', 256)?)
+    TxNo::new(name(word, b't', TxNo::MAX)?)
 }
 
 /// Reads an enlistment's name.
@@ -158,7 +145,7 @@ pub fn enlistment(word: &[u8]) -> Option<EnlNo>
     ensures some { IfSome result (λ e. word.now ≡ enlistment_name e.value) }
     ensures none { IfNone result (allows enlistment_slot word.now ≡ false) }
 {
-    EnlNo::new(name(word, b'e', 9999)?)
+    EnlNo::new(name(word, b'e', EnlNo::MAX)?)
 }
 
 /// Reads a clone's name.
@@ -166,7 +153,7 @@ pub fn clone(word: &[u8]) -> Option<CloneNo>
     ensures some { IfSome result (λ c. word.now ≡ clone_name c.value) }
     ensures none { IfNone result (allows clone_slot word.now ≡ false) }
 {
-    CloneNo::new(name(word, b'c', 9999)?)
+    CloneNo::new(name(word, b'c', CloneNo::MAX)?)
 }
 
 /// Reads a scope's name.
@@ -174,7 +161,7 @@ pub fn scope(word: &[u8]) -> Option<ScopeNo>
     ensures some { IfSome result (λ s. word.now ≡ scope_name s.value) }
     ensures none { IfNone result (allows scope_slot word.now ≡ false) }
 {
-    ScopeNo::new(name(word, b's', 9999)?)
+    ScopeNo::new(name(word, b's', ScopeNo::MAX)?)
 }
 
 /// Reads a manager's name.
@@ -182,7 +169,7 @@ pub fn manager(word: &[u8]) -> Option<RmNo>
     ensures some { IfSome result (λ r. word.now ≡ manager_name r.value) }
     ensures none { IfNone result (allows manager_slot word.now ≡ false) }
 {
-    RmNo::new(name(word, b'r', 16)?)
+    RmNo::new(name(word, b'r', RmNo::MAX)?)
 }
 
 /// Reads a connection: `b`, `v`, that of an enlistment, or that of its reenlistment.
@@ -196,10 +183,10 @@ pub fn connection(word: &[u8]) -> Option<Conn>
     if word == b"v".as_slice() {
         return Some(Conn::Voter);
     }
-    if let Some(n) = name(word, b'e', 9999) {
+    if let Some(n) = name(word, b'e', EnlNo::MAX) {
         return Some(Conn::Enl(EnlNo::new(n)?));
     }
-    Some(Conn::Again(EnlNo::new(name(word, b'x', 9999)?)?))
+    Some(Conn::Again(EnlNo::new(name(word, b'x', EnlNo::MAX)?)?))
 }
 
 /// Reads a timeout: the word `default`, or milliseconds.

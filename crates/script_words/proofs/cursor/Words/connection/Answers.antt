@@ -1,7 +1,7 @@
 use Rattle.std.proofs.Common.{rules}
 use Rattle.dtx_model.specs.Grammar.{connection_word}
 use Rattle.dtx_model.specs.Faults.{connection_slot}
-use Rattle.script_words.proofs.Places.{taken, not_allowed}
+use Rattle.script_words.proofs.Places.{taken, misplaced}
 use Rattle.script_words.proofs.Slots.{connection_allowed}
 use Rattle.script_words.proofs.cursor.Words.connection.Goals as goal
 
@@ -12,4 +12,4 @@ returns-in-Some-connection-clause-ok c =
 
 pub returns-in-None-clause-err : goal.returns-in-None-clause-err
 returns-in-None-clause-err c =
-    not_allowed connection_slot c.args.self.now c.in-Some.word.now c.next.new.self _ (search rules) c.in-None.ensures.none c.cause.ensures
+    misplaced connection_slot c.args.self.now c.in-Some.word.now c.next.new.self _ (search rules) c.in-None.ensures.none c.cause.ensures

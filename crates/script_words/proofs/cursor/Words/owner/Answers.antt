@@ -1,7 +1,7 @@
 use Rattle.std.proofs.Common.{rules}
 use Rattle.dtx_model.specs.Grammar.{owner_word}
 use Rattle.dtx_model.specs.Faults.{owner_slot}
-use Rattle.script_words.proofs.Places.{taken, not_allowed}
+use Rattle.script_words.proofs.Places.{taken, misplaced}
 use Rattle.script_words.proofs.Slots.{owner_allowed}
 use Rattle.script_words.proofs.cursor.Words.owner.Goals as goal
 
@@ -11,4 +11,4 @@ returns-in-Some-owner-clause-ok c =
 
 pub returns-in-None-clause-err : goal.returns-in-None-clause-err
 returns-in-None-clause-err c =
-    not_allowed owner_slot c.args.self.now c.in-Some.word.now c.next.new.self _ (search rules) c.in-None.ensures.none c.cause.ensures
+    misplaced owner_slot c.args.self.now c.in-Some.word.now c.next.new.self _ (search rules) c.in-None.ensures.none c.cause.ensures

@@ -1,7 +1,7 @@
 use Rattle.std.proofs.Common.{rules}
 use Rattle.dtx_model.specs.Grammar.{timeout_word}
 use Rattle.dtx_model.specs.Faults.{timeout_slot}
-use Rattle.script_words.proofs.Places.{taken, not_allowed}
+use Rattle.script_words.proofs.Places.{taken, misplaced}
 use Rattle.script_words.proofs.Slots.{timeout_allowed}
 use Rattle.script_words.proofs.cursor.Words.timeout.Goals as goal
 
@@ -14,4 +14,4 @@ returns-in-Some-timeout-clause-ok c = (
 
 pub returns-in-None-clause-err : goal.returns-in-None-clause-err
 returns-in-None-clause-err c =
-    not_allowed timeout_slot c.args.self.now c.in-Some.word.now c.next.new.self _ (search rules) c.in-None.ensures.none c.cause.ensures
+    misplaced timeout_slot c.args.self.now c.in-Some.word.now c.next.new.self _ (search rules) c.in-None.ensures.none c.cause.ensures
