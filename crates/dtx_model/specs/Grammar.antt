@@ -299,22 +299,22 @@ makes_lasting_of t e (Durable u f r s) = (t == u.value) && (e == f.value)
 makes_lasting_of t e (Promotable u f r v o p) = (t == u.value) && (e == f.value)
 makes_lasting_of t e _ = false
 
-abbrev pub is_lasting : List Line → ℕ → Bool
-is_lasting before e = has (λ l. makes_lasting e l.body) before
+abbrev pub is_made_lasting : List Line → ℕ → Bool
+is_made_lasting before e = has (λ l. makes_lasting e l.body) before
 
-abbrev pub is_lasting_of : List Line → ℕ → ℕ → Bool
-is_lasting_of before t e = has (λ l. makes_lasting_of t e l.body) before
+abbrev pub is_made_lasting_of : List Line → ℕ → ℕ → Bool
+is_made_lasting_of before t e = has (λ l. makes_lasting_of t e l.body) before
 
 -- the connection's enlistment is a durable or promotable one of this transaction
 abbrev pub is_connection_of : List Line → ℕ → Conn → Bool
-is_connection_of before t (OnEnl e) = is_lasting_of before t e.value
-is_connection_of before t (Again e) = is_lasting_of before t e.value
+is_connection_of before t (OnEnl e) = is_made_lasting_of before t e.value
+is_connection_of before t (Again e) = is_made_lasting_of before t e.value
 is_connection_of before t _ = true
 
 -- each enlistment that the line names is of the kind that its command asks for
 abbrev pub is_of_kind : List Line → Body → Bool
-is_of_kind before (Gone e) = is_lasting before e.value
-is_of_kind before (Reenlist e) = is_lasting before e.value
+is_of_kind before (Gone e) = is_made_lasting before e.value
+is_of_kind before (Reenlist e) = is_made_lasting before e.value
 is_of_kind before (Lose t c up down) = is_connection_of before t.value c
 is_of_kind before _ = true
 

@@ -18,7 +18,7 @@ use Rattle.dtx_values.specs.declared.script.Support.{Support}
 use Rattle.dtx_values.specs.declared.words.Outcome.{Outcome}
 use Rattle.dtx_values.specs.declared.words.Vote.{Vote}
 use Rattle.dtx_model.specs.Words.{has, each, past_of}
-use Rattle.dtx_model.specs.Grammar.{makes, makes_lasting, makes_lasting_of, is_made, is_lasting, is_lasting_of, is_par, same_name, OfEnlistment}
+use Rattle.dtx_model.specs.Grammar.{makes, makes_lasting, makes_lasting_of, is_made, is_made_lasting, is_made_lasting_of, is_par, same_name, OfEnlistment}
 use Rattle.dtx_model.specs.Faults.{name_fault}
 use Rattle.dtx_model.proofs.Bools.{or_first, or_second, or_false, not_true, and_left}
 use Rattle.script_text.specs.Reader.{AreMade, is_owner}
@@ -66,7 +66,7 @@ unmade_here_of t e (Promotable u f r v o p) h = rw h (grind (arith, nat_tests))
 unmade_here_of t e _ h = refl
 
 -- an enlistment that wasn't made isn't a durable or promotable one of any transaction
-unmade_of : (t e : ℕ) (past : List Line) → is_made past (OfEnlistment e) ≡ false → is_lasting_of past t e ≡ false
+unmade_of : (t e : ℕ) (past : List Line) → is_made past (OfEnlistment e) ≡ false → is_made_lasting_of past t e ≡ false
 unmade_of t e [] h = refl
 unmade_of t e (l ∷ past) h =
     let here = unmade_here e l.body (or_first (has (λ m. same_name (OfEnlistment e) m) (makes l.body)) (is_made past (OfEnlistment e)) h) in
@@ -103,12 +103,12 @@ no_twice past l true e h = refl
 no_twice past l false e h = absurd (cc (rw e at h))
 
 -- whose the enlistment at a place is, after a line that makes one
-owner_there : (past : List Line) (b : Body) (os : List (Option TxNo)) (t : TxNo) (e u n : ℕ) (same : Bool) → IsLasting b t.value (e + 1) → is_lasting_of past u (e + 1) ≡ false → e < length os
-    → (n == e) ≡ same → is_owner u (slice_index_or os n None) ≡ is_lasting_of past u (n + 1)
-    → is_owner u (slice_index_or (slice_set os e (Some t)) n None) ≡ (makes_lasting_of u (n + 1) b || is_lasting_of past u (n + 1))
+owner_there : (past : List Line) (b : Body) (os : List (Option TxNo)) (t : TxNo) (e u n : ℕ) (same : Bool) → IsLasting b t.value (e + 1) → is_made_lasting_of past u (e + 1) ≡ false → e < length os
+    → (n == e) ≡ same → is_owner u (slice_index_or os n None) ≡ is_made_lasting_of past u (n + 1)
+    → is_owner u (slice_index_or (slice_set os e (Some t)) n None) ≡ (makes_lasting_of u (n + 1) b || is_made_lasting_of past u (n + 1))
 owner_there past b os t e u n true h none k q old =
     let equal : n ≡ e = grind (arith, nat_tests) in
-    let gone : is_lasting_of past u (n + 1) ≡ false = ap (λ m. is_lasting_of past u (m + 1)) equal ∙ none in
+    let gone : is_made_lasting_of past u (n + 1) ≡ false = ap (λ m. is_made_lasting_of past u (m + 1)) equal ∙ none in
     rw (written os e n (Some t) None true k q, h.owner u (n + 1), next_same n e true q, gone) (and_true (u == t.value))
   where
     and_true : (x : Bool) → x ≡ ((x && true) || false)
@@ -122,7 +122,7 @@ owner_there past b os t e u n false h none k q old = rw (written os e n (Some t)
 
 -- whether it is a durable or promotable one, after that line
 lasting_there : (past : List Line) (b : Body) (os : List (Option TxNo)) (t : TxNo) (e n : ℕ) (same : Bool) → IsLasting b t.value (e + 1) → e < length os → (n == e) ≡ same
-    → is_some (slice_index_or os n None) ≡ is_lasting past (n + 1) → is_some (slice_index_or (slice_set os e (Some t)) n None) ≡ (makes_lasting (n + 1) b || is_lasting past (n + 1))
+    → is_some (slice_index_or os n None) ≡ is_made_lasting past (n + 1) → is_some (slice_index_or (slice_set os e (Some t)) n None) ≡ (makes_lasting (n + 1) b || is_made_lasting past (n + 1))
 lasting_there past b os t e n true h m q old = rw (written os e n (Some t) None true m q, h.lasting (n + 1), next_same n e true q) refl
 lasting_there past b os t e n false h m q old = rw (written os e n (Some t) None false m q, h.lasting (n + 1), next_same n e false q) old
 

@@ -1,7 +1,7 @@
 //! The lines that are read so far.
 ghost use Rattle.std.specs.Prelude.{◌≡◌, ◌++◌, [], ◌∷◌, IfOk, OnOk, None, not, length, replicate};
 ghost use Rattle.dtx_model.specs.Words.{each, has, past_of};
-ghost use Rattle.dtx_model.specs.Grammar.{is_made, makes, uses, opening_makes, connection_uses, is_lasting, is_lasting_of};
+ghost use Rattle.dtx_model.specs.Grammar.{is_made, makes, uses, opening_makes, connection_uses, is_made_lasting, is_made_lasting_of};
 ghost use Rattle.dtx_model.specs.Grammar.{is_connection_of, is_of_kind, is_par, OfTransaction, OfEnlistment, OfClone, OfScope};
 ghost use Rattle.dtx_model.specs.Faults.{name_fault};
 
@@ -99,15 +99,15 @@ impl Draft {
     }
 
     /// Whether the enlistment is a durable or promotable one.
-    fn is_lasting(&self, e: EnlNo) -> bool
-        ensures { result ≡ is_lasting (past_of self.now) e.value }
+    fn is_made_lasting(&self, e: EnlNo) -> bool
+        ensures { result ≡ is_made_lasting (past_of self.now) e.value }
     {
         self.owners[e.index()].is_some()
     }
 
     /// Whether it is a durable or promotable one of this transaction.
-    fn is_lasting_of(&self, t: TxNo, e: EnlNo) -> bool
-        ensures { result ≡ is_lasting_of (past_of self.now) t.value e.value }
+    fn is_made_lasting_of(&self, t: TxNo, e: EnlNo) -> bool
+        ensures { result ≡ is_made_lasting_of (past_of self.now) t.value e.value }
     {
         self.owners[e.index()] == Some(t)
     }
@@ -184,7 +184,7 @@ impl Draft {
         ensures { result ≡ is_connection_of (past_of self.now) t.value c }
     {
         match c {
-            Conn::Enl(e) | Conn::Again(e) => self.is_lasting_of(t, e),
+            Conn::Enl(e) | Conn::Again(e) => self.is_made_lasting_of(t, e),
             _ => true,
         }
     }
@@ -194,7 +194,7 @@ impl Draft {
         ensures { result ≡ is_of_kind (past_of self.now) body.now }
     {
         match *body {
-            Body::Gone(e) | Body::Reenlist(e) => self.is_lasting(e),
+            Body::Gone(e) | Body::Reenlist(e) => self.is_made_lasting(e),
             Body::Lose(t, c, _, _) => self.is_connection_of(t, c),
             _ => true,
         }

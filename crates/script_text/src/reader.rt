@@ -5,7 +5,7 @@ ghost use Rattle.dtx_model.specs.Grammar.{is_from, script_text, IsScript, Reads}
 ghost use Rattle.dtx_model.specs.Faults.{front, form_fault, line_forms, word_fault, words_of, IsBadFor};
 ghost use Rattle.dtx_values.specs.declared.limits.TheConstants.{LINE_BYTES, SCRIPT_BYTES};
 ghost use Rattle.script_text.specs.Reader.{Continues};
-ghost use Rattle.script_text.specs.Reading.{IsRefused};
+ghost use Rattle.script_text.specs.Reading.{IsBadScript};
 
 use crate::commands::line;
 use crate::draft::Draft;
@@ -85,7 +85,7 @@ fn next_line<'a>(draft: &Draft, taken: usize, rest: &'a [u8]) -> Result<(Line, &
 /// - [`ScriptError::Memory`] where memory ran out.
 pub fn read_script(alloc: Global, bytes: &[u8]) -> Result<Script, ScriptError>
     ensures read { IfOk result (λ s. Reads bytes.now s) }
-    ensures bad { IfErr result (λ e. IsRefused bytes.now e) }
+    ensures bad { IfErr result (λ e. IsBadScript bytes.now e) }
 {
     let Ok(mut draft) = Draft::new(alloc) else {
         return Err(ScriptError::Memory);

@@ -1,7 +1,7 @@
 use Rattle.std.proofs.Common.{rules, arith, decimal}
 use Rattle.dtx_model.specs.Faults.{number}
 use Rattle.script_words.proofs.Places.{taken, misplaced}
-use Rattle.script_words.proofs.Slots.{number_allowed}
+use Rattle.script_words.proofs.Patterns.{number_allowed}
 use Rattle.script_words.proofs.cursor.Words.number.Goals as goal
 
 pub returns-in-Some-number_from-clause-ok : goal.returns-in-Some-number_from-clause-ok

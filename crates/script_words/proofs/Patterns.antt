@@ -33,16 +33,16 @@ use Rattle.dtx_model.specs.Words.{has}
 use Rattle.dtx_model.proofs.Bools.{or_false, or_right}
 use Rattle.dtx_model.specs.Grammar.{is_from, is_timeout, connection_word, timeout_word, option_word, vote_word, owner_word, promote_word, kind_word, image_word, asked_iso_word}
 use Rattle.dtx_model.specs.Grammar.{actor_name, transaction_name, enlistment_name, clone_name, scope_name, manager_name}
-use Rattle.dtx_model.specs.Faults.{actor_slot, transaction_slot, enlistment_slot, clone_slot, scope_slot, manager_slot}
-use Rattle.dtx_model.specs.Faults.{Slot, same_bytes, writes, one_of, named, number, is_name, allows, connection_slot}
-use Rattle.dtx_model.specs.Faults.{timeout_slot, option_slot, vote_slot, owner_slot, promote_slot, kind_slot, image_slot, iso_slot}
+use Rattle.dtx_model.specs.Faults.{actor_pattern, transaction_pattern, enlistment_pattern, clone_pattern, scope_pattern, manager_pattern}
+use Rattle.dtx_model.specs.Faults.{Pattern, same_bytes, writes, one_of, named, number, is_name, allows, connection_pattern}
+use Rattle.dtx_model.specs.Faults.{timeout_pattern, option_pattern, vote_pattern, owner_pattern, promote_pattern, kind_pattern, image_pattern, iso_pattern}
 use Rattle.script_words.specs.Places.{IsOther}
 use Rattle.line_tail.proofs.SameBytes.{same_bytes-other}
 use Rattle.script_words.proofs.Numbers.{writes-decimal, to_high}
 use Rattle.std.proofs.lemmas.Bool.Decides.{nat_tests}
 
 -- no name may stand where no letter may
-no_name : (s : Slot) (w : List ℕ) → s.letters ≡ [] → is_name s w ≡ false
+no_name : (s : Pattern) (w : List ℕ) → s.letters ≡ [] → is_name s w ≡ false
 no_name s [] e = refl
 no_name s (b ∷ bs) e = rw e refl
 
@@ -73,81 +73,81 @@ name_allowed letter most n h k =
     rw (same, writes-decimal 1 most n (omega arith) k) refl
 
 -- so an actor's name may
-pub actor_allowed : (a : ActorNo) → allows actor_slot (actor_name a.value) ≡ true
+pub actor_allowed : (a : ActorNo) → allows actor_pattern (actor_name a.value) ≡ true
 actor_allowed a = name_allowed 97 ACTORS a.value (omega arith) (grind (arith, nat_tests))
 
 -- a transaction's
-pub transaction_allowed : (t : TxNo) → allows transaction_slot (transaction_name t.value) ≡ true
+pub transaction_allowed : (t : TxNo) → allows transaction_pattern (transaction_name t.value) ≡ true
 transaction_allowed t = name_allowed 116 TRANSACTIONS t.value (omega arith) (grind (arith, nat_tests))
 
 -- an enlistment's
-pub enlistment_allowed : (e : EnlNo) → allows enlistment_slot (enlistment_name e.value) ≡ true
+pub enlistment_allowed : (e : EnlNo) → allows enlistment_pattern (enlistment_name e.value) ≡ true
 enlistment_allowed e = name_allowed 101 ENLISTMENTS e.value (omega arith) (grind (arith, nat_tests))
 
 -- a clone's
-pub clone_allowed : (c : CloneNo) → allows clone_slot (clone_name c.value) ≡ true
+pub clone_allowed : (c : CloneNo) → allows clone_pattern (clone_name c.value) ≡ true
 clone_allowed c = name_allowed 99 CLONES c.value (omega arith) (grind (arith, nat_tests))
 
 -- a scope's
-pub scope_allowed : (s : ScopeNo) → allows scope_slot (scope_name s.value) ≡ true
+pub scope_allowed : (s : ScopeNo) → allows scope_pattern (scope_name s.value) ≡ true
 scope_allowed s = name_allowed 115 SCOPES s.value (omega arith) (grind (arith, nat_tests))
 
 -- and a manager's
-pub manager_allowed : (r : RmNo) → allows manager_slot (manager_name r.value) ≡ true
+pub manager_allowed : (r : RmNo) → allows manager_pattern (manager_name r.value) ≡ true
 manager_allowed r = name_allowed 114 MANAGERS r.value (omega arith) (grind (arith, nat_tests))
 
 -- a timeout may stand at its place
-pub timeout_allowed : (d : Timeout) → is_timeout d ≡ true → allows timeout_slot (timeout_word d) ≡ true
+pub timeout_allowed : (d : Timeout) → is_timeout d ≡ true → allows timeout_pattern (timeout_word d) ≡ true
 timeout_allowed Default k = refl
 timeout_allowed (Milliseconds n) k =
     let below = to_high 0 4294967295 n k in
-    or_right (has (same_bytes (decimal n)) timeout_slot.words || is_name timeout_slot (decimal n)) _ (writes-decimal 0 4294967295 n (omega arith) k)
+    or_right (has (same_bytes (decimal n)) timeout_pattern.words || is_name timeout_pattern (decimal n)) _ (writes-decimal 0 4294967295 n (omega arith) k)
 
 -- so may a connection
-pub connection_allowed : (c : Conn) → allows connection_slot (connection_word c) ≡ true
+pub connection_allowed : (c : Conn) → allows connection_pattern (connection_word c) ≡ true
 connection_allowed OnBegin = refl
 connection_allowed OnVoter = refl
 connection_allowed (OnEnl e) = let k : is_from 1 ENLISTMENTS e.value ≡ true = grind (arith, nat_tests) in rw (writes-decimal 1 ENLISTMENTS e.value (omega arith) k) refl
 connection_allowed (Again e) = let k : is_from 1 ENLISTMENTS e.value ≡ true = grind (arith, nat_tests) in rw (writes-decimal 1 ENLISTMENTS e.value (omega arith) k) refl
 
 -- so may the word of an option
-pub option_allowed : (o : EnlistOption) → allows option_slot (option_word o) ≡ true
+pub option_allowed : (o : EnlistOption) → allows option_pattern (option_word o) ≡ true
 option_allowed Plain = refl
 option_allowed DuringPrepare = refl
 
 -- that of a vote's plan
-pub vote_allowed : (v : Option Vote) → allows vote_slot (vote_word v) ≡ true
+pub vote_allowed : (v : Option Vote) → allows vote_pattern (vote_word v) ≡ true
 vote_allowed (Some Yes) = refl
 vote_allowed (Some No) = refl
 vote_allowed (Some Done) = refl
 vote_allowed None = refl
 
 -- that of the plan of an owner's answer
-pub owner_allowed : (o : Option Outcome) → allows owner_slot (owner_word o) ≡ true
+pub owner_allowed : (o : Option Outcome) → allows owner_pattern (owner_word o) ≡ true
 owner_allowed (Some Committed) = refl
 owner_allowed (Some Aborted) = refl
 owner_allowed (Some InDoubt) = refl
 owner_allowed None = refl
 
 -- that of a promotion's plan
-pub promotion_allowed : (p : Option Bool) → allows promote_slot (promote_word p) ≡ true
+pub promotion_allowed : (p : Option Bool) → allows promote_pattern (promote_word p) ≡ true
 promotion_allowed (Some true) = refl
 promotion_allowed (Some false) = refl
 promotion_allowed None = refl
 
 -- that of a clone's kind
-pub kind_allowed : (k : CloneKind) → allows kind_slot (kind_word k) ≡ true
+pub kind_allowed : (k : CloneKind) → allows kind_pattern (kind_word k) ≡ true
 kind_allowed Block = refl
 kind_allowed RollbackKind = refl
 
 -- that of an image
-pub image_allowed : (i : Image) → allows image_slot (image_word i) ≡ true
+pub image_allowed : (i : Image) → allows image_pattern (image_word i) ≡ true
 image_allowed Lose = refl
 image_allowed Keep = refl
 image_allowed Torn = refl
 
 -- and that of an isolation
-pub isolation_allowed : (i : IsoWord) → allows iso_slot (asked_iso_word i) ≡ true
+pub isolation_allowed : (i : IsoWord) → allows iso_pattern (asked_iso_word i) ≡ true
 isolation_allowed DefaultIso = refl
 isolation_allowed (Level Serializable) = refl
 isolation_allowed (Level RepeatableRead) = refl

@@ -1,6 +1,6 @@
-//! Commands of time, steps, losses and recovery.
+//! Commands of what happens to a transaction and its participants: time, steps, losses, recovery and stops.
 ghost use Rattle.std.specs.Prelude.{◌≡◌, codes, IfSome, IfNone};
-ghost use Rattle.script_text.specs.Reader.{IsRead, running_words};
+ghost use Rattle.script_text.specs.Reader.{IsAnswerTo, event_keys};
 ghost use Rattle.script_words.specs.Places.{IsOther};
 
 use dtx_values::{BadCause, Body};
@@ -24,7 +24,7 @@ const LAST_DEVICE_CALL: u32 = 99;
 /// Reads the words behind `tick`.
 #[tactic(auto, using(crate::proofs::Forms::forms))]
 fn tick(words: &mut Words<'_>) -> Result<Body, BadCause>
-    ensures { IsRead (codes "tick") words.old result }
+    ensures { IsAnswerTo (codes "tick") words.old result }
 {
     let t = words.transaction()?;
     let n = words.number(1, LONGEST_TICK)?;
@@ -35,7 +35,7 @@ fn tick(words: &mut Words<'_>) -> Result<Body, BadCause>
 /// Reads the words behind `do`.
 #[tactic(auto, using(crate::proofs::Forms::forms))]
 fn steps(words: &mut Words<'_>) -> Result<Body, BadCause>
-    ensures { IsRead (codes "do") words.old result }
+    ensures { IsAnswerTo (codes "do") words.old result }
 {
     let t = words.transaction()?;
     let k = words.number(1, LAST_PLACE)?;
@@ -47,7 +47,7 @@ fn steps(words: &mut Words<'_>) -> Result<Body, BadCause>
 /// Reads the words behind `lose`.
 #[tactic(auto, using(crate::proofs::Forms::forms))]
 fn lose(words: &mut Words<'_>) -> Result<Body, BadCause>
-    ensures { IsRead (codes "lose") words.old result }
+    ensures { IsAnswerTo (codes "lose") words.old result }
 {
     let t = words.transaction()?;
     let c = words.connection()?;
@@ -60,7 +60,7 @@ fn lose(words: &mut Words<'_>) -> Result<Body, BadCause>
 /// Reads the words behind `gone`.
 #[tactic(auto, using(crate::proofs::Forms::forms))]
 fn gone(words: &mut Words<'_>) -> Result<Body, BadCause>
-    ensures { IsRead (codes "gone") words.old result }
+    ensures { IsAnswerTo (codes "gone") words.old result }
 {
     let e = words.enlistment()?;
     words.end()?;
@@ -70,7 +70,7 @@ fn gone(words: &mut Words<'_>) -> Result<Body, BadCause>
 /// Reads the words behind `reenlist`.
 #[tactic(auto, using(crate::proofs::Forms::forms))]
 fn reenlist(words: &mut Words<'_>) -> Result<Body, BadCause>
-    ensures { IsRead (codes "reenlist") words.old result }
+    ensures { IsAnswerTo (codes "reenlist") words.old result }
 {
     let e = words.enlistment()?;
     words.end()?;
@@ -80,7 +80,7 @@ fn reenlist(words: &mut Words<'_>) -> Result<Body, BadCause>
 /// Reads the words behind `recovered`.
 #[tactic(auto, using(crate::proofs::Forms::forms))]
 fn recovered(words: &mut Words<'_>) -> Result<Body, BadCause>
-    ensures { IsRead (codes "recovered") words.old result }
+    ensures { IsAnswerTo (codes "recovered") words.old result }
 {
     let t = words.transaction()?;
     let r = words.manager()?;
@@ -91,7 +91,7 @@ fn recovered(words: &mut Words<'_>) -> Result<Body, BadCause>
 /// Reads the words behind `stop`.
 #[tactic(auto, using(crate::proofs::Forms::forms))]
 fn stop(words: &mut Words<'_>) -> Result<Body, BadCause>
-    ensures { IsRead (codes "stop") words.old result }
+    ensures { IsAnswerTo (codes "stop") words.old result }
 {
     let n = words.number(1, LAST_DEVICE_CALL)?;
     let i = words.image()?;
@@ -102,16 +102,25 @@ fn stop(words: &mut Words<'_>) -> Result<Body, BadCause>
 /// Reads the words behind `restart`.
 #[tactic(auto, using(crate::proofs::Forms::forms))]
 fn restart(words: &mut Words<'_>) -> Result<Body, BadCause>
-    ensures { IsRead (codes "restart") words.old result }
+    ensures { IsAnswerTo (codes "restart") words.old result }
 {
     words.end()?;
     Ok(Body::Restart)
 }
 
+/// Reads the words behind `par`.
+#[tactic(auto, using(crate::proofs::Forms::forms))]
+fn par(words: &mut Words<'_>) -> Result<Body, BadCause>
+    ensures { IsAnswerTo (codes "par") words.old result }
+{
+    words.end()?;
+    Ok(Body::Par)
+}
+
 /// Reads the command where its own word is one of these.
-pub fn running(word: &[u8], words: &mut Words<'_>) -> Option<Result<Body, BadCause>>
-    ensures some { IfSome result (λ r. IsRead word.now words.old r) }
-    ensures other { IfNone result (IsOther word.now running_words) }
+pub fn event_command(word: &[u8], words: &mut Words<'_>) -> Option<Result<Body, BadCause>>
+    ensures some { IfSome result (λ r. IsAnswerTo word.now words.old r) }
+    ensures other { IfNone result (IsOther word.now event_keys) }
     ensures same { IfNone result (words.new ≡ words.old) }
 {
     if word == b"tick".as_slice() {
@@ -137,6 +146,9 @@ pub fn running(word: &[u8], words: &mut Words<'_>) -> Option<Result<Body, BadCau
     }
     if word == b"restart".as_slice() {
         return Some(restart(words));
+    }
+    if word == b"par".as_slice() {
+        return Some(par(words));
     }
     None
 }

@@ -1,7 +1,7 @@
 use Rattle.std.proofs.Common.{arith, ◌≡◌, ◌∷◌, ◌∙◌, Some, codes}
 use Rattle.dtx_model.specs.Faults.{word_fault, command_forms}
 use Rattle.script_text.proofs.Forms.{pass_one, stop_one}
-use Rattle.script_text.proofs.making.promotable.Goals as goal
+use Rattle.script_text.proofs.transactions.promotable.Goals as goal
 
 pub returns-in_err-o : goal.returns-in_err-o
 returns-in_err-o c =

@@ -1,6 +1,6 @@
-//! Commands of transactions, enlistments and clones.
+//! Commands of transactions, and of what enlists in them or is cloned of them.
 ghost use Rattle.std.specs.Prelude.{◌≡◌, codes, IfSome, IfNone};
-ghost use Rattle.script_text.specs.Reader.{IsRead, making_words};
+ghost use Rattle.script_text.specs.Reader.{IsAnswerTo, transaction_keys};
 ghost use Rattle.script_words.specs.Places.{IsOther};
 
 use crate::parts::support;
@@ -10,7 +10,7 @@ use script_words::Words;
 /// Reads the words behind `begin`.
 #[tactic(auto, using(crate::proofs::Forms::forms))]
 fn begin(words: &mut Words<'_>) -> Result<Body, BadCause>
-    ensures { IsRead (codes "begin") words.old result }
+    ensures { IsAnswerTo (codes "begin") words.old result }
 {
     let t = words.transaction()?;
     let d = words.timeout()?;
@@ -21,7 +21,7 @@ fn begin(words: &mut Words<'_>) -> Result<Body, BadCause>
 /// Reads the words behind `volatile`.
 #[tactic(auto, using(crate::proofs::Forms::forms))]
 fn volatile(words: &mut Words<'_>) -> Result<Body, BadCause>
-    ensures { IsRead (codes "volatile") words.old result }
+    ensures { IsAnswerTo (codes "volatile") words.old result }
 {
     let t = words.transaction()?;
     let e = words.enlistment()?;
@@ -34,7 +34,7 @@ fn volatile(words: &mut Words<'_>) -> Result<Body, BadCause>
 /// Reads the words behind `durable`.
 #[tactic(auto, using(crate::proofs::Forms::forms, crate::proofs::Forms::durable_forms))]
 fn durable(words: &mut Words<'_>) -> Result<Body, BadCause>
-    ensures { IsRead (codes "durable") words.old result }
+    ensures { IsAnswerTo (codes "durable") words.old result }
 {
     let t = words.transaction()?;
     let e = words.enlistment()?;
@@ -46,7 +46,7 @@ fn durable(words: &mut Words<'_>) -> Result<Body, BadCause>
 /// Reads the words behind `promotable`.
 #[tactic(auto, using(crate::proofs::Forms::forms))]
 fn promotable(words: &mut Words<'_>) -> Result<Body, BadCause>
-    ensures { IsRead (codes "promotable") words.old result }
+    ensures { IsAnswerTo (codes "promotable") words.old result }
 {
     let t = words.transaction()?;
     let e = words.enlistment()?;
@@ -61,7 +61,7 @@ fn promotable(words: &mut Words<'_>) -> Result<Body, BadCause>
 /// Reads the words behind `clone`.
 #[tactic(auto, using(crate::proofs::Forms::forms))]
 fn clone_made(words: &mut Words<'_>) -> Result<Body, BadCause>
-    ensures { IsRead (codes "clone") words.old result }
+    ensures { IsAnswerTo (codes "clone") words.old result }
 {
     let t = words.transaction()?;
     let c = words.clone()?;
@@ -73,7 +73,7 @@ fn clone_made(words: &mut Words<'_>) -> Result<Body, BadCause>
 /// Reads the words behind `complete`.
 #[tactic(auto, using(crate::proofs::Forms::forms))]
 fn complete(words: &mut Words<'_>) -> Result<Body, BadCause>
-    ensures { IsRead (codes "complete") words.old result }
+    ensures { IsAnswerTo (codes "complete") words.old result }
 {
     let c = words.clone()?;
     words.end()?;
@@ -83,7 +83,7 @@ fn complete(words: &mut Words<'_>) -> Result<Body, BadCause>
 /// Reads the words behind `commit`.
 #[tactic(auto, using(crate::proofs::Forms::forms))]
 fn commit(words: &mut Words<'_>) -> Result<Body, BadCause>
-    ensures { IsRead (codes "commit") words.old result }
+    ensures { IsAnswerTo (codes "commit") words.old result }
 {
     let t = words.transaction()?;
     words.end()?;
@@ -93,17 +93,47 @@ fn commit(words: &mut Words<'_>) -> Result<Body, BadCause>
 /// Reads the words behind `rollback`.
 #[tactic(auto, using(crate::proofs::Forms::forms))]
 fn rollback(words: &mut Words<'_>) -> Result<Body, BadCause>
-    ensures { IsRead (codes "rollback") words.old result }
+    ensures { IsAnswerTo (codes "rollback") words.old result }
 {
     let t = words.transaction()?;
     words.end()?;
     Ok(Body::Rollback(t))
 }
 
+/// Reads the words behind `marshal`.
+#[tactic(auto, using(crate::proofs::Forms::forms))]
+fn marshal(words: &mut Words<'_>) -> Result<Body, BadCause>
+    ensures { IsAnswerTo (codes "marshal") words.old result }
+{
+    let t = words.transaction()?;
+    words.end()?;
+    Ok(Body::Marshal(t))
+}
+
+/// Reads the words behind `status`.
+#[tactic(auto, using(crate::proofs::Forms::forms))]
+fn status(words: &mut Words<'_>) -> Result<Body, BadCause>
+    ensures { IsAnswerTo (codes "status") words.old result }
+{
+    let t = words.transaction()?;
+    words.end()?;
+    Ok(Body::Status(t))
+}
+
+/// Reads the words behind `await`.
+#[tactic(auto, using(crate::proofs::Forms::forms))]
+fn await_end(words: &mut Words<'_>) -> Result<Body, BadCause>
+    ensures { IsAnswerTo (codes "await") words.old result }
+{
+    let t = words.transaction()?;
+    words.end()?;
+    Ok(Body::Await(t))
+}
+
 /// Reads the command where its own word is one of these.
-pub fn making(word: &[u8], words: &mut Words<'_>) -> Option<Result<Body, BadCause>>
-    ensures some { IfSome result (λ r. IsRead word.now words.old r) }
-    ensures other { IfNone result (IsOther word.now making_words) }
+pub fn transaction_command(word: &[u8], words: &mut Words<'_>) -> Option<Result<Body, BadCause>>
+    ensures some { IfSome result (λ r. IsAnswerTo word.now words.old r) }
+    ensures other { IfNone result (IsOther word.now transaction_keys) }
     ensures same { IfNone result (words.new ≡ words.old) }
 {
     if word == b"begin".as_slice() {
@@ -129,6 +159,15 @@ pub fn making(word: &[u8], words: &mut Words<'_>) -> Option<Result<Body, BadCaus
     }
     if word == b"rollback".as_slice() {
         return Some(rollback(words));
+    }
+    if word == b"marshal".as_slice() {
+        return Some(marshal(words));
+    }
+    if word == b"status".as_slice() {
+        return Some(status(words));
+    }
+    if word == b"await".as_slice() {
+        return Some(await_end(words));
     }
     None
 }
