@@ -4,7 +4,7 @@ use Rattle.dtx_values.specs.declared.entry.Entry.{Entry}
 use Rattle.dtx_values.specs.declared.entry.Entry.TheVariants.{Cut, Down as End, Got, LogFull, Lost, Reenlisted, Restarted, Stopped, Told}
 use Rattle.dtx_values.specs.declared.entry.Party.TheVariants.{Enl}
 use Rattle.dtx_values.specs.declared.message.Conn.TheVariants.{Begin, Voter, Enl as OnEnl, Again}
-use Rattle.dtx_values.specs.declared.message.Dir.TheVariants.{Up}
+use Rattle.dtx_values.specs.declared.message.Dir.TheVariants.{Down, Up}
 use Rattle.dtx_values.specs.declared.message.Message.TheVariants.{BeginAbort, VoterNo, EnlistNo}
 use Rattle.dtx_values.specs.declared.script.Line.{Line}
 use Rattle.dtx_values.specs.declared.words.Outcome.{Outcome}
@@ -41,9 +41,9 @@ may_learn h Committed = evidence h && by_log h
 may_learn h Aborted = coordinator_aborted h
 may_learn h InDoubt = false
 
--- what is told directly behind a message on the connection of a reenlistment
+-- what E is told directly after a message to it, on the connection of its own reenlistment
 abbrev pub is_learned : List Entry → Entry → Bool
-is_learned (Got (Again f) d m ∷ past) (Told (Enl e) o) = may_learn (Got (Again f) d m ∷ past) o
+is_learned (Got (Again f) Down m ∷ past) (Told (Enl e) o) = not (e.value == f.value) || may_learn (Got (Again f) Down m ∷ past) o
 is_learned past _ = true
 
 -- the enlistment was lost again, the coordinator stopped, or the connection of its reenlistment was cut
@@ -66,8 +66,10 @@ are_answered decided behind (x ∷ past) = is_answered decided behind x && are_a
 abbrev pub is_decided_there : List Entry → Bool
 is_decided_there h = has is_record h || coordinator_aborted h
 
--- Learned: what is told over such a connection is the logged outcome, or abort where there is none; and where the history is settled, each that came
--- back was told
-pub record Learned (s : List Line) (h : List Entry) : Type 0 where
-  pub rightly : always is_learned h ≡ true
-  pub answered : Settled s h → are_answered (is_decided_there h) [] h ≡ true
+-- Learned: what is told over such a connection is the logged outcome, or abort where there is none
+abbrev pub Learned : List Entry → Type 0
+Learned h = always is_learned h ≡ true
+
+-- where the history is settled, each that came back was told
+abbrev pub AreAnswered : List Line → List Entry → Type 0
+AreAnswered s h = Settled s h → are_answered (is_decided_there h) [] h ≡ true

@@ -101,12 +101,12 @@ unfolding observe
 due_well s h i =
     each_picked (may_reply h) (due_reply s (observe h)) (rows h)
     (each_from_at (λ x. passes (may_reply h) (due_reply s (observe h) x)) (rows h)
-    (λ k x e. plan_well s h x.0 (due_note (observe h) x)
-    (λ n. let w = prepare_due (is_some (latest decision_of h) || is_gone (observe h) x.0.value) (is_marked x && not (has_voted x)) (is_handed (latest handed_of h) x.0.value) n in
-    due_rule (is_marked x) (has_voted x) (has is_decision h) (has (is_enlisted x.0.value) h) (has (is_asked x.0.value) h) (has (is_vote x.0.value) h)
-    (off_undecided h (is_gone (observe h) x.0.value) w.0) (rows_enlisted h k x i.rules e) (row_marked h k x i.rules e) (row_voted h k x i.rules e) w.1)
-    (λ y n. let w = hand_due (is_some (latest decision_of h) || is_gone (observe h) x.0.value) (is_marked x && not (has_voted x)) (is_handed (latest handed_of h) x.0.value) n in
-    answer_rule h x.0 y i (off_undecided h (is_gone (observe h) x.0.value) w.0) w.1)))
+    (λ k x e. plan_well s h x.number (due_note (observe h) x)
+    (λ n. let w = prepare_due (is_some (latest decision_of h) || is_gone (observe h) x.number.value) (is_marked x && not (has_voted x)) (is_handed (latest handed_of h) x.number.value) n in
+    due_rule (is_marked x) (has_voted x) (has is_decision h) (has (is_enlisted x.number.value) h) (has (is_asked x.number.value) h) (has (is_vote x.number.value) h)
+    (off_undecided h (is_gone (observe h) x.number.value) w.0) (rows_enlisted h k x i.rules e) (row_marked h k x i.rules e) (row_voted h k x i.rules e) w.1)
+    (λ y n. let w = hand_due (is_some (latest decision_of h) || is_gone (observe h) x.number.value) (is_marked x && not (has_voted x)) (is_handed (latest handed_of h) x.number.value) n in
+    answer_rule h x.number y i (off_undecided h (is_gone (observe h) x.number.value) w.0) w.1)))
 
 -- each reply that is pending may come
 pending_well : (s : List Line) (h : List Entry) → IsKept h → each (may_reply h) (pending s (observe h)) ≡ true
@@ -167,7 +167,7 @@ ask_step true false w d t s a p q u e = or_right (not w) (not d && t && s && not
 ask_step false m w d t s a p q u e = refl
 
 -- the name of what passes passes
-name_well : (h : List Entry) (o : Option Row) → passes (λ x. rule h (Asked x.0 Prepare)) o ≡ true → passes (λ e. rule h (Asked e Prepare)) (name_of o) ≡ true
+name_well : (h : List Entry) (o : Option Row) → passes (λ x. rule h (Asked x.number Prepare)) o ≡ true → passes (λ e. rule h (Asked e Prepare)) (name_of o) ≡ true
 name_well h (Some x) q = q
 name_well h None q = refl
 
@@ -177,9 +177,9 @@ next_well : (h : List Entry) (first : Bool) → ruled h ≡ true → has is_deci
 unfolding next_ask
 next_well h first r d c =
     name_well h (find (may_be_asked (rows h) first) (rows h))
-    (found_well (may_be_asked (rows h) first) (λ x. rule h (Asked x.0 Prepare)) (rows h)
-    (each_from_at (λ x. not (may_be_asked (rows h) first x) || rule h (Asked x.0 Prepare)) (rows h)
-    (λ k x e. ask_step (is_class first x.class) (is_marked x) _ (has is_decision h) (has is_commit h) (has (is_enlisted x.0.value) h) (has (is_asked x.0.value) h)
+    (found_well (may_be_asked (rows h) first) (λ x. rule h (Asked x.number Prepare)) (rows h)
+    (each_from_at (λ x. not (may_be_asked (rows h) first x) || rule h (Asked x.number Prepare)) (rows h)
+    (λ k x e. ask_step (is_class first x.class) (is_marked x) _ (has is_decision h) (has is_commit h) (has (is_enlisted x.number.value) h) (has (is_asked x.number.value) h)
     d c (rows_enlisted h k x r e) (row_marked h k x r e))))
 
 -- what comes in phase zero keeps it

@@ -5,7 +5,7 @@ use Rattle.dtx_values.specs.declared.entry.Entry.TheVariants.{Down, Got, Promote
 use Rattle.dtx_values.specs.declared.message.Conn.TheVariants.{Again}
 use Rattle.dtx_values.specs.declared.script.Line.{Line}
 use Rattle.dtx_model.specs.Words.{always}
-use Rattle.dtx_model.specs.Learned.{is_learned, is_answered, are_answered, is_decided_there, Learned}
+use Rattle.dtx_model.specs.Learned.{is_learned, is_answered, are_answered, Learned}
 use Rattle.dtx_model.specs.Promotes.{keeps_order, promotes}
 use Rattle.dtx_model.specs.Wires.{MayCross, WireRun}
 use Rattle.dtx_model.proofs.Bools.{and_both}
@@ -41,8 +41,8 @@ rightly_told : (h : List Entry) (x : Entry) → ruled h ≡ true → is_learned 
 rightly_told (Got (Again f) d m ∷ h) x r = absurd cc
 rightly_told _ x r = refl
 
--- what is learned is learned rightly
-ruled_learned : (h : List Entry) → ruled h ≡ true → always is_learned h ≡ true
+-- in what keeps the rules what is learned is learned rightly
+pub ruled_learned : (h : List Entry) → ruled h ≡ true → Learned h
 ruled_learned [] r = refl
 ruled_learned (x ∷ h) r = and_both (is_learned h x) (always is_learned h) (rightly_told h x (other_rules x h r)) (ruled_learned h (other_rules x h r))
 
@@ -52,12 +52,8 @@ answered_kept decided behind h (Reenlisted e) k = absurd cc
 answered_kept decided behind h _ k = refl
 
 -- each that came back was told, since nobody came back
-ruled_answered : (decided : Bool) (behind h : List Entry) → ruled h ≡ true → are_answered decided behind h ≡ true
+pub ruled_answered : (decided : Bool) (behind h : List Entry) → ruled h ≡ true → are_answered decided behind h ≡ true
 ruled_answered decided behind [] r = refl
 ruled_answered decided behind (x ∷ h) r =
     and_both (is_answered decided behind x) (are_answered decided (x ∷ behind) h) (answered_kept decided behind h x (first_rule x h r))
     (ruled_answered decided (x ∷ behind) h (other_rules x h r))
-
--- in what keeps the rules whoever came back learns the outcome
-pub ruled_learns : (s : List Line) (h : List Entry) → ruled h ≡ true → Learned s h
-ruled_learns s h r = record { rightly = ruled_learned h r; answered = λ e. ruled_answered (is_decided_there h) [] h r }

@@ -187,7 +187,7 @@ pub done_keeps : (h : List Entry) (e : EnlNo) → IsKept h → rule h (Voted e D
 done_keeps h e k q = keep (Voted e Done) h k q (λ g. g)
 
 -- what each enlistment passes, one that stands passes
-enlisted_passes : (q : ℕ → Bool) (e : ℕ) (h : List Entry) → each (λ x. q x.0.value) (enlisted h) ≡ true → has (is_enlisted e) h ≡ true → q e ≡ true
+pub enlisted_passes : (q : ℕ → Bool) (e : ℕ) (h : List Entry) → each (λ x. q x.0.value) (enlisted h) ≡ true → has (is_enlisted e) h ≡ true → q e ≡ true
 enlisted_passes q e [] a s = absurd cc
 enlisted_passes q e (Enlisted f c ∷ h) a s =
     step q e f.value (has (is_enlisted e) h) (and_left (q f.value) (each (λ x. q x.0.value) (enlisted h)) a)

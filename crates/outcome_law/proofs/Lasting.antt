@@ -49,13 +49,13 @@ call_lasts _ = false
 -- a durable or promotable row stands where such an enlistment came
 lasting_rows : (h : List Entry) → has is_lasting (rows h) ≡ has is_enduring h
 lasting_rows [] = refl
-lasting_rows (Enlisted e c ∷ h) = has-insert is_lasting number_of (e, fresh_row c (marks (rows h))) (rows h) ∙ ap (λ b. not (is_volatile c) || b) (lasting_rows h)
+lasting_rows (Enlisted e c ∷ h) = has-insert is_lasting number_of (fresh_row e c (marks (rows h))) (rows h) ∙ ap (λ b. not (is_volatile c) || b) (lasting_rows h)
 lasting_rows (Asked e Prepare ∷ h) =
-    has_kept is_lasting (λ x. if is_of e.value x then (x.0, mark_row (marks (rows h)) x.1) else x)
-    (λ x. if_kept is_lasting (is_of e.value x) (x.0, mark_row (marks (rows h)) x.1) x refl) (rows h) ∙ lasting_rows h
+    has_kept is_lasting (λ x. if is_of e.value x then (mark_row (marks (rows h)) x) else x)
+    (λ x. if_kept is_lasting (is_of e.value x) (mark_row (marks (rows h)) x) x refl) (rows h) ∙ lasting_rows h
 lasting_rows (Voted e v ∷ h) =
-    has_kept is_lasting (λ x. if is_of e.value x then (x.0, vote_row v x.1) else x)
-    (λ x. if_kept is_lasting (is_of e.value x) (x.0, vote_row v x.1) x refl) (rows h) ∙ lasting_rows h
+    has_kept is_lasting (λ x. if is_of e.value x then (vote_row v x) else x)
+    (λ x. if_kept is_lasting (is_of e.value x) (vote_row v x) x refl) (rows h) ∙ lasting_rows h
 lasting_rows (x ∷ h) = lasting_rows h
 
 -- what is plain is no enlistment

@@ -27,3 +27,4 @@ pub mod ScopeExample
 pub mod OwnerExample
 pub mod LossExample
 pub mod PromotionExample
+pub mod Determined

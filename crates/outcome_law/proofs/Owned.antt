@@ -30,15 +30,15 @@ use Rattle.outcome_law.proofs.TableRows.{IsRow, rows_seen}
 use Rattle.outcome_law.proofs.Evidence.{hand_any}
 
 -- what some row passes by its number and class, some enlistment passes
-pub has_rows : (f : EnlNo → Class → Bool) (h : List Entry) → has (λ x. f x.0 x.class) (rows h) ≡ has (λ x. f x.0 x.1) (enlisted h)
+pub has_rows : (f : EnlNo → Class → Bool) (h : List Entry) → has (λ x. f x.number x.class) (rows h) ≡ has (λ x. f x.0 x.1) (enlisted h)
 has_rows f [] = refl
-has_rows f (Enlisted e c ∷ h) = has-insert (λ x. f x.0 x.class) number_of (e, fresh_row c (marks (rows h))) (rows h) ∙ ap (λ b. f e c || b) (has_rows f h)
+has_rows f (Enlisted e c ∷ h) = has-insert (λ x. f x.number x.class) number_of (fresh_row e c (marks (rows h))) (rows h) ∙ ap (λ b. f e c || b) (has_rows f h)
 has_rows f (Asked e Prepare ∷ h) =
-    has_kept (λ x. f x.0 x.class) (λ x. if is_of e.value x then (x.0, mark_row (marks (rows h)) x.1) else x)
-    (λ x. if_kept (λ x. f x.0 x.class) (is_of e.value x) (x.0, mark_row (marks (rows h)) x.1) x refl) (rows h) ∙ has_rows f h
+    has_kept (λ x. f x.number x.class) (λ x. if is_of e.value x then (mark_row (marks (rows h)) x) else x)
+    (λ x. if_kept (λ x. f x.number x.class) (is_of e.value x) (mark_row (marks (rows h)) x) x refl) (rows h) ∙ has_rows f h
 has_rows f (Voted e v ∷ h) =
-    has_kept (λ x. f x.0 x.class) (λ x. if is_of e.value x then (x.0, vote_row v x.1) else x)
-    (λ x. if_kept (λ x. f x.0 x.class) (is_of e.value x) (x.0, vote_row v x.1) x refl) (rows h) ∙ has_rows f h
+    has_kept (λ x. f x.number x.class) (λ x. if is_of e.value x then (vote_row v x) else x)
+    (λ x. if_kept (λ x. f x.number x.class) (is_of e.value x) (vote_row v x) x refl) (rows h) ∙ has_rows f h
 has_rows f (x ∷ h) = has_rows f h
 
 -- some of those that pass p pass q where some pass both
@@ -115,18 +115,18 @@ filter-map p f same (x ∷ xs) = ap (λ b. if b then f x ∷ filter p (map f xs)
     step f x false ys zs e = e
 
 -- the only one keeps its name
-only-map : (f : Row → Row) → ((x : Row) → (f x).0 ≡ x.0) → (xs : List Row) → only (map f xs) ≡ only xs
+only-map : (f : Row → Row) → ((x : Row) → (f x).number ≡ x.number) → (xs : List Row) → only (map f xs) ≡ only xs
 only-map f same [] = refl
 only-map f same (x ∷ []) = ap (λ e. Some e) (same x)
 only-map f same (x ∷ y ∷ xs) = refl
 
 -- one of two of one name has that name
-pub if_named : (b : Bool) (y x : Row) → y.0 ≡ x.0 → (if b then y else x).0 ≡ x.0
+pub if_named : (b : Bool) (y x : Row) → y.number ≡ x.number → (if b then y else x).number ≡ x.number
 if_named true y x e = e
 if_named false y x e = refl
 
 -- rows that keep name and class have the same owner
-kept_owner : (f : Row → Row) → ((x : Row) → is_lasting (f x) ≡ is_lasting x) → ((x : Row) → (f x).0 ≡ x.0) → (xs : List Row)
+kept_owner : (f : Row → Row) → ((x : Row) → is_lasting (f x) ≡ is_lasting x) → ((x : Row) → (f x).number ≡ x.number) → (xs : List Row)
     → only (lasting (map f xs)) ≡ only (lasting xs)
 kept_owner f same name xs = ap only (filter-map is_lasting f same xs) ∙ only-map f name (lasting xs)
 
@@ -153,17 +153,17 @@ owner_seen (Enlisted e c ∷ h) r = step e c h (enlisted_class e c h (first_rule
   where
     step : (e : EnlNo) (c : Class) (h : List Entry) → (is_volatile c || (can_own c && is_empty (durables h))) ≡ true → only (lasting (rows h)) ≡ only_of (durables h)
         → (b : Bool) → is_volatile c ≡ b → only (lasting (rows (Enlisted e c ∷ h))) ≡ only_of (if not (is_volatile c) then (e, c) ∷ durables h else durables h)
-    step e c h k ih true v = rw v (ap only (insert_other is_lasting number_of (e, fresh_row c (marks (rows h))) (rows h) (ap (λ b. not b) v)) ∙ ih)
+    step e c h k ih true v = rw v (ap only (insert_other is_lasting number_of (fresh_row e c (marks (rows h))) (rows h) (ap (λ b. not b) v)) ∙ ih)
     step e c h k ih false v =
         let first : (false || (can_own c && is_empty (durables h))) ≡ true = rw v at k in
         let bare : durables h ≡ [] = empty_list (durables h) (and_right (can_own c) (is_empty (durables h)) first) in
-        rw (v, bare) (ap only (insert_alone is_lasting number_of (e, fresh_row c (marks (rows h))) (rows h) (ap (λ b. not b) v) (lasting_none h bare)))
+        rw (v, bare) (ap only (insert_alone is_lasting number_of (fresh_row e c (marks (rows h))) (rows h) (ap (λ b. not b) v) (lasting_none h bare)))
 owner_seen (Asked e Prepare ∷ h) r =
-    kept_owner (λ x. if is_of e.value x then (x.0, mark_row (marks (rows h)) x.1) else x) (λ x. if_kept is_lasting (is_of e.value x) (x.0, mark_row (marks (rows h)) x.1) x refl)
-    (λ x. if_named (is_of e.value x) (x.0, mark_row (marks (rows h)) x.1) x refl) (rows h) ∙ owner_seen h (other_rules (Asked e Prepare) h r)
+    kept_owner (λ x. if is_of e.value x then (mark_row (marks (rows h)) x) else x) (λ x. if_kept is_lasting (is_of e.value x) (mark_row (marks (rows h)) x) x refl)
+    (λ x. if_named (is_of e.value x) (mark_row (marks (rows h)) x) x refl) (rows h) ∙ owner_seen h (other_rules (Asked e Prepare) h r)
 owner_seen (Voted e v ∷ h) r =
-    kept_owner (λ x. if is_of e.value x then (x.0, vote_row v x.1) else x) (λ x. if_kept is_lasting (is_of e.value x) (x.0, vote_row v x.1) x refl)
-    (λ x. if_named (is_of e.value x) (x.0, vote_row v x.1) x refl) (rows h) ∙ owner_seen h (other_rules (Voted e v) h r)
+    kept_owner (λ x. if is_of e.value x then (vote_row v x) else x) (λ x. if_kept is_lasting (is_of e.value x) (vote_row v x) x refl)
+    (λ x. if_named (is_of e.value x) (vote_row v x) x refl) (rows h) ∙ owner_seen h (other_rules (Voted e v) h r)
 owner_seen (x ∷ h) r = owner_seen h (other_rules x h r)
 
 -- at most one stands, and it can own the commit
@@ -280,7 +280,7 @@ unvoted_seen h e r s v = of_row h e (rows h) (rows_seen h r) s v
     of_row h e [] w s v = absurd cc
     of_row h e (x ∷ xs) w s v =
         or_case (is_of e x) (has (is_of e) xs)
-        (λ k. let same : e ≡ x.0.value = eqb-true e x.0.value k in
+        (λ k. let same : e ≡ x.number.value = eqb-true e x.number.value k in
         let none : (is_of e x && has_voted x) ≡ false = or_first (is_of e x && has_voted x) (has (λ x. is_of e x && has_voted x) xs) v in
         let unvoted : has_voted x ≡ false = rw k at none in
         rw same (sym w.0.voted ∙ unvoted))

@@ -44,7 +44,7 @@ unfolding pending
 pending_no_call s o =
     each-append is_no_call (due_replies s o) (act_if (act_entries o))
     (each_picked is_no_call (due_reply s o) o.table
-    (each_from_at (λ x. passes is_no_call (due_reply s o x)) o.table (λ k x e. due_no_call x.0 (planned_reply s x.0.value (due_note o x)))))
+    (each_from_at (λ x. passes is_no_call (due_reply s o x)) o.table (λ k x e. due_no_call x.number (planned_reply s x.number.value (due_note o x)))))
     (acts_no_call (act_entries o))
 
 -- an entry that isn't a call

@@ -1,11 +1,11 @@
--- In a history that a script causes, an owner answers what its line plans.
+-- In a history that a script causes, an enlistment votes, and an owner answers, what its line plans.
 use Rattle.std.proofs.Common.{◌≡◌, ℕ, Bool, true, false, List, [], ◌∷◌, Option, Some, None, refl, subst, sym}
 use Rattle.std.specs.Prelude.{is_some, find, if◌then◌else◌}
 use Rattle.dtx_values.specs.declared.number.EnlNo.{EnlNo}
 use Rattle.dtx_values.specs.declared.call.Call.{Call}
 use Rattle.dtx_values.specs.declared.call.Call.TheVariants.{Begin, Volatile, Durable, Promotable, Clone, Complete, Commit, Rollback, Tick, Gone}
 use Rattle.dtx_values.specs.declared.entry.Entry.{Entry}
-use Rattle.dtx_values.specs.declared.entry.Entry.TheVariants.{OwnerAnswered}
+use Rattle.dtx_values.specs.declared.entry.Entry.TheVariants.{OwnerAnswered, Voted}
 use Rattle.dtx_values.specs.declared.note.Note.{Note}
 use Rattle.dtx_values.specs.declared.note.Note.TheVariants.{Prepare as PrepareNote, Hand as HandNote}
 use Rattle.dtx_values.specs.declared.note.Reply.{Reply}
@@ -14,6 +14,7 @@ use Rattle.dtx_values.specs.declared.script.Line.{Line}
 use Rattle.dtx_values.specs.declared.words.Outcome.{Outcome}
 use Rattle.dtx_values.specs.declared.words.Outcome.TheVariants.{Committed, Aborted, InDoubt}
 use Rattle.dtx_values.specs.declared.words.Vote.{Vote}
+use Rattle.dtx_values.specs.declared.words.Vote.TheVariants.{Yes, No, Done}
 use Rattle.dtx_values.specs.Clones.{is_open_rollback}
 use Rattle.dtx_model.specs.declared.listener.Listener.{Listener}
 use Rattle.dtx_model.specs.Words.{has, each, onto}
@@ -31,13 +32,22 @@ use Rattle.outcome_law.proofs.Scans.{each-append, each-kth}
 use Rattle.outcome_law.proofs.Picks.{passes, each_from_at, each_picked}
 use Rattle.outcome_law.proofs.Rule.{is_decided}
 
--- an owner's answer is what its line plans
+-- a vote is the one that is planned
+abbrev pub is_cast : Vote → Option Vote → Bool
+is_cast Yes (Some Yes) = true
+is_cast No (Some No) = true
+is_cast Done (Some Done) = true
+is_cast _ _ = false
+
+-- a vote and an owner's answer are what the line plans
 abbrev pub is_planned : List Line → Entry → Bool
+is_planned s (Voted e v) = is_cast v (planned_vote s e.value)
 is_planned s (OwnerAnswered e x) = is_decided x (planned_owner s e.value)
 is_planned s _ = true
 
--- an owner's reply is what its line plans
+-- a vote and an owner's reply are what the line plans
 abbrev pub is_planned_step : List Line → Step → Bool
+is_planned_step s (Replies e (VoteReply v)) = is_cast v (planned_vote s e.value)
 is_planned_step s (Replies e (OwnerReply x)) = is_decided x (planned_owner s e.value)
 is_planned_step s _ = true
 
@@ -117,13 +127,19 @@ outcome_self Committed = refl
 outcome_self Aborted = refl
 outcome_self InDoubt = refl
 
+-- a vote that is planned is the one
+cast_self : (v : Vote) → is_cast v (Some v) ≡ true
+cast_self Yes = refl
+cast_self No = refl
+cast_self Done = refl
+
 -- the reply that is planned to a note is planned
 plan_planned : (s : List Line) (e : EnlNo) (n : Option Note) → passes (is_planned_step s) (reply_step e (planned_reply s e.value n)) ≡ true
-plan_planned s e (Some PrepareNote) = vote s e (planned_vote s e.value)
+plan_planned s e (Some PrepareNote) = vote s e (planned_vote s e.value) refl
   where
-    vote : (s : List Line) (e : EnlNo) (o : Option Vote) → passes (is_planned_step s) (reply_step e (vote_reply o)) ≡ true
-    vote s e (Some v) = refl
-    vote s e None = refl
+    vote : (s : List Line) (e : EnlNo) (o : Option Vote) → planned_vote s e.value ≡ o → passes (is_planned_step s) (reply_step e (vote_reply o)) ≡ true
+    vote s e (Some v) k = subst (λ o. is_cast v o ≡ true) (sym k) (cast_self v)
+    vote s e None k = refl
 plan_planned s e (Some HandNote) = answer s e (planned_owner s e.value) refl
   where
     answer : (s : List Line) (e : EnlNo) (o : Option Outcome) → planned_owner s e.value ≡ o → passes (is_planned_step s) (reply_step e (owner_reply o)) ≡ true
@@ -142,11 +158,11 @@ unfolding pending
 pending_planned s o =
     each-append (is_planned_step s) (due_replies s o) (act_if (act_entries o))
     (each_picked (is_planned_step s) (due_reply s o) o.table
-    (each_from_at (λ x. passes (is_planned_step s) (due_reply s o x)) o.table (λ k x e. plan_planned s x.0 (due_note o x)))) (acts_planned s (act_entries o))
+    (each_from_at (λ x. passes (is_planned_step s) (due_reply s o x)) o.table (λ k x e. plan_planned s x.number (due_note o x)))) (acts_planned s (act_entries o))
 
 -- the entries of a reply that is planned are
 reply_planned : (s : List Line) (e : EnlNo) (r : Reply) → is_planned_step s (Replies e r) ≡ true → each (is_planned s) (reply_entries e r) ≡ true
-reply_planned s e (VoteReply v) k = veto_planned s (is_no v)
+reply_planned s e (VoteReply v) k = and_both (is_cast v (planned_vote s e.value)) (each (is_planned s) (veto_if (is_no v))) k (veto_planned s (is_no v))
 reply_planned s e (OwnerReply x) k = and_both (is_decided x (planned_owner s e.value)) true k refl
 reply_planned s e _ k = refl
 
@@ -169,6 +185,6 @@ ran_planned s t (m ∷ ms) h r =
     subst (λ x. each (is_planned s) x ≡ true) (sym r.3)
     (each_behind (is_planned s) r.0 (block (observe r.0) m) (ran_planned s t ms r.0 r.1) (block_planned s t r.0 m r.2))
 
--- in a history that a script causes each owner answered what its line plans
+-- in a history that a script causes each voted and each owner answered what its line plans
 pub caused_planned : (s : List Line) (t : ℕ) (h : List Entry) → Caused s t h → each (is_planned s) h ≡ true
 caused_planned s t h r = ran_planned s t r.0 h r.1

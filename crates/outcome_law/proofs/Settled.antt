@@ -5,7 +5,7 @@ use Rattle.std.proofs.lemmas.Bool.{eqb-true, false_from_ne_true}
 use Rattle.std.specs.List.{filter_map, cons_option}
 use Rattle.dtx_values.specs.declared.number.EnlNo.{EnlNo}
 use Rattle.dtx_values.specs.declared.entry.Entry.{Entry}
-use Rattle.dtx_values.specs.declared.entry.Entry.TheVariants.{Enlisted, Voted, Sealed, Handed, OwnerAnswered, Decided, Told, Lost}
+use Rattle.dtx_values.specs.declared.entry.Entry.TheVariants.{CommitAsked, Cut, Decided, Down, Enlisted, Got, Handed, LogFull, Lost, OwnerAnswered, PromoteReply, Requested, Restarted, RollbackAsked, Sealed, Stopped, TimedOut, Told, Voted}
 use Rattle.dtx_values.specs.declared.entry.Party.TheVariants.{Client}
 use Rattle.dtx_values.specs.declared.script.Line.{Line}
 use Rattle.dtx_values.specs.declared.words.Class.{Class}
@@ -13,15 +13,17 @@ use Rattle.dtx_values.specs.declared.words.Class.TheVariants.{Zero, One, Durable
 use Rattle.dtx_values.specs.declared.words.Outcome.{Outcome}
 use Rattle.dtx_values.specs.declared.words.Outcome.TheVariants.{Committed, Aborted, InDoubt}
 use Rattle.dtx_values.specs.declared.words.Vote.{Vote}
+use Rattle.dtx_values.specs.declared.words.Vote.TheVariants.{Yes, No, Done}
 use Rattle.dtx_values.specs.Row.{is_marked, has_voted, is_asked_before}
 use Rattle.dtx_values.specs.declared.row.Row.{Row}
 use Rattle.dtx_values.specs.Table.{voted_before}
 use Rattle.dtx_values.specs.Clones.{blocks, is_open_block}
 use Rattle.dtx_model.specs.declared.listener.Listener.{Listener}
-use Rattle.dtx_model.specs.Words.{has, each, ever, latest, all_of}
-use Rattle.dtx_model.specs.Entries.{same_outcome, is_commit, is_sealed, is_yes, is_hand, is_owner, is_lost, is_vote, clone_of, handed_of, decision_of, is_decision, client_told_of, is_client_told}
-use Rattle.dtx_model.specs.History.{CanCommit, is_committed, is_granted, is_loss, is_willing}
-use Rattle.dtx_model.specs.Outcome.{can_own, enlisted, is_complete, evidence, is_veto, is_first_veto, vetoed, is_lost_owner, owner_doubt, is_begin_end, is_voter_end, is_outcome_got, coordinator_doubt, doubt}
+use Rattle.dtx_model.specs.Words.{has, each, ever, always, latest, all_of}
+use Rattle.dtx_model.specs.Entries.{same_outcome, is_commit, is_sealed, is_yes, is_hand, is_owner, is_asked, is_lost, is_vote, clone_of, handed_of, decision_of, is_decision, client_told_of, is_client_told}
+use Rattle.dtx_model.specs.History.{CanCommit, is_asked_in_time, is_committed, is_ending, is_loss, is_willing}
+use Rattle.dtx_model.specs.Wires.{holds}
+use Rattle.dtx_model.specs.Outcome.{can_own, enlisted, is_complete, is_rollback, evidence, is_veto, is_first_veto, vetoed, is_lost_owner, owner_doubt, is_begin_end, is_voter_end, is_outcome_got, coordinator_doubt, doubt}
 use Rattle.dtx_values.specs.Owners.{owner_of}
 use Rattle.dtx_model.specs.Observed.{observe, rows, clone_rows}
 use Rattle.dtx_model.specs.Steps.{Step, tell, before_seal, commit_act, after_seal, undecided_act, act_by, act_entries, act_if, is_to_tell}
@@ -39,7 +41,8 @@ use Rattle.outcome_law.proofs.TableRows.{each_rows, zeros_seen, open_blocks}
 use Rattle.outcome_law.proofs.Evidence.{is_answered, none_yes, hand_name, hand_stands}
 use Rattle.outcome_law.proofs.Rules.{decided_may, decided_same, not_behind}
 use Rattle.outcome_law.proofs.Owned.{any_hand_seen, hand_seen, lost_seen}
-use Rattle.outcome_law.proofs.Plans.{is_planned}
+use Rattle.outcome_law.proofs.Going.{enlisted_passes}
+use Rattle.outcome_law.proofs.Plans.{is_cast, is_planned}
 
 -- two lists together are empty: the first is
 append_first : {A : Type 0} (xs ys : List A) → xs ++ ys ≡ [] → xs ≡ []
@@ -139,19 +142,19 @@ only_passes f g sub e (x ∷ xs) o k =
     step f g sub e false x (y ∷ ds) k ih o = absurd cc
 
 -- whoever can own the commit is willing only if it plans to answer committed
-owner_willing : (v w p : Bool) (c : Class) → can_own c ≡ true → (v && (is_volatile c || w) && p) ≡ true → w ≡ true
-owner_willing v w p DurableSingle o k = and_right v w (and_left (v && w) p k)
-owner_willing v w p Promotable o k = and_right v w (and_left (v && w) p k)
-owner_willing v w p Zero o k = absurd cc
-owner_willing v w p One o k = absurd cc
-owner_willing v w p DurableTwo o k = absurd cc
+owner_willing : (v w p : Bool) (c : Class) → can_own c ≡ true → (v && (not (can_own c) || w) && p) ≡ true → w ≡ true
+owner_willing v w p c o k = step v w p (can_own c) o k
+  where
+    step : (v w p b : Bool) → b ≡ true → (v && (not b || w) && p) ≡ true → w ≡ true
+    step v w p true o k = and_right v w (and_left (v && w) p k)
+    step v w p false o k = absurd cc
 
 -- to whom the commit was handed it plans to answer committed
 hand_willing : (s : List Line) (h : List Entry) (e : ℕ) → ruled h ≡ true → each (λ x. is_willing s x.0.value x.1) (enlisted h) ≡ true → has (is_hand e) h ≡ true
     → is_committed (planned_owner s e) ≡ true
 hand_willing s h e r w k =
     only_passes (λ x. is_willing s x.0.value x.1) (λ n. is_committed (planned_owner s n))
-    (λ x o f. owner_willing (voted_well (planned_vote s x.0.value)) (is_committed (planned_owner s x.0.value)) (not (is_promotable x.1) || is_granted (planned_promotion s x.0.value)) x.1 o f)
+    (λ x o f. owner_willing (voted_well (planned_vote s x.0.value)) (is_committed (planned_owner s x.0.value)) (not (is_promotable x.1) || holds (planned_promotion s x.0.value)) x.1 o f)
     e (enlisted h) (hand_stands e h r k).alone w
 
 -- where each owner answers as planned and is willing, none answered in doubt
@@ -169,6 +172,7 @@ none_doubts s (OwnerAnswered e InDoubt ∷ h) k w r p sub =
     opposite (Some Aborted) c d = cc
     opposite (Some InDoubt) c d = cc
     opposite None c d = cc
+none_doubts s (Voted e v ∷ h) k w r p sub = none_doubts s h k w (other_rules (Voted e v) h r) (and_right (is_cast v (planned_vote s e.value)) (each (is_planned s) h) p) sub
 none_doubts s (Handed f ∷ h) k w r p sub = none_doubts s h k w (other_rules (Handed f) h r) p (λ e q. sub e (or_right (e == f.value) (has (is_hand e) h) q))
 none_doubts s (x ∷ h) k w r p sub = none_doubts s h k w (other_rules x h r) p sub
 
@@ -191,6 +195,74 @@ no_doubt s h r p can =
     nowhere : (q : EnlNo → Bool) → ((e : EnlNo) → q e ≡ false) → (xs : List EnlNo) → has q xs ≡ false
     nowhere q f [] = refl
     nowhere q f (x ∷ xs) = or_false (q x) (has q xs) (f x) (nowhere q f xs)
+
+-- a vote that is planned to be good is no veto
+cast_well : (o : Option Vote) → is_cast No o ≡ true → voted_well o ≡ true → ⊥
+cast_well (Some Yes) c w = cc
+cast_well (Some No) c w = cc
+cast_well (Some Done) c w = cc
+cast_well None c w = cc
+
+-- an answer that is planned to be committed is no veto
+answered_well : (o : Option Outcome) → is_decided Aborted o ≡ true → is_committed o ≡ true → ⊥
+answered_well (Some Committed) d c = cc
+answered_well (Some Aborted) d c = cc
+answered_well (Some InDoubt) d c = cc
+answered_well None d c = cc
+
+-- where each rollback clone is complete, asking for the commit is no veto
+asked_well : (h : List Entry) → each (λ c. not (is_rollback c.1) || is_complete h c) (all_of clone_of h) ≡ true → is_veto h CommitAsked ≡ false
+asked_well h k =
+    none_more (λ c. not (is_rollback c.1) || is_complete h c) (λ c. is_rollback c.1 && not (is_complete h c)) (λ c. step (is_rollback c.1) (is_complete h c)) (all_of clone_of h) k
+  where
+    step : (r x : Bool) → (not r || x) ≡ true → (r && not x) ≡ false
+    step false x k = refl
+    step true true k = refl
+    step true false k = absurd cc
+
+-- where each is willing and answers as planned, and no rollback, timeout or loss came, nobody gave a veto. The history k has h as its beginning.
+none_vetoes : (s : List Line) (h k : List Entry) → ((e : ℕ) → has (is_enlisted e) k ≡ true → voted_well (planned_vote s e) ≡ true)
+    → ((e : ℕ) → has (is_hand e) k ≡ true → is_committed (planned_owner s e) ≡ true) → ruled h ≡ true → each (is_planned s) h ≡ true
+    → has is_ending h ≡ false → always is_asked_in_time h ≡ true → has is_loss h ≡ false
+    → ((e : ℕ) → has (is_enlisted e) h ≡ true → has (is_enlisted e) k ≡ true) → ((e : ℕ) → has (is_hand e) h ≡ true → has (is_hand e) k ≡ true) → ever is_veto h ≡ false
+none_vetoes s [] k v w r p d t l n m = refl
+none_vetoes s (RollbackAsked ∷ h) k v w r p d t l n m = absurd cc
+none_vetoes s (TimedOut ∷ h) k v w r p d t l n m = absurd cc
+none_vetoes s (LogFull ∷ h) k v w r p d t l n m = absurd cc
+none_vetoes s (Lost e ∷ h) k v w r p d t l n m = absurd cc
+none_vetoes s (Cut c x y ∷ h) k v w r p d t l n m = absurd cc
+none_vetoes s (Stopped ∷ h) k v w r p d t l n m = absurd cc
+none_vetoes s (PromoteReply e ok ∷ h) k v w r p d t l n m = absurd cc
+none_vetoes s (Requested e x ∷ h) k v w r p d t l n m = absurd cc
+none_vetoes s (Restarted found ∷ h) k v w r p d t l n m = absurd cc
+none_vetoes s (Down c x ∷ h) k v w r p d t l n m = absurd cc
+none_vetoes s (Got c x y ∷ h) k v w r p d t l n m = absurd cc
+none_vetoes s (CommitAsked ∷ h) k v w r p d t l n m =
+    or_false (is_veto h CommitAsked) (ever is_veto h) (asked_well h (and_left (is_asked_in_time h CommitAsked) (always is_asked_in_time h) t))
+    (none_vetoes s h k v w (other_rules CommitAsked h r) p d (and_right (is_asked_in_time h CommitAsked) (always is_asked_in_time h) t) l n m)
+none_vetoes s (Voted e No ∷ h) k v w r p d t l n m =
+    let there = second_of_four (not (has is_decision h)) (has (is_enlisted e.value) h) (has (is_asked e.value) h) (not (has (is_vote e.value) h)) (first_rule (Voted e No) h r) in
+    absurd (cast_well (planned_vote s e.value) (and_left (is_cast No (planned_vote s e.value)) (each (is_planned s) h) p) (v e.value (n e.value there)))
+none_vetoes s (Voted e Yes ∷ h) k v w r p d t l n m = none_vetoes s h k v w (other_rules (Voted e Yes) h r) (and_right _ (each (is_planned s) h) p) d t l n m
+none_vetoes s (Voted e Done ∷ h) k v w r p d t l n m = none_vetoes s h k v w (other_rules (Voted e Done) h r) (and_right _ (each (is_planned s) h) p) d t l n m
+none_vetoes s (OwnerAnswered e Aborted ∷ h) k v w r p d t l n m =
+    let handed = second_of_three (not (has is_decision h)) (has (is_hand e.value) h) (not (has is_answer h)) (first_rule (OwnerAnswered e Aborted) h r) in
+    absurd (answered_well (planned_owner s e.value) (and_left (is_decided Aborted (planned_owner s e.value)) (each (is_planned s) h) p) (w e.value (m e.value handed)))
+none_vetoes s (OwnerAnswered e Committed ∷ h) k v w r p d t l n m = none_vetoes s h k v w (other_rules (OwnerAnswered e Committed) h r) (and_right _ (each (is_planned s) h) p) d t l n m
+none_vetoes s (OwnerAnswered e InDoubt ∷ h) k v w r p d t l n m = none_vetoes s h k v w (other_rules (OwnerAnswered e InDoubt) h r) (and_right _ (each (is_planned s) h) p) d t l n m
+none_vetoes s (Enlisted f c ∷ h) k v w r p d t l n m =
+    none_vetoes s h k v w (other_rules (Enlisted f c) h r) p d t l (λ e q. n e (or_right (e == f.value) (has (is_enlisted e) h) q)) m
+none_vetoes s (Handed f ∷ h) k v w r p d t l n m =
+    none_vetoes s h k v w (other_rules (Handed f) h r) p d t l n (λ e q. m e (or_right (e == f.value) (has (is_hand e) h) q))
+none_vetoes s (x ∷ h) k v w r p d t l n m = none_vetoes s h k v w (other_rules x h r) p d t l n m
+
+-- nobody gave a veto in a history that can commit
+unvetoed : (s : List Line) (h : List Entry) → ruled h ≡ true → each (is_planned s) h ≡ true → CanCommit s h → ever is_veto h ≡ false
+unvetoed s h r p can =
+    let votes : each (λ x. voted_well (planned_vote s x.0.value)) (enlisted h) ≡ true =
+    each_more (λ x. is_willing s x.0.value x.1) (λ x. voted_well (planned_vote s x.0.value)) (λ x k. first_of_three (voted_well (planned_vote s x.0.value)) _ _ k) (enlisted h) can.willing in
+    none_vetoes s h h (λ e k. enlisted_passes (λ n. voted_well (planned_vote s n)) e h votes k) (λ e k. hand_willing s h e r can.willing k) r p can.ended_by_none can.in_time can.unlost
+    (λ e k. k) (λ e k. k)
 
 -- sealed is only where each Zero enlistment voted
 sealed_zeros : (h : List Entry) → ruled h ≡ true → has is_sealed h ≡ true → zeros_cast h ≡ true
@@ -237,7 +309,7 @@ hand_step s false true e p o d = owner e (planned_owner s e.value) o d
 
 -- the reply that is due of the row where nothing is decided and nothing is lost
 abbrev pub open_reply : List Line → List Entry → Row → Option Step
-open_reply s h x = reply_step x.0 (planned_reply s x.0.value (open_note (is_marked x && not (has_voted x)) (is_handed (latest handed_of h) x.0.value)))
+open_reply s h x = reply_step x.number (planned_reply s x.number.value (open_note (is_marked x && not (has_voted x)) (is_handed (latest handed_of h) x.number.value)))
 
 -- an enlistment that is lost is a loss
 lost_loss : (e : ℕ) (x : Entry) → is_lost e x ≡ true → is_loss x ≡ true
@@ -248,9 +320,9 @@ lost_loss e _ k = absurd cc
 reply_open : (s : List Line) (h : List Entry) (x : Row) → ruled h ≡ true → latest decision_of h ≡ None → has is_loss h ≡ false → due_reply s (observe h) x ≡ open_reply s h x
 unfolding observe
 reply_open s h x r d l =
-    let here : is_gone (observe h) x.0.value ≡ false = lost_seen x.0.value h r ∙ has_less (is_lost x.0.value) is_loss (lost_loss x.0.value) h l in
-    ap (λ b. reply_step x.0 (planned_reply s x.0.value (if b then None else open_note (is_marked x && not (has_voted x)) (is_handed (latest handed_of h) x.0.value))))
-    (or_false (is_some (latest decision_of h)) (is_gone (observe h) x.0.value) (ap is_some d) here)
+    let here : is_gone (observe h) x.number.value ≡ false = lost_seen x.number.value h r ∙ has_less (is_lost x.number.value) is_loss (lost_loss x.number.value) h l in
+    ap (λ b. reply_step x.number (planned_reply s x.number.value (if b then None else open_note (is_marked x && not (has_voted x)) (is_handed (latest handed_of h) x.number.value))))
+    (or_false (is_some (latest decision_of h)) (is_gone (observe h) x.number.value) (ap is_some d) here)
 
 -- where no reply is due, none is of any row
 none_due : (s : List Line) (h : List Entry) → ruled h ≡ true → latest decision_of h ≡ None → has is_loss h ≡ false → due_replies s (observe h) ≡ []
@@ -261,35 +333,35 @@ none_due s h r d l e =
     (each_none (due_reply s (observe h)) (rows h) e)
 
 -- each row is willing
-each_planned : (s : List Line) (h : List Entry) → CanCommit s h → each (λ x. is_willing s x.0.value x.class) (rows h) ≡ true
+each_planned : (s : List Line) (h : List Entry) → CanCommit s h → each (λ x. is_willing s x.number.value x.class) (rows h) ≡ true
 each_planned s h c = each_rows (λ e k. is_willing s e.value k) h ∙ c.willing
 
 -- where each is willing and no reply is due, each marked row has a vote
 each_answered : (s : List Line) (h : List Entry) → CanCommit s h → each (λ x. is_none (open_reply s h x)) (rows h) ≡ true → each has_answered (rows h) ≡ true
 each_answered s h c d =
-    each_both (λ x. is_willing s x.0.value x.class) (λ x. is_none (open_reply s h x)) has_answered
-    (λ x w n. row_step s (is_marked x) (has_voted x) (is_handed (latest handed_of h) x.0.value) x.0 (first_of_three (voted_well (planned_vote s x.0.value)) _ _ w) n) (rows h) (each_planned s h c) d
+    each_both (λ x. is_willing s x.number.value x.class) (λ x. is_none (open_reply s h x)) has_answered
+    (λ x w n. row_step s (is_marked x) (has_voted x) (is_handed (latest handed_of h) x.number.value) x.number (first_of_three (voted_well (planned_vote s x.number.value)) _ _ w) n) (rows h) (each_planned s h c) d
 
 -- a row that can own the commit and is willing, and of which no reply is due, wasn't handed it
-still : (s : List Line) (h : List Entry) (x : Row) → is_willing s x.0.value x.class ≡ true → is_none (open_reply s h x) ≡ true
-    → (not (can_own x.class) || not (is_handed (latest handed_of h) x.0.value)) ≡ true
-still s h x w n = step (can_own x.class) (not (is_handed (latest handed_of h) x.0.value)) (λ o. bare o)
+still : (s : List Line) (h : List Entry) (x : Row) → is_willing s x.number.value x.class ≡ true → is_none (open_reply s h x) ≡ true
+    → (not (can_own x.class) || not (is_handed (latest handed_of h) x.number.value)) ≡ true
+still s h x w n = step (can_own x.class) (not (is_handed (latest handed_of h) x.number.value)) (λ o. bare o)
   where
     step : (b c : Bool) → (b ≡ true → c ≡ true) → (not b || c) ≡ true
     step true c f = f refl
     step false c f = refl
 
-    bare : can_own x.class ≡ true → not (is_handed (latest handed_of h) x.0.value) ≡ true
+    bare : can_own x.class ≡ true → not (is_handed (latest handed_of h) x.number.value) ≡ true
     bare o =
-        not_false (is_handed (latest handed_of h) x.0.value)
-        (hand_step s (is_marked x && not (has_voted x)) (is_handed (latest handed_of h) x.0.value) x.0 (first_of_three (voted_well (planned_vote s x.0.value)) _ _ w)
-        (owner_willing (voted_well (planned_vote s x.0.value)) (is_committed (planned_owner s x.0.value)) (not (is_promotable x.class) || is_granted (planned_promotion s x.0.value)) x.class o w) n)
+        not_false (is_handed (latest handed_of h) x.number.value)
+        (hand_step s (is_marked x && not (has_voted x)) (is_handed (latest handed_of h) x.number.value) x.number (first_of_three (voted_well (planned_vote s x.number.value)) _ _ w)
+        (owner_willing (voted_well (planned_vote s x.number.value)) (is_committed (planned_owner s x.number.value)) (not (is_promotable x.class) || holds (planned_promotion s x.number.value)) x.class o w) n)
 
 -- where each is willing and no reply is due, the commit isn't handed over
 none_handed : (s : List Line) (h : List Entry) → ruled h ≡ true → CanCommit s h → each (λ x. is_none (open_reply s h x)) (rows h) ≡ true → is_some (latest handed_of h) ≡ false
 none_handed s h r c d =
-    let each_still : each (λ x. not (can_own x.class) || not (is_handed (latest handed_of h) x.0.value)) (rows h) ≡ true =
-    each_both (λ x. is_willing s x.0.value x.class) (λ x. is_none (open_reply s h x)) (λ x. not (can_own x.class) || not (is_handed (latest handed_of h) x.0.value))
+    let each_still : each (λ x. not (can_own x.class) || not (is_handed (latest handed_of h) x.number.value)) (rows h) ≡ true =
+    each_both (λ x. is_willing s x.number.value x.class) (λ x. is_none (open_reply s h x)) (λ x. not (can_own x.class) || not (is_handed (latest handed_of h) x.number.value))
     (still s h) (rows h) (each_planned s h c) d in
     let of_each = sym (each_rows (λ e k. not (can_own k) || not (is_handed (latest handed_of h) e.value)) h) ∙ each_still in
     false_from_ne_true (is_some (latest handed_of h))
@@ -393,7 +465,7 @@ by_decision : (s : List Line) (h : List Entry) (d : Option Outcome) → latest d
     → act_by d (observe h) ≡ [] → due_replies s (observe h) ≡ [] → has (is_client_told Committed) h ≡ true
 unfolding observe
 by_decision s h (Some x) f r p can a d =
-    client_committed h (latest client_told_of h) r can.unvetoed (no_doubt s h r p can) refl (told_all x (find (is_to_tell (observe h) x) (observe h).listeners) (latest client_told_of h) a)
+    client_committed h (latest client_told_of h) r (unvetoed s h r p can) (no_doubt s h r p can) refl (told_all x (find (is_to_tell (observe h) x) (observe h).listeners) (latest client_told_of h) a)
 by_decision s h None f r p can a d =
     let none = none_due s h r f can.unlost d in
     by_seal s h (has is_commit h) (has is_sealed h) refl can.asked r can (each_answered s h can none) (none_handed s h r can none) a

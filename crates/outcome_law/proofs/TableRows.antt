@@ -32,27 +32,27 @@ use Rattle.outcome_law.proofs.Lists.{OfEach, of-at, of-more, of-map, of-insert, 
 use Rattle.outcome_law.proofs.Rule.{is_enlisted, is_cloned, zeros_cast, rule, ruled, first_rule, other_rules}
 
 -- what each row passes by its number and class, each enlistment passes
-pub each_rows : (f : EnlNo → Class → Bool) (h : List Entry) → each (λ x. f x.0 x.class) (rows h) ≡ each (λ x. f x.0 x.1) (enlisted h)
+pub each_rows : (f : EnlNo → Class → Bool) (h : List Entry) → each (λ x. f x.number x.class) (rows h) ≡ each (λ x. f x.0 x.1) (enlisted h)
 each_rows f [] = refl
-each_rows f (Enlisted e c ∷ h) = each-insert (λ x. f x.0 x.class) number_of (e, fresh_row c (marks (rows h))) (rows h) ∙ ap (λ b. f e c && b) (each_rows f h)
+each_rows f (Enlisted e c ∷ h) = each-insert (λ x. f x.number x.class) number_of (fresh_row e c (marks (rows h))) (rows h) ∙ ap (λ b. f e c && b) (each_rows f h)
 each_rows f (Asked e Prepare ∷ h) =
-    each_kept (λ x. f x.0 x.class) (λ x. if is_of e.value x then (x.0, mark_row (marks (rows h)) x.1) else x)
-    (λ x. if_kept (λ x. f x.0 x.class) (is_of e.value x) (x.0, mark_row (marks (rows h)) x.1) x refl) (rows h) ∙ each_rows f h
+    each_kept (λ x. f x.number x.class) (λ x. if is_of e.value x then (mark_row (marks (rows h)) x) else x)
+    (λ x. if_kept (λ x. f x.number x.class) (is_of e.value x) (mark_row (marks (rows h)) x) x refl) (rows h) ∙ each_rows f h
 each_rows f (Voted e v ∷ h) =
-    each_kept (λ x. f x.0 x.class) (λ x. if is_of e.value x then (x.0, vote_row v x.1) else x)
-    (λ x. if_kept (λ x. f x.0 x.class) (is_of e.value x) (x.0, vote_row v x.1) x refl) (rows h) ∙ each_rows f h
+    each_kept (λ x. f x.number x.class) (λ x. if is_of e.value x then (vote_row v x) else x)
+    (λ x. if_kept (λ x. f x.number x.class) (is_of e.value x) (vote_row v x) x refl) (rows h) ∙ each_rows f h
 each_rows f (x ∷ h) = each_rows f h
 
 -- an enlistment stands in the table where it was enlisted
 pub enlisted_in_rows : (n : ℕ) (h : List Entry) → has (is_of n) (rows h) ≡ has (is_enlisted n) h
 enlisted_in_rows n [] = refl
-enlisted_in_rows n (Enlisted e c ∷ h) = has-insert (is_of n) number_of (e, fresh_row c (marks (rows h))) (rows h) ∙ ap (λ b. (n == e.value) || b) (enlisted_in_rows n h)
+enlisted_in_rows n (Enlisted e c ∷ h) = has-insert (is_of n) number_of (fresh_row e c (marks (rows h))) (rows h) ∙ ap (λ b. (n == e.value) || b) (enlisted_in_rows n h)
 enlisted_in_rows n (Asked e Prepare ∷ h) =
-    has_kept (is_of n) (λ x. if is_of e.value x then (x.0, mark_row (marks (rows h)) x.1) else x)
-    (λ x. if_kept (is_of n) (is_of e.value x) (x.0, mark_row (marks (rows h)) x.1) x refl) (rows h) ∙ enlisted_in_rows n h
+    has_kept (is_of n) (λ x. if is_of e.value x then (mark_row (marks (rows h)) x) else x)
+    (λ x. if_kept (is_of n) (is_of e.value x) (mark_row (marks (rows h)) x) x refl) (rows h) ∙ enlisted_in_rows n h
 enlisted_in_rows n (Voted e v ∷ h) =
-    has_kept (is_of n) (λ x. if is_of e.value x then (x.0, vote_row v x.1) else x)
-    (λ x. if_kept (is_of n) (is_of e.value x) (x.0, vote_row v x.1) x refl) (rows h) ∙ enlisted_in_rows n h
+    has_kept (is_of n) (λ x. if is_of e.value x then (vote_row v x) else x)
+    (λ x. if_kept (is_of n) (is_of e.value x) (vote_row v x) x refl) (rows h) ∙ enlisted_in_rows n h
 enlisted_in_rows n (x ∷ h) = enlisted_in_rows n h
 
 -- what is enlisted wasn't before
@@ -112,14 +112,14 @@ unvoted_unwell n (x ∷ h) k = unvoted_unwell n h k
 
 -- the row says what the history shows of its enlistment, and is in it
 pub record IsRow (h : List Entry) (x : Row) : Type 0 where
-  pub stands : has (is_enlisted x.0.value) h ≡ true
-  pub marked : is_marked x ≡ has (is_asked x.0.value) h
-  pub voted : has_voted x ≡ has (is_vote x.0.value) h
-  pub vote : x.vote ≡ latest (vote_of x.0.value) h
-  pub well : voted_well x.vote ≡ has (is_good_vote x.0.value) h
+  pub stands : has (is_enlisted x.number.value) h ≡ true
+  pub marked : is_marked x ≡ has (is_asked x.number.value) h
+  pub voted : has_voted x ≡ has (is_vote x.number.value) h
+  pub vote : x.vote ≡ latest (vote_of x.number.value) h
+  pub well : voted_well x.vote ≡ has (is_good_vote x.number.value) h
 
 -- the row of an enlistment that has just come
-fresh_seen : (e : EnlNo) (c : Class) (n : ℕ) (h : List Entry) → ruled h ≡ true → has (is_enlisted e.value) h ≡ false → IsRow (Enlisted e c ∷ h) (e, fresh_row c n)
+fresh_seen : (e : EnlNo) (c : Class) (n : ℕ) (h : List Entry) → ruled h ≡ true → has (is_enlisted e.value) h ≡ false → IsRow (Enlisted e c ∷ h) (fresh_row e c n)
 fresh_seen e c n h r k =
     let silent = unenlisted_unvoted e.value h r k in
     record {
@@ -134,7 +134,7 @@ fresh_seen e c n h r k =
 older_seen : (e : EnlNo) (c : Class) (h : List Entry) (x : Row) → IsRow h x → IsRow (Enlisted e c ∷ h) x
 older_seen e c h x w =
     record {
-      stands = or_right (x.0.value == e.value) (has (is_enlisted x.0.value) h) w.stands;
+      stands = or_right (x.number.value == e.value) (has (is_enlisted x.number.value) h) w.stands;
       marked = w.marked;
       voted = w.voted;
       vote = w.vote;
@@ -152,19 +152,19 @@ none_there (Some y) h = absurd cc
 none_there None h = refl
 
 -- a row behind an ask to prepare, which is its own or another's
-asked_seen : (e : EnlNo) (n : ℕ) (h : List Entry) (x : Row) (b : Bool) → (x.0.value == e.value) ≡ b → IsRow h x
-    → IsRow (Asked e Prepare ∷ h) (if b then (x.0, mark_row n x.1) else x)
+asked_seen : (e : EnlNo) (n : ℕ) (h : List Entry) (x : Row) (b : Bool) → (x.number.value == e.value) ≡ b → IsRow h x
+    → IsRow (Asked e Prepare ∷ h) (if b then (mark_row n x) else x)
 asked_seen e n h x true same w = record { stands = w.stands; marked = rw same (there x.asked n); voted = w.voted; vote = w.vote; well = w.well }
 asked_seen e n h x false other w = record { stands = w.stands; marked = rw other w.marked; voted = w.voted; vote = w.vote; well = w.well }
 
 -- a row behind a vote, which is its own or another's
-voted_seen : (e : EnlNo) (v : Vote) (h : List Entry) (x : Row) (b : Bool) → (x.0.value == e.value) ≡ b → has (is_vote e.value) h ≡ false → IsRow h x
-    → IsRow (Voted e v ∷ h) (if b then (x.0, vote_row v x.1) else x)
+voted_seen : (e : EnlNo) (v : Vote) (h : List Entry) (x : Row) (b : Bool) → (x.number.value == e.value) ≡ b → has (is_vote e.value) h ≡ false → IsRow h x
+    → IsRow (Voted e v ∷ h) (if b then (vote_row v x) else x)
 voted_seen e v h x true same once w =
-    let number : x.0.value ≡ e.value = eqb-true x.0.value e.value same in
-    let silent : has (is_vote x.0.value) h ≡ false = subst (λ n. has (is_vote n) h ≡ false) (sym number) once in
+    let number : x.number.value ≡ e.value = eqb-true x.number.value e.value same in
+    let silent : has (is_vote x.number.value) h ≡ false = subst (λ n. has (is_vote n) h ≡ false) (sym number) once in
     let gone : x.vote ≡ None = none_there x.vote (w.voted ∙ silent) in
-    let unwell : has (is_good_vote x.0.value) h ≡ false = unvoted_unwell x.0.value h silent in
+    let unwell : has (is_good_vote x.number.value) h ≡ false = unvoted_unwell x.number.value h silent in
     record {
       stands = w.stands;
       marked = w.marked;
@@ -185,15 +185,15 @@ voted_seen e v h x false other once w =
 pub rows_seen : (h : List Entry) → ruled h ≡ true → OfEach (IsRow h) (rows h)
 rows_seen [] r = tt
 rows_seen (Enlisted e c ∷ h) r =
-    of-insert (IsRow (Enlisted e c ∷ h)) number_of (e, fresh_row c (marks (rows h)))
+    of-insert (IsRow (Enlisted e c ∷ h)) number_of (fresh_row e c (marks (rows h)))
     (fresh_seen e c (marks (rows h)) h (other_rules (Enlisted e c) h r) (enlisted_once e c h (first_rule (Enlisted e c) h r))) (rows h)
     (of-more (IsRow h) (IsRow (Enlisted e c ∷ h)) (older_seen e c h) (rows h) (rows_seen h (other_rules (Enlisted e c) h r)))
 rows_seen (Asked e Prepare ∷ h) r =
-    of-map (IsRow h) (IsRow (Asked e Prepare ∷ h)) (λ x. if is_of e.value x then (x.0, mark_row (marks (rows h)) x.1) else x)
-    (λ x. asked_seen e (marks (rows h)) h x (is_of e.value x) (eq_swap x.0.value e.value)) (rows h) (rows_seen h (other_rules (Asked e Prepare) h r))
+    of-map (IsRow h) (IsRow (Asked e Prepare ∷ h)) (λ x. if is_of e.value x then (mark_row (marks (rows h)) x) else x)
+    (λ x. asked_seen e (marks (rows h)) h x (is_of e.value x) (eq_swap x.number.value e.value)) (rows h) (rows_seen h (other_rules (Asked e Prepare) h r))
 rows_seen (Voted e v ∷ h) r =
-    of-map (IsRow h) (IsRow (Voted e v ∷ h)) (λ x. if is_of e.value x then (x.0, vote_row v x.1) else x)
-    (λ x. voted_seen e v h x (is_of e.value x) (eq_swap x.0.value e.value) (voted_once e v h (first_rule (Voted e v) h r))) (rows h) (rows_seen h (other_rules (Voted e v) h r))
+    of-map (IsRow h) (IsRow (Voted e v ∷ h)) (λ x. if is_of e.value x then (vote_row v x) else x)
+    (λ x. voted_seen e v h x (is_of e.value x) (eq_swap x.number.value e.value) (voted_once e v h (first_rule (Voted e v) h r))) (rows h) (rows_seen h (other_rules (Voted e v) h r))
 rows_seen (x ∷ h) r =
     of-more (IsRow h) (IsRow (x ∷ h)) (λ q w. record { stands = w.stands; marked = w.marked; voted = w.voted; vote = w.vote; well = w.well }) (rows h)
     (rows_seen h (other_rules x h r))
@@ -203,19 +203,19 @@ pub row_seen : (h : List Entry) (k : ℕ) (x : Row) → ruled h ≡ true → sli
 row_seen h k x r e = of-at (IsRow h) (rows h) k x (rows_seen h r) e
 
 -- the row is marked where its enlistment was asked to prepare
-pub row_marked : (h : List Entry) (k : ℕ) (x : Row) → ruled h ≡ true → slice_get (rows h) k ≡ Some x → is_marked x ≡ has (is_asked x.0.value) h
+pub row_marked : (h : List Entry) (k : ℕ) (x : Row) → ruled h ≡ true → slice_get (rows h) k ≡ Some x → is_marked x ≡ has (is_asked x.number.value) h
 row_marked h k x r e = (row_seen h k x r e).marked
 
 -- the row has a vote where its enlistment voted
-pub row_voted : (h : List Entry) (k : ℕ) (x : Row) → ruled h ≡ true → slice_get (rows h) k ≡ Some x → has_voted x ≡ has (is_vote x.0.value) h
+pub row_voted : (h : List Entry) (k : ℕ) (x : Row) → ruled h ≡ true → slice_get (rows h) k ≡ Some x → has_voted x ≡ has (is_vote x.number.value) h
 row_voted h k x r e = (row_seen h k x r e).voted
 
 -- where each row of a class that p names has a vote, each such enlistment voted
 class_voted : (p : Class → Bool) (h : List Entry) → ruled h ≡ true
     → each (λ x. not (p x.class) || has_voted x) (rows h) ≡ each (λ x. not (p x.1) || has (is_vote x.0.value) h) (enlisted h)
 class_voted p h r =
-    each_same (λ x. not (p x.class) || has_voted x) (λ x. not (p x.class) || has (is_vote x.0.value) h) (rows h)
-    (of-more (IsRow h) (λ x. (not (p x.class) || has_voted x) ≡ (not (p x.class) || has (is_vote x.0.value) h)) (λ x w. ap (λ b. not (p x.class) || b) w.voted) (rows h) (rows_seen h r))
+    each_same (λ x. not (p x.class) || has_voted x) (λ x. not (p x.class) || has (is_vote x.number.value) h) (rows h)
+    (of-more (IsRow h) (λ x. (not (p x.class) || has_voted x) ≡ (not (p x.class) || has (is_vote x.number.value) h)) (λ x w. ap (λ b. not (p x.class) || b) w.voted) (rows h) (rows_seen h r))
     ∙ each_rows (λ e c. not (p c) || has (is_vote e.value) h) h
 
 -- each Zero row has a vote where each Zero enlistment voted
@@ -307,14 +307,14 @@ commit_vetoed h r =
     ∙ open_clones is_rollback h r
 
 -- the row at a place is of an enlistment of the history
-pub rows_enlisted : (h : List Entry) (k : ℕ) (x : Row) → ruled h ≡ true → slice_get (rows h) k ≡ Some x → has (is_enlisted x.0.value) h ≡ true
+pub rows_enlisted : (h : List Entry) (k : ℕ) (x : Row) → ruled h ≡ true → slice_get (rows h) k ≡ Some x → has (is_enlisted x.number.value) h ≡ true
 rows_enlisted h k x r e = (row_seen h k x r e).stands
 
 -- each row is volatile with a vote yes or done where each enlistment is volatile and voted so
 pub evident_seen : (h : List Entry) → ruled h ≡ true
     → each (λ x. is_volatile x.class && voted_well x.vote) (rows h) ≡ each (λ x. is_volatile x.1 && has (is_good_vote x.0.value) h) (enlisted h)
 evident_seen h r =
-    each_same (λ x. is_volatile x.class && voted_well x.vote) (λ x. is_volatile x.class && has (is_good_vote x.0.value) h) (rows h)
-    (of-more (IsRow h) (λ x. (is_volatile x.class && voted_well x.vote) ≡ (is_volatile x.class && has (is_good_vote x.0.value) h))
+    each_same (λ x. is_volatile x.class && voted_well x.vote) (λ x. is_volatile x.class && has (is_good_vote x.number.value) h) (rows h)
+    (of-more (IsRow h) (λ x. (is_volatile x.class && voted_well x.vote) ≡ (is_volatile x.class && has (is_good_vote x.number.value) h))
     (λ x w. ap (λ b. is_volatile x.class && b) w.well) (rows h) (rows_seen h r))
     ∙ each_rows (λ e c. is_volatile c && has (is_good_vote e.value) h) h
