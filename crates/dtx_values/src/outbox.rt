@@ -74,6 +74,20 @@ impl Outbox {
         self.sends.as_slice()
     }
 
+    /// For how many more entries it has room.
+    pub fn room(&self) -> usize
+        ensures { result ≡ self.now.room }
+    {
+        self.entries.capacity() - self.entries.len()
+    }
+
+    /// For how many more messages it has room.
+    pub fn send_room(&self) -> usize
+        ensures { result ≡ self.now.send_room }
+    {
+        self.sends.capacity() - self.sends.len()
+    }
+
     /// Takes everything out, so that the whole room is there again.
     pub fn clear(&mut self)
         ensures { self.new ≡ blank }

@@ -1,13 +1,14 @@
 //! Whole ways of a half: what each call answers, and the entries of each step.
 ghost use Rattle.std.specs.Prelude.{◌≡◌, true};
 ghost use Rattle.dtx_model.specs.Caused.{is_new};
-ghost use Rattle.local_half.specs.Half.{is_alone, is_its_own};
+ghost use Rattle.local_half.specs.Half.{is_its_own};
 
 use crate::LocalHalf;
 use dtx_values::{
-    ActorNo, Answer, Ask, Call, CloneNo, EnlNo, EnlistOption, Entry, Note, Outbox, Outcome, Party,
-    Reply, RmNo, Support, Timeout, TxNo, Vote,
+    ActorNo, Answer, Ask, Call, CloneKind, CloneNo, ENLISTMENTS, EnlNo, EnlistOption, Entry, Note,
+    Outbox, Outcome, Party, Reply, RmNo, Support, Timeout, TxNo, Vote,
 };
+use std::alloc::AllocError;
 use std::process::Abort;
 use std::test::Fail;
 
@@ -27,7 +28,6 @@ fn enl(rt: &impl Abort, n: u32) -> EnlNo {
 fn call(rt: &impl Abort, half: &mut LocalHalf, c: &Call, out: &mut Outbox) -> Answer
     requires own { is_its_own c.now ≡ true }
     requires new { is_new half.old.seen c.now ≡ true }
-    requires alone { is_alone half.old.seen.table c.now ≡ true }
 {
     out.clear();
     half.call(actor(rt), 1, c, out)
@@ -196,5 +196,96 @@ fn a_rollback_aborts(rt: HostRuntime) -> Result<(), Fail> {
         call(&rt, &mut half, &Call::Status(t), &mut out),
         Answer::OutcomeIs(Outcome::Aborted)
     );
+    Ok(())
+}
+
+/// At most three steps of each enlistment come, and four more.
+const STEPS: usize = 3 * ENLISTMENTS + 4;
+
+/// What the enlistments of these tests reply: yes, and committed.
+fn reply_to(note: Note) -> Reply {
+    match note {
+        Note::Prepare => Reply::Vote(Vote::Yes),
+        Note::Hand => Reply::Owner(Outcome::Committed),
+        _ => Reply::Ack,
+    }
+}
+
+/// Does the steps that follow of the calls, until nothing is left, and keeps what they write: the loop
+/// of the documentation of `LocalHalf`.
+fn drive(half: &mut LocalHalf, out: &mut Outbox, kept: &mut Vec<Entry>) -> Result<(), AllocError> {
+    for _ in 0..STEPS {
+        out.clear();
+        let stepped = match half.due() {
+            Some((e, note)) => {
+                let reply = reply_to(note);
+                half.fits(e, reply) && half.reply(e, reply, out)
+            }
+            None => half.act(out),
+        };
+        if !stepped {
+            break;
+        }
+        kept.extend_from_slice(out.entries())?;
+    }
+    Ok(())
+}
+
+#[test]
+fn a_half_is_driven_until_nothing_is_left(rt: HostRuntime) -> Result<(), Fail> {
+    let [e1, e2] = [1, 2].map(|n| enl(&rt, n));
+    let mut out = Outbox::with_room(rt.alloc())?;
+    let mut half = LocalHalf::new(rt.alloc(), transaction(&rt))?;
+    let mut kept = Vec::new(rt.alloc());
+    begin(&rt, &mut half, &mut out);
+    drive(&mut half, &mut out, &mut kept)?;
+    let want = [
+        Entry::Sealed,
+        Entry::Asked(e2, Ask::Prepare),
+        Entry::Voted(e2, Vote::Yes),
+        Entry::Handed(e1),
+        Entry::OwnerAnswered(e1, Outcome::Committed),
+        Entry::Decided(Outcome::Committed),
+        Entry::Told(Party::Enl(e2), Outcome::Committed),
+        Entry::Told(Party::Client, Outcome::Committed),
+    ];
+    assert_eq!(rt; kept.as_slice(), want.as_slice());
+    assert!(rt; !half.has_act());
+    assert_eq!(rt; half.due(), None);
+    Ok(())
+}
+
+#[test]
+fn the_conditions_of_calls_can_be_tested(rt: HostRuntime) -> Result<(), Fail> {
+    let t = transaction(&rt);
+    let [e1, e2, e3] = [1, 2, 3].map(|n| enl(&rt, n));
+    let c1 = CloneNo::new(1).expect(&rt, "no such number");
+    let mut out = Outbox::with_room(rt.alloc())?;
+    let mut half = LocalHalf::new(rt.alloc(), t)?;
+    assert_eq!(rt; half.if_begun(Answer::Fine), Answer::NotBegun);
+    begin(&rt, &mut half, &mut out);
+    assert_eq!(rt; half.if_begun(Answer::Fine), Answer::Fine);
+    for (call, own, new) in [
+        (
+            Call::Volatile(t, e2, EnlistOption::Plain, None),
+            true,
+            false,
+        ),
+        (Call::Volatile(t, e3, EnlistOption::Plain, None), true, true),
+        (Call::Clone(t, c1, CloneKind::Block), true, true),
+        (Call::Status(t), true, true),
+        (Call::Await(t), false, true),
+        (Call::Gone(e1), false, true),
+    ] {
+        assert_eq!(rt; LocalHalf::is_its_own(&call), own);
+        assert_eq!(rt; half.is_new(&call), new);
+    }
+    assert_eq!(rt; half.gone_answer(e3), Answer::NoSuch);
+    assert_eq!(rt; half.gone_answer(e1), Answer::Fine);
+    out.clear();
+    half.gone(e1, false, &mut out);
+    assert_eq!(rt; out.room(), 62);
+    assert_eq!(rt; half.gone_answer(e1), Answer::Already);
+    assert_eq!(rt; half.decided(), Some(Outcome::Aborted));
     Ok(())
 }

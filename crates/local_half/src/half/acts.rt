@@ -1,0 +1,147 @@
+//! The local act: the first that applies.
+ghost use Rattle.std.specs.Prelude.{◌≡◌, ◌≤◌, [], false, find, is_some, not, true};
+ghost use Rattle.dtx_values.specs.Outgoing.{with};
+ghost use Rattle.dtx_values.specs.Owners.{owner_of};
+ghost use Rattle.dtx_values.specs.Waves.{all_voted, is_over, next_ask};
+ghost use Rattle.dtx_model.specs.Outcome.{is_empty};
+ghost use Rattle.dtx_model.specs.Steps.{act_entries, after_seal, before_seal, commit_act, hears_abort, is_handed, is_to_tell, lasts, tell};
+ghost use Rattle.dtx_model.specs.Words.{put};
+ghost use Rattle.local_half.specs.Half.{after};
+
+use super::LocalHalf;
+use dtx_model::Listener;
+use dtx_values::{Ask, EnlNo, Entry, Outbox, Outcome, Party};
+use light_committer::{LightAct, decide};
+use volatile_enlist::{hears, next_ask};
+
+#[tactic(auto, using(crate::proofs::Writing::outgoing), unfolding(dtx_model::specs::Observed::track_all, dtx_model::specs::Steps::act_entries))]
+impl LocalHalf {
+    /// Whether the commit was handed to the enlistment.
+    pub(super) fn is_handed(&self, e: EnlNo) -> bool
+        ensures { result ≡ is_handed self.now.seen.handed e.value }
+    {
+        self.handed == Some(e)
+    }
+
+    /// Whether this enlistment is durable or promotable.
+    fn lasts(&self, e: EnlNo) -> bool
+        ensures { result ≡ lasts self.now.seen.table e.value }
+    {
+        self.table
+            .rows()
+            .iter()
+            .any(|x| x.number == e && x.is_lasting())
+    }
+
+    /// Whether it is durable or promotable, and an abort is told to it: it wasn't handed the commit, and isn't lost.
+    fn hears_abort(&self, l: &Listener) -> bool
+        ensures { result ≡ hears_abort self.now.seen l.now }
+    {
+        !l.lost && !self.is_handed(l.enlistment) && self.lasts(l.enlistment)
+    }
+
+    /// Whether the outcome is still to be told to it.
+    fn is_to_tell(&self, o: Outcome, l: &Listener) -> bool
+        ensures { result ≡ is_to_tell self.now.seen o l.now }
+    {
+        !l.told
+            && (hears(&self.table, l.enlistment) || (o == Outcome::Aborted && self.hears_abort(l)))
+    }
+
+    /// The lowest enlistment that is still to be told the outcome.
+    fn first_to_tell(&self, o: Outcome) -> Option<Listener>
+        ensures { result ≡ find (is_to_tell self.now.seen o) self.now.seen.listeners }
+    {
+        self.listeners
+            .iter()
+            .copied()
+            .find(|l| self.is_to_tell(o, l))
+    }
+
+    /// The entry that tells the outcome to the next: the lowest enlistment that is still to be told, and then the client.
+    fn next_told(&self, o: Outcome) -> Option<Entry>
+        ensures { put result [] ≡ tell o (find (is_to_tell self.now.seen o) self.now.seen.listeners) self.now.seen.told_client }
+    {
+        match self.first_to_tell(o) {
+            Some(l) => Some(Entry::Told(Party::Enl(l.enlistment), o)),
+            None => match self.told_client {
+                Some(_) => None,
+                None => Some(Entry::Told(Party::Client, o)),
+            },
+        }
+    }
+
+    /// The entry of phase zero: the next is asked, or it is over and the transaction is sealed.
+    fn next_before_seal(&self) -> Option<Entry>
+        ensures { put result [] ≡ before_seal (next_ask self.now.seen.table true) (is_over self.now.seen.table self.now.seen.clones 0) }
+    {
+        let mut waves = self.waves;
+        match waves.next_wave(&self.table) {
+            Some(e) => Some(Entry::Asked(e, Ask::Prepare)),
+            None => {
+                if waves.is_over(&self.table, &self.clones, 0) {
+                    Some(Entry::Sealed)
+                } else {
+                    None
+                }
+            }
+        }
+    }
+
+    /// The entry after the seal: the next is asked; when all voted, the commit is handed to the owner,
+    /// once, or it is committed where nothing is durable or promotable.
+    fn next_after_seal(&self) -> Option<Entry>
+        ensures { put result [] ≡ after_seal (next_ask self.now.seen.table false) (all_voted self.now.seen.table) (commit_act (is_some self.now.seen.handed) (owner_of self.now.seen.table)) }
+    {
+        match next_ask(&self.table, false) {
+            Some(e) => Some(Entry::Asked(e, Ask::Prepare)),
+            None => match decide(&self.table, self.handed.is_some()) {
+                LightAct::Nothing => None,
+                LightAct::HandTo(e) => Some(Entry::Handed(e)),
+                LightAct::CommitNow => Some(Entry::Decided(Outcome::Committed)),
+            },
+        }
+    }
+
+    /// The entry of the local act; `None` exactly where none is pending.
+    fn next_act(&self) -> Option<Entry>
+        ensures { put result [] ≡ act_entries self.now.seen }
+    {
+        match self.decided {
+            Some(o) => self.next_told(o),
+            None => {
+                if !self.commit {
+                    return None;
+                }
+                if self.sealed {
+                    self.next_after_seal()
+                } else {
+                    self.next_before_seal()
+                }
+            }
+        }
+    }
+
+    /// Whether a local act is pending. It isn't done.
+    pub fn has_act(&self) -> bool
+        ensures { result ≡ not (is_empty (act_entries self.now.seen)) }
+    {
+        self.next_act().is_some()
+    }
+
+    /// Does the local act; false exactly where none is pending.
+    pub fn act(&mut self, out: &mut Outbox) -> bool
+        requires { 1 ≤ out.old.room }
+        ensures acted { result ≡ not (is_empty (act_entries self.old.seen)) }
+        ensures state { self.new ≡ after self.old (act_entries self.old.seen) }
+        ensures out { out.new ≡ with out.old (act_entries self.old.seen) }
+    {
+        match self.next_act() {
+            Some(x) => {
+                self.write(x, out);
+                true
+            }
+            None => false,
+        }
+    }
+}

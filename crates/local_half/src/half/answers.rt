@@ -1,0 +1,161 @@
+//! What each call is answered: the first answer whose condition holds.
+ghost use Rattle.std.specs.Prelude.{◌≡◌, length, true};
+ghost use Rattle.dtx_model.specs.Steps.{answer, clone_answer, complete_answer, durable_answer, gone_answer, if_begun, is_gone, promotable_answer, stands, status_answer, unless_late, unless_over, volatile_answer};
+ghost use Rattle.local_half.specs.Half.{is_its_own};
+
+use super::LocalHalf;
+use dtx_values::{Answer, CLONES, Call, DURABLES, ENLISTMENTS, EnlNo};
+use durable_enlist::cause_of;
+use promotable_enlist::try_own;
+
+/// What the completion of a clone is answered, once it is begun and while nothing is decided.
+fn complete_answer(stands: bool, complete: bool) -> Answer
+    ensures { result ≡ complete_answer stands complete }
+{
+    if !stands {
+        return Answer::NoSuch;
+    }
+    if complete {
+        return Answer::Already;
+    }
+    Answer::Fine
+}
+
+/// The answer after `toolate`.
+fn unless_late(late: bool) -> Answer
+    ensures { result ≡ unless_late late }
+{
+    if late { Answer::TooLate } else { Answer::Fine }
+}
+
+impl LocalHalf {
+    /// The answer after `notbegun`.
+    pub fn if_begun(&self, a: Answer) -> Answer
+        ensures { result ≡ if_begun self.now.seen.limit a }
+    {
+        match self.limit {
+            Some(_) => a,
+            None => Answer::NotBegun,
+        }
+    }
+
+    /// What the loss of an enlistment is answered, once the transaction is begun. It may be done where
+    /// that is `Fine`.
+    pub fn gone_answer(&self, e: EnlNo) -> Answer
+        ensures { result ≡ gone_answer (stands self.now.seen e.value) (is_gone self.now.seen e.value) }
+    {
+        if !self.stands(e) {
+            return Answer::NoSuch;
+        }
+        if self.is_gone(e) {
+            return Answer::Already;
+        }
+        Answer::Fine
+    }
+
+    /// The answer after `notbegun` and `ended`.
+    fn unless_over(&self, a: Answer) -> Answer
+        ensures { result ≡ unless_over self.now.seen a }
+    {
+        self.if_begun(match self.decided {
+            Some(o) => Answer::Ended(o),
+            None => a,
+        })
+    }
+
+    /// What a volatile call is answered, once it is begun and while nothing is decided.
+    fn volatile_answer(&self) -> Answer
+        ensures { result ≡ volatile_answer self.now.seen.sealed self.now.seen.table }
+    {
+        if self.sealed {
+            return Answer::TooLate;
+        }
+        if self.table.rows().len() >= ENLISTMENTS {
+            return Answer::Many(ENLISTMENTS as u8);
+        }
+        Answer::Fine
+    }
+
+    /// What a durable call is answered, once it is begun and while nothing is decided. One that can't own the commit, or doesn't come first, waits.
+    fn durable_answer(&self, single: bool) -> Answer
+        ensures { result ≡ durable_answer self.now.seen.sealed single self.now.seen.table }
+    {
+        if self.sealed {
+            return Answer::TooLate;
+        }
+        if self.table.rows().len() >= ENLISTMENTS {
+            return Answer::Many(ENLISTMENTS as u8);
+        }
+        if self.table.lasting() >= DURABLES {
+            return Answer::Many(DURABLES as u8);
+        }
+        match cause_of(&self.table, single) {
+            Some(_) => Answer::Wait,
+            None => Answer::Fine,
+        }
+    }
+
+    /// What a promotable call is answered, once it is begun and while nothing is decided.
+    fn promotable_answer(&self) -> Answer
+        ensures { result ≡ promotable_answer self.now.seen.sealed self.now.seen.table }
+    {
+        if self.sealed {
+            return Answer::TooLate;
+        }
+        if !try_own(&self.table, false) {
+            return Answer::False;
+        }
+        if self.table.rows().len() >= ENLISTMENTS {
+            return Answer::Many(ENLISTMENTS as u8);
+        }
+        Answer::True
+    }
+
+    /// What a call for a clone is answered, once it is begun and while nothing is decided.
+    fn clone_answer(&self) -> Answer
+        ensures { result ≡ clone_answer self.now.seen.commit (length self.now.seen.clones) }
+    {
+        if self.commit {
+            return Answer::TooLate;
+        }
+        if self.clones.len() >= CLONES {
+            return Answer::Many(CLONES as u8);
+        }
+        Answer::Fine
+    }
+
+    /// What a call for the status is answered, once it is begun.
+    fn status_answer(&self) -> Answer
+        ensures { result ≡ status_answer self.now.seen.decided }
+    {
+        match self.decided {
+            Some(o) => Answer::OutcomeIs(o),
+            None => Answer::StillActive,
+        }
+    }
+
+    /// The first answer whose condition holds.
+    #[tactic(auto, unfolding(dtx_model::specs::Steps::answer))]
+    pub(super) fn answer(&self, c: &Call) -> Answer
+        requires { is_its_own c.now ≡ true }
+        ensures { result ≡ answer self.now.seen c.now 0 }
+    {
+        match *c {
+            Call::Volatile(_, _, _, _) => self.unless_over(self.volatile_answer()),
+            Call::Durable(_, _, _, support) => {
+                self.unless_over(self.durable_answer(support.is_single()))
+            }
+            Call::Promotable(_, _, _, _, _, _) => self.unless_over(self.promotable_answer()),
+            Call::Clone(_, _, _) => self.unless_over(self.clone_answer()),
+            Call::Complete(c) => self.unless_over(complete_answer(
+                self.clones.stands(c),
+                self.clones.is_complete(c),
+            )),
+            Call::Commit(_) => self.unless_over(unless_late(self.commit)),
+            Call::Rollback(_) => self.unless_over(unless_late(self.sealed)),
+            Call::Status(_) => self.if_begun(self.status_answer()),
+            Call::Tick(_, _) => self.if_begun(Answer::Fine),
+            _ => Answer::Fine,
+        }
+    }
+}
