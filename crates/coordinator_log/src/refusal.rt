@@ -1,4 +1,5 @@
 //! Why the log doesn't do what it is asked.
+use outside::Failed;
 
 /// Why a call of the log didn't do its work.
 #[derive(Clone, Copy, PartialEq, Eq, Debug)]
@@ -17,4 +18,15 @@ pub enum LogRefusal {
     NoSuch(u128),
     /// Memory ran out.
     Memory,
+}
+
+impl From<Failed> for LogRefusal {
+    ghost use Rattle.std.specs.Prelude.{◌≡◌};
+    ghost use Rattle.coordinator_log.specs.declared.refusal.LogRefusal.TheVariants.{Fault};
+
+    ghost from_gives = { λ _ e. e ≡ Fault };
+
+    fn from(_fault: Failed) -> LogRefusal {
+        LogRefusal::Fault
+    }
 }
