@@ -11,7 +11,7 @@ ghost use Rattle.coordinator_log.specs.Slots.{Agrees, lowest_closed, open_record
 ghost use Rattle.coordinator_log.specs.Stop.{BreaksOff, after_calls, is_done, stop_in};
 ghost use Rattle.coordinator_log.specs.declared.stop.ArmedStop.{ArmedStop};
 
-use crate::device::{Broken, clear, store};
+use crate::device::{clear, store};
 use crate::empty::{blank, zeros};
 use crate::layout::{LOG_BYTES, SLOTS};
 use crate::opening::read_all;
@@ -166,14 +166,10 @@ impl<D: Disk> Log<D> {
         let Some(k) = self.slots.lowest_closed() else {
             return Err(LogRefusal::Full(SLOTS as u16));
         };
-        match store(&mut self.disk, &mut self.armed, k, r) {
-            Ok(()) => (),
-            Err(Broken) => {
-                self.up = false;
-                return Err(LogRefusal::StoppedNow);
-            }
-        }
+        self.up = false;
+        store(&mut self.disk, &mut self.armed, k, r)?;
         self.slots.set(k, Some(*r));
+        self.up = true;
         Ok(k as u16)
     }
 
@@ -221,14 +217,10 @@ impl<D: Disk> Log<D> {
         let Some(k) = self.slots.found(id) else {
             return Err(LogRefusal::NoSuch(id));
         };
-        match clear(&mut self.disk, &mut self.armed, k) {
-            Ok(()) => (),
-            Err(Broken) => {
-                self.up = false;
-                return Err(LogRefusal::StoppedNow);
-            }
-        }
+        self.up = false;
+        clear(&mut self.disk, &mut self.armed, k)?;
         self.slots.set(k, None);
+        self.up = true;
         Ok(())
     }
 

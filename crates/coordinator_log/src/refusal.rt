@@ -1,4 +1,5 @@
 //! Why the log doesn't do what it is asked.
+use crate::device::Broken;
 use outside::Failed;
 
 /// Why a call of the log didn't do its work.
@@ -28,5 +29,16 @@ impl From<Failed> for LogRefusal {
 
     fn from(_fault: Failed) -> LogRefusal {
         LogRefusal::Fault
+    }
+}
+
+impl From<Broken> for LogRefusal {
+    ghost use Rattle.std.specs.Prelude.{◌≡◌};
+    ghost use Rattle.coordinator_log.specs.declared.refusal.LogRefusal.TheVariants.{StoppedNow};
+
+    ghost from_gives = { λ _ e. e ≡ StoppedNow };
+
+    fn from(_broken: Broken) -> LogRefusal {
+        LogRefusal::StoppedNow
     }
 }

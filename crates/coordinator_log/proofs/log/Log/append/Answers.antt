@@ -3,6 +3,7 @@ use Rattle.std.specs.List.{insert}
 use Rattle.dtx_model.specs.Log.{CommitRecord, record_of}
 use Rattle.coordinator_log.specs.Slots.{Agrees, open_records}
 use Rattle.coordinator_log.proofs.Agreement.{insert_lowest, slot_formed, log_either, log_by_test, all_appended, either_appended, agrees_with, log_agrees, either_whole}
+use Rattle.coordinator_log.proofs.Results.{after_err}
 use Rattle.coordinator_log.proofs.SlotWrites.{unless_fault}
 use Rattle.coordinator_log.proofs.log.Log.append.Goals as goal
 
@@ -12,8 +13,8 @@ returns-then-not-self-clause-appends g c = rw (← c.self.view_is) (λ h up. rec
 pub returns-in_default-clause-appends : goal.returns-in_default-clause-appends
 returns-in_default-clause-appends g c = rw (← c.self.view_is) (λ h up. record { images = λ f left. inl (log_agrees _ _ _ (c.self.invariant.agrees h up) f left); durable = tt })
 
-pub returns-in-Err-clause-appends : goal.returns-in-Err-clause-appends
-returns-in-Err-clause-appends g c =
+pub returns-in_err-store-clause-appends : goal.returns-in_err-store-clause-appends
+returns-in_err-store-clause-appends g c =
     let ss = c.self.inside.slots in
     let k = c.in-Some.k in
     let s = c.in-Some.ensures.some in
@@ -22,11 +23,11 @@ returns-in-Err-clause-appends g c =
     (λ h up. let a = c.self.invariant.agrees h up in
     record {
       images = λ f left. either_appended _ _ ss a k lt (record_of c.args.r.now) f s.2 (c.store.ensures.images h a.durable (slot_formed _ _ ss a k lt None s.1) f left);
-      durable = tt;
+      durable = after_err c.from_residual.result _ _ c.from_residual.ensures.1;
     })
 
-pub returns-in-Err-clause-crashed : goal.returns-in-Err-clause-crashed
-returns-in-Err-clause-crashed g c =
+pub returns-in_err-store-clause-crashed : goal.returns-in_err-store-clause-crashed
+returns-in_err-store-clause-crashed g c =
     let ss = c.self.inside.slots in
     let k = c.in-Some.k in
     let s = c.in-Some.ensures.some in
@@ -54,13 +55,13 @@ invariant_of-self g c = record {
 pub invariant_of-self-2 : goal.invariant_of-self-2
 invariant_of-self-2 g c = record {
   agrees = λ h up.
-      let a = c.self.invariant.agrees h up in
+      let a = c.self.invariant.agrees h c.if-not-self.false in
       let ss = c.self.inside.slots in
       let k = c.in-Some.k in
       let s = c.in-Some.ensures.some in
       let lt : k < length ss = omega (arith, s.0, c.in-Some.ensures.many) in
       subst (λ (l : List (Option CommitRecord)). Agrees (g.D.Disk.seen c.store.new.disk) (g.D.Disk.image c.store.new.disk) l) (sym c.set.ensures.slots)
-      (agrees_with _ _ ss a k lt (Some (record_of c.args.r.now)) _ _ (c.in-Ok.ensures.done h a.durable (slot_formed _ _ ss a k lt None s.1)) (c.in-Ok.ensures.durable h));
+      (agrees_with _ _ ss a k lt (Some (record_of c.args.r.now)) _ _ (c.in_ok-store.ensures.done h a.durable (slot_formed _ _ ss a k lt None s.1)) (c.in_ok-store.ensures.durable h));
   whole = λ h f left.
       let a = c.self.invariant.agrees h c.if-not-self.false in
       let ss = c.self.inside.slots in
@@ -86,7 +87,7 @@ returns-clause-durable g c h f left =
     let k = c.in-Some.k in
     let s = c.in-Some.ensures.some in
     let lt : k < length ss = omega (arith, s.0, c.in-Some.ensures.many) in
-    log_agrees _ _ _ (agrees_with _ _ ss a k lt (Some (record_of c.args.r.now)) _ _ (c.in-Ok.ensures.done h a.durable (slot_formed _ _ ss a k lt None s.1)) (c.in-Ok.ensures.durable h)) f left
+    log_agrees _ _ _ (agrees_with _ _ ss a k lt (Some (record_of c.args.r.now)) _ _ (c.in_ok-store.ensures.done h a.durable (slot_formed _ _ ss a k lt None s.1)) (c.in_ok-store.ensures.durable h)) f left
     ∙ ap (λ (l : List (Option CommitRecord)). Ok (open_records l)) (sym c.set.ensures.slots)
 
 pub returns-clause-appends : goal.returns-clause-appends
@@ -100,5 +101,5 @@ returns-clause-appends g c =
     let closed = slot_formed _ _ ss a k lt None s.1 in
     record {
       images = λ f left. either_appended _ _ ss a k lt (record_of c.args.r.now) f s.2 (c.store.ensures.images h a.durable closed f left);
-      durable = all_appended _ _ ss a k lt (record_of c.args.r.now) _ _ s.2 (c.in-Ok.ensures.done h a.durable closed) (c.in-Ok.ensures.durable h);
+      durable = all_appended _ _ ss a k lt (record_of c.args.r.now) _ _ s.2 (c.in_ok-store.ensures.done h a.durable closed) (c.in_ok-store.ensures.durable h);
     })

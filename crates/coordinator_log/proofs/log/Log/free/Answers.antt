@@ -2,6 +2,7 @@ use Rattle.std.proofs.Common.{◌≡◌, ◌<◌, refl, true, arith, inl, sym, a
 use Rattle.dtx_model.specs.Log.{CommitRecord}
 use Rattle.coordinator_log.specs.Slots.{Agrees, open_records}
 use Rattle.coordinator_log.proofs.Agreement.{slot_open, log_either, log_by_test, all_freed, agrees_with, log_agrees, either_whole}
+use Rattle.coordinator_log.proofs.Results.{after_err}
 use Rattle.coordinator_log.proofs.SlotWrites.{unless_fault}
 use Rattle.coordinator_log.proofs.log.Log.free.Goals as goal
 
@@ -11,8 +12,8 @@ returns-then-not-self-clause-frees g c = rw (← c.self.view_is) (λ h up. recor
 pub returns-in_default-clause-frees : goal.returns-in_default-clause-frees
 returns-in_default-clause-frees g c = rw (← c.self.view_is) (λ h up. record { images = λ f left. inl (log_agrees _ _ _ (c.self.invariant.agrees h up) f left); durable = tt })
 
-pub returns-in-Err-clause-frees : goal.returns-in-Err-clause-frees
-returns-in-Err-clause-frees g c =
+pub returns-in_err-clear-clause-frees : goal.returns-in_err-clear-clause-frees
+returns-in_err-clear-clause-frees g c =
     let ss = c.self.inside.slots in
     let k = c.in-Some.k in
     let s = c.in-Some.ensures.some in
@@ -21,11 +22,11 @@ returns-in-Err-clause-frees g c =
     (λ h up. let a = c.self.invariant.agrees h up in
     record {
       images = λ f left. log_either _ _ ss a k lt None _ f c.in-Some.ensures.rest (c.clear.ensures.images h a.durable (slot_open _ _ ss a k lt s.1) f left);
-      durable = tt;
+      durable = after_err c.from_residual.result _ _ c.from_residual.ensures.1;
     })
 
-pub returns-in-Err-clause-crashed : goal.returns-in-Err-clause-crashed
-returns-in-Err-clause-crashed g c =
+pub returns-in_err-clear-clause-crashed : goal.returns-in_err-clear-clause-crashed
+returns-in_err-clear-clause-crashed g c =
     let ss = c.self.inside.slots in
     let k = c.in-Some.k in
     let s = c.in-Some.ensures.some in
@@ -51,13 +52,13 @@ invariant_of-self g c = record {
 pub invariant_of-self-2 : goal.invariant_of-self-2
 invariant_of-self-2 g c = record {
   agrees = λ h up.
-      let a = c.self.invariant.agrees h up in
+      let a = c.self.invariant.agrees h c.if-not-self.false in
       let ss = c.self.inside.slots in
       let k = c.in-Some.k in
       let s = c.in-Some.ensures.some in
       let lt : k < length ss = omega (arith, s.0, c.in-Some.ensures.many) in
       subst (λ (l : List (Option CommitRecord)). Agrees (g.D.Disk.seen c.clear.new.disk) (g.D.Disk.image c.clear.new.disk) l) (sym c.set.ensures.slots)
-      (agrees_with _ _ ss a k lt None _ _ (c.in-Ok.ensures.done h a.durable (slot_open _ _ ss a k lt s.1)) (c.in-Ok.ensures.durable h));
+      (agrees_with _ _ ss a k lt None _ _ (c.in_ok-clear.ensures.done h a.durable (slot_open _ _ ss a k lt s.1)) (c.in_ok-clear.ensures.durable h));
   whole = λ h f left.
       let a = c.self.invariant.agrees h c.if-not-self.false in
       let ss = c.self.inside.slots in
@@ -75,7 +76,7 @@ returns-clause-durable g c h f left =
     let k = c.in-Some.k in
     let s = c.in-Some.ensures.some in
     let lt : k < length ss = omega (arith, s.0, c.in-Some.ensures.many) in
-    log_agrees _ _ _ (agrees_with _ _ ss a k lt None _ _ (c.in-Ok.ensures.done h a.durable (slot_open _ _ ss a k lt s.1)) (c.in-Ok.ensures.durable h)) f left
+    log_agrees _ _ _ (agrees_with _ _ ss a k lt None _ _ (c.in_ok-clear.ensures.done h a.durable (slot_open _ _ ss a k lt s.1)) (c.in_ok-clear.ensures.durable h)) f left
     ∙ ap (λ (l : List (Option CommitRecord)). Ok (open_records l)) (sym c.set.ensures.slots)
 
 pub returns-clause-frees : goal.returns-clause-frees
@@ -89,5 +90,5 @@ returns-clause-frees g c =
     let is_open = slot_open _ _ ss a k lt s.1 in
     record {
       images = λ f left. log_either _ _ ss a k lt None _ f c.in-Some.ensures.rest (c.clear.ensures.images h a.durable is_open f left);
-      durable = all_freed _ _ ss a k lt _ _ _ c.in-Some.ensures.rest (c.in-Ok.ensures.done h a.durable is_open) (c.in-Ok.ensures.durable h);
+      durable = all_freed _ _ ss a k lt _ _ _ c.in-Some.ensures.rest (c.in_ok-clear.ensures.done h a.durable is_open) (c.in_ok-clear.ensures.durable h);
     })
