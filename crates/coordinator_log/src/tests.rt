@@ -33,7 +33,7 @@ fn record(rt: &impl Abort, number: u32) -> LogRecord
 
 /// A disk whose calls of these numbers fail.
 fn disk(alloc: Global, fail: &[u64]) -> Result<MemDisk, AllocError>
-    ensures { IfOk result (λ d. length d.kept ≡ 524800) }
+    ensures { IfOk result (λ d. length d.images.kept ≡ 524800) }
 {
     MemDisk::new(alloc, LENGTH, Vec::from_slice(alloc, fail)?)
 }
@@ -101,7 +101,7 @@ fn all_slots_take_records_and_then_none_does(rt: HostRuntime) -> Result<(), Fail
 
 /// Why no log is taken from a disk; `None` where one is.
 fn refused(alloc: Global, disk: MemDisk) -> Option<LogRefusal>
-    requires { length disk.kept ≡ 524800 }
+    requires { length disk.images.kept ≡ 524800 }
 {
     match Log::from_disk(alloc, disk) {
         Ok(_log) => None,

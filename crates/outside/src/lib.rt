@@ -22,7 +22,6 @@
 //! All rules here are definitions of this project.
 #![tactic(auto)]
 
-mod buffers;
 mod disk;
 mod failure;
 mod file_disk;
