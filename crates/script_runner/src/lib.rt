@@ -4,16 +4,18 @@
 mod calls;
 mod contexts;
 mod exit;
-mod not_run;
 mod pending;
 mod plans;
 mod program;
 mod replay;
+mod runnable;
 #[cfg(test)]
 mod tests;
 mod transfer;
 
+pub use coordinator_log::LOG_BYTES;
 pub use exit::Exit;
 pub use program::run_program;
 pub use replay::run_replay;
+pub use runnable::is_runnable;
 pub use script_text::BadCause;

@@ -5,13 +5,13 @@ use Rattle.dtx_model.specs.Contexts.{scope_block, scope_calls, scope_entries}
 use Rattle.dtx_model.specs.Scopes.{ScopeEntry, open_scopes}
 use Rattle.dtx_model.specs.Replay.{noted}
 use Rattle.dtx_model.specs.Words.{onto, past_of}
-use Rattle.script_runner.specs.Running.{Running}
+use Rattle.script_runner.specs.RunState.{RunState}
 use Rattle.script_runner.specs.Scoped.{AreOpen, DoesScope, calls_given, rolled_in, scopes_at, scopes_in}
 use Rattle.dtx_model.proofs.Pasts.{length-past}
 use Rattle.script_runner.proofs.Openings.{context_here, context_put, open_after}
 use Rattle.script_runner.proofs.Scoping.{few_notes, noted_block}
 use Rattle.script_runner.proofs.Ties.{tied_noted}
-use Rattle.script_runner.proofs.replay.Run.note.Goals as goal
+use Rattle.script_runner.proofs.replay.Run.at_context.Goals as goal
 
 pub append-requires : goal.append-requires
 append-requires c =
@@ -36,10 +36,10 @@ returns-clause-block c =
     (rw (c.append.ensures, c.deref.ensures.value, c.push_reserved.ensures.items, c.reserve-2.ensures.items) refl) in
     let here : c.index_mut-context.result.now.scopes ≡ scopes_at a c.args.self.now.contexts =
     ap scopes_in (sym (context_here c.self.inside.contexts.items a c.get.result c.index_mut-context.result.now c.self.invariant.1 c.get.ensures.value c.index_mut-context.ensures.value))
-    ∙ ap (λ (r : Running). scopes_at a r.contexts) c.self.view_is in
+    ∙ ap (λ (r : RunState). scopes_at a r.contexts) c.self.view_is in
     block
     ∙ ap (λ (xs : List OpenScope). onto (past_of c.self.inside.trace.items) (noted a (scope_block c.args.n a c.args.l.now.body xs))) here
-    ∙ ap (λ (r : Running). onto (past_of r.trace) (noted a (scope_block c.args.n a c.args.l.now.body (scopes_at a c.args.self.now.contexts)))) c.self.view_is
+    ∙ ap (λ (r : RunState). onto (past_of r.trace) (noted a (scope_block c.args.n a c.args.l.now.body (scopes_at a c.args.self.now.contexts)))) c.self.view_is
 
 pub returns-clause-calls : goal.returns-clause-calls
 returns-clause-calls c =
@@ -47,7 +47,7 @@ returns-clause-calls c =
     let did : DoesScope c.args.l.now.body c.index_mut-context.result.now c.act.new.context c.act.new.notes.items c.in-Some.acted = c.in-Some.ensures.some in
     let here : c.index_mut-context.result.now.scopes ≡ scopes_at a c.args.self.now.contexts =
     ap scopes_in (sym (context_here c.self.inside.contexts.items a c.get.result c.index_mut-context.result.now c.self.invariant.1 c.get.ensures.value c.index_mut-context.ensures.value))
-    ∙ ap (λ (r : Running). scopes_at a r.contexts) c.self.view_is in
+    ∙ ap (λ (r : RunState). scopes_at a r.contexts) c.self.view_is in
     ap (calls_given c.in-Some.acted.gives) (ap rolled_in (context_put c.self.inside.contexts.items a c.get.result c.act.new.context c.self.invariant.1 c.get.ensures.value))
     ∙ did.gives
     ∙ ap (λ (xs : List OpenScope). scope_calls c.args.l.now.body xs) here
@@ -63,4 +63,4 @@ returns-clause-scopes c =
     subst (λ n. AreOpen (set cs (n - 1) c.act.new.context) (c.args.l.now ∷ before)) (sym c.get.ensures.value)
     (open_after cs before c.args.l.now c.act.new.context c.self.invariant.1
     (subst (λ (xs : List OpenScope). (es : List ScopeEntry) → open_scopes es ≡ xs → open_scopes (onto es (scope_entries c.args.l.now.body xs)) ≡ c.act.new.context.scopes) here did.scopes)
-    (subst (λ (r : Running). AreOpen r.contexts before) (sym c.self.view_is) ties))
+    (subst (λ (r : RunState). AreOpen r.contexts before) (sym c.self.view_is) ties))
