@@ -6,7 +6,7 @@ use Rattle.dtx_values.specs.declared.entry.Answer.TheVariants.{Many, False, True
 use Rattle.dtx_values.specs.declared.note.Reply.TheVariants.{Vote as VoteReply}
 use Rattle.dtx_values.specs.declared.number.EnlNo.{EnlNo}
 use Rattle.dtx_values.specs.declared.words.Class.{Class}
-use Rattle.dtx_values.specs.declared.words.Class.TheVariants.{Zero, One, DurableTwo, DurableSingle, Promotable}
+use Rattle.dtx_values.specs.declared.words.Class.TheVariants.{DurableSingle, Promotable}
 use Rattle.dtx_values.specs.declared.words.Outcome.{Outcome}
 use Rattle.dtx_values.specs.declared.words.Vote.{Vote}
 use Rattle.dtx_values.specs.declared.row.Row.{Row}
@@ -20,9 +20,9 @@ use Rattle.dtx_model.specs.Steps.{if_begun, unless_ended, due_of, durable_answer
 use Rattle.dtx_model.specs.Words.{has}
 use Rattle.dtx_model.proofs.Bools.{and_never, not_false, not_true}
 use Rattle.dtx_model.proofs.Unowned.{causeless}
-use Rattle.enlist_table.specs.Refusals.{add_refusal, is_lasting as lasts_in}
+use Rattle.enlist_table.specs.Refusals.{add_refusal}
 use Rattle.local_half.specs.Half.{fits_due}
-use Rattle.volatile_enlist.specs.Refusals.{was_asked}
+use Rattle.dtx_values.specs.Table.{was_asked}
 
 -- one more item
 pub length-insert_by : {A : Type 0} (key : A → ℕ) (x : A) (ys : List A) → length (insert_by key x ys) ≡ suc (length ys)
@@ -48,24 +48,15 @@ done_inside None d a k = absurd (cc)
 done_inside (Some l) (Some x) a k = absurd (cc)
 done_inside (Some l) None a k = k
 
--- the table's word for a lasting class
-lasts_in-same : (c : Class) → lasts_in c ≡ not (is_volatile c)
-lasts_in-same Zero = refl
-lasts_in-same One = refl
-lasts_in-same DurableTwo = refl
-lasts_in-same DurableSingle = refl
-lasts_in-same Promotable = refl
-
--- the table counts as many where none lasts
-lasting-none : (xs : List Row) → has is_lasting xs ≡ false → nat_le 16 (how_many (λ x. lasts_in x.class) xs) ≡ false
+-- the table counts none where none lasts
+lasting-none : (xs : List Row) → has is_lasting xs ≡ false → nat_le 16 (how_many is_lasting xs) ≡ false
 lasting-none xs none =
-    let same : how_many (λ x. lasts_in x.class) xs ≡ how_many is_lasting xs = λ i. how_many (λ x. lasts_in-same x.class i) xs in
     let zero : (how_many is_lasting xs == 0) ≡ true = how_many-none is_lasting xs ∙ not_false (has is_lasting xs) none in
     grind (arith, nat_tests)
 
 -- a new one is taken where 32 don't stand and none lasts
 taken : (e : EnlNo) (c : Class) (xs : List Row) → has_row e.value xs ≡ false → nat_le 32 (length xs) ≡ false → has is_lasting xs ≡ false → add_refusal e c xs ≡ None
-taken e c xs new few none = rw (new, few, lasting-none xs none, and_never (lasts_in c)) refl
+taken e c xs new few none = rw (new, few, lasting-none xs none, and_never (not (is_volatile c))) refl
 
 -- a new durable one whose call is done is taken, and none lasts beside it
 pub may_last : (limit : Option ℕ) (d : Option Outcome) (sealed single : Bool) (xs : List Row) (e : EnlNo)
@@ -120,4 +111,4 @@ due-asked o e v s f = by (find (is_of e) o.table) refl s f
     by None r s f = absurd (cc)
     by (Some x) r s f =
         found (is_of e) is_marked o.table x r
-        (marked (is_some o.decided || is_gone o x.0.value) (is_marked x) (not (has_voted x)) (is_handed o.handed x.0.value) s f)
+        (marked (is_some o.decided || is_gone o x.number.value) (is_marked x) (not (has_voted x)) (is_handed o.handed x.number.value) s f)

@@ -16,7 +16,7 @@ use Rattle.dtx_values.specs.Support.{is_single}
 use Rattle.dtx_model.specs.Steps.{fits}
 use Rattle.enlist_table.specs.Refusals.{add_refusal}
 use Rattle.dependent_clones.specs.Refusals.{clone_refusal}
-use Rattle.volatile_enlist.specs.Refusals.{was_asked}
+use Rattle.dtx_values.specs.Table.{was_asked}
 
 -- the transaction, and what its local side knows of its history
 pub record Half : Type 0 where

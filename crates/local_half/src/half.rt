@@ -11,13 +11,13 @@ ghost use Rattle.dtx_values.specs.Owners.{owner_of};
 ghost use Rattle.dtx_model.specs.Observed.{observe, track};
 ghost use Rattle.dtx_model.specs.Caused.{is_new};
 ghost use Rattle.dtx_values.specs.Waves.{all_voted, is_over, next_ask};
-ghost use Rattle.dtx_values.specs.Table.{voted};
+ghost use Rattle.dtx_values.specs.Table.{rises_above, voted};
 ghost use Rattle.dtx_model.specs.Steps.{Calls, act_entries, all_due, answer, before_seal, if_begun, after_seal, block, clone_answer, commit_act, complete_answer, decided_if, due_note, due_of, durable_answer, facts, gone_answer, gone_facts, hears_abort, is_done, is_gone, is_handed, is_late, is_to_tell, lasts, promotable_answer, reply_entries, stands, status_answer, tell, tick_facts, unless_late, unless_over, veto_if, volatile_answer};
 ghost use Rattle.local_half.specs.Half.{MayNote, after, fits_due, is_alone, is_its_own};
 
 use crate::listeners::{add, is_gone, lose, tell};
 use crate::time::{limit_of, reaches, ticked};
-use crate::votes::{is_evident, is_no, is_single, is_volatile, lasting};
+use crate::votes::is_evident;
 use dependent_clones::Clones;
 use dtx_model::Listener;
 use dtx_values::{
@@ -140,9 +140,10 @@ impl LocalHalf {
         self.limit.is_some()
     }
 
-    /// The enlistments, with their rows, in order of number.
-    pub fn rows(&self) -> &[(EnlNo, Row)]
-        ensures { result.now ≡ self.now.seen.table }
+    /// The rows of its enlistments, in order of number. No two have the same number.
+    pub fn rows(&self) -> &[Row]
+        ensures rows { result.now ≡ self.now.seen.table }
+        ensures rise { rises_above 0 self.now.seen.table ≡ true }
     {
         self.table.rows()
     }
@@ -151,7 +152,7 @@ impl LocalHalf {
     pub fn stands(&self, e: EnlNo) -> bool
         ensures { result ≡ stands self.now.seen e.value }
     {
-        self.table.rows().iter().any(|x| x.0 == e)
+        self.table.stands(e)
     }
 
     /// Whether the enlistment is lost.
@@ -271,7 +272,7 @@ impl LocalHalf {
         if self.table.rows().len() >= ENLISTMENTS {
             return Answer::Many(ENLISTMENTS as u8);
         }
-        if lasting(self.table.rows()) >= DURABLES {
+        if self.table.lasting() >= DURABLES {
             return Answer::Many(DURABLES as u8);
         }
         match cause_of(&self.table, single) {
@@ -327,9 +328,9 @@ impl LocalHalf {
     {
         match *c {
             Call::Volatile(_, _, _, _) => self.unless_over(self.volatile_answer()),
-            Call::Durable(_, _, _, support) => self.unless_over(self.durable_answer(is_single(
-                support,
-            ))),
+            Call::Durable(_, _, _, support) => {
+                self.unless_over(self.durable_answer(support.is_single()))
+            }
             Call::Promotable(_, _, _, _, _, _) => self.unless_over(self.promotable_answer()),
             Call::Clone(_, _, _) => self.unless_over(self.clone_answer()),
             Call::Complete(c) => self.unless_over(complete_answer(
@@ -493,12 +494,9 @@ impl LocalHalf {
 
     /// Whether the enlistment voted.
     fn voted(&self, e: EnlNo) -> bool
-        ensures { result ≡ voted self.now.seen.table e.value }
+        ensures { result ≡ voted e.value self.now.seen.table }
     {
-        self.table
-            .rows()
-            .iter()
-            .any(|x| x.0 == e && x.vote.is_some())
+        self.table.has_voted(e)
     }
 
     /// Whether the commit was handed to the enlistment.
@@ -515,7 +513,7 @@ impl LocalHalf {
         self.table
             .rows()
             .iter()
-            .any(|x| x.0 == e && !is_volatile(x.class))
+            .any(|x| x.number == e && x.is_lasting())
     }
 
     /// Whether it is durable or promotable, and an abort is told to it: it wasn't handed the commit, and isn't lost.
@@ -630,39 +628,32 @@ impl LocalHalf {
         }
     }
 
-    /// The enlistment with its row, where it stands.
-    fn enlistment(&self, e: EnlNo) -> Option<(EnlNo, Row)>
-        ensures { result ≡ find (is_of e.value) self.now.seen.table }
-    {
-        self.table.rows().iter().copied().find(|x| x.0 == e)
-    }
-
     /// To what a reply of the enlistment is due; `None` exactly where none is.
     #[tactic(auto, unfolding(dtx_model::specs::Steps::due_of))]
     pub fn due_of(&self, e: EnlNo) -> Option<Note>
         ensures { result ≡ due_of self.now.seen e.value }
     {
-        match self.enlistment(e) {
+        match self.table.state_of(e) {
             Some(x) => self.due_note(&x),
             None => None,
         }
     }
 
     /// To what a reply of the enlistment with this row is due; `None` exactly where none is.
-    pub fn due_note(&self, x: &(EnlNo, Row)) -> Option<Note>
+    pub fn due_note(&self, x: &Row) -> Option<Note>
         ensures { result ≡ due_note self.now.seen x.now }
     {
         if self.decided.is_some() {
             return None;
         }
-        let note = if x.asked.is_some() && x.vote.is_none() {
+        let note = if x.is_marked() && !x.has_voted() {
             Note::Prepare
-        } else if self.is_handed(x.0) {
+        } else if self.is_handed(x.number) {
             Note::Hand
         } else {
             return None;
         };
-        if self.is_gone(x.0) {
+        if self.is_gone(x.number) {
             return None;
         }
         Some(note)
@@ -675,7 +666,7 @@ impl LocalHalf {
     {
         for x in self.table.rows() {
             if let Some(note) = self.due_note(x) {
-                return Some((x.0, note));
+                return Some((x.number, note));
             }
         }
         None
@@ -697,7 +688,7 @@ impl LocalHalf {
         match r {
             Reply::Vote(v) => {
                 self.write(Entry::Voted(e, v), out);
-                self.veto_if(is_no(v), out);
+                self.veto_if(v.is_no(), out);
             }
             Reply::Owner(outcome) => {
                 self.write(Entry::OwnerAnswered(e, outcome), out);

@@ -14,7 +14,7 @@ invariant_of-self c =
     let table = c.self.inside.table in
     let capacity = c.add-in-Ok.ensures.capacity in
     let listeners = ap length c.add-in-Ok.ensures.items ∙ length-insert_by listener_number _ c.self.inside.listeners.items in
-    let rows = ap length c.in-Ok.ensures.added ∙ length-insert_by number_of (c.args.e, fresh_row c.args.class (marks table)) table in
+    let rows = ap length c.in-Ok.ensures.added ∙ length-insert_by number_of (fresh_row c.args.e c.args.class (marks table)) table in
     let same : c.args.self.now.seen.table ≡ table = sym (ap (λ (h : Half). h.seen.table) c.self.view_is) in
     let alone = subst (λ xs. (is_volatile c.args.class || not (has is_lasting xs)) ≡ true) same c.requires.1 in
     (omega (arith, capacity, c.self.invariant.0), omega (arith, listeners, rows, c.self.invariant.1), rw c.in-Ok.ensures.added (lasting-row c.args.e c.args.class table alone c.self.invariant.2))

@@ -1,6 +1,6 @@
 use Rattle.std.proofs.Common.{◌≡◌, true, ap, subst, sym}
 use Rattle.std.proofs.lemmas.List.{length-map}
-use Rattle.volatile_enlist.specs.Refusals.{was_asked}
+use Rattle.dtx_values.specs.Table.{was_asked}
 use Rattle.local_half.specs.Half.{Half}
 use Rattle.local_half.proofs.Lasting.{lasting-mark, lasting-vote}
 use Rattle.local_half.proofs.half.LocalHalf.note.Goals as goal
