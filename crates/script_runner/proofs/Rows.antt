@@ -1,5 +1,5 @@
 -- The numbers of the rows rise, so a row is found by its number.
-use Rattle.std.proofs.Common.{◌≡◌, ◌<◌, ℕ, zero, suc, ◌==◌, true, false, List, [], ◌∷◌, find, Some, slice_get, refl, arith, nat_lt}
+use Rattle.std.proofs.Common.{◌≡◌, ◌<◌, ℕ, zero, suc, ◌==◌, true, false, List, [], ◌∷◌, find, Some, slice_get, refl, subst, arith, nat_lt}
 use Rattle.std.proofs.lemmas.Bool.{and_parts}
 use Rattle.std.proofs.lemmas.Bool.Decides.{nat_tests}
 use Rattle.dtx_values.specs.Row.{is_of, number_of}

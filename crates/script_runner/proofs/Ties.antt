@@ -11,7 +11,7 @@ use Rattle.dtx_values.specs.declared.script.Line.{Line}
 use Rattle.dtx_model.specs.Words.{kth, onto, past_of}
 use Rattle.dtx_model.specs.Observed.{Observed, observe}
 use Rattle.dtx_model.specs.Replay.{Placed, history, noted, placed, after_step}
-use Rattle.dtx_model.specs.Steps.{Step, block, pending}
+use Rattle.dtx_model.specs.Steps.{Step, act_entries, block, pending}
 use Rattle.dtx_model.proofs.Histories.{history-noted, history-other, history-same, observe-onto, onto-append}
 use Rattle.dtx_model.proofs.SameNumbers.{same_transaction}
 use Rattle.local_half.specs.Half.{Half, after}
@@ -106,7 +106,7 @@ tied_none = record { few = omega arith; ties = λ u made. absurd (omega (arith, 
 -- of a transaction that has no half nothing is pending
 pub pending-none : (s : List Line) (hs : List Half) (trace : List Placed) (t : TxNo) (k : ℕ) → AreTied hs trace → length hs < t.value
     → kth (pending s (observe (history t.value (past_of trace)))) k ≡ None
-unfolding observe pending
+unfolding observe pending act_entries
 pending-none s hs trace t k tied more = subst (λ (h : List Entry). kth (pending s (observe h)) k ≡ None) (sym (tied.blank t more)) (none k)
   where
     none : (n : ℕ) → kth (pending s (observe [])) n ≡ None

@@ -1,6 +1,7 @@
 -- A replay under way.
 use Rattle.std.specs.Prelude.{ℕ, ◌-◌, ◌<◌, ◌≤◌, ◌≡◌, List, [], length, Some, slice_get}
 use Rattle.dtx_values.specs.declared.number.TxNo.{TxNo}
+use Rattle.dtx_values.specs.declared.number.TheConstants.TxNo.{MAX}
 use Rattle.dtx_values.specs.declared.script.Line.{Line}
 use Rattle.dtx_model.specs.Words.{kth, past_of}
 use Rattle.dtx_model.specs.Observed.{observe}
@@ -22,7 +23,7 @@ half_of t T = record { transaction = t; seen = observe (history t.value T) }
 
 -- each half, in order of the transactions' numbers, knows what its transaction's history in the trace shows; of one that has no half nothing is shown
 pub record AreTied (halves : List Half) (trace : List Placed) : Type 0 where
-  pub few : length halves ≤ TxNo.MAX
+  pub few : length halves ≤ MAX
   pub ties : (t : TxNo) → t.value ≤ length halves → slice_get halves (t.value - 1) ≡ Some (half_of t (past_of trace))
   pub blank : (t : TxNo) → length halves < t.value → history t.value (past_of trace) ≡ []
 

@@ -1,5 +1,5 @@
 //! What the lines of a script plan for each enlistment, and whose each enlistment and each clone is.
-ghost use Rattle.std.specs.Prelude.{◌≡◌, ◌==◌, ◌-◌, ℕ, IfNone, IfOk, IfSome, OnOk, slice_index_or, if◌then◌else◌};
+ghost use Rattle.std.specs.Prelude.{◌≡◌, ◌<◌, ◌==◌, ◌-◌, ℕ, length, IfNone, IfOk, IfSome, OnOk, slice_index_or, if◌then◌else◌};
 ghost use Rattle.dtx_values.specs.declared.number.CloneNo.{CloneNo};
 ghost use Rattle.dtx_values.specs.declared.number.EnlNo.{EnlNo};
 ghost use Rattle.dtx_model.specs.Steps.{clone_made, planned_owner, planned_vote, transaction_of, transaction_with};
@@ -100,19 +100,40 @@ fn said_by(body: Body) -> Option<(EnlNo, Made)>
     }
 }
 
+/// Makes a table longer where it ends before a place.
+fn reach<T: Copy>(items: &mut Vec<T>, place: usize, blank: T) -> Result<(), AllocError>
+    requires { place < EnlNo.MAX }
+    ensures room { OnOk result (place < length items.new.items) }
+    ensures same { OnOk result ((k : ℕ) → slice_index_or items.new.items k blank ≡ slice_index_or items.old.items k blank) }
+{
+    if items.len() <= place {
+        items.resize(place + 1, blank)?;
+    }
+    Ok(())
+}
+
+/// Puts an item at a place of a table.
+fn put_at<T: Copy>(items: &mut Vec<T>, place: usize, blank: T, item: T) -> Result<(), AllocError>
+    requires { place < EnlNo.MAX }
+    ensures { OnOk result ((k : ℕ) → slice_index_or items.new.items k blank
+        ≡ (if k == place then item else slice_index_or items.old.items k blank)) }
+{
+    reach(items, place, blank)?;
+    items[place] = item;
+    Ok(())
+}
+
 /// Keeps what a command says of the enlistment that it makes.
 fn plan(enlistments: &mut Vec<Made>, body: Body) -> Result<(), AllocError>
     ensures { OnOk result ((e : EnlNo) → slice_index_or enlistments.new.items (e.value - 1) unmade
         ≡ or_made (made_by e.value body) (slice_index_or enlistments.old.items (e.value - 1) unmade)) }
 {
-    if let Some((e, said)) = said_by(body) {
-        let place = e.index();
-        if enlistments.len() <= place {
-            enlistments.resize(place + 1, Made::unmade())?;
-        }
-        enlistments[place] = said.or(enlistments[place]);
-    }
-    Ok(())
+    let Some((e, said)) = said_by(body) else {
+        return Ok(());
+    };
+    let place = e.index();
+    let before = item_at(enlistments, place, Made::unmade());
+    put_at(enlistments, place, Made::unmade(), said.or(before))
 }
 
 /// Keeps whose clone a command makes.
@@ -120,14 +141,10 @@ fn own(clones: &mut Vec<Option<TxNo>>, body: Body) -> Result<(), AllocError>
     ensures { OnOk result ((c : CloneNo) → slice_index_or clones.new.items (c.value - 1) None
         ≡ or_else (clone_made c.value body) (slice_index_or clones.old.items (c.value - 1) None)) }
 {
-    if let Body::Clone(t, c, _) = body {
-        let place = c.index();
-        if clones.len() <= place {
-            clones.resize(place + 1, None)?;
-        }
-        clones[place] = Some(t);
-    }
-    Ok(())
+    let Body::Clone(t, c, _) = body else {
+        return Ok(());
+    };
+    put_at(clones, c.index(), None, Some(t))
 }
 
 impl<'a> Model for Plans<'a> {

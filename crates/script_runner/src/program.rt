@@ -7,15 +7,13 @@ ghost use Rattle.dtx_values.specs.declared.limits.TheConstants.{SCRIPT_BYTES};
 ghost use Rattle.dtx_values.specs.declared.script.BadCause.{BadCause};
 ghost use Rattle.dtx_model.specs.Grammar.{IsNotYet, IsScript, Reads, are_run};
 ghost use Rattle.dtx_model.specs.Log.{log_has};
-ghost use Rattle.coordinator_log.specs.Crash.{AllHold};
-ghost use Rattle.coordinator_log.specs.declared.layout.TheConstants.{LOG_BYTES};
+ghost use Rattle.script_runner.specs.Temp.{AllHold};
 ghost use Rattle.dtx_model.specs.Faults.{Bad};
 ghost use Rattle.script_runner.specs.Program.{AreWords, IsCutShort, IsWritten};
 ghost use Rattle.script_runner.specs.Judged.{IsJudged};
 ghost use Rattle.script_runner.specs.Refusal.{HasNoReplay, IsReplayText};
 
 use crate::exit::Exit;
-
 use crate::replay::run_replay;
 use crate::runnable::first_to_build;
 use crate::transfer::{ReadError, WriteStop, read_all, write_all};
@@ -24,6 +22,9 @@ use outside::{Disk, Sink, Source};
 use script_text::{BadCause, Script, ScriptError, read_script, reads_exactly};
 use std::alloc::{AllocError, Global};
 use trace_text::print_trace;
+
+/// temp
+pub const LOG_BYTES: u64 = 524_800;
 
 /// Whether the words are the one word `replay`.
 fn are_words(words: &[String]) -> bool

@@ -47,14 +47,14 @@ pub struct Run<'a> {
 
 impl<'a> Model for Run<'a> {
     ghost use Rattle.std.specs.Prelude.{◌≡◌, length};
-    ghost use Rattle.dtx_values.specs.declared.number.ActorNo.{ActorNo};
+    ghost use Rattle.dtx_values.specs.declared.number.TheConstants.ActorNo.{MAX};
     ghost use Rattle.script_runner.specs.RunState.{AreTied, RunState};
 
     ghost Value = { RunState };
 
     ghost view = { λ r. record { script = r.plans; contexts = r.contexts.items; trace = r.trace.items } };
 
-    ghost invariant = { λ r. AreTied r.halves.items r.trace.items × (length r.contexts.items ≡ ActorNo.MAX) };
+    ghost invariant = { λ r. AreTied r.halves.items r.trace.items × (length r.contexts.items ≡ MAX) };
 }
 
 /// Makes the halves that aren't there yet, up to the transaction's.

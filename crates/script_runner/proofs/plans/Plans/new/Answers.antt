@@ -5,7 +5,7 @@ use Rattle.script_runner.proofs.PlanTable.{planned-none, planned-snoc}
 use Rattle.script_runner.proofs.plans.Plans.new.Goals as goal
 
 pub loop-line-init : goal.loop-line-init
-loop-line-init c = rw (c.new-enlistments.ensures, c.new-clones.ensures) planned-none
+loop-line-init c = rw (c.new-enlistments.ensures.items, c.new-clones.ensures.items) planned-none
 
 pub loop-line-preserved : goal.loop-line-preserved
 loop-line-preserved c =

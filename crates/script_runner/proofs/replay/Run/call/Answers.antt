@@ -12,7 +12,7 @@ use Rattle.script_runner.proofs.replay.Run.call.Goals as goal
 pub call-requires-clause-ready : goal.call-requires-clause-ready
 call-requires-clause-ready c =
     let h = c.index_mut-half.result.now in
-    let place : c.index-half.result ≡ c.args.t.value - 1 = omega (arith, c.index-half.ensures.place) in
+    let place : c.index.result ≡ c.args.t.value - 1 = omega (arith, c.index.ensures.place) in
     let tied : AreTied c.reach.new.halves.items c.self.inside.trace.items = c.reach.ensures.tied _ c.self.invariant.0 in
     let at = half-at c.reach.new.halves.items c.self.inside.trace.items c.args.t h tied c.in_ok-reach.ensures.reached (rw place at c.index_mut-half.ensures.value) in
     subst (λ (g : Half). IsReady g.seen c.args.c.now) (sym at)
@@ -21,7 +21,7 @@ call-requires-clause-ready c =
 pub invariant_of-self-2 : goal.invariant_of-self-2
 invariant_of-self-2 c =
     let h = c.index_mut-half.result.now in
-    let place : c.index-half.result ≡ c.args.t.value - 1 = omega (arith, c.index-half.ensures.place) in
+    let place : c.index.result ≡ c.args.t.value - 1 = omega (arith, c.index.ensures.place) in
     let tied : AreTied c.reach.new.halves.items c.self.inside.trace.items = c.reach.ensures.tied _ c.self.invariant.0 in
     let step = Calls c.args.n c.args.actor c.args.c.now c.args.done in
     let written : c.append.new.trace.items ≡ c.self.inside.trace.items ++ placed c.args.t (block h.seen step) =
@@ -31,7 +31,7 @@ invariant_of-self-2 c =
 pub returns-clause-done : goal.returns-clause-done
 returns-clause-done c =
     let h = c.index_mut-half.result.now in
-    let place : c.index-half.result ≡ c.args.t.value - 1 = omega (arith, c.index-half.ensures.place) in
+    let place : c.index.result ≡ c.args.t.value - 1 = omega (arith, c.index.ensures.place) in
     let tied : AreTied c.reach.new.halves.items c.self.inside.trace.items = c.reach.ensures.tied _ c.self.invariant.0 in
     let step = Calls c.args.n c.args.actor c.args.c.now c.args.done in
     let written : c.append.new.trace.items ≡ c.self.inside.trace.items ++ placed c.args.t (block h.seen step) =

@@ -10,8 +10,8 @@ use Rattle.script_runner.proofs.replay.Run.step.Goals as goal
 pub invariant_of-self-2 : goal.invariant_of-self-2
 invariant_of-self-2 c =
     let h = c.index_mut-half.result.now in
-    let place : c.index-half.result ≡ c.args.t.value - 1 = omega (arith, c.index-half.ensures.place) in
-    let made : c.args.t.value ≤ length c.self.inside.halves.items = ? in
+    let place : c.index-2.result ≡ c.args.t.value - 1 = omega (arith, c.index-2.ensures.place) in
+    let made : c.args.t.value ≤ length c.self.inside.halves.items = omega (arith, c.index.ensures.place, c.if-len-index.false, c.len.ensures) in
     let did = c.step.ensures.some c.if-not-step.false in
     let written : c.append.new.trace.items ≡ c.self.inside.trace.items ++ placed c.args.t (block h.seen did.step) =
     rw (c.append.ensures, c.entries.ensures.value, did.written, c.clear.ensures, c.reserve.ensures.items) refl in
@@ -20,8 +20,8 @@ invariant_of-self-2 c =
 pub returns-clause-some : goal.returns-clause-some
 returns-clause-some c k =
     let h = c.index_mut-half.result.now in
-    let place : c.index-half.result ≡ c.args.t.value - 1 = omega (arith, c.index-half.ensures.place) in
-    let made : c.args.t.value ≤ length c.self.inside.halves.items = ? in
+    let place : c.index-2.result ≡ c.args.t.value - 1 = omega (arith, c.index-2.ensures.place) in
+    let made : c.args.t.value ≤ length c.self.inside.halves.items = omega (arith, c.index.ensures.place, c.if-len-index.false, c.len.ensures) in
     let did = c.step.ensures.some c.if-not-step.false in
     let here = rw place at c.index_mut-half.ensures.value in
     let written : c.append.new.trace.items ≡ c.self.inside.trace.items ++ placed c.args.t (block h.seen did.step) =
