@@ -2,11 +2,11 @@ use Rattle.std.proofs.Common.{◌≡◌, ◌+◌, ◌++◌, drop, length, take, 
 use Rattle.dtx_model.specs.Scopes.{taken_off}
 use Rattle.dtx_model.specs.Words.{past_of}
 use Rattle.script_runner.proofs.Closing.{closed_notes}
-use Rattle.script_runner.proofs.contexts.note_closed.Given as goal
+use Rattle.script_runner.proofs.contexts.put_closed.Given as goal
 
 abbrev pub invariant-loop-x : goal.invariant-loop-x
 invariant-loop-x l =
-    (l.notes.items ≡ l.initial.notes.items ++ closed_notes (take (length l.yielded) (past_of l.scopes)))
+    (l.entries.items ≡ l.initial.entries.items ++ closed_notes (take (length l.yielded) (past_of l.scopes)))
     × (taken_off l.s.value (past_of l.scopes) ≡ take (length l.yielded) (past_of l.scopes) ++ taken_off l.s.value (drop (length l.yielded) (past_of l.scopes)))
-    × (vec_len l.notes ≡ vec_len l.initial.notes + length l.yielded)
-    × (vec_capacity l.notes ≡ vec_capacity l.initial.notes)
+    × (vec_len l.entries ≡ vec_len l.initial.entries + length l.yielded)
+    × (vec_capacity l.entries ≡ vec_capacity l.initial.entries)

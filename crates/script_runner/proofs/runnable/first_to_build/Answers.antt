@@ -1,12 +1,12 @@
-use Rattle.std.proofs.Common.{Bool, false, refl, arith, sym, ◌∙◌}
+use Rattle.std.proofs.Common.{◌-◌, Bool, false, refl, arith, sym, ◌∙◌}
 use Rattle.std.proofs.lemmas.List.{get_or-replicate}
 use Rattle.dtx_model.specs.Words.{past_of}
 use Rattle.std.proofs.Common.{take}
 use Rattle.script_runner.proofs.RunLines.{not_run_at}
-use Rattle.script_runner.proofs.not_run.first_not_run.Goals as goal
+use Rattle.script_runner.proofs.runnable.first_to_build.Goals as goal
 
 pub loop-i-init : goal.loop-i-init
-loop-i-init c = (refl, λ t. get_or-replicate {A = Bool} 257 t.value false false (omega (arith, t.in_range.1)))
+loop-i-init c = (refl, λ t. get_or-replicate {A = Bool} 256 (t.value - 1) false false (omega (arith, t.in_range.0, t.in_range.1)))
 
 pub returns-then-not-is_run-clause-some : goal.returns-then-not-is_run-clause-some
 returns-then-not-is_run-clause-some c =
