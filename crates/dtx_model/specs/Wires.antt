@@ -103,7 +103,7 @@ abbrev pub transit_after_stop : Dir → List Message → List Message
 transit_after_stop Up ms = []
 transit_after_stop Down ms = ms
 
--- what is on the way on connection c in direction d behind the entry, where this was on the way before it
+-- what is on the way on connection c in direction d after the entry, where this was on the way before it
 abbrev pub transit_after : Conn → Dir → List Entry → Entry → List Message → List Message
 transit_after c d past (Sent e r m) ms =
     if opens c (Sent e r m) then opened_with d m (is_stopped past) else if same_connection c e && same_direction d r then sent_behind (is_open_wire c past) m ms else ms
@@ -118,7 +118,7 @@ abbrev pub in_transit : Conn → Dir → List Entry → List Message
 in_transit c d [] = []
 in_transit c d (x ∷ past) = transit_after c d past x (in_transit c d past)
 
--- this side saw the connection's end since it was opened: by `down`, or by a message that has no line; behind a stop the coordinator sees none any more
+-- this side saw the connection's end since it was opened: by `down`, or by a message that has no line; after a stop the coordinator sees none any more
 abbrev pub ends : Conn → Dir → Entry → Bool
 ends c d (End e r) = same_connection c e && same_direction d r
 ends c d (Got e r m) = same_connection c e && same_direction d r && not (has_line e r m)

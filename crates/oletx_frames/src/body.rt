@@ -5,6 +5,7 @@ ghost use Rattle.dtx_model.specs.Frames.{bad_place, bad_reason, body_length};
 ghost use Rattle.oletx_frames.specs.Shapes.{IsMade, kind_of};
 
 use crate::shape::Shape;
+use crate::valid::is_cause;
 use dtx_values::{BadInfo, Info, Message, parse_info, read_identifier};
 
 impl Shape {
@@ -60,8 +61,6 @@ fn reason(body: &[u8]) -> Result<u8, u8>
     ensures bad { IfErr result (λ p. bad_reason body.now ≡ Some p) }
     ensures small { IfErr result (λ p. p ≤ 32) }
 {
-    match body[0] {
-        cause @ 1..=2 => Ok(cause),
-        _ => Err(0),
-    }
+    let cause = body[0];
+    if is_cause(cause) { Ok(cause) } else { Err(0) }
 }

@@ -19,7 +19,7 @@ pub fn is_valid(m: &Message) -> bool
 }
 
 /// Whether a number is a cause: 1 or 2.
-fn is_cause(n: u8) -> bool
+pub(crate) fn is_cause(n: u8) -> bool
     ensures { result ≡ is_from_one 2 n }
 {
     (1..=2).contains(&n)

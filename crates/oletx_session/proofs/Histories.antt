@@ -167,10 +167,10 @@ sent_wire c d m w h valid shut is =
     let b = (lane d w).bytes ++ frame_of m in
     let lost = lost_kept c h (Sent c d m) (lost_since c h) shut refl in
     elim (cases_Bool w.lost) [
-      | inl gone ↦ (let P : Wire → Type 0 = λ v. IsWire c (Some v) n in
+      | inl is_lost ↦ (let P : Wire → Type 0 = λ v. IsWire c (Some v) n in
           let dropped = λ (e : Dir). sent_here c d e m h shut
-          ∙ ap (λ b. cond (same_direction e d) (sent_behind b m (in_transit c e h)) (in_transit c e h)) (open_said c w h is.0 ∙ ap not gone) ∙ same_both (same_direction e d) (in_transit c e h) in
-          subst P (sym (cond-true w.lost w (with_bytes d b w) gone)) (wire_kept c (Some w) h n lost dropped (λ e. ended_kept c e h (Sent c d m) shut (sent_ends c c e d m)) is))
+          ∙ ap (λ b. cond (same_direction e d) (sent_behind b m (in_transit c e h)) (in_transit c e h)) (open_said c w h is.0 ∙ ap not is_lost) ∙ same_both (same_direction e d) (in_transit c e h) in
+          subst P (sym (cond-true w.lost w (with_bytes d b w) is_lost)) (wire_kept c (Some w) h n lost dropped (λ e. ended_kept c e h (Sent c d m) shut (sent_ends c c e d m)) is))
       | inr open' ↦ (let P : Wire → Type 0 = λ v. IsWire c (Some v) n in
           let ms = in_transit c d h in
           let behind = λ (e : Dir). sent_here c d e m h shut
@@ -193,7 +193,7 @@ sent_wire c d m w h valid shut is =
     same_transit Down Up f q = refl
     same_transit Down Down f q = refl
 
--- behind a message that opens nothing each connection stands as the history says
+-- after a message that opens nothing each connection stands as the history says
 carried_on : (c : Conn) (d : Dir) (m : Message) (w : Wire) (old new : List Wire) (h : List Entry) → is_valid m ≡ true → wire_of c old ≡ Some w → Becomes c (sent_on d m w) old new → Carries old h
     → opens c (Sent c d m) ≡ false → Carries new (Sent c d m ∷ h)
 carried_on c d m w old new h valid at becomes carries shut =
@@ -232,7 +232,7 @@ opened_lane c Down m h valid opening running = record {
   ended = sym (ap (λ b. ended_after b false (is_ended c Down h)) opening);
 }
 
--- behind the message that opens a connection which was just started each connection stands as the history says
+-- after the message that opens a connection which was just started each connection stands as the history says
 pub carried_opened : (c : Conn) (d : Dir) (m : Message) (old new : List Wire) (h : List Entry) → is_valid m ≡ true → IfSome (wire_of c old) (λ w. Becomes c (sent_on d m w) old new) → IsStarted c old h
     → opens c (Sent c d m) ≡ true → is_stopped h ≡ false → Carries new (Sent c d m ∷ h)
 carried_opened c Down m old new h valid becomes started opening running = absurd cc
@@ -296,7 +296,7 @@ got_next c d m w old new h at delivers carries =
     let read = first_read m delivers.rest (in_transit c d h) delivers.valid (subst P delivers.first (is.1 d).queue) in
     next_first m (in_transit c d h) read.behind read.all
 
--- behind it each connection stands as the history says
+-- after it each connection stands as the history says
 pub carried_got : (c : Conn) (d : Dir) (m : Message) (w : Wire) (old new : List Wire) (h : List Entry) → wire_of c old ≡ Some w → Delivers c d m w old new → Carries old h → has_line c d m ≡ true
     → Carries new (Got c d m ∷ h)
 carried_got c d m w old new h at delivers carries line =
@@ -343,7 +343,7 @@ end_may c d w old new h at end carries =
     and_from (is_lost_wire c h && is_empty (in_transit c d h)) (not (is_ended c d h)) (and_from (is_lost_wire c h) (is_empty (in_transit c d h)) (ap holds is.0 ∙ end.lost) (ap is_empty none))
     (ap not (sym (is.1 d).ended ∙ end.unseen))
 
--- behind it each connection stands as the history says
+-- after it each connection stands as the history says
 pub carried_end : (c : Conn) (d : Dir) (w : Wire) (old new : List Wire) (h : List Entry) → wire_of c old ≡ Some w → Ends c d w old new → Carries old h → Carries new (End c d ∷ h)
 carried_end c d w old new h at end carries =
     let O : Option Wire → Type 0 = λ o. IsWire c o h in
@@ -365,7 +365,7 @@ cut_others c x u n e h other = cond-false (same_connection x c) (take (kept e u 
 cut_here : (c : Conn) (u n : ℕ) (e : Dir) (h : List Entry) → in_transit c e (Cut c u n ∷ h) ≡ take (kept e u n) (in_transit c e h)
 cut_here c u n e h = cond-true (same_connection c c) (take (kept e u n) (in_transit c e h)) (in_transit c e h) (same_self c)
 
--- what is lost since it was opened is lost behind a loss
+-- what is lost since it was opened is lost after a loss
 cut_since : (c : Conn) (u n : ℕ) (h : List Entry) (lost : Bool) → lost_since c h ≡ Some lost → lost_since c (Cut c u n ∷ h) ≡ Some true
 cut_since c u n h lost is = ap (lost_after c h (Cut c u n)) is ∙ ap Some (or_right lost (same_connection c c) (same_self c))
 
@@ -387,7 +387,7 @@ cut_lane c Down w u n k h up down is =
       ended = is.ended ∙ sym (ended_kept c Down h (Cut c k.0 k.1) refl refl);
     }
 
--- behind a loss each connection stands as the history says
+-- after a loss each connection stands as the history says
 pub carried_cut : (c : Conn) (w : Wire) (u n : ℕ) (k : ℕ × ℕ) (old new : List Wire) (h : List Entry) → wire_of c old ≡ Some w
     → ((us ds : List Message) → Spells w.up.bytes us → Spells w.down.bytes ds → IsCut c w us ds u n k old new) → Carries old h → Carries new (Cut c k.0 k.1 ∷ h)
 carried_cut c w u n k old new h at loss carries =

@@ -129,7 +129,7 @@ end_seen : (d : Dir) (ps : List Packet) (l : Link) → wire_in ps (ended_in d l)
 end_seen Up ps l = refl
 end_seen Down ps l = refl
 
--- the end of a lost connection is seen behind the last packet
+-- the end of a lost connection is seen after the last packet
 pub ended : (c : Conn) (d : Dir) (ps : List Packet) (ls ks : List Link) (l : Link) (ws : List Wire) → wires_in ps ls ≡ ws → link_of c ls ≡ Some l → on_way c d ps ≡ [] → is_ending d l ≡ true
     → Changes c (ended_in d l) ls ks → IfSome (wire_of c ws) (λ w. Ends c d w ws (wires_in ps ks))
 ended c d ps ls ks l ws seen found none ending changes =
