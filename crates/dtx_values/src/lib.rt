@@ -8,6 +8,7 @@ mod limits;
 mod message;
 mod note;
 mod number;
+mod order;
 mod outbox;
 mod record;
 mod resource;
@@ -23,6 +24,7 @@ pub use limits::{CLONES, DURABLES, ENLISTMENTS, LINE_BYTES, ROOM, SCOPES, SCRIPT
 pub use message::{Conn, Dir, Info, Message};
 pub use note::{Note, Plan, Reply};
 pub use number::{ActorNo, CloneNo, EnlNo, RmNo, ScopeNo, TxNo};
+pub use order::{Numbered, insert_in_order};
 pub use outbox::Outbox;
 pub use record::{Differs, LogRecord};
 pub use resource::Resource;
