@@ -1,10 +1,11 @@
 -- The slots in memory, those on the disk and the records that they stand for.
 use Rattle.std.specs.Prelude.{is_ok, IsSome}
 use Rattle.std.specs.List.{insert}
-use Rattle.std.proofs.Common.{◌≡◌, ◌⊎◌, inl, inr, ℕ, zero, suc, ◌+◌, ◌<◌, true, List, [], ◌∷◌, length, get_or, take, set, map, Result, Ok, Err, Option, Some, None, refl, sym, ap, ◌∙◌, arith}
+use Rattle.std.proofs.Common.{◌≡◌, ◌⊎◌, inl, inr, ℕ, zero, suc, ◌+◌, ◌<◌, Bool, true, false, cond, List, [], ◌∷◌, length, get_or, take, set, map, Result, Ok, Err, Option, Some, None, refl, sym, ap, ◌∙◌, arith}
 use Rattle.std.proofs.lemmas.List.{map-set}
 use Rattle.outside.specs.Disk.{IsOnly}
 use Rattle.dtx_model.specs.Log.{CommitRecord, Slot, ◌>>=◌, records_at, log_has, head, slots_of}
+use Rattle.coordinator_log.specs.Crash.{AllHold, with_record}
 use Rattle.coordinator_log.specs.Slots.{HasSlots, IsEither, IsOpen, Agrees, formed, open_records, lowest_closed}
 use Rattle.coordinator_log.proofs.OpenRecords.{Held}
 use Rattle.coordinator_log.proofs.Heads.{same_self}
@@ -38,6 +39,10 @@ formed_at (s ∷ ss) (suc k) lt = formed_at ss k (omega arith)
 some_is : (x : Option CommitRecord) → IsSome x → (r : CommitRecord) × (x ≡ Some r)
 some_is None some = absurd cc
 some_is (Some r) some = (r, refl)
+
+-- each image of a disk that agrees with the slots is a log with their records
+pub log_agrees : (b : List ℕ) (image : List ℕ → Type 0) (ss : Held) → Agrees b image ss → (c : List ℕ) → image c → log_has c ≡ Ok (open_records ss)
+log_agrees b image ss agrees c left = ap log_has (agrees.durable c left) ∙ log_is b ss agrees.at_head agrees.on_disk
 
 module _ (b : List ℕ) (image : List ℕ → Type 0) (ss : Held) (agrees : Agrees b image ss) (k : ℕ) (lt : k < length ss) where
   -- slot k on the disk is slot k in memory
@@ -73,9 +78,20 @@ module _ (b : List ℕ) (image : List ℕ → Type 0) (ss : Held) (agrees : Agre
     durable = only;
   }
 
--- each image of a disk that agrees with the slots is a log with their records
-pub log_agrees : (b : List ℕ) (image : List ℕ → Type 0) (ss : Held) → Agrees b image ss → (c : List ℕ) → image c → log_has c ≡ Ok (open_records ss)
-log_agrees b image ss agrees c left = ap log_has (agrees.durable c left) ∙ log_is b ss agrees.at_head agrees.on_disk
+  -- each image has the records with this one, once it was appended
+  pub all_appended : (r : CommitRecord) (c : List ℕ) (left : List ℕ → Type 0) → lowest_closed ss ≡ k → HasSlots b (set (slots_of b) k (Ok (Some r))) c → IsOnly c left → AllHold left (with_record r ss)
+  all_appended r c left low has only d on =
+      log_agrees c left (set ss k (Some r)) (agrees_with (Some r) c left has only) d on ∙ ap (λ (l : List CommitRecord). Ok l) (insert_lowest ss k r low lt ∙ ap (λ (j : ℕ). insert (open_records ss) j r) (sym low))
+
+  -- each image has the records without this one, once it was freed
+  pub all_freed : (rs : List CommitRecord) (c : List ℕ) (left : List ℕ → Type 0) → open_records (set ss k None) ≡ rs → HasSlots b (set (slots_of b) k (Ok None)) c → IsOnly c left → AllHold left rs
+  all_freed rs c left is has only d on = log_agrees c left (set ss k None) (agrees_with None c left has only) d on ∙ ap (λ (l : List CommitRecord). Ok l) is
+
+  -- the records by a test, where the slots are by it
+  pub log_by_test : (x : Option CommitRecord) (test : Bool) (rs : List CommitRecord) (c : List ℕ) → open_records (set ss k x) ≡ rs → HasSlots b (cond test (set (slots_of b) k (formed x)) (slots_of b)) c
+      → log_has c ≡ Ok (cond test rs (open_records ss))
+  log_by_test x true rs c is has = log_with x c has ∙ ap (λ (l : List CommitRecord). Ok l) is
+  log_by_test x false rs c is has = log_same c has
 
 -- a log as before or after is a log
 pub either_whole : (x : Result (List CommitRecord) ℕ) (a b : List CommitRecord) → (x ≡ Ok a) ⊎ (x ≡ Ok b) → is_ok x ≡ true

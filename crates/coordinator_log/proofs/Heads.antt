@@ -3,7 +3,7 @@ use Rattle.std.specs.Prelude.{replicate}
 use Rattle.std.proofs.Common.{◌≡◌, ℕ, ◌+◌, ◌≤◌, ◌<◌, Bool, true, false, cond, eqb, List, [], ◌∷◌, ◌++◌, length, get_or, take, drop, Result, Ok, Err, refl, sym, ap, ◌∙◌, inl, inr, arith}
 use Rattle.std.proofs.lemmas.Bool.{cases_eq}
 use Rattle.std.proofs.lemmas.Bool.Decides.{nat_tests}
-use Rattle.std.proofs.lemmas.List.{drop_more, drop_all}
+use Rattle.std.proofs.lemmas.List.{drop_more, drop_all, drop-replicate, take-append-drop}
 use Rattle.dtx_model.specs.Log.{same_at, log_has, head}
 
 -- the first place that differs ends the comparison
@@ -59,14 +59,9 @@ pub bad_head : (b : List ℕ) (p : ℕ) → same_at 0 head (take 512 b) ≡ Err 
 unfolding log_has
 bad_head b p e = rw e refl
 
--- the eight letters and 504 zeros are the head
-pub head_made : (letters blanks all : List ℕ) → letters ≡ 68 ∷ 84 ∷ 88 ∷ 76 ∷ 79 ∷ 71 ∷ 49 ∷ 10 ∷ [] → blanks ≡ replicate (length blanks) 0 → length blanks ≡ 504 → all ≡ letters ++ blanks → all ≡ head
+-- the eight letters over zeros are the head
+pub head_made : (all : List ℕ) → take 8 all ≡ 68 ∷ 84 ∷ 88 ∷ 76 ∷ 79 ∷ 71 ∷ 49 ∷ 10 ∷ [] → drop 8 all ≡ drop 8 (replicate 512 0) → all ≡ head
 unfolding head
-head_made letters blanks all first zeros many e =
-    e ∙ ap (λ (l : List ℕ). l ++ blanks) first ∙ ap (λ (l : List ℕ). 68 ∷ 84 ∷ 88 ∷ 76 ∷ 79 ∷ 71 ∷ 49 ∷ 10 ∷ l) (zeros ∙ ap (λ (n : ℕ). replicate n 0) many)
-
--- and they are 512
-pub head_long : (letters blanks all : List ℕ) → letters ≡ 68 ∷ 84 ∷ 88 ∷ 76 ∷ 79 ∷ 71 ∷ 49 ∷ 10 ∷ [] → length blanks ≡ 504 → all ≡ letters ++ blanks → length all ≡ 512
-head_long letters blanks all first many e =
-    let whole : all ≡ 68 ∷ 84 ∷ 88 ∷ 76 ∷ 79 ∷ 71 ∷ 49 ∷ 10 ∷ blanks = e ∙ ap (λ (l : List ℕ). l ++ blanks) first in
-    ap length whole ∙ omega arith
+head_made all first rest =
+    sym (take-append-drop 8 all) ∙ ap (λ (l : List ℕ). l ++ drop 8 all) first
+    ∙ ap (λ (l : List ℕ). 68 ∷ 84 ∷ 88 ∷ 76 ∷ 79 ∷ 71 ∷ 49 ∷ 10 ∷ l) (rest ∙ drop-replicate 8 512 0)

@@ -6,3 +6,5 @@ mod Agreement
 mod Blanks
 mod Loops
 mod Again
+mod Stops
+mod Results

@@ -1,12 +1,16 @@
 -- What a write into one slot leaves.
-use Rattle.std.proofs.Common.{◌≡◌, ◌⊎◌, inl, inr, ℕ, zero, suc, ◌-◌, ◌+◌, ◌*◌, ◌≤◌, ◌<◌, false, eqb, List, [], ◌∷◌, ◌++◌, length, get_or, take, drop, set, Result, Ok, Err, Some, None, refl, sym, ap, subst, ◌∙◌, append_assoc, arith}
+use Rattle.std.proofs.Common.{◌≡◌, ◌⊎◌, inl, inr, ℕ, zero, suc, ◌-◌, ◌+◌, ◌*◌, ◌≤◌, ◌<◌, Bool, true, false, cond, nat_le, eqb, List, [], ◌∷◌, ◌++◌, length, get_or, take, drop, set, Result, Ok, Err, Some, None, refl, sym, ap, subst, ◌∙◌, append_assoc, arith}
 use Rattle.std.proofs.lemmas.Bool.{cases_eq}
 use Rattle.std.proofs.lemmas.Bool.Decides.{nat_tests}
 use Rattle.std.proofs.lemmas.List.{take-take, drop-drop, drop-take, get_or-take, get_or-drop, get_or-set_same, set-get_or, get_or_at, take_at, drop_at, length-take}
+use Rattle.dtx_values.specs.declared.Image.{Image}
+use Rattle.dtx_values.specs.declared.Image.TheVariants.{Lose, Keep, Torn}
 use Rattle.outside.specs.Disk.{overwritten, IsTorn, Follows, IsOnly}
+use Rattle.outside.proofs.Writing.{IsTorn-overwritten}
 use Rattle.coordinator_log.specs.Spelling.{record_bytes}
 use Rattle.dtx_model.specs.Log.{CommitRecord, Slot, ◌>>=◌, record_at, slot_at, slots_at, slots_of}
 use Rattle.coordinator_log.specs.Slots.{HasSlots, IsEither, IsClosed, IsOpen}
+use Rattle.coordinator_log.specs.Stop.{at_write, done_before}
 
 -- lists that begin alike begin alike for less
 take_less : (m n : ℕ) (c b : List ℕ) → m ≤ n → take n c ≡ take n b → take m c ≡ take m b
@@ -141,42 +145,86 @@ body_stage k at n b old new lt a m closed only follows c left =
     let torn = from_only at n b old new only follows c left in
     (body_torn k b c lt closed (subst (λ (j : ℕ). IsTorn j 511 b c) a (subst (λ (j : ℕ). IsTorn at j b c) m torn))).0
 
--- the bytes that were written stand at their place
+-- bytes that were written are at their place
 overwritten_holds : (b bytes : List ℕ) (at : ℕ) → at ≤ length b → length bytes ≡ 511 → take 511 (drop at (overwritten b at bytes)) ≡ bytes
 overwritten_holds b bytes at room long =
     let rest = drop (at + length bytes) b in
     ap (λ (x : List ℕ). take 511 (drop at x)) (append_assoc (take at b) bytes rest) ∙ ap (take 511) (drop_at (take at b) (bytes ++ rest) at (omega (arith, length-take at b))) ∙ take_at bytes rest 511 long
 
+-- nothing was changed
+pub same_bytes : (b c : List ℕ) → c ≡ b → HasSlots b (slots_of b) c
+same_bytes b c e = record { same_head = ap (take 512) e; slots = ap slots_of e }
+
 -- two steps
 then_same : (b b1 c : List ℕ) (s : List Slot) → HasSlots b (slots_of b) b1 → HasSlots b1 s c → HasSlots b s c
 then_same b b1 c s x y = record { same_head = y.same_head ∙ x.same_head; slots = y.slots }
 
-module _ (k : ℕ) (lt : k < 1024) (b b1 bytes : List ℕ) (r : CommitRecord) (closed : IsClosed k b) (same : HasSlots b (slots_of b) b1)
-    (is : b1 ≡ overwritten b (513 + 512 * k) bytes) (room : 524800 ≤ length b) (spelled : bytes ≡ record_bytes r) (long : length bytes ≡ 511) (again : record_at (record_bytes r) ≡ Ok r) where
-  -- the record stands behind the gate
-  behind : record_at (take 511 (drop (513 + 512 * k) b1)) ≡ Ok r
-  behind = ap record_at (ap (λ (x : List ℕ). take 511 (drop (513 + 512 * k) x)) is ∙ overwritten_holds b bytes (513 + 512 * k) (omega arith) long ∙ spelled) ∙ again
+-- what has these slots has them along an equation
+pub along : (b c d : List ℕ) (s : List Slot) → d ≡ c → HasSlots b s c → HasSlots b s d
+along b c d s e has = record { same_head = ap (take 512) e ∙ has.same_head; slots = ap slots_of e ∙ has.slots }
 
+-- the slots by a test whose outcome is known
+pub by_test : (x y : Bool) (b c : List ℕ) (new old : List Slot) → x ≡ y → HasSlots b (cond y new old) c → HasSlots b (cond x new old) c
+by_test x y b c new old e has = subst (λ (t : Bool). HasSlots b (cond t new old) c) (sym e) has
+
+-- where no fault came, one fact gives the next
+pub unless_fault : {A B C : Type 0} → (B → C) → A ⊎ B → A ⊎ C
+unless_fault f (inl a) = inl a
+unless_fault f (inr b) = inr (f b)
+
+-- a record was written behind the closed gate of slot k, and nothing else changed
+pub record IsBehind (k : ℕ) (r : CommitRecord) (b b1 : List ℕ) : Type 0 where
+  pub same : HasSlots b (slots_of b) b1
+  pub holds : record_at (take 511 (drop (513 + 512 * k) b1)) ≡ Ok r
+
+-- once a record's bytes are written behind a closed gate, the record is there
+pub written_behind : (k at : ℕ) (b b1 bytes : List ℕ) (r : CommitRecord) → k < 1024 → at ≡ 513 + 512 * k → IsClosed k b → 524800 ≤ length b → b1 ≡ overwritten b at bytes
+    → bytes ≡ record_bytes r → length bytes ≡ 511 → record_at (record_bytes r) ≡ Ok r → IsBehind k r b b1
+written_behind k at b b1 bytes r lt a closed room is spelled long again =
+    let is_at : b1 ≡ overwritten b (513 + 512 * k) bytes = is ∙ ap (λ (j : ℕ). overwritten b j bytes) a in
+    record {
+      same = (body_torn k b b1 lt closed (IsTorn-overwritten b (513 + 512 * k) 511 bytes b1 is_at long (omega arith))).0;
+      holds = ap record_at (ap (λ (x : List ℕ). take 511 (drop (513 + 512 * k) x)) is_at ∙ overwritten_holds b bytes (513 + 512 * k) (omega arith) long ∙ spelled) ∙ again;
+    }
+
+-- a record's bytes that are written behind a gate change no more than these
+torn_at : (k at : ℕ) (b c bytes : List ℕ) → k < 1024 → at ≡ 513 + 512 * k → 524800 ≤ length b → length bytes ≡ 511 → c ≡ overwritten b at bytes → IsTorn (513 + 512 * k) 511 b c
+torn_at k at b c bytes lt a room long is = IsTorn-overwritten b (513 + 512 * k) 511 bytes c (is ∙ ap (λ (j : ℕ). overwritten b j bytes) a) long (omega arith)
+
+-- with each image, a stop at the write of a record leaves the slots as they were
+pub body_stopped : (i : Image) (k at : ℕ) (b c bytes : List ℕ) → k < 1024 → at ≡ 513 + 512 * k → IsClosed k b → 524800 ≤ length b → length bytes ≡ 511 → c ≡ at_write i b at bytes → HasSlots b (slots_of b) c
+body_stopped Lose k at b c bytes lt a closed room long is = same_bytes b c is
+body_stopped Keep k at b c bytes lt a closed room long is = (body_torn k b c lt closed (torn_at k at b c bytes lt a room long is)).0
+body_stopped Torn k at b c bytes lt a closed room long is = (body_torn k b c lt closed (torn_at k at b c bytes lt a room long is)).0
+
+-- at a stop at the write of a gate, the slots are the new ones exactly where the write is done
+pub gate_stopped : (i : Image) (n : ℕ) (b b1 c : List ℕ) (at : ℕ) (gate : List ℕ) (old new : List Slot) → c ≡ at_write i b1 at gate → HasSlots b old b1
+    → HasSlots b new (overwritten b1 at gate) → HasSlots b (cond (nat_le (n + 1) (done_before i n)) new old) c
+gate_stopped Lose n b b1 c at gate old new is x y = let later : nat_le (n + 1) n ≡ false = grind (arith, nat_tests) in rw later (along b b1 c old is x)
+gate_stopped Keep n b b1 c at gate old new is x y = let now : nat_le (n + 1) (n + 1) ≡ true = grind (arith, nat_tests) in rw now (along b (overwritten b1 at gate) c new is y)
+gate_stopped Torn n b b1 c at gate old new is x y = let now : nat_le (n + 1) (n + 1) ≡ true = grind (arith, nat_tests) in rw now (along b (overwritten b1 at gate) c new is y)
+
+module _ (k : ℕ) (lt : k < 1024) (b b1 : List ℕ) (r : CommitRecord) (closed : IsClosed k b) (behind : IsBehind k r b b1) where
   -- while the gate is written the slot is as before, or holds the record
   pub gate_stage : (at : ℕ) (old new : List ℕ → Type 0) → at ≡ 512 + 512 * k → IsOnly b1 old → Follows (IsTorn at 1) old new → (c : List ℕ) → new c → IsEither b k (Ok (Some r)) c
   gate_stage at old new a only follows c left =
       let torn = subst (λ (j : ℕ). IsTorn j 1 b1 c) a (from_only at 1 b1 old new only follows c left) in
-      elim (gate_torn k b1 c r lt behind torn) [
-        | inl no_gate ↦ inl (then_same b b1 c (slots_of b) same (record { same_head = no_gate.same_head; slots = no_gate.slots ∙ ap (λ (x : List Slot). set x k (Ok None)) same.slots ∙ set_same k b (Ok None) closed }))
-        | inr gate ↦ inr (then_same b b1 c (set (slots_of b) k (Ok (Some r))) same (record { same_head = gate.same_head; slots = gate.slots ∙ ap (λ (x : List Slot). set x k (Ok (Some r))) same.slots }))
+      elim (gate_torn k b1 c r lt behind.holds torn) [
+        | inl no_gate ↦ inl (then_same b b1 c (slots_of b) behind.same (record { same_head = no_gate.same_head; slots = no_gate.slots ∙ ap (λ (x : List Slot). set x k (Ok None)) behind.same.slots ∙ set_same k b (Ok None) closed }))
+        | inr gate ↦ inr (then_same b b1 c (set (slots_of b) k (Ok (Some r))) behind.same (record { same_head = gate.same_head; slots = gate.slots ∙ ap (λ (x : List Slot). set x k (Ok (Some r))) behind.same.slots }))
       ]
 
   -- once the gate is written the slot holds the record
-  pub done_stage : (at : ℕ) (old new : List ℕ → Type 0) (c : List ℕ) → at ≡ 512 + 512 * k → IsOnly b1 old → Follows (IsTorn at 1) old new → new c → c ≡ overwritten b1 at (1 ∷ []) → at ≤ length b1 → HasSlots b (set (slots_of b) k (Ok (Some r))) c
-  done_stage at old new c a only follows left written_is room1 =
-      let torn = subst (λ (j : ℕ). IsTorn j 1 b1 c) a (from_only at 1 b1 old new only follows c left) in
+  pub done_stage : (at : ℕ) (c : List ℕ) → at ≡ 512 + 512 * k → c ≡ overwritten b1 at (1 ∷ []) → at + 1 ≤ length b1 → HasSlots b (set (slots_of b) k (Ok (Some r))) c
+  done_stage at c a written_is room =
+      let torn = subst (λ (j : ℕ). IsTorn j 1 b1 c) a (IsTorn-overwritten b1 at 1 (1 ∷ []) c written_is refl room) in
       let here : length (take at b1) ≡ at = omega (arith, length-take at b1) in
       let one : get_or (slot k c) 0 0 ≡ 1 = gate_of k c ∙ ap (λ (j : ℕ). get_or c j 0) (sym a) ∙ ap (λ (x : List ℕ). get_or x at 0) (written_is ∙ append_assoc (take at b1) (1 ∷ []) (drop (at + 1) b1)) ∙ get_or_at (take at b1) 1 (drop (at + 1) b1) 0 at here in
       let has = only_slot k b1 c lt torn.before (drop_less (512 + 512 * k + 1) (1024 + 512 * k) c b1 (omega arith) torn.after) in
       let after : drop (513 + 512 * k) c ≡ drop (513 + 512 * k) b1 = drop_less (512 + 512 * k + 1) (513 + 512 * k) c b1 (omega arith) torn.after in
-      let rest : record_at (drop 1 (slot k c)) ≡ Ok r = ap record_at (rest_of k c ∙ ap (take 511) after) ∙ behind in
+      let rest : record_at (drop 1 (slot k c)) ≡ Ok r = ap record_at (rest_of k c ∙ ap (take 511) after) ∙ behind.holds in
       let found : slot_at (slot k c) ≡ Ok (Some r) = open_slot (slot k c) one ∙ ap (λ (x : Result CommitRecord ℕ). x >>= λ r. Ok (Some r)) rest in
-      then_same b b1 c (set (slots_of b) k (Ok (Some r))) same (record { same_head = has.same_head; slots = has.slots ∙ ap (set (slots_of b1) k) found ∙ ap (λ (x : List Slot). set x k (Ok (Some r))) same.slots })
+      then_same b b1 c (set (slots_of b) k (Ok (Some r))) behind.same (record { same_head = has.same_head; slots = has.slots ∙ ap (set (slots_of b1) k) found ∙ ap (λ (x : List Slot). set x k (Ok (Some r))) behind.same.slots })
 
 -- ---- and off it
 
@@ -199,9 +247,9 @@ clear_stage k at b old new lt a open_at only follows c left =
     ]
 
 -- once the gate is closed the slot holds none
-pub cleared_stage : (k at : ℕ) (b : List ℕ) (old new : List ℕ → Type 0) (c : List ℕ) → k < 1024 → at ≡ 512 + 512 * k → IsOnly b old → Follows (IsTorn at 1) old new → new c → c ≡ overwritten b at (0 ∷ []) → at ≤ length b → HasSlots b (set (slots_of b) k (Ok None)) c
-cleared_stage k at b old new c lt a only follows left written_is room =
-    let torn = subst (λ (j : ℕ). IsTorn j 1 b c) a (from_only at 1 b old new only follows c left) in
+pub cleared_stage : (k at : ℕ) (b c : List ℕ) → k < 1024 → at ≡ 512 + 512 * k → c ≡ overwritten b at (0 ∷ []) → at + 1 ≤ length b → HasSlots b (set (slots_of b) k (Ok None)) c
+cleared_stage k at b c lt a written_is room =
+    let torn = subst (λ (j : ℕ). IsTorn j 1 b c) a (IsTorn-overwritten b at 1 (0 ∷ []) c written_is refl room) in
     let here : length (take at b) ≡ at = omega (arith, length-take at b) in
     let zero_gate : get_or (slot k c) 0 0 ≡ 0 = gate_of k c ∙ ap (λ (j : ℕ). get_or c j 0) (sym a) ∙ ap (λ (x : List ℕ). get_or x at 0) (written_is ∙ append_assoc (take at b) (0 ∷ []) (drop (at + 1) b)) ∙ get_or_at (take at b) 0 (drop (at + 1) b) 0 at here in
     let has = only_slot k b c lt torn.before (drop_less (512 + 512 * k + 1) (1024 + 512 * k) c b (omega arith) torn.after) in

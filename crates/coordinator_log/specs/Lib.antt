@@ -1,2 +1,5 @@
 pub mod Spelling
 pub mod Slots
+pub mod Stop
+pub mod State
+pub mod Crash

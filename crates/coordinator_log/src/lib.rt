@@ -8,16 +8,18 @@
 mod device;
 mod empty;
 mod law;
+mod layout;
 mod log;
 mod opening;
 mod reading;
 mod refusal;
-mod scratch;
 mod slots;
 mod stop;
 #[cfg(test)]
 mod tests;
 mod writing;
 
+pub use law::no_crash_tears_the_log;
+pub use layout::LOG_BYTES;
 pub use log::Log;
 pub use refusal::LogRefusal;

@@ -7,9 +7,10 @@ ghost use Rattle.dtx_model.specs.Log.{head, log_has, record_of, same_at, slot_at
 ghost use Rattle.coordinator_log.specs.Slots.{formed};
 ghost use Rattle.coordinator_log.specs.Spelling.{IsReadAs};
 
+use crate::empty::written_head;
+use crate::layout::{HEAD_BYTES, LOG_BYTES, OPEN, SLOT_BYTES, SLOTS, slot_at};
 use crate::reading::read_record;
 use crate::refusal::LogRefusal;
-use crate::scratch::Scratch;
 use crate::slots::Slots;
 use dtx_values::LogRecord;
 use outside::Disk;
@@ -17,11 +18,11 @@ use outside::Disk;
 // The record of a slot, or none where its gate is closed; or the first place in it of another form.
 #[tactic(auto, unfolding(dtx_model::specs::Log::slot_at))]
 fn read_slot(b: &[u8]) -> Result<Option<LogRecord>, usize>
-    requires { length b.now ≡ 512 }
+    requires { length b.now ≡ SLOT_BYTES }
     ensures slot { IsReadAs (option_map record_of) result (slot_at b.now) }
-    ensures place { IfErr result (λ p. p < 512) }
+    ensures place { IfErr result (λ p. p < SLOT_BYTES) }
 {
-    if b[0] != 1 {
+    if b[0] != OPEN {
         return Ok(None);
     }
     let (_, body) = b.split_at(1);
@@ -45,65 +46,39 @@ fn same(want: &[u8], b: &[u8]) -> Result<usize, usize>
     Ok(b.len())
 }
 
-// Reads the head and each slot by way of a block.
-fn read_by<D: Disk>(
-    disk: &mut D,
-    slots: &mut Slots,
-    wanted: &[u8],
-    block: &mut [u8],
-) -> Result<(), LogRefusal>
-    requires size { 524800 ≤ D.size disk.old }
-    requires block { length block.old ≡ 512 }
-    requires head { wanted.now ≡ head }
-    requires long { length wanted.now ≡ 512 }
+/// Reads the head and each slot of a log.
+///
+/// # Errors
+///
+/// - [`LogRefusal::Fault`], only where the disk's count of faults rose.
+/// - [`LogRefusal::NotALog`] with the first place of another form.
+pub fn read_all<D: Disk>(disk: &mut D, slots: &mut Slots) -> Result<(), LogRefusal>
+    requires { LOG_BYTES ≤ D.size disk.old }
     ensures seen { IsTrue D.honest → D.seen disk.new ≡ D.seen disk.old }
     ensures images { IsTrue D.honest → AreWithin (D.image disk.old) (D.image disk.new) }
-    ensures at_head { IsTrue D.honest → OnOk result (take 512 (D.seen disk.old) ≡ head) }
+    ensures at_head { IsTrue D.honest → OnOk result (take HEAD_BYTES (D.seen disk.old) ≡ head) }
     ensures slots { IsTrue D.honest → OnOk result (slots_of (D.seen disk.old) ≡ map formed slots.new) }
     ensures bad { IsTrue D.honest → (p : ℕ) → IsErrOf result (LogRefusal.NotALog p) → log_has (D.seen disk.old) ≡ Err p }
     ensures fault { IsErrOf result LogRefusal.Fault → Rose (D.faults disk.old) (D.faults disk.new) }
     ensures only { IfErr result (λ e. (e ≡ LogRefusal.Fault) ⊎ ((p : ℕ) × (e ≡ LogRefusal.NotALog p))) }
     ensures size { D.size disk.new ≡ D.size disk.old }
+    ensures smooth { OnOk result (D.faults disk.new ≡ D.faults disk.old) }
     ensures grows { D.faults disk.old ≤ D.faults disk.new }
 {
-    match disk.read(0, block) {
-        Ok(()) => (),
-        Err(_) => return Err(LogRefusal::Fault),
-    }
-    match same(wanted, block) {
+    let mut block = [0; SLOT_BYTES];
+    let wanted = written_head();
+    disk.read(0, &mut block)?;
+    match same(&wanted, &block) {
         Ok(_) => (),
         Err(p) => return Err(LogRefusal::NotALog(p as u64)),
     }
-    for k in 0..1024usize {
-        let at = 512 + 512 * k as u64;
-        match disk.read(at, block) {
-            Ok(()) => (),
-            Err(_) => return Err(LogRefusal::Fault),
-        }
-        match read_slot(block) {
+    for k in 0..SLOTS {
+        let at = slot_at(k);
+        disk.read(at, &mut block)?;
+        match read_slot(&block) {
             Ok(s) => slots.set(k, s),
             Err(p) => return Err(LogRefusal::NotALog(at + p as u64)),
         }
     }
     Ok(())
-}
-
-/// Reads the head and each slot of a log.
-pub fn read_all<D: Disk>(
-    disk: &mut D,
-    slots: &mut Slots,
-    scratch: &mut Scratch,
-) -> Result<(), LogRefusal>
-    requires { 524800 ≤ D.size disk.old }
-    ensures seen { IsTrue D.honest → D.seen disk.new ≡ D.seen disk.old }
-    ensures images { IsTrue D.honest → AreWithin (D.image disk.old) (D.image disk.new) }
-    ensures at_head { IsTrue D.honest → OnOk result (take 512 (D.seen disk.old) ≡ head) }
-    ensures slots { IsTrue D.honest → OnOk result (slots_of (D.seen disk.old) ≡ map formed slots.new) }
-    ensures bad { IsTrue D.honest → (p : ℕ) → IsErrOf result (LogRefusal.NotALog p) → log_has (D.seen disk.old) ≡ Err p }
-    ensures fault { IsErrOf result LogRefusal.Fault → Rose (D.faults disk.old) (D.faults disk.new) }
-    ensures only { IfErr result (λ e. (e ≡ LogRefusal.Fault) ⊎ ((p : ℕ) × (e ≡ LogRefusal.NotALog p))) }
-    ensures size { D.size disk.new ≡ D.size disk.old }
-    ensures grows { D.faults disk.old ≤ D.faults disk.new }
-{
-    read_by(disk, slots, &scratch.wanted, &mut scratch.block)
 }

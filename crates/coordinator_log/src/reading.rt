@@ -4,6 +4,7 @@ ghost use Rattle.dtx_model.specs.Log.{count_at, half_at, number_at, pair_at, pai
 ghost use Rattle.dtx_model.specs.RecoveryInfo.{is_from_one};
 ghost use Rattle.coordinator_log.specs.Spelling.{IsReadAs};
 
+use crate::layout::{FIRST_PAIR, FORMAT, PAIR_BYTES, PAIRS, RECORD_BYTES, SLOT_BYTES};
 use dtx_values::{EnlNo, LogRecord, RmNo};
 
 #[cfg(test)]
@@ -12,15 +13,15 @@ mod tests;
 /// The record whose bytes stand behind an open gate, or the first place in the slot, from 1, of another form.
 #[tactic(auto, unfolding(dtx_model::specs::Log::record_at))]
 pub fn read_record(b: &[u8]) -> Result<LogRecord, usize>
-    requires { length b.now ≡ 511 }
+    requires { length b.now ≡ RECORD_BYTES }
     ensures record { IsReadAs record_of result (record_at b.now) }
-    ensures place { IfErr result (λ p. p < 512) }
+    ensures place { IfErr result (λ p. p < SLOT_BYTES) }
 {
-    if b[0] != 1 {
+    if b[0] != FORMAT {
         return Err(1);
     }
     let n = usize::from(count(b, 1));
-    if n > 16 {
+    if n > PAIRS {
         return Err(2);
     }
     if half(b, 3) == 0 {
@@ -29,27 +30,27 @@ pub fn read_record(b: &[u8]) -> Result<LogRecord, usize>
     if half(b, 11) == 0 {
         return Err(12);
     }
-    let (_, pairs) = b.split_at(19);
+    let (_, pairs) = b.split_at(FIRST_PAIR);
     let (r, rest) = read_pairs(whole(b, 3), n, pairs)?;
-    zeros(rest, 20 + 20 * n)?;
+    zeros(rest, 1 + FIRST_PAIR + PAIR_BYTES * n)?;
     Ok(r)
 }
 
 /// A record of this identifier and the enlistments that stand first in the bytes, and the bytes behind them.
 fn read_pairs(id: u128, n: usize, b: &[u8]) -> Result<(LogRecord, &[u8]), usize>
-    requires few { n ≤ 16 }
-    requires long { length b.now ≡ 492 }
+    requires few { n ≤ PAIRS }
+    requires long { length b.now + FIRST_PAIR ≡ RECORD_BYTES }
     ensures pairs { IsReadAs (λ x. (map pair_of (take x.0.count x.0.durables), x.1.now)) result (pairs_at n 20 b.now) }
-    ensures place { IfErr result (λ p. p < 512) }
+    ensures place { IfErr result (λ p. p < SLOT_BYTES) }
     ensures id { IfOk result (λ x. x.0.id ≡ id) }
-    ensures rest { IfOk result (λ x. length x.1.now + 20 * n ≡ 492) }
+    ensures rest { IfOk result (λ x. length x.1.now + PAIR_BYTES * n + FIRST_PAIR ≡ RECORD_BYTES) }
 {
     let mut r = LogRecord::new(id);
     let mut rest = b;
     for i in 0..n {
-        let (rm, enl) = read_pair(rest, 20 + 20 * i)?;
+        let (rm, enl) = read_pair(rest, 1 + FIRST_PAIR + PAIR_BYTES * i)?;
         r.add(rm, enl);
-        let (_, after) = rest.split_at(20);
+        let (_, after) = rest.split_at(PAIR_BYTES);
         rest = after;
     }
     Ok((r, rest))
@@ -58,7 +59,7 @@ fn read_pairs(id: u128, n: usize, b: &[u8]) -> Result<(LogRecord, &[u8]), usize>
 /// The enlistment that stands first in the bytes, which begin at this place.
 #[tactic(auto, unfolding(dtx_model::specs::Log::pair_at))]
 fn read_pair(b: &[u8], place: usize) -> Result<(RmNo, EnlNo), usize>
-    requires long { 20 ≤ length b.now }
+    requires long { PAIR_BYTES ≤ length b.now }
     requires room { place ≤ 1000 }
     ensures pair { IsReadAs pair_of result (pair_at place b.now) }
     ensures place { IfErr result (λ p. p ≤ place + 16) }
@@ -74,7 +75,7 @@ fn read_pair(b: &[u8], place: usize) -> Result<(RmNo, EnlNo), usize>
 
 /// The manager of the enlistment that stands first in the bytes, where it is one.
 fn manager(b: &[u8]) -> Option<RmNo>
-    requires { 20 ≤ length b.now }
+    requires { PAIR_BYTES ≤ length b.now }
     ensures value { IfSome result (λ r. r.value ≡ whole_at 0 b.now) }
     ensures in_range { IsSome result ↔ (is_from_one 16 (whole_at 0 b.now) ≡ true) }
 {

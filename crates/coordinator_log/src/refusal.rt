@@ -1,4 +1,6 @@
 //! Why the log doesn't do what it is asked.
+use crate::device::Broken;
+use outside::Failed;
 
 /// Why a call of the log didn't do its work.
 #[derive(Clone, Copy, PartialEq, Eq, Debug)]
@@ -17,4 +19,26 @@ pub enum LogRefusal {
     NoSuch(u128),
     /// Memory ran out.
     Memory,
+}
+
+impl From<Failed> for LogRefusal {
+    ghost use Rattle.std.specs.Prelude.{◌≡◌};
+    ghost use Rattle.coordinator_log.specs.declared.refusal.LogRefusal.TheVariants.{Fault};
+
+    ghost from_gives = { λ _ e. e ≡ Fault };
+
+    fn from(_fault: Failed) -> LogRefusal {
+        LogRefusal::Fault
+    }
+}
+
+impl From<Broken> for LogRefusal {
+    ghost use Rattle.std.specs.Prelude.{◌≡◌};
+    ghost use Rattle.coordinator_log.specs.declared.refusal.LogRefusal.TheVariants.{StoppedNow};
+
+    ghost from_gives = { λ _ e. e ≡ StoppedNow };
+
+    fn from(_broken: Broken) -> LogRefusal {
+        LogRefusal::StoppedNow
+    }
 }

@@ -4,6 +4,7 @@ ghost use Rattle.std.specs.Option.{option_map};
 ghost use Rattle.dtx_model.specs.Log.{first_of, record_of, without_first_of};
 ghost use Rattle.coordinator_log.specs.Slots.{has_record_of, lowest_closed, open_records};
 
+use crate::layout::SLOTS;
 use dtx_values::LogRecord;
 use std::alloc::{AllocError, Global};
 use std::marker::Model;
@@ -18,46 +19,47 @@ impl Model for Slots {
     ghost use Rattle.std.specs.Prelude.{◌≡◌, List, Option, length, map};
     ghost use Rattle.std.specs.Option.{option_map};
     ghost use Rattle.dtx_model.specs.Log.{CommitRecord, record_of};
+    ghost use Rattle.coordinator_log.specs.declared.layout.TheConstants.{SLOTS};
 
     ghost Value = { List (Option CommitRecord) };
 
     ghost view = { λ s. map (option_map record_of) s.records.items };
 
-    ghost invariant = { λ s. length s.records.items ≡ 1024 };
+    ghost invariant = { λ s. length s.records.items ≡ SLOTS };
 }
 
 impl Slots {
     /// All gates are closed.
     pub fn new(alloc: Global) -> Result<Slots, AllocError>
         ensures empty { IfOk result (λ s. open_records s ≡ []) }
-        ensures many { IfOk result (λ s. length s ≡ 1024) }
+        ensures many { IfOk result (λ s. length s ≡ SLOTS) }
     {
-        let records = closed_gates(alloc, 1024)?;
+        let records = closed_gates(alloc, SLOTS)?;
         Ok(Slots { records })
     }
 
     /// The lowest slot whose gate is closed.
     pub fn lowest_closed(&self) -> Option<usize>
-        ensures some { IfSome result (λ k. (k < 1024) × (slice_index_or self.now k None ≡ None) × (lowest_closed self.now ≡ k)) }
-        ensures none { IfNone result (lowest_closed self.now ≡ 1024) }
-        ensures many { length self.now ≡ 1024 }
+        ensures some { IfSome result (λ k. (k < SLOTS) × (slice_index_or self.now k None ≡ None) × (lowest_closed self.now ≡ k)) }
+        ensures none { IfNone result (lowest_closed self.now ≡ SLOTS) }
+        ensures many { length self.now ≡ SLOTS }
     {
         first_closed(&self.records)
     }
 
     /// The lowest slot with a record of this identifier.
     pub fn found(&self, id: u128) -> Option<usize>
-        ensures some { IfSome result (λ k. (k < 1024) × IsSome (slice_index_or self.now k None) × (first_of id (open_records self.now) ≡ slice_index_or self.now k None)) }
+        ensures some { IfSome result (λ k. (k < SLOTS) × IsSome (slice_index_or self.now k None) × (first_of id (open_records self.now) ≡ slice_index_or self.now k None)) }
         ensures rest { IfSome result (λ k. open_records (set self.now k None) ≡ without_first_of id (open_records self.now)) }
         ensures none { IfNone result (first_of id (open_records self.now) ≡ None) }
-        ensures many { length self.now ≡ 1024 }
+        ensures many { length self.now ≡ SLOTS }
     {
         first_with(&self.records, id)
     }
 
     /// The record of slot k.
     pub fn record(&self, k: usize) -> Option<&LogRecord>
-        requires { k < 1024 }
+        requires { k < SLOTS }
         ensures { option_map (λ r. record_of r.now) result ≡ slice_index_or self.now k None }
     {
         self.records[k].as_ref()
@@ -65,9 +67,9 @@ impl Slots {
 
     /// Puts a record into slot k, or takes it out.
     pub fn set(&mut self, k: usize, r: Option<LogRecord>)
-        requires { k < 1024 }
+        requires { k < SLOTS }
         ensures slots { self.new ≡ set self.old k (option_map record_of r) }
-        ensures many { length self.new ≡ 1024 }
+        ensures many { length self.new ≡ SLOTS }
     {
         self.records[k] = r;
     }

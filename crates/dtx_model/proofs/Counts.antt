@@ -1,5 +1,5 @@
 -- How many of a list pass a test.
-use Rattle.std.proofs.Common.{◌≡◌, ℕ, suc, Bool, true, false, List, [], ◌∷◌, map, nat_lt, if◌then◌else◌, refl}
+use Rattle.std.proofs.Common.{◌≡◌, ℕ, suc, Bool, true, false, List, [], ◌∷◌, map, nat_lt, if◌then◌else◌, refl, length, ap}
 use Rattle.dtx_values.specs.Table.{how_many, insert_by}
 
 -- two counts in either order
@@ -23,3 +23,12 @@ how_many-insert_by p key x (y ∷ ys) =
 pub how_many-map : {A : Type 0} (p : A → Bool) (f : A → A) → ((x : A) → p (f x) ≡ p x) → (xs : List A) → how_many p (map f xs) ≡ how_many p xs
 how_many-map p f same [] = refl
 how_many-map p f same (x ∷ xs) = rw (same x, how_many-map p f same xs) refl
+
+-- an item at its place makes a list longer by one
+pub length-insert_by : {A : Type 0} (key : A → ℕ) (x : A) (xs : List A) → length (insert_by key x xs) ≡ suc (length xs)
+length-insert_by key x [] = refl
+length-insert_by key x (y ∷ ys) = step (nat_lt (key y) (key x)) x y ys (insert_by key x ys) (length-insert_by key x ys)
+  where
+    step : {A : Type 0} (b : Bool) (x y : A) (ys rest : List A) → length rest ≡ suc (length ys) → length (if b then y ∷ rest else x ∷ y ∷ ys) ≡ suc (suc (length ys))
+    step true x y ys rest k = ap suc k
+    step false x y ys rest k = refl

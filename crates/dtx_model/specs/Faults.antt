@@ -1,6 +1,13 @@
 -- Bad: the first bad line of bytes that are no script, and its first cause.
 use Rattle.std.specs.Prelude.{ℕ, ◌≡◌, ◌≢◌, ◌+◌, ◌-◌, ◌*◌, ◌==◌, nat_lt, Bool, true, false, ◌&&◌, ◌||◌, not, List, [], ◌∷◌, ◌++◌, length, codes, decimal, Option, Some, None, if◌then◌else◌}
 use Rattle.std.specs.List.{filter_map}
+use Rattle.dtx_values.specs.declared.limits.TheConstants.{LINE_BYTES, SCRIPT_BYTES}
+use Rattle.dtx_values.specs.declared.number.TheConstants.ActorNo.{MAX as ACTORS}
+use Rattle.dtx_values.specs.declared.number.TheConstants.TxNo.{MAX as TRANSACTIONS}
+use Rattle.dtx_values.specs.declared.number.TheConstants.EnlNo.{MAX as ENLISTMENTS}
+use Rattle.dtx_values.specs.declared.number.TheConstants.CloneNo.{MAX as CLONES}
+use Rattle.dtx_values.specs.declared.number.TheConstants.ScopeNo.{MAX as SCOPES}
+use Rattle.dtx_values.specs.declared.number.TheConstants.RmNo.{MAX as MANAGERS}
 use Rattle.dtx_values.specs.declared.script.BadCause.{BadCause}
 use Rattle.dtx_values.specs.declared.script.BadCause.TheVariants.{TooLong, LongLine, NoNewline, BadByte, MissingWord, UnknownWord, BadNumber, ExtraWord, NameTwice, NameUnknown, WrongKind, ParTwice}
 use Rattle.dtx_values.specs.declared.script.Line.{Line}
@@ -53,26 +60,26 @@ abbrev pub writes : ℕ → ℕ → List ℕ → Bool
 writes low high w = same_bytes w (decimal (value_from 0 w)) && is_from low high (value_from 0 w)
 
 -- what may stand at one place of a line: one of these words; a name of one of these letters with a number from 1 to `most`; or a number in a range
-pub record Slot : Type 0 where
+pub record Pattern : Type 0 where
   pub words : List (List ℕ)
   pub letters : List ℕ
   pub most : ℕ
   pub number : Option (ℕ × ℕ)
 
-abbrev pub one_of : List (List ℕ) → Slot
+abbrev pub one_of : List (List ℕ) → Pattern
 one_of ws = record { words = ws; letters = []; most = 0; number = None }
 
-abbrev pub word : List ℕ → Slot
+abbrev pub word : List ℕ → Pattern
 word w = one_of (w ∷ [])
 
-abbrev pub named : List ℕ → ℕ → Slot
+abbrev pub named : List ℕ → ℕ → Pattern
 named letters most = record { words = []; letters = letters; most = most; number = None }
 
-abbrev pub number : ℕ → ℕ → Slot
+abbrev pub number : ℕ → ℕ → Pattern
 number low high = record { words = []; letters = []; most = 0; number = Some (low, high) }
 
 -- the word is a name that may stand there
-abbrev pub is_name : Slot → List ℕ → Bool
+abbrev pub is_name : Pattern → List ℕ → Bool
 is_name s [] = false
 is_name s (b ∷ bs) = has (λ c. b == c) s.letters && writes 1 s.most bs
 
@@ -81,11 +88,11 @@ abbrev pub is_number : Option (ℕ × ℕ) → List ℕ → Bool
 is_number (Some r) w = writes r.0 r.1 w
 is_number None w = false
 
-abbrev pub allows : Slot → List ℕ → Bool
+abbrev pub allows : Pattern → List ℕ → Bool
 allows s w = has (same_bytes w) s.words || is_name s w || is_number s.number w
 
 -- the word has the right letter and a digit behind it
-abbrev pub looks_named : Slot → List ℕ → Bool
+abbrev pub looks_named : Pattern → List ℕ → Bool
 looks_named s (b ∷ d ∷ ds) = has (λ c. b == c) s.letters && is_digit d
 looks_named s _ = false
 
@@ -94,110 +101,110 @@ abbrev pub looks_numbered : Option (ℕ × ℕ) → List ℕ → Bool
 looks_numbered (Some r) (b ∷ bs) = is_digit b || not (has is_letter (b ∷ bs))
 looks_numbered _ _ = false
 
-abbrev pub actor_slot : Slot
-actor_slot = named (codes "a") 16
+abbrev pub actor_pattern : Pattern
+actor_pattern = named (codes "a") ACTORS
 
-abbrev pub transaction_slot : Slot
-transaction_slot = named (codes "t") 256
+abbrev pub transaction_pattern : Pattern
+transaction_pattern = named (codes "t") TRANSACTIONS
 
-abbrev pub enlistment_slot : Slot
-enlistment_slot = named (codes "e") 9999
+abbrev pub enlistment_pattern : Pattern
+enlistment_pattern = named (codes "e") ENLISTMENTS
 
-abbrev pub clone_slot : Slot
-clone_slot = named (codes "c") 9999
+abbrev pub clone_pattern : Pattern
+clone_pattern = named (codes "c") CLONES
 
-abbrev pub scope_slot : Slot
-scope_slot = named (codes "s") 9999
+abbrev pub scope_pattern : Pattern
+scope_pattern = named (codes "s") SCOPES
 
-abbrev pub manager_slot : Slot
-manager_slot = named (codes "r") 16
+abbrev pub manager_pattern : Pattern
+manager_pattern = named (codes "r") MANAGERS
 
-abbrev pub connection_slot : Slot
-connection_slot = record { words = codes "b" ∷ codes "v" ∷ []; letters = codes "ex"; most = 9999; number = None }
+abbrev pub connection_pattern : Pattern
+connection_pattern = record { words = codes "b" ∷ codes "v" ∷ []; letters = codes "ex"; most = ENLISTMENTS; number = None }
 
-abbrev pub timeout_slot : Slot
-timeout_slot = record { words = codes "default" ∷ []; letters = []; most = 0; number = Some (0, 4294967295) }
+abbrev pub timeout_pattern : Pattern
+timeout_pattern = record { words = codes "default" ∷ []; letters = []; most = 0; number = Some (0, 4294967295) }
 
-abbrev pub iso_slot : Slot
-iso_slot =
+abbrev pub iso_pattern : Pattern
+iso_pattern =
     one_of (codes "default" ∷ codes "serializable" ∷ codes "repeatableread" ∷ codes "readcommitted" ∷ codes "readuncommitted" ∷ codes "snapshot" ∷ codes "chaos" ∷ codes "unspecified" ∷ [])
 
-abbrev pub option_slot : Slot
-option_slot = one_of (codes "none" ∷ codes "during" ∷ [])
+abbrev pub option_pattern : Pattern
+option_pattern = one_of (codes "none" ∷ codes "during" ∷ [])
 
-abbrev pub vote_slot : Slot
-vote_slot = one_of (codes "yes" ∷ codes "no" ∷ codes "done" ∷ codes "silent" ∷ [])
+abbrev pub vote_pattern : Pattern
+vote_pattern = one_of (codes "yes" ∷ codes "no" ∷ codes "done" ∷ codes "silent" ∷ [])
 
-abbrev pub owner_slot : Slot
-owner_slot = one_of (codes "committed" ∷ codes "aborted" ∷ codes "indoubt" ∷ codes "silent" ∷ [])
+abbrev pub owner_pattern : Pattern
+owner_pattern = one_of (codes "committed" ∷ codes "aborted" ∷ codes "indoubt" ∷ codes "silent" ∷ [])
 
-abbrev pub promote_slot : Slot
-promote_slot = one_of (codes "ok" ∷ codes "fail" ∷ codes "silent" ∷ [])
+abbrev pub promote_pattern : Pattern
+promote_pattern = one_of (codes "ok" ∷ codes "fail" ∷ codes "silent" ∷ [])
 
-abbrev pub kind_slot : Slot
-kind_slot = one_of (codes "block" ∷ codes "rollback" ∷ [])
+abbrev pub kind_pattern : Pattern
+kind_pattern = one_of (codes "block" ∷ codes "rollback" ∷ [])
 
-abbrev pub image_slot : Slot
-image_slot = one_of (codes "lose" ∷ codes "keep" ∷ codes "torn" ∷ [])
+abbrev pub image_pattern : Pattern
+image_pattern = one_of (codes "lose" ∷ codes "keep" ∷ codes "torn" ∷ [])
 
 -- the forms of a command: what may stand at each of its places
-abbrev pub command_forms : List (List Slot)
+abbrev pub command_forms : List (List Pattern)
 command_forms =
-    (word (codes "begin") ∷ transaction_slot ∷ timeout_slot ∷ [])
-    ∷ (word (codes "open") ∷ scope_slot ∷ word (codes "required") ∷ transaction_slot ∷ timeout_slot ∷ iso_slot ∷ [])
-    ∷ (word (codes "open") ∷ scope_slot ∷ word (codes "requiresnew") ∷ transaction_slot ∷ timeout_slot ∷ iso_slot ∷ [])
-    ∷ (word (codes "open") ∷ scope_slot ∷ word (codes "suppress") ∷ [])
-    ∷ (word (codes "finish") ∷ scope_slot ∷ [])
-    ∷ (word (codes "close") ∷ scope_slot ∷ [])
+    (word (codes "begin") ∷ transaction_pattern ∷ timeout_pattern ∷ [])
+    ∷ (word (codes "open") ∷ scope_pattern ∷ word (codes "required") ∷ transaction_pattern ∷ timeout_pattern ∷ iso_pattern ∷ [])
+    ∷ (word (codes "open") ∷ scope_pattern ∷ word (codes "requiresnew") ∷ transaction_pattern ∷ timeout_pattern ∷ iso_pattern ∷ [])
+    ∷ (word (codes "open") ∷ scope_pattern ∷ word (codes "suppress") ∷ [])
+    ∷ (word (codes "finish") ∷ scope_pattern ∷ [])
+    ∷ (word (codes "close") ∷ scope_pattern ∷ [])
     ∷ (word (codes "current") ∷ [])
-    ∷ (word (codes "volatile") ∷ transaction_slot ∷ enlistment_slot ∷ option_slot ∷ vote_slot ∷ [])
-    ∷ (word (codes "durable") ∷ transaction_slot ∷ enlistment_slot ∷ manager_slot ∷ word (codes "single") ∷ vote_slot ∷ owner_slot ∷ [])
-    ∷ (word (codes "durable") ∷ transaction_slot ∷ enlistment_slot ∷ manager_slot ∷ word (codes "two") ∷ vote_slot ∷ [])
-    ∷ (word (codes "promotable") ∷ transaction_slot ∷ enlistment_slot ∷ manager_slot ∷ vote_slot ∷ owner_slot ∷ promote_slot ∷ [])
-    ∷ (word (codes "clone") ∷ transaction_slot ∷ clone_slot ∷ kind_slot ∷ [])
-    ∷ (word (codes "complete") ∷ clone_slot ∷ [])
-    ∷ (word (codes "commit") ∷ transaction_slot ∷ [])
-    ∷ (word (codes "rollback") ∷ transaction_slot ∷ [])
-    ∷ (word (codes "marshal") ∷ transaction_slot ∷ [])
-    ∷ (word (codes "status") ∷ transaction_slot ∷ [])
-    ∷ (word (codes "await") ∷ transaction_slot ∷ [])
-    ∷ (word (codes "tick") ∷ transaction_slot ∷ number 1 1000000000 ∷ [])
-    ∷ (word (codes "do") ∷ transaction_slot ∷ number 1 99 ∷ number 1 999 ∷ [])
-    ∷ (word (codes "lose") ∷ transaction_slot ∷ connection_slot ∷ number 0 999 ∷ number 0 999 ∷ [])
-    ∷ (word (codes "gone") ∷ enlistment_slot ∷ [])
-    ∷ (word (codes "reenlist") ∷ enlistment_slot ∷ [])
-    ∷ (word (codes "recovered") ∷ transaction_slot ∷ manager_slot ∷ [])
-    ∷ (word (codes "stop") ∷ number 1 99 ∷ image_slot ∷ [])
+    ∷ (word (codes "volatile") ∷ transaction_pattern ∷ enlistment_pattern ∷ option_pattern ∷ vote_pattern ∷ [])
+    ∷ (word (codes "durable") ∷ transaction_pattern ∷ enlistment_pattern ∷ manager_pattern ∷ word (codes "single") ∷ vote_pattern ∷ owner_pattern ∷ [])
+    ∷ (word (codes "durable") ∷ transaction_pattern ∷ enlistment_pattern ∷ manager_pattern ∷ word (codes "two") ∷ vote_pattern ∷ [])
+    ∷ (word (codes "promotable") ∷ transaction_pattern ∷ enlistment_pattern ∷ manager_pattern ∷ vote_pattern ∷ owner_pattern ∷ promote_pattern ∷ [])
+    ∷ (word (codes "clone") ∷ transaction_pattern ∷ clone_pattern ∷ kind_pattern ∷ [])
+    ∷ (word (codes "complete") ∷ clone_pattern ∷ [])
+    ∷ (word (codes "commit") ∷ transaction_pattern ∷ [])
+    ∷ (word (codes "rollback") ∷ transaction_pattern ∷ [])
+    ∷ (word (codes "marshal") ∷ transaction_pattern ∷ [])
+    ∷ (word (codes "status") ∷ transaction_pattern ∷ [])
+    ∷ (word (codes "await") ∷ transaction_pattern ∷ [])
+    ∷ (word (codes "tick") ∷ transaction_pattern ∷ number 1 1000000000 ∷ [])
+    ∷ (word (codes "do") ∷ transaction_pattern ∷ number 1 99 ∷ number 1 999 ∷ [])
+    ∷ (word (codes "lose") ∷ transaction_pattern ∷ connection_pattern ∷ number 0 999 ∷ number 0 999 ∷ [])
+    ∷ (word (codes "gone") ∷ enlistment_pattern ∷ [])
+    ∷ (word (codes "reenlist") ∷ enlistment_pattern ∷ [])
+    ∷ (word (codes "recovered") ∷ transaction_pattern ∷ manager_pattern ∷ [])
+    ∷ (word (codes "stop") ∷ number 1 99 ∷ image_pattern ∷ [])
     ∷ (word (codes "restart") ∷ [])
     ∷ (word (codes "par") ∷ [])
     ∷ []
 
 -- what of a form is left behind a word, where its first place allows the word
-abbrev pub behind : List ℕ → List Slot → Option (List Slot)
+abbrev pub behind : List ℕ → List Pattern → Option (List Pattern)
 behind w [] = None
 behind w (s ∷ f) = if allows s w then Some f else None
 
 -- the first place of some form looks as if it wanted a number that this word misspells or has out of range
-abbrev pub wants_number : List ℕ → List Slot → Bool
+abbrev pub wants_number : List ℕ → List Pattern → Bool
 wants_number w [] = false
 wants_number w (s ∷ f) = looks_named s w || looks_numbered s.number w
 
 -- the cause where a word fits no form that is left
-abbrev pub word_cause : List (List Slot) → List ℕ → BadCause
+abbrev pub word_cause : List (List Pattern) → List ℕ → BadCause
 word_cause forms w = if has is_empty forms then ExtraWord else if has (wants_number w) forms then BadNumber else UnknownWord
 
 -- the first fault of a line's words, from the left, by the forms that are left; none where a form is filled
-abbrev pub word_fault : List (List Slot) → List (List ℕ) → Option BadCause
+abbrev pub word_fault : List (List Pattern) → List (List ℕ) → Option BadCause
 word_fault forms [] = if has is_empty forms then None else Some MissingWord
 word_fault forms (w ∷ ws) = if is_empty (filter_map (behind w) forms) then Some (word_cause forms w) else word_fault (filter_map (behind w) forms) ws
 
 -- a line's form: an actor, and a command
-abbrev pub line_forms : List (List Slot)
+abbrev pub line_forms : List (List Pattern)
 line_forms = line_of command_forms
   where
-    line_of : List (List Slot) → List (List Slot)
+    line_of : List (List Pattern) → List (List Pattern)
     line_of [] = []
-    line_of (f ∷ fs) = (actor_slot ∷ f) ∷ line_of fs
+    line_of (f ∷ fs) = (actor_pattern ∷ f) ∷ line_of fs
 
 -- how many bytes the line at the front has, with its LF where it is there
 abbrev pub reach : List ℕ → ℕ
@@ -206,8 +213,8 @@ reach bs = length (front bs) + (if has_newline bs then 1 else 0)
 -- the first cause by the bytes of the line at the front, behind so many bytes: the first eight causes
 unfoldable pub form_fault : ℕ → List ℕ → Option BadCause
 form_fault taken bs =
-    if nat_lt 1048576 (taken + reach bs) then Some TooLong
-    else if nat_lt 200 (length (front bs)) then Some LongLine
+    if nat_lt SCRIPT_BYTES (taken + reach bs) then Some TooLong
+    else if nat_lt LINE_BYTES (length (front bs)) then Some LongLine
     else if not (has_newline bs) then Some NoNewline
     else if not (each (is_from 32 126) (front bs)) then Some BadByte
     else word_fault line_forms (words_of (front bs))

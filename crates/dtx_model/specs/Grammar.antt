@@ -1,6 +1,7 @@
 -- Script grammar: which bytes are which script, and which lines are run. Each line has one spelling.
-use Rattle.std.specs.Prelude.{ℕ, ◌≡◌, ◌-◌, ◌≤◌, ◌==◌, nat_le, Bool, true, false, ◌&&◌, not, List, [], ◌∷◌, ◌++◌, length, codes, decimal, Option, Some, None, take}
+use Rattle.std.specs.Prelude.{ℕ, ◌≡◌, ◌+◌, ◌-◌, ◌≤◌, ◌==◌, nat_le, Bool, true, false, ◌&&◌, not, List, [], ◌∷◌, ◌++◌, length, codes, decimal, Option, Some, None, take}
 use Rattle.std.specs.List.{flat_map, join_with_byte}
+use Rattle.dtx_values.specs.declared.limits.TheConstants.{LINE_BYTES, SCRIPT_BYTES}
 use Rattle.dtx_values.specs.declared.message.Conn.{Conn}
 use Rattle.dtx_values.specs.declared.message.Conn.TheVariants.{Begin as OnBegin, Voter as OnVoter, Enl as OnEnl, Again}
 use Rattle.dtx_values.specs.declared.script.Body.{Body}
@@ -298,22 +299,22 @@ makes_lasting_of t e (Durable u f r s) = (t == u.value) && (e == f.value)
 makes_lasting_of t e (Promotable u f r v o p) = (t == u.value) && (e == f.value)
 makes_lasting_of t e _ = false
 
-abbrev pub is_lasting : List Line → ℕ → Bool
-is_lasting before e = has (λ l. makes_lasting e l.body) before
+abbrev pub is_made_lasting : List Line → ℕ → Bool
+is_made_lasting before e = has (λ l. makes_lasting e l.body) before
 
-abbrev pub is_lasting_of : List Line → ℕ → ℕ → Bool
-is_lasting_of before t e = has (λ l. makes_lasting_of t e l.body) before
+abbrev pub is_made_lasting_of : List Line → ℕ → ℕ → Bool
+is_made_lasting_of before t e = has (λ l. makes_lasting_of t e l.body) before
 
 -- the connection's enlistment is a durable or promotable one of this transaction
 abbrev pub is_connection_of : List Line → ℕ → Conn → Bool
-is_connection_of before t (OnEnl e) = is_lasting_of before t e.value
-is_connection_of before t (Again e) = is_lasting_of before t e.value
+is_connection_of before t (OnEnl e) = is_made_lasting_of before t e.value
+is_connection_of before t (Again e) = is_made_lasting_of before t e.value
 is_connection_of before t _ = true
 
 -- each enlistment that the line names is of the kind that its command asks for
 abbrev pub is_of_kind : List Line → Body → Bool
-is_of_kind before (Gone e) = is_lasting before e.value
-is_of_kind before (Reenlist e) = is_lasting before e.value
+is_of_kind before (Gone e) = is_made_lasting before e.value
+is_of_kind before (Reenlist e) = is_made_lasting before e.value
 is_of_kind before (Lose t c up down) = is_connection_of before t.value c
 is_of_kind before _ = true
 
@@ -325,16 +326,16 @@ is_par _ = false
 abbrev pub is_par_once : List Line → Body → Bool
 is_par_once before b = not (is_par b && has (λ l. is_par l.body) before)
 
--- the line has at most 200 bytes before its LF
+-- the line, with its LF, is no longer than a line may be
 abbrev pub is_short : Line → Bool
-is_short l = nat_le (length (line_text l)) 201
+is_short l = nat_le (length (line_text l)) (LINE_BYTES + 1)
 
--- the lines are a script: numbers are in their ranges, no line is too long, they end by byte 1,048,576, names are made once, before they
+-- the lines are a script: numbers are in their ranges, no line is too long, nor are they together, names are made once, before they
 -- are used, enlistments are of the right kind, and there is at most one `par`
 pub record IsScript (s : List Line) : Type 0 where
   pub in_range : each (λ l. is_in_range l.body) s ≡ true
   pub short : each is_short s ≡ true
-  pub within : length (script_text s) ≤ 1048576
+  pub within : length (script_text s) ≤ SCRIPT_BYTES
   pub named : are_named_well s ≡ true
   pub kinds : always (λ before l. is_of_kind before l.body) (past_of s) ≡ true
   pub par : always (λ before l. is_par_once before l.body) (past_of s) ≡ true

@@ -1,5 +1,5 @@
 -- The traces of a replay of a script. A trace stands oldest first here, as it is printed.
-use Rattle.std.specs.Prelude.{ℕ, ◌≡◌, Bool, true, false, ◌&&◌, ◌||◌, not, List, Option, Some, None}
+use Rattle.std.specs.Prelude.{ℕ, ◌≡◌, Bool, true, false, ◌&&◌, ◌||◌, not, List, Option, Some, None, is_none, is_some}
 use Rattle.dtx_values.specs.declared.number.ActorNo.{ActorNo}
 use Rattle.dtx_values.specs.declared.number.TxNo.{TxNo}
 use Rattle.dtx_values.specs.declared.entry.Entry.{Entry}
@@ -8,8 +8,9 @@ use Rattle.dtx_values.specs.declared.entry.Entry.TheVariants.{CommitAsked, Cut, 
 use Rattle.dtx_values.specs.declared.words.Class.{Class}
 use Rattle.dtx_values.specs.declared.words.Outcome.{Outcome}
 use Rattle.dtx_values.specs.declared.words.Outcome.TheVariants.{Committed}
-use Rattle.dtx_model.specs.Words.{has, each, always, all_of, past_of}
-use Rattle.dtx_model.specs.Entries.{is_commit, is_client_told, clone_of}
+use Rattle.dtx_values.specs.Clones.{blocks}
+use Rattle.dtx_model.specs.Words.{has, each, always, all_of, latest, past_of}
+use Rattle.dtx_model.specs.Entries.{client_told_of, clone_of, is_any_owner, is_asked, is_client_told, is_commit, is_hand, is_vote}
 use Rattle.dtx_model.specs.Outcome.{agree, can_own, enlisted, is_complete, is_rollback, justified}
 use Rattle.dtx_values.specs.Vote.{voted_well}
 use Rattle.dtx_values.specs.Class.{is_promotable}
@@ -77,7 +78,22 @@ pub record CanCommit (s : List Line) (h : List Entry) : Type 0 where
   pub ended_by_none : has is_ending h ≡ false
   pub unlost : has is_loss h ≡ false
 
--- each transaction that can commit is committed, its client was told so; and each enlistment that came back was told
+-- this enlistment was asked to prepare, or the commit was handed to it; its line plans no reply, and it gave none
+abbrev pub is_silent : List Line → List Entry → ℕ → Bool
+is_silent s h e =
+    (has (is_asked e) h && is_none (planned_vote s e) && not (has (is_vote e) h)) || (has (is_hand e) h && is_none (planned_owner s e) && not (has (is_any_owner e) h))
+
+-- there is something that it waits for: a clone that blocks and isn't complete, or an enlistment that stays silent
+abbrev pub is_waiting : List Line → List Entry → Bool
+is_waiting s h = has (λ c. blocks c.1 && not (is_complete h c)) (all_of clone_of h) || has (λ x. is_silent s h x.0.value) (enlisted h)
+
+-- where the history is settled and commit was asked, the client was told, or there is something that it waits for
+abbrev pub IsToldOrWaits : List Line → List Entry → Type 0
+IsToldOrWaits s h = Settled s h → has is_commit h ≡ true → (is_some (latest client_told_of h) || is_waiting s h) ≡ true
+
+-- each transaction that can commit is committed, its client was told so; where commit was asked, the client was told some outcome, or the transaction waits for
+-- something; and each enlistment that came back was told
 pub record IsComplete (s : List Line) (T : List Placed) : Type 0 where
+  pub told : (t : TxNo) → IsToldOrWaits s (history t.value (past_of T))
   pub committed : (t : TxNo) → CanCommit s (history t.value (past_of T)) → has (is_client_told Committed) (history t.value (past_of T)) ≡ true
   pub answered : (t : TxNo) → AreAnswered s (history t.value (past_of T))

@@ -53,7 +53,6 @@ abbrev pub is_complete_scope : ℕ → OpenScope → Bool
 is_complete_scope s x = is_scope s x && x.complete
 
 -- the transaction that a scope has
-
 abbrev pub scope_transaction : OpenScope → Option TxNo
 scope_transaction x = transaction_in x.entered
 

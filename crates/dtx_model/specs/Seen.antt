@@ -10,7 +10,8 @@ use Rattle.dtx_values.specs.Row.{is_marked}
 use Rattle.dtx_values.specs.declared.row.Row.{Row}
 use Rattle.dtx_values.specs.Table.{voted_before}
 use Rattle.dtx_model.specs.Words.{has, each, latest, all_of}
-use Rattle.dtx_model.specs.Entries.{began_of, is_asked, is_vote, is_completed}
+use Rattle.dtx_model.specs.Entries.{began_of, is_asked, is_completed, is_lost, is_told, is_vote}
+use Rattle.dtx_model.specs.declared.listener.Listener.{Listener}
 use Rattle.dtx_model.specs.Observed.{rows}
 
 abbrev pub asked_of : Entry → Option EnlNo
@@ -62,3 +63,8 @@ abbrev pub is_timely : List Entry → Entry → Bool
 is_timely h TimedOut = is_behind_first h
 is_timely h Late = is_behind_first h
 is_timely h _ = true
+
+-- the listener says whether its enlistment was told an outcome, and whether it is lost
+pub record IsHeard (h : List Entry) (l : Listener) : Type 0 where
+  pub told : l.told ≡ has (is_told l.enlistment.value) h
+  pub lost : l.lost ≡ has (is_lost l.enlistment.value) h

@@ -1,10 +1,13 @@
-//! A line that is made from its end to its start, with the names and words that scripts and traces share.
+//! Lines: cut off where they are read, and made from their end to their start where they are printed, with the names and words that
+//! scripts and traces share.
 #![tactic(auto)]
 
+mod cuts;
 mod names;
 mod tail;
 mod words;
 
+pub use cuts::cut;
 pub use names::{
     put_actor, put_clone, put_connection, put_enlistment, put_manager, put_numbered, put_scope,
     put_transaction,

@@ -1,5 +1,5 @@
 -- The block of each reply that is due and of each local act keeps the rules.
-use Rattle.std.proofs.Common.{◌≡◌, ℕ, ◌==◌, Bool, true, false, ◌&&◌, ◌||◌, List, [], ◌∷◌, Option, Some, None, refl, ◌∙◌, ap, sym, subst}
+use Rattle.std.proofs.Common.{suc, zero, ◌≡◌, ℕ, ◌==◌, Bool, true, false, ◌&&◌, ◌||◌, List, [], ◌∷◌, Option, Some, None, refl, ◌∙◌, ap, sym, subst, slice_get}
 use Rattle.std.specs.Prelude.{is_some, filter, find, not, if◌then◌else◌}
 use Rattle.std.proofs.lemmas.Bool.{or_left}
 use Rattle.dtx_values.specs.declared.number.EnlNo.{EnlNo}
@@ -20,6 +20,8 @@ use Rattle.dtx_values.specs.Row.{has_voted, is_marked}
 use Rattle.dtx_values.specs.declared.row.Row.{Row}
 use Rattle.dtx_values.specs.Clones.{blocks, is_open_block}
 use Rattle.dtx_model.specs.declared.listener.Listener.{Listener}
+use Rattle.dtx_values.specs.declared.words.Class.{Class}
+use Rattle.dtx_values.specs.declared.words.Class.TheVariants.{Zero, One, DurableTwo, DurableSingle, Promotable}
 use Rattle.dtx_model.specs.Words.{has, each, latest, onto, kth, all_of}
 use Rattle.dtx_model.specs.Entries.{same_outcome, is_commit, is_sealed, clone_of, is_asked, is_vote, is_good_vote, is_hand, is_any_hand, is_promoted, handed_of, decision_of, is_decision}
 use Rattle.dtx_model.specs.Observed.{observe, rows, clone_rows, listeners}
@@ -30,14 +32,14 @@ use Rattle.dtx_model.specs.Steps.{Step, Replies, reply_entries, planned_vote, pl
 use Rattle.dtx_values.specs.Waves.{all_voted, hears, may_be_asked, name_of, next_ask, zeros_voted, is_over}
 use Rattle.dtx_model.specs.Steps.{is_gone, is_handed, hears_abort, is_to_tell, tell, commit_act, before_seal, after_seal, undecided_act, act_by, act_entries, act_if}
 use Rattle.dtx_model.proofs.Bools.{and_left, and_right, and_both, or_first, or_right, not_true, not_false, three_hold}
-use Rattle.outcome_law.proofs.Tests.{four_hold, five_hold}
+use Rattle.outcome_law.proofs.Tests.{four_hold, five_hold, eq_self}
 use Rattle.outcome_law.proofs.Scans.{each_more, each_both, each-append, each-kth}
 use Rattle.outcome_law.proofs.Picks.{passes, each_from_at, each_picked, found_well, none_each}
-use Rattle.outcome_law.proofs.Rule.{is_enlisted, is_only, is_answer, all_complete, zeros_cast, is_decided, is_certain, rule, ruled}
+use Rattle.outcome_law.proofs.Rule.{is_enlisted, is_only, is_answer, all_complete, zeros_cast, is_decided, is_certain, rule, ruled, is_volatile_of}
 use Rattle.outcome_law.proofs.TableRows.{none_there, rows_enlisted, row_marked, row_voted, zeros_seen, all_voted_seen, open_blocks}
 use Rattle.outcome_law.proofs.Evidence.{none_promoted, voters-volatile, sealed_closed}
 use Rattle.outcome_law.proofs.Rules.{undecided}
-use Rattle.outcome_law.proofs.Owned.{volatile_hears, owner_only, owner_none, hand_seen, any_hand_seen}
+use Rattle.outcome_law.proofs.Owned.{volatile_hears, owner_only, owner_none, hand_seen, any_hand_seen, has_rows}
 use Rattle.outcome_law.proofs.Going.{is_no_vote, going_willing, going_unanswered, going_closed, IsKept, keep, yes_keeps, done_keeps, no_keeps, answer_keeps}
 
 -- a reply is a vote or an answer of an owner that may come here
@@ -156,15 +158,42 @@ to_tell_well h x =
 -- what is told keeps it
 tell_keeps : (h : List Entry) (x : Outcome) (l : Option Listener) (t : Option Outcome) → IsKept h → is_decided x (latest decision_of h) ≡ true
     → passes (λ l. is_certain x || hears_doubt h (Enl l.enlistment)) l ≡ true → IsKept (onto h (tell x l t))
-tell_keeps h x (Some l) t k q w = keep (Told (Enl l.enlistment) x) h k (and_both (is_decided x (latest decision_of h)) (is_certain x || hears_doubt h (Enl l.enlistment)) q w) (λ g. g)
+tell_keeps h x (Some l) t k q w = keep (Told (Enl l.enlistment) x) h k refl (and_both (is_decided x (latest decision_of h)) (is_certain x || hears_doubt h (Enl l.enlistment)) q w) (λ g. g)
 tell_keeps h x None (Some y) k q w = k
-tell_keeps h x None None k q w = keep (Told Client x) h k (and_both (is_decided x (latest decision_of h)) (is_certain x || true) q (or_right (is_certain x) true refl)) (λ g. g)
+tell_keeps h x None None k q w = keep (Told Client x) h k refl (and_both (is_decided x (latest decision_of h)) (is_certain x || true) q (or_right (is_certain x) true refl)) (λ g. g)
 
 -- who may be asked and wasn't
-ask_step : (c m w d t s a : Bool) → d ≡ false → t ≡ true → s ≡ true → m ≡ a → (not (c && not m && w) || (not d && t && s && not a)) ≡ true
-ask_step true true w d t s a p q u e = refl
-ask_step true false w d t s a p q u e = or_right (not w) (not d && t && s && not a) (four_hold (not d) t s (not a) (not_false d p) q u (ap (λ b. not b) (sym e)))
-ask_step false m w d t s a p q u e = refl
+ask_step : (c m w d t s a v : Bool) → d ≡ false → t ≡ true → s ≡ true → m ≡ a → (c ≡ true → v ≡ true) → (not (c && not m && w) || (not d && t && s && not a && v)) ≡ true
+ask_step true true w d t s a v p q u e f = refl
+ask_step true false w d t s a v p q u e f =
+    or_right (not w) (not d && t && s && not a && v)
+    (and_both (not d && t && s && not a) v (four_hold (not d) t s (not a) (not_false d p) q u (ap (λ b. not b) (sym e))) (f refl))
+ask_step false m w d t s a v p q u e f = refl
+
+-- what is asked is volatile
+asked_volatile : (zero : Bool) (c : Class) → is_class zero c ≡ true → is_volatile c ≡ true
+asked_volatile true Zero k = refl
+asked_volatile true One k = refl
+asked_volatile true DurableTwo k = absurd cc
+asked_volatile true DurableSingle k = absurd cc
+asked_volatile true Promotable k = absurd cc
+asked_volatile false Zero k = refl
+asked_volatile false One k = refl
+asked_volatile false DurableTwo k = absurd cc
+asked_volatile false DurableSingle k = absurd cc
+asked_volatile false Promotable k = absurd cc
+
+-- a row of a volatile is that of a volatile enlistment
+row_volatile : (h : List Entry) (k : ℕ) (x : Row) → slice_get (rows h) k ≡ Some x → is_volatile x.class ≡ true → has (is_volatile_of x.number.value) (enlisted h) ≡ true
+row_volatile h k x e v =
+    let n = x.number.value in
+    sym (has_rows (λ (f : EnlNo) (c : Class). (n == f.value) && is_volatile c) h)
+    ∙ has_at (λ (y : Row). (n == y.number.value) && is_volatile y.class) (rows h) k x e (and_both (n == n) (is_volatile x.class) (eq_self n) v)
+  where
+    has_at : (p : Row → Bool) (xs : List Row) (k : ℕ) (x : Row) → slice_get xs k ≡ Some x → p x ≡ true → has p xs ≡ true
+    has_at p [] k x e v = absurd cc
+    has_at p (y ∷ ys) zero x e v = let same : y ≡ x = cc in or_left (p y) (has p ys) (ap p same ∙ v)
+    has_at p (y ∷ ys) (suc k) x e v = or_right (p y) (has p ys) (has_at p ys k x e v)
 
 -- the name of what passes passes
 name_well : (h : List Entry) (o : Option Row) → passes (λ x. rule h (Asked x.number Prepare)) o ≡ true → passes (λ e. rule h (Asked e Prepare)) (name_of o) ≡ true
@@ -179,20 +208,20 @@ next_well h first r d c =
     name_well h (find (may_be_asked (rows h) first) (rows h))
     (found_well (may_be_asked (rows h) first) (λ x. rule h (Asked x.number Prepare)) (rows h)
     (each_from_at (λ x. not (may_be_asked (rows h) first x) || rule h (Asked x.number Prepare)) (rows h)
-    (λ k x e. ask_step (is_class first x.class) (is_marked x) _ (has is_decision h) (has is_commit h) (has (is_enlisted x.number.value) h) (has (is_asked x.number.value) h)
-    d c (rows_enlisted h k x r e) (row_marked h k x r e))))
+    (λ k x e. ask_step (is_class first x.class) (is_marked x) _ (has is_decision h) (has is_commit h) (has (is_enlisted x.number.value) h) (has (is_asked x.number.value) h) _
+    d c (rows_enlisted h k x r e) (row_marked h k x r e) (λ z. row_volatile h k x e (asked_volatile first x.class z)))))
 
 -- what comes in phase zero keeps it
 before_keeps : (h : List Entry) (q : Option EnlNo) (over : Bool) → IsKept h → passes (λ e. rule h (Asked e Prepare)) q ≡ true → (over ≡ true → rule h Sealed ≡ true)
     → IsKept (onto h (before_seal q over))
-before_keeps h (Some e) over k w f = keep (Asked e Prepare) h k w (λ g. g)
-before_keeps h None true k w f = keep Sealed h k (f refl) (λ g. g)
+before_keeps h (Some e) over k w f = keep (Asked e Prepare) h k refl w (λ g. g)
+before_keeps h None true k w f = keep Sealed h k refl (f refl) (λ g. g)
 before_keeps h None false k w f = k
 
 -- what comes behind the seal keeps it
 behind_keeps : (h : List Entry) (q : Option EnlNo) (voted : Bool) (commit : List Entry) → IsKept h → passes (λ e. rule h (Asked e Prepare)) q ≡ true
     → (voted ≡ true → IsKept (onto h commit)) → IsKept (onto h (after_seal q voted commit))
-behind_keeps h (Some e) voted commit k w f = keep (Asked e Prepare) h k w (λ g. g)
+behind_keeps h (Some e) voted commit k w f = keep (Asked e Prepare) h k refl w (λ g. g)
 behind_keeps h None true commit k w f = f refl
 behind_keeps h None false commit k w f = k
 
@@ -200,8 +229,8 @@ behind_keeps h None false commit k w f = k
 commit_act_keeps : (h : List Entry) (handed : Bool) (owner : Option EnlNo) → IsKept h → ((e : EnlNo) → handed ≡ false → owner ≡ Some e → rule h (Handed e) ≡ true)
     → (owner ≡ None → rule h (Decided Committed) ≡ true) → IsKept (onto h (commit_act handed owner))
 commit_act_keeps h true owner k f g = k
-commit_act_keeps h false (Some e) k f g = keep (Handed e) h k (f e refl refl) (λ g. g)
-commit_act_keeps h false None k f g = keep (Decided Committed) h k (g refl) (λ g. refl)
+commit_act_keeps h false (Some e) k f g = keep (Handed e) h k refl (f e refl refl) (λ g. g)
+commit_act_keeps h false None k f g = keep (Decided Committed) h k refl (g refl) (λ g. refl)
 
 -- what neither waits nor is open is complete
 close_step : (b x : Bool) → (not b || x) ≡ true → (b || x) ≡ true → x ≡ true

@@ -23,7 +23,7 @@ step_keeps s t h Acts named r k i = act_keeps h (observe h).decided refl i
 
 -- what the steps make keeps it
 ran_kept : (s : List Line) (t : ℕ) (steps : List Step) (h : List Entry) → are_named_well s ≡ true → Ran s t steps h → IsKept h
-ran_kept s t [] h named r = subst IsKept (sym r) (record { rules = refl; going = refl })
+ran_kept s t [] h named r = subst IsKept (sym r) (record { rules = refl; going = refl; spared = refl })
 ran_kept s t (m ∷ ms) h named r = subst IsKept (sym r.3) (step_keeps s t r.0 m named (ms, r.1) r.2 (ran_kept s t ms r.0 named r.1))
 
 -- a history that a script causes keeps it

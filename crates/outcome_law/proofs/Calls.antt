@@ -29,14 +29,14 @@ use Rattle.dtx_model.specs.Steps.{limit_of, class_of, if_begun, unless_ended, vo
 use Rattle.dtx_values.specs.Owners.{is_evident, cause_of, may_own}
 use Rattle.dtx_model.specs.Steps.{veto_if, ticked, reaches, is_gone, is_handed, is_late, time_up, lost_outcome, decided_if, facts, facts_if}
 use Rattle.dtx_model.specs.Caused.{is_new}
-use Rattle.dtx_model.proofs.Bools.{and_both, or_first, or_second, not_false, not_true}
+use Rattle.dtx_model.proofs.Bools.{and_both, or_first, or_second, not_false, not_true, or_right}
 use Rattle.dtx_model.proofs.Unowned.{causeless}
 use Rattle.outcome_law.proofs.Rule.{is_answer, is_enlisted, rule, ruled}
 use Rattle.outcome_law.proofs.TableRows.{none_there, enlisted_in_rows, evident_seen, commit_vetoed, clone_stands}
 use Rattle.outcome_law.proofs.Evidence.{evidence-sealed}
 use Rattle.outcome_law.proofs.Rules.{undecided}
-use Rattle.outcome_law.proofs.Owned.{none_lasting, hand_seen, any_hand_seen, lost_seen, unvoted_seen}
-use Rattle.outcome_law.proofs.Going.{IsKept, keep, going_unanswered, enlisted_keeps, cloned_keeps, completed_keeps, rollback_keeps, timeout_keeps, refused_keeps, commit_keeps, lost_aborts, lost_doubts}
+use Rattle.outcome_law.proofs.Owned.{decision_seen, none_lasting, hand_seen, any_hand_seen, lost_seen, vote_seen}
+use Rattle.outcome_law.proofs.Going.{IsKept, keep, keep_lost, going_unanswered, enlisted_keeps, cloned_keeps, completed_keeps, rollback_keeps, timeout_keeps, refused_keeps, commit_keeps, lost_aborts, lost_doubts}
 
 -- where no owner answered, the rows show whether evidence stands
 evidence_shown : (h : List Entry) → ruled h ≡ true → has is_answer h ≡ false → is_evident (has is_sealed h) (rows h) ≡ evidence h
@@ -114,7 +114,7 @@ asked_commit h false k d c v = commit_keeps h k d c v
 time_keeps : (h : List Entry) (reached late : Bool) → IsKept h → (late ≡ false → (has is_decision h ≡ false) × (has is_any_hand h ≡ false) × (evidence h ≡ false))
     → IsKept (onto h (if reached then time_up late else []))
 time_keeps h false late k f = k
-time_keeps h true true k f = keep Late h k refl (λ g. g)
+time_keeps h true true k f = keep Late h k refl refl (λ g. g)
 time_keeps h true false k f = let w = f refl in timeout_keeps h k w.0 w.1 w.2
 
 -- a timeout that isn't late comes while nothing is decided, the commit isn't handed over, and no evidence stands
@@ -129,57 +129,57 @@ not_late h k l =
     (d, sym (any_hand_seen h) ∙ or_second decided handed first, sym (evidence_seen h k d) ∙ or_second (decided || handed) evident l)
 
 -- what is lost decides where nothing is decided and it didn't vote
-gone_keeps : (h : List Entry) (e : EnlNo) (decided voted handed : Bool) → IsKept h → rule h (Lost e) ≡ true → (decided ≡ false → has is_decision h ≡ false)
-    → (voted ≡ false → has (is_vote e.value) h ≡ false) → handed ≡ has (is_hand e.value) h → IsKept (onto (Lost e ∷ h) (decided_if (not decided && not voted) (lost_outcome handed)))
-gone_keeps h e true voted handed k q f g w = keep (Lost e) h k q (λ g. g)
-gone_keeps h e false true handed k q f g w = keep (Lost e) h k q (λ g. g)
-gone_keeps h e false false true k q f g w = lost_doubts h e k (f refl) q (sym w)
-gone_keeps h e false false false k q f g w = lost_aborts h e k (f refl) q (g refl) (sym w)
+gone_keeps : (h : List Entry) (e : EnlNo) (decided voted handed : Bool) → IsKept h → rule h (Lost e) ≡ true → decided ≡ has is_decision h
+    → voted ≡ has (is_vote e.value) h → handed ≡ has (is_hand e.value) h → IsKept (onto (Lost e ∷ h) (decided_if (not decided && not voted) (lost_outcome handed)))
+gone_keeps h e true voted handed k q f g w = keep_lost h e k q (or_left (has is_decision h) _ (sym f))
+gone_keeps h e false true handed k q f g w = keep_lost h e k q (or_right (has is_decision h) _ (sym g))
+gone_keeps h e false false true k q f g w = lost_doubts h e k (sym f) q (sym w)
+gone_keeps h e false false false k q f g w = lost_aborts h e k (sym f) q (sym g) (sym w)
 
 -- the entries of a call keep it
 pub call_keeps : (h : List Entry) (n : ℕ) (a : ActorNo) (y : Answer) (c : Call) (m : ℕ) (b : Bool) → IsKept h → is_new (observe h) c ≡ true → is_done (answer (observe h) c m) ≡ b
     → IsKept (onto (Called n a y ∷ h) (facts_if b (facts (observe h) c)))
 unfolding answer observe evidence ready by_seal by_owner by_log
-call_keeps h n a y c m false k w f = keep (Called n a y) h k refl (λ g. g)
-call_keeps h n a y (Begin t d) m true k w f = keep (Began (limit_of d)) (Called n a y ∷ h) (keep (Called n a y) h k refl (λ g. g)) refl (λ g. g)
+call_keeps h n a y c m false k w f = keep (Called n a y) h k refl refl (λ g. g)
+call_keeps h n a y (Begin t d) m true k w f = keep (Began (limit_of d)) (Called n a y ∷ h) (keep (Called n a y) h k refl refl (λ g. g)) refl refl (λ g. g)
 call_keeps h n a y (Volatile t e x v) m true k w f =
     let fine = done_behind (latest began_of h) (latest decision_of h) (volatile_answer (has is_sealed h) (rows h)) f in
-    enlisted_keeps (Called n a y ∷ h) e (class_of x) (keep (Called n a y) h k refl (λ g. g)) (undecided h fine.0) (volatile_done (has is_sealed h) (rows h) fine.1)
+    enlisted_keeps (Called n a y ∷ h) e (class_of x) (keep (Called n a y) h k refl refl (λ g. g)) (undecided h fine.0) (volatile_done (has is_sealed h) (rows h) fine.1)
     (sym (enlisted_in_rows e.value h) ∙ not_true (has (is_of e.value) (rows h)) w) (or_left (is_volatile (class_of x)) _ (volatile_class x))
 call_keeps h n a y (Durable t e r x) m true k w f =
     let fine = done_behind (latest began_of h) (latest decision_of h) (durable_answer (has is_sealed h) (is_single x) (rows h)) f in
     let first = durable_done (has is_sealed h) (is_single x) (rows h) fine.1 in
-    enlisted_keeps (Called n a y ∷ h) e DurableSingle (keep (Called n a y) h k refl (λ g. g)) (undecided h fine.0) first.0
+    enlisted_keeps (Called n a y ∷ h) e DurableSingle (keep (Called n a y) h k refl refl (λ g. g)) (undecided h fine.0) first.0
     (sym (enlisted_in_rows e.value h) ∙ not_true (has (is_of e.value) (rows h)) w) (ap is_empty (none_lasting h first.1))
 call_keeps h n a y (Promotable t e r v x p) m true k w f =
     let fine = done_behind (latest began_of h) (latest decision_of h) (promotable_answer (has is_sealed h) (rows h)) f in
     let first = promotable_done (has is_sealed h) (rows h) fine.1 in
     keep (Init e) (Enlisted e PromotableClass ∷ Called n a y ∷ h)
-    (enlisted_keeps (Called n a y ∷ h) e PromotableClass (keep (Called n a y) h k refl (λ g. g)) (undecided h fine.0) first.0
-    (sym (enlisted_in_rows e.value h) ∙ not_true (has (is_of e.value) (rows h)) w) (ap is_empty (none_lasting h first.1))) refl (λ g. g)
+    (enlisted_keeps (Called n a y ∷ h) e PromotableClass (keep (Called n a y) h k refl refl (λ g. g)) (undecided h fine.0) first.0
+    (sym (enlisted_in_rows e.value h) ∙ not_true (has (is_of e.value) (rows h)) w) (ap is_empty (none_lasting h first.1))) refl refl (λ g. g)
 call_keeps h n a y (Clone t c d) m true k w f =
     let fine = done_behind (latest began_of h) (latest decision_of h) _ f in
-    cloned_keeps (Called n a y ∷ h) c d (keep (Called n a y) h k refl (λ g. g)) (undecided h fine.0) (clone_done (has is_commit h) _ fine.1)
+    cloned_keeps (Called n a y ∷ h) c d (keep (Called n a y) h k refl refl (λ g. g)) (undecided h fine.0) (clone_done (has is_commit h) _ fine.1)
     (sym (clone_stands c.value h) ∙ not_true (has (is_clone c.value) (clone_rows h)) w)
 call_keeps h n a y (Complete c) m true k w f =
     let fine = done_behind (latest began_of h) (latest decision_of h) _ f in
-    completed_keeps (Called n a y ∷ h) c (keep (Called n a y) h k refl (λ g. g)) (undecided h fine.0)
+    completed_keeps (Called n a y ∷ h) c (keep (Called n a y) h k refl refl (λ g. g)) (undecided h fine.0)
     (sym (clone_stands c.value h) ∙ complete_done (has (is_clone c.value) (clone_rows h)) (has (is_complete_clone c.value) (clone_rows h)) fine.1)
 call_keeps h n a y (Commit t) m true k w f =
     let fine = done_behind (latest began_of h) (latest decision_of h) (unless_late (has is_commit h)) f in
-    asked_commit (Called n a y ∷ h) (has is_open_rollback (clone_rows h)) (keep (Called n a y) h k refl (λ g. g)) (undecided h fine.0) (late_done (has is_commit h) fine.1)
+    asked_commit (Called n a y ∷ h) (has is_open_rollback (clone_rows h)) (keep (Called n a y) h k refl refl (λ g. g)) (undecided h fine.0) (late_done (has is_commit h) fine.1)
     (sym (commit_vetoed h k.rules))
 call_keeps h n a y (Rollback t) m true k w f =
     let fine = done_behind (latest began_of h) (latest decision_of h) (unless_late (has is_sealed h)) f in
-    rollback_keeps (Called n a y ∷ h) (keep (Called n a y) h k refl (λ g. g)) (undecided h fine.0) (late_done (has is_sealed h) fine.1)
+    rollback_keeps (Called n a y ∷ h) (keep (Called n a y) h k refl refl (λ g. g)) (undecided h fine.0) (late_done (has is_sealed h) fine.1)
 call_keeps h n a y (Tick t i) m true k w f =
     let z = ticked (clock h) i in
     time_keeps (Clock z ∷ Called n a y ∷ h) (reaches (latest began_of h) (clock h) z) (is_late (observe h))
-    (keep (Clock z) (Called n a y ∷ h) (keep (Called n a y) h k refl (λ g. g)) refl (λ g. g)) (not_late h k)
+    (keep (Clock z) (Called n a y ∷ h) (keep (Called n a y) h k refl refl (λ g. g)) refl refl (λ g. g)) (not_late h k)
 call_keeps h n a y (Gone e) m true k w f =
     let fine = gone_done (latest began_of h) (has (is_of e.value) (rows h)) (is_gone (observe h) e.value) f in
     let lost = sym (lost_seen e.value h k.rules) ∙ fine.1 in
     let rule : rule h (Lost e) ≡ true = and_both (has (is_enlisted e.value) h) (not (has (is_lost e.value) h)) (sym (enlisted_in_rows e.value h) ∙ fine.0) (not_false (has (is_lost e.value) h) lost) in
-    gone_keeps (Called n a y ∷ h) e (is_some (latest decision_of h)) (voted e.value (rows h)) (is_handed (latest handed_of h) e.value) (keep (Called n a y) h k refl (λ g. g)) rule
-    (λ d. undecided h (none_there (latest decision_of h) d)) (unvoted_seen h e.value k.rules fine.0) (hand_seen e.value h k.rules)
-call_keeps h n a y _ m true k w f = keep (Called n a y) h k refl (λ g. g)
+    gone_keeps (Called n a y ∷ h) e (is_some (latest decision_of h)) (voted e.value (rows h)) (is_handed (latest handed_of h) e.value) (keep (Called n a y) h k refl refl (λ g. g)) rule
+    (decision_seen h) (vote_seen h e.value k.rules fine.0) (hand_seen e.value h k.rules)
+call_keeps h n a y _ m true k w f = keep (Called n a y) h k refl refl (λ g. g)

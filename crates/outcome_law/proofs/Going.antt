@@ -1,6 +1,6 @@
 -- What stands at the end of each block while nothing is decided, and which single entries keep it.
-use Rattle.std.proofs.Common.{◌≡◌, ◌==◌, ℕ, Bool, true, false, ◌&&◌, ◌||◌, List, [], ◌∷◌, refl, ◌∙◌, ap}
-use Rattle.std.specs.Prelude.{not}
+use Rattle.std.proofs.Common.{◌≡◌, ◌==◌, ℕ, Bool, true, false, ◌&&◌, ◌||◌, List, [], ◌∷◌, Option, Some, None, refl, ◌∙◌, ap}
+use Rattle.std.specs.Prelude.{not, is_none}
 use Rattle.std.proofs.lemmas.Bool.{eqb-true, false_from_ne_true, or_left}
 use Rattle.dtx_values.specs.declared.number.CloneNo.{CloneNo}
 use Rattle.dtx_values.specs.declared.number.EnlNo.{EnlNo}
@@ -14,7 +14,7 @@ use Rattle.dtx_values.specs.declared.words.Outcome.{Outcome}
 use Rattle.dtx_values.specs.declared.words.Outcome.TheVariants.{Committed, Aborted, InDoubt}
 use Rattle.dtx_values.specs.declared.words.Vote.TheVariants.{Yes, No, Done}
 use Rattle.dtx_values.specs.Clones.{blocks}
-use Rattle.dtx_model.specs.Words.{has, each, all_of}
+use Rattle.dtx_model.specs.Words.{has, each, all_of, put}
 use Rattle.dtx_values.specs.Class.{is_volatile}
 use Rattle.dtx_model.specs.Entries.{is_commit, is_sealed, is_yes, is_hand, is_any_hand, is_owner, is_any_owner, is_lost, is_vote, clone_of, is_good_vote, is_decision, handed_of}
 use Rattle.dtx_model.specs.Outcome.{can_own, durables, enlisted, is_complete, is_empty, ready, by_seal, by_owner, by_log, evidence, is_rollback, is_veto, vetoed, is_lost_owner, owner_doubt, doubt, may_tell}
@@ -40,14 +40,53 @@ all_closed h = each (λ c. blocks c.1 || is_complete h c) (all_of clone_of h)
 abbrev pub is_going : List Entry → Bool
 is_going h = has is_decision h || (not (has is_no_vote h) && not (has is_answer h) && (not (has is_commit h) || all_closed h))
 
+abbrev pub lost_of : Entry → Option EnlNo
+lost_of (Lost e) = Some e
+lost_of _ = None
+
+-- while nothing is decided, each that was lost had voted
+abbrev pub is_spared : List Entry → Bool
+is_spared h = has is_decision h || each (λ e. has (is_vote e.value) h) (all_of lost_of h)
+
 -- what holds at the end of each block
 pub record IsKept (h : List Entry) : Type 0 where
   pub rules : ruled h ≡ true
   pub going : is_going h ≡ true
+  pub spared : is_spared h ≡ true
 
--- one more entry keeps it
-pub keep : (x : Entry) (h : List Entry) → IsKept h → rule h x ≡ true → (is_going h ≡ true → is_going (x ∷ h) ≡ true) → IsKept (x ∷ h)
-keep x h k r g = record { rules = and_both (rule h x) (ruled h) r k.rules; going = g k.going }
+-- with one more entry that is no loss, each that was lost had voted
+spared_more : (x : Entry) (h : List Entry) → is_none (lost_of x) ≡ true → is_spared h ≡ true → is_spared (x ∷ h) ≡ true
+spared_more x h n s = step (is_decision x) (lost_of x) n s
+  where
+    votes : (xs : List EnlNo) → each (λ e. has (is_vote e.value) h) xs ≡ true → each (λ e. has (is_vote e.value) (x ∷ h)) xs ≡ true
+    votes xs k = each_more (λ e. has (is_vote e.value) h) (λ e. has (is_vote e.value) (x ∷ h)) (λ e. or_right (is_vote e.value x) (has (is_vote e.value) h)) xs k
+
+    still : (d : Bool) → (d || each (λ e. has (is_vote e.value) h) (all_of lost_of h)) ≡ true → (d || each (λ e. has (is_vote e.value) (x ∷ h)) (all_of lost_of h)) ≡ true
+    still true k = refl
+    still false k = votes (all_of lost_of h) k
+
+    step : (d : Bool) (o : Option EnlNo) → is_none o ≡ true → (has is_decision h || each (λ e. has (is_vote e.value) h) (all_of lost_of h)) ≡ true
+        → ((d || has is_decision h) || each (λ e. has (is_vote e.value) (x ∷ h)) (put o (all_of lost_of h))) ≡ true
+    step true o n k = refl
+    step false None n k = still (has is_decision h) k
+    step false (Some e) n k = absurd cc
+
+-- one more entry that is no loss keeps it
+pub keep : (x : Entry) (h : List Entry) → IsKept h → is_none (lost_of x) ≡ true → rule h x ≡ true → (is_going h ≡ true → is_going (x ∷ h) ≡ true) → IsKept (x ∷ h)
+keep x h k n r g = record { rules = and_both (rule h x) (ruled h) r k.rules; going = g k.going; spared = spared_more x h n k.spared }
+
+-- a loss after a decision keeps it, and one of an enlistment that voted
+pub keep_lost : (h : List Entry) (e : EnlNo) → IsKept h → rule h (Lost e) ≡ true → (has is_decision h || has (is_vote e.value) h) ≡ true → IsKept (Lost e ∷ h)
+keep_lost h e k r v =
+    record {
+      rules = and_both (rule h (Lost e)) (ruled h) r k.rules;
+      going = k.going;
+      spared = step (has is_decision h) (has (is_vote e.value) h) (each (λ e. has (is_vote e.value) h) (all_of lost_of h)) v k.spared;
+    }
+  where
+    step : (d w s : Bool) → (d || w) ≡ true → (d || s) ≡ true → (d || (w && s)) ≡ true
+    step true w s v k = refl
+    step false w s v k = and_both w s v k
 
 -- where nothing is decided, nobody voted no
 pub going_willing : (h : List Entry) → has is_decision h ≡ false → is_going h ≡ true → has is_no_vote h ≡ false
@@ -95,7 +134,7 @@ commit_step false true c x e g = e
 pub enlisted_keeps : (h : List Entry) (e : EnlNo) (c : Class) → IsKept h → has is_decision h ≡ false → has is_sealed h ≡ false
     → has (is_enlisted e.value) h ≡ false → (is_volatile c || (can_own c && is_empty (durables h))) ≡ true → IsKept (Enlisted e c ∷ h)
 enlisted_keeps h e c k d s n v =
-    keep (Enlisted e c) h k
+    keep (Enlisted e c) h k refl
     (four_hold (not (has is_decision h)) (not (has is_sealed h)) (not (has (is_enlisted e.value) h)) (is_volatile c || (can_own c && is_empty (durables h)))
     (not_false (has is_decision h) d) (not_false (has is_sealed h) s) (not_false (has (is_enlisted e.value) h) n) v) (λ g. g)
 
@@ -103,7 +142,7 @@ enlisted_keeps h e c k d s n v =
 pub cloned_keeps : (h : List Entry) (c : CloneNo) (d : CloneKind) → IsKept h → has is_decision h ≡ false → has is_commit h ≡ false
     → has (is_cloned c.value) h ≡ false → IsKept (Cloned c d ∷ h)
 cloned_keeps h c d k u m n =
-    keep (Cloned c d) h k
+    keep (Cloned c d) h k refl
     (three_hold (not (has is_decision h)) (not (has is_commit h)) (not (has (is_cloned c.value) h))
     (not_false (has is_decision h) u) (not_false (has is_commit h) m) (not_false (has (is_cloned c.value) h) n))
     (going_step (has is_decision h) (not (has is_no_vote h) && not (has is_answer h)) (has is_commit h) (all_closed h) (all_closed (Cloned c d ∷ h)) (λ t. absurd (not_both (has is_commit h) t m)))
@@ -111,7 +150,7 @@ cloned_keeps h c d k u m n =
 -- one more complete keeps it
 pub completed_keeps : (h : List Entry) (c : CloneNo) → IsKept h → has is_decision h ≡ false → has (is_cloned c.value) h ≡ true → IsKept (Completed c ∷ h)
 completed_keeps h c k u n =
-    keep (Completed c) h k (and_both (not (has is_decision h)) (has (is_cloned c.value) h) (not_false (has is_decision h) u) n)
+    keep (Completed c) h k refl (and_both (not (has is_decision h)) (has (is_cloned c.value) h) (not_false (has is_decision h) u) n)
     (going_step (has is_decision h) (not (has is_no_vote h) && not (has is_answer h)) (has is_commit h) (all_closed h) (all_closed (Completed c ∷ h))
     (λ t. each_more (λ d. blocks d.1 || is_complete h d) (λ d. blocks d.1 || is_complete (Completed c ∷ h) d)
     (λ d. or_between (blocks d.1) (d.0.value == c.value) (is_complete h d)) (all_of clone_of h)))
@@ -122,6 +161,7 @@ decided_keeps h x r d m =
     record {
       rules = and_both (rule h (Decided x)) (ruled h) (and_both (not (has is_decision h)) (may_tell h Client x) (not_false (has is_decision h) d) m) r;
       going = refl;
+      spared = refl;
     }
 
 -- an abort behind a veto keeps it
@@ -176,15 +216,15 @@ pub commit_keeps : (h : List Entry) → IsKept h → has is_decision h ≡ false
 commit_keeps h k d c v =
     let closed : all_closed h ≡ true =
     none_each (λ c. is_rollback c.1 && not (is_complete h c)) (λ c. blocks c.1 || is_complete h c) (λ c. closed_step c.1 (is_complete h c)) (all_of clone_of h) v in
-    keep CommitAsked h k (commit_rule h d c) (commit_step (has is_decision h) (not (has is_no_vote h) && not (has is_answer h)) (has is_commit h) (all_closed h) closed)
+    keep CommitAsked h k refl (commit_rule h d c) (commit_step (has is_decision h) (not (has is_no_vote h) && not (has is_answer h)) (has is_commit h) (all_closed h) closed)
 
 -- a vote yes keeps it
 pub yes_keeps : (h : List Entry) (e : EnlNo) → IsKept h → rule h (Voted e Yes) ≡ true → IsKept (Voted e Yes ∷ h)
-yes_keeps h e k q = keep (Voted e Yes) h k q (λ g. g)
+yes_keeps h e k q = keep (Voted e Yes) h k refl q (λ g. g)
 
 -- a vote done keeps it
 pub done_keeps : (h : List Entry) (e : EnlNo) → IsKept h → rule h (Voted e Done) ≡ true → IsKept (Voted e Done ∷ h)
-done_keeps h e k q = keep (Voted e Done) h k q (λ g. g)
+done_keeps h e k q = keep (Voted e Done) h k refl q (λ g. g)
 
 -- what each enlistment passes, one that stands passes
 pub enlisted_passes : (q : ℕ → Bool) (e : ℕ) (h : List Entry) → each (λ x. q x.0.value) (enlisted h) ≡ true → has (is_enlisted e) h ≡ true → q e ≡ true
@@ -224,7 +264,7 @@ no_keeps h e k q =
     (unwilling h (Voted e No ∷ h) e.value stands (or_false ((e.value == e.value) && false) (has (is_good_vote e.value) h) (and_never (e.value == e.value)) none)))
 
 -- what was answered by this owner was answered
-any_answer : (e : ℕ) (x : Entry) → is_any_owner e x ≡ true → is_answer x ≡ true
+pub any_answer : (e : ℕ) (x : Entry) → is_any_owner e x ≡ true → is_answer x ≡ true
 any_answer e (OwnerAnswered f y) k = refl
 any_answer e _ k = k
 

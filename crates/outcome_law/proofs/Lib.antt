@@ -20,6 +20,8 @@ pub mod Plans
 pub mod Timely
 pub mod Waves
 pub mod Settled
+pub mod Silent
+pub mod Heard
 pub mod Replays
 pub mod Examples
 pub mod ReplayExample

@@ -1,11 +1,11 @@
 -- What the rows and the listeners show of the owner of the commit, of who hears of doubt, and of who is lost.
-use Rattle.std.proofs.Common.{◌≡◌, ℕ, ◌==◌, Bool, true, false, ◌&&◌, ◌||◌, List, [], ◌∷◌, map, Option, Some, None, refl, ◌∙◌, ap, sym, subst}
+use Rattle.std.proofs.Common.{◌≡◌, ℕ, ◌==◌, Bool, true, false, ◌&&◌, ◌||◌, List, [], ◌∷◌, map, Option, Some, None, refl, ◌∙◌, ap, sym, subst, inl, inr}
 use Rattle.std.specs.Prelude.{is_some, nat_lt, not, filter, if◌then◌else◌}
-use Rattle.std.proofs.lemmas.Bool.{eqb-true}
+use Rattle.std.proofs.lemmas.Bool.{eqb-true, cases_Bool}
 use Rattle.dtx_values.specs.declared.number.EnlNo.{EnlNo}
 use Rattle.dtx_values.specs.declared.entry.Ask.TheVariants.{Prepare}
 use Rattle.dtx_values.specs.declared.entry.Entry.{Entry}
-use Rattle.dtx_values.specs.declared.entry.Entry.TheVariants.{Enlisted, Asked, Voted, Handed, Told, Lost}
+use Rattle.dtx_values.specs.declared.entry.Entry.TheVariants.{Enlisted, Asked, Decided, Voted, Handed, Told, Lost}
 use Rattle.dtx_values.specs.declared.entry.Party.TheVariants.{Enl}
 use Rattle.dtx_values.specs.declared.words.Class.{Class}
 use Rattle.dtx_values.specs.declared.row.Row.{Row}
@@ -13,7 +13,7 @@ use Rattle.dtx_values.specs.Table.{insert_by, marks, voted}
 use Rattle.dtx_model.specs.declared.listener.Listener.{Listener}
 use Rattle.dtx_model.specs.Words.{has, latest}
 use Rattle.dtx_values.specs.Class.{is_volatile}
-use Rattle.dtx_model.specs.Entries.{is_sealed, is_hand, is_any_hand, is_lost, is_vote, is_decision, handed_of}
+use Rattle.dtx_model.specs.Entries.{is_sealed, is_hand, is_any_hand, is_lost, is_vote, is_decision, handed_of, decision_of}
 use Rattle.dtx_model.specs.Observed.{listener_number, hear, listeners, lose, rows}
 use Rattle.dtx_model.specs.Outcome.{can_own, durables, enlisted, hears_doubt, is_empty, ready}
 use Rattle.dtx_values.specs.Owners.{lasting, only, owner_of}
@@ -42,7 +42,7 @@ has_rows f (Voted e v ∷ h) =
 has_rows f (x ∷ h) = has_rows f h
 
 -- some of those that pass p pass q where some pass both
-has_filter : {A : Type 0} (q p : A → Bool) (xs : List A) → has q (filter p xs) ≡ has (λ x. q x && p x) xs
+pub has_filter : {A : Type 0} (q p : A → Bool) (xs : List A) → has q (filter p xs) ≡ has (λ x. q x && p x) xs
 has_filter q p [] = refl
 has_filter q p (x ∷ xs) = step q x (p x) (filter p xs) (has (λ y. q y && p y) xs) (has_filter q p xs)
   where
@@ -285,3 +285,27 @@ unvoted_seen h e r s v = of_row h e (rows h) (rows_seen h r) s v
         let unvoted : has_voted x ≡ false = rw k at none in
         rw same (sym w.0.voted ∙ unvoted))
         (λ k. of_row h e xs w.1 k (or_second (is_of e x && has_voted x) (has (λ x. is_of e x && has_voted x) xs) v)) s
+
+-- an enlistment whose row has a vote voted
+cast_seen : (h : List Entry) (e : ℕ) → ruled h ≡ true → voted e (rows h) ≡ true → has (is_vote e) h ≡ true
+cast_seen h e r v = of_row h e (rows h) (rows_seen h r) v
+  where
+    of_row : (h : List Entry) (e : ℕ) (xs : List Row) → OfEach (IsRow h) xs → has (λ x. is_of e x && has_voted x) xs ≡ true → has (is_vote e) h ≡ true
+    of_row h e [] w v = absurd cc
+    of_row h e (x ∷ xs) w v =
+        or_case (is_of e x && has_voted x) (has (λ x. is_of e x && has_voted x) xs)
+        (λ k. let same : e ≡ x.number.value = eqb-true e x.number.value (and_left (is_of e x) (has_voted x) k) in rw same (sym w.0.voted ∙ and_right (is_of e x) (has_voted x) k))
+        (of_row h e xs w.1) v
+
+-- an enlistment that stands voted exactly where its row has a vote
+pub vote_seen : (h : List Entry) (e : ℕ) → ruled h ≡ true → has (is_of e) (rows h) ≡ true → voted e (rows h) ≡ has (is_vote e) h
+vote_seen h e r s = elim (cases_Bool (voted e (rows h))) [
+  | inl v ↦ v ∙ sym (cast_seen h e r v)
+  | inr v ↦ v ∙ sym (unvoted_seen h e r s v)
+]
+
+-- what was decided last was decided
+pub decision_seen : (h : List Entry) → is_some (latest decision_of h) ≡ has is_decision h
+decision_seen [] = refl
+decision_seen (Decided x ∷ h) = refl
+decision_seen (x ∷ h) = decision_seen h

@@ -46,6 +46,10 @@ abbrev pub is_only : ℕ → List (EnlNo × Class) → Bool
 is_only e (x ∷ []) = (e == x.0.value) && can_own x.1
 is_only e _ = false
 
+-- this enlistment, where it is volatile
+abbrev pub is_volatile_of : ℕ → EnlNo × Class → Bool
+is_volatile_of e x = (e == x.0.value) && is_volatile x.1
+
 -- some owner answered
 abbrev pub is_answer : Entry → Bool
 is_answer (OwnerAnswered e x) = true
@@ -64,7 +68,7 @@ rule h (Enlisted e c) = not (has is_decision h) && not (has is_sealed h) && not 
 rule h (Cloned c k) = not (has is_decision h) && not (has is_commit h) && not (has (is_cloned c.value) h)
 rule h (Completed c) = not (has is_decision h) && has (is_cloned c.value) h
 rule h CommitAsked = not (has is_decision h) && not (has is_commit h)
-rule h (Asked e Prepare) = not (has is_decision h) && has is_commit h && has (is_enlisted e.value) h && not (has (is_asked e.value) h)
+rule h (Asked e Prepare) = not (has is_decision h) && has is_commit h && has (is_enlisted e.value) h && not (has (is_asked e.value) h) && has (is_volatile_of e.value) (enlisted h)
 rule h (Voted e v) = not (has is_decision h) && has (is_enlisted e.value) h && has (is_asked e.value) h && not (has (is_vote e.value) h)
 rule h Sealed = not (has is_decision h) && has is_commit h && all_complete h && zeros_cast h
 rule h (Handed e) = not (has is_decision h) && has is_sealed h && ready h && is_only e.value (durables h) && not (has is_any_hand h)

@@ -42,7 +42,7 @@ pub each-append : {A : Type 0} (p : A → Bool) → (xs ys : List A) → each p 
 each-append p xs ys h k = list_all-append p xs ys ∙ and_both (each p xs) (each p ys) h k
 
 -- where each passes, the one at a place passes
-each-at : {A : Type 0} (p : A → Bool) → (xs : List A) (k : ℕ) (x : A) → each p xs ≡ true → slice_get xs k ≡ Some x → p x ≡ true
+pub each-at : {A : Type 0} (p : A → Bool) → (xs : List A) (k : ℕ) (x : A) → each p xs ≡ true → slice_get xs k ≡ Some x → p x ≡ true
 each-at p [] k x h e = absurd cc
 each-at p (y ∷ xs) zero x h e = let same : y ≡ x = cc in let first : p y ≡ true = and_left (p y) (each p xs) h in rw (← same) first
 each-at p (y ∷ xs) (suc k) x h e = each-at p xs k x (and_right (p y) (each p xs) h) e

@@ -9,7 +9,7 @@ use Rattle.dtx_values.specs.declared.entry.Entry.TheVariants.{CommitAsked, Cut, 
 use Rattle.dtx_values.specs.declared.entry.Party.TheVariants.{Client}
 use Rattle.dtx_values.specs.declared.script.Line.{Line}
 use Rattle.dtx_values.specs.declared.words.Class.{Class}
-use Rattle.dtx_values.specs.declared.words.Class.TheVariants.{Zero, One, DurableTwo, DurableSingle, Promotable}
+use Rattle.dtx_values.specs.declared.words.Class.TheVariants.{Zero, One}
 use Rattle.dtx_values.specs.declared.words.Outcome.{Outcome}
 use Rattle.dtx_values.specs.declared.words.Outcome.TheVariants.{Committed, Aborted, InDoubt}
 use Rattle.dtx_values.specs.declared.words.Vote.{Vote}
@@ -60,12 +60,12 @@ no_act [] e = refl
 no_act (x ∷ xs) e = absurd cc
 
 -- where nothing is pending, no reply is due
-settled_replies : (s : List Line) (h : List Entry) → Settled s h → due_replies s (observe h) ≡ []
+pub settled_replies : (s : List Line) (h : List Entry) → Settled s h → due_replies s (observe h) ≡ []
 unfolding pending
 settled_replies s h e = append_first (due_replies s (observe h)) (act_if (act_entries (observe h))) e
 
 -- where nothing is pending, the local act has no entries
-settled_act : (s : List Line) (h : List Entry) → Settled s h → act_entries (observe h) ≡ []
+pub settled_act : (s : List Line) (h : List Entry) → Settled s h → act_entries (observe h) ≡ []
 unfolding pending
 settled_act s h e = no_act (act_entries (observe h)) (append_second (due_replies s (observe h)) (act_if (act_entries (observe h))) e)
 
@@ -74,7 +74,7 @@ none_open : {A : Type 0} (p q : A → Bool) (xs : List A) → each q xs ≡ true
 none_open p q xs h = none_more q (λ x. p x && not (q x)) (λ x k. rw k (and_never (p x))) xs h
 
 -- nothing is given: each gives nothing
-each_none : {A B : Type 0} (f : A → Option B) (xs : List A) → filter_map f xs ≡ [] → each (λ x. is_none (f x)) xs ≡ true
+pub each_none : {A B : Type 0} (f : A → Option B) (xs : List A) → filter_map f xs ≡ [] → each (λ x. is_none (f x)) xs ≡ true
 each_none f [] e = refl
 each_none f (x ∷ xs) e = step (f x) (filter_map f xs) (each (λ x. is_none (f x)) xs) (each_none f xs) e
   where
@@ -357,12 +357,10 @@ still s h x w n = step (can_own x.class) (not (is_handed (latest handed_of h) x.
         (hand_step s (is_marked x && not (has_voted x)) (is_handed (latest handed_of h) x.number.value) x.number (first_of_three (voted_well (planned_vote s x.number.value)) _ _ w)
         (owner_willing (voted_well (planned_vote s x.number.value)) (is_committed (planned_owner s x.number.value)) (not (is_promotable x.class) || holds (planned_promotion s x.number.value)) x.class o w) n)
 
--- where each is willing and no reply is due, the commit isn't handed over
-none_handed : (s : List Line) (h : List Entry) → ruled h ≡ true → CanCommit s h → each (λ x. is_none (open_reply s h x)) (rows h) ≡ true → is_some (latest handed_of h) ≡ false
-none_handed s h r c d =
-    let each_still : each (λ x. not (can_own x.class) || not (is_handed (latest handed_of h) x.number.value)) (rows h) ≡ true =
-    each_both (λ x. is_willing s x.number.value x.class) (λ x. is_none (open_reply s h x)) (λ x. not (can_own x.class) || not (is_handed (latest handed_of h) x.number.value))
-    (still s h) (rows h) (each_planned s h c) d in
+-- where the commit is handed to no row that can own it, it isn't handed over
+pub unhanded_by : (h : List Entry) → ruled h ≡ true → each (λ x. not (can_own x.class) || not (is_handed (latest handed_of h) x.number.value)) (rows h) ≡ true
+    → is_some (latest handed_of h) ≡ false
+unhanded_by h r each_still =
     let of_each = sym (each_rows (λ e k. not (can_own k) || not (is_handed (latest handed_of h) e.value)) h) ∙ each_still in
     false_from_ne_true (is_some (latest handed_of h))
     (λ k. let w = hand_name h (sym (any_hand_seen h) ∙ k) in
@@ -420,7 +418,7 @@ ones_done xs a z e =
     step _ m v a q = refl
 
 -- where the client is left to be told nothing, it was told
-told_all : (x : Outcome) (q : Option Listener) (o : Option Outcome) → tell x q o ≡ [] → is_some o ≡ true
+pub told_all : (x : Outcome) (q : Option Listener) (o : Option Outcome) → tell x q o ≡ [] → is_some o ≡ true
 told_all x (Some q) o e = absurd cc
 told_all x None (Some y) e = refl
 told_all x None None e = absurd cc
@@ -443,19 +441,25 @@ commit_stuck true owner e = refl
 commit_stuck false (Some f) e = absurd cc
 commit_stuck false None e = absurd cc
 
+-- where each is willing and no reply is due, the commit isn't handed over
+none_handed : (s : List Line) (h : List Entry) → ruled h ≡ true → CanCommit s h → each (λ x. is_none (open_reply s h x)) (rows h) ≡ true → is_some (latest handed_of h) ≡ false
+none_handed s h r c d =
+    unhanded_by h r
+    (each_both (λ x. is_willing s x.number.value x.class) (λ x. is_none (open_reply s h x)) (λ x. not (can_own x.class) || not (is_handed (latest handed_of h) x.number.value))
+    (still s h) (rows h) (each_planned s h c) d)
+
 -- by cases: it is sealed, or it isn't
-by_seal : {C : Type 0} (s : List Line) (h : List Entry) (commit sealed : Bool) → has is_sealed h ≡ sealed → commit ≡ true → ruled h ≡ true → CanCommit s h
+pub by_seal : {C : Type 0} (h : List Entry) (commit sealed : Bool) → has is_sealed h ≡ sealed → commit ≡ true → ruled h ≡ true → has is_open_block (clone_rows h) ≡ false
     → each has_answered (rows h) ≡ true → is_some (latest handed_of h) ≡ false
     → undecided_act commit sealed (before_seal (next_ask (rows h) true) (is_over (rows h) (clone_rows h) 0))
     (after_seal (next_ask (rows h) false) (all_voted (rows h)) (commit_act (is_some (latest handed_of h)) (owner_of (rows h)))) ≡ [] → C
 unfolding is_over
-by_seal s h false sealed k c r can a u e = absurd cc
-by_seal s h true false k c r can a u e =
+by_seal h false sealed k c r closed a u e = absurd cc
+by_seal h true false k c r closed a u e =
     let stuck = zero_stuck (next_ask (rows h) true) (is_over (rows h) (clone_rows h) 0) e in
-    let closed : has is_open_block (clone_rows h) ≡ false = open_blocks h r ∙ none_open (λ c. blocks c.1) (is_complete h) (all_of clone_of h) can.completed in
     let over : is_over (rows h) (clone_rows h) 0 ≡ true = rw (zeros_done (rows h) a stuck.0, closed) refl in
     absurd (not_both (is_over (rows h) (clone_rows h) 0) over stuck.1)
-by_seal s h true true k c r can a u e =
+by_seal h true true k c r closed a u e =
     let stuck = seal_stuck (next_ask (rows h) false) (all_voted (rows h)) (commit_act (is_some (latest handed_of h)) (owner_of (rows h))) e in
     let voted = ones_done (rows h) a (zeros_seen h r ∙ sealed_zeros h r k) stuck.0 in
     absurd (not_both (is_some (latest handed_of h)) (commit_stuck (is_some (latest handed_of h)) (owner_of (rows h)) (stuck.1 voted)) u)
@@ -468,7 +472,8 @@ by_decision s h (Some x) f r p can a d =
     client_committed h (latest client_told_of h) r (unvetoed s h r p can) (no_doubt s h r p can) refl (told_all x (find (is_to_tell (observe h) x) (observe h).listeners) (latest client_told_of h) a)
 by_decision s h None f r p can a d =
     let none = none_due s h r f can.unlost d in
-    by_seal s h (has is_commit h) (has is_sealed h) refl can.asked r can (each_answered s h can none) (none_handed s h r can none) a
+    let closed : has is_open_block (clone_rows h) ≡ false = open_blocks h r ∙ none_open (λ c. blocks c.1) (is_complete h) (all_of clone_of h) can.completed in
+    by_seal h (has is_commit h) (has is_sealed h) refl can.asked r closed (each_answered s h can none) (none_handed s h r can none) a
 
 -- a settled history that keeps the rules, in which owners answer as planned, and that can commit: its client was told that it is committed
 pub settled_committed : (s : List Line) (h : List Entry) → ruled h ≡ true → each (is_planned s) h ≡ true → Settled s h → CanCommit s h → has (is_client_told Committed) h ≡ true

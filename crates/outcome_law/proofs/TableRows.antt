@@ -27,7 +27,7 @@ use Rattle.dtx_values.specs.Class.{is_zero, is_volatile}
 use Rattle.dtx_values.specs.Waves.{all_voted, zeros_voted}
 use Rattle.dtx_values.specs.Vote.{voted_well, is_good}
 use Rattle.dtx_model.proofs.Bools.{and_right, or_false, or_second, or_right, not_true}
-use Rattle.outcome_law.proofs.Tests.{eq_self, eq_swap, apart, second_of_four, third_of_four, fourth_of_four}
+use Rattle.outcome_law.proofs.Tests.{eq_self, eq_swap, apart, second_of_four, third_of_four, fourth_of_four, third_of_five}
 use Rattle.outcome_law.proofs.Lists.{OfEach, of-at, of-more, of-map, of-insert, of-behind, of-all, each_same, has_same, each_kept, has_kept, if_kept, each-insert, has-insert, each-behind, has-behind}
 use Rattle.outcome_law.proofs.Rule.{is_enlisted, is_cloned, zeros_cast, rule, ruled, first_rule, other_rules}
 
@@ -61,7 +61,7 @@ enlisted_once e c h r = not_true (has (is_enlisted e.value) h) (third_of_four (n
 
 -- what is asked was enlisted
 pub asked_enlisted : (e : EnlNo) (h : List Entry) → rule h (Asked e Prepare) ≡ true → has (is_enlisted e.value) h ≡ true
-asked_enlisted e h r = third_of_four (not (has is_decision h)) (has is_commit h) (has (is_enlisted e.value) h) (not (has (is_asked e.value) h)) r
+asked_enlisted e h r = third_of_five (not (has is_decision h)) (has is_commit h) (has (is_enlisted e.value) h) (not (has (is_asked e.value) h)) _ r
 
 -- what votes was enlisted
 pub voted_enlisted : (e : EnlNo) (v : Vote) (h : List Entry) → rule h (Voted e v) ≡ true → has (is_enlisted e.value) h ≡ true

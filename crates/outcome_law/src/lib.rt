@@ -2,7 +2,7 @@
 //! public function with an empty body, so that what calls it has the law.
 #![tactic(auto)]
 
-ghost use Rattle.std.specs.Prelude.{◌≡◌, ℕ, true, false, List, ◌∷◌, ◌++◌, Bool, Some, slice_get};
+ghost use Rattle.std.specs.Prelude.{◌≡◌, ℕ, true, false, List, ◌∷◌, ◌++◌, Bool, Some, length, slice_get};
 ghost use Rattle.dtx_values.specs.declared.call.Call.{Call};
 ghost use Rattle.dtx_values.specs.declared.call.Call.TheVariants.{Durable};
 ghost use Rattle.dtx_values.specs.declared.entry.Entry.{Entry};
@@ -18,21 +18,22 @@ ghost use Rattle.dtx_values.specs.declared.words.Class.{Class};
 ghost use Rattle.dtx_values.specs.declared.words.CloneKind.{CloneKind};
 ghost use Rattle.dtx_values.specs.declared.words.Outcome.TheVariants.{Committed};
 ghost use Rattle.dtx_values.specs.declared.row.Row.{Row};
+ghost use Rattle.dtx_model.specs.declared.listener.Listener.{Listener};
 ghost use Rattle.dtx_model.specs.Words.{has, each, always, all_of, past_of};
 ghost use Rattle.dtx_model.specs.Entries.{is_sealed, is_decision, is_client_told, clone_of};
 ghost use Rattle.dtx_model.specs.Outcome.{enlisted, evidence, justified, agree};
 ghost use Rattle.dtx_model.specs.Learned.{AreAnswered, Learned};
-ghost use Rattle.dtx_model.specs.Observed.{observe, rows, clone_rows};
+ghost use Rattle.dtx_model.specs.Observed.{observe, rows, clone_rows, listeners};
 ghost use Rattle.dtx_values.specs.Row.{is_lasting};
 ghost use Rattle.dtx_model.specs.Promotes.{promotes};
 ghost use Rattle.dtx_model.specs.Wires.{WireRun};
-ghost use Rattle.dtx_model.specs.Seen.{IsSeen, IsCloneSeen, is_timely};
+ghost use Rattle.dtx_model.specs.Seen.{IsSeen, IsCloneSeen, IsHeard, is_timely};
 ghost use Rattle.dtx_values.specs.Owners.{is_evident};
 ghost use Rattle.dtx_model.specs.Steps.{call_of};
 ghost use Rattle.dtx_model.specs.Contexts.{context};
 ghost use Rattle.dtx_model.specs.Caused.{Caused, Settled, is_new};
 ghost use Rattle.dtx_model.specs.Replay.{Placed, history, at_context, IsReplayed, LinesRan, calls, due_calls};
-ghost use Rattle.dtx_model.specs.History.{CanCommit, IsHistory};
+ghost use Rattle.dtx_model.specs.History.{CanCommit, IsHistory, IsToldOrWaits};
 ghost use Rattle.dtx_model.specs.Grammar.{are_named_well, is_run_line};
 
 /// The law of one outcome: in a history that a script causes, what is told is just, and no two are told opposite outcomes. (Presumed
@@ -49,8 +50,10 @@ pub fn crossings()
     ensures wires { (s : List Line) (t : ℕ) (h : List Entry) → are_named_well s ≡ true → Caused s t h → WireRun h }
 {}
 
-/// A settled transaction that can commit is committed: its client was told so. And each enlistment that came back was told.
+/// A settled transaction that can commit is committed: its client was told so. Where commit was asked, the client was told some outcome, or a
+/// blocking clone is open, or an enlistment whose reply is needed plans none. And each enlistment that came back was told.
 pub fn completeness()
+    ensures told { (s : List Line) (t : ℕ) (h : List Entry) → are_named_well s ≡ true → Caused s t h → IsToldOrWaits s h }
     ensures committed { (s : List Line) (t : ℕ) (h : List Entry) → are_named_well s ≡ true → Caused s t h → Settled s h → CanCommit s h
         → has (is_client_told Committed) h ≡ true }
     ensures answered { (s : List Line) (t : ℕ) (h : List Entry) → are_named_well s ≡ true → Caused s t h → AreAnswered s h }
@@ -71,8 +74,8 @@ pub fn replay()
     ensures determined { (s : List Line) (T U : List Placed) → IsHistory s T → IsHistory s U → T ≡ U }
 {}
 
-/// The tables of a history that a script causes say what its entries say: of each enlistment, of each clone, and whether evidence stands
-/// while nothing is decided. And a timeout comes once, at the first tick that reaches it.
+/// The tables of a history that a script causes say what its entries say: of each enlistment, whether it was told and is lost, of each clone, and
+/// whether evidence stands while nothing is decided. And a timeout comes once, at the first tick that reaches it.
 pub fn tables()
     ensures enlisted { (h : List Entry) (f : EnlNo → Class → Bool) → each (λ x. f x.number x.class) (rows h) ≡ each (λ x. f x.0 x.1) (enlisted h) }
     ensures cloned { (h : List Entry) (f : CloneNo → CloneKind → Bool) → each (λ r. f r.clone r.kind) (clone_rows h) ≡ each (λ c. f c.0 c.1) (all_of clone_of h) }
@@ -80,6 +83,9 @@ pub fn tables()
         → (k : ℕ) (x : Row) → slice_get (rows h) k ≡ Some x → IsSeen h x }
     ensures clones { (s : List Line) (t : ℕ) (h : List Entry) → are_named_well s ≡ true → Caused s t h
         → (k : ℕ) (r : CloneRow) → slice_get (clone_rows h) k ≡ Some r → IsCloneSeen h r }
+    ensures listeners { (s : List Line) (t : ℕ) (h : List Entry) → are_named_well s ≡ true → Caused s t h
+        → (k : ℕ) (l : Listener) → slice_get (listeners h) k ≡ Some l → IsHeard h l }
+    ensures counted { (h : List Entry) → length (rows h) ≡ length (enlisted h) }
     ensures evidence { (s : List Line) (t : ℕ) (h : List Entry) → are_named_well s ≡ true → Caused s t h → has is_decision h ≡ false
         → is_evident (has is_sealed h) (rows h) ≡ evidence h }
     ensures timed { (s : List Line) (t : ℕ) (h : List Entry) → are_named_well s ≡ true → Caused s t h → always is_timely h ≡ true }

@@ -1,3 +1,3 @@
 pub mod Pieces
 pub mod Rising
-mod Writing
+pub mod Writing

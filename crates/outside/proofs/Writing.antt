@@ -2,7 +2,7 @@
 use Rattle.std.proofs.Common.{◌≡◌, inl, inr, ℕ, ◌+◌, ◌≤◌, List, ◌++◌, length, take, drop, refl, ap, ◌∙◌, arith, length-append, append_assoc}
 use Rattle.std.proofs.lemmas.List.{take_at, drop_at, length-take, length-drop}
 use Rattle.outside.specs.Disk.{IsTorn, Follows, overwritten}
-use Rattle.outside.specs.Memory.{IsOneOf}
+use Rattle.outside.specs.Memory.{Images, IsOneOf}
 
 -- what a Vec holds after a slice of all of it was written
 pub vec_written : (xs ys : List ℕ) (n : ℕ) → n ≡ length xs → length ys ≡ n → take n (ys ++ drop (length ys) xs) ≡ ys
@@ -34,12 +34,12 @@ IsTorn-along at n old new other same torn = record {
 }
 
 -- where two of the three images are torn in one range, each new image is an old one that is torn there
-pub Follows-torn : (kept synced torn kept' torn' : List ℕ) (at n : ℕ) → length torn ≡ length kept → IsTorn at n kept kept' → IsTorn at n torn torn' → Follows (IsTorn at n) (IsOneOf kept synced torn) (IsOneOf kept' synced torn')
-Follows-torn kept synced torn kept' torn' at n same x y c left =
+pub Follows-torn : (d e : Images) (at n : ℕ) → length d.torn ≡ length d.kept → e.synced ≡ d.synced → IsTorn at n d.kept e.kept → IsTorn at n d.torn e.torn → Follows (IsTorn at n) (IsOneOf d) (IsOneOf e)
+Follows-torn d e at n same stays x y c left =
     elim left.one [
-      | inl e ↦ (kept, record { one = inl refl; long = refl }, IsTorn-along at n kept kept' c e x)
+      | inl s ↦ (d.kept, record { one = inl refl; long = refl }, IsTorn-along at n d.kept e.kept c s x)
       | inr rest ↦ elim rest [
-        | inl e ↦ (c, record { one = inr (inl e); long = left.long ∙ x.long }, IsTorn-same at n c)
-        | inr e ↦ (torn, record { one = inr (inr refl); long = same }, IsTorn-along at n torn torn' c e y)
+        | inl s ↦ (c, record { one = inr (inl (s ∙ stays)); long = left.long ∙ x.long }, IsTorn-same at n c)
+        | inr s ↦ (d.torn, record { one = inr (inr refl); long = same }, IsTorn-along at n d.torn e.torn c s y)
       ]
     ]

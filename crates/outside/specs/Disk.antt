@@ -1,5 +1,5 @@
 -- What the calls of a disk do, and what a crash may leave.
-use Rattle.std.specs.Prelude.{◌≡◌, ℕ, ◌+◌, List, ◌++◌, length, take, drop}
+use Rattle.std.specs.Prelude.{◌≡◌, Bool, ℕ, ◌+◌, List, ◌++◌, length, take, drop}
 
 -- the old bytes with these at this place
 abbrev pub overwritten : List ℕ → ℕ → List ℕ → List ℕ
@@ -23,7 +23,9 @@ AreWithin old new = (c : List ℕ) → new c → old c
 abbrev pub IsOnly : List ℕ → (List ℕ → Type 0) → Type 0
 IsOnly bytes image = (c : List ℕ) → image c → c ≡ bytes
 
--- a disk that tells nothing of what it holds: its length in bytes, and how many calls met a fault
+-- a disk that tells nothing of what it holds: its length in bytes, whether it was given up after a fault,
+-- and how many calls met a fault
 pub record Untold : Type 0 where
   pub size : ℕ
+  pub is_broken : Bool
   pub faults : ℕ

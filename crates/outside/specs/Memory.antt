@@ -22,13 +22,13 @@ counted false c = record { fail = c.fail; came = one_more c.came; failed = c.fai
 
 -- a source: what is left to read, how much a read gives at most, and its calls
 pub record Feed : Type 0 where
-  pub rest : List ℕ
+  pub left : List ℕ
   pub piece : ℕ
   pub calls : Calls
 
 -- a sink: what was written, how much a write takes at most, and its calls
 pub record Store : Type 0 where
-  pub kept : List ℕ
+  pub written : List ℕ
   pub piece : ℕ
   pub calls : Calls
 
@@ -38,11 +38,9 @@ pub record Images : Type 0 where
   pub synced : List ℕ
   pub torn : List ℕ
 
--- a disk whose calls are numbered: its bytes as in `Images`, and its calls
+-- a disk whose calls are numbered
 pub record Device : Type 0 where
-  pub kept : List ℕ
-  pub synced : List ℕ
-  pub torn : List ℕ
+  pub images : Images
   pub calls : Calls
 
 -- as many bytes as n, each of which a crash has spoilt
@@ -50,24 +48,32 @@ abbrev pub spoilt : ℕ → List ℕ
 spoilt n = replicate n 0xA5
 
 -- after these bytes were written at this place
-abbrev pub written : ℕ → List ℕ → Images → Images
-written at bytes d = record {
+abbrev pub after_write : ℕ → List ℕ → Images → Images
+after_write at bytes d = record {
   kept = overwritten d.kept at bytes;
   synced = d.synced;
   torn = overwritten d.torn at (spoilt (length bytes));
 }
 
 -- after a sync
-abbrev pub synced_of : Images → Images
-synced_of d = record { kept = d.kept; synced = d.kept; torn = d.kept }
+abbrev pub after_sync : Images → Images
+after_sync d = record { kept = d.kept; synced = d.kept; torn = d.kept }
 
--- what a read gives after a crash with this wish: the first is what it gave, then what was synced and what is torn
-abbrev pub left_by : Image → List ℕ → List ℕ → List ℕ → List ℕ
-left_by Lose kept synced torn = synced
-left_by Keep kept synced torn = kept
-left_by Torn kept synced torn = torn
+-- the image that is wished
+abbrev pub wished : Image → Images → List ℕ
+wished Lose d = d.synced
+wished Keep d = d.kept
+wished Torn d = d.torn
 
--- a crash may leave one of these three, as long as the first
-pub record IsOneOf (kept synced torn bytes : List ℕ) : Type 0 where
-  pub one : (bytes ≡ kept) ⊎ ((bytes ≡ synced) ⊎ (bytes ≡ torn))
-  pub long : length bytes ≡ length kept
+-- after a crash with this wish
+abbrev pub after_crash : Image → Images → Images
+after_crash wish d = record { kept = wished wish d; synced = d.synced; torn = d.torn }
+
+-- a crash may leave one of the three, as long as what a read gives
+pub record IsOneOf (d : Images) (bytes : List ℕ) : Type 0 where
+  pub one : (bytes ≡ d.kept) ⊎ ((bytes ≡ d.synced) ⊎ (bytes ≡ d.torn))
+  pub long : length bytes ≡ length d.kept
+
+-- a crash with this wish leaves the image that is wished
+abbrev pub IsLeft : Image → Images → List ℕ → Type 0
+IsLeft wish d bytes = (bytes ≡ wished wish d) × IsOneOf d bytes

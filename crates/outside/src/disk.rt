@@ -1,6 +1,7 @@
 // A device of fixed length that outlives a crash.
 ghost use Rattle.std.specs.Prelude.{◌≡◌, ◌≤◌, ◌+◌, Bool, List, ℕ, length, take, drop, OnOk, OnErr, IsTrue};
 ghost use Rattle.outside.specs.Faults.{Rose};
+ghost use Rattle.dtx_values.specs.declared.Image.{Image};
 ghost use Rattle.outside.specs.Disk.{AreWithin, Follows, IsOnly, IsTorn, overwritten};
 
 use crate::Failed;
@@ -26,6 +27,9 @@ pub trait Disk {
     /// What a crash now may leave.
     ghost image: { Self → List ℕ → Type 0 };
 
+    /// A crash with this wish may leave these bytes.
+    ghost leaves: { Image → Self → List ℕ → Type 0 };
+
     /// How many calls met a fault, where the count stays at the last value of a `u64`.
     ghost faults: { Self → ℕ };
 
@@ -44,6 +48,7 @@ pub trait Disk {
         ensures seen { IsTrue honest → seen self.new ≡ seen self.old }
         ensures images { IsTrue honest → AreWithin (image self.old) (image self.new) }
         ensures size { size self.new ≡ size self.old }
+        ensures smooth { OnOk result (faults self.new ≡ faults self.old) }
         ensures grows { faults self.old ≤ faults self.new }
         ensures cause { OnErr result (Rose (faults self.old) (faults self.new)) };
 
@@ -51,12 +56,15 @@ pub trait Disk {
     ///
     /// # Errors
     ///
-    /// [`Failed`], only where the count of faults rose. The range may then hold any bytes.
+    /// [`Failed`], only where the count of faults rose. The range may then hold any bytes, and the bytes outside
+    /// it stay.
     fn write_at(&mut self, at: u64, from: &[u8]) -> Result<(), Failed>
         requires { at + length from.now ≤ size self.old }
         ensures written { IsTrue honest → OnOk result (seen self.new ≡ overwritten (seen self.old) at from.now) }
+        ensures torn { IsTrue honest → OnErr result (IsTorn at (length from.now) (seen self.old) (seen self.new)) }
         ensures images { IsTrue honest → Follows (IsTorn at (length from.now)) (image self.old) (image self.new) }
         ensures size { size self.new ≡ size self.old }
+        ensures smooth { OnOk result (faults self.new ≡ faults self.old) }
         ensures grows { faults self.old ≤ faults self.new }
         ensures cause { OnErr result (Rose (faults self.old) (faults self.new)) };
 
@@ -70,18 +78,24 @@ pub trait Disk {
         ensures seen { IsTrue honest → seen self.new ≡ seen self.old }
         ensures images { IsTrue honest → AreWithin (image self.old) (image self.new) }
         ensures size { size self.new ≡ size self.old }
+        ensures smooth { OnOk result (faults self.new ≡ faults self.old) }
         ensures grows { faults self.old ≤ faults self.new }
         ensures cause { OnErr result (Rose (faults self.old) (faults self.new)) };
 
-    /// A crash: what a read gives from now on is one of the images. Which one is a wish. It makes nothing safe.
+    /// A crash: what a read gives from now on is one of the images, and one that a crash with this wish may leave.
+    /// It makes nothing safe.
     fn crash(&mut self, wish: Image)
-        ensures left { IsTrue honest → image self.old (seen self.new) }
+        ensures leaves { IsTrue honest → leaves wish self.old (seen self.new) }
+        ensures seen { IsTrue honest → image self.old (seen self.new) }
         ensures images { IsTrue honest → AreWithin (image self.old) (image self.new) }
         ensures size { size self.new ≡ size self.old }
         ensures count { faults self.new ≡ faults self.old };
 
     /// What a read gives is one of the images.
     ghost sees: { (d : Self) → IsTrue honest → image d (seen d) };
+
+    /// What a crash may leave with a wish is one of the images.
+    ghost among: { (wish : Image) (d : Self) (c : List ℕ) → IsTrue honest → leaves wish d c → image d c };
 
     /// Each image is as long as the device.
     ghost long: { (d : Self) (c : List ℕ) → IsTrue honest → image d c → length c ≡ size d };

@@ -28,7 +28,7 @@ impl Model for MemSource {
 
     ghost Value = { Feed };
 
-    ghost view = { λ s. record { rest = s.tape; piece = s.most; calls = s.plan } };
+    ghost view = { λ s. record { left = s.tape; piece = s.most; calls = s.plan } };
 
     ghost invariant = { λ s. 1 ≤ s.most };
 }
@@ -36,11 +36,11 @@ impl Model for MemSource {
 impl MemSource {
     /// A source that gives `bytes`, at most `piece` of them in a read, where `piece` is at least 1.
     ///
-    /// Its calls are numbered from 1, in order of calling. A call whose number stands in `fail` answers
+    /// Its calls are numbered from 1, in order of calling. A call whose number is in `fail` answers
     /// [`Failed`] and does nothing but count.
     pub fn new(bytes: Vec<u8>, piece: usize, fail: Vec<u64>) -> MemSource
         requires { 1 ≤ piece }
-        ensures rest { result.rest ≡ bytes.items }
+        ensures left { result.left ≡ bytes.items }
         ensures piece { result.piece ≡ piece }
         ensures calls { result.calls ≡ record { fail = fail.items; came = 0; failed = 0 } }
     {
@@ -53,7 +53,7 @@ impl MemSource {
 }
 
 impl Source for MemSource {
-    ghost left = { λ s. Some s.rest };
+    ghost left = { λ s. Some s.left };
 
     ghost faults = { λ s. s.calls.failed };
 
@@ -61,22 +61,18 @@ impl Source for MemSource {
         requires { 0 < length into.old }
         ensures planned { IsErr result ↔ FailsNext self.old.calls }
         ensures amount { IfOk result
-            (λ n. n ≡ min self.old.piece (min (length into.old) (length self.old.rest))) }
-        ensures bytes { IfOk result (λ n. take n into.new ≡ take n self.old.rest) }
+            (λ n. n ≡ min self.old.piece (min (length into.old) (length self.old.left))) }
+        ensures bytes { IfOk result (λ n. take n into.new ≡ take n self.old.left) }
         ensures taken { IfOk result (λ n. self.new ≡ record self.old {
-          rest = drop n self.old.rest;
+          left = drop n self.old.left;
           calls = counted false self.old.calls;
         }) }
-        ensures finished { IfOk result (λ n. n ≡ 0 → self.old.rest ≡ []) }
+        ensures finished { IfOk result (λ n. n ≡ 0 → self.old.left ≡ []) }
         ensures failed { OnErr result
             (self.new ≡ record self.old { calls = counted true self.old.calls }) }
         ensures grows { self.old.calls.failed ≤ self.new.calls.failed }
     {
-        let fails = self.plan.fails();
-        self.plan.count(fails);
-        if fails {
-            return Err(Failed);
-        }
+        self.plan.call()?;
         Ok(self.tape.give(self.most, into))
     }
 }
@@ -99,7 +95,7 @@ impl Model for MemSink {
 
     ghost Value = { Store };
 
-    ghost view = { λ s. record { kept = s.kept.items; piece = s.most; calls = s.plan } };
+    ghost view = { λ s. record { written = s.kept.items; piece = s.most; calls = s.plan } };
 
     ghost invariant = { λ s. 1 ≤ s.most };
 }
@@ -107,12 +103,12 @@ impl Model for MemSink {
 impl MemSink {
     /// An empty sink that takes at most `piece` bytes in a write, where `piece` is at least 1.
     ///
-    /// Its calls are numbered from 1, in order of calling. A call whose number stands in `fail` answers
+    /// Its calls are numbered from 1, in order of calling. A call whose number is in `fail` answers
     /// [`WriteError::Failed`] and does nothing but count. A call that answers [`WriteError::Memory`] does
     /// nothing at all, so the next one has its number.
     pub fn new(alloc: Global, piece: usize, fail: Vec<u64>) -> MemSink
         requires { 1 ≤ piece }
-        ensures kept { result.kept ≡ [] }
+        ensures empty { result.written ≡ [] }
         ensures piece { result.piece ≡ piece }
         ensures calls { result.calls ≡ record { fail = fail.items; came = 0; failed = 0 } }
     {
@@ -125,7 +121,7 @@ impl MemSink {
 
     /// What was written so far, in order.
     pub fn bytes(&self) -> &[u8]
-        ensures kept { result.now ≡ self.now.kept }
+        ensures kept { result.now ≡ self.now.written }
         ensures written { ⟦<MemSink as Sink>⟧.written self.now ≡ Some result.now }
     {
         self.kept.as_slice()
@@ -133,7 +129,7 @@ impl MemSink {
 }
 
 impl Sink for MemSink {
-    ghost written = { λ s. Some s.kept };
+    ghost written = { λ s. Some s.written };
 
     ghost faults = { λ s. s.calls.failed };
 
@@ -142,7 +138,7 @@ impl Sink for MemSink {
         ensures planned { IsErrOf result WriteError.Failed ↔ FailsNext self.old.calls }
         ensures amount { IfOk result (λ n. n ≡ min self.old.piece (length from.now)) }
         ensures added { IfOk result (λ n. self.new ≡ record self.old {
-          kept = self.old.kept ++ take n from.now;
+          written = self.old.written ++ take n from.now;
           calls = counted false self.old.calls;
         }) }
         ensures moves { IfOk result (λ n. 0 < n) }

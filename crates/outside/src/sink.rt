@@ -34,6 +34,8 @@ pub trait Sink {
             (λ w. written self.new ≡ Some (w ++ take n from.now))) }
         ensures untold { written self.old ≡ None → written self.new ≡ None }
         ensures kept { OnErr result (written self.new ≡ written self.old) }
+        ensures smooth { IfOk result (λ n. 0 < n → faults self.new ≡ faults self.old) }
+        ensures memory { IfErr result (λ e. e ≡ WriteError.Memory → faults self.new ≡ faults self.old) }
         ensures grows { faults self.old ≤ faults self.new }
         ensures cause { IfErr result
             (λ e. e ≡ WriteError.Failed → Rose (faults self.old) (faults self.new)) }

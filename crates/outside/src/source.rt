@@ -1,5 +1,5 @@
 // What is read.
-ghost use Rattle.std.specs.Prelude.{◌≡◌, ◌<◌, ◌≤◌, ℕ, List, Option, [], length, take, drop, IfOk, OnErr};
+ghost use Rattle.std.specs.Prelude.{◌≡◌, ◌<◌, ◌≤◌, ℕ, List, Option, [], length, take, drop, IfOk, OnOk, OnErr};
 ghost use Rattle.std.specs.Option.{ForSome};
 ghost use Rattle.outside.specs.Faults.{Rose};
 
@@ -34,6 +34,7 @@ pub trait Source {
         ensures finished { IfOk result (λ n. ForSome (left self.old) (λ b. n ≡ 0 → b ≡ [])) }
         ensures untold { left self.old ≡ None → left self.new ≡ None }
         ensures kept { OnErr result (left self.new ≡ left self.old) }
+        ensures smooth { OnOk result (faults self.new ≡ faults self.old) }
         ensures grows { faults self.old ≤ faults self.new }
         ensures cause { OnErr result (Rose (faults self.old) (faults self.new)) };
 }

@@ -2,7 +2,6 @@
 ghost use Rattle.std.specs.Prelude.{◌≡◌, ◌==◌, ◌<◌, ◌≤◌, ◌+◌, ◌++◌, List, [], ◌∷◌, false, true, find, reverse, is_some, length, map, vec_capacity, Err, None, Some, IfErr, IfOk, OnErr, OnOk};
 ghost use Rattle.dtx_values.specs.declared.number.ScopeNo.{ScopeNo};
 ghost use Rattle.dtx_model.specs.Words.{all_of, has, onto, past_of, put};
-ghost use Rattle.dtx_values.specs.Entered.{transaction_in};
 ghost use Rattle.dtx_model.specs.Scopes.{ScopeEntry, Opens, Finishes, Closes, ambient, beneath, closing, closing_with, completed_in, differing, entering, is_complete_scope, is_scope, isolation_made, isolation_of, makes_it, once, open_scopes, rolled_back, taken_off, scope_transaction, with_complete};
 ghost use Rattle.scope_context.specs.declared.refusal.ScopeRefusal.TheVariants.{NestedWrongly, NoScope};
 ghost use Rattle.scope_context.specs.Refusals.{close_refusal, complete_refusal, current_result, enter_refusal};
@@ -49,8 +48,16 @@ impl Context {
         })
     }
 
-    /// Opens a scope. Required joins the ambient transaction, or makes the one of the name given where there is none; RequiresNew makes that
-    /// one; with Suppress the scope has none. A scope may be opened under a complete one and is treated there as under any other.
+    /// Whether this scope is open here: where it is, [`Context::enter`] may not open it.
+    pub fn is_open(&self, s: ScopeNo) -> bool
+        ensures { result ≡ has (is_scope s.value) self.now.scopes }
+    {
+        is_open(&self.scopes, s)
+    }
+
+    /// Opens a scope that isn't open here ([`Context::is_open`] tells). Required joins the ambient transaction, or makes the one of the
+    /// name given where there is none; RequiresNew makes that one; with Suppress the scope has none. A scope may be opened under a complete
+    /// one and is treated there as under any other.
     ///
     /// # Errors
     ///
@@ -103,7 +110,7 @@ impl Context {
         ensures entries { OnOk result ((es : List ScopeEntry) → open_scopes es ≡ self.old.scopes → open_scopes (Finishes s ∷ es) ≡ self.new.scopes) }
         ensures rolled { self.new.rolled ≡ self.old.rolled }
     {
-        if !is_open(&self.scopes, s) {
+        if !self.is_open(s) {
             return Err(ScopeRefusal::NoScope(s));
         }
         if is_complete(&self.scopes, s) {
@@ -131,7 +138,7 @@ impl Context {
         ensures entries { (es : List ScopeEntry) → open_scopes es ≡ self.old.scopes → has (is_scope s.value) self.old.scopes ≡ true
             → open_scopes (onto es (map (λ x. Closes x.scope) (taken_off s.value self.old.scopes))) ≡ self.new.scopes }
     {
-        if !is_open(&self.scopes, s) {
+        if !self.is_open(s) {
             return Err(ScopeRefusal::NoScope(s));
         }
         let Some(top) = self.scopes.last().copied() else {
@@ -156,7 +163,7 @@ impl Context {
     {
         match self.scopes.last() {
             Some(top) if top.complete => Err(ScopeRefusal::AlreadyComplete(top.scope)),
-            Some(top) => Ok(transaction_in(top.entered)),
+            Some(top) => Ok(top.entered.transaction()),
             None => Ok(None),
         }
     }
@@ -176,14 +183,14 @@ impl Context {
     }
 }
 
-/// Whether this scope is among these, which stand in the order in which they were opened.
+/// Whether this scope is among these, in the order in which they were opened.
 fn is_open(scopes: &[OpenScope], s: ScopeNo) -> bool
     ensures { result ≡ has (is_scope s.value) (reverse scopes.now) }
 {
     scopes.iter().rev().any(|x| x.scope == s)
 }
 
-/// Whether this scope is among these and complete.
+/// Whether this scope is among these, in the order in which they were opened, and complete.
 fn is_complete(scopes: &[OpenScope], s: ScopeNo) -> bool
     ensures { result ≡ has (is_complete_scope s.value) (reverse scopes.now) }
 {
@@ -194,10 +201,7 @@ fn is_complete(scopes: &[OpenScope], s: ScopeNo) -> bool
 fn ambient(scopes: &[OpenScope]) -> Option<TxNo>
     ensures { result ≡ ambient (past_of scopes.now) }
 {
-    match scopes.last() {
-        Some(top) => transaction_in(top.entered),
-        None => None,
-    }
+    scopes.last()?.entered.transaction()
 }
 
 /// Whether the scope made this transaction.
@@ -257,16 +261,6 @@ fn makes_it(t: Option<TxNo>) -> Entered
     }
 }
 
-/// The transaction that a scope has.
-fn transaction_in(entered: Entered) -> Option<TxNo>
-    ensures { result ≡ transaction_in entered }
-{
-    match entered {
-        Entered::Made(t) | Entered::Joined(t) => Some(t),
-        Entered::NoTx => None,
-    }
-}
-
 /// What closing this scope does to its transaction.
 fn closing(x: OpenScope) -> Closed
     ensures { result ≡ closing_with x.complete x.entered }
@@ -304,7 +298,7 @@ fn is_in(ts: &[TxNo], t: TxNo) -> bool
     ts.iter().rev().any(|u| *u == t)
 }
 
-/// Takes down that this transaction, where there is one, is to be rolled back, unless that is taken down already.
+/// Adds this transaction, where there is one, to those that are to be rolled back, unless it is there already.
 fn roll_back(rolled: &mut Vec<TxNo>, t: Option<TxNo>)
     requires { length rolled.old.items < vec_capacity rolled.old }
     ensures items { rolled.new.items ≡ rolled.old.items ++ once (past_of rolled.old.items) (put t []) }
@@ -317,7 +311,7 @@ fn roll_back(rolled: &mut Vec<TxNo>, t: Option<TxNo>)
     }
 }
 
-/// Takes off a scope and all above it, the top first, and takes down that their transactions are to be rolled back.
+/// Takes off a scope and all above it, the top first, and adds their transactions to those that are to be rolled back.
 fn take_off(scopes: &mut Vec<OpenScope>, rolled: &mut Vec<TxNo>, s: ScopeNo)
     requires { length rolled.old.items + length scopes.old.items ≤ vec_capacity rolled.old }
     ensures left { past_of scopes.new.items ≡ beneath s.value (past_of scopes.old.items) }
@@ -326,7 +320,7 @@ fn take_off(scopes: &mut Vec<OpenScope>, rolled: &mut Vec<TxNo>, s: ScopeNo)
     ensures rolled_capacity { vec_capacity rolled.old ≤ vec_capacity rolled.new }
 {
     while let Some(x) = scopes.pop() {
-        roll_back(rolled, transaction_in(x.entered));
+        roll_back(rolled, x.entered.transaction());
         if x.scope == s {
             return;
         }

@@ -54,8 +54,10 @@ fn closing_gives_back_the_ambient_of_before(rt: HostRuntime) -> Result<(), Fail>
     assert_eq!(rt; outer, Ok(Entered::Made(t1)));
     let inner = c.enter(s2, ScopeOption::Suppress, None, Iso::Unspecified);
     assert_eq!(rt; inner, Ok(Entered::NoTx));
+    assert!(rt; c.is_open(s2));
     assert_eq!(rt; c.current(), Ok(None));
     assert_eq!(rt; c.close(s2), Ok(Closed::Nothing));
+    assert!(rt; !c.is_open(s2));
     assert_eq!(rt; c.current(), Ok(Some(t1)));
     Ok(())
 }

@@ -12,7 +12,7 @@ use Rattle.dtx_values.specs.declared.script.Line.{Line}
 use Rattle.dtx_values.specs.declared.words.Outcome.{Outcome}
 use Rattle.dtx_values.specs.declared.words.Outcome.TheVariants.{Committed}
 use Rattle.dtx_values.specs.declared.words.Vote.{Vote}
-use Rattle.dtx_values.specs.Row.{has_voted, is_marked, is_of, mark_row, unless_there, vote_row}
+use Rattle.dtx_values.specs.Row.{has_voted, is_marked, is_of, mark_in, mark_row, unless_there, vote_in, vote_row}
 use Rattle.dtx_values.specs.declared.row.Row.{Row}
 use Rattle.dtx_values.specs.Table.{how_many, marks, voted_before, with_vote}
 use Rattle.dtx_model.specs.declared.listener.Listener.{Listener}
@@ -51,39 +51,31 @@ steps_left o =
     how_many unmarked o.table + how_many unvoted o.table + how_many untold o.listeners + one_unless o.sealed + one_unless (is_some o.handed)
     + one_unless (is_some o.decided) + one_unless (is_some o.told_client)
 
--- one more mark
-abbrev pub mark : ℕ → ℕ → Row → Row
-mark e n x = if is_of e x then (x.0, mark_row n x.1) else x
-
--- one more vote
-abbrev pub cast : ℕ → Vote → Row → Row
-cast e v x = if is_of e x then (x.0, vote_row v x.1) else x
-
-mark_keeps_unmarked : (e n : ℕ) (x : Row) → unmarked (mark e n x) ≡ true → unmarked x ≡ true
+mark_keeps_unmarked : (e n : ℕ) (x : Row) → unmarked (mark_in e n x) ≡ true → unmarked x ≡ true
 mark_keeps_unmarked e n x k = step (is_of e x) k
   where
-    step : (b : Bool) → unmarked (if b then (x.0, mark_row n x.1) else x) ≡ true → unmarked x ≡ true
+    step : (b : Bool) → unmarked (if b then mark_row n x else x) ≡ true → unmarked x ≡ true
     step true k = let marked : is_some (unless_there x.asked n) ≡ true = there x.asked n in absurd (let e : not (is_some (unless_there x.asked n)) ≡ true = k in cc)
     step false k = k
 
-mark_keeps_unvoted : (e n : ℕ) (x : Row) → unvoted (mark e n x) ≡ true → unvoted x ≡ true
+mark_keeps_unvoted : (e n : ℕ) (x : Row) → unvoted (mark_in e n x) ≡ true → unvoted x ≡ true
 mark_keeps_unvoted e n x k = step (is_of e x) k
   where
-    step : (b : Bool) → unvoted (if b then (x.0, mark_row n x.1) else x) ≡ true → unvoted x ≡ true
+    step : (b : Bool) → unvoted (if b then mark_row n x else x) ≡ true → unvoted x ≡ true
     step true k = k
     step false k = k
 
-cast_keeps_unmarked : (e : ℕ) (v : Vote) (x : Row) → unmarked (cast e v x) ≡ true → unmarked x ≡ true
+cast_keeps_unmarked : (e : ℕ) (v : Vote) (x : Row) → unmarked (vote_in e v x) ≡ true → unmarked x ≡ true
 cast_keeps_unmarked e v x k = step (is_of e x) k
   where
-    step : (b : Bool) → unmarked (if b then (x.0, vote_row v x.1) else x) ≡ true → unmarked x ≡ true
+    step : (b : Bool) → unmarked (if b then vote_row v x else x) ≡ true → unmarked x ≡ true
     step true k = k
     step false k = k
 
-cast_keeps_unvoted : (e : ℕ) (v : Vote) (x : Row) → unvoted (cast e v x) ≡ true → unvoted x ≡ true
+cast_keeps_unvoted : (e : ℕ) (v : Vote) (x : Row) → unvoted (vote_in e v x) ≡ true → unvoted x ≡ true
 cast_keeps_unvoted e v x k = step (is_of e x) k
   where
-    step : (b : Bool) → unvoted (if b then (x.0, vote_row v x.1) else x) ≡ true → unvoted x ≡ true
+    step : (b : Bool) → unvoted (if b then vote_row v x else x) ≡ true → unvoted x ≡ true
     step true k = let voted : is_some (unless_there x.vote v) ≡ true = there x.vote v in absurd (let e : not (is_some (unless_there x.vote v)) ≡ true = k in cc)
     step false k = k
 
@@ -95,12 +87,12 @@ hear_keeps e l k = step (e == l.enlistment.value) l.told k
     step false b k = k
 
 -- a row without a mark, of the one that is marked, has one then
-mark_falls : (e n : ℕ) (x : Row) → (is_of e x && unmarked x) ≡ true → falls unmarked (mark e n) x ≡ true
+mark_falls : (e n : ℕ) (x : Row) → (is_of e x && unmarked x) ≡ true → falls unmarked (mark_in e n) x ≡ true
 mark_falls e n x k =
     let here : is_of e x ≡ true = and_left (is_of e x) (unmarked x) k in
     rw (here, there x.asked n) (and_both (unmarked x) true (and_right (is_of e x) (unmarked x) k) refl)
 
-cast_falls : (e : ℕ) (v : Vote) (x : Row) → (is_of e x && unvoted x) ≡ true → falls unvoted (cast e v) x ≡ true
+cast_falls : (e : ℕ) (v : Vote) (x : Row) → (is_of e x && unvoted x) ≡ true → falls unvoted (vote_in e v) x ≡ true
 cast_falls e v x k =
     let here : is_of e x ≡ true = and_left (is_of e x) (unvoted x) k in
     rw (here, there x.vote v) (and_both (unvoted x) true (and_right (is_of e x) (unvoted x) k) refl)
@@ -113,10 +105,10 @@ asked_unmarked xs z e k = step (find (may_be_asked xs z) xs) refl k
     step : (o : Option Row) → find (may_be_asked xs z) xs ≡ o → name_of o ≡ Some e → has (λ x. is_of e.value x && unmarked x) xs ≡ true
     step None f k = absurd (cc)
     step (Some x) f k =
-        let same : x.0 ≡ e = cc in
+        let same : x.number ≡ e = cc in
         let passes = find-passes (may_be_asked xs z) x xs f in
         let none : unmarked x ≡ true = and_right (is_class z x.class) (unmarked x) (and_left (is_class z x.class && unmarked x) (not z || voted_before x.added xs) passes) in
-        has-found (may_be_asked xs z) (λ y. is_of e.value y && unmarked y) x xs f (rw (← same) (and_both (x.0.value == x.0.value) (unmarked x) (eq_self x.0.value) none))
+        has-found (may_be_asked xs z) (λ y. is_of e.value y && unmarked y) x xs f (rw (← same) (and_both (x.number.value == x.number.value) (unmarked x) (eq_self x.number.value) none))
 
 -- one less for the decision, or as many
 decision_le : (d : Option Outcome) (b : Bool) (x : Outcome) → one_unless (is_some (if b then Some x else d)) ≤ one_unless (is_some d)
@@ -129,11 +121,11 @@ pub steps_left-voted : (o : Observed) (e : EnlNo) (v : Vote) (b : Bool) → has 
     → steps_left (track_all o (Voted e v ∷ veto_if b)) < steps_left o
 unfolding steps_left track track_all
 steps_left-voted o e v b k =
-    let some : has (falls unvoted (cast e.value v)) o.table ≡ true =
-    has_more (λ x. is_of e.value x && (is_marked x && unvoted x)) (falls unvoted (cast e.value v))
+    let some : has (falls unvoted (vote_in e.value v)) o.table ≡ true =
+    has_more (λ x. is_of e.value x && (is_marked x && unvoted x)) (falls unvoted (vote_in e.value v))
     (λ x h. cast_falls e.value v x (and_both (is_of e.value x) (unvoted x) (and_left (is_of e.value x) _ h) (and_right (is_marked x) (unvoted x) (and_right (is_of e.value x) _ h)))) o.table k in
-    let votes = how_many-map-lt unvoted (cast e.value v) (cast_keeps_unvoted e.value v) o.table some in
-    let asks = how_many-map-le unmarked (cast e.value v) (cast_keeps_unmarked e.value v) o.table in
+    let votes = how_many-map-lt unvoted (vote_in e.value v) (cast_keeps_unvoted e.value v) o.table some in
+    let asks = how_many-map-le unmarked (vote_in e.value v) (cast_keeps_unmarked e.value v) o.table in
     step b votes asks (one_unless (is_some o.decided)) (omega arith)
   where
     step : (b : Bool) → how_many unvoted (with_vote e.value v o.table) < how_many unvoted o.table → how_many unmarked (with_vote e.value v o.table) ≤ how_many unmarked o.table
@@ -146,9 +138,9 @@ pub steps_left-asked : (o : Observed) (e : EnlNo) → has (λ x. is_of e.value x
 unfolding steps_left track track_all
 steps_left-asked o e k =
     let n = marks o.table in
-    let some = has_more (λ x. is_of e.value x && unmarked x) (falls unmarked (mark e.value n)) (λ x h. mark_falls e.value n x h) o.table k in
-    let asks = how_many-map-lt unmarked (mark e.value n) (mark_keeps_unmarked e.value n) o.table some in
-    let votes = how_many-map-le unvoted (mark e.value n) (mark_keeps_unvoted e.value n) o.table in
+    let some = has_more (λ x. is_of e.value x && unmarked x) (falls unmarked (mark_in e.value n)) (λ x h. mark_falls e.value n x h) o.table k in
+    let asks = how_many-map-lt unmarked (mark_in e.value n) (mark_keeps_unmarked e.value n) o.table some in
+    let votes = how_many-map-le unvoted (mark_in e.value n) (mark_keeps_unvoted e.value n) o.table in
     omega arith
 
 -- somebody is told
@@ -211,15 +203,15 @@ steps_left-act o None d k =
 
 -- where a reply is due, nothing is decided
 due_undecided : (o : Observed) (x : Row) (n : Note) → due_note o x ≡ Some n → o.decided ≡ None
-due_undecided o x n k = step o.decided refl (is_gone o x.0.value) k
+due_undecided o x n k = step o.decided refl (is_gone o x.number.value) k
   where
-    step : (d : Option Outcome) → o.decided ≡ d → (lost : Bool) → (if is_some d || lost then None else open_note (is_marked x && not (has_voted x)) (is_handed o.handed x.0.value)) ≡ Some n → d ≡ None
+    step : (d : Option Outcome) → o.decided ≡ d → (lost : Bool) → (if is_some d || lost then None else open_note (is_marked x && not (has_voted x)) (is_handed o.handed x.number.value)) ≡ Some n → d ≡ None
     step (Some y) e lost k = absurd (cc)
     step None e lost k = refl
 
 -- where a vote is due, the row is marked and hasn't voted
 due_unvoted : (o : Observed) (x : Row) → due_note o x ≡ Some PrepareNote → (is_marked x && unvoted x) ≡ true
-due_unvoted o x k = step (is_some o.decided || is_gone o x.0.value) (is_marked x && unvoted x) (is_handed o.handed x.0.value) k
+due_unvoted o x k = step (is_some o.decided || is_gone o x.number.value) (is_marked x && unvoted x) (is_handed o.handed x.number.value) k
   where
     step : (over asked handed : Bool) → (if over then None else open_note asked handed) ≡ Some PrepareNote → asked ≡ true
     step true asked handed k = absurd (cc)
@@ -234,22 +226,22 @@ has-at p (y ∷ ys) zero x f h = let same : x ≡ y = cc in rw (← same, h) ref
 has-at p (y ∷ ys) (suc k) x f h = or_right (p y) (has p ys) (has-at p ys k x f h)
 
 -- a reply
-steps_left-replied : (s : List Line) (o : Observed) (j : ℕ) (x : Row) (n : Note) (r : Reply) → slice_get o.table j ≡ Some x → due_note o x ≡ Some n → planned_reply s x.0.value (Some n) ≡ Some r
-    → steps_left (track_all o (reply_entries x.0 r)) < steps_left o
-steps_left-replied s o j x PrepareNote r stands due planned = by (planned_vote s x.0.value) planned
+steps_left-replied : (s : List Line) (o : Observed) (j : ℕ) (x : Row) (n : Note) (r : Reply) → slice_get o.table j ≡ Some x → due_note o x ≡ Some n → planned_reply s x.number.value (Some n) ≡ Some r
+    → steps_left (track_all o (reply_entries x.number r)) < steps_left o
+steps_left-replied s o j x PrepareNote r stands due planned = by (planned_vote s x.number.value) planned
   where
-    by : (v : Option Vote) → vote_reply v ≡ Some r → steps_left (track_all o (reply_entries x.0 r)) < steps_left o
+    by : (v : Option Vote) → vote_reply v ≡ Some r → steps_left (track_all o (reply_entries x.number r)) < steps_left o
     by None k = absurd (cc)
     by (Some v) k =
-        let some = has-at (λ y. is_of x.0.value y && (is_marked y && unvoted y)) o.table j x stands (and_both (is_of x.0.value x) (is_marked x && unvoted x) (eq_self x.0.value) (due_unvoted o x due)) in
-        let same : VoteReply v ≡ r = cc in subst (λ (y : Reply). steps_left (track_all o (reply_entries x.0 y)) < steps_left o) same (steps_left-voted o x.0 v (is_no v) some)
-steps_left-replied s o j x HandNote r stands due planned = by (planned_owner s x.0.value) planned
+        let some = has-at (λ y. is_of x.number.value y && (is_marked y && unvoted y)) o.table j x stands (and_both (is_of x.number.value x) (is_marked x && unvoted x) (eq_self x.number.value) (due_unvoted o x due)) in
+        let same : VoteReply v ≡ r = cc in subst (λ (y : Reply). steps_left (track_all o (reply_entries x.number y)) < steps_left o) same (steps_left-voted o x.number v (is_no v) some)
+steps_left-replied s o j x HandNote r stands due planned = by (planned_owner s x.number.value) planned
   where
-    by : (y : Option Outcome) → owner_reply y ≡ Some r → steps_left (track_all o (reply_entries x.0 r)) < steps_left o
+    by : (y : Option Outcome) → owner_reply y ≡ Some r → steps_left (track_all o (reply_entries x.number r)) < steps_left o
     by None k = absurd (cc)
     by (Some y) k =
         let same : OwnerReply y ≡ r = cc in
-        subst (λ (z : Reply). steps_left (track_all o (reply_entries x.0 z)) < steps_left o) same (steps_left-owned o x.0 y (due_undecided o x HandNote due))
+        subst (λ (z : Reply). steps_left (track_all o (reply_entries x.number z)) < steps_left o) same (steps_left-owned o x.number y (due_undecided o x HandNote due))
 steps_left-replied s o j x _ r stands due planned = absurd (cc)
 
 -- the item at a place of two lists together stands in one of them

@@ -106,16 +106,18 @@ rolled_more n a ts i t start old new less here ran did =
     ∙ ap (λ (cs : List (TxNo × Call)). after_calls n a cs start) (sym front)
 
 -- the context at the place of its actor
-pub context_here : (cs : List Standing) (a : ActorNo) (i : ℕ) (c : Standing) → length cs ≡ 16 → i ≡ a.value → c ≡ get_or cs (i - 1) c → context_at a cs ≡ Some c
+pub context_here : (cs : List Standing) (a : ActorNo) (i : ℕ) (c : Standing) → length cs ≡ 16 → i + 1 ≡ a.value → c ≡ get_or cs i c → context_at a cs ≡ Some c
 context_here cs a i c long place here =
     let within : a.value - 1 < length cs = rw long (omega (arith, a.in_range.0, a.in_range.1)) in
-    slice_get-get_or {X = Standing} cs (a.value - 1) c within ∙ ap Some (ap (λ n. get_or cs (n - 1) c) (sym place) ∙ sym here)
+    let same : a.value - 1 ≡ i = omega (arith, place) in
+    slice_get-get_or {X = Standing} cs (a.value - 1) c within ∙ ap Some (ap (λ n. get_or cs n c) same ∙ sym here)
 
 -- and the context that was put there
-pub context_put : (cs : List Standing) (a : ActorNo) (i : ℕ) (c : Standing) → length cs ≡ 16 → i ≡ a.value → context_at a (set cs (i - 1) c) ≡ Some c
+pub context_put : (cs : List Standing) (a : ActorNo) (i : ℕ) (c : Standing) → length cs ≡ 16 → i + 1 ≡ a.value → context_at a (set cs i c) ≡ Some c
 context_put cs a i c long place =
     let within : a.value - 1 < length cs = rw long (omega (arith, a.in_range.0, a.in_range.1)) in
-    ap (λ n. slice_get (set cs (n - 1) c) (a.value - 1)) place
+    let same : i ≡ a.value - 1 = omega (arith, place) in
+    ap (λ n. slice_get (set cs n c) (a.value - 1)) same
     ∙ slice_get-get_or (set cs (a.value - 1) c) (a.value - 1) c (rw length-set within) ∙ ap Some (get_or-set_same cs (a.value - 1) c c within)
 
 -- the entry opens this scope

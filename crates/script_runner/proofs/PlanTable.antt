@@ -1,6 +1,14 @@
 -- The tables of plans and clones, line by line.
-use Rattle.std.proofs.Common.{◌≡◌, ℕ, List, [], ◌∷◌, ◌++◌, length, Option, None, get_or, replicate, ap, sym, ◌∙◌}
-use Rattle.std.proofs.lemmas.List.{get_or-replicate, length-replicate}
+use Rattle.std.proofs.Common.{◌≡◌, ℕ, ◌+◌, ◌-◌, ◌<◌, ◌==◌, Bool, true, false, List, [], ◌∷◌, ◌++◌, Option, None, Some, get_or, length, set, Result, Ok, Err, if◌then◌else◌, inl, inr, refl, ap, arith, sym, ◌∙◌}
+use Rattle.std.specs.Prelude.{OnOk}
+use Rattle.std.proofs.lemmas.Bool.Decides.{eqb_tells, nat_tests}
+use Rattle.std.proofs.lemmas.Grind.{get_or-set_at}
+use Rattle.std.proofs.lemmas.List.{get_or-set_other}
+use Rattle.dtx_values.specs.declared.script.Body.{Body}
+use Rattle.dtx_values.specs.declared.script.Body.TheVariants.{Clone}
+use Rattle.dtx_values.specs.declared.words.CloneKind.{CloneKind}
+use Rattle.dtx_values.specs.declared.number.CloneNo.{CloneNo}
+use Rattle.dtx_values.specs.declared.number.EnlNo.{EnlNo}
 use Rattle.dtx_values.specs.declared.number.TxNo.{TxNo}
 use Rattle.dtx_values.specs.declared.script.Line.{Line}
 use Rattle.dtx_model.specs.Words.{latest, or_else}
@@ -10,8 +18,8 @@ use Rattle.script_runner.specs.declared.plans.Made.{Made}
 use Rattle.script_runner.specs.Plans.{ArePlanned, made_by, made_in, or_made, unmade}
 
 -- what lines, newest first, say of an enlistment
-abbrev made_behind : ℕ → List Line → Made
-made_behind e before =
+abbrev made_by_lines : ℕ → List Line → Made
+made_by_lines e before =
     record {
       transaction = latest (λ l. enlistment_made e l.body) before;
       plan = record { vote = latest (λ l. line_vote e l.body) before; owner = latest (λ l. line_owner e l.body) before; promote = latest (λ l. line_promotion e l.body) before };
@@ -19,7 +27,7 @@ made_behind e before =
 
 -- what one more line says
 made_in-snoc : (s : List Line) (l : Line) (e : ℕ) → made_in (s ++ l ∷ []) e ≡ or_made (made_by e l.body) (made_in s e)
-made_in-snoc s l e = ap (λ (h : List Line). made_behind e h) (past_of-snoc s l)
+made_in-snoc s l e = ap (λ (h : List Line). made_by_lines e h) (past_of-snoc s l)
 
 -- the clone that one more line makes
 transaction_of-snoc : (s : List Line) (l : Line) (c : ℕ) → transaction_of (s ++ l ∷ []) c ≡ or_else (clone_made c l.body) (transaction_of s c)
@@ -27,22 +35,66 @@ transaction_of-snoc s l c = ap (λ (h : List Line). latest (λ (m : Line). clone
 
 -- the tables with what one more line says
 pub planned-snoc : (s : List Line) (l : Line) (made new_made : List Made) (clones new_clones : List (Option TxNo)) → ArePlanned s made clones
-    → length new_made ≡ 10000 → ((e : ℕ) → get_or new_made e unmade ≡ or_made (made_by e l.body) (get_or made e unmade))
-    → length new_clones ≡ 10000 → ((c : ℕ) → get_or new_clones c None ≡ or_else (clone_made c l.body) (get_or clones c None)) → ArePlanned (s ++ l ∷ []) new_made new_clones
-planned-snoc s l made new_made clones new_clones p long slots clones_long clone_slots =
+    → ((e : EnlNo) → get_or new_made (e.value - 1) unmade ≡ or_made (made_by e.value l.body) (get_or made (e.value - 1) unmade))
+    → ((c : CloneNo) → get_or new_clones (c.value - 1) None ≡ or_else (clone_made c.value l.body) (get_or clones (c.value - 1) None)) → ArePlanned (s ++ l ∷ []) new_made new_clones
+planned-snoc s l made new_made clones new_clones p slots clone_slots =
     record {
-      enlistments_long = long;
-      clones_long = clones_long;
-      enlistment = λ e k. slots e ∙ (ap (λ (m : Made). or_made (made_by e l.body) m) (p.enlistment e k) ∙ sym (made_in-snoc s l e));
-      clone = λ c k. clone_slots c ∙ (ap (λ (o : Option TxNo). or_else (clone_made c l.body) o) (p.clone c k) ∙ sym (transaction_of-snoc s l c));
+      enlistment = λ e. slots e ∙ (ap (λ (m : Made). or_made (made_by e.value l.body) m) (p.enlistment e) ∙ sym (made_in-snoc s l e.value));
+      clone = λ c. clone_slots c ∙ (ap (λ (o : Option TxNo). or_else (clone_made c.value l.body) o) (p.clone c) ∙ sym (transaction_of-snoc s l c.value));
     }
 
 -- before the first line nothing is planned
-pub planned-none : ArePlanned [] (replicate 10000 unmade) (replicate 10000 None)
-planned-none =
-    record {
-      enlistments_long = length-replicate {A = Made} 10000 unmade;
-      clones_long = length-replicate {A = Option TxNo} 10000 None;
-      enlistment = λ e k. get_or-replicate {A = Made} 10000 e unmade unmade k;
-      clone = λ c k. get_or-replicate {A = Option TxNo} 10000 c None None k;
-    }
+pub planned-none : ArePlanned [] [] []
+planned-none = record { enlistment = λ e. refl; clone = λ c. refl }
+
+-- the first of two where the test passes, and else the second
+chosen : {A : Type 0} {b : Bool} {x y : A} → b ≡ true → (if b then x else y) ≡ x
+chosen k = rw k refl
+
+passed : {A : Type 0} {b : Bool} {x y : A} → b ≡ false → (if b then x else y) ≡ y
+passed k = rw k refl
+
+-- after one enlistment's place was written
+pub planned_put : (made new : List Made) (body : Body) (e : EnlNo) (said : Made) (place : ℕ) → place + 1 ≡ e.value
+    → ((f : ℕ) → made_by f body ≡ (if f == e.value then said else unmade))
+    → ((k : ℕ) → get_or new k unmade ≡ (if k == place then or_made said (get_or made place unmade) else get_or made k unmade))
+    → (f : EnlNo) → get_or new (f.value - 1) unmade ≡ or_made (made_by f.value body) (get_or made (f.value - 1) unmade)
+planned_put made new body e said place at says put f =
+    elim (eqb_tells f.value e.value) [
+      | inl k ↦
+          let here : f.value - 1 ≡ place = omega (arith, at, k.1) in
+          let there : ((f.value - 1) == place) ≡ true = grind (arith, nat_tests, here) in
+          put (f.value - 1) ∙ chosen there ∙ ap (λ (m : Made). or_made m (get_or made place unmade)) (sym (says f.value ∙ chosen k.0))
+          ∙ ap (λ (n : ℕ). or_made (made_by f.value body) (get_or made n unmade)) (sym here)
+      | inr k ↦
+          let other : ((f.value - 1) == place) ≡ false = grind (arith, nat_tests, at, k.1, f.in_range.0) in
+          put (f.value - 1) ∙ passed other ∙ ap (λ (m : Made). or_made m (get_or made (f.value - 1) unmade)) (sym (says f.value ∙ passed k.0))
+    ]
+
+-- after one clone's place was written
+pub owned_put : (clones new : List (Option TxNo)) (t : TxNo) (c : CloneNo) (kind : CloneKind) (place : ℕ) → place + 1 ≡ c.value
+    → ((k : ℕ) → get_or new k None ≡ (if k == place then Some t else get_or clones k None))
+    → (f : CloneNo) → get_or new (f.value - 1) None ≡ or_else (clone_made f.value (Clone t c kind)) (get_or clones (f.value - 1) None)
+owned_put clones new t c kind place at put f =
+    elim (eqb_tells f.value c.value) [
+      | inl k ↦
+          let there : ((f.value - 1) == place) ≡ true = grind (arith, nat_tests, at, k.1) in
+          put (f.value - 1) ∙ chosen there ∙ ap (λ (o : Option TxNo). or_else o (get_or clones (f.value - 1) None)) (sym (chosen k.0))
+      | inr k ↦
+          let other : ((f.value - 1) == place) ≡ false = grind (arith, nat_tests, at, k.1, f.in_range.0) in
+          put (f.value - 1) ∙ passed other ∙ ap (λ (o : Option TxNo). or_else o (get_or clones (f.value - 1) None)) (sym (passed k.0))
+    ]
+
+-- an item was put at a place of a table
+pub put_there : {A : Type 0} (xs ys : List A) (place : ℕ) (blank item : A) → place < length ys → ((k : ℕ) → get_or ys k blank ≡ get_or xs k blank)
+    → (k : ℕ) → get_or (set ys place item) k blank ≡ (if k == place then item else get_or xs k blank)
+put_there xs ys place blank item room same k =
+    elim (eqb_tells k place) [
+      | inl e ↦ get_or-set_at ys place k item blank e.1 room ∙ sym (chosen e.0)
+      | inr e ↦ get_or-set_other ys place k item blank e.1 ∙ same k ∙ sym (passed e.0)
+    ]
+
+-- what follows from what is said of Ok
+pub on_ok : {E : Type 0} {A B : Type 0} (r : Result (Unit {0}) E) → (A → B) → OnOk r A → OnOk r B
+on_ok (Ok x) f k = f k
+on_ok (Err e) f k = k

@@ -12,7 +12,7 @@ use Rattle.dtx_values.specs.declared.script.BadCause.{BadCause}
 use Rattle.dtx_model.specs.Faults.{Bad}
 use Rattle.dtx_model.specs.Grammar.{IsNotRun, IsNotYet, Reads, are_run}
 use Rattle.script_runner.specs.Program.{IsCutShort, IsReplayOf, IsWritten}
-use Rattle.script_runner.specs.Refusal.{IsTextOf}
+use Rattle.script_runner.specs.Refusal.{IsReplayText}
 use Rattle.script_runner.specs.Transfer.{IsPartWritten}
 use Rattle.script_runner.proofs.RunLines.{all_run_none, one_not_run}
 
@@ -33,12 +33,12 @@ IsFront given bytes = ForSome given (λ b. bytes ≡ take 1048577 b)
 pub reads-front : (given : Option (List ℕ)) (bytes : List ℕ) (s : List Line) → IsFront given bytes → Reads bytes s → ForSome given (λ b. Reads b s)
 reads-front given bytes s front reads b told = reads-all b s (subst (λ (x : List ℕ). Reads x s) (front b told) reads)
 
-pub replay-of : (given : Option (List ℕ)) (bytes : List ℕ) (s : List Line) (text : List ℕ) → IsFront given bytes → Reads bytes s → (t : IsTextOf s text) → IsReplayOf given s t.trace
+pub replay-of : (given : Option (List ℕ)) (bytes : List ℕ) (s : List Line) (text : List ℕ) → IsFront given bytes → Reads bytes s → (t : IsReplayText s text) → IsReplayOf given s t.trace
 replay-of given bytes s text front reads t =
     record { read = reads-front given bytes s front reads; history = t.history; outcome = t.outcome; complete = t.complete }
 
 -- the text was written whole
-pub is_written : (given before after : Option (List ℕ)) (bytes : List ℕ) (s : List Line) (text out : List ℕ) → IsFront given bytes → Reads bytes s → IsTextOf s text → out ≡ text
+pub is_written : (given before after : Option (List ℕ)) (bytes : List ℕ) (s : List Line) (text out : List ℕ) → IsFront given bytes → Reads bytes s → IsReplayText s text → out ≡ text
     → ForSome before (λ w. after ≡ Some (w ++ out)) → IsWritten given before after
 is_written given before after bytes s text out front reads t same gained =
     record {
@@ -49,7 +49,7 @@ is_written given before after bytes s text out front reads t same gained =
     }
 
 -- a part of the text was written
-pub is_cut_short : (given before after : Option (List ℕ)) (bytes : List ℕ) (s : List Line) (text out : List ℕ) → IsFront given bytes → Reads bytes s → IsTextOf s text → out ≡ text
+pub is_cut_short : (given before after : Option (List ℕ)) (bytes : List ℕ) (s : List Line) (text out : List ℕ) → IsFront given bytes → Reads bytes s → IsReplayText s text → out ≡ text
     → ForSome before (λ w. IsPartWritten w out after) → IsCutShort given before after
 is_cut_short given before after bytes s text out front reads t same gained =
     record {

@@ -5,7 +5,7 @@ use Rattle.dtx_values.specs.declared.script.Line.{Line}
 use Rattle.dtx_model.specs.Words.{past_of}
 use Rattle.dtx_model.specs.Replay.{LinesRan, Placed, IsReplayed}
 use Rattle.dtx_model.specs.Grammar.{IsScript}
-use Rattle.script_runner.specs.Running.{IsSettledBelow}
+use Rattle.script_runner.specs.RunState.{IsSettledBelow}
 use Rattle.script_text.proofs.Scripts.{length_script}
 
 -- before the first turn

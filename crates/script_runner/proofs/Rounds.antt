@@ -10,7 +10,7 @@ use Rattle.dtx_model.specs.Caused.{Settled}
 use Rattle.dtx_model.specs.Replay.{Placed, StepsRan, after_step, history, is_passed, last_turn}
 use Rattle.dtx_model.specs.Steps.{Step, block, pending}
 use Rattle.dtx_model.proofs.Histories.{history-other, history-same, observe-onto}
-use Rattle.script_runner.specs.Running.{Advances, IsSettledBelow, Settles, StepsDone}
+use Rattle.script_runner.specs.RunState.{Advances, IsSettledBelow, Settles, StepsDone}
 use Rattle.script_runner.proofs.Measure.{steps_left, steps_left-pending}
 
 -- going round from u, what comes before a later t is below it

@@ -1,5 +1,7 @@
--- Tables of what the lines of a script say of each enlistment and each clone, by number.
-use Rattle.std.specs.Prelude.{ℕ, ◌≡◌, ◌<◌, List, length, Option, None, slice_index_or}
+-- Tables of what the lines of a script say of each enlistment and each clone.
+use Rattle.std.specs.Prelude.{ℕ, ◌-◌, ◌≡◌, List, Option, None, slice_index_or}
+use Rattle.dtx_values.specs.declared.number.CloneNo.{CloneNo}
+use Rattle.dtx_values.specs.declared.number.EnlNo.{EnlNo}
 use Rattle.dtx_values.specs.declared.number.TxNo.{TxNo}
 use Rattle.dtx_values.specs.declared.script.Body.{Body}
 use Rattle.dtx_values.specs.declared.script.Line.{Line}
@@ -27,9 +29,7 @@ or_made x y =
 abbrev pub made_in : List Line → ℕ → Made
 made_in s e = record { transaction = transaction_with s e; plan = record { vote = planned_vote s e; owner = planned_owner s e; promote = planned_promotion s e } }
 
--- the tables say of each number what the script says of the enlistment, and whose the clone is
+-- the tables say, at the place of each number, what the script says of the enlistment, and whose the clone is
 pub record ArePlanned (s : List Line) (enlistments : List Made) (clones : List (Option TxNo)) : Type 0 where
-  pub enlistments_long : length enlistments ≡ 10000
-  pub clones_long : length clones ≡ 10000
-  pub enlistment : (e : ℕ) → e < 10000 → slice_index_or enlistments e unmade ≡ made_in s e
-  pub clone : (c : ℕ) → c < 10000 → slice_index_or clones c None ≡ transaction_of s c
+  pub enlistment : (e : EnlNo) → slice_index_or enlistments (e.value - 1) unmade ≡ made_in s e.value
+  pub clone : (c : CloneNo) → slice_index_or clones (c.value - 1) None ≡ transaction_of s c.value

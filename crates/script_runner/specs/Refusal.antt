@@ -1,4 +1,4 @@
--- What stands in the way of a replay.
+-- The text of a replay, and why bytes have none.
 use Rattle.std.specs.Prelude.{ℕ, ◌≡◌, List}
 use Rattle.dtx_values.specs.declared.script.Line.{Line}
 use Rattle.dtx_model.specs.Faults.{Bad}
@@ -9,14 +9,14 @@ use Rattle.dtx_model.specs.TraceText.{trace_text}
 use Rattle.script_runner.specs.declared.program.Refusal.{Refusal}
 use Rattle.script_runner.specs.declared.program.Refusal.TheVariants.{Bad as BadBytes, NotYet, Memory}
 
--- the bytes are refused for this cause; nothing is said of want of memory
-abbrev pub IsRefused : List ℕ → Refusal → Type 0
-IsRefused b (BadBytes n c) = Bad b n c
-IsRefused b (NotYet n) = IsNotYet b n
-IsRefused b Memory = Unit {0}
+-- the bytes have no replay for this cause; nothing is said of want of memory
+abbrev pub HasNoReplay : List ℕ → Refusal → Type 0
+HasNoReplay b (BadBytes n c) = Bad b n c
+HasNoReplay b (NotYet n) = IsNotYet b n
+HasNoReplay b Memory = Unit {0}
 
 -- the text is that of a replay of these lines
-pub record IsTextOf (s : List Line) (text : List ℕ) : Type 0 where
+pub record IsReplayText (s : List Line) (text : List ℕ) : Type 0 where
   pub trace : List Placed
   pub history : IsHistory s trace
   pub outcome : HasOneOutcome s trace

@@ -1,24 +1,21 @@
 //! What scope lines do at the contexts of their actors.
 ghost use Rattle.std.specs.Prelude.{◌≡◌, ◌<◌, ◌≤◌, ◌+◌, ◌++◌, List, [], false, length, map, replicate, vec_len, vec_capacity, IfNone, IfOk, IfSome, None};
+ghost use Rattle.dtx_values.specs.declared.number.ActorNo.{ActorNo};
 ghost use Rattle.dtx_values.specs.declared.number.ScopeNo.{ScopeNo};
 ghost use Rattle.dtx_values.specs.declared.number.TxNo.{TxNo};
 ghost use Rattle.dtx_values.specs.declared.script.Body.TheVariants.{Open, Finish, Close, Current};
 ghost use Rattle.dtx_values.specs.declared.script.Opening.{Opening};
 ghost use Rattle.dtx_model.specs.Words.{has, past_of};
-ghost use Rattle.dtx_values.specs.Entered.{transaction_in};
 ghost use Rattle.dtx_model.specs.Scopes.{Closes, is_scope, taken_off};
 ghost use Rattle.dtx_model.specs.Contexts.{asked_by, begin_calls, ending_calls, isolation_in, name_in, option_in, scope_answer, timeout_in, written};
 ghost use Rattle.script_runner.specs.Scoped.{DoesScope, IsUnopened, calls_given, nothing_open, refused_answer};
 
 use dtx_values::{
-    Answer, Body, Call, Closed, Entered, Entry, Iso, IsoWord, OpenScope, Opening, ScopeNo,
+    ActorNo, Answer, Body, Call, Closed, Entered, Entry, Iso, IsoWord, OpenScope, Opening, ScopeNo,
     ScopeNote, ScopeOption, Timeout, TxNo,
 };
 use scope_context::{Context, ScopeRefusal};
 use std::alloc::{AllocError, Global};
-
-/// The number of actors that a script can name.
-const ACTORS: usize = 16;
 
 /// The calls that a scope line gives transactions.
 #[derive(Clone, Copy, PartialEq, Eq, Debug)]
@@ -38,10 +35,11 @@ pub struct Acted {
 
 /// A context for each actor that a script can name, with no scope open.
 pub fn contexts(alloc: Global) -> Result<Vec<Context>, AllocError>
-    ensures { IfOk result (λ cs. cs.items ≡ replicate 16 nothing_open) }
+    ensures { IfOk result (λ cs. cs.items ≡ replicate ActorNo.MAX nothing_open) }
 {
-    let mut contexts = Vec::with_capacity(alloc, ACTORS)?;
-    for _a in 0..ACTORS {
+    let actors = ActorNo::MAX as usize;
+    let mut contexts = Vec::with_capacity(alloc, actors)?;
+    for _a in 0..actors {
         contexts.push_reserved(Context::new(alloc)?);
     }
     Ok(contexts)
@@ -100,16 +98,6 @@ fn opening_words(o: Opening) -> (ScopeOption, Option<TxNo>, Timeout, Iso)
     }
 }
 
-/// The transaction that a scope has.
-fn transaction_in(entered: Entered) -> Option<TxNo>
-    ensures { result ≡ transaction_in entered }
-{
-    match entered {
-        Entered::Made(t) | Entered::Joined(t) => Some(t),
-        Entered::NoTx => None,
-    }
-}
-
 /// The call that opening a scope gives the transaction that it made.
 fn begin(entered: Entered, d: Timeout) -> Gives
     ensures { (ts : List TxNo) → calls_given result ts ≡ begin_calls d entered }
@@ -131,18 +119,18 @@ fn end(closed: Closed) -> Gives
     }
 }
 
-/// Opens a scope, and notes it where it was opened.
-fn enter(context: &mut Context, s: ScopeNo, o: Opening, notes: &mut Vec<Entry>) -> Acted
+/// Opens a scope, and writes the entry where it was opened.
+fn enter(context: &mut Context, s: ScopeNo, o: Opening, entries: &mut Vec<Entry>) -> Acted
     requires unopened { has (is_scope s.value) context.old.scopes ≡ false }
-    requires empty { notes.old.items ≡ [] }
-    requires room { 1 ≤ vec_capacity notes.old }
-    ensures { DoesScope (Open s o) context.old context.new notes.new.items result }
+    requires empty { entries.old.items ≡ [] }
+    requires room { 1 ≤ vec_capacity entries.old }
+    ensures { DoesScope (Open s o) context.old context.new entries.new.items result }
 {
     let (option, name, timeout, isolation) = opening_words(o);
     match context.enter(s, option, name, isolation) {
         Ok(entered) => {
-            let t = transaction_in(entered);
-            notes.push_reserved(Entry::Scope(ScopeNote::Opened(s, t)));
+            let t = entered.transaction();
+            entries.push_reserved(Entry::Scope(ScopeNote::Opened(s, t)));
             Acted {
                 answer: Answer::Fine,
                 gives: begin(entered, timeout),
@@ -152,15 +140,15 @@ fn enter(context: &mut Context, s: ScopeNo, o: Opening, notes: &mut Vec<Entry>) 
     }
 }
 
-/// Completes a scope, and notes it where it was completed.
-fn complete(context: &mut Context, s: ScopeNo, notes: &mut Vec<Entry>) -> Acted
-    requires empty { notes.old.items ≡ [] }
-    requires room { 1 ≤ vec_capacity notes.old }
-    ensures { DoesScope (Finish s) context.old context.new notes.new.items result }
+/// Completes a scope, and writes the entry where it was completed.
+fn complete(context: &mut Context, s: ScopeNo, entries: &mut Vec<Entry>) -> Acted
+    requires empty { entries.old.items ≡ [] }
+    requires room { 1 ≤ vec_capacity entries.old }
+    ensures { DoesScope (Finish s) context.old context.new entries.new.items result }
 {
     match context.complete(s) {
         Ok(()) => {
-            notes.push_reserved(Entry::Scope(ScopeNote::Finished(s)));
+            entries.push_reserved(Entry::Scope(ScopeNote::Finished(s)));
             Acted {
                 answer: Answer::Fine,
                 gives: Gives::Nothing,
@@ -170,26 +158,26 @@ fn complete(context: &mut Context, s: ScopeNo, notes: &mut Vec<Entry>) -> Acted
     }
 }
 
-/// Notes as closed what closing a scope takes off: each from the top down to it.
-fn note_closed(scopes: &[OpenScope], s: ScopeNo, notes: &mut Vec<Entry>)
-    requires { vec_len notes.old + length scopes.now ≤ vec_capacity notes.old }
-    ensures { notes.new.items ≡ notes.old.items ++ map written (map (λ x. Closes x.scope) (taken_off s.value (past_of scopes.now))) }
+/// Writes as closed what closing a scope takes off: each from the top down to it.
+fn put_closed(scopes: &[OpenScope], s: ScopeNo, entries: &mut Vec<Entry>)
+    requires { vec_len entries.old + length scopes.now ≤ vec_capacity entries.old }
+    ensures { entries.new.items ≡ entries.old.items ++ map written (map (λ x. Closes x.scope) (taken_off s.value (past_of scopes.now))) }
 {
     for x in scopes.iter().rev() {
-        notes.push_reserved(Entry::Scope(ScopeNote::Closed(x.scope)));
+        entries.push_reserved(Entry::Scope(ScopeNote::Closed(x.scope)));
         if x.scope == s {
             break;
         }
     }
 }
 
-/// Closes a scope, and notes each that was taken off.
-fn close(context: &mut Context, s: ScopeNo, notes: &mut Vec<Entry>) -> Acted
-    requires empty { notes.old.items ≡ [] }
-    requires room { length context.old.scopes ≤ vec_capacity notes.old }
-    ensures { DoesScope (Close s) context.old context.new notes.new.items result }
+/// Closes a scope, and writes the entry of each that was taken off.
+fn close(context: &mut Context, s: ScopeNo, entries: &mut Vec<Entry>) -> Acted
+    requires empty { entries.old.items ≡ [] }
+    requires room { length context.old.scopes ≤ vec_capacity entries.old }
+    ensures { DoesScope (Close s) context.old context.new entries.new.items result }
 {
-    note_closed(context.scopes(), s, notes);
+    put_closed(context.scopes(), s, entries);
     match context.close(s) {
         Ok(closed) => Acted {
             answer: Answer::Fine,
@@ -200,7 +188,7 @@ fn close(context: &mut Context, s: ScopeNo, notes: &mut Vec<Entry>) -> Acted
             gives: Gives::Rollbacks,
         },
         Err(refusal) => {
-            notes.clear();
+            entries.clear();
             refuse(refusal)
         }
     }
@@ -220,19 +208,19 @@ fn current(context: &Context) -> Acted
     }
 }
 
-/// Does at its actor's context what a scope line says, and notes the entries behind its call; `None` where it is no scope line.
-pub fn act(context: &mut Context, body: Body, notes: &mut Vec<Entry>) -> Option<Acted>
+/// Does at its actor's context what a scope line says, and writes the entries after its call; `None` where it is no scope line.
+pub fn act(context: &mut Context, body: Body, entries: &mut Vec<Entry>) -> Option<Acted>
     requires unopened { IsUnopened body context.old.scopes }
-    requires empty { notes.old.items ≡ [] }
-    requires room { length context.old.scopes + 1 ≤ vec_capacity notes.old }
-    ensures some { IfSome result (λ x. DoesScope body context.old context.new notes.new.items x) }
+    requires empty { entries.old.items ≡ [] }
+    requires room { length context.old.scopes + 1 ≤ vec_capacity entries.old }
+    ensures some { IfSome result (λ x. DoesScope body context.old context.new entries.new.items x) }
     ensures none { IfNone result (scope_answer body context.old.scopes ≡ None) }
     ensures unchanged { IfNone result (context.new ≡ context.old) }
 {
     match body {
-        Body::Open(s, o) => Some(enter(context, s, o, notes)),
-        Body::Finish(s) => Some(complete(context, s, notes)),
-        Body::Close(s) => Some(close(context, s, notes)),
+        Body::Open(s, o) => Some(enter(context, s, o, entries)),
+        Body::Finish(s) => Some(complete(context, s, entries)),
+        Body::Close(s) => Some(close(context, s, entries)),
         Body::Current => Some(current(context)),
         _ => None,
     }

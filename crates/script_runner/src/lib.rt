@@ -4,16 +4,17 @@
 mod calls;
 mod contexts;
 mod exit;
-mod not_run;
 mod pending;
 mod plans;
 mod program;
 mod replay;
+mod runnable;
 #[cfg(test)]
 mod tests;
 mod transfer;
 
 pub use exit::Exit;
-pub use program::run_program;
+pub use program::{LOG_BYTES, run_program};
 pub use replay::run_replay;
+pub use runnable::is_runnable;
 pub use script_text::BadCause;

@@ -1,19 +1,20 @@
-//! The pending steps of a transaction: the replies that are due, and behind them the local act.
+//! The pending steps of a transaction: the replies that are due, and after them the local act.
 ghost use Rattle.std.specs.Prelude.{◌≡◌, ◌≤◌, None, true, false};
+ghost use Rattle.dtx_values.specs.Table.{rises_above};
 ghost use Rattle.dtx_model.specs.Words.{kth};
 ghost use Rattle.dtx_model.specs.Steps.{due_replies, pending, planned_reply};
-ghost use Rattle.script_runner.specs.Pending.{DoesKth, IsDueAt, are_apart};
+ghost use Rattle.script_runner.specs.Pending.{DoesKth, IsDueAt};
 
 use crate::plans::Plans;
 use dtx_values::{EnlNo, Note, Outbox, Reply};
 use local_half::LocalHalf;
 
-/// What stands at a place of the list of replies that are due.
+/// What is at a place of the list of replies that are due.
 #[derive(Clone, Copy, PartialEq, Eq, Debug)]
 pub enum Due {
     /// This enlistment's reply, as its line plans it.
     Reply(EnlNo, Reply),
-    /// No reply: the place lies so many behind the last one.
+    /// No reply: the list ends so many places before it.
     Beyond(usize),
 }
 
@@ -30,23 +31,23 @@ fn planned_reply(plans: &Plans, e: EnlNo, note: Option<Note>) -> Option<Reply>
 
 /// The reply at place k, from 0, of those that are due, in order of the enlistments' numbers.
 fn due_at(half: &LocalHalf, plans: &Plans, k: usize) -> Due
-    ensures { IsDueAt (due_replies plans.now half.now.seen) k result }
+    ensures due { IsDueAt (due_replies plans.now half.now.seen) k result }
+    ensures rise { rises_above 0 half.now.seen.table ≡ true }
 {
-    let mut left = k;
+    let mut more = k;
     for x in half.rows() {
-        if let Some(reply) = planned_reply(plans, x.0, half.due_note(x)) {
-            if left == 0 {
-                return Due::Reply(x.0, reply);
+        if let Some(reply) = planned_reply(plans, x.number, half.due_note(x)) {
+            if more == 0 {
+                return Due::Reply(x.number, reply);
             }
-            left -= 1;
+            more -= 1;
         }
     }
-    Due::Beyond(left)
+    Due::Beyond(more)
 }
 
 /// Does the k-th pending step; false where fewer than k are pending, or k is 0.
 pub fn step(half: &mut LocalHalf, plans: &Plans, k: u8, out: &mut Outbox) -> bool
-    requires apart { are_apart half.old.seen.table ≡ true }
     requires room { 2 ≤ out.old.room }
     ensures some { result ≡ true → DoesKth plans.now k half.old half.new out.old out.new }
     ensures none { result ≡ false → kth (pending plans.now half.old.seen) k ≡ None }

@@ -1,5 +1,7 @@
 //! What the lines of a script plan for each enlistment, and whose each enlistment and each clone is.
-ghost use Rattle.std.specs.Prelude.{◌≡◌, ◌==◌, ℕ, IfNone, IfOk, IfSome, length, replicate, slice_index_or, if◌then◌else◌};
+ghost use Rattle.std.specs.Prelude.{◌≡◌, ◌<◌, ◌==◌, ◌-◌, ℕ, length, IfNone, IfOk, IfSome, OnOk, slice_index_or, if◌then◌else◌};
+ghost use Rattle.dtx_values.specs.declared.number.CloneNo.{CloneNo};
+ghost use Rattle.dtx_values.specs.declared.number.EnlNo.{EnlNo};
 ghost use Rattle.dtx_model.specs.Steps.{clone_made, planned_owner, planned_vote, transaction_of, transaction_with};
 ghost use Rattle.dtx_model.specs.Words.{or_else};
 ghost use Rattle.script_runner.specs.Plans.{made_by, made_in, or_made, unmade};
@@ -7,9 +9,6 @@ ghost use Rattle.script_runner.specs.Plans.{made_by, made_in, or_made, unmade};
 use dtx_values::{Body, CloneNo, EnlNo, Line, Outcome, Plan, Support, TxNo, Vote};
 use std::alloc::{AllocError, Global};
 use std::marker::Model;
-
-/// One more than the greatest number of an enlistment or a clone.
-const SLOTS: usize = 10_000;
 
 /// What a line says of the enlistment that it makes: its transaction, and its plans.
 #[derive(Clone, Copy, PartialEq, Eq, Debug)]
@@ -62,7 +61,7 @@ impl Made {
     }
 }
 
-/// The enlistments by number, and the transactions of the clones by number. Contracts see the script that says so.
+/// The enlistments, and the transactions of the clones, each at the place of its number, as far as the script names them. Contracts see the script that says so.
 #[derive(Drop)]
 pub struct Plans<'a> {
     lines: &'a [Line],
@@ -70,26 +69,15 @@ pub struct Plans<'a> {
     clones: Vec<Option<TxNo>>,
 }
 
-/// A table in which no enlistment is made.
-fn no_enlistments(alloc: Global) -> Result<Vec<Made>, AllocError>
-    ensures { IfOk result (λ v. v.items ≡ replicate 10000 unmade) }
+/// What a table has at a place; `blank` where it ends before it.
+fn item_at<T: Copy>(items: &[T], place: usize, blank: T) -> T
+    ensures { result ≡ slice_index_or items.now place blank }
 {
-    let mut enlistments = Vec::with_capacity(alloc, SLOTS)?;
-    for _slot in 0..SLOTS {
-        enlistments.push_reserved(Made::unmade());
+    if place < items.len() {
+        items[place]
+    } else {
+        blank
     }
-    Ok(enlistments)
-}
-
-/// A table in which no clone is made.
-fn no_clones(alloc: Global) -> Result<Vec<Option<TxNo>>, AllocError>
-    ensures { IfOk result (λ v. v.items ≡ replicate 10000 None) }
-{
-    let mut clones = Vec::with_capacity(alloc, SLOTS)?;
-    for _slot in 0..SLOTS {
-        clones.push_reserved(None);
-    }
-    Ok(clones)
 }
 
 /// The enlistment that a command makes, and what it says of it.
@@ -112,27 +100,51 @@ fn said_by(body: Body) -> Option<(EnlNo, Made)>
     }
 }
 
-/// Takes down what a command says of the enlistment that it makes.
-fn plan(enlistments: &mut Vec<Made>, body: Body)
-    requires { length enlistments.old.items ≡ 10000 }
-    ensures long { length enlistments.new.items ≡ 10000 }
-    ensures slots { (e : ℕ) → slice_index_or enlistments.new.items e unmade ≡ or_made (made_by e body) (slice_index_or enlistments.old.items e unmade) }
+/// Makes a table longer where it ends before a place.
+fn reach<T: Copy>(items: &mut Vec<T>, place: usize, blank: T) -> Result<(), AllocError>
+    requires { place < EnlNo.MAX }
+    ensures room { OnOk result (place < length items.new.items) }
+    ensures same { OnOk result ((k : ℕ) → slice_index_or items.new.items k blank ≡ slice_index_or items.old.items k blank) }
 {
-    if let Some((e, said)) = said_by(body) {
-        let slot = e.get() as usize;
-        enlistments[slot] = said.or(enlistments[slot]);
+    if items.len() <= place {
+        items.resize(place + 1, blank)?;
     }
+    Ok(())
 }
 
-/// Takes down whose clone a command makes.
-fn own(clones: &mut Vec<Option<TxNo>>, body: Body)
-    requires { length clones.old.items ≡ 10000 }
-    ensures long { length clones.new.items ≡ 10000 }
-    ensures slots { (c : ℕ) → slice_index_or clones.new.items c None ≡ or_else (clone_made c body) (slice_index_or clones.old.items c None) }
+/// Puts an item at a place of a table.
+fn put_at<T: Copy>(items: &mut Vec<T>, place: usize, blank: T, item: T) -> Result<(), AllocError>
+    requires { place < EnlNo.MAX }
+    ensures { OnOk result ((k : ℕ) → slice_index_or items.new.items k blank
+        ≡ (if k == place then item else slice_index_or items.old.items k blank)) }
 {
-    if let Body::Clone(t, c, _) = body {
-        clones[c.get() as usize] = Some(t);
-    }
+    reach(items, place, blank)?;
+    items[place] = item;
+    Ok(())
+}
+
+/// Keeps what a command says of the enlistment that it makes.
+fn plan(enlistments: &mut Vec<Made>, body: Body) -> Result<(), AllocError>
+    ensures { OnOk result ((e : EnlNo) → slice_index_or enlistments.new.items (e.value - 1) unmade
+        ≡ or_made (made_by e.value body) (slice_index_or enlistments.old.items (e.value - 1) unmade)) }
+{
+    let Some((e, said)) = said_by(body) else {
+        return Ok(());
+    };
+    let place = e.index();
+    let before = item_at(enlistments, place, Made::unmade());
+    put_at(enlistments, place, Made::unmade(), said.or(before))
+}
+
+/// Keeps whose clone a command makes.
+fn own(clones: &mut Vec<Option<TxNo>>, body: Body) -> Result<(), AllocError>
+    ensures { OnOk result ((c : CloneNo) → slice_index_or clones.new.items (c.value - 1) None
+        ≡ or_else (clone_made c.value body) (slice_index_or clones.old.items (c.value - 1) None)) }
+{
+    let Body::Clone(t, c, _) = body else {
+        return Ok(());
+    };
+    put_at(clones, c.index(), None, Some(t))
 }
 
 impl<'a> Model for Plans<'a> {
@@ -152,11 +164,11 @@ impl<'a> Plans<'a> {
     pub fn new(alloc: Global, lines: &'a [Line]) -> Result<Self, AllocError>
         ensures { IfOk result (λ p. p ≡ lines.entry.now) }
     {
-        let mut enlistments = no_enlistments(alloc)?;
-        let mut clones = no_clones(alloc)?;
+        let mut enlistments = Vec::new(alloc);
+        let mut clones = Vec::new(alloc);
         for line in lines {
-            plan(&mut enlistments, line.body);
-            own(&mut clones, line.body);
+            plan(&mut enlistments, line.body)?;
+            own(&mut clones, line.body)?;
         }
         Ok(Plans {
             lines,
@@ -169,7 +181,7 @@ impl<'a> Plans<'a> {
     fn enlistment(&self, e: EnlNo) -> Made
         ensures { result ≡ made_in self.now e.value }
     {
-        self.enlistments[e.get() as usize]
+        item_at(&self.enlistments, e.index(), Made::unmade())
     }
 
     /// The vote that the line of this enlistment plans; `None` where it is silent, or where no line makes it.
@@ -197,7 +209,7 @@ impl<'a> Plans<'a> {
     pub fn transaction_of(&self, c: CloneNo) -> Option<TxNo>
         ensures { result ≡ transaction_of self.now c.value }
     {
-        self.clones[c.get() as usize]
+        item_at(&self.clones, c.index(), None)
     }
 
     /// The lines.

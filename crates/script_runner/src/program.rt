@@ -1,26 +1,30 @@
 //! The top call.
-ghost use Rattle.std.specs.Prelude.{◌≡◌, ◌⊎◌, ◌↔◌, ◌≤◌, ℕ, List, [], Ok, Some, drop, map, true, IfErr, IfOk, IsTrue};
+ghost use Rattle.std.specs.Prelude.{◌≡◌, ◌≢◌, ◌⊎◌, ◌↔◌, ◌≤◌, ◌+◌, ℕ, List, [], Ok, Some, drop, map, true, IfErr, IfOk, IsTrue};
 ghost use Rattle.std.specs.Option.{ForSome};
 ghost use Rattle.std.specs.String.{string_bytes};
 ghost use Rattle.outside.specs.Faults.{Rose};
+ghost use Rattle.dtx_values.specs.declared.limits.TheConstants.{SCRIPT_BYTES};
 ghost use Rattle.dtx_values.specs.declared.script.BadCause.{BadCause};
 ghost use Rattle.dtx_model.specs.Grammar.{IsNotYet, IsScript, Reads, are_run};
 ghost use Rattle.dtx_model.specs.Log.{log_has};
-ghost use Rattle.coordinator_log.specs.Slots.{open_records};
+ghost use Rattle.script_runner.specs.Temp.{AllHold};
 ghost use Rattle.dtx_model.specs.Faults.{Bad};
 ghost use Rattle.script_runner.specs.Program.{AreWords, IsCutShort, IsWritten};
 ghost use Rattle.script_runner.specs.Judged.{IsJudged};
-ghost use Rattle.script_runner.specs.Refusal.{IsRefused, IsTextOf};
+ghost use Rattle.script_runner.specs.Refusal.{HasNoReplay, IsReplayText};
 
 use crate::exit::Exit;
-use crate::not_run::first_not_run;
 use crate::replay::run_replay;
+use crate::runnable::first_to_build;
 use crate::transfer::{ReadError, WriteStop, read_all, write_all};
 use coordinator_log::{Log, LogRefusal};
 use outside::{Disk, Sink, Source};
 use script_text::{BadCause, Script, ScriptError, read_script, reads_exactly};
 use std::alloc::{AllocError, Global};
 use trace_text::print_trace;
+
+/// temp
+pub const LOG_BYTES: u64 = 524_800;
 
 /// Whether the words are the one word `replay`.
 fn are_words(words: &[String]) -> bool
@@ -41,17 +45,17 @@ enum Refusal {
 }
 
 /// The script that these bytes are, where each of its lines is run.
-fn runnable(alloc: Global, bytes: &[u8]) -> Result<Script, Refusal>
+fn script_to_run(alloc: Global, bytes: &[u8]) -> Result<Script, Refusal>
     ensures script { IfOk result (λ s. Reads bytes.now s × (are_run s ≡ true)) }
-    ensures refused { IfErr result (λ e. IsRefused bytes.now e) }
+    ensures refused { IfErr result (λ e. HasNoReplay bytes.now e) }
 {
     let script = match read_script(alloc, bytes) {
         Ok(script) => script,
         Err(ScriptError::BadScript(line, cause)) => return Err(Refusal::Bad(line, cause)),
         Err(ScriptError::Memory) => return Err(Refusal::Memory),
     };
-    match first_not_run(script.lines()) {
-        Some(line) => Err(Refusal::NotYet(line)),
+    match first_to_build(script.lines()) {
+        Some(place) => Err(Refusal::NotYet(place as u32 + 1)),
         None => Ok(script),
     }
 }
@@ -64,7 +68,7 @@ fn replayed<D: Disk>(
 ) -> Result<Vec<u8>, AllocError>
     requires script { IsScript script.now }
     requires run { are_run script.now ≡ true }
-    ensures text { IfOk result (λ text. IsTextOf script.now text.items) }
+    ensures text { IfOk result (λ text. IsReplayText script.now text.items) }
     ensures log { log.new ≡ log.old }
 {
     let trace = run_replay(alloc, script, log)?;
@@ -82,11 +86,12 @@ enum FormatStop {
 
 /// Makes the disk an empty log, or hands it back.
 fn formatted<D: Disk>(alloc: Global, disk: D) -> Result<Log<D>, (FormatStop, D)>
-    requires { 524800 ≤ D.size disk }
-    ensures up { IfOk result (λ log. IsTrue log.up) }
-    ensures empty { IfOk result (λ log. open_records log.slots ≡ []) }
+    requires { LOG_BYTES ≤ D.size disk }
+    ensures images { IsTrue D.honest → IfOk result (λ log. AllHold (D.image log.disk) []) }
+    ensures smooth { IfOk result (λ log. D.faults log.disk ≡ D.faults disk) }
     ensures fault { IfErr result (λ e. e.0 ≡ FormatStop.Fault → Rose (D.faults disk) (D.faults e.1)) }
-    ensures room { IfErr result (λ e. 524800 ≤ D.size e.1) }
+    ensures memory { IfErr result (λ e. e.0 ≡ FormatStop.Memory → e.1 ≡ disk) }
+    ensures room { IfErr result (λ e. LOG_BYTES ≤ D.size e.1) }
 {
     match Log::format(alloc, disk) {
         Ok(log) => Ok(log),
@@ -96,10 +101,10 @@ fn formatted<D: Disk>(alloc: Global, disk: D) -> Result<Log<D>, (FormatStop, D)>
 }
 
 /// Runs the program: where the words are `replay`, reads the script from the source, formats the log on the disk, replays the script, and writes the trace in the plain
-/// form to the sink. It hands the disk back, which has at least 524,800 bytes.
+/// form to the sink. It hands the disk back, which has at least [`LOG_BYTES`](crate::LOG_BYTES) bytes: [`Disk::len`] tells whether it has.
 ///
-/// The source is read to its end, or to byte 1,048,577, before anything is judged; the log is formatted before the script is run; and the whole text is made before the
-/// first write.
+/// The source is read to its end, or one byte past the longest script, before anything is judged. The disk is touched only where the script is run, and the sink only where
+/// the log was formatted. A fault is answered as the fault that it is: with each other answer the counts of faults are as they were.
 pub fn run_program<S: Source, K: Sink, D: Disk>(
     alloc: Global,
     words: &[String],
@@ -107,7 +112,7 @@ pub fn run_program<S: Source, K: Sink, D: Disk>(
     sink: &mut K,
     disk: D,
 ) -> (Exit, D)
-    requires { 524800 ≤ D.size disk }
+    requires { LOG_BYTES ≤ D.size disk }
 
     // The headline. At the end the log has no record, in what a read gives and in each image that a crash can leave.
     ensures headline { result.0 ≡ Exit.Fine → IsWritten (S.left source.old) (K.written sink.old) (K.written sink.new) }
@@ -124,18 +129,22 @@ pub fn run_program<S: Source, K: Sink, D: Disk>(
     ensures bad_refused { (n : ℕ) (c : BadCause) → AreWords (map string_bytes words.now) → ForSome (S.left source.old) (λ b. Bad b n c → (result.0 ≡ Exit.BadScript n c) ⊎ ((result.0 ≡ Exit.ReadFault) ⊎ (result.0 ≡ Exit.Memory))) }
     ensures not_yet { (n : ℕ) → result.0 ≡ Exit.NotYet n → ForSome (S.left source.old) (λ b. IsNotYet b n) }
     ensures not_yet_refused { (n : ℕ) → AreWords (map string_bytes words.now) → ForSome (S.left source.old) (λ b. IsNotYet b n → (result.0 ≡ Exit.NotYet n) ⊎ ((result.0 ≡ Exit.ReadFault) ⊎ (result.0 ≡ Exit.Memory))) }
-    ensures judged { IsJudged result.0 → ForSome (S.left source.old) (λ b. S.left source.new ≡ Some (drop 1048577 b)) }
+    ensures judged { IsJudged result.0 → ForSome (S.left source.old) (λ b. S.left source.new ≡ Some (drop (SCRIPT_BYTES + 1) b)) }
 
-    // Faults are those of the source, of the disk while the log was formatted, and of the sink in this call.
+    // Faults are those of the source, of the disk while the log was formatted, and of the sink in this call; and each is answered as that fault.
     ensures read_fault { result.0 ≡ Exit.ReadFault → Rose (S.faults source.old) (S.faults source.new) }
     ensures log_fault { result.0 ≡ Exit.LogFault → Rose (D.faults disk) (D.faults result.1) }
     ensures write_fault { result.0 ≡ Exit.WriteFault → Rose (K.faults sink.old) (K.faults sink.new) }
+    ensures read_smooth { result.0 ≢ Exit.ReadFault → S.faults source.new ≡ S.faults source.old }
+    ensures log_smooth { result.0 ≢ Exit.LogFault → D.faults result.1 ≡ D.faults disk }
+    ensures write_smooth { result.0 ≢ Exit.WriteFault → K.faults sink.new ≡ K.faults sink.old }
 
     // What was written: the whole text with Fine, above; else a part of it, or nothing. The disk is touched only where the script is run.
     ensures cut_short { result.0 ≡ Exit.WriteFault → IsCutShort (S.left source.old) (K.written sink.old) (K.written sink.new) }
     ensures memory { result.0 ≡ Exit.Memory → (sink.new ≡ sink.old) ⊎ IsCutShort (S.left source.old) (K.written sink.old) (K.written sink.new) }
     ensures unwritten { (result.0 ≡ Exit.Usage) ⊎ ((result.0 ≡ Exit.ReadFault) ⊎ ((result.0 ≡ Exit.LogFault) ⊎ IsJudged result.0)) → sink.new ≡ sink.old }
-    ensures room { 524800 ≤ D.size result.1 }
+    ensures room { LOG_BYTES ≤ D.size result.1 }
+    ensures given_up { IsTrue D.honest → result.0 ≡ Exit.Memory → (result.1 ≡ disk) ⊎ AllHold (D.image result.1) [] }
     ensures untouched { (result.0 ≡ Exit.Usage) ⊎ ((result.0 ≡ Exit.ReadFault) ⊎ IsJudged result.0) → result.1 ≡ disk }
 {
     reads_exactly();
@@ -147,7 +156,7 @@ pub fn run_program<S: Source, K: Sink, D: Disk>(
         Err(ReadError::Fault) => return (Exit::ReadFault, disk),
         Err(ReadError::Memory) => return (Exit::Memory, disk),
     };
-    let script = match runnable(alloc, &bytes) {
+    let script = match script_to_run(alloc, &bytes) {
         Ok(script) => script,
         Err(Refusal::Bad(line, cause)) => return (Exit::BadScript(line, cause), disk),
         Err(Refusal::NotYet(line)) => return (Exit::NotYet(line), disk),

@@ -1,6 +1,7 @@
 //! A replay: the lines in order, and then the rounds at the end.
 ghost use Rattle.std.specs.Prelude.{◌≡◌, ◌≤◌, ◌+◌, List, [], ◌∷◌, ◌++◌, IfOk, OnErr, OnOk, None, Ok, Some, true, false, length, map, replicate, vec_len, vec_capacity};
 ghost use Rattle.dtx_values.specs.declared.call.Call.{Call};
+ghost use Rattle.dtx_values.specs.declared.number.ActorNo.{ActorNo};
 ghost use Rattle.dtx_values.specs.declared.number.TxNo.{TxNo};
 ghost use Rattle.dtx_values.specs.declared.script.Line.{Line};
 ghost use Rattle.dtx_model.specs.Words.{kth, onto, past_of};
@@ -12,7 +13,7 @@ ghost use Rattle.dtx_model.specs.Replay.{CallRan, HasDone, IsReplayed, LinesRan,
 ghost use Rattle.dtx_model.specs.History.{HasOneOutcome, IsComplete, IsHistory};
 ghost use Rattle.dtx_model.specs.Grammar.{IsScript, are_run};
 ghost use Rattle.script_runner.specs.Calling.{IsReady};
-ghost use Rattle.script_runner.specs.Running.{Advances, AreTied, IsSettledBelow, Settles};
+ghost use Rattle.script_runner.specs.RunState.{Advances, AreTied, IsSettledBelow, Settles};
 ghost use Rattle.script_runner.specs.Scoped.{AreOpen, IsUnopened, calls_given, nothing_open, rollbacks, rolled_at, scopes_at};
 
 use crate::calls::call;
@@ -28,50 +29,47 @@ use scope_context::Context;
 use std::alloc::{AllocError, Global};
 use std::marker::Model;
 
-/// The number of transactions that a script can name.
-const TRANSACTIONS: usize = 256;
-
-/// One more than the greatest number of a transaction.
-const BEYOND: u32 = 257;
-
 /// A replay under way: its script's plans, its transactions and its actors' contexts by number, and its trace. Contracts see the script,
 /// the contexts and the trace.
 #[derive(Drop)]
 pub struct Run<'a> {
+    alloc: Global,
     plans: Plans<'a>,
+    /// The transactions by number, up to the last that was called.
     halves: Vec<LocalHalf>,
     contexts: Vec<Context>,
     /// The entries of the step under way at a transaction.
     out: Outbox,
-    /// The entries of the line under way at a context, behind its call.
-    notes: Vec<Entry>,
+    /// The entries of the line under way at a context, after its call.
+    entries: Vec<Entry>,
     trace: Vec<(Place, Entry)>,
 }
 
 impl<'a> Model for Run<'a> {
     ghost use Rattle.std.specs.Prelude.{◌≡◌, length};
-    ghost use Rattle.script_runner.specs.Running.{Running, AreTied};
+    ghost use Rattle.dtx_values.specs.declared.number.TheConstants.ActorNo.{MAX};
+    ghost use Rattle.script_runner.specs.RunState.{AreTied, RunState};
 
-    ghost Value = { Running };
+    ghost Value = { RunState };
 
     ghost view = { λ r. record { script = r.plans; contexts = r.contexts.items; trace = r.trace.items } };
 
-    ghost invariant = { λ r. AreTied r.halves.items r.trace.items × (length r.contexts.items ≡ 16) };
+    ghost invariant = { λ r. AreTied r.halves.items r.trace.items × (length r.contexts.items ≡ MAX) };
 }
 
-/// The local halves of the transactions that a script can name, in order of number, of which nothing is known yet.
-fn halves(alloc: Global) -> Result<Vec<LocalHalf>, AllocError>
-    ensures { IfOk result (λ hs. AreTied hs.items []) }
+/// Makes the halves that aren't there yet, up to the transaction's.
+fn reach(alloc: Global, halves: &mut Vec<LocalHalf>, t: TxNo) -> Result<(), AllocError>
+    ensures tied { (T : List Placed) → AreTied halves.old.items T → AreTied halves.new.items T }
+    ensures reached { OnOk result (t.value ≤ length halves.new.items) }
 {
-    let mut halves = Vec::with_capacity(alloc, TRANSACTIONS)?;
-    for number in 1..BEYOND {
-        let t = TxNo::new(number).unwrap();
-        halves.push_reserved(LocalHalf::new(alloc, t)?);
+    for number in halves.len()..t.index() + 1 {
+        let next = TxNo::new(number as u32 + 1).unwrap();
+        halves.push(LocalHalf::new(alloc, next)?)?;
     }
-    Ok(halves)
+    Ok(())
 }
 
-/// Puts the entries behind the trace, each at this place. The trace has room for them.
+/// Puts the entries at the end of the trace, each at this place. The trace has room for them.
 fn append(trace: &mut Vec<(Place, Entry)>, place: Place, entries: &[Entry])
     requires { vec_len trace.old + length entries.now ≤ vec_capacity trace.old }
     ensures { trace.new.items ≡ trace.old.items ++ map (λ e. (place, e)) entries.now }
@@ -84,14 +82,15 @@ fn append(trace: &mut Vec<(Place, Entry)>, place: Place, entries: &[Entry])
 impl<'a> Run<'a> {
     /// A replay of these lines, before its first step.
     pub fn new(alloc: Global, lines: &'a [Line]) -> Result<Self, AllocError>
-        ensures { IfOk result (λ r. r ≡ record { script = lines.entry.now; contexts = replicate 16 nothing_open; trace = [] }) }
+        ensures { IfOk result (λ r. r ≡ record { script = lines.entry.now; contexts = replicate ActorNo.MAX nothing_open; trace = [] }) }
     {
         Ok(Run {
+            alloc,
             plans: Plans::new(alloc, lines)?,
-            halves: halves(alloc)?,
+            halves: Vec::new(alloc),
             contexts: contexts(alloc)?,
             out: Outbox::with_room(alloc)?,
-            notes: Vec::new(alloc),
+            entries: Vec::new(alloc),
             trace: Vec::new(alloc),
         })
     }
@@ -111,9 +110,10 @@ impl<'a> Run<'a> {
         ensures done { OnOk result (past_of self.new.trace ≡ after_step t (Calls n actor c.now done) (past_of self.old.trace)) }
         ensures memory { OnErr result (self.new ≡ self.old) }
     {
+        reach(self.alloc, &mut self.halves, t)?;
         self.trace.reserve(ROOM)?;
         self.out.clear();
-        let half = &mut self.halves[t.get() as usize - 1];
+        let half = &mut self.halves[t.index()];
         call(half, actor, n, c, done, &mut self.out);
         append(&mut self.trace, Place::Transaction(t), self.out.entries());
         Ok(())
@@ -128,9 +128,12 @@ impl<'a> Run<'a> {
         ensures unchanged { result ≡ Ok false → self.new ≡ self.old }
         ensures memory { OnErr result (self.new ≡ self.old) }
     {
+        if self.halves.len() <= t.index() {
+            return Ok(false);
+        }
         self.trace.reserve(ROOM)?;
         self.out.clear();
-        let half = &mut self.halves[t.get() as usize - 1];
+        let half = &mut self.halves[t.index()];
         if !step(half, &self.plans, k, &mut self.out) {
             return Ok(false);
         }
@@ -168,9 +171,9 @@ impl<'a> Run<'a> {
     /// Settles t1, t2 and so on in turn. No step of one makes another's pending, so one round leaves nothing.
     fn settle_all(&mut self) -> Result<(), AllocError>
         ensures script { self.new.script ≡ self.old.script }
-        ensures settled { OnOk result ((start : List Placed) → IsSettledBelow self.old.script start 1 (past_of self.old.trace) → IsSettledBelow self.old.script start 257 (past_of self.new.trace)) }
+        ensures settled { OnOk result ((start : List Placed) → IsSettledBelow self.old.script start 1 (past_of self.old.trace) → IsSettledBelow self.old.script start (TxNo.MAX + 1) (past_of self.new.trace)) }
     {
-        for n in 1..BEYOND {
+        for n in 1..TxNo::MAX + 1 {
             let t = TxNo::new(n).unwrap();
             self.settle(t)?;
         }
@@ -179,7 +182,7 @@ impl<'a> Run<'a> {
 
     /// Writes what line n does at its actor's context: its call, and its entries; and which calls it gives transactions. Nothing, where it
     /// is no scope line.
-    fn note(&mut self, n: u32, l: &Line) -> Result<Gives, AllocError>
+    fn at_context(&mut self, n: u32, l: &Line) -> Result<Gives, AllocError>
         requires { IsUnopened l.now.body (scopes_at l.now.actor self.old.contexts) }
         ensures script { self.new.script ≡ self.old.script }
         ensures block { OnOk result (past_of self.new.trace ≡ onto (past_of self.old.trace) (noted l.now.actor (scope_block n l.now.actor l.now.body (scopes_at l.now.actor self.old.contexts)))) }
@@ -187,18 +190,18 @@ impl<'a> Run<'a> {
         ensures scopes { OnOk result ((before : List Line) → AreOpen self.old.contexts before → AreOpen self.new.contexts (l.now ∷ before)) }
         ensures memory { OnErr result (self.new ≡ self.old) }
     {
-        let context = &mut self.contexts[l.actor.get() as usize - 1];
+        let context = &mut self.contexts[l.actor.index()];
         let room = context.scopes().len() + 1;
-        self.notes.clear();
-        self.notes.reserve(room)?;
+        self.entries.clear();
+        self.entries.reserve(room)?;
         self.trace.reserve(room + 1)?;
-        let Some(acted) = act(context, l.body, &mut self.notes) else {
+        let Some(acted) = act(context, l.body, &mut self.entries) else {
             return Ok(Gives::Nothing);
         };
         let place = Place::Context(l.actor);
         self.trace
             .push_reserved((place, Entry::Called(n, l.actor, acted.answer)));
-        append(&mut self.trace, place, &self.notes);
+        append(&mut self.trace, place, &self.entries);
         Ok(acted.gives)
     }
 
@@ -208,7 +211,7 @@ impl<'a> Run<'a> {
         ensures contexts { self.new.contexts ≡ self.old.contexts }
         ensures done { OnOk result (past_of self.new.trace ≡ after_calls n actor (rollbacks (rolled_at actor self.old.contexts)) (past_of self.old.trace)) }
     {
-        let place = actor.get() as usize - 1;
+        let place = actor.index();
         for i in 0..self.contexts[place].rolled().len() {
             let t = self.contexts[place].rolled()[i];
             self.call(n, actor, t, &Call::Rollback(t), 0)?;
@@ -223,14 +226,14 @@ impl<'a> Run<'a> {
         ensures done { OnOk result (past_of self.new.trace ≡ after_scope n l.now (scopes_at l.now.actor self.old.contexts) (past_of self.old.trace)) }
         ensures scopes { OnOk result ((before : List Line) → AreOpen self.old.contexts before → AreOpen self.new.contexts (l.now ∷ before)) }
     {
-        match self.note(n, l)? {
+        match self.at_context(n, l)? {
             Gives::Nothing => Ok(()),
             Gives::Call(t, c) => self.call(n, l.actor, t, &c, 0),
             Gives::Rollbacks => self.roll_back(n, l.actor),
         }
     }
 
-    /// Does the call that line n gives transaction t by its own words, behind the steps of a `do` or an `await`.
+    /// Does the call that line n gives transaction t by its own words, after the steps of a `do` or an `await`.
     fn own_call(&mut self, n: u32, actor: ActorNo, t: TxNo, c: &Call) -> Result<(), AllocError>
         requires { IsReady (observe (history t.value (past_of self.old.trace))) c.now }
         ensures script { self.new.script ≡ self.old.script }
@@ -313,7 +316,7 @@ fn call_of(plans: &Plans, body: Body) -> Option<(TxNo, Call)>
     }
 }
 
-/// The trace of what the lines do in order, and of the rounds behind them.
+/// The trace of what the lines do in order, and of the rounds after them.
 fn trace_of(alloc: Global, lines: &[Line]) -> Result<Trace, AllocError>
     requires script { IsScript lines.now }
     requires run { are_run lines.now ≡ true }

@@ -7,11 +7,12 @@ ghost use Rattle.script_runner.specs.Transfer.{IsPartWritten};
 #[cfg(test)]
 mod tests;
 
+use dtx_values::SCRIPT_BYTES;
 use outside::{Sink, Source, WriteError};
 use std::alloc::Global;
 
 /// The most bytes that are read: one more than the longest script has.
-pub const MOST: usize = 1_048_577;
+pub const MOST: usize = SCRIPT_BYTES + 1;
 
 /// The most bytes that one call reads.
 const PIECE: usize = 16_384;
@@ -38,9 +39,8 @@ pub enum WriteStop {
 ///
 /// # Errors
 ///
-/// - [`ReadError::Fault`], only where the source's count of faults rose, or stands at the last value of its
-///   `u64`.
-/// - [`ReadError::Memory`] where no memory was left.
+/// - [`ReadError::Fault`], only where the source's count of faults rose, or is the last value of its `u64`.
+/// - [`ReadError::Memory`] where no memory was left. The count is then as it was.
 ///
 /// How much of the source was read is then open.
 pub fn read_all<S: Source>(alloc: Global, source: &mut S) -> Result<Vec<u8>, ReadError>
@@ -49,6 +49,8 @@ pub fn read_all<S: Source>(alloc: Global, source: &mut S) -> Result<Vec<u8>, Rea
     ensures left { OnOk result (ForSome (S.left source.old) (λ b. S.left source.new ≡ Some (drop MOST b))) }
     ensures untold { S.left source.old ≡ None → S.left source.new ≡ None }
     ensures cause { IfErr result (λ e. e ≡ ReadError.Fault → Rose (S.faults source.old) (S.faults source.new)) }
+    ensures smooth { OnOk result (S.faults source.new ≡ S.faults source.old) }
+    ensures memory { IfErr result (λ e. e ≡ ReadError.Memory → S.faults source.new ≡ S.faults source.old) }
     ensures grows { S.faults source.old ≤ S.faults source.new }
 {
     let mut bytes = Vec::new(alloc);
@@ -72,8 +74,8 @@ pub fn read_all<S: Source>(alloc: Global, source: &mut S) -> Result<Vec<u8>, Rea
 ///
 /// # Errors
 ///
-/// - [`WriteStop::Fault`], only where the sink's count of faults rose, or stands at the last value of its `u64`.
-/// - [`WriteStop::Memory`] where no memory was left.
+/// - [`WriteStop::Fault`], only where the sink's count of faults rose, or is the last value of its `u64`.
+/// - [`WriteStop::Memory`] where no memory was left. The count is then as it was.
 ///
 /// Only the first of the bytes are then written, and not all of them.
 pub fn write_all<K: Sink>(sink: &mut K, bytes: &[u8]) -> Result<(), WriteStop>
@@ -81,6 +83,8 @@ pub fn write_all<K: Sink>(sink: &mut K, bytes: &[u8]) -> Result<(), WriteStop>
     ensures part { OnErr result (ForSome (K.written sink.old) (λ w. IsPartWritten w bytes.now (K.written sink.new))) }
     ensures untold { K.written sink.old ≡ None → K.written sink.new ≡ None }
     ensures cause { IfErr result (λ e. e ≡ WriteStop.Fault → Rose (K.faults sink.old) (K.faults sink.new)) }
+    ensures smooth { OnOk result (K.faults sink.new ≡ K.faults sink.old) }
+    ensures memory { IfErr result (λ e. e ≡ WriteStop.Memory → K.faults sink.new ≡ K.faults sink.old) }
     ensures grows { K.faults sink.old ≤ K.faults sink.new }
 {
     let mut at = 0;

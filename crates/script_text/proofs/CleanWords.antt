@@ -2,11 +2,13 @@
 use Rattle.std.proofs.Common.{◌≡◌, ℕ, ◌^◌, ◌<◌, ◌≤◌, ◌==◌, ◌&&◌, ◌||◌, Bool, true, List, [], ◌∷◌, refl, subst, arith, Option, Some, None}
 use Rattle.std.specs.Prelude.{nat_le}
 use Rattle.std.proofs.lemmas.Bool.Decides.{nat_tests}
+use Rattle.dtx_values.specs.declared.number.TheConstants.EnlNo.{MAX as ENLISTMENTS}
 use Rattle.dtx_model.specs.Words.{has, each}
 use Rattle.dtx_model.specs.Grammar.{is_from}
-use Rattle.dtx_model.specs.Faults.{Slot, allows, is_name, is_number, same_bytes, writes, line_forms}
+use Rattle.dtx_model.specs.Faults.{Pattern, allows, is_name, is_number, same_bytes, writes, line_forms}
 use Rattle.dtx_model.proofs.Bools.{and_both, and_left, and_right, or_case}
-use Rattle.script_words.proofs.Numbers.{same_bytes-equal, to_high}
+use Rattle.line_tail.proofs.SameBytes.{same_bytes-equal}
+use Rattle.script_words.proofs.Numbers.{to_high}
 use Rattle.script_text.proofs.Figures.{writes_one, clean_decimal}
 use Rattle.script_text.proofs.WordFaults.{fits, fits_some}
 
@@ -20,8 +22,8 @@ has_small_numbers (Some r) = nat_le r.1 4294967295
 has_small_numbers None = true
 
 -- the place allows clean words only
-abbrev is_clean_slot : Slot → Bool
-is_clean_slot s = each is_clean s.words && (each (λ b. is_from 33 126 b) s.letters && (nat_le s.most 9999 && has_small_numbers s.number))
+abbrev is_clean_pattern : Pattern → Bool
+is_clean_pattern s = each is_clean s.words && (each (λ b. is_from 33 126 b) s.letters && (nat_le s.most ENLISTMENTS && has_small_numbers s.number))
 
 -- what is the same as a clean word is clean
 clean_same : (w : List ℕ) (vs : List (List ℕ)) → each is_clean vs ≡ true → has (same_bytes w) vs ≡ true → is_clean w ≡ true
@@ -44,7 +46,7 @@ clean_written low high w h k =
     subst (λ (v : List ℕ). is_clean v ≡ true) n.1 (clean_decimal n.0.0 small)
 
 -- a name is clean
-clean_name : (s : Slot) (w : List ℕ) → each (λ b. is_from 33 126 b) s.letters ≡ true → nat_le s.most 9999 ≡ true → is_name s w ≡ true → is_clean w ≡ true
+clean_name : (s : Pattern) (w : List ℕ) → each (λ b. is_from 33 126 b) s.letters ≡ true → nat_le s.most ENLISTMENTS ≡ true → is_name s w ≡ true → is_clean w ≡ true
 clean_name s [] h k e = absurd (cc e)
 clean_name s (b ∷ bs) h k e =
     let most : nat_le s.most 4294967295 ≡ true = grind (arith, nat_tests) in
@@ -57,7 +59,7 @@ clean_number (Some r) w h e = clean_written r.0 r.1 w h e
 clean_number None w h e = absurd (cc e)
 
 -- so what such a place allows is clean
-clean_word : (s : Slot) (w : List ℕ) → is_clean_slot s ≡ true → allows s w ≡ true → is_clean w ≡ true
+clean_word : (s : Pattern) (w : List ℕ) → is_clean_pattern s ≡ true → allows s w ≡ true → is_clean w ≡ true
 clean_word s w h k =
     let rest = and_right _ _ h in
     let numbers = and_right _ _ rest in
@@ -66,7 +68,7 @@ clean_word s w h k =
     or_case (has (same_bytes w) s.words || is_name s w) (is_number s.number w) by_words (clean_number s.number w (and_right _ _ numbers)) k
 
 -- words that fill a form of such places are clean
-clean_form : (f : List Slot) (ws : List (List ℕ)) → each is_clean_slot f ≡ true → fits f ws ≡ true → each is_clean ws ≡ true
+clean_form : (f : List Pattern) (ws : List (List ℕ)) → each is_clean_pattern f ≡ true → fits f ws ≡ true → each is_clean ws ≡ true
 clean_form [] [] h k = refl
 clean_form [] (w ∷ ws) h k = absurd (cc k)
 clean_form (s ∷ f) [] h k = absurd (cc k)
@@ -74,7 +76,7 @@ clean_form (s ∷ f) (w ∷ ws) h k =
     and_both (is_clean w) (each is_clean ws) (clean_word s w (and_left _ _ h) (and_left _ _ k)) (clean_form f ws (and_right _ _ h) (and_right _ _ k))
 
 -- where words fill one of some forms of such places, they are clean
-clean_some : (forms : List (List Slot)) (ws : List (List ℕ)) → each (λ f. each is_clean_slot f) forms ≡ true → fits_some forms ws ≡ true → each is_clean ws ≡ true
+clean_some : (forms : List (List Pattern)) (ws : List (List ℕ)) → each (λ f. each is_clean_pattern f) forms ≡ true → fits_some forms ws ≡ true → each is_clean ws ≡ true
 clean_some [] ws h k = absurd (cc k)
 clean_some (f ∷ fs) ws h k = or_case (fits f ws) (fits_some fs ws) (clean_form f ws (and_left _ _ h)) (clean_some fs ws (and_right _ _ h)) k
 

@@ -2,12 +2,14 @@
 use Rattle.std.proofs.Common.{◌≡◌, ℕ, ◌^◌, ◌<◌, ◌≤◌, true, List, [], ◌∷◌, refl, sym, arith, decimal}
 use Rattle.std.specs.Str.Parse.{AllDigits}
 use Rattle.std.proofs.lemmas.Bool.Decides.{nat_tests}
+use Rattle.std.proofs.lemmas.Fmt.{digits_decimal}
 use Rattle.std.proofs.lemmas.Str.Parse.{digit_from_value}
 use Rattle.dtx_model.specs.Words.{each}
 use Rattle.dtx_model.specs.Grammar.{is_from}
 use Rattle.dtx_model.specs.Faults.{value_from, writes}
 use Rattle.dtx_model.proofs.Bools.{and_both, and_left, and_right}
-use Rattle.script_words.proofs.Numbers.{same_bytes-equal, decimal_number}
+use Rattle.dtx_model.proofs.Digits.{own}
+use Rattle.line_tail.proofs.SameBytes.{same_bytes-equal}
 
 -- a number of a range is in it
 in_range : (low high n : ℕ) → low ≤ n → n ≤ high → is_from low high n ≡ true
@@ -37,4 +39,4 @@ clean_digits (x ∷ xs) d =
 
 -- a number's text is clean
 pub clean_decimal : (n : ℕ) → n < 2 ^ 32 → each (λ b. is_from 33 126 b) (decimal n) ≡ true
-clean_decimal n h = clean_digits (decimal n) ((decimal_number n h).digits)
+clean_decimal n h = clean_digits (decimal n) (digits_decimal own n (omega arith))

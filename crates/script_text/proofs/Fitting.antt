@@ -7,21 +7,21 @@ use Rattle.dtx_values.specs.declared.script.Line.{Line}
 use Rattle.dtx_values.specs.declared.script.Opening.TheVariants.{Required, RequiresNew, Suppress}
 use Rattle.dtx_values.specs.declared.script.Support.TheVariants.{SinglePhase, TwoPhase}
 use Rattle.dtx_model.specs.Grammar.{actor_name, words, command_words, is_from, is_in_range}
-use Rattle.dtx_model.specs.Faults.{Slot, allows, command_forms, line_forms, actor_slot}
+use Rattle.dtx_model.specs.Faults.{Pattern, allows, command_forms, line_forms, actor_pattern}
 use Rattle.dtx_model.proofs.Bools.{and_both, and_left, and_right, or_right}
-use Rattle.script_words.proofs.Slots.{actor_allowed, transaction_allowed, enlistment_allowed, clone_allowed, scope_allowed, manager_allowed, connection_allowed, timeout_allowed, isolation_allowed}
-use Rattle.script_words.proofs.Slots.{option_allowed, vote_allowed, owner_allowed, promotion_allowed, kind_allowed, image_allowed, number_allowed}
+use Rattle.script_words.proofs.Patterns.{actor_allowed, transaction_allowed, enlistment_allowed, clone_allowed, scope_allowed, manager_allowed, connection_allowed, timeout_allowed, isolation_allowed}
+use Rattle.script_words.proofs.Patterns.{option_allowed, vote_allowed, owner_allowed, promotion_allowed, kind_allowed, image_allowed, number_allowed}
 use Rattle.script_text.specs.Reader.{ahead}
 use Rattle.script_text.proofs.WordFaults.{fits, fits_some}
 
 -- words fill the form at a place of some forms
-abbrev fits_at : List (List Slot) → ℕ → List (List ℕ) → Bool
+abbrev fits_at : List (List Pattern) → ℕ → List (List ℕ) → Bool
 fits_at [] i ws = false
 fits_at (f ∷ fs) zero ws = fits f ws
 fits_at (f ∷ fs) (suc i) ws = fits_at fs i ws
 
 -- so they fill one
-at_some : (fs : List (List Slot)) (i : ℕ) (ws : List (List ℕ)) → fits_at fs i ws ≡ true → fits_some fs ws ≡ true
+at_some : (fs : List (List Pattern)) (i : ℕ) (ws : List (List ℕ)) → fits_at fs i ws ≡ true → fits_some fs ws ≡ true
 at_some [] i ws h = absurd (cc h)
 at_some (f ∷ fs) zero ws h = rw h refl
 at_some (f ∷ fs) (suc i) ws h = or_right (fits f ws) (fits_some fs ws) (at_some fs i ws h)
@@ -68,11 +68,11 @@ body_fills Restart h = (25, refl)
 body_fills Par h = (26, refl)
 
 -- the forms of a line are those of a command behind an actor
-pub line_forms_are : line_forms ≡ ahead actor_slot command_forms
+pub line_forms_are : line_forms ≡ ahead actor_pattern command_forms
 line_forms_are = refl
 
 -- an actor and words that fill a form fill the form behind an actor
-actor_fits : (fs : List (List Slot)) (a : List ℕ) (ws : List (List ℕ)) → allows actor_slot a ≡ true → fits_some (ahead actor_slot fs) (a ∷ ws) ≡ fits_some fs ws
+actor_fits : (fs : List (List Pattern)) (a : List ℕ) (ws : List (List ℕ)) → allows actor_pattern a ≡ true → fits_some (ahead actor_pattern fs) (a ∷ ws) ≡ fits_some fs ws
 actor_fits [] a ws h = refl
 actor_fits (f ∷ fs) a ws h = rw (h, actor_fits fs a ws h) refl
 

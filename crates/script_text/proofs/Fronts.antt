@@ -3,13 +3,14 @@ use Rattle.std.proofs.Common.{◌≡◌, ℕ, ◌+◌, ◌≤◌, ◌<◌, ◌==
 use Rattle.std.specs.Prelude.{not}
 use Rattle.std.specs.List.{join_with_byte}
 use Rattle.std.proofs.lemmas.Bool.Decides.{nat_tests}
+use Rattle.dtx_values.specs.declared.limits.TheConstants.{LINE_BYTES, SCRIPT_BYTES}
 use Rattle.dtx_values.specs.declared.script.BadCause.TheVariants.{TooLong, LongLine, NoNewline, BadByte}
 use Rattle.dtx_values.specs.declared.script.Line.{Line}
 use Rattle.dtx_model.specs.Words.{has, each}
 use Rattle.dtx_model.specs.Grammar.{is_from, words, line_text}
 use Rattle.dtx_model.specs.Faults.{front, has_newline, words_of, form_fault, word_fault, line_forms}
 use Rattle.dtx_model.proofs.Bools.{or_first, or_second}
-use Rattle.script_words.specs.Places.{IsWithout}
+use Rattle.line_tail.specs.Cut.{IsWithout}
 use Rattle.script_text.proofs.LineTexts.{front_cut, newline_there, join_words}
 
 -- bytes without LF are all in front
@@ -32,37 +33,37 @@ pub whole_front : (bs : List ℕ) → IsWithout 10 bs → IsFront bs bs (length 
 whole_front bs h = record { text = front_whole bs h; newline = h; reached = omega arith }
 
 -- the line reaches too far
-pub too_long : (taken : ℕ) (bs t : List ℕ) (n : ℕ) (l : Bool) → IsFront bs t n l → 1048576 < taken + n → form_fault taken bs ≡ Some TooLong
+pub too_long : (taken : ℕ) (bs t : List ℕ) (n : ℕ) (l : Bool) → IsFront bs t n l → SCRIPT_BYTES < taken + n → form_fault taken bs ≡ Some TooLong
 unfolding form_fault
 too_long taken bs t n l f k =
-    let long : nat_lt 1048576 (taken + n) ≡ true = grind (arith, nat_tests) in
+    let long : nat_lt SCRIPT_BYTES (taken + n) ≡ true = grind (arith, nat_tests) in
     rw (f.text, f.newline, sym f.reached, long) refl
 
 -- it has too many bytes
-pub long_line : (taken : ℕ) (bs t : List ℕ) (n : ℕ) (l : Bool) → IsFront bs t n l → taken + n ≤ 1048576 → 200 < length t → form_fault taken bs ≡ Some LongLine
+pub long_line : (taken : ℕ) (bs t : List ℕ) (n : ℕ) (l : Bool) → IsFront bs t n l → taken + n ≤ SCRIPT_BYTES → LINE_BYTES < length t → form_fault taken bs ≡ Some LongLine
 unfolding form_fault
 long_line taken bs t n l f k m =
-    let within : nat_lt 1048576 (taken + n) ≡ false = grind (arith, nat_tests) in
-    let long : nat_lt 200 (length t) ≡ true = grind (arith, nat_tests) in
+    let within : nat_lt SCRIPT_BYTES (taken + n) ≡ false = grind (arith, nat_tests) in
+    let long : nat_lt LINE_BYTES (length t) ≡ true = grind (arith, nat_tests) in
     rw (f.text, f.newline, sym f.reached, within, long) refl
 
 -- its LF isn't there
-pub no_newline : (taken : ℕ) (bs : List ℕ) → IsWithout 10 bs → taken + length bs ≤ 1048576 → length bs ≤ 200 → form_fault taken bs ≡ Some NoNewline
+pub no_newline : (taken : ℕ) (bs : List ℕ) → IsWithout 10 bs → taken + length bs ≤ SCRIPT_BYTES → length bs ≤ LINE_BYTES → form_fault taken bs ≡ Some NoNewline
 unfolding form_fault
 no_newline taken bs h k m =
     let f = whole_front bs h in
-    let within : nat_lt 1048576 (taken + length bs) ≡ false = grind (arith, nat_tests) in
-    let short : nat_lt 200 (length bs) ≡ false = grind (arith, nat_tests) in
+    let within : nat_lt SCRIPT_BYTES (taken + length bs) ≡ false = grind (arith, nat_tests) in
+    let short : nat_lt LINE_BYTES (length bs) ≡ false = grind (arith, nat_tests) in
     rw (f.text, f.newline, sym f.reached, within, short) refl
 
 -- a byte isn't printed, or only the words are left to look at
-pub cut_line : (taken : ℕ) (bs t r : List ℕ) (b : Bool) → bs ≡ t ++ 10 ∷ r → IsWithout 10 t → taken + length t + 1 ≤ 1048576 → length t ≤ 200 → each (is_from 32 126) t ≡ b
+pub cut_line : (taken : ℕ) (bs t r : List ℕ) (b : Bool) → bs ≡ t ++ 10 ∷ r → IsWithout 10 t → taken + length t + 1 ≤ SCRIPT_BYTES → length t ≤ LINE_BYTES → each (is_from 32 126) t ≡ b
     → form_fault taken bs ≡ (if b then word_fault line_forms (words_of t) else Some BadByte)
 unfolding form_fault
 cut_line taken bs t r b e h k m p =
     let f = cut_front bs t r e h in
-    let within : nat_lt 1048576 (taken + (length t + 1)) ≡ false = grind (arith, nat_tests) in
-    let short : nat_lt 200 (length t) ≡ false = grind (arith, nat_tests) in
+    let within : nat_lt SCRIPT_BYTES (taken + (length t + 1)) ≡ false = grind (arith, nat_tests) in
+    let short : nat_lt LINE_BYTES (length t) ≡ false = grind (arith, nat_tests) in
     rw (f.text, f.newline, within, short, p) (not_turn b _ _)
   where
     not_turn : {A : Type 0} (b : Bool) (x y : A) → (if not b then y else x) ≡ (if b then x else y)

@@ -3,6 +3,7 @@ use Rattle.std.proofs.Common.{◌≡◌, ℕ, ◌+◌, ◌≤◌, Bool, true, fa
 use Rattle.std.specs.Prelude.{not, nat_lt, if◌then◌else◌}
 use Rattle.std.specs.List.{join_with_byte}
 use Rattle.std.proofs.lemmas.Bool.Decides.{nat_tests}
+use Rattle.dtx_values.specs.declared.limits.TheConstants.{LINE_BYTES, SCRIPT_BYTES}
 use Rattle.dtx_values.specs.declared.script.BadCause.{BadCause}
 use Rattle.dtx_values.specs.declared.script.BadCause.TheVariants.{TooLong, LongLine, NoNewline, BadByte}
 use Rattle.dtx_values.specs.declared.script.Line.{Line}
@@ -18,8 +19,8 @@ use Rattle.script_text.proofs.Scripts.{IsGood, last_good}
 
 -- the line at the front has no fault by its bytes
 pub record IsFormed (taken : ℕ) (bs : List ℕ) : Type 0 where
-  pub within : taken + reach bs ≤ 1048576
-  pub short : length (front bs) ≤ 200
+  pub within : taken + reach bs ≤ SCRIPT_BYTES
+  pub short : length (front bs) ≤ LINE_BYTES
   pub newline : has_newline bs ≡ true
   pub text : is_text (front bs) ≡ true
   pub words : word_fault line_forms (words_of (front bs)) ≡ None
@@ -35,7 +36,7 @@ at_most m n h = grind (arith, nat_tests)
 -- so there is none
 pub formed_none : (taken : ℕ) (bs : List ℕ) → IsFormed taken bs → form_fault taken bs ≡ None
 unfolding form_fault
-formed_none taken bs f = rw (not_less 1048576 (taken + reach bs) f.within, not_less 200 (length (front bs)) f.short, f.newline, f.text, f.words) refl
+formed_none taken bs f = rw (not_less SCRIPT_BYTES (taken + reach bs) f.within, not_less LINE_BYTES (length (front bs)) f.short, f.newline, f.text, f.words) refl
 
 -- the first of four tests that fails, or else a fault of words
 abbrev first_failure : Bool → Bool → Bool → Bool → Option BadCause → Option BadCause
@@ -53,8 +54,8 @@ all_hold false false true true o h = (refl, refl, refl, refl, h)
 pub none_formed : (taken : ℕ) (bs : List ℕ) → form_fault taken bs ≡ None → IsFormed taken bs
 unfolding form_fault
 none_formed taken bs h =
-    let k = all_hold (nat_lt 1048576 (taken + reach bs)) (nat_lt 200 (length (front bs))) (has_newline bs) (is_text (front bs)) (word_fault line_forms (words_of (front bs))) h in
-    record { within = at_most 1048576 (taken + reach bs) k.0; short = at_most 200 (length (front bs)) k.1; newline = k.2; text = k.3; words = k.4 }
+    let k = all_hold (nat_lt SCRIPT_BYTES (taken + reach bs)) (nat_lt LINE_BYTES (length (front bs))) (has_newline bs) (is_text (front bs)) (word_fault line_forms (words_of (front bs))) h in
+    record { within = at_most SCRIPT_BYTES (taken + reach bs) k.0; short = at_most LINE_BYTES (length (front bs)) k.1; newline = k.2; text = k.3; words = k.4 }
 
 -- what follows a line stands behind its LF
 pub line_text-append : (l : Line) (after : List ℕ) → line_text l ++ after ≡ join_with_byte 32 (words l) ++ 10 ∷ after
@@ -87,10 +88,10 @@ same_first l m a b h k e = (
   sym (line_behind l a h) ∙ ap behind_front e ∙ line_behind m b k,
 )
 
--- a line that isn't too long has at most 200 bytes before its LF
-short_line : (l : Line) → is_short l ≡ true → length (join_with_byte 32 (words l)) ≤ 200
+-- a line that isn't too long is so before its LF
+short_line : (l : Line) → is_short l ≡ true → length (join_with_byte 32 (words l)) ≤ LINE_BYTES
 short_line l h =
-    let k : length (line_text l) ≤ 201 = grind (arith, nat_tests) in
+    let k : length (line_text l) ≤ LINE_BYTES + 1 = grind (arith, nat_tests) in
     omega (arith, length-append (join_with_byte 32 (words l)) (10 ∷ []))
 
 -- a good line has no fault by its bytes

@@ -4,17 +4,17 @@ use Rattle.std.specs.List.{filter_map}
 use Rattle.dtx_values.specs.declared.script.BadCause.TheVariants.{UnknownWord}
 use Rattle.dtx_model.specs.Words.{has}
 use Rattle.dtx_model.specs.Outcome.{is_empty}
-use Rattle.dtx_model.specs.Faults.{Slot, same_bytes, behind, looks_named, looks_numbered, wants_number, word, word_fault, command_forms}
+use Rattle.dtx_model.specs.Faults.{Pattern, same_bytes, behind, looks_named, looks_numbered, wants_number, word, word_fault, command_forms}
 use Rattle.dtx_model.proofs.Bools.{or_false, or_case}
 use Rattle.script_words.specs.Places.{IsOther}
-use Rattle.script_text.specs.Reader.{opening_forms, opening_keys, making_words, asking_words, running_words}
-use Rattle.script_words.proofs.Numbers.{same_bytes-equal}
-use Rattle.script_words.proofs.Slots.{allows-none}
+use Rattle.script_text.specs.Reader.{opening_forms, opening_keys, transaction_keys, scope_keys, event_keys}
+use Rattle.line_tail.proofs.SameBytes.{same_bytes-equal}
+use Rattle.script_words.proofs.Patterns.{allows-none}
 
 -- each form begins with one of these words
-data Keyed (ks : List (List ℕ)) : List (List Slot) → Type 0 where
+data Keyed (ks : List (List ℕ)) : List (List Pattern) → Type 0 where
   NoForm : Keyed ks []
-  AlsoForm : (k : List ℕ) (f : List Slot) (fs : List (List Slot)) → has (same_bytes k) ks ≡ true → Keyed ks fs → Keyed ks ((word k ∷ f) ∷ fs)
+  AlsoForm : (k : List ℕ) (f : List Pattern) (fs : List (List Pattern)) → has (same_bytes k) ks ≡ true → Keyed ks fs → Keyed ks ((word k ∷ f) ∷ fs)
 
 -- a word that is none of these isn't one of them
 other_word : (w k : List ℕ) (ks : List (List ℕ)) → IsOther w ks → has (same_bytes k) ks ≡ true → w ≢ k
@@ -28,22 +28,22 @@ wants_none (b ∷ []) k = refl
 wants_none (b ∷ d ∷ ds) k = refl
 
 -- no form is left behind such a word
-none_left : (w : List ℕ) (ks : List (List ℕ)) (fs : List (List Slot)) → IsOther w ks → Keyed ks fs → filter_map (behind w) fs ≡ []
+none_left : (w : List ℕ) (ks : List (List ℕ)) (fs : List (List Pattern)) → IsOther w ks → Keyed ks fs → filter_map (behind w) fs ≡ []
 none_left w ks _ h NoForm = refl
 none_left w ks _ h (AlsoForm k f fs e n) = rw (allows-none w (k ∷ []) (other_word w k ks h e, tt), none_left w ks fs h n) refl
 
 -- none is filled
-none_filled : (ks : List (List ℕ)) (fs : List (List Slot)) → Keyed ks fs → has is_empty fs ≡ false
+none_filled : (ks : List (List ℕ)) (fs : List (List Pattern)) → Keyed ks fs → has is_empty fs ≡ false
 none_filled ks _ NoForm = refl
 none_filled ks _ (AlsoForm k f fs e n) = none_filled ks fs n
 
 -- none wants a number
-none_wants : (w : List ℕ) (ks : List (List ℕ)) (fs : List (List Slot)) → Keyed ks fs → has (wants_number w) fs ≡ false
+none_wants : (w : List ℕ) (ks : List (List ℕ)) (fs : List (List Pattern)) → Keyed ks fs → has (wants_number w) fs ≡ false
 none_wants w ks _ NoForm = refl
 none_wants w ks _ (AlsoForm k f fs e n) = or_false (looks_named (word k) w || looks_numbered None w) _ (wants_none w k) (none_wants w ks fs n)
 
 -- so the word is unknown
-unknown : (w : List ℕ) (ws ks : List (List ℕ)) (fs : List (List Slot)) → IsOther w ks → Keyed ks fs → word_fault fs (w ∷ ws) ≡ Some UnknownWord
+unknown : (w : List ℕ) (ws ks : List (List ℕ)) (fs : List (List Pattern)) → IsOther w ks → Keyed ks fs → word_fault fs (w ∷ ws) ≡ Some UnknownWord
 unknown w ws ks fs h n = rw (none_left w ks fs h n, none_filled ks fs n, none_wants w ks fs n) refl
 
 -- a word that is none of these and none of those is none of them together
@@ -56,7 +56,7 @@ pub unknown_opening : (w : List ℕ) (ws : List (List ℕ)) → IsOther w openin
 unknown_opening w ws h = unknown w ws opening_keys opening_forms h (search (rules, AlsoForm, NoForm))
 
 -- another word than those of commands is unknown where a command begins
-pub unknown_command : (w : List ℕ) (ws : List (List ℕ)) → IsOther w making_words → IsOther w asking_words → IsOther w running_words → word_fault command_forms (w ∷ ws) ≡ Some UnknownWord
+pub unknown_command : (w : List ℕ) (ws : List (List ℕ)) → IsOther w transaction_keys → IsOther w scope_keys → IsOther w event_keys → word_fault command_forms (w ∷ ws) ≡ Some UnknownWord
 unknown_command w ws h k n =
-    let other = others w (making_words ++ asking_words) running_words (others w making_words asking_words h k) n in
-    unknown w ws (making_words ++ asking_words ++ running_words) command_forms other (search (rules, AlsoForm, NoForm) depth 60)
+    let other = others w (transaction_keys ++ scope_keys) event_keys (others w transaction_keys scope_keys h k) n in
+    unknown w ws (transaction_keys ++ scope_keys ++ event_keys) command_forms other (search (rules, AlsoForm, NoForm) depth 60)

@@ -7,7 +7,7 @@ use Rattle.dtx_model.specs.Outcome.{is_empty}
 use Rattle.dtx_model.specs.Grammar.{is_from}
 use Rattle.dtx_model.specs.Faults.{front, has_newline, push, split, words_of}
 use Rattle.dtx_model.proofs.Bools.{and_both, and_left, and_right, or_false, or_first, or_second, or_right}
-use Rattle.script_words.specs.Places.{IsWithout}
+use Rattle.line_tail.specs.Cut.{IsWithout}
 use Rattle.script_words.proofs.Splits.{split_at, split_none, split_some}
 use Rattle.script_text.proofs.CleanWords.{is_clean}
 

@@ -3,6 +3,7 @@ use Rattle.std.proofs.Common.{◌≡◌, ◌≢◌, ℕ, ◌+◌, ◌<◌, ◌�
 use Rattle.std.specs.Prelude.{nat_lt}
 use Rattle.std.proofs.lemmas.Bool.Decides.{nat_tests}
 use Rattle.std.proofs.lemmas.List.{length-drop, length-take, take-append-drop, append-nil}
+use Rattle.dtx_values.specs.declared.limits.TheConstants.{SCRIPT_BYTES}
 use Rattle.dtx_values.specs.declared.script.BadCause.{BadCause}
 use Rattle.dtx_values.specs.declared.script.BadCause.TheVariants.{TooLong}
 use Rattle.dtx_values.specs.declared.script.Line.{Line}
@@ -65,14 +66,14 @@ unfolding form_fault
 same_fault taken bs more h = rw (front_more bs more h, newline_more bs more h, h) refl
 
 -- what reaches too far is too long
-too_long : (taken : ℕ) (bs : List ℕ) → 1048576 < taken + length (front bs) → form_fault taken bs ≡ Some TooLong
+too_long : (taken : ℕ) (bs : List ℕ) → SCRIPT_BYTES < taken + length (front bs) → form_fault taken bs ≡ Some TooLong
 unfolding form_fault
 too_long taken bs h =
-    let k : nat_lt 1048576 (taken + reach bs) ≡ true = grind (arith, nat_tests) in
+    let k : nat_lt SCRIPT_BYTES (taken + reach bs) ≡ true = grind (arith, nat_tests) in
     rw k refl
 
 -- the front is bad for the same cause where more bytes follow, if the bytes before have an LF or are too long
-form_more : (taken : ℕ) (bs more : List ℕ) (c : BadCause) (k : Bool) → has_newline bs ≡ k → (has_newline bs ≡ false → 1048576 < taken + length bs) → form_fault taken bs ≡ Some c
+form_more : (taken : ℕ) (bs more : List ℕ) (c : BadCause) (k : Bool) → has_newline bs ≡ k → (has_newline bs ≡ false → SCRIPT_BYTES < taken + length bs) → form_fault taken bs ≡ Some c
     → form_fault taken (bs ++ more) ≡ Some c
 form_more taken bs more c true e h f = same_fault taken bs more e ∙ f
 form_more taken bs more c false e h f =
@@ -82,7 +83,7 @@ form_more taken bs more c false e h f =
     later ∙ sym now ∙ f
 
 -- so are the names of its line
-bad_more : (before : List Line) (rest more : List ℕ) (c : BadCause) → (has_newline rest ≡ false → 1048576 < length (script_text before) + length rest) → IsBadFor before rest c
+bad_more : (before : List Line) (rest more : List ℕ) (c : BadCause) → (has_newline rest ≡ false → SCRIPT_BYTES < length (script_text before) + length rest) → IsBadFor before rest c
     → IsBadFor before (rest ++ more) c
 bad_more before rest more c h (ByForm e) = ByForm (form_more (length (script_text before)) rest more c (has_newline rest) refl h e)
 bad_more before rest more c h (ByNames l e w r n) =
@@ -98,7 +99,7 @@ taken_whole k b h = by (drop k b) (omega (arith, length-take k b, length-drop k 
     by (x ∷ xs) e = absurd (omega arith)
 
 -- its cause is one of the whole
-cause_more : (k : ℕ) (b : List ℕ) (n : ℕ) (c : BadCause) (y : Bad (take k b) n c) (short : Bool) → 1048576 < k → nat_lt (length (take k b)) k ≡ short → IsBadFor y.before (y.rest ++ drop k b) c
+cause_more : (k : ℕ) (b : List ℕ) (n : ℕ) (c : BadCause) (y : Bad (take k b) n c) (short : Bool) → SCRIPT_BYTES < k → nat_lt (length (take k b)) k ≡ short → IsBadFor y.before (y.rest ++ drop k b) c
 cause_more k b n c y true h e =
     let less : length (take k b) < k = grind (arith, nat_tests) in
     subst (λ (r : List ℕ). IsBadFor y.before r c) (sym (ap (λ xs. y.rest ++ xs) (taken_whole k b less) ∙ append-nil y.rest)) y.cause
@@ -107,7 +108,7 @@ cause_more k b n c y false h e =
     bad_more y.before y.rest (drop k b) c (λ _. omega (arith, ap length y.bytes, length-append (script_text y.before) y.rest)) y.cause
 
 -- the bad line of a long front is the bad line of the whole
-longer_than : (k : ℕ) (b : List ℕ) (n : ℕ) (c : BadCause) → 1048576 < k → Bad (take k b) n c → Bad b n c
+longer_than : (k : ℕ) (b : List ℕ) (n : ℕ) (c : BadCause) → SCRIPT_BYTES < k → Bad (take k b) n c → Bad b n c
 longer_than k b n c h y = record {
   before = y.before;
   rest = y.rest ++ drop k b;
@@ -119,5 +120,5 @@ longer_than k b n c h y = record {
 }
 
 -- what is bad in the first 1,048,577 bytes is bad in the whole: a script ends before the last of them
-pub longer : (b : List ℕ) (n : ℕ) (c : BadCause) → Bad (take 1048577 b) n c → Bad b n c
-longer b n c y = longer_than 1048577 b n c (omega arith) y
+pub longer : (b : List ℕ) (n : ℕ) (c : BadCause) → Bad (take (SCRIPT_BYTES + 1) b) n c → Bad b n c
+longer b n c y = longer_than (SCRIPT_BYTES + 1) b n c (omega arith) y

@@ -2,7 +2,7 @@
 use Rattle.std.proofs.Common.{◌≡◌, ℕ, ◌^◌, ◌<◌, Bool, true, false, List, [], ◌∷◌, refl, ap, sym, ◌∙◌, subst, arith, codes, decimal, Option, Some, None}
 use Rattle.std.specs.Str.Parse.{AllDigits}
 use Rattle.std.proofs.lemmas.Bool.{false≢true}
-use Rattle.std.proofs.lemmas.Fmt.{decimal_injective}
+use Rattle.std.proofs.lemmas.Fmt.{digits_decimal, decimal_injective}
 use Rattle.std.proofs.lemmas.Str.Parse.{digit_from_value}
 use Rattle.dtx_values.specs.declared.message.Conn.{Conn}
 use Rattle.dtx_values.specs.declared.message.Conn.TheVariants.{Begin as OnBegin, Voter as OnVoter, Enl as OnEnl, Again}
@@ -42,7 +42,9 @@ use Rattle.dtx_model.specs.Grammar.{is_from, is_timeout, is_opening_in_range, is
 use Rattle.dtx_model.specs.Faults.{same_bytes}
 use Rattle.dtx_model.proofs.Bools.{and_left, and_right}
 use Rattle.dtx_model.proofs.SameNumbers.{same_actor, same_clone, same_enlistment, same_manager, same_scope, same_transaction}
-use Rattle.script_words.proofs.Numbers.{same_bytes-refl, to_high, decimal_number}
+use Rattle.dtx_model.proofs.Digits.{own}
+use Rattle.line_tail.proofs.SameBytes.{same_bytes-refl}
+use Rattle.script_words.proofs.Numbers.{to_high}
 
 -- the first words of two equal lists
 first : {a b : List ℕ} {x y : List (List ℕ)} → a ∷ x ≡ b ∷ y → a ≡ b
@@ -112,7 +114,7 @@ same_within low high m n h k l e = decimal_injective m n (omega (arith, to_high 
 
 -- a number isn't spelled `default`
 not_default : (n : ℕ) → n < 2 ^ 32 → decimal n ≡ codes "default" → ⊥
-not_default n h e = omega (arith, digit_from_value 100 (subst (AllDigits 10) e ((decimal_number n h).digits)).0)
+not_default n h e = omega (arith, digit_from_value 100 (subst (AllDigits 10) e (digits_decimal own n (omega arith))).0)
 
 -- timeouts with one text are one
 same_timeout : (d e : Timeout) → is_timeout d ≡ true → is_timeout e ≡ true → timeout_word d ≡ timeout_word e → d ≡ e

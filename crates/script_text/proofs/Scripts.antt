@@ -3,6 +3,7 @@ use Rattle.std.proofs.Common.{◌≡◌, ℕ, ◌+◌, ◌≤◌, ◌&&◌, Bool
 use Rattle.std.specs.Prelude.{not, if◌then◌else◌}
 use Rattle.std.specs.List.{join_with_byte}
 use Rattle.std.proofs.lemmas.List.{append-nil}
+use Rattle.dtx_values.specs.declared.limits.TheConstants.{SCRIPT_BYTES}
 use Rattle.dtx_values.specs.declared.script.BadCause.{BadCause}
 use Rattle.dtx_values.specs.declared.script.BadCause.TheVariants.{NameTwice, NameUnknown, WrongKind, ParTwice}
 use Rattle.dtx_values.specs.declared.script.Line.{Line}
@@ -57,7 +58,7 @@ script_none = record { in_range = refl; short = refl; within = omega arith; name
 pub record IsGood (before : List Line) (l : Line) : Type 0 where
   pub in_range : is_in_range l.body ≡ true
   pub short : is_short l ≡ true
-  pub within : length (script_text before) + length (line_text l) ≤ 1048576
+  pub within : length (script_text before) + length (line_text l) ≤ SCRIPT_BYTES
   pub names : name_fault (past_of before) l ≡ None
 
 -- a line that makes and uses names well, with enlistments of the right kind, and isn't a second `par`, has no fault by its names

@@ -3,6 +3,7 @@ use Rattle.std.proofs.Common.{◌≡◌, ◌≢◌, ℕ, true, zero, suc, ◌+�
 use Rattle.std.specs.List.{join_with_byte}
 use Rattle.std.proofs.lemmas.Bool.Decides.{nat_tests}
 use Rattle.std.proofs.lemmas.List.{append-nil}
+use Rattle.dtx_values.specs.declared.limits.TheConstants.{LINE_BYTES}
 use Rattle.dtx_values.specs.declared.script.BadCause.{BadCause}
 use Rattle.dtx_values.specs.declared.script.Line.{Line}
 use Rattle.dtx_model.specs.Words.{past_of}
@@ -10,7 +11,7 @@ use Rattle.dtx_model.specs.Grammar.{words, line_text, script_text, IsScript, Rea
 use Rattle.dtx_model.specs.Faults.{front, has_newline, words_of, reach, form_fault, name_fault, line_forms, IsBadFor, ByForm, ByNames, Bad}
 use Rattle.script_text.proofs.WordFaults.{none_fits}
 use Rattle.script_text.proofs.LineTexts.{behind_front, join_words, cut_front}
-use Rattle.script_text.proofs.Filled.{IsLine, line_of}
+use Rattle.script_text.proofs.Filled.{AreLineWords, line_of}
 use Rattle.script_text.proofs.Scripts.{IsGood, script_none, script_more, bytes_more}
 use Rattle.script_text.proofs.GoodLines.{IsFormed, none_formed, line_text-append}
 
@@ -19,20 +20,20 @@ abbrev Found : List ℕ → Type 0
 Found b = ((s : List Line) × Reads b s) ⊎ ((n : ℕ) × (c : BadCause) × Bad b n c)
 
 -- the line's text is the front
-front_is : (rest : List ℕ) (y : IsLine (words_of (front rest))) → join_with_byte 32 (words y.line) ≡ front rest
+front_is : (rest : List ℕ) (y : AreLineWords (words_of (front rest))) → join_with_byte 32 (words y.line) ≡ front rest
 front_is rest y = ap (join_with_byte 32) y.is ∙ join_words (front rest)
 
 -- the bytes begin with the line
-begins_with : (rest : List ℕ) (y : IsLine (words_of (front rest))) → has_newline rest ≡ true → rest ≡ line_text y.line ++ behind_front rest
+begins_with : (rest : List ℕ) (y : AreLineWords (words_of (front rest))) → has_newline rest ≡ true → rest ≡ line_text y.line ++ behind_front rest
 begins_with rest y h = cut_front rest h ∙ ap (λ t. t ++ 10 ∷ behind_front rest) (sym (front_is rest y)) ∙ sym (line_text-append y.line (behind_front rest))
 
 -- a line without fault is good
-without_fault : (before : List Line) (rest : List ℕ) (y : IsLine (words_of (front rest))) → IsFormed (length (script_text before)) rest
+without_fault : (before : List Line) (rest : List ℕ) (y : AreLineWords (words_of (front rest))) → IsFormed (length (script_text before)) rest
     → name_fault (past_of before) y.line ≡ None → IsGood before y.line
 without_fault before rest y f n =
     let long : length (line_text y.line) ≡ length (front rest) + 1 = omega (arith, length-append (join_with_byte 32 (words y.line)) (10 ∷ []), ap length (front_is rest y)) in
     let far : reach rest ≡ length (front rest) + 1 = rw f.newline refl in
-    let short : length (line_text y.line) ≤ 201 = omega (arith, f.short) in
+    let short : length (line_text y.line) ≤ LINE_BYTES + 1 = omega (arith, f.short) in
     record { in_range = y.in_range; short = grind (arith, nat_tests); within = omega (arith, f.within); names = n }
 
 -- what the bytes are, from what they are where the line at the front is good
@@ -43,7 +44,7 @@ one_more b before rest some e s next = by_form (form_fault (length (script_text 
     bad : (c : BadCause) → IsBadFor before rest c → Found b
     bad c k = inr (length before + 1, c, record { before = before; rest = rest; bytes = e; script = s; number = refl; left = some; cause = k })
 
-    by_names : form_fault (length (script_text before)) rest ≡ None → (y : IsLine (words_of (front rest))) (o : Option BadCause) → name_fault (past_of before) y.line ≡ o → Found b
+    by_names : form_fault (length (script_text before)) rest ≡ None → (y : AreLineWords (words_of (front rest))) (o : Option BadCause) → name_fault (past_of before) y.line ≡ o → Found b
     by_names h y (Some c) k = bad c (ByNames y.line h (sym y.is) y.in_range k)
     by_names h y None k =
         let f = none_formed (length (script_text before)) rest h in

@@ -3,9 +3,9 @@ ghost use Rattle.std.specs.Prelude.{◌≡◌};
 ghost use Rattle.dtx_model.specs.Faults.{command_forms, word_fault};
 ghost use Rattle.script_text.specs.Reader.{IsAnswer, IsLine};
 
-use crate::asking::asking;
-use crate::making::making;
-use crate::running::running;
+use crate::events::event_command;
+use crate::scopes::scope_command;
+use crate::transactions::transaction_command;
 use dtx_values::{BadCause, Body, Line};
 use script_words::Words;
 
@@ -16,13 +16,13 @@ fn command(words: &mut Words<'_>) -> Result<Body, BadCause>
     let Some(word) = words.next() else {
         return Err(BadCause::MissingWord);
     };
-    if let Some(body) = making(word, words) {
+    if let Some(body) = transaction_command(word, words) {
         return body;
     }
-    if let Some(body) = asking(word, words) {
+    if let Some(body) = scope_command(word, words) {
         return body;
     }
-    if let Some(body) = running(word, words) {
+    if let Some(body) = event_command(word, words) {
         return body;
     }
     Err(BadCause::UnknownWord)

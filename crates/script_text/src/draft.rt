@@ -1,7 +1,7 @@
 //! The lines that are read so far.
 ghost use Rattle.std.specs.Prelude.{◌≡◌, ◌++◌, [], ◌∷◌, IfOk, OnOk, None, not, length, replicate};
 ghost use Rattle.dtx_model.specs.Words.{each, has, past_of};
-ghost use Rattle.dtx_model.specs.Grammar.{is_made, makes, uses, opening_makes, connection_uses, is_lasting, is_lasting_of};
+ghost use Rattle.dtx_model.specs.Grammar.{is_made, makes, uses, opening_makes, connection_uses, is_made_lasting, is_made_lasting_of};
 ghost use Rattle.dtx_model.specs.Grammar.{is_connection_of, is_of_kind, is_par, OfTransaction, OfEnlistment, OfClone, OfScope};
 ghost use Rattle.dtx_model.specs.Faults.{name_fault};
 
@@ -9,37 +9,26 @@ use dtx_values::{BadCause, Body, CloneNo, Conn, EnlNo, Line, Opening, ScopeNo, S
 use std::alloc::{AllocError, Global};
 use std::marker::Model;
 
-/// One more than the greatest number of a transaction.
-const TRANSACTION_NAMES: usize = 257;
-
-/// One more than the greatest number of an enlistment.
-const ENLISTMENT_NAMES: usize = 10_000;
-
-/// One more than the greatest number of a clone.
-const CLONE_NAMES: usize = 10_000;
-
-/// One more than the greatest number of a scope.
-const SCOPE_NAMES: usize = 10_000;
-
-/// Lines, with tables of the names that they make. Contracts see the lines.
+/// Lines, with tables of the names that they make, each indexed by the name's place among all. Contracts see the lines.
 #[derive(Drop)]
 pub struct Draft {
     lines: Vec<Line>,
+    /// Whether a line makes this transaction; likewise of the next three.
     transactions: Vec<bool>,
     enlistments: Vec<bool>,
     clones: Vec<bool>,
     scopes: Vec<bool>,
-    /// The transaction of each durable or promotable enlistment.
+    /// The transaction of the enlistment, where it is a durable or promotable one.
     owners: Vec<Option<TxNo>>,
     par: bool,
 }
 
 /// A table in which no enlistment is a durable or promotable one.
 fn no_owners(alloc: Global) -> Result<Vec<Option<TxNo>>, AllocError>
-    ensures { IfOk result (λ v. v.items ≡ replicate 10000 None) }
+    ensures { IfOk result (λ v. v.items ≡ replicate EnlNo.MAX None) }
 {
-    let mut owners = Vec::with_capacity(alloc, ENLISTMENT_NAMES)?;
-    for _slot in 0..ENLISTMENT_NAMES {
+    let mut owners = Vec::with_capacity(alloc, EnlNo::MAX as usize)?;
+    for _slot in 0..EnlNo::MAX {
         owners.push_reserved(None);
     }
     Ok(owners)
@@ -65,10 +54,10 @@ impl Draft {
     {
         Ok(Draft {
             lines: Vec::new(alloc),
-            transactions: vec![in alloc; false; TRANSACTION_NAMES]?,
-            enlistments: vec![in alloc; false; ENLISTMENT_NAMES]?,
-            clones: vec![in alloc; false; CLONE_NAMES]?,
-            scopes: vec![in alloc; false; SCOPE_NAMES]?,
+            transactions: vec![in alloc; false; TxNo::MAX as usize]?,
+            enlistments: vec![in alloc; false; EnlNo::MAX as usize]?,
+            clones: vec![in alloc; false; CloneNo::MAX as usize]?,
+            scopes: vec![in alloc; false; ScopeNo::MAX as usize]?,
             owners: no_owners(alloc)?,
             par: false,
         })
@@ -85,42 +74,42 @@ impl Draft {
     fn has_transaction(&self, t: TxNo) -> bool
         ensures { result ≡ is_made (past_of self.now) (OfTransaction t.value) }
     {
-        self.transactions[t.get() as usize]
+        self.transactions[t.index()]
     }
 
     /// Whether a line makes this enlistment.
     fn has_enlistment(&self, e: EnlNo) -> bool
         ensures { result ≡ is_made (past_of self.now) (OfEnlistment e.value) }
     {
-        self.enlistments[e.get() as usize]
+        self.enlistments[e.index()]
     }
 
     /// Whether a line makes this clone.
     fn has_clone(&self, c: CloneNo) -> bool
         ensures { result ≡ is_made (past_of self.now) (OfClone c.value) }
     {
-        self.clones[c.get() as usize]
+        self.clones[c.index()]
     }
 
     /// Whether a line makes this scope.
     fn has_scope(&self, s: ScopeNo) -> bool
         ensures { result ≡ is_made (past_of self.now) (OfScope s.value) }
     {
-        self.scopes[s.get() as usize]
+        self.scopes[s.index()]
     }
 
     /// Whether the enlistment is a durable or promotable one.
-    fn is_lasting(&self, e: EnlNo) -> bool
-        ensures { result ≡ is_lasting (past_of self.now) e.value }
+    fn is_made_lasting(&self, e: EnlNo) -> bool
+        ensures { result ≡ is_made_lasting (past_of self.now) e.value }
     {
-        self.owners[e.get() as usize].is_some()
+        self.owners[e.index()].is_some()
     }
 
     /// Whether it is a durable or promotable one of this transaction.
-    fn is_lasting_of(&self, t: TxNo, e: EnlNo) -> bool
-        ensures { result ≡ is_lasting_of (past_of self.now) t.value e.value }
+    fn is_made_lasting_of(&self, t: TxNo, e: EnlNo) -> bool
+        ensures { result ≡ is_made_lasting_of (past_of self.now) t.value e.value }
     {
-        self.owners[e.get() as usize] == Some(t)
+        self.owners[e.index()] == Some(t)
     }
 
     /// Whether a line is `par`.
@@ -195,7 +184,7 @@ impl Draft {
         ensures { result ≡ is_connection_of (past_of self.now) t.value c }
     {
         match c {
-            Conn::Enl(e) | Conn::Again(e) => self.is_lasting_of(t, e),
+            Conn::Enl(e) | Conn::Again(e) => self.is_made_lasting_of(t, e),
             _ => true,
         }
     }
@@ -205,13 +194,13 @@ impl Draft {
         ensures { result ≡ is_of_kind (past_of self.now) body.now }
     {
         match *body {
-            Body::Gone(e) | Body::Reenlist(e) => self.is_lasting(e),
+            Body::Gone(e) | Body::Reenlist(e) => self.is_made_lasting(e),
             Body::Lose(t, c, _, _) => self.is_connection_of(t, c),
             _ => true,
         }
     }
 
-    /// The first fault of a line's names behind these lines.
+    /// The first fault of a line's names after these lines.
     pub fn fault(&self, line: &Line) -> Option<BadCause>
         ensures { result ≡ name_fault (past_of self.now) line.now }
     {
@@ -237,22 +226,23 @@ impl Draft {
     {
         self.lines.push(line)?;
         match line.body {
-            Body::Begin(t, _) => self.transactions[t.get() as usize] = true,
+            Body::Begin(t, _) => self.transactions[t.index()] = true,
             Body::Open(s, o) => {
-                self.scopes[s.get() as usize] = true;
+                self.scopes[s.index()] = true;
                 match o {
                     Opening::Required(t, _, _) | Opening::RequiresNew(t, _, _) => {
-                        self.transactions[t.get() as usize] = true;
+                        self.transactions[t.index()] = true;
                     }
                     Opening::Suppress => {}
                 }
             }
-            Body::Volatile(_, e, _, _) => self.enlistments[e.get() as usize] = true,
+            Body::Volatile(_, e, _, _) => self.enlistments[e.index()] = true,
             Body::Durable(t, e, _, _) | Body::Promotable(t, e, _, _, _, _) => {
-                self.enlistments[e.get() as usize] = true;
-                self.owners[e.get() as usize] = Some(t);
+                let place = e.index();
+                self.enlistments[place] = true;
+                self.owners[place] = Some(t);
             }
-            Body::Clone(_, c, _) => self.clones[c.get() as usize] = true,
+            Body::Clone(_, c, _) => self.clones[c.index()] = true,
             Body::Par => self.par = true,
             _ => {}
         }

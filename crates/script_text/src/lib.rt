@@ -1,15 +1,15 @@
 //! Texts of scripts.
 #![tactic(auto)]
 
-mod asking;
 mod commands;
 mod draft;
+mod events;
 mod laws;
-mod making;
 mod parts;
 mod print;
 mod reader;
-mod running;
+mod scopes;
+mod transactions;
 
 pub use dtx_values::{BadCause, Line, Script};
 pub use laws::reads_exactly;

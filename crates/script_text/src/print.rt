@@ -2,7 +2,7 @@
 ghost use Rattle.std.specs.Prelude.{◌≡◌, ◌≤◌, ◌+◌, [], ◌∷◌, ◌++◌, IfOk, codes, length, true};
 ghost use Rattle.std.specs.List.{join_with_byte};
 ghost use Rattle.dtx_values.specs.declared.script.Body.TheVariants.{Begin, Open, Volatile, Durable, Promotable, Clone, Tick, Do, Lose, Recovered, Stop};
-ghost use Rattle.script_text.specs.Print.{is_short};
+ghost use Rattle.script_text.specs.Print.{is_simple};
 ghost use Rattle.dtx_model.specs.Grammar.{IsScript, Reads, asked_iso_word, command_words, line_text, option_word, owner_word, promote_word, script_text, timeout_word, scope_name, transaction_name, vote_word};
 
 use dtx_values::{
@@ -295,9 +295,9 @@ fn put_stop(tail: &mut Tail, n: u8, i: Image)
 }
 
 /// Puts a command that names a scope, a clone or an enlistment alone, or nothing.
-fn put_short(tail: &mut Tail, b: Body)
+fn put_simple(tail: &mut Tail, b: Body)
     requires { 127 + length tail.old ≤ 160 }
-    ensures text { is_short b ≡ true → tail.new ≡ join_with_byte 32 (command_words b) ++ tail.old }
+    ensures text { is_simple b ≡ true → tail.new ≡ join_with_byte 32 (command_words b) ++ tail.old }
     ensures length { length tail.new ≤ 127 + length tail.old }
 {
     match b {
@@ -351,7 +351,7 @@ fn put_command(tail: &mut Tail, b: Body)
         Body::Lose(t, c, up, down) => put_lose(tail, t, c, up, down),
         Body::Recovered(t, r) => put_recovered(tail, t, r),
         Body::Stop(n, i) => put_stop(tail, n, i),
-        _ => put_short(tail, b),
+        _ => put_simple(tail, b),
     }
 }
 

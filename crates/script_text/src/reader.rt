@@ -3,26 +3,22 @@ ghost use Rattle.std.specs.Prelude.{◌≡◌, ◌≤◌, ◌+◌, ◌++◌, ◌
 ghost use Rattle.dtx_model.specs.Words.{each};
 ghost use Rattle.dtx_model.specs.Grammar.{is_from, script_text, IsScript, Reads};
 ghost use Rattle.dtx_model.specs.Faults.{front, form_fault, line_forms, word_fault, words_of, IsBadFor};
+ghost use Rattle.dtx_values.specs.declared.limits.TheConstants.{LINE_BYTES, SCRIPT_BYTES};
 ghost use Rattle.script_text.specs.Reader.{Continues};
-ghost use Rattle.script_text.specs.Reading.{IsRefused};
+ghost use Rattle.script_text.specs.Reading.{IsBadScript};
 
 use crate::commands::line;
 use crate::draft::Draft;
-use dtx_values::{BadCause, Line, Script};
-use script_words::cut;
+use dtx_values::{BadCause, LINE_BYTES, Line, SCRIPT_BYTES, Script};
+use line_tail::cut;
 use std::alloc::Global;
-
-/// The most bytes of a script.
-const SCRIPT_LENGTH: usize = 1_048_576;
-
-/// The most bytes of a line before its LF.
-const LINE_LENGTH: usize = 200;
 
 /// Why bytes are no script.
 #[derive(Clone, Copy, PartialEq, Eq, Debug)]
 pub enum ScriptError {
     /// The first bad line, from 1, and its first cause.
     BadScript(u32, BadCause),
+    /// There is no memory for the lines.
     Memory,
 }
 
@@ -33,30 +29,30 @@ fn are_printable(text: &[u8]) -> bool
     text.iter().all(|b| 32 <= *b && *b <= 126)
 }
 
-/// The text of the line at the front, without its LF, and what follows it, behind so many bytes. Its words are
+/// The text of the line at the front, without its LF, and what follows it, after so many bytes. Its words are
 /// not looked at.
 fn front_line(taken: usize, rest: &[u8]) -> Result<(&[u8], &[u8]), BadCause>
-    requires { taken ≤ 1048576 }
+    requires { taken ≤ SCRIPT_BYTES }
     ensures text { IfOk result (λ p. front rest.now ≡ p.0.now) }
     ensures cut { IfOk result (λ p. rest.now ≡ p.0.now ++ 10 ∷ p.1.now) }
     ensures short { IfOk result (λ p. length p.0.now ≤ 200) }
-    ensures within { IfOk result (λ p. taken + length p.0.now + 1 ≤ 1048576) }
+    ensures within { IfOk result (λ p. taken + length p.0.now + 1 ≤ SCRIPT_BYTES) }
     ensures words { IfOk result (λ p. form_fault taken rest.now ≡ word_fault line_forms (words_of p.0.now)) }
     ensures bad { IfErr result (λ c. form_fault taken rest.now ≡ Some c) }
 {
     let Some((text, after)) = cut(rest, b'\n') else {
-        if taken + rest.len() > SCRIPT_LENGTH {
+        if taken + rest.len() > SCRIPT_BYTES {
             return Err(BadCause::TooLong);
         }
-        if rest.len() > LINE_LENGTH {
+        if rest.len() > LINE_BYTES {
             return Err(BadCause::LongLine);
         }
         return Err(BadCause::NoNewline);
     };
-    if taken + (text.len() + 1) > SCRIPT_LENGTH {
+    if taken + (text.len() + 1) > SCRIPT_BYTES {
         return Err(BadCause::TooLong);
     }
-    if text.len() > LINE_LENGTH {
+    if text.len() > LINE_BYTES {
         return Err(BadCause::LongLine);
     }
     if !are_printable(text) {
@@ -82,9 +78,14 @@ fn next_line<'a>(draft: &Draft, taken: usize, rest: &'a [u8]) -> Result<(Line, &
 }
 
 /// Reads the bytes of a script.
+///
+/// # Errors
+///
+/// - [`ScriptError::BadScript`] exactly where the bytes are no script: the first bad line, and its first cause.
+/// - [`ScriptError::Memory`] where memory ran out.
 pub fn read_script(alloc: Global, bytes: &[u8]) -> Result<Script, ScriptError>
     ensures read { IfOk result (λ s. Reads bytes.now s) }
-    ensures bad { IfErr result (λ e. IsRefused bytes.now e) }
+    ensures bad { IfErr result (λ e. IsBadScript bytes.now e) }
 {
     let Ok(mut draft) = Draft::new(alloc) else {
         return Err(ScriptError::Memory);

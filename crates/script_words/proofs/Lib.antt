@@ -1,4 +1,4 @@
 pub mod Numbers
-pub mod Slots
+pub mod Patterns
 pub mod Places
 pub mod Splits

@@ -6,38 +6,12 @@ use Rattle.std.specs.Char.{digit_value}
 use Rattle.std.specs.Str.Parse.{AllDigits, digits_value, digits_value_after}
 use Rattle.std.proofs.lemmas.Bool.Decides.{nat_tests}
 use Rattle.std.proofs.Math.Seq.{take-length}
-use Rattle.std.proofs.lemmas.Fmt.{decimal_nonempty, length-decimal-le, first_decimal, digits_decimal, digits_value-decimal, decimal-digits_value, decimal_digit}
+use Rattle.std.proofs.lemmas.Fmt.{digits_decimal, digits_value-decimal, decimal-digits_value, decimal_digit}
 use Rattle.dtx_model.specs.Grammar.{is_from}
 use Rattle.dtx_model.specs.Faults.{same_bytes, value_from, writes}
 use Rattle.dtx_model.proofs.Bools.{and_both, and_left, and_right}
 use Rattle.dtx_model.proofs.Digits.{digit_value-digit, own}
-
--- what the text of a number shows
-pub record IsNumber (w : List ℕ) (n : ℕ) : Type 0 where
-  pub digits : AllDigits 10 w
-  pub value : digits_value 10 w ≡ n
-  pub nonempty : 0 < length w
-  pub short : length w ≤ 10
-  pub first : get_or w 0 0 ≡ 48 → length w ≡ 1
-
--- only the text of 0 begins with `0`
-decimal_first : (n : ℕ) → n < 2 ^ 32 → get_or (decimal n) 0 0 ≡ 48 → length (decimal n) ≡ 1
-decimal_first zero h e = ap length (decimal_digit 0 (omega arith))
-decimal_first (suc n) h e = absurd (omega (arith, first_decimal (suc n) (omega arith) (omega arith)))
-
--- the text of a number shows that number
-pub decimal_number : (n : ℕ) → n < 2 ^ 32 → IsNumber (decimal n) n
-decimal_number n h = record {
-  digits = digits_decimal own n (omega arith);
-  value = digits_value-decimal own n (omega arith);
-  nonempty = decimal_nonempty n (omega arith);
-  short = length-decimal-le 10 n (omega arith) (omega arith) (omega arith);
-  first = decimal_first n h;
-}
-
--- a word that is a number's text shows that number
-pub number_from_text : (w : List ℕ) (n : ℕ) → n < 2 ^ 32 → w ≡ decimal n → IsNumber w n
-number_from_text w n h e = subst (λ (v : List ℕ). IsNumber v n) (sym e) (decimal_number n h)
+use Rattle.line_tail.proofs.SameBytes.{same_bytes-refl, same_bytes-equal}
 
 -- digits without leading zeros are the text of their value
 pub text_of_number : (w : List ℕ) (n : ℕ) → AllDigits 10 w → 0 < length w → (get_or w 0 0 ≡ 48 → length w ≡ 1) → digits_value 10 w ≡ n → n < 2 ^ 64 → w ≡ decimal n
@@ -70,25 +44,6 @@ value_from-digits m (x ∷ xs) d =
 -- the value of a number's text
 pub value_from-decimal : (n : ℕ) → n < 2 ^ 64 → value_from 0 (decimal n) ≡ n
 value_from-decimal n h = value_from-digits 0 (decimal n) (digits_decimal own n h) ∙ digits_value-decimal own n h
-
--- a word is the same as itself
-pub same_bytes-refl : (w : List ℕ) → same_bytes w w ≡ true
-same_bytes-refl [] = refl
-same_bytes-refl (x ∷ w) = and_both (x == x) (same_bytes w w) (grind (arith, nat_tests)) (same_bytes-refl w)
-
--- words that are the same are equal
-pub same_bytes-equal : (v w : List ℕ) → same_bytes v w ≡ true → v ≡ w
-same_bytes-equal [] [] h = refl
-same_bytes-equal [] (y ∷ w) h = absurd cc
-same_bytes-equal (x ∷ v) [] h = absurd cc
-same_bytes-equal (x ∷ v) (y ∷ w) h =
-    let rest = same_bytes-equal v w (and_right (x == y) _ h) in
-    let head : x ≡ y = grind (arith, nat_tests, and_left (x == y) (same_bytes v w) h) in
-    cc
-
--- a word that is another isn't the same
-pub same_bytes-other : (v w : List ℕ) → v ≢ w → same_bytes v w ≡ false
-same_bytes-other v w h = false_from_ne_true (same_bytes v w) (λ e. h (same_bytes-equal v w e))
 
 -- a number's text in a range writes a number of that range
 pub writes-decimal : (low high n : ℕ) → n < 2 ^ 64 → is_from low high n ≡ true → writes low high (decimal n) ≡ true

@@ -5,7 +5,8 @@ use Rattle.dtx_model.specs.Faults.{push, split}
 use Rattle.dtx_model.proofs.Bools.{or_first, or_second}
 use Rattle.dtx_model.specs.Words.{has}
 use Rattle.dtx_model.specs.Outcome.{is_empty}
-use Rattle.script_words.specs.Places.{IsWithout, words_left, end_fault}
+use Rattle.line_tail.specs.Cut.{IsWithout}
+use Rattle.script_words.specs.Places.{words_left, end_fault}
 
 -- bytes with a space are split there
 pub split_at : (w r : List ℕ) → IsWithout 32 w → split (w ++ 32 ∷ r) ≡ w ∷ split r

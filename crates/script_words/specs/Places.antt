@@ -3,11 +3,7 @@ use Rattle.std.specs.Prelude.{ℕ, ◌≡◌, ◌≢◌, ◌==◌, ◌||◌, ◌
 use Rattle.dtx_values.specs.declared.script.BadCause.{BadCause}
 use Rattle.dtx_values.specs.declared.script.BadCause.TheVariants.{MissingWord, UnknownWord, BadNumber, ExtraWord}
 use Rattle.dtx_model.specs.Words.{has}
-use Rattle.dtx_model.specs.Faults.{Slot, allows, is_digit, is_letter, split}
-
--- no byte is c
-abbrev pub IsWithout : ℕ → List ℕ → Type 0
-IsWithout c bs = has (λ b. b == c) bs ≡ false
+use Rattle.dtx_model.specs.Faults.{Pattern, allows, is_digit, is_letter, split}
 
 -- the words that are left: none, or those of these bytes
 abbrev pub words_left : Bool → List ℕ → List (List ℕ)
@@ -39,7 +35,7 @@ is_numbered (Some r) = true
 is_numbered None = false
 
 -- the fault of the first word at a place: none where it is allowed there
-unfoldable pub place_fault : Slot → List (List ℕ) → Option BadCause
+unfoldable pub place_fault : Pattern → List (List ℕ) → Option BadCause
 place_fault s [] = Some MissingWord
 place_fault s (w ∷ ws) = if allows s w then None else Some (cause_of s.letters (is_numbered s.number) w)
 
@@ -49,7 +45,7 @@ end_fault [] = None
 end_fault (w ∷ ws) = Some ExtraWord
 
 -- these words begin with this one, which may stand at that place
-abbrev pub IsAt : Slot → List (List ℕ) → List ℕ → List (List ℕ) → Type 0
+abbrev pub IsAt : Pattern → List (List ℕ) → List ℕ → List (List ℕ) → Type 0
 IsAt s old w new = (old ≡ w ∷ new) × (place_fault s old ≡ None) × (tail old ≡ new)
 
 -- the word is none of these

@@ -2,16 +2,17 @@
 ghost use Rattle.std.specs.Prelude.{◌≡◌, ◌∷◌, [], ℕ, List, IfOk, IfErr, IfSome, IfNone, true, decimal};
 ghost use Rattle.dtx_model.specs.Grammar.{actor_name, transaction_name, enlistment_name, clone_name, scope_name, manager_name, connection_word, timeout_word, option_word};
 ghost use Rattle.dtx_model.specs.Grammar.{vote_word, owner_word, promote_word, kind_word, image_word, asked_iso_word, is_from, is_timeout};
-ghost use Rattle.dtx_model.specs.Faults.{words_of, number as number_slot, actor_slot, transaction_slot, enlistment_slot, clone_slot, scope_slot, manager_slot, connection_slot};
-ghost use Rattle.dtx_model.specs.Faults.{timeout_slot, option_slot, vote_slot, owner_slot, promote_slot, kind_slot, image_slot, iso_slot};
+ghost use Rattle.dtx_model.specs.Faults.{words_of, number as number_pattern, actor_pattern, transaction_pattern, enlistment_pattern, clone_pattern, scope_pattern, manager_pattern, connection_pattern};
+ghost use Rattle.dtx_model.specs.Faults.{timeout_pattern, option_pattern, vote_pattern, owner_pattern, promote_pattern, kind_pattern, image_pattern, iso_pattern};
 ghost use Rattle.script_words.specs.Places.{IsAt, place_fault, end_fault};
 
 use crate::words;
-use crate::words::{cause, cut};
+use crate::words::cause;
 use dtx_values::{
     ActorNo, BadCause, CloneKind, CloneNo, Conn, EnlNo, EnlistOption, Image, IsoWord, Outcome,
     RmNo, ScopeNo, Timeout, TxNo, Vote,
 };
+use line_tail::cut;
 use std::marker::Model;
 
 /// The words of a line that are left. Contracts see their list.
@@ -77,8 +78,8 @@ impl<'a> Words<'a> {
 
     /// Takes an actor's name.
     pub fn actor(&mut self) -> Result<ActorNo, BadCause>
-        ensures ok { IfOk result (λ a. IsAt actor_slot self.old (actor_name a.value) self.new) }
-        ensures err { IfErr result (λ c. place_fault actor_slot self.old ≡ Some c) }
+        ensures ok { IfOk result (λ a. IsAt actor_pattern self.old (actor_name a.value) self.new) }
+        ensures err { IfErr result (λ c. place_fault actor_pattern self.old ≡ Some c) }
     {
         let Some(word) = self.next() else {
             return Err(BadCause::MissingWord);
@@ -91,8 +92,8 @@ impl<'a> Words<'a> {
 
     /// Takes a transaction's name.
     pub fn transaction(&mut self) -> Result<TxNo, BadCause>
-        ensures ok { IfOk result (λ t. IsAt transaction_slot self.old (transaction_name t.value) self.new) }
-        ensures err { IfErr result (λ c. place_fault transaction_slot self.old ≡ Some c) }
+        ensures ok { IfOk result (λ t. IsAt transaction_pattern self.old (transaction_name t.value) self.new) }
+        ensures err { IfErr result (λ c. place_fault transaction_pattern self.old ≡ Some c) }
     {
         let Some(word) = self.next() else {
             return Err(BadCause::MissingWord);
@@ -105,8 +106,8 @@ impl<'a> Words<'a> {
 
     /// Takes an enlistment's name.
     pub fn enlistment(&mut self) -> Result<EnlNo, BadCause>
-        ensures ok { IfOk result (λ e. IsAt enlistment_slot self.old (enlistment_name e.value) self.new) }
-        ensures err { IfErr result (λ c. place_fault enlistment_slot self.old ≡ Some c) }
+        ensures ok { IfOk result (λ e. IsAt enlistment_pattern self.old (enlistment_name e.value) self.new) }
+        ensures err { IfErr result (λ c. place_fault enlistment_pattern self.old ≡ Some c) }
     {
         let Some(word) = self.next() else {
             return Err(BadCause::MissingWord);
@@ -119,8 +120,8 @@ impl<'a> Words<'a> {
 
     /// Takes a clone's name.
     pub fn clone(&mut self) -> Result<CloneNo, BadCause>
-        ensures ok { IfOk result (λ c. IsAt clone_slot self.old (clone_name c.value) self.new) }
-        ensures err { IfErr result (λ c. place_fault clone_slot self.old ≡ Some c) }
+        ensures ok { IfOk result (λ c. IsAt clone_pattern self.old (clone_name c.value) self.new) }
+        ensures err { IfErr result (λ c. place_fault clone_pattern self.old ≡ Some c) }
     {
         let Some(word) = self.next() else {
             return Err(BadCause::MissingWord);
@@ -133,8 +134,8 @@ impl<'a> Words<'a> {
 
     /// Takes a scope's name.
     pub fn scope(&mut self) -> Result<ScopeNo, BadCause>
-        ensures ok { IfOk result (λ s. IsAt scope_slot self.old (scope_name s.value) self.new) }
-        ensures err { IfErr result (λ c. place_fault scope_slot self.old ≡ Some c) }
+        ensures ok { IfOk result (λ s. IsAt scope_pattern self.old (scope_name s.value) self.new) }
+        ensures err { IfErr result (λ c. place_fault scope_pattern self.old ≡ Some c) }
     {
         let Some(word) = self.next() else {
             return Err(BadCause::MissingWord);
@@ -147,8 +148,8 @@ impl<'a> Words<'a> {
 
     /// Takes a manager's name.
     pub fn manager(&mut self) -> Result<RmNo, BadCause>
-        ensures ok { IfOk result (λ r. IsAt manager_slot self.old (manager_name r.value) self.new) }
-        ensures err { IfErr result (λ c. place_fault manager_slot self.old ≡ Some c) }
+        ensures ok { IfOk result (λ r. IsAt manager_pattern self.old (manager_name r.value) self.new) }
+        ensures err { IfErr result (λ c. place_fault manager_pattern self.old ≡ Some c) }
     {
         let Some(word) = self.next() else {
             return Err(BadCause::MissingWord);
@@ -161,8 +162,8 @@ impl<'a> Words<'a> {
 
     /// Takes a connection.
     pub fn connection(&mut self) -> Result<Conn, BadCause>
-        ensures ok { IfOk result (λ c. IsAt connection_slot self.old (connection_word c) self.new) }
-        ensures err { IfErr result (λ c. place_fault connection_slot self.old ≡ Some c) }
+        ensures ok { IfOk result (λ c. IsAt connection_pattern self.old (connection_word c) self.new) }
+        ensures err { IfErr result (λ c. place_fault connection_pattern self.old ≡ Some c) }
     {
         let Some(word) = self.next() else {
             return Err(BadCause::MissingWord);
@@ -175,8 +176,8 @@ impl<'a> Words<'a> {
 
     /// Takes a timeout.
     pub fn timeout(&mut self) -> Result<Timeout, BadCause>
-        ensures ok { IfOk result (λ d. IsAt timeout_slot self.old (timeout_word d) self.new × (is_timeout d ≡ true)) }
-        ensures err { IfErr result (λ c. place_fault timeout_slot self.old ≡ Some c) }
+        ensures ok { IfOk result (λ d. IsAt timeout_pattern self.old (timeout_word d) self.new × (is_timeout d ≡ true)) }
+        ensures err { IfErr result (λ c. place_fault timeout_pattern self.old ≡ Some c) }
     {
         let Some(word) = self.next() else {
             return Err(BadCause::MissingWord);
@@ -189,8 +190,8 @@ impl<'a> Words<'a> {
 
     /// Takes the option of a volatile enlistment.
     pub fn option(&mut self) -> Result<EnlistOption, BadCause>
-        ensures ok { IfOk result (λ o. IsAt option_slot self.old (option_word o) self.new) }
-        ensures err { IfErr result (λ c. place_fault option_slot self.old ≡ Some c) }
+        ensures ok { IfOk result (λ o. IsAt option_pattern self.old (option_word o) self.new) }
+        ensures err { IfErr result (λ c. place_fault option_pattern self.old ≡ Some c) }
     {
         let Some(word) = self.next() else {
             return Err(BadCause::MissingWord);
@@ -203,8 +204,8 @@ impl<'a> Words<'a> {
 
     /// Takes the plan of a vote.
     pub fn vote(&mut self) -> Result<Option<Vote>, BadCause>
-        ensures ok { IfOk result (λ v. IsAt vote_slot self.old (vote_word v) self.new) }
-        ensures err { IfErr result (λ c. place_fault vote_slot self.old ≡ Some c) }
+        ensures ok { IfOk result (λ v. IsAt vote_pattern self.old (vote_word v) self.new) }
+        ensures err { IfErr result (λ c. place_fault vote_pattern self.old ≡ Some c) }
     {
         let Some(word) = self.next() else {
             return Err(BadCause::MissingWord);
@@ -217,8 +218,8 @@ impl<'a> Words<'a> {
 
     /// Takes the plan of an owner's answer.
     pub fn owner(&mut self) -> Result<Option<Outcome>, BadCause>
-        ensures ok { IfOk result (λ o. IsAt owner_slot self.old (owner_word o) self.new) }
-        ensures err { IfErr result (λ c. place_fault owner_slot self.old ≡ Some c) }
+        ensures ok { IfOk result (λ o. IsAt owner_pattern self.old (owner_word o) self.new) }
+        ensures err { IfErr result (λ c. place_fault owner_pattern self.old ≡ Some c) }
     {
         let Some(word) = self.next() else {
             return Err(BadCause::MissingWord);
@@ -231,8 +232,8 @@ impl<'a> Words<'a> {
 
     /// Takes the plan of a promotion.
     pub fn promotion(&mut self) -> Result<Option<bool>, BadCause>
-        ensures ok { IfOk result (λ p. IsAt promote_slot self.old (promote_word p) self.new) }
-        ensures err { IfErr result (λ c. place_fault promote_slot self.old ≡ Some c) }
+        ensures ok { IfOk result (λ p. IsAt promote_pattern self.old (promote_word p) self.new) }
+        ensures err { IfErr result (λ c. place_fault promote_pattern self.old ≡ Some c) }
     {
         let Some(word) = self.next() else {
             return Err(BadCause::MissingWord);
@@ -245,8 +246,8 @@ impl<'a> Words<'a> {
 
     /// Takes what a clone does to a commit.
     pub fn kind(&mut self) -> Result<CloneKind, BadCause>
-        ensures ok { IfOk result (λ k. IsAt kind_slot self.old (kind_word k) self.new) }
-        ensures err { IfErr result (λ c. place_fault kind_slot self.old ≡ Some c) }
+        ensures ok { IfOk result (λ k. IsAt kind_pattern self.old (kind_word k) self.new) }
+        ensures err { IfErr result (λ c. place_fault kind_pattern self.old ≡ Some c) }
     {
         let Some(word) = self.next() else {
             return Err(BadCause::MissingWord);
@@ -259,8 +260,8 @@ impl<'a> Words<'a> {
 
     /// Takes what a stop leaves of the writes.
     pub fn image(&mut self) -> Result<Image, BadCause>
-        ensures ok { IfOk result (λ i. IsAt image_slot self.old (image_word i) self.new) }
-        ensures err { IfErr result (λ c. place_fault image_slot self.old ≡ Some c) }
+        ensures ok { IfOk result (λ i. IsAt image_pattern self.old (image_word i) self.new) }
+        ensures err { IfErr result (λ c. place_fault image_pattern self.old ≡ Some c) }
     {
         let Some(word) = self.next() else {
             return Err(BadCause::MissingWord);
@@ -273,8 +274,8 @@ impl<'a> Words<'a> {
 
     /// Takes an isolation.
     pub fn isolation(&mut self) -> Result<IsoWord, BadCause>
-        ensures ok { IfOk result (λ i. IsAt iso_slot self.old (asked_iso_word i) self.new) }
-        ensures err { IfErr result (λ c. place_fault iso_slot self.old ≡ Some c) }
+        ensures ok { IfOk result (λ i. IsAt iso_pattern self.old (asked_iso_word i) self.new) }
+        ensures err { IfErr result (λ c. place_fault iso_pattern self.old ≡ Some c) }
     {
         let Some(word) = self.next() else {
             return Err(BadCause::MissingWord);
@@ -287,8 +288,8 @@ impl<'a> Words<'a> {
 
     /// Takes a number from `low` to `high`.
     pub fn number(&mut self, low: u32, high: u32) -> Result<u32, BadCause>
-        ensures ok { IfOk result (λ n. IsAt (number_slot low high) self.old (decimal n) self.new × (is_from low high n ≡ true)) }
-        ensures err { IfErr result (λ c. place_fault (number_slot low high) self.old ≡ Some c) }
+        ensures ok { IfOk result (λ n. IsAt (number_pattern low high) self.old (decimal n) self.new × (is_from low high n ≡ true)) }
+        ensures err { IfErr result (λ c. place_fault (number_pattern low high) self.old ≡ Some c) }
     {
         let Some(word) = self.next() else {
             return Err(BadCause::MissingWord);

@@ -5,4 +5,3 @@ mod cursor;
 mod words;
 
 pub use cursor::Words;
-pub use words::cut;

@@ -1,29 +1,16 @@
 //! The words of a line.
-ghost use Rattle.std.specs.Prelude.{◌≡◌, ◌≢◌, ◌==◌, ◌<◌, ◌^◌, ◌∷◌, ◌++◌, [], ℕ, true, false, Option, IfSome, IfNone, decimal};
+ghost use Rattle.std.specs.Prelude.{◌≡◌, ◌≢◌, ◌==◌, ◌<◌, ◌^◌, ◌∷◌, [], ℕ, true, false, Option, IfSome, IfNone, decimal};
 ghost use Rattle.dtx_model.specs.Words.{has};
 ghost use Rattle.dtx_model.specs.Grammar.{actor_name, transaction_name, enlistment_name, clone_name, scope_name, manager_name, connection_word, timeout_word, option_word};
 ghost use Rattle.dtx_model.specs.Grammar.{vote_word, owner_word, promote_word, kind_word, image_word, asked_iso_word, is_from, is_timeout};
-ghost use Rattle.dtx_model.specs.Faults.{allows, named, number as number_slot, is_digit, is_letter, actor_slot, transaction_slot, enlistment_slot, clone_slot, scope_slot};
-ghost use Rattle.dtx_model.specs.Faults.{manager_slot, connection_slot, timeout_slot, option_slot, vote_slot, owner_slot, promote_slot, kind_slot, image_slot, iso_slot};
-ghost use Rattle.script_words.specs.Places.{IsWithout, is_misnamed, is_misnumbered, cause_of};
+ghost use Rattle.dtx_model.specs.Faults.{allows, named, number as number_pattern, is_digit, is_letter, actor_pattern, transaction_pattern, enlistment_pattern, clone_pattern, scope_pattern};
+ghost use Rattle.dtx_model.specs.Faults.{manager_pattern, connection_pattern, timeout_pattern, option_pattern, vote_pattern, owner_pattern, promote_pattern, kind_pattern, image_pattern, iso_pattern};
+ghost use Rattle.script_words.specs.Places.{is_misnamed, is_misnumbered, cause_of};
 
 use dtx_values::{
     ActorNo, BadCause, CloneKind, CloneNo, Conn, EnlNo, EnlistOption, Image, Iso, IsoWord, Outcome,
     RmNo, ScopeNo, Timeout, TxNo, Vote,
 };
-
-/// What stands before the first separator, and what stands behind it.
-pub fn cut(bytes: &[u8], separator: u8) -> Option<(&[u8], &[u8])>
-    ensures some { IfSome result (λ parts. (bytes.now ≡ parts.0.now ++ separator ∷ parts.1.now) × IsWithout separator parts.0.now) }
-    ensures none { IfNone result (IsWithout separator bytes.now) }
-{
-    for (i, b) in bytes.iter().enumerate() {
-        if *b == separator {
-            return Some((&bytes[..i], &bytes[i + 1..]));
-        }
-    }
-    None
-}
 
 /// Whether the byte is a digit.
 fn is_digit(b: u8) -> bool
@@ -120,7 +107,7 @@ fn number(word: &[u8]) -> Option<u32>
 /// Reads a number from `low` to `high`.
 pub fn number_from(word: &[u8], low: u32, high: u32) -> Option<u32>
     ensures some { IfSome result (λ n. (word.now ≡ decimal n) × (is_from low high n ≡ true)) }
-    ensures none { IfNone result (allows (number_slot low high) word.now ≡ false) }
+    ensures none { IfNone result (allows (number_pattern low high) word.now ≡ false) }
 {
     let n = number(word)?;
     if low <= n && n <= high { Some(n) } else { None }
@@ -140,55 +127,55 @@ fn name(word: &[u8], letter: u8, most: u32) -> Option<u32>
 /// Reads an actor's name.
 pub fn actor(word: &[u8]) -> Option<ActorNo>
     ensures some { IfSome result (λ a. word.now ≡ actor_name a.value) }
-    ensures none { IfNone result (allows actor_slot word.now ≡ false) }
+    ensures none { IfNone result (allows actor_pattern word.now ≡ false) }
 {
-    ActorNo::new(name(word, b'a', 16)?)
+    ActorNo::new(name(word, b'a', ActorNo::MAX)?)
 }
 
 /// Reads a transaction's name.
 pub fn transaction(word: &[u8]) -> Option<TxNo>
     ensures some { IfSome result (λ t. word.now ≡ transaction_name t.value) }
-    ensures none { IfNone result (allows transaction_slot word.now ≡ false) }
+    ensures none { IfNone result (allows transaction_pattern word.now ≡ false) }
 {
-    TxNo::new(name(word, b't', 256)?)
+    TxNo::new(name(word, b't', TxNo::MAX)?)
 }
 
 /// Reads an enlistment's name.
 pub fn enlistment(word: &[u8]) -> Option<EnlNo>
     ensures some { IfSome result (λ e. word.now ≡ enlistment_name e.value) }
-    ensures none { IfNone result (allows enlistment_slot word.now ≡ false) }
+    ensures none { IfNone result (allows enlistment_pattern word.now ≡ false) }
 {
-    EnlNo::new(name(word, b'e', 9999)?)
+    EnlNo::new(name(word, b'e', EnlNo::MAX)?)
 }
 
 /// Reads a clone's name.
 pub fn clone(word: &[u8]) -> Option<CloneNo>
     ensures some { IfSome result (λ c. word.now ≡ clone_name c.value) }
-    ensures none { IfNone result (allows clone_slot word.now ≡ false) }
+    ensures none { IfNone result (allows clone_pattern word.now ≡ false) }
 {
-    CloneNo::new(name(word, b'c', 9999)?)
+    CloneNo::new(name(word, b'c', CloneNo::MAX)?)
 }
 
 /// Reads a scope's name.
 pub fn scope(word: &[u8]) -> Option<ScopeNo>
     ensures some { IfSome result (λ s. word.now ≡ scope_name s.value) }
-    ensures none { IfNone result (allows scope_slot word.now ≡ false) }
+    ensures none { IfNone result (allows scope_pattern word.now ≡ false) }
 {
-    ScopeNo::new(name(word, b's', 9999)?)
+    ScopeNo::new(name(word, b's', ScopeNo::MAX)?)
 }
 
 /// Reads a manager's name.
 pub fn manager(word: &[u8]) -> Option<RmNo>
     ensures some { IfSome result (λ r. word.now ≡ manager_name r.value) }
-    ensures none { IfNone result (allows manager_slot word.now ≡ false) }
+    ensures none { IfNone result (allows manager_pattern word.now ≡ false) }
 {
-    RmNo::new(name(word, b'r', 16)?)
+    RmNo::new(name(word, b'r', RmNo::MAX)?)
 }
 
 /// Reads a connection: `b`, `v`, that of an enlistment, or that of its reenlistment.
 pub fn connection(word: &[u8]) -> Option<Conn>
     ensures some { IfSome result (λ c. word.now ≡ connection_word c) }
-    ensures none { IfNone result (allows connection_slot word.now ≡ false) }
+    ensures none { IfNone result (allows connection_pattern word.now ≡ false) }
 {
     if word == b"b".as_slice() {
         return Some(Conn::Begin);
@@ -196,16 +183,16 @@ pub fn connection(word: &[u8]) -> Option<Conn>
     if word == b"v".as_slice() {
         return Some(Conn::Voter);
     }
-    if let Some(n) = name(word, b'e', 9999) {
+    if let Some(n) = name(word, b'e', EnlNo::MAX) {
         return Some(Conn::Enl(EnlNo::new(n)?));
     }
-    Some(Conn::Again(EnlNo::new(name(word, b'x', 9999)?)?))
+    Some(Conn::Again(EnlNo::new(name(word, b'x', EnlNo::MAX)?)?))
 }
 
 /// Reads a timeout: the word `default`, or milliseconds.
 pub fn timeout(word: &[u8]) -> Option<Timeout>
     ensures some { IfSome result (λ d. (word.now ≡ timeout_word d) × (is_timeout d ≡ true)) }
-    ensures none { IfNone result (allows timeout_slot word.now ≡ false) }
+    ensures none { IfNone result (allows timeout_pattern word.now ≡ false) }
 {
     if word == b"default".as_slice() {
         return Some(Timeout::Default);
@@ -216,7 +203,7 @@ pub fn timeout(word: &[u8]) -> Option<Timeout>
 /// Reads the option of a volatile enlistment: `none` or `during`.
 pub fn option(word: &[u8]) -> Option<EnlistOption>
     ensures some { IfSome result (λ o. word.now ≡ option_word o) }
-    ensures none { IfNone result (allows option_slot word.now ≡ false) }
+    ensures none { IfNone result (allows option_pattern word.now ≡ false) }
 {
     if word == b"none".as_slice() {
         return Some(EnlistOption::Plain);
@@ -230,7 +217,7 @@ pub fn option(word: &[u8]) -> Option<EnlistOption>
 /// Reads the plan of a vote: `yes`, `no`, `done`, or `silent`, which is no vote.
 pub fn vote(word: &[u8]) -> Option<Option<Vote>>
     ensures some { IfSome result (λ v. word.now ≡ vote_word v) }
-    ensures none { IfNone result (allows vote_slot word.now ≡ false) }
+    ensures none { IfNone result (allows vote_pattern word.now ≡ false) }
 {
     if word == b"yes".as_slice() {
         return Some(Some(Vote::Yes));
@@ -250,7 +237,7 @@ pub fn vote(word: &[u8]) -> Option<Option<Vote>>
 /// Reads the plan of an owner's answer: an outcome, or `silent`.
 pub fn owner(word: &[u8]) -> Option<Option<Outcome>>
     ensures some { IfSome result (λ o. word.now ≡ owner_word o) }
-    ensures none { IfNone result (allows owner_slot word.now ≡ false) }
+    ensures none { IfNone result (allows owner_pattern word.now ≡ false) }
 {
     if word == b"committed".as_slice() {
         return Some(Some(Outcome::Committed));
@@ -270,7 +257,7 @@ pub fn owner(word: &[u8]) -> Option<Option<Outcome>>
 /// Reads the plan of a promotion: `ok`, `fail`, or `silent`.
 pub fn promotion(word: &[u8]) -> Option<Option<bool>>
     ensures some { IfSome result (λ p. word.now ≡ promote_word p) }
-    ensures none { IfNone result (allows promote_slot word.now ≡ false) }
+    ensures none { IfNone result (allows promote_pattern word.now ≡ false) }
 {
     if word == b"ok".as_slice() {
         return Some(Some(true));
@@ -287,7 +274,7 @@ pub fn promotion(word: &[u8]) -> Option<Option<bool>>
 /// Reads what a clone does to a commit: `block` or `rollback`.
 pub fn kind(word: &[u8]) -> Option<CloneKind>
     ensures some { IfSome result (λ k. word.now ≡ kind_word k) }
-    ensures none { IfNone result (allows kind_slot word.now ≡ false) }
+    ensures none { IfNone result (allows kind_pattern word.now ≡ false) }
 {
     if word == b"block".as_slice() {
         return Some(CloneKind::Block);
@@ -301,7 +288,7 @@ pub fn kind(word: &[u8]) -> Option<CloneKind>
 /// Reads what a stop leaves of the writes: `lose`, `keep` or `torn`.
 pub fn image(word: &[u8]) -> Option<Image>
     ensures some { IfSome result (λ i. word.now ≡ image_word i) }
-    ensures none { IfNone result (allows image_slot word.now ≡ false) }
+    ensures none { IfNone result (allows image_pattern word.now ≡ false) }
 {
     if word == b"lose".as_slice() {
         return Some(Image::Lose);
@@ -318,7 +305,7 @@ pub fn image(word: &[u8]) -> Option<Image>
 /// Reads an isolation: `default`, or a level.
 pub fn isolation(word: &[u8]) -> Option<IsoWord>
     ensures some { IfSome result (λ i. word.now ≡ asked_iso_word i) }
-    ensures none { IfNone result (allows iso_slot word.now ≡ false) }
+    ensures none { IfNone result (allows iso_pattern word.now ≡ false) }
 {
     if word == b"default".as_slice() {
         return Some(IsoWord::Default);

@@ -11,7 +11,7 @@ use Rattle.dtx_model.specs.Messages.{is_enlist_up, is_reenlist_up}
 use Rattle.dtx_model.specs.TraceText.{id_at, is_message_fit, message_text}
 use Rattle.dtx_model.proofs.Bools.{and_left, and_right}
 use Rattle.trace_words.specs.Cuts.{front}
-use Rattle.trace_words.proofs.Cuts.{same_bytes}
+use Rattle.dtx_model.specs.Faults.{same_bytes}
 use Rattle.dtx_model.proofs.SameNumbers.{same_enlistment, same_manager}
 
 -- numbers that pass as equal are

@@ -35,8 +35,10 @@ use Rattle.dtx_model.specs.TraceText.{ambient_text, answer_text, cause_text, dir
 use Rattle.dtx_model.proofs.Bools.{and_left, and_right, or_right}
 use Rattle.trace_text.specs.Printed.{is_event}
 use Rattle.trace_text.specs.ReadGroups.{is_of_enlistment, is_about_enlistment, is_of_word, is_of_words, is_call, is_plain_answer, is_refusal, is_detailed}
-use Rattle.trace_words.specs.Cuts.{front, behind, IsWithout}
-use Rattle.trace_words.proofs.Cuts.{front_cut, behind_cut, front_whole, behind_whole, same_bytes}
+use Rattle.line_tail.specs.Cut.{IsWithout}
+use Rattle.trace_words.specs.Cuts.{front, behind}
+use Rattle.dtx_model.specs.Faults.{same_bytes}
+use Rattle.trace_words.proofs.Cuts.{front_cut, behind_cut, front_whole, behind_whole}
 use Rattle.trace_words.proofs.Identifiers.{id_without}
 use Rattle.dtx_model.proofs.Digits.{digit_of_number}
 use Rattle.trace_words.proofs.Numbers.{name_without, without_decimal}

@@ -25,6 +25,10 @@ pub fn put_line(tail: &mut Tail, number: usize, x: (Place, Entry))
 }
 
 /// The text of a trace in the plain form.
+///
+/// # Errors
+///
+/// [`AllocError`] where memory ran out.
 pub fn print_trace(alloc: Global, t: &Trace) -> Result<Vec<u8>, AllocError>
     ensures { IfOk result (λ v. v.items ≡ trace_text t.now) }
 {

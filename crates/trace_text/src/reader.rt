@@ -52,6 +52,11 @@ fn first_line(number: usize, bytes: &[u8]) -> Option<((Place, Entry), &[u8])>
 }
 
 /// Reads the text of a trace.
+///
+/// # Errors
+///
+/// - [`TraceError::BadLine`] exactly where the bytes are no trace's: the first line that no trace has there.
+/// - [`TraceError::Memory`] where memory ran out.
 pub fn read_trace(alloc: Global, bytes: &[u8]) -> Result<Trace, TraceError>
     ensures text { IfOk result (λ T. IsTextOf bytes.now T) }
     ensures bad { IfErr result (λ e. IsBadTrace bytes.now e) }

@@ -1,10 +1,11 @@
 -- Texts cut at a separator.
-use Rattle.std.proofs.Common.{◌≡◌, ℕ, ◌==◌, ◌&&◌, Bool, true, false, List, [], ◌∷◌, ◌++◌, refl, ap, arith}
+use Rattle.std.proofs.Common.{◌≡◌, ℕ, ◌==◌, true, false, List, [], ◌∷◌, ◌++◌, refl, ap, arith}
 use Rattle.std.proofs.lemmas.Bool.{eq-eqb}
 use Rattle.std.proofs.lemmas.Bool.Decides.{nat_tests}
 use Rattle.dtx_model.specs.Words.{has}
 use Rattle.dtx_model.proofs.Bools.{or_first, or_second}
-use Rattle.trace_words.specs.Cuts.{front, behind, IsWithout}
+use Rattle.line_tail.specs.Cut.{IsWithout}
+use Rattle.trace_words.specs.Cuts.{front, behind}
 
 -- a byte of a text without c isn't c
 head_differs : (c x : ℕ) (xs : List ℕ) → IsWithout c (x ∷ xs) → c ≡ x → ⊥
@@ -62,18 +63,3 @@ front_whole c (x ∷ a) h = rw (other_byte c x a h) (ap (λ (t : List ℕ). x �
 pub behind_whole : (c : ℕ) (a : List ℕ) → IsWithout c a → behind c a ≡ []
 behind_whole c [] h = refl
 behind_whole c (x ∷ a) h = rw (other_byte c x a h) (behind_whole c a (or_second (x == c) _ h))
-
--- whether two texts are one
-abbrev pub same_bytes : List ℕ → List ℕ → Bool
-same_bytes [] [] = true
-same_bytes (x ∷ xs) (y ∷ ys) = (x == y) && same_bytes xs ys
-same_bytes _ _ = false
-
--- a text is the same as itself
-same_bytes-self : (xs : List ℕ) → same_bytes xs xs ≡ true
-same_bytes-self [] = refl
-same_bytes-self (x ∷ xs) = rw (eq-eqb x x refl) (same_bytes-self xs)
-
--- texts that are one pass the test
-pub same_text : (xs ys : List ℕ) → xs ≡ ys → same_bytes xs ys ≡ true
-same_text xs ys e = rw (← e) (same_bytes-self xs)

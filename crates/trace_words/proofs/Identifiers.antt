@@ -6,7 +6,7 @@ use Rattle.std.proofs.lemmas.List.Elements.{All-nil, All-cons}
 use Rattle.uuid.specs.Text.{by_index, parsed, lower}
 use Rattle.uuid.proofs.RoundTrips.{parses_hyphenated}
 use Rattle.dtx_model.specs.TraceText.{id_text}
-use Rattle.trace_words.specs.Cuts.{IsWithout}
+use Rattle.line_tail.specs.Cut.{IsWithout}
 use Rattle.trace_words.proofs.Cuts.{without_append}
 
 -- a byte of a number is a byte

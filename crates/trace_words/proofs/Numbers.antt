@@ -6,25 +6,7 @@ use Rattle.std.proofs.lemmas.Bool.Decides.{nat_tests}
 use Rattle.std.proofs.lemmas.Fmt.{length-decimal-le, digits_decimal, digits_value-decimal}
 use Rattle.dtx_model.proofs.Bools.{or_false}
 use Rattle.dtx_model.proofs.Digits.{own}
-use Rattle.trace_words.specs.Cuts.{IsWithout}
-
--- what the text of a number shows
-pub record IsNumber (w : List ℕ) (n : ℕ) : Type 0 where
-  pub digits : AllDigits 10 w
-  pub value : digits_value 10 w ≡ n
-  pub short : length w ≤ 20
-
--- the text of a number shows that number
-pub decimal_number : (n : ℕ) → n < 2 ^ 64 → IsNumber (decimal n) n
-decimal_number n h = record {
-  digits = digits_decimal own n (omega arith);
-  value = digits_value-decimal own n (omega arith);
-  short = length-decimal-le 20 n (omega arith) (omega arith) (omega arith);
-}
-
--- a word that is a number's text shows that number
-pub number_from_text : (w : List ℕ) (n : ℕ) → n < 2 ^ 64 → w ≡ decimal n → IsNumber w n
-number_from_text w n h e = subst (λ (v : List ℕ). IsNumber v n) (sym e) (decimal_number n h)
+use Rattle.line_tail.specs.Cut.{IsWithout}
 
 -- a digit is no byte below `0`
 glyph_without : (c d : ℕ) → c < 48 → (digit_glyph false d == c) ≡ false

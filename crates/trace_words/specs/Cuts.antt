@@ -1,6 +1,5 @@
 -- A text cut at its first separator.
-use Rattle.std.specs.Prelude.{ℕ, ◌≡◌, ◌==◌, false, List, [], ◌∷◌, if◌then◌else◌}
-use Rattle.dtx_model.specs.Words.{has}
+use Rattle.std.specs.Prelude.{ℕ, ◌==◌, List, [], ◌∷◌, if◌then◌else◌}
 
 -- what stands before the first c
 abbrev pub front : ℕ → List ℕ → List ℕ
@@ -11,7 +10,3 @@ front c (x ∷ xs) = if x == c then [] else x ∷ front c xs
 abbrev pub behind : ℕ → List ℕ → List ℕ
 behind c [] = []
 behind c (x ∷ xs) = if x == c then xs else behind c xs
-
--- no byte is c
-abbrev pub IsWithout : ℕ → List ℕ → Type 0
-IsWithout c bs = has (λ b. b == c) bs ≡ false

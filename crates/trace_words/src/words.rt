@@ -19,7 +19,7 @@ ghost use Rattle.dtx_values.specs.declared.words.Outcome.{Outcome};
 ghost use Rattle.dtx_values.specs.declared.words.Vote.{Vote};
 ghost use Rattle.dtx_model.specs.Grammar.{actor_name, transaction_name, enlistment_name, clone_name, scope_name, manager_name, kind_word, image_word, iso_word};
 ghost use Rattle.dtx_model.specs.TraceText.{id_text, outcome_text, class_text, ask_text, cast_vote_text, request_text, cause_text, direction_text};
-ghost use Rattle.trace_words.specs.Cuts.{front, behind, IsWithout};
+ghost use Rattle.trace_words.specs.Cuts.{front, behind};
 
 use dtx_values::{
     ActorNo, Ask, Cause, Class, CloneKind, CloneNo, Dir, EnlNo, Image, Iso, Outcome, Request, RmNo,
@@ -27,25 +27,12 @@ use dtx_values::{
 };
 use uuid::Uuid;
 
-/// What stands before the first separator, and what stands behind it.
-fn cut_at(bytes: &[u8], separator: u8) -> Option<(&[u8], &[u8])>
-    ensures some { IfSome result (λ parts. (bytes.now ≡ parts.0.now ++ separator ∷ parts.1.now) × IsWithout separator parts.0.now) }
-    ensures none { IfNone result (IsWithout separator bytes.now) }
-{
-    for (i, b) in bytes.iter().enumerate() {
-        if *b == separator {
-            return Some((&bytes[..i], &bytes[i + 1..]));
-        }
-    }
-    None
-}
-
-/// What stands before the first separator, and what stands behind it: nothing, where there is none.
+/// What comes before the first separator, and what comes after it: nothing, where there is none.
 pub fn cut(bytes: &[u8], separator: u8) -> (&[u8], &[u8])
     ensures front { result.0.now ≡ front separator bytes.now }
     ensures behind { result.1.now ≡ behind separator bytes.now }
 {
-    match cut_at(bytes, separator) {
+    match line_tail::cut(bytes, separator) {
         Some(parts) => parts,
         None => (bytes, &bytes[bytes.len()..]),
     }
@@ -120,42 +107,42 @@ fn named(word: &[u8]) -> u32
 pub fn actor(word: &[u8]) -> ActorNo
     ensures { (a : ActorNo) → word.now ≡ actor_name a.value → result ≡ a }
 {
-    ActorNo::new(named(word).clamp(1, 16)).unwrap()
+    ActorNo::new(named(word).clamp(1, ActorNo::MAX)).unwrap()
 }
 
 /// Reads a transaction's name.
 pub fn transaction(word: &[u8]) -> TxNo
     ensures { (t : TxNo) → word.now ≡ transaction_name t.value → result ≡ t }
 {
-    TxNo::new(named(word).clamp(1, 256)).unwrap()
+    TxNo::new(named(word).clamp(1, TxNo::MAX)).unwrap()
 }
 
 /// Reads an enlistment's name.
 pub fn enlistment(word: &[u8]) -> EnlNo
     ensures { (letter : ℕ) (e : EnlNo) → word.now ≡ letter ∷ decimal e.value → result ≡ e }
 {
-    EnlNo::new(named(word).clamp(1, 9999)).unwrap()
+    EnlNo::new(named(word).clamp(1, EnlNo::MAX)).unwrap()
 }
 
 /// Reads a clone's name.
 pub fn clone(word: &[u8]) -> CloneNo
     ensures { (c : CloneNo) → word.now ≡ clone_name c.value → result ≡ c }
 {
-    CloneNo::new(named(word).clamp(1, 9999)).unwrap()
+    CloneNo::new(named(word).clamp(1, CloneNo::MAX)).unwrap()
 }
 
 /// Reads a scope's name.
 pub fn scope(word: &[u8]) -> ScopeNo
     ensures { (s : ScopeNo) → word.now ≡ scope_name s.value → result ≡ s }
 {
-    ScopeNo::new(named(word).clamp(1, 9999)).unwrap()
+    ScopeNo::new(named(word).clamp(1, ScopeNo::MAX)).unwrap()
 }
 
 /// Reads a manager's name.
 pub fn manager(word: &[u8]) -> RmNo
     ensures { (r : RmNo) → word.now ≡ manager_name r.value → result ≡ r }
 {
-    RmNo::new(named(word).clamp(1, 16)).unwrap()
+    RmNo::new(named(word).clamp(1, RmNo::MAX)).unwrap()
 }
 
 /// Reads an outcome.

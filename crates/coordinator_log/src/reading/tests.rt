@@ -47,17 +47,6 @@ fn record_with(enlistments: &[(u32, u32)]) -> Option<LogRecord> {
 }
 
 #[test]
-fn spells_one_enlistment(rt: HostRuntime) -> Result<(), Fail> {
-    let slot = slot_of(rt.alloc(), &ONE)?;
-    let r = record_with(&[(1, 1)]).ok_or("out of range")?;
-    let mut written = zeros_of(rt.alloc(), 511)?;
-    write_record(&r, &mut written);
-    assert_eq!(rt; written.as_slice(), &slot[1..]);
-    assert_eq!(rt; read_record(&slot[1..]), Ok(r));
-    Ok(())
-}
-
-#[test]
 fn names_the_first_bad_place(rt: HostRuntime) -> Result<(), Fail> {
     let slot = slot_of(rt.alloc(), &TWO)?;
     let r = record_with(&[(1, 16), (2, 16)]).ok_or("out of range")?;

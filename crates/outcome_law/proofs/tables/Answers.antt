@@ -3,6 +3,7 @@ use Rattle.outcome_law.proofs.Waves.{row_is_seen}
 use Rattle.outcome_law.proofs.Calls.{evidence_seen}
 use Rattle.outcome_law.proofs.Blocks.{caused_kept, caused_ruled}
 use Rattle.outcome_law.proofs.Timely.{caused_timely}
+use Rattle.outcome_law.proofs.Heard.{length-rows, listener_heard}
 use Rattle.outcome_law.proofs.tables.Goals as goal
 
 pub returns-clause-enlisted : goal.returns-clause-enlisted
@@ -22,3 +23,9 @@ returns-clause-evidence c = λ s t h named run. evidence_seen h (caused_kept s t
 
 pub returns-clause-timed : goal.returns-clause-timed
 returns-clause-timed c = λ s t h named run. caused_timely s t h run
+
+pub returns-clause-listeners : goal.returns-clause-listeners
+returns-clause-listeners c = λ s t h named run k l e. listener_heard h k l (caused_ruled s t h named run) e
+
+pub returns-clause-counted : goal.returns-clause-counted
+returns-clause-counted c = length-rows

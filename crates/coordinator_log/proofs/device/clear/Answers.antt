@@ -1,19 +1,54 @@
-use Rattle.std.proofs.Common.{ℕ, ◌+◌, ◌*◌, List, length, set, None, Ok, refl, arith, ◌≤◌, sym, subst}
-use Rattle.dtx_model.specs.Log.{slots_of}
-use Rattle.coordinator_log.specs.Slots.{HasSlots}
-use Rattle.coordinator_log.proofs.SlotWrites.{clear_stage, cleared_stage}
+use Rattle.std.proofs.Common.{◌≡◌, inl, inr, ℕ, ◌+◌, ◌*◌, ◌∷◌, [], List, length, set, Some, None, Ok, true, false, refl, arith, ◌≤◌, ◌∙◌, ap, sym, subst}
+use Rattle.outside.specs.Disk.{overwritten, IsOnly}
+use Rattle.outside.specs.Faults.{Rose}
+use Rattle.dtx_model.specs.Log.{record_of, slots_of}
+use Rattle.coordinator_log.proofs.Results.{on_err}
+use Rattle.coordinator_log.proofs.Stops.{breaks_at, done_at, done_first, none_passed, passed_more, reached_next, still_armed, undone}
+use Rattle.coordinator_log.proofs.SlotWrites.{along, by_test, clear_stage, cleared_stage, gate_stopped, same_bytes, unless_fault}
 use Rattle.coordinator_log.proofs.device.clear.Goals as goal
 
-pub returns-then-not-write-clause-images : goal.returns-then-not-write-clause-images
-returns-then-not-write-clause-images g c h only is_open f left = clear_stage c.args.k _ _ _ _ c.requires.slot (omega arith) is_open only (c.write.ensures.images h) f left
+pub returns-in_err-write-clause-images : goal.returns-in_err-write-clause-images
+returns-in_err-write-clause-images g c h only is_open f left = clear_stage c.args.k _ _ _ _ c.requires.slot c.slot_at-gate.ensures is_open only (c.write.ensures.images h) f left
+
+pub returns-in_err-sync-clause-images : goal.returns-in_err-sync-clause-images
+returns-in_err-sync-clause-images g c h only is_open f left = clear_stage c.args.k _ _ _ _ c.requires.slot c.slot_at-gate.ensures is_open only (c.write.ensures.images h) f (c.sync.ensures.images h f left)
 
 pub returns-clause-images : goal.returns-clause-images
-returns-clause-images g c h only is_open f left = clear_stage c.args.k _ _ _ _ c.requires.slot (omega arith) is_open only (c.write.ensures.images h) f (c.sync.ensures.images h f left)
+returns-clause-images g c h only is_open f left = clear_stage c.args.k _ _ _ _ c.requires.slot c.slot_at-gate.ensures is_open only (c.write.ensures.images h) f (c.sync.ensures.images h f left)
 
 pub returns-clause-done : goal.returns-clause-done
-returns-clause-done g c h only is_open ok =
+returns-clause-done g c h only is_open =
     let b = g.D.Disk.seen c.args.disk.now in
-    let d1 = c.write.new.disk in
-    let room : 512 + 512 * c.args.k ≤ length b = omega (arith, g.met.D.Disk.long c.args.disk.now b h (g.met.D.Disk.sees c.args.disk.now h), c.requires.size, c.requires.slot) in
-    let done = cleared_stage c.args.k (512 + 512 * c.args.k) b _ _ (g.D.Disk.seen d1) c.requires.slot refl only (c.write.ensures.images h) (g.met.D.Disk.sees d1 h) (c.write.ensures.done h c.if-not-write.false) room in
-    subst (λ (e : List ℕ). HasSlots b (set (slots_of b) c.args.k (Ok None)) e) (sym (c.sync.ensures.seen h ok)) done
+    let gate = c.slot_at-gate.result in
+    let room : gate + 1 ≤ length b = omega (arith, g.met.D.Disk.long c.args.disk.now b h (g.met.D.Disk.sees c.args.disk.now h), c.requires.size, c.requires.slot, c.slot_at-gate.ensures) in
+    along b _ _ _ (c.in_ok-sync.ensures.seen h) (cleared_stage c.args.k gate b _ c.requires.slot c.slot_at-gate.ensures (c.in_ok-write.ensures.done h) room)
+
+pub returns-in_err-sync-clause-broken : goal.returns-in_err-sync-clause-broken
+returns-in_err-sync-clause-broken g c =
+    on_err c.from_residual-in_err-sync.result _
+    (breaks_at 1 2 c.args.armed.now _ _ _ (omega arith) (passed_more 0 _ _ _ (none_passed _) c.in_ok-write.ensures.passed c.write.ensures.counted) c.sync.ensures.counted
+    (λ u. subst (λ (n : ℕ). Rose n (g.D.Disk.faults c.sync.new.disk)) c.in_ok-write.ensures.smooth (c.in_err-sync.ensures.cause u)))
+
+pub returns-in_err-write-clause-crashed : goal.returns-in_err-write-clause-crashed
+returns-in_err-write-clause-crashed g c h only is_open s is none =
+    let b = g.D.Disk.seen c.args.disk.now in
+    let gate = c.slot_at-gate.result in
+    let at = reached_next 0 s _ _ _ (none_passed _) c.write.ensures.counted is none in
+    let left = c.write.ensures.crashed h s.image at.0 in
+    let room : gate + 1 ≤ length b = omega (arith, g.met.D.Disk.long c.args.disk.now b h (g.met.D.Disk.sees c.args.disk.now h), c.requires.size, c.requires.slot, c.slot_at-gate.ensures) in
+    let cleared = cleared_stage c.args.k gate b _ c.requires.slot c.slot_at-gate.ensures refl room in
+    (left.0, left.1, unless_fault (λ e. by_test _ _ b _ _ _ (done_at 1 0 s at.1) (gate_stopped s.image 0 b b _ gate _ _ _ e (same_bytes b b refl) cleared)) left.2)
+
+pub returns-in_err-sync-clause-crashed : goal.returns-in_err-sync-clause-crashed
+returns-in_err-sync-clause-crashed g c h only is_open s is none =
+    let b = g.D.Disk.seen c.args.disk.now in
+    let gate = c.slot_at-gate.result in
+    let at = reached_next 1 s _ _ _ (passed_more 0 _ _ _ (none_passed _) c.in_ok-write.ensures.passed c.write.ensures.counted) c.sync.ensures.counted is none in
+    let left = c.sync.ensures.crashed h s.image at.0 in
+    let room : gate + 1 ≤ length b = omega (arith, g.met.D.Disk.long c.args.disk.now b h (g.met.D.Disk.sees c.args.disk.now h), c.requires.size, c.requires.slot, c.slot_at-gate.ensures) in
+    let cleared = cleared_stage c.args.k gate b _ c.requires.slot c.slot_at-gate.ensures (c.in_ok-write.ensures.done h) room in
+    (left.0, left.1, inr (by_test _ _ b _ _ _ (done_first 1 s (omega (arith, at.1))) (along b _ _ _ left.2 cleared)))
+
+pub returns-clause-crashed : goal.returns-clause-crashed
+returns-clause-crashed g c h only is_open s is none =
+    absurd (still_armed 2 s _ _ (passed_more 1 _ _ _ (passed_more 0 _ _ _ (none_passed _) c.in_ok-write.ensures.passed c.write.ensures.counted) c.in_ok-sync.ensures.passed c.sync.ensures.counted) is none)

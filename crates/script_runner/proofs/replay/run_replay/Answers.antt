@@ -42,6 +42,7 @@ returns-clause-complete g c =
     let ran : IsReplayed s T = subst (λ (ls : List Line). IsReplayed ls T) c.lines.ensures c.in_ok-trace.ensures.replayed in
     let settled : (t : TxNo) → Settled s (history t.value T) = subst (λ (ls : List Line). (t : TxNo) → Settled ls (history t.value T)) c.lines.ensures c.in_ok-trace.ensures.settled in
     record {
+      told = λ t. c.completeness.ensures.told s t.value (history t.value T) c.requires.script.named (c.replay.ensures.caused s T ran t);
       committed = λ t asked. c.completeness.ensures.committed s t.value (history t.value T) c.requires.script.named (c.replay.ensures.caused s T ran t) (settled t) asked;
       answered = λ t. c.completeness.ensures.answered s t.value (history t.value T) c.requires.script.named (c.replay.ensures.caused s T ran t);
     }

@@ -33,7 +33,7 @@ loop-piece-preserved g c =
     let items : c.extend_from_slice.new.self.items ≡ c.loop-piece.bytes.items ++ take c.in-Ok.n c.read.new.into = grind (arith, common_steps) in
     record {
       short = grind (arith, common_steps);
-      grows = omega arith;
+      smooth = c.in-Ok.ensures.smooth ∙ c.loop-piece.invariant.smooth;
       read = λ b told.
           let now = c.loop-piece.invariant.left b told in
           let on = read_on b c.loop-piece.bytes.items (take c.in-Ok.n c.read.new.into) c.in-Ok.n (c.loop-piece.invariant.read b told) (c.in-Ok.ensures.bytes _ now) (c.in-Ok.ensures.within _ now) in

@@ -6,7 +6,7 @@ use Rattle.script_runner.proofs.transfer.read_all.Given as goal
 abbrev pub invariant-loop-piece : goal.invariant-loop-piece
 invariant-loop-piece g l = record {
   short : length l.bytes.items ≤ 1048577;
-  grows : g.S.Source.faults l.initial.source ≤ g.S.Source.faults l.source;
+  smooth : g.S.Source.faults l.source ≡ g.S.Source.faults l.initial.source;
   read : ForSome (g.S.Source.left l.initial.source) (λ b. l.bytes.items ≡ take (length l.bytes.items) b);
   left : ForSome (g.S.Source.left l.initial.source) (λ b. g.S.Source.left l.source ≡ Some (drop (length l.bytes.items) b));
   untold : g.S.Source.left l.initial.source ≡ None → g.S.Source.left l.source ≡ None;

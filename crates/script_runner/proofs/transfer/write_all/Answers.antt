@@ -8,7 +8,7 @@ use Rattle.script_runner.proofs.transfer.write_all.Goals as goal
 pub loop-at-preserved : goal.loop-at-preserved
 loop-at-preserved g c = record {
   within = grind (arith, common_steps);
-  grows = omega arith;
+  smooth = c.in-Ok.ensures.smooth (omega (arith, c.in-Ok.n-test.1)) ∙ c.loop-at.invariant.smooth;
   written = λ w told.
       let now = c.in-Ok.ensures.added _ (c.loop-at.invariant.written w told) in
       let rest = take_rest c.args.bytes.now c.loop-at.at in

@@ -6,7 +6,7 @@ use Rattle.script_runner.proofs.transfer.write_all.Given as goal
 abbrev pub invariant-loop-at : goal.invariant-loop-at
 invariant-loop-at g l = record {
   within : l.at ≤ length l.bytes;
-  grows : g.K.Sink.faults l.initial.sink ≤ g.K.Sink.faults l.sink;
+  smooth : g.K.Sink.faults l.sink ≡ g.K.Sink.faults l.initial.sink;
   written : ForSome (g.K.Sink.written l.initial.sink) (λ w. g.K.Sink.written l.sink ≡ Some (w ++ take l.at l.bytes));
   untold : g.K.Sink.written l.initial.sink ≡ None → g.K.Sink.written l.sink ≡ None;
 }

@@ -1,5 +1,6 @@
-use Rattle.std.proofs.Common.{◌≡◌, ◌≤◌, None, Some, length, arith, rules, ap, sym, ◌∙◌}
+use Rattle.std.proofs.Common.{◌+◌, ◌≡◌, ◌≤◌, None, Some, length, arith, rules, ap, sym, ◌∙◌}
 use Rattle.std.proofs.lemmas.Bool.Decides.{nat_tests}
+use Rattle.dtx_values.specs.declared.limits.TheConstants.{LINE_BYTES}
 use Rattle.dtx_model.specs.Words.{past_of}
 use Rattle.dtx_model.specs.Grammar.{line_text}
 use Rattle.dtx_model.specs.Faults.{form_fault, name_fault, words_of, ByNames}
@@ -23,7 +24,7 @@ returns-in-None-clause-ok c =
     let named : name_fault (past_of c.args.draft.now) l ≡ None = search rules in
     let spelled = spelled_line l bytes text after c.in_ok-text.ensures.cut c.in_ok-line.ensures.0 in
     let long = length-line_text l bytes text after c.in_ok-text.ensures.cut spelled in
-    let at_most : length (line_text l) ≤ 201 = omega (arith, long, c.in_ok-text.ensures.short) in
+    let at_most : length (line_text l) ≤ LINE_BYTES + 1 = omega (arith, long, c.in_ok-text.ensures.short) in
     let good : IsGood c.args.draft.now l = record {
       in_range = c.in_ok-line.ensures.1;
       short = grind (arith, nat_tests);

@@ -1,13 +1,14 @@
 use Rattle.std.proofs.Common.{arith, rules, refl}
 use Rattle.script_words.proofs.words.number.Goals as goal
 use Rattle.dtx_model.proofs.Digits.{digit_of_number, digits_one_more, value_below, value_more, value_of_read}
-use Rattle.script_words.proofs.Numbers.{number_from_text, text_of_read, zero_text}
+use Rattle.line_tail.proofs.Numbers.{number_from_text}
+use Rattle.script_words.proofs.Numbers.{text_of_read, zero_text}
 
 pub returns-then-is_empty-clause-none : goal.returns-then-is_empty-clause-none
-returns-then-is_empty-clause-none c = λ n small e. grind (arith, number_from_text c.args.word.now n small e)
+returns-then-is_empty-clause-none c = λ n small e. grind (arith, number_from_text 10 c.args.word.now n (omega arith) (omega arith) (omega arith) e)
 
 pub returns-then-word-gt10-clause-none : goal.returns-then-word-gt10-clause-none
-returns-then-word-gt10-clause-none c = λ n small e. let k = number_from_text c.args.word.now n small e in omega arith
+returns-then-word-gt10-clause-none c = λ n small e. let k = number_from_text 10 c.args.word.now n (omega arith) (omega arith) (omega arith) e in omega arith
 
 pub overflow_mul-value : goal.overflow_mul-value
 overflow_mul-value c =
@@ -23,7 +24,7 @@ pub returns-then-word-eq1-clause-some : goal.returns-then-word-eq1-clause-some
 returns-then-word-eq1-clause-some c = zero_text c.args.word.now (omega arith) (omega arith)
 
 pub returns-then-word-eq48-clause-none : goal.returns-then-word-eq48-clause-none
-returns-then-word-eq48-clause-none c = λ n small e. let k = number_from_text c.args.word.now n small e in omega arith
+returns-then-word-eq48-clause-none c = λ n small e. let k = number_from_text 10 c.args.word.now n (omega arith) (omega arith) (omega arith) e in omega arith
 
 pub returns-then-not-is_ascii_digit-clause-none : goal.returns-then-not-is_ascii_digit-clause-none
 returns-then-not-is_ascii_digit-clause-none c =

@@ -2,7 +2,7 @@ use Rattle.std.proofs.Common.{arith, rules, false, ◌≡◌}
 use Rattle.dtx_model.specs.Grammar.{is_from}
 use Rattle.dtx_model.specs.Faults.{allows, number}
 use Rattle.script_words.proofs.Numbers.{if_none, writes-none, writes-out}
-use Rattle.script_words.proofs.Slots.{allows-number}
+use Rattle.script_words.proofs.Patterns.{allows-number}
 use Rattle.std.proofs.lemmas.Bool.Decides.{nat_tests}
 use Rattle.script_words.proofs.words.number_from.Goals as goal
 

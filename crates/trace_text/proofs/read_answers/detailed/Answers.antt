@@ -1,5 +1,5 @@
 use Rattle.std.proofs.Common.{◌≡◌, ◌∙◌, codes, sym, rules}
-use Rattle.trace_words.proofs.Cuts.{same_text}
+use Rattle.line_tail.proofs.SameBytes.{same_text}
 use Rattle.trace_text.proofs.ReadPieces.{connected_found}
 use Rattle.trace_text.proofs.read_answers.detailed.Goals as goal
 

@@ -1,5 +1,5 @@
 use Rattle.std.proofs.Common.{◌≡◌, ◌∙◌, codes, sym, rules}
-use Rattle.trace_words.proofs.Cuts.{same_text}
+use Rattle.line_tail.proofs.SameBytes.{same_text}
 use Rattle.trace_text.proofs.ReadPieces.{called_found, answered_found}
 use Rattle.trace_text.proofs.read_entries.call.Goals as goal
 

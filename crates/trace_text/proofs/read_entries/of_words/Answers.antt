@@ -1,5 +1,5 @@
 use Rattle.std.proofs.Common.{◌≡◌, ◌∙◌, codes, length, sym, rules}
-use Rattle.trace_words.proofs.Cuts.{same_text}
+use Rattle.line_tail.proofs.SameBytes.{same_text}
 use Rattle.trace_text.proofs.ReadPieces.{cloned_found, told_found, promoted_found, down_found, armed_found, log_opened_found, opened_found, no_length}
 use Rattle.trace_text.proofs.read_entries.of_words.Goals as goal
 

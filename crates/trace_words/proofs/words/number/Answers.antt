@@ -1,10 +1,10 @@
 use Rattle.std.proofs.Common.{arith, rules, refl}
 use Rattle.trace_words.proofs.words.number.Goals as goal
 use Rattle.dtx_model.proofs.Digits.{digit_of_number, digits_one_more, value_below, value_more, value_of_read}
-use Rattle.trace_words.proofs.Numbers.{number_from_text}
+use Rattle.line_tail.proofs.Numbers.{number_from_text}
 
 pub returns-then-word-gt20 : goal.returns-then-word-gt20
-returns-then-word-gt20 c = λ n small e. let k = number_from_text c.args.word.now n small e in omega arith
+returns-then-word-gt20 c = λ n small e. let k = number_from_text 20 c.args.word.now n (omega arith) (omega arith) small e in omega arith
 
 pub overflow_mul-value : goal.overflow_mul-value
 overflow_mul-value c =

@@ -1,79 +1,105 @@
-use Rattle.std.proofs.Common.{◌≡◌, ◌<◌, refl, true, rules, arith, inl, sym, ap, ◌∙◌, subst, List, Option, None, Some, length, set}
+use Rattle.std.proofs.Common.{◌≡◌, ◌<◌, refl, true, arith, inl, sym, ap, ◌∙◌, subst, List, ℕ, Option, None, Some, Ok, length, set}
+use Rattle.std.specs.List.{insert}
 use Rattle.dtx_model.specs.Log.{CommitRecord, record_of}
 use Rattle.coordinator_log.specs.Slots.{Agrees, open_records}
-use Rattle.coordinator_log.proofs.Agreement.{insert_lowest, slot_formed, log_either, either_appended, agrees_with, log_agrees, either_whole}
+use Rattle.coordinator_log.proofs.Agreement.{insert_lowest, slot_formed, log_either, log_by_test, all_appended, either_appended, agrees_with, log_agrees, either_whole}
+use Rattle.coordinator_log.proofs.Results.{after_err}
+use Rattle.coordinator_log.proofs.SlotWrites.{unless_fault}
 use Rattle.coordinator_log.proofs.log.Log.append.Goals as goal
 
-pub returns-then-not-self-clause-images : goal.returns-then-not-self-clause-images
-returns-then-not-self-clause-images g c h up f left = inl (log_agrees _ _ _ (c.args.self.now.agrees h up) f left)
+pub returns-then-not-self-clause-appends : goal.returns-then-not-self-clause-appends
+returns-then-not-self-clause-appends g c = rw (← c.self.view_is) (λ h up. record { images = λ f left. inl (log_agrees _ _ _ (c.self.invariant.agrees h up) f left); durable = tt })
 
-pub returns-in_default-clause-images : goal.returns-in_default-clause-images
-returns-in_default-clause-images g c h up f left = inl (log_agrees _ _ _ (c.args.self.now.agrees h up) f left)
+pub returns-in_default-clause-appends : goal.returns-in_default-clause-appends
+returns-in_default-clause-appends g c = rw (← c.self.view_is) (λ h up. record { images = λ f left. inl (log_agrees _ _ _ (c.self.invariant.agrees h up) f left); durable = tt })
 
-pub returns-then-not-store-clause-images : goal.returns-then-not-store-clause-images
-returns-then-not-store-clause-images g c h up f left =
-    let ss = c.args.self.now.slots in
+pub returns-in_err-store-clause-appends : goal.returns-in_err-store-clause-appends
+returns-in_err-store-clause-appends g c =
+    let ss = c.self.inside.slots in
     let k = c.in-Some.k in
-    let a = c.args.self.now.agrees h up in
     let s = c.in-Some.ensures.some in
     let lt : k < length ss = omega (arith, s.0, c.in-Some.ensures.many) in
-    either_appended _ _ ss a k lt (record_of c.args.r.now) f s.2 (c.store.ensures.images h a.durable (slot_formed _ _ ss a k lt None s.1) f left)
+    rw (← c.self.view_is)
+    (λ h up. let a = c.self.invariant.agrees h up in
+    record {
+      images = λ f left. either_appended _ _ ss a k lt (record_of c.args.r.now) f s.2 (c.store.ensures.images h a.durable (slot_formed _ _ ss a k lt None s.1) f left);
+      durable = after_err c.from_residual.result _ _ c.from_residual.ensures.1;
+    })
 
-pub returns-clause-images : goal.returns-clause-images
-returns-clause-images g c h up f left =
-    let ss = c.args.self.now.slots in
+pub returns-in_err-store-clause-crashed : goal.returns-in_err-store-clause-crashed
+returns-in_err-store-clause-crashed g c =
+    let ss = c.self.inside.slots in
     let k = c.in-Some.k in
-    let a = c.args.self.now.agrees h up in
     let s = c.in-Some.ensures.some in
     let lt : k < length ss = omega (arith, s.0, c.in-Some.ensures.many) in
-    either_appended _ _ ss a k lt (record_of c.args.r.now) f s.2 (c.store.ensures.images h a.durable (slot_formed _ _ ss a k lt None s.1) f left)
+    let r = record_of c.args.r.now in
+    rw (← c.self.view_is)
+    (λ h up stop is none. let a = c.self.invariant.agrees h up in
+    let left = c.store.ensures.crashed h a.durable (slot_formed _ _ ss a k lt None s.1) stop is none in
+    let new = insert_lowest ss k r s.2 lt ∙ ap (λ (j : ℕ). insert (open_records ss) j r) (sym s.2) in
+    (left.0, left.1, unless_fault (log_by_test _ _ ss a k lt (Some r) _ _ _ new) left.2))
 
 pub invariant_of-self : goal.invariant_of-self
 invariant_of-self g c = record {
   agrees = λ h up. absurd cc;
   whole = λ h f left.
-      let up : c.args.self.now.up ≡ true = c.if-not-self.false in
-      let ss = c.args.self.now.slots in
+      let a = c.self.invariant.agrees h c.if-not-self.false in
+      let ss = c.self.inside.slots in
       let k = c.in-Some.k in
-      let a = c.args.self.now.agrees h up in
       let s = c.in-Some.ensures.some in
       let lt : k < length ss = omega (arith, s.0, c.in-Some.ensures.many) in
-      either_whole _ _ _ (log_either _ _ ss a k lt (Some (record_of c.args.r.now)) (open_records (set ss k (Some (record_of c.args.r.now)))) f refl (c.store.ensures.images h a.durable (slot_formed _ _ ss a k lt None s.1) f left));
-  room = search rules;
+      either_whole _ _ _ (log_either _ _ ss a k lt (Some (record_of c.args.r.now)) _ f refl (c.store.ensures.images h a.durable (slot_formed _ _ ss a k lt None s.1) f left));
+  room = let kept = c.self.invariant.room in omega (arith, kept, c.store.ensures.size);
 }
 
 pub invariant_of-self-2 : goal.invariant_of-self-2
 invariant_of-self-2 g c = record {
   agrees = λ h up.
-      let ss = c.args.self.now.slots in
+      let a = c.self.invariant.agrees h c.if-not-self.false in
+      let ss = c.self.inside.slots in
       let k = c.in-Some.k in
-      let a = c.args.self.now.agrees h up in
       let s = c.in-Some.ensures.some in
       let lt : k < length ss = omega (arith, s.0, c.in-Some.ensures.many) in
-      subst (λ (l : List (Option CommitRecord)). Agrees (g.D.Disk.seen c.store.new.disk) (g.D.Disk.image c.store.new.disk) l) (sym c.set.ensures.slots) (agrees_with _ _ ss a k lt (Some (record_of c.args.r.now)) _ _ (c.store.ensures.done h a.durable (slot_formed _ _ ss a k lt None s.1) c.if-not-store.false) (c.store.ensures.durable h c.if-not-store.false));
+      subst (λ (l : List (Option CommitRecord)). Agrees (g.D.Disk.seen c.store.new.disk) (g.D.Disk.image c.store.new.disk) l) (sym c.set.ensures.slots)
+      (agrees_with _ _ ss a k lt (Some (record_of c.args.r.now)) _ _ (c.in_ok-store.ensures.done h a.durable (slot_formed _ _ ss a k lt None s.1)) (c.in_ok-store.ensures.durable h));
   whole = λ h f left.
-      let up : c.args.self.now.up ≡ true = c.if-not-self.false in
-      let ss = c.args.self.now.slots in
+      let a = c.self.invariant.agrees h c.if-not-self.false in
+      let ss = c.self.inside.slots in
       let k = c.in-Some.k in
-      let a = c.args.self.now.agrees h up in
       let s = c.in-Some.ensures.some in
       let lt : k < length ss = omega (arith, s.0, c.in-Some.ensures.many) in
-      either_whole _ _ _ (log_either _ _ ss a k lt (Some (record_of c.args.r.now)) (open_records (set ss k (Some (record_of c.args.r.now)))) f refl (c.store.ensures.images h a.durable (slot_formed _ _ ss a k lt None s.1) f left));
-  room = search rules;
+      either_whole _ _ _ (log_either _ _ ss a k lt (Some (record_of c.args.r.now)) _ f refl (c.store.ensures.images h a.durable (slot_formed _ _ ss a k lt None s.1) f left));
+  room = let kept = c.self.invariant.room in omega (arith, kept, c.store.ensures.size);
 }
-
-pub returns-clause-durable : goal.returns-clause-durable
-returns-clause-durable g c h f left =
-    let up : c.args.self.now.up ≡ true = c.if-not-self.false in
-    let ss = c.args.self.now.slots in
-    let k = c.in-Some.k in
-    let a = c.args.self.now.agrees h up in
-    let s = c.in-Some.ensures.some in
-    let lt : k < length ss = omega (arith, s.0, c.in-Some.ensures.many) in
-    log_agrees _ _ _ (subst (λ (l : List (Option CommitRecord)). Agrees (g.D.Disk.seen c.store.new.disk) (g.D.Disk.image c.store.new.disk) l) (sym c.set.ensures.slots) (agrees_with _ _ ss a k lt (Some (record_of c.args.r.now)) _ _ (c.store.ensures.done h a.durable (slot_formed _ _ ss a k lt None s.1) c.if-not-store.false) (c.store.ensures.durable h c.if-not-store.false))) f left
 
 pub returns-clause-records : goal.returns-clause-records
 returns-clause-records g c =
-    let ss = c.args.self.now.slots in
+    let ss = c.self.inside.slots in
+    let k = c.in-Some.k in
     let s = c.in-Some.ensures.some in
-    ap open_records c.set.ensures.slots ∙ insert_lowest ss c.in-Some.k (record_of c.args.r.now) s.2 (omega (arith, s.0, c.in-Some.ensures.many))
+    let lt : k < length ss = omega (arith, s.0, c.in-Some.ensures.many) in
+    rw (← c.self.view_is) (ap open_records c.set.ensures.slots ∙ insert_lowest ss k (record_of c.args.r.now) s.2 lt)
+
+pub returns-clause-durable : goal.returns-clause-durable
+returns-clause-durable g c h f left =
+    let a = c.self.invariant.agrees h c.if-not-self.false in
+    let ss = c.self.inside.slots in
+    let k = c.in-Some.k in
+    let s = c.in-Some.ensures.some in
+    let lt : k < length ss = omega (arith, s.0, c.in-Some.ensures.many) in
+    log_agrees _ _ _ (agrees_with _ _ ss a k lt (Some (record_of c.args.r.now)) _ _ (c.in_ok-store.ensures.done h a.durable (slot_formed _ _ ss a k lt None s.1)) (c.in_ok-store.ensures.durable h)) f left
+    ∙ ap (λ (l : List (Option CommitRecord)). Ok (open_records l)) (sym c.set.ensures.slots)
+
+pub returns-clause-appends : goal.returns-clause-appends
+returns-clause-appends g c =
+    let ss = c.self.inside.slots in
+    let k = c.in-Some.k in
+    let s = c.in-Some.ensures.some in
+    let lt : k < length ss = omega (arith, s.0, c.in-Some.ensures.many) in
+    rw (← c.self.view_is)
+    (λ h up. let a = c.self.invariant.agrees h up in
+    let closed = slot_formed _ _ ss a k lt None s.1 in
+    record {
+      images = λ f left. either_appended _ _ ss a k lt (record_of c.args.r.now) f s.2 (c.store.ensures.images h a.durable closed f left);
+      durable = all_appended _ _ ss a k lt (record_of c.args.r.now) _ _ s.2 (c.in_ok-store.ensures.done h a.durable closed) (c.in_ok-store.ensures.durable h);
+    })

@@ -1,73 +1,94 @@
-use Rattle.std.proofs.Common.{◌≡◌, ◌<◌, refl, true, rules, arith, inl, sym, subst, List, Option, None, length, set}
+use Rattle.std.proofs.Common.{◌≡◌, ◌<◌, refl, true, arith, inl, sym, ap, ◌∙◌, subst, List, ℕ, Option, None, Ok, length, set}
 use Rattle.dtx_model.specs.Log.{CommitRecord}
 use Rattle.coordinator_log.specs.Slots.{Agrees, open_records}
-use Rattle.coordinator_log.proofs.Agreement.{slot_open, log_either, agrees_with, log_agrees, either_whole}
+use Rattle.coordinator_log.proofs.Agreement.{slot_open, log_either, log_by_test, all_freed, agrees_with, log_agrees, either_whole}
+use Rattle.coordinator_log.proofs.Results.{after_err}
+use Rattle.coordinator_log.proofs.SlotWrites.{unless_fault}
 use Rattle.coordinator_log.proofs.log.Log.free.Goals as goal
 
-pub returns-then-not-self-clause-images : goal.returns-then-not-self-clause-images
-returns-then-not-self-clause-images g c h up f left = inl (log_agrees _ _ _ (c.args.self.now.agrees h up) f left)
+pub returns-then-not-self-clause-frees : goal.returns-then-not-self-clause-frees
+returns-then-not-self-clause-frees g c = rw (← c.self.view_is) (λ h up. record { images = λ f left. inl (log_agrees _ _ _ (c.self.invariant.agrees h up) f left); durable = tt })
 
-pub returns-in_default-clause-images : goal.returns-in_default-clause-images
-returns-in_default-clause-images g c h up f left = inl (log_agrees _ _ _ (c.args.self.now.agrees h up) f left)
+pub returns-in_default-clause-frees : goal.returns-in_default-clause-frees
+returns-in_default-clause-frees g c = rw (← c.self.view_is) (λ h up. record { images = λ f left. inl (log_agrees _ _ _ (c.self.invariant.agrees h up) f left); durable = tt })
 
-pub returns-then-not-clear-clause-images : goal.returns-then-not-clear-clause-images
-returns-then-not-clear-clause-images g c h up f left =
-    let ss = c.args.self.now.slots in
+pub returns-in_err-clear-clause-frees : goal.returns-in_err-clear-clause-frees
+returns-in_err-clear-clause-frees g c =
+    let ss = c.self.inside.slots in
     let k = c.in-Some.k in
-    let a = c.args.self.now.agrees h up in
     let s = c.in-Some.ensures.some in
     let lt : k < length ss = omega (arith, s.0, c.in-Some.ensures.many) in
-    log_either _ _ ss a k lt None _ f c.in-Some.ensures.rest (c.clear.ensures.images h a.durable (slot_open _ _ ss a k lt s.1) f left)
+    rw (← c.self.view_is)
+    (λ h up. let a = c.self.invariant.agrees h up in
+    record {
+      images = λ f left. log_either _ _ ss a k lt None _ f c.in-Some.ensures.rest (c.clear.ensures.images h a.durable (slot_open _ _ ss a k lt s.1) f left);
+      durable = after_err c.from_residual.result _ _ c.from_residual.ensures.1;
+    })
 
-pub returns-clause-images : goal.returns-clause-images
-returns-clause-images g c h up f left =
-    let ss = c.args.self.now.slots in
+pub returns-in_err-clear-clause-crashed : goal.returns-in_err-clear-clause-crashed
+returns-in_err-clear-clause-crashed g c =
+    let ss = c.self.inside.slots in
     let k = c.in-Some.k in
-    let a = c.args.self.now.agrees h up in
     let s = c.in-Some.ensures.some in
     let lt : k < length ss = omega (arith, s.0, c.in-Some.ensures.many) in
-    log_either _ _ ss a k lt None _ f c.in-Some.ensures.rest (c.clear.ensures.images h a.durable (slot_open _ _ ss a k lt s.1) f left)
+    rw (← c.self.view_is)
+    (λ h up stop is none. let a = c.self.invariant.agrees h up in
+    let left = c.clear.ensures.crashed h a.durable (slot_open _ _ ss a k lt s.1) stop is none in
+    (left.0, left.1, unless_fault (log_by_test _ _ ss a k lt None _ _ _ c.in-Some.ensures.rest) left.2))
 
 pub invariant_of-self : goal.invariant_of-self
 invariant_of-self g c = record {
   agrees = λ h up. absurd cc;
   whole = λ h f left.
-      let up : c.args.self.now.up ≡ true = c.if-not-self.false in
-      let ss = c.args.self.now.slots in
+      let a = c.self.invariant.agrees h c.if-not-self.false in
+      let ss = c.self.inside.slots in
       let k = c.in-Some.k in
-      let a = c.args.self.now.agrees h up in
       let s = c.in-Some.ensures.some in
       let lt : k < length ss = omega (arith, s.0, c.in-Some.ensures.many) in
-      either_whole _ _ _ (log_either _ _ ss a k lt (None) (open_records (set ss k (None))) f refl (c.clear.ensures.images h a.durable (slot_open _ _ ss a k lt s.1) f left));
-  room = search rules;
+      either_whole _ _ _ (log_either _ _ ss a k lt None _ f refl (c.clear.ensures.images h a.durable (slot_open _ _ ss a k lt s.1) f left));
+  room = let kept = c.self.invariant.room in omega (arith, kept, c.clear.ensures.size);
 }
 
 pub invariant_of-self-2 : goal.invariant_of-self-2
 invariant_of-self-2 g c = record {
   agrees = λ h up.
-      let ss = c.args.self.now.slots in
+      let a = c.self.invariant.agrees h c.if-not-self.false in
+      let ss = c.self.inside.slots in
       let k = c.in-Some.k in
-      let a = c.args.self.now.agrees h up in
       let s = c.in-Some.ensures.some in
       let lt : k < length ss = omega (arith, s.0, c.in-Some.ensures.many) in
-      subst (λ (l : List (Option CommitRecord)). Agrees (g.D.Disk.seen c.clear.new.disk) (g.D.Disk.image c.clear.new.disk) l) (sym c.set.ensures.slots) (agrees_with _ _ ss a k lt (None) _ _ (c.clear.ensures.done h a.durable (slot_open _ _ ss a k lt s.1) c.if-not-clear.false) (c.clear.ensures.durable h c.if-not-clear.false));
+      subst (λ (l : List (Option CommitRecord)). Agrees (g.D.Disk.seen c.clear.new.disk) (g.D.Disk.image c.clear.new.disk) l) (sym c.set.ensures.slots)
+      (agrees_with _ _ ss a k lt None _ _ (c.in_ok-clear.ensures.done h a.durable (slot_open _ _ ss a k lt s.1)) (c.in_ok-clear.ensures.durable h));
   whole = λ h f left.
-      let up : c.args.self.now.up ≡ true = c.if-not-self.false in
-      let ss = c.args.self.now.slots in
+      let a = c.self.invariant.agrees h c.if-not-self.false in
+      let ss = c.self.inside.slots in
       let k = c.in-Some.k in
-      let a = c.args.self.now.agrees h up in
       let s = c.in-Some.ensures.some in
       let lt : k < length ss = omega (arith, s.0, c.in-Some.ensures.many) in
-      either_whole _ _ _ (log_either _ _ ss a k lt (None) (open_records (set ss k (None))) f refl (c.clear.ensures.images h a.durable (slot_open _ _ ss a k lt s.1) f left));
-  room = search rules;
+      either_whole _ _ _ (log_either _ _ ss a k lt None _ f refl (c.clear.ensures.images h a.durable (slot_open _ _ ss a k lt s.1) f left));
+  room = let kept = c.self.invariant.room in omega (arith, kept, c.clear.ensures.size);
 }
 
 pub returns-clause-durable : goal.returns-clause-durable
 returns-clause-durable g c h f left =
-    let up : c.args.self.now.up ≡ true = c.if-not-self.false in
-    let ss = c.args.self.now.slots in
+    let a = c.self.invariant.agrees h c.if-not-self.false in
+    let ss = c.self.inside.slots in
     let k = c.in-Some.k in
-    let a = c.args.self.now.agrees h up in
     let s = c.in-Some.ensures.some in
     let lt : k < length ss = omega (arith, s.0, c.in-Some.ensures.many) in
-    log_agrees _ _ _ (subst (λ (l : List (Option CommitRecord)). Agrees (g.D.Disk.seen c.clear.new.disk) (g.D.Disk.image c.clear.new.disk) l) (sym c.set.ensures.slots) (agrees_with _ _ ss a k lt (None) _ _ (c.clear.ensures.done h a.durable (slot_open _ _ ss a k lt s.1) c.if-not-clear.false) (c.clear.ensures.durable h c.if-not-clear.false))) f left
+    log_agrees _ _ _ (agrees_with _ _ ss a k lt None _ _ (c.in_ok-clear.ensures.done h a.durable (slot_open _ _ ss a k lt s.1)) (c.in_ok-clear.ensures.durable h)) f left
+    ∙ ap (λ (l : List (Option CommitRecord)). Ok (open_records l)) (sym c.set.ensures.slots)
+
+pub returns-clause-frees : goal.returns-clause-frees
+returns-clause-frees g c =
+    let ss = c.self.inside.slots in
+    let k = c.in-Some.k in
+    let s = c.in-Some.ensures.some in
+    let lt : k < length ss = omega (arith, s.0, c.in-Some.ensures.many) in
+    rw (← c.self.view_is)
+    (λ h up. let a = c.self.invariant.agrees h up in
+    let is_open = slot_open _ _ ss a k lt s.1 in
+    record {
+      images = λ f left. log_either _ _ ss a k lt None _ f c.in-Some.ensures.rest (c.clear.ensures.images h a.durable is_open f left);
+      durable = all_freed _ _ ss a k lt _ _ _ c.in-Some.ensures.rest (c.in_ok-clear.ensures.done h a.durable is_open) (c.in_ok-clear.ensures.durable h);
+    })

@@ -1,14 +1,14 @@
 use Rattle.coordinator_log.proofs.Agreement.{log_is, log_agrees}
 use Rattle.coordinator_log.proofs.log.Log.lookup.Goals as goal
 
-pub returns-in-Some-clause-on_disk : goal.returns-in-Some-clause-on_disk
-returns-in-Some-clause-on_disk g c h up = let a = c.args.self.now.agrees h up in log_is _ _ a.at_head a.on_disk
+pub returns-in_err-k-clause-on_disk : goal.returns-in_err-k-clause-on_disk
+returns-in_err-k-clause-on_disk g c = rw (← c.self.view_is) (λ h up. let a = c.self.invariant.agrees h up in log_is _ _ a.at_head a.on_disk)
 
-pub returns-in-Some-clause-images : goal.returns-in-Some-clause-images
-returns-in-Some-clause-images g c h up = log_agrees _ _ _ (c.args.self.now.agrees h up)
+pub returns-in_err-k-clause-images : goal.returns-in_err-k-clause-images
+returns-in_err-k-clause-images g c = rw (← c.self.view_is) (λ h up. log_agrees _ _ _ (c.self.invariant.agrees h up))
 
-pub returns-in-None-clause-on_disk : goal.returns-in-None-clause-on_disk
-returns-in-None-clause-on_disk g c h up = let a = c.args.self.now.agrees h up in log_is _ _ a.at_head a.on_disk
+pub returns-clause-on_disk : goal.returns-clause-on_disk
+returns-clause-on_disk g c = rw (← c.self.view_is) (λ h up. let a = c.self.invariant.agrees h up in log_is _ _ a.at_head a.on_disk)
 
-pub returns-in-None-clause-images : goal.returns-in-None-clause-images
-returns-in-None-clause-images g c h up = log_agrees _ _ _ (c.args.self.now.agrees h up)
+pub returns-clause-images : goal.returns-clause-images
+returns-clause-images g c = rw (← c.self.view_is) (λ h up. log_agrees _ _ _ (c.self.invariant.agrees h up))

@@ -7,7 +7,7 @@ use Rattle.dtx_model.specs.Observed.{observe}
 use Rattle.dtx_model.specs.Replay.{history}
 use Rattle.dtx_model.specs.Steps.{call_of}
 use Rattle.dtx_model.specs.Words.{past_of}
-use Rattle.script_runner.specs.Running.{Running}
+use Rattle.script_runner.specs.RunState.{RunState}
 use Rattle.script_runner.specs.Scoped.{AreOpen}
 use Rattle.script_runner.proofs.Openings.{always-here, lines_more, past_next, unopened}
 use Rattle.script_runner.proofs.Ready.{line_ready}
@@ -16,7 +16,7 @@ use Rattle.script_runner.proofs.replay.Run.lines.Goals as goal
 
 pub overflow_add-n : goal.overflow_add-n
 overflow_add-n c =
-    let same = ap length c.lines-lines.ensures ∙ ap (λ (r : Running). length r.script) c.self.view_is in
+    let same = ap length c.lines-lines.ensures ∙ ap (λ (r : RunState). length r.script) c.self.view_is in
     let most = few c.args.self.now.script c.requires.script in
     omega (arith, same, most, c.loop-l.invariant.0, c.loop-l-test.true)
 
@@ -30,7 +30,7 @@ line-requires-clause-ready c =
     let l = c.l-item.result in
     let xs = take i lines in
     let ys = drop (i + 1) lines in
-    let same : lines ≡ s = c.lines-lines.ensures ∙ ap (λ (r : Running). r.script) c.self.view_is in
+    let same : lines ≡ s = c.lines-lines.ensures ∙ ap (λ (r : RunState). r.script) c.self.view_is in
     let here : drop i lines ≡ l ∷ ys = drop_more lines i l c.loop-l-test.true ∙ ap (λ (x : Line). x ∷ ys) (sym c.l-item.is) in
     let split : s ≡ xs ++ l ∷ ys = sym same ∙ split_at lines i l ys here in
     let run : is_run_line (past_of xs) l ≡ true = always-here is_run_line s xs ys l split c.requires.run in
@@ -45,7 +45,7 @@ line-requires-clause-unopened c =
     let lines = c.lines-lines.result.now in
     let i = c.loop-l.l-index in
     let l = c.l-item.result in
-    let same : lines ≡ s = c.lines-lines.ensures ∙ ap (λ (r : Running). r.script) c.self.view_is in
+    let same : lines ≡ s = c.lines-lines.ensures ∙ ap (λ (r : RunState). r.script) c.self.view_is in
     let here : drop i lines ≡ l ∷ drop (i + 1) lines = drop_more lines i l c.loop-l-test.true ∙ ap (λ (x : Line). x ∷ drop (i + 1) lines) (sym c.l-item.is) in
     let split : s ≡ take i lines ++ l ∷ drop (i + 1) lines = sym same ∙ split_at lines i l (drop (i + 1) lines) here in
     unopened s (take i lines) (drop (i + 1) lines) l c.loop-l.self.contexts split c.requires.script.named c.loop-l.invariant.2

@@ -3,7 +3,7 @@ use Rattle.dtx_values.specs.declared.number.TxNo.{TxNo}
 use Rattle.dtx_model.specs.Replay.{after_calls}
 use Rattle.dtx_model.specs.Words.{past_of}
 use Rattle.scope_context.specs.Standing.{Standing}
-use Rattle.script_runner.specs.Running.{Running}
+use Rattle.script_runner.specs.RunState.{RunState}
 use Rattle.script_runner.specs.Scoped.{rollbacks, rolled_at, rolled_in}
 use Rattle.script_runner.proofs.Openings.{context_here, rolled_more}
 use Rattle.script_runner.proofs.replay.Run.roll_back.Goals as goal
@@ -15,12 +15,12 @@ loop-i-preserved c =
     let t = c.index-rolled-i.result in
     let first : c.rolled-i-end.result.now ≡ ts =
     c.rolled-i-end.ensures
-    ∙ ap rolled_in (sym (context_here c.self.inside.contexts.items c.args.actor c.get.result c.index.result.now c.self.invariant.1 c.get.ensures.value c.index.ensures))
-    ∙ ap (λ (r : Running). rolled_at c.args.actor r.contexts) c.self.view_is in
+    ∙ ap rolled_in (sym (context_here c.self.inside.contexts.items c.args.actor c.index-place.result c.index.result.now c.self.invariant.1 c.index-place.ensures.place c.index.ensures))
+    ∙ ap (λ (r : RunState). rolled_at c.args.actor r.contexts) c.self.view_is in
     let now : c.rolled.result.now ≡ ts =
     c.rolled.ensures
-    ∙ ap rolled_in (sym (context_here c.self-in-loop-i.inside.contexts.items c.args.actor c.get.result c.index-in-loop-i.result.now c.self-in-loop-i.invariant.1 c.get.ensures.value c.index-in-loop-i.ensures))
-    ∙ ap (λ (r : Running). rolled_at c.args.actor r.contexts) c.self-in-loop-i.view_is
+    ∙ ap rolled_in (sym (context_here c.self-in-loop-i.inside.contexts.items c.args.actor c.index-place.result c.index-in-loop-i.result.now c.self-in-loop-i.invariant.1 c.index-place.ensures.place c.index-in-loop-i.ensures))
+    ∙ ap (λ (r : RunState). rolled_at c.args.actor r.contexts) c.self-in-loop-i.view_is
     ∙ ap (λ (cs : List Standing). rolled_at c.args.actor cs) c.loop-i.invariant.1 in
     let less : i < length ts = subst (λ (us : List TxNo). i < length us) first c.loop-i-test.true in
     let here : t ≡ get_or ts i t = subst (λ (us : List TxNo). t ≡ get_or us i t) now c.index-rolled-i.is in (
@@ -34,7 +34,7 @@ returns-clause-done c =
     let ts = rolled_at c.args.actor c.args.self.now.contexts in
     let first : c.rolled-i-end.result.now ≡ ts =
     c.rolled-i-end.ensures
-    ∙ ap rolled_in (sym (context_here c.self.inside.contexts.items c.args.actor c.get.result c.index.result.now c.self.invariant.1 c.get.ensures.value c.index.ensures))
-    ∙ ap (λ (r : Running). rolled_at c.args.actor r.contexts) c.self.view_is in
+    ∙ ap rolled_in (sym (context_here c.self.inside.contexts.items c.args.actor c.index-place.result c.index.result.now c.self.invariant.1 c.index-place.ensures.place c.index.ensures))
+    ∙ ap (λ (r : RunState). rolled_at c.args.actor r.contexts) c.self.view_is in
     let all : length ts ≤ c.loop-i.i = subst (λ (us : List TxNo). length us ≤ c.loop-i.i) first c.loop-i-test.false in
     c.loop-i.invariant.2 ∙ ap (λ (us : List TxNo). after_calls c.args.n c.args.actor (rollbacks us) (past_of c.args.self.now.trace)) (take_all c.loop-i.i ts all)

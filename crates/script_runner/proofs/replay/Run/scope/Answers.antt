@@ -9,5 +9,5 @@ use Rattle.script_runner.proofs.replay.Run.scope.Goals as goal
 
 pub call-requires : goal.call-requires
 call-requires c =
-    given_ready (observe (history c.in-Call.t.value (past_of c.note.new.self.trace))) c.args.l.now.body (scopes_at c.args.l.now.actor c.args.self.now.contexts) c.in-Call.t c.in-Call.c
-    (ap (λ (g : Gives). calls_given g (rolled_at c.args.l.now.actor c.note.new.self.contexts)) (sym c.in-Call.is) ∙ c.in_ok-note.ensures.calls)
+    given_ready (observe (history c.in-Call.t.value (past_of c.at_context.new.self.trace))) c.args.l.now.body (scopes_at c.args.l.now.actor c.args.self.now.contexts) c.in-Call.t c.in-Call.c
+    (ap (λ (g : Gives). calls_given g (rolled_at c.args.l.now.actor c.at_context.new.self.contexts)) (sym c.in-Call.is) ∙ c.in_ok-at_context.ensures.calls)

@@ -4,7 +4,7 @@ use Rattle.dtx_model.specs.Observed.{observe}
 use Rattle.dtx_model.specs.Replay.{HasSettled, history}
 use Rattle.dtx_model.specs.Steps.{pending}
 use Rattle.dtx_model.specs.Words.{kth, past_of}
-use Rattle.script_runner.specs.Running.{Advances, Running}
+use Rattle.script_runner.specs.RunState.{Advances, RunState}
 use Rattle.script_runner.proofs.Rounds.{advanced-smaller, none-first, steps-more}
 use Rattle.script_runner.proofs.replay.Run.settle.Goals as goal
 
@@ -13,7 +13,7 @@ returns-then-not-branch-clause-settled c =
     let done : c.step.result ≡ Ok false = cc in
     let none : kth (pending c.args.self.now.script (observe (history c.args.t.value (past_of c.loop.self.trace)))) 1 ≡ None =
     subst (λ (s : List Line). kth (pending s (observe (history c.args.t.value (past_of c.loop.self.trace)))) 1 ≡ None) c.loop.invariant.0 (c.step.ensures.none done) in
-    subst (λ (r : Running). (m : ℕ) × HasSettled c.args.self.now.script c.args.t m (past_of c.args.self.now.trace) (past_of r.trace)) (sym (c.step.ensures.unchanged done))
+    subst (λ (r : RunState). (m : ℕ) × HasSettled c.args.self.now.script c.args.t m (past_of c.args.self.now.trace) (past_of r.trace)) (sym (c.step.ensures.unchanged done))
     (c.loop.invariant.2, record { ran = c.loop.invariant.3; settled = none-first _ none })
 
 pub loop-smaller : goal.loop-smaller

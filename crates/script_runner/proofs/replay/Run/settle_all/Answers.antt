@@ -3,7 +3,7 @@ use Rattle.std.specs.Prelude.{IfSome}
 use Rattle.dtx_values.specs.declared.number.TxNo.{TxNo}
 use Rattle.dtx_values.specs.declared.script.Line.{Line}
 use Rattle.dtx_model.specs.Words.{past_of}
-use Rattle.script_runner.specs.Running.{IsSettledBelow, Settles}
+use Rattle.script_runner.specs.RunState.{IsSettledBelow, Settles}
 use Rattle.script_runner.proofs.Rounds.{settles-next}
 use Rattle.script_runner.proofs.replay.Run.settle_all.Goals as goal
 

@@ -1,7 +1,7 @@
 use Rattle.std.proofs.Common.{◌≡◌, List}
 use Rattle.dtx_model.specs.Replay.{Placed}
 use Rattle.dtx_model.specs.Words.{past_of}
-use Rattle.script_runner.specs.Running.{IsSettledBelow}
+use Rattle.script_runner.specs.RunState.{IsSettledBelow}
 use Rattle.script_runner.proofs.replay.Run.settle_all.Given as goal
 
 abbrev pub invariant-loop-n : goal.invariant-loop-n

@@ -1,5 +1,5 @@
 use Rattle.std.proofs.Common.{◌≡◌}
-use Rattle.script_runner.specs.Running.{StepsDone}
+use Rattle.script_runner.specs.RunState.{StepsDone}
 use Rattle.script_runner.proofs.replay.Run.steps.Given as goal
 
 abbrev pub invariant-loop-m : goal.invariant-loop-m

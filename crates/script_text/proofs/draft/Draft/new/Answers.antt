@@ -1,4 +1,8 @@
 use Rattle.std.proofs.Common.{rules}
+use Rattle.dtx_values.specs.declared.number.TheConstants.TxNo.{MAX as TRANSACTIONS}
+use Rattle.dtx_values.specs.declared.number.TheConstants.EnlNo.{MAX as ENLISTMENTS}
+use Rattle.dtx_values.specs.declared.number.TheConstants.CloneNo.{MAX as CLONES}
+use Rattle.dtx_values.specs.declared.number.TheConstants.ScopeNo.{MAX as SCOPES}
 use Rattle.script_text.proofs.Tables.{new_table, new_tables}
 use Rattle.script_text.proofs.draft.Draft.new.Goals as goal
 
@@ -9,8 +13,8 @@ invariant_of-result c =
     let cs = c.in_ok-vec-3.field-0.items in
     let ss = c.in_ok-vec-4.field-0.items in
     new_tables _ ts es cs ss _ c.new.ensures.items
-    (new_table 257 ts (search rules) (c.in_ok-vec.ensures.items_if_clones_equal (λ y e. search rules)))
-    (new_table 10000 es (search rules) (c.in_ok-vec-2.ensures.items_if_clones_equal (λ y e. search rules)))
-    (new_table 10000 cs (search rules) (c.in_ok-vec-3.ensures.items_if_clones_equal (λ y e. search rules)))
-    (new_table 10000 ss (search rules) (c.in_ok-vec-4.ensures.items_if_clones_equal (λ y e. search rules)))
+    (new_table TRANSACTIONS ts (search rules) (c.in_ok-vec.ensures.items_if_clones_equal (λ y e. search rules)))
+    (new_table ENLISTMENTS es (search rules) (c.in_ok-vec-2.ensures.items_if_clones_equal (λ y e. search rules)))
+    (new_table CLONES cs (search rules) (c.in_ok-vec-3.ensures.items_if_clones_equal (λ y e. search rules)))
+    (new_table SCOPES ss (search rules) (c.in_ok-vec-4.ensures.items_if_clones_equal (λ y e. search rules)))
     (search rules)

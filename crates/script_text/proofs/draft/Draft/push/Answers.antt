@@ -13,5 +13,5 @@ invariant_of-self-in-Durable c =
     let pushed : c.push.new.self.items ≡ i.lines.items ++ c.args.line ∷ [] = search rules in
     let grown : past_of c.push.new.self.items ≡ c.args.line ∷ past_of i.lines.items = ap past_of pushed ∙ past_of-snoc i.lines.items c.args.line in
     let fine : name_fault (past_of i.lines.items) c.args.line ≡ None = search rules in
-    let made = lasting_more (past_of i.lines.items) c.args.line t e i.transactions.items i.enlistments.items i.clones.items i.scopes.items i.owners.items i.par c.in-Durable.is fine c.self.invariant in
-    rw (grown, c.get-in-Durable.ensures.value, c.get-in-Durable-2.ensures.value) made
+    let made = lasting_more (past_of i.lines.items) c.args.line t e c.index-place.result i.transactions.items i.enlistments.items i.clones.items i.scopes.items i.owners.items i.par c.in-Durable.is c.index-place.ensures.place fine c.self.invariant in
+    rw grown made

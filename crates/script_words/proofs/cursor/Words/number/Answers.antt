@@ -1,7 +1,7 @@
 use Rattle.std.proofs.Common.{rules, arith, decimal}
 use Rattle.dtx_model.specs.Faults.{number}
-use Rattle.script_words.proofs.Places.{taken, not_allowed}
-use Rattle.script_words.proofs.Slots.{number_allowed}
+use Rattle.script_words.proofs.Places.{taken, misplaced}
+use Rattle.script_words.proofs.Patterns.{number_allowed}
 use Rattle.script_words.proofs.cursor.Words.number.Goals as goal
 
 pub returns-in-Some-number_from-clause-ok : goal.returns-in-Some-number_from-clause-ok
@@ -13,4 +13,4 @@ returns-in-Some-number_from-clause-ok c = (
 
 pub returns-in-None-clause-err : goal.returns-in-None-clause-err
 returns-in-None-clause-err c =
-    not_allowed (number c.args.low c.args.high) c.args.self.now c.in-Some.word.now c.next.new.self _ (search rules) c.in-None.ensures.none c.cause.ensures
+    misplaced (number c.args.low c.args.high) c.args.self.now c.in-Some.word.now c.next.new.self _ (search rules) c.in-None.ensures.none c.cause.ensures

@@ -1,14 +1,14 @@
 use Rattle.std.proofs.Common.{rules}
 use Rattle.dtx_model.specs.Grammar.{transaction_name}
-use Rattle.dtx_model.specs.Faults.{transaction_slot}
-use Rattle.script_words.proofs.Places.{taken, not_allowed}
-use Rattle.script_words.proofs.Slots.{transaction_allowed}
+use Rattle.dtx_model.specs.Faults.{transaction_pattern}
+use Rattle.script_words.proofs.Places.{taken, misplaced}
+use Rattle.script_words.proofs.Patterns.{transaction_allowed}
 use Rattle.script_words.proofs.cursor.Words.transaction.Goals as goal
 
 pub returns-in-Some-transaction-clause-ok : goal.returns-in-Some-transaction-clause-ok
 returns-in-Some-transaction-clause-ok c =
-    taken transaction_slot c.args.self.now c.in-Some.word.now (transaction_name c.in-Some-transaction.t.value) c.next.new.self (search rules) c.in-Some-transaction.ensures.some (transaction_allowed c.in-Some-transaction.t)
+    taken transaction_pattern c.args.self.now c.in-Some.word.now (transaction_name c.in-Some-transaction.t.value) c.next.new.self (search rules) c.in-Some-transaction.ensures.some (transaction_allowed c.in-Some-transaction.t)
 
 pub returns-in-None-clause-err : goal.returns-in-None-clause-err
 returns-in-None-clause-err c =
-    not_allowed transaction_slot c.args.self.now c.in-Some.word.now c.next.new.self _ (search rules) c.in-None.ensures.none c.cause.ensures
+    misplaced transaction_pattern c.args.self.now c.in-Some.word.now c.next.new.self _ (search rules) c.in-None.ensures.none c.cause.ensures

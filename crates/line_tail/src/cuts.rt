@@ -1,0 +1,17 @@
+//! Lines and words cut off at a separator.
+ghost use Rattle.std.specs.Prelude.{◌≡◌, ◌∷◌, ◌++◌, IfSome, IfNone};
+ghost use Rattle.line_tail.specs.Cut.{IsWithout};
+
+/// What comes before the first separator, and what comes after it; `None` where there is none.
+#[inline]
+pub fn cut(bytes: &[u8], separator: u8) -> Option<(&[u8], &[u8])>
+    ensures some { IfSome result (λ parts. (bytes.now ≡ parts.0.now ++ separator ∷ parts.1.now) × IsWithout separator parts.0.now) }
+    ensures none { IfNone result (IsWithout separator bytes.now) }
+{
+    for (i, b) in bytes.iter().enumerate() {
+        if *b == separator {
+            return Some((&bytes[..i], &bytes[i + 1..]));
+        }
+    }
+    None
+}
