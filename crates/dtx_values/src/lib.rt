@@ -10,6 +10,7 @@ mod limits;
 mod message;
 mod note;
 mod number;
+mod order;
 mod outbox;
 mod pair;
 mod record;
@@ -30,6 +31,7 @@ pub use limits::{CLONES, DURABLES, ENLISTMENTS, LINE_BYTES, ROOM, SCOPES, SCRIPT
 pub use message::{Conn, Dir, Info, Message};
 pub use note::{Note, Plan, Reply};
 pub use number::{ActorNo, CloneNo, EnlNo, RmNo, ScopeNo, TxNo};
+pub use order::{Numbered, insert_in_order};
 pub use outbox::Outbox;
 pub use pair::{read_pair, write_pair};
 pub use record::{Differs, LogRecord};

@@ -4,6 +4,7 @@ ghost use Rattle.dtx_values.specs.Clones.{is_open_block, is_open_rollback};
 ghost use Rattle.dtx_values.specs.Row.{has_voted, is_lasting, is_marked};
 
 use crate::number::{CloneNo, EnlNo};
+use crate::order::Numbered;
 use crate::words::{Class, CloneKind, Vote};
 
 /// What a table of enlistments has of one of them. The order in which enlistments were asked decides the waves of phase zero.
@@ -40,6 +41,16 @@ impl Row {
         ensures { result ≡ has_voted self.now }
     {
         self.vote.is_some()
+    }
+}
+
+impl Numbered for Row {
+    ghost use Rattle.dtx_values.specs.Row.{number_of};
+
+    ghost key = { number_of };
+
+    fn number(&self) -> u32 {
+        self.number.get()
     }
 }
 
