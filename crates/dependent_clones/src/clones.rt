@@ -30,20 +30,6 @@ impl Model for Clones {
     ghost invariant = { λ c. (CLONES ≤ vec_capacity c.rows) × (length c.rows.items ≤ CLONES) × (distinct c.rows.items ≡ true) };
 }
 
-/// Whether it blocks, and isn't complete.
-fn is_open_block(r: &CloneRow) -> bool
-    ensures { result ≡ is_open_block r.now }
-{
-    r.kind == CloneKind::Block && !r.complete
-}
-
-/// Whether it makes a commit a veto, and isn't complete.
-fn is_open_rollback(r: &CloneRow) -> bool
-    ensures { result ≡ is_open_rollback r.now }
-{
-    r.kind == CloneKind::Rollback && !r.complete
-}
-
 /// Completes the row, where it is this clone's.
 fn complete_in(r: &mut CloneRow, c: CloneNo)
     ensures { r.new ≡ complete_in c.value r.old }
@@ -171,13 +157,13 @@ impl Clones {
     pub fn blocking_left(&self) -> u8
         ensures { result ≡ how_many is_open_block self.now }
     {
-        self.rows.iter().filter(|r| is_open_block(r)).count() as u8
+        self.rows.iter().filter(|r| r.is_open_block()).count() as u8
     }
 
     /// How many rollback clones aren't complete.
     pub fn rollback_left(&self) -> u8
         ensures { result ≡ how_many is_open_rollback self.now }
     {
-        self.rows.iter().filter(|r| is_open_rollback(r)).count() as u8
+        self.rows.iter().filter(|r| r.is_open_rollback()).count() as u8
     }
 }

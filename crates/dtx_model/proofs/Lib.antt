@@ -4,7 +4,6 @@ pub mod Reading
 pub mod Prefixes
 pub mod Faults
 pub mod Scopes
-pub mod Halves
 pub mod Digits
 pub mod Pasts
 pub mod SameNumbers

@@ -10,7 +10,8 @@ use Rattle.dtx_values.specs.declared.words.Class.{Class}
 use Rattle.dtx_values.specs.declared.words.CloneKind.{CloneKind}
 use Rattle.dtx_values.specs.declared.words.Outcome.TheVariants.{Committed}
 use Rattle.dtx_model.specs.Words.{has, each, onto, past_of, put, all_of}
-use Rattle.dtx_model.specs.Entries.{is_promoted, is_hand, is_owner, is_volatile, enlisted_of, clone_of, handed_of}
+use Rattle.dtx_values.specs.Class.{is_volatile}
+use Rattle.dtx_model.specs.Entries.{is_promoted, is_hand, is_owner, enlisted_of, clone_of, handed_of}
 use Rattle.dtx_model.specs.Outcome.{volatiles, durables, voters, can_own, owner_committed}
 
 or_none : (a : Bool) → (a || false) ≡ a

@@ -29,7 +29,8 @@ use Rattle.dtx_values.specs.declared.words.ScopeOption.TheVariants.{Required, Re
 use Rattle.dtx_values.specs.declared.words.Timeout.{Timeout}
 use Rattle.dtx_values.specs.declared.words.Timeout.TheVariants.{Default as DefaultTimeout}
 use Rattle.dtx_model.specs.Words.{onto, past_of, put}
-use Rattle.dtx_model.specs.Scopes.{ScopeEntry, Opens, Finishes, Closes, open_scopes, transaction_in, entering, enter_answer, finish_answer, current_answer, close_answer, closing, taken_off, rolled_back}
+use Rattle.dtx_values.specs.Entered.{transaction_in}
+use Rattle.dtx_model.specs.Scopes.{ScopeEntry, Opens, Finishes, Closes, open_scopes, entering, enter_answer, finish_answer, current_answer, close_answer, closing, taken_off, rolled_back}
 use Rattle.dtx_model.specs.Steps.{call_of, is_fine}
 
 -- the option, the name for a transaction, its timeout, and the isolation that an `open` writes; `default` asks for Serializable

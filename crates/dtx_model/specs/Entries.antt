@@ -16,6 +16,7 @@ use Rattle.dtx_values.specs.declared.words.Outcome.{Outcome}
 use Rattle.dtx_values.specs.declared.words.Outcome.TheVariants.{Committed, Aborted, InDoubt}
 use Rattle.dtx_values.specs.declared.words.Vote.{Vote}
 use Rattle.dtx_values.specs.declared.words.Vote.TheVariants.{No}
+use Rattle.dtx_values.specs.Vote.{is_good}
 
 -- the timeout in milliseconds, where the transaction was begun
 abbrev pub began_of : Entry → Option ℕ
@@ -84,11 +85,6 @@ abbrev pub is_lost : ℕ → Entry → Bool
 is_lost e (Lost f) = e == f.value
 is_lost e _ = false
 
-abbrev pub is_volatile : Class → Bool
-is_volatile Zero = true
-is_volatile One = true
-is_volatile _ = false
-
 -- the enlistment, with its class
 abbrev pub enlisted_of : Entry → Option (EnlNo × Class)
 enlisted_of (Enlisted e c) = Some (e, c)
@@ -111,11 +107,6 @@ is_asked e _ = false
 abbrev pub is_vote : ℕ → Entry → Bool
 is_vote e (Voted f v) = e == f.value
 is_vote e _ = false
-
--- yes or done
-abbrev pub is_good : Vote → Bool
-is_good No = false
-is_good _ = true
 
 -- this enlistment voted yes or done
 abbrev pub is_good_vote : ℕ → Entry → Bool

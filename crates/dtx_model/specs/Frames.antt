@@ -1,27 +1,23 @@
 -- FrameOf: the bytes of each message. A frame is the type of its connection, its tag, the length of its body in two bytes with the lowest first, and its body.
 use Rattle.std.specs.Prelude.{ℕ, ◌≡◌, ◌+◌, ◌==◌, nat_le, Bool, true, not, List, [], ◌∷◌, ◌++◌, length, take, drop, Option, Some, None, if◌then◌else◌}
-use Rattle.std.specs.Int.{w16, w128, to_be_bytes, to_le_bytes, from_le_bytes}
+use Rattle.std.specs.Int.{w16, to_le_bytes, from_le_bytes}
 use Rattle.dtx_values.specs.declared.message.Message.{Message}
 use Rattle.dtx_values.specs.declared.message.Message.TheVariants.{BeginBegin, BeginCommit, BeginAbort, BeginBegun, BeginCommitted, BeginAborted, VoterVoter, VoterYes, VoterNo, VoterCreated, VoterRefused, VoterAsk, VoterCommit, VoterAbort, EnlistEnlist, EnlistPrepared, EnlistNo, EnlistReadonly, EnlistAck, EnlistEnlisted, EnlistRefused, EnlistPrepare, EnlistCommit, EnlistAbort, ReenlistReenlist, ReenlistAck, ReenlistCommitted, ReenlistAborted}
-use Rattle.dtx_model.specs.RecoveryInfo.{bad_field, bad_identifier, info_bytes, is_from_one, is_id}
+use Rattle.dtx_values.specs.RecoveryInfo.{bad_field, bad_identifier, id_bytes, info_bytes, is_from_one, is_id}
 
 -- the frame of this type and tag with this body
 abbrev pub frame : ℕ → ℕ → List ℕ → List ℕ
 frame type tag body = type ∷ tag ∷ to_le_bytes w16 (length body) ++ body
-
--- an identifier as a body: 16 bytes, the highest first
-abbrev pub id_body : ℕ → List ℕ
-id_body u = to_be_bytes w128 u
 
 -- FrameOf: types are 1 (begin), 2 (voter), 3 (enlistment) and 4 (reenlistment)
 unfoldable pub frame_of : Message → List ℕ
 frame_of BeginBegin = frame 1 1 []
 frame_of BeginCommit = frame 1 2 []
 frame_of BeginAbort = frame 1 3 []
-frame_of (BeginBegun u) = frame 1 4 (id_body u)
+frame_of (BeginBegun u) = frame 1 4 (id_bytes u)
 frame_of BeginCommitted = frame 1 5 []
 frame_of BeginAborted = frame 1 6 []
-frame_of (VoterVoter u) = frame 2 1 (id_body u)
+frame_of (VoterVoter u) = frame 2 1 (id_bytes u)
 frame_of VoterYes = frame 2 2 []
 frame_of VoterNo = frame 2 3 []
 frame_of VoterCreated = frame 2 4 []

@@ -9,10 +9,11 @@ use Rattle.dtx_values.specs.declared.words.Class.{Class}
 use Rattle.dtx_values.specs.declared.words.Outcome.{Outcome}
 use Rattle.dtx_values.specs.declared.words.Outcome.TheVariants.{Committed}
 use Rattle.dtx_model.specs.Words.{has, each, ever, all_of, past_of}
-use Rattle.dtx_model.specs.Entries.{is_commit, is_client_told, is_volatile, clone_of}
+use Rattle.dtx_model.specs.Entries.{is_commit, is_client_told, clone_of}
 use Rattle.dtx_model.specs.Outcome.{enlisted, is_complete, is_veto, justified, agree}
-use Rattle.dtx_model.specs.Owners.{is_promotable}
-use Rattle.dtx_model.specs.Steps.{planned_owner, planned_promotion, planned_vote, voted_well}
+use Rattle.dtx_values.specs.Vote.{voted_well}
+use Rattle.dtx_values.specs.Class.{is_promotable, is_volatile}
+use Rattle.dtx_model.specs.Steps.{planned_owner, planned_promotion, planned_vote}
 use Rattle.dtx_model.specs.Caused.{Caused, Settled}
 use Rattle.dtx_model.specs.Contexts.{context}
 use Rattle.dtx_model.specs.Promotes.{promotes}

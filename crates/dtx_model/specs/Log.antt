@@ -2,19 +2,14 @@
 -- A log is a head of 512 bytes and 1,024 slots of 512 bytes each. Byte 0 of a slot is its gate, and 1 is open. Behind an open gate stand the format, 1; the number of
 -- enlistments in two bytes, the lowest first; the identifier in 16 bytes, the highest first; 20 bytes for each enlistment; and zeros.
 use Rattle.std.specs.Prelude.{ℕ, zero, suc, ◌+◌, ◌*◌, ◌==◌, nat_le, Bool, not, List, [], ◌∷◌, map, take, drop, replicate, slice_index, Option, Some, None, Result, Ok, Err, if◌then◌else◌}
-use Rattle.std.specs.Int.{w16, w32, w64, w128, from_be_bytes, from_le_bytes}
-use Rattle.dtx_values.specs.declared.number.EnlNo.{EnlNo}
-use Rattle.dtx_values.specs.declared.number.RmNo.{RmNo}
+use Rattle.std.specs.Int.{w16, from_le_bytes}
 use Rattle.dtx_values.specs.declared.record.LogRecord.{LogRecord}
-use Rattle.dtx_model.specs.RecoveryInfo.{is_from_one}
+use Rattle.dtx_values.specs.RecoveryInfo.{identifier_in, pair_in, pair_of}
 
 -- a record: the transaction's identifier, and the manager and the number of each enlistment that is to hear the commit
 pub record CommitRecord : Type 0 where
   pub id : ℕ
   pub enlistments : List (ℕ × ℕ)
-
-abbrev pub pair_of : RmNo × EnlNo → ℕ × ℕ
-pair_of p = (p.0.value, p.1.value)
 
 -- a record as the program holds it
 abbrev pub record_of : LogRecord → CommitRecord
@@ -26,25 +21,20 @@ abbrev pub ◌>>=◌ : {A B : Type 0} → Result A ℕ → (A → Result B ℕ) 
 (Ok x) >>= f = f x
 (Err p) >>= f = Err p
 
--- the number in 16 bytes at this place, the highest first; in 8 bytes, the highest first; in 4 bytes, the lowest first; and in 2 bytes, the lowest first
-unfoldable pub whole_at : ℕ → List ℕ → ℕ
-whole_at at b = from_be_bytes w128 (take 16 (drop at b))
-
-unfoldable pub half_at : ℕ → List ℕ → ℕ
-half_at at b = from_be_bytes w64 (take 8 (drop at b))
-
-unfoldable pub number_at : ℕ → List ℕ → ℕ
-number_at at b = from_le_bytes w32 (take 4 (drop at b))
-
+-- the number in 2 bytes at this place, the lowest first
 unfoldable pub count_at : ℕ → List ℕ → ℕ
 count_at at b = from_le_bytes w16 (take 2 (drop at b))
 
 -- The readers get the bytes from where they read on, and the place in the slot where these begin. They give what is read, or the first place of another form.
 
+-- what is read of bytes that begin at this place of the slot: a bad place among them is one of the slot
+abbrev pub from_place : {A : Type 0} → ℕ → Result A ℕ → Result A ℕ
+from_place place (Ok x) = Ok x
+from_place place (Err p) = Err (place + p)
+
 -- an enlistment: its manager in 16 bytes, from 1 to 16, and its number in 4, from 1 to 9,999
 unfoldable pub pair_at : ℕ → List ℕ → Result (ℕ × ℕ) ℕ
-pair_at place b =
-    if not (is_from_one 16 (whole_at 0 b)) then Err place else if not (is_from_one 9999 (number_at 16 b)) then Err (place + 16) else Ok (whole_at 0 b, number_at 16 b)
+pair_at place b = from_place place (pair_in b)
 
 -- so many enlistments, and the bytes behind them
 unfoldable pub pairs_at : ℕ → ℕ → List ℕ → Result (List (ℕ × ℕ) × List ℕ) ℕ
@@ -60,8 +50,8 @@ zeros_at place (x ∷ xs) = if x == 0 then zeros_at (place + 1) xs else Err plac
 -- the slot is place p - 1 here.
 unfoldable pub record_at : List ℕ → Result CommitRecord ℕ
 record_at b =
-    if not (slice_index b 0 == 1) then Err 1 else if not (nat_le (count_at 1 b) 16) then Err 2 else if half_at 3 b == 0 then Err 4 else if half_at 11 b == 0 then Err 12 else
-    (pairs_at (count_at 1 b) 20 (drop 19 b) >>= λ ps. zeros_at (20 + 20 * count_at 1 b) ps.1 >>= λ _. Ok (record { id = whole_at 3 b; enlistments = ps.0 }))
+    if not (slice_index b 0 == 1) then Err 1 else if not (nat_le (count_at 1 b) 16) then Err 2 else
+    (from_place 4 (identifier_in (drop 3 b)) >>= λ id. pairs_at (count_at 1 b) 20 (drop 19 b) >>= λ ps. zeros_at (20 + 20 * count_at 1 b) ps.1 >>= λ _. Ok (record { id = id; enlistments = ps.0 }))
 
 -- a slot: its record, or none where the gate is closed; or the first place in it of another form. What stands behind a closed gate isn't looked at.
 abbrev pub Slot : Type 0

@@ -7,21 +7,22 @@ use Rattle.dtx_values.specs.declared.entry.Party.TheVariants.{Enl}
 use Rattle.dtx_values.specs.declared.number.EnlNo.{EnlNo}
 use Rattle.dtx_values.specs.declared.row.CloneRow.{CloneRow}
 use Rattle.dtx_values.specs.declared.words.Outcome.{Outcome}
-use Rattle.dtx_values.specs.Table.{Enlistment, insert_by, with_mark, with_row, with_vote}
+use Rattle.dtx_values.specs.declared.row.Row.{Row}
+use Rattle.dtx_values.specs.Table.{insert_by, with_mark, with_row, with_vote}
 use Rattle.dtx_values.specs.Clones.{with_clone, with_complete}
 use Rattle.dtx_model.specs.declared.listener.Listener.{Listener}
 use Rattle.dtx_model.specs.Words.{has, latest, or_else}
 use Rattle.dtx_model.specs.Entries.{began_of, is_commit, is_sealed, decision_of, client_told_of, handed_of}
 
 -- what the entry changes in the table: an enlistment adds its row, an ask to prepare marks one, and a vote stands in one
-abbrev pub rows_after : Entry → List Enlistment → List Enlistment
+abbrev pub rows_after : Entry → List Row → List Row
 rows_after (Enlisted e c) xs = with_row e c xs
 rows_after (Asked e Prepare) xs = with_mark e.value xs
 rows_after (Voted e v) xs = with_vote e.value v xs
 rows_after _ xs = xs
 
 -- the table of the enlistments, in order of number
-abbrev pub rows : List Entry → List Enlistment
+abbrev pub rows : List Entry → List Row
 rows [] = []
 rows (x ∷ past) = rows_after x (rows past)
 
@@ -74,7 +75,7 @@ pub record Observed : Type 0 where
   pub clock : ℕ
   pub commit : Bool
   pub sealed : Bool
-  pub table : List Enlistment
+  pub table : List Row
   pub clones : List CloneRow
   pub listeners : List Listener
   -- to whom the commit was handed

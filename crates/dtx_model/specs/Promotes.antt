@@ -13,13 +13,13 @@ use Rattle.dtx_values.specs.declared.script.Line.{Line}
 use Rattle.dtx_values.specs.declared.words.Cause.{Cause}
 use Rattle.dtx_values.specs.declared.words.Cause.TheVariants.{Two, Second, Beside, Marshal as MarshalCause}
 use Rattle.dtx_values.specs.declared.words.Outcome.TheVariants.{Aborted}
-use Rattle.dtx_values.specs.Table.{Enlistment}
+use Rattle.dtx_values.specs.declared.row.Row.{Row}
 use Rattle.dtx_model.specs.Words.{has, each, always, kth}
 use Rattle.dtx_model.specs.Entries.{is_promoted}
 use Rattle.dtx_model.specs.Outcome.{durables, is_veto}
 use Rattle.dtx_model.specs.Observed.{rows}
-use Rattle.dtx_model.specs.Owners.{cause_of}
-use Rattle.dtx_model.specs.Steps.{is_single}
+use Rattle.dtx_values.specs.Support.{is_single}
+use Rattle.dtx_values.specs.Owners.{cause_of}
 
 abbrev pub same_cause : Cause → Cause → Bool
 same_cause Two Two = true
@@ -52,7 +52,7 @@ abbrev pub is_under_way : List Entry → Bool
 is_under_way h = has is_promoting h && not (has is_promoted h) && not (has is_failed h)
 
 -- why the call of this command promotes: a marshal call because it is one, a durable call for the cause that the rows give
-abbrev pub cause_by : List Enlistment → Option Body → Option Cause
+abbrev pub cause_by : List Row → Option Body → Option Cause
 cause_by xs (Some (Marshal t)) = Some MarshalCause
 cause_by xs (Some (Durable t e r s)) = cause_of xs (is_single s)
 cause_by xs _ = None

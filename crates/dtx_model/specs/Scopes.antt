@@ -15,6 +15,7 @@ use Rattle.dtx_values.specs.declared.words.Iso.TheVariants.{Serializable, Repeat
 use Rattle.dtx_values.specs.declared.words.ScopeOption.{ScopeOption}
 use Rattle.dtx_values.specs.declared.words.ScopeOption.TheVariants.{Required, RequiresNew, Suppress}
 use Rattle.dtx_model.specs.Words.{has, latest, all_of, put}
+use Rattle.dtx_values.specs.Entered.{transaction_in}
 
 -- an entry of a context: a scope is opened, taken with what it made or joined and the isolation that its call asked for; finished; or closed
 pub data ScopeEntry : Type 0 where
@@ -52,10 +53,6 @@ abbrev pub is_complete_scope : ℕ → OpenScope → Bool
 is_complete_scope s x = is_scope s x && x.complete
 
 -- the transaction that a scope has
-abbrev pub transaction_in : Entered → Option TxNo
-transaction_in (Made t) = Some t
-transaction_in (Joined t) = Some t
-transaction_in NoTx = None
 
 abbrev pub scope_transaction : OpenScope → Option TxNo
 scope_transaction x = transaction_in x.entered

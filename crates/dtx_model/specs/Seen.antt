@@ -6,7 +6,9 @@ use Rattle.dtx_values.specs.declared.entry.Entry.{Entry}
 use Rattle.dtx_values.specs.declared.entry.Entry.TheVariants.{Asked, Clock, Enlisted, Late, TimedOut, Voted}
 use Rattle.dtx_values.specs.declared.row.CloneRow.{CloneRow}
 use Rattle.dtx_values.specs.declared.words.Vote.{Vote}
-use Rattle.dtx_values.specs.Table.{Enlistment, is_marked, voted_before}
+use Rattle.dtx_values.specs.Row.{is_marked}
+use Rattle.dtx_values.specs.declared.row.Row.{Row}
+use Rattle.dtx_values.specs.Table.{voted_before}
 use Rattle.dtx_model.specs.Words.{has, each, latest, all_of}
 use Rattle.dtx_model.specs.Entries.{began_of, is_asked, is_vote, is_completed}
 use Rattle.dtx_model.specs.Observed.{rows}
@@ -31,10 +33,10 @@ vote_of e _ = None
 
 -- the row says what the history shows of its enlistment: whether it was asked to prepare, its vote, and whether each that was asked
 -- before it came voted
-pub record IsSeen (h : List Entry) (x : Enlistment) : Type 0 where
-  pub marked : is_marked x ≡ has (is_asked x.0.value) h
-  pub voted : x.1.vote ≡ latest (vote_of x.0.value) h
-  pub waited : voted_before x.1.added (rows h) ≡ waited_for h x.0.value
+pub record IsSeen (h : List Entry) (x : Row) : Type 0 where
+  pub marked : is_marked x ≡ has (is_asked x.number.value) h
+  pub voted : x.vote ≡ latest (vote_of x.number.value) h
+  pub waited : voted_before x.added (rows h) ≡ waited_for h x.number.value
 
 -- the row says whether its clone was completed
 abbrev pub IsCloneSeen : List Entry → CloneRow → Type 0

@@ -36,14 +36,18 @@ use Rattle.dtx_values.specs.declared.words.Timeout.{Timeout}
 use Rattle.dtx_values.specs.declared.words.Timeout.TheVariants.{Default, Milliseconds}
 use Rattle.dtx_values.specs.declared.words.Vote.{Vote}
 use Rattle.dtx_values.specs.declared.words.Vote.TheVariants.{No}
-use Rattle.dtx_values.specs.Table.{Enlistment, has_voted, how_many, is_marked, is_of}
+use Rattle.dtx_values.specs.declared.row.Row.{Row}
+use Rattle.dtx_values.specs.Table.{how_many, has_row, voted}
 use Rattle.dtx_values.specs.Clones.{is_clone, is_complete_clone, is_open_rollback}
 use Rattle.dtx_model.specs.declared.listener.Listener.{Listener}
 use Rattle.dtx_model.specs.Words.{has, each, latest, past_of}
-use Rattle.dtx_model.specs.Entries.{is_good, is_volatile}
-use Rattle.dtx_model.specs.Waves.{hears, is_over, next_ask}
-use Rattle.dtx_model.specs.Owners.{cause_of, is_lasting, may_own, owner_of}
+use Rattle.dtx_values.specs.Row.{is_lasting, has_voted, is_marked, is_of}
+use Rattle.dtx_values.specs.Owners.{cause_of, may_own, owner_of, is_evident}
+use Rattle.dtx_values.specs.Waves.{hears, is_over, next_ask, all_voted}
+use Rattle.dtx_values.specs.Class.{is_volatile}
+use Rattle.dtx_values.specs.Vote.{is_good, is_no}
 use Rattle.dtx_model.specs.Observed.{Observed}
+use Rattle.dtx_values.specs.Support.{is_single}
 
 -- one step: a line's call by its actor, with the steps that were done for it before it answers, which only a `do` counts;
 -- a reply of an enlistment; or the local act
@@ -107,36 +111,31 @@ class_of DuringPrepare = Zero
 
 -- AnswerOf. Two answers stand before the others: `notbegun`, from which begin is exempt, and `ended` where it was decided, which
 -- status, await, tick, do and gone don't give.
-abbrev pub behind_begin : Option ℕ → Answer → Answer
-behind_begin (Some d) a = a
-behind_begin None a = NotBegun
+abbrev pub if_begun : Option ℕ → Answer → Answer
+if_begun (Some d) a = a
+if_begun None a = NotBegun
 
-abbrev pub behind_end : Option Outcome → Answer → Answer
-behind_end (Some x) a = Ended x
-behind_end None a = a
+abbrev pub unless_ended : Option Outcome → Answer → Answer
+unless_ended (Some x) a = Ended x
+unless_ended None a = a
 
 -- an answer behind both
 abbrev pub unless_over : Observed → Answer → Answer
-unless_over o a = behind_begin o.limit (behind_end o.decided a)
+unless_over o a = if_begun o.limit (unless_ended o.decided a)
 
-abbrev pub volatile_answer : Bool → List Enlistment → Answer
+abbrev pub volatile_answer : Bool → List Row → Answer
 volatile_answer sealed xs = if sealed then TooLate else if nat_le ENLISTMENTS (length xs) then Many ENLISTMENTS else Fine
-
--- the durable can own the commit
-abbrev pub is_single : Support → Bool
-is_single (SinglePhase v o) = true
-is_single (TwoPhase v) = false
 
 abbrev pub wait_for : Option Cause → Answer
 wait_for (Some c) = Wait
 wait_for None = Fine
 
-abbrev pub durable_answer : Bool → Bool → List Enlistment → Answer
+abbrev pub durable_answer : Bool → Bool → List Row → Answer
 durable_answer sealed single xs =
     if sealed then TooLate else if nat_le ENLISTMENTS (length xs) then Many ENLISTMENTS else if nat_le DURABLES (how_many is_lasting xs) then Many DURABLES
     else wait_for (cause_of xs single)
 
-abbrev pub promotable_answer : Bool → List Enlistment → Answer
+abbrev pub promotable_answer : Bool → List Row → Answer
 promotable_answer sealed xs = if sealed then TooLate else if not (may_own xs false) then False else if nat_le ENLISTMENTS (length xs) then Many ENLISTMENTS else True
 
 abbrev pub clone_answer : Bool → ℕ → Answer
@@ -161,7 +160,7 @@ await_answer None = StillOpen
 
 -- the enlistment stands
 abbrev pub stands : Observed → ℕ → Bool
-stands o e = has (is_of e) o.table
+stands o e = has_row e o.table
 
 -- the enlistment is lost
 abbrev pub is_gone : Observed → ℕ → Bool
@@ -176,11 +175,11 @@ answer o (Clone t c k) m = unless_over o (clone_answer o.commit (length o.clones
 answer o (Complete c) m = unless_over o (complete_answer (has (is_clone c.value) o.clones) (has (is_complete_clone c.value) o.clones))
 answer o (Commit t) m = unless_over o (unless_late o.commit)
 answer o (Rollback t) m = unless_over o (unless_late o.sealed)
-answer o (Status t) m = behind_begin o.limit (status_answer o.decided)
-answer o (Await t) m = behind_begin o.limit (await_answer o.told_client)
-answer o (Tick t n) m = behind_begin o.limit Fine
-answer o (Do t k n) m = behind_begin o.limit (Did m)
-answer o (Gone e) m = behind_begin o.limit (gone_answer (stands o e.value) (is_gone o e.value))
+answer o (Status t) m = if_begun o.limit (status_answer o.decided)
+answer o (Await t) m = if_begun o.limit (await_answer o.told_client)
+answer o (Tick t n) m = if_begun o.limit Fine
+answer o (Do t k n) m = if_begun o.limit (Did m)
+answer o (Gone e) m = if_begun o.limit (gone_answer (stands o e.value) (is_gone o e.value))
 answer o _ m = Fine
 
 abbrev pub is_fine : Answer → Bool
@@ -210,14 +209,6 @@ abbrev pub reaches : Option ℕ → ℕ → ℕ → Bool
 reaches (Some d) c n = nat_lt c d && nat_le d n
 reaches None c n = false
 
-abbrev pub voted_well : Option Vote → Bool
-voted_well (Some v) = is_good v
-voted_well None = false
-
--- evidence by the seal, as the rows show it: it is sealed, nothing durable or promotable stands, and each voted yes or done
-abbrev pub is_evident : Bool → List Enlistment → Bool
-is_evident sealed xs = sealed && each (λ x. is_volatile x.1.class && voted_well x.1.vote) xs
-
 -- the timeout comes too late: it was decided, the commit was handed over, or evidence stands
 abbrev pub is_late : Observed → Bool
 is_late o = is_some o.decided || is_some o.handed || is_evident o.sealed o.table
@@ -234,10 +225,6 @@ abbrev pub is_handed : Option EnlNo → ℕ → Bool
 is_handed (Some f) e = e == f.value
 is_handed None e = false
 
--- the enlistment voted
-abbrev pub voted : List Enlistment → ℕ → Bool
-voted xs e = has (λ x. is_of e x && has_voted x) xs
-
 -- how a lost enlistment ends the transaction: in doubt where it was handed the commit, else aborted
 abbrev pub lost_outcome : Bool → Outcome
 lost_outcome handed = if handed then InDoubt else Aborted
@@ -248,7 +235,7 @@ decided_if false x = []
 
 -- an enlistment is lost: that decides, where nothing is decided and it hasn't voted
 abbrev pub gone_facts : Observed → EnlNo → List Entry
-gone_facts o e = Lost e ∷ decided_if (not (is_some o.decided) && not (voted o.table e.value)) (lost_outcome (is_handed o.handed e.value))
+gone_facts o e = Lost e ∷ decided_if (not (is_some o.decided) && not (voted e.value o.table)) (lost_outcome (is_handed o.handed e.value))
 
 -- the facts of a call that was done
 abbrev pub facts : Observed → Call → List Entry
@@ -268,18 +255,6 @@ abbrev pub facts_if : Bool → List Entry → List Entry
 facts_if true es = es
 facts_if false es = []
 
-abbrev pub is_no : Vote → Bool
-is_no No = true
-is_no _ = false
-
-abbrev pub is_no_vote : Option Vote → Bool
-is_no_vote (Some v) = is_no v
-is_no_vote None = false
-
--- the enlistment voted No
-abbrev pub voted_no : Enlistment → Bool
-voted_no x = is_no_vote x.1.vote
-
 -- the entries of a reply: a vote No is a veto, and an owner's answer decides
 abbrev pub reply_entries : EnlNo → Reply → List Entry
 reply_entries e (VoteReply v) = Voted e v ∷ veto_if (is_no v)
@@ -291,7 +266,7 @@ is_aborted Aborted = true
 is_aborted _ = false
 
 -- this enlistment is durable or promotable
-abbrev pub lasts : List Enlistment → ℕ → Bool
+abbrev pub lasts : List Row → ℕ → Bool
 lasts xs e = has (λ x. is_of e x && is_lasting x) xs
 
 -- an abort is told to a durable or promotable too, unless it was handed the commit or is lost
@@ -313,9 +288,6 @@ abbrev pub before_seal : Option EnlNo → Bool → List Entry
 before_seal (Some e) over = Asked e Prepare ∷ []
 before_seal None over = if over then Sealed ∷ [] else []
 
-abbrev pub all_voted : List Enlistment → Bool
-all_voted xs = each (λ x. not (is_volatile x.1.class) || has_voted x) xs
-
 -- the commit is handed to the owner, once; where nothing is durable or promotable, it is committed
 abbrev pub commit_act : Bool → Option EnlNo → List Entry
 commit_act true owner = []
@@ -323,9 +295,9 @@ commit_act false (Some e) = Handed e ∷ []
 commit_act false None = Decided Committed ∷ []
 
 -- behind the seal: the lowest that wasn't asked is asked; when all voted, the commit is handed over or decided
-abbrev pub behind_seal : Option EnlNo → Bool → List Entry → List Entry
-behind_seal (Some e) voted commit = Asked e Prepare ∷ []
-behind_seal None voted commit = if voted then commit else []
+abbrev pub after_seal : Option EnlNo → Bool → List Entry → List Entry
+after_seal (Some e) voted commit = Asked e Prepare ∷ []
+after_seal None voted commit = if voted then commit else []
 
 -- while nothing is decided: nothing before commit was asked, then phase zero, then what is behind the seal
 abbrev pub undecided_act : Bool → Bool → List Entry → List Entry → List Entry
@@ -334,7 +306,7 @@ undecided_act commit sealed before behind = if not commit then [] else if not se
 abbrev pub act_by : Option Outcome → Observed → List Entry
 act_by (Some x) o = tell x (find (is_to_tell o x) o.listeners) o.told_client
 act_by None o =
-    undecided_act o.commit o.sealed (before_seal (next_ask o.table true) (is_over o.table o.clones 0)) (behind_seal (next_ask o.table false) (all_voted o.table) (commit_act (is_some o.handed) (owner_of o.table)))
+    undecided_act o.commit o.sealed (before_seal (next_ask o.table true) (is_over o.table o.clones 0)) (after_seal (next_ask o.table false) (all_voted o.table) (commit_act (is_some o.handed) (owner_of o.table)))
 
 -- the entries of the local act: the first that applies. None where no act is pending.
 unfoldable pub act_entries : Observed → List Entry
@@ -379,9 +351,9 @@ abbrev pub open_note : Bool → Bool → Option Note
 open_note asked handed = if asked then Some PrepareNote else if handed then Some HandNote else None
 
 -- none is due of one that is lost, or once it was decided
-abbrev pub due_note : Observed → Enlistment → Option Note
+abbrev pub due_note : Observed → Row → Option Note
 due_note o x =
-    if is_some o.decided || is_gone o x.0.value then None else open_note (is_marked x && not (has_voted x)) (is_handed o.handed x.0.value)
+    if is_some o.decided || is_gone o x.number.value then None else open_note (is_marked x && not (has_voted x)) (is_handed o.handed x.number.value)
 
 abbrev pub vote_reply : Option Vote → Option Reply
 vote_reply (Some v) = Some (VoteReply v)
@@ -402,7 +374,7 @@ reply_step e (Some r) = Some (Replies e r)
 reply_step e None = None
 
 -- to what a reply of the enlistment of this number is due
-abbrev pub note_of : Observed → Option Enlistment → Option Note
+abbrev pub note_of : Observed → Option Row → Option Note
 note_of o (Some x) = due_note o x
 note_of o None = None
 
@@ -415,7 +387,7 @@ with_note e None = None
 
 -- the enlistments of which a reply is due, with the note, by number
 unfoldable pub all_due : Observed → List (EnlNo × Note)
-all_due o = filter_map (λ x. with_note x.0 (due_note o x)) o.table
+all_due o = filter_map (λ x. with_note x.number (due_note o x)) o.table
 
 -- the reply fits the note: a vote answers prepare, an owner's answer the handing
 abbrev pub fits : Reply → Note → Bool
@@ -424,8 +396,8 @@ fits (OwnerReply x) HandNote = true
 fits _ _ = false
 
 -- the reply that is due of this enlistment, where its plan isn't silent
-abbrev pub due_reply : List Line → Observed → Enlistment → Option Step
-due_reply s o x = reply_step x.0 (planned_reply s x.0.value (due_note o x))
+abbrev pub due_reply : List Line → Observed → Row → Option Step
+due_reply s o x = reply_step x.number (planned_reply s x.number.value (due_note o x))
 
 -- the replies that are due, by number of enlistment
 abbrev pub due_replies : List Line → Observed → List Step

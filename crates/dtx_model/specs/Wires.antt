@@ -99,24 +99,24 @@ abbrev pub sent_behind : Bool → Message → List Message → List Message
 sent_behind is_open m ms = if is_open then ms ++ m ∷ [] else ms
 
 -- what a stop leaves on the way: nothing upward, and all downward
-abbrev pub left_by_stop : Dir → List Message → List Message
-left_by_stop Up ms = []
-left_by_stop Down ms = ms
+abbrev pub transit_after_stop : Dir → List Message → List Message
+transit_after_stop Up ms = []
+transit_after_stop Down ms = ms
 
 -- what is on the way on connection c in direction d behind the entry, where this was on the way before it
-abbrev pub left_after : Conn → Dir → List Entry → Entry → List Message → List Message
-left_after c d past (Sent e r m) ms =
+abbrev pub transit_after : Conn → Dir → List Entry → Entry → List Message → List Message
+transit_after c d past (Sent e r m) ms =
     if opens c (Sent e r m) then opened_with d m (is_stopped past) else if same_connection c e && same_direction d r then sent_behind (is_open_wire c past) m ms else ms
-left_after c d past (Got e r m) ms =
+transit_after c d past (Got e r m) ms =
     if not (same_connection c e) then ms else if not (has_line e r m) then [] else if same_direction d r then without_first ms else ms
-left_after c d past (Cut e u w) ms = if same_connection c e then take (kept d u w) ms else ms
-left_after c d past Stopped ms = left_by_stop d ms
-left_after c d past _ ms = ms
+transit_after c d past (Cut e u w) ms = if same_connection c e then take (kept d u w) ms else ms
+transit_after c d past Stopped ms = transit_after_stop d ms
+transit_after c d past _ ms = ms
 
 -- the messages that are on the way on connection c in direction d, the first to come first
-abbrev pub left : Conn → Dir → List Entry → List Message
-left c d [] = []
-left c d (x ∷ past) = left_after c d past x (left c d past)
+abbrev pub in_transit : Conn → Dir → List Entry → List Message
+in_transit c d [] = []
+in_transit c d (x ∷ past) = transit_after c d past x (in_transit c d past)
 
 -- this side saw the connection's end since it was opened: by `down`, or by a message that has no line; behind a stop the coordinator sees none any more
 abbrev pub ends : Conn → Dir → Entry → Bool
@@ -144,8 +144,8 @@ is_next m (n ∷ ms) = m ≡ n
 
 -- what is got is the next on the way, and the end of a lost connection comes once, when nothing is on the way to that side
 abbrev pub MayCross : List Entry → Entry → Type 0
-MayCross past (Got c d m) = is_next m (left c d past)
-MayCross past (End c d) = (is_lost_wire c past && is_empty (left c d past) && not (is_ended c d past)) ≡ true
+MayCross past (Got c d m) = is_next m (in_transit c d past)
+MayCross past (End c d) = (is_lost_wire c past && is_empty (in_transit c d past) && not (is_ended c d past)) ≡ true
 MayCross past _ = Unit {0}
 
 -- WireRun

@@ -1,6 +1,7 @@
 //! One function for each test on an entry, as `specs/Entries.antt` has it.
 ghost use Rattle.std.specs.Prelude.{◌≡◌};
-ghost use Rattle.dtx_model.specs.Entries.{is_commit, is_sealed, is_promoted, is_record, is_yes, is_hand, is_any_hand, is_owner, is_any_owner, is_volatile, is_completed, is_vote, is_good_vote, is_decision, is_final};
+ghost use Rattle.dtx_values.specs.Class.{is_volatile};
+ghost use Rattle.dtx_model.specs.Entries.{is_commit, is_sealed, is_promoted, is_record, is_yes, is_hand, is_any_hand, is_owner, is_any_owner, is_completed, is_vote, is_good_vote, is_decision, is_final};
 
 use dtx_values::{Class, CloneNo, EnlNo, Entry, Outcome, Vote};
 

@@ -1,5 +1,5 @@
 //! The definitions over histories, scripts and traces, which every other crate's contracts cite. They stand in `specs/`, in the
-//! order in which a reader should meet them: Words, Entries, Messages, Outcome, Judge; Waves, Owners, RecoveryInfo, Frames,
+//! order in which a reader should meet them: Words, Entries, Messages, Outcome, Judge; Frames,
 //! Observed, Seen, Scopes, Steps, Contexts, Caused; Promotes, Wires, Learned; Replay, History; Grammar, Faults, TraceText. `docs/DEFINITIONS.md` says each of them in words. The code here is the judge of histories.
 #![tactic(auto)]
 

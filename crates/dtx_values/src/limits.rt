@@ -14,3 +14,9 @@ pub const SCOPES: usize = 64;
 
 /// The most entries, and the most messages, that one step makes.
 pub const ROOM: usize = 64;
+
+/// The most bytes of a script.
+pub const SCRIPT_BYTES: usize = 1_048_576;
+
+/// The most bytes of a script's line, its end left out.
+pub const LINE_BYTES: usize = 200;

@@ -1,5 +1,5 @@
 //! Numbers with a range. The ranges are a definition of this project.
-ghost use Rattle.std.specs.Prelude.{◌≡◌, ◌≤◌, ◌↔◌, IsSome, IfSome};
+ghost use Rattle.std.specs.Prelude.{◌≡◌, ◌≤◌, ◌<◌, ◌+◌, ◌↔◌, IsSome, IfSome};
 
 /// A transaction's number, from 1 to 256 (`t1` to `t256`).
 #[derive(Clone, Copy, PartialEq, Eq, Debug)]
@@ -9,12 +9,15 @@ pub struct TxNo {
 }
 
 impl TxNo {
+    /// The greatest number, which is also how many there are.
+    pub const MAX: u32 = 256;
+
     /// The number n, or `None` where it is out of range.
     pub fn new(n: u32) -> Option<Self>
         ensures value { IfSome result (λ x. x.value ≡ n) }
-        ensures in_range { IsSome result ↔ ((1 ≤ n) × (n ≤ 256)) }
+        ensures in_range { IsSome result ↔ ((1 ≤ n) × (n ≤ TxNo.MAX)) }
     {
-        if 1 <= n && n <= 256 {
+        if 1 <= n && n <= Self::MAX {
             Some(TxNo { value: n })
         } else {
             None
@@ -25,9 +28,17 @@ impl TxNo {
     pub fn get(self) -> u32
         ensures value { result ≡ self.value }
         ensures low { 1 ≤ result }
-        ensures high { result ≤ 256 }
+        ensures high { result ≤ TxNo.MAX }
     {
         self.value
+    }
+
+    /// Its place among them all, from 0.
+    pub fn index(self) -> usize
+        ensures place { result + 1 ≡ self.value }
+        ensures within { result < TxNo.MAX }
+    {
+        self.value as usize - 1
     }
 }
 
@@ -39,12 +50,15 @@ pub struct EnlNo {
 }
 
 impl EnlNo {
+    /// The greatest number, which is also how many there are.
+    pub const MAX: u32 = 9999;
+
     /// The number n, or `None` where it is out of range.
     pub fn new(n: u32) -> Option<Self>
         ensures value { IfSome result (λ x. x.value ≡ n) }
-        ensures in_range { IsSome result ↔ ((1 ≤ n) × (n ≤ 9999)) }
+        ensures in_range { IsSome result ↔ ((1 ≤ n) × (n ≤ EnlNo.MAX)) }
     {
-        if 1 <= n && n <= 9999 {
+        if 1 <= n && n <= Self::MAX {
             Some(EnlNo { value: n })
         } else {
             None
@@ -55,9 +69,17 @@ impl EnlNo {
     pub fn get(self) -> u32
         ensures value { result ≡ self.value }
         ensures low { 1 ≤ result }
-        ensures high { result ≤ 9999 }
+        ensures high { result ≤ EnlNo.MAX }
     {
         self.value
+    }
+
+    /// Its place among them all, from 0.
+    pub fn index(self) -> usize
+        ensures place { result + 1 ≡ self.value }
+        ensures within { result < EnlNo.MAX }
+    {
+        self.value as usize - 1
     }
 }
 
@@ -69,12 +91,15 @@ pub struct CloneNo {
 }
 
 impl CloneNo {
+    /// The greatest number, which is also how many there are.
+    pub const MAX: u32 = 9999;
+
     /// The number n, or `None` where it is out of range.
     pub fn new(n: u32) -> Option<Self>
         ensures value { IfSome result (λ x. x.value ≡ n) }
-        ensures in_range { IsSome result ↔ ((1 ≤ n) × (n ≤ 9999)) }
+        ensures in_range { IsSome result ↔ ((1 ≤ n) × (n ≤ CloneNo.MAX)) }
     {
-        if 1 <= n && n <= 9999 {
+        if 1 <= n && n <= Self::MAX {
             Some(CloneNo { value: n })
         } else {
             None
@@ -85,9 +110,17 @@ impl CloneNo {
     pub fn get(self) -> u32
         ensures value { result ≡ self.value }
         ensures low { 1 ≤ result }
-        ensures high { result ≤ 9999 }
+        ensures high { result ≤ CloneNo.MAX }
     {
         self.value
+    }
+
+    /// Its place among them all, from 0.
+    pub fn index(self) -> usize
+        ensures place { result + 1 ≡ self.value }
+        ensures within { result < CloneNo.MAX }
+    {
+        self.value as usize - 1
     }
 }
 
@@ -99,12 +132,15 @@ pub struct ScopeNo {
 }
 
 impl ScopeNo {
+    /// The greatest number, which is also how many there are.
+    pub const MAX: u32 = 9999;
+
     /// The number n, or `None` where it is out of range.
     pub fn new(n: u32) -> Option<Self>
         ensures value { IfSome result (λ x. x.value ≡ n) }
-        ensures in_range { IsSome result ↔ ((1 ≤ n) × (n ≤ 9999)) }
+        ensures in_range { IsSome result ↔ ((1 ≤ n) × (n ≤ ScopeNo.MAX)) }
     {
-        if 1 <= n && n <= 9999 {
+        if 1 <= n && n <= Self::MAX {
             Some(ScopeNo { value: n })
         } else {
             None
@@ -115,9 +151,17 @@ impl ScopeNo {
     pub fn get(self) -> u32
         ensures value { result ≡ self.value }
         ensures low { 1 ≤ result }
-        ensures high { result ≤ 9999 }
+        ensures high { result ≤ ScopeNo.MAX }
     {
         self.value
+    }
+
+    /// Its place among them all, from 0.
+    pub fn index(self) -> usize
+        ensures place { result + 1 ≡ self.value }
+        ensures within { result < ScopeNo.MAX }
+    {
+        self.value as usize - 1
     }
 }
 
@@ -129,12 +173,15 @@ pub struct ActorNo {
 }
 
 impl ActorNo {
+    /// The greatest number, which is also how many there are.
+    pub const MAX: u32 = 16;
+
     /// The number n, or `None` where it is out of range.
     pub fn new(n: u32) -> Option<Self>
         ensures value { IfSome result (λ x. x.value ≡ n) }
-        ensures in_range { IsSome result ↔ ((1 ≤ n) × (n ≤ 16)) }
+        ensures in_range { IsSome result ↔ ((1 ≤ n) × (n ≤ ActorNo.MAX)) }
     {
-        if 1 <= n && n <= 16 {
+        if 1 <= n && n <= Self::MAX {
             Some(ActorNo { value: n })
         } else {
             None
@@ -145,9 +192,17 @@ impl ActorNo {
     pub fn get(self) -> u32
         ensures value { result ≡ self.value }
         ensures low { 1 ≤ result }
-        ensures high { result ≤ 16 }
+        ensures high { result ≤ ActorNo.MAX }
     {
         self.value
+    }
+
+    /// Its place among them all, from 0.
+    pub fn index(self) -> usize
+        ensures place { result + 1 ≡ self.value }
+        ensures within { result < ActorNo.MAX }
+    {
+        self.value as usize - 1
     }
 }
 
@@ -159,12 +214,15 @@ pub struct RmNo {
 }
 
 impl RmNo {
+    /// The greatest number, which is also how many there are.
+    pub const MAX: u32 = 16;
+
     /// The number n, or `None` where it is out of range.
     pub fn new(n: u32) -> Option<Self>
         ensures value { IfSome result (λ x. x.value ≡ n) }
-        ensures in_range { IsSome result ↔ ((1 ≤ n) × (n ≤ 16)) }
+        ensures in_range { IsSome result ↔ ((1 ≤ n) × (n ≤ RmNo.MAX)) }
     {
-        if 1 <= n && n <= 16 {
+        if 1 <= n && n <= Self::MAX {
             Some(RmNo { value: n })
         } else {
             None
@@ -175,8 +233,16 @@ impl RmNo {
     pub fn get(self) -> u32
         ensures value { result ≡ self.value }
         ensures low { 1 ≤ result }
-        ensures high { result ≤ 16 }
+        ensures high { result ≤ RmNo.MAX }
     {
         self.value
+    }
+
+    /// Its place among them all, from 0.
+    pub fn index(self) -> usize
+        ensures place { result + 1 ≡ self.value }
+        ensures within { result < RmNo.MAX }
+    {
+        self.value as usize - 1
     }
 }

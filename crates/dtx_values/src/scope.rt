@@ -1,4 +1,7 @@
 //! The scopes of a context.
+ghost use Rattle.std.specs.Prelude.{◌≡◌};
+ghost use Rattle.dtx_values.specs.Entered.{transaction_in};
+
 use crate::number::{ScopeNo, TxNo};
 use crate::words::Iso;
 
@@ -11,6 +14,18 @@ pub enum Entered {
     Joined(TxNo),
     /// It has none.
     NoTx,
+}
+
+impl Entered {
+    /// The transaction that the scope has.
+    pub fn transaction(self) -> Option<TxNo>
+        ensures { result ≡ transaction_in self }
+    {
+        match self {
+            Entered::Made(t) | Entered::Joined(t) => Some(t),
+            Entered::NoTx => None,
+        }
+    }
 }
 
 /// What is to be done with a scope's transaction when it is closed.

@@ -1,5 +1,6 @@
 //! Scripts. The script language is this project's own.
 ghost use Rattle.std.specs.Prelude.{◌≡◌};
+ghost use Rattle.dtx_values.specs.Support.{is_single};
 
 use crate::message::Conn;
 use crate::number::{ActorNo, CloneNo, EnlNo, RmNo, ScopeNo, TxNo};
@@ -22,6 +23,15 @@ pub enum Support {
     SinglePhase(Option<Vote>, Option<Outcome>),
     /// The word `two`: the plan of its vote.
     TwoPhase(Option<Vote>),
+}
+
+impl Support {
+    /// Whether such a durable enlistment can own the commit. (`ISinglePhaseNotification` of System.Transactions.)
+    pub fn is_single(self) -> bool
+        ensures { result ≡ is_single self }
+    {
+        matches!(self, Support::SinglePhase(_, _))
+    }
 }
 
 /// How a scope is opened: the name of the transaction that it may make, with that one's timeout and isolation.

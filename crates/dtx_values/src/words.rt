@@ -1,4 +1,7 @@
 //! The words of System.Transactions, and those of this project's script language.
+ghost use Rattle.std.specs.Prelude.{◌≡◌};
+ghost use Rattle.dtx_values.specs.Class.{is_class, is_durable, is_promotable, is_volatile};
+ghost use Rattle.dtx_values.specs.Vote.{is_good, is_no};
 
 /// How a transaction ended, or may have ended. (System.Transactions.)
 #[derive(Clone, Copy, PartialEq, Eq, Debug)]
@@ -62,6 +65,40 @@ pub enum Class {
     Promotable,
 }
 
+impl Class {
+    /// Whether such an enlistment is volatile.
+    pub fn is_volatile(self) -> bool
+        ensures { result ≡ is_volatile self }
+    {
+        matches!(self, Class::Zero | Class::One)
+    }
+
+    /// Whether such an enlistment is durable.
+    pub fn is_durable(self) -> bool
+        ensures { result ≡ is_durable self }
+    {
+        matches!(self, Class::DurableTwo | Class::DurableSingle)
+    }
+
+    /// Whether such an enlistment is promotable.
+    pub fn is_promotable(self) -> bool
+        ensures { result ≡ is_promotable self }
+    {
+        self == Class::Promotable
+    }
+
+    /// Whether such an enlistment is asked to prepare in phase zero (`zero`), or after the seal (not `zero`).
+    pub fn is_asked_in(self, zero: bool) -> bool
+        ensures { result ≡ is_class zero self }
+    {
+        if zero {
+            self == Class::Zero
+        } else {
+            self == Class::One
+        }
+    }
+}
+
 /// What a dependent clone does to a commit while it isn't complete. (`DependentCloneOption`.)
 #[derive(Clone, Copy, PartialEq, Eq, Debug)]
 pub enum CloneKind {
@@ -77,6 +114,22 @@ pub enum Vote {
     Yes,
     No,
     Done,
+}
+
+impl Vote {
+    /// Whether it is a veto.
+    pub fn is_no(self) -> bool
+        ensures { result ≡ is_no self }
+    {
+        self == Vote::No
+    }
+
+    /// Whether it lets the transaction commit: Yes or Done.
+    pub fn is_good(self) -> bool
+        ensures { result ≡ is_good self }
+    {
+        self != Vote::No
+    }
 }
 
 /// Why a transaction is promoted to the coordinator.

@@ -1,10 +1,9 @@
 //! Durable enlistments: who owns the commit, when a durable call promotes, and the recovery information of an enlistment.
 #![tactic(auto)]
 
-mod info;
 mod owner;
 #[cfg(test)]
 mod tests;
 
-pub use info::{BadInfo, parse_info, write_info};
+pub use dtx_values::{BadInfo, parse_info, write_info};
 pub use owner::{cause_of, owner_of};

@@ -1,43 +1,40 @@
 //! The table.
-ghost use Rattle.std.specs.Prelude.{◌≡◌, ◌≤◌, ◌&&◌, [], length, map, find, not, IfErr, IfOk, OnErr, OnOk, None, Some, vec_capacity};
+ghost use Rattle.std.specs.Prelude.{◌≡◌, ◌≤◌, [], length, map, find, not, true, IfErr, IfOk, OnErr, OnOk, None, Some, vec_capacity};
 ghost use Rattle.std.specs.List.{insert, list_any};
 ghost use Rattle.dtx_values.specs.declared.limits.TheConstants.{ENLISTMENTS};
-ghost use Rattle.dtx_values.specs.Table.{Enlistment, has_voted, how_many, insert_by, is_asked_before, is_marked, is_of, marks, number_of, voted_before, with_mark, with_row, with_vote};
-ghost use Rattle.enlist_table.specs.Refusals.{add_refusal, is_lasting, row_of, row_refusal, stands};
-ghost use Rattle.enlist_table.specs.Table.{mark_in, vote_in};
+ghost use Rattle.dtx_values.specs.declared.row.Row.{Row};
+ghost use Rattle.dtx_values.specs.Class.{is_durable, is_promotable};
+ghost use Rattle.dtx_values.specs.Owners.{owner_of};
+ghost use Rattle.dtx_values.specs.Row.{has_voted, is_asked_before, is_lasting, is_marked, is_of, mark_in, number_of, vote_in};
+ghost use Rattle.dtx_values.specs.Table.{has_row, how_many, insert_by, marks, rises_above, voted, voted_before, was_asked, with_mark, with_row, with_vote};
+ghost use Rattle.dtx_values.specs.Waves.{all_voted, may_be_asked, next_ask, zeros_voted};
+ghost use Rattle.enlist_table.specs.Refusals.{add_refusal, row_refusal};
 
 use crate::refusal::{AddRefusal, TableRefusal};
 use dtx_values::{Class, DURABLES, ENLISTMENTS, EnlNo, Row, Vote};
 use std::alloc::{AllocError, Global};
 use std::marker::Model;
 
-/// The enlistments of one transaction. Contracts see the list of (enlistment, row), in order of number.
+/// The enlistments of one transaction. Contracts see the list of their rows, in order of number.
 #[derive(Drop)]
 pub struct EnlistTable {
-    rows: Vec<(EnlNo, Row)>,
+    rows: Vec<Row>,
 }
 
 impl Model for EnlistTable {
     ghost use Rattle.std.specs.Prelude.{List, ◌≡◌, ◌≤◌, true, vec_capacity, length};
     ghost use Rattle.dtx_values.specs.declared.limits.TheConstants.{ENLISTMENTS};
-    ghost use Rattle.dtx_values.specs.Table.{Enlistment};
-    ghost use Rattle.enlist_table.specs.Table.{rises_above};
+    ghost use Rattle.dtx_values.specs.declared.row.Row.{Row};
+    ghost use Rattle.dtx_values.specs.Table.{rises_above};
 
-    ghost Value = { List Enlistment };
+    ghost Value = { List Row };
 
     ghost view = { λ t. t.rows.items };
 
     ghost invariant = { λ t. (ENLISTMENTS ≤ vec_capacity t.rows) × (length t.rows.items ≤ ENLISTMENTS) × (rises_above 0 t.rows.items ≡ true) };
 }
 
-/// Whether the class is durable or promotable.
-fn is_lasting(c: Class) -> bool
-    ensures { result ≡ is_lasting c }
-{
-    !matches!(c, Class::Zero | Class::One)
-}
-
-/// Whether the mark is there, and fewer than n stood before it.
+/// Whether the mark is there, and fewer than n were marked before it.
 fn is_asked_before(mark: Option<u8>, n: u8) -> bool
     ensures { result ≡ is_asked_before mark n }
 {
@@ -48,44 +45,44 @@ fn is_asked_before(mark: Option<u8>, n: u8) -> bool
 }
 
 /// How many rows are marked as asked to prepare.
-fn marks(rows: &[(EnlNo, Row)]) -> u8
+fn marks(rows: &[Row]) -> u8
     requires { length rows.now ≤ ENLISTMENTS }
     ensures { result ≡ marks rows.now }
 {
-    rows.iter().filter(|x| x.1.asked.is_some()).count() as u8
+    rows.iter().filter(|x| x.is_marked()).count() as u8
 }
 
 /// How many rows are durable or promotable.
-fn lasting(rows: &[(EnlNo, Row)]) -> usize
-    ensures { result ≡ how_many (λ x. is_lasting x.1.class) rows.now }
+fn lasting(rows: &[Row]) -> usize
+    ensures { result ≡ how_many is_lasting rows.now }
 {
-    rows.iter().filter(|x| is_lasting(x.1.class)).count()
+    rows.iter().filter(|x| x.is_lasting()).count()
 }
 
 /// The index at which a row of this number goes.
-fn place(rows: &[(EnlNo, Row)], n: u32) -> usize
+fn place(rows: &[Row], n: u32) -> usize
     ensures within { result ≤ length rows.now }
-    ensures there { (x : Enlistment) → x.0.value ≡ n → insert rows.now result x ≡ insert_by number_of x rows.now }
+    ensures there { (x : Row) → x.number.value ≡ n → insert rows.now result x ≡ insert_by number_of x rows.now }
 {
     for (i, x) in rows.iter().enumerate() {
-        if x.0.get() >= n {
+        if x.number.get() >= n {
             return i;
         }
     }
     rows.len()
 }
 
-/// Marks the row as asked behind n others, where it is this enlistment's.
-fn mark_in(x: &mut (EnlNo, Row), e: EnlNo, n: u8)
+/// Marks the row as asked after n others, where it is this enlistment's.
+fn mark_in(x: &mut Row, e: EnlNo, n: u8)
     ensures { x.new ≡ mark_in e.value n x.old }
 {
-    if x.0 == e && x.1.asked.is_none() {
-        x.1.asked = Some(n);
+    if x.number == e && x.asked.is_none() {
+        x.asked = Some(n);
     }
 }
 
-/// Marks an enlistment's row as asked behind n others.
-fn mark(rows: &mut Vec<(EnlNo, Row)>, e: EnlNo, n: u8)
+/// Marks an enlistment's row as asked after n others.
+fn mark(rows: &mut Vec<Row>, e: EnlNo, n: u8)
     ensures items { rows.new.items ≡ map (λ x. mark_in e.value n x) rows.old.items }
     ensures capacity { vec_capacity rows.old ≤ vec_capacity rows.new }
 {
@@ -94,17 +91,17 @@ fn mark(rows: &mut Vec<(EnlNo, Row)>, e: EnlNo, n: u8)
     }
 }
 
-/// Takes down the vote in the row, where it is this enlistment's.
-fn vote_in(x: &mut (EnlNo, Row), e: EnlNo, v: Vote)
+/// Keeps the vote in the row, where it is this enlistment's.
+fn vote_in(x: &mut Row, e: EnlNo, v: Vote)
     ensures { x.new ≡ vote_in e.value v x.old }
 {
-    if x.0 == e && x.1.vote.is_none() {
-        x.1.vote = Some(v);
+    if x.number == e && x.vote.is_none() {
+        x.vote = Some(v);
     }
 }
 
-/// Takes down the vote in an enlistment's row.
-fn vote(rows: &mut Vec<(EnlNo, Row)>, e: EnlNo, v: Vote)
+/// Keeps the vote in an enlistment's row.
+fn vote(rows: &mut Vec<Row>, e: EnlNo, v: Vote)
     ensures items { rows.new.items ≡ map (λ x. vote_in e.value v x) rows.old.items }
     ensures capacity { vec_capacity rows.old ≤ vec_capacity rows.new }
 {
@@ -127,39 +124,146 @@ impl EnlistTable {
         })
     }
 
-    /// Whether the enlistment has a row.
-    fn stands(&self, e: EnlNo) -> bool
-        ensures { result ≡ stands e.value self.now }
+    /// The rows, in order of number. No two have the same number.
+    pub fn rows(&self) -> &[Row]
+        ensures rows { result.now ≡ self.now }
+        ensures rise { rises_above 0 self.now ≡ true }
     {
-        self.rows.iter().any(|x| x.0 == e)
+        self.rows.as_slice()
+    }
+
+    /// Whether the enlistment has a row.
+    pub fn stands(&self, e: EnlNo) -> bool
+        ensures { result ≡ has_row e.value self.now }
+    {
+        self.rows.iter().any(|x| x.number == e)
     }
 
     /// Whether the enlistment was asked to prepare.
-    fn is_asked(&self, e: EnlNo) -> bool
-        ensures { result ≡ list_any (λ x. is_of e.value x && is_marked x) self.now }
+    pub fn was_asked(&self, e: EnlNo) -> bool
+        ensures { result ≡ was_asked e.value self.now }
     {
-        self.rows.iter().any(|x| x.0 == e && x.1.asked.is_some())
+        self.rows.iter().any(|x| x.number == e && x.is_marked())
     }
 
     /// Whether the enlistment voted.
-    fn has_voted(&self, e: EnlNo) -> bool
-        ensures { result ≡ list_any (λ x. is_of e.value x && has_voted x) self.now }
+    pub fn has_voted(&self, e: EnlNo) -> bool
+        ensures { result ≡ voted e.value self.now }
     {
-        self.rows.iter().any(|x| x.0 == e && x.1.vote.is_some())
+        self.rows.iter().any(|x| x.number == e && x.has_voted())
     }
 
-    /// The enlistment with its row, where it has one.
-    fn enlistment(&self, e: EnlNo) -> Option<(EnlNo, Row)>
+    /// The row of an enlistment, where it has one.
+    pub fn state_of(&self, e: EnlNo) -> Option<Row>
         ensures { result ≡ find (is_of e.value) self.now }
     {
-        self.rows.iter().copied().find(|x| x.0 == e)
+        self.rows.iter().copied().find(|x| x.number == e)
     }
 
-    /// The enlistments with their rows, in order of number.
-    pub fn rows(&self) -> &[(EnlNo, Row)]
-        ensures { result.now ≡ self.now }
+    /// How many enlistments haven't voted.
+    pub fn voters_left(&self) -> u8
+        ensures { result ≡ how_many (λ x. not (has_voted x)) self.now }
     {
-        self.rows.as_slice()
+        self.rows.iter().filter(|x| !x.has_voted()).count() as u8
+    }
+
+    /// How many enlistments are durable or promotable.
+    pub fn lasting(&self) -> usize
+        ensures { result ≡ how_many is_lasting self.now }
+    {
+        lasting(&self.rows)
+    }
+
+    /// Whether it has a durable or promotable enlistment.
+    pub fn has_lasting(&self) -> bool
+        ensures { result ≡ list_any is_lasting self.now }
+    {
+        self.rows.iter().any(|x| x.is_lasting())
+    }
+
+    /// Whether it has a durable enlistment.
+    pub fn has_durable(&self) -> bool
+        ensures { result ≡ list_any (λ x. is_durable x.class) self.now }
+    {
+        self.rows.iter().any(|x| x.class.is_durable())
+    }
+
+    /// Whether it has a promotable enlistment.
+    pub fn has_promotable(&self) -> bool
+        ensures { result ≡ list_any (λ x. is_promotable x.class) self.now }
+    {
+        self.rows.iter().any(|x| x.class.is_promotable())
+    }
+
+    /// The owner: the one durable or promotable enlistment; `None` exactly where there isn't exactly one. (Single-phase commit of
+    /// System.Transactions.)
+    #[tactic(auto, unfolding(dtx_values::specs::Owners::owner_of))]
+    pub fn owner(&self) -> Option<EnlNo>
+        ensures { result ≡ owner_of self.now }
+    {
+        let mut owner = None;
+        for x in self.rows() {
+            if x.is_lasting() {
+                match owner {
+                    None => owner = Some(x.number),
+                    Some(_) => return None,
+                }
+            }
+        }
+        owner
+    }
+
+    /// Whether each enlistment that was asked when fewer than n were has voted.
+    pub fn voted_before(&self, n: u8) -> bool
+        ensures { result ≡ voted_before n self.now }
+    {
+        self.rows
+            .iter()
+            .all(|x| !is_asked_before(x.asked, n) || x.has_voted())
+    }
+
+    /// Whether each Zero enlistment voted.
+    pub fn zeros_voted(&self) -> bool
+        ensures { result ≡ zeros_voted self.now }
+    {
+        self.rows
+            .iter()
+            .all(|x| x.class != Class::Zero || x.has_voted())
+    }
+
+    /// Whether each volatile enlistment voted.
+    pub fn volatiles_voted(&self) -> bool
+        ensures { result ≡ all_voted self.now }
+    {
+        self.rows
+            .iter()
+            .all(|x| !x.class.is_volatile() || x.has_voted())
+    }
+
+    /// Whether it is of the class that is asked, wasn't asked, and may be.
+    fn may_be_asked(&self, zero: bool, x: &Row) -> bool
+        ensures { result ≡ may_be_asked self.now zero x.now }
+    {
+        x.class.is_asked_in(zero) && !x.is_marked() && (!zero || self.voted_before(x.added))
+    }
+
+    /// The row of the lowest enlistment of the class that may be asked.
+    fn first_to_ask(&self, zero: bool) -> Option<Row>
+        ensures { result ≡ find (may_be_asked self.now zero) self.now }
+    {
+        self.rows()
+            .iter()
+            .copied()
+            .find(|x| self.may_be_asked(zero, x))
+    }
+
+    /// The lowest enlistment of the class that wasn't asked to prepare and may be: a Zero one (`zero`) where each that was asked before it was
+    /// added voted, a One always.
+    #[tactic(auto, unfolding(dtx_values::specs::Waves::next_ask))]
+    pub fn next_ask(&self, zero: bool) -> Option<EnlNo>
+        ensures { result ≡ next_ask self.now zero }
+    {
+        self.first_to_ask(zero).map(|x| x.number)
     }
 
     /// Adds an enlistment at its place in the order of numbers.
@@ -167,8 +271,8 @@ impl EnlistTable {
     /// # Errors
     ///
     /// - [`AddRefusal::Twice`] exactly where it has a row.
-    /// - [`AddRefusal::Many`] of 32 exactly where 32 rows stand.
-    /// - [`AddRefusal::Many`] of 16 exactly where the class is durable or promotable and 16 such rows stand.
+    /// - [`AddRefusal::Many`] of 32 exactly where there are 32 rows.
+    /// - [`AddRefusal::Many`] of 16 exactly where the class is durable or promotable and there are 16 such rows.
     pub fn add(&mut self, e: EnlNo, class: Class) -> Result<(), AddRefusal>
         ensures refused { IfErr result (λ r. add_refusal e class self.old ≡ Some r) }
         ensures unchanged { OnErr result (self.new ≡ self.old) }
@@ -181,17 +285,18 @@ impl EnlistTable {
         if self.rows.len() >= ENLISTMENTS {
             return Err(AddRefusal::Many(ENLISTMENTS as u8));
         }
-        if is_lasting(class) && lasting(&self.rows) >= DURABLES {
+        if !class.is_volatile() && lasting(&self.rows) >= DURABLES {
             return Err(AddRefusal::Many(DURABLES as u8));
         }
         let row = Row {
+            number: e,
             class,
             added: marks(&self.rows),
             asked: None,
             vote: None,
         };
         let at = place(&self.rows, e.get());
-        match self.rows.insert(at, (e, row)) {
+        match self.rows.insert(at, row) {
             Ok(()) => Ok(()),
             Err(_) => unreachable!(),
         }
@@ -202,7 +307,7 @@ impl EnlistTable {
     /// # Errors
     ///
     /// - [`TableRefusal::NoSuch`] exactly where it has no row.
-    /// - [`TableRefusal::AlreadyThere`] exactly where the mark stands.
+    /// - [`TableRefusal::AlreadyThere`] exactly where it is marked.
     pub fn set_asked(&mut self, e: EnlNo) -> Result<(), TableRefusal>
         ensures refused { IfErr result (λ r. row_refusal is_marked e self.old ≡ Some r) }
         ensures unchanged { OnErr result (self.new ≡ self.old) }
@@ -212,7 +317,7 @@ impl EnlistTable {
         if !self.stands(e) {
             return Err(TableRefusal::NoSuch(e));
         }
-        if self.is_asked(e) {
+        if self.was_asked(e) {
             return Err(TableRefusal::AlreadyThere(e));
         }
         let n = marks(&self.rows);
@@ -220,7 +325,7 @@ impl EnlistTable {
         Ok(())
     }
 
-    /// Takes down an enlistment's vote.
+    /// Keeps an enlistment's vote.
     ///
     /// # Errors
     ///
@@ -240,28 +345,5 @@ impl EnlistTable {
         }
         vote(&mut self.rows, e, v);
         Ok(())
-    }
-
-    /// The row of an enlistment, where it has one.
-    pub fn state_of(&self, e: EnlNo) -> Option<Row>
-        ensures { result ≡ row_of (find (is_of e.value) self.now) }
-    {
-        self.enlistment(e).map(|x| x.1)
-    }
-
-    /// How many enlistments haven't voted.
-    pub fn voters_left(&self) -> u8
-        ensures { result ≡ how_many (λ x. not (has_voted x)) self.now }
-    {
-        self.rows.iter().filter(|x| x.1.vote.is_none()).count() as u8
-    }
-
-    /// Whether each enlistment that was asked when fewer than n were has voted.
-    pub fn voted_before(&self, n: u8) -> bool
-        ensures { result ≡ voted_before n self.now }
-    {
-        self.rows
-            .iter()
-            .all(|x| !is_asked_before(x.1.asked, n) || x.1.vote.is_some())
     }
 }

@@ -78,14 +78,14 @@ fn rows_keep_their_order_and_marks(rt: HostRuntime) -> Result<(), Fail> {
         (e3, Class::Zero, 0, Some(0), Some(Vote::No)),
     ];
     assert_eq!(rt; t.rows().len(), wanted.len());
-    for ((e, class, added, asked, vote), (f, row)) in wanted.iter().zip(t.rows()) {
+    for ((e, class, added, asked, vote), row) in wanted.iter().zip(t.rows()) {
         let want = Row {
+            number: *e,
             class: *class,
             added: *added,
             asked: *asked,
             vote: *vote,
         };
-        assert_eq!(rt; *f, *e);
         assert_eq!(rt; *row, want);
         assert_eq!(rt; t.state_of(*e), Some(want));
     }

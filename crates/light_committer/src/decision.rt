@@ -2,13 +2,14 @@
 ghost use Rattle.std.specs.Prelude.{◌≡◌, ◌≤◌, true, false};
 ghost use Rattle.dtx_values.specs.Table.{how_many};
 ghost use Rattle.dtx_model.specs.Words.{has};
-ghost use Rattle.dtx_model.specs.Owners.{is_lasting};
-ghost use Rattle.dtx_model.specs.Steps.{all_voted, is_evident, lost_outcome, voted_no};
+ghost use Rattle.dtx_values.specs.Owners.{is_evident};
+ghost use Rattle.dtx_values.specs.Waves.{all_voted};
+ghost use Rattle.dtx_values.specs.Row.{is_lasting, voted_no};
+ghost use Rattle.dtx_model.specs.Steps.{lost_outcome};
 ghost use Rattle.light_committer.specs.declared.decision.LightAct.TheVariants.{CommitNow};
 ghost use Rattle.light_committer.specs.LightAct.{light_act};
 
-use dtx_values::{Class, EnlNo, Outcome, Row};
-use durable_enlist::owner_of;
+use dtx_values::{EnlNo, Outcome};
 use enlist_table::EnlistTable;
 
 /// What is done with the commit of a transaction that is sealed and isn't promoted.
@@ -29,10 +30,10 @@ pub fn decide(t: &EnlistTable, handed: bool) -> LightAct
     ensures act { result ≡ light_act t.now handed }
     ensures evident { result ≡ CommitNow → has voted_no t.now ≡ false → is_evident true t.now ≡ true }
 {
-    if handed || !all_voted(t.rows()) {
+    if handed || !t.volatiles_voted() {
         return LightAct::Nothing;
     }
-    match owner_of(t) {
+    match t.owner() {
         Some(e) => LightAct::HandTo(e),
         None => LightAct::CommitNow,
     }
@@ -47,11 +48,4 @@ pub fn owner_lost(handed: bool) -> Outcome
     } else {
         Outcome::Aborted
     }
-}
-
-/// Whether each volatile enlistment voted.
-fn all_voted(rows: &[(EnlNo, Row)]) -> bool
-    ensures { result ≡ all_voted rows.now }
-{
-    rows.iter().all(|x| !matches!(x.1.class, Class::Zero | Class::One) || x.1.vote.is_some())
 }

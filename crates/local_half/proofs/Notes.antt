@@ -9,16 +9,18 @@ use Rattle.dtx_values.specs.declared.words.Class.{Class}
 use Rattle.dtx_values.specs.declared.words.Class.TheVariants.{Zero, One, DurableTwo, DurableSingle, Promotable}
 use Rattle.dtx_values.specs.declared.words.Outcome.{Outcome}
 use Rattle.dtx_values.specs.declared.words.Vote.{Vote}
-use Rattle.dtx_values.specs.Table.{Enlistment, has_voted, how_many, insert_by, is_marked, is_of}
+use Rattle.dtx_values.specs.declared.row.Row.{Row}
+use Rattle.dtx_values.specs.Table.{how_many, insert_by, has_row}
 use Rattle.dtx_values.proofs.Counts.{how_many-none}
-use Rattle.dtx_model.specs.Entries.{is_volatile}
+use Rattle.dtx_values.specs.Class.{is_volatile}
 use Rattle.dtx_model.specs.Observed.{Observed}
-use Rattle.dtx_model.specs.Owners.{cause_of, is_lasting, may_own}
-use Rattle.dtx_model.specs.Steps.{behind_begin, behind_end, due_of, durable_answer, is_done, is_gone, is_handed, note_of, open_note, promotable_answer, wait_for}
+use Rattle.dtx_values.specs.Row.{is_lasting, has_voted, is_marked, is_of}
+use Rattle.dtx_values.specs.Owners.{cause_of, may_own}
+use Rattle.dtx_model.specs.Steps.{if_begun, unless_ended, due_of, durable_answer, is_done, is_gone, is_handed, note_of, open_note, promotable_answer, wait_for}
 use Rattle.dtx_model.specs.Words.{has}
 use Rattle.dtx_model.proofs.Bools.{and_never, not_false, not_true}
 use Rattle.dtx_model.proofs.Unowned.{causeless}
-use Rattle.enlist_table.specs.Refusals.{add_refusal, stands, is_lasting as lasts_in}
+use Rattle.enlist_table.specs.Refusals.{add_refusal, is_lasting as lasts_in}
 use Rattle.local_half.specs.Half.{fits_due}
 use Rattle.volatile_enlist.specs.Refusals.{was_asked}
 
@@ -41,7 +43,7 @@ some_left p (x ∷ xs) = step (p x) (some_left p xs)
     step false ih = ih
 
 -- a call is done behind notbegun and ended only where it is without them
-done_inside : (limit : Option ℕ) (d : Option Outcome) (a : Answer) → is_done (behind_begin limit (behind_end d a)) ≡ true → is_done a ≡ true
+done_inside : (limit : Option ℕ) (d : Option Outcome) (a : Answer) → is_done (if_begun limit (unless_ended d a)) ≡ true → is_done a ≡ true
 done_inside None d a k = absurd (cc)
 done_inside (Some l) (Some x) a k = absurd (cc)
 done_inside (Some l) None a k = k
@@ -55,19 +57,19 @@ lasts_in-same DurableSingle = refl
 lasts_in-same Promotable = refl
 
 -- the table counts as many where none lasts
-lasting-none : (xs : List Enlistment) → has is_lasting xs ≡ false → nat_le 16 (how_many (λ x. lasts_in x.1.class) xs) ≡ false
+lasting-none : (xs : List Row) → has is_lasting xs ≡ false → nat_le 16 (how_many (λ x. lasts_in x.class) xs) ≡ false
 lasting-none xs none =
-    let same : how_many (λ x. lasts_in x.1.class) xs ≡ how_many is_lasting xs = λ i. how_many (λ x. lasts_in-same x.1.class i) xs in
+    let same : how_many (λ x. lasts_in x.class) xs ≡ how_many is_lasting xs = λ i. how_many (λ x. lasts_in-same x.class i) xs in
     let zero : (how_many is_lasting xs == 0) ≡ true = how_many-none is_lasting xs ∙ not_false (has is_lasting xs) none in
     grind (arith, nat_tests)
 
 -- a new one is taken where 32 don't stand and none lasts
-taken : (e : EnlNo) (c : Class) (xs : List Enlistment) → stands e.value xs ≡ false → nat_le 32 (length xs) ≡ false → has is_lasting xs ≡ false → add_refusal e c xs ≡ None
+taken : (e : EnlNo) (c : Class) (xs : List Row) → has_row e.value xs ≡ false → nat_le 32 (length xs) ≡ false → has is_lasting xs ≡ false → add_refusal e c xs ≡ None
 taken e c xs new few none = rw (new, few, lasting-none xs none, and_never (lasts_in c)) refl
 
 -- a new durable one whose call is done is taken, and none lasts beside it
-pub may_last : (limit : Option ℕ) (d : Option Outcome) (sealed single : Bool) (xs : List Enlistment) (e : EnlNo)
-    → is_done (behind_begin limit (behind_end d (durable_answer sealed single xs))) ≡ true → not (has (is_of e.value) xs) ≡ true
+pub may_last : (limit : Option ℕ) (d : Option Outcome) (sealed single : Bool) (xs : List Row) (e : EnlNo)
+    → is_done (if_begun limit (unless_ended d (durable_answer sealed single xs))) ≡ true → not (has (is_of e.value) xs) ≡ true
     → (add_refusal e DurableSingle xs ≡ None) × (not (has is_lasting xs) ≡ true)
 may_last limit d sealed single xs e k fresh = step sealed (nat_le 32 (length xs)) (nat_le 16 (how_many is_lasting xs)) refl (done_inside limit d (durable_answer sealed single xs) k)
   where
@@ -81,8 +83,8 @@ may_last limit d sealed single xs e k fresh = step sealed (nat_le 32 (length xs)
         (taken e DurableSingle xs (not_true (has (is_of e.value) xs) fresh) m none, not_false (has is_lasting xs) none)
 
 -- a new promotable one whose call is done is taken, and none lasts beside it
-pub may_promote : (limit : Option ℕ) (d : Option Outcome) (sealed : Bool) (xs : List Enlistment) (e : EnlNo)
-    → is_done (behind_begin limit (behind_end d (promotable_answer sealed xs))) ≡ true → not (has (is_of e.value) xs) ≡ true
+pub may_promote : (limit : Option ℕ) (d : Option Outcome) (sealed : Bool) (xs : List Row) (e : EnlNo)
+    → is_done (if_begun limit (unless_ended d (promotable_answer sealed xs))) ≡ true → not (has (is_of e.value) xs) ≡ true
     → (add_refusal e Promotable xs ≡ None) × (not (has is_lasting xs) ≡ true)
 unfolding may_own
 may_promote limit d sealed xs e k fresh = step sealed (has is_lasting xs) (nat_le 32 (length xs)) refl refl (done_inside limit d (promotable_answer sealed xs) k)
@@ -114,7 +116,7 @@ due-asked o e v s f = by (find (is_of e) o.table) refl s f
     marked false false n true s f = absurd (cc)
     marked false false n false s f = absurd (cc)
 
-    by : (r : Option Enlistment) → find (is_of e) o.table ≡ r → is_some (note_of o r) ≡ true → fits_due (VoteReply v) (note_of o r) ≡ true → was_asked e o.table ≡ true
+    by : (r : Option Row) → find (is_of e) o.table ≡ r → is_some (note_of o r) ≡ true → fits_due (VoteReply v) (note_of o r) ≡ true → was_asked e o.table ≡ true
     by None r s f = absurd (cc)
     by (Some x) r s f =
         found (is_of e) is_marked o.table x r

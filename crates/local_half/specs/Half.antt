@@ -7,12 +7,13 @@ use Rattle.dtx_values.specs.declared.entry.Entry.TheVariants.{Cloned, Enlisted, 
 use Rattle.dtx_values.specs.declared.note.Note.{Note}
 use Rattle.dtx_values.specs.declared.note.Reply.{Reply}
 use Rattle.dtx_values.specs.declared.number.TxNo.{TxNo}
-use Rattle.dtx_values.specs.Table.{Enlistment}
+use Rattle.dtx_values.specs.declared.row.Row.{Row}
 use Rattle.dtx_model.specs.Words.{has}
-use Rattle.dtx_model.specs.Entries.{is_volatile}
-use Rattle.dtx_model.specs.Owners.{is_lasting}
+use Rattle.dtx_values.specs.Row.{is_lasting}
+use Rattle.dtx_values.specs.Class.{is_volatile}
 use Rattle.dtx_model.specs.Observed.{Observed, track_all}
-use Rattle.dtx_model.specs.Steps.{fits, is_single}
+use Rattle.dtx_values.specs.Support.{is_single}
+use Rattle.dtx_model.specs.Steps.{fits}
 use Rattle.enlist_table.specs.Refusals.{add_refusal}
 use Rattle.dependent_clones.specs.Refusals.{clone_refusal}
 use Rattle.volatile_enlist.specs.Refusals.{was_asked}
@@ -38,7 +39,7 @@ is_its_own (Recovered t r) = false
 is_its_own _ = true
 
 -- a durable call comes with single-phase support, and with nothing durable or promotable there. (Until promotion comes.)
-abbrev pub is_alone : List Enlistment → Call → Bool
+abbrev pub is_alone : List Row → Call → Bool
 is_alone xs (Durable t e r x) = is_single x && not (has is_lasting xs)
 is_alone xs _ = true
 

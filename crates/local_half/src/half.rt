@@ -2,16 +2,17 @@
 ghost use Rattle.std.specs.Prelude.{◌≡◌, ◌<◌, ◌≤◌, [], ◌∷◌, false, find, length, is_some, IfOk, not, true};
 ghost use Rattle.dtx_values.specs.Outgoing.{with};
 ghost use Rattle.dtx_values.specs.Clones.{is_open_rollback};
-ghost use Rattle.dtx_values.specs.Table.{is_of};
+ghost use Rattle.dtx_values.specs.Row.{is_of};
 ghost use Rattle.dtx_values.specs.declared.entry.Answer.TheVariants.{Fine};
 ghost use Rattle.dtx_values.specs.declared.entry.Entry.TheVariants.{Enlisted};
 ghost use Rattle.dtx_model.specs.Outcome.{is_empty};
 ghost use Rattle.dtx_model.specs.Words.{has, kth, put};
-ghost use Rattle.dtx_model.specs.Waves.{is_over, next_ask};
-ghost use Rattle.dtx_model.specs.Owners.{owner_of};
+ghost use Rattle.dtx_values.specs.Owners.{owner_of};
 ghost use Rattle.dtx_model.specs.Observed.{observe, track};
 ghost use Rattle.dtx_model.specs.Caused.{is_new};
-ghost use Rattle.dtx_model.specs.Steps.{Calls, act_entries, all_due, all_voted, answer, before_seal, behind_begin, behind_seal, block, clone_answer, commit_act, complete_answer, decided_if, due_note, due_of, durable_answer, facts, gone_answer, gone_facts, hears_abort, is_done, is_gone, is_handed, is_late, is_to_tell, lasts, promotable_answer, reply_entries, stands, status_answer, tell, tick_facts, unless_late, unless_over, veto_if, volatile_answer, voted};
+ghost use Rattle.dtx_values.specs.Waves.{all_voted, is_over, next_ask};
+ghost use Rattle.dtx_values.specs.Table.{voted};
+ghost use Rattle.dtx_model.specs.Steps.{Calls, act_entries, all_due, answer, before_seal, if_begun, after_seal, block, clone_answer, commit_act, complete_answer, decided_if, due_note, due_of, durable_answer, facts, gone_answer, gone_facts, hears_abort, is_done, is_gone, is_handed, is_late, is_to_tell, lasts, promotable_answer, reply_entries, stands, status_answer, tell, tick_facts, unless_late, unless_over, veto_if, volatile_answer};
 ghost use Rattle.local_half.specs.Half.{MayNote, after, fits_due, is_alone, is_its_own};
 
 use crate::listeners::{add, is_gone, lose, tell};
@@ -55,7 +56,7 @@ impl Model for LocalHalf {
     ghost use Rattle.std.specs.Prelude.{◌≤◌, ◌≡◌, length, vec_capacity};
     ghost use Rattle.dtx_values.specs.declared.limits.TheConstants.{ENLISTMENTS};
     ghost use Rattle.dtx_values.specs.Table.{how_many};
-    ghost use Rattle.dtx_model.specs.Owners.{is_lasting};
+    ghost use Rattle.dtx_values.specs.Row.{is_lasting};
     ghost use Rattle.local_half.specs.Half.{Half};
 
     ghost Value = { Half };
@@ -228,8 +229,8 @@ impl LocalHalf {
     }
 
     /// The answer behind `notbegun`.
-    fn behind_begin(&self, a: Answer) -> Answer
-        ensures { result ≡ behind_begin self.now.seen.limit a }
+    fn if_begun(&self, a: Answer) -> Answer
+        ensures { result ≡ if_begun self.now.seen.limit a }
     {
         match self.limit {
             Some(_) => a,
@@ -241,7 +242,7 @@ impl LocalHalf {
     fn unless_over(&self, a: Answer) -> Answer
         ensures { result ≡ unless_over self.now.seen a }
     {
-        self.behind_begin(match self.decided {
+        self.if_begun(match self.decided {
             Some(o) => Answer::Ended(o),
             None => a,
         })
@@ -337,8 +338,8 @@ impl LocalHalf {
             )),
             Call::Commit(_) => self.unless_over(unless_late(self.commit)),
             Call::Rollback(_) => self.unless_over(unless_late(self.sealed)),
-            Call::Status(_) => self.behind_begin(self.status_answer()),
-            Call::Tick(_, _) => self.behind_begin(Answer::Fine),
+            Call::Status(_) => self.if_begun(self.status_answer()),
+            Call::Tick(_, _) => self.if_begun(Answer::Fine),
             _ => Answer::Fine,
         }
     }
@@ -497,7 +498,7 @@ impl LocalHalf {
         self.table
             .rows()
             .iter()
-            .any(|x| x.0 == e && x.1.vote.is_some())
+            .any(|x| x.0 == e && x.vote.is_some())
     }
 
     /// Whether the commit was handed to the enlistment.
@@ -514,7 +515,7 @@ impl LocalHalf {
         self.table
             .rows()
             .iter()
-            .any(|x| x.0 == e && !is_volatile(x.1.class))
+            .any(|x| x.0 == e && !is_volatile(x.class))
     }
 
     /// Whether it is durable or promotable, and an abort is told to it: it wasn't handed the commit, and isn't lost.
@@ -575,7 +576,7 @@ impl LocalHalf {
     /// The entry behind the seal: the next is asked; when all voted, the commit is handed to the owner, once, or it is committed where nothing is
     /// durable or promotable.
     fn next_behind_seal(&self) -> Option<Entry>
-        ensures { put result [] ≡ behind_seal (next_ask self.now.seen.table false) (all_voted self.now.seen.table) (commit_act (is_some self.now.seen.handed) (owner_of self.now.seen.table)) }
+        ensures { put result [] ≡ after_seal (next_ask self.now.seen.table false) (all_voted self.now.seen.table) (commit_act (is_some self.now.seen.handed) (owner_of self.now.seen.table)) }
     {
         match next_ask(&self.table, false) {
             Some(e) => Some(Entry::Asked(e, Ask::Prepare)),
@@ -654,7 +655,7 @@ impl LocalHalf {
         if self.decided.is_some() {
             return None;
         }
-        let note = if x.1.asked.is_some() && x.1.vote.is_none() {
+        let note = if x.asked.is_some() && x.vote.is_none() {
             Note::Prepare
         } else if self.is_handed(x.0) {
             Note::Hand

@@ -1,10 +1,12 @@
 //! What the rows say of votes and owners.
 ghost use Rattle.std.specs.Prelude.{◌≡◌, ◌&&◌};
 ghost use Rattle.dtx_values.specs.Table.{how_many};
-ghost use Rattle.dtx_model.specs.Entries.{is_volatile};
-ghost use Rattle.dtx_model.specs.Owners.{is_lasting};
+ghost use Rattle.dtx_values.specs.Row.{is_lasting};
+ghost use Rattle.dtx_values.specs.Class.{is_volatile};
 ghost use Rattle.dtx_model.specs.Words.{each};
-ghost use Rattle.dtx_model.specs.Steps.{is_evident, is_no, is_single, voted_well};
+ghost use Rattle.dtx_values.specs.Support.{is_single};
+ghost use Rattle.dtx_values.specs.Vote.{is_no, voted_well};
+ghost use Rattle.dtx_values.specs.Owners.{is_evident};
 
 use dtx_values::{Class, EnlNo, Row, Support, Vote};
 
@@ -40,14 +42,14 @@ pub fn is_no(v: Vote) -> bool
 
 /// Whether it is volatile and voted yes or done.
 pub fn is_well(x: &(EnlNo, Row)) -> bool
-    ensures { result ≡ (is_volatile x.now.1.class && voted_well x.now.1.vote) }
+    ensures { result ≡ (is_volatile x.now.class && voted_well x.now.vote) }
 {
-    is_volatile(x.1.class) && voted_well(x.1.vote)
+    is_volatile(x.class) && voted_well(x.vote)
 }
 
 /// Whether each is volatile and voted yes or done.
 pub fn are_well(rows: &[(EnlNo, Row)]) -> bool
-    ensures { result ≡ each (λ x. is_volatile x.1.class && voted_well x.1.vote) rows.now }
+    ensures { result ≡ each (λ x. is_volatile x.class && voted_well x.vote) rows.now }
 {
     rows.iter().all(|x| is_well(x))
 }
@@ -63,7 +65,7 @@ pub fn is_evident(sealed: bool, rows: &[(EnlNo, Row)]) -> bool
 pub fn lasting(rows: &[(EnlNo, Row)]) -> usize
     ensures { result ≡ how_many is_lasting rows.now }
 {
-    rows.iter().filter(|x| !is_volatile(x.1.class)).count()
+    rows.iter().filter(|x| !is_volatile(x.class)).count()
 }
 
 /// Whether the durable can own the commit.

@@ -7,7 +7,7 @@ use Rattle.std.proofs.lemmas.Nat.{from_le_bytes-to_le_bytes_2}
 use Rattle.std.specs.Int.{w16, from_le_bytes, to_le_bytes}
 use Rattle.dtx_values.specs.declared.message.Message.{Message}
 use Rattle.dtx_model.specs.Frames.{BodyKind, Empty, Identifier, Information, Reason, FrameFault, TooShort, NoType, WrongLength, IsFrame, bad_place, body_fault, body_kind, body_length, field_fault, frame, frame_fault, tag_fault}
-use Rattle.dtx_model.specs.RecoveryInfo.{is_from_one}
+use Rattle.dtx_values.specs.RecoveryInfo.{is_from_one}
 
 -- where three tests hold, what is chosen stands behind them
 three_tests : (p q r : Bool) (x y z w : Option FrameFault) → p ≡ true → q ≡ true → r ≡ true

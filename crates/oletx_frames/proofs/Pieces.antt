@@ -1,16 +1,13 @@
 -- Messages as the pieces of their frames, and back.
-use Rattle.std.proofs.Common.{◌≡◌, ℕ, ◌≤◌, Bool, true, List, ◌++◌, length, take, drop, get_or, Some, None, refl, ap, sym, ◌∙◌, arith, if◌then◌else◌, ◌==◌}
+use Rattle.std.proofs.Common.{◌≡◌, ℕ, ◌≤◌, Bool, true, List, [], ◌++◌, length, take, drop, get_or, Some, None, refl, ap, sym, ◌∙◌, arith, if◌then◌else◌, ◌==◌}
 use Rattle.std.proofs.lemmas.List.{length-take-le, take-append-drop, take_at}
-use Rattle.std.proofs.lemmas.Bool.Decides.{nat_tests}
-use Rattle.std.specs.Int.{w128, from_be_bytes}
 use Rattle.dtx_values.specs.declared.message.Info.{Info}
 use Rattle.dtx_values.specs.declared.message.Message.{Message}
 use Rattle.dtx_values.specs.declared.message.Message.TheVariants.{BeginBegin, BeginCommit, BeginAbort, BeginBegun, BeginCommitted, BeginAborted, VoterVoter, VoterYes, VoterNo, VoterCreated, VoterRefused, VoterAsk, VoterCommit, VoterAbort, EnlistEnlist, EnlistPrepared, EnlistNo, EnlistReadonly, EnlistAck, EnlistEnlisted, EnlistRefused, EnlistPrepare, EnlistCommit, EnlistAbort, ReenlistReenlist, ReenlistAck, ReenlistCommitted, ReenlistAborted}
-use Rattle.dtx_model.specs.Frames.{BodyKind, FrameFault, IsFrame, bad_place, body_kind, body_length, frame, frame_fault, frame_of, id_body, is_valid}
+use Rattle.dtx_model.specs.Frames.{BodyKind, FrameFault, IsFrame, bad_place, body_kind, body_length, frame, frame_fault, frame_of, is_valid}
 use Rattle.dtx_model.specs.Frames as kind
-use Rattle.dtx_model.specs.RecoveryInfo.{IsInfo, info_bytes, is_from_one, is_id}
-use Rattle.dtx_model.proofs.Halves.{from_be_bytes-to_be_bytes_16}
-use Rattle.durable_enlist.proofs.Infos.{same_info, written_enlistment, written_id, written_manager}
+use Rattle.dtx_values.specs.RecoveryInfo.{IsInfo, id_bytes, info_bytes, is_from_one, is_id, pair_bytes}
+use Rattle.dtx_values.proofs.Infos.{id_again, info_id, info_pair, read_same as read_info_same}
 use Rattle.oletx_frames.specs.Bodies.{body_bytes}
 use Rattle.oletx_frames.specs.declared.parts.Body.{Body}
 use Rattle.oletx_frames.specs.declared.parts.Body.TheVariants.{Empty, Identifier, Information, Reason}
@@ -115,7 +112,7 @@ valid_is _ = refl
 
 -- the length of a body's bytes
 pub length_is : (x : Body) → length (body_bytes x) ≡ body_length (kind_in x)
-unfolding info_bytes
+unfolding info_bytes pair_bytes
 length_is Empty = refl
 length_is (Identifier u) = refl
 length_is (Information i) = refl
@@ -140,21 +137,20 @@ no_fault m rest valid =
     ∙ whole_frame (pieces_of m).type (pieces_of m).tag (kind_in x) (body_bytes x) rest (type_is m) (kind_is m) (length_is x) (good_body x (sym (valid_is m) ∙ valid))
 
 -- a valid identifier is told by its bytes
-same_id : (u k : ℕ) → is_id u ≡ true → is_id k ≡ true → id_body u ≡ id_body k → u ≡ k
-same_id u k v w e =
-    sym (from_be_bytes-to_be_bytes_16 u (grind (arith, nat_tests))) ∙ ap (from_be_bytes w128) e ∙ from_be_bytes-to_be_bytes_16 k (grind (arith, nat_tests))
+same_id : (u k : ℕ) → is_id u ≡ true → is_id k ≡ true → id_bytes u ≡ id_bytes k → u ≡ k
+same_id u k v w e = let first = id_again u [] v in let second = id_again k [] w in cc (first, second, e)
 
 -- so is valid information
 same_infos : (i j : Info) → is_id i.id ≡ true → is_id j.id ≡ true → info_bytes i ≡ info_bytes j → i ≡ j
 same_infos i j v w e =
-    let b = info_bytes i in
-    let p : IsInfo b i = record { valid = v; bytes = refl } in
-    let q : IsInfo b j = record { valid = w; bytes = e } in
-    same_info i j (sym (written_id b i p) ∙ written_id b j q) (sym (written_manager b i p) ∙ written_manager b j q) (sym (written_enlistment b i p) ∙ written_enlistment b j q)
+    let b = info_bytes j in
+    let p : IsInfo b i = record { valid = v; bytes = sym e } in
+    let q : IsInfo b j = record { valid = w; bytes = refl } in
+    read_info_same b j i q (info_id b i p) (info_pair b i p)
 
 -- a valid body is told by its bytes
 same_body : (x y : Body) → is_valid_body x ≡ true → is_valid_body y ≡ true → body_bytes x ≡ body_bytes y → x ≡ y
-unfolding info_bytes
+unfolding info_bytes pair_bytes
 same_body Empty Empty v w e = refl
 same_body (Identifier u) (Identifier k) v w e = ap Identifier (same_id u k v w e)
 same_body (Information i) (Information j) v w e = ap Information (same_infos i j v w e)

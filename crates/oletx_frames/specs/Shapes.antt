@@ -3,8 +3,8 @@ use Rattle.std.specs.Prelude.{◌≡◌, ℕ, List, [], ◌∷◌}
 use Rattle.dtx_values.specs.declared.message.Info.{Info}
 use Rattle.dtx_values.specs.declared.message.Message.{Message}
 use Rattle.dtx_values.specs.declared.message.Message.TheVariants.{BeginBegun, VoterVoter, VoterRefused, EnlistEnlist, EnlistRefused, ReenlistReenlist}
-use Rattle.dtx_model.specs.Frames.{BodyKind, Empty, Identifier, Information, Reason, IsFrame, frame, frame_of, id_body}
-use Rattle.dtx_model.specs.RecoveryInfo.{info_bytes}
+use Rattle.dtx_model.specs.Frames.{BodyKind, Empty, Identifier, Information, Reason, IsFrame, frame, frame_of}
+use Rattle.dtx_values.specs.RecoveryInfo.{id_bytes, info_bytes}
 use Rattle.oletx_frames.specs.declared.shape.Shape.{Shape}
 use Rattle.oletx_frames.specs.declared.shape.Shape.TheVariants as shape
 
@@ -21,8 +21,8 @@ kind_of shape.Reenlist = Information
 -- the frames of this type and tag are those of the shape's messages
 abbrev pub IsHead : ℕ → ℕ → Shape → Type 0
 IsHead type tag (shape.Plain m) = IsFrame (frame type tag []) m
-IsHead type tag shape.Begun = (u : ℕ) → frame_of (BeginBegun u) ≡ frame type tag (id_body u)
-IsHead type tag shape.Voter = (u : ℕ) → frame_of (VoterVoter u) ≡ frame type tag (id_body u)
+IsHead type tag shape.Begun = (u : ℕ) → frame_of (BeginBegun u) ≡ frame type tag (id_bytes u)
+IsHead type tag shape.Voter = (u : ℕ) → frame_of (VoterVoter u) ≡ frame type tag (id_bytes u)
 IsHead type tag shape.VoterRefused = (cause : ℕ) → frame_of (VoterRefused cause) ≡ frame type tag (cause ∷ [])
 IsHead type tag shape.Enlist = (i : Info) → frame_of (EnlistEnlist i) ≡ frame type tag (info_bytes i)
 IsHead type tag shape.EnlistRefused = (cause : ℕ) → frame_of (EnlistRefused cause) ≡ frame type tag (cause ∷ [])

@@ -1,16 +1,15 @@
 //! Reads the bodies of frames.
 ghost use Rattle.std.specs.Prelude.{◌≡◌, ◌≤◌, [], ◌∷◌, Some, true, length, IfErr, IfOk};
-ghost use Rattle.dtx_model.specs.Frames.{bad_place, bad_reason, body_length, id_body};
-ghost use Rattle.dtx_model.specs.RecoveryInfo.{IsInfo, bad_field, bad_identifier, is_from_one, is_id};
+ghost use Rattle.dtx_values.specs.RecoveryInfo.{IsInfo, bad_field, bad_identifier, id_bytes, is_from_one, is_id};
+ghost use Rattle.dtx_model.specs.Frames.{bad_place, bad_reason, body_length};
 ghost use Rattle.oletx_frames.specs.Shapes.{IsMade, kind_of};
 
 use crate::shape::Shape;
-use dtx_values::{Info, Message};
-use durable_enlist::{BadInfo, parse_info};
+use dtx_values::{BadInfo, Info, Message, parse_info, read_identifier};
 
 impl Shape {
     /// The message that a body makes, or the place of the body's first bad field.
-    pub fn message(self, body: &[u8]) -> Result<Message, usize>
+    pub fn message(self, body: &[u8]) -> Result<Message, u8>
         requires { length body.now ≡ body_length (kind_of self) }
         ensures made { IfOk result (λ m. IsMade self body.now m) }
         ensures bad { IfErr result (λ p. bad_place (kind_of self) body.now ≡ Some p) }
@@ -29,27 +28,18 @@ impl Shape {
 }
 
 /// The identifier that 16 bytes are, or the place of their first bad field.
-fn identifier(body: &[u8]) -> Result<u128, usize>
+fn identifier(body: &[u8]) -> Result<u128, u8>
     requires { length body.now ≡ 16 }
     ensures valid { IfOk result (λ u. is_id u ≡ true) }
-    ensures bytes { IfOk result (λ u. body.now ≡ id_body u) }
+    ensures bytes { IfOk result (λ u. body.now ≡ id_bytes u) }
     ensures bad { IfErr result (λ p. bad_identifier body.now ≡ Some p) }
     ensures small { IfErr result (λ p. p ≤ 32) }
 {
-    let mut bytes = [0; 16];
-    bytes.copy_from_slice(body);
-    let id = u128::from_be_bytes(bytes);
-    if id >> 64 == 0 {
-        return Err(0);
-    }
-    if id % (1 << 64) == 0 {
-        return Err(8);
-    }
-    Ok(id)
+    read_identifier(body)
 }
 
 /// The recovery information that 36 bytes are, or the place of their first bad field.
-fn information(body: &[u8]) -> Result<Info, usize>
+fn information(body: &[u8]) -> Result<Info, u8>
     requires { length body.now ≡ 36 }
     ensures read { IfOk result (λ i. IsInfo body.now i) }
     ensures bad { IfErr result (λ p. bad_field body.now ≡ Some p) }
@@ -63,7 +53,7 @@ fn information(body: &[u8]) -> Result<Info, usize>
 }
 
 /// The cause that one byte is, or 0, its place, where it is none.
-fn reason(body: &[u8]) -> Result<u8, usize>
+fn reason(body: &[u8]) -> Result<u8, u8>
     requires { length body.now ≡ 1 }
     ensures valid { IfOk result (λ cause. is_from_one 2 cause ≡ true) }
     ensures bytes { IfOk result (λ cause. body.now ≡ cause ∷ []) }

@@ -9,9 +9,11 @@ mod refusal;
 mod shape;
 #[cfg(test)]
 mod tests;
+mod valid;
 mod writer;
 
 pub use law::no_frame_begins_another;
 pub use reader::decode;
 pub use refusal::FrameRefusal;
+pub use valid::is_valid;
 pub use writer::encode;

@@ -6,11 +6,11 @@ pub enum FrameRefusal {
     /// So many bytes are too few.
     Short(usize),
     /// The byte at this place, which is 0, is no type.
-    BadType(usize),
+    BadType(u8),
     /// The byte at this place, which is 1, is no tag of its type.
-    BadTag(usize),
+    BadTag(u8),
     /// The two bytes from this place on, which is 2, aren't the length of the body.
-    BadLength(usize),
+    BadLength(u8),
     /// The field of the body from this place on is bad.
-    BadValue(usize),
+    BadValue(u8),
 }

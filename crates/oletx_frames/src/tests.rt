@@ -126,7 +126,7 @@ fn a_frame_cut_short_is_refused(rt: HostRuntime) {
 }
 
 /// The place of a byte, what stands there in place of what the frame has, and the place of the field that is bad then.
-const BAD_BYTES: [(usize, u8, usize); 6] = [
+const BAD_BYTES: [(usize, u8, u8); 6] = [
     (11, 0, 4),
     (19, 0, 12),
     (35, 17, 20),

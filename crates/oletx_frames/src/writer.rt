@@ -1,16 +1,14 @@
 //! Writes messages as frames.
-ghost use Rattle.std.specs.Prelude.{◌≡◌, ◌≤◌, ◌+◌, ◌++◌, true, length, take, drop};
-ghost use Rattle.dtx_model.specs.Frames.{frame_of, is_valid};
+ghost use Rattle.std.specs.Prelude.{◌≡◌, ◌≤◌, ◌+◌, ◌++◌, length, take, drop};
+ghost use Rattle.dtx_model.specs.Frames.{frame_of};
 ghost use Rattle.oletx_frames.specs.Bodies.{body_bytes};
 
 use crate::parts::{Body, parts};
-use dtx_values::Message;
-use durable_enlist::write_info;
+use dtx_values::{Message, write_info};
 
 /// Writes the frame of a message, and gives its length: the type of its connection, its tag, the length of its body (2 bytes, the lowest first)
-/// and its body. The bytes behind it stay.
+/// and its body. The bytes after it stay.
 pub fn encode(m: &Message, into: &mut [u8; 40]) -> usize
-    requires { is_valid m.now ≡ true }
     ensures length { result ≡ length (frame_of m.now) }
     ensures frame { take result into.new ≡ frame_of m.now }
     ensures behind { drop result into.new ≡ drop result into.old }
@@ -23,8 +21,8 @@ pub fn encode(m: &Message, into: &mut [u8; 40]) -> usize
     4 + usize::from(length)
 }
 
-/// Writes a body behind the four bytes of a frame's head, and gives its length.
-#[tactic(auto, unfolding(dtx_model::specs::RecoveryInfo::info_bytes))]
+/// Writes a body after the four bytes of a frame's head, and gives its length.
+#[tactic(auto, unfolding(dtx_values::specs::RecoveryInfo::info_bytes, dtx_values::specs::RecoveryInfo::pair_bytes))]
 fn write_body(body: &Body, into: &mut [u8; 40]) -> u16
     ensures length { result ≡ length (body_bytes body.now) }
     ensures small { result ≤ 36 }

@@ -15,8 +15,8 @@ use Rattle.dtx_model.specs.Frames.{frame_of, is_valid}
 use Rattle.dtx_model.specs.Messages.{has_line}
 use Rattle.dtx_model.specs.Outcome.{is_empty}
 use Rattle.dtx_model.specs.Words.{each}
-use Rattle.dtx_model.specs.Wires.{MayCross, begins_ended, ended_after, ends, holds, is_ended, is_kept, is_lost_wire, is_next, is_open_wire, is_opening, is_stopped, kept, left, loses, lost_after, lost_since, opened_with, opens, same_connection, same_direction, sent_behind, without_first}
-use Rattle.oletx_session.specs.Traffic.{Becomes, Delivers, Ends, IsCut, Spells, Wire, fresh, lane, lost_with, sent_on, wire_of, with_bytes, with_end}
+use Rattle.dtx_model.specs.Wires.{MayCross, begins_ended, ended_after, ends, holds, is_ended, is_kept, is_lost_wire, is_next, is_open_wire, is_opening, is_stopped, kept, in_transit, loses, lost_after, lost_since, opened_with, opens, same_connection, same_direction, sent_behind, without_first}
+use Rattle.oletx_session.specs.Traffic.{Becomes, Delivers, Ends, IsCut, Spells, Wire, fresh, lane, lost_with, may_send, sent_on, wire_of, with_bytes, with_end}
 use Rattle.oletx_session.specs.Carries.{Carries, IsLane, IsStarted, IsWire}
 use Rattle.oletx_session.proofs.Conns.{same_is, same_self, same_way_is}
 use Rattle.oletx_session.proofs.Reading.{first_read, none_read}
@@ -32,7 +32,7 @@ ended_kept x d h e shut kept =
     (λ k. ended_after (shut k) (begins_ended d h) (kept k || is_ended x d h))
 
 -- a connection that the history leaves as it was
-wire_kept : (x : Conn) (o : Option Wire) (h n : List Entry) → lost_since x n ≡ lost_since x h → ((d : Dir) → left x d n ≡ left x d h) → ((d : Dir) → is_ended x d n ≡ is_ended x d h) → IsWire x o h
+wire_kept : (x : Conn) (o : Option Wire) (h n : List Entry) → lost_since x n ≡ lost_since x h → ((d : Dir) → in_transit x d n ≡ in_transit x d h) → ((d : Dir) → is_ended x d n ≡ is_ended x d h) → IsWire x o h
     → IsWire x o n
 wire_kept x None h n lost queue ended is = lost ∙ is
 wire_kept x (Some w) h n lost queue ended is = (
@@ -45,7 +45,7 @@ wire_kept x (Some w) h n lost queue ended is = (
 
 -- where one connection stands as the history says, and the others still do, all do
 spread : (c : Conn) (w : Wire) (old new : List Wire) (h n : List Entry) → Becomes c w old new → ((x : Conn) → same_connection x c ≡ false → IsWire x (wire_of x old) h) → IsWire c (Some w) n
-    → ((x : Conn) → same_connection x c ≡ false → lost_since x n ≡ lost_since x h) → ((x : Conn) → same_connection x c ≡ false → (d : Dir) → left x d n ≡ left x d h)
+    → ((x : Conn) → same_connection x c ≡ false → lost_since x n ≡ lost_since x h) → ((x : Conn) → same_connection x c ≡ false → (d : Dir) → in_transit x d n ≡ in_transit x d h)
     → ((x : Conn) → same_connection x c ≡ false → (d : Dir) → is_ended x d n ≡ is_ended x d h) → Carries new n
 spread c w old new h n becomes before here lost queue ended x =
     elim (cases_Bool (same_connection x c)) [
@@ -67,9 +67,9 @@ sent_ends c x d Up m = refl
 sent_ends c x d Down m = refl
 
 -- what is sent on a connection leaves the others as they were
-sent_others : (c x : Conn) (d e : Dir) (m : Message) (h : List Entry) → same_connection x c ≡ false → left x e (Sent c d m ∷ h) ≡ left x e h
+sent_others : (c x : Conn) (d e : Dir) (m : Message) (h : List Entry) → same_connection x c ≡ false → in_transit x e (Sent c d m ∷ h) ≡ in_transit x e h
 sent_others c x d e m h other =
-    let ms = left x e h in
+    let ms = in_transit x e h in
     let on = same_connection x c && same_direction e d in
     let off = and_left (same_connection x c) (same_direction e d) other in
     cond-false (opens x (Sent c d m)) (opened_with e m (is_stopped h)) (cond on (sent_behind (is_open_wire x h) m ms) ms) (opens_other c x d m other)
@@ -102,18 +102,18 @@ spell_front : (n : ℕ) (b : List ℕ) (ms : List Message) → Spells b ms → S
 spell_front n b ms s = record { valid = each_take n ms s.valid; bytes = refl }
 
 -- a lane whose bytes and messages change alike
-lane_from : (c : Conn) (d : Dir) (v w : Wire) (h n : List Entry) (ms : List Message) → left c d n ≡ ms → Spells (lane d v).bytes ms → (lane d v).ended ≡ (lane d w).ended
+lane_from : (c : Conn) (d : Dir) (v w : Wire) (h n : List Entry) (ms : List Message) → in_transit c d n ≡ ms → Spells (lane d v).bytes ms → (lane d v).ended ≡ (lane d w).ended
     → is_ended c d n ≡ is_ended c d h → (lane d w).ended ≡ is_ended c d h → IsLane c d v n
 lane_from c d v w h n ms queue spelled same kept ended = record {
   queue = (let P : List Message → Type 0 = λ xs. Spells (lane d v).bytes xs in subst P (sym queue) spelled);
   ended = same ∙ ended ∙ sym kept;
 }
 
--- what is left behind a message that is sent on the connection
+-- what is on the way after a message that is sent on the connection
 sent_here : (c : Conn) (d e : Dir) (m : Message) (h : List Entry) → opens c (Sent c d m) ≡ false
-    → left c e (Sent c d m ∷ h) ≡ (if same_direction e d then sent_behind (is_open_wire c h) m (left c e h) else left c e h)
+    → in_transit c e (Sent c d m ∷ h) ≡ (if same_direction e d then sent_behind (is_open_wire c h) m (in_transit c e h) else in_transit c e h)
 sent_here c d e m h shut =
-    let ms = left c e h in
+    let ms = in_transit c e h in
     let behind = sent_behind (is_open_wire c h) m ms in
     cond-false (opens c (Sent c d m)) (opened_with e m (is_stopped h)) (cond (same_connection c c && same_direction e d) behind ms) shut
     ∙ ap (λ b. cond (b && same_direction e d) behind ms) (same_self c)
@@ -143,16 +143,16 @@ bytes_there Down Up b w other = refl
 bytes_there Down Down b w other = absurd cc
 
 -- a lane of a wire with one lane's bytes changed
-lane_bytes_from : (c : Conn) (d e : Dir) (b : List ℕ) (w : Wire) (h n : List Entry) (ms : List Message) → left c e n ≡ (if same_direction e d then ms else left c e h) → Spells b ms
+lane_bytes_from : (c : Conn) (d e : Dir) (b : List ℕ) (w : Wire) (h n : List Entry) (ms : List Message) → in_transit c e n ≡ (if same_direction e d then ms else in_transit c e h) → Spells b ms
     → is_ended c e n ≡ is_ended c e h → IsLane c e w h → IsLane c e (with_bytes d b w) n
 lane_bytes_from c d e b w h n ms queue spelled kept was =
     elim (cases_Bool (same_direction e d)) [
       | inl same ↦ (let way = same_way_is e d same in
           let P : List ℕ → Type 0 = λ xs. Spells xs ms in
-          lane_from c e (with_bytes d b w) w h n ms (queue ∙ cond-true (same_direction e d) ms (left c e h) same)
+          lane_from c e (with_bytes d b w) w h n ms (queue ∙ cond-true (same_direction e d) ms (in_transit c e h) same)
           (subst P (sym ((λ k. (lane (way k) (with_bytes d b w)).bytes) ∙ bytes_here d b w)) spelled) (bytes_ended d e b w) kept was.ended)
-      | inr other ↦ (let P : List ℕ → Type 0 = λ xs. Spells xs (left c e h) in
-          lane_from c e (with_bytes d b w) w h n (left c e h) (queue ∙ cond-false (same_direction e d) ms (left c e h) other)
+      | inr other ↦ (let P : List ℕ → Type 0 = λ xs. Spells xs (in_transit c e h) in
+          lane_from c e (with_bytes d b w) w h n (in_transit c e h) (queue ∙ cond-false (same_direction e d) ms (in_transit c e h) other)
           (subst P (sym (bytes_there d e b w other)) was.queue) (bytes_ended d e b w) kept was.ended)
     ]
 
@@ -169,12 +169,12 @@ sent_wire c d m w h valid shut is =
     elim (cases_Bool w.lost) [
       | inl gone ↦ (let P : Wire → Type 0 = λ v. IsWire c (Some v) n in
           let dropped = λ (e : Dir). sent_here c d e m h shut
-          ∙ ap (λ b. cond (same_direction e d) (sent_behind b m (left c e h)) (left c e h)) (open_said c w h is.0 ∙ ap not gone) ∙ same_both (same_direction e d) (left c e h) in
+          ∙ ap (λ b. cond (same_direction e d) (sent_behind b m (in_transit c e h)) (in_transit c e h)) (open_said c w h is.0 ∙ ap not gone) ∙ same_both (same_direction e d) (in_transit c e h) in
           subst P (sym (cond-true w.lost w (with_bytes d b w) gone)) (wire_kept c (Some w) h n lost dropped (λ e. ended_kept c e h (Sent c d m) shut (sent_ends c c e d m)) is))
       | inr open' ↦ (let P : Wire → Type 0 = λ v. IsWire c (Some v) n in
-          let ms = left c d h in
+          let ms = in_transit c d h in
           let behind = λ (e : Dir). sent_here c d e m h shut
-          ∙ ap (λ b. cond (same_direction e d) (sent_behind b m (left c e h)) (left c e h)) (open_said c w h is.0 ∙ ap not open') ∙ same_left e d (λ xs. xs ++ m ∷ []) (λ f. left c f h) in
+          ∙ ap (λ b. cond (same_direction e d) (sent_behind b m (in_transit c e h)) (in_transit c e h)) (open_said c w h is.0 ∙ ap not open') ∙ same_transit e d (λ xs. xs ++ m ∷ []) (λ f. in_transit c f h) in
           subst P (sym (cond-false w.lost w (with_bytes d b w) open')) (
             lost ∙ is.0 ∙ ap Some (sym (bytes_lost d b w)),
             λ e. lane_bytes_from c d e b w h n (ms ++ m ∷ []) (behind e) (spell_behind (lane d w).bytes m ms valid (is.1 d).queue) (ended_kept c e h (Sent c d m) shut (sent_ends c c e d m)) (is.1 e),
@@ -186,21 +186,27 @@ sent_wire c d m w h valid shut is =
     same_both true ms = refl
     same_both false ms = refl
 
-    -- where the directions are the same, so is what is left in them
-    same_left : (e d : Dir) (f : List Message → List Message) (q : Dir → List Message) → cond (same_direction e d) (f (q e)) (q e) ≡ cond (same_direction e d) (f (q d)) (q e)
-    same_left Up Up f q = refl
-    same_left Up Down f q = refl
-    same_left Down Up f q = refl
-    same_left Down Down f q = refl
+    -- where the directions are the same, so is what is on the way in them
+    same_transit : (e d : Dir) (f : List Message → List Message) (q : Dir → List Message) → cond (same_direction e d) (f (q e)) (q e) ≡ cond (same_direction e d) (f (q d)) (q e)
+    same_transit Up Up f q = refl
+    same_transit Up Down f q = refl
+    same_transit Down Up f q = refl
+    same_transit Down Down f q = refl
 
 -- behind a message that opens nothing each connection stands as the history says
-pub carried_sent : (c : Conn) (d : Dir) (m : Message) (w : Wire) (old new : List Wire) (h : List Entry) → is_valid m ≡ true → wire_of c old ≡ Some w → Becomes c (sent_on d m w) old new → Carries old h
+carried_on : (c : Conn) (d : Dir) (m : Message) (w : Wire) (old new : List Wire) (h : List Entry) → is_valid m ≡ true → wire_of c old ≡ Some w → Becomes c (sent_on d m w) old new → Carries old h
     → opens c (Sent c d m) ≡ false → Carries new (Sent c d m ∷ h)
-carried_sent c d m w old new h valid at becomes carries shut =
+carried_on c d m w old new h valid at becomes carries shut =
     let P : Option Wire → Type 0 = λ o. IsWire c o h in
     spread c (sent_on d m w) old new h (Sent c d m ∷ h) becomes (λ x other. carries x) (sent_wire c d m w h valid shut (subst P at (carries c)))
     (λ x other. lost_kept x h (Sent c d m) (lost_since x h) (opens_other c x d m other) refl) (λ x other e. sent_others c x d e m h other)
     (λ x other e. ended_kept x e h (Sent c d m) (opens_other c x d m other) (sent_ends c x e d m))
+
+-- the same, where the side that sends may
+pub carried_sent : (c : Conn) (d : Dir) (m : Message) (old new : List Wire) (h : List Entry) (o : Option Wire) → wire_of c old ≡ o → may_send d o ≡ true → is_valid m ≡ true
+    → IfSome o (λ w. Becomes c (sent_on d m w) old new) → Carries old h → opens c (Sent c d m) ≡ false → Carries new (Sent c d m ∷ h)
+carried_sent c d m old new h None at may valid becomes carries shut = absurd cc
+carried_sent c d m old new h (Some w) at may valid becomes carries shut = carried_on c d m w old new h valid at becomes carries shut
 
 -- what opens a connection, opens it
 opened_since : (c : Conn) (h : List Entry) (e : Entry) (o : Option Bool) → opens c e ≡ true → is_stopped h ≡ false → lost_after c h e o ≡ Some false
@@ -227,15 +233,13 @@ opened_lane c Down m h valid opening running = record {
 }
 
 -- behind the message that opens a connection which was just started each connection stands as the history says
-pub carried_opened : (c : Conn) (d : Dir) (m : Message) (w : Wire) (old new : List Wire) (h : List Entry) → is_valid m ≡ true → wire_of c old ≡ Some w → Becomes c (sent_on d m w) old new → IsStarted c old h
+pub carried_opened : (c : Conn) (d : Dir) (m : Message) (old new : List Wire) (h : List Entry) → is_valid m ≡ true → IfSome (wire_of c old) (λ w. Becomes c (sent_on d m w) old new) → IsStarted c old h
     → opens c (Sent c d m) ≡ true → is_stopped h ≡ false → Carries new (Sent c d m ∷ h)
-carried_opened c Down m w old new h valid at becomes started opening running = absurd cc
-carried_opened c Up m w old new h valid at becomes started opening running =
-    let n = Sent c Up m ∷ h in
-    let is : w ≡ fresh c = (let both = sym at ∙ started.here in cc) in
-    let P : Wire → Type 0 = λ v. IsWire c (Some (sent_on Up m v)) n in
-    spread c (sent_on Up m w) old new h n becomes started.others
-    (subst P (sym is) (opened_since c h (Sent c Up m) (lost_since c h) opening running, λ e. opened_lane c e m h valid opening running))
+carried_opened c Down m old new h valid becomes started opening running = absurd cc
+carried_opened c Up m old new h valid becomes started opening running =
+    let P : Option Wire → Type 0 = λ o. IfSome o (λ w. Becomes c (sent_on Up m w) old new) in
+    spread c (sent_on Up m (fresh c)) old new h (Sent c Up m ∷ h) (subst P started.here becomes) started.others
+    (opened_since c h (Sent c Up m) (lost_since c h) opening running, λ e. opened_lane c e m h valid opening running)
     (λ x other. lost_kept x h (Sent c Up m) (lost_since x h) (opens_other c x Up m other) refl) (λ x other e. sent_others c x Up e m h other)
     (λ x other e. ended_kept x e h (Sent c Up m) (opens_other c x Up m other) (sent_ends c x Up e m))
 
@@ -245,15 +249,15 @@ got_ends c x d Up m line = and_right (same_connection x c && same_direction Up d
 got_ends c x d Down m line = and_right (same_connection x c && same_direction Down d) (not (has_line c d m)) (not_from_true (has_line c d m) line)
 
 -- and leaves the other connections as they were
-got_others : (c x : Conn) (d e : Dir) (m : Message) (h : List Entry) → same_connection x c ≡ false → left x e (Got c d m ∷ h) ≡ left x e h
+got_others : (c x : Conn) (d e : Dir) (m : Message) (h : List Entry) → same_connection x c ≡ false → in_transit x e (Got c d m ∷ h) ≡ in_transit x e h
 got_others c x d e m h other =
-    let ms = left x e h in
+    let ms = in_transit x e h in
     ap (λ b. cond (not b) ms (cond (not (has_line c d m)) [] (cond (same_direction e d) (without_first ms) ms))) other
 
--- what is left behind a message that is got on the connection
-got_here : (c : Conn) (d e : Dir) (m : Message) (h : List Entry) → has_line c d m ≡ true → left c e (Got c d m ∷ h) ≡ (if same_direction e d then without_first (left c e h) else left c e h)
+-- what is on the way after a message that is got on the connection
+got_here : (c : Conn) (d e : Dir) (m : Message) (h : List Entry) → has_line c d m ≡ true → in_transit c e (Got c d m ∷ h) ≡ (if same_direction e d then without_first (in_transit c e h) else in_transit c e h)
 got_here c d e m h line =
-    let ms = left c e h in
+    let ms = in_transit c e h in
     let behind = cond (same_direction e d) (without_first ms) ms in
     ap (λ b. cond (not b) ms (cond (not (has_line c d m)) [] behind)) (same_self c) ∙ ap (λ b. cond (not b) [] behind) line
 
@@ -263,21 +267,21 @@ got_wire : (c : Conn) (d : Dir) (m : Message) (w : Wire) (rest : List ℕ) (h : 
 got_wire c d m w rest h first valid line is =
     let e = Got c d m in
     let n = e ∷ h in
-    let P : List ℕ → Type 0 = λ b. Spells b (left c d h) in
-    let read = first_read m rest (left c d h) valid (subst P first (is.1 d).queue) in
+    let P : List ℕ → Type 0 = λ b. Spells b (in_transit c d h) in
+    let read = first_read m rest (in_transit c d h) valid (subst P first (is.1 d).queue) in
     let Q : List Message → Type 0 = λ ms. Spells rest ms in
     let spelled = subst Q (sym (ap without_first read.all)) read.spelled in
     let kept = and_right (same_connection c c) (not (has_line c d m)) (not_from_true (has_line c d m) line) in (
       lost_kept c h e (lost_since c h) refl kept ∙ is.0 ∙ ap Some (sym (bytes_lost d rest w)),
-      λ f. lane_bytes_from c d f rest w h n (without_first (left c d h)) (got_here c d f m h line ∙ same_left f d (λ g. left c g h)) spelled (ended_kept c f h e refl (got_ends c c d f m line)) (is.1 f),
+      λ f. lane_bytes_from c d f rest w h n (without_first (in_transit c d h)) (got_here c d f m h line ∙ same_transit f d (λ g. in_transit c g h)) spelled (ended_kept c f h e refl (got_ends c c d f m line)) (is.1 f),
     )
   where
-    -- where the directions are the same, so is what is left in them
-    same_left : (e d : Dir) (q : Dir → List Message) → cond (same_direction e d) (without_first (q e)) (q e) ≡ cond (same_direction e d) (without_first (q d)) (q e)
-    same_left Up Up q = refl
-    same_left Up Down q = refl
-    same_left Down Up q = refl
-    same_left Down Down q = refl
+    -- where the directions are the same, so is what is on the way in them
+    same_transit : (e d : Dir) (q : Dir → List Message) → cond (same_direction e d) (without_first (q e)) (q e) ≡ cond (same_direction e d) (without_first (q d)) (q e)
+    same_transit Up Up q = refl
+    same_transit Up Down q = refl
+    same_transit Down Up q = refl
+    same_transit Down Down q = refl
 
 -- the first of messages is the next
 next_first : (m : Message) (ms ns : List Message) → ms ≡ m ∷ ns → is_next m ms
@@ -288,9 +292,9 @@ pub got_next : (c : Conn) (d : Dir) (m : Message) (w : Wire) (old new : List Wir
 got_next c d m w old new h at delivers carries =
     let O : Option Wire → Type 0 = λ o. IsWire c o h in
     let is = subst O at (carries c) in
-    let P : List ℕ → Type 0 = λ b. Spells b (left c d h) in
-    let read = first_read m delivers.rest (left c d h) delivers.valid (subst P delivers.first (is.1 d).queue) in
-    next_first m (left c d h) read.behind read.all
+    let P : List ℕ → Type 0 = λ b. Spells b (in_transit c d h) in
+    let read = first_read m delivers.rest (in_transit c d h) delivers.valid (subst P delivers.first (is.1 d).queue) in
+    next_first m (in_transit c d h) read.behind read.all
 
 -- behind it each connection stands as the history says
 pub carried_got : (c : Conn) (d : Dir) (m : Message) (w : Wire) (old new : List Wire) (h : List Entry) → wire_of c old ≡ Some w → Delivers c d m w old new → Carries old h → has_line c d m ≡ true
@@ -313,9 +317,9 @@ end_here c d Up = ap (λ b. b && same_direction Up d) (same_self c)
 end_here c d Down = ap (λ b. b && same_direction Down d) (same_self c)
 
 -- it changes nothing on the way
-end_left : (c x : Conn) (d e : Dir) (h : List Entry) → left x e (End c d ∷ h) ≡ left x e h
-end_left c x d Up h = refl
-end_left c x d Down h = refl
+end_transit : (c x : Conn) (d e : Dir) (h : List Entry) → in_transit x e (End c d ∷ h) ≡ in_transit x e h
+end_transit c x d Up h = refl
+end_transit c x d Down h = refl
 
 -- a lane of a wire whose end is seen in one direction
 end_lane : (c : Conn) (d e : Dir) (w : Wire) (h : List Entry) → IsLane c e w h → IsLane c e (with_end d w) (End c d ∷ h)
@@ -334,9 +338,9 @@ pub end_may : (c : Conn) (d : Dir) (w : Wire) (old new : List Wire) (h : List En
 end_may c d w old new h at end carries =
     let O : Option Wire → Type 0 = λ o. IsWire c o h in
     let is = subst O at (carries c) in
-    let P : List ℕ → Type 0 = λ b. Spells b (left c d h) in
-    let none = none_read (left c d h) (subst P end.empty (is.1 d).queue) in
-    and_from (is_lost_wire c h && is_empty (left c d h)) (not (is_ended c d h)) (and_from (is_lost_wire c h) (is_empty (left c d h)) (ap holds is.0 ∙ end.lost) (ap is_empty none))
+    let P : List ℕ → Type 0 = λ b. Spells b (in_transit c d h) in
+    let none = none_read (in_transit c d h) (subst P end.empty (is.1 d).queue) in
+    and_from (is_lost_wire c h && is_empty (in_transit c d h)) (not (is_ended c d h)) (and_from (is_lost_wire c h) (is_empty (in_transit c d h)) (ap holds is.0 ∙ end.lost) (ap is_empty none))
     (ap not (sym (is.1 d).ended ∙ end.unseen))
 
 -- behind it each connection stands as the history says
@@ -346,7 +350,7 @@ carried_end c d w old new h at end carries =
     let is = subst O at (carries c) in
     spread c (with_end d w) old new h (End c d ∷ h) end.taken (λ x other. carries x)
     (lost_kept c h (End c d) (lost_since c h) refl refl ∙ is.0 ∙ ap Some (sym (end_lost d w)), λ e. end_lane c d e w h (is.1 e)) (λ x other. lost_kept x h (End c d) (lost_since x h) refl refl)
-    (λ x other e. end_left c x d e h) (λ x other e. ended_kept x e h (End c d) refl (end_others c x d e other))
+    (λ x other e. end_transit c x d e h) (λ x other e. ended_kept x e h (End c d) refl (end_others c x d e other))
 
 -- a loss ends nothing
 cut_ends : (c x : Conn) (u n : ℕ) (e : Dir) → ends x e (Cut c u n) ≡ false
@@ -354,29 +358,29 @@ cut_ends c x u n Up = refl
 cut_ends c x u n Down = refl
 
 -- it leaves the other connections as they were
-cut_others : (c x : Conn) (u n : ℕ) (e : Dir) (h : List Entry) → same_connection x c ≡ false → left x e (Cut c u n ∷ h) ≡ left x e h
-cut_others c x u n e h other = cond-false (same_connection x c) (take (kept e u n) (left x e h)) (left x e h) other
+cut_others : (c x : Conn) (u n : ℕ) (e : Dir) (h : List Entry) → same_connection x c ≡ false → in_transit x e (Cut c u n ∷ h) ≡ in_transit x e h
+cut_others c x u n e h other = cond-false (same_connection x c) (take (kept e u n) (in_transit x e h)) (in_transit x e h) other
 
 -- and of its own the first so many messages
-cut_here : (c : Conn) (u n : ℕ) (e : Dir) (h : List Entry) → left c e (Cut c u n ∷ h) ≡ take (kept e u n) (left c e h)
-cut_here c u n e h = cond-true (same_connection c c) (take (kept e u n) (left c e h)) (left c e h) (same_self c)
+cut_here : (c : Conn) (u n : ℕ) (e : Dir) (h : List Entry) → in_transit c e (Cut c u n ∷ h) ≡ take (kept e u n) (in_transit c e h)
+cut_here c u n e h = cond-true (same_connection c c) (take (kept e u n) (in_transit c e h)) (in_transit c e h) (same_self c)
 
 -- what is lost since it was opened is lost behind a loss
 cut_since : (c : Conn) (u n : ℕ) (h : List Entry) (lost : Bool) → lost_since c h ≡ Some lost → lost_since c (Cut c u n ∷ h) ≡ Some true
 cut_since c u n h lost is = ap (lost_after c h (Cut c u n)) is ∙ ap Some (or_right lost (same_connection c c) (same_self c))
 
 -- a lane of a wire that is lost
-cut_lane : (c : Conn) (e : Dir) (w : Wire) (u n : ℕ) (k : ℕ × ℕ) (h : List Entry) → k.0 ≡ min u (length (left c Up h)) → k.1 ≡ min n (length (left c Down h)) → IsLane c e w h
-    → IsLane c e (lost_with (take u (left c Up h)) (take n (left c Down h)) w) (Cut c k.0 k.1 ∷ h)
+cut_lane : (c : Conn) (e : Dir) (w : Wire) (u n : ℕ) (k : ℕ × ℕ) (h : List Entry) → k.0 ≡ min u (length (in_transit c Up h)) → k.1 ≡ min n (length (in_transit c Down h)) → IsLane c e w h
+    → IsLane c e (lost_with (take u (in_transit c Up h)) (take n (in_transit c Down h)) w) (Cut c k.0 k.1 ∷ h)
 cut_lane c Up w u n k h up down is =
-    let ms = left c Up h in
+    let ms = in_transit c Up h in
     let P : List Message → Type 0 = λ xs. Spells (flat_map frame_of (take u ms)) xs in
     record {
       queue = subst P (sym (cut_here c k.0 k.1 Up h ∙ ap (λ j. take j ms) up ∙ take_min u ms)) (spell_front u w.up.bytes ms is.queue);
       ended = is.ended ∙ sym (ended_kept c Up h (Cut c k.0 k.1) refl refl);
     }
 cut_lane c Down w u n k h up down is =
-    let ms = left c Down h in
+    let ms = in_transit c Down h in
     let P : List Message → Type 0 = λ xs. Spells (flat_map frame_of (take n ms)) xs in
     record {
       queue = subst P (sym (cut_here c k.0 k.1 Down h ∙ ap (λ j. take j ms) down ∙ take_min n ms)) (spell_front n w.down.bytes ms is.queue);
@@ -390,8 +394,8 @@ carried_cut c w u n k old new h at loss carries =
     let O : Option Wire → Type 0 = λ o. IsWire c o h in
     let is = subst O at (carries c) in
     let e = Cut c k.0 k.1 in
-    let us = left c Up h in
-    let ds = left c Down h in
+    let us = in_transit c Up h in
+    let ds = in_transit c Down h in
     let cut = loss us ds (is.1 Up).queue (is.1 Down).queue in
     spread c (lost_with (take u us) (take n ds) w) old new h (e ∷ h) cut.lost (λ x other. carries x)
     (cut_since c k.0 k.1 h w.lost is.0, λ d. cut_lane c d w u n k h cut.up cut.down (is.1 d)) (λ x other. lost_kept x h e (lost_since x h) refl other) (λ x other d. cut_others c x k.0 k.1 d h other)

@@ -19,7 +19,7 @@ use Rattle.dtx_model.specs.Outcome.{is_empty}
 use Rattle.oletx_session.specs.Traffic.{Becomes, Delivers, Ends, IsCut, Spells, Wire, fresh, has_left, is_open, is_taken, lane, lost_with, may_send, opposite, sent_on, wire_of, with_bytes, with_end}
 use Rattle.oletx_session.proofs.Conns.{same_is, same_self, same_way}
 use Rattle.oletx_session.proofs.Reading.{count_read, front_read}
-use Rattle.oletx_session.proofs.Views.{AreOthers, any_bytes, becomes, lane_bytes, lane_ended, left_seen, link_is, made, packet_full, others_else, others_push, stays, wire_found}
+use Rattle.oletx_session.proofs.Views.{AreOthers, any_bytes, becomes, lane_bytes, lane_ended, left_seen, link_is, made, no_stray, packet_full, others_else, others_push, stays, wire_found, wire_missing}
 
 -- what holds of a found link's wire holds of the connection's
 of_found : (c : Conn) (ps : List Packet) (ls : List Link) (l : Link) (ws : List Wire) (P : Wire → Type 0) → wires_in ps ls ≡ ws → link_of c ls ≡ Some l → P (wire_in ps l) → IfSome (wire_of c ws) P
@@ -42,14 +42,12 @@ pub send_seen : (c : Conn) (d : Dir) (ps : List Packet) (ls : List Link) (l : Li
 send_seen c d ps ls l ws seen found = ap (may_send d) (wire_found c ps ls l ws seen found) ∙ ap not (lane_ended (opposite d) ps l)
 
 -- on a lost connection a message is dropped
-pub sent_lost : (c : Conn) (d : Dir) (m : Message) (ps : List Packet) (ls : List Link) (l : Link) (ws : List Wire) → wires_in ps ls ≡ ws → link_of c ls ≡ Some l → l.lost ≡ true
-    → IfSome (wire_of c ws) (λ w. Becomes c (sent_on d m w) ws ws)
-sent_lost c d m ps ls l ws seen found lost =
-    let w = wire_in ps l in
-    of_found c ps ls l ws (λ v. Becomes c (sent_on d m v) ws ws) seen found (record {
-      here = wire_found c ps ls l ws seen found ∙ ap Some (sym (cond-true l.lost w (with_bytes d ((lane d w).bytes ++ frame_of m) w) lost));
-      others = λ x other. refl;
-    })
+pub sent_dropped : (c : Conn) (d : Dir) (m : Message) (ws : List Wire) (o : Option Wire) → wire_of c ws ≡ o → is_open o ≡ false → IfSome o (λ w. Becomes c (sent_on d m w) ws ws)
+sent_dropped c d m ws None at shut = tt
+sent_dropped c d m ws (Some w) at shut = record {
+  here = at ∙ ap Some (sym (cond-true w.lost w (with_bytes d ((lane d w).bytes ++ frame_of m) w) (not-false w.lost shut)));
+  others = λ x other. refl;
+}
 
 -- with one lane's bytes changed
 pub lane_changed : (d : Dir) (ps qs : List Packet) (l : Link) (b : List ℕ) → bytes_on l.connection d qs ≡ b → bytes_on l.connection (opposite d) qs ≡ bytes_on l.connection (opposite d) ps
@@ -61,8 +59,8 @@ lane_changed Down ps qs l b is same = λ k. made l (same k) (is k)
 pushed_bytes : (x : Conn) (e : Dir) (ps : List Packet) (p : Packet) → bytes_on x e (ps ++ p ∷ []) ≡ bytes_on x e ps ++ flat_map frame_in (cond (is_on x e p) (p ∷ []) [])
 pushed_bytes x e ps p = ap (flat_map frame_in) (filter-append (is_on x e) ps (p ∷ [])) ∙ flat_map-append frame_in (on_way x e ps) (on_way x e (p ∷ []))
 
--- on an open connection its frame comes last
-pub sent_push : (c : Conn) (d : Dir) (m : Message) (ps : List Packet) (ls : List Link) (l : Link) (p : Packet) (ws : List Wire) → wires_in ps ls ≡ ws → link_of c ls ≡ Some l → l.lost ≡ false
+-- on an open connection that is found its frame comes last
+sent_push : (c : Conn) (d : Dir) (m : Message) (ps : List Packet) (ls : List Link) (l : Link) (p : Packet) (ws : List Wire) → wires_in ps ls ≡ ws → link_of c ls ≡ Some l → l.lost ≡ false
     → p.connection ≡ c → p.direction ≡ d → IsFrame (frame_in p) m → IfSome (wire_of c ws) (λ w. Becomes c (sent_on d m w) ws (wires_in (ps ++ p ∷ []) ls))
 sent_push c d m ps ls l p ws seen found lost at way framed =
     let w = wire_in ps l in
@@ -86,6 +84,25 @@ sent_push c d m ps ls l p ws seen found lost at way framed =
     let P : List Wire → Type 0 = λ xs. Becomes c (sent_on d m w) xs (wires_in qs ls) in
     let Q : Wire → Type 0 = λ v. Becomes c v (wires_in ps ls) (wires_in qs ls) in
     of_found c ps ls l ws (λ v. Becomes c (sent_on d m v) ws (wires_in qs ls)) seen found (subst P seen (subst Q is all))
+
+-- on an open connection a link is found, which isn't lost
+open_link : (c : Conn) (ps : List Packet) (ls : List Link) (ws : List Wire) (o : Option Link) → wires_in ps ls ≡ ws → link_of c ls ≡ o → is_open (wire_of c ws) ≡ true
+    → (l : Link) × (link_of c ls ≡ Some l) × (l.lost ≡ false)
+open_link c ps ls ws None seen found open' = absurd (let missing = ap is_open (wire_missing c ps ls ws seen found) in cc (missing, open'))
+open_link c ps ls ws (Some l) seen found open' = (l, found, not-true l.lost (sym (ap is_open (wire_found c ps ls l ws seen found)) ∙ open'))
+
+-- so on an open connection the frame of a message that is sent comes last
+pub sent_last : (c : Conn) (d : Dir) (m : Message) (ps : List Packet) (ls : List Link) (p : Packet) (ws : List Wire) → wires_in ps ls ≡ ws → is_open (wire_of c ws) ≡ true → p.connection ≡ c → p.direction ≡ d
+    → IsFrame (frame_in p) m → IfSome (wire_of c ws) (λ w. Becomes c (sent_on d m w) ws (wires_in (ps ++ p ∷ []) ls))
+sent_last c d m ps ls p ws seen open' at way framed =
+    let l = open_link c ps ls ws (link_of c ls) seen refl open' in
+    sent_push c d m ps ls l.0 p ws seen l.1 l.2 at way framed
+
+-- and still nothing is on the way on a connection that was never started
+pub no_stray_sent : (c : Conn) (ps : List Packet) (ls : List Link) (p : Packet) (ws : List Wire) → wires_in ps ls ≡ ws → is_open (wire_of c ws) ≡ true → p.connection ≡ c → HasNoStray ls ps → HasNoStray ls (ps ++ p ∷ [])
+no_stray_sent c ps ls p ws seen open' at none =
+    let l = open_link c ps ls ws (link_of c ls) seen refl open' in
+    no_stray c l.0 ls ls ps (ps ++ p ∷ []) (stays c l.0 ls l.1) (others_push ps p c at) none
 
 -- the first packet of a lane is taken off
 pub delivered : (c : Conn) (d : Dir) (m : Message) (ps qs : List Packet) (ls : List Link) (l : Link) (p : Packet) (ws : List Wire) → wires_in ps ls ≡ ws → link_of c ls ≡ Some l

@@ -78,7 +78,7 @@ others_else c d ps qs same x e other = same x e (and_left (same_connection x c) 
 pub no_stray : (c : Conn) (l : Link) (ls ks : List Link) (ps qs : List Packet) → Changes c l ls ks → AreOthers c ps qs → HasNoStray ls ps → HasNoStray ks qs
 no_stray c l ls ks ps qs changes others none x e missing =
     elim (cases_Bool (same_connection x c)) [
-      | inl is ↦ (let P : Conn → Type 0 = λ y. link_of y ks ≡ None in let gone = subst P (same_is x c is) missing in let here = changes.here in absurd cc)
+      | inl is ↦ (let P : Conn → Type 0 = λ y. link_of y ks ≡ None in let unfound = subst P (same_is x c is) missing in let here = changes.here in absurd cc)
       | inr other ↦ others x e other ∙ none x e (sym (changes.others x other) ∙ missing)
     ]
 

@@ -1,14 +1,14 @@
--- The connections after a history: what is on the way is what the history says is left.
+-- The connections after a history: the bytes on the way are the frames of what the history says is on the way.
 use Rattle.std.specs.Prelude.{◌≡◌, false, List, Option, Some, None}
 use Rattle.dtx_values.specs.declared.entry.Entry.{Entry}
 use Rattle.dtx_values.specs.declared.message.Conn.{Conn}
 use Rattle.dtx_values.specs.declared.message.Dir.{Dir}
-use Rattle.dtx_model.specs.Wires.{is_ended, left, lost_since, same_connection}
+use Rattle.dtx_model.specs.Wires.{is_ended, in_transit, lost_since, same_connection}
 use Rattle.oletx_session.specs.Traffic.{Spells, Wire, fresh, lane, wire_of}
 
--- the bytes on the way in this direction are the frames of what is left, and whether the end was seen is what the history says
+-- the bytes on the way in this direction are the frames of what is in transit, and whether the end was seen is what the history says
 pub record IsLane (c : Conn) (d : Dir) (w : Wire) (h : List Entry) : Type 0 where
-  pub queue : Spells (lane d w).bytes (left c d h)
+  pub queue : Spells (lane d w).bytes (in_transit c d h)
   pub ended : (lane d w).ended ≡ is_ended c d h
 
 -- a connection that was started stands as the history says, and one that wasn't was never opened

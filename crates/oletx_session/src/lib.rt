@@ -1,6 +1,6 @@
 //! The connections between the local side and the coordinator of one transaction: frames on the way, losses and ends.
 //!
-//! Each connection has a queue of bytes in each direction. What is got is what was sent, in order, up to what a loss keeps; behind a loss comes its end, once in each
+//! Each connection has a queue of bytes in each direction. What is got is what was sent, in order, up to what a loss keeps; after a loss comes its end, once in each
 //! direction. (A definition of this project, after the connections of the coordinator's protocol.)
 #![tactic(auto)]
 
@@ -12,6 +12,6 @@ mod session;
 #[cfg(test)]
 mod tests;
 
-pub use oletx_frames::FrameRefusal;
+pub use oletx_frames::{FrameRefusal, is_valid};
 pub use refusal::SessionRefusal;
 pub use session::{Delivered, Session};

@@ -124,14 +124,14 @@ impl Session {
         if self.is_taken(c) {
             return Err(SessionRefusal::Taken(c));
         }
-        match put(&mut self.links, Link::new(c)) {
-            Ok(()) => (),
-            Err(_) => return Err(SessionRefusal::Memory),
-        }
+        let Ok(()) = put(&mut self.links, Link::new(c)) else {
+            return Err(SessionRefusal::Memory);
+        };
         Ok(())
     }
 
-    /// Puts the frame of a valid message behind what is on the way. On a lost connection whose end the sender hasn't seen it is dropped.
+    /// Puts the frame of a valid message ([`is_valid`](crate::is_valid)) behind what is on the way. On a lost connection whose end the sender hasn't seen it is
+    /// dropped.
     ///
     /// # Errors
     ///
@@ -151,23 +151,19 @@ impl Session {
         ensures opened { OnOk result ((h : List Entry) → IsStarted c self.old.wires h → opens c (Sent c d m.now) ≡ true → is_stopped h ≡ false
             → Carries self.new.wires (Sent c d m.now ∷ h)) }
     {
-        let Some(link) = link_of(&self.links, c) else {
-            return Err(SessionRefusal::NotOpen(c));
-        };
-        if link.has_ended(opposite(d)) {
+        if !self.may_send(c, d) {
             return Err(SessionRefusal::NotOpen(c));
         }
-        if link.lost {
+        if !self.is_open(c) {
             return Ok(());
         }
-        match self.packets.push(Packet::new(c, d, m)) {
-            Ok(()) => (),
-            Err(_) => return Err(SessionRefusal::Memory),
-        }
+        let Ok(()) = self.packets.push(Packet::new(c, d, m)) else {
+            return Err(SessionRefusal::Memory);
+        };
         Ok(())
     }
 
-    /// Takes what comes next to the side that gets in this direction: the next message, or the end of a lost connection behind the last one, once. `None` exactly where
+    /// Takes what comes next to the side that gets in this direction: the next message, or the end of a lost connection after the last one, once. `None` exactly where
     /// nothing is left.
     pub fn deliver(&mut self, c: Conn, d: Dir) -> Option<Delivered>
         ensures none { (result ≡ None) ↔ (has_left d (wire_of c self.old.wires) ≡ false) }
@@ -195,7 +191,7 @@ impl Session {
 
     /// Whether something is left to deliver in this direction.
     pub fn has_left(&self, c: Conn, d: Dir) -> bool
-        ensures left { result ≡ has_left d (wire_of c self.now.wires) }
+        ensures value { result ≡ has_left d (wire_of c self.now.wires) }
         // what is on the way are frames of valid messages, one behind the other
         ensures frames { IfSome (wire_of c self.now.wires) (λ w. (ms : List Message) × Spells (lane d w).bytes ms) }
     {
@@ -215,8 +211,8 @@ impl Session {
         }
     }
 
-    /// Loses an open connection. The first `up` messages on the way upward and the first `down` on the way downward are kept, or all where fewer are left, and its end comes
-    /// behind them. It gives the numbers kept; `None` exactly where the connection isn't open. It takes no memory.
+    /// Loses an open connection. The first `up` messages on the way upward and the first `down` on the way downward are kept, or all where fewer are on the way, and its end
+    /// comes after them. It gives the numbers kept; `None` exactly where the connection isn't open. It takes no memory.
     pub fn lose(&mut self, c: Conn, up: u32, down: u32) -> Option<(u32, u32)>
         ensures none { (result ≡ None) ↔ (is_open (wire_of c self.old.wires) ≡ false) }
         ensures unchanged { result ≡ None → self.new.wires ≡ self.old.wires }
@@ -234,6 +230,16 @@ impl Session {
         let up = cut(&mut self.packets, c, Dir::Up, up);
         let down = cut(&mut self.packets, c, Dir::Down, down);
         Some((up, down))
+    }
+
+    /// Whether the side that sends in this direction may: the connection was started, and the side didn't see its end.
+    fn may_send(&self, c: Conn, d: Dir) -> bool
+        ensures { result ≡ may_send d (wire_of c self.now.wires) }
+    {
+        match link_of(&self.links, c) {
+            Some(link) => !link.has_ended(opposite(d)),
+            None => false,
+        }
     }
 
     /// Whether the connection is open, or has something left to deliver.

@@ -1,5 +1,5 @@
 //! Openings, losses and ends, by cases whose answers were worked out by hand.
-use crate::{Delivered, Session, SessionRefusal};
+use crate::{Delivered, Session, SessionRefusal, is_valid};
 use dtx_values::{Conn, Dir, EnlNo, Message, ROOM};
 use std::process::Abort;
 use std::test::Fail;
@@ -11,138 +11,168 @@ const V: Conn = Conn::Voter;
 /// Transaction 1 of node 1.
 const ID: u128 = (1 << 64) + 1;
 
-/// The answers of one `deliver` after the other on a connection in a direction.
-fn comes(rt: &impl Abort, s: &mut Session, c: Conn, d: Dir, want: &[Option<Delivered>]) {
-    for answer in want {
-        assert_eq!(rt; s.has_left(c, d), answer.is_some());
-        assert_eq!(rt; s.deliver(c, d), *answer);
+const BEGIN: Option<Delivered> = Some(Delivered::Msg(Message::BeginBegin));
+
+const COMMIT: Option<Delivered> = Some(Delivered::Msg(Message::BeginCommit));
+
+const BEGUN: Option<Delivered> = Some(Delivered::Msg(Message::BeginBegun(ID)));
+
+const VOTER: Option<Delivered> = Some(Delivered::Msg(Message::VoterVoter(ID)));
+
+const END: Option<Delivered> = Some(Delivered::End);
+
+/// A call and its answer.
+#[derive(Clone, Copy)]
+enum Step {
+    Start(Conn, Result<(), SessionRefusal>),
+    Send(Conn, Dir, Message, Result<(), SessionRefusal>),
+    Lose(Conn, u32, u32, Option<(u32, u32)>),
+    IsOpen(Conn, bool),
+    Deliver(Conn, Dir, Option<Delivered>),
+}
+
+/// Does a call, and looks at its answer.
+fn takes(rt: &impl Abort, s: &mut Session, step: Step) {
+    match step {
+        Step::Start(c, answer) => assert_eq!(rt; s.start(c), answer),
+        Step::Send(c, d, m, answer) => {
+            assert!(rt; is_valid(&m));
+            assert_eq!(rt; s.send(c, d, &m), answer);
+        }
+        Step::Lose(c, up, down, answer) => assert_eq!(rt; s.lose(c, up, down), answer),
+        Step::IsOpen(c, answer) => assert_eq!(rt; s.is_open(c), answer),
+        Step::Deliver(c, d, answer) => {
+            assert_eq!(rt; s.has_left(c, d), answer.is_some());
+            assert_eq!(rt; s.deliver(c, d), answer);
+        }
     }
 }
 
-#[test]
-fn a_connection_is_started_once(rt: HostRuntime) -> Result<(), Fail> {
-    let mut s = Session::new(rt.alloc())?;
-    s.reserve()?;
-    assert_eq!(rt; s.start(B), Ok(()));
-    assert!(rt; s.is_open(B) && !s.is_open(V));
-    assert_eq!(rt; s.start(B), Err(SessionRefusal::Taken(B)));
-    let refused = s.send(V, Dir::Up, &Message::VoterVoter(ID));
-    assert_eq!(rt; refused, Err(SessionRefusal::NotOpen(V)));
-    comes(&rt, &mut s, B, Dir::Up, &[None]);
-    comes(&rt, &mut s, V, Dir::Down, &[None]);
-    assert_eq!(rt; s.lose(V, 0, 0), None);
-    Ok(())
-}
-
-#[test]
-fn a_loss_keeps_the_first_messages(rt: HostRuntime) -> Result<(), Fail> {
-    let mut s = Session::new(rt.alloc())?;
-    assert_eq!(rt; s.start(B), Ok(()));
-    assert_eq!(rt; s.send(B, Dir::Up, &Message::BeginBegin), Ok(()));
-    assert_eq!(rt; s.send(B, Dir::Up, &Message::BeginCommit), Ok(()));
-    assert_eq!(rt; s.send(B, Dir::Up, &Message::BeginAbort), Ok(()));
-    assert_eq!(rt; s.lose(B, 2, 0), Some((2, 0)));
-    assert_eq!(rt; s.lose(B, 2, 0), None);
-    comes(
-        &rt,
-        &mut s,
-        B,
-        Dir::Up,
-        &[
-            Some(Delivered::Msg(Message::BeginBegin)),
-            Some(Delivered::Msg(Message::BeginCommit)),
-            Some(Delivered::End),
-            None,
-        ],
-    );
-    Ok(())
-}
-
-#[test]
-fn a_message_behind_a_loss_is_dropped(rt: HostRuntime) -> Result<(), Fail> {
-    let mut s = Session::new(rt.alloc())?;
-    assert_eq!(rt; s.start(B), Ok(()));
-    assert_eq!(rt; s.send(B, Dir::Up, &Message::BeginBegin), Ok(()));
-    assert_eq!(rt; s.lose(B, 9, 9), Some((1, 0)));
-    assert_eq!(rt; s.send(B, Dir::Up, &Message::BeginCommit), Ok(()));
-    comes(&rt, &mut s, B, Dir::Down, &[Some(Delivered::End), None]);
-    let refused = s.send(B, Dir::Up, &Message::BeginAbort);
-    assert_eq!(rt; refused, Err(SessionRefusal::NotOpen(B)));
-    let begin = Some(Delivered::Msg(Message::BeginBegin));
-    comes(
-        &rt,
-        &mut s,
-        B,
-        Dir::Up,
-        &[begin, Some(Delivered::End), None],
-    );
-    Ok(())
-}
-
-#[test]
-fn a_connection_is_taken_until_both_ends_are_seen(rt: HostRuntime) -> Result<(), Fail> {
-    let mut s = Session::new(rt.alloc())?;
-    assert_eq!(rt; s.start(B), Ok(()));
-    assert_eq!(rt; s.lose(B, 0, 0), Some((0, 0)));
-    assert!(rt; !s.is_open(B));
-    assert_eq!(rt; s.start(B), Err(SessionRefusal::Taken(B)));
-    comes(&rt, &mut s, B, Dir::Up, &[Some(Delivered::End), None]);
-    assert_eq!(rt; s.start(B), Err(SessionRefusal::Taken(B)));
-    comes(&rt, &mut s, B, Dir::Down, &[Some(Delivered::End), None]);
-    assert_eq!(rt; s.start(B), Ok(()));
-    assert!(rt; s.is_open(B));
-    comes(&rt, &mut s, B, Dir::Up, &[None]);
-    comes(&rt, &mut s, B, Dir::Down, &[None]);
-    Ok(())
-}
-
-#[test]
-fn connections_and_directions_keep_apart(rt: HostRuntime) -> Result<(), Fail> {
-    let mut s = Session::new(rt.alloc())?;
-    assert_eq!(rt; s.start(B), Ok(()));
-    assert_eq!(rt; s.start(V), Ok(()));
-    assert_eq!(rt; s.send(B, Dir::Up, &Message::BeginBegin), Ok(()));
-    assert_eq!(rt; s.send(V, Dir::Up, &Message::VoterVoter(ID)), Ok(()));
-    assert_eq!(rt; s.send(B, Dir::Down, &Message::BeginBegun(ID)), Ok(()));
-    assert_eq!(rt; s.send(V, Dir::Down, &Message::VoterCreated), Ok(()));
-    assert_eq!(rt; s.send(B, Dir::Up, &Message::BeginCommit), Ok(()));
-    assert_eq!(rt; s.lose(V, 1, 0), Some((1, 0)));
-    let begin = Some(Delivered::Msg(Message::BeginBegin));
-    let commit = Some(Delivered::Msg(Message::BeginCommit));
-    comes(&rt, &mut s, B, Dir::Up, &[begin, commit, None]);
-    let begun = Some(Delivered::Msg(Message::BeginBegun(ID)));
-    comes(&rt, &mut s, B, Dir::Down, &[begun, None]);
-    let voter = Some(Delivered::Msg(Message::VoterVoter(ID)));
-    comes(
-        &rt,
-        &mut s,
+/// A connection is started once.
+const STARTED: [Step; 8] = [
+    Step::Start(B, Ok(())),
+    Step::IsOpen(B, true),
+    Step::IsOpen(V, false),
+    Step::Start(B, Err(SessionRefusal::Taken(B))),
+    Step::Send(
         V,
         Dir::Up,
-        &[voter, Some(Delivered::End), None],
-    );
-    comes(&rt, &mut s, V, Dir::Down, &[Some(Delivered::End), None]);
+        Message::VoterVoter(ID),
+        Err(SessionRefusal::NotOpen(V)),
+    ),
+    Step::Deliver(B, Dir::Up, None),
+    Step::Deliver(V, Dir::Down, None),
+    Step::Lose(V, 0, 0, None),
+];
+
+/// A loss keeps the first messages.
+const CUT: [Step; 10] = [
+    Step::Start(B, Ok(())),
+    Step::Send(B, Dir::Up, Message::BeginBegin, Ok(())),
+    Step::Send(B, Dir::Up, Message::BeginCommit, Ok(())),
+    Step::Send(B, Dir::Up, Message::BeginAbort, Ok(())),
+    Step::Lose(B, 2, 0, Some((2, 0))),
+    Step::Lose(B, 2, 0, None),
+    Step::Deliver(B, Dir::Up, BEGIN),
+    Step::Deliver(B, Dir::Up, COMMIT),
+    Step::Deliver(B, Dir::Up, END),
+    Step::Deliver(B, Dir::Up, None),
+];
+
+/// A message that is sent after a loss is dropped, and refused once its sender saw the end.
+const DROPPED: [Step; 10] = [
+    Step::Start(B, Ok(())),
+    Step::Send(B, Dir::Up, Message::BeginBegin, Ok(())),
+    Step::Lose(B, 9, 9, Some((1, 0))),
+    Step::Send(B, Dir::Up, Message::BeginCommit, Ok(())),
+    Step::Deliver(B, Dir::Down, END),
+    Step::Deliver(B, Dir::Down, None),
+    Step::Send(
+        B,
+        Dir::Up,
+        Message::BeginAbort,
+        Err(SessionRefusal::NotOpen(B)),
+    ),
+    Step::Deliver(B, Dir::Up, BEGIN),
+    Step::Deliver(B, Dir::Up, END),
+    Step::Deliver(B, Dir::Up, None),
+];
+
+/// A connection is taken until both of its ends are seen.
+const TAKEN: [Step; 13] = [
+    Step::Start(B, Ok(())),
+    Step::Lose(B, 0, 0, Some((0, 0))),
+    Step::IsOpen(B, false),
+    Step::Start(B, Err(SessionRefusal::Taken(B))),
+    Step::Deliver(B, Dir::Up, END),
+    Step::Deliver(B, Dir::Up, None),
+    Step::Start(B, Err(SessionRefusal::Taken(B))),
+    Step::Deliver(B, Dir::Down, END),
+    Step::Deliver(B, Dir::Down, None),
+    Step::Start(B, Ok(())),
+    Step::IsOpen(B, true),
+    Step::Deliver(B, Dir::Up, None),
+    Step::Deliver(B, Dir::Down, None),
+];
+
+/// Connections and directions keep apart.
+const APART: [Step; 18] = [
+    Step::Start(B, Ok(())),
+    Step::Start(V, Ok(())),
+    Step::Send(B, Dir::Up, Message::BeginBegin, Ok(())),
+    Step::Send(V, Dir::Up, Message::VoterVoter(ID), Ok(())),
+    Step::Send(B, Dir::Down, Message::BeginBegun(ID), Ok(())),
+    Step::Send(V, Dir::Down, Message::VoterCreated, Ok(())),
+    Step::Send(B, Dir::Up, Message::BeginCommit, Ok(())),
+    Step::Lose(V, 1, 0, Some((1, 0))),
+    Step::Deliver(B, Dir::Up, BEGIN),
+    Step::Deliver(B, Dir::Up, COMMIT),
+    Step::Deliver(B, Dir::Up, None),
+    Step::Deliver(B, Dir::Down, BEGUN),
+    Step::Deliver(B, Dir::Down, None),
+    Step::Deliver(V, Dir::Up, VOTER),
+    Step::Deliver(V, Dir::Up, END),
+    Step::Deliver(V, Dir::Up, None),
+    Step::Deliver(V, Dir::Down, END),
+    Step::Deliver(V, Dir::Down, None),
+];
+
+#[test]
+fn calls_are_answered_as_by_hand(rt: HostRuntime) -> Result<(), Fail> {
+    let runs: [&[Step]; 5] = [&STARTED, &CUT, &DROPPED, &TAKEN, &APART];
+    for run in runs {
+        let mut s = Session::new(rt.alloc())?;
+        for step in run {
+            takes(&rt, &mut s, *step);
+        }
+    }
     Ok(())
 }
 
 #[test]
 fn there_is_room_for_so_many_starts_and_messages(rt: HostRuntime) -> Result<(), Fail> {
     let mut s = Session::new(rt.alloc())?;
-    assert_eq!(rt; s.start(B), Ok(()));
-    assert_eq!(rt; s.send(B, Dir::Up, &Message::BeginBegin), Ok(()));
+    takes(&rt, &mut s, Step::Start(B, Ok(())));
+    takes(
+        &rt,
+        &mut s,
+        Step::Send(B, Dir::Up, Message::BeginBegin, Ok(())),
+    );
     s.reserve()?;
     for n in 1..=ROOM as u32 {
         let e = Conn::Enl(EnlNo::new(n).expect(&rt, "no such number"));
-        assert_eq!(rt; s.start(e), Ok(()), "at {n}");
-        assert_eq!(rt;
-            s.send(e, Dir::Up, &Message::EnlistPrepared),
-            Ok(()),
-            "at {n}"
+        takes(&rt, &mut s, Step::Start(e, Ok(())));
+        takes(
+            &rt,
+            &mut s,
+            Step::Send(e, Dir::Up, Message::EnlistPrepared, Ok(())),
         );
     }
     for n in 1..=ROOM as u32 {
         let e = Conn::Enl(EnlNo::new(n).expect(&rt, "no such number"));
         let prepared = Some(Delivered::Msg(Message::EnlistPrepared));
-        comes(&rt, &mut s, e, Dir::Up, &[prepared, None]);
+        takes(&rt, &mut s, Step::Deliver(e, Dir::Up, prepared));
+        takes(&rt, &mut s, Step::Deliver(e, Dir::Up, None));
     }
     Ok(())
 }

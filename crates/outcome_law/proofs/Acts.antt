@@ -16,17 +16,19 @@ use Rattle.dtx_values.specs.declared.words.Outcome.{Outcome}
 use Rattle.dtx_values.specs.declared.words.Outcome.TheVariants.{Committed, Aborted, InDoubt}
 use Rattle.dtx_values.specs.declared.words.Vote.{Vote}
 use Rattle.dtx_values.specs.declared.words.Vote.TheVariants.{Yes, No, Done}
-use Rattle.dtx_values.specs.Table.{Enlistment, has_voted, is_marked}
+use Rattle.dtx_values.specs.Row.{has_voted, is_marked}
+use Rattle.dtx_values.specs.declared.row.Row.{Row}
 use Rattle.dtx_values.specs.Clones.{blocks, is_open_block}
 use Rattle.dtx_model.specs.declared.listener.Listener.{Listener}
 use Rattle.dtx_model.specs.Words.{has, each, latest, onto, kth, all_of}
-use Rattle.dtx_model.specs.Entries.{same_outcome, is_commit, is_sealed, is_volatile, clone_of, is_asked, is_vote, is_good_vote, is_hand, is_any_hand, is_promoted, handed_of, decision_of, is_decision}
+use Rattle.dtx_model.specs.Entries.{same_outcome, is_commit, is_sealed, clone_of, is_asked, is_vote, is_good_vote, is_hand, is_any_hand, is_promoted, handed_of, decision_of, is_decision}
 use Rattle.dtx_model.specs.Observed.{observe, rows, clone_rows, listeners}
 use Rattle.dtx_model.specs.Outcome.{durables, enlisted, volatiles, voters, is_complete, is_empty, ready, by_seal, by_owner, by_log, evidence, hears_doubt, may_tell}
-use Rattle.dtx_model.specs.Owners.{owner_of}
-use Rattle.dtx_model.specs.Waves.{hears, is_class, may_be_asked, name_of, next_ask, zeros_voted, is_over}
+use Rattle.dtx_values.specs.Class.{is_class, is_volatile}
+use Rattle.dtx_values.specs.Owners.{owner_of}
 use Rattle.dtx_model.specs.Steps.{Step, Replies, reply_entries, planned_vote, planned_owner, open_note, due_note, vote_reply, owner_reply, planned_reply, reply_step, due_reply, due_replies, pending}
-use Rattle.dtx_model.specs.Steps.{is_gone, is_handed, hears_abort, is_to_tell, tell, commit_act, before_seal, all_voted, behind_seal, undecided_act, act_by, act_entries, act_if}
+use Rattle.dtx_values.specs.Waves.{all_voted, hears, may_be_asked, name_of, next_ask, zeros_voted, is_over}
+use Rattle.dtx_model.specs.Steps.{is_gone, is_handed, hears_abort, is_to_tell, tell, commit_act, before_seal, after_seal, undecided_act, act_by, act_entries, act_if}
 use Rattle.dtx_model.proofs.Bools.{and_left, and_right, and_both, or_first, or_right, not_true, not_false, three_hold}
 use Rattle.outcome_law.proofs.Tests.{four_hold, five_hold}
 use Rattle.outcome_law.proofs.Scans.{each_more, each_both, each-append, each-kth}
@@ -165,7 +167,7 @@ ask_step true false w d t s a p q u e = or_right (not w) (not d && t && s && not
 ask_step false m w d t s a p q u e = refl
 
 -- the name of what passes passes
-name_well : (h : List Entry) (o : Option Enlistment) → passes (λ x. rule h (Asked x.0 Prepare)) o ≡ true → passes (λ e. rule h (Asked e Prepare)) (name_of o) ≡ true
+name_well : (h : List Entry) (o : Option Row) → passes (λ x. rule h (Asked x.0 Prepare)) o ≡ true → passes (λ e. rule h (Asked e Prepare)) (name_of o) ≡ true
 name_well h (Some x) q = q
 name_well h None q = refl
 
@@ -177,7 +179,7 @@ next_well h first r d c =
     name_well h (find (may_be_asked (rows h) first) (rows h))
     (found_well (may_be_asked (rows h) first) (λ x. rule h (Asked x.0 Prepare)) (rows h)
     (each_from_at (λ x. not (may_be_asked (rows h) first x) || rule h (Asked x.0 Prepare)) (rows h)
-    (λ k x e. ask_step (is_class first x.1.class) (is_marked x) _ (has is_decision h) (has is_commit h) (has (is_enlisted x.0.value) h) (has (is_asked x.0.value) h)
+    (λ k x e. ask_step (is_class first x.class) (is_marked x) _ (has is_decision h) (has is_commit h) (has (is_enlisted x.0.value) h) (has (is_asked x.0.value) h)
     d c (rows_enlisted h k x r e) (row_marked h k x r e))))
 
 -- what comes in phase zero keeps it
@@ -189,7 +191,7 @@ before_keeps h None false k w f = k
 
 -- what comes behind the seal keeps it
 behind_keeps : (h : List Entry) (q : Option EnlNo) (voted : Bool) (commit : List Entry) → IsKept h → passes (λ e. rule h (Asked e Prepare)) q ≡ true
-    → (voted ≡ true → IsKept (onto h commit)) → IsKept (onto h (behind_seal q voted commit))
+    → (voted ≡ true → IsKept (onto h commit)) → IsKept (onto h (after_seal q voted commit))
 behind_keeps h (Some e) voted commit k w f = keep (Asked e Prepare) h k w (λ g. g)
 behind_keeps h None true commit k w f = f refl
 behind_keeps h None false commit k w f = k

@@ -15,15 +15,19 @@ use Rattle.dtx_values.specs.declared.script.EnlistOption.{EnlistOption}
 use Rattle.dtx_values.specs.declared.script.EnlistOption.TheVariants.{Plain, DuringPrepare}
 use Rattle.dtx_values.specs.declared.words.Class.TheVariants.{DurableSingle, Promotable as PromotableClass}
 use Rattle.dtx_values.specs.declared.words.Outcome.{Outcome}
-use Rattle.dtx_values.specs.Table.{Enlistment, how_many, is_of}
+use Rattle.dtx_values.specs.declared.row.Row.{Row}
+use Rattle.dtx_values.specs.Table.{how_many, voted}
 use Rattle.dtx_values.specs.Clones.{is_clone, is_complete_clone, is_open_rollback}
 use Rattle.dtx_model.specs.Words.{has, latest, onto}
-use Rattle.dtx_model.specs.Entries.{is_commit, is_sealed, is_volatile, is_vote, is_hand, is_any_hand, is_lost, decision_of, handed_of, is_decision, began_of}
+use Rattle.dtx_values.specs.Class.{is_volatile}
+use Rattle.dtx_model.specs.Entries.{is_commit, is_sealed, is_vote, is_hand, is_any_hand, is_lost, decision_of, handed_of, is_decision, began_of}
 use Rattle.dtx_model.specs.Observed.{observe, rows, clone_rows, clock}
 use Rattle.dtx_model.specs.Outcome.{is_empty, ready, by_seal, by_owner, by_log, evidence, is_veto}
-use Rattle.dtx_model.specs.Owners.{cause_of, is_lasting, may_own}
-use Rattle.dtx_model.specs.Steps.{limit_of, class_of, behind_begin, behind_end, volatile_answer, durable_answer, promotable_answer, is_single, wait_for, clone_answer, complete_answer, gone_answer, unless_late, answer, is_done}
-use Rattle.dtx_model.specs.Steps.{veto_if, ticked, reaches, is_evident, is_gone, is_handed, is_late, time_up, voted, lost_outcome, decided_if, facts, facts_if}
+use Rattle.dtx_values.specs.Support.{is_single}
+use Rattle.dtx_values.specs.Row.{is_lasting, is_of}
+use Rattle.dtx_model.specs.Steps.{limit_of, class_of, if_begun, unless_ended, volatile_answer, durable_answer, promotable_answer, wait_for, clone_answer, complete_answer, gone_answer, unless_late, answer, is_done}
+use Rattle.dtx_values.specs.Owners.{is_evident, cause_of, may_own}
+use Rattle.dtx_model.specs.Steps.{veto_if, ticked, reaches, is_gone, is_handed, is_late, time_up, lost_outcome, decided_if, facts, facts_if}
 use Rattle.dtx_model.specs.Caused.{is_new}
 use Rattle.dtx_model.proofs.Bools.{and_both, or_first, or_second, not_false, not_true}
 use Rattle.dtx_model.proofs.Unowned.{causeless}
@@ -43,29 +47,29 @@ pub evidence_seen : (h : List Entry) → IsKept h → has is_decision h ≡ fals
 evidence_seen h k d = evidence_shown h k.rules (going_unanswered h d k.going)
 
 -- a call was done where it was begun and nothing is decided
-done_behind : (l : Option ℕ) (d : Option Outcome) (a : Answer) → is_done (behind_begin l (behind_end d a)) ≡ true → (d ≡ None) × (is_done a ≡ true)
+done_behind : (l : Option ℕ) (d : Option Outcome) (a : Answer) → is_done (if_begun l (unless_ended d a)) ≡ true → (d ≡ None) × (is_done a ≡ true)
 done_behind None d a k = absurd cc
 done_behind (Some n) (Some x) a k = absurd cc
 done_behind (Some n) None a k = (refl, k)
 
 -- a call of volatile that was done stood behind no seal
-volatile_done : (sealed : Bool) (xs : List Enlistment) → is_done (volatile_answer sealed xs) ≡ true → sealed ≡ false
+volatile_done : (sealed : Bool) (xs : List Row) → is_done (volatile_answer sealed xs) ≡ true → sealed ≡ false
 volatile_done true xs k = absurd cc
 volatile_done false xs k = refl
 
 -- a durable call that was done stood behind no seal, and behind nothing durable or promotable
-durable_done : (sealed single : Bool) (xs : List Enlistment) → is_done (durable_answer sealed single xs) ≡ true → (sealed ≡ false) × (has is_lasting xs ≡ false)
+durable_done : (sealed single : Bool) (xs : List Row) → is_done (durable_answer sealed single xs) ≡ true → (sealed ≡ false) × (has is_lasting xs ≡ false)
 durable_done true single xs k = absurd cc
 durable_done false single xs k = step single xs (nat_le ENLISTMENTS (length xs)) (nat_le DURABLES (how_many is_lasting xs)) k
   where
-    step : (single : Bool) (xs : List Enlistment) (a b : Bool) → is_done (if a then Many ENLISTMENTS else if b then Many DURABLES else wait_for (cause_of xs single)) ≡ true
+    step : (single : Bool) (xs : List Row) (a b : Bool) → is_done (if a then Many ENLISTMENTS else if b then Many DURABLES else wait_for (cause_of xs single)) ≡ true
         → (false ≡ false) × (has is_lasting xs ≡ false)
     step single xs true b k = absurd cc
     step single xs false true k = absurd cc
     step single xs false false k = (refl, causeless xs single k)
 
 -- and so did a promotable call
-promotable_done : (sealed : Bool) (xs : List Enlistment) → is_done (promotable_answer sealed xs) ≡ true → (sealed ≡ false) × (has is_lasting xs ≡ false)
+promotable_done : (sealed : Bool) (xs : List Row) → is_done (promotable_answer sealed xs) ≡ true → (sealed ≡ false) × (has is_lasting xs ≡ false)
 unfolding may_own
 promotable_done true xs k = absurd cc
 promotable_done false xs k = step (has is_lasting xs) (nat_le ENLISTMENTS (length xs)) k
@@ -90,7 +94,7 @@ late_done true k = absurd cc
 late_done false k = refl
 
 -- a call of gone that was done is of an enlistment that stands and wasn't lost
-gone_done : (l : Option ℕ) (stands lost : Bool) → is_done (behind_begin l (gone_answer stands lost)) ≡ true → (stands ≡ true) × (lost ≡ false)
+gone_done : (l : Option ℕ) (stands lost : Bool) → is_done (if_begun l (gone_answer stands lost)) ≡ true → (stands ≡ true) × (lost ≡ false)
 gone_done None stands lost k = absurd cc
 gone_done (Some n) false lost k = absurd cc
 gone_done (Some n) true true k = absurd cc
@@ -176,6 +180,6 @@ call_keeps h n a y (Gone e) m true k w f =
     let fine = gone_done (latest began_of h) (has (is_of e.value) (rows h)) (is_gone (observe h) e.value) f in
     let lost = sym (lost_seen e.value h k.rules) ∙ fine.1 in
     let rule : rule h (Lost e) ≡ true = and_both (has (is_enlisted e.value) h) (not (has (is_lost e.value) h)) (sym (enlisted_in_rows e.value h) ∙ fine.0) (not_false (has (is_lost e.value) h) lost) in
-    gone_keeps (Called n a y ∷ h) e (is_some (latest decision_of h)) (voted (rows h) e.value) (is_handed (latest handed_of h) e.value) (keep (Called n a y) h k refl (λ g. g)) rule
+    gone_keeps (Called n a y ∷ h) e (is_some (latest decision_of h)) (voted e.value (rows h)) (is_handed (latest handed_of h) e.value) (keep (Called n a y) h k refl (λ g. g)) rule
     (λ d. undecided h (none_there (latest decision_of h) d)) (unvoted_seen h e.value k.rules fine.0) (hand_seen e.value h k.rules)
 call_keeps h n a y _ m true k w f = keep (Called n a y) h k refl (λ g. g)

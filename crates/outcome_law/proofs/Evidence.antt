@@ -10,7 +10,8 @@ use Rattle.dtx_values.specs.declared.words.Class.{Class}
 use Rattle.dtx_values.specs.declared.words.Outcome.{Outcome}
 use Rattle.dtx_values.specs.declared.words.Outcome.TheVariants.{Committed}
 use Rattle.dtx_model.specs.Words.{has, each, all_of}
-use Rattle.dtx_model.specs.Entries.{same_outcome, is_commit, is_sealed, is_promoted, is_record, is_yes, is_hand, is_any_hand, is_owner, is_volatile, clone_of, is_good_vote, is_decision}
+use Rattle.dtx_values.specs.Class.{is_volatile}
+use Rattle.dtx_model.specs.Entries.{same_outcome, is_commit, is_sealed, is_promoted, is_record, is_yes, is_hand, is_any_hand, is_owner, clone_of, is_good_vote, is_decision}
 use Rattle.dtx_model.specs.Outcome.{can_own, enlisted, volatiles, durables, voters, is_complete, ready, is_empty, by_seal, owner_committed, by_owner, by_log, evidence}
 use Rattle.dtx_model.proofs.Bools.{and_left, and_right, and_both, or_false, or_right, or_case, not_both, not_true, and_never, three_hold}
 use Rattle.outcome_law.proofs.Tests.{eq_self, second_of_three, second_of_four, third_of_four, second_of_five, third_of_five, fourth_of_five}

@@ -15,7 +15,8 @@ use Rattle.dtx_values.specs.declared.words.Outcome.TheVariants.{Committed, Abort
 use Rattle.dtx_values.specs.declared.words.Vote.TheVariants.{Yes, No, Done}
 use Rattle.dtx_values.specs.Clones.{blocks}
 use Rattle.dtx_model.specs.Words.{has, each, all_of}
-use Rattle.dtx_model.specs.Entries.{is_commit, is_sealed, is_yes, is_hand, is_any_hand, is_owner, is_any_owner, is_lost, is_vote, is_volatile, clone_of, is_good_vote, is_decision, handed_of}
+use Rattle.dtx_values.specs.Class.{is_volatile}
+use Rattle.dtx_model.specs.Entries.{is_commit, is_sealed, is_yes, is_hand, is_any_hand, is_owner, is_any_owner, is_lost, is_vote, clone_of, is_good_vote, is_decision, handed_of}
 use Rattle.dtx_model.specs.Outcome.{can_own, durables, enlisted, is_complete, is_empty, ready, by_seal, by_owner, by_log, evidence, is_rollback, is_veto, vetoed, is_lost_owner, owner_doubt, doubt, may_tell}
 use Rattle.dtx_model.proofs.Bools.{and_left, and_right, and_both, or_case, or_false, or_right, not_true, not_false, not_both, three_hold, and_never}
 use Rattle.outcome_law.proofs.Tests.{eq_swap, four_hold, or_between, second_of_three}

@@ -17,14 +17,14 @@ use Rattle.dtx_values.specs.declared.script.EnlistOption.TheVariants.{Plain, Dur
 use Rattle.dtx_values.specs.declared.script.Line.{Line}
 use Rattle.dtx_values.specs.declared.script.Support.{Support}
 use Rattle.dtx_values.specs.declared.script.Support.TheVariants.{SinglePhase, TwoPhase}
-use Rattle.dtx_values.specs.Table.{is_of, marks, number_of, fresh_row, mark_row, vote_row}
+use Rattle.dtx_values.specs.Table.{marks, voted}
 use Rattle.dtx_values.specs.Clones.{is_open_rollback}
 use Rattle.dtx_model.specs.Words.{has, each}
-use Rattle.dtx_model.specs.Entries.{is_volatile}
-use Rattle.dtx_model.specs.Owners.{is_lasting}
+use Rattle.dtx_values.specs.Row.{is_lasting, is_of, number_of, fresh_row, mark_row, vote_row}
+use Rattle.dtx_values.specs.Class.{is_volatile}
 use Rattle.dtx_model.specs.Observed.{Observed, rows}
 use Rattle.dtx_model.specs.Contexts.{calls_by}
-use Rattle.dtx_model.specs.Steps.{call_of, complete_call, transaction_of, gone_call, transaction_with, facts, facts_if, veto_if, reaches, ticked, time_up, is_late, is_handed, voted, lost_outcome, decided_if}
+use Rattle.dtx_model.specs.Steps.{call_of, complete_call, transaction_of, gone_call, transaction_with, facts, facts_if, veto_if, reaches, ticked, time_up, is_late, is_handed, lost_outcome, decided_if}
 use Rattle.dtx_model.specs.Caused.{Caused}
 use Rattle.dtx_model.specs.Grammar.{is_lasting_for, is_run}
 use Rattle.dtx_model.proofs.Bools.{or_case, not_true, not_both}
@@ -78,7 +78,7 @@ facts_last o (Tick t n) true h =
     let reached = reaches o.limit o.clock (ticked o.clock n) in
     absurd (not_both _ h (plain_none (if reached then time_up (is_late o) else []) (time_plain reached (is_late o))))
 facts_last o (Gone e) true h =
-    let lost = not (is_some o.decided) && not (voted o.table e.value) in
+    let lost = not (is_some o.decided) && not (voted e.value o.table) in
     let x = lost_outcome (is_handed o.handed e.value) in
     absurd (not_both _ h (plain_none (decided_if lost x) (decided_plain lost x)))
 facts_last o _ true h = absurd cc

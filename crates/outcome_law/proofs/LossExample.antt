@@ -11,9 +11,9 @@ use Rattle.dtx_values.specs.declared.words.Class.TheVariants.{One, DurableSingle
 use Rattle.dtx_values.specs.declared.words.Outcome.TheVariants.{Committed, Aborted, InDoubt}
 use Rattle.dtx_values.specs.declared.words.Vote.TheVariants.{Yes}
 use Rattle.dtx_model.specs.Words.{past_of}
-use Rattle.dtx_model.specs.Waves.{next_ask, is_over, hears}
+use Rattle.dtx_values.specs.Waves.{next_ask, is_over, hears}
 use Rattle.dtx_model.specs.Observed.{observe}
-use Rattle.dtx_model.specs.Owners.{may_own, owner_of}
+use Rattle.dtx_values.specs.Owners.{may_own, owner_of}
 use Rattle.dtx_model.specs.Outcome.{ready, by_seal, by_owner, by_log, evidence, vetoed, owner_doubt, coordinator_doubt, doubt, may_tell, justified}
 use Rattle.dtx_model.specs.Steps.{Acts, answer, act_entries, block, pending}
 use Rattle.dtx_model.specs.Caused.{Caused}

@@ -15,13 +15,14 @@ use Rattle.dtx_values.specs.declared.entry.Entry.TheVariants.{Called, Cloned, En
 use Rattle.dtx_values.specs.declared.script.Body.{Body}
 use Rattle.dtx_values.specs.declared.script.Body.TheVariants.{Volatile as VolatileLine, Durable as DurableLine, Promotable as PromotableLine, Clone as CloneLine, Complete as CompleteLine, Gone as GoneLine}
 use Rattle.dtx_values.specs.declared.script.Line.{Line}
-use Rattle.dtx_values.specs.Table.{is_of}
+use Rattle.dtx_values.specs.Row.{is_of}
 use Rattle.dtx_values.specs.Clones.{is_clone, is_open_rollback}
 use Rattle.dtx_model.specs.Words.{has, each, always, kth, onto}
 use Rattle.dtx_model.specs.Entries.{is_call}
 use Rattle.dtx_model.specs.Observed.{Observed, observe, rows, clone_rows}
 use Rattle.dtx_model.specs.Contexts.{calls_by, lines_before}
-use Rattle.dtx_model.specs.Steps.{Step, Calls, Replies, Acts, call_of, complete_call, transaction_of, gone_call, transaction_with, answer, is_done, facts, facts_if, veto_if, reaches, ticked, time_up, is_late, is_handed, voted, lost_outcome, decided_if, block}
+use Rattle.dtx_values.specs.Table.{voted}
+use Rattle.dtx_model.specs.Steps.{Step, Calls, Replies, Acts, call_of, complete_call, transaction_of, gone_call, transaction_with, answer, is_done, facts, facts_if, veto_if, reaches, ticked, time_up, is_late, is_handed, lost_outcome, decided_if, block}
 use Rattle.dtx_model.specs.Caused.{IsCallOf, MayCome, Ran, Caused, is_new}
 use Rattle.dtx_model.specs.Grammar.{Name, OfTransaction, OfEnlistment, OfClone, OfScope, same_name, makes, is_made, is_named_well, are_named_well}
 use Rattle.dtx_model.proofs.Bools.{and_left, and_right, or_right, or_case, not_true, not_false, not_both}
@@ -159,7 +160,7 @@ facts_make x o (Tick t n) true h =
     let reached = reaches o.limit o.clock (ticked o.clock n) in
     absurd (not_both _ h (plain_no_name x (if reached then time_up (is_late o) else []) (time_plain reached (is_late o))))
 facts_make x o (Gone e) true h =
-    let lost = not (is_some o.decided) && not (voted o.table e.value) in
+    let lost = not (is_some o.decided) && not (voted e.value o.table) in
     let y = lost_outcome (is_handed o.handed e.value) in
     absurd (not_both _ h (plain_no_name x (decided_if lost y) (decided_plain lost y)))
 facts_make x o _ true h = absurd cc

@@ -8,15 +8,19 @@ use Rattle.dtx_values.specs.declared.entry.Entry.{Entry}
 use Rattle.dtx_values.specs.declared.entry.Entry.TheVariants.{Enlisted, Asked, Voted, Handed, Told, Lost}
 use Rattle.dtx_values.specs.declared.entry.Party.TheVariants.{Enl}
 use Rattle.dtx_values.specs.declared.words.Class.{Class}
-use Rattle.dtx_values.specs.Table.{Enlistment, insert_by, is_of, has_voted, marks, number_of, fresh_row, mark_row, vote_row}
+use Rattle.dtx_values.specs.declared.row.Row.{Row}
+use Rattle.dtx_values.specs.Table.{insert_by, marks, voted}
 use Rattle.dtx_model.specs.declared.listener.Listener.{Listener}
 use Rattle.dtx_model.specs.Words.{has, latest}
-use Rattle.dtx_model.specs.Entries.{is_volatile, is_sealed, is_hand, is_any_hand, is_lost, is_vote, is_decision, handed_of}
+use Rattle.dtx_values.specs.Class.{is_volatile}
+use Rattle.dtx_model.specs.Entries.{is_sealed, is_hand, is_any_hand, is_lost, is_vote, is_decision, handed_of}
 use Rattle.dtx_model.specs.Observed.{listener_number, hear, listeners, lose, rows}
 use Rattle.dtx_model.specs.Outcome.{can_own, durables, enlisted, hears_doubt, is_empty, ready}
-use Rattle.dtx_model.specs.Owners.{is_lasting, lasting, only, owner_of}
-use Rattle.dtx_model.specs.Steps.{is_handed, voted}
-use Rattle.dtx_model.specs.Waves.{hears, still_hears}
+use Rattle.dtx_values.specs.Owners.{lasting, only, owner_of}
+use Rattle.dtx_values.specs.Row.{is_lasting, is_of, has_voted, number_of, fresh_row, mark_row, vote_row}
+use Rattle.dtx_model.specs.Steps.{is_handed}
+use Rattle.dtx_values.specs.Vote.{still_hears}
+use Rattle.dtx_values.specs.Waves.{hears}
 use Rattle.dtx_model.proofs.Bools.{and_left, and_right, and_never, or_first, or_second, or_case, not_both, not_true}
 use Rattle.outcome_law.proofs.Tests.{eq_self, fourth_of_four}
 use Rattle.outcome_law.proofs.Scans.{has_more, has_less}
@@ -26,15 +30,15 @@ use Rattle.outcome_law.proofs.TableRows.{IsRow, rows_seen}
 use Rattle.outcome_law.proofs.Evidence.{hand_any}
 
 -- what some row passes by its number and class, some enlistment passes
-pub has_rows : (f : EnlNo → Class → Bool) (h : List Entry) → has (λ x. f x.0 x.1.class) (rows h) ≡ has (λ x. f x.0 x.1) (enlisted h)
+pub has_rows : (f : EnlNo → Class → Bool) (h : List Entry) → has (λ x. f x.0 x.class) (rows h) ≡ has (λ x. f x.0 x.1) (enlisted h)
 has_rows f [] = refl
-has_rows f (Enlisted e c ∷ h) = has-insert (λ x. f x.0 x.1.class) number_of (e, fresh_row c (marks (rows h))) (rows h) ∙ ap (λ b. f e c || b) (has_rows f h)
+has_rows f (Enlisted e c ∷ h) = has-insert (λ x. f x.0 x.class) number_of (e, fresh_row c (marks (rows h))) (rows h) ∙ ap (λ b. f e c || b) (has_rows f h)
 has_rows f (Asked e Prepare ∷ h) =
-    has_kept (λ x. f x.0 x.1.class) (λ x. if is_of e.value x then (x.0, mark_row (marks (rows h)) x.1) else x)
-    (λ x. if_kept (λ x. f x.0 x.1.class) (is_of e.value x) (x.0, mark_row (marks (rows h)) x.1) x refl) (rows h) ∙ has_rows f h
+    has_kept (λ x. f x.0 x.class) (λ x. if is_of e.value x then (x.0, mark_row (marks (rows h)) x.1) else x)
+    (λ x. if_kept (λ x. f x.0 x.class) (is_of e.value x) (x.0, mark_row (marks (rows h)) x.1) x refl) (rows h) ∙ has_rows f h
 has_rows f (Voted e v ∷ h) =
-    has_kept (λ x. f x.0 x.1.class) (λ x. if is_of e.value x then (x.0, vote_row v x.1) else x)
-    (λ x. if_kept (λ x. f x.0 x.1.class) (is_of e.value x) (x.0, vote_row v x.1) x refl) (rows h) ∙ has_rows f h
+    has_kept (λ x. f x.0 x.class) (λ x. if is_of e.value x then (x.0, vote_row v x.1) else x)
+    (λ x. if_kept (λ x. f x.0 x.class) (is_of e.value x) (x.0, vote_row v x.1) x refl) (rows h) ∙ has_rows f h
 has_rows f (x ∷ h) = has_rows f h
 
 -- some of those that pass p pass q where some pass both
@@ -56,8 +60,8 @@ unfolding hears
 volatile_hears h e k =
     has_filter (λ x. e.value == x.0.value) (λ x. is_volatile x.1) (enlisted h)
     ∙ sym (has_rows (λ f c. (e.value == f.value) && is_volatile c) h)
-    ∙ has_more (λ x. is_of e.value x && is_volatile x.1.class && still_hears x.1.vote) (λ x. is_of e.value x && is_volatile x.1.class)
-    (λ x. and_left (is_of e.value x && is_volatile x.1.class) (still_hears x.1.vote)) (rows h) k
+    ∙ has_more (λ x. is_of e.value x && is_volatile x.class && still_hears x.vote) (λ x. is_of e.value x && is_volatile x.class)
+    (λ x. and_left (is_of e.value x && is_volatile x.class) (still_hears x.vote)) (rows h) k
 
 -- none passes: none is picked
 filter_none : {A : Type 0} (p : A → Bool) (xs : List A) → has p xs ≡ false → filter p xs ≡ []
@@ -111,18 +115,18 @@ filter-map p f same (x ∷ xs) = ap (λ b. if b then f x ∷ filter p (map f xs)
     step f x false ys zs e = e
 
 -- the only one keeps its name
-only-map : (f : Enlistment → Enlistment) → ((x : Enlistment) → (f x).0 ≡ x.0) → (xs : List Enlistment) → only (map f xs) ≡ only xs
+only-map : (f : Row → Row) → ((x : Row) → (f x).0 ≡ x.0) → (xs : List Row) → only (map f xs) ≡ only xs
 only-map f same [] = refl
 only-map f same (x ∷ []) = ap (λ e. Some e) (same x)
 only-map f same (x ∷ y ∷ xs) = refl
 
 -- one of two of one name has that name
-pub if_named : (b : Bool) (y x : Enlistment) → y.0 ≡ x.0 → (if b then y else x).0 ≡ x.0
+pub if_named : (b : Bool) (y x : Row) → y.0 ≡ x.0 → (if b then y else x).0 ≡ x.0
 if_named true y x e = e
 if_named false y x e = refl
 
 -- rows that keep name and class have the same owner
-kept_owner : (f : Enlistment → Enlistment) → ((x : Enlistment) → is_lasting (f x) ≡ is_lasting x) → ((x : Enlistment) → (f x).0 ≡ x.0) → (xs : List Enlistment)
+kept_owner : (f : Row → Row) → ((x : Row) → is_lasting (f x) ≡ is_lasting x) → ((x : Row) → (f x).0 ≡ x.0) → (xs : List Row)
     → only (lasting (map f xs)) ≡ only (lasting xs)
 kept_owner f same name xs = ap only (filter-map is_lasting f same xs) ∙ only-map f name (lasting xs)
 
@@ -269,10 +273,10 @@ lost_seen n (Lost e ∷ h) r =
 lost_seen n (x ∷ h) r = lost_seen n h (other_rules x h r)
 
 -- an enlistment whose row has no vote didn't vote
-pub unvoted_seen : (h : List Entry) (e : ℕ) → ruled h ≡ true → has (is_of e) (rows h) ≡ true → voted (rows h) e ≡ false → has (is_vote e) h ≡ false
+pub unvoted_seen : (h : List Entry) (e : ℕ) → ruled h ≡ true → has (is_of e) (rows h) ≡ true → voted e (rows h) ≡ false → has (is_vote e) h ≡ false
 unvoted_seen h e r s v = of_row h e (rows h) (rows_seen h r) s v
   where
-    of_row : (h : List Entry) (e : ℕ) (xs : List Enlistment) → OfEach (IsRow h) xs → has (is_of e) xs ≡ true → has (λ x. is_of e x && has_voted x) xs ≡ false → has (is_vote e) h ≡ false
+    of_row : (h : List Entry) (e : ℕ) (xs : List Row) → OfEach (IsRow h) xs → has (is_of e) xs ≡ true → has (λ x. is_of e x && has_voted x) xs ≡ false → has (is_vote e) h ≡ false
     of_row h e [] w s v = absurd cc
     of_row h e (x ∷ xs) w s v =
         or_case (is_of e x) (has (is_of e) xs)

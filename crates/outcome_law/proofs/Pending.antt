@@ -13,11 +13,13 @@ use Rattle.dtx_values.specs.declared.words.Outcome.{Outcome}
 use Rattle.dtx_values.specs.Clones.{is_open_rollback}
 use Rattle.dtx_model.specs.declared.listener.Listener.{Listener}
 use Rattle.dtx_model.specs.Words.{has, each}
-use Rattle.dtx_model.specs.Waves.{is_over, next_ask}
 use Rattle.dtx_model.specs.Observed.{Observed}
-use Rattle.dtx_model.specs.Owners.{owner_of}
-use Rattle.dtx_model.specs.Steps.{Step, Calls, Replies, Acts, facts, facts_if, veto_if, reaches, ticked, time_up, is_late, is_no, is_handed, voted, lost_outcome, decided_if, due_note, planned_reply, reply_step, due_reply, due_replies, pending, block}
-use Rattle.dtx_model.specs.Steps.{tell, is_to_tell, before_seal, commit_act, behind_seal, all_voted, undecided_act, act_by, act_entries, act_if}
+use Rattle.dtx_values.specs.Vote.{is_no}
+use Rattle.dtx_values.specs.Owners.{owner_of}
+use Rattle.dtx_values.specs.Table.{voted}
+use Rattle.dtx_model.specs.Steps.{Step, Calls, Replies, Acts, facts, facts_if, veto_if, reaches, ticked, time_up, is_late, is_handed, lost_outcome, decided_if, due_note, planned_reply, reply_step, due_reply, due_replies, pending, block}
+use Rattle.dtx_values.specs.Waves.{all_voted, is_over, next_ask}
+use Rattle.dtx_model.specs.Steps.{tell, is_to_tell, before_seal, commit_act, after_seal, undecided_act, act_by, act_entries, act_if}
 use Rattle.outcome_law.proofs.Scans.{each-append, each_more}
 use Rattle.outcome_law.proofs.Picks.{passes, each_from_at, each_picked}
 
@@ -125,7 +127,7 @@ facts_not_called o (Tick t n) true =
     let reached = reaches o.limit o.clock (ticked o.clock n) in
     plain_not_called (if reached then time_up (is_late o) else []) (time_plain reached (is_late o))
 facts_not_called o (Gone e) true =
-    let lost = not (is_some o.decided) && not (voted o.table e.value) in
+    let lost = not (is_some o.decided) && not (voted e.value o.table) in
     let x = lost_outcome (is_handed o.handed e.value) in
     plain_not_called (decided_if lost x) (decided_plain lost x)
 facts_not_called o _ true = refl
@@ -149,7 +151,7 @@ commit_deed false (Some e) = refl
 commit_deed false None = refl
 
 -- what comes behind the seal is a deed
-seal_deed : (e : Option EnlNo) (voted : Bool) (xs : List Entry) → each is_deed xs ≡ true → each is_deed (behind_seal e voted xs) ≡ true
+seal_deed : (e : Option EnlNo) (voted : Bool) (xs : List Entry) → each is_deed xs ≡ true → each is_deed (after_seal e voted xs) ≡ true
 seal_deed (Some e) voted xs h = refl
 seal_deed None true xs h = h
 seal_deed None false xs h = refl
@@ -165,7 +167,7 @@ act_deed : (d : Option Outcome) (o : Observed) → each is_deed (act_by d o) ≡
 act_deed (Some x) o = tell_deed x (find (is_to_tell o x) o.listeners) o.told_client
 act_deed None o =
     let commit = commit_act (is_some o.handed) (owner_of o.table) in
-    undecided_deed o.commit o.sealed (before_seal (next_ask o.table true) (is_over o.table o.clones 0)) (behind_seal (next_ask o.table false) (all_voted o.table) commit)
+    undecided_deed o.commit o.sealed (before_seal (next_ask o.table true) (is_over o.table o.clones 0)) (after_seal (next_ask o.table false) (all_voted o.table) commit)
     (zero_deed (next_ask o.table true) (is_over o.table o.clones 0)) (seal_deed (next_ask o.table false) (all_voted o.table) commit (commit_deed (is_some o.handed) (owner_of o.table)))
 
 -- the block of a reply or of the local act has deeds alone

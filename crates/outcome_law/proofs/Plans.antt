@@ -18,11 +18,13 @@ use Rattle.dtx_values.specs.Clones.{is_open_rollback}
 use Rattle.dtx_model.specs.declared.listener.Listener.{Listener}
 use Rattle.dtx_model.specs.Words.{has, each, onto}
 use Rattle.dtx_model.specs.Observed.{Observed, observe}
-use Rattle.dtx_model.specs.Owners.{owner_of}
-use Rattle.dtx_model.specs.Steps.{Step, Calls, Replies, Acts, reaches, ticked, is_late, time_up, veto_if, is_no, is_done, answer, is_handed, voted, lost_outcome, decided_if, facts, facts_if, reply_entries, block}
+use Rattle.dtx_values.specs.Vote.{is_no}
+use Rattle.dtx_values.specs.Owners.{owner_of}
+use Rattle.dtx_values.specs.Table.{voted}
+use Rattle.dtx_model.specs.Steps.{Step, Calls, Replies, Acts, reaches, ticked, is_late, time_up, veto_if, is_done, answer, is_handed, lost_outcome, decided_if, facts, facts_if, reply_entries, block}
 use Rattle.dtx_model.specs.Steps.{planned_vote, planned_owner, vote_reply, owner_reply, planned_reply, reply_step, due_note, due_reply, due_replies, pending}
-use Rattle.dtx_model.specs.Steps.{is_to_tell, tell, before_seal, all_voted, commit_act, behind_seal, undecided_act, act_by, act_entries, act_if}
-use Rattle.dtx_model.specs.Waves.{next_ask, is_over}
+use Rattle.dtx_model.specs.Steps.{is_to_tell, tell, before_seal, commit_act, after_seal, undecided_act, act_by, act_entries, act_if}
+use Rattle.dtx_values.specs.Waves.{next_ask, is_over, all_voted}
 use Rattle.dtx_model.specs.Caused.{MayCome, Ran, Caused}
 use Rattle.dtx_model.proofs.Bools.{and_both, and_left, and_right}
 use Rattle.outcome_law.proofs.Scans.{each-append, each-kth}
@@ -89,7 +91,7 @@ commit_planned s false (Some e) = refl
 commit_planned s false None = refl
 
 -- what comes behind the seal is no answer
-seal_planned : (s : List Line) (e : Option EnlNo) (voted : Bool) (commit : List Entry) → each (is_planned s) commit ≡ true → each (is_planned s) (behind_seal e voted commit) ≡ true
+seal_planned : (s : List Line) (e : Option EnlNo) (voted : Bool) (commit : List Entry) → each (is_planned s) commit ≡ true → each (is_planned s) (after_seal e voted commit) ≡ true
 seal_planned s (Some e) voted commit k = refl
 seal_planned s None true commit k = k
 seal_planned s None false commit k = refl
@@ -106,7 +108,7 @@ act_planned : (s : List Line) (d : Option Outcome) (o : Observed) → each (is_p
 act_planned s (Some x) o = tell_planned s x (find (is_to_tell o x) o.listeners) o.told_client
 act_planned s None o =
     undecided_planned s o.commit o.sealed (before_seal (next_ask o.table true) (is_over o.table o.clones 0))
-    (behind_seal (next_ask o.table false) (all_voted o.table) (commit_act (is_some o.handed) (owner_of o.table))) (zero_planned s (next_ask o.table true) (is_over o.table o.clones 0))
+    (after_seal (next_ask o.table false) (all_voted o.table) (commit_act (is_some o.handed) (owner_of o.table))) (zero_planned s (next_ask o.table true) (is_over o.table o.clones 0))
     (seal_planned s (next_ask o.table false) (all_voted o.table) (commit_act (is_some o.handed) (owner_of o.table)) (commit_planned s (is_some o.handed) (owner_of o.table)))
 
 -- an outcome that is planned is the one

@@ -19,9 +19,9 @@ use Rattle.dtx_values.specs.declared.words.Outcome.TheVariants.{Committed, Abort
 use Rattle.dtx_values.specs.declared.words.Vote.TheVariants.{Yes}
 use Rattle.dtx_model.specs.Words.{past_of}
 use Rattle.dtx_model.specs.Outcome.{ready, by_seal, by_owner, by_log, evidence, vetoed, owner_doubt, coordinator_doubt, doubt, may_tell, justified, agree}
-use Rattle.dtx_model.specs.Owners.{cause_of}
+use Rattle.dtx_values.specs.Owners.{cause_of}
 use Rattle.dtx_model.specs.Promotes.{ends_refused, promotes}
-use Rattle.dtx_model.specs.Wires.{MayCross, WireRun, left}
+use Rattle.dtx_model.specs.Wires.{MayCross, WireRun, in_transit}
 use Rattle.outcome_law.proofs.Examples.{a1, agree_in, e1, e2, just_in}
 use Rattle.outcome_law.proofs.ReplayExample.{t1}
 
@@ -145,8 +145,8 @@ silent_promotion = refl
 abbrev cut_behind_two : List Entry
 cut_behind_two = past_of (Sent Begin Up BeginBegin ∷ Sent Begin Up BeginCommit ∷ Sent Begin Up BeginAbort ∷ Cut Begin 2 0 ∷ [])
 
-two_left : left Begin Up cut_behind_two ≡ BeginBegin ∷ BeginCommit ∷ []
-two_left = refl
+two_in_transit : in_transit Begin Up cut_behind_two ≡ BeginBegin ∷ BeginCommit ∷ []
+two_in_transit = refl
 
 -- the end comes behind them and not before, and once
 no_early_end : MayCross cut_behind_two (End Begin Up) → ⊥
@@ -159,8 +159,8 @@ no_second_end again = cc again
 abbrev opened_while_stopped : List Entry
 opened_while_stopped = past_of (Sent Begin Up BeginBegin ∷ Stopped ∷ Sent (OnEnl e1) Up (EnlistEnlist info1) ∷ [])
 
-nothing_left : left (OnEnl e1) Up opened_while_stopped ≡ []
-nothing_left = refl
+nothing_in_transit : in_transit (OnEnl e1) Up opened_while_stopped ≡ []
+nothing_in_transit = refl
 
 local_end : MayCross opened_while_stopped (End (OnEnl e1) Down)
 local_end = refl

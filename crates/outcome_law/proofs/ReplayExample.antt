@@ -17,9 +17,9 @@ use Rattle.dtx_values.specs.declared.words.Outcome.TheVariants.{Committed}
 use Rattle.dtx_values.specs.declared.words.Timeout.TheVariants.{Milliseconds}
 use Rattle.dtx_values.specs.declared.words.Vote.TheVariants.{Yes}
 use Rattle.dtx_model.specs.Words.{has, past_of}
-use Rattle.dtx_model.specs.Waves.{next_ask, is_over, hears}
+use Rattle.dtx_values.specs.Waves.{next_ask, is_over, hears}
 use Rattle.dtx_model.specs.Observed.{observe}
-use Rattle.dtx_model.specs.Owners.{owner_of}
+use Rattle.dtx_values.specs.Owners.{owner_of}
 use Rattle.dtx_model.specs.Promotes.{promotes}
 use Rattle.dtx_model.specs.Wires.{MayCross, WireRun}
 use Rattle.dtx_model.specs.Steps.{Step, Replies, Acts, answer, act_entries, block, pending}

@@ -23,7 +23,7 @@ use Rattle.dtx_model.specs.Words.{has, each, kth, onto, past_of, put}
 use Rattle.dtx_model.specs.Entries.{is_call}
 use Rattle.dtx_model.specs.Outcome.{is_empty}
 use Rattle.dtx_model.specs.Observed.{Observed, observe, rows}
-use Rattle.dtx_model.specs.Owners.{is_lasting}
+use Rattle.dtx_values.specs.Row.{is_lasting}
 use Rattle.dtx_model.specs.Scopes.{ScopeEntry, Opens, Finishes, Closes}
 use Rattle.dtx_model.specs.Steps.{Step, Calls, Replies, Acts, call_of, answer, is_done, facts, facts_if, block, pending}
 use Rattle.dtx_model.specs.Contexts.{scope_answer, scope_entries, scope_calls, scopes_of, written, called_with, scope_block, context, lines_before, calls_by}

@@ -10,9 +10,9 @@ use Rattle.dtx_values.specs.declared.words.Class.{Class}
 use Rattle.dtx_values.specs.declared.words.Outcome.{Outcome}
 use Rattle.dtx_values.specs.declared.words.Outcome.TheVariants.{InDoubt}
 use Rattle.dtx_model.specs.Words.{has, each, always, latest, all_of}
-use Rattle.dtx_model.specs.Entries.{same_outcome, is_commit, is_sealed, is_volatile, clone_of, is_asked, is_vote, is_hand, is_any_hand, is_lost, decision_of, is_decision}
+use Rattle.dtx_model.specs.Entries.{same_outcome, is_commit, is_sealed, clone_of, is_asked, is_vote, is_hand, is_any_hand, is_lost, decision_of, is_decision}
 use Rattle.dtx_model.specs.Outcome.{can_own, durables, enlisted, hears_doubt, is_complete, is_empty, may_tell, ready}
-use Rattle.dtx_model.specs.Waves.{is_zero}
+use Rattle.dtx_values.specs.Class.{is_zero, is_volatile}
 use Rattle.dtx_model.proofs.Bools.{and_left, and_right}
 
 abbrev pub is_enlisted : ℕ → Entry → Bool

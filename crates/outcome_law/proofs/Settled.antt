@@ -13,18 +13,22 @@ use Rattle.dtx_values.specs.declared.words.Class.TheVariants.{Zero, One, Durable
 use Rattle.dtx_values.specs.declared.words.Outcome.{Outcome}
 use Rattle.dtx_values.specs.declared.words.Outcome.TheVariants.{Committed, Aborted, InDoubt}
 use Rattle.dtx_values.specs.declared.words.Vote.{Vote}
-use Rattle.dtx_values.specs.Table.{Enlistment, is_marked, has_voted, is_asked_before, voted_before}
+use Rattle.dtx_values.specs.Row.{is_marked, has_voted, is_asked_before}
+use Rattle.dtx_values.specs.declared.row.Row.{Row}
+use Rattle.dtx_values.specs.Table.{voted_before}
 use Rattle.dtx_values.specs.Clones.{blocks, is_open_block}
 use Rattle.dtx_model.specs.declared.listener.Listener.{Listener}
 use Rattle.dtx_model.specs.Words.{has, each, ever, latest, all_of}
-use Rattle.dtx_model.specs.Entries.{same_outcome, is_commit, is_sealed, is_yes, is_hand, is_owner, is_lost, is_vote, is_volatile, clone_of, handed_of, decision_of, is_decision, client_told_of, is_client_told}
+use Rattle.dtx_model.specs.Entries.{same_outcome, is_commit, is_sealed, is_yes, is_hand, is_owner, is_lost, is_vote, clone_of, handed_of, decision_of, is_decision, client_told_of, is_client_told}
 use Rattle.dtx_model.specs.History.{CanCommit, is_committed, is_granted, is_loss, is_willing}
 use Rattle.dtx_model.specs.Outcome.{can_own, enlisted, is_complete, evidence, is_veto, is_first_veto, vetoed, is_lost_owner, owner_doubt, is_begin_end, is_voter_end, is_outcome_got, coordinator_doubt, doubt}
-use Rattle.dtx_model.specs.Owners.{is_promotable, owner_of}
+use Rattle.dtx_values.specs.Owners.{owner_of}
 use Rattle.dtx_model.specs.Observed.{observe, rows, clone_rows}
-use Rattle.dtx_model.specs.Steps.{Step, tell, before_seal, commit_act, behind_seal, undecided_act, act_by, act_entries, act_if, is_to_tell}
-use Rattle.dtx_model.specs.Steps.{planned_vote, planned_owner, planned_promotion, is_gone, is_handed, open_note, vote_reply, owner_reply, planned_reply, reply_step, due_reply, due_replies, pending, all_voted, voted_well}
-use Rattle.dtx_model.specs.Waves.{is_zero, is_one, may_be_asked, name_of, next_ask, zeros_voted, is_over}
+use Rattle.dtx_model.specs.Steps.{Step, tell, before_seal, commit_act, after_seal, undecided_act, act_by, act_entries, act_if, is_to_tell}
+use Rattle.dtx_values.specs.Vote.{voted_well}
+use Rattle.dtx_model.specs.Steps.{planned_vote, planned_owner, planned_promotion, is_gone, is_handed, open_note, vote_reply, owner_reply, planned_reply, reply_step, due_reply, due_replies, pending}
+use Rattle.dtx_values.specs.Waves.{may_be_asked, name_of, next_ask, zeros_voted, is_over, all_voted}
+use Rattle.dtx_values.specs.Class.{is_zero, is_one, is_promotable, is_volatile}
 use Rattle.dtx_model.specs.Caused.{Settled}
 use Rattle.dtx_model.proofs.Bools.{and_left, and_right, and_both, not_false, or_false, or_second, or_right, not_both, not_true, and_never}
 use Rattle.outcome_law.proofs.Tests.{first_of_three, second_of_three, second_of_four, fourth_of_four, or_between}
@@ -202,7 +206,7 @@ sealed_zeros (Voted e w ∷ h) r k =
 sealed_zeros (x ∷ h) r k = sealed_zeros h (other_rules x h r) k
 
 -- the row, where it is marked, has a vote
-abbrev pub has_answered : Enlistment → Bool
+abbrev pub has_answered : Row → Bool
 has_answered x = not (is_marked x) || has_voted x
 
 -- of a row of which nothing is due and whose planned vote is yes or done it is so that it has a vote where it is marked
@@ -232,7 +236,7 @@ hand_step s false true e p o d = owner e (planned_owner s e.value) o d
     owner e None p d = absurd cc
 
 -- the reply that is due of the row where nothing is decided and nothing is lost
-abbrev pub open_reply : List Line → List Entry → Enlistment → Option Step
+abbrev pub open_reply : List Line → List Entry → Row → Option Step
 open_reply s h x = reply_step x.0 (planned_reply s x.0.value (open_note (is_marked x && not (has_voted x)) (is_handed (latest handed_of h) x.0.value)))
 
 -- an enlistment that is lost is a loss
@@ -241,7 +245,7 @@ lost_loss e (Lost f) k = refl
 lost_loss e _ k = absurd cc
 
 -- where nothing is decided and nothing is lost, that reply is due
-reply_open : (s : List Line) (h : List Entry) (x : Enlistment) → ruled h ≡ true → latest decision_of h ≡ None → has is_loss h ≡ false → due_reply s (observe h) x ≡ open_reply s h x
+reply_open : (s : List Line) (h : List Entry) (x : Row) → ruled h ≡ true → latest decision_of h ≡ None → has is_loss h ≡ false → due_reply s (observe h) x ≡ open_reply s h x
 unfolding observe
 reply_open s h x r d l =
     let here : is_gone (observe h) x.0.value ≡ false = lost_seen x.0.value h r ∙ has_less (is_lost x.0.value) is_loss (lost_loss x.0.value) h l in
@@ -257,35 +261,35 @@ none_due s h r d l e =
     (each_none (due_reply s (observe h)) (rows h) e)
 
 -- each row is willing
-each_planned : (s : List Line) (h : List Entry) → CanCommit s h → each (λ x. is_willing s x.0.value x.1.class) (rows h) ≡ true
+each_planned : (s : List Line) (h : List Entry) → CanCommit s h → each (λ x. is_willing s x.0.value x.class) (rows h) ≡ true
 each_planned s h c = each_rows (λ e k. is_willing s e.value k) h ∙ c.willing
 
 -- where each is willing and no reply is due, each marked row has a vote
 each_answered : (s : List Line) (h : List Entry) → CanCommit s h → each (λ x. is_none (open_reply s h x)) (rows h) ≡ true → each has_answered (rows h) ≡ true
 each_answered s h c d =
-    each_both (λ x. is_willing s x.0.value x.1.class) (λ x. is_none (open_reply s h x)) has_answered
+    each_both (λ x. is_willing s x.0.value x.class) (λ x. is_none (open_reply s h x)) has_answered
     (λ x w n. row_step s (is_marked x) (has_voted x) (is_handed (latest handed_of h) x.0.value) x.0 (first_of_three (voted_well (planned_vote s x.0.value)) _ _ w) n) (rows h) (each_planned s h c) d
 
 -- a row that can own the commit and is willing, and of which no reply is due, wasn't handed it
-still : (s : List Line) (h : List Entry) (x : Enlistment) → is_willing s x.0.value x.1.class ≡ true → is_none (open_reply s h x) ≡ true
-    → (not (can_own x.1.class) || not (is_handed (latest handed_of h) x.0.value)) ≡ true
-still s h x w n = step (can_own x.1.class) (not (is_handed (latest handed_of h) x.0.value)) (λ o. bare o)
+still : (s : List Line) (h : List Entry) (x : Row) → is_willing s x.0.value x.class ≡ true → is_none (open_reply s h x) ≡ true
+    → (not (can_own x.class) || not (is_handed (latest handed_of h) x.0.value)) ≡ true
+still s h x w n = step (can_own x.class) (not (is_handed (latest handed_of h) x.0.value)) (λ o. bare o)
   where
     step : (b c : Bool) → (b ≡ true → c ≡ true) → (not b || c) ≡ true
     step true c f = f refl
     step false c f = refl
 
-    bare : can_own x.1.class ≡ true → not (is_handed (latest handed_of h) x.0.value) ≡ true
+    bare : can_own x.class ≡ true → not (is_handed (latest handed_of h) x.0.value) ≡ true
     bare o =
         not_false (is_handed (latest handed_of h) x.0.value)
         (hand_step s (is_marked x && not (has_voted x)) (is_handed (latest handed_of h) x.0.value) x.0 (first_of_three (voted_well (planned_vote s x.0.value)) _ _ w)
-        (owner_willing (voted_well (planned_vote s x.0.value)) (is_committed (planned_owner s x.0.value)) (not (is_promotable x.1.class) || is_granted (planned_promotion s x.0.value)) x.1.class o w) n)
+        (owner_willing (voted_well (planned_vote s x.0.value)) (is_committed (planned_owner s x.0.value)) (not (is_promotable x.class) || is_granted (planned_promotion s x.0.value)) x.class o w) n)
 
 -- where each is willing and no reply is due, the commit isn't handed over
 none_handed : (s : List Line) (h : List Entry) → ruled h ≡ true → CanCommit s h → each (λ x. is_none (open_reply s h x)) (rows h) ≡ true → is_some (latest handed_of h) ≡ false
 none_handed s h r c d =
-    let each_still : each (λ x. not (can_own x.1.class) || not (is_handed (latest handed_of h) x.0.value)) (rows h) ≡ true =
-    each_both (λ x. is_willing s x.0.value x.1.class) (λ x. is_none (open_reply s h x)) (λ x. not (can_own x.1.class) || not (is_handed (latest handed_of h) x.0.value))
+    let each_still : each (λ x. not (can_own x.class) || not (is_handed (latest handed_of h) x.0.value)) (rows h) ≡ true =
+    each_both (λ x. is_willing s x.0.value x.class) (λ x. is_none (open_reply s h x)) (λ x. not (can_own x.class) || not (is_handed (latest handed_of h) x.0.value))
     (still s h) (rows h) (each_planned s h c) d in
     let of_each = sym (each_rows (λ e k. not (can_own k) || not (is_handed (latest handed_of h) e.value)) h) ∙ each_still in
     false_from_ne_true (is_some (latest handed_of h))
@@ -299,29 +303,29 @@ none_handed s h r c d =
     step false c e k = absurd cc
 
 -- where each marked row has a vote, each that was marked before any place has
-answered_before : (n : ℕ) (xs : List Enlistment) → each has_answered xs ≡ true → voted_before n xs ≡ true
-answered_before n xs h = each_more has_answered (λ q. not (is_asked_before q.1.asked n) || has_voted q) (λ q. step q.1.asked n (has_voted q)) xs h
+answered_before : (n : ℕ) (xs : List Row) → each has_answered xs ≡ true → voted_before n xs ≡ true
+answered_before n xs h = each_more has_answered (λ q. not (is_asked_before q.asked n) || has_voted q) (λ q. step q.asked n (has_voted q)) xs h
   where
     step : (o : Option ℕ) (n : ℕ) (v : Bool) → (not (is_some o) || v) ≡ true → (not (is_asked_before o n) || v) ≡ true
     step (Some k) n v h = or_right (not (is_asked_before (Some k) n)) v h
     step None n v h = refl
 
 -- where nobody is to be asked, none of the class may be
-none_asked : (xs : List Enlistment) (zero : Bool) → next_ask xs zero ≡ None → each (λ x. not (may_be_asked xs zero x)) xs ≡ true
+none_asked : (xs : List Row) (zero : Bool) → next_ask xs zero ≡ None → each (λ x. not (may_be_asked xs zero x)) xs ≡ true
 unfolding next_ask
 none_asked xs zero e =
     none_each (may_be_asked xs zero) (λ x. not (may_be_asked xs zero x)) (λ x. not_false (may_be_asked xs zero x)) xs
     (find_none (may_be_asked xs zero) xs (nameless (find (may_be_asked xs zero) xs) e))
   where
-    nameless : (o : Option Enlistment) → name_of o ≡ None → o ≡ None
+    nameless : (o : Option Row) → name_of o ≡ None → o ≡ None
     nameless (Some x) e = absurd cc
     nameless None e = refl
 
 -- where each marked row has a vote and nobody is to be asked in phase zero, each Zero row has a vote
-zeros_done : (xs : List Enlistment) → each has_answered xs ≡ true → next_ask xs true ≡ None → zeros_voted xs ≡ true
+zeros_done : (xs : List Row) → each has_answered xs ≡ true → next_ask xs true ≡ None → zeros_voted xs ≡ true
 zeros_done xs a e =
-    each_both has_answered (λ x. not (may_be_asked xs true x)) (λ x. not (is_zero x.1.class) || has_voted x)
-    (λ x. step (is_zero x.1.class) (is_marked x) (has_voted x) (voted_before x.1.added xs) (answered_before x.1.added xs a)) xs a (none_asked xs true e)
+    each_both has_answered (λ x. not (may_be_asked xs true x)) (λ x. not (is_zero x.class) || has_voted x)
+    (λ x. step (is_zero x.class) (is_marked x) (has_voted x) (voted_before x.added xs) (answered_before x.added xs a)) xs a (none_asked xs true e)
   where
     step : (z m v w : Bool) → w ≡ true → (not m || v) ≡ true → not (z && not m && (not true || w)) ≡ true → (not z || v) ≡ true
     step false m v w k a q = refl
@@ -330,11 +334,11 @@ zeros_done xs a e =
     step true false v false k a q = absurd cc
 
 -- where each marked row and each Zero row has a vote and nobody is to be asked behind the seal, all voted
-ones_done : (xs : List Enlistment) → each has_answered xs ≡ true → zeros_voted xs ≡ true → next_ask xs false ≡ None → all_voted xs ≡ true
+ones_done : (xs : List Row) → each has_answered xs ≡ true → zeros_voted xs ≡ true → next_ask xs false ≡ None → all_voted xs ≡ true
 ones_done xs a z e =
-    let both = λ (x : Enlistment). has_answered x && (not (is_zero x.1.class) || has_voted x) in
-    each_both both (λ x. not (may_be_asked xs false x)) (λ x. not (is_volatile x.1.class) || has_voted x) (λ x. step x.1.class (is_marked x) (has_voted x)) xs
-    (each_both has_answered (λ x. not (is_zero x.1.class) || has_voted x) both (λ x. and_both (has_answered x) (not (is_zero x.1.class) || has_voted x)) xs a z)
+    let both = λ (x : Row). has_answered x && (not (is_zero x.class) || has_voted x) in
+    each_both both (λ x. not (may_be_asked xs false x)) (λ x. not (is_volatile x.class) || has_voted x) (λ x. step x.class (is_marked x) (has_voted x)) xs
+    (each_both has_answered (λ x. not (is_zero x.class) || has_voted x) both (λ x. and_both (has_answered x) (not (is_zero x.class) || has_voted x)) xs a z)
     (none_asked xs false e)
   where
     step : (c : Class) (m v : Bool) → ((not m || v) && (not (is_zero c) || v)) ≡ true → not (is_one c && not m && true) ≡ true → (not (is_volatile c) || v) ≡ true
@@ -356,7 +360,7 @@ zero_stuck None true e = absurd cc
 zero_stuck None false e = (refl, refl)
 
 -- where nothing comes behind the seal, nobody is to be asked, and where all voted nothing comes to commit
-seal_stuck : (q : Option EnlNo) (voted : Bool) (commit : List Entry) → behind_seal q voted commit ≡ [] → (q ≡ None) × (voted ≡ true → commit ≡ [])
+seal_stuck : (q : Option EnlNo) (voted : Bool) (commit : List Entry) → after_seal q voted commit ≡ [] → (q ≡ None) × (voted ≡ true → commit ≡ [])
 seal_stuck (Some q) voted commit e = absurd cc
 seal_stuck None true commit e = (refl, λ k. e)
 seal_stuck None false commit e = (refl, λ k. absurd cc)
@@ -371,7 +375,7 @@ commit_stuck false None e = absurd cc
 by_seal : {C : Type 0} (s : List Line) (h : List Entry) (commit sealed : Bool) → has is_sealed h ≡ sealed → commit ≡ true → ruled h ≡ true → CanCommit s h
     → each has_answered (rows h) ≡ true → is_some (latest handed_of h) ≡ false
     → undecided_act commit sealed (before_seal (next_ask (rows h) true) (is_over (rows h) (clone_rows h) 0))
-    (behind_seal (next_ask (rows h) false) (all_voted (rows h)) (commit_act (is_some (latest handed_of h)) (owner_of (rows h)))) ≡ [] → C
+    (after_seal (next_ask (rows h) false) (all_voted (rows h)) (commit_act (is_some (latest handed_of h)) (owner_of (rows h)))) ≡ [] → C
 unfolding is_over
 by_seal s h false sealed k c r can a u e = absurd cc
 by_seal s h true false k c r can a u e =

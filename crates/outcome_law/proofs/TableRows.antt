@@ -14,30 +14,33 @@ use Rattle.dtx_values.specs.declared.words.Class.{Class}
 use Rattle.dtx_values.specs.declared.words.CloneKind.{CloneKind}
 use Rattle.dtx_values.specs.declared.words.CloneKind.TheVariants.{Block, Rollback}
 use Rattle.dtx_values.specs.declared.words.Vote.{Vote}
-use Rattle.dtx_values.specs.Table.{Enlistment, is_of, is_marked, has_voted, marks, number_of, fresh_row, unless_there, mark_row, vote_row}
+use Rattle.dtx_values.specs.Row.{is_of, is_marked, has_voted, number_of, fresh_row, unless_there, mark_row, vote_row}
+use Rattle.dtx_values.specs.declared.row.Row.{Row}
+use Rattle.dtx_values.specs.Table.{marks}
 use Rattle.dtx_values.specs.Clones.{is_clone, blocks, is_open_block, is_open_rollback}
 use Rattle.dtx_model.specs.Words.{has, each, latest, or_else, all_of}
-use Rattle.dtx_model.specs.Entries.{is_decision, is_sealed, is_commit, clone_of, is_completed, is_asked, is_vote, is_good, is_good_vote, is_volatile}
+use Rattle.dtx_model.specs.Entries.{is_decision, is_sealed, is_commit, clone_of, is_completed, is_asked, is_vote, is_good_vote}
 use Rattle.dtx_model.specs.Observed.{rows, clone_rows}
 use Rattle.dtx_model.specs.Outcome.{can_own, durables, enlisted, is_complete, is_empty, is_rollback, is_veto}
 use Rattle.dtx_model.specs.Seen.{vote_of, IsCloneSeen}
-use Rattle.dtx_model.specs.Steps.{voted_well, all_voted}
-use Rattle.dtx_model.specs.Waves.{is_zero, zeros_voted}
+use Rattle.dtx_values.specs.Class.{is_zero, is_volatile}
+use Rattle.dtx_values.specs.Waves.{all_voted, zeros_voted}
+use Rattle.dtx_values.specs.Vote.{voted_well, is_good}
 use Rattle.dtx_model.proofs.Bools.{and_right, or_false, or_second, or_right, not_true}
 use Rattle.outcome_law.proofs.Tests.{eq_self, eq_swap, apart, second_of_four, third_of_four, fourth_of_four}
 use Rattle.outcome_law.proofs.Lists.{OfEach, of-at, of-more, of-map, of-insert, of-behind, of-all, each_same, has_same, each_kept, has_kept, if_kept, each-insert, has-insert, each-behind, has-behind}
 use Rattle.outcome_law.proofs.Rule.{is_enlisted, is_cloned, zeros_cast, rule, ruled, first_rule, other_rules}
 
 -- what each row passes by its number and class, each enlistment passes
-pub each_rows : (f : EnlNo → Class → Bool) (h : List Entry) → each (λ x. f x.0 x.1.class) (rows h) ≡ each (λ x. f x.0 x.1) (enlisted h)
+pub each_rows : (f : EnlNo → Class → Bool) (h : List Entry) → each (λ x. f x.0 x.class) (rows h) ≡ each (λ x. f x.0 x.1) (enlisted h)
 each_rows f [] = refl
-each_rows f (Enlisted e c ∷ h) = each-insert (λ x. f x.0 x.1.class) number_of (e, fresh_row c (marks (rows h))) (rows h) ∙ ap (λ b. f e c && b) (each_rows f h)
+each_rows f (Enlisted e c ∷ h) = each-insert (λ x. f x.0 x.class) number_of (e, fresh_row c (marks (rows h))) (rows h) ∙ ap (λ b. f e c && b) (each_rows f h)
 each_rows f (Asked e Prepare ∷ h) =
-    each_kept (λ x. f x.0 x.1.class) (λ x. if is_of e.value x then (x.0, mark_row (marks (rows h)) x.1) else x)
-    (λ x. if_kept (λ x. f x.0 x.1.class) (is_of e.value x) (x.0, mark_row (marks (rows h)) x.1) x refl) (rows h) ∙ each_rows f h
+    each_kept (λ x. f x.0 x.class) (λ x. if is_of e.value x then (x.0, mark_row (marks (rows h)) x.1) else x)
+    (λ x. if_kept (λ x. f x.0 x.class) (is_of e.value x) (x.0, mark_row (marks (rows h)) x.1) x refl) (rows h) ∙ each_rows f h
 each_rows f (Voted e v ∷ h) =
-    each_kept (λ x. f x.0 x.1.class) (λ x. if is_of e.value x then (x.0, vote_row v x.1) else x)
-    (λ x. if_kept (λ x. f x.0 x.1.class) (is_of e.value x) (x.0, vote_row v x.1) x refl) (rows h) ∙ each_rows f h
+    each_kept (λ x. f x.0 x.class) (λ x. if is_of e.value x then (x.0, vote_row v x.1) else x)
+    (λ x. if_kept (λ x. f x.0 x.class) (is_of e.value x) (x.0, vote_row v x.1) x refl) (rows h) ∙ each_rows f h
 each_rows f (x ∷ h) = each_rows f h
 
 -- an enlistment stands in the table where it was enlisted
@@ -108,12 +111,12 @@ unvoted_unwell n (Voted f v ∷ h) k = step (n == f.value) (has (is_vote n) h) (
 unvoted_unwell n (x ∷ h) k = unvoted_unwell n h k
 
 -- the row says what the history shows of its enlistment, and is in it
-pub record IsRow (h : List Entry) (x : Enlistment) : Type 0 where
+pub record IsRow (h : List Entry) (x : Row) : Type 0 where
   pub stands : has (is_enlisted x.0.value) h ≡ true
   pub marked : is_marked x ≡ has (is_asked x.0.value) h
   pub voted : has_voted x ≡ has (is_vote x.0.value) h
-  pub vote : x.1.vote ≡ latest (vote_of x.0.value) h
-  pub well : voted_well x.1.vote ≡ has (is_good_vote x.0.value) h
+  pub vote : x.vote ≡ latest (vote_of x.0.value) h
+  pub well : voted_well x.vote ≡ has (is_good_vote x.0.value) h
 
 -- the row of an enlistment that has just come
 fresh_seen : (e : EnlNo) (c : Class) (n : ℕ) (h : List Entry) → ruled h ≡ true → has (is_enlisted e.value) h ≡ false → IsRow (Enlisted e c ∷ h) (e, fresh_row c n)
@@ -128,7 +131,7 @@ fresh_seen e c n h r k =
     }
 
 -- a row that stands, behind an enlistment
-older_seen : (e : EnlNo) (c : Class) (h : List Entry) (x : Enlistment) → IsRow h x → IsRow (Enlisted e c ∷ h) x
+older_seen : (e : EnlNo) (c : Class) (h : List Entry) (x : Row) → IsRow h x → IsRow (Enlisted e c ∷ h) x
 older_seen e c h x w =
     record {
       stands = or_right (x.0.value == e.value) (has (is_enlisted x.0.value) h) w.stands;
@@ -149,23 +152,23 @@ none_there (Some y) h = absurd cc
 none_there None h = refl
 
 -- a row behind an ask to prepare, which is its own or another's
-asked_seen : (e : EnlNo) (n : ℕ) (h : List Entry) (x : Enlistment) (b : Bool) → (x.0.value == e.value) ≡ b → IsRow h x
+asked_seen : (e : EnlNo) (n : ℕ) (h : List Entry) (x : Row) (b : Bool) → (x.0.value == e.value) ≡ b → IsRow h x
     → IsRow (Asked e Prepare ∷ h) (if b then (x.0, mark_row n x.1) else x)
-asked_seen e n h x true same w = record { stands = w.stands; marked = rw same (there x.1.asked n); voted = w.voted; vote = w.vote; well = w.well }
+asked_seen e n h x true same w = record { stands = w.stands; marked = rw same (there x.asked n); voted = w.voted; vote = w.vote; well = w.well }
 asked_seen e n h x false other w = record { stands = w.stands; marked = rw other w.marked; voted = w.voted; vote = w.vote; well = w.well }
 
 -- a row behind a vote, which is its own or another's
-voted_seen : (e : EnlNo) (v : Vote) (h : List Entry) (x : Enlistment) (b : Bool) → (x.0.value == e.value) ≡ b → has (is_vote e.value) h ≡ false → IsRow h x
+voted_seen : (e : EnlNo) (v : Vote) (h : List Entry) (x : Row) (b : Bool) → (x.0.value == e.value) ≡ b → has (is_vote e.value) h ≡ false → IsRow h x
     → IsRow (Voted e v ∷ h) (if b then (x.0, vote_row v x.1) else x)
 voted_seen e v h x true same once w =
     let number : x.0.value ≡ e.value = eqb-true x.0.value e.value same in
     let silent : has (is_vote x.0.value) h ≡ false = subst (λ n. has (is_vote n) h ≡ false) (sym number) once in
-    let gone : x.1.vote ≡ None = none_there x.1.vote (w.voted ∙ silent) in
+    let gone : x.vote ≡ None = none_there x.vote (w.voted ∙ silent) in
     let unwell : has (is_good_vote x.0.value) h ≡ false = unvoted_unwell x.0.value h silent in
     record {
       stands = w.stands;
       marked = w.marked;
-      voted = rw same (there x.1.vote v);
+      voted = rw same (there x.vote v);
       vote = rw same (ap (λ o. unless_there o v) gone);
       well = rw (same, unwell, or-false (is_good v)) (ap (λ o. voted_well (unless_there o v)) gone);
     }
@@ -196,23 +199,23 @@ rows_seen (x ∷ h) r =
     (rows_seen h (other_rules x h r))
 
 -- the row at a place says what the history shows of its enlistment
-pub row_seen : (h : List Entry) (k : ℕ) (x : Enlistment) → ruled h ≡ true → slice_get (rows h) k ≡ Some x → IsRow h x
+pub row_seen : (h : List Entry) (k : ℕ) (x : Row) → ruled h ≡ true → slice_get (rows h) k ≡ Some x → IsRow h x
 row_seen h k x r e = of-at (IsRow h) (rows h) k x (rows_seen h r) e
 
 -- the row is marked where its enlistment was asked to prepare
-pub row_marked : (h : List Entry) (k : ℕ) (x : Enlistment) → ruled h ≡ true → slice_get (rows h) k ≡ Some x → is_marked x ≡ has (is_asked x.0.value) h
+pub row_marked : (h : List Entry) (k : ℕ) (x : Row) → ruled h ≡ true → slice_get (rows h) k ≡ Some x → is_marked x ≡ has (is_asked x.0.value) h
 row_marked h k x r e = (row_seen h k x r e).marked
 
 -- the row has a vote where its enlistment voted
-pub row_voted : (h : List Entry) (k : ℕ) (x : Enlistment) → ruled h ≡ true → slice_get (rows h) k ≡ Some x → has_voted x ≡ has (is_vote x.0.value) h
+pub row_voted : (h : List Entry) (k : ℕ) (x : Row) → ruled h ≡ true → slice_get (rows h) k ≡ Some x → has_voted x ≡ has (is_vote x.0.value) h
 row_voted h k x r e = (row_seen h k x r e).voted
 
 -- where each row of a class that p names has a vote, each such enlistment voted
 class_voted : (p : Class → Bool) (h : List Entry) → ruled h ≡ true
-    → each (λ x. not (p x.1.class) || has_voted x) (rows h) ≡ each (λ x. not (p x.1) || has (is_vote x.0.value) h) (enlisted h)
+    → each (λ x. not (p x.class) || has_voted x) (rows h) ≡ each (λ x. not (p x.1) || has (is_vote x.0.value) h) (enlisted h)
 class_voted p h r =
-    each_same (λ x. not (p x.1.class) || has_voted x) (λ x. not (p x.1.class) || has (is_vote x.0.value) h) (rows h)
-    (of-more (IsRow h) (λ x. (not (p x.1.class) || has_voted x) ≡ (not (p x.1.class) || has (is_vote x.0.value) h)) (λ x w. ap (λ b. not (p x.1.class) || b) w.voted) (rows h) (rows_seen h r))
+    each_same (λ x. not (p x.class) || has_voted x) (λ x. not (p x.class) || has (is_vote x.0.value) h) (rows h)
+    (of-more (IsRow h) (λ x. (not (p x.class) || has_voted x) ≡ (not (p x.class) || has (is_vote x.0.value) h)) (λ x w. ap (λ b. not (p x.class) || b) w.voted) (rows h) (rows_seen h r))
     ∙ each_rows (λ e c. not (p c) || has (is_vote e.value) h) h
 
 -- each Zero row has a vote where each Zero enlistment voted
@@ -304,14 +307,14 @@ commit_vetoed h r =
     ∙ open_clones is_rollback h r
 
 -- the row at a place is of an enlistment of the history
-pub rows_enlisted : (h : List Entry) (k : ℕ) (x : Enlistment) → ruled h ≡ true → slice_get (rows h) k ≡ Some x → has (is_enlisted x.0.value) h ≡ true
+pub rows_enlisted : (h : List Entry) (k : ℕ) (x : Row) → ruled h ≡ true → slice_get (rows h) k ≡ Some x → has (is_enlisted x.0.value) h ≡ true
 rows_enlisted h k x r e = (row_seen h k x r e).stands
 
 -- each row is volatile with a vote yes or done where each enlistment is volatile and voted so
 pub evident_seen : (h : List Entry) → ruled h ≡ true
-    → each (λ x. is_volatile x.1.class && voted_well x.1.vote) (rows h) ≡ each (λ x. is_volatile x.1 && has (is_good_vote x.0.value) h) (enlisted h)
+    → each (λ x. is_volatile x.class && voted_well x.vote) (rows h) ≡ each (λ x. is_volatile x.1 && has (is_good_vote x.0.value) h) (enlisted h)
 evident_seen h r =
-    each_same (λ x. is_volatile x.1.class && voted_well x.1.vote) (λ x. is_volatile x.1.class && has (is_good_vote x.0.value) h) (rows h)
-    (of-more (IsRow h) (λ x. (is_volatile x.1.class && voted_well x.1.vote) ≡ (is_volatile x.1.class && has (is_good_vote x.0.value) h))
-    (λ x w. ap (λ b. is_volatile x.1.class && b) w.well) (rows h) (rows_seen h r))
+    each_same (λ x. is_volatile x.class && voted_well x.vote) (λ x. is_volatile x.class && has (is_good_vote x.0.value) h) (rows h)
+    (of-more (IsRow h) (λ x. (is_volatile x.class && voted_well x.vote) ≡ (is_volatile x.class && has (is_good_vote x.0.value) h))
+    (λ x w. ap (λ b. is_volatile x.class && b) w.well) (rows h) (rows_seen h r))
     ∙ each_rows (λ e c. is_volatile c && has (is_good_vote e.value) h) h

@@ -14,7 +14,8 @@ use Rattle.dtx_model.specs.Words.{has, each, always, latest, onto}
 use Rattle.dtx_model.specs.Entries.{began_of, decision_of, handed_of}
 use Rattle.dtx_model.specs.Observed.{observe, clock, rows, clone_rows}
 use Rattle.dtx_model.specs.Seen.{is_clock_from, is_first_over, is_behind_first, is_timely}
-use Rattle.dtx_model.specs.Steps.{Step, Calls, Replies, Acts, answer, is_done, veto_if, ticked, reaches, is_late, time_up, is_handed, voted, lost_outcome, decided_if, facts, facts_if, block}
+use Rattle.dtx_values.specs.Table.{voted}
+use Rattle.dtx_model.specs.Steps.{Step, Calls, Replies, Acts, answer, is_done, veto_if, ticked, reaches, is_late, time_up, is_handed, lost_outcome, decided_if, facts, facts_if, block}
 use Rattle.dtx_model.specs.Caused.{Ran, Caused}
 use Rattle.dtx_model.proofs.Bools.{and_left, and_right, and_both, or_false, not_false}
 use Rattle.outcome_law.proofs.Pending.{is_deed, veto_deed, decided_deed, block_deed}
@@ -97,7 +98,7 @@ call_on h n a y (Tick t i) true r =
     time_on (Clock z ∷ Called n a y ∷ h) (reaches (latest began_of h) (clock h) z) (is_late (observe h))
     (and_both (nat_le (clock h) z && nat_le z 18446744073709551615) (all_on_time h) (tick_rises (clock h) i (clock_fits h r)) r) (reaches_first h n a y (latest began_of h) z r)
 call_on h n a y (Gone e) true r =
-    let lost = not (is_some (latest decision_of h)) && not (voted (rows h) e.value) in
+    let lost = not (is_some (latest decision_of h)) && not (voted e.value (rows h)) in
     let x = lost_outcome (is_handed (latest handed_of h) e.value) in
     deeds_on (Lost e ∷ Called n a y ∷ h) (decided_if lost x) (decided_deed lost x) r
 call_on h n a y _ true r = r

@@ -12,7 +12,9 @@ use Rattle.dtx_values.specs.declared.entry.Entry.{Entry}
 use Rattle.dtx_values.specs.declared.entry.Entry.TheVariants.{Enlisted, Asked, Voted}
 use Rattle.dtx_values.specs.declared.words.Class.{Class}
 use Rattle.dtx_values.specs.declared.words.Vote.{Vote}
-use Rattle.dtx_values.specs.Table.{Enlistment, is_of, is_marked, has_voted, is_asked_before, voted_before, marks, number_of, fresh_row, unless_there, mark_row, vote_row}
+use Rattle.dtx_values.specs.Row.{is_of, is_marked, has_voted, is_asked_before, number_of, fresh_row, unless_there, mark_row, vote_row}
+use Rattle.dtx_values.specs.declared.row.Row.{Row}
+use Rattle.dtx_values.specs.Table.{voted_before, marks}
 use Rattle.dtx_model.specs.Words.{has, each, all_of}
 use Rattle.dtx_model.specs.Entries.{is_vote}
 use Rattle.dtx_model.specs.Observed.{rows}
@@ -25,16 +27,16 @@ use Rattle.outcome_law.proofs.Rule.{is_enlisted, ruled, first_rule, other_rules}
 use Rattle.outcome_law.proofs.TableRows.{enlisted_in_rows, enlisted_once, asked_enlisted, IsRow, there, rows_seen, row_seen}
 
 -- the row as it is behind an ask to prepare of this enlistment, behind so many marks
-abbrev pub marked : ℕ → ℕ → Enlistment → Enlistment
+abbrev pub marked : ℕ → ℕ → Row → Row
 marked e n x = if is_of e x then (x.0, mark_row n x.1) else x
 
 -- a row that is marked passes v by its number
-abbrev pub passes_marked : (ℕ → Bool) → Enlistment → Bool
+abbrev pub passes_marked : (ℕ → Bool) → Row → Bool
 passes_marked v q = not (is_marked q) || v q.0.value
 
 -- a row with one of the first n marks passes v by its number
-abbrev pub passes_before : ℕ → (ℕ → Bool) → Enlistment → Bool
-passes_before n v q = not (is_asked_before q.1.asked n) || v q.0.value
+abbrev pub passes_before : ℕ → (ℕ → Bool) → Row → Bool
+passes_before n v q = not (is_asked_before q.asked n) || v q.0.value
 
 -- one step of `each-marked`
 marked_step : (h m w rest : Bool) → (w && ((not h || w) && rest)) ≡ (w && ((not m || w) && rest))
@@ -45,15 +47,15 @@ marked_step false false true rest = refl
 marked_step h m false rest = refl
 
 -- behind an ask to prepare, each marked row passes v where the asked one passes, if it stands there, and each marked row passed before
-each-marked : (e n : ℕ) (v : ℕ → Bool) (xs : List Enlistment) → each (passes_marked v) (map (marked e n) xs) ≡ ((not (has (is_of e) xs) || v e) && each (passes_marked v) xs)
+each-marked : (e n : ℕ) (v : ℕ → Bool) (xs : List Row) → each (passes_marked v) (map (marked e n) xs) ≡ ((not (has (is_of e) xs) || v e) && each (passes_marked v) xs)
 each-marked e n v [] = refl
 each-marked e n v (x ∷ xs) =
     ap (λ b. passes_marked v (marked e n x) && b) (each-marked e n v xs) ∙ step e n v x (has (is_of e) xs) (each (passes_marked v) xs) (is_of e x) refl
   where
-    step : (e n : ℕ) (v : ℕ → Bool) (x : Enlistment) (h rest b : Bool) → (e == x.0.value) ≡ b
+    step : (e n : ℕ) (v : ℕ → Bool) (x : Row) (h rest b : Bool) → (e == x.0.value) ≡ b
         → (passes_marked v (if b then (x.0, mark_row n x.1) else x) && ((not h || v e) && rest)) ≡ ((not (b || h) || v e) && (passes_marked v x && rest))
     step e n v x h rest true same =
-        let number : e ≡ x.0.value = eqb-true e x.0.value same in rw (there x.1.asked n, ← number) (marked_step h (is_marked x) (v e) rest)
+        let number : e ≡ x.0.value = eqb-true e x.0.value same in rw (there x.asked n, ← number) (marked_step h (is_marked x) (v e) rest)
     step e n v x h rest false other = and_swap (passes_marked v x) (not h || v e) rest
 
 -- each marked row passes v where each that was asked to prepare does
@@ -71,7 +73,7 @@ all_asked v (Voted e w ∷ h) r =
 all_asked v (x ∷ h) r = all_asked v h (other_rules x h r)
 
 -- the marks that stand keep standing
-marks_more : (e n : ℕ) (xs : List Enlistment) → marks xs ≤ marks (map (marked e n) xs)
+marks_more : (e n : ℕ) (xs : List Row) → marks xs ≤ marks (map (marked e n) xs)
 marks_more e n [] = omega arith
 marks_more e n (x ∷ xs) = step (is_of e x) x n (marks xs) (marks (map (marked e n) xs)) (marks_more e n xs)
   where
@@ -83,16 +85,16 @@ marks_more e n (x ∷ xs) = step (is_of e x) x n (marks xs) (marks (map (marked 
     same true a b h = omega arith
     same false a b h = h
 
-    step : (t : Bool) (x : Enlistment) (n a b : ℕ) → a ≤ b → (if is_marked x then suc a else a) ≤ (if is_marked (if t then (x.0, mark_row n x.1) else x) then suc b else b)
-    step true x n a b h = count x.1.asked n a b h
+    step : (t : Bool) (x : Row) (n a b : ℕ) → a ≤ b → (if is_marked x then suc a else a) ≤ (if is_marked (if t then (x.0, mark_row n x.1) else x) then suc b else b)
+    step true x n a b h = count x.asked n a b h
     step false x n a b h = same (is_marked x) a b h
 
 -- the row is of this enlistment, and unmarked
-abbrev pub is_unmarked : ℕ → Enlistment → Bool
+abbrev pub is_unmarked : ℕ → Row → Bool
 is_unmarked e x = is_of e x && not (is_marked x)
 
 -- where the one that is asked wasn't marked, one mark more stands
-marks_above : (e n : ℕ) (xs : List Enlistment) → has (is_unmarked e) xs ≡ true → marks xs < marks (map (marked e n) xs)
+marks_above : (e n : ℕ) (xs : List Row) → has (is_unmarked e) xs ≡ true → marks xs < marks (map (marked e n) xs)
 marks_above e n [] h = absurd cc
 marks_above e n (x ∷ xs) h =
     step (is_of e x) x n (marks xs) (marks (map (marked e n) xs)) (has (is_unmarked e) xs) (marks_more e n xs) (marks_above e n xs) h
@@ -106,24 +108,24 @@ marks_above e n (x ∷ xs) h =
     same true a b h = omega arith
     same false a b h = h
 
-    step : (t : Bool) (x : Enlistment) (n a b : ℕ) (rest : Bool) → a ≤ b → (rest ≡ true → a < b) → ((t && not (is_marked x)) || rest) ≡ true
+    step : (t : Bool) (x : Row) (n a b : ℕ) (rest : Bool) → a ≤ b → (rest ≡ true → a < b) → ((t && not (is_marked x)) || rest) ≡ true
         → (if is_marked x then suc a else a) < (if is_marked (if t then (x.0, mark_row n x.1) else x) then suc b else b)
-    step true x n a b rest l ih h = count x.1.asked n a b rest l ih h
+    step true x n a b rest l ih h = count x.asked n a b rest l ih h
     step false x n a b rest l ih h = same (is_marked x) a b (ih h)
 
 -- the row's mark, where it has one, is below n
-abbrev pub IsBelow : ℕ → Enlistment → Type 0
-IsBelow n q = is_asked_before q.1.asked n ≡ is_marked q
+abbrev pub IsBelow : ℕ → Row → Type 0
+IsBelow n q = is_asked_before q.asked n ≡ is_marked q
 
 -- a row whose mark is below n, behind an ask to prepare, behind which m stand: it is below m
-asked_below : (n m : ℕ) (x : Enlistment) (b : Bool) → n ≤ m → ((b && not (is_marked x)) ≡ true → n < m) → IsBelow n x → IsBelow m (if b then (x.0, mark_row n x.1) else x)
-asked_below n m x true l more w = mark x.1.asked n m l more w
+asked_below : (n m : ℕ) (x : Row) (b : Bool) → n ≤ m → ((b && not (is_marked x)) ≡ true → n < m) → IsBelow n x → IsBelow m (if b then (x.0, mark_row n x.1) else x)
+asked_below n m x true l more w = mark x.asked n m l more w
   where
     mark : (o : Option ℕ) (n m : ℕ) → n ≤ m → (not (is_some o) ≡ true → n < m) → is_asked_before o n ≡ is_some o
         → is_asked_before (unless_there o n) m ≡ is_some (unless_there o n)
     mark (Some k) n m l more w = grind (arith, nat_tests)
     mark None n m l more w = let above : n < m = more refl in grind (arith, nat_tests)
-asked_below n m x false l more w = mark x.1.asked n m l w
+asked_below n m x false l more w = mark x.asked n m l w
   where
     mark : (o : Option ℕ) (n m : ℕ) → n ≤ m → is_asked_before o n ≡ is_some o → is_asked_before o m ≡ is_some o
     mark (Some k) n m l w = grind (arith, nat_tests)
@@ -144,20 +146,20 @@ marks_below (Asked e Prepare ∷ h) =
     (of-both (IsBelow n) (λ x. is_unmarked e.value x ≡ true → has (is_unmarked e.value) (rows h) ≡ true) (rows h) (marks_below h) (of-has (is_unmarked e.value) (rows h)))
 marks_below (Voted e v ∷ h) =
     let n = marks (rows h) in
-    let f = λ (x : Enlistment). if is_of e.value x then (x.0, vote_row v x.1) else x in
+    let f = λ (x : Row). if is_of e.value x then (x.0, vote_row v x.1) else x in
     let kept : marks (map f (rows h)) ≡ n = how_many-map is_marked f (λ x. if_kept is_marked (is_of e.value x) (x.0, vote_row v x.1) x refl) (rows h) in
     subst (λ m. OfEach (IsBelow m) (map f (rows h))) (sym kept)
     (of-map (IsBelow n) (IsBelow n) f (λ x w. voted_below n v x (is_of e.value x) w) (rows h) (marks_below h))
   where
-    voted_below : (n : ℕ) (v : Vote) (x : Enlistment) (b : Bool) → IsBelow n x → IsBelow n (if b then (x.0, vote_row v x.1) else x)
+    voted_below : (n : ℕ) (v : Vote) (x : Row) (b : Bool) → IsBelow n x → IsBelow n (if b then (x.0, vote_row v x.1) else x)
     voted_below n v x true w = w
     voted_below n v x false w = w
 marks_below (x ∷ h) = marks_below h
 
 -- the row was added behind at most the marks that stand, and waits for those that were asked before its enlistment came
-pub record IsWave (h : List Entry) (x : Enlistment) : Type 0 where
-  pub behind : x.1.added ≤ marks (rows h)
-  pub waits : (v : ℕ → Bool) → each (passes_before x.1.added v) (rows h) ≡ each (λ f. v f.value) (asked_before x.0.value h)
+pub record IsWave (h : List Entry) (x : Row) : Type 0 where
+  pub behind : x.added ≤ marks (rows h)
+  pub waits : (v : ℕ → Bool) → each (passes_before x.added v) (rows h) ≡ each (λ f. v f.value) (asked_before x.0.value h)
 
 -- a mark behind n others isn't one of the first n
 later_mark : (a n : ℕ) (o : Option ℕ) → a ≤ n → is_asked_before (unless_there o n) a ≡ is_asked_before o a
@@ -165,11 +167,11 @@ later_mark a n (Some k) l = refl
 later_mark a n None l = grind (arith, nat_tests)
 
 -- behind an ask to prepare, those that are marked before stay the same
-asked_kept : (e n a : ℕ) (v : ℕ → Bool) (x : Enlistment) → a ≤ n → passes_before a v (marked e n x) ≡ passes_before a v x
-asked_kept e n a v x l = if_kept (passes_before a v) (is_of e x) (x.0, mark_row n x.1) x (ap (λ b. not b || v x.0.value) (later_mark a n x.1.asked l))
+asked_kept : (e n a : ℕ) (v : ℕ → Bool) (x : Row) → a ≤ n → passes_before a v (marked e n x) ≡ passes_before a v x
+asked_kept e n a v x l = if_kept (passes_before a v) (is_of e x) (x.0, mark_row n x.1) x (ap (λ b. not b || v x.0.value) (later_mark a n x.asked l))
 
 -- a wave is a wave of the row behind an ask or a vote
-own_wave : (h : List Entry) (b : Bool) (y x : Enlistment) → y.0 ≡ x.0 → y.1.added ≡ x.1.added → IsWave h x → IsWave h (if b then y else x)
+own_wave : (h : List Entry) (b : Bool) (y x : Row) → y.0 ≡ x.0 → y.added ≡ x.added → IsWave h x → IsWave h (if b then y else x)
 own_wave h true y x same_name same_place w =
     record {
       behind = subst (λ n. n ≤ marks (rows h)) (sym same_place) w.behind;
@@ -182,7 +184,7 @@ rows_waves : (h : List Entry) → ruled h ≡ true → OfEach (IsWave h) (rows h
 rows_waves [] r = tt
 rows_waves (Enlisted e c ∷ h) r =
     let n = marks (rows h) in
-    let fresh : Enlistment = (e, fresh_row c n) in
+    let fresh : Row = (e, fresh_row c n) in
     let kept : marks (rows (Enlisted e c ∷ h)) ≡ n = how_many-insert is_marked number_of fresh refl (rows h) in
     let rest = other_rules (Enlisted e c) h r in
     let once = enlisted_once e c h (first_rule (Enlisted e c) h r) in
@@ -198,13 +200,13 @@ rows_waves (Enlisted e c ∷ h) r =
     (of-more (λ x. IsRow h x × IsWave h x) (IsWave (Enlisted e c ∷ h)) (λ x w. older e c n h x kept once w.0.stands w.1) (rows h)
     (of-both (IsRow h) (IsWave h) (rows h) (rows_seen h rest) (rows_waves h rest)))
   where
-    older : (e : EnlNo) (c : Class) (n : ℕ) (h : List Entry) (x : Enlistment) → marks (rows (Enlisted e c ∷ h)) ≡ marks (rows h) → has (is_enlisted e.value) h ≡ false
+    older : (e : EnlNo) (c : Class) (n : ℕ) (h : List Entry) (x : Row) → marks (rows (Enlisted e c ∷ h)) ≡ marks (rows h) → has (is_enlisted e.value) h ≡ false
         → has (is_enlisted x.0.value) h ≡ true → IsWave h x → IsWave (Enlisted e c ∷ h) x
     older e c n h x kept once stands w =
         let other : (x.0.value == e.value) ≡ false = eq_swap x.0.value e.value ∙ apart (λ m. has (is_enlisted m) h) e.value x.0.value once stands in
         record {
           behind = rw kept w.behind;
-          waits = λ v. each-insert (passes_before x.1.added v) number_of (e, fresh_row c (marks (rows h))) (rows h) ∙ w.waits v ∙ rw other refl;
+          waits = λ v. each-insert (passes_before x.added v) number_of (e, fresh_row c (marks (rows h))) (rows h) ∙ w.waits v ∙ rw other refl;
         }
 rows_waves (Asked e Prepare ∷ h) r =
     let n = marks (rows h) in
@@ -212,28 +214,28 @@ rows_waves (Asked e Prepare ∷ h) r =
     (λ x w. own_wave (Asked e Prepare ∷ h) (is_of e.value x) (x.0, mark_row n x.1) x refl refl
     (record {
       behind = le_trans w.behind (marks_more e.value n (rows h));
-      waits = λ v. each_kept (passes_before x.1.added v) (marked e.value n) (λ q. asked_kept e.value n x.1.added v q w.behind) (rows h) ∙ w.waits v;
+      waits = λ v. each_kept (passes_before x.added v) (marked e.value n) (λ q. asked_kept e.value n x.added v q w.behind) (rows h) ∙ w.waits v;
     })) (rows h) (rows_waves h (other_rules (Asked e Prepare) h r))
 rows_waves (Voted e v ∷ h) r =
-    let f = λ (x : Enlistment). if is_of e.value x then (x.0, vote_row v x.1) else x in
+    let f = λ (x : Row). if is_of e.value x then (x.0, vote_row v x.1) else x in
     let kept : marks (map f (rows h)) ≡ marks (rows h) = how_many-map is_marked f (λ x. if_kept is_marked (is_of e.value x) (x.0, vote_row v x.1) x refl) (rows h) in
     of-map (IsWave h) (IsWave (Voted e v ∷ h)) f
     (λ x w. own_wave (Voted e v ∷ h) (is_of e.value x) (x.0, vote_row v x.1) x refl refl
     (record {
       behind = rw kept w.behind;
-      waits = λ t. each_kept (passes_before x.1.added t) f (λ q. if_kept (passes_before x.1.added t) (is_of e.value q) (q.0, vote_row v q.1) q refl) (rows h) ∙ w.waits t;
+      waits = λ t. each_kept (passes_before x.added t) f (λ q. if_kept (passes_before x.added t) (is_of e.value q) (q.0, vote_row v q.1) q refl) (rows h) ∙ w.waits t;
     })) (rows h) (rows_waves h (other_rules (Voted e v) h r))
 rows_waves (x ∷ h) r = of-more (IsWave h) (IsWave (x ∷ h)) (λ q w. record { behind = w.behind; waits = w.waits }) (rows h) (rows_waves h (other_rules x h r))
 
 -- each that was asked before the row was added has a vote by the rows where it has by the history
-row_waited : (h : List Entry) (k : ℕ) (x : Enlistment) → ruled h ≡ true → slice_get (rows h) k ≡ Some x → voted_before x.1.added (rows h) ≡ waited_for h x.0.value
+row_waited : (h : List Entry) (k : ℕ) (x : Row) → ruled h ≡ true → slice_get (rows h) k ≡ Some x → voted_before x.added (rows h) ≡ waited_for h x.0.value
 row_waited h k x r e =
     let w = of-at (IsWave h) (rows h) k x (rows_waves h r) e in
-    each_same (λ q. not (is_asked_before q.1.asked x.1.added) || has_voted q) (passes_before x.1.added (λ f. has (is_vote f) h)) (rows h)
-    (of-more (IsRow h) (λ q. (not (is_asked_before q.1.asked x.1.added) || has_voted q) ≡ passes_before x.1.added (λ f. has (is_vote f) h) q)
-    (λ q m. ap (λ b. not (is_asked_before q.1.asked x.1.added) || b) m.voted) (rows h) (rows_seen h r))
+    each_same (λ q. not (is_asked_before q.asked x.added) || has_voted q) (passes_before x.added (λ f. has (is_vote f) h)) (rows h)
+    (of-more (IsRow h) (λ q. (not (is_asked_before q.asked x.added) || has_voted q) ≡ passes_before x.added (λ f. has (is_vote f) h) q)
+    (λ q m. ap (λ b. not (is_asked_before q.asked x.added) || b) m.voted) (rows h) (rows_seen h r))
     ∙ w.waits (λ f. has (is_vote f) h)
 
 -- the row at a place says what the history shows of its enlistment
-pub row_is_seen : (h : List Entry) (k : ℕ) (x : Enlistment) → ruled h ≡ true → slice_get (rows h) k ≡ Some x → IsSeen h x
+pub row_is_seen : (h : List Entry) (k : ℕ) (x : Row) → ruled h ≡ true → slice_get (rows h) k ≡ Some x → IsSeen h x
 row_is_seen h k x r e = let w = row_seen h k x r e in record { marked = w.marked; voted = w.vote; waited = row_waited h k x r e }

@@ -17,17 +17,18 @@ ghost use Rattle.dtx_values.specs.declared.script.Support.{Support};
 ghost use Rattle.dtx_values.specs.declared.words.Class.{Class};
 ghost use Rattle.dtx_values.specs.declared.words.CloneKind.{CloneKind};
 ghost use Rattle.dtx_values.specs.declared.words.Outcome.TheVariants.{Committed};
-ghost use Rattle.dtx_values.specs.Table.{Enlistment};
+ghost use Rattle.dtx_values.specs.declared.row.Row.{Row};
 ghost use Rattle.dtx_model.specs.Words.{has, each, always, all_of, past_of};
 ghost use Rattle.dtx_model.specs.Entries.{is_sealed, is_decision, is_client_told, clone_of};
 ghost use Rattle.dtx_model.specs.Outcome.{enlisted, evidence, justified, agree};
 ghost use Rattle.dtx_model.specs.Learned.{Learned};
 ghost use Rattle.dtx_model.specs.Observed.{observe, rows, clone_rows};
-ghost use Rattle.dtx_model.specs.Owners.{is_lasting};
+ghost use Rattle.dtx_values.specs.Row.{is_lasting};
 ghost use Rattle.dtx_model.specs.Promotes.{promotes};
 ghost use Rattle.dtx_model.specs.Wires.{WireRun};
 ghost use Rattle.dtx_model.specs.Seen.{IsSeen, IsCloneSeen, is_timely};
-ghost use Rattle.dtx_model.specs.Steps.{call_of, is_evident};
+ghost use Rattle.dtx_values.specs.Owners.{is_evident};
+ghost use Rattle.dtx_model.specs.Steps.{call_of};
 ghost use Rattle.dtx_model.specs.Contexts.{context};
 ghost use Rattle.dtx_model.specs.Caused.{Caused, Settled, is_new};
 ghost use Rattle.dtx_model.specs.Replay.{Placed, history, at_context, IsReplayed, LinesRan, calls, due_calls};
@@ -70,10 +71,10 @@ pub fn replay()
 /// The tables of a history that a script causes say what its entries say: of each enlistment, of each clone, and whether evidence stands
 /// while nothing is decided. And a timeout comes once, at the first tick that reaches it.
 pub fn tables()
-    ensures enlisted { (h : List Entry) (f : EnlNo → Class → Bool) → each (λ x. f x.0 x.1.class) (rows h) ≡ each (λ x. f x.0 x.1) (enlisted h) }
+    ensures enlisted { (h : List Entry) (f : EnlNo → Class → Bool) → each (λ x. f x.0 x.class) (rows h) ≡ each (λ x. f x.0 x.1) (enlisted h) }
     ensures cloned { (h : List Entry) (f : CloneNo → CloneKind → Bool) → each (λ r. f r.clone r.kind) (clone_rows h) ≡ each (λ c. f c.0 c.1) (all_of clone_of h) }
     ensures rows { (s : List Line) (t : ℕ) (h : List Entry) → are_named_well s ≡ true → Caused s t h
-        → (k : ℕ) (x : Enlistment) → slice_get (rows h) k ≡ Some x → IsSeen h x }
+        → (k : ℕ) (x : Row) → slice_get (rows h) k ≡ Some x → IsSeen h x }
     ensures clones { (s : List Line) (t : ℕ) (h : List Entry) → are_named_well s ≡ true → Caused s t h
         → (k : ℕ) (r : CloneRow) → slice_get (clone_rows h) k ≡ Some r → IsCloneSeen h r }
     ensures evidence { (s : List Line) (t : ℕ) (h : List Entry) → are_named_well s ≡ true → Caused s t h → has is_decision h ≡ false

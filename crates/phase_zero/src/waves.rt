@@ -1,39 +1,16 @@
 //! The waves in which the enlistments of phase zero are asked to prepare.
-ghost use Rattle.std.specs.Prelude.{◌≡◌, find, not, true};
+ghost use Rattle.std.specs.Prelude.{◌≡◌, not, true};
+ghost use Rattle.std.specs.List.{list_any};
 ghost use Rattle.dtx_values.specs.Clones.{is_open_block};
-ghost use Rattle.dtx_model.specs.Words.{has};
-ghost use Rattle.dtx_model.specs.Waves.{is_over, may_be_asked, next_ask, zeros_voted};
+ghost use Rattle.dtx_values.specs.Waves.{is_over, next_ask};
 
 use dependent_clones::Clones;
-use dtx_values::{Class, EnlNo, Row};
+use dtx_values::EnlNo;
 use enlist_table::EnlistTable;
-
-/// Whether it is a Zero enlistment that may be asked.
-fn may_be_asked(t: &EnlistTable, x: &(EnlNo, Row)) -> bool
-    ensures { result ≡ may_be_asked t.now true x.now }
-{
-    x.1.class == Class::Zero && x.1.asked.is_none() && t.voted_before(x.1.added)
-}
-
-/// The lowest Zero enlistment that may be asked, with its row.
-fn first_to_ask(t: &EnlistTable) -> Option<(EnlNo, Row)>
-    ensures { result ≡ find (may_be_asked t.now true) t.now }
-{
-    t.rows().iter().copied().find(|x| may_be_asked(t, x))
-}
-
-/// Whether each Zero enlistment voted.
-fn zeros_voted(t: &EnlistTable) -> bool
-    ensures { result ≡ zeros_voted t.now }
-{
-    t.rows()
-        .iter()
-        .all(|x| x.1.class != Class::Zero || x.1.vote.is_some())
-}
 
 /// Whether no blocking clone is open.
 fn is_free(c: &Clones) -> bool
-    ensures { result ≡ not (has is_open_block c.now) }
+    ensures { result ≡ not (list_any is_open_block c.now) }
 {
     c.blocking_left() == 0
 }
@@ -50,18 +27,17 @@ impl Waves {
     }
 
     /// The lowest Zero enlistment that wasn't asked to prepare and may be.
-    #[tactic(auto, unfolding(dtx_model::specs::Waves::next_ask))]
     pub fn next_wave(&mut self, t: &EnlistTable) -> Option<EnlNo>
         ensures { result ≡ next_ask t.now true }
     {
-        first_to_ask(t).map(|x| x.0)
+        t.next_ask(true)
     }
 
     /// Whether phase zero is over: each Zero enlistment voted, no blocking clone is open, and nothing is under way.
-    #[tactic(auto, unfolding(dtx_model::specs::Waves::is_over))]
+    #[tactic(auto, unfolding(dtx_values::specs::Waves::is_over))]
     pub fn is_over(&self, t: &EnlistTable, c: &Clones, under_way: u8) -> bool
         ensures { result ≡ is_over t.now c.now under_way }
     {
-        zeros_voted(t) && is_free(c) && under_way == 0
+        t.zeros_voted() && is_free(c) && under_way == 0
     }
 }

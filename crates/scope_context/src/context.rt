@@ -2,7 +2,8 @@
 ghost use Rattle.std.specs.Prelude.{◌≡◌, ◌==◌, ◌<◌, ◌≤◌, ◌+◌, ◌++◌, List, [], ◌∷◌, false, true, find, reverse, is_some, length, map, vec_capacity, Err, None, Some, IfErr, IfOk, OnErr, OnOk};
 ghost use Rattle.dtx_values.specs.declared.number.ScopeNo.{ScopeNo};
 ghost use Rattle.dtx_model.specs.Words.{all_of, has, onto, past_of, put};
-ghost use Rattle.dtx_model.specs.Scopes.{ScopeEntry, Opens, Finishes, Closes, ambient, beneath, closing, closing_with, completed_in, differing, entering, is_complete_scope, is_scope, isolation_made, isolation_of, makes_it, once, open_scopes, rolled_back, taken_off, transaction_in, scope_transaction, with_complete};
+ghost use Rattle.dtx_values.specs.Entered.{transaction_in};
+ghost use Rattle.dtx_model.specs.Scopes.{ScopeEntry, Opens, Finishes, Closes, ambient, beneath, closing, closing_with, completed_in, differing, entering, is_complete_scope, is_scope, isolation_made, isolation_of, makes_it, once, open_scopes, rolled_back, taken_off, scope_transaction, with_complete};
 ghost use Rattle.scope_context.specs.declared.refusal.ScopeRefusal.TheVariants.{NestedWrongly, NoScope};
 ghost use Rattle.scope_context.specs.Refusals.{close_refusal, complete_refusal, current_result, enter_refusal};
 

@@ -11,10 +11,12 @@ use Rattle.dtx_values.specs.declared.number.EnlNo.{EnlNo}
 use Rattle.dtx_values.specs.declared.words.Class.{Class}
 use Rattle.dtx_values.specs.declared.words.Class.TheVariants.{DurableSingle, Promotable as PromotableClass}
 use Rattle.dtx_values.specs.Clones.{is_open_rollback}
-use Rattle.dtx_values.specs.Table.{Enlistment, fresh_row, insert_by, is_of, mark_row, marks, number_of, vote_row, with_row}
+use Rattle.dtx_values.specs.Row.{fresh_row, is_of, mark_row, number_of, vote_row}
+use Rattle.dtx_values.specs.declared.row.Row.{Row}
+use Rattle.dtx_values.specs.Table.{insert_by, marks, with_row, voted}
 use Rattle.dtx_model.specs.Caused.{is_new}
 use Rattle.dtx_model.specs.Observed.{observe, rows}
-use Rattle.dtx_model.specs.Steps.{Step, Calls, answer, block, class_of, decided_if, facts, facts_if, gone_facts, is_done, is_handed, is_late, lost_outcome, reaches, tick_facts, ticked, time_up, veto_if, voted}
+use Rattle.dtx_model.specs.Steps.{Step, Calls, answer, block, class_of, decided_if, facts, facts_if, gone_facts, is_done, is_handed, is_late, lost_outcome, reaches, tick_facts, ticked, time_up, veto_if}
 use Rattle.dtx_model.specs.Words.{each, has, onto}
 use Rattle.dtx_model.proofs.Bools.{and_both, and_left, and_right, not_false, not_true, or_false, or_first, or_right, or_second}
 use Rattle.outcome_law.proofs.Lists.{has-insert, has_kept}
@@ -25,7 +27,7 @@ use Rattle.outcome_law.proofs.Tests.{eq_self, eq_swap}
 use Rattle.script_runner.specs.Pending.{are_apart}
 
 -- rows of which each enlistment has one, and the row of another
-apart-insert : (x : Enlistment) (xs : List Enlistment) → has (is_of x.0.value) xs ≡ false → are_apart xs ≡ true → are_apart (insert_by number_of x xs) ≡ true
+apart-insert : (x : Row) (xs : List Row) → has (is_of x.0.value) xs ≡ false → are_apart xs ≡ true → are_apart (insert_by number_of x xs) ≡ true
 apart-insert x [] new h = refl
 apart-insert x (y ∷ ys) new h =
     let other : (x.0.value == y.0.value) ≡ false = or_first (is_of x.0.value y) (has (is_of x.0.value) ys) new in
@@ -42,7 +44,7 @@ apart-insert x (y ∷ ys) new h =
     step false p q = q
 
 -- a change that keeps each number
-apart_kept : (f : Enlistment → Enlistment) → ((x : Enlistment) → (f x).0 ≡ x.0) → (xs : List Enlistment) → are_apart (map f xs) ≡ are_apart xs
+apart_kept : (f : Row → Row) → ((x : Row) → (f x).0 ≡ x.0) → (xs : List Row) → are_apart (map f xs) ≡ are_apart xs
 apart_kept f same [] = refl
 apart_kept f same (x ∷ xs) =
     let here : has (is_of (f x).0.value) (map f xs) ≡ has (is_of x.0.value) xs =
@@ -92,7 +94,7 @@ apart-facts h past c b same new a = step c b new
     behind es k = apart-block es past k before
 
     more : (e : EnlNo) (k : Class) → not (has (is_of e.value) (rows h)) ≡ true → are_apart (with_row e k (rows past)) ≡ true
-    more e k new = ap (λ (xs : List Enlistment). are_apart (with_row e k xs)) same ∙ apart-new e k h new a
+    more e k new = ap (λ (xs : List Row). are_apart (with_row e k xs)) same ∙ apart-new e k h new a
 
     step : (c : Call) (b : Bool) → is_new (observe h) c ≡ true → are_apart (rows (onto past (facts_if b (facts (observe h) c)))) ≡ true
     step c false new = before
@@ -112,7 +114,7 @@ apart-facts h past c b same new a = step c b new
         behind (tick_facts o (ticked o.clock n)) (plain_adds_none (if reached then time_up (is_late o) else []) (time_plain reached (is_late o)))
     step (Gone e) true new =
         let o = observe h in
-        let lost = not (is_some o.decided) && not (voted o.table e.value) in
+        let lost = not (is_some o.decided) && not (voted e.value o.table) in
         let x = lost_outcome (is_handed o.handed e.value) in
         behind (gone_facts o e) (plain_adds_none (decided_if lost x) (decided_plain lost x))
     step _ true new = before
@@ -128,7 +130,7 @@ pub apart-step : (h : List Entry) (m : Step) → is_no_call m ≡ true → are_a
 apart-step h m k a = apart-block (block (observe h) m) h (plain_adds_none (block (observe h) m) (block_plain (observe h) m k)) a
 
 -- the row of an enlistment is found by its number
-pub found_apart : (xs : List Enlistment) (k : ℕ) (x : Enlistment) → are_apart xs ≡ true → slice_get xs k ≡ Some x → find (is_of x.0.value) xs ≡ Some x
+pub found_apart : (xs : List Row) (k : ℕ) (x : Row) → are_apart xs ≡ true → slice_get xs k ≡ Some x → find (is_of x.0.value) xs ≡ Some x
 found_apart [] k x a e = absurd cc
 found_apart (y ∷ ys) zero x a e = let same : y ≡ x = cc in rw (← same, eq_self y.0.value) refl
 found_apart (y ∷ ys) (suc k) x a e =
@@ -140,7 +142,7 @@ found_apart (y ∷ ys) (suc k) x a e =
     none = not_true (has (is_of y.0.value) ys) (and_left (not (has (is_of y.0.value) ys)) (are_apart ys) a)
 
     -- an item at a place that passes is one that passes
-    there : (p : Enlistment → Bool) (zs : List Enlistment) (j : ℕ) → slice_get zs j ≡ Some x → p x ≡ true → has p zs ≡ true
+    there : (p : Row → Bool) (zs : List Row) (j : ℕ) → slice_get zs j ≡ Some x → p x ≡ true → has p zs ≡ true
     there p [] j f h = absurd cc
     there p (z ∷ zs) zero f h = let same : x ≡ z = cc in rw (← same, h) refl
     there p (z ∷ zs) (suc j) f h = or_right (p z) (has p zs) (there p zs j f h)

@@ -10,7 +10,7 @@ use Rattle.dtx_values.specs.declared.number.ActorNo.{ActorNo}
 use Rattle.dtx_values.specs.declared.number.EnlNo.{EnlNo}
 use Rattle.dtx_values.specs.declared.number.TxNo.{TxNo}
 use Rattle.dtx_model.specs.Observed.{Observed, track, track_all}
-use Rattle.dtx_model.specs.Steps.{Calls, answer, await_answer, behind_begin, block, facts_if, gone_answer, gone_facts, is_done, is_gone, stands}
+use Rattle.dtx_model.specs.Steps.{Calls, answer, await_answer, if_begun, block, facts_if, gone_answer, gone_facts, is_done, is_gone, stands}
 use Rattle.local_half.specs.Half.{Half, after, is_its_own}
 use Rattle.script_runner.specs.Calling.{is_answered}
 
@@ -25,20 +25,20 @@ unfolding track track_all
 called_alone h n a x = refl
 
 -- a `gone` is done where it is answered ok
-gone_done : (limit : Option ℕ) (stands lost : Bool) (x : Answer) → x ≡ behind_begin limit (gone_answer stands lost) → x ≢ Fine → is_done x ≡ false
+gone_done : (limit : Option ℕ) (stands lost : Bool) (x : Answer) → x ≡ if_begun limit (gone_answer stands lost) → x ≢ Fine → is_done x ≡ false
 gone_done None stands lost x e d = rw e refl
 gone_done (Some l) false lost x e d = rw e refl
 gone_done (Some l) true true x e d = rw e refl
 gone_done (Some l) true false x e d = absurd (d e)
 
 -- the block of a `gone` that is answered ok
-pub gone_fine : (o : Observed) (n : ℕ) (a : ActorNo) (e : EnlNo) (x : Answer) → x ≡ behind_begin o.limit (gone_answer (stands o e.value) (is_gone o e.value)) → x ≡ Fine
+pub gone_fine : (o : Observed) (n : ℕ) (a : ActorNo) (e : EnlNo) (x : Answer) → x ≡ if_begun o.limit (gone_answer (stands o e.value) (is_gone o e.value)) → x ≡ Fine
     → block o (Calls n a (Gone e) 0) ≡ Called n a x ∷ gone_facts o e
 unfolding block answer
 gone_fine o n a e x k f = rw (← k, f) refl
 
 -- the block of a `gone` that isn't
-pub gone_refused : (o : Observed) (n : ℕ) (a : ActorNo) (e : EnlNo) (x : Answer) → x ≡ behind_begin o.limit (gone_answer (stands o e.value) (is_gone o e.value)) → x ≢ Fine
+pub gone_refused : (o : Observed) (n : ℕ) (a : ActorNo) (e : EnlNo) (x : Answer) → x ≡ if_begun o.limit (gone_answer (stands o e.value) (is_gone o e.value)) → x ≢ Fine
     → block o (Calls n a (Gone e) 0) ≡ Called n a x ∷ []
 unfolding block answer
 gone_refused o n a e x k d = rw (← k, gone_done o.limit (stands o e.value) (is_gone o e.value) x k d) refl
@@ -56,14 +56,14 @@ facts_none true = refl
 facts_none false = refl
 
 -- the block of a `do`
-pub do_block : (o : Observed) (n : ℕ) (a : ActorNo) (t : TxNo) (k i m : ℕ) → block o (Calls n a (Do t k i) m) ≡ Called n a (behind_begin o.limit (Did m)) ∷ []
+pub do_block : (o : Observed) (n : ℕ) (a : ActorNo) (t : TxNo) (k i m : ℕ) → block o (Calls n a (Do t k i) m) ≡ Called n a (if_begun o.limit (Did m)) ∷ []
 unfolding block answer
-do_block o n a t k i m = let x = behind_begin o.limit (Did m) in ap (λ (es : List Entry). Called n a x ∷ es) (facts_none (is_done x))
+do_block o n a t k i m = let x = if_begun o.limit (Did m) in ap (λ (es : List Entry). Called n a x ∷ es) (facts_none (is_done x))
 
 -- the block of an `await`
-pub await_block : (o : Observed) (n : ℕ) (a : ActorNo) (t : TxNo) (m : ℕ) → block o (Calls n a (Await t) m) ≡ Called n a (behind_begin o.limit (await_answer o.told_client)) ∷ []
+pub await_block : (o : Observed) (n : ℕ) (a : ActorNo) (t : TxNo) (m : ℕ) → block o (Calls n a (Await t) m) ≡ Called n a (if_begun o.limit (await_answer o.told_client)) ∷ []
 unfolding block answer
-await_block o n a t m = let x = behind_begin o.limit (await_answer o.told_client) in ap (λ (es : List Entry). Called n a x ∷ es) (facts_none (is_done x))
+await_block o n a t m = let x = if_begun o.limit (await_answer o.told_client) in ap (λ (es : List Entry). Called n a x ∷ es) (facts_none (is_done x))
 
 -- the block of a `gone`, whatever was done for it
 pub gone_block : (o : Observed) (n : ℕ) (a : ActorNo) (e : EnlNo) (m : ℕ) → block o (Calls n a (Gone e) 0) ≡ block o (Calls n a (Gone e) m)

@@ -12,14 +12,18 @@ use Rattle.dtx_values.specs.declared.script.Line.{Line}
 use Rattle.dtx_values.specs.declared.words.Outcome.{Outcome}
 use Rattle.dtx_values.specs.declared.words.Outcome.TheVariants.{Committed}
 use Rattle.dtx_values.specs.declared.words.Vote.{Vote}
-use Rattle.dtx_values.specs.Table.{Enlistment, has_voted, how_many, is_marked, is_of, mark_row, marks, unless_there, vote_row, voted_before, with_vote}
+use Rattle.dtx_values.specs.Row.{has_voted, is_marked, is_of, mark_row, unless_there, vote_row}
+use Rattle.dtx_values.specs.declared.row.Row.{Row}
+use Rattle.dtx_values.specs.Table.{how_many, marks, voted_before, with_vote}
 use Rattle.dtx_model.specs.declared.listener.Listener.{Listener}
 use Rattle.dtx_model.specs.Words.{has, kth}
-use Rattle.dtx_model.specs.Waves.{is_class, is_over, may_be_asked, name_of, next_ask}
+use Rattle.dtx_values.specs.Class.{is_class}
 use Rattle.dtx_model.specs.Observed.{Observed, hear, track, track_all}
 use Rattle.dtx_model.specs.Outcome.{is_empty}
-use Rattle.dtx_model.specs.Owners.{owner_of}
-use Rattle.dtx_model.specs.Steps.{Step, Acts, Replies, act_by, act_entries, act_if, all_voted, before_seal, behind_seal, block, commit_act, due_note, due_replies, is_gone, is_handed, is_no, is_to_tell, open_note, owner_reply, pending, planned_owner, planned_reply, planned_vote, reply_entries, tell, undecided_act, veto_if, vote_reply}
+use Rattle.dtx_values.specs.Vote.{is_no}
+use Rattle.dtx_values.specs.Waves.{all_voted, is_over, may_be_asked, name_of, next_ask}
+use Rattle.dtx_values.specs.Owners.{owner_of}
+use Rattle.dtx_model.specs.Steps.{Step, Acts, Replies, act_by, act_entries, act_if, before_seal, after_seal, block, commit_act, due_note, due_replies, is_gone, is_handed, is_to_tell, open_note, owner_reply, pending, planned_owner, planned_reply, planned_vote, reply_entries, tell, undecided_act, veto_if, vote_reply}
 use Rattle.dtx_model.proofs.Bools.{and_left, and_right, and_both, or_right}
 use Rattle.outcome_law.proofs.Scans.{has_more}
 use Rattle.outcome_law.proofs.Tests.{eq_self}
@@ -28,10 +32,10 @@ use Rattle.script_runner.proofs.Counting.{falls, find-passes, has-found, how_man
 use Rattle.script_runner.proofs.DueReplies.{IsDue, is_reply, reply_due}
 
 -- tests that tell an item that still has a step from one that hasn't
-abbrev pub unmarked : Enlistment → Bool
+abbrev pub unmarked : Row → Bool
 unmarked x = not (is_marked x)
 
-abbrev pub unvoted : Enlistment → Bool
+abbrev pub unvoted : Row → Bool
 unvoted x = not (has_voted x)
 
 abbrev pub untold : Listener → Bool
@@ -48,39 +52,39 @@ steps_left o =
     + one_unless (is_some o.decided) + one_unless (is_some o.told_client)
 
 -- one more mark
-abbrev pub mark : ℕ → ℕ → Enlistment → Enlistment
+abbrev pub mark : ℕ → ℕ → Row → Row
 mark e n x = if is_of e x then (x.0, mark_row n x.1) else x
 
 -- one more vote
-abbrev pub cast : ℕ → Vote → Enlistment → Enlistment
+abbrev pub cast : ℕ → Vote → Row → Row
 cast e v x = if is_of e x then (x.0, vote_row v x.1) else x
 
-mark_keeps_unmarked : (e n : ℕ) (x : Enlistment) → unmarked (mark e n x) ≡ true → unmarked x ≡ true
+mark_keeps_unmarked : (e n : ℕ) (x : Row) → unmarked (mark e n x) ≡ true → unmarked x ≡ true
 mark_keeps_unmarked e n x k = step (is_of e x) k
   where
     step : (b : Bool) → unmarked (if b then (x.0, mark_row n x.1) else x) ≡ true → unmarked x ≡ true
-    step true k = let marked : is_some (unless_there x.1.asked n) ≡ true = there x.1.asked n in absurd (let e : not (is_some (unless_there x.1.asked n)) ≡ true = k in cc)
+    step true k = let marked : is_some (unless_there x.asked n) ≡ true = there x.asked n in absurd (let e : not (is_some (unless_there x.asked n)) ≡ true = k in cc)
     step false k = k
 
-mark_keeps_unvoted : (e n : ℕ) (x : Enlistment) → unvoted (mark e n x) ≡ true → unvoted x ≡ true
+mark_keeps_unvoted : (e n : ℕ) (x : Row) → unvoted (mark e n x) ≡ true → unvoted x ≡ true
 mark_keeps_unvoted e n x k = step (is_of e x) k
   where
     step : (b : Bool) → unvoted (if b then (x.0, mark_row n x.1) else x) ≡ true → unvoted x ≡ true
     step true k = k
     step false k = k
 
-cast_keeps_unmarked : (e : ℕ) (v : Vote) (x : Enlistment) → unmarked (cast e v x) ≡ true → unmarked x ≡ true
+cast_keeps_unmarked : (e : ℕ) (v : Vote) (x : Row) → unmarked (cast e v x) ≡ true → unmarked x ≡ true
 cast_keeps_unmarked e v x k = step (is_of e x) k
   where
     step : (b : Bool) → unmarked (if b then (x.0, vote_row v x.1) else x) ≡ true → unmarked x ≡ true
     step true k = k
     step false k = k
 
-cast_keeps_unvoted : (e : ℕ) (v : Vote) (x : Enlistment) → unvoted (cast e v x) ≡ true → unvoted x ≡ true
+cast_keeps_unvoted : (e : ℕ) (v : Vote) (x : Row) → unvoted (cast e v x) ≡ true → unvoted x ≡ true
 cast_keeps_unvoted e v x k = step (is_of e x) k
   where
     step : (b : Bool) → unvoted (if b then (x.0, vote_row v x.1) else x) ≡ true → unvoted x ≡ true
-    step true k = let voted : is_some (unless_there x.1.vote v) ≡ true = there x.1.vote v in absurd (let e : not (is_some (unless_there x.1.vote v)) ≡ true = k in cc)
+    step true k = let voted : is_some (unless_there x.vote v) ≡ true = there x.vote v in absurd (let e : not (is_some (unless_there x.vote v)) ≡ true = k in cc)
     step false k = k
 
 hear_keeps : (e : ℕ) (l : Listener) → untold (hear e l) ≡ true → untold l ≡ true
@@ -91,27 +95,27 @@ hear_keeps e l k = step (e == l.enlistment.value) l.told k
     step false b k = k
 
 -- a row without a mark, of the one that is marked, has one then
-mark_falls : (e n : ℕ) (x : Enlistment) → (is_of e x && unmarked x) ≡ true → falls unmarked (mark e n) x ≡ true
+mark_falls : (e n : ℕ) (x : Row) → (is_of e x && unmarked x) ≡ true → falls unmarked (mark e n) x ≡ true
 mark_falls e n x k =
     let here : is_of e x ≡ true = and_left (is_of e x) (unmarked x) k in
-    rw (here, there x.1.asked n) (and_both (unmarked x) true (and_right (is_of e x) (unmarked x) k) refl)
+    rw (here, there x.asked n) (and_both (unmarked x) true (and_right (is_of e x) (unmarked x) k) refl)
 
-cast_falls : (e : ℕ) (v : Vote) (x : Enlistment) → (is_of e x && unvoted x) ≡ true → falls unvoted (cast e v) x ≡ true
+cast_falls : (e : ℕ) (v : Vote) (x : Row) → (is_of e x && unvoted x) ≡ true → falls unvoted (cast e v) x ≡ true
 cast_falls e v x k =
     let here : is_of e x ≡ true = and_left (is_of e x) (unvoted x) k in
-    rw (here, there x.1.vote v) (and_both (unvoted x) true (and_right (is_of e x) (unvoted x) k) refl)
+    rw (here, there x.vote v) (and_both (unvoted x) true (and_right (is_of e x) (unvoted x) k) refl)
 
 -- the next that is asked has a row without a mark
-pub asked_unmarked : (xs : List Enlistment) (z : Bool) (e : EnlNo) → next_ask xs z ≡ Some e → has (λ x. is_of e.value x && unmarked x) xs ≡ true
+pub asked_unmarked : (xs : List Row) (z : Bool) (e : EnlNo) → next_ask xs z ≡ Some e → has (λ x. is_of e.value x && unmarked x) xs ≡ true
 unfolding next_ask
 asked_unmarked xs z e k = step (find (may_be_asked xs z) xs) refl k
   where
-    step : (o : Option Enlistment) → find (may_be_asked xs z) xs ≡ o → name_of o ≡ Some e → has (λ x. is_of e.value x && unmarked x) xs ≡ true
+    step : (o : Option Row) → find (may_be_asked xs z) xs ≡ o → name_of o ≡ Some e → has (λ x. is_of e.value x && unmarked x) xs ≡ true
     step None f k = absurd (cc)
     step (Some x) f k =
         let same : x.0 ≡ e = cc in
         let passes = find-passes (may_be_asked xs z) x xs f in
-        let none : unmarked x ≡ true = and_right (is_class z x.1.class) (unmarked x) (and_left (is_class z x.1.class && unmarked x) (not z || voted_before x.1.added xs) passes) in
+        let none : unmarked x ≡ true = and_right (is_class z x.class) (unmarked x) (and_left (is_class z x.class && unmarked x) (not z || voted_before x.added xs) passes) in
         has-found (may_be_asked xs z) (λ y. is_of e.value y && unmarked y) x xs f (rw (← same) (and_both (x.0.value == x.0.value) (unmarked x) (eq_self x.0.value) none))
 
 -- one less for the decision, or as many
@@ -188,8 +192,8 @@ steps_left-commit o false None h d k = steps_left-decided o Committed d
 
 -- the local act while nothing is decided
 steps_left-open : (o : Observed) (commit sealed : Bool) (p q : Option EnlNo) (over voted : Bool) (es : List Entry) → o.sealed ≡ sealed → next_ask o.table true ≡ p
-    → next_ask o.table false ≡ q → (not (is_empty es) ≡ true → steps_left (track_all o es) < steps_left o) → not (is_empty (undecided_act commit sealed (before_seal p over) (behind_seal q voted es))) ≡ true
-    → steps_left (track_all o (undecided_act commit sealed (before_seal p over) (behind_seal q voted es))) < steps_left o
+    → next_ask o.table false ≡ q → (not (is_empty es) ≡ true → steps_left (track_all o es) < steps_left o) → not (is_empty (undecided_act commit sealed (before_seal p over) (after_seal q voted es))) ≡ true
+    → steps_left (track_all o (undecided_act commit sealed (before_seal p over) (after_seal q voted es))) < steps_left o
 steps_left-open o false sealed p q over voted es n z u less k = absurd (cc)
 steps_left-open o true false (Some e) q over voted es n z u less k = steps_left-asked o e (asked_unmarked o.table true e z)
 steps_left-open o true false None q true voted es n z u less k = steps_left-sealed o n
@@ -206,7 +210,7 @@ steps_left-act o None d k =
     (steps_left-commit o (is_some o.handed) (owner_of o.table) refl d) k
 
 -- where a reply is due, nothing is decided
-due_undecided : (o : Observed) (x : Enlistment) (n : Note) → due_note o x ≡ Some n → o.decided ≡ None
+due_undecided : (o : Observed) (x : Row) (n : Note) → due_note o x ≡ Some n → o.decided ≡ None
 due_undecided o x n k = step o.decided refl (is_gone o x.0.value) k
   where
     step : (d : Option Outcome) → o.decided ≡ d → (lost : Bool) → (if is_some d || lost then None else open_note (is_marked x && not (has_voted x)) (is_handed o.handed x.0.value)) ≡ Some n → d ≡ None
@@ -214,7 +218,7 @@ due_undecided o x n k = step o.decided refl (is_gone o x.0.value) k
     step None e lost k = refl
 
 -- where a vote is due, the row is marked and hasn't voted
-due_unvoted : (o : Observed) (x : Enlistment) → due_note o x ≡ Some PrepareNote → (is_marked x && unvoted x) ≡ true
+due_unvoted : (o : Observed) (x : Row) → due_note o x ≡ Some PrepareNote → (is_marked x && unvoted x) ≡ true
 due_unvoted o x k = step (is_some o.decided || is_gone o x.0.value) (is_marked x && unvoted x) (is_handed o.handed x.0.value) k
   where
     step : (over asked handed : Bool) → (if over then None else open_note asked handed) ≡ Some PrepareNote → asked ≡ true
@@ -230,7 +234,7 @@ has-at p (y ∷ ys) zero x f h = let same : x ≡ y = cc in rw (← same, h) ref
 has-at p (y ∷ ys) (suc k) x f h = or_right (p y) (has p ys) (has-at p ys k x f h)
 
 -- a reply
-steps_left-replied : (s : List Line) (o : Observed) (j : ℕ) (x : Enlistment) (n : Note) (r : Reply) → slice_get o.table j ≡ Some x → due_note o x ≡ Some n → planned_reply s x.0.value (Some n) ≡ Some r
+steps_left-replied : (s : List Line) (o : Observed) (j : ℕ) (x : Row) (n : Note) (r : Reply) → slice_get o.table j ≡ Some x → due_note o x ≡ Some n → planned_reply s x.0.value (Some n) ≡ Some r
     → steps_left (track_all o (reply_entries x.0 r)) < steps_left o
 steps_left-replied s o j x PrepareNote r stands due planned = by (planned_vote s x.0.value) planned
   where

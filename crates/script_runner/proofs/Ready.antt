@@ -14,8 +14,9 @@ use Rattle.dtx_values.specs.declared.script.Support.TheVariants.{SinglePhase, Tw
 use Rattle.dtx_model.specs.Caused.{is_new}
 use Rattle.dtx_model.specs.Grammar.{is_run}
 use Rattle.dtx_model.specs.Observed.{Observed}
-use Rattle.dtx_model.specs.Owners.{is_lasting}
-use Rattle.dtx_model.specs.Steps.{call_of, complete_call, gone_call, is_single, transaction_of, transaction_with}
+use Rattle.dtx_values.specs.Support.{is_single}
+use Rattle.dtx_values.specs.Row.{is_lasting}
+use Rattle.dtx_model.specs.Steps.{call_of, complete_call, gone_call, transaction_of, transaction_with}
 use Rattle.dtx_model.specs.Words.{has}
 use Rattle.dtx_model.proofs.Bools.{and_both, not_false}
 use Rattle.local_half.specs.Half.{is_alone}

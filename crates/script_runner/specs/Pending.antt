@@ -1,7 +1,8 @@
 -- The k-th pending step.
 use Rattle.std.specs.Prelude.{ℕ, ◌+◌, ◌≡◌, Bool, true, ◌&&◌, not, List, [], ◌∷◌, length, Some, slice_get}
 use Rattle.dtx_values.specs.Outgoing.{Outgoing, with}
-use Rattle.dtx_values.specs.Table.{Enlistment, is_of}
+use Rattle.dtx_values.specs.Row.{is_of}
+use Rattle.dtx_values.specs.declared.row.Row.{Row}
 use Rattle.dtx_values.specs.declared.script.Line.{Line}
 use Rattle.dtx_model.specs.Words.{has, kth}
 use Rattle.dtx_model.specs.Steps.{Step, Replies, block, pending}
@@ -10,7 +11,7 @@ use Rattle.script_runner.specs.declared.pending.Due.{Due}
 use Rattle.script_runner.specs.declared.pending.Due.TheVariants.{Reply, Beyond}
 
 -- each enlistment has one row
-abbrev pub are_apart : List Enlistment → Bool
+abbrev pub are_apart : List Row → Bool
 are_apart [] = true
 are_apart (x ∷ xs) = not (has (is_of x.0.value) xs) && are_apart xs
 

@@ -3,7 +3,7 @@ ghost use Rattle.std.specs.Prelude.{◌≡◌, ◌<◌, ◌≤◌, ◌∷◌, []
 ghost use Rattle.dtx_values.specs.Outgoing.{with};
 ghost use Rattle.dtx_values.specs.declared.call.Call.TheVariants.{Gone};
 ghost use Rattle.dtx_values.specs.declared.entry.Entry.TheVariants.{Called};
-ghost use Rattle.dtx_model.specs.Steps.{Calls, await_answer, behind_begin, block, gone_answer, is_gone, stands};
+ghost use Rattle.dtx_model.specs.Steps.{Calls, await_answer, if_begun, block, gone_answer, is_gone, stands};
 ghost use Rattle.local_half.specs.Half.{after};
 ghost use Rattle.script_runner.specs.Calling.{IsReady};
 
@@ -11,8 +11,8 @@ use dtx_values::{ActorNo, Answer, Call, EnlNo, Entry, Outbox};
 use local_half::LocalHalf;
 
 /// The answer behind `notbegun`.
-fn behind_begin(half: &LocalHalf, a: Answer) -> Answer
-    ensures { result ≡ behind_begin half.now.seen.limit a }
+fn if_begun(half: &LocalHalf, a: Answer) -> Answer
+    ensures { result ≡ if_begun half.now.seen.limit a }
 {
     if half.is_begun() { a } else { Answer::NotBegun }
 }
@@ -46,7 +46,7 @@ fn gone(half: &mut LocalHalf, actor: ActorNo, line: u32, e: EnlNo, out: &mut Out
     ensures state { half.new ≡ after half.old (block half.old.seen (Calls line actor (Gone e) 0)) }
     ensures out { out.new ≡ with out.old (block half.old.seen (Calls line actor (Gone e) 0)) }
 {
-    let answer = behind_begin(half, gone_answer(half, e));
+    let answer = if_begun(half, gone_answer(half, e));
     out.put(Entry::Called(line, actor, answer));
     if answer == Answer::Fine {
         half.gone(e, false, out);
@@ -62,11 +62,11 @@ pub fn call(half: &mut LocalHalf, actor: ActorNo, line: u32, c: &Call, done: u16
 {
     match *c {
         Call::Do(_, _, _) => {
-            let answer = behind_begin(half, Answer::Did(done));
+            let answer = if_begun(half, Answer::Did(done));
             out.put(Entry::Called(line, actor, answer));
         }
         Call::Await(_) => {
-            let answer = behind_begin(half, await_answer(half));
+            let answer = if_begun(half, await_answer(half));
             out.put(Entry::Called(line, actor, answer));
         }
         Call::Gone(e) => gone(half, actor, line, e, out),

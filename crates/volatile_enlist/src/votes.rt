@@ -1,18 +1,11 @@
 //! Votes.
 ghost use Rattle.std.specs.Prelude.{◌≡◌, true, IfErr, OnErr, OnOk, None, Some};
-ghost use Rattle.dtx_values.specs.Table.{with_vote};
-ghost use Rattle.volatile_enlist.specs.Refusals.{vote_refusal, was_asked};
+ghost use Rattle.dtx_values.specs.Table.{was_asked, with_vote};
+ghost use Rattle.volatile_enlist.specs.Refusals.{vote_refusal};
 
 use crate::refusal::VoteRefusal;
 use dtx_values::{EnlNo, Vote};
 use enlist_table::EnlistTable;
-
-/// Whether the enlistment was asked to prepare.
-fn was_asked(t: &EnlistTable, e: EnlNo) -> bool
-    ensures { result ≡ was_asked e.value t.now }
-{
-    t.rows().iter().any(|x| x.0 == e && x.1.asked.is_some())
-}
 
 /// Takes the vote of an enlistment that was asked to prepare.
 ///
@@ -26,7 +19,7 @@ pub fn take_vote(t: &mut EnlistTable, e: EnlNo, v: Vote) -> Result<(), VoteRefus
     ensures allowed { OnOk result (vote_refusal e t.old ≡ None) }
     ensures taken { was_asked e.value t.old ≡ true → t.new ≡ with_vote e.value v t.old }
 {
-    if !was_asked(t, e) {
+    if !t.was_asked(e) {
         return Err(VoteRefusal::NotAsked(e));
     }
     match t.set_vote(e, v) {

@@ -1,11 +1,11 @@
 use Rattle.std.proofs.Common.{◌∙◌, ap, sym}
 use Rattle.std.proofs.lemmas.List.Edits.{map_over_more}
-use Rattle.dtx_values.specs.Table.{Enlistment}
-use Rattle.enlist_table.specs.Table.{mark_in}
+use Rattle.dtx_values.specs.Row.{mark_in}
+use Rattle.dtx_values.specs.declared.row.Row.{Row}
 use Rattle.enlist_table.proofs.table.mark.Goals as goal
 
 pub loop-x-preserved : goal.loop-x-preserved
 loop-x-preserved c =
-    let f : Enlistment → Enlistment = λ x. mark_in c.args.e.value c.args.n x in
+    let f : Row → Row = λ x. mark_in c.args.e.value c.args.n x in
     let old = c.deref_mut-x-items.result.now in
     rw (c.mark_in.ensures ∙ ap f (sym c.x-item.is)) (map_over_more f old c.loop-x.x-items c.loop-x.x-index c.x-item.result c.loop-x-test.true c.loop-x.invariant c.x-item.is)

@@ -1,5 +1,5 @@
 use Rattle.std.proofs.Common.{◌≡◌, ◌++◌, map, take, drop}
-use Rattle.enlist_table.specs.Table.{mark_in}
+use Rattle.dtx_values.specs.Row.{mark_in}
 use Rattle.enlist_table.proofs.table.mark.Given as goal
 
 abbrev pub invariant-loop-x : goal.invariant-loop-x

@@ -1,5 +1,5 @@
 use Rattle.std.proofs.Common.{rules}
-use Rattle.dtx_values.specs.Table.{is_marked}
+use Rattle.dtx_values.specs.Row.{is_marked}
 use Rattle.dtx_values.proofs.Counts.{how_many-count_by, how_many-le-length}
 use Rattle.enlist_table.proofs.table.marks.Goals as goal
 

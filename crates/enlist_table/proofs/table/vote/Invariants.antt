@@ -1,5 +1,5 @@
 use Rattle.std.proofs.Common.{◌≡◌, ◌++◌, map, take, drop}
-use Rattle.enlist_table.specs.Table.{vote_in}
+use Rattle.dtx_values.specs.Row.{vote_in}
 use Rattle.enlist_table.proofs.table.vote.Given as goal
 
 abbrev pub invariant-loop-x : goal.invariant-loop-x

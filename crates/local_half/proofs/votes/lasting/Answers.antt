@@ -1,6 +1,6 @@
 use Rattle.std.proofs.Common.{rules}
 use Rattle.dtx_values.proofs.Counts.{how_many-count_by}
-use Rattle.dtx_model.specs.Owners.{is_lasting}
+use Rattle.dtx_values.specs.Row.{is_lasting}
 use Rattle.local_half.proofs.votes.lasting.Goals as goal
 
 pub returns : goal.returns

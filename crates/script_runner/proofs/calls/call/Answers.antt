@@ -3,7 +3,7 @@ use Rattle.dtx_values.specs.Outgoing.{with}
 use Rattle.dtx_values.specs.declared.entry.Answer.{Answer}
 use Rattle.dtx_values.specs.declared.entry.Entry.{Entry}
 use Rattle.dtx_values.specs.declared.entry.Entry.TheVariants.{Called}
-use Rattle.dtx_model.specs.Steps.{behind_begin}
+use Rattle.dtx_model.specs.Steps.{if_begun}
 use Rattle.local_half.specs.Half.{after}
 use Rattle.script_runner.proofs.Calling.{answers_itself, await_block, called_alone, do_block, gone_block, own_block}
 use Rattle.script_runner.proofs.calls.call.Goals as goal
@@ -20,7 +20,7 @@ pub returns-in-Do-clause-out : goal.returns-in-Do-clause-out
 returns-in-Do-clause-out c =
     let h = c.args.half.now in
     rw (c.in-Do.is, do_block h.seen c.args.line c.args.actor c.in-Do.field-0 c.in-Do.field-1 c.in-Do.field-2 c.args.done)
-    (c.put.ensures ∙ ap (λ (x : Answer). with c.args.out.now (Called c.args.line c.args.actor x ∷ [])) c.behind_begin-answer.ensures)
+    (c.put.ensures ∙ ap (λ (x : Answer). with c.args.out.now (Called c.args.line c.args.actor x ∷ [])) c.if_begun-answer.ensures)
 
 pub returns-in-Await-clause-state : goal.returns-in-Await-clause-state
 returns-in-Await-clause-state c =
@@ -31,7 +31,7 @@ pub returns-in-Await-clause-out : goal.returns-in-Await-clause-out
 returns-in-Await-clause-out c =
     let h = c.args.half.now in
     rw (c.in-Await.is, await_block h.seen c.args.line c.args.actor c.in-Await.field-0 c.args.done)
-    (c.put-in-Await.ensures ∙ ap (λ (x : Answer). with c.args.out.now (Called c.args.line c.args.actor x ∷ [])) (c.behind_begin-answer-in-Await.ensures ∙ ap (behind_begin h.seen.limit) c.await_answer.ensures))
+    (c.put-in-Await.ensures ∙ ap (λ (x : Answer). with c.args.out.now (Called c.args.line c.args.actor x ∷ [])) (c.if_begun-answer-in-Await.ensures ∙ ap (if_begun h.seen.limit) c.await_answer.ensures))
 
 pub returns-in-Gone-clause-state : goal.returns-in-Gone-clause-state
 returns-in-Gone-clause-state c =

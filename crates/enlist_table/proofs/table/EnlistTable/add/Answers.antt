@@ -1,13 +1,14 @@
 use Rattle.std.proofs.Common.{◌≡◌, ◌∙◌, true, rules, subst, sym}
-use Rattle.dtx_values.specs.Table.{Enlistment, fresh_row, marks}
-use Rattle.enlist_table.specs.Table.{rises_above}
+use Rattle.dtx_values.specs.Row.{fresh_row}
+use Rattle.dtx_values.specs.declared.row.Row.{Row}
+use Rattle.dtx_values.specs.Table.{marks, rises_above}
 use Rattle.enlist_table.proofs.Rising.{rises-insert}
 use Rattle.enlist_table.proofs.table.EnlistTable.add.Goals as goal
 
 pub invariant_of-self : goal.invariant_of-self
 invariant_of-self c =
     let xs = c.args.self.now in
-    let x : Enlistment = (c.args.e, fresh_row c.args.class (marks xs)) in
+    let x : Row = fresh_row c.args.e c.args.class (marks xs) in
     let new = sym c.stands.ensures ∙ c.if-stands.false in
     let rising = subst (λ xs. rises_above 0 xs ≡ true) c.self.view_is c.self.invariant.2 in
     (search rules, search rules, search (rules, rises-insert x 0 xs c.args.e.in_range.0 new rising))

@@ -1,8 +1,8 @@
 use Rattle.std.proofs.Common.{◌≡◌, ◌||◌, not, true, ap, arith, length, subst, sym, ◌∙◌}
-use Rattle.dtx_values.specs.Table.{fresh_row, marks, number_of}
-use Rattle.dtx_model.specs.Entries.{is_volatile}
+use Rattle.dtx_values.specs.Table.{marks}
+use Rattle.dtx_values.specs.Class.{is_volatile}
 use Rattle.dtx_model.specs.Observed.{listener_number}
-use Rattle.dtx_model.specs.Owners.{is_lasting}
+use Rattle.dtx_values.specs.Row.{is_lasting, fresh_row, number_of}
 use Rattle.dtx_model.specs.Words.{has}
 use Rattle.local_half.specs.Half.{Half}
 use Rattle.local_half.proofs.Lasting.{lasting-row}

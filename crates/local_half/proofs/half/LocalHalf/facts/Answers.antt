@@ -1,4 +1,5 @@
-use Rattle.dtx_model.specs.Steps.{answer, is_single}
+use Rattle.dtx_values.specs.Support.{is_single}
+use Rattle.dtx_model.specs.Steps.{answer}
 use Rattle.local_half.proofs.Notes.{may_last, may_promote}
 use Rattle.local_half.proofs.half.LocalHalf.facts.Goals as goal
 
