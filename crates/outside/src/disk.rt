@@ -56,7 +56,8 @@ pub trait Disk {
     ///
     /// # Errors
     ///
-    /// [`Failed`], only where the count of faults rose. The range may then hold any bytes.
+    /// [`Failed`], only where the count of faults rose. The range may then hold any bytes, and the bytes outside
+    /// it stay.
     fn write_at(&mut self, at: u64, from: &[u8]) -> Result<(), Failed>
         requires { at + length from.now ≤ size self.old }
         ensures written { IsTrue honest → OnOk result (seen self.new ≡ overwritten (seen self.old) at from.now) }
@@ -81,7 +82,8 @@ pub trait Disk {
         ensures grows { faults self.old ≤ faults self.new }
         ensures cause { OnErr result (Rose (faults self.old) (faults self.new)) };
 
-    /// A crash: what a read gives from now on is one of the images. Which one is a wish. It makes nothing safe.
+    /// A crash: what a read gives from now on is one of the images, and one that a crash with this wish may leave.
+    /// It makes nothing safe.
     fn crash(&mut self, wish: Image)
         ensures leaves { IsTrue honest → leaves wish self.old (seen self.new) }
         ensures seen { IsTrue honest → image self.old (seen self.new) }

@@ -4,11 +4,11 @@ ghost use Rattle.outside.specs.Faults.{one_more};
 
 use crate::{Disk, Failed, Image, WriteError};
 use std::fs::{File, OpenOptions};
+use std::io;
 use std::io::{ErrorKind, Read, Seek, SeekFrom, Write};
 use std::marker::Model;
 use std::path::Path;
 use std::rt::Files;
-use std::io;
 
 /// A disk in a file. It tells nothing of what it holds. A definition of this project.
 ///
@@ -16,13 +16,13 @@ use std::io;
 /// what is beyond it, and until then the file stays as it was found. A call goes on after a signal, and
 /// until all of its range is read or written. Any other error is a fault, and so is a write of no byte.
 ///
-/// A sync returns when the system says that the file is on its device. After a sync that failed, the system
-/// may answer a second one well though the bytes of the first are lost, so nothing that is read can be
-/// trusted. So after a sync that failed, or a length that couldn't be set, the disk is broken: each call
-/// fails. The same holds of the file until the system is started anew, but no new `FileDisk` knows of it.
+/// A sync returns when the system says that the file is on its device. After a sync that failed, a second
+/// one can succeed though the bytes of the first are lost, and a read may still give them. So after a sync
+/// that failed, or a length that couldn't be set, the disk is broken: each later call fails and counts. What
+/// the file gives can't be trusted before the system is started anew, and a new `FileDisk` doesn't know that.
 ///
-/// A file has one `FileDisk` at a time, in all programs: each holds the system's lock on the whole file
-/// until it is dropped. The lock stops only who asks for it, as each `FileDisk` does.
+/// A file has one `FileDisk` at a time, in all programs: each takes the system's lock on the whole file, and
+/// holds it until it is dropped. The lock stops only those who ask for it, as each `FileDisk` does.
 ///
 /// `crash` does nothing here.
 ///
@@ -45,11 +45,11 @@ impl Model for FileDisk {
 }
 
 impl FileDisk {
-    /// The disk of `len` bytes in the file at `path`, which is made where it isn't there. No byte of a file that
-    /// is there changes.
+    /// The disk of `len` bytes in the file at `path`, which is made where it isn't there. It changes no byte of
+    /// a file that is there.
     ///
-    /// The folder of the file is synced, so that a crash doesn't take the file's name away. It is the folder
-    /// in `path`: where the last name of `path` is a link, the folder of the file that it leads to isn't synced.
+    /// The folder in `path` is synced, so that a file that was made, now or before, has its name after a crash.
+    /// Where the last name of `path` is a link, the folder of the file that it leads to isn't synced.
     ///
     /// # Errors
     ///

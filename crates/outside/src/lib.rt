@@ -17,7 +17,8 @@
 //! - [`MemDisk`] holds its bytes in memory, and fails at the calls that one names. An [`Image`] is what a
 //!   crash is wished to leave.
 //! - [`SureDisk`] holds its bytes in memory, and never fails.
-//! - [`FileDisk`] is a file of the system. It isn't honest: it tells nothing of its content.
+//! - [`FileDisk`] is a file of the system. It isn't honest: it tells nothing of its content. One program has
+//!   it at a time, and after a sync that failed it answers nothing more.
 //!
 //! All rules here are definitions of this project.
 #![tactic(auto)]

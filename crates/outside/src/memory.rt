@@ -72,11 +72,7 @@ impl Source for MemSource {
             (self.new ≡ record self.old { calls = counted true self.old.calls }) }
         ensures grows { self.old.calls.failed ≤ self.new.calls.failed }
     {
-        let fails = self.plan.fails();
-        self.plan.count(fails);
-        if fails {
-            return Err(Failed);
-        }
+        self.plan.call()?;
         Ok(self.tape.give(self.most, into))
     }
 }

@@ -8,6 +8,7 @@ use crate::{
     SureSource, WriteError,
 };
 use std::io::{ErrorKind, Read, Seek, SeekFrom, Write};
+use std::rt::Files;
 use std::test::Fail;
 use std::{fs, io};
 
@@ -128,7 +129,6 @@ enum Step {
     Write(u64, &'static [u8; 2]),
     Sync,
     Crash(Image),
-    Nothing,
 }
 
 // A write through the bound, which isn't tried where it doesn't fit.
@@ -162,7 +162,6 @@ fn failures<D: Disk>(disk: &mut D, steps: &[Step]) -> usize {
                 disk.crash(*wish);
                 Ok(())
             }
-            Step::Nothing => Ok(()),
         };
         if done.is_err() {
             failed = failed.saturating_add(1);
@@ -185,61 +184,47 @@ fn sync_through<D: Disk>(disk: &mut D) -> Result<(), Failed>
     disk.sync()
 }
 
-#[test]
-fn crash_leaves_the_image_that_is_wished(rt: HostRuntime) -> Result<(), Fail> {
-    let first = Step::Write(0, b"ab");
-    let second = Step::Write(1, b"cd");
-    let (lose, keep, torn) = (
-        Step::Crash(Image::Lose),
-        Step::Crash(Image::Keep),
-        Step::Crash(Image::Torn),
-    );
-    let table = [
-        ([first, lose, Step::Nothing, Step::Nothing], *b"\0\0\0\0"),
-        ([first, keep, Step::Nothing, Step::Nothing], *b"ab\0\0"),
-        (
-            [first, torn, Step::Nothing, Step::Nothing],
-            *b"\xA5\xA5\0\0",
-        ),
-        ([first, Step::Sync, second, lose], *b"ab\0\0"),
-        ([first, Step::Sync, second, keep], *b"acd\0"),
-        ([first, Step::Sync, second, torn], *b"a\xA5\xA5\0"),
-        ([first, keep, second, lose], *b"\0\0\0\0"),
-        ([first, keep, Step::Sync, lose], *b"ab\0\0"),
-    ];
-    for (row, (steps, want)) in table.iter().enumerate() {
-        let mut disk = MemDisk::new(rt.alloc(), 4, Vec::new(rt.alloc()))?;
-        assert_eq!(rt; failures(&mut disk, steps), 0, "at row {row}");
-        assert_eq!(rt; first_four(&mut disk), Ok(*want), "at row {row}");
-        let mut sure = SureDisk::new(rt.alloc(), 4)?;
-        assert_eq!(rt; failures(&mut sure, steps), 0, "at row {row}");
-        assert_eq!(rt; first_four(&mut sure), Ok(*want), "at row {row}");
-    }
-    Ok(())
-}
+const FIRST: Step = Step::Write(0, b"ab");
+
+const SECOND: Step = Step::Write(1, b"cd");
+
+const LOSE: Step = Step::Crash(Image::Lose);
+
+const KEEP: Step = Step::Crash(Image::Keep);
+
+const TORN: Step = Step::Crash(Image::Torn);
 
 #[test]
-fn failing_call_of_a_disk_changes_nothing(rt: HostRuntime) -> Result<(), Fail> {
-    let first = Step::Write(0, b"ab");
-    let second = Step::Write(1, b"cd");
-    let (lose, keep, torn) = (
-        Step::Crash(Image::Lose),
-        Step::Crash(Image::Keep),
-        Step::Crash(Image::Torn),
-    );
-    let table = [
-        (1, [first, second, keep, Step::Nothing], *b"\0cd\0"),
-        (1, [first, second, torn, Step::Nothing], *b"\0\xA5\xA5\0"),
-        (2, [first, second, Step::Sync, lose], *b"ab\0\0"),
-        (2, [first, keep, second, Step::Sync], *b"ab\0\0"),
-        (2, [first, Step::Sync, second, lose], *b"\0\0\0\0"),
-        (2, [first, Step::Sync, second, keep], *b"acd\0"),
-        (2, [first, Step::Sync, second, torn], *b"\xA5\xA5\xA5\0"),
+fn disk_in_memory_holds_what_its_steps_leave(rt: HostRuntime) -> Result<(), Fail> {
+    // The number of the call that fails, 0 for none, the steps, and the bytes after them.
+    let table: [(u64, &[Step], [u8; 4]); 15] = [
+        (0, &[FIRST, LOSE], *b"\0\0\0\0"),
+        (0, &[FIRST, KEEP], *b"ab\0\0"),
+        (0, &[FIRST, TORN], *b"\xA5\xA5\0\0"),
+        (0, &[FIRST, Step::Sync, SECOND, LOSE], *b"ab\0\0"),
+        (0, &[FIRST, Step::Sync, SECOND, KEEP], *b"acd\0"),
+        (0, &[FIRST, Step::Sync, SECOND, TORN], *b"a\xA5\xA5\0"),
+        (0, &[FIRST, KEEP, SECOND, LOSE], *b"\0\0\0\0"),
+        (0, &[FIRST, KEEP, Step::Sync, LOSE], *b"ab\0\0"),
+        (1, &[FIRST, SECOND, KEEP], *b"\0cd\0"),
+        (1, &[FIRST, SECOND, TORN], *b"\0\xA5\xA5\0"),
+        (2, &[FIRST, SECOND, Step::Sync, LOSE], *b"ab\0\0"),
+        (2, &[FIRST, KEEP, SECOND, Step::Sync], *b"ab\0\0"),
+        (2, &[FIRST, Step::Sync, SECOND, LOSE], *b"\0\0\0\0"),
+        (2, &[FIRST, Step::Sync, SECOND, KEEP], *b"acd\0"),
+        (2, &[FIRST, Step::Sync, SECOND, TORN], *b"\xA5\xA5\xA5\0"),
     ];
     for (row, (fail, steps, want)) in table.iter().enumerate() {
         let mut disk = MemDisk::new(rt.alloc(), 4, [*fail].to_vec(rt.alloc())?)?;
-        assert_eq!(rt; failures(&mut disk, steps), 1, "at row {row}");
+        let failed = usize::from(*fail > 0);
+        assert_eq!(rt; failures(&mut disk, steps), failed, "at row {row}");
         assert_eq!(rt; first_four(&mut disk), Ok(*want), "at row {row}");
+        if *fail == 0 {
+            let mut sure = SureDisk::new(rt.alloc(), 4)?;
+            assert_eq!(rt; failures(&mut sure, steps), 0, "at row {row}");
+            assert_eq!(rt; sync_surely(&mut sure), Ok(()), "at row {row}");
+            assert_eq!(rt; first_four(&mut sure), Ok(*want), "at row {row}");
+        }
     }
     Ok(())
 }
@@ -247,6 +232,7 @@ fn failing_call_of_a_disk_changes_nothing(rt: HostRuntime) -> Result<(), Fail> {
 #[test]
 fn disk_in_memory_fails_at_the_read_that_is_named(rt: HostRuntime) -> Result<(), Fail> {
     let mut disk = MemDisk::new(rt.alloc(), 4, [2].to_vec(rt.alloc())?)?;
+    assert_eq!(rt; disk.len(), 4);
     assert_eq!(rt; first_four(&mut disk), Ok([0; 4]));
     assert_eq!(rt; first_four(&mut disk), Err(Failed));
     assert_eq!(rt; first_four(&mut disk), Ok([0; 4]));
@@ -254,58 +240,79 @@ fn disk_in_memory_fails_at_the_read_that_is_named(rt: HostRuntime) -> Result<(),
 }
 
 #[test]
-fn disk_in_memory_has_its_size(rt: HostRuntime) -> Result<(), Fail> {
-    let none = MemDisk::new(rt.alloc(), 0, Vec::new(rt.alloc()))?;
-    assert_eq!(rt; none.len(), 0);
-    let mut sure = SureDisk::new(rt.alloc(), 512)?;
-    assert_eq!(rt; sure.len(), 512);
-    assert_eq!(rt; sync_surely(&mut sure), Ok(()));
-    Ok(())
-}
-
-#[test]
 fn disk_in_a_file_keeps_old_bytes_until_the_first_write(rt: HostRuntime) -> Result<(), Fail> {
-    let path = "disk_in_a_longer_file";
-    fs::write(&rt, path, "abcdefgh")?;
-    let mut disk = FileDisk::at_path(&rt, path, 6)?;
-    assert_eq!(rt; disk.len(), 6);
-    assert_eq!(rt; first_four(&mut disk), Ok(*b"abcd"));
-    assert_eq!(rt; fs::read_to_string(&rt, path)?.as_str(), "abcdefgh");
-    assert_eq!(rt; put(&mut disk, 1, b"xy"), Ok(()));
-    assert_eq!(rt; sync_through(&mut disk), Ok(()));
-    disk.crash(Image::Lose);
-    assert_eq!(rt; first_four(&mut disk), Ok(*b"axyd"));
-    assert_eq!(rt; fs::read_to_string(&rt, path)?.as_str(), "axydef");
-    let mut other = FileDisk::at_path(&rt, path, 6)?;
-    assert_eq!(rt; first_four(&mut other), Ok(*b"axyd"));
+    let path = "disk_in_a_file";
+    let table = [
+        ("abcdefgh", *b"abcd", *b"axyd", "axydef"),
+        ("ab", *b"ab\0\0", *b"axy\0", "axy\0\0\0"),
+        ("", [0; 4], *b"\0xy\0", "\0xy\0\0\0"),
+    ];
+    for (found, before, after, kept) in table {
+        if !found.is_empty() {
+            fs::write(&rt, path, found)?;
+        }
+        let mut disk = FileDisk::at_path(&rt, path, 6)?;
+        assert_eq!(rt; disk.len(), 6);
+        assert_eq!(rt; first_four(&mut disk), Ok(before));
+        assert_eq!(rt; fs::read_to_string(&rt, path)?.as_str(), found);
+        assert_eq!(rt; put(&mut disk, 1, b"xy"), Ok(()));
+        assert_eq!(rt; sync_through(&mut disk), Ok(()));
+        disk.crash(Image::Lose);
+        assert_eq!(rt; first_four(&mut disk), Ok(after));
+        assert_eq!(rt; fs::read_to_string(&rt, path)?.as_str(), kept);
+        fs::remove_file(&rt, path)?;
+    }
+    Ok(())
+}
+
+#[test]
+fn file_is_refused_to_a_second_disk(rt: HostRuntime) -> Result<(), Fail> {
+    let path = "disk_in_a_locked_file";
+    let first = FileDisk::at_path(&rt, path, 4)?;
+    let second = FileDisk::at_path(&rt, path, 4).err();
+    assert_eq!(rt; second, Some(WriteError::Failed));
+    drop(first);
+    assert!(rt; FileDisk::at_path(&rt, path, 4).is_ok());
     fs::remove_file(&rt, path)?;
     Ok(())
 }
 
 #[test]
-fn disk_in_a_file_reads_zeros_that_are_not_there(rt: HostRuntime) -> Result<(), Fail> {
-    let path = "disk_in_a_shorter_file";
-    fs::write(&rt, path, "ab")?;
-    let mut disk = FileDisk::at_path(&rt, path, 6)?;
-    assert_eq!(rt; first_four(&mut disk), Ok(*b"ab\0\0"));
-    assert_eq!(rt; put(&mut disk, 3, b"x"), Ok(()));
-    assert_eq!(rt; first_four(&mut disk), Ok(*b"ab\0x"));
-    assert_eq!(rt; fs::read_to_string(&rt, path)?.as_str(), "ab\0x\0\0");
-    fs::remove_file(&rt, path)?;
-    Ok(())
-}
-
-#[test]
-fn disk_in_a_file_is_made_or_refused(rt: HostRuntime) -> Result<(), Fail> {
-    let path = "disk_in_a_new_file";
-    let mut disk = FileDisk::at_path(&rt, path, 4)?;
-    assert_eq!(rt; first_four(&mut disk), Ok([0; 4]));
-    assert_eq!(rt; fs::read_to_string(&rt, path)?.as_str(), "");
-    fs::remove_file(&rt, path)?;
-    for path in ["no_folder_here/disk", "."] {
+fn file_is_refused_with_its_folder(rt: HostRuntime) {
+    // A missing folder, a folder for a file, and a file whose folder has no sync.
+    for path in ["no_folder_here/disk", ".", "/proc/self/comm"] {
         let refused = FileDisk::at_path(&rt, path, 4).err();
         assert_eq!(rt; refused, Some(WriteError::Failed), "at {path}");
     }
+}
+
+#[test]
+fn disk_in_a_file_is_broken_after_a_length_that_fails(rt: HostRuntime) -> Result<(), Fail> {
+    let path = "disk_in_a_file_that_is_too_long";
+    let mut disk = FileDisk::at_path(&rt, path, 1 << 63)?;
+    assert_eq!(rt; first_four(&mut disk), Ok([0; 4]));
+    assert_eq!(rt; sync_through(&mut disk), Ok(()));
+    assert_eq!(rt; put(&mut disk, 0, b"ab"), Err(Failed));
+    assert_eq!(rt; first_four(&mut disk), Err(Failed));
+    assert_eq!(rt; put(&mut disk, 0, b"ab"), Err(Failed));
+    assert_eq!(rt; sync_through(&mut disk), Err(Failed));
+    fs::remove_file(&rt, path)?;
+    Ok(())
+}
+
+#[test]
+fn disk_in_a_file_is_broken_after_a_sync_that_fails(rt: HostRuntime) -> Result<(), Fail> {
+    // A file of the process that has no sync.
+    let path = "disk_in_a_file_without_sync";
+    rt.symlink("/proc/self/comm", path)?;
+    let mut disk = FileDisk::at_path(&rt, path, 4)?;
+    assert_eq!(rt; put(&mut disk, 0, b"ab"), Ok(()));
+    assert!(rt; first_four(&mut disk).is_ok());
+    assert_eq!(rt; sync_through(&mut disk), Err(Failed));
+    assert_eq!(rt; first_four(&mut disk), Err(Failed));
+    assert_eq!(rt; put(&mut disk, 0, b"ab"), Err(Failed));
+    assert_eq!(rt; sync_through(&mut disk), Err(Failed));
+    fs::remove_file(&rt, path)?;
     Ok(())
 }
 

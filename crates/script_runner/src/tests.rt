@@ -17,7 +17,7 @@ fn replay(alloc: Global) -> Result<Vec<String>, AllocError> {
 
 /// A disk for the log, whose calls of these numbers fail.
 fn disk(alloc: Global, fail: &[u64]) -> Result<MemDisk, AllocError>
-    ensures { IfOk result (λ d. length d.kept ≡ 524800) }
+    ensures { IfOk result (λ d. length d.images.kept ≡ 524800) }
 {
     MemDisk::new(alloc, 524_800, Vec::from_slice(alloc, fail)?)
 }
