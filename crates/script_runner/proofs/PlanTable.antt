@@ -48,11 +48,11 @@ pub planned-none : ArePlanned [] [] []
 planned-none = record { enlistment = λ e. refl; clone = λ c. refl }
 
 -- the first of two where the test passes, and else the second
-chosen : {A : Type 0} {b : Bool} {x y : A} → b ≡ true → (if b then x else y) ≡ x
-chosen k = rw k refl
+chosen : {A : Type 0} {b : Bool} (x y : A) → b ≡ true → (if b then x else y) ≡ x
+chosen x y k = rw k refl
 
-passed : {A : Type 0} {b : Bool} {x y : A} → b ≡ false → (if b then x else y) ≡ y
-passed k = rw k refl
+passed : {A : Type 0} {b : Bool} (x y : A) → b ≡ false → (if b then x else y) ≡ y
+passed x y k = rw k refl
 
 -- after one enlistment's place was written
 pub planned_put : (made new : List Made) (body : Body) (e : EnlNo) (said : Made) (place : ℕ) → place + 1 ≡ e.value
@@ -64,11 +64,11 @@ planned_put made new body e said place at says put f =
       | inl k ↦
           let here : f.value - 1 ≡ place = omega (arith, at, k.1) in
           let there : ((f.value - 1) == place) ≡ true = grind (arith, nat_tests, here) in
-          put (f.value - 1) ∙ chosen there ∙ ap (λ (m : Made). or_made m (get_or made place unmade)) (sym (says f.value ∙ chosen k.0))
+          put (f.value - 1) ∙ chosen _ _ there ∙ ap (λ (m : Made). or_made m (get_or made place unmade)) (sym (says f.value ∙ chosen _ _ k.0))
           ∙ ap (λ (n : ℕ). or_made (made_by f.value body) (get_or made n unmade)) (sym here)
       | inr k ↦
           let other : ((f.value - 1) == place) ≡ false = grind (arith, nat_tests, at, k.1, f.in_range.0) in
-          put (f.value - 1) ∙ passed other ∙ ap (λ (m : Made). or_made m (get_or made (f.value - 1) unmade)) (sym (says f.value ∙ passed k.0))
+          put (f.value - 1) ∙ passed _ _ other ∙ ap (λ (m : Made). or_made m (get_or made (f.value - 1) unmade)) (sym (says f.value ∙ passed _ _ k.0))
     ]
 
 -- after one clone's place was written
@@ -79,10 +79,10 @@ owned_put clones new t c kind place at put f =
     elim (eqb_tells f.value c.value) [
       | inl k ↦
           let there : ((f.value - 1) == place) ≡ true = grind (arith, nat_tests, at, k.1) in
-          put (f.value - 1) ∙ chosen there ∙ ap (λ (o : Option TxNo). or_else o (get_or clones (f.value - 1) None)) (sym (chosen k.0))
+          put (f.value - 1) ∙ chosen _ _ there ∙ ap (λ (o : Option TxNo). or_else o (get_or clones (f.value - 1) None)) (sym (chosen _ _ k.0))
       | inr k ↦
           let other : ((f.value - 1) == place) ≡ false = grind (arith, nat_tests, at, k.1, f.in_range.0) in
-          put (f.value - 1) ∙ passed other ∙ ap (λ (o : Option TxNo). or_else o (get_or clones (f.value - 1) None)) (sym (passed k.0))
+          put (f.value - 1) ∙ passed _ _ other ∙ ap (λ (o : Option TxNo). or_else o (get_or clones (f.value - 1) None)) (sym (passed _ _ k.0))
     ]
 
 -- an item was put at a place of a table
@@ -90,8 +90,8 @@ pub put_there : {A : Type 0} (xs ys : List A) (place : ℕ) (blank item : A) →
     → (k : ℕ) → get_or (set ys place item) k blank ≡ (if k == place then item else get_or xs k blank)
 put_there xs ys place blank item room same k =
     elim (eqb_tells k place) [
-      | inl e ↦ get_or-set_at ys place k item blank e.1 room ∙ sym (chosen e.0)
-      | inr e ↦ get_or-set_other ys place k item blank e.1 ∙ same k ∙ sym (passed e.0)
+      | inl e ↦ get_or-set_at ys place k item blank e.1 room ∙ sym (chosen _ _ e.0)
+      | inr e ↦ get_or-set_other ys place k item blank e.1 ∙ same k ∙ sym (passed _ _ e.0)
     ]
 
 -- what follows from what is said of Ok

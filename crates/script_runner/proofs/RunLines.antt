@@ -1,5 +1,7 @@
 -- Which lines of a script are run.
-use Rattle.std.proofs.Common.{◌≡◌, ℕ, zero, suc, ◌+◌, ◌-◌, ◌<◌, true, false, List, [], ◌∷◌, ◌++◌, length, take, get_or, slice_get, Some, None, ap, sym, ◌∙◌, subst, arith}
+use Rattle.std.proofs.Common.{◌≡◌, ℕ, Bool, Option, zero, suc, ◌+◌, ◌-◌, ◌<◌, true, false, List, [], ◌∷◌, ◌++◌, length, take, get_or, slice_get, Some, None, refl, ap, sym, ◌∙◌, subst, arith}
+use Rattle.std.specs.Prelude.{IfNone, IfSome}
+use Rattle.std.specs.Option.{is_none}
 use Rattle.std.proofs.lemmas.Option.{slice_get-get_or}
 use Rattle.dtx_values.specs.declared.script.Line.{Line}
 use Rattle.dtx_model.specs.Grammar.{IsNotRun, are_run, is_run_line}
@@ -58,3 +60,12 @@ one_not_run s (suc n) (suc m) a b =
     let up = run_before s n m a.line a.stands (subst (λ k. is_run_line (past_of (take k s)) a.line ≡ false) n_same a.not_run) (subst (λ k. are_run (take k s) ≡ true) m_same b.before) in
     let down = run_before s m n b.line b.stands (subst (λ k. is_run_line (past_of (take k s)) b.line ≡ false) m_same b.not_run) (subst (λ k. are_run (take k s) ≡ true) n_same a.before) in
     omega (arith, up, down)
+
+-- each line is run exactly where the first that isn't was not found
+pub none_to_build : (o : Option ℕ) (s : List Line) → IfSome o (λ i. IsNotRun s (i + 1)) → IfNone o (are_run s ≡ true) → is_none o ≡ are_run s
+none_to_build None s some none = sym none
+none_to_build (Some i) s some none = step (are_run s) refl
+  where
+    step : (b : Bool) → are_run s ≡ b → false ≡ b
+    step true e = absurd (all_run_none s (i + 1) e some)
+    step false e = refl

@@ -13,8 +13,9 @@ mod runnable;
 mod tests;
 mod transfer;
 
+pub use coordinator_log::LOG_BYTES;
 pub use exit::Exit;
-pub use program::{LOG_BYTES, run_program};
+pub use program::run_program;
 pub use replay::run_replay;
 pub use runnable::is_runnable;
 pub use script_text::BadCause;

@@ -7,7 +7,8 @@ ghost use Rattle.dtx_values.specs.declared.limits.TheConstants.{SCRIPT_BYTES};
 ghost use Rattle.dtx_values.specs.declared.script.BadCause.{BadCause};
 ghost use Rattle.dtx_model.specs.Grammar.{IsNotYet, IsScript, Reads, are_run};
 ghost use Rattle.dtx_model.specs.Log.{log_has};
-ghost use Rattle.script_runner.specs.Temp.{AllHold};
+ghost use Rattle.coordinator_log.specs.Crash.{AllHold};
+ghost use Rattle.coordinator_log.specs.declared.layout.TheConstants.{LOG_BYTES};
 ghost use Rattle.dtx_model.specs.Faults.{Bad};
 ghost use Rattle.script_runner.specs.Program.{AreWords, IsCutShort, IsWritten};
 ghost use Rattle.script_runner.specs.Judged.{IsJudged};
@@ -22,9 +23,6 @@ use outside::{Disk, Sink, Source};
 use script_text::{BadCause, Script, ScriptError, read_script, reads_exactly};
 use std::alloc::{AllocError, Global};
 use trace_text::print_trace;
-
-/// temp
-pub const LOG_BYTES: u64 = 524_800;
 
 /// Whether the words are the one word `replay`.
 fn are_words(words: &[String]) -> bool

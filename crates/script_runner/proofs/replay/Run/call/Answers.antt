@@ -18,6 +18,12 @@ call-requires-clause-ready c =
     subst (λ (g : Half). IsReady g.seen c.args.c.now) (sym at)
     (subst (λ (r : RunState). IsReady (observe (history c.args.t.value (past_of r.trace))) c.args.c.now) (sym c.self.view_is) c.requires)
 
+pub invariant_of-self : goal.invariant_of-self
+invariant_of-self c = (c.reach.ensures.tied _ c.self.invariant.0, c.self.invariant.1)
+
+pub invariant_of-self-in_err-reserve : goal.invariant_of-self-in_err-reserve
+invariant_of-self-in_err-reserve c = (rw c.reserve.ensures.items (c.reach.ensures.tied _ c.self.invariant.0), c.self.invariant.1)
+
 pub invariant_of-self-2 : goal.invariant_of-self-2
 invariant_of-self-2 c =
     let h = c.index_mut-half.result.now in

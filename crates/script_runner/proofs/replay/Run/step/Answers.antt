@@ -1,11 +1,27 @@
-use Rattle.std.proofs.Common.{◌≡◌, ◌+◌, ◌-◌, ◌<◌, ◌≤◌, ◌++◌, arith, length, refl, subst, ap, sym, ◌∙◌}
-use Rattle.dtx_model.specs.Words.{kth}
-use Rattle.dtx_model.specs.Replay.{placed}
+use Rattle.std.proofs.Common.{◌≡◌, ◌+◌, ◌-◌, ◌<◌, ◌≤◌, ◌++◌, arith, length, None, refl, subst, ap, sym, ◌∙◌}
+use Rattle.dtx_model.specs.Words.{kth, past_of}
+use Rattle.dtx_model.specs.Observed.{observe}
+use Rattle.dtx_model.specs.Replay.{history, placed}
 use Rattle.dtx_model.specs.Steps.{block, pending}
 use Rattle.local_half.specs.Half.{Half}
 use Rattle.script_runner.specs.RunState.{Advances, RunState}
 use Rattle.script_runner.proofs.Ties.{half-at, pending-none, tied_after, trace_after}
 use Rattle.script_runner.proofs.replay.Run.step.Goals as goal
+
+pub returns-then-len-index-clause-none : goal.returns-then-len-index-clause-none
+returns-then-len-index-clause-none c k =
+    let more : length c.self.inside.halves.items < c.args.t.value = omega (arith, c.index.ensures.place, c.if-len-index.true, c.len.ensures) in
+    subst (λ (r : RunState). kth (pending r.script (observe (history c.args.t.value (past_of r.trace)))) c.args.k ≡ None) c.self.view_is
+    (pending-none c.self.inside.plans c.self.inside.halves.items c.self.inside.trace.items c.args.t c.args.k c.self.invariant.0 more)
+
+pub returns-then-not-step-clause-none : goal.returns-then-not-step-clause-none
+returns-then-not-step-clause-none c k =
+    let h = c.index_mut-half.result.now in
+    let place : c.index-2.result ≡ c.args.t.value - 1 = omega (arith, c.index-2.ensures.place) in
+    let made : c.args.t.value ≤ length c.self.inside.halves.items = omega (arith, c.index.ensures.place, c.if-len-index.false, c.len.ensures) in
+    let at = half-at c.self.inside.halves.items c.self.inside.trace.items c.args.t h c.self.invariant.0 made (rw place at c.index_mut-half.ensures.value) in
+    subst (λ (r : RunState). kth (pending r.script (observe (history c.args.t.value (past_of r.trace)))) c.args.k ≡ None) c.self.view_is
+    (subst (λ (g : Half). kth (pending c.self.inside.plans g.seen) c.args.k ≡ None) at (c.step.ensures.none c.if-not-step.true))
 
 pub invariant_of-self-2 : goal.invariant_of-self-2
 invariant_of-self-2 c =
