@@ -2,7 +2,7 @@
 ghost use Rattle.std.specs.Prelude.{◌≡◌, ◌⊎◌, ℕ, length, true, IsTrue, Ok, OnOk, Result};
 ghost use Rattle.dtx_values.specs.declared.record.LogRecord.{LogRecord};
 ghost use Rattle.dtx_model.specs.Log.{CommitRecord, record_at, record_of, without_first_of};
-ghost use Rattle.dtx_model.specs.RecoveryInfo.{is_id};
+ghost use Rattle.dtx_values.specs.RecoveryInfo.{is_id};
 ghost use Rattle.coordinator_log.specs.Crash.{Appends, Frees, IsOpened, with_record};
 ghost use Rattle.coordinator_log.specs.Slots.{open_records};
 ghost use Rattle.coordinator_log.specs.Spelling.{record_bytes};

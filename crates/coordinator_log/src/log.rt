@@ -5,7 +5,7 @@ ghost use Rattle.std.specs.Option.{option_map};
 ghost use Rattle.outside.specs.Disk.{AreWithin};
 ghost use Rattle.outside.specs.Faults.{Rose};
 ghost use Rattle.dtx_model.specs.Log.{first_of, log_has, record_of, without_first_of};
-ghost use Rattle.dtx_model.specs.RecoveryInfo.{is_id};
+ghost use Rattle.dtx_values.specs.RecoveryInfo.{is_id};
 ghost use Rattle.coordinator_log.specs.Crash.{AllHold, AllHoldEither, Appends, Frees, IsLeftOf, IsOpened, with_record};
 ghost use Rattle.coordinator_log.specs.Slots.{Agrees, lowest_closed, open_records};
 ghost use Rattle.coordinator_log.specs.Stop.{BreaksOff, after_calls, is_done, stop_in};
@@ -120,7 +120,7 @@ impl<D: Disk> Log<D> {
     }
 
     /// Writes a record into the lowest slot whose gate is closed, and gives the slot's number: the record, a sync, the gate, a sync. After that every image has the record. No
-    /// crash tears it, whatever the call answers: [`no_crash_tears_the_log`](crate::no_crash_tears_the_log).
+    /// crash tears it, whatever the call answers: [`no_crash_tears_the_log`](crate::no_crash_tears_the_log). Its identifier is one; [`is_identifier`](crate::is_identifier) tests it.
     ///
     /// # Errors
     ///

@@ -1,6 +1,6 @@
 //! The log over disks in memory, by tables of cases.
 ghost use Rattle.std.specs.Prelude.{◌≡◌, ◌⊎◌, ◌≤◌, ◌<◌, ◌+◌, ◌^◌, length, true, IfOk, IsTrue};
-ghost use Rattle.dtx_model.specs.RecoveryInfo.{is_id};
+ghost use Rattle.dtx_values.specs.RecoveryInfo.{is_id};
 ghost use Rattle.coordinator_log.specs.Crash.{with_record};
 ghost use Rattle.coordinator_log.specs.Slots.{open_records};
 ghost use Rattle.dtx_model.specs.Log.{record_of};

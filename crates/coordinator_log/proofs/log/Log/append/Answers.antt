@@ -1,4 +1,4 @@
-use Rattle.std.proofs.Common.{◌≡◌, ◌<◌, refl, true, arith, inl, sym, ap, ◌∙◌, subst, List, ℕ, Option, None, Some, Ok, length, set}
+use Rattle.std.proofs.Common.{◌<◌, refl, arith, inl, sym, ap, ◌∙◌, subst, List, ℕ, Option, None, Some, Ok, length}
 use Rattle.std.specs.List.{insert}
 use Rattle.dtx_model.specs.Log.{CommitRecord, record_of}
 use Rattle.coordinator_log.specs.Slots.{Agrees, open_records}

@@ -1,4 +1,4 @@
-use Rattle.std.proofs.Common.{◌≡◌, ◌<◌, refl, true, arith, inl, sym, ap, ◌∙◌, subst, List, ℕ, Option, None, Ok, length, set}
+use Rattle.std.proofs.Common.{◌<◌, refl, arith, inl, sym, ap, ◌∙◌, subst, List, Option, None, Ok, length}
 use Rattle.dtx_model.specs.Log.{CommitRecord}
 use Rattle.coordinator_log.specs.Slots.{Agrees, open_records}
 use Rattle.coordinator_log.proofs.Agreement.{slot_open, log_either, log_by_test, all_freed, agrees_with, log_agrees, either_whole}
