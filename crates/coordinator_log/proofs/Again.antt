@@ -1,43 +1,22 @@
 -- What was written of a record is read again.
-use Rattle.std.proofs.Common.{◌≡◌, ℕ, zero, suc, ◌-◌, ◌+◌, ◌*◌, ◌/◌, ◌%◌, ◌^◌, ◌≤◌, ◌<◌, true, false, eqb, leb, get_or, List, [], ◌∷◌, ◌++◌, length, take, drop, Ok, refl, ap, ◌∙◌, append_assoc, arith}
+use Rattle.std.proofs.Common.{◌≡◌, ℕ, zero, suc, ◌-◌, ◌+◌, ◌*◌, ◌≤◌, true, leb, get_or, List, [], ◌∷◌, ◌++◌, length, take, drop, Ok, refl, ap, ◌∙◌, append_assoc, arith}
 use Rattle.std.specs.Prelude.{replicate, map}
 use Rattle.std.specs.List.{flat_map}
-use Rattle.std.specs.Int.{w64, from_be_bytes}
 use Rattle.std.proofs.lemmas.Bool.Decides.{nat_tests}
 use Rattle.std.proofs.lemmas.List.{length-append, length-map, length-replicate, length-take}
-use Rattle.std.proofs.lemmas.Nat.{from_be_bytes-to_be_bytes_8, from_le_bytes-to_le_bytes_4, from_le_bytes-to_le_bytes_2}
+use Rattle.std.proofs.lemmas.Nat.{from_le_bytes-to_le_bytes_2}
 use Rattle.dtx_values.specs.declared.number.EnlNo.{EnlNo}
 use Rattle.dtx_values.specs.declared.number.RmNo.{RmNo}
 use Rattle.dtx_values.specs.declared.record.LogRecord.{LogRecord}
-use Rattle.dtx_model.specs.Log.{CommitRecord, count_at, half_at, number_at, pair_at, pair_of, pairs_at, record_at, record_of, whole_at, zeros_at}
-use Rattle.dtx_model.specs.RecoveryInfo.{is_from_one, is_id}
-use Rattle.dtx_model.proofs.Halves.{from_be_bytes-to_be_bytes_16, to_halves}
-use Rattle.coordinator_log.specs.Spelling.{front_bytes, pair_bytes, record_bytes}
-
--- the manager of an enlistment's bytes is the enlistment's
-manager_again : (p : ℕ × ℕ) (z : List ℕ) → p.0 < 2 ^ 128 → whole_at 0 (pair_bytes p ++ z) ≡ p.0
-unfolding whole_at pair_bytes
-manager_again p z fits = from_be_bytes-to_be_bytes_16 p.0 fits
-
--- so is its number
-number_again : (p : ℕ × ℕ) (z : List ℕ) → p.1 < 2 ^ 32 → number_at 16 (pair_bytes p ++ z) ≡ p.1
-unfolding number_at pair_bytes
-number_again p z fits = from_le_bytes-to_le_bytes_4 p.1 fits
-
--- and 20 bytes are its own
-behind : (p : ℕ × ℕ) (z : List ℕ) → drop 20 (pair_bytes p ++ z) ≡ z
-unfolding pair_bytes
-behind p z = refl
+use Rattle.dtx_values.specs.RecoveryInfo.{identifier_in, is_id, pair_bytes, pair_of}
+use Rattle.dtx_values.proofs.Infos.{after_pair, id_again, pair_again, pair_long}
+use Rattle.dtx_model.specs.Log.{CommitRecord, count_at, from_place, pair_at, pairs_at, record_at, record_of, zeros_at}
+use Rattle.coordinator_log.specs.Spelling.{front_bytes, record_bytes}
 
 -- an enlistment's bytes are read as this enlistment
-pair_again : (place : ℕ) (p : RmNo × EnlNo) (z : List ℕ) → pair_at place (pair_bytes (pair_of p) ++ z) ≡ Ok (pair_of p)
+pair_at_again : (place : ℕ) (p : RmNo × EnlNo) (z : List ℕ) → pair_at place (pair_bytes (pair_of p) ++ z) ≡ Ok (pair_of p)
 unfolding pair_at
-pair_again place p z =
-    let rm = p.0.in_range in
-    let enl = p.1.in_range in
-    let manager : is_from_one 16 p.0.value ≡ true = grind (arith, nat_tests) in
-    let number : is_from_one 9999 p.1.value ≡ true = grind (arith, nat_tests) in
-    rw (manager_again (pair_of p) z (omega arith), number_again (pair_of p) z (omega arith), manager, number) refl
+pair_at_again place p z = ap (from_place place) (pair_again p z)
 
 -- the bytes of some enlistments are read as these, and what stands behind them is left
 pairs_again : (place : ℕ) (ps : List (RmNo × EnlNo)) (z : List ℕ) → pairs_at (length (map pair_of ps)) place (flat_map pair_bytes (map pair_of ps) ++ z) ≡ Ok (map pair_of ps, z)
@@ -46,7 +25,7 @@ pairs_again place [] z = refl
 pairs_again place (p ∷ ps) z =
     let b = flat_map pair_bytes (map pair_of ps) in
     let split : (pair_bytes (pair_of p) ++ b) ++ z ≡ pair_bytes (pair_of p) ++ (b ++ z) = append_assoc (pair_bytes (pair_of p)) b z in
-    rw (split, pair_again place p (b ++ z), behind (pair_of p) (b ++ z), pairs_again (place + 20) ps z) refl
+    rw (split, pair_at_again place p (b ++ z), after_pair (pair_of p) (b ++ z), pairs_again (place + 20) ps z) refl
 
 -- zeros are read as zeros
 zeros_again : (place n : ℕ) → zeros_at place (replicate n 0) ≡ Ok (place + n)
@@ -64,29 +43,15 @@ count_again : (r : CommitRecord) → length r.enlistments ≤ 16 → count_at 1 
 unfolding record_bytes front_bytes count_at
 count_again r few = from_le_bytes-to_le_bytes_2 (length r.enlistments) (omega arith)
 
--- the node, which is the upper half of the identifier
-node_again : (r : CommitRecord) → r.id / 2 ^ 64 < 2 ^ 64 → half_at 3 (record_bytes r) ≡ r.id / 2 ^ 64
-unfolding record_bytes front_bytes half_at
-node_again r fits = ap (λ (b : List ℕ). from_be_bytes w64 (take 8 b)) (to_halves r.id) ∙ from_be_bytes-to_be_bytes_8 (r.id / 2 ^ 64) fits
-
--- the lower half
-lower_again : (r : CommitRecord) → half_at 11 (record_bytes r) ≡ r.id % 2 ^ 64
-unfolding record_bytes front_bytes half_at
-lower_again r = ap (λ (b : List ℕ). from_be_bytes w64 (take 8 (drop 8 b))) (to_halves r.id) ∙ from_be_bytes-to_be_bytes_8 (r.id % 2 ^ 64) (omega arith)
-
--- both halves
-id_again : (r : CommitRecord) → r.id < 2 ^ 128 → whole_at 3 (record_bytes r) ≡ r.id
-unfolding record_bytes front_bytes whole_at
-id_again r fits = from_be_bytes-to_be_bytes_16 r.id fits
+-- then the identifier
+id_at_again : (r : CommitRecord) → is_id r.id ≡ true → identifier_in (drop 3 (record_bytes r)) ≡ Ok r.id
+unfolding record_bytes front_bytes
+id_at_again r valid = id_again r.id (flat_map pair_bytes r.enlistments ++ replicate (492 - 20 * length r.enlistments) 0) valid
 
 -- and the enlistments and zeros
 rest_again : (r : CommitRecord) → drop 19 (record_bytes r) ≡ flat_map pair_bytes r.enlistments ++ replicate (492 - 20 * length r.enlistments) 0
 unfolding record_bytes front_bytes
 rest_again r = refl
-
--- the halves of an identifier aren't 0, and fit
-id_halves : (n : ℕ) → is_id n ≡ true → (1 ≤ n / 2 ^ 64) × (n / 2 ^ 64 < 2 ^ 64) × (1 ≤ n % 2 ^ 64) × (n < 2 ^ 128)
-id_halves n valid = (grind (arith, nat_tests), grind (arith, nat_tests), grind (arith, nat_tests), grind (arith, nat_tests))
 
 -- at most 16 enlistments of an identifier that is one are read again
 again_of : (n : ℕ) (ps : List (RmNo × EnlNo)) → length ps ≤ 16 → is_id n ≡ true
@@ -96,11 +61,8 @@ again_of n ps few valid =
     let r : CommitRecord = record { id = n; enlistments = map pair_of ps } in
     let k = length (map pair_of ps) in
     let short : k ≤ 16 = omega (arith, length-map ps pair_of) in
-    let h = id_halves n valid in
     let count : leb k 16 ≡ true = grind (arith, nat_tests) in
-    let node : eqb (n / 2 ^ 64) 0 ≡ false = let above = h.0 in grind (arith, nat_tests) in
-    let lower : eqb (n % 2 ^ 64) 0 ≡ false = let above = h.2 in grind (arith, nat_tests) in
-    rw (format_again r, count_again r short, count, node_again r h.1, node, lower_again r, lower, rest_again r, pairs_again 20 ps (replicate (492 - 20 * k) 0), zeros_again (20 + 20 * k) (492 - 20 * k), id_again r h.3) refl
+    rw (format_again r, count_again r short, count, id_at_again r valid, rest_again r, pairs_again 20 ps (replicate (492 - 20 * k) 0), zeros_again (20 + 20 * k) (492 - 20 * k)) refl
 
 -- a record has at most 16 enlistments
 few_pairs : (r : LogRecord) → length (take r.count r.durables) ≤ 16
@@ -112,9 +74,8 @@ record_again r valid = again_of r.id (take r.count r.durables) (few_pairs r) val
 
 -- 20 bytes for each enlistment
 length-pairs : (ps : List (ℕ × ℕ)) → length (flat_map pair_bytes ps) ≡ 20 * length ps
-unfolding pair_bytes
 length-pairs [] = refl
-length-pairs (p ∷ ps) = let h = length-pairs ps in omega arith
+length-pairs (p ∷ ps) = let h = length-pairs ps in omega (arith, pair_long p, length-append (pair_bytes p) (flat_map pair_bytes ps))
 
 -- at most 16 enlistments and the zeros behind them are 511 bytes
 length-record : (r : CommitRecord) → length r.enlistments ≤ 16 → length (record_bytes r) ≡ 511

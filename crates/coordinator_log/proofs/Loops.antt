@@ -6,8 +6,8 @@ use Rattle.std.specs.Prelude.{replicate, map}
 use Rattle.std.specs.List.{flat_map}
 use Rattle.dtx_values.specs.declared.number.EnlNo.{EnlNo}
 use Rattle.dtx_values.specs.declared.number.RmNo.{RmNo}
-use Rattle.dtx_model.specs.Log.{◌>>=◌, pair_at, pair_of, pairs_at, zeros_at}
-use Rattle.coordinator_log.specs.Spelling.{pair_bytes}
+use Rattle.dtx_values.specs.RecoveryInfo.{pair_bytes, pair_of}
+use Rattle.dtx_model.specs.Log.{◌>>=◌, pair_at, pairs_at, zeros_at}
 
 -- what was read before, in front of what is still read
 abbrev pub with_front : List (ℕ × ℕ) → Result (List (ℕ × ℕ) × List ℕ) ℕ → Result (List (ℕ × ℕ) × List ℕ) ℕ
@@ -69,10 +69,6 @@ unfolding zeros_at
 zeros_done xs i place at le so_far =
     let one : zeros_at place (drop i xs) ≡ Ok place = rw (drop_all i xs le) refl in
     sym so_far ∙ one
-
--- two parts behind what stood there
-pub join_two : (x p q a b : List ℕ) → a ≡ x ++ p → b ≡ a ++ q → b ≡ x ++ (p ++ q)
-join_two x p q a b e f = f ∙ ap (λ (l : List ℕ). l ++ q) e ∙ append_assoc x p q
 
 -- three parts, and nothing behind them
 pub join_three : (p q r a b c : List ℕ) → a ≡ p → b ≡ a ++ q → c ≡ b ++ r → c ≡ (p ++ q ++ r) ++ []

@@ -1,5 +1,5 @@
 -- The calls that an armed stop counts.
-use Rattle.std.proofs.Common.{◌≡◌, ◌≤◌, ◌<◌, ◌+◌, ◌-◌, ℕ, Bool, true, false, cond, nat_lt, nat_le, Option, Some, None, refl, sym, ap, subst, ◌∙◌, inl, inr, arith}
+use Rattle.std.proofs.Common.{◌≡◌, ◌⊎◌, ◌≤◌, ◌<◌, ◌+◌, ◌-◌, ℕ, true, false, nat_lt, nat_le, Option, Some, None, refl, sym, ap, subst, ◌∙◌, inl, inr, arith}
 use Rattle.std.proofs.lemmas.Bool.{cases_Bool}
 use Rattle.std.proofs.lemmas.Bool.Decides.{nat_tests}
 use Rattle.dtx_values.specs.declared.Image.{Image}
@@ -144,3 +144,22 @@ done_first m s le = done_with m s.image s.passes le
 -- whether a write is done at which a stop comes is told by the image
 pub done_at : (m n : ℕ) (s : ArmedStop) → s.passes ≡ n → is_done m s ≡ nat_le m (done_before s.image n)
 done_at m n s e = ap (λ (k : ℕ). nat_le m (done_before s.image k)) e
+
+-- work that was broken off was so by a fault, or by the stop, which is armed no more
+pub used_up : (n : ℕ) (old new : Option ArmedStop) (fault : Type 0) → BreaksOff n old new fault → fault ⊎ (new ≡ None)
+used_up n None new fault b = inl (b.cause refl)
+used_up n (Some s) new fault b = elim (cases_Bool (nat_lt s.passes b.call)) [
+  | inl now ↦ let lt : s.passes < b.call = grind (arith, nat_tests) in inr (b.counted ∙ none_of b.call s lt)
+  | inr later ↦ let le : b.call ≤ s.passes = grind (arith, nat_tests) in inl (b.cause (unreached_of b.call s le))
+]
+
+-- the image of a stop that is armed still is the one that it was armed with
+pub image_kept : (n : ℕ) (old new : Option ArmedStop) → new ≡ after_calls n old → (s t : ArmedStop) → old ≡ Some s → new ≡ Some t → t.image ≡ s.image
+image_kept n None new e s t is now = absurd cc
+image_kept n (Some r) new e s t is now = elim (cases_Bool (nat_lt r.passes n)) [
+  | inl reached ↦ let lt : r.passes < n = grind (arith, nat_tests) in absurd (some_none t (sym now ∙ e ∙ none_of n r lt))
+  | inr later ↦
+      let le : n ≤ r.passes = grind (arith, nat_tests) in
+      let same : with_passes r.image (r.passes - n) ≡ Some t = sym (left_of n r le) ∙ sym e ∙ now in
+      cc
+]

@@ -35,6 +35,6 @@ Frees image id old new result = Turns (image new.disk) (open_records old.slots) 
 abbrev pub IsOpened : {D : Type 0} → (D → List ℕ) → D → LogState D → Type 0
 IsOpened seen disk log = log_has (seen disk) ≡ Ok (open_records log.slots)
 
--- the disk is what a crash with this wish leaves of a disk whose bytes are a log with these records; the wish decides only which, where a fault came too
+-- the disk is what a crash leaves of some disk: where no fault came, of one whose bytes are a log with these records
 abbrev pub IsLeftOf : {D : Type 0} → (D → List ℕ → Type 0) → (D → List ℕ) → Type 0 → List CommitRecord → D → Type 0
 IsLeftOf {D} leaves seen fault records disk = (d : D) × leaves d (seen disk) × (fault ⊎ (log_has (seen d) ≡ Ok records))

@@ -43,6 +43,6 @@ IsEither was k s c = HasSlots was (slots_of was) c ⊎ HasSlots was (set (slots_
 abbrev pub IsClosed : ℕ → List ℕ → Type 0
 IsClosed k b = slice_index_or (slots_of b) k (Err 0) ≡ Ok None
 
--- the gate of slot k is open, and a record stands behind it
+-- the gate of slot k is open, and a record comes after it
 abbrev pub IsOpen : ℕ → List ℕ → Type 0
 IsOpen k b = (r : CommitRecord) × (slice_index_or (slots_of b) k (Err 0) ≡ Ok (Some r))

@@ -1,18 +1,15 @@
 -- How a record is spelled.
 use Rattle.std.specs.Prelude.{ℕ, ◌≡◌, ◌-◌, ◌*◌, List, [], ◌∷◌, ◌++◌, length, replicate, Result, Ok, Err}
 use Rattle.std.specs.List.{flat_map}
-use Rattle.std.specs.Int.{w16, w32, w128, to_be_bytes, to_le_bytes}
+use Rattle.std.specs.Int.{w16, to_le_bytes}
+use Rattle.dtx_values.specs.RecoveryInfo.{id_bytes, pair_bytes}
 use Rattle.dtx_model.specs.Log.{CommitRecord}
-
--- an enlistment: the manager, and its number
-unfoldable pub pair_bytes : ℕ × ℕ → List ℕ
-pair_bytes p = to_be_bytes w128 p.0 ++ to_le_bytes w32 p.1
 
 -- the format, the number of enlistments and the identifier
 unfoldable pub front_bytes : CommitRecord → List ℕ
-front_bytes r = (1 ∷ []) ++ to_le_bytes w16 (length r.enlistments) ++ to_be_bytes w128 r.id
+front_bytes r = (1 ∷ []) ++ to_le_bytes w16 (length r.enlistments) ++ id_bytes r.id
 
--- the 511 bytes of a record behind its gate
+-- the 511 bytes of a record after its gate
 unfoldable pub record_bytes : CommitRecord → List ℕ
 record_bytes r = front_bytes r ++ flat_map pair_bytes r.enlistments ++ replicate (492 - 20 * length r.enlistments) 0
 

@@ -4,7 +4,7 @@ ghost use Rattle.outside.specs.Disk.{AreWithin, Follows, IsOnly, IsTorn, overwri
 ghost use Rattle.outside.specs.Faults.{Rose};
 ghost use Rattle.dtx_values.specs.declared.Image.{Image};
 ghost use Rattle.dtx_model.specs.Log.{record_of, slots_of};
-ghost use Rattle.dtx_model.specs.RecoveryInfo.{is_id};
+ghost use Rattle.dtx_values.specs.RecoveryInfo.{is_id};
 ghost use Rattle.coordinator_log.specs.Slots.{HasSlots, IsClosed, IsEither, IsOpen};
 ghost use Rattle.coordinator_log.specs.Stop.{BreaksOff, after_calls, at_write, is_done, stop_in};
 ghost use Rattle.coordinator_log.specs.declared.stop.ArmedStop.{ArmedStop};

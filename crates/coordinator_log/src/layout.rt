@@ -28,6 +28,12 @@ pub const RECORD_BYTES: usize = 511;
 /// The first byte of a record: its format.
 pub const FORMAT: u8 = 1;
 
+/// The place of the number of enlistments in a record, in two bytes with the lowest first.
+pub const COUNT: usize = 1;
+
+/// The place of the identifier in a record, in 16 bytes with the highest first.
+pub const IDENTIFIER: usize = 3;
+
 /// The place of the first enlistment in a record: after the format, the number of enlistments and the identifier.
 pub const FIRST_PAIR: usize = 19;
 

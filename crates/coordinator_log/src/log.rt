@@ -5,7 +5,7 @@ ghost use Rattle.std.specs.Option.{option_map};
 ghost use Rattle.outside.specs.Disk.{AreWithin};
 ghost use Rattle.outside.specs.Faults.{Rose};
 ghost use Rattle.dtx_model.specs.Log.{first_of, log_has, record_of, without_first_of};
-ghost use Rattle.dtx_model.specs.RecoveryInfo.{is_id};
+ghost use Rattle.dtx_values.specs.RecoveryInfo.{is_id};
 ghost use Rattle.coordinator_log.specs.Crash.{AllHold, AllHoldEither, Appends, Frees, IsLeftOf, IsOpened, with_record};
 ghost use Rattle.coordinator_log.specs.Slots.{Agrees, lowest_closed, open_records};
 ghost use Rattle.coordinator_log.specs.Stop.{BreaksOff, after_calls, is_done, stop_in};
@@ -49,7 +49,7 @@ impl<D: Disk> Model for Log<D> {
 }
 
 impl<D: Disk> Log<D> {
-    /// Makes the disk an empty log: writes zeros over all of it, syncs, writes the head and syncs. The log is up, its life is 0, and no stop is armed.
+    /// Makes the disk an empty log: after Ok each image that a crash can leave is one. The log is up, its life is 0, and no stop is armed.
     ///
     /// # Errors
     ///
@@ -101,7 +101,7 @@ impl<D: Disk> Log<D> {
         ensures fault { IfErr result (λ e. e.0 ≡ LogRefusal.Fault → Rose (D.faults disk) (D.faults e.1)) }
         ensures not_a_log { IsTrue D.honest → IfErr result (λ e. (p : ℕ) → e.0 ≡ LogRefusal.NotALog p → log_has (D.seen disk) ≡ Err p) }
         ensures memory { IfErr result (λ e. e.0 ≡ LogRefusal.Memory → e.1 ≡ disk) }
-        ensures left { IsTrue D.honest → IfErr result (λ e. (D.seen e.1 ≡ D.seen disk) × AreWithin (D.image disk) (D.image e.1)) }
+        ensures handed_back { IsTrue D.honest → IfErr result (λ e. (D.seen e.1 ≡ D.seen disk) × AreWithin (D.image disk) (D.image e.1)) }
         ensures size { IfErr result (λ e. D.size e.1 ≡ D.size disk) }
     {
         let mut disk = disk;
@@ -119,8 +119,9 @@ impl<D: Disk> Log<D> {
         }
     }
 
-    /// Writes a record into the lowest slot whose gate is closed, and gives the slot's number: the record, a sync, the gate, a sync. After that every image has the record. No
-    /// crash tears it, whatever the call answers: [`no_crash_tears_the_log`](crate::no_crash_tears_the_log).
+    /// Writes a record into the lowest slot whose gate is closed, and gives the slot's number: the record, a sync, the gate, a sync. After that every image has the record.
+    /// Whatever the call answers, a crash leaves the records as they were, or those with this one:
+    /// [`crashes_leave_whole_records`](crate::crashes_leave_whole_records). The record's identifier is one; [`is_identifier`](crate::is_identifier) tests it.
     ///
     /// # Errors
     ///
@@ -153,6 +154,8 @@ impl<D: Disk> Log<D> {
         // What is armed afterwards: four calls count, or those up to the one that broke the append off. A stop that was reached is armed no more, and has crashed the disk.
         ensures counted { OnOk result ((stop_in 4 self.old.armed ≡ None) × (self.new.armed ≡ after_calls 4 self.old.armed)) }
         ensures broken { IsErrOf result LogRefusal.StoppedNow → BreaksOff 4 self.old.armed self.new.armed (Rose (D.faults self.old.disk) (D.faults self.new.disk)) }
+        ensures used { IsErrOf result LogRefusal.StoppedNow → Rose (D.faults self.old.disk) (D.faults self.new.disk) ⊎ (self.new.armed ≡ None) }
+        ensures image { (s t : ArmedStop) → self.old.armed ≡ Some s → self.new.armed ≡ Some t → t.image ≡ s.image }
         ensures crashed { IsTrue D.honest → IsTrue self.old.is_up → (s : ArmedStop) → self.old.armed ≡ Some s → self.new.armed ≡ None
             → IsLeftOf (D.leaves s.image) D.seen (Rose (D.faults self.old.disk) (D.faults self.new.disk))
             (if is_done 3 s then with_record (record_of r.now) self.old.slots else open_records self.old.slots) self.new.disk }
@@ -173,8 +176,8 @@ impl<D: Disk> Log<D> {
         Ok(k as u16)
     }
 
-    /// Frees the record of the lowest slot with this identifier: closes the gate and syncs. After that every image has the same records without it. No crash tears it, whatever
-    /// the call answers: [`no_crash_tears_the_log`](crate::no_crash_tears_the_log).
+    /// Frees the record of the lowest slot with this identifier: closes the gate and syncs. After that every image has the same records without it. Whatever the call answers, a
+    /// crash leaves the records as they were, or those without this one: [`crashes_leave_whole_records`](crate::crashes_leave_whole_records).
     ///
     /// # Errors
     ///
@@ -204,6 +207,8 @@ impl<D: Disk> Log<D> {
         // What is armed afterwards: two calls count, or those up to the one that broke the free off. A stop that was reached is armed no more, and has crashed the disk.
         ensures counted { OnOk result ((stop_in 2 self.old.armed ≡ None) × (self.new.armed ≡ after_calls 2 self.old.armed)) }
         ensures broken { IsErrOf result LogRefusal.StoppedNow → BreaksOff 2 self.old.armed self.new.armed (Rose (D.faults self.old.disk) (D.faults self.new.disk)) }
+        ensures used { IsErrOf result LogRefusal.StoppedNow → Rose (D.faults self.old.disk) (D.faults self.new.disk) ⊎ (self.new.armed ≡ None) }
+        ensures image { (s t : ArmedStop) → self.old.armed ≡ Some s → self.new.armed ≡ Some t → t.image ≡ s.image }
         ensures crashed { IsTrue D.honest → IsTrue self.old.is_up → (s : ArmedStop) → self.old.armed ≡ Some s → self.new.armed ≡ None
             → IsLeftOf (D.leaves s.image) D.seen (Rose (D.faults self.old.disk) (D.faults self.new.disk))
             (if is_done 1 s then without_first_of id (open_records self.old.slots) else open_records self.old.slots) self.new.disk }

@@ -1,11 +1,11 @@
 //! The log over disks in memory, by tables of cases.
 ghost use Rattle.std.specs.Prelude.{◌≡◌, ◌⊎◌, ◌≤◌, ◌<◌, ◌+◌, ◌^◌, length, true, IfOk, IsTrue};
-ghost use Rattle.dtx_model.specs.RecoveryInfo.{is_id};
+ghost use Rattle.dtx_values.specs.RecoveryInfo.{is_id};
 ghost use Rattle.coordinator_log.specs.Crash.{with_record};
 ghost use Rattle.coordinator_log.specs.Slots.{open_records};
 ghost use Rattle.dtx_model.specs.Log.{record_of};
 
-use crate::{LOG_BYTES, Log, LogRefusal, no_crash_tears_the_log};
+use crate::{LOG_BYTES, Log, LogRefusal, crashes_leave_whole_records};
 use dtx_values::{EnlNo, LogRecord, RmNo};
 use outside::{Disk, Image, MemDisk};
 use std::alloc::{AllocError, Global};
@@ -104,7 +104,7 @@ fn refused_with(
 }
 
 #[test]
-fn bytes_that_are_no_log_are_refused_at_their_place(rt: HostRuntime) -> Result<(), Fail> {
+fn bytes_of_another_form_are_refused_at_their_place(rt: HostRuntime) -> Result<(), Fail> {
     let cases: [(u64, &[u8], Option<LogRefusal>); 6] = [
         (512, &[0], None),
         (1024, &[1], Some(LogRefusal::NotALog(1025))),
@@ -252,7 +252,7 @@ fn crashed<D: Disk + Drop>(
     ensures { IsTrue D.honest → IsTrue log.is_up → IfOk result (λ opened. (open_records opened.slots ≡ open_records log.slots)
         ⊎ (open_records opened.slots ≡ with_record (record_of r.now) log.slots)) }
 {
-    no_crash_tears_the_log::<D>();
+    crashes_leave_whole_records::<D>();
     let mut log = log;
     let _ = log.append(log.life(), r);
     let mut disk = log.into_disk();
@@ -261,7 +261,7 @@ fn crashed<D: Disk + Drop>(
 }
 
 #[test]
-fn no_crash_tears_an_append(rt: HostRuntime) -> Result<(), Fail> {
+fn a_crash_after_an_append_leaves_whole_records(rt: HostRuntime) -> Result<(), Fail> {
     let mut log = log(&rt, rt.alloc())?;
     log.arm(3, Image::Keep);
     match crashed(rt.alloc(), log, &record(&rt, 1), Image::Lose) {

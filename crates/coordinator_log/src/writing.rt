@@ -1,10 +1,10 @@
 //! Writes records.
 ghost use Rattle.std.specs.Prelude.{◌≡◌, ◌≤◌, ◌+◌, ◌++◌, ℕ, drop, length, take};
-ghost use Rattle.dtx_model.specs.Log.{pair_of, record_of};
-ghost use Rattle.coordinator_log.specs.Spelling.{pair_bytes, record_bytes};
+ghost use Rattle.dtx_model.specs.Log.{record_of};
+ghost use Rattle.coordinator_log.specs.Spelling.{record_bytes};
 
-use crate::layout::{FIRST_PAIR, FORMAT, PAIR_BYTES, RECORD_BYTES};
-use dtx_values::{EnlNo, LogRecord, RmNo};
+use crate::layout::{COUNT, FIRST_PAIR, FORMAT, IDENTIFIER, PAIR_BYTES, RECORD_BYTES};
+use dtx_values::{LogRecord, write_pair};
 
 /// Writes the bytes of a record that come after its gate.
 pub fn write_record(r: &LogRecord, into: &mut [u8])
@@ -16,23 +16,12 @@ pub fn write_record(r: &LogRecord, into: &mut [u8])
     let counts = (pairs.len() as u16).to_le_bytes();
     let ids = r.id.to_be_bytes();
     put(into, 0, &[FORMAT]);
-    put(into, 1, &counts);
-    put(into, 3, &ids);
+    put(into, COUNT, &counts);
+    put(into, IDENTIFIER, &ids);
     for (i, pair) in pairs.iter().enumerate() {
-        put_pair(into, FIRST_PAIR + PAIR_BYTES * i, *pair);
+        let bytes = write_pair(*pair);
+        put(into, FIRST_PAIR + PAIR_BYTES * i, &bytes);
     }
-}
-
-/// Writes an enlistment over the bytes from this place on.
-fn put_pair(into: &mut [u8], at: usize, pair: (RmNo, EnlNo))
-    requires { at + PAIR_BYTES ≤ length into.old }
-    ensures front { (n : ℕ) → n ≡ at + PAIR_BYTES → take n into.new ≡ take at into.old ++ pair_bytes (pair_of pair) }
-    ensures rest { (n : ℕ) → at + PAIR_BYTES ≤ n → drop n into.new ≡ drop n into.old }
-{
-    let managers = u128::from(pair.0.get()).to_be_bytes();
-    let numbers = pair.1.get().to_le_bytes();
-    put(into, at, &managers);
-    put(into, at + 16, &numbers);
 }
 
 /// Writes bytes over those from this place on.

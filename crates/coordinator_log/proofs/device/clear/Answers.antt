@@ -1,9 +1,7 @@
-use Rattle.std.proofs.Common.{◌≡◌, inl, inr, ℕ, ◌+◌, ◌*◌, ◌∷◌, [], List, length, set, Some, None, Ok, true, false, refl, arith, ◌≤◌, ◌∙◌, ap, sym, subst}
-use Rattle.outside.specs.Disk.{overwritten, IsOnly}
+use Rattle.std.proofs.Common.{inr, ℕ, ◌+◌, length, refl, arith, ◌≤◌, subst}
 use Rattle.outside.specs.Faults.{Rose}
-use Rattle.dtx_model.specs.Log.{record_of, slots_of}
 use Rattle.coordinator_log.proofs.Results.{on_err}
-use Rattle.coordinator_log.proofs.Stops.{breaks_at, done_at, done_first, none_passed, passed_more, reached_next, still_armed, undone}
+use Rattle.coordinator_log.proofs.Stops.{breaks_at, done_at, done_first, none_passed, passed_more, reached_next, still_armed}
 use Rattle.coordinator_log.proofs.SlotWrites.{along, by_test, clear_stage, cleared_stage, gate_stopped, same_bytes, unless_fault}
 use Rattle.coordinator_log.proofs.device.clear.Goals as goal
 

@@ -1,7 +1,7 @@
-use Rattle.std.proofs.Common.{◌≡◌, inl, inr, ℕ, ◌+◌, ◌*◌, ◌∷◌, [], List, length, set, Some, None, Ok, true, false, refl, arith, ◌≤◌, ◌∙◌, ap, sym, subst}
-use Rattle.outside.specs.Disk.{overwritten, IsOnly}
+use Rattle.std.proofs.Common.{◌≡◌, inl, inr, ℕ, ◌+◌, ◌*◌, length, true, false, refl, arith, ◌≤◌, ◌∙◌, ap, sym, subst}
+use Rattle.outside.specs.Disk.{IsOnly}
 use Rattle.outside.specs.Faults.{Rose}
-use Rattle.dtx_model.specs.Log.{record_of, slots_of}
+use Rattle.dtx_model.specs.Log.{record_of}
 use Rattle.coordinator_log.proofs.Results.{on_err}
 use Rattle.coordinator_log.proofs.Stops.{breaks_at, done_at, done_first, none_passed, passed_more, reached_next, still_armed, undone}
 use Rattle.coordinator_log.proofs.SlotWrites.{along, body_stage, body_stopped, by_test, done_stage, gate_stage, gate_stopped, unless_fault, written_behind}

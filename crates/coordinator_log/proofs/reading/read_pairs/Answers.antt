@@ -1,7 +1,7 @@
 use Rattle.std.proofs.Common.{◌≡◌, ◌++◌, ◌∷◌, [], map, take, arith, ◌∙◌, ap}
 use Rattle.std.proofs.lemmas.List.{map_push}
 use Rattle.std.proofs.lemmas.Result.{err_from_is_err_and}
-use Rattle.dtx_model.specs.Log.{pair_of}
+use Rattle.dtx_values.specs.RecoveryInfo.{pair_of}
 use Rattle.coordinator_log.proofs.Loops.{goes_on, ends, is_done}
 use Rattle.coordinator_log.proofs.reading.read_pairs.Goals as goal
 

@@ -4,8 +4,9 @@ use Rattle.std.specs.List.{flat_map}
 use Rattle.std.specs.Int.{w16, w128, to_be_bytes, to_le_bytes}
 use Rattle.dtx_values.specs.declared.number.EnlNo.{EnlNo}
 use Rattle.dtx_values.specs.declared.number.RmNo.{RmNo}
-use Rattle.dtx_model.specs.Log.{pair_of, record_of}
-use Rattle.coordinator_log.specs.Spelling.{front_bytes, pair_bytes, record_bytes}
+use Rattle.dtx_values.specs.RecoveryInfo.{pair_bytes, pair_of}
+use Rattle.dtx_model.specs.Log.{record_of}
+use Rattle.coordinator_log.specs.Spelling.{front_bytes, record_bytes}
 use Rattle.coordinator_log.proofs.Loops.{join_three, rest_more, pair_more, whole_of}
 use Rattle.coordinator_log.proofs.writing.write_record.Goals as goal
 
@@ -31,9 +32,10 @@ loop-i-preserved c =
     let f = front_bytes (record_of c.args.r.now) in
     let pair = ap (λ (p : RmNo × EnlNo). (f ++ flat_map pair_bytes (map pair_of (take i ps))) ++ pair_bytes (pair_of p)) c.index-pairs-i.is in
     record {
-      front = c.put_pair.ensures.front n (omega arith) ∙ ap (λ (l : List ℕ). l ++ pair_bytes (pair_of c.index-pairs-i.result)) c.loop-i.invariant.front ∙ pair
+      front = c.put-in-loop-i.ensures.front n (omega arith) ∙ ap (λ (l : List ℕ). take (19 + 20 * i) c.loop-i.into ++ l) c.write_pair-bytes.ensures
+          ∙ ap (λ (l : List ℕ). l ++ pair_bytes (pair_of c.index-pairs-i.result)) c.loop-i.invariant.front ∙ pair
           ∙ pair_more f ps i c.index-pairs-i.result c.loop-i-test.true;
-      rest = c.put_pair.ensures.rest n (omega arith) ∙ rest_more c.loop-i.into _ (19 + 20 * i) n (omega arith) c.loop-i.invariant.rest;
+      rest = c.put-in-loop-i.ensures.rest n (omega arith) ∙ rest_more c.loop-i.into _ (19 + 20 * i) n (omega arith) c.loop-i.invariant.rest;
       long = omega arith;
     }
 

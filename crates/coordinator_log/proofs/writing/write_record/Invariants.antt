@@ -1,8 +1,9 @@
 use Rattle.std.proofs.Common.{◌≡◌, ◌+◌, ◌*◌, ◌++◌, take, drop, map, length}
 use Rattle.std.specs.Prelude.{replicate}
 use Rattle.std.specs.List.{flat_map}
-use Rattle.dtx_model.specs.Log.{pair_of, record_of}
-use Rattle.coordinator_log.specs.Spelling.{front_bytes, pair_bytes}
+use Rattle.dtx_values.specs.RecoveryInfo.{pair_bytes, pair_of}
+use Rattle.dtx_model.specs.Log.{record_of}
+use Rattle.coordinator_log.specs.Spelling.{front_bytes}
 use Rattle.coordinator_log.proofs.writing.write_record.Given as goal
 
 abbrev pub invariant-loop-i : goal.invariant-loop-i

@@ -1,10 +1,11 @@
-use Rattle.std.proofs.Common.{◌≡◌, ◌<◌, refl, true, arith, inl, sym, ap, ◌∙◌, subst, List, ℕ, Option, None, Some, Ok, length, set}
+use Rattle.std.proofs.Common.{◌<◌, refl, arith, inl, sym, ap, ◌∙◌, subst, List, ℕ, Option, None, Some, Ok, length}
 use Rattle.std.specs.List.{insert}
 use Rattle.dtx_model.specs.Log.{CommitRecord, record_of}
 use Rattle.coordinator_log.specs.Slots.{Agrees, open_records}
 use Rattle.coordinator_log.proofs.Agreement.{insert_lowest, slot_formed, log_either, log_by_test, all_appended, either_appended, agrees_with, log_agrees, either_whole}
 use Rattle.coordinator_log.proofs.Results.{after_err}
 use Rattle.coordinator_log.proofs.SlotWrites.{unless_fault}
+use Rattle.coordinator_log.proofs.Stops.{image_kept, used_up}
 use Rattle.coordinator_log.proofs.log.Log.append.Goals as goal
 
 pub returns-then-not-self-clause-appends : goal.returns-then-not-self-clause-appends
@@ -103,3 +104,12 @@ returns-clause-appends g c =
       images = λ f left. either_appended _ _ ss a k lt (record_of c.args.r.now) f s.2 (c.store.ensures.images h a.durable closed f left);
       durable = all_appended _ _ ss a k lt (record_of c.args.r.now) _ _ s.2 (c.in_ok-store.ensures.done h a.durable closed) (c.in_ok-store.ensures.durable h);
     })
+
+pub returns-in_err-store-clause-used : goal.returns-in_err-store-clause-used
+returns-in_err-store-clause-used g c = rw (← c.self.view_is) (λ stopped. used_up _ _ _ _ c.in_err-store.ensures.broken)
+
+pub returns-in_err-store-clause-image : goal.returns-in_err-store-clause-image
+returns-in_err-store-clause-image g c = rw (← c.self.view_is) (image_kept _ _ _ c.in_err-store.ensures.broken.counted)
+
+pub returns-clause-image : goal.returns-clause-image
+returns-clause-image g c = rw (← c.self.view_is) (image_kept _ _ _ c.in_ok-store.ensures.passed.1)

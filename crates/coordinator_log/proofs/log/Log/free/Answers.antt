@@ -1,9 +1,10 @@
-use Rattle.std.proofs.Common.{◌≡◌, ◌<◌, refl, true, arith, inl, sym, ap, ◌∙◌, subst, List, ℕ, Option, None, Ok, length, set}
+use Rattle.std.proofs.Common.{◌<◌, refl, arith, inl, sym, ap, ◌∙◌, subst, List, Option, None, Ok, length}
 use Rattle.dtx_model.specs.Log.{CommitRecord}
 use Rattle.coordinator_log.specs.Slots.{Agrees, open_records}
 use Rattle.coordinator_log.proofs.Agreement.{slot_open, log_either, log_by_test, all_freed, agrees_with, log_agrees, either_whole}
 use Rattle.coordinator_log.proofs.Results.{after_err}
 use Rattle.coordinator_log.proofs.SlotWrites.{unless_fault}
+use Rattle.coordinator_log.proofs.Stops.{image_kept, used_up}
 use Rattle.coordinator_log.proofs.log.Log.free.Goals as goal
 
 pub returns-then-not-self-clause-frees : goal.returns-then-not-self-clause-frees
@@ -92,3 +93,12 @@ returns-clause-frees g c =
       images = λ f left. log_either _ _ ss a k lt None _ f c.in-Some.ensures.rest (c.clear.ensures.images h a.durable is_open f left);
       durable = all_freed _ _ ss a k lt _ _ _ c.in-Some.ensures.rest (c.in_ok-clear.ensures.done h a.durable is_open) (c.in_ok-clear.ensures.durable h);
     })
+
+pub returns-in_err-clear-clause-used : goal.returns-in_err-clear-clause-used
+returns-in_err-clear-clause-used g c = rw (← c.self.view_is) (λ stopped. used_up _ _ _ _ c.in_err-clear.ensures.broken)
+
+pub returns-in_err-clear-clause-image : goal.returns-in_err-clear-clause-image
+returns-in_err-clear-clause-image g c = rw (← c.self.view_is) (image_kept _ _ _ c.in_err-clear.ensures.broken.counted)
+
+pub returns-clause-image : goal.returns-clause-image
+returns-clause-image g c = rw (← c.self.view_is) (image_kept _ _ _ c.in_ok-clear.ensures.passed.1)
