@@ -37,6 +37,8 @@ fn write_before<D: Disk>(disk: &mut D, image: Image, at: u64, from: &[u8])
     match image {
         Image::Lose => (),
         Image::Keep | Image::Torn => {
+            // Whether it fails doesn't matter: the crash comes next, and the call is answered as broken off either way. What a failed write leaves in its range is
+            // among the images already.
             let _ = disk.write_at(at, from);
         }
     }
@@ -52,6 +54,7 @@ fn sync_before<D: Disk>(disk: &mut D, image: Image)
     match image {
         Image::Lose | Image::Torn => (),
         Image::Keep => {
+            // Whether it fails doesn't matter: the crash comes next. A sync that failed makes nothing safe.
             let _ = disk.sync();
         }
     }
@@ -145,10 +148,14 @@ pub fn store<D: Disk>(
         × (Rose (D.faults disk.old) (D.faults disk.new)
         ⊎ HasSlots (D.seen disk.old) (if is_done 3 s then set (slots_of (D.seen disk.old)) k (Ok (Some (record_of r.now))) else slots_of (D.seen disk.old)) (D.seen d)) }
 {
+    // This does nothing when it runs. It brings in that what is written of a record is read as that record.
     records_are_read_again();
     let mut record = [0; RECORD_BYTES];
     write_record(r, &mut record);
     let gate = slot_at(k);
+    // The record and its gate are two writes with a sync between. A crash may leave any bytes in a range that was written since the last sync. While the record is written
+    // the gate is closed and outside that range, so whatever is left of the record isn't looked at. When the gate is written the record is safe, and the range is one byte:
+    // it is 1, and the record counts, or it is anything else, and it doesn't. One write of all 512 bytes could leave an open gate and torn bytes.
     write(disk, armed, gate + 1, &record)?;
     sync(disk, armed)?;
     write(disk, armed, gate, &[OPEN])?;
@@ -180,6 +187,7 @@ pub fn clear<D: Disk>(disk: &mut D, armed: &mut Option<ArmedStop>, k: usize) -> 
         ⊎ HasSlots (D.seen disk.old) (if is_done 1 s then set (slots_of (D.seen disk.old)) k (Ok None) else slots_of (D.seen disk.old)) (D.seen d)) }
 {
     let gate = slot_at(k);
+    // One byte is enough: a record with a closed gate isn't looked at. Its bytes stay until the slot is used again.
     write(disk, armed, gate, &[CLOSED])?;
     sync(disk, armed)?;
     Ok(())

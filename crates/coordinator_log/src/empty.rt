@@ -46,6 +46,7 @@ pub fn blank<D: Disk>(disk: &mut D, zeros: &[u8]) -> Result<(), Failed>
     let head = written_head();
     disk.write_at(0, zeros)?;
     disk.sync()?;
+    // The head comes after the zeros are safe. A crash before it leaves no head, so no log, and never an old slot after a new head.
     disk.write_at(0, &head)?;
     disk.sync()
 }

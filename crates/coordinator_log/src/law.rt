@@ -31,7 +31,7 @@ pub fn crashes_leave_whole_records<D: Disk>()
         × OnOk result (open_records opened.slots ≡ without_first_of id (open_records old.slots)) }
 {}
 
-/// What was written of a record is read as this record.
+/// What was written of a record is read as this record. A law: the body is empty, and who calls this has the law in its proof.
 pub fn records_are_read_again()
     ensures again { (r : LogRecord) → is_id r.id ≡ true → record_at (record_bytes (record_of r)) ≡ Ok (record_of r) }
     ensures long { (r : LogRecord) → length (record_bytes (record_of r)) ≡ RECORD_BYTES }

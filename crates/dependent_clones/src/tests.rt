@@ -15,7 +15,7 @@ enum Call {
     Complete,
 }
 
-/// The calls in turn, each with its clone, its answer, and how many blocking and rollback clones are open behind it.
+/// The calls in turn, each with its clone, its answer, and how many blocking and rollback clones are open after it.
 fn calls(rt: &impl Abort) -> [(u32, Call, Result<(), CloneRefusal>, u8, u8); 11] {
     let [c1, c2, c9] = [1, 2, 9].map(|n| clone_no(rt, n));
     [

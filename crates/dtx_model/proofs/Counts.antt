@@ -19,7 +19,7 @@ how_many-insert_by p key x (y ∷ ys) =
       | false ↦ refl
     ]
 
--- as many pass behind a change that the test doesn't see
+-- as many pass after a change that the test doesn't see
 pub how_many-map : {A : Type 0} (p : A → Bool) (f : A → A) → ((x : A) → p (f x) ≡ p x) → (xs : List A) → how_many p (map f xs) ≡ how_many p xs
 how_many-map p f same [] = refl
 how_many-map p f same (x ∷ xs) = rw (same x, how_many-map p f same xs) refl

@@ -18,7 +18,7 @@ own = numerals_by_value (AllDigits 10) tells_digits
 pub digit_of_number : (w : List ℕ) (n i : ℕ) → n < 2 ^ 64 → i < length w → w ≡ decimal n → IsInRange 48 57 (get_or w i 0)
 digit_of_number w n i h k e = digit_at w i (subst (λ (v : List ℕ). AllDigits 10 v) (sym e) (digits_decimal own n (omega arith))) k
 
--- a digit's value is how far it stands behind `0`
+-- a digit's value is how far it stands after `0`
 pub digit_value-digit : (c : ℕ) → digit_value c < 10 → c ≡ digit_value c + 48
 digit_value-digit c h =
     let r = digit_from_value c h in

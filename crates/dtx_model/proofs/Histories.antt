@@ -11,7 +11,7 @@ use Rattle.dtx_model.specs.Observed.{observe, track, track_all}
 use Rattle.dtx_model.specs.Steps.{Calls, block}
 use Rattle.dtx_model.specs.Replay.{Placed, is_at, is_context, entries_at, history, at_context, placed, noted, after_step, after_calls}
 
--- two blocks behind each other are one
+-- two blocks after each other are one
 pub onto-append : {E : Type 0} (h xs ys : List E) → onto h (xs ++ ys) ≡ onto (onto h xs) ys
 onto-append h [] ys = refl
 onto-append h (x ∷ xs) ys = onto-append (x ∷ h) xs ys
@@ -20,13 +20,13 @@ onto-append h (x ∷ xs) ys = onto-append (x ∷ h) xs ys
 pub past_of-snoc : {E : Type 0} (xs : List E) (x : E) → past_of (xs ++ x ∷ []) ≡ x ∷ past_of xs
 past_of-snoc xs x = onto-append [] xs (x ∷ [])
 
--- what is observed behind a block is what was observed before, with what the block makes of it
+-- what is observed after a block is what was observed before, with what the block makes of it
 pub observe-onto : (h xs : List Entry) → observe (onto h xs) ≡ track_all (observe h) xs
 unfolding observe track track_all
 observe-onto h [] = refl
 observe-onto h (x ∷ xs) = observe-onto (x ∷ h) xs
 
--- a block at a place that passes is behind the entries at such places
+-- a block at a place that passes is after the entries at such places
 pub entries-same : (p : Place → Bool) (q : Place) (T : List Placed) (es : List Entry) → p q ≡ true → entries_at p (onto T (map (λ e. (q, e)) es)) ≡ onto (entries_at p T) es
 entries-same p q T [] k = refl
 entries-same p q T (x ∷ xs) k = entries-same p q ((q, x) ∷ T) xs k ∙ rw k refl
@@ -36,7 +36,7 @@ pub entries-other : (p : Place → Bool) (q : Place) (T : List Placed) (es : Lis
 entries-other p q T [] k = refl
 entries-other p q T (x ∷ xs) k = entries-other p q ((q, x) ∷ T) xs k ∙ rw k refl
 
--- a block of t's is behind t's history
+-- a block of t's is after t's history
 pub history-same : (t : ℕ) (u : TxNo) (T : List Placed) (es : List Entry) → (t == u.value) ≡ true → history t (onto T (placed u es)) ≡ onto (history t T) es
 history-same t u T es k = entries-same (is_at t) (Transaction u) T es k
 
@@ -48,7 +48,7 @@ history-other t u T es k = entries-other (is_at t) (Transaction u) T es k
 pub history-noted : (t : ℕ) (a : ActorNo) (T : List Placed) (es : List Entry) → history t (onto T (noted a es)) ≡ history t T
 history-noted t a T es = entries-other (is_at t) (Context a) T es refl
 
--- a block at actor a's context is behind the entries there
+-- a block at actor a's context is after the entries there
 pub context-same : (a : ℕ) (b : ActorNo) (T : List Placed) (es : List Entry) → (a == b.value) ≡ true → at_context a (onto T (noted b es)) ≡ onto (at_context a T) es
 context-same a b T es k = entries-same (is_context a) (Context b) T es k
 

@@ -18,7 +18,7 @@ past-reverse xs = onto-reverse [] xs
 pub length-past : {E : Type 0} (xs : List E) → length (past_of xs) ≡ length xs
 length-past xs = ap length (past-reverse xs) ∙ length-reverse xs
 
--- what holds of each with those before it, with others behind, held before
+-- what holds of each with those before it, with others after, held before
 pub always-before : {E : Type 0} (t : List E → E → Bool) (h xs : List E) → always t (onto h xs) ≡ true → always t h ≡ true
 always-before t h [] k = k
 always-before t h (x ∷ xs) k = and_right (t h x) (always t h) (always-before t (x ∷ h) xs k)

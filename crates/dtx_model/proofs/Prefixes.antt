@@ -48,7 +48,7 @@ pub unjust-later : (xs : List Entry) (i : ℕ) → justified (past_of (take i xs
 unfolding justified
 unjust-later xs i k = rw (past-split xs i) (always-onto is_just (past_of (take i xs)) (drop i xs) k)
 
--- and behind i entries that are just it asks for entry i alone
+-- and after i entries that are just it asks for entry i alone
 pub just-more : (xs : List Entry) (i : ℕ) (d : Entry) → i < length xs → justified (past_of (take (i + 1) xs)) ≡ (is_just (past_of (take i xs)) (get_or xs i d) && justified (past_of (take i xs)))
 unfolding justified
 just-more xs i d k = rw (past-more xs i d k) refl

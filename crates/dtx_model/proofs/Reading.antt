@@ -33,7 +33,7 @@ and_turn true false c = refl
 and_turn false true c = refl
 and_turn false false c = refl
 
--- one passes with a block behind: one passes in the block or in the history
+-- one passes with a block after: one passes in the block or in the history
 pub has-onto : {E : Type 0} (p : E → Bool) (h xs : List E) → has p (onto h xs) ≡ (has p xs || has p h)
 has-onto p h [] = refl
 has-onto p h (x ∷ xs) = has-onto p (x ∷ h) xs ∙ or_turn (p x) (has p xs) (has p h)
@@ -102,7 +102,7 @@ has-volatile p xs = has_past_item volatiles p (some_by_entry enlisted_of (λ x. 
 pub each-durable : (p : EnlNo × Class → Bool) (xs : List Entry) → each p (durables (past_of xs)) ≡ each (λ x. each p (durables (x ∷ []))) xs
 each-durable p xs = each_past_item durables p (some_by_entry enlisted_of (λ x. not (is_volatile x.1))) xs
 
--- the voters are the volatiles, and behind a promotion the durables too
+-- the voters are the volatiles, and after a promotion the durables too
 pub each-voter : (p : EnlNo × Class → Bool) (h : List Entry) → each p (voters h) ≡ (if has is_promoted h then each p (volatiles h) && each p (durables h) else each p (volatiles h))
 each-voter p h = elim (has is_promoted h) as (λ b. each p (cond b (volatiles h ++ durables h) (volatiles h)) ≡ cond b (each p (volatiles h) && each p (durables h)) (each p (volatiles h))) [ true ↦ list_all-append p (volatiles h) (durables h) | false ↦ refl ]
 

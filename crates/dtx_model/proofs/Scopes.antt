@@ -10,7 +10,7 @@ use Rattle.dtx_model.specs.Words.{has, put}
 use Rattle.dtx_model.specs.Scopes.{ScopeEntry, Opens, Finishes, Closes, finishes, closes, is_scope, open_before, open_scopes, with_complete, without}
 use Rattle.dtx_model.proofs.Bools.{or_swap}
 
--- of the entries behind, only those that close or finish a scope count
+-- of the entries after, only those that close or finish a scope count
 pub open-same : (a b : List ScopeEntry) → ((u : ℕ) → has (closes u) a ≡ has (closes u) b) → ((u : ℕ) → has (finishes u) a ≡ has (finishes u) b)
     → (es : List ScopeEntry) → open_before a es ≡ open_before b es
 open-same a b c f [] = refl

@@ -27,7 +27,7 @@ none_lasts (x ∷ xs) d p =
     (volatile_else x.class (or_first (is_durable x.class) (has (λ y. is_durable y.class) xs) d) (or_first (is_promotable x.class) (has (λ y. is_promotable y.class) xs) p))
     (none_lasts xs (or_second (is_durable x.class) (has (λ y. is_durable y.class) xs) d) (or_second (is_promotable x.class) (has (λ y. is_promotable y.class) xs) p))
 
--- a durable call that has no cause to promote stands behind nothing durable or promotable
+-- a durable call that has no cause to promote stands after nothing durable or promotable
 pub causeless : (xs : List Row) (single : Bool) → is_done (wait_for (cause_of xs single)) ≡ true → has is_lasting xs ≡ false
 unfolding cause_of
 causeless xs single k = step (has (λ x. is_durable x.class) xs) (has (λ x. is_promotable x.class) xs) single refl refl k

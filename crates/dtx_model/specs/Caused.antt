@@ -32,7 +32,7 @@ MayAnswer s h (Do t k n) m = m ≤ n
 MayAnswer s h (Await t) m = (is_some (observe h).told_client || is_empty (pending s (observe h))) ≡ true
 MayAnswer s h _ m = Unit {0}
 
--- the step may come behind this history: a call where its line gives it to t and it hasn't come yet, any other where it is pending
+-- the step may come after this history: a call where its line gives it to t and it hasn't come yet, any other where it is pending
 abbrev pub MayCome : List Line → ℕ → List Entry → Step → Type 0
 MayCome s t h (Calls n actor call m) = IsCallOf s t n actor call × (has (is_call n) h ≡ false) × MayAnswer s h call m
 MayCome s t h (Replies e r) = (k : ℕ) × (kth (pending s (observe h)) k ≡ Some (Replies e r))

@@ -179,7 +179,7 @@ command_forms =
     ∷ (word (codes "par") ∷ [])
     ∷ []
 
--- what of a form is left behind a word, where its first place allows the word
+-- what of a form is left after a word, where its first place allows the word
 abbrev pub behind : List ℕ → List Pattern → Option (List Pattern)
 behind w [] = None
 behind w (s ∷ f) = if allows s w then Some f else None
@@ -210,7 +210,7 @@ line_forms = line_of command_forms
 abbrev pub reach : List ℕ → ℕ
 reach bs = length (front bs) + (if has_newline bs then 1 else 0)
 
--- the first cause by the bytes of the line at the front, behind so many bytes: the first eight causes
+-- the first cause by the bytes of the line at the front, after so many bytes: the first eight causes
 unfoldable pub form_fault : ℕ → List ℕ → Option BadCause
 form_fault taken bs =
     if nat_lt SCRIPT_BYTES (taken + reach bs) then Some TooLong
@@ -219,7 +219,7 @@ form_fault taken bs =
     else if not (each (is_from 32 126) (front bs)) then Some BadByte
     else word_fault line_forms (words_of (front bs))
 
--- the first cause by the names of a line behind these ones: the last four causes
+-- the first cause by the names of a line after these ones: the last four causes
 abbrev pub name_fault : List Line → Line → Option BadCause
 name_fault before l =
     if not (each (λ n. not (is_made before n)) (makes l.body)) then Some NameTwice
@@ -228,7 +228,7 @@ name_fault before l =
     else if not (is_par_once before l.body) then Some ParTwice
     else None
 
--- the line at the front, behind these lines, is bad for this cause: by its bytes, or, where its bytes are those of a line, by its names
+-- the line at the front, after these lines, is bad for this cause: by its bytes, or, where its bytes are those of a line, by its names
 pub data IsBadFor (before : List Line) (rest : List ℕ) (c : BadCause) : Type 0 where
   ByForm : form_fault (length (script_text before)) rest ≡ Some c → IsBadFor before rest c
   ByNames : (l : Line) → form_fault (length (script_text before)) rest ≡ None → words_of (front rest) ≡ words l → is_in_range l.body ≡ true

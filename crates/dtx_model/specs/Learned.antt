@@ -53,7 +53,7 @@ breaks_off e Stopped = true
 breaks_off e (Cut (Again f) u w) = e == f.value
 breaks_off e _ = false
 
--- whoever came back at the entry was told, where these entries stand behind it: unless that was broken off, or nothing is decided at the coordinator
+-- whoever came back at the entry was told, where these entries stand after it: unless that was broken off, or nothing is decided at the coordinator
 abbrev pub is_answered : Bool → List Entry → Entry → Bool
 is_answered decided behind (Reenlisted e) = has (breaks_off e.value) behind || has (is_told e.value) behind || not decided
 is_answered decided behind _ = true

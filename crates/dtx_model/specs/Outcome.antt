@@ -37,7 +37,7 @@ volatiles h = filter (λ x. is_volatile x.1) (enlisted h)
 abbrev pub durables : List Entry → List (EnlNo × Class)
 durables h = filter (λ x. not (is_volatile x.1)) (enlisted h)
 
--- all volatiles vote, and behind a promotion the durables and promotables too
+-- all volatiles vote, and after a promotion the durables and promotables too
 abbrev pub voters : List Entry → List (EnlNo × Class)
 voters h = if has is_promoted h then volatiles h ++ durables h else volatiles h
 
@@ -95,7 +95,7 @@ is_veto_end h Voter Up = not (has is_yes_got h)
 is_veto_end h (OnEnl e) Up = not (has (is_vote_got e.value) h)
 is_veto_end h (Again e) d = false
 
--- the entry is a veto behind this history. A message that has no line counts as the end of its connection.
+-- the entry is a veto after this history. A message that has no line counts as the end of its connection.
 abbrev pub is_veto : List Entry → Entry → Bool
 is_veto h RollbackAsked = not (has is_yes h) && not (has is_any_hand h)
 is_veto h TimedOut = not (has is_yes h) && not (has is_any_hand h)
@@ -111,14 +111,14 @@ is_veto h (Down c d) = is_veto_end h c d
 is_veto h (Got c d m) = not (has_line c d m) && is_veto_end h c d
 is_veto h _ = false
 
--- a veto behind which no evidence stood yet
+-- a veto after which no evidence stood yet
 abbrev pub is_first_veto : List Entry → Entry → Bool
 is_first_veto past e = is_veto past e && not (evidence past)
 
 unfoldable pub vetoed : List Entry → Bool
 vetoed h = ever is_first_veto h
 
--- the owner was lost behind the handing, and hadn't answered
+-- the owner was lost after the handing, and hadn't answered
 abbrev pub is_lost_owner : List Entry → Entry → Bool
 is_lost_owner past (Lost e) = has (is_hand e.value) past && not (has (is_any_owner e.value) past)
 is_lost_owner past _ = false
@@ -165,7 +165,7 @@ may_tell h p Committed = evidence h
 may_tell h p Aborted = vetoed h && not (evidence h)
 may_tell h p InDoubt = hears_doubt h p && doubt h
 
--- what is told or decided by the entry may be told behind this history
+-- what is told or decided by the entry may be told after this history
 abbrev pub is_just : List Entry → Entry → Bool
 is_just past (Told p o) = may_tell past p o
 is_just past (Decided o) = may_tell past Client o

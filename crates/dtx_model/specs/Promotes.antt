@@ -106,12 +106,12 @@ abbrev pub is_told_abort : ℕ → Entry → Bool
 is_told_abort e (Told (Member f) Aborted) = e == f.value
 is_told_abort e _ = false
 
--- the history ends with an abort of an enlistment, which is told it directly behind
+-- the history ends with an abort of an enlistment, which is told it directly after
 abbrev pub ends_told : List Entry → Entry → Bool
 ends_told (Got (Enl e) Down EnlistAbort ∷ past) x = is_told_abort e.value x
 ends_told _ x = false
 
--- the history ends with a veto, a refusal or an abort; behind the abort of an enlistment it may have been told
+-- the history ends with a veto, a refusal or an abort; after the abort of an enlistment it may have been told
 abbrev pub ends_refused : List Entry → Bool
 ends_refused [] = false
 ends_refused (x ∷ past) = is_veto past x || is_refusal x || ends_told past x
@@ -121,7 +121,7 @@ abbrev pub identifier_of : ℕ → ℕ
 identifier_of t = 18446744073709551616 + t
 
 -- A promotion begins once, directly behind the first call that waits, and for that call's cause. It succeeds behind BEGUN and CREATED, and where a
--- durable or promotable stood at the start behind its ENLISTED. It fails directly behind a veto, a refusal or an abort. It does one of both at most.
+-- durable or promotable stood at the start after its ENLISTED. It fails directly after a veto, a refusal or an abort. It does one of both at most.
 abbrev pub keeps_order : List Line → ℕ → List Entry → Entry → Bool
 keeps_order s t past (Promoting c) = not (has is_promoting past) && is_first_wait s c past
 keeps_order s t past (Promoted u c) =

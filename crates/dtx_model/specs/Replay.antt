@@ -50,7 +50,7 @@ placed t es = map (λ e. (Transaction t, e)) es
 abbrev pub noted : ActorNo → List Entry → List Placed
 noted a es = map (λ e. (Context a, e)) es
 
--- the trace with the block of a step of t behind it
+-- the trace with the block of a step of t after it
 abbrev pub after_step : TxNo → Step → List Placed → List Placed
 after_step t m T = onto T (placed t (block (observe (history t.value T)) m))
 
@@ -71,24 +71,24 @@ pub record HasSettled (s : List Line) (t : TxNo) (m : ℕ) (start before : List 
   pub ran : StepsRan s t 1 m start before
   pub settled : Settled s (history t.value before)
 
--- what a line does by its own words: its call, behind the steps of a `do` or an `await`
+-- what a line does by its own words: its call, after the steps of a `do` or an `await`
 abbrev pub CallRan : List Line → ActorNo → ℕ → Option (TxNo × Call) → List Placed → List Placed → Type 0
 CallRan s a i (Some (t, Do u k n)) start T = (m : ℕ) × (before : List Placed) × HasDone s t k n m start before × (T ≡ after_step t (Calls i a (Do u k n) m) before)
 CallRan s a i (Some (t, Await u)) start T = (m : ℕ) × (before : List Placed) × HasSettled s t m start before × (T ≡ after_step t (Calls i a (Await u) 0) before)
 CallRan s a i (Some (t, c)) start T = T ≡ after_step t (Calls i a c 0) start
 CallRan s a i None start T = T ≡ start
 
--- the trace with these calls of line n behind it, each a step of its transaction
+-- the trace with these calls of line n after it, each a step of its transaction
 abbrev pub after_calls : ℕ → ActorNo → List (TxNo × Call) → List Placed → List Placed
 after_calls n a [] T = T
 after_calls n a (c ∷ cs) T = after_calls n a cs (after_step c.0 (Calls n a c.1 0) T)
 
--- the trace behind what line n writes as a scope line, where these scopes are open: its entries at its actor's context, and then the calls
+-- the trace after what line n writes as a scope line, where these scopes are open: its entries at its actor's context, and then the calls
 -- that it gives transactions. Behind a line that is none it is the same trace.
 abbrev pub after_scope : ℕ → Line → List OpenScope → List Placed → List Placed
 after_scope n l xs T = after_calls n l.actor (scope_calls l.body xs) (onto T (noted l.actor (scope_block n l.actor l.body xs)))
 
--- what a line does behind the lines before it
+-- what a line does after the lines before it
 abbrev pub LineRan : List Line → List Line → Line → List Placed → List Placed → Type 0
 LineRan s before l start T =
     CallRan s l.actor (suc (length before)) (call_of s l.body) (after_scope (suc (length before)) l (scopes_of l.actor.value before) start) T
@@ -102,7 +102,7 @@ LinesRan s (l ∷ before) T = (past : List Placed) × LinesRan s before past × 
 abbrev pub is_passed : ℕ → ℕ → ℕ → Bool
 is_passed u t v = if nat_le u t then nat_le u v && nat_lt v t else nat_le u v || nat_lt v t
 
--- at the end it is t's turn behind u's, with this step: the first that is pending at t, and going round from u nothing is pending before
+-- at the end it is t's turn after u's, with this step: the first that is pending at t, and going round from u nothing is pending before
 pub record IsTurn (s : List Line) (T : List Placed) (u : ℕ) (t : TxNo) (m : Step) : Type 0 where
   pub others : List Step
   pub first : pending s (observe (history t.value T)) ≡ m ∷ others
@@ -113,7 +113,7 @@ abbrev pub last_turn : List (TxNo × Step) → ℕ
 last_turn [] = 1
 last_turn (x ∷ xs) = x.0.value
 
--- behind the lines t1, t2 and so on were settled in rounds; these are the turns, newest first
+-- after the lines t1, t2 and so on were settled in rounds; these are the turns, newest first
 abbrev pub RoundsRan : List Line → List Placed → List (TxNo × Step) → List Placed → Type 0
 RoundsRan s start [] T = T ≡ start
 RoundsRan s start (x ∷ xs) T = (past : List Placed) × RoundsRan s start xs past × IsTurn s past (last_turn xs) x.0 x.1 × (T ≡ after_step x.0 x.1 past)

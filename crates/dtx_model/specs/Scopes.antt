@@ -31,12 +31,12 @@ abbrev pub closes : ℕ → ScopeEntry → Bool
 closes s (Closes u) = s == u.value
 closes s _ = false
 
--- the scope that the entry opened, where no `closed` of it stands behind; it is complete where a `finished` of it does
+-- the scope that the entry opened, where no `closed` of it stands after; it is complete where a `finished` of it does
 abbrev pub still_open : List ScopeEntry → ScopeEntry → Option OpenScope
 still_open behind (Opens s x i) = if has (closes s.value) behind then None else Some (record { scope = s; entered = x; isolation = i; complete = has (finishes s.value) behind })
 still_open behind _ = None
 
--- the scopes that are open of those that a history opened, where these entries stand behind it
+-- the scopes that are open of those that a history opened, where these entries stand after it
 abbrev pub open_before : List ScopeEntry → List ScopeEntry → List OpenScope
 open_before behind [] = []
 open_before behind (x ∷ past) = put (still_open behind x) (open_before (x ∷ behind) past)

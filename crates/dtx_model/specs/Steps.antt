@@ -119,7 +119,7 @@ abbrev pub unless_ended : Option Outcome → Answer → Answer
 unless_ended (Some x) a = Ended x
 unless_ended None a = a
 
--- an answer behind both
+-- an answer after both
 abbrev pub unless_over : Observed → Answer → Answer
 unless_over o a = if_begun o.limit (unless_ended o.decided a)
 
@@ -200,7 +200,7 @@ abbrev pub veto_if : Bool → List Entry
 veto_if true = veto
 veto_if false = []
 
--- the clock behind a tick: it stays at the last value of its u64
+-- the clock after a tick: it stays at the last value of its u64
 abbrev pub ticked : ℕ → ℕ → ℕ
 ticked c n = min (c + n) 18446744073709551615
 
@@ -294,12 +294,12 @@ commit_act true owner = []
 commit_act false (Some e) = Handed e ∷ []
 commit_act false None = Decided Committed ∷ []
 
--- behind the seal: the lowest that wasn't asked is asked; when all voted, the commit is handed over or decided
+-- after the seal: the lowest that wasn't asked is asked; when all voted, the commit is handed over or decided
 abbrev pub after_seal : Option EnlNo → Bool → List Entry → List Entry
 after_seal (Some e) voted commit = Asked e Prepare ∷ []
 after_seal None voted commit = if voted then commit else []
 
--- while nothing is decided: nothing before commit was asked, then phase zero, then what is behind the seal
+-- while nothing is decided: nothing before commit was asked, then phase zero, then what is after the seal
 abbrev pub undecided_act : Bool → Bool → List Entry → List Entry → List Entry
 undecided_act commit sealed before behind = if not commit then [] else if not sealed then before else behind
 

@@ -1,4 +1,4 @@
--- Words on histories. A history is read newest first: `e ∷ past` is the history `past` with e behind it.
+-- Words on histories. A history is read newest first: `e ∷ past` is the history `past` with e after it.
 use Rattle.std.specs.Prelude.{ℕ, zero, suc, Bool, true, false, ◌&&◌, ◌||◌, List, [], ◌∷◌, Option, Some, None, slice_get}
 use Rattle.std.specs.List.{list_any, list_all}
 
@@ -40,7 +40,7 @@ abbrev pub all_of : {E A : Type 0} → (E → Option A) → List E → List A
 all_of f [] = []
 all_of f (e ∷ past) = put (f e) (all_of f past)
 
--- the history with a block of entries behind it, the block's first entry first
+-- the history with a block of entries after it, the block's first entry first
 abbrev pub onto : {E : Type 0} → List E → List E → List E
 onto past [] = past
 onto past (e ∷ es) = onto (e ∷ past) es

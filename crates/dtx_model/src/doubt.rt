@@ -40,7 +40,7 @@ fn is_lost_owner(h: &[Entry], x: &Entry) -> bool
     }
 }
 
-/// Whether an owner was lost behind the handing without an answer.
+/// Whether an owner was lost after the handing without an answer.
 #[tactic(auto, using(crate::proofs::Prefixes::prefixes))]
 fn has_lost_owner(h: &[Entry]) -> bool
     ensures { result ≡ ever is_lost_owner (past_of h.now) }
@@ -53,7 +53,7 @@ fn has_lost_owner(h: &[Entry]) -> bool
     false
 }
 
-/// Whether the owner answered in doubt, or was lost behind the handing without an answer.
+/// Whether the owner answered in doubt, or was lost after the handing without an answer.
 #[tactic(auto, using(crate::proofs::Reading::reading), unfolding(crate::specs::Outcome::owner_doubt))]
 fn is_owner_in_doubt(h: &[Entry]) -> bool
     ensures { result ≡ owner_doubt (past_of h.now) }

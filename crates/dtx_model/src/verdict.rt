@@ -23,7 +23,7 @@ pub enum Verdict {
     Disagree(usize),
 }
 
-/// Whether this party may be told this outcome behind h.
+/// Whether this party may be told this outcome after h.
 #[tactic(auto, unfolding(crate::specs::Outcome::may_tell))]
 fn may_tell(h: &[Entry], p: Party, o: Outcome) -> bool
     ensures { result ≡ may_tell (past_of h.now) p o }
@@ -35,7 +35,7 @@ fn may_tell(h: &[Entry], p: Party, o: Outcome) -> bool
     }
 }
 
-/// Whether what the entry tells or decides may be told behind h. A decision counts as told to the client.
+/// Whether what the entry tells or decides may be told after h. A decision counts as told to the client.
 fn is_just(h: &[Entry], x: &Entry) -> bool
     ensures { result ≡ is_just (past_of h.now) x.now }
 {
@@ -126,7 +126,7 @@ mod tests {
                 ],
                 Verdict::Fine,
             ),
-            // An owner that answers committed behind a told aborted.
+            // An owner that answers committed after a told aborted.
             (
                 &[
                     Entry::RollbackAsked,
@@ -217,7 +217,7 @@ mod tests {
                 ],
                 Verdict::NotJustified(5),
             ),
-            // The record, behind a promotion.
+            // The record, after a promotion.
             (
                 &[
                     Entry::Enlisted(e1, Class::DurableTwo),
@@ -229,7 +229,7 @@ mod tests {
                 ],
                 Verdict::Fine,
             ),
-            // Both connections end behind the local yes.
+            // Both connections end after the local yes.
             (
                 &[
                     Entry::LocalYes,

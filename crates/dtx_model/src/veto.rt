@@ -12,7 +12,7 @@ use crate::scans::{
 };
 use dtx_values::{CloneKind, Conn, Dir, Entry, Outcome, Request, Vote};
 
-/// Whether the end of this connection, seen on this side, is a veto behind h.
+/// Whether the end of this connection, seen on this side, is a veto after h.
 #[tactic(auto, using(crate::proofs::Reading::reading))]
 fn is_veto_end(h: &[Entry], c: Conn, d: Dir) -> bool
     ensures { result ≡ is_veto_end (past_of h.now) c d }
@@ -39,14 +39,14 @@ fn is_open_rollback(h: &[Entry], x: &Entry) -> bool
     }
 }
 
-/// Whether a call of commit is a veto behind h: a rollback clone isn't complete.
+/// Whether a call of commit is a veto after h: a rollback clone isn't complete.
 fn has_open_rollback(h: &[Entry]) -> bool
     ensures { result ≡ has (λ x. has (λ c. is_rollback c.1 && not (is_complete (past_of h.now) c)) (all_of clone_of (x ∷ []))) h.now }
 {
     h.iter().any(|x| is_open_rollback(h, x))
 }
 
-/// Whether the entry is a veto behind h.
+/// Whether the entry is a veto after h.
 #[tactic(auto, using(crate::proofs::Reading::reading))]
 fn is_veto(h: &[Entry], x: &Entry) -> bool
     ensures { result ≡ is_veto (past_of h.now) x.now }
@@ -70,7 +70,7 @@ fn is_veto(h: &[Entry], x: &Entry) -> bool
     }
 }
 
-/// Whether the entry is a veto behind h where no evidence stands in h yet.
+/// Whether the entry is a veto after h where no evidence stands in h yet.
 fn is_first_veto(h: &[Entry], x: &Entry) -> bool
     ensures { result ≡ is_first_veto (past_of h.now) x.now }
 {

@@ -15,10 +15,10 @@ pub record Outgoing : Type 0 where
 abbrev pub blank : Outgoing
 blank = record { entries = []; sends = []; room = 64; send_room = 64 }
 
--- with these entries behind
+-- with these entries after
 abbrev pub with : Outgoing → List Entry → Outgoing
 with o es = record { entries = o.entries ++ es; sends = o.sends; room = o.room - length es; send_room = o.send_room }
 
--- with these messages behind
+-- with these messages after
 abbrev pub with_sends : Outgoing → List (Conn × Dir × Message) → Outgoing
 with_sends o ms = record { entries = o.entries; sends = o.sends ++ ms; room = o.room; send_room = o.send_room - length ms }

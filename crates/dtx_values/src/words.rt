@@ -137,7 +137,7 @@ impl Vote {
 pub enum Cause {
     /// A durable enlistment without single-phase support came first.
     Two,
-    /// A durable enlistment came behind another one.
+    /// A durable enlistment came after another one.
     Second,
     /// A durable enlistment came beside a promotable one.
     Beside,

@@ -1,4 +1,4 @@
--- What the light committer does behind the seal.
+-- What the light committer does after the seal.
 use Rattle.std.specs.Prelude.{Bool, ◌||◌, not, List, Option, Some, None, if◌then◌else◌}
 use Rattle.dtx_values.specs.declared.number.EnlNo.{EnlNo}
 use Rattle.dtx_values.specs.Waves.{all_voted}

@@ -22,7 +22,7 @@ pub enum LightAct {
     CommitNow,
 }
 
-/// What is done with the commit behind the seal: nothing while a volatile enlistment hasn't voted or once it was handed over; else it is handed to the
+/// What is done with the commit after the seal: nothing while a volatile enlistment hasn't voted or once it was handed over; else it is handed to the
 /// owner, or committed where there is none. Evidence by the seal stands then, unless a volatile voted No.
 #[tactic(auto, using(crate::proofs::Alone::evident_unowned))]
 pub fn decide(t: &EnlistTable, handed: bool) -> LightAct

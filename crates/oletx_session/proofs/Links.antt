@@ -15,7 +15,7 @@ none_where true x h = absurd cc
 none_where false x h = refl
 
 module _ {X : Type 0} where
-  -- what is found is found behind an item that doesn't pass, too
+  -- what is found is found after an item that doesn't pass, too
   find_past : (p : X → Bool) (x : X) (xs : List X) → p x ≡ false → find p (x ∷ xs) ≡ find p xs
   find_past p x xs fails = cond-false (p x) (Some x) (find p xs) fails
 
@@ -92,7 +92,7 @@ none_is : (o : Option Link) → is_some o ≡ false → o ≡ None
 none_is None h = refl
 none_is (Some l) h = absurd cc
 
--- the same, where the list behind is named
+-- the same, where the list after is named
 pub link_pushed : (ls ks ns : List Link) (l : Link) → false ≡ is_some (link_of l.connection ls) → ks ≡ ls → ns ≡ ks ++ l ∷ [] → Changes l.connection l ls ns
 link_pushed ls ks ns l none same is =
     let P : List Link → Type 0 = λ xs. Changes l.connection l ls xs in

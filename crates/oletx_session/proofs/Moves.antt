@@ -55,7 +55,7 @@ pub lane_changed : (d : Dir) (ps qs : List Packet) (l : Link) (b : List ℕ) →
 lane_changed Up ps qs l b is same = λ k. made l (is k) (same k)
 lane_changed Down ps qs l b is same = λ k. made l (same k) (is k)
 
--- the bytes on a lane behind a packet
+-- the bytes on a lane after a packet
 pushed_bytes : (x : Conn) (e : Dir) (ps : List Packet) (p : Packet) → bytes_on x e (ps ++ p ∷ []) ≡ bytes_on x e ps ++ flat_map frame_in (cond (is_on x e p) (p ∷ []) [])
 pushed_bytes x e ps p = ap (flat_map frame_in) (filter-append (is_on x e) ps (p ∷ [])) ∙ flat_map-append frame_in (on_way x e ps) (on_way x e (p ∷ []))
 

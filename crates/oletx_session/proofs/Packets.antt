@@ -17,7 +17,7 @@ use Rattle.oletx_session.proofs.Conns.{same_is, same_way_is}
 use Rattle.oletx_session.proofs.Links.{no_place}
 
 module _ {X : Type 0} where
-  -- a list is what stands before an item, the item and what stands behind it
+  -- a list is what stands before an item, the item and what stands after it
   split_at : (xs : List X) (i : ℕ) (x : X) → i < length xs → x ≡ get_or xs i x → xs ≡ take i xs ++ x ∷ drop (suc i) xs
   split_at xs i x within is = sym (take-append-drop i xs) ∙ ap (λ ys. take i xs ++ ys) (drop-cons xs i x within ∙ ap (λ y. y ∷ drop (suc i) xs) (sym is))
 

@@ -39,7 +39,7 @@ pub none_read : (ms : List Message) → Spells [] ms → ms ≡ []
 none_read [] s = refl
 none_read (m ∷ ms) s = absurd (let full = sym (frame_full m (flat_map frame_of ms)) ∙ ap is_empty (sym s.bytes) in cc)
 
--- one packet and one message of two lists with the same bytes have the same bytes, and so have those behind them
+-- one packet and one message of two lists with the same bytes have the same bytes, and so have those after them
 one_read : (p : Packet) (ps : List Packet) (m : Message) (ms : List Message) → Spells (flat_map frame_in (p ∷ ps)) (m ∷ ms) → (frame_in p ≡ frame_of m) × Spells (flat_map frame_in ps) ms
 one_read p ps m ms s =
     let held = p.framed in

@@ -58,6 +58,7 @@ pub(crate) fn cut(packets: &mut Vec<Packet>, c: Conn, d: Dir, keep: u32) -> u32
             kept += 1;
             place += 1;
         } else {
+            // A lost message is dropped: nobody gets it.
             let _ = packets.remove(place);
         }
     }

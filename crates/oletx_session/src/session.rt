@@ -130,7 +130,7 @@ impl Session {
         Ok(())
     }
 
-    /// Puts the frame of a valid message ([`is_valid`](crate::is_valid)) behind what is on the way. On a lost connection whose end the sender hasn't seen it is
+    /// Puts the frame of a valid message ([`is_valid`](crate::is_valid)) after what is on the way. On a lost connection whose end the sender hasn't seen it is
     /// dropped.
     ///
     /// # Errors
@@ -185,6 +185,7 @@ impl Session {
         if !link.is_ending(d) {
             return None;
         }
+        // The connection is there, since `link_of` found it. So it is replaced.
         let _ = replace(&mut self.links, link.ended_in(d));
         Some(Delivered::End)
     }
@@ -226,6 +227,7 @@ impl Session {
         if link.lost {
             return None;
         }
+        // The connection is there, since `link_of` found it. So it is replaced.
         let _ = replace(&mut self.links, link.lost());
         let up = cut(&mut self.packets, c, Dir::Up, up);
         let down = cut(&mut self.packets, c, Dir::Down, down);

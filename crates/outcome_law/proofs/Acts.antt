@@ -218,7 +218,7 @@ before_keeps h (Some e) over k w f = keep (Asked e Prepare) h k refl w (λ g. g)
 before_keeps h None true k w f = keep Sealed h k refl (f refl) (λ g. g)
 before_keeps h None false k w f = k
 
--- what comes behind the seal keeps it
+-- what comes after the seal keeps it
 behind_keeps : (h : List Entry) (q : Option EnlNo) (voted : Bool) (commit : List Entry) → IsKept h → passes (λ e. rule h (Asked e Prepare)) q ≡ true
     → (voted ≡ true → IsKept (onto h commit)) → IsKept (onto h (after_seal q voted commit))
 behind_keeps h (Some e) voted commit k w f = keep (Asked e Prepare) h k refl w (λ g. g)

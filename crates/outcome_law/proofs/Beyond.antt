@@ -36,7 +36,7 @@ pub ruled_wires : (h : List Entry) → ruled h ≡ true → WireRun h
 ruled_wires [] r = tt
 ruled_wires (x ∷ h) r = (cross_kept h x (first_rule x h r), ruled_wires h (other_rules x h r))
 
--- what keeps its rule behind what keeps its own is told behind no reenlistment
+-- what keeps its rule after what keeps its own is told after no reenlistment
 rightly_told : (h : List Entry) (x : Entry) → ruled h ≡ true → is_learned h x ≡ true
 rightly_told (Got (Again f) d m ∷ h) x r = absurd cc
 rightly_told _ x r = refl

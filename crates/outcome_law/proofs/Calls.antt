@@ -52,12 +52,12 @@ done_behind None d a k = absurd cc
 done_behind (Some n) (Some x) a k = absurd cc
 done_behind (Some n) None a k = (refl, k)
 
--- a call of volatile that was done stood behind no seal
+-- a call of volatile that was done stood after no seal
 volatile_done : (sealed : Bool) (xs : List Row) → is_done (volatile_answer sealed xs) ≡ true → sealed ≡ false
 volatile_done true xs k = absurd cc
 volatile_done false xs k = refl
 
--- a durable call that was done stood behind no seal, and behind nothing durable or promotable
+-- a durable call that was done stood after no seal, and after nothing durable or promotable
 durable_done : (sealed single : Bool) (xs : List Row) → is_done (durable_answer sealed single xs) ≡ true → (sealed ≡ false) × (has is_lasting xs ≡ false)
 durable_done true single xs k = absurd cc
 durable_done false single xs k = step single xs (nat_le ENLISTMENTS (length xs)) (nat_le DURABLES (how_many is_lasting xs)) k
@@ -78,7 +78,7 @@ promotable_done false xs k = step (has is_lasting xs) (nat_le ENLISTMENTS (lengt
     step true a k = absurd cc
     step false a k = (refl, refl)
 
--- a call of clone that was done stood behind no commit
+-- a call of clone that was done stood after no commit
 clone_done : (commit : Bool) (n : ℕ) → is_done (clone_answer commit n) ≡ true → commit ≡ false
 clone_done true n k = absurd cc
 clone_done false n k = refl

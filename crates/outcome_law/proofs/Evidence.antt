@@ -132,7 +132,7 @@ seal_alone a true false l true false p q = refl
 seal_alone a true false l false false p q = refl
 seal_alone a false false l e false p q = refl
 
--- behind the seal nothing but the votes and the durables is open
+-- after the seal nothing but the votes and the durables is open
 seal_step : (s c a w e : Bool) → (s ≡ true → c ≡ true) → (s ≡ true → a ≡ true) → ((c && a && w) && (s && e)) ≡ (s && (w && e))
 seal_step true true true true e f g = refl
 seal_step true true true false e f g = refl
@@ -191,7 +191,7 @@ ready_more (Voted e v) h r s k =
 ready_more (Promoted u c) h r s k = absurd cc
 ready_more _ h r s k = k
 
--- behind the seal no more are enlisted
+-- after the seal no more are enlisted
 durables_more : (x : Entry) (h : List Entry) → ruled (x ∷ h) ≡ true → has is_sealed h ≡ true → durables (x ∷ h) ≡ durables h
 durables_more (Enlisted e c) h r s = absurd (not_both (has is_sealed h) s (enlisted_unsealed e c h r))
 durables_more _ h r s = refl

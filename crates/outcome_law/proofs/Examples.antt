@@ -62,7 +62,7 @@ pub early_is_unjust : just_in (asked_e1 ++ Told Client Committed ∷ []) ≡ fal
 unfolding justified may_tell evidence ready by_seal by_owner by_log
 early_is_unjust = refl
 
--- committed behind a no
+-- committed after a no
 pub refused_is_unjust : just_in (asked_e1 ++ Voted e1 No ∷ Decided Committed ∷ []) ≡ false
 unfolding justified may_tell evidence ready by_seal by_owner by_log
 refused_is_unjust = refl
@@ -92,17 +92,17 @@ pub groundless_is_unjust : just_in (Began 600000 ∷ CommitAsked ∷ Told Client
 unfolding justified may_tell evidence ready by_seal by_owner by_log vetoed
 groundless_is_unjust = refl
 
--- an abort behind a no
+-- an abort after a no
 pub abort_behind_no : just_in (asked_e1 ++ Voted e1 No ∷ Decided Aborted ∷ Told Client Aborted ∷ []) ≡ true
 unfolding justified may_tell evidence ready by_seal by_owner by_log vetoed
 abort_behind_no = refl
 
--- an abort behind a rollback
+-- an abort after a rollback
 pub abort_behind_rollback : just_in (Began 600000 ∷ RollbackAsked ∷ Decided Aborted ∷ Told Client Aborted ∷ []) ≡ true
 unfolding justified may_tell evidence ready by_seal by_owner by_log vetoed
 abort_behind_rollback = refl
 
--- an abort behind a timeout
+-- an abort after a timeout
 pub abort_behind_timeout : just_in (Began 600000 ∷ TimedOut ∷ Decided Aborted ∷ Told Client Aborted ∷ []) ≡ true
 unfolding justified may_tell evidence ready by_seal by_owner by_log vetoed
 abort_behind_timeout = refl
@@ -112,7 +112,7 @@ pub abort_behind_clone : just_in (Began 600000 ∷ Cloned c1 Rollback ∷ Commit
 unfolding justified may_tell evidence ready by_seal by_owner by_log vetoed
 abort_behind_clone = refl
 
--- a veto that comes behind the evidence doesn't justify an abort
+-- a veto that comes after the evidence doesn't justify an abort
 pub late_no_is_unjust : just_in (Began 600000 ∷ CommitAsked ∷ Sealed ∷ RollbackAsked ∷ Told Client Aborted ∷ []) ≡ false
 unfolding justified may_tell evidence ready by_seal by_owner by_log vetoed
 late_no_is_unjust = refl
@@ -131,12 +131,12 @@ pub owner_committed_it : just_in (handed_e2 ++ OwnerAnswered e2 Committed ∷ De
 unfolding justified may_tell evidence ready by_seal by_owner by_log
 owner_committed_it = refl
 
--- a timeout behind the handing doesn't justify an abort
+-- a timeout after the handing doesn't justify an abort
 pub timeout_behind_handing : just_in (handed_e2 ++ TimedOut ∷ Told Client Aborted ∷ []) ≡ false
 unfolding justified may_tell evidence ready by_seal by_owner by_log vetoed
 timeout_behind_handing = refl
 
--- an owner that is lost behind the handing leaves doubt
+-- an owner that is lost after the handing leaves doubt
 pub lost_owner_is_doubt : just_in (handed_e2 ++ Lost e2 ∷ Decided InDoubt ∷ Told Client InDoubt ∷ []) ≡ true
 unfolding justified may_tell evidence ready by_seal by_owner by_log vetoed doubt owner_doubt coordinator_doubt
 lost_owner_is_doubt = refl
@@ -151,11 +151,11 @@ pub silent_owner_is_no_doubt : just_in (handed_e2 ++ Told Client InDoubt ∷ [])
 unfolding justified may_tell evidence ready by_seal by_owner by_log vetoed doubt owner_doubt coordinator_doubt
 silent_owner_is_no_doubt = refl
 
--- behind a promotion the durables vote too, and the record is the evidence
+-- after a promotion the durables vote too, and the record is the evidence
 abbrev pub promoted_e2 : List Entry
 promoted_e2 = Began 600000 ∷ Enlisted e2 DurableTwo ∷ Promoted 7 Two ∷ CommitAsked ∷ Sealed ∷ Asked e2 Prepare ∷ []
 
--- committed behind the record
+-- committed after the record
 pub logged_is_just : just_in (promoted_e2 ++ Voted e2 Yes ∷ Logged ∷ Decided Committed ∷ []) ≡ true
 unfolding justified may_tell evidence ready by_seal by_owner by_log
 logged_is_just = refl
@@ -194,17 +194,17 @@ pub zero_is_just : just_in (sealed_zero ++ Decided Committed ∷ Told Client Com
 unfolding justified may_tell evidence ready by_seal by_owner by_log
 zero_is_just = refl
 
--- a timeout behind evidence by the seal doesn't justify an abort
+-- a timeout after evidence by the seal doesn't justify an abort
 pub timeout_behind_seal : just_in (sealed_zero ++ TimedOut ∷ Told Client Aborted ∷ []) ≡ false
 unfolding justified may_tell evidence ready by_seal by_owner by_log vetoed
 timeout_behind_seal = refl
 
--- a rollback behind evidence by the seal doesn't justify an abort
+-- a rollback after evidence by the seal doesn't justify an abort
 pub rollback_behind_seal : just_in (sealed_zero ++ RollbackAsked ∷ Decided Aborted ∷ []) ≡ false
 unfolding justified may_tell evidence ready by_seal by_owner by_log vetoed
 rollback_behind_seal = refl
 
--- a timeout behind the seal that comes before a vote does
+-- a timeout after the seal that comes before a vote does
 pub timeout_before_vote : just_in (Began 600000 ∷ Enlisted e1 One ∷ CommitAsked ∷ Sealed ∷ Asked e1 Prepare ∷ TimedOut ∷ Decided Aborted ∷ Told (Enl e1) Aborted ∷ []) ≡ true
 unfolding justified may_tell evidence ready by_seal by_owner by_log vetoed
 timeout_before_vote = refl
@@ -224,7 +224,7 @@ pub complete_rollback_is_no_veto : just_in (Began 600000 ∷ Cloned c1 Rollback 
 unfolding justified may_tell evidence ready by_seal by_owner by_log vetoed
 complete_rollback_is_no_veto = refl
 
--- an abort that is told to everybody behind a rollback
+-- an abort that is told to everybody after a rollback
 pub rollback_told : just_in (Began 600000 ∷ Enlisted e1 One ∷ RollbackAsked ∷ Decided Aborted ∷ Told (Enl e1) Aborted ∷ Told Client Aborted ∷ []) ≡ true
 unfolding justified may_tell evidence ready by_seal by_owner by_log vetoed
 rollback_told = refl
@@ -263,7 +263,7 @@ later_is_untimely = refl
 pub second_is_untimely : timely_in (Began 10 ∷ Clock 12 ∷ TimedOut ∷ Clock 30 ∷ TimedOut ∷ []) ≡ false
 second_is_untimely = refl
 
--- two behind one tick
+-- two after one tick
 pub doubled_is_untimely : timely_in (Began 10 ∷ Clock 12 ∷ TimedOut ∷ Late ∷ []) ≡ false
 doubled_is_untimely = refl
 

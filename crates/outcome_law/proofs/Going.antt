@@ -36,7 +36,7 @@ is_no_vote _ = false
 abbrev pub all_closed : List Entry → Bool
 all_closed h = each (λ c. blocks c.1 || is_complete h c) (all_of clone_of h)
 
--- while nothing is decided nobody voted no and no owner answered, and behind commit no clone is open that makes a commit a veto
+-- while nothing is decided nobody voted no and no owner answered, and after commit no clone is open that makes a commit a veto
 abbrev pub is_going : List Entry → Bool
 is_going h = has is_decision h || (not (has is_no_vote h) && not (has is_answer h) && (not (has is_commit h) || all_closed h))
 
@@ -117,7 +117,7 @@ going_closed h d c g = step (has is_decision h) (not (has is_no_vote h) && not (
     step false true false a d k g = absurd cc
     step false true true a d k g = g
 
--- behind commit the clones are as closed as they were
+-- after commit the clones are as closed as they were
 going_step : (d n c x y : Bool) → (c ≡ true → x ≡ true → y ≡ true) → (d || (n && (not c || x))) ≡ true → (d || (n && (not c || y))) ≡ true
 going_step true n c x y f g = refl
 going_step false false c x y f g = g
@@ -164,12 +164,12 @@ decided_keeps h x r d m =
       spared = refl;
     }
 
--- an abort behind a veto keeps it
+-- an abort after a veto keeps it
 aborted_keeps : (h : List Entry) → ruled h ≡ true → has is_decision h ≡ false → vetoed h ≡ true → evidence h ≡ false → IsKept (Decided Aborted ∷ h)
 unfolding may_tell
 aborted_keeps h r d v e = decided_keeps h Aborted r d (and_both (vetoed h) (not (evidence h)) v (not_false (evidence h) e))
 
--- a veto behind which no evidence stood yet
+-- a veto after which no evidence stood yet
 first_vetoed : (x : Entry) (h : List Entry) → is_veto h x ≡ true → evidence h ≡ false → vetoed (x ∷ h) ≡ true
 unfolding vetoed
 first_vetoed x h v e =

@@ -146,7 +146,7 @@ gone_no_durable : (e : EnlNo) (o : Option TxNo) → is_durable_call (gone_call e
 gone_no_durable e (Some t) h = cc
 gone_no_durable e None h = cc
 
--- a line that is run and calls a durable stands behind none that makes a durable or promotable of its transaction
+-- a line that is run and calls a durable stands after none that makes a durable or promotable of its transaction
 pub first_lasting : (s before : List Line) (b : Body) (t u : TxNo) (e : EnlNo) (r : RmNo) (x : Support) → call_of s b ≡ Some (t, Durable u e r x) → is_run before b ≡ true
     → has (λ l. is_lasting_for t.value l.body) before ≡ false
 first_lasting s before b t u e r x k h = by_body b k h (ap (λ o. is_durable_call o) k)

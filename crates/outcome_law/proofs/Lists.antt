@@ -92,12 +92,12 @@ has-insert p key x (y ∷ ys) = step p (nat_lt (key y) (key x)) x y ys (insert_b
     step p true x y ys rest ih = ap (λ b. p y || b) ih ∙ or_swap (p y) (p x) (has p ys)
     step p false x y ys rest ih = refl
 
--- each passes with one more behind where it passes and each other does
+-- each passes with one more after where it passes and each other does
 pub each-behind : {A : Type 0} (p : A → Bool) (x : A) (xs : List A) → each p (xs ++ x ∷ []) ≡ (p x && each p xs)
 each-behind p x [] = refl
 each-behind p x (y ∷ ys) = ap (λ b. p y && b) (each-behind p x ys) ∙ and_swap (p y) (p x) (each p ys)
 
--- one passes with one more behind where it passes or another does
+-- one passes with one more after where it passes or another does
 pub has-behind : {A : Type 0} (p : A → Bool) (x : A) (xs : List A) → has p (xs ++ x ∷ []) ≡ (p x || has p xs)
 has-behind p x [] = refl
 has-behind p x (y ∷ ys) = ap (λ b. p y || b) (has-behind p x ys) ∙ or_swap (p y) (p x) (has p ys)

@@ -1,4 +1,4 @@
--- A replay of a script whose owner is lost behind the handing of the commit, and histories with losses, good and bad. Each stands oldest first.
+-- A replay of a script whose owner is lost after the handing of the commit, and histories with losses, good and bad. Each stands oldest first.
 use Rattle.std.proofs.Common.{◌≡◌, true, false, List, [], ◌∷◌, ◌++◌, refl, arith, lit≤}
 use Rattle.dtx_values.specs.declared.entry.Answer.TheVariants.{Fine, Did, OutcomeIs}
 use Rattle.dtx_values.specs.declared.entry.Ask.TheVariants.{Prepare}
@@ -96,7 +96,7 @@ pub losing_is_just : just_in losing_whole ≡ true
 unfolding justified may_tell doubt owner_doubt coordinator_doubt
 losing_is_just = refl
 
--- a volatile that voted beside an owner, which is lost behind the handing
+-- a volatile that voted beside an owner, which is lost after the handing
 abbrev pub lost_beside_e1 : List Entry
 lost_beside_e1 = Began 600000 ∷ Enlisted e1 One ∷ Enlisted e2 DurableSingle ∷ CommitAsked ∷ Sealed ∷ Asked e1 Prepare ∷ Voted e1 Yes ∷ Handed e2 ∷ Lost e2 ∷ []
 
@@ -105,7 +105,7 @@ pub volatile_hears_doubt : just_in (lost_beside_e1 ++ Decided InDoubt ∷ Told (
 unfolding justified may_tell doubt owner_doubt coordinator_doubt
 volatile_hears_doubt = refl
 
--- a loss behind the handing is no veto
+-- a loss after the handing is no veto
 pub lost_told_aborted : just_in (handed_e2 ++ Lost e2 ∷ Told Client Aborted ∷ []) ≡ false
 unfolding justified may_tell evidence ready by_seal by_owner by_log vetoed
 lost_told_aborted = refl

@@ -69,7 +69,7 @@ made_twice before x (n ∷ ns) h k =
     (λ e. ap (λ y. is_made before y) (same_is x n e) ∙ not_true (is_made before n) (and_left (not (is_made before n)) (each (λ n. not (is_made before n)) ns) h))
     (λ e. made_twice before x ns (and_right (not (is_made before n)) (each (λ n. not (is_made before n)) ns) h) e) k
 
--- no line behind those that made a name makes it again
+-- no line after those that made a name makes it again
 not_again : (x : Name) (rest s : List Line) (j : ℕ) (l : Line) → always is_named_well (onto rest s) ≡ true → slice_get s j ≡ Some l
     → is_made rest x ≡ true → is_maker x l ≡ true → ⊥
 not_again x rest [] j l h e k m = cc
@@ -180,7 +180,7 @@ pub record IsFactOf (p : Entry → Bool) (q : Call → Bool) : Type 0 where
   pub no_deed : (es : List Entry) → each is_plain es ≡ true → has p es ≡ false
   pub by_call : (o : Observed) (c : Call) (b : Bool) → has p (facts_if b (facts o c)) ≡ true → q c ≡ true
 
--- what was called before a block was called behind it too
+-- what was called before a block was called after it too
 called_behind : (s : List Line) (t : ℕ) (h es : List Entry) (q : Call → Bool) → IsCalled s t h q → IsCalled s t (onto h es) q
 called_behind s t h es q r =
     record {

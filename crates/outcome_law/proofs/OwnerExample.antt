@@ -143,7 +143,7 @@ pub owned_agrees : agree_in owned_whole ≡ true
 unfolding agree
 owned_agrees = refl
 
--- the owner is told no commit: behind the volatile, the client is next
+-- the owner is told no commit: after the volatile, the client is next
 pub owner_is_untold : block (observe (past_of (owner_answered ++ Told (Enl e1) Committed ∷ []))) Acts ≡ Told Client Committed ∷ []
 unfolding block observe act_entries hears
 owner_is_untold = refl

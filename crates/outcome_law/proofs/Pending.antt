@@ -150,7 +150,7 @@ commit_deed true owner = refl
 commit_deed false (Some e) = refl
 commit_deed false None = refl
 
--- what comes behind the seal is a deed
+-- what comes after the seal is a deed
 seal_deed : (e : Option EnlNo) (voted : Bool) (xs : List Entry) → each is_deed xs ≡ true → each is_deed (after_seal e voted xs) ≡ true
 seal_deed (Some e) voted xs h = refl
 seal_deed None true xs h = h

@@ -100,7 +100,7 @@ commit_planned s true owner = refl
 commit_planned s false (Some e) = refl
 commit_planned s false None = refl
 
--- what comes behind the seal is no answer
+-- what comes after the seal is no answer
 seal_planned : (s : List Line) (e : Option EnlNo) (voted : Bool) (commit : List Entry) → each (is_planned s) commit ≡ true → each (is_planned s) (after_seal e voted commit) ≡ true
 seal_planned s (Some e) voted commit k = refl
 seal_planned s None true commit k = k
@@ -173,7 +173,7 @@ block_planned s t h (Calls n a c m) k = facts_planned s (observe h) c (is_done (
 block_planned s t h (Replies e r) k = reply_planned s e r (each-kth (is_planned_step s) (pending s (observe h)) k.0 (Replies e r) (pending_planned s (observe h)) k.1)
 block_planned s t h Acts k = act_planned s (observe h).decided (observe h)
 
--- each passes with a block behind where each did and each of the block does
+-- each passes with a block after where each did and each of the block does
 each_behind : (p : Entry → Bool) (h xs : List Entry) → each p h ≡ true → each p xs ≡ true → each p (onto h xs) ≡ true
 each_behind p h [] k w = k
 each_behind p h (x ∷ xs) k w = each_behind p (x ∷ h) xs (and_both (p x) (each p h) (and_left (p x) (each p xs) w) k) (and_right (p x) (each p xs) w)

@@ -148,7 +148,7 @@ cut_behind_two = past_of (Sent Begin Up BeginBegin ∷ Sent Begin Up BeginCommit
 two_in_transit : in_transit Begin Up cut_behind_two ≡ BeginBegin ∷ BeginCommit ∷ []
 two_in_transit = refl
 
--- the end comes behind them and not before, and once
+-- the end comes after them and not before, and once
 no_early_end : MayCross cut_behind_two (End Begin Up) → ⊥
 no_early_end early = cc early
 
@@ -168,7 +168,7 @@ local_end = refl
 no_end_above : MayCross opened_while_stopped (End (OnEnl e1) Up) → ⊥
 no_end_above seen = cc seen
 
--- a promotion fails behind the abort of an enlistment, also where that one was told first; behind another's telling it doesn't
+-- a promotion fails after the abort of an enlistment, also where that one was told first; after another's telling it doesn't
 told_first : (past : List Entry) → ends_refused (Told (Enl e1) Aborted ∷ Got (OnEnl e1) Down EnlistAbort ∷ past) ≡ true
 told_first past = refl
 

@@ -178,7 +178,7 @@ none_passed n p =
 turn : (T : List Placed) (m : Step) → pending four_lines (observe (history 1 T)) ≡ m ∷ [] → IsTurn four_lines T 1 t1 m
 turn T m first = record { others = []; first = first; passed = λ v p. absurd (none_passed v.value p) }
 
--- the turns behind the four lines alone: voted, decided, and told twice
+-- the turns after the four lines alone: voted, decided, and told twice
 abbrev turns : List (TxNo × Step)
 turns = (t1, Acts) ∷ (t1, Acts) ∷ (t1, Acts) ∷ (t1, Replies e1 (VoteReply Yes)) ∷ []
 
@@ -202,7 +202,7 @@ rounds_run = (
   refl,
 )
 
--- without the `await` the rounds do what is pending behind the lines
+-- without the `await` the rounds do what is pending after the lines
 pub is_replayed_in_rounds : IsReplayed four_lines (at_t1 told)
 is_replayed_in_rounds = record { by_lines = at_t1 did; lines = four_run four_lines; turns = turns; rounds = rounds_run }
 

@@ -46,7 +46,7 @@ use Rattle.outcome_law.proofs.Lasting.{call_lasts, lasting_called, giver_lasts, 
 abbrev AllCaused : List Line → List Placed → Type 0
 AllCaused s T = (u : TxNo) → Caused s u.value (history u.value T)
 
--- what is caused, with the block of a step that may come behind, is caused
+-- what is caused, with the block of a step that may come after, is caused
 caused-step : (s : List Line) (u : ℕ) (m : Step) (h : List Entry) → Caused s u h → MayCome s u h m → Caused s u (onto h (block (observe h) m))
 caused-step s u m h r k = (m ∷ r.0, (h, r.1, k, refl))
 
@@ -273,7 +273,7 @@ own_uncalled s l n u c xs start e =
     let es : List Entry = scope_block n l.actor l.body xs in
     ap (λ cs. has (is_call n) (history u (after_calls n l.actor cs (onto start (noted l.actor es))))) (own_line s l.body c xs e) ∙ noted_uncalled n u l.actor es start
 
--- what a line does behind that keeps each history caused
+-- what a line does after that keeps each history caused
 words_caused : (s : List Line) (l : Line) (n : ℕ) (o : Option (TxNo × Call)) (start T : List Placed) → kth s n ≡ Some l → call_of s l.body ≡ o
     → ((c : TxNo × Call) → o ≡ Some c → has (is_call n) (history c.0.value start) ≡ false) → AllCaused s start → CallRan s l.actor n o start T → AllCaused s T
 words_caused s l n None start T stands e new ih r = subst (λ T. AllCaused s T) (sym r) ih
@@ -379,26 +379,26 @@ onto-onto : {A : Type 0} → (h xs ys : List A) → onto ys (onto h xs) ≡ onto
 onto-onto h [] ys = refl
 onto-onto h (x ∷ xs) ys = onto-onto (x ∷ h) xs ys
 
--- the places behind a block
+-- the places after a block
 slice_get-onto : (bs xs : List Line) (k : ℕ) → slice_get (onto xs bs) (length bs + k) ≡ slice_get xs k
 slice_get-onto [] xs k = let same : length {A = Line} [] + k ≡ k = omega arith in rw same refl
 slice_get-onto (b ∷ bs) xs k =
     let shift : length (b ∷ bs) + k ≡ length bs + suc k = omega arith in rw shift (slice_get-onto bs (b ∷ xs) (suc k))
 
--- the line behind those before it
+-- the line after those before it
 line-onto : (before rest : List Line) (l : Line) → kth (onto (l ∷ rest) before) (suc (length before)) ≡ Some l
 line-onto before rest l =
     let none : length before ≡ length before + 0 = omega arith in
     let found : slice_get (onto (l ∷ rest) before) (length before + 0) ≡ Some l = slice_get-onto before (l ∷ rest) 0 in
     ap (λ n. slice_get (onto (l ∷ rest) before) n) none ∙ found
 
--- the lines before a block behind those
+-- the lines before a block after those
 take-onto : (bs xs : List Line) (k : ℕ) → take (length bs + k) (onto xs bs) ≡ onto (take k xs) bs
 take-onto [] xs k = let same : length {A = Line} [] + k ≡ k = omega arith in rw same refl
 take-onto (b ∷ bs) xs k =
     let shift : length (b ∷ bs) + k ≡ length bs + suc k = omega arith in rw shift (take-onto bs (b ∷ xs) (suc k))
 
--- the lines before the line behind them
+-- the lines before the line after them
 before-onto : (before rest : List Line) (l : Line) → lines_before (onto (l ∷ rest) before) (suc (length before)) ≡ before
 before-onto before rest l =
     let none : suc (length before) - 1 ≡ length before + 0 = omega arith in
@@ -444,7 +444,7 @@ lines_noted s (l ∷ before) T r a = line_noted s before l r.0 T r.2 a ∙ by_ac
 turn_first : (s : List Line) (T : List Placed) (u : ℕ) (t : TxNo) (m : Step) → IsTurn s T u t m → kth (pending s (observe (history t.value T))) 1 ≡ Some m
 turn_first s T u t m r = ap (λ ms. slice_get ms 0) r.first
 
--- what the rounds did behind what is caused is caused
+-- what the rounds did after what is caused is caused
 rounds_caused : (s : List Line) (start : List Placed) (turns : List (TxNo × Step)) (T : List Placed) → AllCaused s start → RoundsRan s start turns T → AllCaused s T
 rounds_caused s start [] T ih r = subst (λ T. AllCaused s T) (sym r) ih
 rounds_caused s start (x ∷ xs) T ih r =

@@ -40,7 +40,7 @@ may_be_told h p Committed c k = k
 may_be_told h p Aborted c k = k
 may_be_told h p InDoubt c k = and_both (hears_doubt h p) (doubt h) c k
 
--- what could be told can be told behind more entries that leave evidence as it is, and vetoes and doubt where they are
+-- what could be told can be told after more entries that leave evidence as it is, and vetoes and doubt where they are
 may_more : (h k : List Entry) (x : Outcome) → evidence k ≡ evidence h → (vetoed h ≡ true → vetoed k ≡ true) → (doubt h ≡ true → doubt k ≡ true) → may_be h x ≡ true → may_be k x ≡ true
 may_more h k Committed e v d m = e ∙ m
 may_more h k Aborted e v d m =
@@ -87,7 +87,7 @@ open_rule h (OwnerAnswered e x) k r = first_of_three (not (has is_decision h)) (
 open_rule h (Decided x) k r = and_left (not (has is_decision h)) (may_tell h Client x) r
 open_rule h _ k r = absurd cc
 
--- they don't come behind a decision
+-- they don't come after a decision
 pub not_behind : {C : Type 0} (y : Entry) (h : List Entry) (x : Outcome) → latest decision_of h ≡ Some x → is_open y ≡ true → ruled (y ∷ h) ≡ true → C
 not_behind y h x e k r = absurd (not_both (has is_decision h) (decision_from_latest h x e) (not_true (has is_decision h) (open_rule h y k (first_rule y h r))))
 
@@ -204,7 +204,7 @@ answered_any x _ k = k
 answered_handed : (x : Outcome) (h : List Entry) → ruled h ≡ true → has (is_answered x) h ≡ true → has is_any_hand h ≡ true
 answered_handed x h r k = true_from_ne_false (has is_any_hand h) (λ e. not_both (has is_answer h) (has_more (is_answered x) is_answer (answered_any x) h k) (unhanded_unanswered h r e))
 
--- no owner answers behind an answer
+-- no owner answers after an answer
 unanswered : (x : Outcome) (e : EnlNo) (y : Outcome) (h : List Entry) → rule h (OwnerAnswered e y) ≡ true → has (is_answered x) h ≡ false
 unanswered x e y h k =
     has_less (is_answered x) is_answer (answered_any x) h

@@ -82,7 +82,7 @@ each_none f (x ∷ xs) e = step (f x) (filter_map f xs) (each (λ x. is_none (f 
     step (Some y) ys b ih e = absurd cc
     step None ys b ih e = ih e
 
--- where no veto stands, none stands behind which there was no evidence
+-- where no veto stands, none stands after which there was no evidence
 first_veto : (h : List Entry) → ever is_veto h ≡ false → ever is_first_veto h ≡ false
 first_veto [] v = refl
 first_veto (x ∷ h) v = step (is_veto h x) (evidence h) (ever is_veto h) (ever is_first_veto h) (first_veto h) v
@@ -403,7 +403,7 @@ zeros_done xs a e =
     step true false v true k a q = absurd cc
     step true false v false k a q = absurd cc
 
--- where each marked row and each Zero row has a vote and nobody is to be asked behind the seal, all voted
+-- where each marked row and each Zero row has a vote and nobody is to be asked after the seal, all voted
 ones_done : (xs : List Row) → each has_answered xs ≡ true → zeros_voted xs ≡ true → next_ask xs false ≡ None → all_voted xs ≡ true
 ones_done xs a z e =
     let both = λ (x : Row). has_answered x && (not (is_zero x.class) || has_voted x) in
@@ -429,7 +429,7 @@ zero_stuck (Some q) over e = absurd cc
 zero_stuck None true e = absurd cc
 zero_stuck None false e = (refl, refl)
 
--- where nothing comes behind the seal, nobody is to be asked, and where all voted nothing comes to commit
+-- where nothing comes after the seal, nobody is to be asked, and where all voted nothing comes to commit
 seal_stuck : (q : Option EnlNo) (voted : Bool) (commit : List Entry) → after_seal q voted commit ≡ [] → (q ≡ None) × (voted ≡ true → commit ≡ [])
 seal_stuck (Some q) voted commit e = absurd cc
 seal_stuck None true commit e = (refl, λ k. e)

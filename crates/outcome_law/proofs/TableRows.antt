@@ -130,7 +130,7 @@ fresh_seen e c n h r k =
       well = sym (unvoted_unwell e.value h silent);
     }
 
--- a row that stands, behind an enlistment
+-- a row that stands, after an enlistment
 older_seen : (e : EnlNo) (c : Class) (h : List Entry) (x : Row) → IsRow h x → IsRow (Enlisted e c ∷ h) x
 older_seen e c h x w =
     record {
@@ -151,13 +151,13 @@ pub none_there : {A : Type 0} (o : Option A) → is_some o ≡ false → o ≡ N
 none_there (Some y) h = absurd cc
 none_there None h = refl
 
--- a row behind an ask to prepare, which is its own or another's
+-- a row after an ask to prepare, which is its own or another's
 asked_seen : (e : EnlNo) (n : ℕ) (h : List Entry) (x : Row) (b : Bool) → (x.number.value == e.value) ≡ b → IsRow h x
     → IsRow (Asked e Prepare ∷ h) (if b then (mark_row n x) else x)
 asked_seen e n h x true same w = record { stands = w.stands; marked = rw same (there x.asked n); voted = w.voted; vote = w.vote; well = w.well }
 asked_seen e n h x false other w = record { stands = w.stands; marked = rw other w.marked; voted = w.voted; vote = w.vote; well = w.well }
 
--- a row behind a vote, which is its own or another's
+-- a row after a vote, which is its own or another's
 voted_seen : (e : EnlNo) (v : Vote) (h : List Entry) (x : Row) (b : Bool) → (x.number.value == e.value) ≡ b → has (is_vote e.value) h ≡ false → IsRow h x
     → IsRow (Voted e v ∷ h) (if b then (vote_row v x) else x)
 voted_seen e v h x true same once w =

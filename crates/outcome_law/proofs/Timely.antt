@@ -66,7 +66,7 @@ reaches_first h n a y (Some d) z r k =
     and_both (nat_le d z) (not (has (is_clock_from d) h)) (and_right (nat_lt (clock h) d) (nat_le d z) k)
     (not_false (has (is_clock_from d) h) (none_reached d h r (and_left (nat_lt (clock h) d) (nat_le d z) k)))
 
--- the end of the time behind a tick is on time
+-- the end of the time after a tick is on time
 time_on : (h : List Entry) (b late : Bool) → all_on_time h ≡ true → (b ≡ true → is_behind_first h ≡ true) → all_on_time (onto h (if b then time_up late else [])) ≡ true
 time_on h false late r f = r
 time_on h true true r f = and_both (is_behind_first h) (all_on_time h) (f refl) r

@@ -26,7 +26,7 @@ use Rattle.outcome_law.proofs.Lists.{OfEach, of-at, of-more, of-map, of-insert, 
 use Rattle.outcome_law.proofs.Rule.{is_enlisted, ruled, first_rule, other_rules}
 use Rattle.outcome_law.proofs.TableRows.{enlisted_in_rows, enlisted_once, asked_enlisted, IsRow, there, rows_seen, row_seen}
 
--- the row as it is behind an ask to prepare of this enlistment, behind so many marks
+-- the row as it is after an ask to prepare of this enlistment, after so many marks
 abbrev pub marked : ℕ → ℕ → Row → Row
 marked e n x = if is_of e x then (mark_row n x) else x
 
@@ -46,7 +46,7 @@ marked_step false true true rest = refl
 marked_step false false true rest = refl
 marked_step h m false rest = refl
 
--- behind an ask to prepare, each marked row passes v where the asked one passes, if it stands there, and each marked row passed before
+-- after an ask to prepare, each marked row passes v where the asked one passes, if it stands there, and each marked row passed before
 each-marked : (e n : ℕ) (v : ℕ → Bool) (xs : List Row) → each (passes_marked v) (map (marked e n) xs) ≡ ((not (has (is_of e) xs) || v e) && each (passes_marked v) xs)
 each-marked e n v [] = refl
 each-marked e n v (x ∷ xs) =
@@ -117,7 +117,7 @@ marks_above e n (x ∷ xs) h =
 abbrev pub IsBelow : ℕ → Row → Type 0
 IsBelow n q = is_asked_before q.asked n ≡ is_marked q
 
--- a row whose mark is below n, behind an ask to prepare, behind which m stand: it is below m
+-- a row whose mark is below n, after an ask to prepare, after which m stand: it is below m
 asked_below : (n m : ℕ) (x : Row) (b : Bool) → n ≤ m → ((b && not (is_marked x)) ≡ true → n < m) → IsBelow n x → IsBelow m (if b then (mark_row n x) else x)
 asked_below n m x true l more w = mark x.asked n m l more w
   where
@@ -156,21 +156,21 @@ marks_below (Voted e v ∷ h) =
     voted_below n v x false w = w
 marks_below (x ∷ h) = marks_below h
 
--- the row was added behind at most the marks that stand, and waits for those that were asked before its enlistment came
+-- the row was added after at most the marks that stand, and waits for those that were asked before its enlistment came
 pub record IsWave (h : List Entry) (x : Row) : Type 0 where
   pub behind : x.added ≤ marks (rows h)
   pub waits : (v : ℕ → Bool) → each (passes_before x.added v) (rows h) ≡ each (λ f. v f.value) (asked_before x.number.value h)
 
--- a mark behind n others isn't one of the first n
+-- a mark after n others isn't one of the first n
 later_mark : (a n : ℕ) (o : Option ℕ) → a ≤ n → is_asked_before (unless_there o n) a ≡ is_asked_before o a
 later_mark a n (Some k) l = refl
 later_mark a n None l = grind (arith, nat_tests)
 
--- behind an ask to prepare, those that are marked before stay the same
+-- after an ask to prepare, those that are marked before stay the same
 asked_kept : (e n a : ℕ) (v : ℕ → Bool) (x : Row) → a ≤ n → passes_before a v (marked e n x) ≡ passes_before a v x
 asked_kept e n a v x l = if_kept (passes_before a v) (is_of e x) (mark_row n x) x (ap (λ b. not b || v x.number.value) (later_mark a n x.asked l))
 
--- a wave is a wave of the row behind an ask or a vote
+-- a wave is a wave of the row after an ask or a vote
 own_wave : (h : List Entry) (b : Bool) (y x : Row) → y.number ≡ x.number → y.added ≡ x.added → IsWave h x → IsWave h (if b then y else x)
 own_wave h true y x same_name same_place w =
     record {

@@ -1,5 +1,7 @@
-//! The laws over histories: one outcome, completeness, what a replay is, and that the tables are the history's. Each is the contract of a
-//! public function with an empty body, so that what calls it has the law.
+//! The laws over histories: one outcome, completeness, what a replay is, and that the tables are the history's.
+//!
+//! Each law is a public function with an empty body. It does nothing when it runs. A caller calls it for its contract: after the call the
+//! proof of the caller has the law.
 #![tactic(auto)]
 
 ghost use Rattle.std.specs.Prelude.{◌≡◌, ℕ, true, false, List, ◌∷◌, ◌++◌, Bool, Some, length, slice_get};

@@ -9,7 +9,7 @@ use Rattle.dtx_model.proofs.Bools.{and_left, and_right, not_true, or_first, or_s
 use Rattle.dtx_model.proofs.Scopes.{closes-scopes}
 use Rattle.scope_context.specs.Standing.{distinct}
 
--- a change of each item of two lists is one of each item of the first with the second behind it
+-- a change of each item of two lists is one of each item of the first with the second after it
 map-onto : {A B : Type 0} (f : A → B) (h xs : List A) → onto (map f h) (map f xs) ≡ map f (onto h xs)
 map-onto f h [] = refl
 map-onto f h (x ∷ xs) = map-onto f (x ∷ h) xs

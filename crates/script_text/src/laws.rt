@@ -7,7 +7,7 @@ ghost use Rattle.dtx_model.specs.Grammar.{Reads};
 ghost use Rattle.dtx_model.specs.Faults.{Bad};
 
 /// Bytes are one script, or have one first bad line with one first cause, and never both. What is bad in the first 1,048,577 bytes is bad
-/// in the whole, for the same cause.
+/// in the whole, for the same cause. A law: the body is empty, and who calls this has the law in its proof.
 pub fn reads_exactly()
     ensures one { (b : List ℕ) (s r : List Line) → Reads b s → Reads b r → s ≡ r }
     ensures either { (b : List ℕ) (s : List Line) (n : ℕ) (c : BadCause) → Reads b s → Bad b n c → ⊥ }

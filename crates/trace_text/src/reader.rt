@@ -75,7 +75,8 @@ pub fn read_trace(alloc: Global, bytes: &[u8]) -> Result<Trace, TraceError>
     Ok(Trace::new(entries))
 }
 
-/// Bytes are the text of a trace or have a first bad line, and never both.
+/// Bytes are the text of a trace or have a first bad line, and never both. A law: the body is empty, and who calls this has the law in its
+/// proof.
 pub fn reads_traces_exactly()
     ensures either { (b : List ℕ) (T : List Placed) (n : ℕ) → IsTextOf b T → IsBadLine b n → ⊥ }
     ensures first { (b : List ℕ) (n m : ℕ) → IsBadLine b n → IsBadLine b m → n ≡ m }

@@ -6,7 +6,7 @@ use Rattle.oletx_frames.specs.declared.refusal.FrameRefusal.{FrameRefusal}
 use Rattle.oletx_session.specs.Queues.{frame_in}
 use Rattle.oletx_session.proofs.packet.Packet.message.Goals as goal
 
--- the bytes are the frame with nothing behind it
+-- the bytes are the frame with nothing after it
 alone : (b : List ℕ) (m : Message) → IsFrame b m → b ≡ frame_of m ++ []
 alone b m f = f.bytes ∙ sym (append-nil (frame_of m))
 
