@@ -53,8 +53,9 @@ fn disk_with_record(rt: &impl Abort, alloc: Global, fail: &[u64]) -> Result<MemD
         Err((refusal, _disk)) => panic!(rt; "{refusal:?}"),
     };
     let mut record = LogRecord::new((1 << 64) + 1);
-    let [rm, enl] = [RmNo::new(1), EnlNo::new(1)];
-    record.add(rm.expect(rt, "no manager"), enl.expect(rt, "no enlistment"));
+    let rm = RmNo::new(1).expect(rt, "no such manager");
+    let enl = EnlNo::new(1).expect(rt, "no such enlistment");
+    record.add(rm, enl);
     assert!(rt; log.append(log.life(), &record) == Ok(0));
     let disk = log.into_disk();
     assert!(rt; disk.len() == LOG_BYTES);
