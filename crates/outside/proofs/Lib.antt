@@ -1,3 +1,4 @@
 pub mod Pieces
 pub mod Rising
 pub mod Writing
+pub mod Sheets

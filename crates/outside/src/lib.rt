@@ -29,6 +29,7 @@ mod file_disk;
 mod mem_disk;
 mod memory;
 mod plan;
+mod sheet;
 mod sink;
 mod source;
 mod standard;

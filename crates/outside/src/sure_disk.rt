@@ -1,15 +1,13 @@
 // A disk in memory that never fails.
 ghost use Rattle.std.specs.Prelude.{◌≡◌, ◌≤◌, ◌+◌, length, take, drop, replicate, refl, true, IfOk, IsOk};
 ghost use Rattle.std.proofs.Common.{inl};
-ghost use Rattle.outside.specs.Disk.{AreWithin, Follows, IsOnly, IsTorn, overwritten};
-ghost use Rattle.outside.specs.Memory.{IsLeft, IsOneOf, after_crash, after_sync, after_write, spoilt};
+ghost use Rattle.outside.specs.Disk.{AreWithin, Follows, IsOnly, IsTorn};
+ghost use Rattle.outside.specs.Memory.{IsLeft, IsOneOf, after_crash, after_sync, after_write};
 
+use crate::sheet::Sheet;
 use crate::{Disk, Failed, Image};
 use std::alloc::{AllocError, Global};
 use std::marker::Model;
-
-// What a torn write leaves of each byte in its range.
-const SPOILT: u8 = 0xA5;
 
 /// A disk in memory that never fails. It tells what it holds, and its count of faults is 0. A definition of
 /// this project.
@@ -24,9 +22,9 @@ const SPOILT: u8 = 0xA5;
 /// leave. No call but `new` takes memory.
 #[derive(Drop)]
 pub struct SureDisk {
-    kept: Vec<u8>,
-    synced: Vec<u8>,
-    torn: Vec<u8>,
+    kept: Sheet,
+    synced: Sheet,
+    torn: Sheet,
 }
 
 impl Model for SureDisk {
@@ -35,10 +33,9 @@ impl Model for SureDisk {
 
     ghost Value = { Images };
 
-    ghost view = { λ d. record { kept = d.kept.items; synced = d.synced.items; torn = d.torn.items } };
+    ghost view = { λ d. record { kept = d.kept; synced = d.synced; torn = d.torn } };
 
-    ghost invariant = { λ d. (length d.synced.items ≡ length d.kept.items)
-        × (length d.torn.items ≡ length d.kept.items) };
+    ghost invariant = { λ d. (length d.synced ≡ length d.kept) × (length d.torn ≡ length d.kept) };
 }
 
 impl SureDisk {
@@ -55,9 +52,9 @@ impl SureDisk {
     {
         let size = size as usize;
         Ok(SureDisk {
-            kept: zeros(alloc, size)?,
-            synced: zeros(alloc, size)?,
-            torn: zeros(alloc, size)?,
+            kept: Sheet::new(alloc, size)?,
+            synced: Sheet::new(alloc, size)?,
+            torn: Sheet::new(alloc, size)?,
         })
     }
 }
@@ -87,8 +84,7 @@ impl Disk for SureDisk {
         ensures bytes { into.new ≡ take (length into.old) (drop at self.old.kept) }
         ensures same { self.new ≡ self.old }
     {
-        let at = at as usize;
-        into.copy_from_slice(&self.kept[at..at + into.len()]);
+        self.kept.read(at as usize, into);
         Ok(())
     }
 
@@ -99,9 +95,8 @@ impl Disk for SureDisk {
         ensures images { Follows (IsTorn at (length from.now)) (IsOneOf self.old) (IsOneOf self.new) }
         ensures size { length self.new.kept ≡ length self.old.kept }
     {
-        let at = at as usize;
-        place(&mut self.kept, at, from);
-        spoil(&mut self.torn, at, from.len());
+        self.kept.put(at as usize, from);
+        self.torn.spoil(at as usize, from.len());
         Ok(())
     }
 
@@ -111,8 +106,8 @@ impl Disk for SureDisk {
         ensures durable { IsOnly self.old.kept (IsOneOf self.new) }
         ensures images { AreWithin (IsOneOf self.old) (IsOneOf self.new) }
     {
-        self.synced.copy_from_slice(&self.kept);
-        self.torn.copy_from_slice(&self.kept);
+        self.synced.copy(&self.kept);
+        self.torn.copy(&self.kept);
         Ok(())
     }
 
@@ -123,9 +118,9 @@ impl Disk for SureDisk {
         ensures size { length self.new.kept ≡ length self.old.kept }
     {
         match wish {
-            Image::Lose => self.kept.copy_from_slice(&self.synced),
+            Image::Lose => self.kept.copy(&self.synced),
             Image::Keep => (),
-            Image::Torn => self.kept.copy_from_slice(&self.torn),
+            Image::Torn => self.kept.copy(&self.torn),
         }
     }
 
@@ -134,28 +129,4 @@ impl Disk for SureDisk {
     ghost among = { λ wish d c h left. left.1 };
 
     ghost long = { λ d c h one. one.long };
-}
-
-// As many zeros as wanted.
-fn zeros(alloc: Global, n: usize) -> Result<Vec<u8>, AllocError>
-    ensures zeros { IfOk result (λ v. v.items ≡ replicate (length v.items) 0) }
-    ensures long { IfOk result (λ v. length v.items ≡ n) }
-{
-    vec![in alloc; 0u8; n]
-}
-
-// Puts bytes over those that are there.
-fn place(bytes: &mut [u8], at: usize, from: &[u8])
-    requires { at + length from.now ≤ length bytes.old }
-    ensures { bytes.new ≡ overwritten bytes.old at from.now }
-{
-    bytes[at..at + from.len()].copy_from_slice(from);
-}
-
-// Spoils the bytes of a range.
-fn spoil(bytes: &mut [u8], at: usize, n: usize)
-    requires { at + n ≤ length bytes.old }
-    ensures { bytes.new ≡ overwritten bytes.old at (spoilt n) }
-{
-    bytes[at..at + n].fill(SPOILT);
 }

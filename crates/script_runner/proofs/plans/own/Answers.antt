@@ -8,4 +8,4 @@ returns c =
     let new = c.put_at.new.items.items in
     rw c.in-Clone.is
     (on_ok c.put_at.result (λ (k : (n : ℕ) → get_or new n None ≡ (if n == c.index.result then Some c.in-Clone.t else get_or clones n None)).
-        owned_put clones new c.in-Clone.t c.in-Clone.c c.in-Clone.field-2 c.index.result c.index.ensures.place k) c.put_at.ensures)
+    owned_put clones new c.in-Clone.t c.in-Clone.c c.in-Clone.field-2 c.index.result c.index.ensures.place k) c.put_at.ensures)

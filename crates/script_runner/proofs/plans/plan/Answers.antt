@@ -10,4 +10,4 @@ returns c =
     let place = c.index-place.result in
     let put = rw (c.unmade-2.ensures, c.or.ensures, c.item_at-before.ensures, c.deref.ensures.value, c.unmade.ensures) at c.put_at.ensures in
     on_ok c.put_at.result (λ (k : (n : ℕ) → get_or new n unmade ≡ (if n == place then or_made c.in-Some.said (get_or made place unmade) else get_or made n unmade)).
-        planned_put made new c.args.body c.in-Some.e c.in-Some.said place c.index-place.ensures.place c.in-Some.ensures.some k) put
+    planned_put made new c.args.body c.in-Some.e c.in-Some.said place c.index-place.ensures.place c.in-Some.ensures.some k) put
