@@ -4,9 +4,6 @@ use clap::error::ErrorKind;
 use clap::{Arg, ArgAction, Command};
 use std::alloc::Global;
 
-/// The length of the log in bytes.
-pub const LOG_BYTES: u64 = 524_800;
-
 /// The beginning of the word that names the log's file.
 const OPTION: &str = "--log=";
 
@@ -16,6 +13,7 @@ pub fn take_path(alloc: Global, words: &mut Vec<String>) -> Result<Option<String
         Some(word) if word.starts_with(OPTION) => path_in(alloc, word.as_str())?,
         _ => return Ok(None),
     };
+    // The last word is the one that was read above.
     let _ = words.pop();
     Ok(Some(path))
 }

@@ -4,7 +4,7 @@ use Rattle.std.proofs.lemmas.List.{append-nil}
 use Rattle.dtx_values.specs.declared.entry.Entry.{Entry}
 use Rattle.dtx_values.specs.Outgoing.{Outgoing, with}
 
--- two blocks behind each other are one
+-- two blocks after each other are one
 pub with-with : (o : Outgoing) (xs ys : List Entry) → with (with o xs) ys ≡ with o (xs ++ ys)
 with-with o xs ys =
     let room : (o.room - length xs) - length ys ≡ o.room - length (xs ++ ys) = omega (arith, length-append xs ys) in

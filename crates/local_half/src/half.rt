@@ -251,6 +251,7 @@ impl LocalHalf {
         ensures transaction { self.new.transaction ≡ self.old.transaction }
         ensures seen { self.new.seen ≡ track self.old.seen x }
     {
+        // The tables can't refuse here: the condition says that they take what the entry adds. Whoever writes an entry looked at the tables before.
         match x {
             Entry::Began(d) => self.limit = Some(d),
             Entry::Clock(n) => self.clock = n,

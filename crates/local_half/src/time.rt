@@ -15,7 +15,7 @@ pub fn limit_of(d: Timeout) -> u32
     }
 }
 
-/// The clock behind a tick: it stays at the last value of its `u64`.
+/// The clock after a tick: it stays at the last value of its `u64`.
 pub fn ticked(clock: u64, n: u32) -> u64
     ensures { result ≡ ticked clock n }
 {

@@ -16,7 +16,7 @@ closed_notes xs = map written (map (λ x. Closes x.scope) xs)
 closed_notes-append : (xs ys : List OpenScope) → closed_notes (xs ++ ys) ≡ closed_notes xs ++ closed_notes ys
 closed_notes-append xs ys = ap (map written) (map-append (λ (x : OpenScope). Closes x.scope) xs ys) ∙ map-append written (map (λ x. Closes x.scope) xs) (map (λ x. Closes x.scope) ys)
 
--- what is closed of the first, with the scope behind them
+-- what is closed of the first, with the scope after them
 pub noted_more : (before notes after : List Entry) (xs : List OpenScope) (k : ℕ) (x : OpenScope) → k < length xs → x ≡ get_or xs k x
     → notes ≡ before ++ closed_notes (take k xs) → after ≡ notes ++ closed_notes (x ∷ []) → after ≡ before ++ closed_notes (take (k + 1) xs)
 noted_more before notes after xs k x less here noted more =

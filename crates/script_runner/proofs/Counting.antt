@@ -1,4 +1,4 @@
--- How many items pass a test, before and behind a change.
+-- How many items pass a test, before and after a change.
 use Rattle.std.proofs.Common.{◌≡◌, ℕ, suc, ◌<◌, ◌≤◌, Bool, true, false, ◌&&◌, ◌||◌, not, List, [], ◌∷◌, map, find, Some, cond, if◌then◌else◌, refl, subst, arith}
 use Rattle.dtx_values.specs.Table.{how_many}
 use Rattle.dtx_model.specs.Words.{has}
@@ -15,7 +15,7 @@ how_many-map-le p f keeps (x ∷ xs) = step (p (f x)) (p x) (keeps x) (how_many-
     step false true k h = omega arith
     step false false k h = h
 
--- an item passes, and doesn't any more behind the change
+-- an item passes, and doesn't any more after the change
 abbrev pub falls : {A : Type 0} → (A → Bool) → (A → A) → A → Bool
 falls p f x = p x && not (p (f x))
 

@@ -33,7 +33,7 @@ kth-place : {A : Type 0} (xs : List A) (k : ℕ) → k ≢ 0 → kth xs k ≡ sl
 kth-place xs zero d = absurd (d refl)
 kth-place xs (suc k) d = let same : suc k - 1 ≡ k = omega arith in ap (slice_get xs) (sym same)
 
--- what stands in the first list stands there with another behind it
+-- what stands in the first list stands there with another after it
 pub at_first : {A : Type 0} (xs ys : List A) (k : ℕ) (x : A) → slice_get xs k ≡ Some x → slice_get (xs ++ ys) k ≡ Some x
 at_first [] ys k x e = absurd (cc)
 at_first (z ∷ xs) ys zero x e = e

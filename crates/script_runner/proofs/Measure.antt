@@ -116,7 +116,7 @@ decision_le (Some y) true x = omega arith
 decision_le None true x = omega arith
 decision_le d false x = omega arith
 
--- a vote, with a veto behind it or not
+-- a vote, with a veto after it or not
 pub steps_left-voted : (o : Observed) (e : EnlNo) (v : Vote) (b : Bool) → has (λ x. is_of e.value x && (is_marked x && unvoted x)) o.table ≡ true
     → steps_left (track_all o (Voted e v ∷ veto_if b)) < steps_left o
 unfolding steps_left track track_all

@@ -40,7 +40,7 @@ open_none a =
     (slice_get-get_or {X = Standing} (replicate 16 nothing_open) (a.value - 1) nothing_open (subst (λ n. a.value - 1 < n) (sym (length-replicate {A = Standing} 16 nothing_open)) k)
     ∙ ap Some (get_or-replicate {A = Standing} 16 (a.value - 1) nothing_open nothing_open k))
 
--- behind a line the contexts have the scopes that it leaves open too, where its actor's has those that its entries leave
+-- after a line the contexts have the scopes that it leaves open too, where its actor's has those that its entries leave
 pub open_after : (cs : List Standing) (before : List Line) (l : Line) (new : Standing) → length cs ≡ 16
     → ((es : List ScopeEntry) → open_scopes es ≡ scopes_at l.actor cs → open_scopes (onto es (scope_entries l.body (scopes_at l.actor cs))) ≡ new.scopes)
     → AreOpen cs before → AreOpen (set cs (l.actor.value - 1) new) (l ∷ before)
@@ -82,7 +82,7 @@ no_scope_call s (Close u) c xs e = absurd (cc)
 no_scope_call s Current c xs e = absurd (cc)
 no_scope_call s _ c xs e = refl
 
--- behind a line that isn't answered at a context the trace is the same
+-- after a line that isn't answered at a context the trace is the same
 pub after_scope-none : (n : ℕ) (l : Line) (xs : List OpenScope) (T : List Placed) → scope_answer l.body xs ≡ None → after_scope n l xs T ≡ T
 after_scope-none n l xs T none =
     let block : scope_block n l.actor l.body xs ≡ [] = ap (λ (a : Option Answer). called_with n l.actor a (scope_entries l.body xs)) none in

@@ -59,7 +59,7 @@ is_cut_short given before after bytes s text out front reads t same gained =
       gained = λ w told. subst (λ (x : List ℕ). IsPartWritten w x after) (same ∙ t.spelled) (gained w told);
     }
 
--- nothing is left behind a script
+-- nothing is left after a script
 pub left-none : (given left : Option (List ℕ)) (bytes : List ℕ) (s : List Line) → IsFront given bytes → Reads bytes s → ForSome given (λ b. left ≡ Some (drop 1048577 b))
     → ForSome given (λ b. left ≡ Some [])
 left-none given left bytes s front reads rest b told =

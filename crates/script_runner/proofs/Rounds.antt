@@ -17,7 +17,7 @@ use Rattle.script_runner.proofs.Measure.{steps_left, steps_left-pending}
 pub passed-below : (u t v : ℕ) → u ≤ t → is_passed u t v ≡ true → v < t
 passed-below u t v k p = grind (arith, nat_tests)
 
--- what is observed of t behind its step
+-- what is observed of t after its step
 pub observe-advanced : (s : List Line) (t : TxNo) (k : ℕ) (trace new : List Placed) (a : Advances s t k trace new)
     → observe (history t.value (past_of new)) ≡ track_all (observe (history t.value (past_of trace))) (block (observe (history t.value (past_of trace))) a.step)
 observe-advanced s t k trace new a =

@@ -72,7 +72,7 @@ calls_given Nothing ts = []
 calls_given (CallGiven t c) ts = (t, c) ∷ []
 calls_given Rollbacks ts = rollbacks ts
 
--- a scope line was done at a context: this is its answer, these are its entries there and its calls, and the scopes behind it are those
+-- a scope line was done at a context: this is its answer, these are its entries there and its calls, and the scopes after it are those
 -- that its entries leave open
 pub record DoesScope (b : Body) (old new : Standing) (notes : List Entry) (x : Acted) : Type 0 where
   pub answer : scope_answer b old.scopes ≡ Some x.answer

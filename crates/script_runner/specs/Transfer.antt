@@ -1,7 +1,7 @@
 -- What is written when a write stops early.
 use Rattle.std.specs.Prelude.{◌≡◌, ◌≢◌, ◌++◌, ℕ, List, [], Option, Some}
 
--- of these bytes only the first are written behind what was there, and some are not
+-- of these bytes only the first are written after what was there, and some are not
 pub record IsPartWritten (before bytes : List ℕ) (after : Option (List ℕ)) : Type 0 where
   pub part : List ℕ
   pub rest : List ℕ

@@ -10,7 +10,7 @@ ghost use Rattle.script_runner.specs.Calling.{IsReady};
 use dtx_values::{ActorNo, Answer, Call, EnlNo, Entry, Outbox};
 use local_half::LocalHalf;
 
-/// The answer behind `notbegun`.
+/// The answer after `notbegun`.
 fn if_begun(half: &LocalHalf, a: Answer) -> Answer
     ensures { result ≡ if_begun half.now.seen.limit a }
 {
@@ -53,7 +53,7 @@ fn gone(half: &mut LocalHalf, actor: ActorNo, line: u32, e: EnlNo, out: &mut Out
     }
 }
 
-/// Does a call, for which so many steps were done: writes its entry, and behind it its facts.
+/// Does a call, for which so many steps were done: writes its entry, and after it its facts.
 pub fn call(half: &mut LocalHalf, actor: ActorNo, line: u32, c: &Call, done: u16, out: &mut Outbox)
     requires ready { IsReady half.old.seen c.now }
     requires room { 4 ≤ out.old.room }
@@ -71,6 +71,7 @@ pub fn call(half: &mut LocalHalf, actor: ActorNo, line: u32, c: &Call, done: u16
         }
         Call::Gone(e) => gone(half, actor, line, e, out),
         _ => {
+            // The answer is in the entry that the half wrote.
             let _ = half.call(actor, line, c, out);
         }
     }

@@ -145,6 +145,8 @@ pub fn run_program<S: Source, K: Sink, D: Disk>(
     ensures given_up { IsTrue D.honest → result.0 ≡ Exit.Memory → (result.1 ≡ disk) ⊎ AllHold (D.image result.1) [] }
     ensures untouched { (result.0 ≡ Exit.Usage) ⊎ ((result.0 ≡ Exit.ReadFault) ⊎ IsJudged result.0) → result.1 ≡ disk }
 {
+    // This does nothing when it runs. It brings in that bytes are one script or have one first bad line, and never both, so that the answer which
+    // is given is the only one that fits; and that what is bad in the bytes that were read is bad in all of them.
     reads_exactly();
     if !are_words(words) {
         return (Exit::Usage, disk);

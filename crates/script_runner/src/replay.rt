@@ -276,6 +276,8 @@ impl<'a> Run<'a> {
         ensures script { self.new.script ≡ self.old.script }
         ensures ran { OnOk result (LinesRan self.old.script (past_of self.old.script) (past_of self.new.trace)) }
     {
+        // This does nothing when it runs. It brings in that what a call makes is new, and that a durable which is run finds nothing durable or
+        // promotable, which the calls below ask for.
         replay();
         let lines = self.plans.lines();
         let mut n = 0;
@@ -342,6 +344,7 @@ pub fn run_replay<D: Disk>(alloc: Global, s: &Script, log: &mut Log<D>) -> Resul
     ensures outcome { IfOk result (λ T. HasOneOutcome s.now T) }
     ensures complete { IfOk result (λ T. IsComplete s.now T) }
 {
+    // These calls do nothing when they run: their bodies are empty. Each brings its law into this proof, from which the clauses follow.
     one_outcome();
     crossings();
     completeness();

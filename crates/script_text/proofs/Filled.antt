@@ -21,7 +21,7 @@ record Left (in_front : List (List ℕ) → List (List ℕ)) (f : List Pattern) 
   fills : fits f rest ≡ true
   whole : in_front rest ≡ ws
 
--- the value whose text the first word is, and what is left behind it
+-- the value whose text the first word is, and what is left after it
 record Cut (A : Type 0) (spell : A → List ℕ) (in_front : List (List ℕ) → List (List ℕ)) (f : List Pattern) (ws : List (List ℕ)) : Type 0 where
   value : A
   left : Left (λ r. in_front (spell value ∷ r)) f ws
@@ -235,7 +235,7 @@ each_form ws =
     beside alone Par (codes "par") refl refl
     beside tt
 
--- words that fill a form behind an actor are an actor and words that fill a form
+-- words that fill a form after an actor are an actor and words that fill a form
 no_actor : (fs : List (List Pattern)) → fits_some (ahead actor_pattern fs) [] ≡ true → ⊥
 no_actor [] h = cc h
 no_actor (f ∷ fs) h = no_actor fs h

@@ -67,11 +67,11 @@ body_fills (Stop n i) h = (24, also (number_allowed 1 99 n (omega arith) h) (als
 body_fills Restart h = (25, refl)
 body_fills Par h = (26, refl)
 
--- the forms of a line are those of a command behind an actor
+-- the forms of a line are those of a command after an actor
 pub line_forms_are : line_forms ≡ ahead actor_pattern command_forms
 line_forms_are = refl
 
--- an actor and words that fill a form fill the form behind an actor
+-- an actor and words that fill a form fill the form after an actor
 actor_fits : (fs : List (List Pattern)) (a : List ℕ) (ws : List (List ℕ)) → allows actor_pattern a ≡ true → fits_some (ahead actor_pattern fs) (a ∷ ws) ≡ fits_some fs ws
 actor_fits [] a ws h = refl
 actor_fits (f ∷ fs) a ws h = rw (h, actor_fits fs a ws h) refl

@@ -80,7 +80,7 @@ pub first-none : (o : Option BadCause) → first_fault None o ≡ o
 unfolding first_fault
 first-none o = refl
 
--- where the first word is taken, the form goes on behind it
+-- where the first word is taken, the form goes on after it
 pub pass_one : (s : Pattern) (f : List Pattern) (ws : List (List ℕ)) (w : List ℕ) (new : List (List ℕ)) → IsAt s ws w new → word_fault ((s ∷ f) ∷ []) ws ≡ word_fault (f ∷ []) new
 unfolding first_fault
 pass_one s f ws w new h = single s f ws ∙ rw (h.1, h.2) refl

@@ -57,7 +57,7 @@ none_formed taken bs h =
     let k = all_hold (nat_lt SCRIPT_BYTES (taken + reach bs)) (nat_lt LINE_BYTES (length (front bs))) (has_newline bs) (is_text (front bs)) (word_fault line_forms (words_of (front bs))) h in
     record { within = at_most SCRIPT_BYTES (taken + reach bs) k.0; short = at_most LINE_BYTES (length (front bs)) k.1; newline = k.2; text = k.3; words = k.4 }
 
--- what follows a line stands behind its LF
+-- what follows a line stands after its LF
 pub line_text-append : (l : Line) (after : List ℕ) → line_text l ++ after ≡ join_with_byte 32 (words l) ++ 10 ∷ after
 line_text-append l after = append_assoc (join_with_byte 32 (words l)) (10 ∷ []) after
 
@@ -73,7 +73,7 @@ line_is_text l h = text_words (words l) (clean_words l h)
 line_front : (l : Line) (after : List ℕ) → is_in_range l.body ≡ true → front (line_text l ++ after) ≡ join_with_byte 32 (words l)
 line_front l after h = ap front (line_text-append l after) ∙ front_text (join_with_byte 32 (words l)) after (line_is_text l h)
 
--- what follows is behind it
+-- what follows is after it
 line_behind : (l : Line) (after : List ℕ) → is_in_range l.body ≡ true → behind_front (line_text l ++ after) ≡ after
 line_behind l after h = ap behind_front (line_text-append l after) ∙ behind_text (join_with_byte 32 (words l)) after (line_is_text l h)
 

@@ -27,7 +27,7 @@ wants_none [] k = refl
 wants_none (b ∷ []) k = refl
 wants_none (b ∷ d ∷ ds) k = refl
 
--- no form is left behind such a word
+-- no form is left after such a word
 none_left : (w : List ℕ) (ks : List (List ℕ)) (fs : List (List Pattern)) → IsOther w ks → Keyed ks fs → filter_map (behind w) fs ≡ []
 none_left w ks _ h NoForm = refl
 none_left w ks _ h (AlsoForm k f fs e n) = rw (allows-none w (k ∷ []) (other_word w k ks h e, tt), none_left w ks fs h n) refl
@@ -51,7 +51,7 @@ others : (w : List ℕ) (ks ls : List (List ℕ)) → IsOther w ks → IsOther w
 others w [] ls h k = k
 others w (x ∷ ks) ls h k = (h.0, others w ks ls h.1 k)
 
--- another word than those of an opening is unknown behind a scope's name
+-- another word than those of an opening is unknown after a scope's name
 pub unknown_opening : (w : List ℕ) (ws : List (List ℕ)) → IsOther w opening_keys → word_fault opening_forms (w ∷ ws) ≡ Some UnknownWord
 unknown_opening w ws h = unknown w ws opening_keys opening_forms h (search (rules, AlsoForm, NoForm))
 

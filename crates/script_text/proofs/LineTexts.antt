@@ -58,7 +58,7 @@ text_without (b ∷ t) h = or_false (b == 10) _ (no_newline b (and_left _ _ h)) 
 pub front_text : (t a : List ℕ) → is_text t ≡ true → front (t ++ 10 ∷ a) ≡ t
 front_text t a h = front_cut t a (text_without t h)
 
--- and what follows the LF is behind it
+-- and what follows the LF is after it
 pub behind_text : (t a : List ℕ) → is_text t ≡ true → behind_front (t ++ 10 ∷ a) ≡ a
 behind_text [] a h = refl
 behind_text (b ∷ t) a h = rw (no_newline b (and_left _ _ h)) (behind_text t a (and_right _ _ h))

@@ -90,7 +90,7 @@ bad_more before rest more c h (ByNames l e w r n) =
     let there = (none_formed (length (script_text before)) rest e).newline in
     ByNames l (same_fault (length (script_text before)) rest more there ∙ e) (ap words_of (front_more rest more there) ∙ w) r n
 
--- what stands behind a long front is nothing, or the front is as long as can be
+-- what stands after a long front is nothing, or the front is as long as can be
 taken_whole : (k : ℕ) (b : List ℕ) → length (take k b) < k → drop k b ≡ []
 taken_whole k b h = by (drop k b) (omega (arith, length-take k b, length-drop k b))
   where

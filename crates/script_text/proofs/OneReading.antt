@@ -38,22 +38,22 @@ compared (l ∷ s) (m ∷ r) a b hs hr e =
 script_to : (s : List Line) (l : Line) (r : List Line) → IsScript (s ++ l ∷ r) → IsScript (s ++ l ∷ [])
 script_to s l r h = script_front (s ++ l ∷ []) r (subst IsScript (sym (append_assoc s (l ∷ []) r)) h)
 
--- nothing stands behind anything in an empty list
+-- nothing stands after anything in an empty list
 nothing_behind : (xs ys : List ℕ) → [] ≡ xs ++ ys → ys ≡ []
 nothing_behind [] ys e = sym e
 nothing_behind (x ∷ xs) ys e = absurd (cc e)
 
--- two scripts with nothing behind them are one
+-- two scripts with nothing after them are one
 both : (s r : List Line) → Compared s r [] [] → s ≡ r
 both s r (Front [] e k) = sym (e ∙ append-nil s)
 both s r (Front (l ∷ q) e k) = absurd (line_nonempty l (script_text q ++ []) (k ∙ append_assoc (line_text l) (script_text q) []))
 both s r (Beyond l q e k) = absurd (line_nonempty l (script_text q ++ []) k)
 
--- lines behind which a script goes on aren't followed by a bad one
+-- lines after which a script goes on aren't followed by a bad one
 goes_on : (b : List ℕ) (n : ℕ) (c : BadCause) (y : Bad b n c) (s : List Line) (l : Line) (q : List Line) (a : List ℕ) → IsScript s → s ≡ y.before ++ l ∷ q → y.rest ≡ line_text l ++ a → ⊥
 goes_on b n c y s l q a h e k = not_bad_here y.before l y.rest a c (script_to y.before l q (subst IsScript e h)) k y.cause
 
--- a script with nothing behind it doesn't compare with lines of which the next is bad
+-- a script with nothing after it doesn't compare with lines of which the next is bad
 neither : (s : List Line) (b : List ℕ) (n : ℕ) (c : BadCause) (y : Bad b n c) → IsScript s → Compared s y.before [] y.rest → ⊥
 neither s b n c y h (Front q e k) = y.left (nothing_behind (script_text q) y.rest k)
 neither s b n c y h (Beyond l q e k) = goes_on b n c y s l q (script_text q ++ []) h e k
@@ -68,7 +68,7 @@ one_cause before rest c d (ByNames l e v q o) (ByNames m f w r n) =
     let k : Some c ≡ Some d = sym o ∙ ap (name_fault (past_of before)) same ∙ n in
     cc k
 
--- two fronts behind the same lines are one
+-- two fronts after the same lines are one
 same_front : (b : List ℕ) (n m : ℕ) (c d : BadCause) (y : Bad b n c) (z : Bad b m d) → y.before ≡ z.before → y.rest ≡ z.rest → (n ≡ m) × (c ≡ d)
 same_front b n m c d y z e f =
     (omega (arith, y.number, z.number, ap length e), one_cause z.before z.rest c d (subst (λ (r : List ℕ). IsBadFor z.before r c) f (subst (λ (s : List Line). IsBadFor s y.rest c) e y.cause)) z.cause)

@@ -57,7 +57,7 @@ one_more b before rest some e s next = by_form (form_fault (length (script_text 
         let y = line_of (words_of (front rest)) (none_fits line_forms (words_of (front rest)) f.words) in
         by_names h y (name_fault (past_of before) y.line) refl
 
--- what bytes are behind a script that they begin with
+-- what bytes are after a script that they begin with
 behind_script : (k : ℕ) (b : List ℕ) (before : List Line) (rest : List ℕ) → length rest ≤ k → b ≡ script_text before ++ rest → IsScript before → Found b
 behind_script k b before [] h e s = inl (before, record { bytes = e ∙ append-nil (script_text before); script = s })
 behind_script zero b before (x ∷ xs) h e s = absurd (omega arith)

@@ -49,7 +49,7 @@ scope_keys = codes "open" ∷ codes "finish" ∷ codes "close" ∷ codes "curren
 abbrev pub event_keys : List (List ℕ)
 event_keys = codes "tick" ∷ codes "do" ∷ codes "lose" ∷ codes "gone" ∷ codes "reenlist" ∷ codes "recovered" ∷ codes "stop" ∷ codes "restart" ∷ codes "par" ∷ []
 
--- the forms behind a scope's name
+-- the forms after a scope's name
 abbrev pub opening_forms : List (List Pattern)
 opening_forms =
     (word (codes "required") ∷ transaction_pattern ∷ timeout_pattern ∷ iso_pattern ∷ [])
@@ -66,7 +66,7 @@ abbrev pub IsOpening : List (List ℕ) → Result Opening BadCause → Type 0
 IsOpening ws (Ok o) = (ws ≡ opening_words o) × (is_opening_in_range o ≡ true) × (word_fault opening_forms ws ≡ None)
 IsOpening ws (Err c) = word_fault opening_forms ws ≡ Some c
 
--- the forms behind a durable's manager
+-- the forms after a durable's manager
 abbrev pub support_forms : List (List Pattern)
 support_forms = (word (codes "single") ∷ vote_pattern ∷ owner_pattern ∷ []) ∷ (word (codes "two") ∷ vote_pattern ∷ []) ∷ []
 

@@ -29,7 +29,7 @@ fn requires_new(words: &mut Words<'_>) -> Result<Opening, BadCause>
     Ok(Opening::RequiresNew(t, d, i))
 }
 
-/// Reads that no word stands behind `suppress`.
+/// Reads that no word stands after `suppress`.
 #[tactic(auto, using(crate::proofs::Forms::forms))]
 fn suppress(words: &Words<'_>) -> Result<Opening, BadCause>
     ensures { IsOpening (codes "suppress" ∷ words.now) result }

@@ -202,7 +202,7 @@ of_entry _ = refl
 body_without : (n : ℕ) (x : Placed) → IsWithout 10 (line_body n x)
 body_without n x = spaced (decimal n ++ codes " " ++ place_text x.0) (entry_text x.1) (spaced (decimal n) (place_text x.0) (number n) (of_place x.0)) (of_entry x.1)
 
--- what follows a line stands behind its LF
+-- what follows a line stands after its LF
 line-append : (n : ℕ) (x : Placed) (after : List ℕ) → trace_line n x ++ after ≡ line_body n x ++ 10 ∷ after
 line-append n x after = append_assoc (line_body n x) (10 ∷ []) after
 
