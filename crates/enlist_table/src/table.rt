@@ -1,6 +1,6 @@
 //! The table.
 ghost use Rattle.std.specs.Prelude.{◌≡◌, ◌≤◌, [], length, map, find, not, true, IfErr, IfOk, OnErr, OnOk, None, Some, vec_capacity};
-ghost use Rattle.std.specs.List.{insert, list_any};
+ghost use Rattle.std.specs.List.{list_any};
 ghost use Rattle.dtx_values.specs.declared.limits.TheConstants.{ENLISTMENTS};
 ghost use Rattle.dtx_values.specs.declared.row.Row.{Row};
 ghost use Rattle.dtx_values.specs.Class.{is_durable, is_promotable};
@@ -11,7 +11,7 @@ ghost use Rattle.dtx_values.specs.Waves.{all_voted, may_be_asked, next_ask, zero
 ghost use Rattle.enlist_table.specs.Refusals.{add_refusal, row_refusal};
 
 use crate::refusal::{AddRefusal, TableRefusal};
-use dtx_values::{Class, DURABLES, ENLISTMENTS, EnlNo, Row, Vote};
+use dtx_values::{Class, DURABLES, ENLISTMENTS, EnlNo, Row, Vote, insert_in_order};
 use std::alloc::{AllocError, Global};
 use std::marker::Model;
 
@@ -57,19 +57,6 @@ fn lasting(rows: &[Row]) -> usize
     ensures { result ≡ how_many is_lasting rows.now }
 {
     rows.iter().filter(|x| x.is_lasting()).count()
-}
-
-/// The index at which a row of this number goes.
-fn place(rows: &[Row], n: u32) -> usize
-    ensures within { result ≤ length rows.now }
-    ensures there { (x : Row) → x.number.value ≡ n → insert rows.now result x ≡ insert_by number_of x rows.now }
-{
-    for (i, x) in rows.iter().enumerate() {
-        if x.number.get() >= n {
-            return i;
-        }
-    }
-    rows.len()
 }
 
 /// Marks the row as asked after n others, where it is this enlistment's.
@@ -295,11 +282,8 @@ impl EnlistTable {
             asked: None,
             vote: None,
         };
-        let at = place(&self.rows, e.get());
-        match self.rows.insert(at, row) {
-            Ok(()) => Ok(()),
-            Err(_) => unreachable!(),
-        }
+        insert_in_order(&mut self.rows, row);
+        Ok(())
     }
 
     /// Marks an enlistment as asked to prepare.

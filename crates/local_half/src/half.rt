@@ -8,12 +8,12 @@ ghost use Rattle.dtx_model.specs.Observed.{observe, track};
 ghost use Rattle.dtx_model.specs.Steps.{if_begun, is_gone, stands};
 ghost use Rattle.local_half.specs.Half.{MayTakeIn, after, is_its_own};
 
-use crate::listeners::{add, is_gone, lose, tell};
+use crate::listeners::{is_gone, lose, tell};
 use dependent_clones::Clones;
 use dtx_model::Listener;
 use dtx_values::{
     Answer, Ask, Call, Class, CloneKind, ENLISTMENTS, EnlNo, Entry, Outbox, Outcome, Party, Row,
-    TxNo,
+    TxNo, insert_in_order,
 };
 use enlist_table::EnlistTable;
 use phase_zero::Waves;
@@ -232,7 +232,7 @@ impl LocalHalf {
         ensures seen { self.new.seen ≡ track self.old.seen (Enlisted e class) }
     {
         match self.table.add(e, class) {
-            Ok(()) => add(
+            Ok(()) => insert_in_order(
                 &mut self.listeners,
                 Listener {
                     enlistment: e,

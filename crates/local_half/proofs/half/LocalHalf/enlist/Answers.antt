@@ -12,8 +12,8 @@ use Rattle.local_half.proofs.half.LocalHalf.enlist.Goals as goal
 pub invariant_of-self : goal.invariant_of-self
 invariant_of-self c =
     let table = c.self.inside.table in
-    let capacity = c.add-in-Ok.ensures.capacity in
-    let listeners = ap length c.add-in-Ok.ensures.items ∙ length-insert_by listener_number _ c.self.inside.listeners.items in
+    let capacity = c.insert_in_order.ensures.capacity in
+    let listeners = ap length c.insert_in_order.ensures.items ∙ length-insert_by listener_number _ c.self.inside.listeners.items in
     let rows = ap length c.in-Ok.ensures.added ∙ length-insert_by number_of (fresh_row c.args.e c.args.class (marks table)) table in
     let same : c.args.self.now.seen.table ≡ table = sym (ap (λ (h : Half). h.seen.table) c.self.view_is) in
     let alone = subst (λ xs. (is_volatile c.args.class || not (has is_lasting xs)) ≡ true) same c.requires.1 in
