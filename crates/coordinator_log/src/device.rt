@@ -46,6 +46,7 @@ fn write_before<D: Disk>(disk: &mut D, image: Image, at: u64, from: &[u8])
 
 // What is synced before the crash of a stop at a sync.
 fn sync_before<D: Disk>(disk: &mut D, image: Image)
+    ensures done { IsTrue D.honest → image ≡ Image.Keep → Rose (D.faults disk.old) (D.faults disk.new) ⊎ IsOnly (D.seen disk.old) (D.image disk.new) }
     ensures seen { IsTrue D.honest → D.seen disk.new ≡ D.seen disk.old }
     ensures images { IsTrue D.honest → AreWithin (D.image disk.old) (D.image disk.new) }
     ensures size { D.size disk.new ≡ D.size disk.old }
@@ -105,6 +106,7 @@ fn sync<D: Disk>(disk: &mut D, armed: &mut Option<ArmedStop>) -> Result<(), Brok
     ensures cause { OnErr result (stop_in 1 armed.old ≡ None → Rose (D.faults disk.old) (D.faults disk.new)) }
     ensures crashed { IsTrue D.honest → (image : Image) → stop_in 1 armed.old ≡ Some image
         → (d : D) × D.leaves image d (D.seen disk.new) × (D.seen d ≡ D.seen disk.old) }
+    ensures kept { IsTrue D.honest → stop_in 1 armed.old ≡ Some Image.Keep → Rose (D.faults disk.old) (D.faults disk.new) ⊎ IsOnly (D.seen disk.old) (D.image disk.new) }
 {
     match reached(armed) {
         None => {
@@ -147,6 +149,9 @@ pub fn store<D: Disk>(
         → (s : ArmedStop) → armed.old ≡ Some s → armed.new ≡ None → (d : D) × D.leaves s.image d (D.seen disk.new)
         × (Rose (D.faults disk.old) (D.faults disk.new)
         ⊎ HasSlots (D.seen disk.old) (if is_done 3 s then set (slots_of (D.seen disk.old)) k (Ok (Some (record_of r.now))) else slots_of (D.seen disk.old)) (D.seen d)) }
+    ensures kept { IsTrue D.honest → IsOnly (D.seen disk.old) (D.image disk.old) → IsClosed k (D.seen disk.old)
+        → (s : ArmedStop) → armed.old ≡ Some s → armed.new ≡ None → s.passes ≡ 3 → s.image ≡ Image.Keep → Rose (D.faults disk.old) (D.faults disk.new)
+        ⊎ ((c : List ℕ) → D.image disk.new c → HasSlots (D.seen disk.old) (set (slots_of (D.seen disk.old)) k (Ok (Some (record_of r.now)))) c) }
 {
     // This does nothing when it runs. It brings in that what is written of a record is read as that record.
     records_are_read_again();
@@ -185,6 +190,9 @@ pub fn clear<D: Disk>(disk: &mut D, armed: &mut Option<ArmedStop>, k: usize) -> 
         → (s : ArmedStop) → armed.old ≡ Some s → armed.new ≡ None → (d : D) × D.leaves s.image d (D.seen disk.new)
         × (Rose (D.faults disk.old) (D.faults disk.new)
         ⊎ HasSlots (D.seen disk.old) (if is_done 1 s then set (slots_of (D.seen disk.old)) k (Ok None) else slots_of (D.seen disk.old)) (D.seen d)) }
+    ensures kept { IsTrue D.honest → IsOnly (D.seen disk.old) (D.image disk.old) → IsOpen k (D.seen disk.old)
+        → (s : ArmedStop) → armed.old ≡ Some s → armed.new ≡ None → s.passes ≡ 1 → s.image ≡ Image.Keep → Rose (D.faults disk.old) (D.faults disk.new)
+        ⊎ ((c : List ℕ) → D.image disk.new c → HasSlots (D.seen disk.old) (set (slots_of (D.seen disk.old)) k (Ok None)) c) }
 {
     let gate = slot_at(k);
     // One byte is enough: a record with a closed gate isn't looked at. Its bytes stay until the slot is used again.

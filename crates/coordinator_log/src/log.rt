@@ -159,6 +159,8 @@ impl<D: Disk> Log<D> {
         ensures crashed { IsTrue D.honest → IsTrue self.old.is_up → (s : ArmedStop) → self.old.armed ≡ Some s → self.new.armed ≡ None
             → IsLeftOf (D.leaves s.image) D.seen (Rose (D.faults self.old.disk) (D.faults self.new.disk))
             (if is_done 3 s then with_record (record_of r.now) self.old.slots else open_records self.old.slots) self.new.disk }
+        ensures kept { IsTrue D.honest → IsTrue self.old.is_up → (s : ArmedStop) → self.old.armed ≡ Some s → self.new.armed ≡ None → s.passes ≡ 3 → s.image ≡ Image.Keep
+            → Rose (D.faults self.old.disk) (D.faults self.new.disk) ⊎ AllHold (D.image self.new.disk) (with_record (record_of r.now) self.old.slots) }
         ensures smooth { OnOk result (D.faults self.new.disk ≡ D.faults self.old.disk) }
         ensures grows { D.faults self.old.disk ≤ D.faults self.new.disk }
         ensures life { self.new.life ≡ self.old.life }
@@ -212,6 +214,8 @@ impl<D: Disk> Log<D> {
         ensures crashed { IsTrue D.honest → IsTrue self.old.is_up → (s : ArmedStop) → self.old.armed ≡ Some s → self.new.armed ≡ None
             → IsLeftOf (D.leaves s.image) D.seen (Rose (D.faults self.old.disk) (D.faults self.new.disk))
             (if is_done 1 s then without_first_of id (open_records self.old.slots) else open_records self.old.slots) self.new.disk }
+        ensures kept { IsTrue D.honest → IsTrue self.old.is_up → (s : ArmedStop) → self.old.armed ≡ Some s → self.new.armed ≡ None → s.passes ≡ 1 → s.image ≡ Image.Keep
+            → Rose (D.faults self.old.disk) (D.faults self.new.disk) ⊎ AllHold (D.image self.new.disk) (without_first_of id (open_records self.old.slots)) }
         ensures smooth { OnOk result (D.faults self.new.disk ≡ D.faults self.old.disk) }
         ensures grows { D.faults self.old.disk ≤ D.faults self.new.disk }
         ensures life { self.new.life ≡ self.old.life }

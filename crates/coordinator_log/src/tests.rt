@@ -262,11 +262,14 @@ fn crashed<D: Disk + Drop>(
 
 #[test]
 fn a_crash_after_an_append_leaves_whole_records(rt: HostRuntime) -> Result<(), Fail> {
-    let mut log = log(&rt, rt.alloc())?;
-    log.arm(3, Image::Keep);
-    match crashed(rt.alloc(), log, &record(&rt, 1), Image::Lose) {
-        Ok(log) => assert!(rt; log.lookup(id(1)).is_none()),
-        Err((refusal, _disk)) => panic!(rt; "{refusal:?}"),
+    // the call at which the append stops with keep, and whether its record outlives a crash with lose after that
+    for (call, wanted) in [(3, false), (4, true)] {
+        let mut log = log(&rt, rt.alloc())?;
+        log.arm(call, Image::Keep);
+        match crashed(rt.alloc(), log, &record(&rt, 1), Image::Lose) {
+            Ok(log) => assert_eq!(rt; log.lookup(id(1)).is_some(), wanted, "at call {call}"),
+            Err((refusal, _disk)) => panic!(rt; "{refusal:?}"),
+        }
     }
     Ok(())
 }

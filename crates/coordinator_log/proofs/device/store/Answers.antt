@@ -1,4 +1,4 @@
-use Rattle.std.proofs.Common.{◌≡◌, inl, inr, ℕ, ◌+◌, ◌*◌, length, true, false, refl, arith, ◌≤◌, ◌∙◌, ap, sym, subst}
+use Rattle.std.proofs.Common.{◌≡◌, inl, inr, ℕ, ◌+◌, ◌*◌, length, true, false, refl, arith, ◌≤◌, ◌∙◌, ap, sym, subst, Some}
 use Rattle.outside.specs.Disk.{IsOnly}
 use Rattle.outside.specs.Faults.{Rose}
 use Rattle.dtx_model.specs.Log.{record_of}
@@ -182,3 +182,35 @@ returns-in_err-sync-2-clause-crashed g c h only closed s is none =
 
 pub returns-clause-crashed : goal.returns-clause-crashed
 returns-clause-crashed g c h only closed s is none = absurd (still_armed 4 s _ _ (passed_more 3 _ _ _ (passed_more 2 _ _ _ (passed_more 1 _ _ _ (passed_more 0 _ _ _ (none_passed _) c.in_ok-write.ensures.passed c.write.ensures.counted) c.in_ok-sync.ensures.passed c.sync.ensures.counted) c.in_ok-write-2.ensures.passed c.write-2.ensures.counted) c.in_ok-sync-2.ensures.passed c.sync-2.ensures.counted) is none)
+
+pub returns-in_err-write-clause-kept : goal.returns-in_err-write-clause-kept
+returns-in_err-write-clause-kept g c h only closed s is none third keep = absurd (let at = reached_next 0 s _ _ _ (none_passed _) c.write.ensures.counted is none in omega (arith, at.1))
+
+pub returns-in_err-sync-clause-kept : goal.returns-in_err-sync-clause-kept
+returns-in_err-sync-clause-kept g c h only closed s is none third keep = absurd (let at = reached_next 1 s _ _ _ (passed_more 0 _ _ _ (none_passed _) c.in_ok-write.ensures.passed c.write.ensures.counted) c.sync.ensures.counted is none in omega (arith, at.1))
+
+pub returns-in_err-write-2-clause-kept : goal.returns-in_err-write-2-clause-kept
+returns-in_err-write-2-clause-kept g c h only closed s is none third keep = absurd (let at = reached_next 2 s _ _ _ (passed_more 1 _ _ _ (passed_more 0 _ _ _ (none_passed _) c.in_ok-write.ensures.passed c.write.ensures.counted) c.in_ok-sync.ensures.passed c.sync.ensures.counted) c.write-2.ensures.counted is none in omega (arith, at.1))
+
+pub returns-in_err-sync-2-clause-kept : goal.returns-in_err-sync-2-clause-kept
+returns-in_err-sync-2-clause-kept g c h only closed s is none third keep =
+    let b = g.D.Disk.seen c.args.disk.now in
+    let k = c.args.k in
+    let r = record_of c.args.r.now in
+    let gate = c.slot_at-gate.result in
+    let body = c.write_record.new.into in
+    let room : 524800 ≤ length b = omega (arith, g.met.D.Disk.long c.args.disk.now b h (g.met.D.Disk.sees c.args.disk.now h), c.requires.size) in
+    let long : length body ≡ 511 = ap length c.write_record.ensures ∙ c.records_are_read_again.ensures.long c.args.r.now in
+    let a : gate + 1 ≡ 513 + 512 * k = omega (arith, c.slot_at-gate.ensures) in
+    let b1 = g.D.Disk.seen c.sync.new.disk in
+    let behind = written_behind k (gate + 1) b b1 body r c.requires.slot a closed room (c.in_ok-sync.ensures.seen h ∙ c.in_ok-write.ensures.done h) c.write_record.ensures long (c.records_are_read_again.ensures.again c.args.r.now c.requires.valid) in
+    let ready : gate + 1 ≤ length b1 = omega (arith, g.met.D.Disk.long c.sync.new.disk b1 h (g.met.D.Disk.sees c.sync.new.disk h), c.requires.size, c.sync.ensures.size, c.write.ensures.size, c.requires.slot, c.slot_at-gate.ensures) in
+    let at = reached_next 3 s _ _ _ (passed_more 2 _ _ _ (passed_more 1 _ _ _ (passed_more 0 _ _ _ (none_passed _) c.in_ok-write.ensures.passed c.write.ensures.counted) c.in_ok-sync.ensures.passed c.sync.ensures.counted) c.in_ok-write-2.ensures.passed c.write-2.ensures.counted) c.sync-2.ensures.counted is none in
+    let done = done_stage k c.requires.slot b b1 r closed behind gate _ c.slot_at-gate.ensures (c.in_ok-write-2.ensures.done h) ready in
+    elim (c.sync-2.ensures.kept h (at.0 ∙ ap Some keep)) [
+      | inl rose ↦ inl (subst (λ (n : ℕ). Rose n (g.D.Disk.faults c.sync-2.new.disk)) (c.in_ok-write-2.ensures.smooth ∙ c.in_ok-sync.ensures.smooth ∙ c.in_ok-write.ensures.smooth) rose)
+      | inr alone ↦ inr (λ f on. along b _ f _ (alone f on) done)
+    ]
+
+pub returns-clause-kept : goal.returns-clause-kept
+returns-clause-kept g c h only closed s is none third keep = absurd (still_armed 4 s _ _ (passed_more 3 _ _ _ (passed_more 2 _ _ _ (passed_more 1 _ _ _ (passed_more 0 _ _ _ (none_passed _) c.in_ok-write.ensures.passed c.write.ensures.counted) c.in_ok-sync.ensures.passed c.sync.ensures.counted) c.in_ok-write-2.ensures.passed c.write-2.ensures.counted) c.in_ok-sync-2.ensures.passed c.sync-2.ensures.counted) is none)

@@ -2,7 +2,7 @@ use Rattle.std.proofs.Common.{◌<◌, refl, arith, inl, sym, ap, ◌∙◌, sub
 use Rattle.std.specs.List.{insert}
 use Rattle.dtx_model.specs.Log.{CommitRecord, record_of}
 use Rattle.coordinator_log.specs.Slots.{Agrees, open_records}
-use Rattle.coordinator_log.proofs.Agreement.{insert_lowest, slot_formed, log_either, log_by_test, all_appended, either_appended, agrees_with, log_agrees, either_whole}
+use Rattle.coordinator_log.proofs.Agreement.{insert_lowest, slot_formed, log_either, log_by_test, log_with, all_appended, either_appended, agrees_with, log_agrees, either_whole}
 use Rattle.coordinator_log.proofs.Results.{after_err}
 use Rattle.coordinator_log.proofs.SlotWrites.{unless_fault}
 use Rattle.coordinator_log.proofs.Stops.{image_kept, used_up}
@@ -113,3 +113,16 @@ returns-in_err-store-clause-image g c = rw (← c.self.view_is) (image_kept _ _ 
 
 pub returns-clause-image : goal.returns-clause-image
 returns-clause-image g c = rw (← c.self.view_is) (image_kept _ _ _ c.in_ok-store.ensures.passed.1)
+
+pub returns-in_err-store-clause-kept : goal.returns-in_err-store-clause-kept
+returns-in_err-store-clause-kept g c =
+    let ss = c.self.inside.slots in
+    let k = c.in-Some.k in
+    let s = c.in-Some.ensures.some in
+    let lt : k < length ss = omega (arith, s.0, c.in-Some.ensures.many) in
+    let r = record_of c.args.r.now in
+    rw (← c.self.view_is)
+    (λ h up stop is none third keep. let a = c.self.invariant.agrees h up in
+    let new = insert_lowest ss k r s.2 lt ∙ ap (λ (j : ℕ). insert (open_records ss) j r) (sym s.2) in
+    unless_fault (λ has f on. log_with _ _ ss a k lt (Some r) f (has f on) ∙ ap (λ (l : List CommitRecord). Ok l) new)
+    (c.store.ensures.kept h a.durable (slot_formed _ _ ss a k lt None s.1) stop is none third keep))

@@ -1,7 +1,7 @@
 use Rattle.std.proofs.Common.{◌<◌, refl, arith, inl, sym, ap, ◌∙◌, subst, List, Option, None, Ok, length}
 use Rattle.dtx_model.specs.Log.{CommitRecord}
 use Rattle.coordinator_log.specs.Slots.{Agrees, open_records}
-use Rattle.coordinator_log.proofs.Agreement.{slot_open, log_either, log_by_test, all_freed, agrees_with, log_agrees, either_whole}
+use Rattle.coordinator_log.proofs.Agreement.{slot_open, log_either, log_by_test, log_with, all_freed, agrees_with, log_agrees, either_whole}
 use Rattle.coordinator_log.proofs.Results.{after_err}
 use Rattle.coordinator_log.proofs.SlotWrites.{unless_fault}
 use Rattle.coordinator_log.proofs.Stops.{image_kept, used_up}
@@ -102,3 +102,14 @@ returns-in_err-clear-clause-image g c = rw (← c.self.view_is) (image_kept _ _ 
 
 pub returns-clause-image : goal.returns-clause-image
 returns-clause-image g c = rw (← c.self.view_is) (image_kept _ _ _ c.in_ok-clear.ensures.passed.1)
+
+pub returns-in_err-clear-clause-kept : goal.returns-in_err-clear-clause-kept
+returns-in_err-clear-clause-kept g c =
+    let ss = c.self.inside.slots in
+    let k = c.in-Some.k in
+    let s = c.in-Some.ensures.some in
+    let lt : k < length ss = omega (arith, s.0, c.in-Some.ensures.many) in
+    rw (← c.self.view_is)
+    (λ h up stop is none second keep. let a = c.self.invariant.agrees h up in
+    unless_fault (λ has f on. log_with _ _ ss a k lt None f (has f on) ∙ ap (λ (l : List CommitRecord). Ok l) c.in-Some.ensures.rest)
+    (c.clear.ensures.kept h a.durable (slot_open _ _ ss a k lt s.1) stop is none second keep))
