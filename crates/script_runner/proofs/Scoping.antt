@@ -119,9 +119,9 @@ few_notes b old new notes x did =
 
 -- a call of a scope line is answered, makes no enlistment and no clone, and is no durable
 pub scope_call_ready : (o : Observed) (c : Call) → is_scope_call c ≡ true → IsReady o c
-scope_call_ready o (Begin t d) k = record { answered = refl; new = refl; alone = refl }
-scope_call_ready o (CommitCall t) k = record { answered = refl; new = refl; alone = refl }
-scope_call_ready o (RollbackCall t) k = record { answered = refl; new = refl; alone = refl }
+scope_call_ready o (Begin t d) k = record { answered = refl; new = refl }
+scope_call_ready o (CommitCall t) k = record { answered = refl; new = refl }
+scope_call_ready o (RollbackCall t) k = record { answered = refl; new = refl }
 scope_call_ready o _ k = absurd (cc)
 
 -- the one call of a scope line

@@ -33,11 +33,9 @@ line-requires-clause-ready c =
     let same : lines ≡ s = c.lines-lines.ensures ∙ ap (λ (r : RunState). r.script) c.self.view_is in
     let here : drop i lines ≡ l ∷ ys = drop_more lines i l c.loop-l-test.true ∙ ap (λ (x : Line). x ∷ ys) (sym c.l-item.is) in
     let split : s ≡ xs ++ l ∷ ys = sym same ∙ split_at lines i l ys here in
-    let run : is_run_line (past_of xs) l ≡ true = always-here is_run_line s xs ys l split c.requires.run in
     λ t call gives.
     let given : call_of s l.body ≡ Some (t, call) = ap (λ (r : List Line). call_of r l.body) (sym c.loop-l.invariant.1) ∙ gives in
-    line_ready s (past_of xs) l.body (observe (history t.value T)) t call given run (c.replay.ensures.fresh s xs ys l T t call split c.requires.script.named c.loop-l.invariant.3 given)
-    (λ u e r x durable. c.replay.ensures.alone s xs ys l T t u e r x split c.requires.script.named c.loop-l.invariant.3 run (given ∙ ap (λ (d : Call). Some (t, d)) durable))
+    line_ready s l.body (observe (history t.value T)) t call given (c.replay.ensures.fresh s xs ys l T t call split c.requires.script.named c.loop-l.invariant.3 given)
 
 pub line-requires-clause-unopened : goal.line-requires-clause-unopened
 line-requires-clause-unopened c =
