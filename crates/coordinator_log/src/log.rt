@@ -139,7 +139,7 @@ impl<D: Disk> Log<D> {
         ensures records { IfOk result (λ k. open_records self.new.slots ≡ insert (open_records self.old.slots) k (record_of r.now)) }
         ensures durable { IsTrue D.honest → OnOk result (AllHold (D.image self.new.disk) (open_records self.new.slots)) }
         ensures up { OnOk result (IsTrue self.new.is_up) }
-        ensures appends { IsTrue D.honest → IsTrue self.old.is_up → Appends D.image (record_of r.now) self.old self.new result }
+        ensures images { IsTrue D.honest → IsTrue self.old.is_up → Appends D.image (record_of r.now) self.old self.new result }
 
         // Each refusal exactly where.
         ensures stopped { IsErrOf result LogRefusal.Stopped ↔ (IsFalse self.old.is_up ⊎ (life ≢ self.old.life)) }
@@ -194,7 +194,7 @@ impl<D: Disk> Log<D> {
         ensures records { OnOk result (open_records self.new.slots ≡ without_first_of id (open_records self.old.slots)) }
         ensures durable { IsTrue D.honest → OnOk result (AllHold (D.image self.new.disk) (open_records self.new.slots)) }
         ensures up { OnOk result (IsTrue self.new.is_up) }
-        ensures frees { IsTrue D.honest → IsTrue self.old.is_up → Frees D.image id self.old self.new result }
+        ensures images { IsTrue D.honest → IsTrue self.old.is_up → Frees D.image id self.old self.new result }
 
         // Each refusal exactly where.
         ensures stopped { IsErrOf result LogRefusal.Stopped ↔ (IsFalse self.old.is_up ⊎ (life ≢ self.old.life)) }

@@ -8,14 +8,14 @@ use Rattle.coordinator_log.proofs.SlotWrites.{unless_fault}
 use Rattle.coordinator_log.proofs.Stops.{image_kept, used_up}
 use Rattle.coordinator_log.proofs.log.Log.append.Goals as goal
 
-pub returns-then-not-self-clause-appends : goal.returns-then-not-self-clause-appends
-returns-then-not-self-clause-appends g c = rw (← c.self.view_is) (λ h up. record { images = λ f left. inl (log_agrees _ _ _ (c.self.invariant.agrees h up) f left); durable = tt })
+pub returns-then-not-self-clause-images : goal.returns-then-not-self-clause-images
+returns-then-not-self-clause-images g c = rw (← c.self.view_is) (λ h up. record { images = λ f left. inl (log_agrees _ _ _ (c.self.invariant.agrees h up) f left); durable = tt })
 
-pub returns-in_default-clause-appends : goal.returns-in_default-clause-appends
-returns-in_default-clause-appends g c = rw (← c.self.view_is) (λ h up. record { images = λ f left. inl (log_agrees _ _ _ (c.self.invariant.agrees h up) f left); durable = tt })
+pub returns-in_default-clause-images : goal.returns-in_default-clause-images
+returns-in_default-clause-images g c = rw (← c.self.view_is) (λ h up. record { images = λ f left. inl (log_agrees _ _ _ (c.self.invariant.agrees h up) f left); durable = tt })
 
-pub returns-in_err-store-clause-appends : goal.returns-in_err-store-clause-appends
-returns-in_err-store-clause-appends g c =
+pub returns-in_err-store-clause-images : goal.returns-in_err-store-clause-images
+returns-in_err-store-clause-images g c =
     let ss = c.self.inside.slots in
     let k = c.in-Some.k in
     let s = c.in-Some.ensures.some in
@@ -91,8 +91,8 @@ returns-clause-durable g c h f left =
     log_agrees _ _ _ (agrees_with _ _ ss a k lt (Some (record_of c.args.r.now)) _ _ (c.in_ok-store.ensures.done h a.durable (slot_formed _ _ ss a k lt None s.1)) (c.in_ok-store.ensures.durable h)) f left
     ∙ ap (λ (l : List (Option CommitRecord)). Ok (open_records l)) (sym c.set.ensures.slots)
 
-pub returns-clause-appends : goal.returns-clause-appends
-returns-clause-appends g c =
+pub returns-clause-images : goal.returns-clause-images
+returns-clause-images g c =
     let ss = c.self.inside.slots in
     let k = c.in-Some.k in
     let s = c.in-Some.ensures.some in

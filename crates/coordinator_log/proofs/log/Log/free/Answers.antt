@@ -7,14 +7,14 @@ use Rattle.coordinator_log.proofs.SlotWrites.{unless_fault}
 use Rattle.coordinator_log.proofs.Stops.{image_kept, used_up}
 use Rattle.coordinator_log.proofs.log.Log.free.Goals as goal
 
-pub returns-then-not-self-clause-frees : goal.returns-then-not-self-clause-frees
-returns-then-not-self-clause-frees g c = rw (← c.self.view_is) (λ h up. record { images = λ f left. inl (log_agrees _ _ _ (c.self.invariant.agrees h up) f left); durable = tt })
+pub returns-then-not-self-clause-images : goal.returns-then-not-self-clause-images
+returns-then-not-self-clause-images g c = rw (← c.self.view_is) (λ h up. record { images = λ f left. inl (log_agrees _ _ _ (c.self.invariant.agrees h up) f left); durable = tt })
 
-pub returns-in_default-clause-frees : goal.returns-in_default-clause-frees
-returns-in_default-clause-frees g c = rw (← c.self.view_is) (λ h up. record { images = λ f left. inl (log_agrees _ _ _ (c.self.invariant.agrees h up) f left); durable = tt })
+pub returns-in_default-clause-images : goal.returns-in_default-clause-images
+returns-in_default-clause-images g c = rw (← c.self.view_is) (λ h up. record { images = λ f left. inl (log_agrees _ _ _ (c.self.invariant.agrees h up) f left); durable = tt })
 
-pub returns-in_err-clear-clause-frees : goal.returns-in_err-clear-clause-frees
-returns-in_err-clear-clause-frees g c =
+pub returns-in_err-clear-clause-images : goal.returns-in_err-clear-clause-images
+returns-in_err-clear-clause-images g c =
     let ss = c.self.inside.slots in
     let k = c.in-Some.k in
     let s = c.in-Some.ensures.some in
@@ -80,8 +80,8 @@ returns-clause-durable g c h f left =
     log_agrees _ _ _ (agrees_with _ _ ss a k lt None _ _ (c.in_ok-clear.ensures.done h a.durable (slot_open _ _ ss a k lt s.1)) (c.in_ok-clear.ensures.durable h)) f left
     ∙ ap (λ (l : List (Option CommitRecord)). Ok (open_records l)) (sym c.set.ensures.slots)
 
-pub returns-clause-frees : goal.returns-clause-frees
-returns-clause-frees g c =
+pub returns-clause-images : goal.returns-clause-images
+returns-clause-images g c =
     let ss = c.self.inside.slots in
     let k = c.in-Some.k in
     let s = c.in-Some.ensures.some in
