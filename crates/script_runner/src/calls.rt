@@ -3,19 +3,12 @@ ghost use Rattle.std.specs.Prelude.{◌≡◌, ◌<◌, ◌≤◌, ◌∷◌, []
 ghost use Rattle.dtx_values.specs.Outgoing.{with};
 ghost use Rattle.dtx_values.specs.declared.call.Call.TheVariants.{Gone};
 ghost use Rattle.dtx_values.specs.declared.entry.Entry.TheVariants.{Called};
-ghost use Rattle.dtx_model.specs.Steps.{Calls, await_answer, if_begun, block, gone_answer, is_gone, stands};
+ghost use Rattle.dtx_model.specs.Steps.{Calls, await_answer, block};
 ghost use Rattle.local_half.specs.Half.{after};
 ghost use Rattle.script_runner.specs.Calling.{IsReady};
 
 use dtx_values::{ActorNo, Answer, Call, EnlNo, Entry, Outbox};
 use local_half::LocalHalf;
-
-/// The answer after `notbegun`.
-fn if_begun(half: &LocalHalf, a: Answer) -> Answer
-    ensures { result ≡ if_begun half.now.seen.limit a }
-{
-    if half.is_begun() { a } else { Answer::NotBegun }
-}
 
 /// What an `await` is answered, once it is begun.
 fn await_answer(half: &LocalHalf) -> Answer
@@ -27,26 +20,13 @@ fn await_answer(half: &LocalHalf) -> Answer
     }
 }
 
-/// What a `gone` is answered, once it is begun.
-fn gone_answer(half: &LocalHalf, e: EnlNo) -> Answer
-    ensures { result ≡ gone_answer (stands half.now.seen e.value) (is_gone half.now.seen e.value) }
-{
-    if !half.stands(e) {
-        return Answer::NoSuch;
-    }
-    if half.is_gone(e) {
-        return Answer::Already;
-    }
-    Answer::Fine
-}
-
 /// Does a `gone`: writes its entry, and loses the enlistment where that was answered ok.
 fn gone(half: &mut LocalHalf, actor: ActorNo, line: u32, e: EnlNo, out: &mut Outbox)
     requires { 3 ≤ out.old.room }
     ensures state { half.new ≡ after half.old (block half.old.seen (Calls line actor (Gone e) 0)) }
     ensures out { out.new ≡ with out.old (block half.old.seen (Calls line actor (Gone e) 0)) }
 {
-    let answer = if_begun(half, gone_answer(half, e));
+    let answer = half.if_begun(half.gone_answer(e));
     out.put(Entry::Called(line, actor, answer));
     if answer == Answer::Fine {
         half.gone(e, false, out);
@@ -62,11 +42,11 @@ pub fn call(half: &mut LocalHalf, actor: ActorNo, line: u32, c: &Call, done: u16
 {
     match *c {
         Call::Do(_, _, _) => {
-            let answer = if_begun(half, Answer::Did(done));
+            let answer = half.if_begun(Answer::Did(done));
             out.put(Entry::Called(line, actor, answer));
         }
         Call::Await(_) => {
-            let answer = if_begun(half, await_answer(half));
+            let answer = half.if_begun(await_answer(half));
             out.put(Entry::Called(line, actor, answer));
         }
         Call::Gone(e) => gone(half, actor, line, e, out),
