@@ -1,7 +1,7 @@
 //! Runs of the top call over sources, sinks and disks in memory. What a script prints is compared in the repository's examples.
-ghost use Rattle.std.specs.Prelude.{◌≡◌, length, true, IfOk, IsTrue};
+ghost use Rattle.std.specs.Prelude.{◌≡◌, ◌≤◌, length, true, IfOk, IsTrue};
 ghost use Rattle.dtx_model.specs.Grammar.{IsScript};
-ghost use Rattle.dtx_model.specs.RecoveryInfo.{is_id};
+ghost use Rattle.dtx_values.specs.RecoveryInfo.{is_id};
 
 use crate::{BadCause, Exit, LOG_BYTES, is_runnable, run_program, run_replay};
 use coordinator_log::{Log, LogRefusal};
@@ -35,7 +35,9 @@ const TRACE: &str =
     7 t1 sealed\n8 t1 ask e1 prepare\n9 t1 vote e1 yes\n10 t1 decided committed\n11 t1 told e1 committed\n12 t1 told client committed\n";
 
 /// What is on a disk: how many records its log has, or why it has none.
-fn found(rt: &impl Abort, alloc: Global, disk: MemDisk) -> Result<u16, LogRefusal> {
+fn found(rt: &impl Abort, alloc: Global, disk: MemDisk) -> Result<u16, LogRefusal>
+    requires { LOG_BYTES ≤ length disk.images.kept }
+{
     match Log::from_disk(alloc, disk) {
         Ok(mut log) => {
             assert!(rt; log.life() == 0);
