@@ -1,37 +1,17 @@
 -- What the connections between the two sides carry: in each opening of a connection, and in each direction, what is got is what was sent, in
 -- order, up to what a loss keeps.
-use Rattle.std.specs.Prelude.{ℕ, ◌≡◌, ◌==◌, Bool, true, false, ◌&&◌, ◌||◌, not, List, [], ◌∷◌, ◌++◌, take, Option, Some, None, if◌then◌else◌}
+use Rattle.std.specs.Prelude.{ℕ, ◌≡◌, Bool, true, false, ◌&&◌, ◌||◌, not, List, [], ◌∷◌, ◌++◌, take, Option, Some, None, if◌then◌else◌}
 use Rattle.dtx_values.specs.declared.entry.Entry.{Entry}
 use Rattle.dtx_values.specs.declared.entry.Entry.TheVariants.{Sent, Got, Cut, Down as End, Stopped, Restarted}
 use Rattle.dtx_values.specs.declared.message.Conn.{Conn}
-use Rattle.dtx_values.specs.declared.message.Conn.TheVariants.{Begin, Voter, Enl, Again}
 use Rattle.dtx_values.specs.declared.message.Dir.{Dir}
 use Rattle.dtx_values.specs.declared.message.Dir.TheVariants.{Up, Down}
 use Rattle.dtx_values.specs.declared.message.Message.{Message}
-use Rattle.dtx_values.specs.declared.message.Message.TheVariants.{BeginBegin, VoterVoter, EnlistEnlist, ReenlistReenlist}
+pub use Rattle.dtx_values.specs.Lines.{is_opening}
+pub use Rattle.dtx_values.specs.Ends.{same_connection, same_direction}
 use Rattle.dtx_model.specs.Words.{latest}
 use Rattle.dtx_model.specs.Outcome.{is_empty}
 use Rattle.dtx_model.specs.Messages.{has_line}
-
-abbrev pub same_connection : Conn → Conn → Bool
-same_connection Begin Begin = true
-same_connection Voter Voter = true
-same_connection (Enl e) (Enl f) = e.value == f.value
-same_connection (Again e) (Again f) = e.value == f.value
-same_connection _ _ = false
-
-abbrev pub same_direction : Dir → Dir → Bool
-same_direction Up Up = true
-same_direction Down Down = true
-same_direction _ _ = false
-
--- the message that opens a connection, which the local side sends: BEGIN, VOTER, ENLIST or REENLIST
-abbrev pub is_opening : Conn → Message → Bool
-is_opening Begin BeginBegin = true
-is_opening Voter (VoterVoter u) = true
-is_opening (Enl e) (EnlistEnlist i) = true
-is_opening (Again e) (ReenlistReenlist i) = true
-is_opening _ _ = false
 
 -- the entry opens this connection
 abbrev pub opens : Conn → Entry → Bool

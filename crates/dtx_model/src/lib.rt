@@ -3,6 +3,7 @@
 //! Observed, Seen, Scopes, Steps, Contexts, Caused; Promotes, Wires, Learned; Replay, History; Grammar, Faults, TraceText. `docs/DEFINITIONS.md` says each of them in words. The code here is the judge of histories.
 #![tactic(auto)]
 
+mod branch;
 mod doubt;
 mod entries;
 mod evidence;
@@ -12,5 +13,7 @@ mod scans;
 mod verdict;
 mod veto;
 
+pub use branch::Branch;
 pub use listener::Listener;
+pub use messages::has_line;
 pub use verdict::{Verdict, judge};

@@ -79,7 +79,7 @@ fn is_on_reenlist(d: Dir, m: Message) -> bool
 }
 
 /// Whether the message has a line on this connection in this direction.
-pub(crate) fn has_line(c: Conn, d: Dir, m: Message) -> bool
+pub fn has_line(c: Conn, d: Dir, m: Message) -> bool
     ensures { result ≡ has_line c d m }
 {
     match c {

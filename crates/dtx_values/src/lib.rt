@@ -3,6 +3,7 @@
 #![tactic(auto)]
 
 mod call;
+mod end;
 mod entry;
 mod identifier;
 mod info;
@@ -24,10 +25,11 @@ mod trace;
 mod words;
 
 pub use call::Call;
+pub use end::End;
 pub use entry::{Answer, Ask, Entry, LogNote, Party, Request, ScopeNote};
 pub use identifier::{is_identifier, read_identifier};
 pub use info::{BadInfo, parse_info, write_info};
-pub use limits::{CLONES, DURABLES, ENLISTMENTS, LINE_BYTES, ROOM, SCOPES, SCRIPT_BYTES};
+pub use limits::{CALLS, CLONES, DURABLES, ENLISTMENTS, LINE_BYTES, ROOM, SCOPES, SCRIPT_BYTES};
 pub use message::{Conn, Dir, Info, Message};
 pub use note::{Note, Plan, Reply};
 pub use number::{ActorNo, CloneNo, EnlNo, RmNo, ScopeNo, TxNo};

@@ -6,6 +6,9 @@ pub const ENLISTMENTS: usize = 32;
 /// The most durable or promotable enlistments of one transaction, waiting ones counted.
 pub const DURABLES: usize = 16;
 
+/// The most calls of one transaction that wait at a time.
+pub const CALLS: usize = 32;
+
 /// The most dependent clones of one transaction.
 pub const CLONES: usize = 32;
 

@@ -1,0 +1,135 @@
+-- What the local side of a transaction has to go by, and what it writes in more than one of its steps.
+use Rattle.std.specs.Prelude.{ℕ, ◌==◌, Bool, true, false, ◌&&◌, not, List, [], ◌∷◌, ◌++◌, map, Option, Some, None, is_some, if◌then◌else◌}
+use Rattle.std.specs.List.{flat_map}
+use Rattle.dtx_values.specs.declared.entry.Answer.TheVariants.{Id, Ended}
+use Rattle.dtx_values.specs.declared.entry.Entry.{Entry}
+use Rattle.dtx_values.specs.declared.entry.Entry.TheVariants.{Answered, Decided, Promoted, PromotionFailed, Sent}
+use Rattle.dtx_values.specs.declared.message.Conn.{Conn}
+use Rattle.dtx_values.specs.declared.message.Conn.TheVariants.{Begin, Voter, Enl, Again}
+use Rattle.dtx_values.specs.declared.message.Dir.TheVariants.{Up}
+use Rattle.dtx_values.specs.declared.message.Info.{Info}
+use Rattle.dtx_values.specs.declared.message.Message.{Message}
+use Rattle.dtx_values.specs.declared.message.Message.TheVariants.{BeginAbort, BeginBegun, BeginCommit, VoterNo, VoterVoter, VoterYes, EnlistEnlist, ReenlistReenlist}
+use Rattle.dtx_values.specs.declared.number.EnlNo.{EnlNo}
+use Rattle.dtx_values.specs.declared.number.RmNo.{RmNo}
+use Rattle.dtx_values.specs.declared.words.Cause.{Cause}
+use Rattle.dtx_values.specs.declared.words.Outcome.{Outcome}
+use Rattle.dtx_values.specs.declared.words.Outcome.TheVariants.{Aborted}
+use Rattle.dtx_values.specs.Ends.{knows, tag_of, was_got, was_sent}
+use Rattle.dtx_values.specs.Row.{has_voted, is_of}
+use Rattle.dtx_model.specs.Words.{has}
+use Rattle.dtx_model.specs.Observed.{Observed, observe, track, is_branch}
+use Rattle.dtx_model.specs.Promotes.{identifier_of}
+use Rattle.dtx_model.specs.Steps.{is_aborted}
+use Rattle.dtx_model.specs.Waiting.{EnteredCall, Identifier, Place, Waiter, waiting, waiting_after, managed, managed_after}
+
+-- what it has seen, the calls that wait, and the managers of the durables and promotables that their calls enlisted at once
+pub record Half : Type 0 where
+  pub seen : Observed
+  pub waits : List Waiter
+  pub managers : List (EnlNo × RmNo)
+
+abbrev pub half_of : List EnteredCall → List Entry → Half
+half_of ks past = record { seen = observe past; waits = waiting ks past; managers = managed ks past }
+
+-- what becomes of it with one more entry, where these calls are among those entered: of them only that of the entry itself matters
+abbrev pub heeds : List EnteredCall → Half → Entry → Half
+heeds ks h x = record { seen = track h.seen x; waits = waiting_after ks x h.waits; managers = managed_after ks x h.managers }
+
+-- what becomes of it with a block of entries
+unfoldable pub heeds_all : List EnteredCall → Half → List Entry → Half
+heeds_all ks h [] = h
+heeds_all ks h (x ∷ xs) = heeds_all ks (heeds ks h x) xs
+
+-- with one more entry that is no call
+abbrev pub sees : Half → Entry → Half
+sees h x = heeds [] h x
+
+-- a promotion began, and neither succeeded nor failed
+abbrev pub is_promoting : Observed → Bool
+is_promoting o = is_some o.cause && not o.promoted && not o.failed
+
+-- the local side sends a message, unless it has seen the end of the connection
+abbrev pub to_up : Observed → Conn → Message → List Entry
+to_up o c m = if knows c o.ends then Sent c Up m ∷ [] else []
+
+-- each call that waits is answered how it ended
+abbrev pub ended : List Waiter → Outcome → List Entry
+ended ws x = map (λ w. Answered w.0 (Ended x)) ws
+
+abbrev pub fails_if : Bool → List Entry
+fails_if true = PromotionFailed ∷ []
+fails_if false = []
+
+-- an outcome is decided: an abort makes a promotion that is under way fail
+abbrev pub decide : Half → Outcome → List Entry
+decide h x = fails_if (is_promoting h.seen && is_aborted x) ++ Decided x ∷ ended h.waits x
+
+abbrev pub begun_tag : ℕ
+begun_tag = tag_of (BeginBegun 0)
+
+abbrev pub voter_tag : ℕ
+voter_tag = tag_of (VoterVoter 0)
+
+-- BEGUN was got, neither COMMIT nor ABORT was sent, and b is known
+abbrev pub may_abort_by_begin : Observed → Bool
+may_abort_by_begin o = was_got Begin begun_tag o.ends && not (was_sent Begin (tag_of BeginCommit) o.ends) && not (was_sent Begin (tag_of BeginAbort) o.ends) && knows Begin o.ends
+
+-- VOTER was sent and no vote, and v is known
+abbrev pub may_abort_by_voter : Observed → Bool
+may_abort_by_voter o = was_sent Voter voter_tag o.ends && not (was_sent Voter (tag_of VoterYes) o.ends) && not (was_sent Voter (tag_of VoterNo) o.ends) && knows Voter o.ends
+
+-- the message of a veto: an abort on b, or else a no on v
+abbrev pub veto_message : Observed → List Entry
+veto_message o = if may_abort_by_begin o then Sent Begin Up BeginAbort ∷ [] else if may_abort_by_voter o then Sent Voter Up VoterNo ∷ [] else []
+
+-- a veto, where it stands so behind the entry that vetoes
+unfoldable pub veto : Half → List Entry
+veto h = decide h Aborted ++ veto_message h.seen
+
+abbrev pub veto_if : Bool → Half → List Entry
+veto_if true h = veto h
+veto_if false h = []
+
+abbrev pub info : ℕ → EnlNo → RmNo → Info
+info t e r = record { id = identifier_of t; rm = r; enl = e }
+
+abbrev pub enlist_sent : ℕ → EnlNo → RmNo → List Entry
+enlist_sent t e r = Sent (Enl e) Up (EnlistEnlist (info t e r)) ∷ []
+
+abbrev pub reenlist_sent : ℕ → EnlNo → RmNo → List Entry
+reenlist_sent t e r = Sent (Again e) Up (ReenlistReenlist (info t e r)) ∷ []
+
+-- the message of an enlistment that stands, by its manager
+abbrev pub by_manager : (EnlNo → RmNo → List Entry) → List (EnlNo × RmNo) → EnlNo → List Entry
+by_manager f [] e = []
+by_manager f (m ∷ ms) e = if e.value == m.0.value then f e m.1 else by_manager f ms e
+
+-- the handover is over: each call that waits gets the identifier, or its ENLIST is sent
+abbrev pub given : ℕ → Waiter → List Entry
+given t (n, Identifier) = Answered n (Id (identifier_of t)) ∷ []
+given t (n, Place e r c) = enlist_sent t e r
+
+abbrev pub promoted_by : ℕ → Option Cause → List Entry
+promoted_by t (Some c) = Promoted (identifier_of t) c ∷ []
+promoted_by t None = []
+
+abbrev pub over : ℕ → Half → List Entry
+over t h = promoted_by t h.seen.cause ++ flat_map (given t) h.waits
+
+-- the enlistment stands; it voted; it is lost; it was told the outcome
+abbrev pub stands : Observed → ℕ → Bool
+stands o e = has (is_of e) o.table
+
+abbrev pub voted : Observed → ℕ → Bool
+voted o e = has (λ x. is_of e x && has_voted x) o.table
+
+abbrev pub is_gone : Observed → ℕ → Bool
+is_gone o e = has (λ l. (e == l.enlistment.value) && l.lost) o.listeners
+
+abbrev pub was_told : Observed → ℕ → Bool
+was_told o e = has (λ l. (e == l.enlistment.value) && l.told) o.listeners
+
+-- its ENLISTED was got
+abbrev pub is_enlisted_there : Observed → ℕ → Bool
+is_enlisted_there o e = has (λ b. is_branch e b && b.enlisted) o.branches
