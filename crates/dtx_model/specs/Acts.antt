@@ -2,7 +2,8 @@
 use Rattle.std.specs.Prelude.{ℕ, ◌+◌, Bool, true, false, ◌&&◌, ◌||◌, not, List, [], ◌∷◌, length, find, Option, Some, None, is_some, if◌then◌else◌}
 use Rattle.dtx_values.specs.declared.entry.Ask.TheVariants.{Prepare, Promote, Single}
 use Rattle.dtx_values.specs.declared.entry.Entry.{Entry}
-use Rattle.dtx_values.specs.declared.entry.Entry.TheVariants.{Asked, Sealed, Handed, LocalYes}
+use Rattle.dtx_values.specs.declared.entry.Entry.TheVariants.{Asked, Sealed, Handed, LocalYes, Told}
+use Rattle.dtx_values.specs.declared.entry.Party.TheVariants.{Client, Enl}
 use Rattle.dtx_values.specs.declared.message.Conn.TheVariants.{Begin, Voter}
 use Rattle.dtx_values.specs.declared.message.Message.TheVariants.{BeginCommit, VoterAsk, VoterYes}
 use Rattle.dtx_values.specs.declared.number.EnlNo.{EnlNo}
@@ -14,9 +15,14 @@ use Rattle.dtx_values.specs.Waves.{all_voted, hears, is_over, name_of, next_ask}
 use Rattle.dtx_values.specs.Class.{is_promotable}
 use Rattle.dtx_values.specs.Owners.{owner_of}
 use Rattle.dtx_model.specs.declared.listener.Listener.{Listener}
+use Rattle.dtx_values.specs.Row.{is_lasting, is_of}
+use Rattle.dtx_model.specs.Words.{has}
 use Rattle.dtx_model.specs.Observed.{Observed}
-use Rattle.dtx_model.specs.Steps.{is_aborted, is_handed, lasts, tell}
-use Rattle.dtx_model.specs.Half.{Half, is_promoting, to_up, decide, is_enlisted_there}
+use Rattle.dtx_model.specs.Half.{Half, is_promoting, to_up, decide, is_enlisted_there, is_aborted, is_handed}
+
+-- this enlistment is durable or promotable
+abbrev pub lasts : List Row → ℕ → Bool
+lasts xs e = has (λ x. is_of e x && is_lasting x) xs
 
 -- an abort is told by this act to a durable or promotable too, unless its ENLISTED was got, it was handed the commit, or it is lost
 abbrev pub hears_abort : Observed → Listener → Bool
@@ -25,6 +31,12 @@ hears_abort o l = lasts o.table l.enlistment.value && not (is_enlisted_there o l
 -- still to be told the outcome: it wasn't, and it is a volatile that hears, or hears of an abort
 abbrev pub is_to_tell : Observed → Outcome → Listener → Bool
 is_to_tell o x l = not l.told && (hears o.table l.enlistment.value || (is_aborted x && hears_abort o l))
+
+-- the lowest that is still to be told, and then the client
+abbrev pub tell : Outcome → Option Listener → Option Outcome → List Entry
+tell x (Some l) told_client = Told (Enl l.enlistment) x ∷ []
+tell x None (Some y) = []
+tell x None None = Told Client x ∷ []
 
 -- the promotable enlistment
 abbrev pub promotable_in : List Row → Option EnlNo

@@ -1,20 +1,27 @@
 -- What the calls of the local side answer, and the facts that follow: all calls but lose, gone, reenlist and recovered, which look at connections too.
-use Rattle.std.specs.Prelude.{ℕ, ◌+◌, nat_le, Bool, true, false, ◌&&◌, ◌||◌, not, List, [], ◌∷◌, length, Option, Some, None, is_some, if◌then◌else◌}
-use Rattle.dtx_values.specs.declared.limits.TheConstants.{CALLS, DURABLES, ENLISTMENTS}
+use Rattle.std.specs.Prelude.{ℕ, ◌+◌, nat_le, Bool, true, false, ◌&&◌, ◌||◌, not, List, [], ◌∷◌, length, Option, Some, None, is_some, if◌then◌else◌, min, nat_lt, ◌==◌}
+use Rattle.dtx_values.specs.declared.limits.TheConstants.{CALLS, DURABLES, ENLISTMENTS, CLONES}
 use Rattle.dtx_values.specs.declared.call.Call.{Call}
 use Rattle.dtx_values.specs.declared.call.Call.TheVariants.{Begin, Volatile, Durable, Promotable, Clone, Complete, Commit, Rollback, Marshal, Status, Await, Tick, Do}
 use Rattle.dtx_values.specs.declared.entry.Answer.{Answer}
-use Rattle.dtx_values.specs.declared.entry.Answer.TheVariants.{Fine, True, False, Wait, Id, Did, TooLate, Many}
+use Rattle.dtx_values.specs.declared.entry.Answer.TheVariants.{Fine, True, False, Wait, Id, Did, TooLate, Many, Ended, NotBegun, NoSuch, OutcomeIs, Already, StillActive, StillOpen}
 use Rattle.dtx_values.specs.declared.entry.Entry.{Entry}
-use Rattle.dtx_values.specs.declared.entry.Entry.TheVariants.{Began, Cloned, Completed, Enlisted, Init, CommitAsked, RollbackAsked, Clock, TimedOut, Late, Promoting, Sent}
+use Rattle.dtx_values.specs.declared.entry.Entry.TheVariants.{Called, Began, Cloned, Completed, Enlisted, Init, CommitAsked, RollbackAsked, Clock, TimedOut, Late, Promoting, Sent}
 use Rattle.dtx_values.specs.declared.message.Conn.TheVariants.{Begin as OnBegin}
 use Rattle.dtx_values.specs.declared.message.Dir.TheVariants.{Up}
 use Rattle.dtx_values.specs.declared.message.Message.TheVariants.{BeginBegin}
+use Rattle.dtx_values.specs.declared.number.ActorNo.{ActorNo}
+use Rattle.dtx_values.specs.declared.script.EnlistOption.{EnlistOption}
+use Rattle.dtx_values.specs.declared.script.EnlistOption.TheVariants.{Plain, DuringPrepare}
+use Rattle.dtx_values.specs.declared.words.Timeout.{Timeout}
+use Rattle.dtx_values.specs.declared.words.Timeout.TheVariants.{Default, Milliseconds}
+use Rattle.dtx_values.specs.declared.words.Class.{Class}
+use Rattle.dtx_values.specs.declared.words.Outcome.{Outcome}
 use Rattle.dtx_values.specs.declared.number.EnlNo.{EnlNo}
 use Rattle.dtx_values.specs.declared.number.RmNo.{RmNo}
 use Rattle.dtx_values.specs.declared.words.Cause.{Cause}
 use Rattle.dtx_values.specs.declared.words.Cause.TheVariants.{Marshal as MarshalCause}
-use Rattle.dtx_values.specs.declared.words.Class.TheVariants.{DurableSingle, Promotable as PromotableClass}
+use Rattle.dtx_values.specs.declared.words.Class.TheVariants.{DurableSingle, Promotable as PromotableClass, One, Zero}
 use Rattle.dtx_values.specs.Table.{how_many}
 use Rattle.dtx_values.specs.Clones.{is_clone, is_complete_clone, is_open_rollback}
 use Rattle.dtx_values.specs.Owners.{cause_of, is_evident, may_own}
@@ -24,9 +31,55 @@ use Rattle.dtx_values.specs.Support.{is_single}
 use Rattle.dtx_model.specs.Words.{has}
 use Rattle.dtx_model.specs.Observed.{Observed}
 use Rattle.dtx_model.specs.Promotes.{identifier_of}
-use Rattle.dtx_model.specs.Steps.{await_answer, if_begun, class_of, clone_answer, complete_answer, limit_of, reaches, status_answer, ticked, unless_late, unless_over, wait_for}
 use Rattle.dtx_model.specs.Waiting.{is_place}
 use Rattle.dtx_model.specs.Half.{Half, sees, is_promoting, veto, veto_if, enlist_sent}
+
+-- `default` is 60,000 milliseconds, 0 means 600,000, and more than 600,000 is cut to it
+abbrev pub limit_of : Timeout → ℕ
+limit_of Default = 60000
+limit_of (Milliseconds n) = if n == 0 then 600000 else min n 600000
+
+abbrev pub class_of : EnlistOption → Class
+class_of Plain = One
+class_of DuringPrepare = Zero
+
+-- AnswerOf. Two answers stand before the others: `notbegun`, from which begin is exempt, and `ended` where it was decided, which
+-- status, await, tick, do and gone don't give.
+abbrev pub if_begun : Option ℕ → Answer → Answer
+if_begun (Some d) a = a
+if_begun None a = NotBegun
+
+abbrev pub unless_ended : Option Outcome → Answer → Answer
+unless_ended (Some x) a = Ended x
+unless_ended None a = a
+
+-- an answer after both
+abbrev pub unless_over : Observed → Answer → Answer
+unless_over o a = if_begun o.limit (unless_ended o.decided a)
+
+abbrev pub wait_for : Option Cause → Answer
+wait_for (Some c) = Wait
+wait_for None = Fine
+
+abbrev pub clone_answer : Bool → ℕ → Answer
+clone_answer commit n = if commit then TooLate else if nat_le CLONES n then Many CLONES else Fine
+
+abbrev pub complete_answer : Bool → Bool → Answer
+complete_answer stands complete = if not stands then NoSuch else if complete then Already else Fine
+
+abbrev pub unless_late : Bool → Answer
+unless_late late = if late then TooLate else Fine
+
+abbrev pub gone_answer : Bool → Bool → Answer
+gone_answer stands lost = if not stands then NoSuch else if lost then Already else Fine
+
+abbrev pub status_answer : Option Outcome → Answer
+status_answer (Some x) = OutcomeIs x
+status_answer None = StillActive
+
+abbrev pub await_answer : Option Outcome → Answer
+await_answer (Some x) = OutcomeIs x
+await_answer None = StillOpen
 
 -- the enlistments that stand or wait, and the durables and promotables among them
 abbrev pub places : Half → ℕ
@@ -87,6 +140,15 @@ has_facts _ = false
 abbrev pub is_late : Observed → Bool
 is_late o = is_some o.decided || o.yes || is_some o.handed || (not o.promoted && is_evident o.sealed o.table)
 
+-- the clock after a tick: it stays at the last value of its u64
+abbrev pub ticked : ℕ → ℕ → ℕ
+ticked c n = min (c + n) 18446744073709551615
+
+-- this tick is the first that reaches the timeout
+abbrev pub reaches : Option ℕ → ℕ → ℕ → Bool
+reaches (Some d) c n = nat_lt c d && nat_le d n
+reaches None c n = false
+
 abbrev pub time_up : Half → List Entry
 time_up h = if is_late h.seen then Late ∷ [] else TimedOut ∷ veto h
 
@@ -121,3 +183,12 @@ local_facts t h (Rollback u) a = RollbackAsked ∷ veto (sees h RollbackAsked)
 local_facts t h (Marshal u) a = if is_promoting h.seen then [] else begin_promotion h (Some MarshalCause)
 local_facts t h (Tick u n) a = tick_facts h (ticked h.seen.clock n)
 local_facts t h _ a = []
+
+abbrev pub facts_if : Bool → List Entry → List Entry
+facts_if true es = es
+facts_if false es = []
+
+-- the block of a call that the local side answers: its entry, and its facts
+abbrev pub call_entries : ℕ → Half → ℕ → ActorNo → Call → List Entry
+call_entries t h n a c =
+    Called n a (local_answer t h c 0) ∷ facts_if (has_facts (local_answer t h c 0)) (local_facts t h c (local_answer t h c 0))

@@ -12,7 +12,6 @@ use Rattle.dtx_values.specs.declared.message.Message.TheVariants.{BeginBegin}
 use Rattle.dtx_values.specs.declared.note.Note.{Note}
 use Rattle.dtx_values.specs.declared.note.Plan.{Plan}
 use Rattle.dtx_values.specs.declared.note.Reply.{Reply}
-use Rattle.dtx_values.specs.declared.number.EnlNo.{EnlNo}
 use Rattle.dtx_values.specs.declared.number.ActorNo.{ActorNo}
 use Rattle.dtx_values.specs.declared.number.RmNo.{RmNo}
 use Rattle.dtx_values.specs.declared.number.TxNo.{TxNo}
@@ -26,9 +25,9 @@ use Rattle.dtx_model.specs.Entries.{is_call, same_outcome}
 use Rattle.dtx_model.specs.Outcome.{is_empty}
 use Rattle.dtx_model.specs.Coordinated.{Coordinated, may_free, may_log}
 use Rattle.dtx_model.specs.Caused.{IsCallOf}
-use Rattle.dtx_model.specs.Steps.{call_of}
+use Rattle.dtx_model.specs.Calls.{call_of}
 use Rattle.dtx_model.specs.Grammar.{Name, OfEnlistment, OfClone}
-use Rattle.dtx_model.specs.Waiting.{EnteredCall, manager_of, plan_of, planned}
+use Rattle.dtx_model.specs.Waiting.{EnteredCall, manager_of, plan_of}
 use Rattle.dtx_model.specs.Acts.{act_entries}
 use Rattle.dtx_model.specs.Replies.{due_of, fits}
 use Rattle.dtx_model.specs.World.{World, half, core, has_left}

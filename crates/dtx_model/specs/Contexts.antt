@@ -31,7 +31,7 @@ use Rattle.dtx_values.specs.declared.words.Timeout.TheVariants.{Default as Defau
 use Rattle.dtx_model.specs.Words.{onto, past_of, put}
 use Rattle.dtx_values.specs.Entered.{transaction_in}
 use Rattle.dtx_model.specs.Scopes.{ScopeEntry, Opens, Finishes, Closes, open_scopes, entering, enter_answer, finish_answer, current_answer, close_answer, closing, taken_off, rolled_back}
-use Rattle.dtx_model.specs.Steps.{call_of, is_fine}
+use Rattle.dtx_model.specs.Calls.{call_of}
 
 -- the option, the name for a transaction, its timeout, and the isolation that an `open` writes; `default` asks for Serializable
 abbrev pub option_in : Opening → ScopeOption
@@ -65,6 +65,10 @@ scope_answer (Finish s) xs = Some (finish_answer s.value xs)
 scope_answer (Close s) xs = Some (close_answer s.value xs)
 scope_answer Current xs = Some (current_answer xs)
 scope_answer _ xs = None
+
+abbrev pub is_fine : Answer → Bool
+is_fine Fine = true
+is_fine _ = false
 
 -- the entries where it was answered ok
 abbrev pub entries_if : Bool → List ScopeEntry → List ScopeEntry

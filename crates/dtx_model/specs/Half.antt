@@ -16,11 +16,10 @@ use Rattle.dtx_values.specs.declared.words.Cause.{Cause}
 use Rattle.dtx_values.specs.declared.words.Outcome.{Outcome}
 use Rattle.dtx_values.specs.declared.words.Outcome.TheVariants.{Aborted}
 use Rattle.dtx_values.specs.Ends.{knows, tag_of, was_got, was_sent}
-use Rattle.dtx_values.specs.Row.{has_voted, is_of}
+use Rattle.dtx_values.specs.Table.{has_row}
 use Rattle.dtx_model.specs.Words.{has}
 use Rattle.dtx_model.specs.Observed.{Observed, observe, track, is_branch}
 use Rattle.dtx_model.specs.Promotes.{identifier_of}
-use Rattle.dtx_model.specs.Steps.{is_aborted}
 use Rattle.dtx_model.specs.Waiting.{EnteredCall, Identifier, Place, Waiter, waiting, waiting_after, managed, managed_after}
 
 -- what it has seen, the calls that wait, and the managers of the durables and promotables that their calls enlisted at once
@@ -60,6 +59,10 @@ ended ws x = map (λ w. Answered w.0 (Ended x)) ws
 abbrev pub fails_if : Bool → List Entry
 fails_if true = PromotionFailed ∷ []
 fails_if false = []
+
+abbrev pub is_aborted : Outcome → Bool
+is_aborted Aborted = true
+is_aborted _ = false
 
 -- an outcome is decided: an abort makes a promotion that is under way fail
 abbrev pub decide : Half → Outcome → List Entry
@@ -117,16 +120,20 @@ promoted_by t None = []
 abbrev pub over : ℕ → Half → List Entry
 over t h = promoted_by t h.seen.cause ++ flat_map (given t) h.waits
 
--- the enlistment stands; it voted; it is lost; it was told the outcome
+-- the enlistment stands
 abbrev pub stands : Observed → ℕ → Bool
-stands o e = has (is_of e) o.table
+stands o e = has_row e o.table
 
-abbrev pub voted : Observed → ℕ → Bool
-voted o e = has (λ x. is_of e x && has_voted x) o.table
-
+-- the enlistment is lost
 abbrev pub is_gone : Observed → ℕ → Bool
 is_gone o e = has (λ l. (e == l.enlistment.value) && l.lost) o.listeners
 
+-- the commit was handed to this enlistment
+abbrev pub is_handed : Option EnlNo → ℕ → Bool
+is_handed (Some f) e = e == f.value
+is_handed None e = false
+
+-- the enlistment was told the outcome
 abbrev pub was_told : Observed → ℕ → Bool
 was_told o e = has (λ l. (e == l.enlistment.value) && l.told) o.listeners
 

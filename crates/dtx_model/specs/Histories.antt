@@ -1,5 +1,5 @@
 -- The traces of a script, in whatever order its actors go on, and those of a replay. A trace stands oldest first here, as it is printed.
-use Rattle.std.specs.Prelude.{ℕ, ◌≡◌, ◌≤◌, ◌==◌, Bool, true, false, ◌&&◌, ◌||◌, not, List, [], Option, Some, None, is_none, is_some}
+use Rattle.std.specs.Prelude.{ℕ, ◌≡◌, ◌≤◌, ◌==◌, Bool, true, false, ◌&&◌, ◌||◌, not, List, [], Option, Some, is_none, is_some}
 use Rattle.dtx_values.specs.declared.entry.Entry.{Entry}
 use Rattle.dtx_values.specs.declared.entry.Entry.TheVariants.{CommitAsked, Cut, LogFull, Lost, RollbackAsked, Stopped, TimedOut}
 use Rattle.dtx_values.specs.declared.note.Plan.{Plan}

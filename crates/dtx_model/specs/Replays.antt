@@ -7,7 +7,6 @@ use Rattle.dtx_values.specs.declared.entry.Answer.TheVariants.{Fine, Fault, NotA
 use Rattle.dtx_values.specs.declared.entry.Entry.{Entry}
 use Rattle.dtx_values.specs.declared.entry.Entry.TheVariants.{Called, LogWord, Restarted, Stopped}
 use Rattle.dtx_values.specs.declared.entry.LogNote.TheVariants.{Armed, Opened}
-use Rattle.dtx_values.specs.declared.note.Reply.{Reply}
 use Rattle.dtx_values.specs.declared.number.ActorNo.{ActorNo}
 use Rattle.dtx_values.specs.declared.number.TxNo.{TxNo}
 use Rattle.dtx_values.specs.declared.scope.OpenScope.{OpenScope}
@@ -17,11 +16,11 @@ use Rattle.dtx_values.specs.declared.script.Line.{Line}
 use Rattle.dtx_values.specs.declared.trace.Place.{Place}
 use Rattle.dtx_values.specs.declared.trace.Place.TheVariants.{Context, Transaction, Log}
 use Rattle.dtx_model.specs.Words.{has, kth, onto, past_of}
-use Rattle.dtx_model.specs.Steps.{call_of}
+use Rattle.dtx_model.specs.Calls.{call_of}
 use Rattle.dtx_model.specs.Contexts.{calls_by, scope_answer, scope_block, scope_calls, scopes_of}
 use Rattle.dtx_model.specs.Replay.{Placed, history, placed, noted, is_passed}
 use Rattle.dtx_model.specs.World.{World}
-use Rattle.dtx_model.specs.Turns.{LogAnswer, StoppedNow, StoppedBefore, Step, Calls, Replies, Acts, Coordinates, Delivers, StepName, ReplyOf, LocalAct, CoordinatorAct, Delivery, block_at, pending}
+use Rattle.dtx_model.specs.Turns.{StoppedNow, StoppedBefore, Step, Calls, Coordinates, StepName, block_at, pending}
 use Rattle.dtx_model.specs.Causes.{IsNamed, is_begin_sent, Settled, world_of}
 use Rattle.dtx_model.specs.AtLog.{hit, is_log_up, known}
 

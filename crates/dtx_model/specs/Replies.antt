@@ -12,6 +12,7 @@ use Rattle.dtx_values.specs.declared.message.Message.{Message}
 use Rattle.dtx_values.specs.declared.message.Message.TheVariants.{BeginBegin, BeginCommit, BeginAbort, EnlistPrepared, EnlistNo, EnlistReadonly, EnlistAck, ReenlistAck}
 use Rattle.dtx_values.specs.declared.note.Note.{Note}
 use Rattle.dtx_values.specs.declared.note.Note.TheVariants.{Prepare, Promote as PromoteNote, Hand, Single, Commit}
+use Rattle.dtx_values.specs.declared.note.Plan.{Plan}
 use Rattle.dtx_values.specs.declared.note.Reply.{Reply}
 use Rattle.dtx_values.specs.declared.note.Reply.TheVariants.{Vote as VoteReply, Promote as Promotes, Owner as OwnerReply, Ack}
 use Rattle.dtx_values.specs.declared.number.EnlNo.{EnlNo}
@@ -28,9 +29,8 @@ use Rattle.dtx_values.specs.Vote.{is_no}
 use Rattle.dtx_model.specs.Words.{has, or_else}
 use Rattle.dtx_model.specs.declared.branch.Branch.{Branch}
 use Rattle.dtx_model.specs.Observed.{Observed, is_branch}
-use Rattle.dtx_model.specs.Steps.{is_handed, with_note}
-use Rattle.dtx_model.specs.Waiting.{EnteredCall, plan_of, planned}
-use Rattle.dtx_model.specs.Half.{Half, sees, to_up, decide, veto, veto_if, is_gone, was_told}
+use Rattle.dtx_model.specs.Waiting.{planned}
+use Rattle.dtx_model.specs.Half.{Half, sees, to_up, decide, veto, veto_if, is_gone, was_told, is_handed}
 
 -- a reply to prepare: a volatile's is due until something is decided, a durable's or promotable's until it was told or its connection's end is seen
 abbrev pub may_still_vote : Observed → Row → Bool
@@ -92,13 +92,17 @@ with_names (b ∷ bs) es = with_name b.enlistment (with_names bs es)
 abbrev pub names : Observed → List EnlNo
 names o = with_names o.branches (map (λ x. x.number) o.table)
 
+abbrev pub with_note : EnlNo → Option Note → Option (EnlNo × Note)
+with_note e (Some n) = Some (e, n)
+with_note e None = None
+
 -- the enlistments of which a reply is due, with the note, by number
 unfoldable pub all_due : Observed → List (EnlNo × Note)
 all_due o = filter_map (λ e. with_note e (due_of o e.value)) (names o)
 
--- the plan isn't silent for the note
-abbrev pub is_answered : List EnteredCall → EnlNo × Note → Bool
-is_answered ks x = is_some (planned (plan_of ks x.0.value) x.1)
+-- the enlistment's plan isn't silent for the note
+abbrev pub is_answered : (ℕ → Plan) → EnlNo × Note → Bool
+is_answered p x = is_some (planned (p x.0.value) x.1)
 
 -- the reply fits the note: a vote answers prepare, an owner's answer the handing or single, an acknowledgement a commit
 abbrev pub fits : Reply → Note → Bool

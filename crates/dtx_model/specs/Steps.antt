@@ -1,53 +1,47 @@
 -- The steps of one transaction: what a call answers, which steps are pending, and the entries of each.
 -- The rows are those of begin, volatile, durable, promotable, clone, complete, commit, rollback, status, await, tick, do and gone, while
 -- nothing is promoted.
-use Rattle.std.specs.Prelude.{ℕ, ◌+◌, ◌==◌, min, nat_le, nat_lt, Bool, true, false, ◌&&◌, ◌||◌, not, List, [], ◌∷◌, ◌++◌, length, find, Option, Some, None, is_some, if◌then◌else◌}
+use Rattle.std.specs.Prelude.{ℕ, ◌==◌, nat_le, Bool, true, false, ◌&&◌, ◌||◌, not, List, [], ◌∷◌, ◌++◌, length, find, Option, Some, None, is_some, if◌then◌else◌}
 use Rattle.std.specs.List.{filter_map}
-use Rattle.dtx_values.specs.declared.limits.TheConstants.{CLONES, DURABLES, ENLISTMENTS}
+use Rattle.dtx_values.specs.declared.limits.TheConstants.{DURABLES, ENLISTMENTS}
 use Rattle.dtx_values.specs.declared.number.ActorNo.{ActorNo}
-use Rattle.dtx_values.specs.declared.number.CloneNo.{CloneNo}
 use Rattle.dtx_values.specs.declared.number.EnlNo.{EnlNo}
-use Rattle.dtx_values.specs.declared.number.TxNo.{TxNo}
 use Rattle.dtx_values.specs.declared.call.Call.{Call}
 use Rattle.dtx_values.specs.declared.call.Call.TheVariants.{Begin, Volatile, Durable, Promotable, Clone, Complete, Commit, Rollback, Status, Await, Tick, Do, Gone}
 use Rattle.dtx_values.specs.declared.entry.Answer.{Answer}
-use Rattle.dtx_values.specs.declared.entry.Answer.TheVariants.{Fine, True, False, Wait, StillActive, OutcomeIs, StillOpen, Did, NotBegun, Ended, TooLate, Many, NoSuch, Already}
+use Rattle.dtx_values.specs.declared.entry.Answer.TheVariants.{Fine, True, False, Did, TooLate, Many}
 use Rattle.dtx_values.specs.declared.entry.Ask.TheVariants.{Prepare}
 use Rattle.dtx_values.specs.declared.entry.Entry.{Entry}
-use Rattle.dtx_values.specs.declared.entry.Entry.TheVariants.{Called, Began, Cloned, Completed, Enlisted, CommitAsked, RollbackAsked, Clock, TimedOut, Late, Asked, Voted, Sealed, Handed, OwnerAnswered, Decided, Told, Init, Lost}
-use Rattle.dtx_values.specs.declared.entry.Party.TheVariants.{Client, Enl}
+use Rattle.dtx_values.specs.declared.entry.Entry.TheVariants.{Called, Began, Cloned, Completed, Enlisted, CommitAsked, RollbackAsked, Clock, TimedOut, Late, Asked, Voted, Sealed, Handed, OwnerAnswered, Decided, Init, Lost}
 use Rattle.dtx_values.specs.declared.note.Reply.{Reply}
 use Rattle.dtx_values.specs.declared.note.Reply.TheVariants.{Vote as VoteReply, Owner as OwnerReply}
 use Rattle.dtx_values.specs.declared.note.Note.{Note}
 use Rattle.dtx_values.specs.declared.note.Note.TheVariants.{Prepare as PrepareNote, Hand as HandNote}
 use Rattle.dtx_values.specs.declared.script.Body.{Body}
-use Rattle.dtx_values.specs.declared.script.Body.TheVariants.{Begin as BeginLine, Volatile as VolatileLine, Durable as DurableLine, Promotable as PromotableLine, Gone as GoneLine, Clone as CloneLine, Complete as CompleteLine, Commit as CommitLine, Rollback as RollbackLine, Status as StatusLine, Await as AwaitLine, Tick as TickLine, Do as DoLine}
-use Rattle.dtx_values.specs.declared.script.EnlistOption.{EnlistOption}
-use Rattle.dtx_values.specs.declared.script.EnlistOption.TheVariants.{Plain, DuringPrepare}
+use Rattle.dtx_values.specs.declared.script.Body.TheVariants.{Volatile as VolatileLine, Durable as DurableLine, Promotable as PromotableLine}
 use Rattle.dtx_values.specs.declared.script.Line.{Line}
-use Rattle.dtx_values.specs.declared.script.Support.{Support}
 use Rattle.dtx_values.specs.declared.script.Support.TheVariants.{SinglePhase, TwoPhase}
-use Rattle.dtx_values.specs.declared.words.Class.{Class}
-use Rattle.dtx_values.specs.declared.words.Class.TheVariants.{Zero, One, DurableSingle, Promotable as PromotableClass}
+use Rattle.dtx_values.specs.declared.words.Class.TheVariants.{DurableSingle, Promotable as PromotableClass}
 use Rattle.dtx_values.specs.declared.words.Outcome.{Outcome}
-use Rattle.dtx_values.specs.declared.words.Cause.{Cause}
 use Rattle.dtx_values.specs.declared.words.Outcome.TheVariants.{Committed, Aborted, InDoubt}
-use Rattle.dtx_values.specs.declared.words.Timeout.{Timeout}
-use Rattle.dtx_values.specs.declared.words.Timeout.TheVariants.{Default, Milliseconds}
 use Rattle.dtx_values.specs.declared.words.Vote.{Vote}
-use Rattle.dtx_values.specs.declared.words.Vote.TheVariants.{No}
 use Rattle.dtx_values.specs.declared.row.Row.{Row}
-use Rattle.dtx_values.specs.Table.{how_many, has_row, voted}
+use Rattle.dtx_values.specs.Table.{how_many, voted}
 use Rattle.dtx_values.specs.Clones.{is_clone, is_complete_clone, is_open_rollback}
 use Rattle.dtx_model.specs.declared.listener.Listener.{Listener}
-use Rattle.dtx_model.specs.Words.{has, each, latest, past_of}
+use Rattle.dtx_model.specs.Words.{has, latest, past_of}
 use Rattle.dtx_values.specs.Row.{is_lasting, has_voted, is_marked, is_of}
 use Rattle.dtx_values.specs.Owners.{cause_of, may_own, owner_of, is_evident}
 use Rattle.dtx_values.specs.Waves.{hears, is_over, next_ask, all_voted}
-use Rattle.dtx_values.specs.Class.{is_volatile}
-use Rattle.dtx_values.specs.Vote.{is_good, is_no}
+use Rattle.dtx_values.specs.Vote.{is_no}
 use Rattle.dtx_model.specs.Observed.{Observed}
 use Rattle.dtx_values.specs.Support.{is_single}
+pub use Rattle.dtx_model.specs.Calls.{clone_made, transaction_of, complete_call, enlistment_made, transaction_with, gone_call, reenlist_call, call_of}
+pub use Rattle.dtx_model.specs.Answers.{limit_of, class_of, if_begun, unless_ended, unless_over, wait_for, clone_answer, complete_answer, unless_late, gone_answer, status_answer, await_answer, ticked, reaches}
+pub use Rattle.dtx_model.specs.Half.{stands, is_gone, is_handed, is_aborted}
+pub use Rattle.dtx_model.specs.Acts.{lasts, tell}
+pub use Rattle.dtx_model.specs.Replies.{with_note}
+pub use Rattle.dtx_model.specs.Contexts.{is_fine}
 
 -- one step: a line's call by its actor, with the steps that were done for it before it answers, which only a `do` counts;
 -- a reply of an enlistment; or the local act
@@ -56,79 +50,8 @@ pub data Step : Type 0 where
   Replies : (enlistment : EnlNo) → (reply : Reply) → Step
   Acts : Step
 
--- the transaction of the clone, where the line makes it
-abbrev pub clone_made : ℕ → Body → Option TxNo
-clone_made c (CloneLine t d k) = if c == d.value then Some t else None
-clone_made c _ = None
-
--- the transaction of a clone: that of the line that makes it
-abbrev pub transaction_of : List Line → ℕ → Option TxNo
-transaction_of s c = latest (λ l. clone_made c l.body) (past_of s)
-
-abbrev pub complete_call : CloneNo → Option TxNo → Option (TxNo × Call)
-complete_call c (Some t) = Some (t, Complete c)
-complete_call c None = None
-
--- the transaction of an enlistment: that of the line that makes it
-abbrev pub enlistment_made : ℕ → Body → Option TxNo
-enlistment_made e (VolatileLine t f o v) = if e == f.value then Some t else None
-enlistment_made e (DurableLine t f r s) = if e == f.value then Some t else None
-enlistment_made e (PromotableLine t f r v o p) = if e == f.value then Some t else None
-enlistment_made e _ = None
-
-abbrev pub transaction_with : List Line → ℕ → Option TxNo
-transaction_with s e = latest (λ l. enlistment_made e l.body) (past_of s)
-
-abbrev pub gone_call : EnlNo → Option TxNo → Option (TxNo × Call)
-gone_call e (Some t) = Some (t, Gone e)
-gone_call e None = None
-
--- the transaction that a line calls, and the call
-abbrev pub call_of : List Line → Body → Option (TxNo × Call)
-call_of s (BeginLine t d) = Some (t, Begin t d)
-call_of s (VolatileLine t e o v) = Some (t, Volatile t e o v)
-call_of s (DurableLine t e r x) = Some (t, Durable t e r x)
-call_of s (PromotableLine t e r v o p) = Some (t, Promotable t e r v o p)
-call_of s (CloneLine t c k) = Some (t, Clone t c k)
-call_of s (CompleteLine c) = complete_call c (transaction_of s c.value)
-call_of s (CommitLine t) = Some (t, Commit t)
-call_of s (RollbackLine t) = Some (t, Rollback t)
-call_of s (StatusLine t) = Some (t, Status t)
-call_of s (AwaitLine t) = Some (t, Await t)
-call_of s (TickLine t n) = Some (t, Tick t n)
-call_of s (DoLine t k n) = Some (t, Do t k n)
-call_of s (GoneLine e) = gone_call e (transaction_with s e.value)
-call_of s _ = None
-
--- `default` is 60,000 milliseconds, 0 means 600,000, and more than 600,000 is cut to it
-abbrev pub limit_of : Timeout → ℕ
-limit_of Default = 60000
-limit_of (Milliseconds n) = if n == 0 then 600000 else min n 600000
-
-abbrev pub class_of : EnlistOption → Class
-class_of Plain = One
-class_of DuringPrepare = Zero
-
--- AnswerOf. Two answers stand before the others: `notbegun`, from which begin is exempt, and `ended` where it was decided, which
--- status, await, tick, do and gone don't give.
-abbrev pub if_begun : Option ℕ → Answer → Answer
-if_begun (Some d) a = a
-if_begun None a = NotBegun
-
-abbrev pub unless_ended : Option Outcome → Answer → Answer
-unless_ended (Some x) a = Ended x
-unless_ended None a = a
-
--- an answer after both
-abbrev pub unless_over : Observed → Answer → Answer
-unless_over o a = if_begun o.limit (unless_ended o.decided a)
-
 abbrev pub volatile_answer : Bool → List Row → Answer
 volatile_answer sealed xs = if sealed then TooLate else if nat_le ENLISTMENTS (length xs) then Many ENLISTMENTS else Fine
-
-abbrev pub wait_for : Option Cause → Answer
-wait_for (Some c) = Wait
-wait_for None = Fine
 
 abbrev pub durable_answer : Bool → Bool → List Row → Answer
 durable_answer sealed single xs =
@@ -137,34 +60,6 @@ durable_answer sealed single xs =
 
 abbrev pub promotable_answer : Bool → List Row → Answer
 promotable_answer sealed xs = if sealed then TooLate else if not (may_own xs false) then False else if nat_le ENLISTMENTS (length xs) then Many ENLISTMENTS else True
-
-abbrev pub clone_answer : Bool → ℕ → Answer
-clone_answer commit n = if commit then TooLate else if nat_le CLONES n then Many CLONES else Fine
-
-abbrev pub complete_answer : Bool → Bool → Answer
-complete_answer stands complete = if not stands then NoSuch else if complete then Already else Fine
-
-abbrev pub unless_late : Bool → Answer
-unless_late late = if late then TooLate else Fine
-
-abbrev pub gone_answer : Bool → Bool → Answer
-gone_answer stands lost = if not stands then NoSuch else if lost then Already else Fine
-
-abbrev pub status_answer : Option Outcome → Answer
-status_answer (Some x) = OutcomeIs x
-status_answer None = StillActive
-
-abbrev pub await_answer : Option Outcome → Answer
-await_answer (Some x) = OutcomeIs x
-await_answer None = StillOpen
-
--- the enlistment stands
-abbrev pub stands : Observed → ℕ → Bool
-stands o e = has_row e o.table
-
--- the enlistment is lost
-abbrev pub is_gone : Observed → ℕ → Bool
-is_gone o e = has (λ l. (e == l.enlistment.value) && l.lost) o.listeners
 
 -- the answer of a call for which so many steps were done
 unfoldable pub answer : Observed → Call → ℕ → Answer
@@ -182,10 +77,6 @@ answer o (Do t k n) m = if_begun o.limit (Did m)
 answer o (Gone e) m = if_begun o.limit (gone_answer (stands o e.value) (is_gone o e.value))
 answer o _ m = Fine
 
-abbrev pub is_fine : Answer → Bool
-is_fine Fine = true
-is_fine _ = false
-
 -- the call was done: its facts follow
 abbrev pub is_done : Answer → Bool
 is_done Fine = true
@@ -200,15 +91,6 @@ abbrev pub veto_if : Bool → List Entry
 veto_if true = veto
 veto_if false = []
 
--- the clock after a tick: it stays at the last value of its u64
-abbrev pub ticked : ℕ → ℕ → ℕ
-ticked c n = min (c + n) 18446744073709551615
-
--- this tick is the first that reaches the timeout
-abbrev pub reaches : Option ℕ → ℕ → ℕ → Bool
-reaches (Some d) c n = nat_lt c d && nat_le d n
-reaches None c n = false
-
 -- the timeout comes too late: it was decided, the commit was handed over, or evidence stands
 abbrev pub is_late : Observed → Bool
 is_late o = is_some o.decided || is_some o.handed || is_evident o.sealed o.table
@@ -219,11 +101,6 @@ time_up late = if late then Late ∷ [] else TimedOut ∷ veto
 -- the facts of a tick to this clock
 abbrev pub tick_facts : Observed → ℕ → List Entry
 tick_facts o n = Clock n ∷ (if reaches o.limit o.clock n then time_up (is_late o) else [])
-
--- the commit was handed to this enlistment
-abbrev pub is_handed : Option EnlNo → ℕ → Bool
-is_handed (Some f) e = e == f.value
-is_handed None e = false
 
 -- how a lost enlistment ends the transaction: in doubt where it was handed the commit, else aborted
 abbrev pub lost_outcome : Bool → Outcome
@@ -261,14 +138,6 @@ reply_entries e (VoteReply v) = Voted e v ∷ veto_if (is_no v)
 reply_entries e (OwnerReply x) = OwnerAnswered e x ∷ Decided x ∷ []
 reply_entries e _ = []
 
-abbrev pub is_aborted : Outcome → Bool
-is_aborted Aborted = true
-is_aborted _ = false
-
--- this enlistment is durable or promotable
-abbrev pub lasts : List Row → ℕ → Bool
-lasts xs e = has (λ x. is_of e x && is_lasting x) xs
-
 -- an abort is told to a durable or promotable too, unless it was handed the commit or is lost
 abbrev pub hears_abort : Observed → Listener → Bool
 hears_abort o l = lasts o.table l.enlistment.value && not (is_handed o.handed l.enlistment.value) && not l.lost
@@ -276,12 +145,6 @@ hears_abort o l = lasts o.table l.enlistment.value && not (is_handed o.handed l.
 -- still to be told the outcome: it wasn't, and it is a volatile that hears, or hears of an abort
 abbrev pub is_to_tell : Observed → Outcome → Listener → Bool
 is_to_tell o x l = not l.told && (hears o.table l.enlistment.value || (is_aborted x && hears_abort o l))
-
--- the lowest that is still to be told, and then the client
-abbrev pub tell : Outcome → Option Listener → Option Outcome → List Entry
-tell x (Some l) told_client = Told (Enl l.enlistment) x ∷ []
-tell x None (Some y) = []
-tell x None None = Told Client x ∷ []
 
 -- phase zero: the lowest that may be asked is asked; when it is over, the transaction is sealed
 abbrev pub before_seal : Option EnlNo → Bool → List Entry
@@ -380,10 +243,6 @@ note_of o None = None
 
 unfoldable pub due_of : Observed → ℕ → Option Note
 due_of o e = note_of o (find (is_of e) o.table)
-
-abbrev pub with_note : EnlNo → Option Note → Option (EnlNo × Note)
-with_note e (Some n) = Some (e, n)
-with_note e None = None
 
 -- the enlistments of which a reply is due, with the note, by number
 unfoldable pub all_due : Observed → List (EnlNo × Note)

@@ -9,6 +9,7 @@ use Rattle.dtx_values.specs.declared.message.Conn.{Conn}
 use Rattle.dtx_values.specs.declared.message.Dir.{Dir}
 use Rattle.dtx_values.specs.declared.message.Dir.TheVariants.{Up, Down}
 use Rattle.dtx_values.specs.declared.message.Message.{Message}
+use Rattle.dtx_values.specs.declared.note.Plan.{Plan}
 use Rattle.dtx_values.specs.declared.note.Reply.{Reply}
 use Rattle.dtx_values.specs.declared.number.ActorNo.{ActorNo}
 use Rattle.dtx_values.specs.declared.number.EnlNo.{EnlNo}
@@ -17,10 +18,11 @@ use Rattle.dtx_model.specs.Words.{onto}
 use Rattle.dtx_model.specs.Promotes.{identifier_of}
 use Rattle.dtx_model.specs.Wires.{in_transit}
 use Rattle.dtx_model.specs.Coordinated.{Coordinated, abort_sends, commit_sends, core_down, core_got, follow, may_free, may_log}
-use Rattle.dtx_model.specs.Waiting.{EnteredCall}
+use Rattle.dtx_model.specs.Waiting.{EnteredCall, plan_of}
+use Rattle.dtx_model.specs.Half.{Half}
 use Rattle.dtx_model.specs.Arrivals.{local_down, local_got}
 use Rattle.dtx_model.specs.Acts.{act_entries}
-use Rattle.dtx_model.specs.Answers.{has_facts}
+use Rattle.dtx_model.specs.Answers.{facts_if, has_facts}
 use Rattle.dtx_model.specs.Replies.{all_due, is_answered, reply_entries}
 use Rattle.dtx_model.specs.World.{World, half, core, has_left, answer_at, facts_at}
 
@@ -50,8 +52,8 @@ pub data StepName : Type 0 where
   Delivery : (connection : Conn) → (direction : Dir) → StepName
 
 -- the replies that are due and whose plans aren't silent, by number
-abbrev pub replies_due : World → List StepName
-replies_due w = map (λ x. ReplyOf x.0) (filter (is_answered w.calls) (all_due (half w).seen))
+abbrev pub replies_due : (ℕ → Plan) → Half → List StepName
+replies_due p h = map (λ x. ReplyOf x.0) (filter (is_answered p) (all_due h.seen))
 
 abbrev pub local_if : List Entry → List StepName
 local_if [] = []
@@ -67,9 +69,13 @@ delivery_if false c d = []
 abbrev pub deliveries_on : List Entry → End → List StepName
 deliveries_on past n = delivery_if (has_left n.connection Up past) n.connection Up ++ delivery_if (has_left n.connection Down past) n.connection Down
 
+-- what is pending at the local side: the replies that are due, and then the local act
+unfoldable pub local_pending : (ℕ → Plan) → Half → List StepName
+local_pending p h = replies_due p h ++ local_if (act_entries h)
+
 -- Pending: the replies that are due, the local act, the coordinator's act, and the deliveries, by connection, upward first
 unfoldable pub pending : World → List StepName
-pending w = replies_due w ++ local_if (act_entries (half w)) ++ core_act (core w) ++ flat_map (deliveries_on w.past) (half w).seen.ends
+pending w = local_pending (plan_of w.calls) (half w) ++ core_act (core w) ++ flat_map (deliveries_on w.past) (half w).seen.ends
 
 -- the coordinator's act: an append where it may append, else a free
 abbrev pub appended : Coordinated → LogAnswer → List Entry
@@ -97,10 +103,6 @@ ended_at w c Down = local_down (half w) c
 abbrev pub delivered : ℕ → World → Conn → Dir → List Message → List Entry
 delivered t w c d [] = Ended c d ∷ ended_at w c d
 delivered t w c d (m ∷ ms) = Got c d m ∷ got_by t w c d m
-
-abbrev pub facts_if : Bool → List Entry → List Entry
-facts_if true es = es
-facts_if false es = []
 
 abbrev pub called : ℕ → World → ℕ → ActorNo → Call → Answer → List Entry
 called t w n a c x = Called n a x ∷ facts_if (has_facts x) (facts_at t w c x)

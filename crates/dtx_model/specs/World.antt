@@ -17,16 +17,16 @@ use Rattle.dtx_values.specs.declared.words.Outcome.TheVariants.{InDoubt}
 use Rattle.dtx_values.specs.Row.{is_of}
 use Rattle.dtx_values.specs.Class.{is_promotable}
 use Rattle.dtx_values.specs.Vote.{still_hears}
+use Rattle.dtx_values.specs.Table.{voted}
 use Rattle.dtx_model.specs.Words.{has}
 use Rattle.dtx_model.specs.Outcome.{is_empty}
 use Rattle.dtx_model.specs.declared.branch.Branch.{Branch}
 use Rattle.dtx_model.specs.Observed.{Observed, is_branch}
-use Rattle.dtx_model.specs.Steps.{if_begun, gone_answer, is_handed}
 use Rattle.dtx_model.specs.Wires.{is_ended, is_lost_wire, is_open_wire, in_transit, lost_since}
 use Rattle.dtx_model.specs.Coordinated.{Coordinated, coordinate}
 use Rattle.dtx_model.specs.Waiting.{EnteredCall}
-use Rattle.dtx_model.specs.Half.{Half, half_of, sees, decide, veto, reenlist_sent, stands, voted, is_gone}
-use Rattle.dtx_model.specs.Answers.{local_answer, local_facts}
+use Rattle.dtx_model.specs.Half.{Half, half_of, sees, decide, veto, reenlist_sent, stands, is_gone, is_handed}
+use Rattle.dtx_model.specs.Answers.{gone_answer, if_begun, local_answer, local_facts}
 
 -- the calls that were entered, newest first, and the history
 pub record World : Type 0 where
@@ -127,7 +127,7 @@ open_ones w e = filter (λ c. is_open_wire c w.past) (connections_of (half w).se
 -- an enlistment that has no open connection, hasn't voted, and is gone before anything is decided: in doubt where it was handed the commit, else a veto
 abbrev pub gone_decides : Half → EnlNo → List Entry
 gone_decides h e =
-    if is_some h.seen.decided || voted h.seen e.value then [] else if is_handed h.seen.handed e.value then decide h InDoubt else veto h
+    if is_some h.seen.decided || voted e.value h.seen.table then [] else if is_handed h.seen.handed e.value then decide h InDoubt else veto h
 
 -- all upward messages of its open connections are kept, and none downward
 abbrev pub cut_upward : List Entry → Conn → Entry
