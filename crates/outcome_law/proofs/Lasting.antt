@@ -12,7 +12,7 @@ use Rattle.dtx_values.specs.declared.entry.Ask.TheVariants.{Prepare}
 use Rattle.dtx_values.specs.declared.entry.Entry.{Entry}
 use Rattle.dtx_values.specs.declared.entry.Entry.TheVariants.{Enlisted, Asked, Voted}
 use Rattle.dtx_values.specs.declared.script.Body.{Body}
-use Rattle.dtx_values.specs.declared.script.Body.TheVariants.{Durable as DurableLine, Promotable as PromotableLine, Complete as CompleteLine, Gone as GoneLine}
+use Rattle.dtx_values.specs.declared.script.Body.TheVariants.{Durable as DurableLine, Promotable as PromotableLine, Complete as CompleteLine, Gone as GoneLine, Reenlist as ReenlistLine}
 use Rattle.dtx_values.specs.declared.script.EnlistOption.TheVariants.{Plain, DuringPrepare}
 use Rattle.dtx_values.specs.declared.script.Line.{Line}
 use Rattle.dtx_values.specs.declared.script.Support.{Support}
@@ -24,7 +24,7 @@ use Rattle.dtx_values.specs.Row.{is_lasting, is_of, number_of, fresh_row, mark_r
 use Rattle.dtx_values.specs.Class.{is_volatile}
 use Rattle.dtx_model.specs.Observed.{Observed, rows}
 use Rattle.dtx_model.specs.Contexts.{calls_by}
-use Rattle.dtx_model.specs.Steps.{call_of, complete_call, transaction_of, gone_call, transaction_with, facts, facts_if, veto_if, reaches, ticked, time_up, is_late, is_handed, lost_outcome, decided_if}
+use Rattle.dtx_model.specs.Steps.{call_of, complete_call, transaction_of, gone_call, reenlist_call, transaction_with, facts, facts_if, veto_if, reaches, ticked, time_up, is_late, is_handed, lost_outcome, decided_if}
 use Rattle.dtx_model.specs.Caused.{Caused}
 use Rattle.dtx_model.specs.Grammar.{is_lasting_for, is_run}
 use Rattle.dtx_model.proofs.Bools.{or_case, not_true, not_both}
@@ -110,6 +110,11 @@ line_lasts s (GoneLine e) = by_enlistment e (transaction_with s e.value)
     by_enlistment : (e : EnlNo) (o : Option TxNo) → lasts_by (GoneLine e) (gone_call e o) ≡ true
     by_enlistment e (Some t) = refl
     by_enlistment e None = refl
+line_lasts s (ReenlistLine e) = by_return e (transaction_with s e.value)
+  where
+    by_return : (e : EnlNo) (o : Option TxNo) → lasts_by (ReenlistLine e) (reenlist_call e o) ≡ true
+    by_return e (Some t) = refl
+    by_return e None = refl
 line_lasts s _ = refl
 
 -- the line that gives a call that makes a durable or promotable makes one of its transaction

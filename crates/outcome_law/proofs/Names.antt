@@ -13,7 +13,7 @@ use Rattle.dtx_values.specs.declared.entry.Answer.{Answer}
 use Rattle.dtx_values.specs.declared.entry.Entry.{Entry}
 use Rattle.dtx_values.specs.declared.entry.Entry.TheVariants.{Called, Cloned, Enlisted}
 use Rattle.dtx_values.specs.declared.script.Body.{Body}
-use Rattle.dtx_values.specs.declared.script.Body.TheVariants.{Volatile as VolatileLine, Durable as DurableLine, Promotable as PromotableLine, Clone as CloneLine, Complete as CompleteLine, Gone as GoneLine}
+use Rattle.dtx_values.specs.declared.script.Body.TheVariants.{Volatile as VolatileLine, Durable as DurableLine, Promotable as PromotableLine, Clone as CloneLine, Complete as CompleteLine, Gone as GoneLine, Reenlist as ReenlistLine}
 use Rattle.dtx_values.specs.declared.script.Line.{Line}
 use Rattle.dtx_values.specs.Row.{is_of}
 use Rattle.dtx_values.specs.Clones.{is_clone, is_open_rollback}
@@ -22,7 +22,7 @@ use Rattle.dtx_model.specs.Entries.{is_call}
 use Rattle.dtx_model.specs.Observed.{Observed, observe, rows, clone_rows}
 use Rattle.dtx_model.specs.Contexts.{calls_by, lines_before}
 use Rattle.dtx_values.specs.Table.{voted}
-use Rattle.dtx_model.specs.Steps.{Step, Calls, Replies, Acts, call_of, complete_call, transaction_of, gone_call, transaction_with, answer, is_done, facts, facts_if, veto_if, reaches, ticked, time_up, is_late, is_handed, lost_outcome, decided_if, block}
+use Rattle.dtx_model.specs.Steps.{Step, Calls, Replies, Acts, call_of, complete_call, transaction_of, gone_call, reenlist_call, transaction_with, answer, is_done, facts, facts_if, veto_if, reaches, ticked, time_up, is_late, is_handed, lost_outcome, decided_if, block}
 use Rattle.dtx_model.specs.Caused.{IsCallOf, MayCome, Ran, Caused, is_new}
 use Rattle.dtx_model.specs.Grammar.{Name, OfTransaction, OfEnlistment, OfClone, OfScope, same_name, makes, is_made, is_named_well, are_named_well}
 use Rattle.dtx_model.proofs.Bools.{and_left, and_right, or_right, or_case, not_true, not_false, not_both}
@@ -119,6 +119,10 @@ line_makes s x b t c e k = by_body s x b (subst (λ o. passed x o ≡ true) (sym
     by_enlistment x e (Some t) h = cc
     by_enlistment x e None h = cc
 
+    by_return : (x : Name) (e : EnlNo) (o : Option TxNo) → passed x (reenlist_call e o) ≡ true → ⊥
+    by_return x e (Some t) h = cc
+    by_return x e None h = cc
+
     by_body : (s : List Line) (x : Name) (b : Body) → passed x (call_of s b) ≡ true → has (λ m. same_name x m) (makes b) ≡ true
     by_body s x (VolatileLine t e o v) h = rw h refl
     by_body s x (DurableLine t e r y) h = rw h refl
@@ -126,6 +130,7 @@ line_makes s x b t c e k = by_body s x b (subst (λ o. passed x o ≡ true) (sym
     by_body s x (CloneLine t c k) h = rw h refl
     by_body s x (CompleteLine c) h = absurd (by_clone x c (transaction_of s c.value) h)
     by_body s x (GoneLine e) h = absurd (by_enlistment x e (transaction_with s e.value) h)
+    by_body s x (ReenlistLine e) h = absurd (by_return x e (transaction_with s e.value) h)
     by_body s x _ h = absurd cc
 
 -- a call as scope lines give it makes no name
