@@ -9,3 +9,4 @@ pub mod Pasts
 pub mod SameNumbers
 pub mod Counts
 pub mod Unowned
+pub mod Unpromoted
