@@ -10,3 +10,5 @@ pub mod SameNumbers
 pub mod Counts
 pub mod Unowned
 pub mod Unpromoted
+pub mod Narrow
+pub mod Narrowing
