@@ -9,3 +9,6 @@ pub mod Pasts
 pub mod SameNumbers
 pub mod Counts
 pub mod Unowned
+pub mod Quiet
+pub mod Heeding
+pub mod Lifting
