@@ -8,6 +8,7 @@ pub mod Evidence
 pub mod Rules
 pub mod Owned
 pub mod Pending
+pub mod Local
 pub mod ScopeCalls
 pub mod Names
 pub mod Lasting
@@ -16,7 +17,6 @@ pub mod Calls
 pub mod Acts
 pub mod Beyond
 pub mod Blocks
-pub mod Plans
 pub mod Timely
 pub mod Waves
 pub mod Settled
@@ -24,9 +24,5 @@ pub mod Silent
 pub mod Heard
 pub mod Replays
 pub mod Examples
-pub mod ReplayExample
-pub mod ScopeExample
-pub mod OwnerExample
-pub mod LossExample
 pub mod PromotionExample
 pub mod Determined

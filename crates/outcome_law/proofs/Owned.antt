@@ -18,7 +18,7 @@ use Rattle.dtx_model.specs.Observed.{listener_number, come_back, hear, listeners
 use Rattle.dtx_model.specs.Outcome.{can_own, durables, enlisted, hears_doubt, is_empty, ready}
 use Rattle.dtx_values.specs.Owners.{lasting, only, owner_of}
 use Rattle.dtx_values.specs.Row.{is_lasting, is_of, has_voted, number_of, fresh_row, mark_row, vote_row}
-use Rattle.dtx_model.specs.Steps.{is_handed}
+use Rattle.dtx_model.specs.Half.{is_handed}
 use Rattle.dtx_values.specs.Vote.{still_hears}
 use Rattle.dtx_values.specs.Waves.{hears}
 use Rattle.dtx_model.proofs.Bools.{and_left, and_right, and_never, or_first, or_second, or_case, not_both, not_true}
