@@ -15,3 +15,4 @@ pub mod Narrowing
 pub mod Quiet
 pub mod Heeding
 pub mod Lifting
+pub mod NarrowReplies
