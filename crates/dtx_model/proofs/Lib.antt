@@ -16,3 +16,5 @@ pub mod Quiet
 pub mod Heeding
 pub mod Lifting
 pub mod NarrowReplies
+pub mod NarrowCalls
+pub mod NarrowFacts
