@@ -18,3 +18,4 @@ pub mod Lifting
 pub mod NarrowReplies
 pub mod NarrowCalls
 pub mod NarrowFacts
+pub mod Local

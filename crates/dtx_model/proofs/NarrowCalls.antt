@@ -1,25 +1,18 @@
 -- What calls are answered, and write, while nothing is promoted.
-use Rattle.std.proofs.Common.{◌≡◌, ◌⊎◌, inl, inr, ℕ, ◌+◌, ◌==◌, Bool, true, false, ◌&&◌, ◌||◌, not, List, [], ◌∷◌, ◌++◌, Option, Some, None, refl, sym, ap, ◌∙◌, length, find, is_some, if◌then◌else◌, nat_le, arith}
+use Rattle.std.proofs.Common.{◌≡◌, ℕ, ◌+◌, Bool, true, false, List, [], refl, ap, length, nat_le, arith}
 use Rattle.dtx_values.specs.declared.call.Call.{Call}
 use Rattle.dtx_values.specs.declared.call.Call.TheVariants.{Begin, Volatile, Durable, Promotable, Clone, Complete, Commit, Rollback, Marshal, Status, Await, Tick, Do, Lose, Gone, Reenlist, Recovered}
-use Rattle.dtx_values.specs.declared.entry.Answer.{Answer}
-use Rattle.dtx_values.specs.declared.entry.Answer.TheVariants.{Fine, True, False, Wait, Id, Did, NotBegun, Ended, NoSuch, TooLate, Many, Already}
-use Rattle.dtx_values.specs.declared.entry.Entry.{Entry}
-use Rattle.dtx_values.specs.declared.limits.TheConstants.{CALLS, DURABLES, ENLISTMENTS}
+use Rattle.dtx_values.specs.declared.limits.TheConstants.{DURABLES, ENLISTMENTS}
 use Rattle.dtx_values.specs.declared.number.EnlNo.{EnlNo}
 use Rattle.dtx_values.specs.declared.number.RmNo.{RmNo}
-use Rattle.dtx_values.specs.declared.words.Cause.{Cause}
-use Rattle.dtx_values.specs.declared.words.Outcome.{Outcome}
 use Rattle.dtx_values.specs.Row.{is_lasting}
-use Rattle.dtx_values.specs.Support.{is_single}
 use Rattle.dtx_values.specs.Table.{how_many}
 use Rattle.dtx_model.specs.Observed.{Observed, branches, observe}
 use Rattle.dtx_model.specs.Waiting.{managed}
-use Rattle.dtx_model.specs.Half.{Half}
-use Rattle.dtx_model.specs.Answers.{is_crowded, is_full, is_full_of_durables, local_answer, places}
+use Rattle.dtx_model.specs.Answers.{is_full, is_full_of_durables, local_answer}
 use Rattle.dtx_model.specs.World.{World, answer_at, half}
 use Rattle.dtx_model.proofs.Narrow.{answer}
-use Rattle.dtx_model.proofs.Unpromoted.{are_local, at_home, half-local, narrow, observe-local, unopened-local}
+use Rattle.dtx_model.proofs.Unpromoted.{are_local, at_home, half-local, observe-local, unopened-local}
 
 more_none : (n : ℕ) → n + 0 ≡ n
 more_none n = grind (arith)

@@ -1,5 +1,5 @@
 -- What a call writes while nothing is promoted; and that a call which waits begins a promotion.
-use Rattle.std.proofs.Common.{◌≡◌, ◌⊎◌, inl, inr, ℕ, Bool, true, false, ◌&&◌, ◌||◌, not, List, [], ◌∷◌, ◌++◌, Option, Some, None, refl, sym, ap, ◌∙◌, filter, is_some, if◌then◌else◌}
+use Rattle.std.proofs.Common.{◌≡◌, ℕ, Bool, true, false, ◌&&◌, ◌||◌, not, List, [], ◌∷◌, Option, Some, None, refl, sym, ap, ◌∙◌, filter, is_some, if◌then◌else◌}
 use Rattle.dtx_values.specs.declared.call.Call.{Call}
 use Rattle.dtx_values.specs.declared.call.Call.TheVariants.{Begin, Volatile, Durable, Promotable, Clone, Complete, Commit, Rollback, Marshal, Status, Await, Tick, Do, Lose, Gone, Reenlist, Recovered}
 use Rattle.dtx_values.specs.declared.entry.Answer.{Answer}
@@ -10,7 +10,6 @@ use Rattle.dtx_values.specs.declared.message.Conn.{Conn}
 use Rattle.dtx_values.specs.declared.number.ActorNo.{ActorNo}
 use Rattle.dtx_values.specs.declared.number.EnlNo.{EnlNo}
 use Rattle.dtx_values.specs.declared.number.RmNo.{RmNo}
-use Rattle.dtx_values.specs.declared.words.Cause.{Cause}
 use Rattle.dtx_values.specs.declared.words.Outcome.{Outcome}
 use Rattle.dtx_values.specs.declared.words.Outcome.TheVariants.{InDoubt}
 use Rattle.dtx_values.specs.Clones.{is_open_rollback}
@@ -20,9 +19,9 @@ use Rattle.dtx_model.specs.Observed.{Observed, observe, track}
 use Rattle.dtx_model.specs.Waiting.{managed}
 use Rattle.dtx_model.specs.Half.{Half, decide, is_handed, sees, veto, veto_if as full_veto_if}
 use Rattle.dtx_model.specs.Wires.{is_open_wire}
-use Rattle.dtx_model.specs.Answers.{facts_if, has_facts, if_begun, is_late as full_late, local_facts, reaches, ticked, time_up as full_time_up, unless_ended, wait_for}
-use Rattle.dtx_model.specs.World.{World, answer_at, connections_of, facts_at, gone_by, gone_decides, gone_unlinked, half, is_promotable_row, open_ones}
-use Rattle.dtx_model.specs.Turns.{Step, Calls, block_at}
+use Rattle.dtx_model.specs.Answers.{facts_if, has_facts, if_begun, is_late as full_late, local_facts, reaches, ticked, time_up as full_time_up, unless_ended}
+use Rattle.dtx_model.specs.World.{World, connections_of, facts_at, gone_by, gone_unlinked, half, open_ones}
+use Rattle.dtx_model.specs.Turns.{Calls, block_at}
 use Rattle.dtx_model.proofs.Narrow.{answer, block, decided_if, facts, is_done, is_late, lost_outcome, time_up, veto_if}
 use Rattle.dtx_model.proofs.Bools.{not_both}
 use Rattle.dtx_model.proofs.NarrowCalls.{answer-narrow, is_answered_here}
