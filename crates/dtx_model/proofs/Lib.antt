@@ -16,3 +16,6 @@ pub mod Quiet
 pub mod Heeding
 pub mod Lifting
 pub mod NarrowReplies
+pub mod NarrowCalls
+pub mod NarrowFacts
+pub mod Local
