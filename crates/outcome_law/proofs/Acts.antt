@@ -1,5 +1,5 @@
 -- The block of each reply that is due and of each local act keeps the rules.
-use Rattle.std.proofs.Common.{suc, zero, ◌≡◌, ℕ, ◌==◌, Bool, true, false, ◌&&◌, ◌||◌, List, [], ◌∷◌, Option, Some, None, refl, ◌∙◌, ap, sym, subst, slice_get}
+use Rattle.std.proofs.Common.{suc, zero, ◌≡◌, ℕ, ◌==◌, Bool, true, false, ◌&&◌, ◌||◌, inl, inr, List, [], ◌∷◌, Option, Some, None, refl, ◌∙◌, ap, sym, subst, slice_get}
 use Rattle.std.specs.Prelude.{is_some, filter, find, not, if◌then◌else◌}
 use Rattle.std.proofs.lemmas.Bool.{eqb-true, or_left}
 use Rattle.dtx_values.specs.declared.number.EnlNo.{EnlNo}
@@ -27,7 +27,9 @@ use Rattle.dtx_model.specs.Observed.{observe, rows, clone_rows, listeners}
 use Rattle.dtx_model.specs.Outcome.{durables, enlisted, volatiles, voters, is_complete, is_empty, ready, by_seal, by_owner, by_log, evidence, hears_doubt, may_tell}
 use Rattle.dtx_values.specs.Class.{is_class, is_volatile}
 use Rattle.dtx_values.specs.Owners.{owner_of}
-use Rattle.dtx_model.proofs.Narrow.{reply_entries, open_note, due_note, note_of, due_of, fits}
+use Rattle.dtx_model.specs.Replies.{fits}
+use Rattle.dtx_model.proofs.Narrow.{reply_entries}
+use Rattle.dtx_model.proofs.NarrowReplies.{IsDue}
 use Rattle.dtx_values.specs.Waves.{all_voted, hears, may_be_asked, name_of, next_ask, zeros_voted, is_over}
 use Rattle.dtx_model.specs.Half.{is_gone, is_handed}
 use Rattle.dtx_model.specs.Acts.{tell}
@@ -35,7 +37,7 @@ use Rattle.dtx_model.proofs.Narrow.{hears_abort, is_to_tell, commit_act, before_
 use Rattle.dtx_model.proofs.Bools.{and_left, and_right, and_both, or_first, or_right, not_true, not_false, three_hold}
 use Rattle.outcome_law.proofs.Tests.{four_hold, five_hold, eq_self}
 use Rattle.outcome_law.proofs.Scans.{each_more, each_both, each-append, each-kth}
-use Rattle.outcome_law.proofs.Picks.{passes, each_from_at, each_picked, found_well, none_each}
+use Rattle.outcome_law.proofs.Picks.{passes, each_from_at, found_at, found_well, none_each}
 use Rattle.outcome_law.proofs.Rule.{is_enlisted, is_only, is_answer, all_complete, zeros_cast, is_decided, is_certain, rule, ruled, is_volatile_of}
 use Rattle.outcome_law.proofs.TableRows.{none_there, rows_enlisted, row_marked, row_voted, zeros_seen, all_voted_seen, open_blocks}
 use Rattle.outcome_law.proofs.Evidence.{none_promoted, voters-volatile, sealed_closed}
@@ -65,67 +67,36 @@ answer_rule h e x k d w =
     three_hold (not (has is_decision h)) (has (is_hand e.value) h) (not (has is_answer h)) (not_false (has is_decision h) d) (sym (hand_seen e.value h k.rules) ∙ w)
     (not_false (has is_answer h) (going_unanswered h d k.going))
 
--- to prepare a reply is due of who was asked and hasn't voted
-prepare_due : (off asked handed : Bool) → (if off then None else open_note asked handed) ≡ Some PrepareNote → (off ≡ false) × (asked ≡ true)
-prepare_due true asked handed e = absurd cc
-prepare_due false true handed e = (refl, refl)
-prepare_due false false true e = absurd cc
-prepare_due false false false e = absurd cc
-
--- to the handing a reply is due of who was handed the commit
-hand_due : (off asked handed : Bool) → (if off then None else open_note asked handed) ≡ Some HandNote → (off ≡ false) × (handed ≡ true)
-hand_due true asked handed e = absurd cc
-hand_due false true handed e = absurd cc
-hand_due false false true e = (refl, refl)
-hand_due false false false e = absurd cc
-
--- where it isn't decided nor the other, nothing is decided
-off_undecided : (h : List Entry) (b : Bool) → (is_some (latest decision_of h) || b) ≡ false → has is_decision h ≡ false
-off_undecided h b k = undecided h (none_there (latest decision_of h) (or_first (is_some (latest decision_of h)) b k))
-
--- by the note: what it needs holds
-note_well : (h : List Entry) (e : ℕ) (n : Option Note) → (n ≡ Some PrepareNote → is_well_due h e (Some PrepareNote) ≡ true) → (n ≡ Some HandNote → is_well_due h e (Some HandNote) ≡ true)
-    → is_well_due h e n ≡ true
-note_well h e (Some PrepareNote) f g = f refl
-note_well h e (Some HandNote) f g = g refl
-note_well h e _ f g = refl
-
--- of each row what its note needs holds
-row_well : (h : List Entry) (k : ℕ) (x : Row) → IsKept h → slice_get (rows h) k ≡ Some x → is_well_due h x.number.value (due_note (observe h) x) ≡ true
-unfolding observe
-row_well h k x i e =
-    note_well h x.number.value (due_note (observe h) x)
-    (λ n. let w = prepare_due (is_some (latest decision_of h) || is_gone (observe h) x.number.value) (is_marked x && not (has_voted x)) (is_handed (latest handed_of h) x.number.value) n in
-    due_rule (is_marked x) (has_voted x) (has is_decision h) (has (is_enlisted x.number.value) h) (has (is_asked x.number.value) h) (has (is_vote x.number.value) h)
-    (off_undecided h (is_gone (observe h) x.number.value) w.0) (rows_enlisted h k x i.rules e) (row_marked h k x i.rules e) (row_voted h k x i.rules e) w.1)
-    (λ n. let w = hand_due (is_some (latest decision_of h) || is_gone (observe h) x.number.value) (is_marked x && not (has_voted x)) (is_handed (latest handed_of h) x.number.value) n in
-    answer_rule h x.number Committed i (off_undecided h (is_gone (observe h) x.number.value) w.0) w.1)
-
--- the row of the enlistment, where it is the one that was looked for
-found_row : (h : List Entry) (e k : ℕ) (x : Row) → IsKept h → slice_get (rows h) k ≡ Some x → (not (is_of e x) || is_well_due h e (due_note (observe h) x)) ≡ true
-found_row h e k x i s = step (is_of e x) refl (row_well h k x i s)
-  where
-    step : (b : Bool) → is_of e x ≡ b → is_well_due h x.number.value (due_note (observe h) x) ≡ true → (not b || is_well_due h e (due_note (observe h) x)) ≡ true
-    step false f w = refl
-    step true f w = let same : e ≡ x.number.value = eqb-true e x.number.value f in subst (λ n. is_well_due h n (due_note (observe h) x) ≡ true) (sym same) w
-
 -- what the note that is due needs holds
-due_well : (h : List Entry) (e : ℕ) (n : Note) → IsKept h → due_of (observe h) e ≡ Some n → is_well_due h e (Some n) ≡ true
-unfolding due_of observe
-due_well h e n i d =
-    of_found (find (is_of e) (rows h))
-    (found_well (is_of e) (λ x. is_well_due h e (due_note (observe h) x)) (rows h)
-    (each_from_at (λ x. not (is_of e x) || is_well_due h e (due_note (observe h) x)) (rows h) (λ k x s. found_row h e k x i s))) d
-  where
-    of_found : (o : Option Row) → passes (λ x. is_well_due h e (due_note (observe h) x)) o ≡ true → note_of (observe h) o ≡ Some n → is_well_due h e (Some n) ≡ true
-    of_found (Some x) w k = subst (λ o. is_well_due h e o ≡ true) k w
-    of_found None w k = absurd cc
+due_well : (h : List Entry) (e : ℕ) (n : Note) → IsKept h → IsDue (observe h) e n → is_well_due h e (Some n) ≡ true
+unfolding observe
+due_well h e n i (inl q) =
+    let place = found_at (is_of e) (rows h) q.row q.stands in
+    let same : e ≡ q.row.number.value = eqb-true e q.row.number.value place.2 in
+    let asked : (is_marked q.row && not (has_voted q.row)) ≡ true = and_both (is_marked q.row) (not (has_voted q.row)) q.asked (not_false (has_voted q.row) q.unvoted) in
+    subst (λ m. is_well_due h e (Some m) ≡ true) (sym q.note)
+    (subst (λ m. is_well_due h m (Some PrepareNote) ≡ true) (sym same)
+    (due_rule (is_marked q.row) (has_voted q.row) (has is_decision h) (has (is_enlisted q.row.number.value) h) (has (is_asked q.row.number.value) h) (has (is_vote q.row.number.value) h)
+    (undecided h (none_there (latest decision_of h) q.open_yet)) (rows_enlisted h place.0 q.row i.rules place.1) (row_marked h place.0 q.row i.rules place.1) (row_voted h place.0 q.row i.rules place.1) asked))
+due_well h e n i (inr q) =
+    let place = found_at (is_of e) (rows h) q.row q.stands in
+    let same : e ≡ q.row.number.value = eqb-true e q.row.number.value place.2 in
+    subst (λ m. is_well_due h e (Some m) ≡ true) (sym q.note)
+    (subst (λ m. is_well_due h m (Some HandNote) ≡ true) (sym same)
+    (answer_rule h q.row.number Committed i (undecided h (none_there (latest decision_of h) q.open_yet)) q.handed))
 
 -- a reply that fits the note that is due may come
-fits_well : (h : List Entry) (e : EnlNo) (y : Reply) (n : Note) → fits y n ≡ true → is_well_due h e.value (Some n) ≡ true → may_reply h e y ≡ true
-fits_well h e (VoteReply v) PrepareNote f w = w
-fits_well h e (OwnerReply x) HandNote f w = w
-fits_well h e _ _ f w = absurd cc
+fits_well : (h : List Entry) (e : EnlNo) (y : Reply) (n : Note) → fits y n ≡ true → IsDue (observe h) e.value n → is_well_due h e.value (Some n) ≡ true → may_reply h e y ≡ true
+fits_well h e y n f (inl q) w = vote y (subst (λ m. fits y m ≡ true) q.note f) (subst (λ m. is_well_due h e.value (Some m) ≡ true) q.note w)
+  where
+    vote : (y : Reply) → fits y PrepareNote ≡ true → is_well_due h e.value (Some PrepareNote) ≡ true → may_reply h e y ≡ true
+    vote (VoteReply v) f w = w
+    vote _ f w = absurd cc
+fits_well h e y n f (inr q) w = answer y (subst (λ m. fits y m ≡ true) q.note f) (subst (λ m. is_well_due h e.value (Some m) ≡ true) q.note w)
+  where
+    answer : (y : Reply) → fits y HandNote ≡ true → is_well_due h e.value (Some HandNote) ≡ true → may_reply h e y ≡ true
+    answer (OwnerReply x) f w = w
+    answer _ f w = absurd cc
 
 -- the entries of a reply that may come keep it
 vote_keeps : (h : List Entry) (e : EnlNo) (y : Reply) → IsKept h → may_reply h e y ≡ true → IsKept (onto h (reply_entries e y))
@@ -136,8 +107,8 @@ vote_keeps h e (OwnerReply x) k q = answer_keeps h e x k q
 vote_keeps h e _ k q = absurd cc
 
 -- the entries of a reply that is due keep it
-pub reply_keeps : (h : List Entry) (e : EnlNo) (y : Reply) (n : Note) → IsKept h → due_of (observe h) e.value ≡ Some n → fits y n ≡ true → IsKept (onto h (reply_entries e y))
-reply_keeps h e y n i d f = vote_keeps h e y i (fits_well h e y n f (due_well h e.value n i d))
+pub reply_keeps : (h : List Entry) (e : EnlNo) (y : Reply) (n : Note) → IsKept h → IsDue (observe h) e.value n → fits y n ≡ true → IsKept (onto h (reply_entries e y))
+reply_keeps h e y n i d f = vote_keeps h e y i (fits_well h e y n f d (due_well h e.value n i d))
 
 -- an outcome is itself
 same_self : (x : Outcome) → same_outcome x x ≡ true

@@ -19,6 +19,9 @@ pub mod Beyond
 pub mod Blocks
 pub mod Timely
 pub mod Waves
+pub mod Planned
+pub mod Plans
+pub mod Dues
 pub mod Settled
 pub mod Silent
 pub mod Heard

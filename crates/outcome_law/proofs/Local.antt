@@ -1,5 +1,5 @@
 -- Runs in which nothing is promoted, by what the local side has seen: proofs/Promotions has that the runs in which no promotion begins are these.
-use Rattle.std.proofs.Common.{◌≡◌, ℕ, true, false, List, [], ◌∷◌, Some}
+use Rattle.std.proofs.Common.{◌≡◌, ℕ, true, false, List, [], ◌∷◌}
 use Rattle.dtx_values.specs.declared.call.Call.{Call}
 use Rattle.dtx_values.specs.declared.entry.Entry.{Entry}
 use Rattle.dtx_values.specs.declared.note.Note.{Note}
@@ -8,12 +8,14 @@ use Rattle.dtx_model.specs.Words.{has, onto}
 use Rattle.dtx_model.specs.Entries.{is_call}
 use Rattle.dtx_model.specs.Observed.{observe}
 use Rattle.dtx_model.specs.Turns.{Step, Calls, Replies, Acts}
-use Rattle.dtx_model.proofs.Narrow.{block, due_of, fits}
+use Rattle.dtx_model.specs.Replies.{fits}
+use Rattle.dtx_model.proofs.Narrow.{block}
+use Rattle.dtx_model.proofs.NarrowReplies.{IsDue}
 
 -- the step may come after this history: a call where it may be entered and its line hasn't come yet, and a reply where one is due and it fits
 abbrev pub MayComeLocal : (ℕ → ActorNo → Call → Type 0) → List Entry → Step → Type 0
 MayComeLocal G h (Calls n a c m) = G n a c × (has (is_call n) h ≡ false)
-MayComeLocal G h (Replies e r) = (n : Note) × (due_of (observe h) e.value ≡ Some n) × (fits r n ≡ true)
+MayComeLocal G h (Replies e r) = (n : Note) × IsDue (observe h) e.value n × (fits r n ≡ true)
 MayComeLocal G h Acts = Unit {0}
 MayComeLocal G h _ = ⊥
 

@@ -103,14 +103,14 @@ same_place x rest (y ∷ s) (suc i) zero k l h e f p q = absurd (not_again x (y 
 same_place x rest (y ∷ s) (suc i) (suc j) k l h e f p q = ap suc (same_place x (y ∷ rest) s i j k l h e f p q)
 
 -- two lines of a script in which names are made once that make the same name are the same line
-made_once : (x : Name) (s : List Line) (n m : ℕ) (k l : Line) → are_named_well s ≡ true → kth s n ≡ Some k → kth s m ≡ Some l
+pub made_once : (x : Name) (s : List Line) (n m : ℕ) (k l : Line) → are_named_well s ≡ true → kth s n ≡ Some k → kth s m ≡ Some l
     → is_maker x k ≡ true → is_maker x l ≡ true → n ≡ m
 made_once x s zero m k l h e f p q = absurd cc
 made_once x s (suc n) zero k l h e f p q = absurd cc
 made_once x s (suc n) (suc m) k l h e f p q = ap suc (same_place x [] s n m k l h e f p q)
 
 -- the line with whose body a call is given makes what the call makes
-line_makes : (s : List Line) (x : Name) (b : Body) (t : TxNo) (c : Call) → call_of s b ≡ Some (t, c) → call_makes x c ≡ true → has (λ m. same_name x m) (makes b) ≡ true
+pub line_makes : (s : List Line) (x : Name) (b : Body) (t : TxNo) (c : Call) → call_of s b ≡ Some (t, c) → call_makes x c ≡ true → has (λ m. same_name x m) (makes b) ≡ true
 line_makes s x b t c e k = by_body s x b (subst (λ o. passed x o ≡ true) (sym e) k)
   where
     passed : Name → Option (TxNo × Call) → Bool
@@ -140,7 +140,7 @@ line_makes s x b t c e k = by_body s x b (subst (λ o. passed x o ≡ true) (sym
     by_body s x _ h = absurd cc
 
 -- a call as scope lines give it makes no name
-scope_makes_none : (x : Name) (c : Call) → is_scope_call c ≡ true → call_makes x c ≡ true → ⊥
+pub scope_makes_none : (x : Name) (c : Call) → is_scope_call c ≡ true → call_makes x c ≡ true → ⊥
 scope_makes_none x (Volatile t e o v) h k = cc
 scope_makes_none x (Clone t c k) h m = cc
 scope_makes_none x _ h k = cc
