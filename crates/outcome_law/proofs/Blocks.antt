@@ -3,16 +3,20 @@ use Rattle.std.proofs.Common.{◌≡◌, ℕ, true, List, [], ◌∷◌, refl, s
 use Rattle.dtx_values.specs.declared.call.Call.{Call}
 use Rattle.dtx_values.specs.declared.entry.Entry.{Entry}
 use Rattle.dtx_values.specs.declared.number.ActorNo.{ActorNo}
+use Rattle.dtx_values.specs.declared.script.Line.{Line}
 use Rattle.dtx_model.specs.Words.{onto}
 use Rattle.dtx_model.specs.Observed.{observe}
-use Rattle.dtx_model.specs.Causes.{AreMadeOnce}
+use Rattle.dtx_model.specs.Caused.{IsCallOf}
+use Rattle.dtx_model.specs.Causes.{AreMadeOnce, FreelyCaused, IsIn, IsOwnRun, is_unpromoted}
+use Rattle.dtx_model.specs.Grammar.{are_named_well}
+use Rattle.dtx_model.specs.World.{World}
 use Rattle.dtx_model.specs.Turns.{Step, Calls, Replies, Acts}
 use Rattle.dtx_model.proofs.Narrow.{answer, is_done, act_entries, block}
-use Rattle.outcome_law.proofs.Local.{MayComeLocal, RanLocal, IsLocalRun}
+use Rattle.outcome_law.proofs.Runs.{MayComeLocal, RanLocal, IsLocalRun, free_run, own_free}
 use Rattle.outcome_law.proofs.Going.{IsKept}
 use Rattle.outcome_law.proofs.Calls.{call_keeps}
 use Rattle.outcome_law.proofs.Acts.{reply_keeps, act_keeps}
-use Rattle.outcome_law.proofs.Names.{run_new}
+use Rattle.outcome_law.proofs.Names.{run_new, script_once}
 
 -- the block of a step that may come keeps it
 step_keeps : (G : ℕ → ActorNo → Call → Type 0) (h : List Entry) (m : Step) → AreMadeOnce G → IsLocalRun G h → MayComeLocal G h m → IsKept h → IsKept (onto h (block (observe h) m))
@@ -31,3 +35,15 @@ ran_kept G (m ∷ ms) h once r = subst IsKept (sym r.3) (step_keeps G r.0 m once
 -- where nothing is promoted and names are made once, a run keeps it
 pub run_kept : (G : ℕ → ActorNo → Call → Type 0) (h : List Entry) → AreMadeOnce G → IsLocalRun G h → IsKept h
 run_kept G h once r = ran_kept G r.0 h once r.1
+
+-- what is freely caused and in which nothing is promoted keeps it, where names are made once
+pub free_kept : (G : ℕ → ActorNo → Call → Type 0) (t : ℕ) (h : List Entry) → AreMadeOnce G → FreelyCaused G t h → is_unpromoted h ≡ true → IsKept h
+free_kept G t h once r u = run_kept G h once (free_run G t h r u)
+
+-- by the calls of a script
+pub script_kept : (s : List Line) (t : ℕ) (h : List Entry) → are_named_well s ≡ true → FreelyCaused (IsCallOf s t) t h → is_unpromoted h ≡ true → IsKept h
+script_kept s t h named r u = free_kept (IsCallOf s t) t h (script_once s t named) r u
+
+-- by a program's own calls
+pub own_kept : (t : ℕ) (w : World) → AreMadeOnce (IsIn w.calls) → IsOwnRun t w → is_unpromoted w.past ≡ true → IsKept w.past
+own_kept t w once r u = free_kept (IsIn w.calls) t w.past once (own_free t w r) u

@@ -36,7 +36,7 @@ use Rattle.outcome_law.proofs.Scans.{none_more}
 use Rattle.outcome_law.proofs.Lists.{has_kept, if_kept, has-insert}
 use Rattle.outcome_law.proofs.Pending.{is_plain, veto_plain, time_plain, decided_plain}
 use Rattle.outcome_law.proofs.ScopeCalls.{is_scope_call, given_call}
-use Rattle.outcome_law.proofs.Local.{IsLocalRun}
+use Rattle.outcome_law.proofs.Runs.{IsLocalRun}
 use Rattle.outcome_law.proofs.Names.{IsCalled, IsFactOf, fact_called}
 
 -- a durable or promotable enlistment came

@@ -8,7 +8,7 @@ pub mod Evidence
 pub mod Rules
 pub mod Owned
 pub mod Pending
-pub mod Local
+pub mod Runs
 pub mod ScopeCalls
 pub mod Names
 pub mod Lasting
@@ -23,6 +23,7 @@ pub mod Planned
 pub mod Plans
 pub mod Dues
 pub mod Settled
+pub mod Settlings
 pub mod Silent
 pub mod Heard
 pub mod Replays

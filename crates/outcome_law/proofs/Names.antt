@@ -38,7 +38,7 @@ use Rattle.outcome_law.proofs.Scans.{none_more}
 use Rattle.outcome_law.proofs.Tests.{eq_self}
 use Rattle.outcome_law.proofs.TableRows.{enlisted_in_rows, clone_stands}
 use Rattle.outcome_law.proofs.Pending.{is_plain, veto_plain, time_plain, decided_plain, block_plain}
-use Rattle.outcome_law.proofs.Local.{MayComeLocal, RanLocal, IsLocalRun}
+use Rattle.outcome_law.proofs.Runs.{MayComeLocal, RanLocal, IsLocalRun}
 use Rattle.outcome_law.proofs.ScopeCalls.{is_scope_call, given_call}
 
 -- the line makes this name
@@ -280,7 +280,7 @@ not_named G n a c x h w r k u m = by_cases (has (is_namer x) h) refl
         absurd (not_both (has (is_call n) h) (subst (λ i. has (is_call i) h ≡ true) same made.called) u)
 
 -- what brings the name of an enlistment is that enlistment's entry
-enlisted_namer : (e : ℕ) (h : List Entry) → has (is_namer (OfEnlistment e)) h ≡ has (is_enlisted e) h
+pub enlisted_namer : (e : ℕ) (h : List Entry) → has (is_namer (OfEnlistment e)) h ≡ has (is_enlisted e) h
 enlisted_namer e [] = refl
 enlisted_namer e (Enlisted f c ∷ h) = ap (λ b. (e == f.value) || b) (enlisted_namer e h)
 enlisted_namer e (x ∷ h) = enlisted_namer e h

@@ -19,7 +19,7 @@ use Rattle.dtx_model.specs.Answers.{ticked, reaches, facts_if}
 use Rattle.dtx_model.specs.Turns.{Step, Calls, Replies, Acts}
 use Rattle.dtx_model.proofs.Narrow.{answer, is_done, veto_if, is_late, time_up, lost_outcome, decided_if, facts, block}
 use Rattle.dtx_model.proofs.Bools.{and_left, and_right, and_both, or_false, not_false}
-use Rattle.outcome_law.proofs.Local.{RanLocal, IsLocalRun}
+use Rattle.outcome_law.proofs.Runs.{RanLocal, IsLocalRun}
 use Rattle.outcome_law.proofs.Pending.{is_deed, veto_deed, decided_deed, block_deed}
 
 -- a clock isn't below the clock before it and fits a u64, and an entry of a timeout is timely
