@@ -26,6 +26,7 @@ pub mod Settled
 pub mod Settlings
 pub mod Silent
 pub mod Heard
+pub mod LocalReplays
 pub mod Replays
 pub mod Examples
 pub mod PromotionExample
