@@ -27,6 +27,7 @@ pub mod Settlings
 pub mod Silent
 pub mod Heard
 pub mod LocalReplays
+pub mod ReplayRuns
 pub mod Replays
 pub mod Examples
 pub mod PromotionExample

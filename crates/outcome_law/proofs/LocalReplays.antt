@@ -242,6 +242,26 @@ step_all t m T all home u = by_name (u.value == t.value) refl
 noted_all : (a : ActorNo) (es : List Entry) (T : List Placed) → AllLocal T → AllLocal (onto T (noted a es))
 noted_all a es T all u = subst (λ h. are_local h ≡ true) (sym (history-noted u.value a T es)) (all u)
 
+-- and so it was before the step
+pub step_all_before : (t : TxNo) (m : Step) (T : List Placed) → AllLocal (after_step t m T) → AllLocal T × (are_local (block (observe (history t.value T)) m) ≡ true)
+step_all_before t m T all = (λ u. by_name u (u.value == t.value) refl, and_left (are_local es) (are_local h) (sym (each-onto is_local h es) ∙ here))
+  where
+    h : List Entry
+    h = history t.value T
+
+    es : List Entry
+    es = block (observe h) m
+
+    here : are_local (onto h es) ≡ true
+    here = subst (λ h. are_local h ≡ true) (history-same t.value t T es (eq_self t.value)) (all t)
+
+    by_name : (u : TxNo) (b : Bool) → (u.value == t.value) ≡ b → are_local (history u.value T) ≡ true
+    by_name u true e = and_right (are_local es) (are_local (history u.value T)) (sym (each-onto is_local (history u.value T) es) ∙ subst (λ h. are_local h ≡ true) (history-same u.value t T es e) (all u))
+    by_name u false e = subst (λ h. are_local h ≡ true) (history-other u.value t T es e) (all u)
+
+pub noted_all_before : (a : ActorNo) (es : List Entry) (T : List Placed) → AllLocal (onto T (noted a es)) → AllLocal T
+noted_all_before a es T all u = subst (λ h. are_local h ≡ true) (history-noted u.value a T es) (all u)
+
 -- before the steps of a `do` or an `await`
 steps_before : (s : List Line) (t : TxNo) (k m : ℕ) (start T : List Placed) → IsLocal T → StepsRan s t k m start T → IsLocal start
 steps_before s t k zero start T l r = subst IsLocal r l
@@ -373,7 +393,8 @@ rounds_local s start (x ∷ xs) T all l r =
     )
 
 -- a replay in which nothing is promoted, and nothing stands at the log
-pub replayed_local : (s : List Line) (T : List Placed) → IsLocal T → IsReplayed s T → ReplayedLocal s T
+pub replayed_local : (s : List Line) (T : List Placed) → IsLocal T → IsReplayed s T → ReplayedLocal s T × AllLocal T
 replayed_local s T l r =
     let lines = lines_local s (past_of s) r.by_lines (rounds_before s r.by_lines r.turns T l r.rounds) r.lines in
-    record { by_lines = r.by_lines; lines = lines.0; turns = r.turns; rounds = (rounds_local s r.by_lines r.turns T lines.1 l r.rounds).0 }
+    let rounds = rounds_local s r.by_lines r.turns T lines.1 l r.rounds in
+    (record { by_lines = r.by_lines; lines = lines.0; turns = r.turns; rounds = rounds.0 }, rounds.1)

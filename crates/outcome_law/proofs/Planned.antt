@@ -23,7 +23,7 @@ use Rattle.outcome_law.proofs.Names.{IsCalled, call_makes, is_maker, line_makes,
 use Rattle.outcome_law.proofs.ScopeCalls.{given_call}
 
 -- the plan that a call gives the enlistment, where it was entered
-abbrev plan_in : ℕ → Option EnteredCall → Option Plan
+abbrev pub plan_in : ℕ → Option EnteredCall → Option Plan
 plan_in e (Some k) = plan_by e k.call
 plan_in e None = None
 
@@ -99,7 +99,7 @@ line_that : (s : List Line) (e : ℕ) (m : Maker s e) (n : ℕ) (a : ActorNo) �
 line_that s e m n a same = ap (λ k. line_plan s n a (kth s k) e) same ∙ ap (λ o. line_plan s n a o e) m.stands ∙ ap (λ r. plan_in e (entered_by n a r)) m.gives ∙ m.planned
 
 -- one thing put in front of others
-latest-put : (e : ℕ) (o : Option EnteredCall) (ks : List EnteredCall) → latest (λ k. plan_by e k.call) (put o ks) ≡ or_else (plan_in e o) (latest (λ k. plan_by e k.call) ks)
+pub latest-put : (e : ℕ) (o : Option EnteredCall) (ks : List EnteredCall) → latest (λ k. plan_by e k.call) (put o ks) ≡ or_else (plan_in e o) (latest (λ k. plan_by e k.call) ks)
 latest-put e (Some k) ks = refl
 latest-put e None ks = refl
 
