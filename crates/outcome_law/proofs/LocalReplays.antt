@@ -83,9 +83,15 @@ calls_after n a (c ∷ cs) T = calls_after n a cs (after_step c.0 (Calls n a c.1
 abbrev pub scope_after : ℕ → Line → List OpenScope → List Placed → List Placed
 scope_after n l xs T = calls_after n l.actor (scope_calls l.body xs) (onto T (noted l.actor (scope_block n l.actor l.body xs)))
 
+-- the line stops the log or opens it again
+abbrev pub is_log_line : Body → Bool
+is_log_line (Stop n i) = true
+is_log_line Restart = true
+is_log_line _ = false
+
 abbrev pub LineLocal : List Line → List Line → Line → List Placed → List Placed → Type 0
 LineLocal s before l start T =
-    CallLocal s l.actor (suc (length before)) (call_of s l.body) (scope_after (suc (length before)) l (scopes_of l.actor.value before) start) T
+    (is_log_line l.body ≡ false) × CallLocal s l.actor (suc (length before)) (call_of s l.body) (scope_after (suc (length before)) l (scopes_of l.actor.value before) start) T
 
 abbrev pub LinesLocal : List Line → List Line → List Placed → Type 0
 LinesLocal s [] T = T ≡ []
@@ -341,6 +347,12 @@ line_calls s before a (Stop n i) start T l r = let k = subst IsLocal r l in absu
 line_calls s before a Restart start T l r = absurd (no_restart (suc (length before)) a r.0 start (subst IsLocal r.1 l))
 line_calls s before a _ start T l r = r
 
+-- and it doesn't stop the log nor open it
+line_no_log : (s before : List Line) (a : ActorNo) (b : Body) (start T : List Placed) → IsLocal T → LineRan s before (record { actor = a; body = b }) start T → is_log_line b ≡ false
+line_no_log s before a (Stop n i) start T l r = let k = subst IsLocal r l in absurd cc
+line_no_log s before a Restart start T l r = absurd (no_restart (suc (length before)) a r.0 start (subst IsLocal r.1 l))
+line_no_log s before a _ start T l r = refl
+
 -- before a line
 line_before : (s before : List Line) (l : Line) (start T : List Placed) → IsLocal T → LineRan s before l start T → IsLocal start
 line_before s before l start T k r =
@@ -360,8 +372,8 @@ line_local s before l start T all k r =
     let ran = line_calls s before l.actor l.body start T k r in
     let scope = calls_local s n l.actor (scope_calls l.body xs) (onto start (noted l.actor es)) (noted_all l.actor es start all)
     (call_before s l.actor n (call_of s l.body) (after_calls s n l.actor (scope_calls l.body xs) (onto start (noted l.actor es))) T k ran) in
-    words_local s l.actor n (call_of s l.body) (scope_after n l xs start) T scope.1 k
-    (subst (λ U. CallRan s l.actor n (call_of s l.body) U T) scope.0 ran)
+    let words = words_local s l.actor n (call_of s l.body) (scope_after n l xs start) T scope.1 k (subst (λ U. CallRan s l.actor n (call_of s l.body) U T) scope.0 ran) in
+    ((line_no_log s before l.actor l.body start T k r, words.0), words.1)
 
 -- what the lines do
 pub lines_local : (s ls : List Line) (T : List Placed) → IsLocal T → LinesRan s ls T → LinesLocal s ls T × AllLocal T
