@@ -31,4 +31,5 @@ pub mod ReplayRuns
 pub mod Replays
 pub mod Examples
 pub mod PromotionExample
+pub mod PlannedReplays
 pub mod Determined

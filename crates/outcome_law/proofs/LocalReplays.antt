@@ -112,7 +112,7 @@ pub record ReplayedLocal (s : List Line) (T : List Placed) : Type 0 where
 abbrev pub IsLocal : List Placed → Type 0
 IsLocal T = is_local_trace T ≡ true
 
-abbrev is_local_place : Placed → Bool
+abbrev pub is_local_place : Placed → Bool
 is_local_place x = not (is_log x.0) && not (is_promoting_entry x.1)
 
 -- so it was before a block
