@@ -12,3 +12,6 @@ pub mod Unowned
 pub mod Quiet
 pub mod Heeding
 pub mod Lifting
+pub mod Unpromoted
+pub mod Narrow
+pub mod Narrowing
