@@ -9,9 +9,10 @@ pub mod Pasts
 pub mod SameNumbers
 pub mod Counts
 pub mod Unowned
-pub mod Quiet
-pub mod Heeding
-pub mod Lifting
 pub mod Unpromoted
 pub mod Narrow
 pub mod Narrowing
+pub mod Quiet
+pub mod Heeding
+pub mod Lifting
+pub mod NarrowReplies
