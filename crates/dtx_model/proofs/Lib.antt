@@ -16,3 +16,10 @@ pub mod Quiet
 pub mod Heeding
 pub mod Lifting
 pub mod NarrowReplies
+pub mod Computing
+pub mod Cast
+pub mod Crossing
+pub mod Playing
+pub mod Working
+mod WorkedOutcomes
+mod WorkedPromotions
