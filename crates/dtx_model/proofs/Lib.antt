@@ -23,3 +23,5 @@ pub mod Playing
 pub mod Working
 mod WorkedOutcomes
 mod WorkedPromotions
+pub mod Replaying
+mod WorkedRecoveries
