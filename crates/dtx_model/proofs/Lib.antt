@@ -25,3 +25,6 @@ mod WorkedOutcomes
 mod WorkedPromotions
 pub mod Replaying
 mod WorkedRecoveries
+pub mod NarrowCalls
+pub mod NarrowFacts
+pub mod Local
