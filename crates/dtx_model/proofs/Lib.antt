@@ -28,3 +28,5 @@ mod WorkedRecoveries
 pub mod NarrowCalls
 pub mod NarrowFacts
 pub mod Local
+pub mod Judging
+mod BadHistories

@@ -31,14 +31,14 @@ use Rattle.dtx_model.proofs.Replaying.{IsWorkedTrace}
 use Rattle.dtx_model.proofs.Working.{IsWorked}
 
 -- begin, a two-phase durable, and commit: the durable promotes
-abbrev asked : List Entry
+abbrev pub asked : List Entry
 asked =
     Called 1 a1 Fine ∷ Began 60000 ∷
     Called 2 a1 Wait ∷ Promoting Two ∷ Sent Begin Up BeginBegin ∷
     Called 3 a1 Fine ∷ CommitAsked ∷ []
 
 -- the coordinator has all votes: it is about to append the record of the commit
-abbrev prepared : List Entry
+abbrev pub prepared : List Entry
 prepared =
     Got Begin Up BeginBegin ∷ Sent Begin Down (BeginBegun id1) ∷
     Got Begin Down (BeginBegun id1) ∷ Sent Voter Up (VoterVoter id1) ∷
@@ -56,7 +56,7 @@ prepared =
     Got (Enl e1) Up EnlistPrepared ∷ []
 
 -- the log stops under that append, and the coordinator with it. All connections are lost, and here the outcome is in doubt.
-abbrev stopped : List Entry
+abbrev pub stopped : List Entry
 stopped =
     Stopped ∷
     Ended Begin Down ∷
@@ -79,7 +79,7 @@ abbrev none : ℕ → Bool
 none n = false
 
 -- The stop comes at the third of the four device calls, so the record is durable. The restart finds it; the durable comes back, hears the commit, and acknowledges it.
-abbrev finds_the_record_lines : List Line
+abbrev pub finds_the_record_lines : List Line
 finds_the_record_lines =
     says a1 (BeginLine t1 Default) ∷
     says a1 (DurableLine t1 e1 r1 (TwoPhase (Some Yes))) ∷
