@@ -24,7 +24,7 @@ use Rattle.dtx_values.specs.declared.words.Vote.TheVariants.{No, Yes}
 use Rattle.dtx_model.specs.Half.{info}
 use Rattle.dtx_model.proofs.Cast.{a1, e1, id1, r1, says, t1}
 use Rattle.dtx_model.proofs.Computing.{model}
-use Rattle.dtx_model.proofs.Judging.{Agreement, Breaks, Dueness, Justice, Learning, Order, Planning, Telling, Wires}
+use Rattle.dtx_model.proofs.Judging.{Agreement, Breaks, Notes, Justice, Learning, Order, Plans, Telling, Wires}
 use Rattle.dtx_model.proofs.WorkedRecoveries.{asked, finds_the_record_lines, prepared, stopped}
 
 -- The script of most of them. Not all that it causes stands in each history: some end earlier.
@@ -160,7 +160,7 @@ decides_twice = (refl, refl)
 abbrev acknowledges : List Entry → List Entry
 acknowledges x = logs_commit ++ x ++ Acked e1 ∷ Sent (Enl e1) Up EnlistAck ∷ []
 
-acknowledges_nothing : Breaks lines (acknowledges (Got (Enl e1) Down EnlistCommit ∷ Told (Member e1) Committed ∷ [])) (acknowledges []) (Dueness ∷ [])
+acknowledges_nothing : Breaks lines (acknowledges (Got (Enl e1) Down EnlistCommit ∷ Told (Member e1) Committed ∷ [])) (acknowledges []) (Notes ∷ [])
 unfolding model
 acknowledges_nothing = (refl, refl)
 
@@ -171,6 +171,6 @@ volatile_lines = says a1 (BeginLine t1 Default) ∷ says a1 (VolatileLine t1 e1 
 abbrev votes : Vote → List Entry
 votes v = Called 1 a1 Fine ∷ Began 60000 ∷ Called 2 a1 Fine ∷ Enlisted e1 One ∷ Called 3 a1 Fine ∷ CommitAsked ∷ Sealed ∷ Asked e1 Prepare ∷ Voted e1 v ∷ []
 
-votes_otherwise : Breaks volatile_lines (votes Yes) (votes No) (Planning ∷ [])
+votes_otherwise : Breaks volatile_lines (votes Yes) (votes No) (Plans ∷ [])
 unfolding model
 votes_otherwise = (refl, refl)

@@ -1,5 +1,5 @@
 -- Which laws a history breaks, computed: those of promotion, wires and outcomes, and, as far as tests can say it, that steps made it.
-use Rattle.std.proofs.Common.{◌≡◌, ℕ, ◌==◌, Bool, true, false, ◌&&◌, ◌||◌, List, [], ◌∷◌, ◌++◌, Option, Some, None, if◌then◌else◌}
+use Rattle.std.proofs.Common.{◌≡◌, ◌==◌, Bool, true, false, ◌&&◌, ◌||◌, List, [], ◌∷◌, ◌++◌, Option, Some, None, if◌then◌else◌}
 use Rattle.dtx_values.specs.declared.entry.Entry.{Entry}
 use Rattle.dtx_values.specs.declared.entry.Entry.TheVariants.{Acked, Got, OwnerAnswered, PromoteReply, Requested, Told, Voted}
 use Rattle.dtx_values.specs.declared.entry.Party.{Party}
@@ -11,7 +11,6 @@ use Rattle.dtx_values.specs.declared.note.Note.{Note}
 use Rattle.dtx_values.specs.declared.note.Note.TheVariants.{Commit, Hand, Prepare, Promote, Single}
 use Rattle.dtx_values.specs.declared.number.EnlNo.{EnlNo}
 use Rattle.dtx_values.specs.declared.script.Line.{Line}
-use Rattle.dtx_values.specs.declared.words.Outcome.{Outcome}
 use Rattle.dtx_values.specs.declared.words.Outcome.TheVariants.{Aborted, Committed}
 use Rattle.dtx_model.specs.Words.{always, past_of}
 use Rattle.dtx_model.specs.Entries.{same_outcome}
@@ -79,8 +78,8 @@ pub data Law : Type 0 where
   Justice : Law
   Agreement : Law
   Learning : Law
-  Planning : Law
-  Dueness : Law
+  Plans : Law
+  Notes : Law
   Telling : Law
 
 abbrev pub unless : Bool → Law → List Law
@@ -90,7 +89,7 @@ unless holds l = if holds then [] else l ∷ []
 abbrev pub broken : List Line → List Entry → List Law
 broken s h =
     unless (promotes s 1 h) Order ++ (unless (always may_cross h) Wires ++ (unless (justified h) Justice ++ (unless (agree h) Agreement
-    ++ (unless (always is_learned h) Learning ++ (unless (always (is_as_planned (plans_of s) nobody) h) Planning ++ (unless (always is_due h) Dueness ++ unless (always is_told_in_turn h) Telling))))))
+    ++ (unless (always is_learned h) Learning ++ (unless (always (is_as_planned (plans_of s) nobody) h) Plans ++ (unless (always is_due h) Notes ++ unless (always is_told_in_turn h) Telling))))))
 
 -- the first history, oldest entry first, breaks none, and the second these
 abbrev pub Breaks : List Line → List Entry → List Entry → List Law → Type 0

@@ -1,5 +1,5 @@
 -- A script's replay as one transaction sees it, computed: its lines in order, and then what is pending, until nothing is.
-use Rattle.std.proofs.Common.{ℕ, zero, suc, ◌==◌, Bool, true, false, ◌&&◌, List, [], ◌∷◌, Option, Some, None, if◌then◌else◌}
+use Rattle.std.proofs.Common.{ℕ, zero, suc, ◌==◌, Bool, List, [], ◌∷◌, Option, Some, None, if◌then◌else◌}
 use Rattle.dtx_values.specs.declared.call.Call.{Call}
 use Rattle.dtx_values.specs.declared.call.Call.TheVariants.{Await, Do}
 use Rattle.dtx_values.specs.declared.entry.Entry.{Entry}
@@ -20,7 +20,7 @@ use Rattle.dtx_model.specs.World.{World, half}
 use Rattle.dtx_model.specs.Turns.{LogAnswer, Done, Step, Calls, Replies, Acts, Coordinates, Delivers, Restarts, StepName, ReplyOf, LocalAct, CoordinatorAct, Delivery, after, pending}
 
 -- how far it has got: the transaction's world, what the log is going to answer to its appends and frees, and what the restarts to come are
--- going to find of its record. Behind these answers the log does what it is asked.
+-- going to find of its record. After these answers the log does what it is asked.
 pub record Running : Type 0 where
   pub world : World
   pub answers : List LogAnswer

@@ -1,6 +1,6 @@
 -- A whole script's replay, computed: its lines in order, with what they do at the contexts, at the log and at the transactions, and then rounds. What a
 -- restart finds is given; whether an append or a free is stopped follows from the stop that is armed.
-use Rattle.std.proofs.Common.{◌≡◌, ℕ, zero, suc, Bool, true, false, ◌&&◌, List, [], ◌∷◌, length, map, Option, Some, None}
+use Rattle.std.proofs.Common.{◌≡◌, ℕ, zero, suc, Bool, true, false, ◌&&◌, List, [], ◌∷◌, length, Option, Some, None}
 use Rattle.dtx_values.specs.declared.call.Call.{Call}
 use Rattle.dtx_values.specs.declared.call.Call.TheVariants.{Await, Do}
 use Rattle.dtx_values.specs.declared.entry.Answer.TheVariants.{Fine}

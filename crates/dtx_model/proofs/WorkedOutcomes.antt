@@ -65,7 +65,7 @@ commits_history =
 
 commits : IsWorked commits_lines [] [] commits_history
 unfolding model
-commits = (refl, refl, refl, refl, wired (past_of commits_history) refl, refl, refl, refl, refl)
+commits = (refl, refl, refl, refl, refl, wired (past_of commits_history) refl, refl, refl, refl, refl)
 
 -- The same, but the durable votes no. The coordinator aborts, and who voted no hears nothing more.
 abbrev pub votes_no_lines : List Line
@@ -103,7 +103,7 @@ votes_no_history =
 
 votes_no : IsWorked votes_no_lines [] [] votes_no_history
 unfolding model
-votes_no = (refl, refl, refl, refl, wired (past_of votes_no_history) refl, refl, refl, refl, refl)
+votes_no = (refl, refl, refl, refl, refl, wired (past_of votes_no_history) refl, refl, refl, refl, refl)
 
 -- A rollback while the promotion is on its way: the promotion fails, the marshal call ends so, and the coordinator is told as soon as it answers.
 abbrev pub rolls_back_lines : List Line
@@ -125,7 +125,7 @@ rolls_back_history =
 
 rolls_back : IsWorked rolls_back_lines [] [] rolls_back_history
 unfolding model
-rolls_back = (refl, refl, refl, refl, wired (past_of rolls_back_history) refl, refl, refl, refl, refl)
+rolls_back = (refl, refl, refl, refl, refl, wired (past_of rolls_back_history) refl, refl, refl, refl, refl)
 
 -- The promotable can't promote its transaction: that aborts it.
 abbrev pub cannot_promote_lines : List Line
@@ -149,7 +149,7 @@ cannot_promote_history =
 
 cannot_promote : IsWorked cannot_promote_lines [] [] cannot_promote_history
 unfolding model
-cannot_promote = (refl, refl, refl, refl, wired (past_of cannot_promote_history) refl, refl, refl, refl, refl)
+cannot_promote = (refl, refl, refl, refl, refl, wired (past_of cannot_promote_history) refl, refl, refl, refl, refl)
 
 -- The connection that begins the transaction at the coordinator is lost with its message: both sides see its end, and here that is a veto.
 abbrev pub loses_begin_lines : List Line
@@ -169,7 +169,7 @@ loses_begin_history =
 
 loses_begin : IsWorked loses_begin_lines [] [] loses_begin_history
 unfolding model
-loses_begin = (refl, refl, refl, refl, wired (past_of loses_begin_history) refl, refl, refl, refl, refl)
+loses_begin = (refl, refl, refl, refl, refl, wired (past_of loses_begin_history) refl, refl, refl, refl, refl)
 
 -- Nothing is lost where the connection isn't open yet.
 abbrev pub loses_none_lines : List Line
@@ -190,4 +190,4 @@ loses_none_history =
 
 loses_none : IsWorked loses_none_lines [] [] loses_none_history
 unfolding model
-loses_none = (refl, refl, refl, refl, wired (past_of loses_none_history) refl, refl, refl, refl, refl)
+loses_none = (refl, refl, refl, refl, refl, wired (past_of loses_none_history) refl, refl, refl, refl, refl)

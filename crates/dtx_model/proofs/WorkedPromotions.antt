@@ -79,9 +79,9 @@ second_durable_history =
 
 second_durable : IsWorked second_durable_lines [] [] second_durable_history
 unfolding model
-second_durable = (refl, refl, refl, refl, wired (past_of second_durable_history) refl, refl, refl, refl, refl)
+second_durable = (refl, refl, refl, refl, refl, wired (past_of second_durable_history) refl, refl, refl, refl, refl)
 
--- Two durables more wait while the first is handed over; the commit that was asked meanwhile waits for them.
+-- Two more durables wait while the first is handed over; the commit that was asked meanwhile waits for them.
 abbrev pub waits_for_handover_lines : List Line
 waits_for_handover_lines =
     says a1 (BeginLine t1 Default) ∷
@@ -140,7 +140,7 @@ waits_for_handover_history =
 
 waits_for_handover : IsWorked waits_for_handover_lines [] [] waits_for_handover_history
 unfolding model
-waits_for_handover = (refl, refl, refl, refl, wired (past_of waits_for_handover_history) refl, refl, refl, refl, refl)
+waits_for_handover = (refl, refl, refl, refl, refl, wired (past_of waits_for_handover_history) refl, refl, refl, refl, refl)
 
 -- A promotable promotes its transaction, and commits it in a single phase: it requests that of the coordinator, where it prepares like the others.
 abbrev pub promotable_commits_lines : List Line
@@ -185,7 +185,7 @@ promotable_commits_history =
 
 promotable_commits : IsWorked promotable_commits_lines [] [] promotable_commits_history
 unfolding model
-promotable_commits = (refl, refl, refl, refl, wired (past_of promotable_commits_history) refl, refl, refl, refl, refl)
+promotable_commits = (refl, refl, refl, refl, refl, wired (past_of promotable_commits_history) refl, refl, refl, refl, refl)
 
 -- Both connections are lost after the local yes: here the outcome is in doubt, while the coordinator commits and the durable hears that.
 abbrev pub loses_both_lines : List Line
@@ -232,4 +232,4 @@ loses_both_history =
 
 loses_both : IsWorked loses_both_lines [] [] loses_both_history
 unfolding model
-loses_both = (refl, refl, refl, refl, wired (past_of loses_both_history) refl, refl, refl, refl, refl)
+loses_both = (refl, refl, refl, refl, refl, wired (past_of loses_both_history) refl, refl, refl, refl, refl)

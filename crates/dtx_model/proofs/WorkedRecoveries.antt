@@ -104,7 +104,7 @@ finds_the_record_history = asked ++ prepared ++ stopped ++ finds_the_record_rest
 
 finds_the_record : IsWorked finds_the_record_lines (StoppedNow ∷ []) (true ∷ []) finds_the_record_history
 unfolding model
-finds_the_record = (refl, refl, refl, refl, wired (past_of finds_the_record_history) refl, refl, refl, refl, refl)
+finds_the_record = (refl, refl, refl, refl, refl, wired (past_of finds_the_record_history) refl, refl, refl, refl, refl)
 
 finds_the_record_trace : IsWorkedTrace finds_the_record_lines ((one, 1) ∷ []) (with_log (Armed 3 Keep) 1 finds_the_record_rest)
 unfolding model
@@ -133,7 +133,7 @@ finds_none_history = asked ++ prepared ++ stopped ++ finds_none_rest
 
 finds_none : IsWorked finds_none_lines (StoppedNow ∷ []) (false ∷ []) finds_none_history
 unfolding model
-finds_none = (refl, refl, refl, refl, wired (past_of finds_none_history) refl, refl, refl, refl, refl)
+finds_none = (refl, refl, refl, refl, refl, wired (past_of finds_none_history) refl, refl, refl, refl, refl)
 
 finds_none_trace : IsWorkedTrace finds_none_lines ((none, 0) ∷ []) (with_log (Armed 1 Torn) 0 finds_none_rest)
 unfolding model
@@ -169,7 +169,7 @@ comes_back_twice_history = asked ++ prepared ++ stopped ++ comes_back_twice_rest
 
 comes_back_twice : IsWorked comes_back_twice_lines (StoppedNow ∷ []) (true ∷ []) comes_back_twice_history
 unfolding model
-comes_back_twice = (refl, refl, refl, refl, wired (past_of comes_back_twice_history) refl, refl, refl, refl, refl)
+comes_back_twice = (refl, refl, refl, refl, refl, wired (past_of comes_back_twice_history) refl, refl, refl, refl, refl)
 
 comes_back_twice_trace : IsWorkedTrace comes_back_twice_lines ((one, 1) ∷ []) (with_log (Armed 3 Keep) 1 comes_back_twice_rest)
 unfolding model
@@ -199,7 +199,7 @@ is_recovered_history = asked ++ prepared ++ stopped ++ is_recovered_rest
 
 is_recovered : IsWorked is_recovered_lines (StoppedNow ∷ []) (true ∷ []) is_recovered_history
 unfolding model
-is_recovered = (refl, refl, refl, refl, wired (past_of is_recovered_history) refl, refl, refl, refl, refl)
+is_recovered = (refl, refl, refl, refl, refl, wired (past_of is_recovered_history) refl, refl, refl, refl, refl)
 
 is_recovered_trace : IsWorkedTrace is_recovered_lines ((one, 1) ∷ []) (with_log (Armed 3 Keep) 1 is_recovered_rest)
 unfolding model
