@@ -27,7 +27,7 @@ use Rattle.dtx_model.proofs.Computing.{model}
 use Rattle.dtx_model.proofs.Judging.{Agreement, Breaks, Notes, Justice, Learning, Order, Plans, Telling, Wires}
 use Rattle.dtx_model.proofs.WorkedRecoveries.{asked, finds_the_record_lines, prepared, stopped}
 
--- The script of most of them. Not all that it causes stands in each history: some end earlier.
+-- The script of most of them. No history has the calls of all its lines.
 abbrev lines : List Line
 lines =
     says a1 (BeginLine t1 Default) ∷
@@ -76,9 +76,12 @@ tells_commit x = Got Voter Up VoterYes ∷ x ++ Sent Begin Down BeginCommitted �
 abbrev logs_commit : List Entry
 logs_commit = asked_to_vote ++ says_yes ++ tells_commit (Logged ∷ [])
 
--- the time is up
-abbrev times_out : List Entry
-times_out = Called 6 a1 Fine ∷ Clock 60000 ∷ TimedOut ∷ Decided Aborted ∷ []
+-- the time is up, and the local side aborts
+abbrev times_out : List Entry → List Entry
+times_out x = Called 6 a1 Fine ∷ Clock 60000 ∷ TimedOut ∷ Decided Aborted ∷ x
+
+abbrev says_no : List Entry
+says_no = Sent Voter Up VoterNo ∷ []
 
 -- 1. A second marshal call waits for the promotion that is under way; it doesn't begin another.
 promotes_twice : Breaks lines (under_way ++ Called 3 a1 Wait ∷ []) (under_way ++ Called 3 a1 Wait ∷ Promoting MarshalCause ∷ []) (Order ∷ [])
@@ -110,8 +113,10 @@ unfolding model
 told_too_early = (refl, refl)
 
 -- 6. After its yes the local side may not abort by itself: then a timeout is no cause.
-aborts_after_yes :
-    Breaks lines (asked_to_vote ++ times_out ++ Told Client Aborted ∷ []) (asked_to_vote ++ says_yes ++ times_out ++ Told Client Aborted ∷ []) (Justice ∷ [])
+abbrev client_told_no : List Entry
+client_told_no = times_out says_no ++ Told Client Aborted ∷ []
+
+aborts_after_yes : Breaks lines (asked_to_vote ++ client_told_no) (asked_to_vote ++ says_yes ++ client_told_no) (Justice ∷ [])
 unfolding model
 aborts_after_yes = (refl, refl)
 
@@ -136,23 +141,25 @@ learns_the_opposite : Breaks finds_the_record_lines (comes_back ReenlistCommitte
 unfolding model
 learns_the_opposite = (refl, refl)
 
--- 9. The time is up and the client is told the abort; then the local side votes yes instead of no. Each is told what was just when it was told, but the client
+-- 9. The time is up, and the client is told the abort; but the local side votes yes instead of no. What each is told is just when it is told it, but the client
 -- has an abort and the durable a commit.
-abbrev votes_after : List Entry → List Entry
-votes_after x = asked_to_vote ++ times_out ++ Told Client Aborted ∷ x
+abbrev votes_late : List Entry → List Entry → List Entry
+votes_late vote x = asked_to_vote ++ times_out vote ++ Told Client Aborted ∷ x
 
-abbrev votes_no : List Entry
-votes_no =
-    Sent Voter Up VoterNo ∷
+abbrev told_abort : List Entry
+told_abort =
     Got Voter Up VoterNo ∷ Sent Begin Down BeginAborted ∷ Sent (Enl e1) Down EnlistAbort ∷
     Got (Enl e1) Down EnlistAbort ∷ Told (Member e1) Aborted ∷ []
 
-tells_both : Breaks lines (votes_after votes_no) (votes_after (says_yes ++ tells_commit (Logged ∷ []) ++ Got (Enl e1) Down EnlistCommit ∷ Told (Member e1) Committed ∷ [])) (Agreement ∷ [])
+abbrev told_commit : List Entry
+told_commit = tells_commit (Logged ∷ []) ++ Got (Enl e1) Down EnlistCommit ∷ Told (Member e1) Committed ∷ []
+
+tells_both : Breaks lines (votes_late says_no told_abort) (votes_late says_yes told_commit) (Agreement ∷ [])
 unfolding model
 tells_both = (refl, refl)
 
 -- 10. It is decided twice, though both times alike.
-decides_twice : Breaks lines (asked_to_vote ++ times_out) (asked_to_vote ++ times_out ++ Decided Aborted ∷ []) (Agreement ∷ [])
+decides_twice : Breaks lines (asked_to_vote ++ times_out says_no) (asked_to_vote ++ times_out (Decided Aborted ∷ says_no)) (Agreement ∷ [])
 unfolding model
 decides_twice = (refl, refl)
 
