@@ -17,10 +17,10 @@ use Rattle.dtx_model.proofs.Bools.{and_left, and_right}
 use Rattle.trace_words.specs.Cuts.{front, behind}
 use Rattle.trace_words.proofs.Identifiers.{id_without}
 use Rattle.trace_words.proofs.Numbers.{name_without, without_decimal}
-use Rattle.trace_text.specs.OneTrace.{carrying, is_cause_fit, is_lined, told}
+use Rattle.trace_text.specs.OneTrace.{by_name, carrying, is_carried, is_cause_typed, is_typed, named, told}
 use Rattle.trace_text.proofs.ReadPieces.{connection_apart, direction_apart, party_apart}
 use Rattle.trace_text.proofs.TellAnswers.{answer_of, answer_is, digit_first}
-use Rattle.trace_text.proofs.TellMessages.{message_of, message_is}
+use Rattle.trace_text.proofs.TellMessages.{message_of, message_is, carried_name}
 use Rattle.trace_text.proofs.TellPieces.{of_two, of_three, two_are, three_are}
 use Rattle.trace_text.proofs.TellWords.{chosen, value, value_is, actor_of, actor_is, ambient_of, ambient_is, ask_of, ask_is, cause_of, cause_is, class_of, class_is, clone_of, clone_is, connection_of, connection_is, direction_of, direction_is, enlistment_of, enlistment_is, found_of, found_is, id_of, id_is, image_of, image_is, kind_of, kind_is, manager_of, manager_is, outcome_of, outcome_is, party_of, party_is, promote_of, promote_is, request_of, request_is, scope_of, scope_is, vote_of, vote_is}
 
@@ -79,16 +79,16 @@ refused : {A : Type 0} (b : Bool) (x y : A) → b ≡ false → (if b then x els
 refused true x y h = absurd cc
 refused false x y h = refl
 
--- what crosses is read back
-crossing_is : (u : ℕ) (i : Info) (f : Conn → Dir → Message → Entry) (c : Conn) (d : Dir) (m : Message) → (has_line c d m && is_cause_fit m) ≡ true
-    → crossing_of u i f (sent_text c d m) ≡ f c d (carrying u i m)
+-- what crosses is read back by its name
+crossing_is : (u : ℕ) (i : Info) (f : Conn → Dir → Message → Entry) (c : Conn) (d : Dir) (m : Message) → is_cause_typed m ≡ true
+    → crossing_of u i f (sent_text c d m) ≡ f c d (by_name c d (carrying u i m))
 crossing_is u i f c d m h =
     three_are (λ c d n. f c d (message_of u i c d n)) connection_of direction_of (λ n. n) c d (message_text m) (connection_word c) (direction_text d) (message_text m) (connection_apart c)
     (direction_apart d) (connection_is c) (direction_is d) refl
-    ∙ ap (f c d) (message_is u i c d m (and_left (has_line c d m) (is_cause_fit m) h) (and_right (has_line c d m) (is_cause_fit m) h))
+    ∙ ap (f c d) (message_is u i c d m h)
 
 -- so is an entry, but for what its message's line leaves out
-pub entry_is : (u : ℕ) (i : Info) (x : Entry) → is_lined x ≡ true → entry_of u i (entry_text x) ≡ told u i x
+pub entry_is : (u : ℕ) (i : Info) (x : Entry) → is_typed x ≡ true → entry_of u i (entry_text x) ≡ named u i x
 entry_is u i CommitAsked h = refl
 entry_is u i RollbackAsked h = refl
 entry_is u i TimedOut h = refl
@@ -158,3 +158,9 @@ entry_is u i (Cut c up down) h =
     (value_is up up_small) (value_is down down_small)
 entry_is u i (Sent c d m) h = crossing_is u i Sent c d m h
 entry_is u i (Got c d m) h = crossing_is u i Got c d m h
+
+-- an entry whose message its connection carries is told whole by its names
+pub named_told : (u : ℕ) (i : Info) (x : Entry) → is_carried x ≡ true → named u i x ≡ told u i x
+named_told u i (Sent c d m) h = ap (Sent c d) (carried_name u i c d m h)
+named_told u i (Got c d m) h = ap (Got c d) (carried_name u i c d m h)
+named_told u i _ h = refl
