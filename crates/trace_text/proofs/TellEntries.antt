@@ -1,5 +1,5 @@
 -- An entry is read back from its words.
-use Rattle.std.proofs.Common.{◌≡◌, ℕ, ◌^◌, ◌<◌, ◌==◌, nat_le, ◌&&◌, Bool, true, false, List, [], ◌∷◌, ◌++◌, codes, decimal, get_or, if◌then◌else◌, refl, ap, ◌∙◌, arith}
+use Rattle.std.proofs.Common.{◌≡◌, ℕ, ◌^◌, ◌<◌, ◌==◌, nat_le, Bool, true, false, List, [], ◌∷◌, ◌++◌, codes, decimal, get_or, if◌then◌else◌, refl, ap, ◌∙◌, arith}
 use Rattle.std.proofs.lemmas.Bool.Decides.{nat_tests}
 use Rattle.dtx_values.specs.declared.entry.Entry.{Entry}
 use Rattle.dtx_values.specs.declared.entry.Entry.TheVariants.{Called, Answered, Began, Cloned, Completed, Enlisted, Init, CommitAsked, RollbackAsked, Clock, TimedOut, Late, Asked, Voted, PromoteReply, Requested, Sealed, Handed, OwnerAnswered, LocalYes}
@@ -11,7 +11,6 @@ use Rattle.dtx_values.specs.declared.message.Dir.{Dir}
 use Rattle.dtx_values.specs.declared.message.Info.{Info}
 use Rattle.dtx_values.specs.declared.message.Message.{Message}
 use Rattle.dtx_model.specs.Grammar.{actor_name, clone_name, connection_word, enlistment_name, image_word, kind_word, scope_name}
-use Rattle.dtx_model.specs.Messages.{has_line}
 use Rattle.dtx_model.specs.TraceText.{ambient_text, answer_text, ask_text, cast_vote_text, cause_text, class_text, direction_text, entry_text, id_text, is_answer_fit, message_text, outcome_text, party_text, promote_text, request_text, sent_text}
 use Rattle.dtx_model.proofs.Bools.{and_left, and_right}
 use Rattle.trace_words.specs.Cuts.{front, behind}

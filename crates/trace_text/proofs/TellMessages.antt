@@ -1,5 +1,5 @@
 -- A message is read back from its connection, its direction and its name.
-use Rattle.std.proofs.Common.{◌≡◌, ℕ, Bool, true, false, List, [], ◌∷◌, ◌++◌, codes, get_or, if◌then◌else◌, refl, ap, ◌∙◌, arith, ◌^◌, ◌<◌}
+use Rattle.std.proofs.Common.{◌≡◌, ℕ, true, List, [], ◌∷◌, ◌++◌, codes, refl, ap, ◌∙◌, arith, ◌^◌, ◌<◌}
 use Rattle.std.proofs.lemmas.Bool.Decides.{nat_tests}
 use Rattle.dtx_values.specs.declared.message.Conn.{Conn}
 use Rattle.dtx_values.specs.declared.message.Conn.TheVariants.{Begin, Voter, Enl, Again}
@@ -11,7 +11,7 @@ use Rattle.dtx_values.specs.declared.message.Message.TheVariants.{BeginBegin, Be
 use Rattle.dtx_model.specs.Messages.{has_line}
 use Rattle.dtx_model.specs.TraceText.{message_text}
 use Rattle.trace_words.specs.Cuts.{front, behind}
-use Rattle.trace_text.specs.OneTrace.{by_name, carrying, first_carried, is_cause_typed, namesakes}
+use Rattle.trace_text.specs.OneTrace.{by_name, carrying, is_cause_typed}
 use Rattle.trace_text.proofs.TellWords.{chosen, value, value_is}
 
 -- names of one message, with this identifier or this recovery information where it has one

@@ -1,5 +1,5 @@
 -- What a text of a trace tells of it.
-use Rattle.std.specs.Prelude.{ℕ, Bool, true, ◌&&◌, nat_le, List, [], ◌∷◌, get_or, if◌then◌else◌}
+use Rattle.std.specs.Prelude.{ℕ, Bool, true, nat_le, List, [], ◌∷◌, get_or, if◌then◌else◌}
 use Rattle.dtx_values.specs.declared.entry.Entry.{Entry}
 use Rattle.dtx_values.specs.declared.entry.Entry.TheVariants.{Sent, Got}
 use Rattle.dtx_values.specs.declared.message.Conn.{Conn}
