@@ -4,7 +4,7 @@ use Rattle.std.specs.Prelude.{not}
 use Rattle.std.proofs.lemmas.List.{length-map}
 use Rattle.dtx_values.specs.declared.entry.Ask.TheVariants.{Prepare}
 use Rattle.dtx_values.specs.declared.entry.Entry.{Entry}
-use Rattle.dtx_values.specs.declared.entry.Entry.TheVariants.{Asked, Decided, Enlisted, Lost, Told, Voted}
+use Rattle.dtx_values.specs.declared.entry.Entry.TheVariants.{Asked, Decided, Enlisted, Lost, Reenlisted, Told, Voted}
 use Rattle.dtx_values.specs.declared.entry.Party.TheVariants.{Enl}
 use Rattle.dtx_values.specs.declared.number.EnlNo.{EnlNo}
 use Rattle.dtx_values.specs.declared.words.Outcome.{Outcome}
@@ -65,6 +65,7 @@ listeners_heard (Told (Enl e) x ∷ h) r =
 listeners_heard (Lost e ∷ h) r =
     of-map (IsHeard h) (IsHeard (Lost e ∷ h)) (lose e.value) (λ l w. record { told = w.told; lost = swapped e.value l.enlistment.value l.lost _ w.lost }) (listeners h)
     (listeners_heard h (other_rules (Lost e) h r))
+listeners_heard (Reenlisted e ∷ h) r = absurd cc
 listeners_heard (x ∷ h) r = of-more (IsHeard h) (IsHeard (x ∷ h)) (λ l w. record { told = w.told; lost = w.lost }) (listeners h) (listeners_heard h (other_rules x h r))
 
 -- the listener at a place says what the history shows
