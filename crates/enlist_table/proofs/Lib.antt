@@ -1,2 +1,3 @@
 mod Only
+mod Places
 mod Rising

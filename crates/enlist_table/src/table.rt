@@ -1,6 +1,6 @@
 //! The table.
 ghost use Rattle.std.specs.Prelude.{◌≡◌, ◌≤◌, [], length, map, find, not, true, IfErr, IfOk, OnErr, OnOk, None, Some, vec_capacity};
-ghost use Rattle.std.specs.List.{list_any};
+ghost use Rattle.std.specs.List.{list_any, position};
 ghost use Rattle.dtx_values.specs.declared.limits.TheConstants.{ENLISTMENTS};
 ghost use Rattle.dtx_values.specs.declared.row.Row.{Row};
 ghost use Rattle.dtx_values.specs.Class.{is_durable, is_promotable};
@@ -59,42 +59,11 @@ fn lasting(rows: &[Row]) -> usize
     rows.iter().filter(|x| x.is_lasting()).count()
 }
 
-/// Marks the row as asked after n others, where it is this enlistment's.
-fn mark_in(x: &mut Row, e: EnlNo, n: u8)
-    ensures { x.new ≡ mark_in e.value n x.old }
+/// The place of an enlistment's row.
+fn place_of(rows: &[Row], e: EnlNo) -> Option<usize>
+    ensures { result ≡ position (is_of e.value) rows.now }
 {
-    if x.number == e && x.asked.is_none() {
-        x.asked = Some(n);
-    }
-}
-
-/// Marks an enlistment's row as asked after n others.
-fn mark(rows: &mut Vec<Row>, e: EnlNo, n: u8)
-    ensures items { rows.new.items ≡ map (λ x. mark_in e.value n x) rows.old.items }
-    ensures capacity { vec_capacity rows.old ≤ vec_capacity rows.new }
-{
-    for x in rows.iter_mut() {
-        mark_in(x, e, n);
-    }
-}
-
-/// Keeps the vote in the row, where it is this enlistment's.
-fn vote_in(x: &mut Row, e: EnlNo, v: Vote)
-    ensures { x.new ≡ vote_in e.value v x.old }
-{
-    if x.number == e && x.vote.is_none() {
-        x.vote = Some(v);
-    }
-}
-
-/// Keeps the vote in an enlistment's row.
-fn vote(rows: &mut Vec<Row>, e: EnlNo, v: Vote)
-    ensures items { rows.new.items ≡ map (λ x. vote_in e.value v x) rows.old.items }
-    ensures capacity { vec_capacity rows.old ≤ vec_capacity rows.new }
-{
-    for x in rows.iter_mut() {
-        vote_in(x, e, v);
-    }
+    rows.iter().position(|x| x.number == e)
 }
 
 impl EnlistTable {
@@ -298,14 +267,14 @@ impl EnlistTable {
         ensures allowed { OnOk result (row_refusal is_marked e self.old ≡ None) }
         ensures marked { self.new ≡ with_mark e.value self.old }
     {
-        if !self.stands(e) {
+        let Some(at) = place_of(&self.rows, e) else {
             return Err(TableRefusal::NoSuch(e));
-        }
-        if self.was_asked(e) {
+        };
+        if self.rows[at].is_marked() {
             return Err(TableRefusal::AlreadyThere(e));
         }
         let n = marks(&self.rows);
-        mark(&mut self.rows, e, n);
+        self.rows[at].asked = Some(n);
         Ok(())
     }
 
@@ -321,13 +290,13 @@ impl EnlistTable {
         ensures allowed { OnOk result (row_refusal has_voted e self.old ≡ None) }
         ensures voted { self.new ≡ with_vote e.value v self.old }
     {
-        if !self.stands(e) {
+        let Some(at) = place_of(&self.rows, e) else {
             return Err(TableRefusal::NoSuch(e));
-        }
-        if self.has_voted(e) {
+        };
+        if self.rows[at].has_voted() {
             return Err(TableRefusal::AlreadyThere(e));
         }
-        vote(&mut self.rows, e, v);
+        self.rows[at].vote = Some(v);
         Ok(())
     }
 }
