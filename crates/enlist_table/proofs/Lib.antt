@@ -1,3 +1,4 @@
 mod Only
 mod Places
 mod Rising
+mod Waiting

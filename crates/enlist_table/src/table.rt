@@ -9,6 +9,7 @@ ghost use Rattle.dtx_values.specs.Row.{has_voted, is_asked_before, is_lasting, i
 ghost use Rattle.dtx_values.specs.Table.{has_row, how_many, insert_by, marks, rises_above, voted, voted_before, was_asked, with_mark, with_row, with_vote};
 ghost use Rattle.dtx_values.specs.Waves.{all_voted, may_be_asked, next_ask, zeros_voted};
 ghost use Rattle.enlist_table.specs.Refusals.{add_refusal, row_refusal};
+ghost use Rattle.enlist_table.specs.Waiting.{is_waiting, one_if};
 
 use crate::refusal::{AddRefusal, TableRefusal};
 use dtx_values::{Class, DURABLES, ENLISTMENTS, EnlNo, Row, Vote, insert_in_order};
@@ -19,19 +20,22 @@ use std::marker::Model;
 #[derive(Drop)]
 pub struct EnlistTable {
     rows: Vec<Row>,
+    /// How many rows are marked as asked to prepare and have no vote.
+    waiting: u8,
 }
 
 impl Model for EnlistTable {
     ghost use Rattle.std.specs.Prelude.{List, ◌≡◌, ◌≤◌, true, vec_capacity, length};
     ghost use Rattle.dtx_values.specs.declared.limits.TheConstants.{ENLISTMENTS};
     ghost use Rattle.dtx_values.specs.declared.row.Row.{Row};
-    ghost use Rattle.dtx_values.specs.Table.{rises_above};
+    ghost use Rattle.dtx_values.specs.Table.{how_many, rises_above};
+    ghost use Rattle.enlist_table.specs.Waiting.{is_waiting};
 
     ghost Value = { List Row };
 
     ghost view = { λ t. t.rows.items };
 
-    ghost invariant = { λ t. (ENLISTMENTS ≤ vec_capacity t.rows) × (length t.rows.items ≤ ENLISTMENTS) × (rises_above 0 t.rows.items ≡ true) };
+    ghost invariant = { λ t. (ENLISTMENTS ≤ vec_capacity t.rows) × (length t.rows.items ≤ ENLISTMENTS) × (rises_above 0 t.rows.items ≡ true) × (t.waiting ≡ how_many is_waiting t.rows.items) };
 }
 
 /// Whether the mark is there, and fewer than n were marked before it.
@@ -59,6 +63,13 @@ fn lasting(rows: &[Row]) -> usize
     rows.iter().filter(|x| x.is_lasting()).count()
 }
 
+/// 1 where it holds, else 0.
+fn one_if(holds: bool) -> u8
+    ensures { result ≡ one_if holds }
+{
+    if holds { 1 } else { 0 }
+}
+
 /// The place of an enlistment's row.
 fn place_of(rows: &[Row], e: EnlNo) -> Option<usize>
     ensures { result ≡ position (is_of e.value) rows.now }
@@ -77,6 +88,7 @@ impl EnlistTable {
     {
         Ok(EnlistTable {
             rows: Vec::with_capacity(alloc, ENLISTMENTS)?,
+            waiting: 0,
         })
     }
 
@@ -107,6 +119,13 @@ impl EnlistTable {
         ensures { result ≡ voted e.value self.now }
     {
         self.rows.iter().any(|x| x.number == e && x.has_voted())
+    }
+
+    /// Whether an enlistment was asked to prepare and hasn't voted.
+    pub fn waits(&self) -> bool
+        ensures { result ≡ list_any is_waiting self.now }
+    {
+        self.waiting > 0
     }
 
     /// The row of an enlistment, where it has one.
@@ -274,6 +293,7 @@ impl EnlistTable {
             return Err(TableRefusal::AlreadyThere(e));
         }
         let n = marks(&self.rows);
+        self.waiting += one_if(!self.rows[at].has_voted());
         self.rows[at].asked = Some(n);
         Ok(())
     }
@@ -296,6 +316,7 @@ impl EnlistTable {
         if self.rows[at].has_voted() {
             return Err(TableRefusal::AlreadyThere(e));
         }
+        self.waiting -= one_if(self.rows[at].is_marked());
         self.rows[at].vote = Some(v);
         Ok(())
     }

@@ -1,4 +1,4 @@
-use Rattle.std.proofs.Common.{◌≡◌, ◌∙◌, ◌&&◌, true, false, Some, ap, map, refl, set, sym, subst}
+use Rattle.std.proofs.Common.{◌≡◌, ◌∙◌, ◌&&◌, arith, not, true, false, Some, ap, map, refl, set, sym, subst}
 use Rattle.std.proofs.lemmas.List.{length-set}
 use Rattle.std.specs.List.{list_any, position}
 use Rattle.dtx_values.specs.declared.row.Row.{Row}
@@ -6,6 +6,9 @@ use Rattle.dtx_values.specs.Table.{has_row, marks, rises_above, with_mark}
 use Rattle.dtx_values.specs.Row.{is_marked, is_of, mark_in}
 use Rattle.enlist_table.proofs.Places.{IsPlace, has_row_at, marked_at, no_place, passes_at, place_found}
 use Rattle.enlist_table.proofs.Rising.{map-absent, map-there, mark-kept, mark-other, number-mark, rises-map}
+use Rattle.dtx_values.proofs.Counts.{how_many-le-length}
+use Rattle.enlist_table.specs.Waiting.{is_waiting, one_if}
+use Rattle.enlist_table.proofs.Waiting.{counted_mark, one_at_most}
 use Rattle.enlist_table.proofs.table.EnlistTable.set_asked.Goals as goal
 
 none_stands : (c : goal.In_default) → has_row c.args.e.value c.args.self.now ≡ false
@@ -49,12 +52,12 @@ returns-then-is_marked-clause-marked c =
     let rising = subst (λ ys. rises_above 0 ys ≡ true) c.self.view_is c.self.invariant.2 in
     sym (map-there f e is_marked (mark-other e n) (mark-kept e n) 0 c.args.self.now rising (there_already c))
 
-place_after : (c : goal.After-self-1) → IsPlace c.args.e.value c.self.inside.rows.items c.in-Some.at
+place_after : (c : goal.After-self-2-1) → IsPlace c.args.e.value c.self.inside.rows.items c.in-Some.at
 place_after c =
     let e = c.args.e.value in
     place_found e c.self.inside.rows.items c.in-Some.at (sym c.in-Some.is ∙ c.place_of.ensures ∙ ap (position (is_of e)) c.deref.ensures.value)
 
-written : (c : goal.After-self-1) → set c.self.inside.rows.items c.in-Some.at (record { number = c.index_mut.result.now.number; class = c.index_mut.result.now.class; added = c.index_mut.result.now.added; asked = Some c.marks-n.result; vote = c.index_mut.result.now.vote }) ≡ with_mark c.args.e.value (c.self.inside.rows.items)
+written : (c : goal.After-self-2-1) → set c.self.inside.rows.items c.in-Some.at (record { number = c.index_mut.result.now.number; class = c.index_mut.result.now.class; added = c.index_mut.result.now.added; asked = Some c.marks-n.result; vote = c.index_mut.result.now.vote }) ≡ with_mark c.args.e.value (c.self.inside.rows.items)
 written c =
     let e = c.args.e.value in
     let xs = c.self.inside.rows.items in
@@ -66,8 +69,12 @@ pub invariant_of-self : goal.invariant_of-self
 invariant_of-self c =
     let e = c.args.e.value in
     let xs = c.self.inside.rows.items in
-    let n = marks xs in
-    (c.self.invariant.0, rw length-set c.self.invariant.1, rw (written c) (rw (rises-map (λ (x : Row). mark_in e n x) (number-mark e n) 0 xs) c.self.invariant.2))
+    let n = marks xs in (
+      c.self.invariant.0,
+      rw length-set c.self.invariant.1,
+      rw (written c) (rw (rises-map (λ (x : Row). mark_in e n x) (number-mark e n) 0 xs) c.self.invariant.2),
+      counted_mark c.marks-n.result xs c.in-Some.at c.index_mut.result.now c.index.result.now c.index-2.result.now c.self.inside.waiting c.one_if.result (place_after c).within c.index.ensures (sym c.is_marked.ensures ∙ c.if-is_marked.false) c.index_mut.ensures.value c.index-2.ensures (c.one_if.ensures ∙ ap (λ v. one_if (not v)) c.has_voted.ensures) c.self.invariant.3,
+    )
 
 pub returns-clause-allowed : goal.returns-clause-allowed
 returns-clause-allowed c =
@@ -80,3 +87,6 @@ returns-clause-allowed c =
 
 pub returns-clause-marked : goal.returns-clause-marked
 returns-clause-marked c = written c ∙ ap (λ ys. with_mark c.args.e.value (ys)) c.self.view_is
+
+pub overflow_add-self : goal.overflow_add-self
+overflow_add-self c = omega (arith, c.self.invariant.3, c.self.invariant.1, how_many-le-length is_waiting c.self.inside.rows.items, c.one_if.ensures, one_at_most (not c.has_voted.result))
