@@ -16,7 +16,7 @@ use Rattle.dtx_model.specs.AtLog.{is_local_trace}
 use Rattle.dtx_model.specs.Histories.{IsHistory, IsReplay}
 use Rattle.dtx_model.specs.Grammar.{are_named_well}
 use Rattle.dtx_model.specs.Replay.{Placed, history, is_passed}
-use Rattle.dtx_model.specs.Replays.{IsReplayed, IsTurn, last_turn, world_at}
+use Rattle.dtx_model.specs.Replays.{IsTurn, last_turn, world_at}
 use Rattle.dtx_model.proofs.Narrow.{block}
 use Rattle.dtx_model.proofs.Pasts.{past-reverse}
 use Rattle.dtx_model.proofs.Reading.{each-past}

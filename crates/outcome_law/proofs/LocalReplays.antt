@@ -1,5 +1,5 @@
 -- Replays in which nothing is promoted and nothing stands at the log: each step makes its block of proofs/Narrow, and that is what a turn comes to there.
-use Rattle.std.proofs.Common.{◌≡◌, ◌⊎◌, inl, inr, ℕ, zero, suc, ◌≤◌, ◌<◌, ◌==◌, Bool, true, false, ◌&&◌, ◌||◌, not, List, [], ◌∷◌, ◌++◌, length, map, filter, Option, Some, None, refl, arith, ap, sym, subst, ◌∙◌, if◌then◌else◌}
+use Rattle.std.proofs.Common.{◌≡◌, ◌⊎◌, inl, inr, ℕ, zero, suc, ◌≤◌, ◌<◌, ◌==◌, Bool, true, false, ◌&&◌, not, List, [], ◌∷◌, length, map, filter, Option, Some, None, refl, arith, ap, sym, subst, ◌∙◌, if◌then◌else◌}
 use Rattle.std.specs.List.{slice_get}
 use Rattle.std.proofs.lemmas.Bool.Decides.{nat_tests}
 use Rattle.dtx_values.specs.declared.call.Call.{Call}
@@ -22,17 +22,16 @@ use Rattle.dtx_model.specs.Words.{each, has, kth, onto, past_of}
 use Rattle.dtx_model.specs.Observed.{observe}
 use Rattle.dtx_model.specs.Outcome.{is_empty}
 use Rattle.dtx_model.specs.Acts.{act_entries}
-use Rattle.dtx_model.specs.Half.{Half}
 use Rattle.dtx_model.specs.Calls.{call_of}
 use Rattle.dtx_model.specs.Contexts.{scope_block, scope_calls, scopes_of}
 use Rattle.dtx_model.specs.Waiting.{plan_of}
-use Rattle.dtx_model.specs.Replay.{Placed, history, is_at, entries_at, noted, placed}
+use Rattle.dtx_model.specs.Replay.{Placed, history, is_at, noted, placed}
 use Rattle.dtx_model.specs.World.{World, half}
-use Rattle.dtx_model.specs.Turns.{StoppedNow, Step, Calls, Replies, Acts, Coordinates, Delivers, Stops, Restarts, StepName, ReplyOf, LocalAct, CoordinatorAct, Delivery, block_at, local_if, local_pending, pending, replies_due}
+use Rattle.dtx_model.specs.Turns.{StoppedNow, Step, Calls, Coordinates, StepName, ReplyOf, LocalAct, CoordinatorAct, Delivery, local_if, local_pending, pending, replies_due}
 use Rattle.dtx_model.specs.Causes.{IsNamed, MayCome, Settled, is_begin_sent, is_promoting_entry, is_unpromoted}
 use Rattle.dtx_model.specs.AtLog.{hit, is_local_trace, is_log, is_log_up, known}
 use Rattle.dtx_model.specs.Replies.{all_due, is_answered}
-use Rattle.dtx_model.specs.Replays.{CallRan, HasDoneAt, HasSettled, IsReplayed, IsTurn, LineRan, LinesRan, Reopening, Opens, Faults, Differs, RoundsRan, StepsRan, after_calls, after_halt, after_restart, after_scope, after_turn, at_the_log, block_in, last_turn, others, stop_if, stopped_by_restart, world_at}
+use Rattle.dtx_model.specs.Replays.{CallRan, IsReplayed, IsTurn, LineRan, LinesRan, Reopening, Opens, Faults, Differs, RoundsRan, StepsRan, after_calls, after_halt, after_restart, after_scope, after_turn, at_the_log, block_in, last_turn, others, stop_if, stopped_by_restart, world_at}
 use Rattle.dtx_model.proofs.Bools.{and_both, and_left, and_right, not_both, not_true, or_false}
 use Rattle.dtx_model.proofs.Histories.{history-noted, history-other, history-same}
 use Rattle.dtx_model.proofs.Local.{IsNarrow, call_local, pending-local, step-narrow, waits_promotes}
@@ -283,8 +282,7 @@ steps_local s t k (suc m) start T all l r =
     let w = world_at s t past in
     let here = pending_here w k r.2 (ih.1 t) r.4 in
     let taken = taken_step s t past r.2 r.3 (ih.1 t) here r.5 turn in
-    let ends = r.7 ∙ taken.same in
-    (
+    let ends = r.7 ∙ taken.same in (
       (past, ih.0, r.2, r.3, r.4, r.5, may_come NoCall t.value w r.3 (ih.1 t) (named_comes NoCall t.value w r.2 r.3 here r.5), ends),
       subst AllLocal (sym ends) (step_all t r.3 past ih.1 taken.home),
     )
@@ -398,8 +396,7 @@ rounds_local s start (x ∷ xs) T all l r =
     let w = world_at s x.0 past in
     let here = pending_here w 1 r.2.name (ih.1 x.0) (ap (λ ns. slice_get ns 0) r.2.first) in
     let taken = taken_step s x.0 past r.2.name x.1 (ih.1 x.0) here r.2.named turn in
-    let ends = r.3 ∙ taken.same in
-    (
+    let ends = r.3 ∙ taken.same in (
       (past, ih.0, r.2, may_come NoCall x.0.value w x.1 (ih.1 x.0) (named_comes NoCall x.0.value w r.2.name x.1 here r.2.named), ends),
       subst AllLocal (sym ends) (step_all x.0 x.1 past ih.1 taken.home),
     )

@@ -1,5 +1,5 @@
 -- Replays whose replies are all as planned, none by an object: what is pending is one step.
-use Rattle.std.proofs.Common.{◌≡◌, ℕ, zero, suc, ◌≤◌, ◌<◌, ◌==◌, Bool, true, false, ◌&&◌, ◌||◌, inl, inr, List, [], ◌∷◌, Option, Some, None, is_some, refl, arith, ap, sym, subst, ◌∙◌, length}
+use Rattle.std.proofs.Common.{◌≡◌, ℕ, zero, suc, ◌≤◌, ◌==◌, Bool, true, false, ◌&&◌, ◌||◌, inl, inr, List, [], ◌∷◌, Option, Some, None, is_some, refl, arith, ap, sym, subst, ◌∙◌, length}
 use Rattle.std.proofs.lemmas.Bool.Decides.{nat_tests}
 use Rattle.dtx_values.specs.declared.call.Call.{Call}
 use Rattle.dtx_values.specs.declared.call.Call.TheVariants.{Await, Do}
@@ -27,15 +27,14 @@ use Rattle.dtx_model.specs.Waiting.{manager_of}
 use Rattle.dtx_model.specs.Replies.{due_of, fits}
 use Rattle.dtx_model.specs.Replay.{Placed, history, noted}
 use Rattle.dtx_model.specs.World.{half}
-use Rattle.dtx_model.specs.Turns.{Step, Calls, Replies, Acts, Coordinates, Delivers, StepName, ReplyOf, LocalAct, CoordinatorAct, Delivery}
+use Rattle.dtx_model.specs.Turns.{Step, Calls, Replies, StepName, ReplyOf, LocalAct, CoordinatorAct, Delivery}
 use Rattle.dtx_model.specs.Causes.{IsNamed, calls_in, has_object, is_as_planned, is_outcome_planned, is_up_to, is_vote_planned, plans_of, same_vote}
 use Rattle.dtx_model.specs.Replays.{world_at}
 use Rattle.dtx_model.specs.Contexts.{scope_block, scope_calls, scopes_of}
 use Rattle.dtx_model.specs.Calls.{call_of}
-use Rattle.dtx_model.proofs.Bools.{and_left, not_both, or_case}
+use Rattle.dtx_model.proofs.Bools.{and_left}
 use Rattle.dtx_model.proofs.Histories.{history-noted, history-other, history-same}
 use Rattle.dtx_model.proofs.Narrow.{block, reply_entries, veto_if}
-use Rattle.dtx_model.proofs.NarrowReplies.{IsDue}
 use Rattle.dtx_model.proofs.Pasts.{always-before}
 use Rattle.outcome_law.proofs.Tests.{eq_self}
 use Rattle.outcome_law.proofs.Runs.{MayComeLocal}

@@ -1,7 +1,6 @@
 -- A step of a replay in which nothing is promoted is one of a transaction's world: the calls that were entered, those of scope lines too, make the same pending as
 -- the script says.
-use Rattle.std.proofs.Common.{◌≡◌, ℕ, zero, suc, ◌<◌, ◌==◌, Bool, true, false, ◌&&◌, ◌||◌, ◌⊎◌, inl, inr, List, [], ◌∷◌, ◌++◌, map, filter, Option, Some, None, refl, arith, ap, sym, subst, ◌∙◌, slice_get}
-use Rattle.std.proofs.lemmas.Bool.Decides.{nat_tests}
+use Rattle.std.proofs.Common.{◌≡◌, ℕ, zero, suc, true, false, List, [], ◌∷◌, ◌++◌, Option, Some, None, refl, ap, sym, subst, ◌∙◌, slice_get}
 use Rattle.dtx_values.specs.declared.call.Call.{Call}
 use Rattle.dtx_values.specs.declared.call.Call.TheVariants.{Begin, Commit, Rollback}
 use Rattle.dtx_values.specs.declared.entry.Answer.{Answer}
@@ -10,8 +9,6 @@ use Rattle.dtx_values.specs.declared.entry.Entry.{Entry}
 use Rattle.dtx_values.specs.declared.entry.Entry.TheVariants.{Called, Promoting}
 use Rattle.dtx_values.specs.declared.note.Plan.{Plan}
 use Rattle.dtx_values.specs.declared.number.ActorNo.{ActorNo}
-use Rattle.dtx_values.specs.declared.number.EnlNo.{EnlNo}
-use Rattle.dtx_values.specs.declared.number.RmNo.{RmNo}
 use Rattle.dtx_values.specs.declared.number.TxNo.{TxNo}
 use Rattle.dtx_values.specs.declared.script.Line.{Line}
 use Rattle.dtx_model.specs.Words.{each, has, kth, latest, onto, or_else, put}
@@ -19,31 +16,30 @@ use Rattle.dtx_model.specs.Observed.{Observed, observe}
 use Rattle.dtx_model.specs.Waiting.{EnteredCall, managed, or_silent, plan_by, plan_of}
 use Rattle.dtx_model.specs.Half.{Half}
 use Rattle.dtx_model.specs.Acts.{act_entries as full_act}
-use Rattle.dtx_model.specs.Replies.{all_due, due_of, reply_entries as full_reply}
+use Rattle.dtx_model.specs.Replies.{due_of, reply_entries as full_reply}
 use Rattle.dtx_model.specs.Calls.{call_of}
-use Rattle.dtx_model.specs.Contexts.{calls_by, lines_before, scope_calls, scopes_of}
+use Rattle.dtx_model.specs.Contexts.{lines_before, scope_calls, scopes_of}
 use Rattle.dtx_model.specs.Answers.{facts_if}
 use Rattle.dtx_model.specs.Caused.{IsCallOf}
 use Rattle.dtx_model.specs.Replay.{Placed, history}
 use Rattle.dtx_model.specs.World.{World, half}
 use Rattle.dtx_model.specs.Turns.{Step, Calls, Replies, Acts, StepName, ReplyOf, LocalAct, CoordinatorAct, Delivery, after, block_at, entered, local_if, local_pending, pending, replies_due}
-use Rattle.dtx_model.specs.Causes.{FreelyCaused, HasStepped, IsNamed, IsRun, MayCome, Ran, called_at, entered_by, entered_in, is_promoting_entry, is_unpromoted}
+use Rattle.dtx_model.specs.Causes.{HasStepped, IsNamed, IsRun, MayCome, Ran, called_at, entered_by, entered_in, is_promoting_entry}
 use Rattle.dtx_model.specs.Replays.{world_at}
 use Rattle.dtx_model.proofs.Bools.{and_left, and_right, or_false}
-use Rattle.dtx_model.proofs.Histories.{history-other, history-same}
+use Rattle.dtx_model.proofs.Histories.{history-same}
 use Rattle.dtx_model.proofs.Local.{pending-local}
-use Rattle.dtx_model.proofs.Narrow.{act_entries, answer, block, facts, is_done}
+use Rattle.dtx_model.proofs.Narrow.{answer, block, facts, is_done}
 use Rattle.dtx_model.proofs.Narrowing.{act-narrow}
 use Rattle.dtx_model.proofs.NarrowFacts.{call-narrow, is_wait}
 use Rattle.dtx_model.proofs.NarrowReplies.{reply-narrow}
-use Rattle.dtx_model.proofs.Unpromoted.{are_local, at_home, half-local, is_local, narrow, observe-local}
+use Rattle.dtx_model.proofs.Unpromoted.{are_local, at_home, half-local, is_local, observe-local}
 use Rattle.outcome_law.proofs.Tests.{eq_self}
-use Rattle.outcome_law.proofs.Scans.{each_more, has_less}
-use Rattle.outcome_law.proofs.Lists.{OfEach, of-at}
+use Rattle.outcome_law.proofs.Lists.{of-at}
 use Rattle.outcome_law.proofs.Pending.{block_plain, facts_not_called, is_not_called, plain_not_called}
 use Rattle.outcome_law.proofs.ScopeCalls.{IsScopeCall, is_scope_call, own_line, scope_calls_plain}
 use Rattle.outcome_law.proofs.Planned.{latest-put, plan_in}
-use Rattle.outcome_law.proofs.Runs.{MayComeLocal, RanLocal, may_come, ran_before}
+use Rattle.outcome_law.proofs.Runs.{MayComeLocal, may_come, ran_before}
 use Rattle.outcome_law.proofs.LocalReplays.{AllLocal, NoCall, StepsLocal, after_step, named_comes, pending_here, step_all_before}
 
 -- the block of a step in any world of this past is the narrow one, where that is local
@@ -209,8 +205,7 @@ pending_run s ks t k n m T all r e named may =
     let there = ap (λ ns. kth ns k) (pending_script s ks t T (before.0 t) r) ∙ e in
     let own = named_same (entered_in s h) ks h n m named in
     let comes = named_comes (IsCallOf s t.value) t.value (world_with ks t T) n m (pending_here (world_with ks t T) k n (before.0 t) there) own in
-    let none = no_call_entered h ks m may in
-    (
+    let none = no_call_entered h ks m may in (
       subst (λ js. IsRunWith s js t (after_step t m T)) none (run_step s ks t m T (before.0 t) r comes before.1),
       there,
       own,

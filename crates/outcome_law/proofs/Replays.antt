@@ -42,8 +42,7 @@ use Rattle.dtx_model.specs.Replays.{IsReplayed, LinesRan, at_its_context, at_log
 use Rattle.dtx_model.proofs.Bools.{and_left, and_right, or_false, or_right, not_both}
 use Rattle.dtx_model.proofs.Histories.{onto-append, history-other, history-same, history-noted, context-same, context-other, context-placed}
 use Rattle.dtx_model.proofs.Reading.{has-onto, has-past}
-use Rattle.outcome_law.proofs.Tests.{eq_self}
-use Rattle.outcome_law.proofs.Scans.{each-kth, none_more}
+use Rattle.outcome_law.proofs.Scans.{none_more}
 use Rattle.outcome_law.proofs.Lists.{OfEach, of-all, of-both, of-more}
 use Rattle.outcome_law.proofs.Pending.{is_not_called, facts_not_called, block_plain, plain_not_called}
 use Rattle.outcome_law.proofs.ScopeCalls.{IsScopeCall, IsBeside, AreApart, is_scope_call, scope_calls_plain, scope_calls_apart, own_line}
