@@ -30,6 +30,7 @@ pub mod LocalReplays
 pub mod ReplayRuns
 pub mod Replays
 pub mod Examples
+pub mod ReplayExample
 pub mod PromotionExample
 pub mod PlannedReplays
 pub mod Determined
