@@ -15,3 +15,4 @@ pub mod Lifting
 pub mod Unpromoted
 pub mod Narrow
 pub mod Narrowing
+pub mod NarrowReplies
