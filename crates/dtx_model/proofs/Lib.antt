@@ -16,3 +16,6 @@ pub mod Unpromoted
 pub mod Narrow
 pub mod Narrowing
 pub mod NarrowReplies
+pub mod NarrowCalls
+pub mod NarrowFacts
+pub mod Local

@@ -1,24 +1,21 @@
 -- Which replies are due while nothing is promoted, and what they make.
-use Rattle.std.proofs.Common.{◌≡◌, ◌⊎◌, inl, inr, ℕ, ◌==◌, Bool, true, false, ◌&&◌, ◌||◌, not, List, [], ◌∷◌, ◌++◌, Option, Some, None, refl, sym, ap, ◌∙◌, find, map, is_some, if◌then◌else◌}
-use Rattle.dtx_values.specs.declared.entry.Entry.{Entry}
-use Rattle.dtx_values.specs.declared.entry.Entry.TheVariants.{Voted, OwnerAnswered, Decided}
+use Rattle.std.proofs.Common.{◌≡◌, ◌⊎◌, inl, inr, ℕ, Bool, true, false, ◌&&◌, ◌||◌, not, List, [], ◌∷◌, Option, Some, None, refl, ap, ◌∙◌, find, map, is_some, if◌then◌else◌}
+use Rattle.dtx_values.specs.declared.entry.Entry.TheVariants.{Voted}
 use Rattle.dtx_values.specs.declared.note.Note.{Note}
-use Rattle.dtx_values.specs.declared.note.Note.TheVariants.{Prepare, Promote as PromoteNote, Hand, Single, Commit as CommitNote, Init, Rollback, InDoubt as DoubtNote}
+use Rattle.dtx_values.specs.declared.note.Note.TheVariants.{Prepare, Hand}
 use Rattle.dtx_values.specs.declared.note.Reply.{Reply}
 use Rattle.dtx_values.specs.declared.note.Reply.TheVariants.{Vote as VoteReply, Promote as Promotes, Owner as OwnerReply, Ack}
 use Rattle.dtx_values.specs.declared.number.EnlNo.{EnlNo}
 use Rattle.dtx_values.specs.declared.number.RmNo.{RmNo}
 use Rattle.dtx_values.specs.declared.row.Row.{Row}
-use Rattle.dtx_values.specs.declared.words.Outcome.{Outcome}
 use Rattle.dtx_values.specs.declared.words.Vote.{Vote}
 use Rattle.dtx_values.specs.Class.{is_volatile}
 use Rattle.dtx_values.specs.Row.{has_voted, is_marked, is_of, vote_in, vote_row}
-use Rattle.dtx_values.specs.Table.{with_vote}
 use Rattle.dtx_values.specs.Vote.{is_no}
 use Rattle.dtx_model.specs.Words.{has, or_else}
 use Rattle.dtx_model.specs.Observed.{Observed, track}
 use Rattle.dtx_model.specs.Half.{is_gone, is_handed, sees, veto, veto_if as full_veto_if}
-use Rattle.dtx_model.specs.Replies.{due_of, fits, is_volatile_row, note_at, note_of_row, owner_entries, reply_entries as full_reply, row_note, voted_by}
+use Rattle.dtx_model.specs.Replies.{due_of, fits, is_volatile_row, note_of_row, reply_entries as full_reply, row_note}
 use Rattle.dtx_model.proofs.Narrow.{reply_entries, veto_if}
 use Rattle.dtx_model.proofs.Unpromoted.{at_home, narrow}
 
