@@ -1,3 +1,4 @@
 pub mod Writing
 pub mod Notes
 pub mod Lasting
+pub mod Following

@@ -17,12 +17,17 @@ use Rattle.dtx_model.specs.Observed.{Observed}
 use Rattle.dtx_values.specs.Row.{is_lasting, has_voted, is_marked, is_of}
 use Rattle.dtx_values.specs.Owners.{cause_of, may_own}
 use Rattle.dtx_model.specs.Steps.{if_begun, unless_ended, due_of, durable_answer, is_done, is_gone, is_handed, note_of, open_note, promotable_answer, wait_for}
-use Rattle.dtx_model.specs.Words.{has}
+use Rattle.dtx_model.specs.Words.{has, or_else}
 use Rattle.dtx_model.proofs.Bools.{and_never, not_false, not_true}
 use Rattle.dtx_model.proofs.Unowned.{causeless}
 use Rattle.enlist_table.specs.Refusals.{add_refusal}
 use Rattle.local_half.specs.Half.{fits_due}
 use Rattle.dtx_values.specs.Table.{was_asked}
+
+-- with nothing else to take, it is what there is
+pub or_none : {A : Type 0} (o : Option A) → or_else o None ≡ o
+or_none (Some x) = refl
+or_none None = refl
 
 -- one more item
 pub length-insert_by : {A : Type 0} (key : A → ℕ) (x : A) (ys : List A) → length (insert_by key x ys) ≡ suc (length ys)
