@@ -50,7 +50,7 @@ use Rattle.dtx_model.specs.Wires.{MayCross, WireRun, is_ended, is_lost_wire, is_
 use Rattle.dtx_model.specs.Coordinated.{Coordinated, Desk, Stage, Idle, Active, Aborted as AbortedStage, Recorded, Over, Unknown, opening_by, aborts, abort_sends, commit_sends, core_down, core_got, follow, has_aborted, is_active, is_early, is_prepared, is_recorded, is_undecided, may_log, opening_answer, still_hears, to, to_each, to_waiting}
 use Rattle.dtx_model.specs.Waiting.{Waiter, Identifier, Place, is_place_of}
 use Rattle.dtx_model.specs.Half.{Half, sees, is_promoting, to_up, fails_if, decide, may_abort_by_begin, may_abort_by_voter, veto_message, veto, veto_if, info, enlist_sent, by_manager, given, promoted_by, over, stands, is_gone, was_told, is_aborted, is_handed}
-use Rattle.dtx_model.specs.Arrivals.{unless_decided, hand_over, placed, told_abort, has_both_ends, ended_there, ended_by, begin_arrived, voter_arrived, enlist_arrived, again_arrived, arrived, local_got, local_down}
+use Rattle.dtx_model.specs.Arrivals.{unless_decided, hand_over, place_given, told_abort, has_both_ends, ended_there, ended_by, begin_arrived, voter_arrived, enlist_arrived, again_arrived, arrived, local_got, local_down}
 use Rattle.dtx_model.specs.Acts.{tell, is_to_tell, promotable_in, under_way, commit_sent, ask_or, after_seal, commit_act, yes_act, voter_act, promoted_act, sealed_act, asked_act, unasked_promotable, undecided_act, act_by, act_entries}
 use Rattle.dtx_model.specs.Replies.{ack_on, conn_due, due_of, is_volatile_row, owner_entries, promote_entries, reply_entries, request_message, request_of, vote_message, voted_by}
 use Rattle.dtx_model.specs.Answers.{begin_promotion, class_of, durable_facts, durable_waits, facts_if, has_facts, is_late, limit_of, local_facts, reaches, ticked, time_up}
@@ -188,7 +188,7 @@ q_hand_over : (t : ℕ) (h : Half) (o : Option EnlNo) → Quiet (hand_over t h o
 q_hand_over t h (Some e) = q_manager (enlist_sent t) (λ f r. q_one (Sent (Enl f) Up (EnlistEnlist (info t f r))) refl) h.managers e
 q_hand_over t h None = q_over t h
 
-q_placed : (w : Option Waiter) → Quiet (placed w)
+q_placed : (w : Option Waiter) → Quiet (place_given w)
 q_placed (Some (n, Place e r c)) = q_cons (Enlisted e c) refl (q_one (Answered n Fine) refl)
 q_placed (Some (n, Identifier)) = q_none
 q_placed None = q_none
