@@ -2,3 +2,4 @@ pub mod Writing
 pub mod Notes
 pub mod Lasting
 pub mod Following
+pub mod Home

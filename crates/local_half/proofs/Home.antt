@@ -1,0 +1,105 @@
+-- What the definitions come to where nothing of a promotion is known and no call waits.
+use Rattle.std.proofs.Common.{◌≡◌, ℕ, ◌&&◌, ◌||◌, Bool, true, false, List, [], ◌∷◌, Option, Some, None, is_some, find, cond, ◌⊎◌, inl, inr, if◌then◌else◌, refl, ap, subst, sym, ◌∙◌}
+use Rattle.dtx_values.specs.declared.entry.Entry.{Entry}
+use Rattle.dtx_values.specs.declared.entry.Entry.TheVariants.{Decided, OwnerAnswered, Voted}
+use Rattle.dtx_values.specs.declared.note.Note.{Note}
+use Rattle.dtx_values.specs.declared.note.Reply.{Reply}
+use Rattle.dtx_values.specs.declared.note.Reply.TheVariants.{Vote as VoteReply, Promote as PromoteReply, Owner as OwnerReply, Ack}
+use Rattle.dtx_values.specs.declared.number.EnlNo.{EnlNo}
+use Rattle.dtx_values.specs.declared.number.RmNo.{RmNo}
+use Rattle.dtx_values.specs.declared.row.Row.{Row}
+use Rattle.dtx_values.specs.declared.words.Outcome.{Outcome}
+use Rattle.dtx_values.specs.declared.words.Outcome.TheVariants.{Committed, Aborted, InDoubt}
+use Rattle.dtx_values.specs.declared.words.Vote.{Vote}
+use Rattle.dtx_values.specs.Row.{is_marked, is_of}
+use Rattle.dtx_values.specs.Table.{voted, was_asked}
+use Rattle.dtx_values.specs.Vote.{is_no}
+use Rattle.dtx_model.specs.Words.{has}
+use Rattle.dtx_model.specs.Observed.{Observed, track}
+use Rattle.dtx_model.specs.Half.{Half, decide, heeds, is_handed, sees, veto, veto_if}
+use Rattle.dtx_model.specs.Replies.{due_of, fits, reply_entries}
+use Rattle.dtx_model.specs.World.{gone_decides}
+use Rattle.dtx_model.proofs.Narrow.{reply_entries as narrow_reply, veto_if as narrow_veto}
+use Rattle.dtx_model.proofs.NarrowReplies.{IsDue, OwesOutcome, OwesVote, due-narrow, reply-narrow}
+use Rattle.dtx_model.proofs.Unpromoted.{at_home, narrow}
+use Rattle.light_committer.specs.LightAct.{lost_outcome}
+use Rattle.local_half.specs.Half.{IsAtHome, fits_due}
+
+-- a decision is its entry alone
+pub decided : (h : Half) (x : Outcome) → IsAtHome h → decide h x ≡ Decided x ∷ []
+decided h x home = subst (λ (g : Half). decide g x ≡ Decided x ∷ []) (sym home.same) refl
+
+-- a veto decides that it is aborted, and sends nothing
+pub vetoed : (h : Half) → IsAtHome h → veto h ≡ decide h Aborted
+unfolding veto
+vetoed h home = subst (λ (g : Half). veto g ≡ decide g Aborted) (sym home.same) refl
+
+-- how a loss ends the transaction
+pub loss_decides : (h : Half) (e : EnlNo) → IsAtHome h
+    → gone_decides h e ≡ (if is_some h.seen.decided || voted e.value h.seen.table then [] else decide h (lost_outcome (is_handed h.seen.handed e.value)))
+unfolding veto
+loss_decides h e home =
+    subst (λ (g : Half). gone_decides g e ≡ (if is_some g.seen.decided || voted e.value g.seen.table then [] else decide g (lost_outcome (is_handed g.seen.handed e.value)))) (sym home.same)
+    (by (is_some h.seen.decided || voted e.value h.seen.table) (is_handed h.seen.handed e.value))
+  where
+    by : (b i : Bool) → (if b then [] else if i then Decided InDoubt ∷ [] else Decided Aborted ∷ []) ≡ (if b then [] else Decided (lost_outcome i) ∷ [])
+    by true i = refl
+    by false true = refl
+    by false false = refl
+
+-- what is found passes the test, and may pass another
+found : {A : Type 0} (p q : A → Bool) (xs : List A) (x : A) → find p xs ≡ Some x → q x ≡ true → has (λ y. p y && q y) xs ≡ true
+found p q [] x f k = absurd (cc)
+found p q (y ∷ ys) x f k = step (p y) f (λ g. found p q ys x g k)
+  where
+    step : (b : Bool) → cond b (Some y) (find p ys) ≡ Some x → (find p ys ≡ Some x → has (λ z. p z && q z) ys ≡ true) → ((b && q y) || has (λ z. p z && q z) ys) ≡ true
+    step true f rest = let same : y ≡ x = cc in rw (same, k) refl
+    step false f rest = rest f
+
+-- why a reply is due
+why_due : (h : Half) (e : ℕ) (n : Note) → IsAtHome h → due_of h.seen e ≡ Some n → IsDue h.seen e n
+why_due h e n home d = due-narrow h.seen e n (ap (λ (g : Half). due_of g.seen e) (sym home.same) ∙ d)
+
+-- an enlistment of which a vote is due was asked
+pub voter_asked : (h : Half) (e : ℕ) (v : Vote) (n : Note) → IsAtHome h → due_of h.seen e ≡ Some n → fits (VoteReply v) n ≡ true → was_asked e h.seen.table ≡ true
+voter_asked h e v n home d f = by (why_due h e n home d)
+  where
+    by : IsDue h.seen e n → was_asked e h.seen.table ≡ true
+    by (inl q) = found (is_of e) is_marked h.seen.table q.row q.stands q.asked
+    by (inr q) = absurd (cc)
+
+-- neither a promotion nor an acknowledgement is due
+pub unpromised : (h : Half) (e : ℕ) (ok : Bool) (n : Note) → IsAtHome h → due_of h.seen e ≡ Some n → fits (PromoteReply ok) n ≡ true → ⊥
+unpromised h e ok n home d f = by (why_due h e n home d)
+  where
+    by : IsDue h.seen e n → ⊥
+    by (inl q) = absurd (cc)
+    by (inr q) = absurd (cc)
+
+pub unacked : (h : Half) (e : ℕ) (n : Note) → IsAtHome h → due_of h.seen e ≡ Some n → fits Ack n ≡ true → ⊥
+unacked h e n home d f = by (why_due h e n home d)
+  where
+    by : IsDue h.seen e n → ⊥
+    by (inl q) = absurd (cc)
+    by (inr q) = absurd (cc)
+
+-- what a reply makes
+narrow_made : (h : Half) (e : EnlNo) (r : Reply) (n : Note) → IsAtHome h → due_of h.seen e.value ≡ Some n → fits r n ≡ true → reply_entries h e r ≡ narrow_reply e r
+narrow_made h e r n home d f =
+    ap (λ (g : Half). reply_entries g e r) home.same ∙ reply-narrow h.seen h.managers e r n (ap (λ (g : Half). due_of g.seen e.value) (sym home.same) ∙ d) f
+
+pub vote_made : (h : Half) (e : EnlNo) (v : Vote) (n : Note) → IsAtHome h → due_of h.seen e.value ≡ Some n → fits (VoteReply v) n ≡ true
+    → reply_entries h e (VoteReply v) ≡ Voted e v ∷ veto_if (is_no v) (sees h (Voted e v))
+unfolding veto track
+vote_made h e v n home d f =
+    narrow_made h e (VoteReply v) n home d f ∙ subst (λ (g : Half). narrow_reply e (VoteReply v) ≡ Voted e v ∷ veto_if (is_no v) (sees g (Voted e v))) (sym home.same) (by (is_no v))
+  where
+    by : (b : Bool) → Voted e v ∷ narrow_veto b ≡ Voted e v ∷ veto_if b (sees (at_home h.seen h.managers) (Voted e v))
+    by true = refl
+    by false = refl
+
+pub answer_made : (h : Half) (e : EnlNo) (x : Outcome) (n : Note) → IsAtHome h → due_of h.seen e.value ≡ Some n → fits (OwnerReply x) n ≡ true
+    → reply_entries h e (OwnerReply x) ≡ OwnerAnswered e x ∷ decide (sees h (OwnerAnswered e x)) x
+unfolding track
+answer_made h e x n home d f =
+    narrow_made h e (OwnerReply x) n home d f ∙ subst (λ (g : Half). OwnerAnswered e x ∷ Decided x ∷ [] ≡ OwnerAnswered e x ∷ decide (sees g (OwnerAnswered e x)) x) (sym home.same) refl
