@@ -6,17 +6,17 @@ use Rattle.dtx_values.specs.declared.call.Call.TheVariants.{Durable, Await, Do, 
 use Rattle.dtx_values.specs.declared.entry.Answer.{Answer}
 use Rattle.dtx_values.specs.declared.entry.Answer.TheVariants.{Fine, True, Wait}
 use Rattle.dtx_values.specs.declared.entry.Entry.{Entry}
-use Rattle.dtx_values.specs.declared.entry.Entry.TheVariants.{Called, Lost}
+use Rattle.dtx_values.specs.declared.entry.Entry.TheVariants.{Called, Lost, Promoting}
 use Rattle.dtx_values.specs.declared.note.Note.{Note}
 use Rattle.dtx_values.specs.declared.note.Reply.{Reply}
 use Rattle.dtx_values.specs.declared.number.ActorNo.{ActorNo}
 use Rattle.dtx_values.specs.declared.number.EnlNo.{EnlNo}
 use Rattle.dtx_values.specs.declared.number.RmNo.{RmNo}
 use Rattle.dtx_values.specs.Support.{is_single}
-use Rattle.dtx_model.specs.Words.{has, kth, or_else}
+use Rattle.dtx_model.specs.Words.{has, kth, latest, or_else}
 use Rattle.dtx_model.specs.Entries.{is_call}
 use Rattle.dtx_model.specs.Outcome.{is_empty}
-use Rattle.dtx_model.specs.Observed.{track}
+use Rattle.dtx_model.specs.Observed.{cause_of_promotion, observe, track}
 use Rattle.dtx_model.specs.Waiting.{EnteredCall, call_if, managed_by}
 use Rattle.dtx_model.specs.Half.{Half, heeds, heeds_all, is_gone, sees, stands}
 use Rattle.dtx_model.specs.Acts.{act_entries}
@@ -24,11 +24,13 @@ use Rattle.dtx_model.specs.Replies.{due_of, fits, reply_entries}
 use Rattle.dtx_model.specs.Answers.{call_entries, durable_facts, facts_if, gone_answer, has_facts, if_begun, local_answer, local_facts}
 use Rattle.dtx_model.specs.World.{World, half, answer_at, facts_at, gone_by, gone_unlinked, open_ones}
 use Rattle.dtx_model.specs.Turns.{Step, Calls, Replies, Acts, after, block_at, entered}
-use Rattle.dtx_model.specs.Causes.{IsIn, MayAnswer, MayCome}
+use Rattle.dtx_model.specs.Causes.{IsIn, MayAnswer, MayCome, is_promoting_entry, is_unpromoted}
+use Rattle.dtx_values.specs.declared.words.Cause.{Cause}
+use Rattle.dtx_model.proofs.Bools.{not_false}
 use Rattle.dtx_model.proofs.Heeding.{half_behind, heeds_all_same}
 use Rattle.dtx_model.proofs.Lifting.{lift_ran}
 use Rattle.dtx_model.proofs.Quiet.{q_cons, q_facts, q_gone_decides}
-use Rattle.local_half.specs.Half.{Follows, Known, after as known_after, is_done, is_its_own, is_wait, with_call}
+use Rattle.local_half.specs.Half.{Follows, IsAtHome, Known, after as known_after, is_done, is_its_own, is_wait, with_call}
 
 n_is : (n : ℕ) → (n == n) ≡ true
 n_is n = grind (arith, nat_tests)
@@ -213,3 +215,23 @@ undone_known t k n a c d w =
     let ks : List EnteredCall = entered (Calls n a c 0) [] in
     ap (known_after ks k) (undone_entries t k.half n a c d w)
     ∙ ap (λ (h : Half). record { transaction = k.transaction; half = h }) (unheard ks k.half n a (local_answer t k.half c 0) d w)
+
+-- no promotion began in a world in which none is known
+unbegun : (x : Entry) → cause_of_promotion x ≡ None → is_promoting_entry x ≡ false
+unbegun (Promoting c) k = absurd (cc)
+unbegun _ k = refl
+
+none_begun : (past : List Entry) → latest cause_of_promotion past ≡ None → has is_promoting_entry past ≡ false
+none_begun [] k = refl
+none_begun (x ∷ past) k = by (cause_of_promotion x) refl k (none_begun past)
+  where
+    by : (o : Option Cause) → cause_of_promotion x ≡ o → or_else o (latest cause_of_promotion past) ≡ None → (latest cause_of_promotion past ≡ None → has is_promoting_entry past ≡ false)
+        → has is_promoting_entry (x ∷ past) ≡ false
+    by (Some c) e k before = absurd (cc)
+    by None e k before = rw (unbegun x e) (before k)
+
+pub unpromoted : (t : ℕ) (w : World) (h : Half) → IsAtHome h → Follows t w h → true ≡ is_unpromoted w.past
+unfolding observe
+unpromoted t w h home f =
+    let none : latest cause_of_promotion w.past ≡ None = ap (λ (x : Half). x.seen.cause) f.knows ∙ ap (λ (x : Half). x.seen.cause) home.same in
+    sym (not_false (has is_promoting_entry w.past) (none_begun w.past none))

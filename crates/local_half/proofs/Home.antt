@@ -3,6 +3,7 @@ use Rattle.std.proofs.Common.{◌≡◌, ℕ, ◌&&◌, ◌||◌, Bool, true, fa
 use Rattle.dtx_values.specs.declared.entry.Entry.{Entry}
 use Rattle.dtx_values.specs.declared.entry.Entry.TheVariants.{Decided, OwnerAnswered, Voted}
 use Rattle.dtx_values.specs.declared.note.Note.{Note}
+use Rattle.dtx_values.specs.declared.note.Note.TheVariants.{Prepare, Hand}
 use Rattle.dtx_values.specs.declared.note.Reply.{Reply}
 use Rattle.dtx_values.specs.declared.note.Reply.TheVariants.{Vote as VoteReply, Promote as PromoteReply, Owner as OwnerReply, Ack}
 use Rattle.dtx_values.specs.declared.number.EnlNo.{EnlNo}
@@ -69,19 +70,44 @@ voter_asked h e v n home d f = by (why_due h e n home d)
     by (inr q) = absurd (cc)
 
 -- neither a promotion nor an acknowledgement is due
-pub unpromised : (h : Half) (e : ℕ) (ok : Bool) (n : Note) → IsAtHome h → due_of h.seen e ≡ Some n → fits (PromoteReply ok) n ≡ true → ⊥
-unpromised h e ok n home d f = by (why_due h e n home d)
-  where
-    by : IsDue h.seen e n → ⊥
-    by (inl q) = absurd (cc)
-    by (inr q) = absurd (cc)
+is_other : Reply → Bool
+is_other (PromoteReply ok) = true
+is_other Ack = true
+is_other _ = false
 
-pub unacked : (h : Half) (e : ℕ) (n : Note) → IsAtHome h → due_of h.seen e ≡ Some n → fits Ack n ≡ true → ⊥
-unacked h e n home d f = by (why_due h e n home d)
+unfit : (r : Reply) (n : Note) → is_other r ≡ true → fits r n ≡ true → (n ≡ Prepare) ⊎ (n ≡ Hand) → ⊥
+unfolding is_other
+unfit (VoteReply v) n o f q = absurd (cc)
+unfit (OwnerReply x) n o f q = absurd (cc)
+unfit (PromoteReply ok) n o f (inl q) = let k : fits (PromoteReply ok) Prepare ≡ true = subst (λ (m : Note). fits (PromoteReply ok) m ≡ true) q f in absurd (cc)
+unfit (PromoteReply ok) n o f (inr q) = let k : fits (PromoteReply ok) Hand ≡ true = subst (λ (m : Note). fits (PromoteReply ok) m ≡ true) q f in absurd (cc)
+unfit Ack n o f (inl q) = let k : fits Ack Prepare ≡ true = subst (λ (m : Note). fits Ack m ≡ true) q f in absurd (cc)
+unfit Ack n o f (inr q) = let k : fits Ack Hand ≡ true = subst (λ (m : Note). fits Ack m ≡ true) q f in absurd (cc)
+
+pub neither_made : (h : Half) (e : ℕ) (r : Reply) (n : Note) → IsAtHome h → due_of h.seen e ≡ Some n → fits r n ≡ true → ((ok : Bool) × (r ≡ PromoteReply ok)) ⊎ (r ≡ Ack) → ⊥
+unfolding is_other
+neither_made h e r n home d f other = unfit r n (is_one other) f (note_of (why_due h e n home d))
   where
-    by : IsDue h.seen e n → ⊥
-    by (inl q) = absurd (cc)
-    by (inr q) = absurd (cc)
+    is_one : ((ok : Bool) × (r ≡ PromoteReply ok)) ⊎ (r ≡ Ack) → is_other r ≡ true
+    is_one (inl q) = ap is_other q.1
+    is_one (inr q) = ap is_other q
+
+    note_of : IsDue h.seen e n → (n ≡ Prepare) ⊎ (n ≡ Hand)
+    note_of (inl q) = inl q.note
+    note_of (inr q) = inr q.note
+
+-- the note to which a reply is due, that fits it
+pub record Owed (h : Half) (e : ℕ) (r : Reply) : Type 0 where
+  pub note : Note
+  pub stands : due_of h.seen e ≡ Some note
+  pub fit : fits r note ≡ true
+
+pub owed : (h : Half) (e : ℕ) (r : Reply) → is_some (due_of h.seen e) ≡ true → fits_due r (due_of h.seen e) ≡ true → Owed h e r
+owed h e r s f = by (due_of h.seen e) refl s f
+  where
+    by : (o : Option Note) → due_of h.seen e ≡ o → is_some o ≡ true → fits_due r o ≡ true → Owed h e r
+    by (Some n) k s f = record { note = n; stands = k; fit = f }
+    by None k s f = absurd (cc)
 
 -- what a reply makes
 narrow_made : (h : Half) (e : EnlNo) (r : Reply) (n : Note) → IsAtHome h → due_of h.seen e.value ≡ Some n → fits r n ≡ true → reply_entries h e r ≡ narrow_reply e r

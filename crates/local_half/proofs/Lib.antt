@@ -3,3 +3,4 @@ pub mod Notes
 pub mod Lasting
 pub mod Following
 pub mod Home
+pub mod Due

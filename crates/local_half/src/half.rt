@@ -2,9 +2,12 @@
 ghost use Rattle.std.specs.Prelude.{◌≡◌, ◌<◌, [], ◌∷◌, is_some, IfOk, true};
 ghost use Rattle.dtx_values.specs.Outgoing.{with};
 ghost use Rattle.dtx_values.specs.Table.{rises_above};
-ghost use Rattle.dtx_values.specs.declared.entry.Entry.TheVariants.{Enlisted};
+ghost use Rattle.dtx_values.specs.declared.entry.Entry.TheVariants.{Asked, Enlisted};
+ghost use Rattle.dtx_values.specs.declared.entry.Ask.TheVariants.{Prepare};
 ghost use Rattle.dtx_model.specs.Half.{half_of, heeds, is_gone, stands};
-ghost use Rattle.local_half.specs.Half.{IsAtHome, MayTakeIn, after, is_its_own, is_new};
+ghost use Rattle.dtx_model.specs.Causes.{is_unpromoted};
+ghost use Rattle.dtx_model.specs.World.{World};
+ghost use Rattle.local_half.specs.Half.{Follows, IsAtHome, MayTakeIn, after, is_its_own, is_new};
 
 use crate::listeners::{is_gone, lose, tell};
 use dependent_clones::Clones;
@@ -24,8 +27,8 @@ mod answers;
 mod facts;
 mod replies;
 
-/// The local side of one transaction, while it isn't promoted. Contracts see what is observed of its
-/// history. Only the constructor takes memory; each call writes into an outbox that has room.
+/// The local side of one transaction, while it isn't promoted. Contracts see what it knows of its calls
+/// and its history. Only the constructor takes memory; each call writes into an outbox that has room.
 ///
 /// # The life of a transaction
 ///
@@ -70,7 +73,19 @@ mod replies;
 ///
 /// Each condition of a call has a test: `is_its_own` and `is_new` those of `call`, `gone_answer` that
 /// of `gone`, `fits` that of `reply`, and `room` of the outbox. A cleared outbox has room for each.
-/// An enlistment that stays silent is passed over by a loop over `rows` and `due_note`.
+/// An enlistment that stays silent is passed over by a loop over `rows` and `due_note`. `gone` writes
+/// what follows of the loss; the entry of the call is put into the outbox before it.
+///
+/// # What holds of such a program
+///
+/// The *world* of a transaction is the calls that were entered there and the history. A new half
+/// `Follows` the world of no calls and no entries. The clauses `runs` of `call`, `gone`, `reply` and
+/// `act` say that a half which follows a world follows the world after the step, where each call has
+/// a line of its own. So a program that drives a half by this loop has a world that its own calls made,
+/// and the entries that it keeps are the history of that world. Nothing is promoted in it, as
+/// `is_unpromoted` says. `own_outcome` of the crate `outcome_law` is the law of these worlds: where no
+/// two calls make the same enlistment or the same clone, all that anybody was told is `justified`,
+/// and no two were told opposite outcomes (`agree`).
 #[derive(Drop)]
 pub struct LocalHalf {
     transaction: TxNo,
@@ -242,6 +257,14 @@ impl LocalHalf {
         }
     }
 
+    /// Whether no promotion began. Until promotion comes none does.
+    pub fn is_unpromoted(&self) -> bool
+        ensures { (w : World) → Follows self.now.transaction.value w self.now.half → result ≡ is_unpromoted w.past }
+    {
+        self.is_at_home();
+        true
+    }
+
     /// Nothing of a promotion is known: what it would change has no field yet, and the view gives it as
     /// it is before one.
     fn is_at_home(&self)
@@ -271,6 +294,15 @@ impl LocalHalf {
         }
     }
 
+    /// Marks in the table that the enlistment was asked to prepare.
+    #[tactic(auto, unfolding(dtx_model::specs::Observed::track))]
+    fn ask(&mut self, e: EnlNo)
+        ensures transaction { self.new.transaction ≡ self.old.transaction }
+        ensures half { self.new.half ≡ heeds [] self.old.half (Asked e Prepare) }
+    {
+        let _ = self.table.set_asked(e);
+    }
+
     /// Takes an entry into the state. Nothing else changes it.
     #[tactic(auto, unfolding(dtx_model::specs::Observed::track))]
     fn take_in(&mut self, x: Entry)
@@ -293,9 +325,7 @@ impl LocalHalf {
             Entry::Completed(c) => {
                 let _ = self.clones.complete(c);
             }
-            Entry::Asked(e, Ask::Prepare) => {
-                let _ = self.table.set_asked(e);
-            }
+            Entry::Asked(e, Ask::Prepare) => self.ask(e),
             Entry::Voted(e, v) => {
                 let _ = take_vote(&mut self.table, e, v);
             }

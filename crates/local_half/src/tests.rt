@@ -279,6 +279,7 @@ fn the_conditions_of_calls_can_be_tested(rt: HostRuntime) -> Result<(), Fail> {
         assert_eq!(rt; LocalHalf::is_its_own(&call), own);
         assert_eq!(rt; half.is_new(&call), new);
     }
+    assert!(rt; half.is_unpromoted());
     assert_eq!(rt; half.gone_answer(e3), Answer::NoSuch);
     assert_eq!(rt; half.gone_answer(e1), Answer::Fine);
     out.clear();
