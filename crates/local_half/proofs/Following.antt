@@ -1,5 +1,5 @@
 -- What the local side of a transaction knows after a step, where it followed the world before: its block, and of the calls only that of the step.
-use Rattle.std.proofs.Common.{◌≡◌, ℕ, zero, suc, ◌==◌, Bool, true, false, not, List, [], ◌∷◌, Option, Some, None, is_some, slice_get, refl, ap, arith, sym, ◌∙◌}
+use Rattle.std.proofs.Common.{◌≡◌, ℕ, zero, suc, ◌==◌, Bool, true, false, List, [], ◌∷◌, Option, Some, None, is_some, refl, ap, arith, sym, ◌∙◌}
 use Rattle.std.proofs.lemmas.Bool.Decides.{nat_tests}
 use Rattle.dtx_values.specs.declared.call.Call.{Call}
 use Rattle.dtx_values.specs.declared.call.Call.TheVariants.{Durable, Await, Do, Lose, Gone, Reenlist, Recovered}
@@ -129,7 +129,7 @@ loss_block : (t : ℕ) (w : World) (h : Half) (n : ℕ) (a : ActorNo) (e : EnlNo
 unfolding block_at answer_at
 loss_block t w h n a e k begun there none =
     let fine : if_begun (half w).seen.limit (gone_answer (stands (half w).seen e.value) (is_gone (half w).seen e.value)) ≡ Fine =
-        ap (λ (x : Half). if_begun x.seen.limit (gone_answer (stands x.seen e.value) (is_gone x.seen e.value))) k ∙ begun_answer h.seen.limit (gone_answer (stands h.seen e.value) (is_gone h.seen e.value)) begun ∙ there in
+    ap (λ (x : Half). if_begun x.seen.limit (gone_answer (stands x.seen e.value) (is_gone x.seen e.value))) k ∙ begun_answer h.seen.limit (gone_answer (stands h.seen e.value) (is_gone h.seen e.value)) begun ∙ there in
     ap (λ x. Called n a x ∷ facts_if (has_facts x) (gone_by w e (open_ones w e))) fine
     ∙ ap (λ cs. Called n a Fine ∷ gone_by w e cs) none
     ∙ ap (λ (x : Half). Called n a Fine ∷ gone_unlinked x e) k

@@ -1,52 +1,24 @@
 -- What the definitions come to where nothing of a promotion is known and no call waits.
-use Rattle.std.proofs.Common.{◌≡◌, ℕ, ◌&&◌, ◌||◌, Bool, true, false, List, [], ◌∷◌, Option, Some, None, is_some, find, cond, ◌⊎◌, inl, inr, if◌then◌else◌, refl, ap, subst, sym, ◌∙◌}
-use Rattle.dtx_values.specs.declared.entry.Entry.{Entry}
+use Rattle.std.proofs.Common.{◌≡◌, ℕ, ◌&&◌, ◌||◌, Bool, true, false, List, [], ◌∷◌, Option, Some, None, is_some, find, cond, ◌⊎◌, inl, inr, refl, ap, subst, sym, ◌∙◌}
 use Rattle.dtx_values.specs.declared.entry.Entry.TheVariants.{Decided, OwnerAnswered, Voted}
 use Rattle.dtx_values.specs.declared.note.Note.{Note}
 use Rattle.dtx_values.specs.declared.note.Note.TheVariants.{Prepare, Hand}
 use Rattle.dtx_values.specs.declared.note.Reply.{Reply}
 use Rattle.dtx_values.specs.declared.note.Reply.TheVariants.{Vote as VoteReply, Promote as PromoteReply, Owner as OwnerReply, Ack}
 use Rattle.dtx_values.specs.declared.number.EnlNo.{EnlNo}
-use Rattle.dtx_values.specs.declared.number.RmNo.{RmNo}
-use Rattle.dtx_values.specs.declared.row.Row.{Row}
 use Rattle.dtx_values.specs.declared.words.Outcome.{Outcome}
-use Rattle.dtx_values.specs.declared.words.Outcome.TheVariants.{Committed, Aborted, InDoubt}
 use Rattle.dtx_values.specs.declared.words.Vote.{Vote}
 use Rattle.dtx_values.specs.Row.{is_marked, is_of}
-use Rattle.dtx_values.specs.Table.{voted, was_asked}
+use Rattle.dtx_values.specs.Table.{was_asked}
 use Rattle.dtx_values.specs.Vote.{is_no}
 use Rattle.dtx_model.specs.Words.{has}
-use Rattle.dtx_model.specs.Observed.{Observed, track}
-use Rattle.dtx_model.specs.Half.{Half, decide, heeds, is_handed, sees, veto, veto_if}
+use Rattle.dtx_model.specs.Observed.{track}
+use Rattle.dtx_model.specs.Half.{Half, decide, sees, veto, veto_if}
 use Rattle.dtx_model.specs.Replies.{due_of, fits, reply_entries}
-use Rattle.dtx_model.specs.World.{gone_decides}
 use Rattle.dtx_model.proofs.Narrow.{reply_entries as narrow_reply, veto_if as narrow_veto}
-use Rattle.dtx_model.proofs.NarrowReplies.{IsDue, OwesOutcome, OwesVote, due-narrow, reply-narrow}
-use Rattle.dtx_model.proofs.Unpromoted.{at_home, narrow}
-use Rattle.light_committer.specs.LightAct.{lost_outcome}
+use Rattle.dtx_model.proofs.NarrowReplies.{IsDue, due-narrow, reply-narrow}
+use Rattle.dtx_model.proofs.Unpromoted.{at_home}
 use Rattle.local_half.specs.Half.{IsAtHome, fits_due}
-
--- a decision is its entry alone
-pub decided : (h : Half) (x : Outcome) → IsAtHome h → decide h x ≡ Decided x ∷ []
-decided h x home = subst (λ (g : Half). decide g x ≡ Decided x ∷ []) (sym home.same) refl
-
--- a veto decides that it is aborted, and sends nothing
-pub vetoed : (h : Half) → IsAtHome h → veto h ≡ decide h Aborted
-unfolding veto
-vetoed h home = subst (λ (g : Half). veto g ≡ decide g Aborted) (sym home.same) refl
-
--- how a loss ends the transaction
-pub loss_decides : (h : Half) (e : EnlNo) → IsAtHome h
-    → gone_decides h e ≡ (if is_some h.seen.decided || voted e.value h.seen.table then [] else decide h (lost_outcome (is_handed h.seen.handed e.value)))
-unfolding veto
-loss_decides h e home =
-    subst (λ (g : Half). gone_decides g e ≡ (if is_some g.seen.decided || voted e.value g.seen.table then [] else decide g (lost_outcome (is_handed g.seen.handed e.value)))) (sym home.same)
-    (by (is_some h.seen.decided || voted e.value h.seen.table) (is_handed h.seen.handed e.value))
-  where
-    by : (b i : Bool) → (if b then [] else if i then Decided InDoubt ∷ [] else Decided Aborted ∷ []) ≡ (if b then [] else Decided (lost_outcome i) ∷ [])
-    by true i = refl
-    by false true = refl
-    by false false = refl
 
 -- what is found passes the test, and may pass another
 found : {A : Type 0} (p q : A → Bool) (xs : List A) (x : A) → find p xs ≡ Some x → q x ≡ true → has (λ y. p y && q y) xs ≡ true

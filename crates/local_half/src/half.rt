@@ -2,10 +2,10 @@
 ghost use Rattle.std.specs.Prelude.{◌≡◌, ◌<◌, [], ◌∷◌, is_some, IfOk, true};
 ghost use Rattle.dtx_values.specs.Outgoing.{with};
 ghost use Rattle.dtx_values.specs.Table.{rises_above};
-ghost use Rattle.dtx_values.specs.declared.entry.Entry.TheVariants.{Asked, Enlisted};
 ghost use Rattle.dtx_values.specs.declared.entry.Ask.TheVariants.{Prepare};
-ghost use Rattle.dtx_model.specs.Half.{half_of, heeds, is_gone, stands};
+ghost use Rattle.dtx_values.specs.declared.entry.Entry.TheVariants.{Asked, Enlisted};
 ghost use Rattle.dtx_model.specs.Causes.{is_unpromoted};
+ghost use Rattle.dtx_model.specs.Half.{half_of, heeds, is_gone, stands};
 ghost use Rattle.dtx_model.specs.World.{World};
 ghost use Rattle.local_half.specs.Half.{Follows, IsAtHome, MayTakeIn, after, is_its_own, is_new};
 
@@ -13,8 +13,8 @@ use crate::listeners::{is_gone, lose, tell};
 use dependent_clones::Clones;
 use dtx_model::Listener;
 use dtx_values::{
-    Ask, Call, Class, CloneKind, ENLISTMENTS, EnlNo, Entry, Outbox, Outcome, Party, RmNo, Row, TxNo,
-    insert_in_order,
+    Ask, Call, Class, CloneKind, ENLISTMENTS, EnlNo, Entry, Outbox, Outcome, Party, RmNo, Row,
+    TxNo, insert_in_order,
 };
 use enlist_table::EnlistTable;
 use phase_zero::Waves;

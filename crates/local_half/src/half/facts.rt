@@ -1,20 +1,20 @@
 //! What the calls, and the loss of an enlistment, write.
 ghost use Rattle.std.specs.Prelude.{ℕ, ◌≡◌, ◌≤◌, [], ◌∷◌, false, if◌then◌else◌, true};
-ghost use Rattle.dtx_values.specs.Outgoing.{with};
+ghost use Rattle.dtx_values.specs.Class.{is_volatile};
 ghost use Rattle.dtx_values.specs.Clones.{is_open_rollback};
+ghost use Rattle.dtx_values.specs.Outgoing.{with};
 ghost use Rattle.dtx_values.specs.declared.call.Call.TheVariants.{Gone};
 ghost use Rattle.dtx_values.specs.declared.entry.Answer.TheVariants.{Fine, Wait};
+ghost use Rattle.dtx_values.specs.declared.entry.Entry.TheVariants.{Enlisted};
 ghost use Rattle.dtx_values.specs.declared.number.ActorNo.{ActorNo};
-ghost use Rattle.dtx_model.specs.Answers.{call_entries, gone_answer, has_facts, is_late, local_answer, local_facts, tick_facts};
+ghost use Rattle.dtx_model.specs.Answers.{call_entries, gone_answer, is_late, local_answer, local_facts, tick_facts};
 ghost use Rattle.dtx_model.specs.Entries.{is_call};
 ghost use Rattle.dtx_model.specs.Half.{decide, is_gone, stands, veto, veto_if};
+ghost use Rattle.dtx_model.specs.Observed.{track};
 ghost use Rattle.dtx_model.specs.Turns.{Calls, after as world_after, entered};
 ghost use Rattle.dtx_model.specs.Words.{has};
 ghost use Rattle.dtx_model.specs.World.{World, gone_unlinked, open_ones};
-ghost use Rattle.local_half.specs.Half.{Follows, IsAtHome, MayTakeIn, after, is_done, is_its_own, is_new, is_wait, with_call};
-ghost use Rattle.dtx_values.specs.Class.{is_volatile};
-ghost use Rattle.dtx_values.specs.declared.entry.Entry.TheVariants.{Enlisted};
-ghost use Rattle.dtx_model.specs.Observed.{track};
+ghost use Rattle.local_half.specs.Half.{Follows, MayTakeIn, after, is_done, is_its_own, is_new, is_wait, with_call};
 
 use super::LocalHalf;
 use crate::time::{limit_of, reaches, ticked};
@@ -45,7 +45,6 @@ impl LocalHalf {
     /// Writes that this is decided, where the test holds.
     fn decide_if(&mut self, is_over: bool, o: Outcome, out: &mut Outbox)
         requires { 1 ≤ out.old.room }
-        ensures home { IsAtHome self.old.half }
         ensures state { self.new ≡ after [] self.old (if is_over then decide self.old.half o else []) }
         ensures out { out.new ≡ with out.old (if is_over then decide self.old.half o else []) }
     {

@@ -17,11 +17,10 @@ invariant_of-self c =
     let rows = ap length c.in-Ok.ensures.added ∙ length-insert_by number_of (fresh_row c.args.e c.args.class (marks table)) table in
     let same : c.args.self.now.half.seen.table ≡ table = sym (ap (λ (k : Known). k.half.seen.table) c.self.view_is) in
     let alone = subst (λ xs. (is_volatile c.args.class || not (has is_lasting xs)) ≡ true) same c.requires.1 in
-    let begun : is_some c.self.inside.limit ≡ true = subst (λ (k : Known). is_some k.half.seen.limit ≡ true) (sym c.self.view_is) c.requires.2 in
-    (
+    let begun : is_some c.self.inside.limit ≡ true = subst (λ (k : Known). is_some k.half.seen.limit ≡ true) (sym c.self.view_is) c.requires.2 in (
       omega (arith, capacity, c.self.invariant.0),
       omega (arith, listeners, rows, c.self.invariant.1),
       rw c.in-Ok.ensures.added (lasting-row c.args.e c.args.class table alone c.self.invariant.2),
       rw c.in-Ok.ensures.added (λ none. c.self.invariant.3 (lasting-before c.args.e c.args.class table none)),
-      λ never. absurd (cc)
+      λ never. absurd (cc),
     )

@@ -20,8 +20,8 @@ pub invariant_of-self : goal.invariant_of-self
 unfolding track
 invariant_of-self c =
     let table : c.self-2.inside.table ≡ with_row c.args.e c.args.class c.args.self.now.half.seen.table =
-        ap (λ (k : Known). k.half.seen.table) c.self-2.view_is ∙ ap (λ (h : Half). h.seen.table) c.enlist.ensures.half in
+    ap (λ (k : Known). k.half.seen.table) c.self-2.view_is ∙ ap (λ (h : Half). h.seen.table) c.enlist.ensures.half in
     let before = c.self-2.invariant in
     let lasts : how_many is_lasting c.self-2.inside.table ≡ 0 → ⊥ =
-        λ none. lasting-now c.args.e c.args.class c.args.self.now.half.seen.table c.requires.lasting (subst (λ xs. how_many is_lasting xs ≡ 0) table none) in
+    λ none. lasting-now c.args.e c.args.class c.args.self.now.half.seen.table c.requires.lasting (subst (λ xs. how_many is_lasting xs ≡ 0) table none) in
     (before.0, before.1, before.2, λ none. absurd (lasts none), before.4)

@@ -3,11 +3,11 @@ use Rattle.dtx_values.specs.declared.entry.Entry.{Entry}
 use Rattle.dtx_values.specs.declared.entry.Entry.TheVariants.{OwnerAnswered, Voted}
 use Rattle.dtx_values.specs.declared.note.Reply.{Reply}
 use Rattle.dtx_values.specs.Outgoing.{Outgoing, with}
-use Rattle.dtx_model.specs.Half.{Half, decide, heeds_all, sees, veto_if}
-use Rattle.dtx_model.specs.Replies.{due_of, fits, reply_entries}
+use Rattle.dtx_model.specs.Half.{decide, heeds_all, sees, veto_if}
+use Rattle.dtx_model.specs.Replies.{fits, reply_entries}
 use Rattle.local_half.specs.Half.{Known, after}
 use Rattle.local_half.proofs.Following.{replied}
-use Rattle.local_half.proofs.Home.{Owed, answer_made, neither_made, owed, vote_made, voter_asked}
+use Rattle.local_half.proofs.Home.{answer_made, neither_made, owed, vote_made, voter_asked}
 use Rattle.local_half.proofs.Writing.{with-with}
 use Rattle.local_half.proofs.half.LocalHalf.reply.Goals as goal
 
