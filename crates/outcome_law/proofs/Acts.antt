@@ -13,7 +13,6 @@ use Rattle.dtx_values.specs.declared.note.Note.TheVariants.{Prepare as PrepareNo
 use Rattle.dtx_values.specs.declared.note.Reply.TheVariants.{Vote as VoteReply, Owner as OwnerReply}
 use Rattle.dtx_values.specs.declared.words.Outcome.{Outcome}
 use Rattle.dtx_values.specs.declared.words.Outcome.TheVariants.{Committed, Aborted, InDoubt}
-use Rattle.dtx_values.specs.declared.words.Vote.{Vote}
 use Rattle.dtx_values.specs.declared.words.Vote.TheVariants.{Yes, No, Done}
 use Rattle.dtx_values.specs.Row.{has_voted, is_marked, is_of}
 use Rattle.dtx_values.specs.declared.row.Row.{Row}
@@ -21,7 +20,7 @@ use Rattle.dtx_values.specs.Clones.{blocks, is_open_block}
 use Rattle.dtx_model.specs.declared.listener.Listener.{Listener}
 use Rattle.dtx_values.specs.declared.words.Class.{Class}
 use Rattle.dtx_values.specs.declared.words.Class.TheVariants.{Zero, One, DurableTwo, DurableSingle, Promotable}
-use Rattle.dtx_model.specs.Words.{has, each, latest, onto, kth, all_of}
+use Rattle.dtx_model.specs.Words.{has, each, latest, onto, all_of}
 use Rattle.dtx_model.specs.Entries.{same_outcome, is_commit, is_sealed, clone_of, is_asked, is_vote, is_good_vote, is_hand, is_any_hand, is_promoted, handed_of, decision_of, is_decision}
 use Rattle.dtx_model.specs.Observed.{observe, rows, clone_rows, listeners}
 use Rattle.dtx_model.specs.Outcome.{durables, enlisted, volatiles, voters, is_complete, is_empty, ready, by_seal, by_owner, by_log, evidence, hears_doubt, may_tell}
@@ -31,12 +30,12 @@ use Rattle.dtx_model.specs.Replies.{fits}
 use Rattle.dtx_model.proofs.Narrow.{reply_entries}
 use Rattle.dtx_model.proofs.NarrowReplies.{IsDue}
 use Rattle.dtx_values.specs.Waves.{all_voted, hears, may_be_asked, name_of, next_ask, zeros_voted, is_over}
-use Rattle.dtx_model.specs.Half.{is_gone, is_handed}
+use Rattle.dtx_model.specs.Half.{is_handed}
 use Rattle.dtx_model.specs.Acts.{tell}
 use Rattle.dtx_model.proofs.Narrow.{hears_abort, is_to_tell, commit_act, before_seal, after_seal, undecided_act, act_by}
-use Rattle.dtx_model.proofs.Bools.{and_left, and_right, and_both, or_first, or_right, not_true, not_false, three_hold}
+use Rattle.dtx_model.proofs.Bools.{and_left, and_right, and_both, or_right, not_true, not_false, three_hold}
 use Rattle.outcome_law.proofs.Tests.{four_hold, five_hold, eq_self}
-use Rattle.outcome_law.proofs.Scans.{each_more, each_both, each-append, each-kth}
+use Rattle.outcome_law.proofs.Scans.{each_more, each_both}
 use Rattle.outcome_law.proofs.Picks.{passes, each_from_at, found_at, found_well, none_each}
 use Rattle.outcome_law.proofs.Rule.{is_enlisted, is_only, is_answer, all_complete, zeros_cast, is_decided, is_certain, rule, ruled, is_volatile_of}
 use Rattle.outcome_law.proofs.TableRows.{none_there, rows_enlisted, row_marked, row_voted, zeros_seen, all_voted_seen, open_blocks}

@@ -1,6 +1,6 @@
 -- Of which rows a reply is due while nothing is promoted, and which of those are silent by their plan.
-use Rattle.std.proofs.Common.{◌≡◌, ◌==◌, ℕ, Bool, true, false, ◌&&◌, ◌||◌, ◌++◌, List, [], ◌∷◌, slice_get, Option, Some, None, inl, inr, refl, ◌∙◌, ap, sym, subst}
-use Rattle.std.specs.Prelude.{is_some, is_none, not, find, filter, map, if◌then◌else◌}
+use Rattle.std.proofs.Common.{◌≡◌, ◌==◌, ℕ, Bool, true, false, ◌&&◌, ◌||◌, List, [], ◌∷◌, slice_get, Option, Some, None, inl, inr, refl, ◌∙◌, ap, sym, subst}
+use Rattle.std.specs.Prelude.{is_some, is_none, not, filter, map, if◌then◌else◌}
 use Rattle.std.specs.List.{filter_map, cons_option}
 use Rattle.std.proofs.lemmas.Bool.{eqb-true, cases_Bool, or_left}
 use Rattle.dtx_values.specs.declared.number.EnlNo.{EnlNo}
@@ -19,9 +19,9 @@ use Rattle.dtx_model.specs.Entries.{decision_of, handed_of, is_asked, is_commit,
 use Rattle.dtx_model.specs.Observed.{Observed, observe, rows}
 use Rattle.dtx_model.specs.Outcome.{enlisted}
 use Rattle.dtx_model.specs.Half.{is_gone, is_handed}
-use Rattle.dtx_model.specs.Replies.{all_due, due_of, is_answered, names, note_of_row, row_note, with_note}
+use Rattle.dtx_model.specs.Replies.{all_due, due_of, is_answered, note_of_row, with_note}
 use Rattle.dtx_model.specs.Waiting.{planned}
-use Rattle.dtx_model.proofs.Bools.{and_both, and_left, and_never, and_right, not_both, not_false, not_true, or_case, or_right}
+use Rattle.dtx_model.proofs.Bools.{and_both, and_left, and_never, and_right, not_both, not_true, or_case, or_right}
 use Rattle.dtx_model.proofs.Narrow.{due_note, open_note}
 use Rattle.dtx_model.proofs.Unpromoted.{narrow}
 use Rattle.outcome_law.proofs.Tests.{eq_self, third_of_four}

@@ -6,7 +6,6 @@ use Rattle.dtx_values.specs.declared.entry.Ask.TheVariants.{Prepare}
 use Rattle.dtx_values.specs.declared.entry.Entry.{Entry}
 use Rattle.dtx_values.specs.declared.entry.Entry.TheVariants.{Asked, Decided, Enlisted, Lost, Reenlisted, Told, Voted}
 use Rattle.dtx_values.specs.declared.entry.Party.TheVariants.{Enl}
-use Rattle.dtx_values.specs.declared.number.EnlNo.{EnlNo}
 use Rattle.dtx_values.specs.declared.words.Outcome.{Outcome}
 use Rattle.dtx_values.specs.Row.{fresh_row, mark_in, number_of, vote_in}
 use Rattle.dtx_values.specs.Table.{marks}
@@ -20,7 +19,7 @@ use Rattle.dtx_model.proofs.Counts.{length-insert_by}
 use Rattle.dtx_model.proofs.Bools.{and_left, not_both, not_true, or_false, or_second}
 use Rattle.outcome_law.proofs.Tests.{eq_swap, first_of_four, apart}
 use Rattle.outcome_law.proofs.Lists.{OfEach, of-at, of-insert, of-map, of-more}
-use Rattle.outcome_law.proofs.Rule.{is_certain, is_decided, is_enlisted, first_rule, other_rules, rule, ruled}
+use Rattle.outcome_law.proofs.Rule.{is_decided, is_enlisted, first_rule, other_rules, ruled}
 use Rattle.outcome_law.proofs.Owned.{decision_seen}
 use Rattle.outcome_law.proofs.TableRows.{enlisted_once}
 

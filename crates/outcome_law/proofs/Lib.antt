@@ -27,7 +27,9 @@ pub mod Settlings
 pub mod Silent
 pub mod Heard
 pub mod LocalReplays
+pub mod ReplayRuns
 pub mod Replays
 pub mod Examples
 pub mod PromotionExample
+pub mod PlannedReplays
 pub mod Determined

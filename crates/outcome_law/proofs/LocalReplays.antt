@@ -1,5 +1,5 @@
 -- Replays in which nothing is promoted and nothing stands at the log: each step makes its block of proofs/Narrow, and that is what a turn comes to there.
-use Rattle.std.proofs.Common.{◌≡◌, ◌⊎◌, inl, inr, ℕ, zero, suc, ◌≤◌, ◌<◌, ◌==◌, Bool, true, false, ◌&&◌, ◌||◌, not, List, [], ◌∷◌, ◌++◌, length, map, filter, Option, Some, None, refl, arith, ap, sym, subst, ◌∙◌, if◌then◌else◌}
+use Rattle.std.proofs.Common.{◌≡◌, ◌⊎◌, inl, inr, ℕ, zero, suc, ◌≤◌, ◌<◌, ◌==◌, Bool, true, false, ◌&&◌, not, List, [], ◌∷◌, length, map, filter, Option, Some, None, refl, arith, ap, sym, subst, ◌∙◌, if◌then◌else◌}
 use Rattle.std.specs.List.{slice_get}
 use Rattle.std.proofs.lemmas.Bool.Decides.{nat_tests}
 use Rattle.dtx_values.specs.declared.call.Call.{Call}
@@ -22,17 +22,16 @@ use Rattle.dtx_model.specs.Words.{each, has, kth, onto, past_of}
 use Rattle.dtx_model.specs.Observed.{observe}
 use Rattle.dtx_model.specs.Outcome.{is_empty}
 use Rattle.dtx_model.specs.Acts.{act_entries}
-use Rattle.dtx_model.specs.Half.{Half}
 use Rattle.dtx_model.specs.Calls.{call_of}
 use Rattle.dtx_model.specs.Contexts.{scope_block, scope_calls, scopes_of}
 use Rattle.dtx_model.specs.Waiting.{plan_of}
-use Rattle.dtx_model.specs.Replay.{Placed, history, is_at, entries_at, noted, placed}
+use Rattle.dtx_model.specs.Replay.{Placed, history, is_at, noted, placed}
 use Rattle.dtx_model.specs.World.{World, half}
-use Rattle.dtx_model.specs.Turns.{StoppedNow, Step, Calls, Replies, Acts, Coordinates, Delivers, Stops, Restarts, StepName, ReplyOf, LocalAct, CoordinatorAct, Delivery, block_at, local_if, local_pending, pending, replies_due}
+use Rattle.dtx_model.specs.Turns.{StoppedNow, Step, Calls, Coordinates, StepName, ReplyOf, LocalAct, CoordinatorAct, Delivery, local_if, local_pending, pending, replies_due}
 use Rattle.dtx_model.specs.Causes.{IsNamed, MayCome, Settled, is_begin_sent, is_promoting_entry, is_unpromoted}
 use Rattle.dtx_model.specs.AtLog.{hit, is_local_trace, is_log, is_log_up, known}
 use Rattle.dtx_model.specs.Replies.{all_due, is_answered}
-use Rattle.dtx_model.specs.Replays.{CallRan, HasDoneAt, HasSettled, IsReplayed, IsTurn, LineRan, LinesRan, Reopening, Opens, Faults, Differs, RoundsRan, StepsRan, after_calls, after_halt, after_restart, after_scope, after_turn, at_the_log, block_in, last_turn, others, stop_if, stopped_by_restart, world_at}
+use Rattle.dtx_model.specs.Replays.{CallRan, IsReplayed, IsTurn, LineRan, LinesRan, Reopening, Opens, Faults, Differs, RoundsRan, StepsRan, after_calls, after_halt, after_restart, after_scope, after_turn, at_the_log, block_in, last_turn, others, stop_if, stopped_by_restart, world_at}
 use Rattle.dtx_model.proofs.Bools.{and_both, and_left, and_right, not_both, not_true, or_false}
 use Rattle.dtx_model.proofs.Histories.{history-noted, history-other, history-same}
 use Rattle.dtx_model.proofs.Local.{IsNarrow, call_local, pending-local, step-narrow, waits_promotes}
@@ -83,9 +82,15 @@ calls_after n a (c ∷ cs) T = calls_after n a cs (after_step c.0 (Calls n a c.1
 abbrev pub scope_after : ℕ → Line → List OpenScope → List Placed → List Placed
 scope_after n l xs T = calls_after n l.actor (scope_calls l.body xs) (onto T (noted l.actor (scope_block n l.actor l.body xs)))
 
+-- the line stops the log or opens it again
+abbrev pub is_log_line : Body → Bool
+is_log_line (Stop n i) = true
+is_log_line Restart = true
+is_log_line _ = false
+
 abbrev pub LineLocal : List Line → List Line → Line → List Placed → List Placed → Type 0
 LineLocal s before l start T =
-    CallLocal s l.actor (suc (length before)) (call_of s l.body) (scope_after (suc (length before)) l (scopes_of l.actor.value before) start) T
+    (is_log_line l.body ≡ false) × CallLocal s l.actor (suc (length before)) (call_of s l.body) (scope_after (suc (length before)) l (scopes_of l.actor.value before) start) T
 
 abbrev pub LinesLocal : List Line → List Line → List Placed → Type 0
 LinesLocal s [] T = T ≡ []
@@ -106,7 +111,7 @@ pub record ReplayedLocal (s : List Line) (T : List Placed) : Type 0 where
 abbrev pub IsLocal : List Placed → Type 0
 IsLocal T = is_local_trace T ≡ true
 
-abbrev is_local_place : Placed → Bool
+abbrev pub is_local_place : Placed → Bool
 is_local_place x = not (is_log x.0) && not (is_promoting_entry x.1)
 
 -- so it was before a block
@@ -242,6 +247,26 @@ step_all t m T all home u = by_name (u.value == t.value) refl
 noted_all : (a : ActorNo) (es : List Entry) (T : List Placed) → AllLocal T → AllLocal (onto T (noted a es))
 noted_all a es T all u = subst (λ h. are_local h ≡ true) (sym (history-noted u.value a T es)) (all u)
 
+-- and so it was before the step
+pub step_all_before : (t : TxNo) (m : Step) (T : List Placed) → AllLocal (after_step t m T) → AllLocal T × (are_local (block (observe (history t.value T)) m) ≡ true)
+step_all_before t m T all = (λ u. by_name u (u.value == t.value) refl, and_left (are_local es) (are_local h) (sym (each-onto is_local h es) ∙ here))
+  where
+    h : List Entry
+    h = history t.value T
+
+    es : List Entry
+    es = block (observe h) m
+
+    here : are_local (onto h es) ≡ true
+    here = subst (λ h. are_local h ≡ true) (history-same t.value t T es (eq_self t.value)) (all t)
+
+    by_name : (u : TxNo) (b : Bool) → (u.value == t.value) ≡ b → are_local (history u.value T) ≡ true
+    by_name u true e = and_right (are_local es) (are_local (history u.value T)) (sym (each-onto is_local (history u.value T) es) ∙ subst (λ h. are_local h ≡ true) (history-same u.value t T es e) (all u))
+    by_name u false e = subst (λ h. are_local h ≡ true) (history-other u.value t T es e) (all u)
+
+pub noted_all_before : (a : ActorNo) (es : List Entry) (T : List Placed) → AllLocal (onto T (noted a es)) → AllLocal T
+noted_all_before a es T all u = subst (λ h. are_local h ≡ true) (history-noted u.value a T es) (all u)
+
 -- before the steps of a `do` or an `await`
 steps_before : (s : List Line) (t : TxNo) (k m : ℕ) (start T : List Placed) → IsLocal T → StepsRan s t k m start T → IsLocal start
 steps_before s t k zero start T l r = subst IsLocal r l
@@ -257,8 +282,7 @@ steps_local s t k (suc m) start T all l r =
     let w = world_at s t past in
     let here = pending_here w k r.2 (ih.1 t) r.4 in
     let taken = taken_step s t past r.2 r.3 (ih.1 t) here r.5 turn in
-    let ends = r.7 ∙ taken.same in
-    (
+    let ends = r.7 ∙ taken.same in (
       (past, ih.0, r.2, r.3, r.4, r.5, may_come NoCall t.value w r.3 (ih.1 t) (named_comes NoCall t.value w r.2 r.3 here r.5), ends),
       subst AllLocal (sym ends) (step_all t r.3 past ih.1 taken.home),
     )
@@ -321,6 +345,12 @@ line_calls s before a (Stop n i) start T l r = let k = subst IsLocal r l in absu
 line_calls s before a Restart start T l r = absurd (no_restart (suc (length before)) a r.0 start (subst IsLocal r.1 l))
 line_calls s before a _ start T l r = r
 
+-- and it doesn't stop the log nor open it
+line_no_log : (s before : List Line) (a : ActorNo) (b : Body) (start T : List Placed) → IsLocal T → LineRan s before (record { actor = a; body = b }) start T → is_log_line b ≡ false
+line_no_log s before a (Stop n i) start T l r = let k = subst IsLocal r l in absurd cc
+line_no_log s before a Restart start T l r = absurd (no_restart (suc (length before)) a r.0 start (subst IsLocal r.1 l))
+line_no_log s before a _ start T l r = refl
+
 -- before a line
 line_before : (s before : List Line) (l : Line) (start T : List Placed) → IsLocal T → LineRan s before l start T → IsLocal start
 line_before s before l start T k r =
@@ -340,8 +370,8 @@ line_local s before l start T all k r =
     let ran = line_calls s before l.actor l.body start T k r in
     let scope = calls_local s n l.actor (scope_calls l.body xs) (onto start (noted l.actor es)) (noted_all l.actor es start all)
     (call_before s l.actor n (call_of s l.body) (after_calls s n l.actor (scope_calls l.body xs) (onto start (noted l.actor es))) T k ran) in
-    words_local s l.actor n (call_of s l.body) (scope_after n l xs start) T scope.1 k
-    (subst (λ U. CallRan s l.actor n (call_of s l.body) U T) scope.0 ran)
+    let words = words_local s l.actor n (call_of s l.body) (scope_after n l xs start) T scope.1 k (subst (λ U. CallRan s l.actor n (call_of s l.body) U T) scope.0 ran) in
+    ((line_no_log s before l.actor l.body start T k r, words.0), words.1)
 
 -- what the lines do
 pub lines_local : (s ls : List Line) (T : List Placed) → IsLocal T → LinesRan s ls T → LinesLocal s ls T × AllLocal T
@@ -366,14 +396,14 @@ rounds_local s start (x ∷ xs) T all l r =
     let w = world_at s x.0 past in
     let here = pending_here w 1 r.2.name (ih.1 x.0) (ap (λ ns. slice_get ns 0) r.2.first) in
     let taken = taken_step s x.0 past r.2.name x.1 (ih.1 x.0) here r.2.named turn in
-    let ends = r.3 ∙ taken.same in
-    (
+    let ends = r.3 ∙ taken.same in (
       (past, ih.0, r.2, may_come NoCall x.0.value w x.1 (ih.1 x.0) (named_comes NoCall x.0.value w r.2.name x.1 here r.2.named), ends),
       subst AllLocal (sym ends) (step_all x.0 x.1 past ih.1 taken.home),
     )
 
 -- a replay in which nothing is promoted, and nothing stands at the log
-pub replayed_local : (s : List Line) (T : List Placed) → IsLocal T → IsReplayed s T → ReplayedLocal s T
+pub replayed_local : (s : List Line) (T : List Placed) → IsLocal T → IsReplayed s T → ReplayedLocal s T × AllLocal T
 replayed_local s T l r =
     let lines = lines_local s (past_of s) r.by_lines (rounds_before s r.by_lines r.turns T l r.rounds) r.lines in
-    record { by_lines = r.by_lines; lines = lines.0; turns = r.turns; rounds = (rounds_local s r.by_lines r.turns T lines.1 l r.rounds).0 }
+    let rounds = rounds_local s r.by_lines r.turns T lines.1 l r.rounds in
+    (record { by_lines = r.by_lines; lines = lines.0; turns = r.turns; rounds = rounds.0 }, rounds.1)

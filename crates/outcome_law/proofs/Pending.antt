@@ -1,14 +1,12 @@
 -- Which entries no block but a call's has.
-use Rattle.std.proofs.Common.{◌≡◌, Bool, true, false, ◌&&◌, List, [], ◌∷◌, Option, Some, None, refl}
+use Rattle.std.proofs.Common.{◌≡◌, Bool, true, false, ◌&&◌, List, [], Option, Some, None, refl}
 use Rattle.std.specs.Prelude.{is_some, find, not, if◌then◌else◌}
 use Rattle.dtx_values.specs.declared.number.EnlNo.{EnlNo}
 use Rattle.dtx_values.specs.declared.call.Call.{Call}
 use Rattle.dtx_values.specs.declared.call.Call.TheVariants.{Begin, Volatile, Durable, Promotable, Clone, Complete, Commit, Rollback, Tick, Gone}
 use Rattle.dtx_values.specs.declared.entry.Entry.{Entry}
 use Rattle.dtx_values.specs.declared.entry.Entry.TheVariants.{Called, Cloned, Enlisted, Asked, Voted, Sealed, Handed, OwnerAnswered, Decided, Told}
-use Rattle.dtx_values.specs.declared.note.Reply.{Reply}
 use Rattle.dtx_values.specs.declared.note.Reply.TheVariants.{Vote as VoteReply}
-use Rattle.dtx_values.specs.declared.script.Line.{Line}
 use Rattle.dtx_values.specs.declared.words.Outcome.{Outcome}
 use Rattle.dtx_values.specs.Clones.{is_open_rollback}
 use Rattle.dtx_model.specs.declared.listener.Listener.{Listener}
@@ -24,8 +22,7 @@ use Rattle.dtx_model.proofs.Narrow.{facts, veto_if, time_up, is_late, lost_outco
 use Rattle.dtx_values.specs.Waves.{all_voted, is_over, next_ask}
 use Rattle.dtx_model.specs.Acts.{tell}
 use Rattle.dtx_model.proofs.Narrow.{is_to_tell, before_seal, commit_act, after_seal, undecided_act, act_by, act_entries}
-use Rattle.outcome_law.proofs.Scans.{each-append, each_more}
-use Rattle.outcome_law.proofs.Picks.{passes, each_from_at, each_picked}
+use Rattle.outcome_law.proofs.Scans.{each_more}
 
 -- no call
 abbrev pub is_no_call : Step → Bool

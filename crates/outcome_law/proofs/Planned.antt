@@ -1,9 +1,8 @@
 -- Where names are made once, the plan of an enlistment that stands is the same by the calls that were entered as by the lines of the script.
-use Rattle.std.proofs.Common.{◌≡◌, ℕ, zero, suc, ◌==◌, Bool, true, false, ◌||◌, ◌⊎◌, inl, inr, List, [], ◌∷◌, Option, Some, None, refl, ap, sym, subst, ◌∙◌, slice_get}
+use Rattle.std.proofs.Common.{◌≡◌, ℕ, zero, suc, ◌==◌, Bool, true, false, ◌⊎◌, inl, inr, List, [], ◌∷◌, Option, Some, None, refl, ap, sym, subst, ◌∙◌, slice_get}
 use Rattle.std.proofs.lemmas.Bool.{eqb-true}
 use Rattle.dtx_values.specs.declared.call.Call.{Call}
 use Rattle.dtx_values.specs.declared.call.Call.TheVariants.{Volatile, Durable, Promotable}
-use Rattle.dtx_values.specs.declared.entry.Answer.{Answer}
 use Rattle.dtx_values.specs.declared.entry.Entry.{Entry}
 use Rattle.dtx_values.specs.declared.entry.Entry.TheVariants.{Called}
 use Rattle.dtx_values.specs.declared.note.Plan.{Plan}
@@ -15,7 +14,7 @@ use Rattle.dtx_model.specs.Entries.{is_call}
 use Rattle.dtx_model.specs.Calls.{call_of}
 use Rattle.dtx_model.specs.Contexts.{lines_before}
 use Rattle.dtx_model.specs.Caused.{IsCallOf}
-use Rattle.dtx_model.specs.Causes.{called_at, calls_in, entered_at, entered_by, entered_in, plans_of}
+use Rattle.dtx_model.specs.Causes.{called_at, calls_in, entered_by, entered_in, plans_of}
 use Rattle.dtx_model.specs.Grammar.{OfEnlistment, are_named_well}
 use Rattle.dtx_model.specs.Waiting.{EnteredCall, or_silent, plan_by, plan_if, plan_of, support_plan}
 use Rattle.dtx_model.proofs.Bools.{or_case}
@@ -23,7 +22,7 @@ use Rattle.outcome_law.proofs.Names.{IsCalled, call_makes, is_maker, line_makes,
 use Rattle.outcome_law.proofs.ScopeCalls.{given_call}
 
 -- the plan that a call gives the enlistment, where it was entered
-abbrev plan_in : ℕ → Option EnteredCall → Option Plan
+abbrev pub plan_in : ℕ → Option EnteredCall → Option Plan
 plan_in e (Some k) = plan_by e k.call
 plan_in e None = None
 
@@ -99,7 +98,7 @@ line_that : (s : List Line) (e : ℕ) (m : Maker s e) (n : ℕ) (a : ActorNo) �
 line_that s e m n a same = ap (λ k. line_plan s n a (kth s k) e) same ∙ ap (λ o. line_plan s n a o e) m.stands ∙ ap (λ r. plan_in e (entered_by n a r)) m.gives ∙ m.planned
 
 -- one thing put in front of others
-latest-put : (e : ℕ) (o : Option EnteredCall) (ks : List EnteredCall) → latest (λ k. plan_by e k.call) (put o ks) ≡ or_else (plan_in e o) (latest (λ k. plan_by e k.call) ks)
+pub latest-put : (e : ℕ) (o : Option EnteredCall) (ks : List EnteredCall) → latest (λ k. plan_by e k.call) (put o ks) ≡ or_else (plan_in e o) (latest (λ k. plan_by e k.call) ks)
 latest-put e (Some k) ks = refl
 latest-put e None ks = refl
 
@@ -138,7 +137,7 @@ latest-onto g p h [] one (inl w) = absurd (none w.0 w.2)
 latest-onto g p h [] one (inr f) = f
 latest-onto g p h (x ∷ xs) one (inr f) =
     latest-onto g p (x ∷ h) xs (λ k y e. one (suc k) y e)
-    (inr (elim (one zero x refl) [ | inl none ↦ that_later p (g x) (latest g h) none f | inr that ↦ that_first p (g x) (latest g h) that ]))
+    (inr (elim (one zero x refl) [ inl none ↦ that_later p (g x) (latest g h) none f | inr that ↦ that_first p (g x) (latest g h) that ]))
 latest-onto g p h (x ∷ xs) one (inl (zero, y, e, f)) =
     let same : y ≡ x = cc in
     latest-onto g p (x ∷ h) xs (λ k y e. one (suc k) y e) (inr (that_first p (g x) (latest g h) (subst (λ z. g z ≡ Some p) same f)))

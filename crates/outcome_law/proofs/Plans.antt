@@ -1,5 +1,5 @@
 -- What a script plans of votes and answers, and that a history has it.
-use Rattle.std.proofs.Common.{◌≡◌, ℕ, Bool, true, false, List, [], ◌∷◌, Option, refl}
+use Rattle.std.proofs.Common.{◌≡◌, ℕ, Bool, true, List, [], ◌∷◌, Option, refl}
 use Rattle.dtx_values.specs.declared.entry.Entry.{Entry}
 use Rattle.dtx_values.specs.declared.entry.Entry.TheVariants.{OwnerAnswered, Voted}
 use Rattle.dtx_values.specs.declared.script.Line.{Line}

@@ -1,5 +1,5 @@
 -- Runs in which nothing is promoted, by what the local side has seen; and a run in which no promotion begins is one.
-use Rattle.std.proofs.Common.{◌≡◌, ◌⊎◌, inl, inr, ℕ, Bool, true, false, ◌&&◌, ◌||◌, List, [], ◌∷◌, refl, ap, sym, ◌∙◌}
+use Rattle.std.proofs.Common.{◌≡◌, ◌⊎◌, inl, inr, ℕ, true, false, List, [], ◌∷◌, refl, ap, sym, ◌∙◌}
 use Rattle.std.specs.Prelude.{not}
 use Rattle.dtx_values.specs.declared.call.Call.{Call}
 use Rattle.dtx_values.specs.declared.entry.Entry.{Entry}
@@ -51,30 +51,37 @@ may_come G t w (Delivers c d) p q = absurd (not_both (has_left c d w.past) q (le
 may_come G t w Stops p q = absurd (not_both (has is_begin_sent w.past) (and_left (has is_begin_sent w.past) (not (core w).stopped) q) (begin-local w.past p))
 may_come G t w (Restarts found) p q = absurd (not_both (has is_begin_sent w.past) q (begin-local w.past p))
 
--- what steps make in which no promotion begins, they make by what the local side has seen
-ran_local : (G : ℕ → ActorNo → Call → Type 0) (t : ℕ) (ms : List Step) (w : World) → Ran G t ms w → has is_promoting_entry w.past ≡ false → RanLocal G ms w.past
+-- what the last step of a run without a promotion did
+pub record RanBefore (G : ℕ → ActorNo → Call → Type 0) (v w : World) (m : Step) : Type 0 where
+  pub unpromoted : has is_promoting_entry v.past ≡ false
+  pub home : are_local v.past ≡ true
+  pub may : MayComeLocal G v.past m
+  pub past : w.past ≡ onto v.past (block (observe v.past) m)
+
+pub ran_before : (G : ℕ → ActorNo → Call → Type 0) (t : ℕ) (m : Step) (ms : List Step) (w : World) (r : Ran G t (m ∷ ms) w) → has is_promoting_entry w.past ≡ false → RanBefore G r.0 w m
 unfolding after
-ran_local G t [] w r q = r.1
-ran_local G t (m ∷ ms) w r q =
+ran_before G t m ms w r q =
     let v = r.0 in
     let e = ap (λ (w : World). w.past) r.3 in
     let none = sym (has-onto is_promoting_entry v.past (block_at t v m)) ∙ ap (has is_promoting_entry) (sym e) ∙ q in
     let before = or_second (has is_promoting_entry (block_at t v m)) (has is_promoting_entry v.past) none in
-    let home = free-local G t v.past (v.calls, (ms, r.1)) (unpromoted v.past before) in
-    (
-      v.past,
-      ran_local G t ms v r.1 before,
-      may_come G t v m home r.2,
-      e ∙ ap (onto v.past) (same t v m (or_first (has is_promoting_entry (block_at t v m)) (has is_promoting_entry v.past) none) (step-narrow G t v m home r.2)),
-    )
+    let home = free-local G t v.past (v.calls, (ms, r.1)) (ap not before) in
+    record {
+      unpromoted = before;
+      home = home;
+      may = may_come G t v m home r.2;
+      past = e ∙ ap (onto v.past) (same t v m (or_first (has is_promoting_entry (block_at t v m)) (has is_promoting_entry v.past) none) (step-narrow G t v m home r.2));
+    }
   where
-    unpromoted : (h : List Entry) → has is_promoting_entry h ≡ false → is_unpromoted h ≡ true
-    unpromoted h n = ap not n
-
     same : (t : ℕ) (v : World) (m : Step) → has is_promoting_entry (block_at t v m) ≡ false → (has is_promoting_entry (block_at t v m) ≡ true) ⊎ IsNarrow t v m
         → block_at t v m ≡ block (observe v.past) m
     same t v m n (inl k) = absurd (not_both (has is_promoting_entry (block_at t v m)) k n)
     same t v m n (inr k) = k.0
+
+-- what steps make in which no promotion begins, they make by what the local side has seen
+ran_local : (G : ℕ → ActorNo → Call → Type 0) (t : ℕ) (ms : List Step) (w : World) → Ran G t ms w → has is_promoting_entry w.past ≡ false → RanLocal G ms w.past
+ran_local G t [] w r q = r.1
+ran_local G t (m ∷ ms) w r q = let b = ran_before G t m ms w r q in (r.0.past, ran_local G t ms r.0 r.1 b.unpromoted, b.may, b.past)
 
 -- what is freely caused and in which nothing is promoted is such a run
 pub free_run : (G : ℕ → ActorNo → Call → Type 0) (t : ℕ) (h : List Entry) → FreelyCaused G t h → is_unpromoted h ≡ true → IsLocalRun G h

@@ -4,10 +4,9 @@ use Rattle.std.specs.Prelude.{if◌then◌else◌}
 use Rattle.std.specs.List.{slice_get}
 use Rattle.dtx_values.specs.declared.number.TxNo.{TxNo}
 use Rattle.dtx_values.specs.declared.call.Call.{Call}
-use Rattle.dtx_values.specs.declared.call.Call.TheVariants.{Begin, Commit, Rollback, Await, Do}
+use Rattle.dtx_values.specs.declared.call.Call.TheVariants.{Begin, Commit, Rollback}
 use Rattle.dtx_values.specs.declared.entry.Answer.{Answer}
 use Rattle.dtx_values.specs.declared.entry.Answer.TheVariants.{Fine, Nested}
-use Rattle.dtx_values.specs.declared.entry.Entry.{Entry}
 use Rattle.dtx_values.specs.declared.scope.Closed.{Closed}
 use Rattle.dtx_values.specs.declared.scope.Closed.TheVariants.{Commit as CommitAtClose, Rollback as RollbackAtClose, Nothing}
 use Rattle.dtx_values.specs.declared.scope.Entered.{Entered}

@@ -6,11 +6,10 @@ use Rattle.dtx_values.specs.declared.note.Note.{Note}
 use Rattle.dtx_values.specs.declared.script.Line.{Line}
 use Rattle.dtx_model.specs.Observed.{Observed, observe, rows}
 use Rattle.dtx_model.specs.Waiting.{managed, plan_of}
-use Rattle.dtx_model.specs.Half.{Half}
 use Rattle.dtx_model.specs.Acts.{act_entries as full_act}
 use Rattle.dtx_model.specs.Replies.{all_due, is_answered}
 use Rattle.dtx_model.specs.World.{half}
-use Rattle.dtx_model.specs.Turns.{StepName, ReplyOf, local_if, local_pending, replies_due}
+use Rattle.dtx_model.specs.Turns.{ReplyOf, local_if, local_pending, replies_due}
 use Rattle.dtx_model.specs.Caused.{IsCallOf}
 use Rattle.dtx_model.specs.Causes.{Settled, entered_in, plans_of, world_of}
 use Rattle.dtx_model.specs.Grammar.{OfEnlistment, are_named_well}
@@ -65,7 +64,7 @@ settled_replies : (s : List Line) (h : List Entry) → are_local h ≡ true → 
 settled_replies s h p e =
     ap (λ (o : Observed). filter (is_answered (plan_of (entered_in s h))) (all_due o)) (sym (observe-local h p))
     ∙ no_name (filter (is_answered (plan_of (entered_in s h))) (all_due (observe h)))
-      (append_first (replies_due (plan_of (entered_in s h)) (half (world_of s h))) (local_if (full_act (half (world_of s h)))) (settled_here s h p e))
+    (append_first (replies_due (plan_of (entered_in s h)) (half (world_of s h))) (local_if (full_act (half (world_of s h)))) (settled_here s h p e))
 
 -- and to none the script's line has an answer
 pub settled_unplanned : (s : List Line) (t : ℕ) (h : List Entry) → are_named_well s ≡ true → IsLocalRun (IsCallOf s t) h → are_local h ≡ true → ruled h ≡ true → Settled s h → AreUnplanned s h

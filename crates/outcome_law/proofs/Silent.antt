@@ -1,11 +1,10 @@
 -- Where a history is settled and commit was asked, the client was told, or there is something that it waits for.
-use Rattle.std.proofs.Common.{◌≡◌, ◌==◌, ℕ, Bool, true, false, ◌&&◌, ◌||◌, zero, suc, List, [], ◌∷◌, slice_get, Option, Some, None, inl, inr, refl, ◌∙◌, ap, sym, subst}
+use Rattle.std.proofs.Common.{◌≡◌, ◌==◌, ℕ, Bool, true, false, ◌&&◌, ◌||◌, zero, suc, List, [], ◌∷◌, slice_get, Option, Some, None, refl, ◌∙◌, ap, sym}
 use Rattle.std.specs.Prelude.{is_some, is_none, not, find, if◌then◌else◌}
-use Rattle.std.proofs.lemmas.Bool.{eqb-true, cases_Bool, false_from_ne_true}
+use Rattle.std.proofs.lemmas.Bool.{eqb-true, false_from_ne_true}
 use Rattle.dtx_values.specs.declared.number.EnlNo.{EnlNo}
 use Rattle.dtx_values.specs.declared.entry.Entry.{Entry}
-use Rattle.dtx_values.specs.declared.entry.Entry.TheVariants.{Asked, Enlisted, Lost, Voted}
-use Rattle.dtx_values.specs.declared.entry.Ask.TheVariants.{Prepare}
+use Rattle.dtx_values.specs.declared.entry.Entry.TheVariants.{Lost}
 use Rattle.dtx_values.specs.declared.script.Line.{Line}
 use Rattle.dtx_values.specs.declared.words.Class.{Class}
 use Rattle.dtx_values.specs.declared.words.Outcome.{Outcome}
@@ -14,7 +13,7 @@ use Rattle.dtx_values.specs.Class.{is_volatile}
 use Rattle.dtx_values.specs.Clones.{blocks}
 use Rattle.dtx_values.specs.Row.{has_voted, is_marked}
 use Rattle.dtx_model.specs.Words.{has, each, latest, all_of}
-use Rattle.dtx_model.specs.Entries.{client_told_of, clone_of, decision_of, handed_of, is_any_owner, is_asked, is_commit, is_decision, is_hand, is_lost, is_sealed, is_vote}
+use Rattle.dtx_model.specs.Entries.{client_told_of, clone_of, decision_of, handed_of, is_any_owner, is_commit, is_decision, is_hand, is_lost, is_sealed, is_vote}
 use Rattle.dtx_model.specs.Observed.{observe, rows}
 use Rattle.dtx_model.specs.Outcome.{can_own, durables, enlisted, is_complete}
 use Rattle.dtx_model.specs.Half.{is_gone, is_handed}
@@ -23,12 +22,11 @@ use Rattle.dtx_model.specs.Causes.{plans_of}
 use Rattle.dtx_model.proofs.Narrow.{act_by, act_entries, due_note, is_to_tell, open_note}
 use Rattle.dtx_model.specs.Histories.{is_silent, is_waiting}
 use Rattle.std.proofs.lemmas.Bool.{or_left}
-use Rattle.dtx_model.proofs.Bools.{and_both, and_left, and_never, and_right, not_both, not_true, or_case, or_first, or_right, or_second}
-use Rattle.outcome_law.proofs.Tests.{third_of_four}
+use Rattle.dtx_model.proofs.Bools.{and_both, and_left, and_right, or_case, or_first, or_right, or_second}
 use Rattle.outcome_law.proofs.Scans.{each-at, each_more, has_less}
 use Rattle.outcome_law.proofs.Picks.{each_from_at}
-use Rattle.outcome_law.proofs.Dues.{is_lasting_of, is_unplanned, one_class, voted_volatile}
-use Rattle.outcome_law.proofs.Rule.{is_enlisted, is_only, is_answer, is_volatile_of, first_rule, other_rules, ruled}
+use Rattle.outcome_law.proofs.Dues.{is_unplanned, one_class, voted_volatile}
+use Rattle.outcome_law.proofs.Rule.{is_only, is_answer, ruled}
 use Rattle.outcome_law.proofs.TableRows.{open_blocks, row_marked, row_voted}
 use Rattle.outcome_law.proofs.Rules.{undecided}
 use Rattle.outcome_law.proofs.Evidence.{hand_stands}

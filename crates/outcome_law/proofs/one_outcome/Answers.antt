@@ -1,4 +1,3 @@
-use Rattle.dtx_model.specs.Caused.{IsCallOf}
 use Rattle.outcome_law.proofs.Rules.{ruled_justified, ruled_agree}
 use Rattle.outcome_law.proofs.Blocks.{script_kept}
 use Rattle.outcome_law.proofs.Beyond.{ruled_learned}
