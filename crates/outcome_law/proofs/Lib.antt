@@ -34,3 +34,4 @@ pub mod ReplayExample
 pub mod PromotionExample
 pub mod PlannedReplays
 pub mod Determined
+pub mod OtherTraces
