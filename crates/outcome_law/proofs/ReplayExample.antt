@@ -145,10 +145,11 @@ unfolding observe pending local_pending all_due due_of act_entries hears coordin
 settled_all t true e = subst (λ h. Settled script h) (sym (history-same t.value t1 [] whole e)) refl
 settled_all t false e = subst (λ h. Settled script h) (sym (history-other t.value t1 [] whole e)) refl
 
--- each reply is as planned, and none is an object's
-planned_all : (t : TxNo) (b : Bool) → (t.value == 1) ≡ b → always (is_as_planned (plans_of script) (has_object script 0)) (history t.value (at_t1 whole)) ≡ true
-planned_all t true e = subst (λ h. always (is_as_planned (plans_of script) (has_object script 0)) h ≡ true) (sym (history-same t.value t1 [] whole e)) refl
-planned_all t false e = subst (λ h. always (is_as_planned (plans_of script) (has_object script 0)) h ≡ true) (sym (history-other t.value t1 [] whole e)) refl
+-- where each reply of t1's is as planned, and none is an object's, it is so of each transaction's
+pub planned_at_t1 : (s : List Line) (es : List Entry) → always (is_as_planned (plans_of s) (has_object s 0)) (past_of es) ≡ true → (t : TxNo) (b : Bool) → (t.value == 1) ≡ b
+    → always (is_as_planned (plans_of s) (has_object s 0)) (history t.value (at_t1 es)) ≡ true
+planned_at_t1 s es k t true e = subst (λ h. always (is_as_planned (plans_of s) (has_object s 0)) h ≡ true) (sym (history-same t.value t1 [] es e)) k
+planned_at_t1 s es k t false e = subst (λ h. always (is_as_planned (plans_of s) (has_object s 0)) h ≡ true) (sym (history-other t.value t1 [] es e)) refl
 
 -- nothing is promoted in any transaction
 promoted_none : (t : TxNo) (b : Bool) → (t.value == 1) ≡ b → promotes script t.value (history t.value (at_t1 whole)) ≡ true
@@ -158,7 +159,7 @@ promoted_none t false e = subst (λ h. promotes script t.value h ≡ true) (sym 
 
 -- each transaction is caused by the script
 all_caused : (t : TxNo) → Caused script 0 t.value (history t.value (at_t1 whole))
-all_caused = replayed_caused script (at_t1 whole) is_replayed refl 0 (λ t. planned_all t (t.value == 1) refl)
+all_caused = replayed_caused script (at_t1 whole) is_replayed refl 0 (λ t. planned_at_t1 script whole refl t (t.value == 1) refl)
 
 -- the trace is a history of the script
 pub is_history : IsHistory script 0 0 (placed t1 whole)
