@@ -37,3 +37,4 @@ pub mod LossExample
 pub mod PromotionExample
 pub mod PlannedReplays
 pub mod Determined
+pub mod OtherTraces
