@@ -14,7 +14,6 @@ use Rattle.dtx_model.specs.Turns.{Step, Calls, StepName, pending}
 use Rattle.dtx_model.specs.Causes.{IsNamed, Settled}
 use Rattle.dtx_model.specs.AtLog.{is_local_trace}
 use Rattle.dtx_model.specs.Histories.{IsHistory, IsReplay}
-use Rattle.dtx_model.specs.Grammar.{are_named_well}
 use Rattle.dtx_model.specs.Replay.{Placed, history, is_passed}
 use Rattle.dtx_model.specs.Replays.{IsTurn, last_turn, world_at}
 use Rattle.dtx_model.proofs.Narrow.{block}
@@ -242,9 +241,9 @@ past_local : (T : List Placed) → IsLocal T → IsLocal (past_of T)
 past_local T l = each-past is_local_place T ∙ l
 
 -- a script has one trace
-pub history_same : (s : List Line) (T U : List Placed) (rise : ℕ) (honest : Bool) → are_named_well s ≡ true → IsHistory s 0 rise T → IsReplay s rise honest T → IsHistory s 0 rise U
+pub history_same : (s : List Line) (T U : List Placed) (rise : ℕ) (honest : Bool) → IsHistory s 0 rise T → IsReplay s rise honest T → IsHistory s 0 rise U
     → IsReplay s rise honest U → is_local_trace T ≡ true → is_local_trace U ≡ true → T ≡ U
-history_same s T U rise honest named a r b q l k =
+history_same s T U rise honest a r b q l k =
     past_same T U
     (replayed_same s (past_of T) (past_of U) a.settled b.settled (λ t. (a.caused t).planned) (λ t. (b.caused t).planned) (replayed_local s (past_of T) (past_local T l) r.replayed).0
     (replayed_local s (past_of U) (past_local U k) q.replayed).0)

@@ -15,7 +15,7 @@ use Rattle.outcome_law.proofs.ReplayExample.{did, is_history, is_replay, script,
 
 -- a replay of the script in which nothing is promoted has that trace and no other
 pub no_other : (T : List Placed) → is_local_trace T ≡ true → IsHistory script 0 0 T → IsReplay script 0 true T → placed t1 whole ≡ T
-no_other T l h r = history_same script (placed t1 whole) T 0 true refl is_history is_replay h r refl l
+no_other T l h r = history_same script (placed t1 whole) T 0 true is_history is_replay h r refl l
 
 -- an entry says that a `do` did one step, that the outcome isn't told yet, or that e1 votes no
 abbrev says_one : Placed → Bool

@@ -97,7 +97,7 @@ pub fn replay()
     ensures alone { (s xs ys : List Line) (l : Line) (T : List Placed) (t u : TxNo) (e : EnlNo) (r : RmNo) (x : Support) → s ≡ xs ++ l ∷ ys → are_named_well s ≡ true
         → LinesRan s (past_of xs) T → is_local_trace T ≡ true → is_run_line (past_of xs) l ≡ true → call_of s l.body ≡ Some (t, Durable u e r x)
         → has is_lasting (rows (history t.value T)) ≡ false }
-    ensures determined { (s : List Line) (T U : List Placed) (rise : ℕ) (honest : Bool) → are_named_well s ≡ true → IsHistory s 0 rise T → IsReplay s rise honest T
+    ensures determined { (s : List Line) (T U : List Placed) (rise : ℕ) (honest : Bool) → IsHistory s 0 rise T → IsReplay s rise honest T
         → IsHistory s 0 rise U → IsReplay s rise honest U → is_local_trace T ≡ true → is_local_trace U ≡ true → T ≡ U }
 {}
 
