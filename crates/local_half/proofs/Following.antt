@@ -30,7 +30,8 @@ use Rattle.dtx_model.proofs.Bools.{not_false}
 use Rattle.dtx_model.proofs.Heeding.{half_behind, heeds_all_same}
 use Rattle.dtx_model.proofs.Lifting.{lift_ran}
 use Rattle.dtx_model.proofs.Quiet.{q_cons, q_facts, q_gone_decides}
-use Rattle.local_half.specs.Half.{Follows, IsAtHome, Known, after as known_after, is_done, is_its_own, is_wait, with_call}
+use Rattle.local_half.specs.Half.{Follows, IsAtHome, Known, after as known_after, fits_due, is_done, is_its_own, is_wait, with_call}
+use Rattle.local_half.proofs.Home.{owed}
 
 n_is : (n : ℕ) → (n == n) ≡ true
 n_is n = grind (arith, nat_tests)
@@ -90,12 +91,18 @@ called t w h g n a c f fresh o e =
     (still_in (record { line = n; actor = a; call = c }) w.calls) (own_block t w n a c o ∙ ap (λ (x : Half). call_entries t x n a c) f.knows) e
 
 -- a reply that is due and fits
-pub replied : (t : ℕ) (w : World) (h g : Half) (e : EnlNo) (r : Reply) (n : Note) → Follows t w h → due_of h.seen e.value ≡ Some n → fits r n ≡ true
+replied_to : (t : ℕ) (w : World) (h g : Half) (e : EnlNo) (r : Reply) (n : Note) → Follows t w h → due_of h.seen e.value ≡ Some n → fits r n ≡ true
     → g ≡ heeds_all [] h (reply_entries h e r) → Follows t (after t w (Replies e r)) g
 unfolding block_at
-replied t w h g e r n f due fit same =
+replied_to t w h g e r n f due fit same =
     goes_on t w h g (Replies e r) (reply_entries h e r) f (n, ap (λ (x : Half). due_of x.seen e.value) f.knows ∙ due, fit) (λ m a c i. i)
     (ap (λ (x : Half). reply_entries x e r) f.knows) same
+
+pub replied : (k g : Known) (w : World) (e : EnlNo) (r : Reply) → Follows k.transaction.value w k.half → is_some (due_of k.half.seen e.value) ≡ true → fits_due r (due_of k.half.seen e.value) ≡ true
+    → g ≡ known_after [] k (reply_entries k.half e r) → Follows k.transaction.value (after k.transaction.value w (Replies e r)) g.half
+replied k g w e r f due fit same =
+    let n = owed k.half e.value r due fit in
+    replied_to k.transaction.value w k.half g.half e r n.note f n.stands n.fit (ap (λ (x : Known). x.half) same)
 
 -- the local act, where one is pending
 pub acted : (t : ℕ) (w : World) (h g : Half) → Follows t w h → is_empty (act_entries h) ≡ false → g ≡ heeds_all [] h (act_entries h) → Follows t (after t w Acts) g

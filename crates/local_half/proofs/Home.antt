@@ -19,7 +19,7 @@ use Rattle.dtx_model.specs.Replies.{due_of, fits, note_at, reply_entries, row_no
 use Rattle.dtx_model.proofs.Narrow.{reply_entries as narrow_reply, veto_if as narrow_veto}
 use Rattle.dtx_model.proofs.NarrowReplies.{IsDue, due-narrow, reply-narrow}
 use Rattle.dtx_model.proofs.Unpromoted.{at_home, narrow}
-use Rattle.local_half.specs.Half.{IsAtHome, fits_due}
+use Rattle.local_half.specs.Half.{IsAtHome, MayReply, fits_due, made_by}
 use Rattle.local_half.proofs.Notes.{or_none}
 
 -- what is found passes the test, and may pass another
@@ -46,7 +46,7 @@ note_there h x home there =
     by false n k = or_none n
 
 -- an enlistment of which a vote is due was asked
-pub voter_asked : (h : Half) (e : ℕ) (v : Vote) (n : Note) → IsAtHome h → due_of h.seen e ≡ Some n → fits (VoteReply v) n ≡ true → was_asked e h.seen.table ≡ true
+voter_asked : (h : Half) (e : ℕ) (v : Vote) (n : Note) → IsAtHome h → due_of h.seen e ≡ Some n → fits (VoteReply v) n ≡ true → was_asked e h.seen.table ≡ true
 voter_asked h e v n home d f = by (why_due h e n home d)
   where
     by : IsDue h.seen e n → was_asked e h.seen.table ≡ true
@@ -68,7 +68,7 @@ unfit (PromoteReply ok) n o f (inr q) = let k : fits (PromoteReply ok) Hand ≡ 
 unfit Ack n o f (inl q) = let k : fits Ack Prepare ≡ true = subst (λ (m : Note). fits Ack m ≡ true) q f in absurd (cc)
 unfit Ack n o f (inr q) = let k : fits Ack Hand ≡ true = subst (λ (m : Note). fits Ack m ≡ true) q f in absurd (cc)
 
-pub neither_made : (h : Half) (e : ℕ) (r : Reply) (n : Note) → IsAtHome h → due_of h.seen e ≡ Some n → fits r n ≡ true → ((ok : Bool) × (r ≡ PromoteReply ok)) ⊎ (r ≡ Ack) → ⊥
+neither_made : (h : Half) (e : ℕ) (r : Reply) (n : Note) → IsAtHome h → due_of h.seen e ≡ Some n → fits r n ≡ true → ((ok : Bool) × (r ≡ PromoteReply ok)) ⊎ (r ≡ Ack) → ⊥
 unfolding is_other
 neither_made h e r n home d f other = unfit r n (is_one other) f (note_of (why_due h e n home d))
   where
@@ -98,7 +98,7 @@ narrow_made : (h : Half) (e : EnlNo) (r : Reply) (n : Note) → IsAtHome h → d
 narrow_made h e r n home d f =
     ap (λ (g : Half). reply_entries g e r) home.same ∙ reply-narrow h.seen h.managers e r n (ap (λ (g : Half). due_of g.seen e.value) (sym home.same) ∙ d) f
 
-pub vote_made : (h : Half) (e : EnlNo) (v : Vote) (n : Note) → IsAtHome h → due_of h.seen e.value ≡ Some n → fits (VoteReply v) n ≡ true
+vote_made : (h : Half) (e : EnlNo) (v : Vote) (n : Note) → IsAtHome h → due_of h.seen e.value ≡ Some n → fits (VoteReply v) n ≡ true
     → reply_entries h e (VoteReply v) ≡ Voted e v ∷ veto_if (is_no v) (sees h (Voted e v))
 unfolding veto track
 vote_made h e v n home d f =
@@ -108,8 +108,21 @@ vote_made h e v n home d f =
     by true = refl
     by false = refl
 
-pub answer_made : (h : Half) (e : EnlNo) (x : Outcome) (n : Note) → IsAtHome h → due_of h.seen e.value ≡ Some n → fits (OwnerReply x) n ≡ true
+answer_made : (h : Half) (e : EnlNo) (x : Outcome) (n : Note) → IsAtHome h → due_of h.seen e.value ≡ Some n → fits (OwnerReply x) n ≡ true
     → reply_entries h e (OwnerReply x) ≡ OwnerAnswered e x ∷ decide (sees h (OwnerAnswered e x)) x
 unfolding track
 answer_made h e x n home d f =
     narrow_made h e (OwnerReply x) n home d f ∙ subst (λ (g : Half). OwnerAnswered e x ∷ Decided x ∷ [] ≡ OwnerAnswered e x ∷ decide (sees g (OwnerAnswered e x)) x) (sym home.same) refl
+
+-- where a reply is due it may be taken, and makes no more than this
+pub may_reply : (h : Half) (e : EnlNo) (r : Reply) → IsAtHome h → Owed h e.value r → MayReply h.seen e r
+may_reply h e (VoteReply v) home due = voter_asked h e.value v due.note home due.stands due.fit
+may_reply h e (OwnerReply x) home due = tt
+may_reply h e (PromoteReply ok) home due = neither_made h e.value (PromoteReply ok) due.note home due.stands due.fit (inl (ok, refl))
+may_reply h e Ack home due = neither_made h e.value Ack due.note home due.stands due.fit (inr refl)
+
+pub reply_made : (h : Half) (e : EnlNo) (r : Reply) → IsAtHome h → Owed h e.value r → reply_entries h e r ≡ made_by h e r
+reply_made h e (VoteReply v) home due = vote_made h e v due.note home due.stands due.fit
+reply_made h e (OwnerReply x) home due = answer_made h e x due.note home due.stands due.fit
+reply_made h e (PromoteReply ok) home due = absurd (neither_made h e.value (PromoteReply ok) due.note home due.stands due.fit (inl (ok, refl)))
+reply_made h e Ack home due = absurd (neither_made h e.value Ack due.note home due.stands due.fit (inr refl))

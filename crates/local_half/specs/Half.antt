@@ -1,5 +1,5 @@
 -- The local side of a transaction.
-use Rattle.std.specs.Prelude.{ℕ, ◌≡◌, ◌||◌, Bool, true, false, not, List, Option, Some, None, is_some}
+use Rattle.std.specs.Prelude.{ℕ, ◌≡◌, ◌||◌, Bool, true, false, not, List, [], ◌∷◌, Option, Some, None, is_some}
 use Rattle.dtx_values.specs.declared.call.Call.{Call}
 use Rattle.dtx_values.specs.declared.call.Call.TheVariants.{Marshal, Await, Do, Lose, Gone, Reenlist, Recovered}
 use Rattle.dtx_values.specs.declared.entry.Answer.{Answer}
@@ -9,6 +9,8 @@ use Rattle.dtx_values.specs.declared.entry.Entry.{Entry}
 use Rattle.dtx_values.specs.declared.entry.Entry.TheVariants.{Began, Cloned, Completed, Enlisted, Init, CommitAsked, RollbackAsked, Clock, TimedOut, Late, Asked, Voted, Sealed, Handed, OwnerAnswered, Decided, Told, Lost}
 use Rattle.dtx_values.specs.declared.note.Note.{Note}
 use Rattle.dtx_values.specs.declared.note.Reply.{Reply}
+use Rattle.dtx_values.specs.declared.note.Reply.TheVariants.{Vote as VoteReply, Owner as OwnerReply}
+use Rattle.dtx_values.specs.declared.number.EnlNo.{EnlNo}
 use Rattle.dtx_values.specs.declared.number.TxNo.{TxNo}
 use Rattle.dtx_values.specs.Class.{is_volatile}
 use Rattle.dtx_values.specs.Row.{is_lasting}
@@ -17,7 +19,8 @@ use Rattle.dtx_model.specs.declared.listener.Listener.{Listener}
 use Rattle.dtx_model.specs.Words.{has}
 use Rattle.dtx_model.specs.Observed.{Observed}
 use Rattle.dtx_model.specs.Waiting.{EnteredCall, managed_by}
-use Rattle.dtx_model.specs.Half.{Half, heeds_all}
+use Rattle.dtx_values.specs.Vote.{is_no}
+use Rattle.dtx_model.specs.Half.{Half, decide, heeds_all, sees, veto_if}
 use Rattle.dtx_model.specs.Replies.{fits}
 use Rattle.dtx_model.specs.World.{World, half as half_at}
 use Rattle.dtx_model.specs.Causes.{IsOwnRun}
@@ -69,6 +72,18 @@ is_done _ = false
 abbrev pub fits_due : Reply → Option Note → Bool
 fits_due r (Some n) = fits r n
 fits_due r None = true
+
+-- the reply is a vote of one that was asked, or an owner's answer
+abbrev pub MayReply : Observed → EnlNo → Reply → Type 0
+MayReply o e (VoteReply v) = was_asked e.value o.table ≡ true
+MayReply o e (OwnerReply x) = Unit {0}
+MayReply o e _ = ⊥
+
+-- what such a reply makes while nothing is promoted: the vote, and a veto where it is No; or the owner's answer, and the decision by it
+abbrev pub made_by : Half → EnlNo → Reply → List Entry
+made_by h e (VoteReply v) = Voted e v ∷ veto_if (is_no v) (sees h (Voted e v))
+made_by h e (OwnerReply x) = OwnerAnswered e x ∷ decide (sees h (OwnerAnswered e x)) x
+made_by h e _ = []
 
 -- nothing of a promotion is known, and no call waits
 pub record IsAtHome (h : Half) : Type 0 where

@@ -5,7 +5,7 @@ ghost use Rattle.dtx_model.specs.Replies.{all_due, due_of, fits, note_at, reply_
 ghost use Rattle.dtx_model.specs.Turns.{Replies, after as world_after};
 ghost use Rattle.dtx_model.specs.Words.{kth};
 ghost use Rattle.dtx_model.specs.World.{World};
-ghost use Rattle.local_half.specs.Half.{Follows, after, fits_due};
+ghost use Rattle.local_half.specs.Half.{Follows, MayReply, after, fits_due, made_by};
 
 use super::LocalHalf;
 use dtx_values::{EnlNo, Entry, Note, Outbox, Reply, Row};
@@ -91,6 +91,17 @@ impl LocalHalf {
         }
     }
 
+    /// Whether a reply of the enlistment is due: a vote or an owner's answer, since nothing is promoted.
+    fn owes(&self, e: EnlNo, r: Reply) -> bool
+        requires { fits_due r (due_of self.now.half.seen e.value) ≡ true }
+        ensures due { result ≡ is_some (due_of self.now.half.seen e.value) }
+        ensures taken { result ≡ true → MayReply self.now.half.seen e r }
+        ensures made { result ≡ true → reply_entries self.now.half e r ≡ made_by self.now.half e r }
+    {
+        self.is_at_home();
+        self.due_of(e).is_some()
+    }
+
     /// Takes a reply; false exactly where none of the enlistment is due, and then nothing changes. A vote No is a veto, and an owner's answer decides.
     pub fn reply(&mut self, e: EnlNo, r: Reply, out: &mut Outbox) -> bool
         requires fits { fits_due r (due_of self.old.half.seen e.value) ≡ true }
@@ -102,10 +113,9 @@ impl LocalHalf {
         ensures unwritten { result ≡ false → out.new ≡ out.old }
         ensures runs { (w : World) → Follows self.old.transaction.value w self.old.half → result ≡ true → Follows self.old.transaction.value (world_after self.old.transaction.value w (Replies e r)) self.new.half }
     {
-        if self.due_of(e).is_none() {
+        if !self.owes(e, r) {
             return false;
         }
-        self.is_at_home();
         match r {
             Reply::Vote(v) => {
                 self.write(Entry::Voted(e, v), out);
