@@ -15,11 +15,11 @@ use Rattle.dtx_values.specs.declared.number.TxNo.{TxNo}
 use Rattle.dtx_values.specs.Class.{is_volatile}
 use Rattle.dtx_values.specs.Row.{is_lasting}
 use Rattle.dtx_values.specs.Table.{was_asked}
+use Rattle.dtx_values.specs.Vote.{is_no}
 use Rattle.dtx_model.specs.declared.listener.Listener.{Listener}
 use Rattle.dtx_model.specs.Words.{has}
 use Rattle.dtx_model.specs.Observed.{Observed}
 use Rattle.dtx_model.specs.Waiting.{EnteredCall, managed_by}
-use Rattle.dtx_values.specs.Vote.{is_no}
 use Rattle.dtx_model.specs.Half.{Half, decide, heeds_all, sees, veto_if}
 use Rattle.dtx_model.specs.Replies.{fits}
 use Rattle.dtx_model.specs.World.{World, half as half_at}
