@@ -1,5 +1,5 @@
 -- What the definitions come to where nothing of a promotion is known and no call waits.
-use Rattle.std.proofs.Common.{◌≡◌, ℕ, ◌&&◌, ◌||◌, Bool, true, false, List, [], ◌∷◌, Option, Some, None, is_some, find, cond, ◌⊎◌, inl, inr, refl, ap, subst, sym, ◌∙◌}
+use Rattle.std.proofs.Common.{◌≡◌, ℕ, ◌&&◌, ◌||◌, Bool, true, false, List, [], ◌∷◌, Option, Some, None, is_some, find, cond, if◌then◌else◌, ◌⊎◌, inl, inr, refl, ap, subst, sym, ◌∙◌}
 use Rattle.dtx_values.specs.declared.entry.Entry.TheVariants.{Decided, OwnerAnswered, Voted}
 use Rattle.dtx_values.specs.declared.note.Note.{Note}
 use Rattle.dtx_values.specs.declared.note.Note.TheVariants.{Prepare, Hand}
@@ -8,17 +8,19 @@ use Rattle.dtx_values.specs.declared.note.Reply.TheVariants.{Vote as VoteReply, 
 use Rattle.dtx_values.specs.declared.number.EnlNo.{EnlNo}
 use Rattle.dtx_values.specs.declared.words.Outcome.{Outcome}
 use Rattle.dtx_values.specs.declared.words.Vote.{Vote}
+use Rattle.dtx_values.specs.declared.row.Row.{Row}
 use Rattle.dtx_values.specs.Row.{is_marked, is_of}
 use Rattle.dtx_values.specs.Table.{was_asked}
 use Rattle.dtx_values.specs.Vote.{is_no}
-use Rattle.dtx_model.specs.Words.{has}
+use Rattle.dtx_model.specs.Words.{has, or_else}
 use Rattle.dtx_model.specs.Observed.{track}
-use Rattle.dtx_model.specs.Half.{Half, decide, sees, veto, veto_if}
-use Rattle.dtx_model.specs.Replies.{due_of, fits, reply_entries}
+use Rattle.dtx_model.specs.Half.{Half, decide, is_gone, sees, veto, veto_if}
+use Rattle.dtx_model.specs.Replies.{due_of, fits, note_at, reply_entries, row_note}
 use Rattle.dtx_model.proofs.Narrow.{reply_entries as narrow_reply, veto_if as narrow_veto}
 use Rattle.dtx_model.proofs.NarrowReplies.{IsDue, due-narrow, reply-narrow}
-use Rattle.dtx_model.proofs.Unpromoted.{at_home}
+use Rattle.dtx_model.proofs.Unpromoted.{at_home, narrow}
 use Rattle.local_half.specs.Half.{IsAtHome, fits_due}
+use Rattle.local_half.proofs.Notes.{or_none}
 
 -- what is found passes the test, and may pass another
 found : {A : Type 0} (p q : A → Bool) (xs : List A) (x : A) → find p xs ≡ Some x → q x ≡ true → has (λ y. p y && q y) xs ≡ true
@@ -30,8 +32,18 @@ found p q (y ∷ ys) x f k = step (p y) f (λ g. found p q ys x g k)
     step false f rest = rest f
 
 -- why a reply is due
-why_due : (h : Half) (e : ℕ) (n : Note) → IsAtHome h → due_of h.seen e ≡ Some n → IsDue h.seen e n
+pub why_due : (h : Half) (e : ℕ) (n : Note) → IsAtHome h → due_of h.seen e ≡ Some n → IsDue h.seen e n
 why_due h e n home d = due-narrow h.seen e n (ap (λ (g : Half). due_of g.seen e) (sym home.same) ∙ d)
+
+-- to what a reply is due of an enlistment that isn't lost
+pub note_there : (h : Half) (x : Row) → IsAtHome h → is_gone h.seen x.number.value ≡ false → note_at h.seen x.number.value (Some x) ≡ row_note h.seen x
+note_there h x home there =
+    subst (λ (g : Half). note_at g.seen x.number.value (Some x) ≡ row_note g.seen x) (sym home.same)
+    (by (is_gone h.seen x.number.value) (row_note (narrow h.seen) x) there)
+  where
+    by : (b : Bool) (n : Option Note) → b ≡ false → (if b then None else or_else n None) ≡ n
+    by true n k = absurd (cc)
+    by false n k = or_none n
 
 -- an enlistment of which a vote is due was asked
 pub voter_asked : (h : Half) (e : ℕ) (v : Vote) (n : Note) → IsAtHome h → due_of h.seen e ≡ Some n → fits (VoteReply v) n ≡ true → was_asked e h.seen.table ≡ true

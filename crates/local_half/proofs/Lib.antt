@@ -4,3 +4,4 @@ pub mod Lasting
 pub mod Following
 pub mod Home
 pub mod Due
+pub mod Lost

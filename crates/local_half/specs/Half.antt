@@ -1,7 +1,7 @@
 -- The local side of a transaction.
 use Rattle.std.specs.Prelude.{ℕ, ◌≡◌, ◌||◌, Bool, true, false, not, List, Option, Some, None, is_some}
 use Rattle.dtx_values.specs.declared.call.Call.{Call}
-use Rattle.dtx_values.specs.declared.call.Call.TheVariants.{Volatile, Durable, Promotable, Clone, Marshal, Await, Do, Lose, Gone, Reenlist, Recovered}
+use Rattle.dtx_values.specs.declared.call.Call.TheVariants.{Marshal, Await, Do, Lose, Gone, Reenlist, Recovered}
 use Rattle.dtx_values.specs.declared.entry.Answer.{Answer}
 use Rattle.dtx_values.specs.declared.entry.Answer.TheVariants.{Fine, True, Wait}
 use Rattle.dtx_values.specs.declared.entry.Ask.TheVariants.{Prepare}
@@ -11,9 +11,9 @@ use Rattle.dtx_values.specs.declared.note.Note.{Note}
 use Rattle.dtx_values.specs.declared.note.Reply.{Reply}
 use Rattle.dtx_values.specs.declared.number.TxNo.{TxNo}
 use Rattle.dtx_values.specs.Class.{is_volatile}
-use Rattle.dtx_values.specs.Clones.{is_clone}
-use Rattle.dtx_values.specs.Row.{is_lasting, is_of}
+use Rattle.dtx_values.specs.Row.{is_lasting}
 use Rattle.dtx_values.specs.Table.{was_asked}
+use Rattle.dtx_model.specs.declared.listener.Listener.{Listener}
 use Rattle.dtx_model.specs.Words.{has}
 use Rattle.dtx_model.specs.Observed.{Observed}
 use Rattle.dtx_model.specs.Waiting.{EnteredCall, managed_by}
@@ -29,6 +29,10 @@ use Rattle.dependent_clones.specs.Refusals.{clone_refusal}
 pub record Known : Type 0 where
   pub transaction : TxNo
   pub half : Half
+
+-- the listener is lost
+abbrev pub is_lost : Listener → Bool
+is_lost l = l.lost
 
 -- what is known after a block of entries, where these calls are those of the block
 abbrev pub after : List EnteredCall → Known → List Entry → Known
@@ -49,14 +53,6 @@ is_its_own (Gone e) = false
 is_its_own (Reenlist e) = false
 is_its_own (Recovered t r) = false
 is_its_own _ = true
-
--- the enlistment or the clone that the call makes doesn't stand yet
-abbrev pub is_new : Observed → Call → Bool
-is_new o (Volatile t e x v) = not (has (is_of e.value) o.table)
-is_new o (Durable t e r s) = not (has (is_of e.value) o.table)
-is_new o (Promotable t e r v x p) = not (has (is_of e.value) o.table)
-is_new o (Clone t c k) = not (has (is_clone c.value) o.clones)
-is_new o _ = true
 
 -- the call has to wait
 abbrev pub is_wait : Answer → Bool

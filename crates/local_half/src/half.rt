@@ -4,10 +4,11 @@ ghost use Rattle.dtx_values.specs.Outgoing.{with};
 ghost use Rattle.dtx_values.specs.Table.{rises_above};
 ghost use Rattle.dtx_values.specs.declared.entry.Ask.TheVariants.{Prepare};
 ghost use Rattle.dtx_values.specs.declared.entry.Entry.TheVariants.{Asked, Enlisted};
+ghost use Rattle.dtx_model.specs.Caused.{is_new};
 ghost use Rattle.dtx_model.specs.Causes.{is_unpromoted};
 ghost use Rattle.dtx_model.specs.Half.{half_of, heeds, is_gone, stands};
 ghost use Rattle.dtx_model.specs.World.{World};
-ghost use Rattle.local_half.specs.Half.{Follows, IsAtHome, MayTakeIn, after, is_its_own, is_new};
+ghost use Rattle.local_half.specs.Half.{Follows, IsAtHome, MayTakeIn, after, is_its_own};
 
 use crate::listeners::{is_gone, lose, tell};
 use dependent_clones::Clones;
@@ -73,8 +74,9 @@ mod replies;
 ///
 /// Each condition of a call has a test: `is_its_own` and `is_new` those of `call`, `gone_answer` that
 /// of `gone`, `fits` that of `reply`, and `room` of the outbox. A cleared outbox has room for each.
-/// An enlistment that stays silent is passed over by a loop over `rows` and `due_note`. `gone` writes
-/// what follows of the loss; the entry of the call is put into the outbox before it.
+/// An enlistment that stays silent is passed over by a loop over `rows` and `due_note`; where
+/// `may_be_due` is false, each has nothing to reply to. `gone` writes what follows of the loss; the
+/// entry of the call is put into the outbox before it.
 ///
 /// # What holds of such a program
 ///
@@ -97,6 +99,8 @@ pub struct LocalHalf {
     table: EnlistTable,
     clones: Clones,
     listeners: Vec<Listener>,
+    /// Whether one of the listeners may be lost. Mostly none is, and then they needn't be looked through.
+    any_lost: bool,
     /// The durable or promotable enlistment that its call enlisted, with its manager. A second one
     /// would promote the transaction.
     manager: Option<(EnlNo, RmNo)>,
@@ -112,7 +116,7 @@ impl Model for LocalHalf {
     ghost use Rattle.dtx_values.specs.Table.{how_many};
     ghost use Rattle.dtx_values.specs.Row.{is_lasting};
     ghost use Rattle.dtx_model.specs.Words.{put};
-    ghost use Rattle.local_half.specs.Half.{Known};
+    ghost use Rattle.local_half.specs.Half.{Known, is_lost};
 
     ghost Value = { Known };
 
@@ -147,7 +151,7 @@ impl Model for LocalHalf {
       };
     } };
 
-    ghost invariant = { λ m. (ENLISTMENTS ≤ vec_capacity m.listeners) × (length m.listeners.items ≡ length m.table) × (how_many is_lasting m.table ≤ 1) × (how_many is_lasting m.table ≡ 0 → m.manager ≡ None) × (is_some m.limit ≡ false → length m.table ≡ 0) };
+    ghost invariant = { λ m. (ENLISTMENTS ≤ vec_capacity m.listeners) × (length m.listeners.items ≡ length m.table) × (how_many is_lasting m.table ≤ 1) × (how_many is_lasting m.table ≡ 0 → m.manager ≡ None) × (is_some m.limit ≡ false → length m.table ≡ 0) × (m.any_lost ≡ false → how_many is_lost m.listeners.items ≡ 0) };
 }
 
 impl LocalHalf {
@@ -169,6 +173,7 @@ impl LocalHalf {
             table: EnlistTable::new(alloc)?,
             clones: Clones::new(alloc)?,
             listeners: Vec::with_capacity(alloc, ENLISTMENTS)?,
+            any_lost: false,
             manager: None,
             waves: Waves::new(),
             handed: None,
@@ -210,7 +215,7 @@ impl LocalHalf {
     pub fn is_gone(&self, e: EnlNo) -> bool
         ensures { result ≡ is_gone self.now.half.seen e.value }
     {
-        is_gone(&self.listeners, e)
+        self.any_lost && is_gone(&self.listeners, e)
     }
 
     /// How it was decided.
@@ -330,7 +335,10 @@ impl LocalHalf {
                 let _ = take_vote(&mut self.table, e, v);
             }
             Entry::Handed(e) => self.handed = Some(e),
-            Entry::Lost(e) => lose(&mut self.listeners, e),
+            Entry::Lost(e) => {
+                self.any_lost = true;
+                lose(&mut self.listeners, e);
+            }
             Entry::Told(party, o) => match party {
                 Party::Enl(e) => tell(&mut self.listeners, e),
                 Party::Client => self.told_client = Some(o),

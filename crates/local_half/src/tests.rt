@@ -1,6 +1,7 @@
 //! Whole ways of a half: what each call answers, and the entries of each step.
 ghost use Rattle.std.specs.Prelude.{◌≡◌, true};
-ghost use Rattle.local_half.specs.Half.{is_its_own, is_new};
+ghost use Rattle.dtx_model.specs.Caused.{is_new};
+ghost use Rattle.local_half.specs.Half.{is_its_own};
 
 use crate::LocalHalf;
 use dtx_values::{
@@ -76,9 +77,12 @@ fn hand(rt: &impl Abort, half: &mut LocalHalf, out: &mut Outbox) {
     assert_eq!(rt; half.due(), Some((e2, Note::Prepare)));
     let due = half.due_of(e2);
     assert_eq!(rt; due, Some(Note::Prepare));
+    assert!(rt; half.may_be_due());
     out.clear();
     assert!(rt; half.reply(e2, Reply::Vote(Vote::Yes), out));
+    assert!(rt; !half.may_be_due());
     act(rt, half, out, Entry::Handed(e1));
+    assert!(rt; half.may_be_due());
     assert_eq!(rt; half.due(), Some((e1, Note::Hand)));
 }
 
@@ -89,6 +93,7 @@ fn no_reply_is_due_before_anything_was_asked(rt: HostRuntime) -> Result<(), Fail
     let mut half = LocalHalf::new(rt.alloc(), transaction(&rt))?;
     let due = half.due_of(e1);
     assert_eq!(rt; due, None);
+    assert!(rt; !half.may_be_due());
     assert!(rt; !half.reply(e1, Reply::Ack, &mut out));
     assert!(rt; out.entries().is_empty());
     Ok(())

@@ -8,13 +8,14 @@ ghost use Rattle.dtx_values.specs.declared.entry.Answer.TheVariants.{Fine, Wait}
 ghost use Rattle.dtx_values.specs.declared.entry.Entry.TheVariants.{Enlisted};
 ghost use Rattle.dtx_values.specs.declared.number.ActorNo.{ActorNo};
 ghost use Rattle.dtx_model.specs.Answers.{call_entries, gone_answer, is_late, local_answer, local_facts, tick_facts};
+ghost use Rattle.dtx_model.specs.Caused.{is_new};
 ghost use Rattle.dtx_model.specs.Entries.{is_call};
 ghost use Rattle.dtx_model.specs.Half.{decide, is_gone, stands, veto, veto_if};
 ghost use Rattle.dtx_model.specs.Observed.{track};
 ghost use Rattle.dtx_model.specs.Turns.{Calls, after as world_after, entered};
 ghost use Rattle.dtx_model.specs.Words.{has};
 ghost use Rattle.dtx_model.specs.World.{World, gone_unlinked, open_ones};
-ghost use Rattle.local_half.specs.Half.{Follows, MayTakeIn, after, is_done, is_its_own, is_new, is_wait, with_call};
+ghost use Rattle.local_half.specs.Half.{Follows, MayTakeIn, after, is_done, is_its_own, is_wait, with_call};
 
 use super::LocalHalf;
 use crate::time::{limit_of, reaches, ticked};

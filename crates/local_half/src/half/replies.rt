@@ -8,7 +8,6 @@ ghost use Rattle.dtx_model.specs.World.{World};
 ghost use Rattle.local_half.specs.Half.{Follows, after, fits_due};
 
 use super::LocalHalf;
-use crate::listeners::is_gone;
 use dtx_values::{EnlNo, Entry, Note, Outbox, Reply, Row};
 
 #[tactic(auto, using(crate::proofs::Writing::outgoing), unfolding(dtx_model::specs::Observed::track, dtx_model::specs::Half::heeds_all))]
@@ -18,7 +17,7 @@ impl LocalHalf {
     pub fn due_of(&self, e: EnlNo) -> Option<Note>
         ensures { result ≡ due_of self.now.half.seen e.value }
     {
-        if is_gone(&self.listeners, e) {
+        if self.is_gone(e) {
             return None;
         }
         match self.table.state_of(e) {
@@ -32,7 +31,8 @@ impl LocalHalf {
     pub fn due_note(&self, x: &Row) -> Option<Note>
         ensures { result ≡ note_at self.now.half.seen x.now.number.value (Some x.now) }
     {
-        if is_gone(&self.listeners, x.number) {
+        self.is_at_home();
+        if self.is_gone(x.number) {
             return None;
         }
         self.row_note(x)
@@ -53,6 +53,14 @@ impl LocalHalf {
             return Some(Note::Hand);
         }
         None
+    }
+
+    /// Whether a reply may be due: the commit was handed over, or a vote is awaited. Where none may be,
+    /// the rows needn't be looked through.
+    pub fn may_be_due(&self) -> bool
+        ensures { result ≡ false → all_due self.now.half.seen ≡ [] }
+    {
+        self.handed.is_some() || self.table.waits()
     }
 
     /// The lowest enlistment of which a reply is due, with the note; `None` exactly where none is due.

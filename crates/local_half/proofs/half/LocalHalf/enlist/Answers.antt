@@ -4,7 +4,8 @@ use Rattle.dtx_values.specs.Class.{is_volatile}
 use Rattle.dtx_model.specs.Observed.{listener_number}
 use Rattle.dtx_values.specs.Row.{is_lasting, fresh_row, number_of}
 use Rattle.dtx_model.specs.Words.{has}
-use Rattle.local_half.specs.Half.{Known}
+use Rattle.dtx_model.proofs.Counts.{how_many-insert_by}
+use Rattle.local_half.specs.Half.{Known, is_lost}
 use Rattle.local_half.proofs.Lasting.{lasting-before, lasting-row}
 use Rattle.local_half.proofs.Notes.{length-insert_by}
 use Rattle.local_half.proofs.half.LocalHalf.enlist.Goals as goal
@@ -23,4 +24,5 @@ invariant_of-self c =
       rw c.in-Ok.ensures.added (lasting-row c.args.e c.args.class table alone c.self.invariant.2),
       rw c.in-Ok.ensures.added (λ none. c.self.invariant.3 (lasting-before c.args.e c.args.class table none)),
       λ never. absurd (cc),
+      λ none. rw c.insert_in_order.ensures.items (how_many-insert_by is_lost listener_number _ c.self.inside.listeners.items ∙ c.self.invariant.5 none),
     )

@@ -24,4 +24,4 @@ invariant_of-self c =
     let before = c.self-2.invariant in
     let lasts : how_many is_lasting c.self-2.inside.table ≡ 0 → ⊥ =
     λ none. lasting-now c.args.e c.args.class c.args.self.now.half.seen.table c.requires.lasting (subst (λ xs. how_many is_lasting xs ≡ 0) table none) in
-    (before.0, before.1, before.2, λ none. absurd (lasts none), before.4)
+    (before.0, before.1, before.2, λ none. absurd (lasts none), before.4, before.5)
