@@ -1,6 +1,6 @@
-//! The definitions over histories, scripts and traces, which every other crate's contracts cite. They stand in `specs/`, in the
-//! order in which a reader should meet them: Words, Entries, Messages, Outcome, Judge; Frames,
-//! Observed, Seen, Scopes, Steps, Contexts, Caused; Promotes, Wires, Learned; Replay, History; Grammar, Faults, TraceText. `docs/DEFINITIONS.md` says each of them in words. The code here is the judge of histories.
+//! The definitions over histories, scripts and traces, which every other crate's contracts cite. They stand in `specs/`, and
+//! `docs/DEFINITIONS.md` is the order in which a reader should meet them, with a sentence on each. The code here is the judge of
+//! histories.
 #![tactic(auto)]
 
 mod branch;

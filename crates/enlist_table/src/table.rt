@@ -1,11 +1,11 @@
 //! The table.
-ghost use Rattle.std.specs.Prelude.{◌≡◌, ◌≤◌, [], length, map, find, not, true, IfErr, IfOk, OnErr, OnOk, None, Some, vec_capacity};
+ghost use Rattle.std.specs.Prelude.{◌≡◌, ◌≤◌, [], length, find, not, true, IfErr, IfOk, OnErr, OnOk, None, Some, vec_capacity};
 ghost use Rattle.std.specs.List.{list_any, position};
 ghost use Rattle.dtx_values.specs.declared.limits.TheConstants.{ENLISTMENTS};
 ghost use Rattle.dtx_values.specs.declared.row.Row.{Row};
 ghost use Rattle.dtx_values.specs.Class.{is_durable, is_promotable};
 ghost use Rattle.dtx_values.specs.Owners.{owner_of};
-ghost use Rattle.dtx_values.specs.Row.{has_voted, is_asked_before, is_lasting, is_marked, is_of, mark_in, number_of, vote_in};
+ghost use Rattle.dtx_values.specs.Row.{has_voted, is_asked_before, is_lasting, is_marked, is_of, number_of};
 ghost use Rattle.dtx_values.specs.Table.{has_row, how_many, insert_by, marks, rises_above, voted, voted_before, was_asked, with_mark, with_row, with_vote};
 ghost use Rattle.dtx_values.specs.Waves.{all_voted, may_be_asked, next_ask, zeros_voted};
 ghost use Rattle.enlist_table.specs.Refusals.{add_refusal, row_refusal};

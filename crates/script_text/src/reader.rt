@@ -1,5 +1,6 @@
 //! Reads scripts.
-ghost use Rattle.std.specs.Prelude.{◌≡◌, ◌≤◌, ◌+◌, ◌++◌, ◌∷◌, IfOk, IfErr, length, true};
+ghost use Rattle.std.specs.Prelude.{◌≡◌, ◌≤◌, ◌+◌, ◌++◌, ◌∷◌, IfOk, IfErr, IfSome, IfNone, length, true};
+ghost use Rattle.line_tail.specs.Cut.{IsWithout};
 ghost use Rattle.dtx_model.specs.Words.{each};
 ghost use Rattle.dtx_model.specs.Grammar.{is_from, script_text, IsScript, Reads};
 ghost use Rattle.dtx_model.specs.Faults.{front, form_fault, line_forms, word_fault, words_of, IsBadFor};
@@ -10,7 +11,6 @@ ghost use Rattle.script_text.specs.Reading.{IsBadScript};
 use crate::commands::line;
 use crate::draft::Draft;
 use dtx_values::{BadCause, LINE_BYTES, Line, SCRIPT_BYTES, Script};
-use line_tail::cut;
 use std::alloc::Global;
 
 /// Why bytes are no script.
@@ -22,11 +22,31 @@ pub enum ScriptError {
     Memory,
 }
 
-/// Whether each byte is printable.
-fn are_printable(text: &[u8]) -> bool
-    ensures { result ≡ each (is_from 32 126) text.now }
+/// Whether the byte is printable.
+fn is_printable(b: u8) -> bool
+    ensures { result ≡ is_from 32 126 b }
 {
-    text.iter().all(|b| 32 <= *b && *b <= 126)
+    32 <= b && b <= 126
+}
+
+/// The line at the front without its LF, what follows it, and whether each byte of the line is printable; `None` where no LF is there. Each byte
+/// is looked at once.
+fn cut_line(rest: &[u8]) -> Option<(&[u8], &[u8], bool)>
+    ensures cut { IfSome result (λ p. rest.now ≡ p.0.now ++ 10 ∷ p.1.now) }
+    ensures without { IfSome result (λ p. IsWithout 10 p.0.now) }
+    ensures printable { IfSome result (λ p. p.2 ≡ each (is_from 32 126) p.0.now) }
+    ensures none { IfNone result (IsWithout 10 rest.now) }
+{
+    let mut printable = true;
+    for (i, b) in rest.iter().enumerate() {
+        if !is_printable(*b) {
+            if *b == b'\n' {
+                return Some((&rest[..i], &rest[i + 1..], printable));
+            }
+            printable = false;
+        }
+    }
+    None
 }
 
 /// The text of the line at the front, without its LF, and what follows it, after so many bytes. Its words are
@@ -40,7 +60,7 @@ fn front_line(taken: usize, rest: &[u8]) -> Result<(&[u8], &[u8]), BadCause>
     ensures words { IfOk result (λ p. form_fault taken rest.now ≡ word_fault line_forms (words_of p.0.now)) }
     ensures bad { IfErr result (λ c. form_fault taken rest.now ≡ Some c) }
 {
-    let Some((text, after)) = cut(rest, b'\n') else {
+    let Some((text, after, printable)) = cut_line(rest) else {
         if taken + rest.len() > SCRIPT_BYTES {
             return Err(BadCause::TooLong);
         }
@@ -55,7 +75,7 @@ fn front_line(taken: usize, rest: &[u8]) -> Result<(&[u8], &[u8]), BadCause>
     if text.len() > LINE_BYTES {
         return Err(BadCause::LongLine);
     }
-    if !are_printable(text) {
+    if !printable {
         return Err(BadCause::BadByte);
     }
     Ok((text, after))

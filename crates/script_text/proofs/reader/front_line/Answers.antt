@@ -19,8 +19,8 @@ pub returns-then-text-gt-LINE_BYTES-clause-bad : goal.returns-then-text-gt-LINE_
 returns-then-text-gt-LINE_BYTES-clause-bad c =
     long_line c.args.taken c.args.rest.now _ _ _ (cut_front c.args.rest.now c.in-Some.text.now c.in-Some.after.now (search rules) (search rules)) (omega arith) (omega arith)
 
-pub returns-then-not-are_printable-clause-bad : goal.returns-then-not-are_printable-clause-bad
-returns-then-not-are_printable-clause-bad c =
+pub returns-then-not-printable-clause-bad : goal.returns-then-not-printable-clause-bad
+returns-then-not-printable-clause-bad c =
     cut_line c.args.taken c.args.rest.now c.in-Some.text.now c.in-Some.after.now false (search rules) (search rules) (omega arith) (omega arith) (search rules)
 
 pub returns-clause-text : goal.returns-clause-text
