@@ -313,7 +313,11 @@ fn call_of(plans: &Plans, body: Body) -> Option<(TxNo, Call)>
         Body::Await(t) => Some((t, Call::Await(t))),
         Body::Tick(t, n) => Some((t, Call::Tick(t, n))),
         Body::Do(t, k, n) => Some((t, Call::Do(t, k, n))),
+        Body::Marshal(t) => Some((t, Call::Marshal(t))),
+        Body::Lose(t, c, n, m) => Some((t, Call::Lose(t, c, n, m))),
         Body::Gone(e) => Some((plans.transaction_with(e)?, Call::Gone(e))),
+        Body::Reenlist(e) => Some((plans.transaction_with(e)?, Call::Reenlist(e))),
+        Body::Recovered(t, r) => Some((t, Call::Recovered(t, r))),
         _ => None,
     }
 }

@@ -35,7 +35,7 @@ line-requires-clause-ready c =
     let split : s ≡ xs ++ l ∷ ys = sym same ∙ split_at lines i l ys here in
     λ t call gives.
     let given : call_of s l.body ≡ Some (t, call) = ap (λ (r : List Line). call_of r l.body) (sym c.loop-l.invariant.1) ∙ gives in
-    line_ready s l.body (observe (history t.value T)) t call given (c.replay.ensures.fresh s xs ys l T t call split c.requires.script.named c.loop-l.invariant.3 given)
+    line_ready s (past_of xs) l.body (observe (history t.value T)) t call given (always-here is_run_line s xs ys l split c.requires.run) (c.replay.ensures.fresh s xs ys l T t call split c.requires.script.named c.loop-l.invariant.3 given)
 
 pub line-requires-clause-unopened : goal.line-requires-clause-unopened
 line-requires-clause-unopened c =
