@@ -9,3 +9,6 @@ pub mod Pasts
 pub mod SameNumbers
 pub mod Counts
 pub mod Unowned
+pub mod Unpromoted
+pub mod Narrow
+pub mod Narrowing

@@ -26,7 +26,7 @@ lasts xs e = has (λ x. is_of e x && is_lasting x) xs
 
 -- an abort is told by this act to a durable or promotable too, unless its ENLISTED was got, it was handed the commit, or it is lost
 abbrev pub hears_abort : Observed → Listener → Bool
-hears_abort o l = lasts o.table l.enlistment.value && not (is_enlisted_there o l.enlistment.value) && not (is_handed o.handed l.enlistment.value) && not l.lost
+hears_abort o l = not (is_enlisted_there o l.enlistment.value) && lasts o.table l.enlistment.value && not (is_handed o.handed l.enlistment.value) && not l.lost
 
 -- still to be told the outcome: it wasn't, and it is a volatile that hears, or hears of an abort
 abbrev pub is_to_tell : Observed → Outcome → Listener → Bool

@@ -35,16 +35,16 @@ use Rattle.dtx_model.specs.Half.{Half, sees, to_up, decide, veto, veto_if, is_go
 -- a reply to prepare: a volatile's is due until something is decided, a durable's or promotable's until it was told or its connection's end is seen
 abbrev pub may_still_vote : Observed → Row → Bool
 may_still_vote o x =
-    if is_volatile x.class then not (is_some o.decided) else not (was_told o x.number.value) && knows (Enl x.number) o.ends
+    if is_volatile x.class then not (is_some o.decided) else knows (Enl x.number) o.ends && not (was_told o x.number.value)
 
 abbrev pub owes_vote : Observed → Row → Bool
 owes_vote o x = is_marked x && not (has_voted x) && may_still_vote o x
 
 abbrev pub owes_promotion : Observed → Row → Bool
-owes_promotion o x = is_promotable x.class && o.promote_asked && not o.promote_replied && not (is_some o.decided)
+owes_promotion o x = o.promote_asked && not o.promote_replied && is_promotable x.class && not (is_some o.decided)
 
 abbrev pub owes_request : Observed → Row → Bool
-owes_request o x = is_promotable x.class && o.single_asked && not o.requested && not (is_some o.decided)
+owes_request o x = o.single_asked && not o.requested && is_promotable x.class && not (is_some o.decided)
 
 abbrev pub owes_outcome : Observed → Row → Bool
 owes_outcome o x = is_handed o.handed x.number.value && not (is_some o.decided)
