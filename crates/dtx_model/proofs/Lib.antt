@@ -12,3 +12,6 @@ pub mod Unowned
 pub mod Unpromoted
 pub mod Narrow
 pub mod Narrowing
+pub mod Quiet
+pub mod Heeding
+pub mod Lifting

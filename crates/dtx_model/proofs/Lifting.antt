@@ -1,0 +1,24 @@
+-- What may be entered by one rule may be entered by a wider one; and a step keeps that replies are as planned, where its own is.
+use Rattle.std.proofs.Common.{ℕ, List, [], ◌∷◌}
+use Rattle.dtx_values.specs.declared.number.ActorNo.{ActorNo}
+use Rattle.dtx_values.specs.declared.call.Call.{Call}
+use Rattle.dtx_values.specs.declared.entry.Entry.{Entry}
+use Rattle.dtx_model.specs.World.{World}
+use Rattle.dtx_model.specs.Turns.{Step, Calls, Replies, Acts, Coordinates, Delivers, Stops, Restarts}
+use Rattle.dtx_model.specs.Causes.{MayCome, Ran, FreelyCaused}
+
+lift_step : (G H : ℕ → ActorNo → Call → Type 0) → ((n : ℕ) (a : ActorNo) (c : Call) → G n a c → H n a c) → (t : ℕ) (w : World) (m : Step) → MayCome G t w m → MayCome H t w m
+lift_step G H f t w (Calls n a c m) k = (f n a c k.0, k.1, k.2)
+lift_step G H f t w (Replies e r) k = k
+lift_step G H f t w Acts k = k
+lift_step G H f t w (Coordinates a) k = k
+lift_step G H f t w (Delivers c d) k = k
+lift_step G H f t w Stops k = k
+lift_step G H f t w (Restarts found) k = k
+
+pub lift_ran : (G H : ℕ → ActorNo → Call → Type 0) → ((n : ℕ) (a : ActorNo) (c : Call) → G n a c → H n a c) → (t : ℕ) (ms : List Step) (w : World) → Ran G t ms w → Ran H t ms w
+lift_ran G H f t [] w r = r
+lift_ran G H f t (m ∷ ms) w r = (r.0, lift_ran G H f t ms r.0 r.1, lift_step G H f t r.0 m r.2, r.3)
+
+pub lift : (G H : ℕ → ActorNo → Call → Type 0) → ((n : ℕ) (a : ActorNo) (c : Call) → G n a c → H n a c) → (t : ℕ) (h : List Entry) → FreelyCaused G t h → FreelyCaused H t h
+lift G H f t h r = (r.0, (r.1.0, lift_ran G H f t r.1.0 (record { calls = r.0; past = h }) r.1.1))
