@@ -15,3 +15,7 @@ pub mod Narrowing
 pub mod Quiet
 pub mod Heeding
 pub mod Lifting
+pub mod NarrowReplies
+pub mod NarrowCalls
+pub mod NarrowFacts
+pub mod Local

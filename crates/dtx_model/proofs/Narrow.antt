@@ -1,5 +1,5 @@
 -- What the steps of a transaction come to while nothing is promoted, by what its local side has seen. proofs/Narrowing has that the definitions say the same there.
-use Rattle.std.specs.Prelude.{ℕ, ◌==◌, nat_le, Bool, true, false, ◌&&◌, ◌||◌, not, List, [], ◌∷◌, ◌++◌, length, find, Option, Some, None, is_some, if◌then◌else◌}
+use Rattle.std.specs.Prelude.{ℕ, nat_le, Bool, true, false, ◌&&◌, ◌||◌, not, List, [], ◌∷◌, length, find, Option, Some, None, is_some, if◌then◌else◌}
 use Rattle.dtx_values.specs.declared.limits.TheConstants.{DURABLES, ENLISTMENTS}
 use Rattle.dtx_values.specs.declared.number.EnlNo.{EnlNo}
 use Rattle.dtx_values.specs.declared.call.Call.{Call}
@@ -29,7 +29,7 @@ use Rattle.dtx_model.specs.Words.{has}
 use Rattle.dtx_model.specs.Observed.{Observed}
 use Rattle.dtx_model.specs.Half.{stands, is_gone, is_handed, is_aborted}
 use Rattle.dtx_model.specs.Acts.{lasts, tell}
-use Rattle.dtx_model.specs.Answers.{limit_of, class_of, if_begun, unless_ended, unless_over, wait_for, clone_answer, complete_answer, unless_late, gone_answer, status_answer, await_answer, ticked, reaches, facts_if}
+use Rattle.dtx_model.specs.Answers.{limit_of, class_of, if_begun, unless_over, wait_for, clone_answer, complete_answer, unless_late, gone_answer, status_answer, await_answer, ticked, reaches, facts_if}
 use Rattle.dtx_model.specs.Turns.{Step, Calls, Replies, Acts}
 
 abbrev pub volatile_answer : Bool → List Row → Answer

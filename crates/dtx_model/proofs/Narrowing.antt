@@ -1,5 +1,5 @@
 -- While nothing is promoted the steps are what proofs/Narrow has.
-use Rattle.std.proofs.Common.{◌≡◌, ℕ, Bool, true, false, ◌&&◌, ◌||◌, not, List, [], ◌∷◌, ◌++◌, Option, Some, None, refl, sym, ap, ◌∙◌, find, is_some, if◌then◌else◌}
+use Rattle.std.proofs.Common.{◌≡◌, Bool, true, false, List, [], ◌∷◌, Option, Some, None, refl, is_some, if◌then◌else◌}
 use Rattle.dtx_values.specs.declared.entry.Entry.{Entry}
 use Rattle.dtx_values.specs.declared.entry.Entry.TheVariants.{Sealed}
 use Rattle.dtx_values.specs.declared.number.EnlNo.{EnlNo}
@@ -8,10 +8,9 @@ use Rattle.dtx_values.specs.declared.words.Outcome.{Outcome}
 use Rattle.dtx_values.specs.Waves.{is_over, next_ask, all_voted}
 use Rattle.dtx_values.specs.Owners.{owner_of}
 use Rattle.dtx_model.specs.Observed.{Observed}
-use Rattle.dtx_model.specs.Half.{Half}
 use Rattle.dtx_model.specs.Acts.{act_by as full_act_by, act_entries as full_act, ask_or, commit_act as full_commit}
 use Rattle.dtx_model.proofs.Narrow.{act_by, act_entries, after_seal, before_seal, commit_act, undecided_act}
-use Rattle.dtx_model.proofs.Unpromoted.{at_home, narrow}
+use Rattle.dtx_model.proofs.Unpromoted.{at_home}
 
 -- the local act
 commit_same : (o : Observed) (ms : List (EnlNo × RmNo)) (handed : Bool) (owner : Option EnlNo) → (if handed then [] else full_commit (at_home o ms) owner) ≡ commit_act handed owner

@@ -1,9 +1,8 @@
 -- What is known of a history in which nothing is promoted: the local side's marks of a promotion are as they were at the start, no call waits, the coordinator
 -- knows nothing, and nothing is on the way.
-use Rattle.std.proofs.Common.{◌≡◌, ℕ, Bool, true, false, ◌&&◌, ◌||◌, not, List, [], ◌∷◌, Option, Some, None, refl, sym, ap, ◌∙◌}
-use Rattle.dtx_values.specs.declared.entry.Answer.{Answer}
+use Rattle.std.proofs.Common.{◌≡◌, Bool, true, false, List, [], ◌∷◌, None, refl, ap, ◌∙◌}
 use Rattle.dtx_values.specs.declared.entry.Answer.TheVariants.{Wait}
-use Rattle.dtx_values.specs.declared.entry.Ask.TheVariants.{Prepare, Promote, Single}
+use Rattle.dtx_values.specs.declared.entry.Ask.TheVariants.{Prepare}
 use Rattle.dtx_values.specs.declared.entry.Entry.{Entry}
 use Rattle.dtx_values.specs.declared.entry.Entry.TheVariants.{Called, Began, Cloned, Completed, Enlisted, Init, CommitAsked, RollbackAsked, Clock, TimedOut, Late, Asked, Voted, Sealed, Handed, OwnerAnswered, Decided, Told, Lost}
 use Rattle.dtx_values.specs.declared.entry.Party.TheVariants.{Client, Enl}
@@ -12,13 +11,13 @@ use Rattle.dtx_values.specs.declared.message.Dir.{Dir}
 use Rattle.dtx_values.specs.declared.number.EnlNo.{EnlNo}
 use Rattle.dtx_values.specs.declared.number.RmNo.{RmNo}
 use Rattle.dtx_values.specs.declared.words.Outcome.TheVariants.{Committed, Aborted, InDoubt}
-use Rattle.dtx_model.specs.Words.{each, has, onto}
+use Rattle.dtx_model.specs.Words.{each, has}
 use Rattle.dtx_model.specs.Observed.{Observed, observe, track}
 use Rattle.dtx_model.specs.Coordinated.{coordinate, follow, nothing}
 use Rattle.dtx_model.specs.Waiting.{EnteredCall, managed, waiting, waiting_after}
 use Rattle.dtx_model.specs.Half.{Half, half_of}
 use Rattle.dtx_model.specs.Wires.{in_transit, lost_since, transit_after, lost_after}
-use Rattle.dtx_model.specs.World.{World, core, half, has_left}
+use Rattle.dtx_model.specs.World.{has_left}
 use Rattle.dtx_model.specs.Causes.{is_begin_sent}
 use Rattle.dtx_model.proofs.Bools.{and_left, and_right}
 

@@ -138,7 +138,7 @@ has_facts _ = false
 
 -- the timeout comes too late: it was decided, the local side said yes, the commit was handed over, or evidence stands
 abbrev pub is_late : Observed → Bool
-is_late o = is_some o.decided || o.yes || is_some o.handed || (not o.promoted && is_evident o.sealed o.table)
+is_late o = o.yes || is_some o.decided || is_some o.handed || (not o.promoted && is_evident o.sealed o.table)
 
 -- the clock after a tick: it stays at the last value of its u64
 abbrev pub ticked : ℕ → ℕ → ℕ
