@@ -102,17 +102,17 @@ own_call n a b c ks h Fine = rw (eq_self n) refl
 own_call n a b c ks h True = rw (eq_self n) refl
 own_call n a b c ks h _ = refl
 
--- a block that stands behind the world, of which only what its own calls say is new
-quiet_behind : (ks : List EnteredCall) (past es : List Entry) → Quiet es → half_of ks (onto past es) ≡ heeds_all [] (half_of ks past) es
-quiet_behind ks past es q = half_of-onto ks past es ∙ heeds_all_same ks (half_of ks past) es q
+-- a block that comes after the world, of which only what its own calls say is new
+quiet_after : (ks : List EnteredCall) (past es : List Entry) → Quiet es → half_of ks (onto past es) ≡ heeds_all [] (half_of ks past) es
+quiet_after ks past es q = half_of-onto ks past es ∙ heeds_all_same ks (half_of ks past) es q
 
-headed_behind : (ks : List EnteredCall) (past : List Entry) (x : Entry) (es : List Entry) → not_called x ≡ true → Quiet es → half_of ks (onto past (x ∷ es)) ≡ heeds_all [] (half_of ks past) (x ∷ es)
-headed_behind ks past x es p q = half_of-onto ks past (x ∷ es) ∙ headed_same ks (half_of ks past) x es p q
+headed_after : (ks : List EnteredCall) (past : List Entry) (x : Entry) (es : List Entry) → not_called x ≡ true → Quiet es → half_of ks (onto past (x ∷ es)) ≡ heeds_all [] (half_of ks past) (x ∷ es)
+headed_after ks past x es p q = half_of-onto ks past (x ∷ es) ∙ headed_same ks (half_of ks past) x es p q
 
-called_behind : (n : ℕ) (a : ActorNo) (c : Call) (ks : List EnteredCall) (past : List Entry) (x : Answer) (es : List Entry) → has (is_call n) past ≡ false → Quiet es →
+called_after : (n : ℕ) (a : ActorNo) (c : Call) (ks : List EnteredCall) (past : List Entry) (x : Answer) (es : List Entry) → has (is_call n) past ≡ false → Quiet es →
     half_of (record { line = n; actor = a; call = c } ∷ ks) (onto past (Called n a x ∷ es)) ≡ heeds_all (record { line = n; actor = a; call = c } ∷ []) (half_of ks past) (Called n a x ∷ es)
 unfolding heeds_all
-called_behind n a c ks past x es e q =
+called_after n a c ks past x es e q =
     let k : EnteredCall = record { line = n; actor = a; call = c } in
     half_of-onto (k ∷ ks) past (Called n a x ∷ es)
     ∙ ap (λ (h : Half). heeds_all (k ∷ ks) (heeds (k ∷ ks) h (Called n a x)) es) (fresh k ks past e)
@@ -120,21 +120,21 @@ called_behind n a c ks past x es e q =
     ∙ heeds_all_same (k ∷ ks) (heeds (k ∷ []) (half_of ks past) (Called n a x)) es q
     ∙ sym (heeds_all_same (k ∷ []) (heeds (k ∷ []) (half_of ks past) (Called n a x)) es q)
 
-delivered_behind : (t : ℕ) (w : World) (c : Conn) (d : Dir) (ms : List Message) → half_of w.calls (onto w.past (delivered t w c d ms)) ≡ heeds_all [] (half w) (delivered t w c d ms)
+delivered_after : (t : ℕ) (w : World) (c : Conn) (d : Dir) (ms : List Message) → half_of w.calls (onto w.past (delivered t w c d ms)) ≡ heeds_all [] (half w) (delivered t w c d ms)
 unfolding not_called
-delivered_behind t w c d [] = headed_behind w.calls w.past (Ended c d) (ended_at w c d) refl (q_ended_at w c d)
-delivered_behind t w c d (m ∷ ms) = headed_behind w.calls w.past (Got c d m) (got_by t w c d m) refl (q_got_by t w c d m)
+delivered_after t w c d [] = headed_after w.calls w.past (Ended c d) (ended_at w c d) refl (q_ended_at w c d)
+delivered_after t w c d (m ∷ ms) = headed_after w.calls w.past (Got c d m) (got_by t w c d m) refl (q_got_by t w c d m)
 
--- what the local side knows behind a step follows from what it knew, the block, and the step's own call
+-- what the local side knows after a step follows from what it knew, the block, and the step's own call
 pub half_behind : (G : ℕ → ActorNo → Call → Type 0) (t : ℕ) (w : World) (m : Step) → MayCome G t w m → half (after t w m) ≡ heeds_all (entered m []) (half w) (block_at t w m)
 unfolding after block_at
-half_behind G t w (Calls n a c m) k = called_behind n a c w.calls w.past (answer_at t w c m) (facts_if (has_facts (answer_at t w c m)) (facts_at t w c (answer_at t w c m))) k.1 (q_called t w c (answer_at t w c m))
-half_behind G t w (Replies e x) k = quiet_behind w.calls w.past (reply_entries (half w) e x) (q_reply (half w) e x)
-half_behind G t w Acts k = quiet_behind w.calls w.past (act_entries (half w)) (q_act (half w))
-half_behind G t w (Coordinates x) k = quiet_behind w.calls w.past (coordinates (core w) x) (q_if (may_log (core w)) (q_appended (core w) x) (q_freed x))
-half_behind G t w (Delivers c d) k = delivered_behind t w c d (in_transit c d w.past)
-half_behind G t w Stops k = quiet_behind w.calls w.past (Stopped ∷ []) (q_one Stopped refl)
-half_behind G t w (Restarts found) k = quiet_behind w.calls w.past (restarted (core w).stopped found) (q_restarted (core w).stopped found)
+half_behind G t w (Calls n a c m) k = called_after n a c w.calls w.past (answer_at t w c m) (facts_if (has_facts (answer_at t w c m)) (facts_at t w c (answer_at t w c m))) k.1 (q_called t w c (answer_at t w c m))
+half_behind G t w (Replies e x) k = quiet_after w.calls w.past (reply_entries (half w) e x) (q_reply (half w) e x)
+half_behind G t w Acts k = quiet_after w.calls w.past (act_entries (half w)) (q_act (half w))
+half_behind G t w (Coordinates x) k = quiet_after w.calls w.past (coordinates (core w) x) (q_if (may_log (core w)) (q_appended (core w) x) (q_freed x))
+half_behind G t w (Delivers c d) k = delivered_after t w c d (in_transit c d w.past)
+half_behind G t w Stops k = quiet_after w.calls w.past (Stopped ∷ []) (q_one Stopped refl)
+half_behind G t w (Restarts found) k = quiet_after w.calls w.past (restarted (core w).stopped found) (q_restarted (core w).stopped found)
 
 -- and so does what the coordinator knows
 pub core_behind : (t : ℕ) (w : World) (m : Step) → core (after t w m) ≡ follow_all (core w) (block_at t w m)

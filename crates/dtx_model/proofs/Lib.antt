@@ -16,6 +16,17 @@ pub mod Quiet
 pub mod Heeding
 pub mod Lifting
 pub mod NarrowReplies
+pub mod Computing
+pub mod Cast
+pub mod Crossing
+pub mod Playing
+pub mod Working
+mod WorkedOutcomes
+mod WorkedPromotions
+pub mod Replaying
+mod WorkedRecoveries
 pub mod NarrowCalls
 pub mod NarrowFacts
 pub mod Local
+pub mod Judging
+mod BadHistories

@@ -1,4 +1,4 @@
--- What may be entered by one rule may be entered by a wider one; and a step keeps that replies are as planned, where its own is.
+-- What may be entered by one rule may be entered by a wider one: a history that is freely caused over some calls is so over more of them.
 use Rattle.std.proofs.Common.{ℕ, List, [], ◌∷◌}
 use Rattle.dtx_values.specs.declared.number.ActorNo.{ActorNo}
 use Rattle.dtx_values.specs.declared.call.Call.{Call}

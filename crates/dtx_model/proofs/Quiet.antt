@@ -50,7 +50,7 @@ use Rattle.dtx_model.specs.Wires.{MayCross, WireRun, is_ended, is_lost_wire, is_
 use Rattle.dtx_model.specs.Coordinated.{Coordinated, Desk, Stage, Idle, Active, Aborted as AbortedStage, Recorded, Over, Unknown, opening_by, aborts, abort_sends, commit_sends, core_down, core_got, follow, has_aborted, is_active, is_early, is_prepared, is_recorded, is_undecided, may_log, opening_answer, still_hears, to, to_each, to_waiting}
 use Rattle.dtx_model.specs.Waiting.{Waiter, Identifier, Place, is_place_of}
 use Rattle.dtx_model.specs.Half.{Half, sees, is_promoting, to_up, fails_if, decide, may_abort_by_begin, may_abort_by_voter, veto_message, veto, veto_if, info, enlist_sent, by_manager, given, promoted_by, over, stands, is_gone, was_told, is_aborted, is_handed}
-use Rattle.dtx_model.specs.Arrivals.{unless_decided, hand_over, placed, told_abort, has_both_ends, ended_there, ended_by, begin_arrived, voter_arrived, enlist_arrived, again_arrived, arrived, local_got, local_down}
+use Rattle.dtx_model.specs.Arrivals.{unless_decided, hand_over, place_given, told_abort, has_both_ends, ended_there, ended_by, begin_arrived, voter_arrived, enlist_arrived, again_arrived, arrived, local_got, local_down}
 use Rattle.dtx_model.specs.Acts.{tell, is_to_tell, promotable_in, under_way, commit_sent, ask_or, after_seal, commit_act, yes_act, voter_act, promoted_act, sealed_act, asked_act, unasked_promotable, undecided_act, act_by, act_entries}
 use Rattle.dtx_model.specs.Replies.{ack_on, conn_due, due_of, is_volatile_row, owner_entries, promote_entries, reply_entries, request_message, request_of, vote_message, voted_by}
 use Rattle.dtx_model.specs.Answers.{begin_promotion, class_of, durable_facts, durable_waits, facts_if, has_facts, is_late, limit_of, local_facts, reaches, ticked, time_up}
@@ -188,7 +188,7 @@ q_hand_over : (t : ℕ) (h : Half) (o : Option EnlNo) → Quiet (hand_over t h o
 q_hand_over t h (Some e) = q_manager (enlist_sent t) (λ f r. q_one (Sent (Enl f) Up (EnlistEnlist (info t f r))) refl) h.managers e
 q_hand_over t h None = q_over t h
 
-q_placed : (w : Option Waiter) → Quiet (placed w)
+q_placed : (w : Option Waiter) → Quiet (place_given w)
 q_placed (Some (n, Place e r c)) = q_cons (Enlisted e c) refl (q_one (Answered n Fine) refl)
 q_placed (Some (n, Identifier)) = q_none
 q_placed None = q_none
@@ -256,8 +256,8 @@ q_ask : (e : Option EnlNo) (over : Bool) {es : List Entry} → Quiet es → Quie
 q_ask (Some e) over q = q_one (Asked e Prepare) refl
 q_ask None over q = q_if over q q_none
 
-q_behind : (h : Half) {es : List Entry} → Quiet es → Quiet (after_seal h es)
-q_behind h q = q_ask (next_ask h.seen.table false) (all_voted h.seen.table) q
+q_after_seal : (h : Half) {es : List Entry} → Quiet es → Quiet (after_seal h es)
+q_after_seal h q = q_ask (next_ask h.seen.table false) (all_voted h.seen.table) q
 
 q_commit_act : (h : Half) (e : Option EnlNo) → Quiet (commit_act h e)
 q_commit_act h (Some e) = q_one (Handed e) refl
@@ -267,7 +267,7 @@ q_yes : (o : Observed) → Quiet (yes_act o)
 q_yes o = q_if o.yes q_none (q_cons LocalYes refl (q_up o Voter VoterYes refl))
 
 q_voter_act : (h : Half) → Quiet (voter_act h)
-q_voter_act h = q_if (was_got Voter (tag_of VoterAsk) h.seen.ends) (q_behind h (q_yes h.seen)) q_none
+q_voter_act h = q_if (was_got Voter (tag_of VoterAsk) h.seen.ends) (q_after_seal h (q_yes h.seen)) q_none
 
 q_promoted_act : (h : Half) (e : Option EnlNo) → Quiet (promoted_act h e)
 q_promoted_act h (Some e) = q_if h.seen.single_asked (q_voter_act h) (q_one (Asked e AskSingle) refl)
@@ -275,7 +275,7 @@ q_promoted_act h None = q_voter_act h
 
 q_sealed_act : (h : Half) → Quiet (sealed_act h)
 q_sealed_act h =
-    q_if h.seen.promoted (q_promoted_act h (promotable_in h.seen.table)) (q_behind h (q_if (is_some h.seen.handed) q_none (q_commit_act h (owner_of h.seen.table))))
+    q_if h.seen.promoted (q_promoted_act h (promotable_in h.seen.table)) (q_after_seal h (q_if (is_some h.seen.handed) q_none (q_commit_act h (owner_of h.seen.table))))
 
 q_commit_sent : (o : Observed) → Quiet (commit_sent o)
 q_commit_sent o = q_if (o.promoted && not (is_some (promotable_in o.table))) (q_up o Begin BeginCommit refl) q_none
@@ -407,7 +407,7 @@ pub q_ended_at : (w : World) (c : Conn) (d : Dir) → Quiet (ended_at w c d)
 q_ended_at w c Up = q_core_down (core w) c
 q_ended_at w c Down = q_local_down (half w) c
 
--- behind a quiet block WireRun still holds
+-- after a quiet block WireRun still holds
 still : (past : List Entry) (x : Entry) → is_quiet x ≡ true → MayCross past x
 still past (Got c d m) p = absurd cc
 still past (Ended c d) p = absurd cc
@@ -428,9 +428,9 @@ q_tail x es q = record { proof = by (is_quiet x) q.proof }
     by true e = e
     by false e = absurd cc
 
-runs_behind : (past es : List Entry) → Quiet es → WireRun past → WireRun (onto past es)
-runs_behind past [] q r = r
-runs_behind past (x ∷ es) q r = runs_behind (x ∷ past) es (q_tail x es q) (still past x (q_head x es q), r)
+runs_after : (past es : List Entry) → Quiet es → WireRun past → WireRun (onto past es)
+runs_after past [] q r = r
+runs_after past (x ∷ es) q r = runs_after (x ∷ past) es (q_tail x es q) (still past x (q_head x es q), r)
 
 -- a delivery takes what is next on the way, or an end where nothing is
 is_end : (lost unseen : Bool) (ms : List Message) → ms ≡ [] → (not (is_empty ms) || (lost && unseen)) ≡ true → (lost && is_empty ms && unseen) ≡ true
@@ -444,28 +444,28 @@ takes_next m ms (n ∷ ns) e = cc
 
 run_delivered : (t : ℕ) (w : World) (c : Conn) (d : Dir) → has_left c d w.past ≡ true → WireRun w.past → (ms : List Message) → in_transit c d w.past ≡ ms → WireRun (onto w.past (delivered t w c d ms))
 run_delivered t w c d p r [] e =
-    runs_behind (Ended c d ∷ w.past) (ended_at w c d) (q_ended_at w c d) (is_end (is_lost_wire c w.past) (not (is_ended c d w.past)) (in_transit c d w.past) e p, r)
-run_delivered t w c d p r (m ∷ ms) e = runs_behind (Got c d m ∷ w.past) (got_by t w c d m) (q_got_by t w c d m) (takes_next m ms (in_transit c d w.past) e, r)
+    runs_after (Ended c d ∷ w.past) (ended_at w c d) (q_ended_at w c d) (is_end (is_lost_wire c w.past) (not (is_ended c d w.past)) (in_transit c d w.past) e p, r)
+run_delivered t w c d p r (m ∷ ms) e = runs_after (Got c d m ∷ w.past) (got_by t w c d m) (q_got_by t w c d m) (takes_next m ms (in_transit c d w.past) e, r)
 
 pub q_restarted : (b found : Bool) → Quiet (restarted b found)
 q_restarted true found = q_one (Restarted found) refl
 q_restarted false found = q_cons Stopped refl (q_one (Restarted found) refl)
 
--- what stands behind the call
+-- what stands after the call
 pub q_called : (t : ℕ) (w : World) (c : Call) (a : Answer) → Quiet (facts_if (has_facts a) (facts_at t w c a))
 q_called t w c a = q_facts_if (has_facts a) (q_facts_at t w c a)
 
--- behind each step
+-- after each step
 run_step : (G : ℕ → ActorNo → Call → Type 0) (t : ℕ) (w : World) (m : Step) → MayCome G t w m → WireRun w.past → WireRun (after t w m).past
 unfolding after block_at
 run_step G t w (Calls n a c m) k r =
-    runs_behind (Called n a (answer_at t w c m) ∷ w.past) (facts_if (has_facts (answer_at t w c m)) (facts_at t w c (answer_at t w c m))) (q_called t w c (answer_at t w c m)) (tt, r)
-run_step G t w (Replies e x) k r = runs_behind w.past (reply_entries (half w) e x) (q_reply (half w) e x) r
-run_step G t w Acts k r = runs_behind w.past (act_entries (half w)) (q_act (half w)) r
-run_step G t w (Coordinates x) k r = runs_behind w.past (coordinates (core w) x) (q_if (may_log (core w)) (q_appended (core w) x) (q_freed x)) r
+    runs_after (Called n a (answer_at t w c m) ∷ w.past) (facts_if (has_facts (answer_at t w c m)) (facts_at t w c (answer_at t w c m))) (q_called t w c (answer_at t w c m)) (tt, r)
+run_step G t w (Replies e x) k r = runs_after w.past (reply_entries (half w) e x) (q_reply (half w) e x) r
+run_step G t w Acts k r = runs_after w.past (act_entries (half w)) (q_act (half w)) r
+run_step G t w (Coordinates x) k r = runs_after w.past (coordinates (core w) x) (q_if (may_log (core w)) (q_appended (core w) x) (q_freed x)) r
 run_step G t w (Delivers c d) k r = run_delivered t w c d k r (in_transit c d w.past) refl
-run_step G t w Stops k r = runs_behind w.past (Stopped ∷ []) (q_one Stopped refl) r
-run_step G t w (Restarts found) k r = runs_behind w.past (restarted (core w).stopped found) (q_restarted (core w).stopped found) r
+run_step G t w Stops k r = runs_after w.past (Stopped ∷ []) (q_one Stopped refl) r
+run_step G t w (Restarts found) k r = runs_after w.past (restarted (core w).stopped found) (q_restarted (core w).stopped found) r
 
 -- WireRun of what steps made
 pub wire_run : (G : ℕ → ActorNo → Call → Type 0) (t : ℕ) (ms : List Step) (w : World) → Ran G t ms w → WireRun w.past
@@ -484,24 +484,24 @@ quiet_lined : (x : Entry) → is_quiet x ≡ true → is_lined x ≡ true
 quiet_lined (Sent c d m) p = p
 quiet_lined _ p = refl
 
-lined_behind : (past es : List Entry) → Quiet es → each is_lined past ≡ true → each is_lined (onto past es) ≡ true
-lined_behind past [] q r = r
-lined_behind past (x ∷ es) q r = lined_behind (x ∷ past) es (q_tail x es q) (both (is_lined x) (each is_lined past) (quiet_lined x (q_head x es q)) r)
+lined_after : (past es : List Entry) → Quiet es → each is_lined past ≡ true → each is_lined (onto past es) ≡ true
+lined_after past [] q r = r
+lined_after past (x ∷ es) q r = lined_after (x ∷ past) es (q_tail x es q) (both (is_lined x) (each is_lined past) (quiet_lined x (q_head x es q)) r)
 
 lined_delivered : (t : ℕ) (w : World) (c : Conn) (d : Dir) (ms : List Message) → each is_lined w.past ≡ true → each is_lined (onto w.past (delivered t w c d ms)) ≡ true
-lined_delivered t w c d [] r = lined_behind (Ended c d ∷ w.past) (ended_at w c d) (q_ended_at w c d) r
-lined_delivered t w c d (m ∷ ms) r = lined_behind (Got c d m ∷ w.past) (got_by t w c d m) (q_got_by t w c d m) r
+lined_delivered t w c d [] r = lined_after (Ended c d ∷ w.past) (ended_at w c d) (q_ended_at w c d) r
+lined_delivered t w c d (m ∷ ms) r = lined_after (Got c d m ∷ w.past) (got_by t w c d m) (q_got_by t w c d m) r
 
 lined_step : (t : ℕ) (w : World) (m : Step) → each is_lined w.past ≡ true → each is_lined (after t w m).past ≡ true
 unfolding after block_at
 lined_step t w (Calls n a c m) r =
-    lined_behind (Called n a (answer_at t w c m) ∷ w.past) (facts_if (has_facts (answer_at t w c m)) (facts_at t w c (answer_at t w c m))) (q_called t w c (answer_at t w c m)) r
-lined_step t w (Replies e x) r = lined_behind w.past (reply_entries (half w) e x) (q_reply (half w) e x) r
-lined_step t w Acts r = lined_behind w.past (act_entries (half w)) (q_act (half w)) r
-lined_step t w (Coordinates x) r = lined_behind w.past (coordinates (core w) x) (q_if (may_log (core w)) (q_appended (core w) x) (q_freed x)) r
+    lined_after (Called n a (answer_at t w c m) ∷ w.past) (facts_if (has_facts (answer_at t w c m)) (facts_at t w c (answer_at t w c m))) (q_called t w c (answer_at t w c m)) r
+lined_step t w (Replies e x) r = lined_after w.past (reply_entries (half w) e x) (q_reply (half w) e x) r
+lined_step t w Acts r = lined_after w.past (act_entries (half w)) (q_act (half w)) r
+lined_step t w (Coordinates x) r = lined_after w.past (coordinates (core w) x) (q_if (may_log (core w)) (q_appended (core w) x) (q_freed x)) r
 lined_step t w (Delivers c d) r = lined_delivered t w c d (in_transit c d w.past) r
-lined_step t w Stops r = lined_behind w.past (Stopped ∷ []) (q_one Stopped refl) r
-lined_step t w (Restarts found) r = lined_behind w.past (restarted (core w).stopped found) (q_restarted (core w).stopped found) r
+lined_step t w Stops r = lined_after w.past (Stopped ∷ []) (q_one Stopped refl) r
+lined_step t w (Restarts found) r = lined_after w.past (restarted (core w).stopped found) (q_restarted (core w).stopped found) r
 
 pub sent_has_line : (G : ℕ → ActorNo → Call → Type 0) (t : ℕ) (ms : List Step) (w : World) → Ran G t ms w → each is_lined w.past ≡ true
 sent_has_line G t [] w r = rw r.1 refl

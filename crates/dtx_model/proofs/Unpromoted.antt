@@ -8,14 +8,13 @@ use Rattle.dtx_values.specs.declared.entry.Entry.TheVariants.{Called, Began, Clo
 use Rattle.dtx_values.specs.declared.entry.Party.TheVariants.{Client, Enl}
 use Rattle.dtx_values.specs.declared.message.Conn.{Conn}
 use Rattle.dtx_values.specs.declared.message.Dir.{Dir}
-use Rattle.dtx_values.specs.declared.number.EnlNo.{EnlNo}
-use Rattle.dtx_values.specs.declared.number.RmNo.{RmNo}
 use Rattle.dtx_values.specs.declared.words.Outcome.TheVariants.{Committed, Aborted, InDoubt}
 use Rattle.dtx_model.specs.Words.{each, has}
 use Rattle.dtx_model.specs.Observed.{Observed, observe, track}
 use Rattle.dtx_model.specs.Coordinated.{coordinate, follow, nothing}
 use Rattle.dtx_model.specs.Waiting.{EnteredCall, managed, waiting, waiting_after}
-use Rattle.dtx_model.specs.Half.{Half, half_of}
+use Rattle.dtx_model.specs.Half.{half_of}
+pub use Rattle.dtx_model.specs.Half.{at_home, narrow}
 use Rattle.dtx_model.specs.Wires.{in_transit, lost_since, transit_after, lost_after}
 use Rattle.dtx_model.specs.World.{has_left}
 use Rattle.dtx_model.specs.Causes.{is_begin_sent}
@@ -47,37 +46,6 @@ is_local _ = false
 
 abbrev pub are_local : List Entry → Bool
 are_local h = each is_local h
-
--- what is seen, with the marks of a promotion as they were at the start
-abbrev pub narrow : Observed → Observed
-narrow o =
-    record {
-      limit = o.limit;
-      clock = o.clock;
-      commit = o.commit;
-      sealed = o.sealed;
-      table = o.table;
-      clones = o.clones;
-      listeners = o.listeners;
-      handed = o.handed;
-      decided = o.decided;
-      told_client = o.told_client;
-      cause = None;
-      promoted = false;
-      failed = false;
-      handover = None;
-      promote_asked = false;
-      promote_replied = false;
-      single_asked = false;
-      requested = false;
-      yes = false;
-      ends = [];
-      branches = [];
-    }
-
--- a local side that sees no promotion, and at which no call waits
-abbrev pub at_home : Observed → List (EnlNo × RmNo) → Half
-at_home o ms = record { seen = narrow o; waits = []; managers = ms }
 
 -- a local entry leaves these marks as they are
 track_narrow : (o : Observed) (x : Entry) → is_local x ≡ true → track (narrow o) x ≡ narrow (track o x)

@@ -44,6 +44,37 @@ heeds_all ks h (x ∷ xs) = heeds_all ks (heeds ks h x) xs
 abbrev pub sees : Half → Entry → Half
 sees h x = heeds [] h x
 
+-- what is seen, with the marks of a promotion as they were at the start
+abbrev pub narrow : Observed → Observed
+narrow o =
+    record {
+      limit = o.limit;
+      clock = o.clock;
+      commit = o.commit;
+      sealed = o.sealed;
+      table = o.table;
+      clones = o.clones;
+      listeners = o.listeners;
+      handed = o.handed;
+      decided = o.decided;
+      told_client = o.told_client;
+      cause = None;
+      promoted = false;
+      failed = false;
+      handover = None;
+      promote_asked = false;
+      promote_replied = false;
+      single_asked = false;
+      requested = false;
+      yes = false;
+      ends = [];
+      branches = [];
+    }
+
+-- a local side that sees no promotion, and at which no call waits
+abbrev pub at_home : Observed → List (EnlNo × RmNo) → Half
+at_home o ms = record { seen = narrow o; waits = []; managers = ms }
+
 -- a promotion began, and neither succeeded nor failed
 abbrev pub is_promoting : Observed → Bool
 is_promoting o = is_some o.cause && not o.promoted && not o.failed

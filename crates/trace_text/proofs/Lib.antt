@@ -1,6 +1,12 @@
 pub mod Identifier
+pub mod OneTrace
 pub mod Printing
 pub mod ReadInfo
 pub mod ReadLines
 pub mod ReadPieces
 pub mod ReadTraces
+pub mod TellAnswers
+pub mod TellEntries
+pub mod TellMessages
+pub mod TellPieces
+pub mod TellWords

@@ -199,11 +199,11 @@ of_entry (LogWord (LogOpened n)) = number n
 of_entry _ = refl
 
 -- nor has a line before its LF
-body_without : (n : ℕ) (x : Placed) → IsWithout 10 (line_body n x)
+pub body_without : (n : ℕ) (x : Placed) → IsWithout 10 (line_body n x)
 body_without n x = spaced (decimal n ++ codes " " ++ place_text x.0) (entry_text x.1) (spaced (decimal n) (place_text x.0) (number n) (of_place x.0)) (of_entry x.1)
 
 -- what follows a line stands after its LF
-line-append : (n : ℕ) (x : Placed) (after : List ℕ) → trace_line n x ++ after ≡ line_body n x ++ 10 ∷ after
+pub line-append : (n : ℕ) (x : Placed) (after : List ℕ) → trace_line n x ++ after ≡ line_body n x ++ 10 ∷ after
 line-append n x after = append_assoc (line_body n x) (10 ∷ []) after
 
 -- what stands before the first LF is the line
@@ -215,7 +215,7 @@ pub same_after : (n m : ℕ) (x y : Placed) (a b : List ℕ) → trace_line n x 
 same_after n m x y a b e = (cut_same 10 (line_body n x) (line_body m y) a b (body_without n x) (body_without m y) (sym (line-append n x a) ∙ e ∙ line-append m y b)).1
 
 -- a place has no space
-place_apart : (p : Place) → IsWithout 32 (place_text p)
+pub place_apart : (p : Place) → IsWithout 32 (place_text p)
 place_apart (Context a) = name_without 97 a.value (omega arith)
 place_apart (Transaction t) = name_without 116 t.value (omega arith)
 place_apart Log = refl

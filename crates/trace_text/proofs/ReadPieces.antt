@@ -110,7 +110,7 @@ ambient_found (Ambient None) y key a b d n k hy = absurd (n k)
 ambient_found _ y key a b d n k hy = absurd (cc (a, b, d))
 
 -- a party has no space
-party_apart : (p : Party) → IsWithout 32 (party_text p)
+pub party_apart : (p : Party) → IsWithout 32 (party_text p)
 party_apart Client = refl
 party_apart (Enl e) = name_without 101 e.value (omega arith)
 
@@ -122,7 +122,7 @@ connection_apart (OnEnl e) = name_without 101 e.value (omega arith)
 connection_apart (Again e) = name_without 120 e.value (omega arith)
 
 -- nor has a direction
-direction_apart : (d : Dir) → IsWithout 32 (direction_text d)
+pub direction_apart : (d : Dir) → IsWithout 32 (direction_text d)
 direction_apart Up = refl
 direction_apart Downward = refl
 

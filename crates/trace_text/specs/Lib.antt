@@ -1,3 +1,4 @@
+pub mod OneTrace
 pub mod Printed
 pub mod ReadGroups
 pub mod ReadTrace

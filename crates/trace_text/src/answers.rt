@@ -1,7 +1,7 @@
 //! The answers of calls.
-ghost use Rattle.std.specs.Prelude.{◌≡◌, ◌≤◌, ◌+◌, ◌++◌, length};
+ghost use Rattle.std.specs.Prelude.{◌≡◌, ◌≤◌, ◌+◌, ◌++◌, length, true};
 ghost use Rattle.dtx_values.specs.declared.entry.Answer.TheVariants.{Connected, Ended, Id, Isolation, Nested, Over};
-ghost use Rattle.dtx_model.specs.TraceText.{answer_text};
+ghost use Rattle.dtx_model.specs.TraceText.{answer_text, is_answer_fit};
 
 use crate::names::{put_ambient, put_identifier};
 use crate::words::put_outcome;
@@ -75,6 +75,7 @@ pub fn put_answer(tail: &mut Tail, a: Answer)
     requires { 43 + length tail.old ≤ 160 }
     ensures text { tail.new ≡ answer_text a ++ tail.old }
     ensures length { length tail.new ≤ 43 + length tail.old }
+    ensures typed { is_answer_fit a ≡ true }
 {
     match a {
         Answer::Fine => tail.put(b"ok"),

@@ -4,6 +4,7 @@ ghost use Rattle.dtx_values.specs.declared.entry.Entry.TheVariants.{Answered, As
 ghost use Rattle.dtx_values.specs.declared.entry.Entry.TheVariants.{OwnerAnswered, Promoted, PromoteReply, Promoting, Recovered, Requested, Restarted, Scope, Told, Voted};
 ghost use Rattle.dtx_model.specs.Grammar.{enlistment_name};
 ghost use Rattle.dtx_model.specs.TraceText.{entry_text, sent_text};
+ghost use Rattle.trace_text.specs.OneTrace.{is_cause_typed, is_typed};
 ghost use Rattle.trace_text.specs.Printed.{is_event};
 
 use crate::answers::put_answer;
@@ -38,6 +39,7 @@ fn put_call(tail: &mut Tail, line: u32, actor: ActorNo, answer: Answer)
     requires { 91 + length tail.old ≤ 160 }
     ensures text { tail.new ≡ entry_text (Called line actor answer) ++ tail.old }
     ensures length { length tail.new ≤ 91 + length tail.old }
+    ensures typed { is_typed (Called line actor answer) ≡ true }
 {
     put_answer(tail, answer);
     tail.put(b" ");
@@ -51,6 +53,7 @@ fn put_answered(tail: &mut Tail, line: u32, answer: Answer)
     requires { 91 + length tail.old ≤ 160 }
     ensures text { tail.new ≡ entry_text (Answered line answer) ++ tail.old }
     ensures length { length tail.new ≤ 91 + length tail.old }
+    ensures typed { is_typed (Answered line answer) ≡ true }
 {
     put_answer(tail, answer);
     tail.put(b" ");
@@ -182,6 +185,7 @@ fn put_promoted(tail: &mut Tail, id: u128, cause: Cause)
     requires { 91 + length tail.old ≤ 160 }
     ensures text { tail.new ≡ entry_text (Promoted id cause) ++ tail.old }
     ensures length { length tail.new ≤ 91 + length tail.old }
+    ensures typed { is_typed (Promoted id cause) ≡ true }
 {
     put_cause(tail, cause);
     tail.put(b" ");
@@ -195,6 +199,7 @@ fn put_wire(tail: &mut Tail, word: &[u8], c: Conn, d: Dir, m: Message)
     requires { length word.now + 67 + length tail.old ≤ 160 }
     ensures text { tail.new ≡ word.now ++ sent_text c d m ++ tail.old }
     ensures length { length tail.new ≤ length word.now + 67 + length tail.old }
+    ensures typed { is_cause_typed m ≡ true }
 {
     put_sent(tail, c, d, m);
     tail.put(word);
@@ -205,6 +210,7 @@ fn put_cut(tail: &mut Tail, c: Conn, up: u32, down: u32)
     requires { 91 + length tail.old ≤ 160 }
     ensures text { tail.new ≡ entry_text (Cut c up down) ++ tail.old }
     ensures length { length tail.new ≤ 91 + length tail.old }
+    ensures typed { is_typed (Cut c up down) ≡ true }
 {
     put_numbered(tail, b" ", u64::from(down));
     put_numbered(tail, b" ", u64::from(up));
@@ -273,6 +279,7 @@ fn put_log_note(tail: &mut Tail, x: LogNote)
     requires { 91 + length tail.old ≤ 160 }
     ensures text { tail.new ≡ entry_text (LogWord x) ++ tail.old }
     ensures length { length tail.new ≤ 91 + length tail.old }
+    ensures typed { is_typed (LogWord x) ≡ true }
 {
     match x {
         LogNote::Armed(n, image) => {
@@ -312,6 +319,7 @@ pub fn put_entry(tail: &mut Tail, x: Entry)
     requires { 91 + length tail.old ≤ 160 }
     ensures text { tail.new ≡ entry_text x ++ tail.old }
     ensures length { length tail.new ≤ 91 + length tail.old }
+    ensures typed { is_typed x ≡ true }
 {
     match x {
         Entry::Called(line, actor, answer) => put_call(tail, line, actor, answer),

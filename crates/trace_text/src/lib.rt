@@ -14,4 +14,4 @@ mod words;
 
 pub use dtx_values::{Place, Trace};
 pub use printer::print_trace;
-pub use reader::{TraceError, read_trace, reads_traces_exactly};
+pub use reader::{TraceError, one_trace, read_trace, reads_traces_exactly};

@@ -1,6 +1,7 @@
 //! Messages on their connections.
-ghost use Rattle.std.specs.Prelude.{◌≡◌, ◌≤◌, ◌+◌, ◌++◌, length};
+ghost use Rattle.std.specs.Prelude.{◌≡◌, ◌≤◌, ◌+◌, ◌++◌, length, true};
 ghost use Rattle.dtx_model.specs.TraceText.{message_text, sent_text};
+ghost use Rattle.trace_text.specs.OneTrace.{is_cause_typed};
 
 use crate::words::put_direction;
 use dtx_values::{Conn, Dir, Message};
@@ -11,6 +12,7 @@ fn put_message(tail: &mut Tail, m: Message)
     requires { 28 + length tail.old ≤ 160 }
     ensures text { tail.new ≡ message_text m ++ tail.old }
     ensures length { length tail.new ≤ 28 + length tail.old }
+    ensures typed { is_cause_typed m ≡ true }
 {
     match m {
         Message::BeginBegin => tail.put(b"begin"),
@@ -49,6 +51,7 @@ pub fn put_sent(tail: &mut Tail, c: Conn, d: Dir, m: Message)
     requires { 67 + length tail.old ≤ 160 }
     ensures text { tail.new ≡ sent_text c d m ++ tail.old }
     ensures length { length tail.new ≤ 67 + length tail.old }
+    ensures typed { is_cause_typed m ≡ true }
 {
     put_message(tail, m);
     tail.put(b" ");

@@ -1,6 +1,8 @@
 //! Prints traces in the plain form: a line for each entry, with its number, its place and its words.
-ghost use Rattle.std.specs.Prelude.{◌≡◌, [], IfOk};
+ghost use Rattle.std.specs.Prelude.{◌≡◌, [], true, IfOk};
 ghost use Rattle.dtx_model.specs.TraceText.{trace_line, trace_text};
+ghost use Rattle.dtx_model.specs.Words.{each};
+ghost use Rattle.trace_text.specs.OneTrace.{is_typed_at};
 
 use crate::entries::put_entry;
 use crate::names::put_place;
@@ -14,7 +16,8 @@ const MEAN_LINE: usize = 32;
 /// Makes the line of an entry.
 pub fn put_line(tail: &mut Tail, number: usize, x: (Place, Entry))
     requires { tail.old ≡ [] }
-    ensures { tail.new ≡ trace_line number x }
+    ensures text { tail.new ≡ trace_line number x }
+    ensures typed { is_typed_at x ≡ true }
 {
     tail.put(b"\n");
     put_entry(tail, x.1);
@@ -30,7 +33,8 @@ pub fn put_line(tail: &mut Tail, number: usize, x: (Place, Entry))
 ///
 /// [`AllocError`] where memory ran out.
 pub fn print_trace(alloc: Global, t: &Trace) -> Result<Vec<u8>, AllocError>
-    ensures { IfOk result (λ v. v.items ≡ trace_text t.now) }
+    ensures text { IfOk result (λ v. v.items ≡ trace_text t.now) }
+    ensures typed { IfOk result (λ v. each is_typed_at t.now ≡ true) }
 {
     let entries = t.entries();
     let mut text = Vec::with_capacity(alloc, entries.len().saturating_mul(MEAN_LINE))?;

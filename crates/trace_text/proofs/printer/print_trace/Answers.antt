@@ -1,16 +1,27 @@
-use Rattle.std.proofs.Common.{ap, ◌∙◌}
+use Rattle.std.proofs.Common.{ap, sym, ◌∙◌}
 use Rattle.std.proofs.lemmas.List.{take_all}
 use Rattle.dtx_model.specs.TraceText.{lines_from, trace_text}
-use Rattle.trace_text.proofs.Printing.{lines-step}
+use Rattle.dtx_model.specs.Words.{each}
+use Rattle.trace_text.specs.OneTrace.{is_typed_at}
+use Rattle.trace_text.proofs.Printing.{lines-step, typed-step}
 use Rattle.trace_text.proofs.printer.print_trace.Goals as goal
 
 pub loop-index-preserved : goal.loop-index-preserved
 loop-index-preserved c =
     let step = lines-step c.entries-entries.result.now c.loop-index.index c.index-entries-index.result c.loop-index-test.true c.index-entries-index.is in
-    cc (step, c.in_ok-extend_from_slice.ensures.items, c.as_slice.ensures, c.put_line.ensures, c.loop-index.invariant)
+    record {
+      text = cc (step, c.in_ok-extend_from_slice.ensures.items, c.as_slice.ensures, c.put_line.ensures.text, c.loop-index.invariant.text);
+      typed = typed-step c.entries-entries.result.now c.loop-index.index c.index-entries-index.result c.loop-index-test.true c.index-entries-index.is c.loop-index.invariant.typed
+          c.put_line.ensures.typed;
+    }
 
-pub returns : goal.returns
+pub returns-clause-text : goal.returns-clause-text
 unfolding trace_text
-returns c =
+returns-clause-text c =
     let all = take_all c.loop-index.index c.entries-entries.result.now c.loop-index-test.false in
-    c.loop-index.invariant ∙ ap (λ xs. lines_from 1 xs) (all ∙ c.entries-entries.ensures)
+    c.loop-index.invariant.text ∙ ap (λ xs. lines_from 1 xs) (all ∙ c.entries-entries.ensures)
+
+pub returns-clause-typed : goal.returns-clause-typed
+returns-clause-typed c =
+    let all = take_all c.loop-index.index c.entries-entries.result.now c.loop-index-test.false in
+    ap (λ xs. each is_typed_at xs) (sym (all ∙ c.entries-entries.ensures)) ∙ c.loop-index.invariant.typed

@@ -1,0 +1,214 @@
+-- Worked histories and traces: the log stops while it appends, is opened again, and the durable comes back.
+use Rattle.std.proofs.Common.{Bool, List, Some, [], false, refl, true, ℕ, ◌++◌, ◌==◌, ◌∷◌}
+use Rattle.dtx_values.specs.declared.entry.Answer.TheVariants.{Fine, Finished, OutcomeIs, Over, Wait}
+use Rattle.dtx_values.specs.declared.entry.Ask.TheVariants.{Prepare}
+use Rattle.dtx_values.specs.declared.entry.Entry.{Entry}
+use Rattle.dtx_values.specs.declared.entry.Entry.TheVariants.{Acked, Answered, Asked, Began, Called, CommitAsked, Decided, Down as Ended, Enlisted, Freed, Got, LocalYes, LogWord, Promoted, Promoting, Recovered as RecoveredEntry, Reenlisted, Restarted, Sealed, Sent, Stopped, Told, Voted}
+use Rattle.dtx_values.specs.declared.entry.LogNote.{LogNote}
+use Rattle.dtx_values.specs.declared.entry.LogNote.TheVariants.{Armed, Opened}
+use Rattle.dtx_values.specs.declared.entry.Party.TheVariants.{Client, Enl as Member}
+use Rattle.dtx_values.specs.declared.message.Conn.TheVariants.{Again, Begin, Enl, Voter}
+use Rattle.dtx_values.specs.declared.message.Dir.TheVariants.{Down, Up}
+use Rattle.dtx_values.specs.declared.message.Message.TheVariants.{BeginBegin, BeginBegun, BeginCommit, EnlistEnlist, EnlistEnlisted, EnlistPrepare, EnlistPrepared, ReenlistAborted, ReenlistAck, ReenlistCommitted, ReenlistReenlist, VoterAsk, VoterCreated, VoterVoter, VoterYes}
+use Rattle.dtx_values.specs.declared.script.Body.TheVariants.{Await as AwaitLine, Begin as BeginLine, Commit as CommitLine, Durable as DurableLine, Recovered as RecoveredLine, Reenlist as ReenlistLine, Restart as RestartLine, Stop as StopLine}
+use Rattle.dtx_values.specs.declared.script.Line.{Line}
+use Rattle.dtx_values.specs.declared.script.Support.TheVariants.{TwoPhase}
+use Rattle.dtx_values.specs.declared.trace.Place.TheVariants.{Log}
+use Rattle.dtx_values.specs.declared.words.Cause.TheVariants.{Two}
+use Rattle.dtx_values.specs.declared.words.Class.TheVariants.{DurableTwo}
+use Rattle.dtx_values.specs.declared.words.Image.TheVariants.{Keep, Torn}
+use Rattle.dtx_values.specs.declared.words.Outcome.TheVariants.{Aborted, Committed, InDoubt}
+use Rattle.dtx_values.specs.declared.words.Timeout.TheVariants.{Default}
+use Rattle.dtx_values.specs.declared.words.Vote.TheVariants.{Yes}
+use Rattle.dtx_model.specs.Half.{info}
+use Rattle.dtx_model.specs.Replay.{Placed, placed}
+use Rattle.dtx_model.specs.Turns.{StoppedNow}
+use Rattle.dtx_model.specs.Words.{past_of}
+use Rattle.dtx_model.proofs.Cast.{a1, e1, id1, r1, says, t1}
+use Rattle.dtx_model.proofs.Computing.{model}
+use Rattle.dtx_model.proofs.Crossing.{wired}
+use Rattle.dtx_model.proofs.Replaying.{IsWorkedTrace}
+use Rattle.dtx_model.proofs.Working.{IsWorked}
+
+-- begin, a two-phase durable, and commit: the durable promotes
+abbrev pub asked : List Entry
+asked =
+    Called 1 a1 Fine ∷ Began 60000 ∷
+    Called 2 a1 Wait ∷ Promoting Two ∷ Sent Begin Up BeginBegin ∷
+    Called 3 a1 Fine ∷ CommitAsked ∷ []
+
+-- the coordinator has all votes: it is about to append the record of the commit
+abbrev pub prepared : List Entry
+prepared =
+    Got Begin Up BeginBegin ∷ Sent Begin Down (BeginBegun id1) ∷
+    Got Begin Down (BeginBegun id1) ∷ Sent Voter Up (VoterVoter id1) ∷
+    Got Voter Up (VoterVoter id1) ∷ Sent Voter Down VoterCreated ∷
+    Got Voter Down VoterCreated ∷ Promoted id1 Two ∷ Sent (Enl e1) Up (EnlistEnlist (info 1 e1 r1)) ∷
+    Got (Enl e1) Up (EnlistEnlist (info 1 e1 r1)) ∷ Sent (Enl e1) Down EnlistEnlisted ∷
+    Got (Enl e1) Down EnlistEnlisted ∷ Enlisted e1 DurableTwo ∷ Answered 2 Fine ∷
+    Sealed ∷ Sent Begin Up BeginCommit ∷
+    Got Begin Up BeginCommit ∷ Sent Voter Down VoterAsk ∷ Sent (Enl e1) Down EnlistPrepare ∷
+    Got Voter Down VoterAsk ∷
+    LocalYes ∷ Sent Voter Up VoterYes ∷
+    Got Voter Up VoterYes ∷
+    Got (Enl e1) Down EnlistPrepare ∷ Asked e1 Prepare ∷
+    Voted e1 Yes ∷ Sent (Enl e1) Up EnlistPrepared ∷
+    Got (Enl e1) Up EnlistPrepared ∷ []
+
+-- the log stops under that append, and the coordinator with it. All connections are lost, and here the outcome is in doubt.
+abbrev pub stopped : List Entry
+stopped =
+    Stopped ∷
+    Ended Begin Down ∷
+    Ended Voter Down ∷ Decided InDoubt ∷
+    Told Client InDoubt ∷
+    Ended (Enl e1) Down ∷
+    Called 5 a1 (OutcomeIs InDoubt) ∷ []
+
+-- The whole trace has what stands at the log too: lines 4 and 6 have their calls there. A stop comes to the log first, and then to the transaction.
+abbrev with_log : LogNote → ℕ → List Entry → List Placed
+with_log armed records rest =
+    placed t1 asked ++ ((Log, Called 4 a1 Fine) ∷ (Log, LogWord armed) ∷ placed t1 prepared)
+    ++ ((Log, Stopped) ∷ placed t1 stopped) ++ ((Log, Called 6 a1 Fine) ∷ (Log, LogWord (Opened records)) ∷ placed t1 rest)
+
+-- the record of transaction 1 is found, or none
+abbrev one : ℕ → Bool
+one n = n == 1
+
+abbrev none : ℕ → Bool
+none n = false
+
+-- The stop comes at the third of the four device calls, so the record is durable. The restart finds it; the durable comes back, hears the commit, and acknowledges it.
+abbrev pub finds_the_record_lines : List Line
+finds_the_record_lines =
+    says a1 (BeginLine t1 Default) ∷
+    says a1 (DurableLine t1 e1 r1 (TwoPhase (Some Yes))) ∷
+    says a1 (CommitLine t1) ∷
+    says a1 (StopLine 3 Keep) ∷
+    says a1 (AwaitLine t1) ∷
+    says a1 RestartLine ∷
+    says a1 (ReenlistLine e1) ∷ []
+
+abbrev finds_the_record_rest : List Entry
+finds_the_record_rest =
+    Restarted true ∷
+    Called 7 a1 Fine ∷ Reenlisted e1 ∷ Sent (Again e1) Up (ReenlistReenlist (info 1 e1 r1)) ∷
+    Got (Again e1) Up (ReenlistReenlist (info 1 e1 r1)) ∷ Sent (Again e1) Down ReenlistCommitted ∷
+    Got (Again e1) Down ReenlistCommitted ∷ Told (Member e1) Committed ∷
+    Acked e1 ∷ Sent (Again e1) Up ReenlistAck ∷
+    Got (Again e1) Up ReenlistAck ∷
+    Freed ∷ []
+
+abbrev finds_the_record_history : List Entry
+finds_the_record_history = asked ++ prepared ++ stopped ++ finds_the_record_rest
+
+finds_the_record : IsWorked finds_the_record_lines (StoppedNow ∷ []) (true ∷ []) finds_the_record_history
+unfolding model
+finds_the_record = (refl, refl, refl, refl, refl, wired (past_of finds_the_record_history) refl, refl, refl, refl, refl)
+
+finds_the_record_trace : IsWorkedTrace finds_the_record_lines ((one, 1) ∷ []) (with_log (Armed 3 Keep) 1 finds_the_record_rest)
+unfolding model
+finds_the_record_trace = (refl, refl, refl, refl)
+
+-- The stop comes at the first device call. The restart finds no record, so the transaction is aborted there, and the durable that comes back hears that.
+abbrev finds_none_lines : List Line
+finds_none_lines =
+    says a1 (BeginLine t1 Default) ∷
+    says a1 (DurableLine t1 e1 r1 (TwoPhase (Some Yes))) ∷
+    says a1 (CommitLine t1) ∷
+    says a1 (StopLine 1 Torn) ∷
+    says a1 (AwaitLine t1) ∷
+    says a1 RestartLine ∷
+    says a1 (ReenlistLine e1) ∷ []
+
+abbrev finds_none_rest : List Entry
+finds_none_rest =
+    Restarted false ∷
+    Called 7 a1 Fine ∷ Reenlisted e1 ∷ Sent (Again e1) Up (ReenlistReenlist (info 1 e1 r1)) ∷
+    Got (Again e1) Up (ReenlistReenlist (info 1 e1 r1)) ∷ Sent (Again e1) Down ReenlistAborted ∷
+    Got (Again e1) Down ReenlistAborted ∷ Told (Member e1) Aborted ∷ []
+
+abbrev finds_none_history : List Entry
+finds_none_history = asked ++ prepared ++ stopped ++ finds_none_rest
+
+finds_none : IsWorked finds_none_lines (StoppedNow ∷ []) (false ∷ []) finds_none_history
+unfolding model
+finds_none = (refl, refl, refl, refl, refl, wired (past_of finds_none_history) refl, refl, refl, refl, refl)
+
+finds_none_trace : IsWorkedTrace finds_none_lines ((none, 0) ∷ []) (with_log (Armed 1 Torn) 0 finds_none_rest)
+unfolding model
+finds_none_trace = (refl, refl, refl, refl)
+
+-- Who acknowledged has finished: it can't come back a second time.
+abbrev comes_back_twice_lines : List Line
+comes_back_twice_lines =
+    says a1 (BeginLine t1 Default) ∷
+    says a1 (DurableLine t1 e1 r1 (TwoPhase (Some Yes))) ∷
+    says a1 (CommitLine t1) ∷
+    says a1 (StopLine 3 Keep) ∷
+    says a1 (AwaitLine t1) ∷
+    says a1 RestartLine ∷
+    says a1 (ReenlistLine e1) ∷
+    says a1 (AwaitLine t1) ∷
+    says a1 (ReenlistLine e1) ∷ []
+
+abbrev comes_back_twice_rest : List Entry
+comes_back_twice_rest =
+    Restarted true ∷
+    Called 7 a1 Fine ∷ Reenlisted e1 ∷ Sent (Again e1) Up (ReenlistReenlist (info 1 e1 r1)) ∷
+    Got (Again e1) Up (ReenlistReenlist (info 1 e1 r1)) ∷ Sent (Again e1) Down ReenlistCommitted ∷
+    Got (Again e1) Down ReenlistCommitted ∷ Told (Member e1) Committed ∷
+    Acked e1 ∷ Sent (Again e1) Up ReenlistAck ∷
+    Got (Again e1) Up ReenlistAck ∷
+    Freed ∷
+    Called 8 a1 (OutcomeIs InDoubt) ∷
+    Called 9 a1 Finished ∷ []
+
+abbrev comes_back_twice_history : List Entry
+comes_back_twice_history = asked ++ prepared ++ stopped ++ comes_back_twice_rest
+
+comes_back_twice : IsWorked comes_back_twice_lines (StoppedNow ∷ []) (true ∷ []) comes_back_twice_history
+unfolding model
+comes_back_twice = (refl, refl, refl, refl, refl, wired (past_of comes_back_twice_history) refl, refl, refl, refl, refl)
+
+comes_back_twice_trace : IsWorkedTrace comes_back_twice_lines ((one, 1) ∷ []) (with_log (Armed 3 Keep) 1 comes_back_twice_rest)
+unfolding model
+comes_back_twice_trace = (refl, refl, refl, refl)
+
+-- A manager that says that its recovery is complete needs nothing more: the record is freed, and its durable can't come back.
+abbrev is_recovered_lines : List Line
+is_recovered_lines =
+    says a1 (BeginLine t1 Default) ∷
+    says a1 (DurableLine t1 e1 r1 (TwoPhase (Some Yes))) ∷
+    says a1 (CommitLine t1) ∷
+    says a1 (StopLine 3 Keep) ∷
+    says a1 (AwaitLine t1) ∷
+    says a1 RestartLine ∷
+    says a1 (RecoveredLine t1 r1) ∷
+    says a1 (ReenlistLine e1) ∷ []
+
+abbrev is_recovered_rest : List Entry
+is_recovered_rest =
+    Restarted true ∷
+    Called 7 a1 Fine ∷ RecoveredEntry r1 ∷
+    Called 8 a1 (Over r1) ∷
+    Freed ∷ []
+
+abbrev is_recovered_history : List Entry
+is_recovered_history = asked ++ prepared ++ stopped ++ is_recovered_rest
+
+is_recovered : IsWorked is_recovered_lines (StoppedNow ∷ []) (true ∷ []) is_recovered_history
+unfolding model
+is_recovered = (refl, refl, refl, refl, refl, wired (past_of is_recovered_history) refl, refl, refl, refl, refl)
+
+is_recovered_trace : IsWorkedTrace is_recovered_lines ((one, 1) ∷ []) (with_log (Armed 3 Keep) 1 is_recovered_rest)
+unfolding model
+is_recovered_trace = (refl, refl, refl, refl)
+
+-- A restart of a log that nothing was sent to: no transaction has an entry of it.
+abbrev restarts_alone_lines : List Line
+restarts_alone_lines = says a1 (BeginLine t1 Default) ∷ says a1 RestartLine ∷ []
+
+restarts_alone : IsWorkedTrace restarts_alone_lines ((none, 0) ∷ []) (placed t1 (Called 1 a1 Fine ∷ Began 60000 ∷ []) ++ ((Log, Called 2 a1 Fine) ∷ (Log, Stopped) ∷ (Log, LogWord (Opened 0)) ∷ []))
+unfolding model
+restarts_alone = (refl, refl, refl, refl)
