@@ -74,7 +74,7 @@ heeds_same : (ks : List EnteredCall) (h : Half) (x : Entry) → is_quiet x ≡ t
 heeds_same ks h (Called n a x) p = absurd cc
 heeds_same ks h _ p = refl
 
-heeds_all_same : (ks : List EnteredCall) (h : Half) (xs : List Entry) → Quiet xs → heeds_all ks h xs ≡ heeds_all [] h xs
+pub heeds_all_same : (ks : List EnteredCall) (h : Half) (xs : List Entry) → Quiet xs → heeds_all ks h xs ≡ heeds_all [] h xs
 unfolding heeds_all
 heeds_all_same ks h [] q = refl
 heeds_all_same ks h (x ∷ xs) q = rw (heeds_same ks h x (q_head x xs q)) (heeds_all_same ks (heeds [] h x) xs (q_tail x xs q))

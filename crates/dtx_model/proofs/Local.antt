@@ -215,7 +215,7 @@ waits_promotes t w n a c k p q =
     ap (λ x. has is_promoting_entry (Called n a x ∷ facts_if (has_facts x) (facts_at t w c x))) (answer-narrow t w c k p ∙ q) ∙ waits_block t w n a c k p q
 
 -- the block of a step that may come, where nothing was promoted before it: the narrow block, or a promotion begins
-pub IsNarrow : ℕ → World → Step → Type 0
+abbrev pub IsNarrow : ℕ → World → Step → Type 0
 IsNarrow t w m = (block_at t w m ≡ block (observe w.past) m) × (are_local (block (observe w.past) m) ≡ true)
 
 may_nothing : (w : World) (a : LogAnswer) → are_local w.past ≡ true → may_coordinate (core w) a ≡ false
@@ -223,12 +223,11 @@ unfolding may_log may_free
 may_nothing w a p = rw (coordinate-local w.past p) refl
 
 wait_case : (t : ℕ) (w : World) (n : ℕ) (a : ActorNo) (c : Call) (k : ℕ) (x : Answer) → are_local w.past ≡ true → answer (observe w.past) c k ≡ x → (has is_promoting_entry (block_at t w (Calls n a c k)) ≡ true) ⊎ IsNarrow t w (Calls n a c k)
-unfolding IsNarrow
 wait_case t w n a c k Wait p e = inl (waits_promotes t w n a c k p e)
 wait_case t w n a c k x p e = inr (call-narrow t w n a c k p (ap is_wait e), call_local (observe w.past) n a c k (ap is_wait e))
 
 pub step-narrow : (G : ℕ → ActorNo → Call → Type 0) (t : ℕ) (w : World) (m : Step) → are_local w.past ≡ true → MayCome G t w m → (has is_promoting_entry (block_at t w m) ≡ true) ⊎ IsNarrow t w m
-unfolding block_at block IsNarrow
+unfolding block_at block
 step-narrow G t w (Calls n a c k) p q = wait_case t w n a c k (answer (observe w.past) c k) p refl
 step-narrow G t w (Replies e r) p q =
     let o = observe w.past in
@@ -259,12 +258,11 @@ has-onto p h (x ∷ xs) = has-onto p (x ∷ h) xs ∙ or_turn (has p xs) (p x) (
 
 local_step : (G : ℕ → ActorNo → Call → Type 0) (t : ℕ) (v : World) (m : Step) → are_local v.past ≡ true → has is_promoting_entry (block_at t v m) ≡ false →
     (has is_promoting_entry (block_at t v m) ≡ true) ⊎ IsNarrow t v m → are_local (onto v.past (block_at t v m)) ≡ true
-unfolding IsNarrow
 local_step G t v m p q (inl k) = absurd (not_both (has is_promoting_entry (block_at t v m)) k q)
 local_step G t v m p q (inr k) = subst (λ xs. are_local (onto v.past xs) ≡ true) (sym k.0) (local_onto v.past (block (observe v.past) m) p k.1)
 
 ran_local : (G : ℕ → ActorNo → Call → Type 0) (t : ℕ) (ms : List Step) (w : World) → Ran G t ms w → has is_promoting_entry w.past ≡ false → are_local w.past ≡ true
-unfolding after IsNarrow
+unfolding after
 ran_local G t [] w r q = rw r.1 refl
 ran_local G t (m ∷ ms) w r q =
     let v = r.0 in

@@ -350,7 +350,7 @@ q_durable t h e r single _ = q_one (Enlisted e DurableSingle) refl
 q_time_up : (h : Half) → Quiet (time_up h)
 q_time_up h = q_if (is_late h.seen) (q_one Late refl) (q_cons TimedOut refl (q_veto h))
 
-q_facts : (t : ℕ) (h : Half) (c : Call) (a : Answer) → Quiet (local_facts t h c a)
+pub q_facts : (t : ℕ) (h : Half) (c : Call) (a : Answer) → Quiet (local_facts t h c a)
 q_facts t h (BeginCall u d) a = q_one (Began (limit_of d)) refl
 q_facts t h (Volatile u e x v) a = q_one (Enlisted e (class_of x)) refl
 q_facts t h (Durable u e r s) a = q_durable t h e r (is_single s) a
@@ -363,7 +363,7 @@ q_facts t h (Marshal u) a = q_if (is_promoting h.seen) q_none (q_begin_promotion
 q_facts t h (Tick u n) a = q_cons (Clock (ticked h.seen.clock n)) refl (q_if (reaches h.seen.limit h.seen.clock (ticked h.seen.clock n)) (q_time_up h) q_none)
 q_facts t h _ a = q_none
 
-q_gone_decides : (h : Half) (e : EnlNo) → Quiet (gone_decides h e)
+pub q_gone_decides : (h : Half) (e : EnlNo) → Quiet (gone_decides h e)
 q_gone_decides h e = q_if (is_some h.seen.decided || voted e.value h.seen.table) q_none (q_if (is_handed h.seen.handed e.value) (q_decide h InDoubt) (q_veto h))
 
 q_gone : (w : World) (e : EnlNo) (cs : List Conn) → Quiet (gone_by w e cs)

@@ -38,7 +38,7 @@ pub has-onto : {E : Type 0} (p : E → Bool) (h xs : List E) → has p (onto h x
 has-onto p h [] = refl
 has-onto p h (x ∷ xs) = has-onto p (x ∷ h) xs ∙ or_turn (p x) (has p xs) (has p h)
 
-each-onto : {E : Type 0} (p : E → Bool) (h xs : List E) → each p (onto h xs) ≡ (each p xs && each p h)
+pub each-onto : {E : Type 0} (p : E → Bool) (h xs : List E) → each p (onto h xs) ≡ (each p xs && each p h)
 each-onto p h [] = refl
 each-onto p h (x ∷ xs) = each-onto p (x ∷ h) xs ∙ and_turn (p x) (each p xs) (each p h)
 

@@ -1,2 +1,4 @@
 mod Only
+mod Places
 mod Rising
+mod Waiting

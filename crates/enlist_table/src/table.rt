@@ -1,6 +1,6 @@
 //! The table.
 ghost use Rattle.std.specs.Prelude.{◌≡◌, ◌≤◌, [], length, map, find, not, true, IfErr, IfOk, OnErr, OnOk, None, Some, vec_capacity};
-ghost use Rattle.std.specs.List.{list_any};
+ghost use Rattle.std.specs.List.{list_any, position};
 ghost use Rattle.dtx_values.specs.declared.limits.TheConstants.{ENLISTMENTS};
 ghost use Rattle.dtx_values.specs.declared.row.Row.{Row};
 ghost use Rattle.dtx_values.specs.Class.{is_durable, is_promotable};
@@ -9,6 +9,7 @@ ghost use Rattle.dtx_values.specs.Row.{has_voted, is_asked_before, is_lasting, i
 ghost use Rattle.dtx_values.specs.Table.{has_row, how_many, insert_by, marks, rises_above, voted, voted_before, was_asked, with_mark, with_row, with_vote};
 ghost use Rattle.dtx_values.specs.Waves.{all_voted, may_be_asked, next_ask, zeros_voted};
 ghost use Rattle.enlist_table.specs.Refusals.{add_refusal, row_refusal};
+ghost use Rattle.enlist_table.specs.Waiting.{is_waiting, one_if};
 
 use crate::refusal::{AddRefusal, TableRefusal};
 use dtx_values::{Class, DURABLES, ENLISTMENTS, EnlNo, Row, Vote, insert_in_order};
@@ -19,19 +20,22 @@ use std::marker::Model;
 #[derive(Drop)]
 pub struct EnlistTable {
     rows: Vec<Row>,
+    /// How many rows are marked as asked to prepare and have no vote.
+    waiting: u8,
 }
 
 impl Model for EnlistTable {
     ghost use Rattle.std.specs.Prelude.{List, ◌≡◌, ◌≤◌, true, vec_capacity, length};
     ghost use Rattle.dtx_values.specs.declared.limits.TheConstants.{ENLISTMENTS};
     ghost use Rattle.dtx_values.specs.declared.row.Row.{Row};
-    ghost use Rattle.dtx_values.specs.Table.{rises_above};
+    ghost use Rattle.dtx_values.specs.Table.{how_many, rises_above};
+    ghost use Rattle.enlist_table.specs.Waiting.{is_waiting};
 
     ghost Value = { List Row };
 
     ghost view = { λ t. t.rows.items };
 
-    ghost invariant = { λ t. (ENLISTMENTS ≤ vec_capacity t.rows) × (length t.rows.items ≤ ENLISTMENTS) × (rises_above 0 t.rows.items ≡ true) };
+    ghost invariant = { λ t. (ENLISTMENTS ≤ vec_capacity t.rows) × (length t.rows.items ≤ ENLISTMENTS) × (rises_above 0 t.rows.items ≡ true) × (t.waiting ≡ how_many is_waiting t.rows.items) };
 }
 
 /// Whether the mark is there, and fewer than n were marked before it.
@@ -59,42 +63,18 @@ fn lasting(rows: &[Row]) -> usize
     rows.iter().filter(|x| x.is_lasting()).count()
 }
 
-/// Marks the row as asked after n others, where it is this enlistment's.
-fn mark_in(x: &mut Row, e: EnlNo, n: u8)
-    ensures { x.new ≡ mark_in e.value n x.old }
+/// 1 where it holds, else 0.
+fn one_if(holds: bool) -> u8
+    ensures { result ≡ one_if holds }
 {
-    if x.number == e && x.asked.is_none() {
-        x.asked = Some(n);
-    }
+    if holds { 1 } else { 0 }
 }
 
-/// Marks an enlistment's row as asked after n others.
-fn mark(rows: &mut Vec<Row>, e: EnlNo, n: u8)
-    ensures items { rows.new.items ≡ map (λ x. mark_in e.value n x) rows.old.items }
-    ensures capacity { vec_capacity rows.old ≤ vec_capacity rows.new }
+/// The place of an enlistment's row.
+fn place_of(rows: &[Row], e: EnlNo) -> Option<usize>
+    ensures { result ≡ position (is_of e.value) rows.now }
 {
-    for x in rows.iter_mut() {
-        mark_in(x, e, n);
-    }
-}
-
-/// Keeps the vote in the row, where it is this enlistment's.
-fn vote_in(x: &mut Row, e: EnlNo, v: Vote)
-    ensures { x.new ≡ vote_in e.value v x.old }
-{
-    if x.number == e && x.vote.is_none() {
-        x.vote = Some(v);
-    }
-}
-
-/// Keeps the vote in an enlistment's row.
-fn vote(rows: &mut Vec<Row>, e: EnlNo, v: Vote)
-    ensures items { rows.new.items ≡ map (λ x. vote_in e.value v x) rows.old.items }
-    ensures capacity { vec_capacity rows.old ≤ vec_capacity rows.new }
-{
-    for x in rows.iter_mut() {
-        vote_in(x, e, v);
-    }
+    rows.iter().position(|x| x.number == e)
 }
 
 impl EnlistTable {
@@ -108,6 +88,7 @@ impl EnlistTable {
     {
         Ok(EnlistTable {
             rows: Vec::with_capacity(alloc, ENLISTMENTS)?,
+            waiting: 0,
         })
     }
 
@@ -138,6 +119,13 @@ impl EnlistTable {
         ensures { result ≡ voted e.value self.now }
     {
         self.rows.iter().any(|x| x.number == e && x.has_voted())
+    }
+
+    /// Whether an enlistment was asked to prepare and hasn't voted.
+    pub fn waits(&self) -> bool
+        ensures { result ≡ list_any is_waiting self.now }
+    {
+        self.waiting > 0
     }
 
     /// The row of an enlistment, where it has one.
@@ -298,14 +286,15 @@ impl EnlistTable {
         ensures allowed { OnOk result (row_refusal is_marked e self.old ≡ None) }
         ensures marked { self.new ≡ with_mark e.value self.old }
     {
-        if !self.stands(e) {
+        let Some(at) = place_of(&self.rows, e) else {
             return Err(TableRefusal::NoSuch(e));
-        }
-        if self.was_asked(e) {
+        };
+        if self.rows[at].is_marked() {
             return Err(TableRefusal::AlreadyThere(e));
         }
         let n = marks(&self.rows);
-        mark(&mut self.rows, e, n);
+        self.waiting += one_if(!self.rows[at].has_voted());
+        self.rows[at].asked = Some(n);
         Ok(())
     }
 
@@ -321,13 +310,14 @@ impl EnlistTable {
         ensures allowed { OnOk result (row_refusal has_voted e self.old ≡ None) }
         ensures voted { self.new ≡ with_vote e.value v self.old }
     {
-        if !self.stands(e) {
+        let Some(at) = place_of(&self.rows, e) else {
             return Err(TableRefusal::NoSuch(e));
-        }
-        if self.has_voted(e) {
+        };
+        if self.rows[at].has_voted() {
             return Err(TableRefusal::AlreadyThere(e));
         }
-        vote(&mut self.rows, e, v);
+        self.waiting -= one_if(self.rows[at].is_marked());
+        self.rows[at].vote = Some(v);
         Ok(())
     }
 }

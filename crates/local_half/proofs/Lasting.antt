@@ -34,3 +34,28 @@ lasting-row e c xs alone few =
     step true h n m k a z few = omega arith
     step false true n m k a z few = absurd (cc)
     step false false n m k a z few = grind (arith, nat_tests)
+
+-- none stands where none stands with a row more
+pub lasting-before : (e : EnlNo) (c : Class) (xs : List Row) → how_many is_lasting (with_row e c xs) ≡ 0 → how_many is_lasting xs ≡ 0
+lasting-before e c xs none = step (is_volatile c) (how_many is_lasting xs) (how_many is_lasting (with_row e c xs)) (how_many-insert_by is_lasting number_of (fresh_row e c (marks xs)) xs) none
+  where
+    step : (v : Bool) (n m : ℕ) → m ≡ (if not v then suc n else n) → m ≡ 0 → n ≡ 0
+    step true n m k z = omega arith
+    step false n m k z = omega arith
+
+-- some stand with a durable or promotable row more
+pub lasting-now : (e : EnlNo) (c : Class) (xs : List Row) → is_volatile c ≡ false → how_many is_lasting (with_row e c xs) ≡ 0 → ⊥
+lasting-now e c xs v none = step (is_volatile c) (how_many is_lasting xs) (how_many is_lasting (with_row e c xs)) (how_many-insert_by is_lasting number_of (fresh_row e c (marks xs)) xs) v none
+  where
+    step : (v : Bool) (n m : ℕ) → m ≡ (if not v then suc n else n) → v ≡ false → m ≡ 0 → ⊥
+    step true n m k v z = absurd (cc)
+    step false n m k v z = omega arith
+
+-- none stands where a durable or promotable one may come
+pub lasting-yet : (c : Class) (xs : List Row) → is_volatile c ≡ false → (is_volatile c || not (has is_lasting xs)) ≡ true → how_many is_lasting xs ≡ 0
+lasting-yet c xs v alone = step (is_volatile c) (has is_lasting xs) (how_many is_lasting xs) v alone (how_many-none is_lasting xs)
+  where
+    step : (v h : Bool) (n : ℕ) → v ≡ false → (v || not h) ≡ true → (n == 0) ≡ not h → n ≡ 0
+    step true h n v a z = absurd (cc)
+    step false true n v a z = absurd (cc)
+    step false false n v a z = grind (arith, nat_tests)

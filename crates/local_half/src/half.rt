@@ -2,17 +2,18 @@
 ghost use Rattle.std.specs.Prelude.{◌≡◌, ◌<◌, [], ◌∷◌, is_some, IfOk, true};
 ghost use Rattle.dtx_values.specs.Outgoing.{with};
 ghost use Rattle.dtx_values.specs.Table.{rises_above};
-ghost use Rattle.dtx_values.specs.declared.entry.Entry.TheVariants.{Enlisted};
-ghost use Rattle.dtx_model.specs.Caused.{is_new};
-ghost use Rattle.dtx_model.specs.Observed.{observe, track};
-ghost use Rattle.dtx_model.specs.Steps.{if_begun, is_gone, stands};
-ghost use Rattle.local_half.specs.Half.{MayTakeIn, after, is_its_own};
+ghost use Rattle.dtx_values.specs.declared.entry.Ask.TheVariants.{Prepare};
+ghost use Rattle.dtx_values.specs.declared.entry.Entry.TheVariants.{Asked, Enlisted};
+ghost use Rattle.dtx_model.specs.Causes.{is_unpromoted};
+ghost use Rattle.dtx_model.specs.Half.{half_of, heeds, is_gone, stands};
+ghost use Rattle.dtx_model.specs.World.{World};
+ghost use Rattle.local_half.specs.Half.{Follows, IsAtHome, MayTakeIn, after, is_its_own, is_new};
 
 use crate::listeners::{is_gone, lose, tell};
 use dependent_clones::Clones;
 use dtx_model::Listener;
 use dtx_values::{
-    Answer, Ask, Call, Class, CloneKind, ENLISTMENTS, EnlNo, Entry, Outbox, Outcome, Party, Row,
+    Ask, Call, Class, CloneKind, ENLISTMENTS, EnlNo, Entry, Outbox, Outcome, Party, RmNo, Row,
     TxNo, insert_in_order,
 };
 use enlist_table::EnlistTable;
@@ -26,8 +27,8 @@ mod answers;
 mod facts;
 mod replies;
 
-/// The local side of one transaction, while it isn't promoted. Contracts see what is observed of its
-/// history. Only the constructor takes memory; each call writes into an outbox that has room.
+/// The local side of one transaction, while it isn't promoted. Contracts see what it knows of its calls
+/// and its history. Only the constructor takes memory; each call writes into an outbox that has room.
 ///
 /// # The life of a transaction
 ///
@@ -72,7 +73,19 @@ mod replies;
 ///
 /// Each condition of a call has a test: `is_its_own` and `is_new` those of `call`, `gone_answer` that
 /// of `gone`, `fits` that of `reply`, and `room` of the outbox. A cleared outbox has room for each.
-/// An enlistment that stays silent is passed over by a loop over `rows` and `due_note`.
+/// An enlistment that stays silent is passed over by a loop over `rows` and `due_note`. `gone` writes
+/// what follows of the loss; the entry of the call is put into the outbox before it.
+///
+/// # What holds of such a program
+///
+/// The *world* of a transaction is the calls that were entered there and the history. A new half
+/// `Follows` the world of no calls and no entries. The clauses `runs` of `call`, `gone`, `reply` and
+/// `act` say that a half which follows a world follows the world after the step, where each call has
+/// a line of its own. So a program that drives a half by this loop has a world that its own calls made,
+/// and the entries that it keeps are the history of that world. Nothing is promoted in it, as
+/// `is_unpromoted` says. `own_outcome` of the crate `outcome_law` is the law of these worlds: where no
+/// two calls make the same enlistment or the same clone, all that anybody was told is `justified`,
+/// and no two were told opposite outcomes (`agree`).
 #[derive(Drop)]
 pub struct LocalHalf {
     transaction: TxNo,
@@ -84,6 +97,9 @@ pub struct LocalHalf {
     table: EnlistTable,
     clones: Clones,
     listeners: Vec<Listener>,
+    /// The durable or promotable enlistment that its call enlisted, with its manager. A second one
+    /// would promote the transaction.
+    manager: Option<(EnlNo, RmNo)>,
     waves: Waves,
     handed: Option<EnlNo>,
     decided: Option<Outcome>,
@@ -91,31 +107,47 @@ pub struct LocalHalf {
 }
 
 impl Model for LocalHalf {
-    ghost use Rattle.std.specs.Prelude.{◌≤◌, ◌≡◌, length, vec_capacity};
+    ghost use Rattle.std.specs.Prelude.{◌≤◌, ◌≡◌, [], None, false, is_some, length, vec_capacity};
     ghost use Rattle.dtx_values.specs.declared.limits.TheConstants.{ENLISTMENTS};
     ghost use Rattle.dtx_values.specs.Table.{how_many};
     ghost use Rattle.dtx_values.specs.Row.{is_lasting};
-    ghost use Rattle.local_half.specs.Half.{Half};
+    ghost use Rattle.dtx_model.specs.Words.{put};
+    ghost use Rattle.local_half.specs.Half.{Known};
 
-    ghost Value = { Half };
+    ghost Value = { Known };
 
     ghost view = { λ m. record {
       transaction = m.transaction;
-      seen = record {
-        limit = m.limit;
-        clock = m.clock;
-        commit = m.commit;
-        sealed = m.sealed;
-        table = m.table;
-        clones = m.clones;
-        listeners = m.listeners.items;
-        handed = m.handed;
-        decided = m.decided;
-        told_client = m.told_client;
+      half = record {
+        seen = record {
+          limit = m.limit;
+          clock = m.clock;
+          commit = m.commit;
+          sealed = m.sealed;
+          table = m.table;
+          clones = m.clones;
+          listeners = m.listeners.items;
+          handed = m.handed;
+          decided = m.decided;
+          told_client = m.told_client;
+          cause = None;
+          promoted = false;
+          failed = false;
+          handover = None;
+          promote_asked = false;
+          promote_replied = false;
+          single_asked = false;
+          requested = false;
+          yes = false;
+          ends = [];
+          branches = [];
+        };
+        waits = [];
+        managers = put m.manager [];
       };
     } };
 
-    ghost invariant = { λ m. (ENLISTMENTS ≤ vec_capacity m.listeners) × (length m.listeners.items ≡ length m.table) × (how_many is_lasting m.table ≤ 1) };
+    ghost invariant = { λ m. (ENLISTMENTS ≤ vec_capacity m.listeners) × (length m.listeners.items ≡ length m.table) × (how_many is_lasting m.table ≤ 1) × (how_many is_lasting m.table ≡ 0 → m.manager ≡ None) × (is_some m.limit ≡ false → length m.table ≡ 0) };
 }
 
 impl LocalHalf {
@@ -126,7 +158,7 @@ impl LocalHalf {
     /// [`AllocError`] where memory ran out.
     #[tactic(auto, unfolding(dtx_model::specs::Observed::observe))]
     pub fn new(alloc: Global, t: TxNo) -> Result<Self, AllocError>
-        ensures { IfOk result (λ m. m ≡ record { transaction = t; seen = observe [] }) }
+        ensures { IfOk result (λ m. m ≡ record { transaction = t; half = half_of [] [] }) }
     {
         Ok(LocalHalf {
             transaction: t,
@@ -137,6 +169,7 @@ impl LocalHalf {
             table: EnlistTable::new(alloc)?,
             clones: Clones::new(alloc)?,
             listeners: Vec::with_capacity(alloc, ENLISTMENTS)?,
+            manager: None,
             waves: Waves::new(),
             handed: None,
             decided: None,
@@ -153,43 +186,43 @@ impl LocalHalf {
 
     /// Whether it was begun.
     pub fn is_begun(&self) -> bool
-        ensures { result ≡ is_some self.now.seen.limit }
+        ensures { result ≡ is_some self.now.half.seen.limit }
     {
         self.limit.is_some()
     }
 
     /// The rows of its enlistments, in order of number. No two have the same number.
     pub fn rows(&self) -> &[Row]
-        ensures rows { result.now ≡ self.now.seen.table }
-        ensures rise { rises_above 0 self.now.seen.table ≡ true }
+        ensures rows { result.now ≡ self.now.half.seen.table }
+        ensures rise { rises_above 0 self.now.half.seen.table ≡ true }
     {
         self.table.rows()
     }
 
     /// Whether the enlistment stands.
     pub fn stands(&self, e: EnlNo) -> bool
-        ensures { result ≡ stands self.now.seen e.value }
+        ensures { result ≡ stands self.now.half.seen e.value }
     {
         self.table.stands(e)
     }
 
     /// Whether the enlistment is lost.
     pub fn is_gone(&self, e: EnlNo) -> bool
-        ensures { result ≡ is_gone self.now.seen e.value }
+        ensures { result ≡ is_gone self.now.half.seen e.value }
     {
         is_gone(&self.listeners, e)
     }
 
     /// How it was decided.
     pub fn decided(&self) -> Option<Outcome>
-        ensures { result ≡ self.now.seen.decided }
+        ensures { result ≡ self.now.half.seen.decided }
     {
         self.decided
     }
 
     /// What the client was told.
     pub fn told_client(&self) -> Option<Outcome>
-        ensures { result ≡ self.now.seen.told_client }
+        ensures { result ≡ self.now.half.seen.told_client }
     {
         self.told_client
     }
@@ -213,7 +246,7 @@ impl LocalHalf {
 
     /// Whether what the call makes is new: there is no enlistment and no clone of its number.
     pub fn is_new(&self, c: &Call) -> bool
-        ensures { result ≡ is_new self.now.seen c.now }
+        ensures { result ≡ is_new self.now.half.seen c.now }
     {
         match *c {
             Call::Volatile(_, e, _, _)
@@ -224,12 +257,29 @@ impl LocalHalf {
         }
     }
 
+    /// Whether no promotion began. Until promotion comes none does.
+    pub fn is_unpromoted(&self) -> bool
+        ensures { (w : World) → Follows self.now.transaction.value w self.now.half → result ≡ is_unpromoted w.past }
+    {
+        self.is_at_home();
+        true
+    }
+
+    /// Nothing of a promotion is known: what it would change has no field yet, and the view gives it as
+    /// it is before one.
+    fn is_at_home(&self)
+        ensures { IsAtHome self.now.half }
+    {
+        // A proof sees the view of a half that it reads.
+        let _ = &self.limit;
+    }
+
     /// Adds an enlistment to the table, and to whom the outcome is told.
     #[tactic(auto, unfolding(dtx_model::specs::Observed::track))]
     fn enlist(&mut self, e: EnlNo, class: Class)
-        requires { MayTakeIn self.old.seen (Enlisted e class) }
+        requires { MayTakeIn self.old.half.seen (Enlisted e class) }
         ensures transaction { self.new.transaction ≡ self.old.transaction }
-        ensures seen { self.new.seen ≡ track self.old.seen (Enlisted e class) }
+        ensures half { self.new.half ≡ heeds [] self.old.half (Enlisted e class) }
     {
         match self.table.add(e, class) {
             Ok(()) => insert_in_order(
@@ -244,12 +294,21 @@ impl LocalHalf {
         }
     }
 
+    /// Marks in the table that the enlistment was asked to prepare.
+    #[tactic(auto, unfolding(dtx_model::specs::Observed::track))]
+    fn ask(&mut self, e: EnlNo)
+        ensures transaction { self.new.transaction ≡ self.old.transaction }
+        ensures half { self.new.half ≡ heeds [] self.old.half (Asked e Prepare) }
+    {
+        let _ = self.table.set_asked(e);
+    }
+
     /// Takes an entry into the state. Nothing else changes it.
     #[tactic(auto, unfolding(dtx_model::specs::Observed::track))]
     fn take_in(&mut self, x: Entry)
-        requires { MayTakeIn self.old.seen x }
+        requires { MayTakeIn self.old.half.seen x }
         ensures transaction { self.new.transaction ≡ self.old.transaction }
-        ensures seen { self.new.seen ≡ track self.old.seen x }
+        ensures half { self.new.half ≡ heeds [] self.old.half x }
     {
         // The tables can't refuse here: the condition says that they take what the entry adds. Whoever writes an entry looked at the tables before.
         match x {
@@ -266,11 +325,7 @@ impl LocalHalf {
             Entry::Completed(c) => {
                 let _ = self.clones.complete(c);
             }
-            Entry::Asked(e, ask) => {
-                if ask == Ask::Prepare {
-                    let _ = self.table.set_asked(e);
-                }
-            }
+            Entry::Asked(e, Ask::Prepare) => self.ask(e),
             Entry::Voted(e, v) => {
                 let _ = take_vote(&mut self.table, e, v);
             }
@@ -281,16 +336,21 @@ impl LocalHalf {
                 Party::Client => self.told_client = Some(o),
             },
             Entry::Decided(o) => self.decided = Some(o),
-            _ => {}
+            Entry::Init(_)
+            | Entry::RollbackAsked
+            | Entry::TimedOut
+            | Entry::Late
+            | Entry::OwnerAnswered(_, _) => {}
+            _ => unreachable!(),
         }
     }
 
     /// Puts the entry out, and takes it into the state.
-    #[tactic(auto, unfolding(dtx_model::specs::Observed::track_all))]
+    #[tactic(auto, unfolding(dtx_model::specs::Half::heeds_all))]
     fn write(&mut self, x: Entry, out: &mut Outbox)
-        requires taken { MayTakeIn self.old.seen x }
+        requires taken { MayTakeIn self.old.half.seen x }
         requires room { 0 < out.old.room }
-        ensures state { self.new ≡ after self.old (x ∷ []) }
+        ensures state { self.new ≡ after [] self.old (x ∷ []) }
         ensures out { out.new ≡ with out.old (x ∷ []) }
     {
         self.take_in(x);

@@ -1,6 +1,6 @@
 //! Timeouts and the clock, in milliseconds.
 ghost use Rattle.std.specs.Prelude.{◌≡◌};
-ghost use Rattle.dtx_model.specs.Steps.{limit_of, reaches, ticked};
+ghost use Rattle.dtx_model.specs.Answers.{limit_of, reaches, ticked};
 
 use dtx_values::Timeout;
 

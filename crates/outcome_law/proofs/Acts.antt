@@ -1,7 +1,7 @@
 -- The block of each reply that is due and of each local act keeps the rules.
-use Rattle.std.proofs.Common.{suc, zero, ◌≡◌, ℕ, ◌==◌, Bool, true, false, ◌&&◌, ◌||◌, List, [], ◌∷◌, Option, Some, None, refl, ◌∙◌, ap, sym, subst, slice_get}
+use Rattle.std.proofs.Common.{suc, zero, ◌≡◌, ℕ, ◌==◌, Bool, true, false, ◌&&◌, ◌||◌, inl, inr, List, [], ◌∷◌, Option, Some, None, refl, ◌∙◌, ap, sym, subst, slice_get}
 use Rattle.std.specs.Prelude.{is_some, filter, find, not, if◌then◌else◌}
-use Rattle.std.proofs.lemmas.Bool.{or_left}
+use Rattle.std.proofs.lemmas.Bool.{eqb-true, or_left}
 use Rattle.dtx_values.specs.declared.number.EnlNo.{EnlNo}
 use Rattle.dtx_values.specs.declared.entry.Ask.TheVariants.{Prepare}
 use Rattle.dtx_values.specs.declared.entry.Entry.{Entry}
@@ -11,30 +11,32 @@ use Rattle.dtx_values.specs.declared.note.Reply.{Reply}
 use Rattle.dtx_values.specs.declared.note.Note.{Note}
 use Rattle.dtx_values.specs.declared.note.Note.TheVariants.{Prepare as PrepareNote, Hand as HandNote}
 use Rattle.dtx_values.specs.declared.note.Reply.TheVariants.{Vote as VoteReply, Owner as OwnerReply}
-use Rattle.dtx_values.specs.declared.script.Line.{Line}
 use Rattle.dtx_values.specs.declared.words.Outcome.{Outcome}
 use Rattle.dtx_values.specs.declared.words.Outcome.TheVariants.{Committed, Aborted, InDoubt}
-use Rattle.dtx_values.specs.declared.words.Vote.{Vote}
 use Rattle.dtx_values.specs.declared.words.Vote.TheVariants.{Yes, No, Done}
-use Rattle.dtx_values.specs.Row.{has_voted, is_marked}
+use Rattle.dtx_values.specs.Row.{has_voted, is_marked, is_of}
 use Rattle.dtx_values.specs.declared.row.Row.{Row}
 use Rattle.dtx_values.specs.Clones.{blocks, is_open_block}
 use Rattle.dtx_model.specs.declared.listener.Listener.{Listener}
 use Rattle.dtx_values.specs.declared.words.Class.{Class}
 use Rattle.dtx_values.specs.declared.words.Class.TheVariants.{Zero, One, DurableTwo, DurableSingle, Promotable}
-use Rattle.dtx_model.specs.Words.{has, each, latest, onto, kth, all_of}
+use Rattle.dtx_model.specs.Words.{has, each, latest, onto, all_of}
 use Rattle.dtx_model.specs.Entries.{same_outcome, is_commit, is_sealed, clone_of, is_asked, is_vote, is_good_vote, is_hand, is_any_hand, is_promoted, handed_of, decision_of, is_decision}
 use Rattle.dtx_model.specs.Observed.{observe, rows, clone_rows, listeners}
 use Rattle.dtx_model.specs.Outcome.{durables, enlisted, volatiles, voters, is_complete, is_empty, ready, by_seal, by_owner, by_log, evidence, hears_doubt, may_tell}
 use Rattle.dtx_values.specs.Class.{is_class, is_volatile}
 use Rattle.dtx_values.specs.Owners.{owner_of}
-use Rattle.dtx_model.specs.Steps.{Step, Replies, reply_entries, planned_vote, planned_owner, open_note, due_note, vote_reply, owner_reply, planned_reply, reply_step, due_reply, due_replies, pending}
+use Rattle.dtx_model.specs.Replies.{fits}
+use Rattle.dtx_model.proofs.Narrow.{reply_entries}
+use Rattle.dtx_model.proofs.NarrowReplies.{IsDue}
 use Rattle.dtx_values.specs.Waves.{all_voted, hears, may_be_asked, name_of, next_ask, zeros_voted, is_over}
-use Rattle.dtx_model.specs.Steps.{is_gone, is_handed, hears_abort, is_to_tell, tell, commit_act, before_seal, after_seal, undecided_act, act_by, act_entries, act_if}
-use Rattle.dtx_model.proofs.Bools.{and_left, and_right, and_both, or_first, or_right, not_true, not_false, three_hold}
+use Rattle.dtx_model.specs.Half.{is_handed}
+use Rattle.dtx_model.specs.Acts.{tell}
+use Rattle.dtx_model.proofs.Narrow.{hears_abort, is_to_tell, commit_act, before_seal, after_seal, undecided_act, act_by}
+use Rattle.dtx_model.proofs.Bools.{and_left, and_right, and_both, or_right, not_true, not_false, three_hold}
 use Rattle.outcome_law.proofs.Tests.{four_hold, five_hold, eq_self}
-use Rattle.outcome_law.proofs.Scans.{each_more, each_both, each-append, each-kth}
-use Rattle.outcome_law.proofs.Picks.{passes, each_from_at, each_picked, found_well, none_each}
+use Rattle.outcome_law.proofs.Scans.{each_more, each_both}
+use Rattle.outcome_law.proofs.Picks.{passes, each_from_at, found_at, found_well, none_each}
 use Rattle.outcome_law.proofs.Rule.{is_enlisted, is_only, is_answer, all_complete, zeros_cast, is_decided, is_certain, rule, ruled, is_volatile_of}
 use Rattle.outcome_law.proofs.TableRows.{none_there, rows_enlisted, row_marked, row_voted, zeros_seen, all_voted_seen, open_blocks}
 use Rattle.outcome_law.proofs.Evidence.{none_promoted, voters-volatile, sealed_closed}
@@ -43,11 +45,16 @@ use Rattle.outcome_law.proofs.Owned.{volatile_hears, owner_only, owner_none, han
 use Rattle.outcome_law.proofs.Going.{is_no_vote, going_willing, going_unanswered, going_closed, IsKept, keep, yes_keeps, done_keeps, no_keeps, answer_keeps}
 
 -- a reply is a vote or an answer of an owner that may come here
-abbrev pub may_reply : List Entry → Step → Bool
-may_reply h (Replies e (VoteReply v)) = rule h (Voted e v)
-may_reply h (Replies e (OwnerReply x)) = rule h (OwnerAnswered e x)
-may_reply h (Replies e _) = false
-may_reply h _ = true
+abbrev pub may_reply : List Entry → EnlNo → Reply → Bool
+may_reply h e (VoteReply v) = rule h (Voted e v)
+may_reply h e (OwnerReply x) = rule h (OwnerAnswered e x)
+may_reply h e _ = false
+
+-- what a reply to the note of the enlistment of this number needs
+abbrev is_well_due : List Entry → ℕ → Option Note → Bool
+is_well_due h e (Some PrepareNote) = not (has is_decision h) && has (is_enlisted e) h && has (is_asked e) h && not (has (is_vote e) h)
+is_well_due h e (Some HandNote) = not (has is_decision h) && has (is_hand e) h && not (has is_answer h)
+is_well_due h e _ = true
 
 -- who was asked and hasn't voted may vote
 due_rule : (m v d s a w : Bool) → d ≡ false → s ≡ true → m ≡ a → v ≡ w → (m && not v) ≡ true → (not d && s && a && not w) ≡ true
@@ -59,74 +66,48 @@ answer_rule h e x k d w =
     three_hold (not (has is_decision h)) (has (is_hand e.value) h) (not (has is_answer h)) (not_false (has is_decision h) d) (sym (hand_seen e.value h k.rules) ∙ w)
     (not_false (has is_answer h) (going_unanswered h d k.going))
 
--- a planned reply to a note may come where a reply to that note may
-plan_well : (s : List Line) (h : List Entry) (e : EnlNo) (n : Option Note) → (n ≡ Some PrepareNote → rule h (Voted e Yes) ≡ true)
-    → ((x : Outcome) → n ≡ Some HandNote → rule h (OwnerAnswered e x) ≡ true) → passes (may_reply h) (reply_step e (planned_reply s e.value n)) ≡ true
-plan_well s h e (Some PrepareNote) f g = vote h e (planned_vote s e.value) (f refl)
-  where
-    vote : (h : List Entry) (e : EnlNo) (o : Option Vote) → rule h (Voted e Yes) ≡ true → passes (may_reply h) (reply_step e (vote_reply o)) ≡ true
-    vote h e (Some v) k = k
-    vote h e None k = refl
-plan_well s h e (Some HandNote) f g = answer h e (planned_owner s e.value) (λ x. g x refl)
-  where
-    answer : (h : List Entry) (e : EnlNo) (o : Option Outcome) → ((x : Outcome) → rule h (OwnerAnswered e x) ≡ true) → passes (may_reply h) (reply_step e (owner_reply o)) ≡ true
-    answer h e (Some x) k = k x
-    answer h e None k = refl
-plan_well s h e _ f g = refl
-
--- to prepare a reply is due of who was asked and hasn't voted
-prepare_due : (off asked handed : Bool) → (if off then None else open_note asked handed) ≡ Some PrepareNote → (off ≡ false) × (asked ≡ true)
-prepare_due true asked handed e = absurd cc
-prepare_due false true handed e = (refl, refl)
-prepare_due false false true e = absurd cc
-prepare_due false false false e = absurd cc
-
--- to the handing a reply is due of who was handed the commit
-hand_due : (off asked handed : Bool) → (if off then None else open_note asked handed) ≡ Some HandNote → (off ≡ false) × (handed ≡ true)
-hand_due true asked handed e = absurd cc
-hand_due false true handed e = absurd cc
-hand_due false false true e = (refl, refl)
-hand_due false false false e = absurd cc
-
--- the local act is no reply
-acts_well : (h : List Entry) (xs : List Entry) → each (may_reply h) (act_if xs) ≡ true
-acts_well h [] = refl
-acts_well h (x ∷ xs) = refl
-
--- where it isn't decided nor the other, nothing is decided
-off_undecided : (h : List Entry) (b : Bool) → (is_some (latest decision_of h) || b) ≡ false → has is_decision h ≡ false
-off_undecided h b k = undecided h (none_there (latest decision_of h) (or_first (is_some (latest decision_of h)) b k))
-
--- each reply that is due may come
-due_well : (s : List Line) (h : List Entry) → IsKept h → each (may_reply h) (due_replies s (observe h)) ≡ true
+-- what the note that is due needs holds
+due_well : (h : List Entry) (e : ℕ) (n : Note) → IsKept h → IsDue (observe h) e n → is_well_due h e (Some n) ≡ true
 unfolding observe
-due_well s h i =
-    each_picked (may_reply h) (due_reply s (observe h)) (rows h)
-    (each_from_at (λ x. passes (may_reply h) (due_reply s (observe h) x)) (rows h)
-    (λ k x e. plan_well s h x.number (due_note (observe h) x)
-    (λ n. let w = prepare_due (is_some (latest decision_of h) || is_gone (observe h) x.number.value) (is_marked x && not (has_voted x)) (is_handed (latest handed_of h) x.number.value) n in
-    due_rule (is_marked x) (has_voted x) (has is_decision h) (has (is_enlisted x.number.value) h) (has (is_asked x.number.value) h) (has (is_vote x.number.value) h)
-    (off_undecided h (is_gone (observe h) x.number.value) w.0) (rows_enlisted h k x i.rules e) (row_marked h k x i.rules e) (row_voted h k x i.rules e) w.1)
-    (λ y n. let w = hand_due (is_some (latest decision_of h) || is_gone (observe h) x.number.value) (is_marked x && not (has_voted x)) (is_handed (latest handed_of h) x.number.value) n in
-    answer_rule h x.number y i (off_undecided h (is_gone (observe h) x.number.value) w.0) w.1)))
+due_well h e n i (inl q) =
+    let place = found_at (is_of e) (rows h) q.row q.stands in
+    let same : e ≡ q.row.number.value = eqb-true e q.row.number.value place.2 in
+    let asked : (is_marked q.row && not (has_voted q.row)) ≡ true = and_both (is_marked q.row) (not (has_voted q.row)) q.asked (not_false (has_voted q.row) q.unvoted) in
+    subst (λ m. is_well_due h e (Some m) ≡ true) (sym q.note)
+    (subst (λ m. is_well_due h m (Some PrepareNote) ≡ true) (sym same)
+    (due_rule (is_marked q.row) (has_voted q.row) (has is_decision h) (has (is_enlisted q.row.number.value) h) (has (is_asked q.row.number.value) h) (has (is_vote q.row.number.value) h)
+    (undecided h (none_there (latest decision_of h) q.open_yet)) (rows_enlisted h place.0 q.row i.rules place.1) (row_marked h place.0 q.row i.rules place.1) (row_voted h place.0 q.row i.rules place.1) asked))
+due_well h e n i (inr q) =
+    let place = found_at (is_of e) (rows h) q.row q.stands in
+    let same : e ≡ q.row.number.value = eqb-true e q.row.number.value place.2 in
+    subst (λ m. is_well_due h e (Some m) ≡ true) (sym q.note)
+    (subst (λ m. is_well_due h m (Some HandNote) ≡ true) (sym same)
+    (answer_rule h q.row.number Committed i (undecided h (none_there (latest decision_of h) q.open_yet)) q.handed))
 
--- each reply that is pending may come
-pending_well : (s : List Line) (h : List Entry) → IsKept h → each (may_reply h) (pending s (observe h)) ≡ true
-unfolding pending
-pending_well s h i =
-    each-append (may_reply h) (due_replies s (observe h)) (act_if (act_entries (observe h))) (due_well s h i) (acts_well h (act_entries (observe h)))
+-- a reply that fits the note that is due may come
+fits_well : (h : List Entry) (e : EnlNo) (y : Reply) (n : Note) → fits y n ≡ true → IsDue (observe h) e.value n → is_well_due h e.value (Some n) ≡ true → may_reply h e y ≡ true
+fits_well h e y n f (inl q) w = vote y (subst (λ m. fits y m ≡ true) q.note f) (subst (λ m. is_well_due h e.value (Some m) ≡ true) q.note w)
+  where
+    vote : (y : Reply) → fits y PrepareNote ≡ true → is_well_due h e.value (Some PrepareNote) ≡ true → may_reply h e y ≡ true
+    vote (VoteReply v) f w = w
+    vote _ f w = absurd cc
+fits_well h e y n f (inr q) w = answer y (subst (λ m. fits y m ≡ true) q.note f) (subst (λ m. is_well_due h e.value (Some m) ≡ true) q.note w)
+  where
+    answer : (y : Reply) → fits y HandNote ≡ true → is_well_due h e.value (Some HandNote) ≡ true → may_reply h e y ≡ true
+    answer (OwnerReply x) f w = w
+    answer _ f w = absurd cc
 
 -- the entries of a reply that may come keep it
-vote_keeps : (h : List Entry) (e : EnlNo) (y : Reply) → IsKept h → may_reply h (Replies e y) ≡ true → IsKept (onto h (reply_entries e y))
+vote_keeps : (h : List Entry) (e : EnlNo) (y : Reply) → IsKept h → may_reply h e y ≡ true → IsKept (onto h (reply_entries e y))
 vote_keeps h e (VoteReply Yes) k q = yes_keeps h e k q
 vote_keeps h e (VoteReply Done) k q = done_keeps h e k q
 vote_keeps h e (VoteReply No) k q = no_keeps h e k q
 vote_keeps h e (OwnerReply x) k q = answer_keeps h e x k q
 vote_keeps h e _ k q = absurd cc
 
--- the entries of a reply that is pending keep it
-pub reply_keeps : (s : List Line) (h : List Entry) (e : EnlNo) (y : Reply) (k : ℕ) → IsKept h → kth (pending s (observe h)) k ≡ Some (Replies e y) → IsKept (onto h (reply_entries e y))
-reply_keeps s h e y k i p = vote_keeps h e y i (each-kth (may_reply h) (pending s (observe h)) k (Replies e y) (pending_well s h i) p)
+-- the entries of a reply that is due keep it
+pub reply_keeps : (h : List Entry) (e : EnlNo) (y : Reply) (n : Note) → IsKept h → IsDue (observe h) e.value n → fits y n ≡ true → IsKept (onto h (reply_entries e y))
+reply_keeps h e y n i d f = vote_keeps h e y i (fits_well h e y n f d (due_well h e.value n i d))
 
 -- an outcome is itself
 same_self : (x : Outcome) → same_outcome x x ≡ true

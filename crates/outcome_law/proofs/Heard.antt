@@ -4,9 +4,8 @@ use Rattle.std.specs.Prelude.{not}
 use Rattle.std.proofs.lemmas.List.{length-map}
 use Rattle.dtx_values.specs.declared.entry.Ask.TheVariants.{Prepare}
 use Rattle.dtx_values.specs.declared.entry.Entry.{Entry}
-use Rattle.dtx_values.specs.declared.entry.Entry.TheVariants.{Asked, Decided, Enlisted, Lost, Told, Voted}
+use Rattle.dtx_values.specs.declared.entry.Entry.TheVariants.{Asked, Decided, Enlisted, Lost, Reenlisted, Told, Voted}
 use Rattle.dtx_values.specs.declared.entry.Party.TheVariants.{Enl}
-use Rattle.dtx_values.specs.declared.number.EnlNo.{EnlNo}
 use Rattle.dtx_values.specs.declared.words.Outcome.{Outcome}
 use Rattle.dtx_values.specs.Row.{fresh_row, mark_in, number_of, vote_in}
 use Rattle.dtx_values.specs.Table.{marks}
@@ -20,7 +19,7 @@ use Rattle.dtx_model.proofs.Counts.{length-insert_by}
 use Rattle.dtx_model.proofs.Bools.{and_left, not_both, not_true, or_false, or_second}
 use Rattle.outcome_law.proofs.Tests.{eq_swap, first_of_four, apart}
 use Rattle.outcome_law.proofs.Lists.{OfEach, of-at, of-insert, of-map, of-more}
-use Rattle.outcome_law.proofs.Rule.{is_certain, is_decided, is_enlisted, first_rule, other_rules, rule, ruled}
+use Rattle.outcome_law.proofs.Rule.{is_decided, is_enlisted, first_rule, other_rules, ruled}
 use Rattle.outcome_law.proofs.Owned.{decision_seen}
 use Rattle.outcome_law.proofs.TableRows.{enlisted_once}
 
@@ -65,6 +64,7 @@ listeners_heard (Told (Enl e) x ∷ h) r =
 listeners_heard (Lost e ∷ h) r =
     of-map (IsHeard h) (IsHeard (Lost e ∷ h)) (lose e.value) (λ l w. record { told = w.told; lost = swapped e.value l.enlistment.value l.lost _ w.lost }) (listeners h)
     (listeners_heard h (other_rules (Lost e) h r))
+listeners_heard (Reenlisted e ∷ h) r = absurd cc
 listeners_heard (x ∷ h) r = of-more (IsHeard h) (IsHeard (x ∷ h)) (λ l w. record { told = w.told; lost = w.lost }) (listeners h) (listeners_heard h (other_rules x h r))
 
 -- the listener at a place says what the history shows

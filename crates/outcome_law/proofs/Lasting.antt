@@ -2,6 +2,7 @@
 use Rattle.std.proofs.Common.{◌≡◌, ℕ, Bool, true, false, ◌&&◌, ◌||◌, inl, inr, List, [], ◌∷◌, Option, Some, None, refl, ◌∙◌, ap, sym, subst}
 use Rattle.std.specs.Prelude.{is_some, not, if◌then◌else◌}
 use Rattle.std.specs.List.{slice_get}
+use Rattle.dtx_values.specs.declared.number.ActorNo.{ActorNo}
 use Rattle.dtx_values.specs.declared.number.CloneNo.{CloneNo}
 use Rattle.dtx_values.specs.declared.number.EnlNo.{EnlNo}
 use Rattle.dtx_values.specs.declared.number.RmNo.{RmNo}
@@ -12,7 +13,7 @@ use Rattle.dtx_values.specs.declared.entry.Ask.TheVariants.{Prepare}
 use Rattle.dtx_values.specs.declared.entry.Entry.{Entry}
 use Rattle.dtx_values.specs.declared.entry.Entry.TheVariants.{Enlisted, Asked, Voted}
 use Rattle.dtx_values.specs.declared.script.Body.{Body}
-use Rattle.dtx_values.specs.declared.script.Body.TheVariants.{Durable as DurableLine, Promotable as PromotableLine, Complete as CompleteLine, Gone as GoneLine}
+use Rattle.dtx_values.specs.declared.script.Body.TheVariants.{Durable as DurableLine, Promotable as PromotableLine, Complete as CompleteLine, Gone as GoneLine, Reenlist as ReenlistLine}
 use Rattle.dtx_values.specs.declared.script.EnlistOption.TheVariants.{Plain, DuringPrepare}
 use Rattle.dtx_values.specs.declared.script.Line.{Line}
 use Rattle.dtx_values.specs.declared.script.Support.{Support}
@@ -24,8 +25,10 @@ use Rattle.dtx_values.specs.Row.{is_lasting, is_of, number_of, fresh_row, mark_r
 use Rattle.dtx_values.specs.Class.{is_volatile}
 use Rattle.dtx_model.specs.Observed.{Observed, rows}
 use Rattle.dtx_model.specs.Contexts.{calls_by}
-use Rattle.dtx_model.specs.Steps.{call_of, complete_call, transaction_of, gone_call, transaction_with, facts, facts_if, veto_if, reaches, ticked, time_up, is_late, is_handed, lost_outcome, decided_if}
-use Rattle.dtx_model.specs.Caused.{Caused}
+use Rattle.dtx_model.specs.Calls.{call_of, complete_call, transaction_of, gone_call, reenlist_call, transaction_with}
+use Rattle.dtx_model.specs.Half.{is_handed}
+use Rattle.dtx_model.specs.Answers.{facts_if, reaches, ticked}
+use Rattle.dtx_model.proofs.Narrow.{facts, veto_if, time_up, is_late, lost_outcome, decided_if}
 use Rattle.dtx_model.specs.Grammar.{is_lasting_for, is_run}
 use Rattle.dtx_model.proofs.Bools.{or_case, not_true, not_both}
 use Rattle.outcome_law.proofs.Tests.{eq_self}
@@ -33,6 +36,7 @@ use Rattle.outcome_law.proofs.Scans.{none_more}
 use Rattle.outcome_law.proofs.Lists.{has_kept, if_kept, has-insert}
 use Rattle.outcome_law.proofs.Pending.{is_plain, veto_plain, time_plain, decided_plain}
 use Rattle.outcome_law.proofs.ScopeCalls.{is_scope_call, given_call}
+use Rattle.outcome_law.proofs.Runs.{IsLocalRun}
 use Rattle.outcome_law.proofs.Names.{IsCalled, IsFactOf, fact_called}
 
 -- a durable or promotable enlistment came
@@ -87,9 +91,9 @@ facts_last o _ true h = absurd cc
 lasting_of_calls : IsFactOf is_enduring call_lasts
 lasting_of_calls = record { no_call = λ n a y. refl; no_deed = plain_none; by_call = facts_last }
 
--- where a durable or promotable row stands in the history of a script, the call of a line made it
-pub lasting_called : (s : List Line) (t : ℕ) (h : List Entry) → Caused s t h → has is_lasting (rows h) ≡ true → IsCalled s t h call_lasts
-lasting_called s t h r k = fact_called s t is_enduring call_lasts lasting_of_calls r.0 h r.1 (sym (lasting_rows h) ∙ k)
+-- where a durable or promotable row stands, a call made it
+pub lasting_called : (G : ℕ → ActorNo → Call → Type 0) (h : List Entry) → IsLocalRun G h → has is_lasting (rows h) ≡ true → IsCalled G h call_lasts
+lasting_called G h r k = fact_called G is_enduring call_lasts lasting_of_calls h r (sym (lasting_rows h) ∙ k)
 
 -- the call, where it makes a durable or promotable, is given by a body that makes one of its transaction
 abbrev lasts_by : Body → Option (TxNo × Call) → Bool
@@ -110,6 +114,11 @@ line_lasts s (GoneLine e) = by_enlistment e (transaction_with s e.value)
     by_enlistment : (e : EnlNo) (o : Option TxNo) → lasts_by (GoneLine e) (gone_call e o) ≡ true
     by_enlistment e (Some t) = refl
     by_enlistment e None = refl
+line_lasts s (ReenlistLine e) = by_return e (transaction_with s e.value)
+  where
+    by_return : (e : EnlNo) (o : Option TxNo) → lasts_by (ReenlistLine e) (reenlist_call e o) ≡ true
+    by_return e (Some t) = refl
+    by_return e None = refl
 line_lasts s _ = refl
 
 -- the line that gives a call that makes a durable or promotable makes one of its transaction

@@ -13,7 +13,7 @@ use Rattle.dtx_values.specs.declared.entry.Answer.{Answer}
 use Rattle.dtx_values.specs.declared.entry.Entry.{Entry}
 use Rattle.dtx_values.specs.declared.entry.Entry.TheVariants.{Called, Cloned, Enlisted}
 use Rattle.dtx_values.specs.declared.script.Body.{Body}
-use Rattle.dtx_values.specs.declared.script.Body.TheVariants.{Volatile as VolatileLine, Durable as DurableLine, Promotable as PromotableLine, Clone as CloneLine, Complete as CompleteLine, Gone as GoneLine}
+use Rattle.dtx_values.specs.declared.script.Body.TheVariants.{Volatile as VolatileLine, Durable as DurableLine, Promotable as PromotableLine, Clone as CloneLine, Complete as CompleteLine, Gone as GoneLine, Reenlist as ReenlistLine}
 use Rattle.dtx_values.specs.declared.script.Line.{Line}
 use Rattle.dtx_values.specs.Row.{is_of}
 use Rattle.dtx_values.specs.Clones.{is_clone, is_open_rollback}
@@ -22,8 +22,13 @@ use Rattle.dtx_model.specs.Entries.{is_call}
 use Rattle.dtx_model.specs.Observed.{Observed, observe, rows, clone_rows}
 use Rattle.dtx_model.specs.Contexts.{calls_by, lines_before}
 use Rattle.dtx_values.specs.Table.{voted}
-use Rattle.dtx_model.specs.Steps.{Step, Calls, Replies, Acts, call_of, complete_call, transaction_of, gone_call, transaction_with, answer, is_done, facts, facts_if, veto_if, reaches, ticked, time_up, is_late, is_handed, lost_outcome, decided_if, block}
-use Rattle.dtx_model.specs.Caused.{IsCallOf, MayCome, Ran, Caused, is_new}
+use Rattle.dtx_model.specs.Calls.{call_of, complete_call, transaction_of, gone_call, reenlist_call, transaction_with}
+use Rattle.dtx_model.specs.Half.{is_handed}
+use Rattle.dtx_model.specs.Answers.{facts_if, reaches, ticked}
+use Rattle.dtx_model.specs.Turns.{Step, Calls, Replies, Acts}
+use Rattle.dtx_model.proofs.Narrow.{answer, is_done, facts, veto_if, time_up, is_late, lost_outcome, decided_if, block}
+use Rattle.dtx_model.specs.Caused.{IsCallOf, is_new}
+use Rattle.dtx_model.specs.Causes.{AreMadeOnce, made_by}
 use Rattle.dtx_model.specs.Grammar.{Name, OfTransaction, OfEnlistment, OfClone, OfScope, same_name, makes, is_made, is_named_well, are_named_well}
 use Rattle.dtx_model.proofs.Bools.{and_left, and_right, or_right, or_case, not_true, not_false, not_both}
 use Rattle.dtx_model.proofs.Pasts.{always-before}
@@ -33,6 +38,7 @@ use Rattle.outcome_law.proofs.Scans.{none_more}
 use Rattle.outcome_law.proofs.Tests.{eq_self}
 use Rattle.outcome_law.proofs.TableRows.{enlisted_in_rows, clone_stands}
 use Rattle.outcome_law.proofs.Pending.{is_plain, veto_plain, time_plain, decided_plain, block_plain}
+use Rattle.outcome_law.proofs.Runs.{MayComeLocal, RanLocal, IsLocalRun}
 use Rattle.outcome_law.proofs.ScopeCalls.{is_scope_call, given_call}
 
 -- the line makes this name
@@ -97,14 +103,14 @@ same_place x rest (y ∷ s) (suc i) zero k l h e f p q = absurd (not_again x (y 
 same_place x rest (y ∷ s) (suc i) (suc j) k l h e f p q = ap suc (same_place x (y ∷ rest) s i j k l h e f p q)
 
 -- two lines of a script in which names are made once that make the same name are the same line
-made_once : (x : Name) (s : List Line) (n m : ℕ) (k l : Line) → are_named_well s ≡ true → kth s n ≡ Some k → kth s m ≡ Some l
+pub made_once : (x : Name) (s : List Line) (n m : ℕ) (k l : Line) → are_named_well s ≡ true → kth s n ≡ Some k → kth s m ≡ Some l
     → is_maker x k ≡ true → is_maker x l ≡ true → n ≡ m
 made_once x s zero m k l h e f p q = absurd cc
 made_once x s (suc n) zero k l h e f p q = absurd cc
 made_once x s (suc n) (suc m) k l h e f p q = ap suc (same_place x [] s n m k l h e f p q)
 
 -- the line with whose body a call is given makes what the call makes
-line_makes : (s : List Line) (x : Name) (b : Body) (t : TxNo) (c : Call) → call_of s b ≡ Some (t, c) → call_makes x c ≡ true → has (λ m. same_name x m) (makes b) ≡ true
+pub line_makes : (s : List Line) (x : Name) (b : Body) (t : TxNo) (c : Call) → call_of s b ≡ Some (t, c) → call_makes x c ≡ true → has (λ m. same_name x m) (makes b) ≡ true
 line_makes s x b t c e k = by_body s x b (subst (λ o. passed x o ≡ true) (sym e) k)
   where
     passed : Name → Option (TxNo × Call) → Bool
@@ -119,6 +125,10 @@ line_makes s x b t c e k = by_body s x b (subst (λ o. passed x o ≡ true) (sym
     by_enlistment x e (Some t) h = cc
     by_enlistment x e None h = cc
 
+    by_return : (x : Name) (e : EnlNo) (o : Option TxNo) → passed x (reenlist_call e o) ≡ true → ⊥
+    by_return x e (Some t) h = cc
+    by_return x e None h = cc
+
     by_body : (s : List Line) (x : Name) (b : Body) → passed x (call_of s b) ≡ true → has (λ m. same_name x m) (makes b) ≡ true
     by_body s x (VolatileLine t e o v) h = rw h refl
     by_body s x (DurableLine t e r y) h = rw h refl
@@ -126,10 +136,11 @@ line_makes s x b t c e k = by_body s x b (subst (λ o. passed x o ≡ true) (sym
     by_body s x (CloneLine t c k) h = rw h refl
     by_body s x (CompleteLine c) h = absurd (by_clone x c (transaction_of s c.value) h)
     by_body s x (GoneLine e) h = absurd (by_enlistment x e (transaction_with s e.value) h)
+    by_body s x (ReenlistLine e) h = absurd (by_return x e (transaction_with s e.value) h)
     by_body s x _ h = absurd cc
 
 -- a call as scope lines give it makes no name
-scope_makes_none : (x : Name) (c : Call) → is_scope_call c ≡ true → call_makes x c ≡ true → ⊥
+pub scope_makes_none : (x : Name) (c : Call) → is_scope_call c ≡ true → call_makes x c ≡ true → ⊥
 scope_makes_none x (Volatile t e o v) h k = cc
 scope_makes_none x (Clone t c k) h m = cc
 scope_makes_none x _ h k = cc
@@ -166,11 +177,11 @@ facts_make x o (Gone e) true h =
 facts_make x o _ true h = absurd cc
 
 -- a call that passes was made by its line in the history
-pub record IsCalled (s : List Line) (t : ℕ) (h : List Entry) (q : Call → Bool) : Type 0 where
+pub record IsCalled (G : ℕ → ActorNo → Call → Type 0) (h : List Entry) (q : Call → Bool) : Type 0 where
   pub number : ℕ
   pub actor : ActorNo
   pub call : Call
-  pub given : IsCallOf s t number actor call
+  pub given : G number actor call
   pub passes : q call ≡ true
   pub called : has (is_call number) h ≡ true
 
@@ -181,8 +192,8 @@ pub record IsFactOf (p : Entry → Bool) (q : Call → Bool) : Type 0 where
   pub by_call : (o : Observed) (c : Call) (b : Bool) → has p (facts_if b (facts o c)) ≡ true → q c ≡ true
 
 -- what was called before a block was called after it too
-called_behind : (s : List Line) (t : ℕ) (h es : List Entry) (q : Call → Bool) → IsCalled s t h q → IsCalled s t (onto h es) q
-called_behind s t h es q r =
+called_behind : (G : ℕ → ActorNo → Call → Type 0) (h es : List Entry) (q : Call → Bool) → IsCalled G h q → IsCalled G (onto h es) q
+called_behind G h es q r =
     record {
       number = r.number;
       actor = r.actor;
@@ -193,10 +204,10 @@ called_behind s t h es q r =
     }
 
 -- a block in which p passes is of a call that q passes
-block_called : (s : List Line) (t : ℕ) (h : List Entry) (p : Entry → Bool) (q : Call → Bool) → IsFactOf p q → (m : Step) → MayCome s t h m → has p (block (observe h) m) ≡ true
-    → IsCalled s t (onto h (block (observe h) m)) q
+block_called : (G : ℕ → ActorNo → Call → Type 0) (h : List Entry) (p : Entry → Bool) (q : Call → Bool) → IsFactOf p q → (m : Step) → MayComeLocal G h m → has p (block (observe h) m) ≡ true
+    → IsCalled G (onto h (block (observe h) m)) q
 unfolding block
-block_called s t h p q f (Calls n a c d) k e =
+block_called G h p q f (Calls n a c d) k e =
     let y = answer (observe h) c d in
     let es = facts_if (is_done y) (facts (observe h) c) in
     let same = eq_self n in
@@ -209,38 +220,67 @@ block_called s t h p q f (Calls n a c d) k e =
       passes = or_case (p (Called n a y)) (has p es) (λ e. absurd (not_both (p (Called n a y)) e (f.no_call n a y))) (λ e. f.by_call (observe h) c (is_done y) e) e;
       called = has-onto (is_call n) h (Called n a y ∷ es) ∙ ap (λ b. b || has (is_call n) h) here;
     }
-block_called s t h p q f (Replies i r) k e = absurd (not_both _ e (f.no_deed (block (observe h) (Replies i r)) (block_plain (observe h) (Replies i r) refl)))
-block_called s t h p q f Acts k e = absurd (not_both _ e (f.no_deed (block (observe h) Acts) (block_plain (observe h) Acts refl)))
+block_called G h p q f (Replies i r) k e = absurd (not_both _ e (f.no_deed (block (observe h) (Replies i r)) (block_plain (observe h) (Replies i r) refl)))
+block_called G h p q f Acts k e = absurd (not_both _ e (f.no_deed (block (observe h) Acts) (block_plain (observe h) Acts refl)))
+block_called G h p q f _ k e = absurd k
 
--- each fact in the history of a script is of a call of a line
-pub fact_called : (s : List Line) (t : ℕ) (p : Entry → Bool) (q : Call → Bool) → IsFactOf p q → (steps : List Step) (h : List Entry) → Ran s t steps h → has p h ≡ true → IsCalled s t h q
-fact_called s t p q f [] h r k = absurd (not_both (has p h) k (ap (λ h. has p h) r))
-fact_called s t p q f (m ∷ ms) h r k =
+-- each fact in the history is of a call that was entered
+ran_called : (G : ℕ → ActorNo → Call → Type 0) (p : Entry → Bool) (q : Call → Bool) → IsFactOf p q → (steps : List Step) (h : List Entry) → RanLocal G steps h → has p h ≡ true → IsCalled G h q
+ran_called G p q f [] h r k = absurd (not_both (has p h) k (ap (λ h. has p h) r))
+ran_called G p q f (m ∷ ms) h r k =
     let es = block (observe r.0) m in
     let split : (has p es || has p r.0) ≡ true = sym (has-onto p r.0 es) ∙ ap (λ h. has p h) (sym r.3) ∙ k in
-    subst (λ h. IsCalled s t h q) (sym r.3)
-    (or_case (has p es) (has p r.0) (λ e. block_called s t r.0 p q f m r.2 e) (λ e. called_behind s t r.0 es q (fact_called s t p q f ms r.0 r.1 e)) split)
+    subst (λ h. IsCalled G h q) (sym r.3)
+    (or_case (has p es) (has p r.0) (λ e. block_called G r.0 p q f m r.2 e) (λ e. called_behind G r.0 es q (ran_called G p q f ms r.0 r.1 e)) split)
+
+pub fact_called : (G : ℕ → ActorNo → Call → Type 0) (p : Entry → Bool) (q : Call → Bool) → IsFactOf p q → (h : List Entry) → IsLocalRun G h → has p h ≡ true → IsCalled G h q
+fact_called G p q f h r k = ran_called G p q f r.0 h r.1 k
 
 -- a name is brought by the facts of calls that make it
 names_of_calls : (x : Name) → IsFactOf (is_namer x) (call_makes x)
 names_of_calls x = record { no_call = λ n a y. refl; no_deed = λ es h. plain_no_name x es h; by_call = λ o c b h. facts_make x o c b h }
 
--- what the call of a line makes has no entry where the line wasn't called
-not_named : (s : List Line) (t n : ℕ) (a : ActorNo) (c : Call) (x : Name) (h : List Entry) → are_named_well s ≡ true → Caused s t h → IsCallOf s t n a c → has (is_call n) h ≡ false
+-- where a name is brought, a call that makes it was entered
+pub name_called : (G : ℕ → ActorNo → Call → Type 0) (x : Name) (h : List Entry) → IsLocalRun G h → has (is_namer x) h ≡ true → IsCalled G h (call_makes x)
+name_called G x h r k = fact_called G (is_namer x) (call_makes x) (names_of_calls x) h r k
+
+-- the call that makes a name is the call by which that name is made
+pub makes_made : (x : Name) (c : Call) → call_makes x c ≡ true → made_by c ≡ Some x
+makes_made x (Volatile t e o v) k = ap (λ y. Some y) (sym (same_is x (OfEnlistment e.value) k))
+makes_made x (Durable t e r s) k = ap (λ y. Some y) (sym (same_is x (OfEnlistment e.value) k))
+makes_made x (Promotable t e r v o p) k = ap (λ y. Some y) (sym (same_is x (OfEnlistment e.value) k))
+makes_made x (Clone t c k) m = ap (λ y. Some y) (sym (same_is x (OfClone c.value) m))
+makes_made x _ k = absurd cc
+
+-- and the other way round
+made_makes : (x : Name) (c : Call) → made_by c ≡ Some x → call_makes x c ≡ true
+made_makes x (Volatile t e o v) k = let same : OfEnlistment e.value ≡ x = cc in subst (λ y. same_name y (OfEnlistment e.value) ≡ true) same (eq_self e.value)
+made_makes x (Durable t e r s) k = let same : OfEnlistment e.value ≡ x = cc in subst (λ y. same_name y (OfEnlistment e.value) ≡ true) same (eq_self e.value)
+made_makes x (Promotable t e r v o p) k = let same : OfEnlistment e.value ≡ x = cc in subst (λ y. same_name y (OfEnlistment e.value) ≡ true) same (eq_self e.value)
+made_makes x (Clone t c k) m = let same : OfClone c.value ≡ x = cc in subst (λ y. same_name y (OfClone c.value) ≡ true) same (eq_self c.value)
+made_makes x _ k = absurd cc
+
+-- a script in which names are made once gives each transaction calls that make each name once
+pub script_once : (s : List Line) (t : ℕ) → are_named_well s ≡ true → AreMadeOnce (IsCallOf s t)
+script_once s t w n m a b c d x g k e f =
+    let first = giver_makes s (lines_before s n) x g.line g.place g.name c g.gives (made_makes x c e) in
+    let second = giver_makes s (lines_before s m) x k.line k.place k.name d k.gives (made_makes x d f) in
+    made_once x s n m g.line k.line w g.stands k.stands first second
+
+-- what a call makes has no entry where its line wasn't called
+not_named : (G : ℕ → ActorNo → Call → Type 0) (n : ℕ) (a : ActorNo) (c : Call) (x : Name) (h : List Entry) → AreMadeOnce G → IsLocalRun G h → G n a c → has (is_call n) h ≡ false
     → call_makes x c ≡ true → has (is_namer x) h ≡ false
-not_named s t n a c x h w r k u m = by_cases (has (is_namer x) h) refl
+not_named G n a c x h w r k u m = by_cases (has (is_namer x) h) refl
   where
     by_cases : (b : Bool) → has (is_namer x) h ≡ b → has (is_namer x) h ≡ false
     by_cases false e = e
     by_cases true e =
-        let made : IsCalled s t h (call_makes x) = fact_called s t (is_namer x) (call_makes x) (names_of_calls x) r.0 h r.1 e in
-        let first = giver_makes s (lines_before s made.number) x made.given.line made.given.place made.given.name made.call made.given.gives made.passes in
-        let second = giver_makes s (lines_before s n) x k.line k.place k.name c k.gives m in
-        let same : made.number ≡ n = made_once x s made.number n made.given.line k.line w made.given.stands k.stands first second in
+        let made : IsCalled G h (call_makes x) = name_called G x h r e in
+        let same : made.number ≡ n = w made.number n made.actor a made.call c x made.given k (makes_made x made.call made.passes) (makes_made x c m) in
         absurd (not_both (has (is_call n) h) (subst (λ i. has (is_call i) h ≡ true) same made.called) u)
 
 -- what brings the name of an enlistment is that enlistment's entry
-enlisted_namer : (e : ℕ) (h : List Entry) → has (is_namer (OfEnlistment e)) h ≡ has (is_enlisted e) h
+pub enlisted_namer : (e : ℕ) (h : List Entry) → has (is_namer (OfEnlistment e)) h ≡ has (is_enlisted e) h
 enlisted_namer e [] = refl
 enlisted_namer e (Enlisted f c ∷ h) = ap (λ b. (e == f.value) || b) (enlisted_namer e h)
 enlisted_namer e (x ∷ h) = enlisted_namer e h
@@ -251,22 +291,22 @@ cloned_namer c [] = refl
 cloned_namer c (Cloned d k ∷ h) = ap (λ b. (c == d.value) || b) (cloned_namer c h)
 cloned_namer c (x ∷ h) = cloned_namer c h
 
--- an enlistment that the call of a line makes doesn't stand where the line wasn't called
-new_enlistment : (s : List Line) (t n : ℕ) (a : ActorNo) (c : Call) (e : EnlNo) (h : List Entry) → are_named_well s ≡ true → Caused s t h → IsCallOf s t n a c
+-- an enlistment that a call makes doesn't stand where its line wasn't called
+new_enlistment : (G : ℕ → ActorNo → Call → Type 0) (n : ℕ) (a : ActorNo) (c : Call) (e : EnlNo) (h : List Entry) → AreMadeOnce G → IsLocalRun G h → G n a c
     → has (is_call n) h ≡ false → call_makes (OfEnlistment e.value) c ≡ true → not (has (is_of e.value) (rows h)) ≡ true
-new_enlistment s t n a c e h w r k f m =
-    let none : has (is_namer (OfEnlistment e.value)) h ≡ false = not_named s t n a c (OfEnlistment e.value) h w r k f m in
+new_enlistment G n a c e h w r k f m =
+    let none : has (is_namer (OfEnlistment e.value)) h ≡ false = not_named G n a c (OfEnlistment e.value) h w r k f m in
     not_false (has (is_of e.value) (rows h)) (enlisted_in_rows e.value h ∙ sym (enlisted_namer e.value h) ∙ none)
 
--- what the call of a line makes is new where the line wasn't called
-pub caused_new : (s : List Line) (t n : ℕ) (a : ActorNo) (c : Call) (h : List Entry) → are_named_well s ≡ true → Caused s t h → IsCallOf s t n a c → has (is_call n) h ≡ false
+-- what a call makes is new where its line wasn't called
+pub run_new : (G : ℕ → ActorNo → Call → Type 0) (n : ℕ) (a : ActorNo) (c : Call) (h : List Entry) → AreMadeOnce G → IsLocalRun G h → G n a c → has (is_call n) h ≡ false
     → is_new (observe h) c ≡ true
 unfolding observe
-caused_new s t n a (Volatile u e o v) h w r k f = new_enlistment s t n a (Volatile u e o v) e h w r k f (eq_self e.value)
-caused_new s t n a (Durable u e i x) h w r k f = new_enlistment s t n a (Durable u e i x) e h w r k f (eq_self e.value)
-caused_new s t n a (Promotable u e i v o p) h w r k f = new_enlistment s t n a (Promotable u e i v o p) e h w r k f (eq_self e.value)
-caused_new s t n a (Clone u c x) h w r k f =
+run_new G n a (Volatile u e o v) h w r k f = new_enlistment G n a (Volatile u e o v) e h w r k f (eq_self e.value)
+run_new G n a (Durable u e i x) h w r k f = new_enlistment G n a (Durable u e i x) e h w r k f (eq_self e.value)
+run_new G n a (Promotable u e i v o p) h w r k f = new_enlistment G n a (Promotable u e i v o p) e h w r k f (eq_self e.value)
+run_new G n a (Clone u c x) h w r k f =
     let same = eq_self c.value in
-    let none : has (is_namer (OfClone c.value)) h ≡ false = not_named s t n a (Clone u c x) (OfClone c.value) h w r k f same in
+    let none : has (is_namer (OfClone c.value)) h ≡ false = not_named G n a (Clone u c x) (OfClone c.value) h w r k f same in
     not_false (has (is_clone c.value) (clone_rows h)) (clone_stands c.value h ∙ sym (cloned_namer c.value h) ∙ none)
-caused_new s t n a _ h w r k f = refl
+run_new G n a _ h w r k f = refl

@@ -5,7 +5,7 @@ use Rattle.std.proofs.lemmas.Bool.{eqb-true, cases_Bool}
 use Rattle.dtx_values.specs.declared.number.EnlNo.{EnlNo}
 use Rattle.dtx_values.specs.declared.entry.Ask.TheVariants.{Prepare}
 use Rattle.dtx_values.specs.declared.entry.Entry.{Entry}
-use Rattle.dtx_values.specs.declared.entry.Entry.TheVariants.{Enlisted, Asked, Decided, Voted, Handed, Told, Lost}
+use Rattle.dtx_values.specs.declared.entry.Entry.TheVariants.{Enlisted, Asked, Decided, Voted, Handed, Told, Lost, Reenlisted}
 use Rattle.dtx_values.specs.declared.entry.Party.TheVariants.{Enl}
 use Rattle.dtx_values.specs.declared.words.Class.{Class}
 use Rattle.dtx_values.specs.declared.row.Row.{Row}
@@ -14,11 +14,11 @@ use Rattle.dtx_model.specs.declared.listener.Listener.{Listener}
 use Rattle.dtx_model.specs.Words.{has, latest}
 use Rattle.dtx_values.specs.Class.{is_volatile}
 use Rattle.dtx_model.specs.Entries.{is_sealed, is_hand, is_any_hand, is_lost, is_vote, is_decision, handed_of, decision_of}
-use Rattle.dtx_model.specs.Observed.{listener_number, hear, listeners, lose, rows}
+use Rattle.dtx_model.specs.Observed.{listener_number, come_back, hear, listeners, lose, rows}
 use Rattle.dtx_model.specs.Outcome.{can_own, durables, enlisted, hears_doubt, is_empty, ready}
 use Rattle.dtx_values.specs.Owners.{lasting, only, owner_of}
 use Rattle.dtx_values.specs.Row.{is_lasting, is_of, has_voted, number_of, fresh_row, mark_row, vote_row}
-use Rattle.dtx_model.specs.Steps.{is_handed}
+use Rattle.dtx_model.specs.Half.{is_handed}
 use Rattle.dtx_values.specs.Vote.{still_hears}
 use Rattle.dtx_values.specs.Waves.{hears}
 use Rattle.dtx_model.proofs.Bools.{and_left, and_right, and_never, or_first, or_second, or_case, not_both, not_true}
@@ -233,6 +233,7 @@ listens n (Enlisted e c ∷ h) =
     has-insert (λ l. n == l.enlistment.value) listener_number (record { enlistment = e; told = false; lost = false }) (listeners h) ∙ ap (λ b. (n == e.value) || b) (listens n h)
 listens n (Told (Enl e) o ∷ h) = has_kept (λ l. n == l.enlistment.value) (hear e.value) (λ l. refl) (listeners h) ∙ listens n h
 listens n (Lost e ∷ h) = has_kept (λ l. n == l.enlistment.value) (lose e.value) (λ l. refl) (listeners h) ∙ listens n h
+listens n (Reenlisted e ∷ h) = has_kept (λ l. n == l.enlistment.value) (come_back e.value) (λ l. refl) (listeners h) ∙ listens n h
 listens n (x ∷ h) = listens n h
 
 -- the listener is lost where its enlistment is
@@ -270,6 +271,7 @@ lost_seen n (Lost e ∷ h) r =
         ∙ listens n h ∙ subst (λ m. has (is_enlisted m) h ≡ true) (sym number) s
     step n e h s ih false other =
         has_kept (is_lost_listener n) (lose e.value) (λ l. others n e.value l.enlistment.value l.lost other) (listeners h) ∙ ih
+lost_seen n (Reenlisted e ∷ h) r = absurd cc
 lost_seen n (x ∷ h) r = lost_seen n h (other_rules x h r)
 
 -- an enlistment whose row has no vote didn't vote

@@ -1,14 +1,12 @@
--- Which steps are pending, and which entries no block but a call's has.
-use Rattle.std.proofs.Common.{◌≡◌, Bool, true, false, ◌&&◌, List, [], ◌∷◌, Option, Some, None, refl}
+-- Which entries no block but a call's has.
+use Rattle.std.proofs.Common.{◌≡◌, Bool, true, false, ◌&&◌, List, [], Option, Some, None, refl}
 use Rattle.std.specs.Prelude.{is_some, find, not, if◌then◌else◌}
 use Rattle.dtx_values.specs.declared.number.EnlNo.{EnlNo}
 use Rattle.dtx_values.specs.declared.call.Call.{Call}
 use Rattle.dtx_values.specs.declared.call.Call.TheVariants.{Begin, Volatile, Durable, Promotable, Clone, Complete, Commit, Rollback, Tick, Gone}
 use Rattle.dtx_values.specs.declared.entry.Entry.{Entry}
 use Rattle.dtx_values.specs.declared.entry.Entry.TheVariants.{Called, Cloned, Enlisted, Asked, Voted, Sealed, Handed, OwnerAnswered, Decided, Told}
-use Rattle.dtx_values.specs.declared.note.Reply.{Reply}
 use Rattle.dtx_values.specs.declared.note.Reply.TheVariants.{Vote as VoteReply}
-use Rattle.dtx_values.specs.declared.script.Line.{Line}
 use Rattle.dtx_values.specs.declared.words.Outcome.{Outcome}
 use Rattle.dtx_values.specs.Clones.{is_open_rollback}
 use Rattle.dtx_model.specs.declared.listener.Listener.{Listener}
@@ -17,35 +15,19 @@ use Rattle.dtx_model.specs.Observed.{Observed}
 use Rattle.dtx_values.specs.Vote.{is_no}
 use Rattle.dtx_values.specs.Owners.{owner_of}
 use Rattle.dtx_values.specs.Table.{voted}
-use Rattle.dtx_model.specs.Steps.{Step, Calls, Replies, Acts, facts, facts_if, veto_if, reaches, ticked, time_up, is_late, is_handed, lost_outcome, decided_if, due_note, planned_reply, reply_step, due_reply, due_replies, pending, block}
+use Rattle.dtx_model.specs.Half.{is_handed}
+use Rattle.dtx_model.specs.Answers.{facts_if, reaches, ticked}
+use Rattle.dtx_model.specs.Turns.{Step, Calls, Replies, Acts}
+use Rattle.dtx_model.proofs.Narrow.{facts, veto_if, time_up, is_late, lost_outcome, decided_if, block}
 use Rattle.dtx_values.specs.Waves.{all_voted, is_over, next_ask}
-use Rattle.dtx_model.specs.Steps.{tell, is_to_tell, before_seal, commit_act, after_seal, undecided_act, act_by, act_entries, act_if}
-use Rattle.outcome_law.proofs.Scans.{each-append, each_more}
-use Rattle.outcome_law.proofs.Picks.{passes, each_from_at, each_picked}
+use Rattle.dtx_model.specs.Acts.{tell}
+use Rattle.dtx_model.proofs.Narrow.{is_to_tell, before_seal, commit_act, after_seal, undecided_act, act_by, act_entries}
+use Rattle.outcome_law.proofs.Scans.{each_more}
 
 -- no call
 abbrev pub is_no_call : Step → Bool
 is_no_call (Calls n a c m) = false
 is_no_call _ = true
-
--- a reply that is due is no call
-due_no_call : (e : EnlNo) (r : Option Reply) → passes is_no_call (reply_step e r) ≡ true
-due_no_call e (Some r) = refl
-due_no_call e None = refl
-
--- the local act is no call
-acts_no_call : (xs : List Entry) → each is_no_call (act_if xs) ≡ true
-acts_no_call [] = refl
-acts_no_call (x ∷ xs) = refl
-
--- no call is pending
-pub pending_no_call : (s : List Line) (o : Observed) → each is_no_call (pending s o) ≡ true
-unfolding pending
-pending_no_call s o =
-    each-append is_no_call (due_replies s o) (act_if (act_entries o))
-    (each_picked is_no_call (due_reply s o) o.table
-    (each_from_at (λ x. passes is_no_call (due_reply s o x)) o.table (λ k x e. due_no_call x.number (planned_reply s x.number.value (due_note o x)))))
-    (acts_no_call (act_entries o))
 
 -- an entry that isn't a call
 abbrev pub is_not_called : Entry → Bool
@@ -177,6 +159,7 @@ block_deed o (Calls n a c m) h = absurd cc
 block_deed o (Replies e (VoteReply v)) h = veto_deed (is_no v)
 block_deed o (Replies e _) h = refl
 block_deed o Acts h = act_deed o.decided o
+block_deed o _ h = refl
 
 -- the block of a reply or of the local act is plain
 pub block_plain : (o : Observed) (m : Step) → is_no_call m ≡ true → each is_plain (block o m) ≡ true

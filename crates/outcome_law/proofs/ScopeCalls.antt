@@ -4,10 +4,9 @@ use Rattle.std.specs.Prelude.{if◌then◌else◌}
 use Rattle.std.specs.List.{slice_get}
 use Rattle.dtx_values.specs.declared.number.TxNo.{TxNo}
 use Rattle.dtx_values.specs.declared.call.Call.{Call}
-use Rattle.dtx_values.specs.declared.call.Call.TheVariants.{Begin, Commit, Rollback, Await, Do}
+use Rattle.dtx_values.specs.declared.call.Call.TheVariants.{Begin, Commit, Rollback}
 use Rattle.dtx_values.specs.declared.entry.Answer.{Answer}
 use Rattle.dtx_values.specs.declared.entry.Answer.TheVariants.{Fine, Nested}
-use Rattle.dtx_values.specs.declared.entry.Entry.{Entry}
 use Rattle.dtx_values.specs.declared.scope.Closed.{Closed}
 use Rattle.dtx_values.specs.declared.scope.Closed.TheVariants.{Commit as CommitAtClose, Rollback as RollbackAtClose, Nothing}
 use Rattle.dtx_values.specs.declared.scope.Entered.{Entered}
@@ -20,8 +19,7 @@ use Rattle.dtx_values.specs.declared.words.Timeout.{Timeout}
 use Rattle.dtx_model.specs.Words.{has, put, all_of}
 use Rattle.dtx_model.specs.Scopes.{entering, enter_answer, close_answer, closing, once, rolled_back, taken_off, scope_transaction}
 use Rattle.dtx_model.specs.Contexts.{option_in, name_in, timeout_in, isolation_in, opening_calls, closing_calls, scope_calls, scopes_of, calls_by}
-use Rattle.dtx_model.specs.Steps.{call_of}
-use Rattle.dtx_model.specs.Caused.{MayAnswer}
+use Rattle.dtx_model.specs.Calls.{call_of}
 use Rattle.dtx_model.proofs.Bools.{or_right}
 use Rattle.outcome_law.proofs.Tests.{eq_self, apart}
 use Rattle.outcome_law.proofs.Lists.{OfEach, of-all, of-at, of-map}
@@ -72,12 +70,6 @@ given_call s before l k c e = by_words (call_of s l.body) (scope_calls l.body (s
     by_words None cs k c h e = inr (of-at IsScopeCall cs k c h e)
     by_words (Some d) cs zero c h e = inl e
     by_words (Some d) cs (suc k) c h e = inr (of-at IsScopeCall cs k c h e)
-
--- such a call may answer wherever it comes
-pub scope_call_may : (s : List Line) (h : List Entry) (c : Call) → is_scope_call c ≡ true → MayAnswer s h c 0
-scope_call_may s h (Do t k n) e = absurd cc
-scope_call_may s h (Await t) e = absurd cc
-scope_call_may s h _ e = tt
 
 -- the call is of another transaction
 abbrev pub IsBeside : TxNo → TxNo × Call → Type 0

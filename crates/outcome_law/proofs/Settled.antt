@@ -1,5 +1,5 @@
 -- A settled history that can commit is committed, and its client was told so.
-use Rattle.std.proofs.Common.{◌≡◌, ℕ, Bool, true, false, ◌&&◌, ◌||◌, List, [], ◌∷◌, ◌++◌, Option, Some, None, refl, ◌∙◌, ◌==◌, ap, sym, subst}
+use Rattle.std.proofs.Common.{◌≡◌, ℕ, Bool, true, false, ◌&&◌, ◌||◌, List, [], ◌∷◌, Option, Some, None, refl, ◌∙◌, ◌==◌, ap, sym, subst}
 use Rattle.std.specs.Prelude.{is_some, is_none, not, filter, find, if◌then◌else◌}
 use Rattle.std.proofs.lemmas.Bool.{eqb-true, false_from_ne_true}
 use Rattle.std.specs.List.{filter_map, cons_option}
@@ -7,6 +7,7 @@ use Rattle.dtx_values.specs.declared.number.EnlNo.{EnlNo}
 use Rattle.dtx_values.specs.declared.entry.Entry.{Entry}
 use Rattle.dtx_values.specs.declared.entry.Entry.TheVariants.{CommitAsked, Cut, Decided, Down, Enlisted, Got, Handed, LogFull, Lost, OwnerAnswered, PromoteReply, Requested, Restarted, RollbackAsked, Sealed, Stopped, TimedOut, Told, Voted}
 use Rattle.dtx_values.specs.declared.entry.Party.TheVariants.{Client}
+use Rattle.dtx_values.specs.declared.note.Note.{Note}
 use Rattle.dtx_values.specs.declared.script.Line.{Line}
 use Rattle.dtx_values.specs.declared.words.Class.{Class}
 use Rattle.dtx_values.specs.declared.words.Class.TheVariants.{Zero, One}
@@ -21,17 +22,19 @@ use Rattle.dtx_values.specs.Clones.{blocks, is_open_block}
 use Rattle.dtx_model.specs.declared.listener.Listener.{Listener}
 use Rattle.dtx_model.specs.Words.{has, each, ever, always, latest, all_of}
 use Rattle.dtx_model.specs.Entries.{same_outcome, is_commit, is_sealed, is_yes, is_hand, is_owner, is_asked, is_lost, is_vote, clone_of, handed_of, decision_of, is_decision, client_told_of, is_client_told}
-use Rattle.dtx_model.specs.History.{CanCommit, is_asked_in_time, is_committed, is_ending, is_loss, is_willing}
+use Rattle.dtx_model.specs.Histories.{CanCommit, is_asked_in_time, is_committed, is_ending, is_loss, is_willing}
 use Rattle.dtx_model.specs.Wires.{holds}
 use Rattle.dtx_model.specs.Outcome.{can_own, enlisted, is_complete, is_rollback, evidence, is_veto, is_first_veto, vetoed, is_lost_owner, owner_doubt, is_begin_end, is_voter_end, is_outcome_got, coordinator_doubt, doubt}
 use Rattle.dtx_values.specs.Owners.{owner_of}
 use Rattle.dtx_model.specs.Observed.{observe, rows, clone_rows}
-use Rattle.dtx_model.specs.Steps.{Step, tell, before_seal, commit_act, after_seal, undecided_act, act_by, act_entries, act_if, is_to_tell}
+use Rattle.dtx_model.specs.Acts.{tell}
+use Rattle.dtx_model.specs.Half.{is_gone, is_handed}
+use Rattle.dtx_model.specs.Waiting.{owner_reply, vote_reply}
+use Rattle.dtx_model.specs.Causes.{is_outcome_planned, is_vote_planned, plans_of}
+use Rattle.dtx_model.proofs.Narrow.{act_by, act_entries, after_seal, before_seal, commit_act, due_note, is_to_tell, open_note, undecided_act}
 use Rattle.dtx_values.specs.Vote.{voted_well}
-use Rattle.dtx_model.specs.Steps.{planned_vote, planned_owner, planned_promotion, is_gone, is_handed, open_note, vote_reply, owner_reply, planned_reply, reply_step, due_reply, due_replies, pending}
 use Rattle.dtx_values.specs.Waves.{may_be_asked, name_of, next_ask, zeros_voted, is_over, all_voted}
 use Rattle.dtx_values.specs.Class.{is_zero, is_one, is_promotable, is_volatile}
-use Rattle.dtx_model.specs.Caused.{Settled}
 use Rattle.dtx_model.proofs.Bools.{and_left, and_right, and_both, not_false, or_false, or_second, or_right, not_both, not_true, and_never}
 use Rattle.outcome_law.proofs.Tests.{first_of_three, second_of_three, second_of_four, fourth_of_four, or_between}
 use Rattle.outcome_law.proofs.Rule.{is_enlisted, is_only, is_answer, all_complete, zeros_cast, is_decided, is_certain, ruled, first_rule, other_rules}
@@ -42,32 +45,8 @@ use Rattle.outcome_law.proofs.Evidence.{is_answered, none_yes, hand_name, hand_s
 use Rattle.outcome_law.proofs.Rules.{decided_may, decided_same, not_behind}
 use Rattle.outcome_law.proofs.Owned.{any_hand_seen, hand_seen, lost_seen}
 use Rattle.outcome_law.proofs.Going.{enlisted_passes}
-use Rattle.outcome_law.proofs.Plans.{is_cast, is_planned}
-
--- two lists together are empty: the first is
-append_first : {A : Type 0} (xs ys : List A) → xs ++ ys ≡ [] → xs ≡ []
-append_first [] ys e = refl
-append_first (x ∷ xs) ys e = absurd cc
-
--- two lists together are empty: the second is
-append_second : {A : Type 0} (xs ys : List A) → xs ++ ys ≡ [] → ys ≡ []
-append_second [] ys e = e
-append_second (x ∷ xs) ys e = absurd cc
-
--- where no act is pending, it has no entries
-no_act : (xs : List Entry) → act_if xs ≡ [] → xs ≡ []
-no_act [] e = refl
-no_act (x ∷ xs) e = absurd cc
-
--- where nothing is pending, no reply is due
-pub settled_replies : (s : List Line) (h : List Entry) → Settled s h → due_replies s (observe h) ≡ []
-unfolding pending
-settled_replies s h e = append_first (due_replies s (observe h)) (act_if (act_entries (observe h))) e
-
--- where nothing is pending, the local act has no entries
-pub settled_act : (s : List Line) (h : List Entry) → Settled s h → act_entries (observe h) ≡ []
-unfolding pending
-settled_act s h e = no_act (act_entries (observe h)) (append_second (due_replies s (observe h)) (act_if (act_entries (observe h))) e)
+use Rattle.outcome_law.proofs.Dues.{is_unplanned}
+use Rattle.outcome_law.proofs.Plans.{each_as_planned, is_planned, planned_owner, planned_promotion, planned_vote}
 
 -- where each passes q, none passes p and fails q
 none_open : {A : Type 0} (p q : A → Bool) (xs : List A) → each q xs ≡ true → has (λ x. p x && not (q x)) xs ≡ false
@@ -150,10 +129,10 @@ owner_willing v w p c o k = step v w p (can_own c) o k
     step v w p false o k = absurd cc
 
 -- to whom the commit was handed it plans to answer committed
-hand_willing : (s : List Line) (h : List Entry) (e : ℕ) → ruled h ≡ true → each (λ x. is_willing s x.0.value x.1) (enlisted h) ≡ true → has (is_hand e) h ≡ true
+hand_willing : (s : List Line) (h : List Entry) (e : ℕ) → ruled h ≡ true → each (λ x. is_willing (plans_of s x.0.value) x.1) (enlisted h) ≡ true → has (is_hand e) h ≡ true
     → is_committed (planned_owner s e) ≡ true
 hand_willing s h e r w k =
-    only_passes (λ x. is_willing s x.0.value x.1) (λ n. is_committed (planned_owner s n))
+    only_passes (λ x. is_willing (plans_of s x.0.value) x.1) (λ n. is_committed (planned_owner s n))
     (λ x o f. owner_willing (voted_well (planned_vote s x.0.value)) (is_committed (planned_owner s x.0.value)) (not (is_promotable x.1) || holds (planned_promotion s x.0.value)) x.1 o f)
     e (enlisted h) (hand_stands e h r k).alone w
 
@@ -165,14 +144,14 @@ none_doubts s (OwnerAnswered e Committed ∷ h) k w r p sub = none_doubts s h k 
 none_doubts s (OwnerAnswered e Aborted ∷ h) k w r p sub = none_doubts s h k w (other_rules (OwnerAnswered e Aborted) h r) (and_right _ (each (is_planned s) h) p) sub
 none_doubts s (OwnerAnswered e InDoubt ∷ h) k w r p sub =
     let handed = second_of_three (not (has is_decision h)) (has (is_hand e.value) h) (not (has is_answer h)) (first_rule (OwnerAnswered e InDoubt) h r) in
-    absurd (opposite (planned_owner s e.value) (w e.value (sub e.value handed)) (and_left (is_decided InDoubt (planned_owner s e.value)) (each (is_planned s) h) p))
+    absurd (opposite (planned_owner s e.value) (w e.value (sub e.value handed)) (and_left (is_outcome_planned (planned_owner s e.value) InDoubt) (each (is_planned s) h) p))
   where
-    opposite : (o : Option Outcome) → is_committed o ≡ true → is_decided InDoubt o ≡ true → ⊥
+    opposite : (o : Option Outcome) → is_committed o ≡ true → is_outcome_planned o InDoubt ≡ true → ⊥
     opposite (Some Committed) c d = cc
     opposite (Some Aborted) c d = cc
     opposite (Some InDoubt) c d = cc
     opposite None c d = cc
-none_doubts s (Voted e v ∷ h) k w r p sub = none_doubts s h k w (other_rules (Voted e v) h r) (and_right (is_cast v (planned_vote s e.value)) (each (is_planned s) h) p) sub
+none_doubts s (Voted e v ∷ h) k w r p sub = none_doubts s h k w (other_rules (Voted e v) h r) (and_right (is_vote_planned (planned_vote s e.value) v) (each (is_planned s) h) p) sub
 none_doubts s (Handed f ∷ h) k w r p sub = none_doubts s h k w (other_rules (Handed f) h r) p (λ e q. sub e (or_right (e == f.value) (has (is_hand e) h) q))
 none_doubts s (x ∷ h) k w r p sub = none_doubts s h k w (other_rules x h r) p sub
 
@@ -197,14 +176,14 @@ no_doubt s h r p can =
     nowhere q f (x ∷ xs) = or_false (q x) (has q xs) (f x) (nowhere q f xs)
 
 -- a vote that is planned to be good is no veto
-cast_well : (o : Option Vote) → is_cast No o ≡ true → voted_well o ≡ true → ⊥
+cast_well : (o : Option Vote) → is_vote_planned o No ≡ true → voted_well o ≡ true → ⊥
 cast_well (Some Yes) c w = cc
 cast_well (Some No) c w = cc
 cast_well (Some Done) c w = cc
 cast_well None c w = cc
 
 -- an answer that is planned to be committed is no veto
-answered_well : (o : Option Outcome) → is_decided Aborted o ≡ true → is_committed o ≡ true → ⊥
+answered_well : (o : Option Outcome) → is_outcome_planned o Aborted ≡ true → is_committed o ≡ true → ⊥
 answered_well (Some Committed) d c = cc
 answered_well (Some Aborted) d c = cc
 answered_well (Some InDoubt) d c = cc
@@ -242,12 +221,12 @@ none_vetoes s (CommitAsked ∷ h) k v w r p d t l n m =
     (none_vetoes s h k v w (other_rules CommitAsked h r) p d (and_right (is_asked_in_time h CommitAsked) (always is_asked_in_time h) t) l n m)
 none_vetoes s (Voted e No ∷ h) k v w r p d t l n m =
     let there = second_of_four (not (has is_decision h)) (has (is_enlisted e.value) h) (has (is_asked e.value) h) (not (has (is_vote e.value) h)) (first_rule (Voted e No) h r) in
-    absurd (cast_well (planned_vote s e.value) (and_left (is_cast No (planned_vote s e.value)) (each (is_planned s) h) p) (v e.value (n e.value there)))
+    absurd (cast_well (planned_vote s e.value) (and_left (is_vote_planned (planned_vote s e.value) No) (each (is_planned s) h) p) (v e.value (n e.value there)))
 none_vetoes s (Voted e Yes ∷ h) k v w r p d t l n m = none_vetoes s h k v w (other_rules (Voted e Yes) h r) (and_right _ (each (is_planned s) h) p) d t l n m
 none_vetoes s (Voted e Done ∷ h) k v w r p d t l n m = none_vetoes s h k v w (other_rules (Voted e Done) h r) (and_right _ (each (is_planned s) h) p) d t l n m
 none_vetoes s (OwnerAnswered e Aborted ∷ h) k v w r p d t l n m =
     let handed = second_of_three (not (has is_decision h)) (has (is_hand e.value) h) (not (has is_answer h)) (first_rule (OwnerAnswered e Aborted) h r) in
-    absurd (answered_well (planned_owner s e.value) (and_left (is_decided Aborted (planned_owner s e.value)) (each (is_planned s) h) p) (w e.value (m e.value handed)))
+    absurd (answered_well (planned_owner s e.value) (and_left (is_outcome_planned (planned_owner s e.value) Aborted) (each (is_planned s) h) p) (w e.value (m e.value handed)))
 none_vetoes s (OwnerAnswered e Committed ∷ h) k v w r p d t l n m = none_vetoes s h k v w (other_rules (OwnerAnswered e Committed) h r) (and_right _ (each (is_planned s) h) p) d t l n m
 none_vetoes s (OwnerAnswered e InDoubt ∷ h) k v w r p d t l n m = none_vetoes s h k v w (other_rules (OwnerAnswered e InDoubt) h r) (and_right _ (each (is_planned s) h) p) d t l n m
 none_vetoes s (Enlisted f c ∷ h) k v w r p d t l n m =
@@ -260,7 +239,7 @@ none_vetoes s (x ∷ h) k v w r p d t l n m = none_vetoes s h k v w (other_rules
 unvetoed : (s : List Line) (h : List Entry) → ruled h ≡ true → each (is_planned s) h ≡ true → CanCommit s h → ever is_veto h ≡ false
 unvetoed s h r p can =
     let votes : each (λ x. voted_well (planned_vote s x.0.value)) (enlisted h) ≡ true =
-    each_more (λ x. is_willing s x.0.value x.1) (λ x. voted_well (planned_vote s x.0.value)) (λ x k. first_of_three (voted_well (planned_vote s x.0.value)) _ _ k) (enlisted h) can.willing in
+    each_more (λ x. is_willing (plans_of s x.0.value) x.1) (λ x. voted_well (planned_vote s x.0.value)) (λ x k. first_of_three (voted_well (planned_vote s x.0.value)) _ _ k) (enlisted h) can.willing in
     none_vetoes s h h (λ e k. enlisted_passes (λ n. voted_well (planned_vote s n)) e h votes k) (λ e k. hand_willing s h e r can.willing k) r p can.ended_by_none can.in_time can.unlost
     (λ e k. k) (λ e k. k)
 
@@ -283,33 +262,37 @@ has_answered x = not (is_marked x) || has_voted x
 
 -- of a row of which nothing is due and whose planned vote is yes or done it is so that it has a vote where it is marked
 row_step : (s : List Line) (marked voted handed : Bool) (e : EnlNo) → voted_well (planned_vote s e.value) ≡ true
-    → is_none (reply_step e (planned_reply s e.value (open_note (marked && not voted) handed))) ≡ true → (not marked || voted) ≡ true
+    → is_unplanned (plans_of s e.value) (open_note (marked && not voted) handed) ≡ true → (not marked || voted) ≡ true
 row_step s false voted handed e p d = refl
 row_step s true true handed e p d = refl
 row_step s true false handed e p d = planned e (planned_vote s e.value) p d
   where
-    planned : (e : EnlNo) (o : Option Vote) → voted_well o ≡ true → is_none (reply_step e (vote_reply o)) ≡ true → (false || false) ≡ true
+    planned : (e : EnlNo) (o : Option Vote) → voted_well o ≡ true → is_none (vote_reply o) ≡ true → (false || false) ≡ true
     planned e (Some v) p d = absurd cc
     planned e None p d = absurd cc
 
 -- and it wasn't handed the commit where it plans to answer committed
 hand_step : (s : List Line) (asked handed : Bool) (e : EnlNo) → voted_well (planned_vote s e.value) ≡ true → is_committed (planned_owner s e.value) ≡ true
-    → is_none (reply_step e (planned_reply s e.value (open_note asked handed))) ≡ true → handed ≡ false
+    → is_unplanned (plans_of s e.value) (open_note asked handed) ≡ true → handed ≡ false
 hand_step s true handed e p o d = vote e handed (planned_vote s e.value) p d
   where
-    vote : (e : EnlNo) (b : Bool) (o : Option Vote) → voted_well o ≡ true → is_none (reply_step e (vote_reply o)) ≡ true → b ≡ false
+    vote : (e : EnlNo) (b : Bool) (o : Option Vote) → voted_well o ≡ true → is_none (vote_reply o) ≡ true → b ≡ false
     vote e b (Some v) p d = absurd cc
     vote e b None p d = absurd cc
 hand_step s false false e p o d = refl
 hand_step s false true e p o d = owner e (planned_owner s e.value) o d
   where
-    owner : (e : EnlNo) (o : Option Outcome) → is_committed o ≡ true → is_none (reply_step e (owner_reply o)) ≡ true → true ≡ false
+    owner : (e : EnlNo) (o : Option Outcome) → is_committed o ≡ true → is_none (owner_reply o) ≡ true → true ≡ false
     owner e (Some x) p d = absurd cc
     owner e None p d = absurd cc
 
--- the reply that is due of the row where nothing is decided and nothing is lost
-abbrev pub open_reply : List Line → List Entry → Row → Option Step
-open_reply s h x = reply_step x.number (planned_reply s x.number.value (open_note (is_marked x && not (has_voted x)) (is_handed (latest handed_of h) x.number.value)))
+-- to what a reply is due of the row where nothing is decided and nothing is lost
+abbrev pub open_reply : List Entry → Row → Option Note
+open_reply h x = open_note (is_marked x && not (has_voted x)) (is_handed (latest handed_of h) x.number.value)
+
+-- no reply is due of any row to which its plan isn't silent
+abbrev pub AreUnplanned : List Line → List Entry → Type 0
+AreUnplanned s h = each (λ x. is_unplanned (plans_of s x.number.value) (due_note (observe h) x)) (rows h) ≡ true
 
 -- an enlistment that is lost is a loss
 lost_loss : (e : ℕ) (x : Entry) → is_lost e x ≡ true → is_loss x ≡ true
@@ -317,33 +300,33 @@ lost_loss e (Lost f) k = refl
 lost_loss e _ k = absurd cc
 
 -- where nothing is decided and nothing is lost, that reply is due
-reply_open : (s : List Line) (h : List Entry) (x : Row) → ruled h ≡ true → latest decision_of h ≡ None → has is_loss h ≡ false → due_reply s (observe h) x ≡ open_reply s h x
+reply_open : (h : List Entry) (x : Row) → ruled h ≡ true → latest decision_of h ≡ None → has is_loss h ≡ false → due_note (observe h) x ≡ open_reply h x
 unfolding observe
-reply_open s h x r d l =
+reply_open h x r d l =
     let here : is_gone (observe h) x.number.value ≡ false = lost_seen x.number.value h r ∙ has_less (is_lost x.number.value) is_loss (lost_loss x.number.value) h l in
-    ap (λ b. reply_step x.number (planned_reply s x.number.value (if b then None else open_note (is_marked x && not (has_voted x)) (is_handed (latest handed_of h) x.number.value))))
+    ap (λ b. if b then None else open_note (is_marked x && not (has_voted x)) (is_handed (latest handed_of h) x.number.value))
     (or_false (is_some (latest decision_of h)) (is_gone (observe h) x.number.value) (ap is_some d) here)
 
--- where no reply is due, none is of any row
-none_due : (s : List Line) (h : List Entry) → ruled h ≡ true → latest decision_of h ≡ None → has is_loss h ≡ false → due_replies s (observe h) ≡ []
-    → each (λ x. is_none (open_reply s h x)) (rows h) ≡ true
+-- then the plan of each row is silent to it
+none_due : (s : List Line) (h : List Entry) → ruled h ≡ true → latest decision_of h ≡ None → has is_loss h ≡ false → AreUnplanned s h
+    → each (λ x. is_unplanned (plans_of s x.number.value) (open_reply h x)) (rows h) ≡ true
 unfolding observe
 none_due s h r d l e =
-    each_more (λ x. is_none (due_reply s (observe h) x)) (λ x. is_none (open_reply s h x)) (λ x k. ap is_none (sym (reply_open s h x r d l)) ∙ k) (rows h)
-    (each_none (due_reply s (observe h)) (rows h) e)
+    each_more (λ x. is_unplanned (plans_of s x.number.value) (due_note (observe h) x)) (λ x. is_unplanned (plans_of s x.number.value) (open_reply h x))
+    (λ x k. ap (is_unplanned (plans_of s x.number.value)) (sym (reply_open h x r d l)) ∙ k) (rows h) e
 
 -- each row is willing
-each_planned : (s : List Line) (h : List Entry) → CanCommit s h → each (λ x. is_willing s x.number.value x.class) (rows h) ≡ true
-each_planned s h c = each_rows (λ e k. is_willing s e.value k) h ∙ c.willing
+each_planned : (s : List Line) (h : List Entry) → CanCommit s h → each (λ x. is_willing (plans_of s x.number.value) x.class) (rows h) ≡ true
+each_planned s h c = each_rows (λ e k. is_willing (plans_of s e.value) k) h ∙ c.willing
 
 -- where each is willing and no reply is due, each marked row has a vote
-each_answered : (s : List Line) (h : List Entry) → CanCommit s h → each (λ x. is_none (open_reply s h x)) (rows h) ≡ true → each has_answered (rows h) ≡ true
+each_answered : (s : List Line) (h : List Entry) → CanCommit s h → each (λ x. is_unplanned (plans_of s x.number.value) (open_reply h x)) (rows h) ≡ true → each has_answered (rows h) ≡ true
 each_answered s h c d =
-    each_both (λ x. is_willing s x.number.value x.class) (λ x. is_none (open_reply s h x)) has_answered
+    each_both (λ x. is_willing (plans_of s x.number.value) x.class) (λ x. is_unplanned (plans_of s x.number.value) (open_reply h x)) has_answered
     (λ x w n. row_step s (is_marked x) (has_voted x) (is_handed (latest handed_of h) x.number.value) x.number (first_of_three (voted_well (planned_vote s x.number.value)) _ _ w) n) (rows h) (each_planned s h c) d
 
 -- a row that can own the commit and is willing, and of which no reply is due, wasn't handed it
-still : (s : List Line) (h : List Entry) (x : Row) → is_willing s x.number.value x.class ≡ true → is_none (open_reply s h x) ≡ true
+still : (s : List Line) (h : List Entry) (x : Row) → is_willing (plans_of s x.number.value) x.class ≡ true → is_unplanned (plans_of s x.number.value) (open_reply h x) ≡ true
     → (not (can_own x.class) || not (is_handed (latest handed_of h) x.number.value)) ≡ true
 still s h x w n = step (can_own x.class) (not (is_handed (latest handed_of h) x.number.value)) (λ o. bare o)
   where
@@ -442,10 +425,10 @@ commit_stuck false (Some f) e = absurd cc
 commit_stuck false None e = absurd cc
 
 -- where each is willing and no reply is due, the commit isn't handed over
-none_handed : (s : List Line) (h : List Entry) → ruled h ≡ true → CanCommit s h → each (λ x. is_none (open_reply s h x)) (rows h) ≡ true → is_some (latest handed_of h) ≡ false
+none_handed : (s : List Line) (h : List Entry) → ruled h ≡ true → CanCommit s h → each (λ x. is_unplanned (plans_of s x.number.value) (open_reply h x)) (rows h) ≡ true → is_some (latest handed_of h) ≡ false
 none_handed s h r c d =
     unhanded_by h r
-    (each_both (λ x. is_willing s x.number.value x.class) (λ x. is_none (open_reply s h x)) (λ x. not (can_own x.class) || not (is_handed (latest handed_of h) x.number.value))
+    (each_both (λ x. is_willing (plans_of s x.number.value) x.class) (λ x. is_unplanned (plans_of s x.number.value) (open_reply h x)) (λ x. not (can_own x.class) || not (is_handed (latest handed_of h) x.number.value))
     (still s h) (rows h) (each_planned s h c) d)
 
 -- by cases: it is sealed, or it isn't
@@ -466,7 +449,7 @@ by_seal h true true k c r closed a u e =
 
 -- by cases: it was decided, or nothing was
 by_decision : (s : List Line) (h : List Entry) (d : Option Outcome) → latest decision_of h ≡ d → ruled h ≡ true → each (is_planned s) h ≡ true → CanCommit s h
-    → act_by d (observe h) ≡ [] → due_replies s (observe h) ≡ [] → has (is_client_told Committed) h ≡ true
+    → act_by d (observe h) ≡ [] → AreUnplanned s h → has (is_client_told Committed) h ≡ true
 unfolding observe
 by_decision s h (Some x) f r p can a d =
     client_committed h (latest client_told_of h) r (unvetoed s h r p can) (no_doubt s h r p can) refl (told_all x (find (is_to_tell (observe h) x) (observe h).listeners) (latest client_told_of h) a)
@@ -475,7 +458,7 @@ by_decision s h None f r p can a d =
     let closed : has is_open_block (clone_rows h) ≡ false = open_blocks h r ∙ none_open (λ c. blocks c.1) (is_complete h) (all_of clone_of h) can.completed in
     by_seal h (has is_commit h) (has is_sealed h) refl can.asked r closed (each_answered s h can none) (none_handed s h r can none) a
 
--- a settled history that keeps the rules, in which owners answer as planned, and that can commit: its client was told that it is committed
-pub settled_committed : (s : List Line) (h : List Entry) → ruled h ≡ true → each (is_planned s) h ≡ true → Settled s h → CanCommit s h → has (is_client_told Committed) h ≡ true
+-- a settled history that keeps the rules and that can commit: its client was told that it is committed
+pub settled_committed : (s : List Line) (h : List Entry) → ruled h ≡ true → act_entries (observe h) ≡ [] → AreUnplanned s h → CanCommit s h → has (is_client_told Committed) h ≡ true
 unfolding observe act_entries
-settled_committed s h r p e can = by_decision s h (latest decision_of h) refl r p can (settled_act s h e) (settled_replies s h e)
+settled_committed s h r a due can = by_decision s h (latest decision_of h) refl r (each_as_planned s h can.planned) can a due

@@ -1,11 +1,10 @@
 -- Where a history is settled and commit was asked, the client was told, or there is something that it waits for.
-use Rattle.std.proofs.Common.{◌≡◌, ◌==◌, ℕ, Bool, true, false, ◌&&◌, ◌||◌, zero, suc, List, [], ◌∷◌, slice_get, Option, Some, None, inl, inr, refl, ◌∙◌, ap, sym, subst}
+use Rattle.std.proofs.Common.{◌≡◌, ◌==◌, ℕ, Bool, true, false, ◌&&◌, ◌||◌, zero, suc, List, [], ◌∷◌, slice_get, Option, Some, None, refl, ◌∙◌, ap, sym}
 use Rattle.std.specs.Prelude.{is_some, is_none, not, find, if◌then◌else◌}
-use Rattle.std.proofs.lemmas.Bool.{eqb-true, cases_Bool, false_from_ne_true}
+use Rattle.std.proofs.lemmas.Bool.{eqb-true, false_from_ne_true}
 use Rattle.dtx_values.specs.declared.number.EnlNo.{EnlNo}
 use Rattle.dtx_values.specs.declared.entry.Entry.{Entry}
-use Rattle.dtx_values.specs.declared.entry.Entry.TheVariants.{Asked, Enlisted, Lost, Voted}
-use Rattle.dtx_values.specs.declared.entry.Ask.TheVariants.{Prepare}
+use Rattle.dtx_values.specs.declared.entry.Entry.TheVariants.{Lost}
 use Rattle.dtx_values.specs.declared.script.Line.{Line}
 use Rattle.dtx_values.specs.declared.words.Class.{Class}
 use Rattle.dtx_values.specs.declared.words.Outcome.{Outcome}
@@ -14,84 +13,27 @@ use Rattle.dtx_values.specs.Class.{is_volatile}
 use Rattle.dtx_values.specs.Clones.{blocks}
 use Rattle.dtx_values.specs.Row.{has_voted, is_marked}
 use Rattle.dtx_model.specs.Words.{has, each, latest, all_of}
-use Rattle.dtx_model.specs.Entries.{client_told_of, clone_of, decision_of, handed_of, is_any_owner, is_asked, is_commit, is_decision, is_hand, is_lost, is_sealed, is_vote}
+use Rattle.dtx_model.specs.Entries.{client_told_of, clone_of, decision_of, handed_of, is_any_owner, is_commit, is_decision, is_hand, is_lost, is_sealed, is_vote}
 use Rattle.dtx_model.specs.Observed.{observe, rows}
 use Rattle.dtx_model.specs.Outcome.{can_own, durables, enlisted, is_complete}
-use Rattle.dtx_model.specs.Steps.{act_by, act_entries, due_replies, due_reply, is_gone, is_handed, is_to_tell, open_note, owner_reply, planned_owner, planned_reply, planned_vote, reply_step, vote_reply}
-use Rattle.dtx_model.specs.Caused.{Settled}
-use Rattle.dtx_model.specs.History.{is_silent, is_waiting}
+use Rattle.dtx_model.specs.Half.{is_gone, is_handed}
+use Rattle.dtx_model.specs.Waiting.{owner_reply, vote_reply}
+use Rattle.dtx_model.specs.Causes.{plans_of}
+use Rattle.dtx_model.proofs.Narrow.{act_by, act_entries, due_note, is_to_tell, open_note}
+use Rattle.dtx_model.specs.Histories.{is_silent, is_waiting}
 use Rattle.std.proofs.lemmas.Bool.{or_left}
-use Rattle.dtx_model.proofs.Bools.{and_both, and_left, and_never, and_right, not_both, not_true, or_case, or_first, or_right, or_second}
-use Rattle.outcome_law.proofs.Tests.{third_of_four}
+use Rattle.dtx_model.proofs.Bools.{and_both, and_left, and_right, or_case, or_first, or_right, or_second}
 use Rattle.outcome_law.proofs.Scans.{each-at, each_more, has_less}
 use Rattle.outcome_law.proofs.Picks.{each_from_at}
-use Rattle.outcome_law.proofs.Rule.{is_enlisted, is_only, is_answer, is_volatile_of, first_rule, other_rules, ruled}
+use Rattle.outcome_law.proofs.Dues.{is_unplanned, one_class, voted_volatile}
+use Rattle.outcome_law.proofs.Rule.{is_only, is_answer, ruled}
 use Rattle.outcome_law.proofs.TableRows.{open_blocks, row_marked, row_voted}
 use Rattle.outcome_law.proofs.Rules.{undecided}
 use Rattle.outcome_law.proofs.Evidence.{hand_stands}
 use Rattle.outcome_law.proofs.Owned.{has_filter, has_rows, hand_seen, lost_seen}
 use Rattle.outcome_law.proofs.Going.{IsKept, any_answer, going_unanswered, lost_of}
-use Rattle.outcome_law.proofs.Settled.{by_seal, each_none, has_answered, settled_act, settled_replies, told_all, unhanded_by}
-
--- who voted is volatile
-voted_volatile : (e : ℕ) (h : List Entry) → ruled h ≡ true → has (is_vote e) h ≡ true → has (is_volatile_of e) (enlisted h) ≡ true
-voted_volatile e h r v = asked_volatile e h r (voted_asked e h r v)
-  where
-    voted_asked : (e : ℕ) (h : List Entry) → ruled h ≡ true → has (is_vote e) h ≡ true → has (is_asked e) h ≡ true
-    voted_asked e [] r v = absurd cc
-    voted_asked e (Voted f w ∷ h) r v =
-        or_case (e == f.value) (has (is_vote e) h)
-        (λ s. let same : e ≡ f.value = eqb-true e f.value s in
-        subst (λ n. has (is_asked n) h ≡ true) (sym same)
-        (third_of_four (not (has is_decision h)) (has (is_enlisted f.value) h) (has (is_asked f.value) h) (not (has (is_vote f.value) h)) (first_rule (Voted f w) h r)))
-        (voted_asked e h (other_rules (Voted f w) h r)) v
-    voted_asked e (x ∷ h) r v = or_right (is_asked e x) (has (is_asked e) h) (voted_asked e h (other_rules x h r) v)
-
-    asked_volatile : (e : ℕ) (h : List Entry) → ruled h ≡ true → has (is_asked e) h ≡ true → has (is_volatile_of e) (enlisted h) ≡ true
-    asked_volatile e [] r a = absurd cc
-    asked_volatile e (Enlisted f c ∷ h) r a = or_right (is_volatile_of e (f, c)) (has (is_volatile_of e) (enlisted h)) (asked_volatile e h (other_rules (Enlisted f c) h r) a)
-    asked_volatile e (Asked f Prepare ∷ h) r a =
-        or_case (e == f.value) (has (is_asked e) h)
-        (λ s. let same : e ≡ f.value = eqb-true e f.value s in
-        subst (λ n. has (is_volatile_of n) (enlisted h) ≡ true) (sym same)
-        (and_right (not (has is_decision h) && has is_commit h && has (is_enlisted f.value) h && not (has (is_asked f.value) h)) (has (is_volatile_of f.value) (enlisted h)) (first_rule (Asked f Prepare) h r)))
-        (asked_volatile e h (other_rules (Asked f Prepare) h r)) a
-    asked_volatile e (x ∷ h) r a = asked_volatile e h (other_rules x h r) a
-
--- this enlistment, where it is durable or promotable
-abbrev pub is_lasting_of : ℕ → EnlNo × Class → Bool
-is_lasting_of e x = (e == x.0.value) && not (is_volatile x.1)
-
--- what is among the enlistments by a test is enlisted
-is_there : (e : ℕ) (q : Class → Bool) (h : List Entry) → has (λ x. (e == x.0.value) && q x.1) (enlisted h) ≡ true → has (is_enlisted e) h ≡ true
-is_there e q [] k = absurd cc
-is_there e q (Enlisted f c ∷ h) k =
-    or_case ((e == f.value) && q c) (has (λ x. (e == x.0.value) && q x.1) (enlisted h))
-    (λ s. or_left (e == f.value) (has (is_enlisted e) h) (and_left (e == f.value) (q c) s)) (λ s. or_right (e == f.value) (has (is_enlisted e) h) (is_there e q h s)) k
-is_there e q (x ∷ h) k = is_there e q h k
-
--- nobody is both volatile and not
-one_class : (e : ℕ) (h : List Entry) → ruled h ≡ true → has (is_volatile_of e) (enlisted h) ≡ true → has (is_lasting_of e) (enlisted h) ≡ true → ⊥
-one_class e [] r v l = absurd cc
-one_class e (Enlisted f c ∷ h) r v l =
-    let own = other_rules (Enlisted f c) h r in
-    elim (cases_Bool (e == f.value)) [
-      | inl s ↦
-          let same : e ≡ f.value = eqb-true e f.value s in
-          let once : has (is_enlisted f.value) h ≡ false = not_true (has (is_enlisted f.value) h) (third_of_four (not (has is_decision h)) (not (has is_sealed h)) (not (has (is_enlisted f.value) h)) _ (first_rule (Enlisted f c) h r)) in
-          let new : has (is_enlisted e) h ≡ false = subst (λ n. has (is_enlisted n) h ≡ false) (sym same) once in
-          elim (cases_Bool (is_volatile c)) [
-            | inl q ↦ let none : is_lasting_of e (f, c) ≡ false = rw q (and_never (e == f.value)) in not_both (has (is_enlisted e) h) (is_there e (λ c. not (is_volatile c)) h (or_second_true (is_lasting_of e (f, c)) _ none l)) new
-            | inr q ↦ let none : is_volatile_of e (f, c) ≡ false = rw q (and_never (e == f.value)) in not_both (has (is_enlisted e) h) (is_there e is_volatile h (or_second_true (is_volatile_of e (f, c)) _ none v)) new
-          ]
-      | inr s ↦
-          one_class e h own (or_second_true (is_volatile_of e (f, c)) _ (rw s refl) v) (or_second_true (is_lasting_of e (f, c)) _ (rw s refl) l)
-    ]
-  where
-    or_second_true : (b c : Bool) → b ≡ false → (b || c) ≡ true → c ≡ true
-    or_second_true true c n k = absurd cc
-    or_second_true false c n k = k
-one_class e (x ∷ h) r v l = one_class e h (other_rules x h r) v l
+use Rattle.outcome_law.proofs.Plans.{planned_owner, planned_vote}
+use Rattle.outcome_law.proofs.Settled.{AreUnplanned, by_seal, has_answered, told_all, unhanded_by}
 
 -- whoever was handed the commit didn't vote
 handed_unvoted : (e : ℕ) (h : List Entry) → ruled h ≡ true → has (is_hand e) h ≡ true → has (is_vote e) h ≡ false
@@ -122,7 +64,7 @@ lost_voted h e k d l = listed (has (is_vote e) h) h e (λ f. has (is_vote f) h) 
 
 -- where no reply is due of a row and it isn't silent, it voted if it was asked, and wasn't handed the commit
 row_rest : (s : List Line) (e : EnlNo) (d l m v w a : Bool) → d ≡ false → a ≡ false → (l ≡ true → v ≡ true) → (w ≡ true → v ≡ false)
-    → is_none (reply_step e (planned_reply s e.value (if d || l then None else open_note (m && not v) w))) ≡ true
+    → is_unplanned (plans_of s e.value) (if d || l then None else open_note (m && not v) w) ≡ true
     → ((m && is_none (planned_vote s e.value) && not v) || (w && is_none (planned_owner s e.value) && not a)) ≡ false → ((not m || v) && not w) ≡ true
 row_rest s e true l m v w a n y f g due silent = absurd cc
 row_rest s e d l m v w true n y f g due silent = absurd cc
@@ -131,25 +73,24 @@ row_rest s e false true m true false false n y f g due silent = and_both (not m 
 row_rest s e false true m false w false n y f g due silent = let no : false ≡ true = f refl in absurd cc
 row_rest s e false false true false w false n y f g due silent = absurd (vote e (planned_vote s e.value) due (or_first _ _ silent))
   where
-    vote : (e : EnlNo) (o : Option Vote) → is_none (reply_step e (vote_reply o)) ≡ true → (true && is_none o && true) ≡ false → ⊥
+    vote : (e : EnlNo) (o : Option Vote) → is_none (vote_reply o) ≡ true → (true && is_none o && true) ≡ false → ⊥
     vote e (Some v) p q = cc
     vote e None p q = cc
 row_rest s e false false true true true false n y f g due silent = let no : true ≡ false = g refl in absurd cc
 row_rest s e false false true true false false n y f g due silent = refl
 row_rest s e false false false v true false n y f g due silent = absurd (answer e (planned_owner s e.value) due silent)
   where
-    answer : (e : EnlNo) (o : Option Outcome) → is_none (reply_step e (owner_reply o)) ≡ true → ((false && is_none (planned_vote s e.value) && not v) || (true && is_none o && true)) ≡ false → ⊥
+    answer : (e : EnlNo) (o : Option Outcome) → is_none (owner_reply o) ≡ true → ((false && is_none (planned_vote s e.value) && not v) || (true && is_none o && true)) ≡ false → ⊥
     answer e (Some x) p q = cc
     answer e None p q = cc
 row_rest s e false false false v false false n y f g due silent = refl
 
 -- where nothing is decided, no reply is due and nobody is silent, each row voted if it was asked, and none was handed the commit
-rows_rest : (s : List Line) (h : List Entry) → IsKept h → latest decision_of h ≡ None → due_replies s (observe h) ≡ [] → has (λ x. is_silent s h x.0.value) (enlisted h) ≡ false
+rows_rest : (s : List Line) (h : List Entry) → IsKept h → latest decision_of h ≡ None → AreUnplanned s h → has (λ x. is_silent (plans_of s x.0.value) h x.0.value) (enlisted h) ≡ false
     → each (λ x. has_answered x && not (is_handed (latest handed_of h) x.number.value)) (rows h) ≡ true
 unfolding observe
 rows_rest s h k d due silent =
-    let none = each_none (due_reply s (observe h)) (rows h) due in
-    let quiet : has (λ x. is_silent s h x.number.value) (rows h) ≡ false = has_rows (λ (e : EnlNo) (c : Class). is_silent s h e.value) h ∙ silent in
+    let quiet : has (λ x. is_silent (plans_of s x.number.value) h x.number.value) (rows h) ≡ false = has_rows (λ (e : EnlNo) (c : Class). is_silent (plans_of s e.value) h e.value) h ∙ silent in
     let u = undecided h d in
     each_from_at (λ x. has_answered x && not (is_handed (latest handed_of h) x.number.value)) (rows h)
     (λ i x e.
@@ -158,8 +99,8 @@ rows_rest s h k d due silent =
     (has_less (is_any_owner n) is_answer (any_answer n) h (going_unanswered h u k.going))
     (λ l. row_voted h i x k.rules e ∙ lost_voted h n k u (sym (lost_seen n h k.rules) ∙ l))
     (λ w. row_voted h i x k.rules e ∙ handed_unvoted n h k.rules (sym (hand_seen n h k.rules) ∙ w))
-    (each-at (λ y. is_none (due_reply s (observe h) y)) (rows h) i x none e)
-    (rw (row_marked h i x k.rules e, row_voted h i x k.rules e, hand_seen n h k.rules) (none-at (λ y. is_silent s h y.number.value) (rows h) i x quiet e)))
+    (each-at (λ y. is_unplanned (plans_of s y.number.value) (due_note (observe h) y)) (rows h) i x due e)
+    (rw (row_marked h i x k.rules e, row_voted h i x k.rules e, hand_seen n h k.rules) (none-at (λ y. is_silent (plans_of s y.number.value) h y.number.value) (rows h) i x quiet e)))
   where
     none-at : {A : Type 0} (p : A → Bool) (xs : List A) (i : ℕ) (x : A) → has p xs ≡ false → slice_get xs i ≡ Some x → p x ≡ false
     none-at p [] i x n e = absurd cc
@@ -167,14 +108,14 @@ rows_rest s h k d due silent =
     none-at p (y ∷ ys) (suc i) x n e = none-at p ys i x (or_second (p y) (has p ys) n) e
 
 -- by cases: something was decided, or nothing was
-by_decision : (s : List Line) (h : List Entry) (d : Option Outcome) → latest decision_of h ≡ d → IsKept h → has is_commit h ≡ true → act_by d (observe h) ≡ [] → due_replies s (observe h) ≡ []
+by_decision : (s : List Line) (h : List Entry) (d : Option Outcome) → latest decision_of h ≡ d → IsKept h → has is_commit h ≡ true → act_by d (observe h) ≡ [] → AreUnplanned s h
     → (is_some (latest client_told_of h) || is_waiting s h) ≡ true
 unfolding observe
 by_decision s h (Some x) f k c a due =
     or_left (is_some (latest client_told_of h)) (is_waiting s h) (told_all x (find (is_to_tell (observe h) x) (observe h).listeners) (latest client_told_of h) a)
 by_decision s h None f k c a due =
     or_right (is_some (latest client_told_of h)) (is_waiting s h)
-    (waits (has (λ c. blocks c.1 && not (is_complete h c)) (all_of clone_of h)) (has (λ x. is_silent s h x.0.value) (enlisted h))
+    (waits (has (λ c. blocks c.1 && not (is_complete h c)) (all_of clone_of h)) (has (λ x. is_silent (plans_of s x.0.value) h x.0.value) (enlisted h))
     (λ closed silent.
     let rest = rows_rest s h k f due silent in
     let answered : each has_answered (rows h) ≡ true =
@@ -191,6 +132,6 @@ by_decision s h None f k c a due =
     waits false false f = absurd (f refl refl)
 
 -- a settled history in which commit was asked: the client was told, or there is something that it waits for
-pub told_or_waits : (s : List Line) (h : List Entry) → IsKept h → Settled s h → has is_commit h ≡ true → (is_some (latest client_told_of h) || is_waiting s h) ≡ true
+pub told_or_waits : (s : List Line) (h : List Entry) → IsKept h → act_entries (observe h) ≡ [] → AreUnplanned s h → has is_commit h ≡ true → (is_some (latest client_told_of h) || is_waiting s h) ≡ true
 unfolding observe act_entries
-told_or_waits s h k e c = by_decision s h (latest decision_of h) refl k c (settled_act s h e) (settled_replies s h e)
+told_or_waits s h k a due c = by_decision s h (latest decision_of h) refl k c a due

@@ -8,16 +8,18 @@ use Rattle.dtx_values.specs.declared.call.Call.TheVariants.{Commit, Tick, Gone}
 use Rattle.dtx_values.specs.declared.entry.Answer.{Answer}
 use Rattle.dtx_values.specs.declared.entry.Entry.{Entry}
 use Rattle.dtx_values.specs.declared.entry.Entry.TheVariants.{Called, Clock, CommitAsked, Late, Lost, TimedOut}
-use Rattle.dtx_values.specs.declared.script.Line.{Line}
 use Rattle.dtx_values.specs.Clones.{is_open_rollback}
 use Rattle.dtx_model.specs.Words.{has, each, always, latest, onto}
 use Rattle.dtx_model.specs.Entries.{began_of, decision_of, handed_of}
 use Rattle.dtx_model.specs.Observed.{observe, clock, rows, clone_rows}
 use Rattle.dtx_model.specs.Seen.{is_clock_from, is_first_over, is_behind_first, is_timely}
 use Rattle.dtx_values.specs.Table.{voted}
-use Rattle.dtx_model.specs.Steps.{Step, Calls, Replies, Acts, answer, is_done, veto_if, ticked, reaches, is_late, time_up, is_handed, lost_outcome, decided_if, facts, facts_if, block}
-use Rattle.dtx_model.specs.Caused.{Ran, Caused}
+use Rattle.dtx_model.specs.Half.{is_handed}
+use Rattle.dtx_model.specs.Answers.{ticked, reaches, facts_if}
+use Rattle.dtx_model.specs.Turns.{Step, Calls, Replies, Acts}
+use Rattle.dtx_model.proofs.Narrow.{answer, is_done, veto_if, is_late, time_up, lost_outcome, decided_if, facts, block}
 use Rattle.dtx_model.proofs.Bools.{and_left, and_right, and_both, or_false, not_false}
+use Rattle.outcome_law.proofs.Runs.{RanLocal, IsLocalRun}
 use Rattle.outcome_law.proofs.Pending.{is_deed, veto_deed, decided_deed, block_deed}
 
 -- a clock isn't below the clock before it and fits a u64, and an entry of a timeout is timely
@@ -109,12 +111,13 @@ unfolding block
 step_on h (Calls n a c m) r = call_on h n a (answer (observe h) c m) c (is_done (answer (observe h) c m)) r
 step_on h (Replies e y) r = deeds_on h (block (observe h) (Replies e y)) (block_deed (observe h) (Replies e y) refl) r
 step_on h Acts r = deeds_on h (block (observe h) Acts) (block_deed (observe h) Acts refl) r
+step_on h _ r = r
 
 -- what the steps make is on time
-ran_on : (s : List Line) (t : ℕ) (steps : List Step) (h : List Entry) → Ran s t steps h → all_on_time h ≡ true
-ran_on s t [] h r = subst (λ h. all_on_time h ≡ true) (sym r) refl
-ran_on s t (m ∷ ms) h r = subst (λ h. all_on_time h ≡ true) (sym r.3) (step_on r.0 m (ran_on s t ms r.0 r.1))
+ran_on : (G : ℕ → ActorNo → Call → Type 0) (steps : List Step) (h : List Entry) → RanLocal G steps h → all_on_time h ≡ true
+ran_on G [] h r = subst (λ h. all_on_time h ≡ true) (sym r) refl
+ran_on G (m ∷ ms) h r = subst (λ h. all_on_time h ≡ true) (sym r.3) (step_on r.0 m (ran_on G ms r.0 r.1))
 
--- in a history that a script causes, a timeout comes directly behind the first tick that reaches it
-pub caused_timely : (s : List Line) (t : ℕ) (h : List Entry) → Caused s t h → always is_timely h ≡ true
-caused_timely s t h r = all_timely h (ran_on s t r.0 h r.1)
+-- where nothing is promoted, a timeout comes directly behind the first tick that reaches it
+pub run_timely : (G : ℕ → ActorNo → Call → Type 0) (h : List Entry) → IsLocalRun G h → always is_timely h ≡ true
+run_timely G h r = all_timely h (ran_on G r.0 h r.1)

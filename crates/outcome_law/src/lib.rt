@@ -1,7 +1,8 @@
 //! The laws over histories: one outcome, completeness, what a replay is, and that the tables are the history's.
 //!
 //! Each law is a public function with an empty body. It does nothing when it runs. A caller calls it for its contract: after the call the
-//! proof of the caller has the law.
+//! proof of the caller has the law. Where a law is of histories in which nothing is promoted, its clause says so by the scan `is_unpromoted`, or
+//! `is_local_trace` of a whole trace.
 #![tactic(auto)]
 
 ghost use Rattle.std.specs.Prelude.{◌≡◌, ℕ, true, false, List, ◌∷◌, ◌++◌, Bool, Some, length, slice_get};
@@ -24,71 +25,95 @@ ghost use Rattle.dtx_model.specs.declared.listener.Listener.{Listener};
 ghost use Rattle.dtx_model.specs.Words.{has, each, always, all_of, past_of};
 ghost use Rattle.dtx_model.specs.Entries.{is_sealed, is_decision, is_client_told, clone_of};
 ghost use Rattle.dtx_model.specs.Outcome.{enlisted, evidence, justified, agree};
-ghost use Rattle.dtx_model.specs.Learned.{AreAnswered, Learned};
+ghost use Rattle.dtx_model.specs.Learned.{Learned};
 ghost use Rattle.dtx_model.specs.Observed.{observe, rows, clone_rows, listeners};
 ghost use Rattle.dtx_values.specs.Row.{is_lasting};
 ghost use Rattle.dtx_model.specs.Promotes.{promotes};
 ghost use Rattle.dtx_model.specs.Wires.{WireRun};
 ghost use Rattle.dtx_model.specs.Seen.{IsSeen, IsCloneSeen, IsHeard, is_timely};
 ghost use Rattle.dtx_values.specs.Owners.{is_evident};
-ghost use Rattle.dtx_model.specs.Steps.{call_of};
+ghost use Rattle.dtx_model.specs.Calls.{call_of};
 ghost use Rattle.dtx_model.specs.Contexts.{context};
-ghost use Rattle.dtx_model.specs.Caused.{Caused, Settled, is_new};
-ghost use Rattle.dtx_model.specs.Replay.{Placed, history, at_context, IsReplayed, LinesRan, calls, due_calls};
-ghost use Rattle.dtx_model.specs.History.{CanCommit, IsHistory, IsToldOrWaits};
+ghost use Rattle.dtx_model.specs.Waiting.{EnteredCall};
+ghost use Rattle.dtx_model.specs.World.{World};
+ghost use Rattle.dtx_model.specs.Caused.{IsCallOf, is_new};
+ghost use Rattle.dtx_model.specs.Causes.{AreMadeOnce, Caused, FreelyCaused, IsIn, IsOwnRun, Settled, has_object, is_as_planned, is_unpromoted, plans_of};
+ghost use Rattle.dtx_model.specs.AtLog.{is_local_trace};
+ghost use Rattle.dtx_model.specs.Replay.{Placed, history, at_context, calls};
+ghost use Rattle.dtx_model.specs.Replays.{IsReplayed, LinesRan, due_calls};
+ghost use Rattle.dtx_model.specs.Histories.{AreAnswered, CanCommit, IsHistory, IsReplay, IsToldOrWaits};
 ghost use Rattle.dtx_model.specs.Grammar.{are_named_well, is_run_line};
 
-/// The law of one outcome: in a history that a script causes, what is told is just, and no two are told opposite outcomes. (Presumed
-/// abort: a commit is told on evidence alone.) Of the script it needs that names are made once, before they are used.
+/// The law of one outcome: in a history that a script's lines freely cause, what is told is just, and no two are told opposite outcomes. (Presumed
+/// abort: a commit is told on evidence alone.) Freely: whatever each reply is. Of the script it needs that names are made once, before they are used.
 pub fn one_outcome()
-    ensures just { (s : List Line) (t : ℕ) (h : List Entry) → are_named_well s ≡ true → Caused s t h → justified h ≡ true }
-    ensures agrees { (s : List Line) (t : ℕ) (h : List Entry) → are_named_well s ≡ true → Caused s t h → agree h ≡ true }
-    ensures learned { (s : List Line) (t : ℕ) (h : List Entry) → are_named_well s ≡ true → Caused s t h → Learned h }
+    ensures just { (s : List Line) (t : ℕ) (h : List Entry) → are_named_well s ≡ true → FreelyCaused (IsCallOf s t) t h → is_unpromoted h ≡ true → justified h ≡ true }
+    ensures agrees { (s : List Line) (t : ℕ) (h : List Entry) → are_named_well s ≡ true → FreelyCaused (IsCallOf s t) t h → is_unpromoted h ≡ true → agree h ≡ true }
+    ensures learned { (s : List Line) (t : ℕ) (h : List Entry) → are_named_well s ≡ true → FreelyCaused (IsCallOf s t) t h → is_unpromoted h ≡ true → Learned h }
 {}
 
-/// A history that a script causes is promoted in order, and what it gets over a connection was sent there in that order.
+/// The same law for a program that gives a transaction its own calls, and has no script: of these it needs that no two make the same enlistment
+/// or the same clone.
+pub fn own_outcome()
+    ensures just { (t : ℕ) (w : World) → AreMadeOnce (IsIn w.calls) → IsOwnRun t w → is_unpromoted w.past ≡ true → justified w.past ≡ true }
+    ensures agrees { (t : ℕ) (w : World) → AreMadeOnce (IsIn w.calls) → IsOwnRun t w → is_unpromoted w.past ≡ true → agree w.past ≡ true }
+    ensures learned { (t : ℕ) (w : World) → AreMadeOnce (IsIn w.calls) → IsOwnRun t w → is_unpromoted w.past ≡ true → Learned w.past }
+{}
+
+/// What is caused over calls that were entered is caused over a script whose lines give these calls; and a script in which names are made once gives
+/// each transaction calls that make each name once.
+pub fn lifting()
+    ensures lifted { (s : List Line) (t : ℕ) (ks : List EnteredCall) (h : List Entry) → ((n : ℕ) (a : ActorNo) (c : Call) → IsIn ks n a c → IsCallOf s t n a c)
+        → FreelyCaused (IsIn ks) t h → FreelyCaused (IsCallOf s t) t h }
+    ensures once { (s : List Line) (t : ℕ) → are_named_well s ≡ true → AreMadeOnce (IsCallOf s t) }
+{}
+
+/// A history that a script's lines cause is promoted in order, where it is promoted at all; and what it gets over a connection was sent there in that order.
 pub fn crossings()
-    ensures promotes { (s : List Line) (t : ℕ) (h : List Entry) → are_named_well s ≡ true → Caused s t h → promotes s t h ≡ true }
-    ensures wires { (s : List Line) (t : ℕ) (h : List Entry) → are_named_well s ≡ true → Caused s t h → WireRun h }
+    ensures promotes { (s : List Line) (t : ℕ) (h : List Entry) → are_named_well s ≡ true → FreelyCaused (IsCallOf s t) t h → is_unpromoted h ≡ true → promotes s t h ≡ true }
+    ensures wires { (s : List Line) (t : ℕ) (h : List Entry) → FreelyCaused (IsCallOf s t) t h → WireRun h }
 {}
 
 /// A settled transaction that can commit is committed: its client was told so. Where commit was asked, the client was told some outcome, or a
 /// blocking clone is open, or an enlistment whose reply is needed plans none. And each enlistment that came back was told.
 pub fn completeness()
-    ensures told { (s : List Line) (t : ℕ) (h : List Entry) → are_named_well s ≡ true → Caused s t h → IsToldOrWaits s h }
-    ensures committed { (s : List Line) (t : ℕ) (h : List Entry) → are_named_well s ≡ true → Caused s t h → Settled s h → CanCommit s h
+    ensures told { (s : List Line) (k t : ℕ) (h : List Entry) → are_named_well s ≡ true → Caused s k t h → is_unpromoted h ≡ true → IsToldOrWaits s h }
+    ensures committed { (s : List Line) (k t : ℕ) (h : List Entry) → are_named_well s ≡ true → Caused s k t h → is_unpromoted h ≡ true → Settled s h → CanCommit s h
         → has (is_client_told Committed) h ≡ true }
-    ensures answered { (s : List Line) (t : ℕ) (h : List Entry) → are_named_well s ≡ true → Caused s t h → AreAnswered s h }
+    ensures answered { (s : List Line) (k t : ℕ) (h : List Entry) → are_named_well s ≡ true → Caused s k t h → is_unpromoted h ≡ true → AreAnswered s h }
 {}
 
-/// What a replay does in its order is caused by its script in each transaction, is at each context what its actor's lines write there, and
-/// has each line's call exactly once at each of its places and in order. What a line's call makes is new where the lines before it ran, and a
-/// durable that is run finds nothing durable or promotable there. And a script has one trace. The trace is read newest first, but for the last
+/// What a replay does in its order is caused by its script in each transaction where its replies are as planned, is at each context what its actor's lines
+/// write there, and has each line's call exactly once at each of its places and in order. What a line's call makes is new where the lines before it ran,
+/// and a durable that is run finds nothing durable or promotable there. And a script has one trace. The trace is read newest first, but for the last
 /// clause.
 pub fn replay()
-    ensures caused { (s : List Line) (T : List Placed) → IsReplayed s T → (t : TxNo) → Caused s t.value (history t.value T) }
-    ensures contexts { (s : List Line) (T : List Placed) → IsReplayed s T → (a : ActorNo) → at_context a.value T ≡ context a.value (past_of s) }
-    ensures called { (s : List Line) (T : List Placed) → IsReplayed s T → calls T ≡ due_calls s (past_of s) }
+    ensures caused { (s : List Line) (T : List Placed) → IsReplayed s T → is_local_trace T ≡ true → (k : ℕ)
+        → ((t : TxNo) → always (is_as_planned (plans_of s) (has_object s k)) (history t.value T) ≡ true) → (t : TxNo) → Caused s k t.value (history t.value T) }
+    ensures contexts { (s : List Line) (T : List Placed) → IsReplayed s T → is_local_trace T ≡ true → (a : ActorNo) → at_context a.value T ≡ context a.value (past_of s) }
+    ensures called { (s : List Line) (T : List Placed) → IsReplayed s T → is_local_trace T ≡ true → calls T ≡ due_calls s (past_of s) }
     ensures fresh { (s xs ys : List Line) (l : Line) (T : List Placed) (t : TxNo) (c : Call) → s ≡ xs ++ l ∷ ys → are_named_well s ≡ true → LinesRan s (past_of xs) T
-        → call_of s l.body ≡ Some (t, c) → is_new (observe (history t.value T)) c ≡ true }
+        → is_local_trace T ≡ true → call_of s l.body ≡ Some (t, c) → is_new (observe (history t.value T)) c ≡ true }
     ensures alone { (s xs ys : List Line) (l : Line) (T : List Placed) (t u : TxNo) (e : EnlNo) (r : RmNo) (x : Support) → s ≡ xs ++ l ∷ ys → are_named_well s ≡ true
-        → LinesRan s (past_of xs) T → is_run_line (past_of xs) l ≡ true → call_of s l.body ≡ Some (t, Durable u e r x) → has is_lasting (rows (history t.value T)) ≡ false }
-    ensures determined { (s : List Line) (T U : List Placed) → IsHistory s T → IsHistory s U → T ≡ U }
+        → LinesRan s (past_of xs) T → is_local_trace T ≡ true → is_run_line (past_of xs) l ≡ true → call_of s l.body ≡ Some (t, Durable u e r x)
+        → has is_lasting (rows (history t.value T)) ≡ false }
+    ensures determined { (s : List Line) (T U : List Placed) (rise : ℕ) (honest : Bool) → are_named_well s ≡ true → IsHistory s 0 rise T → IsReplay s rise honest T
+        → IsHistory s 0 rise U → IsReplay s rise honest U → is_local_trace T ≡ true → is_local_trace U ≡ true → T ≡ U }
 {}
 
-/// The tables of a history that a script causes say what its entries say: of each enlistment, whether it was told and is lost, of each clone, and
+/// The tables of a history that a script's lines cause say what its entries say: of each enlistment, whether it was told and is lost, of each clone, and
 /// whether evidence stands while nothing is decided. And a timeout comes once, at the first tick that reaches it.
 pub fn tables()
     ensures enlisted { (h : List Entry) (f : EnlNo → Class → Bool) → each (λ x. f x.number x.class) (rows h) ≡ each (λ x. f x.0 x.1) (enlisted h) }
     ensures cloned { (h : List Entry) (f : CloneNo → CloneKind → Bool) → each (λ r. f r.clone r.kind) (clone_rows h) ≡ each (λ c. f c.0 c.1) (all_of clone_of h) }
-    ensures rows { (s : List Line) (t : ℕ) (h : List Entry) → are_named_well s ≡ true → Caused s t h
+    ensures rows { (s : List Line) (t : ℕ) (h : List Entry) → are_named_well s ≡ true → FreelyCaused (IsCallOf s t) t h → is_unpromoted h ≡ true
         → (k : ℕ) (x : Row) → slice_get (rows h) k ≡ Some x → IsSeen h x }
-    ensures clones { (s : List Line) (t : ℕ) (h : List Entry) → are_named_well s ≡ true → Caused s t h
+    ensures clones { (s : List Line) (t : ℕ) (h : List Entry) → are_named_well s ≡ true → FreelyCaused (IsCallOf s t) t h → is_unpromoted h ≡ true
         → (k : ℕ) (r : CloneRow) → slice_get (clone_rows h) k ≡ Some r → IsCloneSeen h r }
-    ensures listeners { (s : List Line) (t : ℕ) (h : List Entry) → are_named_well s ≡ true → Caused s t h
+    ensures listeners { (s : List Line) (t : ℕ) (h : List Entry) → are_named_well s ≡ true → FreelyCaused (IsCallOf s t) t h → is_unpromoted h ≡ true
         → (k : ℕ) (l : Listener) → slice_get (listeners h) k ≡ Some l → IsHeard h l }
     ensures counted { (h : List Entry) → length (rows h) ≡ length (enlisted h) }
-    ensures evidence { (s : List Line) (t : ℕ) (h : List Entry) → are_named_well s ≡ true → Caused s t h → has is_decision h ≡ false
+    ensures evidence { (s : List Line) (t : ℕ) (h : List Entry) → are_named_well s ≡ true → FreelyCaused (IsCallOf s t) t h → is_unpromoted h ≡ true → has is_decision h ≡ false
         → is_evident (has is_sealed h) (rows h) ≡ evidence h }
-    ensures timed { (s : List Line) (t : ℕ) (h : List Entry) → are_named_well s ≡ true → Caused s t h → always is_timely h ≡ true }
+    ensures timed { (s : List Line) (t : ℕ) (h : List Entry) → are_named_well s ≡ true → FreelyCaused (IsCallOf s t) t h → is_unpromoted h ≡ true → always is_timely h ≡ true }
 {}

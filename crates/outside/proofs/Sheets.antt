@@ -1,6 +1,6 @@
 -- Writes into bytes of which the zeros at the end are not kept.
-use Rattle.std.proofs.Common.{◌≡◌, inl, inr, ℕ, ◌+◌, ◌-◌, ◌≤◌, ◌⊎◌, List, [], ◌++◌, length, take, drop, replicate, refl, ap, sym, ◌∙◌, arith, length-append, append_assoc}
-use Rattle.std.proofs.lemmas.List.{append-nil, drop-append-le, drop-drop, length-drop, length-replicate, length-take, replicate-append-replicate, take-append-drop, take-append-le, take_at, drop_at}
+use Rattle.std.proofs.Common.{◌≡◌, inl, inr, ℕ, ◌+◌, ◌-◌, ◌≤◌, ◌⊎◌, List, ◌++◌, length, take, drop, replicate, refl, ap, sym, ◌∙◌, arith, length-append, append_assoc}
+use Rattle.std.proofs.lemmas.List.{drop-append-le, drop-drop, length-drop, length-replicate, length-take, replicate-append-replicate, take-append-drop, take-append-le, take_at, drop_at}
 use Rattle.std.proofs.lemmas.Slice.{drop-append-drop}
 use Rattle.outside.specs.Disk.{overwritten}
 use Rattle.outside.specs.Sheet.{with_zeros}
@@ -28,7 +28,7 @@ with_zeros-twice m n xs few less =
     append_assoc xs (zeros (m - length xs)) (zeros (n - length (with_zeros m xs))) ∙ ap (λ (z : List ℕ). xs ++ z) (zeros_joined _ _ _ rest)
 
 -- a write leaves the length
-length-overwritten : (old bytes : List ℕ) (at : ℕ) → at + length bytes ≤ length old → length (overwritten old at bytes) ≡ length old
+pub length-overwritten : (old bytes : List ℕ) (at : ℕ) → at + length bytes ≤ length old → length (overwritten old at bytes) ≡ length old
 length-overwritten old bytes at room =
     let all : length (overwritten old at bytes) ≡ length (take at old ++ bytes) + length (drop (at + length bytes) old) = length-append (take at old ++ bytes) (drop (at + length bytes) old) in
     omega (arith, room, all, length-append (take at old) bytes, length-take at old, length-drop (at + length bytes) old)

@@ -24,18 +24,24 @@ use std::marker::Model;
 pub struct SureDisk {
     kept: Sheet,
     synced: Sheet,
+    /// What is torn, but for the last range that was written since: that is spoilt before the next write or a crash. A sync, which mostly comes
+    /// first, makes that needless.
     torn: Sheet,
+    /// Where the last range begins, and how many bytes it has.
+    last: usize,
+    many: usize,
 }
 
 impl Model for SureDisk {
-    ghost use Rattle.std.specs.Prelude.{◌≡◌, length};
-    ghost use Rattle.outside.specs.Memory.{Images};
+    ghost use Rattle.std.specs.Prelude.{◌≡◌, ◌≤◌, ◌+◌, length};
+    ghost use Rattle.outside.specs.Disk.{overwritten};
+    ghost use Rattle.outside.specs.Memory.{Images, spoilt};
 
     ghost Value = { Images };
 
-    ghost view = { λ d. record { kept = d.kept; synced = d.synced; torn = d.torn } };
+    ghost view = { λ d. record { kept = d.kept; synced = d.synced; torn = overwritten d.torn d.last (spoilt d.many) } };
 
-    ghost invariant = { λ d. (length d.synced ≡ length d.kept) × (length d.torn ≡ length d.kept) };
+    ghost invariant = { λ d. (length d.synced ≡ length d.kept) × (length d.torn ≡ length d.kept) × (d.last + d.many ≤ length d.kept) };
 }
 
 impl SureDisk {
@@ -55,6 +61,8 @@ impl SureDisk {
             kept: Sheet::new(alloc, size)?,
             synced: Sheet::new(alloc, size)?,
             torn: Sheet::new(alloc, size)?,
+            last: 0,
+            many: 0,
         })
     }
 }
@@ -96,7 +104,9 @@ impl Disk for SureDisk {
         ensures size { length self.new.kept ≡ length self.old.kept }
     {
         self.kept.put(at as usize, from);
-        self.torn.spoil(at as usize, from.len());
+        self.torn.spoil(self.last, self.many);
+        self.last = at as usize;
+        self.many = from.len();
         Ok(())
     }
 
@@ -108,6 +118,8 @@ impl Disk for SureDisk {
     {
         self.synced.copy(&self.kept);
         self.torn.copy(&self.kept);
+        self.last = 0;
+        self.many = 0;
         Ok(())
     }
 
@@ -120,7 +132,12 @@ impl Disk for SureDisk {
         match wish {
             Image::Lose => self.kept.copy(&self.synced),
             Image::Keep => (),
-            Image::Torn => self.kept.copy(&self.torn),
+            Image::Torn => {
+                self.torn.spoil(self.last, self.many);
+                self.last = 0;
+                self.many = 0;
+                self.kept.copy(&self.torn);
+            }
         }
     }
 

@@ -1,6 +1,7 @@
 //! What each call is answered: the first answer whose condition holds.
 ghost use Rattle.std.specs.Prelude.{◌≡◌, length, true};
-ghost use Rattle.dtx_model.specs.Steps.{answer, clone_answer, complete_answer, durable_answer, gone_answer, if_begun, is_gone, promotable_answer, stands, status_answer, unless_late, unless_over, volatile_answer};
+ghost use Rattle.dtx_model.specs.Answers.{clone_answer, complete_answer, durable_answer, gone_answer, if_begun, local_answer, promotable_answer, status_answer, unless_late, unless_over, volatile_answer};
+ghost use Rattle.dtx_model.specs.Half.{is_gone, stands};
 ghost use Rattle.local_half.specs.Half.{is_its_own};
 
 use super::LocalHalf;
@@ -31,7 +32,7 @@ fn unless_late(late: bool) -> Answer
 impl LocalHalf {
     /// The answer after `notbegun`.
     pub fn if_begun(&self, a: Answer) -> Answer
-        ensures { result ≡ if_begun self.now.seen.limit a }
+        ensures { result ≡ if_begun self.now.half.seen.limit a }
     {
         match self.limit {
             Some(_) => a,
@@ -42,7 +43,7 @@ impl LocalHalf {
     /// What the loss of an enlistment is answered, once the transaction is begun. It may be done where
     /// that is `Fine`.
     pub fn gone_answer(&self, e: EnlNo) -> Answer
-        ensures { result ≡ gone_answer (stands self.now.seen e.value) (is_gone self.now.seen e.value) }
+        ensures { result ≡ gone_answer (stands self.now.half.seen e.value) (is_gone self.now.half.seen e.value) }
     {
         if !self.stands(e) {
             return Answer::NoSuch;
@@ -55,7 +56,7 @@ impl LocalHalf {
 
     /// The answer after `notbegun` and `ended`.
     fn unless_over(&self, a: Answer) -> Answer
-        ensures { result ≡ unless_over self.now.seen a }
+        ensures { result ≡ unless_over self.now.half.seen a }
     {
         self.if_begun(match self.decided {
             Some(o) => Answer::Ended(o),
@@ -65,7 +66,7 @@ impl LocalHalf {
 
     /// What a volatile call is answered, once it is begun and while nothing is decided.
     fn volatile_answer(&self) -> Answer
-        ensures { result ≡ volatile_answer self.now.seen.sealed self.now.seen.table }
+        ensures { result ≡ volatile_answer self.now.half }
     {
         if self.sealed {
             return Answer::TooLate;
@@ -78,7 +79,7 @@ impl LocalHalf {
 
     /// What a durable call is answered, once it is begun and while nothing is decided. One that can't own the commit, or doesn't come first, waits.
     fn durable_answer(&self, single: bool) -> Answer
-        ensures { result ≡ durable_answer self.now.seen.sealed single self.now.seen.table }
+        ensures { result ≡ durable_answer self.now.half single }
     {
         if self.sealed {
             return Answer::TooLate;
@@ -97,7 +98,7 @@ impl LocalHalf {
 
     /// What a promotable call is answered, once it is begun and while nothing is decided.
     fn promotable_answer(&self) -> Answer
-        ensures { result ≡ promotable_answer self.now.seen.sealed self.now.seen.table }
+        ensures { result ≡ promotable_answer self.now.half }
     {
         if self.sealed {
             return Answer::TooLate;
@@ -113,7 +114,7 @@ impl LocalHalf {
 
     /// What a call for a clone is answered, once it is begun and while nothing is decided.
     fn clone_answer(&self) -> Answer
-        ensures { result ≡ clone_answer self.now.seen.commit (length self.now.seen.clones) }
+        ensures { result ≡ clone_answer self.now.half.seen.commit (length self.now.half.seen.clones) }
     {
         if self.commit {
             return Answer::TooLate;
@@ -126,7 +127,7 @@ impl LocalHalf {
 
     /// What a call for the status is answered, once it is begun.
     fn status_answer(&self) -> Answer
-        ensures { result ≡ status_answer self.now.seen.decided }
+        ensures { result ≡ status_answer self.now.half.seen.decided }
     {
         match self.decided {
             Some(o) => Answer::OutcomeIs(o),
@@ -135,10 +136,10 @@ impl LocalHalf {
     }
 
     /// The first answer whose condition holds.
-    #[tactic(auto, unfolding(dtx_model::specs::Steps::answer))]
+    #[tactic(auto, unfolding(dtx_model::specs::Answers::local_answer))]
     pub(super) fn answer(&self, c: &Call) -> Answer
         requires { is_its_own c.now ≡ true }
-        ensures { result ≡ answer self.now.seen c.now 0 }
+        ensures { result ≡ local_answer self.now.transaction.value self.now.half c.now 0 }
     {
         match *c {
             Call::Volatile(_, _, _, _) => self.unless_over(self.volatile_answer()),

@@ -1,50 +1,64 @@
 //! The replies that are due, and what a reply writes.
-ghost use Rattle.std.specs.Prelude.{◌≡◌, ◌≤◌, false, is_some, true};
+ghost use Rattle.std.specs.Prelude.{◌≡◌, ◌≤◌, [], Some, false, is_some, true};
 ghost use Rattle.dtx_values.specs.Outgoing.{with};
-ghost use Rattle.dtx_model.specs.Steps.{all_due, due_note, due_of, reply_entries};
+ghost use Rattle.dtx_model.specs.Replies.{all_due, due_of, fits, note_at, reply_entries, row_note};
+ghost use Rattle.dtx_model.specs.Turns.{Replies, after as world_after};
 ghost use Rattle.dtx_model.specs.Words.{kth};
-ghost use Rattle.local_half.specs.Half.{after, fits_due};
+ghost use Rattle.dtx_model.specs.World.{World};
+ghost use Rattle.local_half.specs.Half.{Follows, after, fits_due};
 
 use super::LocalHalf;
+use crate::listeners::is_gone;
 use dtx_values::{EnlNo, Entry, Note, Outbox, Reply, Row};
 
-#[tactic(auto, using(crate::proofs::Writing::outgoing), unfolding(dtx_model::specs::Observed::track, dtx_model::specs::Observed::track_all))]
+#[tactic(auto, using(crate::proofs::Writing::outgoing), unfolding(dtx_model::specs::Observed::track, dtx_model::specs::Half::heeds_all))]
 impl LocalHalf {
     /// To what a reply of the enlistment is due; `None` exactly where none is.
-    #[tactic(auto, unfolding(dtx_model::specs::Steps::due_of))]
+    #[tactic(auto, using(crate::proofs::Notes::or_none), unfolding(dtx_model::specs::Replies::due_of))]
     pub fn due_of(&self, e: EnlNo) -> Option<Note>
-        ensures { result ≡ due_of self.now.seen e.value }
+        ensures { result ≡ due_of self.now.half.seen e.value }
     {
+        if is_gone(&self.listeners, e) {
+            return None;
+        }
         match self.table.state_of(e) {
-            Some(x) => self.due_note(&x),
+            Some(x) => self.row_note(&x),
             None => None,
         }
     }
 
     /// To what a reply of the enlistment with this row is due; `None` exactly where none is.
+    #[tactic(auto, using(crate::proofs::Notes::or_none))]
     pub fn due_note(&self, x: &Row) -> Option<Note>
-        ensures { result ≡ due_note self.now.seen x.now }
+        ensures { result ≡ note_at self.now.half.seen x.now.number.value (Some x.now) }
+    {
+        if is_gone(&self.listeners, x.number) {
+            return None;
+        }
+        self.row_note(x)
+    }
+
+    /// To what a reply of the enlistment with this row is due where it isn't lost. A durable or
+    /// promotable one never owes a vote here: it is asked by the coordinator alone.
+    fn row_note(&self, x: &Row) -> Option<Note>
+        ensures { result ≡ row_note self.now.half.seen x.now }
     {
         if self.decided.is_some() {
             return None;
         }
-        let note = if x.is_marked() && !x.has_voted() {
-            Note::Prepare
-        } else if self.is_handed(x.number) {
-            Note::Hand
-        } else {
-            return None;
-        };
-        if self.is_gone(x.number) {
-            return None;
+        if x.is_marked() && !x.has_voted() && x.class.is_volatile() {
+            return Some(Note::Prepare);
         }
-        Some(note)
+        if self.is_handed(x.number) {
+            return Some(Note::Hand);
+        }
+        None
     }
 
     /// The lowest enlistment of which a reply is due, with the note; `None` exactly where none is due.
-    #[tactic(auto, unfolding(dtx_model::specs::Steps::all_due))]
+    #[tactic(auto, unfolding(dtx_model::specs::Replies::all_due))]
     pub fn due(&self) -> Option<(EnlNo, Note)>
-        ensures { result ≡ kth (all_due self.now.seen) 1 }
+        ensures { result ≡ kth (all_due self.now.half.seen) 1 }
     {
         for x in self.table.rows() {
             if let Some(note) = self.due_note(x) {
@@ -57,29 +71,33 @@ impl LocalHalf {
     /// Whether the reply fits the note to which one of the enlistment is due. Where none is due, each
     /// fits, and `reply` answers false.
     pub fn fits(&self, e: EnlNo, r: Reply) -> bool
-        ensures { result ≡ fits_due r (due_of self.now.seen e.value) }
+        ensures { result ≡ fits_due r (due_of self.now.half.seen e.value) }
     {
         match (self.due_of(e), r) {
             (None, _) => true,
-            (Some(Note::Prepare), Reply::Vote(_)) => true,
-            (Some(Note::Hand), Reply::Owner(_)) => true,
+            (Some(Note::Prepare), Reply::Vote(_))
+            | (Some(Note::Promote), Reply::Promote(_))
+            | (Some(Note::Hand | Note::Single), Reply::Owner(_))
+            | (Some(Note::Commit), Reply::Ack) => true,
             _ => false,
         }
     }
 
     /// Takes a reply; false exactly where none of the enlistment is due, and then nothing changes. A vote No is a veto, and an owner's answer decides.
     pub fn reply(&mut self, e: EnlNo, r: Reply, out: &mut Outbox) -> bool
-        requires fits { fits_due r (due_of self.old.seen e.value) ≡ true }
+        requires fits { fits_due r (due_of self.old.half.seen e.value) ≡ true }
         requires room { 2 ≤ out.old.room }
-        ensures due { result ≡ is_some (due_of self.old.seen e.value) }
-        ensures state { result ≡ true → self.new ≡ after self.old (reply_entries e r) }
-        ensures out { result ≡ true → out.new ≡ with out.old (reply_entries e r) }
+        ensures due { result ≡ is_some (due_of self.old.half.seen e.value) }
+        ensures state { result ≡ true → self.new ≡ after [] self.old (reply_entries self.old.half e r) }
+        ensures out { result ≡ true → out.new ≡ with out.old (reply_entries self.old.half e r) }
         ensures unchanged { result ≡ false → self.new ≡ self.old }
         ensures unwritten { result ≡ false → out.new ≡ out.old }
+        ensures runs { (w : World) → Follows self.old.transaction.value w self.old.half → result ≡ true → Follows self.old.transaction.value (world_after self.old.transaction.value w (Replies e r)) self.new.half }
     {
         if self.due_of(e).is_none() {
             return false;
         }
+        self.is_at_home();
         match r {
             Reply::Vote(v) => {
                 self.write(Entry::Voted(e, v), out);
@@ -87,9 +105,9 @@ impl LocalHalf {
             }
             Reply::Owner(outcome) => {
                 self.write(Entry::OwnerAnswered(e, outcome), out);
-                self.write(Entry::Decided(outcome), out);
+                self.decide(outcome, out);
             }
-            Reply::Promote(_) | Reply::Ack => {}
+            Reply::Promote(_) | Reply::Ack => unreachable!(),
         }
         true
     }

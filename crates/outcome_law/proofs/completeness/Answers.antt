@@ -1,17 +1,26 @@
 use Rattle.std.proofs.Common.{[]}
+use Rattle.dtx_model.specs.Caused.{IsCallOf}
 use Rattle.dtx_model.specs.Learned.{is_decided_there}
+use Rattle.dtx_model.proofs.Local.{free-local}
 use Rattle.outcome_law.proofs.Beyond.{ruled_answered}
-use Rattle.outcome_law.proofs.Blocks.{caused_kept, caused_ruled}
-use Rattle.outcome_law.proofs.Plans.{caused_planned}
+use Rattle.outcome_law.proofs.Blocks.{script_kept}
+use Rattle.outcome_law.proofs.Runs.{free_run}
 use Rattle.outcome_law.proofs.Settled.{settled_committed}
+use Rattle.outcome_law.proofs.Settlings.{settled_act, settled_unplanned}
 use Rattle.outcome_law.proofs.Silent.{told_or_waits}
 use Rattle.outcome_law.proofs.completeness.Goals as goal
 
 pub returns-clause-told : goal.returns-clause-told
-returns-clause-told c = λ s t h named run settled asked. told_or_waits s h (caused_kept s t h named run) settled asked
+returns-clause-told c = λ s k t h named r u settled asked.
+    let kept = script_kept s t h named r.freely u in
+    let home = free-local (IsCallOf s t) t h r.freely u in
+    told_or_waits s h kept (settled_act s h home settled) (settled_unplanned s t h named (free_run (IsCallOf s t) t h r.freely u) home kept.rules settled) asked
 
 pub returns-clause-committed : goal.returns-clause-committed
-returns-clause-committed c = λ s t h named run settled can. settled_committed s h (caused_ruled s t h named run) (caused_planned s t h run) settled can
+returns-clause-committed c = λ s k t h named r u settled can.
+    let kept = script_kept s t h named r.freely u in
+    let home = free-local (IsCallOf s t) t h r.freely u in
+    settled_committed s h kept.rules (settled_act s h home settled) (settled_unplanned s t h named (free_run (IsCallOf s t) t h r.freely u) home kept.rules settled) can
 
 pub returns-clause-answered : goal.returns-clause-answered
-returns-clause-answered c = λ s t h named run settled. ruled_answered (is_decided_there h) [] h (caused_ruled s t h named run)
+returns-clause-answered c = λ s k t h named r u settled. ruled_answered (is_decided_there h) [] h (script_kept s t h named r.freely u).rules

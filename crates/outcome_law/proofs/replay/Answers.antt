@@ -15,7 +15,7 @@ pub returns-clause-fresh : goal.returns-clause-fresh
 returns-clause-fresh c = ran_new
 
 pub returns-clause-alone : goal.returns-clause-alone
-returns-clause-alone c = λ s xs ys l T t u e r x k named ran run given. ran_alone s xs ys l T t u e r x k ran run given
+returns-clause-alone c = λ s xs ys l T t u e r x k named ran home run given. ran_alone s xs ys l T t u e r x k ran home run given
 
 pub returns-clause-determined : goal.returns-clause-determined
 returns-clause-determined c = history_same

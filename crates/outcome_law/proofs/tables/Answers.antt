@@ -1,8 +1,10 @@
 use Rattle.outcome_law.proofs.TableRows.{each_rows, each_clones, clone_seen}
 use Rattle.outcome_law.proofs.Waves.{row_is_seen}
 use Rattle.outcome_law.proofs.Calls.{evidence_seen}
-use Rattle.outcome_law.proofs.Blocks.{caused_kept, caused_ruled}
-use Rattle.outcome_law.proofs.Timely.{caused_timely}
+use Rattle.dtx_model.specs.Caused.{IsCallOf}
+use Rattle.outcome_law.proofs.Blocks.{script_kept}
+use Rattle.outcome_law.proofs.Runs.{free_run}
+use Rattle.outcome_law.proofs.Timely.{run_timely}
 use Rattle.outcome_law.proofs.Heard.{length-rows, listener_heard}
 use Rattle.outcome_law.proofs.tables.Goals as goal
 
@@ -13,19 +15,19 @@ pub returns-clause-cloned : goal.returns-clause-cloned
 returns-clause-cloned c = λ h f. each_clones f h
 
 pub returns-clause-rows : goal.returns-clause-rows
-returns-clause-rows c = λ s t h named run k x e. row_is_seen h k x (caused_ruled s t h named run) e
+returns-clause-rows c = λ s t h named run u k x e. row_is_seen h k x (script_kept s t h named run u).rules e
 
 pub returns-clause-clones : goal.returns-clause-clones
-returns-clause-clones c = λ s t h named run k r e. clone_seen h k r (caused_ruled s t h named run) e
+returns-clause-clones c = λ s t h named run u k r e. clone_seen h k r (script_kept s t h named run u).rules e
 
 pub returns-clause-evidence : goal.returns-clause-evidence
-returns-clause-evidence c = λ s t h named run. evidence_seen h (caused_kept s t h named run)
+returns-clause-evidence c = λ s t h named run u. evidence_seen h (script_kept s t h named run u)
 
 pub returns-clause-timed : goal.returns-clause-timed
-returns-clause-timed c = λ s t h named run. caused_timely s t h run
+returns-clause-timed c = λ s t h named run u. run_timely (IsCallOf s t) h (free_run (IsCallOf s t) t h run u)
 
 pub returns-clause-listeners : goal.returns-clause-listeners
-returns-clause-listeners c = λ s t h named run k l e. listener_heard h k l (caused_ruled s t h named run) e
+returns-clause-listeners c = λ s t h named run u k l e. listener_heard h k l (script_kept s t h named run u).rules e
 
 pub returns-clause-counted : goal.returns-clause-counted
 returns-clause-counted c = length-rows
