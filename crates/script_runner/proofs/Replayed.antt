@@ -3,7 +3,8 @@ use Rattle.std.proofs.Common.{◌≡◌, ◌≤◌, ℕ, List, [], ◌∷◌, �
 use Rattle.std.proofs.lemmas.List.{take-append-drop}
 use Rattle.dtx_values.specs.declared.script.Line.{Line}
 use Rattle.dtx_model.specs.Words.{past_of}
-use Rattle.dtx_model.specs.Replay.{LinesRan, Placed, IsReplayed}
+use Rattle.dtx_model.specs.Replay.{Placed}
+use Rattle.dtx_model.specs.Replays.{LinesRan, IsReplayed}
 use Rattle.dtx_model.specs.Grammar.{IsScript}
 use Rattle.script_runner.specs.RunState.{IsSettledBelow}
 use Rattle.script_text.proofs.Scripts.{length_script}
