@@ -39,38 +39,45 @@ line_answered s before (ReenlistLine e) k = absurd (cc)
 line_answered s before (RecoveredLine t r) k = absurd (cc)
 line_answered s before _ k = refl
 
--- the call of a line that is run is ready, where what it makes is new, and a durable is alone
-single_durable : (s : Support) (second : Bool) → is_run_durable s second ≡ true → is_single s ≡ true
+-- it is durable only where it can own the commit
+abbrev is_single_call : Call → Bool
+is_single_call (Durable t e r x) = is_single x
+is_single_call _ = true
+
+single_durable : (x : Support) (second : Bool) → is_run_durable x second ≡ true → is_single x ≡ true
 single_durable (SinglePhase v o) second k = refl
 single_durable (TwoPhase v) second k = absurd cc
 
-abbrev IsAloneCall : Observed → Option (TxNo × Call) → Type 0
-IsAloneCall o (Some c) = IsAlone o c.1
-IsAloneCall o None = Unit {0}
-
--- nothing durable or promotable stands where a line makes a durable
-abbrev pub NoneLasts : List Line → Body → Observed → Type 0
-NoneLasts s b o = (t u : TxNo) (e : EnlNo) (r : RmNo) (x : Support) → call_of s b ≡ Some (t, Durable u e r x) → has is_lasting o.table ≡ false
-
-line_alone : (s before : List Line) (b : Body) (o : Observed) → is_run before b ≡ true → NoneLasts s b o → IsAloneCall o (call_of s b)
-line_alone s before (DurableLine t e r x) o run none = (none t t e r x refl, single_durable x _ run)
-line_alone s before (CompleteLine c) o run none = step (transaction_of s c.value)
+line_single : (s before : List Line) (b : Body) → is_run before b ≡ true → passes (λ (c : TxNo × Call). is_single_call c.1) (call_of s b) ≡ true
+line_single s before (DurableLine t e r x) k = single_durable x _ k
+line_single s before (CompleteLine c) k = step c (transaction_of s c.value)
   where
-    step : (t : Option TxNo) → IsAloneCall o (complete_call c t)
-    step (Some t) = tt
-    step None = tt
-line_alone s before (GoneLine e) o run none = step (transaction_with s e.value)
+    step : (c : CloneNo) (t : Option TxNo) → passes (λ (d : TxNo × Call). is_single_call d.1) (complete_call c t) ≡ true
+    step c (Some t) = refl
+    step c None = refl
+line_single s before (GoneLine e) k = step e (transaction_with s e.value)
   where
-    step : (t : Option TxNo) → IsAloneCall o (gone_call e t)
-    step (Some t) = tt
-    step None = tt
-line_alone s before (ReenlistLine e) o run none = absurd cc
-line_alone s before _ o run none = tt
+    step : (e : EnlNo) (t : Option TxNo) → passes (λ (d : TxNo × Call). is_single_call d.1) (gone_call e t) ≡ true
+    step e (Some t) = refl
+    step e None = refl
+line_single s before (ReenlistLine e) k = absurd (cc)
+line_single s before _ k = refl
 
-pub line_ready : (s before : List Line) (b : Body) (o : Observed) (t : TxNo) (c : Call) → call_of s b ≡ Some (t, c) → is_run before b ≡ true → is_new o c ≡ true → NoneLasts s b o → IsReady o c
+-- and then it promotes nothing where nothing durable or promotable stands
+call_alone : (o : Observed) (c : Call) → is_single_call c ≡ true → ((t : TxNo) (e : EnlNo) (r : RmNo) (x : Support) → c ≡ Durable t e r x → has is_lasting o.table ≡ false) → IsAlone o c
+call_alone o (Durable t e r x) single none = (none t e r x refl, single)
+call_alone o _ single none = tt
+
+-- nothing durable or promotable stands where a line makes a durable of the transaction
+abbrev pub NoneLasts : List Line → Body → TxNo → Observed → Type 0
+NoneLasts s b t o = (u : TxNo) (e : EnlNo) (r : RmNo) (x : Support) → call_of s b ≡ Some (t, Durable u e r x) → has is_lasting o.table ≡ false
+
+-- the call of a line that is run is ready, where what it makes is new, and a durable finds nothing lasting
+pub line_ready : (s before : List Line) (b : Body) (o : Observed) (t : TxNo) (c : Call) → call_of s b ≡ Some (t, c) → is_run before b ≡ true → is_new o c ≡ true → NoneLasts s b t o → IsReady o c
 line_ready s before b o t c gives run new none =
+    let single : is_single_call c ≡ true = ap (λ (d : Option (TxNo × Call)). passes (λ (p : TxNo × Call). is_single_call p.1) d) (sym gives) ∙ line_single s before b run in
     record {
       answered = ap (λ (d : Option (TxNo × Call)). passes (λ (p : TxNo × Call). is_answered p.1) d) (sym gives) ∙ line_answered s before b run;
       new = new;
-      alone = subst (λ (d : Option (TxNo × Call)). IsAloneCall o d) gives (line_alone s before b o run none);
+      alone = call_alone o c single (λ u e r x k. none u e r x (gives ∙ ap (λ (d : Call). Some (t, d)) k));
     }

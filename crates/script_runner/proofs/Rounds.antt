@@ -9,7 +9,7 @@ use Rattle.dtx_model.specs.Words.{has, kth, onto, past_of}
 use Rattle.dtx_model.specs.AtLog.{is_log_up}
 use Rattle.dtx_model.specs.Causes.{IsNamed, Settled, is_begin_sent}
 use Rattle.dtx_model.specs.Replay.{Placed, history, is_passed, placed}
-use Rattle.dtx_model.specs.Replays.{StepsRan, after_turn, block_in, is_in_replay, last_turn, stop_if, world_at}
+use Rattle.dtx_model.specs.Replays.{HasDoneAt, StepsRan, after_turn, block_in, is_in_replay, last_turn, stop_if, world_at}
 use Rattle.dtx_model.specs.Turns.{Step, Replies, Acts, StepName, pending}
 use Rattle.dtx_model.proofs.Histories.{history-other}
 use Rattle.script_runner.specs.RunState.{Advances, IsSettledBelow, OwnSteps, Settles, StepsDone, is_own_step}
@@ -46,6 +46,15 @@ steps-more s t k m start trace new ran a = (past_of trace, ran, a.name, a.step, 
 pub own_ran : (s : List Line) (t : TxNo) (k m : ℕ) (start T : List Placed) → OwnSteps s t k m start T → StepsRan s t k m start T
 own_ran s t k zero start T ran = ran
 own_ran s t k (suc m) start T ran = (ran.0, own_ran s t k m start ran.0 ran.1, ran.2, ran.3, ran.4, ran.5, own_in_replay ran.3 ran.6, ran.7)
+
+-- a `do`: so many steps were done, and fewer than it says only where no k-th was pending
+pub done_some : (s : List Line) (t : TxNo) (k n m : ℕ) (start trace : List Placed) → m < n → StepsDone s t k m start trace → kth (pending (world_at s t (past_of trace))) k ≡ None
+    → HasDoneAt s t k n m (past_of start) (past_of trace)
+done_some s t k n m start trace less ran none = record { ran = own_ran s t k m (past_of start) (past_of trace) ran; most = omega (arith, less); stopped = λ l. none }
+
+pub done_all : (s : List Line) (t : TxNo) (k n m : ℕ) (start trace : List Placed) → m ≡ n → StepsDone s t k m start trace → HasDoneAt s t k n n (past_of start) (past_of trace)
+done_all s t k n m start trace same ran =
+    record { ran = own_ran s t k n (past_of start) (past_of trace) (subst (λ i. StepsDone s t k i start trace) same ran); most = omega arith; stopped = λ l. absurd (omega (arith, l)) }
 
 -- where no step is the first, none is pending
 pub none-first : {A : Type 0} (xs : List A) → kth xs 1 ≡ None → xs ≡ []

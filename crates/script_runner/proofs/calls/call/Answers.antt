@@ -1,5 +1,6 @@
 use Rattle.std.proofs.Common.{◌∷◌, [], List, ap, refl, subst, sym, ◌∙◌}
 use Rattle.dtx_values.specs.Outgoing.{with}
+use Rattle.dtx_values.specs.declared.call.Call.{Call}
 use Rattle.dtx_values.specs.declared.call.Call.TheVariants.{Await, Do, Gone}
 use Rattle.dtx_values.specs.declared.entry.Answer.{Answer}
 use Rattle.dtx_values.specs.declared.entry.Answer.TheVariants.{Did}
@@ -8,6 +9,7 @@ use Rattle.dtx_values.specs.declared.entry.Entry.TheVariants.{Called}
 use Rattle.dtx_model.specs.Answers.{await_answer, if_begun}
 use Rattle.dtx_model.specs.Turns.{Calls, entered}
 use Rattle.local_half.specs.Half.{after, is_wait}
+use Rattle.script_runner.specs.Calling.{call_block}
 use Rattle.script_runner.proofs.Calling.{answer_goes_on, answers_itself, await_block, await_wait, called_alone, did_wait, do_block, gone_block, own_block}
 use Rattle.script_runner.proofs.calls.call.Goals as goal
 
@@ -24,8 +26,9 @@ returns-in-Do-clause-state c =
 pub returns-in-Do-clause-out : goal.returns-in-Do-clause-out
 returns-in-Do-clause-out c =
     let h = c.args.half.now in
-    rw (c.in-Do.is, do_block h.transaction.value h.half c.args.line c.args.actor c.in-Do.field-0 c.in-Do.field-1 c.in-Do.field-2 c.args.done)
-    (c.put.ensures ∙ ap (λ (x : Answer). with c.args.out.now (Called c.args.line c.args.actor x ∷ [])) c.if_begun-answer.ensures)
+    c.put.ensures ∙ ap (λ (x : Answer). with c.args.out.now (Called c.args.line c.args.actor x ∷ [])) c.if_begun-answer.ensures
+    ∙ ap (λ (es : List Entry). with c.args.out.now es) (sym (do_block h.transaction.value h.half c.args.line c.args.actor c.in-Do.field-0 c.in-Do.field-1 c.in-Do.field-2 c.args.done))
+    ∙ ap (λ (e : Call). with c.args.out.now (call_block h.transaction.value h.half c.args.line c.args.actor e c.args.done)) (sym c.in-Do.is)
 
 pub returns-in-Await-clause-state : goal.returns-in-Await-clause-state
 returns-in-Await-clause-state c =
@@ -37,8 +40,10 @@ returns-in-Await-clause-state c =
 pub returns-in-Await-clause-out : goal.returns-in-Await-clause-out
 returns-in-Await-clause-out c =
     let h = c.args.half.now in
-    rw (c.in-Await.is, await_block h.transaction.value h.half c.args.line c.args.actor c.in-Await.field-0 c.args.done)
-    (c.put-in-Await.ensures ∙ ap (λ (x : Answer). with c.args.out.now (Called c.args.line c.args.actor x ∷ [])) (c.if_begun-answer-in-Await.ensures ∙ ap (if_begun h.half.seen.limit) c.await_answer.ensures))
+    c.put-in-Await.ensures
+    ∙ ap (λ (x : Answer). with c.args.out.now (Called c.args.line c.args.actor x ∷ [])) (c.if_begun-answer-in-Await.ensures ∙ ap (if_begun h.half.seen.limit) c.await_answer.ensures)
+    ∙ ap (λ (es : List Entry). with c.args.out.now es) (sym (await_block h.transaction.value h.half c.args.line c.args.actor c.in-Await.field-0 c.args.done))
+    ∙ ap (λ (e : Call). with c.args.out.now (call_block h.transaction.value h.half c.args.line c.args.actor e c.args.done)) (sym c.in-Await.is)
 
 pub returns-in-Gone-clause-state : goal.returns-in-Gone-clause-state
 returns-in-Gone-clause-state c =
