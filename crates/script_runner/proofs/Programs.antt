@@ -46,11 +46,11 @@ pub no_rise : (now before : ℕ) → now ≡ before → 0 ≡ now - before
 no_rise now before k = omega (arith, k)
 
 -- the text of a replay's trace is that of a replay
-pub text_of : {E : Type 0} (s : List Line) (T entries : List Placed) (r : Result (Vec ℕ Global) E) → entries ≡ T → IsHistory s 0 0 T → IsReplay s 0 true T → HasOneOutcome T → IsComplete s T
-    → IfOk r (λ v. v.items ≡ trace_text entries) → IfOk r (λ v. IsReplayText s 0 v.items)
-text_of s T entries (Ok v) same history replay outcome complete k =
-    record { trace = T; history = history; replay = replay; outcome = outcome; complete = complete; spelled = k ∙ ap trace_text same }
-text_of s T entries (Err e) same history replay outcome complete k = k
+pub text_of : {E : Type 0} (s : List Line) (T : List Placed) (r : Result (Vec ℕ Global) E) → IsHistory s 0 0 T → IsReplay s 0 true T → HasOneOutcome T → IsComplete s T
+    → IfOk r (λ v. v.items ≡ trace_text T) → IfOk r (λ v. IsReplayText s 0 v.items)
+text_of s T (Ok v) history replay outcome complete k =
+    record { trace = T; history = history; replay = replay; outcome = outcome; complete = complete; spelled = k }
+text_of s T (Err e) history replay outcome complete k = k
 
 -- the text was written whole
 pub is_written : (rise : ℕ) (given before after : Option (List ℕ)) (bytes : List ℕ) (s : List Line) (text out : List ℕ) → 0 ≡ rise → IsFront given bytes → Reads bytes s → IsReplayText s 0 text → out ≡ text
