@@ -2,14 +2,12 @@
 use Rattle.std.proofs.Common.{◌≡◌, ℕ, ◌==◌, Bool, true, false, List, [], ◌∷◌, ◌++◌, map, refl, ◌∙◌}
 use Rattle.dtx_values.specs.declared.number.ActorNo.{ActorNo}
 use Rattle.dtx_values.specs.declared.number.TxNo.{TxNo}
-use Rattle.dtx_values.specs.declared.call.Call.{Call}
 use Rattle.dtx_values.specs.declared.entry.Entry.{Entry}
 use Rattle.dtx_values.specs.declared.trace.Place.{Place}
 use Rattle.dtx_values.specs.declared.trace.Place.TheVariants.{Context, Transaction}
 use Rattle.dtx_model.specs.Words.{onto, past_of}
 use Rattle.dtx_model.specs.Observed.{observe, track, track_all}
-use Rattle.dtx_model.specs.Steps.{Calls, block}
-use Rattle.dtx_model.specs.Replay.{Placed, is_at, is_context, entries_at, history, at_context, placed, noted, after_step, after_calls}
+use Rattle.dtx_model.specs.Replay.{Placed, is_at, is_context, entries_at, history, at_context, placed, noted}
 
 -- two blocks after each other are one
 pub onto-append : {E : Type 0} (h xs ys : List E) → onto h (xs ++ ys) ≡ onto (onto h xs) ys
@@ -59,9 +57,3 @@ context-other a b T es k = entries-other (is_context a) (Context b) T es k
 -- and so does a block at a transaction
 pub context-placed : (a : ℕ) (t : TxNo) (T : List Placed) (es : List Entry) → at_context a (onto T (placed t es)) ≡ at_context a T
 context-placed a t T es = entries-other (is_context a) (Transaction t) T es refl
-
--- the calls of a line at transactions leave each context alone
-pub context-calls : (a n : ℕ) (b : ActorNo) (cs : List (TxNo × Call)) (T : List Placed) → at_context a (after_calls n b cs T) ≡ at_context a T
-context-calls a n b [] T = refl
-context-calls a n b (c ∷ cs) T =
-    context-calls a n b cs (after_step c.0 (Calls n b c.1 0) T) ∙ context-placed a c.0 T (block (observe (history c.0.value T)) (Calls n b c.1 0))

@@ -7,7 +7,8 @@ use Rattle.dtx_values.specs.Row.{is_lasting}
 use Rattle.dtx_values.specs.Owners.{cause_of}
 use Rattle.dtx_values.specs.Class.{is_volatile, is_durable, is_promotable}
 use Rattle.dtx_values.specs.declared.row.Row.{Row}
-use Rattle.dtx_model.specs.Steps.{is_done, wait_for}
+use Rattle.dtx_model.specs.Answers.{wait_for}
+use Rattle.dtx_model.proofs.Narrow.{is_done}
 use Rattle.dtx_model.specs.Words.{has}
 use Rattle.dtx_model.proofs.Bools.{or_false, or_first, or_second}
 

@@ -1,13 +1,12 @@
--- What the rules leave out: nothing is promoted, nothing is sent or got over a connection, and nobody comes back.
+-- What the rules leave out: nothing is promoted, and nobody comes back.
 use Rattle.std.proofs.Common.{◌≡◌, ℕ, Bool, true, List, [], ◌∷◌, refl}
 use Rattle.dtx_values.specs.declared.entry.Entry.{Entry}
-use Rattle.dtx_values.specs.declared.entry.Entry.TheVariants.{Down, Got, Promoted, Promoting, PromotionFailed, Reenlisted}
+use Rattle.dtx_values.specs.declared.entry.Entry.TheVariants.{Got, Promoted, Promoting, PromotionFailed, Reenlisted}
 use Rattle.dtx_values.specs.declared.message.Conn.TheVariants.{Again}
 use Rattle.dtx_values.specs.declared.script.Line.{Line}
 use Rattle.dtx_model.specs.Words.{always}
 use Rattle.dtx_model.specs.Learned.{is_learned, is_answered, are_answered, Learned}
 use Rattle.dtx_model.specs.Promotes.{keeps_order, promotes}
-use Rattle.dtx_model.specs.Wires.{MayCross, WireRun}
 use Rattle.dtx_model.proofs.Bools.{and_both}
 use Rattle.outcome_law.proofs.Rule.{rule, ruled, first_rule, other_rules}
 
@@ -24,17 +23,6 @@ unfolding promotes
 ruled_promotes s t [] r = refl
 ruled_promotes s t (x ∷ h) r =
     and_both (keeps_order s t h x) (always (keeps_order s t) h) (order_kept s t h x (first_rule x h r)) (ruled_promotes s t h (other_rules x h r))
-
--- what keeps its rule crosses no connection
-cross_kept : (h : List Entry) (x : Entry) → rule h x ≡ true → MayCross h x
-cross_kept h (Got c d m) k = absurd cc
-cross_kept h (Down c d) k = absurd cc
-cross_kept h _ k = tt
-
--- what keeps the rules runs over its connections
-pub ruled_wires : (h : List Entry) → ruled h ≡ true → WireRun h
-ruled_wires [] r = tt
-ruled_wires (x ∷ h) r = (cross_kept h x (first_rule x h r), ruled_wires h (other_rules x h r))
 
 -- what keeps its rule after what keeps its own is told after no reenlistment
 rightly_told : (h : List Entry) (x : Entry) → ruled h ≡ true → is_learned h x ≡ true

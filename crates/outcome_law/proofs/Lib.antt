@@ -30,6 +30,11 @@ pub mod LocalReplays
 pub mod ReplayRuns
 pub mod Replays
 pub mod Examples
+pub mod ReplayExample
+pub mod ScopeExample
+pub mod OwnerExample
+pub mod LossExample
 pub mod PromotionExample
 pub mod PlannedReplays
 pub mod Determined
+pub mod OtherTraces

@@ -2,7 +2,7 @@
 use Rattle.std.proofs.Common.{◌≡◌, ℕ, zero, suc, Bool, true, false, ◌||◌, List, [], ◌∷◌, Option, Some, None, refl, subst, sym}
 use Rattle.std.specs.Prelude.{find, not, if◌then◌else◌}
 use Rattle.std.proofs.lemmas.Bool.{or_left}
-use Rattle.std.specs.List.{slice_get, filter_map, cons_option}
+use Rattle.std.specs.List.{slice_get}
 use Rattle.dtx_model.specs.Words.{has, each}
 use Rattle.dtx_model.proofs.Bools.{and_left, and_right, and_both, or_first, or_right, or_second}
 
@@ -15,16 +15,6 @@ passes p None = true
 pub each_from_at : {A : Type 0} (p : A → Bool) (xs : List A) → ((k : ℕ) (x : A) → slice_get xs k ≡ Some x → p x ≡ true) → each p xs ≡ true
 each_from_at p [] f = refl
 each_from_at p (x ∷ xs) f = and_both (p x) (each p xs) (f zero x refl) (each_from_at p xs (λ k y e. f (suc k) y e))
-
--- what is picked of each passes where it does of each
-pub each_picked : {A B : Type 0} (p : B → Bool) (f : A → Option B) (xs : List A) → each (λ x. passes p (f x)) xs ≡ true → each p (filter_map f xs) ≡ true
-each_picked p f [] h = refl
-each_picked p f (x ∷ xs) h =
-    step p (f x) (filter_map f xs) (and_left (passes p (f x)) (each (λ x. passes p (f x)) xs) h) (each_picked p f xs (and_right (passes p (f x)) (each (λ x. passes p (f x)) xs) h))
-  where
-    step : {B : Type 0} (p : B → Bool) (o : Option B) (ys : List B) → passes p o ≡ true → each p ys ≡ true → each p (cons_option o ys) ≡ true
-    step p (Some y) ys h k = and_both (p y) (each p ys) h k
-    step p None ys h k = k
 
 -- what was found passes where each that could be found does
 pub found_well : {A : Type 0} (p q : A → Bool) (xs : List A) → each (λ x. not (p x) || q x) xs ≡ true → passes q (find p xs) ≡ true

@@ -2,7 +2,6 @@
 use Rattle.std.proofs.Common.{◌≡◌, ℕ, Bool, true, false, ◌&&◌, ◌||◌, List, [], ◌∷◌, Option, Some, None, refl, ◌∙◌, ◌==◌, ap, sym, subst}
 use Rattle.std.specs.Prelude.{is_some, is_none, not, filter, find, if◌then◌else◌}
 use Rattle.std.proofs.lemmas.Bool.{eqb-true, false_from_ne_true}
-use Rattle.std.specs.List.{filter_map, cons_option}
 use Rattle.dtx_values.specs.declared.number.EnlNo.{EnlNo}
 use Rattle.dtx_values.specs.declared.entry.Entry.{Entry}
 use Rattle.dtx_values.specs.declared.entry.Entry.TheVariants.{CommitAsked, Cut, Decided, Down, Enlisted, Got, Handed, LogFull, Lost, OwnerAnswered, PromoteReply, Requested, Restarted, RollbackAsked, Sealed, Stopped, TimedOut, Told, Voted}
@@ -51,15 +50,6 @@ use Rattle.outcome_law.proofs.Plans.{each_as_planned, is_planned, planned_owner,
 -- where each passes q, none passes p and fails q
 none_open : {A : Type 0} (p q : A → Bool) (xs : List A) → each q xs ≡ true → has (λ x. p x && not (q x)) xs ≡ false
 none_open p q xs h = none_more q (λ x. p x && not (q x)) (λ x k. rw k (and_never (p x))) xs h
-
--- nothing is given: each gives nothing
-pub each_none : {A B : Type 0} (f : A → Option B) (xs : List A) → filter_map f xs ≡ [] → each (λ x. is_none (f x)) xs ≡ true
-each_none f [] e = refl
-each_none f (x ∷ xs) e = step (f x) (filter_map f xs) (each (λ x. is_none (f x)) xs) (each_none f xs) e
-  where
-    step : {B : Type 0} (o : Option B) (ys : List B) (b : Bool) → (ys ≡ [] → b ≡ true) → cons_option o ys ≡ [] → (is_none o && b) ≡ true
-    step (Some y) ys b ih e = absurd cc
-    step None ys b ih e = ih e
 
 -- where no veto stands, none stands after which there was no evidence
 first_veto : (h : List Entry) → ever is_veto h ≡ false → ever is_first_veto h ≡ false

@@ -1,30 +1,32 @@
--- What a settled history in which nothing is promoted comes to: the local side has no act, and to no reply that is due a plan has an answer.
-use Rattle.std.proofs.Common.{◌≡◌, ℕ, true, List, [], ◌∷◌, ◌++◌, filter, map, ap, sym, subst, ◌∙◌, refl}
+-- What is pending where nothing is promoted is that at the local side, by the plans of the script; and what a settled history comes to there: the local side
+-- has no act, and to no reply that is due a plan has an answer.
+use Rattle.std.proofs.Common.{◌≡◌, ℕ, zero, suc, true, List, [], ◌∷◌, ◌++◌, Option, Some, None, is_some, filter, map, slice_get, ap, sym, subst, ◌∙◌, refl, if◌then◌else◌}
+use Rattle.std.specs.List.{filter_map, cons_option}
 use Rattle.dtx_values.specs.declared.entry.Entry.{Entry}
 use Rattle.dtx_values.specs.declared.number.EnlNo.{EnlNo}
 use Rattle.dtx_values.specs.declared.note.Note.{Note}
 use Rattle.dtx_values.specs.declared.script.Line.{Line}
+use Rattle.dtx_values.specs.declared.note.Plan.{Plan}
+use Rattle.dtx_values.specs.declared.row.Row.{Row}
 use Rattle.dtx_model.specs.Observed.{Observed, observe, rows}
-use Rattle.dtx_model.specs.Waiting.{managed, plan_of}
+use Rattle.dtx_model.specs.Waiting.{managed, plan_of, planned}
 use Rattle.dtx_model.specs.Acts.{act_entries as full_act}
-use Rattle.dtx_model.specs.Replies.{all_due, is_answered}
+use Rattle.dtx_model.specs.Replies.{all_due, due_of, is_answered, with_note}
 use Rattle.dtx_model.specs.World.{half}
-use Rattle.dtx_model.specs.Turns.{ReplyOf, local_if, local_pending, replies_due}
+use Rattle.dtx_model.specs.Turns.{ReplyOf, local_if, local_pending, pending, replies_due}
 use Rattle.dtx_model.specs.Caused.{IsCallOf}
 use Rattle.dtx_model.specs.Causes.{Settled, entered_in, plans_of, world_of}
 use Rattle.dtx_model.specs.Grammar.{OfEnlistment, are_named_well}
 use Rattle.dtx_model.proofs.Local.{pending-local}
-use Rattle.dtx_model.proofs.Narrow.{act_entries, due_note}
+use Rattle.dtx_model.proofs.Narrow.{act_entries}
 use Rattle.dtx_model.proofs.Narrowing.{act-narrow}
 use Rattle.dtx_model.proofs.Unpromoted.{are_local, half-local, narrow, observe-local}
-use Rattle.outcome_law.proofs.Scans.{each-at}
-use Rattle.outcome_law.proofs.Picks.{each_from_at}
 use Rattle.outcome_law.proofs.Rule.{ruled}
 use Rattle.outcome_law.proofs.TableRows.{rows_enlisted}
 use Rattle.outcome_law.proofs.Runs.{IsLocalRun}
 use Rattle.outcome_law.proofs.Names.{enlisted_namer, name_called}
 use Rattle.outcome_law.proofs.Planned.{plan_same}
-use Rattle.outcome_law.proofs.Dues.{is_unplanned, rows_unplanned}
+use Rattle.outcome_law.proofs.Dues.{rows_unplanned}
 use Rattle.outcome_law.proofs.Settled.{AreUnplanned}
 
 -- two lists together are empty: the first is
@@ -47,32 +49,53 @@ no_name : (xs : List (EnlNo × Note)) → map (λ x. ReplyOf x.0) xs ≡ [] → 
 no_name [] e = refl
 no_name (x ∷ xs) e = absurd cc
 
--- nothing is pending at the local side
-settled_here : (s : List Line) (h : List Entry) → are_local h ≡ true → Settled s h
-    → replies_due (plan_of (entered_in s h)) (half (world_of s h)) ++ local_if (full_act (half (world_of s h))) ≡ []
+-- the replies that are due and whose plans aren't silent, where the plans of these rows are the same
+due_same : (p q : ℕ → Plan) (o : Observed) (xs : List Row) → ((k : ℕ) (x : Row) → slice_get xs k ≡ Some x → p x.number.value ≡ q x.number.value)
+    → filter (is_answered p) (filter_map (λ e. with_note e (due_of o e.value)) (map (λ x. x.number) xs)) ≡ filter (is_answered q) (filter_map (λ e. with_note e (due_of o e.value)) (map (λ x. x.number) xs))
+due_same p q o [] f = refl
+due_same p q o (x ∷ xs) f =
+    step x.number (due_of o x.number.value) (filter_map (λ e. with_note e (due_of o e.value)) (map (λ x. x.number) xs)) (f zero x refl) (due_same p q o xs (λ k y e. f (suc k) y e))
+  where
+    step : (e : EnlNo) (n : Option Note) (ys : List (EnlNo × Note)) → p e.value ≡ q e.value → filter (is_answered p) ys ≡ filter (is_answered q) ys
+        → filter (is_answered p) (cons_option (with_note e n) ys) ≡ filter (is_answered q) (cons_option (with_note e n) ys)
+    step e None ys g ih = ih
+    step e (Some n) ys g ih =
+        ap (λ (r : Plan). if is_some (planned r n) then (e, n) ∷ filter (is_answered p) ys else filter (is_answered p) ys) g
+        ∙ ap (λ zs. if is_some (planned (q e.value) n) then (e, n) ∷ zs else zs) ih
+
+-- so they are by the calls that were entered and by the lines of the script
+due_planned : (s : List Line) (t : ℕ) (h : List Entry) → are_named_well s ≡ true → IsLocalRun (IsCallOf s t) h → ruled h ≡ true
+    → filter (is_answered (plan_of (entered_in s h))) (all_due (narrow (observe h))) ≡ filter (is_answered (plans_of s)) (all_due (narrow (observe h)))
+unfolding all_due observe
+due_planned s t h named run r =
+    due_same (plan_of (entered_in s h)) (plans_of s) (narrow (observe h)) (rows h)
+    (λ k x e. let n = x.number.value in plan_same s t n h named (name_called (IsCallOf s t) (OfEnlistment n) h run (enlisted_namer n h ∙ rows_enlisted h k x r e)))
+
+-- what is pending in a history of the script is that at the local side, by the plans of the script
+pub pending_planned : (s : List Line) (t : ℕ) (h : List Entry) → are_named_well s ≡ true → IsLocalRun (IsCallOf s t) h → are_local h ≡ true → ruled h ≡ true
+    → pending (world_of s h) ≡ local_pending (plans_of s) (half (world_of s h))
 unfolding local_pending
-settled_here s h p e = sym (pending-local (world_of s h) p) ∙ e
+pending_planned s t h named run p r =
+    let own : filter (is_answered (plan_of (entered_in s h))) (all_due (observe h)) ≡ filter (is_answered (plans_of s)) (all_due (observe h)) =
+    subst (λ (o : Observed). filter (is_answered (plan_of (entered_in s h))) (all_due o) ≡ filter (is_answered (plans_of s)) (all_due o)) (sym (observe-local h p)) (due_planned s t h named run r) in
+    pending-local (world_of s h) p ∙ ap (λ (xs : List (EnlNo × Note)). map (λ x. ReplyOf x.0) xs ++ local_if (full_act (half (world_of s h)))) own
+
+-- nothing is pending at the local side
+settled_here : (s : List Line) (t : ℕ) (h : List Entry) → are_named_well s ≡ true → IsLocalRun (IsCallOf s t) h → are_local h ≡ true → ruled h ≡ true → Settled s h
+    → replies_due (plans_of s) (half (world_of s h)) ++ local_if (full_act (half (world_of s h))) ≡ []
+unfolding local_pending
+settled_here s t h named run p r e = sym (pending_planned s t h named run p r) ∙ e
 
 -- where nothing is pending, the local act has no entries
-pub settled_act : (s : List Line) (h : List Entry) → are_local h ≡ true → Settled s h → act_entries (observe h) ≡ []
-settled_act s h p e =
+pub settled_act : (s : List Line) (t : ℕ) (h : List Entry) → are_named_well s ≡ true → IsLocalRun (IsCallOf s t) h → are_local h ≡ true → ruled h ≡ true → Settled s h → act_entries (observe h) ≡ []
+settled_act s t h named run p r e =
     sym (ap full_act (half-local (entered_in s h) h p) ∙ act-narrow (observe h) (managed (entered_in s h) h))
-    ∙ no_act (full_act (half (world_of s h))) (append_second (replies_due (plan_of (entered_in s h)) (half (world_of s h))) (local_if (full_act (half (world_of s h)))) (settled_here s h p e))
+    ∙ no_act (full_act (half (world_of s h))) (append_second (replies_due (plans_of s) (half (world_of s h))) (local_if (full_act (half (world_of s h)))) (settled_here s t h named run p r e))
 
--- no reply that is due is answered
-settled_replies : (s : List Line) (h : List Entry) → are_local h ≡ true → Settled s h → filter (is_answered (plan_of (entered_in s h))) (all_due (narrow (observe h))) ≡ []
-settled_replies s h p e =
-    ap (λ (o : Observed). filter (is_answered (plan_of (entered_in s h))) (all_due o)) (sym (observe-local h p))
-    ∙ no_name (filter (is_answered (plan_of (entered_in s h))) (all_due (observe h)))
-    (append_first (replies_due (plan_of (entered_in s h)) (half (world_of s h))) (local_if (full_act (half (world_of s h)))) (settled_here s h p e))
-
--- and to none the script's line has an answer
+-- and to none that is due the script's line has an answer
 pub settled_unplanned : (s : List Line) (t : ℕ) (h : List Entry) → are_named_well s ≡ true → IsLocalRun (IsCallOf s t) h → are_local h ≡ true → ruled h ≡ true → Settled s h → AreUnplanned s h
 settled_unplanned s t h named run p r e =
-    let each_row = rows_unplanned (plan_of (entered_in s h)) h r (settled_replies s h p e) in
-    each_from_at (λ x. is_unplanned (plans_of s x.number.value) (due_note (observe h) x)) (rows h)
-    (λ k x f.
-    let n = x.number.value in
-    let made = name_called (IsCallOf s t) (OfEnlistment n) h run (enlisted_namer n h ∙ rows_enlisted h k x r f) in
-    subst (λ q. is_unplanned q (due_note (observe h) x) ≡ true) (plan_same s t n h named made)
-    (each-at (λ x. is_unplanned (plan_of (entered_in s h) x.number.value) (due_note (observe h) x)) (rows h) k x each_row f))
+    rows_unplanned (plans_of s) h r
+    (ap (λ (o : Observed). filter (is_answered (plans_of s)) (all_due o)) (sym (observe-local h p))
+    ∙ no_name (filter (is_answered (plans_of s)) (all_due (observe h)))
+    (append_first (replies_due (plans_of s) (half (world_of s h))) (local_if (full_act (half (world_of s h)))) (settled_here s t h named run p r e)))

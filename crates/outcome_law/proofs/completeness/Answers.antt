@@ -14,13 +14,15 @@ pub returns-clause-told : goal.returns-clause-told
 returns-clause-told c = λ s k t h named r u settled asked.
     let kept = script_kept s t h named r.freely u in
     let home = free-local (IsCallOf s t) t h r.freely u in
-    told_or_waits s h kept (settled_act s h home settled) (settled_unplanned s t h named (free_run (IsCallOf s t) t h r.freely u) home kept.rules settled) asked
+    let run = free_run (IsCallOf s t) t h r.freely u in
+    told_or_waits s h kept (settled_act s t h named run home kept.rules settled) (settled_unplanned s t h named run home kept.rules settled) asked
 
 pub returns-clause-committed : goal.returns-clause-committed
 returns-clause-committed c = λ s k t h named r u settled can.
     let kept = script_kept s t h named r.freely u in
     let home = free-local (IsCallOf s t) t h r.freely u in
-    settled_committed s h kept.rules (settled_act s h home settled) (settled_unplanned s t h named (free_run (IsCallOf s t) t h r.freely u) home kept.rules settled) can
+    let run = free_run (IsCallOf s t) t h r.freely u in
+    settled_committed s h kept.rules (settled_act s t h named run home kept.rules settled) (settled_unplanned s t h named run home kept.rules settled) can
 
 pub returns-clause-answered : goal.returns-clause-answered
 returns-clause-answered c = λ s k t h named r u settled. ruled_answered (is_decided_there h) [] h (script_kept s t h named r.freely u).rules
