@@ -1,4 +1,4 @@
-//! What the local side of a transaction knows of its history.
+//! What the local side of a transaction knows of its calls and its history.
 ghost use Rattle.std.specs.Prelude.{◌≡◌, ◌<◌, [], ◌∷◌, is_some, IfOk, true};
 ghost use Rattle.dtx_values.specs.Outgoing.{with};
 ghost use Rattle.dtx_values.specs.Table.{rises_above};
@@ -303,7 +303,7 @@ impl LocalHalf {
         let _ = self.table.set_asked(e);
     }
 
-    /// Takes an entry into the state. Nothing else changes it.
+    /// Takes an entry into the state. Nothing else changes it, but `own`, which keeps the manager.
     #[tactic(auto, unfolding(dtx_model::specs::Observed::track))]
     fn take_in(&mut self, x: Entry)
         requires { MayTakeIn self.old.half.seen x }

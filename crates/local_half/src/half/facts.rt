@@ -103,7 +103,7 @@ impl LocalHalf {
         }
     }
 
-    /// Enlists a durable or promotable one, and keeps its manager.
+    /// Writes that a durable or promotable one is enlisted, and keeps its manager, which no entry says.
     fn own(&mut self, e: EnlNo, class: Class, manager: RmNo, out: &mut Outbox)
         requires taken { MayTakeIn self.old.half.seen (Enlisted e class) }
         requires lasting { is_volatile class ≡ false }
@@ -115,9 +115,8 @@ impl LocalHalf {
         ensures out { out.new ≡ with out.old (Enlisted e class ∷ []) }
     {
         prove!(self.manager.is_none());
-        self.enlist(e, class);
+        self.write(Entry::Enlisted(e, class), out);
         self.manager = Some((e, manager));
-        out.put(Entry::Enlisted(e, class));
     }
 
     /// Writes the facts of a call that was done.
@@ -187,7 +186,8 @@ impl LocalHalf {
 
     /// Loses an enlistment. Where it hasn't voted and nothing is decided, that decides: in doubt where it was handed the commit, else aborted.
     ///
-    /// `linked` says whether one of its connections is open; until promotion comes none is. The entry of the call stands above: `gone` writes what follows of it.
+    /// `linked` says whether one of its connections is open; until promotion comes none is. The entry of
+    /// the call isn't written here: `gone` writes what follows of it.
     pub fn gone(&mut self, e: EnlNo, linked: bool, out: &mut Outbox)
         requires stands { gone_answer (stands self.old.half.seen e.value) (is_gone self.old.half.seen e.value) ≡ Fine }
         requires unlinked { linked ≡ false }
