@@ -1,5 +1,5 @@
 -- What is pending, and what steps write, while nothing is promoted.
-use Rattle.std.proofs.Common.{◌≡◌, ℕ, zero, suc, ◌==◌, Bool, true, false, ◌&&◌, not, List, [], ◌∷◌, ◌++◌, map, filter, Option, Some, None, slice_get, refl, ap, sym, subst, ◌∙◌}
+use Rattle.std.proofs.Common.{◌≡◌, ℕ, zero, suc, Bool, true, List, [], ◌∷◌, ◌++◌, map, filter, Option, Some, slice_get, refl, ap, sym, ◌∙◌}
 use Rattle.std.specs.List.{filter_map}
 use Rattle.dtx_values.specs.declared.entry.Entry.{Entry}
 use Rattle.dtx_values.specs.declared.note.Note.{Note}
@@ -15,7 +15,7 @@ use Rattle.dtx_model.specs.Replies.{all_due, due_of, is_answered, with_names, wi
 use Rattle.dtx_model.specs.Half.{Half}
 use Rattle.dtx_model.specs.Acts.{act_entries}
 use Rattle.dtx_model.specs.World.{half}
-use Rattle.dtx_model.specs.Turns.{StepName, ReplyOf, local_if, local_pending, pending, replies_due}
+use Rattle.dtx_model.specs.Turns.{ReplyOf, local_if, local_pending, pending, replies_due}
 use Rattle.dtx_model.specs.Causes.{plans_of, world_of}
 use Rattle.dtx_model.proofs.Bools.{or_right}
 use Rattle.dtx_model.proofs.Local.{pending-local}

@@ -1,65 +1,42 @@
 -- What the block of each step of a run is: local, as planned, and known to the local side.
-use Rattle.std.proofs.Common.{◌≡◌, ℕ, ◌==◌, nat_le, Bool, true, false, ◌&&◌, ◌||◌, not, ◌⊎◌, inl, inr, List, [], ◌∷◌, ◌++◌, length, find, Option, Some, None, is_some, if◌then◌else◌, refl, ap, sym, subst, ◌∙◌}
-use Rattle.dtx_values.specs.declared.call.Call.{Call}
-use Rattle.dtx_values.specs.declared.call.Call.TheVariants.{Begin, Volatile, Durable, Promotable, Clone, Complete, Commit, Rollback, Status, Await, Tick, Do, Gone}
-use Rattle.dtx_values.specs.declared.entry.Answer.{Answer}
-use Rattle.dtx_values.specs.declared.entry.Answer.TheVariants.{Fine, True, False, Wait, Did, TooLate, Many, NoSuch, Already}
-use Rattle.dtx_values.specs.declared.entry.Ask.TheVariants.{Prepare as AskPrepare}
+use Rattle.std.proofs.Common.{◌≡◌, ℕ, Bool, true, false, List, [], ◌∷◌, find, Option, Some, None, is_some, refl, ap, sym, ◌∙◌}
 use Rattle.dtx_values.specs.declared.entry.Entry.{Entry}
-use Rattle.dtx_values.specs.declared.entry.Entry.TheVariants.{Called, Asked, Enlisted, Sealed, Handed, Decided, Told, Voted, OwnerAnswered, PromoteReply, Requested}
-use Rattle.dtx_values.specs.declared.limits.TheConstants.{CLONES, DURABLES, ENLISTMENTS}
+use Rattle.dtx_values.specs.declared.entry.Entry.TheVariants.{Enlisted, Voted, OwnerAnswered, PromoteReply, Requested}
 use Rattle.dtx_values.specs.declared.note.Note.{Note}
-use Rattle.dtx_values.specs.declared.note.Note.TheVariants.{Prepare, Promote as PromoteNote, Hand, Single, Commit as CommitNote}
+use Rattle.dtx_values.specs.declared.note.Note.TheVariants.{Prepare, Promote as PromoteNote, Hand, Single}
 use Rattle.dtx_values.specs.declared.note.Plan.{Plan}
 use Rattle.dtx_values.specs.declared.note.Reply.{Reply}
-use Rattle.dtx_values.specs.declared.note.Reply.TheVariants.{Vote as VoteReply, Promote as Promotes, Owner as OwnerReply, Ack}
-use Rattle.dtx_values.specs.declared.number.ActorNo.{ActorNo}
+use Rattle.dtx_values.specs.declared.note.Reply.TheVariants.{Vote as VoteReply, Owner as OwnerReply}
 use Rattle.dtx_values.specs.declared.number.EnlNo.{EnlNo}
-use Rattle.dtx_values.specs.declared.number.TxNo.{TxNo}
 use Rattle.dtx_values.specs.declared.script.Line.{Line}
-use Rattle.dtx_values.specs.declared.script.Support.{Support}
 use Rattle.dtx_values.specs.declared.words.Outcome.{Outcome}
 use Rattle.dtx_values.specs.declared.words.Outcome.TheVariants.{Committed, Aborted, InDoubt}
 use Rattle.dtx_values.specs.declared.words.Vote.{Vote}
 use Rattle.dtx_values.specs.declared.words.Vote.TheVariants.{Yes, No, Done}
-use Rattle.dtx_values.specs.Clones.{is_clone, is_complete_clone, is_open_rollback}
-use Rattle.dtx_values.specs.Owners.{cause_of, may_own, owner_of}
-use Rattle.dtx_values.specs.Row.{is_lasting}
-use Rattle.dtx_values.specs.Support.{is_single}
-use Rattle.dtx_values.specs.Table.{how_many, voted}
+use Rattle.dtx_values.specs.Owners.{owner_of}
+use Rattle.dtx_values.specs.Table.{voted}
 use Rattle.dtx_values.specs.Vote.{is_no}
 use Rattle.dtx_values.specs.Waves.{all_voted, is_over, next_ask}
-use Rattle.dtx_values.specs.Class.{is_durable, is_promotable}
-use Rattle.dtx_values.specs.declared.words.Class.{Class}
-use Rattle.dtx_values.specs.declared.words.Class.TheVariants.{Zero, One, DurableTwo, DurableSingle, Promotable as PromotableClass}
-use Rattle.dtx_values.specs.declared.row.Row.{Row}
 use Rattle.dtx_model.specs.declared.listener.Listener.{Listener}
 use Rattle.dtx_model.specs.Words.{always, each, has, onto}
 use Rattle.dtx_model.specs.Acts.{act_entries as full_act, tell}
-use Rattle.dtx_model.specs.Answers.{await_answer, clone_answer, complete_answer, facts_if, gone_answer, has_facts, if_begun, reaches, status_answer, ticked, unless_ended, unless_late, unless_over}
 use Rattle.dtx_model.specs.Causes.{is_as_planned, is_outcome_planned, is_vote_planned, plans_of, same_vote, world_of}
 use Rattle.dtx_model.specs.Entries.{same_outcome}
-use Rattle.dtx_model.specs.Grammar.{are_named_well}
-use Rattle.dtx_model.specs.Half.{Half, half_of, heeds_all, is_gone, is_handed, stands}
+use Rattle.dtx_model.specs.Half.{heeds_all}
 use Rattle.dtx_model.specs.Histories.{nobody}
 use Rattle.dtx_model.specs.Observed.{Observed, observe}
 use Rattle.dtx_model.specs.Replies.{due_of, reply_entries as full_reply}
-use Rattle.dtx_model.specs.Turns.{Calls, block_at}
-use Rattle.dtx_model.specs.Waiting.{EnteredCall, managed, owner_reply, plan_by, planned, promote_reply, vote_reply}
-use Rattle.dtx_model.specs.World.{World, answer_at, facts_at, half}
-use Rattle.dtx_model.proofs.Bools.{and_both, and_left, and_right, not_both, or_case, or_false}
-use Rattle.dtx_model.proofs.Local.{act_local, call_local, reply_local}
-use Rattle.dtx_model.proofs.Narrow.{act_by, act_entries, after_seal, answer, before_seal, block, commit_act, decided_if, facts, is_done, is_late, is_to_tell, lost_outcome, reply_entries, time_up, undecided_act, veto_if}
-use Rattle.dtx_model.proofs.NarrowCalls.{answer-narrow}
-use Rattle.dtx_model.proofs.NarrowFacts.{call-narrow, is_wait}
+use Rattle.dtx_model.specs.Waiting.{EnteredCall, managed, owner_reply, planned, promote_reply, vote_reply}
+use Rattle.dtx_model.specs.World.{half}
+use Rattle.dtx_model.proofs.Bools.{and_both, and_left, and_right}
+use Rattle.dtx_model.proofs.Local.{act_local, reply_local}
+use Rattle.dtx_model.proofs.Narrow.{act_by, act_entries, after_seal, before_seal, commit_act, is_to_tell, reply_entries, undecided_act, veto_if}
 use Rattle.dtx_model.proofs.Narrowing.{act-narrow}
 use Rattle.dtx_model.proofs.NarrowReplies.{reply-narrow}
-use Rattle.dtx_model.proofs.Quiet.{Quiet, q_act, q_called, q_reply}
-use Rattle.dtx_model.proofs.Unpromoted.{are_local, half-local, is_local, narrow, observe-local}
+use Rattle.dtx_model.proofs.Quiet.{Quiet, q_act, q_reply}
+use Rattle.dtx_model.proofs.Unpromoted.{are_local, half-local, narrow, observe-local}
 use Rattle.outcome_law.proofs.Rule.{is_enlisted}
-use Rattle.outcome_law.proofs.Scans.{each_more, has_less, none_more}
-use Rattle.outcome_law.proofs.ScopeCalls.{is_scope_call}
-use Rattle.outcome_law.proofs.Tests.{eq_self}
+use Rattle.outcome_law.proofs.Scans.{each_more, none_more}
 use Rattle.script_runner.specs.Pending.{IsPlanned}
 use Rattle.script_runner.specs.RunState.{HavePlans, IsToPlan}
 use Rattle.script_runner.proofs.ByLine.{half_quiet}

@@ -14,10 +14,10 @@ use Rattle.dtx_values.specs.declared.number.RmNo.{RmNo}
 use Rattle.dtx_values.specs.declared.number.TxNo.{TxNo}
 use Rattle.dtx_values.specs.declared.script.Line.{Line}
 use Rattle.dtx_values.specs.Table.{insert_by}
-use Rattle.dtx_model.specs.Words.{has, kth, onto, or_else, put}
+use Rattle.dtx_model.specs.Words.{has, kth, onto, put}
 use Rattle.dtx_model.specs.Calls.{call_of}
 use Rattle.dtx_model.specs.Entries.{is_call}
-use Rattle.dtx_model.specs.Waiting.{EnteredCall, Waiter, call_at, call_if, managed, managed_after, managed_by, waiter_line, waiting, waiting_after, wanted}
+use Rattle.dtx_model.specs.Waiting.{EnteredCall, Waiter, call_at, managed, managed_by, waiter_line, waiting, waiting_after, wanted}
 use Rattle.dtx_model.specs.Half.{Half, half_of, heeds, heeds_all}
 use Rattle.dtx_model.specs.World.{half}
 use Rattle.dtx_model.specs.Causes.{called_at, entered_at, entered_by, entered_in, world_of}

@@ -1,20 +1,17 @@
 -- What the block of a call of a run is. No call waits: a durable that is run finds nothing that would make it promote.
-use Rattle.std.proofs.Common.{◌≡◌, ℕ, ◌==◌, nat_le, Bool, true, false, ◌&&◌, ◌||◌, not, List, [], ◌∷◌, length, Option, Some, None, is_some, if◌then◌else◌, refl, ap, sym, subst, ◌∙◌}
+use Rattle.std.proofs.Common.{◌≡◌, ℕ, ◌==◌, nat_le, Bool, true, false, ◌&&◌, ◌||◌, not, List, [], ◌∷◌, length, Option, Some, None, is_some, if◌then◌else◌, refl, ap, sym, ◌∙◌}
 use Rattle.dtx_values.specs.declared.call.Call.{Call}
 use Rattle.dtx_values.specs.declared.call.Call.TheVariants.{Begin, Volatile, Durable, Promotable, Clone, Complete, Commit, Rollback, Marshal, Status, Await, Tick, Do, Lose, Gone, Reenlist, Recovered}
 use Rattle.dtx_values.specs.declared.entry.Answer.{Answer}
-use Rattle.dtx_values.specs.declared.entry.Answer.TheVariants.{Fine, True, False, Did, TooLate, Many, NoSuch, Already}
 use Rattle.dtx_values.specs.declared.entry.Entry.{Entry}
-use Rattle.dtx_values.specs.declared.entry.Entry.TheVariants.{Called}
 use Rattle.dtx_values.specs.declared.limits.TheConstants.{CLONES, DURABLES, ENLISTMENTS}
 use Rattle.dtx_values.specs.declared.note.Plan.{Plan}
 use Rattle.dtx_values.specs.declared.number.ActorNo.{ActorNo}
 use Rattle.dtx_values.specs.declared.row.Row.{Row}
 use Rattle.dtx_values.specs.declared.script.Line.{Line}
-use Rattle.dtx_values.specs.declared.script.Support.{Support}
 use Rattle.dtx_values.specs.declared.words.Cause.{Cause}
 use Rattle.dtx_values.specs.declared.words.Class.{Class}
-use Rattle.dtx_values.specs.declared.words.Class.TheVariants.{Zero, One, DurableTwo, DurableSingle, Promotable as PromotableClass}
+use Rattle.dtx_values.specs.declared.words.Class.TheVariants.{Zero, One, Promotable as PromotableClass}
 use Rattle.dtx_values.specs.declared.words.Outcome.{Outcome}
 use Rattle.dtx_values.specs.Class.{is_durable, is_promotable, is_volatile}
 use Rattle.dtx_values.specs.Clones.{is_clone, is_complete_clone, is_open_rollback}
@@ -22,26 +19,24 @@ use Rattle.dtx_values.specs.Owners.{cause_of, may_own}
 use Rattle.dtx_values.specs.Row.{is_lasting}
 use Rattle.dtx_values.specs.Support.{is_single}
 use Rattle.dtx_values.specs.Table.{how_many, voted}
-use Rattle.dtx_model.specs.Words.{each, has, onto}
-use Rattle.dtx_model.specs.Answers.{await_answer, clone_answer, complete_answer, facts_if, gone_answer, has_facts, if_begun, reaches, status_answer, ticked, unless_ended, unless_late, wait_for}
+use Rattle.dtx_model.specs.Words.{each, has}
+use Rattle.dtx_model.specs.Answers.{await_answer, facts_if, has_facts, if_begun, reaches, status_answer, ticked, unless_ended, wait_for}
 use Rattle.dtx_model.specs.Causes.{plans_of, world_of}
 use Rattle.dtx_model.specs.Grammar.{are_named_well}
 use Rattle.dtx_model.specs.Half.{is_gone, is_handed, stands}
 use Rattle.dtx_model.specs.Observed.{Observed, observe}
 use Rattle.dtx_model.specs.Turns.{Calls, block_at}
-use Rattle.dtx_model.specs.Waiting.{EnteredCall, plan_by, plan_if}
+use Rattle.dtx_model.specs.Waiting.{plan_by, plan_if}
 use Rattle.dtx_model.specs.World.{answer_at, facts_at}
-use Rattle.dtx_model.proofs.Bools.{and_both, not_both, or_case}
+use Rattle.dtx_model.proofs.Bools.{not_both}
 use Rattle.dtx_model.proofs.Local.{call_local}
 use Rattle.dtx_model.proofs.Narrow.{answer, block, decided_if, facts, is_done, is_late, lost_outcome, time_up, veto_if}
 use Rattle.dtx_model.proofs.NarrowFacts.{call-narrow, is_wait}
 use Rattle.dtx_model.proofs.Quiet.{q_called}
-use Rattle.dtx_model.proofs.Unpromoted.{are_local, is_local}
+use Rattle.dtx_model.proofs.Unpromoted.{are_local}
 use Rattle.outcome_law.proofs.Rule.{is_enlisted}
 use Rattle.outcome_law.proofs.Scans.{each_more, has_less, none_more}
-use Rattle.outcome_law.proofs.ScopeCalls.{is_scope_call}
-use Rattle.outcome_law.proofs.Tests.{eq_self}
-use Rattle.script_runner.specs.Calling.{IsAlone, IsGiven, IsReady, is_answered, own_call}
+use Rattle.script_runner.specs.Calling.{IsAlone, IsGiven, IsReady, own_call}
 use Rattle.script_runner.specs.RunState.{HavePlans, IsToPlan}
 use Rattle.script_runner.proofs.ByLine.{half_called}
 use Rattle.script_runner.proofs.Blocks.{Continues, are_deeds, deed_enlists, deed_to, is_deed, is_to, to_plan-onto, veto_deeds}

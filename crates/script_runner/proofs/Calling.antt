@@ -1,7 +1,7 @@
 -- What a call writes and leaves.
-use Rattle.std.proofs.Common.{◌≡◌, ◌≢◌, ℕ, Bool, true, false, List, [], ◌∷◌, Option, Some, None, refl, ap, sym, subst, ◌∙◌}
+use Rattle.std.proofs.Common.{◌≡◌, ◌≢◌, ℕ, Bool, true, false, List, [], ◌∷◌, Option, Some, None, refl, ap, sym, ◌∙◌}
 use Rattle.dtx_values.specs.declared.call.Call.{Call}
-use Rattle.dtx_values.specs.declared.call.Call.TheVariants.{Begin, Volatile, Durable, Promotable, Clone, Complete, Commit, Rollback, Marshal, Status, Await, Tick, Do, Lose, Gone, Reenlist, Recovered}
+use Rattle.dtx_values.specs.declared.call.Call.TheVariants.{Durable, Promotable, Await, Do, Lose, Gone, Reenlist, Recovered}
 use Rattle.dtx_values.specs.declared.entry.Answer.{Answer}
 use Rattle.dtx_values.specs.declared.entry.Answer.TheVariants.{Did, Fine, True, Wait}
 use Rattle.dtx_values.specs.declared.entry.Entry.{Entry}
@@ -10,12 +10,12 @@ use Rattle.dtx_values.specs.declared.number.ActorNo.{ActorNo}
 use Rattle.dtx_values.specs.declared.number.EnlNo.{EnlNo}
 use Rattle.dtx_values.specs.declared.number.RmNo.{RmNo}
 use Rattle.dtx_values.specs.declared.number.TxNo.{TxNo}
-use Rattle.dtx_model.specs.Observed.{Observed, track}
+use Rattle.dtx_model.specs.Observed.{track}
 use Rattle.dtx_model.specs.Answers.{await_answer, call_entries, facts_if, gone_answer, has_facts, if_begun, local_answer}
 use Rattle.dtx_model.specs.Half.{Half, heeds, heeds_all, is_gone, sees, stands}
 use Rattle.dtx_model.specs.Waiting.{EnteredCall, managed_by}
-use Rattle.dtx_model.specs.Turns.{Calls, block_at, entered}
-use Rattle.dtx_model.specs.World.{World, answer_at, gone_by, gone_unlinked, half, open_ones}
+use Rattle.dtx_model.specs.Turns.{Calls, block_at}
+use Rattle.dtx_model.specs.World.{World, answer_at, gone_by, gone_unlinked, half}
 use Rattle.dtx_model.proofs.Narrow.{answer}
 use Rattle.dtx_model.proofs.NarrowCalls.{is_answered_here, local-narrow}
 use Rattle.dtx_model.proofs.NarrowFacts.{is_wait as is_wait_there, open_ones-local}

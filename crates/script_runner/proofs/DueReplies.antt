@@ -1,5 +1,5 @@
 -- Which replies are due, row by row.
-use Rattle.std.proofs.Common.{◌≡◌, ℕ, zero, suc, ◌+◌, ◌<◌, ◌≤◌, get_or, Bool, true, false, List, [], ◌∷◌, ◌++◌, length, map, filter, find, drop, Option, Some, None, is_some, slice_get, refl, ap, sym, ◌∙◌, subst, arith, append_assoc, length-append}
+use Rattle.std.proofs.Common.{◌≡◌, ℕ, zero, suc, ◌+◌, ◌<◌, ◌≤◌, get_or, Bool, true, List, [], ◌∷◌, ◌++◌, length, map, filter, drop, Option, Some, None, slice_get, refl, ap, sym, ◌∙◌, subst, arith, append_assoc, length-append}
 use Rattle.std.specs.List.{cons_option, filter_map}
 use Rattle.std.proofs.lemmas.List.{append-nil, drop_all, drop_more}
 use Rattle.std.proofs.lemmas.Option.{slice_get-get_or}
@@ -12,11 +12,10 @@ use Rattle.dtx_values.specs.declared.number.EnlNo.{EnlNo}
 use Rattle.dtx_values.specs.declared.words.Outcome.{Outcome}
 use Rattle.dtx_values.specs.declared.words.Vote.{Vote}
 use Rattle.dtx_values.specs.declared.row.Row.{Row}
-use Rattle.dtx_values.specs.Row.{is_of}
 use Rattle.dtx_values.specs.Table.{rises_above}
 use Rattle.dtx_model.specs.declared.branch.Branch.{Branch}
 use Rattle.dtx_model.specs.Observed.{Observed}
-use Rattle.dtx_model.specs.Replies.{all_due, due_of, fits, is_answered, names, note_at, with_names, with_note}
+use Rattle.dtx_model.specs.Replies.{all_due, due_of, fits, is_answered, note_at, with_names, with_note}
 use Rattle.dtx_model.specs.Waiting.{owner_reply, planned, promote_reply, vote_reply}
 use Rattle.dtx_model.specs.Half.{Half}
 use Rattle.dtx_model.specs.Turns.{StepName, ReplyOf, replies_due}

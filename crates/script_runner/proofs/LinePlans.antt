@@ -1,5 +1,5 @@
 -- What a script plans for an enlistment is what its one line that makes it says, and the calls of a history say the same of the enlistments that stand.
-use Rattle.std.proofs.Common.{◌≡◌, ◌≢◌, ℕ, zero, suc, ◌==◌, Bool, true, false, ◌||◌, ◌⊎◌, inl, inr, List, [], ◌∷◌, Option, Some, None, is_some, slice_get, refl, ap, sym, subst, ◌∙◌}
+use Rattle.std.proofs.Common.{◌≡◌, ℕ, zero, suc, ◌==◌, Bool, true, false, ◌||◌, ◌⊎◌, inl, inr, List, [], ◌∷◌, Option, Some, None, is_some, slice_get, refl, ap, sym, subst, ◌∙◌}
 use Rattle.dtx_values.specs.declared.call.Call.{Call}
 use Rattle.dtx_values.specs.declared.call.Call.TheVariants.{Volatile, Durable, Promotable}
 use Rattle.dtx_values.specs.declared.entry.Answer.{Answer}
@@ -9,13 +9,11 @@ use Rattle.dtx_values.specs.declared.note.Plan.{Plan}
 use Rattle.dtx_values.specs.declared.number.ActorNo.{ActorNo}
 use Rattle.dtx_values.specs.declared.number.TxNo.{TxNo}
 use Rattle.dtx_values.specs.declared.script.Line.{Line}
-use Rattle.dtx_values.specs.Row.{is_of}
 use Rattle.dtx_model.specs.Words.{has, kth, latest, onto, or_else, past_of, put}
 use Rattle.dtx_model.specs.Calls.{call_of}
 use Rattle.dtx_model.specs.Grammar.{OfEnlistment, are_named_well}
-use Rattle.dtx_model.specs.Observed.{rows}
 use Rattle.dtx_model.specs.Waiting.{EnteredCall, or_silent, plan_by, plan_if, plan_of}
-use Rattle.dtx_model.specs.Causes.{calls_in, entered_at, entered_by, entered_in, plans_of}
+use Rattle.dtx_model.specs.Causes.{calls_in, entered_by, entered_in, plans_of}
 use Rattle.dtx_model.proofs.Bools.{or_case}
 use Rattle.dtx_model.proofs.Quiet.{Quiet}
 use Rattle.dtx_model.proofs.Reading.{has-onto}

@@ -1,5 +1,5 @@
 -- How many steps of a transaction can still come: each pending step makes it less.
-use Rattle.std.proofs.Common.{◌≡◌, ℕ, zero, suc, ◌+◌, ◌<◌, ◌≤◌, ◌==◌, Bool, true, false, ◌&&◌, ◌||◌, not, List, [], ◌∷◌, ◌++◌, find, Option, Some, None, is_some, if◌then◌else◌, slice_get, refl, ap, sym, ◌∙◌, subst, arith, ◌⊎◌, inl, inr}
+use Rattle.std.proofs.Common.{◌≡◌, ℕ, ◌<◌, ◌≤◌, ◌==◌, Bool, true, false, ◌&&◌, ◌||◌, not, List, [], ◌∷◌, find, Option, Some, None, is_some, if◌then◌else◌, refl, ap, sym, ◌∙◌, subst, arith, inl, inr}
 use Rattle.dtx_values.specs.declared.number.EnlNo.{EnlNo}
 use Rattle.dtx_values.specs.declared.entry.Ask.TheVariants.{Prepare}
 use Rattle.dtx_values.specs.declared.entry.Entry.{Entry}
@@ -16,7 +16,7 @@ use Rattle.dtx_values.specs.Row.{has_voted, is_marked, is_of, mark_in, mark_row,
 use Rattle.dtx_values.specs.declared.row.Row.{Row}
 use Rattle.dtx_values.specs.Table.{how_many, marks, voted_before, with_vote}
 use Rattle.dtx_model.specs.declared.listener.Listener.{Listener}
-use Rattle.dtx_model.specs.Words.{has, kth}
+use Rattle.dtx_model.specs.Words.{has}
 use Rattle.dtx_values.specs.Class.{is_class}
 use Rattle.dtx_model.specs.Observed.{Observed, hear, observe, track, track_all}
 use Rattle.dtx_model.specs.Outcome.{is_empty}
@@ -26,14 +26,12 @@ use Rattle.dtx_values.specs.Owners.{owner_of}
 use Rattle.dtx_model.specs.Acts.{act_entries as full_act, tell}
 use Rattle.dtx_model.specs.Half.{half_of}
 use Rattle.dtx_model.specs.Replies.{due_of, fits, reply_entries as full_reply}
-use Rattle.dtx_model.specs.Turns.{StepName, Step}
-use Rattle.dtx_model.specs.Waiting.{EnteredCall, managed, planned}
-use Rattle.dtx_model.specs.World.{half}
+use Rattle.dtx_model.specs.Waiting.{EnteredCall, managed}
 use Rattle.dtx_model.proofs.Narrow.{act_by, act_entries, after_seal, before_seal, commit_act, is_to_tell, reply_entries, undecided_act, veto_if}
 use Rattle.dtx_model.proofs.Narrowing.{act-narrow}
-use Rattle.dtx_model.proofs.NarrowReplies.{IsDue, OwesOutcome, OwesVote, due-narrow, reply-narrow}
+use Rattle.dtx_model.proofs.NarrowReplies.{IsDue, OwesVote, due-narrow, reply-narrow}
 use Rattle.dtx_model.proofs.Unpromoted.{are_local, half-local, narrow, observe-local}
-use Rattle.dtx_model.proofs.Bools.{and_left, and_right, and_both, not_false, or_right}
+use Rattle.dtx_model.proofs.Bools.{and_left, and_right, and_both, not_false}
 use Rattle.outcome_law.proofs.Scans.{has_more}
 use Rattle.outcome_law.proofs.Tests.{eq_self}
 use Rattle.outcome_law.proofs.TableRows.{there}

@@ -1,5 +1,5 @@
 -- Traces with nothing at the log: a turn puts its block after them, and no more.
-use Rattle.std.proofs.Common.{◌≡◌, ◌≤◌, ℕ, arith, ◌==◌, Bool, true, false, ◌&&◌, not, List, [], ◌∷◌, map, if◌then◌else◌, refl, ap, sym, ◌∙◌}
+use Rattle.std.proofs.Common.{◌≡◌, ◌≤◌, ℕ, arith, ◌==◌, Bool, true, false, ◌&&◌, not, List, [], ◌∷◌, if◌then◌else◌, refl, ap, ◌∙◌}
 use Rattle.dtx_values.specs.declared.call.Call.{Call}
 use Rattle.dtx_values.specs.declared.entry.Entry.{Entry}
 use Rattle.dtx_values.specs.declared.entry.Entry.TheVariants.{Freed, Logged, Promoting, Restarted, Stopped}
@@ -9,16 +9,15 @@ use Rattle.dtx_values.specs.declared.number.ActorNo.{ActorNo}
 use Rattle.dtx_values.specs.declared.number.EnlNo.{EnlNo}
 use Rattle.dtx_values.specs.declared.number.TxNo.{TxNo}
 use Rattle.dtx_values.specs.declared.script.Line.{Line}
-use Rattle.dtx_values.specs.declared.trace.Place.{Place}
 use Rattle.dtx_values.specs.declared.trace.Place.TheVariants.{Context, Log, Transaction}
 use Rattle.dtx_model.specs.Words.{each, has, onto}
-use Rattle.dtx_model.specs.AtLog.{at_log, faults, follow_log, follows_log, is_known, is_local_trace, is_log, is_log_up, open_right, stop_right, transactions, unless_said, up_of, is_stop, is_restart}
+use Rattle.dtx_model.specs.AtLog.{at_log, faults, follow_log, follows_log, is_local_trace, is_log_up, open_right, stop_right, transactions, unless_said, up_of, is_stop, is_restart}
 use Rattle.dtx_model.specs.Causes.{is_begin_sent, is_promoting_entry, is_unpromoted}
-use Rattle.dtx_model.specs.Replay.{Placed, entries_at, history, is_at, noted, placed}
+use Rattle.dtx_model.specs.Replay.{Placed, history, noted, placed}
 use Rattle.dtx_model.specs.Replays.{after_turn, block_in, stop_if}
-use Rattle.dtx_model.specs.Turns.{Step, Calls, Replies, Acts}
+use Rattle.dtx_model.specs.Turns.{Calls, Replies, Acts}
 use Rattle.dtx_model.specs.Words.{latest}
-use Rattle.script_runner.specs.RunState.{are_plain, is_plain}
+use Rattle.script_runner.specs.RunState.{are_plain}
 use Rattle.dtx_model.proofs.Bools.{and_both, and_left, and_never, and_right, not_false, not_true}
 use Rattle.outcome_law.proofs.Scans.{none_more}
 use Rattle.dtx_model.proofs.Unpromoted.{are_local, begin-local, is_local}

@@ -1,13 +1,12 @@
 -- The steps of one transaction in a row, and the rounds at the end of a replay.
-use Rattle.std.proofs.Common.{◌≡◌, ℕ, zero, suc, ◌+◌, ◌<◌, ◌≤◌, ◌==◌, Bool, true, false, List, [], ◌∷◌, Some, None, refl, ap, sym, ◌∙◌, subst, arith, inl, inr}
+use Rattle.std.proofs.Common.{◌≡◌, ℕ, zero, suc, ◌+◌, ◌<◌, ◌≤◌, ◌==◌, Bool, true, false, List, [], ◌∷◌, Some, None, refl, sym, ◌∙◌, subst, arith, inl, inr}
 use Rattle.std.proofs.lemmas.Bool.Decides.{eqb_tells, nat_tests}
 use Rattle.dtx_values.specs.declared.number.TxNo.{TxNo}
 use Rattle.dtx_values.specs.declared.entry.Entry.{Entry}
 use Rattle.dtx_values.specs.declared.entry.Entry.TheVariants.{Stopped}
 use Rattle.dtx_values.specs.declared.script.Line.{Line}
-use Rattle.dtx_model.specs.Words.{has, kth, onto, past_of}
-use Rattle.dtx_model.specs.AtLog.{is_log_up}
-use Rattle.dtx_model.specs.Causes.{IsNamed, Settled, is_begin_sent}
+use Rattle.dtx_model.specs.Words.{kth, onto, past_of}
+use Rattle.dtx_model.specs.Causes.{IsNamed, Settled}
 use Rattle.dtx_model.specs.Replay.{Placed, history, is_passed, placed}
 use Rattle.dtx_model.specs.Replays.{HasDoneAt, StepsRan, after_turn, block_in, is_in_replay, last_turn, stop_if, world_at}
 use Rattle.dtx_model.specs.Turns.{Step, Replies, Acts, StepName, pending}

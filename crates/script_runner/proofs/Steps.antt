@@ -1,25 +1,21 @@
 -- The steps of a run, by its halves: what each writes, and that it is the k-th that was pending.
-use Rattle.std.proofs.Common.{◌≡◌, ℕ, ◌<◌, ◌==◌, true, false, List, [], ◌∷◌, ◌++◌, Some, None, length, refl, ap, sym, ◌∙◌, subst}
+use Rattle.std.proofs.Common.{◌≡◌, ℕ, ◌<◌, true, List, [], ◌++◌, Some, None, refl, ap, sym, ◌∙◌, subst}
 use Rattle.std.proofs.lemmas.Bool.Decides.{Decides-eqb}
 use Rattle.dtx_values.specs.declared.call.Call.{Call}
 use Rattle.dtx_values.specs.declared.entry.Entry.{Entry}
 use Rattle.dtx_values.specs.declared.number.ActorNo.{ActorNo}
-use Rattle.dtx_values.specs.declared.number.EnlNo.{EnlNo}
 use Rattle.dtx_values.specs.declared.number.TxNo.{TxNo}
 use Rattle.dtx_values.specs.declared.script.Line.{Line}
 use Rattle.dtx_model.specs.Words.{kth, onto, past_of}
-use Rattle.dtx_model.specs.Acts.{act_entries}
-use Rattle.dtx_model.specs.Causes.{IsNamed, entered_in, plans_of, world_of}
+use Rattle.dtx_model.specs.Causes.{entered_in, plans_of, world_of}
 use Rattle.dtx_model.specs.Half.{Half}
 use Rattle.dtx_model.specs.Observed.{Observed, observe, track_all}
 use Rattle.dtx_model.specs.Replay.{Placed, history, placed}
 use Rattle.dtx_model.specs.Replays.{after_turn, block_in, world_at}
-use Rattle.dtx_model.specs.Replies.{reply_entries}
 use Rattle.dtx_model.specs.Turns.{Step, Calls, Replies, Acts, StepName, ReplyOf, LocalAct, block_at, entered, local_pending, pending}
-use Rattle.dtx_model.specs.Waiting.{managed}
 use Rattle.dtx_model.specs.World.{half}
 use Rattle.dtx_model.proofs.Histories.{history-same, observe-onto}
-use Rattle.dtx_model.proofs.Unpromoted.{at_home, half-local, narrow, observe-local}
+use Rattle.dtx_model.proofs.Unpromoted.{half-local}
 use Rattle.local_half.specs.Half.{IsAtHome, Known}
 use Rattle.script_runner.specs.Calling.{IsGiven, IsReady, call_block, is_answered, own_call}
 use Rattle.script_runner.specs.Pending.{IsStep}

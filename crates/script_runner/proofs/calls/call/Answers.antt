@@ -1,4 +1,4 @@
-use Rattle.std.proofs.Common.{◌∷◌, [], List, ap, refl, subst, sym, ◌∙◌}
+use Rattle.std.proofs.Common.{◌∷◌, [], List, ap, refl, sym, ◌∙◌}
 use Rattle.dtx_values.specs.Outgoing.{with}
 use Rattle.dtx_values.specs.declared.call.Call.{Call}
 use Rattle.dtx_values.specs.declared.call.Call.TheVariants.{Await, Do, Gone}

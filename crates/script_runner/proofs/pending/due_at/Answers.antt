@@ -1,4 +1,4 @@
-use Rattle.std.proofs.Common.{◌≡◌, [], List, ap, length, slice_get, sym, subst, ◌∙◌, arith, Some}
+use Rattle.std.proofs.Common.{List, ap, slice_get, sym, subst, ◌∙◌, arith}
 use Rattle.dtx_model.specs.Causes.{plans_of}
 use Rattle.dtx_model.specs.Half.{Half}
 use Rattle.dtx_model.specs.Turns.{ReplyOf, StepName}
@@ -17,9 +17,10 @@ returns-then-more-eq0 c =
     let none = ap (λ (g : Half). g.seen.branches) c.requires.same in
     let planned = c.planned_reply.ensures ∙ ap (planned_at (p x.number.value)) c.due_note.ensures in
     let here = due_here p o i x c.rows-x-items.result.now c.planned_reply.result c.rows-x-items.ensures.rows c.loop-x-test.true c.x-item.is planned in
-    let due = reply_here (row_reply p o) o.table c.args.k i c.loop-x.more x (ReplyOf x.number) c.loop-x.invariant c.if-more-eq0.true here.0 (here.1 ∙ ap (reply_of x.number) c.in-Some.is) in
-    (ap (λ (ms : List StepName). slice_get ms c.args.k) (rows_replies p h c.rows-x-items.ensures.rise none) ∙ due,
-    row_planned p o i x c.in-Some.reply c.rows-x-items.ensures.rise (row_at o i x c.rows-x-items.result.now c.rows-x-items.ensures.rows c.loop-x-test.true c.x-item.is) (sym planned ∙ c.in-Some.is))
+    let due = reply_here (row_reply p o) o.table c.args.k i c.loop-x.more x (ReplyOf x.number) c.loop-x.invariant c.if-more-eq0.true here.0 (here.1 ∙ ap (reply_of x.number) c.in-Some.is) in (
+      ap (λ (ms : List StepName). slice_get ms c.args.k) (rows_replies p h c.rows-x-items.ensures.rise none) ∙ due,
+      row_planned p o i x c.in-Some.reply c.rows-x-items.ensures.rise (row_at o i x c.rows-x-items.result.now c.rows-x-items.ensures.rows c.loop-x-test.true c.x-item.is) (sym planned ∙ c.in-Some.is),
+    )
 
 pub loop-x-preserved : goal.loop-x-preserved
 loop-x-preserved c =

@@ -1,4 +1,4 @@
-use Rattle.std.proofs.Common.{◌≡◌, ◌-◌, ap, true, is_some, sym, ◌∙◌}
+use Rattle.std.proofs.Common.{◌≡◌, ap, true, is_some, sym, ◌∙◌}
 use Rattle.dtx_model.specs.Causes.{plans_of}
 use Rattle.local_half.specs.Half.{fits_due}
 use Rattle.script_runner.proofs.DueReplies.{planned_fits}

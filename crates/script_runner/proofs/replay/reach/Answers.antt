@@ -1,4 +1,4 @@
-use Rattle.std.proofs.Common.{◌≡◌, ◌+◌, ◌∷◌, [], ◌++◌, List, Option, arith, subst, sym, vec_len, ◌∙◌}
+use Rattle.std.proofs.Common.{◌≡◌, ◌+◌, ◌∷◌, [], ◌++◌, List, Option, arith, subst, sym, ◌∙◌}
 use Rattle.std.specs.Prelude.{IfSome}
 use Rattle.dtx_values.specs.declared.number.TxNo.{TxNo}
 use Rattle.local_half.specs.Half.{Known}
@@ -19,6 +19,6 @@ loop-number-preserved c =
     record {
       at = omega (arith, c.in_ok-push.ensures.len, c.loop-number.invariant.at);
       tied = λ s T tied.
-      subst (λ (gs : List Known). AreTied s gs T) (sym {A = List Known} items)
-      (tied_more s hs T next c.in_ok-new.field-0 (omega (arith, value, c.loop-number.halves.ok.0, c.loop-number.invariant.at)) (c.in_ok-new.ensures ∙ known-blank s next) (c.loop-number.invariant.tied s T tied));
+          subst (λ (gs : List Known). AreTied s gs T) (sym {A = List Known} items)
+          (tied_more s hs T next c.in_ok-new.field-0 (omega (arith, value, c.loop-number.halves.ok.0, c.loop-number.invariant.at)) (c.in_ok-new.ensures ∙ known-blank s next) (c.loop-number.invariant.tied s T tied));
     }

@@ -1,11 +1,9 @@
-use Rattle.std.proofs.Common.{◌≡◌, ◌-◌, ◌++◌, List, [], ap, arith, refl, subst, sym, ◌∙◌}
-use Rattle.dtx_values.specs.declared.entry.Entry.{Entry}
+use Rattle.std.proofs.Common.{◌≡◌, ◌-◌, ◌++◌, [], arith, refl, subst, sym}
 use Rattle.dtx_model.specs.Observed.{observe}
 use Rattle.dtx_model.specs.Replay.{history, placed}
-use Rattle.dtx_model.specs.Replays.{after_turn, world_at}
-use Rattle.dtx_model.specs.Turns.{Calls, block_at, entered}
+use Rattle.dtx_model.specs.Replays.{after_turn}
+use Rattle.dtx_model.specs.Turns.{Calls, entered}
 use Rattle.dtx_model.specs.Words.{past_of}
-use Rattle.local_half.specs.Half.{IsAtHome, Known}
 use Rattle.script_runner.specs.Calling.{IsGiven, IsReady, call_block, own_call}
 use Rattle.script_runner.specs.RunState.{AreTied, RunState}
 use Rattle.script_runner.proofs.Steps.{call-goes, call-written, half-home, half-ready}
@@ -50,10 +48,12 @@ invariant_of-self-2 c =
     let written : c.append.new.trace.items ≡ c.self.inside.trace.items ++ placed c.args.t es =
     rw (c.append.ensures, c.entries.ensures.value, c.call.ensures.out, c.clear.ensures, c.reserve.ensures.items) refl in
     let ready = subst (λ (r : RunState). IsReady (observe (history c.args.t.value (past_of r.trace))) c.args.c.now) (sym c.self.view_is) c.requires.ready in
-    let given = subst (λ (r : RunState). IsGiven (own_call r.script c.args.n) c.args.c.now) (sym c.self.view_is) c.requires.given in
-    (rw place
-    (tied_after s _ c.self.inside.trace.items _ c.args.t h _ (entered (Calls c.args.n c.args.actor c.args.c.now c.args.done) []) es tied made here c.call.ensures.state written
-    (call-goes s c.reach.new.halves.items c.self.inside.trace.items c.args.t h c.args.n c.args.actor c.args.c.now c.args.done tied at given ready)), c.self.invariant.1)
+    let given = subst (λ (r : RunState). IsGiven (own_call r.script c.args.n) c.args.c.now) (sym c.self.view_is) c.requires.given in (
+      rw place
+          (tied_after s _ c.self.inside.trace.items _ c.args.t h _ (entered (Calls c.args.n c.args.actor c.args.c.now c.args.done) []) es tied made here c.call.ensures.state written
+          (call-goes s c.reach.new.halves.items c.self.inside.trace.items c.args.t h c.args.n c.args.actor c.args.c.now c.args.done tied at given ready)),
+      c.self.invariant.1,
+    )
 
 pub returns-clause-done : goal.returns-clause-done
 returns-clause-done c =

@@ -1,6 +1,4 @@
 use Rattle.std.proofs.Common.{◌≡◌, None, Option, Some, ap, sym, ◌∙◌}
-use Rattle.dtx_values.specs.declared.call.Call.{Call}
-use Rattle.dtx_values.specs.declared.number.TxNo.{TxNo}
 use Rattle.dtx_values.specs.declared.script.Line.{Line}
 use Rattle.dtx_model.specs.Calls.{call_of}
 use Rattle.script_runner.specs.Calling.{call_by, second}

@@ -1,6 +1,5 @@
 use Rattle.std.proofs.Common.{◌≡◌, ◌+◌, ◌∷◌, ◌++◌, suc, Some, true, List, ap, arith, drop, length, subst, sym, take, ◌∙◌}
 use Rattle.std.proofs.lemmas.List.{drop_more}
-use Rattle.dtx_values.specs.declared.call.Call.{Call}
 use Rattle.dtx_values.specs.declared.script.Line.{Line}
 use Rattle.dtx_model.specs.Grammar.{is_run_line}
 use Rattle.dtx_model.specs.Observed.{observe}

@@ -1,7 +1,5 @@
-use Rattle.std.proofs.Common.{◌≡◌, ℕ, suc, List, true, false, Ok, None, subst, sym, ◌∙◌}
+use Rattle.std.proofs.Common.{◌≡◌, suc, List, true, false, Ok, None, subst, sym, ◌∙◌}
 use Rattle.dtx_values.specs.declared.script.Line.{Line}
-use Rattle.dtx_model.specs.Causes.{Settled}
-use Rattle.dtx_model.specs.Replay.{history}
 use Rattle.dtx_model.specs.Replays.{world_at}
 use Rattle.dtx_model.specs.Turns.{pending}
 use Rattle.dtx_model.specs.Words.{kth, past_of}

@@ -1,12 +1,9 @@
-use Rattle.std.proofs.Common.{◌≡◌, ◌+◌, ◌-◌, ◌<◌, ◌≤◌, ◌++◌, [], List, arith, length, None, refl, subst, ap, sym, ◌∙◌}
-use Rattle.dtx_values.specs.declared.entry.Entry.{Entry}
-use Rattle.dtx_model.specs.Causes.{plans_of}
+use Rattle.std.proofs.Common.{◌≡◌, ◌-◌, ◌<◌, ◌≤◌, ◌++◌, [], arith, length, None, refl, subst}
 use Rattle.dtx_model.specs.Observed.{observe}
 use Rattle.dtx_model.specs.Replay.{history, placed}
 use Rattle.dtx_model.specs.Replays.{world_at}
-use Rattle.dtx_model.specs.Turns.{local_pending, pending}
+use Rattle.dtx_model.specs.Turns.{pending}
 use Rattle.dtx_model.specs.Words.{kth, past_of}
-use Rattle.local_half.specs.Half.{Known}
 use Rattle.script_runner.specs.Remaining.{steps_left}
 use Rattle.script_runner.specs.RunState.{Advances, RunState}
 use Rattle.script_runner.proofs.Steps.{advances, half-home, none-pending, step-goes, step-nearer}
@@ -48,9 +45,11 @@ invariant_of-self-2 c =
     let here = rw place at c.index_mut-half.ensures.value in
     let at = half-at s c.self.inside.halves.items c.self.inside.trace.items c.args.t h c.self.invariant.0 made here in
     let written : c.append.new.trace.items ≡ c.self.inside.trace.items ++ placed c.args.t did.entries =
-    rw (c.append.ensures, c.entries.ensures.value, did.written, c.clear.ensures, c.reserve.ensures.items) refl in
-    (rw place (tied_after s _ c.self.inside.trace.items _ c.args.t h _ [] did.entries c.self.invariant.0 made here did.state written
-    (step-goes s c.self.inside.halves.items c.self.inside.trace.items c.args.t h did.name did.step did.entries c.self.invariant.0 at did.named)), c.self.invariant.1)
+    rw (c.append.ensures, c.entries.ensures.value, did.written, c.clear.ensures, c.reserve.ensures.items) refl in (
+      rw place (tied_after s _ c.self.inside.trace.items _ c.args.t h _ [] did.entries c.self.invariant.0 made here did.state written
+          (step-goes s c.self.inside.halves.items c.self.inside.trace.items c.args.t h did.name did.step did.entries c.self.invariant.0 at did.named)),
+      c.self.invariant.1,
+    )
 
 pub returns-clause-some : goal.returns-clause-some
 returns-clause-some c k =
