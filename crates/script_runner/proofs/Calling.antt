@@ -1,54 +1,107 @@
 -- What a call writes and leaves.
-use Rattle.std.proofs.Common.{◌≡◌, ◌≢◌, ℕ, Bool, true, false, List, [], ◌∷◌, Option, Some, None, refl, ap}
+use Rattle.std.proofs.Common.{◌≡◌, ◌≢◌, ℕ, Bool, true, false, List, [], ◌∷◌, Option, Some, None, refl, ap, sym, ◌∙◌}
 use Rattle.dtx_values.specs.declared.call.Call.{Call}
-use Rattle.dtx_values.specs.declared.call.Call.TheVariants.{Await, Do, Gone}
+use Rattle.dtx_values.specs.declared.call.Call.TheVariants.{Durable, Promotable, Await, Do, Lose, Gone, Reenlist, Recovered}
 use Rattle.dtx_values.specs.declared.entry.Answer.{Answer}
-use Rattle.dtx_values.specs.declared.entry.Answer.TheVariants.{Did, Fine}
+use Rattle.dtx_values.specs.declared.entry.Answer.TheVariants.{Did, Fine, True, Wait}
 use Rattle.dtx_values.specs.declared.entry.Entry.{Entry}
-use Rattle.dtx_values.specs.declared.entry.Entry.TheVariants.{Called}
+use Rattle.dtx_values.specs.declared.entry.Entry.TheVariants.{Called, Lost as LostEntry}
 use Rattle.dtx_values.specs.declared.number.ActorNo.{ActorNo}
 use Rattle.dtx_values.specs.declared.number.EnlNo.{EnlNo}
+use Rattle.dtx_values.specs.declared.number.RmNo.{RmNo}
 use Rattle.dtx_values.specs.declared.number.TxNo.{TxNo}
-use Rattle.dtx_model.specs.Observed.{Observed, track, track_all}
-use Rattle.dtx_model.specs.Steps.{Calls, answer, await_answer, if_begun, block, facts_if, gone_answer, gone_facts, is_done, is_gone, stands}
-use Rattle.local_half.specs.Half.{Half, after, is_its_own}
-use Rattle.script_runner.specs.Calling.{is_answered}
+use Rattle.dtx_model.specs.Observed.{track}
+use Rattle.dtx_model.specs.Answers.{await_answer, call_entries, facts_if, gone_answer, has_facts, if_begun, local_answer}
+use Rattle.dtx_model.specs.Half.{Half, heeds, heeds_all, is_gone, sees, stands}
+use Rattle.dtx_model.specs.Waiting.{EnteredCall, managed_by}
+use Rattle.dtx_model.specs.Turns.{Calls, block_at}
+use Rattle.dtx_model.specs.World.{World, answer_at, gone_by, gone_unlinked, half}
+use Rattle.dtx_model.proofs.Narrow.{answer}
+use Rattle.dtx_model.proofs.NarrowCalls.{is_answered_here, local-narrow}
+use Rattle.dtx_model.proofs.NarrowFacts.{is_wait as is_wait_there, open_ones-local}
+use Rattle.dtx_model.proofs.Unpromoted.{are_local}
+use Rattle.local_half.specs.Half.{IsAtHome, Known, after, is_its_own, is_wait}
+use Rattle.outcome_law.proofs.Tests.{eq_self}
+use Rattle.dtx_model.proofs.Quiet.{Quiet, q_cons, q_gone_decides}
+use Rattle.dtx_values.specs.declared.message.Conn.{Conn}
+use Rattle.dtx_values.specs.declared.words.Outcome.{Outcome}
+use Rattle.script_runner.specs.Calling.{IsReady, call_block, called_with, is_answered}
+use Rattle.script_runner.proofs.ByLine.{heeds_all_same}
+use Rattle.script_runner.proofs.CallBlocks.{goes_on}
 
--- the entry of a call changes nothing of what is observed
-pub after-called : (h : Half) (n : ℕ) (a : ActorNo) (x : Answer) (es : List Entry) → after h (Called n a x ∷ es) ≡ after h es
-unfolding track track_all
-after-called h n a x es = refl
+-- a call that names no manager
+abbrev pub is_unmanaged : Call → Bool
+is_unmanaged (Durable t e r s) = false
+is_unmanaged (Promotable t e r v o p) = false
+is_unmanaged c = true
+
+manages_none : (c : Call) (ms : List (EnlNo × RmNo)) → is_unmanaged c ≡ true → managed_by (Some c) ms ≡ ms
+manages_none (Durable t e r s) ms u = absurd cc
+manages_none (Promotable t e r v o p) ms u = absurd cc
+manages_none _ ms u = refl
+
+-- the entry of such a call changes nothing of what is known
+heeds-called : (h : Half) (n : ℕ) (a : ActorNo) (c : Call) (x : Answer) → is_unmanaged c ≡ true → is_wait x ≡ false → heeds (record { line = n; actor = a; call = c } ∷ []) h (Called n a x) ≡ h
+unfolding track
+heeds-called h n a c Wait u k = absurd cc
+heeds-called h n a c Fine u k = rw (eq_self n, manages_none c h.managers u) refl
+heeds-called h n a c True u k = rw (eq_self n, manages_none c h.managers u) refl
+heeds-called h n a c _ u k = refl
+
+-- so only what follows it does
+pub after-called : (h : Known) (n : ℕ) (a : ActorNo) (c : Call) (x : Answer) (es : List Entry) → is_unmanaged c ≡ true → is_wait x ≡ false → Quiet es
+    → after (record { line = n; actor = a; call = c } ∷ []) h (Called n a x ∷ es) ≡ after [] h es
+unfolding heeds_all
+after-called h n a c x es u k q =
+    let mine : List EnteredCall = record { line = n; actor = a; call = c } ∷ [] in
+    ap (λ (g : Half). record { transaction = h.transaction; half = heeds_all mine g es }) (heeds-called h.half n a c x u k)
+    ∙ ap (λ (g : Half). record { transaction = h.transaction; half = g }) (heeds_all_same mine h.half es q)
 
 -- and alone it changes nothing
-pub called_alone : (h : Half) (n : ℕ) (a : ActorNo) (x : Answer) → h ≡ after h (Called n a x ∷ [])
-unfolding track track_all
-called_alone h n a x = refl
+pub called_alone : (h : Known) (n : ℕ) (a : ActorNo) (c : Call) (x : Answer) → is_unmanaged c ≡ true → is_wait x ≡ false
+    → h ≡ after (record { line = n; actor = a; call = c } ∷ []) h (Called n a x ∷ [])
+unfolding heeds_all
+called_alone h n a c x u k = ap (λ (g : Half). record { transaction = h.transaction; half = g }) (sym (heeds-called h.half n a c x u k))
 
--- a `gone` is done where it is answered ok
-gone_done : (limit : Option ℕ) (stands lost : Bool) (x : Answer) → x ≡ if_begun limit (gone_answer stands lost) → x ≢ Fine → is_done x ≡ false
+-- a `gone` is done where it is answered ok, and never waits
+gone_done : (limit : Option ℕ) (stands lost : Bool) (x : Answer) → x ≡ if_begun limit (gone_answer stands lost) → x ≢ Fine → has_facts x ≡ false
 gone_done None stands lost x e d = rw e refl
 gone_done (Some l) false lost x e d = rw e refl
 gone_done (Some l) true true x e d = rw e refl
 gone_done (Some l) true false x e d = absurd (d e)
 
+gone_waits : (limit : Option ℕ) (stands lost : Bool) → is_wait (if_begun limit (gone_answer stands lost)) ≡ false
+gone_waits None stands lost = refl
+gone_waits (Some l) false lost = refl
+gone_waits (Some l) true true = refl
+gone_waits (Some l) true false = refl
+
+pub gone_wait : (h : Half) (e : EnlNo) (x : Answer) → x ≡ if_begun h.seen.limit (gone_answer (stands h.seen e.value) (is_gone h.seen e.value)) → is_wait x ≡ false
+gone_wait h e x k = ap is_wait k ∙ gone_waits h.seen.limit (stands h.seen e.value) (is_gone h.seen e.value)
+
 -- the block of a `gone` that is answered ok
-pub gone_fine : (o : Observed) (n : ℕ) (a : ActorNo) (e : EnlNo) (x : Answer) → x ≡ if_begun o.limit (gone_answer (stands o e.value) (is_gone o e.value)) → x ≡ Fine
-    → block o (Calls n a (Gone e) 0) ≡ Called n a x ∷ gone_facts o e
-unfolding block answer
-gone_fine o n a e x k f = rw (← k, f) refl
+pub gone_fine : (t : ℕ) (h : Half) (n : ℕ) (a : ActorNo) (e : EnlNo) (x : Answer) → x ≡ if_begun h.seen.limit (gone_answer (stands h.seen e.value) (is_gone h.seen e.value)) → x ≡ Fine
+    → call_block t h n a (Gone e) 0 ≡ Called n a x ∷ gone_unlinked h e
+gone_fine t h n a e x k f = ap (λ (y : Answer). called_with t h n a (Gone e) y) (sym k) ∙ ap (λ (y : Answer). Called n a x ∷ facts_if (has_facts y) (gone_unlinked h e)) f
 
 -- the block of a `gone` that isn't
-pub gone_refused : (o : Observed) (n : ℕ) (a : ActorNo) (e : EnlNo) (x : Answer) → x ≡ if_begun o.limit (gone_answer (stands o e.value) (is_gone o e.value)) → x ≢ Fine
-    → block o (Calls n a (Gone e) 0) ≡ Called n a x ∷ []
-unfolding block answer
-gone_refused o n a e x k d = rw (← k, gone_done o.limit (stands o e.value) (is_gone o e.value) x k d) refl
+pub gone_refused : (t : ℕ) (h : Half) (n : ℕ) (a : ActorNo) (e : EnlNo) (x : Answer) → x ≡ if_begun h.seen.limit (gone_answer (stands h.seen e.value) (is_gone h.seen e.value)) → x ≢ Fine
+    → call_block t h n a (Gone e) 0 ≡ Called n a x ∷ []
+gone_refused t h n a e x k d =
+    ap (λ (y : Answer). called_with t h n a (Gone e) y) (sym k)
+    ∙ ap (λ (b : Bool). Called n a x ∷ facts_if b (gone_unlinked h e)) (gone_done h.seen.limit (stands h.seen e.value) (is_gone h.seen e.value) x k d)
+
+-- what it writes then enters no call
+pub gone_quiet : (h : Half) (e : EnlNo) → Quiet (gone_unlinked h e)
+gone_quiet h e = q_cons (LostEntry e) refl (q_gone_decides (sees h (LostEntry e)) e)
 
 -- the block of a call that the half answers, whatever was done for it
-pub own_block : (o : Observed) (n : ℕ) (a : ActorNo) (c : Call) (m : ℕ) → is_its_own c ≡ true → block o (Calls n a c 0) ≡ block o (Calls n a c m)
-unfolding block answer
-own_block o n a (Await t) m k = absurd cc
-own_block o n a (Do t j i) m k = absurd cc
-own_block o n a _ m k = refl
+pub own_block : (t : ℕ) (h : Half) (n : ℕ) (a : ActorNo) (c : Call) (m : ℕ) → is_its_own c ≡ true → call_entries t h n a c ≡ call_block t h n a c m
+unfolding local_answer
+own_block t h n a (Await u) m k = absurd cc
+own_block t h n a (Do u j i) m k = absurd cc
+own_block t h n a (Gone e) m k = absurd cc
+own_block t h n a _ m k = refl
 
 -- no facts are none
 facts_none : (b : Bool) → facts_if b [] ≡ []
@@ -56,19 +109,27 @@ facts_none true = refl
 facts_none false = refl
 
 -- the block of a `do`
-pub do_block : (o : Observed) (n : ℕ) (a : ActorNo) (t : TxNo) (k i m : ℕ) → block o (Calls n a (Do t k i) m) ≡ Called n a (if_begun o.limit (Did m)) ∷ []
-unfolding block answer
-do_block o n a t k i m = let x = if_begun o.limit (Did m) in ap (λ (es : List Entry). Called n a x ∷ es) (facts_none (is_done x))
+pub do_block : (t : ℕ) (h : Half) (n : ℕ) (a : ActorNo) (u : TxNo) (k i m : ℕ) → call_block t h n a (Do u k i) m ≡ Called n a (if_begun h.seen.limit (Did m)) ∷ []
+unfolding local_answer
+do_block t h n a u k i m = let x = if_begun h.seen.limit (Did m) in ap (λ (es : List Entry). Called n a x ∷ es) (facts_none (has_facts x))
 
 -- the block of an `await`
-pub await_block : (o : Observed) (n : ℕ) (a : ActorNo) (t : TxNo) (m : ℕ) → block o (Calls n a (Await t) m) ≡ Called n a (if_begun o.limit (await_answer o.told_client)) ∷ []
-unfolding block answer
-await_block o n a t m = let x = if_begun o.limit (await_answer o.told_client) in ap (λ (es : List Entry). Called n a x ∷ es) (facts_none (is_done x))
+pub await_block : (t : ℕ) (h : Half) (n : ℕ) (a : ActorNo) (u : TxNo) (m : ℕ) → call_block t h n a (Await u) m ≡ Called n a (if_begun h.seen.limit (await_answer h.seen.told_client)) ∷ []
+unfolding local_answer
+await_block t h n a u m = let x = if_begun h.seen.limit (await_answer h.seen.told_client) in ap (λ (es : List Entry). Called n a x ∷ es) (facts_none (has_facts x))
+
+pub did_wait : (l : Option ℕ) (m : ℕ) → is_wait (if_begun l (Did m)) ≡ false
+did_wait None m = refl
+did_wait (Some d) m = refl
+
+pub await_wait : (l : Option ℕ) (x : Option Outcome) → is_wait (if_begun l (await_answer x)) ≡ false
+await_wait None x = refl
+await_wait (Some d) (Some x) = refl
+await_wait (Some d) None = refl
 
 -- the block of a `gone`, whatever was done for it
-pub gone_block : (o : Observed) (n : ℕ) (a : ActorNo) (e : EnlNo) (m : ℕ) → block o (Calls n a (Gone e) 0) ≡ block o (Calls n a (Gone e) m)
-unfolding block answer
-gone_block o n a e m = refl
+pub gone_block : (t : ℕ) (h : Half) (n : ℕ) (a : ActorNo) (e : EnlNo) (m : ℕ) → call_block t h n a (Gone e) 0 ≡ call_block t h n a (Gone e) m
+gone_block t h n a e m = refl
 
 -- the half answers what is answered and is none of do, await and gone
 pub answers_itself : (c : Call) → is_answered c ≡ true → ((t : TxNo) → c ≡ Await t → ⊥) → ((t : TxNo) (k n : ℕ) → c ≡ Do t k n → ⊥) → ((e : EnlNo) → c ≡ Gone e → ⊥) → is_its_own c ≡ true
@@ -76,3 +137,30 @@ answers_itself (Await t) k a d g = absurd (a t refl)
 answers_itself (Do t j n) k a d g = absurd (d t j n refl)
 answers_itself (Gone e) k a d g = absurd (g e refl)
 answers_itself _ k a d g = k
+
+-- and then it doesn't wait
+wait_same : (x : Answer) → is_wait x ≡ is_wait_there x
+wait_same Wait = refl
+wait_same _ = refl
+
+answered_here : (c : Call) → is_its_own c ≡ true → is_answered_here c ≡ true
+answered_here (Lose t c u w) k = absurd cc
+answered_here (Gone e) k = absurd cc
+answered_here (Reenlist e) k = absurd cc
+answered_here (Recovered t r) k = absurd cc
+answered_here _ k = refl
+
+pub answer_goes_on : (t : ℕ) (h : Half) (c : Call) → IsAtHome h → is_its_own c ≡ true → IsReady h.seen c → is_wait (local_answer t h c 0) ≡ false
+answer_goes_on t h c home own ready =
+    ap (λ (g : Half). is_wait (local_answer t g c 0)) home.same ∙ ap is_wait (local-narrow t h.seen h.managers c 0 (answered_here c own)) ∙ wait_same (answer h.seen c 0) ∙ goes_on h.seen c 0 ready
+
+-- where nothing is promoted, the world's block is that of its local side
+pub block_here : (t : ℕ) (w : World) (n : ℕ) (a : ActorNo) (c : Call) (m : ℕ) → are_local w.past ≡ true → is_answered c ≡ true → call_block t (half w) n a c m ≡ block_at t w (Calls n a c m)
+unfolding block_at answer_at
+block_here t w n a (Gone e) m k r =
+    let x = if_begun (half w).seen.limit (gone_answer (stands (half w).seen e.value) (is_gone (half w).seen e.value)) in
+    ap (λ (cs : List Conn). Called n a x ∷ facts_if (has_facts x) (gone_by w e cs)) (sym (open_ones-local w e k))
+block_here t w n a (Lose u c i j) m k r = absurd cc
+block_here t w n a (Reenlist e) m k r = absurd cc
+block_here t w n a (Recovered u q) m k r = absurd cc
+block_here t w n a _ m k r = refl

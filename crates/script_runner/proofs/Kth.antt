@@ -2,29 +2,32 @@
 use Rattle.std.proofs.Common.{◌≡◌, ◌≢◌, ℕ, zero, suc, ◌+◌, ◌-◌, true, false, not, List, [], ◌∷◌, ◌++◌, length, Some, None, slice_get, refl, ap, sym, ◌∙◌, subst, arith}
 use Rattle.dtx_values.specs.Outgoing.{Outgoing, with}
 use Rattle.dtx_values.specs.declared.entry.Entry.{Entry}
+use Rattle.dtx_values.specs.declared.note.Plan.{Plan}
 use Rattle.dtx_values.specs.declared.note.Reply.{Reply}
 use Rattle.dtx_values.specs.declared.number.EnlNo.{EnlNo}
-use Rattle.dtx_values.specs.declared.script.Line.{Line}
 use Rattle.dtx_model.specs.Words.{kth}
-use Rattle.dtx_model.specs.Observed.{Observed, track_all}
 use Rattle.dtx_model.specs.Outcome.{is_empty}
-use Rattle.dtx_model.specs.Steps.{Replies, Acts, act_entries, act_if, block, due_replies, pending, reply_entries}
-use Rattle.local_half.specs.Half.{Half, after}
-use Rattle.script_runner.specs.Pending.{DoesKth}
+use Rattle.dtx_model.specs.Half.{Half, heeds_all}
+use Rattle.dtx_model.specs.Acts.{act_entries}
+use Rattle.dtx_model.specs.Replies.{reply_entries}
+use Rattle.dtx_model.specs.Turns.{Replies, Acts, ReplyOf, LocalAct, local_if, local_pending, replies_due}
+use Rattle.dtx_model.proofs.Bools.{not_true}
+use Rattle.local_half.specs.Half.{Known, after}
+use Rattle.script_runner.specs.Pending.{DoesKth, IsPlanned}
 
--- the entries of an act, and whether there are any
-act_if-some : (es : List Entry) → not (is_empty es) ≡ true → act_if es ≡ Acts ∷ []
+-- the act, where it has entries
+act_if-some : (es : List Entry) → not (is_empty es) ≡ true → local_if es ≡ LocalAct ∷ []
 act_if-some [] k = cc
 act_if-some (x ∷ xs) k = refl
 
--- where there are none, no act is there
-act_if-none : (es : List Entry) → not (is_empty es) ≡ false → act_if es ≡ []
+-- where it has none, it isn't there
+act_if-none : (es : List Entry) → not (is_empty es) ≡ false → local_if es ≡ []
 act_if-none [] k = refl
 act_if-none (x ∷ xs) k = cc
 
 -- an empty block changes nothing
-pub after-none : (h : Half) (es : List Entry) → not (is_empty es) ≡ false → after h es ≡ h
-unfolding track_all
+pub after-none : (h : Known) (es : List Entry) → not (is_empty es) ≡ false → after [] h es ≡ h
+unfolding heeds_all
 after-none h [] k = refl
 after-none h (x ∷ xs) k = cc
 
@@ -48,42 +51,48 @@ at_second {A = A} xs ys k n e = subst (λ j. slice_get (xs ++ ys) j ≡ slice_ge
     go (z ∷ zs) = let shift : length (z ∷ zs) + n ≡ suc (length zs + n) = omega arith in ap (slice_get ((z ∷ zs) ++ ys)) shift ∙ go zs
 
 -- a reply that is due at the place before k is the k-th step
-pub does_reply : (s : List Line) (k : ℕ) (old new : Half) (out after_it : Outgoing) (e : EnlNo) (r : Reply) → k ≢ 0 → slice_get (due_replies s old.seen) (k - 1) ≡ Some (Replies e r)
-    → new ≡ after old (reply_entries e r) → after_it ≡ with out (reply_entries e r) → DoesKth s k old new out after_it
-unfolding block pending
-does_reply s k old new out after_it e r d due state written =
+pub does_reply : (p : ℕ → Plan) (k : ℕ) (old new : Known) (out after_it : Outgoing) (e : EnlNo) (r : Reply) → k ≢ 0 → slice_get (replies_due p old.half) (k - 1) ≡ Some (ReplyOf e)
+    → IsPlanned p old.half.seen e r → new ≡ after [] old (reply_entries old.half e r) → after_it ≡ with out (reply_entries old.half e r) → DoesKth p k old new out after_it
+unfolding local_pending
+does_reply p k old new out after_it e r d due planned state written =
     record {
+      name = ReplyOf e;
       step = Replies e r;
-      stands = kth-place (pending s old.seen) k d ∙ at_first (due_replies s old.seen) (act_if (act_entries old.seen)) (k - 1) (Replies e r) due;
+      entries = reply_entries old.half e r;
+      stands = kth-place (local_pending p old.half) k d ∙ at_first (replies_due p old.half) (local_if (act_entries old.half)) (k - 1) (ReplyOf e) due;
+      named = (r, planned, refl, refl);
       state = state;
       written = written;
     }
 
 -- the act stands behind the replies
-pub does_act : (s : List Line) (k n : ℕ) (old new : Half) (out after_it : Outgoing) → k ≢ 0 → k - 1 ≡ length (due_replies s old.seen) + n → n ≡ 0 → not (is_empty (act_entries old.seen)) ≡ true
-    → new ≡ after old (act_entries old.seen) → after_it ≡ with out (act_entries old.seen) → DoesKth s k old new out after_it
-unfolding block pending
-does_act s k n old new out after_it d place z acts state written =
-    let o : Observed = old.seen in
+pub does_act : (p : ℕ → Plan) (k n : ℕ) (old new : Known) (out after_it : Outgoing) → k ≢ 0 → k - 1 ≡ length (replies_due p old.half) + n → n ≡ 0 → not (is_empty (act_entries old.half)) ≡ true
+    → new ≡ after [] old (act_entries old.half) → after_it ≡ with out (act_entries old.half) → DoesKth p k old new out after_it
+unfolding local_pending
+does_act p k n old new out after_it d place z acts state written =
+    let h : Half = old.half in
     record {
+      name = LocalAct;
       step = Acts;
-      stands = kth-place (pending s o) k d ∙ (at_second (due_replies s o) (act_if (act_entries o)) (k - 1) 0 (omega (arith, place, z)) ∙ ap (λ ms. slice_get ms 0) (act_if-some (act_entries o) acts));
+      entries = act_entries h;
+      stands = kth-place (local_pending p h) k d ∙ (at_second (replies_due p h) (local_if (act_entries h)) (k - 1) 0 (omega (arith, place, z)) ∙ ap (λ ms. slice_get ms 0) (act_if-some (act_entries h) acts));
+      named = (not_true (is_empty (act_entries h)) acts, refl, refl);
       state = state;
       written = written;
     }
 
 -- where no act is there, nothing stands behind the replies
-pub no_act : (s : List Line) (k n : ℕ) (o : Observed) → k ≢ 0 → k - 1 ≡ length (due_replies s o) + n → n ≡ 0 → not (is_empty (act_entries o)) ≡ false → kth (pending s o) k ≡ None
-unfolding pending
-no_act s k n o d place z acts =
-    kth-place (pending s o) k d ∙ (at_second (due_replies s o) (act_if (act_entries o)) (k - 1) 0 (omega (arith, place, z)) ∙ ap (λ ms. slice_get ms 0) (act_if-none (act_entries o) acts))
+pub no_act : (p : ℕ → Plan) (k n : ℕ) (h : Half) → k ≢ 0 → k - 1 ≡ length (replies_due p h) + n → n ≡ 0 → not (is_empty (act_entries h)) ≡ false → kth (local_pending p h) k ≡ None
+unfolding local_pending
+no_act p k n h d place z acts =
+    kth-place (local_pending p h) k d ∙ (at_second (replies_due p h) (local_if (act_entries h)) (k - 1) 0 (omega (arith, place, z)) ∙ ap (λ ms. slice_get ms 0) (act_if-none (act_entries h) acts))
 
 -- nothing stands behind the act
-pub beyond_act : (s : List Line) (k n : ℕ) (o : Observed) → k ≢ 0 → k - 1 ≡ length (due_replies s o) + n → n ≢ 0 → kth (pending s o) k ≡ None
-unfolding pending
-beyond_act s k n o d place more = kth-place (pending s o) k d ∙ (at_second (due_replies s o) (act_if (act_entries o)) (k - 1) n place ∙ beyond (act_entries o) n more)
+pub beyond_act : (p : ℕ → Plan) (k n : ℕ) (h : Half) → k ≢ 0 → k - 1 ≡ length (replies_due p h) + n → n ≢ 0 → kth (local_pending p h) k ≡ None
+unfolding local_pending
+beyond_act p k n h d place more = kth-place (local_pending p h) k d ∙ (at_second (replies_due p h) (local_if (act_entries h)) (k - 1) n place ∙ beyond (act_entries h) n more)
   where
-    beyond : (es : List Entry) (n : ℕ) → n ≢ 0 → slice_get (act_if es) n ≡ None
+    beyond : (es : List Entry) (n : ℕ) → n ≢ 0 → slice_get (local_if es) n ≡ None
     beyond es zero d = absurd (d refl)
     beyond [] (suc n) d = refl
     beyond (x ∷ xs) (suc n) d = refl

@@ -1,5 +1,5 @@
 -- How many steps of a transaction can still come: each pending step makes it less.
-use Rattle.std.proofs.Common.{◌≡◌, ℕ, zero, suc, ◌+◌, ◌<◌, ◌≤◌, ◌==◌, Bool, true, false, ◌&&◌, ◌||◌, not, List, [], ◌∷◌, ◌++◌, find, Option, Some, None, is_some, if◌then◌else◌, slice_get, refl, ap, sym, ◌∙◌, subst, arith, ◌⊎◌, inl, inr}
+use Rattle.std.proofs.Common.{◌≡◌, ℕ, ◌<◌, ◌≤◌, ◌==◌, Bool, true, false, ◌&&◌, ◌||◌, not, List, [], ◌∷◌, find, Option, Some, None, is_some, if◌then◌else◌, refl, ap, sym, ◌∙◌, subst, arith, inl, inr}
 use Rattle.dtx_values.specs.declared.number.EnlNo.{EnlNo}
 use Rattle.dtx_values.specs.declared.entry.Ask.TheVariants.{Prepare}
 use Rattle.dtx_values.specs.declared.entry.Entry.{Entry}
@@ -7,8 +7,8 @@ use Rattle.dtx_values.specs.declared.entry.Entry.TheVariants.{Asked, Decided, Ha
 use Rattle.dtx_values.specs.declared.note.Note.{Note}
 use Rattle.dtx_values.specs.declared.note.Note.TheVariants.{Prepare as PrepareNote, Hand as HandNote}
 use Rattle.dtx_values.specs.declared.note.Reply.{Reply}
-use Rattle.dtx_values.specs.declared.note.Reply.TheVariants.{Vote as VoteReply, Owner as OwnerReply}
-use Rattle.dtx_values.specs.declared.script.Line.{Line}
+use Rattle.dtx_values.specs.declared.note.Reply.TheVariants.{Vote as VoteReply, Promote as Promotes, Owner as OwnerReply, Ack}
+use Rattle.dtx_values.specs.declared.note.Plan.{Plan}
 use Rattle.dtx_values.specs.declared.words.Outcome.{Outcome}
 use Rattle.dtx_values.specs.declared.words.Outcome.TheVariants.{Committed}
 use Rattle.dtx_values.specs.declared.words.Vote.{Vote}
@@ -16,40 +16,29 @@ use Rattle.dtx_values.specs.Row.{has_voted, is_marked, is_of, mark_in, mark_row,
 use Rattle.dtx_values.specs.declared.row.Row.{Row}
 use Rattle.dtx_values.specs.Table.{how_many, marks, voted_before, with_vote}
 use Rattle.dtx_model.specs.declared.listener.Listener.{Listener}
-use Rattle.dtx_model.specs.Words.{has, kth}
+use Rattle.dtx_model.specs.Words.{has}
 use Rattle.dtx_values.specs.Class.{is_class}
-use Rattle.dtx_model.specs.Observed.{Observed, hear, track, track_all}
+use Rattle.dtx_model.specs.Observed.{Observed, hear, observe, track, track_all}
 use Rattle.dtx_model.specs.Outcome.{is_empty}
 use Rattle.dtx_values.specs.Vote.{is_no}
 use Rattle.dtx_values.specs.Waves.{all_voted, is_over, may_be_asked, name_of, next_ask}
 use Rattle.dtx_values.specs.Owners.{owner_of}
-use Rattle.dtx_model.specs.Steps.{Step, Acts, Replies, act_by, act_entries, act_if, before_seal, after_seal, block, commit_act, due_note, due_replies, is_gone, is_handed, is_to_tell, open_note, owner_reply, pending, planned_owner, planned_reply, planned_vote, reply_entries, tell, undecided_act, veto_if, vote_reply}
-use Rattle.dtx_model.proofs.Bools.{and_left, and_right, and_both, or_right}
+use Rattle.dtx_model.specs.Acts.{act_entries as full_act, tell}
+use Rattle.dtx_model.specs.Half.{half_of}
+use Rattle.dtx_model.specs.Replies.{due_of, fits, reply_entries as full_reply}
+use Rattle.dtx_model.specs.Waiting.{EnteredCall, managed}
+use Rattle.dtx_model.proofs.Narrow.{act_by, act_entries, after_seal, before_seal, commit_act, is_to_tell, reply_entries, undecided_act, veto_if}
+use Rattle.dtx_model.proofs.Narrowing.{act-narrow}
+use Rattle.dtx_model.proofs.NarrowReplies.{IsDue, OwesVote, due-narrow, reply-narrow}
+use Rattle.dtx_model.proofs.Unpromoted.{are_local, half-local, narrow, observe-local}
+use Rattle.dtx_model.proofs.Bools.{and_left, and_right, and_both, not_false}
 use Rattle.outcome_law.proofs.Scans.{has_more}
 use Rattle.outcome_law.proofs.Tests.{eq_self}
 use Rattle.outcome_law.proofs.TableRows.{there}
 use Rattle.script_runner.proofs.Counting.{falls, find-passes, has-found, how_many-map-le, how_many-map-lt}
-use Rattle.script_runner.proofs.DueReplies.{IsDue, is_reply, reply_due}
-
--- tests that tell an item that still has a step from one that hasn't
-abbrev pub unmarked : Row → Bool
-unmarked x = not (is_marked x)
-
-abbrev pub unvoted : Row → Bool
-unvoted x = not (has_voted x)
-
-abbrev pub untold : Listener → Bool
-untold l = not l.told
-
-abbrev pub one_unless : Bool → ℕ
-one_unless true = 0
-one_unless false = 1
-
--- the asks, votes and notifications that can still come, the seal, the handing, the decision, and the client's notification
-unfoldable pub steps_left : Observed → ℕ
-steps_left o =
-    how_many unmarked o.table + how_many unvoted o.table + how_many untold o.listeners + one_unless o.sealed + one_unless (is_some o.handed)
-    + one_unless (is_some o.decided) + one_unless (is_some o.told_client)
+use Rattle.script_runner.specs.Pending.{IsPlanned}
+use Rattle.script_runner.specs.Remaining.{one_unless, steps_left, unmarked, untold, unvoted}
+use Rattle.script_runner.proofs.DueReplies.{planned_fits}
 
 mark_keeps_unmarked : (e n : ℕ) (x : Row) → unmarked (mark_in e n x) ≡ true → unmarked x ≡ true
 mark_keeps_unmarked e n x k = step (is_of e x) k
@@ -201,77 +190,42 @@ steps_left-act o None d k =
     steps_left-open o o.commit o.sealed (next_ask o.table true) (next_ask o.table false) (is_over o.table o.clones 0) (all_voted o.table) (commit_act (is_some o.handed) (owner_of o.table)) refl refl refl
     (steps_left-commit o (is_some o.handed) (owner_of o.table) refl d) k
 
--- where a reply is due, nothing is decided
-due_undecided : (o : Observed) (x : Row) (n : Note) → due_note o x ≡ Some n → o.decided ≡ None
-due_undecided o x n k = step o.decided refl (is_gone o x.number.value) k
-  where
-    step : (d : Option Outcome) → o.decided ≡ d → (lost : Bool) → (if is_some d || lost then None else open_note (is_marked x && not (has_voted x)) (is_handed o.handed x.number.value)) ≡ Some n → d ≡ None
-    step (Some y) e lost k = absurd (cc)
-    step None e lost k = refl
+-- where a vote is owed, a row of the enlistment is marked and hasn't voted
+vote_falls : (o : Observed) (e : EnlNo) (v : Vote) (n : Note) → OwesVote o e.value n → steps_left (track_all o (reply_entries e (VoteReply v))) < steps_left o
+vote_falls o e v n d =
+    let found : is_of e.value d.row ≡ true = find-passes (is_of e.value) d.row o.table d.stands in
+    let some = has-found (is_of e.value) (λ y. is_of e.value y && (is_marked y && unvoted y)) d.row o.table d.stands
+    (and_both (is_of e.value d.row) (is_marked d.row && unvoted d.row) found (and_both (is_marked d.row) (unvoted d.row) d.asked (not_false (has_voted d.row) d.unvoted))) in
+    steps_left-voted o e v (is_no v) some
 
--- where a vote is due, the row is marked and hasn't voted
-due_unvoted : (o : Observed) (x : Row) → due_note o x ≡ Some PrepareNote → (is_marked x && unvoted x) ≡ true
-due_unvoted o x k = step (is_some o.decided || is_gone o x.number.value) (is_marked x && unvoted x) (is_handed o.handed x.number.value) k
-  where
-    step : (over asked handed : Bool) → (if over then None else open_note asked handed) ≡ Some PrepareNote → asked ≡ true
-    step true asked handed k = absurd (cc)
-    step false true handed k = refl
-    step false false true k = absurd (cc)
-    step false false false k = absurd (cc)
+undecided : (d : Option Outcome) → is_some d ≡ false → d ≡ None
+undecided (Some x) k = absurd cc
+undecided None k = refl
 
--- a row at a place that passes is one that passes
-has-at : {A : Type 0} (p : A → Bool) (xs : List A) (k : ℕ) (x : A) → slice_get xs k ≡ Some x → p x ≡ true → has p xs ≡ true
-has-at p [] k x f h = absurd (cc)
-has-at p (y ∷ ys) zero x f h = let same : x ≡ y = cc in rw (← same, h) refl
-has-at p (y ∷ ys) (suc k) x f h = or_right (p y) (has p ys) (has-at p ys k x f h)
+reply_falls : (o : Observed) (e : EnlNo) (r : Reply) (n : Note) → fits r n ≡ true → IsDue o e.value n → steps_left (track_all o (reply_entries e r)) < steps_left o
+reply_falls o e (VoteReply v) n f (inl d) = vote_falls o e v n d
+reply_falls o e (OwnerReply x) n f (inr d) = steps_left-owned o e x (undecided o.decided d.open_yet)
+reply_falls o e (VoteReply v) n f (inr d) = let no : n ≡ HandNote = d.note in absurd cc
+reply_falls o e (OwnerReply x) n f (inl d) = let no : n ≡ PrepareNote = d.note in absurd cc
+reply_falls o e (Promotes b) n f (inl d) = let no : n ≡ PrepareNote = d.note in absurd cc
+reply_falls o e (Promotes b) n f (inr d) = let no : n ≡ HandNote = d.note in absurd cc
+reply_falls o e Ack n f (inl d) = let no : n ≡ PrepareNote = d.note in absurd cc
+reply_falls o e Ack n f (inr d) = let no : n ≡ HandNote = d.note in absurd cc
 
--- a reply
-steps_left-replied : (s : List Line) (o : Observed) (j : ℕ) (x : Row) (n : Note) (r : Reply) → slice_get o.table j ≡ Some x → due_note o x ≡ Some n → planned_reply s x.number.value (Some n) ≡ Some r
-    → steps_left (track_all o (reply_entries x.number r)) < steps_left o
-steps_left-replied s o j x PrepareNote r stands due planned = by (planned_vote s x.number.value) planned
-  where
-    by : (v : Option Vote) → vote_reply v ≡ Some r → steps_left (track_all o (reply_entries x.number r)) < steps_left o
-    by None k = absurd (cc)
-    by (Some v) k =
-        let some = has-at (λ y. is_of x.number.value y && (is_marked y && unvoted y)) o.table j x stands (and_both (is_of x.number.value x) (is_marked x && unvoted x) (eq_self x.number.value) (due_unvoted o x due)) in
-        let same : VoteReply v ≡ r = cc in subst (λ (y : Reply). steps_left (track_all o (reply_entries x.number y)) < steps_left o) same (steps_left-voted o x.number v (is_no v) some)
-steps_left-replied s o j x HandNote r stands due planned = by (planned_owner s x.number.value) planned
-  where
-    by : (y : Option Outcome) → owner_reply y ≡ Some r → steps_left (track_all o (reply_entries x.number r)) < steps_left o
-    by None k = absurd (cc)
-    by (Some y) k =
-        let same : OwnerReply y ≡ r = cc in
-        subst (λ (z : Reply). steps_left (track_all o (reply_entries x.number z)) < steps_left o) same (steps_left-owned o x.number y (due_undecided o x HandNote due))
-steps_left-replied s o j x _ r stands due planned = absurd (cc)
+-- a reply that is due and planned, in a history in which nothing is promoted
+pub steps_left-reply : (p : ℕ → Plan) (ks : List EnteredCall) (h : List Entry) (e : EnlNo) (r : Reply) → are_local h ≡ true → IsPlanned p (observe h) e r
+    → steps_left (track_all (observe h) (full_reply (half_of ks h) e r)) < steps_left (observe h)
+steps_left-reply p ks h e r k d =
+    let fit : fits r d.note ≡ true = planned_fits (p e.value) d.note r d.answers in
+    let due : due_of (narrow (observe h)) e.value ≡ Some d.note = ap (λ (o : Observed). due_of o e.value) (sym (observe-local h k)) ∙ d.due in
+    let same : full_reply (half_of ks h) e r ≡ reply_entries e r = ap (λ g. full_reply g e r) (half-local ks h k) ∙ reply-narrow (observe h) (managed ks h) e r d.note due fit in
+    subst (λ (es : List Entry). steps_left (track_all (observe h) es) < steps_left (observe h)) (sym same) (reply_falls (observe h) e r d.note fit (due-narrow (observe h) e.value d.note due))
 
--- the item at a place of two lists together stands in one of them
-at_append : {A : Type 0} (xs ys : List A) (k : ℕ) (x : A) → slice_get (xs ++ ys) k ≡ Some x → ((j : ℕ) × (slice_get xs j ≡ Some x)) ⊎ ((j : ℕ) × (slice_get ys j ≡ Some x))
-at_append [] ys k x e = inr (k, e)
-at_append (z ∷ xs) ys zero x e = inl (0, e)
-at_append (z ∷ xs) ys (suc k) x e = elim (at_append xs ys k x e) [ inl i ↦ inl (suc i.0, i.1) | inr i ↦ inr i ]
-
--- each pending step makes it less
-pub steps_left-pending : (s : List Line) (o : Observed) (k : ℕ) (step : Step) → kth (pending s o) k ≡ Some step → steps_left (track_all o (block o step)) < steps_left o
-unfolding pending block act_entries
-steps_left-pending s o zero step e = absurd (cc)
-steps_left-pending s o (suc k) step e =
-    elim (at_append (due_replies s o) (act_if (act_entries o)) k step e) [ inl i ↦ replies i.0 step i.1 | inr i ↦ acts (act_entries o) refl i.0 i.1 ]
-  where
-    replied : (j : ℕ) (e : EnlNo) (r : Reply) → slice_get (due_replies s o) j ≡ Some (Replies e r) → steps_left (track_all o (reply_entries e r)) < steps_left o
-    replied j e r f =
-        let d : IsDue s o e r = reply_due s o j e r f in
-        subst (λ (g : EnlNo). steps_left (track_all o (reply_entries g r)) < steps_left o) d.of_it
-        (steps_left-replied s o d.place d.row d.note r d.stands d.due (ap (λ (g : EnlNo). planned_reply s g.value (Some d.note)) d.of_it ∙ d.planned))
-
-    replies : (j : ℕ) (m : Step) → slice_get (due_replies s o) j ≡ Some m → steps_left (track_all o (block o m)) < steps_left o
-    replies j m f =
-        let i = is_reply s o j m f in
-        subst (λ (n : Step). steps_left (track_all o (block o n)) < steps_left o) (sym i.2) (replied j i.0 i.1 (f ∙ ap Some i.2))
-
-    acts : (es : List Entry) → act_entries o ≡ es → (j : ℕ) → slice_get (act_if es) j ≡ Some step → steps_left (track_all o (block o step)) < steps_left o
-    acts [] e j f = absurd (cc)
-    acts (x ∷ xs) e zero f =
-        let same : Acts ≡ step = cc in
-        let some : not (is_empty (act_entries o)) ≡ true = rw e refl in
-        subst (λ (m : Step). steps_left (track_all o (block o m)) < steps_left o) same (steps_left-act o o.decided refl some)
-    acts (x ∷ xs) e (suc j) f = absurd (cc)
+-- the local act, where there is one
+pub steps_left-acts : (ks : List EnteredCall) (h : List Entry) → are_local h ≡ true → is_empty (full_act (half_of ks h)) ≡ false
+    → steps_left (track_all (observe h) (full_act (half_of ks h))) < steps_left (observe h)
+unfolding act_entries
+steps_left-acts ks h k some =
+    let same : full_act (half_of ks h) ≡ act_by (observe h).decided (observe h) = ap full_act (half-local ks h k) ∙ act-narrow (observe h) (managed ks h) in
+    subst (λ (es : List Entry). steps_left (track_all (observe h) es) < steps_left (observe h)) (sym same)
+    (steps_left-act (observe h) (observe h).decided refl (not_false (is_empty (act_by (observe h).decided (observe h))) (ap is_empty (sym same) ∙ some)))

@@ -14,14 +14,17 @@ use Rattle.dtx_values.specs.declared.number.ScopeNo.{ScopeNo}
 use Rattle.dtx_values.specs.declared.number.TxNo.{TxNo}
 use Rattle.dtx_values.specs.declared.scope.OpenScope.{OpenScope}
 use Rattle.dtx_values.specs.declared.script.Body.{Body}
-use Rattle.dtx_values.specs.declared.script.Body.TheVariants.{Open, Finish, Close, Current}
+use Rattle.dtx_values.specs.declared.script.Body.TheVariants.{Open, Finish, Close, Current, Stop, Restart}
 use Rattle.dtx_values.specs.declared.script.Line.{Line}
 use Rattle.dtx_model.specs.Words.{has, each, always, onto, past_of, put}
 use Rattle.dtx_model.specs.Scopes.{ScopeEntry, Opens, Finishes, Closes, close_answer, closes, finish_answer, enter_answer, entering, finishes, is_scope, open_before, open_scopes, taken_off}
 use Rattle.dtx_model.specs.Contexts.{called_with, entries_if, entries_of, isolation_in, name_in, option_in, scope_answer, scope_block, scope_calls, scope_entries, scopes_of, took_off}
-use Rattle.dtx_model.specs.Grammar.{OfScope, are_named_well, is_made, is_named_well, makes, opening_makes, same_name, uses}
-use Rattle.dtx_model.specs.Replay.{CallRan, LineRan, LinesRan, Placed, after_calls, after_scope, after_step, noted}
-use Rattle.dtx_model.specs.Steps.{Calls, call_of, is_fine}
+use Rattle.dtx_model.specs.Grammar.{OfScope, are_named_well, is_made, is_named_well, is_run, is_run_line, makes, opening_makes, same_name, uses}
+use Rattle.dtx_model.specs.Replay.{Placed, noted}
+use Rattle.dtx_model.specs.Replays.{CallRan, LineRan, LinesRan, after_calls, after_scope, after_turn}
+use Rattle.dtx_model.specs.Calls.{call_of}
+use Rattle.dtx_model.specs.Contexts.{is_fine}
+use Rattle.dtx_model.specs.Turns.{Calls}
 use Rattle.dtx_model.proofs.Bools.{and_left, not_both, not_true, or_case, or_right}
 use Rattle.dtx_model.proofs.Histories.{onto-append}
 use Rattle.dtx_model.proofs.Pasts.{always-before, length-past}
@@ -83,27 +86,27 @@ no_scope_call s Current c xs e = absurd (cc)
 no_scope_call s _ c xs e = refl
 
 -- after a line that isn't answered at a context the trace is the same
-pub after_scope-none : (n : ℕ) (l : Line) (xs : List OpenScope) (T : List Placed) → scope_answer l.body xs ≡ None → after_scope n l xs T ≡ T
-after_scope-none n l xs T none =
+pub after_scope-none : (s : List Line) (n : ℕ) (l : Line) (xs : List OpenScope) (T : List Placed) → scope_answer l.body xs ≡ None → after_scope s n l xs T ≡ T
+after_scope-none s n l xs T none =
     let block : scope_block n l.actor l.body xs ≡ [] = ap (λ (a : Option Answer). called_with n l.actor a (scope_entries l.body xs)) none in
     let given : scope_calls l.body xs ≡ [] = (no_scope_line l.body xs none).1 in
-    ap (λ (cs : List (TxNo × Call)). after_calls n l.actor cs (onto T (noted l.actor (scope_block n l.actor l.body xs)))) given
+    ap (λ (cs : List (TxNo × Call)). after_calls s n l.actor cs (onto T (noted l.actor (scope_block n l.actor l.body xs)))) given
     ∙ ap (λ (es : List Entry). onto T (noted l.actor es)) block
 
 -- calls in a row, and one more
-pub after_calls-more : (n : ℕ) (a : ActorNo) (cs ds : List (TxNo × Call)) (T : List Placed) → after_calls n a (cs ++ ds) T ≡ after_calls n a ds (after_calls n a cs T)
-after_calls-more n a [] ds T = refl
-after_calls-more n a (c ∷ cs) ds T = after_calls-more n a cs ds _
+pub after_calls-more : (s : List Line) (n : ℕ) (a : ActorNo) (cs ds : List (TxNo × Call)) (T : List Placed) → after_calls s n a (cs ++ ds) T ≡ after_calls s n a ds (after_calls s n a cs T)
+after_calls-more s n a [] ds T = refl
+after_calls-more s n a (c ∷ cs) ds T = after_calls-more s n a cs ds _
 
 -- rollbacks in a row, and one more
-pub rolled_more : (n : ℕ) (a : ActorNo) (ts : List TxNo) (i : ℕ) (t : TxNo) (start old new : List Placed) → i < length ts → t ≡ get_or ts i t
-    → old ≡ after_calls n a (rollbacks (take i ts)) start → new ≡ after_step t (Calls n a (RollbackCall t) 0) old → new ≡ after_calls n a (rollbacks (take (i + 1) ts)) start
-rolled_more n a ts i t start old new less here ran did =
+pub rolled_more : (s : List Line) (n : ℕ) (a : ActorNo) (ts : List TxNo) (i : ℕ) (t : TxNo) (start old new : List Placed) → i < length ts → t ≡ get_or ts i t
+    → old ≡ after_calls s n a (rollbacks (take i ts)) start → new ≡ after_turn s t (Calls n a (RollbackCall t) 0) old → new ≡ after_calls s n a (rollbacks (take (i + 1) ts)) start
+rolled_more s n a ts i t start old new less here ran did =
     let one = (t, RollbackCall t) ∷ [] in
     let front : rollbacks (take (i + 1) ts) ≡ rollbacks (take i ts) ++ one =
     ap rollbacks (take_more ts i t less ∙ ap (λ (u : TxNo). take i ts ++ u ∷ []) (sym here)) ∙ map-append (λ (u : TxNo). (u, RollbackCall u)) (take i ts) (t ∷ []) in
-    did ∙ ap (λ (T : List Placed). after_step t (Calls n a (RollbackCall t) 0) T) ran ∙ sym (after_calls-more n a (rollbacks (take i ts)) one start)
-    ∙ ap (λ (cs : List (TxNo × Call)). after_calls n a cs start) (sym front)
+    did ∙ ap (λ (T : List Placed). after_turn s t (Calls n a (RollbackCall t) 0) T) ran ∙ sym (after_calls-more s n a (rollbacks (take i ts)) one start)
+    ∙ ap (λ (cs : List (TxNo × Call)). after_calls s n a cs start) (sym front)
 
 -- the context at the place of its actor
 pub context_here : (cs : List Standing) (a : ActorNo) (i : ℕ) (c : Standing) → length cs ≡ 16 → i + 1 ≡ a.value → c ≡ get_or cs i c → context_at a cs ≡ Some c
@@ -208,15 +211,23 @@ unopened s xs ys l cs split named ties = by_body l.body (scopes_at l.actor cs) (
 pub past_next : (lines : List Line) (i : ℕ) (l : Line) → i < length lines → l ≡ get_or lines i l → past_of (take (i + 1) lines) ≡ l ∷ past_of (take i lines)
 past_next lines i l less here = past-more lines i l less ∙ ap (λ (m : Line). m ∷ past_of (take i lines)) (sym here)
 
+-- a line that is run neither stops the log nor opens it again
+line_ran : (s before : List Line) (a : ActorNo) (b : Body) (start T : List Placed) → is_run before b ≡ true
+    → CallRan s a (suc (length before)) (call_of s b) (after_scope s (suc (length before)) (record { actor = a; body = b }) (scopes_of a.value before) start) T
+    → LineRan s before (record { actor = a; body = b }) start T
+line_ran s before a (Stop k i) start T run did = absurd cc
+line_ran s before a Restart start T run did = absurd cc
+line_ran s before a _ start T run did = did
+
 -- one line more was run
 pub lines_more : (s r lines : List Line) (i n : ℕ) (l : Line) (cs : List Standing) (old new : List Placed) → i < length lines → l ≡ get_or lines i l → n ≡ i → r ≡ s
-    → AreOpen cs (past_of (take i lines)) → LinesRan s (past_of (take i lines)) old
-    → CallRan r l.actor (n + 1) (call_of r l.body) (after_scope (n + 1) l (scopes_at l.actor cs) old) new → LinesRan s (past_of (take (i + 1) lines)) new
-lines_more s r lines i n l cs old new less here count same ties ran did =
+    → is_run_line (past_of (take i lines)) l ≡ true → AreOpen cs (past_of (take i lines)) → LinesRan s (past_of (take i lines)) old
+    → CallRan r l.actor (n + 1) (call_of r l.body) (after_scope r (n + 1) l (scopes_at l.actor cs) old) new → LinesRan s (past_of (take (i + 1) lines)) new
+lines_more s r lines i n l cs old new less here count same run ties ran did =
     let before = past_of (take i lines) in
     let many : length before ≡ min i (length lines) = length-past (take i lines) ∙ length-take i lines in
     let number : n + 1 ≡ suc (length before) = omega arith in
-    let by_number = subst (λ k. CallRan r l.actor k (call_of r l.body) (after_scope k l (scopes_at l.actor cs) old) new) number did in
-    let by_scopes = subst (λ (xs : List OpenScope). CallRan r l.actor (suc (length before)) (call_of r l.body) (after_scope (suc (length before)) l xs old) new) (ties l.actor) by_number in
-    let line : LineRan s before l old new = subst (λ (t : List Line). CallRan t l.actor (suc (length before)) (call_of t l.body) (after_scope (suc (length before)) l (scopes_of l.actor.value before) old) new) same by_scopes in
-    subst (λ (b : List Line). LinesRan s b new) (sym (past_next lines i l less here)) (old, ran, line)
+    let by_number = subst (λ k. CallRan r l.actor k (call_of r l.body) (after_scope r k l (scopes_at l.actor cs) old) new) number did in
+    let by_scopes = subst (λ (xs : List OpenScope). CallRan r l.actor (suc (length before)) (call_of r l.body) (after_scope r (suc (length before)) l xs old) new) (ties l.actor) by_number in
+    let by_script = subst (λ (t : List Line). CallRan t l.actor (suc (length before)) (call_of t l.body) (after_scope t (suc (length before)) l (scopes_of l.actor.value before) old) new) same by_scopes in
+    subst (λ (b : List Line). LinesRan s b new) (sym (past_next lines i l less here)) (old, ran, line_ran s before l.actor l.body old new run by_script)

@@ -1,8 +1,9 @@
 -- From what the parts of the top call say to what it promises.
-use Rattle.std.proofs.Common.{◌≡◌, ℕ, Bool, true, IsTrue, map, get_or, Global, String, ◌<◌, ◌≤◌, List, [], ◌∷◌, ◌++◌, length, take, drop, Option, Some, refl, ap, sym, ◌∙◌, subst, arith}
+use Rattle.std.proofs.Common.{◌≡◌, ℕ, Bool, true, IsTrue, map, get_or, Global, String, Vec, ◌<◌, ◌≤◌, ◌-◌, List, [], ◌∷◌, ◌++◌, length, take, drop, Option, Some, ap, sym, ◌∙◌, subst, arith}
 use Rattle.std.proofs.Math.ListN.{drop_of_length-le}
 use Rattle.std.proofs.lemmas.List.{length-take, take_all}
 use Rattle.std.specs.Option.{ForSome}
+use Rattle.std.specs.Prelude.{Result, Ok, Err, IfOk}
 use Rattle.std.specs.String.{string_bytes}
 use lib.Pointwise.{pointwise}
 use lib.Dec.{eqb}
@@ -10,6 +11,9 @@ use Rattle.std.specs.Cmp.Lexicographic.{bytes_decides}
 use Rattle.dtx_values.specs.declared.script.Line.{Line}
 use Rattle.dtx_values.specs.declared.script.BadCause.{BadCause}
 use Rattle.dtx_model.specs.Faults.{Bad}
+use Rattle.dtx_model.specs.Histories.{HasOneOutcome, IsComplete, IsHistory, IsReplay}
+use Rattle.dtx_model.specs.Replay.{Placed}
+use Rattle.dtx_model.specs.TraceText.{trace_text}
 use Rattle.dtx_model.specs.Grammar.{IsNotRun, IsNotYet, Reads, are_run}
 use Rattle.script_runner.specs.Program.{IsCutShort, IsReplayOf, IsWritten}
 use Rattle.script_runner.specs.Refusal.{IsReplayText}
@@ -33,31 +37,44 @@ IsFront given bytes = ForSome given (λ b. bytes ≡ take 1048577 b)
 pub reads-front : (given : Option (List ℕ)) (bytes : List ℕ) (s : List Line) → IsFront given bytes → Reads bytes s → ForSome given (λ b. Reads b s)
 reads-front given bytes s front reads b told = reads-all b s (subst (λ (x : List ℕ). Reads x s) (front b told) reads)
 
-pub replay-of : (given : Option (List ℕ)) (bytes : List ℕ) (s : List Line) (text : List ℕ) → IsFront given bytes → Reads bytes s → (t : IsReplayText s text) → IsReplayOf given s t.trace
-replay-of given bytes s text front reads t =
-    record { read = reads-front given bytes s front reads; history = t.history; outcome = t.outcome; complete = t.complete }
+pub replay-of : (given : Option (List ℕ)) (rise : ℕ) (bytes : List ℕ) (s : List Line) (text : List ℕ) → IsFront given bytes → Reads bytes s → (t : IsReplayText s rise text) → IsReplayOf given rise s t.trace
+replay-of given rise bytes s text front reads t =
+    record { read = reads-front given bytes s front reads; script = reads.script; history = t.history; replay = t.replay; outcome = t.outcome; complete = t.complete }
+
+-- where a count is as it was, it rose by nothing
+pub no_rise : (now before : ℕ) → now ≡ before → 0 ≡ now - before
+no_rise now before k = omega (arith, k)
+
+-- the text of a replay's trace is that of a replay
+pub text_of : {E : Type 0} (s : List Line) (T : List Placed) (r : Result (Vec ℕ Global) E) → IsHistory s 0 0 T → IsReplay s 0 true T → HasOneOutcome T → IsComplete s T
+    → IfOk r (λ v. v.items ≡ trace_text T) → IfOk r (λ v. IsReplayText s 0 v.items)
+text_of s T (Ok v) history replay outcome complete k =
+    record { trace = T; history = history; replay = replay; outcome = outcome; complete = complete; spelled = k }
+text_of s T (Err e) history replay outcome complete k = k
 
 -- the text was written whole
-pub is_written : (given before after : Option (List ℕ)) (bytes : List ℕ) (s : List Line) (text out : List ℕ) → IsFront given bytes → Reads bytes s → IsReplayText s text → out ≡ text
-    → ForSome before (λ w. after ≡ Some (w ++ out)) → IsWritten given before after
-is_written given before after bytes s text out front reads t same gained =
-    record {
+pub is_written : (rise : ℕ) (given before after : Option (List ℕ)) (bytes : List ℕ) (s : List Line) (text out : List ℕ) → 0 ≡ rise → IsFront given bytes → Reads bytes s → IsReplayText s 0 text → out ≡ text
+    → ForSome before (λ w. after ≡ Some (w ++ out)) → IsWritten rise given before after
+is_written rise given before after bytes s text out none front reads t same gained =
+    subst (λ (n : ℕ). IsWritten n given before after) none
+    (record {
       lines = s;
       trace = t.trace;
-      replay = replay-of given bytes s text front reads t;
+      replay = replay-of given 0 bytes s text front reads t;
       gained = λ w told. gained w told ∙ ap (λ (x : List ℕ). Some (w ++ x)) (same ∙ t.spelled);
-    }
+    })
 
 -- a part of the text was written
-pub is_cut_short : (given before after : Option (List ℕ)) (bytes : List ℕ) (s : List Line) (text out : List ℕ) → IsFront given bytes → Reads bytes s → IsReplayText s text → out ≡ text
-    → ForSome before (λ w. IsPartWritten w out after) → IsCutShort given before after
-is_cut_short given before after bytes s text out front reads t same gained =
-    record {
+pub is_cut_short : (rise : ℕ) (given before after : Option (List ℕ)) (bytes : List ℕ) (s : List Line) (text out : List ℕ) → 0 ≡ rise → IsFront given bytes → Reads bytes s → IsReplayText s 0 text → out ≡ text
+    → ForSome before (λ w. IsPartWritten w out after) → IsCutShort rise given before after
+is_cut_short rise given before after bytes s text out none front reads t same gained =
+    subst (λ (n : ℕ). IsCutShort n given before after) none
+    (record {
       lines = s;
       trace = t.trace;
-      replay = replay-of given bytes s text front reads t;
+      replay = replay-of given 0 bytes s text front reads t;
       gained = λ w told. subst (λ (x : List ℕ). IsPartWritten w x after) (same ∙ t.spelled) (gained w told);
-    }
+    })
 
 -- nothing is left after a script
 pub left-none : (given left : Option (List ℕ)) (bytes : List ℕ) (s : List Line) → IsFront given bytes → Reads bytes s → ForSome given (λ b. left ≡ Some (drop 1048577 b))

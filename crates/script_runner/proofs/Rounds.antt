@@ -1,41 +1,59 @@
 -- The steps of one transaction in a row, and the rounds at the end of a replay.
-use Rattle.std.proofs.Common.{◌≡◌, ℕ, zero, suc, ◌+◌, ◌<◌, ◌≤◌, ◌==◌, true, false, List, [], ◌∷◌, Some, None, refl, ap, sym, ◌∙◌, subst, arith, inl, inr}
-use Rattle.std.proofs.lemmas.Bool.Decides.{Decides-eqb, eqb_tells, nat_tests}
+use Rattle.std.proofs.Common.{◌≡◌, ℕ, zero, suc, ◌+◌, ◌<◌, ◌≤◌, ◌==◌, Bool, true, false, List, [], ◌∷◌, Some, None, refl, sym, ◌∙◌, subst, arith, inl, inr}
+use Rattle.std.proofs.lemmas.Bool.Decides.{eqb_tells, nat_tests}
 use Rattle.dtx_values.specs.declared.number.TxNo.{TxNo}
 use Rattle.dtx_values.specs.declared.entry.Entry.{Entry}
+use Rattle.dtx_values.specs.declared.entry.Entry.TheVariants.{Stopped}
 use Rattle.dtx_values.specs.declared.script.Line.{Line}
-use Rattle.dtx_model.specs.Words.{kth, past_of}
-use Rattle.dtx_model.specs.Observed.{Observed, observe, track_all}
-use Rattle.dtx_model.specs.Caused.{Settled}
-use Rattle.dtx_model.specs.Replay.{Placed, StepsRan, after_step, history, is_passed, last_turn}
-use Rattle.dtx_model.specs.Steps.{Step, block, pending}
-use Rattle.dtx_model.proofs.Histories.{history-other, history-same, observe-onto}
-use Rattle.script_runner.specs.RunState.{Advances, IsSettledBelow, Settles, StepsDone}
-use Rattle.script_runner.proofs.Measure.{steps_left, steps_left-pending}
+use Rattle.dtx_model.specs.Words.{kth, onto, past_of}
+use Rattle.dtx_model.specs.Causes.{IsNamed, Settled}
+use Rattle.dtx_model.specs.Replay.{Placed, history, is_passed, placed}
+use Rattle.dtx_model.specs.Replays.{HasDoneAt, StepsRan, after_turn, block_in, is_in_replay, last_turn, stop_if, world_at}
+use Rattle.dtx_model.specs.Turns.{Step, Replies, Acts, StepName, pending}
+use Rattle.dtx_model.proofs.Histories.{history-other}
+use Rattle.script_runner.specs.RunState.{Advances, IsSettledBelow, OwnSteps, Settles, StepsDone, is_own_step}
 
 -- going round from u, what comes before a later t is below it
 pub passed-below : (u t v : ℕ) → u ≤ t → is_passed u t v ≡ true → v < t
 passed-below u t v k p = grind (arith, nat_tests)
 
--- what is observed of t after its step
-pub observe-advanced : (s : List Line) (t : TxNo) (k : ℕ) (trace new : List Placed) (a : Advances s t k trace new)
-    → observe (history t.value (past_of new)) ≡ track_all (observe (history t.value (past_of trace))) (block (observe (history t.value (past_of trace))) a.step)
-observe-advanced s t k trace new a =
-    let h = history t.value (past_of trace) in
-    let es = block (observe h) a.step in
-    ap (λ (T : List Placed). observe (history t.value T)) a.done
-    ∙ (ap observe (history-same t.value t (past_of trace) es ((Decides-eqb t.value t.value).1 refl)) ∙ observe-onto h es)
+-- a step of the local side may come in a replay
+own_in_replay : (m : Step) → is_own_step m ≡ true → is_in_replay m ≡ true
+own_in_replay (Replies e r) k = refl
+own_in_replay Acts k = refl
+own_in_replay _ k = absurd cc
 
--- a step brings t nearer its end
-pub advanced-smaller : (s : List Line) (t : TxNo) (k : ℕ) (trace new : List Placed) → Advances s t k trace new
-    → steps_left (observe (history t.value (past_of new))) < steps_left (observe (history t.value (past_of trace)))
-advanced-smaller s t k trace new a =
-    subst (λ (o : Observed). steps_left o < steps_left (observe (history t.value (past_of trace)))) (sym (observe-advanced s t k trace new a))
-    (steps_left-pending s (observe (history t.value (past_of trace))) k a.step a.stands)
+-- and it leaves the other transactions alone
+other_stop : (v : ℕ) (t : TxNo) (T : List Placed) (b : Bool) → (v == t.value) ≡ false → history v (stop_if b t T) ≡ history v T
+other_stop v t T true k = history-other v t T (Stopped ∷ []) k
+other_stop v t T false k = refl
+
+pub other_turn : (s : List Line) (v : ℕ) (t : TxNo) (m : Step) (T : List Placed) → is_own_step m ≡ true → (v == t.value) ≡ false → history v (after_turn s t m T) ≡ history v T
+other_turn s v t (Replies e r) T o k =
+    let es = block_in s t (Replies e r) T in
+    other_stop v t (onto T (placed t es)) _ k ∙ history-other v t T es k
+other_turn s v t Acts T o k =
+    let es = block_in s t Acts T in
+    other_stop v t (onto T (placed t es)) _ k ∙ history-other v t T es k
+other_turn s v t _ T o k = absurd cc
 
 -- one step more
 pub steps-more : (s : List Line) (t : TxNo) (k m : ℕ) (start trace new : List Placed) → StepsDone s t k m start trace → Advances s t k trace new → StepsDone s t k (suc m) start new
-steps-more s t k m start trace new ran a = (past_of trace, ran, a.step, a.stands, a.done)
+steps-more s t k m start trace new ran a = (past_of trace, ran, a.name, a.step, a.stands, a.named, a.own, a.done)
+
+-- these are steps of a replay
+pub own_ran : (s : List Line) (t : TxNo) (k m : ℕ) (start T : List Placed) → OwnSteps s t k m start T → StepsRan s t k m start T
+own_ran s t k zero start T ran = ran
+own_ran s t k (suc m) start T ran = (ran.0, own_ran s t k m start ran.0 ran.1, ran.2, ran.3, ran.4, ran.5, own_in_replay ran.3 ran.6, ran.7)
+
+-- a `do`: so many steps were done, and fewer than it says only where no k-th was pending
+pub done_some : (s : List Line) (t : TxNo) (k n m : ℕ) (start trace : List Placed) → m < n → StepsDone s t k m start trace → kth (pending (world_at s t (past_of trace))) k ≡ None
+    → HasDoneAt s t k n m (past_of start) (past_of trace)
+done_some s t k n m start trace less ran none = record { ran = own_ran s t k m (past_of start) (past_of trace) ran; most = omega (arith, less); stopped = λ l. none }
+
+pub done_all : (s : List Line) (t : TxNo) (k n m : ℕ) (start trace : List Placed) → m ≡ n → StepsDone s t k m start trace → HasDoneAt s t k n n (past_of start) (past_of trace)
+done_all s t k n m start trace same ran =
+    record { ran = own_ran s t k n (past_of start) (past_of trace) (subst (λ i. StepsDone s t k i start trace) same ran); most = omega arith; stopped = λ l. absurd (omega (arith, l)) }
 
 -- where no step is the first, none is pending
 pub none-first : {A : Type 0} (xs : List A) → kth xs 1 ≡ None → xs ≡ []
@@ -48,27 +66,42 @@ others [] x e = absurd (cc)
 others (y ∷ ys) x e = (ys, cc)
 
 -- a step of t leaves the transactions below it settled
-settled-advanced : (s : List Line) (start : List Placed) (t : TxNo) (T : List Placed) (m : Step) → IsSettledBelow s start t.value T
-    → kth (pending s (observe (history t.value T))) 1 ≡ Some m → IsSettledBelow s start t.value (after_step t m T)
-settled-advanced s start t T m b stands =
-    let es = block (observe (history t.value T)) m in
+settled-advanced : (s : List Line) (start : List Placed) (t : TxNo) (T : List Placed) (n : StepName) (m : Step) → IsSettledBelow s start t.value T
+    → kth (pending (world_at s t T)) 1 ≡ Some n → IsNamed (world_at s t T) n m → is_own_step m ≡ true → IsSettledBelow s start t.value (after_turn s t m T)
+settled-advanced s start t T n m b stands named own =
     let other : (v : TxNo) → v.value < t.value → (v.value == t.value) ≡ false = λ v k. elim (eqb_tells v.value t.value) [ inl e ↦ absurd (omega (arith, e.1, k)) | inr e ↦ e.0 ] in
-    let same : (v : TxNo) → v.value < t.value → history v.value (after_step t m T) ≡ history v.value T = λ v k. history-other v.value t T es (other v k) in
-    let first = others (pending s (observe (history t.value T))) m stands in
+    let same : (v : TxNo) → v.value < t.value → history v.value (after_turn s t m T) ≡ history v.value T = λ v k. other_turn s v.value t m T own (other v k) in
+    let first = others (pending (world_at s t T)) n stands in
     record {
       turns = (t, m) ∷ b.turns;
-      rounds = (T, b.rounds, record { others = first.0; first = first.1; passed = λ v p. b.below v (passed-below (last_turn b.turns) t.value v.value b.reached p) }, refl);
+      rounds = (
+        T,
+        b.rounds,
+        record {
+          name = n;
+          others = first.0;
+          first = first.1;
+          named = named;
+          in_replay = own_in_replay m own;
+          passed = λ v p. b.below v (passed-below (last_turn b.turns) t.value v.value b.reached p);
+        },
+        refl,
+      );
       reached = omega arith;
       below = λ v k. subst (λ (h : List Entry). Settled s h) (sym (same v k)) (b.below v k);
     }
 
 -- and so do steps in a row, each the first that is pending
-settled-steps : (s : List Line) (start : List Placed) (t : TxNo) (m : ℕ) (T after : List Placed) → IsSettledBelow s start t.value T → StepsRan s t 1 m T after
+settled-steps : (s : List Line) (start : List Placed) (t : TxNo) (m : ℕ) (T after : List Placed) → IsSettledBelow s start t.value T → OwnSteps s t 1 m T after
     → IsSettledBelow s start t.value after
 settled-steps s start t zero T after b ran = subst (λ (U : List Placed). IsSettledBelow s start t.value U) (sym ran) b
 settled-steps s start t (suc m) T after b ran =
-    subst (λ (U : List Placed). IsSettledBelow s start t.value U) (sym ran.4)
-    (settled-advanced s start t ran.0 ran.2 (settled-steps s start t m T ran.0 b ran.1) ran.3)
+    subst (λ (U : List Placed). IsSettledBelow s start t.value U) (sym ran.7)
+    (settled-advanced s start t ran.0 ran.2 ran.3 (settled-steps s start t m T ran.0 b ran.1) ran.4 ran.5 ran.6)
+
+-- where nothing is left, the steps that were done settled t
+pub settles-here : (s : List Line) (t : TxNo) (m : ℕ) (old new : List Placed) → StepsDone s t 1 m old new → Settled s (history t.value (past_of new)) → Settles s t old new
+settles-here s t m old new ran none = record { count = m; steps = ran; settled = record { ran = own_ran s t 1 m (past_of old) (past_of new) ran; settled = none } }
 
 -- where t is settled too, the next one is next
 settled-next : (s : List Line) (start : List Placed) (t : TxNo) (T : List Placed) → IsSettledBelow s start t.value T → Settled s (history t.value T)
@@ -87,4 +120,4 @@ settled-next s start t T b here =
 -- settling t, where the transactions below it are settled
 pub settles-next : (s : List Line) (start : List Placed) (t : TxNo) (old new : List Placed) → IsSettledBelow s start t.value (past_of old) → Settles s t old new
     → IsSettledBelow s start (t.value + 1) (past_of new)
-settles-next s start t old new b did = settled-next s start t (past_of new) (settled-steps s start t did.0 (past_of old) (past_of new) b did.1.ran) did.1.settled
+settles-next s start t old new b did = settled-next s start t (past_of new) (settled-steps s start t did.count (past_of old) (past_of new) b did.steps) did.settled.settled

@@ -1,9 +1,9 @@
 -- The text of a replay, and why bytes have none.
-use Rattle.std.specs.Prelude.{ℕ, ◌≡◌, List}
+use Rattle.std.specs.Prelude.{ℕ, ◌≡◌, true, List}
 use Rattle.dtx_values.specs.declared.script.Line.{Line}
 use Rattle.dtx_model.specs.Faults.{Bad}
 use Rattle.dtx_model.specs.Grammar.{IsNotYet}
-use Rattle.dtx_model.specs.History.{HasOneOutcome, IsComplete, IsHistory}
+use Rattle.dtx_model.specs.Histories.{HasOneOutcome, IsComplete, IsHistory, IsReplay}
 use Rattle.dtx_model.specs.Replay.{Placed}
 use Rattle.dtx_model.specs.TraceText.{trace_text}
 use Rattle.script_runner.specs.declared.program.Refusal.{Refusal}
@@ -15,10 +15,11 @@ HasNoReplay b (BadBytes n c) = Bad b n c
 HasNoReplay b (NotYet n) = IsNotYet b n
 HasNoReplay b Memory = Unit {0}
 
--- the text is that of a replay of these lines
-pub record IsReplayText (s : List Line) (text : List ℕ) : Type 0 where
+-- the text is that of a replay of these lines, over a disk whose count of faults rose by so many
+pub record IsReplayText (s : List Line) (rise : ℕ) (text : List ℕ) : Type 0 where
   pub trace : List Placed
-  pub history : IsHistory s trace
-  pub outcome : HasOneOutcome s trace
+  pub history : IsHistory s 0 rise trace
+  pub replay : IsReplay s rise true trace
+  pub outcome : HasOneOutcome trace
   pub complete : IsComplete s trace
   pub spelled : text ≡ trace_text trace

@@ -3,16 +3,17 @@ ghost use Rattle.std.specs.Prelude.{◌≡◌, ◌<◌, ◌≤◌, ◌∷◌, []
 ghost use Rattle.dtx_values.specs.Outgoing.{with};
 ghost use Rattle.dtx_values.specs.declared.call.Call.TheVariants.{Gone};
 ghost use Rattle.dtx_values.specs.declared.entry.Entry.TheVariants.{Called};
-ghost use Rattle.dtx_model.specs.Steps.{Calls, await_answer, block};
-ghost use Rattle.local_half.specs.Half.{after};
-ghost use Rattle.script_runner.specs.Calling.{IsReady};
+ghost use Rattle.dtx_model.specs.Answers.{await_answer};
+ghost use Rattle.dtx_model.specs.Turns.{Calls, entered};
+ghost use Rattle.local_half.specs.Half.{IsAtHome, after};
+ghost use Rattle.script_runner.specs.Calling.{IsReady, call_block};
 
 use dtx_values::{ActorNo, Answer, Call, EnlNo, Entry, Outbox};
 use local_half::LocalHalf;
 
 /// What an `await` is answered, once it is begun.
 fn await_answer(half: &LocalHalf) -> Answer
-    ensures { result ≡ await_answer half.now.seen.told_client }
+    ensures { result ≡ await_answer half.now.half.seen.told_client }
 {
     match half.told_client() {
         Some(o) => Answer::OutcomeIs(o),
@@ -23,8 +24,8 @@ fn await_answer(half: &LocalHalf) -> Answer
 /// Does a `gone`: writes its entry, and loses the enlistment where that was answered ok.
 fn gone(half: &mut LocalHalf, actor: ActorNo, line: u32, e: EnlNo, out: &mut Outbox)
     requires { 3 ≤ out.old.room }
-    ensures state { half.new ≡ after half.old (block half.old.seen (Calls line actor (Gone e) 0)) }
-    ensures out { out.new ≡ with out.old (block half.old.seen (Calls line actor (Gone e) 0)) }
+    ensures state { half.new ≡ after (entered (Calls line actor (Gone e) 0) []) half.old (call_block half.old.transaction.value half.old.half line actor (Gone e) 0) }
+    ensures out { out.new ≡ with out.old (call_block half.old.transaction.value half.old.half line actor (Gone e) 0) }
 {
     let answer = half.if_begun(half.gone_answer(e));
     out.put(Entry::Called(line, actor, answer));
@@ -35,10 +36,11 @@ fn gone(half: &mut LocalHalf, actor: ActorNo, line: u32, e: EnlNo, out: &mut Out
 
 /// Does a call, for which so many steps were done: writes its entry, and after it its facts.
 pub fn call(half: &mut LocalHalf, actor: ActorNo, line: u32, c: &Call, done: u16, out: &mut Outbox)
-    requires ready { IsReady half.old.seen c.now }
+    requires ready { IsReady half.old.half.seen c.now }
+    requires home { IsAtHome half.old.half }
     requires room { 4 ≤ out.old.room }
-    ensures state { half.new ≡ after half.old (block half.old.seen (Calls line actor c.now done)) }
-    ensures out { out.new ≡ with out.old (block half.old.seen (Calls line actor c.now done)) }
+    ensures state { half.new ≡ after (entered (Calls line actor c.now done) []) half.old (call_block half.old.transaction.value half.old.half line actor c.now done) }
+    ensures out { out.new ≡ with out.old (call_block half.old.transaction.value half.old.half line actor c.now done) }
 {
     match *c {
         Call::Do(_, _, _) => {

@@ -2,8 +2,10 @@
 ghost use Rattle.std.specs.Prelude.{◌≡◌, ◌≤◌, None, true, false};
 ghost use Rattle.dtx_values.specs.Table.{rises_above};
 ghost use Rattle.dtx_model.specs.Words.{kth};
-ghost use Rattle.dtx_model.specs.Steps.{due_replies, pending, planned_reply};
-ghost use Rattle.script_runner.specs.Pending.{DoesKth, IsDueAt};
+ghost use Rattle.dtx_model.specs.Causes.{plans_of};
+ghost use Rattle.dtx_model.specs.Turns.{local_pending};
+ghost use Rattle.local_half.specs.Half.{IsAtHome};
+ghost use Rattle.script_runner.specs.Pending.{DoesKth, IsDueAt, planned_at};
 
 use crate::plans::Plans;
 use dtx_values::{EnlNo, Note, Outbox, Reply};
@@ -20,19 +22,21 @@ pub enum Due {
 
 /// The reply that an enlistment plans to a note; `None` where it is silent.
 fn planned_reply(plans: &Plans, e: EnlNo, note: Option<Note>) -> Option<Reply>
-    ensures { result ≡ planned_reply plans.now e.value note }
+    ensures { result ≡ planned_at (plans_of plans.now e.value) note }
 {
     match note {
-        Some(Note::Prepare) => plans.vote(e).map(Reply::Vote),
-        Some(Note::Hand) => plans.owner(e).map(Reply::Owner),
+        Some(Note::Prepare) => plans.plan(e).vote.map(Reply::Vote),
+        Some(Note::Promote) => plans.plan(e).promote.map(Reply::Promote),
+        Some(Note::Hand | Note::Single) => plans.plan(e).owner.map(Reply::Owner),
+        Some(Note::Commit) => Some(Reply::Ack),
         _ => None,
     }
 }
 
 /// The reply at place k, from 0, of those that are due, in order of the enlistments' numbers.
 fn due_at(half: &LocalHalf, plans: &Plans, k: usize) -> Due
-    ensures due { IsDueAt (due_replies plans.now half.now.seen) k result }
-    ensures rise { rises_above 0 half.now.seen.table ≡ true }
+    requires { IsAtHome half.now.half }
+    ensures { IsDueAt (plans_of plans.now) half.now.half k result }
 {
     let mut more = k;
     for x in half.rows() {
@@ -48,9 +52,10 @@ fn due_at(half: &LocalHalf, plans: &Plans, k: usize) -> Due
 
 /// Does the k-th pending step; false where fewer than k are pending, or k is 0.
 pub fn step(half: &mut LocalHalf, plans: &Plans, k: u8, out: &mut Outbox) -> bool
+    requires home { IsAtHome half.old.half }
     requires room { 2 ≤ out.old.room }
-    ensures some { result ≡ true → DoesKth plans.now k half.old half.new out.old out.new }
-    ensures none { result ≡ false → kth (pending plans.now half.old.seen) k ≡ None }
+    ensures some { result ≡ true → DoesKth (plans_of plans.now) k half.old half.new out.old out.new }
+    ensures none { result ≡ false → kth (local_pending (plans_of plans.now) half.old.half) k ≡ None }
     ensures unchanged { result ≡ false → half.new ≡ half.old }
 {
     if k == 0 {

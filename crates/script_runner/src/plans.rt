@@ -1,61 +1,34 @@
 //! What the lines of a script plan for each enlistment, and whose each enlistment and each clone is.
-ghost use Rattle.std.specs.Prelude.{◌≡◌, ◌<◌, ◌==◌, ◌-◌, ℕ, length, IfNone, IfOk, IfSome, OnOk, slice_index_or, if◌then◌else◌};
+ghost use Rattle.std.specs.Prelude.{◌≡◌, ◌<◌, ◌==◌, ◌-◌, ℕ, length, IfNone, IfOk, IfSome, None, OnOk, Some, slice_index_or, if◌then◌else◌};
 ghost use Rattle.dtx_values.specs.declared.number.CloneNo.{CloneNo};
 ghost use Rattle.dtx_values.specs.declared.number.EnlNo.{EnlNo};
-ghost use Rattle.dtx_model.specs.Steps.{clone_made, planned_owner, planned_vote, transaction_of, transaction_with};
+ghost use Rattle.dtx_model.specs.Calls.{clone_made, transaction_of, transaction_with};
+ghost use Rattle.dtx_model.specs.Causes.{plans_of};
 ghost use Rattle.dtx_model.specs.Words.{or_else};
-ghost use Rattle.script_runner.specs.Plans.{made_by, made_in, or_made, unmade};
+ghost use Rattle.script_runner.specs.Plans.{made_by, made_in};
 
 use dtx_values::{Body, CloneNo, EnlNo, Line, Outcome, Plan, Support, TxNo, Vote};
 use std::alloc::{AllocError, Global};
 use std::marker::Model;
 
-/// What a line says of the enlistment that it makes: its transaction, and its plans.
+/// What a line says of the enlistment that it makes: its transaction, and its plan.
 #[derive(Clone, Copy, PartialEq, Eq, Debug)]
 pub struct Made {
-    transaction: Option<TxNo>,
+    transaction: TxNo,
     plan: Plan,
 }
 
 impl Made {
-    /// An enlistment of this transaction, with its plans.
+    /// An enlistment of this transaction, with its plan.
     fn new(t: TxNo, vote: Option<Vote>, owner: Option<Outcome>, promote: Option<bool>) -> Self
-        ensures { result ≡ record { transaction = Some t; plan = record { vote = vote; owner = owner; promote = promote } } }
+        ensures { result ≡ record { transaction = t; plan = record { vote = vote; owner = owner; promote = promote } } }
     {
         Made {
-            transaction: Some(t),
+            transaction: t,
             plan: Plan {
                 vote,
                 owner,
                 promote,
-            },
-        }
-    }
-
-    /// What is said of an enlistment that no line makes.
-    fn unmade() -> Self
-        ensures { result ≡ unmade }
-    {
-        Made {
-            transaction: None,
-            plan: Plan {
-                vote: None,
-                owner: None,
-                promote: None,
-            },
-        }
-    }
-
-    /// What this says, and the other where this says nothing.
-    fn or(self, other: Made) -> Self
-        ensures { result ≡ or_made self other }
-    {
-        Made {
-            transaction: self.transaction.or(other.transaction),
-            plan: Plan {
-                vote: self.plan.vote.or(other.plan.vote),
-                owner: self.plan.owner.or(other.plan.owner),
-                promote: self.plan.promote.or(other.plan.promote),
             },
         }
     }
@@ -65,7 +38,7 @@ impl Made {
 #[derive(Drop)]
 pub struct Plans<'a> {
     lines: &'a [Line],
-    enlistments: Vec<Made>,
+    enlistments: Vec<Option<Made>>,
     clones: Vec<Option<TxNo>>,
 }
 
@@ -82,8 +55,8 @@ fn item_at<T: Copy>(items: &[T], place: usize, blank: T) -> T
 
 /// The enlistment that a command makes, and what it says of it.
 fn said_by(body: Body) -> Option<(EnlNo, Made)>
-    ensures some { IfSome result (λ x. (e : ℕ) → made_by e body ≡ (if e == x.0.value then x.1 else unmade)) }
-    ensures none { IfNone result ((e : ℕ) → made_by e body ≡ unmade) }
+    ensures some { IfSome result (λ x. (e : ℕ) → made_by e body ≡ (if e == x.0.value then Some x.1 else None)) }
+    ensures none { IfNone result ((e : ℕ) → made_by e body ≡ None) }
 {
     match body {
         Body::Volatile(t, e, _, vote) => Some((e, Made::new(t, vote, None, None))),
@@ -124,16 +97,14 @@ fn put_at<T: Copy>(items: &mut Vec<T>, place: usize, blank: T, item: T) -> Resul
 }
 
 /// Keeps what a command says of the enlistment that it makes.
-fn plan(enlistments: &mut Vec<Made>, body: Body) -> Result<(), AllocError>
-    ensures { OnOk result ((e : EnlNo) → slice_index_or enlistments.new.items (e.value - 1) unmade
-        ≡ or_made (made_by e.value body) (slice_index_or enlistments.old.items (e.value - 1) unmade)) }
+fn plan(enlistments: &mut Vec<Option<Made>>, body: Body) -> Result<(), AllocError>
+    ensures { OnOk result ((e : EnlNo) → slice_index_or enlistments.new.items (e.value - 1) None
+        ≡ or_else (made_by e.value body) (slice_index_or enlistments.old.items (e.value - 1) None)) }
 {
     let Some((e, said)) = said_by(body) else {
         return Ok(());
     };
-    let place = e.index();
-    let before = item_at(enlistments, place, Made::unmade());
-    put_at(enlistments, place, Made::unmade(), said.or(before))
+    put_at(enlistments, e.index(), None, Some(said))
 }
 
 /// Keeps whose clone a command makes.
@@ -177,32 +148,35 @@ impl<'a> Plans<'a> {
         })
     }
 
-    /// What the line of this enlistment says of it.
-    fn enlistment(&self, e: EnlNo) -> Made
+    /// What the line of this enlistment says of it; `None` where no line makes it.
+    fn enlistment(&self, e: EnlNo) -> Option<Made>
         ensures { result ≡ made_in self.now e.value }
     {
-        item_at(&self.enlistments, e.index(), Made::unmade())
+        item_at(&self.enlistments, e.index(), None)
     }
 
-    /// The vote that the line of this enlistment plans; `None` where it is silent, or where no line makes it.
-    pub fn vote(&self, e: EnlNo) -> Option<Vote>
-        ensures { result ≡ planned_vote self.now e.value }
+    /// What the line of this enlistment plans for it: a part is `None` where it is silent, or where no line makes it.
+    pub fn plan(&self, e: EnlNo) -> Plan
+        ensures { result ≡ plans_of self.now e.value }
     {
-        self.enlistment(e).plan.vote
-    }
-
-    /// The answer that the line of this enlistment plans for it as the owner of the commit; `None` where it is silent, or where no line makes it.
-    pub fn owner(&self, e: EnlNo) -> Option<Outcome>
-        ensures { result ≡ planned_owner self.now e.value }
-    {
-        self.enlistment(e).plan.owner
+        match self.enlistment(e) {
+            Some(made) => made.plan,
+            None => Plan {
+                vote: None,
+                owner: None,
+                promote: None,
+            },
+        }
     }
 
     /// The transaction of the enlistment that a line makes; `None` where no line makes it.
     pub fn transaction_with(&self, e: EnlNo) -> Option<TxNo>
         ensures { result ≡ transaction_with self.now e.value }
     {
-        self.enlistment(e).transaction
+        match self.enlistment(e) {
+            Some(made) => Some(made.transaction),
+            None => None,
+        }
     }
 
     /// The transaction of the clone that a line makes; `None` where no line makes it.

@@ -1,19 +1,22 @@
 //! A replay: the lines in order, and then the rounds at the end.
-ghost use Rattle.std.specs.Prelude.{◌≡◌, ◌≤◌, ◌+◌, List, [], ◌∷◌, ◌++◌, IfOk, OnErr, OnOk, None, Ok, Some, true, false, length, map, replicate, vec_len, vec_capacity};
+ghost use Rattle.std.specs.Prelude.{◌≡◌, ◌≤◌, ◌<◌, ◌+◌, ◌-◌, List, [], ◌∷◌, ◌++◌, IfOk, OnErr, OnOk, None, Ok, Some, true, false, length, map, replicate, vec_len, vec_capacity};
 ghost use Rattle.dtx_values.specs.declared.call.Call.{Call};
 ghost use Rattle.dtx_values.specs.declared.number.ActorNo.{ActorNo};
 ghost use Rattle.dtx_values.specs.declared.number.TxNo.{TxNo};
 ghost use Rattle.dtx_values.specs.declared.script.Line.{Line};
 ghost use Rattle.dtx_model.specs.Words.{kth, onto, past_of};
+ghost use Rattle.dtx_model.specs.Calls.{call_of};
 ghost use Rattle.dtx_model.specs.Observed.{observe};
-ghost use Rattle.dtx_model.specs.Steps.{Calls, call_of, pending};
-ghost use Rattle.dtx_model.specs.Caused.{Settled};
+ghost use Rattle.dtx_model.specs.Turns.{Calls, pending};
+ghost use Rattle.dtx_model.specs.Causes.{Settled};
 ghost use Rattle.dtx_model.specs.Contexts.{scope_block, scope_calls};
-ghost use Rattle.dtx_model.specs.Replay.{CallRan, HasDone, IsReplayed, LinesRan, Placed, after_calls, after_scope, after_step, history, noted};
-ghost use Rattle.dtx_model.specs.History.{HasOneOutcome, IsComplete, IsHistory};
-ghost use Rattle.dtx_model.specs.Grammar.{IsScript, are_run};
-ghost use Rattle.script_runner.specs.Calling.{IsReady};
-ghost use Rattle.script_runner.specs.RunState.{Advances, AreTied, IsSettledBelow, Settles};
+ghost use Rattle.dtx_model.specs.Replay.{Placed, history, noted};
+ghost use Rattle.dtx_model.specs.Replays.{CallRan, HasDoneAt, IsReplayed, LinesRan, after_calls, after_scope, after_turn, world_at};
+ghost use Rattle.dtx_model.specs.Histories.{HasOneOutcome, IsComplete, IsHistory, IsReplay};
+ghost use Rattle.dtx_model.specs.Grammar.{IsScript, are_named_well, are_run};
+ghost use Rattle.script_runner.specs.Calling.{IsGiven, IsReady, own_call};
+ghost use Rattle.script_runner.specs.Remaining.{steps_left};
+ghost use Rattle.script_runner.specs.RunState.{Advances, AreTied, IsSettledBelow, IsToPlan, Settles, are_plain};
 ghost use Rattle.script_runner.specs.Scoped.{AreOpen, IsUnopened, calls_given, nothing_open, rollbacks, rolled_at, scopes_at};
 
 use crate::calls::call;
@@ -54,12 +57,12 @@ impl<'a> Model for Run<'a> {
 
     ghost view = { λ r. record { script = r.plans; contexts = r.contexts.items; trace = r.trace.items } };
 
-    ghost invariant = { λ r. AreTied r.halves.items r.trace.items × (length r.contexts.items ≡ MAX) };
+    ghost invariant = { λ r. AreTied r.plans r.halves.items r.trace.items × (length r.contexts.items ≡ MAX) };
 }
 
 /// Makes the halves that aren't there yet, up to the transaction's.
 fn reach(alloc: Global, halves: &mut Vec<LocalHalf>, t: TxNo) -> Result<(), AllocError>
-    ensures tied { (T : List Placed) → AreTied halves.old.items T → AreTied halves.new.items T }
+    ensures tied { (s : List Line) (T : List Placed) → AreTied s halves.old.items T → AreTied s halves.new.items T }
     ensures reached { OnOk result (t.value ≤ length halves.new.items) }
 {
     for number in halves.len()..t.index() + 1 {
@@ -82,6 +85,7 @@ fn append(trace: &mut Vec<(Place, Entry)>, place: Place, entries: &[Entry])
 impl<'a> Run<'a> {
     /// A replay of these lines, before its first step.
     pub fn new(alloc: Global, lines: &'a [Line]) -> Result<Self, AllocError>
+        requires { are_named_well lines.now ≡ true }
         ensures { IfOk result (λ r. r ≡ record { script = lines.entry.now; contexts = replicate ActorNo.MAX nothing_open; trace = [] }) }
     {
         Ok(Run {
@@ -95,6 +99,16 @@ impl<'a> Run<'a> {
         })
     }
 
+    /// What holds of each run: nothing in its trace is of a promotion or stands at the log, and its replies are as planned. It does nothing
+    /// when it runs; a caller's proof asks for it.
+    fn is_plain(&self)
+        ensures plain { are_plain (past_of self.now.trace) ≡ true }
+        ensures planned { (t : TxNo) → IsToPlan self.now.script (history t.value (past_of self.now.trace)) }
+    {
+        // A proof sees the invariant of a run that it reads.
+        let _ = &self.trace;
+    }
+
     /// Does the call that line n gives transaction t, for which so many steps were done.
     fn call(
         &mut self,
@@ -104,10 +118,11 @@ impl<'a> Run<'a> {
         c: &Call,
         done: u16,
     ) -> Result<(), AllocError>
-        requires { IsReady (observe (history t.value (past_of self.old.trace))) c.now }
+        requires ready { IsReady (observe (history t.value (past_of self.old.trace))) c.now }
+        requires given { IsGiven (own_call self.old.script n) c.now }
         ensures script { self.new.script ≡ self.old.script }
         ensures contexts { self.new.contexts ≡ self.old.contexts }
-        ensures done { OnOk result (past_of self.new.trace ≡ after_step t (Calls n actor c.now done) (past_of self.old.trace)) }
+        ensures done { OnOk result (past_of self.new.trace ≡ after_turn self.old.script t (Calls n actor c.now done) (past_of self.old.trace)) }
         ensures memory { OnErr result (self.new ≡ self.old) }
     {
         reach(self.alloc, &mut self.halves, t)?;
@@ -124,7 +139,8 @@ impl<'a> Run<'a> {
         ensures script { self.new.script ≡ self.old.script }
         ensures contexts { self.new.contexts ≡ self.old.contexts }
         ensures some { result ≡ Ok true → Advances self.old.script t k self.old.trace self.new.trace }
-        ensures none { result ≡ Ok false → kth (pending self.old.script (observe (history t.value (past_of self.old.trace)))) k ≡ None }
+        ensures nearer { result ≡ Ok true → steps_left (observe (history t.value (past_of self.new.trace))) < steps_left (observe (history t.value (past_of self.old.trace))) }
+        ensures none { result ≡ Ok false → kth (pending (world_at self.old.script t (past_of self.old.trace))) k ≡ None }
         ensures unchanged { result ≡ Ok false → self.new ≡ self.old }
         ensures memory { OnErr result (self.new ≡ self.old) }
     {
@@ -145,7 +161,7 @@ impl<'a> Run<'a> {
     fn steps(&mut self, t: TxNo, k: u8, n: u16) -> Result<u16, AllocError>
         ensures script { self.new.script ≡ self.old.script }
         ensures contexts { self.new.contexts ≡ self.old.contexts }
-        ensures done { IfOk result (λ m. HasDone self.old.script t k n m (past_of self.old.trace) (past_of self.new.trace)) }
+        ensures done { IfOk result (λ m. HasDoneAt self.old.script t k n m (past_of self.old.trace) (past_of self.new.trace)) }
     {
         for m in 0..n {
             if !self.step(t, k)? {
@@ -207,9 +223,10 @@ impl<'a> Run<'a> {
 
     /// Does, as line n, a rollback of each transaction that the last nested close at this actor's context is to roll back, in order.
     fn roll_back(&mut self, n: u32, actor: ActorNo) -> Result<(), AllocError>
+        requires { own_call self.old.script n ≡ None }
         ensures script { self.new.script ≡ self.old.script }
         ensures contexts { self.new.contexts ≡ self.old.contexts }
-        ensures done { OnOk result (past_of self.new.trace ≡ after_calls n actor (rollbacks (rolled_at actor self.old.contexts)) (past_of self.old.trace)) }
+        ensures done { OnOk result (past_of self.new.trace ≡ after_calls self.old.script n actor (rollbacks (rolled_at actor self.old.contexts)) (past_of self.old.trace)) }
     {
         let place = actor.index();
         for i in 0..self.contexts[place].rolled().len() {
@@ -221,9 +238,10 @@ impl<'a> Run<'a> {
 
     /// Does what line n does as a scope line: what it writes at its actor's context, and then the calls that it gives transactions.
     fn scope(&mut self, n: u32, l: &Line) -> Result<(), AllocError>
-        requires { IsUnopened l.now.body (scopes_at l.now.actor self.old.contexts) }
+        requires unopened { IsUnopened l.now.body (scopes_at l.now.actor self.old.contexts) }
+        requires no_call { own_call self.old.script n ≡ None }
         ensures script { self.new.script ≡ self.old.script }
-        ensures done { OnOk result (past_of self.new.trace ≡ after_scope n l.now (scopes_at l.now.actor self.old.contexts) (past_of self.old.trace)) }
+        ensures done { OnOk result (past_of self.new.trace ≡ after_scope self.old.script n l.now (scopes_at l.now.actor self.old.contexts) (past_of self.old.trace)) }
         ensures scopes { OnOk result ((before : List Line) → AreOpen self.old.contexts before → AreOpen self.new.contexts (l.now ∷ before)) }
     {
         match self.at_context(n, l)? {
@@ -235,7 +253,8 @@ impl<'a> Run<'a> {
 
     /// Does the call that line n gives transaction t by its own words, after the steps of a `do` or an `await`.
     fn own_call(&mut self, n: u32, actor: ActorNo, t: TxNo, c: &Call) -> Result<(), AllocError>
-        requires { IsReady (observe (history t.value (past_of self.old.trace))) c.now }
+        requires ready { IsReady (observe (history t.value (past_of self.old.trace))) c.now }
+        requires given { own_call self.old.script n ≡ Some c.now }
         ensures script { self.new.script ≡ self.old.script }
         ensures contexts { self.new.contexts ≡ self.old.contexts }
         ensures done { OnOk result (CallRan self.old.script actor n (Some (t, c.now)) (past_of self.old.trace) (past_of self.new.trace)) }
@@ -257,8 +276,9 @@ impl<'a> Run<'a> {
     fn line(&mut self, n: u32, l: &Line) -> Result<(), AllocError>
         requires ready { (t : TxNo) (c : Call) → call_of self.old.script l.now.body ≡ Some (t, c) → IsReady (observe (history t.value (past_of self.old.trace))) c }
         requires unopened { IsUnopened l.now.body (scopes_at l.now.actor self.old.contexts) }
+        requires stands { kth self.old.script n ≡ Some l.now }
         ensures script { self.new.script ≡ self.old.script }
-        ensures done { OnOk result (CallRan self.old.script l.now.actor n (call_of self.old.script l.now.body) (after_scope n l.now (scopes_at l.now.actor self.old.contexts) (past_of self.old.trace)) (past_of self.new.trace)) }
+        ensures done { OnOk result (CallRan self.old.script l.now.actor n (call_of self.old.script l.now.body) (after_scope self.old.script n l.now (scopes_at l.now.actor self.old.contexts) (past_of self.old.trace)) (past_of self.new.trace)) }
         ensures scopes { OnOk result ((before : List Line) → AreOpen self.old.contexts before → AreOpen self.new.contexts (l.now ∷ before)) }
     {
         match call_of(&self.plans, l.body) {
@@ -282,6 +302,7 @@ impl<'a> Run<'a> {
         let lines = self.plans.lines();
         let mut n = 0;
         for l in lines {
+            self.is_plain();
             n += 1;
             self.line(n, l)?;
         }
@@ -313,7 +334,11 @@ fn call_of(plans: &Plans, body: Body) -> Option<(TxNo, Call)>
         Body::Await(t) => Some((t, Call::Await(t))),
         Body::Tick(t, n) => Some((t, Call::Tick(t, n))),
         Body::Do(t, k, n) => Some((t, Call::Do(t, k, n))),
+        Body::Marshal(t) => Some((t, Call::Marshal(t))),
+        Body::Lose(t, c, n, m) => Some((t, Call::Lose(t, c, n, m))),
         Body::Gone(e) => Some((plans.transaction_with(e)?, Call::Gone(e))),
+        Body::Reenlist(e) => Some((plans.transaction_with(e)?, Call::Reenlist(e))),
+        Body::Recovered(t, r) => Some((t, Call::Recovered(t, r))),
         _ => None,
     }
 }
@@ -324,10 +349,13 @@ fn trace_of(alloc: Global, lines: &[Line]) -> Result<Trace, AllocError>
     requires run { are_run lines.now ≡ true }
     ensures replayed { IfOk result (λ T. IsReplayed lines.now (past_of T)) }
     ensures settled { IfOk result (λ T. (t : TxNo) → Settled lines.now (history t.value (past_of T))) }
+    ensures plain { IfOk result (λ T. are_plain (past_of T) ≡ true) }
+    ensures planned { IfOk result (λ T. (t : TxNo) → IsToPlan lines.now (history t.value (past_of T))) }
 {
     let mut run = Run::new(alloc, lines)?;
     run.lines()?;
     run.settle_all()?;
+    run.is_plain();
     Ok(run.into_trace())
 }
 
@@ -340,8 +368,9 @@ pub fn run_replay<D: Disk>(alloc: Global, s: &Script, log: &mut Log<D>) -> Resul
     requires script { IsScript s.now }
     requires run { are_run s.now ≡ true }
     ensures log { log.new ≡ log.old }
-    ensures history { IfOk result (λ T. IsHistory s.now T) }
-    ensures outcome { IfOk result (λ T. HasOneOutcome s.now T) }
+    ensures history { IfOk result (λ T. IsHistory s.now 0 (D.faults log.new.disk - D.faults log.old.disk) T) }
+    ensures replay { IfOk result (λ T. IsReplay s.now (D.faults log.new.disk - D.faults log.old.disk) true T) }
+    ensures outcome { IfOk result (λ T. HasOneOutcome T) }
     ensures complete { IfOk result (λ T. IsComplete s.now T) }
 {
     // These calls do nothing when they run: their bodies are empty. Each brings its law into this proof, from which the clauses follow.

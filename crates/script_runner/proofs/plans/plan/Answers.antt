@@ -1,5 +1,4 @@
-use Rattle.std.proofs.Common.{◌≡◌, ◌==◌, ℕ, get_or, if◌then◌else◌}
-use Rattle.script_runner.specs.Plans.{or_made, unmade}
+use Rattle.std.proofs.Common.{◌≡◌, ◌==◌, ℕ, None, Some, get_or, if◌then◌else◌}
 use Rattle.script_runner.proofs.PlanTable.{on_ok, planned_put}
 use Rattle.script_runner.proofs.plans.plan.Goals as goal
 
@@ -7,7 +6,5 @@ pub returns : goal.returns
 returns c =
     let made = c.args.enlistments.now.items in
     let new = c.put_at.new.items.items in
-    let place = c.index-place.result in
-    let put = rw (c.unmade-2.ensures, c.or.ensures, c.item_at-before.ensures, c.deref.ensures.value, c.unmade.ensures) at c.put_at.ensures in
-    on_ok c.put_at.result (λ (k : (n : ℕ) → get_or new n unmade ≡ (if n == place then or_made c.in-Some.said (get_or made place unmade) else get_or made n unmade)).
-    planned_put made new c.args.body c.in-Some.e c.in-Some.said place c.index-place.ensures.place c.in-Some.ensures.some k) put
+    on_ok c.put_at.result (λ (k : (n : ℕ) → get_or new n None ≡ (if n == c.index.result then Some c.in-Some.said else get_or made n None)).
+    planned_put made new c.args.body c.in-Some.e c.in-Some.said c.index.result c.index.ensures.place c.in-Some.ensures.some k) c.put_at.ensures

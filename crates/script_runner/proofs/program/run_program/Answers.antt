@@ -4,7 +4,7 @@ use Rattle.dtx_model.specs.Grammar.{IsNotYet}
 use Rattle.script_runner.specs.Refusal.{HasNoReplay}
 use Rattle.script_runner.specs.declared.exit.Exit.TheVariants.{BadScript, NotYet}
 use Rattle.script_runner.specs.declared.program.Refusal.{Refusal}
-use Rattle.script_runner.proofs.Programs.{is_cut_short, is_written, left-none, never_bad, never_not_yet, not_yet-all, one_not_yet}
+use Rattle.script_runner.proofs.Programs.{is_cut_short, is_written, left-none, never_bad, never_not_yet, no_rise, not_yet-all, one_not_yet}
 use Rattle.script_runner.proofs.program.run_program.Goals as goal
 
 pub returns-in-Err-Bad-clause-bad_refused : goal.returns-in-Err-Bad-clause-bad_refused
@@ -49,7 +49,8 @@ returns-in-Err-NotYet-clause-not_yet_refused g c n words b told bad =
 
 pub returns-in-Ok-write_all-clause-headline : goal.returns-in-Ok-write_all-clause-headline
 returns-in-Ok-write_all-clause-headline g c k =
-    is_written _ _ _ c.deref.result.now c.in-Ok-script_to_run.script c.in-Ok-replayed.text.items c.deref-2.result.now (λ b told. c.deref.ensures.value ∙ c.in-Ok.ensures.read b told) c.in-Ok-script_to_run.ensures.script.0
+    is_written _ _ _ _ c.deref.result.now c.in-Ok-script_to_run.script c.in-Ok-replayed.text.items c.deref-2.result.now
+    (no_rise _ _ (ap g.D.Disk.faults c.into_disk-disk.ensures.disk ∙ ap (λ l. g.D.Disk.faults l.disk) c.replayed-replayed.ensures.log ∙ c.in-Ok-formatted.ensures.smooth)) (λ b told. c.deref.ensures.value ∙ c.in-Ok.ensures.read b told) c.in-Ok-script_to_run.ensures.script.0
     c.in-Ok-replayed.ensures.text c.deref-2.ensures.value c.in-Ok-write_all.ensures.all
 
 pub returns-in-Ok-write_all-clause-read : goal.returns-in-Ok-write_all-clause-read
@@ -58,13 +59,15 @@ returns-in-Ok-write_all-clause-read g c k =
 
 pub returns-in-Err-Fault-write_all-clause-cut_short : goal.returns-in-Err-Fault-write_all-clause-cut_short
 returns-in-Err-Fault-write_all-clause-cut_short g c k =
-    is_cut_short _ _ _ c.deref.result.now c.in-Ok-script_to_run.script c.in-Ok-replayed.text.items c.deref-2.result.now (λ b told. c.deref.ensures.value ∙ c.in-Ok.ensures.read b told) c.in-Ok-script_to_run.ensures.script.0
+    is_cut_short _ _ _ _ c.deref.result.now c.in-Ok-script_to_run.script c.in-Ok-replayed.text.items c.deref-2.result.now
+    (no_rise _ _ (ap g.D.Disk.faults c.into_disk-disk.ensures.disk ∙ ap (λ l. g.D.Disk.faults l.disk) c.replayed-replayed.ensures.log ∙ c.in-Ok-formatted.ensures.smooth)) (λ b told. c.deref.ensures.value ∙ c.in-Ok.ensures.read b told) c.in-Ok-script_to_run.ensures.script.0
     c.in-Ok-replayed.ensures.text c.deref-2.ensures.value c.in-Err-Fault-write_all.ensures.part
 
 pub returns-clause-memory : goal.returns-clause-memory
 returns-clause-memory g c k =
     inr
-    (is_cut_short _ _ _ c.deref.result.now c.in-Ok-script_to_run.script c.in-Ok-replayed.text.items c.deref-2.result.now (λ b told. c.deref.ensures.value ∙ c.in-Ok.ensures.read b told) c.in-Ok-script_to_run.ensures.script.0
+    (is_cut_short _ _ _ _ c.deref.result.now c.in-Ok-script_to_run.script c.in-Ok-replayed.text.items c.deref-2.result.now
+    (no_rise _ _ (ap g.D.Disk.faults c.into_disk-disk.ensures.disk ∙ ap (λ l. g.D.Disk.faults l.disk) c.replayed-replayed.ensures.log ∙ c.in-Ok-formatted.ensures.smooth)) (λ b told. c.deref.ensures.value ∙ c.in-Ok.ensures.read b told) c.in-Ok-script_to_run.ensures.script.0
     c.in-Ok-replayed.ensures.text c.deref-2.ensures.value c.in-Err-Memory-write_all.ensures.part)
 
 pub returns-in-Ok-write_all-clause-bad_refused : goal.returns-in-Ok-write_all-clause-bad_refused

@@ -1,9 +1,10 @@
 use Rattle.std.proofs.Common.{◌≡◌, List, [], ap, arith, subst, sym, ◌∙◌}
 use Rattle.dtx_values.specs.declared.script.Line.{Line}
-use Rattle.dtx_model.specs.Caused.{Settled}
-use Rattle.dtx_model.specs.Replay.{IsReplayed, LinesRan, Placed, history}
+use Rattle.dtx_model.specs.Causes.{Settled}
+use Rattle.dtx_model.specs.Replay.{Placed, history}
+use Rattle.dtx_model.specs.Replays.{IsReplayed, LinesRan}
 use Rattle.dtx_model.specs.Words.{past_of}
-use Rattle.script_runner.specs.RunState.{IsSettledBelow, RunState}
+use Rattle.script_runner.specs.RunState.{IsSettledBelow, IsToPlan, RunState}
 use Rattle.script_runner.specs.Scoped.{AreOpen}
 use Rattle.script_runner.proofs.Openings.{open_none}
 use Rattle.script_runner.proofs.Replayed.{is_replayed, settled-none}
@@ -31,3 +32,11 @@ returns-clause-settled c =
     subst (λ (s : List Line). IsSettledBelow s (past_of lines) 257 (past_of c.settle_all.new.self.trace)) (c.in_ok-lines.ensures.script ∙ first)
     (c.in_ok-settle_all.ensures.settled (past_of lines) (settled-none _ (past_of lines))) in
     λ t. subst (λ (T : List Placed). Settled c.args.lines.now (history t.value (past_of T))) (sym c.into_trace.ensures) (below.below t (omega (arith, t.in_range.1)))
+
+pub returns-clause-planned : goal.returns-clause-planned
+returns-clause-planned c =
+    let first : c.in_ok-run.run'.script ≡ c.args.lines.now = ap (λ (r : RunState). r.script) c.in_ok-run.ensures in
+    let same : c.settle_all.new.self.script ≡ c.args.lines.now = c.settle_all.ensures.script ∙ c.in_ok-lines.ensures.script ∙ first in
+    λ t.
+    subst (λ (T : List Placed). IsToPlan c.args.lines.now (history t.value (past_of T))) (sym c.into_trace.ensures)
+    (subst (λ (s : List Line). IsToPlan s (history t.value (past_of c.settle_all.new.self.trace))) same (c.is_plain.ensures.planned t))

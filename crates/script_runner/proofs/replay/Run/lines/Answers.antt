@@ -1,17 +1,18 @@
-use Rattle.std.proofs.Common.{◌≡◌, ◌+◌, ◌∷◌, ◌++◌, Some, true, List, ap, arith, drop, length, subst, sym, take, ◌∙◌}
+use Rattle.std.proofs.Common.{◌≡◌, ◌+◌, ◌∷◌, ◌++◌, suc, Some, true, List, ap, arith, drop, length, subst, sym, take, ◌∙◌}
 use Rattle.std.proofs.lemmas.List.{drop_more}
-use Rattle.dtx_values.specs.declared.call.Call.{Call}
 use Rattle.dtx_values.specs.declared.script.Line.{Line}
 use Rattle.dtx_model.specs.Grammar.{is_run_line}
 use Rattle.dtx_model.specs.Observed.{observe}
 use Rattle.dtx_model.specs.Replay.{history}
-use Rattle.dtx_model.specs.Steps.{call_of}
-use Rattle.dtx_model.specs.Words.{past_of}
+use Rattle.dtx_model.specs.Calls.{call_of}
+use Rattle.dtx_model.specs.AtLog.{is_local_trace}
+use Rattle.dtx_model.specs.Words.{kth, past_of}
 use Rattle.script_runner.specs.RunState.{RunState}
 use Rattle.script_runner.specs.Scoped.{AreOpen}
 use Rattle.script_runner.proofs.Openings.{always-here, lines_more, past_next, unopened}
+use Rattle.script_runner.proofs.Plain.{plain_local}
 use Rattle.script_runner.proofs.Ready.{line_ready}
-use Rattle.script_runner.proofs.Replayed.{few, split_at}
+use Rattle.script_runner.proofs.Replayed.{few, line_at, split_at}
 use Rattle.script_runner.proofs.replay.Run.lines.Goals as goal
 
 pub overflow_add-n : goal.overflow_add-n
@@ -33,9 +34,12 @@ line-requires-clause-ready c =
     let same : lines ≡ s = c.lines-lines.ensures ∙ ap (λ (r : RunState). r.script) c.self.view_is in
     let here : drop i lines ≡ l ∷ ys = drop_more lines i l c.loop-l-test.true ∙ ap (λ (x : Line). x ∷ ys) (sym c.l-item.is) in
     let split : s ≡ xs ++ l ∷ ys = sym same ∙ split_at lines i l ys here in
+    let run : is_run_line (past_of xs) l ≡ true = always-here is_run_line s xs ys l split c.requires.run in
+    let local : is_local_trace T ≡ true = plain_local T c.is_plain.ensures.plain in
     λ t call gives.
     let given : call_of s l.body ≡ Some (t, call) = ap (λ (r : List Line). call_of r l.body) (sym c.loop-l.invariant.1) ∙ gives in
-    line_ready s l.body (observe (history t.value T)) t call given (c.replay.ensures.fresh s xs ys l T t call split c.requires.script.named c.loop-l.invariant.3 given)
+    line_ready s (past_of xs) l.body (observe (history t.value T)) t call given run (c.replay.ensures.fresh s xs ys l T t call split c.requires.script.named c.loop-l.invariant.3 local given)
+    (λ v e r x makes. c.replay.ensures.alone s xs ys l T t v e r x split c.requires.script.named c.loop-l.invariant.3 local run makes)
 
 pub line-requires-clause-unopened : goal.line-requires-clause-unopened
 line-requires-clause-unopened c =
@@ -48,14 +52,29 @@ line-requires-clause-unopened c =
     let split : s ≡ take i lines ++ l ∷ drop (i + 1) lines = sym same ∙ split_at lines i l (drop (i + 1) lines) here in
     unopened s (take i lines) (drop (i + 1) lines) l c.loop-l.self.contexts split c.requires.script.named c.loop-l.invariant.2
 
-pub loop-l-preserved : goal.loop-l-preserved
-loop-l-preserved c =
+pub line-requires-clause-stands : goal.line-requires-clause-stands
+line-requires-clause-stands c =
+    let s = c.args.self.now.script in
     let lines = c.lines-lines.result.now in
     let i = c.loop-l.l-index in
-    let l = c.l-item.result in (
+    let same : lines ≡ s = c.lines-lines.ensures ∙ ap (λ (r : RunState). r.script) c.self.view_is in
+    let next : suc i ≡ c.loop-l.n + 1 = omega (arith, c.loop-l.invariant.0) in
+    subst (λ (r : List Line). kth r (c.loop-l.n + 1) ≡ Some c.l-item.result) (sym c.loop-l.invariant.1)
+    (subst (λ (r : List Line). kth r (c.loop-l.n + 1) ≡ Some c.l-item.result) same (ap (kth lines) (sym next) ∙ line_at lines i c.l-item.result c.loop-l-test.true c.l-item.is))
+
+pub loop-l-preserved : goal.loop-l-preserved
+loop-l-preserved c =
+    let s = c.args.self.now.script in
+    let lines = c.lines-lines.result.now in
+    let i = c.loop-l.l-index in
+    let l = c.l-item.result in
+    let same : lines ≡ s = c.lines-lines.ensures ∙ ap (λ (r : RunState). r.script) c.self.view_is in
+    let here : drop i lines ≡ l ∷ drop (i + 1) lines = drop_more lines i l c.loop-l-test.true ∙ ap (λ (x : Line). x ∷ drop (i + 1) lines) (sym c.l-item.is) in
+    let split : s ≡ take i lines ++ l ∷ drop (i + 1) lines = sym same ∙ split_at lines i l (drop (i + 1) lines) here in
+    let run : is_run_line (past_of (take i lines)) l ≡ true = always-here is_run_line s (take i lines) (drop (i + 1) lines) l split c.requires.run in (
       ap (λ n. n + 1) c.loop-l.invariant.0,
       c.line.ensures.script ∙ c.loop-l.invariant.1,
       subst (λ (before : List Line). AreOpen c.line.new.self.contexts before) (sym (past_next lines i l c.loop-l-test.true c.l-item.is)) (c.in_ok-line.ensures.scopes (past_of (take i lines)) c.loop-l.invariant.2),
       lines_more c.args.self.now.script c.loop-l.self.script lines i c.loop-l.n l c.loop-l.self.contexts (past_of c.loop-l.self.trace) (past_of c.line.new.self.trace) c.loop-l-test.true c.l-item.is
-          c.loop-l.invariant.0 c.loop-l.invariant.1 c.loop-l.invariant.2 c.loop-l.invariant.3 c.in_ok-line.ensures.done,
+          c.loop-l.invariant.0 c.loop-l.invariant.1 run c.loop-l.invariant.2 c.loop-l.invariant.3 c.in_ok-line.ensures.done,
     )
