@@ -29,6 +29,8 @@ use Rattle.dtx_values.specs.declared.words.Cause.{Cause}
 use Rattle.dtx_model.proofs.Bools.{not_false}
 use Rattle.dtx_model.proofs.Heeding.{half_behind, heeds_all_same}
 use Rattle.dtx_model.proofs.Lifting.{lift_ran}
+use Rattle.dtx_model.proofs.Local.{free-local}
+use Rattle.dtx_model.proofs.NarrowFacts.{open_ones-local}
 use Rattle.dtx_model.proofs.Quiet.{q_cons, q_facts, q_gone_decides}
 use Rattle.local_half.specs.Half.{Follows, IsAtHome, Known, after as known_after, fits_due, is_done, is_its_own, is_wait, with_call}
 use Rattle.local_half.proofs.Home.{owed}
@@ -242,3 +244,7 @@ unfolding observe
 unpromoted t w h home f =
     let none : latest cause_of_promotion w.past ≡ None = ap (λ (x : Half). x.seen.cause) f.knows ∙ ap (λ (x : Half). x.seen.cause) home.same in
     sym (not_false (has is_promoting_entry w.past) (none_begun w.past none))
+
+-- no connection is open in such a world
+pub none_open : (t : ℕ) (w : World) (h : Half) (e : EnlNo) → IsAtHome h → Follows t w h → open_ones w e ≡ []
+none_open t w h e home f = open_ones-local w e (free-local (IsIn w.calls) t w.past (w.calls, f.ran) (sym (unpromoted t w h home f)))

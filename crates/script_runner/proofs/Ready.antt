@@ -17,7 +17,7 @@ use Rattle.dtx_model.specs.Grammar.{is_run, is_run_durable}
 use Rattle.dtx_model.specs.Observed.{Observed}
 use Rattle.dtx_model.specs.Calls.{call_of, complete_call, gone_call, transaction_of, transaction_with}
 use Rattle.dtx_model.specs.Words.{has}
-use Rattle.local_half.specs.Half.{is_new}
+use Rattle.dtx_model.specs.Caused.{is_new}
 use Rattle.outcome_law.proofs.Picks.{passes}
 use Rattle.script_runner.specs.Calling.{IsAlone, IsReady, is_answered}
 

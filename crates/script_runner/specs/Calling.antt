@@ -17,7 +17,8 @@ use Rattle.dtx_model.specs.Half.{Half, is_gone, stands}
 use Rattle.dtx_model.specs.Answers.{facts_if, gone_answer, has_facts, if_begun, local_answer, local_facts}
 use Rattle.dtx_model.specs.World.{gone_unlinked}
 use Rattle.outcome_law.proofs.ScopeCalls.{is_scope_call}
-use Rattle.local_half.specs.Half.{is_its_own, is_new}
+use Rattle.local_half.specs.Half.{is_its_own}
+use Rattle.dtx_model.specs.Caused.{is_new}
 
 -- the call is answered: by the half itself, or it is await, do or gone
 abbrev pub is_answered : Call → Bool

@@ -14,7 +14,7 @@ ghost use Rattle.dtx_model.specs.Half.{decide, is_gone, stands, veto, veto_if};
 ghost use Rattle.dtx_model.specs.Observed.{track};
 ghost use Rattle.dtx_model.specs.Turns.{Calls, after as world_after, entered};
 ghost use Rattle.dtx_model.specs.Words.{has};
-ghost use Rattle.dtx_model.specs.World.{World, gone_unlinked, open_ones};
+ghost use Rattle.dtx_model.specs.World.{World, gone_unlinked};
 ghost use Rattle.local_half.specs.Half.{Follows, MayTakeIn, after, is_done, is_its_own, is_wait, with_call};
 
 use super::LocalHalf;
@@ -195,7 +195,7 @@ impl LocalHalf {
         requires room { 2 ≤ out.old.room }
         ensures state { self.new ≡ after [] self.old (gone_unlinked self.old.half e) }
         ensures out { out.new ≡ with out.old (gone_unlinked self.old.half e) }
-        ensures runs { (w : World) (n : ℕ) (a : ActorNo) → Follows self.old.transaction.value w self.old.half → has (is_call n) w.past ≡ false → open_ones w e ≡ []
+        ensures runs { (w : World) (n : ℕ) (a : ActorNo) → Follows self.old.transaction.value w self.old.half → has (is_call n) w.past ≡ false
             → Follows self.old.transaction.value (world_after self.old.transaction.value w (Calls n a (Gone e) 0)) self.new.half }
     {
         let is_over = self.decided.is_none() && !linked && !self.table.has_voted(e);
