@@ -38,6 +38,10 @@ fn due_at(half: &LocalHalf, plans: &Plans, k: usize) -> Due
     requires { IsAtHome half.now.half }
     ensures { IsDueAt (plans_of plans.now) half.now.half k result }
 {
+    // Most local acts come while nothing is due: then the rows aren't looked through.
+    if !half.may_be_due() {
+        return Due::Beyond(k);
+    }
     let mut more = k;
     for x in half.rows() {
         if let Some(reply) = planned_reply(plans, x.number, half.due_note(x)) {

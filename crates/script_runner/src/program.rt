@@ -7,6 +7,11 @@ ghost use Rattle.dtx_values.specs.declared.limits.TheConstants.{SCRIPT_BYTES};
 ghost use Rattle.dtx_values.specs.declared.script.BadCause.{BadCause};
 ghost use Rattle.dtx_model.specs.Grammar.{IsNotYet, IsScript, Reads, are_run};
 ghost use Rattle.dtx_model.specs.Log.{log_has};
+ghost use Rattle.dtx_model.specs.Replay.{Placed};
+ghost use Rattle.dtx_model.specs.TraceText.{trace_text};
+ghost use Rattle.dtx_model.specs.Words.{each};
+ghost use Rattle.dtx_values.specs.declared.message.Info.{Info};
+ghost use Rattle.trace_text.specs.OneTrace.{is_carried_at, is_typed_at, named_at, told_at};
 ghost use Rattle.coordinator_log.specs.Crash.{AllHold};
 ghost use Rattle.coordinator_log.specs.declared.layout.TheConstants.{LOG_BYTES};
 ghost use Rattle.dtx_model.specs.Faults.{Bad};
@@ -22,7 +27,7 @@ use coordinator_log::{Log, LogRefusal};
 use outside::{Disk, Sink, Source};
 use script_text::{BadCause, Script, ScriptError, read_script, reads_exactly};
 use std::alloc::{AllocError, Global};
-use trace_text::print_trace;
+use trace_text::{one_trace, print_trace};
 
 /// Whether the words are the one word `replay`.
 fn are_words(words: &[String]) -> bool
@@ -148,6 +153,8 @@ pub fn run_program<S: Source, K: Sink, D: Disk>(
     // This does nothing when it runs. It brings in that bytes are one script or have one first bad line, and never both, so that the answer which
     // is given is the only one that fits; and that what is bad in the bytes that were read is bad in all of them.
     reads_exactly();
+    // Nor does this. It brings in that the text which is written has one trace, up to what a message's line leaves out.
+    one_trace();
     if !are_words(words) {
         return (Exit::Usage, disk);
     }
@@ -162,6 +169,8 @@ pub fn run_program<S: Source, K: Sink, D: Disk>(
         Err(Refusal::NotYet(line)) => return (Exit::NotYet(line), disk),
         Err(Refusal::Memory) => return (Exit::Memory, disk),
     };
+    // What comes next can use the memory of the bytes.
+    drop(bytes);
     let mut log = match formatted(alloc, disk) {
         Ok(log) => log,
         Err((FormatStop::Fault, disk)) => return (Exit::LogFault, disk),

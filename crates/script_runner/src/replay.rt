@@ -26,7 +26,7 @@ use crate::plans::Plans;
 use coordinator_log::Log;
 use dtx_values::{ActorNo, Body, Call, Entry, Line, Outbox, Place, ROOM, Script, Trace, TxNo};
 use local_half::LocalHalf;
-use outcome_law::{completeness, crossings, one_outcome, replay, tables};
+use outcome_law::{completeness, crossings, one_outcome, replay};
 use outside::Disk;
 use scope_context::Context;
 use std::alloc::{AllocError, Global};
@@ -378,7 +378,6 @@ pub fn run_replay<D: Disk>(alloc: Global, s: &Script, log: &mut Log<D>) -> Resul
     crossings();
     completeness();
     replay();
-    tables();
     let trace = trace_of(alloc, s.lines())?;
     Ok(trace)
 }
