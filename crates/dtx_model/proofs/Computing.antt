@@ -12,7 +12,7 @@ use Rattle.dtx_model.specs.Acts.{act_entries}
 use Rattle.dtx_model.specs.Replies.{all_due, due_of, reply_entries}
 use Rattle.dtx_model.specs.Answers.{local_answer}
 use Rattle.dtx_model.specs.World.{answer_at}
-use Rattle.dtx_model.specs.Turns.{after, block_at, local_pending, pending}
+use Rattle.dtx_model.specs.Steps.{after, block_at, local_pending, pending}
 
 -- `unfolding model` lets `refl` compute replays, and what is said of histories
 unfoldable pub model : Unit {0}

@@ -22,10 +22,10 @@ use Rattle.dtx_model.specs.Waiting.{EnteredCall, Waiter, managed, managed_after,
 use Rattle.dtx_model.specs.Half.{Half, half_of, heeds, heeds_all}
 use Rattle.dtx_model.specs.Acts.{act_entries}
 use Rattle.dtx_model.specs.Replies.{reply_entries}
-use Rattle.dtx_model.specs.Answers.{facts_if, has_facts}
+use Rattle.dtx_model.specs.Facts.{facts_if, has_facts}
 use Rattle.dtx_model.specs.World.{World, half, core, answer_at, facts_at}
-use Rattle.dtx_model.specs.Turns.{Step, Calls, Replies, Acts, Coordinates, Delivers, Stops, Restarts, after, block_at, coordinates, delivered, ended_at, entered, got_by, restarted}
-use Rattle.dtx_model.specs.Causes.{MayCome}
+use Rattle.dtx_model.specs.Steps.{Step, Calls, Replies, Acts, Coordinates, Delivers, Stops, Restarts, after, block_at, coordinates, delivered, ended_at, entered, got_by, restarted}
+use Rattle.dtx_model.specs.Caused.{MayCome}
 use Rattle.dtx_model.proofs.Bools.{or_first, or_second}
 use Rattle.dtx_model.proofs.Quiet.{Quiet, is_quiet, q_act, q_appended, q_called, q_ended_at, q_freed, q_got_by, q_head, q_if, q_one, q_reply, q_restarted, q_tail}
 

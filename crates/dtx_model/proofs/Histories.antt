@@ -7,7 +7,7 @@ use Rattle.dtx_values.specs.declared.trace.Place.{Place}
 use Rattle.dtx_values.specs.declared.trace.Place.TheVariants.{Context, Transaction}
 use Rattle.dtx_model.specs.Words.{onto, past_of}
 use Rattle.dtx_model.specs.Observed.{observe, track, track_all}
-use Rattle.dtx_model.specs.Replay.{Placed, is_at, is_context, entries_at, history, at_context, placed, noted}
+use Rattle.dtx_model.specs.Traces.{Placed, is_at, is_context, entries_at, history, at_context, placed, noted}
 
 -- two blocks after each other are one
 pub onto-append : {E : Type 0} (h xs ys : List E) → onto h (xs ++ ys) ≡ onto (onto h xs) ys

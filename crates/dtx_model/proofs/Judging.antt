@@ -21,8 +21,8 @@ use Rattle.dtx_model.specs.Observed.{observe}
 use Rattle.dtx_model.specs.Half.{half_of}
 use Rattle.dtx_model.specs.Acts.{act_entries}
 use Rattle.dtx_model.specs.Replies.{due_of}
-use Rattle.dtx_model.specs.Causes.{is_as_planned, plans_of}
-use Rattle.dtx_model.specs.Histories.{nobody}
+use Rattle.dtx_model.specs.Caused.{is_as_planned, plans_of}
+use Rattle.dtx_model.specs.History.{nobody}
 use Rattle.dtx_model.proofs.Crossing.{may_cross}
 
 -- a reply answers the note that is due of its enlistment

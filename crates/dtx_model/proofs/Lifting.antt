@@ -4,8 +4,8 @@ use Rattle.dtx_values.specs.declared.number.ActorNo.{ActorNo}
 use Rattle.dtx_values.specs.declared.call.Call.{Call}
 use Rattle.dtx_values.specs.declared.entry.Entry.{Entry}
 use Rattle.dtx_model.specs.World.{World}
-use Rattle.dtx_model.specs.Turns.{Step, Calls, Replies, Acts, Coordinates, Delivers, Stops, Restarts}
-use Rattle.dtx_model.specs.Causes.{MayCome, Ran, FreelyCaused}
+use Rattle.dtx_model.specs.Steps.{Step, Calls, Replies, Acts, Coordinates, Delivers, Stops, Restarts}
+use Rattle.dtx_model.specs.Caused.{MayCome, Ran, FreelyCaused}
 
 lift_step : (G H : ℕ → ActorNo → Call → Type 0) → ((n : ℕ) (a : ActorNo) (c : Call) → G n a c → H n a c) → (t : ℕ) (w : World) (m : Step) → MayCome G t w m → MayCome H t w m
 lift_step G H f t w (Calls n a c m) k = (f n a c k.0, k.1, k.2)

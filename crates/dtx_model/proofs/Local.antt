@@ -27,15 +27,17 @@ use Rattle.dtx_values.specs.Waves.{all_voted, is_over, next_ask}
 use Rattle.dtx_model.specs.declared.listener.Listener.{Listener}
 use Rattle.dtx_model.specs.Words.{has, onto}
 use Rattle.dtx_model.specs.Observed.{Observed, observe}
-use Rattle.dtx_model.specs.Waiting.{managed, plan_of}
+use Rattle.dtx_model.specs.Waiting.{managed}
+use Rattle.dtx_model.specs.Plans.{plan_of}
 use Rattle.dtx_model.specs.Half.{Half, is_gone, is_handed, stands}
 use Rattle.dtx_model.specs.Coordinated.{may_free, may_log}
 use Rattle.dtx_model.specs.Acts.{act_entries as full_act, tell}
 use Rattle.dtx_model.specs.Replies.{due_of, reply_entries as full_reply}
-use Rattle.dtx_model.specs.Answers.{await_answer, begin_promotion, clone_answer, complete_answer, durable_waits, facts_if, gone_answer, has_facts, if_begun, local_facts, reaches, status_answer, ticked, unless_ended, unless_late, wait_for}
+use Rattle.dtx_model.specs.Answers.{await_answer, clone_answer, complete_answer, gone_answer, if_begun, status_answer, unless_ended, unless_late, wait_for}
+use Rattle.dtx_model.specs.Facts.{begin_promotion, durable_waits, facts_if, has_facts, local_facts, reaches, ticked}
 use Rattle.dtx_model.specs.World.{World, core, facts_at, half, has_left}
-use Rattle.dtx_model.specs.Turns.{LogAnswer, Step, Calls, Replies, Acts, Coordinates, Delivers, Stops, Restarts, after, block_at, core_act, deliveries_on, local_pending, pending}
-use Rattle.dtx_model.specs.Causes.{FreelyCaused, MayCome, Ran, is_begin_sent, is_promoting_entry, is_unpromoted, may_coordinate}
+use Rattle.dtx_model.specs.Steps.{LogAnswer, Step, Calls, Replies, Acts, Coordinates, Delivers, Stops, Restarts, after, block_at, core_act, deliveries_on, local_pending, pending}
+use Rattle.dtx_model.specs.Caused.{FreelyCaused, MayCome, Ran, is_begin_sent, is_promoting_entry, is_unpromoted, may_coordinate}
 use Rattle.dtx_model.proofs.Bools.{and_both, and_left, and_right, not_both, not_true, or_first, or_second}
 use Rattle.dtx_model.proofs.Narrow.{act_by, act_entries, after_seal, answer, before_seal, block, commit_act, decided_if, facts, is_done, is_late, is_to_tell, lost_outcome, reply_entries, time_up, undecided_act, veto_if}
 use Rattle.dtx_model.proofs.Narrowing.{act-narrow}

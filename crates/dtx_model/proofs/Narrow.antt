@@ -29,8 +29,9 @@ use Rattle.dtx_model.specs.Words.{has}
 use Rattle.dtx_model.specs.Observed.{Observed}
 use Rattle.dtx_model.specs.Half.{stands, is_gone, is_handed, is_aborted}
 use Rattle.dtx_model.specs.Acts.{lasts, tell}
-use Rattle.dtx_model.specs.Answers.{limit_of, class_of, if_begun, unless_over, wait_for, clone_answer, complete_answer, unless_late, gone_answer, status_answer, await_answer, ticked, reaches, facts_if}
-use Rattle.dtx_model.specs.Turns.{Step, Calls, Replies, Acts}
+use Rattle.dtx_model.specs.Answers.{limit_of, class_of, if_begun, unless_over, wait_for, clone_answer, complete_answer, unless_late, gone_answer, status_answer, await_answer}
+use Rattle.dtx_model.specs.Facts.{ticked, reaches, facts_if}
+use Rattle.dtx_model.specs.Steps.{Step, Calls, Replies, Acts}
 
 abbrev pub volatile_answer : Bool → List Row → Answer
 volatile_answer sealed xs = if sealed then TooLate else if nat_le ENLISTMENTS (length xs) then Many ENLISTMENTS else Fine
@@ -186,4 +187,3 @@ abbrev pub fits : Reply → Note → Bool
 fits (VoteReply v) PrepareNote = true
 fits (OwnerReply x) HandNote = true
 fits _ _ = false
-

@@ -19,9 +19,10 @@ use Rattle.dtx_model.specs.Observed.{Observed, observe, track}
 use Rattle.dtx_model.specs.Waiting.{managed}
 use Rattle.dtx_model.specs.Half.{Half, decide, is_handed, sees, veto, veto_if as full_veto_if}
 use Rattle.dtx_model.specs.Wires.{is_open_wire}
-use Rattle.dtx_model.specs.Answers.{facts_if, has_facts, if_begun, is_late as full_late, local_facts, reaches, ticked, time_up as full_time_up, unless_ended}
+use Rattle.dtx_model.specs.Facts.{facts_if, has_facts, is_late as full_late, local_facts, reaches, ticked, time_up as full_time_up}
+use Rattle.dtx_model.specs.Answers.{if_begun, unless_ended}
 use Rattle.dtx_model.specs.World.{World, connections_of, facts_at, gone_by, gone_unlinked, half, open_ones}
-use Rattle.dtx_model.specs.Turns.{Calls, block_at}
+use Rattle.dtx_model.specs.Steps.{Calls, block_at}
 use Rattle.dtx_model.proofs.Narrow.{answer, block, decided_if, facts, is_done, is_late, lost_outcome, time_up, veto_if}
 use Rattle.dtx_model.proofs.Bools.{not_both}
 use Rattle.dtx_model.proofs.NarrowCalls.{answer-narrow, is_answered_here}
@@ -156,4 +157,4 @@ unfolding block_at block
 call-narrow t w n a c k p q =
     ap (λ x. Called n a x ∷ facts_if (has_facts x) (facts_at t w c x)) (answer-narrow t w c k p)
     ∙ ap (λ es. Called n a (answer (observe w.past) c k) ∷ es)
-      (if_same (answer (observe w.past) c k) (facts_at t w c (answer (observe w.past) c k)) (facts (observe w.past) c) q (done_facts t w c k (answer (observe w.past) c k) p refl))
+    (if_same (answer (observe w.past) c k) (facts_at t w c (answer (observe w.past) c k)) (facts (observe w.past) c) q (done_facts t w c k (answer (observe w.past) c k) p refl))

@@ -14,10 +14,10 @@ use Rattle.dtx_values.specs.declared.script.Body.TheVariants.{Restart}
 use Rattle.dtx_values.specs.declared.script.Line.{Line}
 use Rattle.dtx_model.specs.Words.{kth}
 use Rattle.dtx_model.specs.Calls.{call_of}
-use Rattle.dtx_model.specs.Waiting.{plan_of, planned}
+use Rattle.dtx_model.specs.Plans.{plan_of, planned}
 use Rattle.dtx_model.specs.Replies.{due_of}
 use Rattle.dtx_model.specs.World.{World, half}
-use Rattle.dtx_model.specs.Turns.{LogAnswer, Done, Step, Calls, Replies, Acts, Coordinates, Delivers, Restarts, StepName, ReplyOf, LocalAct, CoordinatorAct, Delivery, after, pending}
+use Rattle.dtx_model.specs.Steps.{LogAnswer, Done, Step, Calls, Replies, Acts, Coordinates, Delivers, Restarts, StepName, ReplyOf, LocalAct, CoordinatorAct, Delivery, after, pending}
 
 -- how far it has got: the transaction's world, what the log is going to answer to its appends and frees, and what the restarts to come are
 -- going to find of its record. After these answers the log does what it is asked.

@@ -53,10 +53,11 @@ use Rattle.dtx_model.specs.Half.{Half, sees, is_promoting, to_up, fails_if, deci
 use Rattle.dtx_model.specs.Arrivals.{unless_decided, hand_over, place_given, told_abort, has_both_ends, ended_there, ended_by, begin_arrived, voter_arrived, enlist_arrived, again_arrived, arrived, local_got, local_down}
 use Rattle.dtx_model.specs.Acts.{tell, is_to_tell, promotable_in, under_way, commit_sent, ask_or, after_seal, commit_act, yes_act, voter_act, promoted_act, sealed_act, asked_act, unasked_promotable, undecided_act, act_by, act_entries}
 use Rattle.dtx_model.specs.Replies.{ack_on, conn_due, due_of, is_volatile_row, owner_entries, promote_entries, reply_entries, request_message, request_of, vote_message, voted_by}
-use Rattle.dtx_model.specs.Answers.{begin_promotion, class_of, durable_facts, durable_waits, facts_if, has_facts, is_late, limit_of, local_facts, reaches, ticked, time_up}
+use Rattle.dtx_model.specs.Facts.{begin_promotion, durable_facts, durable_waits, facts_if, has_facts, is_late, local_facts, reaches, ticked, time_up}
+use Rattle.dtx_model.specs.Answers.{class_of, limit_of}
 use Rattle.dtx_model.specs.World.{World, half, core, has_left, answer_at, cut, cut_upward, facts_at, gone_by, gone_decides, open_ones, reenlist_facts}
-use Rattle.dtx_model.specs.Turns.{LogAnswer, Done, Full, StoppedNow, StoppedBefore, Step, Calls, Replies, Acts, Coordinates, Delivers, Stops, Restarts, after, appended, block_at, coordinates, delivered, ended_at, freed, got_by, restarted}
-use Rattle.dtx_model.specs.Causes.{MayCome, Ran, FreelyCaused}
+use Rattle.dtx_model.specs.Steps.{LogAnswer, Done, Full, StoppedNow, StoppedBefore, Step, Calls, Replies, Acts, Coordinates, Delivers, Stops, Restarts, after, appended, block_at, coordinates, delivered, ended_at, freed, got_by, restarted}
+use Rattle.dtx_model.specs.Caused.{MayCome, Ran, FreelyCaused}
 
 -- the entry is no call, no message that is got and no end, and a message that is sent has a line
 abbrev pub is_quiet : Entry → Bool

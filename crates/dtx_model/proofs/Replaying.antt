@@ -15,16 +15,16 @@ use Rattle.dtx_model.specs.Words.{always, each, kth, past_of}
 use Rattle.dtx_model.specs.Outcome.{agree, is_empty, justified}
 use Rattle.dtx_model.specs.Promotes.{promotes}
 use Rattle.dtx_model.specs.Learned.{are_answered, is_decided_there, is_learned}
-use Rattle.dtx_model.specs.Causes.{is_as_planned, plans_of}
-use Rattle.dtx_model.specs.Histories.{nobody}
+use Rattle.dtx_model.specs.Caused.{is_as_planned, plans_of}
+use Rattle.dtx_model.specs.History.{nobody}
 use Rattle.dtx_model.specs.Calls.{call_of}
 use Rattle.dtx_model.specs.Contexts.{scopes_of}
-use Rattle.dtx_model.specs.Replay.{Placed, calls, history}
+use Rattle.dtx_model.specs.Traces.{Placed, calls, history}
 use Rattle.dtx_model.specs.Replies.{due_of}
 use Rattle.dtx_model.specs.World.{half}
-use Rattle.dtx_model.specs.Turns.{LogAnswer, Done, StoppedNow, Step, Calls, Replies, Acts, Coordinates, Delivers, StepName, ReplyOf, LocalAct, CoordinatorAct, Delivery, pending}
+use Rattle.dtx_model.specs.Steps.{LogAnswer, Done, StoppedNow, Step, Calls, Replies, Acts, Coordinates, Delivers, StepName, ReplyOf, LocalAct, CoordinatorAct, Delivery, pending}
 use Rattle.dtx_model.specs.AtLog.{act_calls, at_log, faults, follow_log, is_met, open_right, stop_right, transactions}
-use Rattle.dtx_model.specs.Replays.{Opens, after_restart, after_scope, after_turn, at_the_log, due_calls, world_at}
+use Rattle.dtx_model.specs.Replay.{Opens, after_restart, after_scope, after_turn, at_the_log, due_calls, world_at}
 use Rattle.dtx_model.proofs.Crossing.{may_cross}
 use Rattle.dtx_model.proofs.Playing.{fuel, reply_to}
 

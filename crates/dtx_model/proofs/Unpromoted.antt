@@ -17,7 +17,7 @@ use Rattle.dtx_model.specs.Half.{half_of}
 pub use Rattle.dtx_model.specs.Half.{at_home, narrow}
 use Rattle.dtx_model.specs.Wires.{in_transit, lost_since, transit_after, lost_after}
 use Rattle.dtx_model.specs.World.{has_left}
-use Rattle.dtx_model.specs.Causes.{is_begin_sent}
+use Rattle.dtx_model.specs.Caused.{is_begin_sent}
 use Rattle.dtx_model.proofs.Bools.{and_left, and_right}
 
 -- an entry that may come while nothing is promoted

@@ -21,8 +21,8 @@ use Rattle.dtx_values.specs.declared.words.Outcome.TheVariants.{Aborted, Committ
 use Rattle.dtx_values.specs.declared.words.Timeout.TheVariants.{Default}
 use Rattle.dtx_values.specs.declared.words.Vote.TheVariants.{Yes}
 use Rattle.dtx_model.specs.Half.{info}
-use Rattle.dtx_model.specs.Replay.{Placed, placed}
-use Rattle.dtx_model.specs.Turns.{StoppedNow}
+use Rattle.dtx_model.specs.Traces.{Placed, placed}
+use Rattle.dtx_model.specs.Steps.{StoppedNow}
 use Rattle.dtx_model.specs.Words.{past_of}
 use Rattle.dtx_model.proofs.Cast.{a1, e1, id1, r1, says, t1}
 use Rattle.dtx_model.proofs.Computing.{model}

@@ -12,9 +12,9 @@ use Rattle.dtx_model.specs.Wires.{WireRun}
 use Rattle.dtx_model.specs.Learned.{Learned, are_answered, is_decided_there}
 use Rattle.dtx_model.specs.Waiting.{EnteredCall}
 use Rattle.dtx_model.specs.World.{World, answer_at}
-use Rattle.dtx_model.specs.Turns.{LogAnswer}
-use Rattle.dtx_model.specs.Causes.{Settled, entered_at, is_as_planned, plans_of, world_of}
-use Rattle.dtx_model.specs.Histories.{nobody}
+use Rattle.dtx_model.specs.Steps.{LogAnswer}
+use Rattle.dtx_model.specs.Caused.{Settled, entered_at, is_as_planned, plans_of, world_of}
+use Rattle.dtx_model.specs.History.{nobody}
 use Rattle.dtx_model.proofs.Playing.{played}
 
 -- the lines that call, with what each is answered in the history

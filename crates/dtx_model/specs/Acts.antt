@@ -46,7 +46,7 @@ promotable_in xs = name_of (find (λ x. is_promotable x.class) xs)
 abbrev pub under_way : Half → ℕ
 under_way h = length h.waits + (if is_promoting h.seen then 1 else 0)
 
--- COMMIT is sent behind the seal of a promoted transaction, unless a promotable has to request it
+-- COMMIT is sent after the seal of a promoted transaction, unless a promotable has to request it
 abbrev pub commit_sent : Observed → List Entry
 commit_sent o = if o.promoted && not (is_some (promotable_in o.table)) then to_up o Begin BeginCommit else []
 
@@ -55,7 +55,7 @@ abbrev pub ask_or : Option EnlNo → Bool → List Entry → List Entry
 ask_or (Some e) over next = Asked e Prepare ∷ []
 ask_or None over next = if over then next else []
 
--- behind the seal each volatile is asked, and when all voted, what follows then
+-- after the seal each volatile is asked, and when all voted, what follows then
 abbrev pub after_seal : Half → List Entry → List Entry
 after_seal h next = ask_or (next_ask h.seen.table false) (all_voted h.seen.table) next
 
@@ -82,7 +82,7 @@ sealed_act h =
     if h.seen.promoted then promoted_act h (promotable_in h.seen.table)
     else after_seal h (if is_some h.seen.handed then [] else commit_act h (owner_of h.seen.table))
 
--- commit was asked: phase zero, and when it is over the seal; then what is behind it
+-- commit was asked: phase zero, and when it is over the seal; then what comes after it
 abbrev pub asked_act : Half → List Entry
 asked_act h =
     if h.seen.sealed then sealed_act h

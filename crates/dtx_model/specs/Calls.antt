@@ -61,4 +61,3 @@ call_of s (GoneLine e) = gone_call e (transaction_with s e.value)
 call_of s (ReenlistLine e) = reenlist_call e (transaction_with s e.value)
 call_of s (RecoveredLine t r) = Some (t, Recovered t r)
 call_of s _ = None
-

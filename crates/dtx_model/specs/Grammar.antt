@@ -1,5 +1,5 @@
 -- Script grammar: which bytes are which script, and which lines are run. Each line has one spelling.
-use Rattle.std.specs.Prelude.{ℕ, ◌≡◌, ◌+◌, ◌-◌, ◌≤◌, ◌==◌, nat_le, Bool, true, false, ◌&&◌, not, List, [], ◌∷◌, ◌++◌, length, codes, decimal, Option, Some, None, take}
+use Rattle.std.specs.Prelude.{ℕ, ◌≡◌, ◌+◌, ◌≤◌, ◌==◌, nat_le, Bool, true, false, ◌&&◌, not, List, [], ◌∷◌, ◌++◌, length, codes, decimal, Option, Some, None}
 use Rattle.std.specs.List.{flat_map, join_with_byte}
 use Rattle.dtx_values.specs.declared.limits.TheConstants.{LINE_BYTES, SCRIPT_BYTES}
 use Rattle.dtx_values.specs.declared.message.Conn.{Conn}
@@ -27,7 +27,7 @@ use Rattle.dtx_values.specs.declared.words.Timeout.{Timeout}
 use Rattle.dtx_values.specs.declared.words.Timeout.TheVariants.{Default, Milliseconds}
 use Rattle.dtx_values.specs.declared.words.Vote.{Vote}
 use Rattle.dtx_values.specs.declared.words.Vote.TheVariants.{Yes, No, Done}
-use Rattle.dtx_model.specs.Words.{has, each, always, kth, past_of}
+use Rattle.dtx_model.specs.Words.{has, each, always, past_of}
 
 -- a name: a letter and a number
 abbrev pub actor_name : ℕ → List ℕ
@@ -151,47 +151,6 @@ line_text l = join_with_byte 32 (words l) ++ 10 ∷ []
 
 abbrev pub script_text : List Line → List ℕ
 script_text s = flat_map line_text s
-
--- the command makes a durable or promotable enlistment of this transaction
-abbrev pub is_lasting_for : ℕ → Body → Bool
-is_lasting_for t (Durable u e r s) = t == u.value
-is_lasting_for t (Promotable u e r v o p) = t == u.value
-is_lasting_for t _ = false
-
--- a durable with single-phase support is run where no line before it makes a durable or promotable of its transaction
-abbrev pub is_run_durable : Support → Bool → Bool
-is_run_durable (SinglePhase v o) second = not second
-is_run_durable (TwoPhase v) second = false
-
--- the lines that are run, where these lines stand before it: begin, open, finish, close, current, volatile, promotable, clone, complete,
--- commit, rollback, status, await, tick, do, gone and par, and a durable that nothing lasting comes before and that can own the commit
-abbrev pub is_run : List Line → Body → Bool
-is_run before (Begin t d) = true
-is_run before (Open s o) = true
-is_run before (Finish s) = true
-is_run before (Close s) = true
-is_run before Current = true
-is_run before (Volatile t e o v) = true
-is_run before (Durable t e r s) = is_run_durable s (has (λ l. is_lasting_for t.value l.body) before)
-is_run before (Promotable t e r v o p) = true
-is_run before (Clone t c k) = true
-is_run before (Complete c) = true
-is_run before (Commit t) = true
-is_run before (Rollback t) = true
-is_run before (Status t) = true
-is_run before (Await t) = true
-is_run before (Tick t n) = true
-is_run before (Do t k n) = true
-is_run before (Gone e) = true
-is_run before Par = true
-is_run before _ = false
-
-abbrev pub is_run_line : List Line → Line → Bool
-is_run_line before l = is_run before l.body
-
--- each line is run
-abbrev pub are_run : List Line → Bool
-are_run s = always is_run_line (past_of s)
 
 -- n is from the first number to the last
 abbrev pub is_from : ℕ → ℕ → ℕ → Bool
@@ -344,16 +303,3 @@ pub record IsScript (s : List Line) : Type 0 where
 pub record Reads (b : List ℕ) (s : List Line) : Type 0 where
   pub bytes : b ≡ script_text s
   pub script : IsScript s
-
--- line n of a script is the first that isn't run yet
-pub record IsNotRun (s : List Line) (n : ℕ) : Type 0 where
-  pub line : Line
-  pub stands : kth s n ≡ Some line
-  pub not_run : is_run_line (past_of (take (n - 1) s)) line ≡ false
-  pub before : are_run (take (n - 1) s) ≡ true
-
--- these bytes are a script, and line n is the first that isn't run yet
-pub record IsNotYet (b : List ℕ) (n : ℕ) : Type 0 where
-  pub lines : List Line
-  pub reads : Reads b lines
-  pub first : IsNotRun lines n

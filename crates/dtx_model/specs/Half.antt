@@ -117,7 +117,7 @@ may_abort_by_voter o = was_sent Voter voter_tag o.ends && not (was_sent Voter (t
 abbrev pub veto_message : Observed → List Entry
 veto_message o = if may_abort_by_begin o then Sent Begin Up BeginAbort ∷ [] else if may_abort_by_voter o then Sent Voter Up VoterNo ∷ [] else []
 
--- a veto, where it stands so behind the entry that vetoes
+-- a veto, where this is known after the entry that vetoes
 unfoldable pub veto : Half → List Entry
 veto h = decide h Aborted ++ veto_message h.seen
 
@@ -134,7 +134,7 @@ enlist_sent t e r = Sent (Enl e) Up (EnlistEnlist (info t e r)) ∷ []
 abbrev pub reenlist_sent : ℕ → EnlNo → RmNo → List Entry
 reenlist_sent t e r = Sent (Again e) Up (ReenlistReenlist (info t e r)) ∷ []
 
--- the message of an enlistment that stands, by its manager
+-- the message of an enlistment, by its manager
 abbrev pub by_manager : (EnlNo → RmNo → List Entry) → List (EnlNo × RmNo) → EnlNo → List Entry
 by_manager f [] e = []
 by_manager f (m ∷ ms) e = if e.value == m.0.value then f e m.1 else by_manager f ms e
@@ -151,7 +151,7 @@ promoted_by t None = []
 abbrev pub over : ℕ → Half → List Entry
 over t h = promoted_by t h.seen.cause ++ flat_map (given t) h.waits
 
--- the enlistment stands
+-- the enlistment was made
 abbrev pub stands : Observed → ℕ → Bool
 stands o e = has_row e o.table
 

@@ -6,14 +6,12 @@ use Rattle.dtx_values.specs.declared.entry.Party.TheVariants.{Enl}
 use Rattle.dtx_values.specs.declared.message.Conn.TheVariants.{Begin, Voter, Enl as OnEnl, Again}
 use Rattle.dtx_values.specs.declared.message.Dir.TheVariants.{Down, Up}
 use Rattle.dtx_values.specs.declared.message.Message.TheVariants.{BeginAbort, VoterNo, EnlistNo}
-use Rattle.dtx_values.specs.declared.script.Line.{Line}
 use Rattle.dtx_values.specs.declared.words.Outcome.{Outcome}
 use Rattle.dtx_values.specs.declared.words.Outcome.TheVariants.{Committed, Aborted, InDoubt}
 use Rattle.dtx_model.specs.Words.{has, always, ever}
 use Rattle.dtx_model.specs.Entries.{is_record, is_told}
 use Rattle.dtx_model.specs.Outcome.{by_log, evidence, is_veto_end}
 use Rattle.dtx_model.specs.Messages.{has_line}
-use Rattle.dtx_model.specs.Caused.{Settled}
 
 -- the coordinator aborts at this entry: it got an abort or a No, its log was full, it found no record, or it saw the end of a connection before
 -- that one's COMMIT, YES or vote came
@@ -27,7 +25,7 @@ is_abort h LogFull = true
 is_abort h (Restarted found) = not found
 is_abort h _ = false
 
--- it aborts where no record stands
+-- it aborts where there is no record
 abbrev pub is_first_abort : List Entry → Entry → Bool
 is_first_abort past x = is_abort past x && not (has is_record past)
 
@@ -69,7 +67,3 @@ is_decided_there h = has is_record h || coordinator_aborted h
 -- Learned: what is told over such a connection is the logged outcome, or abort where there is none
 abbrev pub Learned : List Entry → Type 0
 Learned h = always is_learned h ≡ true
-
--- where the history is settled, each that came back was told
-abbrev pub AreAnswered : List Line → List Entry → Type 0
-AreAnswered s h = Settled s h → are_answered (is_decided_there h) [] h ≡ true

@@ -120,7 +120,7 @@ ends_refused (x ∷ past) = is_veto past x || is_refusal x || ends_told past x
 abbrev pub identifier_of : ℕ → ℕ
 identifier_of t = 18446744073709551616 + t
 
--- A promotion begins once, directly behind the first call that waits, and for that call's cause. It succeeds behind BEGUN and CREATED, and where a
+-- A promotion begins once, directly after the first call that waits, and for that call's cause. It succeeds after BEGUN and CREATED, and where a
 -- durable or promotable stood at the start after its ENLISTED. It fails directly after a veto, a refusal or an abort. It does one of both at most.
 abbrev pub keeps_order : List Line → ℕ → List Entry → Entry → Bool
 keeps_order s t past (Promoting c) = not (has is_promoting past) && is_first_wait s c past

@@ -29,7 +29,7 @@ use Rattle.dtx_values.specs.Vote.{is_no}
 use Rattle.dtx_model.specs.Words.{has, or_else}
 use Rattle.dtx_model.specs.declared.branch.Branch.{Branch}
 use Rattle.dtx_model.specs.Observed.{Observed, is_branch}
-use Rattle.dtx_model.specs.Waiting.{planned}
+use Rattle.dtx_model.specs.Plans.{planned}
 use Rattle.dtx_model.specs.Half.{Half, sees, to_up, decide, veto, veto_if, is_gone, was_told, is_handed}
 
 -- a reply to prepare: a volatile's is due until something is decided, a durable's or promotable's until it was told or its connection's end is seen
@@ -49,7 +49,7 @@ owes_request o x = o.single_asked && not o.requested && is_promotable x.class &&
 abbrev pub owes_outcome : Observed → Row → Bool
 owes_outcome o x = is_handed o.handed x.number.value && not (is_some o.decided)
 
--- the note to which an enlistment that stands owes a reply
+-- the note to which an enlistment owes a reply
 abbrev pub row_note : Observed → Row → Option Note
 row_note o x =
     if owes_vote o x then Some Prepare else if owes_promotion o x then Some PromoteNote else if owes_outcome o x then Some Hand else if owes_request o x then Some Single else None
@@ -122,7 +122,7 @@ vote_message Done = EnlistReadonly
 abbrev pub is_volatile_row : Observed → ℕ → Bool
 is_volatile_row o e = has (λ x. is_of e x && is_volatile x.class) o.table
 
--- behind a vote: a volatile's No is a veto, a durable or promotable sends its vote
+-- after a vote: a volatile's No is a veto, a durable or promotable sends its vote
 abbrev pub voted_by : Half → EnlNo → Vote → List Entry
 voted_by h e v = if is_volatile_row h.seen e.value then veto_if (is_no v) h else to_up h.seen (Enl e) (vote_message v)
 

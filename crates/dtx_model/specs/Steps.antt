@@ -1,271 +1,133 @@
--- The steps of one transaction: what a call answers, which steps are pending, and the entries of each.
--- The rows are those of begin, volatile, durable, promotable, clone, complete, commit, rollback, status, await, tick, do and gone, while
--- nothing is promoted.
-use Rattle.std.specs.Prelude.{ℕ, ◌==◌, nat_le, Bool, true, false, ◌&&◌, ◌||◌, not, List, [], ◌∷◌, ◌++◌, length, find, Option, Some, None, is_some, if◌then◌else◌}
-use Rattle.std.specs.List.{filter_map}
-use Rattle.dtx_values.specs.declared.limits.TheConstants.{DURABLES, ENLISTMENTS}
+-- The steps of one transaction, those that are pending, and the entries of each: the whole of a transaction's machine, over its calls and its history.
+use Rattle.std.specs.Prelude.{ℕ, Bool, true, false, ◌||◌, List, [], ◌∷◌, ◌++◌, map, filter, if◌then◌else◌}
+use Rattle.std.specs.List.{flat_map}
+use Rattle.dtx_values.specs.declared.call.Call.{Call}
+use Rattle.dtx_values.specs.declared.entry.Answer.{Answer}
+use Rattle.dtx_values.specs.declared.entry.Entry.{Entry}
+use Rattle.dtx_values.specs.declared.entry.Entry.TheVariants.{Called, Down as Ended, Freed, Got, LogFull, Logged, Restarted, Stopped}
+use Rattle.dtx_values.specs.declared.message.Conn.{Conn}
+use Rattle.dtx_values.specs.declared.message.Dir.{Dir}
+use Rattle.dtx_values.specs.declared.message.Dir.TheVariants.{Up, Down}
+use Rattle.dtx_values.specs.declared.message.Message.{Message}
+use Rattle.dtx_values.specs.declared.note.Plan.{Plan}
+use Rattle.dtx_values.specs.declared.note.Reply.{Reply}
 use Rattle.dtx_values.specs.declared.number.ActorNo.{ActorNo}
 use Rattle.dtx_values.specs.declared.number.EnlNo.{EnlNo}
-use Rattle.dtx_values.specs.declared.call.Call.{Call}
-use Rattle.dtx_values.specs.declared.call.Call.TheVariants.{Begin, Volatile, Durable, Promotable, Clone, Complete, Commit, Rollback, Status, Await, Tick, Do, Gone}
-use Rattle.dtx_values.specs.declared.entry.Answer.{Answer}
-use Rattle.dtx_values.specs.declared.entry.Answer.TheVariants.{Fine, True, False, Did, TooLate, Many}
-use Rattle.dtx_values.specs.declared.entry.Ask.TheVariants.{Prepare}
-use Rattle.dtx_values.specs.declared.entry.Entry.{Entry}
-use Rattle.dtx_values.specs.declared.entry.Entry.TheVariants.{Called, Began, Cloned, Completed, Enlisted, CommitAsked, RollbackAsked, Clock, TimedOut, Late, Asked, Voted, Sealed, Handed, OwnerAnswered, Decided, Init, Lost}
-use Rattle.dtx_values.specs.declared.note.Reply.{Reply}
-use Rattle.dtx_values.specs.declared.note.Reply.TheVariants.{Vote as VoteReply, Owner as OwnerReply}
-use Rattle.dtx_values.specs.declared.note.Note.{Note}
-use Rattle.dtx_values.specs.declared.note.Note.TheVariants.{Prepare as PrepareNote, Hand as HandNote}
-use Rattle.dtx_values.specs.declared.script.Body.{Body}
-use Rattle.dtx_values.specs.declared.script.Body.TheVariants.{Volatile as VolatileLine, Durable as DurableLine, Promotable as PromotableLine}
-use Rattle.dtx_values.specs.declared.script.Line.{Line}
-use Rattle.dtx_values.specs.declared.script.Support.TheVariants.{SinglePhase, TwoPhase}
-use Rattle.dtx_values.specs.declared.words.Class.TheVariants.{DurableSingle, Promotable as PromotableClass}
-use Rattle.dtx_values.specs.declared.words.Outcome.{Outcome}
-use Rattle.dtx_values.specs.declared.words.Outcome.TheVariants.{Committed, Aborted, InDoubt}
-use Rattle.dtx_values.specs.declared.words.Vote.{Vote}
-use Rattle.dtx_values.specs.declared.row.Row.{Row}
-use Rattle.dtx_values.specs.Table.{how_many, voted}
-use Rattle.dtx_values.specs.Clones.{is_clone, is_complete_clone, is_open_rollback}
-use Rattle.dtx_model.specs.declared.listener.Listener.{Listener}
-use Rattle.dtx_model.specs.Words.{has, latest, past_of}
-use Rattle.dtx_values.specs.Row.{is_lasting, has_voted, is_marked, is_of}
-use Rattle.dtx_values.specs.Owners.{cause_of, may_own, owner_of, is_evident}
-use Rattle.dtx_values.specs.Waves.{hears, is_over, next_ask, all_voted}
-use Rattle.dtx_values.specs.Vote.{is_no}
-use Rattle.dtx_model.specs.Observed.{Observed}
-use Rattle.dtx_values.specs.Support.{is_single}
-pub use Rattle.dtx_model.specs.Calls.{clone_made, transaction_of, complete_call, enlistment_made, transaction_with, gone_call, reenlist_call, call_of}
-pub use Rattle.dtx_model.specs.Answers.{limit_of, class_of, if_begun, unless_ended, unless_over, wait_for, clone_answer, complete_answer, unless_late, gone_answer, status_answer, await_answer, ticked, reaches}
-pub use Rattle.dtx_model.specs.Half.{stands, is_gone, is_handed, is_aborted}
-pub use Rattle.dtx_model.specs.Acts.{lasts, tell}
-pub use Rattle.dtx_model.specs.Replies.{with_note}
-pub use Rattle.dtx_model.specs.Contexts.{is_fine}
+use Rattle.dtx_values.specs.declared.end.End.{End}
+use Rattle.dtx_model.specs.Words.{onto}
+use Rattle.dtx_model.specs.Promotes.{identifier_of}
+use Rattle.dtx_model.specs.Wires.{in_transit}
+use Rattle.dtx_model.specs.Coordinated.{Coordinated, abort_sends, commit_sends, core_down, core_got, follow, may_free, may_log}
+use Rattle.dtx_model.specs.Waiting.{EnteredCall}
+use Rattle.dtx_model.specs.Plans.{plan_of}
+use Rattle.dtx_model.specs.Half.{Half}
+use Rattle.dtx_model.specs.Arrivals.{local_down, local_got}
+use Rattle.dtx_model.specs.Acts.{act_entries}
+use Rattle.dtx_model.specs.Facts.{facts_if, has_facts}
+use Rattle.dtx_model.specs.Replies.{all_due, is_answered, reply_entries}
+use Rattle.dtx_model.specs.World.{World, half, core, has_left, answer_at, facts_at}
 
--- one step: a line's call by its actor, with the steps that were done for it before it answers, which only a `do` counts;
--- a reply of an enlistment; or the local act
+-- what the log answered to an append or a free: done, no gate is closed, stopped by this call, or found stopped
+pub data LogAnswer : Type 0 where
+  Done : LogAnswer
+  Full : LogAnswer
+  StoppedNow : LogAnswer
+  StoppedBefore : LogAnswer
+
+-- one step: a line's call by its actor, with the steps that were done for it before it answers, which only a `do` counts; a reply of an enlistment; the
+-- local act; the coordinator's act, with what the log answered; a delivery; a stop that another brought; and a restart that found a record or none
 pub data Step : Type 0 where
   Calls : (line : ℕ) → (actor : ActorNo) → (call : Call) → (done : ℕ) → Step
   Replies : (enlistment : EnlNo) → (reply : Reply) → Step
   Acts : Step
+  Coordinates : (answer : LogAnswer) → Step
+  Delivers : (connection : Conn) → (direction : Dir) → Step
+  Stops : Step
+  Restarts : (found : Bool) → Step
 
-abbrev pub volatile_answer : Bool → List Row → Answer
-volatile_answer sealed xs = if sealed then TooLate else if nat_le ENLISTMENTS (length xs) then Many ENLISTMENTS else Fine
+-- a pending step, without what is answered to it
+pub data StepName : Type 0 where
+  ReplyOf : (enlistment : EnlNo) → StepName
+  LocalAct : StepName
+  CoordinatorAct : StepName
+  Delivery : (connection : Conn) → (direction : Dir) → StepName
 
-abbrev pub durable_answer : Bool → Bool → List Row → Answer
-durable_answer sealed single xs =
-    if sealed then TooLate else if nat_le ENLISTMENTS (length xs) then Many ENLISTMENTS else if nat_le DURABLES (how_many is_lasting xs) then Many DURABLES
-    else wait_for (cause_of xs single)
+-- the replies that are due and whose plans aren't silent, by number
+abbrev pub replies_due : (ℕ → Plan) → Half → List StepName
+replies_due p h = map (λ x. ReplyOf x.0) (filter (is_answered p) (all_due h.seen))
 
-abbrev pub promotable_answer : Bool → List Row → Answer
-promotable_answer sealed xs = if sealed then TooLate else if not (may_own xs false) then False else if nat_le ENLISTMENTS (length xs) then Many ENLISTMENTS else True
+abbrev pub local_if : List Entry → List StepName
+local_if [] = []
+local_if (x ∷ xs) = LocalAct ∷ []
 
--- the answer of a call for which so many steps were done
-unfoldable pub answer : Observed → Call → ℕ → Answer
-answer o (Volatile t e x v) m = unless_over o (volatile_answer o.sealed o.table)
-answer o (Durable t e r x) m = unless_over o (durable_answer o.sealed (is_single x) o.table)
-answer o (Promotable t e r v x p) m = unless_over o (promotable_answer o.sealed o.table)
-answer o (Clone t c k) m = unless_over o (clone_answer o.commit (length o.clones))
-answer o (Complete c) m = unless_over o (complete_answer (has (is_clone c.value) o.clones) (has (is_complete_clone c.value) o.clones))
-answer o (Commit t) m = unless_over o (unless_late o.commit)
-answer o (Rollback t) m = unless_over o (unless_late o.sealed)
-answer o (Status t) m = if_begun o.limit (status_answer o.decided)
-answer o (Await t) m = if_begun o.limit (await_answer o.told_client)
-answer o (Tick t n) m = if_begun o.limit Fine
-answer o (Do t k n) m = if_begun o.limit (Did m)
-answer o (Gone e) m = if_begun o.limit (gone_answer (stands o e.value) (is_gone o e.value))
-answer o _ m = Fine
+abbrev pub core_act : Coordinated → List StepName
+core_act k = if may_log k || may_free k then CoordinatorAct ∷ [] else []
 
--- the call was done: its facts follow
-abbrev pub is_done : Answer → Bool
-is_done Fine = true
-is_done True = true
-is_done _ = false
+abbrev pub delivery_if : Bool → Conn → Dir → List StepName
+delivery_if true c d = Delivery c d ∷ []
+delivery_if false c d = []
 
--- a veto decides that it is aborted, in the same step
-abbrev pub veto : List Entry
-veto = Decided Aborted ∷ []
+abbrev pub deliveries_on : List Entry → End → List StepName
+deliveries_on past n = delivery_if (has_left n.connection Up past) n.connection Up ++ delivery_if (has_left n.connection Down past) n.connection Down
 
-abbrev pub veto_if : Bool → List Entry
-veto_if true = veto
-veto_if false = []
+-- what is pending at the local side: the replies that are due, and then the local act
+unfoldable pub local_pending : (ℕ → Plan) → Half → List StepName
+local_pending p h = replies_due p h ++ local_if (act_entries h)
 
--- the timeout comes too late: it was decided, the commit was handed over, or evidence stands
-abbrev pub is_late : Observed → Bool
-is_late o = is_some o.decided || is_some o.handed || is_evident o.sealed o.table
+-- Pending: the replies that are due, the local act, the coordinator's act, and the deliveries, by connection, upward first
+unfoldable pub pending : World → List StepName
+pending w = local_pending (plan_of w.calls) (half w) ++ core_act (core w) ++ flat_map (deliveries_on w.past) (half w).seen.ends
 
-abbrev pub time_up : Bool → List Entry
-time_up late = if late then Late ∷ [] else TimedOut ∷ veto
+-- the coordinator's act: an append where it may append, else a free
+abbrev pub appended : Coordinated → LogAnswer → List Entry
+appended k Done = Logged ∷ commit_sends (follow k Logged)
+appended k Full = LogFull ∷ abort_sends (follow k LogFull)
+appended k _ = Stopped ∷ []
 
--- the facts of a tick to this clock
-abbrev pub tick_facts : Observed → ℕ → List Entry
-tick_facts o n = Clock n ∷ (if reaches o.limit o.clock n then time_up (is_late o) else [])
+abbrev pub freed : LogAnswer → List Entry
+freed Done = Freed ∷ []
+freed Full = []
+freed _ = Stopped ∷ []
 
--- how a lost enlistment ends the transaction: in doubt where it was handed the commit, else aborted
-abbrev pub lost_outcome : Bool → Outcome
-lost_outcome handed = if handed then InDoubt else Aborted
+abbrev pub coordinates : Coordinated → LogAnswer → List Entry
+coordinates k a = if may_log k then appended k a else freed a
 
-abbrev pub decided_if : Bool → Outcome → List Entry
-decided_if true x = Decided x ∷ []
-decided_if false x = []
+-- a delivery: the first message on the way, or else the end
+abbrev pub got_by : ℕ → World → Conn → Dir → Message → List Entry
+got_by t w c Up m = core_got (identifier_of t) (core w) c m
+got_by t w c Down m = local_got t (half w) c m
 
--- an enlistment is lost: that decides, where nothing is decided and it hasn't voted
-abbrev pub gone_facts : Observed → EnlNo → List Entry
-gone_facts o e = Lost e ∷ decided_if (not (is_some o.decided) && not (voted e.value o.table)) (lost_outcome (is_handed o.handed e.value))
+abbrev pub ended_at : World → Conn → Dir → List Entry
+ended_at w c Up = core_down (core w) c
+ended_at w c Down = local_down (half w) c
 
--- the facts of a call that was done
-abbrev pub facts : Observed → Call → List Entry
-facts o (Begin t d) = Began (limit_of d) ∷ []
-facts o (Volatile t e x v) = Enlisted e (class_of x) ∷ []
-facts o (Durable t e r x) = Enlisted e DurableSingle ∷ []
-facts o (Promotable t e r v x p) = Enlisted e PromotableClass ∷ Init e ∷ []
-facts o (Clone t c k) = Cloned c k ∷ []
-facts o (Complete c) = Completed c ∷ []
-facts o (Commit t) = CommitAsked ∷ veto_if (has is_open_rollback o.clones)
-facts o (Rollback t) = RollbackAsked ∷ veto
-facts o (Tick t n) = tick_facts o (ticked o.clock n)
-facts o (Gone e) = gone_facts o e
-facts o _ = []
+abbrev pub delivered : ℕ → World → Conn → Dir → List Message → List Entry
+delivered t w c d [] = Ended c d ∷ ended_at w c d
+delivered t w c d (m ∷ ms) = Got c d m ∷ got_by t w c d m
 
-abbrev pub facts_if : Bool → List Entry → List Entry
-facts_if true es = es
-facts_if false es = []
+abbrev pub called : ℕ → World → ℕ → ActorNo → Call → Answer → List Entry
+called t w n a c x = Called n a x ∷ facts_if (has_facts x) (facts_at t w c x)
 
--- the entries of a reply: a vote No is a veto, and an owner's answer decides
-abbrev pub reply_entries : EnlNo → Reply → List Entry
-reply_entries e (VoteReply v) = Voted e v ∷ veto_if (is_no v)
-reply_entries e (OwnerReply x) = OwnerAnswered e x ∷ Decided x ∷ []
-reply_entries e _ = []
+-- a restart first stops a coordinator that isn't stopped
+abbrev pub restarted : Bool → Bool → List Entry
+restarted true found = Restarted found ∷ []
+restarted false found = Stopped ∷ Restarted found ∷ []
 
--- an abort is told to a durable or promotable too, unless it was handed the commit or is lost
-abbrev pub hears_abort : Observed → Listener → Bool
-hears_abort o l = lasts o.table l.enlistment.value && not (is_handed o.handed l.enlistment.value) && not l.lost
+-- the block of a step of transaction t: the entries that it makes
+unfoldable pub block_at : ℕ → World → Step → List Entry
+block_at t w (Calls n a c m) = called t w n a c (answer_at t w c m)
+block_at t w (Replies e r) = reply_entries (half w) e r
+block_at t w Acts = act_entries (half w)
+block_at t w (Coordinates x) = coordinates (core w) x
+block_at t w (Delivers c d) = delivered t w c d (in_transit c d w.past)
+block_at t w Stops = Stopped ∷ []
+block_at t w (Restarts found) = restarted (core w).stopped found
 
--- still to be told the outcome: it wasn't, and it is a volatile that hears, or hears of an abort
-abbrev pub is_to_tell : Observed → Outcome → Listener → Bool
-is_to_tell o x l = not l.told && (hears o.table l.enlistment.value || (is_aborted x && hears_abort o l))
+-- the calls with that of the step, where it is one
+abbrev pub entered : Step → List EnteredCall → List EnteredCall
+entered (Calls n a c m) ks = record { line = n; actor = a; call = c } ∷ ks
+entered _ ks = ks
 
--- phase zero: the lowest that may be asked is asked; when it is over, the transaction is sealed
-abbrev pub before_seal : Option EnlNo → Bool → List Entry
-before_seal (Some e) over = Asked e Prepare ∷ []
-before_seal None over = if over then Sealed ∷ [] else []
-
--- the commit is handed to the owner, once; where nothing is durable or promotable, it is committed
-abbrev pub commit_act : Bool → Option EnlNo → List Entry
-commit_act true owner = []
-commit_act false (Some e) = Handed e ∷ []
-commit_act false None = Decided Committed ∷ []
-
--- after the seal: the lowest that wasn't asked is asked; when all voted, the commit is handed over or decided
-abbrev pub after_seal : Option EnlNo → Bool → List Entry → List Entry
-after_seal (Some e) voted commit = Asked e Prepare ∷ []
-after_seal None voted commit = if voted then commit else []
-
--- while nothing is decided: nothing before commit was asked, then phase zero, then what is after the seal
-abbrev pub undecided_act : Bool → Bool → List Entry → List Entry → List Entry
-undecided_act commit sealed before behind = if not commit then [] else if not sealed then before else behind
-
-abbrev pub act_by : Option Outcome → Observed → List Entry
-act_by (Some x) o = tell x (find (is_to_tell o x) o.listeners) o.told_client
-act_by None o =
-    undecided_act o.commit o.sealed (before_seal (next_ask o.table true) (is_over o.table o.clones 0)) (after_seal (next_ask o.table false) (all_voted o.table) (commit_act (is_some o.handed) (owner_of o.table)))
-
--- the entries of the local act: the first that applies. None where no act is pending.
-unfoldable pub act_entries : Observed → List Entry
-act_entries o = act_by o.decided o
-
--- the block of a step: the entries that it makes
-unfoldable pub block : Observed → Step → List Entry
-block o (Calls line actor c m) = Called line actor (answer o c m) ∷ facts_if (is_done (answer o c m)) (facts o c)
-block o (Replies e r) = reply_entries e r
-block o Acts = act_entries o
-
--- Plan: what the line that makes the enlistment says that it replies; none is silent. The vote:
-abbrev pub line_vote : ℕ → Body → Option Vote
-line_vote e (VolatileLine t f o v) = if e == f.value then v else None
-line_vote e (DurableLine t f r (SinglePhase v o)) = if e == f.value then v else None
-line_vote e (DurableLine t f r (TwoPhase v)) = if e == f.value then v else None
-line_vote e (PromotableLine t f r v o p) = if e == f.value then v else None
-line_vote e _ = None
-
-abbrev pub planned_vote : List Line → ℕ → Option Vote
-planned_vote s e = latest (λ l. line_vote e l.body) (past_of s)
-
--- the answer as owner of the commit:
-abbrev pub line_owner : ℕ → Body → Option Outcome
-line_owner e (DurableLine t f r (SinglePhase v o)) = if e == f.value then o else None
-line_owner e (PromotableLine t f r v o p) = if e == f.value then o else None
-line_owner e _ = None
-
-abbrev pub planned_owner : List Line → ℕ → Option Outcome
-planned_owner s e = latest (λ l. line_owner e l.body) (past_of s)
-
--- and whether it can be promoted
-abbrev pub line_promotion : ℕ → Body → Option Bool
-line_promotion e (PromotableLine t f r v o p) = if e == f.value then p else None
-line_promotion e _ = None
-
-abbrev pub planned_promotion : List Line → ℕ → Option Bool
-planned_promotion s e = latest (λ l. line_promotion e l.body) (past_of s)
-
--- to what a reply of the enlistment is due: to prepare where it was asked and hasn't voted, and to the handing of the commit
-abbrev pub open_note : Bool → Bool → Option Note
-open_note asked handed = if asked then Some PrepareNote else if handed then Some HandNote else None
-
--- none is due of one that is lost, or once it was decided
-abbrev pub due_note : Observed → Row → Option Note
-due_note o x =
-    if is_some o.decided || is_gone o x.number.value then None else open_note (is_marked x && not (has_voted x)) (is_handed o.handed x.number.value)
-
-abbrev pub vote_reply : Option Vote → Option Reply
-vote_reply (Some v) = Some (VoteReply v)
-vote_reply None = None
-
-abbrev pub owner_reply : Option Outcome → Option Reply
-owner_reply (Some x) = Some (OwnerReply x)
-owner_reply None = None
-
--- the reply that an enlistment plans to a note
-abbrev pub planned_reply : List Line → ℕ → Option Note → Option Reply
-planned_reply s e (Some PrepareNote) = vote_reply (planned_vote s e)
-planned_reply s e (Some HandNote) = owner_reply (planned_owner s e)
-planned_reply s e _ = None
-
-abbrev pub reply_step : EnlNo → Option Reply → Option Step
-reply_step e (Some r) = Some (Replies e r)
-reply_step e None = None
-
--- to what a reply of the enlistment of this number is due
-abbrev pub note_of : Observed → Option Row → Option Note
-note_of o (Some x) = due_note o x
-note_of o None = None
-
-unfoldable pub due_of : Observed → ℕ → Option Note
-due_of o e = note_of o (find (is_of e) o.table)
-
--- the enlistments of which a reply is due, with the note, by number
-unfoldable pub all_due : Observed → List (EnlNo × Note)
-all_due o = filter_map (λ x. with_note x.number (due_note o x)) o.table
-
--- the reply fits the note: a vote answers prepare, an owner's answer the handing
-abbrev pub fits : Reply → Note → Bool
-fits (VoteReply v) PrepareNote = true
-fits (OwnerReply x) HandNote = true
-fits _ _ = false
-
--- the reply that is due of this enlistment, where its plan isn't silent
-abbrev pub due_reply : List Line → Observed → Row → Option Step
-due_reply s o x = reply_step x.number (planned_reply s x.number.value (due_note o x))
-
--- the replies that are due, by number of enlistment
-abbrev pub due_replies : List Line → Observed → List Step
-due_replies s o = filter_map (due_reply s o) o.table
-
-abbrev pub act_if : List Entry → List Step
-act_if [] = []
-act_if (x ∷ xs) = Acts ∷ []
-
--- Pending: the replies that are due, and then the local act
-unfoldable pub pending : List Line → Observed → List Step
-pending s o = due_replies s o ++ act_if (act_entries o)
+-- the world after a step
+unfoldable pub after : ℕ → World → Step → World
+after t w m = record { calls = entered m w.calls; past = onto w.past (block_at t w m) }

@@ -26,7 +26,8 @@ use Rattle.dtx_model.specs.Wires.{is_ended, is_lost_wire, is_open_wire, in_trans
 use Rattle.dtx_model.specs.Coordinated.{Coordinated, coordinate}
 use Rattle.dtx_model.specs.Waiting.{EnteredCall}
 use Rattle.dtx_model.specs.Half.{Half, half_of, sees, decide, veto, reenlist_sent, stands, is_gone, is_handed}
-use Rattle.dtx_model.specs.Answers.{gone_answer, if_begun, local_answer, local_facts}
+use Rattle.dtx_model.specs.Answers.{gone_answer, if_begun, local_answer}
+use Rattle.dtx_model.specs.Facts.{local_facts}
 
 -- the calls that were entered, newest first, and the history
 pub record World : Type 0 where

@@ -21,10 +21,11 @@ use Rattle.dtx_model.specs.Waiting.{EnteredCall, call_if, managed_by}
 use Rattle.dtx_model.specs.Half.{Half, heeds, heeds_all, is_gone, sees, stands}
 use Rattle.dtx_model.specs.Acts.{act_entries}
 use Rattle.dtx_model.specs.Replies.{due_of, fits, reply_entries}
-use Rattle.dtx_model.specs.Answers.{call_entries, durable_facts, facts_if, gone_answer, has_facts, if_begun, local_answer, local_facts}
+use Rattle.dtx_model.specs.Facts.{call_entries, durable_facts, facts_if, has_facts, local_facts}
+use Rattle.dtx_model.specs.Answers.{gone_answer, if_begun, local_answer}
 use Rattle.dtx_model.specs.World.{World, half, answer_at, facts_at, gone_by, gone_unlinked, open_ones}
-use Rattle.dtx_model.specs.Turns.{Step, Calls, Replies, Acts, after, block_at, entered}
-use Rattle.dtx_model.specs.Causes.{IsIn, MayAnswer, MayCome, is_promoting_entry, is_unpromoted}
+use Rattle.dtx_model.specs.Steps.{Step, Calls, Replies, Acts, after, block_at, entered}
+use Rattle.dtx_model.specs.Caused.{IsIn, MayAnswer, MayCome, is_promoting_entry, is_unpromoted}
 use Rattle.dtx_values.specs.declared.words.Cause.{Cause}
 use Rattle.dtx_model.proofs.Bools.{not_false}
 use Rattle.dtx_model.proofs.Heeding.{half_behind, heeds_all_same}

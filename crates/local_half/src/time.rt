@@ -1,6 +1,7 @@
 //! Timeouts and the clock, in milliseconds.
 ghost use Rattle.std.specs.Prelude.{◌≡◌};
-ghost use Rattle.dtx_model.specs.Answers.{limit_of, reaches, ticked};
+ghost use Rattle.dtx_model.specs.Answers.{limit_of};
+ghost use Rattle.dtx_model.specs.Facts.{reaches, ticked};
 
 use dtx_values::Timeout;
 

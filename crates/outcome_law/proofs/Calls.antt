@@ -25,7 +25,8 @@ use Rattle.dtx_model.specs.Observed.{observe, rows, clone_rows, clock}
 use Rattle.dtx_model.specs.Outcome.{is_empty, ready, by_seal, by_owner, by_log, evidence, is_veto}
 use Rattle.dtx_values.specs.Support.{is_single}
 use Rattle.dtx_values.specs.Row.{is_lasting, is_of}
-use Rattle.dtx_model.specs.Answers.{limit_of, class_of, if_begun, unless_ended, wait_for, clone_answer, complete_answer, gone_answer, unless_late, ticked, reaches, facts_if}
+use Rattle.dtx_model.specs.Answers.{limit_of, class_of, if_begun, unless_ended, wait_for, clone_answer, complete_answer, gone_answer, unless_late}
+use Rattle.dtx_model.specs.Facts.{ticked, reaches, facts_if}
 use Rattle.dtx_model.proofs.Narrow.{volatile_answer, durable_answer, promotable_answer, answer, is_done}
 use Rattle.dtx_values.specs.Owners.{is_evident, cause_of, may_own}
 use Rattle.dtx_model.specs.Half.{is_gone, is_handed}

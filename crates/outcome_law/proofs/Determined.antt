@@ -10,12 +10,12 @@ use Rattle.dtx_values.specs.declared.number.TxNo.{TxNo}
 use Rattle.dtx_values.specs.declared.script.Line.{Line}
 use Rattle.dtx_model.specs.Words.{kth, onto, past_of}
 use Rattle.dtx_model.specs.Observed.{observe}
-use Rattle.dtx_model.specs.Turns.{Step, Calls, StepName, pending}
-use Rattle.dtx_model.specs.Causes.{IsNamed, Settled}
+use Rattle.dtx_model.specs.Steps.{Step, Calls, StepName, pending}
+use Rattle.dtx_model.specs.Caused.{IsNamed, Settled}
 use Rattle.dtx_model.specs.AtLog.{is_local_trace}
-use Rattle.dtx_model.specs.Histories.{IsHistory, IsReplay}
-use Rattle.dtx_model.specs.Replay.{Placed, history, is_passed}
-use Rattle.dtx_model.specs.Replays.{IsTurn, last_turn, world_at}
+use Rattle.dtx_model.specs.History.{IsHistory, IsReplay}
+use Rattle.dtx_model.specs.Traces.{Placed, history}
+use Rattle.dtx_model.specs.Replay.{is_passed, IsTurn, last_turn, world_at}
 use Rattle.dtx_model.proofs.Narrow.{block}
 use Rattle.dtx_model.proofs.Pasts.{past-reverse}
 use Rattle.dtx_model.proofs.Reading.{each-past}

@@ -20,7 +20,7 @@ use Rattle.dtx_model.specs.Observed.{Observed, observe, rows}
 use Rattle.dtx_model.specs.Outcome.{enlisted}
 use Rattle.dtx_model.specs.Half.{is_gone, is_handed}
 use Rattle.dtx_model.specs.Replies.{all_due, due_of, is_answered, note_of_row, with_note}
-use Rattle.dtx_model.specs.Waiting.{planned}
+use Rattle.dtx_model.specs.Plans.{planned}
 use Rattle.dtx_model.proofs.Bools.{and_both, and_left, and_never, and_right, not_both, not_true, or_case, or_right}
 use Rattle.dtx_model.proofs.Narrow.{due_note, open_note}
 use Rattle.dtx_model.proofs.Unpromoted.{narrow}

@@ -27,9 +27,9 @@ use Rattle.dtx_model.specs.Observed.{Observed, rows}
 use Rattle.dtx_model.specs.Contexts.{calls_by}
 use Rattle.dtx_model.specs.Calls.{call_of, complete_call, transaction_of, gone_call, reenlist_call, transaction_with}
 use Rattle.dtx_model.specs.Half.{is_handed}
-use Rattle.dtx_model.specs.Answers.{facts_if, reaches, ticked}
+use Rattle.dtx_model.specs.Facts.{facts_if, reaches, ticked}
 use Rattle.dtx_model.proofs.Narrow.{facts, veto_if, time_up, is_late, lost_outcome, decided_if}
-use Rattle.dtx_model.specs.Grammar.{is_lasting_for, is_run}
+use Rattle.dtx_model.specs.Built.{is_lasting_for, is_run}
 use Rattle.dtx_model.proofs.Bools.{or_case, not_true, not_both}
 use Rattle.outcome_law.proofs.Tests.{eq_self}
 use Rattle.outcome_law.proofs.Scans.{none_more}

@@ -24,14 +24,14 @@ use Rattle.dtx_model.specs.Outcome.{is_empty}
 use Rattle.dtx_model.specs.Acts.{act_entries}
 use Rattle.dtx_model.specs.Calls.{call_of}
 use Rattle.dtx_model.specs.Contexts.{scope_block, scope_calls, scopes_of}
-use Rattle.dtx_model.specs.Waiting.{plan_of}
-use Rattle.dtx_model.specs.Replay.{Placed, history, is_at, noted, placed}
+use Rattle.dtx_model.specs.Plans.{plan_of}
+use Rattle.dtx_model.specs.Traces.{Placed, history, is_at, noted, placed}
 use Rattle.dtx_model.specs.World.{World, half}
-use Rattle.dtx_model.specs.Turns.{StoppedNow, Step, Calls, Coordinates, StepName, ReplyOf, LocalAct, CoordinatorAct, Delivery, local_if, local_pending, pending, replies_due}
-use Rattle.dtx_model.specs.Causes.{IsNamed, MayCome, Settled, is_begin_sent, is_promoting_entry, is_unpromoted}
+use Rattle.dtx_model.specs.Steps.{StoppedNow, Step, Calls, Coordinates, StepName, ReplyOf, LocalAct, CoordinatorAct, Delivery, local_if, local_pending, pending, replies_due}
+use Rattle.dtx_model.specs.Caused.{IsNamed, MayCome, Settled, is_begin_sent, is_promoting_entry, is_unpromoted}
 use Rattle.dtx_model.specs.AtLog.{hit, is_local_trace, is_log, is_log_up, known}
 use Rattle.dtx_model.specs.Replies.{all_due, is_answered}
-use Rattle.dtx_model.specs.Replays.{CallRan, IsReplayed, IsTurn, LineRan, LinesRan, Reopening, Opens, Faults, Differs, RoundsRan, StepsRan, after_calls, after_halt, after_restart, after_scope, after_turn, at_the_log, block_in, last_turn, others, stop_if, stopped_by_restart, world_at}
+use Rattle.dtx_model.specs.Replay.{CallRan, IsReplayed, IsTurn, LineRan, LinesRan, Reopening, Opens, Faults, Differs, RoundsRan, StepsRan, after_calls, after_halt, after_restart, after_scope, after_turn, at_the_log, block_in, last_turn, others, stop_if, stopped_by_restart, world_at}
 use Rattle.dtx_model.proofs.Bools.{and_both, and_left, and_right, not_both, not_true, or_false}
 use Rattle.dtx_model.proofs.Histories.{history-noted, history-other, history-same}
 use Rattle.dtx_model.proofs.Local.{IsNarrow, call_local, pending-local, step-narrow, waits_promotes}

@@ -18,9 +18,9 @@ use Rattle.dtx_model.specs.Acts.{act_entries}
 use Rattle.dtx_model.specs.Answers.{local_answer}
 use Rattle.dtx_model.specs.Replies.{all_due, due_of}
 use Rattle.dtx_model.specs.World.{answer_at}
-use Rattle.dtx_model.specs.Turns.{Acts, LocalAct, block_at, local_pending, pending}
-use Rattle.dtx_model.specs.Causes.{Caused}
-use Rattle.dtx_model.specs.Replays.{HasDoneAt, HasSettled, IsReplayed, LinesRan}
+use Rattle.dtx_model.specs.Steps.{Acts, LocalAct, block_at, local_pending, pending}
+use Rattle.dtx_model.specs.Caused.{Caused}
+use Rattle.dtx_model.specs.Replay.{HasDoneAt, HasSettled, IsReplayed, LinesRan}
 use Rattle.dtx_values.specs.Owners.{may_own, owner_of}
 use Rattle.dtx_model.specs.Outcome.{ready, by_seal, by_owner, by_log, evidence, vetoed, owner_doubt, coordinator_doubt, doubt, may_tell, justified}
 use Rattle.outcome_law.proofs.Examples.{a1, e1, e2, t1, just_in, handed_e2}

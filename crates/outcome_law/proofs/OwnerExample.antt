@@ -24,9 +24,9 @@ use Rattle.dtx_model.specs.Answers.{local_answer}
 use Rattle.dtx_model.specs.Half.{half_of, veto}
 use Rattle.dtx_model.specs.Replies.{all_due, due_of, reply_entries}
 use Rattle.dtx_model.specs.World.{answer_at}
-use Rattle.dtx_model.specs.Turns.{Replies, Acts, ReplyOf, LocalAct, block_at, local_pending, pending}
-use Rattle.dtx_model.specs.Causes.{Caused, IsNamed}
-use Rattle.dtx_model.specs.Replays.{HasSettled, IsReplayed, LinesRan, StepsRan, world_at}
+use Rattle.dtx_model.specs.Steps.{Replies, Acts, ReplyOf, LocalAct, block_at, local_pending, pending}
+use Rattle.dtx_model.specs.Caused.{Caused, IsNamed}
+use Rattle.dtx_model.specs.Replay.{HasSettled, IsReplayed, LinesRan, StepsRan, world_at}
 use Rattle.dtx_values.specs.Owners.{may_own, owner_of}
 use Rattle.dtx_model.specs.Outcome.{ready, by_seal, by_owner, by_log, evidence, vetoed, owner_doubt, coordinator_doubt, doubt, may_tell, justified, agree}
 use Rattle.outcome_law.proofs.Examples.{a1, e1, e2, t1, just_in, agree_in, handed_e2}

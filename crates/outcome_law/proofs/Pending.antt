@@ -16,8 +16,8 @@ use Rattle.dtx_values.specs.Vote.{is_no}
 use Rattle.dtx_values.specs.Owners.{owner_of}
 use Rattle.dtx_values.specs.Table.{voted}
 use Rattle.dtx_model.specs.Half.{is_handed}
-use Rattle.dtx_model.specs.Answers.{facts_if, reaches, ticked}
-use Rattle.dtx_model.specs.Turns.{Step, Calls, Replies, Acts}
+use Rattle.dtx_model.specs.Facts.{facts_if, reaches, ticked}
+use Rattle.dtx_model.specs.Steps.{Step, Calls, Replies, Acts}
 use Rattle.dtx_model.proofs.Narrow.{facts, veto_if, time_up, is_late, lost_outcome, decided_if, block}
 use Rattle.dtx_values.specs.Waves.{all_voted, is_over, next_ask}
 use Rattle.dtx_model.specs.Acts.{tell}

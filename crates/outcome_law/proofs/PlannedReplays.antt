@@ -23,13 +23,13 @@ use Rattle.dtx_values.specs.Vote.{is_no}
 use Rattle.dtx_model.specs.Words.{always, onto, past_of}
 use Rattle.dtx_model.specs.Entries.{same_outcome}
 use Rattle.dtx_model.specs.Observed.{observe}
-use Rattle.dtx_model.specs.Waiting.{manager_of}
+use Rattle.dtx_model.specs.Plans.{manager_of}
 use Rattle.dtx_model.specs.Replies.{due_of, fits}
-use Rattle.dtx_model.specs.Replay.{Placed, history, noted}
+use Rattle.dtx_model.specs.Traces.{Placed, history, noted}
 use Rattle.dtx_model.specs.World.{half}
-use Rattle.dtx_model.specs.Turns.{Step, Calls, Replies, StepName, ReplyOf, LocalAct, CoordinatorAct, Delivery}
-use Rattle.dtx_model.specs.Causes.{IsNamed, calls_in, has_object, is_as_planned, is_outcome_planned, is_up_to, is_vote_planned, plans_of, same_vote}
-use Rattle.dtx_model.specs.Replays.{world_at}
+use Rattle.dtx_model.specs.Steps.{Step, Calls, Replies, StepName, ReplyOf, LocalAct, CoordinatorAct, Delivery}
+use Rattle.dtx_model.specs.Caused.{IsNamed, calls_in, has_object, is_as_planned, is_outcome_planned, is_up_to, is_vote_planned, plans_of, same_vote}
+use Rattle.dtx_model.specs.Replay.{world_at}
 use Rattle.dtx_model.specs.Contexts.{scope_block, scope_calls, scopes_of}
 use Rattle.dtx_model.specs.Calls.{call_of}
 use Rattle.dtx_model.proofs.Bools.{and_left}

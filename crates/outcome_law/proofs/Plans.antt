@@ -6,8 +6,8 @@ use Rattle.dtx_values.specs.declared.script.Line.{Line}
 use Rattle.dtx_values.specs.declared.words.Outcome.{Outcome}
 use Rattle.dtx_values.specs.declared.words.Vote.{Vote}
 use Rattle.dtx_model.specs.Words.{always, each}
-use Rattle.dtx_model.specs.Causes.{is_as_planned, is_outcome_planned, is_vote_planned, plans_of}
-use Rattle.dtx_model.specs.Histories.{nobody}
+use Rattle.dtx_model.specs.Caused.{is_as_planned, is_outcome_planned, is_vote_planned, plans_of}
+use Rattle.dtx_model.specs.History.{nobody}
 use Rattle.dtx_model.proofs.Bools.{and_both, and_left, and_right}
 
 abbrev pub planned_vote : List Line → ℕ → Option Vote

@@ -29,12 +29,11 @@ use Rattle.dtx_model.specs.Answers.{local_answer}
 use Rattle.dtx_model.specs.Half.{veto}
 use Rattle.dtx_model.specs.Replies.{all_due, due_of, reply_entries}
 use Rattle.dtx_model.specs.World.{answer_at}
-use Rattle.dtx_model.specs.Turns.{Step, Replies, Acts, StepName, ReplyOf, LocalAct, block_at, local_pending, pending}
-use Rattle.dtx_model.specs.Caused.{IsCallOf}
-use Rattle.dtx_model.specs.Causes.{Caused, IsNamed, Settled, has_object, is_as_planned, plans_of}
-use Rattle.dtx_model.specs.Replay.{Placed, history, is_passed, placed}
-use Rattle.dtx_model.specs.Replays.{HasDoneAt, HasSettled, IsReplayed, IsTurn, LinesRan, RoundsRan, StepsRan, is_in_replay, world_at}
-use Rattle.dtx_model.specs.Histories.{IsHistory, IsReplay, is_call_at}
+use Rattle.dtx_model.specs.Steps.{Step, Replies, Acts, StepName, ReplyOf, LocalAct, block_at, local_pending, pending}
+use Rattle.dtx_model.specs.Caused.{IsCallOf, Caused, IsNamed, Settled, has_object, is_as_planned, plans_of}
+use Rattle.dtx_model.specs.Traces.{Placed, history, placed}
+use Rattle.dtx_model.specs.Replay.{is_passed, HasDoneAt, HasSettled, IsReplayed, IsTurn, LinesRan, RoundsRan, StepsRan, is_in_replay, world_at}
+use Rattle.dtx_model.specs.History.{IsHistory, IsReplay, is_call_at}
 use Rattle.dtx_model.proofs.Bools.{and_left, and_right}
 use Rattle.dtx_model.proofs.Histories.{history-other, history-same}
 use Rattle.dtx_model.proofs.Quiet.{wire_run_of}

@@ -13,19 +13,19 @@ use Rattle.dtx_values.specs.declared.number.TxNo.{TxNo}
 use Rattle.dtx_values.specs.declared.script.Line.{Line}
 use Rattle.dtx_model.specs.Words.{each, has, kth, latest, onto, or_else, put}
 use Rattle.dtx_model.specs.Observed.{Observed, observe}
-use Rattle.dtx_model.specs.Waiting.{EnteredCall, managed, or_silent, plan_by, plan_of}
+use Rattle.dtx_model.specs.Waiting.{EnteredCall, managed}
+use Rattle.dtx_model.specs.Plans.{or_silent, plan_by, plan_of}
 use Rattle.dtx_model.specs.Half.{Half}
 use Rattle.dtx_model.specs.Acts.{act_entries as full_act}
 use Rattle.dtx_model.specs.Replies.{due_of, reply_entries as full_reply}
 use Rattle.dtx_model.specs.Calls.{call_of}
 use Rattle.dtx_model.specs.Contexts.{lines_before, scope_calls, scopes_of}
-use Rattle.dtx_model.specs.Answers.{facts_if}
-use Rattle.dtx_model.specs.Caused.{IsCallOf}
-use Rattle.dtx_model.specs.Replay.{Placed, history}
+use Rattle.dtx_model.specs.Facts.{facts_if}
+use Rattle.dtx_model.specs.Caused.{IsCallOf, HasStepped, IsNamed, IsRun, MayCome, Ran, called_at, entered_by, entered_in, is_promoting_entry}
+use Rattle.dtx_model.specs.Traces.{Placed, history}
 use Rattle.dtx_model.specs.World.{World, half}
-use Rattle.dtx_model.specs.Turns.{Step, Calls, Replies, Acts, StepName, ReplyOf, LocalAct, CoordinatorAct, Delivery, after, block_at, entered, local_if, local_pending, pending, replies_due}
-use Rattle.dtx_model.specs.Causes.{HasStepped, IsNamed, IsRun, MayCome, Ran, called_at, entered_by, entered_in, is_promoting_entry}
-use Rattle.dtx_model.specs.Replays.{world_at}
+use Rattle.dtx_model.specs.Steps.{Step, Calls, Replies, Acts, StepName, ReplyOf, LocalAct, CoordinatorAct, Delivery, after, block_at, entered, local_if, local_pending, pending, replies_due}
+use Rattle.dtx_model.specs.Replay.{world_at}
 use Rattle.dtx_model.proofs.Bools.{and_left, and_right, or_false}
 use Rattle.dtx_model.proofs.Histories.{history-same}
 use Rattle.dtx_model.proofs.Local.{pending-local}

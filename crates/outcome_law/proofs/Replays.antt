@@ -28,17 +28,17 @@ use Rattle.dtx_model.specs.Observed.{Observed, observe, rows}
 use Rattle.dtx_values.specs.Row.{is_lasting}
 use Rattle.dtx_model.specs.Scopes.{ScopeEntry, Opens, Finishes, Closes}
 use Rattle.dtx_model.specs.Calls.{call_of}
-use Rattle.dtx_model.specs.Answers.{facts_if}
+use Rattle.dtx_model.specs.Facts.{facts_if}
 use Rattle.dtx_model.specs.Waiting.{EnteredCall}
 use Rattle.dtx_model.specs.World.{World, half}
-use Rattle.dtx_model.specs.Turns.{Step, Calls, Replies, Acts, entered, pending}
+use Rattle.dtx_model.specs.Steps.{Step, Calls, Replies, Acts, entered, pending}
 use Rattle.dtx_model.proofs.Narrow.{answer, is_done, facts, block}
 use Rattle.dtx_model.specs.Contexts.{scope_answer, scope_entries, scope_calls, scopes_of, written, called_with, scope_block, context, lines_before, calls_by}
-use Rattle.dtx_model.specs.Caused.{IsCallOf, is_new}
-use Rattle.dtx_model.specs.Causes.{Caused, FreelyCaused, HasStepped, MayAnswer, has_object, is_as_planned, plans_of}
-use Rattle.dtx_model.specs.Grammar.{are_named_well, is_lasting_for, is_run_line}
-use Rattle.dtx_model.specs.Replay.{Placed, history, at_context, placed, noted, called_of, calls}
-use Rattle.dtx_model.specs.Replays.{IsReplayed, LinesRan, at_its_context, at_log_line, due_calls, due_of, world_at}
+use Rattle.dtx_model.specs.Caused.{IsCallOf, is_new, Caused, FreelyCaused, HasStepped, MayAnswer, has_object, is_as_planned, plans_of}
+use Rattle.dtx_model.specs.Grammar.{are_named_well}
+use Rattle.dtx_model.specs.Built.{is_lasting_for, is_run_line}
+use Rattle.dtx_model.specs.Traces.{Placed, history, at_context, placed, noted, called_of, calls}
+use Rattle.dtx_model.specs.Replay.{IsReplayed, LinesRan, at_its_context, at_log_line, due_calls, due_by_line, world_at}
 use Rattle.dtx_model.proofs.Bools.{and_left, and_right, or_false, or_right, not_both}
 use Rattle.dtx_model.proofs.Histories.{onto-append, history-other, history-same, history-noted, context-same, context-other, context-placed}
 use Rattle.dtx_model.proofs.Reading.{has-onto, has-past}
@@ -397,7 +397,7 @@ none_at_log n a Restart e = absurd cc
 none_at_log n a _ e = refl
 
 -- a line adds its calls
-line_counted : (s before : List Line) (l : Line) (start T : List Placed) → LineLocal s before l start T → calls T ≡ onto (calls start) (due_of s before l)
+line_counted : (s before : List Line) (l : Line) (start T : List Placed) → LineLocal s before l start T → calls T ≡ onto (calls start) (due_by_line s before l)
 line_counted s before l start T r =
     let n : ℕ = suc (length before) in
     let a : ActorNo = l.actor in
@@ -483,7 +483,7 @@ lines_free s (l ∷ before) rest T e all r =
 -- the lines have each one's calls once and in order
 lines_called : (s bs : List Line) (T : List Placed) → LinesLocal s bs T → calls T ≡ due_calls s bs
 lines_called s [] T r = ap (λ T. calls T) r
-lines_called s (l ∷ before) T r = line_counted s before l r.0 T r.2 ∙ ap (λ rest. onto rest (due_of s before l)) (lines_called s before r.0 r.1)
+lines_called s (l ∷ before) T r = line_counted s before l r.0 T r.2 ∙ ap (λ rest. onto rest (due_by_line s before l)) (lines_called s before r.0 r.1)
 
 -- the lines write at each context what its actor's lines write there
 lines_noted : (s bs : List Line) (T : List Placed) → LinesLocal s bs T → (a : ℕ) → at_context a T ≡ context a bs

@@ -11,8 +11,8 @@ use Rattle.dtx_model.specs.Observed.{Observed, observe}
 use Rattle.dtx_model.specs.Coordinated.{may_free, may_log}
 use Rattle.dtx_model.specs.Replies.{due_of, fits}
 use Rattle.dtx_model.specs.World.{World, core, has_left}
-use Rattle.dtx_model.specs.Turns.{LogAnswer, Step, Calls, Replies, Acts, Coordinates, Delivers, Stops, Restarts, after, block_at}
-use Rattle.dtx_model.specs.Causes.{FreelyCaused, IsIn, IsOwnRun, MayCome, Ran, is_begin_sent, is_promoting_entry, is_unpromoted, may_coordinate}
+use Rattle.dtx_model.specs.Steps.{LogAnswer, Step, Calls, Replies, Acts, Coordinates, Delivers, Stops, Restarts, after, block_at}
+use Rattle.dtx_model.specs.Caused.{FreelyCaused, IsIn, IsOwnRun, MayCome, Ran, is_begin_sent, is_promoting_entry, is_unpromoted, may_coordinate}
 use Rattle.dtx_model.proofs.Bools.{and_left, not_both, not_true, or_first, or_second}
 use Rattle.dtx_model.proofs.Narrow.{block}
 use Rattle.dtx_model.proofs.NarrowReplies.{IsDue, due-narrow}

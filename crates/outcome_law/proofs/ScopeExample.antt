@@ -27,12 +27,11 @@ use Rattle.dtx_model.specs.Answers.{local_answer}
 use Rattle.dtx_model.specs.Half.{veto}
 use Rattle.dtx_model.specs.Replies.{all_due, due_of}
 use Rattle.dtx_model.specs.World.{answer_at}
-use Rattle.dtx_model.specs.Turns.{Acts, LocalAct, block_at, local_pending, pending}
-use Rattle.dtx_model.specs.Caused.{IsCallOf}
-use Rattle.dtx_model.specs.Causes.{Caused, Settled, has_object, is_as_planned, plans_of}
-use Rattle.dtx_model.specs.Replay.{Placed, at_context, history, is_passed, noted, placed}
-use Rattle.dtx_model.specs.Replays.{IsReplayed, IsTurn, LinesRan, RoundsRan, after_scope}
-use Rattle.dtx_model.specs.Histories.{IsHistory, IsReplay, is_call_at}
+use Rattle.dtx_model.specs.Steps.{Acts, LocalAct, block_at, local_pending, pending}
+use Rattle.dtx_model.specs.Caused.{IsCallOf, Caused, Settled, has_object, is_as_planned, plans_of}
+use Rattle.dtx_model.specs.Traces.{Placed, at_context, history, noted, placed}
+use Rattle.dtx_model.specs.Replay.{is_passed, IsReplayed, IsTurn, LinesRan, RoundsRan, after_scope}
+use Rattle.dtx_model.specs.History.{IsHistory, IsReplay, is_call_at}
 use Rattle.dtx_model.proofs.Quiet.{wire_run_of}
 use Rattle.dtx_model.specs.Promotes.{promotes}
 use Rattle.dtx_model.specs.Contexts.{scope_answer, scope_calls, scopes_of}

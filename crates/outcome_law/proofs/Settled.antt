@@ -21,15 +21,15 @@ use Rattle.dtx_values.specs.Clones.{blocks, is_open_block}
 use Rattle.dtx_model.specs.declared.listener.Listener.{Listener}
 use Rattle.dtx_model.specs.Words.{has, each, ever, always, latest, all_of}
 use Rattle.dtx_model.specs.Entries.{same_outcome, is_commit, is_sealed, is_yes, is_hand, is_owner, is_asked, is_lost, is_vote, clone_of, handed_of, decision_of, is_decision, client_told_of, is_client_told}
-use Rattle.dtx_model.specs.Histories.{CanCommit, is_asked_in_time, is_committed, is_ending, is_loss, is_willing}
+use Rattle.dtx_model.specs.History.{CanCommit, is_asked_in_time, is_committed, is_ending, is_loss, is_willing}
 use Rattle.dtx_model.specs.Wires.{holds}
 use Rattle.dtx_model.specs.Outcome.{can_own, enlisted, is_complete, is_rollback, evidence, is_veto, is_first_veto, vetoed, is_lost_owner, owner_doubt, is_begin_end, is_voter_end, is_outcome_got, coordinator_doubt, doubt}
 use Rattle.dtx_values.specs.Owners.{owner_of}
 use Rattle.dtx_model.specs.Observed.{observe, rows, clone_rows}
 use Rattle.dtx_model.specs.Acts.{tell}
 use Rattle.dtx_model.specs.Half.{is_gone, is_handed}
-use Rattle.dtx_model.specs.Waiting.{owner_reply, vote_reply}
-use Rattle.dtx_model.specs.Causes.{is_outcome_planned, is_vote_planned, plans_of}
+use Rattle.dtx_model.specs.Plans.{owner_reply, vote_reply}
+use Rattle.dtx_model.specs.Caused.{is_outcome_planned, is_vote_planned, plans_of}
 use Rattle.dtx_model.proofs.Narrow.{act_by, act_entries, after_seal, before_seal, commit_act, due_note, is_to_tell, open_note, undecided_act}
 use Rattle.dtx_values.specs.Vote.{voted_well}
 use Rattle.dtx_values.specs.Waves.{may_be_asked, name_of, next_ask, zeros_voted, is_over, all_voted}

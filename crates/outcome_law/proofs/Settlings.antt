@@ -9,13 +9,13 @@ use Rattle.dtx_values.specs.declared.script.Line.{Line}
 use Rattle.dtx_values.specs.declared.note.Plan.{Plan}
 use Rattle.dtx_values.specs.declared.row.Row.{Row}
 use Rattle.dtx_model.specs.Observed.{Observed, observe, rows}
-use Rattle.dtx_model.specs.Waiting.{managed, plan_of, planned}
+use Rattle.dtx_model.specs.Waiting.{managed}
+use Rattle.dtx_model.specs.Plans.{plan_of, planned}
 use Rattle.dtx_model.specs.Acts.{act_entries as full_act}
 use Rattle.dtx_model.specs.Replies.{all_due, due_of, is_answered, with_note}
 use Rattle.dtx_model.specs.World.{half}
-use Rattle.dtx_model.specs.Turns.{ReplyOf, local_if, local_pending, pending, replies_due}
-use Rattle.dtx_model.specs.Caused.{IsCallOf}
-use Rattle.dtx_model.specs.Causes.{Settled, entered_in, plans_of, world_of}
+use Rattle.dtx_model.specs.Steps.{ReplyOf, local_if, local_pending, pending, replies_due}
+use Rattle.dtx_model.specs.Caused.{IsCallOf, Settled, entered_in, plans_of, world_of}
 use Rattle.dtx_model.specs.Grammar.{OfEnlistment, are_named_well}
 use Rattle.dtx_model.proofs.Local.{pending-local}
 use Rattle.dtx_model.proofs.Narrow.{act_entries}

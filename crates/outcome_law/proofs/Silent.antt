@@ -17,10 +17,10 @@ use Rattle.dtx_model.specs.Entries.{client_told_of, clone_of, decision_of, hande
 use Rattle.dtx_model.specs.Observed.{observe, rows}
 use Rattle.dtx_model.specs.Outcome.{can_own, durables, enlisted, is_complete}
 use Rattle.dtx_model.specs.Half.{is_gone, is_handed}
-use Rattle.dtx_model.specs.Waiting.{owner_reply, vote_reply}
-use Rattle.dtx_model.specs.Causes.{plans_of}
+use Rattle.dtx_model.specs.Plans.{owner_reply, vote_reply}
+use Rattle.dtx_model.specs.Caused.{plans_of}
 use Rattle.dtx_model.proofs.Narrow.{act_by, act_entries, due_note, is_to_tell, open_note}
-use Rattle.dtx_model.specs.Histories.{is_silent, is_waiting}
+use Rattle.dtx_model.specs.History.{is_silent, is_waiting}
 use Rattle.std.proofs.lemmas.Bool.{or_left}
 use Rattle.dtx_model.proofs.Bools.{and_both, and_left, and_right, or_case, or_first, or_right, or_second}
 use Rattle.outcome_law.proofs.Scans.{each-at, each_more, has_less}

@@ -15,8 +15,8 @@ use Rattle.dtx_model.specs.Observed.{observe, clock, rows, clone_rows}
 use Rattle.dtx_model.specs.Seen.{is_clock_from, is_first_over, is_behind_first, is_timely}
 use Rattle.dtx_values.specs.Table.{voted}
 use Rattle.dtx_model.specs.Half.{is_handed}
-use Rattle.dtx_model.specs.Answers.{ticked, reaches, facts_if}
-use Rattle.dtx_model.specs.Turns.{Step, Calls, Replies, Acts}
+use Rattle.dtx_model.specs.Facts.{ticked, reaches, facts_if}
+use Rattle.dtx_model.specs.Steps.{Step, Calls, Replies, Acts}
 use Rattle.dtx_model.proofs.Narrow.{answer, is_done, veto_if, is_late, time_up, lost_outcome, decided_if, facts, block}
 use Rattle.dtx_model.proofs.Bools.{and_left, and_right, and_both, or_false, not_false}
 use Rattle.outcome_law.proofs.Runs.{RanLocal, IsLocalRun}

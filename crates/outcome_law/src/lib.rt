@@ -36,13 +36,13 @@ ghost use Rattle.dtx_model.specs.Calls.{call_of};
 ghost use Rattle.dtx_model.specs.Contexts.{context};
 ghost use Rattle.dtx_model.specs.Waiting.{EnteredCall};
 ghost use Rattle.dtx_model.specs.World.{World};
-ghost use Rattle.dtx_model.specs.Caused.{IsCallOf, is_new};
-ghost use Rattle.dtx_model.specs.Causes.{AreMadeOnce, Caused, FreelyCaused, IsIn, IsOwnRun, Settled, has_object, is_as_planned, is_unpromoted, plans_of};
+ghost use Rattle.dtx_model.specs.Caused.{IsCallOf, is_new, AreMadeOnce, Caused, FreelyCaused, IsIn, IsOwnRun, Settled, has_object, is_as_planned, is_unpromoted, plans_of};
 ghost use Rattle.dtx_model.specs.AtLog.{is_local_trace};
-ghost use Rattle.dtx_model.specs.Replay.{Placed, history, at_context, calls};
-ghost use Rattle.dtx_model.specs.Replays.{IsReplayed, LinesRan, due_calls};
-ghost use Rattle.dtx_model.specs.Histories.{AreAnswered, CanCommit, IsHistory, IsReplay, IsToldOrWaits};
-ghost use Rattle.dtx_model.specs.Grammar.{are_named_well, is_run_line};
+ghost use Rattle.dtx_model.specs.Traces.{Placed, history, at_context, calls};
+ghost use Rattle.dtx_model.specs.Replay.{IsReplayed, LinesRan, due_calls};
+ghost use Rattle.dtx_model.specs.History.{AreAnswered, CanCommit, IsHistory, IsReplay, IsToldOrWaits};
+ghost use Rattle.dtx_model.specs.Grammar.{are_named_well};
+ghost use Rattle.dtx_model.specs.Built.{is_run_line};
 
 /// The law of one outcome: in a history that a script's lines freely cause, what is told is just, and no two are told opposite outcomes. (Presumed
 /// abort: a commit is told on evidence alone.) Freely: whatever each reply is. Of the script it needs that names are made once, before they are used.

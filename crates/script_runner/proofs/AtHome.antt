@@ -15,8 +15,8 @@ use Rattle.dtx_model.specs.Replies.{all_due, due_of, is_answered, with_names, wi
 use Rattle.dtx_model.specs.Half.{Half}
 use Rattle.dtx_model.specs.Acts.{act_entries}
 use Rattle.dtx_model.specs.World.{half}
-use Rattle.dtx_model.specs.Turns.{ReplyOf, local_if, local_pending, pending, replies_due}
-use Rattle.dtx_model.specs.Causes.{plans_of, world_of}
+use Rattle.dtx_model.specs.Steps.{ReplyOf, local_if, local_pending, pending, replies_due}
+use Rattle.dtx_model.specs.Caused.{plans_of, world_of}
 use Rattle.dtx_model.proofs.Bools.{or_right}
 use Rattle.dtx_model.proofs.Local.{pending-local}
 use Rattle.dtx_model.proofs.Unpromoted.{are_local, observe-local}

@@ -20,13 +20,14 @@ use Rattle.dtx_values.specs.Waves.{all_voted, is_over, next_ask}
 use Rattle.dtx_model.specs.declared.listener.Listener.{Listener}
 use Rattle.dtx_model.specs.Words.{always, each, has, onto}
 use Rattle.dtx_model.specs.Acts.{act_entries as full_act, tell}
-use Rattle.dtx_model.specs.Causes.{is_as_planned, is_outcome_planned, is_vote_planned, plans_of, same_vote, world_of}
+use Rattle.dtx_model.specs.Caused.{is_as_planned, is_outcome_planned, is_vote_planned, plans_of, same_vote, world_of}
 use Rattle.dtx_model.specs.Entries.{same_outcome}
 use Rattle.dtx_model.specs.Half.{heeds_all}
-use Rattle.dtx_model.specs.Histories.{nobody}
+use Rattle.dtx_model.specs.History.{nobody}
 use Rattle.dtx_model.specs.Observed.{Observed, observe}
 use Rattle.dtx_model.specs.Replies.{due_of, reply_entries as full_reply}
-use Rattle.dtx_model.specs.Waiting.{EnteredCall, managed, owner_reply, planned, promote_reply, vote_reply}
+use Rattle.dtx_model.specs.Waiting.{EnteredCall, managed}
+use Rattle.dtx_model.specs.Plans.{owner_reply, planned, promote_reply, vote_reply}
 use Rattle.dtx_model.specs.World.{half}
 use Rattle.dtx_model.proofs.Bools.{and_both, and_left, and_right}
 use Rattle.dtx_model.proofs.Local.{act_local, reply_local}

@@ -20,7 +20,7 @@ use Rattle.dtx_model.specs.Entries.{is_call}
 use Rattle.dtx_model.specs.Waiting.{EnteredCall, Waiter, call_at, managed, managed_by, waiter_line, waiting, waiting_after, wanted}
 use Rattle.dtx_model.specs.Half.{Half, half_of, heeds, heeds_all}
 use Rattle.dtx_model.specs.World.{half}
-use Rattle.dtx_model.specs.Causes.{called_at, entered_at, entered_by, entered_in, world_of}
+use Rattle.dtx_model.specs.Caused.{called_at, entered_at, entered_by, entered_in, world_of}
 use Rattle.dtx_model.proofs.Bools.{or_right}
 use Rattle.dtx_model.proofs.Heeding.{half_of-onto}
 use Rattle.dtx_model.proofs.Quiet.{Quiet, is_quiet, q_head, q_tail}

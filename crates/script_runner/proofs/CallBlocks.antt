@@ -20,13 +20,14 @@ use Rattle.dtx_values.specs.Row.{is_lasting}
 use Rattle.dtx_values.specs.Support.{is_single}
 use Rattle.dtx_values.specs.Table.{how_many, voted}
 use Rattle.dtx_model.specs.Words.{each, has}
-use Rattle.dtx_model.specs.Answers.{await_answer, facts_if, has_facts, if_begun, reaches, status_answer, ticked, unless_ended, wait_for}
-use Rattle.dtx_model.specs.Causes.{plans_of, world_of}
+use Rattle.dtx_model.specs.Answers.{await_answer, if_begun, status_answer, unless_ended, wait_for}
+use Rattle.dtx_model.specs.Facts.{facts_if, has_facts, reaches, ticked}
+use Rattle.dtx_model.specs.Caused.{plans_of, world_of}
 use Rattle.dtx_model.specs.Grammar.{are_named_well}
 use Rattle.dtx_model.specs.Half.{is_gone, is_handed, stands}
 use Rattle.dtx_model.specs.Observed.{Observed, observe}
-use Rattle.dtx_model.specs.Turns.{Calls, block_at}
-use Rattle.dtx_model.specs.Waiting.{plan_by, plan_if}
+use Rattle.dtx_model.specs.Steps.{Calls, block_at}
+use Rattle.dtx_model.specs.Plans.{plan_by, plan_if}
 use Rattle.dtx_model.specs.World.{answer_at, facts_at}
 use Rattle.dtx_model.proofs.Bools.{not_both}
 use Rattle.dtx_model.proofs.Local.{call_local}

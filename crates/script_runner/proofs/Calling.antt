@@ -11,10 +11,11 @@ use Rattle.dtx_values.specs.declared.number.EnlNo.{EnlNo}
 use Rattle.dtx_values.specs.declared.number.RmNo.{RmNo}
 use Rattle.dtx_values.specs.declared.number.TxNo.{TxNo}
 use Rattle.dtx_model.specs.Observed.{track}
-use Rattle.dtx_model.specs.Answers.{await_answer, call_entries, facts_if, gone_answer, has_facts, if_begun, local_answer}
+use Rattle.dtx_model.specs.Answers.{await_answer, gone_answer, if_begun, local_answer}
+use Rattle.dtx_model.specs.Facts.{call_entries, facts_if, has_facts}
 use Rattle.dtx_model.specs.Half.{Half, heeds, heeds_all, is_gone, sees, stands}
 use Rattle.dtx_model.specs.Waiting.{EnteredCall, managed_by}
-use Rattle.dtx_model.specs.Turns.{Calls, block_at}
+use Rattle.dtx_model.specs.Steps.{Calls, block_at}
 use Rattle.dtx_model.specs.World.{World, answer_at, gone_by, gone_unlinked, half}
 use Rattle.dtx_model.proofs.Narrow.{answer}
 use Rattle.dtx_model.proofs.NarrowCalls.{is_answered_here, local-narrow}

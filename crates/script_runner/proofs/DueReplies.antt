@@ -16,9 +16,9 @@ use Rattle.dtx_values.specs.Table.{rises_above}
 use Rattle.dtx_model.specs.declared.branch.Branch.{Branch}
 use Rattle.dtx_model.specs.Observed.{Observed}
 use Rattle.dtx_model.specs.Replies.{all_due, due_of, fits, is_answered, note_at, with_names, with_note}
-use Rattle.dtx_model.specs.Waiting.{owner_reply, planned, promote_reply, vote_reply}
+use Rattle.dtx_model.specs.Plans.{owner_reply, planned, promote_reply, vote_reply}
 use Rattle.dtx_model.specs.Half.{Half}
-use Rattle.dtx_model.specs.Turns.{StepName, ReplyOf, replies_due}
+use Rattle.dtx_model.specs.Steps.{StepName, ReplyOf, replies_due}
 use Rattle.script_runner.specs.Pending.{IsPlanned, planned_at}
 use Rattle.script_runner.proofs.Rows.{found_rising}
 

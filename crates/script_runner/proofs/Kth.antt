@@ -10,7 +10,7 @@ use Rattle.dtx_model.specs.Outcome.{is_empty}
 use Rattle.dtx_model.specs.Half.{Half, heeds_all}
 use Rattle.dtx_model.specs.Acts.{act_entries}
 use Rattle.dtx_model.specs.Replies.{reply_entries}
-use Rattle.dtx_model.specs.Turns.{Replies, Acts, ReplyOf, LocalAct, local_if, local_pending, replies_due}
+use Rattle.dtx_model.specs.Steps.{Replies, Acts, ReplyOf, LocalAct, local_if, local_pending, replies_due}
 use Rattle.dtx_model.proofs.Bools.{not_true}
 use Rattle.local_half.specs.Half.{Known, after}
 use Rattle.script_runner.specs.Pending.{DoesKth, IsPlanned}

@@ -10,13 +10,12 @@ use Rattle.dtx_values.specs.declared.number.EnlNo.{EnlNo}
 use Rattle.dtx_values.specs.declared.number.TxNo.{TxNo}
 use Rattle.dtx_values.specs.declared.script.Line.{Line}
 use Rattle.dtx_values.specs.declared.trace.Place.TheVariants.{Context, Log, Transaction}
-use Rattle.dtx_model.specs.Words.{each, has, onto}
+use Rattle.dtx_model.specs.Words.{each, has, onto, latest}
 use Rattle.dtx_model.specs.AtLog.{at_log, faults, follow_log, follows_log, is_local_trace, is_log_up, open_right, stop_right, transactions, unless_said, up_of, is_stop, is_restart}
-use Rattle.dtx_model.specs.Causes.{is_begin_sent, is_promoting_entry, is_unpromoted}
-use Rattle.dtx_model.specs.Replay.{Placed, history, noted, placed}
-use Rattle.dtx_model.specs.Replays.{after_turn, block_in, stop_if}
-use Rattle.dtx_model.specs.Turns.{Calls, Replies, Acts}
-use Rattle.dtx_model.specs.Words.{latest}
+use Rattle.dtx_model.specs.Caused.{is_begin_sent, is_promoting_entry, is_unpromoted}
+use Rattle.dtx_model.specs.Traces.{Placed, history, noted, placed}
+use Rattle.dtx_model.specs.Replay.{after_turn, block_in, stop_if}
+use Rattle.dtx_model.specs.Steps.{Calls, Replies, Acts}
 use Rattle.script_runner.specs.RunState.{are_plain}
 use Rattle.dtx_model.proofs.Bools.{and_both, and_left, and_never, and_right, not_false, not_true}
 use Rattle.outcome_law.proofs.Scans.{none_more}

@@ -14,8 +14,8 @@ use Rattle.dtx_values.specs.declared.number.TxNo.{TxNo}
 use Rattle.dtx_values.specs.declared.script.Line.{Line}
 use Rattle.dtx_model.specs.Words.{latest, or_else, past_of}
 use Rattle.dtx_model.specs.Calls.{call_of, clone_made, complete_call, enlistment_made, gone_call, reenlist_call, transaction_of, transaction_with}
-use Rattle.dtx_model.specs.Causes.{plans_of}
-use Rattle.dtx_model.specs.Waiting.{or_silent, plan_if, support_plan}
+use Rattle.dtx_model.specs.Caused.{plans_of}
+use Rattle.dtx_model.specs.Plans.{or_silent, plan_if, support_plan}
 use Rattle.dtx_model.proofs.Histories.{past_of-snoc}
 use Rattle.script_runner.specs.declared.plans.Made.{Made}
 use Rattle.script_runner.specs.Plans.{ArePlanned, made_by, made_if, made_in}

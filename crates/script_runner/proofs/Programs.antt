@@ -11,10 +11,11 @@ use Rattle.std.specs.Cmp.Lexicographic.{bytes_decides}
 use Rattle.dtx_values.specs.declared.script.Line.{Line}
 use Rattle.dtx_values.specs.declared.script.BadCause.{BadCause}
 use Rattle.dtx_model.specs.Faults.{Bad}
-use Rattle.dtx_model.specs.Histories.{HasOneOutcome, IsComplete, IsHistory, IsReplay}
-use Rattle.dtx_model.specs.Replay.{Placed}
+use Rattle.dtx_model.specs.History.{HasOneOutcome, IsComplete, IsHistory, IsReplay}
+use Rattle.dtx_model.specs.Traces.{Placed}
 use Rattle.dtx_model.specs.TraceText.{trace_text}
-use Rattle.dtx_model.specs.Grammar.{IsNotRun, IsNotYet, Reads, are_run}
+use Rattle.dtx_model.specs.Built.{IsNotRun, IsNotYet, are_run}
+use Rattle.dtx_model.specs.Grammar.{Reads}
 use Rattle.script_runner.specs.Program.{IsCutShort, IsReplayOf, IsWritten}
 use Rattle.script_runner.specs.Refusal.{IsReplayText}
 use Rattle.script_runner.specs.Transfer.{IsPartWritten}

@@ -9,10 +9,10 @@ use Rattle.dtx_values.specs.declared.entry.Entry.TheVariants.{OwnerAnswered, Pro
 use Rattle.dtx_values.specs.declared.note.Plan.{Plan}
 use Rattle.dtx_values.specs.declared.trace.Place.{Place}
 use Rattle.dtx_values.specs.Table.{how_many}
-use Rattle.dtx_model.specs.Causes.{has_object, is_as_planned, plans_of}
-use Rattle.dtx_model.specs.Histories.{is_call_at, nobody}
-use Rattle.dtx_model.specs.Replay.{Placed, calls}
-use Rattle.dtx_model.specs.Replays.{LinesRan, IsReplayed, due_calls}
+use Rattle.dtx_model.specs.Caused.{has_object, is_as_planned, plans_of}
+use Rattle.dtx_model.specs.History.{is_call_at, nobody}
+use Rattle.dtx_model.specs.Traces.{Placed, calls}
+use Rattle.dtx_model.specs.Replay.{LinesRan, IsReplayed, due_calls}
 use Rattle.dtx_model.proofs.Bools.{and_both, and_left, and_right, or_right}
 use Rattle.dtx_model.specs.Grammar.{IsScript}
 use Rattle.script_runner.specs.RunState.{IsSettledBelow, IsToPlan}

@@ -6,10 +6,10 @@ use Rattle.dtx_values.specs.declared.entry.Entry.{Entry}
 use Rattle.dtx_values.specs.declared.entry.Entry.TheVariants.{Stopped}
 use Rattle.dtx_values.specs.declared.script.Line.{Line}
 use Rattle.dtx_model.specs.Words.{kth, onto, past_of}
-use Rattle.dtx_model.specs.Causes.{IsNamed, Settled}
-use Rattle.dtx_model.specs.Replay.{Placed, history, is_passed, placed}
-use Rattle.dtx_model.specs.Replays.{HasDoneAt, StepsRan, after_turn, block_in, is_in_replay, last_turn, stop_if, world_at}
-use Rattle.dtx_model.specs.Turns.{Step, Replies, Acts, StepName, pending}
+use Rattle.dtx_model.specs.Caused.{IsNamed, Settled}
+use Rattle.dtx_model.specs.Traces.{Placed, history, placed}
+use Rattle.dtx_model.specs.Replay.{is_passed, HasDoneAt, StepsRan, after_turn, block_in, is_in_replay, last_turn, stop_if, world_at}
+use Rattle.dtx_model.specs.Steps.{Step, Replies, Acts, StepName, pending}
 use Rattle.dtx_model.proofs.Histories.{history-other}
 use Rattle.script_runner.specs.RunState.{Advances, IsSettledBelow, OwnSteps, Settles, StepsDone, is_own_step}
 

@@ -23,10 +23,9 @@ use Rattle.dtx_values.specs.declared.words.ScopeOption.{ScopeOption}
 use Rattle.dtx_model.specs.Words.{each, onto, past_of}
 use Rattle.dtx_model.specs.Observed.{Observed}
 use Rattle.dtx_model.specs.Scopes.{ScopeEntry, Opens, Finishes, Closes, close_answer, finish_answer, differing, enter_answer, entering, is_deep, is_scope, open_scopes, taken_off, unless_differing}
-use Rattle.dtx_model.specs.Contexts.{called_with, entries_if, isolation_in, name_in, opening_calls, option_in, scope_answer, scope_block, scope_calls, scope_entries, timeout_in, took_off, written}
-use Rattle.dtx_model.specs.Replay.{Placed, noted}
-use Rattle.dtx_model.specs.Contexts.{is_fine}
-use Rattle.dtx_model.specs.Causes.{is_promoting_entry}
+use Rattle.dtx_model.specs.Contexts.{called_with, entries_if, isolation_in, name_in, opening_calls, option_in, scope_answer, scope_block, scope_calls, scope_entries, timeout_in, took_off, written, is_fine}
+use Rattle.dtx_model.specs.Traces.{Placed, noted}
+use Rattle.dtx_model.specs.Caused.{is_promoting_entry}
 use Rattle.dtx_model.proofs.Histories.{onto-append}
 use Rattle.outcome_law.proofs.Lists.{OfEach}
 use Rattle.outcome_law.proofs.ScopeCalls.{IsScopeCall, is_scope_call, scope_calls_plain}

@@ -7,12 +7,12 @@ use Rattle.dtx_values.specs.declared.number.ActorNo.{ActorNo}
 use Rattle.dtx_values.specs.declared.number.TxNo.{TxNo}
 use Rattle.dtx_values.specs.declared.script.Line.{Line}
 use Rattle.dtx_model.specs.Words.{kth, onto, past_of}
-use Rattle.dtx_model.specs.Causes.{entered_in, plans_of, world_of}
+use Rattle.dtx_model.specs.Caused.{entered_in, plans_of, world_of}
 use Rattle.dtx_model.specs.Half.{Half}
 use Rattle.dtx_model.specs.Observed.{Observed, observe, track_all}
-use Rattle.dtx_model.specs.Replay.{Placed, history, placed}
-use Rattle.dtx_model.specs.Replays.{after_turn, block_in, world_at}
-use Rattle.dtx_model.specs.Turns.{Step, Calls, Replies, Acts, StepName, ReplyOf, LocalAct, block_at, entered, local_pending, pending}
+use Rattle.dtx_model.specs.Traces.{Placed, history, placed}
+use Rattle.dtx_model.specs.Replay.{after_turn, block_in, world_at}
+use Rattle.dtx_model.specs.Steps.{Step, Calls, Replies, Acts, StepName, ReplyOf, LocalAct, block_at, entered, local_pending, pending}
 use Rattle.dtx_model.specs.World.{half}
 use Rattle.dtx_model.proofs.Histories.{history-same, observe-onto}
 use Rattle.dtx_model.proofs.Unpromoted.{half-local}

@@ -13,13 +13,13 @@ use Rattle.dtx_model.specs.Grammar.{are_named_well}
 use Rattle.dtx_model.specs.Half.{Half, half_of}
 use Rattle.dtx_model.specs.Waiting.{EnteredCall}
 use Rattle.dtx_model.specs.World.{half}
-use Rattle.dtx_model.specs.Causes.{is_promoting_entry, plans_of, world_of}
-use Rattle.dtx_model.specs.Replay.{Placed, history, noted, placed}
-use Rattle.dtx_model.specs.Replays.{world_at}
+use Rattle.dtx_model.specs.Caused.{is_promoting_entry, plans_of, world_of}
+use Rattle.dtx_model.specs.Traces.{Placed, history, noted, placed}
+use Rattle.dtx_model.specs.Replay.{world_at}
 use Rattle.dtx_model.specs.Acts.{act_entries}
 use Rattle.dtx_model.specs.Observed.{observe}
 use Rattle.dtx_model.specs.Replies.{all_due}
-use Rattle.dtx_model.specs.Turns.{local_pending, pending}
+use Rattle.dtx_model.specs.Steps.{local_pending, pending}
 use Rattle.dtx_model.proofs.Histories.{history-noted, history-other, history-same, onto-append}
 use Rattle.dtx_model.proofs.SameNumbers.{same_transaction}
 use Rattle.local_half.specs.Half.{Known, after}

@@ -14,7 +14,8 @@ use Rattle.dtx_model.specs.Words.{has, kth}
 use Rattle.dtx_model.specs.Observed.{Observed}
 use Rattle.dtx_model.specs.Calls.{call_of}
 use Rattle.dtx_model.specs.Half.{Half, is_gone, stands}
-use Rattle.dtx_model.specs.Answers.{facts_if, gone_answer, has_facts, if_begun, local_answer, local_facts}
+use Rattle.dtx_model.specs.Facts.{facts_if, has_facts, local_facts}
+use Rattle.dtx_model.specs.Answers.{gone_answer, if_begun, local_answer}
 use Rattle.dtx_model.specs.World.{gone_unlinked}
 use Rattle.outcome_law.proofs.ScopeCalls.{is_scope_call}
 use Rattle.local_half.specs.Half.{is_its_own}

@@ -9,11 +9,11 @@ use Rattle.dtx_values.specs.declared.number.EnlNo.{EnlNo}
 use Rattle.dtx_model.specs.Words.{kth}
 use Rattle.dtx_model.specs.Outcome.{is_empty}
 use Rattle.dtx_model.specs.Observed.{Observed}
-use Rattle.dtx_model.specs.Waiting.{planned}
+use Rattle.dtx_model.specs.Plans.{planned}
 use Rattle.dtx_model.specs.Half.{Half}
 use Rattle.dtx_model.specs.Acts.{act_entries}
 use Rattle.dtx_model.specs.Replies.{due_of, reply_entries}
-use Rattle.dtx_model.specs.Turns.{Step, Replies, Acts, StepName, ReplyOf, LocalAct, local_pending, replies_due}
+use Rattle.dtx_model.specs.Steps.{Step, Replies, Acts, StepName, ReplyOf, LocalAct, local_pending, replies_due}
 use Rattle.local_half.specs.Half.{Known, after}
 use Rattle.script_runner.specs.declared.pending.Due.{Due}
 use Rattle.script_runner.specs.declared.pending.Due.TheVariants.{Reply as DueReply, Beyond}

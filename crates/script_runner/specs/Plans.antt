@@ -8,7 +8,7 @@ use Rattle.dtx_values.specs.declared.script.Body.TheVariants.{Volatile, Durable,
 use Rattle.dtx_values.specs.declared.script.Line.{Line}
 use Rattle.dtx_model.specs.Words.{latest, past_of}
 use Rattle.dtx_model.specs.Calls.{transaction_of}
-use Rattle.dtx_model.specs.Waiting.{support_plan}
+use Rattle.dtx_model.specs.Plans.{support_plan}
 use Rattle.script_runner.specs.declared.plans.Made.{Made}
 
 -- what a command says of the enlistment of this number, where it makes it

@@ -3,8 +3,8 @@ use Rattle.std.specs.Prelude.{ℕ, ◌≡◌, true, List, [], ◌∷◌, ◌++�
 use Rattle.std.specs.Option.{ForSome}
 use Rattle.dtx_values.specs.declared.script.Line.{Line}
 use Rattle.dtx_model.specs.Grammar.{IsScript, Reads}
-use Rattle.dtx_model.specs.Histories.{HasOneOutcome, IsComplete, IsHistory, IsReplay}
-use Rattle.dtx_model.specs.Replay.{Placed}
+use Rattle.dtx_model.specs.History.{HasOneOutcome, IsComplete, IsHistory, IsReplay}
+use Rattle.dtx_model.specs.Traces.{Placed}
 use Rattle.dtx_model.specs.TraceText.{trace_text}
 use Rattle.script_runner.specs.Transfer.{IsPartWritten}
 

@@ -2,9 +2,9 @@
 use Rattle.std.specs.Prelude.{ℕ, ◌≡◌, true, List}
 use Rattle.dtx_values.specs.declared.script.Line.{Line}
 use Rattle.dtx_model.specs.Faults.{Bad}
-use Rattle.dtx_model.specs.Grammar.{IsNotYet}
-use Rattle.dtx_model.specs.Histories.{HasOneOutcome, IsComplete, IsHistory, IsReplay}
-use Rattle.dtx_model.specs.Replay.{Placed}
+use Rattle.dtx_model.specs.Built.{IsNotYet}
+use Rattle.dtx_model.specs.History.{HasOneOutcome, IsComplete, IsHistory, IsReplay}
+use Rattle.dtx_model.specs.Traces.{Placed}
 use Rattle.dtx_model.specs.TraceText.{trace_text}
 use Rattle.script_runner.specs.declared.program.Refusal.{Refusal}
 use Rattle.script_runner.specs.declared.program.Refusal.TheVariants.{Bad as BadBytes, NotYet, Memory}

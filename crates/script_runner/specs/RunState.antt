@@ -9,13 +9,13 @@ use Rattle.dtx_values.specs.Row.{is_of}
 use Rattle.dtx_model.specs.Words.{always, each, has, kth, past_of}
 use Rattle.dtx_model.specs.Grammar.{are_named_well}
 use Rattle.dtx_model.specs.Observed.{rows}
-use Rattle.dtx_model.specs.Waiting.{plan_of}
+use Rattle.dtx_model.specs.Plans.{plan_of}
 use Rattle.dtx_model.specs.World.{half}
-use Rattle.dtx_model.specs.Turns.{Step, Replies, Acts, StepName, pending}
-use Rattle.dtx_model.specs.Causes.{IsNamed, Settled, entered_in, is_as_planned, is_promoting_entry, plans_of}
-use Rattle.dtx_model.specs.Replay.{Placed, history}
-use Rattle.dtx_model.specs.Replays.{HasSettled, RoundsRan, after_turn, last_turn, world_at}
-use Rattle.dtx_model.specs.Histories.{nobody}
+use Rattle.dtx_model.specs.Steps.{Step, Replies, Acts, StepName, pending}
+use Rattle.dtx_model.specs.Caused.{IsNamed, Settled, entered_in, is_as_planned, is_promoting_entry, plans_of}
+use Rattle.dtx_model.specs.Traces.{Placed, history}
+use Rattle.dtx_model.specs.Replay.{HasSettled, RoundsRan, after_turn, last_turn, world_at}
+use Rattle.dtx_model.specs.History.{nobody}
 use Rattle.dtx_model.proofs.Unpromoted.{is_local}
 use Rattle.local_half.specs.Half.{Known}
 use Rattle.scope_context.specs.Standing.{Standing}

@@ -4,7 +4,7 @@ ghost use Rattle.dtx_values.specs.Outgoing.{with};
 ghost use Rattle.dtx_values.specs.declared.call.Call.TheVariants.{Gone};
 ghost use Rattle.dtx_values.specs.declared.entry.Entry.TheVariants.{Called};
 ghost use Rattle.dtx_model.specs.Answers.{await_answer};
-ghost use Rattle.dtx_model.specs.Turns.{Calls, entered};
+ghost use Rattle.dtx_model.specs.Steps.{Calls, entered};
 ghost use Rattle.local_half.specs.Half.{IsAtHome, after};
 ghost use Rattle.script_runner.specs.Calling.{IsReady, call_block};
 

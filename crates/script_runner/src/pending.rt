@@ -2,8 +2,8 @@
 ghost use Rattle.std.specs.Prelude.{◌≡◌, ◌≤◌, None, true, false};
 ghost use Rattle.dtx_values.specs.Table.{rises_above};
 ghost use Rattle.dtx_model.specs.Words.{kth};
-ghost use Rattle.dtx_model.specs.Causes.{plans_of};
-ghost use Rattle.dtx_model.specs.Turns.{local_pending};
+ghost use Rattle.dtx_model.specs.Caused.{plans_of};
+ghost use Rattle.dtx_model.specs.Steps.{local_pending};
 ghost use Rattle.local_half.specs.Half.{IsAtHome};
 ghost use Rattle.script_runner.specs.Pending.{DoesKth, IsDueAt, planned_at};
 

@@ -3,7 +3,7 @@ ghost use Rattle.std.specs.Prelude.{◌≡◌, ◌<◌, ◌==◌, ◌-◌, ℕ, 
 ghost use Rattle.dtx_values.specs.declared.number.CloneNo.{CloneNo};
 ghost use Rattle.dtx_values.specs.declared.number.EnlNo.{EnlNo};
 ghost use Rattle.dtx_model.specs.Calls.{clone_made, transaction_of, transaction_with};
-ghost use Rattle.dtx_model.specs.Causes.{plans_of};
+ghost use Rattle.dtx_model.specs.Caused.{plans_of};
 ghost use Rattle.dtx_model.specs.Words.{or_else};
 ghost use Rattle.script_runner.specs.Plans.{made_by, made_in};
 

@@ -5,8 +5,7 @@ use Rattle.std.proofs.Math.Bool.{or-false}
 use Rattle.dtx_values.specs.declared.script.BadCause.{BadCause}
 use Rattle.dtx_model.specs.Words.{has}
 use Rattle.dtx_model.specs.Outcome.{is_empty}
-use Rattle.dtx_model.specs.Faults.{Pattern, allows, behind, looks_named, looks_numbered, wants_number, word_cause, word_fault}
-use Rattle.dtx_model.specs.Faults.{command_forms, line_forms, actor_pattern, transaction_pattern, enlistment_pattern, scope_pattern, manager_pattern}
+use Rattle.dtx_model.specs.Faults.{Pattern, allows, behind, looks_named, looks_numbered, wants_number, word_cause, word_fault, command_forms, line_forms, actor_pattern, transaction_pattern, enlistment_pattern, scope_pattern, manager_pattern}
 use Rattle.script_words.specs.Places.{IsAt, place_fault, end_fault, cause_of, is_misnamed, is_misnumbered, is_numbered, tail}
 use Rattle.script_text.specs.Reader.{ahead, first_fault, opening_forms, support_forms}
 

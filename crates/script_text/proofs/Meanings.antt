@@ -31,10 +31,8 @@ use Rattle.dtx_values.specs.declared.words.Timeout.TheVariants.{Default, Millise
 use Rattle.dtx_values.specs.declared.words.Vote.{Vote}
 use Rattle.dtx_values.specs.declared.words.Vote.TheVariants.{Yes, No, Done}
 use Rattle.dtx_model.specs.Words.{has}
-use Rattle.dtx_model.specs.Grammar.{actor_name, transaction_name, enlistment_name, clone_name, scope_name, manager_name, is_timeout}
-use Rattle.dtx_model.specs.Grammar.{connection_word, image_word, asked_iso_word, timeout_word, option_word, vote_word, owner_word, promote_word, kind_word}
-use Rattle.dtx_model.specs.Faults.{Pattern, one_of, named, number, allows, same_bytes, writes, actor_pattern, transaction_pattern, enlistment_pattern, clone_pattern, scope_pattern, manager_pattern}
-use Rattle.dtx_model.specs.Faults.{connection_pattern, timeout_pattern, iso_pattern, option_pattern, vote_pattern, owner_pattern, promote_pattern, kind_pattern, image_pattern}
+use Rattle.dtx_model.specs.Grammar.{actor_name, transaction_name, enlistment_name, clone_name, scope_name, manager_name, is_timeout, connection_word, image_word, asked_iso_word, timeout_word, option_word, vote_word, owner_word, promote_word, kind_word}
+use Rattle.dtx_model.specs.Faults.{Pattern, one_of, named, number, allows, same_bytes, writes, actor_pattern, transaction_pattern, enlistment_pattern, clone_pattern, scope_pattern, manager_pattern, connection_pattern, timeout_pattern, iso_pattern, option_pattern, vote_pattern, owner_pattern, promote_pattern, kind_pattern, image_pattern}
 use Rattle.dtx_model.proofs.Bools.{and_left, and_right, or_case}
 use Rattle.line_tail.proofs.SameBytes.{same_bytes-equal}
 use Rattle.script_words.proofs.Numbers.{to_high}

@@ -11,10 +11,8 @@ use Rattle.dtx_values.specs.declared.script.Opening.{Opening}
 use Rattle.dtx_values.specs.declared.script.Support.{Support}
 use Rattle.dtx_values.specs.declared.script.Line.{Line}
 use Rattle.dtx_model.specs.Words.{has, past_of}
-use Rattle.dtx_model.specs.Grammar.{words, line_text, IsScript, command_words, opening_words, support_words, is_in_range, is_opening_in_range}
-use Rattle.dtx_model.specs.Grammar.{is_made, is_made_lasting, is_made_lasting_of, is_par, OfTransaction, OfEnlistment, OfClone, OfScope}
-use Rattle.dtx_model.specs.Faults.{Pattern, command_forms, word, transaction_pattern}
-use Rattle.dtx_model.specs.Faults.{timeout_pattern, iso_pattern, vote_pattern, owner_pattern, word_fault, line_forms, words_of, name_fault}
+use Rattle.dtx_model.specs.Grammar.{words, line_text, IsScript, command_words, opening_words, support_words, is_in_range, is_opening_in_range, is_made, is_made_lasting, is_made_lasting_of, is_par, OfTransaction, OfEnlistment, OfClone, OfScope}
+use Rattle.dtx_model.specs.Faults.{Pattern, command_forms, word, transaction_pattern, timeout_pattern, iso_pattern, vote_pattern, owner_pattern, word_fault, line_forms, words_of, name_fault}
 
 -- the first fault of two
 unfoldable pub first_fault : Option BadCause → Option BadCause → Option BadCause

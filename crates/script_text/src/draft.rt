@@ -1,8 +1,7 @@
 //! The lines that are read so far.
 ghost use Rattle.std.specs.Prelude.{◌≡◌, ◌++◌, [], ◌∷◌, IfOk, OnOk, None, not, length, replicate};
 ghost use Rattle.dtx_model.specs.Words.{each, has, past_of};
-ghost use Rattle.dtx_model.specs.Grammar.{is_made, makes, uses, opening_makes, connection_uses, is_made_lasting, is_made_lasting_of};
-ghost use Rattle.dtx_model.specs.Grammar.{is_connection_of, is_of_kind, is_par, OfTransaction, OfEnlistment, OfClone, OfScope};
+ghost use Rattle.dtx_model.specs.Grammar.{is_made, makes, uses, opening_makes, connection_uses, is_made_lasting, is_made_lasting_of, is_connection_of, is_of_kind, is_par, OfTransaction, OfEnlistment, OfClone, OfScope};
 ghost use Rattle.dtx_model.specs.Faults.{name_fault};
 
 use dtx_values::{BadCause, Body, CloneNo, Conn, EnlNo, Line, Opening, ScopeNo, Script, TxNo};

@@ -31,11 +31,8 @@ use Rattle.dtx_values.specs.declared.words.Vote.TheVariants.{Yes, No, Done}
 use Rattle.dtx_values.specs.declared.words.IsoWord.TheVariants.{Default as DefaultIso, Level}
 use Rattle.dtx_model.specs.Words.{has}
 use Rattle.dtx_model.proofs.Bools.{or_false, or_right}
-use Rattle.dtx_model.specs.Grammar.{is_from, is_timeout, connection_word, timeout_word, option_word, vote_word, owner_word, promote_word, kind_word, image_word, asked_iso_word}
-use Rattle.dtx_model.specs.Grammar.{actor_name, transaction_name, enlistment_name, clone_name, scope_name, manager_name}
-use Rattle.dtx_model.specs.Faults.{actor_pattern, transaction_pattern, enlistment_pattern, clone_pattern, scope_pattern, manager_pattern}
-use Rattle.dtx_model.specs.Faults.{Pattern, same_bytes, writes, one_of, named, number, is_name, allows, connection_pattern}
-use Rattle.dtx_model.specs.Faults.{timeout_pattern, option_pattern, vote_pattern, owner_pattern, promote_pattern, kind_pattern, image_pattern, iso_pattern}
+use Rattle.dtx_model.specs.Grammar.{is_from, is_timeout, connection_word, timeout_word, option_word, vote_word, owner_word, promote_word, kind_word, image_word, asked_iso_word, actor_name, transaction_name, enlistment_name, clone_name, scope_name, manager_name}
+use Rattle.dtx_model.specs.Faults.{actor_pattern, transaction_pattern, enlistment_pattern, clone_pattern, scope_pattern, manager_pattern, Pattern, same_bytes, writes, one_of, named, number, is_name, allows, connection_pattern, timeout_pattern, option_pattern, vote_pattern, owner_pattern, promote_pattern, kind_pattern, image_pattern, iso_pattern}
 use Rattle.script_words.specs.Places.{IsOther}
 use Rattle.line_tail.proofs.SameBytes.{same_bytes-other}
 use Rattle.script_words.proofs.Numbers.{writes-decimal, to_high}

@@ -1,9 +1,7 @@
 //! The words of a line, read one after another.
 ghost use Rattle.std.specs.Prelude.{◌≡◌, ◌∷◌, [], ℕ, List, IfOk, IfErr, IfSome, IfNone, true, decimal};
-ghost use Rattle.dtx_model.specs.Grammar.{actor_name, transaction_name, enlistment_name, clone_name, scope_name, manager_name, connection_word, timeout_word, option_word};
-ghost use Rattle.dtx_model.specs.Grammar.{vote_word, owner_word, promote_word, kind_word, image_word, asked_iso_word, is_from, is_timeout};
-ghost use Rattle.dtx_model.specs.Faults.{words_of, number as number_pattern, actor_pattern, transaction_pattern, enlistment_pattern, clone_pattern, scope_pattern, manager_pattern, connection_pattern};
-ghost use Rattle.dtx_model.specs.Faults.{timeout_pattern, option_pattern, vote_pattern, owner_pattern, promote_pattern, kind_pattern, image_pattern, iso_pattern};
+ghost use Rattle.dtx_model.specs.Grammar.{actor_name, transaction_name, enlistment_name, clone_name, scope_name, manager_name, connection_word, timeout_word, option_word, vote_word, owner_word, promote_word, kind_word, image_word, asked_iso_word, is_from, is_timeout};
+ghost use Rattle.dtx_model.specs.Faults.{words_of, number as number_pattern, actor_pattern, transaction_pattern, enlistment_pattern, clone_pattern, scope_pattern, manager_pattern, connection_pattern, timeout_pattern, option_pattern, vote_pattern, owner_pattern, promote_pattern, kind_pattern, image_pattern, iso_pattern};
 ghost use Rattle.script_words.specs.Places.{IsAt, place_fault, end_fault};
 
 use crate::words;

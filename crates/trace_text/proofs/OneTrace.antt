@@ -2,7 +2,7 @@
 use Rattle.std.proofs.Common.{◌≡◌, ℕ, suc, true, List, [], ◌∷◌, ◌++◌, map, length, length-append, decimal, refl, ap, sym, ◌∙◌, arith}
 use Rattle.dtx_values.specs.declared.message.Info.{Info}
 use Rattle.dtx_model.specs.Words.{each}
-use Rattle.dtx_model.specs.Replay.{Placed}
+use Rattle.dtx_model.specs.Traces.{Placed}
 use Rattle.dtx_model.specs.TraceText.{entry_text, lines_from, place_text, trace_line, trace_text}
 use Rattle.dtx_model.proofs.Bools.{and_left, and_right}
 use Rattle.trace_words.proofs.Cuts.{cut_same}

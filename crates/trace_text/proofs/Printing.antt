@@ -1,7 +1,7 @@
 -- A trace's text, a line at a time.
 use Rattle.std.proofs.Common.{◌≡◌, true, refl, ℕ, zero, suc, ◌+◌, ◌<◌, List, [], ◌∷◌, ◌++◌, length, take, get_or, ap, arith, add-one, sym, ◌∙◌, append_assoc}
 use Rattle.std.proofs.lemmas.List.{append-nil}
-use Rattle.dtx_model.specs.Replay.{Placed}
+use Rattle.dtx_model.specs.Traces.{Placed}
 use Rattle.dtx_model.specs.TraceText.{trace_line, lines_from}
 use Rattle.dtx_model.specs.Words.{each}
 use Rattle.dtx_model.proofs.Bools.{and_both, and_left, and_right}

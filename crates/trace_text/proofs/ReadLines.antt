@@ -37,7 +37,7 @@ use Rattle.dtx_values.specs.declared.number.TxNo.{TxNo}
 use Rattle.dtx_values.specs.declared.trace.Place.{Place}
 use Rattle.dtx_values.specs.declared.trace.Place.TheVariants.{Context, Transaction, Log}
 use Rattle.dtx_model.specs.Grammar.{actor_name, connection_word, iso_word, kind_word, image_word}
-use Rattle.dtx_model.specs.Replay.{Placed}
+use Rattle.dtx_model.specs.Traces.{Placed}
 use Rattle.dtx_model.specs.TraceText.{ambient_text, answer_text, ask_text, cast_vote_text, cause_text, class_text, direction_text, entry_text, found_text, is_entry_fit, is_fit, id_text, message_text, outcome_text, party_text, place_text, promote_text, request_text, trace_line}
 use Rattle.trace_text.specs.ReadTrace.{line_body}
 use Rattle.line_tail.specs.Cut.{IsWithout}

@@ -2,7 +2,7 @@
 use Rattle.std.proofs.Common.{◌≡◌, ◌≢◌, ℕ, suc, ◌+◌, ◌<◌, true, List, [], ◌∷◌, ◌++◌, length, length-append, refl, ap, sym, ◌∙◌, arith, append_assoc}
 use Rattle.std.proofs.lemmas.List.{append-nil}
 use Rattle.dtx_model.specs.Words.{each}
-use Rattle.dtx_model.specs.Replay.{Placed}
+use Rattle.dtx_model.specs.Traces.{Placed}
 use Rattle.dtx_model.specs.TraceText.{trace_line, lines_from, trace_text, is_fit, IsTextOf, IsBadLine}
 use Rattle.dtx_model.proofs.Bools.{and_left, and_right, and_both}
 use Rattle.trace_text.specs.ReadTrace.{line_body}

@@ -1,6 +1,6 @@
 -- What the reader of traces gives.
 use Rattle.std.specs.Prelude.{ℕ, List, ◌++◌, codes, decimal}
-use Rattle.dtx_model.specs.Replay.{Placed}
+use Rattle.dtx_model.specs.Traces.{Placed}
 use Rattle.dtx_model.specs.TraceText.{place_text, entry_text, IsBadLine}
 use Rattle.trace_text.specs.declared.reader.TraceError.{TraceError}
 use Rattle.trace_text.specs.declared.reader.TraceError.TheVariants.{BadLine, Memory}

@@ -1,7 +1,7 @@
 //! Reads traces: each line is read freely, printed again, and compared.
 ghost use Rattle.std.specs.Prelude.{◌≡◌, ◌≢◌, ◌++◌, ℕ, List, map, true, IfOk, IfErr, IfSome, IfNone};
 ghost use Rattle.dtx_values.specs.declared.message.Info.{Info};
-ghost use Rattle.dtx_model.specs.Replay.{Placed};
+ghost use Rattle.dtx_model.specs.Traces.{Placed};
 ghost use Rattle.dtx_model.specs.TraceText.{trace_line, trace_text, is_fit, IsTextOf, IsBadLine};
 ghost use Rattle.dtx_model.specs.Words.{each};
 ghost use Rattle.trace_text.specs.OneTrace.{is_carried_at, is_typed_at, named_at, told_at};

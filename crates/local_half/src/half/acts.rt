@@ -6,7 +6,7 @@ ghost use Rattle.dtx_values.specs.Waves.{is_over, next_ask};
 ghost use Rattle.dtx_model.specs.Outcome.{is_empty};
 ghost use Rattle.dtx_model.specs.Acts.{act_entries, after_seal, ask_or, commit_act, commit_sent, hears_abort, is_to_tell, lasts, tell, under_way};
 ghost use Rattle.dtx_model.specs.Half.{is_handed};
-ghost use Rattle.dtx_model.specs.Turns.{Acts, after as world_after};
+ghost use Rattle.dtx_model.specs.Steps.{Acts, after as world_after};
 ghost use Rattle.dtx_model.specs.Words.{put};
 ghost use Rattle.dtx_model.specs.World.{World};
 ghost use Rattle.dtx_values.specs.declared.entry.Entry.TheVariants.{Sealed};

@@ -2,7 +2,7 @@
 ghost use Rattle.std.specs.Prelude.{◌≡◌, ◌≤◌, [], Some, false, is_some, true};
 ghost use Rattle.dtx_values.specs.Outgoing.{with};
 ghost use Rattle.dtx_model.specs.Replies.{all_due, due_of, fits, note_at, reply_entries, row_note};
-ghost use Rattle.dtx_model.specs.Turns.{Replies, after as world_after};
+ghost use Rattle.dtx_model.specs.Steps.{Replies, after as world_after};
 ghost use Rattle.dtx_model.specs.Words.{kth};
 ghost use Rattle.dtx_model.specs.World.{World};
 ghost use Rattle.local_half.specs.Half.{Follows, MayReply, after, fits_due, made_by};

@@ -1,5 +1,4 @@
-use Rattle.dtx_model.specs.Caused.{IsCallOf}
-use Rattle.dtx_model.specs.Causes.{IsIn}
+use Rattle.dtx_model.specs.Caused.{IsCallOf, IsIn}
 use Rattle.dtx_model.proofs.Lifting.{lift}
 use Rattle.outcome_law.proofs.Names.{script_once}
 use Rattle.outcome_law.proofs.lifting.Goals as goal

@@ -7,7 +7,7 @@ use Rattle.dtx_values.specs.declared.entry.Answer.TheVariants.{Did}
 use Rattle.dtx_values.specs.declared.entry.Entry.{Entry}
 use Rattle.dtx_values.specs.declared.entry.Entry.TheVariants.{Called}
 use Rattle.dtx_model.specs.Answers.{await_answer, if_begun}
-use Rattle.dtx_model.specs.Turns.{Calls, entered}
+use Rattle.dtx_model.specs.Steps.{Calls, entered}
 use Rattle.local_half.specs.Half.{after, is_wait}
 use Rattle.script_runner.specs.Calling.{call_block}
 use Rattle.script_runner.proofs.Calling.{answer_goes_on, answers_itself, await_block, await_wait, called_alone, did_wait, do_block, gone_block, own_block}

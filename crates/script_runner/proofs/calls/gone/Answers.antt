@@ -5,7 +5,7 @@ use Rattle.dtx_values.specs.declared.entry.Answer.TheVariants.{Fine}
 use Rattle.dtx_values.specs.declared.entry.Entry.{Entry}
 use Rattle.dtx_values.specs.declared.entry.Entry.TheVariants.{Called}
 use Rattle.dtx_model.specs.Answers.{if_begun}
-use Rattle.dtx_model.specs.Turns.{Calls, entered}
+use Rattle.dtx_model.specs.Steps.{Calls, entered}
 use Rattle.dtx_model.specs.World.{gone_unlinked}
 use Rattle.local_half.proofs.Writing.{with-with}
 use Rattle.local_half.specs.Half.{after}

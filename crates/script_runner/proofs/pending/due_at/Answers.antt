@@ -1,7 +1,7 @@
 use Rattle.std.proofs.Common.{List, ap, slice_get, sym, subst, ◌∙◌, arith}
-use Rattle.dtx_model.specs.Causes.{plans_of}
+use Rattle.dtx_model.specs.Caused.{plans_of}
 use Rattle.dtx_model.specs.Half.{Half}
-use Rattle.dtx_model.specs.Turns.{ReplyOf, StepName}
+use Rattle.dtx_model.specs.Steps.{ReplyOf, StepName}
 use Rattle.script_runner.specs.Pending.{planned_at}
 use Rattle.script_runner.proofs.DueReplies.{IsPassed, all_passed, due_here, passed-more, passed-same, reply_here, reply_of, row_at, row_planned, row_reply, rows_replies}
 use Rattle.script_runner.proofs.pending.due_at.Goals as goal

@@ -1,4 +1,4 @@
-use Rattle.dtx_model.specs.Causes.{plans_of}
+use Rattle.dtx_model.specs.Caused.{plans_of}
 use Rattle.script_runner.proofs.DueReplies.{IsPassed, row_reply}
 use Rattle.script_runner.proofs.pending.due_at.Given as goal
 

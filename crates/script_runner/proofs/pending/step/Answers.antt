@@ -1,5 +1,5 @@
 use Rattle.std.proofs.Common.{◌≡◌, ap, true, is_some, sym, ◌∙◌}
-use Rattle.dtx_model.specs.Causes.{plans_of}
+use Rattle.dtx_model.specs.Caused.{plans_of}
 use Rattle.local_half.specs.Half.{fits_due}
 use Rattle.script_runner.proofs.DueReplies.{planned_fits}
 use Rattle.script_runner.proofs.Kth.{after-none, beyond_act, does_act, does_reply, no_act}

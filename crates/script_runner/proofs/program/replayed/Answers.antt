@@ -1,5 +1,5 @@
 use Rattle.std.proofs.Common.{ap, subst, sym, true}
-use Rattle.dtx_model.specs.Histories.{IsHistory, IsReplay}
+use Rattle.dtx_model.specs.History.{IsHistory, IsReplay}
 use Rattle.script_runner.proofs.Programs.{no_rise, text_of}
 use Rattle.script_runner.proofs.program.replayed.Goals as goal
 

@@ -1,6 +1,6 @@
 use Rattle.std.proofs.Common.{◌≡◌, List, vec_len}
 use Rattle.dtx_values.specs.declared.script.Line.{Line}
-use Rattle.dtx_model.specs.Replay.{Placed}
+use Rattle.dtx_model.specs.Traces.{Placed}
 use Rattle.script_runner.specs.RunState.{AreTied}
 use Rattle.script_runner.proofs.replay.reach.Given as goal
 

@@ -1,9 +1,9 @@
 use Rattle.std.proofs.Common.{[], List, subst}
 use Rattle.dtx_values.specs.declared.number.TxNo.{TxNo}
 use Rattle.dtx_values.specs.declared.script.Line.{Line}
-use Rattle.dtx_model.specs.Causes.{Caused, Settled}
-use Rattle.dtx_model.specs.Replay.{history}
-use Rattle.dtx_model.specs.Replays.{IsReplayed}
+use Rattle.dtx_model.specs.Caused.{Caused, Settled}
+use Rattle.dtx_model.specs.Traces.{history}
+use Rattle.dtx_model.specs.Replay.{IsReplayed}
 use Rattle.dtx_model.specs.Words.{past_of}
 use Rattle.script_runner.specs.RunState.{IsToPlan}
 use Rattle.script_runner.proofs.Plain.{plain_faults, plain_follows, plain_local, plain_opens, plain_stops, plain_unpromoted}

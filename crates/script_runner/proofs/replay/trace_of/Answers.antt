@@ -1,8 +1,8 @@
 use Rattle.std.proofs.Common.{◌≡◌, List, [], ap, arith, subst, sym, ◌∙◌}
 use Rattle.dtx_values.specs.declared.script.Line.{Line}
-use Rattle.dtx_model.specs.Causes.{Settled}
-use Rattle.dtx_model.specs.Replay.{Placed, history}
-use Rattle.dtx_model.specs.Replays.{IsReplayed, LinesRan}
+use Rattle.dtx_model.specs.Caused.{Settled}
+use Rattle.dtx_model.specs.Traces.{Placed, history}
+use Rattle.dtx_model.specs.Replay.{IsReplayed, LinesRan}
 use Rattle.dtx_model.specs.Words.{past_of}
 use Rattle.script_runner.specs.RunState.{IsSettledBelow, IsToPlan, RunState}
 use Rattle.script_runner.specs.Scoped.{AreOpen}

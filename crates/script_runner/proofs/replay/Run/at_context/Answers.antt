@@ -3,7 +3,7 @@ use Rattle.std.proofs.Math.ListN.{length-set}
 use Rattle.dtx_values.specs.declared.scope.OpenScope.{OpenScope}
 use Rattle.dtx_model.specs.Contexts.{scope_block, scope_calls, scope_entries}
 use Rattle.dtx_model.specs.Scopes.{ScopeEntry, open_scopes}
-use Rattle.dtx_model.specs.Replay.{noted}
+use Rattle.dtx_model.specs.Traces.{noted}
 use Rattle.dtx_model.specs.Words.{onto, past_of}
 use Rattle.script_runner.specs.RunState.{RunState}
 use Rattle.script_runner.specs.Scoped.{AreOpen, DoesScope, calls_given, rolled_in, scopes_at, scopes_in}

@@ -1,8 +1,8 @@
 use Rattle.std.proofs.Common.{◌≡◌, ◌-◌, ◌++◌, [], arith, refl, subst, sym}
 use Rattle.dtx_model.specs.Observed.{observe}
-use Rattle.dtx_model.specs.Replay.{history, placed}
-use Rattle.dtx_model.specs.Replays.{after_turn}
-use Rattle.dtx_model.specs.Turns.{Calls, entered}
+use Rattle.dtx_model.specs.Traces.{history, placed}
+use Rattle.dtx_model.specs.Replay.{after_turn}
+use Rattle.dtx_model.specs.Steps.{Calls, entered}
 use Rattle.dtx_model.specs.Words.{past_of}
 use Rattle.script_runner.specs.Calling.{IsGiven, IsReady, call_block, own_call}
 use Rattle.script_runner.specs.RunState.{AreTied, RunState}

@@ -1,6 +1,6 @@
 use Rattle.std.proofs.Common.{◌≡◌, true, subst}
 use Rattle.dtx_values.specs.declared.number.TxNo.{TxNo}
-use Rattle.dtx_model.specs.Replay.{history}
+use Rattle.dtx_model.specs.Traces.{history}
 use Rattle.dtx_model.specs.Words.{past_of}
 use Rattle.script_runner.specs.RunState.{IsToPlan, RunState, are_plain}
 use Rattle.script_runner.proofs.replay.Run.is_plain.Goals as goal

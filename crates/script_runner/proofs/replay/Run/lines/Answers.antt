@@ -1,9 +1,9 @@
 use Rattle.std.proofs.Common.{◌≡◌, ◌+◌, ◌∷◌, ◌++◌, suc, Some, true, List, ap, arith, drop, length, subst, sym, take, ◌∙◌}
 use Rattle.std.proofs.lemmas.List.{drop_more}
 use Rattle.dtx_values.specs.declared.script.Line.{Line}
-use Rattle.dtx_model.specs.Grammar.{is_run_line}
+use Rattle.dtx_model.specs.Built.{is_run_line}
 use Rattle.dtx_model.specs.Observed.{observe}
-use Rattle.dtx_model.specs.Replay.{history}
+use Rattle.dtx_model.specs.Traces.{history}
 use Rattle.dtx_model.specs.Calls.{call_of}
 use Rattle.dtx_model.specs.AtLog.{is_local_trace}
 use Rattle.dtx_model.specs.Words.{kth, past_of}

@@ -1,5 +1,5 @@
 use Rattle.std.proofs.Common.{◌≡◌, take}
-use Rattle.dtx_model.specs.Replays.{LinesRan}
+use Rattle.dtx_model.specs.Replay.{LinesRan}
 use Rattle.dtx_model.specs.Words.{past_of}
 use Rattle.script_runner.specs.Scoped.{AreOpen}
 use Rattle.script_runner.proofs.replay.Run.lines.Given as goal

@@ -1,7 +1,7 @@
 use Rattle.std.proofs.Common.{◌≡◌, ◌<◌, ◌≤◌, None, Option, List, get_or, length, take_all, subst, ap, refl, sym, ◌∙◌}
 use Rattle.dtx_values.specs.declared.number.TxNo.{TxNo}
-use Rattle.dtx_model.specs.Replays.{after_calls, after_turn}
-use Rattle.dtx_model.specs.Turns.{Calls}
+use Rattle.dtx_model.specs.Replay.{after_calls, after_turn}
+use Rattle.dtx_model.specs.Steps.{Calls}
 use Rattle.dtx_values.specs.declared.call.Call.{Call}
 use Rattle.dtx_values.specs.declared.call.Call.TheVariants.{Rollback}
 use Rattle.dtx_values.specs.declared.script.Line.{Line}

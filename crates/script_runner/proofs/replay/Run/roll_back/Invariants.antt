@@ -1,5 +1,5 @@
 use Rattle.std.proofs.Common.{◌≡◌, take}
-use Rattle.dtx_model.specs.Replays.{after_calls}
+use Rattle.dtx_model.specs.Replay.{after_calls}
 use Rattle.dtx_model.specs.Words.{past_of}
 use Rattle.script_runner.specs.Scoped.{rollbacks, rolled_at}
 use Rattle.script_runner.proofs.replay.Run.roll_back.Given as goal

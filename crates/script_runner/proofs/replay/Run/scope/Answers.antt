@@ -3,7 +3,7 @@ use Rattle.dtx_values.specs.declared.call.Call.{Call}
 use Rattle.dtx_values.specs.declared.script.Line.{Line}
 use Rattle.script_runner.specs.Calling.{IsGiven, own_call}
 use Rattle.dtx_model.specs.Observed.{observe}
-use Rattle.dtx_model.specs.Replay.{history}
+use Rattle.dtx_model.specs.Traces.{history}
 use Rattle.dtx_model.specs.Words.{past_of}
 use Rattle.script_runner.specs.declared.contexts.Gives.{Gives}
 use Rattle.script_runner.specs.Scoped.{calls_given, rolled_at, scopes_at}

@@ -1,7 +1,7 @@
 use Rattle.std.proofs.Common.{◌≡◌, suc, List, true, false, Ok, None, subst, sym, ◌∙◌}
 use Rattle.dtx_values.specs.declared.script.Line.{Line}
-use Rattle.dtx_model.specs.Replays.{world_at}
-use Rattle.dtx_model.specs.Turns.{pending}
+use Rattle.dtx_model.specs.Replay.{world_at}
+use Rattle.dtx_model.specs.Steps.{pending}
 use Rattle.dtx_model.specs.Words.{kth, past_of}
 use Rattle.script_runner.specs.RunState.{Advances, RunState, Settles}
 use Rattle.script_runner.proofs.Rounds.{none-first, settles-here, steps-more}

@@ -1,6 +1,6 @@
 use Rattle.std.proofs.Common.{◌≡◌, ℕ}
 use Rattle.dtx_model.specs.Observed.{observe}
-use Rattle.dtx_model.specs.Replay.{history}
+use Rattle.dtx_model.specs.Traces.{history}
 use Rattle.dtx_model.specs.Words.{past_of}
 use Rattle.script_runner.specs.Remaining.{steps_left}
 use Rattle.script_runner.specs.RunState.{StepsDone}

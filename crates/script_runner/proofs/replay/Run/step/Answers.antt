@@ -1,8 +1,8 @@
 use Rattle.std.proofs.Common.{◌≡◌, ◌-◌, ◌<◌, ◌≤◌, ◌++◌, [], arith, length, None, refl, subst}
 use Rattle.dtx_model.specs.Observed.{observe}
-use Rattle.dtx_model.specs.Replay.{history, placed}
-use Rattle.dtx_model.specs.Replays.{world_at}
-use Rattle.dtx_model.specs.Turns.{pending}
+use Rattle.dtx_model.specs.Traces.{history, placed}
+use Rattle.dtx_model.specs.Replay.{world_at}
+use Rattle.dtx_model.specs.Steps.{pending}
 use Rattle.dtx_model.specs.Words.{kth, past_of}
 use Rattle.script_runner.specs.Remaining.{steps_left}
 use Rattle.script_runner.specs.RunState.{Advances, RunState}

@@ -1,7 +1,7 @@
 use Rattle.std.proofs.Common.{◌≡◌, arith, Ok, None, false, List, subst, sym}
 use Rattle.dtx_values.specs.declared.script.Line.{Line}
-use Rattle.dtx_model.specs.Replays.{HasDoneAt, world_at}
-use Rattle.dtx_model.specs.Turns.{pending}
+use Rattle.dtx_model.specs.Replay.{HasDoneAt, world_at}
+use Rattle.dtx_model.specs.Steps.{pending}
 use Rattle.dtx_model.specs.Words.{kth, past_of}
 use Rattle.script_runner.specs.RunState.{RunState}
 use Rattle.script_runner.proofs.Rounds.{done_all, done_some}
