@@ -24,7 +24,6 @@ use Rattle.dtx_model.specs.Half.{Half, decide, heeds_all, sees, veto_if}
 use Rattle.dtx_model.specs.Replies.{fits}
 use Rattle.dtx_model.specs.World.{World, half as half_at}
 use Rattle.dtx_model.specs.Caused.{IsOwnRun}
-use Rattle.dtx_model.proofs.Unpromoted.{at_home}
 use Rattle.enlist_table.specs.Refusals.{add_refusal}
 use Rattle.dependent_clones.specs.Refusals.{clone_refusal}
 

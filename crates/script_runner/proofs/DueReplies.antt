@@ -1,5 +1,5 @@
 -- Which replies are due, row by row.
-use Rattle.std.proofs.Common.{◌≡◌, ℕ, zero, suc, ◌+◌, ◌<◌, ◌≤◌, get_or, Bool, true, List, [], ◌∷◌, ◌++◌, length, map, filter, drop, Option, Some, None, slice_get, refl, ap, sym, ◌∙◌, subst, arith, append_assoc, length-append}
+use Rattle.std.proofs.Common.{◌≡◌, ℕ, suc, ◌+◌, ◌<◌, ◌≤◌, get_or, Bool, true, List, [], ◌∷◌, ◌++◌, length, map, filter, drop, Option, Some, None, slice_get, refl, ap, sym, ◌∙◌, subst, arith, append_assoc, length-append}
 use Rattle.std.specs.List.{cons_option, filter_map}
 use Rattle.std.proofs.lemmas.List.{append-nil, drop_all, drop_more}
 use Rattle.std.proofs.lemmas.Option.{slice_get-get_or}
@@ -57,22 +57,6 @@ passed-more f xs k i more less x m p z e d =
 -- an item of which f gives nothing passed
 pub passed-same : (f : Row → Option StepName) (xs : List Row) (k i more : ℕ) (x : Row) → IsPassed f xs k i more → drop i xs ≡ x ∷ drop (i + 1) xs → f x ≡ None → IsPassed f xs k (i + 1) more
 passed-same f xs k i more x p e d = (p.0, p.1 ∙ ap (λ ys. p.0 ++ ys) (from_row f xs i x None e d), p.2)
-
--- what is given at a place was given of an item
-pub given_at : {A B : Type 0} (f : A → Option B) (xs : List A) (k : ℕ) (y : B) → slice_get (filter_map f xs) k ≡ Some y → (j : ℕ) × (x : A) × (slice_get xs j ≡ Some x) × (f x ≡ Some y)
-given_at f [] k y e = absurd cc
-given_at {A = A} {B = B} f (x ∷ xs) k y e = step (f x) refl k e (λ j d. given_at f xs j y d)
-  where
-    Given : List A → Type 0
-    Given zs = (j : ℕ) × (z : A) × (slice_get zs j ≡ Some z) × (f z ≡ Some y)
-
-    later : Given xs → Given (x ∷ xs)
-    later i = (suc i.0, i.1, i.2, i.3)
-
-    step : (o : Option B) → f x ≡ o → (j : ℕ) → slice_get (cons_option o (filter_map f xs)) j ≡ Some y → ((i : ℕ) → slice_get (filter_map f xs) i ≡ Some y → Given xs) → Given (x ∷ xs)
-    step (Some z) d zero e ih = (0, x, refl, d ∙ e)
-    step (Some z) d (suc j) e ih = later (ih j e)
-    step None d j e ih = later (ih j e)
 
 -- the step of an enlistment that has a reply
 abbrev pub reply_of : EnlNo → Option Reply → Option StepName
@@ -178,3 +162,9 @@ all_passed p h k i more xs same end a none q =
     let over : drop i h.seen.table ≡ [] = drop_all i h.seen.table (subst (λ (ys : List Row). length ys ≤ i) same end) in
     let all : filter_map f h.seen.table ≡ q.0 = q.1 ∙ ap (λ (ys : List Row). q.0 ++ filter_map f ys) over ∙ append-nil q.0 in
     q.2 ∙ ap (λ (ms : List StepName). length ms + more) (sym all ∙ sym (rows_replies p h a none))
+
+-- where nothing is due, the list of replies ends at its start
+pub none_due : (p : ℕ → Plan) (h : Half) (k : ℕ) → all_due h.seen ≡ [] → k ≡ length (replies_due p h) + k
+none_due p h k none =
+    let zero : length (replies_due p h) ≡ 0 = ap (λ (xs : List (EnlNo × Note)). length (map (λ (x : EnlNo × Note). ReplyOf x.0) (filter (is_answered p) xs))) none in
+    omega (arith, zero)

@@ -38,8 +38,8 @@ IsFront given bytes = ForSome given (λ b. bytes ≡ take 1048577 b)
 pub reads-front : (given : Option (List ℕ)) (bytes : List ℕ) (s : List Line) → IsFront given bytes → Reads bytes s → ForSome given (λ b. Reads b s)
 reads-front given bytes s front reads b told = reads-all b s (subst (λ (x : List ℕ). Reads x s) (front b told) reads)
 
-pub replay-of : (given : Option (List ℕ)) (rise : ℕ) (bytes : List ℕ) (s : List Line) (text : List ℕ) → IsFront given bytes → Reads bytes s → (t : IsReplayText s rise text) → IsReplayOf given rise s t.trace
-replay-of given rise bytes s text front reads t =
+pub replay-of : (given : Option (List ℕ)) (rise : ℕ) (honest : Bool) (bytes : List ℕ) (s : List Line) (text : List ℕ) → IsFront given bytes → Reads bytes s → (t : IsReplayText s rise honest text) → IsReplayOf given rise honest s t.trace
+replay-of given rise honest bytes s text front reads t =
     record { read = reads-front given bytes s front reads; script = reads.script; history = t.history; replay = t.replay; outcome = t.outcome; complete = t.complete }
 
 -- where a count is as it was, it rose by nothing
@@ -47,33 +47,33 @@ pub no_rise : (now before : ℕ) → now ≡ before → 0 ≡ now - before
 no_rise now before k = omega (arith, k)
 
 -- the text of a replay's trace is that of a replay
-pub text_of : {E : Type 0} (s : List Line) (T : List Placed) (r : Result (Vec ℕ Global) E) → IsHistory s 0 0 T → IsReplay s 0 true T → HasOneOutcome T → IsComplete s T
-    → IfOk r (λ v. v.items ≡ trace_text T) → IfOk r (λ v. IsReplayText s 0 v.items)
-text_of s T (Ok v) history replay outcome complete k =
+pub text_of : {E : Type 0} (honest : Bool) (s : List Line) (T : List Placed) (r : Result (Vec ℕ Global) E) → IsHistory s 0 0 T → IsReplay s 0 honest T → HasOneOutcome T → IsComplete s T
+    → IfOk r (λ v. v.items ≡ trace_text T) → IfOk r (λ v. IsReplayText s 0 honest v.items)
+text_of honest s T (Ok v) history replay outcome complete k =
     record { trace = T; history = history; replay = replay; outcome = outcome; complete = complete; spelled = k }
-text_of s T (Err e) history replay outcome complete k = k
+text_of honest s T (Err e) history replay outcome complete k = k
 
 -- the text was written whole
-pub is_written : (rise : ℕ) (given before after : Option (List ℕ)) (bytes : List ℕ) (s : List Line) (text out : List ℕ) → 0 ≡ rise → IsFront given bytes → Reads bytes s → IsReplayText s 0 text → out ≡ text
-    → ForSome before (λ w. after ≡ Some (w ++ out)) → IsWritten rise given before after
-is_written rise given before after bytes s text out none front reads t same gained =
-    subst (λ (n : ℕ). IsWritten n given before after) none
+pub is_written : (rise : ℕ) (honest : Bool) (given before after : Option (List ℕ)) (bytes : List ℕ) (s : List Line) (text out : List ℕ) → 0 ≡ rise → IsFront given bytes → Reads bytes s → IsReplayText s 0 honest text → out ≡ text
+    → ForSome before (λ w. after ≡ Some (w ++ out)) → IsWritten rise honest given before after
+is_written rise honest given before after bytes s text out none front reads t same gained =
+    subst (λ (n : ℕ). IsWritten n honest given before after) none
     (record {
       lines = s;
       trace = t.trace;
-      replay = replay-of given 0 bytes s text front reads t;
+      replay = replay-of given 0 honest bytes s text front reads t;
       gained = λ w told. gained w told ∙ ap (λ (x : List ℕ). Some (w ++ x)) (same ∙ t.spelled);
     })
 
 -- a part of the text was written
-pub is_cut_short : (rise : ℕ) (given before after : Option (List ℕ)) (bytes : List ℕ) (s : List Line) (text out : List ℕ) → 0 ≡ rise → IsFront given bytes → Reads bytes s → IsReplayText s 0 text → out ≡ text
-    → ForSome before (λ w. IsPartWritten w out after) → IsCutShort rise given before after
-is_cut_short rise given before after bytes s text out none front reads t same gained =
-    subst (λ (n : ℕ). IsCutShort n given before after) none
+pub is_cut_short : (rise : ℕ) (honest : Bool) (given before after : Option (List ℕ)) (bytes : List ℕ) (s : List Line) (text out : List ℕ) → 0 ≡ rise → IsFront given bytes → Reads bytes s → IsReplayText s 0 honest text → out ≡ text
+    → ForSome before (λ w. IsPartWritten w out after) → IsCutShort rise honest given before after
+is_cut_short rise honest given before after bytes s text out none front reads t same gained =
+    subst (λ (n : ℕ). IsCutShort n honest given before after) none
     (record {
       lines = s;
       trace = t.trace;
-      replay = replay-of given 0 bytes s text front reads t;
+      replay = replay-of given 0 honest bytes s text front reads t;
       gained = λ w told. subst (λ (x : List ℕ). IsPartWritten w x after) (same ∙ t.spelled) (gained w told);
     })
 

@@ -1,5 +1,5 @@
 -- The text of a replay, and why bytes have none.
-use Rattle.std.specs.Prelude.{ℕ, ◌≡◌, true, List}
+use Rattle.std.specs.Prelude.{ℕ, ◌≡◌, Bool, List}
 use Rattle.dtx_values.specs.declared.script.Line.{Line}
 use Rattle.dtx_model.specs.Faults.{Bad}
 use Rattle.dtx_model.specs.Built.{IsNotYet}
@@ -15,11 +15,11 @@ HasNoReplay b (BadBytes n c) = Bad b n c
 HasNoReplay b (NotYet n) = IsNotYet b n
 HasNoReplay b Memory = Unit {0}
 
--- the text is that of a replay of these lines, over a disk whose count of faults rose by so many
-pub record IsReplayText (s : List Line) (rise : ℕ) (text : List ℕ) : Type 0 where
+-- the text is that of a replay of these lines, over a disk that is honest or not, whose count of faults rose by so many
+pub record IsReplayText (s : List Line) (rise : ℕ) (honest : Bool) (text : List ℕ) : Type 0 where
   pub trace : List Placed
   pub history : IsHistory s 0 rise trace
-  pub replay : IsReplay s rise true trace
+  pub replay : IsReplay s rise honest trace
   pub outcome : HasOneOutcome trace
   pub complete : IsComplete s trace
   pub spelled : text ≡ trace_text trace

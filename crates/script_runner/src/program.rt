@@ -72,7 +72,7 @@ fn replayed<D: Disk>(
 ) -> Result<Vec<u8>, AllocError>
     requires script { IsScript script.now }
     requires run { are_run script.now ≡ true }
-    ensures text { IfOk result (λ text. IsReplayText script.now 0 text.items) }
+    ensures text { IfOk result (λ text. IsReplayText script.now 0 D.honest text.items) }
     ensures log { log.new ≡ log.old }
 {
     let trace = run_replay(alloc, script, log)?;
@@ -119,7 +119,7 @@ pub fn run_program<S: Source, K: Sink, D: Disk>(
     requires { LOG_BYTES ≤ D.size disk }
 
     // The headline. At the end the log has no record, in what a read gives and in each image that a crash can leave.
-    ensures headline { result.0 ≡ Exit.Fine → IsWritten (D.faults result.1 - D.faults disk) (S.left source.old) (K.written sink.old) (K.written sink.new) }
+    ensures headline { result.0 ≡ Exit.Fine → IsWritten (D.faults result.1 - D.faults disk) D.honest (S.left source.old) (K.written sink.old) (K.written sink.new) }
     ensures log { IsTrue D.honest → (result.0 ≡ Exit.Fine) ⊎ (result.0 ≡ Exit.WriteFault) → (c : List ℕ) → D.image result.1 c → log_has c ≡ Ok [] }
     ensures read { result.0 ≡ Exit.Fine → ForSome (S.left source.old) (λ b. S.left source.new ≡ Some []) }
 
@@ -144,8 +144,8 @@ pub fn run_program<S: Source, K: Sink, D: Disk>(
     ensures write_smooth { result.0 ≢ Exit.WriteFault → K.faults sink.new ≡ K.faults sink.old }
 
     // What was written: the whole text with Fine, above; else a part of it, or nothing. The disk is touched only where the script is run.
-    ensures cut_short { result.0 ≡ Exit.WriteFault → IsCutShort (D.faults result.1 - D.faults disk) (S.left source.old) (K.written sink.old) (K.written sink.new) }
-    ensures memory { result.0 ≡ Exit.Memory → (sink.new ≡ sink.old) ⊎ IsCutShort (D.faults result.1 - D.faults disk) (S.left source.old) (K.written sink.old) (K.written sink.new) }
+    ensures cut_short { result.0 ≡ Exit.WriteFault → IsCutShort (D.faults result.1 - D.faults disk) D.honest (S.left source.old) (K.written sink.old) (K.written sink.new) }
+    ensures memory { result.0 ≡ Exit.Memory → (sink.new ≡ sink.old) ⊎ IsCutShort (D.faults result.1 - D.faults disk) D.honest (S.left source.old) (K.written sink.old) (K.written sink.new) }
     ensures unwritten { (result.0 ≡ Exit.Usage) ⊎ ((result.0 ≡ Exit.ReadFault) ⊎ ((result.0 ≡ Exit.LogFault) ⊎ IsJudged result.0)) → sink.new ≡ sink.old }
     ensures room { LOG_BYTES ≤ D.size result.1 }
     ensures given_up { IsTrue D.honest → result.0 ≡ Exit.Memory → (result.1 ≡ disk) ⊎ AllHold (D.image result.1) [] }

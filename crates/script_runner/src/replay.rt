@@ -370,7 +370,7 @@ pub fn run_replay<D: Disk>(alloc: Global, s: &Script, log: &mut Log<D>) -> Resul
     requires run { are_run s.now ≡ true }
     ensures log { log.new ≡ log.old }
     ensures history { IfOk result (λ T. IsHistory s.now 0 (D.faults log.new.disk - D.faults log.old.disk) T) }
-    ensures replay { IfOk result (λ T. IsReplay s.now (D.faults log.new.disk - D.faults log.old.disk) true T) }
+    ensures replay { IfOk result (λ T. IsReplay s.now (D.faults log.new.disk - D.faults log.old.disk) D.honest T) }
     ensures outcome { IfOk result (λ T. HasOneOutcome T) }
     ensures complete { IfOk result (λ T. IsComplete s.now T) }
 {

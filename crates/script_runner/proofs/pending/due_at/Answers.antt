@@ -3,7 +3,7 @@ use Rattle.dtx_model.specs.Caused.{plans_of}
 use Rattle.dtx_model.specs.Half.{Half}
 use Rattle.dtx_model.specs.Steps.{ReplyOf, StepName}
 use Rattle.script_runner.specs.Pending.{planned_at}
-use Rattle.script_runner.proofs.DueReplies.{IsPassed, all_passed, due_here, passed-more, passed-same, reply_here, reply_of, row_at, row_planned, row_reply, rows_replies}
+use Rattle.script_runner.proofs.DueReplies.{IsPassed, all_passed, due_here, none_due, passed-more, passed-same, reply_here, reply_of, row_at, row_planned, row_reply, rows_replies}
 use Rattle.script_runner.proofs.pending.due_at.Goals as goal
 use Rattle.script_runner.proofs.pending.due_at.Goals.{in-Some+else-more-eq0, in_default}
 
@@ -41,3 +41,6 @@ returns c =
     let h = c.args.half.now.half in
     let none = ap (λ (g : Half). g.seen.branches) c.requires.same in
     all_passed p h c.args.k c.loop-x.x-index c.loop-x.more c.rows-x-items.result.now c.rows-x-items.ensures.rows c.loop-x-test.false c.rows-x-items.ensures.rise none c.loop-x.invariant
+
+pub returns-then-not-may_be_due : goal.returns-then-not-may_be_due
+returns-then-not-may_be_due c = none_due (plans_of c.args.plans.now) c.args.half.now.half c.args.k (c.may_be_due.ensures c.if-not-may_be_due.true)

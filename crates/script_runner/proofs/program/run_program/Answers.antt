@@ -49,7 +49,7 @@ returns-in-Err-NotYet-clause-not_yet_refused g c n words b told bad =
 
 pub returns-in-Ok-write_all-clause-headline : goal.returns-in-Ok-write_all-clause-headline
 returns-in-Ok-write_all-clause-headline g c k =
-    is_written _ _ _ _ c.deref.result.now c.in-Ok-script_to_run.script c.in-Ok-replayed.text.items c.deref-2.result.now
+    is_written _ g.D.Disk.honest _ _ _ c.deref.result.now c.in-Ok-script_to_run.script c.in-Ok-replayed.text.items c.deref-2.result.now
     (no_rise _ _ (ap g.D.Disk.faults c.into_disk-disk.ensures.disk ∙ ap (λ l. g.D.Disk.faults l.disk) c.replayed-replayed.ensures.log ∙ c.in-Ok-formatted.ensures.smooth)) (λ b told. c.deref.ensures.value ∙ c.in-Ok.ensures.read b told) c.in-Ok-script_to_run.ensures.script.0
     c.in-Ok-replayed.ensures.text c.deref-2.ensures.value c.in-Ok-write_all.ensures.all
 
@@ -59,14 +59,14 @@ returns-in-Ok-write_all-clause-read g c k =
 
 pub returns-in-Err-Fault-write_all-clause-cut_short : goal.returns-in-Err-Fault-write_all-clause-cut_short
 returns-in-Err-Fault-write_all-clause-cut_short g c k =
-    is_cut_short _ _ _ _ c.deref.result.now c.in-Ok-script_to_run.script c.in-Ok-replayed.text.items c.deref-2.result.now
+    is_cut_short _ g.D.Disk.honest _ _ _ c.deref.result.now c.in-Ok-script_to_run.script c.in-Ok-replayed.text.items c.deref-2.result.now
     (no_rise _ _ (ap g.D.Disk.faults c.into_disk-disk.ensures.disk ∙ ap (λ l. g.D.Disk.faults l.disk) c.replayed-replayed.ensures.log ∙ c.in-Ok-formatted.ensures.smooth)) (λ b told. c.deref.ensures.value ∙ c.in-Ok.ensures.read b told) c.in-Ok-script_to_run.ensures.script.0
     c.in-Ok-replayed.ensures.text c.deref-2.ensures.value c.in-Err-Fault-write_all.ensures.part
 
 pub returns-clause-memory : goal.returns-clause-memory
 returns-clause-memory g c k =
     inr
-    (is_cut_short _ _ _ _ c.deref.result.now c.in-Ok-script_to_run.script c.in-Ok-replayed.text.items c.deref-2.result.now
+    (is_cut_short _ g.D.Disk.honest _ _ _ c.deref.result.now c.in-Ok-script_to_run.script c.in-Ok-replayed.text.items c.deref-2.result.now
     (no_rise _ _ (ap g.D.Disk.faults c.into_disk-disk.ensures.disk ∙ ap (λ l. g.D.Disk.faults l.disk) c.replayed-replayed.ensures.log ∙ c.in-Ok-formatted.ensures.smooth)) (λ b told. c.deref.ensures.value ∙ c.in-Ok.ensures.read b told) c.in-Ok-script_to_run.ensures.script.0
     c.in-Ok-replayed.ensures.text c.deref-2.ensures.value c.in-Err-Memory-write_all.ensures.part)
 
