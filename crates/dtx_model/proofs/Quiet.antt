@@ -33,8 +33,11 @@ use Rattle.dtx_values.specs.declared.words.Vote.{Vote}
 use Rattle.dtx_values.specs.declared.words.Vote.TheVariants.{Yes, No, Done as VoteDone}
 use Rattle.dtx_values.specs.Lines.{has_line}
 use Rattle.dtx_values.specs.Clones.{is_open_rollback}
-use Rattle.dtx_values.specs.Ends.{knows, same_connection, tag_of, was_got}
+use Rattle.dtx_values.specs.Ends.{knows, may_abort_by_begin, may_abort_by_voter, same_connection, tag_of, was_got}
 use Rattle.dtx_model.specs.declared.listener.Listener.{Listener}
+use Rattle.dtx_model.specs.declared.desk.Desk.{Desk}
+use Rattle.dtx_model.specs.declared.desk.Stage.{Stage}
+use Rattle.dtx_model.specs.declared.desk.Stage.TheVariants.{Idle, Active, Aborted as AbortedStage, Recorded, Over, Unknown}
 use Rattle.dtx_model.specs.Words.{each, has, onto}
 use Rattle.dtx_model.specs.Outcome.{is_empty}
 use Rattle.dtx_values.specs.Waves.{all_voted, is_over, next_ask}
@@ -47,9 +50,10 @@ use Rattle.dtx_model.specs.declared.branch.Branch.{Branch}
 use Rattle.dtx_model.specs.Observed.{Observed, is_branch}
 use Rattle.dtx_model.specs.Promotes.{identifier_of}
 use Rattle.dtx_model.specs.Wires.{MayCross, WireRun, is_ended, is_lost_wire, is_next, in_transit}
-use Rattle.dtx_model.specs.Coordinated.{Coordinated, Desk, Stage, Idle, Active, Aborted as AbortedStage, Recorded, Over, Unknown, opening_by, aborts, abort_sends, commit_sends, core_down, core_got, follow, has_aborted, is_active, is_early, is_prepared, is_recorded, is_undecided, may_log, opening_answer, still_hears, to, to_each, to_waiting}
-use Rattle.dtx_model.specs.Waiting.{Waiter, Identifier, Place, is_place_of}
-use Rattle.dtx_model.specs.Half.{Half, sees, is_promoting, to_up, fails_if, decide, may_abort_by_begin, may_abort_by_voter, veto_message, veto, veto_if, info, enlist_sent, by_manager, given, promoted_by, over, stands, is_gone, was_told, is_aborted, is_handed}
+use Rattle.dtx_model.specs.Coordinated.{Coordinated, opening_by, aborts, abort_sends, commit_sends, core_down, core_got, follow, has_aborted, is_active, is_early, is_prepared, is_recorded, is_undecided, may_log, opening_answer, still_hears, to, to_each, to_waiting}
+use Rattle.dtx_model.specs.declared.waiting.Wanted.TheVariants.{Identifier, Place}
+use Rattle.dtx_model.specs.Waiting.{Waiter, is_place_of}
+use Rattle.dtx_model.specs.Half.{Half, sees, is_promoting, to_up, fails_if, decide, veto_message, veto, veto_if, info, enlist_sent, by_manager, given, promoted_by, over, stands, is_gone, was_told, is_handed}
 use Rattle.dtx_model.specs.Arrivals.{unless_decided, hand_over, place_given, told_abort, has_both_ends, ended_there, ended_by, begin_arrived, voter_arrived, enlist_arrived, again_arrived, arrived, local_got, local_down}
 use Rattle.dtx_model.specs.Acts.{tell, is_to_tell, promotable_in, under_way, commit_sent, ask_or, after_seal, commit_act, yes_act, voter_act, promoted_act, sealed_act, asked_act, unasked_promotable, undecided_act, act_by, act_entries}
 use Rattle.dtx_model.specs.Replies.{ack_on, conn_due, due_of, is_volatile_row, owner_entries, promote_entries, reply_entries, request_message, request_of, vote_message, voted_by}
@@ -154,10 +158,10 @@ q_fails true = q_one PromotionFailed refl
 q_fails false = q_none
 
 q_decide : (h : Half) (x : Outcome) → Quiet (decide h x)
-q_decide h x = q_join (q_fails (is_promoting h.seen && is_aborted x)) (q_cons (Decided x) refl (q_map (λ w. Answered w.0 (EndedAnswer x)) (λ w. refl) h.waits))
+q_decide h x = q_join (q_fails (is_promoting h.seen)) (q_cons (Decided x) refl (q_map (λ w. Answered w.0 (EndedAnswer x)) (λ w. refl) h.waits))
 
 q_message : (o : Observed) → Quiet (veto_message o)
-q_message o = q_if (may_abort_by_begin o) (q_one (Sent Begin Up BeginAbort) refl) (q_if (may_abort_by_voter o) (q_one (Sent Voter Up VoterNo) refl) q_none)
+q_message o = q_if (may_abort_by_begin o.ends) (q_one (Sent Begin Up BeginAbort) refl) (q_if (may_abort_by_voter o.ends) (q_one (Sent Voter Up VoterNo) refl) q_none)
 
 q_veto : (h : Half) → Quiet (veto h)
 unfolding veto
@@ -207,13 +211,13 @@ q_told_abort : (h : Half) (e : EnlNo) → Quiet (told_abort h e)
 q_told_abort h e = q_if (stands h.seen e.value && not (was_told h.seen e.value) && not (is_gone h.seen e.value)) (q_one (Told (Member e) Aborted) refl) q_none
 
 q_begin : (t : ℕ) (h : Half) (m : Message) → Quiet (begin_arrived t h m)
-q_begin t h (BeginBegun u) = q_if (is_some h.seen.decided) (q_up h.seen Begin BeginAbort refl) (q_one (Sent Voter Up (VoterVoter (identifier_of t))) refl)
+q_begin t h (BeginBegun u) = q_if (is_some h.seen.decided) (q_up h.seen Begin BeginAbort refl) (q_if (is_promoting h.seen) (q_one (Sent Voter Up (VoterVoter (identifier_of t))) refl) q_none)
 q_begin t h BeginCommitted = q_unless h (q_decide h Committed)
 q_begin t h BeginAborted = q_unless h (q_decide h Aborted)
 q_begin t h _ = q_ended h Begin
 
 q_voter : (t : ℕ) (h : Half) (m : Message) → Quiet (voter_arrived t h m)
-q_voter t h VoterCreated = q_unless h (q_hand_over t h h.seen.handover)
+q_voter t h VoterCreated = q_unless h (q_if (is_promoting h.seen) (q_hand_over t h h.seen.handover) q_none)
 q_voter t h (VoterRefused cause) = q_unless h (q_veto h)
 q_voter t h VoterAsk = q_none
 q_voter t h VoterCommit = q_unless h (q_decide h Committed)
@@ -221,7 +225,7 @@ q_voter t h VoterAbort = q_unless h (q_decide h Aborted)
 q_voter t h _ = q_ended h Voter
 
 q_enlist : (t : ℕ) (h : Half) (e : EnlNo) (m : Message) → Quiet (enlist_arrived t h e m)
-q_enlist t h e EnlistEnlisted = q_unless h (q_if (is_promoting h.seen && is_handed h.seen.handover e.value) (q_over t h) (q_placed (find (is_place_of e.value) h.waits)))
+q_enlist t h e EnlistEnlisted = q_unless h (q_if (is_promoting h.seen && is_handed h.seen.handover e.value) (q_over t h) (q_if h.seen.promoted (q_placed (find (is_place_of e.value) h.waits)) q_none))
 q_enlist t h e (EnlistRefused cause) = q_unless h (q_veto h)
 q_enlist t h e EnlistPrepare = q_one (Asked e Prepare) refl
 q_enlist t h e EnlistCommit = q_one (Told (Member e) Committed) refl

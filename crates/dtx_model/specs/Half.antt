@@ -9,18 +9,19 @@ use Rattle.dtx_values.specs.declared.message.Conn.TheVariants.{Begin, Voter, Enl
 use Rattle.dtx_values.specs.declared.message.Dir.TheVariants.{Up}
 use Rattle.dtx_values.specs.declared.message.Info.{Info}
 use Rattle.dtx_values.specs.declared.message.Message.{Message}
-use Rattle.dtx_values.specs.declared.message.Message.TheVariants.{BeginAbort, BeginBegun, BeginCommit, VoterNo, VoterVoter, VoterYes, EnlistEnlist, ReenlistReenlist}
+use Rattle.dtx_values.specs.declared.message.Message.TheVariants.{BeginAbort, VoterNo, EnlistEnlist, ReenlistReenlist}
 use Rattle.dtx_values.specs.declared.number.EnlNo.{EnlNo}
 use Rattle.dtx_values.specs.declared.number.RmNo.{RmNo}
 use Rattle.dtx_values.specs.declared.words.Cause.{Cause}
 use Rattle.dtx_values.specs.declared.words.Outcome.{Outcome}
 use Rattle.dtx_values.specs.declared.words.Outcome.TheVariants.{Aborted}
-use Rattle.dtx_values.specs.Ends.{knows, tag_of, was_got, was_sent}
+use Rattle.dtx_values.specs.Ends.{knows, may_abort_by_begin, may_abort_by_voter}
 use Rattle.dtx_values.specs.Table.{has_row}
 use Rattle.dtx_model.specs.Words.{has}
 use Rattle.dtx_model.specs.Observed.{Observed, observe, track, is_branch}
 use Rattle.dtx_model.specs.Promotes.{identifier_of}
-use Rattle.dtx_model.specs.Waiting.{EnteredCall, Identifier, Place, Waiter, waiting, waiting_after, managed, managed_after}
+use Rattle.dtx_model.specs.declared.waiting.Wanted.TheVariants.{Identifier, Place}
+use Rattle.dtx_model.specs.Waiting.{EnteredCall, Waiter, waiting, waiting_after, managed, managed_after}
 
 -- what it has seen, the calls that wait, and the managers of the durables and promotables that their calls enlisted at once
 pub record Half : Type 0 where
@@ -95,27 +96,13 @@ abbrev pub is_aborted : Outcome → Bool
 is_aborted Aborted = true
 is_aborted _ = false
 
--- an outcome is decided: an abort makes a promotion that is under way fail
+-- an outcome is decided: a promotion that is under way fails, and each call that waits is answered
 abbrev pub decide : Half → Outcome → List Entry
-decide h x = fails_if (is_promoting h.seen && is_aborted x) ++ Decided x ∷ ended h.waits x
-
-abbrev pub begun_tag : ℕ
-begun_tag = tag_of (BeginBegun 0)
-
-abbrev pub voter_tag : ℕ
-voter_tag = tag_of (VoterVoter 0)
-
--- BEGUN was got, neither COMMIT nor ABORT was sent, and b is known
-abbrev pub may_abort_by_begin : Observed → Bool
-may_abort_by_begin o = was_got Begin begun_tag o.ends && not (was_sent Begin (tag_of BeginCommit) o.ends) && not (was_sent Begin (tag_of BeginAbort) o.ends) && knows Begin o.ends
-
--- VOTER was sent and no vote, and v is known
-abbrev pub may_abort_by_voter : Observed → Bool
-may_abort_by_voter o = was_sent Voter voter_tag o.ends && not (was_sent Voter (tag_of VoterYes) o.ends) && not (was_sent Voter (tag_of VoterNo) o.ends) && knows Voter o.ends
+decide h x = fails_if (is_promoting h.seen) ++ Decided x ∷ ended h.waits x
 
 -- the message of a veto: an abort on b, or else a no on v
 abbrev pub veto_message : Observed → List Entry
-veto_message o = if may_abort_by_begin o then Sent Begin Up BeginAbort ∷ [] else if may_abort_by_voter o then Sent Voter Up VoterNo ∷ [] else []
+veto_message o = if may_abort_by_begin o.ends then Sent Begin Up BeginAbort ∷ [] else if may_abort_by_voter o.ends then Sent Voter Up VoterNo ∷ [] else []
 
 -- a veto, where this is known after the entry that vetoes
 unfoldable pub veto : Half → List Entry

@@ -11,7 +11,7 @@ use Rattle.dtx_values.specs.declared.words.Outcome.TheVariants.{Committed, Abort
 use Rattle.dtx_model.specs.Words.{has, always, ever}
 use Rattle.dtx_model.specs.Entries.{is_record, is_told}
 use Rattle.dtx_model.specs.Outcome.{by_log, evidence, is_veto_end}
-use Rattle.dtx_model.specs.Messages.{has_line}
+use Rattle.dtx_values.specs.Lines.{has_line}
 
 -- the coordinator aborts at this entry: it got an abort or a No, its log was full, it found no record, or it saw the end of a connection before
 -- that one's COMMIT, YES or vote came

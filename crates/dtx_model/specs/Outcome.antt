@@ -23,7 +23,7 @@ use Rattle.dtx_values.specs.declared.words.Vote.TheVariants.{No}
 use Rattle.dtx_model.specs.Words.{has, each, ever, always, all_of}
 use Rattle.dtx_values.specs.Class.{is_volatile}
 use Rattle.dtx_model.specs.Entries.{is_commit, is_sealed, is_promoted, is_record, is_yes, is_hand, is_any_hand, handed_of, is_owner, is_any_owner, enlisted_of, clone_of, is_completed, is_vote, is_good_vote, is_commit_got, is_yes_got, is_vote_got, is_decision, is_final}
-use Rattle.dtx_model.specs.Messages.{has_line}
+use Rattle.dtx_values.specs.Lines.{has_line}
 
 -- the enlistments with their classes, newest first
 abbrev pub enlisted : List Entry → List (EnlNo × Class)

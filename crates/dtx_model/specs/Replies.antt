@@ -20,7 +20,7 @@ use Rattle.dtx_values.specs.declared.words.Outcome.{Outcome}
 use Rattle.dtx_values.specs.declared.words.Outcome.TheVariants.{Aborted}
 use Rattle.dtx_values.specs.declared.words.Vote.{Vote}
 use Rattle.dtx_values.specs.declared.words.Vote.TheVariants.{Yes, No, Done}
-use Rattle.dtx_values.specs.Table.{insert_by}
+use Rattle.dtx_values.specs.Table.{enl_number, insert_by}
 use Rattle.dtx_values.specs.Ends.{knows}
 use Rattle.dtx_values.specs.declared.row.Row.{Row}
 use Rattle.dtx_values.specs.Row.{has_voted, is_marked, is_of}
@@ -79,9 +79,6 @@ unfoldable pub due_of : Observed → ℕ → Option Note
 due_of o e = note_at o e (find (is_of e) o.table)
 
 -- who may owe a reply, by number
-abbrev pub enl_number : EnlNo → ℕ
-enl_number e = e.value
-
 abbrev pub with_name : EnlNo → List EnlNo → List EnlNo
 with_name e es = if has (λ f. e.value == f.value) es then es else insert_by enl_number e es
 

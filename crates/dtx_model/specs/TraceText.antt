@@ -37,7 +37,7 @@ use Rattle.dtx_values.specs.declared.words.Outcome.TheVariants.{Committed, Abort
 use Rattle.dtx_values.specs.declared.words.Vote.{Vote}
 use Rattle.dtx_values.specs.declared.words.Vote.TheVariants.{Yes, No, Done}
 use Rattle.dtx_model.specs.Words.{each}
-use Rattle.dtx_model.specs.Messages.{has_line}
+use Rattle.dtx_values.specs.Lines.{has_line}
 use Rattle.dtx_model.specs.Grammar.{actor_name, transaction_name, enlistment_name, clone_name, scope_name, manager_name, connection_word, image_word, iso_word, kind_word}
 use Rattle.dtx_model.specs.Traces.{Placed}
 

@@ -14,6 +14,8 @@ use Rattle.dtx_values.specs.declared.script.Support.TheVariants.{SinglePhase, Tw
 use Rattle.dtx_values.specs.declared.words.Class.{Class}
 use Rattle.dtx_values.specs.declared.words.Class.TheVariants.{DurableTwo, DurableSingle}
 use Rattle.dtx_values.specs.Table.{insert_by}
+use Rattle.dtx_model.specs.declared.waiting.Wanted.{Wanted}
+use Rattle.dtx_model.specs.declared.waiting.Wanted.TheVariants.{Identifier, Place}
 use Rattle.dtx_model.specs.Words.{latest}
 
 -- a call that was entered: its line, its actor and its words
@@ -22,12 +24,7 @@ pub record EnteredCall : Type 0 where
   pub actor : ActorNo
   pub call : Call
 
--- what a call waits for: the identifier, as a marshal call does, or a place at the coordinator, as a durable call does with its manager and its class
-pub data Wanted : Type 0 where
-  Identifier : Wanted
-  Place : (enlistment : EnlNo) → (manager : RmNo) → (class : Class) → Wanted
-
--- a call that waits, with its line
+-- a call that waits, with its line, and what it waits for: the identifier, as a marshal call does, or a place at the coordinator, as a durable call does
 abbrev pub Waiter : Type 0
 Waiter = ℕ × Wanted
 

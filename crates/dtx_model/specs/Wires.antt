@@ -11,7 +11,7 @@ pub use Rattle.dtx_values.specs.Lines.{is_opening}
 pub use Rattle.dtx_values.specs.Ends.{same_connection, same_direction}
 use Rattle.dtx_model.specs.Words.{latest}
 use Rattle.dtx_model.specs.Outcome.{is_empty}
-use Rattle.dtx_model.specs.Messages.{has_line}
+use Rattle.dtx_values.specs.Lines.{has_line}
 
 -- the entry opens this connection
 abbrev pub opens : Conn → Entry → Bool

@@ -18,6 +18,7 @@ use Rattle.dtx_values.specs.Row.{is_of}
 use Rattle.dtx_values.specs.Class.{is_promotable}
 use Rattle.dtx_values.specs.Vote.{still_hears}
 use Rattle.dtx_values.specs.Table.{voted}
+use Rattle.dtx_values.specs.Ends.{is_in}
 use Rattle.dtx_model.specs.Words.{has}
 use Rattle.dtx_model.specs.Outcome.{is_empty}
 use Rattle.dtx_model.specs.declared.branch.Branch.{Branch}
@@ -61,9 +62,6 @@ voted_out o e = has (λ x. is_of e x && not (still_hears x.vote)) o.table
 abbrev pub is_finished_there : Observed → ℕ → Bool
 is_finished_there o e = has (λ b. is_branch e b && (b.acked || b.aborted)) o.branches || voted_out o e
 
-abbrev pub is_recovered : ℕ → List RmNo → Bool
-is_recovered r rs = has (λ q. r == q.value) rs
-
 abbrev pub lose_answer : World → Conn → Answer
 lose_answer w c = if is_open_wire c w.past then Fine else NoSuch
 
@@ -74,7 +72,7 @@ unless_stopped w = if (core w).stopped then Stopped else Fine
 abbrev pub branch_answer : World → Branch → Answer
 branch_answer w b =
     if not b.enlisted then NoSuch else if is_finished_there (half w).seen b.enlistment.value then Finished
-    else if is_recovered b.manager.value (core w).recovered then Over b.manager
+    else if is_in b.manager.value (core w).recovered then Over b.manager
     else if is_connected b.enlistment w.past then Connected b.enlistment else unless_stopped w
 
 abbrev pub reenlist_by : World → Option Branch → Answer
@@ -97,7 +95,7 @@ is_unfinished_link w b = not (is_finished_there (half w).seen b.enlistment.value
 
 abbrev pub recovered_answer : World → RmNo → Answer
 recovered_answer w r =
-    if not (has (λ b. b.enlisted) (branches_by w r.value)) then NoSuch else if is_recovered r.value (core w).recovered then Over r
+    if not (has (λ b. b.enlisted) (branches_by w r.value)) then NoSuch else if is_in r.value (core w).recovered then Over r
     else unless_connected (find (is_unfinished_link w) (branches_by w r.value)) (unless_stopped w)
 
 -- the answer of a call for which so many steps were done

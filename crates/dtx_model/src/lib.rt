@@ -4,6 +4,7 @@
 #![tactic(auto)]
 
 mod branch;
+mod desk;
 mod doubt;
 mod entries;
 mod evidence;
@@ -12,8 +13,10 @@ mod messages;
 mod scans;
 mod verdict;
 mod veto;
+mod waiting;
 
 pub use branch::Branch;
+pub use desk::{Ballot, Desk, Stage};
 pub use listener::Listener;
-pub use messages::has_line;
 pub use verdict::{Verdict, judge};
+pub use waiting::Wanted;

@@ -5,12 +5,11 @@ ghost use Rattle.dtx_model.specs.Entries.{clone_of};
 ghost use Rattle.dtx_model.specs.Outcome.{is_rollback, is_complete, is_veto_end, is_veto, is_first_veto, vetoed};
 
 use crate::evidence::has_evidence;
-use crate::messages::has_line;
 use crate::scans::{
     has_any_hand, has_commit_got, has_completed, has_hand, has_vote, has_vote_got, has_yes,
     has_yes_got,
 };
-use dtx_values::{CloneKind, Conn, Dir, Entry, Outcome, Request, Vote};
+use dtx_values::{CloneKind, Conn, Dir, Entry, Outcome, Request, Vote, has_line};
 
 /// Whether the end of this connection, seen on this side, is a veto after h.
 #[tactic(auto, using(crate::proofs::Reading::reading))]

@@ -1,5 +1,5 @@
 -- What the local side knows of the connections that it opened.
-use Rattle.std.specs.Prelude.{ℕ, ◌+◌, ◌^◌, ◌==◌, Bool, true, false, ◌&&◌, not, List, [], ◌∷◌, map, filter, bit_or, if◌then◌else◌}
+use Rattle.std.specs.Prelude.{ℕ, ◌+◌, ◌^◌, ◌==◌, Bool, true, false, ◌&&◌, not, List, [], ◌∷◌, map, filter, bit_or, Option, Some, None, if◌then◌else◌}
 use Rattle.std.specs.Int.{bit_at}
 use Rattle.std.specs.List.{list_any}
 use Rattle.dtx_values.specs.declared.end.End.{End}
@@ -112,3 +112,21 @@ was_sent c tag ns = list_any (λ n. is_end_of c n && is_in tag n.sent) ns
 
 abbrev pub was_got : Conn → ℕ → List End → Bool
 was_got c tag ns = list_any (λ n. is_end_of c n && is_in tag n.got) ns
+
+abbrev pub begun_tag : ℕ
+begun_tag = tag_of (BeginBegun 0)
+
+abbrev pub voter_tag : ℕ
+voter_tag = tag_of (VoterVoter 0)
+
+-- BEGUN was got, neither COMMIT nor ABORT was sent, and b is known
+abbrev pub may_abort_by_begin : List End → Bool
+may_abort_by_begin ns = was_got Begin begun_tag ns && not (was_sent Begin (tag_of BeginCommit) ns) && not (was_sent Begin (tag_of BeginAbort) ns) && knows Begin ns
+
+-- VOTER was sent and no vote, and v is known
+abbrev pub may_abort_by_voter : List End → Bool
+may_abort_by_voter ns = was_sent Voter voter_tag ns && not (was_sent Voter (tag_of VoterYes) ns) && not (was_sent Voter (tag_of VoterNo) ns) && knows Voter ns
+
+-- the connection on which a veto is said: b, or else v
+abbrev pub abort_on : List End → Option Conn
+abort_on ns = if may_abort_by_begin ns then Some Begin else if may_abort_by_voter ns then Some Voter else None

@@ -42,6 +42,10 @@ abbrev pub insert_by : {A : Type 0} → (A → ℕ) → A → List A → List A
 insert_by key x [] = x ∷ []
 insert_by key x (y ∷ ys) = if nat_lt (key y) (key x) then y ∷ insert_by key x ys else x ∷ y ∷ ys
 
+-- the number by which enlistments are in order
+abbrev pub enl_number : EnlNo → ℕ
+enl_number e = e.value
+
 -- the rows with one more enlistment
 abbrev pub with_row : EnlNo → Class → List Row → List Row
 with_row e c xs = insert_by number_of (fresh_row e c (marks xs)) xs

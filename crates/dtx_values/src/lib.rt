@@ -8,6 +8,7 @@ mod entry;
 mod identifier;
 mod info;
 mod limits;
+mod lines;
 mod message;
 mod note;
 mod number;
@@ -29,11 +30,14 @@ pub use end::End;
 pub use entry::{Answer, Ask, Entry, LogNote, Party, Request, ScopeNote};
 pub use identifier::{is_identifier, read_identifier};
 pub use info::{BadInfo, parse_info, write_info};
-pub use limits::{CALLS, CLONES, DURABLES, ENLISTMENTS, LINE_BYTES, ROOM, SCOPES, SCRIPT_BYTES};
+pub use limits::{
+    CALLS, CLONES, CONNECTIONS, DURABLES, ENLISTMENTS, LINE_BYTES, ROOM, SCOPES, SCRIPT_BYTES,
+};
+pub use lines::{has_line, is_opening};
 pub use message::{Conn, Dir, Info, Message};
 pub use note::{Note, Plan, Reply};
 pub use number::{ActorNo, CloneNo, EnlNo, RmNo, ScopeNo, TxNo};
-pub use order::{Numbered, insert_in_order};
+pub use order::{Numbered, insert_in_order, place_in_order};
 pub use outbox::Outbox;
 pub use pair::{read_pair, write_pair};
 pub use record::{Differs, LogRecord};

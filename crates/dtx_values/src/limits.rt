@@ -6,6 +6,9 @@ pub const ENLISTMENTS: usize = 32;
 /// The most durable or promotable enlistments of one transaction, waiting ones counted.
 pub const DURABLES: usize = 16;
 
+/// The most connections of one transaction: b, v, and two of each durable or promotable enlistment.
+pub const CONNECTIONS: usize = 34;
+
 /// The most calls of one transaction that wait at a time.
 pub const CALLS: usize = 32;
 

@@ -3,6 +3,8 @@ ghost use Rattle.std.specs.Prelude.{◌≡◌, ◌<◌, ◌≤◌, ◌+◌, leng
 ghost use Rattle.std.specs.List.{insert};
 ghost use Rattle.dtx_values.specs.Table.{insert_by};
 
+use crate::number::EnlNo;
+
 /// What has a number, by which a list of such items is kept in order.
 pub trait Numbered {
     ghost use Rattle.std.specs.Prelude.{ℕ, ◌≡◌};
@@ -15,7 +17,7 @@ pub trait Numbered {
 }
 
 /// The index at which an item of this number goes.
-fn place<T: Numbered>(items: &[T], n: u32) -> usize
+pub fn place_in_order<T: Numbered>(items: &[T], n: u32) -> usize
     ensures within { result ≤ length items.now }
     ensures there { (x : T) → T.key x ≡ n → insert items.now result x ≡ insert_by T.key x items.now }
 {
@@ -34,9 +36,26 @@ pub fn insert_in_order<T: Numbered>(items: &mut Vec<T>, x: T)
     ensures length { vec_len items.new ≡ vec_len items.old + 1 }
     ensures capacity { vec_capacity items.old ≤ vec_capacity items.new }
 {
-    let at = place(items, x.number());
+    let at = place_in_order(items, x.number());
     match items.insert(at, x) {
         Ok(()) => {}
         Err(_) => unreachable!(),
+    }
+}
+
+impl Numbered for EnlNo {
+    ghost use Rattle.dtx_values.specs.Table.{enl_number};
+
+    ghost key = { enl_number };
+
+    fn number(&self) -> u32 {
+        self.get()
+    }
+}
+
+/// The first number.
+impl Default for EnlNo {
+    fn default() -> EnlNo {
+        EnlNo::new(1).unwrap()
     }
 }

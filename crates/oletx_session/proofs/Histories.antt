@@ -12,7 +12,7 @@ use Rattle.dtx_values.specs.declared.message.Dir.{Dir}
 use Rattle.dtx_values.specs.declared.message.Dir.TheVariants.{Up, Down}
 use Rattle.dtx_values.specs.declared.message.Message.{Message}
 use Rattle.dtx_model.specs.Frames.{frame_of, is_valid}
-use Rattle.dtx_model.specs.Messages.{has_line}
+use Rattle.dtx_values.specs.Lines.{has_line}
 use Rattle.dtx_model.specs.Outcome.{is_empty}
 use Rattle.dtx_model.specs.Words.{each}
 use Rattle.dtx_model.specs.Wires.{MayCross, begins_ended, ended_after, ends, holds, is_ended, is_kept, is_lost_wire, is_next, is_open_wire, is_opening, is_stopped, kept, in_transit, loses, lost_after, lost_since, opened_with, opens, same_connection, same_direction, sent_behind, without_first}

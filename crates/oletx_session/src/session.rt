@@ -6,7 +6,7 @@ ghost use Rattle.dtx_values.specs.declared.entry.Entry.TheVariants.{Cut, Down as
 ghost use Rattle.dtx_values.specs.declared.message.Dir.TheVariants.{Up, Down};
 ghost use Rattle.dtx_values.specs.declared.message.Message.{Message};
 ghost use Rattle.dtx_model.specs.Frames.{IsFrame, frame_of, is_valid};
-ghost use Rattle.dtx_model.specs.Messages.{has_line};
+ghost use Rattle.dtx_values.specs.Lines.{has_line};
 ghost use Rattle.dtx_model.specs.Wires.{MayCross, is_stopped, opens};
 ghost use Rattle.oletx_frames.specs.declared.refusal.FrameRefusal.{FrameRefusal};
 ghost use Rattle.oletx_session.specs.Traffic.{Becomes, Delivers, Ends, IsCut, Spells, fresh, has_left, is_open, is_taken, lane, may_send, opposite, sent_on, wire_of};

@@ -7,7 +7,7 @@ use Rattle.dtx_values.specs.declared.message.Info.{Info}
 use Rattle.dtx_values.specs.declared.message.Message.{Message}
 use Rattle.dtx_values.specs.declared.message.Message.TheVariants.{EnlistEnlist, ReenlistReenlist, ReenlistAck}
 use Rattle.dtx_values.specs.declared.trace.Place.{Place}
-use Rattle.dtx_model.specs.Messages.{is_enlist_up, is_reenlist_up}
+use Rattle.dtx_values.specs.Lines.{is_enlist_up, is_reenlist_up}
 use Rattle.dtx_model.specs.TraceText.{id_at, is_message_fit, message_text}
 use Rattle.dtx_model.proofs.Bools.{and_left, and_right}
 use Rattle.trace_words.specs.Cuts.{front}

@@ -8,7 +8,7 @@ use Rattle.dtx_values.specs.declared.message.Info.{Info}
 use Rattle.dtx_values.specs.declared.message.Message.{Message}
 use Rattle.dtx_values.specs.declared.message.Message.TheVariants.{BeginBegun, BeginCommit, BeginAbort, BeginCommitted, BeginAborted, VoterVoter, VoterNo, VoterRefused, VoterCommit, VoterAbort, EnlistEnlist, EnlistNo, EnlistAck, EnlistRefused, EnlistCommit, EnlistAbort, ReenlistReenlist, ReenlistAck, ReenlistCommitted, ReenlistAborted}
 use Rattle.dtx_values.specs.declared.trace.Place.TheVariants.{Log}
-use Rattle.dtx_model.specs.Messages.{has_line}
+use Rattle.dtx_values.specs.Lines.{has_line}
 use Rattle.dtx_model.specs.Traces.{Placed}
 use Rattle.dtx_model.specs.TraceText.{is_entry_fit}
 

@@ -3,7 +3,7 @@ ghost use Rattle.std.specs.Prelude.{◌≡◌, true};
 ghost use Rattle.dtx_values.specs.declared.message.Conn.{Conn};
 ghost use Rattle.dtx_values.specs.declared.message.Message.{Message};
 ghost use Rattle.dtx_values.specs.declared.trace.Place.{Place};
-ghost use Rattle.dtx_model.specs.Messages.{is_begin_up, is_begin_down, is_voter_up, is_voter_down, is_enlist_up, is_enlist_down, is_reenlist_up, is_reenlist_down, has_line};
+ghost use Rattle.dtx_values.specs.Lines.{is_begin_up, is_begin_down, is_voter_up, is_voter_down, is_enlist_up, is_enlist_down, is_reenlist_up, is_reenlist_down, has_line};
 ghost use Rattle.dtx_model.specs.TraceText.{id_at, is_message_fit, message_text};
 ghost use Rattle.trace_words.specs.Cuts.{front, behind};
 
