@@ -30,7 +30,8 @@ use Rattle.dtx_model.specs.Outcome.{enlisted}
 use Rattle.dtx_model.specs.Promotes.{is_promoting, is_under_way}
 use Rattle.dtx_model.specs.Tied.{is_logged}
 use Rattle.dtx_model.specs.Coordinated.{coordinate, may_log}
-use Rattle.dtx_model.specs.Waiting.{EnteredCall, Waiter, waiting}
+use Rattle.dtx_model.specs.declared.waiting.EnteredCall.{EnteredCall}
+use Rattle.dtx_model.specs.Waiting.{Waiter, waiting}
 use Rattle.dtx_model.specs.Half.{Half, half_of, is_handed, is_promoting as is_promoting_now}
 use Rattle.dtx_model.specs.Acts.{act_by, act_entries, after_seal, ask_or, asked_act, commit_sent, is_to_tell, promotable_in, promoted_act, sealed_act, unasked_promotable, under_way, undecided_act, voter_act, yes_act}
 use Rattle.dtx_model.specs.Caused.{plans_of}

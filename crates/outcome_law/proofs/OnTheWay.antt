@@ -17,7 +17,8 @@ use Rattle.dtx_model.specs.declared.waiting.Wanted.{Wanted}
 use Rattle.dtx_model.specs.declared.waiting.Wanted.TheVariants.{Identifier, Place}
 use Rattle.dtx_model.specs.Words.{has, each, onto}
 use Rattle.dtx_model.specs.Promotes.{identifier_of, is_wait}
-use Rattle.dtx_model.specs.Waiting.{EnteredCall, Waiter, call_at, waiter_line, waiting, wanted}
+use Rattle.dtx_model.specs.declared.waiting.EnteredCall.{EnteredCall}
+use Rattle.dtx_model.specs.Waiting.{Waiter, call_at, waiter_line, waiting, wanted}
 use Rattle.dtx_model.specs.Half.{given, info}
 use Rattle.dtx_model.proofs.Bools.{and_left, and_right, and_both, or_case, or_right, not_both}
 use Rattle.outcome_law.proofs.Lists.{each-insert}
