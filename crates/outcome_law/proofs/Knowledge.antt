@@ -73,22 +73,19 @@ opened_known c e tag ns s =
 -- what is opened, and what isn't, by a message that is sent
 pub knows_where : (c : Conn) (h : List Entry) → whole h ≡ true → WireRun h → has (opens c) h ≡ true → knows c (ends_of h) ≡ true
 knows_where c [] w run k = absurd cc
-knows_where c (Sent e Up m ∷ h) w run k = step (same_connection c e) (is_opening e m) refl k
+knows_where c (Sent e Up m ∷ h) w run k = step (knows_where c h (before (Sent e Up m) h w) run.1) (same_connection c e) (is_opening e m) refl k
   where
-    ih : has (opens c) h ≡ true → knows c (ends_of h) ≡ true
-    ih a = knows_where c h (before (Sent e Up m) h w) run.1 a
-
-    step : (s o : Bool) → same_connection c e ≡ s → ((s && o) || has (opens c) h) ≡ true
+    step : (has (opens c) h ≡ true → knows c (ends_of h) ≡ true) → (s o : Bool) → same_connection c e ≡ s → ((s && o) || has (opens c) h) ≡ true
         → knows c (if o then with_opened e (tag_of m) (ends_of h) else map (note_sent e (tag_of m)) (ends_of h)) ≡ true
-    step true true q k = opened_known c e (tag_of m) (ends_of h) q
-    step false true q k = other_stays c e (is_known_end c) (tag_of m) (ends_of h) q (λ n a. and_left (is_end_of c n) (not n.ended) a) (ih k)
-    step true false q k = sent_known_end c e (tag_of m) (ends_of h) ∙ ih k
-    step false false q k = sent_known_end c e (tag_of m) (ends_of h) ∙ ih k
-knows_where c (Got e Down m ∷ h) w run k = step (has_line e Down m) (newest (Got e Down m) h w)
+    step ih true true q k = opened_known c e (tag_of m) (ends_of h) q
+    step ih false true q k = other_stays c e (is_known_end c) (tag_of m) (ends_of h) q (λ n a. and_left (is_end_of c n) (not n.ended) a) (ih k)
+    step ih true false q k = sent_known_end c e (tag_of m) (ends_of h) ∙ ih k
+    step ih false false q k = sent_known_end c e (tag_of m) (ends_of h) ∙ ih k
+knows_where c (Got e Down m ∷ h) w run k = step (knows_where c h (before (Got e Down m) h w) run.1 k) (has_line e Down m) (newest (Got e Down m) h w)
   where
-    step : (l : Bool) → l ≡ true → knows c (if l then map (note_got e (tag_of m)) (ends_of h) else map (note_end e) (ends_of h)) ≡ true
-    step true l = got_known_end c e (tag_of m) (ends_of h) ∙ knows_where c h (before (Got e Down m) h w) run.1 k
-    step false l = absurd cc
+    step : knows c (ends_of h) ≡ true → (l : Bool) → l ≡ true → knows c (if l then map (note_got e (tag_of m)) (ends_of h) else map (note_end e) (ends_of h)) ≡ true
+    step ih true l = got_known_end c e (tag_of m) (ends_of h) ∙ ih
+    step ih false l = absurd cc
 knows_where c (Ended e d ∷ h) w run k = absurd (no_end e d h (before (Ended e d) h w) run)
 knows_where c (x ∷ h) w run k = knows_where c h (before x h w) run.1 k
 
@@ -151,11 +148,8 @@ elsewhere false b r k = k
 -- what was asked of the voter is noted
 pub ask_heard : (h : List Entry) → whole h ≡ true → WireRun h → has (is_got_on Voter Down ASK) h ≡ true → was_got Voter (tag_of VoterAsk) (ends_of h) ≡ true
 ask_heard [] w run k = absurd cc
-ask_heard (Sent e Up m ∷ h) w run k = by (is_opening e m) refl (same_connection Voter e) refl
+ask_heard (Sent e Up m ∷ h) w run k = by (ask_heard h (before (Sent e Up m) h w) run.1 k) (is_opening e m) refl (same_connection Voter e) refl
   where
-    ih : was_got Voter (tag_of VoterAsk) (ends_of h) ≡ true
-    ih = ask_heard h (before (Sent e Up m) h w) run.1 k
-
     opened : has (opens Voter) h ≡ true
     opened = got_opened Voter Down ASK h (before (Sent e Up m) h w) run.1 k
 
@@ -168,18 +162,19 @@ ask_heard (Sent e Up m ∷ h) w run k = by (is_opening e m) refl (same_connectio
         shut false c o k = refl
     again _ s o w = absurd cc
 
-    by : (o : Bool) → is_opening e m ≡ o → (s : Bool) → same_connection Voter e ≡ s
+    by : was_got Voter (tag_of VoterAsk) (ends_of h) ≡ true → (o : Bool) → is_opening e m ≡ o → (s : Bool) → same_connection Voter e ≡ s
         → was_got Voter (tag_of VoterAsk) (if o then with_opened e (tag_of m) (ends_of h) else map (note_sent e (tag_of m)) (ends_of h)) ≡ true
-    by true f true q = absurd (not_both (has (opens Voter) h) opened (again e q f (newest (Sent e Up m) h w)))
-    by true f false q = other_stays Voter e (is_heard_end Voter (tag_of VoterAsk)) (tag_of m) (ends_of h) q (λ n a. and_left (is_end_of Voter n) (is_in (tag_of VoterAsk) n.got) a) ih
-    by false f s q = heard_sent Voter e (tag_of VoterAsk) (tag_of m) (ends_of h) ∙ ih
+    by ih true f true q = absurd (not_both (has (opens Voter) h) opened (again e q f (newest (Sent e Up m) h w)))
+    by ih true f false q = other_stays Voter e (is_heard_end Voter (tag_of VoterAsk)) (tag_of m) (ends_of h) q (λ n a. and_left (is_end_of Voter n) (is_in (tag_of VoterAsk) n.got) a) ih
+    by ih false f s q = heard_sent Voter e (tag_of VoterAsk) (tag_of m) (ends_of h) ∙ ih
 ask_heard (Got Voter Down VoterAsk ∷ h) w run k =
     heard_own Voter (tag_of VoterAsk) (ends_of h) (knows_where Voter h (before (Got Voter Down VoterAsk) h w) run.1 (got_opened Voter Down ASK (Got Voter Down VoterAsk ∷ h) w run refl))
-ask_heard (Got e Down m ∷ h) w run k = step (has_line e Down m) (newest (Got e Down m) h w)
+ask_heard (Got e Down m ∷ h) w run k = step (ask_heard h (before (Got e Down m) h w) run.1 k) (has_line e Down m) (newest (Got e Down m) h w)
   where
-    step : (l : Bool) → l ≡ true → was_got Voter (tag_of VoterAsk) (if l then map (note_got e (tag_of m)) (ends_of h) else map (note_end e) (ends_of h)) ≡ true
-    step true l = heard_got Voter e (tag_of VoterAsk) (tag_of m) (ends_of h) (ask_heard h (before (Got e Down m) h w) run.1 k)
-    step false l = absurd cc
+    step : was_got Voter (tag_of VoterAsk) (ends_of h) ≡ true → (l : Bool) → l ≡ true
+        → was_got Voter (tag_of VoterAsk) (if l then map (note_got e (tag_of m)) (ends_of h) else map (note_end e) (ends_of h)) ≡ true
+    step ih true l = heard_got Voter e (tag_of VoterAsk) (tag_of m) (ends_of h) ih
+    step ih false l = absurd cc
 ask_heard (Got e Up m ∷ h) w run k = ask_heard h (before (Got e Up m) h w) run.1 (elsewhere (same_connection Voter e) (ASK m) (has (is_got_on Voter Down ASK) h) k)
 ask_heard (Ended e d ∷ h) w run k = absurd (no_end e d h (before (Ended e d) h w) run)
 ask_heard (x ∷ h) w run k = ask_heard h (before x h w) run.1 k
@@ -207,11 +202,8 @@ known_still c d ks k = has-insert (same_connection c) order_of d (without d ks) 
 pub opening_known : (c : Conn) (h : List Entry) → whole h ≡ true → WireRun h → has (is_got_on c Up (is_opening c)) h ≡ true → knows_there c h ≡ true
 unfolding coordinate follow
 opening_known c [] w run k = absurd cc
-opening_known c (Got e Up m ∷ h) w run k = step (has_line e Up m) (newest (Got e Up m) h w)
+opening_known c (Got e Up m ∷ h) w run k = step (opening_known c h (before (Got e Up m) h w) run.1) (has_line e Up m) (newest (Got e Up m) h w)
   where
-    ih : has (is_got_on c Up (is_opening c)) h ≡ true → has (same_connection c) (coordinate h).known ≡ true
-    ih a = opening_known c h (before (Got e Up m) h w) run.1 a
-
     own : (same_connection c e && true && is_opening c m) ≡ true → has (same_connection c) (if is_opening e m then insert_by order_of e (without e (coordinate h).known) else (coordinate h).known) ≡ true
     own q =
         let s = and_left (same_connection c e) true (and_left (same_connection c e && true) (is_opening c m) q) in
@@ -219,14 +211,14 @@ opening_known c (Got e Up m ∷ h) w run k = step (has_line e Up m) (newest (Got
         let o : is_opening e m ≡ true = subst P (same_is c e s) (and_right (same_connection c e && true) (is_opening c m) q) in
         rw o (has-insert (same_connection c) order_of e (without e (coordinate h).known) ∙ or_left (same_connection c e) (has (same_connection c) (without e (coordinate h).known)) s)
 
-    other : (o : Bool) → has (is_got_on c Up (is_opening c)) h ≡ true → has (same_connection c) (if o then insert_by order_of e (without e (coordinate h).known) else (coordinate h).known) ≡ true
-    other true a = known_still c e (coordinate h).known (ih a)
-    other false a = ih a
+    other : (o : Bool) → has (same_connection c) (coordinate h).known ≡ true → has (same_connection c) (if o then insert_by order_of e (without e (coordinate h).known) else (coordinate h).known) ≡ true
+    other true a = known_still c e (coordinate h).known a
+    other false a = a
 
-    step : (l : Bool) → l ≡ true
+    step : (has (is_got_on c Up (is_opening c)) h ≡ true → has (same_connection c) (coordinate h).known ≡ true) → (l : Bool) → l ≡ true
         → has (same_connection c) (if not l then without e (coordinate h).known else if is_opening e m then insert_by order_of e (without e (coordinate h).known) else (coordinate h).known) ≡ true
-    step true l = or_case (same_connection c e && true && is_opening c m) (has (is_got_on c Up (is_opening c)) h) own (λ a. other (is_opening e m) a) k
-    step false l = absurd cc
+    step ih true l = or_case (same_connection c e && true && is_opening c m) (has (is_got_on c Up (is_opening c)) h) own (λ a. other (is_opening e m) (ih a)) k
+    step ih false l = absurd cc
 opening_known c (Got e Down m ∷ h) w run k = opening_known c h (before (Got e Down m) h w) run.1 (elsewhere (same_connection c e) (is_opening c m) (has (is_got_on c Up (is_opening c)) h) k)
 opening_known c (Ended e d ∷ h) w run k = absurd (no_end e d h (before (Ended e d) h w) run)
 opening_known c (Stopped ∷ h) w run k = absurd cc

@@ -114,7 +114,7 @@ told_seen e [] k = absurd cc
 told_seen e (Enlisted f c ∷ h) k =
     or_case ((e == f.value) && false) (has (λ l. (e == l.enlistment.value) && l.told) (listeners h)) (λ a. absurd (not_both false (and_right (e == f.value) false a) refl)) (told_seen e h)
     (sym (has-insert (λ l. (e == l.enlistment.value) && l.told) listener_number (record { enlistment = f; told = false; lost = false }) (listeners h)) ∙ k)
-told_seen e (Told (Member f) x ∷ h) k = step (e == f.value) refl
+told_seen e (Told (Member f) x ∷ h) k = step (told_seen e h) (e == f.value) refl
   where
     still : (l : Listener) → (e == f.value) ≡ false → ((e == l.enlistment.value) && ((f.value == l.enlistment.value) || l.told)) ≡ true → ((e == l.enlistment.value) && l.told) ≡ true
     still l q a =
@@ -131,9 +131,9 @@ told_seen e (Told (Member f) x ∷ h) k = step (e == f.value) refl
         (λ a. or_left ((e == l.enlistment.value) && l.told) (has (λ l. (e == l.enlistment.value) && l.told) ls) (still l q a))
         (λ a. or_right ((e == l.enlistment.value) && l.told) (has (λ l. (e == l.enlistment.value) && l.told) ls) (unheard ls q a)) k
 
-    step : (b : Bool) → (e == f.value) ≡ b → (b || has (is_told e) h) ≡ true
-    step true q = refl
-    step false q = told_seen e h (unheard (listeners h) q k)
+    step : (has (λ l. (e == l.enlistment.value) && l.told) (listeners h) ≡ true → has (is_told e) h ≡ true) → (b : Bool) → (e == f.value) ≡ b → (b || has (is_told e) h) ≡ true
+    step ih true q = refl
+    step ih false q = ih (unheard (listeners h) q k)
 told_seen e (Lost f ∷ h) k = told_seen e h (sym (has_kept (λ l. (e == l.enlistment.value) && l.told) (lose f.value) (λ l. refl) (listeners h)) ∙ k)
 told_seen e (Reenlisted f ∷ h) k = told_seen e h (sym (has_kept (λ l. (e == l.enlistment.value) && l.told) (come_back f.value) (λ l. refl) (listeners h)) ∙ k)
 told_seen e (x ∷ h) k = or_right (is_told e x) (has (is_told e) h) (told_seen e h k)
@@ -328,13 +328,23 @@ made_promotable e (Enlisted f c ∷ h) k =
     (λ a. or_right (is_promotable c) (has_promotable h) (made_promotable e h a)) k
 made_promotable e (x ∷ h) k = made_promotable e h k
 
+-- one that passes stands at a place
+first_row : (q : Row → Bool) (xs : List Row) → has q xs ≡ true → (i : ℕ) × (x : Row) × (slice_get xs i ≡ Some x) × (q x ≡ true)
+first_row q [] k = absurd cc
+first_row q (x ∷ xs) k = step (first_row q xs) (q x) refl k
+  where
+    step : (has q xs ≡ true → (i : ℕ) × (y : Row) × (slice_get xs i ≡ Some y) × (q y ≡ true)) → (b : Bool) → q x ≡ b → (b || has q xs) ≡ true
+        → (i : ℕ) × (y : Row) × (slice_get (x ∷ xs) i ≡ Some y) × (q y ≡ true)
+    step ih true e k = (zero, x, refl, e)
+    step ih false e k = let f = ih k in (suc f.0, f.1, f.2, f.3)
+
 -- of a promotable that stands neither a reply to promote nor a request is due
 promotable_rests : (p : ℕ → Plan) (h : List Entry) → IsUnowed p h → has_promotable h ≡ true → has is_decision h ≡ false
     → ((has is_ask_promote h && not (has is_promote_reply h)) ≡ false) × ((has is_ask_single h && not (has is_request h)) ≡ false)
 unfolding observe
-promotable_rests p h r k u = of_rows (rows h) (λ i x e. e) (has_rows (λ e c. is_promotable c) h ∙ k)
+promotable_rests p h r k u = let f = first_row (λ x. is_promotable x.class) (rows h) (has_rows (λ e c. is_promotable c) h ∙ k) in own f.0 f.1 f.2 f.3
   where
-    open_still : (a b q : Bool) (d : Bool) → q ≡ true → d ≡ false → (a && not b && q && not d) ≡ false → (a && not b) ≡ false
+    open_still : (a b q d : Bool) → q ≡ true → d ≡ false → (a && not b && q && not d) ≡ false → (a && not b) ≡ false
     open_still true true q d s t k = refl
     open_still true false true false s t k = absurd cc
     open_still true false true true s t k = absurd cc
@@ -351,18 +361,6 @@ promotable_rests p h r k u = of_rows (rows h) (λ i x e. e) (has_rows (λ e c. i
           open_still (has is_ask_promote h) (has is_promote_reply h) (is_promotable x.class) (is_some (latest decision_of h)) q decided both.0,
           open_still (has is_ask_single h) (has is_request h) (is_promotable x.class) (is_some (latest decision_of h)) q decided both.1,
         )
-
-    of_rows : (xs : List Row) → ((i : ℕ) (x : Row) → slice_get xs i ≡ Some x → slice_get (rows h) i ≡ Some x) → has (λ x. is_promotable x.class) xs ≡ true
-        → ((has is_ask_promote h && not (has is_promote_reply h)) ≡ false) × ((has is_ask_single h && not (has is_request h)) ≡ false)
-    of_rows xs at k = let f = first xs k in own f.0 f.1 (at f.0 f.1 f.2) f.3
-      where
-        first : (xs : List Row) → has (λ x. is_promotable x.class) xs ≡ true → (i : ℕ) × (x : Row) × (slice_get xs i ≡ Some x) × (is_promotable x.class ≡ true)
-        first [] k = absurd cc
-        first (x ∷ xs) k = at_first (is_promotable x.class) refl k
-          where
-            at_first : (b : Bool) → is_promotable x.class ≡ b → (b || has (λ x. is_promotable x.class) xs) ≡ true → (i : ℕ) × (y : Row) × (slice_get (x ∷ xs) i ≡ Some y) × (is_promotable y.class ≡ true)
-            at_first true q k = (zero, x, refl, q)
-            at_first false q k = let f = first xs k in (suc f.0, f.1, f.2, f.3)
 
 done : (a b : Bool) → a ≡ true → (a && not b) ≡ false → b ≡ true
 done true true k n = refl

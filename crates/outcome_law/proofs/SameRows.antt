@@ -73,11 +73,11 @@ changed_found e g same name xs x k =
 
 found_has : (p : Row → Bool) (xs : List Row) (x : Row) → find p xs ≡ Some x → has p xs ≡ true
 found_has p [] x e = absurd cc
-found_has p (y ∷ ys) x e = step (p y) e
+found_has p (y ∷ ys) x e = step (found_has p ys x) (p y) e
   where
-    step : (b : Bool) → (if b then Some y else find p ys) ≡ Some x → (b || has p ys) ≡ true
-    step true e = refl
-    step false e = found_has p ys x e
+    step : (find p ys ≡ Some x → has p ys ≡ true) → (b : Bool) → (if b then Some y else find p ys) ≡ Some x → (b || has p ys) ≡ true
+    step ih true e = refl
+    step ih false e = ih e
 
 -- each row is the one that is found by its number
 rows_found : (h : List Entry) → always is_made_once h ≡ true → OfEach (IsFound (rows h)) (rows h)
@@ -137,15 +137,15 @@ marked_asked e (Enlisted f c ∷ h) k =
     let fresh = fresh_row f c (marks (rows h)) in
     or_case ((e == f.value) && false) (was_asked e (rows h)) (λ a. absurd (not_both false (and_right (e == f.value) false a) refl)) (marked_asked e h)
     (sym (has-insert (λ x. is_of e x && is_marked x) number_of fresh (rows h)) ∙ k)
-marked_asked e (Asked f Prepare ∷ h) k = step (e == f.value) refl
+marked_asked e (Asked f Prepare ∷ h) k = step (marked_asked e h) (e == f.value) refl
   where
     n : ℕ
     n = marks (rows h)
 
-    step : (b : Bool) → (e == f.value) ≡ b → (b || has (is_asked e) h) ≡ true
-    step true q = refl
-    step false q =
-        marked_asked e h
+    step : (was_asked e (rows h) ≡ true → has (is_asked e) h ≡ true) → (b : Bool) → (e == f.value) ≡ b → (b || has (is_asked e) h) ≡ true
+    step ih true q = refl
+    step ih false q =
+        ih
         (unmapped (λ x. is_of e x && is_marked x) (λ x. is_of e x && is_marked x) (mark_in f.value n) (λ x a. stays e f.value is_marked (mark_row n) (λ y. refl) q x (is_of f.value x) refl a) (rows h) k)
 marked_asked e (Voted f v ∷ h) k =
     marked_asked e h
@@ -162,12 +162,12 @@ voted_cast e (Enlisted f c ∷ h) k =
 voted_cast e (Asked f Prepare ∷ h) k =
     voted_cast e h
     (sym (has_kept (λ x. is_of e x && has_voted x) (mark_in f.value (marks (rows h))) (λ x. if_kept (λ x. is_of e x && has_voted x) (is_of f.value x) (mark_row (marks (rows h)) x) x refl) (rows h)) ∙ k)
-voted_cast e (Voted f v ∷ h) k = step (e == f.value) refl
+voted_cast e (Voted f v ∷ h) k = step (voted_cast e h) (e == f.value) refl
   where
-    step : (b : Bool) → (e == f.value) ≡ b → (b || has (is_vote e) h) ≡ true
-    step true q = refl
-    step false q =
-        voted_cast e h
+    step : (voted e (rows h) ≡ true → has (is_vote e) h ≡ true) → (b : Bool) → (e == f.value) ≡ b → (b || has (is_vote e) h) ≡ true
+    step ih true q = refl
+    step ih false q =
+        ih
         (unmapped (λ x. is_of e x && has_voted x) (λ x. is_of e x && has_voted x) (vote_in f.value v) (λ x a. stays e f.value has_voted (vote_row v) (λ y. refl) q x (is_of f.value x) refl a) (rows h) k)
 voted_cast e (x ∷ h) k = voted_cast e h k
 
