@@ -60,3 +60,4 @@ pub mod Paid
 pub mod RestExample
 pub mod SameRows
 pub mod Owed
+pub mod Idle
