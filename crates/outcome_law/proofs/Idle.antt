@@ -22,6 +22,7 @@ use Rattle.dtx_model.specs.Entries.{is_client_told, is_promoted, is_sealed}
 use Rattle.dtx_model.specs.Observed.{clone_rows, ends_of, observe, rows}
 use Rattle.dtx_model.specs.Outcome.{enlisted, is_empty}
 use Rattle.dtx_model.specs.Promotes.{is_promoting}
+use Rattle.dtx_model.specs.Tied.{is_logged}
 use Rattle.dtx_model.specs.Wires.{WireRun, in_transit, opens}
 use Rattle.dtx_model.specs.Coordinated.{Coordinated, coordinate, may_free, may_log}
 use Rattle.dtx_model.specs.Waiting.{waiting}
@@ -148,7 +149,7 @@ pub record IsGoverned (s : List Line) (ks : List EnteredCall) (h : List Entry) :
   pub free : owes_none h ≡ true
   pub waits : has is_promoted h ≡ true → each (is_on_its_way h) (waiting ks h) ≡ true
   pub unplaced : each (is_unplaced h) (waiting ks h) ≡ true
-  pub prepares : has (is_got_on Begin Up COMMIT) h ≡ true → (e : EnlNo) → has (is_got_on (Enl e) Up ENLIST) h ≡ true → has (is_sent_on (Enl e) Down PREPARE) h ≡ true
+  pub prepares : has is_logged h ≡ false → has (is_got_on Begin Up COMMIT) h ≡ true → (e : EnlNo) → has (is_got_on (Enl e) Up ENLIST) h ≡ true → has (is_sent_on (Enl e) Down PREPARE) h ≡ true
   pub lasting : (e : EnlNo) → has (is_got_on (Enl e) Up ENLIST) h ≡ true → has (is_volatile_made e.value) h ≡ false
   -- it can commit, a promotion began, and whoever was made has the plan of its line
   pub can : CanCommit s h

@@ -61,3 +61,4 @@ pub mod RestExample
 pub mod SameRows
 pub mod Owed
 pub mod Idle
+pub mod Prepared

@@ -85,12 +85,12 @@ pub record IsAtRest (s : List Line) (ks : List EnteredCall) (h : List Entry) : T
   -- by the table and the rows: after the seal each Zero voted, and no blocking clone is open
   pub zeros : has is_sealed h ≡ true → zeros_voted (rows h) ≡ true
   pub closed : has is_open_block (clone_rows h) ≡ false
-  -- at the end of a block: nothing is owed; after the promotion each call that waits has its ENLIST sent, and its enlistment doesn't stand; after COMMIT each
-  -- enlistment at the coordinator has its PREPARE sent; and none of these is volatile
+  -- at the end of a block: nothing is owed; after the promotion each call that waits has its ENLIST sent, and its enlistment doesn't stand; after COMMIT, while nothing
+  -- is logged, each enlistment at the coordinator has its PREPARE sent; and none of these is volatile
   pub free : owes_none h ≡ true
   pub waits : has is_promoted h ≡ true → each (is_on_its_way h) (waiting ks h) ≡ true
   pub unplaced : each (is_unplaced h) (waiting ks h) ≡ true
-  pub prepares : has (is_got_on Begin Up COMMIT) h ≡ true → (e : EnlNo) → has (is_got_on (Enl e) Up ENLIST) h ≡ true → has (is_sent_on (Enl e) Down PREPARE) h ≡ true
+  pub prepares : has is_logged h ≡ false → has (is_got_on Begin Up COMMIT) h ≡ true → (e : EnlNo) → has (is_got_on (Enl e) Up ENLIST) h ≡ true → has (is_sent_on (Enl e) Down PREPARE) h ≡ true
   pub lasting : (e : EnlNo) → has (is_got_on (Enl e) Up ENLIST) h ≡ true → has (is_volatile_made e.value) h ≡ false
   -- nothing is pending: no message, no act of either side, and no reply
   pub empty : (c : Conn) (d : Dir) → in_transit c d h ≡ []
