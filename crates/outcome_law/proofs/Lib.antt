@@ -62,3 +62,4 @@ pub mod SameRows
 pub mod Owed
 pub mod Idle
 pub mod Prepared
+pub mod PlainBlocks
