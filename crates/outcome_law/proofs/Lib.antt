@@ -63,3 +63,4 @@ pub mod Owed
 pub mod Idle
 pub mod Prepared
 pub mod PlainBlocks
+pub mod Waiters
