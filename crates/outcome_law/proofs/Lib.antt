@@ -64,3 +64,4 @@ pub mod Idle
 pub mod Prepared
 pub mod PlainBlocks
 pub mod Waiters
+pub mod Makers

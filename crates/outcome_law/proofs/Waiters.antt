@@ -19,7 +19,9 @@ use Rattle.dtx_values.specs.declared.number.EnlNo.{EnlNo}
 use Rattle.dtx_values.specs.declared.number.RmNo.{RmNo}
 use Rattle.dtx_values.specs.declared.number.TxNo.{TxNo}
 use Rattle.dtx_values.specs.declared.words.Class.TheVariants.{DurableSingle}
+use Rattle.dtx_values.specs.declared.script.EnlistOption.{EnlistOption}
 use Rattle.dtx_values.specs.declared.script.Support.{Support}
+use Rattle.dtx_values.specs.declared.words.Vote.{Vote}
 use Rattle.dtx_values.specs.declared.words.Cause.{Cause}
 use Rattle.dtx_values.specs.declared.words.Outcome.{Outcome}
 use Rattle.dtx_values.specs.Clones.{is_clone, is_complete_clone}
@@ -40,7 +42,7 @@ use Rattle.dtx_model.specs.Half.{Half, by_manager, enlist_sent, given, half_of, 
 use Rattle.dtx_model.specs.Arrivals.{arrived, created, enlisted_at, hand_over, local_got, place_given, unless_decided}
 use Rattle.dtx_model.specs.Acts.{act_entries}
 use Rattle.dtx_model.specs.Replies.{reply_entries}
-use Rattle.dtx_model.specs.Answers.{await_answer, has_promotion, if_begun, is_crowded, is_full, local_answer, status_answer, unless_ended, unless_late, unless_over}
+use Rattle.dtx_model.specs.Answers.{await_answer, has_promotion, promotable_answer, volatile_answer, if_begun, is_crowded, is_full, local_answer, status_answer, unless_ended, unless_late, unless_over}
 use Rattle.dtx_model.specs.Facts.{begin_promotion, durable_facts, durable_waits as waits_durable, facts_if, has_facts}
 use Rattle.dtx_model.specs.World.{World, answer_at, branches_by, core, facts_at, half, is_connected, is_finished_there, is_unfinished_link, reenlist_by, unless_connected, unless_stopped}
 use Rattle.dtx_model.specs.Steps.{Step, Calls, Replies, Acts, Coordinates, Delivers, Stops, Restarts, after, block_at, coordinates, delivered, ended_at, entered, got_by, restarted}
@@ -213,15 +215,31 @@ gives_id false n x q = absurd cc
 gives_over : (o : Observed) {x : Answer} → Gives x → Gives (unless_over o x)
 gives_over o p = gives_begun o.limit (gives_ended o.decided p)
 
+volatile_given : (w : World) → Gives (unless_over (half w).seen (volatile_answer (half w)))
+volatile_given w = let h = half w in gives_over h.seen (gives_if h.seen.sealed (sure refl) (gives_if (is_full h) (sure refl) (sure refl)))
+
+promotable_given : (w : World) → Gives (unless_over (half w).seen (promotable_answer (half w)))
+promotable_given w =
+    let h = half w in
+    gives_over h.seen (gives_if h.seen.sealed (sure refl) (gives_if (not (may_own h.seen.table (has_promotion h.seen))) (sure refl) (gives_if (is_full h) (sure refl) (sure refl))))
+
+-- a volatile's call doesn't wait, nor does a promotable's
+pub volatile_gives : (t : ℕ) (w : World) (u : TxNo) (e : EnlNo) (x : EnlistOption) (v : Option Vote) (m : ℕ) → is_waiting_answer (answer_at t w (Volatile u e x v) m) ≡ false
+unfolding answer_at local_answer
+volatile_gives t w u e x v m = (volatile_given w).proof
+
+pub promotable_gives : (t : ℕ) (w : World) (u : TxNo) (e : EnlNo) (r : RmNo) (v : Option Vote) (x : Option Outcome) (p : Option Bool) (m : ℕ)
+    → is_waiting_answer (answer_at t w (Promotable u e r v x p) m) ≡ false
+unfolding answer_at local_answer
+promotable_gives t w u e r v x p m = (promotable_given w).proof
+
 -- no call waits but a durable or marshal call; and a marshal call doesn't where it is promoted
 gives : (t : ℕ) (w : World) (c : Call) (m : ℕ) → has is_promoted w.past ≡ true → is_durable_call c ≡ false → Gives (answer_at t w c m)
 unfolding answer_at local_answer
 gives t w (Begin u d) m p n = sure refl
-gives t w (Volatile u e x v) m p n = let h = half w in gives_over h.seen (gives_if h.seen.sealed (sure refl) (gives_if (is_full h) (sure refl) (sure refl)))
+gives t w (Volatile u e x v) m p n = volatile_given w
 gives t w (Durable u e r s) m p n = absurd cc
-gives t w (Promotable u e r v x y) m p n =
-    let h = half w in
-    gives_over h.seen (gives_if h.seen.sealed (sure refl) (gives_if (not (may_own h.seen.table (has_promotion h.seen))) (sure refl) (gives_if (is_full h) (sure refl) (sure refl))))
+gives t w (Promotable u e r v x y) m p n = promotable_given w
 gives t w (Clone u c k) m p n = let o = (half w).seen in gives_over o (gives_if o.commit (sure refl) (gives_if (nat_le CLONES (length o.clones)) (sure refl) (sure refl)))
 gives t w (Complete c) m p n =
     let o = (half w).seen in
@@ -274,7 +292,7 @@ call_keeps ks n a x past es f s w = λ p. inner (promoted_first (Called n a x �
     inner q = still_keeps ks (Called n a x ∷ past) es s (λ p. waits_stay ks (Called n a x) past (waits_as n a x ∙ f q) (w q))
 
 -- the call of its line is the newest entered
-own_call : (n : ℕ) (a : ActorNo) (c : Call) (ks : List EnteredCall) → call_at (record { line = n; actor = a; call = c } ∷ ks) n ≡ Some c
+pub own_call : (n : ℕ) (a : ActorNo) (c : Call) (ks : List EnteredCall) → call_at (record { line = n; actor = a; call = c } ∷ ks) n ≡ Some c
 own_call n a c ks = rw (eq_self n) refl
 
 -- a durable call
