@@ -65,3 +65,4 @@ pub mod Prepared
 pub mod PlainBlocks
 pub mod Waiters
 pub mod Makers
+pub mod ClosedTables
