@@ -66,3 +66,4 @@ pub mod PlainBlocks
 pub mod Waiters
 pub mod Makers
 pub mod ClosedTables
+pub mod ScriptCalls
