@@ -67,3 +67,4 @@ pub mod Waiters
 pub mod Makers
 pub mod ClosedTables
 pub mod ScriptCalls
+pub mod Promotions
