@@ -1,10 +1,10 @@
 -- The ladder whole: at rest, a transaction that promotes and can commit is decided, and its client was told that it is committed.
-use Rattle.std.proofs.Common.{◌≡◌, ℕ, ◌==◌, ◌+◌, Bool, true, false, ◌&&◌, ◌||◌, List, [], ◌∷◌, Option, Some, None, refl, ◌∙◌, sym, subst, ap}
+use Rattle.std.proofs.Common.{◌≡◌, ℕ, ◌==◌, ◌+◌, Bool, true, false, ◌&&◌, List, [], ◌∷◌, Option, Some, None, refl, ◌∙◌, sym, subst, ap}
 use Rattle.std.specs.Prelude.{find, is_some, length, not, if◌then◌else◌}
 use Rattle.std.proofs.lemmas.Bool.{or_left, false_from_ne_true, true_from_ne_false}
 use Rattle.dtx_values.specs.declared.entry.Ask.TheVariants.{Single}
 use Rattle.dtx_values.specs.declared.entry.Entry.{Entry}
-use Rattle.dtx_values.specs.declared.entry.Entry.TheVariants.{Asked, Decided, Enlisted, LocalYes, PromoteReply, Requested, Promoting, PromotionFailed, Sealed, Got, Told}
+use Rattle.dtx_values.specs.declared.entry.Entry.TheVariants.{Asked, Decided, LocalYes, PromoteReply, Requested, Promoting, PromotionFailed, Sealed, Got, Told}
 use Rattle.dtx_values.specs.declared.entry.Party.TheVariants.{Client}
 use Rattle.dtx_values.specs.declared.entry.Request.TheVariants.{Commit, Abort}
 use Rattle.dtx_values.specs.declared.message.Conn.TheVariants.{Begin, Voter, Enl}
@@ -25,15 +25,14 @@ use Rattle.dtx_values.specs.Waves.{all_voted, is_over, name_of, next_ask, zeros_
 use Rattle.dtx_model.specs.declared.waiting.Wanted.TheVariants.{Identifier, Place}
 use Rattle.dtx_model.specs.Words.{has, each, latest}
 use Rattle.dtx_model.specs.Entries.{client_told_of, decision_of, is_client_told, is_commit, is_decision, is_promoted, is_sealed, is_yes}
-use Rattle.dtx_model.specs.Observed.{cause_of_promotion, clone_rows, ends_of, handover, is_ask_promote, is_ask_single, is_promote_reply, is_promotion_failed, is_request, observe, rows}
-use Rattle.dtx_model.specs.Outcome.{enlisted}
+use Rattle.dtx_model.specs.Observed.{cause_of_promotion, clone_rows, ends_of, handover, is_ask_promote, is_promote_reply, is_promotion_failed, is_request, observe, rows}
 use Rattle.dtx_model.specs.Promotes.{is_promoting, is_under_way}
 use Rattle.dtx_model.specs.Tied.{is_logged}
 use Rattle.dtx_model.specs.Coordinated.{coordinate, may_log}
 use Rattle.dtx_model.specs.declared.waiting.EnteredCall.{EnteredCall}
 use Rattle.dtx_model.specs.Waiting.{Waiter, waiting}
 use Rattle.dtx_model.specs.Half.{Half, half_of, is_handed, is_promoting as is_promoting_now}
-use Rattle.dtx_model.specs.Acts.{act_by, act_entries, after_seal, ask_or, asked_act, commit_sent, is_to_tell, promotable_in, promoted_act, sealed_act, unasked_promotable, under_way, undecided_act, voter_act, yes_act}
+use Rattle.dtx_model.specs.Acts.{act_by, act_entries, after_seal, ask_or, asked_act, commit_sent, is_to_tell, promotable_in, promoted_act, sealed_act, unasked_promotable, undecided_act, voter_act, yes_act}
 use Rattle.dtx_model.specs.Caused.{plans_of}
 use Rattle.dtx_model.proofs.Bools.{and_left, and_both, and_never, not_false, not_true, not_both, or_first, or_second, or_right}
 use Rattle.outcome_law.proofs.Scans.{find_none, has_less, has_more}
@@ -43,7 +42,7 @@ use Rattle.outcome_law.proofs.TableRows.{enlisted_in_rows}
 use Rattle.outcome_law.proofs.Owned.{has_rows, has_filter}
 use Rattle.outcome_law.proofs.Settled.{ones_done, told_all, zeros_done}
 use Rattle.outcome_law.proofs.Whole.{is_got_on, is_sent_on, whole_of}
-use Rattle.outcome_law.proofs.Messages.{ASK, BEGIN, COMMIT, ENLIST, ENLISTED, ENLIST_ANSWER}
+use Rattle.outcome_law.proofs.Messages.{BEGIN, COMMIT, ENLIST, ENLISTED, ENLIST_ANSWER}
 use Rattle.outcome_law.proofs.Fine.{IsFine, is_bad}
 use Rattle.outcome_law.proofs.Debts.{enlisted_next, has_promotable}
 use Rattle.outcome_law.proofs.Rest.{IsAtRest, IsQuiet}
@@ -52,7 +51,7 @@ use Rattle.outcome_law.proofs.Arrived.{arrived}
 use Rattle.outcome_law.proofs.Followed.{Demands, followed}
 use Rattle.outcome_law.proofs.Unblamed.{fine_before, nothing_bad}
 use Rattle.outcome_law.proofs.Knowledge.{ask_heard}
-use Rattle.outcome_law.proofs.Promoted.{climb, enlisted_well, good_answer, got_due, if_so, promoted, while_open}
+use Rattle.outcome_law.proofs.Promoted.{climb, enlisted_well, good_answer, got_due, promoted, while_open}
 use Rattle.outcome_law.proofs.Stages.{IsUnlogged}
 use Rattle.outcome_law.proofs.Committed.{IsOpen, ask_got, commit_got, enlistment_asked, is_commit_request, logged_decided, open_before, plain_first, request_commits, seal_commits, vote_got, yes_got}
 use Rattle.outcome_law.proofs.Recorded.{may_append}

@@ -1,5 +1,5 @@
 -- By rows of the table of rules: after the seal each Zero row has a vote, and where each clone is complete no row of a clone is open.
-use Rattle.std.proofs.Common.{◌≡◌, ℕ, ◌==◌, Bool, true, false, ◌&&◌, ◌||◌, List, [], ◌∷◌, refl, ◌∙◌, ap, sym, map}
+use Rattle.std.proofs.Common.{◌≡◌, ◌==◌, Bool, true, false, ◌&&◌, ◌||◌, List, [], ◌∷◌, refl, ◌∙◌, ap, sym, map}
 use Rattle.std.specs.Prelude.{is_some, not, if◌then◌else◌}
 use Rattle.dtx_values.specs.declared.entry.Ask.TheVariants.{Prepare}
 use Rattle.dtx_values.specs.declared.entry.Entry.{Entry}
@@ -16,7 +16,7 @@ use Rattle.dtx_model.specs.Entries.{clone_of, is_completed, is_sealed}
 use Rattle.dtx_model.specs.Observed.{clone_rows, rows}
 use Rattle.dtx_model.specs.Outcome.{is_complete}
 use Rattle.dtx_model.proofs.Bools.{and_both, and_left, and_never, and_right, not_both, not_true, or_false, or_right}
-use Rattle.outcome_law.proofs.Lists.{OfEach, each_kept, if_kept, of-behind, of-map, of-more}
+use Rattle.outcome_law.proofs.Lists.{OfEach, each_kept, if_kept, of-behind, of-map}
 use Rattle.outcome_law.proofs.TableRows.{each_clones, there}
 use Rattle.outcome_law.proofs.Tests.{eq_swap}
 

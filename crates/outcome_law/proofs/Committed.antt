@@ -1,5 +1,5 @@
 -- The rungs after a promotion: COMMIT, ASK, YES, PREPARE, the votes, and the decision.
-use Rattle.std.proofs.Common.{◌≡◌, ◌∙◌, ℕ, Bool, true, false, ◌&&◌, ◌||◌, List, [], ◌∷◌, Option, Some, None, refl, ap, sym, subst}
+use Rattle.std.proofs.Common.{◌≡◌, ◌∙◌, Bool, true, false, ◌&&◌, ◌||◌, List, ◌∷◌, refl, ap, sym, subst}
 use Rattle.std.specs.Prelude.{not}
 use Rattle.std.proofs.lemmas.Bool.{eqb-true, true_from_ne_false}
 use Rattle.dtx_values.specs.declared.entry.Entry.{Entry}
@@ -20,7 +20,6 @@ use Rattle.dtx_model.specs.Entries.{is_asked, is_decision, is_promoted, is_seale
 use Rattle.dtx_model.specs.Tied.{is_logged}
 use Rattle.dtx_model.specs.Observed.{ends_of}
 use Rattle.dtx_model.specs.Coordinated.{coordinate, is_active}
-use Rattle.dtx_model.specs.Outcome.{enlisted}
 use Rattle.dtx_values.specs.Vote.{is_no}
 use Rattle.dtx_values.specs.Lines.{is_opening}
 use Rattle.dtx_values.specs.Class.{is_promotable}
@@ -29,7 +28,7 @@ use Rattle.dtx_model.proofs.Bools.{and_left, and_right, and_both, not_false, not
 use Rattle.outcome_law.proofs.Whole.{is_got_on, is_sent_on}
 use Rattle.outcome_law.proofs.Fine.{IsFine, is_bad}
 use Rattle.outcome_law.proofs.Messages.{ASK, BEGIN, BEGUN, COMMIT, COMMITTED, CREATED, PREPARE, VOTE, VOTED, YES}
-use Rattle.outcome_law.proofs.Debts.{has_promotable, is_decided_committed, is_volatile_made, knows_there, when}
+use Rattle.outcome_law.proofs.Debts.{has_promotable, is_decided_committed, is_volatile_made, knows_there}
 use Rattle.outcome_law.proofs.Knowledge.{got_known, knows_got}
 use Rattle.outcome_law.proofs.Stages.{IsUnlogged, begin_got, earlier, sent_known, stage_of, stage_seen, unlogged_before}
 use Rattle.outcome_law.proofs.Arrived.{arrived}

@@ -18,7 +18,7 @@ use Rattle.dtx_model.specs.declared.desk.Desk.{Desk}
 use Rattle.dtx_model.specs.Words.{has, each, always}
 use Rattle.dtx_model.specs.Entries.{is_commit_got}
 use Rattle.dtx_model.specs.Coordinated.{accepts, ballot_of, coordinate, desk_number, desks_after, follow, is_active, is_desk_of, known_after, with_ack, with_ballot, without}
-use Rattle.dtx_model.proofs.Bools.{and_left, or_case, or_false, or_second, or_right, not_true, not_both}
+use Rattle.dtx_model.proofs.Bools.{and_left, or_case, or_false, or_second, or_right, not_true}
 use Rattle.outcome_law.proofs.Lists.{has-insert}
 use Rattle.outcome_law.proofs.Scans.{each_more}
 use Rattle.outcome_law.proofs.Whole.{is_got_on}

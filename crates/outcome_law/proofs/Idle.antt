@@ -1,5 +1,5 @@
 -- What 'nothing is pending' says: nothing is on the way, neither side has an act, and no reply is due that its plan has. So a history that keeps the rules is at rest.
-use Rattle.std.proofs.Common.{◌≡◌, ℕ, ◌==◌, Bool, true, false, ◌&&◌, ◌||◌, List, [], ◌∷◌, ◌++◌, refl, ◌∙◌, ap, subst, sym}
+use Rattle.std.proofs.Common.{◌≡◌, ℕ, ◌==◌, Bool, true, false, ◌||◌, List, [], ◌∷◌, ◌++◌, refl, ◌∙◌, ap, subst, sym}
 use Rattle.std.specs.Prelude.{not, if◌then◌else◌}
 use Rattle.std.specs.List.{flat_map}
 use Rattle.dtx_values.specs.declared.end.End.{End}
@@ -29,9 +29,9 @@ use Rattle.dtx_model.specs.Waiting.{waiting}
 use Rattle.dtx_model.specs.Plans.{plan_of}
 use Rattle.dtx_model.specs.Half.{half_of}
 use Rattle.dtx_model.specs.Acts.{act_entries}
-use Rattle.dtx_model.specs.Replies.{all_due, due_of, is_answered, names}
-use Rattle.dtx_model.specs.World.{World, core, half, has_left}
-use Rattle.dtx_model.specs.Steps.{CoordinatorAct, StepName, core_act, deliveries_on, delivery_if, local_if, local_pending, pending, replies_due}
+use Rattle.dtx_model.specs.Replies.{all_due, due_of, names}
+use Rattle.dtx_model.specs.World.{has_left}
+use Rattle.dtx_model.specs.Steps.{CoordinatorAct, core_act, deliveries_on, delivery_if, local_if, local_pending, pending, replies_due}
 use Rattle.dtx_model.specs.Caused.{plans_of}
 use Rattle.dtx_model.specs.History.{CanCommit, is_willing}
 use Rattle.dtx_values.specs.declared.words.Outcome.TheVariants.{Committed}

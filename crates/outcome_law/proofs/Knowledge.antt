@@ -1,6 +1,6 @@
 -- What each side knows of a connection where nothing is lost: the local side each that it opened, and what it heard there; the coordinator each of which it
 -- got the opening message.
-use Rattle.std.proofs.Common.{◌≡◌, ℕ, ◌==◌, ◌<◌, ◌^◌, Bool, true, false, ◌&&◌, ◌||◌, List, [], ◌∷◌, refl, ◌∙◌, sym, subst, ap, arith}
+use Rattle.std.proofs.Common.{◌≡◌, ℕ, ◌==◌, ◌<◌, ◌^◌, Bool, true, false, ◌&&◌, ◌||◌, List, [], ◌∷◌, refl, ◌∙◌, sym, subst, arith}
 use Rattle.std.specs.Prelude.{not, map, filter, max, bit_or, if◌then◌else◌}
 use Rattle.std.specs.Int.{bit_at}
 use Rattle.std.proofs.lemmas.Bool.{or_left}
@@ -15,15 +15,15 @@ use Rattle.dtx_values.specs.declared.message.Dir.{Dir}
 use Rattle.dtx_values.specs.declared.message.Dir.TheVariants.{Up, Down}
 use Rattle.dtx_values.specs.declared.message.Message.{Message}
 use Rattle.dtx_values.specs.declared.message.Message.TheVariants.{VoterAsk}
-use Rattle.dtx_values.specs.Ends.{end_order, is_end_of, is_in, knows, note_end, note_got, note_sent, order_of, same_connection, same_direction, tag_of, was_got, with_opened, with_tag}
+use Rattle.dtx_values.specs.Ends.{end_order, is_end_of, is_in, knows, note_end, note_got, note_sent, order_of, same_connection, tag_of, was_got, with_opened, with_tag}
 use Rattle.dtx_values.specs.Lines.{has_line, is_opening}
 use Rattle.dtx_values.specs.Table.{insert_by}
 use Rattle.dtx_model.specs.Words.{has}
 use Rattle.dtx_model.specs.Wires.{WireRun, opens}
 use Rattle.dtx_model.specs.Observed.{ends_of}
-use Rattle.dtx_model.specs.Coordinated.{coordinate, follow, known_after, without}
+use Rattle.dtx_model.specs.Coordinated.{coordinate, follow, without}
 use Rattle.dtx_model.proofs.Bools.{and_both, and_left, and_right, or_case, or_right, not_both, not_false}
-use Rattle.outcome_law.proofs.Connections.{same_is, same_self, same_turned}
+use Rattle.outcome_law.proofs.Connections.{same_is}
 use Rattle.outcome_law.proofs.Lists.{has_kept, has-insert, if_kept}
 use Rattle.outcome_law.proofs.Owned.{has_filter}
 use Rattle.outcome_law.proofs.Scans.{has_more}

@@ -2,7 +2,7 @@
 -- call that waits doesn't stand, and no enlistment at the coordinator is volatile.
 use Rattle.std.proofs.Common.{◌≡◌, ℕ, ◌==◌, Bool, true, false, ◌&&◌, ◌||◌, List, [], ◌∷◌, ◌++◌, Option, Some, None, refl, ◌∙◌, ap, sym, subst}
 use Rattle.std.specs.Prelude.{filter, find, is_some, not, if◌then◌else◌}
-use Rattle.std.specs.List.{flat_map, slice_get}
+use Rattle.std.specs.List.{flat_map}
 use Rattle.std.proofs.lemmas.Bool.{eq-eqb, eqb-true, false_from_ne_true}
 use Rattle.dtx_values.specs.declared.call.Call.{Call}
 use Rattle.dtx_values.specs.declared.call.Call.TheVariants.{Volatile, Durable, Promotable}
@@ -62,7 +62,7 @@ use Rattle.outcome_law.proofs.Messages.{ENLIST}
 use Rattle.outcome_law.proofs.Debts.{is_volatile_made}
 use Rattle.outcome_law.proofs.OnTheWay.{is_unplaced}
 use Rattle.outcome_law.proofs.Openings.{once_sent}
-use Rattle.outcome_law.proofs.PlainBlocks.{Plain, is_giving, is_making, is_plain, plain_act, plain_arrived, plain_begin_promotion, plain_called, plain_coordinates, plain_core_got, plain_ended_at, plain_one, plain_reply, plain_restarted}
+use Rattle.outcome_law.proofs.PlainBlocks.{Plain, is_plain, plain_act, plain_arrived, plain_begin_promotion, plain_called, plain_coordinates, plain_core_got, plain_ended_at, plain_reply, plain_restarted}
 use Rattle.outcome_law.proofs.Waiters.{is_waiting_answer, own_call, promotable_gives, volatile_gives}
 
 -- the call makes this enlistment: any, a volatile one, or a durable or promotable one

@@ -33,14 +33,14 @@ use Rattle.dtx_model.specs.Observed.{come_back, ends_of, hear, lose, is_ask_prom
 use Rattle.dtx_model.specs.Outcome.{can_own, enlisted}
 use Rattle.dtx_model.specs.Tied.{is_logged}
 use Rattle.dtx_model.specs.Wires.{holds}
-use Rattle.dtx_model.specs.Plans.{owner_reply, planned, promote_reply, vote_reply}
-use Rattle.dtx_model.specs.Half.{is_gone, is_handed, was_told}
-use Rattle.dtx_model.specs.Replies.{conn_due, due_of, may_still_vote, names, note_at, note_of_conn, note_of_row, owes_outcome, owes_promotion, owes_request, owes_vote, row_note, with_name, with_names}
+use Rattle.dtx_model.specs.Plans.{owner_reply, promote_reply, vote_reply}
+use Rattle.dtx_model.specs.Half.{is_gone, was_told}
+use Rattle.dtx_model.specs.Replies.{conn_due, due_of, may_still_vote, names, note_at, note_of_conn, owes_outcome, owes_promotion, owes_request, owes_vote, row_note, with_name, with_names}
 use Rattle.dtx_model.specs.History.{is_committed, is_loss, is_willing}
 use Rattle.dtx_model.proofs.Bools.{and_both, and_left, and_right, not_both, not_false, or_case, or_false, or_first, or_right, or_second}
 use Rattle.outcome_law.proofs.Lists.{each-insert, has-insert, has_kept}
 use Rattle.outcome_law.proofs.Picks.{each_from_at, has-at}
-use Rattle.outcome_law.proofs.Scans.{each-at, each_both, has_less}
+use Rattle.outcome_law.proofs.Scans.{each-at, has_less}
 use Rattle.outcome_law.proofs.Tests.{eq_self}
 use Rattle.outcome_law.proofs.Dues.{is_unplanned, named_rows}
 use Rattle.outcome_law.proofs.Owned.{has_rows}
@@ -51,11 +51,10 @@ use Rattle.outcome_law.proofs.Messages.{PREPARE}
 use Rattle.outcome_law.proofs.Fine.{IsFine, is_bad, is_made}
 use Rattle.outcome_law.proofs.Debts.{has_promotable, is_volatile_made}
 use Rattle.outcome_law.proofs.Connections.{same_is}
-use Rattle.outcome_law.proofs.Knowledge.{has_mapped, knows_got}
-use Rattle.outcome_law.proofs.Unblamed.{owns}
+use Rattle.outcome_law.proofs.Knowledge.{knows_got}
 use Rattle.outcome_law.proofs.Stages.{record_logged}
 use Rattle.outcome_law.proofs.Climbed.{none_decided}
-use Rattle.outcome_law.proofs.SameRows.{asked_marked, found_passes, is_made_once, marked_asked, row_found, unmapped, voted_cast}
+use Rattle.outcome_law.proofs.SameRows.{asked_marked, found_passes, is_made_once, marked_asked, row_found, voted_cast}
 
 -- Rows of the table of rules: a volatile is asked to prepare, or who got PREPARE; a promotable is asked to promote or for its single phase; and an enlistment is
 -- told committed or in doubt where it was decided, or where there is a record.
@@ -356,8 +355,7 @@ promotable_rests p h r k u = let f = first_row (λ x. is_promotable x.class) (ro
     own i x e q =
         let decided : is_some (latest decision_of h) ≡ false = ap is_some (none_decided h u) in
         let both = promotable_unowed (p x.number.value) x.class (owes_vote (observe h) x) (owes_promotion (observe h) x) (owes_outcome (observe h) x) (owes_request (observe h) x)
-        (note_of_conn (conn_due (observe h) x.number.value)) (row_willing p h i x r e) q (row_unplanned p h i x r e) in
-        (
+        (note_of_conn (conn_due (observe h) x.number.value)) (row_willing p h i x r e) q (row_unplanned p h i x r e) in (
           open_still (has is_ask_promote h) (has is_promote_reply h) (is_promotable x.class) (is_some (latest decision_of h)) q decided both.0,
           open_still (has is_ask_single h) (has is_request h) (is_promotable x.class) (is_some (latest decision_of h)) q decided both.1,
         )

@@ -14,9 +14,7 @@ use Rattle.dtx_model.specs.Words.{each, has, onto}
 use Rattle.dtx_model.specs.Coordinated.{Coordinated, commit_sends, coordinate, follow, is_prepared, to, to_each, to_waiting}
 use Rattle.dtx_model.proofs.Bools.{and_left, and_right, and_both}
 use Rattle.outcome_law.proofs.Scans.{each-append}
-use Rattle.outcome_law.proofs.Whole.{is_sent_on}
-use Rattle.outcome_law.proofs.Messages.{COMMITTED}
-use Rattle.outcome_law.proofs.Debts.{debt, is_free, knows_there, meets, owes_none, paid, pays, when}
+use Rattle.outcome_law.proofs.Debts.{debt, is_free, knows_there, meets, owes_none, paid, pays}
 
 -- the entry demands nothing, whatever stands before it
 abbrev pub is_silent : Entry → Bool

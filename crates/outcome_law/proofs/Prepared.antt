@@ -23,12 +23,12 @@ use Rattle.dtx_model.specs.Facts.{facts_if, has_facts}
 use Rattle.dtx_model.specs.World.{World, answer_at, core, facts_at, half}
 use Rattle.dtx_model.specs.Steps.{Step, Calls, Replies, Acts, Coordinates, Delivers, Stops, Restarts, after, block_at, coordinates, delivered, ended_at, got_by, restarted}
 use Rattle.dtx_model.specs.Caused.{Ran}
-use Rattle.dtx_model.proofs.Bools.{and_left, not_both, not_true, or_case, or_right}
+use Rattle.dtx_model.proofs.Bools.{and_left, not_both, not_true, or_right}
 use Rattle.dtx_model.proofs.Reading.{has-onto}
 use Rattle.dtx_model.proofs.Quiet.{Quiet, is_quiet, q_act, q_appended, q_called, q_ended_at, q_freed, q_got_by, q_head, q_if, q_one, q_reply, q_restarted, q_tail}
 use Rattle.outcome_law.proofs.Scans.{has_more}
 use Rattle.outcome_law.proofs.Whole.{is_got_on, is_sent_on}
-use Rattle.outcome_law.proofs.Messages.{BEGIN, COMMIT, ENLIST, PREPARE}
+use Rattle.outcome_law.proofs.Messages.{COMMIT, ENLIST, PREPARE}
 use Rattle.outcome_law.proofs.Rest.{is_ordered}
 use Rattle.outcome_law.proofs.Stages.{IsUnlogged, begin_got, stage_of, stage_seen, unlogged_before}
 use Rattle.outcome_law.proofs.Recorded.{commit_asks, is_prepare_to}

@@ -1,5 +1,5 @@
 -- A settled history in which a promotion began and that can commit is committed, where it keeps the table of rules: by the definitions of a script's histories.
-use Rattle.std.proofs.Common.{◌≡◌, ℕ, ◌==◌, Bool, true, false, ◌&&◌, List, [], refl, ◌∙◌, ap, sym, subst}
+use Rattle.std.proofs.Common.{◌≡◌, ℕ, true, List, subst}
 use Rattle.dtx_values.specs.declared.call.Call.{Call}
 use Rattle.dtx_values.specs.declared.call.Call.TheVariants.{Volatile, Durable, Promotable}
 use Rattle.dtx_values.specs.declared.entry.Entry.{Entry}
@@ -9,16 +9,13 @@ use Rattle.dtx_model.specs.Words.{always, each, has}
 use Rattle.dtx_model.specs.Entries.{is_client_told}
 use Rattle.dtx_model.specs.Grammar.{OfEnlistment, are_named_well}
 use Rattle.dtx_model.specs.Promotes.{is_promoting}
-use Rattle.dtx_model.specs.Tied.{is_logged}
-use Rattle.dtx_model.specs.Plans.{plan_of}
 use Rattle.dtx_model.specs.Waiting.{Waiter, waiting}
 use Rattle.dtx_model.specs.World.{World}
-use Rattle.dtx_model.specs.Caused.{Caused, FreelyCaused, IsCallOf, Settled, entered_in, plans_of}
+use Rattle.dtx_model.specs.Caused.{Caused, IsCallOf, Settled, entered_in, plans_of}
 use Rattle.dtx_model.specs.History.{CanCommit}
 use Rattle.dtx_model.proofs.Quiet.{wire_run_of}
-use Rattle.outcome_law.proofs.Names.{IsCalled, call_makes, script_once}
+use Rattle.outcome_law.proofs.Names.{call_makes, script_once}
 use Rattle.outcome_law.proofs.Planned.{plan_same}
-use Rattle.outcome_law.proofs.Rule.{is_enlisted}
 use Rattle.outcome_law.proofs.Whole.{is_opened_once, whole_of}
 use Rattle.outcome_law.proofs.Fine.{IsFine, is_caused}
 use Rattle.outcome_law.proofs.Debts.{owes_none, pays}
@@ -28,9 +25,9 @@ use Rattle.outcome_law.proofs.Unblamed.{nothing_bad}
 use Rattle.outcome_law.proofs.SameRows.{is_made_once}
 use Rattle.outcome_law.proofs.Owed.{is_asked_well}
 use Rattle.outcome_law.proofs.ClosedTables.{is_closed_well, none_open, sealed_zeros}
-use Rattle.outcome_law.proofs.Prepared.{IsPrepared, ran_prepares}
+use Rattle.outcome_law.proofs.Prepared.{ran_prepares}
 use Rattle.outcome_law.proofs.Waiters.{ran_waits}
-use Rattle.outcome_law.proofs.Makers.{AreMade, IsMaker, all_lasting, all_unplaced, makes_enlistment, ran_made}
+use Rattle.outcome_law.proofs.Makers.{AreMade, all_lasting, all_unplaced, makes_enlistment, ran_made}
 use Rattle.outcome_law.proofs.ScriptCalls.{waiting_read}
 use Rattle.outcome_law.proofs.Idle.{IsGoverned, settled_commits}
 

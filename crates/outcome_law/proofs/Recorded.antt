@@ -3,7 +3,7 @@ use Rattle.std.proofs.Common.{◌≡◌, ℕ, ◌==◌, Bool, true, false, ◌&&
 use Rattle.std.specs.Prelude.{not, map, if◌then◌else◌}
 use Rattle.std.proofs.lemmas.Bool.{eq-eqb, eqb-true, or_left, false_from_ne_true}
 use Rattle.dtx_values.specs.declared.entry.Entry.{Entry}
-use Rattle.dtx_values.specs.declared.entry.Entry.TheVariants.{Sent, Got, Down as End, Logged, LogFull, Freed, Stopped, Restarted}
+use Rattle.dtx_values.specs.declared.entry.Entry.TheVariants.{Sent, Got, Stopped, Restarted}
 use Rattle.dtx_values.specs.declared.message.Conn.{Conn}
 use Rattle.dtx_values.specs.declared.message.Conn.TheVariants.{Begin, Voter, Enl, Again}
 use Rattle.dtx_values.specs.declared.message.Dir.TheVariants.{Up, Down}
@@ -23,7 +23,7 @@ use Rattle.dtx_model.proofs.Bools.{and_left, and_right, and_both, or_case, or_ri
 use Rattle.outcome_law.proofs.Lists.{each-insert}
 use Rattle.outcome_law.proofs.Scans.{each_more}
 use Rattle.outcome_law.proofs.Whole.{is_got_on, is_sent_on}
-use Rattle.outcome_law.proofs.Messages.{BEGIN, COMMIT, ENLIST, PREPARE, VOTED, YES}
+use Rattle.outcome_law.proofs.Messages.{COMMIT, ENLIST, PREPARE, VOTED, YES}
 use Rattle.outcome_law.proofs.Fine.{IsFine}
 use Rattle.outcome_law.proofs.Rest.{is_ordered}
 use Rattle.outcome_law.proofs.Arrived.{newest}

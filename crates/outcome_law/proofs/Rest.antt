@@ -1,5 +1,5 @@
 -- A history at rest: the rows of the table of rules, and what is so at the end of a block, of which completeness makes use.
-use Rattle.std.proofs.Common.{◌≡◌, ℕ, Bool, true, false, ◌&&◌, ◌||◌, List, [], ◌∷◌}
+use Rattle.std.proofs.Common.{◌≡◌, Bool, true, false, ◌&&◌, ◌||◌, List, []}
 use Rattle.std.specs.Prelude.{not}
 use Rattle.dtx_values.specs.declared.entry.Entry.{Entry}
 use Rattle.dtx_values.specs.declared.entry.Entry.TheVariants.{Voted, Requested, LocalYes, Promoting, Promoted, Sent, Got, Logged, Freed}

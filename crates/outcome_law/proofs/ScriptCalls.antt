@@ -2,7 +2,7 @@
 use Rattle.std.proofs.Common.{◌≡◌, ℕ, zero, suc, ◌==◌, Bool, true, false, ◌||◌, List, [], ◌∷◌, Option, Some, None, refl, ◌∙◌, ap, sym, subst}
 use Rattle.std.specs.Prelude.{filter, not}
 use Rattle.std.specs.List.{slice_get}
-use Rattle.std.proofs.lemmas.Bool.{eqb-true, or_left}
+use Rattle.std.proofs.lemmas.Bool.{eqb-true}
 use Rattle.dtx_values.specs.declared.call.Call.{Call}
 use Rattle.dtx_values.specs.declared.call.Call.TheVariants.{Begin, Commit, Rollback}
 use Rattle.dtx_values.specs.declared.entry.Answer.TheVariants.{Wait}
@@ -19,10 +19,10 @@ use Rattle.dtx_model.specs.declared.waiting.EnteredCall.{EnteredCall}
 use Rattle.dtx_model.specs.Words.{has, kth, onto, or_else, put}
 use Rattle.dtx_model.specs.Entries.{is_call}
 use Rattle.dtx_model.specs.Calls.{call_of}
-use Rattle.dtx_model.specs.Contexts.{calls_by, lines_before, scope_calls, scopes_of}
+use Rattle.dtx_model.specs.Contexts.{lines_before, scope_calls, scopes_of}
 use Rattle.dtx_model.specs.Coordinated.{may_log}
 use Rattle.dtx_model.specs.Wires.{in_transit}
-use Rattle.dtx_model.specs.Waiting.{Waiter, call_at, call_if, call_in, waiter_line, waiting, wanted, wanted_by}
+use Rattle.dtx_model.specs.Waiting.{call_at, call_if, call_in, waiter_line, waiting, wanted, wanted_by}
 use Rattle.dtx_model.specs.Acts.{act_entries}
 use Rattle.dtx_model.specs.Replies.{reply_entries}
 use Rattle.dtx_model.specs.Facts.{facts_if, has_facts}

@@ -1,8 +1,8 @@
 -- The coordinator is active from BEGIN on, where nothing bad came and nothing is logged; and what the table says of what stands before an entry.
-use Rattle.std.proofs.Common.{◌≡◌, ℕ, Bool, true, false, ◌&&◌, ◌||◌, List, [], ◌∷◌, refl, ◌∙◌, sym, subst, ap}
-use Rattle.std.specs.Prelude.{not, if◌then◌else◌}
+use Rattle.std.proofs.Common.{◌≡◌, Bool, true, false, ◌&&◌, List, [], ◌∷◌, refl, ◌∙◌, sym, subst, ap}
+use Rattle.std.specs.Prelude.{not}
 use Rattle.dtx_values.specs.declared.entry.Entry.{Entry}
-use Rattle.dtx_values.specs.declared.entry.Entry.TheVariants.{Sent, Got, Down as End, Logged, LogFull, Freed, Stopped, Restarted}
+use Rattle.dtx_values.specs.declared.entry.Entry.TheVariants.{Sent, Got, Down as End, Logged, LogFull, Freed, Restarted}
 use Rattle.dtx_values.specs.declared.message.Conn.{Conn}
 use Rattle.dtx_values.specs.declared.message.Conn.TheVariants.{Begin, Voter, Enl}
 use Rattle.dtx_values.specs.declared.message.Dir.TheVariants.{Up, Down}
@@ -152,4 +152,3 @@ pub active_at : (c : Conn) (m : Message) (h : List Entry) → is_other c ≡ tru
 active_at c m h o r n =
     ap is_active (stage_seen h r)
     ∙ ap (λ b. is_active (stage_of b)) (heard_begun h r.fine r.sound (sent_begun c (λ m. true) h o r.begun (got_sent c Up m (λ m. true) h n refl)))
-

@@ -24,14 +24,14 @@ use Rattle.dtx_values.specs.Ends.{same_connection, same_direction}
 use Rattle.dtx_values.specs.Lines.{has_line}
 use Rattle.dtx_values.specs.Vote.{is_no, voted_well}
 use Rattle.dtx_model.specs.Words.{has, each, ever, always, latest, all_of}
-use Rattle.dtx_model.specs.Entries.{clone_of, decision_of, handed_of, is_owner, is_yes, same_outcome}
-use Rattle.dtx_model.specs.Caused.{is_abort_planned, is_as_planned, is_outcome_planned, is_promotion_planned, is_request_planned, is_vote_planned}
+use Rattle.dtx_model.specs.Entries.{decision_of, handed_of, is_owner, is_yes, same_outcome}
+use Rattle.dtx_model.specs.Caused.{is_as_planned, is_outcome_planned, is_promotion_planned, is_request_planned, is_vote_planned}
 use Rattle.dtx_model.specs.History.{is_asked_in_time, is_committed, is_ending, is_loss, is_willing, nobody}
 use Rattle.dtx_model.specs.Learned.{coordinator_aborted, is_abort, is_first_abort}
-use Rattle.dtx_model.specs.Outcome.{can_own, coordinator_doubt, doubt, enlisted, is_begin_end, is_complete, is_empty, is_lost_owner, is_outcome_got, is_rollback, is_veto, is_veto_end, is_voter_end, owner_doubt}
+use Rattle.dtx_model.specs.Outcome.{can_own, coordinator_doubt, doubt, enlisted, is_begin_end, is_empty, is_lost_owner, is_outcome_got, is_veto, is_veto_end, is_voter_end, owner_doubt}
 use Rattle.dtx_model.specs.Promotes.{ends_refused, ends_told, is_refusal}
 use Rattle.dtx_model.specs.Wires.{WireRun, holds, is_ended, is_lost_wire, is_next, is_stopped, kept, in_transit, transit_after_stop, lost_since, opened_with, opens, sent_behind, is_open_wire, without_first}
-use Rattle.dtx_model.proofs.Bools.{and_left, and_right, and_both, or_case, or_false, or_first, or_second, or_right, not_true, not_both}
+use Rattle.dtx_model.proofs.Bools.{and_left, and_right, and_both, or_case, or_false, or_first, or_second, or_right, not_both}
 use Rattle.outcome_law.proofs.Rule.{is_decided}
 use Rattle.outcome_law.proofs.Going.{is_no_vote}
 use Rattle.outcome_law.proofs.Scans.{has_more, has_less}

@@ -7,7 +7,7 @@ use Rattle.dtx_values.specs.declared.call.Call.TheVariants.{Begin, Volatile, Dur
 use Rattle.dtx_values.specs.declared.entry.Answer.{Answer}
 use Rattle.dtx_values.specs.declared.entry.Answer.TheVariants.{Fine, True, Wait, Id, Many, TooLate}
 use Rattle.dtx_values.specs.declared.entry.Entry.{Entry}
-use Rattle.dtx_values.specs.declared.entry.Entry.TheVariants.{Answered, Called, Enlisted, Got, Down as Ended, Promoted, Sent, Stopped}
+use Rattle.dtx_values.specs.declared.entry.Entry.TheVariants.{Called, Enlisted, Got, Down as Ended, Promoted, Stopped}
 use Rattle.dtx_values.specs.declared.message.Conn.{Conn}
 use Rattle.dtx_values.specs.declared.message.Conn.TheVariants.{Voter, Enl}
 use Rattle.dtx_values.specs.declared.message.Dir.{Dir}
@@ -38,21 +38,21 @@ use Rattle.dtx_model.specs.Observed.{Observed, is_branch, observe}
 use Rattle.dtx_model.specs.Promotes.{identifier_of, is_wait}
 use Rattle.dtx_model.specs.Wires.{in_transit, is_open_wire}
 use Rattle.dtx_model.specs.Waiting.{Waiter, call_at, class_by, is_place_of, waiting, wanted}
-use Rattle.dtx_model.specs.Half.{Half, by_manager, enlist_sent, given, half_of, is_gone, is_handed, is_promoting, over, promoted_by, sees, stands}
-use Rattle.dtx_model.specs.Arrivals.{arrived, created, enlisted_at, hand_over, local_got, place_given, unless_decided}
+use Rattle.dtx_model.specs.Half.{Half, by_manager, enlist_sent, given, is_gone, is_handed, is_promoting, over, promoted_by, sees, stands}
+use Rattle.dtx_model.specs.Arrivals.{arrived, created, enlisted_at, hand_over, local_got, place_given}
 use Rattle.dtx_model.specs.Acts.{act_entries}
 use Rattle.dtx_model.specs.Replies.{reply_entries}
 use Rattle.dtx_model.specs.Answers.{await_answer, has_promotion, promotable_answer, volatile_answer, if_begun, is_crowded, is_full, local_answer, status_answer, unless_ended, unless_late, unless_over}
-use Rattle.dtx_model.specs.Facts.{begin_promotion, durable_facts, durable_waits as waits_durable, facts_if, has_facts}
+use Rattle.dtx_model.specs.Facts.{begin_promotion, durable_facts, facts_if, has_facts}
 use Rattle.dtx_model.specs.World.{World, answer_at, branches_by, core, facts_at, half, is_connected, is_finished_there, is_unfinished_link, reenlist_by, unless_connected, unless_stopped}
-use Rattle.dtx_model.specs.Steps.{Step, Calls, Replies, Acts, Coordinates, Delivers, Stops, Restarts, after, block_at, coordinates, delivered, ended_at, entered, got_by, restarted}
+use Rattle.dtx_model.specs.Steps.{Step, Calls, Replies, Acts, Coordinates, Delivers, Stops, Restarts, after, block_at, coordinates, delivered, ended_at, got_by, restarted}
 use Rattle.dtx_model.specs.Caused.{MayCome, Ran}
-use Rattle.dtx_model.proofs.Bools.{and_both, and_left, and_right, not_both, not_false, not_true}
+use Rattle.dtx_model.proofs.Bools.{and_left, and_right, not_both, not_true}
 use Rattle.dtx_model.proofs.Heeding.{fresh}
 use Rattle.outcome_law.proofs.Scans.{each_more}
 use Rattle.outcome_law.proofs.Tests.{eq_self}
 use Rattle.outcome_law.proofs.OnTheWay.{durable_waits, is_on_its_way, over_waits, waits_stay}
-use Rattle.outcome_law.proofs.PlainBlocks.{Plain, is_giving, is_making, is_plain, plain_act, plain_arrived, plain_begin_promotion, plain_called, plain_coordinates, plain_core_got, plain_ended_at, plain_one, plain_reply, plain_restarted}
+use Rattle.outcome_law.proofs.PlainBlocks.{Plain, is_plain, plain_act, plain_arrived, plain_begin_promotion, plain_called, plain_coordinates, plain_core_got, plain_ended_at, plain_reply, plain_restarted}
 
 abbrev pub AreOnTheWay : List EnteredCall → List Entry → Type 0
 AreOnTheWay ks h = has is_promoted h ≡ true → each (is_on_its_way h) (waiting ks h) ≡ true
