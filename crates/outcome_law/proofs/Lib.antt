@@ -68,3 +68,4 @@ pub mod Makers
 pub mod ClosedTables
 pub mod ScriptCalls
 pub mod Promotions
+pub mod SilentBlocks
