@@ -69,3 +69,4 @@ pub mod ClosedTables
 pub mod ScriptCalls
 pub mod Promotions
 pub mod SilentBlocks
+pub mod PaidBlocks
