@@ -7,7 +7,7 @@ use Rattle.dtx_values.specs.declared.call.Call.{Call}
 use Rattle.dtx_values.specs.declared.call.Call.TheVariants.{Durable, Marshal}
 use Rattle.dtx_values.specs.declared.entry.Answer.{Answer}
 use Rattle.dtx_values.specs.declared.entry.Answer.TheVariants.{Fine, True, Wait}
-use Rattle.dtx_values.specs.declared.entry.Ask.TheVariants.{Promote, Single as AskSingle}
+use Rattle.dtx_values.specs.declared.entry.Ask.TheVariants.{Prepare, Promote, Single as AskSingle}
 use Rattle.dtx_values.specs.declared.entry.Entry.{Entry}
 use Rattle.dtx_values.specs.declared.entry.Entry.TheVariants.{Acked, Answered, Asked, Called, Decided, Enlisted, Freed, Got, Down as Ended, LocalYes, Logged, LogFull, OwnerAnswered, Promoted, Promoting, PromoteReply, PromotionFailed, Requested, Sealed, Sent, Stopped, Voted}
 use Rattle.dtx_values.specs.declared.message.Conn.{Conn}
@@ -48,10 +48,10 @@ use Rattle.dtx_model.specs.Entries.{decision_of, is_decision, is_promoted}
 use Rattle.dtx_model.specs.Observed.{cause_of_promotion, ends_of, handover, is_promotion_failed, observe, rows, track}
 use Rattle.dtx_model.specs.Outcome.{enlisted}
 use Rattle.dtx_model.specs.Promotes.{identifier_of, is_failed, is_promoting, is_under_way}
-use Rattle.dtx_model.specs.Wires.{in_transit}
+use Rattle.dtx_model.specs.Wires.{in_transit, is_next}
 use Rattle.dtx_model.specs.Coordinated.{Coordinated, abort_sends, commit_sends, coordinate, core_got, follow, is_active, may_log, opening_by, to, to_each, without}
 use Rattle.dtx_model.specs.Waiting.{Waiter, is_place_of, managed, waiting}
-use Rattle.dtx_model.specs.Half.{Half, by_manager, decide, enlist_sent, given, half_of, is_handed, is_promoting as is_promoting_now, over, promoted_by, sees, to_up, veto_if}
+use Rattle.dtx_model.specs.Half.{Half, by_manager, decide, ended, enlist_sent, fails_if, given, half_of, is_handed, is_promoting as is_promoting_now, over, promoted_by, sees, to_up, veto_if}
 use Rattle.dtx_model.specs.Arrivals.{arrived, begun, created, enlisted_at, hand_over, local_got, place_given}
 use Rattle.dtx_model.specs.Acts.{act_by, act_entries, after_seal, ask_or, asked_act, commit_act, commit_sent, is_to_tell, promotable_in, promoted_act, sealed_act, tell, unasked_promotable, under_way, undecided_act, voter_act, yes_act}
 use Rattle.dtx_model.specs.Replies.{ack_on, conn_due, due_of, is_volatile_row, owner_entries, promote_entries, reply_entries, request_message, request_of, vote_message, voted_by}
@@ -61,6 +61,7 @@ use Rattle.dtx_model.specs.Steps.{LogAnswer, Done as LogDone, Full, StoppedNow, 
 use Rattle.dtx_model.proofs.Bools.{and_both, and_left, and_right, not_both, not_true, or_case}
 use Rattle.outcome_law.proofs.Lists.{has-insert}
 use Rattle.outcome_law.proofs.Owned.{has_rows}
+use Rattle.outcome_law.proofs.Tests.{eq_self}
 use Rattle.outcome_law.proofs.Rule.{is_enlisted}
 use Rattle.outcome_law.proofs.Connections.{same_self}
 use Rattle.outcome_law.proofs.Whole.{is_sent_on}
@@ -198,6 +199,10 @@ act_paid ks h None p = by_promotable (unasked_promotable (observe h))
         (paid_ask h (next_ask v.seen.table false) (all_voted v.seen.table) (if is_some v.seen.handed then [] else commit_act v (owner_of v.seen.table)) p
         (paid_if h (is_some v.seen.handed) [] (commit_act v (owner_of v.seen.table)) p (list_paid h (commit_act v (owner_of v.seen.table)) (silent_commit_act v (owner_of v.seen.table)) p))))
         (paid_ask h (next_ask v.seen.table true) (is_over v.seen.table v.seen.clones (under_way v)) (Sealed ∷ commit_sent v.seen) p (seal_paid h p))) p
+
+local_paid : (w : World) → IsPaid w.past → IsPaid (onto w.past (act_entries (half w)))
+unfolding act_entries
+local_paid w p = act_paid w.calls w.past (half w).seen.decided p
 
 -- The replies.
 up_silent : (b : Bool) (c : Conn) (m : Message) → Silent (if b then Sent c Up m ∷ [] else [])
@@ -355,3 +360,128 @@ core_paid t w Begin BeginCommit p =
     step true false es k = absurd cc
     step false b es k = absurd cc
 core_paid t w c m p = list_paid (Got c Up m ∷ w.past) (core_got (identifier_of t) (coordinate w.past) c m) (silent_core_got (identifier_of t) (coordinate w.past) c m) (single_paid w.past (Got c Up m) p refl)
+
+-- The arrivals. What must stand before three of them: of CREATED, that the handover has a manager; of ENLISTED that is not the handover's, that the promotion is
+-- over and a call waits for the place; and of COMMITTED, that no promotion is under way.
+abbrev pub is_manager_of : ℕ → EnlNo × RmNo → Bool
+is_manager_of e m = e == m.0.value
+
+abbrev pub Serves : List EnteredCall → List Entry → Conn → Message → Type 0
+Serves ks h Voter VoterCreated = (e : EnlNo) → handover h ≡ Some e → has (is_manager_of e.value) (managed ks h) ≡ true
+Serves ks h (Enl e) EnlistEnlisted =
+    has is_decision h ≡ false → (is_under_way h && is_handed (handover h) e.value) ≡ false → (has is_promoted h ≡ true) × (has (is_place_of e.value) (waiting ks h) ≡ true)
+Serves ks h Begin BeginCommitted = has is_decision h ≡ false → is_under_way h ≡ false
+Serves ks h c m = Unit {0}
+
+-- what the handover's ENLIST, or the end of the promotion, comes first with
+manager_leads : (t : ℕ) (ms : List (EnlNo × RmNo)) (e : EnlNo) → has (is_manager_of e.value) ms ≡ true → leads (is_sent_on (Enl e) Up ENLIST) (by_manager (enlist_sent t) ms e) ≡ true
+manager_leads t [] e k = absurd cc
+manager_leads t (m ∷ ms) e k = step (e.value == m.0.value) k (manager_leads t ms e)
+  where
+    step : (b : Bool) → (b || has (is_manager_of e.value) ms) ≡ true → (has (is_manager_of e.value) ms ≡ true → leads (is_sent_on (Enl e) Up ENLIST) (by_manager (enlist_sent t) ms e) ≡ true)
+        → leads (is_sent_on (Enl e) Up ENLIST) (if b then enlist_sent t e m.1 else by_manager (enlist_sent t) ms e) ≡ true
+    step true k ih = and_both (same_connection (Enl e) (Enl e) && true) true (and_both (same_connection (Enl e) (Enl e)) true (same_self (Enl e)) refl) refl
+    step false k ih = ih k
+
+over_leads : (t : ℕ) (o : Option Cause) (es : List Entry) → is_some o ≡ true → leads is_promoted (promoted_by t o ++ es) ≡ true
+over_leads t (Some c) es k = refl
+over_leads t None es k = absurd cc
+
+handed_leads : (t : ℕ) (v : Half) (o : Option EnlNo) → ((e : EnlNo) → o ≡ Some e → has (is_manager_of e.value) v.managers ≡ true) → is_some v.seen.cause ≡ true → leads (created_next o) (hand_over t v o) ≡ true
+handed_leads t v (Some e) f k = manager_leads t v.managers e (f e refl)
+handed_leads t v None f k = over_leads t v.seen.cause (flat_map (given t) v.waits) k
+
+-- d and n say that it is decided, p and u that the promotion is under way
+going_leads : (q : Entry → Bool) (d n p u : Bool) (xs es : List Entry) → d ≡ n → p ≡ u → (u ≡ true → leads q es ≡ true) → (u && not n) ≡ true → leads q (if d then xs else if p then es else []) ≡ true
+going_leads q true true p true xs es e f g k = absurd cc
+going_leads q true true p false xs es e f g k = absurd cc
+going_leads q true false p u xs es e f g k = absurd cc
+going_leads q false true p u xs es e f g k = absurd cc
+going_leads q false false true true xs es e f g k = g refl
+going_leads q false false true false xs es e f g k = absurd cc
+going_leads q false false false true xs es e f g k = absurd cc
+going_leads q false false false false xs es e f g k = absurd cc
+
+-- while it is under way there is a cause
+caused_way : (a b c : Bool) → (a && not b && not c) ≡ true → a ≡ true
+caused_way true b c k = refl
+caused_way false b c k = absurd cc
+
+committed_leads : (d n p u : Bool) (es : List Entry) → d ≡ n → p ≡ u → (n ≡ false → u ≡ false) → not n ≡ true → leads is_decided_committed (if d then [] else fails_if p ++ Decided Committed ∷ es) ≡ true
+committed_leads false false false u es e f g k = refl
+committed_leads false false true true es e f g k = let no : true ≡ false = g refl in absurd cc
+committed_leads false false true false es e f g k = absurd cc
+committed_leads d true p u es e f g k = absurd cc
+committed_leads true false p u es e f g k = absurd cc
+
+-- a call that waits for the place is found
+find_leads : (e : ℕ) (ws : List Waiter) → has (is_place_of e) ws ≡ true → leads (is_enlisted e) (place_given (find (is_place_of e) ws)) ≡ true
+find_leads e [] k = absurd cc
+find_leads e ((n, Identifier) ∷ ws) k = find_leads e ws k
+find_leads e ((n, Place f r c) ∷ ws) k = step (e == f.value) refl k (find_leads e ws)
+  where
+    step : (b : Bool) → (e == f.value) ≡ b → (b || has (is_place_of e) ws) ≡ true → (has (is_place_of e) ws ≡ true → leads (is_enlisted e) (place_given (find (is_place_of e) ws)) ≡ true)
+        → leads (is_enlisted e) (place_given (if b then Some (n, Place f r c) else find (is_place_of e) ws)) ≡ true
+    step true q k ih = q
+    step false q k ih = ih k
+
+enlisted_leads : (e : ℕ) (d n a b p : Bool) (xs ys : List Entry) → d ≡ n → a ≡ b → (b ≡ true → leads is_promoted xs ≡ true) → (n ≡ false → b ≡ false → (p ≡ true) × (leads (is_enlisted e) ys ≡ true)) → not n ≡ true
+    → leads (enlisted_next b e) (if d then [] else if a then xs else if p then ys else []) ≡ true
+enlisted_leads e d true a b p xs ys h k f g r = absurd cc
+enlisted_leads e true false a b p xs ys h k f g r = absurd cc
+enlisted_leads e false false true true p xs ys h k f g r = f refl
+enlisted_leads e false false true false p xs ys h k f g r = absurd cc
+enlisted_leads e false false false true p xs ys h k f g r = absurd cc
+enlisted_leads e false false false false true xs ys h k f g r = (g refl refl).1
+enlisted_leads e false false false false false xs ys h k f g r = let no : false ≡ true = (g refl refl).0 in absurd cc
+
+arrived_paid : (t : ℕ) (w : World) (c : Conn) (m : Message) → Serves w.calls w.past c m → IsPaid w.past → IsPaid (onto (Got c Down m ∷ w.past) (local_got t (half w) c m))
+unfolding local_got observe track
+arrived_paid t w Begin (BeginBegun u) f p =
+    head_paid w.past (Got Begin Down (BeginBegun u)) (is_going_up w.past) (is_sent_on Voter Up VOTER) (local_got t (half w) Begin (BeginBegun u)) refl
+    (going_leads (is_sent_on Voter Up VOTER) (is_some (latest decision_of w.past)) (has is_decision w.past) (is_promoting_now (observe w.past)) (is_under_way w.past) _
+    (Sent Voter Up (VoterVoter (identifier_of t)) ∷ []) (decided_seen w.past) (way_seen w.past) (λ q. refl)) (silent_local_got t (half w) Begin (BeginBegun u)) p
+arrived_paid t w Voter VoterCreated f p =
+    let v = sees (half w) (Got Voter Down VoterCreated) in
+    head_paid w.past (Got Voter Down VoterCreated) (is_going_up w.past) (created_next (handover w.past)) (local_got t (half w) Voter VoterCreated) refl
+    (going_leads (created_next (handover w.past)) (is_some (latest decision_of w.past)) (has is_decision w.past) (is_promoting_now (observe w.past)) (is_under_way w.past) []
+    (hand_over t v (handover w.past)) (decided_seen w.past) (way_seen w.past)
+    (λ q. handed_leads t v (handover w.past) f (caused_way (is_some (latest cause_of_promotion w.past)) (has is_promoted w.past) (has is_promotion_failed w.past) (way_seen w.past ∙ q))))
+    (silent_local_got t (half w) Voter VoterCreated) p
+arrived_paid t w (Enl e) EnlistEnlisted f p =
+    let v = sees (half w) (Got (Enl e) Down EnlistEnlisted) in
+    let own = is_under_way w.past && is_handed (handover w.past) e.value in
+    head_paid w.past (Got (Enl e) Down EnlistEnlisted) (not (has is_decision w.past)) (enlisted_next own e.value) (local_got t (half w) (Enl e) EnlistEnlisted) refl
+    (enlisted_leads e.value (is_some (latest decision_of w.past)) (has is_decision w.past) (is_promoting_now (observe w.past) && is_handed (handover w.past) e.value) own (has is_promoted w.past) (over t v)
+    (place_given (find (is_place_of e.value) (waiting w.calls w.past))) (decided_seen w.past) (ap (λ b. b && is_handed (handover w.past) e.value) (way_seen w.past))
+    (λ q. over_leads t (latest cause_of_promotion w.past) (flat_map (given t) v.waits)
+    (caused_way (is_some (latest cause_of_promotion w.past)) (has is_promoted w.past) (has is_promotion_failed w.past) (way_seen w.past ∙ and_left (is_under_way w.past) (is_handed (handover w.past) e.value) q)))
+    (λ d o. let s = f d o in (s.0, find_leads e.value (waiting w.calls w.past) s.1))) (silent_local_got t (half w) (Enl e) EnlistEnlisted) p
+arrived_paid t w (Enl e) EnlistPrepare f p = block_paid w.past (Got (Enl e) Down EnlistPrepare) (Asked e Prepare) [] p (eq_self e.value) refl
+arrived_paid t w Begin BeginCommitted f p =
+    let v = sees (half w) (Got Begin Down BeginCommitted) in
+    head_paid w.past (Got Begin Down BeginCommitted) (not (has is_decision w.past)) is_decided_committed (local_got t (half w) Begin BeginCommitted) refl
+    (committed_leads (is_some (latest decision_of w.past)) (has is_decision w.past) (is_promoting_now (observe w.past)) (is_under_way w.past) (ended v.waits Committed) (decided_seen w.past) (way_seen w.past) f)
+    (silent_local_got t (half w) Begin BeginCommitted) p
+arrived_paid t w c m f p = list_paid (Got c Down m ∷ w.past) (local_got t (half w) c m) (silent_local_got t (half w) c m) (single_paid w.past (Got c Down m) p refl)
+
+-- what must stand before a step: of a message that the local side gets next
+abbrev pub MayServe : World → Step → Type 0
+MayServe w (Delivers c Down) = (m : Message) → is_next m (in_transit c Down w.past) → Serves w.calls w.past c m
+MayServe w _ = Unit {0}
+
+delivered_paid : (t : ℕ) (w : World) (c : Conn) (d : Dir) (ms : List Message) → in_transit c d w.past ≡ ms → MayServe w (Delivers c d) → IsPaid w.past → IsPaid (onto w.past (delivered t w c d ms))
+delivered_paid t w c d [] e f p = list_paid (Ended c d ∷ w.past) (ended_at w c d) (silent_ended_at w c d) (silent_paid w.past (Ended c d ∷ []) p refl)
+delivered_paid t w c Up (m ∷ ms) e f p = core_paid t w c m p
+delivered_paid t w c Down (m ∷ ms) e f p = arrived_paid t w c m (f m (subst (is_next m) (sym e) refl)) p
+
+-- each step's block pays
+pub step_pays : (t : ℕ) (w : World) (m : Step) → MayServe w m → IsPaid w.past → IsPaid (after t w m).past
+unfolding after block_at
+step_pays t w (Calls n a c m) f p = called_paid t w n a c (answer_at t w c m) p
+step_pays t w (Replies e r) f p = reply_paid w.calls w.past e r p
+step_pays t w Acts f p = local_paid w p
+step_pays t w (Coordinates a) f p = coordinates_paid w.past a p
+step_pays t w (Delivers c d) f p = delivered_paid t w c d (in_transit c d w.past) refl f p
+step_pays t w Stops f p = silent_paid w.past (Stopped ∷ []) p refl
+step_pays t w (Restarts found) f p = list_paid w.past (restarted (core w).stopped found) (silent_restarted (core w).stopped found) p
