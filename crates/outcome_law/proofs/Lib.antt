@@ -70,3 +70,4 @@ pub mod ScriptCalls
 pub mod Promotions
 pub mod SilentBlocks
 pub mod PaidBlocks
+pub mod Handovers

@@ -58,6 +58,7 @@ use Rattle.dtx_model.specs.Replies.{ack_on, conn_due, due_of, is_volatile_row, o
 use Rattle.dtx_model.specs.Facts.{begin_promotion, durable_facts, facts_if, has_facts}
 use Rattle.dtx_model.specs.World.{World, answer_at, core, facts_at, half}
 use Rattle.dtx_model.specs.Steps.{LogAnswer, Done as LogDone, Full, StoppedNow, StoppedBefore, Step, Calls, Replies, Acts, Coordinates, Delivers, Stops, Restarts, after, appended, block_at, coordinates, delivered, ended_at, freed, got_by, restarted}
+use Rattle.dtx_model.specs.Caused.{Ran}
 use Rattle.dtx_model.proofs.Bools.{and_both, and_left, and_right, not_both, not_true, or_case}
 use Rattle.outcome_law.proofs.Lists.{has-insert}
 use Rattle.outcome_law.proofs.Owned.{has_rows}
@@ -367,7 +368,7 @@ abbrev pub is_manager_of : ℕ → EnlNo × RmNo → Bool
 is_manager_of e m = e == m.0.value
 
 abbrev pub Serves : List EnteredCall → List Entry → Conn → Message → Type 0
-Serves ks h Voter VoterCreated = (e : EnlNo) → handover h ≡ Some e → has (is_manager_of e.value) (managed ks h) ≡ true
+Serves ks h Voter VoterCreated = has is_promoted h ≡ false → (e : EnlNo) → handover h ≡ Some e → has (is_manager_of e.value) (managed ks h) ≡ true
 Serves ks h (Enl e) EnlistEnlisted =
     has is_decision h ≡ false → (is_under_way h && is_handed (handover h) e.value) ≡ false → (has is_promoted h ≡ true) × (has (is_place_of e.value) (waiting ks h) ≡ true)
 Serves ks h Begin BeginCommitted = has is_decision h ≡ false → is_under_way h ≡ false
@@ -402,10 +403,15 @@ going_leads q false false true false xs es e f g k = absurd cc
 going_leads q false false false true xs es e f g k = absurd cc
 going_leads q false false false false xs es e f g k = absurd cc
 
--- while it is under way there is a cause
+-- while it is under way there is a cause, and it isn't over
 caused_way : (a b c : Bool) → (a && not b && not c) ≡ true → a ≡ true
 caused_way true b c k = refl
 caused_way false b c k = absurd cc
+
+unpromoted_way : (a b c : Bool) → (a && not b && not c) ≡ true → b ≡ false
+unpromoted_way true true c k = absurd cc
+unpromoted_way true false c k = refl
+unpromoted_way false b c k = absurd cc
 
 committed_leads : (d n p u : Bool) (es : List Entry) → d ≡ n → p ≡ u → (n ≡ false → u ≡ false) → not n ≡ true → leads is_decided_committed (if d then [] else fails_if p ++ Decided Committed ∷ es) ≡ true
 committed_leads false false false u es e f g k = refl
@@ -446,7 +452,7 @@ arrived_paid t w Voter VoterCreated f p =
     head_paid w.past (Got Voter Down VoterCreated) (is_going_up w.past) (created_next (handover w.past)) (local_got t (half w) Voter VoterCreated) refl
     (going_leads (created_next (handover w.past)) (is_some (latest decision_of w.past)) (has is_decision w.past) (is_promoting_now (observe w.past)) (is_under_way w.past) []
     (hand_over t v (handover w.past)) (decided_seen w.past) (way_seen w.past)
-    (λ q. handed_leads t v (handover w.past) f (caused_way (is_some (latest cause_of_promotion w.past)) (has is_promoted w.past) (has is_promotion_failed w.past) (way_seen w.past ∙ q))))
+    (λ q. handed_leads t v (handover w.past) (f (unpromoted_way (has is_promoting w.past) (has is_promoted w.past) (has is_failed w.past) q)) (caused_way (is_some (latest cause_of_promotion w.past)) (has is_promoted w.past) (has is_promotion_failed w.past) (way_seen w.past ∙ q))))
     (silent_local_got t (half w) Voter VoterCreated) p
 arrived_paid t w (Enl e) EnlistEnlisted f p =
     let v = sees (half w) (Got (Enl e) Down EnlistEnlisted) in
@@ -485,3 +491,13 @@ step_pays t w (Coordinates a) f p = coordinates_paid w.past a p
 step_pays t w (Delivers c d) f p = delivered_paid t w c d (in_transit c d w.past) refl f p
 step_pays t w Stops f p = silent_paid w.past (Stopped ∷ []) p refl
 step_pays t w (Restarts found) f p = list_paid w.past (restarted (core w).stopped found) (silent_restarted (core w).stopped found) p
+
+-- the steps of a run, each of which has what must stand before it
+abbrev pub Served : (G : ℕ → ActorNo → Call → Type 0) (t : ℕ) (ms : List Step) (w : World) → Ran G t ms w → Type 0
+Served G t [] w r = Unit {0}
+Served G t (m ∷ ms) w r = MayServe r.0 m × Served G t ms r.0 r.1
+
+-- so each demand of a run is paid, and nothing is owed at its end
+pub ran_pays : (G : ℕ → ActorNo → Call → Type 0) (t : ℕ) (ms : List Step) (w : World) (r : Ran G t ms w) → Served G t ms w r → IsPaid w.past
+ran_pays G t [] w r f = subst IsPaid (sym r.1) (record { paid = refl; free = refl })
+ran_pays G t (m ∷ ms) w r f = subst (λ (x : World). IsPaid x.past) (sym r.3) (step_pays t r.0 m f.0 (ran_pays G t ms r.0 r.1 f.1))
