@@ -84,7 +84,7 @@ only_managed ms e xs k q = alone (lasting xs) (picked xs k) q
         step false k ih = and_both (has (is_manager_of x.number.value) ms) (each (λ x. has (is_manager_of x.number.value) ms) (lasting xs)) k ih
 
 -- an entry that is no call and makes no enlistment
-abbrev is_unmaking : Entry → Bool
+abbrev pub is_unmaking : Entry → Bool
 is_unmaking (Called n a x) = false
 is_unmaking (Enlisted e c) = false
 is_unmaking _ = true
@@ -94,7 +94,7 @@ plain_unmaking (Called n a x) p = absurd cc
 plain_unmaking (Enlisted e c) p = absurd cc
 plain_unmaking _ p = refl
 
-all_unmaking : {es : List Entry} → Plain es → each is_unmaking es ≡ true
+pub all_unmaking : {es : List Entry} → Plain es → each is_unmaking es ≡ true
 all_unmaking {es} p = each_more is_plain is_unmaking plain_unmaking es p.proof
 
 entry_managed : (ks : List EnteredCall) (x : Entry) (h : List Entry) → is_unmaking x ≡ true → AreManaged ks h → AreManaged ks (x ∷ h)
@@ -128,11 +128,11 @@ given_unmaking t [] = refl
 given_unmaking t ((n, Identifier) ∷ ws) = given_unmaking t ws
 given_unmaking t ((n, Place e r c) ∷ ws) = given_unmaking t ws
 
-over_unmaking : (t : ℕ) (o : Option Cause) (ws : List Waiter) → each is_unmaking (promoted_by t o ++ flat_map (given t) ws) ≡ true
+pub over_unmaking : (t : ℕ) (o : Option Cause) (ws : List Waiter) → each is_unmaking (promoted_by t o ++ flat_map (given t) ws) ≡ true
 over_unmaking t (Some c) ws = given_unmaking t ws
 over_unmaking t None ws = given_unmaking t ws
 
-handed_unmaking : (t : ℕ) (v : Half) (o : Option EnlNo) → each is_unmaking (hand_over t v o) ≡ true
+pub handed_unmaking : (t : ℕ) (v : Half) (o : Option EnlNo) → each is_unmaking (hand_over t v o) ≡ true
 handed_unmaking t v (Some e) = sent v.managers
   where
     sent : (ms : List (EnlNo × RmNo)) → each is_unmaking (by_manager (enlist_sent t) ms e) ≡ true

@@ -71,3 +71,4 @@ pub mod Promotions
 pub mod SilentBlocks
 pub mod PaidBlocks
 pub mod Handovers
+pub mod PaidRuns

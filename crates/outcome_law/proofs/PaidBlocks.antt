@@ -491,13 +491,3 @@ step_pays t w (Coordinates a) f p = coordinates_paid w.past a p
 step_pays t w (Delivers c d) f p = delivered_paid t w c d (in_transit c d w.past) refl f p
 step_pays t w Stops f p = silent_paid w.past (Stopped ∷ []) p refl
 step_pays t w (Restarts found) f p = list_paid w.past (restarted (core w).stopped found) (silent_restarted (core w).stopped found) p
-
--- the steps of a run, each of which has what must stand before it
-abbrev pub Served : (G : ℕ → ActorNo → Call → Type 0) (t : ℕ) (ms : List Step) (w : World) → Ran G t ms w → Type 0
-Served G t [] w r = Unit {0}
-Served G t (m ∷ ms) w r = MayServe r.0 m × Served G t ms r.0 r.1
-
--- so each demand of a run is paid, and nothing is owed at its end
-pub ran_pays : (G : ℕ → ActorNo → Call → Type 0) (t : ℕ) (ms : List Step) (w : World) (r : Ran G t ms w) → Served G t ms w r → IsPaid w.past
-ran_pays G t [] w r f = subst IsPaid (sym r.1) (record { paid = refl; free = refl })
-ran_pays G t (m ∷ ms) w r f = subst (λ (x : World). IsPaid x.past) (sym r.3) (step_pays t r.0 m f.0 (ran_pays G t ms r.0 r.1 f.1))

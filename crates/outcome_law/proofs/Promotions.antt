@@ -22,7 +22,7 @@ use Rattle.outcome_law.proofs.Debts.{owes_none, pays}
 use Rattle.outcome_law.proofs.OnTheWay.{is_on_its_way, is_unplaced}
 use Rattle.outcome_law.proofs.Rest.{is_after_start, is_begun, is_ordered, is_sound}
 use Rattle.outcome_law.proofs.Unblamed.{nothing_bad}
-use Rattle.outcome_law.proofs.SameRows.{is_made_once}
+use Rattle.outcome_law.proofs.SameRows.{is_asked_there, is_made_once}
 use Rattle.outcome_law.proofs.Owed.{is_asked_well}
 use Rattle.outcome_law.proofs.ClosedTables.{is_closed_well, none_open, sealed_zeros}
 use Rattle.outcome_law.proofs.Prepared.{ran_prepares}
@@ -41,6 +41,7 @@ pub record IsTabled (h : List Entry) : Type 0 where
   pub begun : always is_begun h ≡ true
   pub paying : always pays h ≡ true
   pub once : always is_made_once h ≡ true
+  pub there : always is_asked_there h ≡ true
   pub well : always is_asked_well h ≡ true
   pub shut : always is_closed_well h ≡ true
   pub free : owes_none h ≡ true
@@ -81,6 +82,7 @@ governed s k t h named c r can began =
       begun = r.begun;
       paying = r.paying;
       once = r.once;
+      there = r.there;
       well = r.well;
       run = run;
       zeros = sealed_zeros h r.shut;
