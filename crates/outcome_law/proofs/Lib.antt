@@ -72,3 +72,4 @@ pub mod SilentBlocks
 pub mod PaidBlocks
 pub mod Handovers
 pub mod PaidRuns
+pub mod OnceMade
