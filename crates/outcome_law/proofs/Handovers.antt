@@ -1,6 +1,6 @@
 -- In each world that steps make, until the promotion is over: each durable and promotable has the manager of its call, and so has the enlistment of the handover.
 use Rattle.std.proofs.Common.{◌≡◌, ℕ, ◌==◌, Bool, true, false, ◌&&◌, ◌||◌, List, [], ◌∷◌, ◌++◌, Option, Some, None, refl, ◌∙◌, ap, sym, subst}
-use Rattle.std.specs.Prelude.{filter, find, is_some, not, if◌then◌else◌}
+use Rattle.std.specs.Prelude.{find, is_some, not, if◌then◌else◌}
 use Rattle.std.specs.List.{flat_map}
 use Rattle.std.proofs.lemmas.Bool.{or_left}
 use Rattle.dtx_values.specs.declared.call.Call.{Call}
@@ -8,7 +8,7 @@ use Rattle.dtx_values.specs.declared.call.Call.TheVariants.{Volatile, Durable, P
 use Rattle.dtx_values.specs.declared.entry.Answer.{Answer}
 use Rattle.dtx_values.specs.declared.entry.Answer.TheVariants.{Fine, True, Wait}
 use Rattle.dtx_values.specs.declared.entry.Entry.{Entry}
-use Rattle.dtx_values.specs.declared.entry.Entry.TheVariants.{Called, Enlisted, Got, Init, Down as Ended, Promoted, Promoting, Stopped}
+use Rattle.dtx_values.specs.declared.entry.Entry.TheVariants.{Called, Enlisted, Got, Init, Down as Ended, Promoting, Stopped}
 use Rattle.dtx_values.specs.declared.message.Conn.{Conn}
 use Rattle.dtx_values.specs.declared.message.Conn.TheVariants.{Voter, Enl}
 use Rattle.dtx_values.specs.declared.message.Dir.{Dir}
@@ -26,7 +26,6 @@ use Rattle.dtx_values.specs.declared.words.Class.{Class}
 use Rattle.dtx_values.specs.declared.words.Class.TheVariants.{DurableSingle, Promotable as PromotableClass}
 use Rattle.dtx_values.specs.Class.{is_volatile}
 use Rattle.dtx_values.specs.Owners.{cause_of, lasting, only, owner_of}
-use Rattle.dtx_values.specs.Row.{is_lasting}
 use Rattle.dtx_values.specs.Support.{is_single}
 use Rattle.dtx_model.specs.declared.waiting.EnteredCall.{EnteredCall}
 use Rattle.dtx_model.specs.declared.waiting.Wanted.TheVariants.{Identifier, Place}
@@ -38,7 +37,7 @@ use Rattle.dtx_model.specs.Promotes.{identifier_of}
 use Rattle.dtx_model.specs.Wires.{in_transit}
 use Rattle.dtx_model.specs.Answers.{class_of}
 use Rattle.dtx_model.specs.Waiting.{Waiter, call_at, is_place_of, managed, managed_by}
-use Rattle.dtx_model.specs.Half.{Half, by_manager, enlist_sent, given, half_of, is_handed, is_promoting, over, promoted_by, sees}
+use Rattle.dtx_model.specs.Half.{Half, by_manager, enlist_sent, given, is_handed, is_promoting, over, promoted_by, sees}
 use Rattle.dtx_model.specs.Arrivals.{arrived, created, enlisted_at, hand_over, local_got, place_given}
 use Rattle.dtx_model.specs.Acts.{act_entries}
 use Rattle.dtx_model.specs.Replies.{reply_entries}
@@ -48,7 +47,7 @@ use Rattle.dtx_model.specs.Steps.{Step, Calls, Replies, Acts, Coordinates, Deliv
 use Rattle.dtx_model.specs.Caused.{MayCome, Ran}
 use Rattle.dtx_model.proofs.Bools.{and_both, and_left, and_right, not_both, or_right, or_second}
 use Rattle.dtx_model.proofs.Heeding.{fresh}
-use Rattle.outcome_law.proofs.Scans.{each-append, each_more}
+use Rattle.outcome_law.proofs.Scans.{each_more}
 use Rattle.outcome_law.proofs.Tests.{eq_self}
 use Rattle.outcome_law.proofs.TableRows.{each_rows}
 use Rattle.outcome_law.proofs.PlainBlocks.{Plain, is_plain, plain_act, plain_arrived, plain_begin_promotion, plain_called, plain_coordinates, plain_core_got, plain_ended_at, plain_reply, plain_restarted}

@@ -9,7 +9,7 @@ use Rattle.dtx_values.specs.declared.entry.Answer.{Answer}
 use Rattle.dtx_values.specs.declared.entry.Answer.TheVariants.{Fine, True, Wait}
 use Rattle.dtx_values.specs.declared.entry.Ask.TheVariants.{Prepare, Promote, Single as AskSingle}
 use Rattle.dtx_values.specs.declared.entry.Entry.{Entry}
-use Rattle.dtx_values.specs.declared.entry.Entry.TheVariants.{Acked, Answered, Asked, Called, Decided, Enlisted, Freed, Got, Down as Ended, LocalYes, Logged, LogFull, OwnerAnswered, Promoted, Promoting, PromoteReply, PromotionFailed, Requested, Sealed, Sent, Stopped, Voted}
+use Rattle.dtx_values.specs.declared.entry.Entry.TheVariants.{Acked, Asked, Called, Decided, Enlisted, Got, Down as Ended, LocalYes, LogFull, OwnerAnswered, Promoting, PromoteReply, PromotionFailed, Requested, Sealed, Sent, Stopped, Voted}
 use Rattle.dtx_values.specs.declared.message.Conn.{Conn}
 use Rattle.dtx_values.specs.declared.message.Conn.TheVariants.{Begin, Voter, Enl}
 use Rattle.dtx_values.specs.declared.message.Dir.{Dir}
@@ -43,33 +43,32 @@ use Rattle.dtx_model.specs.declared.desk.Stage.{Stage}
 use Rattle.dtx_model.specs.declared.desk.Stage.TheVariants.{Aborted as AbortedStage, Active, Idle, Over, Recorded, Unknown}
 use Rattle.dtx_model.specs.declared.waiting.EnteredCall.{EnteredCall}
 use Rattle.dtx_model.specs.declared.waiting.Wanted.TheVariants.{Identifier, Place}
-use Rattle.dtx_model.specs.Words.{each, has, latest, onto}
+use Rattle.dtx_model.specs.Words.{has, latest, onto}
 use Rattle.dtx_model.specs.Entries.{decision_of, is_decision, is_promoted}
 use Rattle.dtx_model.specs.Observed.{cause_of_promotion, ends_of, handover, is_promotion_failed, observe, rows, track}
 use Rattle.dtx_model.specs.Outcome.{enlisted}
 use Rattle.dtx_model.specs.Promotes.{identifier_of, is_failed, is_promoting, is_under_way}
 use Rattle.dtx_model.specs.Wires.{in_transit, is_next}
-use Rattle.dtx_model.specs.Coordinated.{Coordinated, abort_sends, commit_sends, coordinate, core_got, follow, is_active, may_log, opening_by, to, to_each, without}
+use Rattle.dtx_model.specs.Coordinated.{Coordinated, abort_sends, coordinate, core_got, follow, is_active, may_log, opening_by, to_each, without}
 use Rattle.dtx_model.specs.Waiting.{Waiter, is_place_of, managed, waiting}
 use Rattle.dtx_model.specs.Half.{Half, by_manager, decide, ended, enlist_sent, fails_if, given, half_of, is_handed, is_promoting as is_promoting_now, over, promoted_by, sees, to_up, veto_if}
-use Rattle.dtx_model.specs.Arrivals.{arrived, begun, created, enlisted_at, hand_over, local_got, place_given}
-use Rattle.dtx_model.specs.Acts.{act_by, act_entries, after_seal, ask_or, asked_act, commit_act, commit_sent, is_to_tell, promotable_in, promoted_act, sealed_act, tell, unasked_promotable, under_way, undecided_act, voter_act, yes_act}
-use Rattle.dtx_model.specs.Replies.{ack_on, conn_due, due_of, is_volatile_row, owner_entries, promote_entries, reply_entries, request_message, request_of, vote_message, voted_by}
+use Rattle.dtx_model.specs.Arrivals.{hand_over, local_got, place_given}
+use Rattle.dtx_model.specs.Acts.{act_by, act_entries, after_seal, ask_or, asked_act, commit_act, commit_sent, is_to_tell, promotable_in, promoted_act, sealed_act, unasked_promotable, under_way, undecided_act, voter_act, yes_act}
+use Rattle.dtx_model.specs.Replies.{ack_on, conn_due, due_of, is_volatile_row, owner_entries, reply_entries, request_message, request_of, vote_message, voted_by}
 use Rattle.dtx_model.specs.Facts.{begin_promotion, durable_facts, facts_if, has_facts}
 use Rattle.dtx_model.specs.World.{World, answer_at, core, facts_at, half}
-use Rattle.dtx_model.specs.Steps.{LogAnswer, Done as LogDone, Full, StoppedNow, StoppedBefore, Step, Calls, Replies, Acts, Coordinates, Delivers, Stops, Restarts, after, appended, block_at, coordinates, delivered, ended_at, freed, got_by, restarted}
-use Rattle.dtx_model.specs.Caused.{Ran}
-use Rattle.dtx_model.proofs.Bools.{and_both, and_left, and_right, not_both, not_true, or_case}
+use Rattle.dtx_model.specs.Steps.{LogAnswer, Done as LogDone, Full, StoppedNow, StoppedBefore, Step, Calls, Replies, Acts, Coordinates, Delivers, Stops, Restarts, after, appended, block_at, coordinates, delivered, ended_at, freed, restarted}
+use Rattle.dtx_model.proofs.Bools.{and_both, and_left, not_both}
 use Rattle.outcome_law.proofs.Lists.{has-insert}
 use Rattle.outcome_law.proofs.Owned.{has_rows}
 use Rattle.outcome_law.proofs.Tests.{eq_self}
 use Rattle.outcome_law.proofs.Rule.{is_enlisted}
 use Rattle.outcome_law.proofs.Connections.{same_self}
 use Rattle.outcome_law.proofs.Whole.{is_sent_on}
-use Rattle.outcome_law.proofs.Messages.{ASK, BEGIN, BEGUN, COMMIT, COMMITTED, ENLIST, ENLIST_ANSWER, VOTE, VOTER, VOTER_ANSWER, YES}
+use Rattle.outcome_law.proofs.Messages.{ASK, BEGIN, BEGUN, COMMIT, ENLIST, ENLIST_ANSWER, VOTE, VOTER, VOTER_ANSWER, YES}
 use Rattle.outcome_law.proofs.Debts.{created_next, debt, enlisted_next, has_promotable, is_decided_committed, is_free, is_going_up, is_volatile_made, knows_there, meets, when}
-use Rattle.outcome_law.proofs.Paid.{IsPaid, block_paid, is_silent, logged_paid, silent_paid, single_paid}
-use Rattle.outcome_law.proofs.SilentBlocks.{Silent, may_begin, silent_abort, silent_ack, silent_after_seal, silent_arrived, silent_called, silent_commit_act, silent_core_got, silent_decide, silent_ended_at, silent_freed, silent_local_got, silent_one, silent_restarted, silent_tell, silent_veto, silent_veto_if}
+use Rattle.outcome_law.proofs.Paid.{IsPaid, block_paid, logged_paid, silent_paid, single_paid}
+use Rattle.outcome_law.proofs.SilentBlocks.{Silent, silent_abort, silent_ack, silent_called, silent_commit_act, silent_core_got, silent_decide, silent_ended_at, silent_freed, silent_local_got, silent_one, silent_restarted, silent_tell, silent_veto, silent_veto_if}
 
 -- the list begins with an entry that passes
 abbrev leads : (Entry → Bool) → List Entry → Bool

@@ -1,24 +1,23 @@
 -- In each world that steps make each demand is paid, and nothing is owed, where what must stand before ENLISTED and COMMITTED did.
-use Rattle.std.proofs.Common.{◌≡◌, ℕ, ◌==◌, Bool, true, false, ◌&&◌, List, [], ◌∷◌, Option, Some, refl, sym, subst}
+use Rattle.std.proofs.Common.{◌≡◌, ℕ, true, false, ◌&&◌, List, [], ◌∷◌, refl, sym, subst}
 use Rattle.dtx_values.specs.declared.call.Call.{Call}
 use Rattle.dtx_values.specs.declared.entry.Entry.{Entry}
 use Rattle.dtx_values.specs.declared.message.Conn.{Conn}
 use Rattle.dtx_values.specs.declared.message.Conn.TheVariants.{Begin, Voter, Enl}
-use Rattle.dtx_values.specs.declared.message.Dir.TheVariants.{Up, Down}
+use Rattle.dtx_values.specs.declared.message.Dir.TheVariants.{Down}
 use Rattle.dtx_values.specs.declared.message.Message.{Message}
 use Rattle.dtx_values.specs.declared.message.Message.TheVariants.{BeginCommitted, EnlistEnlisted, VoterCreated}
 use Rattle.dtx_values.specs.declared.number.ActorNo.{ActorNo}
-use Rattle.dtx_values.specs.declared.number.EnlNo.{EnlNo}
 use Rattle.dtx_model.specs.declared.waiting.EnteredCall.{EnteredCall}
 use Rattle.dtx_model.specs.Words.{has}
 use Rattle.dtx_model.specs.Entries.{is_decision, is_promoted}
 use Rattle.dtx_model.specs.Observed.{handover}
 use Rattle.dtx_model.specs.Promotes.{is_under_way}
 use Rattle.dtx_model.specs.Wires.{in_transit, is_next}
-use Rattle.dtx_model.specs.Waiting.{is_place_of, managed, waiting}
+use Rattle.dtx_model.specs.Waiting.{is_place_of, waiting}
 use Rattle.dtx_model.specs.Half.{is_handed}
 use Rattle.dtx_model.specs.World.{World}
-use Rattle.dtx_model.specs.Steps.{Step, Calls, Replies, Acts, Coordinates, Delivers, Stops, Restarts}
+use Rattle.dtx_model.specs.Steps.{Step, Delivers}
 use Rattle.dtx_model.specs.Caused.{Ran}
 use Rattle.outcome_law.proofs.Paid.{IsPaid}
 use Rattle.outcome_law.proofs.PaidBlocks.{MayServe, Serves, step_pays}

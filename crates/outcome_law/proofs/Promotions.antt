@@ -22,7 +22,7 @@ use Rattle.outcome_law.proofs.Debts.{owes_none, pays}
 use Rattle.outcome_law.proofs.OnTheWay.{is_on_its_way, is_unplaced}
 use Rattle.outcome_law.proofs.Rest.{is_after_start, is_begun, is_ordered, is_sound}
 use Rattle.outcome_law.proofs.Unblamed.{nothing_bad}
-use Rattle.outcome_law.proofs.SameRows.{is_asked_there, is_made_once}
+use Rattle.outcome_law.proofs.SameRows.{is_asked_there}
 use Rattle.outcome_law.proofs.Owed.{is_asked_well}
 use Rattle.outcome_law.proofs.ClosedTables.{is_closed_well, none_open, sealed_zeros}
 use Rattle.outcome_law.proofs.Prepared.{ran_prepares}
