@@ -73,3 +73,4 @@ pub mod PaidBlocks
 pub mod Handovers
 pub mod PaidRuns
 pub mod OnceMade
+pub mod Counted
