@@ -75,3 +75,5 @@ pub mod PaidRuns
 pub mod OnceMade
 pub mod Counted
 pub mod DecidingBlocks
+pub mod Coming
+pub mod ComingRuns

@@ -124,7 +124,7 @@ maker_more G ks h q x m = record {
   called = or_right (is_call m.number x) (has (is_call m.number) h) m.called;
 }
 
-waiter_more : (G : ℕ → ActorNo → Call → Type 0) (ks : List EnteredCall) (h : List Entry) (x : Entry) (v : Waiter) → IsWaiter G ks h v → IsWaiter G ks (x ∷ h) v
+pub waiter_more : (G : ℕ → ActorNo → Call → Type 0) (ks : List EnteredCall) (h : List Entry) (x : Entry) (v : Waiter) → IsWaiter G ks h v → IsWaiter G ks (x ∷ h) v
 waiter_more G ks h x v w = record { actor = w.actor; call = w.call; may = w.may; entered = w.entered; wants = w.wants; called = or_right (is_call v.0 x) (has (is_call v.0) h) w.called }
 
 -- with one more call whose line hasn't come
@@ -169,7 +169,7 @@ call_made G ks h k new a =
     }
 
 -- what holds of each holds of each that is left
-of-filter : {A : Type 0} (P : A → Type 0) (q : A → Bool) (xs : List A) → OfEach P xs → OfEach P (filter q xs)
+pub of-filter : {A : Type 0} (P : A → Type 0) (q : A → Bool) (xs : List A) → OfEach P xs → OfEach P (filter q xs)
 of-filter P q [] w = tt
 of-filter P q (x ∷ xs) w = step P (q x) x (filter q xs) w.0 (of-filter P q xs w.1)
   where

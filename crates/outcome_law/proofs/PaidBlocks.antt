@@ -116,7 +116,7 @@ failed_seen (x ∷ h) = ap (λ b. is_promotion_failed x || b) (failed_seen h) �
     one PromotionFailed = refl
     one _ = refl
 
-way_seen : (h : List Entry) → is_promoting_now (observe h) ≡ is_under_way h
+pub way_seen : (h : List Entry) → is_promoting_now (observe h) ≡ is_under_way h
 unfolding observe
 way_seen h = ap (λ b. b && not (has is_promoted h) && not (has is_promotion_failed h)) (began_seen h) ∙ ap (λ b. has is_promoting h && not (has is_promoted h) && not b) (failed_seen h)
 
@@ -403,7 +403,7 @@ going_leads q false false false true xs es e f g k = absurd cc
 going_leads q false false false false xs es e f g k = absurd cc
 
 -- while it is under way there is a cause, and it isn't over
-caused_way : (a b c : Bool) → (a && not b && not c) ≡ true → a ≡ true
+pub caused_way : (a b c : Bool) → (a && not b && not c) ≡ true → a ≡ true
 caused_way true b c k = refl
 caused_way false b c k = absurd cc
 

@@ -52,7 +52,7 @@ rising_before o x h r = record {
     same x h o p b e = e
 
 -- what was got was sent after `promoting`
-sent_after_start : (c : Conn) (d : Dir) (p : Message → Bool) (h : List Entry) → always is_after_start h ≡ true → has (is_sent_on c d p) h ≡ true → has is_promoting h ≡ true
+pub sent_after_start : (c : Conn) (d : Dir) (p : Message → Bool) (h : List Entry) → always is_after_start h ≡ true → has (is_sent_on c d p) h ≡ true → has is_promoting h ≡ true
 sent_after_start c d p [] b k = absurd cc
 sent_after_start c d p (Sent e r m ∷ h) b k = and_left (has is_promoting h) (always is_after_start h) b
 sent_after_start c d p (x ∷ h) b k = or_right (is_promoting x) (has is_promoting h) (sent_after_start c d p h (and_right (is_after_start h x) (always is_after_start h) b) k)

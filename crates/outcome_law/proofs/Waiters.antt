@@ -161,7 +161,7 @@ abbrev pub is_durable_call : Call → Bool
 is_durable_call (Durable u e r s) = true
 is_durable_call _ = false
 
-seen_promoted : (w : World) → (half w).seen.promoted ≡ has is_promoted w.past
+pub seen_promoted : (w : World) → (half w).seen.promoted ≡ has is_promoted w.past
 unfolding observe
 seen_promoted w = refl
 
