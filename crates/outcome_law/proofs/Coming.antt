@@ -1,23 +1,17 @@
 -- In each world that steps make, until something is decided: an enlistment whose ENLIST was sent and whose ENLISTED wasn't got is that of the handover, while the
 -- promotion is under way, or its call waits, after it.
-use Rattle.std.proofs.Common.{◌≡◌, ℕ, ◌==◌, Bool, true, false, ◌&&◌, ◌||◌, List, [], ◌∷◌, ◌++◌, Option, Some, None, refl, ◌∙◌, ap, sym, subst}
-use Rattle.std.specs.Prelude.{filter, find, is_some, not, if◌then◌else◌}
-use Rattle.std.specs.List.{flat_map}
-use Rattle.std.proofs.lemmas.Bool.{eq-eqb, eqb-true, false_from_ne_true, or_left}
+use Rattle.std.proofs.Common.{◌≡◌, ℕ, ◌==◌, Bool, true, false, ◌&&◌, ◌||◌, List, [], ◌∷◌, Some, refl, ◌∙◌, ap, sym, subst}
+use Rattle.std.specs.Prelude.{filter, not, if◌then◌else◌}
+use Rattle.std.proofs.lemmas.Bool.{eqb-true, or_left}
 use Rattle.dtx_values.specs.declared.call.Call.{Call}
-use Rattle.dtx_values.specs.declared.entry.Answer.{Answer}
-use Rattle.dtx_values.specs.declared.entry.Answer.TheVariants.{Fine, Id, Wait}
 use Rattle.dtx_values.specs.declared.entry.Entry.{Entry}
-use Rattle.dtx_values.specs.declared.entry.Entry.TheVariants.{Answered, Called, Decided, Enlisted, Got, Promoted, PromotionFailed, Promoting, Sent}
-use Rattle.dtx_values.specs.declared.message.Conn.{Conn}
+use Rattle.dtx_values.specs.declared.entry.Entry.TheVariants.{Answered, Called, Promoted, PromotionFailed, Promoting, Sent}
 use Rattle.dtx_values.specs.declared.message.Conn.TheVariants.{Enl}
 use Rattle.dtx_values.specs.declared.message.Dir.TheVariants.{Up, Down}
-use Rattle.dtx_values.specs.declared.message.Message.{Message}
 use Rattle.dtx_values.specs.declared.message.Message.TheVariants.{EnlistEnlist}
 use Rattle.dtx_values.specs.declared.number.ActorNo.{ActorNo}
 use Rattle.dtx_values.specs.declared.number.EnlNo.{EnlNo}
 use Rattle.dtx_values.specs.declared.number.RmNo.{RmNo}
-use Rattle.dtx_values.specs.declared.words.Cause.{Cause}
 use Rattle.dtx_values.specs.declared.words.Class.{Class}
 use Rattle.dtx_values.specs.Ends.{same_connection}
 use Rattle.dtx_model.specs.declared.waiting.EnteredCall.{EnteredCall}
@@ -26,14 +20,13 @@ use Rattle.dtx_model.specs.declared.waiting.Wanted.TheVariants.{Identifier, Plac
 use Rattle.dtx_model.specs.Words.{always, each, has, onto}
 use Rattle.dtx_model.specs.Entries.{is_decision, is_promoted}
 use Rattle.dtx_model.specs.Observed.{handover}
-use Rattle.dtx_model.specs.Promotes.{identifier_of, is_failed, is_promoting, is_under_way}
-use Rattle.dtx_model.specs.Waiting.{Waiter, call_at, is_place_of, waiter_line, waiting, wanted, wanted_by}
-use Rattle.dtx_model.specs.Half.{by_manager, enlist_sent, given, info, is_handed, promoted_by}
-use Rattle.dtx_model.proofs.Bools.{and_both, and_left, and_right, not_both, not_true, or_case, or_first, or_right, or_second}
+use Rattle.dtx_model.specs.Promotes.{is_promoting, is_under_way}
+use Rattle.dtx_model.specs.Waiting.{Waiter, call_at, is_place_of, waiting, wanted_by}
+use Rattle.dtx_model.specs.Half.{by_manager, enlist_sent, info, is_handed}
+use Rattle.dtx_model.proofs.Bools.{and_left, and_right, not_both, not_true, or_case, or_first, or_right, or_second}
 use Rattle.dtx_model.proofs.Reading.{has-onto}
-use Rattle.outcome_law.proofs.Lists.{OfEach, has-insert}
+use Rattle.outcome_law.proofs.Lists.{OfEach}
 use Rattle.outcome_law.proofs.Scans.{each_both}
-use Rattle.outcome_law.proofs.Tests.{eq_self}
 use Rattle.outcome_law.proofs.Whole.{is_got_on, is_sent_on}
 use Rattle.outcome_law.proofs.Messages.{ENLIST, ENLISTED}
 use Rattle.outcome_law.proofs.Rest.{is_after_start}

@@ -43,7 +43,7 @@ use Rattle.dtx_model.proofs.Heeding.{fresh}
 use Rattle.outcome_law.proofs.Picks.{found_at}
 use Rattle.outcome_law.proofs.Lists.{has-insert, of-more}
 use Rattle.outcome_law.proofs.Rest.{is_after_start}
-use Rattle.outcome_law.proofs.PlainBlocks.{is_giving, is_making, plain_act, plain_arrived, plain_begin_promotion, plain_called, plain_coordinates, plain_core_got, plain_ended_at, plain_reply, plain_restarted}
+use Rattle.outcome_law.proofs.PlainBlocks.{plain_act, plain_arrived, plain_begin_promotion, plain_called, plain_coordinates, plain_core_got, plain_ended_at, plain_reply, plain_restarted}
 use Rattle.outcome_law.proofs.DecidingBlocks.{kept_act, kept_arrived, kept_begin_promotion, kept_called, kept_coordinates, kept_core_got, kept_ended_at, kept_reply, kept_restarted}
 use Rattle.outcome_law.proofs.PaidBlocks.{caused_way, way_seen}
 use Rattle.outcome_law.proofs.PaidRuns.{IsMet}
@@ -59,7 +59,7 @@ use Rattle.dtx_model.specs.Observed.{handover}
 use Rattle.dtx_model.specs.Promotes.{identifier_of, is_failed, is_promoting, is_under_way}
 use Rattle.dtx_model.specs.Waiting.{Waiter, is_place_of, waiting}
 use Rattle.dtx_model.specs.Half.{given, info, is_handed, promoted_by}
-use Rattle.dtx_model.proofs.Bools.{and_both, and_left, and_right, not_both, or_case, or_right, or_second}
+use Rattle.dtx_model.proofs.Bools.{and_both, and_left, and_right, not_both, or_case, or_right}
 use Rattle.outcome_law.proofs.Lists.{OfEach}
 use Rattle.outcome_law.proofs.Scans.{each_more}
 use Rattle.outcome_law.proofs.Tests.{eq_self}
@@ -68,7 +68,7 @@ use Rattle.outcome_law.proofs.Whole.{is_got_on, is_sent_on}
 use Rattle.outcome_law.proofs.Messages.{ENLIST, ENLISTED}
 use Rattle.outcome_law.proofs.Prepared.{has_after}
 use Rattle.outcome_law.proofs.Makers.{IsWaiter, of-filter}
-use Rattle.outcome_law.proofs.Coming.{AreComing, is_coming, keep_place}
+use Rattle.outcome_law.proofs.Coming.{AreComing, keep_place}
 
 -- Where the promotion is over: each whose ENLIST was sent and whose ENLISTED wasn't got is one whose call waits.
 abbrev ArePlaces : List EnteredCall → List Entry → Type 0

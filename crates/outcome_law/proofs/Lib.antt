@@ -77,3 +77,4 @@ pub mod Counted
 pub mod DecidingBlocks
 pub mod Coming
 pub mod ComingRuns
+pub mod Meeting

@@ -2,7 +2,6 @@
 use Rattle.std.proofs.Common.{◌≡◌, ℕ, true, false, ◌&&◌, List, [], ◌∷◌, refl, sym, subst}
 use Rattle.dtx_values.specs.declared.call.Call.{Call}
 use Rattle.dtx_values.specs.declared.entry.Entry.{Entry}
-use Rattle.dtx_values.specs.declared.entry.Entry.TheVariants.{Got}
 use Rattle.dtx_values.specs.declared.message.Conn.{Conn}
 use Rattle.dtx_values.specs.declared.message.Conn.TheVariants.{Begin, Voter, Enl}
 use Rattle.dtx_values.specs.declared.message.Dir.TheVariants.{Down}
@@ -24,7 +23,7 @@ use Rattle.std.specs.Prelude.{Bool, not}
 use Rattle.outcome_law.proofs.Messages.{COMMITTED}
 use Rattle.outcome_law.proofs.Fine.{IsFine}
 use Rattle.outcome_law.proofs.Rest.{is_sound}
-use Rattle.outcome_law.proofs.Unblamed.{fine_before, got_sent}
+use Rattle.outcome_law.proofs.Unblamed.{got_sent}
 use Rattle.outcome_law.proofs.Committed.{committed_promoted, is_recorded_first}
 use Rattle.outcome_law.proofs.Paid.{IsPaid}
 use Rattle.outcome_law.proofs.PaidBlocks.{MayServe, Serves, step_pays}
@@ -64,10 +63,10 @@ ran_pays G t (m ∷ ms) w r f =
     subst (λ (x : World). IsPaid x.past) (sym r.3) (step_pays t r.0 m (step_served r.0 m (ran_managed G t ms r.0 r.1) f.0) (ran_pays G t ms r.0 r.1 f.1))
 
 -- What must stand before COMMITTED does, by the table of rules, where nothing bad came.
-pub committed_met : (h : List Entry) → IsFine (Got Begin Down BeginCommitted ∷ h) → always is_sound h ≡ true → always is_recorded_first h ≡ true → is_under_way h ≡ false
-committed_met h f s r =
+pub committed_met : (h : List Entry) → IsFine h → is_next BeginCommitted (in_transit Begin Down h) → always is_sound h ≡ true → always is_recorded_first h ≡ true → is_under_way h ≡ false
+committed_met h f n s r =
     over (has is_promoting h) (has is_promoted h) (has is_failed h)
-    (committed_promoted h (fine_before (Got Begin Down BeginCommitted) h f) s r (got_sent Begin Down BeginCommitted COMMITTED h f.run.0 refl))
+    (committed_promoted h f s r (got_sent Begin Down BeginCommitted COMMITTED h n refl))
   where
     over : (a b c : Bool) → b ≡ true → (a && not b && not c) ≡ false
     over true b c k = rw k refl
