@@ -3,6 +3,9 @@ use Rattle.std.proofs.Common.{◌≡◌, ℕ, true, List, subst}
 use Rattle.dtx_values.specs.declared.call.Call.{Call}
 use Rattle.dtx_values.specs.declared.call.Call.TheVariants.{Volatile, Durable, Promotable}
 use Rattle.dtx_values.specs.declared.entry.Entry.{Entry}
+use Rattle.dtx_values.specs.declared.message.Conn.TheVariants.{Enl}
+use Rattle.dtx_values.specs.declared.message.Dir.TheVariants.{Down}
+use Rattle.dtx_values.specs.declared.number.EnlNo.{EnlNo}
 use Rattle.dtx_values.specs.declared.script.Line.{Line}
 use Rattle.dtx_values.specs.declared.words.Outcome.TheVariants.{Committed}
 use Rattle.dtx_model.specs.Words.{always, each, has}
@@ -16,9 +19,8 @@ use Rattle.dtx_model.specs.History.{CanCommit}
 use Rattle.dtx_model.proofs.Quiet.{wire_run_of}
 use Rattle.outcome_law.proofs.Names.{call_makes, script_once}
 use Rattle.outcome_law.proofs.Planned.{plan_same}
-use Rattle.outcome_law.proofs.Whole.{is_opened_once, whole_of}
+use Rattle.outcome_law.proofs.Whole.{is_opened_once, is_sent_on, whole_of}
 use Rattle.outcome_law.proofs.Fine.{IsFine, is_caused}
-use Rattle.outcome_law.proofs.Debts.{owes_none, pays}
 use Rattle.outcome_law.proofs.OnTheWay.{is_on_its_way, is_unplaced}
 use Rattle.outcome_law.proofs.Rest.{is_after_start, is_begun, is_ordered, is_sound}
 use Rattle.outcome_law.proofs.Unblamed.{nothing_bad}
@@ -30,9 +32,13 @@ use Rattle.outcome_law.proofs.Waiters.{ran_waits}
 use Rattle.outcome_law.proofs.Makers.{AreMade, all_lasting, all_unplaced, makes_enlistment, ran_made}
 use Rattle.outcome_law.proofs.ScriptCalls.{waiting_read}
 use Rattle.outcome_law.proofs.OnceMade.{ran_once}
+use Rattle.outcome_law.proofs.Committed.{is_recorded_first}
+use Rattle.outcome_law.proofs.Messages.{ENLISTED}
+use Rattle.outcome_law.proofs.Counted.{is_once}
+use Rattle.outcome_law.proofs.Meeting.{ran_paid}
 use Rattle.outcome_law.proofs.Idle.{IsGoverned, settled_commits}
 
--- Each row of the table of rules that completeness makes use of, and that nothing is owed at the end of a block.
+-- Each row of the table of rules that completeness makes use of.
 pub record IsTabled (h : List Entry) : Type 0 where
   pub opened : always is_opened_once h ≡ true
   pub caused : always is_caused h ≡ true
@@ -40,11 +46,11 @@ pub record IsTabled (h : List Entry) : Type 0 where
   pub sound : always is_sound h ≡ true
   pub ordered : always is_ordered h ≡ true
   pub begun : always is_begun h ≡ true
-  pub paying : always pays h ≡ true
+  pub recorded : always is_recorded_first h ≡ true
+  pub placed : (e : EnlNo) → always (is_once (is_sent_on (Enl e) Down ENLISTED)) h ≡ true
   pub there : always is_asked_there h ≡ true
   pub well : always is_asked_well h ≡ true
   pub shut : always is_closed_well h ≡ true
-  pub free : owes_none h ≡ true
 
 -- who made an enlistment called
 maker_called : (e : ℕ) (c : Call) → makes_enlistment e c ≡ true → call_makes (OfEnlistment e) c ≡ true
@@ -73,6 +79,7 @@ governed s k t h named c r can began =
       in_time = can.in_time;
       unbad = nothing_bad (plans_of s) h whole run can.in_time can.ended_by_none can.unlost r.caused can.planned can.willing;
     } in
+    let pays = ran_paid G t steps w ran (record { fine = fine; later = r.later; sound = r.sound; recorded = r.recorded; once = r.placed; }) in
     record {
       opened = r.opened;
       caused = r.caused;
@@ -80,14 +87,14 @@ governed s k t h named c r can began =
       sound = r.sound;
       ordered = r.ordered;
       begun = r.begun;
-      paying = r.paying;
+      paying = pays.paid;
       once = ran_once G t steps w once ran;
       there = r.there;
       well = r.well;
       run = run;
       zeros = sealed_zeros h r.shut;
       closed = none_open h r.shut can.completed;
-      free = r.free;
+      free = pays.free;
       waits = λ p. subst (λ (ws : List Waiter). each (is_on_its_way h) ws ≡ true) same (ran_waits G t steps w ran p);
       unplaced = subst (λ (ws : List Waiter). each (is_unplaced h) ws ≡ true) same (all_unplaced G calls h once made);
       prepares = λ n. ran_prepares G t steps w ran (record { fine = fine; sound = r.sound; ordered = r.ordered; begun = r.begun; unlogged = n });
