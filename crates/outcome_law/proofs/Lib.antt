@@ -78,3 +78,4 @@ pub mod DecidingBlocks
 pub mod Coming
 pub mod ComingRuns
 pub mod Meeting
+pub mod Completes
