@@ -106,7 +106,6 @@ kept_decide h x = record { proof = step (is_promoting h.seen) (ended h.waits x) 
     step true es = refl
     step false es = refl
 
-
 -- the coordinator's blocks
 kept_to : (k : Coordinated) (c : Conn) (m : Message) → Keeps (to k c m)
 kept_to k c m = kept_if (has (same_connection c) k.known) (kept_one (Sent c Down m) refl) kept_none

@@ -79,7 +79,7 @@ governed s k t h named c r can began =
       in_time = can.in_time;
       unbad = nothing_bad (plans_of s) h whole run can.in_time can.ended_by_none can.unlost r.caused can.planned can.willing;
     } in
-    let pays = ran_paid G t steps w ran (record { fine = fine; later = r.later; sound = r.sound; recorded = r.recorded; once = r.placed; }) in
+    let pays = ran_paid G t steps w ran (record { fine = fine; later = r.later; sound = r.sound; recorded = r.recorded; once = r.placed }) in
     record {
       opened = r.opened;
       caused = r.caused;

@@ -21,6 +21,7 @@ use Rattle.dtx_model.proofs.Cast.{a1, id1, says, t1}
 use Rattle.dtx_model.proofs.Computing.{model}
 use Rattle.dtx_model.proofs.Crossing.{wired}
 use Rattle.outcome_law.proofs.Rest.{IsAtRest}
+use Rattle.outcome_law.proofs.Promotions.{IsTabled}
 
 abbrev lines : List Line
 lines = says a1 (BeginLine t1 Default) ∷ says a1 (MarshalLine t1) ∷ says a1 (CommitLine t1) ∷ []
@@ -70,3 +71,8 @@ marshalled_rests = record {
   can = record { asked = refl; in_time = refl; completed = refl; willing = refl; planned = refl; ended_by_none = refl; unlost = refl };
   started = refl;
 }
+
+-- and it keeps the table of rules
+marshalled_tabled : IsTabled (past_of marshalled)
+unfolding model
+marshalled_tabled = record { opened = refl; caused = refl; later = refl; sound = refl; ordered = refl; begun = refl; recorded = refl; placed = λ e. refl; there = refl; well = refl; shut = refl }
