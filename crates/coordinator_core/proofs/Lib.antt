@@ -1,0 +1,5 @@
+pub mod Writing
+pub mod Kinds
+pub mod Following
+pub mod Left
+pub mod Loops
