@@ -60,10 +60,10 @@ unlined k (Again e) m none = refl
 
 -- what is written after it
 pub unlined_block : (id : ℕ) (k : Coordinated) (c : Conn) (m : Message) → has_line c Up m ≡ false → core_got id k c m ≡ abort_block (is_early k c) (closed c k)
+unfolding core_got
 unlined_block id k c m none = by c m none ∙ ap (λ (s : Coordinated). abort_block (is_early k c) s) (ap (λ (s : Coordinated). record s { stage = k.stage }) (unlined k c m none))
   where
     by : (c : Conn) (m : Message) → has_line c Up m ≡ false → core_got id k c m ≡ abort_block (is_early k c) (record (follow k (Got c Up m)) { stage = k.stage })
-    unfolding core_got
     by Begin BeginBegin none = absurd cc
     by Begin BeginCommit none = absurd cc
     by Begin BeginAbort none = absurd cc

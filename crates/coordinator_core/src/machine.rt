@@ -14,9 +14,7 @@ use crate::lists::{is_known, is_same};
 use crate::stages::{is_active, is_recorded};
 use arrayvec::ArrayVec;
 use dtx_model::{Desk, Stage};
-use dtx_values::{
-    CONNECTIONS, Conn, DURABLES, EnlNo, Message, RmNo, TxNo, has_line, is_opening,
-};
+use dtx_values::{CONNECTIONS, Conn, DURABLES, EnlNo, Message, RmNo, TxNo, has_line, is_opening};
 use std::marker::Model;
 
 mod arrivals;
@@ -155,7 +153,10 @@ impl Core {
     {
         !self.stopped
             && is_recorded(self.stage)
-            && self.desks.iter().all(|d| !is_prepared(d.ballot) || self.is_finished(d))
+            && self
+                .desks
+                .iter()
+                .all(|d| !is_prepared(d.ballot) || self.is_finished(d))
     }
 
     /// Whether it acknowledged the commit in this life of the coordinator, or its manager has recovered.

@@ -68,7 +68,7 @@ pub(crate) enum Opening {
 }
 
 /// The answer to VOTER or ENLIST at this stage, where COMMIT was got or not.
-pub(crate) fn opening(s: Stage, commit: bool) -> Opening
+pub(crate) fn opening_at(s: Stage, commit: bool) -> Opening
     ensures { (good abort : Message) (refused : ℕ → Message) → said result good abort refused ≡ opening_by s commit good abort refused }
 {
     match s {

@@ -23,50 +23,92 @@ fn core(rt: &impl Abort) -> Core {
     Core::new(TxNo::new(1).expect(rt, "no such number"))
 }
 
-/// Lets each message come in turn, and compares what is sent.
-fn converse(rt: HostRuntime, core: &mut Core, exchanges: &[Exchange]) -> Result<(), Fail> {
-    for (at, (c, m, want)) in exchanges.iter().enumerate() {
-        let mut out = Outbox::with_room(rt.alloc())?;
-        assert!(rt; core.has_room(*c, *m), "at {at}");
-        assert!(rt; core.got(*c, *m, &mut out), "at {at}");
-        assert_eq!(rt; out.sends().len(), want.len(), "at {at}");
-        for (sent, (d, n)) in out.sends().iter().zip(want.iter()) {
-            assert_eq!(rt; *sent, (*d, Dir::Down, *n), "at {at}");
-        }
+/// Compares what is sent.
+fn compare(rt: &impl Abort, out: &Outbox, want: &[(Conn, Message)]) {
+    assert_eq!(rt; out.sends().len(), want.len());
+    for (sent, (c, m)) in out.sends().iter().zip(want.iter()) {
+        assert_eq!(rt; *sent, (*c, Dir::Down, *m));
     }
-    Ok(())
+}
+
+/// Lets each message come in turn, and compares what is sent.
+fn converse(rt: &impl Abort, core: &mut Core, out: &mut Outbox, exchanges: &[Exchange]) {
+    for (at, (c, m, want)) in exchanges.iter().enumerate() {
+        out.clear();
+        assert!(rt; core.has_room(*c, *m), "at {at}");
+        assert!(rt; core.got(*c, *m, out), "at {at}");
+        compare(rt, out, want);
+    }
 }
 
 #[test]
 fn all_votes_are_appended_told_and_freed(rt: HostRuntime) -> Result<(), Fail> {
     let e1 = enl(&rt, 1);
     let r1 = manager(&rt, 1);
-    let info = Info { id: ID, rm: r1, enl: e1 };
+    let info = Info {
+        id: ID,
+        rm: r1,
+        enl: e1,
+    };
     let x = Conn::Enl(e1);
     let mut core = core(&rt);
+    let mut out = Outbox::with_room(rt.alloc())?;
     assert_eq!(rt; core.act(), None);
-    converse(rt, &mut core, &[
-        (Conn::Begin, Message::BeginBegin, &[(Conn::Begin, Message::BeginBegun(ID))]),
-        (Conn::Voter, Message::VoterVoter(ID), &[(Conn::Voter, Message::VoterCreated)]),
-        (x, Message::EnlistEnlist(info), &[(x, Message::EnlistEnlisted)]),
-        (Conn::Begin, Message::BeginCommit, &[(Conn::Voter, Message::VoterAsk), (x, Message::EnlistPrepare)]),
-        (Conn::Voter, Message::VoterYes, &[]),
-    ])?;
+    converse(
+        &rt,
+        &mut core,
+        &mut out,
+        &[
+            (
+                Conn::Begin,
+                Message::BeginBegin,
+                &[(Conn::Begin, Message::BeginBegun(ID))],
+            ),
+            (
+                Conn::Voter,
+                Message::VoterVoter(ID),
+                &[(Conn::Voter, Message::VoterCreated)],
+            ),
+            (
+                x,
+                Message::EnlistEnlist(info),
+                &[(x, Message::EnlistEnlisted)],
+            ),
+            (
+                Conn::Begin,
+                Message::BeginCommit,
+                &[
+                    (Conn::Voter, Message::VoterAsk),
+                    (x, Message::EnlistPrepare),
+                ],
+            ),
+            (Conn::Voter, Message::VoterYes, &[]),
+        ],
+    );
     assert_eq!(rt; core.act(), None);
-    converse(rt, &mut core, &[(x, Message::EnlistPrepared, &[])])?;
+    converse(
+        &rt,
+        &mut core,
+        &mut out,
+        &[(x, Message::EnlistPrepared, &[])],
+    );
     let mut record = LogRecord::new(ID);
     record.add(r1, e1);
     assert_eq!(rt; core.act(), Some(CoreAct::WriteRecord(record)));
-    let mut out = Outbox::with_room(rt.alloc())?;
+    out.clear();
     assert!(rt; core.may_log());
     core.logged(&mut out);
-    let want = [(Conn::Begin, Message::BeginCommitted), (Conn::Voter, Message::VoterCommit), (x, Message::EnlistCommit)];
-    assert_eq!(rt; out.sends().len(), want.len());
-    for (sent, (d, n)) in out.sends().iter().zip(want.iter()) {
-        assert_eq!(rt; *sent, (*d, Dir::Down, *n));
-    }
+    compare(
+        &rt,
+        &out,
+        &[
+            (Conn::Begin, Message::BeginCommitted),
+            (Conn::Voter, Message::VoterCommit),
+            (x, Message::EnlistCommit),
+        ],
+    );
     assert_eq!(rt; core.act(), None);
-    converse(rt, &mut core, &[(x, Message::EnlistAck, &[])])?;
+    converse(&rt, &mut core, &mut out, &[(x, Message::EnlistAck, &[])]);
     assert_eq!(rt; core.act(), Some(CoreAct::FreeIt(ID)));
     assert!(rt; core.may_free());
     core.freed(&mut out);
@@ -85,16 +127,22 @@ fn a_vote_no_an_end_and_a_stop_abort(rt: HostRuntime) -> Result<(), Fail> {
     };
     let (x, y, again) = (Conn::Enl(e1), Conn::Enl(e2), Conn::Again(e1));
     let mut core = core(&rt);
+    let mut out = Outbox::with_room(rt.alloc())?;
     converse(
-        rt,
+        &rt,
         &mut core,
+        &mut out,
         &[
             (
                 Conn::Begin,
                 Message::BeginBegin,
                 &[(Conn::Begin, Message::BeginBegun(ID))],
             ),
-            (x, Message::EnlistEnlist(info), &[(x, Message::EnlistEnlisted)]),
+            (
+                x,
+                Message::EnlistEnlist(info),
+                &[(x, Message::EnlistEnlisted)],
+            ),
             (
                 x,
                 Message::EnlistNo,
@@ -112,7 +160,7 @@ fn a_vote_no_an_end_and_a_stop_abort(rt: HostRuntime) -> Result<(), Fail> {
                 &[(again, Message::ReenlistAborted)],
             ),
         ],
-    )?;
+    );
     assert_eq!(rt; core.desks().len(), 1);
     assert_eq!(rt; core.desks()[0].ballot, Some(Ballot::Refused));
     assert!(rt; !core.is_stopped());

@@ -14,7 +14,7 @@ ghost use Rattle.coordinator_core.specs.Kept.{HasRoom, HasRoomFor, IsFew, after_
 use super::Core;
 use crate::desks::{acknowledge, seat_if, vote_if};
 use crate::lists::{close, leave_if, open, wait};
-use crate::stages::{Opening, begun, has_aborted, is_active, is_recorded, opening};
+use crate::stages::{Opening, begun, has_aborted, is_active, is_recorded, opening_at};
 use dtx_model::{Ballot, Desk};
 use dtx_values::{Conn, EnlNo, Info, Message, Outbox};
 
@@ -60,7 +60,7 @@ impl Core {
     fn voter_answer(&self) -> Message
         ensures { result ≡ opening_answer self.now.state VoterCreated VoterAbort VoterRefused }
     {
-        match opening(self.stage, self.commit) {
+        match opening_at(self.stage, self.commit) {
             Opening::Accepted => Message::VoterCreated,
             Opening::Aborted => Message::VoterAbort,
             Opening::TooLate => Message::VoterRefused(1),
@@ -103,7 +103,7 @@ impl Core {
     fn enlist_answer(&self) -> Message
         ensures { result ≡ opening_answer self.now.state EnlistEnlisted EnlistAbort EnlistRefused }
     {
-        match opening(self.stage, self.commit) {
+        match opening_at(self.stage, self.commit) {
             Opening::Accepted => Message::EnlistEnlisted,
             Opening::Aborted => Message::EnlistAbort,
             Opening::TooLate => Message::EnlistRefused(1),
