@@ -1,5 +1,5 @@
 pub mod Writing
-pub mod Kinds
+pub mod Unlined
 pub mod Following
 pub mod Left
 pub mod Loops

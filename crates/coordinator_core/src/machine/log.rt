@@ -19,14 +19,14 @@ use dtx_model::{Desk, Stage};
 use dtx_values::{LogRecord, Outbox, RmNo};
 
 /// Puts an enlistment into a record, where it said PREPARED. The record has room for it.
-fn add_if_prepared(record: &mut LogRecord, d: &Desk)
-    requires { record.old.count < 16 }
-    ensures id { record.new.id ≡ record.old.id }
-    ensures count { record.new.count ≤ record.old.count + 1 }
-    ensures pairs { take record.new.count record.new.durables ≡ take record.old.count record.old.durables ++ (if is_prepared d.now.ballot then (d.now.manager, d.now.enlistment) ∷ [] else []) }
+fn add_if_prepared(kept: &mut LogRecord, d: &Desk)
+    requires { kept.old.count < 16 }
+    ensures id { kept.new.id ≡ kept.old.id }
+    ensures count { kept.new.count ≤ kept.old.count + 1 }
+    ensures pairs { take kept.new.count kept.new.durables ≡ take kept.old.count kept.old.durables ++ (if is_prepared d.now.ballot then (d.now.manager, d.now.enlistment) ∷ [] else []) }
 {
     if is_prepared(d.ballot) {
-        record.add(d.manager, d.enlistment);
+        kept.add(d.manager, d.enlistment);
     }
 }
 
