@@ -41,11 +41,12 @@ both_out p q (w ∷ ws) = by (p w) (q w) (both_out p q ws)
 -- taking out one after the other leaves those that aren't among the reached ones
 left_is : (reached : EnlNo → Bool) (es ws : List EnlNo) → left_by reached es ws ≡ filter (λ f. not (was_answered reached es f)) ws
 left_is reached [] ws = sym (all_pass ws)
-left_is reached (e ∷ es) ws = by (reached e)
+left_is reached (e ∷ es) ws = by (reached e) (λ vs. left_is reached es vs)
   where
-    by : (b : Bool) → left_by reached es (if b then but e.value ws else ws) ≡ filter (λ f. not ((b && (e.value == f.value)) || was_answered reached es f)) ws
-    by true = left_is reached es (but e.value ws) ∙ both_out (λ f. e.value == f.value) (was_answered reached es) ws
-    by false = left_is reached es ws
+    by : (b : Bool) → ((vs : List EnlNo) → left_by reached es vs ≡ filter (λ f. not (was_answered reached es f)) vs)
+        → left_by reached es (if b then but e.value ws else ws) ≡ filter (λ f. not ((b && (e.value == f.value)) || was_answered reached es f)) ws
+    by true ih = ih (but e.value ws) ∙ both_out (λ f. e.value == f.value) (was_answered reached es) ws
+    by false ih = ih ws
 
 -- one of these that is reached is this exactly where this is reached and one of them
 answered_is : (reached : EnlNo → Bool) (es : List EnlNo) (f : EnlNo) → was_answered reached es f ≡ (reached f && is_one_of es f)

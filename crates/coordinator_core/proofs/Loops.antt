@@ -5,6 +5,7 @@ use Rattle.std.specs.List.{flat_map}
 use Rattle.dtx_values.specs.declared.entry.Entry.{Entry}
 use Rattle.dtx_values.specs.declared.message.Conn.TheVariants.{Enl, Again}
 use Rattle.dtx_values.specs.declared.message.Message.{Message}
+use Rattle.dtx_values.specs.declared.message.Message.TheVariants.{EnlistPrepare}
 use Rattle.dtx_values.specs.declared.number.EnlNo.{EnlNo}
 use Rattle.dtx_values.specs.Outgoing.{Outgoing, written}
 use Rattle.dtx_values.specs.RecoveryInfo.{pair_of}
@@ -20,6 +21,14 @@ to_these k m es = flat_map (λ e. to k (Again e) m) es
 -- the manager and the number of each that said PREPARED
 abbrev pub pairs_of : List Desk → List (ℕ × ℕ)
 pairs_of ds = map (λ d. pair_of (d.manager, d.enlistment)) (filter (λ d. is_prepared d.ballot) ds)
+
+-- each hears PREPARE
+all_hear : (ds : List Desk) → filter (λ d. hears EnlistPrepare d.ballot) ds ≡ ds
+all_hear [] = refl
+all_hear (d ∷ ds) = ap (λ (xs : List Desk). d ∷ xs) (all_hear ds)
+
+pub told_each : (k : Coordinated) (ds : List Desk) → told k EnlistPrepare ds ≡ to_each k EnlistPrepare ds
+told_each k ds = ap (λ (xs : List Desk). to_each k EnlistPrepare xs) (all_hear ds)
 
 -- one that hears the message comes first in the block
 first_told : (k : Coordinated) (m : Message) (d : Desk) (ds : List Desk) → (if hears m d.ballot then to k (Enl d.enlistment) m else []) ++ told k m ds ≡ told k m (d ∷ ds)

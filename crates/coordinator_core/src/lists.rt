@@ -8,10 +8,10 @@ ghost use Rattle.dtx_values.specs.declared.message.Conn.TheVariants.{Again};
 ghost use Rattle.dtx_values.specs.declared.message.Dir.TheVariants.{Up};
 ghost use Rattle.dtx_model.specs.Coordinated.{but, waits_after, without};
 ghost use Rattle.dtx_model.specs.Words.{has};
-ghost use Rattle.coordinator_core.specs.Kept.{unreached};
+ghost use Rattle.coordinator_core.specs.Kept.{is_enlisting, unreached};
 
 use arrayvec::ArrayVec;
-use dtx_values::{CONNECTIONS, Conn, DURABLES, EnlNo, Numbered, place_in_order};
+use dtx_values::{CONNECTIONS, Conn, DURABLES, EnlNo, Message, Numbered, place_in_order};
 
 /// Puts an item at its place. The list has room for it.
 pub(crate) fn put_in_order<T: Numbered + Drop, const N: usize>(items: &mut ArrayVec<T, N>, x: T)
@@ -43,6 +43,13 @@ pub(crate) fn open(known: &mut ArrayVec<Conn, CONNECTIONS>, c: Conn)
 {
     close(known, c);
     put_in_order(known, c);
+}
+
+/// Whether the message is an ENLIST on the connection of an enlistment.
+pub(crate) fn is_enlisting(c: Conn, m: Message) -> bool
+    ensures { result ≡ is_enlisting c m }
+{
+    matches!((c, m), (Conn::Enl(_), Message::EnlistEnlist(_)))
 }
 
 /// Whether a connection is among these.

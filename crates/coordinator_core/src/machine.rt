@@ -1,20 +1,20 @@
 //! The machine's state, and what may be asked of it.
-ghost use Rattle.std.specs.Prelude.{◌≡◌, ◌≤◌, ◌↔◌, IsTrue, length};
+ghost use Rattle.std.specs.Prelude.{◌≡◌, ◌≤◌, ◌↔◌, ◌&&◌, ◌||◌, not, IsTrue, length};
 ghost use Rattle.dtx_values.specs.Ends.{is_in, same_connection};
 ghost use Rattle.dtx_values.specs.declared.entry.Entry.TheVariants.{Got};
 ghost use Rattle.dtx_values.specs.declared.limits.TheConstants.{DURABLES};
 ghost use Rattle.dtx_values.specs.declared.message.Dir.TheVariants.{Up};
-ghost use Rattle.dtx_model.specs.Coordinated.{accepts, desks_after, follow, is_early, is_finished, known_after, may_free, may_log, nothing, waits_after};
+ghost use Rattle.dtx_model.specs.Coordinated.{accepts, but, desks_after, follow, has_voted, is_desk_of, is_early, is_finished, is_prepared, is_ready, known_after, may_free, may_log, nothing, waits_after, without};
 ghost use Rattle.dtx_model.specs.Promotes.{identifier_of};
-ghost use Rattle.dtx_model.specs.Words.{has};
+ghost use Rattle.dtx_model.specs.Words.{each, has};
 ghost use Rattle.coordinator_core.specs.Kept.{IsFew};
 
 use crate::ballots::{is_prepared, is_ready};
-use crate::lists::{is_known, is_same};
+use crate::lists::{is_enlisting, is_known, is_same};
 use crate::stages::{is_active, is_recorded};
 use arrayvec::ArrayVec;
 use dtx_model::{Desk, Stage};
-use dtx_values::{CONNECTIONS, Conn, DURABLES, EnlNo, Message, RmNo, TxNo, has_line, is_opening};
+use dtx_values::{CONNECTIONS, Conn, DURABLES, Dir, EnlNo, Message, RmNo, TxNo, has_line, is_opening};
 use std::marker::Model;
 
 mod arrivals;
@@ -138,11 +138,7 @@ impl Core {
     pub fn may_log(&self) -> bool
         ensures { result ≡ may_log self.now.state }
     {
-        !self.stopped
-            && is_active(self.stage)
-            && self.commit
-            && self.yes
-            && self.desks.iter().all(|d| is_ready(d.ballot))
+        !self.stopped && is_active(self.stage) && self.commit && self.yes && self.all_ready()
     }
 
     /// Whether the record can be freed: it stands, and each enlistment that said PREPARED acknowledged the commit, or its manager
@@ -151,12 +147,23 @@ impl Core {
     pub fn may_free(&self) -> bool
         ensures { result ≡ may_free self.now.state }
     {
-        !self.stopped
-            && is_recorded(self.stage)
-            && self
-                .desks
-                .iter()
-                .all(|d| !is_prepared(d.ballot) || self.is_finished(d))
+        !self.stopped && is_recorded(self.stage) && self.all_finished()
+    }
+
+    /// Whether each enlistment said PREPARED or READONLY.
+    fn all_ready(&self) -> bool
+        ensures { result ≡ each (λ d. is_ready d.ballot) self.now.state.desks }
+    {
+        self.desks.iter().all(|d| is_ready(d.ballot))
+    }
+
+    /// Whether each enlistment that said PREPARED is finished.
+    fn all_finished(&self) -> bool
+        ensures { result ≡ each (λ d. not (is_prepared d.ballot) || is_finished self.now.state.recovered d) self.now.state.desks }
+    {
+        self.desks
+            .iter()
+            .all(|d| !is_prepared(d.ballot) || self.is_finished(d))
     }
 
     /// Whether it acknowledged the commit in this life of the coordinator, or its manager has recovered.
@@ -166,42 +173,64 @@ impl Core {
         d.acked || self.has_recovered(d.manager)
     }
 
-    /// Whether a message can be got: what is kept fits after it.
+    /// Whether a message can be got: what is kept after it fits.
     pub fn has_room(&self, c: Conn, m: Message) -> bool
         ensures { IsTrue result ↔ IsFew (follow self.now.state (Got c Up m)) }
     {
-        self.has_desk(c, m) && self.has_connection(c, m) && self.has_place(c, m)
+        self.desks_after(c, m) <= DURABLES
+            && self.known_after(c, m) <= CONNECTIONS
+            && self.waits_after(c, m) <= DURABLES
     }
 
-    /// Whether the enlistments fit after a message.
-    fn has_desk(&self, c: Conn, m: Message) -> bool
-        ensures { IsTrue result ↔ (length (desks_after self.now.state (Got c Up m)) ≤ DURABLES) }
+    /// How many enlistments there are after a message.
+    fn desks_after(&self, c: Conn, m: Message) -> usize
+        ensures { result ≡ length (desks_after self.now.state (Got c Up m)) }
     {
-        match (c, m) {
-            (Conn::Enl(_), Message::EnlistEnlist(_)) => {
-                !self.accepts() || self.desks.len() < DURABLES
-            }
-            _ => true,
+        let count = self.desks.len();
+        if self.accepts() && is_enlisting(c, m) {
+            count + 1
+        } else {
+            count
         }
     }
 
-    /// Whether the known connections fit after a message.
-    fn has_connection(&self, c: Conn, m: Message) -> bool
-        ensures { IsTrue result ↔ (length (known_after (Got c Up m) self.now.state.known) ≤ CONNECTIONS) }
+    /// How many connections are known after a message.
+    fn known_after(&self, c: Conn, m: Message) -> usize
+        ensures { result ≡ length (known_after (Got c Up m) self.now.state.known) }
     {
-        !is_opening(c, m) || self.known.iter().filter(|d| !is_same(c, **d)).count() < CONNECTIONS
+        if !has_line(c, Dir::Up, m) {
+            return self.others(c);
+        }
+        if is_opening(c, m) {
+            return self.others(c) + 1;
+        }
+        self.known.len()
     }
 
-    /// Whether those who wait fit after a message.
-    fn has_place(&self, c: Conn, m: Message) -> bool
-        ensures { IsTrue result ↔ (length (waits_after (Got c Up m) self.now.state.waits) ≤ DURABLES) }
+    /// How many connections are known besides this one.
+    fn others(&self, c: Conn) -> usize
+        ensures count { result ≡ length (without c self.now.state.known) }
+        ensures few { result ≤ CONNECTIONS }
+    {
+        self.known.iter().filter(|d| !is_same(c, **d)).count()
+    }
+
+    /// How many wait after a message.
+    fn waits_after(&self, c: Conn, m: Message) -> usize
+        ensures { result ≡ length (waits_after (Got c Up m) self.now.state.waits) }
     {
         match (c, m) {
-            (Conn::Again(e), Message::ReenlistReenlist(_)) => {
-                self.waits.iter().filter(|f| e != **f).count() < DURABLES
-            }
-            _ => true,
+            (Conn::Again(e), Message::ReenlistReenlist(_)) => self.others_wait(e) + 1,
+            _ => self.waits.len(),
         }
+    }
+
+    /// How many wait besides this one.
+    fn others_wait(&self, e: EnlNo) -> usize
+        ensures count { result ≡ length (but e.value self.now.state.waits) }
+        ensures few { result ≤ DURABLES }
+    {
+        self.waits.iter().filter(|f| e != **f).count()
     }
 
     /// Whether an enlistment is accepted: the transaction is active, and COMMIT wasn't got.
@@ -225,12 +254,18 @@ impl Core {
         match c {
             Conn::Begin => !self.commit,
             Conn::Voter => !self.yes,
-            Conn::Enl(e) => !self
-                .desks
-                .iter()
-                .any(|d| d.enlistment == e && d.ballot.is_some()),
+            Conn::Enl(e) => !self.has_voted(e),
             Conn::Again(_) => false,
         }
+    }
+
+    /// Whether an enlistment voted.
+    fn has_voted(&self, e: EnlNo) -> bool
+        ensures { result ≡ has (λ d. is_desk_of e.value d && has_voted d) self.now.state.desks }
+    {
+        self.desks
+            .iter()
+            .any(|d| d.enlistment == e && d.ballot.is_some())
     }
 
     /// The transaction's identifier: the node 1 in the upper 64 bits, and the transaction's number in the lower.

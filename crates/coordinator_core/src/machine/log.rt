@@ -112,7 +112,7 @@ impl Core {
         requires stopped { self.old.state.stopped ≡ true }
         requires own { ForSome found (λ r. r.now.id ≡ identifier_of self.old.transaction.value) }
         ensures transaction { self.new.transaction ≡ self.old.transaction }
-        ensures state { self.new.state ≡ follow self.old.state (Restarted (is_some found)) }
+        ensures state { self.new.state ≡ follow self.old.state (Restarted (is_some found.entry)) }
     {
         let is_found = found.is_some();
         self.stage = restarted(is_found, self.stage);

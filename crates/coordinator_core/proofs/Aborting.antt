@@ -1,0 +1,69 @@
+-- What an abort, an end and the other messages of the outcome make of what is kept.
+use Rattle.std.proofs.Common.{◌≡◌, ◌∙◌, ◌&&◌, ◌||◌, ◌≤◌, ◌<◌, not, ℕ, suc, Bool, true, false, List, [], ◌∷◌, ◌++◌, length, map, refl, ap, sym, arith, if◌then◌else◌}
+use Rattle.dtx_values.specs.declared.entry.Entry.{Entry}
+use Rattle.dtx_values.specs.declared.entry.Entry.TheVariants.{Down as End, Got, LogFull}
+use Rattle.dtx_values.specs.declared.limits.TheConstants.{CONNECTIONS, DURABLES}
+use Rattle.dtx_values.specs.declared.message.Conn.{Conn}
+use Rattle.dtx_values.specs.declared.message.Conn.TheVariants.{Begin, Voter, Enl, Again}
+use Rattle.dtx_values.specs.declared.message.Dir.TheVariants.{Up}
+use Rattle.dtx_values.specs.declared.message.Message.{Message}
+use Rattle.dtx_values.specs.declared.message.Message.TheVariants.{BeginCommit}
+use Rattle.dtx_model.specs.declared.desk.Stage.{Stage}
+use Rattle.dtx_model.specs.declared.desk.Stage.TheVariants.{Idle, Active, Aborted, Recorded, Over, Unknown}
+use Rattle.dtx_model.specs.Coordinated.{Coordinated, abort_if, abort_sends, core_down, core_got, follow, follow_all, is_active, is_early, is_undecided, may_log, waits_after, without}
+use Rattle.coordinator_core.specs.Kept.{Kept, abort_block, aborted_if, after_got}
+use Rattle.coordinator_core.proofs.Following.{after_ask, after_none}
+
+-- where nothing aborts, nothing changes
+pub nothing_done : (b : Bool) (k : Coordinated) → (b && is_undecided k.stage) ≡ false → k ≡ follow_all (aborted_if b k) (abort_block b k)
+nothing_done b k fails = by (b && is_undecided k.stage) fails
+  where
+    by : (t : Bool) → t ≡ false
+        → k ≡ follow_all (record { stage = if t then Aborted else k.stage; commit = k.commit; yes = k.yes; no = k.no; desks = k.desks; known = k.known; waits = k.waits; recovered = k.recovered; stopped = k.stopped }) (if t then abort_sends k else [])
+    by true fails = absurd cc
+    by false fails = sym (after_none k)
+
+-- with the connection's end seen, and nobody waiting there
+abbrev pub ended : Conn → Coordinated → Coordinated
+ended c k =
+    record { stage = k.stage; commit = k.commit; yes = k.yes; no = k.no; desks = k.desks; known = without c k.known; waits = waits_after (End c Up) k.waits; recovered = k.recovered; stopped = k.stopped }
+
+-- what an end makes of what is kept, and what is written
+pub ended_all : (k : Coordinated) (c : Conn) → follow_all (aborted_if (is_early k c) (ended c k)) (abort_block (is_early k c) (ended c k)) ≡ follow_all k (End c Up ∷ core_down k c)
+unfolding follow follow_all core_down
+ended_all k c = refl
+
+pub ended_block : (k : Coordinated) (c : Conn) → abort_block (is_early k c) (ended c k) ≡ core_down k c
+unfolding follow core_down
+ended_block k c = refl
+
+-- with COMMIT noted
+abbrev pub asked : Kept → Kept
+asked s = record {
+  transaction = s.transaction;
+  state = record { stage = s.state.stage; commit = is_active s.state.stage || s.state.commit; yes = s.state.yes; no = s.state.no; desks = s.state.desks; known = s.state.known; waits = s.state.waits; recovered = s.state.recovered; stopped = s.state.stopped };
+}
+
+pub asked_all : (s : Kept) → asked s ≡ after_got s Begin BeginCommit
+unfolding follow follow_all core_got
+asked_all s = λ i. record { transaction = s.transaction; state = sym (after_ask (asked s).state s.state) i }
+
+-- aborted by a log that is full
+abbrev pub aborted : Coordinated → Coordinated
+aborted k =
+    record { stage = Aborted; commit = k.commit; yes = k.yes; no = k.no; desks = k.desks; known = k.known; waits = k.waits; recovered = k.recovered; stopped = k.stopped }
+
+pub full_all : (k : Coordinated) → is_active k.stage ≡ true → follow_all (aborted k) (abort_sends (aborted k)) ≡ follow_all k (LogFull ∷ abort_sends (follow k LogFull))
+unfolding follow follow_all
+full_all k active = λ i. follow_all (here i) (abort_sends (here i))
+  where
+    by : (s : Stage) → is_active s ≡ true → Aborted ≡ abort_if true s
+    by Active held = refl
+    by Idle held = refl
+    by Aborted held = absurd cc
+    by Recorded held = absurd cc
+    by Over held = absurd cc
+    by Unknown held = absurd cc
+
+    here : aborted k ≡ aborted_if true k
+    here = λ i. record { stage = by k.stage active i; commit = k.commit; yes = k.yes; no = k.no; desks = k.desks; known = k.known; waits = k.waits; recovered = k.recovered; stopped = k.stopped }
