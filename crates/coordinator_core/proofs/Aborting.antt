@@ -7,11 +7,13 @@ use Rattle.dtx_values.specs.declared.message.Conn.{Conn}
 use Rattle.dtx_values.specs.declared.message.Conn.TheVariants.{Begin, Voter, Enl, Again}
 use Rattle.dtx_values.specs.declared.message.Dir.TheVariants.{Up}
 use Rattle.dtx_values.specs.declared.message.Message.{Message}
-use Rattle.dtx_values.specs.declared.message.Message.TheVariants.{BeginCommit}
+use Rattle.dtx_values.specs.declared.message.Message.TheVariants.{BeginCommit, EnlistNo, VoterNo}
+use Rattle.dtx_values.specs.declared.number.EnlNo.{EnlNo}
+use Rattle.dtx_model.specs.declared.desk.Ballot.TheVariants.{Refused}
 use Rattle.dtx_model.specs.declared.desk.Stage.{Stage}
 use Rattle.dtx_model.specs.declared.desk.Stage.TheVariants.{Idle, Active, Aborted, Recorded, Over, Unknown}
 use Rattle.dtx_model.specs.Coordinated.{Coordinated, abort_if, abort_sends, core_down, core_got, follow, follow_all, is_active, is_early, is_undecided, may_log, waits_after, without}
-use Rattle.coordinator_core.specs.Kept.{Kept, abort_block, aborted_if, after_got}
+use Rattle.coordinator_core.specs.Kept.{Kept, abort_block, aborted_if, after_got, answers, voted}
 use Rattle.coordinator_core.proofs.Following.{after_ask, after_none}
 
 -- where nothing aborts, nothing changes
@@ -37,16 +39,35 @@ pub ended_block : (k : Coordinated) (c : Conn) → abort_block (is_early k c) (e
 unfolding follow core_down
 ended_block k c = refl
 
--- with COMMIT noted
-abbrev pub asked : Kept → Kept
-asked s = record {
+-- with COMMIT, or the voter's NO, noted where the test holds
+abbrev pub noted : Bool → Kept → Kept
+noted b s = record {
   transaction = s.transaction;
-  state = record { stage = s.state.stage; commit = is_active s.state.stage || s.state.commit; yes = s.state.yes; no = s.state.no; desks = s.state.desks; known = s.state.known; waits = s.state.waits; recovered = s.state.recovered; stopped = s.state.stopped };
+  state = record { stage = s.state.stage; commit = b || s.state.commit; yes = s.state.yes; no = s.state.no; desks = s.state.desks; known = s.state.known; waits = s.state.waits; recovered = s.state.recovered; stopped = s.state.stopped };
 }
 
-pub asked_all : (s : Kept) → asked s ≡ after_got s Begin BeginCommit
+abbrev pub refused : Bool → Coordinated → Coordinated
+refused b k =
+    record { stage = k.stage; commit = k.commit; yes = k.yes; no = b || k.no; desks = k.desks; known = k.known; waits = k.waits; recovered = k.recovered; stopped = k.stopped }
+
+-- what COMMIT makes of what is kept
+pub commit_all : (s : Kept) → noted (is_active s.state.stage) s ≡ after_got s Begin BeginCommit
 unfolding follow follow_all core_got
-asked_all s = λ i. record { transaction = s.transaction; state = sym (after_ask (asked s).state s.state) i }
+commit_all s = λ i. record { transaction = s.transaction; state = sym (after_ask (noted (is_active s.state.stage) s).state s.state) i }
+
+-- what is written after the voter's NO
+pub no_block : (s : Kept) → abort_block true (refused (is_active s.state.stage) s.state) ≡ answers s Voter VoterNo
+unfolding follow core_got
+no_block s = refl
+
+-- what an enlistment's NO makes of what is kept, and what is written
+pub refusal_all : (s : Kept) (e : EnlNo) → follow_all (aborted_if true (voted e.value Refused s.state)) (abort_block true (voted e.value Refused s.state)) ≡ (after_got s (Enl e) EnlistNo).state
+unfolding follow follow_all core_got
+refusal_all s e = refl
+
+pub refusal_block : (s : Kept) (e : EnlNo) → abort_block true (voted e.value Refused s.state) ≡ answers s (Enl e) EnlistNo
+unfolding follow core_got
+refusal_block s e = refl
 
 -- aborted by a log that is full
 abbrev pub aborted : Coordinated → Coordinated

@@ -1,5 +1,5 @@
 //! The machine's state, and what may be asked of it.
-ghost use Rattle.std.specs.Prelude.{◌≡◌, ◌≤◌, ◌↔◌, ◌&&◌, ◌||◌, not, IsTrue, length};
+ghost use Rattle.std.specs.Prelude.{◌≡◌, ◌≤◌, ◌↔◌, ◌&&◌, ◌||◌, not, true, length};
 ghost use Rattle.dtx_values.specs.Ends.{is_in, same_connection};
 ghost use Rattle.dtx_values.specs.declared.entry.Entry.TheVariants.{Got};
 ghost use Rattle.dtx_values.specs.declared.limits.TheConstants.{DURABLES};
@@ -175,7 +175,7 @@ impl Core {
 
     /// Whether a message can be got: what is kept after it fits.
     pub fn has_room(&self, c: Conn, m: Message) -> bool
-        ensures { IsTrue result ↔ IsFew (follow self.now.state (Got c Up m)) }
+        ensures { (result ≡ true) ↔ IsFew (follow self.now.state (Got c Up m)) }
     {
         self.desks_after(c, m) <= DURABLES
             && self.known_after(c, m) <= CONNECTIONS

@@ -1,4 +1,14 @@
+use Rattle.std.proofs.Common.{◌∙◌, Bool, true, List, ap}
+use Rattle.dtx_values.specs.Outgoing.{written}
+use Rattle.dtx_values.specs.declared.entry.Entry.{Entry}
+use Rattle.dtx_model.specs.Coordinated.{is_active}
+use Rattle.coordinator_core.specs.Kept.{Kept, abort_block}
+use Rattle.coordinator_core.proofs.Aborting.{no_block, refused}
 use Rattle.coordinator_core.proofs.machine.Core.no_came.Goals as goal
 
 pub returns-clause-out : goal.returns-clause-out
-returns-clause-out c = ?
+returns-clause-out c =
+    let inside : Kept = record { transaction = c.self.inside.transaction; state = record { stage = c.self.inside.stage; commit = c.self.inside.commit; yes = c.self.inside.yes; no = c.self.inside.no; desks = c.self.inside.desks.items; known = c.self.inside.known.items; waits = c.self.inside.waits.items; recovered = c.self.inside.recovered; stopped = c.self.inside.stopped } } in
+    c.abort_if.ensures.out
+    ∙ ap (λ (es : List Entry). written c.args.out.now es)
+    (ap (λ (b : Bool). abort_block true (refused b inside.state)) c.is_active.ensures ∙ ap (λ (s : Kept). abort_block true (refused (is_active s.state.stage) s.state)) c.self.view_is ∙ no_block c.args.self.now)
