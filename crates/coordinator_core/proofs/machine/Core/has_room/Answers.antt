@@ -22,7 +22,8 @@ returns-then-known_after-le-CONNECTIONS c =
       | then-desks_after-le-DURABLES v ↦
         both_held d n value (sym (ap (λ (l : ℕ). nat_le l DURABLES) c.desks_after.ensures) ∙ le-leb c.desks_after.result DURABLES v.if-desks_after-le-DURABLES.true) (v.value-is ∙ ap (λ (l : ℕ). nat_le l CONNECTIONS) v.known_after.ensures)
       | else-desks_after-le-DURABLES v ↦
-        first_failed d n value (sym (ap (λ (l : ℕ). nat_le l DURABLES) c.desks_after.ensures) ∙ lt-leb c.desks_after.result DURABLES v.if-desks_after-le-DURABLES.false) v.value-is
+        let over = lt-leb c.desks_after.result DURABLES v.if-desks_after-le-DURABLES.false in
+        first_failed d n value (sym (ap (λ (l : ℕ). nat_le l DURABLES) c.desks_after.ensures) ∙ over) (v.value-is ∙ over)
     ] in
     let r = nat_le c.waits_after.result DURABLES in
     few_iff k x r (both_held value w r c.if-known_after-le-CONNECTIONS.true (ap (λ (l : ℕ). nat_le l DURABLES) c.waits_after.ensures) ∙ ap (λ (b : Bool). b && w) both)
@@ -39,7 +40,8 @@ returns-else-known_after-le-CONNECTIONS c =
       | then-desks_after-le-DURABLES v ↦
         both_held d n value (sym (ap (λ (l : ℕ). nat_le l DURABLES) c.desks_after.ensures) ∙ le-leb c.desks_after.result DURABLES v.if-desks_after-le-DURABLES.true) (v.value-is ∙ ap (λ (l : ℕ). nat_le l CONNECTIONS) v.known_after.ensures)
       | else-desks_after-le-DURABLES v ↦
-        first_failed d n value (sym (ap (λ (l : ℕ). nat_le l DURABLES) c.desks_after.ensures) ∙ lt-leb c.desks_after.result DURABLES v.if-desks_after-le-DURABLES.false) v.value-is
+        let over = lt-leb c.desks_after.result DURABLES v.if-desks_after-le-DURABLES.false in
+        first_failed d n value (sym (ap (λ (l : ℕ). nat_le l DURABLES) c.desks_after.ensures) ∙ over) (v.value-is ∙ over)
     ] in
     let failed = c.if-known_after-le-CONNECTIONS.false in
     few_iff k x value (first_failed value w value failed failed ∙ ap (λ (b : Bool). b && w) both)
