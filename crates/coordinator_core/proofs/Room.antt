@@ -105,9 +105,9 @@ few_iff k x r same =
     let n = length (known_after x k.known) in
     let w = length (waits_after x k.waits) in (
       λ held.
-      let all = and_parts (nat_le d DURABLES && nat_le n CONNECTIONS) (nat_le w DURABLES) (sym same ∙ held) in
-      let first = and_parts (nat_le d DURABLES) (nat_le n CONNECTIONS) all.0 in
-      record { desks = leb-true d DURABLES first.0; known = leb-true n CONNECTIONS first.1; waits = leb-true w DURABLES all.1 },
+          let all = and_parts (nat_le d DURABLES && nat_le n CONNECTIONS) (nat_le w DURABLES) (sym same ∙ held) in
+          let first = and_parts (nat_le d DURABLES) (nat_le n CONNECTIONS) all.0 in
+          record { desks = leb-true d DURABLES first.0; known = leb-true n CONNECTIONS first.1; waits = leb-true w DURABLES all.1 },
       λ few.
-      same ∙ and_from (nat_le d DURABLES && nat_le n CONNECTIONS) (nat_le w DURABLES) (and_from (nat_le d DURABLES) (nat_le n CONNECTIONS) (le-leb d DURABLES few.desks) (le-leb n CONNECTIONS few.known)) (le-leb w DURABLES few.waits),
+          same ∙ and_from (nat_le d DURABLES && nat_le n CONNECTIONS) (nat_le w DURABLES) (and_from (nat_le d DURABLES) (nat_le n CONNECTIONS) (le-leb d DURABLES few.desks) (le-leb n CONNECTIONS few.known)) (le-leb w DURABLES few.waits),
     )

@@ -14,7 +14,9 @@ use crate::lists::{is_enlisting, is_known, is_same};
 use crate::stages::{is_active, is_recorded};
 use arrayvec::ArrayVec;
 use dtx_model::{Desk, Stage};
-use dtx_values::{CONNECTIONS, Conn, DURABLES, Dir, EnlNo, Message, RmNo, TxNo, has_line, is_opening};
+use dtx_values::{
+    CONNECTIONS, Conn, DURABLES, Dir, EnlNo, Message, RmNo, TxNo, has_line, is_opening,
+};
 use std::marker::Model;
 
 mod arrivals;

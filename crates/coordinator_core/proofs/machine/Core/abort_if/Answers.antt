@@ -12,6 +12,6 @@ returns-else-is_cause-clause-state c =
     let k = c.args.self.now.state in
     nothing_done b k (elim c.else-is_cause.branch [
       | else-is_cause-via-then-is_cause+else-is_undecided w ↦
-        and_right b (is_undecided k.stage) (sym (ap (λ (s : Kept). is_undecided s.state.stage) w.self.view_is) ∙ sym w.is_undecided.ensures ∙ w.if-is_undecided.false)
+          and_right b (is_undecided k.stage) (sym (ap (λ (s : Kept). is_undecided s.state.stage) w.self.view_is) ∙ sym w.is_undecided.ensures ∙ w.if-is_undecided.false)
       | else-is_cause-via-else-is_cause w ↦ and_left b (is_undecided k.stage) w.if-is_cause.false
     ])

@@ -20,10 +20,10 @@ returns-then-known_after-le-CONNECTIONS c =
     let value = c.if-desks_after-le-DURABLES.value in
     let both : value ≡ (d && n) = elim c.if-desks_after-le-DURABLES.branch [
       | then-desks_after-le-DURABLES v ↦
-        both_held d n value (sym (ap (λ (l : ℕ). nat_le l DURABLES) c.desks_after.ensures) ∙ le-leb c.desks_after.result DURABLES v.if-desks_after-le-DURABLES.true) (v.value-is ∙ ap (λ (l : ℕ). nat_le l CONNECTIONS) v.known_after.ensures)
+          both_held d n value (sym (ap (λ (l : ℕ). nat_le l DURABLES) c.desks_after.ensures) ∙ le-leb c.desks_after.result DURABLES v.if-desks_after-le-DURABLES.true) (v.value-is ∙ ap (λ (l : ℕ). nat_le l CONNECTIONS) v.known_after.ensures)
       | else-desks_after-le-DURABLES v ↦
-        let over = lt-leb c.desks_after.result DURABLES v.if-desks_after-le-DURABLES.false in
-        first_failed d n value (sym (ap (λ (l : ℕ). nat_le l DURABLES) c.desks_after.ensures) ∙ over) (v.value-is ∙ over)
+          let over = lt-leb c.desks_after.result DURABLES v.if-desks_after-le-DURABLES.false in
+          first_failed d n value (sym (ap (λ (l : ℕ). nat_le l DURABLES) c.desks_after.ensures) ∙ over) (v.value-is ∙ over)
     ] in
     let r = nat_le c.waits_after.result DURABLES in
     few_iff k x r (both_held value w r c.if-known_after-le-CONNECTIONS.true (ap (λ (l : ℕ). nat_le l DURABLES) c.waits_after.ensures) ∙ ap (λ (b : Bool). b && w) both)
@@ -38,10 +38,10 @@ returns-else-known_after-le-CONNECTIONS c =
     let value = c.if-desks_after-le-DURABLES.value in
     let both : value ≡ (d && n) = elim c.if-desks_after-le-DURABLES.branch [
       | then-desks_after-le-DURABLES v ↦
-        both_held d n value (sym (ap (λ (l : ℕ). nat_le l DURABLES) c.desks_after.ensures) ∙ le-leb c.desks_after.result DURABLES v.if-desks_after-le-DURABLES.true) (v.value-is ∙ ap (λ (l : ℕ). nat_le l CONNECTIONS) v.known_after.ensures)
+          both_held d n value (sym (ap (λ (l : ℕ). nat_le l DURABLES) c.desks_after.ensures) ∙ le-leb c.desks_after.result DURABLES v.if-desks_after-le-DURABLES.true) (v.value-is ∙ ap (λ (l : ℕ). nat_le l CONNECTIONS) v.known_after.ensures)
       | else-desks_after-le-DURABLES v ↦
-        let over = lt-leb c.desks_after.result DURABLES v.if-desks_after-le-DURABLES.false in
-        first_failed d n value (sym (ap (λ (l : ℕ). nat_le l DURABLES) c.desks_after.ensures) ∙ over) (v.value-is ∙ over)
+          let over = lt-leb c.desks_after.result DURABLES v.if-desks_after-le-DURABLES.false in
+          first_failed d n value (sym (ap (λ (l : ℕ). nat_le l DURABLES) c.desks_after.ensures) ∙ over) (v.value-is ∙ over)
     ] in
     let failed = c.if-known_after-le-CONNECTIONS.false in
     few_iff k x value (first_failed value w value failed failed ∙ ap (λ (b : Bool). b && w) both)
