@@ -39,26 +39,50 @@ pub ended_block : (k : Coordinated) (c : Conn) → abort_block (is_early k c) (e
 unfolding follow core_down
 ended_block k c = refl
 
+-- a test that is noted comes before or after what stood
+either_way : (a b : Bool) → (a || b) ≡ (b || a)
+either_way true true = refl
+either_way true false = refl
+either_way false true = refl
+either_way false false = refl
+
 -- with COMMIT, or the voter's NO, noted where the test holds
 abbrev pub noted : Bool → Kept → Kept
 noted b s = record {
   transaction = s.transaction;
-  state = record { stage = s.state.stage; commit = b || s.state.commit; yes = s.state.yes; no = s.state.no; desks = s.state.desks; known = s.state.known; waits = s.state.waits; recovered = s.state.recovered; stopped = s.state.stopped };
+  state = record { stage = s.state.stage; commit = s.state.commit || b; yes = s.state.yes; no = s.state.no; desks = s.state.desks; known = s.state.known; waits = s.state.waits; recovered = s.state.recovered; stopped = s.state.stopped };
+}
+
+abbrev with_commit : Kept → Bool → Kept
+with_commit s b = record {
+  transaction = s.transaction;
+  state = record { stage = s.state.stage; commit = b; yes = s.state.yes; no = s.state.no; desks = s.state.desks; known = s.state.known; waits = s.state.waits; recovered = s.state.recovered; stopped = s.state.stopped };
 }
 
 abbrev pub refused : Bool → Coordinated → Coordinated
 refused b k =
-    record { stage = k.stage; commit = k.commit; yes = k.yes; no = b || k.no; desks = k.desks; known = k.known; waits = k.waits; recovered = k.recovered; stopped = k.stopped }
+    record { stage = k.stage; commit = k.commit; yes = k.yes; no = k.no || b; desks = k.desks; known = k.known; waits = k.waits; recovered = k.recovered; stopped = k.stopped }
+
+abbrev with_no : Bool → Coordinated → Coordinated
+with_no b k =
+    record { stage = k.stage; commit = k.commit; yes = k.yes; no = b; desks = k.desks; known = k.known; waits = k.waits; recovered = k.recovered; stopped = k.stopped }
 
 -- what COMMIT makes of what is kept
 pub commit_all : (s : Kept) → noted (is_active s.state.stage) s ≡ after_got s Begin BeginCommit
 unfolding follow follow_all core_got
-commit_all s = λ i. record { transaction = s.transaction; state = sym (after_ask (noted (is_active s.state.stage) s).state s.state) i }
+commit_all s =
+    let k = s.state in
+    let before : noted (is_active k.stage) s ≡ with_commit s (is_active k.stage || k.commit) = ap (with_commit s) (either_way k.commit (is_active k.stage)) in
+    before ∙ (λ i. record { transaction = s.transaction; state = sym (after_ask (with_commit s (is_active k.stage || k.commit)).state k) i })
 
--- what is written after the voter's NO
+-- what the voter's NO makes of what is kept, and what is written
+pub no_all : (s : Kept) → follow_all (aborted_if true (refused (is_active s.state.stage) s.state)) (abort_block true (refused (is_active s.state.stage) s.state)) ≡ (after_got s Voter VoterNo).state
+unfolding follow follow_all core_got
+no_all s = ap (λ (b : Bool). follow_all (aborted_if true (with_no b s.state)) (abort_block true (with_no b s.state))) (either_way s.state.no (is_active s.state.stage))
+
 pub no_block : (s : Kept) → abort_block true (refused (is_active s.state.stage) s.state) ≡ answers s Voter VoterNo
 unfolding follow core_got
-no_block s = refl
+no_block s = ap (λ (b : Bool). abort_block true (with_no b s.state)) (either_way s.state.no (is_active s.state.stage))
 
 -- what an enlistment's NO makes of what is kept, and what is written
 pub refusal_all : (s : Kept) (e : EnlNo) → follow_all (aborted_if true (voted e.value Refused s.state)) (abort_block true (voted e.value Refused s.state)) ≡ (after_got s (Enl e) EnlistNo).state

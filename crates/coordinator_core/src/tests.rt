@@ -118,7 +118,85 @@ fn all_votes_are_appended_told_and_freed(rt: HostRuntime) -> Result<(), Fail> {
 }
 
 #[test]
-fn a_vote_no_an_end_and_a_stop_abort(rt: HostRuntime) -> Result<(), Fail> {
+fn a_full_log_aborts(rt: HostRuntime) -> Result<(), Fail> {
+    let mut core = core(&rt);
+    let mut out = Outbox::with_room(rt.alloc())?;
+    converse(
+        &rt,
+        &mut core,
+        &mut out,
+        &[
+            (
+                Conn::Begin,
+                Message::BeginBegin,
+                &[(Conn::Begin, Message::BeginBegun(ID))],
+            ),
+            (
+                Conn::Voter,
+                Message::VoterVoter(ID),
+                &[(Conn::Voter, Message::VoterCreated)],
+            ),
+            (
+                Conn::Begin,
+                Message::BeginCommit,
+                &[(Conn::Voter, Message::VoterAsk)],
+            ),
+            (Conn::Voter, Message::VoterYes, &[]),
+        ],
+    );
+    assert_eq!(rt; core.act(), Some(CoreAct::WriteRecord(LogRecord::new(ID))));
+    out.clear();
+    assert!(rt; core.may_log());
+    core.log_full(&mut out);
+    compare(
+        &rt,
+        &out,
+        &[
+            (Conn::Begin, Message::BeginAborted),
+            (Conn::Voter, Message::VoterAbort),
+        ],
+    );
+    assert_eq!(rt; core.stage(), Stage::Aborted);
+    Ok(())
+}
+
+/// An end comes by itself, or by a message that its connection doesn't carry.
+#[test]
+fn an_early_end_aborts(rt: HostRuntime) -> Result<(), Fail> {
+    for is_message in [false, true] {
+        let mut core = core(&rt);
+        let mut out = Outbox::with_room(rt.alloc())?;
+        converse(
+            &rt,
+            &mut core,
+            &mut out,
+            &[
+                (
+                    Conn::Begin,
+                    Message::BeginBegin,
+                    &[(Conn::Begin, Message::BeginBegun(ID))],
+                ),
+                (
+                    Conn::Voter,
+                    Message::VoterVoter(ID),
+                    &[(Conn::Voter, Message::VoterCreated)],
+                ),
+            ],
+        );
+        out.clear();
+        if is_message {
+            assert!(rt; core.has_room(Conn::Voter, Message::BeginCommit));
+            assert!(rt; !core.got(Conn::Voter, Message::BeginCommit, &mut out));
+        } else {
+            core.down(Conn::Voter, &mut out);
+        }
+        compare(&rt, &out, &[(Conn::Begin, Message::BeginAborted)]);
+    }
+    Ok(())
+}
+
+#[test]
+fn a_vote_no_aborts(rt: HostRuntime) -> Result<(), Fail> {
     let [e1, e2] = [1, 2].map(|n| enl(&rt, n));
     let info = Info {
         id: ID,

@@ -39,7 +39,7 @@ impl Core {
         ensures kept { self.new ≡ after_got self.old Begin BeginCommit }
         ensures out { out.new ≡ written out.old (answers self.old Begin BeginCommit) }
     {
-        self.commit = is_active(self.stage) | self.commit;
+        self.commit |= is_active(self.stage);
         self.ask(out);
     }
 
@@ -74,7 +74,7 @@ impl Core {
         ensures kept { self.new ≡ after_got self.old Voter VoterNo }
         ensures out { out.new ≡ written out.old (answers self.old Voter VoterNo) }
     {
-        self.no = is_active(self.stage) | self.no;
+        self.no |= is_active(self.stage);
         self.abort_if(true, out);
     }
 
@@ -175,7 +175,7 @@ impl Core {
             (Conn::Begin, Message::BeginCommit) => self.commit_came(out),
             (Conn::Begin, Message::BeginAbort) => self.abort_if(true, out),
             (Conn::Voter, Message::VoterVoter(_)) => self.voter_came(out),
-            (Conn::Voter, Message::VoterYes) => self.yes = is_active(self.stage) | self.yes,
+            (Conn::Voter, Message::VoterYes) => self.yes |= is_active(self.stage),
             (Conn::Voter, Message::VoterNo) => self.no_came(out),
             (Conn::Enl(e), Message::EnlistEnlist(i)) => self.enlist_came(e, i, out),
             (Conn::Enl(e), Message::EnlistPrepared) => self.vote(e, Ballot::Prepared),
