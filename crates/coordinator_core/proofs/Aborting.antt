@@ -1,18 +1,15 @@
 -- What an abort, an end and the other messages of the outcome make of what is kept.
-use Rattle.std.proofs.Common.{◌≡◌, ◌∙◌, ◌&&◌, ◌||◌, ◌≤◌, ◌<◌, not, ℕ, suc, Bool, true, false, List, [], ◌∷◌, ◌++◌, length, map, refl, ap, sym, arith, if◌then◌else◌}
-use Rattle.dtx_values.specs.declared.entry.Entry.{Entry}
-use Rattle.dtx_values.specs.declared.entry.Entry.TheVariants.{Down as End, Got, LogFull}
-use Rattle.dtx_values.specs.declared.limits.TheConstants.{CONNECTIONS, DURABLES}
+use Rattle.std.proofs.Common.{◌≡◌, ◌∙◌, ◌&&◌, ◌||◌, Bool, true, false, [], ◌∷◌, refl, ap, sym, if◌then◌else◌}
+use Rattle.dtx_values.specs.declared.entry.Entry.TheVariants.{Down as End, LogFull}
 use Rattle.dtx_values.specs.declared.message.Conn.{Conn}
-use Rattle.dtx_values.specs.declared.message.Conn.TheVariants.{Begin, Voter, Enl, Again}
+use Rattle.dtx_values.specs.declared.message.Conn.TheVariants.{Begin, Voter, Enl}
 use Rattle.dtx_values.specs.declared.message.Dir.TheVariants.{Up}
-use Rattle.dtx_values.specs.declared.message.Message.{Message}
 use Rattle.dtx_values.specs.declared.message.Message.TheVariants.{BeginCommit, EnlistNo, VoterNo}
 use Rattle.dtx_values.specs.declared.number.EnlNo.{EnlNo}
 use Rattle.dtx_model.specs.declared.desk.Ballot.TheVariants.{Refused}
 use Rattle.dtx_model.specs.declared.desk.Stage.{Stage}
 use Rattle.dtx_model.specs.declared.desk.Stage.TheVariants.{Idle, Active, Aborted, Recorded, Over, Unknown}
-use Rattle.dtx_model.specs.Coordinated.{Coordinated, abort_if, abort_sends, core_down, core_got, follow, follow_all, is_active, is_early, is_undecided, may_log, waits_after, without}
+use Rattle.dtx_model.specs.Coordinated.{Coordinated, abort_if, abort_sends, core_down, core_got, follow, follow_all, is_active, is_early, is_undecided, waits_after, without}
 use Rattle.coordinator_core.specs.Kept.{Kept, abort_block, aborted_if, after_got, answers, voted}
 use Rattle.coordinator_core.proofs.Following.{after_ask, after_none}
 

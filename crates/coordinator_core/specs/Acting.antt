@@ -1,5 +1,5 @@
 -- The coordinator's act, and its causes.
-use Rattle.std.specs.Prelude.{ℕ, ◌≡◌, Bool, true, false, ◌||◌, not, List, map, filter, Option, Some, None}
+use Rattle.std.specs.Prelude.{ℕ, ◌≡◌, true, false, ◌||◌, not, map, filter, Option, Some, None}
 use Rattle.dtx_values.specs.RecoveryInfo.{pair_of}
 use Rattle.dtx_model.specs.Words.{each}
 use Rattle.dtx_model.specs.Promotes.{identifier_of}

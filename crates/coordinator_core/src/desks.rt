@@ -1,6 +1,5 @@
 //! What the coordinator knows of the enlistments.
 ghost use Rattle.std.specs.Prelude.{◌≡◌, ◌<◌, length, map, Some, true, if◌then◌else◌};
-ghost use Rattle.arrayvec.specs.ArrayVec.{array_vec_len};
 ghost use Rattle.dtx_values.specs.Table.{insert_by};
 ghost use Rattle.dtx_model.specs.Coordinated.{desk_number, kept_desks, unacked, with_ack, with_ballot};
 

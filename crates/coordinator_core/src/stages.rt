@@ -1,7 +1,7 @@
 //! How far a transaction is, and what comes next.
-ghost use Rattle.std.specs.Prelude.{ℕ, ◌≡◌, true};
+ghost use Rattle.std.specs.Prelude.{ℕ, ◌≡◌};
 ghost use Rattle.dtx_values.specs.declared.message.Message.{Message};
-ghost use Rattle.dtx_model.specs.Coordinated.{abort_if, begin_if, behind_restart, has_aborted, is_active, is_recorded, is_undecided, opening_by};
+ghost use Rattle.dtx_model.specs.Coordinated.{begin_if, behind_restart, has_aborted, is_active, is_recorded, is_undecided, opening_by};
 ghost use Rattle.coordinator_core.specs.Hearing.{said};
 
 use dtx_model::Stage;

@@ -2,7 +2,7 @@
 ghost use Rattle.std.specs.Prelude.{◌≡◌, ◌++◌, [], if◌then◌else◌};
 ghost use Rattle.dtx_values.specs.Outgoing.{written};
 ghost use Rattle.dtx_values.specs.declared.message.Conn.TheVariants.{Again, Begin, Enl, Voter};
-ghost use Rattle.dtx_values.specs.declared.message.Message.TheVariants.{BeginCommit, VoterAbort, VoterAsk, EnlistPrepare};
+ghost use Rattle.dtx_values.specs.declared.message.Message.TheVariants.{EnlistPrepare, VoterAbort, VoterAsk};
 ghost use Rattle.dtx_model.specs.Coordinated.{abort_sends, commit_sends, follow_all, is_active, to, to_each, to_waiting};
 ghost use Rattle.coordinator_core.specs.Hearing.{hears, told};
 ghost use Rattle.coordinator_core.specs.Kept.{HasRoomFor, Uses, abort_block, aborted_if};

@@ -1,4 +1,4 @@
-use Rattle.std.proofs.Common.{◌≡◌, ◌∙◌, true, false, List, ap, sym, if◌then◌else◌}
+use Rattle.std.proofs.Common.{◌∙◌, List, ap, sym}
 use Rattle.std.proofs.lemmas.Bool.{cond-false, cond-true}
 use Rattle.dtx_values.specs.declared.message.Conn.TheVariants.{Again}
 use Rattle.dtx_values.specs.declared.number.EnlNo.{EnlNo}

@@ -2,7 +2,7 @@ use Rattle.std.proofs.Common.{◌≡◌, ◌∙◌, ap}
 use Rattle.dtx_values.specs.Outgoing.{written}
 use Rattle.dtx_values.specs.declared.entry.Entry.{Entry}
 use Rattle.std.proofs.Common.{Bool, List}
-use Rattle.dtx_model.specs.Coordinated.{Coordinated, follow_all, is_early}
+use Rattle.dtx_model.specs.Coordinated.{Coordinated, follow_all}
 use Rattle.coordinator_core.specs.Kept.{Kept, abort_block, aborted_if}
 use Rattle.coordinator_core.proofs.Aborting.{ended, ended_all, ended_block}
 use Rattle.coordinator_core.proofs.machine.Core.down.Goals as goal

@@ -1,6 +1,6 @@
 use Rattle.std.proofs.Common.{◌∙◌, ap, arith, length, sym}
 use Rattle.dtx_values.specs.declared.message.Conn.TheVariants.{Enl}
-use Rattle.dtx_model.specs.Coordinated.{accepts, without}
+use Rattle.dtx_model.specs.Coordinated.{without}
 use Rattle.coordinator_core.specs.Kept.{Kept}
 use Rattle.coordinator_core.proofs.Room.{desk_fits, enlist_fits}
 use Rattle.coordinator_core.proofs.machine.Core.enlist_came.Goals as goal

@@ -1,4 +1,4 @@
-use Rattle.std.proofs.Common.{◌≡◌, ◌∙◌, ◌+◌, not, true, ap, arith, length, sym, if◌then◌else◌}
+use Rattle.std.proofs.Common.{◌≡◌, ◌∙◌, ◌+◌, not, ap, arith, length, sym, if◌then◌else◌}
 use Rattle.std.proofs.lemmas.Bool.{cond-false, cond-true, not_from_true}
 use Rattle.dtx_values.specs.declared.message.Dir.TheVariants.{Up}
 use Rattle.dtx_values.specs.Ends.{order_of}
