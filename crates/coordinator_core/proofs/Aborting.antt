@@ -1,5 +1,5 @@
 -- What an abort, an end and the other messages of the outcome make of what is kept.
-use Rattle.std.proofs.Common.{◌≡◌, ◌∙◌, ◌&&◌, ◌||◌, Bool, true, false, [], ◌∷◌, refl, ap, sym, if◌then◌else◌}
+use Rattle.std.proofs.Common.{List, ◌≡◌, ◌∙◌, ◌&&◌, ◌||◌, Bool, true, false, [], ◌∷◌, refl, ap, sym, if◌then◌else◌}
 use Rattle.dtx_values.specs.declared.entry.Entry.TheVariants.{Down as End, LogFull}
 use Rattle.dtx_values.specs.declared.message.Conn.{Conn}
 use Rattle.dtx_values.specs.declared.message.Conn.TheVariants.{Begin, Voter, Enl}
@@ -21,6 +21,11 @@ nothing_done b k fails = by (b && is_undecided k.stage) fails
         → k ≡ follow_all (record { stage = if t then Aborted else k.stage; commit = k.commit; yes = k.yes; no = k.no; desks = k.desks; known = k.known; waits = k.waits; recovered = k.recovered; stopped = k.stopped }) (if t then abort_sends k else [])
     by true fails = absurd cc
     by false fails = sym (after_none k)
+
+-- with these connections known, and these waiting
+abbrev pub with_lists : List Conn → List EnlNo → Coordinated → Coordinated
+with_lists known waits k =
+    record { stage = k.stage; commit = k.commit; yes = k.yes; no = k.no; desks = k.desks; known = known; waits = waits; recovered = k.recovered; stopped = k.stopped }
 
 -- with the connection's end seen, and nobody waiting there
 abbrev pub ended : Conn → Coordinated → Coordinated

@@ -5,6 +5,7 @@ use Rattle.dtx_values.specs.declared.number.EnlNo.{EnlNo}
 use Rattle.dtx_values.specs.Ends.{same_connection}
 use Rattle.dtx_model.specs.Words.{has}
 use Rattle.dtx_model.specs.Coordinated.{but}
+use Rattle.coordinator_core.specs.contracts.machine.Core.{the_view}
 use Rattle.coordinator_core.specs.Kept.{Kept}
 use Rattle.coordinator_core.proofs.Following.{after_again, with_waits}
 use Rattle.coordinator_core.proofs.machine.Core.answer.Goals as goal
@@ -13,7 +14,7 @@ pub returns-then-knows-clause-state : goal.returns-then-knows-clause-state
 returns-then-knows-clause-state c =
     let k = c.args.self.now.state in
     let e = c.args.e in
-    let inside : Kept = record { transaction = c.self.inside.transaction; state = record { stage = c.self.inside.stage; commit = c.self.inside.commit; yes = c.self.inside.yes; no = c.self.inside.no; desks = c.self.inside.desks.items; known = c.self.inside.known.items; waits = c.self.inside.waits.items; recovered = c.self.inside.recovered; stopped = c.self.inside.stopped } } in
+    let inside : Kept = the_view c.self.inside in
     ap (λ (ws : List EnlNo). with_waits ws inside.state) c.leave.ensures
     ∙ ap (λ (s : Kept). with_waits (but e.value s.state.waits) s.state) c.self.view_is
     ∙ ap (λ (ws : List EnlNo). with_waits ws k) (sym (cond-true (has (same_connection (Again e)) k.known) (but e.value k.waits) k.waits (sym c.knows.ensures ∙ c.if-knows.true)))

@@ -1,18 +1,18 @@
-use Rattle.std.proofs.Common.{◌≡◌, ◌∙◌, ap}
+use Rattle.std.proofs.Common.{◌≡◌, ◌∙◌, Bool, List, ap}
 use Rattle.dtx_values.specs.Outgoing.{written}
 use Rattle.dtx_values.specs.declared.entry.Entry.{Entry}
-use Rattle.std.proofs.Common.{Bool, List}
 use Rattle.dtx_model.specs.Coordinated.{Coordinated, follow_all}
+use Rattle.coordinator_core.specs.contracts.machine.Core.{the_view}
 use Rattle.coordinator_core.specs.Kept.{Kept, abort_block, aborted_if}
-use Rattle.coordinator_core.proofs.Aborting.{ended, ended_all, ended_block}
+use Rattle.coordinator_core.proofs.Aborting.{ended, ended_all, ended_block, with_lists}
 use Rattle.coordinator_core.proofs.machine.Core.down.Goals as goal
 
 -- what is kept before the abort
-before : (c : goal.After-abort_if) → record { stage = c.self.inside.stage; commit = c.self.inside.commit; yes = c.self.inside.yes; no = c.self.inside.no; desks = c.self.inside.desks.items; known = c.close.new.known.items; waits = c.leave_if.new.waits.items; recovered = c.self.inside.recovered; stopped = c.self.inside.stopped } ≡ ended c.args.c c.args.self.now.state
+before : (c : goal.After-abort_if) → with_lists c.close.new.known.items c.leave_if.new.waits.items (the_view c.self.inside).state ≡ ended c.args.c c.args.self.now.state
 before c =
-    let with_ends : ◌≡◌ {A = Coordinated} (record { stage = c.self.inside.stage; commit = c.self.inside.commit; yes = c.self.inside.yes; no = c.self.inside.no; desks = c.self.inside.desks.items; known = c.close.new.known.items; waits = c.leave_if.new.waits.items; recovered = c.self.inside.recovered; stopped = c.self.inside.stopped }) (ended c.args.c (record { stage = c.self.inside.stage; commit = c.self.inside.commit; yes = c.self.inside.yes; no = c.self.inside.no; desks = c.self.inside.desks.items; known = c.self.inside.known.items; waits = c.self.inside.waits.items; recovered = c.self.inside.recovered; stopped = c.self.inside.stopped })) =
-    λ i. record { stage = c.self.inside.stage; commit = c.self.inside.commit; yes = c.self.inside.yes; no = c.self.inside.no; desks = c.self.inside.desks.items; known = c.close.ensures i; waits = c.leave_if.ensures i; recovered = c.self.inside.recovered; stopped = c.self.inside.stopped } in
-    with_ends ∙ ap (λ (s : Kept). ended c.args.c s.state) c.self.view_is
+    let inside : Coordinated = (the_view c.self.inside).state in
+    let ends : with_lists c.close.new.known.items c.leave_if.new.waits.items inside ≡ ended c.args.c inside = λ i. with_lists (c.close.ensures i) (c.leave_if.ensures i) inside in
+    ends ∙ ap (λ (s : Kept). ended c.args.c s.state) c.self.view_is
 
 pub returns-clause-state : goal.returns-clause-state
 returns-clause-state c =

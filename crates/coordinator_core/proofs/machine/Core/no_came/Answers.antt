@@ -2,13 +2,14 @@ use Rattle.std.proofs.Common.{◌∙◌, Bool, true, List, ap}
 use Rattle.dtx_values.specs.Outgoing.{written}
 use Rattle.dtx_values.specs.declared.entry.Entry.{Entry}
 use Rattle.dtx_model.specs.Coordinated.{follow_all, is_active}
+use Rattle.coordinator_core.specs.contracts.machine.Core.{the_view}
 use Rattle.coordinator_core.specs.Kept.{Kept, abort_block, aborted_if}
 use Rattle.coordinator_core.proofs.Aborting.{no_all, no_block, refused}
 use Rattle.coordinator_core.proofs.machine.Core.no_came.Goals as goal
 
 pub returns-clause-kept : goal.returns-clause-kept
 returns-clause-kept c =
-    let inside : Kept = record { transaction = c.self.inside.transaction; state = record { stage = c.self.inside.stage; commit = c.self.inside.commit; yes = c.self.inside.yes; no = c.self.inside.no; desks = c.self.inside.desks.items; known = c.self.inside.known.items; waits = c.self.inside.waits.items; recovered = c.self.inside.recovered; stopped = c.self.inside.stopped } } in
+    let inside : Kept = the_view c.self.inside in
     let transaction = c.abort_if.ensures.transaction ∙ ap (λ (s : Kept). s.transaction) c.self.view_is in
     let state = c.abort_if.ensures.state
     ∙ ap (λ (b : Bool). follow_all (aborted_if true (refused b inside.state)) (abort_block true (refused b inside.state))) c.is_active.ensures
@@ -17,7 +18,7 @@ returns-clause-kept c =
 
 pub returns-clause-out : goal.returns-clause-out
 returns-clause-out c =
-    let inside : Kept = record { transaction = c.self.inside.transaction; state = record { stage = c.self.inside.stage; commit = c.self.inside.commit; yes = c.self.inside.yes; no = c.self.inside.no; desks = c.self.inside.desks.items; known = c.self.inside.known.items; waits = c.self.inside.waits.items; recovered = c.self.inside.recovered; stopped = c.self.inside.stopped } } in
+    let inside : Kept = the_view c.self.inside in
     c.abort_if.ensures.out
     ∙ ap (λ (es : List Entry). written c.args.out.now es)
     (ap (λ (b : Bool). abort_block true (refused b inside.state)) c.is_active.ensures ∙ ap (λ (s : Kept). abort_block true (refused (is_active s.state.stage) s.state)) c.self.view_is ∙ no_block c.args.self.now)

@@ -1,18 +1,20 @@
 use Rattle.std.proofs.Common.{◌≡◌, ◌∙◌, Bool, List, ap, sym}
 use Rattle.dtx_values.specs.Outgoing.{written}
 use Rattle.dtx_values.specs.declared.entry.Entry.{Entry}
+use Rattle.dtx_values.specs.declared.message.Conn.{Conn}
 use Rattle.dtx_model.specs.Coordinated.{Coordinated, follow_all}
 use Rattle.dtx_model.specs.Promotes.{identifier_of}
+use Rattle.coordinator_core.specs.contracts.machine.Core.{the_view}
 use Rattle.coordinator_core.specs.Kept.{Kept, abort_block, aborted_if}
+use Rattle.coordinator_core.proofs.Aborting.{with_lists}
 use Rattle.coordinator_core.proofs.Unlined.{closed, unlined_all, unlined_block}
 use Rattle.coordinator_core.proofs.machine.Core.unlined_came.Goals as goal
 
 -- what is kept before the abort
-before : (c : goal.After-abort_if) → record { stage = c.self.inside.stage; commit = c.self.inside.commit; yes = c.self.inside.yes; no = c.self.inside.no; desks = c.self.inside.desks.items; known = c.close.new.known.items; waits = c.self.inside.waits.items; recovered = c.self.inside.recovered; stopped = c.self.inside.stopped } ≡ closed c.args.c c.args.self.now.state
+before : (c : goal.After-abort_if) → with_lists c.close.new.known.items c.self.inside.waits.items (the_view c.self.inside).state ≡ closed c.args.c c.args.self.now.state
 before c =
-    let with_end : ◌≡◌ {A = Coordinated} (record { stage = c.self.inside.stage; commit = c.self.inside.commit; yes = c.self.inside.yes; no = c.self.inside.no; desks = c.self.inside.desks.items; known = c.close.new.known.items; waits = c.self.inside.waits.items; recovered = c.self.inside.recovered; stopped = c.self.inside.stopped }) (closed c.args.c (record { stage = c.self.inside.stage; commit = c.self.inside.commit; yes = c.self.inside.yes; no = c.self.inside.no; desks = c.self.inside.desks.items; known = c.self.inside.known.items; waits = c.self.inside.waits.items; recovered = c.self.inside.recovered; stopped = c.self.inside.stopped })) =
-    λ i. record { stage = c.self.inside.stage; commit = c.self.inside.commit; yes = c.self.inside.yes; no = c.self.inside.no; desks = c.self.inside.desks.items; known = c.close.ensures i; waits = c.self.inside.waits.items; recovered = c.self.inside.recovered; stopped = c.self.inside.stopped } in
-    with_end ∙ ap (λ (s : Kept). closed c.args.c s.state) c.self.view_is
+    let inside : Coordinated = (the_view c.self.inside).state in
+    ap (λ (known : List Conn). with_lists known c.self.inside.waits.items inside) c.close.ensures ∙ ap (λ (s : Kept). closed c.args.c s.state) c.self.view_is
 
 pub returns-clause-kept : goal.returns-clause-kept
 returns-clause-kept c =
