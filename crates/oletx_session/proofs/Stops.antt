@@ -1,5 +1,5 @@
 -- A stop loses every connection: nothing upward is kept and all downward is, and the coordinator sees no end of it any more.
-use Rattle.std.proofs.Common.{◌≡◌, ℕ, Bool, true, false, ◌&&◌, ◌||◌, List, [], ◌∷◌, map, filter, Option, Some, None, refl, ap, sym, subst, ◌∙◌, cond, if◌then◌else◌, inl, inr}
+use Rattle.std.proofs.Common.{◌≡◌, true, false, List, [], ◌∷◌, map, filter, Option, Some, None, refl, ap, sym, subst, ◌∙◌, cond, inl, inr}
 use Rattle.std.specs.List.{flat_map}
 use Rattle.std.specs.Option.{option_map}
 use Rattle.std.proofs.lemmas.Bool.{and_right, cases_Bool, cond-false, cond-true, or_right}
@@ -12,10 +12,10 @@ use Rattle.dtx_model.specs.Wires.{lost_after, same_connection, same_direction}
 use Rattle.oletx_session.specs.declared.link.Link.{Link}
 use Rattle.oletx_session.specs.declared.packet.Packet.{Packet}
 use Rattle.oletx_session.specs.Queues.{HasNoStray, frame_in, goes, is_of, is_on, link_of, on_way, stopped_link, wire_in, wires_in}
-use Rattle.oletx_session.specs.Traffic.{Spells, Wire, lane, stopped_wire, wire_of}
+use Rattle.oletx_session.specs.Traffic.{Wire, stopped_wire, wire_of}
 use Rattle.oletx_session.specs.Carries.{Carries, IsLane, IsWire}
 use Rattle.oletx_session.proofs.Conns.{same_way_is}
-use Rattle.oletx_session.proofs.Views.{made, wire_seen}
+use Rattle.oletx_session.proofs.Views.{made}
 
 -- of the packets that go in one direction none on a lane in this direction is missing
 way_kept : (c : Conn) (d : Dir) (ps : List Packet) → on_way c d (filter (goes d) ps) ≡ on_way c d ps
