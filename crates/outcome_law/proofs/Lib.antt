@@ -38,3 +38,13 @@ pub mod PromotionExample
 pub mod PlannedReplays
 pub mod Determined
 pub mod OtherTraces
+pub mod Table
+pub mod Keeping
+pub mod Crossed
+pub mod Sendings
+pub mod Recorded
+pub mod Evident
+pub mod Vetoing
+pub mod Aborting
+pub mod Doubting
+pub mod OneOutcome
