@@ -3,7 +3,7 @@ use Rattle.std.proofs.Common.{◌≡◌, ℕ, ◌==◌, Bool, true, false, ◌&&
 use Rattle.std.specs.Prelude.{not}
 use Rattle.std.proofs.lemmas.Bool.{eqb-true, false_from_ne_true}
 use Rattle.dtx_values.specs.declared.entry.Entry.{Entry}
-use Rattle.dtx_values.specs.declared.entry.Entry.TheVariants.{CommitAsked, Decided, LocalYes, Lost, OwnerAnswered, PromotionFailed, Restarted, Voted}
+use Rattle.dtx_values.specs.declared.entry.Entry.TheVariants.{CommitAsked, Decided, Down as End, Got, LocalYes, LogFull, Lost, OwnerAnswered, PromoteReply, PromotionFailed, Requested, Restarted, RollbackAsked, TimedOut, Voted}
 use Rattle.dtx_values.specs.declared.number.EnlNo.{EnlNo}
 use Rattle.dtx_values.specs.declared.words.Class.{Class}
 use Rattle.dtx_values.specs.declared.words.Outcome.{Outcome}
@@ -128,7 +128,15 @@ veto_back CommitAsked h k v t =
     let past = keeps_before CommitAsked h k in
     let sealed : has is_sealed h ≡ true = sealed_if_evident (CommitAsked ∷ h) k t in
     absurd (not_both (has is_commit h) (commit_if_sealed h past sealed) (not_true (has is_commit h) (and_right (not (has is_decision h)) (not (has is_commit h)) (newest CommitAsked h k))))
-veto_back _ h k v t = t
+veto_back RollbackAsked h k v t = t
+veto_back TimedOut h k v t = t
+veto_back (PromoteReply e ok) h k v t = t
+veto_back (Requested e r) h k v t = t
+veto_back LogFull h k v t = t
+veto_back (Lost e) h k v t = t
+veto_back (End c d) h k v t = t
+veto_back (Got c d m) h k v t = t
+veto_back _ h k v t = absurd cc
 
 no_yes : (x : Entry) (h : List Entry) → is_veto h x ≡ true → is_yes x ≡ false
 no_yes LocalYes h v = absurd cc
@@ -183,6 +191,12 @@ off_more x h k d w = record {
 decided_off_now : (h : List Entry) → Keeps (Decided Aborted ∷ h) → IsOff h → IsOff (Decided Aborted ∷ h)
 unfolding evidence ready by_seal by_owner by_log
 decided_off_now h k w = record { bare = w.bare; barred = barred_more (Decided Aborted) h (newest (Decided Aborted) h k) refl w.barred }
+
+-- what was decided stands there
+pub decision_stands : (h : List Entry) (o : Outcome) → latest decision_of h ≡ Some o → has is_decision h ≡ true
+decision_stands [] o d = absurd cc
+decision_stands (Decided x ∷ h) o d = refl
+decision_stands (x ∷ h) o d = or_right (is_decision x) (has is_decision h) (decision_stands h o d)
 
 -- where the local side decided an abort
 pub decided_off : (h : List Entry) → Keeps h → latest decision_of h ≡ Some Aborted → IsOff h

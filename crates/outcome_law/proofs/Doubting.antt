@@ -1,7 +1,7 @@
 -- Doubt stays: nothing is got on b and on v after their ends.
 use Rattle.std.proofs.Common.{◌≡◌, ℕ, ◌==◌, Bool, true, false, ◌&&◌, ◌||◌, List, [], ◌∷◌, Option, Some, None, refl, subst, sym}
 use Rattle.std.specs.Prelude.{not}
-use Rattle.std.proofs.lemmas.Bool.{or_left}
+use Rattle.std.proofs.lemmas.Bool.{false≢true, or_left}
 use Rattle.dtx_values.specs.declared.entry.Entry.{Entry}
 use Rattle.dtx_values.specs.declared.entry.Entry.TheVariants.{Decided, Down as End, Got, Handed, Sent}
 use Rattle.dtx_values.specs.declared.message.Conn.{Conn}
@@ -12,7 +12,7 @@ use Rattle.dtx_values.specs.declared.message.Message.TheVariants.{BeginAborted, 
 use Rattle.dtx_values.specs.declared.number.EnlNo.{EnlNo}
 use Rattle.dtx_values.specs.declared.words.Outcome.TheVariants.{Committed, Aborted, InDoubt}
 use Rattle.dtx_values.specs.Ends.{same_connection}
-use Rattle.dtx_values.specs.Lines.{has_line}
+use Rattle.dtx_values.specs.Lines.{has_line, is_opening}
 use Rattle.dtx_model.specs.Words.{all_of, ever, has, latest, put}
 use Rattle.dtx_model.specs.Entries.{decision_of, handed_of, is_decision, is_owner, is_yes}
 use Rattle.dtx_model.specs.Outcome.{coordinator_doubt, doubt, is_begin_end, is_lost_owner, is_outcome_got, is_voter_end, owner_doubt}
@@ -27,14 +27,25 @@ use Rattle.outcome_law.proofs.Crossed.{IsStill, end_opened, end_still, still_mor
 use Rattle.outcome_law.proofs.Sendings.{got_line}
 
 -- b and v are opened once
+begin_row : (m : Message) (h : List Entry) → is_opening Begin m ≡ true → message_row h Begin m ≡ true → not (has (opens Begin) h) ≡ true
+begin_row BeginBegin h t r = r
+begin_row _ h t r = absurd (false≢true t)
+
+voter_row : (m : Message) (h : List Entry) → is_opening Voter m ≡ true → message_row h Voter m ≡ true → not (has (opens Voter) h) ≡ true
+voter_row (VoterVoter u) h t r = and_right (has is_begun_got h) (not (has (opens Voter) h)) r
+voter_row _ h t r = absurd (false≢true t)
+
 begin_once : (x : Entry) (h : List Entry) → rule h x ≡ true → opens Begin x ≡ true → has (opens Begin) h ≡ false
-begin_once (Sent Begin Up BeginBegin) h r t = not_true (has (opens Begin) h) (fourth_of_four true (has is_promoting h) true (not (has (opens Begin) h)) r)
-begin_once _ h r t = absurd cc
+begin_once (Sent Begin Up m) h r t =
+    not_true (has (opens Begin) h) (begin_row m h t (fourth_of_four (has_line Begin Up m) (has is_promoting h) (is_there h Begin Up m) (message_row h Begin m) r))
+begin_once (Sent c Down m) h r t = absurd (false≢true t)
+begin_once _ h r t = absurd (false≢true t)
 
 voter_once : (x : Entry) (h : List Entry) → rule h x ≡ true → opens Voter x ≡ true → has (opens Voter) h ≡ false
-voter_once (Sent Voter Up (VoterVoter u)) h r t =
-    not_true (has (opens Voter) h) (and_right (has is_begun_got h) (not (has (opens Voter) h)) (fourth_of_four true (has is_promoting h) true (has is_begun_got h && not (has (opens Voter) h)) r))
-voter_once _ h r t = absurd cc
+voter_once (Sent Voter Up m) h r t =
+    not_true (has (opens Voter) h) (voter_row m h t (fourth_of_four (has_line Voter Up m) (has is_promoting h) (is_there h Voter Up m) (message_row h Voter m) r))
+voter_once (Sent c Down m) h r t = absurd (false≢true t)
+voter_once _ h r t = absurd (false≢true t)
 
 -- Their ends are ends, since what is got has a line.
 
@@ -53,28 +64,24 @@ record IsClosed (c : Conn) (h : List Entry) : Type 0 where
   opened : has (opens c) h ≡ true
   still : IsStill c Down h
 
+closed_now : (c : Conn) (x : Entry) (h : List Entry) → Keeps (x ∷ h) → x ≡ End c Down → IsClosed c (x ∷ h)
+closed_now c x h k same =
+    let P : Entry → Type 0 = λ y. Keeps (y ∷ h) in
+    let Q : Entry → Type 0 = λ y. IsClosed c (y ∷ h) in
+    let here = subst P same k in
+    subst Q (sym same) (record { opened = or_right (opens c (End c Down)) (has (opens c) h) (end_opened c Down h here.wires.0); still = end_still c Down h here.wires.0 })
+
+closed_later : (c : Conn) (x : Entry) (h : List Entry) → (opens c x ≡ true → has (opens c) h ≡ false) → IsClosed c h → IsClosed c (x ∷ h)
+closed_later c x h once w = record {
+  opened = or_right (opens c x) (has (opens c) h) w.opened;
+  still = still_more c Down x h (λ m o. absurd (not_both (has (opens c) h) w.opened (once o))) (λ o. absurd (not_both (has (opens c) h) w.opened (once o))) w.still;
+}
+
 closed_by : (c : Conn) (p : Entry → Bool) → ((x : Entry) (h : List Entry) → rule h x ≡ true → opens c x ≡ true → has (opens c) h ≡ false)
     → ((x : Entry) (h : List Entry) → Keeps (x ∷ h) → p x ≡ true → x ≡ End c Down) → (h : List Entry) → Keeps h → has p h ≡ true → IsClosed c h
 closed_by c p once ends [] k t = absurd cc
-closed_by c p once ends (x ∷ h) k t = or_case (p x) (has p h) now later t
-  where
-    now : p x ≡ true → IsClosed c (x ∷ h)
-    now q =
-        let same : x ≡ End c Down = ends x h k q in
-        let P : Entry → Type 0 = λ y. Keeps (y ∷ h) in
-        let Q : Entry → Type 0 = λ y. IsClosed c (y ∷ h) in
-        let here = subst P same k in
-        subst Q (sym same) (record { opened = or_right (opens c (End c Down)) (has (opens c) h) (end_opened c Down h here.wires.0); still = end_still c Down h here.wires.0 })
-
-    later : has p h ≡ true → IsClosed c (x ∷ h)
-    later q =
-        let w = closed_by c p once ends h (keeps_before x h k) q in
-        record {
-          opened = or_right (opens c x) (has (opens c) h) w.opened;
-          still =
-              still_more c Down x h (λ m o. absurd (not_both (has (opens c) h) w.opened (once x h (newest x h k) o)))
-              (λ o. absurd (not_both (has (opens c) h) w.opened (once x h (newest x h k) o))) w.still;
-        }
+closed_by c p once ends (x ∷ h) k t =
+    or_case (p x) (has p h) (λ q. closed_now c x h k (ends x h k q)) (λ q. closed_later c x h (once x h (newest x h k)) (closed_by c p once ends h (keeps_before x h k) q)) t
 
 begin_still : (h : List Entry) → Keeps h → has is_begin_end h ≡ true → IsStill Begin Down h
 begin_still h k t = (closed_by Begin is_begin_end begin_once begin_down h k t).still

@@ -18,16 +18,16 @@ use Rattle.dtx_values.specs.declared.words.Vote.{Vote}
 use Rattle.dtx_values.specs.Class.{is_volatile}
 use Rattle.dtx_values.specs.Vote.{is_good}
 use Rattle.dtx_model.specs.Words.{all_of, each, has}
-use Rattle.dtx_model.specs.Entries.{clone_of, is_any_hand, is_asked, is_commit, is_decision, is_good_vote, is_hand, is_owner, is_promoted, is_record, is_sealed, is_vote, is_yes, same_outcome}
+use Rattle.dtx_model.specs.Entries.{clone_of, is_any_hand, is_asked, is_commit, is_decision, is_good_vote, is_hand, is_lost, is_owner, is_promoted, is_record, is_sealed, is_vote, is_yes, same_outcome}
 use Rattle.dtx_model.specs.Outcome.{by_log, by_owner, by_seal, can_own, durables, enlisted, evidence, is_complete, is_empty, owner_committed, ready, volatiles, voters}
 use Rattle.dtx_model.specs.Promotes.{is_begun_got, is_created_got, is_promoting, is_under_way}
 use Rattle.dtx_model.proofs.Bools.{and_left, and_right, and_both, and_never, not_both, not_true, or_case, or_false, or_first, or_right, or_second, three_hold}
-use Rattle.outcome_law.proofs.Tests.{eq_self, eq_swap, first_of_five, first_of_three, second_of_three, second_of_five, third_of_five, fourth_of_five, fifth_of_five, second_of_four, third_of_four}
+use Rattle.outcome_law.proofs.Tests.{eq_self, eq_swap, first_of_five, first_of_three, second_of_three, second_of_five, third_of_five, fourth_of_five, second_of_four, third_of_four}
 use Rattle.outcome_law.proofs.Scans.{each_more, has_less, has_more}
 use Rattle.outcome_law.proofs.Rule.{all_complete, is_answer, is_cloned, is_enlisted, is_only, is_volatile_of, zeros_cast}
 use Rattle.outcome_law.proofs.Evidence.{hand_any, is_answered}
 use Rattle.outcome_law.proofs.Table.{ask_row, class_row, ends_with, have_come, is_prepare_got, is_settled_there, rule, stands_volatile}
-use Rattle.outcome_law.proofs.Keeping.{Keeps, before, earlier, keeps_before, newest}
+use Rattle.outcome_law.proofs.Keeping.{Keeps, before, earlier, fifth_of_five, keeps_before, newest}
 use Rattle.outcome_law.proofs.Sendings.{promoted_by_prepare}
 use Rattle.outcome_law.proofs.Recorded.{complete_if_sealed, complete_more, commit_if_sealed, enlisted_unsealed, promoted_if_sealed, promoting_if_promoted, sealed_if_yes, yes_if_record}
 
@@ -161,7 +161,7 @@ evidence_same Sealed h r d p = not_after Sealed h refl r d
 evidence_same (Handed e) h r d p = not_after (Handed e) h refl r d
 evidence_same (OwnerAnswered e o) h r d p = not_after (OwnerAnswered e o) h refl r d
 evidence_same (Promoted u c) h r d p = not_after (Promoted u c) h refl r d
-evidence_same (Voted e v) h r d p = vote_same e v h p (unvolatile (stands_volatile e.value h) (has is_decision h) d (not_true (stands_volatile e.value h && has is_decision h) (fifth_of_five _ _ _ _ (not (stands_volatile e.value h && has is_decision h)) r)))
+evidence_same (Voted e v) h r d p = vote_same e v h p (unvolatile (stands_volatile e.value h) (has is_decision h) d (not_true (stands_volatile e.value h && has is_decision h) (fifth_of_five (has (is_enlisted e.value) h) (has (is_asked e.value) h) (not (has (is_vote e.value) h)) (not (has (is_lost e.value) h)) (not (stands_volatile e.value h && has is_decision h)) r)))
   where
     unvolatile : (a b : Bool) → b ≡ true → (a && b) ≡ false → a ≡ false
     unvolatile true true q t = absurd cc
@@ -334,19 +334,18 @@ asked_volatile n h k s =
     (λ p. or_right (stands_volatile n (x ∷ g)) (has is_promoted (x ∷ g)) (or_right (is_promoted x) (has is_promoted g) p)) t) (asked_now n) h k s
 
 -- where a volatile hasn't voted, and nothing is promoted, there is no evidence
+there_passes : (e : ℕ) (P : ℕ → Bool) (x : EnlNo × Class) (xs : List (EnlNo × Class)) (ys : List (EnlNo × Class)) → (has (is_volatile_of e) xs ≡ true → each (λ y. P y.0.value) ys ≡ true → P e ≡ true)
+    → (v t : Bool) → (e == x.0.value) ≡ t → ((t && v) || has (is_volatile_of e) xs) ≡ true → each (λ y. P y.0.value) (if v then x ∷ ys else ys) ≡ true → P e ≡ true
+there_passes e P x xs ys ih true true q s a =
+    let same : e ≡ x.0.value = eqb-true e x.0.value q in subst (λ m. P m ≡ true) (sym same) (and_left (P x.0.value) (each (λ y. P y.0.value) ys) a)
+there_passes e P x xs ys ih true false q s a = ih s (and_right (P x.0.value) (each (λ y. P y.0.value) ys) a)
+there_passes e P x xs ys ih false true q s a = ih s a
+there_passes e P x xs ys ih false false q s a = ih s a
+
 volatile_passes : (e : ℕ) (P : ℕ → Bool) (xs : List (EnlNo × Class)) → has (is_volatile_of e) xs ≡ true → each (λ x. P x.0.value) (filter (λ x. is_volatile x.1) xs) ≡ true → P e ≡ true
 volatile_passes e P [] s a = absurd cc
-volatile_passes e P (x ∷ xs) s a = step (is_volatile x.1) (e == x.0.value) refl s a
-  where
-    there : (n : ℕ) → (e == n) ≡ true → P n ≡ true → P e ≡ true
-    there n q p = let same : e ≡ n = eqb-true e n q in subst (λ m. P m ≡ true) (sym same) p
-
-    step : (v t : Bool) → (e == x.0.value) ≡ t → ((t && v) || has (is_volatile_of e) xs) ≡ true
-        → each (λ y. P y.0.value) (if v then x ∷ filter (λ y. is_volatile y.1) xs else filter (λ y. is_volatile y.1) xs) ≡ true → P e ≡ true
-    step true true q s a = there x.0.value q (and_left (P x.0.value) (each (λ y. P y.0.value) (filter (λ y. is_volatile y.1) xs)) a)
-    step true false q s a = volatile_passes e P xs s (and_right (P x.0.value) (each (λ y. P y.0.value) (filter (λ y. is_volatile y.1) xs)) a)
-    step false true q s a = volatile_passes e P xs s a
-    step false false q s a = volatile_passes e P xs s a
+volatile_passes e P (x ∷ xs) s a =
+    there_passes e P x xs (filter (λ y. is_volatile y.1) xs) (λ t b. volatile_passes e P xs t b) (is_volatile x.1) (e == x.0.value) refl s a
 
 pub good_voted : (e : ℕ) (x : Entry) → is_good_vote e x ≡ true → is_vote e x ≡ true
 good_voted e (Voted f v) t = and_left (e == f.value) (is_good v) t

@@ -51,3 +51,7 @@ lasts Q start stays (x ∷ h) k = stays x h k (lasts Q start stays h (keeps_befo
 -- where all of three hold, the third does
 pub third_of_three : (a b c : Bool) → (a && b && c) ≡ true → c ≡ true
 third_of_three a b c t = and_right (a && b) c t
+
+-- where all of five hold, the fifth does
+pub fifth_of_five : (a b c d e : Bool) → (a && b && c && d && e) ≡ true → e ≡ true
+fifth_of_five a b c d e t = and_right (a && b && c && d) e t

@@ -48,3 +48,4 @@ pub mod Vetoing
 pub mod Aborting
 pub mod Doubting
 pub mod OneOutcome
+pub mod TableExample

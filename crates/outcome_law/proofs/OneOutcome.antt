@@ -258,16 +258,16 @@ learned_step : (b m : Bool) → (b ≡ true → m ≡ true) → (not b || m) ≡
 learned_step true m f = f refl
 learned_step false m f = refl
 
-learned_now : (x : Entry) (h : List Entry) → Keeps (x ∷ h) → is_learned h x ≡ true
-learned_now (Told (Enl e) o) (Got (Again f) Down m ∷ h) k =
+learned_now : (h : List Entry) (x : Entry) → Keeps (x ∷ h) → is_learned h x ≡ true
+learned_now (Got (Again f) Down m ∷ h) (Told (Enl e) o) k =
     learned_step (e.value == f.value) (may_learn (Got (Again f) Down m ∷ h) o)
     (λ a. learns (Enl e) o (Got (Again f) Down m ∷ h) (keeps_before (Told (Enl e) o) (Got (Again f) Down m ∷ h) k)
     (again_here e o (Got (Again f) Down m ∷ h) a (newest (Told (Enl e) o) (Got (Again f) Down m ∷ h) k)))
-learned_now x h k = refl
+learned_now _ _ k = refl
 
 pub all_learned : (h : List Entry) → Keeps h → Learned h
 all_learned [] k = refl
-all_learned (x ∷ h) k = and_both (is_learned h x) (always is_learned h) (learned_now x h k) (all_learned h (keeps_before x h k))
+all_learned (x ∷ h) k = and_both (is_learned h x) (always is_learned h) (learned_now h x k) (all_learned h (keeps_before x h k))
 
 -- The law of one outcome: of a history alone.
 pub one_outcome_of : (h : List Entry) → ruled h ≡ true → tied h ≡ true → WireRun h → (justified h ≡ true) × (agree h ≡ true) × Learned h

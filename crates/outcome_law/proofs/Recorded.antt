@@ -23,11 +23,11 @@ use Rattle.dtx_model.specs.Tied.{before_first, before_first_stop, can_log, enlis
 use Rattle.dtx_model.specs.Wires.{WireRun, is_stopped, opens, stop_of, holds}
 use Rattle.dtx_model.specs.Promotes.{is_created_got, is_begun_got, is_promoting, is_under_way, is_failed}
 use Rattle.dtx_model.proofs.Bools.{and_left, and_right, and_both, not_both, not_false, not_true, or_case, or_false, or_first, or_right, or_second, and_never, three_hold}
-use Rattle.outcome_law.proofs.Tests.{first_of_five, second_of_five, third_of_five, fourth_of_five, fifth_of_five, second_of_three, eq_self, or_between}
+use Rattle.outcome_law.proofs.Tests.{first_of_five, second_of_five, third_of_five, fourth_of_five, second_of_three, eq_self, or_between}
 use Rattle.outcome_law.proofs.Scans.{each_both, each_more, each-append}
 use Rattle.outcome_law.proofs.Rule.{all_complete, is_cloned, is_enlisted, zeros_cast}
 use Rattle.outcome_law.proofs.Table.{class_row, have_come, is_ask_got, is_enlist_got, is_settled_there, rule, ruled, volatiles_well}
-use Rattle.outcome_law.proofs.Keeping.{Keeps, before, earlier, keeps_before, lasts, newest, newest_tied}
+use Rattle.outcome_law.proofs.Keeping.{Keeps, before, fifth_of_five, keeps_before, newest, newest_tied}
 use Rattle.outcome_law.proofs.Crossed.{no_end_up, nothing_up}
 use Rattle.outcome_law.proofs.Sendings.{aborted_more, good_if_ready, got_line, own_info, promoted_if_commit, record_of_mark, yes_if_got}
 
@@ -369,13 +369,14 @@ unmarked_before : (a b : Option Bool) → is_unmarked (or_else a b) ≡ true →
 unmarked_before (Some c) b m = absurd cc
 unmarked_before None b m = m
 
+live_stop : (h : List Entry) (b : Bool) → has is_stop h ≡ b → coordinator_aborted (before_first_stop h) ≡ false → (has is_stop h ≡ true → coordinator_aborted h ≡ false)
+    → coordinator_aborted h ≡ false
+live_stop h true t l f = f t
+live_stop h false t l f = subst (λ g. coordinator_aborted g ≡ false) (first_none h h t) l
+
 live_first : (h : List Entry) → Keeps h → has is_stop h ≡ true → is_unmarked (latest mark_of h) ≡ true → coordinator_aborted (before_first_stop h) ≡ false → coordinator_aborted h ≡ false
 live_first [] k s m l = l
-live_first (Stopped ∷ h) k s m l = calm_more Stopped h refl (by_first (has is_stop h) refl)
-  where
-    by_first : (b : Bool) → has is_stop h ≡ b → coordinator_aborted h ≡ false
-    by_first true t = live_first h (keeps_before Stopped h k) t m l
-    by_first false t = subst (λ g. coordinator_aborted g ≡ false) (first_none h h t) l
+live_first (Stopped ∷ h) k s m l = calm_more Stopped h refl (live_stop h (has is_stop h) refl l (λ t. live_first h (keeps_before Stopped h k) t m l))
 live_first (x ∷ h) k s m l =
     calm_more x h (calm_down x h k (unmarked_now (mark_of x) (latest mark_of h) m) s (stands_stopped h s (unmarked_before (mark_of x) (latest mark_of h) m)))
     (live_first h (keeps_before x h k) s (unmarked_before (mark_of x) (latest mark_of h) m) (subst (λ g. coordinator_aborted g ≡ false) (first_some (x ∷ h) h h s) l))

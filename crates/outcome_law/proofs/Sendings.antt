@@ -2,7 +2,7 @@
 use Rattle.std.proofs.Common.{◌≡◌, ℕ, ◌==◌, Bool, true, false, ◌&&◌, ◌||◌, List, [], ◌∷◌, refl, sym, subst}
 use Rattle.std.specs.Prelude.{not}
 use Rattle.dtx_values.specs.declared.entry.Entry.{Entry}
-use Rattle.dtx_values.specs.declared.entry.Entry.TheVariants.{Down as End, Got, LogFull, Logged, Restarted, Sent, Stopped, Voted}
+use Rattle.dtx_values.specs.declared.entry.Entry.TheVariants.{Down as End, Freed, Got, LogFull, Logged, Restarted, Sent, Stopped, Voted}
 use Rattle.dtx_values.specs.declared.message.Conn.{Conn}
 use Rattle.dtx_values.specs.declared.message.Conn.TheVariants.{Begin, Voter, Enl, Again}
 use Rattle.dtx_values.specs.declared.message.Dir.{Dir}
@@ -193,11 +193,12 @@ good_if_ready e h k s =
     (has_more (is_ready_got e.value) (is_got_on (Enl e) Up is_ready_message) (ready_got_on e) h s)
 
 -- A record stands where the coordinator's commit is got.
-record_of_mark : (h : List Entry) → has_mark h ≡ true → has is_record h ≡ true
+pub record_of_mark : (h : List Entry) → has_mark h ≡ true → has is_record h ≡ true
 record_of_mark [] t = absurd cc
 record_of_mark (Logged ∷ h) t = refl
 record_of_mark (Restarted true ∷ h) t = refl
 record_of_mark (Restarted false ∷ h) t = absurd cc
+record_of_mark (Freed ∷ h) t = absurd cc
 record_of_mark (x ∷ h) t = or_right (is_record x) (has is_record h) (record_of_mark h t)
 
 logged_record : (x : Entry) → is_logged x ≡ true → is_record x ≡ true
