@@ -1,5 +1,5 @@
 -- Where the local side decided an abort, or the coordinator aborted, no evidence stands, then or later.
-use Rattle.std.proofs.Common.{◌≡◌, ℕ, ◌==◌, Bool, true, false, ◌&&◌, ◌||◌, ◌⊎◌, inl, inr, List, [], ◌∷◌, Option, Some, None, refl, sym, subst, ◌∙◌}
+use Rattle.std.proofs.Common.{◌≡◌, ℕ, ◌==◌, Bool, true, false, ◌&&◌, ◌||◌, ◌⊎◌, inl, inr, List, [], ◌∷◌, Some, refl, subst, ◌∙◌}
 use Rattle.std.specs.Prelude.{not}
 use Rattle.std.proofs.lemmas.Bool.{eqb-true, false_from_ne_true}
 use Rattle.dtx_values.specs.declared.entry.Entry.{Entry}
@@ -13,16 +13,16 @@ use Rattle.dtx_model.specs.Words.{each, has, latest}
 use Rattle.dtx_model.specs.Entries.{decision_of, is_asked, is_commit, is_decision, is_good_vote, is_hand, is_lost, is_owner, is_promoted, is_record, is_sealed, is_vote, is_yes}
 use Rattle.dtx_model.specs.Outcome.{by_log, by_owner, by_seal, can_own, durables, evidence, is_empty, is_first_veto, is_veto, owner_committed, ready, voters}
 use Rattle.dtx_model.specs.Learned.{coordinator_aborted}
-use Rattle.dtx_model.specs.Promotes.{ends_told, is_promoting, is_refusal}
+use Rattle.dtx_model.specs.Promotes.{ends_told, is_refusal}
 use Rattle.dtx_model.proofs.Bools.{and_both, and_left, and_right, not_both, not_true, or_case, or_false, or_right, or_second}
-use Rattle.outcome_law.proofs.Tests.{eq_self, fourth_of_five, fourth_of_four}
+use Rattle.outcome_law.proofs.Tests.{eq_self, fourth_of_five}
 use Rattle.outcome_law.proofs.Scans.{each_more, has_more}
 use Rattle.outcome_law.proofs.Rule.{all_complete, is_enlisted}
-use Rattle.outcome_law.proofs.Table.{but_failed, calls_off, ends_called_off, is_enlist_got, is_lost_there, rule, stands_volatile}
+use Rattle.outcome_law.proofs.Table.{but_failed, ends_called_off, is_enlist_got, is_lost_there, rule, stands_volatile}
 use Rattle.outcome_law.proofs.Keeping.{Keeps, keeps_before, newest}
 use Rattle.outcome_law.proofs.Sendings.{aborted_more}
-use Rattle.outcome_law.proofs.Recorded.{came_voted, commit_if_sealed, evidence_if_record, live_if_record, promoted_if_sealed, yes_if_record}
-use Rattle.outcome_law.proofs.Evident.{evidence_same, evident_record, good_voted, not_after, sealed_if_evident, unrecorded_open, unsealed_open}
+use Rattle.outcome_law.proofs.Recorded.{came_voted, commit_if_sealed, live_if_record, promoted_if_sealed, yes_if_record}
+use Rattle.outcome_law.proofs.Evident.{evidence_same, evident_record, good_voted, not_after, sealed_if_evident, unsealed_open}
 use Rattle.outcome_law.proofs.Vetoing.{aborted_promoting, refusal_aborted, told_aborted}
 
 -- an enlistment came to the coordinator, and is lost without a vote

@@ -1,6 +1,6 @@
 -- What WireRun gives: what is got was sent, nothing goes up while the coordinator stands stopped, and nothing comes down after the end of a connection that is opened
 -- once.
-use Rattle.std.proofs.Common.{◌≡◌, ℕ, zero, suc, ◌==◌, Bool, true, false, ◌&&◌, ◌||◌, List, [], ◌∷◌, ◌++◌, Option, Some, None, refl, sym, subst, ap, ◌∙◌}
+use Rattle.std.proofs.Common.{◌≡◌, ℕ, zero, suc, Bool, true, false, ◌&&◌, ◌||◌, List, [], ◌∷◌, ◌++◌, Option, Some, None, refl, sym, subst, ap}
 use Rattle.std.specs.Prelude.{not, take, is_some, if◌then◌else◌}
 use Rattle.std.proofs.lemmas.Bool.{eqb-true, or_left}
 use Rattle.dtx_values.specs.declared.entry.Entry.{Entry}
@@ -12,12 +12,11 @@ use Rattle.dtx_values.specs.declared.message.Dir.TheVariants.{Up, Down}
 use Rattle.dtx_values.specs.declared.message.Message.{Message}
 use Rattle.dtx_values.specs.Ends.{same_connection, same_direction}
 use Rattle.dtx_values.specs.Lines.{has_line, is_opening}
-use Rattle.dtx_model.specs.Words.{has, latest}
+use Rattle.dtx_model.specs.Words.{has}
 use Rattle.dtx_model.specs.Outcome.{is_empty}
-use Rattle.dtx_model.specs.Wires.{MayCross, WireRun, begins_ended, ended_after, ends, holds, in_transit, is_ended, is_kept, is_lost_wire, is_next, is_open_wire, is_stopped, kept, loses, lost_after, lost_since, opened_with, opens, sent_behind, stop_of, transit_after, transit_after_stop, without_first}
+use Rattle.dtx_model.specs.Wires.{MayCross, WireRun, ended_after, ends, holds, in_transit, is_ended, is_kept, is_lost_wire, is_next, is_open_wire, is_stopped, kept, loses, lost_after, lost_since, opened_with, opens, sent_behind, transit_after, transit_after_stop, without_first}
 use Rattle.dtx_model.proofs.Bools.{and_left, and_right, and_both, not_both, not_true, or_case, or_right}
 use Rattle.dtx_model.proofs.SameNumbers.{same_enlistment}
-use Rattle.outcome_law.proofs.Tests.{eq_self}
 
 -- a message that passes is sent, or got, on this connection in this direction
 abbrev pub is_sent_on : Conn → Dir → (Message → Bool) → Entry → Bool

@@ -1,28 +1,26 @@
 -- Doubt stays: nothing is got on b and on v after their ends.
-use Rattle.std.proofs.Common.{◌≡◌, ℕ, ◌==◌, Bool, true, false, ◌&&◌, ◌||◌, List, [], ◌∷◌, Option, Some, None, refl, subst, sym}
+use Rattle.std.proofs.Common.{◌≡◌, Bool, true, false, List, [], ◌∷◌, Option, Some, None, refl, subst, sym}
 use Rattle.std.specs.Prelude.{not}
 use Rattle.std.proofs.lemmas.Bool.{false≢true, or_left}
 use Rattle.dtx_values.specs.declared.entry.Entry.{Entry}
-use Rattle.dtx_values.specs.declared.entry.Entry.TheVariants.{Decided, Down as End, Got, Handed, Sent}
+use Rattle.dtx_values.specs.declared.entry.Entry.TheVariants.{Decided, Down as End, Got, Sent}
 use Rattle.dtx_values.specs.declared.message.Conn.{Conn}
 use Rattle.dtx_values.specs.declared.message.Conn.TheVariants.{Begin, Voter}
 use Rattle.dtx_values.specs.declared.message.Dir.TheVariants.{Up, Down}
 use Rattle.dtx_values.specs.declared.message.Message.{Message}
-use Rattle.dtx_values.specs.declared.message.Message.TheVariants.{BeginAborted, BeginBegin, BeginCommitted, VoterAbort, VoterCommit, VoterVoter}
-use Rattle.dtx_values.specs.declared.number.EnlNo.{EnlNo}
+use Rattle.dtx_values.specs.declared.message.Message.TheVariants.{BeginBegin, VoterVoter}
 use Rattle.dtx_values.specs.declared.words.Outcome.TheVariants.{Committed, Aborted, InDoubt}
-use Rattle.dtx_values.specs.Ends.{same_connection}
 use Rattle.dtx_values.specs.Lines.{has_line, is_opening}
 use Rattle.dtx_model.specs.Words.{all_of, ever, has, latest, put}
 use Rattle.dtx_model.specs.Entries.{decision_of, handed_of, is_decision, is_owner, is_yes}
 use Rattle.dtx_model.specs.Outcome.{coordinator_doubt, doubt, is_begin_end, is_lost_owner, is_outcome_got, is_voter_end, owner_doubt}
-use Rattle.dtx_model.specs.Wires.{is_stopped, opened_with, opens}
+use Rattle.dtx_model.specs.Wires.{opens}
 use Rattle.dtx_model.specs.Promotes.{is_begun_got, is_promoting}
-use Rattle.dtx_model.proofs.Bools.{and_both, and_left, and_right, not_both, not_false, not_true, or_case, or_false, or_right}
+use Rattle.dtx_model.proofs.Bools.{and_right, not_both, not_false, not_true, or_case, or_false, or_right}
 use Rattle.outcome_law.proofs.Tests.{fourth_of_four, four_hold, first_of_four, second_of_four, third_of_four}
 use Rattle.outcome_law.proofs.Scans.{has_more}
 use Rattle.outcome_law.proofs.Table.{is_there, message_row, rule}
-use Rattle.outcome_law.proofs.Keeping.{Keeps, arrived, keeps_before, newest}
+use Rattle.outcome_law.proofs.Keeping.{Keeps, keeps_before, newest}
 use Rattle.outcome_law.proofs.Crossed.{IsStill, end_opened, end_still, still_more, still_silent}
 use Rattle.outcome_law.proofs.Sendings.{got_line}
 

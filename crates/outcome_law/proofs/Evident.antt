@@ -1,6 +1,6 @@
 -- Evidence by the table: it stands only where it is sealed; where it is promoted, by the record; where it isn't, no entry changes it after a decision; and where the commit
 -- was handed over, by the owner's answer.
-use Rattle.std.proofs.Common.{◌≡◌, ℕ, ◌==◌, Bool, true, false, ◌&&◌, ◌||◌, List, [], ◌∷◌, Option, Some, None, refl, sym, subst, ap, ◌∙◌}
+use Rattle.std.proofs.Common.{◌≡◌, ℕ, ◌==◌, Bool, true, false, ◌&&◌, ◌||◌, List, [], ◌∷◌, refl, sym, subst, ap, ◌∙◌}
 use Rattle.std.specs.Prelude.{not, filter, if◌then◌else◌}
 use Rattle.std.proofs.lemmas.Bool.{eqb-true, false_from_ne_true, or_left}
 use Rattle.dtx_values.specs.declared.entry.Ask.TheVariants.{Prepare}
@@ -9,7 +9,6 @@ use Rattle.dtx_values.specs.declared.entry.Entry.TheVariants.{Asked, Cloned, Com
 use Rattle.dtx_values.specs.declared.message.Conn.TheVariants.{Enl}
 use Rattle.dtx_values.specs.declared.message.Dir.TheVariants.{Down}
 use Rattle.dtx_values.specs.declared.message.Message.TheVariants.{EnlistPrepare}
-use Rattle.dtx_values.specs.declared.number.CloneNo.{CloneNo}
 use Rattle.dtx_values.specs.declared.number.EnlNo.{EnlNo}
 use Rattle.dtx_values.specs.declared.words.Class.{Class}
 use Rattle.dtx_values.specs.declared.words.Outcome.{Outcome}
@@ -17,16 +16,16 @@ use Rattle.dtx_values.specs.declared.words.Outcome.TheVariants.{Committed}
 use Rattle.dtx_values.specs.declared.words.Vote.{Vote}
 use Rattle.dtx_values.specs.Class.{is_volatile}
 use Rattle.dtx_values.specs.Vote.{is_good}
-use Rattle.dtx_model.specs.Words.{all_of, each, has}
-use Rattle.dtx_model.specs.Entries.{clone_of, is_any_hand, is_asked, is_commit, is_decision, is_good_vote, is_hand, is_lost, is_owner, is_promoted, is_record, is_sealed, is_vote, is_yes, same_outcome}
-use Rattle.dtx_model.specs.Outcome.{by_log, by_owner, by_seal, can_own, durables, enlisted, evidence, is_complete, is_empty, owner_committed, ready, volatiles, voters}
+use Rattle.dtx_model.specs.Words.{each, has}
+use Rattle.dtx_model.specs.Entries.{is_any_hand, is_asked, is_commit, is_decision, is_good_vote, is_hand, is_lost, is_owner, is_promoted, is_record, is_sealed, is_vote, same_outcome}
+use Rattle.dtx_model.specs.Outcome.{by_log, by_owner, by_seal, can_own, durables, enlisted, evidence, is_empty, owner_committed, ready, volatiles, voters}
 use Rattle.dtx_model.specs.Promotes.{is_begun_got, is_created_got, is_promoting, is_under_way}
-use Rattle.dtx_model.proofs.Bools.{and_left, and_right, and_both, and_never, not_both, not_true, or_case, or_false, or_first, or_right, or_second, three_hold}
-use Rattle.outcome_law.proofs.Tests.{eq_self, eq_swap, first_of_five, first_of_three, second_of_three, second_of_five, third_of_five, fourth_of_five, second_of_four, third_of_four}
-use Rattle.outcome_law.proofs.Scans.{each_more, has_less, has_more}
+use Rattle.dtx_model.proofs.Bools.{and_left, and_right, and_both, not_both, not_true, or_case, or_first, or_right, or_second, three_hold}
+use Rattle.outcome_law.proofs.Tests.{eq_self, eq_swap, first_of_five, first_of_three, second_of_three, second_of_five, third_of_five, fourth_of_five, third_of_four}
+use Rattle.outcome_law.proofs.Scans.{each_more, has_more}
 use Rattle.outcome_law.proofs.Rule.{all_complete, is_answer, is_cloned, is_enlisted, is_only, is_volatile_of, zeros_cast}
 use Rattle.outcome_law.proofs.Evidence.{hand_any, is_answered}
-use Rattle.outcome_law.proofs.Table.{ask_row, class_row, ends_with, have_come, is_prepare_got, is_settled_there, rule, stands_volatile}
+use Rattle.outcome_law.proofs.Table.{ask_row, class_row, ends_with, have_come, is_prepare_got, rule, stands_volatile}
 use Rattle.outcome_law.proofs.Keeping.{Keeps, before, earlier, fifth_of_five, keeps_before, newest}
 use Rattle.outcome_law.proofs.Sendings.{promoted_by_prepare}
 use Rattle.outcome_law.proofs.Recorded.{complete_if_sealed, complete_more, commit_if_sealed, enlisted_unsealed, promoted_if_sealed, promoting_if_promoted, sealed_if_yes, yes_if_record}

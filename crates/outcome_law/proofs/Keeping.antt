@@ -1,9 +1,9 @@
 -- What a history that keeps the table gives: whatever a row asks for before an entry stands before it.
-use Rattle.std.proofs.Common.{◌≡◌, Bool, true, false, ◌&&◌, ◌||◌, List, [], ◌∷◌}
+use Rattle.std.proofs.Common.{◌≡◌, Bool, true, ◌&&◌, List, [], ◌∷◌}
 use Rattle.dtx_values.specs.declared.entry.Entry.{Entry}
 use Rattle.dtx_model.specs.Words.{has}
 use Rattle.dtx_model.specs.Tied.{is_tied, tied}
-use Rattle.dtx_model.specs.Wires.{MayCross, WireRun}
+use Rattle.dtx_model.specs.Wires.{WireRun}
 use Rattle.dtx_model.proofs.Bools.{and_left, and_right, or_case, or_right}
 use Rattle.outcome_law.proofs.Table.{rule, ruled}
 

@@ -1,8 +1,8 @@
 -- The law of one outcome over lists: where each entry keeps its rule, each restart finds what may be found, and what is got was sent, what is told is just, no two are told
 -- opposite outcomes, and who came back learns the logged outcome, or abort.
-use Rattle.std.proofs.Common.{◌≡◌, ℕ, ◌==◌, Bool, true, false, ◌&&◌, ◌||◌, List, [], ◌∷◌, Option, Some, None, refl, sym, subst, ◌∙◌}
+use Rattle.std.proofs.Common.{◌≡◌, ℕ, ◌==◌, Bool, true, false, ◌&&◌, ◌||◌, List, [], ◌∷◌, Some, refl, sym, subst, ◌∙◌}
 use Rattle.std.specs.Prelude.{not}
-use Rattle.std.proofs.lemmas.Bool.{eqb-true, false_from_ne_true, or_left}
+use Rattle.std.proofs.lemmas.Bool.{or_left}
 use Rattle.dtx_values.specs.declared.entry.Entry.{Entry}
 use Rattle.dtx_values.specs.declared.entry.Entry.TheVariants.{Decided, Got, OwnerAnswered, Told}
 use Rattle.dtx_values.specs.declared.entry.Party.{Party}
@@ -17,16 +17,15 @@ use Rattle.dtx_model.specs.Words.{always, ever, has, latest}
 use Rattle.dtx_model.specs.Entries.{decision_of, is_any_hand, is_decision, is_final, is_hand, is_promoted, is_record, same_outcome}
 use Rattle.dtx_model.specs.Outcome.{agree, by_log, by_owner, by_seal, doubt, evidence, hears_doubt, is_decided_again, is_just, justified, may_tell, ready, vetoed}
 use Rattle.dtx_model.specs.Learned.{Learned, coordinator_aborted, is_learned, may_learn}
-use Rattle.dtx_model.specs.Promotes.{is_promoting}
 use Rattle.dtx_model.specs.Tied.{tied}
 use Rattle.dtx_model.specs.Wires.{WireRun}
 use Rattle.dtx_model.proofs.Bools.{and_both, and_left, and_right, not_both, not_false, not_true, or_case, or_false, or_right}
-use Rattle.outcome_law.proofs.Tests.{eq_self, first_of_three, second_of_three}
+use Rattle.outcome_law.proofs.Tests.{first_of_three, second_of_three}
 use Rattle.outcome_law.proofs.Scans.{has_less, has_more}
 use Rattle.outcome_law.proofs.Rule.{is_answer, is_certain, is_decided}
 use Rattle.outcome_law.proofs.Rules.{decided_same}
 use Rattle.outcome_law.proofs.Evidence.{is_answered}
-use Rattle.outcome_law.proofs.Table.{brings, brings_abort, brings_commit, decision_row, ends_again, ends_with, hears_decision, hears_here, is_again, is_commit_come, rule, ruled}
+use Rattle.outcome_law.proofs.Table.{brings, brings_abort, brings_commit, decision_row, ends_again, ends_with, hears_decision, hears_here, is_commit_come, rule, ruled}
 use Rattle.outcome_law.proofs.Keeping.{Keeps, keeps_before, newest, third_of_three}
 use Rattle.outcome_law.proofs.Sendings.{aborted_by_got, aborted_more, record_by_got}
 use Rattle.outcome_law.proofs.Recorded.{evidence_if_record, promoted_if_yes, yes_if_record}

@@ -1,35 +1,33 @@
 -- Where a record stands, there is evidence: the local side said yes, so it was sealed and promoted; each voted well; and the coordinator doesn't abort.
-use Rattle.std.proofs.Common.{◌≡◌, ℕ, ◌==◌, Bool, true, false, ◌&&◌, ◌||◌, List, [], ◌∷◌, ◌++◌, Option, Some, None, refl, sym, subst, ap, ◌∙◌}
+use Rattle.std.proofs.Common.{◌≡◌, ℕ, ◌==◌, Bool, true, false, ◌&&◌, ◌||◌, List, [], ◌∷◌, ◌++◌, Option, Some, None, refl, sym, subst, ◌∙◌}
 use Rattle.std.specs.Prelude.{not, filter, if◌then◌else◌}
-use Rattle.std.proofs.lemmas.Bool.{eqb-true, or_left, false_from_ne_true}
+use Rattle.std.proofs.lemmas.Bool.{eqb-true}
 use Rattle.dtx_values.specs.declared.entry.Entry.{Entry}
-use Rattle.dtx_values.specs.declared.entry.Entry.TheVariants.{Cloned, CommitAsked, Completed, Down as End, Enlisted, Freed, Got, Handed, LocalYes, LogFull, Logged, Promoted, Promoting, Restarted, Sealed, Stopped, Voted}
+use Rattle.dtx_values.specs.declared.entry.Entry.TheVariants.{Cloned, Completed, Down as End, Enlisted, Freed, Got, LocalYes, LogFull, Logged, Promoted, Promoting, Restarted, Sealed, Stopped, Voted}
 use Rattle.dtx_values.specs.declared.message.Conn.{Conn}
 use Rattle.dtx_values.specs.declared.message.Conn.TheVariants.{Begin, Voter, Enl}
 use Rattle.dtx_values.specs.declared.message.Dir.TheVariants.{Up, Down}
-use Rattle.dtx_values.specs.declared.message.Info.{Info}
 use Rattle.dtx_values.specs.declared.message.Message.{Message}
-use Rattle.dtx_values.specs.declared.message.Message.TheVariants.{BeginAbort, BeginCommit, EnlistEnlist, EnlistNo, VoterNo}
+use Rattle.dtx_values.specs.declared.message.Message.TheVariants.{BeginCommit, EnlistEnlist}
 use Rattle.dtx_values.specs.declared.number.CloneNo.{CloneNo}
 use Rattle.dtx_values.specs.declared.number.EnlNo.{EnlNo}
 use Rattle.dtx_values.specs.declared.words.Class.{Class}
 use Rattle.dtx_values.specs.Class.{is_volatile}
-use Rattle.dtx_values.specs.Lines.{has_line}
-use Rattle.dtx_model.specs.Words.{all_of, always, each, ever, has, latest, or_else}
+use Rattle.dtx_model.specs.Words.{all_of, each, ever, has, latest, or_else}
 use Rattle.dtx_model.specs.Entries.{clone_of, is_commit, is_commit_got, is_decision, is_good_vote, is_promoted, is_record, is_sealed, is_yes, is_yes_got}
-use Rattle.dtx_model.specs.Outcome.{by_log, by_owner, by_seal, can_own, durables, enlisted, evidence, is_complete, is_empty, is_veto_end, ready, volatiles, voters}
+use Rattle.dtx_model.specs.Outcome.{by_log, by_owner, by_seal, can_own, durables, enlisted, evidence, is_complete, is_empty, ready, volatiles, voters}
 use Rattle.dtx_model.specs.Learned.{coordinator_aborted, is_abort, is_first_abort}
-use Rattle.dtx_model.specs.Tied.{before_first, before_first_stop, can_log, enlist_got, has_mark, is_logged, is_marked, is_ready_got, is_stop, is_tied, is_unmarked, mark_of, tied}
-use Rattle.dtx_model.specs.Wires.{WireRun, is_stopped, opens, stop_of, holds}
+use Rattle.dtx_model.specs.Tied.{before_first, before_first_stop, can_log, enlist_got, has_mark, is_logged, is_ready_got, is_stop, is_unmarked, mark_of}
+use Rattle.dtx_model.specs.Wires.{is_stopped}
 use Rattle.dtx_model.specs.Promotes.{is_created_got, is_begun_got, is_promoting, is_under_way, is_failed}
-use Rattle.dtx_model.proofs.Bools.{and_left, and_right, and_both, not_both, not_false, not_true, or_case, or_false, or_first, or_right, or_second, and_never, three_hold}
-use Rattle.outcome_law.proofs.Tests.{first_of_five, second_of_five, third_of_five, fourth_of_five, second_of_three, eq_self, or_between}
+use Rattle.dtx_model.proofs.Bools.{and_left, and_right, and_both, not_both, not_true, or_case, or_false, or_right, or_second, and_never, three_hold}
+use Rattle.outcome_law.proofs.Tests.{second_of_five, third_of_five, fourth_of_five, second_of_three, or_between}
 use Rattle.outcome_law.proofs.Scans.{each_both, each_more, each-append}
 use Rattle.outcome_law.proofs.Rule.{all_complete, is_cloned, is_enlisted, zeros_cast}
-use Rattle.outcome_law.proofs.Table.{class_row, have_come, is_ask_got, is_enlist_got, is_settled_there, rule, ruled, volatiles_well}
+use Rattle.outcome_law.proofs.Table.{class_row, have_come, is_ask_got, is_enlist_got, is_settled_there, rule, volatiles_well}
 use Rattle.outcome_law.proofs.Keeping.{Keeps, before, fifth_of_five, keeps_before, newest, newest_tied}
 use Rattle.outcome_law.proofs.Crossed.{no_end_up, nothing_up}
-use Rattle.outcome_law.proofs.Sendings.{aborted_more, good_if_ready, got_line, own_info, promoted_if_commit, record_of_mark, yes_if_got}
+use Rattle.outcome_law.proofs.Sendings.{good_if_ready, own_info, record_of_mark, yes_if_got}
 
 -- The rows of the seal and of the local yes.
 seal_commit : (x : Entry) (h : List Entry) → Keeps h → rule h x ≡ true → is_sealed x ≡ true → has is_commit h ≡ true

@@ -1,33 +1,33 @@
 -- What stands before what is sent, and so before what is got.
-use Rattle.std.proofs.Common.{◌≡◌, ℕ, ◌==◌, Bool, true, false, ◌&&◌, ◌||◌, List, [], ◌∷◌, refl, sym, subst}
+use Rattle.std.proofs.Common.{◌≡◌, ◌==◌, Bool, true, false, ◌&&◌, List, [], ◌∷◌, refl, sym, subst}
 use Rattle.std.specs.Prelude.{not}
 use Rattle.dtx_values.specs.declared.entry.Entry.{Entry}
-use Rattle.dtx_values.specs.declared.entry.Entry.TheVariants.{Down as End, Freed, Got, LogFull, Logged, Restarted, Sent, Stopped, Voted}
+use Rattle.dtx_values.specs.declared.entry.Entry.TheVariants.{Down as End, Freed, Got, Logged, Restarted, Sent, Voted}
 use Rattle.dtx_values.specs.declared.message.Conn.{Conn}
-use Rattle.dtx_values.specs.declared.message.Conn.TheVariants.{Begin, Voter, Enl, Again}
+use Rattle.dtx_values.specs.declared.message.Conn.TheVariants.{Begin, Voter, Enl}
 use Rattle.dtx_values.specs.declared.message.Dir.{Dir}
 use Rattle.dtx_values.specs.declared.message.Dir.TheVariants.{Up, Down}
 use Rattle.dtx_values.specs.declared.message.Info.{Info}
 use Rattle.dtx_values.specs.declared.message.Message.{Message}
-use Rattle.dtx_values.specs.declared.message.Message.TheVariants.{BeginBegin, BeginCommit, BeginCommitted, BeginAborted, VoterYes, VoterRefused, VoterCommit, VoterAbort, EnlistEnlist, EnlistPrepared, EnlistReadonly, EnlistRefused, EnlistPrepare, EnlistCommit, EnlistAbort, ReenlistCommitted, ReenlistAborted}
+use Rattle.dtx_values.specs.declared.message.Message.TheVariants.{BeginCommit, BeginCommitted, BeginAborted, VoterYes, VoterRefused, VoterCommit, VoterAbort, EnlistEnlist, EnlistPrepared, EnlistReadonly, EnlistRefused, EnlistPrepare, EnlistCommit, EnlistAbort, ReenlistCommitted, ReenlistAborted}
 use Rattle.dtx_values.specs.declared.number.EnlNo.{EnlNo}
 use Rattle.dtx_values.specs.declared.words.Vote.{Vote}
 use Rattle.dtx_values.specs.declared.words.Vote.TheVariants.{Yes, No, Done}
 use Rattle.dtx_values.specs.Ends.{same_connection, same_direction}
-use Rattle.dtx_values.specs.Lines.{has_line, is_opening}
+use Rattle.dtx_values.specs.Lines.{has_line}
 use Rattle.dtx_values.specs.Vote.{is_good}
 use Rattle.dtx_model.specs.Words.{has, ever}
 use Rattle.dtx_model.specs.Entries.{is_commit_got, is_good_vote, is_promoted, is_record, is_sealed, is_yes, is_yes_got, is_decision}
 use Rattle.dtx_model.specs.Learned.{coordinator_aborted, is_first_abort}
-use Rattle.dtx_model.specs.Tied.{has_mark, is_logged, is_ready_got, is_marked, mark_of}
-use Rattle.dtx_model.specs.Wires.{MayCross, is_stopped, opens}
+use Rattle.dtx_model.specs.Tied.{has_mark, is_logged, is_ready_got}
+use Rattle.dtx_model.specs.Wires.{opens}
 use Rattle.dtx_model.specs.Promotes.{is_promoting}
 use Rattle.dtx_model.specs.Caused.{same_vote}
-use Rattle.dtx_model.proofs.Bools.{and_left, and_right, and_both, not_both, not_true, or_case, or_right}
-use Rattle.outcome_law.proofs.Tests.{first_of_four, second_of_four, fourth_of_four, first_of_three, second_of_three}
+use Rattle.dtx_model.proofs.Bools.{and_left, and_right, and_both, not_both, not_true, or_right}
+use Rattle.outcome_law.proofs.Tests.{first_of_four, second_of_four, fourth_of_four, second_of_three}
 use Rattle.outcome_law.proofs.Scans.{has_more}
-use Rattle.outcome_law.proofs.Table.{is_cast, is_enlist_got, is_prepare_got, is_of_conn, is_there, message_row, rule}
-use Rattle.outcome_law.proofs.Keeping.{Keeps, arrived, before, earlier, keeps_before, newest}
+use Rattle.outcome_law.proofs.Table.{is_cast, is_there, message_row, rule}
+use Rattle.outcome_law.proofs.Keeping.{Keeps, before, earlier, keeps_before}
 use Rattle.outcome_law.proofs.Crossed.{end_opened, got_sent, is_got_on, is_sent_on, same_conn_is, same_way_is, was_sent}
 
 -- What is sent has a line there, and keeps its row.

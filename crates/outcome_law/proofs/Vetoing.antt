@@ -1,19 +1,17 @@
 -- Where the coordinator aborts, or the local side decided an abort, a veto came first.
-use Rattle.std.proofs.Common.{◌≡◌, ℕ, ◌==◌, Bool, true, false, ◌&&◌, ◌||◌, List, [], ◌∷◌, ◌⊎◌, inl, inr, Option, Some, None, refl, sym, subst}
+use Rattle.std.proofs.Common.{◌≡◌, ◌==◌, Bool, true, false, ◌&&◌, ◌||◌, List, [], ◌∷◌, ◌⊎◌, inl, inr, Some, refl, subst}
 use Rattle.std.specs.Prelude.{not}
-use Rattle.std.proofs.lemmas.Bool.{false_from_ne_true, or_left, eqb-true}
+use Rattle.std.proofs.lemmas.Bool.{or_left}
 use Rattle.dtx_values.specs.declared.entry.Entry.{Entry}
-use Rattle.dtx_values.specs.declared.entry.Entry.TheVariants.{Decided, Down as End, Got, LogFull, PromotionFailed, Requested, Restarted, Sent, Stopped, Told, Voted}
-use Rattle.dtx_values.specs.declared.entry.Party.TheVariants.{Enl as Member}
+use Rattle.dtx_values.specs.declared.entry.Entry.TheVariants.{Decided, Down as End, Got, LogFull, PromotionFailed, Requested, Restarted, Sent, Stopped, Voted}
 use Rattle.dtx_values.specs.declared.entry.Request.TheVariants.{Abort}
 use Rattle.dtx_values.specs.declared.message.Conn.{Conn}
-use Rattle.dtx_values.specs.declared.message.Conn.TheVariants.{Begin, Voter, Enl, Again}
+use Rattle.dtx_values.specs.declared.message.Conn.TheVariants.{Begin, Voter, Enl}
 use Rattle.dtx_values.specs.declared.message.Dir.{Dir}
 use Rattle.dtx_values.specs.declared.message.Dir.TheVariants.{Up, Down}
 use Rattle.dtx_values.specs.declared.message.Message.{Message}
 use Rattle.dtx_values.specs.declared.message.Message.TheVariants.{BeginAbort, BeginAborted, EnlistAbort, EnlistNo, EnlistRefused, VoterAbort, VoterNo, VoterRefused}
 use Rattle.dtx_values.specs.declared.number.EnlNo.{EnlNo}
-use Rattle.dtx_values.specs.declared.words.Outcome.{Outcome}
 use Rattle.dtx_values.specs.declared.words.Outcome.TheVariants.{Committed, Aborted, InDoubt}
 use Rattle.dtx_values.specs.declared.words.Vote.{Vote}
 use Rattle.dtx_values.specs.declared.words.Vote.TheVariants.{Yes, No, Done}
@@ -21,20 +19,20 @@ use Rattle.dtx_values.specs.Ends.{same_connection, same_direction}
 use Rattle.dtx_values.specs.Lines.{has_line}
 use Rattle.dtx_model.specs.Words.{ever, has, latest}
 use Rattle.dtx_model.specs.Entries.{decision_of, is_asked, is_decision, is_promoted, is_record, is_sealed, is_vote, is_yes, is_lost}
-use Rattle.dtx_model.specs.Outcome.{evidence, is_first_veto, is_veto, is_veto_end, vetoed}
+use Rattle.dtx_model.specs.Outcome.{evidence, is_first_veto, is_veto, vetoed}
 use Rattle.dtx_model.specs.Learned.{coordinator_aborted, is_abort, is_first_abort}
-use Rattle.dtx_model.specs.Promotes.{ends_told, is_promoting, is_refusal, is_told_abort}
+use Rattle.dtx_model.specs.Promotes.{ends_told, is_promoting, is_refusal}
 use Rattle.dtx_model.specs.Tied.{is_stop}
 use Rattle.dtx_model.specs.Wires.{is_stopped}
-use Rattle.dtx_model.specs.Caused.{is_begin_sent, same_vote}
-use Rattle.dtx_model.proofs.Bools.{and_both, and_left, and_right, not_both, not_false, not_true, or_case, or_first, or_right, or_second}
-use Rattle.outcome_law.proofs.Tests.{first_of_four, first_of_five, second_of_four, second_of_five, third_of_five, fourth_of_four}
+use Rattle.dtx_model.specs.Caused.{is_begin_sent}
+use Rattle.dtx_model.proofs.Bools.{and_both, and_left, and_right, not_both, not_false, not_true, or_case, or_right, or_second}
+use Rattle.outcome_law.proofs.Tests.{second_of_four, second_of_five, third_of_five, fourth_of_four}
 use Rattle.outcome_law.proofs.Scans.{has_more}
 use Rattle.outcome_law.proofs.Going.{is_no_vote}
-use Rattle.outcome_law.proofs.Rule.{is_decided, is_enlisted}
+use Rattle.outcome_law.proofs.Rule.{is_enlisted}
 use Rattle.outcome_law.proofs.Rules.{decided_same}
 use Rattle.outcome_law.proofs.Table.{but_failed, calls_off, ends_called_off, ends_with, is_abort_decided, is_abort_request, is_cast, is_lost_there, is_there, message_row, rule, stands_promotable, stands_volatile}
-use Rattle.outcome_law.proofs.Keeping.{Keeps, before, earlier, keeps_before, newest}
+use Rattle.outcome_law.proofs.Keeping.{Keeps, before, keeps_before, newest}
 use Rattle.outcome_law.proofs.Crossed.{got_sent, is_sent_on, same_conn_is, same_way_is}
 use Rattle.outcome_law.proofs.Sendings.{aborted_by_got, aborted_more, end_promoting, got_line, got_promoting, promoted_if_commit}
 use Rattle.outcome_law.proofs.Recorded.{can_commit, got_calm, promoting_if_promoted, stopped_stop}
