@@ -1,5 +1,5 @@
 -- The handover of a transaction to the coordinator, and where the right to decide stands.
-use Rattle.std.specs.Prelude.{◌==◌, Bool, true, false, ◌&&◌, ◌||◌, not, Option, Some, None, is_some, if◌then◌else◌}
+use Rattle.std.specs.Prelude.{◌==◌, Bool, true, false, ◌&&◌, not, Option, Some, None, is_some, if◌then◌else◌}
 use Rattle.dtx_values.specs.declared.number.EnlNo.{EnlNo}
 use Rattle.dtx_values.specs.declared.words.Cause.{Cause}
 use Rattle.tm_proxy.specs.declared.news.ProxyNews.{ProxyNews}
@@ -45,9 +45,12 @@ abbrev pub is_last : HandoverAct → Bool
 is_last Over = true
 is_last _ = false
 
+abbrev pub after_end : Promotion → Promotion
+after_end p = record { cause = p.cause; stands = p.stands; over = true; failed = p.failed }
+
 -- after the last act it is over
 abbrev pub after_news : Promotion → ProxyNews → Promotion
-after_news p n = record { cause = p.cause; stands = p.stands; over = is_last (next_act p n) || p.over; failed = p.failed }
+after_news p n = if is_last (next_act p n) then after_end p else p
 
 abbrev pub after_failure : Promotion → Promotion
 after_failure p = record { cause = p.cause; stands = p.stands; over = p.over; failed = true }

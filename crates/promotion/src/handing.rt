@@ -1,6 +1,6 @@
 //! The handover.
 ghost use Rattle.std.specs.Prelude.{◌≡◌, None, Some};
-ghost use Rattle.promotion.specs.Handover.{after_failure, after_news, after_start, is_under_way, next_act, place_of, unstarted};
+ghost use Rattle.promotion.specs.Handover.{after_end, after_failure, after_news, after_start, is_under_way, next_act, place_of, unstarted};
 
 use dtx_values::{Cause, EnlNo};
 use std::marker::Model;
@@ -84,15 +84,22 @@ impl Handover {
         if !self.is_under_way() {
             return HandoverAct::Nothing;
         }
-        let act = match (n, self.stands) {
+        match (n, self.stands) {
             (ProxyNews::Begun(_), _) => HandoverAct::SendVoter,
             (ProxyNews::Created, Some(e)) => HandoverAct::SendEnlist(e),
-            (ProxyNews::Created, None) => HandoverAct::Over,
-            (ProxyNews::Enlisted(e), Some(f)) if *e == f => HandoverAct::Over,
+            (ProxyNews::Created, None) => self.finish(),
+            (ProxyNews::Enlisted(e), Some(f)) if *e == f => self.finish(),
             _ => HandoverAct::Nothing,
-        };
-        self.over = act == HandoverAct::Over;
-        act
+        }
+    }
+
+    /// Ends the handover.
+    fn finish(&mut self) -> HandoverAct
+        ensures act { result ≡ HandoverAct.Over }
+        ensures state { self.new ≡ after_end self.old }
+    {
+        self.over = true;
+        HandoverAct::Over
     }
 
     /// Makes the handover fail.
