@@ -28,12 +28,19 @@ impl Model for Proxy {
     ghost view = { λ p. p.ends.items };
 }
 
+/// Forgets what was known of c.
+fn forget(ends: &mut ArrayVec<End, CONNECTIONS>, c: Conn)
+    ensures { ends.new.items ≡ filter (λ n. not (is_end_of c n)) ends.old.items }
+{
+    ends.retain(|n| !is_end_of(c, n));
+}
+
 /// Opens c by the message that was sent. What was known of an opening before is forgotten.
 fn open_by(ends: &mut ArrayVec<End, CONNECTIONS>, c: Conn, m: &Message)
     requires { length (filter (λ n. not (is_end_of c n)) ends.old.items) < CONNECTIONS }
     ensures { ends.new.items ≡ with_opened c (tag_of m.now) ends.old.items }
 {
-    ends.retain(|n| !is_end_of(c, n));
+    forget(ends, c);
     let opened = End {
         connection: c,
         sent: with_message(0, m),
