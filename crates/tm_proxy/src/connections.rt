@@ -172,8 +172,7 @@ impl Proxy {
         ensures news { result ≡ (if loses_all c self.old then ProxyNews.AllLost else ProxyNews.Lost c) }
     {
         let saw_both = self.saw_both();
-        let awaits_outcome =
-            self.was_sent(Conn::Voter, &Message::VoterYes) && !self.got_outcome();
+        let awaits_outcome = self.was_sent(Conn::Voter, &Message::VoterYes) && !self.got_outcome();
         note_end(self.ends.as_mut_slice(), c);
         if is_of_both(c) && !saw_both && self.saw_both() && awaits_outcome {
             ProxyNews::AllLost
