@@ -92,9 +92,8 @@ desks_same k (Enl e) EnlistAck fails = length-map k.desks (with_ack e.value)
 desks_same k (Enl e) m fails = same_long (is_active k.stage) (with_ballot e.value (ballot_of m)) k.desks
 
 -- how many wait after one came back
-pub waits_more : (ws : List EnlNo) (c : Conn) (m : Message) (e : EnlNo) (i : Info) → c ≡ Again e → m ≡ ReenlistReenlist i → length (waits_after (Got c Up m) ws) ≡ suc (length (but e.value ws))
-waits_more ws c m e i there which =
-    ap (λ (x : Conn). length (waits_after (Got x Up m) ws)) there ∙ ap (λ (n : Message). length (waits_after (Got (Again e) Up n) ws)) which ∙ length-insert_by enl_number e (but e.value ws)
+pub waits_more : (ws : List EnlNo) (e : EnlNo) (m : Message) (i : Info) → m ≡ ReenlistReenlist i → length (waits_after (Got (Again e) Up m) ws) ≡ suc (length (but e.value ws))
+waits_more ws e m i which = ap (λ (n : Message). length (waits_after (Got (Again e) Up n) ws)) which ∙ length-insert_by enl_number e (but e.value ws)
 
 -- the test of what fits
 pub few_iff : (k : Coordinated) (x : Entry) (r : Bool) → r ≡ (nat_le (length (desks_after k x)) DURABLES && nat_le (length (known_after x k.known)) CONNECTIONS && nat_le (length (waits_after x k.waits)) DURABLES)

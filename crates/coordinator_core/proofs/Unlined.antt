@@ -1,6 +1,6 @@
 -- Messages that have no line count as the end of their connection.
-use Rattle.std.proofs.Common.{◌≡◌, ◌∙◌, ℕ, Bool, true, false, List, [], ◌∷◌, map, None, refl, ap, sym, if◌then◌else◌}
-use Rattle.dtx_values.specs.declared.entry.Entry.TheVariants.{Got}
+use Rattle.std.proofs.Common.{◌≡◌, ◌&&◌, ◌∙◌, ℕ, Bool, true, false, List, [], ◌∷◌, map, None, refl, ap, sym, if◌then◌else◌}
+use Rattle.dtx_values.specs.declared.entry.Entry.TheVariants.{Down as End, Got}
 use Rattle.dtx_values.specs.declared.message.Conn.{Conn}
 use Rattle.dtx_values.specs.declared.message.Conn.TheVariants.{Begin, Voter, Enl, Again}
 use Rattle.dtx_values.specs.declared.message.Dir.TheVariants.{Up}
@@ -8,12 +8,7 @@ use Rattle.dtx_values.specs.declared.message.Message.{Message}
 use Rattle.dtx_values.specs.declared.message.Message.TheVariants.{BeginBegin, BeginCommit, BeginAbort, VoterVoter, VoterYes, VoterNo, EnlistEnlist, EnlistPrepared, EnlistNo, EnlistReadonly, EnlistAck, ReenlistReenlist, ReenlistAck}
 use Rattle.dtx_values.specs.Lines.{has_line}
 use Rattle.dtx_model.specs.declared.desk.Desk.{Desk}
-use Rattle.dtx_model.specs.Coordinated.{Coordinated, abort_if, core_got, follow, follow_all, is_active, is_early, with_ballot, without}
-use Rattle.coordinator_core.specs.Kept.{abort_block, aborted_if}
-
--- with the connection's end seen
-abbrev pub closed : Conn → Coordinated → Coordinated
-closed c k = record { stage = k.stage; commit = k.commit; yes = k.yes; no = k.no; desks = k.desks; known = without c k.known; waits = k.waits; recovered = k.recovered; stopped = k.stopped }
+use Rattle.dtx_model.specs.Coordinated.{Coordinated, abort_if, abort_sends, ballot_of, core_down, core_got, follow, follow_all, is_active, is_early, is_undecided, with_ballot, without}
 
 -- a message that is no vote leaves the votes
 no_vote : (e : ℕ) (ds : List Desk) → map (with_ballot e None) ds ≡ ds
@@ -25,7 +20,7 @@ either true x y same = same
 either false x y same = refl
 
 -- what is known after the message
-pub unlined : (k : Coordinated) (c : Conn) (m : Message) → has_line c Up m ≡ false → follow k (Got c Up m) ≡ aborted_if (is_early k c) (closed c k)
+pub unlined : (k : Coordinated) (c : Conn) (m : Message) → has_line c Up m ≡ false → follow k (Got c Up m) ≡ follow k (End c Up)
 unfolding follow
 unlined k Begin BeginBegin none = absurd cc
 unlined k Begin BeginCommit none = absurd cc
@@ -58,11 +53,11 @@ unlined k (Again e) ReenlistAck none = absurd cc
 unlined k (Again e) m none = refl
 
 -- what is written after it
-pub unlined_block : (id : ℕ) (k : Coordinated) (c : Conn) (m : Message) → has_line c Up m ≡ false → core_got id k c m ≡ abort_block (is_early k c) (closed c k)
-unfolding core_got
-unlined_block id k c m none = by c m none ∙ ap (λ (s : Coordinated). abort_block (is_early k c) s) (ap (λ (s : Coordinated). record s { stage = k.stage }) (unlined k c m none))
+pub unlined_block : (id : ℕ) (k : Coordinated) (c : Conn) (m : Message) → has_line c Up m ≡ false → core_got id k c m ≡ core_down k c
+unfolding core_got core_down
+unlined_block id k c m none = by c m none ∙ ap (λ (s : Coordinated). if is_early k c && is_undecided k.stage then abort_sends s else []) (unlined k c m none)
   where
-    by : (c : Conn) (m : Message) → has_line c Up m ≡ false → core_got id k c m ≡ abort_block (is_early k c) (record (follow k (Got c Up m)) { stage = k.stage })
+    by : (c : Conn) (m : Message) → has_line c Up m ≡ false → core_got id k c m ≡ (if is_early k c && is_undecided k.stage then abort_sends (follow k (Got c Up m)) else [])
     by Begin BeginBegin none = absurd cc
     by Begin BeginCommit none = absurd cc
     by Begin BeginAbort none = absurd cc
@@ -82,7 +77,6 @@ unlined_block id k c m none = by c m none ∙ ap (λ (s : Coordinated). abort_bl
     by (Again e) m none = refl
 
 -- both together
-pub unlined_all : (id : ℕ) (k : Coordinated) (c : Conn) (m : Message) → has_line c Up m ≡ false
-    → follow_all (aborted_if (is_early k c) (closed c k)) (abort_block (is_early k c) (closed c k)) ≡ follow_all k (Got c Up m ∷ core_got id k c m)
+pub unlined_all : (id : ℕ) (k : Coordinated) (c : Conn) (m : Message) → has_line c Up m ≡ false → follow_all k (Got c Up m ∷ core_got id k c m) ≡ follow_all k (End c Up ∷ core_down k c)
 unfolding follow_all
-unlined_all id k c m none = sym (λ j. follow_all (unlined k c m none j) (unlined_block id k c m none j))
+unlined_all id k c m none = λ j. follow_all (unlined k c m none j) (unlined_block id k c m none j)

@@ -3,6 +3,7 @@ ghost use Rattle.std.specs.Prelude.{◌≡◌, ◌≤◌, ◌↔◌, ◌&&◌, �
 ghost use Rattle.dtx_values.specs.Ends.{is_in, same_connection};
 ghost use Rattle.dtx_values.specs.declared.entry.Entry.TheVariants.{Got};
 ghost use Rattle.dtx_values.specs.declared.limits.TheConstants.{DURABLES};
+ghost use Rattle.dtx_values.specs.declared.message.Conn.TheVariants.{Again};
 ghost use Rattle.dtx_values.specs.declared.message.Dir.TheVariants.{Up};
 ghost use Rattle.dtx_model.specs.Coordinated.{accepts, but, desks_after, follow, has_voted, is_desk_of, is_early, is_finished, is_prepared, is_ready, known_after, may_free, may_log, nothing, waits_after, without};
 ghost use Rattle.dtx_model.specs.Promotes.{identifier_of};
@@ -221,9 +222,20 @@ impl Core {
     fn waits_after(&self, c: Conn, m: Message) -> usize
         ensures { result ≡ length (waits_after (Got c Up m) self.now.state.waits) }
     {
-        match (c, m) {
-            (Conn::Again(e), Message::ReenlistReenlist(_)) => self.others_wait(e) + 1,
+        match c {
+            Conn::Again(e) => self.waits_again(e, m),
             _ => self.waits.len(),
+        }
+    }
+
+    /// How many wait after a message on the connection of a reenlistment.
+    fn waits_again(&self, e: EnlNo, m: Message) -> usize
+        ensures { result ≡ length (waits_after (Got (Again e) Up m) self.now.state.waits) }
+    {
+        match m {
+            Message::ReenlistReenlist(_) => self.others_wait(e) + 1,
+            Message::ReenlistAck => self.waits.len(),
+            _ => self.others_wait(e),
         }
     }
 

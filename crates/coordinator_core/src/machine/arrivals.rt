@@ -151,13 +151,11 @@ impl Core {
     /// A message that has no line on its connection counts as the connection's end.
     fn unlined_came(&mut self, c: Conn, m: Message, out: &mut Outbox)
         requires line { has_line c Up m ≡ false }
-        requires room { HasRoomFor 34 out.old }
+        requires room { HasRoom out.old }
         ensures kept { self.new ≡ after_got self.old c m }
         ensures out { out.new ≡ written out.old (answers self.old c m) }
     {
-        let is_early = self.is_early(c);
-        close(&mut self.known, c);
-        self.abort_if(is_early, out);
+        self.down(c, out);
     }
 
     /// What follows of a message, which the caller wrote as got. False where the connection doesn't carry the message: that counts as
