@@ -1,5 +1,5 @@
 -- Messages that have no line count as the end of their connection.
-use Rattle.std.proofs.Common.{◌≡◌, ◌&&◌, ◌∙◌, ℕ, Bool, true, false, List, [], ◌∷◌, map, None, refl, ap, sym, if◌then◌else◌}
+use Rattle.std.proofs.Common.{◌≡◌, ◌&&◌, ◌∙◌, ℕ, Bool, true, false, List, [], ◌∷◌, map, None, refl, ap, if◌then◌else◌}
 use Rattle.dtx_values.specs.declared.entry.Entry.TheVariants.{Down as End, Got}
 use Rattle.dtx_values.specs.declared.message.Conn.{Conn}
 use Rattle.dtx_values.specs.declared.message.Conn.TheVariants.{Begin, Voter, Enl, Again}
@@ -8,7 +8,7 @@ use Rattle.dtx_values.specs.declared.message.Message.{Message}
 use Rattle.dtx_values.specs.declared.message.Message.TheVariants.{BeginBegin, BeginCommit, BeginAbort, VoterVoter, VoterYes, VoterNo, EnlistEnlist, EnlistPrepared, EnlistNo, EnlistReadonly, EnlistAck, ReenlistReenlist, ReenlistAck}
 use Rattle.dtx_values.specs.Lines.{has_line}
 use Rattle.dtx_model.specs.declared.desk.Desk.{Desk}
-use Rattle.dtx_model.specs.Coordinated.{Coordinated, abort_if, abort_sends, ballot_of, core_down, core_got, follow, follow_all, is_active, is_early, is_undecided, with_ballot, without}
+use Rattle.dtx_model.specs.Coordinated.{Coordinated, abort_if, abort_sends, core_down, core_got, follow, follow_all, is_active, is_early, is_undecided, with_ballot, without}
 
 -- a message that is no vote leaves the votes
 no_vote : (e : ℕ) (ds : List Desk) → map (with_ballot e None) ds ≡ ds
