@@ -49,3 +49,4 @@ pub mod Aborting
 pub mod Doubting
 pub mod OneOutcome
 pub mod TableExample
+pub mod HalfRows
