@@ -21,7 +21,7 @@ use Rattle.outcome_law.proofs.Rule.{all_complete, is_enlisted}
 use Rattle.outcome_law.proofs.Table.{but_failed, ends_called_off, is_enlist_got, is_lost_there, rule, stands_volatile}
 use Rattle.outcome_law.proofs.Keeping.{Keeps, keeps_before, newest}
 use Rattle.outcome_law.proofs.Sendings.{aborted_more}
-use Rattle.outcome_law.proofs.Recorded.{came_voted, commit_if_sealed, live_if_record, promoted_if_sealed, yes_if_record}
+use Rattle.outcome_law.proofs.Recording.{came_voted, commit_if_sealed, live_if_record, promoted_if_sealed, yes_if_record}
 use Rattle.outcome_law.proofs.Evident.{evidence_same, evident_record, good_voted, not_after, sealed_if_evident, unsealed_open}
 use Rattle.outcome_law.proofs.Vetoing.{aborted_promoting, refusal_aborted, told_aborted}
 

@@ -28,7 +28,7 @@ use Rattle.outcome_law.proofs.Evidence.{hand_any, is_answered}
 use Rattle.outcome_law.proofs.Table.{ask_row, class_row, ends_with, have_come, is_prepare_got, rule, stands_volatile}
 use Rattle.outcome_law.proofs.Keeping.{Keeps, before, earlier, fifth_of_five, keeps_before, newest}
 use Rattle.outcome_law.proofs.Sendings.{promoted_by_prepare}
-use Rattle.outcome_law.proofs.Recorded.{complete_if_sealed, complete_more, commit_if_sealed, enlisted_unsealed, promoted_if_sealed, promoting_if_promoted, sealed_if_yes, yes_if_record}
+use Rattle.outcome_law.proofs.Recording.{complete_if_sealed, complete_more, commit_if_sealed, enlisted_unsealed, promoted_if_sealed, promoting_if_promoted, sealed_if_yes, yes_if_record}
 
 -- It is handed over only where it is sealed, and no promotion began then.
 hand_sealed : (x : Entry) (h : List Entry) → Keeps h → rule h x ≡ true → is_any_hand x ≡ true → has is_sealed h ≡ true
@@ -322,7 +322,7 @@ asked_now n (Asked f Prepare) h k r t =
     subst (λ m. (stands_volatile m h || has is_promoted h) ≡ true) (sym same) (asked_row f h k (and_right (not (has (is_asked f.value) h)) (ask_row h f.value) r))
 asked_now n _ h k r t = absurd cc
 
-volatile_more : (n : ℕ) (x : Entry) (h : List Entry) → stands_volatile n h ≡ true → stands_volatile n (x ∷ h) ≡ true
+pub volatile_more : (n : ℕ) (x : Entry) (h : List Entry) → stands_volatile n h ≡ true → stands_volatile n (x ∷ h) ≡ true
 volatile_more n (Enlisted e c) h t = or_right (is_volatile_of n (e, c)) (stands_volatile n h) t
 volatile_more n _ h t = t
 

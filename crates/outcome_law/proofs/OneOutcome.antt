@@ -28,7 +28,7 @@ use Rattle.outcome_law.proofs.Evidence.{is_answered}
 use Rattle.outcome_law.proofs.Table.{brings, brings_abort, brings_commit, decision_row, ends_again, ends_with, hears_decision, hears_here, is_commit_come, rule, ruled}
 use Rattle.outcome_law.proofs.Keeping.{Keeps, keeps_before, newest, third_of_three}
 use Rattle.outcome_law.proofs.Sendings.{aborted_by_got, aborted_more, record_by_got}
-use Rattle.outcome_law.proofs.Recorded.{evidence_if_record, promoted_if_yes, yes_if_record}
+use Rattle.outcome_law.proofs.Recording.{evidence_if_record, promoted_if_yes, yes_if_record}
 use Rattle.outcome_law.proofs.Evident.{evidence-handed, evidence_same, evident_record, handed_if_answered, not_after}
 use Rattle.outcome_law.proofs.Vetoing.{vetoes}
 use Rattle.outcome_law.proofs.Aborting.{IsOff, aborted_off, decided_off, decision_stands, off_open, row_off}

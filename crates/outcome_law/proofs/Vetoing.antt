@@ -35,7 +35,7 @@ use Rattle.outcome_law.proofs.Table.{but_failed, calls_off, ends_called_off, end
 use Rattle.outcome_law.proofs.Keeping.{Keeps, before, keeps_before, newest}
 use Rattle.outcome_law.proofs.Crossed.{got_sent, is_sent_on, same_conn_is, same_way_is}
 use Rattle.outcome_law.proofs.Sendings.{aborted_by_got, aborted_more, end_promoting, got_line, got_promoting, promoted_if_commit}
-use Rattle.outcome_law.proofs.Recorded.{can_commit, got_calm, promoting_if_promoted, stopped_stop}
+use Rattle.outcome_law.proofs.Recording.{can_commit, got_calm, promoting_if_promoted, stopped_stop}
 use Rattle.outcome_law.proofs.Evident.{asked_volatile, unrecorded_open, unvoted_open}
 
 -- a veto stays, and a first one is one
