@@ -50,7 +50,7 @@ use Rattle.outcome_law.proofs.Table.{ask_row, class_row, ends_with, is_prepare_g
 use Rattle.outcome_law.proofs.Keeping.{earlier}
 use Rattle.outcome_law.proofs.Crossed.{is_got_on}
 use Rattle.outcome_law.proofs.Sendings.{by_got, from_got, is_begin_commit, is_prepare_message}
-use Rattle.outcome_law.proofs.Recorded.{enlisted_unsealed}
+use Rattle.outcome_law.proofs.Recording.{enlisted_unsealed}
 
 -- what is enlisted wasn't before
 pub enlisted_once : (e : EnlNo) (c : Class) (h : List Entry) → rule h (Enlisted e c) ≡ true → has (is_enlisted e.value) h ≡ false
