@@ -52,3 +52,4 @@ pub mod Determined
 pub mod OtherTraces
 pub mod HalfRows
 pub mod HalfKnows
+pub mod Deciding
