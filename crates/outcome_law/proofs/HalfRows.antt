@@ -117,11 +117,11 @@ asked_there n h k s =
     (λ p. or_right (has (is_enlisted n) (x ∷ g)) (has is_sealed (x ∷ g)) (or_right (is_sealed x) (has is_sealed g) p)) t) (asked_now n) h k s
 
 -- before the seal what wasn't enlisted wasn't asked
-unenlisted_unasked : (n : ℕ) (h : List Entry) → Keeps h → has (is_enlisted n) h ≡ false → has is_sealed h ≡ false → has (is_asked n) h ≡ false
+pub unenlisted_unasked : (n : ℕ) (h : List Entry) → Keeps h → has (is_enlisted n) h ≡ false → has is_sealed h ≡ false → has (is_asked n) h ≡ false
 unenlisted_unasked n h k e s = false_from_ne_true (has (is_asked n) h) (λ t. not_both (has (is_enlisted n) h || has is_sealed h) (asked_there n h k t) (or_false (has (is_enlisted n) h) (has is_sealed h) e s))
 
 -- what wasn't enlisted didn't vote
-unenlisted_unvoted : (n : ℕ) (h : List Entry) → Keeps h → has (is_enlisted n) h ≡ false → has (is_vote n) h ≡ false
+pub unenlisted_unvoted : (n : ℕ) (h : List Entry) → Keeps h → has (is_enlisted n) h ≡ false → has (is_vote n) h ≡ false
 unenlisted_unvoted n [] r e = refl
 unenlisted_unvoted n (Enlisted f c ∷ h) r e = unenlisted_unvoted n h (keeps_before (Enlisted f c) h r) (or_second (n == f.value) (has (is_enlisted n) h) e)
 unenlisted_unvoted n (Voted f v ∷ h) r e =

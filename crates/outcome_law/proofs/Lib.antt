@@ -53,3 +53,4 @@ pub mod OtherTraces
 pub mod HalfRows
 pub mod HalfKnows
 pub mod Deciding
+pub mod Undecided
