@@ -54,3 +54,6 @@ pub mod HalfRows
 pub mod HalfKnows
 pub mod Deciding
 pub mod Undecided
+pub mod HalfCalls
+pub mod HalfVotes
+pub mod WorldCalls
