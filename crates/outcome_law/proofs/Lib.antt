@@ -82,3 +82,10 @@ pub mod ScriptCalls
 pub mod Promotions
 pub mod SilentBlocks
 pub mod PaidBlocks
+pub mod HalfRows
+pub mod HalfKnows
+pub mod Deciding
+pub mod Undecided
+pub mod HalfCalls
+pub mod HalfVotes
+pub mod WorldCalls
