@@ -50,3 +50,4 @@ pub mod PromotionExample
 pub mod PlannedReplays
 pub mod Determined
 pub mod OtherTraces
+pub mod Leading
