@@ -51,3 +51,4 @@ pub mod PlannedReplays
 pub mod Determined
 pub mod OtherTraces
 pub mod Leading
+pub mod CoreStages
