@@ -181,7 +181,7 @@ opening_on c (Got e Up m) t =
     and_both (same_connection c e && true) (is_opening c m) (and_both (same_connection c e) true s refl) (subst P (sym (same_conn_is c e s)) (and_right (same_connection c e) (is_opening e m) t))
 opening_on c _ t = absurd cc
 
-sent_opens : (c : Conn) (x : Entry) → is_sent_on c Up (is_opening c) x ≡ true → opens c x ≡ true
+pub sent_opens : (c : Conn) (x : Entry) → is_sent_on c Up (is_opening c) x ≡ true → opens c x ≡ true
 sent_opens c (Sent e Up m) t =
     let s = and_left (same_connection c e) true (and_left (same_connection c e && true) (is_opening c m) t) in
     let P : Conn → Type 0 = λ y. is_opening y m ≡ true in

@@ -52,3 +52,4 @@ pub mod Determined
 pub mod OtherTraces
 pub mod Leading
 pub mod CoreStages
+pub mod CoreKnown
