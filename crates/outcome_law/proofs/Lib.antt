@@ -53,3 +53,4 @@ pub mod OtherTraces
 pub mod Leading
 pub mod CoreStages
 pub mod CoreKnown
+pub mod CoreBlocks
