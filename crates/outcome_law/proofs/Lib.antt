@@ -54,3 +54,7 @@ pub mod Leading
 pub mod CoreStages
 pub mod CoreKnown
 pub mod CoreBlocks
+pub mod HalfRows
+pub mod HalfKnows
+pub mod Deciding
+pub mod Undecided
