@@ -58,3 +58,4 @@ pub mod HalfRows
 pub mod HalfKnows
 pub mod Deciding
 pub mod Undecided
+pub mod CoreSteps
