@@ -82,6 +82,10 @@ pub mod ScriptCalls
 pub mod Promotions
 pub mod SilentBlocks
 pub mod PaidBlocks
+pub mod Leading
+pub mod CoreStages
+pub mod CoreKnown
+pub mod CoreBlocks
 pub mod HalfRows
 pub mod HalfKnows
 pub mod Deciding
@@ -89,3 +93,4 @@ pub mod Undecided
 pub mod HalfCalls
 pub mod HalfVotes
 pub mod WorldCalls
+pub mod CoreSteps
