@@ -206,7 +206,7 @@ refused_keeps h k d c v =
     aborted_keeps (CommitAsked ∷ h) rules d (first_vetoed CommitAsked h v (unsealed_open h k.rules unsealed)) (unsealed_open (CommitAsked ∷ h) rules unsealed)
 
 -- a clone that makes no commit a veto is closed
-closed_step : (k : CloneKind) (x : Bool) → (is_rollback k && not x) ≡ false → (blocks k || x) ≡ true
+pub closed_step : (k : CloneKind) (x : Bool) → (is_rollback k && not x) ≡ false → (blocks k || x) ≡ true
 closed_step Block x e = refl
 closed_step Rollback true e = refl
 closed_step Rollback false e = absurd cc
