@@ -16,7 +16,7 @@ use Rattle.dtx_values.specs.declared.words.Outcome.TheVariants.{Committed}
 use Rattle.dtx_values.specs.declared.words.Vote.{Vote}
 use Rattle.dtx_values.specs.declared.words.Vote.TheVariants.{Yes, No, Done}
 use Rattle.dtx_model.specs.Words.{has, always}
-use Rattle.dtx_model.specs.Entries.{is_asked, is_decision, is_promoted, is_sealed, is_vote, is_yes}
+use Rattle.dtx_model.specs.Entries.{is_asked, is_decision, is_promoted, is_record, is_sealed, is_vote, is_yes}
 use Rattle.dtx_model.specs.Tied.{is_logged}
 use Rattle.dtx_model.specs.Observed.{ends_of}
 use Rattle.dtx_model.specs.Coordinated.{coordinate, is_active}
@@ -30,7 +30,7 @@ use Rattle.outcome_law.proofs.Fine.{IsFine, is_bad}
 use Rattle.outcome_law.proofs.Messages.{ASK, BEGIN, BEGUN, COMMIT, COMMITTED, CREATED, PREPARE, VOTE, VOTED, YES}
 use Rattle.outcome_law.proofs.Debts.{has_promotable, is_decided_committed, is_volatile_made, knows_there}
 use Rattle.outcome_law.proofs.Knowledge.{got_known, knows_got}
-use Rattle.outcome_law.proofs.Stages.{IsUnlogged, begin_got, earlier, sent_known, stage_of, stage_seen, unlogged_before}
+use Rattle.outcome_law.proofs.Stages.{IsUnlogged, begin_got, earlier, record_logged, sent_known, stage_of, stage_seen, unlogged_before}
 use Rattle.outcome_law.proofs.Arrived.{arrived}
 use Rattle.outcome_law.proofs.Connections.{same_is}
 use Rattle.outcome_law.proofs.Followed.{Demands, followed}
@@ -82,6 +82,27 @@ commit_promoted h s k = earlier is_sound (is_sent_on Begin Up COMMIT) (λ h. has
     at : (x : Entry) (h : List Entry) → is_sound h x ≡ true → is_sent_on Begin Up COMMIT x ≡ true → has is_promoted h ≡ true
     at (Sent Begin Up BeginCommit) h s k = s
     at x h s k = absurd cc
+
+-- Row of the table of rules: COMMITTED is sent on b where there is a record.
+abbrev pub is_recorded_first : List Entry → Entry → Bool
+is_recorded_first past (Sent Begin Down BeginCommitted) = has is_record past
+is_recorded_first past x = true
+
+-- so it was sent after a promotion, where nothing bad came
+pub committed_promoted : (h : List Entry) → IsFine h → always is_sound h ≡ true → always is_recorded_first h ≡ true → has (is_sent_on Begin Down COMMITTED) h ≡ true → has is_promoted h ≡ true
+committed_promoted h f s r k =
+    let recorded = earlier is_recorded_first (is_sent_on Begin Down COMMITTED) (λ h. has is_record h) (λ x h q. or_right (is_record x) (has is_record h) q) sent h r k in
+    let got = earlier is_sound is_logged (λ h. has (is_got_on Begin Up COMMIT) h) (λ x h q. or_right (is_got_on Begin Up COMMIT x) (has (is_got_on Begin Up COMMIT) h) q) logged h s
+    (record_logged h f.unbad recorded) in
+    commit_promoted h s (once_sent Begin Up COMMIT h f.run got)
+  where
+    sent : (x : Entry) (h : List Entry) → is_recorded_first h x ≡ true → is_sent_on Begin Down COMMITTED x ≡ true → has is_record h ≡ true
+    sent (Sent Begin Down BeginCommitted) h r k = r
+    sent x h r k = absurd cc
+
+    logged : (x : Entry) (h : List Entry) → is_sound h x ≡ true → is_logged x ≡ true → has (is_got_on Begin Up COMMIT) h ≡ true
+    logged Logged h s k = s
+    logged x h s k = absurd cc
 
 -- COMMIT got: ASK
 ask_due : (m : Message) (past : List Entry) → IsUnlogged (Got Begin Up m ∷ past) → COMMIT m ≡ true → Demands IsUnlogged past (Got Begin Up m) (is_sent_on Voter Down ASK)

@@ -52,7 +52,7 @@ use Rattle.outcome_law.proofs.Openings.{unopened_empty}
 use Rattle.outcome_law.proofs.Knowledge.{is_known_end, knows_where}
 use Rattle.outcome_law.proofs.Unblamed.{nothing_bad}
 use Rattle.outcome_law.proofs.Climbed.{committed_at_rest}
-use Rattle.outcome_law.proofs.SameRows.{is_made_once}
+use Rattle.outcome_law.proofs.SameRows.{is_asked_there, is_made_once}
 use Rattle.outcome_law.proofs.Owed.{IsUnowed, all_answered, all_voted, commit_requested, is_asked_well, promotion_replied}
 
 -- Nothing is on the way.
@@ -140,6 +140,7 @@ pub record IsGoverned (s : List Line) (ks : List EnteredCall) (h : List Entry) :
   pub begun : always is_begun h ≡ true
   pub paying : always pays h ≡ true
   pub once : always is_made_once h ≡ true
+  pub there : always is_asked_there h ≡ true
   pub well : always is_asked_well h ≡ true
   pub run : WireRun h
   -- by the table and the rows
@@ -179,7 +180,7 @@ rests s ks h g e =
       unbad = nothing_bad (plans_of s) h w g.run g.can.in_time g.can.ended_by_none g.can.unlost g.caused g.can.planned g.can.willing;
     } in
     let u : IsUnowed (plan_of ks) h =
-    record { fine = fine; unlost = g.can.unlost; once = g.once; well = g.well; willing = same_willing (plan_of ks) (plans_of s) h g.plans g.can.willing; unowed = i.unanswered } in
+    record { fine = fine; unlost = g.can.unlost; once = g.once; there = g.there; well = g.well; willing = same_willing (plan_of ks) (plans_of s) h g.plans g.can.willing; unowed = i.unanswered } in
     record {
       opened = g.opened;
       caused = g.caused;

@@ -94,3 +94,7 @@ pub mod HalfCalls
 pub mod HalfVotes
 pub mod WorldCalls
 pub mod CoreSteps
+pub mod Handovers
+pub mod PaidRuns
+pub mod OnceMade
+pub mod Counted

@@ -364,7 +364,7 @@ placed_made G ks h n e r c w a =
     }
 
 -- what was found holds what each does
-of-found : {A : Type 0} (P : A → Type 0) (p : A → Bool) (xs : List A) (x : A) → OfEach P xs → find p xs ≡ Some x → P x
+pub of-found : {A : Type 0} (P : A → Type 0) (p : A → Bool) (xs : List A) (x : A) → OfEach P xs → find p xs ≡ Some x → P x
 of-found P p [] x w e = absurd cc
 of-found P p (y ∷ ys) x w e = step P (p y) y (find p ys) x w.0 (of-found P p ys x w.1) e
   where
@@ -593,7 +593,7 @@ ran_made G t [] w r = subst (AreMade G w.calls) (sym r.1) (none_made G w.calls)
 ran_made G t (m ∷ ms) w r = subst (λ (x : World). AreMade G x.calls x.past) (sym r.3) (step_made G t r.0 m r.2 (ran_made G t ms r.0 r.1))
 
 -- calls that make one enlistment are those of one line
-makes_name : (e : ℕ) (c : Call) → makes_enlistment e c ≡ true → made_by c ≡ Some (OfEnlistment e)
+pub makes_name : (e : ℕ) (c : Call) → makes_enlistment e c ≡ true → made_by c ≡ Some (OfEnlistment e)
 makes_name e (Volatile t f x v) k = ap (λ n. Some (OfEnlistment n)) (sym (eqb-true e f.value k))
 makes_name e (Durable t f r s) k = ap (λ n. Some (OfEnlistment n)) (sym (eqb-true e f.value k))
 makes_name e (Promotable t f r v x p) k = ap (λ n. Some (OfEnlistment n)) (sym (eqb-true e f.value k))

@@ -54,7 +54,7 @@ use Rattle.outcome_law.proofs.Connections.{same_is}
 use Rattle.outcome_law.proofs.Knowledge.{knows_got}
 use Rattle.outcome_law.proofs.Stages.{record_logged}
 use Rattle.outcome_law.proofs.Climbed.{none_decided}
-use Rattle.outcome_law.proofs.SameRows.{asked_marked, found_passes, is_made_once, marked_asked, row_found, voted_cast}
+use Rattle.outcome_law.proofs.SameRows.{asked_marked, found_passes, is_asked_there, is_made_once, marked_asked, row_found, voted_cast}
 
 -- Rows of the table of rules: a volatile is asked to prepare, or who got PREPARE; a promotable is asked to promote or for its single phase; and an enlistment is
 -- told committed or in doubt where it was decided, or where there is a record.
@@ -70,6 +70,7 @@ pub record IsUnowed (p : ℕ → Plan) (h : List Entry) : Type 0 where
   pub fine : IsFine h
   pub unlost : has is_loss h ≡ false
   pub once : always is_made_once h ≡ true
+  pub there : always is_asked_there h ≡ true
   pub well : always is_asked_well h ≡ true
   pub willing : each (λ x. is_willing (p x.0.value) x.1) (enlisted h) ≡ true
   pub unowed : each (λ e. is_unplanned (p e.value) (due_of (observe h) e.value)) (names (observe h)) ≡ true
@@ -295,7 +296,7 @@ all_answered p h r u l = each_from_at has_answered (rows h) (λ i x e. row i x e
         step false v w f k = refl
 
 pub all_voted : (p : ℕ → Plan) (h : List Entry) → IsUnowed p h → has is_decision h ≡ false → has is_logged h ≡ false → (e : ℕ) → has (is_asked e) h ≡ true → has (is_vote e) h ≡ true
-all_voted p h r u l e k = voted_cast e h (each_of (rows h) (all_answered p h r u l) (asked_marked e h r.once k))
+all_voted p h r u l e k = voted_cast e h (each_of (rows h) (all_answered p h r u l) (asked_marked e h r.there k))
   where
     each_of : (xs : List Row) → each has_answered xs ≡ true → was_asked e xs ≡ true → voted e xs ≡ true
     each_of [] a k = absurd cc

@@ -9,7 +9,7 @@ use Rattle.dtx_values.specs.declared.entry.Answer.{Answer}
 use Rattle.dtx_values.specs.declared.entry.Answer.TheVariants.{Fine, True, Wait}
 use Rattle.dtx_values.specs.declared.entry.Ask.TheVariants.{Prepare, Promote, Single as AskSingle}
 use Rattle.dtx_values.specs.declared.entry.Entry.{Entry}
-use Rattle.dtx_values.specs.declared.entry.Entry.TheVariants.{Acked, Answered, Asked, Called, Decided, Enlisted, Freed, Got, Down as Ended, LocalYes, Logged, LogFull, OwnerAnswered, Promoted, Promoting, PromoteReply, PromotionFailed, Requested, Sealed, Sent, Stopped, Voted}
+use Rattle.dtx_values.specs.declared.entry.Entry.TheVariants.{Acked, Asked, Called, Decided, Enlisted, Got, Down as Ended, LocalYes, LogFull, OwnerAnswered, Promoting, PromoteReply, PromotionFailed, Requested, Sealed, Sent, Stopped, Voted}
 use Rattle.dtx_values.specs.declared.message.Conn.{Conn}
 use Rattle.dtx_values.specs.declared.message.Conn.TheVariants.{Begin, Voter, Enl}
 use Rattle.dtx_values.specs.declared.message.Dir.{Dir}
@@ -43,32 +43,32 @@ use Rattle.dtx_model.specs.declared.desk.Stage.{Stage}
 use Rattle.dtx_model.specs.declared.desk.Stage.TheVariants.{Aborted as AbortedStage, Active, Idle, Over, Recorded, Unknown}
 use Rattle.dtx_model.specs.declared.waiting.EnteredCall.{EnteredCall}
 use Rattle.dtx_model.specs.declared.waiting.Wanted.TheVariants.{Identifier, Place}
-use Rattle.dtx_model.specs.Words.{each, has, latest, onto}
+use Rattle.dtx_model.specs.Words.{has, latest, onto}
 use Rattle.dtx_model.specs.Entries.{decision_of, is_decision, is_promoted}
 use Rattle.dtx_model.specs.Observed.{cause_of_promotion, ends_of, handover, is_promotion_failed, observe, rows, track}
 use Rattle.dtx_model.specs.Outcome.{enlisted}
 use Rattle.dtx_model.specs.Promotes.{identifier_of, is_failed, is_promoting, is_under_way}
 use Rattle.dtx_model.specs.Wires.{in_transit, is_next}
-use Rattle.dtx_model.specs.Coordinated.{Coordinated, abort_sends, commit_sends, coordinate, core_got, follow, is_active, may_log, opening_by, to, to_each, without}
+use Rattle.dtx_model.specs.Coordinated.{Coordinated, abort_sends, coordinate, core_got, follow, is_active, may_log, opening_by, to_each, without}
 use Rattle.dtx_model.specs.Waiting.{Waiter, is_place_of, managed, waiting}
 use Rattle.dtx_model.specs.Half.{Half, by_manager, decide, ended, enlist_sent, fails_if, given, half_of, is_handed, is_promoting as is_promoting_now, over, promoted_by, sees, to_up, veto_if}
-use Rattle.dtx_model.specs.Arrivals.{arrived, begun, created, enlisted_at, hand_over, local_got, place_given}
-use Rattle.dtx_model.specs.Acts.{act_by, act_entries, after_seal, ask_or, asked_act, commit_act, commit_sent, is_to_tell, promotable_in, promoted_act, sealed_act, tell, unasked_promotable, under_way, undecided_act, voter_act, yes_act}
-use Rattle.dtx_model.specs.Replies.{ack_on, conn_due, due_of, is_volatile_row, owner_entries, promote_entries, reply_entries, request_message, request_of, vote_message, voted_by}
+use Rattle.dtx_model.specs.Arrivals.{hand_over, local_got, place_given}
+use Rattle.dtx_model.specs.Acts.{act_by, act_entries, after_seal, ask_or, asked_act, commit_act, commit_sent, is_to_tell, promotable_in, promoted_act, sealed_act, unasked_promotable, under_way, undecided_act, voter_act, yes_act}
+use Rattle.dtx_model.specs.Replies.{ack_on, conn_due, due_of, is_volatile_row, owner_entries, reply_entries, request_message, request_of, vote_message, voted_by}
 use Rattle.dtx_model.specs.Facts.{begin_promotion, durable_facts, facts_if, has_facts}
 use Rattle.dtx_model.specs.World.{World, answer_at, core, facts_at, half}
-use Rattle.dtx_model.specs.Steps.{LogAnswer, Done as LogDone, Full, StoppedNow, StoppedBefore, Step, Calls, Replies, Acts, Coordinates, Delivers, Stops, Restarts, after, appended, block_at, coordinates, delivered, ended_at, freed, got_by, restarted}
-use Rattle.dtx_model.proofs.Bools.{and_both, and_left, and_right, not_both, not_true, or_case}
+use Rattle.dtx_model.specs.Steps.{LogAnswer, Done as LogDone, Full, StoppedNow, StoppedBefore, Step, Calls, Replies, Acts, Coordinates, Delivers, Stops, Restarts, after, appended, block_at, coordinates, delivered, ended_at, freed, restarted}
+use Rattle.dtx_model.proofs.Bools.{and_both, and_left, not_both}
 use Rattle.outcome_law.proofs.Lists.{has-insert}
 use Rattle.outcome_law.proofs.Owned.{has_rows}
 use Rattle.outcome_law.proofs.Tests.{eq_self}
 use Rattle.outcome_law.proofs.Rule.{is_enlisted}
 use Rattle.outcome_law.proofs.Connections.{same_self}
 use Rattle.outcome_law.proofs.Whole.{is_sent_on}
-use Rattle.outcome_law.proofs.Messages.{ASK, BEGIN, BEGUN, COMMIT, COMMITTED, ENLIST, ENLIST_ANSWER, VOTE, VOTER, VOTER_ANSWER, YES}
+use Rattle.outcome_law.proofs.Messages.{ASK, BEGIN, BEGUN, COMMIT, ENLIST, ENLIST_ANSWER, VOTE, VOTER, VOTER_ANSWER, YES}
 use Rattle.outcome_law.proofs.Debts.{created_next, debt, enlisted_next, has_promotable, is_decided_committed, is_free, is_going_up, is_volatile_made, knows_there, meets, when}
-use Rattle.outcome_law.proofs.Paid.{IsPaid, block_paid, is_silent, logged_paid, silent_paid, single_paid}
-use Rattle.outcome_law.proofs.SilentBlocks.{Silent, may_begin, silent_abort, silent_ack, silent_after_seal, silent_arrived, silent_called, silent_commit_act, silent_core_got, silent_decide, silent_ended_at, silent_freed, silent_local_got, silent_one, silent_restarted, silent_tell, silent_veto, silent_veto_if}
+use Rattle.outcome_law.proofs.Paid.{IsPaid, block_paid, logged_paid, silent_paid, single_paid}
+use Rattle.outcome_law.proofs.SilentBlocks.{Silent, silent_abort, silent_ack, silent_called, silent_commit_act, silent_core_got, silent_decide, silent_ended_at, silent_freed, silent_local_got, silent_one, silent_restarted, silent_tell, silent_veto, silent_veto_if}
 
 -- the list begins with an entry that passes
 abbrev leads : (Entry → Bool) → List Entry → Bool
@@ -367,7 +367,7 @@ abbrev pub is_manager_of : ℕ → EnlNo × RmNo → Bool
 is_manager_of e m = e == m.0.value
 
 abbrev pub Serves : List EnteredCall → List Entry → Conn → Message → Type 0
-Serves ks h Voter VoterCreated = (e : EnlNo) → handover h ≡ Some e → has (is_manager_of e.value) (managed ks h) ≡ true
+Serves ks h Voter VoterCreated = has is_promoted h ≡ false → (e : EnlNo) → handover h ≡ Some e → has (is_manager_of e.value) (managed ks h) ≡ true
 Serves ks h (Enl e) EnlistEnlisted =
     has is_decision h ≡ false → (is_under_way h && is_handed (handover h) e.value) ≡ false → (has is_promoted h ≡ true) × (has (is_place_of e.value) (waiting ks h) ≡ true)
 Serves ks h Begin BeginCommitted = has is_decision h ≡ false → is_under_way h ≡ false
@@ -402,10 +402,15 @@ going_leads q false false true false xs es e f g k = absurd cc
 going_leads q false false false true xs es e f g k = absurd cc
 going_leads q false false false false xs es e f g k = absurd cc
 
--- while it is under way there is a cause
+-- while it is under way there is a cause, and it isn't over
 caused_way : (a b c : Bool) → (a && not b && not c) ≡ true → a ≡ true
 caused_way true b c k = refl
 caused_way false b c k = absurd cc
+
+unpromoted_way : (a b c : Bool) → (a && not b && not c) ≡ true → b ≡ false
+unpromoted_way true true c k = absurd cc
+unpromoted_way true false c k = refl
+unpromoted_way false b c k = absurd cc
 
 committed_leads : (d n p u : Bool) (es : List Entry) → d ≡ n → p ≡ u → (n ≡ false → u ≡ false) → not n ≡ true → leads is_decided_committed (if d then [] else fails_if p ++ Decided Committed ∷ es) ≡ true
 committed_leads false false false u es e f g k = refl
@@ -446,7 +451,7 @@ arrived_paid t w Voter VoterCreated f p =
     head_paid w.past (Got Voter Down VoterCreated) (is_going_up w.past) (created_next (handover w.past)) (local_got t (half w) Voter VoterCreated) refl
     (going_leads (created_next (handover w.past)) (is_some (latest decision_of w.past)) (has is_decision w.past) (is_promoting_now (observe w.past)) (is_under_way w.past) []
     (hand_over t v (handover w.past)) (decided_seen w.past) (way_seen w.past)
-    (λ q. handed_leads t v (handover w.past) f (caused_way (is_some (latest cause_of_promotion w.past)) (has is_promoted w.past) (has is_promotion_failed w.past) (way_seen w.past ∙ q))))
+    (λ q. handed_leads t v (handover w.past) (f (unpromoted_way (has is_promoting w.past) (has is_promoted w.past) (has is_failed w.past) q)) (caused_way (is_some (latest cause_of_promotion w.past)) (has is_promoted w.past) (has is_promotion_failed w.past) (way_seen w.past ∙ q))))
     (silent_local_got t (half w) Voter VoterCreated) p
 arrived_paid t w (Enl e) EnlistEnlisted f p =
     let v = sees (half w) (Got (Enl e) Down EnlistEnlisted) in

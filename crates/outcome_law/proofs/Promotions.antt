@@ -22,13 +22,14 @@ use Rattle.outcome_law.proofs.Debts.{owes_none, pays}
 use Rattle.outcome_law.proofs.OnTheWay.{is_on_its_way, is_unplaced}
 use Rattle.outcome_law.proofs.Rest.{is_after_start, is_begun, is_ordered, is_sound}
 use Rattle.outcome_law.proofs.Unblamed.{nothing_bad}
-use Rattle.outcome_law.proofs.SameRows.{is_made_once}
+use Rattle.outcome_law.proofs.SameRows.{is_asked_there}
 use Rattle.outcome_law.proofs.Owed.{is_asked_well}
 use Rattle.outcome_law.proofs.ClosedTables.{is_closed_well, none_open, sealed_zeros}
 use Rattle.outcome_law.proofs.Prepared.{ran_prepares}
 use Rattle.outcome_law.proofs.Waiters.{ran_waits}
 use Rattle.outcome_law.proofs.Makers.{AreMade, all_lasting, all_unplaced, makes_enlistment, ran_made}
 use Rattle.outcome_law.proofs.ScriptCalls.{waiting_read}
+use Rattle.outcome_law.proofs.OnceMade.{ran_once}
 use Rattle.outcome_law.proofs.Idle.{IsGoverned, settled_commits}
 
 -- Each row of the table of rules that completeness makes use of, and that nothing is owed at the end of a block.
@@ -40,7 +41,7 @@ pub record IsTabled (h : List Entry) : Type 0 where
   pub ordered : always is_ordered h ≡ true
   pub begun : always is_begun h ≡ true
   pub paying : always pays h ≡ true
-  pub once : always is_made_once h ≡ true
+  pub there : always is_asked_there h ≡ true
   pub well : always is_asked_well h ≡ true
   pub shut : always is_closed_well h ≡ true
   pub free : owes_none h ≡ true
@@ -80,7 +81,8 @@ governed s k t h named c r can began =
       ordered = r.ordered;
       begun = r.begun;
       paying = r.paying;
-      once = r.once;
+      once = ran_once G t steps w once ran;
+      there = r.there;
       well = r.well;
       run = run;
       zeros = sealed_zeros h r.shut;

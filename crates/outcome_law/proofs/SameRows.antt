@@ -19,11 +19,14 @@ use Rattle.outcome_law.proofs.Rule.{is_enlisted}
 use Rattle.outcome_law.proofs.TableRows.{enlisted_in_rows, there}
 use Rattle.outcome_law.proofs.Knowledge.{has_mapped}
 
--- Rows of the table of rules: an enlistment is made once, and asked to prepare where it was made.
+-- Rows of the table of rules: an enlistment is made once; and it is asked to prepare where it was made.
 abbrev pub is_made_once : List Entry → Entry → Bool
 is_made_once past (Enlisted e c) = not (has (is_enlisted e.value) past)
-is_made_once past (Asked e Prepare) = has (is_enlisted e.value) past
 is_made_once past x = true
+
+abbrev pub is_asked_there : List Entry → Entry → Bool
+is_asked_there past (Asked e Prepare) = has (is_enlisted e.value) past
+is_asked_there past x = true
 
 -- one more at its place: what is found is as before, where the new one doesn't pass, or is the new one, where it alone does
 find_other : (p : Row → Bool) (y : Row) (xs : List Row) → p y ≡ false → find p (insert_by number_of y xs) ≡ find p xs
@@ -91,7 +94,7 @@ rows_found (Enlisted e c ∷ h) r =
 rows_found (Asked e Prepare ∷ h) r =
     let n = marks (rows h) in
     of-map (IsFound (rows h)) (IsFound (map (mark_in e.value n) (rows h))) (mark_in e.value n) (changed_found e.value (mark_row n) (λ m x. refl) (λ x. refl) (rows h)) (rows h)
-    (rows_found h (and_right (has (is_enlisted e.value) h) (always is_made_once h) r))
+    (rows_found h r)
 rows_found (Voted e v ∷ h) r =
     of-map (IsFound (rows h)) (IsFound (map (vote_in e.value v) (rows h))) (vote_in e.value v) (changed_found e.value (vote_row v) (λ m x. refl) (λ x. refl) (rows h)) (rows h) (rows_found h r)
 rows_found (x ∷ h) r = rows_found h (and_right (is_made_once h x) (always is_made_once h) r)
@@ -170,20 +173,20 @@ voted_cast e (Voted f v ∷ h) k = step (voted_cast e h) (e == f.value) refl
 voted_cast e (x ∷ h) k = voted_cast e h k
 
 -- and who was asked has a row that is marked
-pub asked_marked : (e : ℕ) (h : List Entry) → always is_made_once h ≡ true → has (is_asked e) h ≡ true → was_asked e (rows h) ≡ true
+pub asked_marked : (e : ℕ) (h : List Entry) → always is_asked_there h ≡ true → has (is_asked e) h ≡ true → was_asked e (rows h) ≡ true
 asked_marked e [] r k = absurd cc
 asked_marked e (Enlisted f c ∷ h) r k =
     let fresh = fresh_row f c (marks (rows h)) in
     has-insert (λ x. is_of e x && is_marked x) number_of fresh (rows h)
-    ∙ or_right ((e == f.value) && false) (was_asked e (rows h)) (asked_marked e h (and_right (not (has (is_enlisted f.value) h)) (always is_made_once h) r) k)
+    ∙ or_right ((e == f.value) && false) (was_asked e (rows h)) (asked_marked e h r k)
 asked_marked e (Asked f Prepare ∷ h) r k =
     or_case (e == f.value) (has (is_asked e) h)
     (λ q. let name : e ≡ f.value = eqb-true e f.value q in
-    let stands : has (is_of f.value) (rows h) ≡ true = enlisted_in_rows f.value h ∙ and_left (has (is_enlisted f.value) h) (always is_made_once h) r in
+    let stands : has (is_of f.value) (rows h) ≡ true = enlisted_in_rows f.value h ∙ and_left (has (is_enlisted f.value) h) (always is_asked_there h) r in
     subst (λ m. was_asked m (map (mark_in f.value n) (rows h)) ≡ true) (sym name)
     (has_mapped (is_of f.value) (λ x. is_of f.value x && is_marked x) (mark_in f.value n) (λ x a. own x (is_of f.value x) refl a) (rows h) stands))
     (λ q. has_mapped (λ x. is_of e x && is_marked x) (λ x. is_of e x && is_marked x) (mark_in f.value n) (λ x a. kept x (is_of f.value x) a) (rows h)
-    (asked_marked e h (and_right (has (is_enlisted f.value) h) (always is_made_once h) r) q)) k
+    (asked_marked e h (and_right (has (is_enlisted f.value) h) (always is_asked_there h) r) q)) k
   where
     n : ℕ
     n = marks (rows h)
@@ -197,4 +200,4 @@ asked_marked e (Asked f Prepare ∷ h) r k =
     kept x false a = a
 asked_marked e (Voted f v ∷ h) r k =
     has_kept (λ x. is_of e x && is_marked x) (vote_in f.value v) (λ x. if_kept (λ x. is_of e x && is_marked x) (is_of f.value x) (vote_row v x) x refl) (rows h) ∙ asked_marked e h r k
-asked_marked e (x ∷ h) r k = asked_marked e h (and_right (is_made_once h x) (always is_made_once h) r) k
+asked_marked e (x ∷ h) r k = asked_marked e h (and_right (is_asked_there h x) (always is_asked_there h) r) k
