@@ -59,3 +59,4 @@ pub mod HalfKnows
 pub mod Deciding
 pub mod Undecided
 pub mod CoreSteps
+pub mod CalmBlocks
