@@ -58,7 +58,7 @@ parted p m (x ∷ ms) k =
     (λ q. or_case (p m) (has p ms) (λ a. or_left (p m) (p x || has p ms) a) (λ a. or_right (p m) (p x || has p ms) (or_right (p x) (has p ms) a)) (parted p m ms q)) k
 
 -- the message of an opening is sent there
-opening_sent : (c e : Conn) (d r : Dir) (m : Message) (p : Message → Bool) (stop : Bool) → opens c (Sent e r m) ≡ true → has p (opened_with d m stop) ≡ true
+pub opening_sent : (c e : Conn) (d r : Dir) (m : Message) (p : Message → Bool) (stop : Bool) → opens c (Sent e r m) ≡ true → has p (opened_with d m stop) ≡ true
     → (same_connection c e && same_direction d r && p m) ≡ true
 opening_sent c e Up Up m p true o k = absurd cc
 opening_sent c e Up Up m p false o k =
@@ -67,7 +67,7 @@ opening_sent c e Down Up m p stop o k = absurd cc
 opening_sent c e d Down m p stop o k = absurd cc
 
 -- one more message that is sent
-sent_came : (p : Message → Bool) (m : Message) (o s t b rest : Bool) (new ms : List Message) → (o ≡ true → has p new ≡ true → (s && t && p m) ≡ true) → (has p ms ≡ true → rest ≡ true)
+pub sent_came : (p : Message → Bool) (m : Message) (o s t b rest : Bool) (new ms : List Message) → (o ≡ true → has p new ≡ true → (s && t && p m) ≡ true) → (has p ms ≡ true → rest ≡ true)
     → has p (if o then new else if s && t then sent_behind b m ms else ms) ≡ true → ((s && t && p m) || rest) ≡ true
 sent_came p m true s t b rest new ms op ih k = or_left (s && t && p m) rest (op refl k)
 sent_came p m false true true true rest new ms op ih k = or_case (p m) (has p ms) (λ q. or_left (p m) rest q) (λ q. or_right (p m) rest (ih q)) (parted p m ms k)
@@ -76,17 +76,17 @@ sent_came p m false true false b rest new ms op ih k = ih k
 sent_came p m false false t b rest new ms op ih k = ih k
 
 -- what is got leaves no more on the way
-got_came : (p : Message → Bool) (s line t : Bool) (ms : List Message) → has p (if not s then ms else if not line then [] else if t then without_first ms else ms) ≡ true → has p ms ≡ true
+pub got_came : (p : Message → Bool) (s line t : Bool) (ms : List Message) → has p (if not s then ms else if not line then [] else if t then without_first ms else ms) ≡ true → has p ms ≡ true
 got_came p false line t ms k = k
 got_came p true false t ms k = absurd cc
 got_came p true true true ms k = rest_less p ms k
 got_came p true true false ms k = k
 
-cut_came : (p : Message → Bool) (s : Bool) (n : ℕ) (ms : List Message) → has p (if s then take n ms else ms) ≡ true → has p ms ≡ true
+pub cut_came : (p : Message → Bool) (s : Bool) (n : ℕ) (ms : List Message) → has p (if s then take n ms else ms) ≡ true → has p ms ≡ true
 cut_came p true n ms k = taken_less p n ms k
 cut_came p false n ms k = k
 
-stopped_came : (p : Message → Bool) (d : Dir) (ms : List Message) → has p (transit_after_stop d ms) ≡ true → has p ms ≡ true
+pub stopped_came : (p : Message → Bool) (d : Dir) (ms : List Message) → has p (transit_after_stop d ms) ≡ true → has p ms ≡ true
 stopped_came p Up ms k = absurd cc
 stopped_came p Down ms k = k
 

@@ -1,25 +1,26 @@
--- What comes upward on a connection comes after the message that opened it, whatever is lost; and the message that opens the voter's connection comes once.
-use Rattle.std.proofs.Common.{◌≡◌, ℕ, zero, suc, Bool, true, false, ◌&&◌, ◌||◌, List, [], ◌∷◌, ◌++◌, Option, Some, None, refl, sym, subst, ◌∙◌}
+-- What comes upward on a connection comes after the message that opened it, whatever is lost; and the message that opens the voter's connection or an enlistment's comes
+-- once.
+use Rattle.std.proofs.Common.{◌≡◌, ℕ, zero, suc, ◌==◌, Bool, true, false, ◌&&◌, ◌||◌, List, [], ◌∷◌, ◌++◌, Option, Some, None, refl, sym, subst, ◌∙◌}
 use Rattle.std.specs.Prelude.{not, take, if◌then◌else◌}
 use Rattle.std.proofs.lemmas.Bool.{false_from_ne_true, or_left}
 use Rattle.dtx_values.specs.declared.entry.Entry.{Entry}
 use Rattle.dtx_values.specs.declared.entry.Entry.TheVariants.{Cut, Got, Sent, Stopped}
 use Rattle.dtx_values.specs.declared.message.Conn.{Conn}
-use Rattle.dtx_values.specs.declared.message.Conn.TheVariants.{Voter}
+use Rattle.dtx_values.specs.declared.message.Conn.TheVariants.{Voter, Enl}
 use Rattle.dtx_values.specs.declared.message.Dir.{Dir}
 use Rattle.dtx_values.specs.declared.message.Dir.TheVariants.{Up, Down}
 use Rattle.dtx_values.specs.declared.message.Message.{Message}
-use Rattle.dtx_values.specs.declared.message.Message.TheVariants.{VoterVoter}
+use Rattle.dtx_values.specs.declared.message.Message.TheVariants.{VoterVoter, EnlistEnlist}
 use Rattle.dtx_values.specs.Ends.{same_connection, same_direction}
 use Rattle.dtx_values.specs.Lines.{has_line, is_opening}
 use Rattle.dtx_model.specs.Words.{has}
 use Rattle.dtx_model.specs.Promotes.{is_begun_got, is_promoting}
 use Rattle.dtx_model.specs.Wires.{MayCross, WireRun, in_transit, is_kept, is_next, is_open_wire, is_stopped, loses, lost_after, lost_since, opened_with, opens, sent_behind, without_first}
 use Rattle.dtx_model.proofs.Bools.{and_left, and_right, and_both, not_both, not_false, not_true, or_case, or_false, or_right}
-use Rattle.outcome_law.proofs.Tests.{fourth_of_four, second_of_three}
+use Rattle.outcome_law.proofs.Tests.{third_of_four, fourth_of_four}
 use Rattle.outcome_law.proofs.Lists.{has-behind}
 use Rattle.outcome_law.proofs.Scans.{has_more}
-use Rattle.outcome_law.proofs.Table.{is_opening_got, rule}
+use Rattle.outcome_law.proofs.Table.{is_opening_got, is_there, message_row, rule}
 use Rattle.outcome_law.proofs.Keeping.{Keeps, keeps_before, newest}
 use Rattle.outcome_law.proofs.Crossed.{is_got_on, is_sent_on, same_conn_is, was_sent}
 
@@ -197,9 +198,14 @@ pub opening_was_sent : (c : Conn) (h : List Entry) → WireRun h → has (is_ope
 opening_was_sent c h w t =
     has_more (is_sent_on c Up (is_opening c)) (opens c) (sent_opens c) h (was_sent c Up (is_opening c) h w (has_more (is_opening_got c) (is_got_on c Up (is_opening c)) (opening_on c) h t))
 
--- The message that opens the voter's connection: none is on the way but the first, and none once it came.
-abbrev is_once : Bool → List Message → Bool
-is_once g ms = not (has (is_opening Voter) (if g then ms else without_first ms))
+-- The message that opens the voter's connection, or an enlistment's: none is on the way but the first, and none once it came.
+abbrev is_once : Conn → Bool → List Message → Bool
+is_once c g ms = not (has (is_opening c) (if g then ms else without_first ms))
+
+abbrev is_single : Conn → Bool
+is_single Voter = true
+is_single (Enl e) = true
+is_single _ = false
 
 rest_none : (p : Message → Bool) (ms : List Message) → has p ms ≡ false → has p (without_first ms) ≡ false
 rest_none p [] e = e
@@ -230,97 +236,118 @@ rest_behind : (p : Message → Bool) (m : Message) (ms : List Message) → p m �
 rest_behind p m [] f e = refl
 rest_behind p m (x ∷ ms) f e = behind_none p m ms f e
 
-once_rest : (g : Bool) (ms : List Message) → is_once g ms ≡ true → has (is_opening Voter) (without_first ms) ≡ false
-once_rest true ms t = rest_none (is_opening Voter) ms (not_true (has (is_opening Voter) ms) t)
-once_rest false ms t = not_true (has (is_opening Voter) (without_first ms)) t
+once_rest : (c : Conn) (g : Bool) (ms : List Message) → is_once c g ms ≡ true → has (is_opening c) (without_first ms) ≡ false
+once_rest c true ms t = rest_none (is_opening c) ms (not_true (has (is_opening c) ms) t)
+once_rest c false ms t = not_true (has (is_opening c) (without_first ms)) t
 
-once_none : (g : Bool) → is_once g [] ≡ true
-once_none true = refl
-once_none false = refl
+once_none : (c : Conn) (g : Bool) → is_once c g [] ≡ true
+once_none c true = refl
+once_none c false = refl
 
-once_any : (g : Bool) (ms : List Message) → has (is_opening Voter) ms ≡ false → is_once g ms ≡ true
-once_any true ms e = not_false (has (is_opening Voter) ms) e
-once_any false ms e = not_false (has (is_opening Voter) (without_first ms)) (rest_none (is_opening Voter) ms e)
+once_any : (c : Conn) (g : Bool) (ms : List Message) → has (is_opening c) ms ≡ false → is_once c g ms ≡ true
+once_any c true ms e = not_false (has (is_opening c) ms) e
+once_any c false ms e = not_false (has (is_opening c) (without_first ms)) (rest_none (is_opening c) ms e)
 
-once_behind : (g k : Bool) (m : Message) (ms : List Message) → is_opening Voter m ≡ false → is_once g ms ≡ true → is_once g (sent_behind k m ms) ≡ true
-once_behind g false m ms f t = t
-once_behind true true m ms f t = not_false (has (is_opening Voter) (ms ++ m ∷ [])) (behind_none (is_opening Voter) m ms f (not_true (has (is_opening Voter) ms) t))
-once_behind false true m ms f t =
-    not_false (has (is_opening Voter) (without_first (ms ++ m ∷ []))) (rest_behind (is_opening Voter) m ms f (not_true (has (is_opening Voter) (without_first ms)) t))
+once_behind : (c : Conn) (g k : Bool) (m : Message) (ms : List Message) → is_opening c m ≡ false → is_once c g ms ≡ true → is_once c g (sent_behind k m ms) ≡ true
+once_behind c g false m ms f t = t
+once_behind c true true m ms f t = not_false (has (is_opening c) (ms ++ m ∷ [])) (behind_none (is_opening c) m ms f (not_true (has (is_opening c) ms) t))
+once_behind c false true m ms f t =
+    not_false (has (is_opening c) (without_first (ms ++ m ∷ []))) (rest_behind (is_opening c) m ms f (not_true (has (is_opening c) (without_first ms)) t))
 
-once_new : (g s : Bool) (m : Message) → g ≡ false → is_once g (opened_with Up m s) ≡ true
-once_new true s m e = absurd cc
-once_new false true m e = refl
-once_new false false m e = refl
+once_new : (c : Conn) (g s : Bool) (m : Message) → g ≡ false → is_once c g (opened_with Up m s) ≡ true
+once_new c true s m e = absurd cc
+once_new c false true m e = refl
+once_new c false false m e = refl
 
-once_sent : (o q g k s : Bool) (m : Message) (ms : List Message) → (o ≡ true → g ≡ false) → (o ≡ false → q ≡ true → is_opening Voter m ≡ false) → is_once g ms ≡ true
-    → is_once g (if o then opened_with Up m s else if q then sent_behind k m ms else ms) ≡ true
-once_sent true q g k s m ms f e t = once_new g s m (f refl)
-once_sent false true g k s m ms f e t = once_behind g k m ms (e refl refl) t
-once_sent false false g k s m ms f e t = t
+once_sent : (c : Conn) (o q g k s : Bool) (m : Message) (ms : List Message) → (o ≡ true → g ≡ false) → (o ≡ false → q ≡ true → is_opening c m ≡ false) → is_once c g ms ≡ true
+    → is_once c g (if o then opened_with Up m s else if q then sent_behind k m ms else ms) ≡ true
+once_sent c true q g k s m ms f e t = once_new c g s m (f refl)
+once_sent c false true g k s m ms f e t = once_behind c g k m ms (e refl refl) t
+once_sent c false false g k s m ms f e t = t
 
-once_up : (s p l g : Bool) (ms : List Message) → is_once g ms ≡ true → is_once ((s && p) || g) (if not s then ms else if not l then [] else without_first ms) ≡ true
-once_up false p l g ms t = t
-once_up true p false g ms t = once_none (p || g)
-once_up true p true g ms t = once_any (p || g) (without_first ms) (once_rest g ms t)
+once_up : (c : Conn) (s p l g : Bool) (ms : List Message) → is_once c g ms ≡ true → is_once c ((s && p) || g) (if not s then ms else if not l then [] else without_first ms) ≡ true
+once_up c false p l g ms t = t
+once_up c true p false g ms t = once_none c (p || g)
+once_up c true p true g ms t = once_any c (p || g) (without_first ms) (once_rest c g ms t)
 
-once_down : (s l g : Bool) (ms : List Message) → is_once g ms ≡ true → is_once g (if not s then ms else if not l then [] else ms) ≡ true
-once_down false l g ms t = t
-once_down true false g ms t = once_none g
-once_down true true g ms t = t
+once_down : (c : Conn) (s l g : Bool) (ms : List Message) → is_once c g ms ≡ true → is_once c g (if not s then ms else if not l then [] else ms) ≡ true
+once_down c false l g ms t = t
+once_down c true false g ms t = once_none c g
+once_down c true true g ms t = t
 
-once_cut : (s g : Bool) (u : ℕ) (ms : List Message) → is_once g ms ≡ true → is_once g (if s then take u ms else ms) ≡ true
-once_cut false g u ms t = t
-once_cut true true u ms t = not_false (has (is_opening Voter) (take u ms)) (taken_none (is_opening Voter) u ms (not_true (has (is_opening Voter) ms) t))
-once_cut true false u ms t = not_false (has (is_opening Voter) (without_first (take u ms))) (rest_taken (is_opening Voter) u ms (not_true (has (is_opening Voter) (without_first ms)) t))
+once_cut : (c : Conn) (s g : Bool) (u : ℕ) (ms : List Message) → is_once c g ms ≡ true → is_once c g (if s then take u ms else ms) ≡ true
+once_cut c false g u ms t = t
+once_cut c true true u ms t = not_false (has (is_opening c) (take u ms)) (taken_none (is_opening c) u ms (not_true (has (is_opening c) ms) t))
+once_cut c true false u ms t = not_false (has (is_opening c) (without_first (take u ms))) (rest_taken (is_opening c) u ms (not_true (has (is_opening c) (without_first ms)) t))
 
--- VOTER is sent once
-which_opens : (x : Entry) → opens Voter x ≡ true → (u : ℕ) × (x ≡ Sent Voter Up (VoterVoter u))
-which_opens (Sent e Up m) t = up e m t
+-- such a message is sent once
+single_row : (c : Conn) (m : Message) (h : List Entry) → is_single c ≡ true → is_opening c m ≡ true → message_row h c m ≡ true → has (opens c) h ≡ false
+single_row Voter (VoterVoter u) h s o r = not_true (has (opens Voter) h) (and_right (has is_begun_got h) (not (has (opens Voter) h)) r)
+single_row (Enl e) (EnlistEnlist i) h s o r = not_true (has (opens (Enl e)) h) (third_of_four (e.value == i.enl.value) (has is_begun_got h) (not (has (opens (Enl e)) h)) _ r)
+single_row _ _ h s o r = absurd cc
+
+opens_row : (c : Conn) (x : Entry) (h : List Entry) → is_single c ≡ true → rule h x ≡ true → opens c x ≡ true → has (opens c) h ≡ false
+opens_row c (Sent e Up m) h s r t =
+    let q = and_left (same_connection c e) (is_opening e m) t in
+    let same : c ≡ e = same_conn_is c e q in
+    let P : Conn → Type 0 = λ y. is_single y ≡ true in
+    let Q : Conn → Type 0 = λ y. has (opens y) h ≡ false in
+    subst Q (sym same)
+    (single_row e m h (subst P same s) (and_right (same_connection c e) (is_opening e m) t) (fourth_of_four (has_line e Up m) (has is_promoting h) (is_there h e Up m) (message_row h e m) r))
+opens_row c (Sent e Down m) h s r t = absurd (never t)
   where
-    up : (e : Conn) (m : Message) → (same_connection Voter e && is_opening e m) ≡ true → (u : ℕ) × (Sent e Up m ≡ Sent Voter Up (VoterVoter u))
-    up Voter (VoterVoter u) t = (u, refl)
-    up _ _ t = absurd cc
-which_opens (Sent e Down m) t = absurd cc
-which_opens _ t = absurd cc
+    never : false ≡ true → ⊥
+    never e = absurd cc
+opens_row c _ h s r t = absurd (never t)
+  where
+    never : false ≡ true → ⊥
+    never e = absurd cc
 
-voter_row : (u : ℕ) (h : List Entry) → rule h (Sent Voter Up (VoterVoter u)) ≡ true → has (opens Voter) h ≡ false
-voter_row u h r = not_true (has (opens Voter) h) (and_right (has is_begun_got h) (not (has (opens Voter) h)) (fourth_of_four true (has is_promoting h) true _ r))
+not_got : (c : Conn) (h : List Entry) → WireRun h → has (opens c) h ≡ false → has (is_opening_got c) h ≡ false
+not_got c h w e = false_from_ne_true (has (is_opening_got c) h) (λ t. not_both (has (opens c) h) (opening_was_sent c h w t) e)
 
-opens_row : (x : Entry) (h : List Entry) → Keeps (x ∷ h) → opens Voter x ≡ true → has (opens Voter) h ≡ false
-opens_row x h k t =
-    let P : Entry → Type 0 = λ y. rule h y ≡ true in
-    let w = which_opens x t in
-    voter_row w.0 h (subst P w.1 (newest x h k))
+no_opening : (c e : Conn) (r : Dir) (m : Message) → opens c (Sent e r m) ≡ false → (same_connection c e && same_direction Up r) ≡ true → is_opening c m ≡ false
+no_opening c e Up m o t =
+    let s = and_left (same_connection c e) true t in
+    let P : Conn → Type 0 = λ y. is_opening y m ≡ false in
+    subst P (sym (same_conn_is c e s)) (by (same_connection c e) (is_opening e m) s o)
+  where
+    by : (a b : Bool) → a ≡ true → (a && b) ≡ false → b ≡ false
+    by true b p q = q
+    by false b p q = absurd cc
+no_opening c e Down m o t = absurd (never (same_connection c e) t)
+  where
+    never : (a : Bool) → (a && false) ≡ true → ⊥
+    never true k = absurd cc
+    never false k = absurd cc
 
-not_got : (h : List Entry) → WireRun h → has (opens Voter) h ≡ false → has (is_opening_got Voter) h ≡ false
-not_got h w e = false_from_ne_true (has (is_opening_got Voter) h) (λ t. not_both (has (opens Voter) h) (opening_was_sent Voter h w t) e)
-
-no_opening : (e : Conn) (r : Dir) (m : Message) → opens Voter (Sent e r m) ≡ false → (same_connection Voter e && same_direction Up r) ≡ true → is_opening Voter m ≡ false
-no_opening Voter Up m o t = o
-no_opening _ _ m o t = absurd cc
-
-voter_once : (h : List Entry) → Keeps h → is_once (has (is_opening_got Voter) h) (in_transit Voter Up h) ≡ true
-voter_once [] k = refl
-voter_once (Sent e r m ∷ h) k =
-    once_sent (opens Voter (Sent e r m)) (same_connection Voter e && same_direction Up r) (has (is_opening_got Voter) h) (is_open_wire Voter h) (is_stopped h) m (in_transit Voter Up h)
-    (λ o. not_got h k.wires.1 (opens_row (Sent e r m) h k o)) (λ o q. no_opening e r m o q) (voter_once h (keeps_before (Sent e r m) h k))
-voter_once (Got e Up m ∷ h) k =
-    once_up (same_connection Voter e) (is_opening e m) (has_line e Up m) (has (is_opening_got Voter) h) (in_transit Voter Up h) (voter_once h (keeps_before (Got e Up m) h k))
-voter_once (Got e Down m ∷ h) k =
-    once_down (same_connection Voter e) (has_line e Down m) (has (is_opening_got Voter) h) (in_transit Voter Up h) (voter_once h (keeps_before (Got e Down m) h k))
-voter_once (Cut e u v ∷ h) k = once_cut (same_connection Voter e) (has (is_opening_got Voter) h) u (in_transit Voter Up h) (voter_once h (keeps_before (Cut e u v) h k))
-voter_once (Stopped ∷ h) k = once_none (has (is_opening_got Voter) h)
-voter_once (x ∷ h) k = voter_once h (keeps_before x h k)
+once : (c : Conn) (h : List Entry) → is_single c ≡ true → Keeps h → is_once c (has (is_opening_got c) h) (in_transit c Up h) ≡ true
+once c [] s k = refl
+once c (Sent e r m ∷ h) s k =
+    once_sent c (opens c (Sent e r m)) (same_connection c e && same_direction Up r) (has (is_opening_got c) h) (is_open_wire c h) (is_stopped h) m (in_transit c Up h)
+    (λ o. not_got c h k.wires.1 (opens_row c (Sent e r m) h s (newest (Sent e r m) h k) o)) (λ o q. no_opening c e r m o q) (once c h s (keeps_before (Sent e r m) h k))
+once c (Got e Up m ∷ h) s k =
+    once_up c (same_connection c e) (is_opening e m) (has_line e Up m) (has (is_opening_got c) h) (in_transit c Up h) (once c h s (keeps_before (Got e Up m) h k))
+once c (Got e Down m ∷ h) s k =
+    once_down c (same_connection c e) (has_line e Down m) (has (is_opening_got c) h) (in_transit c Up h) (once c h s (keeps_before (Got e Down m) h k))
+once c (Cut e u v ∷ h) s k = once_cut c (same_connection c e) (has (is_opening_got c) h) u (in_transit c Up h) (once c h s (keeps_before (Cut e u v) h k))
+once c (Stopped ∷ h) s k = once_none c (has (is_opening_got c) h)
+once c (x ∷ h) s k = once c h s (keeps_before x h k)
 
 next_stands : (p : Message → Bool) (m : Message) (ms : List Message) → is_next m ms → p m ≡ true → has p ms ≡ true
 next_stands p m [] n t = absurd n
 next_stands p m (x ∷ ms) n t = let P : Message → Type 0 = λ y. (p y || has p ms) ≡ true in subst P n (or_left (p m) (has p ms) t)
 
--- where VOTER comes, none came before
-pub voter_new : (u : ℕ) (h : List Entry) → Keeps h → MayCross h (Got Voter Up (VoterVoter u)) → has (is_opening_got Voter) h ≡ false
-voter_new u h k n = by (has (is_opening_got Voter) h) (in_transit Voter Up h) (voter_once h k) n
+-- where it was got, none is on the way
+pub none_again : (c : Conn) (h : List Entry) → is_single c ≡ true → Keeps h → has (is_opening_got c) h ≡ true → has (is_opening c) (in_transit c Up h) ≡ false
+none_again c h s k g = by (has (is_opening_got c) h) (in_transit c Up h) (once c h s k) g
   where
-    by : (g : Bool) (ms : List Message) → is_once g ms ≡ true → is_next (VoterVoter u) ms → g ≡ false
-    by true ms t n = absurd (not_both (has (is_opening Voter) ms) (next_stands (is_opening Voter) (VoterVoter u) ms n refl) (not_true (has (is_opening Voter) ms) t))
-    by false ms t n = refl
+    by : (g : Bool) (ms : List Message) → is_once c g ms ≡ true → g ≡ true → has (is_opening c) ms ≡ false
+    by true ms t q = not_true (has (is_opening c) ms) t
+    by false ms t q = absurd cc
+
+-- so where VOTER comes, none came before
+pub voter_new : (u : ℕ) (h : List Entry) → Keeps h → MayCross h (Got Voter Up (VoterVoter u)) → has (is_opening_got Voter) h ≡ false
+voter_new u h k n =
+    false_from_ne_true (has (is_opening_got Voter) h)
+    (λ g. not_both (has (is_opening Voter) (in_transit Voter Up h)) (next_stands (is_opening Voter) (VoterVoter u) (in_transit Voter Up h) n refl) (none_again Voter h refl k g))

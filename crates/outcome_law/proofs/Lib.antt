@@ -98,3 +98,4 @@ pub mod Handovers
 pub mod PaidRuns
 pub mod OnceMade
 pub mod Counted
+pub mod CalmBlocks
