@@ -57,3 +57,4 @@ pub mod Undecided
 pub mod HalfCalls
 pub mod HalfVotes
 pub mod WorldCalls
+pub mod HalfReplies
