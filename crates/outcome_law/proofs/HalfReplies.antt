@@ -133,7 +133,7 @@ owed h r n e a d f = step (is_gone (observe h) e) refl (find (is_of e) (rows h))
         }
 
 -- A vote.
-volatile_seen : (h : List Entry) (e : ℕ) → is_volatile_row (observe h) e ≡ stands_volatile e h
+pub volatile_seen : (h : List Entry) (e : ℕ) → is_volatile_row (observe h) e ≡ stands_volatile e h
 unfolding observe
 volatile_seen h e = has_rows (λ (f : EnlNo) (c : Class). (e == f.value) && is_volatile c) h
 
@@ -145,7 +145,7 @@ still_votes : (v d k t : Bool) → (if v then not d else k && not t) ≡ true �
 still_votes true d k t e = inl (refl, not_true d e)
 still_votes false d k t e = inr (and_left k (not t) e)
 
-vote_rule : (h : List Entry) (e : EnlNo) (v : Vote) (n : Note) → Stands h → IsLeft h e → IsOwed h (VoteReply v) n e.value → rule h (Voted e v) ≡ true
+pub vote_rule : (h : List Entry) (e : EnlNo) (v : Vote) (n : Note) → Stands h → IsLeft h e → IsOwed h (VoteReply v) n e.value → rule h (Voted e v) ≡ true
 unfolding observe
 vote_rule h e v n k l w =
     let place = found_at (is_of e.value) (rows h) w.row w.stands in

@@ -58,3 +58,4 @@ pub mod HalfCalls
 pub mod HalfVotes
 pub mod WorldCalls
 pub mod HalfReplies
+pub mod WorldReplies
