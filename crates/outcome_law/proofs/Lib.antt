@@ -59,3 +59,4 @@ pub mod HalfVotes
 pub mod WorldCalls
 pub mod HalfReplies
 pub mod WorldReplies
+pub mod HalfOwner
