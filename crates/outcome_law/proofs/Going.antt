@@ -292,7 +292,7 @@ lost_doubts h e k d q u =
     lost_step false false l c k = absurd cc
 
 -- whoever was handed the commit stands among them
-hand_listed : (e : ℕ) (h : List Entry) → has (is_hand e) h ≡ true → has (λ f. f.value == e) (all_of handed_of h) ≡ true
+pub hand_listed : (e : ℕ) (h : List Entry) → has (is_hand e) h ≡ true → has (λ f. f.value == e) (all_of handed_of h) ≡ true
 hand_listed e [] k = k
 hand_listed e (Handed f ∷ h) k =
     or_case (e == f.value) (has (is_hand e) h) (λ s. or_left (f.value == e) _ (eq_swap f.value e ∙ s)) (λ s. or_right (f.value == e) _ (hand_listed e h s)) k

@@ -99,3 +99,6 @@ pub mod PaidRuns
 pub mod OnceMade
 pub mod Counted
 pub mod CalmBlocks
+pub mod HalfReplies
+pub mod WorldReplies
+pub mod HalfOwner
