@@ -17,7 +17,8 @@ use Rattle.dtx_model.specs.Words.{has, kth, latest, or_else}
 use Rattle.dtx_model.specs.Entries.{is_call}
 use Rattle.dtx_model.specs.Outcome.{is_empty}
 use Rattle.dtx_model.specs.Observed.{cause_of_promotion, observe, track}
-use Rattle.dtx_model.specs.Waiting.{EnteredCall, call_if, managed_by}
+use Rattle.dtx_model.specs.declared.waiting.EnteredCall.{EnteredCall}
+use Rattle.dtx_model.specs.Waiting.{call_if, managed_by}
 use Rattle.dtx_model.specs.Half.{Half, heeds, heeds_all, is_gone, sees, stands}
 use Rattle.dtx_model.specs.Acts.{act_entries}
 use Rattle.dtx_model.specs.Replies.{due_of, fits, reply_entries}

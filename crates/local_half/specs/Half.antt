@@ -19,7 +19,8 @@ use Rattle.dtx_values.specs.Vote.{is_no}
 use Rattle.dtx_model.specs.declared.listener.Listener.{Listener}
 use Rattle.dtx_model.specs.Words.{has}
 use Rattle.dtx_model.specs.Observed.{Observed}
-use Rattle.dtx_model.specs.Waiting.{EnteredCall, managed_by}
+use Rattle.dtx_model.specs.declared.waiting.EnteredCall.{EnteredCall}
+use Rattle.dtx_model.specs.Waiting.{managed_by}
 use Rattle.dtx_model.specs.Half.{Half, decide, heeds_all, sees, veto_if, at_home}
 use Rattle.dtx_model.specs.Replies.{fits}
 use Rattle.dtx_model.specs.World.{World, half as half_at}

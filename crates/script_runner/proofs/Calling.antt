@@ -14,7 +14,8 @@ use Rattle.dtx_model.specs.Observed.{track}
 use Rattle.dtx_model.specs.Answers.{await_answer, gone_answer, if_begun, local_answer}
 use Rattle.dtx_model.specs.Facts.{call_entries, facts_if, has_facts}
 use Rattle.dtx_model.specs.Half.{Half, heeds, heeds_all, is_gone, sees, stands}
-use Rattle.dtx_model.specs.Waiting.{EnteredCall, managed_by}
+use Rattle.dtx_model.specs.declared.waiting.EnteredCall.{EnteredCall}
+use Rattle.dtx_model.specs.Waiting.{managed_by}
 use Rattle.dtx_model.specs.Steps.{Calls, block_at}
 use Rattle.dtx_model.specs.World.{World, answer_at, gone_by, gone_unlinked, half}
 use Rattle.dtx_model.proofs.Narrow.{answer}

@@ -1,5 +1,7 @@
 //! The replies that are due, and what a reply writes.
-ghost use Rattle.std.specs.Prelude.{◌≡◌, ◌≤◌, [], Some, false, is_some, true};
+ghost use Rattle.std.specs.Prelude.{◌≡◌, ◌≤◌, ◌||◌, [], Some, false, is_some, true};
+ghost use Rattle.std.specs.List.{list_any};
+ghost use Rattle.enlist_table.specs.Waiting.{is_waiting};
 ghost use Rattle.dtx_values.specs.Outgoing.{with};
 ghost use Rattle.dtx_model.specs.Replies.{all_due, due_of, fits, note_at, reply_entries, row_note};
 ghost use Rattle.dtx_model.specs.Steps.{Replies, after as world_after};
@@ -58,7 +60,8 @@ impl LocalHalf {
     /// Whether a reply may be due: the commit was handed over, or a vote is awaited. Where none may be,
     /// the rows needn't be looked through.
     pub fn may_be_due(&self) -> bool
-        ensures { result ≡ false → all_due self.now.half.seen ≡ [] }
+        ensures value { result ≡ (is_some self.now.half.seen.handed || list_any is_waiting self.now.half.seen.table) }
+        ensures none { result ≡ false → all_due self.now.half.seen ≡ [] }
     {
         self.handed.is_some() || self.table.waits()
     }

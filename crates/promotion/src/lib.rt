@@ -1,0 +1,8 @@
+//! The handover of a transaction to the coordinator: what is sent next, when it is over, and where the right to decide stands.
+#![tactic(auto)]
+
+mod handing;
+#[cfg(test)]
+mod tests;
+
+pub use handing::{Handover, HandoverAct, Right};
