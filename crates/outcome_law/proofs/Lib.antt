@@ -60,3 +60,4 @@ pub mod Deciding
 pub mod Undecided
 pub mod CoreSteps
 pub mod CalmBlocks
+pub mod Coming
