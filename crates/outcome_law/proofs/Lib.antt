@@ -61,3 +61,9 @@ pub mod Undecided
 pub mod CoreSteps
 pub mod CalmBlocks
 pub mod Coming
+pub mod HalfCalls
+pub mod HalfVotes
+pub mod WorldCalls
+pub mod HalfReplies
+pub mod WorldReplies
+pub mod HalfOwner
