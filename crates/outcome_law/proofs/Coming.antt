@@ -1,6 +1,6 @@
 -- Who comes to the coordinator: while nothing is decided, an ENLIST that is on the way is of a call that waits, or of the handover; and after the seal none is on the way. So none comes
 -- once the coordinator got COMMIT.
-use Rattle.std.proofs.Common.{◌≡◌, ℕ, zero, suc, ◌==◌, ◌+◌, Bool, true, false, ◌&&◌, ◌||◌, ◌⊎◌, inl, inr, List, [], ◌∷◌, ◌++◌, Option, Some, None, refl, sym, subst, ap, ◌∙◌, arith}
+use Rattle.std.proofs.Common.{◌≡◌, ℕ, suc, ◌==◌, ◌+◌, Bool, true, false, ◌&&◌, ◌||◌, ◌⊎◌, inl, inr, List, [], ◌∷◌, ◌++◌, Option, Some, None, refl, sym, subst, ap, ◌∙◌, arith}
 use Rattle.std.specs.Prelude.{not, filter, find, is_some, length, if◌then◌else◌}
 use Rattle.std.specs.List.{flat_map}
 use Rattle.std.proofs.lemmas.Bool.{eqb-true, false_from_ne_true, or_left}
@@ -12,7 +12,7 @@ use Rattle.dtx_values.specs.declared.entry.Answer.TheVariants.{Fine, True, Wait,
 use Rattle.dtx_values.specs.declared.entry.Entry.{Entry}
 use Rattle.dtx_values.specs.declared.entry.Entry.TheVariants.{Answered, Called, Cut, Decided, Down as Ended, Enlisted, Got, Init, Promoted, Promoting, PromotionFailed, Sealed, Sent, Stopped}
 use Rattle.dtx_values.specs.declared.message.Conn.{Conn}
-use Rattle.dtx_values.specs.declared.message.Conn.TheVariants.{Begin, Voter, Enl, Again}
+use Rattle.dtx_values.specs.declared.message.Conn.TheVariants.{Begin, Voter, Enl}
 use Rattle.dtx_values.specs.declared.message.Dir.{Dir}
 use Rattle.dtx_values.specs.declared.message.Dir.TheVariants.{Up, Down}
 use Rattle.dtx_values.specs.declared.message.Message.{Message}
@@ -24,7 +24,6 @@ use Rattle.dtx_values.specs.declared.number.TxNo.{TxNo}
 use Rattle.dtx_values.specs.declared.script.Support.{Support}
 use Rattle.dtx_values.specs.declared.words.Cause.{Cause}
 use Rattle.dtx_values.specs.declared.words.Cause.TheVariants.{Marshal as MarshalCause}
-use Rattle.dtx_values.specs.declared.words.Class.{Class}
 use Rattle.dtx_values.specs.declared.words.Class.TheVariants.{DurableSingle}
 use Rattle.dtx_values.specs.declared.words.Outcome.{Outcome}
 use Rattle.dtx_values.specs.Class.{is_promotable}
@@ -37,29 +36,27 @@ use Rattle.dtx_model.specs.declared.waiting.Wanted.{Wanted}
 use Rattle.dtx_model.specs.declared.waiting.Wanted.TheVariants.{Identifier, Place}
 use Rattle.dtx_model.specs.Words.{each, has, latest, onto}
 use Rattle.dtx_model.specs.Entries.{decision_of, is_call, is_commit_got, is_decision, is_sealed}
-use Rattle.dtx_model.specs.Outcome.{is_empty}
-use Rattle.dtx_model.specs.Observed.{Observed, handover, observe, track}
+use Rattle.dtx_model.specs.Observed.{handover, observe, track}
 use Rattle.dtx_model.specs.Promotes.{identifier_of, is_under_way}
-use Rattle.dtx_model.specs.Wires.{MayCross, in_transit, is_ended, is_lost_wire, is_next, is_open_wire, is_stopped, kept, opened_with, opens}
+use Rattle.dtx_model.specs.Wires.{in_transit, is_next, is_open_wire, is_stopped, kept, opened_with, opens}
 use Rattle.dtx_model.specs.declared.waiting.EnteredCall.{EnteredCall}
-use Rattle.dtx_model.specs.Waiting.{Waiter, call_at, class_by, is_place_of, waiter_line, waiting, waiting_after, wanted}
+use Rattle.dtx_model.specs.Waiting.{Waiter, call_at, is_place_of, waiter_line, waiting, waiting_after, wanted}
 use Rattle.dtx_model.specs.Half.{Half, by_manager, enlist_sent, given, half_of, info, is_handed, is_promoting as sees_promoting, over, promoted_by, sees}
 use Rattle.dtx_model.specs.Arrivals.{arrived, created, enlisted_at, hand_over, local_got, place_given}
-use Rattle.dtx_model.specs.Acts.{act_entries, commit_sent, under_way}
-use Rattle.dtx_model.specs.Answers.{durable_answer, if_begun, local_answer, unless_ended, unless_over}
-use Rattle.dtx_model.specs.Facts.{begin_promotion, durable_facts, durable_waits, facts_if, has_facts, local_facts}
+use Rattle.dtx_model.specs.Acts.{act_entries, commit_sent}
+use Rattle.dtx_model.specs.Answers.{if_begun, local_answer, unless_ended}
+use Rattle.dtx_model.specs.Facts.{begin_promotion, durable_facts, facts_if, has_facts}
 use Rattle.dtx_model.specs.Replies.{reply_entries}
-use Rattle.dtx_model.specs.World.{World, answer_at, core, facts_at, half, has_left}
+use Rattle.dtx_model.specs.World.{World, answer_at, core, facts_at, half}
 use Rattle.dtx_model.specs.Steps.{Step, Calls, Replies, Acts, Coordinates, Delivers, Stops, Restarts, after, block_at, coordinates, delivered, ended_at, got_by, restarted}
 use Rattle.dtx_model.specs.Caused.{MayCome}
-use Rattle.dtx_model.proofs.Bools.{and_both, and_left, and_never, and_right, not_both, not_false, not_true, or_case, or_right, or_second}
+use Rattle.dtx_model.proofs.Bools.{and_both, and_left, and_never, and_right, not_both, or_case, or_right, or_second}
 use Rattle.dtx_model.proofs.Heeding.{fresh}
 use Rattle.dtx_model.proofs.SameNumbers.{same_enlistment}
-use Rattle.outcome_law.proofs.Tests.{eq_self, eq_swap}
+use Rattle.outcome_law.proofs.Tests.{eq_self}
 use Rattle.outcome_law.proofs.Scans.{each_more}
 use Rattle.outcome_law.proofs.Lists.{OfEach, has-insert, of-at, of-insert, of-more}
 use Rattle.outcome_law.proofs.Picks.{found_at}
-use Rattle.outcome_law.proofs.Table.{is_opening_got, ruled}
 use Rattle.outcome_law.proofs.Keeping.{Keeps}
 use Rattle.outcome_law.proofs.Crossed.{cut_came, got_came, is_got_on, is_sent_on, opening_sent, sent_came, stopped_came}
 use Rattle.outcome_law.proofs.HalfKnows.{way_seen}
@@ -68,7 +65,7 @@ use Rattle.outcome_law.proofs.Deciding.{stays}
 use Rattle.outcome_law.proofs.Undecided.{way_unsealed}
 use Rattle.outcome_law.proofs.Leading.{none_again}
 use Rattle.outcome_law.proofs.CoreKnown.{got_there}
-use Rattle.outcome_law.proofs.CalmBlocks.{Calm, Seals, act_kind, calm_arrived, calm_called, calm_commit_sent, calm_cons, calm_coordinates, calm_core_got, calm_ended_at, calm_none, calm_one, calm_reply, calm_restarted, is_calm, is_enlist, is_giving, is_making, is_mild, is_slow}
+use Rattle.outcome_law.proofs.CalmBlocks.{Calm, Seals, act_kind, calm_arrived, calm_called, calm_commit_sent, calm_cons, calm_coordinates, calm_core_got, calm_ended_at, calm_one, calm_reply, calm_restarted, is_enlist, is_mild, is_slow}
 
 never : false ≡ true → ⊥
 never e = absurd cc
@@ -353,7 +350,6 @@ answered_coming ks h n y w o f k =
           (λ a. or_right (has (is_place_of e.value) (filter (λ v. not (n == v.0)) (waiting ks h))) (is_under_way h && is_handed (handover h) e.value) a) (k.placed d e c);
       late = k.late;
     }
-
 
 both_handed : (o : Option EnlNo) (e f : EnlNo) → is_handed o e.value ≡ true → is_handed o f.value ≡ true → e ≡ f
 both_handed (Some g) e f p q = same_enlistment e f (eqb-true e.value g.value p ∙ sym (eqb-true f.value g.value q))

@@ -67,3 +67,4 @@ pub mod WorldCalls
 pub mod HalfReplies
 pub mod WorldReplies
 pub mod HalfOwner
+pub mod CoreGoing
