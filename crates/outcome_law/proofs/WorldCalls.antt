@@ -1,6 +1,6 @@
 -- The block of each call that may come keeps the table, promoted or not.
 use Rattle.std.proofs.Common.{◌≡◌, ℕ, Bool, true, false, ◌&&◌, ◌||◌, List, [], ◌∷◌, Option, Some, None, refl, ◌∙◌, ap, sym, subst}
-use Rattle.std.specs.Prelude.{is_some, length, map, not, if◌then◌else◌}
+use Rattle.std.specs.Prelude.{is_some, length, map, nat_le, not, if◌then◌else◌}
 use Rattle.std.proofs.lemmas.Bool.{false_from_ne_true, or_left}
 use Rattle.dtx_values.specs.declared.number.ActorNo.{ActorNo}
 use Rattle.dtx_values.specs.declared.number.EnlNo.{EnlNo}
@@ -14,7 +14,7 @@ use Rattle.dtx_values.specs.declared.limits.TheConstants.{CALLS, DURABLES, ENLIS
 use Rattle.dtx_values.specs.declared.entry.Answer.{Answer}
 use Rattle.dtx_values.specs.declared.entry.Answer.TheVariants.{Fine, True, False, Wait, Id, Many, TooLate, NotBegun}
 use Rattle.dtx_values.specs.declared.entry.Entry.{Entry}
-use Rattle.dtx_values.specs.declared.entry.Entry.TheVariants.{Called, Began, Clock, Cloned, CommitAsked, Completed, RollbackAsked, Enlisted, Init, Late, Lost, OwnerAnswered, Recovered as RecoveredEntry, TimedOut}
+use Rattle.dtx_values.specs.declared.entry.Entry.TheVariants.{Called, Began, Clock, Cloned, CommitAsked, Completed, RollbackAsked, Cut, Enlisted, Init, Late, Lost, OwnerAnswered, Recovered as RecoveredEntry, TimedOut}
 use Rattle.dtx_values.specs.declared.message.Conn.{Conn}
 use Rattle.dtx_values.specs.declared.message.Conn.TheVariants.{Enl as OnEnl}
 use Rattle.dtx_values.specs.declared.words.Cause.{Cause}
@@ -30,19 +30,19 @@ use Rattle.dtx_values.specs.Owners.{cause_of, is_evident, may_own}
 use Rattle.dtx_values.specs.Row.{is_lasting, is_of}
 use Rattle.dtx_values.specs.Support.{is_single}
 use Rattle.dtx_values.specs.Table.{voted}
-use Rattle.dtx_model.specs.Words.{has, latest, onto}
+use Rattle.dtx_model.specs.Words.{each, has, latest, onto}
 use Rattle.dtx_model.specs.Entries.{began_of, decision_of, handed_of, is_any_hand, is_any_owner, is_commit, is_decision, is_good_vote, is_hand, is_promoted, is_sealed, is_vote, is_yes}
 use Rattle.dtx_model.specs.Observed.{clock, clone_rows, observe, rows, track}
-use Rattle.dtx_model.specs.Outcome.{by_log, by_owner, by_seal, doubt, enlisted, evidence, is_lost_owner, owner_doubt, ready}
-use Rattle.dtx_model.specs.Promotes.{identifier_of, is_under_way}
+use Rattle.dtx_model.specs.Outcome.{by_log, by_owner, by_seal, doubt, durables, enlisted, evidence, is_empty, is_lost_owner, is_veto, owner_doubt, ready}
+use Rattle.dtx_model.specs.Promotes.{identifier_of, is_begun_got, is_promoting, is_under_way}
 use Rattle.dtx_model.specs.Wires.{opens}
 use Rattle.dtx_model.specs.Waiting.{Waiter, managed, waiting}
-use Rattle.dtx_model.specs.Half.{decide, enlist_sent, fails_if, is_gone, is_handed, sees, veto, veto_if, is_promoting as sees_promoting}
+use Rattle.dtx_model.specs.Half.{Half, decide, enlist_sent, fails_if, is_gone, is_handed, sees, veto, veto_if, is_promoting as sees_promoting}
 use Rattle.dtx_model.specs.Answers.{class_of, clone_answer, marshal_answer, promotable_answer, volatile_answer, complete_answer, gone_answer, has_promotion, if_begun, is_crowded, is_full, is_full_of_durables, limit_of, local_answer, unless_ended, unless_late, wait_for}
-use Rattle.dtx_model.specs.Facts.{begin_promotion, tick_facts, durable_facts, durable_waits, facts_if, has_facts, is_late, ticked, reaches}
-use Rattle.dtx_model.specs.World.{World, answer_at, cut, cut_upward, gone_by, half, open_ones}
+use Rattle.dtx_model.specs.Facts.{begin_promotion, tick_facts, durable_facts, durable_waits, facts_if, has_facts, is_late, ticked, reaches, time_up}
+use Rattle.dtx_model.specs.World.{World, answer_at, core, cut, cut_upward, facts_at, gone_by, half, open_ones}
 use Rattle.dtx_model.specs.Steps.{called}
-use Rattle.dtx_model.proofs.Bools.{and_both, and_left, and_never, and_right, not_both, not_false, not_true, or_case, or_false, or_first, or_second}
+use Rattle.dtx_model.proofs.Bools.{and_both, and_left, and_never, and_right, not_both, not_false, not_true, or_case, or_false, or_first, or_right, or_second}
 use Rattle.dtx_model.proofs.Narrow.{is_done}
 use Rattle.dtx_model.proofs.Unowned.{causeless}
 use Rattle.outcome_law.proofs.Scans.{each_both, has_less, has_more}
@@ -52,14 +52,14 @@ use Rattle.outcome_law.proofs.TableRows.{clone_stands, enlisted_in_rows, none_th
 use Rattle.outcome_law.proofs.Going.{enlisted_passes}
 use Rattle.outcome_law.proofs.Evidence.{hand_any}
 use Rattle.outcome_law.proofs.Owned.{any_hand_seen, decision_seen, none_lasting}
-use Rattle.outcome_law.proofs.Table.{decision_row, is_enlist_got, is_lost_there, stands_volatile}
+use Rattle.outcome_law.proofs.Table.{decision_row, is_enlist_got, is_lost_there, stands_volatile, volatiles_well}
 use Rattle.outcome_law.proofs.Keeping.{Keeps}
 use Rattle.outcome_law.proofs.Recording.{come_if_promoted, promoted_if_yes, promoting_if_promoted, well_if_yes}
-use Rattle.outcome_law.proofs.Evident.{sealed_if_handed}
+use Rattle.outcome_law.proofs.Evident.{good_voted, sealed_if_handed}
 use Rattle.outcome_law.proofs.HalfRows.{commit_vetoed, volatile_stands}
 use Rattle.outcome_law.proofs.HalfVotes.{vote_seen}
 use Rattle.outcome_law.proofs.HalfKnows.{way_seen}
-use Rattle.outcome_law.proofs.Deciding.{decide_decides, decide_keeps, decided_there, seen_half}
+use Rattle.outcome_law.proofs.Deciding.{decide_decides, decide_keeps, decided_there, one_more, seen_half}
 use Rattle.outcome_law.proofs.Undecided.{Stands, decided_stand, goes_on, hand_seen, none_began, stand, unowned_evident, unwilling_open, way_unsealed}
 use Rattle.outcome_law.proofs.HalfCalls.{begin_stands, begun_if_promoted, call_alone, cloned_stands, commit_stands, completed_stands, enlist_stands, enlisted_stands, owner_row, rollback_stands, timeout_stands, veto_stands}
 
