@@ -68,3 +68,4 @@ pub mod HalfReplies
 pub mod WorldReplies
 pub mod HalfOwner
 pub mod CoreGoing
+pub mod StillBlocks
