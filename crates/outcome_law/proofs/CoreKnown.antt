@@ -81,6 +81,9 @@ sent_there c p (Sent e Up m) h k r t = absurd (never (same_connection c e) (p m)
     never false b k = absurd cc
 sent_there c p _ h k r t = absurd (no t)
 
+pub sent_opened_there : (c : Conn) (p : Message → Bool) (h : List Entry) → Keeps h → has (is_sent_on c Down p) h ≡ true → has (is_opening_got c) h ≡ true
+sent_opened_there c p h k t = earlier (is_sent_on c Down p) (λ g. has (is_opening_got c) g) (λ x g q. or_right (is_opening_got c x) (has (is_opening_got c) g) q) (sent_there c p) h k t
+
 pub got_there : (c : Conn) (p : Message → Bool) (h : List Entry) → Keeps h → has (is_got_on c Down p) h ≡ true → has (is_opening_got c) h ≡ true
 got_there c p h k t =
     earlier (is_sent_on c Down p) (λ g. has (is_opening_got c) g) (λ x g q. or_right (is_opening_got c x) (has (is_opening_got c) g) q) (sent_there c p) h k (was_sent c Down p h k.wires t)

@@ -69,3 +69,4 @@ pub mod WorldReplies
 pub mod HalfOwner
 pub mod CoreGoing
 pub mod StillBlocks
+pub mod Welcomes

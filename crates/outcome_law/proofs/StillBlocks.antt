@@ -77,7 +77,7 @@ is_still _ = true
 pub record Still (es : List Entry) : Type 0 where
   pub proof : each is_still es ≡ true
 
-st_none : Still []
+pub st_none : Still []
 st_none = record { proof = refl }
 
 pub st_cons : (x : Entry) {es : List Entry} → is_still x ≡ true → Still es → Still (x ∷ es)
