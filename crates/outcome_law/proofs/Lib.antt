@@ -60,3 +60,4 @@ pub mod WorldCalls
 pub mod HalfReplies
 pub mod WorldReplies
 pub mod HalfOwner
+pub mod WorldActs
