@@ -61,3 +61,5 @@ pub mod HalfReplies
 pub mod WorldReplies
 pub mod HalfOwner
 pub mod WorldActs
+pub mod EndsSeen
+pub mod EndArrivals
