@@ -63,3 +63,4 @@ pub mod HalfOwner
 pub mod WorldActs
 pub mod EndsSeen
 pub mod EndArrivals
+pub mod MessageArrivals
