@@ -64,3 +64,4 @@ pub mod WorldActs
 pub mod EndsSeen
 pub mod EndArrivals
 pub mod MessageArrivals
+pub mod Handover
