@@ -172,7 +172,7 @@ given_stands t ((n, Place e r c) ∷ ws) h k p b u a =
     other (m, Place f y z) d q = step (f.value == e.value) (has (opens (Enl f)) h) (not (stands_volatile f.value h)) d q
 
 -- The promotion succeeds.
-over_stands : (t : ℕ) (h : List Entry) (ws : List Waiter) (ms : List (EnlNo × RmNo)) → Stands h → has is_decision h ≡ false → is_under_way h ≡ true → have_come h ≡ true → has is_begun_got h ≡ true
+pub over_stands : (t : ℕ) (h : List Entry) (ws : List Waiter) (ms : List (EnlNo × RmNo)) → Stands h → has is_decision h ≡ false → is_under_way h ≡ true → have_come h ≡ true → has is_begun_got h ≡ true
     → has is_created_got h ≡ true → each (is_unsent h) ws ≡ true → are_apart ws ≡ true → Stands (onto h (over t (seen_half h ws ms)))
 unfolding observe
 over_stands t h ws ms k d w c b r u a = step (latest cause_of_promotion h) refl

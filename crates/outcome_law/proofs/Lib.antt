@@ -65,3 +65,4 @@ pub mod EndsSeen
 pub mod EndArrivals
 pub mod MessageArrivals
 pub mod Handover
+pub mod Arrivals
