@@ -66,3 +66,4 @@ pub mod EndArrivals
 pub mod MessageArrivals
 pub mod Handover
 pub mod Arrivals
+pub mod Reenlisted
