@@ -110,3 +110,10 @@ pub mod HalfOwner
 pub mod CoreGoing
 pub mod StillBlocks
 pub mod Welcomes
+pub mod WorldActs
+pub mod EndsSeen
+pub mod EndArrivals
+pub mod MessageArrivals
+pub mod Handover
+pub mod Arrivals
+pub mod Reenlisted
