@@ -102,3 +102,7 @@ pub mod CalmBlocks
 pub mod HalfReplies
 pub mod WorldReplies
 pub mod HalfOwner
+pub mod Ordered
+pub mod HalfWaves
+pub mod HalfHeard
+pub mod HalfEvidence
