@@ -1,5 +1,6 @@
--- Where no enlistment comes back and each that is told an abort before the decision was enlisted, each listener says what the history shows of its enlistment, promoted or not.
-use Rattle.std.proofs.Common.{◌≡◌, ◌==◌, ◌||◌, ◌∙◌, ℕ, Bool, true, false, ◌&&◌, List, [], ◌∷◌, Option, Some, None, slice_get, is_some, refl, sym}
+-- Where each that is told an abort before the decision was enlisted, each listener says whether its enlistment was told, promoted or not; and where that
+-- enlistment didn't come back, whether it is lost.
+use Rattle.std.proofs.Common.{◌≡◌, ◌==◌, ◌||◌, ◌∙◌, ℕ, Bool, true, false, ◌&&◌, List, [], ◌∷◌, Option, Some, None, slice_get, is_some, refl, ap, sym}
 use Rattle.std.specs.Prelude.{not}
 use Rattle.dtx_values.specs.declared.entry.Entry.{Entry}
 use Rattle.dtx_values.specs.declared.entry.Entry.TheVariants.{Enlisted, Got, Lost, Reenlisted, Told}
@@ -21,11 +22,11 @@ use Rattle.dtx_values.specs.Class.{is_volatile}
 use Rattle.dtx_model.specs.declared.listener.Listener.{Listener}
 use Rattle.dtx_model.specs.Words.{always, has, latest}
 use Rattle.dtx_model.specs.Entries.{decision_of, is_decision, is_lost, is_record, is_sealed, is_told}
-use Rattle.dtx_model.specs.Observed.{hear, listener_number, listeners, lose}
+use Rattle.dtx_model.specs.Observed.{come_back, hear, listener_number, listeners, lose}
 use Rattle.dtx_model.specs.Seen.{IsHeard}
 use Rattle.dtx_model.specs.Wires.{opens}
-use Rattle.dtx_model.proofs.Bools.{and_left, and_right, not_true, or_case, or_false, or_right, or_second}
-use Rattle.outcome_law.proofs.Tests.{apart, first_of_five, first_of_three}
+use Rattle.dtx_model.proofs.Bools.{and_left, and_right, not_true, or_case, or_false, or_first, or_right, or_second}
+use Rattle.outcome_law.proofs.Tests.{apart, eq_swap, first_of_five, first_of_three}
 use Rattle.outcome_law.proofs.Lists.{OfEach, of-at, of-insert, of-map, of-more}
 use Rattle.outcome_law.proofs.Rule.{is_certain, is_decided, is_enlisted}
 use Rattle.outcome_law.proofs.Table.{brings, brings_commit, class_row, ends_again, ends_with, hears_decision, hears_here, rule}
@@ -33,11 +34,15 @@ use Rattle.outcome_law.proofs.Keeping.{Keeps, keeps_before, newest}
 use Rattle.outcome_law.proofs.HalfRows.{enlisted_once}
 use Rattle.outcome_law.proofs.Heard.{swapped}
 
--- the entry tells an abort to one that was enlisted, or after the decision, and brings nobody back
+-- the entry tells an abort to one that was enlisted, or after the decision
 abbrev pub is_told_here : List Entry → Entry → Bool
 is_told_here h (Told (Enl e) Aborted) = has is_decision h || has (is_enlisted e.value) h
-is_told_here h (Reenlisted e) = false
 is_told_here h _ = true
+
+-- this enlistment came back
+abbrev pub is_return : ℕ → Entry → Bool
+is_return n (Reenlisted f) = n == f.value
+is_return n _ = false
 
 -- What is told is told after the decision or the seal, or to one that was enlisted.
 abbrev is_told_there : ℕ → List Entry → Bool
@@ -94,27 +99,52 @@ enlisted_undecided e c h r =
     not_true (has is_decision h)
     (first_of_five (not (has is_decision h)) (not (has is_sealed h)) (not (has (is_enlisted e.value) h)) (class_row h e.value c) (not (is_volatile c && has (opens (OnEnl e)) h)) r)
 
--- each listener says what the history shows
-listeners_heard : (h : List Entry) → Keeps h → always is_told_here h ≡ true → OfEach (IsHeard h) (listeners h)
+-- the listener says whether its enlistment was told, and where that didn't come back, whether it is lost
+record IsHeardHere (h : List Entry) (l : Listener) : Type 0 where
+  told : l.told ≡ has (is_told l.enlistment.value) h
+  lost : has (is_return l.enlistment.value) h ≡ false → l.lost ≡ has (is_lost l.enlistment.value) h
+
+-- one that comes back is no longer lost, and the others stay as they are
+back_heard : (e : EnlNo) (h : List Entry) (l : Listener) → IsHeardHere h l → IsHeardHere (Reenlisted e ∷ h) (come_back e.value l)
+back_heard e h l w =
+    record {
+      told = w.told;
+      lost =
+          λ s. let n = l.enlistment.value in
+          ap (λ b. not b && l.lost) (eq_swap e.value n ∙ or_first (n == e.value) (has (is_return n) h) s) ∙ w.lost (or_second (n == e.value) (has (is_return n) h) s);
+    }
+
+-- each listener says so
+listeners_heard : (h : List Entry) → Keeps h → always is_told_here h ≡ true → OfEach (IsHeardHere h) (listeners h)
 listeners_heard [] k t = tt
 listeners_heard (Enlisted e c ∷ h) k t =
     let own = keeps_before (Enlisted e c) h k in
-    let new = enlisted_once e c h (newest (Enlisted e c) h k) in
-    let d : has is_decision h ≡ false = enlisted_undecided e c h (newest (Enlisted e c) h k) in
-    of-insert (IsHeard (Enlisted e c ∷ h)) listener_number (record { enlistment = e; told = false; lost = false })
-    (record { told = sym (unenlisted_untold e.value h own t d (enlisted_unsealed e c h (newest (Enlisted e c) h k)) new); lost = sym (unenlisted_unlost e.value h own new) }) (listeners h)
-    (of-more (IsHeard h) (IsHeard (Enlisted e c ∷ h)) (λ l w. record { told = w.told; lost = w.lost }) (listeners h) (listeners_heard h own t))
+    let rule = newest (Enlisted e c) h k in
+    let new = enlisted_once e c h rule in
+    of-insert (IsHeardHere (Enlisted e c ∷ h)) listener_number (record { enlistment = e; told = false; lost = false })
+    (record {
+      told = sym (unenlisted_untold e.value h own t (enlisted_undecided e c h rule) (enlisted_unsealed e c h rule) new);
+      lost = λ s. sym (unenlisted_unlost e.value h own new);
+    }) (listeners h)
+    (of-more (IsHeardHere h) (IsHeardHere (Enlisted e c ∷ h)) (λ l w. record { told = w.told; lost = w.lost }) (listeners h) (listeners_heard h own t))
 listeners_heard (Told (Enl e) o ∷ h) k t =
-    of-map (IsHeard h) (IsHeard (Told (Enl e) o ∷ h)) (hear e.value) (λ l w. record { told = swapped e.value l.enlistment.value l.told _ w.told; lost = w.lost }) (listeners h)
+    of-map (IsHeardHere h) (IsHeardHere (Told (Enl e) o ∷ h)) (hear e.value) (λ l w. record { told = swapped e.value l.enlistment.value l.told _ w.told; lost = w.lost }) (listeners h)
     (listeners_heard h (keeps_before (Told (Enl e) o) h k) (and_right (is_told_here h (Told (Enl e) o)) (always is_told_here h) t))
 listeners_heard (Lost e ∷ h) k t =
-    of-map (IsHeard h) (IsHeard (Lost e ∷ h)) (lose e.value) (λ l w. record { told = w.told; lost = swapped e.value l.enlistment.value l.lost _ w.lost }) (listeners h)
-    (listeners_heard h (keeps_before (Lost e) h k) t)
-listeners_heard (Reenlisted e ∷ h) k t = absurd cc
+    of-map (IsHeardHere h) (IsHeardHere (Lost e ∷ h)) (lose e.value)
+    (λ l w. record { told = w.told; lost = λ s. swapped e.value l.enlistment.value l.lost _ (w.lost s) }) (listeners h) (listeners_heard h (keeps_before (Lost e) h k) t)
+listeners_heard (Reenlisted e ∷ h) k t =
+    of-map (IsHeardHere h) (IsHeardHere (Reenlisted e ∷ h)) (come_back e.value) (back_heard e h) (listeners h) (listeners_heard h (keeps_before (Reenlisted e) h k) t)
 listeners_heard (x ∷ h) k t =
-    of-more (IsHeard h) (IsHeard (x ∷ h)) (λ l w. record { told = w.told; lost = w.lost }) (listeners h)
+    of-more (IsHeardHere h) (IsHeardHere (x ∷ h)) (λ l w. record { told = w.told; lost = w.lost }) (listeners h)
     (listeners_heard h (keeps_before x h k) (and_right (is_told_here h x) (always is_told_here h) t))
 
--- the listener at a place says what the history shows
-pub listener_heard : (h : List Entry) (n : ℕ) (l : Listener) → Keeps h → always is_told_here h ≡ true → slice_get (listeners h) n ≡ Some l → IsHeard h l
-listener_heard h n l k t e = of-at (IsHeard h) (listeners h) n l (listeners_heard h k t) e
+-- the listener at a place says whether its enlistment was told
+pub listener_told : (h : List Entry) (n : ℕ) (l : Listener) → Keeps h → always is_told_here h ≡ true → slice_get (listeners h) n ≡ Some l
+    → l.told ≡ has (is_told l.enlistment.value) h
+listener_told h n l k t e = (of-at (IsHeardHere h) (listeners h) n l (listeners_heard h k t) e).told
+
+-- and where that didn't come back, what the history shows of it
+pub listener_heard : (h : List Entry) (n : ℕ) (l : Listener) → Keeps h → always is_told_here h ≡ true → slice_get (listeners h) n ≡ Some l
+    → has (is_return l.enlistment.value) h ≡ false → IsHeard h l
+listener_heard h n l k t e s = let w = of-at (IsHeardHere h) (listeners h) n l (listeners_heard h k t) e in record { told = w.told; lost = w.lost s }
