@@ -106,3 +106,4 @@ pub mod Ordered
 pub mod HalfWaves
 pub mod HalfHeard
 pub mod HalfEvidence
+pub mod HandedOver
