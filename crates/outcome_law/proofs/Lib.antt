@@ -117,3 +117,8 @@ pub mod MessageArrivals
 pub mod Handover
 pub mod Arrivals
 pub mod Reenlisted
+pub mod Ordered
+pub mod HalfWaves
+pub mod HalfHeard
+pub mod HalfEvidence
+pub mod HandedOver

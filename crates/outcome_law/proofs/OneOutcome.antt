@@ -71,7 +71,7 @@ brought_aborted e (Got (OnEnl f) Down EnlistAbort ∷ h) k t = aborted_more (Got
 brought_aborted e (Got (Again f) Down ReenlistAborted ∷ h) k t = aborted_more (Got (Again f) Down ReenlistAborted) h (aborted_by_got (Again f) ReenlistAborted h k refl)
 brought_aborted e _ k t = absurd cc
 
-heard_record : (p : Party) (h : List Entry) → Keeps h → hears_here h p Committed ≡ true → has is_record h ≡ true
+pub heard_record : (p : Party) (h : List Entry) → Keeps h → hears_here h p Committed ≡ true → has is_record h ≡ true
 heard_record Client h k t = absurd cc
 heard_record (Enl e) h k t = brought_record e.value h k (brings_is h t)
   where
@@ -88,7 +88,7 @@ heard_aborted (Enl e) h k t = brought_aborted e.value h k (brings_is h t)
     brings_is (x ∷ h) t = t
 
 -- nobody hears of doubt over a connection
-heard_doubt : (p : Party) (h : List Entry) → hears_here h p InDoubt ≡ true → ⊥
+pub heard_doubt : (p : Party) (h : List Entry) → hears_here h p InDoubt ≡ true → ⊥
 heard_doubt Client h t = absurd cc
 heard_doubt (Enl e) [] t = absurd cc
 heard_doubt (Enl e) (x ∷ h) t = absurd cc
