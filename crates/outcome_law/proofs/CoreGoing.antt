@@ -24,7 +24,7 @@ use Rattle.dtx_model.specs.Wires.{in_transit, WireRun}
 use Rattle.dtx_model.specs.Caused.{MayCome}
 use Rattle.outcome_law.proofs.Undecided.{Stands, is_going}
 use Rattle.outcome_law.proofs.CoreSteps.{core_ruled, is_core_step}
-use Rattle.outcome_law.proofs.Coming.{IsComing, coming_late}
+use Rattle.outcome_law.proofs.Upward.{IsComing, coming_late}
 
 -- an entry of the coordinator's side
 abbrev pub is_own : Entry → Bool

@@ -93,6 +93,7 @@ pub mod Undecided
 pub mod CoreSteps
 pub mod CalmBlocks
 pub mod Coming
+pub mod Upward
 pub mod HalfCalls
 pub mod HalfVotes
 pub mod WorldCalls
