@@ -1,8 +1,6 @@
 -- While nothing is promoted and no owner answered, the rows show whether evidence stands; and so they do at the end of each block while nothing is decided.
-use Rattle.std.proofs.Common.{◌≡◌, Bool, true, false, ◌&&◌, ◌||◌, List, refl, ◌∙◌, ap, sym}
-use Rattle.std.specs.Prelude.{filter, not}
+use Rattle.std.proofs.Common.{◌≡◌, false, ◌&&◌, List, refl, ◌∙◌, ap, sym}
 use Rattle.dtx_values.specs.declared.entry.Entry.{Entry}
-use Rattle.dtx_values.specs.Class.{is_volatile}
 use Rattle.dtx_values.specs.Owners.{is_evident}
 use Rattle.dtx_model.specs.Words.{each, has}
 use Rattle.dtx_model.specs.Entries.{is_commit, is_decision, is_good_vote, is_promoted, is_record, is_sealed}

@@ -3,12 +3,10 @@
 use Rattle.std.proofs.Common.{◌≡◌, ◌==◌, ◌||◌, ◌∙◌, ℕ, Bool, true, false, ◌&&◌, List, [], ◌∷◌, Option, Some, None, slice_get, is_some, refl, ap, sym}
 use Rattle.std.specs.Prelude.{not}
 use Rattle.dtx_values.specs.declared.entry.Entry.{Entry}
-use Rattle.dtx_values.specs.declared.entry.Entry.TheVariants.{Enlisted, Got, Lost, Reenlisted, Told}
+use Rattle.dtx_values.specs.declared.entry.Entry.TheVariants.{Enlisted, Lost, Reenlisted, Told}
 use Rattle.dtx_values.specs.declared.entry.Party.TheVariants.{Enl}
 use Rattle.std.proofs.lemmas.Bool.{or_left}
-use Rattle.dtx_values.specs.declared.message.Conn.TheVariants.{Enl as OnEnl, Again}
-use Rattle.dtx_values.specs.declared.message.Dir.TheVariants.{Down}
-use Rattle.dtx_values.specs.declared.message.Message.TheVariants.{EnlistCommit, ReenlistCommitted}
+use Rattle.dtx_values.specs.declared.message.Conn.TheVariants.{Enl as OnEnl}
 use Rattle.dtx_values.specs.declared.entry.Party.{Party}
 use Rattle.dtx_values.specs.declared.words.Outcome.{Outcome}
 use Rattle.dtx_values.specs.declared.words.Outcome.TheVariants.{Committed, Aborted, InDoubt}
@@ -29,7 +27,7 @@ use Rattle.dtx_model.proofs.Bools.{and_left, and_right, not_true, or_case, or_fa
 use Rattle.outcome_law.proofs.Tests.{apart, eq_swap, first_of_five, first_of_three}
 use Rattle.outcome_law.proofs.Lists.{OfEach, of-at, of-insert, of-map, of-more}
 use Rattle.outcome_law.proofs.Rule.{is_certain, is_decided, is_enlisted}
-use Rattle.outcome_law.proofs.Table.{brings, brings_commit, class_row, ends_again, ends_with, hears_decision, hears_here, rule}
+use Rattle.outcome_law.proofs.Table.{class_row, ends_again, hears_decision, hears_here, rule}
 use Rattle.outcome_law.proofs.Keeping.{Keeps, keeps_before, newest}
 use Rattle.outcome_law.proofs.HalfRows.{enlisted_once}
 use Rattle.outcome_law.proofs.Heard.{swapped}

@@ -1,6 +1,6 @@
 -- By its row, an enlistment waits for the votes of those that were asked to prepare before it came, in each history that keeps the table, promoted or not.
-use Rattle.std.proofs.Common.{◌≡◌, ℕ, ◌==◌, ◌≤◌, Bool, true, false, ◌&&◌, ◌||◌, List, [], ◌∷◌, Option, Some, None, map}
-use Rattle.std.proofs.Common.{refl, ◌∙◌, ap, subst, sym, arith}
+use Rattle.std.proofs.Common.{◌≡◌, ℕ, ◌==◌, Bool, true, false, ◌&&◌, ◌||◌, List, [], ◌∷◌, Some, map}
+use Rattle.std.proofs.Common.{refl, ◌∙◌, ap, arith}
 use Rattle.std.specs.Prelude.{not, if◌then◌else◌}
 use Rattle.std.specs.List.{slice_get}
 use Rattle.std.proofs.Math.Nat.{le_trans}
@@ -15,7 +15,7 @@ use Rattle.dtx_values.specs.Table.{voted_before, marks}
 use Rattle.dtx_model.specs.Words.{has, each, all_of}
 use Rattle.dtx_model.specs.Entries.{is_asked, is_sealed, is_vote}
 use Rattle.dtx_model.specs.Observed.{rows}
-use Rattle.dtx_model.specs.Seen.{asked_of, asked_before, waited_for, IsSeen}
+use Rattle.dtx_model.specs.Seen.{asked_of, waited_for, IsSeen}
 use Rattle.dtx_model.proofs.Bools.{not_both, or_second}
 use Rattle.dtx_model.proofs.Counts.{how_many-map}
 use Rattle.outcome_law.proofs.Tests.{eq_self, eq_swap, apart}

@@ -18,7 +18,7 @@ use Rattle.dtx_model.specs.Outcome.{can_own, durables}
 use Rattle.std.specs.List.{flat_map}
 use Rattle.dtx_model.specs.declared.waiting.Wanted.TheVariants.{Identifier, Place}
 use Rattle.dtx_model.specs.Waiting.{Waiter}
-use Rattle.dtx_model.specs.Half.{given, promoted_by}
+use Rattle.dtx_model.specs.Half.{given, is_handed, promoted_by}
 use Rattle.dtx_model.specs.Promotes.{before_promotion, identifier_of, is_enlisted_got, is_handed_over, is_promoting, is_promoting_for, same_cause}
 use Rattle.dtx_model.proofs.Bools.{and_both, and_left, and_right, not_true}
 use Rattle.outcome_law.proofs.Tests.{eq_self}
@@ -111,3 +111,11 @@ over_called s t h ws o r = step (latest cause_of_promotion h) refl
     step (Some c) e =
         others_called s t (Promoted (identifier_of t) c ∷ h) (flat_map (given t) ws) (given_other t ws)
         (and_both (is_called_for s t h (Promoted (identifier_of t) c)) (always (is_called_for s t) h) (success_called s t c h e o) r)
+
+-- the same, as the local side asks it of the enlistment whose ENLISTED it got
+pub own_handed : (h : List Entry) (n : ℕ) → Keeps h → has is_promoting h ≡ true → is_handed (handover h) n ≡ true → has (is_enlisted_got n) h ≡ true → is_handed_over h ≡ true
+own_handed h n k p t g = step (handover h) refl t
+  where
+    step : (o : Option EnlNo) → handover h ≡ o → is_handed o n ≡ true → is_handed_over h ≡ true
+    step None e t = absurd cc
+    step (Some f) e t = one_handed h f k p e (subst (λ m. has (is_enlisted_got m) h ≡ true) (eqb-true n f.value t) g)

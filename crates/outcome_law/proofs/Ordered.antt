@@ -6,7 +6,7 @@ use Rattle.dtx_values.specs.declared.entry.Entry.TheVariants.{Promoted, Promotin
 use Rattle.dtx_values.specs.declared.script.Line.{Line}
 use Rattle.dtx_model.specs.Words.{always, has}
 use Rattle.dtx_model.specs.Entries.{is_decision, is_sealed}
-use Rattle.dtx_model.specs.Promotes.{ends_refused, identifier_of, is_begun_got, is_created_got, is_first_wait, is_handed_over, is_promoting, is_promoting_for, is_under_way, keeps_order, promotes}
+use Rattle.dtx_model.specs.Promotes.{identifier_of, is_begun_got, is_created_got, is_first_wait, is_handed_over, is_promoting, is_promoting_for, is_under_way, keeps_order, promotes}
 use Rattle.dtx_model.proofs.Bools.{and_both, and_left, and_right}
 use Rattle.outcome_law.proofs.Table.{have_come, rule, ruled}
 
