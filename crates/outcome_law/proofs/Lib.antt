@@ -21,6 +21,7 @@ pub mod Rules
 pub mod Owned
 pub mod Pending
 pub mod Runs
+pub mod LocalTies
 pub mod ScopeCalls
 pub mod Names
 pub mod Lasting
