@@ -1,7 +1,6 @@
 pub mod Writing
-pub mod Notes
-pub mod Lasting
-pub mod Following
-pub mod Home
-pub mod Due
+pub mod Lists
+pub mod Waits
+pub mod Rows
+pub mod Links
 pub mod Lost

@@ -1,7 +1,7 @@
 //! Whom the outcome is told to.
 ghost use Rattle.std.specs.Prelude.{◌≡◌, ◌==◌, ◌&&◌, map};
 ghost use Rattle.std.specs.List.{list_any};
-ghost use Rattle.dtx_model.specs.Observed.{hear, lose};
+ghost use Rattle.dtx_model.specs.Observed.{come_back, hear, lose};
 
 use dtx_model::Listener;
 use dtx_values::EnlNo;
@@ -42,9 +42,34 @@ pub fn lose(listeners: &mut [Listener], e: EnlNo)
     }
 }
 
+/// Marks that the enlistment came back.
+fn regain_one(l: &mut Listener, e: EnlNo)
+    ensures { l.new ≡ come_back e.value l.old }
+{
+    if l.enlistment == e {
+        l.lost = false;
+    }
+}
+
+/// Marks that the enlistment came back.
+pub fn regain(listeners: &mut [Listener], e: EnlNo)
+    ensures { listeners.new ≡ map (come_back e.value) listeners.old }
+{
+    for l in listeners.iter_mut() {
+        regain_one(l, e);
+    }
+}
+
 /// Whether the enlistment is lost.
 pub fn is_gone(listeners: &[Listener], e: EnlNo) -> bool
     ensures { result ≡ list_any (λ l. (e.value == l.enlistment.value) && l.lost) listeners.now }
 {
     listeners.iter().any(|l| l.enlistment == e && l.lost)
+}
+
+/// Whether the enlistment was told the outcome.
+pub fn was_told(listeners: &[Listener], e: EnlNo) -> bool
+    ensures { result ≡ list_any (λ l. (e.value == l.enlistment.value) && l.told) listeners.now }
+{
+    listeners.iter().any(|l| l.enlistment == e && l.told)
 }

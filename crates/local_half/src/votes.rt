@@ -1,11 +1,12 @@
-//! What the rows say of votes.
+//! What the rows say of votes, and of the promotable enlistment.
 ghost use Rattle.std.specs.Prelude.{◌≡◌, ◌&&◌};
 ghost use Rattle.std.specs.List.{list_all};
 ghost use Rattle.dtx_values.specs.Class.{is_volatile};
 ghost use Rattle.dtx_values.specs.Vote.{voted_well};
 ghost use Rattle.dtx_values.specs.Owners.{is_evident};
+ghost use Rattle.dtx_model.specs.Acts.{promotable_in};
 
-use dtx_values::Row;
+use dtx_values::{Class, EnlNo, Row};
 
 /// Whether it is volatile and voted yes or done.
 fn is_well(x: &Row) -> bool
@@ -26,4 +27,12 @@ pub fn is_evident(sealed: bool, rows: &[Row]) -> bool
     ensures { result ≡ is_evident sealed rows.now }
 {
     sealed && are_well(rows)
+}
+
+/// The promotable enlistment.
+pub fn first_promotable(rows: &[Row]) -> Option<EnlNo>
+    ensures { result ≡ promotable_in rows.now }
+{
+    let row = rows.iter().copied().find(|x| x.class == Class::Promotable)?;
+    Some(row.number)
 }
