@@ -12,9 +12,17 @@ fn enl(rt: &impl Abort, n: u32) -> EnlNo {
 fn it_is_over_once_its_enlistment_is_enlisted(rt: HostRuntime) {
     let [e1, e2] = [1, 2].map(|n| enl(&rt, n));
     let steps = [
-        (ProxyNews::Created, HandoverAct::SendEnlist(e1), Right::InFlight),
+        (
+            ProxyNews::Created,
+            HandoverAct::SendEnlist(e1),
+            Right::InFlight,
+        ),
         (ProxyNews::Begun(1), HandoverAct::SendVoter, Right::InFlight),
-        (ProxyNews::Enlisted(e2), HandoverAct::Nothing, Right::InFlight),
+        (
+            ProxyNews::Enlisted(e2),
+            HandoverAct::Nothing,
+            Right::InFlight,
+        ),
         (ProxyNews::AskVote, HandoverAct::Nothing, Right::InFlight),
         (ProxyNews::Enlisted(e1), HandoverAct::Over, Right::Local),
         (ProxyNews::Enlisted(e1), HandoverAct::Nothing, Right::Local),

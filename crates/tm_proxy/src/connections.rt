@@ -28,12 +28,19 @@ impl Model for Proxy {
     ghost view = { λ p. p.ends.items };
 }
 
+/// Forgets what was known of c.
+fn forget(ends: &mut ArrayVec<End, CONNECTIONS>, c: Conn)
+    ensures { ends.new.items ≡ filter (λ n. not (is_end_of c n)) ends.old.items }
+{
+    ends.retain(|n| !is_end_of(c, n));
+}
+
 /// Opens c by the message that was sent. What was known of an opening before is forgotten.
 fn open_by(ends: &mut ArrayVec<End, CONNECTIONS>, c: Conn, m: &Message)
     requires { length (filter (λ n. not (is_end_of c n)) ends.old.items) < CONNECTIONS }
     ensures { ends.new.items ≡ with_opened c (tag_of m.now) ends.old.items }
 {
-    ends.retain(|n| !is_end_of(c, n));
+    forget(ends, c);
     let opened = End {
         connection: c,
         sent: with_message(0, m),
@@ -165,8 +172,7 @@ impl Proxy {
         ensures news { result ≡ (if loses_all c self.old then ProxyNews.AllLost else ProxyNews.Lost c) }
     {
         let saw_both = self.saw_both();
-        let awaits_outcome =
-            self.was_sent(Conn::Voter, &Message::VoterYes) && !self.got_outcome();
+        let awaits_outcome = self.was_sent(Conn::Voter, &Message::VoterYes) && !self.got_outcome();
         note_end(self.ends.as_mut_slice(), c);
         if is_of_both(c) && !saw_both && self.saw_both() && awaits_outcome {
             ProxyNews::AllLost

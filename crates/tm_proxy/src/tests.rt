@@ -1,4 +1,4 @@
-//! Runs of messages, with the news of each and the connection on which a veto would say abort after it.
+//! A run of messages, with the news of each and the connection on which a veto would say abort after it.
 use crate::{Proxy, ProxyNews};
 use dtx_values::{Conn, EnlNo, Info, Message, Outcome, RmNo};
 use std::process::Abort;
@@ -11,57 +11,47 @@ enum Step {
     Down(Conn, ProxyNews),
 }
 
-/// An abort while the transaction is promoted, and a coordinator that is lost after the local side said yes.
-const RUNS: [&[(Step, Option<Conn>)]; 2] = [
-    &[
-        (Step::Sent(Conn::Begin, Message::BeginBegin), None),
-        (
-            Step::Got(Conn::Begin, Message::BeginBegun(7), ProxyNews::Begun(7)),
-            Some(Conn::Begin),
+/// An abort while the transaction is being promoted; then b is opened anew, and the coordinator is lost after the local side said yes.
+const RUN: [(Step, Option<Conn>); 14] = [
+    (Step::Sent(Conn::Begin, Message::BeginBegin), None),
+    (
+        Step::Got(Conn::Begin, Message::BeginBegun(7), ProxyNews::Begun(7)),
+        Some(Conn::Begin),
+    ),
+    (Step::Sent(Conn::Begin, Message::BeginAbort), None),
+    (
+        Step::Got(
+            Conn::Begin,
+            Message::BeginAborted,
+            ProxyNews::OutcomeIs(Outcome::Aborted),
         ),
-        (Step::Sent(Conn::Begin, Message::BeginAbort), None),
-        (
-            Step::Got(
-                Conn::Begin,
-                Message::BeginAborted,
-                ProxyNews::OutcomeIs(Outcome::Aborted),
-            ),
-            None,
-        ),
-    ],
-    &[
-        (Step::Sent(Conn::Begin, Message::BeginBegin), None),
-        (
-            Step::Got(Conn::Begin, Message::BeginBegun(7), ProxyNews::Begun(7)),
-            Some(Conn::Begin),
-        ),
-        (
-            Step::Sent(Conn::Voter, Message::VoterVoter(7)),
-            Some(Conn::Begin),
-        ),
-        (
-            Step::Got(Conn::Voter, Message::VoterCreated, ProxyNews::Created),
-            Some(Conn::Begin),
-        ),
-        (
-            Step::Sent(Conn::Begin, Message::BeginCommit),
-            Some(Conn::Voter),
-        ),
-        (
-            Step::Got(Conn::Voter, Message::VoterAsk, ProxyNews::AskVote),
-            Some(Conn::Voter),
-        ),
-        (Step::Sent(Conn::Voter, Message::VoterYes), None),
-        (
-            Step::Down(Conn::Begin, ProxyNews::Lost(Conn::Begin)),
-            None,
-        ),
-        (Step::Down(Conn::Voter, ProxyNews::AllLost), None),
-        (
-            Step::Down(Conn::Voter, ProxyNews::Lost(Conn::Voter)),
-            None,
-        ),
-    ],
+        None,
+    ),
+    (Step::Sent(Conn::Begin, Message::BeginBegin), None),
+    (
+        Step::Got(Conn::Begin, Message::BeginBegun(8), ProxyNews::Begun(8)),
+        Some(Conn::Begin),
+    ),
+    (
+        Step::Sent(Conn::Voter, Message::VoterVoter(8)),
+        Some(Conn::Begin),
+    ),
+    (
+        Step::Got(Conn::Voter, Message::VoterCreated, ProxyNews::Created),
+        Some(Conn::Begin),
+    ),
+    (
+        Step::Sent(Conn::Begin, Message::BeginCommit),
+        Some(Conn::Voter),
+    ),
+    (
+        Step::Got(Conn::Voter, Message::VoterAsk, ProxyNews::AskVote),
+        Some(Conn::Voter),
+    ),
+    (Step::Sent(Conn::Voter, Message::VoterYes), None),
+    (Step::Down(Conn::Begin, ProxyNews::Lost(Conn::Begin)), None),
+    (Step::Down(Conn::Voter, ProxyNews::AllLost), None),
+    (Step::Down(Conn::Voter, ProxyNews::Lost(Conn::Voter)), None),
 ];
 
 /// Sends the message, where there is room.
@@ -74,17 +64,15 @@ fn send(rt: &impl Abort, p: &mut Proxy, c: Conn, m: &Message) {
 }
 
 #[test]
-fn runs(rt: HostRuntime) {
-    for steps in RUNS {
-        let mut p = Proxy::new();
-        for (step, abort_on) in steps {
-            match *step {
-                Step::Sent(c, m) => send(&rt, &mut p, c, &m),
-                Step::Got(c, m, news) => assert_eq!(rt; p.got(c, m), news, "at {step:?}"),
-                Step::Down(c, news) => assert_eq!(rt; p.down(c), news, "at {step:?}"),
-            }
-            assert_eq!(rt; p.may_send_abort(), *abort_on, "after {step:?}");
+fn a_run(rt: HostRuntime) {
+    let mut p = Proxy::new();
+    for (step, abort_on) in RUN {
+        match step {
+            Step::Sent(c, m) => send(&rt, &mut p, c, &m),
+            Step::Got(c, m, news) => assert_eq!(rt; p.got(c, m), news, "at {step:?}"),
+            Step::Down(c, news) => assert_eq!(rt; p.down(c), news, "at {step:?}"),
         }
+        assert_eq!(rt; p.may_send_abort(), abort_on, "after {step:?}");
     }
 }
 
@@ -97,7 +85,12 @@ fn an_opening_forgets_the_one_before(rt: HostRuntime) {
         enl: e1,
     };
     let mut p = Proxy::new();
-    send(&rt, &mut p, Conn::Again(e1), &Message::ReenlistReenlist(info));
+    send(
+        &rt,
+        &mut p,
+        Conn::Again(e1),
+        &Message::ReenlistReenlist(info),
+    );
     send(&rt, &mut p, Conn::Enl(e2), &Message::EnlistEnlist(info));
     send(&rt, &mut p, Conn::Enl(e1), &Message::EnlistEnlist(info));
     let order = [Conn::Enl(e1), Conn::Enl(e2), Conn::Again(e1)];
