@@ -1,25 +1,29 @@
 -- Which entries the local side takes in: the tables take what each adds.
-use Rattle.std.specs.Prelude.{ℕ, ◌+◌, ◌≡◌, ◌<◌, ◌≤◌, ◌==◌, ◌&&◌, ◌||◌, Bool, true, false, not, List, [], ◌∷◌, length, Option, Some, None, is_some}
+use Rattle.std.specs.Prelude.{ℕ, ◌+◌, ◌≡◌, ◌<◌, ◌≤◌, ◌==◌, ◌&&◌, ◌||◌, Bool, true, false, not, List, [], ◌∷◌, length, Option, Some, None, is_some, if◌then◌else◌}
 use Rattle.dtx_values.specs.declared.limits.TheConstants.{DURABLES, ENLISTMENTS}
 use Rattle.dtx_values.specs.declared.call.Call.{Call}
 use Rattle.dtx_values.specs.declared.call.Call.TheVariants.{Durable, Marshal}
 use Rattle.dtx_values.specs.declared.entry.Entry.{Entry}
-use Rattle.dtx_values.specs.declared.entry.Entry.TheVariants.{Answered, Began, Cloned, Completed, Enlisted, Init, CommitAsked, RollbackAsked, Clock, TimedOut, Late, Asked, Voted, PromoteReply, Requested, Sealed, Handed, OwnerAnswered, LocalYes, Told, Promoting, Sent, Lost, Reenlisted, Acked}
+use Rattle.dtx_values.specs.declared.entry.Entry.TheVariants.{Answered, Began, Cloned, Completed, Enlisted, Init, CommitAsked, RollbackAsked, Clock, TimedOut, Late, Asked, Voted, PromoteReply, Requested, Sealed, Handed, OwnerAnswered, LocalYes, Told, Sent, Lost, Reenlisted, Acked}
 use Rattle.dtx_values.specs.declared.message.Conn.{Conn}
-use Rattle.dtx_values.specs.declared.message.Conn.TheVariants.{Enl, Again}
+use Rattle.dtx_values.specs.declared.message.Conn.TheVariants.{Begin, Enl, Again}
 use Rattle.dtx_values.specs.declared.message.Dir.TheVariants.{Up}
 use Rattle.dtx_values.specs.declared.message.Message.{Message}
-use Rattle.dtx_values.specs.declared.message.Message.TheVariants.{EnlistEnlist, ReenlistReenlist}
+use Rattle.dtx_values.specs.declared.message.Message.TheVariants.{BeginBegin, EnlistEnlist, ReenlistReenlist}
 use Rattle.dtx_values.specs.declared.number.EnlNo.{EnlNo}
 use Rattle.dtx_values.specs.declared.words.Class.{Class}
-use Rattle.dtx_values.specs.Class.{is_volatile}
+use Rattle.dtx_values.specs.Class.{is_promotable, is_volatile}
+use Rattle.dtx_values.specs.Owners.{cause_of}
+use Rattle.dtx_values.specs.Support.{is_single}
+use Rattle.dtx_values.specs.declared.words.Cause.{Cause}
+use Rattle.dtx_values.specs.declared.words.Cause.TheVariants.{Marshal as MarshalCause}
 use Rattle.dtx_values.specs.Outgoing.{Outgoing, sends_of}
 use Rattle.dtx_values.specs.Row.{is_lasting}
 use Rattle.dtx_values.specs.Table.{has_row, how_many, insert_by, was_asked}
 use Rattle.dtx_model.specs.Words.{has}
-use Rattle.dtx_model.specs.Observed.{is_branch}
-use Rattle.dtx_model.specs.Waiting.{is_place, managed_by, wanted_by, waiter_line}
-use Rattle.dtx_model.specs.Half.{Half}
+use Rattle.dtx_model.specs.Observed.{Observed, is_branch}
+use Rattle.dtx_model.specs.Waiting.{Waiter, is_place, managed_by, wanted_by, waiter_line}
+use Rattle.dtx_model.specs.Half.{Half, enlist_sent}
 use Rattle.dependent_clones.specs.Refusals.{clone_refusal}
 use Rattle.local_half.specs.Half.{Known, is_awaited}
 use Rattle.local_half.specs.Linked.{is_held}
@@ -33,12 +37,6 @@ pub record HasPlace (h : Half) (e : EnlNo) (c : Class) : Type 0 where
   pub alone : (is_volatile c || not (has is_lasting h.seen.table)) ≡ true
   pub begun : is_some h.seen.limit ≡ true
 
--- no promotion was started
-pub record IsUnstarted (h : Half) : Type 0 where
-  pub uncaused : h.seen.cause ≡ None
-  pub unpromoted : h.seen.promoted ≡ false
-  pub unfailed : h.seen.failed ≡ false
-
 -- ENLIST is sent while nothing is decided, for an enlistment that lasts or a place that a call waits for, and REENLIST for one that was at the coordinator before
 abbrev pub MaySend : Half → Conn → Message → Type 0
 MaySend h (Enl e) (EnlistEnlist i) = (is_some h.seen.decided ≡ false) × (is_held h.seen.table h.waits e.value ≡ true)
@@ -51,7 +49,6 @@ MayTakeIn h (Enlisted e c) = HasPlace h e c
 MayTakeIn h (Cloned c k) = clone_refusal c h.seen.commit h.seen.clones ≡ None
 MayTakeIn h (Voted e v) = was_asked e.value h.seen.table ≡ true
 MayTakeIn h (Answered n x) = (is_some h.seen.decided || not (has (λ w. (n == w.0) && is_place w) h.waits)) ≡ true
-MayTakeIn h (Promoting c) = IsUnstarted h
 MayTakeIn h (Sent c Up m) = MaySend h c m
 MayTakeIn h (Began d) = Unit {0}
 MayTakeIn h (Completed c) = Unit {0}
@@ -79,11 +76,25 @@ pub record IsFor (x : Entry) (o : Outgoing) : Type 0 where
   pub entry_fits : 0 < o.room
   pub message_fits : length (sends_of (x ∷ [])) ≤ o.send_room
 
--- the call waits: a marshal call before the promotion, or a durable one whose place is held
-abbrev pub may_wait : Half → Call → Bool
-may_wait h (Durable t e r s) = is_held h.seen.table h.waits e.value
-may_wait h (Marshal t) = not h.seen.promoted
-may_wait h _ = false
+-- the call waits for the place of the enlistment that it makes, if it makes one
+abbrev pub is_place_awaited : List Waiter → Call → Bool
+is_place_awaited ws (Durable t e r s) = is_awaited ws e.value
+is_place_awaited ws _ = true
+
+-- the ENLIST of a durable call that waits, where the transaction is promoted
+abbrev pub place_sent : ℕ → Half → Call → List Entry
+place_sent t h (Durable u e r s) = if h.seen.promoted then enlist_sent t e r else []
+place_sent t h _ = []
+
+-- why a call promotes
+abbrev pub cause_for : Observed → Call → Option Cause
+cause_for o (Durable t e r s) = cause_of o.table (is_single s)
+cause_for o (Marshal t) = Some MarshalCause
+cause_for o _ = None
+
+-- BEGIN is sent, unless a promotable has to promote first
+abbrev pub begin_sent : Observed → List Entry
+begin_sent o = if has (λ x. is_promotable x.class) o.table then [] else Sent Begin Up BeginBegin ∷ []
 
 -- what is known with the manager of the enlistment that the call makes at once
 abbrev pub with_call : Call → Known → Known

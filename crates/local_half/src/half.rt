@@ -10,6 +10,7 @@ ghost use Rattle.dtx_values.specs.declared.message.Dir.TheVariants.{Up, Down};
 ghost use Rattle.dtx_values.specs.declared.words.Class.{Class};
 ghost use Rattle.dtx_values.specs.declared.number.RmNo.{RmNo};
 ghost use Rattle.dtx_model.specs.declared.waiting.Wanted.TheVariants.{Place};
+ghost use Rattle.dtx_model.specs.Answers.{has_promotion, local_answer};
 ghost use Rattle.dtx_model.specs.Caused.{is_new, is_unpromoted};
 ghost use Rattle.dtx_model.specs.Half.{fails_if, half_of, heeds, is_gone, is_promoting, stands, was_told};
 ghost use Rattle.dtx_model.specs.Observed.{track};
@@ -18,13 +19,13 @@ ghost use Rattle.dtx_model.specs.Waiting.{is_place_of};
 ghost use Rattle.dtx_model.specs.World.{World};
 ghost use Rattle.tm_proxy.specs.News.{news_of};
 ghost use Rattle.local_half.specs.Half.{Follows, IsRoom, after, is_free, is_its_own, is_made_by_waiting};
-ghost use Rattle.local_half.specs.Taken.{HasPlace, IsFor, IsUnstarted, MaySend, MayTakeIn};
+ghost use Rattle.local_half.specs.Taken.{HasPlace, IsFor, MaySend, MayTakeIn, with_waiter};
 ghost use Rattle.local_half.specs.Told.{act_at, promoted_at};
 
 use crate::branches::{BranchChange, change, note_got, note_sent};
 use crate::listeners::{is_gone, lose, regain, tell, was_told};
 use crate::outgoing::put_out;
-use crate::waits;
+use crate::waits::{self, wanted_by};
 use dependent_clones::Clones;
 use dtx_model::{Branch, Listener, Wanted};
 use dtx_values::{
@@ -145,7 +146,7 @@ pub struct LocalHalf {
 }
 
 impl Model for LocalHalf {
-    ghost use Rattle.std.specs.Prelude.{◌≤◌, ◌≡◌, [], true, false, is_some, length, vec_capacity};
+    ghost use Rattle.std.specs.Prelude.{◌≤◌, ◌≡◌, ◌||◌, [], true, false, is_some, length, vec_capacity};
     ghost use Rattle.dtx_values.specs.declared.limits.TheConstants.{CALLS, DURABLES, ENLISTMENTS};
     ghost use Rattle.dtx_values.specs.Table.{how_many};
     ghost use Rattle.dtx_model.specs.Words.{put};
@@ -192,6 +193,7 @@ impl Model for LocalHalf {
       × AreWaiting m.table m.waits.items
       × AreLinked (is_some m.decided) m.table m.waits.items m.branches.items m.proxy
       × (m.handover.failed ≡ true → is_some m.decided ≡ true)
+      × ((m.handover.over || is_some m.handover.cause) ≡ false → m.waits.items ≡ [])
       × (m.any_lost ≡ false → how_many is_lost m.listeners.items ≡ 0) };
 }
 
@@ -364,8 +366,7 @@ impl LocalHalf {
 
     /// Whether a promotion is under way.
     fn is_promoting(&self) -> bool
-        ensures promoting { result ≡ is_promoting self.now.half.seen }
-        ensures unstarted { result ≡ false → self.now.half.seen.promoted ≡ false → is_some self.now.half.seen.decided ≡ false → IsUnstarted self.now.half }
+        ensures { result ≡ is_promoting self.now.half.seen }
     {
         self.handover.is_under_way()
     }
@@ -402,15 +403,31 @@ impl LocalHalf {
         waits::remove(&mut self.waits, n);
     }
 
-    /// Starts a promotion.
-    #[tactic(auto, unfolding(dtx_model::specs::Observed::track))]
-    fn promote(&mut self, cause: Cause)
-        requires { MayTakeIn self.old.half (Promoting cause) }
-        ensures transaction { self.new.transaction ≡ self.old.transaction }
-        ensures half { self.new.half ≡ heeds [] self.old.half (Promoting cause) }
+    /// Keeps that the call of this line waits, and what for, once a promotion began.
+    #[tactic(auto, unfolding(dtx_model::specs::Observed::track, dtx_model::specs::Answers::local_answer))]
+    fn wait(&mut self, line: u32, c: &Call)
+        requires started { has_promotion self.old.half.seen ≡ true }
+        requires waits { local_answer self.old.transaction.value self.old.half c.now 0 ≡ Wait }
+        requires new { is_free self.old.half line c.now ≡ true }
+        ensures { self.new ≡ with_waiter line c.now self.old }
+    {
+        waits::add(&mut self.waits, line, wanted_by(c));
+    }
+
+    /// Keeps that the call of this line waits, and what for, and starts a promotion for this cause.
+    #[tactic(auto, unfolding(dtx_model::specs::Observed::track, dtx_model::specs::Half::heeds_all, dtx_model::specs::Answers::local_answer))]
+    fn wait_first(&mut self, line: u32, c: &Call, cause: Cause, out: &mut Outbox)
+        requires unstarted { has_promotion self.old.half.seen ≡ false }
+        requires waits { local_answer self.old.transaction.value self.old.half c.now 0 ≡ Wait }
+        requires new { is_free self.old.half line c.now ≡ true }
+        requires room { IsRoom 1 0 out.old }
+        ensures state { self.new ≡ after [] (with_waiter line c.now self.old) (Promoting cause ∷ []) }
+        ensures out { out.new ≡ written out.old (Promoting cause ∷ []) }
     {
         let owner = owner_of(&self.table);
         self.handover.start(cause, owner);
+        waits::add(&mut self.waits, line, wanted_by(c));
+        put_out(Entry::Promoting(cause), out);
     }
 
     /// Notes a message that is sent.
@@ -510,7 +527,6 @@ impl LocalHalf {
             Entry::Acked(e) => change(&mut self.branches, e, BranchChange::Acked),
             Entry::Told(party, o) => self.tell(party, o),
             Entry::Answered(n, answer) => self.unwait(n, answer),
-            Entry::Promoting(cause) => self.promote(cause),
             Entry::Sent(c, Dir::Up, m) => self.send(c, m),
             Entry::Init(_)
             | Entry::RollbackAsked

@@ -1,7 +1,6 @@
 //! Whole ways of a half: what each call answers, and the entries of each step.
 ghost use Rattle.std.specs.Prelude.{◌≡◌, true};
-ghost use Rattle.dtx_model.specs.Caused.{is_new};
-ghost use Rattle.local_half.specs.Half.{is_its_own};
+ghost use Rattle.local_half.specs.Half.{is_free, is_its_own};
 
 use crate::LocalHalf;
 use dtx_values::{
@@ -27,7 +26,7 @@ fn enl(rt: &impl Abort, n: u32) -> EnlNo {
 /// Does a call that makes nothing, and says what it answered.
 fn call(rt: &impl Abort, half: &mut LocalHalf, c: &Call, out: &mut Outbox) -> Answer
     requires own { is_its_own c.now ≡ true }
-    requires new { is_new half.old.half.seen c.now ≡ true }
+    requires new { is_free half.old.half 1 c.now ≡ true }
 {
     out.clear();
     half.call(actor(rt), 1, c, out)
@@ -282,7 +281,7 @@ fn the_conditions_of_calls_can_be_tested(rt: HostRuntime) -> Result<(), Fail> {
         (Call::Gone(e1), false, true),
     ] {
         assert_eq!(rt; LocalHalf::is_its_own(&call), own);
-        assert_eq!(rt; half.is_new(&call), new);
+        assert_eq!(rt; half.is_free(1, &call), new);
     }
     assert!(rt; half.is_unpromoted());
     assert_eq!(rt; half.gone_answer(e3), Answer::NoSuch);

@@ -2,12 +2,12 @@
 ghost use Rattle.std.specs.Prelude.{◌≡◌, ◌<◌, ◌≤◌, ◌==◌, length, find, vec_len, vec_capacity};
 ghost use Rattle.std.specs.List.{insert};
 ghost use Rattle.dtx_values.specs.Table.{how_many, insert_by};
-ghost use Rattle.dtx_model.specs.Waiting.{Waiter, is_place, is_place_of, waiter_line};
+ghost use Rattle.dtx_model.specs.Waiting.{Waiter, class_by, is_place, is_place_of, waiter_line, wanted_by};
 ghost use Rattle.local_half.specs.Half.{is_awaited, waits_at};
 ghost use Rattle.local_half.specs.Waits.{without};
 
 use dtx_model::Wanted;
-use dtx_values::EnlNo;
+use dtx_values::{Call, Class, EnlNo, Support};
 
 /// The index at which a call of this line goes.
 fn place_in_order(waits: &[(u32, Wanted)], n: u32) -> usize
@@ -89,4 +89,24 @@ pub fn places(waits: &[(u32, Wanted)]) -> usize
     ensures { result ≡ how_many is_place waits.now }
 {
     waits.iter().filter(|w| is_place(w)).count()
+}
+
+/// The class of a durable enlistment that is made at the coordinator.
+fn class_by(support: Support) -> Class
+    ensures { result ≡ class_by support }
+{
+    match support {
+        Support::SinglePhase(_, _) => Class::DurableSingle,
+        Support::TwoPhase(_) => Class::DurableTwo,
+    }
+}
+
+/// What a call waits for that has to wait.
+pub fn wanted_by(c: &Call) -> Wanted
+    ensures { result ≡ wanted_by c.now }
+{
+    match *c {
+        Call::Durable(_, e, r, support) => Wanted::Place(e, r, class_by(support)),
+        _ => Wanted::Identifier,
+    }
 }

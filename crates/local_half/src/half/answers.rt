@@ -87,7 +87,7 @@ impl LocalHalf {
     }
 
     /// Whether it is promoted, or on the way there.
-    fn has_promotion(&self) -> bool
+    pub(super) fn has_promotion(&self) -> bool
         ensures { result ≡ has_promotion self.now.half.seen }
     {
         self.handover.is_over() || self.is_promoting()

@@ -1,36 +1,32 @@
 //! What the calls, and the loss and the return of an enlistment, write.
 ghost use Rattle.std.specs.Prelude.{ℕ, ◌≡◌, ◌&&◌, [], ◌∷◌, false, find, if◌then◌else◌, is_some, true};
-ghost use Rattle.dtx_values.specs.Class.{is_promotable, is_volatile};
+ghost use Rattle.dtx_values.specs.Class.{is_volatile};
 ghost use Rattle.dtx_values.specs.Clones.{is_open_rollback};
 ghost use Rattle.dtx_values.specs.Outgoing.{written};
 ghost use Rattle.dtx_values.specs.declared.call.Call.TheVariants.{Gone};
 ghost use Rattle.dtx_values.specs.declared.entry.Answer.TheVariants.{Fine, Wait};
 ghost use Rattle.dtx_values.specs.declared.entry.Entry.TheVariants.{Enlisted};
 ghost use Rattle.dtx_values.specs.declared.number.ActorNo.{ActorNo};
-ghost use Rattle.dtx_model.specs.Facts.{begin_promotion, call_entries, durable_waits, is_late, local_facts, tick_facts};
+ghost use Rattle.dtx_model.specs.Facts.{call_entries, is_late, local_facts, tick_facts};
 ghost use Rattle.dtx_model.specs.Answers.{gone_answer, class_of, local_answer};
 ghost use Rattle.dtx_model.specs.Caused.{is_new};
 ghost use Rattle.dtx_model.specs.Entries.{is_call};
 ghost use Rattle.dtx_model.specs.Half.{is_gone, stands};
 ghost use Rattle.dtx_model.specs.Observed.{is_branch, track};
 ghost use Rattle.dtx_model.specs.Steps.{Calls, after as world_after, entered};
-ghost use Rattle.dtx_model.specs.Waiting.{class_by, wanted_by};
 ghost use Rattle.dtx_model.specs.Words.{has};
 ghost use Rattle.dtx_model.specs.World.{World, gone_decides, open_ones, reenlist_facts};
 ghost use Rattle.local_half.specs.Half.{Follows, HasRoom, IsRoom, after, is_done, is_free, is_its_own, is_made_by_waiting, loss};
-ghost use Rattle.local_half.specs.Linked.{is_held};
-ghost use Rattle.local_half.specs.Taken.{HasPlace, IsUnstarted, may_wait, with_call, with_waiter};
+ghost use Rattle.local_half.specs.Taken.{HasPlace, begin_sent, cause_for, is_place_awaited, place_sent, with_call, with_waiter};
 
 use super::LocalHalf;
 use crate::branches::branch_of;
 use crate::time::{limit_of, reaches, ticked};
 use crate::votes::is_evident;
 use crate::outgoing::put_out;
-use crate::waits;
-use dtx_model::Wanted;
 use dtx_values::{
     ActorNo, Answer, Call, Cause, Class, Conn, Dir, EnlNo, EnlistOption, Entry, Info, Message, Outbox,
-    Outcome, RmNo, Support,
+    Outcome, RmNo,
 };
 use durable_enlist::cause_of;
 use light_committer::owner_lost;
@@ -42,26 +38,6 @@ fn class_of(option: EnlistOption) -> Class
     match option {
         EnlistOption::Plain => Class::One,
         EnlistOption::DuringPrepare => Class::Zero,
-    }
-}
-
-/// The class of a durable enlistment that is made at the coordinator.
-fn class_by(support: Support) -> Class
-    ensures { result ≡ class_by support }
-{
-    match support {
-        Support::SinglePhase(_, _) => Class::DurableSingle,
-        Support::TwoPhase(_) => Class::DurableTwo,
-    }
-}
-
-/// What a call waits for that has to wait.
-fn wanted_by(c: &Call) -> Wanted
-    ensures { result ≡ wanted_by c.now }
-{
-    match *c {
-        Call::Durable(_, e, r, support) => Wanted::Place(e, r, class_by(support)),
-        _ => Wanted::Identifier,
     }
 }
 
@@ -104,16 +80,6 @@ impl LocalHalf {
         }
     }
 
-    /// Keeps that the call of this line waits, and what for.
-    fn wait(&mut self, line: u32, c: &Call)
-        requires own { is_its_own c.now ≡ true }
-        requires waits { local_answer self.old.transaction.value self.old.half c.now 0 ≡ Wait }
-        requires new { is_free self.old.half line c.now ≡ true }
-        ensures { self.new ≡ with_waiter line c.now self.old }
-    {
-        waits::add(&mut self.waits, line, wanted_by(c));
-    }
-
     /// Writes that a durable or promotable one is enlisted, and keeps its manager, which no entry says.
     fn own(&mut self, e: EnlNo, class: Class, manager: RmNo, out: &mut Outbox)
         requires taken { HasPlace self.old.half e class }
@@ -130,54 +96,64 @@ impl LocalHalf {
         self.manager = Some((e, manager));
     }
 
-    /// Begins a promotion: BEGIN is sent, unless a promotable has to promote first.
-    fn begin_promotion(&mut self, cause: Cause, out: &mut Outbox)
-        requires unstarted { IsUnstarted self.old.half }
-        requires room { IsRoom 2 1 out.old }
-        ensures state { self.new ≡ after [] self.old (begin_promotion self.old.half (Some cause)) }
-        ensures out { out.new ≡ written out.old (begin_promotion self.old.half (Some cause)) }
+    /// Sends BEGIN, unless a promotable has to promote first.
+    fn send_begin(&mut self, out: &mut Outbox)
+        requires { IsRoom 1 1 out.old }
+        ensures state { self.new ≡ after [] self.old (begin_sent self.old.half.seen) }
+        ensures out { out.new ≡ written out.old (begin_sent self.old.half.seen) }
     {
-        let asks_first = self.table.has_promotable();
-        self.write(Entry::Promoting(cause), out);
-        if !asks_first {
+        if !self.table.has_promotable() {
             self.write(Entry::Sent(Conn::Begin, Dir::Up, Message::BeginBegin), out);
         }
     }
 
-    /// Writes what a durable call does that waits: its ENLIST is sent where the transaction is promoted; else a promotion begins where
-    /// none is under way.
-    fn promote_for(&mut self, e: EnlNo, manager: RmNo, single: bool, out: &mut Outbox)
+    /// Sends the ENLIST of a durable call, where the transaction is promoted.
+    fn send_place(&mut self, c: &Call, out: &mut Outbox)
         requires undecided { is_some self.old.half.seen.decided ≡ false }
-        requires held { is_held self.old.half.seen.table self.old.half.waits e.value ≡ true }
-        requires room { IsRoom 2 1 out.old }
-        ensures state { self.new ≡ after [] self.old (durable_waits self.old.transaction.value self.old.half e manager single) }
-        ensures out { out.new ≡ written out.old (durable_waits self.old.transaction.value self.old.half e manager single) }
+        requires awaited { is_place_awaited self.old.half.waits c.now ≡ true }
+        requires room { IsRoom 1 1 out.old }
+        ensures state { self.new ≡ after [] self.old (place_sent self.old.transaction.value self.old.half c.now) }
+        ensures out { out.new ≡ written out.old (place_sent self.old.transaction.value self.old.half c.now) }
     {
-        if self.handover.is_over() {
-            self.send_enlist(e, manager, out);
-        } else if !self.is_promoting() {
-            if let Some(cause) = cause_of(&self.table, single) {
-                self.begin_promotion(cause, out);
-            }
+        if !self.handover.is_over() {
+            return;
+        }
+        if let Call::Durable(_, e, r, _) = *c {
+            self.send_enlist(e, r, out);
         }
     }
 
-    /// Writes the facts of a call that waits.
-    fn facts_of_waiting(&mut self, c: &Call, out: &mut Outbox)
-        requires undecided { is_some self.old.half.seen.decided ≡ false }
-        requires waits { may_wait self.old.half c.now ≡ true }
-        requires room { IsRoom 2 1 out.old }
-        ensures state { self.new ≡ after [] self.old (local_facts self.old.transaction.value self.old.half c.now Wait) }
-        ensures out { out.new ≡ written out.old (local_facts self.old.transaction.value self.old.half c.now Wait) }
+    /// Why a call promotes.
+    fn cause_for(&self, c: &Call) -> Option<Cause>
+        ensures { result ≡ cause_for self.now.half.seen c.now }
     {
         match *c {
-            Call::Durable(_, e, r, support) => self.promote_for(e, r, support.is_single(), out),
-            Call::Marshal(_) => {
-                if !self.is_promoting() {
-                    self.begin_promotion(Cause::Marshal, out);
-                }
+            Call::Durable(_, _, _, support) => cause_of(&self.table, support.is_single()),
+            Call::Marshal(_) => Some(Cause::Marshal),
+            _ => None,
+        }
+    }
+
+    /// Writes the facts of a call that waits, and keeps that it does.
+    fn facts_of_waiting(&mut self, line: u32, c: &Call, out: &mut Outbox)
+        requires own { is_its_own c.now ≡ true }
+        requires waits { local_answer self.old.transaction.value self.old.half c.now 0 ≡ Wait }
+        requires new { is_free self.old.half line c.now ≡ true }
+        requires room { IsRoom 2 1 out.old }
+        ensures state { self.new ≡ after [] (with_waiter line c.now self.old) (local_facts self.old.transaction.value self.old.half c.now Wait) }
+        ensures out { out.new ≡ written out.old (local_facts self.old.transaction.value self.old.half c.now Wait) }
+    {
+        if self.has_promotion() {
+            self.wait(line, c);
+            self.send_place(c, out);
+            return;
+        }
+        match self.cause_for(c) {
+            Some(cause) => {
+                self.wait_first(line, c, cause, out);
+                self.send_begin(out);
             }
-            _ => unreachable!(),
+            None => unreachable!(),
         }
     }
 
@@ -229,8 +205,7 @@ impl LocalHalf {
         let answer = self.answer(c);
         put_out(Entry::Called(line, actor, answer), out);
         if answer == Answer::Wait {
-            self.wait(line, c);
-            self.facts_of_waiting(c, out);
+            self.facts_of_waiting(line, c, out);
         } else if answer == Answer::Fine || answer == Answer::True {
             self.facts(c, out);
         }
