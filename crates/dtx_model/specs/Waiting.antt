@@ -14,15 +14,10 @@ use Rattle.dtx_values.specs.declared.script.Support.TheVariants.{SinglePhase, Tw
 use Rattle.dtx_values.specs.declared.words.Class.{Class}
 use Rattle.dtx_values.specs.declared.words.Class.TheVariants.{DurableTwo, DurableSingle}
 use Rattle.dtx_values.specs.Table.{insert_by}
+pub use Rattle.dtx_model.specs.declared.waiting.EnteredCall.{EnteredCall}
 use Rattle.dtx_model.specs.declared.waiting.Wanted.{Wanted}
 use Rattle.dtx_model.specs.declared.waiting.Wanted.TheVariants.{Identifier, Place}
 use Rattle.dtx_model.specs.Words.{latest}
-
--- a call that was entered: its line, its actor and its words
-pub record EnteredCall : Type 0 where
-  pub line : ℕ
-  pub actor : ActorNo
-  pub call : Call
 
 -- a call that waits, with its line, and what it waits for: the identifier, as a marshal call does, or a place at the coordinator, as a durable call does
 abbrev pub Waiter : Type 0

@@ -19,4 +19,4 @@ pub use branch::Branch;
 pub use desk::{Ballot, Desk, Stage};
 pub use listener::Listener;
 pub use verdict::{Verdict, judge};
-pub use waiting::Wanted;
+pub use waiting::{EnteredCall, Wanted};

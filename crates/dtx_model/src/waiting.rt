@@ -1,5 +1,13 @@
-//! What a call waits for.
-use dtx_values::{Class, EnlNo, RmNo};
+//! The calls that a transaction was given, and what one waits for.
+use dtx_values::{ActorNo, Call, Class, EnlNo, RmNo};
+
+/// A call that was entered: its line, its actor and its words.
+#[derive(Clone, Copy, PartialEq, Eq, Debug)]
+pub struct EnteredCall {
+    pub line: u32,
+    pub actor: ActorNo,
+    pub call: Call,
+}
 
 /// What a call of a transaction waits for.
 #[derive(Clone, Copy, PartialEq, Eq, Debug)]
