@@ -1,6 +1,6 @@
 pub mod Writing
 pub mod Lists
-pub mod Waits
+pub mod Waiters
 pub mod Rows
 pub mod Links
 pub mod Lost
