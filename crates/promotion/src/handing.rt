@@ -84,11 +84,18 @@ impl Handover {
         if !self.is_under_way() {
             return HandoverAct::Nothing;
         }
-        match (n, self.stands) {
+        let stands = self.stands;
+        match (*n, stands) {
             (ProxyNews::Begun(_), _) => HandoverAct::SendVoter,
             (ProxyNews::Created, Some(e)) => HandoverAct::SendEnlist(e),
             (ProxyNews::Created, None) => self.finish(),
-            (ProxyNews::Enlisted(e), Some(f)) if *e == f => self.finish(),
+            (ProxyNews::Enlisted(e), Some(f)) => {
+                if e == f {
+                    self.finish()
+                } else {
+                    HandoverAct::Nothing
+                }
+            }
             _ => HandoverAct::Nothing,
         }
     }

@@ -135,7 +135,8 @@ impl Proxy {
     pub fn has_room(&self, c: Conn, m: &Message) -> bool
         ensures { result ≡ nat_le (length (ends_after (Sent c Up m.now) self.now)) CONNECTIONS }
     {
-        !is_opening(c, *m) || others(&self.ends, c) < CONNECTIONS
+        let ends = self.ends.as_slice();
+        !is_opening(c, *m) || others(ends, c) < CONNECTIONS
     }
 
     /// Notes a message that the local side sends. BEGIN, VOTER, ENLIST and REENLIST open their connection, each time anew.
