@@ -4,3 +4,6 @@ pub mod Waiters
 pub mod Rows
 pub mod Links
 pub mod Lost
+pub mod Notes
+pub mod Following
+pub mod Due

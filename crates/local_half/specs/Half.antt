@@ -15,7 +15,8 @@ use Rattle.dtx_values.specs.Outgoing.{Outgoing}
 use Rattle.dtx_model.specs.declared.branch.Branch.{Branch}
 use Rattle.dtx_model.specs.Words.{has, kth}
 use Rattle.dtx_model.specs.Observed.{Observed}
-use Rattle.dtx_model.specs.Waiting.{EnteredCall, Waiter, is_place_of}
+use Rattle.dtx_model.specs.declared.waiting.EnteredCall.{EnteredCall}
+use Rattle.dtx_model.specs.Waiting.{Waiter, is_place_of}
 use Rattle.dtx_model.specs.Half.{Half, heeds_all, at_home}
 use Rattle.dtx_model.specs.Replies.{due_of, fits, with_note}
 use Rattle.dtx_model.specs.World.{World, half as half_at, gone_unlinked}

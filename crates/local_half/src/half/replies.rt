@@ -183,7 +183,9 @@ impl LocalHalf {
         ensures { result ≡ kth (all_due self.now.half.seen) 1 }
     {
         let mut first = self.first_by_rows();
-        for i in (0..self.branches.len()).rev() {
+        let mut i = self.branches.len();
+        while i > 0 {
+            i -= 1;
             first = lower(self.with_note(self.branches[i].enlistment), first);
         }
         first
