@@ -22,20 +22,20 @@ use Rattle.local_half.specs.Half.{first_due, lower, may_owe, owes_ack}
 -- what is found fails a test that none passes
 found_fails : {A : Type 0} (p q : A → Bool) (xs : List A) (x : A) → find p xs ≡ Some x → has q xs ≡ false → q x ≡ false
 found_fails p q [] x f k = absurd (cc)
-found_fails p q (y ∷ ys) x f k = step (p y) f
+found_fails p q (y ∷ ys) x f k = step (p y) f (λ g. found_fails p q ys x g (or_second (q y) (has q ys) k))
   where
-    step : (b : Bool) → cond b (Some y) (find p ys) ≡ Some x → q x ≡ false
-    step true g = let same : y ≡ x = cc in subst (λ z. q z ≡ false) same (or_first (q y) (has q ys) k)
-    step false g = found_fails p q ys x g (or_second (q y) (has q ys) k)
+    step : (b : Bool) → cond b (Some y) (find p ys) ≡ Some x → (find p ys ≡ Some x → q x ≡ false) → q x ≡ false
+    step true g ih = let same : y ≡ x = cc in subst (λ z. q z ≡ false) same (or_first (q y) (has q ys) k)
+    step false g ih = ih g
 
 -- what is found passes a test that each found passes
 pub found_both : {A : Type 0} (p q : A → Bool) (xs : List A) (x : A) → find p xs ≡ Some x → q x ≡ true → has (λ y. p y && q y) xs ≡ true
 found_both p q [] x f k = absurd (cc)
-found_both p q (y ∷ ys) x f k = step (p y) f
+found_both p q (y ∷ ys) x f k = step (p y) f (λ g. found_both p q ys x g k)
   where
-    step : (b : Bool) → cond b (Some y) (find p ys) ≡ Some x → ((b && q y) || has (λ z. p z && q z) ys) ≡ true
-    step true g = let same : y ≡ x = cc in rw (same, k) refl
-    step false g = found_both p q ys x g k
+    step : (b : Bool) → cond b (Some y) (find p ys) ≡ Some x → (find p ys ≡ Some x → has (λ z. p z && q z) ys ≡ true) → ((b && q y) || has (λ z. p z && q z) ys) ≡ true
+    step true g ih = let same : y ≡ x = cc in rw (same, k) refl
+    step false g ih = ih g
 
 unhanded : (f : Option EnlNo) (e : ℕ) → is_some f ≡ false → is_handed f e ≡ false
 unhanded None e k = refl
@@ -90,12 +90,11 @@ unfolding all_due
 none_due o k = none_in o k (names o)
 
 -- numbers in order from n on
-numbers_from : ℕ → List EnlNo → Bool
+abbrev pub numbers_from : ℕ → List EnlNo → Bool
 numbers_from n [] = true
 numbers_from n (e ∷ es) = nat_le n e.value && numbers_from e.value es
 
 from_lower : (m n : ℕ) (es : List EnlNo) → m ≤ n → numbers_from n es ≡ true → numbers_from m es ≡ true
-unfolding numbers_from
 from_lower m n [] le k = refl
 from_lower m n (e ∷ es) le k =
     let first = and_left (nat_le n e.value) (numbers_from e.value es) k in
@@ -103,21 +102,17 @@ from_lower m n (e ∷ es) le k =
     and_both (nat_le m e.value) (numbers_from e.value es) low (and_right (nat_le n e.value) (numbers_from e.value es) k)
 
 from_insert : (n : ℕ) (e : EnlNo) (es : List EnlNo) → n ≤ e.value → numbers_from n es ≡ true → numbers_from n (insert_by enl_number e es) ≡ true
-unfolding numbers_from
 from_insert n e [] le k = let low : nat_le n e.value ≡ true = grind (arith, nat_tests) in rw low refl
-from_insert n e (f ∷ es) le k = step (nat_lt f.value e.value) refl
+from_insert n e (f ∷ es) le k = step (nat_lt f.value e.value) refl (λ up. from_insert f.value e es up (and_right (nat_le n f.value) (numbers_from f.value es) k))
   where
-    step : (b : Bool) → nat_lt f.value e.value ≡ b → numbers_from n (if b then f ∷ insert_by enl_number e es else e ∷ f ∷ es) ≡ true
-    step true q =
+    step : (b : Bool) → nat_lt f.value e.value ≡ b → (f.value ≤ e.value → numbers_from f.value (insert_by enl_number e es) ≡ true) → numbers_from n (if b then f ∷ insert_by enl_number e es else e ∷ f ∷ es) ≡ true
+    step true q ih =
         let above : f.value ≤ e.value = grind (arith, nat_tests) in
-        and_both (nat_le n f.value) (numbers_from f.value (insert_by enl_number e es)) (and_left (nat_le n f.value) (numbers_from f.value es) k) (from_insert f.value e es above (and_right (nat_le n f.value) (numbers_from f.value es) k))
-    step false q =
+        and_both (nat_le n f.value) (numbers_from f.value (insert_by enl_number e es)) (and_left (nat_le n f.value) (numbers_from f.value es) k) (ih above)
+    step false q ih =
         let low : nat_le n e.value ≡ true = grind (arith, nat_tests) in
         let next : nat_le e.value f.value ≡ true = grind (arith, nat_tests) in
         and_both (nat_le n e.value) (nat_le e.value f.value && numbers_from f.value es) low (and_both (nat_le e.value f.value) (numbers_from f.value es) next (and_right (nat_le n f.value) (numbers_from f.value es) k))
-
-is_in_list : EnlNo → List EnlNo → Bool
-is_in_list e es = has (λ f. e.value == f.value) es
 
 from_name : (e : EnlNo) (es : List EnlNo) → numbers_from 0 es ≡ true → numbers_from 0 (with_name e es) ≡ true
 from_name e es k = step (has (λ f. e.value == f.value) es)
@@ -131,7 +126,6 @@ from_names [] es k = k
 from_names (b ∷ bs) es k = from_name b.enlistment (with_names bs es) (from_names bs es k)
 
 pub from_rows : (n : ℕ) (xs : List Row) → rises_above n xs ≡ true → numbers_from n (map (λ (x : Row). x.number) xs) ≡ true
-unfolding numbers_from
 from_rows n [] k = refl
 from_rows n (x ∷ xs) k =
     let first = and_left (nat_lt n (number_of x)) (rises_above (number_of x) xs) k in
@@ -150,19 +144,15 @@ first_step o e es (Some n) k = rw k refl
 
 -- it isn't below where they begin
 first_low : (o : Observed) (n : ℕ) (es : List EnlNo) (x : EnlNo × Note) → numbers_from n es ≡ true → first_due o es ≡ Some x → n ≤ x.0.value
-unfolding numbers_from
 first_low o n [] x k f = absurd (cc)
-first_low o n (e ∷ es) x k f = step (due_of o e.value) refl
+first_low o n (e ∷ es) x k f = step (due_of o e.value) refl (λ g. first_low o e.value es x (and_right (nat_le n e.value) (numbers_from e.value es) k) g)
   where
     low : nat_le n e.value ≡ true
     low = and_left (nat_le n e.value) (numbers_from e.value es) k
 
-    rest : numbers_from e.value es ≡ true
-    rest = and_right (nat_le n e.value) (numbers_from e.value es) k
-
-    step : (d : Option Note) → due_of o e.value ≡ d → n ≤ x.0.value
-    step None q = first_low o n es x (from_lower n e.value es (grind (arith, nat_tests, low)) rest) (sym (first_step o e es None q) ∙ f)
-    step (Some m) q = let same : Some (e, m) ≡ Some x = sym (first_step o e es (Some m) q) ∙ f in let it : (e, m) ≡ x = cc in let number : e.value ≡ x.0.value = ap (λ (y : EnlNo × Note). y.0.value) it in grind (arith, nat_tests, low)
+    step : (d : Option Note) → due_of o e.value ≡ d → (first_due o es ≡ Some x → e.value ≤ x.0.value) → n ≤ x.0.value
+    step None q ih = let up = ih (sym (first_step o e es None q) ∙ f) in grind (arith, nat_tests, low)
+    step (Some m) q ih = let same : Some (e, m) ≡ Some x = sym (first_step o e es (Some m) q) ∙ f in let it : (e, m) ≡ x = cc in let number : e.value ≡ x.0.value = ap (λ (y : EnlNo × Note). y.0.value) it in grind (arith, nat_tests, low)
 
 lower_none : (x : Option (EnlNo × Note)) → lower x None ≡ x
 lower_none None = refl
@@ -171,13 +161,13 @@ lower_none (Some x) = refl
 -- with one more, which isn't among them
 first_insert : (o : Observed) (n : ℕ) (e : EnlNo) (es : List EnlNo) → numbers_from n es ≡ true → has (λ f. e.value == f.value) es ≡ false
     → first_due o (insert_by enl_number e es) ≡ lower (with_note e (due_of o e.value)) (first_due o es)
-unfolding numbers_from
 first_insert o n e [] k none = first_step o e [] (due_of o e.value) refl ∙ alone (with_note e (due_of o e.value))
   where
     alone : (x : Option (EnlNo × Note)) → front x None ≡ lower x None
     alone None = refl
     alone (Some x) = refl
-first_insert o n e (f ∷ es) k none = step (nat_lt f.value e.value) refl
+first_insert o n e (f ∷ es) k none =
+    step (nat_lt f.value e.value) refl (first_insert o f.value e es (and_right (nat_le n f.value) (numbers_from f.value es) k) (or_second (e.value == f.value) (has (λ g. e.value == g.value) es) none))
   where
     rest : numbers_from f.value es ≡ true
     rest = and_right (nat_le n f.value) (numbers_from f.value es) k
@@ -198,20 +188,20 @@ first_insert o n e (f ∷ es) k none = step (nat_lt f.value e.value) refl
         let less : nat_lt e.value z.0.value ≡ true = grind (arith, nat_tests) in
         rw less refl
 
-    step : (b : Bool) → nat_lt f.value e.value ≡ b → first_due o (if b then f ∷ insert_by enl_number e es else e ∷ f ∷ es) ≡ lower (with_note e (due_of o e.value)) (first_due o (f ∷ es))
-    step true q =
+    step : (b : Bool) → nat_lt f.value e.value ≡ b → first_due o (insert_by enl_number e es) ≡ lower (with_note e (due_of o e.value)) (first_due o es)
+        → first_due o (if b then f ∷ insert_by enl_number e es else e ∷ f ∷ es) ≡ lower (with_note e (due_of o e.value)) (first_due o (f ∷ es))
+    step true q ih =
         let lt : nat_lt e.value f.value ≡ false = grind (arith, nat_tests) in
         first_step o f (insert_by enl_number e es) (due_of o f.value) refl
-        ∙ ap (front (with_note f (due_of o f.value))) (first_insert o f.value e es rest (or_second (e.value == f.value) (has (λ g. e.value == g.value) es) none))
+        ∙ ap (front (with_note f (due_of o f.value))) ih
         ∙ later (due_of o e.value) (due_of o f.value) lt
         ∙ ap (lower (with_note e (due_of o e.value))) (sym (first_step o f es (due_of o f.value) refl))
-    step false q =
+    step false q ih =
         let lt : nat_lt e.value f.value ≡ true = grind (arith, nat_tests, other) in
         first_step o e (f ∷ es) (due_of o e.value) refl ∙ sooner (due_of o e.value) (first_due o (f ∷ es)) refl lt
 
 -- one that is among them changes nothing
 above : (n : ℕ) (e : EnlNo) (es : List EnlNo) → numbers_from n es ≡ true → has (λ f. e.value == f.value) es ≡ true → n ≤ e.value
-unfolding numbers_from
 above n e [] k i = absurd (cc)
 above n e (f ∷ es) k i =
     let low = and_left (nat_le n f.value) (numbers_from f.value es) k in
@@ -221,9 +211,9 @@ above n e (f ∷ es) k i =
 
 first_there : (o : Observed) (n : ℕ) (e : EnlNo) (es : List EnlNo) → numbers_from n es ≡ true → has (λ f. e.value == f.value) es ≡ true
     → lower (with_note e (due_of o e.value)) (first_due o es) ≡ first_due o es
-unfolding numbers_from
 first_there o n e [] k i = absurd (cc)
-first_there o n e (f ∷ es) k i = rw (first_step o f es (due_of o f.value) refl) (step (e.value == f.value) refl i)
+first_there o n e (f ∷ es) k i =
+    rw (first_step o f es (due_of o f.value) refl) (step (e.value == f.value) refl i (λ j. first_there o f.value e es (and_right (nat_le n f.value) (numbers_from f.value es) k) j))
   where
     rest : numbers_from f.value es ≡ true
     rest = and_right (nat_le n f.value) (numbers_from f.value es) k
@@ -233,25 +223,26 @@ first_there o n e (f ∷ es) k i = rw (first_step o f es (due_of o f.value) refl
     at (Some a) (Some b) z same lt = rw lt refl
     at (Some a) None z same lt = let never = same refl in absurd (cc)
 
+    past : (x : Option Note) (b : Note) → nat_lt e.value f.value ≡ false → lower (with_note e x) (Some (f, b)) ≡ Some (f, b)
+    past None b lt = refl
+    past (Some a) b lt = rw lt refl
+
     later : (y : Option Note) → nat_lt e.value f.value ≡ false → lower (with_note e (due_of o e.value)) (first_due o es) ≡ first_due o es
         → lower (with_note e (due_of o e.value)) (front (with_note f y) (first_due o es)) ≡ front (with_note f y) (first_due o es)
     later None lt ih = ih
-    later (Some b) lt ih = past (due_of o e.value)
-      where
-        past : (x : Option Note) → lower (with_note e x) (Some (f, b)) ≡ Some (f, b)
-        past None = refl
-        past (Some a) = rw lt refl
+    later (Some b) lt ih = past (due_of o e.value) b lt
 
     step : (b : Bool) → (e.value == f.value) ≡ b → (b || has (λ g. e.value == g.value) es) ≡ true
+        → (has (λ g. e.value == g.value) es ≡ true → lower (with_note e (due_of o e.value)) (first_due o es) ≡ first_due o es)
         → lower (with_note e (due_of o e.value)) (front (with_note f (due_of o f.value)) (first_due o es)) ≡ front (with_note f (due_of o f.value)) (first_due o es)
-    step true q j =
+    step true q j ih =
         let number : e.value ≡ f.value = grind (arith, nat_tests) in
         let lt : nat_lt e.value f.value ≡ false = grind (arith, nat_tests) in
         at (due_of o e.value) (due_of o f.value) (first_due o es) (λ s. ap (λ m. is_some (due_of o m)) (sym number) ∙ s) lt
-    step false q j =
+    step false q j ih =
         let up = above f.value e es rest j in
         let lt : nat_lt e.value f.value ≡ false = grind (arith, nat_tests) in
-        later (due_of o f.value) lt (first_there o f.value e es rest j)
+        later (due_of o f.value) lt (ih j)
 
 pub first_name : (o : Observed) (e : EnlNo) (es : List EnlNo) → numbers_from 0 es ≡ true → first_due o (with_name e es) ≡ lower (with_note e (due_of o e.value)) (first_due o es)
 first_name o e es k = step (has (λ f. e.value == f.value) es) refl

@@ -5,5 +5,6 @@ pub mod Rows
 pub mod Links
 pub mod Lost
 pub mod Notes
+pub mod Waiting
 pub mod Following
 pub mod Due

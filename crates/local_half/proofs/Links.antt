@@ -15,21 +15,25 @@ use Rattle.dtx_values.specs.declared.row.Row.{Row}
 use Rattle.dtx_values.specs.Ends.{end_order, ends_after, is_end_of, note_end, note_got, note_sent, same_connection, tag_of, with_opened, with_tag}
 use Rattle.dtx_values.specs.Lines.{has_line, is_opening}
 use Rattle.dtx_values.specs.Row.{is_lasting, is_of}
-use Rattle.dtx_values.specs.Table.{how_many, insert_by}
+use Rattle.dtx_values.specs.Table.{how_many, insert_by, with_row}
+use Rattle.dtx_values.specs.declared.words.Class.{Class}
 use Rattle.dtx_model.specs.declared.branch.Branch.{Branch}
 use Rattle.dtx_model.specs.Words.{each, has}
 use Rattle.dtx_model.specs.Acts.{lasts}
 use Rattle.dtx_model.specs.Half.{Half}
 use Rattle.dtx_model.specs.Observed.{branch_number, branches_after, is_branch, with_branch}
 use Rattle.dtx_model.specs.declared.waiting.Wanted.TheVariants.{Identifier, Place}
-use Rattle.dtx_model.specs.Waiting.{Waiter, is_place, is_place_of}
-use Rattle.dtx_model.proofs.Bools.{and_both, and_left, and_never, and_right, or_right}
+use Rattle.dtx_model.specs.Waiting.{Waiter, is_place, is_place_of, waiter_line}
+use Rattle.dtx_model.proofs.Bools.{and_both, and_left, and_never, and_right, not_true, or_case, or_first, or_right, or_second}
 use Rattle.dtx_model.proofs.Counts.{how_many-insert_by, how_many-map, length-insert_by}
 use Rattle.local_half.specs.declared.branches.BranchChange.{BranchChange}
 use Rattle.local_half.specs.declared.branches.BranchChange.TheVariants.{Enlisted, Aborted, Acked, Due}
 use Rattle.local_half.specs.Branches.{changed}
 use Rattle.local_half.specs.Linked.{AreLinked, is_held, is_of_branch}
 use Rattle.local_half.specs.Taken.{MaySend}
+use Rattle.local_half.specs.Waits.{without}
+use Rattle.local_half.proofs.Rows.{lasts-more, lasts-new}
+use Rattle.local_half.proofs.Waiters.{IsPlaceFound}
 use Rattle.local_half.proofs.Lists.{each-filter, each-insert_by, each-map, each-more, each-same, has-insert_by, has-map, how_many-all, how_many-filter-le, how_many-filter-none, how_many-same, none_left, picked, spread}
 
 -- The decision, the table and the calls that wait change: until something is decided each enlistment there is held still.
@@ -43,6 +47,69 @@ links-held d f xs ys ws vs bs ns open_yet more l =
       known_once = l.known_once;
       of_branches = l.of_branches;
     }
+
+-- the table changes, and the same last; or it has one more
+pub links-table : (d : Bool) (xs ys : List Row) (ws : List Waiter) (bs : List Branch) (ns : List End) → ((f : ℕ) → lasts ys f ≡ lasts xs f) → AreLinked d xs ws bs ns → AreLinked d ys ws bs ns
+links-table d xs ys ws bs ns same l = links-held d d xs ys ws ws bs ns (λ k. k) (λ k f h. ap (λ b. b || has (is_place_of f) ws) (same f) ∙ h) l
+
+held_more : (xs ys : List Row) (ws vs : List Waiter) (f : ℕ) → (lasts xs f ≡ true → lasts ys f ≡ true) → (has (is_place_of f) ws ≡ true → is_held ys vs f ≡ true) → is_held xs ws f ≡ true → is_held ys vs f ≡ true
+held_more xs ys ws vs f rows places h = or_case (lasts xs f) (has (is_place_of f) ws) (λ k. rw (rows k) refl) places h
+
+pub links-row : (d : Bool) (xs : List Row) (ws : List Waiter) (bs : List Branch) (ns : List End) (e : EnlNo) (c : Class) → AreLinked d xs ws bs ns → AreLinked d (with_row e c xs) ws bs ns
+links-row d xs ws bs ns e c l =
+    links-held d d xs (with_row e c xs) ws ws bs ns (λ k. k) (λ k f h. held_more xs (with_row e c xs) ws ws f (lasts-more e c xs f) (λ p. or_right (lasts (with_row e c xs) f) (has (is_place_of f) ws) p) h) l
+
+-- one more call waits
+pub links-wait : (d : Bool) (xs : List Row) (ws : List Waiter) (bs : List Branch) (ns : List End) (w : Waiter) → AreLinked d xs ws bs ns → AreLinked d xs (insert_by waiter_line w ws) bs ns
+links-wait d xs ws bs ns w l =
+    links-held d d xs xs ws (insert_by waiter_line w ws) bs ns (λ k. k)
+    (λ k f h. held_more xs xs ws (insert_by waiter_line w ws) f (λ p. p)
+      (λ p. or_right (lasts xs f) (has (is_place_of f) (insert_by waiter_line w ws)) (has-insert_by (is_place_of f) waiter_line w ws ∙ or_right (is_place_of f w) (has (is_place_of f) ws) p)) h) l
+
+-- a call is answered: where nothing is decided, it waits for no place
+places_kept : (n f : ℕ) (ws : List Waiter) → has (λ w. (n == w.0) && is_place w) ws ≡ false → has (is_place_of f) ws ≡ true → has (is_place_of f) (without n ws) ≡ true
+places_kept n f [] none k = k
+places_kept n f ((m, Identifier) ∷ ws) none k = step (n == m) (places_kept n f ws (or_second ((n == m) && false) (has (λ w. (n == w.0) && is_place w) ws) none) k)
+  where
+    step : (b : Bool) → has (is_place_of f) (without n ws) ≡ true → has (is_place_of f) (cond (not b) ((m, Identifier) ∷ without n ws) (without n ws)) ≡ true
+    step true ih = ih
+    step false ih = ih
+places_kept n f ((m, Place e r c) ∷ ws) none k =
+    step (n == m) refl (or_first ((n == m) && true) (has (λ w. (n == w.0) && is_place w) ws) none) (f == e.value) k (λ i. places_kept n f ws (or_second ((n == m) && true) (has (λ w. (n == w.0) && is_place w) ws) none) i)
+  where
+    step : (b : Bool) → (n == m) ≡ b → (b && true) ≡ false → (d : Bool) → (d || has (is_place_of f) ws) ≡ true → (has (is_place_of f) ws ≡ true → has (is_place_of f) (without n ws) ≡ true)
+        → has (is_place_of f) (cond (not b) ((m, Place e r c) ∷ without n ws) (without n ws)) ≡ true
+    step true q z d i ih = absurd cc
+    step false q z d i ih = or_case (f == e.value) (has (is_place_of f) ws) (λ here. rw here refl) (λ there. or_right (f == e.value) (has (is_place_of f) (without n ws)) (ih there)) k
+
+pub links-answered : (d : Bool) (xs : List Row) (ws : List Waiter) (bs : List Branch) (ns : List End) (n : ℕ) → (d || not (has (λ w. (n == w.0) && is_place w) ws)) ≡ true
+    → AreLinked d xs ws bs ns → AreLinked d xs (without n ws) bs ns
+links-answered d xs ws bs ns n may l =
+    links-held d d xs xs ws (without n ws) bs ns (λ k. k)
+    (λ k f h. held_more xs xs ws (without n ws) f (λ p. p) (λ p. or_right (lasts xs f) (has (is_place_of f) (without n ws)) (places_kept n f ws (undecided d k may) p)) h) l
+  where
+    undecided : (b : Bool) → b ≡ false → (b || not (has (λ w. (n == w.0) && is_place w) ws)) ≡ true → has (λ w. (n == w.0) && is_place w) ws ≡ false
+    undecided true k m = absurd cc
+    undecided false k m = not_true (has (λ w. (n == w.0) && is_place w) ws) m
+
+-- a call has the place that it waited for
+pub links-placed : (d : Bool) (xs : List Row) (ws : List Waiter) (bs : List Branch) (ns : List End) (e : EnlNo) (n : ℕ) (c : Class) → IsPlaceFound xs ws e.value n c → AreLinked d xs ws bs ns
+    → AreLinked d (with_row e c xs) (without n ws) bs ns
+links-placed d xs ws bs ns e n c p l =
+    links-held d d xs (with_row e c xs) ws (without n ws) bs ns (λ k. k)
+    (λ k f h. held_more xs (with_row e c xs) ws (without n ws) f (lasts-more e c xs f) (λ a. by f (f == e.value) refl a) h) l
+  where
+    by : (f : ℕ) (b : Bool) → (f == e.value) ≡ b → has (is_place_of f) ws ≡ true → is_held (with_row e c xs) (without n ws) f ≡ true
+    by f true q a =
+        let number : f ≡ e.value = grind (arith, nat_tests) in
+        rw (subst (λ g. lasts (with_row e c xs) g ≡ true) (sym number) (lasts-new e c xs p.lasting)) refl
+    by f false q a = or_right (lasts (with_row e c xs) f) (has (is_place_of f) (without n ws)) (p.others f q a)
+
+-- ENLIST has room where what is there after it has
+pub room_for : (e : EnlNo) (r : RmNo) (bs : List Branch) (n : ℕ) → length (with_branch e r bs) ≤ n → length (filter (λ (b : Branch). not (is_branch e.value b)) bs) < n
+room_for e r bs n le =
+    let long = length-insert_by branch_number (record { enlistment = e; manager = r; enlisted = false; aborted = false; acked = false; due = None }) (filter (λ (b : Branch). not (is_branch e.value b)) bs) in
+    omega (arith, long, le)
 
 -- a change of an enlistment there keeps its number
 changed_number : (e : ℕ) (x : BranchChange) (f : ℕ) (b : Branch) → is_branch f (changed e x b) ≡ is_branch f b
@@ -190,21 +257,45 @@ branches_few xs ws bs once held =
     same_places e ((n, Identifier) ∷ vs) = same_places e vs
     same_places e ((n, Place f r c) ∷ vs) = rw (same_places e vs) refl
 
-    unheld : (ys : List Row) (vs : List Waiter) (b : Branch) → is_held ys vs b.enlistment.value ≡ true
-        → ((true && not (has (λ x. is_lasting x && is_of b.enlistment.value x) ys)) && not (has (λ w. is_place w && is_place_of b.enlistment.value w) vs)) ≡ false
-    unheld ys vs b k = rw (same_rows b.enlistment.value ys, same_places b.enlistment.value vs) (neither (lasts ys b.enlistment.value) (has (is_place_of b.enlistment.value) vs) k)
-
     neither : (x y : Bool) → (x || y) ≡ true → ((true && not x) && not y) ≡ false
     neither true y k = refl
     neither false true k = refl
     neither false false k = absurd cc
 
+    unheld : (ys : List Row) (vs : List Waiter) (b : Branch) → is_held ys vs b.enlistment.value ≡ true
+        → ((true && not (has (λ x. is_lasting x && is_of b.enlistment.value x) ys)) && not (has (λ w. is_place w && is_place_of b.enlistment.value w) vs)) ≡ false
+    unheld ys vs b k = rw (same_rows b.enlistment.value ys, same_places b.enlistment.value vs) (neither (lasts ys b.enlistment.value) (has (is_place_of b.enlistment.value) vs) k)
+
 -- two numbers of one enlistment name the same
 same_branch : (f e : ℕ) (x : Branch) → (f == e) ≡ true → is_branch f x ≡ true → is_branch e x ≡ true
 same_branch f e x k h = grind (arith, nat_tests)
 
+apart : (f e : ℕ) (x : Branch) → (f == e) ≡ false → is_branch f x ≡ true → is_branch e x ≡ true → ⊥
+apart f e x k h g = let same : (f == e) ≡ true = grind (arith, nat_tests) in absurd cc
+
+-- one that is there stays there beside another
+still_kept : (f e : ℕ) (cs : List Branch) → (f == e) ≡ false → has (is_branch f) cs ≡ true → has (is_branch f) (filter (λ (x : Branch). not (is_branch e x)) cs) ≡ true
+still_kept f e [] k h = h
+still_kept f e (x ∷ cs) k h = at (is_branch e x) (is_branch f x) refl refl h (λ i. still_kept f e cs k i)
+  where
+    at : (p q : Bool) → is_branch e x ≡ p → is_branch f x ≡ q → (q || has (is_branch f) cs) ≡ true
+        → (has (is_branch f) cs ≡ true → has (is_branch f) (filter (λ (y : Branch). not (is_branch e y)) cs) ≡ true)
+        → has (is_branch f) (cond (not p) (x ∷ filter (λ (y : Branch). not (is_branch e y)) cs) (filter (λ (y : Branch). not (is_branch e y)) cs)) ≡ true
+    at true true p q i ih = absurd (apart f e x k q p)
+    at true false p q i ih = ih i
+    at false true p q i ih = rw q refl
+    at false false p q i ih = rw q (ih i)
+
+still_there : (f : ℕ) (e : EnlNo) (r : RmNo) (bs : List Branch) (b : Bool) → (f == e.value) ≡ b → has (is_branch f) bs ≡ true → has (is_branch f) (with_branch e r bs) ≡ true
+still_there f e r bs b k h =
+    has-insert_by (is_branch f) branch_number (record { enlistment = e; manager = r; enlisted = false; aborted = false; acked = false; due = None }) (filter (λ (x : Branch). not (is_branch e.value x)) bs) ∙ by b k
+  where
+    by : (b : Bool) → (f == e.value) ≡ b → ((f == e.value) || has (is_branch f) (filter (λ (x : Branch). not (is_branch e.value x)) bs)) ≡ true
+    by true k = rw k refl
+    by false k = or_right (f == e.value) (has (is_branch f) (filter (λ (x : Branch). not (is_branch e.value x)) bs)) (still_kept f e.value bs k h)
+
 -- ENLIST is sent for one that is held, before anything is decided
-links-branched : (xs : List Row) (ws : List Waiter) (bs : List Branch) (ns : List End) (e : EnlNo) (r : RmNo) → d ≡ false → is_held xs ws e.value ≡ true → how_many is_lasting xs + how_many is_place ws ≤ 16
+links-branched : (d : Bool) (xs : List Row) (ws : List Waiter) (bs : List Branch) (ns : List End) (e : EnlNo) (r : RmNo) → d ≡ false → is_held xs ws e.value ≡ true → how_many is_lasting xs + how_many is_place ws ≤ 16
     → AreLinked d xs ws bs ns → AreLinked d xs ws (with_branch e r bs) ns
 links-branched d xs ws bs ns e r undecided mine few l =
     record {
@@ -212,7 +303,7 @@ links-branched d xs ws bs ns e r undecided mine few l =
       few = omega (arith, branches_few xs ws (with_branch e r bs) once held, few);
       held = λ k. held;
       known_once = l.known_once;
-      of_branches = all_of_more bs (with_branch e r bs) ns (λ f k. still f (f == e.value) refl k) l.of_branches;
+      of_branches = all_of_more bs (with_branch e r bs) ns (λ f k. still_there f e r bs (f == e.value) refl k) l.of_branches;
     }
   where
     step : (f : ℕ) (b : Bool) → (f == e.value) ≡ b
@@ -232,29 +323,29 @@ links-branched d xs ws bs ns e r undecided mine few l =
         ∙ and_both (is_held xs ws e.value) (each (λ b. is_held xs ws b.enlistment.value) (filter (λ (x : Branch). not (is_branch e.value x)) bs)) mine
         (each-filter (λ b. is_held xs ws b.enlistment.value) (λ (x : Branch). not (is_branch e.value x)) bs (l.held undecided))
 
-    kept : (f : ℕ) (cs : List Branch) → (f == e.value) ≡ false → has (is_branch f) cs ≡ true → has (is_branch f) (filter (λ (x : Branch). not (is_branch e.value x)) cs) ≡ true
-    kept f [] k h = h
-    kept f (x ∷ cs) k h = at (is_branch e.value x) (is_branch f x) refl refl h
-      where
-        at : (p q : Bool) → is_branch e.value x ≡ p → is_branch f x ≡ q → (q || has (is_branch f) cs) ≡ true
-            → has (is_branch f) (cond (not p) (x ∷ filter (λ (y : Branch). not (is_branch e.value y)) cs) (filter (λ (y : Branch). not (is_branch e.value y)) cs)) ≡ true
-        at true true p q i = absurd (grind (arith, nat_tests))
-        at true false p q i = kept f cs k i
-        at false true p q i = rw q refl
-        at false false p q i = rw q (kept f cs k i)
-
-    still : (f : ℕ) (b : Bool) → (f == e.value) ≡ b → has (is_branch f) bs ≡ true → has (is_branch f) (with_branch e r bs) ≡ true
-    still f b k h =
-        has-insert_by (is_branch f) branch_number (record { enlistment = e; manager = r; enlisted = false; aborted = false; acked = false; due = None }) (filter (λ (x : Branch). not (is_branch e.value x)) bs) ∙ by b k h
-      where
-        by : (b : Bool) → (f == e.value) ≡ b → has (is_branch f) bs ≡ true → ((f == e.value) || has (is_branch f) (filter (λ (x : Branch). not (is_branch e.value x)) bs)) ≡ true
-        by true k h = rw k refl
-        by false k h = or_right (f == e.value) (has (is_branch f) (filter (λ (x : Branch). not (is_branch e.value x)) bs)) (kept f bs k h)
-
 branch_there : (e : EnlNo) (r : RmNo) (bs : List Branch) → has (is_branch e.value) (with_branch e r bs) ≡ true
 branch_there e r bs =
     let itself : (e.value == e.value) ≡ true = grind (arith, nat_tests) in
     has-insert_by (is_branch e.value) branch_number (record { enlistment = e; manager = r; enlisted = false; aborted = false; acked = false; due = None }) (filter (λ (x : Branch). not (is_branch e.value x)) bs) ∙ rw itself refl
+
+-- each of these is the end of one of them
+own_end : (e : EnlNo) (cs : List Branch) → has (is_branch e.value) cs ≡ true → has (λ b. true && same_connection (Enl b.enlistment) (Enl e)) cs ≡ true
+own_end e [] k = k
+own_end e (b ∷ cs) k = by (is_branch e.value b) refl k (λ i. own_end e cs i)
+  where
+    by : (x : Bool) → is_branch e.value b ≡ x → (x || has (is_branch e.value) cs) ≡ true → (has (is_branch e.value) cs ≡ true → has (λ b. true && same_connection (Enl b.enlistment) (Enl e)) cs ≡ true)
+        → ((b.enlistment.value == e.value) || has (λ b. true && same_connection (Enl b.enlistment) (Enl e)) cs) ≡ true
+    by true q i ih = let same : (b.enlistment.value == e.value) ≡ true = grind (arith, nat_tests) in rw same refl
+    by false q i ih = or_right (b.enlistment.value == e.value) (has (λ b. true && same_connection (Enl b.enlistment) (Enl e)) cs) (ih i)
+
+own_return : (e : EnlNo) (cs : List Branch) → has (is_branch e.value) cs ≡ true → has (λ b. true && same_connection (Again b.enlistment) (Again e)) cs ≡ true
+own_return e [] k = k
+own_return e (b ∷ cs) k = by (is_branch e.value b) refl k (λ i. own_return e cs i)
+  where
+    by : (x : Bool) → is_branch e.value b ≡ x → (x || has (is_branch e.value) cs) ≡ true → (has (is_branch e.value) cs ≡ true → has (λ b. true && same_connection (Again b.enlistment) (Again e)) cs ≡ true)
+        → ((b.enlistment.value == e.value) || has (λ b. true && same_connection (Again b.enlistment) (Again e)) cs) ≡ true
+    by true q i ih = let same : (b.enlistment.value == e.value) ≡ true = grind (arith, nat_tests) in rw same refl
+    by false q i ih = or_right (b.enlistment.value == e.value) (has (λ b. true && same_connection (Again b.enlistment) (Again e)) cs) (ih i)
 
 -- the connections are at most 34
 pub ends_few : (d : Bool) (xs : List Row) (ws : List Waiter) (bs : List Branch) (ns : List End) → AreLinked d xs ws bs ns → length ns ≤ 34
@@ -272,28 +363,12 @@ ends_few d xs ws bs ns l =
     let none = picked (λ n. most n && not (has (λ b. own b && by_return b n) bs)) (λ n. is_of_branch bs n.connection) ns l.of_branches (λ n k. no_other bs n.connection k) in
     omega (arith, how_many-all ns, how_many-all bs, l.few, two, first, second, none)
   where
-    no_enl : (e : EnlNo) (cs : List Branch) → has (is_branch e.value) cs ≡ true → has (λ b. true && same_connection (Enl b.enlistment) (Enl e)) cs ≡ true
-    no_enl e [] k = k
-    no_enl e (b ∷ cs) k = by (is_branch e.value b) refl k
-      where
-        by : (x : Bool) → is_branch e.value b ≡ x → (x || has (is_branch e.value) cs) ≡ true → ((b.enlistment.value == e.value) || has (λ b. true && same_connection (Enl b.enlistment) (Enl e)) cs) ≡ true
-        by true q i = let same : (b.enlistment.value == e.value) ≡ true = grind (arith, nat_tests) in rw same refl
-        by false q i = or_right (b.enlistment.value == e.value) (has (λ b. true && same_connection (Enl b.enlistment) (Enl e)) cs) (no_enl e cs i)
-
-    no_again : (e : EnlNo) (cs : List Branch) → has (is_branch e.value) cs ≡ true → has (λ b. true && same_connection (Again b.enlistment) (Again e)) cs ≡ true
-    no_again e [] k = k
-    no_again e (b ∷ cs) k = by (is_branch e.value b) refl k
-      where
-        by : (x : Bool) → is_branch e.value b ≡ x → (x || has (is_branch e.value) cs) ≡ true → ((b.enlistment.value == e.value) || has (λ b. true && same_connection (Again b.enlistment) (Again e)) cs) ≡ true
-        by true q i = let same : (b.enlistment.value == e.value) ≡ true = grind (arith, nat_tests) in rw same refl
-        by false q i = or_right (b.enlistment.value == e.value) (has (λ b. true && same_connection (Again b.enlistment) (Again e)) cs) (no_again e cs i)
-
     no_other : (cs : List Branch) (c : Conn) → is_of_branch cs c ≡ true
         → (((true && not (has (λ d. true && same_connection d c) (Begin ∷ Voter ∷ []))) && not (has (λ b. true && same_connection (Enl b.enlistment) c) cs)) && not (has (λ b. true && same_connection (Again b.enlistment) c) cs)) ≡ false
     no_other cs Begin k = refl
     no_other cs Voter k = refl
-    no_other cs (Enl e) k = rw (no_enl e cs k) refl
-    no_other cs (Again e) k = rw (no_again e cs k) (and_never (not (has (λ b. true && same_connection (Enl b.enlistment) (Again e)) cs)))
+    no_other cs (Enl e) k = rw (own_end e cs k) refl
+    no_other cs (Again e) k = rw (own_return e cs k) (and_never (not (has (λ b. true && same_connection (Enl b.enlistment) (Again e)) cs)))
 
 module _ (d : Bool) (xs : List Row) (ws : List Waiter) (bs : List Branch) (ns : List End) (l : AreLinked d xs ws bs ns) where
   by_opening : (c : Conn) (t : ℕ) (o : Bool) → (o ≡ true → is_of_branch bs c ≡ true) → AreLinked d xs ws bs (if o then with_opened c t ns else map (note_sent c t) ns)

@@ -30,28 +30,28 @@ how_many-same p q same (x ∷ xs) = rw (same x, how_many-same p q same xs) refl
 -- one more item
 pub has-insert_by : {A : Type 0} (p : A → Bool) (key : A → ℕ) (x : A) (ys : List A) → has p (insert_by key x ys) ≡ (p x || has p ys)
 has-insert_by p key x [] = refl
-has-insert_by p key x (y ∷ ys) = step (nat_lt (key y) (key x))
+has-insert_by p key x (y ∷ ys) = step (nat_lt (key y) (key x)) (has-insert_by p key x ys)
   where
-    step : (b : Bool) → has p (if b then y ∷ insert_by key x ys else x ∷ y ∷ ys) ≡ (p x || (p y || has p ys))
-    step true = ap (λ b. p y || b) (has-insert_by p key x ys) ∙ or_swap (p y) (p x) (has p ys)
-    step false = refl
+    step : (b : Bool) → has p (insert_by key x ys) ≡ (p x || has p ys) → has p (if b then y ∷ insert_by key x ys else x ∷ y ∷ ys) ≡ (p x || (p y || has p ys))
+    step true ih = ap (λ b. p y || b) ih ∙ or_swap (p y) (p x) (has p ys)
+    step false ih = refl
 
 pub each-insert_by : {A : Type 0} (p : A → Bool) (key : A → ℕ) (x : A) (ys : List A) → each p (insert_by key x ys) ≡ (p x && each p ys)
 each-insert_by p key x [] = refl
-each-insert_by p key x (y ∷ ys) = step (nat_lt (key y) (key x))
+each-insert_by p key x (y ∷ ys) = step (nat_lt (key y) (key x)) (each-insert_by p key x ys)
   where
-    step : (b : Bool) → each p (if b then y ∷ insert_by key x ys else x ∷ y ∷ ys) ≡ (p x && (p y && each p ys))
-    step true = ap (λ b. p y && b) (each-insert_by p key x ys) ∙ and_swap (p y) (p x) (each p ys)
-    step false = refl
+    step : (b : Bool) → each p (insert_by key x ys) ≡ (p x && each p ys) → each p (if b then y ∷ insert_by key x ys else x ∷ y ∷ ys) ≡ (p x && (p y && each p ys))
+    step true ih = ap (λ b. p y && b) ih ∙ and_swap (p y) (p x) (each p ys)
+    step false ih = refl
 
 -- fewer items
 pub each-filter : {A : Type 0} (p q : A → Bool) (xs : List A) → each p xs ≡ true → each p (filter q xs) ≡ true
 each-filter p q [] k = refl
-each-filter p q (x ∷ xs) k = step (q x)
+each-filter p q (x ∷ xs) k = step (q x) (each-filter p q xs (and_right (p x) (each p xs) k))
   where
-    step : (b : Bool) → each p (cond b (x ∷ filter q xs) (filter q xs)) ≡ true
-    step true = and_both (p x) (each p (filter q xs)) (and_left (p x) (each p xs) k) (each-filter p q xs (and_right (p x) (each p xs) k))
-    step false = each-filter p q xs (and_right (p x) (each p xs) k)
+    step : (b : Bool) → each p (filter q xs) ≡ true → each p (cond b (x ∷ filter q xs) (filter q xs)) ≡ true
+    step true ih = and_both (p x) (each p (filter q xs)) (and_left (p x) (each p xs) k) ih
+    step false ih = ih
 
 pub how_many-filter-le : {A : Type 0} (p q : A → Bool) (xs : List A) → how_many p (filter q xs) ≤ how_many p xs
 how_many-filter-le p q [] = omega arith
@@ -64,12 +64,12 @@ how_many-filter-le p q (x ∷ xs) = step (q x) (p x) (how_many-filter-le p q xs)
 -- none of those that are filtered out is left
 pub how_many-filter-none : {A : Type 0} (p q : A → Bool) → ((x : A) → p x ≡ true → q x ≡ false) → (xs : List A) → how_many p (filter q xs) ≡ 0
 how_many-filter-none p q none [] = refl
-how_many-filter-none p q none (x ∷ xs) = step (q x) (p x) refl refl
+how_many-filter-none p q none (x ∷ xs) = step (q x) (p x) refl refl (how_many-filter-none p q none xs)
   where
-    step : (b c : Bool) → q x ≡ b → p x ≡ c → how_many p (cond b (x ∷ filter q xs) (filter q xs)) ≡ 0
-    step false c e k = how_many-filter-none p q none xs
-    step true false e k = rw k (how_many-filter-none p q none xs)
-    step true true e k = let never : q x ≡ false = none x k in absurd cc
+    step : (b c : Bool) → q x ≡ b → p x ≡ c → how_many p (filter q xs) ≡ 0 → how_many p (cond b (x ∷ filter q xs) (filter q xs)) ≡ 0
+    step false c e k ih = ih
+    step true false e k ih = rw k ih
+    step true true e k ih = let never : q x ≡ false = none x k in absurd cc
 
 -- Each of these picks at most one, so what they don't pick is at most so many fewer.
 count_split : {N : Type 0} (b q h : N → Bool) (ns : List N) → how_many (λ n. b n && not (h n)) ns ≤ how_many q ns + how_many (λ n. b n && not (q n || h n)) ns
@@ -120,11 +120,11 @@ not_counted p (x ∷ xs) k = rw (or_first (p x) (has p xs) k) (not_counted p xs 
 -- where none is counted, none passes
 pub none_counted : {A : Type 0} (p : A → Bool) (xs : List A) → how_many p xs ≡ 0 → has p xs ≡ false
 none_counted p [] k = refl
-none_counted p (x ∷ xs) k = step (p x) k
+none_counted p (x ∷ xs) k = step (p x) k (λ z. none_counted p xs z)
   where
-    step : (b : Bool) → (if b then suc (how_many p xs) else how_many p xs) ≡ 0 → (b || has p xs) ≡ false
-    step true z = absurd (omega (arith, z))
-    step false z = none_counted p xs z
+    step : (b : Bool) → (if b then suc (how_many p xs) else how_many p xs) ≡ 0 → (how_many p xs ≡ 0 → has p xs ≡ false) → (b || has p xs) ≡ false
+    step true z ih = absurd (omega (arith, z))
+    step false z ih = ih z
 
 pub length-filter-le : {A : Type 0} (q : A → Bool) (xs : List A) → length (filter q xs) ≤ length xs
 length-filter-le q [] = omega arith

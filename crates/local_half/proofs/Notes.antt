@@ -111,8 +111,8 @@ may_join h e c v k new alone =
     step false false k = refl
 
 -- where nothing lasts, few do with those that wait
-few_there : (xs : List Row) (p : ℕ) → has is_lasting xs ≡ false → how_many is_lasting xs ≡ 0
-few_there xs p none = not_counted is_lasting xs none
+few_there : (xs : List Row) → has is_lasting xs ≡ false → how_many is_lasting xs ≡ 0
+few_there xs none = not_counted is_lasting xs none
 
 -- a new durable one whose call is done has its place, and none lasts beside it
 pub may_last : (h : Half) (e : EnlNo) (single : Bool) → is_done (unless_over h.seen (durable_answer h single)) ≡ true → not (has (is_of e.value) h.seen.table) ≡ true

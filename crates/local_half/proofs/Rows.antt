@@ -10,7 +10,7 @@ use Rattle.dtx_values.specs.declared.words.Vote.{Vote}
 use Rattle.dtx_values.specs.Class.{is_volatile}
 use Rattle.dtx_values.specs.Row.{fresh_row, is_lasting, is_of, mark_in, mark_row, number_of, vote_in, vote_row}
 use Rattle.dtx_values.specs.Table.{has_row, how_many, insert_by, marks, with_mark, with_row, with_vote}
-use Rattle.dtx_values.proofs.Counts.{how_many-none}
+use Rattle.dtx_values.proofs.Counts.{how_many-le-length, how_many-none}
 use Rattle.dtx_model.specs.Words.{has}
 use Rattle.dtx_model.specs.Acts.{lasts}
 use Rattle.dtx_model.specs.Waiting.{Waiter, is_place}
@@ -18,7 +18,9 @@ use Rattle.dtx_model.proofs.Bools.{or_right}
 use Rattle.dtx_model.proofs.Counts.{how_many-insert_by, how_many-map, length-insert_by}
 use Rattle.enlist_table.specs.Refusals.{add_refusal}
 use Rattle.local_half.specs.Linked.{AreRows, is_managed}
+use Rattle.local_half.specs.Waits.{without}
 use Rattle.local_half.proofs.Lists.{has-insert_by, has-map}
+use Rattle.local_half.proofs.Waiters.{IsPlaceFound, without_fewer}
 
 -- neither a mark nor a vote changes which enlistments stand and last
 mark_lasts : (n e : ℕ) (x : Row) → is_lasting (mark_in e n x) ≡ is_lasting x
@@ -72,7 +74,7 @@ rows-mark l p xs m ws e r =
       few_last = omega (arith, last, r.few_last);
       alone = λ k. omega (arith, last, r.alone k);
       managed = managed_by xs (with_mark e xs) m (λ f k. lasts-mark e xs f ∙ k) r.managed;
-      begun = λ k. long ∙ r.begun k;
+      begun = λ k. omega (arith, long, r.begun k);
     }
 
 pub rows-vote : (l : Option ℕ) (p : Bool) (xs : List Row) (m : Option (EnlNo × RmNo)) (ws : List Waiter) (e : ℕ) (v : Vote) → AreRows l p xs m ws → AreRows l p (with_vote e v xs) m ws
@@ -84,18 +86,25 @@ rows-vote l p xs m ws e v r =
       few_last = omega (arith, last, r.few_last);
       alone = λ k. omega (arith, last, r.alone k);
       managed = managed_by xs (with_vote e v xs) m (λ f k. lasts-vote e v xs f ∙ k) r.managed;
-      begun = λ k. long ∙ r.begun k;
+      begun = λ k. omega (arith, long, r.begun k);
     }
 
 -- other calls wait: for no more places, or for so few
-pub rows-waits : (l : Option ℕ) (p : Bool) (xs : List Row) (m : Option (EnlNo × RmNo)) (ws vs : List Waiter) → how_many is_place vs ≤ how_many is_place ws → AreRows l p xs m ws → AreRows l p xs m vs
-rows-waits l p xs m ws vs le r =
-    record { few = omega (arith, le, r.few); few_last = omega (arith, le, r.few_last); alone = r.alone; managed = r.managed; begun = r.begun }
+pub rows-waits : (l : Option ℕ) (p : Bool) (xs : List Row) (m : Option (EnlNo × RmNo)) (ws vs : List Waiter) → how_many is_place vs ≤ how_many is_place ws → (is_some l ≡ false → length ws ≡ 0 → length vs ≡ 0)
+    → AreRows l p xs m ws → AreRows l p xs m vs
+rows-waits l p xs m ws vs le none r =
+    record {
+      few = omega (arith, le, r.few);
+      few_last = omega (arith, le, r.few_last);
+      alone = r.alone;
+      managed = r.managed;
+      begun = λ k. let nothing = r.begun k in let zero = none k (omega (arith, nothing)) in omega (arith, nothing, zero);
+    }
 
 pub rows-awaited : (l : Option ℕ) (p : Bool) (xs : List Row) (m : Option (EnlNo × RmNo)) (ws vs : List Waiter) → how_many is_place vs ≡ suc (how_many is_place ws)
-    → length xs + how_many is_place ws < 32 → how_many is_lasting xs + how_many is_place ws < 16 → AreRows l p xs m ws → AreRows l p xs m vs
-rows-awaited l p xs m ws vs one few last r =
-    record { few = omega (arith, one, few); few_last = omega (arith, one, last); alone = r.alone; managed = r.managed; begun = r.begun }
+    → length xs + how_many is_place ws < 32 → how_many is_lasting xs + how_many is_place ws < 16 → is_some l ≡ true → AreRows l p xs m ws → AreRows l p xs m vs
+rows-awaited l p xs m ws vs one few last some r =
+    record { few = omega (arith, one, few); few_last = omega (arith, one, last); alone = r.alone; managed = r.managed; begun = λ k. absurd cc }
 
 -- it is promoted
 pub rows-promoted : (l : Option ℕ) (p : Bool) (xs : List Row) (m : Option (EnlNo × RmNo)) (ws : List Waiter) → AreRows l p xs m ws → AreRows l true xs m ws
@@ -128,6 +137,20 @@ rows-more l p xs m ws e c few last alone begun r =
     by_place true h n k q a z few = omega arith
     by_place false true n k q a z few = absurd cc
     by_place false false n k q a z few = grind (arith, nat_tests)
+
+-- a place that a call waited for
+pub rows-placed : (l : Option ℕ) (p : Bool) (xs : List Row) (m : Option (EnlNo × RmNo)) (ws : List Waiter) (e : EnlNo) (n : ℕ) (c : Class) → p ≡ true → IsPlaceFound xs ws e.value n c
+    → AreRows l p xs m ws → AreRows l p (with_row e c xs) m (without n ws)
+rows-placed l p xs m ws e n c promoted f r =
+    rows-more l p xs m (without n ws) e c (omega (arith, f.fewer, r.few)) (λ v. omega (arith, f.fewer, r.few_last)) (λ k. absurd cc) (some l refl)
+    (rows-waits l p xs m ws (without n ws) (omega (arith, f.fewer)) (λ k z. without_fewer n ws z) r)
+  where
+    some : (k : Option ℕ) → l ≡ k → is_some l ≡ true
+    some (Some d) q = ap is_some q
+    some None q =
+        let nothing = r.begun (ap is_some q) in
+        let most = how_many-le-length is_place ws in
+        absurd (omega (arith, nothing, most, f.fewer))
 
 -- the table takes a new one where there is room
 pub taken : (e : EnlNo) (c : Class) (xs : List Row) → has_row e.value xs ≡ false → length xs < 32 → (is_volatile c ≡ false → how_many is_lasting xs < 16) → add_refusal e c xs ≡ None

@@ -20,7 +20,7 @@ use Rattle.dtx_model.specs.Waiting.{Waiter, is_place, is_place_of, waiter_line}
 use Rattle.dtx_model.proofs.Bools.{and_both, and_left, and_never, and_right, not_true, or_false, or_first, or_right, or_second}
 use Rattle.dtx_model.proofs.Counts.{how_many-insert_by, length-insert_by}
 use Rattle.local_half.specs.Half.{is_awaited, waits_at}
-use Rattle.local_half.specs.Waits.{AreWaiting, IsAt, IsFirst, StartsWith, is_to_come, lines_from, without}
+use Rattle.local_half.specs.Waits.{AreWaiting, IsAt, IsFirst, is_to_come, lines_from, without}
 use Rattle.local_half.proofs.Lists.{each-filter, each-insert_by, has-insert_by, how_many-filter-le, length-filter-le, none_counted, not_counted}
 
 -- lines that rise from n on rise from below it on
@@ -41,7 +41,8 @@ none_below n m (w ∷ ws) lt k =
 
 pub lines_insert : (n m : ℕ) (x : Wanted) (ws : List Waiter) → m ≤ n → waits_at ws n ≡ false → lines_from m ws ≡ true → lines_from m (insert_by waiter_line (n, x) ws) ≡ true
 lines_insert n m x [] le none k = let low : nat_le m n ≡ true = grind (arith, nat_tests) in rw low refl
-lines_insert n m x (w ∷ ws) le none k = step (nat_lt w.0 n) refl
+lines_insert n m x (w ∷ ws) le none k =
+    step (nat_lt w.0 n) refl (λ up. lines_insert n (suc w.0) x ws up (or_second (n == w.0) (waits_at ws n) none) (and_right (nat_le m w.0) (lines_from (suc w.0) ws) k))
   where
     first : nat_le m w.0 ≡ true
     first = and_left (nat_le m w.0) (lines_from (suc w.0) ws) k
@@ -52,28 +53,26 @@ lines_insert n m x (w ∷ ws) le none k = step (nat_lt w.0 n) refl
     other : (n == w.0) ≡ false
     other = or_first (n == w.0) (waits_at ws n) none
 
-    step : (b : Bool) → nat_lt w.0 n ≡ b → lines_from m (if b then w ∷ insert_by waiter_line (n, x) ws else (n, x) ∷ w ∷ ws) ≡ true
-    step true e =
+    step : (b : Bool) → nat_lt w.0 n ≡ b → (suc w.0 ≤ n → lines_from (suc w.0) (insert_by waiter_line (n, x) ws) ≡ true)
+        → lines_from m (if b then w ∷ insert_by waiter_line (n, x) ws else (n, x) ∷ w ∷ ws) ≡ true
+    step true e ih =
         let above : suc w.0 ≤ n = grind (arith, nat_tests) in
-        and_both (nat_le m w.0) (lines_from (suc w.0) (insert_by waiter_line (n, x) ws)) first (lines_insert n (suc w.0) x ws above (or_second (n == w.0) (waits_at ws n) none) rest)
-    step false e =
+        and_both (nat_le m w.0) (lines_from (suc w.0) (insert_by waiter_line (n, x) ws)) first (ih above)
+    step false e ih =
         let low : nat_le m n ≡ true = grind (arith, nat_tests) in
         let next : nat_le (suc n) w.0 ≡ true = grind (arith, nat_tests, other) in
         and_both (nat_le m n) (nat_le (suc n) w.0 && lines_from (suc w.0) ws) low (and_both (nat_le (suc n) w.0) (lines_from (suc w.0) ws) next rest)
 
 pub lines_without : (n m : ℕ) (ws : List Waiter) → lines_from m ws ≡ true → lines_from m (without n ws) ≡ true
 lines_without n m [] k = refl
-lines_without n m (w ∷ ws) k = step (n == w.0)
+lines_without n m (w ∷ ws) k = step (n == w.0) (lines_without n (suc w.0) ws (and_right (nat_le m w.0) (lines_from (suc w.0) ws) k))
   where
     first : nat_le m w.0 ≡ true
     first = and_left (nat_le m w.0) (lines_from (suc w.0) ws) k
 
-    rest : lines_from (suc w.0) (without n ws) ≡ true
-    rest = lines_without n (suc w.0) ws (and_right (nat_le m w.0) (lines_from (suc w.0) ws) k)
-
-    step : (b : Bool) → lines_from m (cond (not b) (w ∷ without n ws) (without n ws)) ≡ true
-    step true = lines_lower m (suc w.0) (without n ws) (grind (arith, nat_tests, first)) rest
-    step false = and_both (nat_le m w.0) (lines_from (suc w.0) (without n ws)) first rest
+    step : (b : Bool) → lines_from (suc w.0) (without n ws) ≡ true → lines_from m (cond (not b) (w ∷ without n ws) (without n ws)) ≡ true
+    step true rest = lines_lower m (suc w.0) (without n ws) (grind (arith, nat_tests, first)) rest
+    step false rest = and_both (nat_le m w.0) (lines_from (suc w.0) (without n ws)) first rest
 
 -- where no call of the line waits, all stay
 without_none : (n : ℕ) (ws : List Waiter) → waits_at ws n ≡ false → without n ws ≡ ws
@@ -88,19 +87,19 @@ without_first : (m : ℕ) (w : Waiter) (ws : List Waiter) → lines_from m (w �
 without_first m w ws k =
     rw (itself w.0) (without_none w.0 ws (none_below w.0 (suc w.0) ws (omega arith) (and_right (nat_le m w.0) (lines_from (suc w.0) ws) k)))
 
-pub first_line : List Waiter → Option ℕ
-first_line [] = None
-first_line (w ∷ ws) = Some w.0
-
-pub starts : (ws : List Waiter) → lines_from 0 ws ≡ true → StartsWith ws (first_line ws)
-unfolding first_line
-starts [] k = refl
-starts (w ∷ ws) k =
+pub starts : (ws : List Waiter) (n : ℕ) (x : Wanted) → lines_from 0 ws ≡ true → slice_get ws 0 ≡ Some (n, x) → IsFirst n ws
+starts [] n x k s = absurd cc
+starts (w ∷ ws) n x k s =
     let same = without_first 0 w ws k in
-    record {
-      others = λ x. ap (λ (vs : List Waiter). Answered w.0 (Ended x) ∷ ended vs x) (sym same);
+    let it : w ≡ (n, x) = cc in
+    subst (λ m. IsFirst m (w ∷ ws)) (ap (λ (v : Waiter). v.0) it) (record {
+      others = λ y. ap (λ (vs : List Waiter). Answered w.0 (Ended y) ∷ ended vs y) (sym same);
       fewer = ap (λ (vs : List Waiter). suc (length vs)) (sym same);
-    }
+    })
+
+pub starts_none : (ws : List Waiter) → slice_get ws 0 ≡ None → ws ≡ []
+starts_none [] s = refl
+starts_none (w ∷ ws) s = absurd cc
 
 -- a call at an index is at a line from the first on
 line_at : (m i : ℕ) (ws : List Waiter) (n : ℕ) (x : Wanted) → lines_from m ws ≡ true → slice_get ws i ≡ Some (n, x) → m ≤ n
@@ -155,10 +154,12 @@ add_waiter xs ws n x w none few new come =
     step e true k =
         let more = how_many-insert_by (is_place_of e) waiter_line (n, x) ws in
         let zero : how_many (is_place_of e) ws ≡ 0 = not_counted (is_place_of e) ws (new e k) in
-        omega (arith, more ∙ rw (k, zero) refl)
+        let one : how_many (is_place_of e) (insert_by waiter_line (n, x) ws) ≡ 1 = more ∙ rw (k, zero) refl in
+        omega (arith, one)
     step e false k =
         let more = how_many-insert_by (is_place_of e) waiter_line (n, x) ws in
-        omega (arith, more ∙ rw k refl, w.once e)
+        let same : how_many (is_place_of e) (insert_by waiter_line (n, x) ws) ≡ how_many (is_place_of e) ws = more ∙ rw k refl in
+        omega (arith, same, w.once e)
 
 -- those of a line are answered
 pub drop_waiter : (xs : List Row) (ws : List Waiter) (n : ℕ) → AreWaiting xs ws → AreWaiting xs (without n ws)
@@ -197,14 +198,14 @@ row_beside xs ws e c none w = other_table xs (with_row e c xs) ws same w
 -- what is found is at a line from the first on
 found_line : (p : Waiter → Bool) (m : ℕ) (ws : List Waiter) (v : Waiter) → lines_from m ws ≡ true → find p ws ≡ Some v → m ≤ v.0
 found_line p m [] v k f = absurd cc
-found_line p m (w ∷ ws) v k f = step (p w) f
+found_line p m (w ∷ ws) v k f = step (p w) f (λ g. found_line p (suc w.0) ws v (and_right (nat_le m w.0) (lines_from (suc w.0) ws) k) g)
   where
     first : nat_le m w.0 ≡ true
     first = and_left (nat_le m w.0) (lines_from (suc w.0) ws) k
 
-    step : (b : Bool) → cond b (Some w) (find p ws) ≡ Some v → m ≤ v.0
-    step true g = let same : w ≡ v = cc in let line : w.0 ≡ v.0 = ap (λ (u : Waiter). u.0) same in grind (arith, nat_tests, first)
-    step false g = let above = found_line p (suc w.0) ws v (and_right (nat_le m w.0) (lines_from (suc w.0) ws) k) g in grind (arith, nat_tests, first)
+    step : (b : Bool) → cond b (Some w) (find p ws) ≡ Some v → (find p ws ≡ Some v → suc w.0 ≤ v.0) → m ≤ v.0
+    step true g ih = let same : w ≡ v = cc in let line : w.0 ≡ v.0 = ap (λ (u : Waiter). u.0) same in grind (arith, nat_tests, first)
+    step false g ih = let above = ih g in grind (arith, nat_tests, first)
 
 -- A call waits for the place of this enlistment, which doesn't stand yet and is no volatile's. Once the call is answered no other waits for that place, and each
 -- that waits for another still does.
@@ -253,7 +254,8 @@ place_later xs w ws e n c other here p =
 pub place_found : (m : ℕ) (xs : List Row) (ws : List Waiter) (e n : ℕ) (f : EnlNo) (r : RmNo) (c : Class) → lines_from m ws ≡ true → ((g : ℕ) → how_many (is_place_of g) ws ≤ 1)
     → each (is_to_come xs) ws ≡ true → find (is_place_of e) ws ≡ Some (n, Place f r c) → IsPlaceFound xs ws e n c
 place_found m xs [] e n f r c k once come found = absurd cc
-place_found m xs (w ∷ ws) e n f r c k once come found = step (is_place_of e w) refl found
+place_found m xs (w ∷ ws) e n f r c k once come found =
+    step (is_place_of e w) refl found (λ a b d h. place_found (suc w.0) xs ws e n f r c a b d h)
   where
     rest : lines_from (suc w.0) ws ≡ true
     rest = and_right (nat_le m w.0) (lines_from (suc w.0) ws) k
@@ -267,9 +269,18 @@ place_found m xs (w ∷ ws) e n f r c k once come found = step (is_place_of e w)
         subst (λ (u : Waiter). lines_from m (u ∷ ws) ≡ true → ((g : ℕ) → how_many (is_place_of g) (u ∷ ws) ≤ 1) → each (is_to_come xs) (u ∷ ws) ≡ true → is_place_of e u ≡ true → IsPlaceFound xs (u ∷ ws) e n c)
         (sym same) (λ a b d g. place_first m xs ws e n f r c a b d g)
 
-    step : (b : Bool) → is_place_of e w ≡ b → cond b (Some w) (find (is_place_of e) ws) ≡ Some (n, Place f r c) → IsPlaceFound xs (w ∷ ws) e n c
-    step true here g = let same : w ≡ (n, Place f r c) = cc in first w same k once come here
-    step false here g =
+    step : (b : Bool) → is_place_of e w ≡ b → cond b (Some w) (find (is_place_of e) ws) ≡ Some (n, Place f r c)
+        → (lines_from (suc w.0) ws ≡ true → ((g : ℕ) → how_many (is_place_of g) ws ≤ 1) → each (is_to_come xs) ws ≡ true → find (is_place_of e) ws ≡ Some (n, Place f r c) → IsPlaceFound xs ws e n c)
+        → IsPlaceFound xs (w ∷ ws) e n c
+    step true here g ih = let same : w ≡ (n, Place f r c) = cc in first w same k once come here
+    step false here g ih =
         let above = found_line (is_place_of e) (suc w.0) ws (n, Place f r c) rest g in
         let other : (n == w.0) ≡ false = grind (arith, nat_tests) in
-        place_later xs w ws e n c other here (place_found (suc w.0) xs ws e n f r c rest fewer (and_right (is_to_come xs w) (each (is_to_come xs) ws) come) g)
+        place_later xs w ws e n c other here (ih rest fewer (and_right (is_to_come xs w) (each (is_to_come xs) ws) come) g)
+
+-- where no call waits, none does after an answer
+pub without_nothing : (n : ℕ) (ws : List Waiter) → ws ≡ [] → without n ws ≡ []
+without_nothing n ws none = ap (without n) none
+
+pub without_fewer : (n : ℕ) (ws : List Waiter) → length ws ≡ 0 → length (without n ws) ≡ 0
+without_fewer n ws none = let less = length-filter-le (λ w. not (n == w.0)) ws in omega (arith, less, none)

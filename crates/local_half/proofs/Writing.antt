@@ -6,7 +6,7 @@ use Rattle.dtx_values.specs.declared.entry.Entry.TheVariants.{Sent}
 use Rattle.dtx_values.specs.declared.message.Conn.{Conn}
 use Rattle.dtx_values.specs.declared.message.Dir.{Dir}
 use Rattle.dtx_values.specs.declared.message.Message.{Message}
-use Rattle.dtx_values.specs.Outgoing.{Outgoing, sends_of, written}
+use Rattle.dtx_values.specs.Outgoing.{Outgoing, sends_of, with, written}
 
 -- the messages of two blocks after each other
 pub sends_of-append : (xs ys : List Entry) → sends_of (xs ++ ys) ≡ sends_of xs ++ sends_of ys
@@ -32,3 +32,10 @@ written-none o =
     λ i. record { entries = append-nil o.entries i; sends = append-nil o.sends i; room = room i; send_room = send_room i }
 
 pub ruleset outgoing = (written-written, written-none)
+
+-- entries that send nothing
+pub unsent : (o : Outgoing) (es : List Entry) → sends_of es ≡ [] → with o es ≡ written o es
+unsent o es none =
+    let room : o.send_room ≡ o.send_room - length (sends_of es) = let zero = ap length none in omega (arith, zero) in
+    let sends : o.sends ≡ o.sends ++ sends_of es = sym (ap (λ (ms : List (Conn × Dir × Message)). o.sends ++ ms) none ∙ append-nil o.sends) in
+    λ i. record { entries = o.entries ++ es; sends = sends i; room = o.room - length es; send_room = room i }

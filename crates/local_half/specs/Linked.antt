@@ -26,14 +26,14 @@ abbrev pub is_managed : List Row → Option (EnlNo × RmNo) → Bool
 is_managed xs (Some m) = lasts xs m.0.value
 is_managed xs None = true
 
--- The enlistments that were made and the places that calls wait for are at most 32, and 16 of them last. At most one lasts before it is promoted. None is there
--- before the begin.
+-- The enlistments that were made and the places that calls wait for are at most 32, and 16 of them last. At most one lasts before it is promoted. None is there,
+-- and no call waits, before the begin.
 pub record AreRows (limit : Option ℕ) (promoted : Bool) (xs : List Row) (manager : Option (EnlNo × RmNo)) (ws : List Waiter) : Type 0 where
   pub few : length xs + how_many is_place ws ≤ ENLISTMENTS
   pub few_last : how_many is_lasting xs + how_many is_place ws ≤ DURABLES
   pub alone : promoted ≡ false → how_many is_lasting xs ≤ 1
   pub managed : is_managed xs manager ≡ true
-  pub begun : is_some limit ≡ false → length xs ≡ 0
+  pub begun : is_some limit ≡ false → length xs + length ws ≡ 0
 
 -- the enlistment lasts, or a call waits for its place
 abbrev pub is_held : List Row → List Waiter → ℕ → Bool

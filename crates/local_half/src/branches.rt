@@ -44,12 +44,20 @@ fn change_one(b: &mut Branch, e: EnlNo, x: BranchChange)
 }
 
 /// Changes the enlistment of this number.
-pub fn change(branches: &mut [Branch], e: EnlNo, x: BranchChange)
+fn change_all(branches: &mut [Branch], e: EnlNo, x: BranchChange)
     ensures { branches.new ≡ map (changed e.value x) branches.old }
 {
     for b in branches.iter_mut() {
         change_one(b, e, x);
     }
+}
+
+/// Changes the enlistment of this number.
+pub fn change(branches: &mut Vec<Branch>, e: EnlNo, x: BranchChange)
+    ensures items { branches.new.items ≡ map (changed e.value x) branches.old.items }
+    ensures capacity { vec_capacity branches.new ≡ vec_capacity branches.old }
+{
+    change_all(branches.as_mut_slice(), e, x);
 }
 
 /// The index at which the enlistment of this number goes.
@@ -109,8 +117,9 @@ pub fn note_sent(branches: &mut Vec<Branch>, c: Conn, m: &Message)
 }
 
 /// What a message that was got changes: ENLISTED, and a commit.
-pub fn note_got(branches: &mut [Branch], c: Conn, m: &Message)
-    ensures { branches.new ≡ branches_after (Got c Down m.now) branches.old }
+pub fn note_got(branches: &mut Vec<Branch>, c: Conn, m: &Message)
+    ensures items { branches.new.items ≡ branches_after (Got c Down m.now) branches.old.items }
+    ensures capacity { vec_capacity branches.new ≡ vec_capacity branches.old }
 {
     match c {
         Conn::Enl(e) => match *m {

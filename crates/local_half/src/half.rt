@@ -406,6 +406,7 @@ impl LocalHalf {
     /// Keeps that the call of this line waits, and what for, once a promotion began.
     #[tactic(auto, unfolding(dtx_model::specs::Observed::track, dtx_model::specs::Answers::local_answer))]
     fn wait(&mut self, line: u32, c: &Call)
+        requires own { is_its_own c.now ≡ true }
         requires started { has_promotion self.old.half.seen ≡ true }
         requires waits { local_answer self.old.transaction.value self.old.half c.now 0 ≡ Wait }
         requires new { is_free self.old.half line c.now ≡ true }
@@ -417,6 +418,7 @@ impl LocalHalf {
     /// Keeps that the call of this line waits, and what for, and starts a promotion for this cause.
     #[tactic(auto, unfolding(dtx_model::specs::Observed::track, dtx_model::specs::Half::heeds_all, dtx_model::specs::Answers::local_answer))]
     fn wait_first(&mut self, line: u32, c: &Call, cause: Cause, out: &mut Outbox)
+        requires own { is_its_own c.now ≡ true }
         requires unstarted { has_promotion self.old.half.seen ≡ false }
         requires waits { local_answer self.old.transaction.value self.old.half c.now 0 ≡ Wait }
         requires new { is_free self.old.half line c.now ≡ true }

@@ -1,5 +1,5 @@
 //! Whom the outcome is told to.
-ghost use Rattle.std.specs.Prelude.{◌≡◌, ◌==◌, ◌&&◌, map};
+ghost use Rattle.std.specs.Prelude.{◌≡◌, ◌==◌, ◌&&◌, map, vec_capacity};
 ghost use Rattle.std.specs.List.{list_any};
 ghost use Rattle.dtx_model.specs.Observed.{come_back, hear, lose};
 
@@ -16,12 +16,20 @@ fn hear(l: &mut Listener, e: EnlNo)
 }
 
 /// Marks that the enlistment was told.
-pub fn tell(listeners: &mut [Listener], e: EnlNo)
+fn tell_all(listeners: &mut [Listener], e: EnlNo)
     ensures { listeners.new ≡ map (hear e.value) listeners.old }
 {
     for l in listeners.iter_mut() {
         hear(l, e);
     }
+}
+
+/// Marks that the enlistment was told.
+pub fn tell(listeners: &mut Vec<Listener>, e: EnlNo)
+    ensures items { listeners.new.items ≡ map (hear e.value) listeners.old.items }
+    ensures capacity { vec_capacity listeners.new ≡ vec_capacity listeners.old }
+{
+    tell_all(listeners.as_mut_slice(), e);
 }
 
 /// Marks that the enlistment is lost.
@@ -34,12 +42,20 @@ fn lose_one(l: &mut Listener, e: EnlNo)
 }
 
 /// Marks that the enlistment is lost.
-pub fn lose(listeners: &mut [Listener], e: EnlNo)
+fn lose_all(listeners: &mut [Listener], e: EnlNo)
     ensures { listeners.new ≡ map (lose e.value) listeners.old }
 {
     for l in listeners.iter_mut() {
         lose_one(l, e);
     }
+}
+
+/// Marks that the enlistment is lost.
+pub fn lose(listeners: &mut Vec<Listener>, e: EnlNo)
+    ensures items { listeners.new.items ≡ map (lose e.value) listeners.old.items }
+    ensures capacity { vec_capacity listeners.new ≡ vec_capacity listeners.old }
+{
+    lose_all(listeners.as_mut_slice(), e);
 }
 
 /// Marks that the enlistment came back.
@@ -52,12 +68,20 @@ fn regain_one(l: &mut Listener, e: EnlNo)
 }
 
 /// Marks that the enlistment came back.
-pub fn regain(listeners: &mut [Listener], e: EnlNo)
+fn regain_all(listeners: &mut [Listener], e: EnlNo)
     ensures { listeners.new ≡ map (come_back e.value) listeners.old }
 {
     for l in listeners.iter_mut() {
         regain_one(l, e);
     }
+}
+
+/// Marks that the enlistment came back.
+pub fn regain(listeners: &mut Vec<Listener>, e: EnlNo)
+    ensures items { listeners.new.items ≡ map (come_back e.value) listeners.old.items }
+    ensures capacity { vec_capacity listeners.new ≡ vec_capacity listeners.old }
+{
+    regain_all(listeners.as_mut_slice(), e);
 }
 
 /// Whether the enlistment is lost.

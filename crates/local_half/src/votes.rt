@@ -1,7 +1,7 @@
 //! What the rows say of votes, and of the promotable enlistment.
-ghost use Rattle.std.specs.Prelude.{◌≡◌, ◌&&◌};
+ghost use Rattle.std.specs.Prelude.{◌≡◌, ◌&&◌, find};
 ghost use Rattle.std.specs.List.{list_all};
-ghost use Rattle.dtx_values.specs.Class.{is_volatile};
+ghost use Rattle.dtx_values.specs.Class.{is_promotable, is_volatile};
 ghost use Rattle.dtx_values.specs.Vote.{voted_well};
 ghost use Rattle.dtx_values.specs.Owners.{is_evident};
 ghost use Rattle.dtx_model.specs.Acts.{promotable_in};
@@ -29,10 +29,16 @@ pub fn is_evident(sealed: bool, rows: &[Row]) -> bool
     sealed && are_well(rows)
 }
 
+/// The row of the promotable enlistment.
+fn promotable_row(rows: &[Row]) -> Option<Row>
+    ensures { result ≡ find (λ x. is_promotable x.class) rows.now }
+{
+    rows.iter().copied().find(|x| x.class == Class::Promotable)
+}
+
 /// The promotable enlistment.
 pub fn first_promotable(rows: &[Row]) -> Option<EnlNo>
     ensures { result ≡ promotable_in rows.now }
 {
-    let row = rows.iter().copied().find(|x| x.class == Class::Promotable)?;
-    Some(row.number)
+    promotable_row(rows).map(|x| x.number)
 }

@@ -1,5 +1,5 @@
 //! The calls that wait, in order of their lines.
-ghost use Rattle.std.specs.Prelude.{◌≡◌, ◌<◌, ◌≤◌, ◌==◌, length, find, vec_len, vec_capacity};
+ghost use Rattle.std.specs.Prelude.{◌≡◌, ◌<◌, ◌≤◌, IfSome, length, find, slice_get, vec_len, vec_capacity};
 ghost use Rattle.std.specs.List.{insert};
 ghost use Rattle.dtx_values.specs.Table.{how_many, insert_by};
 ghost use Rattle.dtx_model.specs.Waiting.{Waiter, class_by, is_place, is_place_of, waiter_line, wanted_by};
@@ -41,6 +41,18 @@ pub fn remove(waits: &mut Vec<(u32, Wanted)>, n: u32)
     ensures capacity { vec_capacity waits.new ≡ vec_capacity waits.old }
 {
     waits.retain(|w| w.0 != n);
+}
+
+/// The call that waits at an index.
+pub fn get(waits: &[(u32, Wanted)], i: usize) -> Option<(u32, Wanted)>
+    ensures value { result ≡ slice_get waits.now i }
+    ensures within { IfSome result (λ w. i < length waits.now) }
+{
+    if i < waits.len() {
+        Some(waits[i])
+    } else {
+        None
+    }
 }
 
 /// Whether the call of this line waits.

@@ -1,10 +1,9 @@
 //! What a decision writes, and what the end of a handover writes: the calls that wait are answered.
-ghost use Rattle.std.specs.Prelude.{◌≡◌, ◌≤◌, [], ◌∷◌, ◌++◌, false, true, if◌then◌else◌, is_some, length, slice_get};
+ghost use Rattle.std.specs.Prelude.{◌≡◌, ◌<◌, [], IfSome, false, true, is_some, length};
+ghost use Rattle.dtx_values.specs.declared.limits.TheConstants.{CALLS};
 ghost use Rattle.std.specs.List.{flat_map};
-ghost use Rattle.dtx_values.specs.Outgoing.{Outgoing, written};
-ghost use Rattle.dtx_values.specs.Ends.{knows};
+ghost use Rattle.dtx_values.specs.Outgoing.{written};
 ghost use Rattle.dtx_values.specs.Table.{how_many};
-ghost use Rattle.dtx_model.specs.Acts.{commit_sent};
 ghost use Rattle.dtx_model.specs.Half.{decide, ended, enlist_sent, given, to_up, veto, veto_if, veto_message};
 ghost use Rattle.dtx_model.specs.Waiting.{is_place};
 ghost use Rattle.local_half.specs.Half.{IsLeft, IsRoom, after};
@@ -13,6 +12,7 @@ ghost use Rattle.local_half.specs.Taken.{MaySend};
 ghost use Rattle.local_half.specs.Waits.{IsAt, StartsWith};
 
 use super::LocalHalf;
+use crate::waits;
 use dtx_model::Wanted;
 use dtx_values::{Answer, Conn, Dir, EnlNo, Entry, Info, Message, Outbox, Outcome, RmNo};
 
@@ -22,17 +22,18 @@ impl LocalHalf {
     fn first_waiting(&self) -> Option<u32>
         ensures { StartsWith self.now.half.waits result }
     {
-        match self.waits.first() {
-            Some(w) => Some(w.0),
+        match waits::get(&self.waits, 0) {
+            Some((n, _)) => Some(n),
             None => None,
         }
     }
 
     /// The call that waits at an index.
     fn waiting_at(&self, i: usize) -> Option<(u32, Wanted)>
-        ensures { IsAt i self.now.half.waits result }
+        ensures at { IsAt i self.now.half.waits result }
+        ensures within { IfSome result (λ w. i < CALLS) }
     {
-        self.waits.get(i).copied()
+        waits::get(&self.waits, i)
     }
 
     /// Writes that each call that waits is answered how it ended.

@@ -2,7 +2,7 @@ use Rattle.std.proofs.Common.{◌∙◌, ap, sym}
 use Rattle.std.proofs.lemmas.List.Edits.{map_over_more}
 use Rattle.dtx_model.specs.declared.branch.Branch.{Branch}
 use Rattle.local_half.specs.Branches.{changed}
-use Rattle.local_half.proofs.branches.change.Goals as goal
+use Rattle.local_half.proofs.branches.change_all.Goals as goal
 
 pub loop-b-preserved : goal.loop-b-preserved
 loop-b-preserved c =
