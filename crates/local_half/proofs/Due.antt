@@ -4,7 +4,9 @@ use Rattle.std.specs.List.{cons_option, filter_map}
 use Rattle.std.proofs.lemmas.Bool.Decides.{nat_tests}
 use Rattle.dtx_values.specs.declared.message.Conn.{Conn}
 use Rattle.dtx_values.specs.declared.note.Note.{Note}
-use Rattle.dtx_values.specs.declared.note.Note.TheVariants.{Commit}
+use Rattle.dtx_values.specs.declared.note.Note.TheVariants.{Commit, Prepare, Promote as PromoteNote, Hand, Single}
+use Rattle.dtx_values.specs.declared.note.Reply.TheVariants.{Vote as VoteReply}
+use Rattle.dtx_values.specs.declared.words.Vote.{Vote}
 use Rattle.dtx_values.specs.declared.number.EnlNo.{EnlNo}
 use Rattle.dtx_values.specs.declared.row.Row.{Row}
 use Rattle.dtx_values.specs.Class.{is_promotable}
@@ -14,7 +16,7 @@ use Rattle.dtx_model.specs.declared.branch.Branch.{Branch}
 use Rattle.dtx_model.specs.Observed.{Observed, is_branch}
 use Rattle.dtx_model.specs.Words.{has, kth, or_else}
 use Rattle.dtx_model.specs.Half.{is_gone, is_handed}
-use Rattle.dtx_model.specs.Replies.{all_due, due_conn, due_of, may_still_vote, names, note_at, note_of_conn, note_of_row, row_note, with_name, with_names, with_note}
+use Rattle.dtx_model.specs.Replies.{all_due, conn_due, due_conn, due_of, fits, may_still_vote, names, note_at, note_of_conn, note_of_row, owes_outcome, owes_promotion, owes_request, row_note, with_name, with_names, with_note}
 use Rattle.dtx_model.proofs.Bools.{and_both, and_left, and_right, or_case, or_first, or_false, or_second}
 use Rattle.enlist_table.specs.Waiting.{is_waiting}
 use Rattle.local_half.specs.Half.{first_due, lower, may_owe, owes_ack}
@@ -289,3 +291,36 @@ due_from o (x ∷ xs) found =
 pub due_rows : (o : Observed) → rises_above 0 o.table ≡ true
     → filter_map (λ (e : EnlNo). with_note e (due_of o e.value)) (map (λ (x : Row). x.number) o.table) ≡ filter_map (λ (x : Row). with_note x.number (note_at o x.number.value (Some x))) o.table
 due_rows o rise = due_from o o.table (λ k x e. (found_above 0 o.table k x rise e).1)
+
+-- a vote is due of one that was asked alone
+prepare_alone : (v : Vote) (n : Note) → fits (VoteReply v) n ≡ true → n ≡ Prepare
+prepare_alone v Prepare k = refl
+prepare_alone v _ k = absurd cc
+
+marked_then : (o : Observed) (x : Row) → row_note o x ≡ Some Prepare → is_marked x ≡ true
+marked_then o x k = step (is_marked x) (has_voted x) (may_still_vote o x) (owes_promotion o x) (owes_outcome o x) (owes_request o x) k
+  where
+    step : (m v s p h r : Bool) → (if m && not v && s then Some Prepare else if p then Some PromoteNote else if h then Some Hand else if r then Some Single else None) ≡ Some Prepare → m ≡ true
+    step true v s p h r k = refl
+    step false v s true h r k = absurd cc
+    step false v s false true r k = absurd cc
+    step false v s false false true k = absurd cc
+    step false v s false false false k = absurd cc
+
+asked_row : (o : Observed) (e : ℕ) (x : Option Row) (d : Option Conn) → find (is_of e) o.table ≡ x → or_else (note_of_row o x) (note_of_conn d) ≡ Some Prepare → was_asked e o.table ≡ true
+asked_row o e None None f k = absurd cc
+asked_row o e None (Some c) f k = absurd cc
+asked_row o e (Some x) d f k = found_both (is_of e) is_marked o.table x f (marked_then o x (by (row_note o x) d k))
+  where
+    by : (n : Option Note) (d : Option Conn) → or_else n (note_of_conn d) ≡ Some Prepare → n ≡ Some Prepare
+    by (Some n) d k = k
+    by None None k = absurd cc
+    by None (Some c) k = absurd cc
+
+pub voter_asked : (o : Observed) (e : ℕ) (v : Vote) (n : Note) → due_of o e ≡ Some n → fits (VoteReply v) n ≡ true → was_asked e o.table ≡ true
+unfolding due_of
+voter_asked o e v n due fit = by (is_gone o e) (due ∙ ap (λ m. Some m) (prepare_alone v n fit))
+  where
+    by : (g : Bool) → (if g then None else or_else (note_of_row o (find (is_of e) o.table)) (note_of_conn (conn_due o e))) ≡ Some Prepare → was_asked e o.table ≡ true
+    by true k = absurd cc
+    by false k = asked_row o e (find (is_of e) o.table) (conn_due o e) refl k

@@ -8,3 +8,6 @@ pub mod Notes
 pub mod Waiting
 pub mod Following
 pub mod Due
+pub mod Deciding
+pub mod News
+pub mod Acting

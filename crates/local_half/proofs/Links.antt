@@ -1,5 +1,5 @@
 -- The enlistments at the coordinator and the connections: how many they are, and that each connection is of one of them.
-use Rattle.std.proofs.Common.{◌≡◌, ◌≤◌, ◌<◌, ◌==◌, ◌+◌, ◌&&◌, ◌||◌, ℕ, suc, Bool, true, false, not, List, [], ◌∷◌, map, filter, length, Option, Some, None, is_some, cond, if◌then◌else◌, refl, ap, sym, subst, ◌∙◌, arith}
+use Rattle.std.proofs.Common.{◌≡◌, ◌≤◌, ◌<◌, ◌==◌, ◌+◌, ◌&&◌, ◌||◌, ℕ, suc, Bool, true, false, not, List, [], ◌∷◌, map, filter, find, length, Option, Some, None, is_some, cond, if◌then◌else◌, refl, ap, sym, subst, ◌∙◌, arith}
 use Rattle.std.proofs.lemmas.Bool.Decides.{nat_tests}
 use Rattle.std.proofs.lemmas.List.{length-map}
 use Rattle.dtx_values.specs.declared.end.End.{End}
@@ -409,3 +409,15 @@ links-got d xs ws bs ns c m l =
 
 pub links-ended : (d : Bool) (xs : List Row) (ws : List Waiter) (bs : List Branch) (ns : List End) (c : Conn) → AreLinked d xs ws bs ns → AreLinked d xs ws bs (ends_after (Ended c Down) ns)
 links-ended d xs ws bs ns c l = links-noted d xs ws bs ns (note_end c) (end_name c) l
+
+-- what is found by a number stands by its own
+pub found_branch : (e : ℕ) (bs : List Branch) (b : Branch) → find (is_branch e) bs ≡ Some b → has (is_branch b.enlistment.value) bs ≡ true
+found_branch e [] b k = absurd cc
+found_branch e (x ∷ bs) b k = step (is_branch e x) k (λ g. found_branch e bs b g)
+  where
+    step : (d : Bool) → cond d (Some x) (find (is_branch e) bs) ≡ Some b → (find (is_branch e) bs ≡ Some b → has (is_branch b.enlistment.value) bs ≡ true) → has (is_branch b.enlistment.value) (x ∷ bs) ≡ true
+    step true g ih =
+        let same : b ≡ x = cc in
+        let number : (b.enlistment.value == x.enlistment.value) ≡ true = rw same (grind (arith, nat_tests)) in
+        rw number refl
+    step false g ih = or_right (is_branch b.enlistment.value x) (has (is_branch b.enlistment.value) bs) (ih g)

@@ -184,6 +184,12 @@ status_waits : (d : Option Outcome) → status_answer d ≡ Wait → ⊥
 status_waits (Some x) k = absurd (cc)
 status_waits None k = absurd (cc)
 
+-- a call that may have to wait
+abbrev pub is_waiter : Call → Bool
+is_waiter (Durable t e r s) = true
+is_waiter (Marshal t) = true
+is_waiter c = false
+
 -- what answers wait, and what it finds
 pub record IsWaiting (h : Half) (c : Call) : Type 0 where
   pub undecided : is_some h.seen.decided ≡ false
@@ -191,6 +197,7 @@ pub record IsWaiting (h : Half) (c : Call) : Type 0 where
   pub caused : has_promotion h.seen ≡ false → is_some (cause_for h.seen c) ≡ true
   pub room : (e : ℕ) → is_place_of e (0, wanted_by c) ≡ true → (length h.seen.table + places h < 32) × (how_many is_lasting h.seen.table + places h < 16)
   pub begun : is_some h.seen.limit ≡ true
+  pub kind : is_waiter c ≡ true
   pub unpromoted : is_place (0, wanted_by c) ≡ false → h.seen.promoted ≡ false
 
 waits_inside : (o : Observed) (a : Answer) → unless_over o a ≡ Wait → (a ≡ Wait) × (is_some o.limit ≡ true) × (is_some o.decided ≡ false)
@@ -215,6 +222,7 @@ waits_for t h (Durable u e r s) own k =
       caused = few.3;
       room = λ f p. (below 32 (length h.seen.table + places h) few.0, below 16 (how_many is_lasting h.seen.table + places h) few.2);
       begun = inside.1;
+      kind = refl;
       unpromoted = λ p. absurd (cc);
     }
   where
@@ -236,6 +244,7 @@ waits_for t h (Marshal u) own k =
       caused = λ p. refl;
       room = λ f p. absurd (cc);
       begun = inside.1;
+      kind = refl;
       unpromoted = λ p. few.0;
     }
   where

@@ -14,7 +14,7 @@ use Rattle.dtx_values.proofs.Counts.{how_many-le-length, how_many-none}
 use Rattle.dtx_model.specs.Words.{has}
 use Rattle.dtx_model.specs.Acts.{lasts}
 use Rattle.dtx_model.specs.Waiting.{Waiter, is_place}
-use Rattle.dtx_model.proofs.Bools.{or_right}
+use Rattle.dtx_model.proofs.Bools.{and_never, or_first, or_right, or_second}
 use Rattle.dtx_model.proofs.Counts.{how_many-insert_by, how_many-map, length-insert_by}
 use Rattle.enlist_table.specs.Refusals.{add_refusal}
 use Rattle.local_half.specs.Linked.{AreRows, is_managed}
@@ -151,6 +151,18 @@ rows-placed l p xs m ws e n c promoted f r =
         let nothing = r.begun (ap is_some q) in
         let most = how_many-le-length is_place ws in
         absurd (omega (arith, nothing, most, f.fewer))
+
+-- another manager is kept, of one that lasts; and none is where none lasts
+pub rows-managed : (l : Option ℕ) (p : Bool) (xs : List Row) (m k : Option (EnlNo × RmNo)) (ws : List Waiter) → is_managed xs k ≡ true → AreRows l p xs m ws → AreRows l p xs k ws
+rows-managed l p xs m k ws managed r = record { few = r.few; few_last = r.few_last; alone = r.alone; managed = managed; begun = r.begun }
+
+none_last : (xs : List Row) (e : ℕ) → has is_lasting xs ≡ false → lasts xs e ≡ false
+none_last [] e k = refl
+none_last (x ∷ xs) e k = rw (or_first (is_lasting x) (has is_lasting xs) k, and_never (is_of e x)) (none_last xs e (or_second (is_lasting x) (has is_lasting xs) k))
+
+pub no_manager : (xs : List Row) (m : Option (EnlNo × RmNo)) → is_managed xs m ≡ true → has is_lasting xs ≡ false → is_some m ≡ false
+no_manager xs None k none = refl
+no_manager xs (Some m) k none = let never = none_last xs m.0.value none in absurd cc
 
 -- the table takes a new one where there is room
 pub taken : (e : EnlNo) (c : Class) (xs : List Row) → has_row e.value xs ≡ false → length xs < 32 → (is_volatile c ≡ false → how_many is_lasting xs < 16) → add_refusal e c xs ≡ None

@@ -284,3 +284,15 @@ without_nothing n ws none = ap (without n) none
 
 pub without_fewer : (n : ℕ) (ws : List Waiter) → length ws ≡ 0 → length (without n ws) ≡ 0
 without_fewer n ws none = let less = length-filter-le (λ w. not (n == w.0)) ws in omega (arith, less, none)
+
+-- the place that is found is of this number
+pub found_number : (e : ℕ) (ws : List Waiter) (n : ℕ) (f : EnlNo) (r : RmNo) (c : Class) → find (is_place_of e) ws ≡ Some (n, Place f r c) → e ≡ f.value
+found_number e [] n f r c k = absurd cc
+found_number e (w ∷ ws) n f r c k = step (is_place_of e w) refl k (λ g. found_number e ws n f r c g)
+  where
+    step : (b : Bool) → is_place_of e w ≡ b → cond b (Some w) (find (is_place_of e) ws) ≡ Some (n, Place f r c) → (find (is_place_of e) ws ≡ Some (n, Place f r c) → e ≡ f.value) → e ≡ f.value
+    step true here g ih =
+        let same : w ≡ (n, Place f r c) = cc in
+        let passes : (e == f.value) ≡ true = subst (λ (v : Waiter). is_place_of e v ≡ true) same here in
+        grind (arith, nat_tests)
+    step false here g ih = ih g

@@ -2,8 +2,9 @@
 use Rattle.std.proofs.Common.{◌≡◌, ◌≤◌, ◌<◌, ◌==◌, ◌+◌, ◌&&◌, ◌||◌, ℕ, suc, Bool, true, false, not, List, [], ◌∷◌, length, Option, Some, None, is_some, if◌then◌else◌, refl, ap, sym, subst, ◌∙◌, arith}
 use Rattle.std.proofs.lemmas.Bool.Decides.{nat_tests}
 use Rattle.dtx_values.specs.declared.call.Call.{Call}
-use Rattle.dtx_values.specs.declared.call.Call.TheVariants.{Durable}
+use Rattle.dtx_values.specs.declared.call.Call.TheVariants.{Durable, Marshal}
 use Rattle.dtx_values.specs.declared.entry.Answer.TheVariants.{Wait}
+use Rattle.dtx_values.specs.declared.entry.Entry.{Entry}
 use Rattle.dtx_values.specs.declared.number.EnlNo.{EnlNo}
 use Rattle.dtx_values.specs.declared.number.RmNo.{RmNo}
 use Rattle.dtx_values.specs.declared.script.Support.{Support}
@@ -15,7 +16,7 @@ use Rattle.dtx_values.specs.Table.{has_row, how_many, insert_by}
 use Rattle.dtx_model.specs.Words.{has}
 use Rattle.dtx_model.specs.Answers.{has_promotion, local_answer}
 use Rattle.dtx_model.specs.Caused.{is_new}
-use Rattle.dtx_model.specs.Half.{Half}
+use Rattle.dtx_model.specs.Half.{Half, enlist_sent, is_promoting}
 use Rattle.dtx_model.specs.Waiting.{Waiter, class_by, is_place, is_place_of, waiter_line, wanted_by}
 use Rattle.dtx_model.specs.declared.waiting.Wanted.{Wanted}
 use Rattle.dtx_model.specs.declared.waiting.Wanted.TheVariants.{Identifier, Place}
@@ -27,7 +28,13 @@ use Rattle.local_half.specs.Waits.{AreWaiting, is_to_come}
 use Rattle.local_half.proofs.Links.{links-wait}
 use Rattle.local_half.proofs.Notes.{IsWaiting, waits_for}
 use Rattle.local_half.proofs.Rows.{rows-awaited, rows-waits}
+use Rattle.local_half.proofs.Lists.{has-insert_by}
 use Rattle.local_half.proofs.Waiters.{add_waiter}
+use Rattle.local_half.specs.Taken.{is_place_awaited, place_sent}
+use Rattle.dtx_model.specs.Facts.{begin_promotion, local_facts}
+use Rattle.dtx_values.specs.Owners.{cause_of}
+use Rattle.dtx_values.specs.Support.{is_single}
+use Rattle.dtx_values.specs.declared.words.Cause.TheVariants.{Marshal as MarshalCause}
 
 -- what a call waits for that has to is free
 record IsNewPlace (h : Half) (n : ℕ) (w : Wanted) : Type 0 where
@@ -81,3 +88,26 @@ pub started_cause : (promoted failed some : Bool) → (promoted || ((some && not
 started_cause true failed some k n = cc
 started_cause false failed true k n = cc
 started_cause false failed false k n = cc
+
+durable_started : (p g : Bool) (xs ys : List Entry) → (p || g) ≡ true → (if p then xs else if g then [] else ys) ≡ (if p then xs else [])
+durable_started true g xs ys k = refl
+durable_started false true xs ys k = refl
+durable_started false false xs ys k = absurd cc
+
+marshal_started : (p g : Bool) (ys : List Entry) → p ≡ false → (p || g) ≡ true → (if g then [] else ys) ≡ []
+marshal_started true g ys z k = absurd cc
+marshal_started false true ys z k = refl
+marshal_started false false ys z k = absurd cc
+
+-- what a call that waits writes where a promotion began
+pub started_facts : (t : ℕ) (h : Half) (c : Call) → is_its_own c ≡ true → local_answer t h c 0 ≡ Wait → has_promotion h.seen ≡ true → local_facts t h c Wait ≡ place_sent t h c
+started_facts t h (Durable u e r s) own waits started = durable_started h.seen.promoted (is_promoting h.seen) (enlist_sent t e r) (begin_promotion h (cause_of h.seen.table (is_single s))) started
+started_facts t h (Marshal u) own waits started =
+    marshal_started h.seen.promoted (is_promoting h.seen) (begin_promotion h (Some MarshalCause)) ((waits_for t h (Marshal u) own waits).unpromoted refl) started
+started_facts t h c own waits started = let never = (waits_for t h c own waits).kind in absurd cc
+
+pub place_awaited : (ws : List Waiter) (n : ℕ) (c : Call) → is_place_awaited (insert_by waiter_line (n, wanted_by c) ws) c ≡ true
+place_awaited ws n (Durable t e r s) =
+    let itself : (e.value == e.value) ≡ true = grind (arith, nat_tests) in
+    has-insert_by (is_place_of e.value) waiter_line (n, Place e r (class_by s)) ws ∙ rw itself refl
+place_awaited ws n _ = refl

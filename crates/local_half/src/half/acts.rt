@@ -1,5 +1,5 @@
 //! The local act: the first that applies.
-ghost use Rattle.std.specs.Prelude.{◌≡◌, [], ◌∷◌, IfSome, false, find, if◌then◌else◌, is_some, not, true};
+ghost use Rattle.std.specs.Prelude.{◌≡◌, ◌&&◌, [], ◌∷◌, IfSome, false, find, if◌then◌else◌, is_some, not, true};
 ghost use Rattle.dtx_values.specs.Outgoing.{written};
 ghost use Rattle.dtx_values.specs.Owners.{owner_of};
 ghost use Rattle.dtx_values.specs.Waves.{is_over, next_ask};
@@ -225,13 +225,20 @@ impl LocalHalf {
         self.next_act().is_some()
     }
 
+    /// Whether COMMIT is sent after the seal: the transaction is promoted, and no promotable has to request it.
+    fn commits_by_seal(&self) -> bool
+        ensures { result ≡ (self.now.half.seen.promoted && not (is_some (promotable_in self.now.half.seen.table))) }
+    {
+        self.handover.is_over() && self.promotable().is_none()
+    }
+
     /// Seals the transaction. COMMIT is sent where it is promoted, unless a promotable has to request it.
     fn seal(&mut self, out: &mut Outbox)
         requires { IsRoom 2 1 out.old }
         ensures state { self.new ≡ after [] self.old (Sealed ∷ commit_sent self.old.half.seen) }
         ensures out { out.new ≡ written out.old (Sealed ∷ commit_sent self.old.half.seen) }
     {
-        let commits = self.handover.is_over() && self.promotable().is_none();
+        let commits = self.commits_by_seal();
         self.write(Entry::Sealed, out);
         if commits {
             self.send_up(Conn::Begin, Message::BeginCommit, out);

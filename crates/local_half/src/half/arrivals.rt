@@ -72,8 +72,8 @@ impl LocalHalf {
         ensures state { self.new ≡ after [] self.old (place_given (find (is_place_of e.value) self.old.half.waits)) }
         ensures out { out.new ≡ written out.old (place_given (find (is_place_of e.value) self.old.half.waits)) }
     {
-        if let Some((n, Wanted::Place(_, _, class))) = waits::place_of(&self.waits, e) {
-            self.give_place(e, n, class, out);
+        if let Some((n, Wanted::Place(place, _, class))) = waits::place_of(&self.waits, e) {
+            self.give_place(place, n, class, out);
         }
     }
 

@@ -4,7 +4,7 @@ ghost use Rattle.dtx_values.specs.Outgoing.{written};
 ghost use Rattle.dtx_values.specs.Table.{was_asked};
 ghost use Rattle.dtx_values.specs.declared.entry.Entry.TheVariants.{Acked};
 ghost use Rattle.dtx_values.specs.declared.note.Reply.TheVariants.{Vote as VoteReply};
-ghost use Rattle.dtx_model.specs.Replies.{ack_on, all_due, conn_due, due_of, fits, is_volatile_row, may_still_vote, note_at, note_of_conn, owner_entries, promote_entries, reply_entries, request_message, request_of, row_note, vote_message, voted_by, with_note};
+ghost use Rattle.dtx_model.specs.Replies.{ack_on, all_due, conn_due, due_of, fits, is_volatile_row, may_still_vote, note_at, note_of_conn, owes_vote, owner_entries, promote_entries, reply_entries, request_message, request_of, row_note, vote_message, voted_by, with_note};
 ghost use Rattle.dtx_model.specs.Steps.{Replies, after as world_after};
 ghost use Rattle.dtx_model.specs.Words.{kth};
 ghost use Rattle.dtx_model.specs.World.{World};
@@ -122,11 +122,18 @@ impl LocalHalf {
         }
     }
 
+    /// Whether a vote of the enlistment with this row is due.
+    fn owes_vote(&self, x: &Row) -> bool
+        ensures { result ≡ owes_vote self.now.half.seen x.now }
+    {
+        x.is_marked() && !x.has_voted() && self.may_still_vote(x)
+    }
+
     /// To what a reply of the enlistment with this row is due where it isn't lost, acknowledgements left out.
     fn row_note(&self, x: &Row) -> Option<Note>
         ensures { result ≡ row_note self.now.half.seen x.now }
     {
-        if x.is_marked() && !x.has_voted() && self.may_still_vote(x) {
+        if self.owes_vote(x) {
             return Some(Note::Prepare);
         }
         if self.decided.is_some() {
@@ -145,17 +152,24 @@ impl LocalHalf {
         None
     }
 
-    /// Whether a reply may be due: a vote is awaited, the commit was handed over, a promotable was asked and
-    /// didn't reply, or a commit wasn't acknowledged. Where none may be, the rows needn't be looked through.
-    pub fn may_be_due(&self) -> bool
-        ensures exact { result ≡ may_owe self.now.half.seen }
-        ensures none { result ≡ false → all_due self.now.half.seen ≡ [] }
+    /// Whether a vote is awaited, the commit was handed over, a promotable was asked and didn't reply, or a commit wasn't acknowledged.
+    fn may_owe(&self) -> bool
+        ensures { result ≡ may_owe self.now.half.seen }
     {
         self.table.waits()
             || self.handed.is_some()
             || (self.promote_asked && !self.promote_replied)
             || (self.single_asked && !self.requested)
             || owe_ack(&self.branches)
+    }
+
+    /// Whether a reply may be due: a vote is awaited, the commit was handed over, a promotable was asked and
+    /// didn't reply, or a commit wasn't acknowledged. Where none may be, the rows needn't be looked through.
+    pub fn may_be_due(&self) -> bool
+        ensures exact { result ≡ may_owe self.now.half.seen }
+        ensures none { result ≡ false → all_due self.now.half.seen ≡ [] }
+    {
+        self.may_owe()
     }
 
     /// The lowest enlistment with a row of which a reply is due, with the note.
