@@ -1,20 +1,26 @@
 -- What a decision leaves as it is, and what it writes.
-use Rattle.std.proofs.Common.{◌≡◌, ◌≤◌, ◌==◌, ℕ, Bool, true, false, List, [], ◌∷◌, ◌++◌, length, if◌then◌else◌, refl, ap, ◌∙◌, arith}
+use Rattle.std.proofs.Common.{◌≡◌, ◌≤◌, ◌==◌, ℕ, Bool, true, false, not, ◌&&◌, List, [], ◌∷◌, ◌++◌, length, if◌then◌else◌, refl, ap, ◌∙◌, arith}
 use Rattle.std.proofs.lemmas.List.{length-map}
 use Rattle.dtx_values.specs.declared.entry.Answer.TheVariants.{Ended}
 use Rattle.dtx_values.specs.declared.entry.Entry.{Entry}
-use Rattle.dtx_values.specs.declared.entry.Entry.TheVariants.{Answered, Decided, Sent}
+use Rattle.dtx_values.specs.declared.entry.Entry.TheVariants.{Answered, Decided, Sent, Told}
 use Rattle.dtx_values.specs.declared.end.End.{End}
 use Rattle.dtx_values.specs.declared.words.Outcome.{Outcome}
 use Rattle.dtx_values.specs.Outgoing.{Outgoing, sends_of, written}
 use Rattle.dtx_model.specs.declared.waiting.EnteredCall.{EnteredCall}
 use Rattle.dtx_model.specs.Waiting.{Waiter}
-use Rattle.dtx_values.specs.declared.message.Conn.TheVariants.{Begin, Voter}
+use Rattle.dtx_values.specs.declared.message.Conn.TheVariants.{Begin, Voter, Enl, Again}
+use Rattle.dtx_values.specs.declared.message.Conn.{Conn}
+use Rattle.dtx_values.specs.declared.entry.Party.TheVariants.{Enl as Member}
+use Rattle.dtx_values.specs.declared.number.EnlNo.{EnlNo}
+use Rattle.dtx_values.specs.declared.words.Outcome.TheVariants.{Aborted}
+use Rattle.dtx_model.specs.Arrivals.{aborted_by, told_abort}
+use Rattle.local_half.specs.Told.{aborted_for}
 use Rattle.dtx_values.specs.declared.message.Dir.TheVariants.{Up}
 use Rattle.dtx_values.specs.declared.message.Message.TheVariants.{BeginAbort, VoterNo}
 use Rattle.dtx_values.specs.Ends.{may_abort_by_begin, may_abort_by_voter}
 use Rattle.dtx_model.specs.Observed.{Observed, track}
-use Rattle.dtx_model.specs.Half.{Half, decide, ended, fails_if, heeds, heeds_all, is_promoting, veto_message}
+use Rattle.dtx_model.specs.Half.{Half, decide, ended, fails_if, heeds, heeds_all, is_gone, is_promoting, stands, veto_message, was_told}
 use Rattle.local_half.specs.Half.{IsLeft}
 
 -- two blocks after each other
@@ -61,3 +67,19 @@ ended_length ws x = length-map ws (λ w. Answered w.0 (Ended x))
 pub message_by : (o p : Observed) → o.ends ≡ p.ends → veto_message o ≡ veto_message p
 message_by o p same =
     ap (λ (ns : List End). if may_abort_by_begin ns then Sent Begin Up BeginAbort ∷ [] else if may_abort_by_voter ns then Sent Voter Up VoterNo ∷ [] else []) same
+
+-- what follows of an abort doesn't hang on whom it was told to
+aborted_same : (h : Half) (e : EnlNo) (b : Bool) → aborted_by (heeds_all [] h (if b then Told (Member e) Aborted ∷ [] else [])) ≡ aborted_by h
+unfolding heeds_all track
+aborted_same h e true = refl
+aborted_same h e false = refl
+
+pub aborted_after : (h : Half) (e : EnlNo) → aborted_by (heeds_all [] h (told_abort h e)) ≡ aborted_by h
+aborted_after h e = aborted_same h e (stands h.seen e.value && not (was_told h.seen e.value) && not (is_gone h.seen e.value))
+
+-- over its own connection
+pub aborted_there : (h : Half) (c : Conn) (e : EnlNo) → ((f : EnlNo) → c ≡ Again f → ⊥) → aborted_for h c e ≡ told_abort h e ++ aborted_by h
+aborted_there h (Again f) e other = absurd (other f refl)
+aborted_there h Begin e other = refl
+aborted_there h Voter e other = refl
+aborted_there h (Enl f) e other = refl

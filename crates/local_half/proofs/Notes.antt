@@ -3,6 +3,15 @@ use Rattle.std.proofs.Common.{◌≡◌, ◌≤◌, ◌<◌, ◌==◌, ℕ, suc,
 use Rattle.std.proofs.lemmas.Bool.Decides.{nat_tests}
 use Rattle.dtx_values.specs.declared.call.Call.{Call}
 use Rattle.dtx_values.specs.declared.call.Call.TheVariants.{Begin, Volatile, Durable, Promotable as PromotableCall, Clone, Complete, Commit, Rollback, Marshal, Status, Tick}
+use Rattle.dtx_values.specs.declared.number.TxNo.{TxNo}
+use Rattle.dtx_values.specs.declared.number.RmNo.{RmNo}
+use Rattle.dtx_values.specs.declared.script.EnlistOption.{EnlistOption}
+use Rattle.dtx_values.specs.declared.script.EnlistOption.TheVariants.{Plain, DuringPrepare}
+use Rattle.dtx_values.specs.declared.script.Support.{Support}
+use Rattle.dtx_values.specs.declared.words.CloneKind.{CloneKind}
+use Rattle.dtx_values.specs.declared.words.Timeout.{Timeout}
+use Rattle.dtx_values.specs.declared.words.Vote.{Vote}
+use Rattle.dtx_model.specs.Facts.{local_facts}
 use Rattle.dtx_values.specs.declared.entry.Answer.{Answer}
 use Rattle.dtx_values.specs.declared.entry.Answer.TheVariants.{Fine, Id, Many, False, True, TooLate, Wait}
 use Rattle.dtx_values.specs.declared.number.CloneNo.{CloneNo}
@@ -23,12 +32,12 @@ use Rattle.dtx_model.specs.Observed.{Observed}
 use Rattle.dtx_model.specs.Half.{Half}
 use Rattle.dtx_model.specs.Promotes.{identifier_of}
 use Rattle.dtx_model.specs.Waiting.{is_place, is_place_of, wanted_by}
-use Rattle.dtx_model.specs.Answers.{clone_answer, complete_answer, durable_answer, gone_answer, has_promotion, if_begun, is_crowded, is_full, is_full_of_durables, local_answer, marshal_answer, places, promotable_answer, status_answer, unless_ended, unless_late, unless_over, volatile_answer, wait_for}
+use Rattle.dtx_model.specs.Answers.{class_of, clone_answer, complete_answer, durable_answer, gone_answer, has_promotion, if_begun, is_crowded, is_full, is_full_of_durables, local_answer, marshal_answer, places, promotable_answer, status_answer, unless_ended, unless_late, unless_over, volatile_answer, wait_for}
 use Rattle.dtx_model.specs.Words.{has}
 use Rattle.dtx_model.proofs.Bools.{not_false, not_true, or_false, or_first, or_second}
 use Rattle.dependent_clones.specs.Refusals.{clone_refusal}
-use Rattle.local_half.specs.Half.{is_awaited, is_done, is_its_own}
-use Rattle.local_half.specs.Taken.{HasPlace, cause_for}
+use Rattle.local_half.specs.Half.{Known, is_awaited, is_done, is_its_own}
+use Rattle.local_half.specs.Taken.{HasPlace, cause_for, with_call}
 use Rattle.local_half.proofs.Lists.{not_counted}
 
 -- some pass where their number isn't 0
@@ -297,3 +306,36 @@ may_clone h c k new =
     step true f k = absurd (cc)
     step false true k = absurd (cc)
     step false false k = (refl, refl)
+
+pub volatile_class : (x : EnlistOption) → is_volatile (class_of x) ≡ true
+volatile_class Plain = refl
+volatile_class DuringPrepare = refl
+
+-- a call that is done and makes no entry of its own
+marshal_undone : (t : ℕ) (h : Half) → is_done (unless_over h.seen (marshal_answer t h)) ≡ true → ⊥
+marshal_undone t h k = step h.seen.promoted h.seen.sealed (is_crowded h) (done_inside h.seen (marshal_answer t h) k).0
+  where
+    step : (p s c : Bool) → is_done (if p then Id (identifier_of t) else if s then TooLate else if c then Many 32 else Wait) ≡ true → ⊥
+    step true s c k = absurd (cc)
+    step false true c k = absurd (cc)
+    step false false true k = absurd (cc)
+    step false false false k = absurd (cc)
+
+pub idle : (t : ℕ) (k : Known) (c : Call) → is_its_own c ≡ true → is_done (local_answer t k.half c 0) ≡ true
+    → ((u : TxNo) (d : Timeout) → c ≡ Begin u d → ⊥) → ((u : TxNo) (e : EnlNo) (x : EnlistOption) (v : Option Vote) → c ≡ Volatile u e x v → ⊥) → ((u : TxNo) (e : EnlNo) (r : RmNo) (s : Support) → c ≡ Durable u e r s → ⊥)
+    → ((u : TxNo) (e : EnlNo) (r : RmNo) (v : Option Vote) (x : Option Outcome) (p : Option Bool) → c ≡ PromotableCall u e r v x p → ⊥) → ((u : TxNo) (d : CloneNo) (x : CloneKind) → c ≡ Clone u d x → ⊥) → ((d : CloneNo) → c ≡ Complete d → ⊥)
+    → ((u : TxNo) → c ≡ Commit u → ⊥) → ((u : TxNo) → c ≡ Rollback u → ⊥) → ((u : TxNo) (n : ℕ) → c ≡ Tick u n → ⊥)
+    → (local_facts t k.half c Fine ≡ []) × (with_call c k ≡ k)
+unfolding local_answer
+idle t k (Begin u d) own done a b e f g h i j l = absurd (a u d refl)
+idle t k (Volatile u d x v) own done a b e f g h i j l = absurd (b u d x v refl)
+idle t k (Durable u d r s) own done a b e f g h i j l = absurd (e u d r s refl)
+idle t k (PromotableCall u d r v x p) own done a b e f g h i j l = absurd (f u d r v x p refl)
+idle t k (Clone u d x) own done a b e f g h i j l = absurd (g u d x refl)
+idle t k (Complete d) own done a b e f g h i j l = absurd (h d refl)
+idle t k (Commit u) own done a b e f g h i j l = absurd (i u refl)
+idle t k (Rollback u) own done a b e f g h i j l = absurd (j u refl)
+idle t k (Tick u n) own done a b e f g h i j l = absurd (l u n refl)
+idle t k (Marshal u) own done a b e f g h i j l = absurd (marshal_undone t k.half done)
+idle t k (Status u) own done a b e f g h i j l = (refl, refl)
+idle t k _ own done a b e f g h i j l = absurd (cc)

@@ -111,3 +111,10 @@ place_awaited ws n (Durable t e r s) =
     let itself : (e.value == e.value) ≡ true = grind (arith, nat_tests) in
     has-insert_by (is_place_of e.value) waiter_line (n, Place e r (class_by s)) ws ∙ rw itself refl
 place_awaited ws n _ = refl
+
+-- no promotion began where none succeeded, none is under way, and nothing is decided
+pub never_started : (p f s d : Bool) → (p || ((s && not p) && not f)) ≡ false → d ≡ false → (f ≡ true → d ≡ true) → (p || s) ≡ false
+never_started true f s d k u g = absurd cc
+never_started false true s d k u g = let never = g refl in absurd cc
+never_started false false true d k u g = absurd cc
+never_started false false false d k u g = refl

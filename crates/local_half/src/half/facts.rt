@@ -167,6 +167,8 @@ impl LocalHalf {
         ensures state { self.new ≡ after [] (with_call c.now self.old) (local_facts self.old.transaction.value self.old.half c.now Fine) }
         ensures out { out.new ≡ written out.old (local_facts self.old.transaction.value self.old.half c.now Fine) }
     {
+        // A proof sees here what holds of the calls that wait.
+        let _ = &self.waits;
         match *c {
             Call::Begin(_, d) => self.write(Entry::Began(limit_of(d)), out),
             Call::Volatile(_, e, option, _) => self.write(Entry::Enlisted(e, class_of(option)), out),

@@ -13,7 +13,7 @@ pub returns-clause-state : goal.returns-clause-state
 unfolding veto
 returns-clause-state c =
     let h = c.args.self.now.half in
-    let same : veto_message c.decide.new.self.half.seen ≡ veto_message h.seen = message_by _ _ (ap (λ (k : Known). k.half.seen.ends) c.decide.ensures.state ∙ ends_decided h Aborted) in
+    let same : veto_message c.decide.new.self.half.seen ≡ veto_message h.seen = message_by c.decide.new.self.half.seen h.seen (ap (λ (k : Known). k.half.seen.ends) c.decide.ensures.state ∙ ends_decided h Aborted) in
     c.say_no.ensures.state ∙ ap (λ (es : List Entry). after [] c.decide.new.self es) same ∙ ap (λ (k : Known). after [] k (veto_message h.seen)) c.decide.ensures.state
     ∙ ap (λ (g : Half). record { transaction = c.args.self.now.transaction; half = g }) (heeds_all-append [] h (decide h Aborted) (veto_message h.seen))
 
@@ -21,6 +21,6 @@ pub returns-clause-out : goal.returns-clause-out
 unfolding veto
 returns-clause-out c =
     let h = c.args.self.now.half in
-    let same : veto_message c.decide.new.self.half.seen ≡ veto_message h.seen = message_by _ _ (ap (λ (k : Known). k.half.seen.ends) c.decide.ensures.state ∙ ends_decided h Aborted) in
+    let same : veto_message c.decide.new.self.half.seen ≡ veto_message h.seen = message_by c.decide.new.self.half.seen h.seen (ap (λ (k : Known). k.half.seen.ends) c.decide.ensures.state ∙ ends_decided h Aborted) in
     c.say_no.ensures.out ∙ ap (λ (es : List Entry). written c.decide.new.out es) same ∙ ap (λ (o : Outgoing). written o (veto_message h.seen)) c.decide.ensures.out
     ∙ written-written c.args.out.now (decide h Aborted) (veto_message h.seen)
