@@ -1,5 +1,5 @@
 -- The replies that are due: where none may be, and which is the first.
-use Rattle.std.proofs.Common.{◌≡◌, ◌≤◌, ◌<◌, ◌==◌, ℕ, zero, suc, true, false, not, List, [], ◌∷◌, map, find, Option, Some, None, is_some, ◌||◌, ◌&&◌, Bool, cond, if◌then◌else◌, nat_le, nat_lt, slice_get, refl, ap, sym, subst, arith, ◌∙◌}
+use Rattle.std.proofs.Common.{◌≡◌, ◌≤◌, ◌<◌, ◌-◌, ◌==◌, ℕ, zero, suc, true, false, not, List, [], ◌∷◌, map, find, drop, Option, Some, None, is_some, ◌||◌, ◌&&◌, Bool, cond, if◌then◌else◌, nat_le, nat_lt, slice_get, refl, ap, sym, subst, arith, ◌∙◌}
 use Rattle.std.specs.List.{cons_option, filter_map}
 use Rattle.std.proofs.lemmas.Bool.Decides.{nat_tests}
 use Rattle.dtx_values.specs.declared.message.Conn.{Conn}
@@ -47,21 +47,21 @@ unhanded (Some f) e k = absurd (cc)
 module _ (o : Observed) (k : may_owe o ≡ false) where
   parts : (has is_waiting o.table ≡ false) × (is_some o.handed ≡ false) × ((o.promote_asked && not o.promote_replied) ≡ false) × ((o.single_asked && not o.requested) ≡ false) × (has owes_ack o.branches ≡ false)
   parts =
-    let a = has is_waiting o.table in
-    let b = is_some o.handed in
-    let c = o.promote_asked && not o.promote_replied in
-    let d = o.single_asked && not o.requested in
-    let e = has owes_ack o.branches in
-    let four = or_first (((a || b) || c) || d) e k in
-    let three = or_first ((a || b) || c) d four in
-    let two = or_first (a || b) c three in
-    (or_first a b two, or_second a b two, or_second (a || b) c three, or_second ((a || b) || c) d four, or_second (((a || b) || c) || d) e k)
+      let a = has is_waiting o.table in
+      let b = is_some o.handed in
+      let c = o.promote_asked && not o.promote_replied in
+      let d = o.single_asked && not o.requested in
+      let e = has owes_ack o.branches in
+      let four = or_first (((a || b) || c) || d) e k in
+      let three = or_first ((a || b) || c) d four in
+      let two = or_first (a || b) c three in
+      (or_first a b two, or_second a b two, or_second (a || b) c three, or_second ((a || b) || c) d four, or_second (((a || b) || c) || d) e k)
 
   row_due : (e : ℕ) (x : Row) → find (is_of e) o.table ≡ Some x → row_note o x ≡ None
   row_due e x f =
-    let unvoted : (is_marked x && not (has_voted x)) ≡ false = found_fails (is_of e) is_waiting o.table x f parts.0 in
-    let outcome = unhanded o.handed x.number.value parts.1 in
-    rw (unvoted, parts.2, outcome, parts.3) refl
+      let unvoted : (is_marked x && not (has_voted x)) ≡ false = found_fails (is_of e) is_waiting o.table x f parts.0 in
+      let outcome = unhanded o.handed x.number.value parts.1 in
+      rw (unvoted, parts.2, outcome, parts.3) refl
 
   note_due : (e : ℕ) (x : Option Row) → find (is_of e) o.table ≡ x → note_of_row o x ≡ None
   note_due e None f = refl
@@ -324,3 +324,18 @@ voter_asked o e v n due fit = by (is_gone o e) (due ∙ ap (λ m. Some m) (prepa
     by : (g : Bool) → (if g then None else or_else (note_of_row o (find (is_of e) o.table)) (note_of_conn (conn_due o e))) ≡ Some Prepare → was_asked e o.table ≡ true
     by true k = absurd cc
     by false k = asked_row o e (find (is_of e) o.table) (conn_due o e) refl k
+
+dropped : {A : Type 0} (xs : List A) (n : ℕ) (x : A) → slice_get xs n ≡ Some x → drop n xs ≡ x ∷ drop (suc n) xs
+dropped [] n x e = absurd cc
+dropped (y ∷ ys) zero x e = let same : y ≡ x = cc in ap (λ z. z ∷ ys) same
+dropped (y ∷ ys) (suc n) x e = dropped ys n x e
+
+-- with the one before it too
+pub first_more : (o : Observed) (i : ℕ) (b : Branch) (found : Option (EnlNo × Note)) → rises_above 0 o.table ≡ true → 0 < i → slice_get o.branches (i - 1) ≡ Some b
+    → found ≡ first_due o (with_names (drop i o.branches) (map (λ (x : Row). x.number) o.table))
+    → lower (with_note b.enlistment (due_of o b.enlistment.value)) found ≡ first_due o (with_names (drop (i - 1) o.branches) (map (λ (x : Row). x.number) o.table))
+first_more o i b found rise some here so_far =
+    let next : suc (i - 1) ≡ i = omega arith in
+    let names : List Branch → List EnlNo = λ bs. with_names bs (map (λ (x : Row). x.number) o.table) in
+    let behind : drop (i - 1) o.branches ≡ b ∷ drop i o.branches = dropped o.branches (i - 1) b here ∙ ap (λ n. b ∷ drop n o.branches) next in
+    ap (lower (with_note b.enlistment (due_of o b.enlistment.value))) so_far ∙ sym (first_branch o b (drop i o.branches) rise) ∙ ap (λ (bs : List Branch). first_due o (names bs)) (sym behind)

@@ -64,7 +64,7 @@ pub links-wait : (d : Bool) (xs : List Row) (ws : List Waiter) (bs : List Branch
 links-wait d xs ws bs ns w l =
     links-held d d xs xs ws (insert_by waiter_line w ws) bs ns (λ k. k)
     (λ k f h. held_more xs xs ws (insert_by waiter_line w ws) f (λ p. p)
-      (λ p. or_right (lasts xs f) (has (is_place_of f) (insert_by waiter_line w ws)) (has-insert_by (is_place_of f) waiter_line w ws ∙ or_right (is_place_of f w) (has (is_place_of f) ws) p)) h) l
+    (λ p. or_right (lasts xs f) (has (is_place_of f) (insert_by waiter_line w ws)) (has-insert_by (is_place_of f) waiter_line w ws ∙ or_right (is_place_of f w) (has (is_place_of f) ws) p)) h) l
 
 -- a call is answered: where nothing is decided, it waits for no place
 places_kept : (n f : ℕ) (ws : List Waiter) → has (λ w. (n == w.0) && is_place w) ws ≡ false → has (is_place_of f) ws ≡ true → has (is_place_of f) (without n ws) ≡ true
@@ -208,7 +208,7 @@ links-opened d xs ws bs ns c t mine l =
       held = l.held;
       known_once = λ e. step e (same_connection e c) refl (how_many-insert_by (is_end_of e) end_order new others);
       of_branches = each-insert_by (λ n. is_of_branch bs n.connection) end_order new others
-        ∙ and_both (is_of_branch bs c) (each (λ n. is_of_branch bs n.connection) others) mine (each-filter (λ n. is_of_branch bs n.connection) (λ n. not (is_end_of c n)) ns l.of_branches);
+          ∙ and_both (is_of_branch bs c) (each (λ n. is_of_branch bs n.connection) others) mine (each-filter (λ n. is_of_branch bs n.connection) (λ n. not (is_end_of c n)) ns l.of_branches);
     }
   where
     step : (e : Conn) (b : Bool) → same_connection e c ≡ b

@@ -294,7 +294,6 @@ waits_for t h (Status u) own k = absurd (begun_waits h.seen.limit (status_answer
 waits_for t h (Tick u n) own k = absurd (begun_waits h.seen.limit Fine (λ q. absurd (cc)) k)
 waits_for t h _ own k = absurd (cc)
 
-
 -- a new clone whose call is done is made
 pub may_clone : (h : Half) (c : CloneNo) → is_done (unless_over h.seen (clone_answer h.seen.commit (length h.seen.clones))) ≡ true → not (has (is_clone c.value) h.seen.clones) ≡ true
     → clone_refusal c h.seen.commit h.seen.clones ≡ None

@@ -1,5 +1,5 @@
 //! The enlistments at the coordinator, in order of number.
-ghost use Rattle.std.specs.Prelude.{◌≡◌, ◌<◌, ◌≤◌, ◌&&◌, not, length, map, filter, find, vec_len, vec_capacity};
+ghost use Rattle.std.specs.Prelude.{◌≡◌, ◌<◌, ◌≤◌, ◌&&◌, not, length, map, filter, find, slice_get, Some, vec_len, vec_capacity};
 ghost use Rattle.std.specs.List.{insert, list_any};
 ghost use Rattle.dtx_values.specs.Table.{insert_by};
 ghost use Rattle.dtx_values.specs.declared.entry.Entry.TheVariants.{Sent, Got};
@@ -140,6 +140,14 @@ pub fn branch_of(branches: &[Branch], e: EnlNo) -> Option<Branch>
     ensures { result ≡ find (is_branch e.value) branches.now }
 {
     branches.iter().copied().find(|b| b.enlistment == e)
+}
+
+/// The enlistment at an index.
+pub fn branch_at(branches: &[Branch], i: usize) -> Branch
+    requires { i < length branches.now }
+    ensures { slice_get branches.now i ≡ Some result }
+{
+    branches[i]
 }
 
 /// Whether one of them didn't acknowledge its commit.

@@ -29,8 +29,8 @@ use crate::waits::{self, wanted_by};
 use dependent_clones::Clones;
 use dtx_model::{Branch, Listener, Wanted};
 use dtx_values::{
-    Answer, Ask, CALLS, Call, Cause, Class, CloneKind, Conn, DURABLES, Dir, ENLISTMENTS, EnlNo, Entry,
-    Message, Outbox, Outcome, Party, RmNo, Row, TxNo, insert_in_order,
+    Answer, Ask, CALLS, Call, Cause, Class, CloneKind, Conn, DURABLES, Dir, ENLISTMENTS, EnlNo,
+    Entry, Message, Outbox, Outcome, Party, RmNo, Row, TxNo, insert_in_order,
 };
 use durable_enlist::owner_of;
 use enlist_table::EnlistTable;
@@ -188,13 +188,13 @@ impl Model for LocalHalf {
     } };
 
     ghost invariant = { λ m. (ENLISTMENTS ≤ vec_capacity m.listeners) × (DURABLES ≤ vec_capacity m.branches) × (CALLS ≤ vec_capacity m.waits)
-      × (length m.listeners.items ≡ length m.table)
-      × AreRows m.limit m.handover.over m.table m.manager m.waits.items
-      × AreWaiting m.table m.waits.items
-      × AreLinked (is_some m.decided) m.table m.waits.items m.branches.items m.proxy
-      × (m.handover.failed ≡ true → is_some m.decided ≡ true)
-      × ((m.handover.over || is_some m.handover.cause) ≡ false → m.waits.items ≡ [])
-      × (m.any_lost ≡ false → how_many is_lost m.listeners.items ≡ 0) };
+        × (length m.listeners.items ≡ length m.table)
+        × AreRows m.limit m.handover.over m.table m.manager m.waits.items
+        × AreWaiting m.table m.waits.items
+        × AreLinked (is_some m.decided) m.table m.waits.items m.branches.items m.proxy
+        × (m.handover.failed ≡ true → is_some m.decided ≡ true)
+        × ((m.handover.over || is_some m.handover.cause) ≡ false → m.waits.items ≡ [])
+        × (m.any_lost ≡ false → how_many is_lost m.listeners.items ≡ 0) };
 }
 
 /// An enlistment that was told nothing yet.
@@ -580,7 +580,10 @@ impl LocalHalf {
         let act = self.handover.got(news);
         if act == HandoverAct::Over {
             if let Some(cause) = self.handover.cause() {
-                put_out(Entry::Promoted(NODE + u128::from(self.transaction.get()), cause), out);
+                put_out(
+                    Entry::Promoted(NODE + u128::from(self.transaction.get()), cause),
+                    out,
+                );
             }
         }
         act

@@ -31,7 +31,10 @@ impl LocalHalf {
         }
         if self.hand_on(&ProxyNews::Begun(id), out) == HandoverAct::SendVoter {
             let id = self.identifier();
-            self.write(Entry::Sent(Conn::Voter, Dir::Up, Message::VoterVoter(id)), out);
+            self.write(
+                Entry::Sent(Conn::Voter, Dir::Up, Message::VoterVoter(id)),
+                out,
+            );
         }
     }
 
@@ -186,7 +189,10 @@ impl LocalHalf {
             ProxyNews::Refused(_, _) => self.refused(out),
             ProxyNews::AskVote => {}
             ProxyNews::PrepareFor(e) => self.write(Entry::Asked(e, Ask::Prepare), out),
-            ProxyNews::CommitFor(e) => self.write(Entry::Told(Party::Enl(e), Outcome::Committed), out),
+            ProxyNews::CommitFor(e) => self.write(
+                Entry::Told(Party::Enl(e), Outcome::Committed),
+                out,
+            ),
             ProxyNews::AbortFor(e) => self.aborted_for(c, e, out),
             ProxyNews::OutcomeIs(o) => self.learn(o, out),
             ProxyNews::Lost(_) | ProxyNews::AllLost | ProxyNews::Unfit => self.ended(c, out),

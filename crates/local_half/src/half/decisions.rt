@@ -78,8 +78,14 @@ impl LocalHalf {
         ensures out { out.new ≡ written out.old (veto_message self.old.half.seen) }
     {
         match self.proxy.may_send_abort() {
-            Some(Conn::Begin) => self.write(Entry::Sent(Conn::Begin, Dir::Up, Message::BeginAbort), out),
-            Some(Conn::Voter) => self.write(Entry::Sent(Conn::Voter, Dir::Up, Message::VoterNo), out),
+            Some(Conn::Begin) => self.write(
+                Entry::Sent(Conn::Begin, Dir::Up, Message::BeginAbort),
+                out,
+            ),
+            Some(Conn::Voter) => self.write(
+                Entry::Sent(Conn::Voter, Dir::Up, Message::VoterNo),
+                out,
+            ),
             _ => {}
         }
     }
@@ -118,7 +124,10 @@ impl LocalHalf {
             rm,
             enl: e,
         };
-        self.write(Entry::Sent(Conn::Enl(e), Dir::Up, Message::EnlistEnlist(info)), out);
+        self.write(
+            Entry::Sent(Conn::Enl(e), Dir::Up, Message::EnlistEnlist(info)),
+            out,
+        );
     }
 
     /// Gives each call that waits what it waits for: the identifier, or its ENLIST is sent.

@@ -21,12 +21,12 @@ ghost use Rattle.local_half.specs.Taken.{HasPlace, begin_sent, cause_for, is_pla
 
 use super::LocalHalf;
 use crate::branches::branch_of;
+use crate::outgoing::put_out;
 use crate::time::{limit_of, reaches, ticked};
 use crate::votes::is_evident;
-use crate::outgoing::put_out;
 use dtx_values::{
-    ActorNo, Answer, Call, Cause, Class, Conn, Dir, EnlNo, EnlistOption, Entry, Info, Message, Outbox,
-    Outcome, RmNo,
+    ActorNo, Answer, Call, Cause, Class, Conn, Dir, EnlNo, EnlistOption, Entry, Info, Message,
+    Outbox, Outcome, RmNo,
 };
 use durable_enlist::cause_of;
 use light_committer::owner_lost;
@@ -171,7 +171,10 @@ impl LocalHalf {
         let _ = &self.waits;
         match *c {
             Call::Begin(_, d) => self.write(Entry::Began(limit_of(d)), out),
-            Call::Volatile(_, e, option, _) => self.write(Entry::Enlisted(e, class_of(option)), out),
+            Call::Volatile(_, e, option, _) => self.write(
+                Entry::Enlisted(e, class_of(option)),
+                out,
+            ),
             Call::Durable(_, e, r, _) => self.own(e, Class::DurableSingle, r, out),
             Call::Promotable(_, e, r, _, _, _) => {
                 self.own(e, Class::Promotable, r, out);
@@ -244,6 +247,8 @@ impl LocalHalf {
             → linked ≡ false → open_ones w e ≡ []
             → Follows self.old.transaction.value (world_after self.old.transaction.value w (Calls n a (Gone e) 0)) self.new.half }
     {
+        // A proof sees here that the transaction was begun, since the enlistment stands.
+        let _ = &self.limit;
         self.write(Entry::Lost(e), out);
         if !linked {
             self.gone_decides(e, out);
@@ -265,7 +270,14 @@ impl LocalHalf {
                 enl: b.enlistment,
             };
             self.write(Entry::Reenlisted(b.enlistment), out);
-            self.write(Entry::Sent(Conn::Again(b.enlistment), Dir::Up, Message::ReenlistReenlist(info)), out);
+            self.write(
+                Entry::Sent(
+                    Conn::Again(b.enlistment),
+                    Dir::Up,
+                    Message::ReenlistReenlist(info),
+                ),
+                out,
+            );
         }
     }
 }

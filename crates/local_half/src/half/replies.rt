@@ -1,7 +1,7 @@
 //! The replies that are due, and what a reply writes.
 ghost use Rattle.std.specs.Prelude.{◌≡◌, [], ◌∷◌, Some, false, find, is_some, map, true};
 ghost use Rattle.dtx_values.specs.Outgoing.{written};
-ghost use Rattle.dtx_values.specs.Table.{was_asked};
+ghost use Rattle.dtx_values.specs.Table.{rises_above, was_asked};
 ghost use Rattle.dtx_values.specs.declared.entry.Entry.TheVariants.{Acked};
 ghost use Rattle.dtx_values.specs.declared.note.Reply.TheVariants.{Vote as VoteReply};
 ghost use Rattle.dtx_model.specs.Replies.{ack_on, all_due, conn_due, due_of, fits, is_volatile_row, may_still_vote, note_at, note_of_conn, owes_vote, owner_entries, promote_entries, reply_entries, request_message, request_of, row_note, vote_message, voted_by, with_note};
@@ -11,8 +11,10 @@ ghost use Rattle.dtx_model.specs.World.{World};
 ghost use Rattle.local_half.specs.Half.{Follows, HasRoom, IsRoom, after, first_due, fits_due, lower, may_owe};
 
 use super::LocalHalf;
-use crate::branches::{branch_of, owe_ack};
-use dtx_values::{Class, Conn, Dir, EnlNo, Entry, Message, Note, Outbox, Outcome, Reply, Request, Row, Vote};
+use crate::branches::{branch_at, branch_of, owe_ack};
+use dtx_values::{
+    Class, Conn, Dir, EnlNo, Entry, Message, Note, Outbox, Outcome, Reply, Request, Row, Vote,
+};
 
 /// The message of a durable or promotable enlistment's vote.
 fn vote_message(v: Vote) -> Message
@@ -172,6 +174,13 @@ impl LocalHalf {
         self.may_owe()
     }
 
+    /// The numbers of the rows rise.
+    fn rows_rise(&self)
+        ensures { rises_above 0 self.now.half.seen.table ≡ true }
+    {
+        let _ = self.table.rows();
+    }
+
     /// The lowest enlistment with a row of which a reply is due, with the note.
     fn first_by_rows(&self) -> Option<(EnlNo, Note)>
         ensures { result ≡ first_due self.now.half.seen (map (λ x. x.number) self.now.half.seen.table) }
@@ -196,11 +205,13 @@ impl LocalHalf {
     pub fn due(&self) -> Option<(EnlNo, Note)>
         ensures { result ≡ kth (all_due self.now.half.seen) 1 }
     {
+        self.rows_rise();
         let mut first = self.first_by_rows();
         let mut i = self.branches.len();
         while i > 0 {
             i -= 1;
-            first = lower(self.with_note(self.branches[i].enlistment), first);
+            let b = branch_at(&self.branches, i);
+            first = lower(self.with_note(b.enlistment), first);
         }
         first
     }

@@ -13,9 +13,14 @@ invariant_of-self c =
     let i = c.self.inside in
     let e = c.args.e.value in
     rw c.set_asked.ensures.marked (
-      b.0, b.1, b.2, b.3 ∙ sym (length-map i.table (mark_in e (marks i.table))),
+      b.0,
+      b.1,
+      b.2,
+      b.3 ∙ sym (length-map i.table (mark_in e (marks i.table))),
       rows-mark i.limit i.handover.over i.table i.manager i.waits.items e b.4,
       other_table i.table (with_mark e i.table) i.waits.items (λ f a. row-mark e i.table f) b.5,
       links-table (is_some i.decided) i.table (with_mark e i.table) i.waits.items i.branches.items i.proxy (lasts-mark e i.table) b.6,
-      b.7, b.8, b.9,
+      b.7,
+      b.8,
+      b.9,
     )

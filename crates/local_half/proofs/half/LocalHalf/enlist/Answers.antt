@@ -22,10 +22,14 @@ invariant_of-self c =
     let listeners = ap length c.insert_in_order.ensures.items ∙ length-insert_by listener_number _ i.listeners.items in
     let rows = length-insert_by number_of (fresh_row e c.args.class (marks i.table)) i.table in
     rw c.in-Ok.ensures.added (
-      omega (arith, capacity, b.0), b.1, b.2, omega (arith, listeners, rows, b.3),
+      omega (arith, capacity, b.0),
+      b.1,
+      b.2,
+      omega (arith, listeners, rows, b.3),
       rows-more i.limit i.handover.over i.table i.manager i.waits.items e c.args.class place.few place.few_last (λ p. place.alone) place.begun b.4,
       row_beside i.table i.waits.items e c.args.class place.unawaited b.5,
       links-row (is_some i.decided) i.table i.waits.items i.branches.items i.proxy e c.args.class b.6,
-      b.7, b.8,
+      b.7,
+      b.8,
       λ none. rw c.insert_in_order.ensures.items (how_many-insert_by is_lost listener_number c.listener.result i.listeners.items ∙ rw (ap (λ (l : Listener). l.lost) c.listener.ensures) (b.9 none)),
     )

@@ -39,10 +39,14 @@ invariant_of-self c =
     let listeners = ap length c.insert_in_order.ensures.items ∙ length-insert_by listener_number _ i.listeners.items in
     let rows = length-insert_by number_of (fresh_row e c.args.class (marks i.table)) i.table in
     rw (c.in-Ok.ensures.added, c.remove.ensures.items, c.remove.ensures.capacity) (
-      omega (arith, c.insert_in_order.ensures.capacity, b.0), b.1, b.2, omega (arith, listeners, rows, b.3),
+      omega (arith, c.insert_in_order.ensures.capacity, b.0),
+      b.1,
+      b.2,
+      omega (arith, listeners, rows, b.3),
       rows-placed i.limit i.handover.over i.table i.manager ws e n c.args.class promoted found b.4,
       row_beside i.table (without n ws) e c.args.class found.over (drop_waiter i.table ws n b.5),
       links-placed (is_some i.decided) i.table ws i.branches.items i.proxy e n c.args.class found b.6,
-      b.7, λ none. without_nothing n ws (b.8 none),
+      b.7,
+      λ none. without_nothing n ws (b.8 none),
       λ none. rw c.insert_in_order.ensures.items (how_many-insert_by is_lost listener_number c.listener.result i.listeners.items ∙ rw (ap (λ (l : Listener). l.lost) c.listener.ensures) (b.9 none)),
     )

@@ -12,7 +12,14 @@ invariant_of-self c =
     let i = c.self.inside in
     let e = c.args.e.value in
     rw (c.regain.ensures.items, c.regain.ensures.capacity, c.change.ensures.items, c.change.ensures.capacity) (
-      b.0, b.1, b.2, length-map i.listeners.items (come_back e) ∙ b.3, b.4, b.5,
+      b.0,
+      b.1,
+      b.2,
+      length-map i.listeners.items (come_back e) ∙ b.3,
+      b.4,
+      b.5,
       links-changed (is_some i.decided) i.table i.waits.items i.branches.items i.proxy e (Due None) b.6,
-      b.7, b.8, λ none. lost-come_back e i.listeners.items (b.9 none),
+      b.7,
+      b.8,
+      λ none. lost-come_back e i.listeners.items (b.9 none),
     )

@@ -18,11 +18,16 @@ invariant_of-self-in-Voted-1 c =
     let asked : was_asked e c.args.self.now.half.seen.table ≡ true = rw c.in-Voted.is at c.requires in
     let taken = c.take_vote.ensures.taken (subst (λ (k : Known). was_asked e k.half.seen.table ≡ true) (sym c.self-in-Voted.view_is) asked) in
     rw taken (
-      b.0, b.1, b.2, b.3 ∙ sym (length-map i.table (vote_in e v)),
+      b.0,
+      b.1,
+      b.2,
+      b.3 ∙ sym (length-map i.table (vote_in e v)),
       rows-vote i.limit i.handover.over i.table i.manager i.waits.items e v b.4,
       other_table i.table (with_vote e v i.table) i.waits.items (λ f a. row-vote e v i.table f) b.5,
       links-table (is_some i.decided) i.table (with_vote e v i.table) i.waits.items i.branches.items i.proxy (lasts-vote e v i.table) b.6,
-      b.7, b.8, b.9,
+      b.7,
+      b.8,
+      b.9,
     )
 
 pub invariant_of-self-in-Acked-1 : goal.invariant_of-self-in-Acked-1
@@ -30,6 +35,14 @@ invariant_of-self-in-Acked-1 c =
     let b = c.self-in-Acked.invariant in
     let i = c.self-in-Acked.inside in
     rw (c.change.ensures.items, c.change.ensures.capacity) (
-      b.0, b.1, b.2, b.3, b.4, b.5,
-      links-changed (is_some i.decided) i.table i.waits.items i.branches.items i.proxy c.in-Acked.e.value Acked b.6, b.7, b.8, b.9,
+      b.0,
+      b.1,
+      b.2,
+      b.3,
+      b.4,
+      b.5,
+      links-changed (is_some i.decided) i.table i.waits.items i.branches.items i.proxy c.in-Acked.e.value Acked b.6,
+      b.7,
+      b.8,
+      b.9,
     )

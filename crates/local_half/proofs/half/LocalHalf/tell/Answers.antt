@@ -12,9 +12,16 @@ invariant_of-self-then-eq c =
     let i = c.self.inside in
     let e = c.in-Enl.e.value in
     rw (c.tell.ensures.items, c.tell.ensures.capacity, c.change.ensures.items, c.change.ensures.capacity) (
-      b.0, b.1, b.2, length-map i.listeners.items (hear e) ∙ b.3, b.4, b.5,
+      b.0,
+      b.1,
+      b.2,
+      length-map i.listeners.items (hear e) ∙ b.3,
+      b.4,
+      b.5,
       links-changed (is_some i.decided) i.table i.waits.items i.branches.items i.proxy e Aborted b.6,
-      b.7, b.8, λ none. lost-hear e i.listeners.items ∙ b.9 none,
+      b.7,
+      b.8,
+      λ none. lost-hear e i.listeners.items ∙ b.9 none,
     )
 
 pub invariant_of-self-else-eq : goal.invariant_of-self-else-eq
@@ -23,5 +30,14 @@ invariant_of-self-else-eq c =
     let i = c.self.inside in
     let e = c.in-Enl.e.value in
     rw (c.tell.ensures.items, c.tell.ensures.capacity) (
-      b.0, b.1, b.2, length-map i.listeners.items (hear e) ∙ b.3, b.4, b.5, b.6, b.7, b.8, λ none. lost-hear e i.listeners.items ∙ b.9 none,
+      b.0,
+      b.1,
+      b.2,
+      length-map i.listeners.items (hear e) ∙ b.3,
+      b.4,
+      b.5,
+      b.6,
+      b.7,
+      b.8,
+      λ none. lost-hear e i.listeners.items ∙ b.9 none,
     )

@@ -18,9 +18,14 @@ invariant_of-self c =
     let ws = i.waits.items in
     let may = subst (λ (k : Known). MayTakeIn k.half (Answered n c.args.x)) (sym c.self.view_is) c.requires in
     rw (c.remove.ensures.items, c.remove.ensures.capacity) (
-      b.0, b.1, b.2, b.3,
+      b.0,
+      b.1,
+      b.2,
+      b.3,
       rows-waits i.limit i.handover.over i.table i.manager ws (without n ws) (how_many-filter-le is_place (λ w. not (n == w.0)) ws) (λ k z. without_fewer n ws z) b.4,
       drop_waiter i.table ws n b.5,
       links-answered (is_some i.decided) i.table ws i.branches.items i.proxy n may b.6,
-      b.7, λ none. without_nothing n ws (b.8 none), b.9,
+      b.7,
+      λ none. without_nothing n ws (b.8 none),
+      b.9,
     )

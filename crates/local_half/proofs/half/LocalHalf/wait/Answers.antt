@@ -14,5 +14,14 @@ invariant_of-self c =
     let started = subst (λ (k : Known). has_promotion k.half.seen ≡ true) (sym c.self.view_is) c.requires.started in
     let more = waits_more _ _ c.args.line c.args.c.now c.requires.own waits new i.manager b.4 b.5 b.6 in
     rw (c.add.ensures.items, c.wanted_by.ensures) (
-      b.0, b.1, omega (arith, c.add.ensures.capacity, b.2), b.3, more.rows, more.waiting, more.links, b.7, λ none. absurd (started_cause i.handover.over i.handover.failed (is_some i.handover.cause) started none), b.9,
+      b.0,
+      b.1,
+      omega (arith, c.add.ensures.capacity, b.2),
+      b.3,
+      more.rows,
+      more.waiting,
+      more.links,
+      b.7,
+      λ none. absurd (started_cause i.handover.over i.handover.failed (is_some i.handover.cause) started none),
+      b.9,
     )

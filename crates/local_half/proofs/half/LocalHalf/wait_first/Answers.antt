@@ -20,5 +20,14 @@ invariant_of-self c =
     let more = waits_more _ _ c.args.line c.args.c.now c.requires.own waits new i.manager b.4 b.5 b.6 in
     let unpromoted : i.handover.over ≡ false = or_first i.handover.over _ unstarted in
     rw (c.start.ensures, c.add.ensures.items, c.wanted_by.ensures) (
-      b.0, b.1, omega (arith, c.add.ensures.capacity, b.2), b.3, subst (λ p. AreRows i.limit p i.table i.manager (insert_by waiter_line (c.args.line, wanted_by c.args.c.now) i.waits.items)) unpromoted more.rows, more.waiting, more.links, λ k. absurd (cc), λ none. absurd (cc), b.9,
+      b.0,
+      b.1,
+      omega (arith, c.add.ensures.capacity, b.2),
+      b.3,
+      subst (λ p. AreRows i.limit p i.table i.manager (insert_by waiter_line (c.args.line, wanted_by c.args.c.now) i.waits.items)) unpromoted more.rows,
+      more.waiting,
+      more.links,
+      λ k. absurd (cc),
+      λ none. absurd (cc),
+      b.9,
     )
