@@ -1,5 +1,5 @@
 -- What a decision leaves as it is, and what it writes.
-use Rattle.std.proofs.Common.{◌≡◌, ◌≤◌, ◌==◌, ℕ, Bool, true, false, not, ◌&&◌, List, [], ◌∷◌, ◌++◌, length, if◌then◌else◌, refl, ap, ◌∙◌, arith}
+use Rattle.std.proofs.Common.{◌≡◌, ◌≤◌, ℕ, Bool, true, false, not, ◌&&◌, List, [], ◌∷◌, ◌++◌, length, if◌then◌else◌, refl, ap, arith}
 use Rattle.std.proofs.lemmas.List.{length-map}
 use Rattle.dtx_values.specs.declared.entry.Answer.TheVariants.{Ended}
 use Rattle.dtx_values.specs.declared.entry.Entry.{Entry}

@@ -4,12 +4,11 @@ use Rattle.std.specs.List.{cons_option, filter_map}
 use Rattle.std.proofs.lemmas.Bool.Decides.{nat_tests}
 use Rattle.dtx_values.specs.declared.message.Conn.{Conn}
 use Rattle.dtx_values.specs.declared.note.Note.{Note}
-use Rattle.dtx_values.specs.declared.note.Note.TheVariants.{Commit, Prepare, Promote as PromoteNote, Hand, Single}
+use Rattle.dtx_values.specs.declared.note.Note.TheVariants.{Prepare, Promote as PromoteNote, Hand, Single}
 use Rattle.dtx_values.specs.declared.note.Reply.TheVariants.{Vote as VoteReply}
 use Rattle.dtx_values.specs.declared.words.Vote.{Vote}
 use Rattle.dtx_values.specs.declared.number.EnlNo.{EnlNo}
 use Rattle.dtx_values.specs.declared.row.Row.{Row}
-use Rattle.dtx_values.specs.Class.{is_promotable}
 use Rattle.dtx_values.specs.Row.{has_voted, is_marked, is_of, number_of}
 use Rattle.dtx_values.specs.Table.{enl_number, insert_by, rises_above, was_asked}
 use Rattle.dtx_model.specs.declared.branch.Branch.{Branch}
@@ -17,7 +16,7 @@ use Rattle.dtx_model.specs.Observed.{Observed, is_branch}
 use Rattle.dtx_model.specs.Words.{has, kth, or_else}
 use Rattle.dtx_model.specs.Half.{is_gone, is_handed}
 use Rattle.dtx_model.specs.Replies.{all_due, conn_due, due_conn, due_of, fits, may_still_vote, names, note_at, note_of_conn, note_of_row, owes_outcome, owes_promotion, owes_request, row_note, with_name, with_names, with_note}
-use Rattle.dtx_model.proofs.Bools.{and_both, and_left, and_right, or_case, or_first, or_false, or_second}
+use Rattle.dtx_model.proofs.Bools.{and_both, and_left, and_right, or_case, or_first, or_second}
 use Rattle.enlist_table.specs.Waiting.{is_waiting}
 use Rattle.local_half.specs.Half.{first_due, lower, may_owe, owes_ack}
 

@@ -1,5 +1,5 @@
 -- The enlistments at the coordinator and the connections: how many they are, and that each connection is of one of them.
-use Rattle.std.proofs.Common.{◌≡◌, ◌≤◌, ◌<◌, ◌==◌, ◌+◌, ◌&&◌, ◌||◌, ℕ, suc, Bool, true, false, not, List, [], ◌∷◌, map, filter, find, length, Option, Some, None, is_some, cond, if◌then◌else◌, refl, ap, sym, subst, ◌∙◌, arith}
+use Rattle.std.proofs.Common.{◌≡◌, ◌≤◌, ◌<◌, ◌==◌, ◌+◌, ◌&&◌, ◌||◌, ℕ, suc, Bool, true, false, not, List, [], ◌∷◌, map, filter, find, length, Some, None, is_some, cond, if◌then◌else◌, refl, ap, sym, subst, ◌∙◌, arith}
 use Rattle.std.proofs.lemmas.Bool.Decides.{nat_tests}
 use Rattle.std.proofs.lemmas.List.{length-map}
 use Rattle.dtx_values.specs.declared.end.End.{End}
@@ -8,7 +8,7 @@ use Rattle.dtx_values.specs.declared.message.Conn.{Conn}
 use Rattle.dtx_values.specs.declared.message.Conn.TheVariants.{Begin, Voter, Enl, Again}
 use Rattle.dtx_values.specs.declared.message.Dir.TheVariants.{Up, Down}
 use Rattle.dtx_values.specs.declared.message.Message.{Message}
-use Rattle.dtx_values.specs.declared.message.Message.TheVariants.{BeginBegin, VoterVoter, EnlistEnlist, EnlistEnlisted, EnlistCommit, ReenlistReenlist, ReenlistCommitted}
+use Rattle.dtx_values.specs.declared.message.Message.TheVariants.{EnlistEnlist, EnlistEnlisted, EnlistCommit, ReenlistReenlist, ReenlistCommitted}
 use Rattle.dtx_values.specs.declared.number.EnlNo.{EnlNo}
 use Rattle.dtx_values.specs.declared.number.RmNo.{RmNo}
 use Rattle.dtx_values.specs.declared.row.Row.{Row}
@@ -24,7 +24,7 @@ use Rattle.dtx_model.specs.Half.{Half}
 use Rattle.dtx_model.specs.Observed.{branch_number, branches_after, is_branch, with_branch}
 use Rattle.dtx_model.specs.declared.waiting.Wanted.TheVariants.{Identifier, Place}
 use Rattle.dtx_model.specs.Waiting.{Waiter, is_place, is_place_of, waiter_line}
-use Rattle.dtx_model.proofs.Bools.{and_both, and_left, and_never, and_right, not_true, or_case, or_first, or_right, or_second}
+use Rattle.dtx_model.proofs.Bools.{and_both, and_never, not_true, or_case, or_first, or_right, or_second}
 use Rattle.dtx_model.proofs.Counts.{how_many-insert_by, how_many-map, length-insert_by}
 use Rattle.local_half.specs.declared.branches.BranchChange.{BranchChange}
 use Rattle.local_half.specs.declared.branches.BranchChange.TheVariants.{Enlisted, Aborted, Acked, Due}
@@ -34,7 +34,7 @@ use Rattle.local_half.specs.Taken.{MaySend}
 use Rattle.local_half.specs.Waits.{without}
 use Rattle.local_half.proofs.Rows.{lasts-more, lasts-new}
 use Rattle.local_half.proofs.Waiters.{IsPlaceFound}
-use Rattle.local_half.proofs.Lists.{each-filter, each-insert_by, each-map, each-more, each-same, has-insert_by, has-map, how_many-all, how_many-filter-le, how_many-filter-none, how_many-same, none_left, picked, spread}
+use Rattle.local_half.proofs.Lists.{each-filter, each-insert_by, each-map, each-more, has-insert_by, has-map, how_many-all, how_many-filter-le, how_many-filter-none, how_many-same, none_left, picked, spread}
 
 -- The decision, the table and the calls that wait change: until something is decided each enlistment there is held still.
 pub links-held : (d f : Bool) (xs ys : List Row) (ws vs : List Waiter) (bs : List Branch) (ns : List End) → (f ≡ false → d ≡ false)

@@ -1,5 +1,5 @@
 -- The enlistments and the places that calls wait for: how many they are.
-use Rattle.std.proofs.Common.{◌≡◌, ◌≤◌, ◌<◌, ◌==◌, ◌+◌, ◌&&◌, ◌||◌, ℕ, suc, Bool, true, false, not, List, [], ◌∷◌, map, length, Option, Some, None, is_some, nat_le, if◌then◌else◌, refl, ap, sym, subst, ◌∙◌, arith}
+use Rattle.std.proofs.Common.{◌≡◌, ◌≤◌, ◌<◌, ◌==◌, ◌+◌, ◌&&◌, ◌||◌, ℕ, suc, Bool, true, false, not, List, [], ◌∷◌, length, Option, Some, None, is_some, nat_le, if◌then◌else◌, refl, ap, ◌∙◌, arith}
 use Rattle.std.proofs.lemmas.Bool.Decides.{nat_tests}
 use Rattle.std.proofs.lemmas.List.{length-map}
 use Rattle.dtx_values.specs.declared.number.EnlNo.{EnlNo}
@@ -9,7 +9,7 @@ use Rattle.dtx_values.specs.declared.words.Class.{Class}
 use Rattle.dtx_values.specs.declared.words.Vote.{Vote}
 use Rattle.dtx_values.specs.Class.{is_volatile}
 use Rattle.dtx_values.specs.Row.{fresh_row, is_lasting, is_of, mark_in, mark_row, number_of, vote_in, vote_row}
-use Rattle.dtx_values.specs.Table.{has_row, how_many, insert_by, marks, with_mark, with_row, with_vote}
+use Rattle.dtx_values.specs.Table.{has_row, how_many, marks, with_mark, with_row, with_vote}
 use Rattle.dtx_values.proofs.Counts.{how_many-le-length, how_many-none}
 use Rattle.dtx_model.specs.Words.{has}
 use Rattle.dtx_model.specs.Acts.{lasts}

@@ -1,5 +1,5 @@
 -- A call that has to wait: what is known with it.
-use Rattle.std.proofs.Common.{◌≡◌, ◌≤◌, ◌<◌, ◌==◌, ◌+◌, ◌&&◌, ◌||◌, ℕ, suc, Bool, true, false, not, List, [], ◌∷◌, length, Option, Some, None, is_some, if◌then◌else◌, refl, ap, sym, subst, ◌∙◌, arith}
+use Rattle.std.proofs.Common.{◌≡◌, ◌<◌, ◌==◌, ◌+◌, ◌&&◌, ◌||◌, ℕ, suc, Bool, true, false, not, List, [], length, Option, Some, is_some, if◌then◌else◌, refl, sym, subst, ◌∙◌, arith}
 use Rattle.std.proofs.lemmas.Bool.Decides.{nat_tests}
 use Rattle.dtx_values.specs.declared.call.Call.{Call}
 use Rattle.dtx_values.specs.declared.call.Call.TheVariants.{Durable, Marshal}
@@ -11,22 +11,21 @@ use Rattle.dtx_values.specs.declared.script.Support.{Support}
 use Rattle.dtx_values.specs.declared.script.Support.TheVariants.{SinglePhase, TwoPhase}
 use Rattle.dtx_values.specs.declared.row.Row.{Row}
 use Rattle.dtx_values.specs.Class.{is_volatile}
-use Rattle.dtx_values.specs.Row.{is_lasting, is_of}
+use Rattle.dtx_values.specs.Row.{is_lasting}
 use Rattle.dtx_values.specs.Table.{has_row, how_many, insert_by}
-use Rattle.dtx_model.specs.Words.{has}
 use Rattle.dtx_model.specs.Answers.{has_promotion, local_answer}
 use Rattle.dtx_model.specs.Caused.{is_new}
 use Rattle.dtx_model.specs.Half.{Half, enlist_sent, is_promoting}
 use Rattle.dtx_model.specs.Waiting.{Waiter, class_by, is_place, is_place_of, waiter_line, wanted_by}
 use Rattle.dtx_model.specs.declared.waiting.Wanted.{Wanted}
 use Rattle.dtx_model.specs.declared.waiting.Wanted.TheVariants.{Identifier, Place}
-use Rattle.dtx_model.proofs.Bools.{and_both, and_left, and_right, not_true, or_first}
+use Rattle.dtx_model.proofs.Bools.{and_both, and_left, and_right, not_true}
 use Rattle.dtx_model.proofs.Counts.{how_many-insert_by}
 use Rattle.local_half.specs.Half.{is_awaited, is_free, is_its_own, is_made_by_waiting, waits_at}
 use Rattle.local_half.specs.Linked.{AreLinked, AreRows}
 use Rattle.local_half.specs.Waits.{AreWaiting, is_to_come}
 use Rattle.local_half.proofs.Links.{links-wait}
-use Rattle.local_half.proofs.Notes.{IsWaiting, waits_for}
+use Rattle.local_half.proofs.Notes.{waits_for}
 use Rattle.local_half.proofs.Rows.{rows-awaited, rows-waits}
 use Rattle.local_half.proofs.Lists.{has-insert_by}
 use Rattle.local_half.proofs.Waiters.{add_waiter}

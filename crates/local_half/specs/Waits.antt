@@ -1,18 +1,14 @@
 -- The calls that wait, in order of their lines.
-use Rattle.std.specs.Prelude.{ℕ, suc, ◌+◌, ◌==◌, ◌≡◌, ◌≤◌, ◌<◌, nat_le, ◌&&◌, Bool, true, false, not, List, [], ◌∷◌, filter, drop, length, Option, Some, None}
+use Rattle.std.specs.Prelude.{ℕ, suc, ◌==◌, ◌≡◌, ◌≤◌, nat_le, ◌&&◌, Bool, true, false, not, List, [], ◌∷◌, filter, drop, length, Option, Some, None}
 use Rattle.dtx_values.specs.declared.limits.TheConstants.{CALLS}
 use Rattle.dtx_values.specs.declared.entry.Entry.TheVariants.{Answered}
 use Rattle.dtx_values.specs.declared.entry.Answer.TheVariants.{Ended}
-use Rattle.dtx_values.specs.declared.number.EnlNo.{EnlNo}
-use Rattle.dtx_values.specs.declared.number.RmNo.{RmNo}
 use Rattle.dtx_values.specs.declared.row.Row.{Row}
-use Rattle.dtx_values.specs.declared.words.Class.{Class}
 use Rattle.dtx_values.specs.declared.words.Outcome.{Outcome}
 use Rattle.dtx_values.specs.Class.{is_volatile}
-use Rattle.dtx_values.specs.Table.{has_row, how_many, insert_by}
+use Rattle.dtx_values.specs.Table.{has_row, how_many}
 use Rattle.dtx_model.specs.Words.{each, has}
-use Rattle.dtx_model.specs.Half.{Half, ended}
-use Rattle.dtx_model.specs.declared.waiting.Wanted.{Wanted}
+use Rattle.dtx_model.specs.Half.{ended}
 use Rattle.dtx_model.specs.declared.waiting.Wanted.TheVariants.{Identifier, Place}
 use Rattle.dtx_model.specs.Waiting.{Waiter, is_place, is_place_of, waiter_line}
 

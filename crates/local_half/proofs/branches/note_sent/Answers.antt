@@ -1,6 +1,3 @@
-use Rattle.std.proofs.Common.{arith}
-use Rattle.dtx_model.proofs.Counts.{length-insert_by}
-use Rattle.dtx_model.specs.Observed.{branch_number}
 use Rattle.local_half.proofs.Links.{room_for}
 use Rattle.local_half.proofs.branches.note_sent.Goals as goal
 

@@ -1,4 +1,4 @@
-use Rattle.std.proofs.Common.{[], ◌++◌, List, ap, sym, ◌∙◌}
+use Rattle.std.proofs.Common.{[], List, ap, sym, ◌∙◌}
 use Rattle.dtx_values.specs.declared.entry.Entry.{Entry}
 use Rattle.dtx_values.specs.Outgoing.{Outgoing, written}
 use Rattle.dtx_model.specs.Arrivals.{aborted_by, told_abort}

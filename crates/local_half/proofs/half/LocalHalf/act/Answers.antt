@@ -1,10 +1,8 @@
-use Rattle.std.proofs.Common.{◌≡◌, ◌∙◌, [], List, false, ap, sym}
+use Rattle.std.proofs.Common.{◌∙◌, [], List, ap, sym}
 use Rattle.dtx_values.specs.declared.entry.Entry.{Entry}
-use Rattle.dtx_model.specs.Acts.{act_entries}
 use Rattle.dtx_model.specs.Half.{heeds_all}
 use Rattle.dtx_model.specs.Outcome.{is_empty}
 use Rattle.local_half.specs.Half.{Known}
-use Rattle.local_half.specs.Told.{entries_of}
 use Rattle.local_half.proofs.Acting.{act_made}
 use Rattle.local_half.proofs.Following.{acted}
 use Rattle.local_half.proofs.half.LocalHalf.act.Goals as goal

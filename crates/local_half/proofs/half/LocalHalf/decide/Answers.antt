@@ -1,4 +1,4 @@
-use Rattle.std.proofs.Common.{arith, subst, sym, ◌∙◌}
+use Rattle.std.proofs.Common.{arith, subst, sym}
 use Rattle.dtx_values.specs.Outgoing.{Outgoing}
 use Rattle.dtx_model.specs.Half.{ended, is_promoting}
 use Rattle.local_half.specs.Half.{IsLeft}

@@ -1,8 +1,7 @@
-use Rattle.std.proofs.Common.{◌≡◌, ◌≤◌, ◌-◌, ◌∙◌, List, Some, ap, arith, drop, length, map, slice_get, subst, sym, true}
+use Rattle.std.proofs.Common.{◌≡◌, ◌-◌, ◌∙◌, List, Some, ap, arith, drop, map, slice_get, sym}
 use Rattle.dtx_values.specs.declared.row.Row.{Row}
-use Rattle.dtx_values.specs.Table.{rises_above}
 use Rattle.dtx_model.specs.declared.branch.Branch.{Branch}
-use Rattle.dtx_model.specs.Replies.{due_of, with_names, with_note}
+use Rattle.dtx_model.specs.Replies.{with_names}
 use Rattle.local_half.specs.Half.{Known, first_due, lower}
 use Rattle.local_half.proofs.Due.{first_more, first_of_all}
 use Rattle.local_half.proofs.half.LocalHalf.due.Goals as goal

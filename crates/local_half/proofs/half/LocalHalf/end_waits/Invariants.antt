@@ -1,4 +1,4 @@
-use Rattle.std.proofs.Common.{◌≡◌, ◌≤◌, List, [], length, true, is_some}
+use Rattle.std.proofs.Common.{◌≡◌, ◌≤◌, [], length, true, is_some}
 use Rattle.dtx_values.specs.Outgoing.{written}
 use Rattle.dtx_model.specs.Half.{ended}
 use Rattle.local_half.specs.Half.{after}

@@ -1,4 +1,4 @@
-use Rattle.std.proofs.Common.{◌≡◌, ◌≤◌, List, [], drop, length, false, is_some}
+use Rattle.std.proofs.Common.{◌≡◌, ◌≤◌, [], drop, length, false, is_some}
 use Rattle.std.specs.List.{flat_map}
 use Rattle.dtx_values.specs.Outgoing.{written}
 use Rattle.dtx_values.specs.Table.{how_many}

@@ -1,9 +1,9 @@
-use Rattle.std.proofs.Common.{[], ◌∷◌, List, ap, ◌∙◌, ◌≡◌}
+use Rattle.std.proofs.Common.{[], ◌∷◌, List, ap, ◌∙◌}
 use Rattle.dtx_values.specs.declared.entry.Entry.{Entry}
 use Rattle.dtx_values.specs.declared.entry.Entry.TheVariants.{Got}
 use Rattle.dtx_values.specs.declared.message.Dir.TheVariants.{Down}
 use Rattle.dtx_values.specs.Outgoing.{written}
-use Rattle.dtx_model.specs.Arrivals.{arrived, local_got}
+use Rattle.dtx_model.specs.Arrivals.{local_got}
 use Rattle.dtx_model.specs.Half.{heeds_all, sees}
 use Rattle.tm_proxy.specs.declared.news.ProxyNews.{ProxyNews}
 use Rattle.local_half.specs.Half.{Known, after}

@@ -1,4 +1,4 @@
-use Rattle.std.proofs.Common.{◌≡◌, ◌∙◌, Bool, true, false, not, is_some, Option, ap, refl, sym}
+use Rattle.std.proofs.Common.{◌≡◌, ◌∙◌, Bool, true, false, not, is_some, Option, ap, refl}
 use Rattle.dtx_values.specs.declared.words.Cause.{Cause}
 use Rattle.local_half.specs.Half.{Known}
 use Rattle.local_half.proofs.Following.{unpromoted}

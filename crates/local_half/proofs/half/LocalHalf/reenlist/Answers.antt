@@ -1,4 +1,4 @@
-use Rattle.std.proofs.Common.{◌≡◌, ◌∙◌, None, List, Some, find, true, ap, refl, sym}
+use Rattle.std.proofs.Common.{◌≡◌, ◌∙◌, None, List, Some, find, ap, refl, sym}
 use Rattle.dtx_model.specs.declared.branch.Branch.{Branch}
 use Rattle.dtx_model.specs.Observed.{branch_due, is_branch, track}
 use Rattle.dtx_model.specs.Half.{heeds_all}

@@ -1,4 +1,4 @@
-use Rattle.std.proofs.Common.{◌≡◌, ◌∙◌, true, is_some, subst, sym, ap}
+use Rattle.std.proofs.Common.{◌≡◌, ◌∙◌, true, is_some, subst, sym}
 use Rattle.std.proofs.lemmas.List.{length-map}
 use Rattle.dtx_values.specs.Row.{vote_in}
 use Rattle.dtx_values.specs.Table.{was_asked, with_vote}

@@ -1,5 +1,3 @@
-use Rattle.std.proofs.Common.{true}
-use Rattle.dtx_model.specs.Replies.{fits}
 use Rattle.local_half.proofs.Due.{voter_asked}
 use Rattle.local_half.proofs.half.LocalHalf.take_reply.Goals as goal
 

@@ -1,9 +1,8 @@
-use Rattle.std.proofs.Common.{[], ◌∷◌, ◌≡◌, ◌∙◌, List, ap, sym}
-use Rattle.dtx_values.specs.declared.end.End.{End}
+use Rattle.std.proofs.Common.{[], ◌≡◌, ◌∙◌, List, ap}
 use Rattle.dtx_values.specs.declared.entry.Entry.{Entry}
 use Rattle.dtx_values.specs.declared.words.Outcome.TheVariants.{Aborted}
 use Rattle.dtx_values.specs.Outgoing.{Outgoing, written}
-use Rattle.dtx_model.specs.Half.{Half, decide, heeds_all, veto, veto_message}
+use Rattle.dtx_model.specs.Half.{Half, decide, veto, veto_message}
 use Rattle.local_half.specs.Half.{Known, after}
 use Rattle.local_half.proofs.Deciding.{ends_decided, heeds_all-append, message_by}
 use Rattle.local_half.proofs.Writing.{written-written}

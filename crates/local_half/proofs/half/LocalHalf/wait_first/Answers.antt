@@ -1,7 +1,6 @@
-use Rattle.std.proofs.Common.{◌≡◌, ◌||◌, true, false, arith, is_some, subst, sym}
+use Rattle.std.proofs.Common.{◌≡◌, true, false, arith, subst, sym}
 use Rattle.dtx_values.specs.declared.entry.Answer.TheVariants.{Wait}
 use Rattle.dtx_model.specs.Answers.{has_promotion, local_answer}
-use Rattle.dtx_model.specs.Half.{is_promoting}
 use Rattle.dtx_values.specs.Table.{insert_by}
 use Rattle.dtx_model.specs.Waiting.{waiter_line, wanted_by}
 use Rattle.dtx_model.proofs.Bools.{or_first}

@@ -1,4 +1,4 @@
-use Rattle.std.proofs.Common.{◌∙◌, List, ap, arith, slice_get, subst}
+use Rattle.std.proofs.Common.{◌∙◌, List, ap, slice_get, subst}
 use Rattle.dtx_model.specs.Waiting.{Waiter}
 use Rattle.local_half.specs.Half.{Known}
 use Rattle.local_half.specs.Waits.{IsAt}
