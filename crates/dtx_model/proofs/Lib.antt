@@ -21,10 +21,10 @@ pub mod Cast
 pub mod Crossing
 pub mod Playing
 pub mod Working
-mod WorkedOutcomes
-mod WorkedPromotions
+pub mod WorkedOutcomes
+pub mod WorkedPromotions
 pub mod Replaying
-mod WorkedRecoveries
+pub mod WorkedRecoveries
 pub mod NarrowCalls
 pub mod NarrowFacts
 pub mod Local

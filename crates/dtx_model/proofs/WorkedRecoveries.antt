@@ -89,7 +89,7 @@ finds_the_record_lines =
     says a1 RestartLine ∷
     says a1 (ReenlistLine e1) ∷ []
 
-abbrev finds_the_record_rest : List Entry
+abbrev pub finds_the_record_rest : List Entry
 finds_the_record_rest =
     Restarted true ∷
     Called 7 a1 Fine ∷ Reenlisted e1 ∷ Sent (Again e1) Up (ReenlistReenlist (info 1 e1 r1)) ∷
@@ -99,7 +99,7 @@ finds_the_record_rest =
     Got (Again e1) Up ReenlistAck ∷
     Freed ∷ []
 
-abbrev finds_the_record_history : List Entry
+abbrev pub finds_the_record_history : List Entry
 finds_the_record_history = asked ++ prepared ++ stopped ++ finds_the_record_rest
 
 finds_the_record : IsWorked finds_the_record_lines (StoppedNow ∷ []) (true ∷ []) finds_the_record_history
@@ -121,14 +121,14 @@ finds_none_lines =
     says a1 RestartLine ∷
     says a1 (ReenlistLine e1) ∷ []
 
-abbrev finds_none_rest : List Entry
+abbrev pub finds_none_rest : List Entry
 finds_none_rest =
     Restarted false ∷
     Called 7 a1 Fine ∷ Reenlisted e1 ∷ Sent (Again e1) Up (ReenlistReenlist (info 1 e1 r1)) ∷
     Got (Again e1) Up (ReenlistReenlist (info 1 e1 r1)) ∷ Sent (Again e1) Down ReenlistAborted ∷
     Got (Again e1) Down ReenlistAborted ∷ Told (Member e1) Aborted ∷ []
 
-abbrev finds_none_history : List Entry
+abbrev pub finds_none_history : List Entry
 finds_none_history = asked ++ prepared ++ stopped ++ finds_none_rest
 
 finds_none : IsWorked finds_none_lines (StoppedNow ∷ []) (false ∷ []) finds_none_history
@@ -152,7 +152,7 @@ comes_back_twice_lines =
     says a1 (AwaitLine t1) ∷
     says a1 (ReenlistLine e1) ∷ []
 
-abbrev comes_back_twice_rest : List Entry
+abbrev pub comes_back_twice_rest : List Entry
 comes_back_twice_rest =
     Restarted true ∷
     Called 7 a1 Fine ∷ Reenlisted e1 ∷ Sent (Again e1) Up (ReenlistReenlist (info 1 e1 r1)) ∷
@@ -164,7 +164,7 @@ comes_back_twice_rest =
     Called 8 a1 (OutcomeIs InDoubt) ∷
     Called 9 a1 Finished ∷ []
 
-abbrev comes_back_twice_history : List Entry
+abbrev pub comes_back_twice_history : List Entry
 comes_back_twice_history = asked ++ prepared ++ stopped ++ comes_back_twice_rest
 
 comes_back_twice : IsWorked comes_back_twice_lines (StoppedNow ∷ []) (true ∷ []) comes_back_twice_history
@@ -187,14 +187,14 @@ is_recovered_lines =
     says a1 (RecoveredLine t1 r1) ∷
     says a1 (ReenlistLine e1) ∷ []
 
-abbrev is_recovered_rest : List Entry
+abbrev pub is_recovered_rest : List Entry
 is_recovered_rest =
     Restarted true ∷
     Called 7 a1 Fine ∷ RecoveredEntry r1 ∷
     Called 8 a1 (Over r1) ∷
     Freed ∷ []
 
-abbrev is_recovered_history : List Entry
+abbrev pub is_recovered_history : List Entry
 is_recovered_history = asked ++ prepared ++ stopped ++ is_recovered_rest
 
 is_recovered : IsWorked is_recovered_lines (StoppedNow ∷ []) (true ∷ []) is_recovered_history

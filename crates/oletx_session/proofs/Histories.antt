@@ -16,8 +16,8 @@ use Rattle.dtx_values.specs.Lines.{has_line}
 use Rattle.dtx_model.specs.Outcome.{is_empty}
 use Rattle.dtx_model.specs.Words.{each}
 use Rattle.dtx_model.specs.Wires.{MayCross, begins_ended, ended_after, ends, holds, is_ended, is_kept, is_lost_wire, is_next, is_open_wire, is_opening, is_stopped, kept, in_transit, loses, lost_after, lost_since, opened_with, opens, same_connection, same_direction, sent_behind, without_first}
-use Rattle.oletx_session.specs.Traffic.{Becomes, Delivers, Ends, IsCut, Spells, Wire, fresh, lane, lost_with, may_send, sent_on, wire_of, with_bytes, with_end}
-use Rattle.oletx_session.specs.Carries.{Carries, IsLane, IsStarted, IsWire}
+use Rattle.oletx_session.specs.Traffic.{Becomes, Delivers, Ends, IsCut, Spells, Wire, fresh, lane, lost_at_once, lost_with, may_send, sent_on, wire_of, with_bytes, with_end}
+use Rattle.oletx_session.specs.Carries.{Carries, IsLane, IsStarted, IsStartedLost, IsWire}
 use Rattle.oletx_session.proofs.Conns.{same_is, same_self, same_way_is}
 use Rattle.oletx_session.proofs.Reading.{first_read, none_read}
 
@@ -209,9 +209,9 @@ carried_sent c d m old new h None at may valid becomes carries shut = absurd cc
 carried_sent c d m old new h (Some w) at may valid becomes carries shut = carried_on c d m w old new h valid at becomes carries shut
 
 -- what opens a connection, opens it
-opened_since : (c : Conn) (h : List Entry) (e : Entry) (o : Option Bool) → opens c e ≡ true → is_stopped h ≡ false → lost_after c h e o ≡ Some false
-opened_since c h e None opening running = cond-true (opens c e) (Some (is_stopped h)) None opening ∙ ap Some running
-opened_since c h e (Some lost) opening running = cond-true (opens c e) (Some (is_stopped h)) (Some (lost || loses c e)) opening ∙ ap Some running
+opened_since : (c : Conn) (h : List Entry) (e : Entry) (o : Option Bool) → opens c e ≡ true → lost_after c h e o ≡ Some (is_stopped h)
+opened_since c h e None opening = cond-true (opens c e) (Some (is_stopped h)) None opening
+opened_since c h e (Some lost) opening = cond-true (opens c e) (Some (is_stopped h)) (Some (lost || loses c e)) opening
 
 -- a message alone is spelled by its frame
 spell_one : (m : Message) → is_valid m ≡ true → Spells ([] ++ frame_of m) (m ∷ [])
@@ -239,7 +239,33 @@ carried_opened c Down m old new h valid becomes started opening running = absurd
 carried_opened c Up m old new h valid becomes started opening running =
     let P : Option Wire → Type 0 = λ o. IfSome o (λ w. Becomes c (sent_on Up m w) old new) in
     spread c (sent_on Up m (fresh c)) old new h (Sent c Up m ∷ h) (subst P started.here becomes) started.others
-    (opened_since c h (Sent c Up m) (lost_since c h) opening running, λ e. opened_lane c e m h valid opening running)
+    (opened_since c h (Sent c Up m) (lost_since c h) opening ∙ ap Some running, λ e. opened_lane c e m h valid opening running)
+    (λ x other. lost_kept x h (Sent c Up m) (lost_since x h) (opens_other c x Up m other) refl) (λ x other e. sent_others c x Up e m h other)
+    (λ x other e. ended_kept x e h (Sent c Up m) (opens_other c x Up m other) (sent_ends c x Up e m))
+
+-- an opening while the coordinator stands stopped has nothing on the way, and the coordinator sees no end of it
+lost_lane : (c : Conn) (e : Dir) (m : Message) (h : List Entry) → opens c (Sent c Up m) ≡ true → is_stopped h ≡ true → IsLane c e (lost_at_once c) (Sent c Up m ∷ h)
+lost_lane c Up m h opening stopped = record {
+  queue =
+      (let P : List Message → Type 0 = λ ms. Spells [] ms in
+      subst P (sym (cond-true (opens c (Sent c Up m)) (opened_with Up m (is_stopped h)) _ opening ∙ cond-true (is_stopped h) [] (m ∷ []) stopped)) (record { valid = refl; bytes = refl }));
+  ended = sym (ap (λ b. ended_after b (is_stopped h) (is_ended c Up h)) opening ∙ stopped);
+}
+lost_lane c Down m h opening stopped = record {
+  queue =
+      (let P : List Message → Type 0 = λ ms. Spells [] ms in
+      subst P (sym (cond-true (opens c (Sent c Up m)) [] _ opening)) (record { valid = refl; bytes = refl }));
+  ended = sym (ap (λ b. ended_after b false (is_ended c Down h)) opening);
+}
+
+-- after the message that opens a connection while the coordinator stands stopped each connection stands as the history says
+pub carried_opened_lost : (c : Conn) (d : Dir) (m : Message) (old new : List Wire) (h : List Entry) → IfSome (wire_of c old) (λ w. Becomes c (sent_on d m w) old new) → IsStartedLost c old h
+    → opens c (Sent c d m) ≡ true → is_stopped h ≡ true → Carries new (Sent c d m ∷ h)
+carried_opened_lost c Down m old new h becomes started opening stopped = absurd cc
+carried_opened_lost c Up m old new h becomes started opening stopped =
+    let P : Option Wire → Type 0 = λ o. IfSome o (λ w. Becomes c (sent_on Up m w) old new) in
+    spread c (lost_at_once c) old new h (Sent c Up m ∷ h) (subst P started.here becomes) started.others
+    (opened_since c h (Sent c Up m) (lost_since c h) opening ∙ ap Some stopped, λ e. lost_lane c e m h opening stopped)
     (λ x other. lost_kept x h (Sent c Up m) (lost_since x h) (opens_other c x Up m other) refl) (λ x other e. sent_others c x Up e m h other)
     (λ x other e. ended_kept x e h (Sent c Up m) (opens_other c x Up m other) (sent_ends c x Up e m))
 
@@ -408,6 +434,13 @@ carried_none c = refl
 -- where a connection is started, it stands as just started
 pub carried_start : (c : Conn) (old new : List Wire) (h : List Entry) → Becomes c (fresh c) old new → Carries old h → IsStarted c new h
 carried_start c old new h becomes carries = record {
+  here = becomes.here;
+  others = λ x other. (let P : Option Wire → Type 0 = λ o. IsWire x o h in subst P (sym (becomes.others x other)) (carries x));
+}
+
+-- where it is started while the coordinator stands stopped, it stands as lost at once
+pub carried_start_lost : (c : Conn) (old new : List Wire) (h : List Entry) → Becomes c (lost_at_once c) old new → Carries old h → IsStartedLost c new h
+carried_start_lost c old new h becomes carries = record {
   here = becomes.here;
   others = λ x other. (let P : Option Wire → Type 0 = λ o. IsWire x o h in subst P (sym (becomes.others x other)) (carries x));
 }

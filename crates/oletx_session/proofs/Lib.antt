@@ -5,3 +5,4 @@ pub mod Views
 pub mod Reading
 pub mod Moves
 pub mod Histories
+pub mod Stops

@@ -14,9 +14,9 @@ use Rattle.dtx_model.specs.Frames.{IsFrame, frame_of}
 use Rattle.dtx_model.specs.Wires.{same_connection, same_direction}
 use Rattle.oletx_session.specs.declared.link.Link.{Link}
 use Rattle.oletx_session.specs.declared.packet.Packet.{Packet}
-use Rattle.oletx_session.specs.Queues.{AreSameElse, Changes, HasNoStray, bytes_on, ended_in, frame_in, has_ended, is_ending, is_on, link_of, lost_link, new_link, on_way, wire_in, wires_in}
+use Rattle.oletx_session.specs.Queues.{AreSameElse, Changes, HasNoStray, bytes_on, ended_in, frame_in, has_ended, is_ending, is_on, link_of, lost_link, new_link, on_way, stopped_link, wire_in, wires_in}
 use Rattle.dtx_model.specs.Outcome.{is_empty}
-use Rattle.oletx_session.specs.Traffic.{Becomes, Delivers, Ends, IsCut, Spells, Wire, fresh, has_left, is_open, is_taken, lane, lost_with, may_send, opposite, sent_on, wire_of, with_bytes, with_end}
+use Rattle.oletx_session.specs.Traffic.{Becomes, Delivers, Ends, IsCut, Spells, Wire, fresh, has_left, is_open, is_taken, lane, lost_at_once, lost_with, may_send, opposite, sent_on, wire_of, with_bytes, with_end}
 use Rattle.oletx_session.proofs.Conns.{same_is, same_self, same_way}
 use Rattle.oletx_session.proofs.Reading.{count_read, front_read}
 use Rattle.oletx_session.proofs.Views.{AreOthers, any_bytes, becomes, lane_bytes, lane_ended, left_seen, link_is, made, no_stray, packet_full, others_else, others_push, stays, wire_found, wire_missing}
@@ -201,6 +201,17 @@ started c ps ls ks ws seen none free changes =
     let all = becomes c (new_link c) ls ks ps ps changes (λ x e other. refl) in
     let is : wire_in ps (new_link c) ≡ fresh c = λ k. made (new_link c) (free_lanes c Up ps ls ws seen none free k) (free_lanes c Down ps ls ws seen none free k) in
     let P : List Wire → Type 0 = λ xs. Becomes c (fresh c) xs (wires_in ps ks) in
+    let Q : Wire → Type 0 = λ v. Becomes c v (wires_in ps ls) (wires_in ps ks) in
+    subst P seen (subst Q is all)
+
+-- or started while the coordinator stands stopped
+pub started_lost : (c : Conn) (ps : List Packet) (ls ks : List Link) (ws : List Wire) → wires_in ps ls ≡ ws → HasNoStray ls ps → is_taken (wire_of c ws) ≡ false
+    → Changes c (stopped_link (new_link c)) ls ks → Becomes c (lost_at_once c) ws (wires_in ps ks)
+started_lost c ps ls ks ws seen none free changes =
+    let l = stopped_link (new_link c) in
+    let all = becomes c l ls ks ps ps changes (λ x e other. refl) in
+    let is : wire_in ps l ≡ lost_at_once c = λ k. made l (free_lanes c Up ps ls ws seen none free k) (free_lanes c Down ps ls ws seen none free k) in
+    let P : List Wire → Type 0 = λ xs. Becomes c (lost_at_once c) xs (wires_in ps ks) in
     let Q : Wire → Type 0 = λ v. Becomes c v (wires_in ps ls) (wires_in ps ks) in
     subst P seen (subst Q is all)
 

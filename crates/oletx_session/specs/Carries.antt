@@ -4,7 +4,7 @@ use Rattle.dtx_values.specs.declared.entry.Entry.{Entry}
 use Rattle.dtx_values.specs.declared.message.Conn.{Conn}
 use Rattle.dtx_values.specs.declared.message.Dir.{Dir}
 use Rattle.dtx_model.specs.Wires.{is_ended, in_transit, lost_since, same_connection}
-use Rattle.oletx_session.specs.Traffic.{Spells, Wire, fresh, lane, wire_of}
+use Rattle.oletx_session.specs.Traffic.{Spells, Wire, fresh, lane, lost_at_once, wire_of}
 
 -- the bytes on the way in this direction are the frames of what is in transit, and whether the end was seen is what the history says
 pub record IsLane (c : Conn) (d : Dir) (w : Wire) (h : List Entry) : Type 0 where
@@ -23,4 +23,9 @@ Carries ws h = (c : Conn) → IsWire c (wire_of c ws) h
 -- this connection was just started, and the others stand as the history says
 pub record IsStarted (c : Conn) (ws : List Wire) (h : List Entry) : Type 0 where
   pub here : wire_of c ws ≡ Some (fresh c)
+  pub others : (x : Conn) → same_connection x c ≡ false → IsWire x (wire_of x ws) h
+
+-- the same of a connection that was started while the coordinator stands stopped
+pub record IsStartedLost (c : Conn) (ws : List Wire) (h : List Entry) : Type 0 where
+  pub here : wire_of c ws ≡ Some (lost_at_once c)
   pub others : (x : Conn) → same_connection x c ≡ false → IsWire x (wire_of x ws) h

@@ -13,6 +13,10 @@ use Rattle.oletx_session.specs.Traffic.{Wire}
 abbrev pub is_on : Conn → Dir → Packet → Bool
 is_on c d p = same_connection c p.connection && same_direction d p.direction
 
+-- the packet goes in this direction
+abbrev pub goes : Dir → Packet → Bool
+goes d p = same_direction d p.direction
+
 -- the packets on this connection in this direction, in order
 abbrev pub on_way : Conn → Dir → List Packet → List Packet
 on_way c d ps = filter (is_on c d) ps
@@ -81,3 +85,7 @@ lost_link l = record l { lost = true }
 abbrev pub ended_in : Dir → Link → Link
 ended_in Up l = record l { up_ended = true }
 ended_in Down l = record l { down_ended = true }
+
+-- the link once the coordinator has stopped: lost, and the coordinator sees no end of it
+abbrev pub stopped_link : Link → Link
+stopped_link l = record l { lost = true; up_ended = true }

@@ -70,6 +70,14 @@ may_send d None = false
 abbrev pub fresh : Conn → Wire
 fresh c = record { connection = c; lost = false; up = record { bytes = []; ended = false }; down = record { bytes = []; ended = false } }
 
+-- what a stop of the coordinator leaves of a connection: it is lost, nothing is on the way upward and the coordinator sees no end of it, and downward it is as it was
+abbrev pub stopped_wire : Wire → Wire
+stopped_wire w = record { connection = w.connection; lost = true; up = record { bytes = []; ended = true }; down = w.down }
+
+-- a connection that was started while the coordinator stands stopped: lost at once, with its end on the way to the local side alone
+abbrev pub lost_at_once : Conn → Wire
+lost_at_once c = record { connection = c; lost = true; up = record { bytes = []; ended = true }; down = record { bytes = []; ended = false } }
+
 -- the wire with this lane in this direction
 abbrev pub with_lane : Dir → Lane → Wire → Wire
 with_lane Up l w = record { connection = w.connection; lost = w.lost; up = l; down = w.down }

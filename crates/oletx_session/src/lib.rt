@@ -1,7 +1,8 @@
 //! The connections between the local side and the coordinator of one transaction: frames on the way, losses and ends.
 //!
 //! Each connection has a queue of bytes in each direction. What is got is what was sent, in order, up to what a loss keeps; after a loss comes its end, once in each
-//! direction. (A definition of this project, after the connections of the coordinator's protocol.)
+//! direction. A stop of the coordinator loses each connection; it keeps what goes down, and the coordinator sees no end. (A definition of this project, after the
+//! connections of the coordinator's protocol.)
 #![tactic(auto)]
 
 mod link;

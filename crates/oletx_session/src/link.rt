@@ -1,8 +1,8 @@
 //! Links: what is known of a connection beside what is on the way.
-ghost use Rattle.std.specs.Prelude.{◌≡◌, ◌≤◌, ◌+◌, Some, IfNone, IfSome, OnErr, OnOk, is_some, length, position, vec_capacity, vec_len};
+ghost use Rattle.std.specs.Prelude.{◌≡◌, ◌≤◌, ◌+◌, Some, IfNone, IfSome, OnErr, OnOk, is_some, length, map, position, vec_capacity, vec_len};
 ghost use Rattle.std.specs.Bool.{OnFalse, OnTrue};
 ghost use Rattle.dtx_model.specs.Wires.{same_connection};
-ghost use Rattle.oletx_session.specs.Queues.{Changes, ended_in, has_ended, is_ending, is_of, link_of, lost_link, new_link};
+ghost use Rattle.oletx_session.specs.Queues.{Changes, ended_in, has_ended, is_ending, is_of, link_of, lost_link, new_link, stopped_link};
 
 use dtx_values::{Conn, Dir};
 use std::alloc::AllocError;
@@ -53,6 +53,17 @@ impl Link {
         ensures { result ≡ lost_link self }
     {
         Link { lost: true, ..self }
+    }
+
+    /// The link once the coordinator has stopped: lost, and the coordinator sees no end of it.
+    pub(crate) fn stopped(self) -> Self
+        ensures { result ≡ stopped_link self }
+    {
+        Link {
+            lost: true,
+            up_ended: true,
+            ..self
+        }
     }
 
     /// The link with the connection's end seen in this direction.
@@ -125,4 +136,15 @@ pub(crate) fn put(links: &mut Vec<Link>, link: Link) -> Result<(), AllocError>
         links.push(link)?;
     }
     Ok(())
+}
+
+/// Makes each link that of a stopped coordinator.
+pub(crate) fn stop_all(links: &mut Vec<Link>)
+    ensures items { links.new.items ≡ map stopped_link links.old.items }
+    ensures len { vec_len links.new ≡ vec_len links.old }
+    ensures capacity { vec_capacity links.old ≤ vec_capacity links.new }
+{
+    for link in links.iter_mut() {
+        *link = link.stopped();
+    }
 }

@@ -1,7 +1,7 @@
 //! The packets on the way.
-ghost use Rattle.std.specs.Prelude.{◌≡◌, ◌≤◌, ◌<◌, [], ◌∷◌, IfNone, IfSome, OnSome, length, min, position, take, vec_capacity, vec_len};
+ghost use Rattle.std.specs.Prelude.{◌≡◌, ◌≤◌, ◌<◌, [], ◌∷◌, IfNone, IfSome, OnSome, filter, length, min, position, take, vec_capacity, vec_len};
 ghost use Rattle.std.specs.List.{list_any};
-ghost use Rattle.oletx_session.specs.Queues.{AreSameElse, is_on, on_way};
+ghost use Rattle.oletx_session.specs.Queues.{AreSameElse, goes, is_on, on_way};
 
 use crate::link::is_same;
 use crate::packet::Packet;
@@ -63,4 +63,20 @@ pub(crate) fn cut(packets: &mut Vec<Packet>, c: Conn, d: Dir, keep: u32) -> u32
         }
     }
     kept
+}
+
+/// Whether the packet goes in this direction.
+fn goes(packet: &Packet, d: Dir) -> bool
+    ensures { result ≡ goes d packet.now }
+{
+    d == packet.direction
+}
+
+/// Keeps the packets that go in this direction alone.
+pub(crate) fn keep_direction(packets: &mut Vec<Packet>, d: Dir)
+    ensures kept { packets.new.items ≡ filter (goes d) packets.old.items }
+    ensures few { vec_len packets.new ≤ vec_len packets.old }
+    ensures capacity { vec_capacity packets.old ≤ vec_capacity packets.new }
+{
+    packets.retain(|packet| goes(packet, d));
 }

@@ -1,21 +1,21 @@
 //! The connections of one transaction.
-ghost use Rattle.std.specs.Prelude.{◌≡◌, ◌≢◌, ◌⊎◌, ◌↔◌, ◌≤◌, ◌<◌, ◌+◌, ◌∷◌, ◌++◌, List, [], ℕ, Bool, Some, None, Err, true, false, length, min, take, IfOk, IfErr, IfSome, OnErr, OnOk, IsTrue, IsErrOf};
+ghost use Rattle.std.specs.Prelude.{◌≡◌, ◌≢◌, ◌⊎◌, ◌↔◌, ◌≤◌, ◌<◌, ◌+◌, ◌∷◌, ◌++◌, List, [], ℕ, Bool, Some, None, Err, true, false, length, map, min, take, IfOk, IfErr, IfSome, OnErr, OnOk, IsTrue, IsErrOf};
 ghost use Rattle.std.specs.List.{flat_map};
 ghost use Rattle.dtx_values.specs.declared.entry.Entry.{Entry};
-ghost use Rattle.dtx_values.specs.declared.entry.Entry.TheVariants.{Cut, Down as End, Got, Sent};
+ghost use Rattle.dtx_values.specs.declared.entry.Entry.TheVariants.{Cut, Down as End, Got, Sent, Stopped};
 ghost use Rattle.dtx_values.specs.declared.message.Dir.TheVariants.{Up, Down};
 ghost use Rattle.dtx_values.specs.declared.message.Message.{Message};
 ghost use Rattle.dtx_model.specs.Frames.{IsFrame, frame_of, is_valid};
 ghost use Rattle.dtx_values.specs.Lines.{has_line};
 ghost use Rattle.dtx_model.specs.Wires.{MayCross, is_stopped, opens};
 ghost use Rattle.oletx_frames.specs.declared.refusal.FrameRefusal.{FrameRefusal};
-ghost use Rattle.oletx_session.specs.Traffic.{Becomes, Delivers, Ends, IsCut, Spells, fresh, has_left, is_open, is_taken, lane, may_send, opposite, sent_on, wire_of};
+ghost use Rattle.oletx_session.specs.Traffic.{Becomes, Delivers, Ends, IsCut, Spells, fresh, has_left, is_open, is_taken, lane, lost_at_once, may_send, opposite, sent_on, stopped_wire, wire_of};
 ghost use Rattle.oletx_session.specs.Queues.{frame_in};
-ghost use Rattle.oletx_session.specs.Carries.{Carries, IsStarted};
+ghost use Rattle.oletx_session.specs.Carries.{Carries, IsStarted, IsStartedLost};
 
-use crate::link::{Link, link_of, put, replace};
+use crate::link::{Link, link_of, put, replace, stop_all};
 use crate::packet::Packet;
-use crate::queue::{cut, is_any_on, take_first};
+use crate::queue::{cut, is_any_on, keep_direction, take_first};
 use crate::refusal::SessionRefusal;
 use dtx_values::{Conn, Dir, Message, ROOM};
 use oletx_frames::FrameRefusal;
@@ -130,6 +130,30 @@ impl Session {
         Ok(())
     }
 
+    /// Starts a connection while the coordinator stands stopped: it is lost at once, and its end is on the way to the local side alone.
+    ///
+    /// # Errors
+    ///
+    /// As [`start`](Session::start) has them.
+    pub fn start_lost(&mut self, c: Conn) -> Result<(), SessionRefusal>
+        ensures started { OnOk result (Becomes c (lost_at_once c) self.old.wires self.new.wires) }
+        ensures taken { IsErrOf result (SessionRefusal.Taken c) ↔ (is_taken (wire_of c self.old.wires) ≡ true) }
+        ensures memory { IsErrOf result SessionRefusal.Memory → self.old.start_room ≡ 0 }
+        ensures only { IfErr result (λ e. (e ≡ SessionRefusal.Taken c) ⊎ (e ≡ SessionRefusal.Memory)) }
+        ensures unchanged { OnErr result (self.new.wires ≡ self.old.wires) }
+        ensures start_room { self.old.start_room ≤ self.new.start_room + 1 }
+        ensures send_room { self.old.send_room ≤ self.new.send_room }
+        ensures carries { OnOk result ((h : List Entry) → Carries self.old.wires h → IsStartedLost c self.new.wires h) }
+    {
+        if self.is_taken(c) {
+            return Err(SessionRefusal::Taken(c));
+        }
+        let Ok(()) = put(&mut self.links, Link::new(c).stopped()) else {
+            return Err(SessionRefusal::Memory);
+        };
+        Ok(())
+    }
+
     /// Puts the frame of a valid message ([`is_valid`](crate::is_valid)) after what is on the way. On a lost connection whose end the sender hasn't seen it is
     /// dropped.
     ///
@@ -146,9 +170,11 @@ impl Session {
         ensures unchanged { OnErr result (self.new.wires ≡ self.old.wires) }
         ensures start_room { self.old.start_room ≤ self.new.start_room }
         ensures send_room { self.old.send_room ≤ self.new.send_room + 1 }
-        // over histories: a message that opens nothing, and the one that opens a connection that was just started
+        // over histories: a message that opens nothing, and the one that opens a connection that was just started, also while the coordinator stands stopped
         ensures carries { OnOk result ((h : List Entry) → Carries self.old.wires h → opens c (Sent c d m.now) ≡ false → Carries self.new.wires (Sent c d m.now ∷ h)) }
         ensures opened { OnOk result ((h : List Entry) → IsStarted c self.old.wires h → opens c (Sent c d m.now) ≡ true → is_stopped h ≡ false
+            → Carries self.new.wires (Sent c d m.now ∷ h)) }
+        ensures opened_lost { OnOk result ((h : List Entry) → IsStartedLost c self.old.wires h → opens c (Sent c d m.now) ≡ true → is_stopped h ≡ true
             → Carries self.new.wires (Sent c d m.now ∷ h)) }
     {
         if !self.may_send(c, d) {
@@ -232,6 +258,17 @@ impl Session {
         let up = cut(&mut self.packets, c, Dir::Up, up);
         let down = cut(&mut self.packets, c, Dir::Down, down);
         Some((up, down))
+    }
+
+    /// Loses every connection as a stop of the coordinator does: nothing upward is kept, everything downward is, and the coordinator sees no ends. It takes no memory.
+    pub fn stop(&mut self)
+        ensures stopped { self.new.wires ≡ map stopped_wire self.old.wires }
+        ensures start_room { self.old.start_room ≤ self.new.start_room }
+        ensures send_room { self.old.send_room ≤ self.new.send_room }
+        ensures carries { (h : List Entry) → Carries self.old.wires h → Carries self.new.wires (Stopped ∷ h) }
+    {
+        stop_all(&mut self.links);
+        keep_direction(&mut self.packets, Dir::Down);
     }
 
     /// Whether the side that sends in this direction may: the connection was started, and the side didn't see its end.

@@ -25,8 +25,10 @@ const END: Option<Delivered> = Some(Delivered::End);
 #[derive(Clone, Copy)]
 enum Step {
     Start(Conn, Result<(), SessionRefusal>),
+    StartLost(Conn, Result<(), SessionRefusal>),
     Send(Conn, Dir, Message, Result<(), SessionRefusal>),
     Lose(Conn, u32, u32, Option<(u32, u32)>),
+    Stop,
     IsOpen(Conn, bool),
     Deliver(Conn, Dir, Option<Delivered>),
 }
@@ -35,11 +37,13 @@ enum Step {
 fn takes(rt: &impl Abort, s: &mut Session, step: Step) {
     match step {
         Step::Start(c, answer) => assert_eq!(rt; s.start(c), answer),
+        Step::StartLost(c, answer) => assert_eq!(rt; s.start_lost(c), answer),
         Step::Send(c, d, m, answer) => {
             assert!(rt; is_valid(&m));
             assert_eq!(rt; s.send(c, d, &m), answer);
         }
         Step::Lose(c, up, down, answer) => assert_eq!(rt; s.lose(c, up, down), answer),
+        Step::Stop => s.stop(),
         Step::IsOpen(c, answer) => assert_eq!(rt; s.is_open(c), answer),
         Step::Deliver(c, d, answer) => {
             assert_eq!(rt; s.has_left(c, d), answer.is_some());
@@ -137,9 +141,31 @@ const APART: [Step; 18] = [
     Step::Deliver(V, Dir::Down, None),
 ];
 
+/// A stop keeps what goes down, and the coordinator sees no end. What is started then is lost at once.
+const STOPPED: [Step; 18] = [
+    Step::Start(B, Ok(())),
+    Step::Send(B, Dir::Up, Message::BeginBegin, Ok(())),
+    Step::Send(B, Dir::Down, Message::BeginBegun(ID), Ok(())),
+    Step::Stop,
+    Step::IsOpen(B, false),
+    Step::Deliver(B, Dir::Up, None),
+    Step::StartLost(B, Err(SessionRefusal::Taken(B))),
+    Step::Deliver(B, Dir::Down, BEGUN),
+    Step::Deliver(B, Dir::Down, END),
+    Step::Deliver(B, Dir::Down, None),
+    Step::StartLost(V, Ok(())),
+    Step::IsOpen(V, false),
+    Step::Send(V, Dir::Up, Message::VoterVoter(ID), Ok(())),
+    Step::Deliver(V, Dir::Up, None),
+    Step::Deliver(V, Dir::Down, END),
+    Step::Deliver(V, Dir::Down, None),
+    Step::StartLost(V, Ok(())),
+    Step::Start(V, Err(SessionRefusal::Taken(V))),
+];
+
 #[test]
 fn calls_are_answered_as_by_hand(rt: HostRuntime) -> Result<(), Fail> {
-    let runs: [&[Step]; 5] = [&STARTED, &CUT, &DROPPED, &TAKEN, &APART];
+    let runs: [&[Step]; 6] = [&STARTED, &CUT, &DROPPED, &TAKEN, &APART, &STOPPED];
     for run in runs {
         let mut s = Session::new(rt.alloc())?;
         for step in run {

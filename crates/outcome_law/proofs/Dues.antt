@@ -149,7 +149,7 @@ is_unplanned p (Some n) = is_none (planned p n)
 is_unplanned p None = true
 
 -- none is answered: of each name the plan is silent to what is due
-none_answered : (p : ℕ → Plan) (o : Observed) (es : List EnlNo) → filter (is_answered p) (filter_map (λ e. with_note e (due_of o e.value)) es) ≡ []
+pub none_answered : (p : ℕ → Plan) (o : Observed) (es : List EnlNo) → filter (is_answered p) (filter_map (λ e. with_note e (due_of o e.value)) es) ≡ []
     → each (λ e. is_unplanned (p e.value) (due_of o e.value)) es ≡ true
 none_answered p o [] k = refl
 none_answered p o (e ∷ es) k = step e (due_of o e.value) (filter_map (λ e. with_note e (due_of o e.value)) es) (none_answered p o es) k
@@ -165,7 +165,7 @@ none_answered p o (e ∷ es) k = step e (due_of o e.value) (filter_map (λ e. wi
     step e (Some n) ys ih k = inner e n (planned (p e.value) n) ys (each (λ e. is_unplanned (p e.value) (due_of o e.value)) es) refl ih k
 
 -- of each row, where none of the names is answered
-named_rows : (f : EnlNo → Bool) (xs : List Row) → each f (map (λ x. x.number) xs) ≡ true → each (λ x. f x.number) xs ≡ true
+pub named_rows : (f : EnlNo → Bool) (xs : List Row) → each f (map (λ x. x.number) xs) ≡ true → each (λ x. f x.number) xs ≡ true
 named_rows f [] k = refl
 named_rows f (x ∷ xs) k = and_both (f x.number) (each (λ x. f x.number) xs) (and_left (f x.number) (each f (map (λ x. x.number) xs)) k) (named_rows f xs (and_right (f x.number) (each f (map (λ x. x.number) xs)) k))
 

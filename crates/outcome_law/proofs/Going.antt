@@ -206,7 +206,7 @@ refused_keeps h k d c v =
     aborted_keeps (CommitAsked ∷ h) rules d (first_vetoed CommitAsked h v (unsealed_open h k.rules unsealed)) (unsealed_open (CommitAsked ∷ h) rules unsealed)
 
 -- a clone that makes no commit a veto is closed
-closed_step : (k : CloneKind) (x : Bool) → (is_rollback k && not x) ≡ false → (blocks k || x) ≡ true
+pub closed_step : (k : CloneKind) (x : Bool) → (is_rollback k && not x) ≡ false → (blocks k || x) ≡ true
 closed_step Block x e = refl
 closed_step Rollback true e = refl
 closed_step Rollback false e = absurd cc
@@ -292,7 +292,7 @@ lost_doubts h e k d q u =
     lost_step false false l c k = absurd cc
 
 -- whoever was handed the commit stands among them
-hand_listed : (e : ℕ) (h : List Entry) → has (is_hand e) h ≡ true → has (λ f. f.value == e) (all_of handed_of h) ≡ true
+pub hand_listed : (e : ℕ) (h : List Entry) → has (is_hand e) h ≡ true → has (λ f. f.value == e) (all_of handed_of h) ≡ true
 hand_listed e [] k = k
 hand_listed e (Handed f ∷ h) k =
     or_case (e == f.value) (has (is_hand e) h) (λ s. or_left (f.value == e) _ (eq_swap f.value e ∙ s)) (λ s. or_right (f.value == e) _ (hand_listed e h s)) k

@@ -73,7 +73,7 @@ pub none_lasting : (h : List Entry) → has is_lasting (rows h) ≡ false → du
 none_lasting h k = filter_none (λ x. not (is_volatile x.1)) (enlisted h) (sym (has_rows (λ e c. not (is_volatile c)) h) ∙ k)
 
 -- where no enlistment is durable or promotable, no row is
-lasting_none : (h : List Entry) → durables h ≡ [] → has is_lasting (rows h) ≡ false
+pub lasting_none : (h : List Entry) → durables h ≡ [] → has is_lasting (rows h) ≡ false
 lasting_none h k = has_rows (λ e c. not (is_volatile c)) h ∙ nothing (λ x. not (is_volatile x.1)) (enlisted h) k
   where
     step : {A : Type 0} (b : Bool) (x : A) (ys : List A) (c : Bool) → (ys ≡ [] → c ≡ false) → (if b then x ∷ ys else ys) ≡ [] → (b || c) ≡ false
@@ -85,7 +85,7 @@ lasting_none h k = has_rows (λ e c. not (is_volatile c)) h ∙ nothing (λ x. n
     nothing p (x ∷ xs) e = step (p x) x (filter p xs) (has p xs) (nothing p xs) e
 
 -- one more at its place that doesn't pass is not picked
-insert_other : {A : Type 0} (p : A → Bool) (key : A → ℕ) (x : A) (xs : List A) → p x ≡ false → filter p (insert_by key x xs) ≡ filter p xs
+pub insert_other : {A : Type 0} (p : A → Bool) (key : A → ℕ) (x : A) (xs : List A) → p x ≡ false → filter p (insert_by key x xs) ≡ filter p xs
 insert_other p key x [] f = rw f refl
 insert_other p key x (y ∷ ys) f = step p (nat_lt (key y) (key x)) x y ys (insert_by key x ys) f (insert_other p key x ys f)
   where
@@ -94,7 +94,7 @@ insert_other p key x (y ∷ ys) f = step p (nat_lt (key y) (key x)) x y ys (inse
     step p false x y ys rest f e = rw f refl
 
 -- one more at its place that alone passes is picked
-insert_alone : {A : Type 0} (p : A → Bool) (key : A → ℕ) (x : A) (xs : List A) → p x ≡ true → has p xs ≡ false → filter p (insert_by key x xs) ≡ x ∷ []
+pub insert_alone : {A : Type 0} (p : A → Bool) (key : A → ℕ) (x : A) (xs : List A) → p x ≡ true → has p xs ≡ false → filter p (insert_by key x xs) ≡ x ∷ []
 insert_alone p key x [] t n = rw t refl
 insert_alone p key x (y ∷ ys) t n =
     step p (nat_lt (key y) (key x)) x y ys (insert_by key x ys) t (or_first (p y) (has p ys) n) (filter_none p ys (or_second (p y) (has p ys) n))
@@ -126,7 +126,7 @@ if_named true y x e = e
 if_named false y x e = refl
 
 -- rows that keep name and class have the same owner
-kept_owner : (f : Row → Row) → ((x : Row) → is_lasting (f x) ≡ is_lasting x) → ((x : Row) → (f x).number ≡ x.number) → (xs : List Row)
+pub kept_owner : (f : Row → Row) → ((x : Row) → is_lasting (f x) ≡ is_lasting x) → ((x : Row) → (f x).number ≡ x.number) → (xs : List Row)
     → only (lasting (map f xs)) ≡ only (lasting xs)
 kept_owner f same name xs = ap only (filter-map is_lasting f same xs) ∙ only-map f name (lasting xs)
 

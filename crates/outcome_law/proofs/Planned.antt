@@ -15,7 +15,7 @@ use Rattle.dtx_model.specs.Calls.{call_of}
 use Rattle.dtx_model.specs.Contexts.{lines_before}
 use Rattle.dtx_model.specs.Caused.{IsCallOf, called_at, calls_in, entered_by, entered_in, plans_of}
 use Rattle.dtx_model.specs.Grammar.{OfEnlistment, are_named_well}
-use Rattle.dtx_model.specs.Waiting.{EnteredCall}
+use Rattle.dtx_model.specs.declared.waiting.EnteredCall.{EnteredCall}
 use Rattle.dtx_model.specs.Plans.{or_silent, plan_by, plan_if, plan_of, support_plan}
 use Rattle.dtx_model.proofs.Bools.{or_case}
 use Rattle.outcome_law.proofs.Names.{IsCalled, call_makes, is_maker, line_makes, made_once, scope_makes_none}

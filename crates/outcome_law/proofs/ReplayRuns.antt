@@ -13,7 +13,8 @@ use Rattle.dtx_values.specs.declared.number.TxNo.{TxNo}
 use Rattle.dtx_values.specs.declared.script.Line.{Line}
 use Rattle.dtx_model.specs.Words.{each, has, kth, latest, onto, or_else, put}
 use Rattle.dtx_model.specs.Observed.{Observed, observe}
-use Rattle.dtx_model.specs.Waiting.{EnteredCall, managed}
+use Rattle.dtx_model.specs.declared.waiting.EnteredCall.{EnteredCall}
+use Rattle.dtx_model.specs.Waiting.{managed}
 use Rattle.dtx_model.specs.Plans.{or_silent, plan_by, plan_of}
 use Rattle.dtx_model.specs.Half.{Half}
 use Rattle.dtx_model.specs.Acts.{act_entries as full_act}

@@ -29,7 +29,7 @@ use Rattle.dtx_values.specs.Row.{is_lasting}
 use Rattle.dtx_model.specs.Scopes.{ScopeEntry, Opens, Finishes, Closes}
 use Rattle.dtx_model.specs.Calls.{call_of}
 use Rattle.dtx_model.specs.Facts.{facts_if}
-use Rattle.dtx_model.specs.Waiting.{EnteredCall}
+use Rattle.dtx_model.specs.declared.waiting.EnteredCall.{EnteredCall}
 use Rattle.dtx_model.specs.World.{World, half}
 use Rattle.dtx_model.specs.Steps.{Step, Calls, Replies, Acts, entered, pending}
 use Rattle.dtx_model.proofs.Narrow.{answer, is_done, facts, block}

@@ -180,7 +180,7 @@ answered_well (Some InDoubt) d c = cc
 answered_well None d c = cc
 
 -- where each rollback clone is complete, asking for the commit is no veto
-asked_well : (h : List Entry) → each (λ c. not (is_rollback c.1) || is_complete h c) (all_of clone_of h) ≡ true → is_veto h CommitAsked ≡ false
+pub asked_well : (h : List Entry) → each (λ c. not (is_rollback c.1) || is_complete h c) (all_of clone_of h) ≡ true → is_veto h CommitAsked ≡ false
 asked_well h k =
     none_more (λ c. not (is_rollback c.1) || is_complete h c) (λ c. is_rollback c.1 && not (is_complete h c)) (λ c. step (is_rollback c.1) (is_complete h c)) (all_of clone_of h) k
   where
@@ -365,7 +365,7 @@ none_asked xs zero e =
     nameless None e = refl
 
 -- where each marked row has a vote and nobody is to be asked in phase zero, each Zero row has a vote
-zeros_done : (xs : List Row) → each has_answered xs ≡ true → next_ask xs true ≡ None → zeros_voted xs ≡ true
+pub zeros_done : (xs : List Row) → each has_answered xs ≡ true → next_ask xs true ≡ None → zeros_voted xs ≡ true
 zeros_done xs a e =
     each_both has_answered (λ x. not (may_be_asked xs true x)) (λ x. not (is_zero x.class) || has_voted x)
     (λ x. step (is_zero x.class) (is_marked x) (has_voted x) (voted_before x.added xs) (answered_before x.added xs a)) xs a (none_asked xs true e)
@@ -377,7 +377,7 @@ zeros_done xs a e =
     step true false v false k a q = absurd cc
 
 -- where each marked row and each Zero row has a vote and nobody is to be asked after the seal, all voted
-ones_done : (xs : List Row) → each has_answered xs ≡ true → zeros_voted xs ≡ true → next_ask xs false ≡ None → all_voted xs ≡ true
+pub ones_done : (xs : List Row) → each has_answered xs ≡ true → zeros_voted xs ≡ true → next_ask xs false ≡ None → all_voted xs ≡ true
 ones_done xs a z e =
     let both = λ (x : Row). has_answered x && (not (is_zero x.class) || has_voted x) in
     each_both both (λ x. not (may_be_asked xs false x)) (λ x. not (is_volatile x.class) || has_voted x) (λ x. step x.class (is_marked x) (has_voted x)) xs

@@ -30,22 +30,22 @@ use Rattle.outcome_law.proofs.Dues.{rows_unplanned}
 use Rattle.outcome_law.proofs.Settled.{AreUnplanned}
 
 -- two lists together are empty: the first is
-append_first : {A : Type 0} (xs ys : List A) → xs ++ ys ≡ [] → xs ≡ []
+pub append_first : {A : Type 0} (xs ys : List A) → xs ++ ys ≡ [] → xs ≡ []
 append_first [] ys e = refl
 append_first (x ∷ xs) ys e = absurd cc
 
 -- two lists together are empty: the second is
-append_second : {A : Type 0} (xs ys : List A) → xs ++ ys ≡ [] → ys ≡ []
+pub append_second : {A : Type 0} (xs ys : List A) → xs ++ ys ≡ [] → ys ≡ []
 append_second [] ys e = e
 append_second (x ∷ xs) ys e = absurd cc
 
 -- where no act is pending, it has no entries
-no_act : (xs : List Entry) → local_if xs ≡ [] → xs ≡ []
+pub no_act : (xs : List Entry) → local_if xs ≡ [] → xs ≡ []
 no_act [] e = refl
 no_act (x ∷ xs) e = absurd cc
 
 -- where no reply is named, none is due
-no_name : (xs : List (EnlNo × Note)) → map (λ x. ReplyOf x.0) xs ≡ [] → xs ≡ []
+pub no_name : (xs : List (EnlNo × Note)) → map (λ x. ReplyOf x.0) xs ≡ [] → xs ≡ []
 no_name [] e = refl
 no_name (x ∷ xs) e = absurd cc
 

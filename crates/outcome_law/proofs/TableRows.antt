@@ -91,7 +91,7 @@ unenlisted_unvoted n (Voted f v ∷ h) r e =
 unenlisted_unvoted n (x ∷ h) r e = unenlisted_unvoted n h (other_rules x h r) e
 
 -- what didn't vote has no vote
-unvoted_latest : (n : ℕ) (h : List Entry) → has (is_vote n) h ≡ false → latest (vote_of n) h ≡ None
+pub unvoted_latest : (n : ℕ) (h : List Entry) → has (is_vote n) h ≡ false → latest (vote_of n) h ≡ None
 unvoted_latest n [] k = refl
 unvoted_latest n (Voted f v ∷ h) k = step (n == f.value) (has (is_vote n) h) v (latest (vote_of n) h) (unvoted_latest n h) k
   where
@@ -235,7 +235,7 @@ each_clones f (Completed c ∷ h) =
 each_clones f (x ∷ h) = each_clones f h
 
 -- what some row of a clone passes by its number and kind, some clone passes
-has_clones : (f : CloneNo → CloneKind → Bool) (h : List Entry) → has (λ r. f r.clone r.kind) (clone_rows h) ≡ has (λ c. f c.0 c.1) (all_of clone_of h)
+pub has_clones : (f : CloneNo → CloneKind → Bool) (h : List Entry) → has (λ r. f r.clone r.kind) (clone_rows h) ≡ has (λ c. f c.0 c.1) (all_of clone_of h)
 has_clones f [] = refl
 has_clones f (Cloned c k ∷ h) = has-behind (λ r. f r.clone r.kind) (record { clone = c; kind = k; complete = false }) (clone_rows h) ∙ ap (λ b. f c k || b) (has_clones f h)
 has_clones f (Completed c ∷ h) =
@@ -295,7 +295,7 @@ pub open_blocks : (h : List Entry) → ruled h ≡ true → has is_open_block (c
 open_blocks h r = open_clones blocks h r
 
 -- a clone that doesn't block makes a commit a veto
-rollback_kind : (k : CloneKind) → not (blocks k) ≡ is_rollback k
+pub rollback_kind : (k : CloneKind) → not (blocks k) ≡ is_rollback k
 rollback_kind Block = refl
 rollback_kind Rollback = refl
 

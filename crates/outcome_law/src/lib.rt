@@ -34,7 +34,7 @@ ghost use Rattle.dtx_model.specs.Seen.{IsSeen, IsCloneSeen, IsHeard, is_timely};
 ghost use Rattle.dtx_values.specs.Owners.{is_evident};
 ghost use Rattle.dtx_model.specs.Calls.{call_of};
 ghost use Rattle.dtx_model.specs.Contexts.{context};
-ghost use Rattle.dtx_model.specs.Waiting.{EnteredCall};
+ghost use Rattle.dtx_model.specs.declared.waiting.EnteredCall.{EnteredCall};
 ghost use Rattle.dtx_model.specs.World.{World};
 ghost use Rattle.dtx_model.specs.Caused.{IsCallOf, is_new, AreMadeOnce, Caused, FreelyCaused, IsIn, IsOwnRun, Settled, has_object, is_as_planned, is_unpromoted, plans_of};
 ghost use Rattle.dtx_model.specs.AtLog.{is_local_trace};

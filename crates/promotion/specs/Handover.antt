@@ -37,21 +37,24 @@ answer_to None Created = Over
 answer_to (Some e) (Enlisted f) = if e.value == f.value then Over else Nothing
 answer_to _ _ = Nothing
 
--- while it is under way; else nothing
+-- what the handover does once the local side hears this: while it is under way its answer, else nothing
 abbrev pub next_act : Promotion → ProxyNews → HandoverAct
 next_act p n = if is_under_way p then answer_to p.stands n else Nothing
 
+-- the act ends the handover
 abbrev pub is_last : HandoverAct → Bool
 is_last Over = true
 is_last _ = false
 
+-- what becomes of it at its end
 abbrev pub after_end : Promotion → Promotion
 after_end p = record { cause = p.cause; stands = p.stands; over = true; failed = p.failed }
 
--- after the last act it is over
+-- what becomes of it once the local side hears this: the last act ends it
 abbrev pub after_news : Promotion → ProxyNews → Promotion
 after_news p n = if is_last (next_act p n) then after_end p else p
 
+-- what becomes of it where it fails
 abbrev pub after_failure : Promotion → Promotion
 after_failure p = record { cause = p.cause; stands = p.stands; over = p.over; failed = true }
 

@@ -34,7 +34,7 @@ pub enum HandoverAct {
 }
 
 /// The handover of one transaction. Contracts see why it was started, the enlistment that it hands over, and whether it is over or failed.
-#[derive(Clone, Copy, Debug)]
+#[derive(Clone, Copy, PartialEq, Eq, Debug)]
 pub struct Handover {
     cause: Option<Cause>,
     stands: Option<EnlNo>,

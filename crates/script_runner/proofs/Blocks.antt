@@ -26,7 +26,8 @@ use Rattle.dtx_model.specs.Half.{heeds_all}
 use Rattle.dtx_model.specs.History.{nobody}
 use Rattle.dtx_model.specs.Observed.{Observed, observe}
 use Rattle.dtx_model.specs.Replies.{due_of, reply_entries as full_reply}
-use Rattle.dtx_model.specs.Waiting.{EnteredCall, managed}
+use Rattle.dtx_model.specs.declared.waiting.EnteredCall.{EnteredCall}
+use Rattle.dtx_model.specs.Waiting.{managed}
 use Rattle.dtx_model.specs.Plans.{owner_reply, planned, promote_reply, vote_reply}
 use Rattle.dtx_model.specs.World.{half}
 use Rattle.dtx_model.proofs.Bools.{and_both, and_left, and_right}

@@ -17,7 +17,8 @@ use Rattle.dtx_values.specs.Table.{insert_by}
 use Rattle.dtx_model.specs.Words.{has, kth, onto, put}
 use Rattle.dtx_model.specs.Calls.{call_of}
 use Rattle.dtx_model.specs.Entries.{is_call}
-use Rattle.dtx_model.specs.Waiting.{EnteredCall, Waiter, call_at, managed, managed_by, waiter_line, waiting, waiting_after, wanted}
+use Rattle.dtx_model.specs.declared.waiting.EnteredCall.{EnteredCall}
+use Rattle.dtx_model.specs.Waiting.{Waiter, call_at, managed, managed_by, waiter_line, waiting, waiting_after, wanted}
 use Rattle.dtx_model.specs.Half.{Half, half_of, heeds, heeds_all}
 use Rattle.dtx_model.specs.World.{half}
 use Rattle.dtx_model.specs.Caused.{called_at, entered_at, entered_by, entered_in, world_of}

@@ -12,7 +12,7 @@ use Rattle.dtx_values.specs.declared.script.Line.{Line}
 use Rattle.dtx_model.specs.Words.{has, kth, latest, onto, or_else, past_of, put}
 use Rattle.dtx_model.specs.Calls.{call_of}
 use Rattle.dtx_model.specs.Grammar.{OfEnlistment, are_named_well}
-use Rattle.dtx_model.specs.Waiting.{EnteredCall}
+use Rattle.dtx_model.specs.declared.waiting.EnteredCall.{EnteredCall}
 use Rattle.dtx_model.specs.Plans.{or_silent, plan_by, plan_if, plan_of}
 use Rattle.dtx_model.specs.Caused.{calls_in, entered_by, entered_in, plans_of}
 use Rattle.dtx_model.proofs.Bools.{or_case}

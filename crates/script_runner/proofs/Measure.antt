@@ -26,7 +26,8 @@ use Rattle.dtx_values.specs.Owners.{owner_of}
 use Rattle.dtx_model.specs.Acts.{act_entries as full_act, tell}
 use Rattle.dtx_model.specs.Half.{half_of}
 use Rattle.dtx_model.specs.Replies.{due_of, fits, reply_entries as full_reply}
-use Rattle.dtx_model.specs.Waiting.{EnteredCall, managed}
+use Rattle.dtx_model.specs.declared.waiting.EnteredCall.{EnteredCall}
+use Rattle.dtx_model.specs.Waiting.{managed}
 use Rattle.dtx_model.proofs.Narrow.{act_by, act_entries, after_seal, before_seal, commit_act, is_to_tell, reply_entries, undecided_act, veto_if}
 use Rattle.dtx_model.proofs.Narrowing.{act-narrow}
 use Rattle.dtx_model.proofs.NarrowReplies.{IsDue, OwesVote, due-narrow, reply-narrow}

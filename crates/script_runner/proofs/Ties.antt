@@ -11,7 +11,7 @@ use Rattle.dtx_values.specs.declared.script.Line.{Line}
 use Rattle.dtx_model.specs.Words.{each, kth, onto, past_of}
 use Rattle.dtx_model.specs.Grammar.{are_named_well}
 use Rattle.dtx_model.specs.Half.{Half, half_of}
-use Rattle.dtx_model.specs.Waiting.{EnteredCall}
+use Rattle.dtx_model.specs.declared.waiting.EnteredCall.{EnteredCall}
 use Rattle.dtx_model.specs.World.{half}
 use Rattle.dtx_model.specs.Caused.{is_promoting_entry, plans_of, world_of}
 use Rattle.dtx_model.specs.Traces.{Placed, history, noted, placed}

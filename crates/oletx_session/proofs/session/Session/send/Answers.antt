@@ -2,7 +2,7 @@ use Rattle.std.proofs.Common.{ap, refl, sym, subst, ◌∙◌, IfSome, List}
 use Rattle.oletx_session.specs.declared.packet.Packet.{Packet}
 use Rattle.oletx_session.specs.Queues.{HasNoStray, wires_in}
 use Rattle.oletx_session.specs.Traffic.{Becomes, sent_on, wire_of}
-use Rattle.oletx_session.proofs.Histories.{carried_opened, carried_sent}
+use Rattle.oletx_session.proofs.Histories.{carried_opened, carried_opened_lost, carried_sent}
 use Rattle.oletx_session.proofs.Moves.{no_stray_sent, sent_dropped, sent_last}
 use Rattle.oletx_session.proofs.session.Session.send.Goals as goal
 
@@ -38,3 +38,13 @@ returns-clause-carries c = λ h carries shut.
 pub returns-clause-opened : goal.returns-clause-opened
 returns-clause-opened c = λ h started opening running.
     carried_opened c.args.c c.args.d c.args.m.now c.args.self.now.wires _ h c.requires (returns-clause-sent c) started opening running
+
+pub returns-then-not-is_open-clause-opened_lost : goal.returns-then-not-is_open-clause-opened_lost
+returns-then-not-is_open-clause-opened_lost c = λ h started opening stopped.
+    let ws = c.args.self.now.wires in
+    let dropped = sent_dropped c.args.c c.args.d c.args.m.now ws (wire_of c.args.c ws) refl (sym c.is_open.ensures ∙ c.if-not-is_open.true) in
+    carried_opened_lost c.args.c c.args.d c.args.m.now ws ws h dropped started opening stopped
+
+pub returns-clause-opened_lost : goal.returns-clause-opened_lost
+returns-clause-opened_lost c = λ h started opening stopped.
+    carried_opened_lost c.args.c c.args.d c.args.m.now c.args.self.now.wires _ h (returns-clause-sent c) started opening stopped

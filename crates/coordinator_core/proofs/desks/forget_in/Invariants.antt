@@ -1,0 +1,6 @@
+use Rattle.std.proofs.Common.{◌≡◌, ◌++◌, map, take, drop}
+use Rattle.dtx_model.specs.Coordinated.{unacked}
+use Rattle.coordinator_core.proofs.desks.forget_in.Given as goal
+
+abbrev pub invariant-loop-d : goal.invariant-loop-d
+invariant-loop-d l = l.desks ≡ map (unacked) (take l.d-index l.initial.desks) ++ drop l.d-index l.initial.desks

@@ -1,0 +1,6 @@
+use Rattle.std.proofs.Common.{◌∙◌, sym}
+use Rattle.coordinator_core.proofs.Following.{after_commit}
+use Rattle.coordinator_core.proofs.machine.Core.tell_commit.Goals as goal
+
+pub returns-clause-state : goal.returns-clause-state
+returns-clause-state c = c.answer_waiting.ensures.state ∙ sym (after_commit c.args.self.now.state)

@@ -1,0 +1,16 @@
+//! The coordinator's machine for one transaction: what it answers to messages and to ends, when it appends the record of the commit to
+//! its log, and when it frees it. No call takes memory.
+#![tactic(auto)]
+
+mod act;
+mod ballots;
+mod desks;
+mod lists;
+mod machine;
+mod stages;
+#[cfg(test)]
+mod tests;
+mod writer;
+
+pub use act::CoreAct;
+pub use machine::Core;

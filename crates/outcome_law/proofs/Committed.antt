@@ -1,0 +1,287 @@
+-- The rungs after a promotion: COMMIT, ASK, YES, PREPARE, the votes, and the decision.
+use Rattle.std.proofs.Common.{◌≡◌, ◌∙◌, Bool, true, false, ◌&&◌, ◌||◌, List, ◌∷◌, refl, ap, sym, subst}
+use Rattle.std.specs.Prelude.{not}
+use Rattle.std.proofs.lemmas.Bool.{eqb-true, true_from_ne_false}
+use Rattle.dtx_values.specs.declared.entry.Entry.{Entry}
+use Rattle.dtx_values.specs.declared.entry.Entry.TheVariants.{Enlisted, Voted, Requested, Sealed, LocalYes, Decided, Promoted, Sent, Got, Logged}
+use Rattle.dtx_values.specs.declared.entry.Request.TheVariants.{Commit}
+use Rattle.dtx_values.specs.declared.message.Conn.{Conn}
+use Rattle.dtx_values.specs.declared.message.Conn.TheVariants.{Begin, Voter, Enl}
+use Rattle.dtx_values.specs.declared.message.Dir.{Dir}
+use Rattle.dtx_values.specs.declared.message.Dir.TheVariants.{Up, Down}
+use Rattle.dtx_values.specs.declared.message.Message.{Message}
+use Rattle.dtx_values.specs.declared.message.Message.TheVariants.{BeginCommit, BeginCommitted, EnlistPrepare, EnlistPrepared, EnlistReadonly}
+use Rattle.dtx_values.specs.declared.number.EnlNo.{EnlNo}
+use Rattle.dtx_values.specs.declared.words.Outcome.TheVariants.{Committed}
+use Rattle.dtx_values.specs.declared.words.Vote.{Vote}
+use Rattle.dtx_values.specs.declared.words.Vote.TheVariants.{Yes, No, Done}
+use Rattle.dtx_model.specs.Words.{has, always}
+use Rattle.dtx_model.specs.Entries.{is_asked, is_decision, is_promoted, is_record, is_sealed, is_vote, is_yes}
+use Rattle.dtx_model.specs.Tied.{is_logged}
+use Rattle.dtx_model.specs.Observed.{ends_of}
+use Rattle.dtx_model.specs.Coordinated.{coordinate, is_active}
+use Rattle.dtx_values.specs.Vote.{is_no}
+use Rattle.dtx_values.specs.Lines.{is_opening}
+use Rattle.dtx_values.specs.Class.{is_promotable}
+use Rattle.dtx_values.specs.Ends.{knows, same_connection, same_direction}
+use Rattle.dtx_model.proofs.Bools.{and_left, and_right, and_both, not_false, not_true, not_both, or_case, or_first, or_second, or_right}
+use Rattle.outcome_law.proofs.Whole.{is_got_on, is_sent_on}
+use Rattle.outcome_law.proofs.Fine.{IsFine, is_bad}
+use Rattle.outcome_law.proofs.Messages.{ASK, BEGIN, BEGUN, COMMIT, COMMITTED, CREATED, PREPARE, VOTE, VOTED, YES}
+use Rattle.outcome_law.proofs.Debts.{has_promotable, is_decided_committed, is_volatile_made, knows_there}
+use Rattle.outcome_law.proofs.Knowledge.{got_known, knows_got}
+use Rattle.outcome_law.proofs.Stages.{IsUnlogged, begin_got, earlier, record_logged, sent_known, stage_of, stage_seen, unlogged_before}
+use Rattle.outcome_law.proofs.Arrived.{arrived}
+use Rattle.outcome_law.proofs.Connections.{same_is}
+use Rattle.outcome_law.proofs.Followed.{Demands, followed}
+use Rattle.outcome_law.proofs.Openings.{once_sent}
+use Rattle.outcome_law.proofs.Promoted.{climb, got_due, if_so, while_open}
+use Rattle.outcome_law.proofs.Unblamed.{fine_before, got_sent}
+use Rattle.outcome_law.proofs.Scans.{has_more}
+use Rattle.outcome_law.proofs.Rest.{IsQuiet, is_sound}
+
+-- a history in which nothing is decided
+pub record IsOpen (h : List Entry) : Type 0 where
+  pub fine : IsFine h
+  pub undecided : has is_decision h ≡ false
+  pub sound : always is_sound h ≡ true
+
+pub open_before : (x : Entry) (h : List Entry) → IsOpen (x ∷ h) → IsOpen h
+open_before x h r = record {
+  fine = fine_before x h r.fine;
+  undecided = or_second (is_decision x) (has is_decision h) r.undecided;
+  sound = and_right (is_sound h x) (always is_sound h) r.sound;
+}
+
+-- what the local side heard of the coordinator on a connection: both know it
+heard_known : (c : Conn) (p : Message → Bool) (h : List Entry) → IsFine h → always is_sound h ≡ true → has (is_got_on c Down p) h ≡ true → knows_there c h ≡ true
+heard_known c p h f s k = got_known c (is_opening c) h f.whole f.run (sent_known c p h s (once_sent c Down p h f.run k))
+
+heard_up : (c : Conn) (d : Dir) (p : Message → Bool) (h : List Entry) → IsFine h → has (is_got_on c d p) h ≡ true → knows c (ends_of h) ≡ true
+heard_up c d p h f k = knows_got c d p h f.whole f.run k
+
+-- after a promotion: BEGUN and CREATED were got
+promoted_begun : (h : List Entry) → always is_sound h ≡ true → has is_promoted h ≡ true → has (is_got_on Begin Down BEGUN) h ≡ true
+promoted_begun h s k = earlier is_sound is_promoted (λ h. has (is_got_on Begin Down BEGUN) h) (λ x h q. or_right (is_got_on Begin Down BEGUN x) (has (is_got_on Begin Down BEGUN) h) q) at h s k
+  where
+    at : (x : Entry) (h : List Entry) → is_sound h x ≡ true → is_promoted x ≡ true → has (is_got_on Begin Down BEGUN) h ≡ true
+    at (Promoted u c) h s k = and_left (has (is_got_on Begin Down BEGUN) h) (has (is_got_on Voter Down CREATED) h) (and_left (has (is_got_on Begin Down BEGUN) h && has (is_got_on Voter Down CREATED) h) (not (has is_sealed h)) s)
+    at x h s k = absurd cc
+
+promoted_created : (h : List Entry) → always is_sound h ≡ true → has is_promoted h ≡ true → has (is_got_on Voter Down CREATED) h ≡ true
+promoted_created h s k = earlier is_sound is_promoted (λ h. has (is_got_on Voter Down CREATED) h) (λ x h q. or_right (is_got_on Voter Down CREATED x) (has (is_got_on Voter Down CREATED) h) q) at h s k
+  where
+    at : (x : Entry) (h : List Entry) → is_sound h x ≡ true → is_promoted x ≡ true → has (is_got_on Voter Down CREATED) h ≡ true
+    at (Promoted u c) h s k = and_right (has (is_got_on Begin Down BEGUN) h) (has (is_got_on Voter Down CREATED) h) (and_left (has (is_got_on Begin Down BEGUN) h && has (is_got_on Voter Down CREATED) h) (not (has is_sealed h)) s)
+    at x h s k = absurd cc
+
+-- COMMIT was sent after a promotion
+commit_promoted : (h : List Entry) → always is_sound h ≡ true → has (is_sent_on Begin Up COMMIT) h ≡ true → has is_promoted h ≡ true
+commit_promoted h s k = earlier is_sound (is_sent_on Begin Up COMMIT) (λ h. has is_promoted h) (λ x h q. or_right (is_promoted x) (has is_promoted h) q) at h s k
+  where
+    at : (x : Entry) (h : List Entry) → is_sound h x ≡ true → is_sent_on Begin Up COMMIT x ≡ true → has is_promoted h ≡ true
+    at (Sent Begin Up BeginCommit) h s k = s
+    at x h s k = absurd cc
+
+-- Row of the table of rules: COMMITTED is sent on b where there is a record.
+abbrev pub is_recorded_first : List Entry → Entry → Bool
+is_recorded_first past (Sent Begin Down BeginCommitted) = has is_record past
+is_recorded_first past x = true
+
+-- so it was sent after a promotion, where nothing bad came
+pub committed_promoted : (h : List Entry) → IsFine h → always is_sound h ≡ true → always is_recorded_first h ≡ true → has (is_sent_on Begin Down COMMITTED) h ≡ true → has is_promoted h ≡ true
+committed_promoted h f s r k =
+    let recorded = earlier is_recorded_first (is_sent_on Begin Down COMMITTED) (λ h. has is_record h) (λ x h q. or_right (is_record x) (has is_record h) q) sent h r k in
+    let got = earlier is_sound is_logged (λ h. has (is_got_on Begin Up COMMIT) h) (λ x h q. or_right (is_got_on Begin Up COMMIT x) (has (is_got_on Begin Up COMMIT) h) q) logged h s
+    (record_logged h f.unbad recorded) in
+    commit_promoted h s (once_sent Begin Up COMMIT h f.run got)
+  where
+    sent : (x : Entry) (h : List Entry) → is_recorded_first h x ≡ true → is_sent_on Begin Down COMMITTED x ≡ true → has is_record h ≡ true
+    sent (Sent Begin Down BeginCommitted) h r k = r
+    sent x h r k = absurd cc
+
+    logged : (x : Entry) (h : List Entry) → is_sound h x ≡ true → is_logged x ≡ true → has (is_got_on Begin Up COMMIT) h ≡ true
+    logged Logged h s k = s
+    logged x h s k = absurd cc
+
+-- COMMIT got: ASK
+ask_due : (m : Message) (past : List Entry) → IsUnlogged (Got Begin Up m ∷ past) → COMMIT m ≡ true → Demands IsUnlogged past (Got Begin Up m) (is_sent_on Voter Down ASK)
+ask_due BeginCommit past r k =
+    let before = unlogged_before (Got Begin Up BeginCommit) past r in
+    let sent : has (is_sent_on Begin Up COMMIT) past ≡ true = got_sent Begin Up BeginCommit COMMIT past r.fine.run.0 refl in
+    let known = heard_known Voter CREATED past before.fine before.sound (promoted_created past before.sound (commit_promoted past before.sound sent)) in
+    let begun : has (is_got_on Begin Up BEGIN) past ≡ true = begin_got COMMIT (Got Begin Up BeginCommit ∷ past) r.fine refl in
+    let active : is_active (coordinate past).stage ≡ true = ap is_active (stage_seen past before) ∙ ap (λ b. is_active (stage_of b)) begun in
+    record {
+      test = is_sent_on Voter Down ASK;
+      owed = if_so (is_active (coordinate past).stage && knows_there Voter past) (is_sent_on Voter Down ASK) (and_both (is_active (coordinate past).stage) (knows_there Voter past) active known);
+      serves = λ x s t. t;
+    }
+ask_due m past r k = absurd cc
+
+-- COMMITTED got: decided
+decided_due : (m : Message) (past : List Entry) → IsOpen (Got Begin Down m ∷ past) → COMMITTED m ≡ true → Demands IsOpen past (Got Begin Down m) is_decided_committed
+decided_due BeginCommitted past r k = record { test = is_decided_committed; owed = while_open (has is_decision past) is_decided_committed r.undecided; serves = λ x s t. t }
+decided_due m past r k = absurd cc
+
+-- PREPARE got: asked
+asked_due : (e : EnlNo) (m : Message) (past : List Entry) → IsOpen (Got (Enl e) Down m ∷ past) → PREPARE m ≡ true → Demands IsOpen past (Got (Enl e) Down m) (is_asked e.value)
+asked_due e EnlistPrepare past r k = record { test = is_asked e.value; owed = refl; serves = λ x s t. t }
+asked_due e m past r k = absurd cc
+
+-- yes: YES
+yes_due : (y : Entry) (past : List Entry) → IsOpen (y ∷ past) → is_yes y ≡ true → Demands IsOpen past y (is_sent_on Voter Up YES)
+yes_due LocalYes past r k =
+    record {
+      test = is_sent_on Voter Up YES;
+      owed = if_so (knows Voter (ends_of past)) (is_sent_on Voter Up YES) (heard_up Voter Down ASK past (open_before LocalYes past r).fine (and_left (has (is_got_on Voter Down ASK) past) (always is_sound past) r.sound));
+      serves = λ x s t. t;
+    }
+yes_due y past r k = absurd cc
+
+-- logged: COMMITTED
+logged_due : (y : Entry) (past : List Entry) → IsOpen (y ∷ past) → is_logged y ≡ true → Demands IsOpen past y (is_sent_on Begin Down COMMITTED)
+logged_due Logged past r k =
+    record {
+      test = is_sent_on Begin Down COMMITTED;
+      owed = if_so (knows_there Begin past) (is_sent_on Begin Down COMMITTED)
+          (got_known Begin COMMIT past r.fine.whole r.fine.run.1 (and_left (has (is_got_on Begin Up COMMIT) past) (always is_sound past) r.sound));
+      serves = λ x s t. t;
+    }
+logged_due y past r k = absurd cc
+
+-- a request to commit: COMMIT
+abbrev pub is_commit_request : Entry → Bool
+is_commit_request (Requested e Commit) = true
+is_commit_request _ = false
+
+request_due : (y : Entry) (past : List Entry) → IsOpen (y ∷ past) → is_commit_request y ≡ true → Demands IsOpen past y (is_sent_on Begin Up COMMIT)
+request_due (Requested e Commit) past r k =
+    let before = open_before (Requested e Commit) past r in
+    let rule : has is_promoted past ≡ true = and_left (has is_promoted past) (always is_sound past) r.sound in
+    record {
+      test = is_sent_on Begin Up COMMIT;
+      owed = if_so (knows Begin (ends_of past)) (is_sent_on Begin Up COMMIT) (heard_up Begin Down BEGUN past before.fine (promoted_begun past before.sound rule));
+      serves = λ x s t. t;
+    }
+request_due y past r k = absurd cc
+
+-- sealed after the promotion, where no promotable was enlisted: COMMIT
+pub record IsPlain (h : List Entry) : Type 0 where
+  pub opened : IsOpen h
+  pub plain : has_promotable h ≡ false
+  pub order : has is_sealed h ≡ true → has is_promoted h ≡ true
+
+-- none was before
+pub plain_first : (x : Entry) (h : List Entry) → has_promotable (x ∷ h) ≡ false → has_promotable h ≡ false
+plain_first (Enlisted e c) h k = or_second (is_promotable c) (has_promotable h) k
+plain_first x h k = k
+
+plain_before : (x : Entry) (h : List Entry) → IsPlain (x ∷ h) → IsPlain h
+plain_before x h r = record {
+  opened = open_before x h r.opened;
+  plain = plain_first x h r.plain;
+  order = λ k. same x h k (and_left (is_sound h x) (always is_sound h) r.opened.sound) (r.order (or_right (is_sealed x) (has is_sealed h) k));
+}
+  where
+    same : (x : Entry) (h : List Entry) → has is_sealed h ≡ true → is_sound h x ≡ true → has is_promoted (x ∷ h) ≡ true → has is_promoted h ≡ true
+    same (Promoted u c) h k s p = absurd (not_both (has is_sealed h) k (not_true (has is_sealed h) (and_right (has (is_got_on Begin Down BEGUN) h && has (is_got_on Voter Down CREATED) h) (not (has is_sealed h)) s)))
+    same x h k s p = p
+
+sealed_due : (y : Entry) (past : List Entry) → IsPlain (y ∷ past) → is_sealed y ≡ true → Demands IsPlain past y (is_sent_on Begin Up COMMIT)
+sealed_due Sealed past r k =
+    let before = open_before Sealed past r.opened in
+    let first : has is_promoted past ≡ true = r.order refl in
+    record {
+      test = is_sent_on Begin Up COMMIT;
+      owed = if_so (has is_promoted past && not (has_promotable past) && knows Begin (ends_of past)) (is_sent_on Begin Up COMMIT)
+          (and_both (has is_promoted past && not (has_promotable past)) (knows Begin (ends_of past))
+          (and_both (has is_promoted past) (not (has_promotable past)) first (not_false (has_promotable past) r.plain))
+          (heard_up Begin Down BEGUN past before.fine (promoted_begun past before.sound first)));
+      serves = λ x s t. t;
+    }
+sealed_due y past r k = absurd cc
+
+-- The rungs. COMMIT is sent after the seal where no promotable was enlisted, and after a request.
+pub seal_commits : (h : List Entry) → IsPlain h → IsQuiet h → has is_sealed h ≡ true → has (is_sent_on Begin Up COMMIT) h ≡ true
+seal_commits h r w k = followed IsPlain plain_before is_sealed (is_sent_on Begin Up COMMIT) sealed_due h r w.paid w.free k
+
+pub request_commits : (h : List Entry) → IsOpen h → IsQuiet h → has is_commit_request h ≡ true → has (is_sent_on Begin Up COMMIT) h ≡ true
+request_commits h r w k = followed IsOpen open_before is_commit_request (is_sent_on Begin Up COMMIT) request_due h r w.paid w.free k
+
+-- COMMIT sent: got, and ASK was got
+pub commit_got : (h : List Entry) → IsOpen h → IsQuiet h → has (is_sent_on Begin Up COMMIT) h ≡ true → has (is_got_on Begin Up COMMIT) h ≡ true
+commit_got h r w k = arrived Begin Up COMMIT h r.fine.whole r.fine.run (w.empty Begin Up) k
+
+pub ask_got : (h : List Entry) → IsUnlogged h → IsQuiet h → has (is_got_on Begin Up COMMIT) h ≡ true → has (is_got_on Voter Down ASK) h ≡ true
+ask_got h r w k = climb IsUnlogged unlogged_before (λ h r. r.fine) Begin Voter Up Down COMMIT ASK ask_due h r w k
+
+-- the local yes: YES was got
+pub yes_got : (h : List Entry) → IsOpen h → IsQuiet h → has is_yes h ≡ true → has (is_got_on Voter Up YES) h ≡ true
+yes_got h r w k = arrived Voter Up YES h r.fine.whole r.fine.run (w.empty Voter Up) (followed IsOpen open_before is_yes (is_sent_on Voter Up YES) yes_due h r w.paid w.free k)
+
+-- PREPARE sent: asked
+pub enlistment_asked : (e : EnlNo) (h : List Entry) → IsOpen h → IsQuiet h → has (is_sent_on (Enl e) Down PREPARE) h ≡ true → has (is_asked e.value) h ≡ true
+enlistment_asked e h r w k =
+    followed IsOpen open_before (is_got_on (Enl e) Down PREPARE) (is_asked e.value) (got_due IsOpen (Enl e) Down PREPARE (is_asked e.value) (asked_due e)) h r w.paid w.free
+    (arrived (Enl e) Down PREPARE h r.fine.whole r.fine.run (w.empty (Enl e) Down) k)
+
+-- logged: it was decided
+pub logged_decided : (h : List Entry) → IsFine h → always is_sound h ≡ true → IsQuiet h → has is_logged h ≡ true → has is_decision h ≡ true
+logged_decided h f s w k = true_from_ne_false (has is_decision h) (λ u. clash u (record { fine = f; undecided = u; sound = s }))
+  where
+    decision : (x : Entry) → is_decided_committed x ≡ true → is_decision x ≡ true
+    decision (Decided Committed) k = refl
+    decision x k = absurd cc
+
+    clash : has is_decision h ≡ false → IsOpen h → ⊥
+    clash u r =
+        let sent = followed IsOpen open_before is_logged (is_sent_on Begin Down COMMITTED) logged_due h r w.paid w.free k in
+        let got = arrived Begin Down COMMITTED h f.whole f.run (w.empty Begin Down) sent in
+        not_both (has is_decision h)
+        (has_more is_decided_committed is_decision decision h
+        (followed IsOpen open_before (is_got_on Begin Down COMMITTED) is_decided_committed (got_due IsOpen Begin Down COMMITTED is_decided_committed decided_due) h r w.paid w.free got)) u
+
+-- voted: PREPARED or READONLY was got
+pub record IsLasting (e : EnlNo) (h : List Entry) : Type 0 where
+  pub opened : IsOpen h
+  pub lasting : has (is_volatile_made e.value) h ≡ false
+
+lasting_before : (e : EnlNo) (x : Entry) (h : List Entry) → IsLasting e (x ∷ h) → IsLasting e h
+lasting_before e x h r = record { opened = open_before x h r.opened; lasting = or_second (is_volatile_made e.value x) (has (is_volatile_made e.value) h) r.lasting }
+
+vote_due : (e : EnlNo) (y : Entry) (past : List Entry) → IsLasting e (y ∷ past) → is_vote e.value y ≡ true → Demands (IsLasting e) past y (is_sent_on (Enl e) Up VOTED)
+vote_due e (Voted f v) past r k =
+    let same : Enl e ≡ Enl f = same_is (Enl e) (Enl f) k in
+    let P : Conn → Type 0 = λ c. knows c (ends_of past) ≡ true in
+    let other : has (is_volatile_made f.value) past ≡ false = subst (λ n. has (is_volatile_made n) past ≡ false) (eqb-true e.value f.value k) r.lasting in
+    record {
+      test = is_sent_on (Enl f) Up (VOTE v);
+      owed = if_so (not (has (is_volatile_made f.value) past) && knows (Enl f) (ends_of past)) (is_sent_on (Enl f) Up (VOTE v))
+          (and_both (not (has (is_volatile_made f.value) past)) (knows (Enl f) (ends_of past)) (not_false (has (is_volatile_made f.value) past) other)
+          (subst P same (heard_up (Enl e) Down PREPARE past (open_before (Voted f v) past r.opened).fine prepared)));
+      serves = λ x s t. voted v (or_first (is_no v) (has is_bad past) (fine_before x (Voted f v ∷ past) s.opened.fine).unbad) x (subst (λ c. is_sent_on c Up (VOTE v) x ≡ true) (sym same) t);
+    }
+  where
+    prepared : has (is_got_on (Enl e) Down PREPARE) past ≡ true
+    prepared =
+        let Q : Conn → Type 0 = λ c. has (is_got_on c Down PREPARE) past ≡ true in
+        or_case (has (is_volatile_made f.value) past) (has (is_got_on (Enl f) Down PREPARE) past)
+        (λ q. absurd (not_both (has (is_volatile_made e.value) past) (subst (λ n. has (is_volatile_made n) past ≡ true) (sym (eqb-true e.value f.value k)) q) r.lasting))
+        (λ q. subst Q (sym (same_is (Enl e) (Enl f) k)) q) (and_left (has (is_volatile_made f.value) past || has (is_got_on (Enl f) Down PREPARE) past) (always is_sound past) r.opened.sound)
+
+    voted : (v : Vote) → is_no v ≡ false → (x : Entry) → is_sent_on (Enl e) Up (VOTE v) x ≡ true → is_sent_on (Enl e) Up VOTED x ≡ true
+    voted v n (Sent c d m) t = and_both (same_connection (Enl e) c && same_direction Up d) (VOTED m) (and_left (same_connection (Enl e) c && same_direction Up d) (VOTE v m) t) (good v m n (and_right (same_connection (Enl e) c && same_direction Up d) (VOTE v m) t))
+      where
+        good : (v : Vote) (m : Message) → is_no v ≡ false → VOTE v m ≡ true → VOTED m ≡ true
+        good Yes EnlistPrepared n k = refl
+        good Done EnlistReadonly n k = refl
+        good No m n k = absurd cc
+        good _ _ n k = absurd cc
+    voted v n x t = absurd cc
+vote_due e y past r k = absurd cc
+
+pub vote_got : (e : EnlNo) (h : List Entry) → IsLasting e h → IsQuiet h → has (is_vote e.value) h ≡ true → has (is_got_on (Enl e) Up VOTED) h ≡ true
+vote_got e h r w k =
+    arrived (Enl e) Up VOTED h r.opened.fine.whole r.opened.fine.run (w.empty (Enl e) Up)
+    (followed (IsLasting e) (lasting_before e) (is_vote e.value) (is_sent_on (Enl e) Up VOTED) (vote_due e) h r w.paid w.free k)

@@ -1,0 +1,139 @@
+-- The coordinator knows each desk's connection, and has a desk for each ENLIST that it got.
+use Rattle.std.proofs.Common.{◌≡◌, ◌∙◌, ℕ, ◌==◌, Bool, true, false, ◌&&◌, ◌||◌, List, [], ◌∷◌, Option, Some, None, refl}
+use Rattle.std.specs.Prelude.{not, map, if◌then◌else◌}
+use Rattle.std.proofs.lemmas.Bool.{or_left}
+use Rattle.dtx_values.specs.declared.entry.Entry.{Entry}
+use Rattle.dtx_values.specs.declared.entry.Entry.TheVariants.{Got, Down as End, Stopped, Restarted}
+use Rattle.dtx_values.specs.declared.message.Conn.{Conn}
+use Rattle.dtx_values.specs.declared.message.Conn.TheVariants.{Begin, Enl, Again}
+use Rattle.dtx_values.specs.declared.message.Dir.TheVariants.{Up, Down}
+use Rattle.dtx_values.specs.declared.message.Message.{Message}
+use Rattle.dtx_values.specs.declared.message.Message.TheVariants.{BeginCommit, EnlistEnlist, EnlistAck, ReenlistAck}
+use Rattle.dtx_values.specs.declared.number.EnlNo.{EnlNo}
+use Rattle.dtx_values.specs.Ends.{order_of, same_connection}
+use Rattle.dtx_values.specs.Lines.{has_line, is_opening}
+use Rattle.dtx_values.specs.Table.{insert_by}
+use Rattle.dtx_model.specs.declared.desk.Ballot.{Ballot}
+use Rattle.dtx_model.specs.declared.desk.Desk.{Desk}
+use Rattle.dtx_model.specs.Words.{has, each, always}
+use Rattle.dtx_model.specs.Entries.{is_commit_got}
+use Rattle.dtx_model.specs.Coordinated.{accepts, ballot_of, coordinate, desk_number, desks_after, follow, is_active, is_desk_of, known_after, with_ack, with_ballot, without}
+use Rattle.dtx_model.proofs.Bools.{and_left, or_case, or_false, or_second, or_right, not_true}
+use Rattle.outcome_law.proofs.Lists.{has-insert}
+use Rattle.outcome_law.proofs.Scans.{each_more}
+use Rattle.outcome_law.proofs.Whole.{is_got_on}
+use Rattle.outcome_law.proofs.Messages.{COMMIT, ENLIST}
+use Rattle.outcome_law.proofs.Fine.{IsFine}
+use Rattle.outcome_law.proofs.Rest.{is_ordered}
+use Rattle.outcome_law.proofs.Arrived.{newest}
+use Rattle.outcome_law.proofs.Connections.{same_self}
+use Rattle.outcome_law.proofs.Knowledge.{elsewhere, has_mapped, known_still}
+use Rattle.outcome_law.proofs.Stages.{IsUnlogged, active_at, unlogged_before}
+use Rattle.outcome_law.proofs.Recorded.{each_changed, each_inserted}
+use Rattle.outcome_law.proofs.Unblamed.{fine_before}
+
+-- it stays known with any entry that comes where nothing is lost
+stays_known : (c : Conn) (x : Entry) (h : List Entry) (ks : List Conn) → IsFine (x ∷ h) → has (same_connection c) ks ≡ true → has (same_connection c) (known_after x ks) ≡ true
+stays_known c (Got d Up m) h ks f k = step (has_line d Up m) (is_opening d m) (newest (Got d Up m) h f.whole)
+  where
+    step : (l o : Bool) → l ≡ true → has (same_connection c) (if not l then without d ks else if o then insert_by order_of d (without d ks) else ks) ≡ true
+    step true true e = known_still c d ks k
+    step true false e = k
+    step false o e = absurd cc
+stays_known c (End d Up) h ks f k = absurd cc
+stays_known c Stopped h ks f k = absurd cc
+stays_known c x h ks f k = k
+
+abbrev pub is_desk_known : List Conn → Desk → Bool
+is_desk_known ks d = has (same_connection (Enl d.enlistment)) ks
+
+-- each desk is known
+pub desks_known : (h : List Entry) → IsFine h → each (is_desk_known (coordinate h).known) (coordinate h).desks ≡ true
+unfolding coordinate follow
+desks_known [] f = refl
+desks_known (x ∷ h) f =
+    changed x f (each_more (is_desk_known (coordinate h).known) (is_desk_known (known_after x (coordinate h).known)) (λ d k. stays_known (Enl d.enlistment) x h (coordinate h).known f k) (coordinate h).desks
+    (desks_known h (fine_before x h f)))
+  where
+    both : (b : Bool) (xs ys : List Desk) (p : Desk → Bool) → each p xs ≡ true → each p ys ≡ true → each p (if b then xs else ys) ≡ true
+    both true xs ys p a k = a
+    both false xs ys p a k = k
+
+    balloted : (ks : List Conn) (e : ℕ) (m : Message) (d : Desk) → is_desk_known ks d ≡ true → is_desk_known ks (with_ballot e (ballot_of m) d) ≡ true
+    balloted ks e m d k = by (ballot_of m)
+      where
+        by : (o : Option Ballot) → is_desk_known ks (with_ballot e o d) ≡ true
+        by (Some b) = at (is_desk_of e d)
+          where
+            at : (c : Bool) → is_desk_known ks (if c then record { enlistment = d.enlistment; manager = d.manager; ballot = Some b; acked = d.acked } else d) ≡ true
+            at true = k
+            at false = k
+        by None = k
+
+    changed : (x : Entry) → IsFine (x ∷ h) → each (is_desk_known (known_after x (coordinate h).known)) (coordinate h).desks ≡ true
+        → each (is_desk_known (known_after x (coordinate h).known)) (desks_after (coordinate h) x) ≡ true
+    changed (Got (Enl e) Up (EnlistEnlist i)) f k =
+        let p = is_desk_known (insert_by order_of (Enl e) (without (Enl e) (coordinate h).known)) in
+        let new : Desk = record { enlistment = e; manager = i.rm; ballot = None; acked = false } in
+        both (accepts (coordinate h)) (insert_by desk_number new (coordinate h).desks) (coordinate h).desks p
+        (each_inserted p new (coordinate h).desks
+        (has-insert (same_connection (Enl e)) order_of (Enl e) (without (Enl e) (coordinate h).known)
+        ∙ or_left (same_connection (Enl e) (Enl e)) (has (same_connection (Enl e)) (without (Enl e) (coordinate h).known)) (same_self (Enl e))) k) k
+    changed (Got (Enl e) Up EnlistAck) f k = each_changed (is_desk_known (coordinate h).known) (is_desk_known (coordinate h).known) (with_ack e.value) (λ d q. q) (coordinate h).desks k
+    changed (Got (Again e) Up ReenlistAck) f k = each_changed (is_desk_known (coordinate h).known) (is_desk_known (coordinate h).known) (with_ack e.value) (λ d q. q) (coordinate h).desks k
+    changed (Got (Enl e) Up m) f k =
+        let p = is_desk_known (known_after (Got (Enl e) Up m) (coordinate h).known) in
+        both (is_active (coordinate h).stage) (map (with_ballot e.value (ballot_of m)) (coordinate h).desks) (coordinate h).desks p
+        (each_changed p p (with_ballot e.value (ballot_of m)) (balloted (known_after (Got (Enl e) Up m) (coordinate h).known) e.value m) (coordinate h).desks k) k
+    changed (Restarted b) f k = absurd cc
+    changed x f k = k
+
+-- COMMIT isn't noted where it wasn't got
+commit_unseen : (h : List Entry) → has (is_got_on Begin Up COMMIT) h ≡ false → (coordinate h).commit ≡ false
+unfolding coordinate follow
+commit_unseen [] k = refl
+commit_unseen (Got Begin Up BeginCommit ∷ h) k = absurd cc
+commit_unseen (x ∷ h) k = or_false (is_commit_got x && is_active (coordinate h).stage) (coordinate h).commit refl (commit_unseen h (or_second (is_got_on Begin Up COMMIT x) (has (is_got_on Begin Up COMMIT) h) k))
+
+-- a desk keeps its name
+named_ballot : (n e : ℕ) (o : Option Ballot) (d : Desk) → is_desk_of n d ≡ true → is_desk_of n (with_ballot e o d) ≡ true
+named_ballot n e (Some b) d k = at (is_desk_of e d)
+  where
+    at : (c : Bool) → is_desk_of n (if c then record { enlistment = d.enlistment; manager = d.manager; ballot = Some b; acked = d.acked } else d) ≡ true
+    at true = k
+    at false = k
+named_ballot n e None d k = k
+
+-- another message
+later : (a b : Bool) → ((a && true && false) || b) ≡ true → b ≡ true
+later true b k = k
+later false b k = k
+
+either : (b : Bool) (p : Desk → Bool) (xs ys : List Desk) → has p xs ≡ true → has p ys ≡ true → has p (if b then xs else ys) ≡ true
+either true p xs ys a k = a
+either false p xs ys a k = k
+
+-- it has a desk for each ENLIST that it got
+pub desk_there : (e : EnlNo) (h : List Entry) → IsUnlogged h → has (is_got_on (Enl e) Up ENLIST) h ≡ true → has (is_desk_of e.value) (coordinate h).desks ≡ true
+unfolding coordinate follow
+desk_there e [] r k = absurd cc
+desk_there e (Got (Enl f) Up (EnlistEnlist i) ∷ h) r k =
+    let x = Got (Enl f) Up (EnlistEnlist i) in
+    let before = unlogged_before x h r in
+    let early : has (is_got_on Begin Up COMMIT) h ≡ false = not_true (has (is_got_on Begin Up COMMIT) h) (and_left (not (has (is_got_on Begin Up COMMIT) h)) (always is_ordered h) r.ordered) in
+    rw (active_at (Enl f) (EnlistEnlist i) h refl before r.fine.run.0, commit_unseen h early)
+    (has-insert (is_desk_of e.value) desk_number (record { enlistment = f; manager = i.rm; ballot = None; acked = false }) (coordinate h).desks
+    ∙ (or_case ((e.value == f.value) && true && true) (has (is_got_on (Enl e) Up ENLIST) h)
+    (λ q. or_left (e.value == f.value) (has (is_desk_of e.value) (coordinate h).desks) (and_left (e.value == f.value) true (and_left ((e.value == f.value) && true) true q)))
+    (λ q. or_right (e.value == f.value) (has (is_desk_of e.value) (coordinate h).desks) (desk_there e h before q)) k))
+desk_there e (Got (Enl f) Up EnlistAck ∷ h) r k =
+    has_mapped (is_desk_of e.value) (is_desk_of e.value) (with_ack f.value) (λ d q. q) (coordinate h).desks (desk_there e h (unlogged_before (Got (Enl f) Up EnlistAck) h r) (later (e.value == f.value) (has (is_got_on (Enl e) Up ENLIST) h) k))
+desk_there e (Got (Again f) Up ReenlistAck ∷ h) r k =
+    has_mapped (is_desk_of e.value) (is_desk_of e.value) (with_ack f.value) (λ d q. q) (coordinate h).desks (desk_there e h (unlogged_before (Got (Again f) Up ReenlistAck) h r) k)
+desk_there e (Got (Enl f) Up m ∷ h) r k =
+    let there = desk_there e h (unlogged_before (Got (Enl f) Up m) h r) (later (e.value == f.value) (has (is_got_on (Enl e) Up ENLIST) h) k) in
+    either (is_active (coordinate h).stage) (is_desk_of e.value) (map (with_ballot f.value (ballot_of m)) (coordinate h).desks) (coordinate h).desks
+    (has_mapped (is_desk_of e.value) (is_desk_of e.value) (with_ballot f.value (ballot_of m)) (named_ballot e.value f.value (ballot_of m)) (coordinate h).desks there) there
+desk_there e (Got (Enl f) Down m ∷ h) r k = desk_there e h (unlogged_before (Got (Enl f) Down m) h r) (elsewhere (e.value == f.value) (ENLIST m) (has (is_got_on (Enl e) Up ENLIST) h) k)
+desk_there e (Restarted b ∷ h) r k = absurd cc
+desk_there e (x ∷ h) r k = desk_there e h (unlogged_before x h r) k

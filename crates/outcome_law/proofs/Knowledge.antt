@@ -1,0 +1,229 @@
+-- What each side knows of a connection where nothing is lost: the local side each that it opened, and what it heard there; the coordinator each of which it
+-- got the opening message.
+use Rattle.std.proofs.Common.{◌≡◌, ℕ, ◌==◌, ◌<◌, ◌^◌, Bool, true, false, ◌&&◌, ◌||◌, List, [], ◌∷◌, refl, ◌∙◌, sym, subst, arith}
+use Rattle.std.specs.Prelude.{not, map, filter, max, bit_or, if◌then◌else◌}
+use Rattle.std.specs.Int.{bit_at}
+use Rattle.std.proofs.lemmas.Bool.{or_left}
+use Rattle.std.proofs.lemmas.Bool.Decides.{nat_tests}
+use Rattle.std.proofs.lemmas.Nat.Bits.{bit_at_or, bit_at-lt, bit_at-pow_same}
+use Rattle.dtx_values.specs.declared.end.End.{End}
+use Rattle.dtx_values.specs.declared.entry.Entry.{Entry}
+use Rattle.dtx_values.specs.declared.entry.Entry.TheVariants.{Sent, Got, Down as Ended, Stopped}
+use Rattle.dtx_values.specs.declared.message.Conn.{Conn}
+use Rattle.dtx_values.specs.declared.message.Conn.TheVariants.{Voter}
+use Rattle.dtx_values.specs.declared.message.Dir.{Dir}
+use Rattle.dtx_values.specs.declared.message.Dir.TheVariants.{Up, Down}
+use Rattle.dtx_values.specs.declared.message.Message.{Message}
+use Rattle.dtx_values.specs.declared.message.Message.TheVariants.{VoterAsk}
+use Rattle.dtx_values.specs.Ends.{end_order, is_end_of, is_in, knows, note_end, note_got, note_sent, order_of, same_connection, tag_of, was_got, with_opened, with_tag}
+use Rattle.dtx_values.specs.Lines.{has_line, is_opening}
+use Rattle.dtx_values.specs.Table.{insert_by}
+use Rattle.dtx_model.specs.Words.{has}
+use Rattle.dtx_model.specs.Wires.{WireRun, opens}
+use Rattle.dtx_model.specs.Observed.{ends_of}
+use Rattle.dtx_model.specs.Coordinated.{coordinate, follow, without}
+use Rattle.dtx_model.proofs.Bools.{and_both, and_left, and_right, or_case, or_right, not_both, not_false}
+use Rattle.outcome_law.proofs.Connections.{same_is}
+use Rattle.outcome_law.proofs.Lists.{has_kept, has-insert, if_kept}
+use Rattle.outcome_law.proofs.Owned.{has_filter}
+use Rattle.outcome_law.proofs.Scans.{has_more}
+use Rattle.outcome_law.proofs.Whole.{is_got_on, is_whole, whole}
+use Rattle.outcome_law.proofs.Messages.{ASK}
+use Rattle.outcome_law.proofs.Debts.{knows_there}
+use Rattle.outcome_law.proofs.Arrived.{before, newest}
+use Rattle.outcome_law.proofs.Unblamed.{no_end}
+use Rattle.outcome_law.proofs.Openings.{got_opened, opening_first}
+
+-- The local side. A connection that is known stays known with a message that is sent or got on any.
+abbrev pub is_known_end : Conn → End → Bool
+is_known_end c n = is_end_of c n && not n.ended
+
+sent_known_end : (c e : Conn) (tag : ℕ) (ns : List End) → knows c (map (note_sent e tag) ns) ≡ knows c ns
+sent_known_end c e tag ns =
+    has_kept (is_known_end c) (note_sent e tag)
+    (λ n. if_kept (is_known_end c) (is_end_of e n) (record { connection = n.connection; sent = with_tag tag n.sent; got = n.got; ended = n.ended }) n refl) ns
+
+got_known_end : (c e : Conn) (tag : ℕ) (ns : List End) → knows c (map (note_got e tag) ns) ≡ knows c ns
+got_known_end c e tag ns =
+    has_kept (is_known_end c) (note_got e tag)
+    (λ n. if_kept (is_known_end c) (is_end_of e n) (record { connection = n.connection; sent = n.sent; got = with_tag tag n.got; ended = n.ended }) n refl) ns
+
+-- where another is opened, what stands of this one stays
+other_stays : (c e : Conn) (q : End → Bool) (tag : ℕ) (ns : List End) → same_connection c e ≡ false → ((n : End) → q n ≡ true → is_end_of c n ≡ true) → has q ns ≡ true → has q (with_opened e tag ns) ≡ true
+other_stays c e q tag ns other of k =
+    let new : End = record { connection = e; sent = with_tag tag 0; got = 0; ended = false } in
+    has-insert q end_order new (filter (λ n. not (is_end_of e n)) ns)
+    ∙ or_right (q new) (has q (filter (λ n. not (is_end_of e n)) ns))
+    (has_filter q (λ n. not (is_end_of e n)) ns ∙ has_more q (λ n. q n && not (is_end_of e n)) (λ n a. and_both (q n) (not (is_end_of e n)) a (apart n (of n a))) ns k)
+  where
+    apart : (n : End) → is_end_of c n ≡ true → not (is_end_of e n) ≡ true
+    apart n a = step (is_end_of e n) refl
+      where
+        step : (b : Bool) → is_end_of e n ≡ b → not b ≡ true
+        step true s = absurd (not_both (same_connection c e) (let P : Conn → Type 0 = λ x. same_connection c x ≡ true in subst P (sym (same_is e n.connection s)) a) other)
+        step false s = refl
+
+-- a connection that is opened is known
+opened_known : (c e : Conn) (tag : ℕ) (ns : List End) → same_connection c e ≡ true → knows c (with_opened e tag ns) ≡ true
+opened_known c e tag ns s =
+    let new : End = record { connection = e; sent = with_tag tag 0; got = 0; ended = false } in
+    has-insert (is_known_end c) end_order new (filter (λ n. not (is_end_of e n)) ns)
+    ∙ or_left (same_connection c e && true) (knows c (filter (λ n. not (is_end_of e n)) ns)) (and_both (same_connection c e) true s refl)
+
+-- what is opened, and what isn't, by a message that is sent
+pub knows_where : (c : Conn) (h : List Entry) → whole h ≡ true → WireRun h → has (opens c) h ≡ true → knows c (ends_of h) ≡ true
+knows_where c [] w run k = absurd cc
+knows_where c (Sent e Up m ∷ h) w run k = step (knows_where c h (before (Sent e Up m) h w) run.1) (same_connection c e) (is_opening e m) refl k
+  where
+    step : (has (opens c) h ≡ true → knows c (ends_of h) ≡ true) → (s o : Bool) → same_connection c e ≡ s → ((s && o) || has (opens c) h) ≡ true
+        → knows c (if o then with_opened e (tag_of m) (ends_of h) else map (note_sent e (tag_of m)) (ends_of h)) ≡ true
+    step ih true true q k = opened_known c e (tag_of m) (ends_of h) q
+    step ih false true q k = other_stays c e (is_known_end c) (tag_of m) (ends_of h) q (λ n a. and_left (is_end_of c n) (not n.ended) a) (ih k)
+    step ih true false q k = sent_known_end c e (tag_of m) (ends_of h) ∙ ih k
+    step ih false false q k = sent_known_end c e (tag_of m) (ends_of h) ∙ ih k
+knows_where c (Got e Down m ∷ h) w run k = step (knows_where c h (before (Got e Down m) h w) run.1 k) (has_line e Down m) (newest (Got e Down m) h w)
+  where
+    step : knows c (ends_of h) ≡ true → (l : Bool) → l ≡ true → knows c (if l then map (note_got e (tag_of m)) (ends_of h) else map (note_end e) (ends_of h)) ≡ true
+    step ih true l = got_known_end c e (tag_of m) (ends_of h) ∙ ih
+    step ih false l = absurd cc
+knows_where c (Ended e d ∷ h) w run k = absurd (no_end e d h (before (Ended e d) h w) run)
+knows_where c (x ∷ h) w run k = knows_where c h (before x h w) run.1 k
+
+-- so a connection on which something was sent or got is known
+pub knows_got : (c : Conn) (d : Dir) (p : Message → Bool) (h : List Entry) → whole h ≡ true → WireRun h → has (is_got_on c d p) h ≡ true → knows c (ends_of h) ≡ true
+knows_got c d p h w run k = knows_where c h w run (got_opened c d p h w run k)
+
+-- A message's tag is among those of what was got.
+with_own : (tag tags : ℕ) → is_in tag (with_tag tag tags) ≡ true
+with_own tag tags =
+    let e = bit_at_or tags (2 ^ tag) tag in
+    let one = bit_at-pow_same tag in
+    let low = bit_at-lt tags tag in
+    bit (bit_at tags tag) (bit_at (2 ^ tag) tag) (bit_at (bit_or tags (2 ^ tag)) tag) low one e
+  where
+    bit : (a b c : ℕ) → a < 2 → b ≡ 1 → c ≡ max a b → (c == 1) ≡ true
+    bit a b c l o e = grind (arith, nat_tests)
+
+with_other : (tag other tags : ℕ) → is_in tag tags ≡ true → is_in tag (with_tag other tags) ≡ true
+with_other tag other tags k =
+    bit (bit_at tags tag) (bit_at (2 ^ other) tag) (bit_at (bit_or tags (2 ^ other)) tag) (bit_at-lt (2 ^ other) tag) k (bit_at_or tags (2 ^ other) tag)
+  where
+    bit : (a b c : ℕ) → b < 2 → (a == 1) ≡ true → c ≡ max a b → (c == 1) ≡ true
+    bit a b c l o e = grind (arith, nat_tests)
+
+abbrev pub is_heard_end : Conn → ℕ → End → Bool
+is_heard_end c tag n = is_end_of c n && is_in tag n.got
+
+heard_sent : (c e : Conn) (tag other : ℕ) (ns : List End) → was_got c tag (map (note_sent e other) ns) ≡ was_got c tag ns
+heard_sent c e tag other ns =
+    has_kept (is_heard_end c tag) (note_sent e other)
+    (λ n. if_kept (is_heard_end c tag) (is_end_of e n) (record { connection = n.connection; sent = with_tag other n.sent; got = n.got; ended = n.ended }) n refl) ns
+
+-- some changed item passes where each that passed does so changed
+pub has_mapped : {A : Type 0} (p q : A → Bool) (f : A → A) → ((x : A) → p x ≡ true → q (f x) ≡ true) → (xs : List A) → has p xs ≡ true → has q (map f xs) ≡ true
+has_mapped p q f sub [] k = absurd cc
+has_mapped p q f sub (x ∷ xs) k = or_case (p x) (has p xs) (λ a. or_left (q (f x)) (has q (map f xs)) (sub x a)) (λ a. or_right (q (f x)) (has q (map f xs)) (has_mapped p q f sub xs a)) k
+
+heard_got : (c e : Conn) (tag other : ℕ) (ns : List End) → was_got c tag ns ≡ true → was_got c tag (map (note_got e other) ns) ≡ true
+heard_got c e tag other ns k = has_mapped (is_heard_end c tag) (is_heard_end c tag) (note_got e other) (λ n a. step n (is_end_of e n) a) ns k
+  where
+    step : (n : End) (b : Bool) → is_heard_end c tag n ≡ true
+        → is_heard_end c tag (if b then record { connection = n.connection; sent = n.sent; got = with_tag other n.got; ended = n.ended } else n) ≡ true
+    step n true a = and_both (is_end_of c n) (is_in tag (with_tag other n.got)) (and_left (is_end_of c n) (is_in tag n.got) a) (with_other tag other n.got (and_right (is_end_of c n) (is_in tag n.got) a))
+    step n false a = a
+
+heard_own : (c : Conn) (tag : ℕ) (ns : List End) → knows c ns ≡ true → was_got c tag (map (note_got c tag) ns) ≡ true
+heard_own c tag ns k = has_mapped (is_known_end c) (is_heard_end c tag) (note_got c tag) (λ n a. step n (is_end_of c n) refl (and_left (is_end_of c n) (not n.ended) a)) ns k
+  where
+    step : (n : End) (b : Bool) → is_end_of c n ≡ b → b ≡ true
+        → is_heard_end c tag (if b then record { connection = n.connection; sent = n.sent; got = with_tag tag n.got; ended = n.ended } else n) ≡ true
+    step n true q a = and_both (is_end_of c n) (is_in tag (with_tag tag n.got)) q (with_own tag n.got)
+    step n false q a = absurd cc
+
+-- a message in the other direction is another
+pub elsewhere : (a b r : Bool) → ((a && false && b) || r) ≡ true → r ≡ true
+elsewhere true b r k = k
+elsewhere false b r k = k
+
+-- what was asked of the voter is noted
+pub ask_heard : (h : List Entry) → whole h ≡ true → WireRun h → has (is_got_on Voter Down ASK) h ≡ true → was_got Voter (tag_of VoterAsk) (ends_of h) ≡ true
+ask_heard [] w run k = absurd cc
+ask_heard (Sent e Up m ∷ h) w run k = by (ask_heard h (before (Sent e Up m) h w) run.1 k) (is_opening e m) refl (same_connection Voter e) refl
+  where
+    opened : has (opens Voter) h ≡ true
+    opened = got_opened Voter Down ASK h (before (Sent e Up m) h w) run.1 k
+
+    again : (e : Conn) → same_connection Voter e ≡ true → is_opening e m ≡ true → is_whole h (Sent e Up m) ≡ true → has (opens Voter) h ≡ false
+    again Voter s o w = shut (has (opens Voter) h) (is_opening Voter m) o w
+      where
+        shut : (b c : Bool) → c ≡ true → (if c then not b else b) ≡ true → b ≡ false
+        shut true true o k = absurd cc
+        shut true false o k = absurd cc
+        shut false c o k = refl
+    again _ s o w = absurd cc
+
+    by : was_got Voter (tag_of VoterAsk) (ends_of h) ≡ true → (o : Bool) → is_opening e m ≡ o → (s : Bool) → same_connection Voter e ≡ s
+        → was_got Voter (tag_of VoterAsk) (if o then with_opened e (tag_of m) (ends_of h) else map (note_sent e (tag_of m)) (ends_of h)) ≡ true
+    by ih true f true q = absurd (not_both (has (opens Voter) h) opened (again e q f (newest (Sent e Up m) h w)))
+    by ih true f false q = other_stays Voter e (is_heard_end Voter (tag_of VoterAsk)) (tag_of m) (ends_of h) q (λ n a. and_left (is_end_of Voter n) (is_in (tag_of VoterAsk) n.got) a) ih
+    by ih false f s q = heard_sent Voter e (tag_of VoterAsk) (tag_of m) (ends_of h) ∙ ih
+ask_heard (Got Voter Down VoterAsk ∷ h) w run k =
+    heard_own Voter (tag_of VoterAsk) (ends_of h) (knows_where Voter h (before (Got Voter Down VoterAsk) h w) run.1 (got_opened Voter Down ASK (Got Voter Down VoterAsk ∷ h) w run refl))
+ask_heard (Got e Down m ∷ h) w run k = step (ask_heard h (before (Got e Down m) h w) run.1 k) (has_line e Down m) (newest (Got e Down m) h w)
+  where
+    step : was_got Voter (tag_of VoterAsk) (ends_of h) ≡ true → (l : Bool) → l ≡ true
+        → was_got Voter (tag_of VoterAsk) (if l then map (note_got e (tag_of m)) (ends_of h) else map (note_end e) (ends_of h)) ≡ true
+    step ih true l = heard_got Voter e (tag_of VoterAsk) (tag_of m) (ends_of h) ih
+    step ih false l = absurd cc
+ask_heard (Got e Up m ∷ h) w run k = ask_heard h (before (Got e Up m) h w) run.1 (elsewhere (same_connection Voter e) (ASK m) (has (is_got_on Voter Down ASK) h) k)
+ask_heard (Ended e d ∷ h) w run k = absurd (no_end e d h (before (Ended e d) h w) run)
+ask_heard (x ∷ h) w run k = ask_heard h (before x h w) run.1 k
+
+-- The coordinator. A connection that is known stays known where another is opened.
+pub known_still : (c d : Conn) (ks : List Conn) → has (same_connection c) ks ≡ true → has (same_connection c) (insert_by order_of d (without d ks)) ≡ true
+known_still c d ks k = has-insert (same_connection c) order_of d (without d ks) ∙ step (same_connection c d) refl
+  where
+    step : (b : Bool) → same_connection c d ≡ b → (b || has (same_connection c) (without d ks)) ≡ true
+    step true e = refl
+    step false e =
+        has_filter (same_connection c) (λ x. not (same_connection d x)) ks
+        ∙ has_more (same_connection c) (λ x. same_connection c x && not (same_connection d x)) (λ x a. and_both (same_connection c x) (not (same_connection d x)) a (apart x a)) ks k
+      where
+        apart : (x : Conn) → same_connection c x ≡ true → not (same_connection d x) ≡ true
+        apart x a =
+            not_false (same_connection d x)
+            (by (same_connection d x) (λ s. not_both (same_connection c d) (let P : Conn → Type 0 = λ y. same_connection c y ≡ true in subst P (sym (same_is d x s)) a) e))
+          where
+            by : (b : Bool) → (b ≡ true → ⊥) → b ≡ false
+            by true f = absurd (f refl)
+            by false f = refl
+
+-- a connection whose opening message was got is known
+pub opening_known : (c : Conn) (h : List Entry) → whole h ≡ true → WireRun h → has (is_got_on c Up (is_opening c)) h ≡ true → knows_there c h ≡ true
+unfolding coordinate follow
+opening_known c [] w run k = absurd cc
+opening_known c (Got e Up m ∷ h) w run k = step (opening_known c h (before (Got e Up m) h w) run.1) (has_line e Up m) (newest (Got e Up m) h w)
+  where
+    own : (same_connection c e && true && is_opening c m) ≡ true → has (same_connection c) (if is_opening e m then insert_by order_of e (without e (coordinate h).known) else (coordinate h).known) ≡ true
+    own q =
+        let s = and_left (same_connection c e) true (and_left (same_connection c e && true) (is_opening c m) q) in
+        let P : Conn → Type 0 = λ x. is_opening x m ≡ true in
+        let o : is_opening e m ≡ true = subst P (same_is c e s) (and_right (same_connection c e && true) (is_opening c m) q) in
+        rw o (has-insert (same_connection c) order_of e (without e (coordinate h).known) ∙ or_left (same_connection c e) (has (same_connection c) (without e (coordinate h).known)) s)
+
+    other : (o : Bool) → has (same_connection c) (coordinate h).known ≡ true → has (same_connection c) (if o then insert_by order_of e (without e (coordinate h).known) else (coordinate h).known) ≡ true
+    other true a = known_still c e (coordinate h).known a
+    other false a = a
+
+    step : (has (is_got_on c Up (is_opening c)) h ≡ true → has (same_connection c) (coordinate h).known ≡ true) → (l : Bool) → l ≡ true
+        → has (same_connection c) (if not l then without e (coordinate h).known else if is_opening e m then insert_by order_of e (without e (coordinate h).known) else (coordinate h).known) ≡ true
+    step ih true l = or_case (same_connection c e && true && is_opening c m) (has (is_got_on c Up (is_opening c)) h) own (λ a. other (is_opening e m) (ih a)) k
+    step ih false l = absurd cc
+opening_known c (Got e Down m ∷ h) w run k = opening_known c h (before (Got e Down m) h w) run.1 (elsewhere (same_connection c e) (is_opening c m) (has (is_got_on c Up (is_opening c)) h) k)
+opening_known c (Ended e d ∷ h) w run k = absurd (no_end e d h (before (Ended e d) h w) run)
+opening_known c (Stopped ∷ h) w run k = absurd cc
+opening_known c (x ∷ h) w run k = opening_known c h (before x h w) run.1 k
+
+-- and so is one on which anything was got
+pub got_known : (c : Conn) (p : Message → Bool) (h : List Entry) → whole h ≡ true → WireRun h → has (is_got_on c Up p) h ≡ true → knows_there c h ≡ true
+got_known c p h w run k = opening_known c h w run (opening_first c p h w run k)

@@ -1,0 +1,77 @@
+-- The messages by their names, as tests.
+use Rattle.std.proofs.Common.{Bool, true, false}
+use Rattle.dtx_values.specs.declared.message.Message.{Message}
+use Rattle.dtx_values.specs.declared.message.Message.TheVariants.{BeginBegin, BeginBegun, BeginCommit, BeginCommitted, VoterVoter, VoterCreated, VoterRefused, VoterAbort, VoterAsk, VoterYes, EnlistEnlist, EnlistEnlisted, EnlistRefused, EnlistAbort, EnlistPrepare, EnlistPrepared, EnlistReadonly, EnlistNo}
+use Rattle.dtx_values.specs.declared.words.Vote.{Vote}
+use Rattle.dtx_values.specs.declared.words.Vote.TheVariants.{Yes, No, Done}
+
+abbrev pub BEGIN : Message → Bool
+BEGIN BeginBegin = true
+BEGIN _ = false
+
+abbrev pub BEGUN : Message → Bool
+BEGUN (BeginBegun u) = true
+BEGUN _ = false
+
+abbrev pub COMMIT : Message → Bool
+COMMIT BeginCommit = true
+COMMIT _ = false
+
+abbrev pub COMMITTED : Message → Bool
+COMMITTED BeginCommitted = true
+COMMITTED _ = false
+
+abbrev pub VOTER : Message → Bool
+VOTER (VoterVoter u) = true
+VOTER _ = false
+
+abbrev pub CREATED : Message → Bool
+CREATED VoterCreated = true
+CREATED _ = false
+
+-- what answers VOTER
+abbrev pub VOTER_ANSWER : Message → Bool
+VOTER_ANSWER VoterCreated = true
+VOTER_ANSWER (VoterRefused c) = true
+VOTER_ANSWER VoterAbort = true
+VOTER_ANSWER _ = false
+
+abbrev pub ASK : Message → Bool
+ASK VoterAsk = true
+ASK _ = false
+
+abbrev pub YES : Message → Bool
+YES VoterYes = true
+YES _ = false
+
+abbrev pub ENLIST : Message → Bool
+ENLIST (EnlistEnlist i) = true
+ENLIST _ = false
+
+abbrev pub ENLISTED : Message → Bool
+ENLISTED EnlistEnlisted = true
+ENLISTED _ = false
+
+-- what answers ENLIST
+abbrev pub ENLIST_ANSWER : Message → Bool
+ENLIST_ANSWER EnlistEnlisted = true
+ENLIST_ANSWER (EnlistRefused c) = true
+ENLIST_ANSWER EnlistAbort = true
+ENLIST_ANSWER _ = false
+
+abbrev pub PREPARE : Message → Bool
+PREPARE EnlistPrepare = true
+PREPARE _ = false
+
+-- what a durable sends of its vote
+abbrev pub VOTE : Vote → Message → Bool
+VOTE Yes EnlistPrepared = true
+VOTE Done EnlistReadonly = true
+VOTE No EnlistNo = true
+VOTE _ _ = false
+
+-- what a durable sends of a good vote
+abbrev pub VOTED : Message → Bool
+VOTED EnlistPrepared = true
+VOTED EnlistReadonly = true
+VOTED _ = false

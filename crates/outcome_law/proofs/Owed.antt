@@ -1,0 +1,381 @@
+-- Where no reply is due of anyone whose plan isn't silent, whoever was asked to prepare has voted, and the promotable that was asked has replied.
+use Rattle.std.proofs.Common.{◌≡◌, ℕ, zero, suc, ◌==◌, Bool, true, false, ◌&&◌, ◌||◌, List, [], ◌∷◌, Option, Some, None, refl, ◌∙◌, ap, sym, subst, map}
+use Rattle.std.specs.Prelude.{find, is_none, is_some, not, if◌then◌else◌}
+use Rattle.std.specs.List.{slice_get}
+use Rattle.std.proofs.lemmas.Bool.{eqb-true, false_from_ne_true, or_left}
+use Rattle.dtx_values.specs.declared.entry.Ask.TheVariants.{Prepare as AskPrepare, Promote as AskPromote, Single as AskSingle}
+use Rattle.dtx_values.specs.declared.entry.Entry.{Entry}
+use Rattle.dtx_values.specs.declared.entry.Entry.TheVariants.{Asked, Enlisted, Lost, Reenlisted, Told}
+use Rattle.dtx_values.specs.declared.entry.Party.TheVariants.{Enl as Member}
+use Rattle.dtx_values.specs.declared.message.Conn.{Conn}
+use Rattle.dtx_values.specs.declared.message.Conn.TheVariants.{Enl}
+use Rattle.dtx_values.specs.declared.message.Dir.TheVariants.{Down}
+use Rattle.dtx_values.specs.declared.note.Note.{Note}
+use Rattle.dtx_values.specs.declared.note.Note.TheVariants.{Prepare, Promote as PromoteNote, Hand, Single}
+use Rattle.dtx_values.specs.declared.note.Plan.{Plan}
+use Rattle.dtx_values.specs.declared.number.EnlNo.{EnlNo}
+use Rattle.dtx_values.specs.declared.row.Row.{Row}
+use Rattle.dtx_values.specs.declared.words.Class.{Class}
+use Rattle.dtx_values.specs.declared.words.Class.TheVariants.{Promotable}
+use Rattle.dtx_values.specs.declared.words.Outcome.{Outcome}
+use Rattle.dtx_values.specs.declared.words.Outcome.TheVariants.{Committed, Aborted, InDoubt}
+use Rattle.dtx_values.specs.declared.words.Vote.{Vote}
+use Rattle.dtx_values.specs.Class.{is_promotable, is_volatile}
+use Rattle.dtx_values.specs.Ends.{knows}
+use Rattle.dtx_values.specs.Row.{has_voted, is_marked, is_of}
+use Rattle.dtx_values.specs.Table.{enl_number, insert_by, voted, was_asked}
+use Rattle.dtx_values.specs.Vote.{voted_well}
+use Rattle.dtx_model.specs.declared.branch.Branch.{Branch}
+use Rattle.dtx_model.specs.declared.listener.Listener.{Listener}
+use Rattle.dtx_model.specs.Words.{has, each, always, latest, or_else}
+use Rattle.dtx_model.specs.Entries.{decision_of, is_asked, is_decision, is_record, is_told, is_vote, same_outcome}
+use Rattle.dtx_model.specs.Observed.{come_back, ends_of, hear, lose, is_ask_promote, is_ask_single, is_promote_reply, is_request, listener_number, listeners, observe, rows}
+use Rattle.dtx_model.specs.Outcome.{can_own, enlisted}
+use Rattle.dtx_model.specs.Tied.{is_logged}
+use Rattle.dtx_model.specs.Wires.{holds}
+use Rattle.dtx_model.specs.Plans.{owner_reply, promote_reply, vote_reply}
+use Rattle.dtx_model.specs.Half.{is_gone, was_told}
+use Rattle.dtx_model.specs.Replies.{conn_due, due_of, may_still_vote, names, note_at, note_of_conn, owes_outcome, owes_promotion, owes_request, owes_vote, row_note, with_name, with_names}
+use Rattle.dtx_model.specs.History.{is_committed, is_loss, is_willing}
+use Rattle.dtx_model.proofs.Bools.{and_both, and_left, and_right, not_both, not_false, or_case, or_false, or_first, or_right, or_second}
+use Rattle.outcome_law.proofs.Lists.{each-insert, has-insert, has_kept}
+use Rattle.outcome_law.proofs.Picks.{each_from_at, has-at}
+use Rattle.outcome_law.proofs.Scans.{each-at, has_less}
+use Rattle.outcome_law.proofs.Tests.{eq_self}
+use Rattle.outcome_law.proofs.Dues.{is_unplanned, named_rows}
+use Rattle.outcome_law.proofs.Owned.{has_rows}
+use Rattle.outcome_law.proofs.TableRows.{each_rows}
+use Rattle.outcome_law.proofs.Settled.{has_answered}
+use Rattle.outcome_law.proofs.Whole.{is_got_on}
+use Rattle.outcome_law.proofs.Messages.{PREPARE}
+use Rattle.outcome_law.proofs.Fine.{IsFine, is_bad, is_made}
+use Rattle.outcome_law.proofs.Debts.{has_promotable, is_volatile_made}
+use Rattle.outcome_law.proofs.Connections.{same_is}
+use Rattle.outcome_law.proofs.Knowledge.{knows_got}
+use Rattle.outcome_law.proofs.Stages.{record_logged}
+use Rattle.outcome_law.proofs.Climbed.{none_decided}
+use Rattle.outcome_law.proofs.SameRows.{asked_marked, found_passes, is_asked_there, is_made_once, marked_asked, row_found, voted_cast}
+
+-- Rows of the table of rules: a volatile is asked to prepare, or who got PREPARE; a promotable is asked to promote or for its single phase; and an enlistment is
+-- told committed or in doubt where it was decided, or where there is a record.
+abbrev pub is_asked_well : List Entry → Entry → Bool
+is_asked_well past (Asked e AskPrepare) = has (is_volatile_made e.value) past || has (is_got_on (Enl e) Down PREPARE) past
+is_asked_well past (Asked e AskPromote) = has (is_made e.value is_promotable) past
+is_asked_well past (Asked e AskSingle) = has (is_made e.value is_promotable) past
+is_asked_well past (Told (Member e) x) = has is_decision past || has is_record past || same_outcome x Aborted
+is_asked_well past x = true
+
+-- a history whose enlistments are all willing, and of none of which a reply is due that its plan has
+pub record IsUnowed (p : ℕ → Plan) (h : List Entry) : Type 0 where
+  pub fine : IsFine h
+  pub unlost : has is_loss h ≡ false
+  pub once : always is_made_once h ≡ true
+  pub there : always is_asked_there h ≡ true
+  pub well : always is_asked_well h ≡ true
+  pub willing : each (λ x. is_willing (p x.0.value) x.1) (enlisted h) ≡ true
+  pub unowed : each (λ e. is_unplanned (p e.value) (due_of (observe h) e.value)) (names (observe h)) ≡ true
+
+-- each name of the table is among the names
+with_each : (f : EnlNo → Bool) (e : EnlNo) (es : List EnlNo) → each f (with_name e es) ≡ true → each f es ≡ true
+with_each f e es k = step (has (λ n. e.value == n.value) es) k
+  where
+    step : (b : Bool) → each f (if b then es else insert_by enl_number e es) ≡ true → each f es ≡ true
+    step true k = k
+    step false k = and_right (f e) (each f es) (sym (each-insert f enl_number e es) ∙ k)
+
+all_each : (f : EnlNo → Bool) (bs : List Branch) (es : List EnlNo) → each f (with_names bs es) ≡ true → each f es ≡ true
+all_each f [] es k = k
+all_each f (b ∷ bs) es k = all_each f bs es (with_each f b.enlistment (with_names bs es) k)
+
+-- where nobody was lost, none is gone
+none_gone : (h : List Entry) → has is_loss h ≡ false → has (λ l. l.lost) (listeners h) ≡ false
+none_gone [] n = refl
+none_gone (Enlisted e c ∷ h) n = has-insert (λ l. l.lost) listener_number (record { enlistment = e; told = false; lost = false }) (listeners h) ∙ none_gone h n
+none_gone (Told (Member e) x ∷ h) n = has_kept (λ l. l.lost) (hear e.value) (λ l. refl) (listeners h) ∙ none_gone h n
+none_gone (Lost e ∷ h) n = absurd cc
+none_gone (Reenlisted e ∷ h) n =
+    false_from_ne_true (has (λ l. l.lost) (listeners (Reenlisted e ∷ h)))
+    (λ k. not_both (has (λ l. l.lost) (listeners h))
+    (unlost (λ l. l.lost) (λ l. l.lost) (come_back e.value) (λ l a. and_right (not (e.value == l.enlistment.value)) l.lost a) (listeners h) k) (none_gone h n))
+  where
+    unlost : (p q : Listener → Bool) (f : Listener → Listener) → ((x : Listener) → q (f x) ≡ true → p x ≡ true) → (xs : List Listener) → has q (map f xs) ≡ true → has p xs ≡ true
+    unlost p q f sub [] k = absurd cc
+    unlost p q f sub (x ∷ xs) k = or_case (q (f x)) (has q (map f xs)) (λ a. or_left (p x) (has p xs) (sub x a)) (λ a. or_right (p x) (has p xs) (unlost p q f sub xs a)) k
+none_gone (x ∷ h) n = none_gone h (or_second (is_loss x) (has is_loss h) n)
+
+here : (h : List Entry) (e : ℕ) → has is_loss h ≡ false → is_gone (observe h) e ≡ false
+unfolding observe
+here h e n =
+    has_less (λ l. (e == l.enlistment.value) && l.lost) (λ l. l.lost) (λ l a. and_right (e == l.enlistment.value) l.lost a) (listeners h) (none_gone h n)
+
+-- whose listener was told was told
+told_seen : (e : ℕ) (h : List Entry) → has (λ l. (e == l.enlistment.value) && l.told) (listeners h) ≡ true → has (is_told e) h ≡ true
+told_seen e [] k = absurd cc
+told_seen e (Enlisted f c ∷ h) k =
+    or_case ((e == f.value) && false) (has (λ l. (e == l.enlistment.value) && l.told) (listeners h)) (λ a. absurd (not_both false (and_right (e == f.value) false a) refl)) (told_seen e h)
+    (sym (has-insert (λ l. (e == l.enlistment.value) && l.told) listener_number (record { enlistment = f; told = false; lost = false }) (listeners h)) ∙ k)
+told_seen e (Told (Member f) x ∷ h) k = step (told_seen e h) (e == f.value) refl
+  where
+    still : (l : Listener) → (e == f.value) ≡ false → ((e == l.enlistment.value) && ((f.value == l.enlistment.value) || l.told)) ≡ true → ((e == l.enlistment.value) && l.told) ≡ true
+    still l q a =
+        or_case (f.value == l.enlistment.value) l.told
+        (λ b. let names : e ≡ f.value = eqb-true e l.enlistment.value (and_left (e == l.enlistment.value) ((f.value == l.enlistment.value) || l.told) a) ∙ sym (eqb-true f.value l.enlistment.value b) in
+        absurd (not_both (e == f.value) (subst (λ m. (e == m) ≡ true) names (eq_self e)) q))
+        (λ b. and_both (e == l.enlistment.value) l.told (and_left (e == l.enlistment.value) ((f.value == l.enlistment.value) || l.told) a) b)
+        (and_right (e == l.enlistment.value) ((f.value == l.enlistment.value) || l.told) a)
+
+    unheard : (ls : List Listener) → (e == f.value) ≡ false → has (λ l. (e == l.enlistment.value) && l.told) (map (hear f.value) ls) ≡ true → has (λ l. (e == l.enlistment.value) && l.told) ls ≡ true
+    unheard [] q k = absurd cc
+    unheard (l ∷ ls) q k =
+        or_case ((e == l.enlistment.value) && ((f.value == l.enlistment.value) || l.told)) (has (λ l. (e == l.enlistment.value) && l.told) (map (hear f.value) ls))
+        (λ a. or_left ((e == l.enlistment.value) && l.told) (has (λ l. (e == l.enlistment.value) && l.told) ls) (still l q a))
+        (λ a. or_right ((e == l.enlistment.value) && l.told) (has (λ l. (e == l.enlistment.value) && l.told) ls) (unheard ls q a)) k
+
+    step : (has (λ l. (e == l.enlistment.value) && l.told) (listeners h) ≡ true → has (is_told e) h ≡ true) → (b : Bool) → (e == f.value) ≡ b → (b || has (is_told e) h) ≡ true
+    step ih true q = refl
+    step ih false q = ih (unheard (listeners h) q k)
+told_seen e (Lost f ∷ h) k = told_seen e h (sym (has_kept (λ l. (e == l.enlistment.value) && l.told) (lose f.value) (λ l. refl) (listeners h)) ∙ k)
+told_seen e (Reenlisted f ∷ h) k = told_seen e h (sym (has_kept (λ l. (e == l.enlistment.value) && l.told) (come_back f.value) (λ l. refl) (listeners h)) ∙ k)
+told_seen e (x ∷ h) k = or_right (is_told e x) (has (is_told e) h) (told_seen e h k)
+
+-- so none is told where nothing is decided or logged and nothing bad came
+untold : (e : ℕ) (h : List Entry) → has is_bad h ≡ false → always is_asked_well h ≡ true → has is_decision h ≡ false → has is_logged h ≡ false → has (is_told e) h ≡ false
+untold e [] f w d l = refl
+untold e (Told (Member g) x ∷ h) f w d l = absurd (bad x (and_left (has is_decision h || has is_record h || same_outcome x Aborted) (always is_asked_well h) w) (or_first _ (has is_bad h) f))
+  where
+    none : (has is_decision h || has is_record h || false) ≡ true → ⊥
+    none k =
+        or_case (has is_decision h || has is_record h) false
+        (λ a. or_case (has is_decision h) (has is_record h) (λ b. not_both (has is_decision h) b d)
+        (λ b. not_both (has is_logged h) (record_logged h (or_second _ (has is_bad h) f) b) l) a) (λ a. not_both false a refl) k
+
+    bad : (x : Outcome) → (has is_decision h || has is_record h || same_outcome x Aborted) ≡ true → is_bad (Told (Member g) x) ≡ false → ⊥
+    bad Committed k n = none k
+    bad Aborted k n = cc
+    bad InDoubt k n = cc
+untold e (x ∷ h) f w d l =
+    or_false (is_told e x) (has (is_told e) h) refl
+    (untold e h (or_second (is_bad x) (has is_bad h) f) (and_right (is_asked_well h x) (always is_asked_well h) w) (or_second (is_decision x) (has is_decision h) d) (or_second (is_logged x) (has is_logged h) l))
+
+-- The notes of a willing one: none is due.
+vote_there : (o : Option Vote) → voted_well o ≡ true → is_none (vote_reply o) ≡ true → ⊥
+vote_there (Some v) w k = cc
+vote_there None w k = cc
+
+owner_there : (o : Option Outcome) → is_committed o ≡ true → is_none (owner_reply o) ≡ true → ⊥
+owner_there (Some x) w k = cc
+owner_there None w k = cc
+
+promotion_there : (o : Option Bool) → holds o ≡ true → is_none (promote_reply o) ≡ true → ⊥
+promotion_there (Some b) w k = cc
+promotion_there None w k = cc
+
+abbrev note_by : Bool → Bool → Bool → Bool → Option Note
+note_by v m w s = if v then Some Prepare else if m then Some PromoteNote else if w then Some Hand else if s then Some Single else None
+
+vote_unowed : (p : Plan) (c : Class) (v m w s : Bool) (z : Option Note) → is_willing p c ≡ true → is_unplanned p (or_else (note_by v m w s) z) ≡ true → v ≡ false
+vote_unowed p c true m w s z a k =
+    absurd (vote_there p.vote (and_left (voted_well p.vote) (not (can_own c) || is_committed p.owner) (and_left (voted_well p.vote && (not (can_own c) || is_committed p.owner)) (not (is_promotable c) || holds p.promote) a)) k)
+vote_unowed p c false m w s z a k = refl
+
+promotable_unowed : (p : Plan) (c : Class) (v m w s : Bool) (z : Option Note) → is_willing p c ≡ true → is_promotable c ≡ true → is_unplanned p (or_else (note_by v m w s) z) ≡ true
+    → (m ≡ false) × (s ≡ false)
+promotable_unowed p Promotable v m w s z a q k = step v m w s k
+  where
+    both : (voted_well p.vote && is_committed p.owner) ≡ true
+    both = and_left (voted_well p.vote && is_committed p.owner) (holds p.promote) a
+
+    owner : is_committed p.owner ≡ true
+    owner = and_right (voted_well p.vote) (is_committed p.owner) both
+
+    step : (v m w s : Bool) → is_unplanned p (or_else (note_by v m w s) z) ≡ true → (m ≡ false) × (s ≡ false)
+    step true m w s k = absurd (vote_there p.vote (and_left (voted_well p.vote) (is_committed p.owner) both) k)
+    step false true w s k = absurd (promotion_there p.promote (and_right (voted_well p.vote && is_committed p.owner) (holds p.promote) a) k)
+    step false false true s k = absurd (owner_there p.owner owner k)
+    step false false false true k = absurd (owner_there p.owner owner k)
+    step false false false false k = (refl, refl)
+promotable_unowed p _ v m w s z a q k = absurd cc
+
+-- what is due of a row is what its own note is
+row_unplanned : (p : ℕ → Plan) (h : List Entry) (i : ℕ) (x : Row) → IsUnowed p h → slice_get (rows h) i ≡ Some x
+    → is_unplanned (p x.number.value) (or_else (row_note (observe h) x) (note_of_conn (conn_due (observe h) x.number.value))) ≡ true
+unfolding observe due_of
+row_unplanned p h i x r e =
+    let n = x.number.value in
+    let o = observe h in
+    let each_name = named_rows (λ f. is_unplanned (p f.value) (due_of o f.value)) (rows h) (all_each (λ f. is_unplanned (p f.value) (due_of o f.value)) o.branches (map (λ y. y.number) (rows h)) r.unowed) in
+    let own : is_unplanned (p n) (note_at o n (find (is_of n) (rows h))) ≡ true = each-at (λ y. is_unplanned (p y.number.value) (due_of o y.number.value)) (rows h) i x each_name e in
+    let found : is_unplanned (p n) (note_at o n (Some x)) ≡ true = ap (λ (y : Option Row). is_unplanned (p n) (note_at o n y)) (sym (row_found h i x r.once e)) ∙ own in
+    ap (λ b. is_unplanned (p n) (if b then None else or_else (row_note o x) (note_of_conn (conn_due o n)))) (sym (here h n r.unlost)) ∙ found
+
+-- the row is willing
+row_willing : (p : ℕ → Plan) (h : List Entry) (i : ℕ) (x : Row) → IsUnowed p h → slice_get (rows h) i ≡ Some x → is_willing (p x.number.value) x.class ≡ true
+row_willing p h i x r e = each-at (λ y. is_willing (p y.number.value) y.class) (rows h) i x (each_rows (λ e c. is_willing (p e.value) c) h ∙ r.willing) e
+
+-- a durable or promotable that was asked to prepare got PREPARE
+prepare_got : (e : EnlNo) (h : List Entry) → always is_asked_well h ≡ true → has (is_asked e.value) h ≡ true → (has (is_volatile_made e.value) h || has (is_got_on (Enl e) Down PREPARE) h) ≡ true
+prepare_got e [] w k = absurd cc
+prepare_got e (x ∷ h) w k =
+    more (is_volatile_made e.value x) (is_got_on (Enl e) Down PREPARE x) (has (is_volatile_made e.value) h) (has (is_got_on (Enl e) Down PREPARE) h)
+    (or_case (is_asked e.value x) (has (is_asked e.value) h) (own x (and_left (is_asked_well h x) (always is_asked_well h) w)) (prepare_got e h (and_right (is_asked_well h x) (always is_asked_well h) w)) k)
+  where
+    more : (a b c d : Bool) → (c || d) ≡ true → ((a || c) || (b || d)) ≡ true
+    more true b c d k = refl
+    more false b true d k = refl
+    more false true false d k = refl
+    more false false false d k = k
+
+    own : (x : Entry) → is_asked_well h x ≡ true → is_asked e.value x ≡ true → (has (is_volatile_made e.value) h || has (is_got_on (Enl e) Down PREPARE) h) ≡ true
+    own (Asked f AskPrepare) w q =
+        let same : Enl e ≡ Enl f = same_is (Enl e) (Enl f) q in
+        or_case (has (is_volatile_made f.value) h) (has (is_got_on (Enl f) Down PREPARE) h)
+        (λ a. or_left (has (is_volatile_made e.value) h) (has (is_got_on (Enl e) Down PREPARE) h) (subst (λ n. has (is_volatile_made n) h ≡ true) (sym (eqb-true e.value f.value q)) a))
+        (λ a. or_right (has (is_volatile_made e.value) h) (has (is_got_on (Enl e) Down PREPARE) h)
+        (let P : Conn → Type 0 = λ c. has (is_got_on c Down PREPARE) h ≡ true in subst P (sym same) a)) w
+    own x w q = absurd cc
+
+-- who was made with a class that passes is a row with a class that passes
+made_row : (e : ℕ) (q : Class → Bool) (h : List Entry) → has (is_made e q) h ≡ true → has (λ y. is_of e y && q y.class) (rows h) ≡ true
+made_row e q h k = has_rows (λ f c. (e == f.value) && q c) h ∙ listed h k
+  where
+    listed : (h : List Entry) → has (is_made e q) h ≡ true → has (λ x. (e == x.0.value) && q x.1) (enlisted h) ≡ true
+    listed [] k = absurd cc
+    listed (Enlisted f c ∷ h) k =
+        or_case ((e == f.value) && q c) (has (is_made e q) h) (λ a. or_left ((e == f.value) && q c) (has (λ x. (e == x.0.value) && q x.1) (enlisted h)) a)
+        (λ a. or_right ((e == f.value) && q c) (has (λ x. (e == x.0.value) && q x.1) (enlisted h)) (listed h a)) k
+    listed (x ∷ h) k = listed h k
+
+volatile_made : (e : ℕ) (x : Entry) → is_volatile_made e x ≡ true → is_made e is_volatile x ≡ true
+volatile_made e (Enlisted f c) k = k
+volatile_made e x k = absurd cc
+
+-- while nothing is decided or logged, a row that is marked may still vote
+marked_votes : (p : ℕ → Plan) (h : List Entry) (i : ℕ) (x : Row) → IsUnowed p h → has is_decision h ≡ false → has is_logged h ≡ false → slice_get (rows h) i ≡ Some x → is_marked x ≡ true
+    → may_still_vote (observe h) x ≡ true
+unfolding observe
+marked_votes p h i x r u l e m = by_class (is_volatile x.class) refl
+  where
+    n : ℕ
+    n = x.number.value
+
+    got : is_volatile x.class ≡ false → has (is_got_on (Enl x.number) Down PREPARE) h ≡ true
+    got v =
+        or_case (has (is_volatile_made n) h) (has (is_got_on (Enl x.number) Down PREPARE) h)
+        (λ a. absurd (not_both (is_volatile x.class)
+        (found_passes h n (λ y. is_volatile y.class) x r.once (row_found h i x r.once e) (made_row n is_volatile h (has_sub h a))) v)) (λ a. a)
+        (prepare_got x.number h r.well
+        (marked_asked n h (has-at (λ y. is_of n y && is_marked y) (rows h) i x e (and_both (n == n) (is_marked x) (eq_self n) m))))
+      where
+        has_sub : (h : List Entry) → has (is_volatile_made n) h ≡ true → has (is_made n is_volatile) h ≡ true
+        has_sub [] k = absurd cc
+        has_sub (y ∷ h) k =
+            or_case (is_volatile_made n y) (has (is_volatile_made n) h) (λ a. or_left (is_made n is_volatile y) (has (is_made n is_volatile) h) (volatile_made n y a))
+            (λ a. or_right (is_made n is_volatile y) (has (is_made n is_volatile) h) (has_sub h a)) k
+
+    by_class : (b : Bool) → is_volatile x.class ≡ b
+        → (if b then not (is_some (latest decision_of h)) else knows (Enl x.number) (ends_of h) && not (was_told (observe h) n)) ≡ true
+    by_class true v = ap (λ d. not (is_some d)) (none_decided h u)
+    by_class false v =
+        and_both (knows (Enl x.number) (ends_of h)) (not (was_told (observe h) n)) (knows_got (Enl x.number) Down PREPARE h r.fine.whole r.fine.run (got v))
+        (not_false (was_told (observe h) n)
+        (false_from_ne_true (was_told (observe h) n) (λ k. not_both (has (is_told n) h) (told_seen n h k) (untold n h r.fine.unbad r.well u l))))
+
+-- so each that was asked to prepare has voted
+pub all_answered : (p : ℕ → Plan) (h : List Entry) → IsUnowed p h → has is_decision h ≡ false → has is_logged h ≡ false → each has_answered (rows h) ≡ true
+all_answered p h r u l = each_from_at has_answered (rows h) (λ i x e. row i x e)
+  where
+    row : (i : ℕ) (x : Row) → slice_get (rows h) i ≡ Some x → has_answered x ≡ true
+    row i x e =
+        step (is_marked x) (has_voted x) (may_still_vote (observe h) x) (marked_votes p h i x r u l e)
+        (vote_unowed (p x.number.value) x.class (owes_vote (observe h) x) (owes_promotion (observe h) x) (owes_outcome (observe h) x) (owes_request (observe h) x)
+        (note_of_conn (conn_due (observe h) x.number.value)) (row_willing p h i x r e) (row_unplanned p h i x r e))
+      where
+        step : (m v w : Bool) → (m ≡ true → w ≡ true) → (m && not v && w) ≡ false → (not m || v) ≡ true
+        step true true w f k = refl
+        step true false w f k = absurd (not_both w (f refl) k)
+        step false v w f k = refl
+
+pub all_voted : (p : ℕ → Plan) (h : List Entry) → IsUnowed p h → has is_decision h ≡ false → has is_logged h ≡ false → (e : ℕ) → has (is_asked e) h ≡ true → has (is_vote e) h ≡ true
+all_voted p h r u l e k = voted_cast e h (each_of (rows h) (all_answered p h r u l) (asked_marked e h r.there k))
+  where
+    each_of : (xs : List Row) → each has_answered xs ≡ true → was_asked e xs ≡ true → voted e xs ≡ true
+    each_of [] a k = absurd cc
+    each_of (x ∷ xs) a k =
+        or_case (is_of e x && is_marked x) (was_asked e xs)
+        (λ q. or_left (is_of e x && has_voted x) (voted e xs)
+        (and_both (is_of e x) (has_voted x) (and_left (is_of e x) (is_marked x) q) (step (is_marked x) (has_voted x) (and_right (is_of e x) (is_marked x) q) (and_left (has_answered x) (each has_answered xs) a))))
+        (λ q. or_right (is_of e x && has_voted x) (voted e xs) (each_of xs (and_right (has_answered x) (each has_answered xs) a) q)) k
+      where
+        step : (m v : Bool) → m ≡ true → (not m || v) ≡ true → v ≡ true
+        step true v m k = k
+        step false v m k = absurd cc
+
+-- a promotable that was asked stands
+asked_stands : (q : Entry → Bool) → ((e : Entry) (h : List Entry) → q e ≡ true → is_asked_well h e ≡ true → has_promotable h ≡ true) → (h : List Entry) → always is_asked_well h ≡ true → has q h ≡ true
+    → has_promotable h ≡ true
+asked_stands q at [] w k = absurd cc
+asked_stands q at (x ∷ h) w k =
+    later x (or_case (q x) (has q h) (λ a. at x h a (and_left (is_asked_well h x) (always is_asked_well h) w)) (asked_stands q at h (and_right (is_asked_well h x) (always is_asked_well h) w)) k)
+  where
+    later : (x : Entry) → has_promotable h ≡ true → has_promotable (x ∷ h) ≡ true
+    later (Enlisted e c) k = or_right (is_promotable c) (has_promotable h) k
+    later x k = k
+
+made_promotable : (e : ℕ) (h : List Entry) → has (is_made e is_promotable) h ≡ true → has_promotable h ≡ true
+made_promotable e [] k = absurd cc
+made_promotable e (Enlisted f c ∷ h) k =
+    or_case ((e == f.value) && is_promotable c) (has (is_made e is_promotable) h) (λ a. or_left (is_promotable c) (has_promotable h) (and_right (e == f.value) (is_promotable c) a))
+    (λ a. or_right (is_promotable c) (has_promotable h) (made_promotable e h a)) k
+made_promotable e (x ∷ h) k = made_promotable e h k
+
+-- one that passes stands at a place
+first_row : (q : Row → Bool) (xs : List Row) → has q xs ≡ true → (i : ℕ) × (x : Row) × (slice_get xs i ≡ Some x) × (q x ≡ true)
+first_row q [] k = absurd cc
+first_row q (x ∷ xs) k = step (first_row q xs) (q x) refl k
+  where
+    step : (has q xs ≡ true → (i : ℕ) × (y : Row) × (slice_get xs i ≡ Some y) × (q y ≡ true)) → (b : Bool) → q x ≡ b → (b || has q xs) ≡ true
+        → (i : ℕ) × (y : Row) × (slice_get (x ∷ xs) i ≡ Some y) × (q y ≡ true)
+    step ih true e k = (zero, x, refl, e)
+    step ih false e k = let f = ih k in (suc f.0, f.1, f.2, f.3)
+
+-- of a promotable that stands neither a reply to promote nor a request is due
+promotable_rests : (p : ℕ → Plan) (h : List Entry) → IsUnowed p h → has_promotable h ≡ true → has is_decision h ≡ false
+    → ((has is_ask_promote h && not (has is_promote_reply h)) ≡ false) × ((has is_ask_single h && not (has is_request h)) ≡ false)
+unfolding observe
+promotable_rests p h r k u = let f = first_row (λ x. is_promotable x.class) (rows h) (has_rows (λ e c. is_promotable c) h ∙ k) in own f.0 f.1 f.2 f.3
+  where
+    open_still : (a b q d : Bool) → q ≡ true → d ≡ false → (a && not b && q && not d) ≡ false → (a && not b) ≡ false
+    open_still true true q d s t k = refl
+    open_still true false true false s t k = absurd cc
+    open_still true false true true s t k = absurd cc
+    open_still true false false d s t k = absurd cc
+    open_still false b q d s t k = refl
+
+    own : (i : ℕ) (x : Row) → slice_get (rows h) i ≡ Some x → is_promotable x.class ≡ true
+        → ((has is_ask_promote h && not (has is_promote_reply h)) ≡ false) × ((has is_ask_single h && not (has is_request h)) ≡ false)
+    own i x e q =
+        let decided : is_some (latest decision_of h) ≡ false = ap is_some (none_decided h u) in
+        let both = promotable_unowed (p x.number.value) x.class (owes_vote (observe h) x) (owes_promotion (observe h) x) (owes_outcome (observe h) x) (owes_request (observe h) x)
+        (note_of_conn (conn_due (observe h) x.number.value)) (row_willing p h i x r e) q (row_unplanned p h i x r e) in (
+          open_still (has is_ask_promote h) (has is_promote_reply h) (is_promotable x.class) (is_some (latest decision_of h)) q decided both.0,
+          open_still (has is_ask_single h) (has is_request h) (is_promotable x.class) (is_some (latest decision_of h)) q decided both.1,
+        )
+
+done : (a b : Bool) → a ≡ true → (a && not b) ≡ false → b ≡ true
+done true true k n = refl
+done true false k n = absurd cc
+done false b k n = absurd cc
+
+pub promotion_replied : (p : ℕ → Plan) (h : List Entry) → IsUnowed p h → has is_decision h ≡ false → has is_ask_promote h ≡ true → has is_promote_reply h ≡ true
+promotion_replied p h r u k = done (has is_ask_promote h) (has is_promote_reply h) k (promotable_rests p h r (asked_stands is_ask_promote at h r.well k) u).0
+  where
+    at : (x : Entry) (h : List Entry) → is_ask_promote x ≡ true → is_asked_well h x ≡ true → has_promotable h ≡ true
+    at (Asked e AskPromote) h k w = made_promotable e.value h w
+    at x h k w = absurd cc
+
+pub commit_requested : (p : ℕ → Plan) (h : List Entry) → IsUnowed p h → has is_decision h ≡ false → has is_ask_single h ≡ true → has is_request h ≡ true
+commit_requested p h r u k = done (has is_ask_single h) (has is_request h) k (promotable_rests p h r (asked_stands is_ask_single at h r.well k) u).1
+  where
+    at : (x : Entry) (h : List Entry) → is_ask_single x ≡ true → is_asked_well h x ≡ true → has_promotable h ≡ true
+    at (Asked e AskSingle) h k w = made_promotable e.value h w
+    at x h k w = absurd cc

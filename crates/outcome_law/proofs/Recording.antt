@@ -1,0 +1,405 @@
+-- Where a record stands, there is evidence: the local side said yes, so it was sealed and promoted; each voted well; and the coordinator doesn't abort.
+use Rattle.std.proofs.Common.{◌≡◌, ℕ, ◌==◌, Bool, true, false, ◌&&◌, ◌||◌, List, [], ◌∷◌, ◌++◌, Option, Some, None, refl, sym, subst, ◌∙◌}
+use Rattle.std.specs.Prelude.{not, filter, if◌then◌else◌}
+use Rattle.std.proofs.lemmas.Bool.{eqb-true}
+use Rattle.dtx_values.specs.declared.entry.Entry.{Entry}
+use Rattle.dtx_values.specs.declared.entry.Entry.TheVariants.{Cloned, Completed, Down as End, Enlisted, Freed, Got, LocalYes, LogFull, Logged, Promoted, Promoting, Restarted, Sealed, Stopped, Voted}
+use Rattle.dtx_values.specs.declared.message.Conn.{Conn}
+use Rattle.dtx_values.specs.declared.message.Conn.TheVariants.{Begin, Voter, Enl}
+use Rattle.dtx_values.specs.declared.message.Dir.TheVariants.{Up, Down}
+use Rattle.dtx_values.specs.declared.message.Message.{Message}
+use Rattle.dtx_values.specs.declared.message.Message.TheVariants.{BeginCommit, EnlistEnlist}
+use Rattle.dtx_values.specs.declared.number.CloneNo.{CloneNo}
+use Rattle.dtx_values.specs.declared.number.EnlNo.{EnlNo}
+use Rattle.dtx_values.specs.declared.words.Class.{Class}
+use Rattle.dtx_values.specs.Class.{is_volatile}
+use Rattle.dtx_model.specs.Words.{all_of, each, ever, has, latest, or_else}
+use Rattle.dtx_model.specs.Entries.{clone_of, is_commit, is_commit_got, is_decision, is_good_vote, is_promoted, is_record, is_sealed, is_yes, is_yes_got}
+use Rattle.dtx_model.specs.Outcome.{by_log, by_owner, by_seal, can_own, durables, enlisted, evidence, is_complete, is_empty, ready, volatiles, voters}
+use Rattle.dtx_model.specs.Learned.{coordinator_aborted, is_abort, is_first_abort}
+use Rattle.dtx_model.specs.Tied.{before_first, before_first_stop, can_log, enlist_got, has_mark, is_logged, is_ready_got, is_stop, is_unmarked, mark_of}
+use Rattle.dtx_model.specs.Wires.{is_stopped}
+use Rattle.dtx_model.specs.Promotes.{is_created_got, is_begun_got, is_promoting, is_under_way, is_failed}
+use Rattle.dtx_model.proofs.Bools.{and_left, and_right, and_both, not_both, not_true, or_case, or_false, or_right, or_second, and_never, three_hold}
+use Rattle.outcome_law.proofs.Tests.{second_of_five, third_of_five, fourth_of_five, second_of_three, or_between}
+use Rattle.outcome_law.proofs.Scans.{each_both, each_more, each-append}
+use Rattle.outcome_law.proofs.Rule.{all_complete, is_cloned, is_enlisted, zeros_cast}
+use Rattle.outcome_law.proofs.Table.{class_row, have_come, is_ask_got, is_enlist_got, is_settled_there, rule, volatiles_well}
+use Rattle.outcome_law.proofs.Keeping.{Keeps, before, fifth_of_five, keeps_before, newest, newest_tied}
+use Rattle.outcome_law.proofs.Crossed.{no_end_up, nothing_up}
+use Rattle.outcome_law.proofs.Sendings.{good_if_ready, own_info, record_of_mark, yes_if_got}
+
+-- The rows of the seal and of the local yes.
+seal_commit : (x : Entry) (h : List Entry) → Keeps h → rule h x ≡ true → is_sealed x ≡ true → has is_commit h ≡ true
+seal_commit Sealed h k r t = second_of_five (not (has is_decision h)) (has is_commit h) (all_complete h) (zeros_cast h) (not (has is_sealed h) && is_settled_there h) r
+seal_commit _ h k r t = absurd cc
+
+pub commit_if_sealed : (h : List Entry) → Keeps h → has is_sealed h ≡ true → has is_commit h ≡ true
+commit_if_sealed h k s = before is_sealed is_commit seal_commit h k s
+
+yes_sealed : (x : Entry) (h : List Entry) → Keeps h → rule h x ≡ true → is_yes x ≡ true → has is_sealed h ≡ true
+yes_sealed LocalYes h k r t = second_of_five (not (has is_decision h)) (has is_sealed h) (has is_promoted h) (volatiles_well h) (has is_ask_got h && not (has is_yes h)) r
+yes_sealed _ h k r t = absurd cc
+
+pub sealed_if_yes : (h : List Entry) → Keeps h → has is_yes h ≡ true → has is_sealed h ≡ true
+sealed_if_yes h k s = before is_yes is_sealed yes_sealed h k s
+
+yes_promoted : (x : Entry) (h : List Entry) → Keeps h → rule h x ≡ true → is_yes x ≡ true → has is_promoted h ≡ true
+yes_promoted LocalYes h k r t = third_of_five (not (has is_decision h)) (has is_sealed h) (has is_promoted h) (volatiles_well h) (has is_ask_got h && not (has is_yes h)) r
+yes_promoted _ h k r t = absurd cc
+
+pub promoted_if_yes : (h : List Entry) → Keeps h → has is_yes h ≡ true → has is_promoted h ≡ true
+promoted_if_yes h k s = before is_yes is_promoted yes_promoted h k s
+
+promoted_promoting : (x : Entry) (h : List Entry) → Keeps h → rule h x ≡ true → is_promoted x ≡ true → has is_promoting h ≡ true
+promoted_promoting (Promoted u c) h k r t =
+    let way = third_of_five (not (has is_decision h)) (not (has is_sealed h)) (is_under_way h) (have_come h) (has is_begun_got h && has is_created_got h) r in
+    and_left (has is_promoting h) (not (has is_promoted h)) (and_left (has is_promoting h && not (has is_promoted h)) (not (has is_failed h)) way)
+promoted_promoting _ h k r t = absurd cc
+
+pub promoting_if_promoted : (h : List Entry) → Keeps h → has is_promoted h ≡ true → has is_promoting h ≡ true
+promoting_if_promoted h k s = before is_promoted is_promoting promoted_promoting h k s
+
+-- What is sealed and promoting is promoted.
+pub promoted_if_sealed : (h : List Entry) → Keeps h → has is_sealed h ≡ true → has is_promoting h ≡ true → has is_promoted h ≡ true
+promoted_if_sealed [] k s p = absurd cc
+promoted_if_sealed (Sealed ∷ h) k s p =
+    let row = fifth_of_five (not (has is_decision h)) (has is_commit h) (all_complete h) (zeros_cast h) (not (has is_sealed h) && is_settled_there h) (newest Sealed h k) in
+    or_case (has is_promoted h) (not (has is_promoting h)) (λ t. t) (λ t. absurd (not_both (has is_promoting h) p (not_true (has is_promoting h) t)))
+    (and_right (not (has is_sealed h)) (is_settled_there h) row)
+promoted_if_sealed (Promoting c ∷ h) k s p =
+    let unsealed = not_true (has is_sealed h) (second_of_three (not (has is_decision h)) (not (has is_sealed h)) (not (has is_promoting h)) (newest (Promoting c) h k)) in
+    absurd (not_both (has is_sealed h) s unsealed)
+promoted_if_sealed (x ∷ h) k s p = or_right (is_promoted x) (has is_promoted h) (promoted_if_sealed h (keeps_before x h k) s p)
+
+-- What stays once it is sealed: each clone is complete.
+pub complete_more : (c : CloneNo) (h : List Entry) → all_complete h ≡ true → all_complete (Completed c ∷ h) ≡ true
+complete_more c h a =
+    each_more (λ d. is_complete h d) (λ d. is_complete (Completed c ∷ h) d) (λ d t. or_right (d.0.value == c.value) (is_complete h d) t) (all_of clone_of h) a
+
+complete_stays : (x : Entry) (h : List Entry) → rule h x ≡ true → has is_commit h ≡ true → all_complete h ≡ true → all_complete (x ∷ h) ≡ true
+complete_stays (Cloned c d) h r m a =
+    absurd (not_both (has is_commit h) m (not_true (has is_commit h) (second_of_three (not (has is_decision h)) (not (has is_commit h)) (not (has (is_cloned c.value) h)) r)))
+complete_stays (Completed c) h r m a = complete_more c h a
+complete_stays _ h r m a = a
+
+pub complete_if_sealed : (h : List Entry) → Keeps h → has is_sealed h ≡ true → all_complete h ≡ true
+complete_if_sealed [] k s = absurd cc
+complete_if_sealed (x ∷ h) k s =
+    or_case (is_sealed x) (has is_sealed h)
+    (λ t. complete_stays x h (newest x h k) (seal_commit x h (keeps_before x h k) (newest x h k) t) (seal_complete x h (newest x h k) t))
+    (λ t. complete_stays x h (newest x h k) (commit_if_sealed h (keeps_before x h k) t) (complete_if_sealed h (keeps_before x h k) t)) s
+  where
+    seal_complete : (x : Entry) (h : List Entry) → rule h x ≡ true → is_sealed x ≡ true → all_complete h ≡ true
+    seal_complete Sealed h r t = third_of_five (not (has is_decision h)) (has is_commit h) (all_complete h) (zeros_cast h) (not (has is_sealed h) && is_settled_there h) r
+    seal_complete _ h r t = absurd cc
+
+-- Nobody is enlisted after the seal.
+pub enlisted_unsealed : (e : EnlNo) (c : Class) (h : List Entry) → rule h (Enlisted e c) ≡ true → has is_sealed h ≡ false
+enlisted_unsealed e c h r = not_true (has is_sealed h) (second_of_five (not (has is_decision h)) (not (has is_sealed h)) _ _ _ r)
+
+-- After the local yes each volatile voted well.
+well_stays : (x : Entry) (h : List Entry) → rule h x ≡ true → has is_sealed h ≡ true → volatiles_well h ≡ true → volatiles_well (x ∷ h) ≡ true
+well_stays (Enlisted e c) h r s a = absurd (not_both (has is_sealed h) s (enlisted_unsealed e c h r))
+well_stays (Voted e v) h r s a =
+    each_more (λ y. not (is_volatile y.1) || has (is_good_vote y.0.value) h) (λ y. not (is_volatile y.1) || has (is_good_vote y.0.value) (Voted e v ∷ h))
+    (λ y t. or_between (not (is_volatile y.1)) (is_good_vote y.0.value (Voted e v)) (has (is_good_vote y.0.value) h) t) (enlisted h) a
+well_stays _ h r s a = a
+
+pub well_if_yes : (h : List Entry) → Keeps h → has is_yes h ≡ true → volatiles_well h ≡ true
+well_if_yes [] k s = absurd cc
+well_if_yes (x ∷ h) k s =
+    or_case (is_yes x) (has is_yes h) (λ t. well_stays x h (newest x h k) (yes_sealed x h (keeps_before x h k) (newest x h k) t) (yes_well x h (newest x h k) t))
+    (λ t. well_stays x h (newest x h k) (sealed_if_yes h (keeps_before x h k) t) (well_if_yes h (keeps_before x h k) t)) s
+  where
+    yes_well : (x : Entry) (h : List Entry) → rule h x ≡ true → is_yes x ≡ true → volatiles_well h ≡ true
+    yes_well LocalYes h r t = fourth_of_five (not (has is_decision h)) (has is_sealed h) (has is_promoted h) (volatiles_well h) (has is_ask_got h && not (has is_yes h)) r
+    yes_well _ h r t = absurd cc
+
+-- Where it is promoted, each durable or promotable came to the coordinator.
+came_class : (v g p o w : Bool) → (v || g || (not p && o && w)) ≡ true → p ≡ true → (v || g) ≡ true
+came_class true g p o w t q = refl
+came_class false true p o w t q = refl
+came_class false false true o w t q = absurd cc
+came_class false false false o w t q = absurd cc
+
+came_stays : (x : Entry) (h : List Entry) → Keeps (x ∷ h) → has is_promoted h ≡ true → have_come h ≡ true → have_come (x ∷ h) ≡ true
+came_stays (Enlisted e c) h k p a =
+    let row = fourth_of_five (not (has is_decision h)) (not (has is_sealed h)) (not (has (is_enlisted e.value) h)) (class_row h e.value c) _ (newest (Enlisted e c) h k) in
+    and_both (is_volatile c || has (is_enlist_got e.value) h) (have_come h)
+    (came_class (is_volatile c) (has (is_enlist_got e.value) h) (has is_promoting h) (can_own c) (is_empty (durables h)) row (promoting_if_promoted h (keeps_before (Enlisted e c) h k) p)) a
+came_stays (Got (Enl e) Up (EnlistEnlist i)) h k p a =
+    each_more (λ y. is_volatile y.1 || has (is_enlist_got y.0.value) h) (λ y. is_volatile y.1 || has (is_enlist_got y.0.value) (Got (Enl e) Up (EnlistEnlist i) ∷ h))
+    (λ y t. or_between (is_volatile y.1) (y.0.value == e.value) (has (is_enlist_got y.0.value) h) t) (enlisted h) a
+came_stays _ h k p a = a
+
+pub come_if_promoted : (h : List Entry) → Keeps h → has is_promoted h ≡ true → have_come h ≡ true
+come_if_promoted [] k p = absurd cc
+come_if_promoted (Promoted u c ∷ h) k p = fourth_of_five (not (has is_decision h)) (not (has is_sealed h)) (is_under_way h) (have_come h) (has is_begun_got h && has is_created_got h) (newest (Promoted u c) h k)
+come_if_promoted (x ∷ h) k p = came_stays x h k p (come_if_promoted h (keeps_before x h k) p)
+
+-- The conditions of an append.
+can_parts : (a b c d e f : Bool) → (a && b && c && d && e && f) ≡ true → (a && b && c && d) ≡ true
+can_parts a b c d e f t = and_left (a && b && c && d) e (and_left (a && b && c && d && e) f t)
+
+can_first : (h : List Entry) → can_log h ≡ true → (has is_commit_got h && has is_yes_got h && each (λ i. has (is_ready_got i.enl.value) h) (all_of enlist_got h) && not (coordinator_aborted h)) ≡ true
+can_first h t =
+    can_parts (has is_commit_got h) (has is_yes_got h) (each (λ i. has (is_ready_got i.enl.value) h) (all_of enlist_got h)) (not (coordinator_aborted h)) (not (has is_logged h)) (not (has is_stop h)) t
+
+pub can_commit : (h : List Entry) → can_log h ≡ true → has is_commit_got h ≡ true
+can_commit h t =
+    and_left (has is_commit_got h) (has is_yes_got h) (and_left (has is_commit_got h && has is_yes_got h) (each (λ i. has (is_ready_got i.enl.value) h) (all_of enlist_got h))
+    (and_left (has is_commit_got h && has is_yes_got h && each (λ i. has (is_ready_got i.enl.value) h) (all_of enlist_got h)) (not (coordinator_aborted h)) (can_first h t)))
+
+can_yes : (h : List Entry) → can_log h ≡ true → has is_yes_got h ≡ true
+can_yes h t =
+    and_right (has is_commit_got h) (has is_yes_got h) (and_left (has is_commit_got h && has is_yes_got h) (each (λ i. has (is_ready_got i.enl.value) h) (all_of enlist_got h))
+    (and_left (has is_commit_got h && has is_yes_got h && each (λ i. has (is_ready_got i.enl.value) h) (all_of enlist_got h)) (not (coordinator_aborted h)) (can_first h t)))
+
+can_ready : (h : List Entry) → can_log h ≡ true → each (λ i. has (is_ready_got i.enl.value) h) (all_of enlist_got h) ≡ true
+can_ready h t =
+    and_right (has is_commit_got h && has is_yes_got h) (each (λ i. has (is_ready_got i.enl.value) h) (all_of enlist_got h))
+    (and_left (has is_commit_got h && has is_yes_got h && each (λ i. has (is_ready_got i.enl.value) h) (all_of enlist_got h)) (not (coordinator_aborted h)) (can_first h t))
+
+can_live : (h : List Entry) → can_log h ≡ true → coordinator_aborted h ≡ false
+can_live h t =
+    not_true (coordinator_aborted h) (and_right (has is_commit_got h && has is_yes_got h && each (λ i. has (is_ready_got i.enl.value) h) (all_of enlist_got h)) (not (coordinator_aborted h)) (can_first h t))
+
+-- it never stopped
+pub can_unstopped : (h : List Entry) → can_log h ≡ true → has is_stop h ≡ false
+can_unstopped h t =
+    not_true (has is_stop h)
+    (and_right (has is_commit_got h && has is_yes_got h && each (λ i. has (is_ready_got i.enl.value) h) (all_of enlist_got h) && not (coordinator_aborted h) && not (has is_logged h)) (not (has is_stop h)) t)
+
+-- Up to the first stop and on from there.
+first_none : (g h : List Entry) → has is_stop h ≡ false → before_first g h ≡ g
+first_none g [] s = refl
+first_none g (Stopped ∷ h) s = absurd cc
+first_none g (x ∷ h) s = first_none g h (or_second (is_stop x) (has is_stop h) s)
+
+first_some : (f g h : List Entry) → has is_stop h ≡ true → before_first f h ≡ before_first g h
+first_some f g [] s = absurd cc
+first_some f g (Stopped ∷ h) s = refl
+first_some f g (x ∷ h) s = first_some f g h s
+
+-- what holds before the first stop, and stays, holds
+first_step : (Q : List Entry → Bool) (x : Entry) (h : List Entry) (b : Bool) → has is_stop h ≡ b → (Q (before_first_stop h) ≡ true → Q (x ∷ h) ≡ true)
+    → Q (before_first (x ∷ h) h) ≡ true → Q (x ∷ h) ≡ true
+first_step Q x h true s on q = on (subst (λ g. Q g ≡ true) (first_some (x ∷ h) h h s) q)
+first_step Q x h false s on q = subst (λ g. Q g ≡ true) (first_none (x ∷ h) h s) q
+
+from_first : (Q : List Entry → Bool) → ((x : Entry) (h : List Entry) → Keeps (x ∷ h) → Q h ≡ true → Q (x ∷ h) ≡ true) → (h : List Entry) → Keeps h → Q (before_first_stop h) ≡ true → Q h ≡ true
+from_first Q stays [] k q = q
+from_first Q stays (Stopped ∷ h) k q = stays Stopped h k (from_first Q stays h (keeps_before Stopped h k) q)
+from_first Q stays (x ∷ h) k q = first_step Q x h (has is_stop h) refl (λ t. stays x h k (from_first Q stays h (keeps_before x h k) t)) q
+
+-- the history before the first stop keeps the table too
+keeps_step : (x : Entry) (h : List Entry) (b : Bool) → has is_stop h ≡ b → Keeps (x ∷ h) → Keeps (before_first_stop h) → Keeps (before_first (x ∷ h) h)
+keeps_step x h true s k w = subst (λ g. Keeps g) (sym (first_some (x ∷ h) h h s)) w
+keeps_step x h false s k w = subst (λ g. Keeps g) (sym (first_none (x ∷ h) h s)) k
+
+keeps_first : (h : List Entry) → Keeps h → Keeps (before_first_stop h)
+keeps_first [] k = k
+keeps_first (Stopped ∷ h) k = keeps_first h (keeps_before Stopped h k)
+keeps_first (x ∷ h) k = keeps_step x h (has is_stop h) refl k (keeps_first h (keeps_before x h k))
+
+-- What holds where an append may come, and stays, holds where there is a record.
+pub if_record : (Q : List Entry → Bool) → ((x : Entry) (h : List Entry) → Keeps (x ∷ h) → Q h ≡ true → Q (x ∷ h) ≡ true) → ((h : List Entry) → Keeps h → can_log h ≡ true → Q h ≡ true)
+    → (h : List Entry) → Keeps h → has is_record h ≡ true → Q h ≡ true
+if_record Q stays at [] k s = absurd cc
+if_record Q stays at (x ∷ h) k s =
+    stays x h k
+    (or_case (is_record x) (has is_record h) (λ t. new x h k t (if_record Q stays at h (keeps_before x h k))) (λ t. if_record Q stays at h (keeps_before x h k) t) s)
+  where
+    new : (x : Entry) (h : List Entry) → Keeps (x ∷ h) → is_record x ≡ true → (has is_record h ≡ true → Q h ≡ true) → Q h ≡ true
+    new Logged h k t ih = at h (keeps_before Logged h k) (newest Logged h k)
+    new (Restarted true) h k t ih =
+        let past = keeps_before (Restarted true) h k in
+        or_case (has_mark h) (is_unmarked (latest mark_of h) && can_log (before_first_stop h)) (λ u. ih (record_of_mark h u))
+        (λ u. from_first Q stays h past (at (before_first_stop h) (keeps_first h past) (and_right (is_unmarked (latest mark_of h)) (can_log (before_first_stop h)) u)))
+        (newest_tied (Restarted true) h k)
+    new _ h k t ih = absurd cc
+
+-- the local side said yes
+yes_at : (h : List Entry) → Keeps h → can_log h ≡ true → has is_yes h ≡ true
+yes_at h k c = yes_if_got h k (can_yes h c)
+
+pub yes_if_record : (h : List Entry) → Keeps h → has is_record h ≡ true → has is_yes h ≡ true
+yes_if_record h k s = if_record (λ g. has is_yes g) (λ x g w t. or_right (is_yes x) (has is_yes g) t) yes_at h k s
+
+-- Who came to the coordinator is among those whose ENLIST it got.
+named_step : (e f i : ℕ) (P : ℕ → Bool) (rest : Bool) → f ≡ i → P i ≡ true → (rest ≡ true → P e ≡ true) → (b : Bool) → (e == f) ≡ b → (b || rest) ≡ true → P e ≡ true
+named_step e f i P rest own here there true q t = let same : e ≡ i = eqb-true e f q ∙ own in subst (λ n. P n ≡ true) (sym same) here
+named_step e f i P rest own here there false q t = there t
+
+named : (e : ℕ) (P : ℕ → Bool) (h : List Entry) → Keeps h → has (is_enlist_got e) h ≡ true → each (λ i. P i.enl.value) (all_of enlist_got h) ≡ true → P e ≡ true
+named e P [] k s a = absurd cc
+named e P (Got (Enl f) Up (EnlistEnlist i) ∷ h) k s a =
+    named_step e f.value i.enl.value P (has (is_enlist_got e) h) (eqb-true f.value i.enl.value (own_info f i h k))
+    (and_left (P i.enl.value) (each (λ j. P j.enl.value) (all_of enlist_got h)) a)
+    (λ t. named e P h (keeps_before (Got (Enl f) Up (EnlistEnlist i)) h k) t (and_right (P i.enl.value) (each (λ j. P j.enl.value) (all_of enlist_got h)) a)) (e == f.value) refl s
+named e P (x ∷ h) k s a = named e P h (keeps_before x h k) s a
+
+-- where an append may come, each that came voted well
+came_good : (e : EnlNo) (h : List Entry) → Keeps h → can_log h ≡ true → has (is_enlist_got e.value) h ≡ true → has (is_good_vote e.value) h ≡ true
+came_good e h k c s = good_if_ready e h k (named e.value (λ n. has (is_ready_got n) h) h k s (can_ready h c))
+
+-- each enlistment voted well
+abbrev pub all_good : List Entry → Bool
+all_good h = each (λ x. has (is_good_vote x.0.value) h) (enlisted h)
+
+good_class : (v came good : Bool) → (v || came) ≡ true → (not v || good) ≡ true → (came ≡ true → good ≡ true) → good ≡ true
+good_class true came good p q f = q
+good_class false came good p q f = f p
+
+good_at : (h : List Entry) → Keeps h → can_log h ≡ true → (has is_sealed h && all_good h) ≡ true
+good_at h k c =
+    let yes = yes_at h k c in
+    and_both (has is_sealed h) (all_good h) (sealed_if_yes h k yes)
+    (each_both (λ x. is_volatile x.1 || has (is_enlist_got x.0.value) h) (λ x. not (is_volatile x.1) || has (is_good_vote x.0.value) h) (λ x. has (is_good_vote x.0.value) h)
+    (λ x p q. good_class (is_volatile x.1) (has (is_enlist_got x.0.value) h) (has (is_good_vote x.0.value) h) p q (λ s. came_good x.0 h k c s))
+    (enlisted h) (come_if_promoted h k (promoted_if_yes h k yes)) (well_if_yes h k yes))
+
+good_more : (x : Entry) (h : List Entry) → rule h x ≡ true → has is_sealed h ≡ true → all_good h ≡ true → all_good (x ∷ h) ≡ true
+good_more (Enlisted e c) h r s a = absurd (not_both (has is_sealed h) s (enlisted_unsealed e c h r))
+good_more (Voted e v) h r s a =
+    each_more (λ y. has (is_good_vote y.0.value) h) (λ y. has (is_good_vote y.0.value) (Voted e v ∷ h))
+    (λ y t. or_right (is_good_vote y.0.value (Voted e v)) (has (is_good_vote y.0.value) h) t) (enlisted h) a
+good_more _ h r s a = a
+
+good_stays : (x : Entry) (h : List Entry) → Keeps (x ∷ h) → (has is_sealed h && all_good h) ≡ true → (has is_sealed (x ∷ h) && all_good (x ∷ h)) ≡ true
+good_stays x h k t =
+    let sealed = and_left (has is_sealed h) (all_good h) t in
+    and_both (has is_sealed (x ∷ h)) (all_good (x ∷ h)) (or_right (is_sealed x) (has is_sealed h) sealed) (good_more x h (newest x h k) sealed (and_right (has is_sealed h) (all_good h) t))
+
+pub good_if_record : (h : List Entry) → Keeps h → has is_record h ≡ true → all_good h ≡ true
+good_if_record h k s = and_right (has is_sealed h) (all_good h) (if_record (λ g. has is_sealed g && all_good g) good_stays good_at h k s)
+
+-- who came, voted well, where there is a record
+came_voted_at : (e : EnlNo) (h : List Entry) → Keeps h → can_log h ≡ true → (has is_commit_got h && (not (has (is_enlist_got e.value) h) || has (is_good_vote e.value) h)) ≡ true
+came_voted_at e h k c =
+    and_both (has is_commit_got h) _ (can_commit h c) (implied (has (is_enlist_got e.value) h) (has (is_good_vote e.value) h) (λ s. came_good e h k c s))
+  where
+    implied : (a b : Bool) → (a ≡ true → b ≡ true) → (not a || b) ≡ true
+    implied true b f = f refl
+    implied false b f = refl
+
+came_voted_stays : (e : ℕ) (x : Entry) (h : List Entry) → Keeps (x ∷ h) → (has is_commit_got h && (not (has (is_enlist_got e) h) || has (is_good_vote e) h)) ≡ true
+    → (has is_commit_got (x ∷ h) && (not (has (is_enlist_got e) (x ∷ h)) || has (is_good_vote e) (x ∷ h))) ≡ true
+came_voted_stays e (Got (Enl f) Up (EnlistEnlist i)) h k t =
+    absurd (not_both (has is_commit_got h) (and_left (has is_commit_got h) (not (has (is_enlist_got e) h) || has (is_good_vote e) h) t) (not_true (has is_commit_got h) (newest (Got (Enl f) Up (EnlistEnlist i)) h k)))
+came_voted_stays e (Got Begin Up BeginCommit) h k t = and_right (has is_commit_got h) (not (has (is_enlist_got e) h) || has (is_good_vote e) h) t
+came_voted_stays e (Voted f v) h k t =
+    and_both (has is_commit_got h) (not (has (is_enlist_got e) h) || has (is_good_vote e) (Voted f v ∷ h)) (and_left (has is_commit_got h) (not (has (is_enlist_got e) h) || has (is_good_vote e) h) t)
+    (or_between (not (has (is_enlist_got e) h)) (is_good_vote e (Voted f v)) (has (is_good_vote e) h) (and_right (has is_commit_got h) (not (has (is_enlist_got e) h) || has (is_good_vote e) h) t))
+came_voted_stays e _ h k t = t
+
+pub came_voted : (e : EnlNo) (h : List Entry) → Keeps h → has is_record h ≡ true → has (is_enlist_got e.value) h ≡ true → has (is_good_vote e.value) h ≡ true
+came_voted e h k s came =
+    so (has (is_enlist_got e.value) h) (has (is_good_vote e.value) h) came
+    (and_right (has is_commit_got h) (not (has (is_enlist_got e.value) h) || has (is_good_vote e.value) h)
+    (if_record (λ g. has is_commit_got g && (not (has (is_enlist_got e.value) g) || has (is_good_vote e.value) g)) (came_voted_stays e.value) (came_voted_at e) h k s))
+  where
+    so : (a b : Bool) → a ≡ true → (not a || b) ≡ true → b ≡ true
+    so true b p t = t
+    so false b p t = absurd cc
+
+-- A record is evidence.
+each_filter : {A : Type 0} (p q : A → Bool) (xs : List A) → each p xs ≡ true → each p (filter q xs) ≡ true
+each_filter p q [] a = refl
+each_filter p q (x ∷ xs) a = step p (q x) x (filter q xs) (and_left (p x) (each p xs) a) (each_filter p q xs (and_right (p x) (each p xs) a))
+  where
+    step : {A : Type 0} (p : A → Bool) (b : Bool) (x : A) (ys : List A) → p x ≡ true → each p ys ≡ true → each p (if b then x ∷ ys else ys) ≡ true
+    step p true x ys h k = and_both (p x) (each p ys) h k
+    step p false x ys h k = k
+
+voters_pass : (p : EnlNo × Class → Bool) (h : List Entry) → each p (enlisted h) ≡ true → each p (voters h) ≡ true
+voters_pass p h a = step (has is_promoted h) (volatiles h) (durables h) (each_filter p (λ x. is_volatile x.1) (enlisted h) a) (each_filter p (λ x. not (is_volatile x.1)) (enlisted h) a)
+  where
+    step : (b : Bool) (vs ds : List (EnlNo × Class)) → each p vs ≡ true → each p ds ≡ true → each p (if b then vs ++ ds else vs) ≡ true
+    step true vs ds v d = each-append p vs ds v d
+    step false vs ds v d = v
+
+pub evidence_if_record : (h : List Entry) → Keeps h → has is_record h ≡ true → evidence h ≡ true
+unfolding evidence ready by_log
+evidence_if_record h k s =
+    let yes = yes_if_record h k s in
+    let sealed = sealed_if_yes h k yes in
+    and_both (has is_commit h && all_complete h && each (λ x. has (is_good_vote x.0.value) h) (voters h)) (by_seal h || by_owner h || (has is_promoted h && has is_record h))
+    (three_hold (has is_commit h) (all_complete h) _ (commit_if_sealed h k sealed) (complete_if_sealed h k sealed) (voters_pass (λ x. has (is_good_vote x.0.value) h) h (good_if_record h k s)))
+    (or_right (by_seal h || by_owner h) (has is_promoted h && has is_record h) (and_both (has is_promoted h) (has is_record h) (promoted_if_yes h k yes) s))
+
+-- A coordinator with a record doesn't abort: while it stands stopped it gets nothing.
+pub live_more : (x : Entry) (h : List Entry) → (is_abort h x && not (has is_record h)) ≡ false → coordinator_aborted h ≡ false → coordinator_aborted (x ∷ h) ≡ false
+unfolding coordinator_aborted
+live_more x h a l = or_false (is_abort h x && not (has is_record h)) (ever is_first_abort h) a l
+
+calm_more : (x : Entry) (h : List Entry) → is_abort h x ≡ false → coordinator_aborted h ≡ false → coordinator_aborted (x ∷ h) ≡ false
+calm_more x h a l = live_more x h (rw a refl) l
+
+stands_stopped : (h : List Entry) → has is_stop h ≡ true → is_unmarked (latest mark_of h) ≡ true → is_stopped h ≡ true
+stands_stopped [] s m = absurd cc
+stands_stopped (Stopped ∷ h) s m = refl
+stands_stopped (Restarted b ∷ h) s m = absurd cc
+stands_stopped (Logged ∷ h) s m = absurd cc
+stands_stopped (Freed ∷ h) s m = absurd cc
+stands_stopped (x ∷ h) s m = stands_stopped h s m
+
+pub got_calm : (c : Conn) (m : Message) (h : List Entry) → is_abort h (Got c Down m) ≡ false
+got_calm Begin m h = refl
+got_calm Voter m h = refl
+got_calm (Enl e) m h = refl
+got_calm _ m h = refl
+
+calm_down : (x : Entry) (h : List Entry) → Keeps (x ∷ h) → is_unmarked (mark_of x) ≡ true → has is_stop h ≡ true → is_stopped h ≡ true → is_abort h x ≡ false
+calm_down (Got c Up m) h k n s d = absurd (nothing_up c m h d k.wires.0)
+calm_down (Got c Down m) h k n s d = got_calm c m h
+calm_down (End c Up) h k n s d = absurd (no_end_up c h d k.wires.0)
+calm_down LogFull h k n s d = absurd (not_both (has is_stop h) s (can_unstopped h (newest LogFull h k)))
+calm_down (Restarted b) h k n s d = absurd cc
+calm_down _ h k n s d = refl
+
+unmarked_now : (a b : Option Bool) → is_unmarked (or_else a b) ≡ true → is_unmarked a ≡ true
+unmarked_now (Some c) b m = absurd cc
+unmarked_now None b m = refl
+
+unmarked_before : (a b : Option Bool) → is_unmarked (or_else a b) ≡ true → is_unmarked b ≡ true
+unmarked_before (Some c) b m = absurd cc
+unmarked_before None b m = m
+
+live_stop : (h : List Entry) (b : Bool) → has is_stop h ≡ b → coordinator_aborted (before_first_stop h) ≡ false → (has is_stop h ≡ true → coordinator_aborted h ≡ false)
+    → coordinator_aborted h ≡ false
+live_stop h true t l f = f t
+live_stop h false t l f = subst (λ g. coordinator_aborted g ≡ false) (first_none h h t) l
+
+live_first : (h : List Entry) → Keeps h → has is_stop h ≡ true → is_unmarked (latest mark_of h) ≡ true → coordinator_aborted (before_first_stop h) ≡ false → coordinator_aborted h ≡ false
+live_first [] k s m l = l
+live_first (Stopped ∷ h) k s m l = calm_more Stopped h refl (live_stop h (has is_stop h) refl l (λ t. live_first h (keeps_before Stopped h k) t m l))
+live_first (x ∷ h) k s m l =
+    calm_more x h (calm_down x h k (unmarked_now (mark_of x) (latest mark_of h) m) s (stands_stopped h s (unmarked_before (mark_of x) (latest mark_of h) m)))
+    (live_first h (keeps_before x h k) s (unmarked_before (mark_of x) (latest mark_of h) m) (subst (λ g. coordinator_aborted g ≡ false) (first_some (x ∷ h) h h s) l))
+
+pub stopped_stop : (h : List Entry) → is_stopped h ≡ true → has is_stop h ≡ true
+stopped_stop [] s = absurd cc
+stopped_stop (Stopped ∷ h) s = refl
+stopped_stop (Restarted b ∷ h) s = absurd cc
+stopped_stop (x ∷ h) s = or_right (is_stop x) (has is_stop h) (stopped_stop h s)
+
+new_live : (x : Entry) (h : List Entry) → Keeps (x ∷ h) → is_record x ≡ true → (has is_record h ≡ true → coordinator_aborted h ≡ false) → coordinator_aborted (x ∷ h) ≡ false
+new_live Logged h k t ih = calm_more Logged h refl (can_live h (newest Logged h k))
+new_live (Restarted true) h k t ih =
+    calm_more (Restarted true) h refl
+    (or_case (has_mark h) (is_unmarked (latest mark_of h) && can_log (before_first_stop h)) (λ u. ih (record_of_mark h u))
+    (λ u. live_first h (keeps_before (Restarted true) h k) (stopped_stop h (newest (Restarted true) h k)) (and_left (is_unmarked (latest mark_of h)) (can_log (before_first_stop h)) u)
+    (can_live (before_first_stop h) (and_right (is_unmarked (latest mark_of h)) (can_log (before_first_stop h)) u))) (newest_tied (Restarted true) h k))
+new_live _ h k t ih = absurd cc
+
+pub live_if_record : (h : List Entry) → Keeps h → has is_record h ≡ true → coordinator_aborted h ≡ false
+live_if_record [] k s = absurd cc
+live_if_record (x ∷ h) k s =
+    or_case (is_record x) (has is_record h) (λ t. new_live x h k t (live_if_record h (keeps_before x h k)))
+    (λ t. live_more x h (recorded (is_abort h x) (has is_record h) t) (live_if_record h (keeps_before x h k) t)) s
+  where
+    recorded : (a b : Bool) → b ≡ true → (a && not b) ≡ false
+    recorded a true e = and_never a
+    recorded a false e = absurd cc

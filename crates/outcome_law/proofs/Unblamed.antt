@@ -1,0 +1,416 @@
+-- Where nothing is lost and all are willing, nothing bad comes: no veto, no abort, no refusal.
+use Rattle.std.proofs.Common.{◌≡◌, ℕ, zero, suc, ◌==◌, Bool, true, false, ◌&&◌, ◌||◌, List, [], ◌∷◌, ◌++◌, Option, Some, None, refl, sym, subst, ap}
+use Rattle.std.specs.Prelude.{not, take, if◌then◌else◌}
+use Rattle.std.proofs.lemmas.Bool.{eqb-true, or_left, false_from_ne_true}
+use Rattle.dtx_values.specs.declared.entry.Entry.{Entry}
+use Rattle.dtx_values.specs.declared.entry.Entry.TheVariants.{Enlisted, CommitAsked, RollbackAsked, TimedOut, Voted, PromoteReply, Requested, OwnerAnswered, Decided, Told, PromotionFailed, Sent, Got, Cut, Down as End, Lost, LogFull, Stopped, Restarted}
+use Rattle.dtx_values.specs.declared.number.EnlNo.{EnlNo}
+use Rattle.dtx_values.specs.declared.entry.Request.TheVariants.{Abort}
+use Rattle.dtx_values.specs.declared.message.Conn.{Conn}
+use Rattle.dtx_values.specs.declared.message.Conn.TheVariants.{Begin, Voter, Enl, Again}
+use Rattle.dtx_values.specs.declared.message.Dir.{Dir}
+use Rattle.dtx_values.specs.declared.message.Dir.TheVariants.{Up, Down}
+use Rattle.dtx_values.specs.declared.message.Message.{Message}
+use Rattle.dtx_values.specs.declared.message.Message.TheVariants.{BeginAbort, BeginAborted, VoterNo, VoterRefused, VoterAbort, EnlistNo, EnlistRefused, EnlistAbort, ReenlistAborted}
+use Rattle.dtx_values.specs.declared.note.Plan.{Plan}
+use Rattle.dtx_values.specs.declared.words.Class.{Class}
+use Rattle.dtx_values.specs.declared.words.Class.TheVariants.{Promotable}
+use Rattle.dtx_values.specs.declared.words.Outcome.{Outcome}
+use Rattle.dtx_values.specs.declared.words.Outcome.TheVariants.{Committed, Aborted, InDoubt}
+use Rattle.dtx_values.specs.declared.words.Vote.{Vote}
+use Rattle.dtx_values.specs.declared.words.Vote.TheVariants.{No}
+use Rattle.dtx_values.specs.Class.{is_promotable}
+use Rattle.dtx_values.specs.Ends.{same_connection, same_direction}
+use Rattle.dtx_values.specs.Lines.{has_line}
+use Rattle.dtx_values.specs.Vote.{is_no, voted_well}
+use Rattle.dtx_model.specs.Words.{has, each, ever, always, latest, all_of}
+use Rattle.dtx_model.specs.Entries.{decision_of, handed_of, is_owner, is_yes, same_outcome}
+use Rattle.dtx_model.specs.Caused.{is_as_planned, is_outcome_planned, is_promotion_planned, is_request_planned, is_vote_planned}
+use Rattle.dtx_model.specs.History.{is_asked_in_time, is_committed, is_ending, is_loss, is_willing, nobody}
+use Rattle.dtx_model.specs.Learned.{coordinator_aborted, is_abort, is_first_abort}
+use Rattle.dtx_model.specs.Outcome.{can_own, coordinator_doubt, doubt, enlisted, is_begin_end, is_empty, is_lost_owner, is_outcome_got, is_veto, is_veto_end, is_voter_end, owner_doubt}
+use Rattle.dtx_model.specs.Promotes.{ends_refused, ends_told, is_refusal}
+use Rattle.dtx_model.specs.Wires.{WireRun, holds, is_ended, is_lost_wire, is_next, is_stopped, kept, in_transit, transit_after_stop, lost_since, opened_with, opens, sent_behind, is_open_wire, without_first}
+use Rattle.dtx_model.proofs.Bools.{and_left, and_right, and_both, or_case, or_false, or_first, or_second, or_right, not_both}
+use Rattle.outcome_law.proofs.Rule.{is_decided}
+use Rattle.outcome_law.proofs.Going.{is_no_vote}
+use Rattle.outcome_law.proofs.Scans.{has_more, has_less}
+use Rattle.outcome_law.proofs.Settled.{asked_well}
+use Rattle.outcome_law.proofs.Whole.{is_sent_on, whole}
+use Rattle.outcome_law.proofs.Fine.{IsFine, any_class, blames, ends_aborted, ends_requested, has_cause, is_bad, is_bad_message, is_bad_outcome, is_caused, is_made, is_restart}
+use Rattle.outcome_law.proofs.Arrived.{before, newest, unstopped, stays}
+
+-- What is on the way was sent.
+shrinks : (p : Message → Bool) (n : ℕ) (ms : List Message) → has p (take n ms) ≡ true → has p ms ≡ true
+shrinks p zero ms k = absurd cc
+shrinks p (suc n) [] k = absurd cc
+shrinks p (suc n) (m ∷ ms) k = or_case (p m) (has p (take n ms)) (λ q. or_left (p m) (has p ms) q) (λ q. or_right (p m) (has p ms) (shrinks p n ms q)) k
+
+rest : (p : Message → Bool) (ms : List Message) → has p (without_first ms) ≡ true → has p ms ≡ true
+rest p [] k = k
+rest p (m ∷ ms) k = or_right (p m) (has p ms) k
+
+-- one of two lists has what their list together has
+parted : (p : Message → Bool) (m : Message) (ms : List Message) → has p (ms ++ m ∷ []) ≡ true → (p m || has p ms) ≡ true
+parted p m [] k = k
+parted p m (x ∷ ms) k =
+    or_case (p x) (has p (ms ++ m ∷ [])) (λ q. or_right (p m) (p x || has p ms) (or_left (p x) (has p ms) q))
+    (λ q. or_case (p m) (has p ms) (λ a. or_left (p m) (p x || has p ms) a) (λ a. or_right (p m) (p x || has p ms) (or_right (p x) (has p ms) a)) (parted p m ms q)) k
+
+-- the message of an opening is sent there
+opening_sent : (c e : Conn) (d r : Dir) (m : Message) (p : Message → Bool) (stop : Bool) → opens c (Sent e r m) ≡ true → has p (opened_with d m stop) ≡ true
+    → (same_connection c e && same_direction d r && p m) ≡ true
+opening_sent c e Up Up m p true o k = absurd cc
+opening_sent c e Up Up m p false o k = and_both (same_connection c e && true) (p m) (and_both (same_connection c e) true (and_left (same_connection c e) _ o) refl) (or_case (p m) false (λ q. q) (λ q. absurd cc) k)
+opening_sent c e Down Up m p stop o k = absurd cc
+opening_sent c e d Down m p stop o k = absurd cc
+
+-- one more message that is sent
+sent_came : (p : Message → Bool) (m : Message) (o s t b rest : Bool) (new ms : List Message) → (o ≡ true → has p new ≡ true → (s && t && p m) ≡ true) → (has p ms ≡ true → rest ≡ true)
+    → has p (if o then new else if s && t then sent_behind b m ms else ms) ≡ true → ((s && t && p m) || rest) ≡ true
+sent_came p m true s t b rest new ms op ih k = or_left (s && t && p m) rest (op refl k)
+sent_came p m false true true true rest new ms op ih k = or_case (p m) (has p ms) (λ q. or_left (p m) rest q) (λ q. or_right (p m) rest (ih q)) (parted p m ms k)
+sent_came p m false true true false rest new ms op ih k = or_right (p m) rest (ih k)
+sent_came p m false true false b rest new ms op ih k = ih k
+sent_came p m false false t b rest new ms op ih k = ih k
+
+-- what is got leaves no more on the way
+got_came : (p : Message → Bool) (s line t : Bool) (ms : List Message) → has p (if not s then ms else if not line then [] else if t then without_first ms else ms) ≡ true → has p ms ≡ true
+got_came p false line t ms k = k
+got_came p true false t ms k = absurd cc
+got_came p true true true ms k = rest p ms k
+got_came p true true false ms k = k
+
+-- nor does a cut
+cut_came : (p : Message → Bool) (s : Bool) (n : ℕ) (ms : List Message) → has p (if s then take n ms else ms) ≡ true → has p ms ≡ true
+cut_came p true n ms k = shrinks p n ms k
+cut_came p false n ms k = k
+
+-- what is on the way was sent
+pub came : (c : Conn) (d : Dir) (p : Message → Bool) (h : List Entry) → has p (in_transit c d h) ≡ true → has (is_sent_on c d p) h ≡ true
+came c d p [] k = absurd cc
+came c d p (Sent e r m ∷ h) k =
+    sent_came p m (opens c (Sent e r m)) (same_connection c e) (same_direction d r) (is_open_wire c h) (has (is_sent_on c d p) h) (opened_with d m (is_stopped h)) (in_transit c d h)
+    (opening_sent c e d r m p (is_stopped h)) (came c d p h) k
+came c d p (Got e r m ∷ h) k = came c d p h (got_came p (same_connection c e) (has_line e r m) (same_direction d r) (in_transit c d h) k)
+came c d p (Cut e u w ∷ h) k = came c d p h (cut_came p (same_connection c e) (kept d u w) (in_transit c d h) k)
+came c d p (Stopped ∷ h) k = came c d p h (stopped d (in_transit c d h) k)
+  where
+    stopped : (d : Dir) (ms : List Message) → has p (transit_after_stop d ms) ≡ true → has p ms ≡ true
+    stopped Up ms k = absurd cc
+    stopped Down ms k = k
+came c d p (x ∷ h) k = came c d p h k
+
+-- what is got was sent
+pub got_sent : (c : Conn) (d : Dir) (m : Message) (p : Message → Bool) (h : List Entry) → is_next m (in_transit c d h) → p m ≡ true → has (is_sent_on c d p) h ≡ true
+got_sent c d m p h n k = came c d p h (first (in_transit c d h) n)
+  where
+    first : (ms : List Message) → is_next m ms → has p ms ≡ true
+    first [] n = absurd n
+    first (x ∷ ms) n = let P : Message → Type 0 = λ y. (p y || has p ms) ≡ true in subst P n (or_left (p m) (has p ms) k)
+
+-- Where nothing is lost no end comes.
+unlost : (c : Conn) (h : List Entry) → has (opens c) h ≡ false → lost_since c h ≡ None
+unlost c [] k = refl
+unlost c (x ∷ h) k = rw (unlost c h (or_second (opens c x) (has (opens c) h) k), or_first (opens c x) (has (opens c) h) k) refl
+
+pub no_end : (c : Conn) (d : Dir) (h : List Entry) → whole h ≡ true → WireRun (End c d ∷ h) → ⊥
+no_end c d h w run =
+    not_both (is_lost_wire c h) (and_left (is_lost_wire c h) (is_empty (in_transit c d h)) (and_left (is_lost_wire c h && is_empty (in_transit c d h)) (not (is_ended c d h)) run.0)) (by_opening (has (opens c) h) refl)
+  where
+    by_opening : (b : Bool) → has (opens c) h ≡ b → is_lost_wire c h ≡ false
+    by_opening true o = ap holds (stays c h w o)
+    by_opening false o = ap holds (unlost c h o)
+
+-- it was before its newest entry
+pub fine_before : (x : Entry) (h : List Entry) → IsFine (x ∷ h) → IsFine h
+fine_before x h f = record {
+  whole = before x h f.whole;
+  run = f.run.1;
+  in_time = and_right (is_asked_in_time h x) (always is_asked_in_time h) f.in_time;
+  unbad = or_second (is_bad x) (has is_bad h) f.unbad;
+}
+
+-- the newest entry isn't bad, and no veto
+first_good : (x : Entry) (h : List Entry) → IsFine (x ∷ h) → is_bad x ≡ false
+first_good x h f = or_first (is_bad x) (has is_bad h) f.unbad
+
+no_veto : (x : Entry) (h : List Entry) → IsFine (x ∷ h) → is_veto h x ≡ false
+no_veto RollbackAsked h f = absurd cc
+no_veto TimedOut h f = absurd cc
+no_veto (Voted e No) h f = absurd cc
+no_veto (OwnerAnswered e Aborted) h f = absurd cc
+no_veto (PromoteReply e ok) h f = first_good (PromoteReply e ok) h f
+no_veto (Requested e Abort) h f = absurd cc
+no_veto LogFull h f = absurd cc
+no_veto (Restarted found) h f = absurd cc
+no_veto CommitAsked h f = asked_well h (and_left (is_asked_in_time h CommitAsked) (always is_asked_in_time h) f.in_time)
+no_veto (Lost e) h f = absurd cc
+no_veto (End c d) h f = absurd cc
+no_veto (Got c d m) h f = let l : has_line c d m ≡ true = newest (Got c d m) h f.whole in rw l refl
+no_veto x h f = refl
+
+no_refusal : (x : Entry) (h : List Entry) → IsFine (x ∷ h) → is_refusal x ≡ false
+no_refusal (Got Begin Down BeginAborted) h f = absurd cc
+no_refusal (Got Voter Down (VoterRefused c)) h f = absurd cc
+no_refusal (Got Voter Down VoterAbort) h f = absurd cc
+no_refusal (Got (Enl e) Down (EnlistRefused c)) h f = absurd cc
+no_refusal (Got (Enl e) Down EnlistAbort) h f = absurd cc
+no_refusal x h f = refl
+
+unended : (x : Entry) (h : List Entry) → IsFine (x ∷ h) → ends_told h x ≡ false
+unended x [] f = refl
+unended x (Got (Enl e) Down EnlistAbort ∷ h) f = let q : true ≡ false = or_first true (has is_bad h) (or_second (is_bad x) (true || has is_bad h) f.unbad) in absurd cc
+unended x (y ∷ h) f = refl
+
+-- nothing stands that is to blame for an abort
+pub no_blame : (h : List Entry) → IsFine h → ends_refused h ≡ false
+no_blame [] f = refl
+no_blame (x ∷ h) f = or_false (is_veto h x || is_refusal x) (ends_told h x) (or_false (is_veto h x) (is_refusal x) (no_veto x h f) (no_refusal x h f)) (unended x h f)
+
+-- the coordinator hasn't aborted
+no_abort_here : (x : Entry) (h : List Entry) → IsFine (x ∷ h) → is_abort h x ≡ false
+no_abort_here (Got Begin Up BeginAbort) h f = absurd cc
+no_abort_here (Got Voter Up VoterNo) h f = absurd cc
+no_abort_here (Got (Enl e) Up EnlistNo) h f = absurd cc
+no_abort_here (Got c Up m) h f = lined (has_line c Up m) (is_veto_end h c Up) (newest (Got c Up m) h f.whole)
+  where
+    lined : (b v : Bool) → b ≡ true → (not b && v) ≡ false
+    lined true v l = refl
+    lined false v l = absurd cc
+no_abort_here (End c d) h f = absurd cc
+no_abort_here LogFull h f = absurd cc
+no_abort_here (Restarted found) h f = absurd cc
+no_abort_here x h f = refl
+
+pub no_abort : (h : List Entry) → IsFine h → coordinator_aborted h ≡ false
+unfolding coordinator_aborted
+no_abort [] f = refl
+no_abort (x ∷ h) f = or_false (is_first_abort h x) (ever is_first_abort h) (rw (no_abort_here x h f) refl) (no_abort h (fine_before x h f))
+
+-- no outcome but committed was decided
+pub decided_well : (x : Outcome) (h : List Entry) → has is_bad h ≡ false → is_decided x (latest decision_of h) ≡ true → is_bad_outcome x ≡ false
+decided_well x [] u k = absurd cc
+decided_well x (Decided y ∷ h) u k = same x y k (or_first (is_bad_outcome y) (has is_bad h) u)
+  where
+    same : (x y : Outcome) → same_outcome x y ≡ true → is_bad_outcome y ≡ false → is_bad_outcome x ≡ false
+    same Committed y k u = refl
+    same Aborted Aborted k u = absurd cc
+    same InDoubt InDoubt k u = absurd cc
+    same x y k u = absurd cc
+decided_well x (y ∷ h) u k = decided_well x h (or_second (is_bad y) (has is_bad h) u) k
+
+-- nobody holds the commit in doubt
+no_doubt : (h : List Entry) → IsFine h → doubt h ≡ false
+unfolding doubt owner_doubt coordinator_doubt
+no_doubt h f =
+    or_false (owner_doubt h) (coordinator_doubt h)
+    (or_false (has (λ e. has (is_owner e.value InDoubt) h) (all_of handed_of h)) (ever is_lost_owner h) (unanswered (all_of handed_of h)) (unlost_owner h f.unbad))
+    (unseen (has is_yes h) (has is_begin_end h) (has is_voter_end h) (not (has is_outcome_got h)) (unseen_end h f))
+  where
+    answered : (e : ℕ) (x : Entry) → is_owner e InDoubt x ≡ true → is_bad x ≡ true
+    answered e (OwnerAnswered f InDoubt) k = refl
+    answered e (OwnerAnswered f x) k = outcome (e == f.value) x k
+      where
+        outcome : (b : Bool) (x : Outcome) → (b && same_outcome InDoubt x) ≡ true → is_bad_outcome x ≡ true
+        outcome true InDoubt k = refl
+        outcome b x k = absurd cc
+    answered e x k = absurd cc
+
+    unanswered : (es : List EnlNo) → has (λ e. has (is_owner e.value InDoubt) h) es ≡ false
+    unanswered [] = refl
+    unanswered (e ∷ es) = or_false (has (is_owner e.value InDoubt) h) (has (λ e. has (is_owner e.value InDoubt) h) es) (has_less (is_owner e.value InDoubt) is_bad (answered e.value) h f.unbad) (unanswered es)
+
+    unlost_owner : (h : List Entry) → has is_bad h ≡ false → ever is_lost_owner h ≡ false
+    unlost_owner [] u = refl
+    unlost_owner (Lost e ∷ h) u = absurd cc
+    unlost_owner (x ∷ h) u = unlost_owner h (or_second (is_bad x) (has is_bad h) u)
+
+    unseen_end : (h : List Entry) → IsFine h → has is_begin_end h ≡ false
+    unseen_end [] f = refl
+    unseen_end (End c d ∷ h) f = absurd cc
+    unseen_end (Got Begin Down m ∷ h) f = let l : has_line Begin Down m ≡ true = newest (Got Begin Down m) h f.whole in rw l (unseen_end h (fine_before (Got Begin Down m) h f))
+    unseen_end (x ∷ h) f = unseen_end h (fine_before x h f)
+
+    unseen : (a b c d : Bool) → b ≡ false → (a && b && c && d) ≡ false
+    unseen true b c d k = rw k refl
+    unseen false b c d k = refl
+
+-- an enlistment of a number is willing, with a class that passes
+abbrev all_willing : (ℕ → Plan) → List Entry → Bool
+all_willing p h = each (λ x. is_willing (p x.0.value) x.1) (enlisted h)
+
+row_willing : (p : ℕ → Plan) (e : ℕ) (q : Class → Bool) (h : List Entry) → all_willing p h ≡ true → has (is_made e q) h ≡ true → (c : Class) × (q c ≡ true) × (is_willing (p e) c ≡ true)
+row_willing p e q [] w k = absurd cc
+row_willing p e q (Enlisted f c ∷ h) w k =
+    or_case ((e == f.value) && q c) (has (is_made e q) h)
+    (λ r. (
+      c,
+      and_right (e == f.value) (q c) r,
+      subst (λ n. is_willing (p n) c ≡ true) (sym (eqb-true e f.value (and_left (e == f.value) (q c) r))) (and_left (is_willing (p f.value) c) (all_willing p h) w),
+    ))
+    (λ r. row_willing p e q h (and_right (is_willing (p f.value) c) (all_willing p h) w) r) k
+row_willing p e q (x ∷ h) w k = row_willing p e q h w k
+
+-- the plans of a willing one
+plans_vote : (a b c : Bool) → (a && b && c) ≡ true → a ≡ true
+plans_vote a b c k = and_left a b (and_left (a && b) c k)
+
+plans_owner : (a o b c : Bool) → (a && (not o || b) && c) ≡ true → o ≡ true → b ≡ true
+plans_owner a true b c k o = and_right a b (and_left (a && b) c k)
+plans_owner a false b c k o = absurd cc
+
+plans_promotion : (a b p c : Bool) → (a && b && (not p || c)) ≡ true → p ≡ true → c ≡ true
+plans_promotion a b true c k p = and_right (a && b) c k
+plans_promotion a b false c k p = absurd cc
+
+voted_yes : (v : Vote) (o : Option Vote) → is_vote_planned o v ≡ true → voted_well o ≡ true → is_no v ≡ false
+voted_yes No (Some No) k w = absurd cc
+voted_yes No (Some v) k w = absurd cc
+voted_yes No None k w = absurd cc
+voted_yes v o k w = refl
+
+owned_well : (x : Outcome) (o : Option Outcome) → is_outcome_planned o x ≡ true → is_committed o ≡ true → is_bad_outcome x ≡ false
+owned_well Committed o k w = refl
+owned_well x (Some Committed) k w = absurd cc
+owned_well x (Some y) k w = absurd cc
+owned_well x None k w = absurd cc
+
+granted_well : (ok : Bool) (o : Option Bool) → is_promotion_planned o ok ≡ true → holds o ≡ true → not ok ≡ false
+granted_well true o k w = refl
+granted_well false (Some true) k w = absurd cc
+granted_well false (Some false) k w = absurd cc
+granted_well false None k w = absurd cc
+
+requested_well : (o : Option Outcome) → is_request_planned o Abort ≡ true → is_committed o ≡ true → ⊥
+requested_well (Some Aborted) k w = absurd cc
+requested_well (Some x) k w = absurd cc
+requested_well None k w = absurd cc
+
+pub owns : (c : Class) → is_promotable c ≡ true → can_own c ≡ true
+owns Promotable k = refl
+owns c k = absurd cc
+
+-- nothing is to blame for a decision
+undue : (h : List Entry) → IsFine h → blames h ≡ false
+undue [] f = refl
+undue (PromotionFailed ∷ h) f = absurd cc
+undue (x ∷ h) f = no_blame (x ∷ h) f
+
+not_requested : (h : List Entry) → IsFine h → ends_requested h ≡ false
+not_requested [] f = refl
+not_requested (Requested e Abort ∷ h) f = absurd cc
+not_requested (x ∷ h) f = refl
+
+not_aborted : (h : List Entry) → IsFine h → ends_aborted h ≡ false
+not_aborted [] f = refl
+not_aborted (Got (Enl e) Down EnlistAbort ∷ h) f = absurd cc
+not_aborted (Got (Again e) Down ReenlistAborted ∷ h) f = absurd cc
+not_aborted (x ∷ h) f = refl
+
+-- a bad message that was sent is bad
+bad_sent : (c : Conn) (d : Dir) (x : Entry) → is_sent_on c d is_bad_message x ≡ true → is_bad x ≡ true
+bad_sent c d (Sent e r m) k = and_right (same_connection c e && same_direction d r) (is_bad_message m) k
+bad_sent c d x k = absurd cc
+
+-- what the coordinator sends only where it has aborted or was stopped isn't sent
+unsent : (h : List Entry) → IsFine h → (coordinator_aborted h || has is_restart h) ≡ true → ⊥
+unsent h f k = not_both (coordinator_aborted h || has is_restart h) k (or_false (coordinator_aborted h) (has is_restart h) (no_abort h f) (has_less is_restart is_bad restarts h f.unbad))
+  where
+    restarts : (x : Entry) → is_restart x ≡ true → is_bad x ≡ true
+    restarts (Restarted found) k = refl
+    restarts x k = absurd cc
+
+good_sent : (m : Message) (h : List Entry) → IsFine h → has_cause h m ≡ true → is_bad_message m ≡ false
+good_sent BeginAbort h f r =
+    or_case (is_decided Aborted (latest decision_of h)) (ends_requested h) (λ a. decided_well Aborted h f.unbad a) (λ a. absurd (not_both (ends_requested h) a (not_requested h f))) r
+good_sent VoterNo h f r = decided_well Aborted h f.unbad r
+good_sent EnlistNo h f r = absurd (not_both (has is_no_vote h) r (has_less is_no_vote is_bad votes h f.unbad))
+  where
+    votes : (x : Entry) → is_no_vote x ≡ true → is_bad x ≡ true
+    votes (Voted e No) k = refl
+    votes x k = absurd cc
+good_sent BeginAborted h f r = absurd (unsent h f r)
+good_sent (VoterRefused c) h f r = absurd (unsent h f r)
+good_sent VoterAbort h f r = absurd (unsent h f r)
+good_sent (EnlistRefused c) h f r = absurd (unsent h f r)
+good_sent EnlistAbort h f r = absurd (unsent h f r)
+good_sent ReenlistAborted h f r = absurd (unsent h f r)
+good_sent m h f r = refl
+
+good_got : (c : Conn) (d : Dir) (m : Message) (h : List Entry) → IsFine h → is_next m (in_transit c d h) → is_bad_message m ≡ false
+good_got c d m h f n =
+    false_from_ne_true (is_bad_message m) (λ b. not_both (has is_bad h) (has_more (is_sent_on c d is_bad_message) is_bad (bad_sent c d) h (got_sent c d m is_bad_message h n b)) f.unbad)
+
+good_told : (x : Outcome) (h : List Entry) → IsFine h → (is_decided x (latest decision_of h) || (same_outcome x Aborted && ends_aborted h) || same_outcome x Committed) ≡ true → is_bad_outcome x ≡ false
+good_told Committed h f r = refl
+good_told Aborted h f r =
+    or_case (is_decided Aborted (latest decision_of h)) (ends_aborted h) (λ a. decided_well Aborted h f.unbad a) (λ a. absurd (not_both (ends_aborted h) a (not_aborted h f)))
+    (either (is_decided Aborted (latest decision_of h) || ends_aborted h) r)
+  where
+    either : (b : Bool) → (b || false) ≡ true → b ≡ true
+    either true k = refl
+    either false k = absurd cc
+good_told InDoubt h f r = decided_well InDoubt h f.unbad (either (is_decided InDoubt (latest decision_of h)) r)
+  where
+    either : (b : Bool) → ((b || false) || false) ≡ true → b ≡ true
+    either true k = refl
+    either false k = absurd cc
+
+good_vote : (p : ℕ → Plan) (e : EnlNo) (v : Vote) (h : List Entry) → has (is_made e.value any_class) h ≡ true → is_vote_planned (p e.value).vote v ≡ true → all_willing p h ≡ true → is_no v ≡ false
+good_vote p e v h r k w = let q = row_willing p e.value any_class h w r in voted_yes v (p e.value).vote k (plans_vote (voted_well (p e.value).vote) _ _ q.2)
+
+good_answer : (p : ℕ → Plan) (e : EnlNo) (x : Outcome) (h : List Entry) → has (is_made e.value can_own) h ≡ true → is_outcome_planned (p e.value).owner x ≡ true → all_willing p h ≡ true
+    → is_bad_outcome x ≡ false
+good_answer p e x h r k w =
+    let q = row_willing p e.value can_own h w r in
+    owned_well x (p e.value).owner k (plans_owner (voted_well (p e.value).vote) (can_own q.0) (is_committed (p e.value).owner) _ q.2 q.1)
+
+good_promotion : (p : ℕ → Plan) (e : EnlNo) (ok : Bool) (h : List Entry) → has (is_made e.value is_promotable) h ≡ true → is_promotion_planned (p e.value).promote ok ≡ true → all_willing p h ≡ true
+    → not ok ≡ false
+good_promotion p e ok h r k w =
+    let q = row_willing p e.value is_promotable h w r in
+    granted_well ok (p e.value).promote k (plans_promotion (voted_well (p e.value).vote) _ (is_promotable q.0) (holds (p e.value).promote) q.2 q.1)
+
+good_request : (p : ℕ → Plan) (e : EnlNo) (h : List Entry) → has (is_made e.value is_promotable) h ≡ true → is_request_planned (p e.value).owner Abort ≡ true → all_willing p h ≡ true → ⊥
+good_request p e h r k w =
+    let q = row_willing p e.value is_promotable h w r in
+    requested_well (p e.value).owner k (plans_owner (voted_well (p e.value).vote) (can_own q.0) (is_committed (p e.value).owner) _ q.2 (owns q.0 q.1))
+
+-- the newest entry isn't bad
+good_here : (p : ℕ → Plan) (x : Entry) (h : List Entry) → IsFine h → WireRun (x ∷ h) → is_ending x ≡ false → is_loss x ≡ false → is_caused h x ≡ true → is_as_planned p nobody h x ≡ true
+    → all_willing p h ≡ true → is_bad x ≡ false
+good_here p RollbackAsked h f run n l r k w = absurd cc
+good_here p TimedOut h f run n l r k w = absurd cc
+good_here p LogFull h f run n l r k w = absurd cc
+good_here p (Lost e) h f run n l r k w = absurd cc
+good_here p (Voted e v) h f run n l r k w = good_vote p e v h r k w
+good_here p (OwnerAnswered e x) h f run n l r k w = good_answer p e x h r k w
+good_here p (PromoteReply e ok) h f run n l r k w = good_promotion p e ok h r k w
+good_here p (Requested e Abort) h f run n l r k w = absurd (good_request p e h r k w)
+good_here p PromotionFailed h f run n l r k w = absurd (not_both (ends_refused h) r (no_blame h f))
+good_here p (Decided Aborted) h f run n l r k w = absurd (not_both (blames h) r (undue h f))
+good_here p (Decided InDoubt) h f run n l r k w = absurd (not_both (doubt h) r (no_doubt h f))
+good_here p (Told q x) h f run n l r k w = good_told x h f r
+good_here p (Sent c d m) h f run n l r k w = good_sent m h f r
+good_here p (Got c d m) h f run n l r k w = good_got c d m h f run.0
+good_here p (End c d) h f run n l r k w = absurd (no_end c d h f.whole run)
+good_here p (Restarted found) h f run n l r k w = absurd (not_both (is_stopped h) r (unstopped h f.whole))
+good_here p x h f run n l r k w = refl
+
+-- all are willing before the newest entry too
+willing_before : (p : ℕ → Plan) (x : Entry) (h : List Entry) → all_willing p (x ∷ h) ≡ true → all_willing p h ≡ true
+willing_before p (Enlisted e c) h w = and_right (is_willing (p e.value) c) (all_willing p h) w
+willing_before p x h w = w
+
+-- where nothing is lost, nothing ends it, and all are willing and answer as planned, nothing bad comes
+pub nothing_bad : (p : ℕ → Plan) (h : List Entry) → whole h ≡ true → WireRun h → always is_asked_in_time h ≡ true → has is_ending h ≡ false → has is_loss h ≡ false
+    → always is_caused h ≡ true → always (is_as_planned p nobody) h ≡ true → each (λ x. is_willing (p x.0.value) x.1) (enlisted h) ≡ true → has is_bad h ≡ false
+nothing_bad p [] w run a n l r k v = refl
+nothing_bad p (x ∷ h) w run a n l r k v =
+    let in_time = and_right (is_asked_in_time h x) (always is_asked_in_time h) a in
+    let past = nothing_bad p h (before x h w) run.1 in_time (or_second (is_ending x) (has is_ending h) n) (or_second (is_loss x) (has is_loss h) l)
+    (and_right (is_caused h x) (always is_caused h) r) (and_right (is_as_planned p nobody h x) (always (is_as_planned p nobody) h) k) (willing_before p x h v) in
+    or_false (is_bad x) (has is_bad h)
+    (good_here p x h (record { whole = before x h w; run = run.1; in_time = in_time; unbad = past }) run (or_first (is_ending x) (has is_ending h) n) (or_first (is_loss x) (has is_loss h) l)
+    (and_left (is_caused h x) (always is_caused h) r) (and_left (is_as_planned p nobody h x) (always (is_as_planned p nobody) h) k) (willing_before p x h v)) past
