@@ -1,5 +1,5 @@
 //! What the local side of a transaction knows of its calls and its history.
-ghost use Rattle.std.specs.Prelude.{ℕ, ◌≡◌, ◌≤◌, ◌↔◌, [], ◌∷◌, ◌++◌, length, is_some, true, false, find, None, Some, IfOk, IfSome};
+ghost use Rattle.std.specs.Prelude.{ℕ, ◌&&◌, ◌≡◌, ◌≤◌, ◌↔◌, [], ◌∷◌, ◌++◌, length, is_some, true, false, find, None, Some, IfOk, IfSome};
 ghost use Rattle.dtx_values.specs.Lines.{has_line};
 ghost use Rattle.dtx_values.specs.Outgoing.{written};
 ghost use Rattle.dtx_values.specs.Table.{rises_above};
@@ -13,7 +13,8 @@ ghost use Rattle.dtx_model.specs.declared.waiting.Wanted.TheVariants.{Place};
 ghost use Rattle.dtx_model.specs.Answers.{has_promotion, local_answer};
 ghost use Rattle.dtx_model.specs.Caused.{is_new, is_unpromoted};
 ghost use Rattle.dtx_model.specs.Half.{fails_if, half_of, heeds, is_gone, is_promoting, stands, was_told};
-ghost use Rattle.dtx_model.specs.Observed.{track};
+ghost use Rattle.dtx_model.specs.Observed.{is_branch, track};
+ghost use Rattle.dtx_model.specs.Words.{has};
 ghost use Rattle.dtx_model.specs.Promotes.{identifier_of};
 ghost use Rattle.dtx_model.specs.Waiting.{is_place_of};
 ghost use Rattle.dtx_model.specs.World.{World};
@@ -22,7 +23,7 @@ ghost use Rattle.local_half.specs.Half.{Follows, IsRoom, after, is_free, is_its_
 ghost use Rattle.local_half.specs.Taken.{HasPlace, IsFor, MaySend, MayTakeIn, with_waiter};
 ghost use Rattle.local_half.specs.Told.{act_at, promoted_at};
 
-use crate::branches::{BranchChange, change, note_got, note_sent};
+use crate::branches::{BranchChange, change, is_enlisted, note_got, note_sent};
 use crate::listeners::{is_gone, lose, regain, tell, was_told};
 use crate::outgoing::put_out;
 use crate::waits::{self, wanted_by};
@@ -68,7 +69,10 @@ const NODE: u128 = 18_446_744_073_709_551_616;
 /// 7. *Decided*: committed after phase one where there is no owner. Earlier a vote No, a rollback,
 ///    a timeout, an open rollback clone or a lost enlistment decides that it is aborted; a lost owner
 ///    after the handing, that it is in doubt. Nothing is decided twice.
-/// 8. *Told*: the enlistments are told the outcome in order of number, and then the client.
+/// 8. *Promoted*: a marshal call, or a durable call that can't own the commit beside what stands, makes the
+///    coordinator decide. The call waits until the transaction is handed over, and `got` and `down` take what
+///    the coordinator sends. A commit, an abort, or the loss of both connections after yes decides then.
+/// 9. *Told*: the enlistments are told the outcome in order of number, and then the client.
 ///
 /// # Driving one
 ///
@@ -95,8 +99,9 @@ const NODE: u128 = 18_446_744_073_709_551_616;
 /// }
 /// ```
 ///
-/// Each condition of a call has a test: `is_its_own` and `is_new` those of `call`, `gone_answer` that
-/// of `gone`, `fits` that of `reply`, and `room` of the outbox. A cleared outbox has room for each.
+/// Each condition of a call has a test: `is_its_own` and `is_free` those of `call`, `gone_answer` that
+/// of `gone`, `is_accepted` that of `reenlist`, `fits` that of `reply`, and `room` and `send_room` of the
+/// outbox. A cleared outbox has room for each.
 /// An enlistment that stays silent is passed over by a loop over `rows` and `due_note`; where
 /// `may_be_due` is false, each has nothing to reply to. `gone` writes what follows of the loss; the
 /// entry of the call is put into the outbox before it.
@@ -107,8 +112,8 @@ const NODE: u128 = 18_446_744_073_709_551_616;
 /// `Follows` the world of no calls and no entries. The clauses `runs` of `call`, `gone`, `reply` and
 /// `act` say that a half which follows a world follows the world after the step, where each call has
 /// a line of its own. So a program that drives a half by this loop has a world that its own calls made,
-/// and the entries that it keeps are the history of that world. Nothing is promoted in it, as
-/// `is_unpromoted` says. `own_outcome` of the crate `outcome_law` is the law of these worlds: where no
+/// and the entries that it keeps are the history of that world. `is_unpromoted` says whether a promotion
+/// began in it. `own_outcome` of the crate `outcome_law` is the law of these worlds: where no
 /// two calls make the same enlistment or the same clone, all that anybody was told is `justified`,
 /// and no two were told opposite outcomes (`agree`).
 #[derive(Drop)]
@@ -341,6 +346,13 @@ impl LocalHalf {
         ensures { result ≡ is_free self.now.half line c.now }
     {
         self.is_new(c) && !self.is_made_by_waiting(c) && !waits::waits_at(&self.waits, line)
+    }
+
+    /// Whether the coordinator accepted the enlistment: it may come back.
+    pub fn is_accepted(&self, e: EnlNo) -> bool
+        ensures { result ≡ has (λ b. is_branch e.value b && b.enlisted) self.now.half.seen.branches }
+    {
+        is_enlisted(&self.branches, e)
     }
 
     /// Whether no promotion began.
