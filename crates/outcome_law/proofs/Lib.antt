@@ -107,3 +107,4 @@ pub mod CalmBlocks
 pub mod HalfReplies
 pub mod WorldReplies
 pub mod HalfOwner
+pub mod ByTable
