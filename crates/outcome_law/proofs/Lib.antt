@@ -108,3 +108,4 @@ pub mod HalfReplies
 pub mod WorldReplies
 pub mod HalfOwner
 pub mod ByTable
+pub mod BeforeRows
