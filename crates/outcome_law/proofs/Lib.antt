@@ -124,3 +124,5 @@ pub mod HalfWaves
 pub mod HalfHeard
 pub mod HalfEvidence
 pub mod HandedOver
+pub mod ByTable
+pub mod BeforeRows
