@@ -70,3 +70,5 @@ pub mod HalfOwner
 pub mod CoreGoing
 pub mod StillBlocks
 pub mod Welcomes
+pub mod OnceSent
+pub mod BareBlocks
