@@ -107,7 +107,7 @@ abbrev is_heard : Conn → ℕ → End → Bool
 is_heard c tag n = is_end_of c n && is_in tag n.got
 
 -- where each changed item that passes is this one, or passed before, some passed before or it is this one
-unmapped : {A : Type 0} (c : Bool) (p : A → Bool) (f : A → A) → ((x : A) → p (f x) ≡ true → (c || p x) ≡ true) → (xs : List A) → has p (map f xs) ≡ true → (c || has p xs) ≡ true
+pub unmapped : {A : Type 0} (c : Bool) (p : A → Bool) (f : A → A) → ((x : A) → p (f x) ≡ true → (c || p x) ≡ true) → (xs : List A) → has p (map f xs) ≡ true → (c || has p xs) ≡ true
 unmapped c p f g [] k = absurd cc
 unmapped c p f g (x ∷ xs) k =
     or_case (p (f x)) (has p (map f xs)) (λ t. step c (p x) (has p xs) (g x t)) (λ t. or_between c (p x) (has p xs) (unmapped c p f g xs t)) k

@@ -72,3 +72,10 @@ pub mod StillBlocks
 pub mod Welcomes
 pub mod OnceSent
 pub mod BareBlocks
+pub mod WorldActs
+pub mod EndsSeen
+pub mod EndArrivals
+pub mod MessageArrivals
+pub mod Handover
+pub mod Arrivals
+pub mod Reenlisted

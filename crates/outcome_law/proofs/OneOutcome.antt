@@ -51,7 +51,7 @@ evident_more x h k d e = step (has is_promoted h) refl
     step true p = evidence_if_record (x ∷ h) k (or_right (is_record x) (has is_record h) (evident_record h p e))
     step false p = evidence_same x h (newest x h k) d p ∙ e
 
-decided_evident : (h : List Entry) → Keeps h → latest decision_of h ≡ Some Committed → evidence h ≡ true
+pub decided_evident : (h : List Entry) → Keeps h → latest decision_of h ≡ Some Committed → evidence h ≡ true
 unfolding evidence ready by_seal by_owner by_log
 decided_evident [] k d = absurd cc
 decided_evident (Decided Committed ∷ h) k d =
