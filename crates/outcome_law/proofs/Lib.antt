@@ -79,3 +79,4 @@ pub mod MessageArrivals
 pub mod Handover
 pub mod Arrivals
 pub mod Reenlisted
+pub mod Asking
