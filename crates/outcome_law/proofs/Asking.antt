@@ -47,7 +47,7 @@ use Rattle.dtx_model.specs.Steps.{Step, Calls, Replies, Acts, Coordinates, Deliv
 use Rattle.dtx_model.specs.Caused.{MayCome}
 use Rattle.dtx_model.proofs.Bools.{and_both, and_left, and_never, and_right, not_both, not_false, not_true, or_case, or_false, or_right}
 use Rattle.outcome_law.proofs.Tests.{eq_self, eq_swap, first_of_three, first_of_four, second_of_four, third_of_four, fourth_of_four}
-use Rattle.outcome_law.proofs.Scans.{find_none, has_less, has_more}
+use Rattle.outcome_law.proofs.Scans.{each-append, find_none, has_less, has_more}
 use Rattle.outcome_law.proofs.Lists.{has-insert}
 use Rattle.outcome_law.proofs.Picks.{found_at}
 use Rattle.outcome_law.proofs.Owned.{has_filter, has_rows}
@@ -57,7 +57,8 @@ use Rattle.outcome_law.proofs.Crossed.{is_got_on, is_sent_on, same_conn_is, same
 use Rattle.outcome_law.proofs.Recording.{enlisted_unsealed}
 use Rattle.outcome_law.proofs.Leading.{none_again}
 use Rattle.outcome_law.proofs.HalfReplies.{IsOwed, owed}
-use Rattle.outcome_law.proofs.OnceSent.{first_got, is_first_sent}
+use Rattle.outcome_law.proofs.Deciding.{onto-parts}
+use Rattle.outcome_law.proofs.OnceSent.{first_got, is_first_sent, next_stands}
 use Rattle.outcome_law.proofs.BareBlocks.{Bare, Requests, Seals, act_kind, bare_appended, bare_called, bare_cons, bare_core_got, bare_ended_at, bare_freed, bare_if, bare_local_got, bare_one, bare_restarted, is_asking, is_bare, is_commit, is_prepare, reply_kind}
 
 no : false ≡ true → ⊥
@@ -358,3 +359,176 @@ desk_come e (Restarted true ∷ h) t =
     (sym (has_filter (is_desk_of e) (λ z. is_prepared z.ballot) (coordinate h).desks) ∙ (sym (has_same unacked (λ d. refl) e (filter (λ z. is_prepared z.ballot) (coordinate h).desks)) ∙ t)))
 desk_come e (Restarted false ∷ h) t = absurd (no t)
 desk_come e (x ∷ h) t = or_right (is_enlist_got e x) (has (is_enlist_got e) h) (desk_come e h t)
+
+enlist_opening : (f : EnlNo) (x : Entry) → is_enlist_got f.value x ≡ true → is_opening_got (Enl f) x ≡ true
+enlist_opening f (Got (Enl g) Up (EnlistEnlist i)) t = and_both (f.value == g.value) true t refl
+enlist_opening f _ t = absurd (no t)
+
+desk_fresh : (f : EnlNo) (m : Message) (h : List Entry) → Keeps h → MayCross h (Got (Enl f) Up m) → is_opening (Enl f) m ≡ true → has (is_desk_of f.value) (coordinate h).desks ≡ false
+desk_fresh f m h k n o =
+    false_from_ne_true (has (is_desk_of f.value) (coordinate h).desks)
+    (λ t. not_both (has (is_opening (Enl f)) (in_transit (Enl f) Up h)) (next_stands (is_opening (Enl f)) m (in_transit (Enl f) Up h) n o)
+    (none_again (Enl f) h refl k (has_more (is_enlist_got f.value) (is_opening_got (Enl f)) (enlist_opening f) h (desk_come f.value h t))))
+
+if_single : (b : Bool) (xs ys : List Desk) → are_single xs ≡ true → are_single ys ≡ true → are_single (if b then xs else ys) ≡ true
+if_single true xs ys p q = p
+if_single false xs ys p q = q
+
+desks_single : (h : List Entry) → Keeps h → are_single (coordinate h).desks ≡ true
+unfolding coordinate follow
+desks_single [] k = refl
+desks_single (Got (Enl f) Up (EnlistEnlist i) ∷ h) k =
+    let new : Desk = record { enlistment = f; manager = i.rm; ballot = None; acked = false } in
+    let past = keeps_before (Got (Enl f) Up (EnlistEnlist i)) h k in
+    let old = desks_single h past in
+    if_single (accepts (coordinate h)) (insert_by desk_number new (coordinate h).desks) (coordinate h).desks
+    (single_insert new (coordinate h).desks (desk_fresh f (EnlistEnlist i) h past k.wires.0 refl) old) old
+desks_single (Got (Enl f) Up EnlistAck ∷ h) k = single_map (with_ack f.value) (acked_same f.value) (coordinate h).desks (desks_single h (keeps_before (Got (Enl f) Up EnlistAck) h k))
+desks_single (Got (Again f) Up ReenlistAck ∷ h) k = single_map (with_ack f.value) (acked_same f.value) (coordinate h).desks (desks_single h (keeps_before (Got (Again f) Up ReenlistAck) h k))
+desks_single (Got (Enl f) Up m ∷ h) k =
+    let old = desks_single h (keeps_before (Got (Enl f) Up m) h k) in
+    if_single (is_active (coordinate h).stage) (map (with_ballot f.value (ballot_of m)) (coordinate h).desks) (coordinate h).desks
+    (single_map (with_ballot f.value (ballot_of m)) (cast_same f.value (ballot_of m)) (coordinate h).desks old) old
+desks_single (Restarted true ∷ h) k =
+    single_map unacked (λ d. refl) (filter (λ z. is_prepared z.ballot) (coordinate h).desks) (single_filter (λ z. is_prepared z.ballot) (coordinate h).desks (desks_single h (keeps_before (Restarted true) h k)))
+desks_single (Restarted false ∷ h) k = refl
+desks_single (x ∷ h) k = desks_single h (keeps_before x h k)
+
+-- The block of COMMIT.
+prepare_row : (h : List Entry) (c : Conn) (m : Message) → is_prepare m ≡ true → message_row h c m ≡ true → has is_commit_got h ≡ true
+prepare_row h c EnlistPrepare t r = r
+prepare_row h c _ t r = absurd (no t)
+
+prepare_committed : (e : EnlNo) (x : Entry) (h : List Entry) → Keeps h → rule h x ≡ true → is_sent_on (Enl e) Down is_prepare x ≡ true → has is_commit_got h ≡ true
+prepare_committed e (Sent c r m) h k q t =
+    prepare_row h c m (and_right (same_connection (Enl e) c && same_direction Down r) (is_prepare m) t) (fourth_of_four (has_line c r m) (has is_promoting h) (is_there h c r m) (message_row h c m) q)
+prepare_committed e _ h k q t = absurd (no t)
+
+commit_on : (x : Entry) → is_commit_got x ≡ true → is_got_on Begin Up is_commit x ≡ true
+commit_on (Got Begin Up BeginCommit) t = refl
+commit_on _ t = absurd (no t)
+
+opening_uncommit : (m : Message) → is_opening Begin m ≡ true → is_commit m ≡ false
+opening_uncommit BeginBegin t = refl
+opening_uncommit _ t = absurd (no t)
+
+opening_unasked : (e : EnlNo) (m : Message) → is_opening (Enl e) m ≡ true → is_prepare m ≡ false
+opening_unasked e (EnlistEnlist i) t = refl
+opening_unasked e _ t = absurd (no t)
+
+commit_new : (h : List Entry) → Keeps h → IsAsking h → MayCross h (Got Begin Up BeginCommit) → has is_commit_got h ≡ false
+commit_new h k i n = has_less is_commit_got (is_got_on Begin Up is_commit) commit_on h (first_got Begin Up is_commit BeginCommit opening_uncommit refl h k.wires i.first n)
+
+-- no COMMIT is sent by what is sent downward
+abbrev is_downward : Entry → Bool
+is_downward (Sent c Down m) = true
+is_downward _ = false
+
+downward_uncommit : (x : Entry) → is_downward x ≡ true → is_commit_sent x ≡ false
+downward_uncommit (Sent c Down m) t = by (same_connection Begin c) (is_commit m)
+  where
+    by : (a b : Bool) → (a && false && b) ≡ false
+    by true b = refl
+    by false b = refl
+downward_uncommit _ t = absurd (no t)
+
+first_onto : (h es : List Entry) → each is_downward es ≡ true → always (is_first_sent Begin Up is_commit) h ≡ true → always (is_first_sent Begin Up is_commit) (onto h es) ≡ true
+first_onto h [] d a = a
+first_onto h (x ∷ es) d a =
+    first_onto (x ∷ h) es (and_right (is_downward x) (each is_downward es) d)
+    (and_both (is_first_sent Begin Up is_commit h x) (always (is_first_sent Begin Up is_commit) h)
+    (unless_sent (is_commit_sent x) _ (downward_uncommit x (and_left (is_downward x) (each is_downward es) d))) a)
+
+lone_onto : (h es : List Entry) → each is_downward es ≡ true → always is_lone h ≡ true → always is_lone (onto h es) ≡ true
+lone_onto h [] d a = a
+lone_onto h (x ∷ es) d a =
+    lone_onto (x ∷ h) es (and_right (is_downward x) (each is_downward es) d)
+    (and_both (is_lone h x) (always is_lone h) (unless_sent (is_commit_sent x) _ (downward_uncommit x (and_left (is_downward x) (each is_downward es) d))) a)
+
+down_to : (k : Coordinated) (c : Conn) (m : Message) → each is_downward (to k c m) ≡ true
+down_to k c m = by (has (same_connection c) k.known)
+  where
+    by : (b : Bool) → each is_downward (if b then Sent c Down m ∷ [] else []) ≡ true
+    by true = refl
+    by false = refl
+
+down_each : (k : Coordinated) (m : Message) (ds : List Desk) → each is_downward (to_each k m ds) ≡ true
+down_each k m [] = refl
+down_each k m (d ∷ ds) = each-append is_downward (to k (Enl d.enlistment) m) (to_each k m ds) (down_to k (Enl d.enlistment) m) (down_each k m ds)
+
+asks_block : (k : Coordinated) (h : List Entry) → are_single k.desks ≡ true → ((e : EnlNo) → has (is_sent_on (Enl e) Down is_prepare) h ≡ false) → IsAsking h
+    → IsAsking (onto h (to k Voter VoterAsk ++ to_each k EnlistPrepare k.desks))
+asks_block k h s n i =
+    let all = each-append is_downward (to k Voter VoterAsk) (to_each k EnlistPrepare k.desks) (down_to k Voter VoterAsk) (down_each k EnlistPrepare k.desks) in
+    record {
+      first = first_onto h (to k Voter VoterAsk ++ to_each k EnlistPrepare k.desks) all i.first;
+      lone = lone_onto h (to k Voter VoterAsk ++ to_each k EnlistPrepare k.desks) all i.lone;
+      asks = λ e. by e (has (same_connection Voter) k.known);
+    }
+  where
+    by : (e : EnlNo) (b : Bool) → always (is_first_sent (Enl e) Down is_prepare) (onto h ((if b then Sent Voter Down VoterAsk ∷ [] else []) ++ to_each k EnlistPrepare k.desks)) ≡ true
+    by e true = each_asked e k k.desks (Sent Voter Down VoterAsk ∷ h) s (λ t. n e) (i.asks e)
+    by e false = each_asked e k k.desks h s (λ t. n e) (i.asks e)
+
+commit_asking : (id : ℕ) (h : List Entry) → Keeps h → MayCross h (Got Begin Up BeginCommit) → IsAsking h → IsAsking (onto (Got Begin Up BeginCommit ∷ h) (core_got id (coordinate h) Begin BeginCommit))
+unfolding core_got
+commit_asking id h k n i = by (is_active (coordinate h).stage)
+  where
+    none : (e : EnlNo) → has (is_sent_on (Enl e) Down is_prepare) h ≡ false
+    none e =
+        false_from_ne_true (has (is_sent_on (Enl e) Down is_prepare) h)
+        (λ t. not_both (has is_commit_got h) (before (is_sent_on (Enl e) Down is_prepare) is_commit_got (prepare_committed e) h k t) (commit_new h k i n))
+
+    by : (b : Bool) → IsAsking (onto (Got Begin Up BeginCommit ∷ h) (if b then to (coordinate h) Voter VoterAsk ++ to_each (coordinate h) EnlistPrepare (coordinate h).desks else []))
+    by true = asks_block (coordinate h) (Got Begin Up BeginCommit ∷ h) (desks_single h k) none (bare_more (Got Begin Up BeginCommit) h refl i)
+    by false = bare_more (Got Begin Up BeginCommit) h refl i
+
+-- After each step.
+got_asking : (id : ℕ) (c : Conn) (m : Message) (h : List Entry) → Keeps h → MayCross h (Got c Up m) → IsAsking h → IsAsking (onto (Got c Up m ∷ h) (core_got id (coordinate h) c m))
+got_asking id Begin BeginCommit h k n i = commit_asking id h k n i
+got_asking id c m h k n i = bare_onto (Got c Up m ∷ h) (core_got id (coordinate h) c m) (bare_core_got id (coordinate h) c m refl) (bare_more (Got c Up m) h refl i)
+
+takes_next : (m : Message) (ms ns : List Message) → ns ≡ m ∷ ms → is_next m ns
+takes_next m ms [] e = absurd cc
+takes_next m ms (n ∷ ns) e = cc
+
+up_asking : (t : ℕ) (w : World) (c : Conn) (ms : List Message) → in_transit c Up w.past ≡ ms → Keeps w.past → IsAsking w.past → IsAsking (onto w.past (delivered t w c Up ms))
+up_asking t w c [] q k i = bare_onto w.past (Ended c Up ∷ ended_at w c Up) (bare_cons (Ended c Up) refl (bare_ended_at w c Up)) i
+up_asking t w c (m ∷ ms) q k i = got_asking (identifier_of t) c m w.past k (takes_next m ms (in_transit c Up w.past) q) i
+
+down_asking : (t : ℕ) (w : World) (c : Conn) (ms : List Message) → IsAsking w.past → IsAsking (onto w.past (delivered t w c Down ms))
+down_asking t w c [] i = bare_onto w.past (Ended c Down ∷ ended_at w c Down) (bare_cons (Ended c Down) refl (bare_ended_at w c Down)) i
+down_asking t w c (m ∷ ms) i = bare_onto w.past (Got c Down m ∷ local_got t (half w) c m) (bare_cons (Got c Down m) refl (bare_local_got t (half w) c m)) i
+
+pub step_asking : (t : ℕ) (w : World) (m : Step) → Keeps w.past → IsAsking w.past → IsAsking (after t w m).past
+unfolding after block_at
+step_asking t w (Calls n a c m) k i =
+    bare_onto (Called n a (answer_at t w c m) ∷ w.past) (facts_if (has_facts (answer_at t w c m)) (facts_at t w c (answer_at t w c m))) (bare_called t w c (answer_at t w c m))
+    (bare_more (Called n a (answer_at t w c m)) w.past refl i)
+step_asking t w (Replies e r) k i = by (reply_kind (half w) e r)
+  where
+    by : Bare (reply_entries (half w) e r) ⊎ Requests (half w) e (reply_entries (half w) e r) → IsAsking (onto w.past (reply_entries (half w) e r))
+    by (inl b) = bare_onto w.past (reply_entries (half w) e r) b i
+    by (inr s) = request_asking w.past (half w) e r refl k s i
+step_asking t w Acts k i = by (act_kind (half w))
+  where
+    by : Bare (act_entries (half w)) ⊎ Seals (half w) (act_entries (half w)) → IsAsking (onto w.past (act_entries (half w)))
+    by (inl b) = bare_onto w.past (act_entries (half w)) b i
+    by (inr s) = seal_asking w.past (half w) refl k s i
+step_asking t w (Coordinates x) k i = bare_onto w.past (coordinates (core w) x) (bare_if (may_log (core w)) (bare_appended (core w) x) (bare_freed x)) i
+step_asking t w (Delivers c Up) k i = up_asking t w c (in_transit c Up w.past) refl k i
+step_asking t w (Delivers c Down) k i = down_asking t w c (in_transit c Down w.past) i
+step_asking t w Stops k i = bare_onto w.past (Stopped ∷ []) (bare_one Stopped refl) i
+step_asking t w (Restarts found) k i = bare_onto w.past (restarted (core w).stopped found) (bare_restarted (core w).stopped found) i
+
+pub none_asked : IsAsking []
+none_asked = record { first = refl; lone = refl; asks = λ e. refl }
+
+-- so where PREPARE comes, none came before
+prepare_on : (e : EnlNo) (x : Entry) → is_prepare_got e.value x ≡ true → is_got_on (Enl e) Down is_prepare x ≡ true
+prepare_on e (Got (Enl f) Down EnlistPrepare) t = rw t refl
+prepare_on e _ t = absurd (no t)
+
+pub prepare_new : (e : EnlNo) (h : List Entry) → Keeps h → IsAsking h → MayCross h (Got (Enl e) Down EnlistPrepare) → has (is_prepare_got e.value) h ≡ false
+prepare_new e h k i n =
+    has_less (is_prepare_got e.value) (is_got_on (Enl e) Down is_prepare) (prepare_on e) h (first_got (Enl e) Down is_prepare EnlistPrepare (opening_unasked e) refl h k.wires (i.asks e) n)

@@ -178,7 +178,7 @@ got_once c d p f (Cut e u v ∷ h) w a = o_cut p (has (is_got_on c d p) h) (same
 got_once c d p f (Stopped ∷ h) w a = o_stop p (has (is_got_on c d p) h) d (in_transit c d h) (got_once c d p f h w.1 a)
 got_once c d p f (x ∷ h) w a = got_once c d p f h w.1 a
 
-next_stands : (p : Message → Bool) (m : Message) (ms : List Message) → is_next m ms → p m ≡ true → has p ms ≡ true
+pub next_stands : (p : Message → Bool) (m : Message) (ms : List Message) → is_next m ms → p m ≡ true → has p ms ≡ true
 next_stands p m [] n t = absurd n
 next_stands p m (x ∷ ms) n t = let P : Message → Type 0 = λ y. (p y || has p ms) ≡ true in subst P n (or_left (p m) (has p ms) t)
 
