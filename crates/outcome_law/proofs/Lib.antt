@@ -67,3 +67,4 @@ pub mod MessageArrivals
 pub mod Handover
 pub mod Arrivals
 pub mod Reenlisted
+pub mod LocalSteps
