@@ -68,3 +68,4 @@ pub mod Handover
 pub mod Arrivals
 pub mod Reenlisted
 pub mod LocalSteps
+pub mod ToldOn
