@@ -80,3 +80,5 @@ pub mod Handover
 pub mod Arrivals
 pub mod Reenlisted
 pub mod Asking
+pub mod LocalSteps
+pub mod ToldOn
