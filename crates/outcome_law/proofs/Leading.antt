@@ -56,7 +56,7 @@ open_opened c h x None e = opened_none (opens c x) (is_stopped h) e
 open_opened c h x (Some l) e = opened_some (opens c x) (is_stopped h) (l || loses c x) e
 
 -- a message that opens this connection is an opening of it
-opening_of : (c e : Conn) (r : Dir) (m : Message) → opens c (Sent e r m) ≡ true → is_opening c m ≡ true
+pub opening_of : (c e : Conn) (r : Dir) (m : Message) → opens c (Sent e r m) ≡ true → is_opening c m ≡ true
 opening_of c e Up m t =
     let P : Conn → Type 0 = λ y. is_opening y m ≡ true in subst P (sym (same_conn_is c e (and_left (same_connection c e) (is_opening e m) t))) (and_right (same_connection c e) (is_opening e m) t)
 opening_of c e Down m t = absurd cc

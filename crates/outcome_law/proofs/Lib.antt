@@ -112,6 +112,8 @@ pub mod HalfOwner
 pub mod CoreGoing
 pub mod StillBlocks
 pub mod Welcomes
+pub mod OnceSent
+pub mod BareBlocks
 pub mod WorldActs
 pub mod EndsSeen
 pub mod EndArrivals
@@ -126,3 +128,6 @@ pub mod HalfEvidence
 pub mod HandedOver
 pub mod ByTable
 pub mod BeforeRows
+pub mod Asking
+pub mod LocalSteps
+pub mod ToldOn
