@@ -1,6 +1,6 @@
 -- The block of each message that comes down, and of each end, keeps the table.
-use Rattle.std.proofs.Common.{◌≡◌, ℕ, ◌==◌, Bool, true, false, ◌&&◌, ◌||◌, List, [], ◌∷◌, ◌++◌, Option, Some, None, refl, ◌∙◌, ap, sym, subst}
-use Rattle.std.specs.Prelude.{find, is_some, not, if◌then◌else◌}
+use Rattle.std.proofs.Common.{◌≡◌, ℕ, ◌==◌, Bool, true, false, ◌&&◌, ◌||◌, List, [], ◌∷◌, Option, Some, None, refl, ◌∙◌, sym, subst}
+use Rattle.std.specs.Prelude.{find, if◌then◌else◌}
 use Rattle.std.proofs.lemmas.Bool.{eqb-true, false_from_ne_true, or_left}
 use Rattle.dtx_values.specs.declared.entry.Answer.TheVariants.{Fine}
 use Rattle.dtx_values.specs.declared.entry.Entry.{Entry}
@@ -12,29 +12,25 @@ use Rattle.dtx_values.specs.declared.message.Message.{Message}
 use Rattle.dtx_values.specs.declared.message.Message.TheVariants.{BeginBegun, BeginCommitted, BeginAborted, VoterCreated, VoterRefused, VoterAsk, VoterCommit, VoterAbort, EnlistEnlist, EnlistEnlisted, EnlistRefused, EnlistPrepare, EnlistCommit, EnlistAbort, ReenlistCommitted, ReenlistAborted}
 use Rattle.dtx_values.specs.declared.number.EnlNo.{EnlNo}
 use Rattle.dtx_values.specs.declared.number.RmNo.{RmNo}
-use Rattle.dtx_values.specs.declared.words.Class.{Class}
 use Rattle.dtx_values.specs.Class.{is_volatile}
-use Rattle.dtx_values.specs.Ends.{same_connection}
-use Rattle.dtx_values.specs.Lines.{has_line, is_opening}
-use Rattle.dtx_model.specs.Words.{each, has, latest, onto}
+use Rattle.dtx_values.specs.Lines.{has_line}
+use Rattle.dtx_model.specs.Words.{has, onto}
 use Rattle.dtx_model.specs.Entries.{is_asked, is_decision, is_promoted, is_sealed}
 use Rattle.dtx_model.specs.Observed.{handover, observe, track}
 use Rattle.dtx_model.specs.Outcome.{enlisted}
-use Rattle.dtx_model.specs.Promotes.{is_begun_got, is_created_got, is_failed, is_promoting, is_under_way}
+use Rattle.dtx_model.specs.Promotes.{is_begun_got, is_created_got, is_under_way}
 use Rattle.dtx_model.specs.Wires.{MayCross, is_next, in_transit, opens}
 use Rattle.dtx_model.specs.declared.waiting.Wanted.TheVariants.{Identifier, Place}
 use Rattle.dtx_model.specs.Waiting.{Waiter, is_place_of, managed, waiting}
-use Rattle.dtx_model.specs.Half.{Half, is_handed, over, sees, is_promoting as sees_promoting}
-use Rattle.dtx_model.specs.Arrivals.{arrived, enlisted_at, local_down, local_got, place_given, unless_decided}
+use Rattle.dtx_model.specs.Half.{is_handed, over, is_promoting as sees_promoting}
+use Rattle.dtx_model.specs.Arrivals.{arrived, enlisted_at, local_down, local_got, place_given}
 use Rattle.dtx_model.specs.World.{World, half}
-use Rattle.dtx_model.proofs.Bools.{and_both, and_left, and_never, and_right, not_both, not_false, not_true, or_case, or_right}
+use Rattle.dtx_model.proofs.Bools.{and_left, and_never, not_both, or_case, or_right}
 use Rattle.dtx_model.proofs.SameNumbers.{same_enlistment}
-use Rattle.outcome_law.proofs.Scans.{each_both, each_more, has_more}
-use Rattle.outcome_law.proofs.Rule.{is_enlisted}
-use Rattle.outcome_law.proofs.Table.{class_row, have_come, is_enlist_got, is_opening_got, rule, stands_volatile}
+use Rattle.outcome_law.proofs.Scans.{each_more, has_more}
+use Rattle.outcome_law.proofs.Table.{have_come, is_enlist_got, is_opening_got}
 use Rattle.outcome_law.proofs.Keeping.{Keeps}
-use Rattle.outcome_law.proofs.Crossed.{same_conn_is}
-use Rattle.outcome_law.proofs.Sendings.{got_line, got_promoting}
+use Rattle.outcome_law.proofs.Sendings.{got_line}
 use Rattle.outcome_law.proofs.Standing.{begun_if_enlist, opened_if_got}
 use Rattle.outcome_law.proofs.HalfKnows.{way_seen}
 use Rattle.outcome_law.proofs.Deciding.{one_more, seen_half}
@@ -74,7 +70,7 @@ unfolding observe
 enlisted_arrives t h ws ms e a k w v =
     open_block (Got (Enl e) Down EnlistEnlisted ∷ h) ws ms
     (if sees_promoting (observe (Got (Enl e) Down EnlistEnlisted ∷ h)) && is_handed (handover h) e.value then over t (seen_half (Got (Enl e) Down EnlistEnlisted ∷ h) ws ms)
-     else if has is_promoted h then place_given (find (is_place_of e.value) ws) else []) a
+    else if has is_promoted h then place_given (find (is_place_of e.value) ws) else []) a
     (λ d. step (sees_promoting (observe h)) (is_handed (handover h) e.value) (has is_promoted h) refl refl d)
   where
     alone : Stands (Got (Enl e) Down EnlistEnlisted ∷ h)

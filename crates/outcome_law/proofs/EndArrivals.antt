@@ -1,45 +1,41 @@
 -- The block of an end that the local side sees, and those of the messages that bring an outcome, an abort or a refusal, keep the table.
-use Rattle.std.proofs.Common.{◌≡◌, ℕ, ◌==◌, Bool, true, false, ◌&&◌, ◌||◌, List, [], ◌∷◌, ◌++◌, Option, Some, None, refl, ◌∙◌, ap, sym, subst}
+use Rattle.std.proofs.Common.{◌≡◌, ℕ, Bool, true, false, ◌&&◌, ◌||◌, List, [], ◌∷◌, Option, Some, None, refl, ◌∙◌, sym}
 use Rattle.std.specs.Prelude.{is_some, not, if◌then◌else◌}
 use Rattle.std.proofs.lemmas.Bool.{false_from_ne_true, or_left}
 use Rattle.dtx_values.specs.declared.entry.Entry.{Entry}
-use Rattle.dtx_values.specs.declared.entry.Entry.TheVariants.{Down as Ended, Got, Told}
-use Rattle.dtx_values.specs.declared.entry.Party.TheVariants.{Enl as Member}
+use Rattle.dtx_values.specs.declared.entry.Entry.TheVariants.{Down as Ended}
 use Rattle.dtx_values.specs.declared.message.Conn.{Conn}
 use Rattle.dtx_values.specs.declared.message.Conn.TheVariants.{Begin, Voter, Enl, Again}
-use Rattle.dtx_values.specs.declared.message.Dir.TheVariants.{Up, Down}
-use Rattle.dtx_values.specs.declared.message.Message.{Message}
-use Rattle.dtx_values.specs.declared.message.Message.TheVariants.{BeginCommitted, BeginAborted, VoterRefused, VoterCommit, VoterAbort, EnlistRefused, EnlistAbort}
+use Rattle.dtx_values.specs.declared.message.Dir.TheVariants.{Down}
 use Rattle.dtx_values.specs.declared.number.EnlNo.{EnlNo}
 use Rattle.dtx_values.specs.declared.number.RmNo.{RmNo}
 use Rattle.dtx_values.specs.declared.words.Outcome.{Outcome}
-use Rattle.dtx_values.specs.declared.words.Outcome.TheVariants.{Committed, Aborted, InDoubt}
+use Rattle.dtx_values.specs.declared.words.Outcome.TheVariants.{InDoubt}
 use Rattle.dtx_values.specs.Ends.{saw_end}
 use Rattle.dtx_values.specs.Row.{is_of}
 use Rattle.dtx_values.specs.Table.{voted}
 use Rattle.dtx_model.specs.Words.{has, latest, onto}
 use Rattle.dtx_model.specs.Entries.{decision_of, is_decision, is_record, is_sealed, is_vote, is_yes}
 use Rattle.dtx_model.specs.Observed.{ends_of, observe, rows}
-use Rattle.dtx_model.specs.Outcome.{coordinator_doubt, doubt, evidence, is_begin_end, is_outcome_got, is_veto, is_voter_end, owner_doubt}
-use Rattle.dtx_model.specs.Promotes.{ends_refused, is_promoting, is_refusal, is_under_way}
+use Rattle.dtx_model.specs.Outcome.{coordinator_doubt, doubt, is_begin_end, is_outcome_got, is_veto, is_voter_end, owner_doubt}
+use Rattle.dtx_model.specs.Promotes.{is_under_way}
 use Rattle.dtx_model.specs.Wires.{MayCross}
 use Rattle.dtx_model.specs.Waiting.{Waiter}
-use Rattle.dtx_model.specs.Half.{Half, decide, fails_if, veto, is_promoting as sees_promoting}
-use Rattle.dtx_model.specs.Arrivals.{aborted_by, committed_by, ended_by, ended_there, has_both_ends, refused_by, told_abort, unless_decided}
-use Rattle.dtx_model.proofs.Bools.{and_both, and_left, and_right, not_both, not_false, not_true, or_right}
+use Rattle.dtx_model.specs.Half.{decide, fails_if, veto, is_promoting as sees_promoting}
+use Rattle.dtx_model.specs.Arrivals.{ended_by, ended_there, unless_decided}
+use Rattle.dtx_model.proofs.Bools.{and_both, and_left, and_right, not_both, not_false, or_right}
 use Rattle.outcome_law.proofs.Rules.{undecided}
-use Rattle.outcome_law.proofs.Owned.{decision_seen}
 use Rattle.outcome_law.proofs.TableRows.{enlisted_in_rows}
-use Rattle.outcome_law.proofs.Table.{but_failed, calls_off, decision_row, ends_called_off, is_commit_come, rule}
+use Rattle.outcome_law.proofs.Table.{decision_row}
 use Rattle.outcome_law.proofs.Keeping.{Keeps}
-use Rattle.outcome_law.proofs.Sendings.{end_promoting, is_commit_message, record_by_got}
+use Rattle.outcome_law.proofs.Sendings.{end_promoting}
 use Rattle.outcome_law.proofs.Recording.{sealed_if_yes, yes_if_record}
 use Rattle.outcome_law.proofs.Evident.{unrecorded_open}
 use Rattle.outcome_law.proofs.HalfKnows.{way_seen}
 use Rattle.outcome_law.proofs.HalfVotes.{unvoted_seen}
 use Rattle.outcome_law.proofs.HalfRows.{unenlisted_unvoted}
 use Rattle.outcome_law.proofs.EndsSeen.{begin_end_seen, voter_end_seen}
-use Rattle.outcome_law.proofs.Deciding.{abort_keeps, decide_decides, decide_keeps, decided_there, one_more, seen_half, veto_decides, veto_keeps}
+use Rattle.outcome_law.proofs.Deciding.{decide_decides, decide_keeps, decided_there, one_more, seen_half}
 use Rattle.outcome_law.proofs.Undecided.{Stands, decided_stand, goes_on, stand, way_unsealed}
 use Rattle.outcome_law.proofs.HalfCalls.{veto_stands}
 

@@ -2,15 +2,15 @@
 use Rattle.std.proofs.Common.{◌≡◌, ℕ, ◌==◌, Bool, true, false, ◌&&◌, ◌||◌, List, [], ◌∷◌, ◌++◌, Option, Some, None, refl, ◌∙◌, ap, sym, subst}
 use Rattle.std.specs.Prelude.{find, is_some, not, if◌then◌else◌}
 use Rattle.std.specs.List.{flat_map}
-use Rattle.std.proofs.lemmas.Bool.{eqb-true, false_from_ne_true, or_left}
-use Rattle.dtx_values.specs.declared.entry.Answer.TheVariants.{Fine, Id}
+use Rattle.std.proofs.lemmas.Bool.{false_from_ne_true, or_left}
+use Rattle.dtx_values.specs.declared.entry.Answer.TheVariants.{Id}
 use Rattle.dtx_values.specs.declared.entry.Entry.{Entry}
-use Rattle.dtx_values.specs.declared.entry.Entry.TheVariants.{Answered, Enlisted, Got, Handed, Lost, Promoted, Sent}
+use Rattle.dtx_values.specs.declared.entry.Entry.TheVariants.{Answered, Got, Handed, Lost, Promoted, Sent}
 use Rattle.dtx_values.specs.declared.message.Conn.{Conn}
 use Rattle.dtx_values.specs.declared.message.Conn.TheVariants.{Begin, Voter, Enl}
 use Rattle.dtx_values.specs.declared.message.Dir.TheVariants.{Up, Down}
 use Rattle.dtx_values.specs.declared.message.Message.{Message}
-use Rattle.dtx_values.specs.declared.message.Message.TheVariants.{BeginAbort, BeginBegun, VoterVoter, VoterCreated, EnlistEnlist, EnlistEnlisted}
+use Rattle.dtx_values.specs.declared.message.Message.TheVariants.{BeginAbort, BeginBegun, VoterVoter, VoterCreated, EnlistEnlist}
 use Rattle.dtx_values.specs.declared.number.EnlNo.{EnlNo}
 use Rattle.dtx_values.specs.declared.number.RmNo.{RmNo}
 use Rattle.dtx_values.specs.declared.words.Cause.{Cause}
@@ -23,33 +23,31 @@ use Rattle.dtx_values.specs.Lines.{has_line}
 use Rattle.dtx_model.specs.Words.{all_of, each, ever, has, latest, onto}
 use Rattle.dtx_model.specs.Entries.{decision_of, handed_of, is_any_hand, is_decision, is_hand, is_owner, is_promoted, is_sealed, is_yes}
 use Rattle.dtx_model.specs.Observed.{cause_of_promotion, handover, observe}
-use Rattle.dtx_model.specs.Outcome.{coordinator_doubt, doubt, enlisted, evidence, is_begin_end, is_lost_owner, is_outcome_got, is_voter_end, owner_doubt}
+use Rattle.dtx_model.specs.Outcome.{coordinator_doubt, doubt, enlisted, is_begin_end, is_lost_owner, is_outcome_got, is_voter_end, owner_doubt}
 use Rattle.dtx_model.specs.Promotes.{identifier_of, is_begun_got, is_created_got, is_failed, is_promoting, is_under_way}
-use Rattle.dtx_model.specs.Wires.{MayCross, opens}
+use Rattle.dtx_model.specs.Wires.{opens}
 use Rattle.dtx_model.specs.declared.waiting.Wanted.TheVariants.{Identifier, Place}
 use Rattle.dtx_model.specs.Waiting.{Waiter, is_place_of}
-use Rattle.dtx_model.specs.Half.{Half, by_manager, enlist_sent, given, info, is_handed, over, promoted_by, to_up, is_promoting as sees_promoting}
-use Rattle.dtx_model.specs.Arrivals.{begun, created, enlisted_at, hand_over, place_given, unless_decided}
-use Rattle.dtx_model.proofs.Bools.{and_both, and_left, and_never, and_right, not_both, not_false, not_true, or_case, or_false, or_right}
+use Rattle.dtx_model.specs.Half.{by_manager, enlist_sent, given, info, is_handed, over, promoted_by, to_up, is_promoting as sees_promoting}
+use Rattle.dtx_model.specs.Arrivals.{begun, created, hand_over}
+use Rattle.dtx_model.proofs.Bools.{and_both, and_left, and_never, and_right, not_both, not_false, not_true, or_case, or_right}
 use Rattle.outcome_law.proofs.Tests.{eq_self, five_hold, third_of_four}
 use Rattle.outcome_law.proofs.Scans.{each_both, each_more, has_more}
 use Rattle.outcome_law.proofs.Rule.{is_enlisted}
-use Rattle.outcome_law.proofs.Rules.{undecided}
 use Rattle.outcome_law.proofs.Evidence.{hand_any}
 use Rattle.outcome_law.proofs.Table.{have_come, is_enlist_got, is_opening_got, is_there, message_row, rule, stands_volatile}
 use Rattle.outcome_law.proofs.Keeping.{Keeps, earlier, keeps_before}
-use Rattle.outcome_law.proofs.Crossed.{got_sent, is_sent_on, same_conn_is, same_way_is}
-use Rattle.outcome_law.proofs.Sendings.{got_promoting, opened_promoting}
-use Rattle.outcome_law.proofs.Recording.{promoted_if_sealed, promoted_if_yes, promoting_if_promoted}
+use Rattle.outcome_law.proofs.Crossed.{got_sent, is_sent_on, same_conn_is}
+use Rattle.outcome_law.proofs.Sendings.{got_promoting}
+use Rattle.outcome_law.proofs.Recording.{promoted_if_sealed, promoted_if_yes}
 use Rattle.outcome_law.proofs.Evident.{hand_stands, sealed_if_evident}
 use Rattle.outcome_law.proofs.Doubting.{decided_doubt}
 use Rattle.outcome_law.proofs.OneOutcome.{decided_evident}
 use Rattle.outcome_law.proofs.Standing.{begun_if_voter, opened_if_got}
-use Rattle.outcome_law.proofs.HalfRows.{volatile_stands}
 use Rattle.outcome_law.proofs.HalfKnows.{cause_seen, way_seen}
-use Rattle.outcome_law.proofs.Deciding.{decided_there, seen_half, sent_keeps}
-use Rattle.outcome_law.proofs.Undecided.{Stands, goes_on, stand, way_unsealed}
-use Rattle.outcome_law.proofs.HalfCalls.{begun_if_promoted, enlist_stands, enlisted_stands}
+use Rattle.outcome_law.proofs.Deciding.{seen_half}
+use Rattle.outcome_law.proofs.Undecided.{Stands, stand, way_unsealed}
+use Rattle.outcome_law.proofs.HalfCalls.{begun_if_promoted, enlist_stands}
 use Rattle.outcome_law.proofs.HalfReplies.{to_up_stands}
 use Rattle.outcome_law.proofs.EndArrivals.{open_block}
 

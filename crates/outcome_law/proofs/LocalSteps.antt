@@ -1,5 +1,5 @@
 -- The block of each step of the local side keeps the table of a promoted history, where what it goes by stands: calls, replies, the local act, and what comes down.
-use Rattle.std.proofs.Common.{◌≡◌, ℕ, ◌==◌, Bool, true, false, ◌&&◌, ◌||◌, List, [], ◌∷◌, refl, ◌∙◌, ap, sym, subst}
+use Rattle.std.proofs.Common.{◌≡◌, ℕ, Bool, true, false, ◌&&◌, ◌||◌, List, [], ◌∷◌, refl, ap, sym, subst}
 use Rattle.std.specs.Prelude.{not}
 use Rattle.dtx_values.specs.declared.call.Call.{Call}
 use Rattle.dtx_values.specs.declared.entry.Entry.{Entry}
@@ -17,7 +17,7 @@ use Rattle.dtx_model.specs.Waiting.{waiting}
 use Rattle.dtx_model.specs.World.{World, has_left}
 use Rattle.dtx_model.specs.Steps.{Step, Calls, Replies, Acts, Coordinates, Delivers, Stops, Restarts, after, block_at, delivered}
 use Rattle.dtx_model.specs.Caused.{MayCome}
-use Rattle.dtx_model.proofs.Bools.{and_both, and_left, and_right}
+use Rattle.dtx_model.proofs.Bools.{and_left, and_right}
 use Rattle.outcome_law.proofs.Keeping.{Keeps}
 use Rattle.outcome_law.proofs.Undecided.{Stands, is_going}
 use Rattle.outcome_law.proofs.WorldCalls.{call_stands, makes_new}

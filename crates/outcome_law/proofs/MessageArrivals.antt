@@ -1,32 +1,31 @@
 -- The blocks of the messages that bring an outcome, an abort or a refusal, and of PREPARE, keep the table.
-use Rattle.std.proofs.Common.{◌≡◌, ℕ, ◌==◌, Bool, true, false, ◌&&◌, ◌||◌, List, [], ◌∷◌, ◌++◌, Option, Some, None, refl, ◌∙◌, ap, sym, subst}
-use Rattle.std.specs.Prelude.{is_some, not, if◌then◌else◌}
-use Rattle.std.proofs.lemmas.Bool.{false_from_ne_true, or_left}
+use Rattle.std.proofs.Common.{◌≡◌, ◌==◌, Bool, true, false, ◌&&◌, ◌||◌, List, [], ◌∷◌, ◌++◌, refl, ◌∙◌, ap, sym}
+use Rattle.std.specs.Prelude.{not, if◌then◌else◌}
+use Rattle.std.proofs.lemmas.Bool.{or_left}
 use Rattle.dtx_values.specs.declared.entry.Ask.TheVariants.{Prepare}
 use Rattle.dtx_values.specs.declared.entry.Entry.{Entry}
 use Rattle.dtx_values.specs.declared.entry.Entry.TheVariants.{Asked, Got, Told}
 use Rattle.dtx_values.specs.declared.entry.Party.TheVariants.{Enl as Member}
 use Rattle.dtx_values.specs.declared.message.Conn.{Conn}
-use Rattle.dtx_values.specs.declared.message.Conn.TheVariants.{Begin, Voter, Enl, Again}
+use Rattle.dtx_values.specs.declared.message.Conn.TheVariants.{Enl, Again}
 use Rattle.dtx_values.specs.declared.message.Dir.TheVariants.{Down}
 use Rattle.dtx_values.specs.declared.message.Message.{Message}
-use Rattle.dtx_values.specs.declared.message.Message.TheVariants.{BeginCommitted, BeginAborted, VoterRefused, VoterCommit, VoterAbort, EnlistRefused, EnlistAbort, EnlistCommit, EnlistPrepare, ReenlistCommitted, ReenlistAborted}
+use Rattle.dtx_values.specs.declared.message.Message.TheVariants.{EnlistAbort, EnlistCommit, EnlistPrepare, ReenlistCommitted, ReenlistAborted}
 use Rattle.dtx_values.specs.declared.number.EnlNo.{EnlNo}
 use Rattle.dtx_values.specs.declared.number.RmNo.{RmNo}
-use Rattle.dtx_values.specs.declared.words.Outcome.{Outcome}
-use Rattle.dtx_values.specs.declared.words.Outcome.TheVariants.{Committed, Aborted, InDoubt}
-use Rattle.dtx_model.specs.Words.{has, latest, onto}
-use Rattle.dtx_model.specs.Entries.{decision_of, is_asked, is_decision, is_sealed, is_yes}
+use Rattle.dtx_values.specs.declared.words.Outcome.TheVariants.{Committed, Aborted}
+use Rattle.dtx_model.specs.Words.{has, onto}
+use Rattle.dtx_model.specs.Entries.{is_asked, is_sealed, is_yes}
 use Rattle.dtx_model.specs.Observed.{Observed, observe}
 use Rattle.dtx_model.specs.Outcome.{is_first_veto, is_veto}
 use Rattle.dtx_model.specs.Promotes.{ends_refused, ends_told, is_refusal, is_under_way}
 use Rattle.dtx_model.specs.Wires.{MayCross}
 use Rattle.dtx_model.specs.Waiting.{Waiter}
-use Rattle.dtx_model.specs.Half.{Half, decide, fails_if, is_gone, stands, veto, was_told, is_promoting as sees_promoting}
-use Rattle.dtx_model.specs.Arrivals.{aborted_by, committed_by, refused_by, told_abort, unless_decided}
+use Rattle.dtx_model.specs.Half.{decide, fails_if, is_gone, stands, veto, was_told, is_promoting as sees_promoting}
+use Rattle.dtx_model.specs.Arrivals.{aborted_by, committed_by, refused_by, told_abort}
 use Rattle.dtx_model.proofs.Bools.{and_both, not_both, not_false, or_right}
 use Rattle.outcome_law.proofs.Tests.{eq_self}
-use Rattle.outcome_law.proofs.Table.{ask_row, but_failed, calls_off, decision_row, ends_called_off, ends_with, hears_decision, is_commit_come, is_lost_there, is_prepare_got, rule, stands_volatile}
+use Rattle.outcome_law.proofs.Table.{ask_row, but_failed, calls_off, decision_row, ends_called_off, hears_decision, is_commit_come, is_lost_there}
 use Rattle.outcome_law.proofs.Keeping.{Keeps}
 use Rattle.outcome_law.proofs.Sendings.{is_commit_message, record_by_got}
 use Rattle.outcome_law.proofs.Recording.{sealed_if_yes, yes_if_record}
@@ -80,7 +79,7 @@ abort_told h ws ms e a =
     let g = Got (Enl e) Down EnlistAbort ∷ h in
     let own = eq_self e.value in
     let told : Keeps (Told (Member e) Aborted ∷ Got (Enl e) Down EnlistAbort ∷ h) =
-        one_more (Told (Member e) Aborted) (Got (Enl e) Down EnlistAbort ∷ h) refl tt a (or_left (e.value == e.value) (hears_decision (Got (Enl e) Down EnlistAbort ∷ h) (Member e) Aborted) own) in
+    one_more (Told (Member e) Aborted) (Got (Enl e) Down EnlistAbort ∷ h) refl tt a (or_left (e.value == e.value) (hears_decision (Got (Enl e) Down EnlistAbort ∷ h) (Member e) Aborted) own) in
     open_block (Told (Member e) Aborted ∷ Got (Enl e) Down EnlistAbort ∷ h) ws ms (decide (seen_half (Told (Member e) Aborted ∷ Got (Enl e) Down EnlistAbort ∷ h) ws ms) Aborted) told
     (λ d. decided_stand (onto (Told (Member e) Aborted ∷ Got (Enl e) Down EnlistAbort ∷ h) (decide (seen_half (Told (Member e) Aborted ∷ Got (Enl e) Down EnlistAbort ∷ h) ws ms) Aborted))
     (abort_keeps (Told (Member e) Aborted ∷ Got (Enl e) Down EnlistAbort ∷ h) ws ms told d (λ w. own) own own)

@@ -1,32 +1,27 @@
 -- The block of a reenlistment keeps the table: the one that comes back had its ENLISTED, and its connection opens again only after a loss.
-use Rattle.std.proofs.Common.{◌≡◌, ℕ, ◌==◌, Bool, true, false, ◌&&◌, ◌||◌, List, [], ◌∷◌, Option, Some, None, refl, ◌∙◌, ap, sym, subst}
-use Rattle.std.specs.Prelude.{find, is_some, not, map, filter, if◌then◌else◌}
-use Rattle.std.proofs.lemmas.Bool.{false_from_ne_true, or_left}
-use Rattle.dtx_values.specs.declared.entry.Answer.{Answer}
-use Rattle.dtx_values.specs.declared.entry.Answer.TheVariants.{NoSuch, Finished, Over, Connected}
+use Rattle.std.proofs.Common.{◌≡◌, ◌==◌, Bool, true, false, ◌&&◌, ◌||◌, List, [], ◌∷◌, Option, Some, None, refl, ◌∙◌, ap}
+use Rattle.std.specs.Prelude.{is_some, not, map, filter, if◌then◌else◌}
+use Rattle.std.proofs.lemmas.Bool.{or_left}
 use Rattle.dtx_values.specs.declared.entry.Entry.{Entry}
-use Rattle.dtx_values.specs.declared.entry.Entry.TheVariants.{Acked, Called, Cut, Down as End, Got, Reenlisted, Restarted, Sent, Stopped, Told}
+use Rattle.dtx_values.specs.declared.entry.Entry.TheVariants.{Acked, Cut, Down as End, Got, Reenlisted, Sent, Stopped, Told}
 use Rattle.dtx_values.specs.declared.entry.Party.TheVariants.{Enl as Member}
 use Rattle.dtx_values.specs.declared.words.Outcome.TheVariants.{Aborted}
 use Rattle.dtx_values.specs.declared.message.Conn.{Conn}
 use Rattle.dtx_values.specs.declared.message.Conn.TheVariants.{Enl, Again}
 use Rattle.dtx_values.specs.declared.message.Dir.TheVariants.{Up, Down}
-use Rattle.dtx_values.specs.declared.message.Message.{Message}
-use Rattle.dtx_values.specs.declared.message.Message.TheVariants.{EnlistCommit, EnlistEnlist, EnlistEnlisted, ReenlistCommitted, ReenlistReenlist}
-use Rattle.dtx_values.specs.declared.number.ActorNo.{ActorNo}
-use Rattle.dtx_values.specs.declared.number.EnlNo.{EnlNo}
+use Rattle.dtx_values.specs.declared.message.Message.TheVariants.{EnlistCommit, EnlistEnlist, EnlistEnlisted, ReenlistCommitted}
 use Rattle.dtx_values.specs.Ends.{same_connection, same_direction}
 use Rattle.dtx_values.specs.Lines.{has_line}
 use Rattle.dtx_model.specs.declared.branch.Branch.{Branch}
-use Rattle.dtx_model.specs.Words.{each, has, onto}
-use Rattle.dtx_model.specs.Observed.{branch_number, branches, is_branch, with_branch}
+use Rattle.dtx_model.specs.Words.{each, has}
+use Rattle.dtx_model.specs.Observed.{branch_number, branches, is_branch}
 use Rattle.dtx_model.specs.History.{is_loss}
-use Rattle.dtx_model.specs.Promotes.{is_enlisted_got, is_promoting}
-use Rattle.dtx_model.specs.Wires.{MayCross, WireRun, ended_after, ends, holds, is_ended, is_lost_wire, is_stopped, loses, lost_after, lost_since, opens}
+use Rattle.dtx_model.specs.Promotes.{is_enlisted_got}
+use Rattle.dtx_model.specs.Wires.{ended_after, ends, holds, is_ended, is_lost_wire, is_stopped, loses, lost_after, lost_since, opens}
 use Rattle.dtx_model.specs.Tied.{is_stop}
-use Rattle.dtx_model.proofs.Bools.{and_both, and_left, and_right, not_both, not_false, not_true, or_case, or_first, or_right}
-use Rattle.outcome_law.proofs.Tests.{eq_self, eq_swap}
-use Rattle.outcome_law.proofs.Lists.{each_kept, each-insert}
+use Rattle.dtx_model.proofs.Bools.{and_both, and_left, and_right, not_both, not_true, or_case, or_right}
+use Rattle.outcome_law.proofs.Tests.{eq_swap}
+use Rattle.outcome_law.proofs.Lists.{each-insert}
 use Rattle.outcome_law.proofs.Scans.{each_more, has_more}
 use Rattle.outcome_law.proofs.Keeping.{Keeps, keeps_before}
 use Rattle.outcome_law.proofs.Sendings.{got_line}

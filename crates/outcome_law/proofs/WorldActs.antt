@@ -1,5 +1,5 @@
 -- The local act keeps the table, promoted or not.
-use Rattle.std.proofs.Common.{◌≡◌, ℕ, ◌+◌, ◌==◌, Bool, true, false, ◌&&◌, ◌||◌, List, [], ◌∷◌, ◌++◌, Option, Some, None, refl, ◌∙◌, ap, sym, subst, arith}
+use Rattle.std.proofs.Common.{◌≡◌, ℕ, ◌+◌, ◌==◌, Bool, true, false, ◌&&◌, ◌||◌, List, [], ◌∷◌, ◌++◌, Option, Some, None, refl, ◌∙◌, ap, sym, arith}
 use Rattle.std.specs.Prelude.{filter, find, is_some, length, not, if◌then◌else◌}
 use Rattle.std.specs.List.{slice_get}
 use Rattle.std.proofs.lemmas.Bool.{false_from_ne_true, or_left}
@@ -22,36 +22,34 @@ use Rattle.dtx_values.specs.Class.{is_class, is_volatile}
 use Rattle.dtx_values.specs.Clones.{blocks, is_open_block}
 use Rattle.dtx_values.specs.Ends.{tag_of, was_got}
 use Rattle.dtx_values.specs.Owners.{owner_of}
-use Rattle.dtx_values.specs.Row.{is_marked, is_of}
+use Rattle.dtx_values.specs.Row.{is_marked}
 use Rattle.dtx_values.specs.Waves.{all_voted, hears, is_over, may_be_asked, name_of, next_ask, zeros_voted}
 use Rattle.dtx_model.specs.declared.listener.Listener.{Listener}
 use Rattle.dtx_model.specs.Words.{all_of, each, has, latest, onto}
 use Rattle.dtx_model.specs.Entries.{clone_of, decision_of, handed_of, is_any_hand, is_asked, is_commit, is_decision, is_good_vote, is_promoted, is_sealed, is_vote, is_yes, same_outcome}
 use Rattle.dtx_model.specs.Observed.{clone_rows, ends_of, is_ask_single, listeners, observe, rows}
 use Rattle.dtx_model.specs.Outcome.{by_log, by_owner, by_seal, durables, enlisted, evidence, hears_doubt, is_complete, is_empty, ready, volatiles, voters}
-use Rattle.dtx_model.specs.Promotes.{is_failed, is_promoting, is_under_way}
-use Rattle.dtx_model.specs.Wires.{opens}
+use Rattle.dtx_model.specs.Promotes.{is_promoting, is_under_way}
 use Rattle.dtx_model.specs.Waiting.{Waiter, managed, waiting}
-use Rattle.dtx_model.specs.Half.{Half, decide, fails_if, to_up, is_promoting as sees_promoting}
+use Rattle.dtx_model.specs.Half.{decide, fails_if, to_up, is_promoting as sees_promoting}
 use Rattle.dtx_model.specs.Acts.{act_by, act_entries, after_seal, ask_or, asked_act, commit_act, commit_sent, hears_abort, is_to_tell, promotable_in, promoted_act, sealed_act, tell, unasked_promotable, undecided_act, under_way, voter_act, yes_act}
 use Rattle.dtx_model.specs.World.{World, half}
-use Rattle.dtx_model.proofs.Bools.{and_both, and_left, and_right, and_never, not_both, not_false, not_true, or_case, or_right, three_hold}
-use Rattle.outcome_law.proofs.Tests.{eq_self, five_hold, first_of_three, second_of_three}
-use Rattle.outcome_law.proofs.Scans.{each_both, each_more}
+use Rattle.dtx_model.proofs.Bools.{and_both, and_left, and_right, not_both, not_false, not_true, or_right, three_hold}
+use Rattle.outcome_law.proofs.Tests.{eq_self, five_hold}
+use Rattle.outcome_law.proofs.Scans.{each_both}
 use Rattle.outcome_law.proofs.Picks.{each_from_at, found_well, has-at, none_each, passes}
 use Rattle.outcome_law.proofs.Rule.{all_complete, is_certain, is_decided, is_only, zeros_cast}
 use Rattle.outcome_law.proofs.Rules.{undecided}
 use Rattle.outcome_law.proofs.Owned.{any_hand_seen, has_rows, volatile_hears}
 use Rattle.outcome_law.proofs.Going.{all_closed}
-use Rattle.outcome_law.proofs.TableRows.{none_there}
-use Rattle.outcome_law.proofs.Table.{ask_row, decision_row, ends_again, ends_with, hears_decision, hears_here, is_again, is_ask_got, is_settled_there, rule, stands_volatile, volatiles_well}
+use Rattle.outcome_law.proofs.Table.{decision_row, ends_again, ends_with, hears_decision, hears_here, is_again, is_ask_got, is_settled_there, rule, stands_volatile, volatiles_well}
 use Rattle.outcome_law.proofs.Keeping.{Keeps}
 use Rattle.outcome_law.proofs.Recording.{commit_if_sealed, complete_if_sealed, promoted_if_sealed}
 use Rattle.outcome_law.proofs.HalfRows.{all_voted_seen, open_blocks, row_marked, zeros_seen}
 use Rattle.outcome_law.proofs.HalfKnows.{ask_got, way_seen}
 use Rattle.outcome_law.proofs.HalfOwner.{owner_none, owner_only}
 use Rattle.outcome_law.proofs.Deciding.{decide_decides, decide_keeps, decided_there, seen_half}
-use Rattle.outcome_law.proofs.Undecided.{IsOpen, Stands, all_willing, decided_stand, goes_on, is_willing, promotes_on, stand, way_unsealed}
+use Rattle.outcome_law.proofs.Undecided.{Stands, decided_stand, goes_on, is_willing, promotes_on, stand, way_unsealed}
 use Rattle.outcome_law.proofs.HalfReplies.{to_up_stands}
 
 -- the history doesn't end with a message on the connection of a reenlistment: what it brings is told in its block

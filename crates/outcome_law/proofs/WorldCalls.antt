@@ -1,6 +1,6 @@
 -- The block of each call that may come keeps the table, promoted or not.
 use Rattle.std.proofs.Common.{◌≡◌, ℕ, ◌==◌, Bool, true, false, ◌&&◌, ◌||◌, List, [], ◌∷◌, Option, Some, None, refl, ◌∙◌, ap, sym, subst}
-use Rattle.std.specs.Prelude.{find, is_some, length, map, nat_le, not, if◌then◌else◌}
+use Rattle.std.specs.Prelude.{find, is_some, length, map, not, if◌then◌else◌}
 use Rattle.std.proofs.lemmas.Bool.{false_from_ne_true, or_left}
 use Rattle.dtx_values.specs.declared.number.ActorNo.{ActorNo}
 use Rattle.dtx_values.specs.declared.number.EnlNo.{EnlNo}
@@ -14,7 +14,7 @@ use Rattle.dtx_values.specs.declared.limits.TheConstants.{CALLS, DURABLES, ENLIS
 use Rattle.dtx_values.specs.declared.entry.Answer.{Answer}
 use Rattle.dtx_values.specs.declared.entry.Answer.TheVariants.{Fine, True, False, Wait, Id, Many, TooLate, NotBegun, NoSuch, Finished, Over, Connected}
 use Rattle.dtx_values.specs.declared.entry.Entry.{Entry}
-use Rattle.dtx_values.specs.declared.entry.Entry.TheVariants.{Called, Began, Clock, Cloned, CommitAsked, Completed, RollbackAsked, Cut, Enlisted, Got, Init, Late, Lost, OwnerAnswered, Reenlisted, Sent, Recovered as RecoveredEntry, TimedOut}
+use Rattle.dtx_values.specs.declared.entry.Entry.TheVariants.{Called, Began, Clock, Cloned, CommitAsked, Completed, RollbackAsked, Enlisted, Got, Init, Late, Lost, OwnerAnswered, Reenlisted, Sent, Recovered as RecoveredEntry, TimedOut}
 use Rattle.dtx_values.specs.declared.message.Conn.{Conn}
 use Rattle.dtx_values.specs.declared.message.Conn.TheVariants.{Again, Enl as OnEnl}
 use Rattle.dtx_values.specs.declared.message.Dir.TheVariants.{Up, Down}
@@ -36,16 +36,16 @@ use Rattle.dtx_values.specs.Table.{voted}
 use Rattle.dtx_model.specs.Words.{each, has, latest, onto}
 use Rattle.dtx_model.specs.Entries.{began_of, decision_of, handed_of, is_any_hand, is_any_owner, is_commit, is_decision, is_good_vote, is_hand, is_promoted, is_sealed, is_vote, is_yes}
 use Rattle.dtx_model.specs.Observed.{branches, clock, clone_rows, is_branch, observe, rows, track}
-use Rattle.dtx_model.specs.Outcome.{by_log, by_owner, by_seal, doubt, durables, enlisted, evidence, is_empty, is_lost_owner, is_veto, owner_doubt, ready}
-use Rattle.dtx_model.specs.Promotes.{identifier_of, is_begun_got, is_enlisted_got, is_promoting, is_under_way}
+use Rattle.dtx_model.specs.Outcome.{by_log, by_owner, by_seal, doubt, enlisted, evidence, is_lost_owner, owner_doubt, ready}
+use Rattle.dtx_model.specs.Promotes.{identifier_of, is_enlisted_got, is_promoting, is_under_way}
 use Rattle.dtx_model.specs.Wires.{is_ended, opens}
 use Rattle.dtx_model.specs.History.{is_loss}
 use Rattle.dtx_model.specs.declared.branch.Branch.{Branch}
 use Rattle.dtx_model.specs.Waiting.{Waiter, managed, waiting}
-use Rattle.dtx_model.specs.Half.{Half, decide, enlist_sent, fails_if, info, is_gone, is_handed, sees, veto, veto_if, is_promoting as sees_promoting}
+use Rattle.dtx_model.specs.Half.{decide, enlist_sent, fails_if, info, is_gone, is_handed, sees, veto, veto_if, is_promoting as sees_promoting}
 use Rattle.dtx_model.specs.Answers.{class_of, clone_answer, marshal_answer, promotable_answer, volatile_answer, complete_answer, gone_answer, has_promotion, if_begun, is_crowded, is_full, is_full_of_durables, limit_of, local_answer, unless_ended, unless_late, wait_for}
-use Rattle.dtx_model.specs.Facts.{begin_promotion, tick_facts, durable_facts, durable_waits, facts_if, has_facts, is_late, ticked, reaches, time_up}
-use Rattle.dtx_model.specs.World.{World, answer_at, branch_answer, core, cut, cut_upward, facts_at, gone_by, half, has_left, is_connected, is_finished_there, is_linked, open_ones, reenlist_answer, reenlist_by, reenlist_facts, unless_stopped, was_opened}
+use Rattle.dtx_model.specs.Facts.{begin_promotion, tick_facts, durable_facts, durable_waits, facts_if, has_facts, is_late, ticked, reaches}
+use Rattle.dtx_model.specs.World.{World, answer_at, branch_answer, core, cut, cut_upward, gone_by, half, has_left, is_connected, is_finished_there, is_linked, open_ones, reenlist_answer, reenlist_by, reenlist_facts, unless_stopped, was_opened}
 use Rattle.dtx_model.specs.Steps.{called}
 use Rattle.dtx_model.proofs.Bools.{and_both, and_left, and_never, and_right, not_both, not_false, not_true, or_case, or_false, or_first, or_right, or_second}
 use Rattle.dtx_model.proofs.Narrow.{is_done}
@@ -57,17 +57,17 @@ use Rattle.outcome_law.proofs.TableRows.{clone_stands, enlisted_in_rows, none_th
 use Rattle.outcome_law.proofs.Going.{enlisted_passes}
 use Rattle.outcome_law.proofs.Evidence.{hand_any}
 use Rattle.outcome_law.proofs.Owned.{any_hand_seen, decision_seen, none_lasting}
-use Rattle.outcome_law.proofs.Table.{decision_row, is_enlist_got, is_lost_there, stands_volatile, volatiles_well}
+use Rattle.outcome_law.proofs.Table.{decision_row, is_enlist_got, is_lost_there, stands_volatile}
 use Rattle.outcome_law.proofs.Keeping.{Keeps, arrived}
 use Rattle.outcome_law.proofs.Sendings.{got_promoting}
 use Rattle.outcome_law.proofs.Tests.{eq_self}
 use Rattle.outcome_law.proofs.Reenlisted.{branches_got, ended_loss, opened_since}
 use Rattle.outcome_law.proofs.Recording.{come_if_promoted, promoted_if_yes, promoting_if_promoted, well_if_yes}
-use Rattle.outcome_law.proofs.Evident.{good_voted, sealed_if_handed}
+use Rattle.outcome_law.proofs.Evident.{sealed_if_handed}
 use Rattle.outcome_law.proofs.HalfRows.{commit_vetoed, volatile_stands}
 use Rattle.outcome_law.proofs.HalfVotes.{vote_seen}
 use Rattle.outcome_law.proofs.HalfKnows.{way_seen}
-use Rattle.outcome_law.proofs.Deciding.{decide_decides, decide_keeps, decided_there, one_more, seen_half}
+use Rattle.outcome_law.proofs.Deciding.{decide_decides, decide_keeps, decided_there, seen_half}
 use Rattle.outcome_law.proofs.Undecided.{Stands, decided_stand, goes_on, hand_seen, none_began, stand, unowned_evident, unwilling_open, way_unsealed}
 use Rattle.outcome_law.proofs.HalfCalls.{begin_stands, begun_if_promoted, call_alone, cloned_stands, commit_stands, completed_stands, enlist_stands, enlisted_stands, owner_row, rollback_stands, timeout_stands, veto_stands}
 
@@ -398,8 +398,8 @@ reenlist_call t w n a e (Some d) k = step (find (is_branch e.value) (branches w.
         done_by (branch_answer w b) n a w.past (reenlist_facts t (Some b)) k (λ f.
         let g = branch_done b.enlisted (is_finished_there (half w).seen b.enlistment.value) (is_in b.manager.value (core w).recovered) (is_connected b.enlistment w.past) b.manager b.enlistment (unless_stopped w) f in
         let got : has (is_enlisted_got b.enlistment.value) w.past ≡ true =
-            got_now b.enlisted (has (is_enlisted_got b.enlistment.value) w.past) g.0
-            (found_branch (is_branch e.value) (λ b. not b.enlisted || has (is_enlisted_got b.enlistment.value) w.past) (branches w.past) b (branches_got w.past) q) in
+        got_now b.enlisted (has (is_enlisted_got b.enlistment.value) w.past) g.0
+        (found_branch (is_branch e.value) (λ b. not b.enlisted || has (is_enlisted_got b.enlistment.value) w.past) (branches w.past) b (branches_got w.past) q) in
         reenlist_block t (Called n a (branch_answer w b) ∷ w.past) b (call_alone n a (branch_answer w b) w.past k) got (unlinked_row b.enlistment w.past k.keeps g.1))
       where
         got_now : (d g : Bool) → d ≡ true → (not d || g) ≡ true → g ≡ true
