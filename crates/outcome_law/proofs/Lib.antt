@@ -82,3 +82,4 @@ pub mod Reenlisted
 pub mod Asking
 pub mod LocalSteps
 pub mod ToldOn
+pub mod CameOnce
