@@ -1,9 +1,8 @@
 -- COMMIT comes once, and so does each enlistment's PREPARE: COMMIT is sent after the seal, or where a promotable requests it, and PREPARE to each desk after COMMIT.
 use Rattle.std.proofs.Common.{◌≡◌, ℕ, zero, suc, ◌==◌, Bool, true, false, ◌&&◌, ◌||◌, ◌⊎◌, inl, inr, List, [], ◌∷◌, ◌++◌, Option, Some, None, refl, sym, subst, ap, ◌∙◌}
 use Rattle.std.specs.Prelude.{not, filter, find, is_some, map, if◌then◌else◌, nat_lt}
-use Rattle.std.specs.List.{flat_map, slice_get}
+use Rattle.std.specs.List.{slice_get}
 use Rattle.std.proofs.lemmas.Bool.{eqb-true, false_from_ne_true, or_left}
-use Rattle.dtx_values.specs.declared.call.Call.{Call}
 use Rattle.dtx_values.specs.declared.entry.Entry.{Entry}
 use Rattle.dtx_values.specs.declared.entry.Entry.TheVariants.{Called, Down as Ended, Enlisted, Got, Requested, Restarted, Sealed, Sent, Stopped}
 use Rattle.dtx_values.specs.declared.message.Conn.{Conn}
@@ -11,17 +10,14 @@ use Rattle.dtx_values.specs.declared.message.Conn.TheVariants.{Begin, Voter, Enl
 use Rattle.dtx_values.specs.declared.message.Dir.{Dir}
 use Rattle.dtx_values.specs.declared.message.Dir.TheVariants.{Up, Down}
 use Rattle.dtx_values.specs.declared.message.Message.{Message}
-use Rattle.dtx_values.specs.declared.message.Message.TheVariants.{BeginBegin, BeginAbort, BeginCommit, VoterVoter, VoterAsk, EnlistAck, EnlistEnlist, EnlistPrepare, ReenlistAck, ReenlistReenlist}
-use Rattle.dtx_values.specs.declared.note.Note.{Note}
+use Rattle.dtx_values.specs.declared.message.Message.TheVariants.{BeginBegin, BeginCommit, VoterAsk, EnlistAck, EnlistEnlist, EnlistPrepare, ReenlistAck}
 use Rattle.dtx_values.specs.declared.note.Note.TheVariants.{Hand, Single}
 use Rattle.dtx_values.specs.declared.note.Reply.{Reply}
 use Rattle.dtx_values.specs.declared.note.Reply.TheVariants.{Owner as OwnerReply}
-use Rattle.dtx_values.specs.declared.number.ActorNo.{ActorNo}
 use Rattle.dtx_values.specs.declared.number.EnlNo.{EnlNo}
 use Rattle.dtx_values.specs.declared.row.Row.{Row}
 use Rattle.dtx_values.specs.declared.words.Class.{Class}
 use Rattle.dtx_values.specs.declared.words.Outcome.{Outcome}
-use Rattle.dtx_values.specs.declared.words.Outcome.TheVariants.{Committed, Aborted, InDoubt}
 use Rattle.dtx_values.specs.Class.{is_promotable}
 use Rattle.dtx_values.specs.Ends.{knows, same_connection, same_direction}
 use Rattle.dtx_values.specs.Lines.{has_line, is_opening}
@@ -36,30 +32,28 @@ use Rattle.dtx_model.specs.Observed.{Observed, is_request, observe, rows}
 use Rattle.dtx_model.specs.Outcome.{enlisted}
 use Rattle.dtx_model.specs.Promotes.{identifier_of, is_promoting}
 use Rattle.dtx_model.specs.Wires.{MayCross, in_transit, is_next}
-use Rattle.dtx_model.specs.Coordinated.{Coordinated, accepts, ballot_of, coordinate, core_got, desk_number, desks_after, follow, is_active, is_desk_of, is_prepared, kept_desks, may_log, to, to_each, unacked, with_ack, with_ballot}
-use Rattle.dtx_model.specs.Half.{Half, half_of, to_up}
+use Rattle.dtx_model.specs.Coordinated.{Coordinated, accepts, ballot_of, coordinate, core_got, desk_number, follow, is_active, is_desk_of, is_prepared, may_log, to, to_each, unacked, with_ack, with_ballot}
+use Rattle.dtx_model.specs.Half.{Half, to_up}
 use Rattle.dtx_model.specs.Acts.{act_entries, commit_sent, promotable_in}
 use Rattle.dtx_model.specs.Arrivals.{local_got}
 use Rattle.dtx_model.specs.Facts.{facts_if, has_facts}
-use Rattle.dtx_model.specs.Replies.{due_of, owes_request, reply_entries, request_message, request_of}
-use Rattle.dtx_model.specs.World.{World, answer_at, core, facts_at, half, has_left}
+use Rattle.dtx_model.specs.Replies.{due_of, reply_entries, request_message, request_of}
+use Rattle.dtx_model.specs.World.{World, answer_at, core, facts_at, half}
 use Rattle.dtx_model.specs.Steps.{Step, Calls, Replies, Acts, Coordinates, Delivers, Stops, Restarts, after, block_at, coordinates, delivered, ended_at, restarted}
-use Rattle.dtx_model.specs.Caused.{MayCome}
 use Rattle.dtx_model.proofs.Bools.{and_both, and_left, and_never, and_right, not_both, not_false, not_true, or_case, or_false, or_right}
-use Rattle.outcome_law.proofs.Tests.{eq_self, eq_swap, first_of_three, first_of_four, second_of_four, third_of_four, fourth_of_four}
+use Rattle.outcome_law.proofs.Tests.{eq_swap, first_of_three, fourth_of_four}
 use Rattle.outcome_law.proofs.Scans.{each-append, find_none, has_less, has_more}
 use Rattle.outcome_law.proofs.Lists.{has-insert}
 use Rattle.outcome_law.proofs.Picks.{found_at}
 use Rattle.outcome_law.proofs.Owned.{has_filter, has_rows}
 use Rattle.outcome_law.proofs.Table.{is_enlist_got, is_opening_got, is_prepare_got, is_there, message_row, rule}
-use Rattle.outcome_law.proofs.Keeping.{Keeps, before, earlier, keeps_before, newest}
-use Rattle.outcome_law.proofs.Crossed.{is_got_on, is_sent_on, same_conn_is, same_way_is}
+use Rattle.outcome_law.proofs.Keeping.{Keeps, before, keeps_before, newest}
+use Rattle.outcome_law.proofs.Crossed.{is_got_on, is_sent_on}
 use Rattle.outcome_law.proofs.Recording.{enlisted_unsealed}
 use Rattle.outcome_law.proofs.Leading.{none_again}
-use Rattle.outcome_law.proofs.HalfReplies.{IsOwed, owed}
-use Rattle.outcome_law.proofs.Deciding.{onto-parts}
+use Rattle.outcome_law.proofs.HalfReplies.{owed}
 use Rattle.outcome_law.proofs.OnceSent.{first_got, is_first_sent, next_stands}
-use Rattle.outcome_law.proofs.BareBlocks.{Bare, Requests, Seals, act_kind, bare_appended, bare_called, bare_cons, bare_core_got, bare_ended_at, bare_freed, bare_if, bare_local_got, bare_one, bare_restarted, is_asking, is_bare, is_commit, is_prepare, reply_kind}
+use Rattle.outcome_law.proofs.BareBlocks.{Bare, Requests, Seals, act_kind, bare_appended, bare_called, bare_cons, bare_core_got, bare_ended_at, bare_freed, bare_if, bare_local_got, bare_one, bare_restarted, is_bare, is_commit, is_prepare, reply_kind}
 
 no : false ≡ true → ⊥
 no e = absurd cc
@@ -193,8 +187,10 @@ seal_asking h v q k s i =
     by : (b c : Bool) → is_some (promotable_in (rows h)) ≡ c → has is_sealed h ≡ false → IsAsking (onto (Sealed ∷ h) (if b && not c then to_up (observe h) Begin BeginCommit else []))
     by true false e u =
         asked_up (observe h) (Sealed ∷ h) BeginCommit (bare_more Sealed h refl i)
-        (λ t. (false_from_ne_true (has is_commit_sent h) (λ a. not_both (has is_sealed h) (sealed_there h k a) u),
-        or_right (has is_request h) (not (has_promotable h)) (not_false (has_promotable h) (sym (rows_promotable h) ∙ named_none (rows h) e))))
+        (λ t. (
+          false_from_ne_true (has is_commit_sent h) (λ a. not_both (has is_sealed h) (sealed_there h k a) u),
+          or_right (has is_request h) (not (has_promotable h)) (not_false (has_promotable h) (sym (rows_promotable h) ∙ named_none (rows h) e)),
+        ))
     by true true e u = bare_more Sealed h refl i
     by false c e u = bare_more Sealed h refl i
 

@@ -209,7 +209,7 @@ accepts_stage h k n b =
     (false_from_ne_true (has_recorded (coordinate h).stage) (λ t. not_both (has is_commit_got h) (commit_if_record h k (record_seen h k t)) n)) (λ u. active_begun h b u)
     (λ a. false_from_ne_true (coordinate h).commit (λ t. not_both (has is_commit_got h) (commit_noted h t) n))
 
-promoted_created : (x : Entry) (h : List Entry) → Keeps h → rule h x ≡ true → is_promoted x ≡ true → has is_created_got h ≡ true
+pub promoted_created : (x : Entry) (h : List Entry) → Keeps h → rule h x ≡ true → is_promoted x ≡ true → has is_created_got h ≡ true
 promoted_created (Promoted u c) h k r t =
     and_right (has is_begun_got h) (has is_created_got h)
     (fifth_of_five (not (has is_decision h)) (not (has is_sealed h)) (is_under_way h) (have_come h) (has is_begun_got h && has is_created_got h) r)

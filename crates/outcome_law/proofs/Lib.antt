@@ -131,3 +131,4 @@ pub mod BeforeRows
 pub mod Asking
 pub mod LocalSteps
 pub mod ToldOn
+pub mod CameOnce

@@ -152,8 +152,7 @@ unsent : (c e : Conn) (d r : Dir) (p : Message → Bool) (m : Message) (h : List
     → (has (is_got_on c d p) h ≡ false) × (has p (in_transit c d h) ≡ false)
 unsent c e d r p m h w f t q =
     let here : is_sent_on c d p (Sent e r m) ≡ true = both (same_connection c e && same_direction d r) (p m) q t in
-    let none = not_true (has (is_sent_on c d p) h) (or_case (not (is_sent_on c d p (Sent e r m))) (not (has (is_sent_on c d p) h)) (λ a. absurd (not_both (is_sent_on c d p (Sent e r m)) here (not_true (is_sent_on c d p (Sent e r m)) a))) (λ a. a) f) in
-    (
+    let none = not_true (has (is_sent_on c d p) h) (or_case (not (is_sent_on c d p (Sent e r m))) (not (has (is_sent_on c d p) h)) (λ a. absurd (not_both (is_sent_on c d p (Sent e r m)) here (not_true (is_sent_on c d p (Sent e r m)) a))) (λ a. a) f) in (
       false_from_ne_true (has (is_got_on c d p) h) (λ a. not_both (has (is_sent_on c d p) h) (was_sent c d p h w a) none),
       false_from_ne_true (has p (in_transit c d h)) (λ a. not_both (has (is_sent_on c d p) h) (came c d p h a) none),
     )

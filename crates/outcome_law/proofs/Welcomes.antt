@@ -1,8 +1,7 @@
 -- BEGUN, CREATED and an enlistment's ENLISTED come once: each is sent directly after the message that opened its connection, which comes once.
-use Rattle.std.proofs.Common.{◌≡◌, ℕ, zero, suc, ◌==◌, Bool, true, false, ◌&&◌, ◌||◌, List, [], ◌∷◌, ◌++◌, Option, Some, None, refl, sym, subst, ap, ◌∙◌}
+use Rattle.std.proofs.Common.{◌≡◌, ℕ, zero, suc, Bool, true, false, ◌&&◌, ◌||◌, List, [], ◌∷◌, ◌++◌, refl, sym, subst, ap, ◌∙◌}
 use Rattle.std.specs.Prelude.{not, take, if◌then◌else◌}
 use Rattle.std.proofs.lemmas.Bool.{false_from_ne_true, or_left}
-use Rattle.dtx_values.specs.declared.call.Call.{Call}
 use Rattle.dtx_values.specs.declared.entry.Entry.{Entry}
 use Rattle.dtx_values.specs.declared.entry.Entry.TheVariants.{Called, Cut, Down as Ended, Got, Sent, Stopped}
 use Rattle.dtx_values.specs.declared.message.Conn.{Conn}
@@ -11,13 +10,12 @@ use Rattle.dtx_values.specs.declared.message.Dir.{Dir}
 use Rattle.dtx_values.specs.declared.message.Dir.TheVariants.{Up, Down}
 use Rattle.dtx_values.specs.declared.message.Message.{Message}
 use Rattle.dtx_values.specs.declared.message.Message.TheVariants.{BeginBegin, BeginBegun, VoterVoter, VoterCreated, VoterRefused, VoterAbort, EnlistEnlist, EnlistEnlisted, EnlistRefused, EnlistAbort, ReenlistReenlist, ReenlistCommitted, ReenlistAborted}
-use Rattle.dtx_values.specs.declared.number.ActorNo.{ActorNo}
 use Rattle.dtx_values.specs.declared.number.EnlNo.{EnlNo}
 use Rattle.dtx_values.specs.Ends.{same_connection, same_direction}
 use Rattle.dtx_values.specs.Lines.{has_line, is_opening}
 use Rattle.dtx_model.specs.Words.{always, each, has, onto}
 use Rattle.dtx_model.specs.Promotes.{identifier_of, is_begun_got, is_created_got, is_enlisted_got}
-use Rattle.dtx_model.specs.Wires.{MayCross, in_transit, is_next, is_open_wire, is_stopped, kept, opened_with, opens, sent_behind, transit_after_stop, without_first}
+use Rattle.dtx_model.specs.Wires.{MayCross, in_transit, is_next, is_open_wire, opens, sent_behind, without_first}
 use Rattle.dtx_model.specs.Coordinated.{Coordinated, coordinate, core_got, follow, has_aborted, is_recorded, opening_answer, to}
 use Rattle.dtx_model.specs.World.{World, answer_at, core, facts_at, half}
 use Rattle.dtx_model.specs.Facts.{facts_if, has_facts}
@@ -26,11 +24,11 @@ use Rattle.dtx_model.specs.Acts.{act_entries}
 use Rattle.dtx_model.specs.Arrivals.{local_got}
 use Rattle.dtx_model.specs.Steps.{Step, Calls, Replies, Acts, Coordinates, Delivers, Stops, Restarts, after, block_at, coordinates, delivered, ended_at, restarted}
 use Rattle.dtx_model.specs.Coordinated.{may_log}
-use Rattle.dtx_model.proofs.Bools.{and_both, and_left, and_right, and_never, not_both, not_false, not_true, or_case, or_false, or_right}
+use Rattle.dtx_model.proofs.Bools.{and_both, and_left, and_right, not_both, not_false, not_true, or_case, or_false, or_right}
 use Rattle.outcome_law.proofs.Tests.{eq_self}
 use Rattle.outcome_law.proofs.Lists.{has-behind}
 use Rattle.outcome_law.proofs.Scans.{has_less}
-use Rattle.outcome_law.proofs.Table.{ends_with, is_opening_got, rule}
+use Rattle.outcome_law.proofs.Table.{ends_with, is_opening_got}
 use Rattle.outcome_law.proofs.Keeping.{Keeps, keeps_before}
 use Rattle.outcome_law.proofs.Crossed.{came, is_got_on, is_sent_on, same_conn_is, was_sent}
 use Rattle.outcome_law.proofs.Leading.{is_single, none_again}
@@ -238,8 +236,7 @@ first_answer c e Down m h s k d w q =
     let same : c ≡ e = same_conn_is c e (and_left (same_connection c e) true q) in
     let P : Conn → Type 0 = λ y. ends_with (is_opening_got y) h ≡ true in
     let ends = subst P (sym same) (or_case (not (is_welcome m)) (ends_with (is_opening_got e) h) (λ a. absurd (not_both (is_welcome m) w (not_true (is_welcome m) a))) (λ a. a) d) in
-    let none = unsent_there c is_welcome h s k ends in
-    (
+    let none = unsent_there c is_welcome h s k ends in (
       false_from_ne_true (has (is_got_on c Down is_welcome) h) (λ t. not_both (has (is_sent_on c Down is_welcome) h) (was_sent c Down is_welcome h k.wires t) none),
       false_from_ne_true (has is_welcome (in_transit c Down h)) (λ t. not_both (has (is_sent_on c Down is_welcome) h) (came c Down is_welcome h t) none),
     )
