@@ -69,3 +69,4 @@ pub mod Arrivals
 pub mod Reenlisted
 pub mod LocalSteps
 pub mod ToldOn
+pub mod Counted
