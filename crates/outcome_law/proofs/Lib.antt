@@ -70,3 +70,4 @@ pub mod Reenlisted
 pub mod LocalSteps
 pub mod ToldOn
 pub mod Counted
+pub mod Once
