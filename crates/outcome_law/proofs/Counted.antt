@@ -10,8 +10,8 @@ use Rattle.dtx_values.specs.declared.message.Message.{Message}
 use Rattle.dtx_values.specs.Ends.{same_connection, same_direction}
 use Rattle.dtx_values.specs.Lines.{has_line, is_opening}
 use Rattle.dtx_values.specs.Table.{how_many}
-use Rattle.dtx_model.specs.Wires.{MayCross, WireRun, in_transit, is_next, is_open_wire, is_stopped, kept, opened_with, opens, sent_behind, transit_after_stop, without_first}
-use Rattle.dtx_model.proofs.Bools.{and_left, and_right}
+use Rattle.dtx_model.specs.Wires.{WireRun, in_transit, is_next, is_open_wire, is_stopped, kept, opened_with, opens, sent_behind, without_first}
+use Rattle.dtx_model.proofs.Bools.{and_left}
 use Rattle.outcome_law.proofs.Crossed.{is_got_on, is_sent_on, same_conn_is, same_way_is}
 
 -- one more, where it passes

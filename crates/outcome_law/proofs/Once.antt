@@ -1,5 +1,5 @@
 -- BEGUN and CREATED come once, where the coordinator sends each only directly after the message that it answers: that opened the connection, and was sent once.
-use Rattle.std.proofs.Common.{◌≡◌, ◌≤◌, ℕ, zero, suc, ◌+◌, Bool, true, false, ◌&&◌, ◌||◌, List, [], ◌∷◌, refl, ap, sym, subst, arith}
+use Rattle.std.proofs.Common.{◌≡◌, ◌≤◌, ℕ, suc, ◌+◌, Bool, true, false, ◌||◌, List, [], ◌∷◌, refl, subst, arith}
 use Rattle.std.specs.Prelude.{not, if◌then◌else◌}
 use Rattle.std.proofs.lemmas.Bool.{false_from_ne_true}
 use Rattle.dtx_values.specs.declared.entry.Entry.{Entry}
@@ -13,8 +13,8 @@ use Rattle.dtx_values.specs.Lines.{is_opening}
 use Rattle.dtx_values.specs.Table.{how_many}
 use Rattle.dtx_model.specs.Words.{always, has}
 use Rattle.dtx_model.specs.Promotes.{is_begun_got, is_created_got}
-use Rattle.dtx_model.specs.Wires.{WireRun, in_transit, is_next, opens}
-use Rattle.dtx_model.proofs.Bools.{and_left, and_right, not_both, or_first, or_second}
+use Rattle.dtx_model.specs.Wires.{in_transit, is_next, opens}
+use Rattle.dtx_model.proofs.Bools.{and_left, and_right, or_first, or_second}
 use Rattle.outcome_law.proofs.Scans.{has_less}
 use Rattle.outcome_law.proofs.Table.{ends_with, rule}
 use Rattle.outcome_law.proofs.Keeping.{Keeps, keeps_before, newest}
