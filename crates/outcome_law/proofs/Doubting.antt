@@ -33,13 +33,13 @@ voter_row : (m : Message) (h : List Entry) → is_opening Voter m ≡ true → m
 voter_row (VoterVoter u) h t r = and_right (has is_begun_got h) (not (has (opens Voter) h)) r
 voter_row _ h t r = absurd (false≢true t)
 
-begin_once : (x : Entry) (h : List Entry) → rule h x ≡ true → opens Begin x ≡ true → has (opens Begin) h ≡ false
+pub begin_once : (x : Entry) (h : List Entry) → rule h x ≡ true → opens Begin x ≡ true → has (opens Begin) h ≡ false
 begin_once (Sent Begin Up m) h r t =
     not_true (has (opens Begin) h) (begin_row m h t (fourth_of_four (has_line Begin Up m) (has is_promoting h) (is_there h Begin Up m) (message_row h Begin m) r))
 begin_once (Sent c Down m) h r t = absurd (false≢true t)
 begin_once _ h r t = absurd (false≢true t)
 
-voter_once : (x : Entry) (h : List Entry) → rule h x ≡ true → opens Voter x ≡ true → has (opens Voter) h ≡ false
+pub voter_once : (x : Entry) (h : List Entry) → rule h x ≡ true → opens Voter x ≡ true → has (opens Voter) h ≡ false
 voter_once (Sent Voter Up m) h r t =
     not_true (has (opens Voter) h) (voter_row m h t (fourth_of_four (has_line Voter Up m) (has is_promoting h) (is_there h Voter Up m) (message_row h Voter m) r))
 voter_once (Sent c Down m) h r t = absurd (false≢true t)

@@ -132,3 +132,4 @@ pub mod Asking
 pub mod LocalSteps
 pub mod ToldOn
 pub mod CameOnce
+pub mod Once

@@ -2,6 +2,7 @@
 use Rattle.std.proofs.Common.{◌≡◌, ℕ, Bool, true, false, ◌&&◌, ◌||◌, List, [], ◌∷◌, refl, ap, sym, subst}
 use Rattle.std.specs.Prelude.{not}
 use Rattle.dtx_values.specs.declared.call.Call.{Call}
+use Rattle.dtx_values.specs.declared.call.Call.TheVariants.{Volatile, Durable, Promotable, Clone}
 use Rattle.dtx_values.specs.declared.entry.Entry.{Entry}
 use Rattle.dtx_values.specs.declared.entry.Entry.TheVariants.{Down as Ended, Freed, Got, LogFull, Logged, Restarted, Sent, Stopped}
 use Rattle.dtx_values.specs.declared.message.Conn.{Conn}
@@ -109,3 +110,31 @@ far_goes h (x ∷ es) f g = far_goes (x ∷ h) es (and_right (is_far x) (each is
 
 pub far_stands : (h es : List Entry) → each is_far es ≡ true → Stands h → Keeps (onto h es) → Stands (onto h es)
 far_stands h es f k r = record { keeps = r; going = far_goes h es f k.going }
+
+-- At the start all of it stands.
+nothing_made : (c : Call) → makes_new [] c ≡ true
+nothing_made (Volatile u e x v) = refl
+nothing_made (Durable u e r x) = refl
+nothing_made (Promotable u e r v x p) = refl
+nothing_made (Clone u c k) = refl
+nothing_made _ = refl
+
+pub start_steady : (G : ℕ → ActorNo → Call → Type 0) → IsSteady G (record { calls = []; past = [] })
+start_steady G =
+    record {
+      stands = record { keeps = record { rules = refl; ties = refl; wires = tt }; going = refl };
+      asked = record { left = λ e t. absurd cc; promote = λ t. absurd cc; replied = λ e s t. absurd cc; single = λ t. absurd cc };
+      told = λ e. refl;
+      once = record { begun = λ u n. refl; created = λ n. refl; prepared = λ e n. refl; after_created = λ e t. absurd cc };
+      waited =
+          record {
+            handed = λ y. refl;
+            lasting = λ e q. refl;
+            unsent = λ n e. refl;
+            places = λ y. refl;
+            apart = refl;
+            free = λ e n r c s q. absurd cc;
+            quiet = λ s. refl;
+          };
+      new = λ n a c g u. nothing_made c;
+    }

@@ -41,7 +41,7 @@ opening_got_on c (Got e Up m) t =
     and_both (same_connection c e && true) (is_opening c m) (and_both (same_connection c e) true same refl) opening
 opening_got_on c _ t = absurd cc
 
-opening_sent_on : (c : Conn) (x : Entry) → is_sent_on c Up (is_opening c) x ≡ true → opens c x ≡ true
+pub opening_sent_on : (c : Conn) (x : Entry) → is_sent_on c Up (is_opening c) x ≡ true → opens c x ≡ true
 opening_sent_on c (Sent e Up m) t =
     let same = and_left (same_connection c e) true (and_left (same_connection c e && true) (is_opening c m) t) in
     let P : Conn → Type 0 = λ y. is_opening y m ≡ true in
