@@ -36,11 +36,11 @@ use Rattle.outcome_law.proofs.Keeping.{Keeps, keeps_before, newest, fifth_of_fiv
 use Rattle.outcome_law.proofs.Standing.{begun_if_enlist, begun_if_voter, prepared_if_cast, sent_opened, prepared_if_asked}
 
 -- a row that each entry keeps of a history that keeps the table
-by_keeping : (row : List Entry → Entry → Bool) → ((x : Entry) (h : List Entry) → Keeps (x ∷ h) → row h x ≡ true) → (h : List Entry) → Keeps h → always row h ≡ true
+pub by_keeping : (row : List Entry → Entry → Bool) → ((x : Entry) (h : List Entry) → Keeps (x ∷ h) → row h x ≡ true) → (h : List Entry) → Keeps h → always row h ≡ true
 by_keeping row at [] k = refl
 by_keeping row at (x ∷ h) k = and_both (row h x) (always row h) (at x h k) (by_keeping row at h (keeps_before x h k))
 
-row_of : (c : Conn) (d : Dir) (m : Message) (h : List Entry) → rule h (Sent c d m) ≡ true → message_row h c m ≡ true
+pub row_of : (c : Conn) (d : Dir) (m : Message) (h : List Entry) → rule h (Sent c d m) ≡ true → message_row h c m ≡ true
 row_of c d m h k = and_right (has_line c d m && has is_promoting h && is_there h c d m) (message_row h c m) k
 
 begun_on : (x : Entry) → is_begun_got x ≡ true → is_got_on Begin Down BEGUN x ≡ true

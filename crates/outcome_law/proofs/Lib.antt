@@ -109,3 +109,5 @@ pub mod WorldReplies
 pub mod HalfOwner
 pub mod ByTable
 pub mod BeforeRows
+pub mod OpenedRows
+pub mod ClosedRows
