@@ -17,7 +17,7 @@ use Rattle.dtx_values.specs.Lines.{has_line, is_opening}
 use Rattle.dtx_model.specs.Words.{always, has, each, all_of}
 use Rattle.dtx_model.specs.Entries.{is_commit_got, is_record, is_asked, is_decision, is_lost, is_promoted, is_sealed, is_vote, is_yes, is_yes_got}
 use Rattle.dtx_model.specs.Promotes.{is_begun_got, is_promoting, is_created_got, is_under_way}
-use Rattle.dtx_model.specs.Tied.{has_mark, can_log, enlist_got, is_logged, is_ready_got, is_stop}
+use Rattle.dtx_model.specs.Tied.{has_mark, enlist_got, is_logged, is_ready_got, is_stop}
 use Rattle.dtx_model.specs.Wires.{opens}
 use Rattle.dtx_model.proofs.Bools.{and_both, and_left, and_right, not_both, not_true, not_false, or_case, or_right}
 use Rattle.std.proofs.lemmas.Bool.{false_from_ne_true, or_left}
@@ -31,7 +31,7 @@ use Rattle.outcome_law.proofs.Tests.{eq_self, second_of_three, second_of_four, t
 use Rattle.outcome_law.proofs.Whole.{is_got_on}
 use Rattle.outcome_law.proofs.Messages.{BEGUN, COMMIT, PREPARE, ASK, CREATED}
 use Rattle.outcome_law.proofs.Rest.{is_begun, is_ordered, is_sound}
-use Rattle.outcome_law.proofs.Table.{is_cast, is_prepare_got, is_there, message_row, rule, have_come, is_ask_got, is_opening_got, stands_promotable, stands_volatile, volatiles_well}
+use Rattle.outcome_law.proofs.Table.{is_prepare_got, is_there, message_row, rule, have_come, is_ask_got, is_opening_got, stands_promotable, stands_volatile, volatiles_well}
 use Rattle.outcome_law.proofs.Keeping.{Keeps, keeps_before, newest, fifth_of_five}
 use Rattle.outcome_law.proofs.Standing.{begun_if_enlist, begun_if_voter, prepared_if_cast, sent_opened, prepared_if_asked}
 

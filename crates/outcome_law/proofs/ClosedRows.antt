@@ -1,5 +1,5 @@
 -- A history that keeps the joint table is sealed where each Zero row has a vote; nothing is enlisted after the seal; and a clone is made before it is complete.
-use Rattle.std.proofs.Common.{◌≡◌, ℕ, Bool, true, false, ◌&&◌, ◌==◌, List, [], ◌∷◌, refl, sym, ◌∙◌, subst}
+use Rattle.std.proofs.Common.{◌≡◌, ℕ, true, ◌&&◌, List, ◌∷◌, refl, sym, ◌∙◌, subst}
 use Rattle.std.specs.Prelude.{not}
 use Rattle.std.proofs.lemmas.Bool.{eqb-true, false_from_ne_true}
 use Rattle.dtx_values.specs.declared.entry.Entry.{Entry}
@@ -8,10 +8,8 @@ use Rattle.dtx_values.specs.Class.{is_volatile}
 use Rattle.dtx_model.specs.Words.{always, has}
 use Rattle.dtx_model.specs.Entries.{is_commit, is_completed, is_decision, is_sealed}
 use Rattle.dtx_model.specs.Wires.{opens}
-use Rattle.dtx_model.specs.Observed.{rows}
 use Rattle.dtx_values.specs.declared.message.Conn.TheVariants.{Enl}
-use Rattle.dtx_values.specs.Waves.{zeros_voted}
-use Rattle.dtx_model.proofs.Bools.{and_right, not_both, not_false, not_true, or_right}
+use Rattle.dtx_model.proofs.Bools.{and_right, not_both, not_false, not_true}
 use Rattle.outcome_law.proofs.Rule.{all_complete, is_cloned, is_enlisted, zeros_cast}
 use Rattle.outcome_law.proofs.Tests.{second_of_five, fourth_of_five}
 use Rattle.outcome_law.proofs.ClosedTables.{is_closed_well}

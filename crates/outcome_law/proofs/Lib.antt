@@ -111,3 +111,4 @@ pub mod ByTable
 pub mod BeforeRows
 pub mod OpenedRows
 pub mod ClosedRows
+pub mod Tabled

@@ -1,7 +1,7 @@
 -- In a history that keeps the joint table each connection is opened once, but after a loss, and what else crosses does where it was opened, in a line that it has.
 use Rattle.std.proofs.Common.{◌≡◌, Bool, true, false, ◌&&◌, ◌||◌, List, [], ◌∷◌, refl, ap, sym, subst}
 use Rattle.std.specs.Prelude.{not, if◌then◌else◌}
-use Rattle.std.proofs.lemmas.Bool.{false_from_ne_true, or_left}
+use Rattle.std.proofs.lemmas.Bool.{or_left}
 use Rattle.dtx_values.specs.declared.entry.Entry.{Entry}
 use Rattle.dtx_values.specs.declared.entry.Entry.TheVariants.{Got, Sent}
 use Rattle.dtx_values.specs.declared.message.Conn.{Conn}
@@ -16,7 +16,7 @@ use Rattle.dtx_model.specs.Words.{always, has}
 use Rattle.dtx_model.specs.History.{is_loss}
 use Rattle.dtx_model.specs.Promotes.{is_begun_got, is_promoting}
 use Rattle.dtx_model.specs.Wires.{opens}
-use Rattle.dtx_model.proofs.Bools.{and_left, and_right, not_both, or_case}
+use Rattle.dtx_model.proofs.Bools.{and_left, and_right, or_case}
 use Rattle.outcome_law.proofs.Tests.{first_of_four, third_of_four}
 use Rattle.outcome_law.proofs.Connections.{same_is, same_self, same_way_is}
 use Rattle.outcome_law.proofs.Whole.{is_opened_once, is_sent_on}
