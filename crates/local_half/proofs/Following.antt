@@ -1,5 +1,5 @@
 -- What the local side of a transaction knows after a step, where it followed the world before: its block, and of the calls only that of the step.
-use Rattle.std.proofs.Common.{◌≡◌, ℕ, zero, suc, ◌==◌, Bool, true, false, List, [], ◌∷◌, Option, Some, None, is_some, refl, ap, arith, sym, ◌∙◌}
+use Rattle.std.proofs.Common.{◌≡◌, ℕ, zero, suc, ◌==◌, Bool, true, false, not, List, [], ◌∷◌, Option, Some, None, is_some, refl, ap, arith, sym, ◌∙◌}
 use Rattle.std.proofs.lemmas.Bool.Decides.{nat_tests}
 use Rattle.dtx_values.specs.declared.call.Call.{Call}
 use Rattle.dtx_values.specs.declared.call.Call.TheVariants.{Durable, Await, Do, Lose, Gone, Reenlist, Recovered}
@@ -17,8 +17,9 @@ use Rattle.dtx_model.specs.Words.{has, kth, latest, or_else}
 use Rattle.dtx_model.specs.Entries.{is_call}
 use Rattle.dtx_model.specs.Outcome.{is_empty}
 use Rattle.dtx_model.specs.Observed.{cause_of_promotion, observe, track}
+use Rattle.dtx_values.specs.Table.{insert_by}
 use Rattle.dtx_model.specs.declared.waiting.EnteredCall.{EnteredCall}
-use Rattle.dtx_model.specs.Waiting.{call_if, managed_by}
+use Rattle.dtx_model.specs.Waiting.{call_if, managed_by, waiter_line, wanted}
 use Rattle.dtx_model.specs.Half.{Half, heeds, heeds_all, is_gone, sees, stands}
 use Rattle.dtx_model.specs.Acts.{act_entries}
 use Rattle.dtx_model.specs.Replies.{due_of, fits, reply_entries}
@@ -28,14 +29,11 @@ use Rattle.dtx_model.specs.World.{World, half, answer_at, facts_at, gone_by, gon
 use Rattle.dtx_model.specs.Steps.{Step, Calls, Replies, Acts, after, block_at, entered}
 use Rattle.dtx_model.specs.Caused.{IsIn, MayAnswer, MayCome, is_promoting_entry, is_unpromoted}
 use Rattle.dtx_values.specs.declared.words.Cause.{Cause}
-use Rattle.dtx_model.proofs.Bools.{not_false}
 use Rattle.dtx_model.proofs.Heeding.{half_behind, heeds_all_same}
 use Rattle.dtx_model.proofs.Lifting.{lift_ran}
-use Rattle.dtx_model.proofs.Local.{free-local}
-use Rattle.dtx_model.proofs.NarrowFacts.{open_ones-local}
 use Rattle.dtx_model.proofs.Quiet.{q_cons, q_facts, q_gone_decides}
-use Rattle.local_half.specs.Half.{Follows, IsAtHome, Known, after as known_after, fits_due, is_done, is_its_own, is_wait, with_call}
-use Rattle.local_half.proofs.Home.{owed}
+use Rattle.local_half.specs.Half.{Follows, Known, after as known_after, is_done, is_its_own, is_wait}
+use Rattle.local_half.specs.Taken.{with_call, with_waiter}
 
 n_is : (n : ℕ) → (n == n) ≡ true
 n_is n = grind (arith, nat_tests)
@@ -102,11 +100,9 @@ replied_to t w h g e r n f due fit same =
     goes_on t w h g (Replies e r) (reply_entries h e r) f (n, ap (λ (x : Half). due_of x.seen e.value) f.knows ∙ due, fit) (λ m a c i. i)
     (ap (λ (x : Half). reply_entries x e r) f.knows) same
 
-pub replied : (k g : Known) (w : World) (e : EnlNo) (r : Reply) → Follows k.transaction.value w k.half → is_some (due_of k.half.seen e.value) ≡ true → fits_due r (due_of k.half.seen e.value) ≡ true
+pub replied : (k g : Known) (w : World) (e : EnlNo) (r : Reply) (n : Note) → Follows k.transaction.value w k.half → due_of k.half.seen e.value ≡ Some n → fits r n ≡ true
     → g ≡ known_after [] k (reply_entries k.half e r) → Follows k.transaction.value (after k.transaction.value w (Replies e r)) g.half
-replied k g w e r f due fit same =
-    let n = owed k.half e.value r due fit in
-    replied_to k.transaction.value w k.half g.half e r n.note f n.stands n.fit (ap (λ (x : Known). x.half) same)
+replied k g w e r n f due fit same = replied_to k.transaction.value w k.half g.half e r n f due fit (ap (λ (x : Known). x.half) same)
 
 -- the local act, where one is pending
 pub acted : (t : ℕ) (w : World) (h g : Half) → Follows t w h → is_empty (act_entries h) ≡ false → g ≡ heeds_all [] h (act_entries h) → Follows t (after t w Acts) g
@@ -199,6 +195,28 @@ done_known t k n a c d =
     ∙ ap (λ (h : Half). record { transaction = k.transaction; half = heeds_all ks h (local_facts t k.half c Fine) }) (call_known n a c k x d)
     ∙ ap (λ (h : Half). record { transaction = k.transaction; half = h }) (heeds_all_same ks (with_call c k).half (local_facts t k.half c Fine) (q_facts t k.half c Fine))
 
+-- A call that waits: what it waits for is known first, and then its facts.
+wait_heard : (n : ℕ) (a : ActorNo) (c : Call) (k : Known) → heeds (entered (Calls n a c 0) []) k.half (Called n a Wait) ≡ (with_waiter n c k).half
+unfolding track
+wait_heard n a c k = by (n == n) (n_is n)
+  where
+    by : (b : Bool) → b ≡ true
+        → record { seen = k.half.seen; waits = insert_by waiter_line (n, wanted (or_else (call_if b c) None)) k.half.waits; managers = k.half.managers } ≡ (with_waiter n c k).half
+    by true e = refl
+    by false e = absurd (cc)
+
+pub wait_entries : (t : ℕ) (h : Half) (n : ℕ) (a : ActorNo) (c : Call) → local_answer t h c 0 ≡ Wait → call_entries t h n a c ≡ Called n a Wait ∷ local_facts t h c Wait
+wait_entries t h n a c w = ap (λ x. Called n a x ∷ facts_if (has_facts x) (local_facts t h c x)) w
+
+pub wait_known : (t : ℕ) (k : Known) (n : ℕ) (a : ActorNo) (c : Call) → local_answer t k.half c 0 ≡ Wait
+    → known_after (entered (Calls n a c 0) []) k (call_entries t k.half n a c) ≡ known_after [] (with_waiter n c k) (local_facts t k.half c Wait)
+unfolding heeds_all
+wait_known t k n a c w =
+    let ks : List EnteredCall = entered (Calls n a c 0) [] in
+    ap (known_after ks k) (wait_entries t k.half n a c w)
+    ∙ ap (λ (h : Half). record { transaction = k.transaction; half = heeds_all ks h (local_facts t k.half c Wait) }) (wait_heard n a c k)
+    ∙ ap (λ (h : Half). record { transaction = k.transaction; half = h }) (heeds_all_same ks (with_waiter n c k).half (local_facts t k.half c Wait) (q_facts t k.half c Wait))
+
 -- a call that wasn't done, and doesn't wait, writes its entry alone, and changes nothing that is known
 no_facts : (x : Answer) (es : List Entry) → is_done x ≡ false → is_wait x ≡ false → facts_if (has_facts x) es ≡ []
 no_facts Fine es d w = absurd (cc)
@@ -241,12 +259,16 @@ none_begun (x ∷ past) k = by (cause_of_promotion x) refl k (none_begun past)
     by (Some c) e k before = absurd (cc)
     by None e k before = rw (unbegun x e) (before k)
 
-pub unpromoted : (t : ℕ) (w : World) (h : Half) → IsAtHome h → Follows t w h → true ≡ is_unpromoted w.past
-unfolding observe
-unpromoted t w h home f =
-    let none : latest cause_of_promotion w.past ≡ None = ap (λ (x : Half). x.seen.cause) f.knows ∙ ap (λ (x : Half). x.seen.cause) home.same in
-    sym (not_false (has is_promoting_entry w.past) (none_begun w.past none))
+some_begun : (past : List Entry) → is_some (latest cause_of_promotion past) ≡ true → has is_promoting_entry past ≡ true
+some_begun [] k = absurd (cc)
+some_begun (Promoting c ∷ past) k = refl
+some_begun (x ∷ past) k = some_begun past k
 
--- no connection is open in such a world
-pub none_open : (t : ℕ) (w : World) (h : Half) (e : EnlNo) → IsAtHome h → Follows t w h → open_ones w e ≡ []
-none_open t w h e home f = open_ones-local w e (free-local (IsIn w.calls) t w.past (w.calls, f.ran) (sym (unpromoted t w h home f)))
+-- whether a promotion began is what is known of its cause
+pub unpromoted : (t : ℕ) (w : World) (h : Half) → Follows t w h → not (is_some h.seen.cause) ≡ is_unpromoted w.past
+unfolding observe
+unpromoted t w h f = ap (λ (x : Half). not (is_some x.seen.cause)) (sym f.knows) ∙ by (latest cause_of_promotion w.past) refl
+  where
+    by : (o : Option Cause) → latest cause_of_promotion w.past ≡ o → not (is_some o) ≡ not (has is_promoting_entry w.past)
+    by None k = ap not (sym (none_begun w.past k))
+    by (Some c) k = ap not (sym (some_begun w.past (ap is_some k)))

@@ -1,1 +1,6 @@
 pub mod Half
+pub mod Waits
+pub mod Linked
+pub mod Taken
+pub mod Branches
+pub mod Told

@@ -1,34 +1,59 @@
 //! What the local side of a transaction knows of its calls and its history.
-ghost use Rattle.std.specs.Prelude.{◌≡◌, ◌<◌, [], ◌∷◌, is_some, IfOk, true};
-ghost use Rattle.dtx_values.specs.Outgoing.{with};
+ghost use Rattle.std.specs.Prelude.{ℕ, ◌&&◌, ◌≡◌, ◌≤◌, ◌↔◌, [], ◌∷◌, ◌++◌, length, is_some, true, false, find, None, Some, IfOk, IfSome};
+ghost use Rattle.dtx_values.specs.Lines.{has_line};
+ghost use Rattle.dtx_values.specs.Outgoing.{written};
 ghost use Rattle.dtx_values.specs.Table.{rises_above};
+ghost use Rattle.dtx_values.specs.declared.entry.Answer.TheVariants.{Fine, Wait};
 ghost use Rattle.dtx_values.specs.declared.entry.Ask.TheVariants.{Prepare};
-ghost use Rattle.dtx_values.specs.declared.entry.Entry.TheVariants.{Asked, Enlisted};
+ghost use Rattle.dtx_values.specs.declared.entry.Entry.TheVariants.{Answered, Asked, Decided, Down as Ended, Enlisted, Got, Promoting, Reenlisted, Sent, Told};
+ghost use Rattle.dtx_values.specs.declared.message.Dir.TheVariants.{Up, Down};
+ghost use Rattle.dtx_values.specs.declared.words.Class.{Class};
+ghost use Rattle.dtx_values.specs.declared.number.RmNo.{RmNo};
+ghost use Rattle.dtx_model.specs.declared.waiting.Wanted.TheVariants.{Place};
+ghost use Rattle.dtx_model.specs.Answers.{has_promotion, local_answer};
 ghost use Rattle.dtx_model.specs.Caused.{is_new, is_unpromoted};
-ghost use Rattle.dtx_model.specs.Half.{half_of, heeds, is_gone, stands};
+ghost use Rattle.dtx_model.specs.Half.{fails_if, half_of, heeds, is_gone, is_promoting, stands, was_told};
+ghost use Rattle.dtx_model.specs.Observed.{is_branch, track};
+ghost use Rattle.dtx_model.specs.Words.{has};
+ghost use Rattle.dtx_model.specs.Promotes.{identifier_of};
+ghost use Rattle.dtx_model.specs.Waiting.{is_place_of};
 ghost use Rattle.dtx_model.specs.World.{World};
-ghost use Rattle.local_half.specs.Half.{Follows, IsAtHome, MayTakeIn, after, is_its_own};
+ghost use Rattle.tm_proxy.specs.News.{news_of};
+ghost use Rattle.local_half.specs.Half.{Follows, IsRoom, after, is_free, is_its_own, is_made_by_waiting};
+ghost use Rattle.local_half.specs.Taken.{HasPlace, IsFor, MaySend, MayTakeIn, with_waiter};
+ghost use Rattle.local_half.specs.Told.{act_at, promoted_at};
 
-use crate::listeners::{is_gone, lose, tell};
+use crate::branches::{BranchChange, change, is_enlisted, note_got, note_sent};
+use crate::listeners::{is_gone, lose, regain, tell, was_told};
+use crate::outgoing::put_out;
+use crate::waits::{self, wanted_by};
 use dependent_clones::Clones;
-use dtx_model::Listener;
+use dtx_model::{Branch, Listener, Wanted};
 use dtx_values::{
-    Ask, Call, Class, CloneKind, ENLISTMENTS, EnlNo, Entry, Outbox, Outcome, Party, RmNo, Row,
-    TxNo, insert_in_order,
+    Answer, Ask, CALLS, Call, Cause, Class, CloneKind, Conn, DURABLES, Dir, ENLISTMENTS, EnlNo,
+    Entry, Message, Outbox, Outcome, Party, RmNo, Row, TxNo, insert_in_order,
 };
+use durable_enlist::owner_of;
 use enlist_table::EnlistTable;
 use phase_zero::Waves;
+use promotion::{Handover, HandoverAct};
 use std::alloc::{AllocError, Global};
 use std::marker::Model;
+use tm_proxy::{Proxy, ProxyNews};
 use volatile_enlist::take_vote;
 
 mod acts;
 mod answers;
+mod arrivals;
+mod decisions;
 mod facts;
 mod replies;
 
-/// The local side of one transaction, while it isn't promoted. Contracts see what it knows of its calls
-/// and its history. Only the constructor takes memory; each call writes into an outbox that has room.
+/// The node of the identifiers, in their upper 64 bits.
+const NODE: u128 = 18_446_744_073_709_551_616;
+
+/// The local side of one transaction. Contracts see what it knows of its calls and its history. Only the
+/// constructor takes memory; each call writes into an outbox that has room.
 ///
 /// # The life of a transaction
 ///
@@ -44,7 +69,10 @@ mod replies;
 /// 7. *Decided*: committed after phase one where there is no owner. Earlier a vote No, a rollback,
 ///    a timeout, an open rollback clone or a lost enlistment decides that it is aborted; a lost owner
 ///    after the handing, that it is in doubt. Nothing is decided twice.
-/// 8. *Told*: the enlistments are told the outcome in order of number, and then the client.
+/// 8. *Promoted*: a marshal call, or a durable call that can't own the commit beside what stands, makes the
+///    coordinator decide. The call waits until the transaction is handed over, and `got` and `down` take what
+///    the coordinator sends. A commit, an abort, or the loss of both connections after yes decides then.
+/// 9. *Told*: the enlistments are told the outcome in order of number, and then the client.
 ///
 /// # Driving one
 ///
@@ -71,8 +99,9 @@ mod replies;
 /// }
 /// ```
 ///
-/// Each condition of a call has a test: `is_its_own` and `is_new` those of `call`, `gone_answer` that
-/// of `gone`, `fits` that of `reply`, and `room` of the outbox. A cleared outbox has room for each.
+/// Each condition of a call has a test: `is_its_own` and `is_free` those of `call`, `gone_answer` that
+/// of `gone`, `is_accepted` that of `reenlist`, `fits` that of `reply`, and `room` and `send_room` of the
+/// outbox. A cleared outbox has room for each.
 /// An enlistment that stays silent is passed over by a loop over `rows` and `due_note`; where
 /// `may_be_due` is false, each has nothing to reply to. `gone` writes what follows of the loss; the
 /// entry of the call is put into the outbox before it.
@@ -83,8 +112,8 @@ mod replies;
 /// `Follows` the world of no calls and no entries. The clauses `runs` of `call`, `gone`, `reply` and
 /// `act` say that a half which follows a world follows the world after the step, where each call has
 /// a line of its own. So a program that drives a half by this loop has a world that its own calls made,
-/// and the entries that it keeps are the history of that world. Nothing is promoted in it, as
-/// `is_unpromoted` says. `own_outcome` of the crate `outcome_law` is the law of these worlds: where no
+/// and the entries that it keeps are the history of that world. `is_unpromoted` says whether a promotion
+/// began in it. `own_outcome` of the crate `outcome_law` is the law of these worlds: where no
 /// two calls make the same enlistment or the same clone, all that anybody was told is `justified`,
 /// and no two were told opposite outcomes (`agree`).
 #[derive(Drop)]
@@ -107,15 +136,28 @@ pub struct LocalHalf {
     handed: Option<EnlNo>,
     decided: Option<Outcome>,
     told_client: Option<Outcome>,
+    handover: Handover,
+    promote_asked: bool,
+    promote_replied: bool,
+    single_asked: bool,
+    requested: bool,
+    yes: bool,
+    /// Its ends of the connections to the coordinator.
+    proxy: Proxy,
+    /// The enlistments at the coordinator.
+    branches: Vec<Branch>,
+    /// The calls that wait, by their lines.
+    waits: Vec<(u32, Wanted)>,
 }
 
 impl Model for LocalHalf {
-    ghost use Rattle.std.specs.Prelude.{◌≤◌, ◌≡◌, [], None, false, is_some, length, vec_capacity};
-    ghost use Rattle.dtx_values.specs.declared.limits.TheConstants.{ENLISTMENTS};
+    ghost use Rattle.std.specs.Prelude.{◌≤◌, ◌≡◌, ◌||◌, [], true, false, is_some, length, vec_capacity};
+    ghost use Rattle.dtx_values.specs.declared.limits.TheConstants.{CALLS, DURABLES, ENLISTMENTS};
     ghost use Rattle.dtx_values.specs.Table.{how_many};
-    ghost use Rattle.dtx_values.specs.Row.{is_lasting};
     ghost use Rattle.dtx_model.specs.Words.{put};
-    ghost use Rattle.local_half.specs.Half.{Known, is_lost};
+    ghost use Rattle.local_half.specs.Half.{Known};
+    ghost use Rattle.local_half.specs.Linked.{AreLinked, AreRows, is_lost};
+    ghost use Rattle.local_half.specs.Waits.{AreWaiting};
 
     ghost Value = { Known };
 
@@ -133,24 +175,42 @@ impl Model for LocalHalf {
           handed = m.handed;
           decided = m.decided;
           told_client = m.told_client;
-          cause = None;
-          promoted = false;
-          failed = false;
-          handover = None;
-          promote_asked = false;
-          promote_replied = false;
-          single_asked = false;
-          requested = false;
-          yes = false;
-          ends = [];
-          branches = [];
+          cause = m.handover.cause;
+          promoted = m.handover.over;
+          failed = m.handover.failed;
+          handover = m.handover.stands;
+          promote_asked = m.promote_asked;
+          promote_replied = m.promote_replied;
+          single_asked = m.single_asked;
+          requested = m.requested;
+          yes = m.yes;
+          ends = m.proxy;
+          branches = m.branches.items;
         };
-        waits = [];
+        waits = m.waits.items;
         managers = put m.manager [];
       };
     } };
 
-    ghost invariant = { λ m. (ENLISTMENTS ≤ vec_capacity m.listeners) × (length m.listeners.items ≡ length m.table) × (how_many is_lasting m.table ≤ 1) × (how_many is_lasting m.table ≡ 0 → m.manager ≡ None) × (is_some m.limit ≡ false → length m.table ≡ 0) × (m.any_lost ≡ false → how_many is_lost m.listeners.items ≡ 0) };
+    ghost invariant = { λ m. (ENLISTMENTS ≤ vec_capacity m.listeners) × (DURABLES ≤ vec_capacity m.branches) × (CALLS ≤ vec_capacity m.waits)
+        × (length m.listeners.items ≡ length m.table)
+        × AreRows m.limit m.handover.over m.table m.manager m.waits.items
+        × AreWaiting m.table m.waits.items
+        × AreLinked (is_some m.decided) m.table m.waits.items m.branches.items m.proxy
+        × (m.handover.failed ≡ true → is_some m.decided ≡ true)
+        × ((m.handover.over || is_some m.handover.cause) ≡ false → m.waits.items ≡ [])
+        × (m.any_lost ≡ false → how_many is_lost m.listeners.items ≡ 0) };
+}
+
+/// An enlistment that was told nothing yet.
+fn listener(e: EnlNo) -> Listener
+    ensures { result ≡ record { enlistment = e; told = false; lost = false } }
+{
+    Listener {
+        enlistment: e,
+        told: false,
+        lost: false,
+    }
 }
 
 impl LocalHalf {
@@ -178,6 +238,15 @@ impl LocalHalf {
             handed: None,
             decided: None,
             told_client: None,
+            handover: Handover::new(),
+            promote_asked: false,
+            promote_replied: false,
+            single_asked: false,
+            requested: false,
+            yes: false,
+            proxy: Proxy::new(),
+            branches: Vec::with_capacity(alloc, DURABLES)?,
+            waits: Vec::with_capacity(alloc, CALLS)?,
         })
     }
 
@@ -231,14 +300,13 @@ impl LocalHalf {
         self.told_client
     }
 
-    /// Whether the half itself answers the call: await, do, marshal, lose, gone, reenlist and recovered
-    /// are answered above it.
+    /// Whether the half itself answers the call: await, do, lose, gone, reenlist and recovered are
+    /// answered above it.
     pub fn is_its_own(c: &Call) -> bool
         ensures { result ≡ is_its_own c.now }
     {
         match *c {
-            Call::Marshal(_)
-            | Call::Await(_)
+            Call::Await(_)
             | Call::Do(_, _, _)
             | Call::Lose(_, _, _, _)
             | Call::Gone(_)
@@ -249,7 +317,7 @@ impl LocalHalf {
     }
 
     /// Whether what the call makes is new: there is no enlistment and no clone of its number.
-    pub fn is_new(&self, c: &Call) -> bool
+    fn is_new(&self, c: &Call) -> bool
         ensures { result ≡ is_new self.now.half.seen c.now }
     {
         match *c {
@@ -261,39 +329,69 @@ impl LocalHalf {
         }
     }
 
-    /// Whether no promotion began. Until promotion comes none does.
+    /// Whether a call waits for the place of the enlistment that this call makes.
+    fn is_made_by_waiting(&self, c: &Call) -> bool
+        ensures { result ≡ is_made_by_waiting self.now.half.waits c.now }
+    {
+        match *c {
+            Call::Volatile(_, e, _, _)
+            | Call::Durable(_, e, _, _)
+            | Call::Promotable(_, e, _, _, _, _) => waits::is_awaited(&self.waits, e),
+            _ => false,
+        }
+    }
+
+    /// Whether what the call of this line makes is new, and no call waits for it, nor at this line.
+    pub fn is_free(&self, line: u32, c: &Call) -> bool
+        ensures { result ≡ is_free self.now.half line c.now }
+    {
+        self.is_new(c) && !self.is_made_by_waiting(c) && !waits::waits_at(&self.waits, line)
+    }
+
+    /// Whether the coordinator accepted the enlistment: it may come back.
+    pub fn is_accepted(&self, e: EnlNo) -> bool
+        ensures { result ≡ has (λ b. is_branch e.value b && b.enlisted) self.now.half.seen.branches }
+    {
+        is_enlisted(&self.branches, e)
+    }
+
+    /// Whether no promotion began.
     pub fn is_unpromoted(&self) -> bool
         ensures { (w : World) → Follows self.now.transaction.value w self.now.half → result ≡ is_unpromoted w.past }
     {
-        self.is_at_home();
-        true
+        self.handover.cause().is_none()
     }
 
-    /// Nothing of a promotion is known: what it would change has no field yet, and the view gives it as
-    /// it is before one.
-    fn is_at_home(&self)
-        ensures { IsAtHome self.now.half }
+    /// The transaction's identifier at the coordinator.
+    fn identifier(&self) -> u128
+        ensures { result ≡ identifier_of self.now.transaction.value }
     {
-        // A proof sees the view of a half that it reads.
-        let _ = &self.limit;
+        NODE + u128::from(self.transaction.get())
+    }
+
+    /// Whether the enlistment was told the outcome.
+    fn was_told(&self, e: EnlNo) -> bool
+        ensures { result ≡ was_told self.now.half.seen e.value }
+    {
+        was_told(&self.listeners, e)
+    }
+
+    /// Whether a promotion is under way.
+    fn is_promoting(&self) -> bool
+        ensures { result ≡ is_promoting self.now.half.seen }
+    {
+        self.handover.is_under_way()
     }
 
     /// Adds an enlistment to the table, and to whom the outcome is told.
     #[tactic(auto, unfolding(dtx_model::specs::Observed::track))]
     fn enlist(&mut self, e: EnlNo, class: Class)
-        requires { MayTakeIn self.old.half.seen (Enlisted e class) }
+        requires { HasPlace self.old.half e class }
         ensures transaction { self.new.transaction ≡ self.old.transaction }
         ensures half { self.new.half ≡ heeds [] self.old.half (Enlisted e class) }
     {
         match self.table.add(e, class) {
-            Ok(()) => insert_in_order(
-                &mut self.listeners,
-                Listener {
-                    enlistment: e,
-                    told: false,
-                    lost: false,
-                },
-            ),
+            Ok(()) => insert_in_order(&mut self.listeners, listener(e)),
             Err(_) => unreachable!(),
         }
     }
@@ -307,10 +405,106 @@ impl LocalHalf {
         let _ = self.table.set_asked(e);
     }
 
-    /// Takes an entry into the state. Nothing else changes it, but `own`, which keeps the manager.
+    /// Takes the call of this line away, which was answered.
+    #[tactic(auto, unfolding(dtx_model::specs::Observed::track))]
+    fn unwait(&mut self, n: u32, x: Answer)
+        requires { MayTakeIn self.old.half (Answered n x) }
+        ensures transaction { self.new.transaction ≡ self.old.transaction }
+        ensures half { self.new.half ≡ heeds [] self.old.half (Answered n x) }
+    {
+        waits::remove(&mut self.waits, n);
+    }
+
+    /// Keeps that the call of this line waits, and what for, once a promotion began.
+    #[tactic(auto, unfolding(dtx_model::specs::Observed::track, dtx_model::specs::Answers::local_answer))]
+    fn wait(&mut self, line: u32, c: &Call)
+        requires own { is_its_own c.now ≡ true }
+        requires started { has_promotion self.old.half.seen ≡ true }
+        requires waits { local_answer self.old.transaction.value self.old.half c.now 0 ≡ Wait }
+        requires new { is_free self.old.half line c.now ≡ true }
+        ensures { self.new ≡ with_waiter line c.now self.old }
+    {
+        waits::add(&mut self.waits, line, wanted_by(c));
+    }
+
+    /// Keeps that the call of this line waits, and what for, and starts a promotion for this cause.
+    #[tactic(auto, unfolding(dtx_model::specs::Observed::track, dtx_model::specs::Half::heeds_all, dtx_model::specs::Answers::local_answer))]
+    fn wait_first(&mut self, line: u32, c: &Call, cause: Cause, out: &mut Outbox)
+        requires own { is_its_own c.now ≡ true }
+        requires unstarted { has_promotion self.old.half.seen ≡ false }
+        requires waits { local_answer self.old.transaction.value self.old.half c.now 0 ≡ Wait }
+        requires new { is_free self.old.half line c.now ≡ true }
+        requires room { IsRoom 1 0 out.old }
+        ensures state { self.new ≡ after [] (with_waiter line c.now self.old) (Promoting cause ∷ []) }
+        ensures out { out.new ≡ written out.old (Promoting cause ∷ []) }
+    {
+        let owner = owner_of(&self.table);
+        self.handover.start(cause, owner);
+        waits::add(&mut self.waits, line, wanted_by(c));
+        put_out(Entry::Promoting(cause), out);
+    }
+
+    /// Notes a message that is sent.
+    #[tactic(auto, unfolding(dtx_model::specs::Observed::track))]
+    fn send(&mut self, c: Conn, m: Message)
+        requires { MaySend self.old.half c m }
+        ensures transaction { self.new.transaction ≡ self.old.transaction }
+        ensures half { self.new.half ≡ heeds [] self.old.half (Sent c Up m) }
+    {
+        note_sent(&mut self.branches, c, &m);
+        self.proxy.sent(c, &m);
+    }
+
+    /// Notes a message that was got, and says what it tells.
+    #[tactic(auto, unfolding(dtx_model::specs::Observed::track, dtx_model::specs::Half::heeds_all))]
+    fn hear(&mut self, c: Conn, m: Message) -> ProxyNews
+        ensures news { result ≡ news_of c m }
+        ensures unfit { (result ≡ ProxyNews.Unfit) ↔ (has_line c Down m ≡ false) }
+        ensures state { self.new ≡ after [] self.old (Got c Down m ∷ []) }
+    {
+        note_got(&mut self.branches, c, &m);
+        self.proxy.got(c, m)
+    }
+
+    /// Notes the end of a connection.
+    #[tactic(auto, unfolding(dtx_model::specs::Observed::track, dtx_model::specs::Half::heeds_all))]
+    fn hear_end(&mut self, c: Conn)
+        ensures { self.new ≡ after [] self.old (Ended c Down ∷ []) }
+    {
+        let _ = self.proxy.down(c);
+    }
+
+    /// Notes that an outcome was told.
+    #[tactic(auto, unfolding(dtx_model::specs::Observed::track))]
+    fn tell(&mut self, party: Party, o: Outcome)
+        ensures transaction { self.new.transaction ≡ self.old.transaction }
+        ensures half { self.new.half ≡ heeds [] self.old.half (Told party o) }
+    {
+        match party {
+            Party::Client => self.told_client = Some(o),
+            Party::Enl(e) => {
+                tell(&mut self.listeners, e);
+                if o == Outcome::Aborted {
+                    change(&mut self.branches, e, BranchChange::Aborted);
+                }
+            }
+        }
+    }
+
+    /// Notes that an enlistment comes back.
+    #[tactic(auto, unfolding(dtx_model::specs::Observed::track))]
+    fn regain(&mut self, e: EnlNo)
+        ensures transaction { self.new.transaction ≡ self.old.transaction }
+        ensures half { self.new.half ≡ heeds [] self.old.half (Reenlisted e) }
+    {
+        regain(&mut self.listeners, e);
+        change(&mut self.branches, e, BranchChange::Due(None));
+    }
+
+    /// Takes an entry into the state.
     #[tactic(auto, unfolding(dtx_model::specs::Observed::track))]
     fn take_in(&mut self, x: Entry)
-        requires { MayTakeIn self.old.half.seen x }
+        requires { MayTakeIn self.old.half x }
         ensures transaction { self.new.transaction ≡ self.old.transaction }
         ensures half { self.new.half ≡ heeds [] self.old.half x }
     {
@@ -320,6 +514,9 @@ impl LocalHalf {
             Entry::Clock(n) => self.clock = n,
             Entry::CommitAsked => self.commit = true,
             Entry::Sealed => self.sealed = true,
+            Entry::LocalYes => self.yes = true,
+            Entry::Requested(_, _) => self.requested = true,
+            Entry::PromoteReply(_, _) => self.promote_replied = true,
             Entry::Enlisted(e, class) => self.enlist(e, class),
             Entry::Cloned(c, kind) => {
                 let _ = self
@@ -330,6 +527,8 @@ impl LocalHalf {
                 let _ = self.clones.complete(c);
             }
             Entry::Asked(e, Ask::Prepare) => self.ask(e),
+            Entry::Asked(_, Ask::Promote) => self.promote_asked = true,
+            Entry::Asked(_, Ask::Single) => self.single_asked = true,
             Entry::Voted(e, v) => {
                 let _ = take_vote(&mut self.table, e, v);
             }
@@ -338,11 +537,11 @@ impl LocalHalf {
                 self.any_lost = true;
                 lose(&mut self.listeners, e);
             }
-            Entry::Told(party, o) => match party {
-                Party::Enl(e) => tell(&mut self.listeners, e),
-                Party::Client => self.told_client = Some(o),
-            },
-            Entry::Decided(o) => self.decided = Some(o),
+            Entry::Reenlisted(e) => self.regain(e),
+            Entry::Acked(e) => change(&mut self.branches, e, BranchChange::Acked),
+            Entry::Told(party, o) => self.tell(party, o),
+            Entry::Answered(n, answer) => self.unwait(n, answer),
+            Entry::Sent(c, Dir::Up, m) => self.send(c, m),
             Entry::Init(_)
             | Entry::RollbackAsked
             | Entry::TimedOut
@@ -352,15 +551,71 @@ impl LocalHalf {
         }
     }
 
-    /// Puts the entry out, and takes it into the state.
+    /// Puts the entry out, with the message that it sends, and takes it into the state.
     #[tactic(auto, unfolding(dtx_model::specs::Half::heeds_all))]
     fn write(&mut self, x: Entry, out: &mut Outbox)
-        requires taken { MayTakeIn self.old.half.seen x }
-        requires room { 0 < out.old.room }
+        requires taken { MayTakeIn self.old.half x }
+        requires room { IsFor x out.old }
         ensures state { self.new ≡ after [] self.old (x ∷ []) }
-        ensures out { out.new ≡ with out.old (x ∷ []) }
+        ensures out { out.new ≡ written out.old (x ∷ []) }
     {
         self.take_in(x);
-        out.put(x);
+        put_out(x, out);
+    }
+
+    /// Decides: a promotion that is under way fails.
+    #[tactic(auto, unfolding(dtx_model::specs::Observed::track, dtx_model::specs::Half::heeds_all))]
+    fn end(&mut self, o: Outcome, out: &mut Outbox)
+        requires { IsRoom 2 0 out.old }
+        ensures state { self.new ≡ after [] self.old (fails_if (is_promoting self.old.half.seen) ++ Decided o ∷ []) }
+        ensures out { out.new ≡ written out.old (fails_if (is_promoting self.old.half.seen) ++ Decided o ∷ []) }
+        ensures decided { self.new.half.seen.decided ≡ Some o }
+        ensures waits { self.new.half.waits ≡ self.old.half.waits }
+        ensures few { length self.new.half.waits ≤ 32 }
+    {
+        if self.handover.is_under_way() {
+            self.handover.fail();
+            put_out(Entry::PromotionFailed, out);
+        }
+        self.decided = Some(o);
+        put_out(Entry::Decided(o), out);
+    }
+
+    /// Tells the handover, and says what it does next. By its last act the transaction is promoted.
+    #[tactic(auto, unfolding(dtx_model::specs::Observed::track, dtx_model::specs::Half::heeds_all))]
+    fn hand_on(&mut self, news: &ProxyNews, out: &mut Outbox) -> HandoverAct
+        requires { IsRoom 1 0 out.old }
+        ensures act { result ≡ act_at self.old.half.seen news.now }
+        ensures state { self.new ≡ after [] self.old (promoted_at self.old.transaction.value self.old.half.seen.cause result) }
+        ensures out { out.new ≡ written out.old (promoted_at self.old.transaction.value self.old.half.seen.cause result) }
+    {
+        let act = self.handover.got(news);
+        if act == HandoverAct::Over {
+            if let Some(cause) = self.handover.cause() {
+                put_out(
+                    Entry::Promoted(NODE + u128::from(self.transaction.get()), cause),
+                    out,
+                );
+            }
+        }
+        act
+    }
+
+    /// Enlists where a call waited for the place, and answers the call.
+    #[tactic(auto, unfolding(dtx_model::specs::Observed::track, dtx_model::specs::Half::heeds_all))]
+    fn give_place(&mut self, e: EnlNo, n: u32, class: Class, out: &mut Outbox)
+        requires waits { (r : RmNo) × (f : EnlNo) × (find (is_place_of e.value) self.old.half.waits ≡ Some (n, Place f r class)) }
+        requires promoted { self.old.half.seen.promoted ≡ true }
+        requires room { IsRoom 2 0 out.old }
+        ensures state { self.new ≡ after [] self.old (Enlisted e class ∷ Answered n Fine ∷ []) }
+        ensures out { out.new ≡ written out.old (Enlisted e class ∷ Answered n Fine ∷ []) }
+    {
+        match self.table.add(e, class) {
+            Ok(()) => insert_in_order(&mut self.listeners, listener(e)),
+            Err(_) => unreachable!(),
+        }
+        waits::remove(&mut self.waits, n);
+        put_out(Entry::Enlisted(e, class), out);
+        put_out(Entry::Answered(n, Answer::Fine), out);
     }
 }

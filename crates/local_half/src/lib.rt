@@ -1,11 +1,15 @@
-//! The local side of one transaction: its calls, the replies of its enlistments, and its acts, while it isn't promoted.
+//! The local side of one transaction: its calls, the replies of its enlistments, its acts, and what it does at the
+//! coordinator's messages.
 #![tactic(auto)]
 
+mod branches;
 mod half;
 mod listeners;
+mod outgoing;
 #[cfg(test)]
 mod tests;
 mod time;
 mod votes;
+mod waits;
 
 pub use half::LocalHalf;

@@ -1,12 +1,12 @@
 //! Whole ways of a half: what each call answers, and the entries of each step.
 ghost use Rattle.std.specs.Prelude.{◌≡◌, true};
-ghost use Rattle.dtx_model.specs.Caused.{is_new};
-ghost use Rattle.local_half.specs.Half.{is_its_own};
+ghost use Rattle.local_half.specs.Half.{is_free, is_its_own};
 
 use crate::LocalHalf;
 use dtx_values::{
-    ActorNo, Answer, Ask, Call, CloneKind, CloneNo, ENLISTMENTS, EnlNo, EnlistOption, Entry, Note,
-    Outbox, Outcome, Party, Reply, RmNo, Support, Timeout, TxNo, Vote,
+    ActorNo, Answer, Ask, Call, Cause, Class, CloneKind, CloneNo, Conn, Dir, ENLISTMENTS, EnlNo,
+    EnlistOption, Entry, Info, Message, Note, Outbox, Outcome, Party, Reply, RmNo, Support,
+    Timeout, TxNo, Vote,
 };
 use std::alloc::AllocError;
 use std::process::Abort;
@@ -27,7 +27,7 @@ fn enl(rt: &impl Abort, n: u32) -> EnlNo {
 /// Does a call that makes nothing, and says what it answered.
 fn call(rt: &impl Abort, half: &mut LocalHalf, c: &Call, out: &mut Outbox) -> Answer
     requires own { is_its_own c.now ≡ true }
-    requires new { is_new half.old.half.seen c.now ≡ true }
+    requires new { is_free half.old.half 1 c.now ≡ true }
 {
     out.clear();
     half.call(actor(rt), 1, c, out)
@@ -282,7 +282,7 @@ fn the_conditions_of_calls_can_be_tested(rt: HostRuntime) -> Result<(), Fail> {
         (Call::Gone(e1), false, true),
     ] {
         assert_eq!(rt; LocalHalf::is_its_own(&call), own);
-        assert_eq!(rt; half.is_new(&call), new);
+        assert_eq!(rt; half.is_free(1, &call), new);
     }
     assert!(rt; half.is_unpromoted());
     assert_eq!(rt; half.gone_answer(e3), Answer::NoSuch);
@@ -292,5 +292,160 @@ fn the_conditions_of_calls_can_be_tested(rt: HostRuntime) -> Result<(), Fail> {
     assert_eq!(rt; out.room(), 62);
     assert_eq!(rt; half.gone_answer(e1), Answer::Already);
     assert_eq!(rt; half.decided(), Some(Outcome::Aborted));
+    Ok(())
+}
+
+/// The identifier of t1: node 1, count 1.
+const ID: u128 = 18_446_744_073_709_551_617;
+
+/// Takes a message, after which the half writes these entries, and sends those messages that they send.
+fn got(
+    rt: &impl Abort,
+    half: &mut LocalHalf,
+    out: &mut Outbox,
+    c: Conn,
+    m: Message,
+    want: &[Entry],
+) {
+    out.clear();
+    let fits = half.got(c, m, out);
+    assert!(rt; fits);
+    assert_eq!(rt; out.entries(), want);
+}
+
+/// The information in the ENLIST of e1 or e2, whose manager is r1.
+fn info(rt: &impl Abort, n: u32) -> Info {
+    Info {
+        id: ID,
+        rm: RmNo::new(1).expect(rt, "no such number"),
+        enl: enl(rt, n),
+    }
+}
+
+#[test]
+fn a_marshal_call_gets_the_identifier(rt: HostRuntime) -> Result<(), Fail> {
+    let t = transaction(&rt);
+    let a = actor(&rt);
+    let mut out = Outbox::with_room(rt.alloc())?;
+    let mut half = LocalHalf::new(rt.alloc(), t)?;
+    let began = call(&rt, &mut half, &Call::Begin(t, Timeout::Default), &mut out);
+    assert_eq!(rt; began, Answer::Fine);
+    let waits = call(&rt, &mut half, &Call::Marshal(t), &mut out);
+    assert_eq!(rt; waits, Answer::Wait);
+    let want = [
+        Entry::Called(1, a, Answer::Wait),
+        Entry::Promoting(Cause::Marshal),
+        Entry::Sent(Conn::Begin, Dir::Up, Message::BeginBegin),
+    ];
+    assert_eq!(rt; out.entries(), want.as_slice());
+    let sent = [(Conn::Begin, Dir::Up, Message::BeginBegin)];
+    assert_eq!(rt; out.sends(), sent.as_slice());
+    assert!(rt; !half.is_unpromoted());
+    assert!(rt; !half.is_free(1, &Call::Status(t)));
+    let voter = [Entry::Sent(Conn::Voter, Dir::Up, Message::VoterVoter(ID))];
+    got(
+        &rt,
+        &mut half,
+        &mut out,
+        Conn::Begin,
+        Message::BeginBegun(ID),
+        &voter,
+    );
+    let over = [
+        Entry::Promoted(ID, Cause::Marshal),
+        Entry::Answered(1, Answer::Id(ID)),
+    ];
+    got(
+        &rt,
+        &mut half,
+        &mut out,
+        Conn::Voter,
+        Message::VoterCreated,
+        &over,
+    );
+    let id = call(&rt, &mut half, &Call::Marshal(t), &mut out);
+    assert_eq!(rt; id, Answer::Id(ID));
+    out.clear();
+    half.down(Conn::Begin, &mut out);
+    let lost = [
+        Entry::Decided(Outcome::Aborted),
+        Entry::Sent(Conn::Voter, Dir::Up, Message::VoterNo),
+    ];
+    assert_eq!(rt; out.entries(), lost.as_slice());
+    Ok(())
+}
+
+#[test]
+fn a_second_durable_waits_for_its_place(rt: HostRuntime) -> Result<(), Fail> {
+    let t = transaction(&rt);
+    let [e1, e2] = [1, 2].map(|n| enl(&rt, n));
+    let rm = RmNo::new(1).expect(&rt, "no such number");
+    let single = Support::SinglePhase(None, None);
+    let mut out = Outbox::with_room(rt.alloc())?;
+    let mut half = LocalHalf::new(rt.alloc(), t)?;
+    let began = call(&rt, &mut half, &Call::Begin(t, Timeout::Default), &mut out);
+    assert_eq!(rt; began, Answer::Fine);
+    for (e, answer) in [(e1, Answer::Fine), (e2, Answer::Wait)] {
+        let durable = Call::Durable(t, e, rm, single);
+        if half.is_free(1, &durable) {
+            let given = call(&rt, &mut half, &durable, &mut out);
+            assert_eq!(rt; given, answer);
+        }
+    }
+    let voter = [Entry::Sent(Conn::Voter, Dir::Up, Message::VoterVoter(ID))];
+    got(
+        &rt,
+        &mut half,
+        &mut out,
+        Conn::Begin,
+        Message::BeginBegun(ID),
+        &voter,
+    );
+    let [i1, i2] = [1, 2].map(|n| info(&rt, n));
+    let first = [Entry::Sent(Conn::Enl(e1), Dir::Up, Message::EnlistEnlist(i1))];
+    got(
+        &rt,
+        &mut half,
+        &mut out,
+        Conn::Voter,
+        Message::VoterCreated,
+        &first,
+    );
+    let over = [
+        Entry::Promoted(ID, Cause::Second),
+        Entry::Sent(Conn::Enl(e2), Dir::Up, Message::EnlistEnlist(i2)),
+    ];
+    got(
+        &rt,
+        &mut half,
+        &mut out,
+        Conn::Enl(e1),
+        Message::EnlistEnlisted,
+        &over,
+    );
+    let placed = [
+        Entry::Enlisted(e2, Class::DurableSingle),
+        Entry::Answered(1, Answer::Fine),
+    ];
+    got(
+        &rt,
+        &mut half,
+        &mut out,
+        Conn::Enl(e2),
+        Message::EnlistEnlisted,
+        &placed,
+    );
+    assert!(rt; half.is_accepted(e2));
+    let told = [Entry::Told(Party::Enl(e2), Outcome::Committed)];
+    got(
+        &rt,
+        &mut half,
+        &mut out,
+        Conn::Enl(e2),
+        Message::EnlistCommit,
+        &told,
+    );
+    assert!(rt; half.may_be_due());
+    assert_eq!(rt; half.due(), Some((e2, Note::Commit)));
     Ok(())
 }

@@ -1,11 +1,12 @@
-//! What the rows say of votes.
-ghost use Rattle.std.specs.Prelude.{◌≡◌, ◌&&◌};
+//! What the rows say of votes, and of the promotable enlistment.
+ghost use Rattle.std.specs.Prelude.{◌≡◌, ◌&&◌, find};
 ghost use Rattle.std.specs.List.{list_all};
-ghost use Rattle.dtx_values.specs.Class.{is_volatile};
+ghost use Rattle.dtx_values.specs.Class.{is_promotable, is_volatile};
 ghost use Rattle.dtx_values.specs.Vote.{voted_well};
 ghost use Rattle.dtx_values.specs.Owners.{is_evident};
+ghost use Rattle.dtx_model.specs.Acts.{promotable_in};
 
-use dtx_values::Row;
+use dtx_values::{Class, EnlNo, Row};
 
 /// Whether it is volatile and voted yes or done.
 fn is_well(x: &Row) -> bool
@@ -26,4 +27,18 @@ pub fn is_evident(sealed: bool, rows: &[Row]) -> bool
     ensures { result ≡ is_evident sealed rows.now }
 {
     sealed && are_well(rows)
+}
+
+/// The row of the promotable enlistment.
+fn promotable_row(rows: &[Row]) -> Option<Row>
+    ensures { result ≡ find (λ x. is_promotable x.class) rows.now }
+{
+    rows.iter().copied().find(|x| x.class == Class::Promotable)
+}
+
+/// The promotable enlistment.
+pub fn first_promotable(rows: &[Row]) -> Option<EnlNo>
+    ensures { result ≡ promotable_in rows.now }
+{
+    promotable_row(rows).map(|x| x.number)
 }

@@ -9,7 +9,7 @@ use Rattle.dtx_values.specs.declared.entry.Answer.{Answer}
 use Rattle.dtx_values.specs.declared.entry.Answer.TheVariants.{Ended as EndedAnswer}
 use Rattle.dtx_values.specs.declared.entry.Ask.TheVariants.{Prepare, Promote, Single as AskSingle}
 use Rattle.dtx_values.specs.declared.entry.Entry.{Entry}
-use Rattle.dtx_values.specs.declared.entry.Entry.TheVariants.{Called, Answered, Began, Cloned, Completed, Enlisted, CommitAsked, RollbackAsked, Clock, TimedOut, Late, Asked, Voted, PromoteReply, Requested, Sealed, Handed, OwnerAnswered, LocalYes, Decided, Told, Promoting, Promoted, PromotionFailed, Sent, Got, Down as Ended, Lost as LostEntry, Logged, LogFull, Freed, Stopped, Restarted, Reenlisted, Recovered as RecoveredEntry, Acked}
+use Rattle.dtx_values.specs.declared.entry.Entry.TheVariants.{Called, Answered, Began, Cloned, Completed, CommitAsked, RollbackAsked, Clock, TimedOut, Late, Asked, Voted, PromoteReply, Requested, Sealed, Handed, OwnerAnswered, LocalYes, Decided, Told, Promoting, Promoted, PromotionFailed, Sent, Got, Down as Ended, Lost as LostEntry, Logged, LogFull, Freed, Stopped, Restarted, Reenlisted, Recovered as RecoveredEntry, Acked}
 use Rattle.dtx_values.specs.declared.entry.Party.TheVariants.{Client, Enl as Member}
 use Rattle.dtx_values.specs.declared.message.Conn.{Conn}
 use Rattle.dtx_values.specs.declared.message.Conn.TheVariants.{Begin, Voter, Enl, Again}
@@ -22,8 +22,6 @@ use Rattle.dtx_values.specs.declared.note.Note.TheVariants.{Single}
 use Rattle.dtx_values.specs.declared.note.Reply.{Reply}
 use Rattle.dtx_values.specs.declared.note.Reply.TheVariants.{Vote as VoteReply, Promote as Promotes, Owner as OwnerReply, Ack}
 use Rattle.dtx_values.specs.declared.number.EnlNo.{EnlNo}
-use Rattle.dtx_values.specs.declared.words.Cause.{Cause}
-use Rattle.dtx_values.specs.declared.words.Cause.TheVariants.{Marshal as MarshalCause}
 use Rattle.dtx_values.specs.declared.words.Outcome.{Outcome}
 use Rattle.dtx_values.specs.declared.words.Outcome.TheVariants.{Committed, Aborted, InDoubt}
 use Rattle.dtx_values.specs.declared.words.Vote.{Vote}
@@ -35,7 +33,6 @@ use Rattle.dtx_model.specs.declared.desk.Desk.{Desk}
 use Rattle.dtx_model.specs.Words.{each, has}
 use Rattle.dtx_values.specs.Waves.{all_voted, is_over, next_ask, zeros_voted}
 use Rattle.dtx_values.specs.Owners.{owner_of}
-use Rattle.dtx_values.specs.Class.{is_promotable}
 use Rattle.dtx_values.specs.Vote.{is_no}
 use Rattle.dtx_values.specs.Table.{voted}
 use Rattle.dtx_model.specs.declared.branch.Branch.{Branch}
@@ -47,12 +44,12 @@ use Rattle.dtx_model.specs.Half.{Half, sees, is_promoting, to_up, fails_if, deci
 use Rattle.dtx_model.specs.Arrivals.{unless_decided, told_abort, has_both_ends, ended_there, ended_by, begin_arrived, voter_arrived, enlist_arrived, again_arrived, arrived, local_down}
 use Rattle.dtx_model.specs.Acts.{tell, is_to_tell, promotable_in, under_way, commit_sent, ask_or, after_seal, commit_act, yes_act, voter_act, promoted_act, sealed_act, asked_act, unasked_promotable, undecided_act, act_by, act_entries}
 use Rattle.dtx_model.specs.Replies.{ack_on, conn_due, due_of, is_volatile_row, owner_entries, promote_entries, reply_entries, request_message, request_of, vote_message, voted_by}
-use Rattle.dtx_model.specs.Facts.{begin_promotion, facts_if, has_facts, is_late, local_facts, reaches, ticked, time_up}
+use Rattle.dtx_model.specs.Facts.{facts_if, has_facts, is_late, local_facts, reaches, ticked, time_up}
 use Rattle.dtx_model.specs.Answers.{limit_of}
 use Rattle.dtx_model.specs.World.{World, half, core, cut, cut_upward, facts_at, gone_by, gone_decides, open_ones, reenlist_facts}
 use Rattle.dtx_model.specs.Steps.{LogAnswer, Done, Full, StoppedNow, StoppedBefore, appended, coordinates, ended_at, freed, restarted}
-use Rattle.dtx_model.specs.Entries.{is_decision, is_sealed}
-use Rattle.dtx_model.proofs.Bools.{and_left, and_right, or_case, or_right}
+use Rattle.dtx_model.specs.Entries.{is_decision}
+use Rattle.dtx_model.proofs.Bools.{and_left, and_right, or_right}
 
 -- an ENLIST
 abbrev pub is_enlist : Message → Bool

@@ -1,21 +1,19 @@
 -- The coordinator's blocks keep the table: what it does after a message or an end, its append and its free, stops and restarts. Of an ENLIST that comes this needs that COMMIT didn't
 -- come before, which the local side sees to.
-use Rattle.std.proofs.Common.{◌≡◌, ℕ, ◌==◌, Bool, true, false, ◌&&◌, ◌||◌, List, [], ◌∷◌, ◌++◌, Option, Some, None, refl, sym, subst, ap, ◌∙◌}
-use Rattle.std.specs.Prelude.{not, filter, map, if◌then◌else◌}
+use Rattle.std.proofs.Common.{◌≡◌, ℕ, Bool, true, false, ◌&&◌, ◌||◌, List, [], ◌∷◌, ◌++◌, refl, sym, ◌∙◌}
+use Rattle.std.specs.Prelude.{not, filter, if◌then◌else◌}
 use Rattle.std.specs.List.{flat_map}
 use Rattle.std.proofs.lemmas.Bool.{false_from_ne_true, or_left}
-use Rattle.dtx_values.specs.declared.call.Call.{Call}
 use Rattle.dtx_values.specs.declared.entry.Entry.{Entry}
-use Rattle.dtx_values.specs.declared.entry.Entry.TheVariants.{Down as End, Freed, Got, LogFull, Logged, Promoted, Restarted, Sent, Stopped}
+use Rattle.dtx_values.specs.declared.entry.Entry.TheVariants.{Down as End, Got, LogFull, Logged, Promoted, Sent, Stopped}
 use Rattle.dtx_values.specs.declared.message.Conn.{Conn}
 use Rattle.dtx_values.specs.declared.message.Conn.TheVariants.{Begin, Voter, Enl, Again}
 use Rattle.dtx_values.specs.declared.message.Dir.TheVariants.{Up, Down}
 use Rattle.dtx_values.specs.declared.message.Message.{Message}
 use Rattle.dtx_values.specs.declared.message.Message.TheVariants.{BeginBegin, BeginBegun, BeginCommit, BeginCommitted, BeginAborted, VoterVoter, VoterCreated, VoterRefused, VoterAsk, VoterCommit, VoterAbort, EnlistEnlist, EnlistEnlisted, EnlistRefused, EnlistPrepare, EnlistCommit, EnlistAbort, ReenlistReenlist, ReenlistCommitted, ReenlistAborted}
-use Rattle.dtx_values.specs.declared.number.ActorNo.{ActorNo}
 use Rattle.dtx_values.specs.declared.number.EnlNo.{EnlNo}
 use Rattle.dtx_values.specs.Ends.{same_connection}
-use Rattle.dtx_values.specs.Lines.{has_line, is_opening}
+use Rattle.dtx_values.specs.Lines.{has_line}
 use Rattle.dtx_model.specs.declared.desk.Desk.{Desk}
 use Rattle.dtx_model.specs.declared.desk.Stage.{Stage}
 use Rattle.dtx_model.specs.declared.desk.Stage.TheVariants.{Idle, Active, Aborted, Recorded, Over, Unknown}
@@ -28,7 +26,7 @@ use Rattle.dtx_model.specs.Wires.{MayCross, is_stopped}
 use Rattle.dtx_model.specs.Caused.{is_begin_sent, is_full_answer, may_coordinate}
 use Rattle.dtx_model.specs.Coordinated.{Coordinated, abort_sends, aborts, commit_sends, coordinate, core_down, core_got, follow, has_aborted, is_active, is_early, is_prepared, is_recorded, is_undecided, may_free, may_log, opening_answer, opening_by, still_hears, to, to_each, to_waiting}
 use Rattle.dtx_model.specs.Steps.{Done, Full, LogAnswer, StoppedBefore, StoppedNow, appended, coordinates, freed, restarted}
-use Rattle.dtx_model.proofs.Bools.{and_left, and_right, and_both, not_both, not_false, not_true, or_case, or_right}
+use Rattle.dtx_model.proofs.Bools.{and_left, and_right, and_both, not_both, not_false, not_true, or_right}
 use Rattle.outcome_law.proofs.Tests.{first_of_five, second_of_five, first_of_three, second_of_three, four_hold, first_of_four, second_of_four, third_of_four, fourth_of_four}
 use Rattle.outcome_law.proofs.Scans.{each_more, each-append}
 use Rattle.outcome_law.proofs.Table.{have_come, is_opening_got, message_row, rule, ruled}

@@ -1,6 +1,6 @@
 -- What the coordinator knows, where the history keeps the table: COMMIT, YES and votes that were got while it is undecided are noted, each ENLIST has its desk, it aborts where
 -- the law says so, and where it may append a record, the table lets it.
-use Rattle.std.proofs.Common.{◌≡◌, ℕ, ◌==◌, Bool, true, false, ◌&&◌, ◌||◌, List, [], ◌∷◌, Option, Some, None, refl, sym, subst, ap, ◌∙◌}
+use Rattle.std.proofs.Common.{◌≡◌, ℕ, ◌==◌, Bool, true, false, ◌&&◌, ◌||◌, List, [], ◌∷◌, Option, Some, None, refl, sym, subst, ◌∙◌}
 use Rattle.std.specs.Prelude.{not, map, if◌then◌else◌}
 use Rattle.std.proofs.lemmas.Bool.{eqb-true, false_from_ne_true, or_left}
 use Rattle.dtx_values.specs.declared.entry.Entry.{Entry}
@@ -12,7 +12,7 @@ use Rattle.dtx_values.specs.declared.message.Info.{Info}
 use Rattle.dtx_values.specs.declared.message.Message.{Message}
 use Rattle.dtx_values.specs.declared.message.Message.TheVariants.{BeginAbort, BeginBegin, BeginBegun, BeginCommit, VoterNo, VoterVoter, VoterYes, EnlistAck, EnlistEnlist, EnlistNo, EnlistPrepared, EnlistReadonly, ReenlistAck}
 use Rattle.dtx_values.specs.declared.number.EnlNo.{EnlNo}
-use Rattle.dtx_values.specs.Ends.{same_connection, same_direction}
+use Rattle.dtx_values.specs.Ends.{same_connection}
 use Rattle.dtx_values.specs.Lines.{has_line, is_opening}
 use Rattle.dtx_values.specs.Table.{insert_by}
 use Rattle.dtx_model.specs.declared.desk.Ballot.{Ballot}
@@ -25,12 +25,12 @@ use Rattle.dtx_model.specs.Entries.{is_commit_got, is_record, is_vote_got, is_ye
 use Rattle.dtx_model.specs.Outcome.{is_veto_end}
 use Rattle.dtx_model.specs.Learned.{coordinator_aborted, is_abort, is_first_abort}
 use Rattle.dtx_model.specs.Promotes.{is_begun_got, is_promoting}
-use Rattle.dtx_model.specs.Tied.{can_log, enlist_got, has_mark, is_logged, is_ready_got, is_stop}
-use Rattle.dtx_model.specs.Wires.{MayCross, WireRun, opens}
+use Rattle.dtx_model.specs.Tied.{can_log, enlist_got, is_logged, is_ready_got, is_stop}
+use Rattle.dtx_model.specs.Wires.{WireRun, opens}
 use Rattle.dtx_model.specs.Caused.{is_begin_sent}
-use Rattle.dtx_model.specs.Coordinated.{Coordinated, abort_if, aborts, accepts, ballot_of, begin_if, behind_restart, coordinate, desk_number, desks_after, follow, has_aborted, has_voted, is_active, is_desk_of, is_early, is_ready, is_recorded, is_undecided, may_log, stage_after, with_ack, with_ballot}
+use Rattle.dtx_model.specs.Coordinated.{Coordinated, abort_if, aborts, accepts, ballot_of, begin_if, behind_restart, coordinate, desk_number, desks_after, follow, has_aborted, has_voted, is_active, is_desk_of, is_early, is_ready, is_undecided, may_log, stage_after, with_ack, with_ballot}
 use Rattle.dtx_model.proofs.Bools.{and_left, and_right, and_both, not_both, not_false, not_true, or_case, or_right}
-use Rattle.outcome_law.proofs.Tests.{eq_swap, first_of_five, second_of_five, third_of_five, fourth_of_five, first_of_four, second_of_four, third_of_four, fourth_of_four}
+use Rattle.outcome_law.proofs.Tests.{eq_swap, first_of_five, second_of_five, third_of_five, fourth_of_five, second_of_four, third_of_four, fourth_of_four}
 use Rattle.outcome_law.proofs.Scans.{has_more}
 use Rattle.outcome_law.proofs.Lists.{has-insert}
 use Rattle.outcome_law.proofs.Table.{is_enlist_got, is_opening_got, is_there, message_row, rule}
@@ -39,7 +39,7 @@ use Rattle.outcome_law.proofs.Crossed.{got_sent, is_got_on, is_sent_on, same_con
 use Rattle.outcome_law.proofs.Sendings.{aborted_more, opened_promoting, own_info, record_of_mark}
 use Rattle.outcome_law.proofs.Recording.{can_commit, if_record}
 use Rattle.outcome_law.proofs.Leading.{led_got, opening_came, opening_was_sent, sent_opens}
-use Rattle.outcome_law.proofs.CoreStages.{active_begun, begun_if_active, active_open, changed, commit_noted, desks_ready, has_recorded, is_backed, known_got, open_before, open_unaborted, open_unrecorded, record_stage, recorded_mark, stop_seen, yes_noted}
+use Rattle.outcome_law.proofs.CoreStages.{active_begun, active_open, commit_noted, desks_ready, has_recorded, is_backed, open_before, open_unaborted, open_unrecorded, record_stage, stop_seen, yes_noted}
 
 no : false ≡ true → ⊥
 no e = absurd cc
@@ -80,6 +80,9 @@ sent_there c p (Sent e Up m) h k r t = absurd (never (same_connection c e) (p m)
     never true b k = absurd cc
     never false b k = absurd cc
 sent_there c p _ h k r t = absurd (no t)
+
+pub sent_opened_there : (c : Conn) (p : Message → Bool) (h : List Entry) → Keeps h → has (is_sent_on c Down p) h ≡ true → has (is_opening_got c) h ≡ true
+sent_opened_there c p h k t = earlier (is_sent_on c Down p) (λ g. has (is_opening_got c) g) (λ x g q. or_right (is_opening_got c x) (has (is_opening_got c) g) q) (sent_there c p) h k t
 
 pub got_there : (c : Conn) (p : Message → Bool) (h : List Entry) → Keeps h → has (is_got_on c Down p) h ≡ true → has (is_opening_got c) h ≡ true
 got_there c p h k t =

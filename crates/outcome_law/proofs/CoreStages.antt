@@ -9,7 +9,7 @@ use Rattle.dtx_values.specs.declared.message.Conn.{Conn}
 use Rattle.dtx_values.specs.declared.message.Conn.TheVariants.{Begin, Voter, Enl, Again}
 use Rattle.dtx_values.specs.declared.message.Dir.TheVariants.{Up}
 use Rattle.dtx_values.specs.declared.message.Message.{Message}
-use Rattle.dtx_values.specs.declared.message.Message.TheVariants.{BeginAbort, BeginBegin, BeginCommit, VoterNo, VoterYes, EnlistAck, EnlistEnlist, EnlistNo, EnlistPrepared, EnlistReadonly, ReenlistAck}
+use Rattle.dtx_values.specs.declared.message.Message.TheVariants.{BeginAbort, BeginBegin, VoterNo, EnlistAck, EnlistEnlist, EnlistNo, EnlistPrepared, EnlistReadonly, ReenlistAck}
 use Rattle.dtx_values.specs.declared.number.EnlNo.{EnlNo}
 use Rattle.dtx_values.specs.Ends.{order_of, same_connection}
 use Rattle.dtx_values.specs.Lines.{has_line, is_opening}
@@ -17,14 +17,14 @@ use Rattle.dtx_values.specs.Table.{insert_by}
 use Rattle.dtx_model.specs.declared.desk.Ballot.{Ballot}
 use Rattle.dtx_model.specs.declared.desk.Desk.{Desk}
 use Rattle.dtx_model.specs.declared.desk.Stage.{Stage}
-use Rattle.dtx_model.specs.declared.desk.Stage.TheVariants.{Idle, Active, Aborted, Recorded, Over, Unknown}
-use Rattle.dtx_model.specs.Words.{each, ever, has, latest, or_else}
+use Rattle.dtx_model.specs.declared.desk.Stage.TheVariants.{Idle, Active, Recorded, Over}
+use Rattle.dtx_model.specs.Words.{each, ever, has}
 use Rattle.dtx_model.specs.Entries.{is_commit_got, is_record, is_vote_got, is_yes_got}
 use Rattle.dtx_model.specs.Outcome.{is_veto_end}
 use Rattle.dtx_model.specs.Learned.{coordinator_aborted, is_abort, is_first_abort}
-use Rattle.dtx_model.specs.Tied.{has_mark, is_marked, is_ready_got, is_stop, mark_of}
-use Rattle.dtx_model.specs.Wires.{holds, is_stopped, stop_of}
-use Rattle.dtx_model.specs.Coordinated.{Coordinated, abort_if, aborts, accepts, ballot_of, begin_if, behind_restart, coordinate, desk_number, desks_after, follow, has_aborted, has_voted, is_active, is_desk_of, is_early, is_prepared, is_ready, is_recorded, is_undecided, kept_desks, known_after, stage_after, stopped_after, unacked, with_ack, with_ballot, without}
+use Rattle.dtx_model.specs.Tied.{has_mark, is_ready_got, is_stop}
+use Rattle.dtx_model.specs.Wires.{is_stopped}
+use Rattle.dtx_model.specs.Coordinated.{Coordinated, abort_if, aborts, accepts, ballot_of, begin_if, behind_restart, coordinate, desk_number, follow, has_voted, is_active, is_desk_of, is_early, is_prepared, is_ready, is_recorded, is_undecided, kept_desks, stage_after, unacked, with_ack, with_ballot, without}
 use Rattle.dtx_model.proofs.Bools.{and_left, and_right, and_both, not_both, not_false, not_true, or_case, or_false, or_right}
 use Rattle.outcome_law.proofs.Tests.{eq_swap}
 use Rattle.outcome_law.proofs.Scans.{each_more, has_more}

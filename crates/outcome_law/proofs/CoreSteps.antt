@@ -1,9 +1,8 @@
 -- The steps of the coordinator's side keep what stands at the end of each block: what comes upward, its act, stops and restarts.
-use Rattle.std.proofs.Common.{◌≡◌, ◌∙◌, ℕ, Bool, true, false, ◌&&◌, ◌||◌, List, [], ◌∷◌, ◌++◌, refl, sym, subst, ap}
+use Rattle.std.proofs.Common.{◌≡◌, ◌∙◌, ℕ, Bool, true, false, ◌&&◌, ◌||◌, List, [], ◌∷◌, refl, ap}
 use Rattle.std.specs.Prelude.{not}
 use Rattle.dtx_values.specs.declared.call.Call.{Call}
 use Rattle.dtx_values.specs.declared.entry.Entry.{Entry}
-use Rattle.dtx_values.specs.declared.entry.Entry.TheVariants.{Down as End, Freed, Got, LogFull, Logged, Restarted, Sent, Stopped}
 use Rattle.dtx_values.specs.declared.message.Conn.{Conn}
 use Rattle.dtx_values.specs.declared.message.Conn.TheVariants.{Enl}
 use Rattle.dtx_values.specs.declared.message.Dir.TheVariants.{Up, Down}
@@ -12,17 +11,14 @@ use Rattle.dtx_values.specs.declared.message.Message.TheVariants.{EnlistEnlist}
 use Rattle.dtx_values.specs.declared.number.ActorNo.{ActorNo}
 use Rattle.dtx_values.specs.declared.number.EnlNo.{EnlNo}
 use Rattle.dtx_values.specs.Lines.{is_opening}
-use Rattle.dtx_model.specs.Words.{each, has, onto}
+use Rattle.dtx_model.specs.Words.{has, onto}
 use Rattle.dtx_model.specs.Entries.{is_commit_got}
 use Rattle.dtx_model.specs.Outcome.{is_empty}
 use Rattle.dtx_model.specs.Promotes.{identifier_of}
-use Rattle.dtx_model.specs.Tied.{tied}
-use Rattle.dtx_model.specs.Wires.{MayCross, WireRun, in_transit, is_ended, is_lost_wire, is_next}
-use Rattle.dtx_model.specs.Coordinated.{coordinate, core_down, core_got}
-use Rattle.dtx_model.specs.World.{World, core, has_left}
-use Rattle.dtx_model.specs.Steps.{LogAnswer, Step, Calls, Replies, Acts, Coordinates, Delivers, Stops, Restarts, after, block_at, delivered}
+use Rattle.dtx_model.specs.Wires.{in_transit, is_ended, is_lost_wire, is_next}
+use Rattle.dtx_model.specs.World.{World, has_left}
+use Rattle.dtx_model.specs.Steps.{Step, Calls, Replies, Acts, Coordinates, Delivers, Stops, Restarts, after, block_at, delivered}
 use Rattle.dtx_model.specs.Caused.{MayCome}
-use Rattle.dtx_model.proofs.Bools.{not_both}
 use Rattle.outcome_law.proofs.Table.{ruled}
 use Rattle.outcome_law.proofs.Keeping.{Keeps}
 use Rattle.outcome_law.proofs.CoreBlocks.{act_ruled, end_ruled, got_ruled, is_enlisting, restart_ruled, stops_ruled}

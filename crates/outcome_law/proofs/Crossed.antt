@@ -91,7 +91,7 @@ stopped_came p Up ms k = absurd cc
 stopped_came p Down ms k = k
 
 -- what is on the way was sent
-came : (c : Conn) (d : Dir) (p : Message → Bool) (h : List Entry) → has p (in_transit c d h) ≡ true → has (is_sent_on c d p) h ≡ true
+pub came : (c : Conn) (d : Dir) (p : Message → Bool) (h : List Entry) → has p (in_transit c d h) ≡ true → has (is_sent_on c d p) h ≡ true
 came c d p [] k = absurd cc
 came c d p (Sent e r m ∷ h) k =
     sent_came p m (opens c (Sent e r m)) (same_connection c e) (same_direction d r) (is_open_wire c h) (has (is_sent_on c d p) h) (opened_with d m (is_stopped h)) (in_transit c d h)

@@ -1,8 +1,7 @@
 -- The block of a decision, and of a veto, keeps the table: a promotion that is under way fails, the outcome is decided, each call that waits is answered, and the
 -- coordinator is told of the veto.
-use Rattle.std.proofs.Common.{◌≡◌, ℕ, Bool, true, false, ◌&&◌, ◌||◌, List, [], ◌∷◌, ◌++◌, Option, Some, None, refl, ◌∙◌, ap, sym, subst}
+use Rattle.std.proofs.Common.{◌≡◌, Bool, true, false, List, [], ◌∷◌, ◌++◌, Some, refl, ◌∙◌, ap, sym, subst}
 use Rattle.std.specs.Prelude.{not, if◌then◌else◌}
-use Rattle.std.proofs.lemmas.Bool.{or_left}
 use Rattle.dtx_values.specs.declared.entry.Answer.TheVariants.{Ended}
 use Rattle.dtx_values.specs.declared.entry.Entry.{Entry}
 use Rattle.dtx_values.specs.declared.entry.Entry.TheVariants.{Answered, Decided, PromotionFailed, Sent}
@@ -25,7 +24,7 @@ use Rattle.dtx_model.specs.Tied.{is_tied, tied}
 use Rattle.dtx_model.specs.Waiting.{Waiter}
 use Rattle.dtx_model.specs.Half.{Half, decide, ended, fails_if, to_up, veto, veto_message, is_promoting as sees_promoting}
 use Rattle.dtx_model.specs.Wires.{MayCross, opens}
-use Rattle.dtx_model.proofs.Bools.{and_both, and_left, and_right, not_false, or_right}
+use Rattle.dtx_model.proofs.Bools.{and_both, and_right, not_false, or_right}
 use Rattle.dtx_model.proofs.Reading.{has-onto}
 use Rattle.outcome_law.proofs.Tests.{four_hold}
 use Rattle.outcome_law.proofs.Table.{but_failed, decision_row, ends_called_off, is_there, message_row, rule, ruled}

@@ -117,7 +117,7 @@ owner_answer e o (OwnerAnswered f y) k = refl
 owner_answer e o _ k = k
 
 -- where no owner answered, none answered committed
-uncommitted : (h : List Entry) (ds : List (EnlNo × Class)) → has is_answer h ≡ false → owner_committed h ds ≡ false
+pub uncommitted : (h : List Entry) (ds : List (EnlNo × Class)) → has is_answer h ≡ false → owner_committed h ds ≡ false
 uncommitted h [] u = refl
 uncommitted h (x ∷ xs) u =
     ap (λ b. each (λ y. x.0.value == y.0.value) xs && can_own x.1 && has (is_hand x.0.value) h && b)
@@ -125,7 +125,7 @@ uncommitted h (x ∷ xs) u =
     ∙ and_never (each (λ y. x.0.value == y.0.value) xs && can_own x.1 && has (is_hand x.0.value) h)
 
 -- where nothing is promoted and no owner committed, evidence is by the seal
-seal_alone : (a s p l e o : Bool) → p ≡ false → o ≡ false → (a && ((s && not p && e) || (not p && o) || (p && l))) ≡ (a && (s && e))
+pub seal_alone : (a s p l e o : Bool) → p ≡ false → o ≡ false → (a && ((s && not p && e) || (not p && o) || (p && l))) ≡ (a && (s && e))
 seal_alone a s true l e o p q = absurd cc
 seal_alone a s false l e true p q = absurd cc
 seal_alone a true false l true false p q = refl
@@ -133,7 +133,7 @@ seal_alone a true false l false false p q = refl
 seal_alone a false false l e false p q = refl
 
 -- after the seal nothing but the votes and the durables is open
-seal_step : (s c a w e : Bool) → (s ≡ true → c ≡ true) → (s ≡ true → a ≡ true) → ((c && a && w) && (s && e)) ≡ (s && (w && e))
+pub seal_step : (s c a w e : Bool) → (s ≡ true → c ≡ true) → (s ≡ true → a ≡ true) → ((c && a && w) && (s && e)) ≡ (s && (w && e))
 seal_step true true true true e f g = refl
 seal_step true true true false e f g = refl
 seal_step true true false w e f g = let k = g refl in absurd cc
@@ -141,7 +141,7 @@ seal_step true false a w e f g = let k = f refl in absurd cc
 seal_step false c a w e f g = and_never (c && a && w)
 
 -- each volatile passes and the rest are none: each is volatile and passes
-volatile_well : (g : EnlNo × Class → Bool) (xs : List (EnlNo × Class))
+pub volatile_well : (g : EnlNo × Class → Bool) (xs : List (EnlNo × Class))
     → (each g (filter (λ x. is_volatile x.1) xs) && is_empty (filter (λ x. not (is_volatile x.1)) xs)) ≡ each (λ x. is_volatile x.1 && g x) xs
 volatile_well g [] = refl
 volatile_well g (x ∷ xs) =

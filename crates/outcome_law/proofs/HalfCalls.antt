@@ -1,61 +1,45 @@
 -- The block of each call that the local side answers by itself keeps the table, promoted or not.
-use Rattle.std.proofs.Common.{◌≡◌, ℕ, ◌==◌, Bool, true, false, ◌&&◌, ◌||◌, List, [], ◌∷◌, Option, Some, None, refl, ◌∙◌, ap, sym}
-use Rattle.std.specs.Prelude.{is_some, length, nat_le, not, if◌then◌else◌}
+use Rattle.std.proofs.Common.{◌≡◌, ℕ, ◌==◌, Bool, true, false, ◌&&◌, ◌||◌, List, [], ◌∷◌, Option, Some, None, refl, ◌∙◌, ap}
+use Rattle.std.specs.Prelude.{not, if◌then◌else◌}
 use Rattle.std.proofs.lemmas.Bool.{false_from_ne_true, or_left}
 use Rattle.dtx_values.specs.declared.number.ActorNo.{ActorNo}
 use Rattle.dtx_values.specs.declared.number.CloneNo.{CloneNo}
 use Rattle.dtx_values.specs.declared.number.EnlNo.{EnlNo}
 use Rattle.dtx_values.specs.declared.number.RmNo.{RmNo}
-use Rattle.dtx_values.specs.declared.call.Call.{Call}
-use Rattle.dtx_values.specs.declared.call.Call.TheVariants.{Begin, Volatile, Durable, Promotable, Clone, Complete, Commit, Rollback, Marshal, Status, Await, Tick, Do, Lose, Gone, Reenlist, Recovered}
 use Rattle.dtx_values.specs.declared.entry.Answer.{Answer}
-use Rattle.dtx_values.specs.declared.entry.Answer.TheVariants.{Fine, True, False, Wait, Id, Many, TooLate}
 use Rattle.dtx_values.specs.declared.entry.Entry.{Entry}
-use Rattle.dtx_values.specs.declared.entry.Entry.TheVariants.{Called, Began, Cloned, Completed, Enlisted, CommitAsked, RollbackAsked, Clock, Late, TimedOut, Init, Lost, Promoted, Promoting, Sent}
+use Rattle.dtx_values.specs.declared.entry.Entry.TheVariants.{Called, Cloned, Completed, Enlisted, CommitAsked, RollbackAsked, TimedOut, Promoted, Promoting, Sent}
 use Rattle.dtx_values.specs.declared.message.Conn.TheVariants.{Begin as OnBegin, Enl as OnEnl}
 use Rattle.dtx_values.specs.declared.message.Dir.TheVariants.{Up}
 use Rattle.dtx_values.specs.declared.message.Message.TheVariants.{BeginBegin, EnlistEnlist}
 use Rattle.dtx_values.specs.declared.words.Cause.{Cause}
 use Rattle.dtx_values.specs.declared.words.Class.{Class}
-use Rattle.dtx_values.specs.declared.words.Class.TheVariants.{DurableSingle, Promotable as PromotableClass}
 use Rattle.dtx_values.specs.declared.words.CloneKind.{CloneKind}
-use Rattle.dtx_values.specs.declared.words.CloneKind.TheVariants.{Block, Rollback as RollbackKind}
-use Rattle.dtx_values.specs.declared.words.Outcome.{Outcome}
-use Rattle.dtx_values.specs.declared.words.Outcome.TheVariants.{Aborted, InDoubt}
-use Rattle.dtx_values.specs.declared.script.EnlistOption.{EnlistOption}
-use Rattle.dtx_values.specs.declared.script.EnlistOption.TheVariants.{Plain, DuringPrepare}
 use Rattle.dtx_values.specs.Class.{is_volatile, is_promotable}
-use Rattle.dtx_values.specs.Clones.{blocks, is_open_rollback}
-use Rattle.dtx_values.specs.Owners.{is_evident, may_own}
-use Rattle.dtx_values.specs.Row.{is_lasting}
-use Rattle.dtx_model.specs.Words.{all_of, each, has, latest, onto}
-use Rattle.dtx_model.specs.Entries.{clone_of, decision_of, handed_of, is_any_hand, is_any_owner, is_commit, is_decision, is_hand, is_promoted, is_sealed, is_vote, is_yes}
-use Rattle.dtx_model.specs.Observed.{clone_rows, observe, rows}
-use Rattle.dtx_model.specs.Outcome.{can_own, doubt, durables, evidence, is_complete, is_empty, is_first_veto, is_lost_owner, is_rollback, is_veto, owner_doubt}
+use Rattle.dtx_values.specs.Clones.{blocks}
+use Rattle.dtx_model.specs.Words.{all_of, has, onto}
+use Rattle.dtx_model.specs.Entries.{clone_of, is_any_hand, is_commit, is_decision, is_promoted, is_sealed, is_vote, is_yes}
+use Rattle.dtx_model.specs.Observed.{observe, rows}
+use Rattle.dtx_model.specs.Outcome.{can_own, durables, evidence, is_complete, is_empty, is_first_veto, is_rollback, is_veto}
 use Rattle.dtx_model.specs.Promotes.{ends_refused, ends_told, is_begun_got, is_created_got, is_promoting, is_refusal, is_under_way}
 use Rattle.dtx_model.specs.Wires.{opens}
 use Rattle.dtx_model.specs.Waiting.{Waiter}
-use Rattle.dtx_model.specs.Half.{Half, decide, enlist_sent, fails_if, info, sees, veto, veto_if, is_promoting as sees_promoting}
-use Rattle.dtx_model.specs.Answers.{class_of, has_promotion, if_begun, unless_ended}
-use Rattle.dtx_model.specs.Facts.{begin_promotion, facts_if, has_facts, is_late, ticked, reaches, time_up}
-use Rattle.dtx_model.proofs.Bools.{and_both, and_left, and_right, not_both, not_false, not_true, or_first, or_right, or_second}
+use Rattle.dtx_model.specs.Half.{enlist_sent, info, veto, veto_if}
+use Rattle.dtx_model.specs.Facts.{begin_promotion}
+use Rattle.dtx_model.proofs.Bools.{and_both, and_left, not_both, not_false, or_right}
 use Rattle.outcome_law.proofs.Tests.{eq_self, five_hold, four_hold, or_between}
-use Rattle.outcome_law.proofs.Scans.{each_more, has_less}
+use Rattle.outcome_law.proofs.Scans.{each_more}
 use Rattle.outcome_law.proofs.Picks.{none_each}
-use Rattle.outcome_law.proofs.Rule.{is_answer, is_cloned, is_enlisted}
-use Rattle.outcome_law.proofs.TableRows.{none_there, unvoted_unwell}
+use Rattle.outcome_law.proofs.Rule.{is_cloned, is_enlisted}
 use Rattle.outcome_law.proofs.Going.{all_closed, closed_step}
-use Rattle.outcome_law.proofs.Owned.{any_hand_seen}
-use Rattle.outcome_law.proofs.Rules.{undecided}
-use Rattle.outcome_law.proofs.Table.{but_failed, calls_off, class_row, decision_row, ends_called_off, have_come, is_lost_there, is_of_conn, is_volatile_conn, message_row, rule, stands_volatile}
+use Rattle.outcome_law.proofs.Table.{but_failed, calls_off, class_row, ends_called_off, have_come, is_lost_there, is_of_conn, is_volatile_conn, rule, stands_volatile}
 use Rattle.outcome_law.proofs.Keeping.{Keeps, before, fifth_of_five}
 use Rattle.outcome_law.proofs.Sendings.{opened_promoting}
-use Rattle.outcome_law.proofs.Recording.{commit_if_sealed, come_if_promoted, promoted_if_yes, promoting_if_promoted, sealed_if_yes}
+use Rattle.outcome_law.proofs.Recording.{commit_if_sealed, sealed_if_yes}
 use Rattle.outcome_law.proofs.Evident.{sealed_if_handed, unsealed_open}
-use Rattle.outcome_law.proofs.HalfRows.{commit_vetoed, unenlisted_unvoted, volatile_stands}
-use Rattle.outcome_law.proofs.HalfKnows.{way_seen}
-use Rattle.outcome_law.proofs.Deciding.{decide_decides, decide_keeps, decided_there, one_more, seen_half, veto_decides, veto_keeps}
-use Rattle.outcome_law.proofs.Undecided.{IsOpen, Stands, all_willing, decided_stand, goes_on, is_going, none_began, stand, unowned_evident, unwilling_open, way_unsealed}
+use Rattle.outcome_law.proofs.HalfRows.{unenlisted_unvoted}
+use Rattle.outcome_law.proofs.Deciding.{one_more, seen_half, veto_decides, veto_keeps}
+use Rattle.outcome_law.proofs.Undecided.{Stands, all_willing, decided_stand, is_going, stand}
 
 -- an entry that vetoes where there was no evidence calls it off
 called_off : (x : Entry) (h : List Entry) → is_veto h x ≡ true → evidence h ≡ false → (not (has is_yes h) || is_lost_there h x) ≡ true → calls_off h x ≡ true

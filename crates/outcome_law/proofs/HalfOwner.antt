@@ -1,5 +1,5 @@
 -- The owner of the commit, by the rows and by the entries of a history that keeps the table and in which no promotion began.
-use Rattle.std.proofs.Common.{◌≡◌, ℕ, ◌==◌, Bool, true, false, ◌&&◌, ◌||◌, List, [], ◌∷◌, Option, Some, None, refl, ◌∙◌, ap, sym}
+use Rattle.std.proofs.Common.{◌≡◌, Bool, true, false, ◌&&◌, ◌||◌, List, [], ◌∷◌, Some, None, refl, ◌∙◌, ap, sym}
 use Rattle.std.specs.Prelude.{not, if◌then◌else◌}
 use Rattle.dtx_values.specs.declared.entry.Ask.TheVariants.{Prepare}
 use Rattle.dtx_values.specs.declared.entry.Entry.{Entry}
@@ -42,7 +42,7 @@ come_promoting e h k g = opened_promoting (OnEnl e) h k (opened_if_got (OnEnl e)
 enlisted_class : (e : EnlNo) (c : Class) (h : List Entry) → Keeps h → has is_promoting h ≡ false → rule h (Enlisted e c) ≡ true → (is_volatile c || (can_own c && is_empty (durables h))) ≡ true
 enlisted_class e c h k u r =
     let row : class_row h e.value c ≡ true =
-        fourth_of_five (not (has is_decision h)) (not (has is_sealed h)) (not (has (is_enlisted e.value) h)) (class_row h e.value c) (not (is_volatile c && has (opens (OnEnl e)) h)) r in
+    fourth_of_five (not (has is_decision h)) (not (has is_sealed h)) (not (has (is_enlisted e.value) h)) (class_row h e.value c) (not (is_volatile c && has (opens (OnEnl e)) h)) r in
     step (is_volatile c) (has (is_enlist_got e.value) h) (not (has is_promoting h)) (can_own c) (is_empty (durables h)) (λ g. not_both (has is_promoting h) (come_promoting e h k g) u) row
   where
     step : (v g p o n : Bool) → (g ≡ true → ⊥) → (v || g || (p && o && n)) ≡ true → (v || (o && n)) ≡ true

@@ -1,58 +1,43 @@
 -- The block of each reply that is due keeps the table, promoted or not.
-use Rattle.std.proofs.Common.{◌≡◌, ℕ, ◌==◌, Bool, true, false, ◌&&◌, ◌||◌, List, [], ◌∷◌, Option, Some, None, refl, ◌∙◌, ap, sym, subst, ◌⊎◌, inl, inr}
+use Rattle.std.proofs.Common.{◌≡◌, ℕ, ◌==◌, Bool, true, false, ◌&&◌, List, [], ◌∷◌, Option, Some, None, refl, ◌∙◌, sym, subst, ◌⊎◌, inl, inr}
 use Rattle.std.specs.Prelude.{find, is_some, not, if◌then◌else◌}
-use Rattle.std.proofs.lemmas.Bool.{eqb-true, false_from_ne_true, or_left}
+use Rattle.std.proofs.lemmas.Bool.{eqb-true, false_from_ne_true}
 use Rattle.dtx_values.specs.declared.entry.Entry.{Entry}
-use Rattle.dtx_values.specs.declared.entry.Entry.TheVariants.{Acked, OwnerAnswered, PromoteReply, Requested, Sent, Voted}
-use Rattle.dtx_values.specs.declared.entry.Request.{Request}
+use Rattle.dtx_values.specs.declared.entry.Entry.TheVariants.{Sent, Voted}
 use Rattle.dtx_values.specs.declared.message.Conn.{Conn}
-use Rattle.dtx_values.specs.declared.message.Conn.TheVariants.{Begin as OnBegin, Voter as OnVoter, Enl as OnEnl, Again}
-use Rattle.dtx_values.specs.declared.message.Dir.TheVariants.{Up, Down}
+use Rattle.dtx_values.specs.declared.message.Conn.TheVariants.{Enl as OnEnl}
+use Rattle.dtx_values.specs.declared.message.Dir.TheVariants.{Up}
 use Rattle.dtx_values.specs.declared.message.Message.{Message}
-use Rattle.dtx_values.specs.declared.message.Message.TheVariants.{BeginBegin, BeginCommit, BeginAbort, EnlistAck, ReenlistAck}
 use Rattle.dtx_values.specs.declared.note.Note.{Note}
 use Rattle.dtx_values.specs.declared.note.Note.TheVariants.{Prepare as PrepareNote, Promote as PromoteNote, Hand as HandNote, Single as SingleNote, Commit as CommitNote}
 use Rattle.dtx_values.specs.declared.note.Reply.{Reply}
 use Rattle.dtx_values.specs.declared.note.Reply.TheVariants.{Vote as VoteReply, Promote as Promotes, Owner as OwnerReply, Ack}
 use Rattle.dtx_values.specs.declared.number.EnlNo.{EnlNo}
-use Rattle.dtx_values.specs.declared.number.RmNo.{RmNo}
 use Rattle.dtx_values.specs.declared.row.Row.{Row}
 use Rattle.dtx_values.specs.declared.words.Class.{Class}
-use Rattle.dtx_values.specs.declared.words.Outcome.{Outcome}
-use Rattle.dtx_values.specs.declared.words.Outcome.TheVariants.{Committed, Aborted, InDoubt}
 use Rattle.dtx_values.specs.declared.words.Vote.{Vote}
-use Rattle.dtx_values.specs.declared.words.Vote.TheVariants.{Yes, No, Done}
-use Rattle.dtx_values.specs.Class.{is_promotable, is_volatile}
+use Rattle.dtx_values.specs.Class.{is_volatile}
 use Rattle.dtx_values.specs.Ends.{knows}
 use Rattle.dtx_values.specs.Lines.{has_line}
 use Rattle.dtx_values.specs.Row.{has_voted, is_marked, is_of}
-use Rattle.dtx_values.specs.Vote.{is_good, is_no}
-use Rattle.dtx_model.specs.Words.{each, has, latest, onto, or_else}
-use Rattle.dtx_model.specs.Entries.{decision_of, is_asked, is_decision, is_good_vote, is_lost, is_vote, is_yes}
-use Rattle.dtx_model.specs.Observed.{ends_of, observe, rows, track}
-use Rattle.dtx_model.specs.Outcome.{enlisted}
+use Rattle.dtx_model.specs.Words.{has, latest, onto, or_else}
+use Rattle.dtx_model.specs.Entries.{decision_of, is_asked, is_decision, is_lost, is_vote}
+use Rattle.dtx_model.specs.Observed.{ends_of, observe, rows}
 use Rattle.dtx_model.specs.Wires.{opens}
-use Rattle.dtx_model.specs.Waiting.{Waiter}
-use Rattle.dtx_model.specs.Half.{Half, is_gone, sees, to_up, veto_if, was_told}
-use Rattle.dtx_model.specs.Replies.{conn_due, due_conn, due_of, fits, is_volatile_row, may_still_vote, note_at, note_of_conn, note_of_row, owes_vote, owes_promotion, owes_outcome, owes_request, reply_entries, row_note, vote_message}
-use Rattle.dtx_model.proofs.Bools.{and_both, and_left, and_right, and_never, not_both, not_false, not_true, or_case, or_false, or_first, or_right, or_second}
+use Rattle.dtx_model.specs.Half.{is_gone, to_up, was_told}
+use Rattle.dtx_model.specs.Replies.{conn_due, due_of, fits, is_volatile_row, may_still_vote, note_of_conn, note_of_row, owes_vote, owes_promotion, owes_outcome, owes_request}
+use Rattle.dtx_model.proofs.Bools.{and_both, and_left, and_right, not_both, not_false, not_true}
 use Rattle.dtx_model.proofs.SameNumbers.{same_enlistment}
-use Rattle.outcome_law.proofs.Tests.{eq_self, eq_swap, five_hold, first_of_three, second_of_three}
-use Rattle.outcome_law.proofs.Scans.{each_both, each_more}
-use Rattle.outcome_law.proofs.Picks.{found_at, has-at, none_each}
-use Rattle.outcome_law.proofs.Rule.{is_enlisted, is_volatile_of}
-use Rattle.outcome_law.proofs.Rules.{undecided}
+use Rattle.outcome_law.proofs.Tests.{five_hold, first_of_three, second_of_three}
+use Rattle.outcome_law.proofs.Picks.{found_at, has-at}
+use Rattle.outcome_law.proofs.Rule.{is_enlisted}
 use Rattle.outcome_law.proofs.Owned.{decision_seen, has_rows}
-use Rattle.outcome_law.proofs.TableRows.{unvoted_unwell}
-use Rattle.outcome_law.proofs.Table.{is_cast, message_row, rule, stands_volatile}
-use Rattle.outcome_law.proofs.Keeping.{Keeps}
-use Rattle.outcome_law.proofs.Recording.{well_if_yes}
+use Rattle.outcome_law.proofs.Table.{message_row, rule, stands_volatile}
 use Rattle.outcome_law.proofs.Standing.{unvolatile_if_opened}
 use Rattle.outcome_law.proofs.HalfRows.{row_marked, row_voted, rows_enlisted}
 use Rattle.outcome_law.proofs.HalfKnows.{known_opened}
-use Rattle.outcome_law.proofs.Deciding.{one_more, seen_half, sent_keeps, to_up_keeps}
-use Rattle.outcome_law.proofs.Undecided.{Stands, all_willing, decided_stand, goes_on, is_going, is_willing, stand, unwilling_open}
-use Rattle.outcome_law.proofs.HalfCalls.{veto_stands}
+use Rattle.outcome_law.proofs.Deciding.{to_up_keeps}
+use Rattle.outcome_law.proofs.Undecided.{Stands, is_going}
 
 -- a message that is sent where the connection is known keeps it
 pub to_up_stands : (g h : List Entry) (c : Conn) (m : Message) → Stands h → has_line c Up m ≡ true → (has (opens c) g ≡ true → has (opens c) h ≡ true) → message_row h c m ≡ true

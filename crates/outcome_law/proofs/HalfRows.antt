@@ -1,6 +1,6 @@
 -- The rows of enlistments and clones, and what they have to do with the entries of a history that keeps the table, promoted or not.
-use Rattle.std.proofs.Common.{◌≡◌, ℕ, ◌==◌, Bool, true, false, ◌&&◌, ◌||◌, List, [], ◌∷◌, Option, Some, None, refl, ◌∙◌, ap, sym, subst}
-use Rattle.std.specs.Prelude.{is_some, not, if◌then◌else◌}
+use Rattle.std.proofs.Common.{◌≡◌, ℕ, ◌==◌, Bool, true, false, ◌&&◌, ◌||◌, List, [], ◌∷◌, Some, None, refl, ◌∙◌, ap, sym, subst}
+use Rattle.std.specs.Prelude.{not, if◌then◌else◌}
 use Rattle.std.specs.List.{slice_get}
 use Rattle.std.proofs.Math.Bool.{or-false}
 use Rattle.dtx_values.specs.declared.number.CloneNo.{CloneNo}
@@ -11,27 +11,26 @@ use Rattle.dtx_values.specs.declared.entry.Entry.TheVariants.{Cloned, Completed,
 use Rattle.dtx_values.specs.declared.row.CloneRow.{CloneRow}
 use Rattle.dtx_values.specs.declared.words.Class.{Class}
 use Rattle.dtx_values.specs.declared.words.CloneKind.{CloneKind}
-use Rattle.dtx_values.specs.declared.words.CloneKind.TheVariants.{Block, Rollback}
 use Rattle.dtx_values.specs.declared.words.Vote.{Vote}
 use Rattle.dtx_values.specs.Row.{is_of, is_marked, has_voted, number_of, fresh_row, unless_there, mark_row, vote_row}
 use Rattle.dtx_values.specs.declared.row.Row.{Row}
 use Rattle.dtx_values.specs.Table.{marks}
 use Rattle.dtx_values.specs.Clones.{is_clone, blocks, is_open_block, is_open_rollback}
-use Rattle.dtx_model.specs.Words.{has, each, latest, or_else, all_of}
+use Rattle.dtx_model.specs.Words.{has, each, latest, all_of}
 use Rattle.dtx_model.specs.Entries.{is_decision, is_sealed, is_commit, clone_of, is_completed, is_asked, is_vote, is_good_vote}
 use Rattle.dtx_model.specs.Observed.{rows, clone_rows}
-use Rattle.dtx_model.specs.Outcome.{can_own, durables, enlisted, is_complete, is_empty, is_rollback, is_veto}
+use Rattle.dtx_model.specs.Outcome.{enlisted, is_complete, is_rollback, is_veto}
 use Rattle.dtx_model.specs.Seen.{vote_of, IsCloneSeen}
 use Rattle.dtx_values.specs.Class.{is_zero, is_volatile}
 use Rattle.dtx_values.specs.Waves.{all_voted, zeros_voted}
 use Rattle.dtx_values.specs.Vote.{voted_well, is_good}
 use Rattle.dtx_model.proofs.Bools.{and_right, or_false, or_second, or_right, not_true}
-use Rattle.outcome_law.proofs.Tests.{eq_self, eq_swap, apart, second_of_four, third_of_four, fourth_of_four, third_of_five}
-use Rattle.outcome_law.proofs.Lists.{OfEach, of-at, of-more, of-map, of-insert, of-behind, of-all, each_same, has_same, each_kept, has_kept, if_kept, each-insert, has-insert, each-behind, has-behind}
+use Rattle.outcome_law.proofs.Tests.{eq_self, eq_swap, apart, third_of_five}
+use Rattle.outcome_law.proofs.Lists.{OfEach, of-at, of-more, of-map, of-insert, of-behind, of-all, each_same, has_same}
 use Rattle.outcome_law.proofs.Rule.{is_enlisted, is_cloned, zeros_cast}
 use Rattle.outcome_law.proofs.TableRows.{each_rows, there, none_there, unvoted_unwell}
 use Rattle.outcome_law.proofs.Table.{rule}
-use Rattle.outcome_law.proofs.Keeping.{Keeps, before, keeps_before, newest}
+use Rattle.outcome_law.proofs.Keeping.{Keeps, keeps_before, newest}
 use Rattle.std.proofs.lemmas.Bool.{eqb-true, false_from_ne_true, or_left}
 use Rattle.dtx_values.specs.declared.entry.Entry.TheVariants.{Got}
 use Rattle.dtx_values.specs.declared.message.Conn.TheVariants.{Begin, Enl as OnEnl}

@@ -46,7 +46,7 @@ unenlisted_unlost e (Lost f ∷ h) r n =
 unenlisted_unlost e (x ∷ h) r n = unenlisted_unlost e h (other_rules x h r) n
 
 -- the same test, the other way round
-swapped : (e n : ℕ) (a b : Bool) → a ≡ b → ((e == n) || a) ≡ ((n == e) || b)
+pub swapped : (e n : ℕ) (a b : Bool) → a ≡ b → ((e == n) || a) ≡ ((n == e) || b)
 swapped e n a b k = ap (λ c. c || a) (eq_swap e n) ∙ ap (λ c. (n == e) || c) k
 
 -- each listener says what the history shows

@@ -6,11 +6,11 @@ use Rattle.std.proofs.lemmas.Bool.{false_from_ne_true, or_left}
 use Rattle.dtx_values.specs.declared.entry.Entry.{Entry}
 use Rattle.dtx_values.specs.declared.entry.Entry.TheVariants.{Cut, Got, Sent, Stopped}
 use Rattle.dtx_values.specs.declared.message.Conn.{Conn}
-use Rattle.dtx_values.specs.declared.message.Conn.TheVariants.{Voter, Enl}
+use Rattle.dtx_values.specs.declared.message.Conn.TheVariants.{Begin, Voter, Enl}
 use Rattle.dtx_values.specs.declared.message.Dir.{Dir}
 use Rattle.dtx_values.specs.declared.message.Dir.TheVariants.{Up, Down}
 use Rattle.dtx_values.specs.declared.message.Message.{Message}
-use Rattle.dtx_values.specs.declared.message.Message.TheVariants.{VoterVoter, EnlistEnlist}
+use Rattle.dtx_values.specs.declared.message.Message.TheVariants.{BeginBegin, VoterVoter, EnlistEnlist}
 use Rattle.dtx_values.specs.Ends.{same_connection, same_direction}
 use Rattle.dtx_values.specs.Lines.{has_line, is_opening}
 use Rattle.dtx_model.specs.Words.{has}
@@ -56,7 +56,7 @@ open_opened c h x None e = opened_none (opens c x) (is_stopped h) e
 open_opened c h x (Some l) e = opened_some (opens c x) (is_stopped h) (l || loses c x) e
 
 -- a message that opens this connection is an opening of it
-opening_of : (c e : Conn) (r : Dir) (m : Message) → opens c (Sent e r m) ≡ true → is_opening c m ≡ true
+pub opening_of : (c e : Conn) (r : Dir) (m : Message) → opens c (Sent e r m) ≡ true → is_opening c m ≡ true
 opening_of c e Up m t =
     let P : Conn → Type 0 = λ y. is_opening y m ≡ true in subst P (sym (same_conn_is c e (and_left (same_connection c e) (is_opening e m) t))) (and_right (same_connection c e) (is_opening e m) t)
 opening_of c e Down m t = absurd cc
@@ -198,11 +198,12 @@ pub opening_was_sent : (c : Conn) (h : List Entry) → WireRun h → has (is_ope
 opening_was_sent c h w t =
     has_more (is_sent_on c Up (is_opening c)) (opens c) (sent_opens c) h (was_sent c Up (is_opening c) h w (has_more (is_opening_got c) (is_got_on c Up (is_opening c)) (opening_on c) h t))
 
--- The message that opens the voter's connection, or an enlistment's: none is on the way but the first, and none once it came.
+-- The message that opens b, the voter's connection or an enlistment's: none is on the way but the first, and none once it came.
 abbrev is_once : Conn → Bool → List Message → Bool
 is_once c g ms = not (has (is_opening c) (if g then ms else without_first ms))
 
-abbrev is_single : Conn → Bool
+abbrev pub is_single : Conn → Bool
+is_single Begin = true
 is_single Voter = true
 is_single (Enl e) = true
 is_single _ = false
@@ -282,6 +283,7 @@ once_cut c true false u ms t = not_false (has (is_opening c) (without_first (tak
 
 -- such a message is sent once
 single_row : (c : Conn) (m : Message) (h : List Entry) → is_single c ≡ true → is_opening c m ≡ true → message_row h c m ≡ true → has (opens c) h ≡ false
+single_row Begin BeginBegin h s o r = not_true (has (opens Begin) h) r
 single_row Voter (VoterVoter u) h s o r = not_true (has (opens Voter) h) (and_right (has is_begun_got h) (not (has (opens Voter) h)) r)
 single_row (Enl e) (EnlistEnlist i) h s o r = not_true (has (opens (Enl e)) h) (third_of_four (e.value == i.enl.value) (has is_begun_got h) (not (has (opens (Enl e)) h)) _ r)
 single_row _ _ h s o r = absurd cc

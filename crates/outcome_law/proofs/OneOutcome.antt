@@ -51,7 +51,7 @@ evident_more x h k d e = step (has is_promoted h) refl
     step true p = evidence_if_record (x ∷ h) k (or_right (is_record x) (has is_record h) (evident_record h p e))
     step false p = evidence_same x h (newest x h k) d p ∙ e
 
-decided_evident : (h : List Entry) → Keeps h → latest decision_of h ≡ Some Committed → evidence h ≡ true
+pub decided_evident : (h : List Entry) → Keeps h → latest decision_of h ≡ Some Committed → evidence h ≡ true
 unfolding evidence ready by_seal by_owner by_log
 decided_evident [] k d = absurd cc
 decided_evident (Decided Committed ∷ h) k d =
@@ -71,7 +71,7 @@ brought_aborted e (Got (OnEnl f) Down EnlistAbort ∷ h) k t = aborted_more (Got
 brought_aborted e (Got (Again f) Down ReenlistAborted ∷ h) k t = aborted_more (Got (Again f) Down ReenlistAborted) h (aborted_by_got (Again f) ReenlistAborted h k refl)
 brought_aborted e _ k t = absurd cc
 
-heard_record : (p : Party) (h : List Entry) → Keeps h → hears_here h p Committed ≡ true → has is_record h ≡ true
+pub heard_record : (p : Party) (h : List Entry) → Keeps h → hears_here h p Committed ≡ true → has is_record h ≡ true
 heard_record Client h k t = absurd cc
 heard_record (Enl e) h k t = brought_record e.value h k (brings_is h t)
   where
@@ -88,7 +88,7 @@ heard_aborted (Enl e) h k t = brought_aborted e.value h k (brings_is h t)
     brings_is (x ∷ h) t = t
 
 -- nobody hears of doubt over a connection
-heard_doubt : (p : Party) (h : List Entry) → hears_here h p InDoubt ≡ true → ⊥
+pub heard_doubt : (p : Party) (h : List Entry) → hears_here h p InDoubt ≡ true → ⊥
 heard_doubt Client h t = absurd cc
 heard_doubt (Enl e) [] t = absurd cc
 heard_doubt (Enl e) (x ∷ h) t = absurd cc

@@ -1,28 +1,27 @@
 -- What stands at the end of each block while nothing is decided, promoted or not: no volatile refused, no owner answered, no clone is open that makes a commit a veto,
 -- no promotion failed, and the coordinator sent no outcome. And where there is no evidence then.
-use Rattle.std.proofs.Common.{◌≡◌, ◌==◌, ℕ, Bool, true, false, ◌&&◌, ◌||◌, List, [], ◌∷◌, ◌++◌, Option, Some, None, refl, ◌∙◌, ap, sym, subst}
-use Rattle.std.specs.Prelude.{not, filter, is_some, if◌then◌else◌}
+use Rattle.std.proofs.Common.{◌≡◌, ◌==◌, ℕ, Bool, true, false, ◌&&◌, ◌||◌, List, [], ◌∷◌, ◌++◌, refl, ◌∙◌, ap, sym, subst}
+use Rattle.std.specs.Prelude.{not, filter, if◌then◌else◌}
 use Rattle.std.proofs.lemmas.List.Folds.{list_all-append}
-use Rattle.std.proofs.lemmas.Bool.{eqb-true, false_from_ne_true, or_left}
+use Rattle.std.proofs.lemmas.Bool.{false_from_ne_true, or_left}
 use Rattle.dtx_values.specs.declared.entry.Entry.{Entry}
 use Rattle.dtx_values.specs.declared.entry.Entry.TheVariants.{Handed, OwnerAnswered}
 use Rattle.dtx_values.specs.declared.number.EnlNo.{EnlNo}
-use Rattle.dtx_values.specs.declared.row.Row.{Row}
 use Rattle.dtx_values.specs.declared.words.Class.{Class}
 use Rattle.dtx_values.specs.declared.words.Outcome.TheVariants.{Committed}
 use Rattle.dtx_values.specs.Class.{is_volatile}
 use Rattle.dtx_values.specs.Owners.{is_evident}
-use Rattle.dtx_model.specs.Words.{each, has, latest, onto}
+use Rattle.dtx_model.specs.Words.{each, has, latest}
 use Rattle.dtx_model.specs.Entries.{handed_of, is_any_hand, is_commit, is_decision, is_good_vote, is_hand, is_owner, is_promoted, is_record, is_sealed, is_vote, is_yes}
 use Rattle.dtx_model.specs.Outcome.{by_log, by_owner, by_seal, can_own, durables, enlisted, evidence, is_empty, is_outcome_got, owner_committed, ready, volatiles, voters}
 use Rattle.dtx_model.specs.Observed.{observe, rows}
 use Rattle.dtx_model.specs.Promotes.{is_failed, is_promoting, is_under_way}
 use Rattle.dtx_model.specs.Half.{is_handed}
-use Rattle.dtx_model.specs.Tied.{is_tied, tied}
+use Rattle.dtx_model.specs.Tied.{is_tied}
 use Rattle.dtx_model.specs.Wires.{MayCross}
 use Rattle.dtx_model.specs.Answers.{has_promotion}
-use Rattle.dtx_model.proofs.Bools.{and_both, and_left, and_right, not_both, not_false, not_true, or_case, or_false, or_first, or_right, or_second}
-use Rattle.outcome_law.proofs.Tests.{second_of_five, third_of_four, first_of_three, second_of_three}
+use Rattle.dtx_model.proofs.Bools.{and_both, and_left, and_right, not_both, not_false, not_true, or_case, or_first, or_second}
+use Rattle.outcome_law.proofs.Tests.{third_of_four, first_of_three, second_of_three}
 use Rattle.outcome_law.proofs.Scans.{each_more, has_less, has_more}
 use Rattle.outcome_law.proofs.Rule.{is_answer, is_enlisted, is_only}
 use Rattle.outcome_law.proofs.Going.{all_closed, enlisted_passes}
@@ -30,8 +29,7 @@ use Rattle.outcome_law.proofs.Evidence.{hand_any}
 use Rattle.outcome_law.proofs.Owned.{empty_list}
 use Rattle.outcome_law.proofs.Table.{rule}
 use Rattle.outcome_law.proofs.Keeping.{Keeps, fifth_of_five, keeps_before, newest}
-use Rattle.outcome_law.proofs.Recording.{promoted_if_sealed, promoting_if_promoted, yes_if_record}
-use Rattle.outcome_law.proofs.Evident.{evident_record, good_voted}
+use Rattle.outcome_law.proofs.Recording.{promoted_if_sealed, yes_if_record}
 use Rattle.outcome_law.proofs.HalfRows.{evident_seen}
 use Rattle.outcome_law.proofs.HalfKnows.{way_seen}
 use Rattle.outcome_law.proofs.Deciding.{one_more}
@@ -202,7 +200,7 @@ pub unwilling_open : (h : List Entry) (e : ℕ) → has (is_enlisted e) h ≡ tr
 unwilling_open h e s v u =
     false_from_ne_true (evidence h) (λ k. let r = ready_there h k in by_evidence h k (record {
       seal = λ p q n. not_both (has (is_good_vote e) h) (enlisted_passes (λ f. has (is_good_vote f) h) e h
-        (each_more (λ x. is_volatile x.1 && has (is_good_vote x.0.value) h) (λ x. has (is_good_vote x.0.value) h) (λ x. and_right (is_volatile x.1) (has (is_good_vote x.0.value) h)) (enlisted h) (local_well h p r n)) s) v;
+          (each_more (λ x. is_volatile x.1 && has (is_good_vote x.0.value) h) (λ x. has (is_good_vote x.0.value) h) (λ x. and_right (is_volatile x.1) (has (is_good_vote x.0.value) h)) (enlisted h) (local_well h p r n)) s) v;
       owner = λ o. not_both (has is_answer h) (owner_answered h (durables h) o) u;
       log = λ p l. not_both (has (is_good_vote e) h) (enlisted_passes (λ f. has (is_good_vote f) h) e h (promoted_well h p r) s) v;
     }))

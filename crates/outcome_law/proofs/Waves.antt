@@ -47,7 +47,7 @@ marked_step false false true rest = refl
 marked_step h m false rest = refl
 
 -- after an ask to prepare, each marked row passes v where the asked one passes, if it stands there, and each marked row passed before
-each-marked : (e n : ℕ) (v : ℕ → Bool) (xs : List Row) → each (passes_marked v) (map (marked e n) xs) ≡ ((not (has (is_of e) xs) || v e) && each (passes_marked v) xs)
+pub each-marked : (e n : ℕ) (v : ℕ → Bool) (xs : List Row) → each (passes_marked v) (map (marked e n) xs) ≡ ((not (has (is_of e) xs) || v e) && each (passes_marked v) xs)
 each-marked e n v [] = refl
 each-marked e n v (x ∷ xs) =
     ap (λ b. passes_marked v (marked e n x) && b) (each-marked e n v xs) ∙ step e n v x (has (is_of e) xs) (each (passes_marked v) xs) (is_of e x) refl
@@ -73,7 +73,7 @@ all_asked v (Voted e w ∷ h) r =
 all_asked v (x ∷ h) r = all_asked v h (other_rules x h r)
 
 -- the marks that stand keep standing
-marks_more : (e n : ℕ) (xs : List Row) → marks xs ≤ marks (map (marked e n) xs)
+pub marks_more : (e n : ℕ) (xs : List Row) → marks xs ≤ marks (map (marked e n) xs)
 marks_more e n [] = omega arith
 marks_more e n (x ∷ xs) = step (is_of e x) x n (marks xs) (marks (map (marked e n) xs)) (marks_more e n xs)
   where
@@ -132,7 +132,7 @@ asked_below n m x false l more w = mark x.asked n m l w
     mark None n m l w = refl
 
 -- each mark is below their number
-marks_below : (h : List Entry) → OfEach (IsBelow (marks (rows h))) (rows h)
+pub marks_below : (h : List Entry) → OfEach (IsBelow (marks (rows h))) (rows h)
 marks_below [] = tt
 marks_below (Enlisted e c ∷ h) =
     let n = marks (rows h) in
@@ -167,11 +167,11 @@ later_mark a n (Some k) l = refl
 later_mark a n None l = grind (arith, nat_tests)
 
 -- after an ask to prepare, those that are marked before stay the same
-asked_kept : (e n a : ℕ) (v : ℕ → Bool) (x : Row) → a ≤ n → passes_before a v (marked e n x) ≡ passes_before a v x
+pub asked_kept : (e n a : ℕ) (v : ℕ → Bool) (x : Row) → a ≤ n → passes_before a v (marked e n x) ≡ passes_before a v x
 asked_kept e n a v x l = if_kept (passes_before a v) (is_of e x) (mark_row n x) x (ap (λ b. not b || v x.number.value) (later_mark a n x.asked l))
 
 -- a wave is a wave of the row after an ask or a vote
-own_wave : (h : List Entry) (b : Bool) (y x : Row) → y.number ≡ x.number → y.added ≡ x.added → IsWave h x → IsWave h (if b then y else x)
+pub own_wave : (h : List Entry) (b : Bool) (y x : Row) → y.number ≡ x.number → y.added ≡ x.added → IsWave h x → IsWave h (if b then y else x)
 own_wave h true y x same_name same_place w =
     record {
       behind = subst (λ n. n ≤ marks (rows h)) (sym same_place) w.behind;

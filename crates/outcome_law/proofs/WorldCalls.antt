@@ -1,6 +1,6 @@
 -- The block of each call that may come keeps the table, promoted or not.
-use Rattle.std.proofs.Common.{◌≡◌, ℕ, Bool, true, false, ◌&&◌, ◌||◌, List, [], ◌∷◌, Option, Some, None, refl, ◌∙◌, ap, sym, subst}
-use Rattle.std.specs.Prelude.{is_some, length, map, nat_le, not, if◌then◌else◌}
+use Rattle.std.proofs.Common.{◌≡◌, ℕ, ◌==◌, Bool, true, false, ◌&&◌, ◌||◌, List, [], ◌∷◌, Option, Some, None, refl, ◌∙◌, ap, sym, subst}
+use Rattle.std.specs.Prelude.{find, is_some, length, map, not, if◌then◌else◌}
 use Rattle.std.proofs.lemmas.Bool.{false_from_ne_true, or_left}
 use Rattle.dtx_values.specs.declared.number.ActorNo.{ActorNo}
 use Rattle.dtx_values.specs.declared.number.EnlNo.{EnlNo}
@@ -12,11 +12,14 @@ use Rattle.dtx_values.specs.declared.call.Call.{Call}
 use Rattle.dtx_values.specs.declared.call.Call.TheVariants.{Begin, Volatile, Durable, Promotable, Clone, Complete, Commit, Rollback, Marshal, Status, Await, Tick, Do, Lose, Gone, Reenlist, Recovered}
 use Rattle.dtx_values.specs.declared.limits.TheConstants.{CALLS, DURABLES, ENLISTMENTS}
 use Rattle.dtx_values.specs.declared.entry.Answer.{Answer}
-use Rattle.dtx_values.specs.declared.entry.Answer.TheVariants.{Fine, True, False, Wait, Id, Many, TooLate, NotBegun}
+use Rattle.dtx_values.specs.declared.entry.Answer.TheVariants.{Fine, True, False, Wait, Id, Many, TooLate, NotBegun, NoSuch, Finished, Over, Connected}
 use Rattle.dtx_values.specs.declared.entry.Entry.{Entry}
-use Rattle.dtx_values.specs.declared.entry.Entry.TheVariants.{Called, Began, Clock, Cloned, CommitAsked, Completed, RollbackAsked, Cut, Enlisted, Init, Late, Lost, OwnerAnswered, Recovered as RecoveredEntry, TimedOut}
+use Rattle.dtx_values.specs.declared.entry.Entry.TheVariants.{Called, Began, Clock, Cloned, CommitAsked, Completed, RollbackAsked, Enlisted, Got, Init, Late, Lost, OwnerAnswered, Reenlisted, Sent, Recovered as RecoveredEntry, TimedOut}
 use Rattle.dtx_values.specs.declared.message.Conn.{Conn}
-use Rattle.dtx_values.specs.declared.message.Conn.TheVariants.{Enl as OnEnl}
+use Rattle.dtx_values.specs.declared.message.Conn.TheVariants.{Again, Enl as OnEnl}
+use Rattle.dtx_values.specs.declared.message.Dir.TheVariants.{Up, Down}
+use Rattle.dtx_values.specs.declared.message.Message.TheVariants.{EnlistEnlisted, ReenlistReenlist}
+use Rattle.dtx_values.specs.Ends.{is_in}
 use Rattle.dtx_values.specs.declared.words.Cause.{Cause}
 use Rattle.dtx_values.specs.declared.words.Cause.TheVariants.{Marshal as MarshalCause}
 use Rattle.dtx_values.specs.declared.words.Class.TheVariants.{DurableSingle, Promotable as PromotableClass}
@@ -32,15 +35,17 @@ use Rattle.dtx_values.specs.Support.{is_single}
 use Rattle.dtx_values.specs.Table.{voted}
 use Rattle.dtx_model.specs.Words.{each, has, latest, onto}
 use Rattle.dtx_model.specs.Entries.{began_of, decision_of, handed_of, is_any_hand, is_any_owner, is_commit, is_decision, is_good_vote, is_hand, is_promoted, is_sealed, is_vote, is_yes}
-use Rattle.dtx_model.specs.Observed.{clock, clone_rows, observe, rows, track}
-use Rattle.dtx_model.specs.Outcome.{by_log, by_owner, by_seal, doubt, durables, enlisted, evidence, is_empty, is_lost_owner, is_veto, owner_doubt, ready}
-use Rattle.dtx_model.specs.Promotes.{identifier_of, is_begun_got, is_promoting, is_under_way}
-use Rattle.dtx_model.specs.Wires.{opens}
+use Rattle.dtx_model.specs.Observed.{branches, clock, clone_rows, is_branch, observe, rows, track}
+use Rattle.dtx_model.specs.Outcome.{by_log, by_owner, by_seal, doubt, enlisted, evidence, is_lost_owner, owner_doubt, ready}
+use Rattle.dtx_model.specs.Promotes.{identifier_of, is_enlisted_got, is_promoting, is_under_way}
+use Rattle.dtx_model.specs.Wires.{is_ended, opens}
+use Rattle.dtx_model.specs.History.{is_loss}
+use Rattle.dtx_model.specs.declared.branch.Branch.{Branch}
 use Rattle.dtx_model.specs.Waiting.{Waiter, managed, waiting}
-use Rattle.dtx_model.specs.Half.{Half, decide, enlist_sent, fails_if, is_gone, is_handed, sees, veto, veto_if, is_promoting as sees_promoting}
+use Rattle.dtx_model.specs.Half.{decide, enlist_sent, fails_if, info, is_gone, is_handed, sees, veto, veto_if, is_promoting as sees_promoting}
 use Rattle.dtx_model.specs.Answers.{class_of, clone_answer, marshal_answer, promotable_answer, volatile_answer, complete_answer, gone_answer, has_promotion, if_begun, is_crowded, is_full, is_full_of_durables, limit_of, local_answer, unless_ended, unless_late, wait_for}
-use Rattle.dtx_model.specs.Facts.{begin_promotion, tick_facts, durable_facts, durable_waits, facts_if, has_facts, is_late, ticked, reaches, time_up}
-use Rattle.dtx_model.specs.World.{World, answer_at, core, cut, cut_upward, facts_at, gone_by, half, open_ones}
+use Rattle.dtx_model.specs.Facts.{begin_promotion, tick_facts, durable_facts, durable_waits, facts_if, has_facts, is_late, ticked, reaches}
+use Rattle.dtx_model.specs.World.{World, answer_at, branch_answer, core, cut, cut_upward, gone_by, half, has_left, is_connected, is_finished_there, is_linked, open_ones, reenlist_answer, reenlist_by, reenlist_facts, unless_stopped, was_opened}
 use Rattle.dtx_model.specs.Steps.{called}
 use Rattle.dtx_model.proofs.Bools.{and_both, and_left, and_never, and_right, not_both, not_false, not_true, or_case, or_false, or_first, or_right, or_second}
 use Rattle.dtx_model.proofs.Narrow.{is_done}
@@ -52,14 +57,17 @@ use Rattle.outcome_law.proofs.TableRows.{clone_stands, enlisted_in_rows, none_th
 use Rattle.outcome_law.proofs.Going.{enlisted_passes}
 use Rattle.outcome_law.proofs.Evidence.{hand_any}
 use Rattle.outcome_law.proofs.Owned.{any_hand_seen, decision_seen, none_lasting}
-use Rattle.outcome_law.proofs.Table.{decision_row, is_enlist_got, is_lost_there, stands_volatile, volatiles_well}
-use Rattle.outcome_law.proofs.Keeping.{Keeps}
+use Rattle.outcome_law.proofs.Table.{decision_row, is_enlist_got, is_lost_there, stands_volatile}
+use Rattle.outcome_law.proofs.Keeping.{Keeps, arrived}
+use Rattle.outcome_law.proofs.Sendings.{got_promoting}
+use Rattle.outcome_law.proofs.Tests.{eq_self}
+use Rattle.outcome_law.proofs.Reenlisted.{branches_got, ended_loss, opened_since}
 use Rattle.outcome_law.proofs.Recording.{come_if_promoted, promoted_if_yes, promoting_if_promoted, well_if_yes}
-use Rattle.outcome_law.proofs.Evident.{good_voted, sealed_if_handed}
+use Rattle.outcome_law.proofs.Evident.{sealed_if_handed}
 use Rattle.outcome_law.proofs.HalfRows.{commit_vetoed, volatile_stands}
 use Rattle.outcome_law.proofs.HalfVotes.{vote_seen}
 use Rattle.outcome_law.proofs.HalfKnows.{way_seen}
-use Rattle.outcome_law.proofs.Deciding.{decide_decides, decide_keeps, decided_there, one_more, seen_half}
+use Rattle.outcome_law.proofs.Deciding.{decide_decides, decide_keeps, decided_there, seen_half}
 use Rattle.outcome_law.proofs.Undecided.{Stands, decided_stand, goes_on, hand_seen, none_began, stand, unowned_evident, unwilling_open, way_unsealed}
 use Rattle.outcome_law.proofs.HalfCalls.{begin_stands, begun_if_promoted, call_alone, cloned_stands, commit_stands, completed_stands, enlist_stands, enlisted_stands, owner_row, rollback_stands, timeout_stands, veto_stands}
 
@@ -328,52 +336,121 @@ gone_call t w n a e y k f = done_by y n a w.past (gone_by w e (open_ones w e)) k
     step (c ∷ cs) s =
         cuts_stand w.past (c ∷ cs) (Lost e ∷ Called n a y ∷ w.past) (lost_alone (Called n a y ∷ w.past) e (call_alone n a y w.past k) (sym (enlisted_in_rows e.value w.past) ∙ s))
 
--- The entries of each call that may come keep it. Of a reenlistment that is shown elsewhere.
-pub call_stands : (t : ℕ) (w : World) (n : ℕ) (a : ActorNo) (c : Call) (m : ℕ) → Stands w.past → makes_new w.past c ≡ true
-    → ((e : EnlNo) → c ≡ Reenlist e → Stands (onto w.past (called t w n a c (answer_at t w c m)))) → Stands (onto w.past (called t w n a c (answer_at t w c m)))
+-- A reenlistment.
+enlisted_promoting : (n : ℕ) (x : Entry) (h : List Entry) → Keeps (x ∷ h) → is_enlisted_got n x ≡ true → has is_promoting h ≡ true
+enlisted_promoting n (Got (OnEnl f) Down EnlistEnlisted) h k t = got_promoting (OnEnl f) Down EnlistEnlisted h k
+enlisted_promoting n _ h k t = absurd cc
+
+promoting_if_enlisted : (n : ℕ) (h : List Entry) → Keeps h → has (is_enlisted_got n) h ≡ true → has is_promoting h ≡ true
+promoting_if_enlisted n h k s =
+    arrived (is_enlisted_got n) (λ g. has is_promoting g) (λ x g t. or_right (is_promoting x) (has is_promoting g) t) (enlisted_promoting n) h k s
+
+branch_done : (a f v c : Bool) (r : RmNo) (e : EnlNo) (x : Answer) → has_facts (if not a then NoSuch else if f then Finished else if v then Over r else if c then Connected e else x) ≡ true → (a ≡ true) × (c ≡ false)
+branch_done false f v c r e x k = absurd cc
+branch_done true true v c r e x k = absurd cc
+branch_done true false true c r e x k = absurd cc
+branch_done true false false true r e x k = absurd cc
+branch_done true false false false r e x k = (refl, refl)
+
+unlinked_row : (e : EnlNo) (h : List Entry) → Keeps h → is_connected e h ≡ false → (not (has (opens (Again e)) h) || has is_loss h) ≡ true
+unlinked_row e h k u = step (has (opens (Again e)) h) refl
+  where
+    both_ended : (o a b l r : Bool) → o ≡ true → (o && (not (a && b) || l || r)) ≡ false → b ≡ true
+    both_ended false a b l r p q = absurd cc
+    both_ended true true true l r p q = refl
+    both_ended true true false l r p q = absurd cc
+    both_ended true false b l r p q = absurd cc
+
+    step : (b : Bool) → has (opens (Again e)) h ≡ b → (not b || has is_loss h) ≡ true
+    step false o = refl
+    step true o =
+        ended_loss (Again e) h k
+        (both_ended (was_opened (Again e) h) (is_ended (Again e) Up h) (is_ended (Again e) Down h) (has_left (Again e) Up h) (has_left (Again e) Down h) (opened_since (Again e) h o)
+        (or_second (is_linked (OnEnl e) h) (is_linked (Again e) h) u))
+
+found_branch : (p q : Branch → Bool) (bs : List Branch) (b : Branch) → each q bs ≡ true → find p bs ≡ Some b → q b ≡ true
+found_branch p q [] b k e = absurd cc
+found_branch p q (x ∷ bs) b k e = step (p x) e (found_branch p q bs b (and_right (q x) (each q bs) k))
+  where
+    step : (c : Bool) → (if c then Some x else find p bs) ≡ Some b → (find p bs ≡ Some b → q b ≡ true) → q b ≡ true
+    step true e f = let same : x ≡ b = cc in subst (λ z. q z ≡ true) same (and_left (q x) (each q bs) k)
+    step false e f = f e
+
+reenlist_block : (t : ℕ) (h : List Entry) (b : Branch) → Stands h → has (is_enlisted_got b.enlistment.value) h ≡ true → (not (has (opens (Again b.enlistment)) h) || has is_loss h) ≡ true
+    → Stands (onto h (reenlist_facts t (Some b)))
+reenlist_block t h b k g l =
+    let promoting = promoting_if_enlisted b.enlistment.value h k.keeps g in
+    stand (Sent (Again b.enlistment) Up (ReenlistReenlist (info t b.enlistment b.manager))) (Reenlisted b.enlistment ∷ h) refl tt
+    (stand (Reenlisted b.enlistment) h refl tt k g (λ g. g))
+    (and_both (has is_promoting h && true) ((b.enlistment.value == b.enlistment.value) && (not (has (opens (Again b.enlistment)) h) || has is_loss h)) (and_both (has is_promoting h) true promoting refl)
+    (and_both (b.enlistment.value == b.enlistment.value) (not (has (opens (Again b.enlistment)) h) || has is_loss h) (eq_self b.enlistment.value) l)) (λ g. g)
+
+reenlist_call : (t : ℕ) (w : World) (n : ℕ) (a : ActorNo) (e : EnlNo) (l : Option ℕ) → Stands w.past
+    → Stands (onto w.past (called t w n a (Reenlist e) (if_begun l (reenlist_answer w e))))
+unfolding observe
+reenlist_call t w n a e None k = call_alone n a NotBegun w.past k
+reenlist_call t w n a e (Some d) k = step (find (is_branch e.value) (branches w.past)) refl
+  where
+    step : (o : Option Branch) → find (is_branch e.value) (branches w.past) ≡ o
+        → Stands (onto w.past (Called n a (reenlist_by w o) ∷ facts_if (has_facts (reenlist_by w o)) (reenlist_facts t o)))
+    step None q = call_alone n a NoSuch w.past k
+    step (Some b) q =
+        done_by (branch_answer w b) n a w.past (reenlist_facts t (Some b)) k (λ f.
+        let g = branch_done b.enlisted (is_finished_there (half w).seen b.enlistment.value) (is_in b.manager.value (core w).recovered) (is_connected b.enlistment w.past) b.manager b.enlistment (unless_stopped w) f in
+        let got : has (is_enlisted_got b.enlistment.value) w.past ≡ true =
+        got_now b.enlisted (has (is_enlisted_got b.enlistment.value) w.past) g.0
+        (found_branch (is_branch e.value) (λ b. not b.enlisted || has (is_enlisted_got b.enlistment.value) w.past) (branches w.past) b (branches_got w.past) q) in
+        reenlist_block t (Called n a (branch_answer w b) ∷ w.past) b (call_alone n a (branch_answer w b) w.past k) got (unlinked_row b.enlistment w.past k.keeps g.1))
+      where
+        got_now : (d g : Bool) → d ≡ true → (not d || g) ≡ true → g ≡ true
+        got_now true g e k = k
+        got_now false g e k = absurd cc
+
+-- The entries of each call that may come keep it.
+pub call_stands : (t : ℕ) (w : World) (n : ℕ) (a : ActorNo) (c : Call) (m : ℕ) → Stands w.past → makes_new w.past c ≡ true → Stands (onto w.past (called t w n a c (answer_at t w c m)))
 unfolding answer_at local_answer observe track may_own
-call_stands t w n a (Begin u d) m k new f = stand (Began (limit_of d)) (Called n a Fine ∷ w.past) refl tt (call_alone n a Fine w.past k) refl (λ g. g)
-call_stands t w n a (Volatile u e x v) m k new f =
+call_stands t w n a (Begin u d) m k new = stand (Began (limit_of d)) (Called n a Fine ∷ w.past) refl tt (call_alone n a Fine w.past k) refl (λ g. g)
+call_stands t w n a (Volatile u e x v) m k new =
     volatile_call t w n a m 0 e x (answer_at t w (Volatile u e x v) m) k new
     (λ b. let fine = done_behind (latest began_of w.past) (latest decision_of w.past) (volatile_answer (half w)) b in (undecided w.past fine.0, volatile_done (has is_sealed w.past) (is_full (half w)) fine.1))
-call_stands t w n a (Durable u e r x) m k new f = durable_call t w n a m u e r x k new
-call_stands t w n a (Promotable u e r v x p) m k new f =
+call_stands t w n a (Durable u e r x) m k new = durable_call t w n a m u e r x k new
+call_stands t w n a (Promotable u e r v x p) m k new =
     promotable_call t w n a e (answer_at t w (Promotable u e r v x p) m) k new
     (λ b. let fine = done_behind (latest began_of w.past) (latest decision_of w.past) (promotable_answer (half w)) b in
     let g = promotable_done (has is_sealed w.past) (has is_lasting (rows w.past)) (has_promotion (observe w.past)) (is_full (half w)) fine.1 in (undecided w.past fine.0, g.0, g.1, g.2))
-call_stands t w n a (Clone u c d) m k new f =
+call_stands t w n a (Clone u c d) m k new =
     done_by (answer_at t w (Clone u c d) m) n a w.past (Cloned c d ∷ []) k (λ b.
     let fine = done_behind (latest began_of w.past) (latest decision_of w.past) (clone_answer (has is_commit w.past) (length (clone_rows w.past))) b in
     cloned_stands (Called n a (answer_at t w (Clone u c d) m) ∷ w.past) c d (call_alone n a (answer_at t w (Clone u c d) m) w.past k) (undecided w.past fine.0) (clone_done (has is_commit w.past) (length (clone_rows w.past)) fine.1) (not_true (has (is_cloned c.value) w.past) new))
-call_stands t w n a (Complete c) m k new f =
+call_stands t w n a (Complete c) m k new =
     done_by (answer_at t w (Complete c) m) n a w.past (Completed c ∷ []) k (λ b.
     let fine = done_behind (latest began_of w.past) (latest decision_of w.past) (complete_answer (has (is_clone c.value) (clone_rows w.past)) (has (is_complete_clone c.value) (clone_rows w.past))) b in
     completed_stands (Called n a (answer_at t w (Complete c) m) ∷ w.past) c (call_alone n a (answer_at t w (Complete c) m) w.past k) (undecided w.past fine.0)
     (sym (clone_stands c.value w.past) ∙ complete_done (has (is_clone c.value) (clone_rows w.past)) (has (is_complete_clone c.value) (clone_rows w.past)) fine.1))
-call_stands t w n a (Commit u) m k new f =
+call_stands t w n a (Commit u) m k new =
     done_by (answer_at t w (Commit u) m) n a w.past (CommitAsked ∷ veto_if (has is_open_rollback (clone_rows w.past)) (sees (half w) CommitAsked)) k (λ b.
     let fine = done_behind (latest began_of w.past) (latest decision_of w.past) (unless_late (has is_commit w.past)) b in
     commit_stands (Called n a (answer_at t w (Commit u) m) ∷ w.past) (waiting w.calls w.past) (managed w.calls w.past) (has is_open_rollback (clone_rows w.past)) (call_alone n a (answer_at t w (Commit u) m) w.past k) (undecided w.past fine.0)
     (late_done (has is_commit w.past) fine.1) (sym (commit_vetoed w.past k.keeps)))
-call_stands t w n a (Rollback u) m k new f =
+call_stands t w n a (Rollback u) m k new =
     done_by (answer_at t w (Rollback u) m) n a w.past (RollbackAsked ∷ veto (sees (half w) RollbackAsked)) k (λ b.
     let fine = done_behind (latest began_of w.past) (latest decision_of w.past) (unless_late (has is_sealed w.past)) b in
     rollback_stands (Called n a (answer_at t w (Rollback u) m) ∷ w.past) (waiting w.calls w.past) (managed w.calls w.past) (call_alone n a (answer_at t w (Rollback u) m) w.past k) (undecided w.past fine.0) (late_done (has is_sealed w.past) fine.1))
-call_stands t w n a (Marshal u) m k new f =
+call_stands t w n a (Marshal u) m k new =
     marshal_call t w n a (answer_at t w (Marshal u) m) k
     (λ b. let fine = done_behind (latest began_of w.past) (latest decision_of w.past) (marshal_answer t (half w)) b in
     let g = marshal_done t (has is_promoted w.past) (has is_sealed w.past) (is_crowded (half w)) fine.1 in (undecided w.past fine.0, g.0, g.1))
-call_stands t w n a (Tick u i) m k new f =
+call_stands t w n a (Tick u i) m k new =
     done_by (answer_at t w (Tick u i) m) n a w.past (tick_facts (half w) (ticked (clock w.past) i)) k (λ b.
     time_stands (Called n a (answer_at t w (Tick u i) m) ∷ w.past) (waiting w.calls w.past) (managed w.calls w.past) (ticked (clock w.past) i) (reaches (latest began_of w.past) (clock w.past) (ticked (clock w.past) i))
     (is_late (observe w.past)) (call_alone n a (answer_at t w (Tick u i) m) w.past k) refl)
-call_stands t w n a (Gone e) m k new f =
+call_stands t w n a (Gone e) m k new =
     gone_call t w n a e (answer_at t w (Gone e) m) k (λ b. gone_done (latest began_of w.past) (has (is_of e.value) (rows w.past)) (is_gone (observe w.past) e.value) b)
-call_stands t w n a (Reenlist e) m k new f = f e refl
-call_stands t w n a (Recovered u r) m k new f =
+call_stands t w n a (Reenlist e) m k new = reenlist_call t w n a e (latest began_of w.past) k
+call_stands t w n a (Recovered u r) m k new =
     done_by (answer_at t w (Recovered u r) m) n a w.past (RecoveredEntry r ∷ []) k (λ b. stand (RecoveredEntry r) (Called n a (answer_at t w (Recovered u r) m) ∷ w.past) refl tt (call_alone n a (answer_at t w (Recovered u r) m) w.past k) refl (λ g. g))
-call_stands t w n a (Lose u c i j) m k new f =
+call_stands t w n a (Lose u c i j) m k new =
     done_by (answer_at t w (Lose u c i j) m) n a w.past (cut w.past c i j ∷ []) k (λ b. stand (cut w.past c i j) (Called n a (answer_at t w (Lose u c i j) m) ∷ w.past) refl tt (call_alone n a (answer_at t w (Lose u c i j) m) w.past k) refl (λ g. g))
-call_stands t w n a (Status u) m k new f = done_by (answer_at t w (Status u) m) n a w.past [] k (λ b. call_alone n a (answer_at t w (Status u) m) w.past k)
-call_stands t w n a (Await u) m k new f = done_by (answer_at t w (Await u) m) n a w.past [] k (λ b. call_alone n a (answer_at t w (Await u) m) w.past k)
-call_stands t w n a (Do u i j) m k new f = done_by (answer_at t w (Do u i j) m) n a w.past [] k (λ b. call_alone n a (answer_at t w (Do u i j) m) w.past k)
+call_stands t w n a (Status u) m k new = done_by (answer_at t w (Status u) m) n a w.past [] k (λ b. call_alone n a (answer_at t w (Status u) m) w.past k)
+call_stands t w n a (Await u) m k new = done_by (answer_at t w (Await u) m) n a w.past [] k (λ b. call_alone n a (answer_at t w (Await u) m) w.past k)
+call_stands t w n a (Do u i j) m k new = done_by (answer_at t w (Do u i j) m) n a w.past [] k (λ b. call_alone n a (answer_at t w (Do u i j) m) w.past k)

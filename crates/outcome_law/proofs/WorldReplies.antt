@@ -1,6 +1,6 @@
 -- The block of each reply that is due keeps the table, promoted or not: a vote, the answer of a promotable, that of an owner, and an acknowledgement.
-use Rattle.std.proofs.Common.{◌≡◌, ℕ, ◌==◌, Bool, true, false, ◌&&◌, ◌||◌, List, [], ◌∷◌, Option, Some, None, refl, ◌∙◌, ap, sym, subst, ◌⊎◌, inl, inr}
-use Rattle.std.specs.Prelude.{find, is_some, not, if◌then◌else◌}
+use Rattle.std.proofs.Common.{◌≡◌, ℕ, ◌==◌, Bool, true, false, ◌&&◌, ◌||◌, List, [], ◌∷◌, Option, Some, None, refl, ◌∙◌, sym, subst, inl, inr}
+use Rattle.std.specs.Prelude.{is_some, not, if◌then◌else◌}
 use Rattle.std.proofs.lemmas.Bool.{eqb-true, false_from_ne_true, or_left}
 use Rattle.dtx_values.specs.declared.entry.Entry.{Entry}
 use Rattle.dtx_values.specs.declared.entry.Entry.TheVariants.{Acked, Got, OwnerAnswered, PromoteReply, Requested, Sent, Voted}
@@ -9,15 +9,12 @@ use Rattle.dtx_values.specs.declared.entry.Request.TheVariants.{Commit as Reques
 use Rattle.dtx_values.specs.declared.message.Conn.{Conn}
 use Rattle.dtx_values.specs.declared.message.Conn.TheVariants.{Begin as OnBegin, Voter as OnVoter, Enl as OnEnl, Again}
 use Rattle.dtx_values.specs.declared.message.Dir.TheVariants.{Up, Down}
-use Rattle.dtx_values.specs.declared.message.Message.{Message}
 use Rattle.dtx_values.specs.declared.message.Message.TheVariants.{BeginBegin, BeginBegun, BeginCommit, BeginAbort, EnlistAck, ReenlistAck}
 use Rattle.dtx_values.specs.declared.note.Note.{Note}
-use Rattle.dtx_values.specs.declared.note.Note.TheVariants.{Hand as HandNote, Single as SingleNote}
 use Rattle.dtx_values.specs.declared.note.Reply.{Reply}
 use Rattle.dtx_values.specs.declared.note.Reply.TheVariants.{Vote as VoteReply, Promote as Promotes, Owner as OwnerReply, Ack}
 use Rattle.dtx_values.specs.declared.number.EnlNo.{EnlNo}
 use Rattle.dtx_values.specs.declared.number.RmNo.{RmNo}
-use Rattle.dtx_values.specs.declared.row.Row.{Row}
 use Rattle.dtx_values.specs.declared.words.Class.{Class}
 use Rattle.dtx_values.specs.declared.words.Outcome.{Outcome}
 use Rattle.dtx_values.specs.declared.words.Outcome.TheVariants.{Committed, Aborted, InDoubt}
@@ -34,20 +31,20 @@ use Rattle.dtx_model.specs.Outcome.{doubt, enlisted, evidence, owner_doubt}
 use Rattle.dtx_model.specs.Promotes.{is_begun_got, is_failed, is_promoting, is_under_way}
 use Rattle.dtx_model.specs.Wires.{opens}
 use Rattle.dtx_model.specs.Waiting.{Waiter, managed, waiting}
-use Rattle.dtx_model.specs.Half.{Half, decide, fails_if, is_handed, sees, to_up, veto, veto_if, is_promoting as sees_promoting}
-use Rattle.dtx_model.specs.Replies.{ack_on, owes_outcome, owes_promotion, owes_request, owes_vote, conn_due, due_of, fits, is_volatile_row, owner_entries, promote_entries, reply_entries, request_message, request_of, vote_message, voted_by}
+use Rattle.dtx_model.specs.Half.{decide, fails_if, is_handed, sees, to_up, veto_if, is_promoting as sees_promoting}
+use Rattle.dtx_model.specs.Replies.{ack_on, owes_outcome, owes_promotion, owes_request, owes_vote, conn_due, due_of, fits, owner_entries, promote_entries, reply_entries, request_message, request_of, vote_message, voted_by}
 use Rattle.dtx_model.specs.World.{World, half}
-use Rattle.dtx_model.proofs.Bools.{and_both, and_left, and_right, and_never, not_both, not_false, not_true, or_case, or_right, or_second}
-use Rattle.outcome_law.proofs.Tests.{eq_self, eq_swap, first_of_three, first_of_four, second_of_four, third_of_four, fourth_of_four, four_hold, second_of_three}
+use Rattle.dtx_model.proofs.Bools.{and_both, and_left, and_right, not_both, not_false, not_true, or_case, or_right}
+use Rattle.outcome_law.proofs.Tests.{eq_self, eq_swap, first_of_four, second_of_four, third_of_four, fourth_of_four, four_hold}
 use Rattle.outcome_law.proofs.Scans.{each_both, each_more, has_less, has_more}
 use Rattle.outcome_law.proofs.Picks.{found_at, has-at, none_each}
 use Rattle.outcome_law.proofs.Rule.{is_answer, is_enlisted, is_volatile_of}
-use Rattle.outcome_law.proofs.Rules.{answered_any, undecided}
+use Rattle.outcome_law.proofs.Rules.{answered_any}
 use Rattle.outcome_law.proofs.Going.{hand_listed}
 use Rattle.outcome_law.proofs.Evidence.{hand_any, is_answered}
 use Rattle.outcome_law.proofs.Owned.{decision_seen, has_rows}
-use Rattle.outcome_law.proofs.TableRows.{none_there, unvoted_unwell}
-use Rattle.outcome_law.proofs.Table.{calls_off, is_abort_decided, decision_row, is_opening_got, is_promotable_of, is_there, message_row, rule, stands_promotable, stands_volatile}
+use Rattle.outcome_law.proofs.TableRows.{unvoted_unwell}
+use Rattle.outcome_law.proofs.Table.{calls_off, is_abort_decided, decision_row, is_there, message_row, rule, stands_promotable, stands_volatile}
 use Rattle.outcome_law.proofs.Keeping.{Keeps, earlier}
 use Rattle.outcome_law.proofs.Crossed.{is_got_on, is_sent_on, was_sent}
 use Rattle.outcome_law.proofs.Recording.{promoted_if_yes, promoting_if_promoted, sealed_if_yes, well_if_yes}
@@ -221,7 +218,7 @@ owner_block : (h : List Entry) (ws : List Waiter) (ms : List (EnlNo × RmNo)) (e
     → Stands (onto (OwnerAnswered e x ∷ h) (decide (seen_half (OwnerAnswered e x ∷ h) ws ms) x))
 owner_block h ws ms e x k d u =
     let row : rule h (OwnerAnswered e x) ≡ true = and_both (not (has is_decision h) && has (is_hand e.value) h) (not (has is_answer h))
-        (and_both (not (has is_decision h)) (has (is_hand e.value) h) (not_false (has is_decision h) d) u) (not_false (has is_answer h) (goes_on h k d).unanswered) in
+    (and_both (not (has is_decision h)) (has (is_hand e.value) h) (not_false (has is_decision h) d) u) (not_false (has is_answer h) (goes_on h k d).unanswered) in
     let after = one_more (OwnerAnswered e x) h refl tt k.keeps row in
     decided_stand (onto (OwnerAnswered e x ∷ h) (decide (seen_half (OwnerAnswered e x ∷ h) ws ms) x))
     (decide_keeps (OwnerAnswered e x ∷ h) ws ms x after d (λ w. absurd (settled x w)) (λ b q. by_way b q x after))

@@ -1,7 +1,7 @@
 -- What a call writes and leaves.
-use Rattle.std.proofs.Common.{◌≡◌, ◌≢◌, ℕ, Bool, true, false, List, [], ◌∷◌, Option, Some, None, refl, ap, sym, ◌∙◌}
+use Rattle.std.proofs.Common.{◌≡◌, ◌≢◌, ℕ, Bool, true, false, not, ◌&&◌, List, [], ◌∷◌, Option, Some, None, refl, ap, subst, sym, ◌∙◌}
 use Rattle.dtx_values.specs.declared.call.Call.{Call}
-use Rattle.dtx_values.specs.declared.call.Call.TheVariants.{Durable, Promotable, Await, Do, Lose, Gone, Reenlist, Recovered}
+use Rattle.dtx_values.specs.declared.call.Call.TheVariants.{Volatile, Durable, Promotable, Marshal, Await, Do, Lose, Gone, Reenlist, Recovered}
 use Rattle.dtx_values.specs.declared.entry.Answer.{Answer}
 use Rattle.dtx_values.specs.declared.entry.Answer.TheVariants.{Did, Fine, True, Wait}
 use Rattle.dtx_values.specs.declared.entry.Entry.{Entry}
@@ -15,21 +15,20 @@ use Rattle.dtx_model.specs.Answers.{await_answer, gone_answer, if_begun, local_a
 use Rattle.dtx_model.specs.Facts.{call_entries, facts_if, has_facts}
 use Rattle.dtx_model.specs.Half.{Half, heeds, heeds_all, is_gone, sees, stands}
 use Rattle.dtx_model.specs.declared.waiting.EnteredCall.{EnteredCall}
-use Rattle.dtx_model.specs.Waiting.{managed_by}
+use Rattle.dtx_model.specs.Waiting.{Waiter, managed_by}
 use Rattle.dtx_model.specs.Steps.{Calls, block_at}
 use Rattle.dtx_model.specs.World.{World, answer_at, gone_by, gone_unlinked, half}
-use Rattle.dtx_model.proofs.Narrow.{answer}
-use Rattle.dtx_model.proofs.NarrowCalls.{is_answered_here, local-narrow}
-use Rattle.dtx_model.proofs.NarrowFacts.{is_wait as is_wait_there, open_ones-local}
+use Rattle.dtx_model.proofs.NarrowFacts.{open_ones-local}
 use Rattle.dtx_model.proofs.Unpromoted.{are_local}
-use Rattle.local_half.specs.Half.{IsAtHome, Known, after, is_its_own, is_wait}
+use Rattle.local_half.specs.Half.{IsAtHome, Known, after, is_free, is_its_own, is_made_by_waiting, is_wait}
+use Rattle.dtx_model.specs.Caused.{is_new}
+use Rattle.dtx_model.specs.Observed.{Observed}
 use Rattle.outcome_law.proofs.Tests.{eq_self}
 use Rattle.dtx_model.proofs.Quiet.{Quiet, q_cons, q_gone_decides}
 use Rattle.dtx_values.specs.declared.message.Conn.{Conn}
 use Rattle.dtx_values.specs.declared.words.Outcome.{Outcome}
 use Rattle.script_runner.specs.Calling.{IsReady, call_block, called_with, is_answered}
 use Rattle.script_runner.proofs.ByLine.{heeds_all_same}
-use Rattle.script_runner.proofs.CallBlocks.{goes_on}
 
 -- a call that names no manager
 abbrev pub is_unmanaged : Call → Bool
@@ -138,23 +137,21 @@ pub answers_itself : (c : Call) → is_answered c ≡ true → ((t : TxNo) → c
 answers_itself (Await t) k a d g = absurd (a t refl)
 answers_itself (Do t j n) k a d g = absurd (d t j n refl)
 answers_itself (Gone e) k a d g = absurd (g e refl)
+answers_itself (Marshal t) k a d g = absurd cc
 answers_itself _ k a d g = k
 
--- and then it doesn't wait
-wait_same : (x : Answer) → is_wait x ≡ is_wait_there x
-wait_same Wait = refl
-wait_same _ = refl
+-- where no call waits, what is new is free
+free_where : (ws : List Waiter) (o : Observed) (ms : List (EnlNo × RmNo)) (n : ℕ) (c : Call) → ws ≡ [] → is_new o c ≡ true → is_free (record { seen = o; waits = ws; managers = ms }) n c ≡ true
+free_where ws o ms n c none new = subst (λ (vs : List Waiter). is_free (record { seen = o; waits = vs; managers = ms }) n c ≡ true) (sym none) (by c new)
+  where
+    by : (d : Call) → is_new o d ≡ true → ((is_new o d && not (is_made_by_waiting [] d)) && not false) ≡ true
+    by (Volatile t e x v) k = rw k refl
+    by (Durable t e r s) k = rw k refl
+    by (Promotable t e r v x p) k = rw k refl
+    by d k = rw k refl
 
-answered_here : (c : Call) → is_its_own c ≡ true → is_answered_here c ≡ true
-answered_here (Lose t c u w) k = absurd cc
-answered_here (Gone e) k = absurd cc
-answered_here (Reenlist e) k = absurd cc
-answered_here (Recovered t r) k = absurd cc
-answered_here _ k = refl
-
-pub answer_goes_on : (t : ℕ) (h : Half) (c : Call) → IsAtHome h → is_its_own c ≡ true → IsReady h.seen c → is_wait (local_answer t h c 0) ≡ false
-answer_goes_on t h c home own ready =
-    ap (λ (g : Half). is_wait (local_answer t g c 0)) home.same ∙ ap is_wait (local-narrow t h.seen h.managers c 0 (answered_here c own)) ∙ wait_same (answer h.seen c 0) ∙ goes_on h.seen c 0 ready
+pub free_at_home : (h : Half) (n : ℕ) (c : Call) → IsAtHome h → is_new h.seen c ≡ true → is_free h n c ≡ true
+free_at_home h n c home new = free_where h.waits h.seen h.managers n c (ap (λ (g : Half). g.waits) home.same) new
 
 -- where nothing is promoted, the world's block is that of its local side
 pub block_here : (t : ℕ) (w : World) (n : ℕ) (a : ActorNo) (c : Call) (m : ℕ) → are_local w.past ≡ true → is_answered c ≡ true → call_block t (half w) n a c m ≡ block_at t w (Calls n a c m)

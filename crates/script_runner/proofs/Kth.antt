@@ -1,6 +1,6 @@
 -- Which step is the k-th pending one.
 use Rattle.std.proofs.Common.{◌≡◌, ◌≢◌, ℕ, zero, suc, ◌+◌, ◌-◌, true, false, not, List, [], ◌∷◌, ◌++◌, length, Some, None, slice_get, refl, ap, sym, ◌∙◌, subst, arith}
-use Rattle.dtx_values.specs.Outgoing.{Outgoing, with}
+use Rattle.dtx_values.specs.Outgoing.{Outgoing, written as put_out}
 use Rattle.dtx_values.specs.declared.entry.Entry.{Entry}
 use Rattle.dtx_values.specs.declared.note.Plan.{Plan}
 use Rattle.dtx_values.specs.declared.note.Reply.{Reply}
@@ -52,7 +52,7 @@ at_second {A = A} xs ys k n e = subst (λ j. slice_get (xs ++ ys) j ≡ slice_ge
 
 -- a reply that is due at the place before k is the k-th step
 pub does_reply : (p : ℕ → Plan) (k : ℕ) (old new : Known) (out after_it : Outgoing) (e : EnlNo) (r : Reply) → k ≢ 0 → slice_get (replies_due p old.half) (k - 1) ≡ Some (ReplyOf e)
-    → IsPlanned p old.half.seen e r → new ≡ after [] old (reply_entries old.half e r) → after_it ≡ with out (reply_entries old.half e r) → DoesKth p k old new out after_it
+    → IsPlanned p old.half.seen e r → new ≡ after [] old (reply_entries old.half e r) → after_it ≡ put_out out (reply_entries old.half e r) → DoesKth p k old new out after_it
 unfolding local_pending
 does_reply p k old new out after_it e r d due planned state written =
     record {
@@ -67,7 +67,7 @@ does_reply p k old new out after_it e r d due planned state written =
 
 -- the act stands behind the replies
 pub does_act : (p : ℕ → Plan) (k n : ℕ) (old new : Known) (out after_it : Outgoing) → k ≢ 0 → k - 1 ≡ length (replies_due p old.half) + n → n ≡ 0 → not (is_empty (act_entries old.half)) ≡ true
-    → new ≡ after [] old (act_entries old.half) → after_it ≡ with out (act_entries old.half) → DoesKth p k old new out after_it
+    → new ≡ after [] old (act_entries old.half) → after_it ≡ put_out out (act_entries old.half) → DoesKth p k old new out after_it
 unfolding local_pending
 does_act p k n old new out after_it d place z acts state written =
     let h : Half = old.half in

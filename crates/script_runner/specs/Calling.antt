@@ -1,7 +1,7 @@
 -- What is needed of a call, and what it writes.
 use Rattle.std.specs.Prelude.{ℕ, ◌≡◌, Bool, true, false, List, ◌∷◌, Option, Some, None}
 use Rattle.dtx_values.specs.declared.call.Call.{Call}
-use Rattle.dtx_values.specs.declared.call.Call.TheVariants.{Durable, Await, Do, Gone}
+use Rattle.dtx_values.specs.declared.call.Call.TheVariants.{Durable, Await, Do, Gone, Marshal}
 use Rattle.dtx_values.specs.declared.entry.Answer.{Answer}
 use Rattle.dtx_values.specs.declared.entry.Entry.{Entry}
 use Rattle.dtx_values.specs.declared.entry.Entry.TheVariants.{Called}
@@ -21,11 +21,12 @@ use Rattle.outcome_law.proofs.ScopeCalls.{is_scope_call}
 use Rattle.local_half.specs.Half.{is_its_own}
 use Rattle.dtx_model.specs.Caused.{is_new}
 
--- the call is answered: by the half itself, or it is await, do or gone
+-- the call is answered while nothing is promoted: by the half itself, or it is await, do or gone; a marshal call would have to wait
 abbrev pub is_answered : Call → Bool
 is_answered (Await t) = true
 is_answered (Do t k n) = true
 is_answered (Gone e) = true
+is_answered (Marshal t) = false
 is_answered c = is_its_own c
 
 -- a durable finds nothing durable or promotable, and can own the commit: so it promotes nothing

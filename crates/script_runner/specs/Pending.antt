@@ -1,6 +1,6 @@
 -- The k-th pending step.
 use Rattle.std.specs.Prelude.{ℕ, ◌+◌, ◌≡◌, false, List, [], length, Option, Some, None, slice_get}
-use Rattle.dtx_values.specs.Outgoing.{Outgoing, with}
+use Rattle.dtx_values.specs.Outgoing.{Outgoing, written as put_out}
 use Rattle.dtx_values.specs.declared.entry.Entry.{Entry}
 use Rattle.dtx_values.specs.declared.note.Note.{Note}
 use Rattle.dtx_values.specs.declared.note.Plan.{Plan}
@@ -48,4 +48,4 @@ pub record DoesKth (p : ℕ → Plan) (k : ℕ) (old new : Known) (out after_it 
   pub stands : kth (local_pending p old.half) k ≡ Some name
   pub named : IsStep p old.half name step entries
   pub state : new ≡ after [] old entries
-  pub written : after_it ≡ with out entries
+  pub written : after_it ≡ put_out out entries

@@ -1,11 +1,11 @@
 //! The calls on a transaction: its half answers most of them, and await, do and gone are answered here.
-ghost use Rattle.std.specs.Prelude.{◌≡◌, ◌<◌, ◌≤◌, ◌∷◌, []};
-ghost use Rattle.dtx_values.specs.Outgoing.{with};
+ghost use Rattle.std.specs.Prelude.{◌≡◌, ◌∷◌, []};
+ghost use Rattle.dtx_values.specs.Outgoing.{written};
 ghost use Rattle.dtx_values.specs.declared.call.Call.TheVariants.{Gone};
 ghost use Rattle.dtx_values.specs.declared.entry.Entry.TheVariants.{Called};
 ghost use Rattle.dtx_model.specs.Answers.{await_answer};
 ghost use Rattle.dtx_model.specs.Steps.{Calls, entered};
-ghost use Rattle.local_half.specs.Half.{IsAtHome, after};
+ghost use Rattle.local_half.specs.Half.{IsAtHome, IsRoom, after};
 ghost use Rattle.script_runner.specs.Calling.{IsReady, call_block};
 
 use dtx_values::{ActorNo, Answer, Call, EnlNo, Entry, Outbox};
@@ -23,9 +23,9 @@ fn await_answer(half: &LocalHalf) -> Answer
 
 /// Does a `gone`: writes its entry, and loses the enlistment where that was answered ok.
 fn gone(half: &mut LocalHalf, actor: ActorNo, line: u32, e: EnlNo, out: &mut Outbox)
-    requires { 3 ≤ out.old.room }
+    requires { IsRoom 41 20 out.old }
     ensures state { half.new ≡ after (entered (Calls line actor (Gone e) 0) []) half.old (call_block half.old.transaction.value half.old.half line actor (Gone e) 0) }
-    ensures out { out.new ≡ with out.old (call_block half.old.transaction.value half.old.half line actor (Gone e) 0) }
+    ensures out { out.new ≡ written out.old (call_block half.old.transaction.value half.old.half line actor (Gone e) 0) }
 {
     let answer = half.if_begun(half.gone_answer(e));
     out.put(Entry::Called(line, actor, answer));
@@ -38,9 +38,9 @@ fn gone(half: &mut LocalHalf, actor: ActorNo, line: u32, e: EnlNo, out: &mut Out
 pub fn call(half: &mut LocalHalf, actor: ActorNo, line: u32, c: &Call, done: u16, out: &mut Outbox)
     requires ready { IsReady half.old.half.seen c.now }
     requires home { IsAtHome half.old.half }
-    requires room { 4 ≤ out.old.room }
+    requires room { IsRoom 41 20 out.old }
     ensures state { half.new ≡ after (entered (Calls line actor c.now done) []) half.old (call_block half.old.transaction.value half.old.half line actor c.now done) }
-    ensures out { out.new ≡ with out.old (call_block half.old.transaction.value half.old.half line actor c.now done) }
+    ensures out { out.new ≡ written out.old (call_block half.old.transaction.value half.old.half line actor c.now done) }
 {
     match *c {
         Call::Do(_, _, _) => {

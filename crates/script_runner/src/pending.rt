@@ -1,10 +1,10 @@
 //! The pending steps of a transaction: the replies that are due, and after them the local act.
-ghost use Rattle.std.specs.Prelude.{◌≡◌, ◌≤◌, None, true, false};
+ghost use Rattle.std.specs.Prelude.{◌≡◌, None, true, false};
 ghost use Rattle.dtx_values.specs.Table.{rises_above};
 ghost use Rattle.dtx_model.specs.Words.{kth};
 ghost use Rattle.dtx_model.specs.Caused.{plans_of};
 ghost use Rattle.dtx_model.specs.Steps.{local_pending};
-ghost use Rattle.local_half.specs.Half.{IsAtHome};
+ghost use Rattle.local_half.specs.Half.{HasRoom, IsAtHome};
 ghost use Rattle.script_runner.specs.Pending.{DoesKth, IsDueAt, planned_at};
 
 use crate::plans::Plans;
@@ -57,7 +57,7 @@ fn due_at(half: &LocalHalf, plans: &Plans, k: usize) -> Due
 /// Does the k-th pending step; false where fewer than k are pending, or k is 0.
 pub fn step(half: &mut LocalHalf, plans: &Plans, k: u8, out: &mut Outbox) -> bool
     requires home { IsAtHome half.old.half }
-    requires room { 2 ≤ out.old.room }
+    requires room { HasRoom out.old }
     ensures some { result ≡ true → DoesKth (plans_of plans.now) k half.old half.new out.old out.new }
     ensures none { result ≡ false → kth (local_pending (plans_of plans.now) half.old.half) k ≡ None }
     ensures unchanged { result ≡ false → half.new ≡ half.old }

@@ -1,11 +1,12 @@
 //! What each call is answered: the first answer whose condition holds.
 ghost use Rattle.std.specs.Prelude.{◌≡◌, length, true};
-ghost use Rattle.dtx_model.specs.Answers.{clone_answer, complete_answer, durable_answer, gone_answer, if_begun, local_answer, promotable_answer, status_answer, unless_late, unless_over, volatile_answer};
+ghost use Rattle.dtx_model.specs.Answers.{clone_answer, complete_answer, durable_answer, gone_answer, has_promotion, if_begun, is_crowded, is_full, is_full_of_durables, local_answer, marshal_answer, promotable_answer, status_answer, unless_late, unless_over, volatile_answer};
 ghost use Rattle.dtx_model.specs.Half.{is_gone, stands};
 ghost use Rattle.local_half.specs.Half.{is_its_own};
 
 use super::LocalHalf;
-use dtx_values::{Answer, CLONES, Call, DURABLES, ENLISTMENTS, EnlNo};
+use crate::waits;
+use dtx_values::{Answer, CALLS, CLONES, Call, DURABLES, ENLISTMENTS, EnlNo};
 use durable_enlist::cause_of;
 use promotable_enlist::try_own;
 
@@ -64,6 +65,50 @@ impl LocalHalf {
         })
     }
 
+    /// Whether as many enlistments were made or wait as there may be.
+    fn is_full(&self) -> bool
+        ensures { result ≡ is_full self.now.half }
+    {
+        self.table.rows().len() + waits::places(&self.waits) >= ENLISTMENTS
+    }
+
+    /// Whether as many durable or promotable ones were made or wait as there may be.
+    fn is_full_of_durables(&self) -> bool
+        ensures { result ≡ is_full_of_durables self.now.half }
+    {
+        self.table.lasting() + waits::places(&self.waits) >= DURABLES
+    }
+
+    /// Whether as many calls wait as may.
+    fn is_crowded(&self) -> bool
+        ensures { result ≡ is_crowded self.now.half }
+    {
+        self.waits.len() >= CALLS
+    }
+
+    /// Whether it is promoted, or on the way there.
+    pub(super) fn has_promotion(&self) -> bool
+        ensures { result ≡ has_promotion self.now.half.seen }
+    {
+        self.handover.is_over() || self.is_promoting()
+    }
+
+    /// What a marshal call is answered, once it is begun and while nothing is decided.
+    fn marshal_answer(&self) -> Answer
+        ensures { result ≡ marshal_answer self.now.transaction.value self.now.half }
+    {
+        if self.handover.is_over() {
+            return Answer::Id(self.identifier());
+        }
+        if self.sealed {
+            return Answer::TooLate;
+        }
+        if self.is_crowded() {
+            return Answer::Many(CALLS as u8);
+        }
+        Answer::Wait
+    }
+
     /// What a volatile call is answered, once it is begun and while nothing is decided.
     fn volatile_answer(&self) -> Answer
         ensures { result ≡ volatile_answer self.now.half }
@@ -71,24 +116,30 @@ impl LocalHalf {
         if self.sealed {
             return Answer::TooLate;
         }
-        if self.table.rows().len() >= ENLISTMENTS {
+        if self.is_full() {
             return Answer::Many(ENLISTMENTS as u8);
         }
         Answer::Fine
     }
 
-    /// What a durable call is answered, once it is begun and while nothing is decided. One that can't own the commit, or doesn't come first, waits.
+    /// What a durable call is answered, once it is begun and while nothing is decided. One that can't own the commit, doesn't come first, or comes after a promotion began, waits.
     fn durable_answer(&self, single: bool) -> Answer
         ensures { result ≡ durable_answer self.now.half single }
     {
         if self.sealed {
             return Answer::TooLate;
         }
-        if self.table.rows().len() >= ENLISTMENTS {
+        if self.is_full() {
             return Answer::Many(ENLISTMENTS as u8);
         }
-        if self.table.lasting() >= DURABLES {
+        if self.is_crowded() {
+            return Answer::Many(CALLS as u8);
+        }
+        if self.is_full_of_durables() {
             return Answer::Many(DURABLES as u8);
+        }
+        if self.has_promotion() {
+            return Answer::Wait;
         }
         match cause_of(&self.table, single) {
             Some(_) => Answer::Wait,
@@ -103,10 +154,10 @@ impl LocalHalf {
         if self.sealed {
             return Answer::TooLate;
         }
-        if !try_own(&self.table, false) {
+        if !try_own(&self.table, self.has_promotion()) {
             return Answer::False;
         }
-        if self.table.rows().len() >= ENLISTMENTS {
+        if self.is_full() {
             return Answer::Many(ENLISTMENTS as u8);
         }
         Answer::True
@@ -154,6 +205,7 @@ impl LocalHalf {
             )),
             Call::Commit(_) => self.unless_over(unless_late(self.commit)),
             Call::Rollback(_) => self.unless_over(unless_late(self.sealed)),
+            Call::Marshal(_) => self.unless_over(self.marshal_answer()),
             Call::Status(_) => self.if_begun(self.status_answer()),
             Call::Tick(_, _) => self.if_begun(Answer::Fine),
             _ => Answer::Fine,

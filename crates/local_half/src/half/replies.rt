@@ -1,75 +1,189 @@
 //! The replies that are due, and what a reply writes.
-ghost use Rattle.std.specs.Prelude.{◌≡◌, ◌≤◌, ◌||◌, [], Some, false, is_some, true};
-ghost use Rattle.std.specs.List.{list_any};
-ghost use Rattle.enlist_table.specs.Waiting.{is_waiting};
-ghost use Rattle.dtx_values.specs.Outgoing.{with};
-ghost use Rattle.dtx_model.specs.Replies.{all_due, due_of, fits, note_at, reply_entries, row_note};
+ghost use Rattle.std.specs.Prelude.{◌≡◌, [], ◌∷◌, Some, false, find, is_some, map, true};
+ghost use Rattle.dtx_values.specs.Outgoing.{written};
+ghost use Rattle.dtx_values.specs.Table.{rises_above, was_asked};
+ghost use Rattle.dtx_values.specs.declared.entry.Entry.TheVariants.{Acked};
+ghost use Rattle.dtx_values.specs.declared.note.Reply.TheVariants.{Vote as VoteReply};
+ghost use Rattle.dtx_model.specs.Replies.{ack_on, all_due, conn_due, due_of, fits, is_volatile_row, may_still_vote, note_at, note_of_conn, owes_vote, owner_entries, promote_entries, reply_entries, request_message, request_of, row_note, vote_message, voted_by, with_note};
 ghost use Rattle.dtx_model.specs.Steps.{Replies, after as world_after};
 ghost use Rattle.dtx_model.specs.Words.{kth};
 ghost use Rattle.dtx_model.specs.World.{World};
-ghost use Rattle.local_half.specs.Half.{Follows, MayReply, after, fits_due, made_by};
+ghost use Rattle.local_half.specs.Half.{Follows, HasRoom, IsRoom, after, first_due, fits_due, lower, may_owe};
 
 use super::LocalHalf;
-use dtx_values::{EnlNo, Entry, Note, Outbox, Reply, Row};
+use crate::branches::{branch_at, branch_of, owe_ack};
+use dtx_values::{
+    Class, Conn, Dir, EnlNo, Entry, Message, Note, Outbox, Outcome, Reply, Request, Row, Vote,
+};
+
+/// The message of a durable or promotable enlistment's vote.
+fn vote_message(v: Vote) -> Message
+    ensures { result ≡ vote_message v }
+{
+    match v {
+        Vote::Yes => Message::EnlistPrepared,
+        Vote::No => Message::EnlistNo,
+        Vote::Done => Message::EnlistReadonly,
+    }
+}
+
+/// What is requested of the coordinator for an owner's answer.
+fn request_of(o: Outcome) -> Request
+    ensures { result ≡ request_of o }
+{
+    match o {
+        Outcome::Aborted => Request::Abort,
+        _ => Request::Commit,
+    }
+}
+
+/// The message of the request.
+fn request_message(o: Outcome) -> Message
+    ensures { result ≡ request_message o }
+{
+    match o {
+        Outcome::Aborted => Message::BeginAbort,
+        _ => Message::BeginCommit,
+    }
+}
+
+/// The one of the lower number; the second where the numbers are the same.
+fn lower(x: Option<(EnlNo, Note)>, y: Option<(EnlNo, Note)>) -> Option<(EnlNo, Note)>
+    ensures { result ≡ lower x y }
+{
+    match (x, y) {
+        (Some(a), Some(b)) => {
+            if a.0.get() < b.0.get() {
+                Some(a)
+            } else {
+                Some(b)
+            }
+        }
+        (Some(a), None) => Some(a),
+        (None, y) => y,
+    }
+}
 
 #[tactic(auto, using(crate::proofs::Writing::outgoing), unfolding(dtx_model::specs::Observed::track, dtx_model::specs::Half::heeds_all))]
 impl LocalHalf {
+    /// The connection of the last commit that the enlistment has to acknowledge.
+    fn conn_due(&self, e: EnlNo) -> Option<Conn>
+        ensures { result ≡ conn_due self.now.half.seen e.value }
+    {
+        branch_of(&self.branches, e)?.due
+    }
+
     /// To what a reply of the enlistment is due; `None` exactly where none is.
-    #[tactic(auto, using(crate::proofs::Notes::or_none), unfolding(dtx_model::specs::Replies::due_of))]
+    #[tactic(auto, unfolding(dtx_model::specs::Replies::due_of))]
     pub fn due_of(&self, e: EnlNo) -> Option<Note>
         ensures { result ≡ due_of self.now.half.seen e.value }
     {
         if self.is_gone(e) {
             return None;
         }
-        match self.table.state_of(e) {
-            Some(x) => self.row_note(&x),
+        if let Some(x) = self.table.state_of(e) {
+            if let Some(note) = self.row_note(&x) {
+                return Some(note);
+            }
+        }
+        self.ack_note(e)
+    }
+
+    /// To what a reply of the enlistment with this row is due; `None` exactly where none is.
+    pub fn due_note(&self, x: &Row) -> Option<Note>
+        ensures { result ≡ note_at self.now.half.seen x.now.number.value (Some x.now) }
+    {
+        if self.is_gone(x.number) {
+            return None;
+        }
+        if let Some(note) = self.row_note(x) {
+            return Some(note);
+        }
+        self.ack_note(x.number)
+    }
+
+    /// The note to which an acknowledgement is due.
+    fn ack_note(&self, e: EnlNo) -> Option<Note>
+        ensures { result ≡ note_of_conn (conn_due self.now.half.seen e.value) }
+    {
+        match self.conn_due(e) {
+            Some(_) => Some(Note::Commit),
             None => None,
         }
     }
 
-    /// To what a reply of the enlistment with this row is due; `None` exactly where none is.
-    #[tactic(auto, using(crate::proofs::Notes::or_none))]
-    pub fn due_note(&self, x: &Row) -> Option<Note>
-        ensures { result ≡ note_at self.now.half.seen x.now.number.value (Some x.now) }
+    /// Whether a vote of the enlistment with this row may still come: a volatile's until something is decided, another's until it was told
+    /// or the end of its connection is seen.
+    fn may_still_vote(&self, x: &Row) -> bool
+        ensures { result ≡ may_still_vote self.now.half.seen x.now }
     {
-        self.is_at_home();
-        if self.is_gone(x.number) {
-            return None;
+        if x.class.is_volatile() {
+            self.decided.is_none()
+        } else {
+            self.proxy.knows(Conn::Enl(x.number)) && !self.was_told(x.number)
         }
-        self.row_note(x)
     }
 
-    /// To what a reply of the enlistment with this row is due where it isn't lost. A durable or
-    /// promotable one never owes a vote here: it is asked by the coordinator alone.
+    /// Whether a vote of the enlistment with this row is due.
+    fn owes_vote(&self, x: &Row) -> bool
+        ensures { result ≡ owes_vote self.now.half.seen x.now }
+    {
+        x.is_marked() && !x.has_voted() && self.may_still_vote(x)
+    }
+
+    /// To what a reply of the enlistment with this row is due where it isn't lost, acknowledgements left out.
     fn row_note(&self, x: &Row) -> Option<Note>
         ensures { result ≡ row_note self.now.half.seen x.now }
     {
+        if self.owes_vote(x) {
+            return Some(Note::Prepare);
+        }
         if self.decided.is_some() {
             return None;
         }
-        if x.is_marked() && !x.has_voted() && x.class.is_volatile() {
-            return Some(Note::Prepare);
+        let is_promotable = x.class == Class::Promotable;
+        if is_promotable && self.promote_asked && !self.promote_replied {
+            return Some(Note::Promote);
         }
         if self.is_handed(x.number) {
             return Some(Note::Hand);
         }
+        if is_promotable && self.single_asked && !self.requested {
+            return Some(Note::Single);
+        }
         None
     }
 
-    /// Whether a reply may be due: the commit was handed over, or a vote is awaited. Where none may be,
-    /// the rows needn't be looked through.
-    pub fn may_be_due(&self) -> bool
-        ensures value { result ≡ (is_some self.now.half.seen.handed || list_any is_waiting self.now.half.seen.table) }
-        ensures none { result ≡ false → all_due self.now.half.seen ≡ [] }
+    /// Whether a vote is awaited, the commit was handed over, a promotable was asked and didn't reply, or a commit wasn't acknowledged.
+    fn may_owe(&self) -> bool
+        ensures { result ≡ may_owe self.now.half.seen }
     {
-        self.handed.is_some() || self.table.waits()
+        self.table.waits()
+            || self.handed.is_some()
+            || (self.promote_asked && !self.promote_replied)
+            || (self.single_asked && !self.requested)
+            || owe_ack(&self.branches)
     }
 
-    /// The lowest enlistment of which a reply is due, with the note; `None` exactly where none is due.
-    #[tactic(auto, unfolding(dtx_model::specs::Replies::all_due))]
-    pub fn due(&self) -> Option<(EnlNo, Note)>
-        ensures { result ≡ kth (all_due self.now.half.seen) 1 }
+    /// Whether a reply may be due: a vote is awaited, the commit was handed over, a promotable was asked and
+    /// didn't reply, or a commit wasn't acknowledged. Where none may be, the rows needn't be looked through.
+    pub fn may_be_due(&self) -> bool
+        ensures exact { result ≡ may_owe self.now.half.seen }
+        ensures none { result ≡ false → all_due self.now.half.seen ≡ [] }
+    {
+        self.may_owe()
+    }
+
+    /// The numbers of the rows rise.
+    fn rows_rise(&self)
+        ensures { rises_above 0 self.now.half.seen.table ≡ true }
+    {
+        let _ = self.table.rows();
+    }
+
+    /// The lowest enlistment with a row of which a reply is due, with the note.
+    fn first_by_rows(&self) -> Option<(EnlNo, Note)>
+        ensures { result ≡ first_due self.now.half.seen (map (λ x. x.number) self.now.half.seen.table) }
     {
         for x in self.table.rows() {
             if let Some(note) = self.due_note(x) {
@@ -77,6 +191,29 @@ impl LocalHalf {
             }
         }
         None
+    }
+
+    /// The enlistment with the note to which a reply of it is due.
+    fn with_note(&self, e: EnlNo) -> Option<(EnlNo, Note)>
+        ensures { result ≡ with_note e (due_of self.now.half.seen e.value) }
+    {
+        let note = self.due_of(e)?;
+        Some((e, note))
+    }
+
+    /// The lowest enlistment of which a reply is due, with the note; `None` exactly where none is due.
+    pub fn due(&self) -> Option<(EnlNo, Note)>
+        ensures { result ≡ kth (all_due self.now.half.seen) 1 }
+    {
+        self.rows_rise();
+        let mut first = self.first_by_rows();
+        let mut i = self.branches.len();
+        while i > 0 {
+            i -= 1;
+            let b = branch_at(&self.branches, i);
+            first = lower(self.with_note(b.enlistment), first);
+        }
+        first
     }
 
     /// Whether the reply fits the note to which one of the enlistment is due. Where none is due, each
@@ -94,42 +231,118 @@ impl LocalHalf {
         }
     }
 
-    /// Whether a reply of the enlistment is due: a vote or an owner's answer, since nothing is promoted.
-    fn owes(&self, e: EnlNo, r: Reply) -> bool
-        requires { fits_due r (due_of self.now.half.seen e.value) ≡ true }
-        ensures due { result ≡ is_some (due_of self.now.half.seen e.value) }
-        ensures taken { result ≡ true → MayReply self.now.half.seen e r }
-        ensures made { result ≡ true → reply_entries self.now.half e r ≡ made_by self.now.half e r }
+    /// Whether the enlistment is volatile.
+    fn is_volatile(&self, e: EnlNo) -> bool
+        ensures { result ≡ is_volatile_row self.now.half.seen e.value }
     {
-        self.is_at_home();
-        self.due_of(e).is_some()
+        self.table
+            .rows()
+            .iter()
+            .any(|x| x.number == e && x.class.is_volatile())
     }
 
-    /// Takes a reply; false exactly where none of the enlistment is due, and then nothing changes. A vote No is a veto, and an owner's answer decides.
+    /// Writes what follows of a vote: a volatile's No is a veto, and a durable or promotable sends its vote.
+    fn after_vote(&mut self, e: EnlNo, v: Vote, out: &mut Outbox)
+        requires { IsRoom 35 1 out.old }
+        ensures state { self.new ≡ after [] self.old (voted_by self.old.half e v) }
+        ensures out { out.new ≡ written out.old (voted_by self.old.half e v) }
+    {
+        if self.is_volatile(e) {
+            self.veto_if(v.is_no(), out);
+        } else {
+            self.send_up(Conn::Enl(e), vote_message(v), out);
+        }
+    }
+
+    /// Takes a vote.
+    fn vote(&mut self, e: EnlNo, v: Vote, out: &mut Outbox)
+        requires asked { was_asked e.value self.old.half.seen.table ≡ true }
+        requires room { HasRoom out.old }
+        ensures state { self.new ≡ after [] self.old (reply_entries self.old.half e (VoteReply v)) }
+        ensures out { out.new ≡ written out.old (reply_entries self.old.half e (VoteReply v)) }
+    {
+        self.write(Entry::Voted(e, v), out);
+        self.after_vote(e, v, out);
+    }
+
+    /// Takes the reply of a promotable that was asked to promote: BEGIN is sent, or it is a veto.
+    fn promote_reply(&mut self, e: EnlNo, ok: bool, out: &mut Outbox)
+        requires { HasRoom out.old }
+        ensures state { self.new ≡ after [] self.old (promote_entries self.old.half e ok) }
+        ensures out { out.new ≡ written out.old (promote_entries self.old.half e ok) }
+    {
+        self.write(Entry::PromoteReply(e, ok), out);
+        if ok {
+            self.write(Entry::Sent(Conn::Begin, Dir::Up, Message::BeginBegin), out);
+        } else {
+            self.veto(out);
+        }
+    }
+
+    /// Takes the answer of an owner: one that was asked in a single phase requests it of the coordinator, any other decides.
+    fn owner_reply(&mut self, e: EnlNo, o: Outcome, note: Note, out: &mut Outbox)
+        requires { HasRoom out.old }
+        ensures state { self.new ≡ after [] self.old (owner_entries self.old.half e o (Some note)) }
+        ensures out { out.new ≡ written out.old (owner_entries self.old.half e o (Some note)) }
+    {
+        if note == Note::Single {
+            self.write(Entry::Requested(e, request_of(o)), out);
+            self.send_up(Conn::Begin, request_message(o), out);
+        } else {
+            self.write(Entry::OwnerAnswered(e, o), out);
+            self.decide(o, out);
+        }
+    }
+
+    /// Takes an acknowledgement, which goes to the connection of the last commit.
+    fn acknowledge(&mut self, e: EnlNo, out: &mut Outbox)
+        requires { HasRoom out.old }
+        ensures state { self.new ≡ after [] self.old (Acked e ∷ ack_on self.old.half.seen (conn_due self.old.half.seen e.value)) }
+        ensures out { out.new ≡ written out.old (Acked e ∷ ack_on self.old.half.seen (conn_due self.old.half.seen e.value)) }
+    {
+        let due = self.conn_due(e);
+        self.write(Entry::Acked(e), out);
+        match due {
+            Some(Conn::Enl(f)) => self.send_up(Conn::Enl(f), Message::EnlistAck, out),
+            Some(Conn::Again(f)) => self.send_up(Conn::Again(f), Message::ReenlistAck, out),
+            _ => {}
+        }
+    }
+
+    /// Takes a reply to this note, to which one is due.
+    #[tactic(auto, unfolding(dtx_model::specs::Replies::reply_entries))]
+    fn take_reply(&mut self, e: EnlNo, note: Note, r: Reply, out: &mut Outbox)
+        requires due { due_of self.old.half.seen e.value ≡ Some note }
+        requires fits { fits r note ≡ true }
+        requires room { HasRoom out.old }
+        ensures state { self.new ≡ after [] self.old (reply_entries self.old.half e r) }
+        ensures out { out.new ≡ written out.old (reply_entries self.old.half e r) }
+    {
+        match r {
+            Reply::Vote(v) => self.vote(e, v, out),
+            Reply::Promote(ok) => self.promote_reply(e, ok, out),
+            Reply::Owner(o) => self.owner_reply(e, o, note, out),
+            Reply::Ack => self.acknowledge(e, out),
+        }
+    }
+
+    /// Takes a reply; false exactly where none of the enlistment is due, and then nothing changes.
     pub fn reply(&mut self, e: EnlNo, r: Reply, out: &mut Outbox) -> bool
         requires fits { fits_due r (due_of self.old.half.seen e.value) ≡ true }
-        requires room { 2 ≤ out.old.room }
+        requires room { HasRoom out.old }
         ensures due { result ≡ is_some (due_of self.old.half.seen e.value) }
         ensures state { result ≡ true → self.new ≡ after [] self.old (reply_entries self.old.half e r) }
-        ensures out { result ≡ true → out.new ≡ with out.old (reply_entries self.old.half e r) }
+        ensures out { result ≡ true → out.new ≡ written out.old (reply_entries self.old.half e r) }
         ensures unchanged { result ≡ false → self.new ≡ self.old }
         ensures unwritten { result ≡ false → out.new ≡ out.old }
         ensures runs { (w : World) → Follows self.old.transaction.value w self.old.half → result ≡ true → Follows self.old.transaction.value (world_after self.old.transaction.value w (Replies e r)) self.new.half }
     {
-        if !self.owes(e, r) {
-            return false;
-        }
-        match r {
-            Reply::Vote(v) => {
-                self.write(Entry::Voted(e, v), out);
-                self.veto_if(v.is_no(), out);
+        match self.due_of(e) {
+            Some(note) => {
+                self.take_reply(e, note, r, out);
+                true
             }
-            Reply::Owner(outcome) => {
-                self.write(Entry::OwnerAnswered(e, outcome), out);
-                self.decide(outcome, out);
-            }
-            Reply::Promote(_) | Reply::Ack => unreachable!(),
+            None => false,
         }
-        true
     }
 }

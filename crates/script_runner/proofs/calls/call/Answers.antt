@@ -1,5 +1,5 @@
 use Rattle.std.proofs.Common.{◌∷◌, [], List, ap, refl, sym, ◌∙◌}
-use Rattle.dtx_values.specs.Outgoing.{with}
+use Rattle.dtx_values.specs.Outgoing.{written}
 use Rattle.dtx_values.specs.declared.call.Call.{Call}
 use Rattle.dtx_values.specs.declared.call.Call.TheVariants.{Await, Do, Gone}
 use Rattle.dtx_values.specs.declared.entry.Answer.{Answer}
@@ -8,13 +8,17 @@ use Rattle.dtx_values.specs.declared.entry.Entry.{Entry}
 use Rattle.dtx_values.specs.declared.entry.Entry.TheVariants.{Called}
 use Rattle.dtx_model.specs.Answers.{await_answer, if_begun}
 use Rattle.dtx_model.specs.Steps.{Calls, entered}
-use Rattle.local_half.specs.Half.{after, is_wait}
+use Rattle.local_half.proofs.Writing.{unsent}
+use Rattle.local_half.specs.Half.{after}
 use Rattle.script_runner.specs.Calling.{call_block}
-use Rattle.script_runner.proofs.Calling.{answer_goes_on, answers_itself, await_block, await_wait, called_alone, did_wait, do_block, gone_block, own_block}
+use Rattle.script_runner.proofs.Calling.{answers_itself, await_block, await_wait, called_alone, did_wait, do_block, free_at_home, gone_block, own_block}
 use Rattle.script_runner.proofs.calls.call.Goals as goal
 
 pub call-requires-clause-own : goal.call-requires-clause-own
 call-requires-clause-own c = answers_itself c.args.c.now c.requires.ready.answered c.in_default.not-Await c.in_default.not-Do c.in_default.not-Gone
+
+pub call-requires-clause-new : goal.call-requires-clause-new
+call-requires-clause-new c = free_at_home c.args.half.now.half c.args.line c.args.c.now c.requires.home c.requires.ready.new
 
 pub returns-in-Do-clause-state : goal.returns-in-Do-clause-state
 returns-in-Do-clause-state c =
@@ -26,9 +30,9 @@ returns-in-Do-clause-state c =
 pub returns-in-Do-clause-out : goal.returns-in-Do-clause-out
 returns-in-Do-clause-out c =
     let h = c.args.half.now in
-    c.put.ensures ∙ ap (λ (x : Answer). with c.args.out.now (Called c.args.line c.args.actor x ∷ [])) c.if_begun-answer.ensures
-    ∙ ap (λ (es : List Entry). with c.args.out.now es) (sym (do_block h.transaction.value h.half c.args.line c.args.actor c.in-Do.field-0 c.in-Do.field-1 c.in-Do.field-2 c.args.done))
-    ∙ ap (λ (e : Call). with c.args.out.now (call_block h.transaction.value h.half c.args.line c.args.actor e c.args.done)) (sym c.in-Do.is)
+    c.put.ensures ∙ unsent c.args.out.now (Called c.args.line c.args.actor c.if_begun-answer.result ∷ []) refl ∙ ap (λ (x : Answer). written c.args.out.now (Called c.args.line c.args.actor x ∷ [])) c.if_begun-answer.ensures
+    ∙ ap (λ (es : List Entry). written c.args.out.now es) (sym (do_block h.transaction.value h.half c.args.line c.args.actor c.in-Do.field-0 c.in-Do.field-1 c.in-Do.field-2 c.args.done))
+    ∙ ap (λ (e : Call). written c.args.out.now (call_block h.transaction.value h.half c.args.line c.args.actor e c.args.done)) (sym c.in-Do.is)
 
 pub returns-in-Await-clause-state : goal.returns-in-Await-clause-state
 returns-in-Await-clause-state c =
@@ -41,9 +45,10 @@ pub returns-in-Await-clause-out : goal.returns-in-Await-clause-out
 returns-in-Await-clause-out c =
     let h = c.args.half.now in
     c.put-in-Await.ensures
-    ∙ ap (λ (x : Answer). with c.args.out.now (Called c.args.line c.args.actor x ∷ [])) (c.if_begun-answer-in-Await.ensures ∙ ap (if_begun h.half.seen.limit) c.await_answer.ensures)
-    ∙ ap (λ (es : List Entry). with c.args.out.now es) (sym (await_block h.transaction.value h.half c.args.line c.args.actor c.in-Await.field-0 c.args.done))
-    ∙ ap (λ (e : Call). with c.args.out.now (call_block h.transaction.value h.half c.args.line c.args.actor e c.args.done)) (sym c.in-Await.is)
+    ∙ unsent c.args.out.now (Called c.args.line c.args.actor c.if_begun-answer-in-Await.result ∷ []) refl
+    ∙ ap (λ (x : Answer). written c.args.out.now (Called c.args.line c.args.actor x ∷ [])) (c.if_begun-answer-in-Await.ensures ∙ ap (if_begun h.half.seen.limit) c.await_answer.ensures)
+    ∙ ap (λ (es : List Entry). written c.args.out.now es) (sym (await_block h.transaction.value h.half c.args.line c.args.actor c.in-Await.field-0 c.args.done))
+    ∙ ap (λ (e : Call). written c.args.out.now (call_block h.transaction.value h.half c.args.line c.args.actor e c.args.done)) (sym c.in-Await.is)
 
 pub returns-in-Gone-clause-state : goal.returns-in-Gone-clause-state
 returns-in-Gone-clause-state c =
@@ -55,13 +60,12 @@ returns-in-Gone-clause-state c =
 pub returns-in-Gone-clause-out : goal.returns-in-Gone-clause-out
 returns-in-Gone-clause-out c =
     let h = c.args.half.now in
-    rw c.in-Gone.is (c.gone.ensures.out ∙ ap (λ (es : List Entry). with c.args.out.now es) (gone_block h.transaction.value h.half c.args.line c.args.actor c.in-Gone.e c.args.done))
+    rw c.in-Gone.is (c.gone.ensures.out ∙ ap (λ (es : List Entry). written c.args.out.now es) (gone_block h.transaction.value h.half c.args.line c.args.actor c.in-Gone.e c.args.done))
 
 pub returns-in_default : goal.returns-in_default
 returns-in_default c =
     let h = c.args.half.now in
     let own = answers_itself c.args.c.now c.requires.ready.answered c.in_default.not-Await c.in_default.not-Do c.in_default.not-Gone in
     let same = own_block h.transaction.value h.half c.args.line c.args.actor c.args.c.now c.args.done own in
-    let on = ap is_wait c.call.ensures.answer ∙ answer_goes_on h.transaction.value h.half c.args.c.now c.requires.home own c.requires.ready in
     let mine = entered (Calls c.args.line c.args.actor c.args.c.now c.args.done) [] in
-    record { state = c.call.ensures.state on ∙ ap (λ (es : List Entry). after mine h es) same; out = c.call.ensures.out on ∙ ap (λ (es : List Entry). with c.args.out.now es) same }
+    record { state = c.call.ensures.state ∙ ap (λ (es : List Entry). after mine h es) same; out = c.call.ensures.out ∙ ap (λ (es : List Entry). written c.args.out.now es) same }

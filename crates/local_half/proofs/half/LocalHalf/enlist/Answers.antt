@@ -1,28 +1,35 @@
-use Rattle.std.proofs.Common.{◌≡◌, ◌||◌, not, true, ap, arith, is_some, length, subst, sym, ◌∙◌}
+use Rattle.std.proofs.Common.{ap, arith, is_some, length, subst, sym, ◌∙◌}
+use Rattle.dtx_values.specs.Row.{fresh_row, number_of}
 use Rattle.dtx_values.specs.Table.{marks}
-use Rattle.dtx_values.specs.Class.{is_volatile}
+use Rattle.dtx_model.specs.declared.listener.Listener.{Listener}
 use Rattle.dtx_model.specs.Observed.{listener_number}
-use Rattle.dtx_values.specs.Row.{is_lasting, fresh_row, number_of}
-use Rattle.dtx_model.specs.Words.{has}
-use Rattle.dtx_model.proofs.Counts.{how_many-insert_by}
-use Rattle.local_half.specs.Half.{Known, is_lost}
-use Rattle.local_half.proofs.Lasting.{lasting-before, lasting-row}
-use Rattle.local_half.proofs.Notes.{length-insert_by}
+use Rattle.dtx_model.proofs.Counts.{how_many-insert_by, length-insert_by}
+use Rattle.local_half.specs.Half.{Known}
+use Rattle.local_half.specs.Linked.{is_lost}
+use Rattle.local_half.specs.Taken.{HasPlace}
+use Rattle.local_half.proofs.Links.{links-row}
+use Rattle.local_half.proofs.Rows.{rows-more}
+use Rattle.local_half.proofs.Waiters.{row_beside}
 use Rattle.local_half.proofs.half.LocalHalf.enlist.Goals as goal
 
 pub invariant_of-self : goal.invariant_of-self
 invariant_of-self c =
-    let table = c.self.inside.table in
+    let b = c.self.invariant in
+    let i = c.self.inside in
+    let e = c.args.e in
+    let place = subst (λ (k : Known). HasPlace k.half e c.args.class) (sym c.self.view_is) c.requires in
     let capacity = c.insert_in_order.ensures.capacity in
-    let listeners = ap length c.insert_in_order.ensures.items ∙ length-insert_by listener_number _ c.self.inside.listeners.items in
-    let rows = ap length c.in-Ok.ensures.added ∙ length-insert_by number_of (fresh_row c.args.e c.args.class (marks table)) table in
-    let same : c.args.self.now.half.seen.table ≡ table = sym (ap (λ (k : Known). k.half.seen.table) c.self.view_is) in
-    let alone = subst (λ xs. (is_volatile c.args.class || not (has is_lasting xs)) ≡ true) same c.requires.1 in
-    let begun : is_some c.self.inside.limit ≡ true = subst (λ (k : Known). is_some k.half.seen.limit ≡ true) (sym c.self.view_is) c.requires.2 in (
-      omega (arith, capacity, c.self.invariant.0),
-      omega (arith, listeners, rows, c.self.invariant.1),
-      rw c.in-Ok.ensures.added (lasting-row c.args.e c.args.class table alone c.self.invariant.2),
-      rw c.in-Ok.ensures.added (λ none. c.self.invariant.3 (lasting-before c.args.e c.args.class table none)),
-      λ never. absurd (cc),
-      λ none. rw c.insert_in_order.ensures.items (how_many-insert_by is_lost listener_number _ c.self.inside.listeners.items ∙ c.self.invariant.5 none),
+    let listeners = ap length c.insert_in_order.ensures.items ∙ length-insert_by listener_number _ i.listeners.items in
+    let rows = length-insert_by number_of (fresh_row e c.args.class (marks i.table)) i.table in
+    rw c.in-Ok.ensures.added (
+      omega (arith, capacity, b.0),
+      b.1,
+      b.2,
+      omega (arith, listeners, rows, b.3),
+      rows-more i.limit i.handover.over i.table i.manager i.waits.items e c.args.class place.few place.few_last (λ p. place.alone) place.begun b.4,
+      row_beside i.table i.waits.items e c.args.class place.unawaited b.5,
+      links-row (is_some i.decided) i.table i.waits.items i.branches.items i.proxy e c.args.class b.6,
+      b.7,
+      b.8,
+      λ none. rw c.insert_in_order.ensures.items (how_many-insert_by is_lost listener_number c.listener.result i.listeners.items ∙ rw (ap (λ (l : Listener). l.lost) c.listener.ensures) (b.9 none)),
     )

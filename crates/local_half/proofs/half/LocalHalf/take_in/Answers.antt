@@ -1,29 +1,48 @@
-use Rattle.std.proofs.Common.{◌≡◌, ◌++◌, ◌∙◌, true, ap, drop, length, map, rules, subst, sym, take}
-use Rattle.std.proofs.lemmas.List.{length-map, take_at}
-use Rattle.dtx_values.specs.Table.{was_asked}
-use Rattle.dtx_model.specs.declared.listener.Listener.{Listener}
-use Rattle.dtx_model.specs.Observed.{hear}
+use Rattle.std.proofs.Common.{◌≡◌, ◌∙◌, true, is_some, subst, sym}
+use Rattle.std.proofs.lemmas.List.{length-map}
+use Rattle.dtx_values.specs.Row.{vote_in}
+use Rattle.dtx_values.specs.Table.{was_asked, with_vote}
 use Rattle.local_half.specs.Half.{Known}
-use Rattle.local_half.proofs.Lost.{lost-hear}
-use Rattle.local_half.proofs.Lasting.{lasting-vote}
+use Rattle.local_half.specs.declared.branches.BranchChange.TheVariants.{Acked}
+use Rattle.local_half.proofs.Links.{links-changed, links-table}
+use Rattle.local_half.proofs.Rows.{lasts-vote, row-vote, rows-vote}
+use Rattle.local_half.proofs.Waiters.{other_table}
 use Rattle.local_half.proofs.half.LocalHalf.take_in.Goals as goal
 
 pub invariant_of-self-in-Voted-1 : goal.invariant_of-self-in-Voted-1
 invariant_of-self-in-Voted-1 c =
-    let before = c.self-in-Voted.invariant in
-    let same = ap (λ (k : Known). k.half.seen.table) c.self-in-Voted.view_is in
-    let asked : was_asked c.in-Voted.e.value c.args.self.now.half.seen.table ≡ true = rw c.in-Voted.is at c.requires in
-    let taken = c.take_vote.ensures.taken (subst (λ xs. was_asked c.in-Voted.e.value xs ≡ true) (sym same) asked) in
-    rw taken (before.0, rw length-map before.1, rw lasting-vote before.2, rw lasting-vote before.3, rw length-map before.4, before.5)
+    let b = c.self-in-Voted.invariant in
+    let i = c.self-in-Voted.inside in
+    let e = c.in-Voted.e.value in
+    let v = c.in-Voted.v in
+    let asked : was_asked e c.args.self.now.half.seen.table ≡ true = rw c.in-Voted.is at c.requires in
+    let taken = c.take_vote.ensures.taken (subst (λ (k : Known). was_asked e k.half.seen.table ≡ true) (sym c.self-in-Voted.view_is) asked) in
+    rw taken (
+      b.0,
+      b.1,
+      b.2,
+      b.3 ∙ sym (length-map i.table (vote_in e v)),
+      rows-vote i.limit i.handover.over i.table i.manager i.waits.items e v b.4,
+      other_table i.table (with_vote e v i.table) i.waits.items (λ f a. row-vote e v i.table f) b.5,
+      links-table (is_some i.decided) i.table (with_vote e v i.table) i.waits.items i.branches.items i.proxy (lasts-vote e v i.table) b.6,
+      b.7,
+      b.8,
+      b.9,
+    )
 
-pub invariant_of-self-in-Enl : goal.invariant_of-self-in-Enl
-invariant_of-self-in-Enl c =
-    let before = c.self-in-Told.invariant in
-    let e = c.in-Enl.e.value in
-    let ls = c.self-in-Told.inside.listeners.items in
-    let new = c.tell.new.listeners in
-    let f : Listener → Listener = hear e in
-    let told : new ≡ map f ls = c.tell.ensures ∙ ap (map f) c.deref_mut-in-Enl.ensures.value in
-    let long : length new ≡ length ls = ap length told ∙ length-map ls f in
-    let written : take c.self-in-Told.inside.listeners.len (new ++ drop (length new) ls) ≡ map f ls = take_at new (drop (length new) ls) c.self-in-Told.inside.listeners.len (search (rules, long)) ∙ told in
-    (before.0, rw written (length-map ls f ∙ before.1), before.2, before.3, before.4, λ none. rw written (lost-hear e ls ∙ before.5 none))
+pub invariant_of-self-in-Acked-1 : goal.invariant_of-self-in-Acked-1
+invariant_of-self-in-Acked-1 c =
+    let b = c.self-in-Acked.invariant in
+    let i = c.self-in-Acked.inside in
+    rw (c.change.ensures.items, c.change.ensures.capacity) (
+      b.0,
+      b.1,
+      b.2,
+      b.3,
+      b.4,
+      b.5,
+      links-changed (is_some i.decided) i.table i.waits.items i.branches.items i.proxy c.in-Acked.e.value Acked b.6,
+      b.7,
+      b.8,
+      b.9,
+    )
