@@ -1,41 +1,46 @@
 -- More rows that a history keeps which keeps the joint table: what goes up on v and on an enlistment's connection is sent after BEGUN; and what must stand before
 -- what the coordinator gets, sends and records does.
-use Rattle.std.proofs.Common.{◌≡◌, ℕ, Bool, true, false, ◌&&◌, ◌||◌, List, [], ◌∷◌, refl}
+use Rattle.std.proofs.Common.{◌≡◌, ℕ, Bool, true, false, ◌&&◌, ◌||◌, List, [], ◌∷◌, refl, sym, subst}
 use Rattle.std.specs.Prelude.{not}
 use Rattle.dtx_values.specs.declared.entry.Entry.{Entry}
-use Rattle.dtx_values.specs.declared.entry.Entry.TheVariants.{Freed, Got, Logged, Restarted, Sent}
+use Rattle.dtx_values.specs.declared.entry.Entry.TheVariants.{Freed, Got, Logged, Restarted, Sent, Enlisted, LocalYes, Promoted, Requested, Voted}
 use Rattle.dtx_values.specs.declared.message.Conn.{Conn}
 use Rattle.dtx_values.specs.declared.message.Conn.TheVariants.{Begin, Voter, Enl}
 use Rattle.dtx_values.specs.declared.message.Dir.{Dir}
 use Rattle.dtx_values.specs.declared.message.Dir.TheVariants.{Up, Down}
 use Rattle.dtx_values.specs.declared.message.Message.{Message}
-use Rattle.dtx_values.specs.declared.message.Message.TheVariants.{BeginBegun, BeginCommit, EnlistEnlist, EnlistPrepare, EnlistPrepared, EnlistReadonly}
+use Rattle.dtx_values.specs.declared.message.Message.TheVariants.{BeginBegun, BeginCommit, EnlistEnlist, EnlistPrepare, EnlistPrepared, EnlistReadonly, VoterAsk, VoterCreated}
 use Rattle.dtx_values.specs.declared.number.EnlNo.{EnlNo}
 use Rattle.dtx_values.specs.declared.words.Vote.TheVariants.{Yes, Done}
 use Rattle.dtx_values.specs.Ends.{same_connection}
 use Rattle.dtx_values.specs.Lines.{has_line, is_opening}
-use Rattle.dtx_model.specs.Words.{always, has}
-use Rattle.dtx_model.specs.Entries.{is_commit_got, is_record}
-use Rattle.dtx_model.specs.Promotes.{is_begun_got, is_promoting}
-use Rattle.dtx_model.specs.Tied.{has_mark}
+use Rattle.dtx_model.specs.Words.{always, has, each, all_of}
+use Rattle.dtx_model.specs.Entries.{is_commit_got, is_record, is_asked, is_decision, is_lost, is_promoted, is_sealed, is_vote, is_yes, is_yes_got}
+use Rattle.dtx_model.specs.Promotes.{is_begun_got, is_promoting, is_created_got, is_under_way}
+use Rattle.dtx_model.specs.Tied.{has_mark, enlist_got, is_logged, is_ready_got, is_stop}
 use Rattle.dtx_model.specs.Wires.{opens}
 use Rattle.dtx_model.proofs.Bools.{and_both, and_left, and_right, not_both, not_true, not_false, or_case, or_right}
 use Rattle.std.proofs.lemmas.Bool.{false_from_ne_true, or_left}
+use Rattle.dtx_model.specs.Outcome.{enlisted}
+use Rattle.outcome_law.proofs.Rule.{is_enlisted, is_volatile_of}
+use Rattle.outcome_law.proofs.Debts.{is_volatile_made}
+use Rattle.outcome_law.proofs.Connections.{same_is}
+use Rattle.dtx_model.specs.Learned.{coordinator_aborted}
 use Rattle.outcome_law.proofs.Scans.{has_more}
-use Rattle.outcome_law.proofs.Tests.{eq_self}
+use Rattle.outcome_law.proofs.Tests.{eq_self, second_of_three, second_of_four, third_of_four, second_of_five}
 use Rattle.outcome_law.proofs.Whole.{is_got_on}
-use Rattle.outcome_law.proofs.Messages.{BEGUN, COMMIT, PREPARE}
-use Rattle.outcome_law.proofs.Rest.{is_begun, is_ordered}
-use Rattle.outcome_law.proofs.Table.{is_cast, is_prepare_got, is_there, message_row, rule}
-use Rattle.outcome_law.proofs.Keeping.{Keeps, keeps_before, newest}
-use Rattle.outcome_law.proofs.Standing.{begun_if_enlist, begun_if_voter, prepared_if_cast, sent_opened}
+use Rattle.outcome_law.proofs.Messages.{BEGUN, COMMIT, PREPARE, ASK, CREATED}
+use Rattle.outcome_law.proofs.Rest.{is_begun, is_ordered, is_sound}
+use Rattle.outcome_law.proofs.Table.{is_prepare_got, is_there, message_row, rule, have_come, is_ask_got, is_opening_got, stands_promotable, stands_volatile, volatiles_well}
+use Rattle.outcome_law.proofs.Keeping.{Keeps, keeps_before, newest, fifth_of_five}
+use Rattle.outcome_law.proofs.Standing.{begun_if_enlist, begun_if_voter, prepared_if_cast, sent_opened, prepared_if_asked}
 
 -- a row that each entry keeps of a history that keeps the table
-by_keeping : (row : List Entry → Entry → Bool) → ((x : Entry) (h : List Entry) → Keeps (x ∷ h) → row h x ≡ true) → (h : List Entry) → Keeps h → always row h ≡ true
+pub by_keeping : (row : List Entry → Entry → Bool) → ((x : Entry) (h : List Entry) → Keeps (x ∷ h) → row h x ≡ true) → (h : List Entry) → Keeps h → always row h ≡ true
 by_keeping row at [] k = refl
 by_keeping row at (x ∷ h) k = and_both (row h x) (always row h) (at x h k) (by_keeping row at h (keeps_before x h k))
 
-row_of : (c : Conn) (d : Dir) (m : Message) (h : List Entry) → rule h (Sent c d m) ≡ true → message_row h c m ≡ true
+pub row_of : (c : Conn) (d : Dir) (m : Message) (h : List Entry) → rule h (Sent c d m) ≡ true → message_row h c m ≡ true
 row_of c d m h k = and_right (has_line c d m && has is_promoting h && is_there h c d m) (message_row h c m) k
 
 begun_on : (x : Entry) → is_begun_got x ≡ true → is_got_on Begin Down BEGUN x ≡ true
@@ -101,4 +106,63 @@ kept_ordered = by_keeping is_ordered at
         (prepared_if_cast e Done h b (sent_opened (Enl e) Up EnlistReadonly h b r) (row_of (Enl e) Up EnlistReadonly h r))
     at (Sent (Enl e) Down EnlistPrepare) h k =
         has_more is_commit_got (is_got_on Begin Up COMMIT) commit_on h (row_of (Enl e) Down EnlistPrepare h (newest (Sent (Enl e) Down EnlistPrepare) h k))
+    at x h k = refl
+
+opening_on : (c : Conn) (x : Entry) → is_opening_got c x ≡ true → is_got_on c Up (is_opening c) x ≡ true
+opening_on c (Got e Up m) t =
+    let same = and_left (same_connection c e) (is_opening e m) t in
+    let P : Conn → Type 0 = λ y. is_opening y m ≡ true in
+    and_both (same_connection c e && true) (is_opening c m) (and_both (same_connection c e) true same refl) (subst P (sym (same_is c e same)) (and_right (same_connection c e) (is_opening e m) t))
+opening_on c _ t = absurd cc
+
+created_on : (x : Entry) → is_created_got x ≡ true → is_got_on Voter Down CREATED x ≡ true
+created_on (Got Voter Down VoterCreated) k = refl
+created_on _ k = absurd cc
+
+ask_on : (x : Entry) → is_ask_got x ≡ true → is_got_on Voter Down ASK x ≡ true
+ask_on (Got Voter Down VoterAsk) k = refl
+ask_on _ k = absurd cc
+
+made_volatile : (n : ℕ) (h : List Entry) → stands_volatile n h ≡ true → has (is_volatile_made n) h ≡ true
+made_volatile n [] k = absurd cc
+made_volatile n (Enlisted f c ∷ h) k =
+    or_case (is_volatile_of n (f, c)) (has (is_volatile_of n) (enlisted h)) (λ q. or_left (is_volatile_made n (Enlisted f c)) (has (is_volatile_made n) h) q)
+    (λ q. or_right (is_volatile_made n (Enlisted f c)) (has (is_volatile_made n) h) (made_volatile n h q)) k
+made_volatile n (x ∷ h) k = made_volatile n h k
+
+first_of_six : (a b c d e f : Bool) → (a && b && c && d && e && f) ≡ true → a ≡ true
+first_of_six true b c d e f k = refl
+first_of_six false b c d e f k = absurd cc
+
+pub kept_sound : (h : List Entry) → Keeps h → always is_sound h ≡ true
+kept_sound = by_keeping is_sound at
+  where
+    at : (x : Entry) (h : List Entry) → Keeps (x ∷ h) → is_sound h x ≡ true
+    at (Promoted u c) h k =
+        let r = newest (Promoted u c) h k in
+        let both = fifth_of_five (not (has is_decision h)) (not (has is_sealed h)) (is_under_way h) (have_come h) (has is_begun_got h && has is_created_got h) r in
+        and_both (has (is_got_on Begin Down BEGUN) h && has (is_got_on Voter Down CREATED) h) (not (has is_sealed h))
+        (and_both (has (is_got_on Begin Down BEGUN) h) (has (is_got_on Voter Down CREATED) h)
+        (has_more is_begun_got (is_got_on Begin Down BEGUN) begun_on h (and_left (has is_begun_got h) (has is_created_got h) both))
+        (has_more is_created_got (is_got_on Voter Down CREATED) created_on h (and_right (has is_begun_got h) (has is_created_got h) both)))
+        (second_of_five (not (has is_decision h)) (not (has is_sealed h)) (is_under_way h) (have_come h) (has is_begun_got h && has is_created_got h) r)
+    at (Requested e q) h k =
+        second_of_four (not (has is_decision h)) (has is_promoted h) (has is_sealed h) (stands_promotable e.value h) (newest (Requested e q) h k)
+    at (Sent c Down m) h k =
+        has_more (is_opening_got c) (is_got_on c Up (is_opening c)) (opening_on c) h
+        (third_of_four (has_line c Down m) (has is_promoting h) (has (is_opening_got c) h) (message_row h c m) (newest (Sent c Down m) h k))
+    at (Sent Begin Up BeginCommit) h k =
+        second_of_three (has is_sealed h) (has is_promoted h) (not (has is_decision h)) (row_of Begin Up BeginCommit h (newest (Sent Begin Up BeginCommit) h k))
+    at LocalYes h k =
+        has_more is_ask_got (is_got_on Voter Down ASK) ask_on h
+        (and_left (has is_ask_got h) (not (has is_yes h))
+        (fifth_of_five (not (has is_decision h)) (has is_sealed h) (has is_promoted h) (volatiles_well h) (has is_ask_got h && not (has is_yes h)) (newest LocalYes h k)))
+    at Logged h k = has_more is_commit_got (is_got_on Begin Up COMMIT) commit_on h (first_of_six (has is_commit_got h) (has is_yes_got h) (each (λ i. has (is_ready_got i.enl.value) h) (all_of enlist_got h)) (not (coordinator_aborted h)) (not (has is_logged h)) (not (has is_stop h)) (newest Logged h k))
+    at (Voted e v) h k =
+        let r = newest (Voted e v) h k in
+        let asked : has (is_asked e.value) h ≡ true = second_of_five (has (is_enlisted e.value) h) (has (is_asked e.value) h) (not (has (is_vote e.value) h)) (not (has (is_lost e.value) h)) (not (stands_volatile e.value h && has is_decision h)) r in
+        or_case (stands_volatile e.value h) (has (is_prepare_got e.value) h)
+        (λ q. or_left (has (is_volatile_made e.value) h) (has (is_got_on (Enl e) Down PREPARE) h) (made_volatile e.value h q))
+        (λ q. or_right (has (is_volatile_made e.value) h) (has (is_got_on (Enl e) Down PREPARE) h) (has_more (is_prepare_got e.value) (is_got_on (Enl e) Down PREPARE) (prepare_on e) h q))
+        (prepared_if_asked e.value h (keeps_before (Voted e v) h k) asked)
     at x h k = refl

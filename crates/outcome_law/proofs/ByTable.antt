@@ -1,5 +1,5 @@
 -- Rows that the joint table of rules gives: what is sent is sent after the promotion began, which begins once; and COMMITTED is sent where there is a record.
-use Rattle.std.proofs.Common.{◌≡◌, Bool, true, false, ◌&&◌, ◌||◌, List, [], ◌∷◌, refl}
+use Rattle.std.proofs.Common.{◌≡◌, Bool, true, ◌&&◌, List, [], ◌∷◌, refl}
 use Rattle.std.specs.Prelude.{not}
 use Rattle.dtx_values.specs.declared.entry.Entry.{Entry}
 use Rattle.dtx_values.specs.declared.entry.Entry.TheVariants.{Logged, Promoting, Sent}

@@ -128,6 +128,9 @@ pub mod HalfEvidence
 pub mod HandedOver
 pub mod ByTable
 pub mod BeforeRows
+pub mod OpenedRows
+pub mod ClosedRows
+pub mod Tabled
 pub mod Asking
 pub mod LocalSteps
 pub mod ToldOn
