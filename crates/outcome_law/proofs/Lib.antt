@@ -102,6 +102,7 @@ pub mod Handovers
 pub mod PaidRuns
 pub mod OnceMade
 pub mod Counted
+pub mod InTransit
 pub mod DecidingBlocks
 pub mod ComingRuns
 pub mod Meeting

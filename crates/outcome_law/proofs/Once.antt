@@ -21,7 +21,7 @@ use Rattle.outcome_law.proofs.Keeping.{Keeps, keeps_before, newest}
 use Rattle.outcome_law.proofs.Crossed.{is_got_on, is_sent_on}
 use Rattle.outcome_law.proofs.Doubting.{begin_once, voter_once}
 use Rattle.outcome_law.proofs.Standing.{opening_sent_on}
-use Rattle.outcome_law.proofs.Counted.{no_more}
+use Rattle.outcome_law.proofs.InTransit.{no_more}
 
 -- what passes p is sent down only directly after the message that opens the connection was got
 abbrev pub is_answer_to : Conn → (Message → Bool) → List Entry → Entry → Bool
