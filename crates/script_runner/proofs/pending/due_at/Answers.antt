@@ -43,4 +43,4 @@ returns c =
     all_passed p h c.args.k c.loop-x.x-index c.loop-x.more c.rows-x-items.result.now c.rows-x-items.ensures.rows c.loop-x-test.false c.rows-x-items.ensures.rise none c.loop-x.invariant
 
 pub returns-then-not-may_be_due : goal.returns-then-not-may_be_due
-returns-then-not-may_be_due c = none_due (plans_of c.args.plans.now) c.args.half.now.half c.args.k (c.may_be_due.ensures c.if-not-may_be_due.true)
+returns-then-not-may_be_due c = none_due (plans_of c.args.plans.now) c.args.half.now.half c.args.k (c.may_be_due.ensures.none c.if-not-may_be_due.true)
