@@ -1,6 +1,4 @@
 //! Whole ways of a half: what each call answers, and the entries of each step.
-ghost use Rattle.std.specs.Prelude.{◌≡◌, true};
-ghost use Rattle.local_half.specs.Half.{is_free, is_its_own};
 
 use crate::LocalHalf;
 use dtx_values::{
@@ -24,13 +22,14 @@ fn enl(rt: &impl Abort, n: u32) -> EnlNo {
     EnlNo::new(n).expect(rt, "no such number")
 }
 
-/// Does a call that makes nothing, and says what it answered.
-fn call(rt: &impl Abort, half: &mut LocalHalf, c: &Call, out: &mut Outbox) -> Answer
-    requires own { is_its_own c.now ≡ true }
-    requires new { is_free half.old.half 1 c.now ≡ true }
-{
+/// Does a call of line 1, where its conditions hold, and says what it answered.
+fn call(rt: &impl Abort, half: &mut LocalHalf, c: &Call, out: &mut Outbox) -> Answer {
     out.clear();
-    half.call(actor(rt), 1, c, out)
+    if LocalHalf::is_its_own(c) && half.is_free(1, c) {
+        half.call(actor(rt), 1, c, out)
+    } else {
+        panic!(rt; "a condition of the call doesn't hold");
+    }
 }
 
 /// Begins it, with a durable enlistment e1 and a volatile one e2, and asks for the commit.
