@@ -137,3 +137,10 @@ pub mod LocalSteps
 pub mod ToldOn
 pub mod CameOnce
 pub mod Once
+pub mod CausedRows
+pub mod QuietBlocks
+pub mod AskedRows
+pub mod PlacedRows
+pub mod SealedRows
+pub mod WellRows
+pub mod Promised
