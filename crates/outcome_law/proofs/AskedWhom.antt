@@ -16,7 +16,7 @@ use Rattle.dtx_model.specs.Entries.{is_lost}
 use Rattle.dtx_model.specs.Observed.{come_back, ends_of, hear, listener_number, listeners, lose, observe}
 use Rattle.dtx_model.specs.Half.{is_gone}
 use Rattle.dtx_model.proofs.Bools.{and_both, and_left, and_right, not_both, not_false, or_case, or_first, or_right, or_second}
-use Rattle.outcome_law.proofs.Tests.{eq_self, eq_swap}
+use Rattle.outcome_law.proofs.Tests.{eq_swap}
 use Rattle.outcome_law.proofs.Lists.{has_kept, has-insert}
 use Rattle.outcome_law.proofs.Owned.{is_lost_listener, listens}
 use Rattle.outcome_law.proofs.Table.{stands_volatile}

@@ -1,14 +1,13 @@
 -- Each step keeps what promotables, returns and clones come with, where the table stands after it.
 use Rattle.std.proofs.Common.{◌≡◌, ℕ, ◌==◌, Bool, true, false, ◌&&◌, ◌||◌, List, [], ◌∷◌, Option, Some, None, refl, sym, ap, ◌∙◌}
-use Rattle.std.specs.Prelude.{find, filter, map, not, if◌then◌else◌}
+use Rattle.std.specs.Prelude.{find, filter, not, if◌then◌else◌}
 use Rattle.std.proofs.lemmas.Bool.{false_from_ne_true}
 use Rattle.dtx_values.specs.declared.call.Call.{Call}
 use Rattle.dtx_values.specs.declared.call.Call.TheVariants.{Durable, Promotable, Clone, Marshal, Reenlist}
 use Rattle.dtx_values.specs.declared.entry.Answer.{Answer}
 use Rattle.dtx_values.specs.declared.entry.Answer.TheVariants.{NoSuch, NotBegun, Wait}
-use Rattle.dtx_values.specs.declared.entry.Ask.TheVariants.{Promote, Single}
 use Rattle.dtx_values.specs.declared.entry.Entry.{Entry}
-use Rattle.dtx_values.specs.declared.entry.Entry.TheVariants.{Answered, Asked, Called, Cloned, Down as Ended, Enlisted, Got, Init, Promoting, PromoteReply, Reenlisted, Sent, Stopped}
+use Rattle.dtx_values.specs.declared.entry.Entry.TheVariants.{Answered, Called, Cloned, Down as Ended, Enlisted, Got, Init, Promoting, PromoteReply, Reenlisted, Sent, Stopped}
 use Rattle.dtx_values.specs.declared.message.Conn.{Conn}
 use Rattle.dtx_values.specs.declared.message.Conn.TheVariants.{Again, Begin, Enl}
 use Rattle.dtx_values.specs.declared.message.Dir.{Dir}
@@ -24,7 +23,6 @@ use Rattle.dtx_values.specs.declared.words.Cause.{Cause}
 use Rattle.dtx_values.specs.declared.words.Cause.TheVariants.{Marshal as MarshalCause}
 use Rattle.dtx_values.specs.declared.words.Class.{Class}
 use Rattle.dtx_values.specs.declared.words.Class.TheVariants.{Promotable as PromotableClass}
-use Rattle.dtx_values.specs.declared.script.Support.{Support}
 use Rattle.dtx_values.specs.declared.script.Support.TheVariants.{SinglePhase, TwoPhase}
 use Rattle.dtx_values.specs.Class.{is_promotable, is_volatile}
 use Rattle.dtx_values.specs.Ends.{is_in, knows}
@@ -32,14 +30,13 @@ use Rattle.dtx_values.specs.Owners.{cause_of}
 use Rattle.dtx_values.specs.Support.{is_single}
 use Rattle.dtx_model.specs.declared.branch.Branch.{Branch}
 use Rattle.dtx_model.specs.declared.waiting.EnteredCall.{EnteredCall}
-use Rattle.dtx_model.specs.declared.waiting.Wanted.TheVariants.{Identifier, Place}
 use Rattle.dtx_model.specs.Words.{each, has, onto}
 use Rattle.dtx_model.specs.Entries.{is_call, is_decision, is_promoted, is_sealed}
-use Rattle.dtx_model.specs.Observed.{ends_of, is_branch, observe, rows, track}
+use Rattle.dtx_model.specs.Observed.{ends_of, is_branch, observe, rows}
 use Rattle.dtx_model.specs.Outcome.{can_own, durables, enlisted, is_empty}
 use Rattle.dtx_model.specs.Promotes.{identifier_of, is_failed, is_promoting}
 use Rattle.dtx_model.specs.Wires.{in_transit, is_ended, opens}
-use Rattle.dtx_model.specs.Waiting.{Waiter, call_at, waiter_line, waiting, wanted}
+use Rattle.dtx_model.specs.Waiting.{call_at, waiter_line, waiting, wanted}
 use Rattle.dtx_model.specs.Half.{Half, enlist_sent, info, is_promoting as sees_promoting, sees}
 use Rattle.dtx_model.specs.Acts.{act_entries}
 use Rattle.dtx_model.specs.Arrivals.{local_got}
@@ -49,7 +46,7 @@ use Rattle.dtx_model.specs.Answers.{if_begun}
 use Rattle.dtx_model.specs.World.{World, answer_at, branch_answer, core, facts_at, half, has_left, is_connected, is_finished_there, is_linked, reenlist_answer, reenlist_by, reenlist_facts, unless_stopped, was_opened}
 use Rattle.dtx_model.specs.Steps.{Step, Calls, Replies, Acts, Coordinates, Delivers, Stops, Restarts, after, block_at, called, coordinates, delivered, ended_at, got_by, restarted}
 use Rattle.dtx_model.specs.Caused.{MayCome}
-use Rattle.dtx_model.proofs.Bools.{and_both, and_left, and_right, not_both, not_true, or_case, or_first}
+use Rattle.dtx_model.proofs.Bools.{and_both, and_left, and_right, not_both, not_true, or_first}
 use Rattle.outcome_law.proofs.Scans.{has_less, has_more}
 use Rattle.outcome_law.proofs.Rule.{is_enlisted}
 use Rattle.outcome_law.proofs.Lists.{each-insert}
@@ -63,7 +60,7 @@ use Rattle.outcome_law.proofs.HalfKnows.{way_seen}
 use Rattle.outcome_law.proofs.HalfOwner.{enlist_opening}
 use Rattle.outcome_law.proofs.Reenlisted.{opened_since}
 use Rattle.outcome_law.proofs.WorldCalls.{branch_done, makes_new}
-use Rattle.outcome_law.proofs.TameBlocks.{OfActs, Tame, is_marking, is_promise, is_unpromotable, of_act, tame_arrived, tame_called, tame_cons, tame_coordinates, tame_core_got, tame_ended_at, tame_one, tame_reply, tame_restarted}
+use Rattle.outcome_law.proofs.TameBlocks.{is_unpromotable, of_act, tame_arrived, tame_called, tame_cons, tame_coordinates, tame_core_got, tame_ended_at, tame_reply, tame_restarted}
 use Rattle.outcome_law.proofs.Marks.{IsMarked, cloned_marked, keeps_under, opened_if_enlisted, opening_marked, promotable_marked, promote_marked, return_marked, single_marked, tame_marked, tame_onto}
 use Rattle.outcome_law.proofs.Unlinked.{ended_unknown}
 

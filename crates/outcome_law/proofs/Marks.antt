@@ -4,19 +4,17 @@ use Rattle.std.proofs.Common.{◌≡◌, ℕ, ◌==◌, Bool, true, false, ◌&&
 use Rattle.std.specs.Prelude.{not}
 use Rattle.std.proofs.lemmas.Bool.{eqb-true, false_from_ne_true}
 use Rattle.dtx_values.specs.declared.call.Call.{Call}
-use Rattle.dtx_values.specs.declared.entry.Ask.{Ask}
 use Rattle.dtx_values.specs.declared.entry.Ask.TheVariants.{Prepare, Promote, Single}
 use Rattle.dtx_values.specs.declared.entry.Entry.{Entry}
-use Rattle.dtx_values.specs.declared.entry.Entry.TheVariants.{Asked, Cloned, Enlisted, Got, Promoting, PromoteReply, Reenlisted, Sent}
+use Rattle.dtx_values.specs.declared.entry.Entry.TheVariants.{Asked, Cloned, Enlisted, Got, Reenlisted, Sent}
 use Rattle.dtx_values.specs.declared.message.Conn.{Conn}
-use Rattle.dtx_values.specs.declared.message.Conn.TheVariants.{Begin, Voter, Enl, Again}
+use Rattle.dtx_values.specs.declared.message.Conn.TheVariants.{Begin, Enl}
 use Rattle.dtx_values.specs.declared.message.Dir.TheVariants.{Up, Down}
 use Rattle.dtx_values.specs.declared.message.Message.{Message}
 use Rattle.dtx_values.specs.declared.message.Message.TheVariants.{BeginBegin, EnlistEnlist, EnlistEnlisted}
 use Rattle.dtx_values.specs.declared.number.ActorNo.{ActorNo}
 use Rattle.dtx_values.specs.declared.number.CloneNo.{CloneNo}
 use Rattle.dtx_values.specs.declared.number.EnlNo.{EnlNo}
-use Rattle.dtx_values.specs.declared.words.Cause.{Cause}
 use Rattle.dtx_values.specs.declared.words.Class.{Class}
 use Rattle.dtx_values.specs.declared.words.CloneKind.{CloneKind}
 use Rattle.dtx_values.specs.Class.{is_promotable}
@@ -28,12 +26,11 @@ use Rattle.dtx_model.specs.Observed.{ends_of, is_ask_promote, is_ask_single, is_
 use Rattle.dtx_model.specs.Promotes.{is_enlisted_got, is_promoting}
 use Rattle.dtx_model.specs.Caused.{made_by}
 use Rattle.dtx_model.specs.Grammar.{OfClone}
-use Rattle.dtx_model.specs.Tied.{is_tied, tied}
 use Rattle.dtx_model.specs.Wires.{opens}
-use Rattle.dtx_model.proofs.Bools.{and_left, and_never, and_right, not_both, not_true, or_case, or_right, or_second}
+use Rattle.dtx_model.proofs.Bools.{and_left, and_right, not_both, not_true, or_case, or_right}
 use Rattle.outcome_law.proofs.Scans.{has_more}
 use Rattle.outcome_law.proofs.Rule.{is_cloned}
-use Rattle.outcome_law.proofs.Table.{is_opening_got, is_there, message_row, rule, stands_promotable}
+use Rattle.outcome_law.proofs.Table.{is_there, message_row, rule, stands_promotable}
 use Rattle.outcome_law.proofs.Keeping.{Keeps, before, keeps_before, newest}
 use Rattle.outcome_law.proofs.Crossed.{is_got_on, same_conn_is, was_sent}
 use Rattle.outcome_law.proofs.Tests.{fourth_of_four}

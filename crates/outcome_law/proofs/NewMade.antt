@@ -1,5 +1,5 @@
 -- What a call makes that may still be entered stands nowhere, and no connection was opened for it: each enlistment, each ENLIST and each clone is of a call that came.
-use Rattle.std.proofs.Common.{◌≡◌, ℕ, ◌==◌, Bool, true, false, ◌&&◌, ◌||◌, List, [], ◌∷◌, Some, refl, subst, sym}
+use Rattle.std.proofs.Common.{◌≡◌, ℕ, ◌==◌, Bool, true, false, ◌&&◌, List, Some, refl, subst, sym}
 use Rattle.std.specs.Prelude.{not}
 use Rattle.std.proofs.lemmas.Bool.{false_from_ne_true}
 use Rattle.dtx_values.specs.declared.call.Call.{Call}
@@ -10,7 +10,6 @@ use Rattle.dtx_values.specs.declared.message.Conn.TheVariants.{Enl}
 use Rattle.dtx_values.specs.declared.message.Dir.TheVariants.{Up, Down}
 use Rattle.dtx_values.specs.declared.message.Message.TheVariants.{EnlistEnlist}
 use Rattle.dtx_values.specs.declared.number.ActorNo.{ActorNo}
-use Rattle.dtx_values.specs.declared.number.CloneNo.{CloneNo}
 use Rattle.dtx_values.specs.declared.number.EnlNo.{EnlNo}
 use Rattle.dtx_model.specs.declared.waiting.EnteredCall.{EnteredCall}
 use Rattle.dtx_model.specs.Words.{has}
@@ -18,12 +17,12 @@ use Rattle.dtx_model.specs.Entries.{is_call}
 use Rattle.dtx_model.specs.Caused.{AreMadeOnce, made_by}
 use Rattle.dtx_model.specs.Grammar.{Name, OfClone, OfEnlistment}
 use Rattle.dtx_model.specs.Wires.{opens}
-use Rattle.dtx_model.proofs.Bools.{and_both, and_left, and_right, not_both, not_false}
+use Rattle.dtx_model.proofs.Bools.{and_both, and_left, not_both, not_false}
 use Rattle.outcome_law.proofs.Scans.{has_more}
 use Rattle.outcome_law.proofs.Rule.{is_cloned, is_enlisted}
 use Rattle.outcome_law.proofs.Whole.{is_sent_on}
 use Rattle.outcome_law.proofs.Messages.{ENLIST}
-use Rattle.outcome_law.proofs.Makers.{AreMade, IsMaker, lasting_makes, makes_enlistment, makes_lasting, makes_name}
+use Rattle.outcome_law.proofs.Makers.{AreMade, lasting_makes, makes_name}
 use Rattle.outcome_law.proofs.WorldCalls.{makes_new}
 use Rattle.outcome_law.proofs.Marks.{IsMarked}
 

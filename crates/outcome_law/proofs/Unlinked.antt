@@ -7,16 +7,15 @@ use Rattle.dtx_values.specs.declared.entry.Entry.{Entry}
 use Rattle.dtx_values.specs.declared.entry.Entry.TheVariants.{Down as Ended, Got, Sent}
 use Rattle.dtx_values.specs.declared.message.Conn.{Conn}
 use Rattle.dtx_values.specs.declared.message.Dir.TheVariants.{Up, Down}
-use Rattle.dtx_values.specs.declared.message.Message.{Message}
 use Rattle.dtx_values.specs.Ends.{end_order, is_end_of, knows, note_end, note_got, note_sent, same_connection, tag_of, with_opened, with_tag}
 use Rattle.dtx_values.specs.Lines.{has_line, is_opening}
 use Rattle.dtx_model.specs.Words.{has}
 use Rattle.dtx_model.specs.Observed.{ends_of}
 use Rattle.dtx_model.specs.Wires.{ended_after, ends, is_ended, opens}
-use Rattle.dtx_model.proofs.Bools.{and_left, and_right, not_both, or_case, or_first, or_second}
+use Rattle.dtx_model.proofs.Bools.{and_left, and_right, not_both, or_case}
 use Rattle.outcome_law.proofs.Lists.{has_kept, has-insert, if_kept}
 use Rattle.outcome_law.proofs.Owned.{has_filter}
-use Rattle.outcome_law.proofs.Scans.{has_less, has_more}
+use Rattle.outcome_law.proofs.Scans.{has_more}
 use Rattle.outcome_law.proofs.HalfKnows.{unmapped}
 use Rattle.outcome_law.proofs.Crossed.{same_conn_is}
 
