@@ -1,5 +1,5 @@
 -- In each world that steps made, who was asked to promote, or for a single phase, was made promotable.
-use Rattle.std.proofs.Common.{◌≡◌, ℕ, ◌==◌, Bool, true, ◌&&◌, List, [], ◌∷◌, inl, inr, Option, Some, None, refl, sym, subst, ◌∙◌}
+use Rattle.std.proofs.Common.{◌≡◌, ℕ, ◌==◌, Bool, true, false, ◌&&◌, List, [], ◌∷◌, inl, inr, Option, Some, None, refl, sym, subst, ◌∙◌}
 use Rattle.std.specs.Prelude.{find}
 use Rattle.dtx_values.specs.declared.call.Call.{Call}
 use Rattle.dtx_values.specs.declared.entry.Ask.TheVariants.{Promote, Single}
@@ -34,7 +34,7 @@ use Rattle.outcome_law.proofs.Picks.{found_at, has-at}
 use Rattle.outcome_law.proofs.Owned.{has_rows}
 use Rattle.outcome_law.proofs.Fine.{is_made}
 use Rattle.outcome_law.proofs.CausedRows.{listed_made}
-use Rattle.outcome_law.proofs.QuietBlocks.{ActKind, act_kind, is_quiet, q_called, q_commit_sent, q_coordinates, q_core_got, q_ended_at, q_local_got, q_reply, q_restarted}
+use Rattle.outcome_law.proofs.QuietBlocks.{ActKind, act_kind, is_quiet, q_called, q_commit_sent, q_coordinates, q_core_got, q_ended_at, q_local_got, q_reply}
 
 -- who is asked to promote, or for a single phase, was made promotable
 abbrev pub is_asked_promotable : List Entry → Entry → Bool
@@ -84,6 +84,10 @@ delivered_asks t w c d [] a = quiet_onto (Ended c d ∷ w.past) (ended_at w c d)
 delivered_asks t w c Up (m ∷ ms) a = quiet_onto (Got c Up m ∷ w.past) (core_got (identifier_of t) (core w) c m) (q_core_got (identifier_of t) (core w) c m).proof a
 delivered_asks t w c Down (m ∷ ms) a = quiet_onto (Got c Down m ∷ w.past) (local_got t (half w) c m) (q_local_got t (half w) c m).proof a
 
+restarted_asks : (h : List Entry) (b found : Bool) → always is_asked_promotable h ≡ true → always is_asked_promotable (onto h (restarted b found)) ≡ true
+restarted_asks h true found a = a
+restarted_asks h false found a = a
+
 step_asks : (t : ℕ) (w : World) (m : Step) → always is_asked_promotable w.past ≡ true → always is_asked_promotable (after t w m).past ≡ true
 unfolding after block_at
 step_asks t w (Calls n x c m) a =
@@ -93,7 +97,7 @@ step_asks t w Acts a = act_asks w (act_entries (half w)) (act_kind (half w)) a
 step_asks t w (Coordinates x) a = quiet_onto w.past (coordinates (core w) x) (q_coordinates (core w) x).proof a
 step_asks t w (Delivers c d) a = delivered_asks t w c d (in_transit c d w.past) a
 step_asks t w Stops a = quiet_onto w.past (Stopped ∷ []) refl a
-step_asks t w (Restarts found) a = quiet_onto w.past (restarted (core w).stopped found) (q_restarted (core w).stopped found).proof a
+step_asks t w (Restarts found) a = restarted_asks w.past (core w).stopped found a
 
 -- so in each world that steps made
 pub ran_asks : (G : ℕ → ActorNo → Call → Type 0) (t : ℕ) (ms : List Step) (w : World) → Ran G t ms w → always is_asked_promotable w.past ≡ true

@@ -77,7 +77,7 @@ kept_begun = by_keeping is_begun at
         (begun_if_enlist e (Sent (Enl e) Up m ∷ h) k (enlist_opened e m h (sent_opened (Enl e) Up m h (keeps_before (Sent (Enl e) Up m) h k) (newest (Sent (Enl e) Up m) h k))))
     at x h k = refl
 
-pub marked : (h : List Entry) → has_mark h ≡ true → has is_record h ≡ true
+marked : (h : List Entry) → has_mark h ≡ true → has is_record h ≡ true
 marked [] k = absurd cc
 marked (Logged ∷ h) k = refl
 marked (Restarted true ∷ h) k = refl

@@ -13,7 +13,10 @@ use Rattle.dtx_model.specs.Steps.{Step}
 use Rattle.dtx_model.specs.Caused.{Caused, IsCallOf, Ran, Settled}
 use Rattle.dtx_model.specs.History.{CanCommit}
 use Rattle.outcome_law.proofs.Keeping.{Keeps}
+use Rattle.outcome_law.proofs.Names.{script_once}
 use Rattle.outcome_law.proofs.Tabled.{KeepsMore, kept_told}
+use Rattle.outcome_law.proofs.Steady.{free_keeps}
+use Rattle.outcome_law.proofs.UnstoppedTies.{unlost_tied}
 use Rattle.outcome_law.proofs.CausedRows.{kept_caused}
 use Rattle.outcome_law.proofs.AskedRows.{ran_asks}
 use Rattle.outcome_law.proofs.PlacedRows.{kept_placed, ran_direct}
@@ -37,3 +40,9 @@ pub commits_promoted : (s : List Line) (k t : ℕ) (h : List Entry) → are_name
 commits_promoted s k t h named c keeps settled can =
     let w : World = record { calls = c.freely.0; past = h } in
     kept_told s k t h named c (λ u. run_rows (IsCallOf s t) t c.freely.1.0 w c.freely.1.1 keeps) settled can
+
+-- Nothing that can commit was lost, so no restart came, and its run keeps the joint table.
+pub caused_commits : (s : List Line) (k t : ℕ) (h : List Entry) → are_named_well s ≡ true → Caused s k t h → Settled s h → CanCommit s h → has (is_client_told Committed) h ≡ true
+caused_commits s k t h named c settled can =
+    let G = IsCallOf s t in
+    commits_promoted s k t h named c (free_keeps G t h (script_once s t named) c.freely (unlost_tied G t h c.freely can.unlost)) settled can

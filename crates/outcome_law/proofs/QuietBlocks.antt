@@ -1,4 +1,5 @@
--- Which entries no block has but as its first: what is got, the seal, and the asks of a promotable, to promote or for its single phase. These two come in the local act alone.
+-- Which entries no block has but as its first, or in that of a restart: what is got, the restart, the seal, and the asks of a promotable, to promote or for its single phase.
+-- These two come in the local act alone.
 use Rattle.std.proofs.Common.{◌≡◌, ℕ, ◌==◌, Bool, true, false, ◌&&◌, ◌||◌, ◌⊎◌, inl, inr, not, List, [], ◌∷◌, ◌++◌, map, filter, Option, Some, None, is_some, find, refl, ◌∙◌, if◌then◌else◌}
 use Rattle.std.specs.List.{flat_map, list_any}
 use Rattle.std.proofs.lemmas.List.Folds.{list_all-append}
@@ -53,11 +54,12 @@ use Rattle.dtx_model.specs.Replies.{ack_on, conn_due, due_of, is_volatile_row, o
 use Rattle.dtx_model.specs.Facts.{begin_promotion, durable_facts, durable_waits, facts_if, has_facts, is_late, local_facts, reaches, ticked, time_up}
 use Rattle.dtx_model.specs.Answers.{class_of, limit_of}
 use Rattle.dtx_model.specs.World.{World, half, core, cut, cut_upward, facts_at, gone_by, gone_decides, open_ones, reenlist_facts}
-use Rattle.dtx_model.specs.Steps.{LogAnswer, Done, Full, StoppedNow, StoppedBefore, appended, coordinates, ended_at, freed, restarted}
+use Rattle.dtx_model.specs.Steps.{LogAnswer, Done, Full, StoppedNow, StoppedBefore, appended, coordinates, ended_at, freed}
 
--- the entry isn't got, doesn't seal, and asks nobody to promote or for a single phase
+-- the entry isn't got, is no restart, doesn't seal, and asks nobody to promote or for a single phase
 abbrev pub is_quiet : Entry → Bool
 is_quiet (Got c d m) = false
+is_quiet (Restarted found) = false
 is_quiet Sealed = false
 is_quiet (Asked e Promote) = false
 is_quiet (Asked e AskSingle) = false
@@ -449,10 +451,6 @@ q_freed StoppedBefore = q_one Stopped refl
 pub q_ended_at : (w : World) (c : Conn) (d : Dir) → Quiet (ended_at w c d)
 q_ended_at w c Up = q_core_down (core w) c
 q_ended_at w c Down = q_local_down (half w) c
-
-pub q_restarted : (b found : Bool) → Quiet (restarted b found)
-q_restarted true found = q_one (Restarted found) refl
-q_restarted false found = q_cons Stopped refl (q_one (Restarted found) refl)
 
 -- what stands after the call
 pub q_called : (t : ℕ) (w : World) (c : Call) (a : Answer) → Quiet (facts_if (has_facts a) (facts_at t w c a))

@@ -5,7 +5,7 @@ use Rattle.std.specs.Prelude.{find, is_some, not, if◌then◌else◌}
 use Rattle.std.proofs.lemmas.Bool.{eqb-true, or_left}
 use Rattle.dtx_values.specs.declared.call.Call.{Call}
 use Rattle.dtx_values.specs.declared.entry.Entry.{Entry}
-use Rattle.dtx_values.specs.declared.entry.Entry.TheVariants.{Asked, Called, Down as Ended, Enlisted, Got, Promoting, Sealed, Sent, Stopped}
+use Rattle.dtx_values.specs.declared.entry.Entry.TheVariants.{Asked, Called, Down as Ended, Got, Promoting, Restarted, Sealed, Sent, Stopped}
 use Rattle.dtx_values.specs.declared.entry.Ask.TheVariants.{Prepare, Promote, Single}
 use Rattle.dtx_values.specs.declared.message.Conn.{Conn}
 use Rattle.dtx_values.specs.declared.message.Conn.TheVariants.{Begin, Voter, Enl, Again}
@@ -16,7 +16,6 @@ use Rattle.dtx_values.specs.declared.message.Message.TheVariants.{EnlistEnlist, 
 use Rattle.dtx_values.specs.declared.number.ActorNo.{ActorNo}
 use Rattle.dtx_values.specs.declared.number.EnlNo.{EnlNo}
 use Rattle.dtx_values.specs.declared.row.Row.{Row}
-use Rattle.dtx_values.specs.Class.{is_volatile}
 use Rattle.dtx_values.specs.Ends.{same_connection}
 use Rattle.dtx_values.specs.Lines.{has_line, is_opening}
 use Rattle.dtx_values.specs.Owners.{lasting, only, owner_of}
@@ -48,18 +47,21 @@ use Rattle.outcome_law.proofs.SameRows.{is_asked_there}
 use Rattle.outcome_law.proofs.TableRows.{enlisted_in_rows}
 use Rattle.outcome_law.proofs.Owned.{decision_seen}
 use Rattle.outcome_law.proofs.HalfKnows.{way_seen}
-use Rattle.outcome_law.proofs.HalfRows.{sealed_if_commit}
+use Rattle.outcome_law.proofs.HalfRows.{sealed_if_commit, volatile_stands}
 use Rattle.outcome_law.proofs.Deciding.{stays}
 use Rattle.outcome_law.proofs.Table.{ask_row, ends_with, is_opening_got, is_prepare_got, is_there, message_row, rule, stands_volatile}
 use Rattle.outcome_law.proofs.Keeping.{Keeps, earlier, keeps_before, newest}
 use Rattle.outcome_law.proofs.Crossed.{got_sent, is_got_on, is_sent_on, same_conn_is, was_sent}
 use Rattle.outcome_law.proofs.CoreKnown.{sent_opened_there}
 use Rattle.outcome_law.proofs.Leading.{opening_was_sent}
+use Rattle.outcome_law.proofs.Standing.{ends_has}
+use Rattle.outcome_law.proofs.Marks.{keeps_under}
+use Rattle.outcome_law.proofs.BeforeRows.{prepare_on}
 use Rattle.outcome_law.proofs.ByTable.{ruled_later}
 use Rattle.outcome_law.proofs.Coming.{AreComing}
 use Rattle.outcome_law.proofs.ComingRuns.{ran_coming}
-use Rattle.outcome_law.proofs.Upward.{IsComing, none_coming, none_waits, step_coming}
-use Rattle.outcome_law.proofs.QuietBlocks.{ActKind, act_kind, is_quiet, q_called, q_commit_sent, q_coordinates, q_core_got, q_ended_at, q_local_got, q_reply, q_restarted}
+use Rattle.outcome_law.proofs.Upward.{IsComing, none_coming, none_waits, step_coming, takes_next}
+use Rattle.outcome_law.proofs.QuietBlocks.{ActKind, act_kind, is_quiet, q_called, q_commit_sent, q_coordinates, q_core_got, q_ended_at, q_local_got, q_reply}
 
 -- whose ENLISTED was got stands, while nothing is decided
 abbrev pub IsJoined : List Entry → Type 0
@@ -250,10 +252,6 @@ enlisted_joins t w e k n c j = λ d f g.
         (λ a. absurd (not_both (has (is_got_on (Enl f) Down ENLISTED) w.past) a b)) g)
 
 -- After each step.
-takes_next : (m : Message) (ms ns : List Message) → ns ≡ m ∷ ms → is_next m ns
-takes_next m ms [] e = absurd cc
-takes_next m ms (n ∷ ns) e = cc
-
 got_joined : (t : ℕ) (w : World) (c : Conn) (m : Message) → Keeps w.past → MayCross w.past (Got c Down m) → AreComing w.calls w.past → IsJoined w.past
     → IsJoined (onto (Got c Down m ∷ w.past) (local_got t (half w) c m))
 got_joined t w (Enl e) EnlistEnlisted k n a j = enlisted_joins t w e k n a j
@@ -282,6 +280,10 @@ act_joined w es (inr (inr (inr s))) j =
     subst (λ (xs : List Entry). IsJoined (onto w.past xs)) (sym s.block)
     (joined_onto (Sealed ∷ w.past) (commit_sent (half w).seen) (q_commit_sent (half w).seen).proof (joined_more Sealed w.past (λ e. refl) j))
 
+restarted_joined : (h : List Entry) (b found : Bool) → IsJoined h → IsJoined (onto h (restarted b found))
+restarted_joined h true found j = joined_more (Restarted found) h (λ e. refl) j
+restarted_joined h false found j = joined_more (Restarted found) (Stopped ∷ h) (λ e. refl) (joined_more Stopped h (λ e. refl) j)
+
 step_joined : (t : ℕ) (w : World) (m : Step) → Keeps w.past → AreComing w.calls w.past → IsJoined w.past → IsJoined (after t w m).past
 unfolding after block_at
 step_joined t w (Calls n x c m) k a j =
@@ -293,16 +295,12 @@ step_joined t w (Coordinates x) k a j = joined_onto w.past (coordinates (core w)
 step_joined t w (Delivers c Up) k a j = up_joined t w c (in_transit c Up w.past) j
 step_joined t w (Delivers c Down) k a j = down_joined t w c (in_transit c Down w.past) refl k a j
 step_joined t w Stops k a j = joined_onto w.past (Stopped ∷ []) refl j
-step_joined t w (Restarts found) k a j = joined_onto w.past (restarted (core w).stopped found) (q_restarted (core w).stopped found).proof j
-
-keeps_onto : (h es : List Entry) → Keeps (onto h es) → Keeps h
-keeps_onto h [] k = k
-keeps_onto h (x ∷ es) k = keeps_before x h (keeps_onto (x ∷ h) es k)
+step_joined t w (Restarts found) k a j = restarted_joined w.past (core w).stopped found j
 
 -- the world before the last step keeps the table where the one after it does
 before_step : (G : ℕ → ActorNo → Call → Type 0) (t : ℕ) (m : Step) (ms : List Step) (w : World) (r : Ran G t (m ∷ ms) w) → Keeps w.past → Keeps r.0.past
 unfolding after
-before_step G t m ms w r k = keeps_onto r.0.past (block_at t r.0 m) (subst (λ (x : World). Keeps x.past) r.3 k)
+before_step G t m ms w r k = keeps_under r.0.past (block_at t r.0 m) (subst (λ (x : World). Keeps x.past) r.3 k)
 
 coming_of : (G : ℕ → ActorNo → Call → Type 0) (t : ℕ) (ms : List Step) (w : World) → Ran G t ms w → Keeps w.past → AreComing w.calls w.past
 coming_of G t ms w r k = ran_coming G t ms w r (ruled_later w.past k.rules)
@@ -371,6 +369,10 @@ down_well t w c [] a = well_onto w.past (Ended c Down ∷ ended_at w c Down) (an
 down_well t w c (m ∷ ms) a =
     well_onto (Got c Down m ∷ w.past) (local_got t (half w) c m) (q_local_got t (half w) c m).proof (one_well (Got c Down m) w.past refl (λ e. down_off (same_connection (Enl e) c) (ENLIST m)) a)
 
+restarted_well : (h : List Entry) (b found : Bool) → AreSealedWell h → AreSealedWell (onto h (restarted b found))
+restarted_well h true found a = one_well (Restarted found) h refl (λ e. refl) a
+restarted_well h false found a = one_well (Restarted found) (Stopped ∷ h) refl (λ e. refl) (one_well Stopped h refl (λ e. refl) a)
+
 step_well : (t : ℕ) (w : World) (m : Step) → Keeps w.past → AreComing w.calls w.past → IsComing w.calls w.past → IsJoined w.past → AreSealedWell w.past → AreSealedWell (after t w m).past
 unfolding after block_at
 step_well t w (Calls n x c m) k b u j a =
@@ -382,7 +384,7 @@ step_well t w (Coordinates x) k b u j a = well_onto w.past (coordinates (core w)
 step_well t w (Delivers c Up) k b u j a = up_well t w c (in_transit c Up w.past) refl u a
 step_well t w (Delivers c Down) k b u j a = down_well t w c (in_transit c Down w.past) a
 step_well t w Stops k b u j a = well_onto w.past (Stopped ∷ []) refl a
-step_well t w (Restarts found) k b u j a = well_onto w.past (restarted (core w).stopped found) (q_restarted (core w).stopped found).proof a
+step_well t w (Restarts found) k b u j a = restarted_well w.past (core w).stopped found a
 
 pub ran_well : (G : ℕ → ActorNo → Call → Type 0) (t : ℕ) (ms : List Step) (w : World) → Ran G t ms w → Keeps w.past → AreSealedWell w.past
 ran_well G t [] w r k = subst AreSealedWell (sym r.1) tt
@@ -392,13 +394,6 @@ ran_well G t (m ∷ ms) w r k =
     (step_well t r.0 m b (coming_of G t ms r.0 r.1 b) (ran_upward G t ms r.0 r.1 b) (ran_joined G t ms r.0 r.1 b) (ran_well G t ms r.0 r.1 b))
 
 -- Who is asked to prepare was enlisted: a volatile stands, and a PREPARE comes after COMMIT and ENLIST were got.
-volatile_enlisted : (n : ℕ) (h : List Entry) → stands_volatile n h ≡ true → has (is_enlisted n) h ≡ true
-volatile_enlisted n [] k = absurd cc
-volatile_enlisted n (Enlisted f c ∷ h) k =
-    or_case ((n == f.value) && is_volatile c) (stands_volatile n h) (λ a. or_left (n == f.value) (has (is_enlisted n) h) (and_left (n == f.value) (is_volatile c) a))
-    (λ a. or_right (n == f.value) (has (is_enlisted n) h) (volatile_enlisted n h a)) k
-volatile_enlisted n (x ∷ h) k = or_right (is_enlisted n x) (has (is_enlisted n) h) (volatile_enlisted n h k)
-
 -- where PREPARE is sent, COMMIT was got, and ENLIST on its connection
 prepare_after : (e : EnlNo) (x : Entry) (h : List Entry) → Keeps h → rule h x ≡ true → is_sent_on (Enl e) Down PREPARE x ≡ true → (has is_commit_got h && has (is_opening_got (Enl e)) h) ≡ true
 prepare_after e (Sent c Down EnlistPrepare) h k r t =
@@ -430,19 +425,11 @@ prepared_stands e h k a g =
     now_well h a (sealed_if_commit h k (and_left (has is_commit_got h) (has (is_opening_got (Enl e)) h) both)) e
     (has_more (is_opening_got (Enl e)) (is_got_on (Enl e) Up ENLIST) (opening_enlist e) h (and_right (has is_commit_got h) (has (is_opening_got (Enl e)) h) both))
 
-prepare_got_on : (e : EnlNo) (h : List Entry) → ends_with (is_prepare_got e.value) h ≡ true → has (is_got_on (Enl e) Down PREPARE) h ≡ true
-prepare_got_on e [] t = absurd cc
-prepare_got_on e (x ∷ h) t = or_left (is_got_on (Enl e) Down PREPARE x) (has (is_got_on (Enl e) Down PREPARE) h) (one x t)
-  where
-    one : (x : Entry) → is_prepare_got e.value x ≡ true → is_got_on (Enl e) Down PREPARE x ≡ true
-    one (Got (Enl f) Down EnlistPrepare) t = and_both ((e.value == f.value) && true) true (and_both (e.value == f.value) true t refl) refl
-    one _ t = absurd cc
-
 asked_here : (x : Entry) (h : List Entry) → Keeps h → AreSealedWell h → rule h x ≡ true → is_asked_there h x ≡ true
 asked_here (Asked e Prepare) h k a r =
     or_case (stands_volatile e.value h && has is_commit h && not (has is_decision h)) (ends_with (is_prepare_got e.value) h)
-    (λ t. volatile_enlisted e.value h (and_left (stands_volatile e.value h) (has is_commit h) (and_left (stands_volatile e.value h && has is_commit h) (not (has is_decision h)) t)))
-    (λ t. prepared_stands e h k a (prepare_got_on e h t)) (and_right (not (has (is_asked e.value) h)) (ask_row h e.value) r)
+    (λ t. volatile_stands e.value h (and_left (stands_volatile e.value h) (has is_commit h) (and_left (stands_volatile e.value h && has is_commit h) (not (has is_decision h)) t)))
+    (λ t. prepared_stands e h k a (has_more (is_prepare_got e.value) (is_got_on (Enl e) Down PREPARE) (prepare_on e) h (ends_has (is_prepare_got e.value) h t))) (and_right (not (has (is_asked e.value) h)) (ask_row h e.value) r)
 asked_here x h k a r = refl
 
 pub kept_there : (h : List Entry) → Keeps h → AreSealedWell h → always is_asked_there h ≡ true

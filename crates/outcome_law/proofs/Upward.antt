@@ -499,7 +499,7 @@ call_coming t w n a c m k =
     (calm_called t w c (answer_at t w c m) refl) k
 
 -- The deliveries.
-takes_next : (m : Message) (ms ns : List Message) → ns ≡ m ∷ ms → is_next m ns
+pub takes_next : (m : Message) (ms ns : List Message) → ns ≡ m ∷ ms → is_next m ns
 takes_next m ms [] e = absurd cc
 takes_next m ms (n ∷ ns) e = cc
 

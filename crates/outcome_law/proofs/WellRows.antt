@@ -1,25 +1,20 @@
 -- Rows of who is asked and told: a volatile is asked to prepare, or who got PREPARE; a promotable is asked to promote or for its single phase; and an enlistment is told
 -- committed or in doubt where it was decided, or where there is a record.
-use Rattle.std.proofs.Common.{◌≡◌, ℕ, Bool, true, false, ◌&&◌, ◌||◌, List, [], ◌∷◌, Option, Some, None, refl, ◌∙◌, sym}
+use Rattle.std.proofs.Common.{◌≡◌, true, false, ◌&&◌, ◌||◌, List, [], ◌∷◌, Option, Some, None, refl, ◌∙◌, sym}
 use Rattle.std.specs.Prelude.{is_some, not}
 use Rattle.std.proofs.lemmas.Bool.{or_left}
 use Rattle.dtx_values.specs.declared.entry.Ask.TheVariants.{Prepare, Promote, Single}
 use Rattle.dtx_values.specs.declared.entry.Entry.{Entry}
-use Rattle.dtx_values.specs.declared.entry.Entry.TheVariants.{Asked, Got, Logged, Told}
+use Rattle.dtx_values.specs.declared.entry.Entry.TheVariants.{Asked, Told}
 use Rattle.dtx_values.specs.declared.entry.Party.TheVariants.{Enl as Member}
-use Rattle.dtx_values.specs.declared.message.Conn.{Conn}
-use Rattle.dtx_values.specs.declared.message.Conn.TheVariants.{Enl, Again}
+use Rattle.dtx_values.specs.declared.message.Conn.TheVariants.{Enl}
 use Rattle.dtx_values.specs.declared.message.Dir.TheVariants.{Down}
-use Rattle.dtx_values.specs.declared.message.Message.{Message}
-use Rattle.dtx_values.specs.declared.message.Message.TheVariants.{EnlistCommit, ReenlistCommitted}
 use Rattle.dtx_values.specs.declared.number.EnlNo.{EnlNo}
 use Rattle.dtx_values.specs.declared.words.Outcome.{Outcome}
 use Rattle.dtx_values.specs.declared.words.Outcome.TheVariants.{Committed, Aborted, InDoubt}
-use Rattle.dtx_values.specs.Lines.{has_line}
 use Rattle.dtx_model.specs.Words.{always, has, latest}
 use Rattle.dtx_model.specs.Entries.{decision_of, is_asked, is_commit, is_decision, is_record, same_outcome}
 use Rattle.dtx_model.specs.Outcome.{hears_doubt}
-use Rattle.dtx_model.specs.Tied.{is_logged}
 use Rattle.dtx_model.proofs.Bools.{and_both, and_left, and_right, not_both, or_case, or_right}
 use Rattle.outcome_law.proofs.Tests.{first_of_three}
 use Rattle.outcome_law.proofs.Scans.{has_more}
@@ -28,11 +23,12 @@ use Rattle.outcome_law.proofs.Messages.{PREPARE}
 use Rattle.outcome_law.proofs.Debts.{is_volatile_made}
 use Rattle.outcome_law.proofs.Owed.{is_asked_well}
 use Rattle.outcome_law.proofs.Owned.{decision_seen}
-use Rattle.outcome_law.proofs.Table.{ask_row, brings, ends_again, ends_with, hears_decision, hears_here, is_prepare_got, message_row, rule, stands_volatile}
+use Rattle.outcome_law.proofs.Table.{ask_row, brings, ends_again, ends_with, hears_decision, hears_here, is_prepare_got, rule, stands_volatile}
 use Rattle.outcome_law.proofs.Keeping.{Keeps, keeps_before, newest}
 use Rattle.outcome_law.proofs.Crossed.{is_got_on}
-use Rattle.outcome_law.proofs.Sendings.{by_got}
-use Rattle.outcome_law.proofs.BeforeRows.{made_volatile, marked, prepare_on}
+use Rattle.outcome_law.proofs.Standing.{ends_has}
+use Rattle.outcome_law.proofs.OneOutcome.{heard_record}
+use Rattle.outcome_law.proofs.BeforeRows.{made_volatile, prepare_on}
 use Rattle.outcome_law.proofs.CausedRows.{doubt_ends}
 use Rattle.outcome_law.proofs.AskedRows.{is_asked_promotable}
 
@@ -43,35 +39,8 @@ prepare_well h e r =
     (λ t. or_left (has (is_volatile_made e.value) h) (has (is_got_on (Enl e) Down PREPARE) h)
     (made_volatile e.value h (first_of_three (stands_volatile e.value h) (has is_commit h) (not (has is_decision h)) t)))
     (λ t. or_right (has (is_volatile_made e.value) h) (has (is_got_on (Enl e) Down PREPARE) h)
-    (has_more (is_prepare_got e.value) (is_got_on (Enl e) Down PREPARE) (prepare_on e) h (ends_has h t)))
+    (has_more (is_prepare_got e.value) (is_got_on (Enl e) Down PREPARE) (prepare_on e) h (ends_has (is_prepare_got e.value) h t)))
     (and_right (not (has (is_asked e.value) h)) (ask_row h e.value) r)
-  where
-    ends_has : (h : List Entry) → ends_with (is_prepare_got e.value) h ≡ true → has (is_prepare_got e.value) h ≡ true
-    ends_has [] t = absurd cc
-    ends_has (x ∷ h) t = or_left (is_prepare_got e.value x) (has (is_prepare_got e.value) h) t
-
--- a commit comes where there is a record
-abbrev is_commit_message : Message → Bool
-is_commit_message EnlistCommit = true
-is_commit_message ReenlistCommitted = true
-is_commit_message _ = false
-
-logged_record : (x : Entry) → is_logged x ≡ true → is_record x ≡ true
-logged_record Logged k = refl
-logged_record _ k = absurd cc
-
-commit_row : (c : Conn) (m : Message) (h : List Entry) → Keeps h → is_commit_message m ≡ true → has_line c Down m ≡ true → message_row h c m ≡ true → has is_record h ≡ true
-commit_row c EnlistCommit h k t l r = has_more is_logged is_record logged_record h r
-commit_row c ReenlistCommitted h k t l r = marked h r
-commit_row c _ h k t l r = absurd cc
-
-brought_record : (e : ℕ) (h : List Entry) → Keeps h → ends_with (brings e Committed) h ≡ true → has is_record h ≡ true
-brought_record e [] k t = absurd cc
-brought_record e (Got (Enl f) Down EnlistCommit ∷ h) k t =
-    by_got (Enl f) Down is_commit_message (λ g. has is_record g) (λ x g s. or_right (is_record x) (has is_record g) s) (commit_row (Enl f)) EnlistCommit h k refl
-brought_record e (Got (Again f) Down ReenlistCommitted ∷ h) k t =
-    by_got (Again f) Down is_commit_message (λ g. has is_record g) (λ x g s. or_right (is_record x) (has is_record g) s) (commit_row (Again f)) ReenlistCommitted h k refl
-brought_record e (x ∷ h) k t = absurd cc
 
 -- who is told hears the decision, or such a message, or an abort
 some_decided : (x : Outcome) (o : Option Outcome) → is_decided x o ≡ true → is_some o ≡ true
@@ -81,7 +50,7 @@ some_decided Aborted None k = absurd cc
 some_decided InDoubt None k = absurd cc
 
 heard_well : (h : List Entry) (e : EnlNo) (x : Outcome) → Keeps h → hears_here h (Member e) x ≡ true → (has is_decision h || has is_record h || same_outcome x Aborted) ≡ true
-heard_well h e Committed k t = or_left (has is_decision h || has is_record h) false (or_right (has is_decision h) (has is_record h) (brought_record e.value h k t))
+heard_well h e Committed k t = or_left (has is_decision h || has is_record h) false (or_right (has is_decision h) (has is_record h) (heard_record (Member e) h k t))
 heard_well h e Aborted k t = or_right (has is_decision h || has is_record h) true refl
 heard_well h e InDoubt k t = absurd (not_both (ends_with (brings e.value InDoubt) h) t (doubt_ends e.value h))
 
