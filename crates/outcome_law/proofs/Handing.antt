@@ -1,6 +1,6 @@
 -- In each world that steps make, where the table stands: no ENLIST is sent before CREATED came, and until the promotion succeeds each that was sent is that of the
 -- enlistment that is handed over.
-use Rattle.std.proofs.Common.{◌≡◌, ℕ, ◌==◌, Bool, true, false, ◌&&◌, ◌||◌, ◌⊎◌, inl, inr, List, [], ◌∷◌, ◌++◌, Option, Some, None, refl, ◌∙◌, ap, sym, subst}
+use Rattle.std.proofs.Common.{◌≡◌, ℕ, ◌==◌, Bool, true, false, ◌&&◌, ◌⊎◌, inl, inr, List, [], ◌∷◌, ◌++◌, Option, Some, None, refl, ◌∙◌, ap, sym, subst}
 use Rattle.std.specs.Prelude.{find, is_some, not, if◌then◌else◌}
 use Rattle.std.specs.List.{flat_map}
 use Rattle.std.proofs.lemmas.Bool.{eqb-true}
@@ -19,7 +19,7 @@ use Rattle.dtx_values.specs.declared.words.Cause.{Cause}
 use Rattle.dtx_model.specs.Words.{each, has, onto}
 use Rattle.dtx_model.specs.Entries.{is_decision, is_promoted, is_sealed}
 use Rattle.dtx_model.specs.Observed.{handover, observe, track}
-use Rattle.dtx_model.specs.Promotes.{identifier_of, is_created_got, is_promoting}
+use Rattle.dtx_model.specs.Promotes.{identifier_of, is_promoting}
 use Rattle.dtx_model.specs.Waiting.{is_place_of}
 use Rattle.dtx_model.specs.Wires.{in_transit, opens}
 use Rattle.dtx_model.specs.Half.{Half, by_manager, enlist_sent, given, info, is_handed, over, promoted_by, sees}
@@ -54,8 +54,8 @@ ran_keeping P start step G t (m ∷ ms) w r k =
     let v = r.0 in
     let past : w.past ≡ onto v.past (block_at t v m) = ap (λ (x : World). x.past) r.3 in
     let now : Keeps (onto v.past (block_at t v m)) = subst Keeps past k in
-    let then : Keeps v.past = keeps_within v.past (block_at t v m) now in
-    subst P (sym past) (step t v m then now (ran_keeping P start step G t ms v r.1 then))
+    let before : Keeps v.past = keeps_within v.past (block_at t v m) now in
+    subst P (sym past) (step t v m before now (ran_keeping P start step G t ms v r.1 before))
 
 -- until the promotion succeeds, each ENLIST that was sent is that of the handover
 abbrev pub IsHanding : List Entry → Type 0

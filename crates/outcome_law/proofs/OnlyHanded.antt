@@ -18,7 +18,7 @@ use Rattle.dtx_model.specs.Outcome.{can_own, durables, enlisted, is_empty}
 use Rattle.dtx_model.specs.Promotes.{is_promoting}
 use Rattle.dtx_model.specs.Wires.{opens}
 use Rattle.dtx_model.specs.Half.{is_handed}
-use Rattle.dtx_model.proofs.Bools.{and_both, and_left, and_right, not_both, not_true, or_case, or_false, or_right}
+use Rattle.dtx_model.proofs.Bools.{and_both, and_left, and_right, not_both, not_true, or_case, or_right}
 use Rattle.outcome_law.proofs.Tests.{eq_swap, fourth_of_five, third_of_five}
 use Rattle.outcome_law.proofs.Rule.{is_enlisted, is_only, is_volatile_of}
 use Rattle.outcome_law.proofs.Table.{class_row, is_enlist_got, is_opening_got, stands_volatile}

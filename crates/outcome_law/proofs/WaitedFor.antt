@@ -1,5 +1,5 @@
 -- In each world that steps make, where the table stands and no two lines' calls make the same enlistment: who is handed over, and who waits.
-use Rattle.std.proofs.Common.{◌≡◌, ℕ, Bool, true, false, ◌&&◌, ◌||◌, List, [], ◌∷◌, Option, Some, None, refl, subst}
+use Rattle.std.proofs.Common.{◌≡◌, ℕ, true, false, List, [], ◌∷◌, Some, refl}
 use Rattle.std.specs.Prelude.{find, not}
 use Rattle.std.proofs.lemmas.Bool.{false_from_ne_true}
 use Rattle.dtx_values.specs.declared.call.Call.{Call}
@@ -9,30 +9,25 @@ use Rattle.dtx_values.specs.declared.number.ActorNo.{ActorNo}
 use Rattle.dtx_values.specs.declared.number.EnlNo.{EnlNo}
 use Rattle.dtx_values.specs.declared.number.RmNo.{RmNo}
 use Rattle.dtx_values.specs.declared.words.Class.{Class}
-use Rattle.dtx_values.specs.Class.{is_volatile}
-use Rattle.dtx_model.specs.declared.waiting.EnteredCall.{EnteredCall}
 use Rattle.dtx_model.specs.declared.waiting.Wanted.TheVariants.{Identifier, Place}
 use Rattle.dtx_model.specs.Words.{each, has}
 use Rattle.dtx_model.specs.Entries.{is_promoted}
-use Rattle.dtx_model.specs.Observed.{handover}
 use Rattle.dtx_model.specs.Promotes.{is_created_got, is_failed, is_promoting, is_under_way}
 use Rattle.dtx_model.specs.Wires.{opens}
 use Rattle.dtx_model.specs.Waiting.{Waiter, is_place_of, waiting}
-use Rattle.dtx_model.specs.Half.{is_handed}
 use Rattle.dtx_model.specs.World.{World}
 use Rattle.dtx_model.specs.Steps.{Step}
 use Rattle.dtx_model.specs.Caused.{AreMadeOnce, Ran}
 use Rattle.dtx_model.proofs.Bools.{and_both, and_left, and_right, not_both, not_false, not_true}
 use Rattle.outcome_law.proofs.Tests.{first_of_three, second_of_three}
 use Rattle.outcome_law.proofs.Scans.{each_more}
-use Rattle.outcome_law.proofs.Picks.{found_at}
 use Rattle.outcome_law.proofs.Lists.{OfEach}
 use Rattle.outcome_law.proofs.Rule.{is_enlisted}
 use Rattle.outcome_law.proofs.Table.{stands_volatile}
 use Rattle.outcome_law.proofs.Keeping.{Keeps}
 use Rattle.outcome_law.proofs.OnTheWay.{is_unplaced}
 use Rattle.outcome_law.proofs.Handover.{IsWaitedFor, is_unsent}
-use Rattle.outcome_law.proofs.Makers.{AreMade, IsWaiter, all_unplaced, of-found, place_made, ran_made}
+use Rattle.outcome_law.proofs.Makers.{IsWaiter, all_unplaced, of-found, place_made, ran_made}
 use Rattle.outcome_law.proofs.Handing.{IsHanding, ran_after, ran_handing}
 use Rattle.outcome_law.proofs.OnlyHanded.{handed_lasting, handed_stands, lasting_firm, only_handed, volatile_stands}
 use Rattle.outcome_law.proofs.WaitingApart.{ran_apart}

@@ -1,15 +1,14 @@
 -- In each world that steps make, where no two lines' calls make the same enlistment: no two calls wait for one place, and after the seal no call waits.
-use Rattle.std.proofs.Common.{◌≡◌, ℕ, ◌==◌, ◌+◌, Bool, true, false, ◌&&◌, ◌||◌, ◌⊎◌, inl, inr, List, [], ◌∷◌, ◌++◌, Option, Some, None, refl, ◌∙◌, ap, sym, subst}
-use Rattle.std.specs.Prelude.{filter, find, is_some, length, nat_lt, not, if◌then◌else◌}
+use Rattle.std.proofs.Common.{◌≡◌, ℕ, ◌==◌, Bool, true, false, ◌&&◌, ◌⊎◌, inl, inr, List, [], ◌∷◌, ◌++◌, Option, Some, None, refl, ◌∙◌, ap, sym, subst}
+use Rattle.std.specs.Prelude.{filter, find, is_some, nat_lt, not, if◌then◌else◌}
 use Rattle.std.specs.List.{flat_map}
 use Rattle.std.proofs.lemmas.Bool.{false_from_ne_true}
-use Rattle.std.proofs.lemmas.List.Folds.{list_all-append}
 use Rattle.dtx_values.specs.declared.call.Call.{Call}
 use Rattle.dtx_values.specs.declared.call.Call.TheVariants.{Volatile, Durable, Promotable, Marshal}
 use Rattle.dtx_values.specs.declared.entry.Answer.{Answer}
 use Rattle.dtx_values.specs.declared.entry.Answer.TheVariants.{Wait}
 use Rattle.dtx_values.specs.declared.entry.Entry.{Entry}
-use Rattle.dtx_values.specs.declared.entry.Entry.TheVariants.{Answered, Called, Down as Ended, Got, Promoting, Sealed, Sent, Stopped}
+use Rattle.dtx_values.specs.declared.entry.Entry.TheVariants.{Answered, Called, Got, Sealed, Sent, Stopped}
 use Rattle.dtx_values.specs.declared.message.Conn.{Conn}
 use Rattle.dtx_values.specs.declared.message.Conn.TheVariants.{Begin, Voter, Enl}
 use Rattle.dtx_values.specs.declared.message.Dir.{Dir}
@@ -20,19 +19,16 @@ use Rattle.dtx_values.specs.declared.number.ActorNo.{ActorNo}
 use Rattle.dtx_values.specs.declared.number.EnlNo.{EnlNo}
 use Rattle.dtx_values.specs.declared.number.RmNo.{RmNo}
 use Rattle.dtx_values.specs.declared.words.Cause.{Cause}
-use Rattle.dtx_values.specs.declared.words.Class.{Class}
 use Rattle.dtx_values.specs.declared.words.Cause.TheVariants.{Marshal as MarshalCause}
 use Rattle.dtx_values.specs.Class.{is_promotable}
 use Rattle.dtx_values.specs.Owners.{cause_of}
 use Rattle.dtx_values.specs.Support.{is_single}
 use Rattle.dtx_values.specs.Table.{insert_by}
 use Rattle.dtx_model.specs.declared.waiting.EnteredCall.{EnteredCall}
-use Rattle.dtx_model.specs.declared.waiting.Wanted.{Wanted}
 use Rattle.dtx_model.specs.declared.waiting.Wanted.TheVariants.{Identifier, Place}
 use Rattle.dtx_model.specs.Words.{each, has, onto}
 use Rattle.dtx_model.specs.Entries.{is_call, is_sealed}
 use Rattle.dtx_model.specs.Grammar.{OfEnlistment}
-use Rattle.dtx_model.specs.Observed.{observe}
 use Rattle.dtx_model.specs.Promotes.{identifier_of}
 use Rattle.dtx_model.specs.Wires.{in_transit}
 use Rattle.dtx_model.specs.Waiting.{Waiter, call_at, is_place_of, waiter_line, waiting, wanted, wanted_by}
@@ -44,7 +40,7 @@ use Rattle.dtx_model.specs.Facts.{begin_promotion, durable_facts, facts_if, has_
 use Rattle.dtx_model.specs.World.{World, answer_at, core, facts_at, half}
 use Rattle.dtx_model.specs.Steps.{Step, Calls, Replies, Acts, Coordinates, Delivers, Stops, Restarts, after, block_at, coordinates, delivered, ended_at, got_by, restarted}
 use Rattle.dtx_model.specs.Caused.{AreMadeOnce, MayCome, Ran}
-use Rattle.dtx_model.proofs.Bools.{and_both, and_left, and_right, not_both, not_false, not_true}
+use Rattle.dtx_model.proofs.Bools.{and_both, and_left, and_right, not_both, not_false}
 use Rattle.dtx_model.proofs.Heeding.{fresh}
 use Rattle.outcome_law.proofs.Tests.{eq_swap}
 use Rattle.outcome_law.proofs.Scans.{each_more}
@@ -54,7 +50,7 @@ use Rattle.outcome_law.proofs.CalmBlocks.{Calm, Seals, act_kind, calm_arrived, c
 use Rattle.outcome_law.proofs.CoreStages.{kept_some}
 use Rattle.outcome_law.proofs.Upward.{none_waits}
 use Rattle.outcome_law.proofs.Waiters.{is_waiting_answer, own_call, sealed_gives}
-use Rattle.outcome_law.proofs.Makers.{IsWaiter, lasting_makes, makes_enlistment, makes_name, place_made, ran_made, waits_by}
+use Rattle.outcome_law.proofs.Makers.{IsWaiter, lasting_makes, makes_enlistment, makes_name, place_made, ran_made}
 
 -- no two calls wait for one place, and after the seal none waits
 pub record AreApart (ks : List EnteredCall) (h : List Entry) : Type 0 where
