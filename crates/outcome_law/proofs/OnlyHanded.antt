@@ -1,4 +1,4 @@
--- In a history that keeps the table: the enlistment that is handed over stands and is no volatile, and while the promotion is under way no other durable or promotable
+-- In a history that keeps the table: the enlistment that is handed over is durable or promotable, and until the promotion succeeds no other durable or promotable
 -- stands.
 use Rattle.std.proofs.Common.{◌≡◌, ℕ, ◌==◌, Bool, true, false, ◌&&◌, ◌||◌, List, [], ◌∷◌, Option, Some, None, refl, ◌∙◌, ap, sym, subst}
 use Rattle.std.specs.Prelude.{filter, not, if◌then◌else◌}
@@ -20,32 +20,17 @@ use Rattle.dtx_model.specs.Wires.{opens}
 use Rattle.dtx_model.specs.Half.{is_handed}
 use Rattle.dtx_model.proofs.Bools.{and_both, and_left, and_right, not_both, not_true, or_case, or_right}
 use Rattle.outcome_law.proofs.Tests.{eq_swap, fourth_of_five, third_of_five}
-use Rattle.outcome_law.proofs.Rule.{is_enlisted, is_only, is_volatile_of}
+use Rattle.outcome_law.proofs.Rule.{is_enlisted, is_only}
 use Rattle.outcome_law.proofs.Table.{class_row, is_enlist_got, is_opening_got, stands_volatile}
 use Rattle.outcome_law.proofs.Keeping.{Keeps, keeps_before, newest, third_of_three}
 use Rattle.outcome_law.proofs.Scans.{has_more}
 use Rattle.outcome_law.proofs.Standing.{opened_if_got}
 use Rattle.outcome_law.proofs.HalfOwner.{enlist_opening, owner_none, owner_only}
+use Rattle.outcome_law.proofs.HalfRows.{volatile_stands}
+use Rattle.outcome_law.proofs.Dues.{is_lasting_of, is_there}
 use Rattle.outcome_law.proofs.Handing.{IsHanding}
 
--- this enlistment, where it is durable or promotable
-abbrev pub is_lasting_of : ℕ → EnlNo × Class → Bool
-is_lasting_of e x = (e == x.0.value) && not (is_volatile x.1)
-
--- what is found among those of a name stands under it
-pub named_stands : (e : ℕ) (p : EnlNo × Class → Bool) → ((x : EnlNo × Class) → p x ≡ true → (e == x.0.value) ≡ true) → (h : List Entry) → has p (enlisted h) ≡ true → has (is_enlisted e) h ≡ true
-named_stands e p f [] t = absurd cc
-named_stands e p f (Enlisted g c ∷ h) t =
-    or_case (p (g, c)) (has p (enlisted h)) (λ q. or_left (e == g.value) (has (is_enlisted e) h) (f (g, c) q)) (λ q. or_right (e == g.value) (has (is_enlisted e) h) (named_stands e p f h q)) t
-named_stands e p f (x ∷ h) t = named_stands e p f h t
-
-pub lasting_stands : (e : ℕ) (h : List Entry) → has (is_lasting_of e) (enlisted h) ≡ true → has (is_enlisted e) h ≡ true
-lasting_stands e h t = named_stands e (is_lasting_of e) (λ x q. and_left (e == x.0.value) (not (is_volatile x.1)) q) h t
-
-pub volatile_stands : (e : ℕ) (h : List Entry) → stands_volatile e h ≡ true → has (is_enlisted e) h ≡ true
-volatile_stands e h t = named_stands e (is_volatile_of e) (λ x q. and_left (e == x.0.value) (is_volatile x.1) q) h t
-
--- an enlistment is made once: a durable or promotable one is no volatile
+-- an enlistment is made once
 enlisted_new : (f : EnlNo) (c : Class) (h : List Entry) → Keeps (Enlisted f c ∷ h) → has (is_enlisted f.value) h ≡ false
 enlisted_new f c h k =
     not_true (has (is_enlisted f.value) h)
@@ -54,9 +39,10 @@ enlisted_new f c h k =
 named_new : (e : ℕ) (f : EnlNo) (c : Class) (h : List Entry) → Keeps (Enlisted f c ∷ h) → has (is_enlisted e) h ≡ true → (e == f.value) ≡ true → ⊥
 named_new e f c h k s q = not_both (has (is_enlisted e) h) s (let P : ℕ → Type 0 = λ n. has (is_enlisted n) h ≡ false in subst P (sym (eqb-true e f.value q)) (enlisted_new f c h k))
 
+-- so a durable or promotable one is no volatile
 pub lasting_firm : (e : ℕ) (h : List Entry) → Keeps h → has (is_lasting_of e) (enlisted h) ≡ true → stands_volatile e h ≡ false
 lasting_firm e [] k t = refl
-lasting_firm e (Enlisted f c ∷ h) k t = by (e == f.value) (is_volatile c) (has (is_lasting_of e) (enlisted h)) (stands_volatile e h) new (volatile_stands e h) (lasting_firm e h (keeps_before (Enlisted f c) h k)) (lasting_stands e h) t
+lasting_firm e (Enlisted f c ∷ h) k t = by (e == f.value) (is_volatile c) (has (is_lasting_of e) (enlisted h)) (stands_volatile e h) new (volatile_stands e h) (lasting_firm e h (keeps_before (Enlisted f c) h k)) (is_there e (λ c. not (is_volatile c)) h) t
   where
     new : has (is_enlisted e) h ≡ true → (e == f.value) ≡ true → ⊥
     new s q = named_new e f c h k s q
@@ -70,7 +56,7 @@ lasting_firm e (Enlisted f c ∷ h) k t = by (e == f.value) (is_volatile c) (has
     by false v l w n p i q t = i t
 lasting_firm e (x ∷ h) k t = lasting_firm e h (keeps_before x h k) t
 
--- The enlistment of the handover is durable or promotable, and stands.
+-- the only durable or promotable is one
 only_lasting : (e : ℕ) (h : List Entry) → is_only e (durables h) ≡ true → has (is_lasting_of e) (enlisted h) ≡ true
 only_lasting e h t = picked (enlisted h) (alone (durables h) t)
   where
@@ -90,21 +76,16 @@ only_lasting e h t = picked (enlisted h) (alone (durables h) t)
             (λ q. or_right ((e == x.0.value) && true) (has (is_lasting_of e) xs) (f q)) t
         step false f t = or_right ((e == x.0.value) && false) (has (is_lasting_of e) xs) (f t)
 
+-- before a promotion begins none did
 unbegun : (c : Cause) (h : List Entry) → Keeps (Promoting c ∷ h) → has is_promoting h ≡ false
 unbegun c h k = not_true (has is_promoting h) (third_of_three (not (has is_decision h)) (not (has is_sealed h)) (not (has is_promoting h)) (newest (Promoting c) h k))
 
+-- the enlistment of the handover is durable or promotable
 pub handed_lasting : (e : EnlNo) (h : List Entry) → Keeps h → handover h ≡ Some e → has (is_lasting_of e.value) (enlisted h) ≡ true
 handed_lasting e [] k q = absurd cc
 handed_lasting e (Promoting c ∷ h) k q = only_lasting e.value h (owner_only h e (keeps_before (Promoting c) h k) (unbegun c h k) q)
 handed_lasting e (Enlisted f c ∷ h) k q = or_right ((e.value == f.value) && not (is_volatile c)) (has (is_lasting_of e.value) (enlisted h)) (handed_lasting e h (keeps_before (Enlisted f c) h k) q)
 handed_lasting e (x ∷ h) k q = handed_lasting e h (keeps_before x h k) q
-
-pub handed_stands : (n : ℕ) (h : List Entry) → Keeps h → is_handed (handover h) n ≡ true → has (is_enlisted n) h ≡ true
-handed_stands n h k t = by (handover h) refl t
-  where
-    by : (o : Option EnlNo) → handover h ≡ o → is_handed o n ≡ true → has (is_enlisted n) h ≡ true
-    by (Some e) q t = let P : ℕ → Type 0 = λ m. has (is_enlisted m) h ≡ true in subst P (sym (eqb-true n e.value t)) (lasting_stands e.value h (handed_lasting e h k q))
-    by None q t = absurd cc
 
 -- Where a promotion begins each is volatile, or that of the handover.
 all_begun : (o : Option EnlNo) (h : List Entry) → Keeps h → has is_promoting h ≡ false → owner_of (rows h) ≡ o → each (λ x. is_volatile x.1 || is_handed o x.0.value) (enlisted h) ≡ true

@@ -28,17 +28,19 @@ use Rattle.outcome_law.proofs.Keeping.{Keeps}
 use Rattle.outcome_law.proofs.OnTheWay.{is_unplaced}
 use Rattle.outcome_law.proofs.Handover.{IsWaitedFor, is_unsent}
 use Rattle.outcome_law.proofs.Makers.{IsWaiter, all_unplaced, of-found, place_made, ran_made}
+use Rattle.outcome_law.proofs.HalfRows.{volatile_stands}
+use Rattle.outcome_law.proofs.Climbed.{handover_stands}
 use Rattle.outcome_law.proofs.Handing.{IsHanding, ran_after, ran_handing}
-use Rattle.outcome_law.proofs.OnlyHanded.{handed_lasting, handed_stands, lasting_firm, only_handed, volatile_stands}
+use Rattle.outcome_law.proofs.OnlyHanded.{handed_lasting, lasting_firm, only_handed}
 use Rattle.outcome_law.proofs.WaitingApart.{ran_apart}
 
 -- until the promotion succeeds the place of each that waits is free: no ENLIST was sent but that of the handover, which stands
-place_free : (h : List Entry) → Keeps h → IsHanding h → has is_promoted h ≡ false → (v : Waiter) → is_unplaced h v ≡ true → is_unsent h v ≡ true
-place_free h k a p (n, Identifier) u = refl
-place_free h k a p (n, Place e r c) u =
+place_free : (h : List Entry) → IsHanding h → has is_promoted h ≡ false → (v : Waiter) → is_unplaced h v ≡ true → is_unsent h v ≡ true
+place_free h a p (n, Identifier) u = refl
+place_free h a p (n, Place e r c) u =
     let none : has (is_enlisted e.value) h ≡ false = not_true (has (is_enlisted e.value) h) u in
     and_both (not (has (opens (Enl e)) h)) (not (stands_volatile e.value h))
-    (not_false (has (opens (Enl e)) h) (false_from_ne_true (has (opens (Enl e)) h) (λ o. not_both (has (is_enlisted e.value) h) (handed_stands e.value h k (a p e o)) none)))
+    (not_false (has (opens (Enl e)) h) (false_from_ne_true (has (opens (Enl e)) h) (λ o. not_both (has (is_enlisted e.value) h) (handover_stands e.value h (a p e o)) none)))
     (not_false (stands_volatile e.value h) (false_from_ne_true (stands_volatile e.value h) (λ o. not_both (has (is_enlisted e.value) h) (volatile_stands e.value h o) none)))
 
 -- a call that waits for this place
@@ -64,7 +66,7 @@ ran_waited G t ms w once r k =
       handed = λ y. only_handed h k handing (started y) (going y);
       lasting = λ e q. lasting_firm e.value h k (handed_lasting e h k q);
       unsent = λ n e. false_from_ne_true (has (opens (Enl e)) h) (λ o. not_both (has is_created_got h) (ran_after G t ms w r k e o) n);
-      places = λ y. each_more (is_unplaced h) (is_unsent h) (λ v u. place_free h k handing (going y) v u) (waiting w.calls h) unplaced;
+      places = λ y. each_more (is_unplaced h) (is_unsent h) (λ v u. place_free h handing (going y) v u) (waiting w.calls h) unplaced;
       apart = apart.apart;
       free = λ e n x c s q. (
         found_unplaced h (waiting w.calls h) e n x c unplaced q,
