@@ -77,6 +77,7 @@ enlisted_on e (Got (Enl f) Down EnlistEnlisted) t = step (e.value == f.value) t
     step false q = absurd cc
 enlisted_on e _ t = absurd cc
 
+-- whose ENLISTED came, its connection was opened
 pub opened_if_enlisted : (e : EnlNo) (h : List Entry) → Keeps h → has (is_enlisted_got e.value) h ≡ true → has (opens (Enl e)) h ≡ true
 opened_if_enlisted e h k t =
     opened_if_got (Enl e) h k
@@ -96,6 +97,7 @@ enlist_new e (EnlistEnlist i) h o r =
     not_true (has (opens (Enl e)) h) (and_right _ (not (has (opens (Enl e)) h)) (and_left (_ && not (has (opens (Enl e)) h)) _ r))
 enlist_new e _ h o r = absurd cc
 
+-- so where it was opened, no entry opens it again
 pub unopened_again : (e : EnlNo) (x : Entry) (h : List Entry) → Keeps (x ∷ h) → has (opens (Enl e)) h ≡ true → opens (Enl e) x ≡ false
 unopened_again e (Sent c Up m) h k o =
     false_from_ne_true (same_connection (Enl e) c && is_opening c m)
@@ -140,6 +142,7 @@ old : (a b : Bool) → a ≡ false → (a || b) ≡ true → b ≡ true
 old true b n t = absurd cc
 old false b n t = t
 
+-- the entry
 pub tame_marked : (G : ℕ → ActorNo → Call → Type 0) (x : Entry) (h : List Entry) → is_tame x ≡ true → Keeps (x ∷ h) → IsMarked G h → IsMarked G (x ∷ h)
 tame_marked G x h t k m =
     record {
@@ -161,7 +164,7 @@ pub keeps_under : (h es : List Entry) → Keeps (onto h es) → Keeps h
 keeps_under h [] k = k
 keeps_under h (x ∷ es) k = keeps_before x h (keeps_under (x ∷ h) es k)
 
--- so does a list of tame entries
+-- a list of tame entries keeps it too
 pub tame_onto : (G : ℕ → ActorNo → Call → Type 0) (h es : List Entry) → Tame es → Keeps (onto h es) → IsMarked G h → IsMarked G (onto h es)
 tame_onto G h [] t k m = m
 tame_onto G h (x ∷ es) t k m =

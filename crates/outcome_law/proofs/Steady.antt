@@ -114,10 +114,11 @@ run_stands G t (m ∷ ms) w once r d =
     let now : tied (after t v m).past ≡ true = subst (λ (x : World). tied x.past ≡ true) r.3 d in
     subst (IsStanding G) (sym r.3) (step_stands G t ms v m once r.1 r.2 now (run_stands G t ms v once r.1 (tied_under v.past (block_at t v m) now)))
 
--- what the local side goes by, and the table
+-- what the local side goes by
 pub run_steady : (G : ℕ → ActorNo → Call → Type 0) (t : ℕ) (ms : List Step) (w : World) → AreMadeOnce G → Ran G t ms w → tied w.past ≡ true → IsSteady G w
 run_steady G t ms w once r d = (run_stands G t ms w once r d).steady
 
+-- so the table is kept
 pub run_keeps : (G : ℕ → ActorNo → Call → Type 0) (t : ℕ) (ms : List Step) (w : World) → AreMadeOnce G → Ran G t ms w → tied w.past ≡ true → Keeps w.past
 run_keeps G t ms w once r d = (run_steady G t ms w once r d).stands.keeps
 

@@ -103,6 +103,7 @@ ends_unknown c (Got e Down m) h t = step (has_line e Down m) t
 ends_unknown c (Got e Up m) h t = absurd (never (and_right (same_connection c e) false (and_left (same_connection c e && false) (not (has_line e Up m)) t)))
 ends_unknown c _ h t = absurd (never t)
 
+-- so where the end was seen since it was opened last, the local side doesn't know it
 pub ended_unknown : (c : Conn) (h : List Entry) → is_ended c Down h ≡ true → knows c (ends_of h) ≡ false
 ended_unknown c [] t = absurd (never t)
 ended_unknown c (x ∷ h) t = step (ended_unknown c h) (opens c x) refl t
