@@ -143,5 +143,4 @@ pub mod Marks
 pub mod MarkSteps
 pub mod AskedWhom
 pub mod NewMade
-pub mod WaitedFor
 pub mod Steady
