@@ -274,7 +274,7 @@ abbrev place_volatile : Wanted → Bool
 place_volatile (Place e r c) = is_volatile c
 place_volatile Identifier = false
 
-place_made : (e : EnlNo) (r : RmNo) (c : Class) (k : Call) → Place e r c ≡ wanted_by k → (makes_lasting e.value k ≡ true) × (is_volatile c ≡ false)
+pub place_made : (e : EnlNo) (r : RmNo) (c : Class) (k : Call) → Place e r c ≡ wanted_by k → (makes_lasting e.value k ≡ true) × (is_volatile c ≡ false)
 place_made e r c (Durable t f q s) w = (eq-eqb e.value f.value (ap place_number w), ap place_volatile w ∙ firm s)
   where
     firm : (s : Support) → is_volatile (class_by s) ≡ false
@@ -282,7 +282,7 @@ place_made e r c (Durable t f q s) w = (eq-eqb e.value f.value (ap place_number 
     firm (TwoPhase v) = refl
 place_made e r c _ w = absurd cc
 
-abbrev waiter_maker : (G : ℕ → ActorNo → Call → Type 0) (ks : List EnteredCall) (h : List Entry) (n : ℕ) (e : EnlNo) (r : RmNo) (c : Class) → IsWaiter G ks h (n, Place e r c) → IsMaker G ks h (makes_lasting e.value)
+abbrev pub waiter_maker : (G : ℕ → ActorNo → Call → Type 0) (ks : List EnteredCall) (h : List Entry) (n : ℕ) (e : EnlNo) (r : RmNo) (c : Class) → IsWaiter G ks h (n, Place e r c) → IsMaker G ks h (makes_lasting e.value)
 waiter_maker G ks h n e r c w =
     record { number = n; actor = w.actor; call = w.call; may = w.may; entered = w.entered; passes = (place_made e r c w.call w.wants).0; called = w.called }
 
@@ -430,7 +430,7 @@ abbrev own_maker : (G : ℕ → ActorNo → Call → Type 0) (ks : List EnteredC
     → IsMaker G ks (Called n a x ∷ h) q
 own_maker G ks h n a c q x g e k = record { number = n; actor = a; call = c; may = g; entered = e; passes = k; called = rw (eq_self n) refl }
 
-waits_by : (ks : List EnteredCall) (h : List Entry) (n : ℕ) (a : ActorNo) (x : Answer) → is_waiting_answer x ≡ false → waiting ks (Called n a x ∷ h) ≡ waiting ks h
+pub waits_by : (ks : List EnteredCall) (h : List Entry) (n : ℕ) (a : ActorNo) (x : Answer) → is_waiting_answer x ≡ false → waiting ks (Called n a x ∷ h) ≡ waiting ks h
 waits_by ks h n a Wait k = absurd cc
 waits_by ks h n a _ k = refl
 
