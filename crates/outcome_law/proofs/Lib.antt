@@ -141,3 +141,10 @@ pub mod OnlyHanded
 pub mod WaitingApart
 pub mod WaitedFor
 pub mod Once
+pub mod TameBlocks
+pub mod Unlinked
+pub mod Marks
+pub mod MarkSteps
+pub mod AskedWhom
+pub mod NewMade
+pub mod Steady
