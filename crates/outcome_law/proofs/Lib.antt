@@ -137,3 +137,6 @@ pub mod LocalSteps
 pub mod ToldOn
 pub mod CameOnce
 pub mod Once
+pub mod PromotesRuns
+pub mod CommonBlocks
+pub mod TellingRuns

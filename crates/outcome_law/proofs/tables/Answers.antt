@@ -3,7 +3,6 @@ use Rattle.outcome_law.proofs.Waves.{row_is_seen}
 use Rattle.outcome_law.proofs.Calls.{evidence_seen}
 use Rattle.dtx_model.specs.Caused.{IsCallOf}
 use Rattle.outcome_law.proofs.Blocks.{script_kept}
-use Rattle.outcome_law.proofs.Runs.{free_run}
 use Rattle.outcome_law.proofs.Timely.{run_timely}
 use Rattle.outcome_law.proofs.Heard.{length-rows, listener_heard}
 use Rattle.outcome_law.proofs.tables.Goals as goal
@@ -24,7 +23,7 @@ pub returns-clause-evidence : goal.returns-clause-evidence
 returns-clause-evidence c = λ s t h named run u. evidence_seen h (script_kept s t h named run u)
 
 pub returns-clause-timed : goal.returns-clause-timed
-returns-clause-timed c = λ s t h named run u. run_timely (IsCallOf s t) h (free_run (IsCallOf s t) t h run u)
+returns-clause-timed c = λ s t h named run u. run_timely (IsCallOf s t) t h run
 
 pub returns-clause-listeners : goal.returns-clause-listeners
 returns-clause-listeners c = λ s t h named run u k l e. listener_heard h k l (script_kept s t h named run u).rules e
