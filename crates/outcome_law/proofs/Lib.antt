@@ -137,6 +137,14 @@ pub mod LocalSteps
 pub mod ToldOn
 pub mod CameOnce
 pub mod Once
+pub mod TameBlocks
+pub mod Unlinked
+pub mod Marks
+pub mod MarkSteps
+pub mod AskedWhom
+pub mod NewMade
+pub mod WaitedFor
+pub mod Steady
 pub mod PromotesRuns
 pub mod CommonBlocks
 pub mod TellingRuns
