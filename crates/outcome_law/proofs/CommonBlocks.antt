@@ -58,9 +58,9 @@ use Rattle.dtx_model.specs.World.{World, half, core, cut, cut_upward, facts_at, 
 use Rattle.dtx_model.specs.Steps.{LogAnswer, Done, Full, StoppedNow, StoppedBefore, appended, coordinates, ended_at, freed, restarted, Step, Calls, Replies, Acts, Coordinates, Delivers, Stops, Restarts, block_at, delivered}
 
 -- the message opens the connection of a reenlistment
-abbrev pub is_return : Message → Bool
-is_return (ReenlistReenlist i) = true
-is_return _ = false
+abbrev pub is_reenlist : Message → Bool
+is_reenlist (ReenlistReenlist i) = true
+is_reenlist _ = false
 
 -- the entry is of no clock and no timeout, tells nobody, and sends no message that opens the connection of a reenlistment
 abbrev pub is_common : Entry → Bool
@@ -68,7 +68,7 @@ is_common (Clock n) = false
 is_common TimedOut = false
 is_common Late = false
 is_common (Told p o) = false
-is_common (Sent c Up m) = not (is_return m)
+is_common (Sent c Up m) = not (is_reenlist m)
 is_common _ = true
 
 pub record Common (es : List Entry) : Type 0 where

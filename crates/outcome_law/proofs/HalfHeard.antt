@@ -35,6 +35,11 @@ abbrev pub is_told_here : List Entry → Entry → Bool
 is_told_here h (Told (Enl e) Aborted) = has is_decision h || has (is_enlisted e.value) h
 is_told_here h _ = true
 
+-- this enlistment came back
+abbrev pub is_return : ℕ → Entry → Bool
+is_return n (Reenlisted f) = n == f.value
+is_return n _ = false
+
 -- this enlistment was lost, and didn't come back after it
 abbrev pub is_away : ℕ → List Entry → Bool
 is_away n [] = false

@@ -62,7 +62,7 @@ use Rattle.outcome_law.proofs.ByTable.{ruled_later}
 use Rattle.outcome_law.proofs.Coming.{AreComing}
 use Rattle.outcome_law.proofs.ComingRuns.{ran_coming}
 use Rattle.outcome_law.proofs.HalfHeard.{is_told_here}
-use Rattle.outcome_law.proofs.CommonBlocks.{common_act, common_arrived, common_called, common_coordinates, common_core_got, common_decide, common_ended_at, common_reply, common_restarted, common_unless, common_veto, is_common, is_return, is_usual, usual_block}
+use Rattle.outcome_law.proofs.CommonBlocks.{common_act, common_arrived, common_called, common_coordinates, common_core_got, common_decide, common_ended_at, common_reply, common_restarted, common_unless, common_veto, is_common, is_reenlist, is_usual, usual_block}
 use Rattle.outcome_law.proofs.PromotesRuns.{keeps_past, keeps_start}
 
 -- Who comes back had its ENLISTED.
@@ -70,7 +70,7 @@ abbrev pub AreReturned : List Entry → Type 0
 AreReturned h = (e : EnlNo) → has (opens (Again e)) h ≡ true → has (is_enlisted_got e.value) h ≡ true
 
 abbrev is_unreturning : Entry → Bool
-is_unreturning (Sent c Up m) = not (is_return m)
+is_unreturning (Sent c Up m) = not (is_reenlist m)
 is_unreturning _ = true
 
 usual_unreturning : (x : Entry) → is_usual x ≡ true → is_unreturning x ≡ true
@@ -81,7 +81,7 @@ usual_unreturning _ k = refl
 no : false ≡ true → ⊥
 no e = absurd cc
 
-not_opening : (e : EnlNo) (m : Message) → not (is_return m) ≡ true → is_opening (Again e) m ≡ false
+not_opening : (e : EnlNo) (m : Message) → not (is_reenlist m) ≡ true → is_opening (Again e) m ≡ false
 not_opening e (ReenlistReenlist i) t = absurd (no t)
 not_opening e _ t = refl
 
