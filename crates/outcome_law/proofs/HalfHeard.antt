@@ -20,6 +20,7 @@ use Rattle.dtx_model.specs.declared.listener.Listener.{Listener}
 use Rattle.dtx_model.specs.Words.{always, has, latest}
 use Rattle.dtx_model.specs.Entries.{decision_of, is_decision, is_record, is_sealed, is_told}
 use Rattle.dtx_model.specs.Observed.{come_back, hear, listener_number, listeners, lose}
+use Rattle.dtx_model.specs.Seen.{IsHeard, is_away}
 use Rattle.dtx_model.specs.Wires.{opens}
 use Rattle.dtx_model.proofs.Bools.{and_left, and_never, and_right, not_true, or_case, or_false, or_right, or_second}
 use Rattle.outcome_law.proofs.Tests.{apart, eq_swap, first_of_five, first_of_three}
@@ -39,13 +40,6 @@ is_told_here h _ = true
 abbrev pub is_return : ℕ → Entry → Bool
 is_return n (Reenlisted f) = n == f.value
 is_return n _ = false
-
--- this enlistment was lost, and didn't come back after it
-abbrev pub is_away : ℕ → List Entry → Bool
-is_away n [] = false
-is_away n (Lost f ∷ h) = (n == f.value) || is_away n h
-is_away n (Reenlisted f ∷ h) = not (n == f.value) && is_away n h
-is_away n (x ∷ h) = is_away n h
 
 -- What is told is told after the decision or the seal, or to one that was enlisted.
 abbrev is_told_there : ℕ → List Entry → Bool
@@ -103,38 +97,33 @@ enlisted_undecided e c h r =
     not_true (has is_decision h)
     (first_of_five (not (has is_decision h)) (not (has is_sealed h)) (not (has (is_enlisted e.value) h)) (class_row h e.value c) (not (is_volatile c && has (opens (OnEnl e)) h)) r)
 
--- the listener says whether its enlistment was told, and whether it is lost
-pub record IsHeardHere (h : List Entry) (l : Listener) : Type 0 where
-  pub told : l.told ≡ has (is_told l.enlistment.value) h
-  pub lost : l.lost ≡ is_away l.enlistment.value h
-
 -- one that comes back is no longer lost, and the others stay as they are
-back_heard : (e : EnlNo) (h : List Entry) (l : Listener) → IsHeardHere h l → IsHeardHere (Reenlisted e ∷ h) (come_back e.value l)
+back_heard : (e : EnlNo) (h : List Entry) (l : Listener) → IsHeard h l → IsHeard (Reenlisted e ∷ h) (come_back e.value l)
 back_heard e h l w =
     let n = l.enlistment.value in record { told = w.told; lost = ap (λ b. not b && l.lost) (eq_swap e.value n) ∙ ap (λ b. not (n == e.value) && b) w.lost }
 
 -- each listener says so
-listeners_heard : (h : List Entry) → Keeps h → always is_told_here h ≡ true → OfEach (IsHeardHere h) (listeners h)
+listeners_heard : (h : List Entry) → Keeps h → always is_told_here h ≡ true → OfEach (IsHeard h) (listeners h)
 listeners_heard [] k t = tt
 listeners_heard (Enlisted e c ∷ h) k t =
     let own = keeps_before (Enlisted e c) h k in
     let rule = newest (Enlisted e c) h k in
     let new = enlisted_once e c h rule in
-    of-insert (IsHeardHere (Enlisted e c ∷ h)) listener_number (record { enlistment = e; told = false; lost = false })
+    of-insert (IsHeard (Enlisted e c ∷ h)) listener_number (record { enlistment = e; told = false; lost = false })
     (record { told = sym (unenlisted_untold e.value h own t (enlisted_undecided e c h rule) (enlisted_unsealed e c h rule) new); lost = sym (unenlisted_there e.value h own new) }) (listeners h)
-    (of-more (IsHeardHere h) (IsHeardHere (Enlisted e c ∷ h)) (λ l w. record { told = w.told; lost = w.lost }) (listeners h) (listeners_heard h own t))
+    (of-more (IsHeard h) (IsHeard (Enlisted e c ∷ h)) (λ l w. record { told = w.told; lost = w.lost }) (listeners h) (listeners_heard h own t))
 listeners_heard (Told (Enl e) o ∷ h) k t =
-    of-map (IsHeardHere h) (IsHeardHere (Told (Enl e) o ∷ h)) (hear e.value) (λ l w. record { told = swapped e.value l.enlistment.value l.told _ w.told; lost = w.lost }) (listeners h)
+    of-map (IsHeard h) (IsHeard (Told (Enl e) o ∷ h)) (hear e.value) (λ l w. record { told = swapped e.value l.enlistment.value l.told _ w.told; lost = w.lost }) (listeners h)
     (listeners_heard h (keeps_before (Told (Enl e) o) h k) (and_right (is_told_here h (Told (Enl e) o)) (always is_told_here h) t))
 listeners_heard (Lost e ∷ h) k t =
-    of-map (IsHeardHere h) (IsHeardHere (Lost e ∷ h)) (lose e.value) (λ l w. record { told = w.told; lost = swapped e.value l.enlistment.value l.lost _ w.lost }) (listeners h)
+    of-map (IsHeard h) (IsHeard (Lost e ∷ h)) (lose e.value) (λ l w. record { told = w.told; lost = swapped e.value l.enlistment.value l.lost _ w.lost }) (listeners h)
     (listeners_heard h (keeps_before (Lost e) h k) t)
 listeners_heard (Reenlisted e ∷ h) k t =
-    of-map (IsHeardHere h) (IsHeardHere (Reenlisted e ∷ h)) (come_back e.value) (back_heard e h) (listeners h) (listeners_heard h (keeps_before (Reenlisted e) h k) t)
+    of-map (IsHeard h) (IsHeard (Reenlisted e ∷ h)) (come_back e.value) (back_heard e h) (listeners h) (listeners_heard h (keeps_before (Reenlisted e) h k) t)
 listeners_heard (x ∷ h) k t =
-    of-more (IsHeardHere h) (IsHeardHere (x ∷ h)) (λ l w. record { told = w.told; lost = w.lost }) (listeners h)
+    of-more (IsHeard h) (IsHeard (x ∷ h)) (λ l w. record { told = w.told; lost = w.lost }) (listeners h)
     (listeners_heard h (keeps_before x h k) (and_right (is_told_here h x) (always is_told_here h) t))
 
 -- the listener at a place says so
-pub listener_heard : (h : List Entry) (n : ℕ) (l : Listener) → Keeps h → always is_told_here h ≡ true → slice_get (listeners h) n ≡ Some l → IsHeardHere h l
-listener_heard h n l k t e = of-at (IsHeardHere h) (listeners h) n l (listeners_heard h k t) e
+pub listener_heard : (h : List Entry) (n : ℕ) (l : Listener) → Keeps h → always is_told_here h ≡ true → slice_get (listeners h) n ≡ Some l → IsHeard h l
+listener_heard h n l k t e = of-at (IsHeard h) (listeners h) n l (listeners_heard h k t) e

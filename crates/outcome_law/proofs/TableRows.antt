@@ -278,10 +278,6 @@ clones_seen (Completed c ∷ h) r =
     (λ r w. ap (λ b. b || r.complete) (eq_swap c.value r.clone.value) ∙ ap (λ b. (r.clone.value == c.value) || b) w) (clone_rows h) (clones_seen h (other_rules (Completed c) h r))
 clones_seen (x ∷ h) r = clones_seen h (other_rules x h r)
 
--- the clone's row at a place says whether it was completed
-pub clone_seen : (h : List Entry) (k : ℕ) (c : CloneRow) → ruled h ≡ true → slice_get (clone_rows h) k ≡ Some c → c.complete ≡ has (is_completed c.clone.value) h
-clone_seen h k c r e = of-at (IsCloneSeen h) (clone_rows h) k c (clones_seen h r) e
-
 -- where p passes the kind of a clone that isn't complete, as the rows and as the history show it
 open_clones : (p : CloneKind → Bool) (h : List Entry) → ruled h ≡ true
     → has (λ c. p c.kind && not c.complete) (clone_rows h) ≡ has (λ c. p c.1 && not (is_complete h c)) (all_of clone_of h)
