@@ -1,12 +1,10 @@
 -- What the rules leave out: nobody comes back.
-use Rattle.std.proofs.Common.{◌≡◌, ℕ, Bool, true, List, [], ◌∷◌, refl}
+use Rattle.std.proofs.Common.{◌≡◌, Bool, true, List, [], ◌∷◌, refl}
 use Rattle.dtx_values.specs.declared.entry.Entry.{Entry}
-use Rattle.dtx_values.specs.declared.entry.Entry.TheVariants.{Got, Promoted, Promoting, PromotionFailed, Reenlisted}
+use Rattle.dtx_values.specs.declared.entry.Entry.TheVariants.{Got, Reenlisted}
 use Rattle.dtx_values.specs.declared.message.Conn.TheVariants.{Again}
-use Rattle.dtx_values.specs.declared.script.Line.{Line}
 use Rattle.dtx_model.specs.Words.{always}
 use Rattle.dtx_model.specs.Learned.{is_learned, is_answered, are_answered, Learned}
-use Rattle.dtx_model.specs.Promotes.{keeps_order, promotes}
 use Rattle.dtx_model.proofs.Bools.{and_both}
 use Rattle.outcome_law.proofs.Rule.{rule, ruled, first_rule, other_rules}
 

@@ -2,29 +2,23 @@
 use Rattle.std.proofs.Common.{◌≡◌, ℕ, ◌==◌, ◌<◌, ◌≤◌, suc, Bool, true, false, ◌&&◌, ◌||◌, List, [], ◌∷◌, Option, Some, None, map}
 use Rattle.std.proofs.Common.{refl, ◌∙◌, ap, subst, sym, arith}
 use Rattle.std.specs.Prelude.{is_some, not, if◌then◌else◌}
-use Rattle.std.specs.List.{slice_get}
-use Rattle.std.proofs.Math.Nat.{le_trans}
 use Rattle.std.proofs.lemmas.Bool.{eqb-true}
 use Rattle.std.proofs.lemmas.Bool.Decides.{nat_tests}
-use Rattle.dtx_values.specs.declared.number.EnlNo.{EnlNo}
 use Rattle.dtx_values.specs.declared.entry.Ask.TheVariants.{Prepare}
 use Rattle.dtx_values.specs.declared.entry.Entry.{Entry}
 use Rattle.dtx_values.specs.declared.entry.Entry.TheVariants.{Enlisted, Asked, Voted}
-use Rattle.dtx_values.specs.declared.words.Class.{Class}
 use Rattle.dtx_values.specs.declared.words.Vote.{Vote}
-use Rattle.dtx_values.specs.Row.{is_of, is_marked, has_voted, is_asked_before, number_of, fresh_row, unless_there, mark_row, vote_row}
+use Rattle.dtx_values.specs.Row.{is_of, is_marked, is_asked_before, number_of, fresh_row, unless_there, mark_row, vote_row}
 use Rattle.dtx_values.specs.declared.row.Row.{Row}
-use Rattle.dtx_values.specs.Table.{voted_before, marks}
+use Rattle.dtx_values.specs.Table.{marks}
 use Rattle.dtx_model.specs.Words.{has, each, all_of}
-use Rattle.dtx_model.specs.Entries.{is_vote}
 use Rattle.dtx_model.specs.Observed.{rows}
-use Rattle.dtx_model.specs.Seen.{asked_of, asked_before, waited_for, IsSeen}
+use Rattle.dtx_model.specs.Seen.{asked_of, asked_before}
 use Rattle.dtx_model.proofs.Bools.{and_swap}
 use Rattle.dtx_model.proofs.Counts.{how_many-map}
-use Rattle.outcome_law.proofs.Tests.{eq_self, eq_swap, apart}
-use Rattle.outcome_law.proofs.Lists.{OfEach, of-at, of-more, of-map, of-insert, of-both, of-has, each_same, each_kept, if_kept, each-insert, how_many-insert}
-use Rattle.outcome_law.proofs.Rule.{is_enlisted, ruled, first_rule, other_rules}
-use Rattle.outcome_law.proofs.TableRows.{enlisted_in_rows, enlisted_once, asked_enlisted, IsRow, there, rows_seen, row_seen}
+use Rattle.outcome_law.proofs.Lists.{OfEach, of-map, of-insert, of-both, of-has, each_kept, if_kept, each-insert, how_many-insert}
+use Rattle.outcome_law.proofs.Rule.{ruled, first_rule, other_rules}
+use Rattle.outcome_law.proofs.TableRows.{enlisted_in_rows, asked_enlisted, there}
 
 -- the row as it is after an ask to prepare of this enlistment, after so many marks
 abbrev pub marked : ℕ → ℕ → Row → Row
