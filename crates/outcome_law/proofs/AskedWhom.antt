@@ -69,5 +69,6 @@ is_left G h k m e = λ t g. by (has (is_return e.value) h) refl t g
     by true r t g = (m.back e r, unvolatile_if_opened e h k (opened_if_returned e h k r))
     by false r t g = absurd (not_both (is_gone (observe h) e.value) (lost_listed e.value h k r t) g)
 
+-- so what a reply goes by stands
 pub asked_whom : (G : ℕ → ActorNo → Call → Type 0) (h : List Entry) → Keeps h → IsMarked G h → IsAsked h
 asked_whom G h k m = record { left = is_left G h k m; promote = m.promote; replied = m.replied; single = m.single }

@@ -49,6 +49,7 @@ pub record IsCloner (G : ℕ → ActorNo → Call → Type 0) (h : List Entry) (
   pub makes : made_by call ≡ Some (OfClone c)
   pub called : has (is_call number) h ≡ true
 
+-- What stands at the end of each block: of asks to promote and to commit, of the opening of b, of who came back, and of clones.
 pub record IsMarked (G : ℕ → ActorNo → Call → Type 0) (h : List Entry) : Type 0 where
   pub promote : has is_ask_promote h ≡ true → has is_promoting h ≡ true
   pub replied : (e : ℕ) → stands_promotable e h ≡ true → has (opens Begin) h ≡ true → has is_promote_reply h ≡ true
@@ -57,10 +58,12 @@ pub record IsMarked (G : ℕ → ActorNo → Call → Type 0) (h : List Entry) :
   pub back : (e : EnlNo) → has (is_return e.value) h ≡ true → knows (Enl e) (ends_of h) ≡ false
   pub cloned : (c : ℕ) → has (is_cloned c) h ≡ true → IsCloner G h c
 
+-- it is so at the start
 pub none_marked : (G : ℕ → ActorNo → Call → Type 0) → IsMarked G []
 none_marked G =
     record { promote = λ t. absurd cc; replied = λ e s t. absurd cc; single = λ t. absurd cc; back = λ e t. absurd cc; cloned = λ c t. absurd cc }
 
+-- with one more entry
 pub cloner_more : (G : ℕ → ActorNo → Call → Type 0) (h : List Entry) (c : ℕ) (x : Entry) → IsCloner G h c → IsCloner G (x ∷ h) c
 cloner_more G h c x m =
     record { number = m.number; actor = m.actor; call = m.call; may = m.may; makes = m.makes; called = or_right (is_call m.number x) (has (is_call m.number) h) m.called }
@@ -74,6 +77,7 @@ enlisted_on e (Got (Enl f) Down EnlistEnlisted) t = step (e.value == f.value) t
     step false q = absurd cc
 enlisted_on e _ t = absurd cc
 
+-- whose ENLISTED came, its connection was opened
 pub opened_if_enlisted : (e : EnlNo) (h : List Entry) → Keeps h → has (is_enlisted_got e.value) h ≡ true → has (opens (Enl e)) h ≡ true
 opened_if_enlisted e h k t =
     opened_if_got (Enl e) h k
@@ -83,6 +87,7 @@ return_row : (n : ℕ) (x : Entry) (h : List Entry) → Keeps h → rule h x ≡
 return_row n (Reenlisted f) h k r t = let P : ℕ → Type 0 = λ m. has (is_enlisted_got m) h ≡ true in subst P (sym (eqb-true n f.value t)) r
 return_row n _ h k r t = absurd cc
 
+-- so was the connection of who came back
 pub opened_if_returned : (e : EnlNo) (h : List Entry) → Keeps h → has (is_return e.value) h ≡ true → has (opens (Enl e)) h ≡ true
 opened_if_returned e h k t = opened_if_enlisted e h k (before (is_return e.value) (is_enlisted_got e.value) (return_row e.value) h k t)
 
@@ -92,6 +97,7 @@ enlist_new e (EnlistEnlist i) h o r =
     not_true (has (opens (Enl e)) h) (and_right _ (not (has (opens (Enl e)) h)) (and_left (_ && not (has (opens (Enl e)) h)) _ r))
 enlist_new e _ h o r = absurd cc
 
+-- so where it was opened, no entry opens it again
 pub unopened_again : (e : EnlNo) (x : Entry) (h : List Entry) → Keeps (x ∷ h) → has (opens (Enl e)) h ≡ true → opens (Enl e) x ≡ false
 unopened_again e (Sent c Up m) h k o =
     false_from_ne_true (same_connection (Enl e) c && is_opening c m)
@@ -136,6 +142,7 @@ old : (a b : Bool) → a ≡ false → (a || b) ≡ true → b ≡ true
 old true b n t = absurd cc
 old false b n t = t
 
+-- the entry
 pub tame_marked : (G : ℕ → ActorNo → Call → Type 0) (x : Entry) (h : List Entry) → is_tame x ≡ true → Keeps (x ∷ h) → IsMarked G h → IsMarked G (x ∷ h)
 tame_marked G x h t k m =
     record {
@@ -157,6 +164,7 @@ pub keeps_under : (h es : List Entry) → Keeps (onto h es) → Keeps h
 keeps_under h [] k = k
 keeps_under h (x ∷ es) k = keeps_before x h (keeps_under (x ∷ h) es k)
 
+-- a list of tame entries keeps it too
 pub tame_onto : (G : ℕ → ActorNo → Call → Type 0) (h es : List Entry) → Tame es → Keeps (onto h es) → IsMarked G h → IsMarked G (onto h es)
 tame_onto G h [] t k m = m
 tame_onto G h (x ∷ es) t k m =

@@ -57,6 +57,7 @@ new_enlistment G ks h n a c e once made g p new =
     (λ t. let m = made.sent e (has_more (opens (Enl e)) (is_sent_on (Enl e) Up ENLIST) (opens_sent e) h t) in
     came_already G h (OfEnlistment e.value) n m.number a m.actor c m.call once g m.may p (makes_name e.value m.call (lasting_makes e.value m.call m.passes)) new m.called)))
 
+-- what a call makes whose line didn't come
 pub all_new : (G : ℕ → ActorNo → Call → Type 0) (ks : List EnteredCall) (h : List Entry) → AreMadeOnce G → AreMade G ks h → IsMarked G h → (n : ℕ) (a : ActorNo) (c : Call) → G n a c → has (is_call n) h ≡ false
     → makes_new h c ≡ true
 all_new G ks h once made m n a (Volatile u e o v) g new = new_enlistment G ks h n a (Volatile u e o v) e once made g refl new

@@ -8,7 +8,6 @@ use Rattle.dtx_values.specs.declared.number.ActorNo.{ActorNo}
 use Rattle.dtx_model.specs.Words.{always, onto}
 use Rattle.dtx_model.specs.Tied.{is_tied, tied}
 use Rattle.dtx_model.specs.World.{World}
-use Rattle.dtx_model.specs.Waiting.{waiting}
 use Rattle.dtx_model.specs.Steps.{Step, Calls, Replies, Acts, Coordinates, Delivers, Stops, Restarts, after, block_at}
 use Rattle.dtx_model.specs.Caused.{AreMadeOnce, FreelyCaused, MayCome, Ran}
 use Rattle.dtx_model.proofs.Bools.{and_right}
@@ -24,7 +23,6 @@ use Rattle.outcome_law.proofs.CameOnce.{IsAfter, come_once, step_after}
 use Rattle.outcome_law.proofs.ToldOn.{step_told}
 use Rattle.outcome_law.proofs.Makers.{ran_made}
 use Rattle.outcome_law.proofs.LocalSteps.{IsSteady, is_local_step, local_keeps, start_steady}
-use Rattle.outcome_law.proofs.Handover.{IsWaitedFor}
 use Rattle.outcome_law.proofs.Marks.{IsMarked, none_marked}
 use Rattle.outcome_law.proofs.MarkSteps.{step_marked}
 use Rattle.outcome_law.proofs.AskedWhom.{asked_whom}
@@ -53,7 +51,7 @@ each_side (Delivers c Up) = inr refl
 each_side Stops = inr refl
 each_side (Restarts found) = inr refl
 
--- what a restart found stays what it found
+-- where each restart of a history found what may be found, so did those of its beginning
 pub tied_under : (h es : List Entry) → tied (onto h es) ≡ true → tied h ≡ true
 tied_under h [] k = k
 tied_under h (x ∷ es) k = and_right (is_tied h x) (tied h) (tied_under (x ∷ h) es k)
@@ -63,14 +61,10 @@ start_stands : (G : ℕ → ActorNo → Call → Type 0) → IsStanding G (recor
 start_stands G =
     record { steady = start_steady G; coming = none_coming; direct = refl; asking = none_asked; opened = λ e t. absurd cc; marked = none_marked G }
 
--- The places of who waits, in each world of a run that keeps the table.
-abbrev pub AreWaited : (ℕ → ActorNo → Call → Type 0) → ℕ → Type 0
-AreWaited G t = (ms : List Step) (w : World) → Ran G t ms w → Keeps w.past → IsWaitedFor w.past (waiting w.calls w.past)
-
 -- each step keeps it
-step_stands : (G : ℕ → ActorNo → Call → Type 0) (t : ℕ) (ms : List Step) (v : World) (m : Step) → AreMadeOnce G → AreWaited G t → Ran G t ms v → MayCome G t v m → tied (after t v m).past ≡ true → IsStanding G v
+step_stands : (G : ℕ → ActorNo → Call → Type 0) (t : ℕ) (ms : List Step) (v : World) (m : Step) → AreMadeOnce G → Ran G t ms v → MayCome G t v m → tied (after t v m).past ≡ true → IsStanding G v
     → IsStanding G (after t v m)
-step_stands G t ms v m once waits r q d s =
+step_stands G t ms v m once r q d s =
     record {
       steady =
           record {
@@ -78,7 +72,7 @@ step_stands G t ms v m once waits r q d s =
             asked = asked_whom G (after t v m).past now.keeps marks;
             told = step_told t v m now.keeps s.steady.told;
             once = come_once (after t v m).past now.keeps straight asks first;
-            waited = waits (m ∷ ms) (after t v m) ran now.keeps;
+            waited = ran_waited G t (m ∷ ms) (after t v m) once ran now.keeps;
             new = all_new G (after t v m).calls (after t v m).past once (ran_made G t (m ∷ ms) (after t v m) ran) marks;
           };
       coming = step_coming G t v m q s.steady.stands.keeps s.coming;
@@ -111,21 +105,20 @@ step_stands G t ms v m once waits r q d s =
     marks = step_marked G t v m q s.steady.new now.keeps s.marked
 
 -- so it stands in each world of a run in which each restart found what may be found
-ran_stands : (G : ℕ → ActorNo → Call → Type 0) (t : ℕ) (ms : List Step) (w : World) → AreMadeOnce G → AreWaited G t → Ran G t ms w → tied w.past ≡ true → IsStanding G w
+pub run_stands : (G : ℕ → ActorNo → Call → Type 0) (t : ℕ) (ms : List Step) (w : World) → AreMadeOnce G → Ran G t ms w → tied w.past ≡ true → IsStanding G w
 unfolding after
-ran_stands G t [] w once waits r d =
+run_stands G t [] w once r d =
     subst (λ ks. IsStanding G (record { calls = ks; past = w.past })) (sym r.0) (subst (λ h. IsStanding G (record { calls = []; past = h })) (sym r.1) (start_stands G))
-ran_stands G t (m ∷ ms) w once waits r d =
+run_stands G t (m ∷ ms) w once r d =
     let v = r.0 in
     let now : tied (after t v m).past ≡ true = subst (λ (x : World). tied x.past ≡ true) r.3 d in
-    subst (IsStanding G) (sym r.3) (step_stands G t ms v m once waits r.1 r.2 now (ran_stands G t ms v once waits r.1 (tied_under v.past (block_at t v m) now)))
+    subst (IsStanding G) (sym r.3) (step_stands G t ms v m once r.1 r.2 now (run_stands G t ms v once r.1 (tied_under v.past (block_at t v m) now)))
 
-pub run_stands : (G : ℕ → ActorNo → Call → Type 0) (t : ℕ) (ms : List Step) (w : World) → AreMadeOnce G → Ran G t ms w → tied w.past ≡ true → IsStanding G w
-run_stands G t ms w once r d = ran_stands G t ms w once (λ ms w r k. ran_waited G t ms w once r k) r d
-
+-- what the local side goes by
 pub run_steady : (G : ℕ → ActorNo → Call → Type 0) (t : ℕ) (ms : List Step) (w : World) → AreMadeOnce G → Ran G t ms w → tied w.past ≡ true → IsSteady G w
 run_steady G t ms w once r d = (run_stands G t ms w once r d).steady
 
+-- so the table is kept
 pub run_keeps : (G : ℕ → ActorNo → Call → Type 0) (t : ℕ) (ms : List Step) (w : World) → AreMadeOnce G → Ran G t ms w → tied w.past ≡ true → Keeps w.past
 run_keeps G t ms w once r d = (run_steady G t ms w once r d).stands.keeps
 

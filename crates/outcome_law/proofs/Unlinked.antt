@@ -12,7 +12,7 @@ use Rattle.dtx_values.specs.Lines.{has_line, is_opening}
 use Rattle.dtx_model.specs.Words.{has}
 use Rattle.dtx_model.specs.Observed.{ends_of}
 use Rattle.dtx_model.specs.Wires.{ended_after, ends, is_ended, opens}
-use Rattle.dtx_model.proofs.Bools.{and_left, and_right, not_both, or_case}
+use Rattle.dtx_model.proofs.Bools.{and_left, and_right, not_both, or_case, or_false}
 use Rattle.outcome_law.proofs.Lists.{has_kept, has-insert, if_kept}
 use Rattle.outcome_law.proofs.Owned.{has_filter}
 use Rattle.outcome_law.proofs.Scans.{has_more}
@@ -81,19 +81,15 @@ noted_unknown c e (n ∷ ns) s = by (is_end_of e n) refl (noted_unknown c e ns s
   where
     by : (b : Bool) → is_end_of e n ≡ b → knows c (map (note_end e) ns) ≡ false
         → (is_known_end c (if b then record { connection = n.connection; sent = n.sent; got = n.got; ended = true } else n) || knows c (map (note_end e) ns)) ≡ false
-    by true q ih = or_both (is_known_end c (record { connection = n.connection; sent = n.sent; got = n.got; ended = true })) (knows c (map (note_end e) ns)) (false_from_ne_true _ (λ t. never (and_right (is_end_of c n) false t))) ih
-      where
-        or_both : (a b : Bool) → a ≡ false → b ≡ false → (a || b) ≡ false
-        or_both true b p q = absurd cc
-        or_both false b p q = q
-    by false q ih = other (is_known_end c n) (knows c (map (note_end e) ns)) (λ t. not_both (is_end_of e n) (own (and_left (is_end_of c n) (not n.ended) t)) q) ih
+    by true q ih =
+        let noted : End = record { connection = n.connection; sent = n.sent; got = n.got; ended = true } in
+        or_false (is_known_end c noted) (knows c (map (note_end e) ns)) (false_from_ne_true (is_known_end c noted) (λ t. never (and_right (is_end_of c n) false t))) ih
+    by false q ih =
+        or_false (is_known_end c n) (knows c (map (note_end e) ns))
+        (false_from_ne_true (is_known_end c n) (λ t. not_both (is_end_of e n) (own (and_left (is_end_of c n) (not n.ended) t)) q)) ih
       where
         own : is_end_of c n ≡ true → is_end_of e n ≡ true
         own t = let P : Conn → Type 0 = λ d. same_connection d n.connection ≡ true in subst P (same_conn_is c e s) t
-
-        other : (a b : Bool) → (a ≡ true → ⊥) → b ≡ false → (a || b) ≡ false
-        other true b f q = absurd (f refl)
-        other false b f q = q
 
 -- such an entry notes the end
 ends_unknown : (c : Conn) (x : Entry) (h : List Entry) → ends c Down x ≡ true → knows c (ends_of (x ∷ h)) ≡ false
@@ -107,6 +103,7 @@ ends_unknown c (Got e Down m) h t = step (has_line e Down m) t
 ends_unknown c (Got e Up m) h t = absurd (never (and_right (same_connection c e) false (and_left (same_connection c e && false) (not (has_line e Up m)) t)))
 ends_unknown c _ h t = absurd (never t)
 
+-- so where the end was seen since it was opened last, the local side doesn't know it
 pub ended_unknown : (c : Conn) (h : List Entry) → is_ended c Down h ≡ true → knows c (ends_of h) ≡ false
 ended_unknown c [] t = absurd (never t)
 ended_unknown c (x ∷ h) t = step (ended_unknown c h) (opens c x) refl t

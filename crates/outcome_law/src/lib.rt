@@ -1,8 +1,8 @@
 //! The laws over histories: one outcome, completeness, what a replay is, and that the tables are the history's.
 //!
 //! Each law is a public function with an empty body. It does nothing when it runs. A caller calls it for its contract: after the call the
-//! proof of the caller has the law. Where a law is of histories in which nothing is promoted, its clause says so by the scan `is_unpromoted`, or
-//! `is_local_trace` of a whole trace.
+//! proof of the caller has the law. Where a law is of histories in which each restart found what may be found, its clause says so by `tied`; where it is
+//! of those in which nothing is promoted, by the scan `is_unpromoted`, or `is_local_trace` of a whole trace.
 #![tactic(auto)]
 
 ghost use Rattle.std.specs.Prelude.{◌≡◌, ℕ, true, false, List, ◌∷◌, ◌++◌, Bool, Some, length, slice_get};
