@@ -1,16 +1,16 @@
 -- What a history shows of one enlistment and of one clone, entry by entry, beside the rows of the tables; and of the timeout.
-use Rattle.std.specs.Prelude.{ℕ, ◌≡◌, ◌==◌, nat_le, Bool, true, false, ◌&&◌, not, List, [], ◌∷◌, Option, Some, None, if◌then◌else◌}
+use Rattle.std.specs.Prelude.{ℕ, ◌≡◌, ◌==◌, nat_le, Bool, true, false, ◌&&◌, ◌||◌, not, List, [], ◌∷◌, Option, Some, None, if◌then◌else◌}
 use Rattle.dtx_values.specs.declared.number.EnlNo.{EnlNo}
 use Rattle.dtx_values.specs.declared.entry.Ask.TheVariants.{Prepare}
 use Rattle.dtx_values.specs.declared.entry.Entry.{Entry}
-use Rattle.dtx_values.specs.declared.entry.Entry.TheVariants.{Asked, Clock, Enlisted, Late, TimedOut, Voted}
+use Rattle.dtx_values.specs.declared.entry.Entry.TheVariants.{Asked, Clock, Enlisted, Late, Lost, Reenlisted, TimedOut, Voted}
 use Rattle.dtx_values.specs.declared.row.CloneRow.{CloneRow}
 use Rattle.dtx_values.specs.declared.words.Vote.{Vote}
 use Rattle.dtx_values.specs.Row.{is_marked}
 use Rattle.dtx_values.specs.declared.row.Row.{Row}
 use Rattle.dtx_values.specs.Table.{voted_before}
 use Rattle.dtx_model.specs.Words.{has, each, latest, all_of}
-use Rattle.dtx_model.specs.Entries.{began_of, is_asked, is_completed, is_lost, is_told, is_vote}
+use Rattle.dtx_model.specs.Entries.{began_of, is_asked, is_completed, is_told, is_vote}
 use Rattle.dtx_model.specs.declared.listener.Listener.{Listener}
 use Rattle.dtx_model.specs.Observed.{rows}
 
@@ -64,7 +64,14 @@ is_timely h TimedOut = is_behind_first h
 is_timely h Late = is_behind_first h
 is_timely h _ = true
 
--- the listener says whether its enlistment was told an outcome, and whether it is lost
+-- this enlistment was lost, and didn't come back after it
+abbrev pub is_away : ℕ → List Entry → Bool
+is_away e [] = false
+is_away e (Lost f ∷ past) = (e == f.value) || is_away e past
+is_away e (Reenlisted f ∷ past) = not (e == f.value) && is_away e past
+is_away e (x ∷ past) = is_away e past
+
+-- the listener says whether its enlistment was told an outcome, and whether it is lost: it was, and didn't come back
 pub record IsHeard (h : List Entry) (l : Listener) : Type 0 where
   pub told : l.told ≡ has (is_told l.enlistment.value) h
-  pub lost : l.lost ≡ has (is_lost l.enlistment.value) h
+  pub lost : l.lost ≡ is_away l.enlistment.value h

@@ -1,28 +1,12 @@
--- What the rules leave out: nothing is promoted, and nobody comes back.
-use Rattle.std.proofs.Common.{◌≡◌, ℕ, Bool, true, List, [], ◌∷◌, refl}
+-- What the rules leave out: nobody comes back.
+use Rattle.std.proofs.Common.{◌≡◌, Bool, true, List, [], ◌∷◌, refl}
 use Rattle.dtx_values.specs.declared.entry.Entry.{Entry}
-use Rattle.dtx_values.specs.declared.entry.Entry.TheVariants.{Got, Promoted, Promoting, PromotionFailed, Reenlisted}
+use Rattle.dtx_values.specs.declared.entry.Entry.TheVariants.{Got, Reenlisted}
 use Rattle.dtx_values.specs.declared.message.Conn.TheVariants.{Again}
-use Rattle.dtx_values.specs.declared.script.Line.{Line}
 use Rattle.dtx_model.specs.Words.{always}
 use Rattle.dtx_model.specs.Learned.{is_learned, is_answered, are_answered, Learned}
-use Rattle.dtx_model.specs.Promotes.{keeps_order, promotes}
 use Rattle.dtx_model.proofs.Bools.{and_both}
 use Rattle.outcome_law.proofs.Rule.{rule, ruled, first_rule, other_rules}
-
--- what keeps its rule keeps the order of a promotion
-order_kept : (s : List Line) (t : ℕ) (h : List Entry) (x : Entry) → rule h x ≡ true → keeps_order s t h x ≡ true
-order_kept s t h (Promoting c) k = absurd cc
-order_kept s t h (Promoted u c) k = absurd cc
-order_kept s t h PromotionFailed k = absurd cc
-order_kept s t h _ k = refl
-
--- what keeps the rules is promoted in order
-pub ruled_promotes : (s : List Line) (t : ℕ) (h : List Entry) → ruled h ≡ true → promotes s t h ≡ true
-unfolding promotes
-ruled_promotes s t [] r = refl
-ruled_promotes s t (x ∷ h) r =
-    and_both (keeps_order s t h x) (always (keeps_order s t) h) (order_kept s t h x (first_rule x h r)) (ruled_promotes s t h (other_rules x h r))
 
 -- what keeps its rule after what keeps its own is told after no reenlistment
 rightly_told : (h : List Entry) (x : Entry) → ruled h ≡ true → is_learned h x ≡ true

@@ -46,7 +46,7 @@ evidence_shown : (h : List Entry) → ruled h ≡ true → has is_answer h ≡ f
 evidence_shown h r u = ap (λ b. has is_sealed h && b) (evident_seen h r) ∙ sym (evidence-sealed h r u)
 
 -- while nothing is decided, the rows show whether evidence stands
-pub evidence_seen : (h : List Entry) → IsKept h → has is_decision h ≡ false → is_evident (has is_sealed h) (rows h) ≡ evidence h
+evidence_seen : (h : List Entry) → IsKept h → has is_decision h ≡ false → is_evident (has is_sealed h) (rows h) ≡ evidence h
 evidence_seen h k d = evidence_shown h k.rules (going_unanswered h d k.going)
 
 -- a call was done where it was begun and nothing is decided

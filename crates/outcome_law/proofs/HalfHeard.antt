@@ -1,5 +1,4 @@
--- Where each that is told an abort before the decision was enlisted, each listener says whether its enlistment was told, promoted or not; and where that
--- enlistment didn't come back, whether it is lost.
+-- Where each that is told an abort before the decision was enlisted, each listener says whether its enlistment was told, and whether it is lost, promoted or not.
 use Rattle.std.proofs.Common.{◌≡◌, ◌==◌, ◌||◌, ◌∙◌, ℕ, Bool, true, false, ◌&&◌, List, [], ◌∷◌, Option, Some, None, slice_get, is_some, refl, ap, sym}
 use Rattle.std.specs.Prelude.{not}
 use Rattle.dtx_values.specs.declared.entry.Entry.{Entry}
@@ -19,11 +18,11 @@ use Rattle.dtx_values.specs.declared.words.Class.{Class}
 use Rattle.dtx_values.specs.Class.{is_volatile}
 use Rattle.dtx_model.specs.declared.listener.Listener.{Listener}
 use Rattle.dtx_model.specs.Words.{always, has, latest}
-use Rattle.dtx_model.specs.Entries.{decision_of, is_decision, is_lost, is_record, is_sealed, is_told}
+use Rattle.dtx_model.specs.Entries.{decision_of, is_decision, is_record, is_sealed, is_told}
 use Rattle.dtx_model.specs.Observed.{come_back, hear, listener_number, listeners, lose}
-use Rattle.dtx_model.specs.Seen.{IsHeard}
+use Rattle.dtx_model.specs.Seen.{IsHeard, is_away}
 use Rattle.dtx_model.specs.Wires.{opens}
-use Rattle.dtx_model.proofs.Bools.{and_left, and_right, not_true, or_case, or_false, or_first, or_right, or_second}
+use Rattle.dtx_model.proofs.Bools.{and_left, and_never, and_right, not_true, or_case, or_false, or_right, or_second}
 use Rattle.outcome_law.proofs.Tests.{apart, eq_swap, first_of_five, first_of_three}
 use Rattle.outcome_law.proofs.Lists.{OfEach, of-at, of-insert, of-map, of-more}
 use Rattle.outcome_law.proofs.Rule.{is_certain, is_decided, is_enlisted}
@@ -84,12 +83,13 @@ unenlisted_untold n (x ∷ h) k t d s u =
     (or_second (is_sealed x) (has is_sealed h) s) (or_second (is_enlisted n x) (has (is_enlisted n) h) u)
 
 -- who isn't enlisted isn't lost
-unenlisted_unlost : (n : ℕ) (h : List Entry) → Keeps h → has (is_enlisted n) h ≡ false → has (is_lost n) h ≡ false
-unenlisted_unlost n [] k u = refl
-unenlisted_unlost n (Enlisted f c ∷ h) k u = unenlisted_unlost n h (keeps_before (Enlisted f c) h k) (or_second (n == f.value) (has (is_enlisted n) h) u)
-unenlisted_unlost n (Lost f ∷ h) k u =
-    or_false (n == f.value) (has (is_lost n) h) (apart (λ m. has (is_enlisted m) h) n f.value u (newest (Lost f) h k)) (unenlisted_unlost n h (keeps_before (Lost f) h k) u)
-unenlisted_unlost n (x ∷ h) k u = unenlisted_unlost n h (keeps_before x h k) (or_second (is_enlisted n x) (has (is_enlisted n) h) u)
+unenlisted_there : (n : ℕ) (h : List Entry) → Keeps h → has (is_enlisted n) h ≡ false → is_away n h ≡ false
+unenlisted_there n [] k u = refl
+unenlisted_there n (Enlisted f c ∷ h) k u = unenlisted_there n h (keeps_before (Enlisted f c) h k) (or_second (n == f.value) (has (is_enlisted n) h) u)
+unenlisted_there n (Lost f ∷ h) k u =
+    or_false (n == f.value) (is_away n h) (apart (λ m. has (is_enlisted m) h) n f.value u (newest (Lost f) h k)) (unenlisted_there n h (keeps_before (Lost f) h k) u)
+unenlisted_there n (Reenlisted f ∷ h) k u = ap (λ b. not (n == f.value) && b) (unenlisted_there n h (keeps_before (Reenlisted f) h k) u) ∙ and_never (not (n == f.value))
+unenlisted_there n (x ∷ h) k u = unenlisted_there n h (keeps_before x h k) (or_second (is_enlisted n x) (has (is_enlisted n) h) u)
 
 -- who is enlisted is so while nothing is decided
 enlisted_undecided : (e : EnlNo) (c : Class) (h : List Entry) → rule h (Enlisted e c) ≡ true → has is_decision h ≡ false
@@ -97,52 +97,33 @@ enlisted_undecided e c h r =
     not_true (has is_decision h)
     (first_of_five (not (has is_decision h)) (not (has is_sealed h)) (not (has (is_enlisted e.value) h)) (class_row h e.value c) (not (is_volatile c && has (opens (OnEnl e)) h)) r)
 
--- the listener says whether its enlistment was told, and where that didn't come back, whether it is lost
-record IsHeardHere (h : List Entry) (l : Listener) : Type 0 where
-  told : l.told ≡ has (is_told l.enlistment.value) h
-  lost : has (is_return l.enlistment.value) h ≡ false → l.lost ≡ has (is_lost l.enlistment.value) h
-
 -- one that comes back is no longer lost, and the others stay as they are
-back_heard : (e : EnlNo) (h : List Entry) (l : Listener) → IsHeardHere h l → IsHeardHere (Reenlisted e ∷ h) (come_back e.value l)
+back_heard : (e : EnlNo) (h : List Entry) (l : Listener) → IsHeard h l → IsHeard (Reenlisted e ∷ h) (come_back e.value l)
 back_heard e h l w =
-    record {
-      told = w.told;
-      lost =
-          λ s. let n = l.enlistment.value in
-          ap (λ b. not b && l.lost) (eq_swap e.value n ∙ or_first (n == e.value) (has (is_return n) h) s) ∙ w.lost (or_second (n == e.value) (has (is_return n) h) s);
-    }
+    let n = l.enlistment.value in record { told = w.told; lost = ap (λ b. not b && l.lost) (eq_swap e.value n) ∙ ap (λ b. not (n == e.value) && b) w.lost }
 
 -- each listener says so
-listeners_heard : (h : List Entry) → Keeps h → always is_told_here h ≡ true → OfEach (IsHeardHere h) (listeners h)
+listeners_heard : (h : List Entry) → Keeps h → always is_told_here h ≡ true → OfEach (IsHeard h) (listeners h)
 listeners_heard [] k t = tt
 listeners_heard (Enlisted e c ∷ h) k t =
     let own = keeps_before (Enlisted e c) h k in
     let rule = newest (Enlisted e c) h k in
     let new = enlisted_once e c h rule in
-    of-insert (IsHeardHere (Enlisted e c ∷ h)) listener_number (record { enlistment = e; told = false; lost = false })
-    (record {
-      told = sym (unenlisted_untold e.value h own t (enlisted_undecided e c h rule) (enlisted_unsealed e c h rule) new);
-      lost = λ s. sym (unenlisted_unlost e.value h own new);
-    }) (listeners h)
-    (of-more (IsHeardHere h) (IsHeardHere (Enlisted e c ∷ h)) (λ l w. record { told = w.told; lost = w.lost }) (listeners h) (listeners_heard h own t))
+    of-insert (IsHeard (Enlisted e c ∷ h)) listener_number (record { enlistment = e; told = false; lost = false })
+    (record { told = sym (unenlisted_untold e.value h own t (enlisted_undecided e c h rule) (enlisted_unsealed e c h rule) new); lost = sym (unenlisted_there e.value h own new) }) (listeners h)
+    (of-more (IsHeard h) (IsHeard (Enlisted e c ∷ h)) (λ l w. record { told = w.told; lost = w.lost }) (listeners h) (listeners_heard h own t))
 listeners_heard (Told (Enl e) o ∷ h) k t =
-    of-map (IsHeardHere h) (IsHeardHere (Told (Enl e) o ∷ h)) (hear e.value) (λ l w. record { told = swapped e.value l.enlistment.value l.told _ w.told; lost = w.lost }) (listeners h)
+    of-map (IsHeard h) (IsHeard (Told (Enl e) o ∷ h)) (hear e.value) (λ l w. record { told = swapped e.value l.enlistment.value l.told _ w.told; lost = w.lost }) (listeners h)
     (listeners_heard h (keeps_before (Told (Enl e) o) h k) (and_right (is_told_here h (Told (Enl e) o)) (always is_told_here h) t))
 listeners_heard (Lost e ∷ h) k t =
-    of-map (IsHeardHere h) (IsHeardHere (Lost e ∷ h)) (lose e.value)
-    (λ l w. record { told = w.told; lost = λ s. swapped e.value l.enlistment.value l.lost _ (w.lost s) }) (listeners h) (listeners_heard h (keeps_before (Lost e) h k) t)
+    of-map (IsHeard h) (IsHeard (Lost e ∷ h)) (lose e.value) (λ l w. record { told = w.told; lost = swapped e.value l.enlistment.value l.lost _ w.lost }) (listeners h)
+    (listeners_heard h (keeps_before (Lost e) h k) t)
 listeners_heard (Reenlisted e ∷ h) k t =
-    of-map (IsHeardHere h) (IsHeardHere (Reenlisted e ∷ h)) (come_back e.value) (back_heard e h) (listeners h) (listeners_heard h (keeps_before (Reenlisted e) h k) t)
+    of-map (IsHeard h) (IsHeard (Reenlisted e ∷ h)) (come_back e.value) (back_heard e h) (listeners h) (listeners_heard h (keeps_before (Reenlisted e) h k) t)
 listeners_heard (x ∷ h) k t =
-    of-more (IsHeardHere h) (IsHeardHere (x ∷ h)) (λ l w. record { told = w.told; lost = w.lost }) (listeners h)
+    of-more (IsHeard h) (IsHeard (x ∷ h)) (λ l w. record { told = w.told; lost = w.lost }) (listeners h)
     (listeners_heard h (keeps_before x h k) (and_right (is_told_here h x) (always is_told_here h) t))
 
--- the listener at a place says whether its enlistment was told
-pub listener_told : (h : List Entry) (n : ℕ) (l : Listener) → Keeps h → always is_told_here h ≡ true → slice_get (listeners h) n ≡ Some l
-    → l.told ≡ has (is_told l.enlistment.value) h
-listener_told h n l k t e = (of-at (IsHeardHere h) (listeners h) n l (listeners_heard h k t) e).told
-
--- and where that didn't come back, what the history shows of it
-pub listener_heard : (h : List Entry) (n : ℕ) (l : Listener) → Keeps h → always is_told_here h ≡ true → slice_get (listeners h) n ≡ Some l
-    → has (is_return l.enlistment.value) h ≡ false → IsHeard h l
-listener_heard h n l k t e s = let w = of-at (IsHeardHere h) (listeners h) n l (listeners_heard h k t) e in record { told = w.told; lost = w.lost s }
+-- the listener at a place says so
+pub listener_heard : (h : List Entry) (n : ℕ) (l : Listener) → Keeps h → always is_told_here h ≡ true → slice_get (listeners h) n ≡ Some l → IsHeard h l
+listener_heard h n l k t e = of-at (IsHeard h) (listeners h) n l (listeners_heard h k t) e

@@ -62,7 +62,7 @@ one_handed h e k p n g =
     step (x ∷ y ∷ ds) o = absurd cc
 
 -- the cause that the local side knows is that for which the promotion began
-own_cause : (c : Cause) → same_cause c c ≡ true
+pub own_cause : (c : Cause) → same_cause c c ≡ true
 own_cause Two = refl
 own_cause Second = refl
 own_cause Beside = refl
@@ -80,12 +80,13 @@ success_called s t c h e o =
     (and_both (has (is_promoting_for c) h) (identifier_of t == identifier_of t) (cause_began c h e) (eq_self (identifier_of t))) o
 
 -- neither the start nor the success of a promotion
-abbrev is_other : Entry → Bool
+abbrev pub is_other : Entry → Bool
 is_other (Promoting c) = false
 is_other (Promoted u c) = false
 is_other _ = true
 
-others_called : (s : List Line) (t : ℕ) (h es : List Entry) → each is_other es ≡ true → always (is_called_for s t) h ≡ true → always (is_called_for s t) (onto h es) ≡ true
+-- such entries are called for
+pub others_called : (s : List Line) (t : ℕ) (h es : List Entry) → each is_other es ≡ true → always (is_called_for s t) h ≡ true → always (is_called_for s t) (onto h es) ≡ true
 others_called s t h [] u r = r
 others_called s t h (x ∷ es) u r =
     others_called s t (x ∷ h) es (and_right (is_other x) (each is_other es) u)

@@ -157,3 +157,6 @@ pub mod WellRows
 pub mod UnstoppedTies
 pub mod Promised
 pub mod CommitExample
+pub mod PromotesRuns
+pub mod CommonBlocks
+pub mod TellingRuns

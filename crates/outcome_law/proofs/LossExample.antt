@@ -3,7 +3,7 @@ use Rattle.std.proofs.Common.{◌≡◌, ◌==◌, true, false, List, [], ◌∷
 use Rattle.dtx_values.specs.declared.entry.Answer.TheVariants.{Fine, Did, OutcomeIs}
 use Rattle.dtx_values.specs.declared.entry.Ask.TheVariants.{Prepare}
 use Rattle.dtx_values.specs.declared.entry.Entry.{Entry}
-use Rattle.dtx_values.specs.declared.entry.Entry.TheVariants.{Called, Began, Enlisted, CommitAsked, Asked, Voted, Sealed, Handed, OwnerAnswered, Decided, Told, Lost}
+use Rattle.dtx_values.specs.declared.entry.Entry.TheVariants.{Called, Began, Enlisted, CommitAsked, Asked, Voted, Sealed, Handed, OwnerAnswered, Decided, Told, Lost, Reenlisted}
 use Rattle.dtx_values.specs.declared.entry.Party.TheVariants.{Client, Enl}
 use Rattle.dtx_values.specs.declared.script.Body.TheVariants.{Do, Gone}
 use Rattle.dtx_values.specs.declared.script.Line.{Line}
@@ -20,6 +20,7 @@ use Rattle.dtx_model.specs.Replies.{all_due, due_of}
 use Rattle.dtx_model.specs.World.{answer_at}
 use Rattle.dtx_model.specs.Steps.{Acts, LocalAct, block_at, local_pending, pending}
 use Rattle.dtx_model.specs.Caused.{Caused}
+use Rattle.dtx_model.specs.Seen.{is_away}
 use Rattle.dtx_model.specs.Replay.{HasDoneAt, HasSettled, IsReplayed, LinesRan}
 use Rattle.dtx_values.specs.Owners.{may_own, owner_of}
 use Rattle.dtx_model.specs.Outcome.{ready, by_seal, by_owner, by_log, evidence, vetoed, owner_doubt, coordinator_doubt, doubt, may_tell, justified}
@@ -134,3 +135,10 @@ lost_unhanded_is_no_doubt = refl
 pub lost_behind_answer : just_in (handed_e2 ++ OwnerAnswered e2 Committed ∷ Decided Committed ∷ Lost e2 ∷ Told Client InDoubt ∷ []) ≡ false
 unfolding justified may_tell evidence ready by_seal by_owner by_log doubt owner_doubt coordinator_doubt
 lost_behind_answer = refl
+
+-- who comes back is lost no longer, and who is lost after that is lost
+back_again : is_away e2.value (past_of (Lost e2 ∷ Reenlisted e2 ∷ [])) ≡ false
+back_again = refl
+
+lost_again : is_away e2.value (past_of (Lost e2 ∷ Reenlisted e2 ∷ Lost e2 ∷ [])) ≡ true
+lost_again = refl

@@ -9,7 +9,6 @@ use Rattle.dtx_values.specs.declared.number.EnlNo.{EnlNo}
 use Rattle.dtx_values.specs.declared.entry.Ask.TheVariants.{Prepare}
 use Rattle.dtx_values.specs.declared.entry.Entry.{Entry}
 use Rattle.dtx_values.specs.declared.entry.Entry.TheVariants.{Cloned, Completed, CommitAsked, Enlisted, Asked, Voted}
-use Rattle.dtx_values.specs.declared.row.CloneRow.{CloneRow}
 use Rattle.dtx_values.specs.declared.words.Class.{Class}
 use Rattle.dtx_values.specs.declared.words.CloneKind.{CloneKind}
 use Rattle.dtx_values.specs.declared.words.CloneKind.TheVariants.{Block, Rollback}
@@ -277,10 +276,6 @@ clones_seen (Completed c ∷ h) r =
     of-map (IsCloneSeen h) (IsCloneSeen (Completed c ∷ h)) (λ r. record { clone = r.clone; kind = r.kind; complete = is_clone c.value r || r.complete })
     (λ r w. ap (λ b. b || r.complete) (eq_swap c.value r.clone.value) ∙ ap (λ b. (r.clone.value == c.value) || b) w) (clone_rows h) (clones_seen h (other_rules (Completed c) h r))
 clones_seen (x ∷ h) r = clones_seen h (other_rules x h r)
-
--- the clone's row at a place says whether it was completed
-pub clone_seen : (h : List Entry) (k : ℕ) (c : CloneRow) → ruled h ≡ true → slice_get (clone_rows h) k ≡ Some c → c.complete ≡ has (is_completed c.clone.value) h
-clone_seen h k c r e = of-at (IsCloneSeen h) (clone_rows h) k c (clones_seen h r) e
 
 -- where p passes the kind of a clone that isn't complete, as the rows and as the history show it
 open_clones : (p : CloneKind → Bool) (h : List Entry) → ruled h ≡ true

@@ -1,26 +1,28 @@
--- A timeout comes directly behind the first tick that reaches it: the clock never falls, and a tick that reaches the timeout found it below.
+-- A timeout comes directly behind the first tick that reaches it, promoted or not: the clock never falls, and a tick that reaches the timeout found it below.
 use Rattle.std.proofs.Common.{◌≡◌, ℕ, Bool, true, false, ◌&&◌, List, [], ◌∷◌, Option, Some, None, refl, arith, subst, sym}
-use Rattle.std.specs.Prelude.{is_some, nat_le, nat_lt, not, if◌then◌else◌}
+use Rattle.std.specs.Prelude.{find, nat_le, nat_lt, not, if◌then◌else◌}
 use Rattle.std.proofs.lemmas.Bool.Decides.{nat_tests}
 use Rattle.dtx_values.specs.declared.number.ActorNo.{ActorNo}
+use Rattle.dtx_values.specs.declared.number.EnlNo.{EnlNo}
+use Rattle.dtx_values.specs.declared.number.TxNo.{TxNo}
 use Rattle.dtx_values.specs.declared.call.Call.{Call}
-use Rattle.dtx_values.specs.declared.call.Call.TheVariants.{Commit, Tick, Gone}
+use Rattle.dtx_values.specs.declared.call.Call.TheVariants.{Reenlist, Tick}
 use Rattle.dtx_values.specs.declared.entry.Answer.{Answer}
 use Rattle.dtx_values.specs.declared.entry.Entry.{Entry}
-use Rattle.dtx_values.specs.declared.entry.Entry.TheVariants.{Called, Clock, CommitAsked, Late, Lost, TimedOut}
-use Rattle.dtx_values.specs.Clones.{is_open_rollback}
+use Rattle.dtx_values.specs.declared.entry.Entry.TheVariants.{Called, Clock, Late, TimedOut}
 use Rattle.dtx_model.specs.Words.{has, each, always, latest, onto}
-use Rattle.dtx_model.specs.Entries.{began_of, decision_of, handed_of}
-use Rattle.dtx_model.specs.Observed.{observe, clock, rows, clone_rows}
+use Rattle.dtx_model.specs.Entries.{began_of}
+use Rattle.dtx_model.specs.Observed.{observe, clock, is_branch}
 use Rattle.dtx_model.specs.Seen.{is_clock_from, is_first_over, is_behind_first, is_timely}
-use Rattle.dtx_values.specs.Table.{voted}
-use Rattle.dtx_model.specs.Half.{is_handed}
-use Rattle.dtx_model.specs.Facts.{ticked, reaches, facts_if}
-use Rattle.dtx_model.specs.Steps.{Step, Calls, Replies, Acts}
-use Rattle.dtx_model.proofs.Narrow.{answer, is_done, veto_if, is_late, time_up, lost_outcome, decided_if, facts, block}
+use Rattle.dtx_model.specs.declared.branch.Branch.{Branch}
+use Rattle.dtx_model.specs.Half.{Half, veto}
+use Rattle.dtx_model.specs.Facts.{facts_if, has_facts, is_late, reaches, ticked, time_up}
+use Rattle.dtx_model.specs.World.{World, answer_at, facts_at, half, reenlist_facts}
+use Rattle.dtx_model.specs.Steps.{Step, Calls, after, block_at}
+use Rattle.dtx_model.specs.Caused.{FreelyCaused, Ran}
 use Rattle.dtx_model.proofs.Bools.{and_left, and_right, and_both, or_false, not_false}
-use Rattle.outcome_law.proofs.Runs.{RanLocal, IsLocalRun}
-use Rattle.outcome_law.proofs.Pending.{is_deed, veto_deed, decided_deed, block_deed}
+use Rattle.outcome_law.proofs.Scans.{each_more}
+use Rattle.outcome_law.proofs.CommonBlocks.{common_veto, is_usual, usual, usual_block}
 
 -- a clock isn't below the clock before it and fits a u64, and an entry of a timeout is timely
 abbrev is_on_time : List Entry → Entry → Bool
@@ -68,56 +70,78 @@ reaches_first h n a y (Some d) z r k =
     and_both (nat_le d z) (not (has (is_clock_from d) h)) (and_right (nat_lt (clock h) d) (nat_le d z) k)
     (not_false (has (is_clock_from d) h) (none_reached d h r (and_left (nat_lt (clock h) d) (nat_le d z) k)))
 
--- the end of the time after a tick is on time
-time_on : (h : List Entry) (b late : Bool) → all_on_time h ≡ true → (b ≡ true → is_behind_first h ≡ true) → all_on_time (onto h (if b then time_up late else [])) ≡ true
-time_on h false late r f = r
-time_on h true true r f = and_both (is_behind_first h) (all_on_time h) (f refl) r
-time_on h true false r f = and_both (is_behind_first h) (all_on_time h) (f refl) r
+-- entries that are of no clock and of no timeout
+abbrev is_timeless : Entry → Bool
+is_timeless (Clock n) = false
+is_timeless TimedOut = false
+is_timeless Late = false
+is_timeless _ = true
 
--- a tick doesn't bring the clock back
-tick_rises : (c n : ℕ) → nat_le c 18446744073709551615 ≡ true → (nat_le c (ticked c n) && nat_le (ticked c n) 18446744073709551615) ≡ true
-tick_rises c n k = and_both (nat_le c (ticked c n)) (nat_le (ticked c n) 18446744073709551615) (grind (arith, nat_tests)) (grind (arith, nat_tests))
+usual_timeless : (x : Entry) → is_usual x ≡ true → is_timeless x ≡ true
+usual_timeless (Clock n) k = absurd cc
+usual_timeless TimedOut k = absurd cc
+usual_timeless Late k = absurd cc
+usual_timeless _ k = refl
 
--- deeds are on time
-deeds_on : (h es : List Entry) → each is_deed es ≡ true → all_on_time h ≡ true → all_on_time (onto h es) ≡ true
-deeds_on h [] k r = r
-deeds_on h (x ∷ es) k r =
-    deeds_on (x ∷ h) es (and_right (is_deed x) (each is_deed es) k) (and_both (is_on_time h x) (all_on_time h) (one h x (and_left (is_deed x) (each is_deed es) k)) r)
+timeless_on : (h es : List Entry) → each is_timeless es ≡ true → all_on_time h ≡ true → all_on_time (onto h es) ≡ true
+timeless_on h [] k r = r
+timeless_on h (x ∷ es) k r =
+    timeless_on (x ∷ h) es (and_right (is_timeless x) (each is_timeless es) k) (and_both (is_on_time h x) (all_on_time h) (one h x (and_left (is_timeless x) (each is_timeless es) k)) r)
   where
-    one : (h : List Entry) (x : Entry) → is_deed x ≡ true → is_on_time h x ≡ true
+    one : (h : List Entry) (x : Entry) → is_timeless x ≡ true → is_on_time h x ≡ true
     one h (Clock n) k = absurd cc
     one h TimedOut k = absurd cc
     one h Late k = absurd cc
     one h _ k = refl
 
--- the entries of a call are on time
-call_on : (h : List Entry) (n : ℕ) (a : ActorNo) (y : Answer) (c : Call) (b : Bool) → all_on_time h ≡ true → all_on_time (onto (Called n a y ∷ h) (facts_if b (facts (observe h) c))) ≡ true
+usual_on : (h es : List Entry) → each is_usual es ≡ true → all_on_time h ≡ true → all_on_time (onto h es) ≡ true
+usual_on h es k r = timeless_on h es (each_more is_usual is_timeless usual_timeless es k) r
+
+-- the end of the time after a tick is on time
+time_on : (v : Half) (h : List Entry) (b : Bool) → all_on_time h ≡ true → (b ≡ true → is_behind_first h ≡ true) → all_on_time (onto h (if b then time_up v else [])) ≡ true
+time_on v h false r f = r
+time_on v h true r f = by (is_late v.seen)
+  where
+    by : (late : Bool) → all_on_time (onto h (if late then Late ∷ [] else TimedOut ∷ veto v)) ≡ true
+    by true = and_both (is_behind_first h) (all_on_time h) (f refl) r
+    by false = usual_on (TimedOut ∷ h) (veto v) (usual (veto v) (common_veto v)) (and_both (is_behind_first h) (all_on_time h) (f refl) r)
+
+-- a tick doesn't bring the clock back
+tick_rises : (c n : ℕ) → nat_le c 18446744073709551615 ≡ true → (nat_le c (ticked c n) && nat_le (ticked c n) 18446744073709551615) ≡ true
+tick_rises c n k = and_both (nat_le c (ticked c n)) (nat_le (ticked c n) 18446744073709551615) (grind (arith, nat_tests)) (grind (arith, nat_tests))
+
+-- the block of a tick is on time
+tick_on : (t : ℕ) (w : World) (n : ℕ) (a : ActorNo) (u : TxNo) (i : ℕ) (y : Answer) (b : Bool) → all_on_time w.past ≡ true → all_on_time (onto (Called n a y ∷ w.past) (facts_if b (facts_at t w (Tick u i) y))) ≡ true
 unfolding observe
-call_on h n a y c false r = r
-call_on h n a y (Commit t) true r = let veto = has is_open_rollback (clone_rows h) in deeds_on (CommitAsked ∷ Called n a y ∷ h) (veto_if veto) (veto_deed veto) r
-call_on h n a y (Tick t i) true r =
+tick_on t w n a u i y false r = r
+tick_on t w n a u i y true r =
+    let h = w.past in
     let z = ticked (clock h) i in
-    time_on (Clock z ∷ Called n a y ∷ h) (reaches (latest began_of h) (clock h) z) (is_late (observe h))
+    time_on (half w) (Clock z ∷ Called n a y ∷ h) (reaches (latest began_of h) (clock h) z)
     (and_both (nat_le (clock h) z && nat_le z 18446744073709551615) (all_on_time h) (tick_rises (clock h) i (clock_fits h r)) r) (reaches_first h n a y (latest began_of h) z r)
-call_on h n a y (Gone e) true r =
-    let lost = not (is_some (latest decision_of h)) && not (voted e.value (rows h)) in
-    let x = lost_outcome (is_handed (latest handed_of h) e.value) in
-    deeds_on (Lost e ∷ Called n a y ∷ h) (decided_if lost x) (decided_deed lost x) r
-call_on h n a y _ true r = r
+
+-- and that of the return of an enlistment
+return_timeless : (t : ℕ) (w : World) (e : EnlNo) (y : Answer) (b : Bool) → each is_timeless (facts_if b (facts_at t w (Reenlist e) y)) ≡ true
+return_timeless t w e y false = refl
+return_timeless t w e y true = by (find (is_branch e.value) (half w).seen.branches)
+  where
+    by : (o : Option Branch) → each is_timeless (reenlist_facts t o) ≡ true
+    by (Some b) = refl
+    by None = refl
 
 -- the block of a step is on time
-step_on : (h : List Entry) (m : Step) → all_on_time h ≡ true → all_on_time (onto h (block (observe h) m)) ≡ true
-unfolding block
-step_on h (Calls n a c m) r = call_on h n a (answer (observe h) c m) c (is_done (answer (observe h) c m)) r
-step_on h (Replies e y) r = deeds_on h (block (observe h) (Replies e y)) (block_deed (observe h) (Replies e y) refl) r
-step_on h Acts r = deeds_on h (block (observe h) Acts) (block_deed (observe h) Acts refl) r
-step_on h _ r = r
+step_on : (t : ℕ) (w : World) (m : Step) → all_on_time w.past ≡ true → all_on_time (after t w m).past ≡ true
+unfolding after block_at
+step_on t w (Calls n a (Tick u i) m) r = tick_on t w n a u i (answer_at t w (Tick u i) m) (has_facts (answer_at t w (Tick u i) m)) r
+step_on t w (Calls n a (Reenlist e) m) r =
+    let y = answer_at t w (Reenlist e) m in timeless_on (Called n a y ∷ w.past) (facts_if (has_facts y) (facts_at t w (Reenlist e) y)) (return_timeless t w e y (has_facts y)) r
+step_on t w m r = usual_on w.past (block_at t w m) (usual_block t w m refl) r
 
 -- what the steps make is on time
-ran_on : (G : ℕ → ActorNo → Call → Type 0) (steps : List Step) (h : List Entry) → RanLocal G steps h → all_on_time h ≡ true
-ran_on G [] h r = subst (λ h. all_on_time h ≡ true) (sym r) refl
-ran_on G (m ∷ ms) h r = subst (λ h. all_on_time h ≡ true) (sym r.3) (step_on r.0 m (ran_on G ms r.0 r.1))
+ran_on : (G : ℕ → ActorNo → Call → Type 0) (t : ℕ) (ms : List Step) (w : World) → Ran G t ms w → all_on_time w.past ≡ true
+ran_on G t [] w r = subst (λ h. all_on_time h ≡ true) (sym r.1) refl
+ran_on G t (m ∷ ms) w r = subst (λ (x : World). all_on_time x.past ≡ true) (sym r.3) (step_on t r.0 m (ran_on G t ms r.0 r.1))
 
--- where nothing is promoted, a timeout comes directly behind the first tick that reaches it
-pub run_timely : (G : ℕ → ActorNo → Call → Type 0) (h : List Entry) → IsLocalRun G h → always is_timely h ≡ true
-run_timely G h r = all_timely h (ran_on G r.0 h r.1)
+-- a timeout comes directly behind the first tick that reaches it
+pub run_timely : (G : ℕ → ActorNo → Call → Type 0) (t : ℕ) (h : List Entry) → FreelyCaused G t h → always is_timely h ≡ true
+run_timely G t h r = all_timely h (ran_on G t r.1.0 (record { calls = r.0; past = h }) r.1.1)

@@ -235,34 +235,50 @@ pub promotable_gives : (t : ℕ) (w : World) (u : TxNo) (e : EnlNo) (r : RmNo) (
 unfolding answer_at local_answer
 promotable_gives t w u e r v x p m = (promotable_given w).proof
 
--- no call waits but a durable or marshal call; and a marshal call doesn't where it is promoted or sealed
-gives : (t : ℕ) (w : World) (c : Call) (m : ℕ) → (has is_promoted w.past || has is_sealed w.past) ≡ true → is_durable_call c ≡ false → Gives (answer_at t w c m)
-unfolding answer_at local_answer observe
-gives t w (Begin u d) m p n = sure refl
-gives t w (Volatile u e x v) m p n = volatile_given w
-gives t w (Durable u e r s) m p n = absurd cc
-gives t w (Promotable u e r v x y) m p n = promotable_given w
-gives t w (Clone u c k) m p n = let o = (half w).seen in gives_over o (gives_if o.commit (sure refl) (gives_if (nat_le CLONES (length o.clones)) (sure refl) (sure refl)))
-gives t w (Complete c) m p n =
+-- the call may wait
+abbrev pub may_wait : Call → Bool
+may_wait (Durable u e r s) = true
+may_wait (Marshal u) = true
+may_wait _ = false
+
+-- no call waits but a durable or marshal call
+other_given : (t : ℕ) (w : World) (c : Call) (m : ℕ) → may_wait c ≡ false → Gives (answer_at t w c m)
+unfolding answer_at local_answer
+other_given t w (Begin u d) m n = sure refl
+other_given t w (Volatile u e x v) m n = volatile_given w
+other_given t w (Durable u e r s) m n = absurd cc
+other_given t w (Marshal u) m n = absurd cc
+other_given t w (Promotable u e r v x y) m n = promotable_given w
+other_given t w (Clone u c k) m n = let o = (half w).seen in gives_over o (gives_if o.commit (sure refl) (gives_if (nat_le CLONES (length o.clones)) (sure refl) (sure refl)))
+other_given t w (Complete c) m n =
     let o = (half w).seen in
     gives_over o (gives_if (not (has (is_clone c.value) o.clones)) (sure refl) (gives_if (has (is_complete_clone c.value) o.clones) (sure refl) (sure refl)))
-gives t w (Commit u) m p n = gives_over (half w).seen (gives_late (half w).seen.commit)
-gives t w (Rollback u) m p n = gives_over (half w).seen (gives_late (half w).seen.sealed)
-gives t w (Marshal u) m p n =
-    let h = half w in
-    gives_over h.seen (gives_id (has is_promoted w.past) (has is_sealed w.past) (identifier_of t) (if is_crowded h then Many CALLS else Wait) p)
-gives t w (Status u) m p n = gives_begun (half w).seen.limit (gives_status (half w).seen.decided)
-gives t w (Await u) m p n = gives_begun (half w).seen.limit (gives_await (half w).seen.told_client)
-gives t w (Tick u k) m p n = gives_begun (half w).seen.limit (sure refl)
-gives t w (Do u k j) m p n = gives_begun (half w).seen.limit (sure refl)
-gives t w (Lose u c k j) m p n = gives_begun (half w).seen.limit (gives_if (is_open_wire c w.past) (sure refl) (sure refl))
-gives t w (Gone e) m p n =
+other_given t w (Commit u) m n = gives_over (half w).seen (gives_late (half w).seen.commit)
+other_given t w (Rollback u) m n = gives_over (half w).seen (gives_late (half w).seen.sealed)
+other_given t w (Status u) m n = gives_begun (half w).seen.limit (gives_status (half w).seen.decided)
+other_given t w (Await u) m n = gives_begun (half w).seen.limit (gives_await (half w).seen.told_client)
+other_given t w (Tick u k) m n = gives_begun (half w).seen.limit (sure refl)
+other_given t w (Do u k j) m n = gives_begun (half w).seen.limit (sure refl)
+other_given t w (Lose u c k j) m n = gives_begun (half w).seen.limit (gives_if (is_open_wire c w.past) (sure refl) (sure refl))
+other_given t w (Gone e) m n =
     let o = (half w).seen in gives_begun o.limit (gives_if (not (stands o e.value)) (sure refl) (gives_if (is_gone o e.value) (sure refl) (sure refl)))
-gives t w (Reenlist e) m p n = gives_begun (half w).seen.limit (gives_branch w (find (is_branch e.value) (half w).seen.branches))
-gives t w (Recovered u r) m p n =
+other_given t w (Reenlist e) m n = gives_begun (half w).seen.limit (gives_branch w (find (is_branch e.value) (half w).seen.branches))
+other_given t w (Recovered u r) m n =
     gives_begun (half w).seen.limit
     (gives_if (not (has (λ b. b.enlisted) (branches_by w r.value))) (sure refl)
     (gives_if (is_in r.value (core w).recovered) (sure refl) (gives_connected (find (is_unfinished_link w) (branches_by w r.value)) (gives_stopped w))))
+
+pub other_gives : (t : ℕ) (w : World) (c : Call) (m : ℕ) → may_wait c ≡ false → is_waiting_answer (answer_at t w c m) ≡ false
+other_gives t w c m n = (other_given t w c m n).proof
+
+-- and a marshal call doesn't where it is promoted or sealed
+gives : (t : ℕ) (w : World) (c : Call) (m : ℕ) → (has is_promoted w.past || has is_sealed w.past) ≡ true → is_durable_call c ≡ false → Gives (answer_at t w c m)
+unfolding answer_at local_answer observe
+gives t w (Durable u e r s) m p n = absurd cc
+gives t w (Marshal u) m p n =
+    let h = half w in
+    gives_over h.seen (gives_id (has is_promoted w.past) (has is_sealed w.past) (identifier_of t) (if is_crowded h then Many CALLS else Wait) p)
+gives t w c m p n = other_given t w c m refl
 
 -- after the seal no call waits
 durable_late : (o : Option ℕ) (d : Option Outcome) (s : Bool) (x : Answer) → s ≡ true → Gives (if_begun o (unless_ended d (if s then TooLate else x)))

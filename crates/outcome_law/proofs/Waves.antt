@@ -2,29 +2,23 @@
 use Rattle.std.proofs.Common.{◌≡◌, ℕ, ◌==◌, ◌<◌, ◌≤◌, suc, Bool, true, false, ◌&&◌, ◌||◌, List, [], ◌∷◌, Option, Some, None, map}
 use Rattle.std.proofs.Common.{refl, ◌∙◌, ap, subst, sym, arith}
 use Rattle.std.specs.Prelude.{is_some, not, if◌then◌else◌}
-use Rattle.std.specs.List.{slice_get}
-use Rattle.std.proofs.Math.Nat.{le_trans}
 use Rattle.std.proofs.lemmas.Bool.{eqb-true}
 use Rattle.std.proofs.lemmas.Bool.Decides.{nat_tests}
-use Rattle.dtx_values.specs.declared.number.EnlNo.{EnlNo}
 use Rattle.dtx_values.specs.declared.entry.Ask.TheVariants.{Prepare}
 use Rattle.dtx_values.specs.declared.entry.Entry.{Entry}
 use Rattle.dtx_values.specs.declared.entry.Entry.TheVariants.{Enlisted, Asked, Voted}
-use Rattle.dtx_values.specs.declared.words.Class.{Class}
 use Rattle.dtx_values.specs.declared.words.Vote.{Vote}
-use Rattle.dtx_values.specs.Row.{is_of, is_marked, has_voted, is_asked_before, number_of, fresh_row, unless_there, mark_row, vote_row}
+use Rattle.dtx_values.specs.Row.{is_of, is_marked, is_asked_before, number_of, fresh_row, unless_there, mark_row, vote_row}
 use Rattle.dtx_values.specs.declared.row.Row.{Row}
-use Rattle.dtx_values.specs.Table.{voted_before, marks}
+use Rattle.dtx_values.specs.Table.{marks}
 use Rattle.dtx_model.specs.Words.{has, each, all_of}
-use Rattle.dtx_model.specs.Entries.{is_vote}
 use Rattle.dtx_model.specs.Observed.{rows}
-use Rattle.dtx_model.specs.Seen.{asked_of, asked_before, waited_for, IsSeen}
+use Rattle.dtx_model.specs.Seen.{asked_of, asked_before}
 use Rattle.dtx_model.proofs.Bools.{and_swap}
 use Rattle.dtx_model.proofs.Counts.{how_many-map}
-use Rattle.outcome_law.proofs.Tests.{eq_self, eq_swap, apart}
-use Rattle.outcome_law.proofs.Lists.{OfEach, of-at, of-more, of-map, of-insert, of-both, of-has, each_same, each_kept, if_kept, each-insert, how_many-insert}
-use Rattle.outcome_law.proofs.Rule.{is_enlisted, ruled, first_rule, other_rules}
-use Rattle.outcome_law.proofs.TableRows.{enlisted_in_rows, enlisted_once, asked_enlisted, IsRow, there, rows_seen, row_seen}
+use Rattle.outcome_law.proofs.Lists.{OfEach, of-map, of-insert, of-both, of-has, each_kept, if_kept, each-insert, how_many-insert}
+use Rattle.outcome_law.proofs.Rule.{ruled, first_rule, other_rules}
+use Rattle.outcome_law.proofs.TableRows.{enlisted_in_rows, asked_enlisted, there}
 
 -- the row as it is after an ask to prepare of this enlistment, after so many marks
 abbrev pub marked : ℕ → ℕ → Row → Row
@@ -178,64 +172,3 @@ own_wave h true y x same_name same_place w =
       waits = λ v. ap (λ n. each (passes_before n v) (rows h)) same_place ∙ w.waits v ∙ ap (λ e. each (λ f. v f.value) (asked_before e.value h)) (sym same_name);
     }
 own_wave h false y x same_name same_place w = w
-
--- each row of a history that keeps the rules waits for those that were asked before its enlistment came
-rows_waves : (h : List Entry) → ruled h ≡ true → OfEach (IsWave h) (rows h)
-rows_waves [] r = tt
-rows_waves (Enlisted e c ∷ h) r =
-    let n = marks (rows h) in
-    let fresh : Row = (fresh_row e c n) in
-    let kept : marks (rows (Enlisted e c ∷ h)) ≡ n = how_many-insert is_marked number_of fresh refl (rows h) in
-    let rest = other_rules (Enlisted e c) h r in
-    let once = enlisted_once e c h (first_rule (Enlisted e c) h r) in
-    of-insert (IsWave (Enlisted e c ∷ h)) number_of fresh
-    (record {
-      behind = rw kept (omega arith);
-      waits =
-          λ v. each-insert (passes_before n v) number_of fresh (rows h)
-          ∙ each_same (passes_before n v) (passes_marked v) (rows h)
-          (of-more (IsBelow n) (λ q. passes_before n v q ≡ passes_marked v q) (λ q w. ap (λ b. not b || v q.number.value) w) (rows h) (marks_below h))
-          ∙ all_asked v h rest ∙ rw (eq_self e.value) refl;
-    }) (rows h)
-    (of-more (λ x. IsRow h x × IsWave h x) (IsWave (Enlisted e c ∷ h)) (λ x w. older e c n h x kept once w.0.stands w.1) (rows h)
-    (of-both (IsRow h) (IsWave h) (rows h) (rows_seen h rest) (rows_waves h rest)))
-  where
-    older : (e : EnlNo) (c : Class) (n : ℕ) (h : List Entry) (x : Row) → marks (rows (Enlisted e c ∷ h)) ≡ marks (rows h) → has (is_enlisted e.value) h ≡ false
-        → has (is_enlisted x.number.value) h ≡ true → IsWave h x → IsWave (Enlisted e c ∷ h) x
-    older e c n h x kept once stands w =
-        let other : (x.number.value == e.value) ≡ false = eq_swap x.number.value e.value ∙ apart (λ m. has (is_enlisted m) h) e.value x.number.value once stands in
-        record {
-          behind = rw kept w.behind;
-          waits = λ v. each-insert (passes_before x.added v) number_of (fresh_row e c (marks (rows h))) (rows h) ∙ w.waits v ∙ rw other refl;
-        }
-rows_waves (Asked e Prepare ∷ h) r =
-    let n = marks (rows h) in
-    of-map (IsWave h) (IsWave (Asked e Prepare ∷ h)) (marked e.value n)
-    (λ x w. own_wave (Asked e Prepare ∷ h) (is_of e.value x) (mark_row n x) x refl refl
-    (record {
-      behind = le_trans w.behind (marks_more e.value n (rows h));
-      waits = λ v. each_kept (passes_before x.added v) (marked e.value n) (λ q. asked_kept e.value n x.added v q w.behind) (rows h) ∙ w.waits v;
-    })) (rows h) (rows_waves h (other_rules (Asked e Prepare) h r))
-rows_waves (Voted e v ∷ h) r =
-    let f = λ (x : Row). if is_of e.value x then (vote_row v x) else x in
-    let kept : marks (map f (rows h)) ≡ marks (rows h) = how_many-map is_marked f (λ x. if_kept is_marked (is_of e.value x) (vote_row v x) x refl) (rows h) in
-    of-map (IsWave h) (IsWave (Voted e v ∷ h)) f
-    (λ x w. own_wave (Voted e v ∷ h) (is_of e.value x) (vote_row v x) x refl refl
-    (record {
-      behind = rw kept w.behind;
-      waits = λ t. each_kept (passes_before x.added t) f (λ q. if_kept (passes_before x.added t) (is_of e.value q) (vote_row v q) q refl) (rows h) ∙ w.waits t;
-    })) (rows h) (rows_waves h (other_rules (Voted e v) h r))
-rows_waves (x ∷ h) r = of-more (IsWave h) (IsWave (x ∷ h)) (λ q w. record { behind = w.behind; waits = w.waits }) (rows h) (rows_waves h (other_rules x h r))
-
--- each that was asked before the row was added has a vote by the rows where it has by the history
-row_waited : (h : List Entry) (k : ℕ) (x : Row) → ruled h ≡ true → slice_get (rows h) k ≡ Some x → voted_before x.added (rows h) ≡ waited_for h x.number.value
-row_waited h k x r e =
-    let w = of-at (IsWave h) (rows h) k x (rows_waves h r) e in
-    each_same (λ q. not (is_asked_before q.asked x.added) || has_voted q) (passes_before x.added (λ f. has (is_vote f) h)) (rows h)
-    (of-more (IsRow h) (λ q. (not (is_asked_before q.asked x.added) || has_voted q) ≡ passes_before x.added (λ f. has (is_vote f) h) q)
-    (λ q m. ap (λ b. not (is_asked_before q.asked x.added) || b) m.voted) (rows h) (rows_seen h r))
-    ∙ w.waits (λ f. has (is_vote f) h)
-
--- the row at a place says what the history shows of its enlistment
-pub row_is_seen : (h : List Entry) (k : ℕ) (x : Row) → ruled h ≡ true → slice_get (rows h) k ≡ Some x → IsSeen h x
-row_is_seen h k x r e = let w = row_seen h k x r e in record { marked = w.marked; voted = w.vote; waited = row_waited h k x r e }

@@ -345,6 +345,7 @@ promoting_if_enlisted : (n : ℕ) (h : List Entry) → Keeps h → has (is_enlis
 promoting_if_enlisted n h k s =
     arrived (is_enlisted_got n) (λ g. has is_promoting g) (λ x g t. or_right (is_promoting x) (has is_promoting g) t) (enlisted_promoting n) h k s
 
+-- an answer with facts is that of one that was enlisted and has no connection
 pub branch_done : (a f v c : Bool) (r : RmNo) (e : EnlNo) (x : Answer) → has_facts (if not a then NoSuch else if f then Finished else if v then Over r else if c then Connected e else x) ≡ true → (a ≡ true) × (c ≡ false)
 branch_done false f v c r e x k = absurd cc
 branch_done true true v c r e x k = absurd cc
@@ -368,7 +369,7 @@ unlinked_row e h k u = step (has (opens (Again e)) h) refl
         (both_ended (was_opened (Again e) h) (is_ended (Again e) Up h) (is_ended (Again e) Down h) (has_left (Again e) Up h) (has_left (Again e) Down h) (opened_since (Again e) h o)
         (or_second (is_linked (OnEnl e) h) (is_linked (Again e) h) u))
 
-found_branch : (p q : Branch → Bool) (bs : List Branch) (b : Branch) → each q bs ≡ true → find p bs ≡ Some b → q b ≡ true
+pub found_branch : (p q : Branch → Bool) (bs : List Branch) (b : Branch) → each q bs ≡ true → find p bs ≡ Some b → q b ≡ true
 found_branch p q [] b k e = absurd cc
 found_branch p q (x ∷ bs) b k e = step (p x) e (found_branch p q bs b (and_right (q x) (each q bs) k))
   where

@@ -23,7 +23,7 @@ ghost use Rattle.dtx_values.specs.declared.words.Outcome.TheVariants.{Committed}
 ghost use Rattle.dtx_values.specs.declared.row.Row.{Row};
 ghost use Rattle.dtx_model.specs.declared.listener.Listener.{Listener};
 ghost use Rattle.dtx_model.specs.Words.{has, each, always, all_of, past_of};
-ghost use Rattle.dtx_model.specs.Entries.{is_sealed, is_decision, is_client_told, clone_of};
+ghost use Rattle.dtx_model.specs.Entries.{is_sealed, is_decision, is_promoted, is_client_told, clone_of};
 ghost use Rattle.dtx_model.specs.Outcome.{enlisted, evidence, justified, agree};
 ghost use Rattle.dtx_model.specs.Learned.{Learned};
 ghost use Rattle.dtx_model.specs.Tied.{tied};
@@ -73,7 +73,7 @@ pub fn lifting()
 
 /// A history that a script's lines cause is promoted in order, where it is promoted at all; and what it gets over a connection was sent there in that order.
 pub fn crossings()
-    ensures promotes { (s : List Line) (t : ℕ) (h : List Entry) → are_named_well s ≡ true → FreelyCaused (IsCallOf s t) t h → is_unpromoted h ≡ true → promotes s t h ≡ true }
+    ensures promotes { (s : List Line) (t : ℕ) (h : List Entry) → are_named_well s ≡ true → FreelyCaused (IsCallOf s t) t h → tied h ≡ true → promotes s t h ≡ true }
     ensures wires { (s : List Line) (t : ℕ) (h : List Entry) → FreelyCaused (IsCallOf s t) t h → WireRun h }
 {}
 
@@ -104,19 +104,19 @@ pub fn replay()
         → IsHistory s 0 rise U → IsReplay s rise honest U → is_local_trace T ≡ true → is_local_trace U ≡ true → T ≡ U }
 {}
 
-/// The tables of a history that a script's lines cause say what its entries say: of each enlistment, whether it was told and is lost, of each clone, and
-/// whether evidence stands while nothing is decided. And a timeout comes once, at the first tick that reaches it.
+/// The tables of a history that a script's lines cause say what its entries say, promoted or not: of each enlistment, whether it was told and is lost, and of
+/// each clone; and while nothing is promoted or decided, whether evidence stands. And a timeout comes once, at the first tick that reaches it.
 pub fn tables()
     ensures enlisted { (h : List Entry) (f : EnlNo → Class → Bool) → each (λ x. f x.number x.class) (rows h) ≡ each (λ x. f x.0 x.1) (enlisted h) }
     ensures cloned { (h : List Entry) (f : CloneNo → CloneKind → Bool) → each (λ r. f r.clone r.kind) (clone_rows h) ≡ each (λ c. f c.0 c.1) (all_of clone_of h) }
-    ensures rows { (s : List Line) (t : ℕ) (h : List Entry) → are_named_well s ≡ true → FreelyCaused (IsCallOf s t) t h → is_unpromoted h ≡ true
+    ensures rows { (s : List Line) (t : ℕ) (h : List Entry) → are_named_well s ≡ true → FreelyCaused (IsCallOf s t) t h → tied h ≡ true
         → (k : ℕ) (x : Row) → slice_get (rows h) k ≡ Some x → IsSeen h x }
-    ensures clones { (s : List Line) (t : ℕ) (h : List Entry) → are_named_well s ≡ true → FreelyCaused (IsCallOf s t) t h → is_unpromoted h ≡ true
+    ensures clones { (s : List Line) (t : ℕ) (h : List Entry) → are_named_well s ≡ true → FreelyCaused (IsCallOf s t) t h → tied h ≡ true
         → (k : ℕ) (r : CloneRow) → slice_get (clone_rows h) k ≡ Some r → IsCloneSeen h r }
-    ensures listeners { (s : List Line) (t : ℕ) (h : List Entry) → are_named_well s ≡ true → FreelyCaused (IsCallOf s t) t h → is_unpromoted h ≡ true
+    ensures listeners { (s : List Line) (t : ℕ) (h : List Entry) → are_named_well s ≡ true → FreelyCaused (IsCallOf s t) t h → tied h ≡ true
         → (k : ℕ) (l : Listener) → slice_get (listeners h) k ≡ Some l → IsHeard h l }
     ensures counted { (h : List Entry) → length (rows h) ≡ length (enlisted h) }
-    ensures evidence { (s : List Line) (t : ℕ) (h : List Entry) → are_named_well s ≡ true → FreelyCaused (IsCallOf s t) t h → is_unpromoted h ≡ true → has is_decision h ≡ false
-        → is_evident (has is_sealed h) (rows h) ≡ evidence h }
-    ensures timed { (s : List Line) (t : ℕ) (h : List Entry) → are_named_well s ≡ true → FreelyCaused (IsCallOf s t) t h → is_unpromoted h ≡ true → always is_timely h ≡ true }
+    ensures evidence { (s : List Line) (t : ℕ) (h : List Entry) → are_named_well s ≡ true → FreelyCaused (IsCallOf s t) t h → tied h ≡ true → has is_promoted h ≡ false
+        → has is_decision h ≡ false → is_evident (has is_sealed h) (rows h) ≡ evidence h }
+    ensures timed { (s : List Line) (t : ℕ) (h : List Entry) → FreelyCaused (IsCallOf s t) t h → always is_timely h ≡ true }
 {}

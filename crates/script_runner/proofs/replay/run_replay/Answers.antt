@@ -22,7 +22,7 @@ returns-clause-history g c =
     let caused : (t : TxNo) → Caused s 0 t.value (history t.value T) = c.replay.ensures.caused s T ran local 0 (λ t. to_any s 0 (history t.value T) (planned t)) in
     record {
       caused = caused;
-      promotes = λ t. c.crossings.ensures.promotes s t.value (history t.value T) c.requires.script.named (caused t).freely (plain_unpromoted t.value T plain);
+      promotes = λ t. c.crossings.ensures.promotes s t.value (history t.value T) c.requires.script.named (caused t).freely (plain_tied t.value T plain);
       wires = λ t. c.crossings.ensures.wires s t.value (history t.value T) (caused t).freely;
       settled = settled;
       contexts = c.replay.ensures.contexts s T ran local;
