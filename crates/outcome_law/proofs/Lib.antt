@@ -94,6 +94,7 @@ pub mod Undecided
 pub mod CoreSteps
 pub mod CalmBlocks
 pub mod Coming
+pub mod Unreturned
 pub mod Upward
 pub mod HalfCalls
 pub mod HalfVotes
