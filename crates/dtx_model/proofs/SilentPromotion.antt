@@ -1,11 +1,11 @@
--- Settled histories with a promotion in which commit was asked, nobody was told, and for nothing `is_waiting` says that it is waited: a promotable stays silent where it
--- is asked to promote, or to commit in a single phase. At the end, the tests of these two notes, which see them.
-use Rattle.std.proofs.Common.{◌≡◌, ℕ, true, false, ◌||◌, ◌&&◌, ◌==◌, Bool, List, [], ◌∷◌, Some, None, refl, ◌∙◌, sym}
-use Rattle.std.specs.Prelude.{is_none, is_some, not}
+-- Two settled histories with a promotion in which commit was asked and nobody was told: they wait for a promotable, which stays silent where it is asked to promote,
+-- or to commit in a single phase.
+use Rattle.std.proofs.Common.{◌≡◌, ℕ, true, false, List, [], ◌∷◌, Some, None, refl}
+use Rattle.std.specs.Prelude.{is_some}
 use Rattle.dtx_values.specs.declared.entry.Answer.TheVariants.{Fine, Id, True, Wait}
 use Rattle.dtx_values.specs.declared.entry.Ask.TheVariants.{Promote, Single}
 use Rattle.dtx_values.specs.declared.entry.Entry.{Entry}
-use Rattle.dtx_values.specs.declared.entry.Entry.TheVariants.{Answered, Asked, Began, Called, CommitAsked, Enlisted, Got, Init, PromoteReply, Promoted, Promoting, Requested, Sealed, Sent}
+use Rattle.dtx_values.specs.declared.entry.Entry.TheVariants.{Answered, Asked, Began, Called, CommitAsked, Enlisted, Got, Init, PromoteReply, Promoted, Promoting, Sealed, Sent}
 use Rattle.dtx_values.specs.declared.call.Call.TheVariants.{Begin, Commit, Marshal, Promotable}
 use Rattle.dtx_values.specs.declared.message.Conn.TheVariants.{Begin as OnBegin, Enl, Voter}
 use Rattle.dtx_values.specs.declared.message.Dir.TheVariants.{Down, Up}
@@ -19,14 +19,12 @@ use Rattle.dtx_values.specs.declared.words.Timeout.TheVariants.{Default}
 use Rattle.dtx_values.specs.declared.words.Vote.TheVariants.{Yes}
 use Rattle.dtx_model.specs.Half.{info}
 use Rattle.dtx_model.specs.Words.{has, latest, past_of}
-use Rattle.dtx_model.specs.Entries.{client_told_of, is_any_owner, is_asked, is_commit, is_hand, is_vote}
-use Rattle.dtx_model.specs.Outcome.{enlisted}
-use Rattle.dtx_values.specs.declared.note.Plan.{Plan}
+use Rattle.dtx_model.specs.Entries.{client_told_of, is_commit}
 use Rattle.dtx_model.specs.Grammar.{are_named_well}
 use Rattle.dtx_model.specs.Steps.{Acts, Calls}
-use Rattle.dtx_model.specs.Caused.{Caused, FreelyCaused, IsCallOf, Settled, plans_of}
+use Rattle.dtx_model.specs.Caused.{Caused, FreelyCaused, IsCallOf, Settled}
 use Rattle.dtx_model.specs.World.{World}
-use Rattle.dtx_model.specs.History.{IsToldOrWaits, is_loss, is_waiting}
+use Rattle.dtx_model.specs.History.{is_loss, is_waiting}
 use Rattle.dtx_model.specs.Waiting.{EnteredCall}
 use Rattle.dtx_model.proofs.Cast.{a1, e1, id1, r1, says, t1}
 use Rattle.dtx_model.proofs.Computing.{model}
@@ -55,13 +53,12 @@ silent_unlost = refl
 pub silent_named : are_named_well silent_lines ≡ true
 silent_named = refl
 
--- nobody was told, and nothing is seen to be open
-pub silent_waits : (is_some (latest client_told_of silent_history) || is_waiting silent_lines silent_history) ≡ false
-silent_waits = refl
+-- nobody was told, and it waits for the promotable
+pub silent_untold : is_some (latest client_told_of silent_history) ≡ false
+silent_untold = refl
 
--- so it isn't so that the client was told or something is open
-pub silent_refutes : IsToldOrWaits silent_lines silent_history → ⊥
-silent_refutes f = let both : true ≡ false = sym (f silent_settled silent_asked) ∙ silent_waits in cc both
+pub silent_waits : is_waiting silent_lines silent_history ≡ true
+silent_waits = refl
 
 -- The script causes it: its four calls, and the act that asks the promotable after the third.
 call_4 : IsCallOf silent_lines 1 4 a1 (Commit t1)
@@ -150,7 +147,7 @@ unowned_history =
     ∷ Sent (Enl e1) Up (EnlistEnlist (info 1 e1 r1)) ∷ Got (Enl e1) Up (EnlistEnlist (info 1 e1 r1)) ∷ Sent (Enl e1) Down EnlistEnlisted
     ∷ Got (Enl e1) Down EnlistEnlisted ∷ Promoted id1 MarshalCause ∷ Answered 3 (Id id1) ∷ Sealed ∷ Asked e1 Single ∷ [])
 
--- the script's replay makes it, nothing is pending, nobody was told, and nothing is seen to be open
+-- the script's replay makes it, nothing is pending, nobody was told, and it waits for the owner
 pub unowned_played : played unowned_lines 1 [] [] ≡ Some unowned_history
 unfolding model
 unowned_played = refl
@@ -159,35 +156,8 @@ pub unowned_settled : Settled unowned_lines unowned_history
 unfolding model
 unowned_settled = refl
 
-pub unowned_waits : (is_some (latest client_told_of unowned_history) || is_waiting unowned_lines unowned_history) ≡ false
+pub unowned_untold : is_some (latest client_told_of unowned_history) ≡ false
+unowned_untold = refl
+
+pub unowned_waits : is_waiting unowned_lines unowned_history ≡ true
 unowned_waits = refl
-
--- Whether the enlistment was asked to promote or to commit alone, and whether it answered.
-abbrev is_asked_to_promote : ℕ → Entry → Bool
-is_asked_to_promote e (Asked f Promote) = e == f.value
-is_asked_to_promote e _ = false
-
-abbrev is_promotion_answered : ℕ → Entry → Bool
-is_promotion_answered e (PromoteReply f ok) = e == f.value
-is_promotion_answered e _ = false
-
-abbrev is_asked_alone : ℕ → Entry → Bool
-is_asked_alone e (Asked f Single) = e == f.value
-is_asked_alone e _ = false
-
-abbrev is_requested : ℕ → Entry → Bool
-is_requested e (Requested f r) = e == f.value
-is_requested e _ = false
-
--- an enlistment stays silent to any of the four notes that it was given
-abbrev is_note_silent : Plan → List Entry → ℕ → Bool
-is_note_silent p h e =
-    (has (is_asked e) h && is_none p.vote && not (has (is_vote e) h)) || (has (is_hand e) h && is_none p.owner && not (has (is_any_owner e) h))
-    || (has (is_asked_to_promote e) h && is_none p.promote && not (has (is_promotion_answered e) h)) || (has (is_asked_alone e) h && is_none p.owner && not (has (is_requested e) h))
-
--- so both histories wait for their promotable
-silent_promotes : has (λ x. is_note_silent (plans_of silent_lines x.0.value) silent_history x.0.value) (enlisted silent_history) ≡ true
-silent_promotes = refl
-
-unowned_commits : has (λ x. is_note_silent (plans_of unowned_lines x.0.value) unowned_history x.0.value) (enlisted unowned_history) ≡ true
-unowned_commits = refl
