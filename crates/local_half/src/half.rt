@@ -112,10 +112,11 @@ const NODE: u128 = 18_446_744_073_709_551_616;
 /// `Follows` the world of no calls and no entries. The clauses `runs` of `call`, `gone`, `reply` and
 /// `act` say that a half which follows a world follows the world after the step, where each call has
 /// a line of its own. So a program that drives a half by this loop has a world that its own calls made,
-/// and the entries that it keeps are the history of that world. `is_unpromoted` says whether a promotion
-/// began in it. `own_outcome` of the crate `outcome_law` is the law of these worlds: where no
-/// two calls make the same enlistment or the same clone, all that anybody was told is `justified`,
-/// and no two were told opposite outcomes (`agree`).
+/// and the entries that it keeps are the history of that world. `own_outcome` of the crate `outcome_law`
+/// is the law of these worlds, promoted or not: where no two calls make the same enlistment or the same
+/// clone, and each restart found what may be found there (`tied`), all that anybody was told is
+/// `justified`, and no two were told opposite outcomes (`agree`). `is_unpromoted` says whether a promotion
+/// began; where none did, no restart comes, and the history is `tied`.
 #[derive(Drop)]
 pub struct LocalHalf {
     transaction: TxNo,

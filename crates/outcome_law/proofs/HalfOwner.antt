@@ -31,7 +31,7 @@ use Rattle.outcome_law.proofs.Sendings.{opened_promoting}
 use Rattle.outcome_law.proofs.Standing.{opened_if_got}
 
 -- whose ENLIST came is of a promotion
-enlist_opening : (e : EnlNo) (x : Entry) → is_enlist_got e.value x ≡ true → is_opening_got (OnEnl e) x ≡ true
+pub enlist_opening : (e : EnlNo) (x : Entry) → is_enlist_got e.value x ≡ true → is_opening_got (OnEnl e) x ≡ true
 enlist_opening e (Got (OnEnl f) Up (EnlistEnlist i)) t = rw t refl
 enlist_opening e _ t = absurd cc
 

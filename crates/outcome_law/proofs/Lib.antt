@@ -138,3 +138,11 @@ pub mod LocalSteps
 pub mod ToldOn
 pub mod CameOnce
 pub mod Once
+pub mod TameBlocks
+pub mod Unlinked
+pub mod Marks
+pub mod MarkSteps
+pub mod AskedWhom
+pub mod NewMade
+pub mod WaitedFor
+pub mod Steady

@@ -287,7 +287,7 @@ waiter_maker G ks h n e r c w =
     record { number = n; actor = w.actor; call = w.call; may = w.may; entered = w.entered; passes = (place_made e r c w.call w.wants).0; called = w.called }
 
 -- a call that makes a durable or promotable makes the enlistment
-lasting_makes : (e : ℕ) (k : Call) → makes_lasting e k ≡ true → makes_enlistment e k ≡ true
+pub lasting_makes : (e : ℕ) (k : Call) → makes_lasting e k ≡ true → makes_enlistment e k ≡ true
 lasting_makes e (Durable t f r s) q = q
 lasting_makes e (Promotable t f r v x p) q = q
 lasting_makes e _ q = absurd cc

@@ -227,7 +227,7 @@ has_mapped p q f same [] = refl
 has_mapped p q f same (x ∷ xs) = ap (λ b. b || has p (map f xs)) (same x) ∙ ap (λ b. q x || b) (has_mapped p q f same xs)
 
 -- each enlistment is a listener
-listens : (n : ℕ) (h : List Entry) → has (λ l. n == l.enlistment.value) (listeners h) ≡ has (is_enlisted n) h
+pub listens : (n : ℕ) (h : List Entry) → has (λ l. n == l.enlistment.value) (listeners h) ≡ has (is_enlisted n) h
 listens n [] = refl
 listens n (Enlisted e c ∷ h) =
     has-insert (λ l. n == l.enlistment.value) listener_number (record { enlistment = e; told = false; lost = false }) (listeners h) ∙ ap (λ b. (n == e.value) || b) (listens n h)

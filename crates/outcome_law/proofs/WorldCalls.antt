@@ -345,7 +345,7 @@ promoting_if_enlisted : (n : ℕ) (h : List Entry) → Keeps h → has (is_enlis
 promoting_if_enlisted n h k s =
     arrived (is_enlisted_got n) (λ g. has is_promoting g) (λ x g t. or_right (is_promoting x) (has is_promoting g) t) (enlisted_promoting n) h k s
 
-branch_done : (a f v c : Bool) (r : RmNo) (e : EnlNo) (x : Answer) → has_facts (if not a then NoSuch else if f then Finished else if v then Over r else if c then Connected e else x) ≡ true → (a ≡ true) × (c ≡ false)
+pub branch_done : (a f v c : Bool) (r : RmNo) (e : EnlNo) (x : Answer) → has_facts (if not a then NoSuch else if f then Finished else if v then Over r else if c then Connected e else x) ≡ true → (a ≡ true) × (c ≡ false)
 branch_done false f v c r e x k = absurd cc
 branch_done true true v c r e x k = absurd cc
 branch_done true false true c r e x k = absurd cc

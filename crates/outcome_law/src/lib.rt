@@ -1,8 +1,8 @@
 //! The laws over histories: one outcome, completeness, what a replay is, and that the tables are the history's.
 //!
 //! Each law is a public function with an empty body. It does nothing when it runs. A caller calls it for its contract: after the call the
-//! proof of the caller has the law. Where a law is of histories in which nothing is promoted, its clause says so by the scan `is_unpromoted`, or
-//! `is_local_trace` of a whole trace.
+//! proof of the caller has the law. Where a law is of histories in which each restart found what may be found, its clause says so by `tied`; where it is
+//! of those in which nothing is promoted, by the scan `is_unpromoted`, or `is_local_trace` of a whole trace.
 #![tactic(auto)]
 
 ghost use Rattle.std.specs.Prelude.{◌≡◌, ℕ, true, false, List, ◌∷◌, ◌++◌, Bool, Some, length, slice_get};
@@ -26,6 +26,7 @@ ghost use Rattle.dtx_model.specs.Words.{has, each, always, all_of, past_of};
 ghost use Rattle.dtx_model.specs.Entries.{is_sealed, is_decision, is_client_told, clone_of};
 ghost use Rattle.dtx_model.specs.Outcome.{enlisted, evidence, justified, agree};
 ghost use Rattle.dtx_model.specs.Learned.{Learned};
+ghost use Rattle.dtx_model.specs.Tied.{tied};
 ghost use Rattle.dtx_model.specs.Observed.{observe, rows, clone_rows, listeners};
 ghost use Rattle.dtx_values.specs.Row.{is_lasting};
 ghost use Rattle.dtx_model.specs.Promotes.{promotes};
@@ -44,20 +45,22 @@ ghost use Rattle.dtx_model.specs.History.{AreAnswered, CanCommit, IsHistory, IsR
 ghost use Rattle.dtx_model.specs.Grammar.{are_named_well};
 ghost use Rattle.dtx_model.specs.Built.{is_run_line};
 
-/// The law of one outcome: in a history that a script's lines freely cause, what is told is just, and no two are told opposite outcomes. (Presumed
-/// abort: a commit is told on evidence alone.) Freely: whatever each reply is. Of the script it needs that names are made once, before they are used.
+/// The law of one outcome: in a history that a script's lines freely cause, what is told is just, and no two are told opposite outcomes, promoted or not.
+/// (Presumed abort: a commit is told on evidence alone.) Freely: whatever each reply is. Of the script it needs that names are made once, before they are
+/// used; and of the log that each restart found what may be found there.
 pub fn one_outcome()
-    ensures just { (s : List Line) (t : ℕ) (h : List Entry) → are_named_well s ≡ true → FreelyCaused (IsCallOf s t) t h → is_unpromoted h ≡ true → justified h ≡ true }
-    ensures agrees { (s : List Line) (t : ℕ) (h : List Entry) → are_named_well s ≡ true → FreelyCaused (IsCallOf s t) t h → is_unpromoted h ≡ true → agree h ≡ true }
-    ensures learned { (s : List Line) (t : ℕ) (h : List Entry) → are_named_well s ≡ true → FreelyCaused (IsCallOf s t) t h → is_unpromoted h ≡ true → Learned h }
+    ensures just { (s : List Line) (t : ℕ) (h : List Entry) → are_named_well s ≡ true → FreelyCaused (IsCallOf s t) t h → tied h ≡ true → justified h ≡ true }
+    ensures agrees { (s : List Line) (t : ℕ) (h : List Entry) → are_named_well s ≡ true → FreelyCaused (IsCallOf s t) t h → tied h ≡ true → agree h ≡ true }
+    ensures learned { (s : List Line) (t : ℕ) (h : List Entry) → are_named_well s ≡ true → FreelyCaused (IsCallOf s t) t h → tied h ≡ true → Learned h }
 {}
 
 /// The same law for a program that gives a transaction its own calls, and has no script: of these it needs that no two make the same enlistment
-/// or the same clone.
+/// or the same clone. Where no promotion begins no restart comes, so the log needs no word.
 pub fn own_outcome()
-    ensures just { (t : ℕ) (w : World) → AreMadeOnce (IsIn w.calls) → IsOwnRun t w → is_unpromoted w.past ≡ true → justified w.past ≡ true }
-    ensures agrees { (t : ℕ) (w : World) → AreMadeOnce (IsIn w.calls) → IsOwnRun t w → is_unpromoted w.past ≡ true → agree w.past ≡ true }
-    ensures learned { (t : ℕ) (w : World) → AreMadeOnce (IsIn w.calls) → IsOwnRun t w → is_unpromoted w.past ≡ true → Learned w.past }
+    ensures just { (t : ℕ) (w : World) → AreMadeOnce (IsIn w.calls) → IsOwnRun t w → tied w.past ≡ true → justified w.past ≡ true }
+    ensures agrees { (t : ℕ) (w : World) → AreMadeOnce (IsIn w.calls) → IsOwnRun t w → tied w.past ≡ true → agree w.past ≡ true }
+    ensures learned { (t : ℕ) (w : World) → AreMadeOnce (IsIn w.calls) → IsOwnRun t w → tied w.past ≡ true → Learned w.past }
+    ensures tied { (t : ℕ) (w : World) → IsOwnRun t w → is_unpromoted w.past ≡ true → tied w.past ≡ true }
 {}
 
 /// What is caused over calls that were entered is caused over a script whose lines give these calls; and a script in which names are made once gives

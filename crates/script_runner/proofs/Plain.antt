@@ -13,12 +13,14 @@ use Rattle.dtx_values.specs.declared.trace.Place.TheVariants.{Context, Log, Tran
 use Rattle.dtx_model.specs.Words.{each, has, onto, latest}
 use Rattle.dtx_model.specs.AtLog.{at_log, faults, follow_log, follows_log, is_local_trace, is_log_up, open_right, stop_right, transactions, unless_said, up_of, is_stop, is_restart}
 use Rattle.dtx_model.specs.Caused.{is_begin_sent, is_promoting_entry, is_unpromoted}
+use Rattle.dtx_model.specs.Tied.{tied}
 use Rattle.dtx_model.specs.Traces.{Placed, history, noted, placed}
 use Rattle.dtx_model.specs.Replay.{after_turn, block_in, stop_if}
 use Rattle.dtx_model.specs.Steps.{Calls, Replies, Acts}
 use Rattle.script_runner.specs.RunState.{are_plain}
 use Rattle.dtx_model.proofs.Bools.{and_both, and_left, and_never, and_right, not_false, not_true}
 use Rattle.outcome_law.proofs.Scans.{none_more}
+use Rattle.outcome_law.proofs.LocalTies.{local_tied}
 use Rattle.dtx_model.proofs.Unpromoted.{are_local, begin-local, is_local}
 
 -- nothing stands at the log
@@ -87,6 +89,10 @@ plain_unpromoted t T k = not_false (has is_promoting_entry (history t T)) (none 
   where
     none : (h : List Entry) → are_local h ≡ true → has is_promoting_entry h ≡ false
     none h p = none_more is_local is_promoting_entry (λ x q. not_true (is_promoting_entry x) (local_calm x q)) h p
+
+-- so what each restart finds may be found, since none comes
+pub plain_tied : (t : ℕ) (T : List Placed) → are_plain T ≡ true → tied (history t T) ≡ true
+plain_tied t T k = local_tied (history t T) (history-plain t T k)
 
 -- no stops and no openings are there, so they stand where they should
 stops_nowhere : (x : Entry) → is_local x ≡ true → is_stop x ≡ false

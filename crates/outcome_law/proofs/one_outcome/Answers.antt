@@ -1,13 +1,14 @@
-use Rattle.outcome_law.proofs.Rules.{ruled_justified, ruled_agree}
-use Rattle.outcome_law.proofs.Blocks.{script_kept}
-use Rattle.outcome_law.proofs.Beyond.{ruled_learned}
+use Rattle.dtx_model.specs.Caused.{IsCallOf}
+use Rattle.outcome_law.proofs.Names.{script_once}
+use Rattle.outcome_law.proofs.OneOutcome.{all_agree, all_just, all_learned}
+use Rattle.outcome_law.proofs.Steady.{free_keeps}
 use Rattle.outcome_law.proofs.one_outcome.Goals as goal
 
 pub returns-clause-just : goal.returns-clause-just
-returns-clause-just c = λ s t h named r u. ruled_justified h (script_kept s t h named r u).rules
+returns-clause-just c = λ s t h named r d. all_just h (free_keeps (IsCallOf s t) t h (script_once s t named) r d)
 
 pub returns-clause-agrees : goal.returns-clause-agrees
-returns-clause-agrees c = λ s t h named r u. ruled_agree h (script_kept s t h named r u).rules
+returns-clause-agrees c = λ s t h named r d. all_agree h (free_keeps (IsCallOf s t) t h (script_once s t named) r d)
 
 pub returns-clause-learned : goal.returns-clause-learned
-returns-clause-learned c = λ s t h named r u. ruled_learned h (script_kept s t h named r u).rules
+returns-clause-learned c = λ s t h named r d. all_learned h (free_keeps (IsCallOf s t) t h (script_once s t named) r d)

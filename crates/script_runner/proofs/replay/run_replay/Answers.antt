@@ -6,7 +6,7 @@ use Rattle.dtx_model.specs.Traces.{history}
 use Rattle.dtx_model.specs.Replay.{IsReplayed}
 use Rattle.dtx_model.specs.Words.{past_of}
 use Rattle.script_runner.specs.RunState.{IsToPlan}
-use Rattle.script_runner.proofs.Plain.{plain_faults, plain_follows, plain_local, plain_opens, plain_stops, plain_unpromoted}
+use Rattle.script_runner.proofs.Plain.{plain_faults, plain_follows, plain_local, plain_opens, plain_stops, plain_tied, plain_unpromoted}
 use Rattle.script_runner.proofs.Replayed.{called_at, to_any}
 use Rattle.script_runner.proofs.replay.run_replay.Goals as goal
 
@@ -53,9 +53,9 @@ returns-clause-outcome g c =
     let planned : (t : TxNo) → IsToPlan s (history t.value T) = subst (λ (ls : List Line). (t : TxNo) → IsToPlan ls (history t.value T)) c.lines.ensures c.in_ok-trace.ensures.planned in
     let caused : (t : TxNo) → Caused s 0 t.value (history t.value T) = c.replay.ensures.caused s T ran (plain_local T plain) 0 (λ t. to_any s 0 (history t.value T) (planned t)) in
     record {
-      just = λ t. c.one_outcome.ensures.just s t.value (history t.value T) c.requires.script.named (caused t).freely (plain_unpromoted t.value T plain);
-      agrees = λ t. c.one_outcome.ensures.agrees s t.value (history t.value T) c.requires.script.named (caused t).freely (plain_unpromoted t.value T plain);
-      learned = λ t. c.one_outcome.ensures.learned s t.value (history t.value T) c.requires.script.named (caused t).freely (plain_unpromoted t.value T plain);
+      just = λ t. c.one_outcome.ensures.just s t.value (history t.value T) c.requires.script.named (caused t).freely (plain_tied t.value T plain);
+      agrees = λ t. c.one_outcome.ensures.agrees s t.value (history t.value T) c.requires.script.named (caused t).freely (plain_tied t.value T plain);
+      learned = λ t. c.one_outcome.ensures.learned s t.value (history t.value T) c.requires.script.named (caused t).freely (plain_tied t.value T plain);
     }
 
 pub returns-clause-complete : goal.returns-clause-complete
