@@ -55,7 +55,7 @@ on_commit : (x : Entry) → is_got_on Begin Up COMMIT x ≡ true → is_commit_g
 on_commit (Got Begin Up BeginCommit) k = refl
 on_commit _ k = absurd cc
 
-prepare_on : (e : EnlNo) (x : Entry) → is_prepare_got e.value x ≡ true → is_got_on (Enl e) Down PREPARE x ≡ true
+pub prepare_on : (e : EnlNo) (x : Entry) → is_prepare_got e.value x ≡ true → is_got_on (Enl e) Down PREPARE x ≡ true
 prepare_on e (Got (Enl f) Down EnlistPrepare) k = and_both (same_connection (Enl e) (Enl f) && true) true (and_both (same_connection (Enl e) (Enl f)) true k refl) refl
 prepare_on e _ k = absurd cc
 
@@ -123,7 +123,7 @@ ask_on : (x : Entry) → is_ask_got x ≡ true → is_got_on Voter Down ASK x �
 ask_on (Got Voter Down VoterAsk) k = refl
 ask_on _ k = absurd cc
 
-made_volatile : (n : ℕ) (h : List Entry) → stands_volatile n h ≡ true → has (is_volatile_made n) h ≡ true
+pub made_volatile : (n : ℕ) (h : List Entry) → stands_volatile n h ≡ true → has (is_volatile_made n) h ≡ true
 made_volatile n [] k = absurd cc
 made_volatile n (Enlisted f c ∷ h) k =
     or_case (is_volatile_of n (f, c)) (has (is_volatile_of n) (enlisted h)) (λ q. or_left (is_volatile_made n (Enlisted f c)) (has (is_volatile_made n) h) q)

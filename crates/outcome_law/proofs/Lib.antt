@@ -146,3 +146,11 @@ pub mod AskedWhom
 pub mod NewMade
 pub mod WaitedFor
 pub mod Steady
+pub mod CausedRows
+pub mod QuietBlocks
+pub mod AskedRows
+pub mod PlacedRows
+pub mod SealedRows
+pub mod WellRows
+pub mod UnstoppedTies
+pub mod Promised

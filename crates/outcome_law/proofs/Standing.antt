@@ -115,7 +115,7 @@ unvolatile_if_opened e [] k s = absurd cc
 unvolatile_if_opened e (x ∷ h) k s = opened_apart e x h k (unvolatile_if_opened e h (keeps_before x h k)) s
 
 -- Who was asked to prepare is volatile, or got PREPARE.
-ends_has : (p : Entry → Bool) (h : List Entry) → ends_with p h ≡ true → has p h ≡ true
+pub ends_has : (p : Entry → Bool) (h : List Entry) → ends_with p h ≡ true → has p h ≡ true
 ends_has p [] t = absurd cc
 ends_has p (x ∷ h) t = or_left (p x) (has p h) t
 

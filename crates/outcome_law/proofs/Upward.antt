@@ -162,7 +162,7 @@ calm_coming ks h es c k =
 pos : (n k : ℕ) → (suc n + k == 0) ≡ false
 pos n k = grind (arith, nat_tests)
 
-none_waits : (ws : List Waiter) (b : Bool) → ((length ws + (if b then 1 else 0)) == 0) ≡ true → (ws ≡ []) × (b ≡ false)
+pub none_waits : (ws : List Waiter) (b : Bool) → ((length ws + (if b then 1 else 0)) == 0) ≡ true → (ws ≡ []) × (b ≡ false)
 none_waits [] true t = absurd (never t)
 none_waits [] false t = (refl, refl)
 none_waits (w ∷ ws) b t = absurd (not_both ((suc (length ws) + (if b then 1 else 0)) == 0) t (pos (length ws) (if b then 1 else 0)))
@@ -499,7 +499,7 @@ call_coming t w n a c m k =
     (calm_called t w c (answer_at t w c m) refl) k
 
 -- The deliveries.
-takes_next : (m : Message) (ms ns : List Message) → ns ≡ m ∷ ms → is_next m ns
+pub takes_next : (m : Message) (ms ns : List Message) → ns ≡ m ∷ ms → is_next m ns
 takes_next m ms [] e = absurd cc
 takes_next m ms (n ∷ ns) e = cc
 

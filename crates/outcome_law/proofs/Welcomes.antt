@@ -215,7 +215,7 @@ next_stands p m (x ∷ ms) n t = let P : Message → Type 0 = λ y. (p y || has 
 no : false ≡ true → ⊥
 no e = absurd cc
 
-unsent_there : (c : Conn) (p : Message → Bool) (h : List Entry) → is_single c ≡ true → Keeps h → ends_with (is_opening_got c) h ≡ true → has (is_sent_on c Down p) h ≡ false
+pub unsent_there : (c : Conn) (p : Message → Bool) (h : List Entry) → is_single c ≡ true → Keeps h → ends_with (is_opening_got c) h ≡ true → has (is_sent_on c Down p) h ≡ false
 unsent_there c p [] s k e = absurd (no e)
 unsent_there c p (x ∷ h) s k e = by x k e
   where

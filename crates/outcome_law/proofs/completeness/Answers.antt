@@ -5,7 +5,7 @@ use Rattle.dtx_model.proofs.Local.{free-local}
 use Rattle.outcome_law.proofs.Beyond.{ruled_answered}
 use Rattle.outcome_law.proofs.Blocks.{script_kept}
 use Rattle.outcome_law.proofs.Runs.{free_run}
-use Rattle.outcome_law.proofs.Settled.{settled_committed}
+use Rattle.outcome_law.proofs.Promised.{caused_commits}
 use Rattle.outcome_law.proofs.Settlings.{settled_act, settled_unplanned}
 use Rattle.outcome_law.proofs.Silent.{told_or_waits}
 use Rattle.outcome_law.proofs.completeness.Goals as goal
@@ -18,11 +18,7 @@ returns-clause-told c = λ s k t h named r u settled asked.
     told_or_waits s h kept (settled_act s t h named run home kept.rules settled) (settled_unplanned s t h named run home kept.rules settled) asked
 
 pub returns-clause-committed : goal.returns-clause-committed
-returns-clause-committed c = λ s k t h named r u settled can.
-    let kept = script_kept s t h named r.freely u in
-    let home = free-local (IsCallOf s t) t h r.freely u in
-    let run = free_run (IsCallOf s t) t h r.freely u in
-    settled_committed s h kept.rules (settled_act s t h named run home kept.rules settled) (settled_unplanned s t h named run home kept.rules settled) can
+returns-clause-committed c = λ s k t h named r settled can. caused_commits s k t h named r settled can
 
 pub returns-clause-answered : goal.returns-clause-answered
 returns-clause-answered c = λ s k t h named r u settled. ruled_answered (is_decided_there h) [] h (script_kept s t h named r.freely u).rules

@@ -69,6 +69,6 @@ returns-clause-complete g c =
     let caused : (t : TxNo) → Caused s 0 t.value (history t.value T) = c.replay.ensures.caused s T ran (plain_local T plain) 0 (λ t. to_any s 0 (history t.value T) (planned t)) in
     record {
       told = λ t. c.completeness.ensures.told s 0 t.value (history t.value T) c.requires.script.named (caused t) (plain_unpromoted t.value T plain);
-      committed = λ t asked. c.completeness.ensures.committed s 0 t.value (history t.value T) c.requires.script.named (caused t) (plain_unpromoted t.value T plain) (settled t) asked;
+      committed = λ t asked. c.completeness.ensures.committed s 0 t.value (history t.value T) c.requires.script.named (caused t) (settled t) asked;
       answered = λ t. c.completeness.ensures.answered s 0 t.value (history t.value T) c.requires.script.named (caused t) (plain_unpromoted t.value T plain);
     }
