@@ -148,6 +148,10 @@ pub mod WaitedFor
 pub mod Steady
 pub mod CausedRows
 pub mod QuietBlocks
+pub mod MildBlocks
+pub mod Ending
+pub mod Announced
+pub mod UndecidedFine
 pub mod AskedRows
 pub mod PlacedRows
 pub mod SealedRows
