@@ -29,4 +29,5 @@ pub mod NarrowCalls
 pub mod NarrowFacts
 pub mod Local
 pub mod Judging
+pub mod SilentPromotion
 mod BadHistories

@@ -3,8 +3,8 @@ use Rattle.std.specs.Prelude.{ℕ, Bool, true, false, ◌==◌, ◌&&◌, Option
 use Rattle.dtx_values.specs.declared.number.EnlNo.{EnlNo}
 use Rattle.dtx_values.specs.declared.number.CloneNo.{CloneNo}
 use Rattle.dtx_values.specs.declared.entry.Entry.{Entry}
-use Rattle.dtx_values.specs.declared.entry.Entry.TheVariants.{Began, Called, Cloned, Completed, Enlisted, CommitAsked, Asked, Voted, Sealed, Handed, OwnerAnswered, LocalYes, Decided, Told, Promoted, Got, Lost, Logged, Restarted}
-use Rattle.dtx_values.specs.declared.entry.Ask.TheVariants.{Prepare}
+use Rattle.dtx_values.specs.declared.entry.Entry.TheVariants.{Began, Called, Cloned, Completed, Enlisted, CommitAsked, Asked, Voted, PromoteReply, Sealed, Handed, OwnerAnswered, Requested, LocalYes, Decided, Told, Promoted, Got, Lost, Logged, Restarted}
+use Rattle.dtx_values.specs.declared.entry.Ask.TheVariants.{Prepare, Promote, Single}
 use Rattle.dtx_values.specs.declared.entry.Party.TheVariants.{Client, Enl}
 use Rattle.dtx_values.specs.declared.message.Conn.TheVariants.{Begin, Voter, Enl as OnEnl}
 use Rattle.dtx_values.specs.declared.message.Dir.TheVariants.{Up}
@@ -99,6 +99,24 @@ is_completed c _ = false
 abbrev pub is_asked : ℕ → Entry → Bool
 is_asked e (Asked f Prepare) = e == f.value
 is_asked e _ = false
+
+-- this enlistment was asked to promote, and it answered that
+abbrev pub is_asked_to_promote : ℕ → Entry → Bool
+is_asked_to_promote e (Asked f Promote) = e == f.value
+is_asked_to_promote e _ = false
+
+abbrev pub is_promote_reply_of : ℕ → Entry → Bool
+is_promote_reply_of e (PromoteReply f ok) = e == f.value
+is_promote_reply_of e _ = false
+
+-- this enlistment was asked to commit in a single phase, and it answered that
+abbrev pub is_asked_alone : ℕ → Entry → Bool
+is_asked_alone e (Asked f Single) = e == f.value
+is_asked_alone e _ = false
+
+abbrev pub is_request_of : ℕ → Entry → Bool
+is_request_of e (Requested f r) = e == f.value
+is_request_of e _ = false
 
 -- a vote of this enlistment
 abbrev pub is_vote : ℕ → Entry → Bool

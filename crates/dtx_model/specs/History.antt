@@ -16,7 +16,7 @@ use Rattle.dtx_values.specs.Clones.{blocks}
 use Rattle.dtx_values.specs.Table.{how_many}
 use Rattle.dtx_values.specs.Vote.{voted_well}
 use Rattle.dtx_model.specs.Words.{has, each, always, all_of, latest, past_of}
-use Rattle.dtx_model.specs.Entries.{client_told_of, clone_of, is_any_owner, is_asked, is_client_told, is_commit, is_hand, is_vote}
+use Rattle.dtx_model.specs.Entries.{client_told_of, clone_of, is_any_owner, is_asked, is_asked_alone, is_asked_to_promote, is_client_told, is_commit, is_hand, is_promote_reply_of, is_request_of, is_vote}
 use Rattle.dtx_model.specs.Outcome.{agree, can_own, enlisted, is_complete, is_rollback, justified}
 use Rattle.dtx_model.specs.Contexts.{context}
 use Rattle.dtx_model.specs.Promotes.{promotes}
@@ -101,10 +101,12 @@ pub record CanCommit (s : List Line) (h : List Entry) : Type 0 where
   pub ended_by_none : has is_ending h ≡ false
   pub unlost : has is_loss h ≡ false
 
--- this enlistment was asked to prepare, or the commit was handed to it; its line plans no reply, and it gave none
+-- this enlistment stays silent to a note that it was given: to prepare, to be the owner of the commit, to promote, or to commit in a single phase. Its line plans
+-- no reply to that note, and it gave none.
 abbrev pub is_silent : Plan → List Entry → ℕ → Bool
 is_silent p h e =
     (has (is_asked e) h && is_none p.vote && not (has (is_vote e) h)) || (has (is_hand e) h && is_none p.owner && not (has (is_any_owner e) h))
+    || (has (is_asked_to_promote e) h && is_none p.promote && not (has (is_promote_reply_of e) h)) || (has (is_asked_alone e) h && is_none p.owner && not (has (is_request_of e) h))
 
 -- there is something that it waits for: a clone that blocks and isn't complete, or an enlistment that stays silent
 abbrev pub is_waiting : List Line → List Entry → Bool

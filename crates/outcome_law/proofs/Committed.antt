@@ -18,6 +18,7 @@ use Rattle.dtx_values.specs.declared.words.Vote.TheVariants.{Yes, No, Done}
 use Rattle.dtx_model.specs.Words.{has, always}
 use Rattle.dtx_model.specs.Entries.{is_asked, is_decision, is_promoted, is_record, is_sealed, is_vote, is_yes}
 use Rattle.dtx_model.specs.Tied.{is_logged}
+use Rattle.dtx_model.specs.Wires.{WireRun}
 use Rattle.dtx_model.specs.Observed.{ends_of}
 use Rattle.dtx_model.specs.Coordinated.{coordinate, is_active}
 use Rattle.dtx_values.specs.Vote.{is_no}
@@ -26,7 +27,7 @@ use Rattle.dtx_values.specs.Class.{is_promotable}
 use Rattle.dtx_values.specs.Ends.{knows, same_connection, same_direction}
 use Rattle.dtx_model.proofs.Bools.{and_left, and_right, and_both, not_false, not_true, not_both, or_case, or_first, or_second, or_right}
 use Rattle.outcome_law.proofs.Whole.{is_got_on, is_sent_on}
-use Rattle.outcome_law.proofs.Fine.{IsFine, is_bad}
+use Rattle.outcome_law.proofs.Fine.{IsFine, is_bad, is_restart}
 use Rattle.outcome_law.proofs.Messages.{ASK, BEGIN, BEGUN, COMMIT, COMMITTED, CREATED, PREPARE, VOTE, VOTED, YES}
 use Rattle.outcome_law.proofs.Debts.{has_promotable, is_decided_committed, is_volatile_made, knows_there}
 use Rattle.outcome_law.proofs.Knowledge.{got_known, knows_got}
@@ -61,7 +62,7 @@ heard_up : (c : Conn) (d : Dir) (p : Message → Bool) (h : List Entry) → IsFi
 heard_up c d p h f k = knows_got c d p h f.whole f.run k
 
 -- after a promotion: BEGUN and CREATED were got
-promoted_begun : (h : List Entry) → always is_sound h ≡ true → has is_promoted h ≡ true → has (is_got_on Begin Down BEGUN) h ≡ true
+pub promoted_begun : (h : List Entry) → always is_sound h ≡ true → has is_promoted h ≡ true → has (is_got_on Begin Down BEGUN) h ≡ true
 promoted_begun h s k = earlier is_sound is_promoted (λ h. has (is_got_on Begin Down BEGUN) h) (λ x h q. or_right (is_got_on Begin Down BEGUN x) (has (is_got_on Begin Down BEGUN) h) q) at h s k
   where
     at : (x : Entry) (h : List Entry) → is_sound h x ≡ true → is_promoted x ≡ true → has (is_got_on Begin Down BEGUN) h ≡ true
@@ -88,13 +89,13 @@ abbrev pub is_recorded_first : List Entry → Entry → Bool
 is_recorded_first past (Sent Begin Down BeginCommitted) = has is_record past
 is_recorded_first past x = true
 
--- so it was sent after a promotion, where nothing bad came
-pub committed_promoted : (h : List Entry) → IsFine h → always is_sound h ≡ true → always is_recorded_first h ≡ true → has (is_sent_on Begin Down COMMITTED) h ≡ true → has is_promoted h ≡ true
-committed_promoted h f s r k =
+-- so it was sent after a promotion, where no restart came
+pub committed_promoted : (h : List Entry) → WireRun h → has is_restart h ≡ false → always is_sound h ≡ true → always is_recorded_first h ≡ true → has (is_sent_on Begin Down COMMITTED) h ≡ true → has is_promoted h ≡ true
+committed_promoted h run n s r k =
     let recorded = earlier is_recorded_first (is_sent_on Begin Down COMMITTED) (λ h. has is_record h) (λ x h q. or_right (is_record x) (has is_record h) q) sent h r k in
     let got = earlier is_sound is_logged (λ h. has (is_got_on Begin Up COMMIT) h) (λ x h q. or_right (is_got_on Begin Up COMMIT x) (has (is_got_on Begin Up COMMIT) h) q) logged h s
-    (record_logged h f.unbad recorded) in
-    commit_promoted h s (once_sent Begin Up COMMIT h f.run got)
+    (record_logged h n recorded) in
+    commit_promoted h s (once_sent Begin Up COMMIT h run got)
   where
     sent : (x : Entry) (h : List Entry) → is_recorded_first h x ≡ true → is_sent_on Begin Down COMMITTED x ≡ true → has is_record h ≡ true
     sent (Sent Begin Down BeginCommitted) h r k = r

@@ -3,7 +3,7 @@ use Rattle.std.proofs.Common.{ℕ, ◌==◌, Bool, true, false, ◌&&◌, List, 
 use Rattle.std.specs.Prelude.{not}
 use Rattle.dtx_values.specs.declared.entry.Entry.{Entry}
 use Rattle.dtx_values.specs.declared.entry.Entry.TheVariants.{Enlisted, Voted, PromoteReply, Requested, Sealed, LocalYes, Decided, Promoting, Got, Logged}
-use Rattle.dtx_values.specs.declared.entry.Request.TheVariants.{Commit}
+use Rattle.dtx_values.specs.declared.entry.Request.TheVariants.{Abort, Commit}
 use Rattle.dtx_values.specs.declared.message.Conn.{Conn}
 use Rattle.dtx_values.specs.declared.message.Conn.TheVariants.{Begin, Voter, Enl}
 use Rattle.dtx_values.specs.declared.message.Dir.TheVariants.{Up, Down}
@@ -21,7 +21,7 @@ use Rattle.dtx_model.specs.Half.{is_handed}
 use Rattle.dtx_model.specs.Coordinated.{coordinate, is_active}
 use Rattle.outcome_law.proofs.Rule.{is_enlisted}
 use Rattle.outcome_law.proofs.Whole.{is_sent_on}
-use Rattle.outcome_law.proofs.Messages.{ASK, BEGIN, BEGUN, COMMIT, COMMITTED, ENLIST, ENLIST_ANSWER, VOTE, VOTER, VOTER_ANSWER, YES}
+use Rattle.outcome_law.proofs.Messages.{ABORT, ASK, BEGIN, BEGUN, COMMIT, COMMITTED, ENLIST, ENLIST_ANSWER, VOTE, VOTER, VOTER_ANSWER, YES}
 
 -- a promotable was enlisted
 abbrev pub has_promotable : List Entry → Bool
@@ -64,6 +64,7 @@ debt past (Promoting c) = when (not (has_promotable past)) (is_sent_on Begin Up 
 debt past (PromoteReply e true) = Some (is_sent_on Begin Up BEGIN)
 debt past Sealed = when (has is_promoted past && not (has_promotable past) && knows Begin (ends_of past)) (is_sent_on Begin Up COMMIT)
 debt past (Requested e Commit) = when (knows Begin (ends_of past)) (is_sent_on Begin Up COMMIT)
+debt past (Requested e Abort) = when (knows Begin (ends_of past)) (is_sent_on Begin Up ABORT)
 debt past LocalYes = when (knows Voter (ends_of past)) (is_sent_on Voter Up YES)
 debt past (Voted e v) = when (not (has (is_volatile_made e.value) past) && knows (Enl e) (ends_of past)) (is_sent_on (Enl e) Up (VOTE v))
 debt past Logged = when (knows_there Begin past) (is_sent_on Begin Down COMMITTED)

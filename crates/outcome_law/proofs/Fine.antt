@@ -59,6 +59,17 @@ is_bad LogFull = true
 is_bad (Restarted found) = true
 is_bad _ = false
 
+-- what ends a transaction of itself: nothing else that is bad is to blame for it
+abbrev pub is_origin : Entry → Bool
+is_origin RollbackAsked = true
+is_origin TimedOut = true
+is_origin (Voted e v) = is_no v
+is_origin (PromoteReply e ok) = not ok
+is_origin (Requested e Abort) = true
+is_origin (OwnerAnswered e x) = is_bad_outcome x
+is_origin LogFull = true
+is_origin _ = false
+
 -- a history in which nothing was lost and nothing bad came
 pub record IsFine (h : List Entry) : Type 0 where
   pub whole : whole h ≡ true

@@ -94,6 +94,7 @@ pub mod Undecided
 pub mod CoreSteps
 pub mod CalmBlocks
 pub mod Coming
+pub mod Unreturned
 pub mod Upward
 pub mod HalfCalls
 pub mod HalfVotes
@@ -150,6 +151,10 @@ pub mod NewMade
 pub mod Steady
 pub mod CausedRows
 pub mod QuietBlocks
+pub mod MildBlocks
+pub mod Ending
+pub mod Announced
+pub mod UndecidedFine
 pub mod AskedRows
 pub mod PlacedRows
 pub mod SealedRows

@@ -1,5 +1,5 @@
 -- In each run whose history keeps the table of rules, what must stand before ENLISTED and COMMITTED did: so each demand is paid, and nothing is owed.
-use Rattle.std.proofs.Common.{◌≡◌, ℕ, true, List, [], ◌∷◌, refl, ap, subst}
+use Rattle.std.proofs.Common.{◌≡◌, ℕ, true, false, List, [], ◌∷◌, refl, ap, subst}
 use Rattle.dtx_values.specs.declared.call.Call.{Call}
 use Rattle.dtx_values.specs.declared.entry.Entry.{Entry}
 use Rattle.dtx_values.specs.declared.message.Conn.{Conn}
@@ -9,17 +9,18 @@ use Rattle.dtx_values.specs.declared.message.Message.{Message}
 use Rattle.dtx_values.specs.declared.message.Message.TheVariants.{BeginCommitted, EnlistEnlisted}
 use Rattle.dtx_values.specs.declared.number.ActorNo.{ActorNo}
 use Rattle.dtx_values.specs.declared.number.EnlNo.{EnlNo}
-use Rattle.dtx_model.specs.Words.{always, onto}
-use Rattle.dtx_model.specs.Wires.{in_transit, is_next}
+use Rattle.dtx_model.specs.Words.{always, has, onto}
+use Rattle.dtx_model.specs.Wires.{WireRun, in_transit, is_next}
 use Rattle.dtx_model.specs.World.{World}
 use Rattle.dtx_model.specs.Steps.{Step, Delivers, after, block_at}
 use Rattle.dtx_model.specs.Caused.{Ran}
-use Rattle.dtx_model.proofs.Bools.{and_right}
-use Rattle.outcome_law.proofs.Whole.{is_sent_on}
+use Rattle.dtx_model.proofs.Bools.{and_right, or_second}
+use Rattle.outcome_law.proofs.Whole.{is_sent_on, whole}
 use Rattle.outcome_law.proofs.Messages.{ENLIST, ENLISTED}
-use Rattle.outcome_law.proofs.Fine.{IsFine}
+use Rattle.outcome_law.proofs.Fine.{is_restart}
 use Rattle.outcome_law.proofs.Rest.{is_after_start, is_sound}
-use Rattle.outcome_law.proofs.Unblamed.{fine_before, got_sent}
+use Rattle.outcome_law.proofs.Unblamed.{got_sent}
+use Rattle.outcome_law.proofs.Arrived.{before}
 use Rattle.outcome_law.proofs.Openings.{once_sent}
 use Rattle.outcome_law.proofs.Stages.{sent_known}
 use Rattle.outcome_law.proofs.Committed.{is_recorded_first}
@@ -28,9 +29,11 @@ use Rattle.outcome_law.proofs.PaidRuns.{AreMet, IsMet, MayMeet, committed_met, r
 use Rattle.outcome_law.proofs.Counted.{got_first, is_once}
 use Rattle.outcome_law.proofs.ComingRuns.{enlisted_met, ran_coming}
 
--- a fine history whose messages are sent after the promotion began, on connections that are known, COMMITTED after a record, and ENLISTED once to each enlistment
+-- a history in which nothing was lost and no restart came, whose messages are sent after the promotion began, on connections that are known, COMMITTED after a record, and ENLISTED once to each enlistment
 pub record IsMeeting (h : List Entry) : Type 0 where
-  pub fine : IsFine h
+  pub whole : whole h ≡ true
+  pub run : WireRun h
+  pub unrestarted : has is_restart h ≡ false
   pub later : always is_after_start h ≡ true
   pub sound : always is_sound h ≡ true
   pub recorded : always is_recorded_first h ≡ true
@@ -38,7 +41,9 @@ pub record IsMeeting (h : List Entry) : Type 0 where
 
 meeting_before : (x : Entry) (h : List Entry) → IsMeeting (x ∷ h) → IsMeeting h
 meeting_before x h g = record {
-  fine = fine_before x h g.fine;
+  whole = before x h g.whole;
+  run = g.run.1;
+  unrestarted = or_second (is_restart x) (has is_restart h) g.unrestarted;
   later = and_right (is_after_start h x) (always is_after_start h) g.later;
   sound = and_right (is_sound h x) (always is_sound h) g.sound;
   recorded = and_right (is_recorded_first h x) (always is_recorded_first h) g.recorded;
@@ -52,9 +57,9 @@ meeting_onto h (x ∷ es) g = meeting_before x h (meeting_onto (x ∷ h) es g)
 met : (G : ℕ → ActorNo → Call → Type 0) (t : ℕ) (ms : List Step) (w : World) → Ran G t ms w → IsMeeting w.past → (c : Conn) (m : Message) → is_next m (in_transit c Down w.past) → IsMet w.calls w.past c m
 met G t ms w r g (Enl e) EnlistEnlisted n =
     enlisted_met w.calls w.past e (ran_coming G t ms w r g.later)
-    (once_sent (Enl e) Up ENLIST w.past g.fine.run (sent_known (Enl e) ENLISTED w.past g.sound (got_sent (Enl e) Down EnlistEnlisted ENLISTED w.past n refl)))
-    (got_first (Enl e) Down EnlistEnlisted ENLISTED w.past g.fine.whole g.fine.run n refl (g.once e))
-met G t ms w r g Begin BeginCommitted n = λ d. committed_met w.past g.fine n g.sound g.recorded
+    (once_sent (Enl e) Up ENLIST w.past g.run (sent_known (Enl e) ENLISTED w.past g.sound (got_sent (Enl e) Down EnlistEnlisted ENLISTED w.past n refl)))
+    (got_first (Enl e) Down EnlistEnlisted ENLISTED w.past g.whole g.run n refl (g.once e))
+met G t ms w r g Begin BeginCommitted n = λ d. committed_met w.past g.run g.unrestarted n g.sound g.recorded
 met G t ms w r g c m n = tt
 
 may_meet : (G : ℕ → ActorNo → Call → Type 0) (t : ℕ) (ms : List Step) (w : World) (m : Step) → Ran G t ms w → IsMeeting w.past → MayMeet w m

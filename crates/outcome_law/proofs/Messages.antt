@@ -1,7 +1,7 @@
 -- The messages by their names, as tests.
 use Rattle.std.proofs.Common.{Bool, true, false}
 use Rattle.dtx_values.specs.declared.message.Message.{Message}
-use Rattle.dtx_values.specs.declared.message.Message.TheVariants.{BeginBegin, BeginBegun, BeginCommit, BeginCommitted, VoterVoter, VoterCreated, VoterRefused, VoterAbort, VoterAsk, VoterYes, EnlistEnlist, EnlistEnlisted, EnlistRefused, EnlistAbort, EnlistPrepare, EnlistPrepared, EnlistReadonly, EnlistNo}
+use Rattle.dtx_values.specs.declared.message.Message.TheVariants.{BeginBegin, BeginBegun, BeginCommit, BeginAbort, BeginCommitted, BeginAborted, VoterVoter, VoterCreated, VoterRefused, VoterAbort, VoterAsk, VoterYes, EnlistEnlist, EnlistEnlisted, EnlistRefused, EnlistAbort, EnlistPrepare, EnlistPrepared, EnlistReadonly, EnlistNo}
 use Rattle.dtx_values.specs.declared.words.Vote.{Vote}
 use Rattle.dtx_values.specs.declared.words.Vote.TheVariants.{Yes, No, Done}
 
@@ -20,6 +20,16 @@ COMMIT _ = false
 abbrev pub COMMITTED : Message → Bool
 COMMITTED BeginCommitted = true
 COMMITTED _ = false
+
+abbrev pub ABORT : Message → Bool
+ABORT BeginAbort = true
+ABORT _ = false
+
+-- what the coordinator sends on b of its decision
+abbrev pub OUTCOME : Message → Bool
+OUTCOME BeginCommitted = true
+OUTCOME BeginAborted = true
+OUTCOME _ = false
 
 abbrev pub VOTER : Message → Bool
 VOTER (VoterVoter u) = true
@@ -75,3 +85,7 @@ abbrev pub VOTED : Message → Bool
 VOTED EnlistPrepared = true
 VOTED EnlistReadonly = true
 VOTED _ = false
+
+abbrev pub NO : Message → Bool
+NO EnlistNo = true
+NO _ = false

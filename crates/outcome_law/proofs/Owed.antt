@@ -53,6 +53,7 @@ use Rattle.outcome_law.proofs.Debts.{has_promotable, is_volatile_made}
 use Rattle.outcome_law.proofs.Connections.{same_is}
 use Rattle.outcome_law.proofs.Knowledge.{knows_got}
 use Rattle.outcome_law.proofs.Stages.{record_logged}
+use Rattle.outcome_law.proofs.Unblamed.{unrestarted}
 use Rattle.outcome_law.proofs.Climbed.{none_decided}
 use Rattle.outcome_law.proofs.SameRows.{asked_marked, found_passes, is_asked_there, is_made_once, marked_asked, row_found, voted_cast}
 
@@ -147,7 +148,7 @@ untold e (Told (Member g) x ∷ h) f w d l = absurd (bad x (and_left (has is_dec
     none k =
         or_case (has is_decision h || has is_record h) false
         (λ a. or_case (has is_decision h) (has is_record h) (λ b. not_both (has is_decision h) b d)
-        (λ b. not_both (has is_logged h) (record_logged h (or_second _ (has is_bad h) f) b) l) a) (λ a. not_both false a refl) k
+        (λ b. not_both (has is_logged h) (record_logged h (unrestarted h (or_second _ (has is_bad h) f)) b) l) a) (λ a. not_both false a refl) k
 
     bad : (x : Outcome) → (has is_decision h || has is_record h || same_outcome x Aborted) ≡ true → is_bad (Told (Member g) x) ≡ false → ⊥
     bad Committed k n = none k

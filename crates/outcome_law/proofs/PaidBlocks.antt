@@ -15,7 +15,7 @@ use Rattle.dtx_values.specs.declared.message.Conn.TheVariants.{Begin, Voter, Enl
 use Rattle.dtx_values.specs.declared.message.Dir.{Dir}
 use Rattle.dtx_values.specs.declared.message.Dir.TheVariants.{Up, Down}
 use Rattle.dtx_values.specs.declared.message.Message.{Message}
-use Rattle.dtx_values.specs.declared.message.Message.TheVariants.{BeginBegin, BeginBegun, BeginCommit, BeginCommitted, EnlistAbort, EnlistEnlist, EnlistEnlisted, EnlistPrepare, EnlistRefused, VoterAbort, VoterAsk, VoterCreated, VoterRefused, VoterVoter, VoterYes}
+use Rattle.dtx_values.specs.declared.message.Message.TheVariants.{BeginAbort, BeginBegin, BeginBegun, BeginCommit, BeginCommitted, EnlistAbort, EnlistEnlist, EnlistEnlisted, EnlistPrepare, EnlistRefused, VoterAbort, VoterAsk, VoterCreated, VoterRefused, VoterVoter, VoterYes}
 use Rattle.dtx_values.specs.declared.note.Note.{Note}
 use Rattle.dtx_values.specs.declared.note.Note.TheVariants.{Single}
 use Rattle.dtx_values.specs.declared.note.Reply.{Reply}
@@ -65,7 +65,7 @@ use Rattle.outcome_law.proofs.Tests.{eq_self}
 use Rattle.outcome_law.proofs.Rule.{is_enlisted}
 use Rattle.outcome_law.proofs.Connections.{same_self}
 use Rattle.outcome_law.proofs.Whole.{is_sent_on}
-use Rattle.outcome_law.proofs.Messages.{ASK, BEGIN, BEGUN, COMMIT, ENLIST, ENLIST_ANSWER, VOTE, VOTER, VOTER_ANSWER, YES}
+use Rattle.outcome_law.proofs.Messages.{ABORT, ASK, BEGIN, BEGUN, COMMIT, ENLIST, ENLIST_ANSWER, VOTE, VOTER, VOTER_ANSWER, YES}
 use Rattle.outcome_law.proofs.Debts.{created_next, debt, enlisted_next, has_promotable, is_decided_committed, is_free, is_going_up, is_volatile_made, knows_there, meets, when}
 use Rattle.outcome_law.proofs.Paid.{IsPaid, block_paid, logged_paid, silent_paid, single_paid}
 use Rattle.outcome_law.proofs.SilentBlocks.{Silent, silent_abort, silent_ack, silent_called, silent_commit_act, silent_core_got, silent_decide, silent_ended_at, silent_freed, silent_local_got, silent_one, silent_restarted, silent_tell, silent_veto, silent_veto_if}
@@ -236,7 +236,9 @@ vote_paid ks h e v p =
 
 request_paid : (ks : List EnteredCall) (h : List Entry) (e : EnlNo) (x : Outcome) → IsPaid h → IsPaid (onto h (Requested e (request_of x) ∷ to_up (observe h) Begin (request_message x)))
 unfolding observe
-request_paid ks h e Aborted p = head_paid h (Requested e (request_of Aborted)) false (is_sent_on Begin Up COMMIT) _ refl (λ b. absurd cc) (up_silent (knows Begin (ends_of h)) Begin (request_message Aborted)) p
+request_paid ks h e Aborted p =
+    head_paid h (Requested e (request_of Aborted)) (knows Begin (ends_of h)) (is_sent_on Begin Up ABORT) _ refl
+    (lead_if (is_sent_on Begin Up ABORT) (knows Begin (ends_of h)) (Sent Begin Up BeginAbort) [] [] refl) (up_silent (knows Begin (ends_of h)) Begin BeginAbort) p
 request_paid ks h e Committed p =
     head_paid h (Requested e (request_of Committed)) (knows Begin (ends_of h)) (is_sent_on Begin Up COMMIT) _ refl
     (lead_if (is_sent_on Begin Up COMMIT) (knows Begin (ends_of h)) (Sent Begin Up BeginCommit) [] [] refl) (up_silent (knows Begin (ends_of h)) Begin BeginCommit) p

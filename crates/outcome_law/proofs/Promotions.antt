@@ -23,7 +23,7 @@ use Rattle.outcome_law.proofs.Whole.{is_opened_once, is_sent_on, whole_of}
 use Rattle.outcome_law.proofs.Fine.{IsFine, is_caused}
 use Rattle.outcome_law.proofs.OnTheWay.{is_on_its_way, is_unplaced}
 use Rattle.outcome_law.proofs.Rest.{is_after_start, is_begun, is_ordered, is_sound}
-use Rattle.outcome_law.proofs.Unblamed.{nothing_bad}
+use Rattle.outcome_law.proofs.Unblamed.{nothing_bad, unrestarted}
 use Rattle.outcome_law.proofs.SameRows.{is_asked_there}
 use Rattle.outcome_law.proofs.Owed.{is_asked_well}
 use Rattle.outcome_law.proofs.ClosedTables.{is_closed_well, none_open, sealed_zeros}
@@ -79,7 +79,7 @@ governed s k t h named c r can began =
       in_time = can.in_time;
       unbad = nothing_bad (plans_of s) h whole run can.in_time can.ended_by_none can.unlost r.caused can.planned can.willing;
     } in
-    let pays = ran_paid G t steps w ran (record { fine = fine; later = r.later; sound = r.sound; recorded = r.recorded; once = r.placed }) in
+    let pays = ran_paid G t steps w ran (record { whole = whole; run = run; unrestarted = unrestarted h fine.unbad; later = r.later; sound = r.sound; recorded = r.recorded; once = r.placed }) in
     record {
       opened = r.opened;
       caused = r.caused;

@@ -6,6 +6,7 @@ use Rattle.dtx_values.specs.declared.number.EnlNo.{EnlNo}
 use Rattle.dtx_values.specs.declared.entry.Entry.{Entry}
 use Rattle.dtx_values.specs.declared.entry.Entry.TheVariants.{Lost}
 use Rattle.dtx_values.specs.declared.script.Line.{Line}
+use Rattle.dtx_values.specs.declared.note.Plan.{Plan}
 use Rattle.dtx_values.specs.declared.words.Class.{Class}
 use Rattle.dtx_values.specs.declared.words.Outcome.{Outcome}
 use Rattle.dtx_values.specs.declared.words.Vote.{Vote}
@@ -13,7 +14,7 @@ use Rattle.dtx_values.specs.Class.{is_volatile}
 use Rattle.dtx_values.specs.Clones.{blocks}
 use Rattle.dtx_values.specs.Row.{has_voted, is_marked}
 use Rattle.dtx_model.specs.Words.{has, each, latest, all_of}
-use Rattle.dtx_model.specs.Entries.{client_told_of, clone_of, decision_of, handed_of, is_any_owner, is_commit, is_decision, is_hand, is_lost, is_sealed, is_vote}
+use Rattle.dtx_model.specs.Entries.{client_told_of, clone_of, decision_of, handed_of, is_any_owner, is_asked, is_asked_alone, is_asked_to_promote, is_commit, is_decision, is_hand, is_lost, is_promote_reply_of, is_request_of, is_sealed, is_vote}
 use Rattle.dtx_model.specs.Observed.{observe, rows}
 use Rattle.dtx_model.specs.Outcome.{can_own, durables, enlisted, is_complete}
 use Rattle.dtx_model.specs.Half.{is_gone, is_handed}
@@ -85,6 +86,15 @@ row_rest s e false false false v true false n y f g due silent = absurd (answer 
     answer e None p q = cc
 row_rest s e false false false v false false n y f g due silent = refl
 
+-- nobody is silent to the notes that the local side gives where nothing is promoted
+local_notes : (p : Plan) (h : List Entry) (e : ℕ) → is_silent p h e ≡ false
+    → ((has (is_asked e) h && is_none p.vote && not (has (is_vote e) h)) || (has (is_hand e) h && is_none p.owner && not (has (is_any_owner e) h))) ≡ false
+local_notes p h e k =
+    let prepare = has (is_asked e) h && is_none p.vote && not (has (is_vote e) h) in
+    let hand = has (is_hand e) h && is_none p.owner && not (has (is_any_owner e) h) in
+    let promote = has (is_asked_to_promote e) h && is_none p.promote && not (has (is_promote_reply_of e) h) in
+    or_first (prepare || hand) promote (or_first (prepare || hand || promote) (has (is_asked_alone e) h && is_none p.owner && not (has (is_request_of e) h)) k)
+
 -- where nothing is decided, no reply is due and nobody is silent, each row voted if it was asked, and none was handed the commit
 rows_rest : (s : List Line) (h : List Entry) → IsKept h → latest decision_of h ≡ None → AreUnplanned s h → has (λ x. is_silent (plans_of s x.0.value) h x.0.value) (enlisted h) ≡ false
     → each (λ x. has_answered x && not (is_handed (latest handed_of h) x.number.value)) (rows h) ≡ true
@@ -100,7 +110,7 @@ rows_rest s h k d due silent =
     (λ l. row_voted h i x k.rules e ∙ lost_voted h n k u (sym (lost_seen n h k.rules) ∙ l))
     (λ w. row_voted h i x k.rules e ∙ handed_unvoted n h k.rules (sym (hand_seen n h k.rules) ∙ w))
     (each-at (λ y. is_unplanned (plans_of s y.number.value) (due_note (observe h) y)) (rows h) i x due e)
-    (rw (row_marked h i x k.rules e, row_voted h i x k.rules e, hand_seen n h k.rules) (none-at (λ y. is_silent (plans_of s y.number.value) h y.number.value) (rows h) i x quiet e)))
+    (rw (row_marked h i x k.rules e, row_voted h i x k.rules e, hand_seen n h k.rules) (local_notes (plans_of s n) h n (none-at (λ y. is_silent (plans_of s y.number.value) h y.number.value) (rows h) i x quiet e))))
   where
     none-at : {A : Type 0} (p : A → Bool) (xs : List A) (i : ℕ) (x : A) → has p xs ≡ false → slice_get xs i ≡ Some x → p x ≡ false
     none-at p [] i x n e = absurd cc

@@ -21,12 +21,12 @@ use Rattle.dtx_model.proofs.Bools.{and_left, and_right, or_case, or_second, or_r
 use Rattle.outcome_law.proofs.Scans.{has_more}
 use Rattle.outcome_law.proofs.Whole.{is_got_on, is_sent_on}
 use Rattle.outcome_law.proofs.Messages.{BEGIN, BEGUN}
-use Rattle.outcome_law.proofs.Fine.{IsFine, is_bad}
+use Rattle.outcome_law.proofs.Fine.{IsFine, is_restart}
 use Rattle.outcome_law.proofs.Rest.{is_sound, is_ordered, is_begun}
 use Rattle.outcome_law.proofs.Arrived.{newest}
 use Rattle.outcome_law.proofs.Connections.{same_is}
 use Rattle.outcome_law.proofs.Openings.{once_sent, opening_first}
-use Rattle.outcome_law.proofs.Unblamed.{fine_before, got_sent}
+use Rattle.outcome_law.proofs.Unblamed.{fine_before, got_sent, unrestarted}
 
 -- where something that passes p stands, Q holds, if by the row it holds before each such entry, and stays
 pub earlier : (row : List Entry → Entry → Bool) (p : Entry → Bool) (Q : List Entry → Bool) → ((x : Entry) (h : List Entry) → Q h ≡ true → Q (x ∷ h) ≡ true)
@@ -68,11 +68,11 @@ unlogged_before x h r = record {
 }
 
 -- without a restart, a record was logged
-pub record_logged : (h : List Entry) → has is_bad h ≡ false → has is_record h ≡ true → has is_logged h ≡ true
+pub record_logged : (h : List Entry) → has is_restart h ≡ false → has is_record h ≡ true → has is_logged h ≡ true
 record_logged [] u k = absurd cc
 record_logged (Logged ∷ h) u k = refl
 record_logged (Restarted found ∷ h) u k = absurd cc
-record_logged (x ∷ h) u k = or_right (is_logged x) (has is_logged h) (record_logged h (or_second (is_bad x) (has is_bad h) u) k)
+record_logged (x ∷ h) u k = or_right (is_logged x) (has is_logged h) (record_logged h (or_second (is_restart x) (has is_restart h) u) k)
 
 -- the newest entry is no cause of an abort
 unaborted : (k : Coordinated) (x : Entry) (h : List Entry) → IsFine (x ∷ h) → aborts k x ≡ false
@@ -106,7 +106,7 @@ stage_seen (Got Begin Up BeginBegin ∷ h) r = active (coordinate h).stage (has 
     active s true e = ap begin_if e
     active s false e = ap begin_if e
 stage_seen (Logged ∷ h) r = absurd cc
-stage_seen (Freed ∷ h) r = absurd (not_both (has is_logged h) (record_logged h (fine_before Freed h r.fine).unbad (and_left (has is_record h) (always is_ordered h) r.ordered)) r.unlogged)
+stage_seen (Freed ∷ h) r = absurd (not_both (has is_logged h) (record_logged h (unrestarted h (fine_before Freed h r.fine).unbad) (and_left (has is_record h) (always is_ordered h) r.ordered)) r.unlogged)
 stage_seen (Restarted b ∷ h) r = absurd cc
 stage_seen (x ∷ h) r =
     still (aborts (coordinate h) x) (coordinate h).stage (stage_of (has (is_got_on Begin Up BEGIN) h)) (unaborted (coordinate h) x h r.fine) (stage_seen h (unlogged_before x h r))

@@ -1,4 +1,4 @@
--- Where nothing is lost and all are willing, nothing bad comes: no veto, no abort, no refusal.
+-- Where nothing is lost and nothing ends the transaction of itself, nothing bad comes: no veto, no abort, no refusal. So it is where all are willing.
 use Rattle.std.proofs.Common.{◌≡◌, ℕ, zero, suc, ◌==◌, Bool, true, false, ◌&&◌, ◌||◌, List, [], ◌∷◌, ◌++◌, Option, Some, None, refl, sym, subst, ap}
 use Rattle.std.specs.Prelude.{not, take, if◌then◌else◌}
 use Rattle.std.proofs.lemmas.Bool.{eqb-true, or_left, false_from_ne_true}
@@ -37,7 +37,7 @@ use Rattle.outcome_law.proofs.Going.{is_no_vote}
 use Rattle.outcome_law.proofs.Scans.{has_more, has_less}
 use Rattle.outcome_law.proofs.Settled.{asked_well}
 use Rattle.outcome_law.proofs.Whole.{is_sent_on, whole}
-use Rattle.outcome_law.proofs.Fine.{IsFine, any_class, blames, ends_aborted, ends_requested, has_cause, is_bad, is_bad_message, is_bad_outcome, is_caused, is_made, is_restart}
+use Rattle.outcome_law.proofs.Fine.{IsFine, any_class, blames, ends_aborted, ends_requested, has_cause, is_bad, is_bad_message, is_bad_outcome, is_caused, is_made, is_origin, is_restart}
 use Rattle.outcome_law.proofs.Arrived.{before, newest, unstopped, stays}
 
 -- What is on the way was sent.
@@ -236,6 +236,106 @@ no_doubt h f =
     unseen true b c d k = rw k refl
     unseen false b c d k = refl
 
+-- nothing is to blame for a decision
+undue : (h : List Entry) → IsFine h → blames h ≡ false
+undue [] f = refl
+undue (PromotionFailed ∷ h) f = absurd cc
+undue (x ∷ h) f = no_blame (x ∷ h) f
+
+not_requested : (h : List Entry) → IsFine h → ends_requested h ≡ false
+not_requested [] f = refl
+not_requested (Requested e Abort ∷ h) f = absurd cc
+not_requested (x ∷ h) f = refl
+
+not_aborted : (h : List Entry) → IsFine h → ends_aborted h ≡ false
+not_aborted [] f = refl
+not_aborted (Got (Enl e) Down EnlistAbort ∷ h) f = absurd cc
+not_aborted (Got (Again e) Down ReenlistAborted ∷ h) f = absurd cc
+not_aborted (x ∷ h) f = refl
+
+-- a bad message that was sent is bad
+bad_sent : (c : Conn) (d : Dir) (x : Entry) → is_sent_on c d is_bad_message x ≡ true → is_bad x ≡ true
+bad_sent c d (Sent e r m) k = and_right (same_connection c e && same_direction d r) (is_bad_message m) k
+bad_sent c d x k = absurd cc
+
+-- no restart came
+pub unrestarted : (h : List Entry) → has is_bad h ≡ false → has is_restart h ≡ false
+unrestarted h u = has_less is_restart is_bad restarts h u
+  where
+    restarts : (x : Entry) → is_restart x ≡ true → is_bad x ≡ true
+    restarts (Restarted found) k = refl
+    restarts x k = absurd cc
+
+-- what the coordinator sends only where it has aborted or was stopped isn't sent
+unsent : (h : List Entry) → IsFine h → (coordinator_aborted h || has is_restart h) ≡ true → ⊥
+unsent h f k = not_both (coordinator_aborted h || has is_restart h) k (or_false (coordinator_aborted h) (has is_restart h) (no_abort h f) (unrestarted h f.unbad))
+
+good_sent : (m : Message) (h : List Entry) → IsFine h → has_cause h m ≡ true → is_bad_message m ≡ false
+good_sent BeginAbort h f r =
+    or_case (is_decided Aborted (latest decision_of h)) (ends_requested h) (λ a. decided_well Aborted h f.unbad a) (λ a. absurd (not_both (ends_requested h) a (not_requested h f))) r
+good_sent VoterNo h f r = decided_well Aborted h f.unbad r
+good_sent EnlistNo h f r = absurd (not_both (has is_no_vote h) r (has_less is_no_vote is_bad votes h f.unbad))
+  where
+    votes : (x : Entry) → is_no_vote x ≡ true → is_bad x ≡ true
+    votes (Voted e No) k = refl
+    votes x k = absurd cc
+good_sent BeginAborted h f r = absurd (unsent h f r)
+good_sent (VoterRefused c) h f r = absurd (unsent h f r)
+good_sent VoterAbort h f r = absurd (unsent h f r)
+good_sent (EnlistRefused c) h f r = absurd (unsent h f r)
+good_sent EnlistAbort h f r = absurd (unsent h f r)
+good_sent ReenlistAborted h f r = absurd (unsent h f r)
+good_sent m h f r = refl
+
+good_got : (c : Conn) (d : Dir) (m : Message) (h : List Entry) → IsFine h → is_next m (in_transit c d h) → is_bad_message m ≡ false
+good_got c d m h f n =
+    false_from_ne_true (is_bad_message m) (λ b. not_both (has is_bad h) (has_more (is_sent_on c d is_bad_message) is_bad (bad_sent c d) h (got_sent c d m is_bad_message h n b)) f.unbad)
+
+good_told : (x : Outcome) (h : List Entry) → IsFine h → (is_decided x (latest decision_of h) || (same_outcome x Aborted && ends_aborted h) || same_outcome x Committed) ≡ true → is_bad_outcome x ≡ false
+good_told Committed h f r = refl
+good_told Aborted h f r =
+    or_case (is_decided Aborted (latest decision_of h)) (ends_aborted h) (λ a. decided_well Aborted h f.unbad a) (λ a. absurd (not_both (ends_aborted h) a (not_aborted h f)))
+    (either (is_decided Aborted (latest decision_of h) || ends_aborted h) r)
+  where
+    either : (b : Bool) → (b || false) ≡ true → b ≡ true
+    either true k = refl
+    either false k = absurd cc
+good_told InDoubt h f r = decided_well InDoubt h f.unbad (either (is_decided InDoubt (latest decision_of h)) r)
+  where
+    either : (b : Bool) → ((b || false) || false) ≡ true → b ≡ true
+    either true k = refl
+    either false k = absurd cc
+
+-- the newest entry isn't bad, where it doesn't end the transaction of itself
+good_here : (x : Entry) (h : List Entry) → IsFine h → WireRun (x ∷ h) → is_origin x ≡ false → is_loss x ≡ false → is_caused h x ≡ true → is_bad x ≡ false
+good_here RollbackAsked h f run n l r = absurd cc
+good_here TimedOut h f run n l r = absurd cc
+good_here LogFull h f run n l r = absurd cc
+good_here (Lost e) h f run n l r = absurd cc
+good_here (Voted e v) h f run n l r = n
+good_here (OwnerAnswered e x) h f run n l r = n
+good_here (PromoteReply e ok) h f run n l r = n
+good_here (Requested e Abort) h f run n l r = absurd cc
+good_here PromotionFailed h f run n l r = absurd (not_both (ends_refused h) r (no_blame h f))
+good_here (Decided Aborted) h f run n l r = absurd (not_both (blames h) r (undue h f))
+good_here (Decided InDoubt) h f run n l r = absurd (not_both (doubt h) r (no_doubt h f))
+good_here (Told q x) h f run n l r = good_told x h f r
+good_here (Sent c d m) h f run n l r = good_sent m h f r
+good_here (Got c d m) h f run n l r = good_got c d m h f run.0
+good_here (End c d) h f run n l r = absurd (no_end c d h f.whole run)
+good_here (Restarted found) h f run n l r = absurd (not_both (is_stopped h) r (unstopped h f.whole))
+good_here x h f run n l r = refl
+
+-- where nothing is lost and nothing ends the transaction of itself, nothing bad comes
+pub unblamed : (h : List Entry) → whole h ≡ true → WireRun h → always is_asked_in_time h ≡ true → has is_origin h ≡ false → has is_loss h ≡ false → always is_caused h ≡ true → has is_bad h ≡ false
+unblamed [] w run a n l r = refl
+unblamed (x ∷ h) w run a n l r =
+    let in_time = and_right (is_asked_in_time h x) (always is_asked_in_time h) a in
+    let past = unblamed h (before x h w) run.1 in_time (or_second (is_origin x) (has is_origin h) n) (or_second (is_loss x) (has is_loss h) l) (and_right (is_caused h x) (always is_caused h) r) in
+    or_false (is_bad x) (has is_bad h)
+    (good_here x h (record { whole = before x h w; run = run.1; in_time = in_time; unbad = past }) run (or_first (is_origin x) (has is_origin h) n) (or_first (is_loss x) (has is_loss h) l)
+    (and_left (is_caused h x) (always is_caused h) r)) past
+
 -- an enlistment of a number is willing, with a class that passes
 abbrev all_willing : (ℕ → Plan) → List Entry → Bool
 all_willing p h = each (λ x. is_willing (p x.0.value) x.1) (enlisted h)
@@ -291,72 +391,6 @@ pub owns : (c : Class) → is_promotable c ≡ true → can_own c ≡ true
 owns Promotable k = refl
 owns c k = absurd cc
 
--- nothing is to blame for a decision
-undue : (h : List Entry) → IsFine h → blames h ≡ false
-undue [] f = refl
-undue (PromotionFailed ∷ h) f = absurd cc
-undue (x ∷ h) f = no_blame (x ∷ h) f
-
-not_requested : (h : List Entry) → IsFine h → ends_requested h ≡ false
-not_requested [] f = refl
-not_requested (Requested e Abort ∷ h) f = absurd cc
-not_requested (x ∷ h) f = refl
-
-not_aborted : (h : List Entry) → IsFine h → ends_aborted h ≡ false
-not_aborted [] f = refl
-not_aborted (Got (Enl e) Down EnlistAbort ∷ h) f = absurd cc
-not_aborted (Got (Again e) Down ReenlistAborted ∷ h) f = absurd cc
-not_aborted (x ∷ h) f = refl
-
--- a bad message that was sent is bad
-bad_sent : (c : Conn) (d : Dir) (x : Entry) → is_sent_on c d is_bad_message x ≡ true → is_bad x ≡ true
-bad_sent c d (Sent e r m) k = and_right (same_connection c e && same_direction d r) (is_bad_message m) k
-bad_sent c d x k = absurd cc
-
--- what the coordinator sends only where it has aborted or was stopped isn't sent
-unsent : (h : List Entry) → IsFine h → (coordinator_aborted h || has is_restart h) ≡ true → ⊥
-unsent h f k = not_both (coordinator_aborted h || has is_restart h) k (or_false (coordinator_aborted h) (has is_restart h) (no_abort h f) (has_less is_restart is_bad restarts h f.unbad))
-  where
-    restarts : (x : Entry) → is_restart x ≡ true → is_bad x ≡ true
-    restarts (Restarted found) k = refl
-    restarts x k = absurd cc
-
-good_sent : (m : Message) (h : List Entry) → IsFine h → has_cause h m ≡ true → is_bad_message m ≡ false
-good_sent BeginAbort h f r =
-    or_case (is_decided Aborted (latest decision_of h)) (ends_requested h) (λ a. decided_well Aborted h f.unbad a) (λ a. absurd (not_both (ends_requested h) a (not_requested h f))) r
-good_sent VoterNo h f r = decided_well Aborted h f.unbad r
-good_sent EnlistNo h f r = absurd (not_both (has is_no_vote h) r (has_less is_no_vote is_bad votes h f.unbad))
-  where
-    votes : (x : Entry) → is_no_vote x ≡ true → is_bad x ≡ true
-    votes (Voted e No) k = refl
-    votes x k = absurd cc
-good_sent BeginAborted h f r = absurd (unsent h f r)
-good_sent (VoterRefused c) h f r = absurd (unsent h f r)
-good_sent VoterAbort h f r = absurd (unsent h f r)
-good_sent (EnlistRefused c) h f r = absurd (unsent h f r)
-good_sent EnlistAbort h f r = absurd (unsent h f r)
-good_sent ReenlistAborted h f r = absurd (unsent h f r)
-good_sent m h f r = refl
-
-good_got : (c : Conn) (d : Dir) (m : Message) (h : List Entry) → IsFine h → is_next m (in_transit c d h) → is_bad_message m ≡ false
-good_got c d m h f n =
-    false_from_ne_true (is_bad_message m) (λ b. not_both (has is_bad h) (has_more (is_sent_on c d is_bad_message) is_bad (bad_sent c d) h (got_sent c d m is_bad_message h n b)) f.unbad)
-
-good_told : (x : Outcome) (h : List Entry) → IsFine h → (is_decided x (latest decision_of h) || (same_outcome x Aborted && ends_aborted h) || same_outcome x Committed) ≡ true → is_bad_outcome x ≡ false
-good_told Committed h f r = refl
-good_told Aborted h f r =
-    or_case (is_decided Aborted (latest decision_of h)) (ends_aborted h) (λ a. decided_well Aborted h f.unbad a) (λ a. absurd (not_both (ends_aborted h) a (not_aborted h f)))
-    (either (is_decided Aborted (latest decision_of h) || ends_aborted h) r)
-  where
-    either : (b : Bool) → (b || false) ≡ true → b ≡ true
-    either true k = refl
-    either false k = absurd cc
-good_told InDoubt h f r = decided_well InDoubt h f.unbad (either (is_decided InDoubt (latest decision_of h)) r)
-  where
-    either : (b : Bool) → ((b || false) || false) ≡ true → b ≡ true
-    either true k = refl
-    either false k = absurd cc
-
 good_vote : (p : ℕ → Plan) (e : EnlNo) (v : Vote) (h : List Entry) → has (is_made e.value any_class) h ≡ true → is_vote_planned (p e.value).vote v ≡ true → all_willing p h ≡ true → is_no v ≡ false
 good_vote p e v h r k w = let q = row_willing p e.value any_class h w r in voted_yes v (p e.value).vote k (plans_vote (voted_well (p e.value).vote) _ _ q.2)
 
@@ -377,40 +411,31 @@ good_request p e h r k w =
     let q = row_willing p e.value is_promotable h w r in
     requested_well (p e.value).owner k (plans_owner (voted_well (p e.value).vote) (can_own q.0) (is_committed (p e.value).owner) _ q.2 (owns q.0 q.1))
 
--- the newest entry isn't bad
-good_here : (p : ℕ → Plan) (x : Entry) (h : List Entry) → IsFine h → WireRun (x ∷ h) → is_ending x ≡ false → is_loss x ≡ false → is_caused h x ≡ true → is_as_planned p nobody h x ≡ true
-    → all_willing p h ≡ true → is_bad x ≡ false
-good_here p RollbackAsked h f run n l r k w = absurd cc
-good_here p TimedOut h f run n l r k w = absurd cc
-good_here p LogFull h f run n l r k w = absurd cc
-good_here p (Lost e) h f run n l r k w = absurd cc
-good_here p (Voted e v) h f run n l r k w = good_vote p e v h r k w
-good_here p (OwnerAnswered e x) h f run n l r k w = good_answer p e x h r k w
-good_here p (PromoteReply e ok) h f run n l r k w = good_promotion p e ok h r k w
-good_here p (Requested e Abort) h f run n l r k w = absurd (good_request p e h r k w)
-good_here p PromotionFailed h f run n l r k w = absurd (not_both (ends_refused h) r (no_blame h f))
-good_here p (Decided Aborted) h f run n l r k w = absurd (not_both (blames h) r (undue h f))
-good_here p (Decided InDoubt) h f run n l r k w = absurd (not_both (doubt h) r (no_doubt h f))
-good_here p (Told q x) h f run n l r k w = good_told x h f r
-good_here p (Sent c d m) h f run n l r k w = good_sent m h f r
-good_here p (Got c d m) h f run n l r k w = good_got c d m h f run.0
-good_here p (End c d) h f run n l r k w = absurd (no_end c d h f.whole run)
-good_here p (Restarted found) h f run n l r k w = absurd (not_both (is_stopped h) r (unstopped h f.whole))
-good_here p x h f run n l r k w = refl
+-- who is willing doesn't end the transaction by its reply
+willing_here : (p : ℕ → Plan) (x : Entry) (h : List Entry) → is_ending x ≡ false → is_caused h x ≡ true → is_as_planned p nobody h x ≡ true → all_willing p h ≡ true → is_origin x ≡ false
+willing_here p RollbackAsked h n r k w = absurd cc
+willing_here p TimedOut h n r k w = absurd cc
+willing_here p LogFull h n r k w = absurd cc
+willing_here p (Voted e v) h n r k w = good_vote p e v h r k w
+willing_here p (OwnerAnswered e x) h n r k w = good_answer p e x h r k w
+willing_here p (PromoteReply e ok) h n r k w = good_promotion p e ok h r k w
+willing_here p (Requested e Abort) h n r k w = absurd (good_request p e h r k w)
+willing_here p x h n r k w = refl
 
 -- all are willing before the newest entry too
 willing_before : (p : ℕ → Plan) (x : Entry) (h : List Entry) → all_willing p (x ∷ h) ≡ true → all_willing p h ≡ true
 willing_before p (Enlisted e c) h w = and_right (is_willing (p e.value) c) (all_willing p h) w
 willing_before p x h w = w
 
+willing_origin : (p : ℕ → Plan) (h : List Entry) → has is_ending h ≡ false → always is_caused h ≡ true → always (is_as_planned p nobody) h ≡ true → all_willing p h ≡ true → has is_origin h ≡ false
+willing_origin p [] n r k w = refl
+willing_origin p (x ∷ h) n r k w =
+    let before = willing_before p x h w in
+    or_false (is_origin x) (has is_origin h)
+    (willing_here p x h (or_first (is_ending x) (has is_ending h) n) (and_left (is_caused h x) (always is_caused h) r) (and_left (is_as_planned p nobody h x) (always (is_as_planned p nobody) h) k) before)
+    (willing_origin p h (or_second (is_ending x) (has is_ending h) n) (and_right (is_caused h x) (always is_caused h) r) (and_right (is_as_planned p nobody h x) (always (is_as_planned p nobody) h) k) before)
+
 -- where nothing is lost, nothing ends it, and all are willing and answer as planned, nothing bad comes
 pub nothing_bad : (p : ℕ → Plan) (h : List Entry) → whole h ≡ true → WireRun h → always is_asked_in_time h ≡ true → has is_ending h ≡ false → has is_loss h ≡ false
     → always is_caused h ≡ true → always (is_as_planned p nobody) h ≡ true → each (λ x. is_willing (p x.0.value) x.1) (enlisted h) ≡ true → has is_bad h ≡ false
-nothing_bad p [] w run a n l r k v = refl
-nothing_bad p (x ∷ h) w run a n l r k v =
-    let in_time = and_right (is_asked_in_time h x) (always is_asked_in_time h) a in
-    let past = nothing_bad p h (before x h w) run.1 in_time (or_second (is_ending x) (has is_ending h) n) (or_second (is_loss x) (has is_loss h) l)
-    (and_right (is_caused h x) (always is_caused h) r) (and_right (is_as_planned p nobody h x) (always (is_as_planned p nobody) h) k) (willing_before p x h v) in
-    or_false (is_bad x) (has is_bad h)
-    (good_here p x h (record { whole = before x h w; run = run.1; in_time = in_time; unbad = past }) run (or_first (is_ending x) (has is_ending h) n) (or_first (is_loss x) (has is_loss h) l)
-    (and_left (is_caused h x) (always is_caused h) r) (and_left (is_as_planned p nobody h x) (always (is_as_planned p nobody) h) k) (willing_before p x h v)) past
+nothing_bad p h w run a n l r k v = unblamed h w run a (willing_origin p h n r k v) l r
