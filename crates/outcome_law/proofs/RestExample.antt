@@ -43,17 +43,15 @@ none_on_the_way (Enl e) Down = refl
 none_on_the_way (Again e) Up = refl
 none_on_the_way (Again e) Down = refl
 
-marshalled_rests : IsAtRest lines (entered_in lines (past_of marshalled)) (past_of marshalled)
+marshalled_rests : IsAtRest (entered_in lines (past_of marshalled)) (past_of marshalled)
 unfolding model
 marshalled_rests = record {
-  opened = refl;
-  caused = refl;
+  fine = λ d. absurd cc;
   later = refl;
   sound = refl;
   ordered = refl;
   begun = refl;
   paying = refl;
-  run = wired (past_of marshalled) refl;
   zeros = λ k. refl;
   closed = refl;
   free = refl;
@@ -68,7 +66,7 @@ marshalled_rests = record {
   voted = λ u l e a. absurd cc;
   replied = λ u a. absurd cc;
   requested = λ u a. absurd cc;
-  can = record { asked = refl; in_time = refl; completed = refl; willing = refl; planned = refl; ended_by_none = refl; unlost = refl };
+  asked = refl;
   started = refl;
 }
 
