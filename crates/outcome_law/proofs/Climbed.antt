@@ -296,7 +296,7 @@ decided_at_rest ks h r = true_from_ne_false (has is_decision h) (λ u. by_record
         (if_part (was_got Voter (tag_of VoterAsk) (ends_of h)) (after_seal (half_of ks h) (yes_act (observe h))) [] ask (single_stuck (half_of ks h) (promotable_in (rows h)) b).0) in
         let answer = yes_got h o w (y.1 (ones_done (rows h) (r.answered u n) (r.zeros sealed) y.0)) in
         not_both (may_log (coordinate h))
-        (may_append h unlogged got answer (λ e k. vote_got e h (record { opened = o; lasting = r.lasting e k }) w (r.voted u n e (enlistment_asked e h o w (r.prepares n got e k))))) r.append
+        (may_append h unlogged got answer (λ e k. vote_got e h (record { opened = o; lasting = r.lasting e k }) w (r.voted u n e (enlistment_asked e h o w (r.prepares u n got e k))))) r.append
 
     by_record : has is_decision h ≡ false → (l : Bool) → has is_logged h ≡ l → ⊥
     by_record u true l = not_both (has is_decision h) (logged_decided h (r.fine u) r.sound w l) u

@@ -152,6 +152,7 @@ pub mod MildBlocks
 pub mod Ending
 pub mod Announced
 pub mod UndecidedFine
+pub mod Told
 pub mod AskedRows
 pub mod PlacedRows
 pub mod SealedRows

@@ -86,7 +86,7 @@ pub record IsAtRest (ks : List EnteredCall) (h : List Entry) : Type 0 where
   pub free : owes_none h ≡ true
   pub waits : has is_promoted h ≡ true → each (is_on_its_way h) (waiting ks h) ≡ true
   pub unplaced : each (is_unplaced h) (waiting ks h) ≡ true
-  pub prepares : has is_logged h ≡ false → has (is_got_on Begin Up COMMIT) h ≡ true → (e : EnlNo) → has (is_got_on (Enl e) Up ENLIST) h ≡ true → has (is_sent_on (Enl e) Down PREPARE) h ≡ true
+  pub prepares : has is_decision h ≡ false → has is_logged h ≡ false → has (is_got_on Begin Up COMMIT) h ≡ true → (e : EnlNo) → has (is_got_on (Enl e) Up ENLIST) h ≡ true → has (is_sent_on (Enl e) Down PREPARE) h ≡ true
   pub lasting : (e : EnlNo) → has (is_got_on (Enl e) Up ENLIST) h ≡ true → has (is_volatile_made e.value) h ≡ false
   -- nothing is pending: no message, no act of either side, and no reply
   pub empty : (c : Conn) (d : Dir) → in_transit c d h ≡ []
