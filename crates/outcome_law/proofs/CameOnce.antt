@@ -57,7 +57,7 @@ abbrev pub IsAfter : List Entry → Type 0
 IsAfter h = (e : EnlNo) → has (opens (Enl e)) h ≡ true → has is_created_got h ≡ true
 
 -- the entry sends no ENLIST
-abbrev is_unopening : Entry → Bool
+abbrev pub is_unopening : Entry → Bool
 is_unopening (Sent c Up m) = not (is_enlist m)
 is_unopening _ = true
 
@@ -70,7 +70,7 @@ not_opening : (e : EnlNo) (m : Message) → not (is_enlist m) ≡ true → is_op
 not_opening e (EnlistEnlist i) t = absurd (no t)
 not_opening e _ t = refl
 
-unopened : (e : EnlNo) (x : Entry) → is_unopening x ≡ true → opens (Enl e) x ≡ false
+pub unopened : (e : EnlNo) (x : Entry) → is_unopening x ≡ true → opens (Enl e) x ≡ false
 unopened e (Sent (Enl f) Up m) t = ap (λ b. (e.value == f.value) && b) (not_opening f m t) ∙ and_never (e.value == f.value)
 unopened e (Sent Begin Up m) t = refl
 unopened e (Sent Voter Up m) t = refl
@@ -85,7 +85,7 @@ un_onto h (x ∷ es) u a =
     (λ e t. or_right (is_created_got x) (has is_created_got h)
     (or_case (opens (Enl e) x) (has (opens (Enl e)) h) (λ b. absurd (not_both (opens (Enl e) x) b (unopened e x (and_left (is_unopening x) (each is_unopening es) u)))) (λ b. a e b) t))
 
-calm_un : (es : List Entry) → Calm es → each is_unopening es ≡ true
+pub calm_un : (es : List Entry) → Calm es → each is_unopening es ≡ true
 calm_un es c = each_more is_slow is_unopening slow_un es c.slow
 
 there : (h es : List Entry) → has is_created_got h ≡ true → IsAfter (onto h es)
@@ -119,7 +119,7 @@ durable_un t v e r s Wait p = by v.seen.promoted p
     by false q = unless_un v (cause_of v.seen.table s) (sees_promoting v.seen)
 durable_un t v e r s _ p = refl
 
-call_un : (t : ℕ) (w : World) (c : Call) (x : Answer) → (half w).seen.promoted ≡ false → each is_unopening (facts_if (has_facts x) (facts_at t w c x)) ≡ true
+pub call_un : (t : ℕ) (w : World) (c : Call) (x : Answer) → (half w).seen.promoted ≡ false → each is_unopening (facts_if (has_facts x) (facts_at t w c x)) ≡ true
 call_un t w (Volatile u e o v) x p = facts_un (has_facts x) (facts_at t w (Volatile u e o v) x) refl
 call_un t w (Promotable u e r v o y) x p = facts_un (has_facts x) (facts_at t w (Promotable u e r v o y) x) refl
 call_un t w (Marshal u) x p = facts_un (has_facts x) (facts_at t w (Marshal u) x) (unless_un (half w) (Some MarshalCause) (sees_promoting (half w).seen))

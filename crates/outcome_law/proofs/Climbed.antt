@@ -133,7 +133,7 @@ enlisted_due e (EnlistEnlist i) past r k =
 enlisted_due e m past r k = absurd cc
 
 -- the handover of a promotion was enlisted
-handover_stands : (e : ℕ) (h : List Entry) → is_handed (handover h) e ≡ true → has (is_enlisted e) h ≡ true
+pub handover_stands : (e : ℕ) (h : List Entry) → is_handed (handover h) e ≡ true → has (is_enlisted e) h ≡ true
 unfolding owner_of
 handover_stands e [] k = absurd cc
 handover_stands e (Promoting c ∷ h) k =

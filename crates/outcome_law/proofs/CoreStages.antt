@@ -244,7 +244,7 @@ pub changed : {A B : Type 0} (p : A → Bool) (q : B → Bool) (f : A → B) →
 changed p q f sub [] k = refl
 changed p q f sub (x ∷ xs) k = and_both (q (f x)) (each q (map f xs)) (sub x (and_left (p x) (each p xs) k)) (changed p q f sub xs (and_right (p x) (each p xs) k))
 
-kept_some : {A : Type 0} (p q : A → Bool) (xs : List A) → each p xs ≡ true → each p (filter q xs) ≡ true
+pub kept_some : {A : Type 0} (p q : A → Bool) (xs : List A) → each p xs ≡ true → each p (filter q xs) ≡ true
 kept_some p q [] k = refl
 kept_some p q (x ∷ xs) k = step p (q x) x (filter q xs) (and_left (p x) (each p xs) k) (kept_some p q xs (and_right (p x) (each p xs) k))
   where

@@ -62,7 +62,7 @@ abbrev pub is_lasting_of : ℕ → EnlNo × Class → Bool
 is_lasting_of e x = (e == x.0.value) && not (is_volatile x.1)
 
 -- what is among the enlistments by a test is enlisted
-is_there : (e : ℕ) (q : Class → Bool) (h : List Entry) → has (λ x. (e == x.0.value) && q x.1) (enlisted h) ≡ true → has (is_enlisted e) h ≡ true
+pub is_there : (e : ℕ) (q : Class → Bool) (h : List Entry) → has (λ x. (e == x.0.value) && q x.1) (enlisted h) ≡ true → has (is_enlisted e) h ≡ true
 is_there e q [] k = absurd cc
 is_there e q (Enlisted f c ∷ h) k =
     or_case ((e == f.value) && q c) (has (λ x. (e == x.0.value) && q x.1) (enlisted h))

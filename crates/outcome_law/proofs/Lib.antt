@@ -137,6 +137,10 @@ pub mod Asking
 pub mod LocalSteps
 pub mod ToldOn
 pub mod CameOnce
+pub mod Handing
+pub mod OnlyHanded
+pub mod WaitingApart
+pub mod WaitedFor
 pub mod Once
 pub mod TameBlocks
 pub mod Unlinked
@@ -144,7 +148,6 @@ pub mod Marks
 pub mod MarkSteps
 pub mod AskedWhom
 pub mod NewMade
-pub mod WaitedFor
 pub mod Steady
 pub mod CausedRows
 pub mod QuietBlocks

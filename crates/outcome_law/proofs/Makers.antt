@@ -274,7 +274,7 @@ abbrev place_volatile : Wanted → Bool
 place_volatile (Place e r c) = is_volatile c
 place_volatile Identifier = false
 
-place_made : (e : EnlNo) (r : RmNo) (c : Class) (k : Call) → Place e r c ≡ wanted_by k → (makes_lasting e.value k ≡ true) × (is_volatile c ≡ false)
+pub place_made : (e : EnlNo) (r : RmNo) (c : Class) (k : Call) → Place e r c ≡ wanted_by k → (makes_lasting e.value k ≡ true) × (is_volatile c ≡ false)
 place_made e r c (Durable t f q s) w = (eq-eqb e.value f.value (ap place_number w), ap place_volatile w ∙ firm s)
   where
     firm : (s : Support) → is_volatile (class_by s) ≡ false

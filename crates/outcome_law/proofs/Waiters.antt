@@ -2,6 +2,7 @@
 use Rattle.std.proofs.Common.{◌≡◌, ℕ, ◌==◌, Bool, true, false, ◌&&◌, ◌||◌, List, [], ◌∷◌, ◌++◌, Option, Some, None, refl, ◌∙◌, ap, sym, subst}
 use Rattle.std.specs.Prelude.{find, is_some, length, nat_le, not, if◌then◌else◌}
 use Rattle.std.specs.List.{flat_map}
+use Rattle.std.proofs.lemmas.Bool.{or_left}
 use Rattle.dtx_values.specs.declared.call.Call.{Call}
 use Rattle.dtx_values.specs.declared.call.Call.TheVariants.{Begin, Volatile, Durable, Promotable, Clone, Complete, Commit, Rollback, Marshal, Status, Await, Tick, Do, Lose, Gone, Reenlist, Recovered}
 use Rattle.dtx_values.specs.declared.entry.Answer.{Answer}
@@ -33,7 +34,7 @@ use Rattle.dtx_model.specs.declared.branch.Branch.{Branch}
 use Rattle.dtx_model.specs.declared.waiting.EnteredCall.{EnteredCall}
 use Rattle.dtx_model.specs.declared.waiting.Wanted.TheVariants.{Identifier, Place}
 use Rattle.dtx_model.specs.Words.{each, has, onto}
-use Rattle.dtx_model.specs.Entries.{is_call, is_promoted}
+use Rattle.dtx_model.specs.Entries.{is_call, is_promoted, is_sealed}
 use Rattle.dtx_model.specs.Observed.{Observed, is_branch, observe}
 use Rattle.dtx_model.specs.Promotes.{identifier_of, is_wait}
 use Rattle.dtx_model.specs.Wires.{in_transit, is_open_wire}
@@ -47,7 +48,7 @@ use Rattle.dtx_model.specs.Facts.{begin_promotion, durable_facts, facts_if, has_
 use Rattle.dtx_model.specs.World.{World, answer_at, branches_by, core, facts_at, half, is_connected, is_finished_there, is_unfinished_link, reenlist_by, unless_connected, unless_stopped}
 use Rattle.dtx_model.specs.Steps.{Step, Calls, Replies, Acts, Coordinates, Delivers, Stops, Restarts, after, block_at, coordinates, delivered, ended_at, got_by, restarted}
 use Rattle.dtx_model.specs.Caused.{MayCome, Ran}
-use Rattle.dtx_model.proofs.Bools.{and_left, and_right, not_both, not_true}
+use Rattle.dtx_model.proofs.Bools.{and_left, and_right, not_both, not_true, or_right}
 use Rattle.dtx_model.proofs.Heeding.{fresh}
 use Rattle.outcome_law.proofs.Scans.{each_more}
 use Rattle.outcome_law.proofs.Tests.{eq_self}
@@ -208,9 +209,10 @@ gives_connected : (o : Option Branch) {x : Answer} → Gives x → Gives (unless
 gives_connected (Some b) p = sure refl
 gives_connected None p = p
 
-gives_id : (b : Bool) (n : ℕ) (x : Answer) → b ≡ true → Gives (if b then Id n else x)
-gives_id true n x q = sure refl
-gives_id false n x q = absurd cc
+gives_id : (b s : Bool) (n : ℕ) (x : Answer) → (b || s) ≡ true → Gives (if b then Id n else if s then TooLate else x)
+gives_id true s n x q = sure refl
+gives_id false true n x q = sure refl
+gives_id false false n x q = absurd cc
 
 gives_over : (o : Observed) {x : Answer} → Gives x → Gives (unless_over o x)
 gives_over o p = gives_begun o.limit (gives_ended o.decided p)
@@ -233,9 +235,9 @@ pub promotable_gives : (t : ℕ) (w : World) (u : TxNo) (e : EnlNo) (r : RmNo) (
 unfolding answer_at local_answer
 promotable_gives t w u e r v x p m = (promotable_given w).proof
 
--- no call waits but a durable or marshal call; and a marshal call doesn't where it is promoted
-gives : (t : ℕ) (w : World) (c : Call) (m : ℕ) → has is_promoted w.past ≡ true → is_durable_call c ≡ false → Gives (answer_at t w c m)
-unfolding answer_at local_answer
+-- no call waits but a durable or marshal call; and a marshal call doesn't where it is promoted or sealed
+gives : (t : ℕ) (w : World) (c : Call) (m : ℕ) → (has is_promoted w.past || has is_sealed w.past) ≡ true → is_durable_call c ≡ false → Gives (answer_at t w c m)
+unfolding answer_at local_answer observe
 gives t w (Begin u d) m p n = sure refl
 gives t w (Volatile u e x v) m p n = volatile_given w
 gives t w (Durable u e r s) m p n = absurd cc
@@ -248,7 +250,7 @@ gives t w (Commit u) m p n = gives_over (half w).seen (gives_late (half w).seen.
 gives t w (Rollback u) m p n = gives_over (half w).seen (gives_late (half w).seen.sealed)
 gives t w (Marshal u) m p n =
     let h = half w in
-    gives_over h.seen (gives_id h.seen.promoted (identifier_of t) (if h.seen.sealed then TooLate else if is_crowded h then Many CALLS else Wait) (seen_promoted w ∙ p))
+    gives_over h.seen (gives_id (has is_promoted w.past) (has is_sealed w.past) (identifier_of t) (if is_crowded h then Many CALLS else Wait) p)
 gives t w (Status u) m p n = gives_begun (half w).seen.limit (gives_status (half w).seen.decided)
 gives t w (Await u) m p n = gives_begun (half w).seen.limit (gives_await (half w).seen.told_client)
 gives t w (Tick u k) m p n = gives_begun (half w).seen.limit (sure refl)
@@ -261,6 +263,16 @@ gives t w (Recovered u r) m p n =
     gives_begun (half w).seen.limit
     (gives_if (not (has (λ b. b.enlisted) (branches_by w r.value))) (sure refl)
     (gives_if (is_in r.value (core w).recovered) (sure refl) (gives_connected (find (is_unfinished_link w) (branches_by w r.value)) (gives_stopped w))))
+
+-- after the seal no call waits
+durable_late : (o : Option ℕ) (d : Option Outcome) (s : Bool) (x : Answer) → s ≡ true → Gives (if_begun o (unless_ended d (if s then TooLate else x)))
+durable_late o d true x q = gives_begun o (gives_ended d (sure refl))
+durable_late o d false x q = absurd cc
+
+pub sealed_gives : (t : ℕ) (w : World) (c : Call) (m : ℕ) → has is_sealed w.past ≡ true → is_waiting_answer (answer_at t w c m) ≡ false
+unfolding answer_at local_answer observe
+sealed_gives t w (Durable u e r s) m q = (durable_late (half w).seen.limit (half w).seen.decided (has is_sealed w.past) _ q).proof
+sealed_gives t w c m q = (gives t w c m (or_right (has is_promoted w.past) (has is_sealed w.past) q) refl).proof
 
 -- what a call that waits for nothing new writes
 still_if : (b : Bool) (es : List Entry) → each is_still es ≡ true → each is_still (facts_if b es) ≡ true
@@ -322,7 +334,7 @@ called_keeps t w n a (Durable u e r s) m new k =
     (seen_promoted w) (same_way n a (Durable u e r s) w new k)
 called_keeps t w n a c m new k =
     call_keeps (record { line = n; actor = a; call = c } ∷ w.calls) n a (answer_at t w c m) w.past (facts_if (has_facts (answer_at t w c m)) (facts_at t w c (answer_at t w c m)))
-    (λ p. (gives t w c m p refl).proof) (still_facts t w c (answer_at t w c m) refl) (same_way n a c w new k)
+    (λ p. (gives t w c m (or_left (has is_promoted w.past) (has is_sealed w.past) p) refl).proof) (still_facts t w c (answer_at t w c m) refl) (same_way n a c w new k)
 
 -- after each step
 step_waits : (G : ℕ → ActorNo → Call → Type 0) (t : ℕ) (w : World) (m : Step) → MayCome G t w m → AreOnTheWay w.calls w.past → AreOnTheWay (after t w m).calls (after t w m).past
