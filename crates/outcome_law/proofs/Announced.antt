@@ -1,11 +1,11 @@
 -- In each world that steps made, in which nothing was lost: where the coordinator has decided, it sent its decision on b.
-use Rattle.std.proofs.Common.{◌≡◌, ℕ, Bool, true, false, ◌&&◌, ◌||◌, List, [], ◌∷◌, ◌++◌, refl, ◌∙◌, ap, subst, sym, if◌then◌else◌}
+use Rattle.std.proofs.Common.{◌≡◌, ℕ, Bool, true, false, ◌&&◌, List, [], ◌∷◌, refl, ◌∙◌, ap, subst, sym, if◌then◌else◌}
 use Rattle.std.specs.Prelude.{not}
 use Rattle.std.proofs.lemmas.Bool.{or_left}
 use Rattle.dtx_values.specs.declared.call.Call.{Call}
 use Rattle.dtx_values.specs.declared.call.Call.TheVariants.{Commit, Rollback, Tick}
 use Rattle.dtx_values.specs.declared.entry.Entry.{Entry}
-use Rattle.dtx_values.specs.declared.entry.Entry.TheVariants.{Called, Clock, CommitAsked, Down as Ended, Freed, Got, Late, LogFull, Logged, PromoteReply, Restarted, RollbackAsked, Sent, Stopped, TimedOut}
+use Rattle.dtx_values.specs.declared.entry.Entry.TheVariants.{Called, Clock, CommitAsked, Down as Ended, Freed, Got, Late, LogFull, Logged, PromoteReply, Restarted, RollbackAsked, Stopped, TimedOut}
 use Rattle.dtx_values.specs.declared.message.Conn.{Conn}
 use Rattle.dtx_values.specs.declared.message.Conn.TheVariants.{Begin, Voter, Enl, Again}
 use Rattle.dtx_values.specs.declared.message.Dir.{Dir}
@@ -17,13 +17,12 @@ use Rattle.dtx_values.specs.declared.number.ActorNo.{ActorNo}
 use Rattle.dtx_values.specs.declared.number.EnlNo.{EnlNo}
 use Rattle.dtx_values.specs.Ends.{same_connection}
 use Rattle.dtx_values.specs.Clones.{is_open_rollback}
-use Rattle.dtx_values.specs.Lines.{has_line, is_opening}
+use Rattle.dtx_values.specs.Lines.{has_line}
 use Rattle.dtx_model.specs.declared.desk.Stage.{Stage}
 use Rattle.dtx_model.specs.declared.desk.Stage.TheVariants.{Idle, Active, Recorded}
 use Rattle.dtx_model.specs.Words.{each, has, onto}
 use Rattle.dtx_model.specs.Promotes.{identifier_of}
-use Rattle.dtx_model.specs.Tied.{tied}
-use Rattle.dtx_model.specs.Wires.{WireRun, in_transit, is_stopped}
+use Rattle.dtx_model.specs.Wires.{in_transit, is_stopped}
 use Rattle.dtx_model.specs.Coordinated.{Coordinated, abort_if, abort_sends, aborts, begin_if, commit_sends, coordinate, core_got, follow, is_active, is_recorded, is_undecided, may_free, may_log, stage_after}
 use Rattle.dtx_model.specs.Half.{Half, sees, veto, veto_if}
 use Rattle.dtx_model.specs.Arrivals.{local_got}
@@ -34,13 +33,12 @@ use Rattle.dtx_model.specs.World.{World, answer_at, core, facts_at, half}
 use Rattle.dtx_model.specs.Steps.{LogAnswer, Done, Full, StoppedBefore, StoppedNow, Step, Calls, Replies, Acts, Coordinates, Delivers, Stops, Restarts, after, appended, block_at, coordinates, delivered, ended_at, freed, restarted}
 use Rattle.dtx_model.specs.Caused.{MayCome, Ran, may_coordinate}
 use Rattle.dtx_model.specs.History.{is_loss}
-use Rattle.dtx_model.proofs.Bools.{and_both, and_left, and_right, not_both, or_case, or_first, or_right, or_second}
+use Rattle.dtx_model.proofs.Bools.{and_both, and_left, and_right, not_both, or_case, or_right, or_second}
 use Rattle.dtx_model.proofs.Reading.{has-onto}
 use Rattle.outcome_law.proofs.Scans.{each_more, has_more}
-use Rattle.outcome_law.proofs.Whole.{is_got_on, is_sent_on, whole, whole_of}
+use Rattle.outcome_law.proofs.Whole.{is_got_on, is_sent_on, whole_of}
 use Rattle.outcome_law.proofs.Messages.{OUTCOME}
 use Rattle.outcome_law.proofs.Table.{is_opening_got}
-use Rattle.outcome_law.proofs.Debts.{knows_there}
 use Rattle.outcome_law.proofs.Keeping.{Keeps, keeps_before}
 use Rattle.outcome_law.proofs.OpenedRows.{kept_opened}
 use Rattle.outcome_law.proofs.Arrived.{unstopped}

@@ -1,7 +1,7 @@
 -- In each world that steps made, where nothing is decided: no rollback was asked for, no time was up, no promotable failed to promote, and where the commit was asked for each
 -- rollback clone was complete.
-use Rattle.std.proofs.Common.{◌≡◌, ℕ, Bool, true, false, ◌&&◌, ◌||◌, List, [], ◌∷◌, ◌++◌, refl, ◌∙◌, subst, sym, if◌then◌else◌}
-use Rattle.std.specs.Prelude.{not, map}
+use Rattle.std.proofs.Common.{◌≡◌, ℕ, Bool, true, false, ◌||◌, List, [], ◌∷◌, ◌++◌, refl, ◌∙◌, subst, sym, if◌then◌else◌}
+use Rattle.std.specs.Prelude.{not}
 use Rattle.std.proofs.lemmas.Bool.{or_left}
 use Rattle.dtx_values.specs.declared.call.Call.{Call}
 use Rattle.dtx_values.specs.declared.call.Call.TheVariants.{Commit, Rollback, Tick}
@@ -22,7 +22,7 @@ use Rattle.dtx_values.specs.declared.words.Outcome.{Outcome}
 use Rattle.dtx_values.specs.declared.words.Outcome.TheVariants.{Aborted}
 use Rattle.dtx_values.specs.Clones.{blocks, is_open_rollback}
 use Rattle.dtx_model.specs.Words.{all_of, always, each, has, onto}
-use Rattle.dtx_model.specs.Entries.{clone_of, is_commit, is_decision}
+use Rattle.dtx_model.specs.Entries.{clone_of, is_decision}
 use Rattle.dtx_model.specs.Outcome.{is_complete, is_rollback}
 use Rattle.dtx_model.specs.History.{is_asked_in_time}
 use Rattle.dtx_model.specs.Promotes.{identifier_of}
@@ -32,12 +32,12 @@ use Rattle.dtx_model.specs.Coordinated.{Coordinated, abort_sends, commit_sends, 
 use Rattle.dtx_model.specs.Half.{Half, decide, ended, fails_if, is_promoting, sees, veto, veto_if, veto_message}
 use Rattle.dtx_model.specs.Arrivals.{local_got}
 use Rattle.dtx_model.specs.Acts.{act_entries}
-use Rattle.dtx_model.specs.Facts.{facts_if, has_facts, is_late, reaches, ticked, time_up}
+use Rattle.dtx_model.specs.Facts.{facts_if, has_facts, is_late, reaches, ticked}
 use Rattle.dtx_model.specs.Replies.{reply_entries}
 use Rattle.dtx_model.specs.World.{World, answer_at, core, facts_at, half}
 use Rattle.dtx_model.specs.Steps.{LogAnswer, Done, Full, StoppedBefore, StoppedNow, Step, Calls, Replies, Acts, Coordinates, Delivers, Stops, Restarts, after, block_at, coordinates, delivered, ended_at, restarted}
 use Rattle.dtx_model.specs.Caused.{AreMadeOnce, Ran}
-use Rattle.dtx_model.proofs.Bools.{and_both, and_left, and_right, not_both, or_false, or_first, or_right}
+use Rattle.dtx_model.proofs.Bools.{and_both, and_left, and_right, not_both, or_false}
 use Rattle.dtx_model.proofs.Reading.{has-onto}
 use Rattle.outcome_law.proofs.Going.{all_closed}
 use Rattle.outcome_law.proofs.Scans.{each_more}

@@ -1,7 +1,7 @@
 -- Which entries no block has but as its first: what is got and an end, an act of the log, a restart, the asking for the commit or a rollback, the end of the time, and an
 -- answer to promote.
-use Rattle.std.proofs.Common.{◌≡◌, ℕ, ◌==◌, Bool, true, false, ◌&&◌, ◌||◌, ◌⊎◌, inl, inr, not, List, [], ◌∷◌, ◌++◌, map, filter, Option, Some, None, is_some, find, refl, ◌∙◌, if◌then◌else◌}
-use Rattle.std.specs.List.{flat_map, list_any}
+use Rattle.std.proofs.Common.{◌≡◌, ℕ, ◌==◌, Bool, true, false, ◌&&◌, ◌||◌, not, List, [], ◌∷◌, ◌++◌, map, filter, Option, Some, None, is_some, find, refl, ◌∙◌, if◌then◌else◌}
+use Rattle.std.specs.List.{flat_map}
 use Rattle.std.proofs.lemmas.List.Folds.{list_all-append}
 use Rattle.dtx_values.specs.declared.call.Call.{Call}
 use Rattle.dtx_values.specs.declared.call.Call.TheVariants.{Begin as BeginCall, Volatile, Durable, Promotable, Clone, Complete, Commit, Rollback, Marshal, Tick, Lose, Gone, Reenlist, Recovered}
@@ -9,7 +9,7 @@ use Rattle.dtx_values.specs.declared.entry.Answer.{Answer}
 use Rattle.dtx_values.specs.declared.entry.Answer.TheVariants.{Fine, Wait, Id, Ended as EndedAnswer}
 use Rattle.dtx_values.specs.declared.entry.Ask.TheVariants.{Prepare, Promote, Single as AskSingle}
 use Rattle.dtx_values.specs.declared.entry.Entry.{Entry}
-use Rattle.dtx_values.specs.declared.entry.Entry.TheVariants.{Answered, Began, Cloned, Completed, Enlisted, Init, CommitAsked, RollbackAsked, Clock, TimedOut, Late, Asked, Voted, PromoteReply, Requested, Sealed, Handed, OwnerAnswered, LocalYes, Decided, Told, Promoting, Promoted, PromotionFailed, Sent, Got, Down as Ended, Lost as LostEntry, Logged, LogFull, Freed, Stopped, Restarted, Reenlisted, Recovered as RecoveredEntry, Acked}
+use Rattle.dtx_values.specs.declared.entry.Entry.TheVariants.{Answered, Began, Cloned, Completed, Enlisted, Init, CommitAsked, RollbackAsked, TimedOut, Asked, Voted, PromoteReply, Requested, Sealed, Handed, OwnerAnswered, LocalYes, Decided, Told, Promoting, Promoted, PromotionFailed, Sent, Got, Down as Ended, Lost as LostEntry, Logged, LogFull, Freed, Restarted, Reenlisted, Recovered as RecoveredEntry, Acked}
 use Rattle.dtx_values.specs.declared.entry.Party.TheVariants.{Client, Enl as Member}
 use Rattle.dtx_values.specs.declared.message.Conn.{Conn}
 use Rattle.dtx_values.specs.declared.message.Conn.TheVariants.{Begin, Voter, Enl, Again}
@@ -29,13 +29,11 @@ use Rattle.dtx_values.specs.declared.words.Class.TheVariants.{DurableSingle, Pro
 use Rattle.dtx_values.specs.declared.words.Outcome.{Outcome}
 use Rattle.dtx_values.specs.declared.words.Outcome.TheVariants.{Committed, Aborted, InDoubt}
 use Rattle.dtx_values.specs.declared.words.Vote.{Vote}
-use Rattle.dtx_values.specs.Clones.{is_open_block, is_open_rollback}
 use Rattle.dtx_values.specs.Ends.{knows, may_abort_by_begin, may_abort_by_voter, same_connection, tag_of, was_got}
 use Rattle.dtx_model.specs.declared.listener.Listener.{Listener}
 use Rattle.dtx_model.specs.declared.desk.Desk.{Desk}
 use Rattle.dtx_model.specs.Words.{each, has}
-use Rattle.dtx_values.specs.Waves.{all_voted, is_over, next_ask, zeros_voted}
-use Rattle.dtx_model.proofs.Bools.{and_right}
+use Rattle.dtx_values.specs.Waves.{all_voted, is_over, next_ask}
 use Rattle.dtx_values.specs.Owners.{cause_of, owner_of}
 use Rattle.dtx_values.specs.Class.{is_promotable}
 use Rattle.dtx_values.specs.Support.{is_single}
@@ -44,17 +42,17 @@ use Rattle.dtx_values.specs.Table.{voted}
 use Rattle.dtx_model.specs.declared.branch.Branch.{Branch}
 use Rattle.dtx_model.specs.Observed.{Observed, is_branch}
 use Rattle.dtx_model.specs.Promotes.{identifier_of}
-use Rattle.dtx_model.specs.Coordinated.{Coordinated, aborts, abort_sends, commit_sends, core_down, core_got, follow, has_aborted, is_active, is_early, is_prepared, is_recorded, is_undecided, may_log, opening_answer, still_hears, to, to_each, to_waiting}
+use Rattle.dtx_model.specs.Coordinated.{Coordinated, aborts, abort_sends, commit_sends, core_down, core_got, follow, has_aborted, is_active, is_early, is_prepared, is_recorded, is_undecided, opening_answer, still_hears, to, to_each, to_waiting}
 use Rattle.dtx_model.specs.declared.waiting.Wanted.TheVariants.{Identifier, Place}
 use Rattle.dtx_model.specs.Waiting.{Waiter, is_place_of}
 use Rattle.dtx_model.specs.Half.{Half, sees, is_promoting, to_up, fails_if, decide, veto_message, veto, veto_if, info, enlist_sent, by_manager, given, promoted_by, over, stands, is_gone, was_told, is_handed}
 use Rattle.dtx_model.specs.Arrivals.{unless_decided, hand_over, place_given, told_abort, has_both_ends, ended_there, ended_by, begin_arrived, voter_arrived, enlist_arrived, again_arrived, arrived, local_got, local_down}
 use Rattle.dtx_model.specs.Acts.{tell, is_to_tell, promotable_in, under_way, commit_sent, ask_or, after_seal, commit_act, yes_act, voter_act, promoted_act, sealed_act, asked_act, unasked_promotable, undecided_act, act_by, act_entries}
-use Rattle.dtx_model.specs.Replies.{ack_on, conn_due, due_of, is_volatile_row, owner_entries, promote_entries, reply_entries, request_message, request_of, vote_message, voted_by}
-use Rattle.dtx_model.specs.Facts.{begin_promotion, durable_facts, durable_waits, facts_if, has_facts, is_late, local_facts, reaches, ticked, time_up}
+use Rattle.dtx_model.specs.Replies.{ack_on, conn_due, due_of, is_volatile_row, owner_entries, reply_entries, request_message, request_of, vote_message, voted_by}
+use Rattle.dtx_model.specs.Facts.{begin_promotion, durable_facts, durable_waits, facts_if, has_facts, local_facts}
 use Rattle.dtx_model.specs.Answers.{class_of, limit_of}
 use Rattle.dtx_model.specs.World.{World, half, core, cut, cut_upward, facts_at, gone_by, gone_decides, open_ones, reenlist_facts}
-use Rattle.dtx_model.specs.Steps.{LogAnswer, Done, Full, StoppedNow, StoppedBefore, appended, coordinates, ended_at, freed}
+use Rattle.dtx_model.specs.Steps.{ended_at}
 
 -- the entry isn't got and no end, no act of the log and no restart; it asks for no commit or rollback, ends no time, and is no answer to promote
 abbrev pub is_mild : Entry → Bool

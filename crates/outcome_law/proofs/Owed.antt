@@ -16,7 +16,6 @@ use Rattle.dtx_values.specs.declared.note.Plan.{Plan}
 use Rattle.dtx_values.specs.declared.number.EnlNo.{EnlNo}
 use Rattle.dtx_values.specs.declared.row.Row.{Row}
 use Rattle.dtx_values.specs.declared.words.Class.{Class}
-use Rattle.dtx_values.specs.declared.words.Class.TheVariants.{Promotable}
 use Rattle.dtx_values.specs.declared.words.Outcome.{Outcome}
 use Rattle.dtx_values.specs.declared.words.Outcome.TheVariants.{Committed, Aborted, InDoubt}
 use Rattle.dtx_values.specs.declared.words.Vote.{Vote}
@@ -49,7 +48,7 @@ use Rattle.outcome_law.proofs.Settled.{has_answered}
 use Rattle.outcome_law.proofs.Whole.{is_got_on}
 use Rattle.outcome_law.proofs.Messages.{PREPARE}
 use Rattle.outcome_law.proofs.Fine.{IsFine, is_bad, is_made}
-use Rattle.outcome_law.proofs.Debts.{has_promotable, is_volatile_made}
+use Rattle.outcome_law.proofs.Debts.{is_volatile_made}
 use Rattle.outcome_law.proofs.Connections.{same_is}
 use Rattle.outcome_law.proofs.Knowledge.{knows_got}
 use Rattle.outcome_law.proofs.Stages.{record_logged}

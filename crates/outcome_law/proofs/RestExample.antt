@@ -19,7 +19,6 @@ use Rattle.dtx_model.specs.Wires.{in_transit}
 use Rattle.dtx_model.specs.Caused.{entered_in}
 use Rattle.dtx_model.proofs.Cast.{a1, id1, says, t1}
 use Rattle.dtx_model.proofs.Computing.{model}
-use Rattle.dtx_model.proofs.Crossing.{wired}
 use Rattle.outcome_law.proofs.Rest.{IsAtRest}
 use Rattle.outcome_law.proofs.Promotions.{IsTabled}
 

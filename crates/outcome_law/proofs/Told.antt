@@ -2,7 +2,6 @@
 use Rattle.std.proofs.Common.{◌≡◌, ℕ, Bool, true, false, ◌&&◌, ◌||◌, List, [], ◌∷◌, slice_get, Some, refl, ◌∙◌, ap, sym, subst}
 use Rattle.std.specs.Prelude.{is_none, is_some, not}
 use Rattle.std.proofs.lemmas.Bool.{false_from_ne_true, or_left}
-use Rattle.dtx_values.specs.declared.call.Call.{Call}
 use Rattle.dtx_values.specs.declared.entry.Entry.{Entry}
 use Rattle.dtx_values.specs.declared.entry.Entry.TheVariants.{PromoteReply, Promoting, Requested, Restarted}
 use Rattle.dtx_values.specs.declared.note.Plan.{Plan}
@@ -11,21 +10,19 @@ use Rattle.dtx_values.specs.declared.row.Row.{Row}
 use Rattle.dtx_values.specs.declared.script.Line.{Line}
 use Rattle.dtx_values.specs.declared.words.Class.{Class}
 use Rattle.dtx_values.specs.Class.{is_promotable}
-use Rattle.dtx_values.specs.Clones.{blocks, is_open_block}
+use Rattle.dtx_values.specs.Clones.{blocks}
 use Rattle.dtx_values.specs.Row.{has_voted, is_marked}
-use Rattle.dtx_model.specs.declared.waiting.EnteredCall.{EnteredCall}
 use Rattle.dtx_model.specs.Words.{all_of, each, has, latest}
-use Rattle.dtx_model.specs.Entries.{client_told_of, clone_of, decision_of, is_any_owner, is_asked, is_asked_alone, is_asked_to_promote, is_commit, is_decision, is_hand, is_promote_reply_of, is_request_of, is_vote}
-use Rattle.dtx_model.specs.Observed.{clone_rows, is_ask_promote, is_ask_single, is_promote_reply, is_request, observe, rows}
+use Rattle.dtx_model.specs.Entries.{client_told_of, clone_of, is_any_owner, is_asked, is_asked_alone, is_asked_to_promote, is_commit, is_decision, is_hand, is_promote_reply_of, is_request_of, is_vote}
+use Rattle.dtx_model.specs.Observed.{is_ask_promote, is_ask_single, is_promote_reply, is_request, observe, rows}
 use Rattle.dtx_model.specs.Outcome.{enlisted, is_complete}
 use Rattle.dtx_model.specs.Promotes.{is_promoting}
-use Rattle.dtx_model.specs.Tied.{tied}
 use Rattle.dtx_model.specs.Wires.{is_stopped}
 use Rattle.dtx_model.specs.Waiting.{Waiter, waiting}
 use Rattle.dtx_model.specs.Plans.{plan_of}
 use Rattle.dtx_model.specs.Replies.{may_still_vote}
 use Rattle.dtx_model.specs.World.{World}
-use Rattle.dtx_model.specs.Grammar.{OfEnlistment, are_named_well}
+use Rattle.dtx_model.specs.Grammar.{are_named_well}
 use Rattle.dtx_model.specs.Caused.{Caused, IsCallOf, Settled, entered_in, is_promoting_entry, plans_of}
 use Rattle.dtx_model.specs.History.{IsToldOrWaits, is_loss, is_silent, is_waiting}
 use Rattle.dtx_model.proofs.Bools.{and_both, and_left, and_right, not_both, not_false, not_true, or_first, or_right, or_second}
@@ -46,7 +43,6 @@ use Rattle.outcome_law.proofs.Makers.{AreMade, all_lasting, all_unplaced, ran_ma
 use Rattle.outcome_law.proofs.Waiters.{ran_waits}
 use Rattle.outcome_law.proofs.Prepared.{ran_prepares}
 use Rattle.outcome_law.proofs.Meeting.{ran_paid}
-use Rattle.outcome_law.proofs.Paid.{IsPaid}
 use Rattle.outcome_law.proofs.OnTheWay.{is_on_its_way, is_unplaced}
 use Rattle.outcome_law.proofs.Whole.{whole, whole_of}
 use Rattle.outcome_law.proofs.Fine.{IsFine, is_restart}
@@ -68,7 +64,7 @@ use Rattle.outcome_law.proofs.Steady.{run_steady}
 use Rattle.outcome_law.proofs.Promised.{run_rows}
 use Rattle.outcome_law.proofs.Ending.{ran_goes}
 use Rattle.outcome_law.proofs.Announced.{ran_announces}
-use Rattle.outcome_law.proofs.UndecidedFine.{IsSettling, undecided_fine}
+use Rattle.outcome_law.proofs.UndecidedFine.{undecided_fine}
 
 -- no restart comes where nothing was lost
 unrestarted : (h : List Entry) → Keeps h → whole h ≡ true → has is_restart h ≡ false

@@ -78,7 +78,8 @@ pub fn crossings()
 {}
 
 /// A settled transaction that can commit is committed, promoted or not: its client was told so. Where commit was asked, the client was told some outcome,
-/// or a blocking clone is open, or an enlistment whose reply is needed plans none. And each enlistment that came back was told.
+/// or a blocking clone is open, or an enlistment whose reply is needed plans none: so it is where nothing is promoted, and where nothing was lost. And each
+/// enlistment that came back was told.
 pub fn completeness()
     ensures told { (s : List Line) (k t : ℕ) (h : List Entry) → are_named_well s ≡ true → Caused s k t h → is_unpromoted h ≡ true → IsToldOrWaits s h }
     ensures told_unlost { (s : List Line) (k t : ℕ) (h : List Entry) → are_named_well s ≡ true → Caused s k t h → has is_loss h ≡ false → IsToldOrWaits s h }
