@@ -1,9 +1,9 @@
 -- In each world that steps made, in which nothing was lost: where the coordinator has decided, it sent its decision on b.
-use Rattle.std.proofs.Common.{◌≡◌, ℕ, Bool, true, false, ◌&&◌, List, [], ◌∷◌, refl, ◌∙◌, ap, subst, sym, if◌then◌else◌}
-use Rattle.std.specs.Prelude.{not}
+use Rattle.std.proofs.Common.{◌≡◌, ℕ, Bool, true, false, ◌&&◌, List, [], ◌∷◌, refl, ◌∙◌, ap, subst, sym, if◌then◌else◌, Option, Some, None}
+use Rattle.std.specs.Prelude.{find, not}
 use Rattle.std.proofs.lemmas.Bool.{or_left}
 use Rattle.dtx_values.specs.declared.call.Call.{Call}
-use Rattle.dtx_values.specs.declared.call.Call.TheVariants.{Commit, Rollback, Tick}
+use Rattle.dtx_values.specs.declared.call.Call.TheVariants.{Commit, Reenlist, Rollback, Tick}
 use Rattle.dtx_values.specs.declared.entry.Entry.{Entry}
 use Rattle.dtx_values.specs.declared.entry.Entry.TheVariants.{Called, Clock, CommitAsked, Down as Ended, Freed, Got, Late, LogFull, Logged, PromoteReply, Restarted, RollbackAsked, Stopped, TimedOut}
 use Rattle.dtx_values.specs.declared.message.Conn.{Conn}
@@ -21,6 +21,8 @@ use Rattle.dtx_values.specs.Lines.{has_line}
 use Rattle.dtx_model.specs.declared.desk.Stage.{Stage}
 use Rattle.dtx_model.specs.declared.desk.Stage.TheVariants.{Idle, Active, Recorded}
 use Rattle.dtx_model.specs.Words.{each, has, onto}
+use Rattle.dtx_model.specs.declared.branch.Branch.{Branch}
+use Rattle.dtx_model.specs.Observed.{is_branch}
 use Rattle.dtx_model.specs.Promotes.{identifier_of}
 use Rattle.dtx_model.specs.Wires.{in_transit, is_stopped}
 use Rattle.dtx_model.specs.Coordinated.{Coordinated, abort_if, abort_sends, aborts, begin_if, commit_sends, coordinate, core_got, follow, is_active, is_recorded, is_undecided, may_free, may_log, stage_after}
@@ -29,7 +31,7 @@ use Rattle.dtx_model.specs.Arrivals.{local_got}
 use Rattle.dtx_model.specs.Acts.{act_entries}
 use Rattle.dtx_model.specs.Facts.{facts_if, has_facts, is_late, reaches, ticked}
 use Rattle.dtx_model.specs.Replies.{reply_entries}
-use Rattle.dtx_model.specs.World.{World, answer_at, core, facts_at, half}
+use Rattle.dtx_model.specs.World.{World, answer_at, core, facts_at, half, reenlist_facts}
 use Rattle.dtx_model.specs.Steps.{LogAnswer, Done, Full, StoppedBefore, StoppedNow, Step, Calls, Replies, Acts, Coordinates, Delivers, Stops, Restarts, after, appended, block_at, coordinates, delivered, ended_at, freed, restarted}
 use Rattle.dtx_model.specs.Caused.{MayCome, Ran, may_coordinate}
 use Rattle.dtx_model.specs.History.{is_loss}
@@ -56,10 +58,10 @@ pub record IsUnlost (h : List Entry) : Type 0 where
   pub keeps : Keeps h
   pub unlost : has is_loss h ≡ false
 
-unlost_before : (x : Entry) (h : List Entry) → IsUnlost (x ∷ h) → IsUnlost h
+pub unlost_before : (x : Entry) (h : List Entry) → IsUnlost (x ∷ h) → IsUnlost h
 unlost_before x h u = record { keeps = keeps_before x h u.keeps; unlost = or_second (is_loss x) (has is_loss h) u.unlost }
 
-unlost_under : (h es : List Entry) → IsUnlost (onto h es) → IsUnlost h
+pub unlost_under : (h es : List Entry) → IsUnlost (onto h es) → IsUnlost h
 unlost_under h [] u = u
 unlost_under h (x ∷ es) u = unlost_before x h (unlost_under (x ∷ h) es u)
 
@@ -273,6 +275,11 @@ tick_apart k n true false l = refl
 tick_apart k n true true true = refl
 tick_apart k n true true false = mild_apart (veto k) (m_veto k).proof
 
+reenlist_apart : (t : ℕ) (o : Option Branch) (f : Bool) → each is_apart (facts_if f (reenlist_facts t o)) ≡ true
+reenlist_apart t o false = refl
+reenlist_apart t None true = refl
+reenlist_apart t (Some b) true = refl
+
 promote_apart : (k : Half) (e : EnlNo) (ok : Bool) → each is_apart (reply_entries k e (Promote ok)) ≡ true
 unfolding reply_entries
 promote_apart k e true = refl
@@ -294,6 +301,10 @@ step_announces G t w (Calls n a (Tick u j) i) q s g =
     let c = ticked o.clock j in
     apart_announces w.past (Called n a y ∷ facts_if (has_facts y) (Clock c ∷ (if reaches o.limit o.clock c then (if is_late o then Late ∷ [] else TimedOut ∷ veto (half w)) else [])))
     (tick_apart (half w) c (has_facts y) (reaches o.limit o.clock c) (is_late o)) g
+step_announces G t w (Calls n a (Reenlist e) i) q s g =
+    let y = answer_at t w (Reenlist e) i in
+    let o = find (is_branch e.value) (half w).seen.branches in
+    apart_announces w.past (Called n a y ∷ facts_if (has_facts y) (reenlist_facts t o)) (reenlist_apart t o (has_facts y)) g
 step_announces G t w (Calls n a c i) q s g =
     let y = answer_at t w c i in
     let es = facts_if (has_facts y) (facts_at t w c y) in

@@ -1,5 +1,5 @@
 -- Which entries no block has but as its first: what is got and an end, an act of the log, a restart, the asking for the commit or a rollback, the end of the time, and an
--- answer to promote.
+-- answer to promote, and who comes back.
 use Rattle.std.proofs.Common.{◌≡◌, ℕ, ◌==◌, Bool, true, false, ◌&&◌, ◌||◌, not, List, [], ◌∷◌, ◌++◌, map, filter, Option, Some, None, is_some, find, refl, ◌∙◌, if◌then◌else◌}
 use Rattle.std.specs.List.{flat_map}
 use Rattle.std.proofs.lemmas.List.Folds.{list_all-append}
@@ -54,7 +54,8 @@ use Rattle.dtx_model.specs.Answers.{class_of, limit_of}
 use Rattle.dtx_model.specs.World.{World, half, core, cut, cut_upward, facts_at, gone_by, gone_decides, open_ones, reenlist_facts}
 use Rattle.dtx_model.specs.Steps.{ended_at}
 
--- the entry isn't got and no end, no act of the log and no restart; it asks for no commit or rollback, ends no time, and is no answer to promote
+-- the entry isn't got and no end, no act of the log and no restart; it asks for no commit or rollback, ends no time, is no answer to promote, and nobody comes
+-- back
 abbrev pub is_mild : Entry → Bool
 is_mild (Got c d m) = false
 is_mild (Ended c d) = false
@@ -66,6 +67,7 @@ is_mild CommitAsked = false
 is_mild RollbackAsked = false
 is_mild TimedOut = false
 is_mild (PromoteReply e ok) = false
+is_mild (Reenlisted e) = false
 is_mild _ = true
 
 pub record Mild (es : List Entry) : Type 0 where
@@ -331,11 +333,12 @@ m_durable : (t : ℕ) (h : Half) (e : EnlNo) (r : RmNo) (single : Bool) (a : Ans
 m_durable t h e r single Wait = m_waits t h e r single
 m_durable t h e r single _ = m_one (Enlisted e DurableSingle) refl
 
--- a call that asks for the commit or a rollback, or a tick
+-- a call that asks for the commit or a rollback, a tick, or a reenlistment
 abbrev pub is_ending_call : Call → Bool
 is_ending_call (Commit u) = true
 is_ending_call (Rollback u) = true
 is_ending_call (Tick u n) = true
+is_ending_call (Reenlist e) = true
 is_ending_call _ = false
 
 pub m_facts : (t : ℕ) (h : Half) (c : Call) (a : Answer) → is_ending_call c ≡ false → Mild (local_facts t h c a)
@@ -349,6 +352,7 @@ m_facts t h (Commit u) a n = absurd cc
 m_facts t h (Rollback u) a n = absurd cc
 m_facts t h (Marshal u) a n = m_if (is_promoting h.seen) m_none (m_begin_promotion h (Some MarshalCause))
 m_facts t h (Tick u i) a n = absurd cc
+m_facts t h (Reenlist e) a n = absurd cc
 m_facts t h _ a n = m_none
 
 pub m_gone_decides : (h : Half) (e : EnlNo) → Mild (gone_decides h e)
@@ -358,14 +362,10 @@ m_gone : (w : World) (e : EnlNo) (cs : List Conn) → Mild (gone_by w e cs)
 m_gone w e [] = m_cons (LostEntry e) refl (m_gone_decides (sees (half w) (LostEntry e)) e)
 m_gone w e (c ∷ cs) = m_cons (LostEntry e) refl (m_map (cut_upward w.past) (λ d. refl) (c ∷ cs))
 
-m_reenlist : (t : ℕ) (b : Option Branch) → Mild (reenlist_facts t b)
-m_reenlist t (Some b) = m_cons (Reenlisted b.enlistment) refl (m_one (Sent (Again b.enlistment) Up (ReenlistReenlist (info t b.enlistment b.manager))) refl)
-m_reenlist t None = m_none
-
 m_facts_at : (t : ℕ) (w : World) (c : Call) (a : Answer) → is_ending_call c ≡ false → Mild (facts_at t w c a)
 m_facts_at t w (Lose u c i m) a n = m_one (cut w.past c i m) refl
 m_facts_at t w (Gone e) a n = m_gone w e (open_ones w e)
-m_facts_at t w (Reenlist e) a n = m_reenlist t (find (is_branch e.value) (half w).seen.branches)
+m_facts_at t w (Reenlist e) a n = absurd cc
 m_facts_at t w (Recovered u r) a n = m_one (RecoveredEntry r) refl
 m_facts_at t w c a n = m_facts t (half w) c a n
 
