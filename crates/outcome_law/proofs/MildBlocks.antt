@@ -9,7 +9,7 @@ use Rattle.dtx_values.specs.declared.entry.Answer.{Answer}
 use Rattle.dtx_values.specs.declared.entry.Answer.TheVariants.{Fine, Wait, Id, Ended as EndedAnswer}
 use Rattle.dtx_values.specs.declared.entry.Ask.TheVariants.{Prepare, Promote, Single as AskSingle}
 use Rattle.dtx_values.specs.declared.entry.Entry.{Entry}
-use Rattle.dtx_values.specs.declared.entry.Entry.TheVariants.{Answered, Began, Cloned, Completed, Enlisted, Init, CommitAsked, RollbackAsked, TimedOut, Asked, Voted, PromoteReply, Requested, Sealed, Handed, OwnerAnswered, LocalYes, Decided, Told, Promoting, Promoted, PromotionFailed, Sent, Got, Down as Ended, Lost as LostEntry, Logged, LogFull, Freed, Restarted, Reenlisted, Recovered as RecoveredEntry, Acked}
+use Rattle.dtx_values.specs.declared.entry.Entry.TheVariants.{Answered, Began, Cloned, Completed, Enlisted, Init, CommitAsked, RollbackAsked, TimedOut, Asked, Voted, PromoteReply, Requested, Sealed, Handed, OwnerAnswered, LocalYes, Decided, Told, Promoting, Promoted, PromotionFailed, Sent, Got, Down as Ended, Lost as LostEntry, Logged, LogFull, Freed, Restarted, Reenlisted, Recovered as RecoveredEntry, Acked, Clock, Late}
 use Rattle.dtx_values.specs.declared.entry.Party.TheVariants.{Client, Enl as Member}
 use Rattle.dtx_values.specs.declared.message.Conn.{Conn}
 use Rattle.dtx_values.specs.declared.message.Conn.TheVariants.{Begin, Voter, Enl, Again}
@@ -29,18 +29,19 @@ use Rattle.dtx_values.specs.declared.words.Class.TheVariants.{DurableSingle, Pro
 use Rattle.dtx_values.specs.declared.words.Outcome.{Outcome}
 use Rattle.dtx_values.specs.declared.words.Outcome.TheVariants.{Committed, Aborted, InDoubt}
 use Rattle.dtx_values.specs.declared.words.Vote.{Vote}
+use Rattle.dtx_values.specs.Clones.{is_open_rollback}
 use Rattle.dtx_values.specs.Ends.{knows, may_abort_by_begin, may_abort_by_voter, same_connection, tag_of, was_got}
 use Rattle.dtx_model.specs.declared.listener.Listener.{Listener}
 use Rattle.dtx_model.specs.declared.desk.Desk.{Desk}
 use Rattle.dtx_model.specs.Words.{each, has}
+use Rattle.outcome_law.proofs.Scans.{each_more}
 use Rattle.dtx_values.specs.Waves.{all_voted, is_over, next_ask}
 use Rattle.dtx_values.specs.Owners.{cause_of, owner_of}
 use Rattle.dtx_values.specs.Class.{is_promotable}
 use Rattle.dtx_values.specs.Support.{is_single}
 use Rattle.dtx_values.specs.Vote.{is_no}
 use Rattle.dtx_values.specs.Table.{voted}
-use Rattle.dtx_model.specs.declared.branch.Branch.{Branch}
-use Rattle.dtx_model.specs.Observed.{Observed, is_branch}
+use Rattle.dtx_model.specs.Observed.{Observed}
 use Rattle.dtx_model.specs.Promotes.{identifier_of}
 use Rattle.dtx_model.specs.Coordinated.{Coordinated, aborts, abort_sends, commit_sends, core_down, core_got, follow, has_aborted, is_active, is_early, is_prepared, is_recorded, is_undecided, opening_answer, still_hears, to, to_each, to_waiting}
 use Rattle.dtx_model.specs.declared.waiting.Wanted.TheVariants.{Identifier, Place}
@@ -49,9 +50,9 @@ use Rattle.dtx_model.specs.Half.{Half, sees, is_promoting, to_up, fails_if, deci
 use Rattle.dtx_model.specs.Arrivals.{unless_decided, hand_over, place_given, told_abort, has_both_ends, ended_there, ended_by, begin_arrived, voter_arrived, enlist_arrived, again_arrived, arrived, local_got, local_down}
 use Rattle.dtx_model.specs.Acts.{tell, is_to_tell, promotable_in, under_way, commit_sent, ask_or, after_seal, commit_act, yes_act, voter_act, promoted_act, sealed_act, asked_act, unasked_promotable, undecided_act, act_by, act_entries}
 use Rattle.dtx_model.specs.Replies.{ack_on, conn_due, due_of, is_volatile_row, owner_entries, reply_entries, request_message, request_of, vote_message, voted_by}
-use Rattle.dtx_model.specs.Facts.{begin_promotion, durable_facts, durable_waits, facts_if, has_facts, local_facts}
+use Rattle.dtx_model.specs.Facts.{begin_promotion, durable_facts, durable_waits, facts_if, has_facts, is_late, local_facts, reaches, ticked}
 use Rattle.dtx_model.specs.Answers.{class_of, limit_of}
-use Rattle.dtx_model.specs.World.{World, half, core, cut, cut_upward, facts_at, gone_by, gone_decides, open_ones, reenlist_facts}
+use Rattle.dtx_model.specs.World.{World, half, core, cut, cut_upward, facts_at, gone_by, gone_decides, open_ones}
 use Rattle.dtx_model.specs.Steps.{ended_at}
 
 -- the entry isn't got and no end, no act of the log and no restart; it asks for no commit or rollback, ends no time, is no answer to promote, and nobody comes
@@ -381,3 +382,49 @@ m_ended_at w c Down = m_local_down (half w) c
 -- what stands after the call
 pub m_called : (t : ℕ) (w : World) (c : Call) (a : Answer) → is_ending_call c ≡ false → Mild (facts_if (has_facts a) (facts_at t w c a))
 m_called t w c a n = m_facts_if (has_facts a) (m_facts_at t w c a n)
+
+-- Who passes what is mild, and what asks for the commit or a rollback, ends the time or answers to promote, passes the blocks of the local side, but that of a reenlistment.
+pub record IsWide (p : Entry → Bool) : Type 0 where
+  pub mild : (x : Entry) → is_mild x ≡ true → p x ≡ true
+  pub commit : p CommitAsked ≡ true
+  pub rollback : p RollbackAsked ≡ true
+  pub timeout : p TimedOut ≡ true
+  pub promise : (e : EnlNo) (ok : Bool) → p (PromoteReply e ok) ≡ true
+
+pub wide_mild : (p : Entry → Bool) → IsWide p → (es : List Entry) → Mild es → each p es ≡ true
+wide_mild p w es q = each_more is_mild p w.mild es q.proof
+
+wide_cons : (p : Entry → Bool) → IsWide p → (x : Entry) (es : List Entry) → p x ≡ true → Mild es → each p (x ∷ es) ≡ true
+wide_cons p w x es k q = m_both (p x) (each p es) k (wide_mild p w es q)
+
+wide_if : (p : Entry → Bool) (f : Bool) (es : List Entry) → each p es ≡ true → each p (facts_if f es) ≡ true
+wide_if p true es k = k
+wide_if p false es k = refl
+
+wide_tick : (p : Entry → Bool) → IsWide p → (k : Half) (n : ℕ) (r l : Bool) → each p (Clock n ∷ (if r then (if l then Late ∷ [] else TimedOut ∷ veto k) else [])) ≡ true
+wide_tick p w k n false l = wide_mild p w (Clock n ∷ []) (m_one (Clock n) refl)
+wide_tick p w k n true true = wide_mild p w (Clock n ∷ Late ∷ []) (m_cons (Clock n) refl (m_one Late refl))
+wide_tick p w k n true false = m_both (p (Clock n)) (each p (TimedOut ∷ veto k)) (w.mild (Clock n) refl) (wide_cons p w TimedOut (veto k) w.timeout (m_veto k))
+
+abbrev pub is_reenlistment : Call → Bool
+is_reenlistment (Reenlist e) = true
+is_reenlistment _ = false
+
+pub wide_called : (p : Entry → Bool) → IsWide p → (t : ℕ) (w : World) (c : Call) (a : Answer) → is_reenlistment c ≡ false → each p (facts_if (has_facts a) (facts_at t w c a)) ≡ true
+wide_called p q t w (Commit u) a n =
+    let b = has is_open_rollback (half w).seen.clones in
+    wide_if p (has_facts a) (CommitAsked ∷ veto_if b (sees (half w) CommitAsked)) (wide_cons p q CommitAsked (veto_if b (sees (half w) CommitAsked)) q.commit (m_veto_if b (sees (half w) CommitAsked)))
+wide_called p q t w (Rollback u) a n =
+    wide_if p (has_facts a) (RollbackAsked ∷ veto (sees (half w) RollbackAsked)) (wide_cons p q RollbackAsked (veto (sees (half w) RollbackAsked)) q.rollback (m_veto (sees (half w) RollbackAsked)))
+wide_called p q t w (Tick u i) a n =
+    let o = (half w).seen in
+    let c = ticked o.clock i in
+    wide_if p (has_facts a) (Clock c ∷ (if reaches o.limit o.clock c then (if is_late o then Late ∷ [] else TimedOut ∷ veto (half w)) else [])) (wide_tick p q (half w) c (reaches o.limit o.clock c) (is_late o))
+wide_called p q t w (Reenlist e) a n = absurd cc
+wide_called p q t w c a n = wide_mild p q (facts_if (has_facts a) (facts_at t w c a)) (m_called t w c a refl)
+
+pub wide_reply : (p : Entry → Bool) → IsWide p → (h : Half) (e : EnlNo) (r : Reply) → each p (reply_entries h e r) ≡ true
+unfolding reply_entries
+wide_reply p q h e (PromoteAnswer true) = wide_cons p q (PromoteReply e true) (Sent Begin Up BeginBegin ∷ []) (q.promise e true) (m_one (Sent Begin Up BeginBegin) refl)
+wide_reply p q h e (PromoteAnswer false) = wide_cons p q (PromoteReply e false) (veto (sees h (PromoteReply e false))) (q.promise e false) (m_veto (sees h (PromoteReply e false)))
+wide_reply p q h e r = wide_mild p q (reply_entries h e r) (m_reply h e r refl)

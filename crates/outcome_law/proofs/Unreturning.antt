@@ -1,25 +1,23 @@
 -- Where nothing was lost nobody comes back, in each world that steps made: the connection of whose ENLISTED was got is open, so a reenlistment is refused. So in a history of a
 -- script in which nothing was lost, each that came back was told.
-use Rattle.std.proofs.Common.{◌≡◌, ℕ, Bool, true, false, ◌&&◌, ◌||◌, List, [], ◌∷◌, Option, Some, None, refl, ◌∙◌, ap, subst, sym, if◌then◌else◌}
+use Rattle.std.proofs.Common.{◌≡◌, ℕ, Bool, true, false, ◌&&◌, ◌||◌, List, [], ◌∷◌, Option, Some, None, refl, ap, subst, sym, if◌then◌else◌}
 use Rattle.std.specs.Prelude.{find, is_some, not}
 use Rattle.std.proofs.lemmas.Bool.{or_left}
 use Rattle.dtx_values.specs.declared.call.Call.{Call}
-use Rattle.dtx_values.specs.declared.call.Call.TheVariants.{Commit, Reenlist, Rollback, Tick}
+use Rattle.dtx_values.specs.declared.call.Call.TheVariants.{Reenlist}
 use Rattle.dtx_values.specs.declared.entry.Answer.{Answer}
 use Rattle.dtx_values.specs.declared.entry.Answer.TheVariants.{Connected, Finished, NoSuch, Over}
 use Rattle.dtx_values.specs.declared.entry.Entry.{Entry}
-use Rattle.dtx_values.specs.declared.entry.Entry.TheVariants.{Called, Clock, CommitAsked, Down as Ended, Freed, Got, Late, LogFull, Logged, PromoteReply, Reenlisted, Restarted, RollbackAsked, Sent, Stopped, TimedOut}
+use Rattle.dtx_values.specs.declared.entry.Entry.TheVariants.{Called, LogFull, Logged, Reenlisted, Sent, Stopped}
 use Rattle.dtx_values.specs.declared.message.Conn.{Conn}
 use Rattle.dtx_values.specs.declared.message.Conn.TheVariants.{Again, Enl}
 use Rattle.dtx_values.specs.declared.message.Dir.{Dir}
 use Rattle.dtx_values.specs.declared.message.Dir.TheVariants.{Up, Down}
 use Rattle.dtx_values.specs.declared.message.Message.{Message}
 use Rattle.dtx_values.specs.declared.message.Message.TheVariants.{ReenlistReenlist}
-use Rattle.dtx_values.specs.declared.note.Reply.TheVariants.{Promote}
 use Rattle.dtx_values.specs.declared.number.ActorNo.{ActorNo}
 use Rattle.dtx_values.specs.declared.number.EnlNo.{EnlNo}
 use Rattle.dtx_values.specs.declared.script.Line.{Line}
-use Rattle.dtx_values.specs.Clones.{is_open_rollback}
 use Rattle.dtx_values.specs.Ends.{is_in}
 use Rattle.dtx_model.specs.declared.branch.Branch.{Branch}
 use Rattle.dtx_model.specs.Words.{each, has, onto}
@@ -27,27 +25,26 @@ use Rattle.dtx_model.specs.Observed.{is_branch}
 use Rattle.dtx_model.specs.Promotes.{identifier_of, is_enlisted_got}
 use Rattle.dtx_model.specs.Wires.{in_transit, is_ended, lost_since}
 use Rattle.dtx_model.specs.Coordinated.{Coordinated, abort_sends, commit_sends, core_got, follow, may_log}
-use Rattle.dtx_model.specs.Half.{Half, info, reenlist_sent, sees, veto, veto_if}
+use Rattle.dtx_model.specs.Half.{info}
 use Rattle.dtx_model.specs.Arrivals.{local_got}
 use Rattle.dtx_model.specs.Acts.{act_entries}
 use Rattle.dtx_model.specs.Answers.{if_begun}
-use Rattle.dtx_model.specs.Facts.{facts_if, has_facts, is_late, reaches, ticked}
+use Rattle.dtx_model.specs.Facts.{facts_if, has_facts}
 use Rattle.dtx_model.specs.Replies.{reply_entries}
-use Rattle.dtx_model.specs.World.{World, answer_at, branch_answer, core, facts_at, half, has_left, is_connected, is_finished_there, is_linked, reenlist_answer, reenlist_by, reenlist_facts, unless_stopped}
+use Rattle.dtx_model.specs.World.{World, answer_at, branch_answer, core, facts_at, half, has_left, is_connected, is_finished_there, is_linked, reenlist_by, reenlist_facts, unless_stopped}
 use Rattle.dtx_model.specs.Steps.{LogAnswer, Done, Full, StoppedBefore, StoppedNow, Step, Calls, Replies, Acts, Coordinates, Delivers, Stops, Restarts, after, appended, block_at, coordinates, delivered, ended_at, freed, restarted}
-use Rattle.dtx_model.specs.Caused.{AreMadeOnce, Caused, IsCallOf, Ran}
+use Rattle.dtx_model.specs.Caused.{Caused, IsCallOf, Ran}
 use Rattle.dtx_model.specs.Grammar.{are_named_well}
 use Rattle.dtx_model.specs.History.{AreAnswered, is_loss}
-use Rattle.dtx_model.proofs.Bools.{and_both, and_left, and_right, not_both, or_false, or_right}
-use Rattle.dtx_model.proofs.Reading.{has-onto}
+use Rattle.dtx_model.proofs.Bools.{and_left, and_right, not_both, not_true, or_false}
 use Rattle.outcome_law.proofs.Names.{script_once}
-use Rattle.outcome_law.proofs.Keeping.{Keeps, keeps_before, newest}
-use Rattle.outcome_law.proofs.Whole.{whole, whole_of}
+use Rattle.outcome_law.proofs.Keeping.{newest}
+use Rattle.outcome_law.proofs.Whole.{whole_of}
 use Rattle.outcome_law.proofs.OpenedRows.{kept_opened}
 use Rattle.outcome_law.proofs.Arrived.{stays}
 use Rattle.outcome_law.proofs.Openings.{unseen}
 use Rattle.outcome_law.proofs.Marks.{opened_if_enlisted}
-use Rattle.outcome_law.proofs.MildBlocks.{is_mild, m_abort, m_act, m_called, m_commit, m_core_got, m_ended_at, m_local_got, m_reply, m_veto, m_veto_if}
+use Rattle.outcome_law.proofs.MildBlocks.{IsWide, Mild, is_mild, m_abort, m_act, m_commit, m_core_got, m_ended_at, m_local_got, wide_called, wide_mild, wide_reply}
 use Rattle.outcome_law.proofs.Announced.{IsUnlost, unlost_before, unlost_under}
 use Rattle.outcome_law.proofs.Steady.{free_keeps}
 use Rattle.outcome_law.proofs.UnstoppedTies.{unlost_tied}
@@ -57,16 +54,23 @@ use Rattle.outcome_law.proofs.Unreturned.{answered_where_none, is_reenlisted}
 abbrev IsAway : List Entry → Type 0
 IsAway h = has is_reenlisted h ≡ false
 
-mild_away : (es : List Entry) → each is_mild es ≡ true → has is_reenlisted es ≡ false
-mild_away [] q = refl
-mild_away (x ∷ es) q = or_false (is_reenlisted x) (has is_reenlisted es) (one x (and_left (is_mild x) (each is_mild es) q)) (mild_away es (and_right (is_mild x) (each is_mild es) q))
+abbrev is_away : Entry → Bool
+is_away x = not (is_reenlisted x)
+
+wide_away : IsWide is_away
+wide_away = record { mild = one; commit = refl; rollback = refl; timeout = refl; promise = λ e ok. refl }
   where
-    one : (x : Entry) → is_mild x ≡ true → is_reenlisted x ≡ false
+    one : (x : Entry) → is_mild x ≡ true → is_away x ≡ true
     one (Reenlisted e) q = absurd cc
     one _ q = refl
 
-both_away : (h es : List Entry) → has is_reenlisted es ≡ false → IsAway h → IsAway (onto h es)
-both_away h es q a = has-onto is_reenlisted h es ∙ or_false (has is_reenlisted es) (has is_reenlisted h) q a
+mild_away : (es : List Entry) → Mild es → each is_away es ≡ true
+mild_away es q = wide_mild is_away wide_away es q
+
+both_away : (h es : List Entry) → each is_away es ≡ true → IsAway h → IsAway (onto h es)
+both_away h [] q a = a
+both_away h (x ∷ es) q a =
+    both_away (x ∷ h) es (and_right (is_away x) (each is_away es) q) (or_false (is_reenlisted x) (has is_reenlisted h) (not_true (is_reenlisted x) (and_left (is_away x) (each is_away es) q)) a)
 
 -- whose ENLISTED was got is connected
 connected : (e : EnlNo) (h : List Entry) → IsUnlost h → has (is_enlisted_got e.value) h ≡ true → is_connected e h ≡ true
@@ -110,29 +114,10 @@ unfolding answer_at
 reenlist_away t w n a e i u r =
     returns t w n a (answer_at t w (Reenlist e) i) (find (is_branch e.value) (half w).seen.branches) (half w).seen.limit (has_facts (answer_at t w (Reenlist e) i)) refl u r
 
--- those of the other calls, of an answer to promote, of the log, of a delivery and of a restart
-commit_away : (k : Half) (f b : Bool) → has is_reenlisted (facts_if f (CommitAsked ∷ veto_if b k)) ≡ false
-commit_away k false b = refl
-commit_away k true b = mild_away (veto_if b k) (m_veto_if b k).proof
-
-rollback_away : (k : Half) (f : Bool) → has is_reenlisted (facts_if f (RollbackAsked ∷ veto k)) ≡ false
-rollback_away k false = refl
-rollback_away k true = mild_away (veto k) (m_veto k).proof
-
-tick_away : (k : Half) (n : ℕ) (f r l : Bool) → has is_reenlisted (facts_if f (Clock n ∷ (if r then (if l then Late ∷ [] else TimedOut ∷ veto k) else []))) ≡ false
-tick_away k n false r l = refl
-tick_away k n true false l = refl
-tick_away k n true true true = refl
-tick_away k n true true false = mild_away (veto k) (m_veto k).proof
-
-promote_away : (k : Half) (e : EnlNo) (ok : Bool) → has is_reenlisted (reply_entries k e (Promote ok)) ≡ false
-unfolding reply_entries
-promote_away k e true = refl
-promote_away k e false = mild_away (veto (sees k (PromoteReply e false))) (m_veto (sees k (PromoteReply e false))).proof
-
-log_away : (k : Coordinated) (b : Bool) (a : LogAnswer) → has is_reenlisted (if b then appended k a else freed a) ≡ false
-log_away k true Done = mild_away (commit_sends (follow k Logged)) (m_commit (follow k Logged)).proof
-log_away k true Full = mild_away (abort_sends (follow k LogFull)) (m_abort (follow k LogFull)).proof
+-- those of the log, of a delivery and of a restart
+log_away : (k : Coordinated) (b : Bool) (a : LogAnswer) → each is_away (if b then appended k a else freed a) ≡ true
+log_away k true Done = mild_away (commit_sends (follow k Logged)) (m_commit (follow k Logged))
+log_away k true Full = mild_away (abort_sends (follow k LogFull)) (m_abort (follow k LogFull))
 log_away k true StoppedNow = refl
 log_away k true StoppedBefore = refl
 log_away k false Done = refl
@@ -140,39 +125,24 @@ log_away k false Full = refl
 log_away k false StoppedNow = refl
 log_away k false StoppedBefore = refl
 
-delivered_away : (t : ℕ) (w : World) (c : Conn) (d : Dir) (ms : List Message) → has is_reenlisted (delivered t w c d ms) ≡ false
-delivered_away t w c d [] = mild_away (ended_at w c d) (m_ended_at w c d).proof
-delivered_away t w c Up (m ∷ ms) = mild_away (core_got (identifier_of t) (core w) c m) (m_core_got (identifier_of t) (core w) c m).proof
-delivered_away t w c Down (m ∷ ms) = mild_away (local_got t (half w) c m) (m_local_got t (half w) c m).proof
+delivered_away : (t : ℕ) (w : World) (c : Conn) (d : Dir) (ms : List Message) → each is_away (delivered t w c d ms) ≡ true
+delivered_away t w c d [] = mild_away (ended_at w c d) (m_ended_at w c d)
+delivered_away t w c Up (m ∷ ms) = mild_away (core_got (identifier_of t) (core w) c m) (m_core_got (identifier_of t) (core w) c m)
+delivered_away t w c Down (m ∷ ms) = mild_away (local_got t (half w) c m) (m_local_got t (half w) c m)
 
-restarted_away : (b found : Bool) → has is_reenlisted (restarted b found) ≡ false
+restarted_away : (b found : Bool) → each is_away (restarted b found) ≡ true
 restarted_away true found = refl
 restarted_away false found = refl
 
 -- after each step
 step_away : (t : ℕ) (w : World) (m : Step) → IsUnlost (after t w m).past → IsAway w.past → IsAway (after t w m).past
 unfolding after block_at
-step_away t w (Calls n a (Commit j) i) u r =
-    let y = answer_at t w (Commit j) i in
-    let b = has is_open_rollback (half w).seen.clones in
-    both_away w.past (Called n a y ∷ facts_if (has_facts y) (CommitAsked ∷ veto_if b (sees (half w) CommitAsked))) (commit_away (sees (half w) CommitAsked) (has_facts y) b) r
-step_away t w (Calls n a (Rollback j) i) u r =
-    let y = answer_at t w (Rollback j) i in
-    both_away w.past (Called n a y ∷ facts_if (has_facts y) (RollbackAsked ∷ veto (sees (half w) RollbackAsked))) (rollback_away (sees (half w) RollbackAsked) (has_facts y)) r
-step_away t w (Calls n a (Tick g j) i) u r =
-    let y = answer_at t w (Tick g j) i in
-    let o = (half w).seen in
-    let c = ticked o.clock j in
-    both_away w.past (Called n a y ∷ facts_if (has_facts y) (Clock c ∷ (if reaches o.limit o.clock c then (if is_late o then Late ∷ [] else TimedOut ∷ veto (half w)) else [])))
-    (tick_away (half w) c (has_facts y) (reaches o.limit o.clock c) (is_late o)) r
 step_away t w (Calls n a (Reenlist e) i) u r = reenlist_away t w n a e i u r
 step_away t w (Calls n a c i) u r =
     let y = answer_at t w c i in
-    let es = facts_if (has_facts y) (facts_at t w c y) in
-    both_away w.past (Called n a y ∷ es) (mild_away es (m_called t w c y refl).proof) r
-step_away t w (Replies e (Promote ok)) u r = both_away w.past (reply_entries (half w) e (Promote ok)) (promote_away (half w) e ok) r
-step_away t w (Replies e x) u r = both_away w.past (reply_entries (half w) e x) (mild_away (reply_entries (half w) e x) (m_reply (half w) e x refl).proof) r
-step_away t w Acts u r = both_away w.past (act_entries (half w)) (mild_away (act_entries (half w)) (m_act (half w)).proof) r
+    both_away w.past (Called n a y ∷ facts_if (has_facts y) (facts_at t w c y)) (wide_called is_away wide_away t w c y refl) r
+step_away t w (Replies e x) u r = both_away w.past (reply_entries (half w) e x) (wide_reply is_away wide_away (half w) e x) r
+step_away t w Acts u r = both_away w.past (act_entries (half w)) (mild_away (act_entries (half w)) (m_act (half w))) r
 step_away t w (Coordinates x) u r = both_away w.past (coordinates (core w) x) (log_away (core w) (may_log (core w)) x) r
 step_away t w (Delivers c d) u r = both_away w.past (delivered t w c d (in_transit c d w.past)) (delivered_away t w c d (in_transit c d w.past)) r
 step_away t w Stops u r = both_away w.past (Stopped ∷ []) refl r

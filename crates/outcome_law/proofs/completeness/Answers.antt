@@ -9,6 +9,7 @@ use Rattle.outcome_law.proofs.Promised.{caused_commits}
 use Rattle.outcome_law.proofs.Settlings.{settled_act, settled_unplanned}
 use Rattle.outcome_law.proofs.Silent.{told_or_waits}
 use Rattle.outcome_law.proofs.Told.{told_promoted}
+use Rattle.outcome_law.proofs.Unreturning.{answered_unlost}
 use Rattle.outcome_law.proofs.completeness.Goals as goal
 
 pub returns-clause-told : goal.returns-clause-told
@@ -26,3 +27,6 @@ returns-clause-committed c = λ s k t h named r settled can. caused_commits s k 
 
 pub returns-clause-answered : goal.returns-clause-answered
 returns-clause-answered c = λ s k t h named r u settled. ruled_answered (is_decided_there h) [] h (script_kept s t h named r.freely u).rules
+
+pub returns-clause-answered_unlost : goal.returns-clause-answered_unlost
+returns-clause-answered_unlost c = answered_unlost
