@@ -46,6 +46,7 @@ use Rattle.outcome_law.proofs.CoreKnown.{later_opened, work_begun}
 use Rattle.outcome_law.proofs.Unblamed.{no_end}
 use Rattle.outcome_law.proofs.MildBlocks.{IsWide, Mild, is_mild, m_abort, m_act, m_commit, m_core_got, m_local_got, wide_called, wide_mild, wide_reply}
 
+-- where the coordinator has decided, it sent its decision on b
 abbrev pub IsAnnounced : List Entry → Type 0
 IsAnnounced h = is_undecided (coordinate h).stage ≡ false → has (is_sent_on Begin Down OUTCOME) h ≡ true
 
@@ -54,6 +55,7 @@ pub record IsUnlost (h : List Entry) : Type 0 where
   pub keeps : Keeps h
   pub unlost : has is_loss h ≡ false
 
+-- it was so before its newest entry, and before a block
 pub unlost_before : (x : Entry) (h : List Entry) → IsUnlost (x ∷ h) → IsUnlost h
 unlost_before x h u = record { keeps = keeps_before x h u.keeps; unlost = or_second (is_loss x) (has is_loss h) u.unlost }
 

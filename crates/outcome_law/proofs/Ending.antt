@@ -59,6 +59,7 @@ pub record IsUnended (h : List Entry) : Type 0 where
   pub unended : has is_local_end h ≡ false
   pub in_time : always is_asked_in_time h ≡ true
 
+-- while nothing is decided
 abbrev pub IsGoingOn : List Entry → Type 0
 IsGoingOn h = has is_decision h ≡ false → IsUnended h
 

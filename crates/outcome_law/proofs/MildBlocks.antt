@@ -71,20 +71,21 @@ is_mild (PromoteReply e ok) = false
 is_mild (Reenlisted e) = false
 is_mild _ = true
 
+-- a list of such entries, and how such lists are made of others
 pub record Mild (es : List Entry) : Type 0 where
   pub proof : each is_mild es ≡ true
 
-pub m_none : Mild []
+m_none : Mild []
 m_none = record { proof = refl }
 
-pub m_cons : (x : Entry) {es : List Entry} → is_mild x ≡ true → Mild es → Mild (x ∷ es)
+m_cons : (x : Entry) {es : List Entry} → is_mild x ≡ true → Mild es → Mild (x ∷ es)
 m_cons x {es} p q = record { proof = both (is_mild x) (each is_mild es) p q.proof }
   where
     both : (a b : Bool) → a ≡ true → b ≡ true → (a && b) ≡ true
     both true b p q = q
     both false b p q = absurd cc
 
-pub m_if : (b : Bool) {x y : List Entry} → Mild x → Mild y → Mild (if b then x else y)
+m_if : (b : Bool) {x y : List Entry} → Mild x → Mild y → Mild (if b then x else y)
 m_if true p q = p
 m_if false p q = q
 
@@ -95,7 +96,7 @@ m_both false b p q = absurd cc
 m_join : {x y : List Entry} → Mild x → Mild y → Mild (x ++ y)
 m_join {x} {y} p q = record { proof = list_all-append is_mild x y ∙ m_both (each is_mild x) (each is_mild y) p.proof q.proof }
 
-pub m_one : (x : Entry) → is_mild x ≡ true → Mild (x ∷ [])
+m_one : (x : Entry) → is_mild x ≡ true → Mild (x ∷ [])
 m_one x p = m_cons x p m_none
 
 m_map : {A : Type 0} (f : A → Entry) → ((a : A) → is_mild (f a) ≡ true) → (xs : List A) → Mild (map f xs)
@@ -153,6 +154,7 @@ m_decide h x = m_join (m_fails (is_promoting h.seen)) (m_cons (Decided x) refl (
 m_message : (o : Observed) → Mild (veto_message o)
 m_message o = m_if (may_abort_by_begin o.ends) (m_one (Sent Begin Up BeginAbort) refl) (m_if (may_abort_by_voter o.ends) (m_one (Sent Voter Up VoterNo) refl) m_none)
 
+-- a veto
 pub m_veto : (h : Half) → Mild (veto h)
 unfolding veto
 m_veto h = m_join (m_decide h Aborted) (m_message h.seen)
@@ -233,6 +235,7 @@ m_arrived t h Voter m = m_voter t h m
 m_arrived t h (Enl e) m = m_enlist t h e m
 m_arrived t h (Again e) m = m_again h e m
 
+-- what the local side does after a message
 pub m_local_got : (t : ℕ) (h : Half) (c : Conn) (m : Message) → Mild (local_got t h c m)
 unfolding local_got
 m_local_got t h c m = m_arrived t (sees h (Got c Down m)) c m
@@ -264,7 +267,7 @@ m_yes o = m_if o.yes m_none (m_cons LocalYes refl (m_up o Voter VoterYes))
 m_voter_act : (h : Half) → Mild (voter_act h)
 m_voter_act h = m_if (was_got Voter (tag_of VoterAsk) h.seen.ends) (m_after_seal h (m_yes h.seen)) m_none
 
-pub m_commit_sent : (o : Observed) → Mild (commit_sent o)
+m_commit_sent : (o : Observed) → Mild (commit_sent o)
 m_commit_sent o = m_if (o.promoted && not (is_some (promotable_in o.table))) (m_up o Begin BeginCommit) m_none
 
 m_promoted_act : (h : Half) (o : Option EnlNo) → Mild (promoted_act h o)
@@ -289,6 +292,7 @@ m_act_by : (h : Half) (x : Option Outcome) → Mild (act_by x h)
 m_act_by h (Some x) = m_tell x (find (is_to_tell h.seen x) h.seen.listeners) h.seen.told_client
 m_act_by h None = m_undecided_act h (unasked_promotable h.seen)
 
+-- the local act is mild
 pub m_act : (h : Half) → Mild (act_entries h)
 unfolding act_entries
 m_act h = m_act_by h h.seen.decided
@@ -342,6 +346,7 @@ is_ending_call (Tick u n) = true
 is_ending_call (Reenlist e) = true
 is_ending_call _ = false
 
+-- what stands after the call
 pub m_facts : (t : ℕ) (h : Half) (c : Call) (a : Answer) → is_ending_call c ≡ false → Mild (local_facts t h c a)
 m_facts t h (BeginCall u d) a n = m_one (Began (limit_of d)) refl
 m_facts t h (Volatile u e x v) a n = m_one (Enlisted e (class_of x)) refl
@@ -356,7 +361,7 @@ m_facts t h (Tick u i) a n = absurd cc
 m_facts t h (Reenlist e) a n = absurd cc
 m_facts t h _ a n = m_none
 
-pub m_gone_decides : (h : Half) (e : EnlNo) → Mild (gone_decides h e)
+m_gone_decides : (h : Half) (e : EnlNo) → Mild (gone_decides h e)
 m_gone_decides h e = m_if (is_some h.seen.decided || voted e.value h.seen.table) m_none (m_if (is_handed h.seen.handed e.value) (m_decide h InDoubt) (m_veto h))
 
 m_gone : (w : World) (e : EnlNo) (cs : List Conn) → Mild (gone_by w e cs)
@@ -383,7 +388,8 @@ m_ended_at w c Down = m_local_down (half w) c
 pub m_called : (t : ℕ) (w : World) (c : Call) (a : Answer) → is_ending_call c ≡ false → Mild (facts_if (has_facts a) (facts_at t w c a))
 m_called t w c a n = m_facts_if (has_facts a) (m_facts_at t w c a n)
 
--- Who passes what is mild, and what asks for the commit or a rollback, ends the time or answers to promote, passes the blocks of the local side, but that of a reenlistment.
+-- A test that passes what is mild, and what asks for the commit or a rollback, ends the time or answers to promote: it passes each block of the local side but that of a
+-- reenlistment, and what was got.
 pub record IsWide (p : Entry → Bool) : Type 0 where
   pub mild : (x : Entry) → is_mild x ≡ true → p x ≡ true
   pub commit : p CommitAsked ≡ true
@@ -391,6 +397,7 @@ pub record IsWide (p : Entry → Bool) : Type 0 where
   pub timeout : p TimedOut ≡ true
   pub promise : (e : EnlNo) (ok : Bool) → p (PromoteReply e ok) ≡ true
 
+-- it passes a mild list
 pub wide_mild : (p : Entry → Bool) → IsWide p → (es : List Entry) → Mild es → each p es ≡ true
 wide_mild p w es q = each_more is_mild p w.mild es q.proof
 
@@ -406,10 +413,12 @@ wide_tick p w k n false l = wide_mild p w (Clock n ∷ []) (m_one (Clock n) refl
 wide_tick p w k n true true = wide_mild p w (Clock n ∷ Late ∷ []) (m_cons (Clock n) refl (m_one Late refl))
 wide_tick p w k n true false = m_both (p (Clock n)) (each p (TimedOut ∷ veto k)) (w.mild (Clock n) refl) (wide_cons p w TimedOut (veto k) w.timeout (m_veto k))
 
+-- the call brings back an enlistment
 abbrev pub is_reenlistment : Call → Bool
 is_reenlistment (Reenlist e) = true
 is_reenlistment _ = false
 
+-- so it passes what stands after any other call
 pub wide_called : (p : Entry → Bool) → IsWide p → (t : ℕ) (w : World) (c : Call) (a : Answer) → is_reenlistment c ≡ false → each p (facts_if (has_facts a) (facts_at t w c a)) ≡ true
 wide_called p q t w (Commit u) a n =
     let b = has is_open_rollback (half w).seen.clones in
@@ -423,6 +432,7 @@ wide_called p q t w (Tick u i) a n =
 wide_called p q t w (Reenlist e) a n = absurd cc
 wide_called p q t w c a n = wide_mild p q (facts_if (has_facts a) (facts_at t w c a)) (m_called t w c a refl)
 
+-- and the block of a reply
 pub wide_reply : (p : Entry → Bool) → IsWide p → (h : Half) (e : EnlNo) (r : Reply) → each p (reply_entries h e r) ≡ true
 unfolding reply_entries
 wide_reply p q h e (PromoteAnswer true) = wide_cons p q (PromoteReply e true) (Sent Begin Up BeginBegin ∷ []) (q.promise e true) (m_one (Sent Begin Up BeginBegin) refl)
