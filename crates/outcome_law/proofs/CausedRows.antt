@@ -1,6 +1,6 @@
 -- Rows that the joint table gives of what is bad: whoever replies was made with a class that does, and a refusal, an abort, a doubt and what tells them have their cause.
 use Rattle.std.proofs.Common.{◌≡◌, ℕ, ◌==◌, Bool, true, false, ◌&&◌, ◌||◌, List, [], ◌∷◌, refl, ap, sym, ◌∙◌}
-use Rattle.std.specs.Prelude.{filter, not, if◌then◌else◌}
+use Rattle.std.specs.Prelude.{not}
 use Rattle.std.proofs.lemmas.Bool.{or_left}
 use Rattle.dtx_values.specs.declared.entry.Entry.{Entry}
 use Rattle.dtx_values.specs.declared.entry.Entry.TheVariants.{Enlisted, Voted, PromoteReply, Requested, OwnerAnswered, Decided, Told, PromotionFailed, Sent, Got, Restarted}
@@ -23,9 +23,10 @@ use Rattle.dtx_model.specs.Entries.{decision_of, is_decision, is_hand, is_promot
 use Rattle.dtx_model.specs.Learned.{coordinator_aborted}
 use Rattle.dtx_model.specs.Outcome.{can_own, durables, enlisted, evidence, hears_doubt, is_veto}
 use Rattle.dtx_model.specs.Promotes.{ends_refused, ends_told, is_refusal, is_under_way}
-use Rattle.dtx_model.proofs.Bools.{and_both, and_right, or_case, or_right}
+use Rattle.dtx_model.proofs.Bools.{and_both, and_left, and_right, or_case, or_right}
 use Rattle.outcome_law.proofs.Tests.{first_of_three, second_of_three, first_of_five, fourth_of_four}
 use Rattle.outcome_law.proofs.Scans.{has_more}
+use Rattle.outcome_law.proofs.Owned.{has_filter}
 use Rattle.outcome_law.proofs.Rule.{is_answer, is_certain, is_decided, is_enlisted, is_only}
 use Rattle.outcome_law.proofs.Going.{is_no_vote}
 use Rattle.outcome_law.proofs.Fine.{any_class, blames, ends_aborted, ends_requested, has_cause, is_caused, is_made, is_restart}
@@ -45,28 +46,17 @@ made_enlisted e (Enlisted f c) k = and_both (e == f.value) true k refl
 made_enlisted e _ k = absurd cc
 
 -- the only durable or promotable stands, and can own the commit
-kept_has : (e : ℕ) (q : Class → Bool) (xs : List (EnlNo × Class)) → has (λ x. (e == x.0.value) && q x.1) (filter (λ x. not (is_volatile x.1)) xs) ≡ true → has (λ x. (e == x.0.value) && q x.1) xs ≡ true
-kept_has e q [] k = k
-kept_has e q (x ∷ xs) k = step (not (is_volatile x.1)) (kept_has e q xs) k
-  where
-    own : Bool
-    own = (e == x.0.value) && q x.1
-
-    ds : List (EnlNo × Class)
-    ds = filter (λ x. not (is_volatile x.1)) xs
-
-    step : (b : Bool) → (has (λ x. (e == x.0.value) && q x.1) ds ≡ true → has (λ x. (e == x.0.value) && q x.1) xs ≡ true) → has (λ x. (e == x.0.value) && q x.1) (if b then x ∷ ds else ds) ≡ true
-        → (own || has (λ x. (e == x.0.value) && q x.1) xs) ≡ true
-    step true f k = or_case own (has (λ x. (e == x.0.value) && q x.1) ds) (λ a. or_left own (has (λ x. (e == x.0.value) && q x.1) xs) a) (λ a. or_right own (has (λ x. (e == x.0.value) && q x.1) xs) (f a)) k
-    step false f k = or_right own (has (λ x. (e == x.0.value) && q x.1) xs) (f k)
-
 only_has : (e : ℕ) (ds : List (EnlNo × Class)) → is_only e ds ≡ true → has (λ x. (e == x.0.value) && can_own x.1) ds ≡ true
 only_has e [] k = absurd cc
 only_has e (x ∷ []) k = or_left ((e == x.0.value) && can_own x.1) false k
 only_has e (x ∷ y ∷ ds) k = absurd cc
 
 handed_made : (e : ℕ) (h : List Entry) → Keeps h → has (is_hand e) h ≡ true → has (is_made e can_own) h ≡ true
-handed_made e h k s = sym (listed_made e can_own h) ∙ kept_has e can_own (enlisted h) (only_has e (durables h) (hand_stands e h k s).alone)
+handed_made e h k s =
+    let owner : EnlNo × Class → Bool = λ x. (e == x.0.value) && can_own x.1 in
+    sym (listed_made e can_own h)
+    ∙ has_more (λ x. owner x && not (is_volatile x.1)) owner (λ x t. and_left (owner x) (not (is_volatile x.1)) t) (enlisted h)
+    (sym (has_filter owner (λ x. not (is_volatile x.1)) (enlisted h)) ∙ only_has e (durables h) (hand_stands e h k s).alone)
 
 -- what the local side aborts after is a veto, a refusal or an abort that was told
 called_refused : (h : List Entry) → ends_called_off h ≡ true → ends_refused h ≡ true

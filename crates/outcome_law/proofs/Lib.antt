@@ -163,3 +163,4 @@ pub mod SealedRows
 pub mod WellRows
 pub mod UnstoppedTies
 pub mod Promised
+pub mod CommitExample

@@ -1,11 +1,11 @@
 -- In each world that steps made, whose history keeps the table: once it is sealed, each enlistment of which the coordinator got ENLIST stands. So whoever is asked to prepare
 -- was enlisted.
-use Rattle.std.proofs.Common.{◌≡◌, ℕ, ◌==◌, Bool, true, false, ◌&&◌, ◌||◌, inl, inr, List, [], ◌∷◌, Option, Some, None, refl, sym, subst, ap, ◌∙◌}
+use Rattle.std.proofs.Common.{◌≡◌, ℕ, ◌==◌, Bool, true, false, ◌&&◌, ◌||◌, inl, inr, List, [], ◌∷◌, Some, None, refl, sym, subst, ap, ◌∙◌}
 use Rattle.std.specs.Prelude.{find, is_some, not, if◌then◌else◌}
 use Rattle.std.proofs.lemmas.Bool.{eqb-true, or_left}
 use Rattle.dtx_values.specs.declared.call.Call.{Call}
 use Rattle.dtx_values.specs.declared.entry.Entry.{Entry}
-use Rattle.dtx_values.specs.declared.entry.Entry.TheVariants.{Asked, Called, Down as Ended, Got, Promoting, Restarted, Sealed, Sent, Stopped}
+use Rattle.dtx_values.specs.declared.entry.Entry.TheVariants.{Asked, Called, Down as Ended, Got, Restarted, Sealed, Sent, Stopped}
 use Rattle.dtx_values.specs.declared.entry.Ask.TheVariants.{Prepare, Promote, Single}
 use Rattle.dtx_values.specs.declared.message.Conn.{Conn}
 use Rattle.dtx_values.specs.declared.message.Conn.TheVariants.{Begin, Voter, Enl, Again}
@@ -15,14 +15,11 @@ use Rattle.dtx_values.specs.declared.message.Message.{Message}
 use Rattle.dtx_values.specs.declared.message.Message.TheVariants.{EnlistEnlist, EnlistEnlisted, EnlistPrepare}
 use Rattle.dtx_values.specs.declared.number.ActorNo.{ActorNo}
 use Rattle.dtx_values.specs.declared.number.EnlNo.{EnlNo}
-use Rattle.dtx_values.specs.declared.row.Row.{Row}
 use Rattle.dtx_values.specs.Ends.{same_connection}
 use Rattle.dtx_values.specs.Lines.{has_line, is_opening}
-use Rattle.dtx_values.specs.Owners.{lasting, only, owner_of}
-use Rattle.dtx_values.specs.Row.{is_lasting, is_of}
 use Rattle.dtx_model.specs.Words.{always, each, has, latest, onto}
 use Rattle.dtx_model.specs.Entries.{decision_of, is_asked, is_commit, is_commit_got, is_decision, is_promoted, is_sealed}
-use Rattle.dtx_model.specs.Observed.{handover, observe, rows, track}
+use Rattle.dtx_model.specs.Observed.{handover, observe, track}
 use Rattle.dtx_model.specs.Promotes.{identifier_of, is_failed, is_promoting, is_under_way}
 use Rattle.dtx_model.specs.Wires.{MayCross, in_transit, is_next, opens}
 use Rattle.dtx_model.specs.declared.waiting.EnteredCall.{EnteredCall}
@@ -39,12 +36,11 @@ use Rattle.dtx_model.specs.Steps.{Step, Calls, Replies, Acts, Coordinates, Deliv
 use Rattle.dtx_model.specs.Caused.{Ran}
 use Rattle.dtx_model.proofs.Bools.{and_both, and_left, and_never, and_right, not_both, or_case, or_right, or_second}
 use Rattle.dtx_model.proofs.Reading.{has-onto}
-use Rattle.outcome_law.proofs.Tests.{eq_self, third_of_four, fourth_of_four}
+use Rattle.outcome_law.proofs.Tests.{third_of_four, fourth_of_four}
 use Rattle.outcome_law.proofs.Scans.{has_more}
 use Rattle.outcome_law.proofs.Rule.{is_enlisted}
 use Rattle.outcome_law.proofs.Messages.{ENLIST, ENLISTED, PREPARE}
 use Rattle.outcome_law.proofs.SameRows.{is_asked_there}
-use Rattle.outcome_law.proofs.TableRows.{enlisted_in_rows}
 use Rattle.outcome_law.proofs.Owned.{decision_seen}
 use Rattle.outcome_law.proofs.HalfKnows.{way_seen}
 use Rattle.outcome_law.proofs.HalfRows.{sealed_if_commit, volatile_stands}
@@ -55,6 +51,7 @@ use Rattle.outcome_law.proofs.Crossed.{got_sent, is_got_on, is_sent_on, same_con
 use Rattle.outcome_law.proofs.CoreKnown.{sent_opened_there}
 use Rattle.outcome_law.proofs.Leading.{opening_was_sent}
 use Rattle.outcome_law.proofs.Standing.{ends_has}
+use Rattle.outcome_law.proofs.Climbed.{handover_stands}
 use Rattle.outcome_law.proofs.Marks.{keeps_under}
 use Rattle.outcome_law.proofs.BeforeRows.{prepare_on}
 use Rattle.outcome_law.proofs.ByTable.{ruled_later}
@@ -127,35 +124,6 @@ no_enlisted e c m n = ap (λ b. same_connection (Enl e) c && true && b) n ∙ an
 
 no_enlist : (e : EnlNo) (c : Conn) (m : Message) → ENLIST m ≡ false → is_got_on (Enl e) Up ENLIST (Got c Up m) ≡ false
 no_enlist e c m n = ap (λ b. same_connection (Enl e) c && true && b) n ∙ and_never (same_connection (Enl e) c && true)
-
--- The handover stands.
-only_there : (e : EnlNo) (xs : List Row) → only (lasting xs) ≡ Some e → has (is_of e.value) xs ≡ true
-only_there e xs q = filtered xs (alone (lasting xs) q)
-  where
-    alone : (ys : List Row) → only ys ≡ Some e → has (is_of e.value) ys ≡ true
-    alone [] q = absurd cc
-    alone (x ∷ []) q = let same : x.number ≡ e = cc in or_left (e.value == x.number.value) false (subst (λ (f : EnlNo). (f.value == x.number.value) ≡ true) same (eq_self x.number.value))
-    alone (x ∷ y ∷ ys) q = absurd cc
-
-    filtered : (xs : List Row) → has (is_of e.value) (lasting xs) ≡ true → has (is_of e.value) xs ≡ true
-    filtered [] k = k
-    filtered (x ∷ xs) k = step (is_lasting x) (filtered xs) k
-      where
-        step : (b : Bool) → (has (is_of e.value) (lasting xs) ≡ true → has (is_of e.value) xs ≡ true) → has (is_of e.value) (if b then x ∷ lasting xs else lasting xs) ≡ true
-            → (is_of e.value x || has (is_of e.value) xs) ≡ true
-        step true f k =
-            or_case (is_of e.value x) (has (is_of e.value) (lasting xs)) (λ a. or_left (is_of e.value x) (has (is_of e.value) xs) a) (λ a. or_right (is_of e.value x) (has (is_of e.value) xs) (f a)) k
-        step false f k = or_right (is_of e.value x) (has (is_of e.value) xs) (f k)
-
-handover_stands : (e : EnlNo) (h : List Entry) → handover h ≡ Some e → has (is_enlisted e.value) h ≡ true
-unfolding owner_of
-handover_stands e [] q = absurd cc
-handover_stands e (Promoting c ∷ h) q = sym (enlisted_in_rows e.value h) ∙ only_there e (rows h) q
-handover_stands e (x ∷ h) q = or_right (is_enlisted e.value x) (has (is_enlisted e.value) h) (handover_stands e h q)
-
-handed_stands : (o : Option EnlNo) (e : ℕ) (h : List Entry) → handover h ≡ o → is_handed o e ≡ true → has (is_enlisted e) h ≡ true
-handed_stands None e h q t = absurd cc
-handed_stands (Some f) e h q t = subst (λ (n : ℕ). has (is_enlisted n) h ≡ true) (sym (eqb-true e f.value t)) (handover_stands f h q)
 
 -- ENLISTED comes: its enlistment is the handover's, or the call that waited has its place.
 opens_sends : (e : EnlNo) (x : Entry) → opens (Enl e) x ≡ true → is_sent_on (Enl e) Up ENLIST x ≡ true
@@ -237,7 +205,7 @@ enlisted_joins t w e k n c j = λ d f g.
         let N : ℕ → Type 0 = λ m. has (is_enlisted m) (onto (Got (Enl e) Down EnlistEnlisted ∷ w.past) block) ≡ true in
         subst N (sym (eqb-true f.value e.value q))
         (or_case (is_under_way w.past && is_handed (handover w.past) e.value) (has is_promoted w.past && has (is_place_of e.value) (waiting w.calls w.past))
-        (λ a. past_stands e.value (handed_stands (handover w.past) e.value w.past refl (and_right (is_under_way w.past) (is_handed (handover w.past) e.value) a)))
+        (λ a. past_stands e.value (handover_stands e.value w.past (and_right (is_under_way w.past) (is_handed (handover w.past) e.value) a)))
         (λ a. has-onto (is_enlisted e.value) (Got (Enl e) Down EnlistEnlisted ∷ w.past) block
         ∙ or_left (has (is_enlisted e.value) block) (has (is_enlisted e.value) w.past)
         (place_joins t w e u (and_left (has is_promoted w.past) (has (is_place_of e.value) (waiting w.calls w.past)) a) (and_right (has is_promoted w.past) (has (is_place_of e.value) (waiting w.calls w.past)) a)))
