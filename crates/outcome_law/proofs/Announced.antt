@@ -1,46 +1,42 @@
 -- In each world that steps made, in which nothing was lost: where the coordinator has decided, it sent its decision on b.
-use Rattle.std.proofs.Common.{◌≡◌, ℕ, Bool, true, false, ◌&&◌, ◌||◌, List, [], ◌∷◌, ◌++◌, refl, ◌∙◌, ap, subst, sym, if◌then◌else◌}
-use Rattle.std.specs.Prelude.{not}
+use Rattle.std.proofs.Common.{◌≡◌, ℕ, Bool, true, false, ◌&&◌, List, [], ◌∷◌, refl, ◌∙◌, ap, subst, sym, if◌then◌else◌, Option, Some, None}
+use Rattle.std.specs.Prelude.{find, not}
 use Rattle.std.proofs.lemmas.Bool.{or_left}
 use Rattle.dtx_values.specs.declared.call.Call.{Call}
-use Rattle.dtx_values.specs.declared.call.Call.TheVariants.{Commit, Rollback, Tick}
+use Rattle.dtx_values.specs.declared.call.Call.TheVariants.{Reenlist}
 use Rattle.dtx_values.specs.declared.entry.Entry.{Entry}
-use Rattle.dtx_values.specs.declared.entry.Entry.TheVariants.{Called, Clock, CommitAsked, Down as Ended, Freed, Got, Late, LogFull, Logged, PromoteReply, Restarted, RollbackAsked, Sent, Stopped, TimedOut}
+use Rattle.dtx_values.specs.declared.entry.Entry.TheVariants.{Called, Down as Ended, Freed, Got, LogFull, Logged, Restarted, Stopped}
 use Rattle.dtx_values.specs.declared.message.Conn.{Conn}
 use Rattle.dtx_values.specs.declared.message.Conn.TheVariants.{Begin, Voter, Enl, Again}
 use Rattle.dtx_values.specs.declared.message.Dir.{Dir}
 use Rattle.dtx_values.specs.declared.message.Dir.TheVariants.{Up, Down}
 use Rattle.dtx_values.specs.declared.message.Message.{Message}
 use Rattle.dtx_values.specs.declared.message.Message.TheVariants.{BeginBegin, BeginCommit, VoterVoter, EnlistEnlist, ReenlistReenlist}
-use Rattle.dtx_values.specs.declared.note.Reply.TheVariants.{Promote}
 use Rattle.dtx_values.specs.declared.number.ActorNo.{ActorNo}
-use Rattle.dtx_values.specs.declared.number.EnlNo.{EnlNo}
 use Rattle.dtx_values.specs.Ends.{same_connection}
-use Rattle.dtx_values.specs.Clones.{is_open_rollback}
-use Rattle.dtx_values.specs.Lines.{has_line, is_opening}
+use Rattle.dtx_values.specs.Lines.{has_line}
 use Rattle.dtx_model.specs.declared.desk.Stage.{Stage}
 use Rattle.dtx_model.specs.declared.desk.Stage.TheVariants.{Idle, Active, Recorded}
 use Rattle.dtx_model.specs.Words.{each, has, onto}
+use Rattle.dtx_model.specs.declared.branch.Branch.{Branch}
+use Rattle.dtx_model.specs.Observed.{is_branch}
 use Rattle.dtx_model.specs.Promotes.{identifier_of}
-use Rattle.dtx_model.specs.Tied.{tied}
-use Rattle.dtx_model.specs.Wires.{WireRun, in_transit, is_stopped}
+use Rattle.dtx_model.specs.Wires.{in_transit, is_stopped}
 use Rattle.dtx_model.specs.Coordinated.{Coordinated, abort_if, abort_sends, aborts, begin_if, commit_sends, coordinate, core_got, follow, is_active, is_recorded, is_undecided, may_free, may_log, stage_after}
-use Rattle.dtx_model.specs.Half.{Half, sees, veto, veto_if}
 use Rattle.dtx_model.specs.Arrivals.{local_got}
 use Rattle.dtx_model.specs.Acts.{act_entries}
-use Rattle.dtx_model.specs.Facts.{facts_if, has_facts, is_late, reaches, ticked}
+use Rattle.dtx_model.specs.Facts.{facts_if, has_facts}
 use Rattle.dtx_model.specs.Replies.{reply_entries}
-use Rattle.dtx_model.specs.World.{World, answer_at, core, facts_at, half}
+use Rattle.dtx_model.specs.World.{World, answer_at, core, facts_at, half, reenlist_facts}
 use Rattle.dtx_model.specs.Steps.{LogAnswer, Done, Full, StoppedBefore, StoppedNow, Step, Calls, Replies, Acts, Coordinates, Delivers, Stops, Restarts, after, appended, block_at, coordinates, delivered, ended_at, freed, restarted}
 use Rattle.dtx_model.specs.Caused.{MayCome, Ran, may_coordinate}
 use Rattle.dtx_model.specs.History.{is_loss}
-use Rattle.dtx_model.proofs.Bools.{and_both, and_left, and_right, not_both, or_case, or_first, or_right, or_second}
+use Rattle.dtx_model.proofs.Bools.{and_both, and_left, and_right, not_both, or_case, or_right, or_second}
 use Rattle.dtx_model.proofs.Reading.{has-onto}
-use Rattle.outcome_law.proofs.Scans.{each_more, has_more}
-use Rattle.outcome_law.proofs.Whole.{is_got_on, is_sent_on, whole, whole_of}
+use Rattle.outcome_law.proofs.Scans.{has_more}
+use Rattle.outcome_law.proofs.Whole.{is_got_on, is_sent_on, whole_of}
 use Rattle.outcome_law.proofs.Messages.{OUTCOME}
 use Rattle.outcome_law.proofs.Table.{is_opening_got}
-use Rattle.outcome_law.proofs.Debts.{knows_there}
 use Rattle.outcome_law.proofs.Keeping.{Keeps, keeps_before}
 use Rattle.outcome_law.proofs.OpenedRows.{kept_opened}
 use Rattle.outcome_law.proofs.Arrived.{unstopped}
@@ -48,8 +44,9 @@ use Rattle.outcome_law.proofs.Knowledge.{got_known}
 use Rattle.outcome_law.proofs.CoreStages.{begun_if_active, stopped_same}
 use Rattle.outcome_law.proofs.CoreKnown.{later_opened, work_begun}
 use Rattle.outcome_law.proofs.Unblamed.{no_end}
-use Rattle.outcome_law.proofs.MildBlocks.{is_mild, m_abort, m_act, m_called, m_commit, m_core_got, m_local_got, m_reply, m_veto, m_veto_if}
+use Rattle.outcome_law.proofs.MildBlocks.{IsWide, Mild, is_mild, m_abort, m_act, m_commit, m_core_got, m_local_got, wide_called, wide_mild, wide_reply}
 
+-- where the coordinator has decided, it sent its decision on b
 abbrev pub IsAnnounced : List Entry → Type 0
 IsAnnounced h = is_undecided (coordinate h).stage ≡ false → has (is_sent_on Begin Down OUTCOME) h ≡ true
 
@@ -58,10 +55,11 @@ pub record IsUnlost (h : List Entry) : Type 0 where
   pub keeps : Keeps h
   pub unlost : has is_loss h ≡ false
 
-unlost_before : (x : Entry) (h : List Entry) → IsUnlost (x ∷ h) → IsUnlost h
+-- it was so before its newest entry, and before a block
+pub unlost_before : (x : Entry) (h : List Entry) → IsUnlost (x ∷ h) → IsUnlost h
 unlost_before x h u = record { keeps = keeps_before x h u.keeps; unlost = or_second (is_loss x) (has is_loss h) u.unlost }
 
-unlost_under : (h es : List Entry) → IsUnlost (onto h es) → IsUnlost h
+pub unlost_under : (h es : List Entry) → IsUnlost (onto h es) → IsUnlost h
 unlost_under h [] u = u
 unlost_under h (x ∷ es) u = unlost_before x h (unlost_under (x ∷ h) es u)
 
@@ -75,8 +73,8 @@ is_apart Freed = false
 is_apart (Restarted found) = false
 is_apart _ = true
 
-mild_apart : (es : List Entry) → each is_mild es ≡ true → each is_apart es ≡ true
-mild_apart es q = each_more is_mild is_apart one es q
+wide_apart : IsWide is_apart
+wide_apart = record { mild = one; commit = refl; rollback = refl; timeout = refl; promise = λ e ok. refl }
   where
     one : (x : Entry) → is_mild x ≡ true → is_apart x ≡ true
     one (Got c d m) q = absurd cc
@@ -86,6 +84,9 @@ mild_apart es q = each_more is_mild is_apart one es q
     one Freed q = absurd cc
     one (Restarted b) q = absurd cc
     one _ q = refl
+
+mild_apart : (es : List Entry) → Mild es → each is_apart es ≡ true
+mild_apart es q = wide_mild is_apart wide_apart es q
 
 stage_apart : (k : Coordinated) (x : Entry) → is_apart x ≡ true → stage_after k x ≡ k.stage
 stage_apart k (Got c d m) q = absurd cc
@@ -201,9 +202,9 @@ delivered_announces t w c d [] u a =
 delivered_announces t w c Up (m ∷ ms) u a =
     let block = core_got (identifier_of t) (core w) c m in
     let here = unlost_under (Got c Up m ∷ w.past) block u in
-    head_announces (Got c Up m) w.past block (mild_apart block (m_core_got (identifier_of t) (core w) c m).proof) a (λ s n. got_sends (identifier_of t) c m w.past here s n)
+    head_announces (Got c Up m) w.past block (mild_apart block (m_core_got (identifier_of t) (core w) c m)) a (λ s n. got_sends (identifier_of t) c m w.past here s n)
 delivered_announces t w c Down (m ∷ ms) u a =
-    head_announces (Got c Down m) w.past (local_got t (half w) c m) (mild_apart (local_got t (half w) c m) (m_local_got t (half w) c m).proof) a (λ s n. still (Got c Down m) w.past (stage_down (coordinate w.past) c m) s n)
+    head_announces (Got c Down m) w.past (local_got t (half w) c m) (mild_apart (local_got t (half w) c m) (m_local_got t (half w) c m)) a (λ s n. still (Got c Down m) w.past (stage_down (coordinate w.past) c m) s n)
 
 -- the log's
 recorded_open : (s : Stage) → is_recorded s ≡ true → is_undecided s ≡ true → ⊥
@@ -231,10 +232,10 @@ full_known h u l = knows_begin h u (begun_if_active h (log_active (coordinate h)
 
 log_announces : (a : LogAnswer) (h : List Entry) → may_log (coordinate h) ≡ true → IsUnlost h → IsAnnounced h → IsAnnounced (onto h (appended (coordinate h) a))
 log_announces Done h l u n =
-    head_announces Logged h (commit_sends (follow (coordinate h) Logged)) (mild_apart (commit_sends (follow (coordinate h) Logged)) (m_commit (follow (coordinate h) Logged)).proof) n
+    head_announces Logged h (commit_sends (follow (coordinate h) Logged)) (mild_apart (commit_sends (follow (coordinate h) Logged)) (m_commit (follow (coordinate h) Logged))) n
     (λ s d. commit_sent (follow (coordinate h) Logged) (logged_known h u l))
 log_announces Full h l u n =
-    head_announces LogFull h (abort_sends (follow (coordinate h) LogFull)) (mild_apart (abort_sends (follow (coordinate h) LogFull)) (m_abort (follow (coordinate h) LogFull)).proof) n
+    head_announces LogFull h (abort_sends (follow (coordinate h) LogFull)) (mild_apart (abort_sends (follow (coordinate h) LogFull)) (m_abort (follow (coordinate h) LogFull))) n
     (λ s d. abort_sent (follow (coordinate h) LogFull) (full_known h u l))
 log_announces StoppedNow h l u n = apart_announces h (Stopped ∷ []) refl n
 log_announces StoppedBefore h l u n = apart_announces h (Stopped ∷ []) refl n
@@ -260,49 +261,23 @@ restarted_announces h true found e u =
     absurd (not_both (is_stopped h) (sym (stopped_same h) ∙ e) (unstopped h (whole_of h (kept_opened h before.keeps) before.unlost)))
 restarted_announces h false found e u = let lost : true ≡ false = u.unlost in absurd cc
 
--- The local side's: calls, and the answer to promote.
-commit_apart : (k : Half) (f b : Bool) → each is_apart (facts_if f (CommitAsked ∷ veto_if b k)) ≡ true
-commit_apart k false b = refl
-commit_apart k true b = mild_apart (veto_if b k) (m_veto_if b k).proof
-
-rollback_apart : (k : Half) (f : Bool) → each is_apart (facts_if f (RollbackAsked ∷ veto k)) ≡ true
-rollback_apart k false = refl
-rollback_apart k true = mild_apart (veto k) (m_veto k).proof
-
-tick_apart : (k : Half) (n : ℕ) (f r l : Bool) → each is_apart (facts_if f (Clock n ∷ (if r then (if l then Late ∷ [] else TimedOut ∷ veto k) else []))) ≡ true
-tick_apart k n false r l = refl
-tick_apart k n true false l = refl
-tick_apart k n true true true = refl
-tick_apart k n true true false = mild_apart (veto k) (m_veto k).proof
-
-promote_apart : (k : Half) (e : EnlNo) (ok : Bool) → each is_apart (reply_entries k e (Promote ok)) ≡ true
-unfolding reply_entries
-promote_apart k e true = refl
-promote_apart k e false = mild_apart (veto (sees k (PromoteReply e false))) (m_veto (sees k (PromoteReply e false))).proof
+reenlist_apart : (t : ℕ) (o : Option Branch) (f : Bool) → each is_apart (facts_if f (reenlist_facts t o)) ≡ true
+reenlist_apart t o false = refl
+reenlist_apart t None true = refl
+reenlist_apart t (Some b) true = refl
 
 -- after each step
 step_announces : (G : ℕ → ActorNo → Call → Type 0) (t : ℕ) (w : World) (m : Step) → MayCome G t w m → IsUnlost (after t w m).past → IsAnnounced w.past → IsAnnounced (after t w m).past
 unfolding after block_at
-step_announces G t w (Calls n a (Commit u) i) q s g =
-    let y = answer_at t w (Commit u) i in
-    let b = has is_open_rollback (half w).seen.clones in
-    apart_announces w.past (Called n a y ∷ facts_if (has_facts y) (CommitAsked ∷ veto_if b (sees (half w) CommitAsked))) (commit_apart (sees (half w) CommitAsked) (has_facts y) b) g
-step_announces G t w (Calls n a (Rollback u) i) q s g =
-    let y = answer_at t w (Rollback u) i in
-    apart_announces w.past (Called n a y ∷ facts_if (has_facts y) (RollbackAsked ∷ veto (sees (half w) RollbackAsked))) (rollback_apart (sees (half w) RollbackAsked) (has_facts y)) g
-step_announces G t w (Calls n a (Tick u j) i) q s g =
-    let y = answer_at t w (Tick u j) i in
-    let o = (half w).seen in
-    let c = ticked o.clock j in
-    apart_announces w.past (Called n a y ∷ facts_if (has_facts y) (Clock c ∷ (if reaches o.limit o.clock c then (if is_late o then Late ∷ [] else TimedOut ∷ veto (half w)) else [])))
-    (tick_apart (half w) c (has_facts y) (reaches o.limit o.clock c) (is_late o)) g
+step_announces G t w (Calls n a (Reenlist e) i) q s g =
+    let y = answer_at t w (Reenlist e) i in
+    let o = find (is_branch e.value) (half w).seen.branches in
+    apart_announces w.past (Called n a y ∷ facts_if (has_facts y) (reenlist_facts t o)) (reenlist_apart t o (has_facts y)) g
 step_announces G t w (Calls n a c i) q s g =
     let y = answer_at t w c i in
-    let es = facts_if (has_facts y) (facts_at t w c y) in
-    apart_announces w.past (Called n a y ∷ es) (mild_apart es (m_called t w c y refl).proof) g
-step_announces G t w (Replies e (Promote ok)) q s g = apart_announces w.past (reply_entries (half w) e (Promote ok)) (promote_apart (half w) e ok) g
-step_announces G t w (Replies e r) q s g = apart_announces w.past (reply_entries (half w) e r) (mild_apart (reply_entries (half w) e r) (m_reply (half w) e r refl).proof) g
-step_announces G t w Acts q s g = apart_announces w.past (act_entries (half w)) (mild_apart (act_entries (half w)) (m_act (half w)).proof) g
+    apart_announces w.past (Called n a y ∷ facts_if (has_facts y) (facts_at t w c y)) (wide_called is_apart wide_apart t w c y refl) g
+step_announces G t w (Replies e r) q s g = apart_announces w.past (reply_entries (half w) e r) (wide_reply is_apart wide_apart (half w) e r) g
+step_announces G t w Acts q s g = apart_announces w.past (act_entries (half w)) (mild_apart (act_entries (half w)) (m_act (half w))) g
 step_announces G t w (Coordinates a) q s g = coordinates_announces a w.past (may_log (core w)) refl q (unlost_under w.past (coordinates (core w) a) s) g
 step_announces G t w (Delivers c d) q s g = delivered_announces t w c d (in_transit c d w.past) s g
 step_announces G t w Stops q s g = apart_announces w.past (Stopped ∷ []) refl g

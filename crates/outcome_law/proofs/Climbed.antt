@@ -1,4 +1,4 @@
--- The ladder whole: at rest, a transaction that promotes and can commit is decided, and its client was told that it is committed.
+-- The ladder whole: at rest, a transaction that promotes is decided, and its client was told so; and where nothing bad came, that it is committed.
 use Rattle.std.proofs.Common.{◌≡◌, ℕ, ◌==◌, ◌+◌, Bool, true, false, ◌&&◌, List, [], ◌∷◌, Option, Some, None, refl, ◌∙◌, sym, subst, ap}
 use Rattle.std.specs.Prelude.{find, is_some, length, not, if◌then◌else◌}
 use Rattle.std.proofs.lemmas.Bool.{or_left, false_from_ne_true, true_from_ne_false}
@@ -13,7 +13,6 @@ use Rattle.dtx_values.specs.declared.message.Message.{Message}
 use Rattle.dtx_values.specs.declared.message.Message.TheVariants.{EnlistEnlist, EnlistEnlisted, VoterAsk}
 use Rattle.dtx_values.specs.declared.number.EnlNo.{EnlNo}
 use Rattle.dtx_values.specs.declared.row.Row.{Row}
-use Rattle.dtx_values.specs.declared.script.Line.{Line}
 use Rattle.dtx_values.specs.declared.words.Outcome.{Outcome}
 use Rattle.dtx_values.specs.declared.words.Outcome.TheVariants.{Committed, Aborted, InDoubt}
 use Rattle.dtx_values.specs.Class.{is_promotable}
@@ -33,7 +32,6 @@ use Rattle.dtx_model.specs.declared.waiting.EnteredCall.{EnteredCall}
 use Rattle.dtx_model.specs.Waiting.{Waiter, waiting}
 use Rattle.dtx_model.specs.Half.{Half, half_of, is_handed, is_promoting as is_promoting_now}
 use Rattle.dtx_model.specs.Acts.{act_by, act_entries, after_seal, ask_or, asked_act, commit_sent, is_to_tell, promotable_in, promoted_act, sealed_act, unasked_promotable, undecided_act, voter_act, yes_act}
-use Rattle.dtx_model.specs.Caused.{plans_of}
 use Rattle.dtx_model.proofs.Bools.{and_left, and_both, and_never, not_false, not_true, not_both, or_first, or_second, or_right}
 use Rattle.outcome_law.proofs.Scans.{find_none, has_less, has_more}
 use Rattle.outcome_law.proofs.Rule.{is_enlisted}
@@ -41,7 +39,7 @@ use Rattle.outcome_law.proofs.Rules.{undecided}
 use Rattle.outcome_law.proofs.TableRows.{enlisted_in_rows}
 use Rattle.outcome_law.proofs.Owned.{has_rows, has_filter}
 use Rattle.outcome_law.proofs.Settled.{ones_done, told_all, zeros_done}
-use Rattle.outcome_law.proofs.Whole.{is_got_on, is_sent_on, whole_of}
+use Rattle.outcome_law.proofs.Whole.{is_got_on, is_sent_on}
 use Rattle.outcome_law.proofs.Messages.{BEGIN, COMMIT, ENLIST, ENLISTED, ENLIST_ANSWER}
 use Rattle.outcome_law.proofs.Fine.{IsFine, is_bad}
 use Rattle.outcome_law.proofs.Debts.{enlisted_next, has_promotable}
@@ -49,7 +47,7 @@ use Rattle.outcome_law.proofs.Rest.{IsAtRest, IsQuiet}
 use Rattle.outcome_law.proofs.OnTheWay.{is_on_its_way, is_unplaced}
 use Rattle.outcome_law.proofs.Arrived.{arrived}
 use Rattle.outcome_law.proofs.Followed.{Demands, followed}
-use Rattle.outcome_law.proofs.Unblamed.{fine_before, nothing_bad}
+use Rattle.outcome_law.proofs.Unblamed.{fine_before}
 use Rattle.outcome_law.proofs.Knowledge.{ask_heard}
 use Rattle.outcome_law.proofs.Promoted.{climb, enlisted_well, good_answer, got_due, promoted, while_open}
 use Rattle.outcome_law.proofs.Stages.{IsUnlogged}
@@ -211,34 +209,24 @@ none_decided [] k = refl
 none_decided (Decided x ∷ h) k = absurd cc
 none_decided (x ∷ h) k = none_decided h k
 
--- nothing bad came
-rest_fine : (s : List Line) (ks : List EnteredCall) (h : List Entry) → IsAtRest s ks h → IsFine h
-rest_fine s ks h r =
-    let w = whole_of h r.opened r.can.unlost in
-    record {
-      whole = w;
-      run = r.run;
-      in_time = r.can.in_time;
-      unbad = nothing_bad (plans_of s) h w r.run r.can.in_time r.can.ended_by_none r.can.unlost r.caused r.can.planned r.can.willing;
-    }
-
-rest_quiet : (s : List Line) (ks : List EnteredCall) (h : List Entry) → IsAtRest s ks h → IsQuiet h
-rest_quiet s ks h r = record { paid = r.paying; free = r.free; empty = r.empty }
+-- nothing is owed, and nothing on the way
+rest_quiet : (ks : List EnteredCall) (h : List Entry) → IsAtRest ks h → IsQuiet h
+rest_quiet ks h r = record { paid = r.paying; free = r.free; empty = r.empty }
 
 -- what the local side does where nothing is decided
-open_act : (s : List Line) (ks : List EnteredCall) (h : List Entry) → IsAtRest s ks h → has is_decision h ≡ false
+open_act : (ks : List EnteredCall) (h : List Entry) → IsAtRest ks h → has is_decision h ≡ false
     → undecided_act (half_of ks h) (unasked_promotable (observe h)) ≡ []
 unfolding act_entries observe
-open_act s ks h r u = ap (λ d. act_by d (half_of ks h)) (sym (none_decided h u)) ∙ r.act
+open_act ks h r u = ap (λ d. act_by d (half_of ks h)) (sym (none_decided h u)) ∙ r.act
 
 -- where BEGIN wasn't sent by then, it is after the promotable's ok; so a transaction that promotes is promoted
-is_promoted_there : (s : List Line) (ks : List EnteredCall) (h : List Entry) → IsAtRest s ks h → has is_decision h ≡ false → has is_promoted h ≡ true
+is_promoted_there : (ks : List EnteredCall) (h : List Entry) → IsAtRest ks h → has is_decision h ≡ false → has is_promoted h ≡ true
 unfolding observe
-is_promoted_there s ks h r u =
-    true_from_ne_false (has is_promoted h) (λ n. not_both (has is_promoted h) (promoted h f u r.later (rest_quiet s ks h r) (begins n (promotable_in (rows h)) refl)) n)
+is_promoted_there ks h r u =
+    true_from_ne_false (has is_promoted h) (λ n. not_both (has is_promoted h) (promoted h f u r.later (rest_quiet ks h r) (begins n (promotable_in (rows h)) refl)) n)
   where
     f : IsFine h
-    f = rest_fine s ks h r
+    f = r.fine u
 
     failed : (x : Entry) → is_promotion_failed x ≡ true → is_bad x ≡ true
     failed PromotionFailed k = refl
@@ -251,16 +239,16 @@ is_promoted_there s ks h r u =
         (not_false (has is_promotion_failed h) (has_less is_promotion_failed is_bad failed h f.unbad))
 
     begins : has is_promoted h ≡ false → (p : Option EnlNo) → promotable_in (rows h) ≡ p → has (is_sent_on Begin Up BEGIN) h ≡ true
-    begins n None q = plain_begins h (rest_quiet s ks h r) (none_found h q) r.started
+    begins n None q = plain_begins h (rest_quiet ks h r) (none_found h q) r.started
     begins n (Some e) q =
-        let asked = asked_promote (promotable_in (rows h)) e (is_promoting_now (observe h)) (has is_ask_promote h) q (going n) (promote_stuck (half_of ks h) (unasked_promotable (observe h)) (open_act s ks h r u)).0 in
-        ok_begins h f (rest_quiet s ks h r) (ok_replied h f.unbad (r.replied u asked))
+        let asked = asked_promote (promotable_in (rows h)) e (is_promoting_now (observe h)) (has is_ask_promote h) q (going n) (promote_stuck (half_of ks h) (unasked_promotable (observe h)) (open_act ks h r u)).0 in
+        ok_begins h f (rest_quiet ks h r) (ok_replied h f.unbad (r.replied u asked))
 
 -- after the promotion phase zero ends with the seal
-is_sealed_there : (s : List Line) (ks : List EnteredCall) (h : List Entry) → IsAtRest s ks h → has is_decision h ≡ false → has is_logged h ≡ false → waiting ks h ≡ [] → has is_promoted h ≡ true
+is_sealed_there : (ks : List EnteredCall) (h : List Entry) → IsAtRest ks h → has is_decision h ≡ false → has is_logged h ≡ false → waiting ks h ≡ [] → has is_promoted h ≡ true
     → asked_act (half_of ks h) ≡ [] → has is_sealed h ≡ true
 unfolding observe is_over
-is_sealed_there s ks h r u l none p a =
+is_sealed_there ks h r u l none p a =
     true_from_ne_false (has is_sealed h)
     (λ n.
     let count = length (waiting ks h) + (if is_promoting_now (observe h) then 1 else 0) in
@@ -281,41 +269,38 @@ is_sealed_there s ks h r u l none p a =
     settled_way false b c k = refl
 
 -- at rest it is decided
-pub decided_at_rest : (s : List Line) (ks : List EnteredCall) (h : List Entry) → IsAtRest s ks h → has is_decision h ≡ true
+pub decided_at_rest : (ks : List EnteredCall) (h : List Entry) → IsAtRest ks h → has is_decision h ≡ true
 unfolding observe
-decided_at_rest s ks h r = true_from_ne_false (has is_decision h) (λ u. by_record u (has is_logged h) refl)
+decided_at_rest ks h r = true_from_ne_false (has is_decision h) (λ u. by_record u (has is_logged h) refl)
   where
-    f : IsFine h
-    f = rest_fine s ks h r
-
     w : IsQuiet h
-    w = rest_quiet s ks h r
+    w = rest_quiet ks h r
 
     -- COMMIT was sent
     commits : has is_decision h ≡ false → IsOpen h → has is_promoted h ≡ true → has is_sealed h ≡ true → promoted_act (half_of ks h) (promotable_in (rows h)) ≡ [] → (p : Option EnlNo) → promotable_in (rows h) ≡ p
         → has (is_sent_on Begin Up COMMIT) h ≡ true
     commits u o p sealed b None q = seal_commits h (record { opened = o; plain = none_found h q; order = λ k. p }) w sealed
-    commits u o p sealed b (Some e) q = request_commits h o w (commit_requested h f.unbad (r.requested u ((single_stuck (half_of ks h) (promotable_in (rows h)) b).1 e q)))
+    commits u o p sealed b (Some e) q = request_commits h o w (commit_requested h (r.fine u).unbad (r.requested u ((single_stuck (half_of ks h) (promotable_in (rows h)) b).1 e q)))
 
     -- and so all is got, voted and logged
     climb_all : has is_decision h ≡ false → has is_logged h ≡ false → IsOpen h → ⊥
     climb_all u n o =
-        let p = is_promoted_there s ks h r u in
-        let a = if_part (has is_commit h) (asked_act (half_of ks h)) [] r.can.asked (promote_stuck (half_of ks h) (unasked_promotable (observe h)) (open_act s ks h r u)).1 in
-        let sealed = is_sealed_there s ks h r u n (none_waits h (waiting ks h) o w (r.waits p) r.unplaced) p a in
+        let p = is_promoted_there ks h r u in
+        let a = if_part (has is_commit h) (asked_act (half_of ks h)) [] r.asked (promote_stuck (half_of ks h) (unasked_promotable (observe h)) (open_act ks h r u)).1 in
+        let sealed = is_sealed_there ks h r u n (none_waits h (waiting ks h) o w (r.waits p) r.unplaced) p a in
         let b = if_part (has is_promoted h) (promoted_act (half_of ks h) (promotable_in (rows h))) _ p (if_part (has is_sealed h) (sealed_act (half_of ks h)) _ sealed a) in
-        let unlogged : IsUnlogged h = record { fine = f; sound = r.sound; ordered = r.ordered; begun = r.begun; unlogged = n } in
+        let unlogged : IsUnlogged h = record { fine = r.fine u; sound = r.sound; ordered = r.ordered; begun = r.begun; unlogged = n } in
         let got = commit_got h o w (commits u o p sealed b (promotable_in (rows h)) refl) in
-        let ask = ask_heard h f.whole f.run (ask_got h unlogged w got) in
+        let ask = ask_heard h (r.fine u).whole (r.fine u).run (ask_got h unlogged w got) in
         let y = yes_stuck (next_ask (rows h) false) (all_voted (rows h)) (has is_yes h) _
         (if_part (was_got Voter (tag_of VoterAsk) (ends_of h)) (after_seal (half_of ks h) (yes_act (observe h))) [] ask (single_stuck (half_of ks h) (promotable_in (rows h)) b).0) in
         let answer = yes_got h o w (y.1 (ones_done (rows h) (r.answered u n) (r.zeros sealed) y.0)) in
         not_both (may_log (coordinate h))
-        (may_append h unlogged got answer (λ e k. vote_got e h (record { opened = o; lasting = r.lasting e k }) w (r.voted u n e (enlistment_asked e h o w (r.prepares n got e k))))) r.append
+        (may_append h unlogged got answer (λ e k. vote_got e h (record { opened = o; lasting = r.lasting e k }) w (r.voted u n e (enlistment_asked e h o w (r.prepares u n got e k))))) r.append
 
     by_record : has is_decision h ≡ false → (l : Bool) → has is_logged h ≡ l → ⊥
-    by_record u true l = not_both (has is_decision h) (logged_decided h f r.sound w l) u
-    by_record u false l = climb_all u l (record { fine = f; undecided = u; sound = r.sound })
+    by_record u true l = not_both (has is_decision h) (logged_decided h (r.fine u) r.sound w l) u
+    by_record u false l = climb_all u l (record { fine = r.fine u; undecided = u; sound = r.sound })
 
 -- what the client was told where nothing bad came
 told_well : (h : List Entry) → has is_bad h ≡ false → is_some (latest client_told_of h) ≡ true → has (is_client_told Committed) h ≡ true
@@ -325,13 +310,16 @@ told_well (Told Client Aborted ∷ h) n k = absurd cc
 told_well (Told Client InDoubt ∷ h) n k = absurd cc
 told_well (x ∷ h) n k = or_right (is_client_told Committed x) (has (is_client_told Committed) h) (told_well h (or_second (is_bad x) (has is_bad h) n) k)
 
--- and its client was told that it is committed
-pub committed_at_rest : (s : List Line) (ks : List EnteredCall) (h : List Entry) → IsAtRest s ks h → has (is_client_told Committed) h ≡ true
+-- and its client was told something
+pub told_at_rest : (ks : List EnteredCall) (h : List Entry) → IsAtRest ks h → is_some (latest client_told_of h) ≡ true
 unfolding act_entries observe
-committed_at_rest s ks h r = by_decision (latest decision_of h) refl
+told_at_rest ks h r = by_decision (latest decision_of h) refl
   where
-    by_decision : (d : Option Outcome) → latest decision_of h ≡ d → has (is_client_told Committed) h ≡ true
+    by_decision : (d : Option Outcome) → latest decision_of h ≡ d → is_some (latest client_told_of h) ≡ true
     by_decision (Some x) e =
-        told_well h (rest_fine s ks h r).unbad
-        (told_all x (find (is_to_tell (observe h) x) (observe h).listeners) (latest client_told_of h) (ap (λ d. act_by d (half_of ks h)) (sym e) ∙ r.act))
-    by_decision None e = absurd (not_both (has is_decision h) (decided_at_rest s ks h r) (undecided h e))
+        told_all x (find (is_to_tell (observe h) x) (observe h).listeners) (latest client_told_of h) (ap (λ d. act_by d (half_of ks h)) (sym e) ∙ r.act)
+    by_decision None e = absurd (not_both (has is_decision h) (decided_at_rest ks h r) (undecided h e))
+
+-- that it is committed, where nothing bad came
+pub committed_at_rest : (ks : List EnteredCall) (h : List Entry) → IsAtRest ks h → has is_bad h ≡ false → has (is_client_told Committed) h ≡ true
+committed_at_rest ks h r n = told_well h n (told_at_rest ks h r)

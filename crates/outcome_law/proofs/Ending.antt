@@ -1,12 +1,12 @@
 -- In each world that steps made, where nothing is decided: no rollback was asked for, no time was up, no promotable failed to promote, and where the commit was asked for each
 -- rollback clone was complete.
-use Rattle.std.proofs.Common.{◌≡◌, ℕ, Bool, true, false, ◌&&◌, ◌||◌, List, [], ◌∷◌, ◌++◌, refl, ◌∙◌, subst, sym, if◌then◌else◌}
-use Rattle.std.specs.Prelude.{not, map}
+use Rattle.std.proofs.Common.{◌≡◌, ℕ, Bool, true, false, ◌||◌, List, [], ◌∷◌, ◌++◌, refl, ◌∙◌, subst, sym, if◌then◌else◌, Option, Some, None}
+use Rattle.std.specs.Prelude.{find, not}
 use Rattle.std.proofs.lemmas.Bool.{or_left}
 use Rattle.dtx_values.specs.declared.call.Call.{Call}
-use Rattle.dtx_values.specs.declared.call.Call.TheVariants.{Commit, Rollback, Tick}
+use Rattle.dtx_values.specs.declared.call.Call.TheVariants.{Commit, Reenlist, Rollback, Tick}
 use Rattle.dtx_values.specs.declared.entry.Entry.{Entry}
-use Rattle.dtx_values.specs.declared.entry.Entry.TheVariants.{Called, Clock, CommitAsked, Decided, Down as Ended, Freed, Got, Late, LogFull, Logged, PromoteReply, Restarted, RollbackAsked, Sent, Stopped, TimedOut}
+use Rattle.dtx_values.specs.declared.entry.Entry.TheVariants.{Called, Clock, CommitAsked, Decided, Down as Ended, Freed, Got, Late, LogFull, Logged, PromoteReply, Reenlisted, Restarted, RollbackAsked, Sent, Stopped, TimedOut}
 use Rattle.dtx_values.specs.declared.message.Conn.{Conn}
 use Rattle.dtx_values.specs.declared.message.Conn.TheVariants.{Begin}
 use Rattle.dtx_values.specs.declared.message.Dir.{Dir}
@@ -22,22 +22,24 @@ use Rattle.dtx_values.specs.declared.words.Outcome.{Outcome}
 use Rattle.dtx_values.specs.declared.words.Outcome.TheVariants.{Aborted}
 use Rattle.dtx_values.specs.Clones.{blocks, is_open_rollback}
 use Rattle.dtx_model.specs.Words.{all_of, always, each, has, onto}
-use Rattle.dtx_model.specs.Entries.{clone_of, is_commit, is_decision}
+use Rattle.dtx_model.specs.Entries.{clone_of, is_decision}
 use Rattle.dtx_model.specs.Outcome.{is_complete, is_rollback}
 use Rattle.dtx_model.specs.History.{is_asked_in_time}
+use Rattle.dtx_model.specs.declared.branch.Branch.{Branch}
+use Rattle.dtx_model.specs.Observed.{is_branch}
 use Rattle.dtx_model.specs.Promotes.{identifier_of}
 use Rattle.dtx_model.specs.Tied.{tied}
 use Rattle.dtx_model.specs.Wires.{in_transit}
 use Rattle.dtx_model.specs.Coordinated.{Coordinated, abort_sends, commit_sends, core_got, follow, may_log}
-use Rattle.dtx_model.specs.Half.{Half, decide, ended, fails_if, is_promoting, sees, veto, veto_if, veto_message}
+use Rattle.dtx_model.specs.Half.{Half, decide, ended, fails_if, is_promoting, sees, veto, veto_if, veto_message, reenlist_sent}
 use Rattle.dtx_model.specs.Arrivals.{local_got}
 use Rattle.dtx_model.specs.Acts.{act_entries}
-use Rattle.dtx_model.specs.Facts.{facts_if, has_facts, is_late, reaches, ticked, time_up}
+use Rattle.dtx_model.specs.Facts.{facts_if, has_facts, is_late, reaches, ticked}
 use Rattle.dtx_model.specs.Replies.{reply_entries}
-use Rattle.dtx_model.specs.World.{World, answer_at, core, facts_at, half}
+use Rattle.dtx_model.specs.World.{World, answer_at, core, facts_at, half, reenlist_facts}
 use Rattle.dtx_model.specs.Steps.{LogAnswer, Done, Full, StoppedBefore, StoppedNow, Step, Calls, Replies, Acts, Coordinates, Delivers, Stops, Restarts, after, block_at, coordinates, delivered, ended_at, restarted}
 use Rattle.dtx_model.specs.Caused.{AreMadeOnce, Ran}
-use Rattle.dtx_model.proofs.Bools.{and_both, and_left, and_right, not_both, or_false, or_first, or_right}
+use Rattle.dtx_model.proofs.Bools.{and_both, and_left, and_right, not_both, or_false}
 use Rattle.dtx_model.proofs.Reading.{has-onto}
 use Rattle.outcome_law.proofs.Going.{all_closed}
 use Rattle.outcome_law.proofs.Scans.{each_more}
@@ -57,6 +59,7 @@ pub record IsUnended (h : List Entry) : Type 0 where
   pub unended : has is_local_end h ≡ false
   pub in_time : always is_asked_in_time h ≡ true
 
+-- while nothing is decided
 abbrev pub IsGoingOn : List Entry → Type 0
 IsGoingOn h = has is_decision h ≡ false → IsUnended h
 
@@ -137,7 +140,7 @@ commit_goes k y h true false q s g = λ d.
     or_second_of true b k = absurd cc
     or_second_of false b k = k
 
--- that of a rollback, and of a tick
+-- that of a rollback, of a tick, and of a reenlistment
 rollback_goes : (k : Half) (y : Entry) (h : List Entry) (f : Bool) → is_mild y ≡ true → IsGoingOn h → IsGoingOn (onto (y ∷ h) (facts_if f (RollbackAsked ∷ veto k)))
 rollback_goes k y h false q g = mild_goes h (y ∷ []) (and_both (is_mild y) true q refl) g
 rollback_goes k y h true q g = decided_goes (RollbackAsked ∷ y ∷ h) (veto k) (veto_decides k)
@@ -148,6 +151,12 @@ tick_goes k n y h false r l q g = mild_goes h (y ∷ []) (and_both (is_mild y) t
 tick_goes k n y h true false l q g = mild_goes h (y ∷ Clock n ∷ []) (and_both (is_mild y) true q refl) g
 tick_goes k n y h true true true q g = mild_goes h (y ∷ Clock n ∷ Late ∷ []) (and_both (is_mild y) true q refl) g
 tick_goes k n y h true true false q g = decided_goes (TimedOut ∷ Clock n ∷ y ∷ h) (veto k) (veto_decides k)
+
+reenlist_goes : (t : ℕ) (o : Option Branch) (y : Entry) (h : List Entry) (f : Bool) → is_mild y ≡ true → IsGoingOn h → IsGoingOn (onto (y ∷ h) (facts_if f (reenlist_facts t o)))
+reenlist_goes t o y h false q g = mild_goes h (y ∷ []) (and_both (is_mild y) true q refl) g
+reenlist_goes t None y h true q g = mild_goes h (y ∷ []) (and_both (is_mild y) true q refl) g
+reenlist_goes t (Some b) y h true q g =
+    head_goes (Reenlisted b.enlistment) (y ∷ h) (reenlist_sent t b.enlistment b.manager) refl refl refl (mild_goes h (y ∷ []) (and_both (is_mild y) true q refl) g)
 
 -- the log's
 appended_goes : (k : Coordinated) (h : List Entry) (b : Bool) (a : LogAnswer) → may_log k ≡ b → IsGoingOn h → IsGoingOn (onto h (coordinates k a))
@@ -189,6 +198,9 @@ step_goes t w (Calls n a (Tick u j) i) s g =
     let o = (half w).seen in
     let c = ticked o.clock j in
     tick_goes (half w) c (Called n a y) w.past (has_facts y) (reaches o.limit o.clock c) (is_late o) refl g
+step_goes t w (Calls n a (Reenlist e) i) s g =
+    let y = answer_at t w (Reenlist e) i in
+    reenlist_goes t (find (is_branch e.value) (half w).seen.branches) (Called n a y) w.past (has_facts y) refl g
 step_goes t w (Calls n a c i) s g =
     let y = answer_at t w c i in
     mild_goes w.past (Called n a y ∷ facts_if (has_facts y) (facts_at t w c y)) (m_called t w c y refl).proof g

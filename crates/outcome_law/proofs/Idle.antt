@@ -53,7 +53,7 @@ use Rattle.outcome_law.proofs.Knowledge.{is_known_end, knows_where}
 use Rattle.outcome_law.proofs.Unblamed.{nothing_bad}
 use Rattle.outcome_law.proofs.Climbed.{committed_at_rest}
 use Rattle.outcome_law.proofs.SameRows.{is_asked_there, is_made_once}
-use Rattle.outcome_law.proofs.Owed.{IsUnowed, all_answered, all_voted, commit_requested, is_asked_well, promotion_replied}
+use Rattle.outcome_law.proofs.Owed.{IsUnowed, all_answered, all_heeded, all_voted, commit_requested, is_asked_well, promotion_replied}
 
 -- Nothing is on the way.
 none_delivered : (b : Bool) (c : Conn) (d : Dir) → delivery_if b c d ≡ [] → b ≡ false
@@ -167,47 +167,57 @@ same_willing p q (Enlisted e c ∷ h) f k =
     (same_willing p q h (λ n a. f n (or_right (n == e.value) (has (is_enlisted n) h) a)) (and_right (is_willing (q e.value) c) (each (λ x. is_willing (q x.0.value) x.1) (enlisted h)) k))
 same_willing p q (x ∷ h) f k = same_willing p q h (λ n a. f n (or_right (is_enlisted n x) (has (is_enlisted n) h) a)) k
 
--- where nothing is pending, it is at rest
-pub rests : (s : List Line) (ks : List EnteredCall) (h : List Entry) → IsGoverned s ks h → pending (record { calls = ks; past = h }) ≡ [] → IsAtRest s ks h
-rests s ks h g e =
-    let i = idle ks h e in
+-- nothing bad came
+governed_fine : (s : List Line) (ks : List EnteredCall) (h : List Entry) → IsGoverned s ks h → IsFine h
+governed_fine s ks h g =
     let w = whole_of h g.opened g.can.unlost in
-    let fine : IsFine h =
     record {
       whole = w;
       run = g.run;
       in_time = g.can.in_time;
       unbad = nothing_bad (plans_of s) h w g.run g.can.in_time g.can.ended_by_none g.can.unlost g.caused g.can.planned g.can.willing;
-    } in
+    }
+
+-- where nothing is pending, it is at rest
+pub rests : (s : List Line) (ks : List EnteredCall) (h : List Entry) → IsGoverned s ks h → pending (record { calls = ks; past = h }) ≡ [] → IsAtRest ks h
+rests s ks h g e =
+    let i = idle ks h e in
+    let fine = governed_fine s ks h g in
     let u : IsUnowed (plan_of ks) h =
-    record { fine = fine; unlost = g.can.unlost; once = g.once; there = g.there; well = g.well; willing = same_willing (plan_of ks) (plans_of s) h g.plans g.can.willing; unowed = i.unanswered } in
     record {
-      opened = g.opened;
-      caused = g.caused;
+      fine = fine;
+      unlost = g.can.unlost;
+      once = g.once;
+      there = g.there;
+      well = g.well;
+      heeded = all_heeded (plan_of ks) h (same_willing (plan_of ks) (plans_of s) h g.plans g.can.willing);
+      unowed = i.unanswered;
+    } in
+    record {
+      fine = λ d. fine;
       later = g.later;
       sound = g.sound;
       ordered = g.ordered;
       begun = g.begun;
       paying = g.paying;
-      run = g.run;
       zeros = g.zeros;
       closed = g.closed;
       free = g.free;
       waits = g.waits;
       unplaced = g.unplaced;
-      prepares = g.prepares;
+      prepares = λ d. g.prepares;
       lasting = g.lasting;
-      empty = none_on_the_way h w g.run i.undelivered;
+      empty = none_on_the_way h fine.whole g.run i.undelivered;
       act = i.act;
       append = i.append;
       answered = all_answered (plan_of ks) h u;
       voted = λ d l e k. all_voted (plan_of ks) h u d l e.value k;
       replied = promotion_replied (plan_of ks) h u;
       requested = commit_requested (plan_of ks) h u;
-      can = g.can;
+      asked = g.can.asked;
       started = g.started;
     }
 
 -- so a transaction that promotes and can commit is committed where nothing is pending, and its client was told so
 pub settled_commits : (s : List Line) (ks : List EnteredCall) (h : List Entry) → IsGoverned s ks h → pending (record { calls = ks; past = h }) ≡ [] → has (is_client_told Committed) h ≡ true
-settled_commits s ks h g e = committed_at_rest s ks h (rests s ks h g e)
+settled_commits s ks h g e = committed_at_rest ks h (rests s ks h g e) (governed_fine s ks h g).unbad

@@ -155,6 +155,8 @@ pub mod MildBlocks
 pub mod Ending
 pub mod Announced
 pub mod UndecidedFine
+pub mod Told
+pub mod Unreturning
 pub mod AskedRows
 pub mod PlacedRows
 pub mod SealedRows

@@ -1,7 +1,7 @@
 -- Which entries no block has but as its first: what is got and an end, an act of the log, a restart, the asking for the commit or a rollback, the end of the time, and an
--- answer to promote.
-use Rattle.std.proofs.Common.{◌≡◌, ℕ, ◌==◌, Bool, true, false, ◌&&◌, ◌||◌, ◌⊎◌, inl, inr, not, List, [], ◌∷◌, ◌++◌, map, filter, Option, Some, None, is_some, find, refl, ◌∙◌, if◌then◌else◌}
-use Rattle.std.specs.List.{flat_map, list_any}
+-- answer to promote, and who comes back.
+use Rattle.std.proofs.Common.{◌≡◌, ℕ, ◌==◌, Bool, true, false, ◌&&◌, ◌||◌, not, List, [], ◌∷◌, ◌++◌, map, filter, Option, Some, None, is_some, find, refl, ◌∙◌, if◌then◌else◌}
+use Rattle.std.specs.List.{flat_map}
 use Rattle.std.proofs.lemmas.List.Folds.{list_all-append}
 use Rattle.dtx_values.specs.declared.call.Call.{Call}
 use Rattle.dtx_values.specs.declared.call.Call.TheVariants.{Begin as BeginCall, Volatile, Durable, Promotable, Clone, Complete, Commit, Rollback, Marshal, Tick, Lose, Gone, Reenlist, Recovered}
@@ -9,7 +9,7 @@ use Rattle.dtx_values.specs.declared.entry.Answer.{Answer}
 use Rattle.dtx_values.specs.declared.entry.Answer.TheVariants.{Fine, Wait, Id, Ended as EndedAnswer}
 use Rattle.dtx_values.specs.declared.entry.Ask.TheVariants.{Prepare, Promote, Single as AskSingle}
 use Rattle.dtx_values.specs.declared.entry.Entry.{Entry}
-use Rattle.dtx_values.specs.declared.entry.Entry.TheVariants.{Answered, Began, Cloned, Completed, Enlisted, Init, CommitAsked, RollbackAsked, Clock, TimedOut, Late, Asked, Voted, PromoteReply, Requested, Sealed, Handed, OwnerAnswered, LocalYes, Decided, Told, Promoting, Promoted, PromotionFailed, Sent, Got, Down as Ended, Lost as LostEntry, Logged, LogFull, Freed, Stopped, Restarted, Reenlisted, Recovered as RecoveredEntry, Acked}
+use Rattle.dtx_values.specs.declared.entry.Entry.TheVariants.{Answered, Began, Cloned, Completed, Enlisted, Init, CommitAsked, RollbackAsked, TimedOut, Asked, Voted, PromoteReply, Requested, Sealed, Handed, OwnerAnswered, LocalYes, Decided, Told, Promoting, Promoted, PromotionFailed, Sent, Got, Down as Ended, Lost as LostEntry, Logged, LogFull, Freed, Restarted, Reenlisted, Recovered as RecoveredEntry, Acked, Clock, Late}
 use Rattle.dtx_values.specs.declared.entry.Party.TheVariants.{Client, Enl as Member}
 use Rattle.dtx_values.specs.declared.message.Conn.{Conn}
 use Rattle.dtx_values.specs.declared.message.Conn.TheVariants.{Begin, Voter, Enl, Again}
@@ -29,34 +29,34 @@ use Rattle.dtx_values.specs.declared.words.Class.TheVariants.{DurableSingle, Pro
 use Rattle.dtx_values.specs.declared.words.Outcome.{Outcome}
 use Rattle.dtx_values.specs.declared.words.Outcome.TheVariants.{Committed, Aborted, InDoubt}
 use Rattle.dtx_values.specs.declared.words.Vote.{Vote}
-use Rattle.dtx_values.specs.Clones.{is_open_block, is_open_rollback}
+use Rattle.dtx_values.specs.Clones.{is_open_rollback}
 use Rattle.dtx_values.specs.Ends.{knows, may_abort_by_begin, may_abort_by_voter, same_connection, tag_of, was_got}
 use Rattle.dtx_model.specs.declared.listener.Listener.{Listener}
 use Rattle.dtx_model.specs.declared.desk.Desk.{Desk}
 use Rattle.dtx_model.specs.Words.{each, has}
-use Rattle.dtx_values.specs.Waves.{all_voted, is_over, next_ask, zeros_voted}
-use Rattle.dtx_model.proofs.Bools.{and_right}
+use Rattle.outcome_law.proofs.Scans.{each_more}
+use Rattle.dtx_values.specs.Waves.{all_voted, is_over, next_ask}
 use Rattle.dtx_values.specs.Owners.{cause_of, owner_of}
 use Rattle.dtx_values.specs.Class.{is_promotable}
 use Rattle.dtx_values.specs.Support.{is_single}
 use Rattle.dtx_values.specs.Vote.{is_no}
 use Rattle.dtx_values.specs.Table.{voted}
-use Rattle.dtx_model.specs.declared.branch.Branch.{Branch}
-use Rattle.dtx_model.specs.Observed.{Observed, is_branch}
+use Rattle.dtx_model.specs.Observed.{Observed}
 use Rattle.dtx_model.specs.Promotes.{identifier_of}
-use Rattle.dtx_model.specs.Coordinated.{Coordinated, aborts, abort_sends, commit_sends, core_down, core_got, follow, has_aborted, is_active, is_early, is_prepared, is_recorded, is_undecided, may_log, opening_answer, still_hears, to, to_each, to_waiting}
+use Rattle.dtx_model.specs.Coordinated.{Coordinated, aborts, abort_sends, commit_sends, core_down, core_got, follow, has_aborted, is_active, is_early, is_prepared, is_recorded, is_undecided, opening_answer, still_hears, to, to_each, to_waiting}
 use Rattle.dtx_model.specs.declared.waiting.Wanted.TheVariants.{Identifier, Place}
 use Rattle.dtx_model.specs.Waiting.{Waiter, is_place_of}
 use Rattle.dtx_model.specs.Half.{Half, sees, is_promoting, to_up, fails_if, decide, veto_message, veto, veto_if, info, enlist_sent, by_manager, given, promoted_by, over, stands, is_gone, was_told, is_handed}
 use Rattle.dtx_model.specs.Arrivals.{unless_decided, hand_over, place_given, told_abort, has_both_ends, ended_there, ended_by, begin_arrived, voter_arrived, enlist_arrived, again_arrived, arrived, local_got, local_down}
 use Rattle.dtx_model.specs.Acts.{tell, is_to_tell, promotable_in, under_way, commit_sent, ask_or, after_seal, commit_act, yes_act, voter_act, promoted_act, sealed_act, asked_act, unasked_promotable, undecided_act, act_by, act_entries}
-use Rattle.dtx_model.specs.Replies.{ack_on, conn_due, due_of, is_volatile_row, owner_entries, promote_entries, reply_entries, request_message, request_of, vote_message, voted_by}
-use Rattle.dtx_model.specs.Facts.{begin_promotion, durable_facts, durable_waits, facts_if, has_facts, is_late, local_facts, reaches, ticked, time_up}
+use Rattle.dtx_model.specs.Replies.{ack_on, conn_due, due_of, is_volatile_row, owner_entries, reply_entries, request_message, request_of, vote_message, voted_by}
+use Rattle.dtx_model.specs.Facts.{begin_promotion, durable_facts, durable_waits, facts_if, has_facts, is_late, local_facts, reaches, ticked}
 use Rattle.dtx_model.specs.Answers.{class_of, limit_of}
-use Rattle.dtx_model.specs.World.{World, half, core, cut, cut_upward, facts_at, gone_by, gone_decides, open_ones, reenlist_facts}
-use Rattle.dtx_model.specs.Steps.{LogAnswer, Done, Full, StoppedNow, StoppedBefore, appended, coordinates, ended_at, freed}
+use Rattle.dtx_model.specs.World.{World, half, core, cut, cut_upward, facts_at, gone_by, gone_decides, open_ones}
+use Rattle.dtx_model.specs.Steps.{ended_at}
 
--- the entry isn't got and no end, no act of the log and no restart; it asks for no commit or rollback, ends no time, and is no answer to promote
+-- the entry isn't got and no end, no act of the log and no restart; it asks for no commit or rollback, ends no time, is no answer to promote, and nobody comes
+-- back
 abbrev pub is_mild : Entry → Bool
 is_mild (Got c d m) = false
 is_mild (Ended c d) = false
@@ -68,22 +68,24 @@ is_mild CommitAsked = false
 is_mild RollbackAsked = false
 is_mild TimedOut = false
 is_mild (PromoteReply e ok) = false
+is_mild (Reenlisted e) = false
 is_mild _ = true
 
+-- a list of such entries, and how such lists are made of others
 pub record Mild (es : List Entry) : Type 0 where
   pub proof : each is_mild es ≡ true
 
-pub m_none : Mild []
+m_none : Mild []
 m_none = record { proof = refl }
 
-pub m_cons : (x : Entry) {es : List Entry} → is_mild x ≡ true → Mild es → Mild (x ∷ es)
+m_cons : (x : Entry) {es : List Entry} → is_mild x ≡ true → Mild es → Mild (x ∷ es)
 m_cons x {es} p q = record { proof = both (is_mild x) (each is_mild es) p q.proof }
   where
     both : (a b : Bool) → a ≡ true → b ≡ true → (a && b) ≡ true
     both true b p q = q
     both false b p q = absurd cc
 
-pub m_if : (b : Bool) {x y : List Entry} → Mild x → Mild y → Mild (if b then x else y)
+m_if : (b : Bool) {x y : List Entry} → Mild x → Mild y → Mild (if b then x else y)
 m_if true p q = p
 m_if false p q = q
 
@@ -94,7 +96,7 @@ m_both false b p q = absurd cc
 m_join : {x y : List Entry} → Mild x → Mild y → Mild (x ++ y)
 m_join {x} {y} p q = record { proof = list_all-append is_mild x y ∙ m_both (each is_mild x) (each is_mild y) p.proof q.proof }
 
-pub m_one : (x : Entry) → is_mild x ≡ true → Mild (x ∷ [])
+m_one : (x : Entry) → is_mild x ≡ true → Mild (x ∷ [])
 m_one x p = m_cons x p m_none
 
 m_map : {A : Type 0} (f : A → Entry) → ((a : A) → is_mild (f a) ≡ true) → (xs : List A) → Mild (map f xs)
@@ -152,6 +154,7 @@ m_decide h x = m_join (m_fails (is_promoting h.seen)) (m_cons (Decided x) refl (
 m_message : (o : Observed) → Mild (veto_message o)
 m_message o = m_if (may_abort_by_begin o.ends) (m_one (Sent Begin Up BeginAbort) refl) (m_if (may_abort_by_voter o.ends) (m_one (Sent Voter Up VoterNo) refl) m_none)
 
+-- a veto
 pub m_veto : (h : Half) → Mild (veto h)
 unfolding veto
 m_veto h = m_join (m_decide h Aborted) (m_message h.seen)
@@ -232,6 +235,7 @@ m_arrived t h Voter m = m_voter t h m
 m_arrived t h (Enl e) m = m_enlist t h e m
 m_arrived t h (Again e) m = m_again h e m
 
+-- what the local side does after a message
 pub m_local_got : (t : ℕ) (h : Half) (c : Conn) (m : Message) → Mild (local_got t h c m)
 unfolding local_got
 m_local_got t h c m = m_arrived t (sees h (Got c Down m)) c m
@@ -263,7 +267,7 @@ m_yes o = m_if o.yes m_none (m_cons LocalYes refl (m_up o Voter VoterYes))
 m_voter_act : (h : Half) → Mild (voter_act h)
 m_voter_act h = m_if (was_got Voter (tag_of VoterAsk) h.seen.ends) (m_after_seal h (m_yes h.seen)) m_none
 
-pub m_commit_sent : (o : Observed) → Mild (commit_sent o)
+m_commit_sent : (o : Observed) → Mild (commit_sent o)
 m_commit_sent o = m_if (o.promoted && not (is_some (promotable_in o.table))) (m_up o Begin BeginCommit) m_none
 
 m_promoted_act : (h : Half) (o : Option EnlNo) → Mild (promoted_act h o)
@@ -288,6 +292,7 @@ m_act_by : (h : Half) (x : Option Outcome) → Mild (act_by x h)
 m_act_by h (Some x) = m_tell x (find (is_to_tell h.seen x) h.seen.listeners) h.seen.told_client
 m_act_by h None = m_undecided_act h (unasked_promotable h.seen)
 
+-- the local act is mild
 pub m_act : (h : Half) → Mild (act_entries h)
 unfolding act_entries
 m_act h = m_act_by h h.seen.decided
@@ -333,13 +338,15 @@ m_durable : (t : ℕ) (h : Half) (e : EnlNo) (r : RmNo) (single : Bool) (a : Ans
 m_durable t h e r single Wait = m_waits t h e r single
 m_durable t h e r single _ = m_one (Enlisted e DurableSingle) refl
 
--- a call that asks for the commit or a rollback, or a tick
+-- a call that asks for the commit or a rollback, a tick, or a reenlistment
 abbrev pub is_ending_call : Call → Bool
 is_ending_call (Commit u) = true
 is_ending_call (Rollback u) = true
 is_ending_call (Tick u n) = true
+is_ending_call (Reenlist e) = true
 is_ending_call _ = false
 
+-- what stands after the call
 pub m_facts : (t : ℕ) (h : Half) (c : Call) (a : Answer) → is_ending_call c ≡ false → Mild (local_facts t h c a)
 m_facts t h (BeginCall u d) a n = m_one (Began (limit_of d)) refl
 m_facts t h (Volatile u e x v) a n = m_one (Enlisted e (class_of x)) refl
@@ -351,23 +358,20 @@ m_facts t h (Commit u) a n = absurd cc
 m_facts t h (Rollback u) a n = absurd cc
 m_facts t h (Marshal u) a n = m_if (is_promoting h.seen) m_none (m_begin_promotion h (Some MarshalCause))
 m_facts t h (Tick u i) a n = absurd cc
+m_facts t h (Reenlist e) a n = absurd cc
 m_facts t h _ a n = m_none
 
-pub m_gone_decides : (h : Half) (e : EnlNo) → Mild (gone_decides h e)
+m_gone_decides : (h : Half) (e : EnlNo) → Mild (gone_decides h e)
 m_gone_decides h e = m_if (is_some h.seen.decided || voted e.value h.seen.table) m_none (m_if (is_handed h.seen.handed e.value) (m_decide h InDoubt) (m_veto h))
 
 m_gone : (w : World) (e : EnlNo) (cs : List Conn) → Mild (gone_by w e cs)
 m_gone w e [] = m_cons (LostEntry e) refl (m_gone_decides (sees (half w) (LostEntry e)) e)
 m_gone w e (c ∷ cs) = m_cons (LostEntry e) refl (m_map (cut_upward w.past) (λ d. refl) (c ∷ cs))
 
-m_reenlist : (t : ℕ) (b : Option Branch) → Mild (reenlist_facts t b)
-m_reenlist t (Some b) = m_cons (Reenlisted b.enlistment) refl (m_one (Sent (Again b.enlistment) Up (ReenlistReenlist (info t b.enlistment b.manager))) refl)
-m_reenlist t None = m_none
-
 m_facts_at : (t : ℕ) (w : World) (c : Call) (a : Answer) → is_ending_call c ≡ false → Mild (facts_at t w c a)
 m_facts_at t w (Lose u c i m) a n = m_one (cut w.past c i m) refl
 m_facts_at t w (Gone e) a n = m_gone w e (open_ones w e)
-m_facts_at t w (Reenlist e) a n = m_reenlist t (find (is_branch e.value) (half w).seen.branches)
+m_facts_at t w (Reenlist e) a n = absurd cc
 m_facts_at t w (Recovered u r) a n = m_one (RecoveredEntry r) refl
 m_facts_at t w c a n = m_facts t (half w) c a n
 
@@ -383,3 +387,54 @@ m_ended_at w c Down = m_local_down (half w) c
 -- what stands after the call
 pub m_called : (t : ℕ) (w : World) (c : Call) (a : Answer) → is_ending_call c ≡ false → Mild (facts_if (has_facts a) (facts_at t w c a))
 m_called t w c a n = m_facts_if (has_facts a) (m_facts_at t w c a n)
+
+-- A test that passes what is mild, and what asks for the commit or a rollback, ends the time or answers to promote: it passes each block of the local side but that of a
+-- reenlistment, and what was got.
+pub record IsWide (p : Entry → Bool) : Type 0 where
+  pub mild : (x : Entry) → is_mild x ≡ true → p x ≡ true
+  pub commit : p CommitAsked ≡ true
+  pub rollback : p RollbackAsked ≡ true
+  pub timeout : p TimedOut ≡ true
+  pub promise : (e : EnlNo) (ok : Bool) → p (PromoteReply e ok) ≡ true
+
+-- it passes a mild list
+pub wide_mild : (p : Entry → Bool) → IsWide p → (es : List Entry) → Mild es → each p es ≡ true
+wide_mild p w es q = each_more is_mild p w.mild es q.proof
+
+wide_cons : (p : Entry → Bool) → IsWide p → (x : Entry) (es : List Entry) → p x ≡ true → Mild es → each p (x ∷ es) ≡ true
+wide_cons p w x es k q = m_both (p x) (each p es) k (wide_mild p w es q)
+
+wide_if : (p : Entry → Bool) (f : Bool) (es : List Entry) → each p es ≡ true → each p (facts_if f es) ≡ true
+wide_if p true es k = k
+wide_if p false es k = refl
+
+wide_tick : (p : Entry → Bool) → IsWide p → (k : Half) (n : ℕ) (r l : Bool) → each p (Clock n ∷ (if r then (if l then Late ∷ [] else TimedOut ∷ veto k) else [])) ≡ true
+wide_tick p w k n false l = wide_mild p w (Clock n ∷ []) (m_one (Clock n) refl)
+wide_tick p w k n true true = wide_mild p w (Clock n ∷ Late ∷ []) (m_cons (Clock n) refl (m_one Late refl))
+wide_tick p w k n true false = m_both (p (Clock n)) (each p (TimedOut ∷ veto k)) (w.mild (Clock n) refl) (wide_cons p w TimedOut (veto k) w.timeout (m_veto k))
+
+-- the call brings back an enlistment
+abbrev pub is_reenlistment : Call → Bool
+is_reenlistment (Reenlist e) = true
+is_reenlistment _ = false
+
+-- so it passes what stands after any other call
+pub wide_called : (p : Entry → Bool) → IsWide p → (t : ℕ) (w : World) (c : Call) (a : Answer) → is_reenlistment c ≡ false → each p (facts_if (has_facts a) (facts_at t w c a)) ≡ true
+wide_called p q t w (Commit u) a n =
+    let b = has is_open_rollback (half w).seen.clones in
+    wide_if p (has_facts a) (CommitAsked ∷ veto_if b (sees (half w) CommitAsked)) (wide_cons p q CommitAsked (veto_if b (sees (half w) CommitAsked)) q.commit (m_veto_if b (sees (half w) CommitAsked)))
+wide_called p q t w (Rollback u) a n =
+    wide_if p (has_facts a) (RollbackAsked ∷ veto (sees (half w) RollbackAsked)) (wide_cons p q RollbackAsked (veto (sees (half w) RollbackAsked)) q.rollback (m_veto (sees (half w) RollbackAsked)))
+wide_called p q t w (Tick u i) a n =
+    let o = (half w).seen in
+    let c = ticked o.clock i in
+    wide_if p (has_facts a) (Clock c ∷ (if reaches o.limit o.clock c then (if is_late o then Late ∷ [] else TimedOut ∷ veto (half w)) else [])) (wide_tick p q (half w) c (reaches o.limit o.clock c) (is_late o))
+wide_called p q t w (Reenlist e) a n = absurd cc
+wide_called p q t w c a n = wide_mild p q (facts_if (has_facts a) (facts_at t w c a)) (m_called t w c a refl)
+
+-- and the block of a reply
+pub wide_reply : (p : Entry → Bool) → IsWide p → (h : Half) (e : EnlNo) (r : Reply) → each p (reply_entries h e r) ≡ true
+unfolding reply_entries
+wide_reply p q h e (PromoteAnswer true) = wide_cons p q (PromoteReply e true) (Sent Begin Up BeginBegin ∷ []) (q.promise e true) (m_one (Sent Begin Up BeginBegin) refl)
+wide_reply p q h e (PromoteAnswer false) = wide_cons p q (PromoteReply e false) (veto (sees h (PromoteReply e false))) (q.promise e false) (m_veto (sees h (PromoteReply e false)))
+wide_reply p q h e r = wide_mild p q (reply_entries h e r) (m_reply h e r refl)

@@ -16,7 +16,6 @@ use Rattle.dtx_values.specs.declared.note.Plan.{Plan}
 use Rattle.dtx_values.specs.declared.number.EnlNo.{EnlNo}
 use Rattle.dtx_values.specs.declared.row.Row.{Row}
 use Rattle.dtx_values.specs.declared.words.Class.{Class}
-use Rattle.dtx_values.specs.declared.words.Class.TheVariants.{Promotable}
 use Rattle.dtx_values.specs.declared.words.Outcome.{Outcome}
 use Rattle.dtx_values.specs.declared.words.Outcome.TheVariants.{Committed, Aborted, InDoubt}
 use Rattle.dtx_values.specs.declared.words.Vote.{Vote}
@@ -28,7 +27,7 @@ use Rattle.dtx_values.specs.Vote.{voted_well}
 use Rattle.dtx_model.specs.declared.branch.Branch.{Branch}
 use Rattle.dtx_model.specs.declared.listener.Listener.{Listener}
 use Rattle.dtx_model.specs.Words.{has, each, always, latest, or_else}
-use Rattle.dtx_model.specs.Entries.{decision_of, is_asked, is_decision, is_record, is_told, is_vote, same_outcome}
+use Rattle.dtx_model.specs.Entries.{decision_of, is_asked, is_asked_alone, is_asked_to_promote, is_decision, is_record, is_told, is_vote, same_outcome}
 use Rattle.dtx_model.specs.Observed.{come_back, ends_of, hear, lose, is_ask_promote, is_ask_single, is_promote_reply, is_request, listener_number, listeners, observe, rows}
 use Rattle.dtx_model.specs.Outcome.{can_own, enlisted}
 use Rattle.dtx_model.specs.Tied.{is_logged}
@@ -49,11 +48,11 @@ use Rattle.outcome_law.proofs.Settled.{has_answered}
 use Rattle.outcome_law.proofs.Whole.{is_got_on}
 use Rattle.outcome_law.proofs.Messages.{PREPARE}
 use Rattle.outcome_law.proofs.Fine.{IsFine, is_bad, is_made}
-use Rattle.outcome_law.proofs.Debts.{has_promotable, is_volatile_made}
+use Rattle.outcome_law.proofs.Debts.{is_volatile_made}
 use Rattle.outcome_law.proofs.Connections.{same_is}
 use Rattle.outcome_law.proofs.Knowledge.{knows_got}
 use Rattle.outcome_law.proofs.Stages.{record_logged}
-use Rattle.outcome_law.proofs.Unblamed.{unrestarted}
+use Rattle.outcome_law.proofs.Unblamed.{owns, unrestarted}
 use Rattle.outcome_law.proofs.Climbed.{none_decided}
 use Rattle.outcome_law.proofs.SameRows.{asked_marked, found_passes, is_asked_there, is_made_once, marked_asked, row_found, voted_cast}
 
@@ -66,14 +65,20 @@ is_asked_well past (Asked e AskSingle) = has (is_made e.value is_promotable) pas
 is_asked_well past (Told (Member e) x) = has is_decision past || has is_record past || same_outcome x Aborted
 is_asked_well past x = true
 
--- a history whose enlistments are all willing, and of none of which a reply is due that its plan has
+-- A plan has each reply that is due of a row: its vote; and where the enlistment was asked for that, that it can be promoted, and its answer as the owner.
+pub record IsHeeded (p : Plan) (h : List Entry) (x : Row) : Type 0 where
+  pub votes : owes_vote (observe h) x ≡ true → is_none p.vote ≡ true → ⊥
+  pub promotes : has (is_asked_to_promote x.number.value) h ≡ true → owes_promotion (observe h) x ≡ true → is_none p.promote ≡ true → ⊥
+  pub commits : has (is_asked_alone x.number.value) h ≡ true → owes_request (observe h) x ≡ true → is_none p.owner ≡ true → ⊥
+
+-- a fine history whose plans have each reply that is due of a row, and where of none a reply is due that its plan has
 pub record IsUnowed (p : ℕ → Plan) (h : List Entry) : Type 0 where
   pub fine : IsFine h
   pub unlost : has is_loss h ≡ false
   pub once : always is_made_once h ≡ true
   pub there : always is_asked_there h ≡ true
   pub well : always is_asked_well h ≡ true
-  pub willing : each (λ x. is_willing (p x.0.value) x.1) (enlisted h) ≡ true
+  pub heeded : (i : ℕ) (x : Row) → slice_get (rows h) i ≡ Some x → IsHeeded (p x.number.value) h x
   pub unowed : each (λ e. is_unplanned (p e.value) (due_of (observe h) e.value)) (names (observe h)) ≡ true
 
 -- each name of the table is among the names
@@ -158,44 +163,39 @@ untold e (x ∷ h) f w d l =
     or_false (is_told e x) (has (is_told e) h) refl
     (untold e h (or_second (is_bad x) (has is_bad h) f) (and_right (is_asked_well h x) (always is_asked_well h) w) (or_second (is_decision x) (has is_decision h) d) (or_second (is_logged x) (has is_logged h) l))
 
--- The notes of a willing one: none is due.
-vote_there : (o : Option Vote) → voted_well o ≡ true → is_none (vote_reply o) ≡ true → ⊥
-vote_there (Some v) w k = cc
-vote_there None w k = cc
+-- The notes of a row whose plan has each reply that is due of it: none is due.
+silent_vote : (o : Option Vote) → is_none (vote_reply o) ≡ true → is_none o ≡ true
+silent_vote (Some v) k = absurd cc
+silent_vote None k = refl
 
-owner_there : (o : Option Outcome) → is_committed o ≡ true → is_none (owner_reply o) ≡ true → ⊥
-owner_there (Some x) w k = cc
-owner_there None w k = cc
+silent_owner : (o : Option Outcome) → is_none (owner_reply o) ≡ true → is_none o ≡ true
+silent_owner (Some x) k = absurd cc
+silent_owner None k = refl
 
-promotion_there : (o : Option Bool) → holds o ≡ true → is_none (promote_reply o) ≡ true → ⊥
-promotion_there (Some b) w k = cc
-promotion_there None w k = cc
+silent_promotion : (o : Option Bool) → is_none (promote_reply o) ≡ true → is_none o ≡ true
+silent_promotion (Some b) k = absurd cc
+silent_promotion None k = refl
 
 abbrev note_by : Bool → Bool → Bool → Bool → Option Note
 note_by v m w s = if v then Some Prepare else if m then Some PromoteNote else if w then Some Hand else if s then Some Single else None
 
-vote_unowed : (p : Plan) (c : Class) (v m w s : Bool) (z : Option Note) → is_willing p c ≡ true → is_unplanned p (or_else (note_by v m w s) z) ≡ true → v ≡ false
-vote_unowed p c true m w s z a k =
-    absurd (vote_there p.vote (and_left (voted_well p.vote) (not (can_own c) || is_committed p.owner) (and_left (voted_well p.vote && (not (can_own c) || is_committed p.owner)) (not (is_promotable c) || holds p.promote) a)) k)
-vote_unowed p c false m w s z a k = refl
+vote_unowed : (p : Plan) (v m w s : Bool) (z : Option Note) → (v ≡ true → is_none p.vote ≡ true → ⊥) → is_unplanned p (or_else (note_by v m w s) z) ≡ true → v ≡ false
+vote_unowed p true m w s z f k = absurd (f refl (silent_vote p.vote k))
+vote_unowed p false m w s z f k = refl
 
-promotable_unowed : (p : Plan) (c : Class) (v m w s : Bool) (z : Option Note) → is_willing p c ≡ true → is_promotable c ≡ true → is_unplanned p (or_else (note_by v m w s) z) ≡ true
-    → (m ≡ false) × (s ≡ false)
-promotable_unowed p Promotable v m w s z a q k = step v m w s k
-  where
-    both : (voted_well p.vote && is_committed p.owner) ≡ true
-    both = and_left (voted_well p.vote && is_committed p.owner) (holds p.promote) a
+promotion_unowed : (p : Plan) (v m w s : Bool) (z : Option Note) → (v ≡ true → is_none p.vote ≡ true → ⊥) → (m ≡ true → is_none p.promote ≡ true → ⊥) → is_unplanned p (or_else (note_by v m w s) z) ≡ true
+    → m ≡ false
+promotion_unowed p true m w s z f g k = absurd (f refl (silent_vote p.vote k))
+promotion_unowed p false true w s z f g k = absurd (g refl (silent_promotion p.promote k))
+promotion_unowed p false false w s z f g k = refl
 
-    owner : is_committed p.owner ≡ true
-    owner = and_right (voted_well p.vote) (is_committed p.owner) both
-
-    step : (v m w s : Bool) → is_unplanned p (or_else (note_by v m w s) z) ≡ true → (m ≡ false) × (s ≡ false)
-    step true m w s k = absurd (vote_there p.vote (and_left (voted_well p.vote) (is_committed p.owner) both) k)
-    step false true w s k = absurd (promotion_there p.promote (and_right (voted_well p.vote && is_committed p.owner) (holds p.promote) a) k)
-    step false false true s k = absurd (owner_there p.owner owner k)
-    step false false false true k = absurd (owner_there p.owner owner k)
-    step false false false false k = (refl, refl)
-promotable_unowed p _ v m w s z a q k = absurd cc
+request_unowed : (p : Plan) (v m w s : Bool) (z : Option Note) → (v ≡ true → is_none p.vote ≡ true → ⊥) → m ≡ false → (s ≡ true → is_none p.owner ≡ true → ⊥)
+    → is_unplanned p (or_else (note_by v m w s) z) ≡ true → s ≡ false
+request_unowed p true m w s z f n g k = absurd (f refl (silent_vote p.vote k))
+request_unowed p false true w s z f n g k = absurd cc
+request_unowed p false false true true z f n g k = absurd (g refl (silent_owner p.owner k))
+request_unowed p false false false true z f n g k = absurd (g refl (silent_owner p.owner k))
+request_unowed p false false w false z f n g k = refl
 
 -- what is due of a row is what its own note is
 row_unplanned : (p : ℕ → Plan) (h : List Entry) (i : ℕ) (x : Row) → IsUnowed p h → slice_get (rows h) i ≡ Some x
@@ -208,10 +208,6 @@ row_unplanned p h i x r e =
     let own : is_unplanned (p n) (note_at o n (find (is_of n) (rows h))) ≡ true = each-at (λ y. is_unplanned (p y.number.value) (due_of o y.number.value)) (rows h) i x each_name e in
     let found : is_unplanned (p n) (note_at o n (Some x)) ≡ true = ap (λ (y : Option Row). is_unplanned (p n) (note_at o n y)) (sym (row_found h i x r.once e)) ∙ own in
     ap (λ b. is_unplanned (p n) (if b then None else or_else (row_note o x) (note_of_conn (conn_due o n)))) (sym (here h n r.unlost)) ∙ found
-
--- the row is willing
-row_willing : (p : ℕ → Plan) (h : List Entry) (i : ℕ) (x : Row) → IsUnowed p h → slice_get (rows h) i ≡ Some x → is_willing (p x.number.value) x.class ≡ true
-row_willing p h i x r e = each-at (λ y. is_willing (p y.number.value) y.class) (rows h) i x (each_rows (λ e c. is_willing (p e.value) c) h ∙ r.willing) e
 
 -- a durable or promotable that was asked to prepare got PREPARE
 prepare_got : (e : EnlNo) (h : List Entry) → always is_asked_well h ≡ true → has (is_asked e.value) h ≡ true → (has (is_volatile_made e.value) h || has (is_got_on (Enl e) Down PREPARE) h) ≡ true
@@ -288,8 +284,8 @@ all_answered p h r u l = each_from_at has_answered (rows h) (λ i x e. row i x e
     row : (i : ℕ) (x : Row) → slice_get (rows h) i ≡ Some x → has_answered x ≡ true
     row i x e =
         step (is_marked x) (has_voted x) (may_still_vote (observe h) x) (marked_votes p h i x r u l e)
-        (vote_unowed (p x.number.value) x.class (owes_vote (observe h) x) (owes_promotion (observe h) x) (owes_outcome (observe h) x) (owes_request (observe h) x)
-        (note_of_conn (conn_due (observe h) x.number.value)) (row_willing p h i x r e) (row_unplanned p h i x r e))
+        (vote_unowed (p x.number.value) (owes_vote (observe h) x) (owes_promotion (observe h) x) (owes_outcome (observe h) x) (owes_request (observe h) x)
+        (note_of_conn (conn_due (observe h) x.number.value)) (r.heeded i x e).votes (row_unplanned p h i x r e))
       where
         step : (m v w : Bool) → (m ≡ true → w ≡ true) → (m && not v && w) ≡ false → (not m || v) ≡ true
         step true true w f k = refl
@@ -311,23 +307,21 @@ all_voted p h r u l e k = voted_cast e h (each_of (rows h) (all_answered p h r u
         step true v m k = k
         step false v m k = absurd cc
 
--- a promotable that was asked stands
-asked_stands : (q : Entry → Bool) → ((e : Entry) (h : List Entry) → q e ≡ true → is_asked_well h e ≡ true → has_promotable h ≡ true) → (h : List Entry) → always is_asked_well h ≡ true → has q h ≡ true
-    → has_promotable h ≡ true
-asked_stands q at [] w k = absurd cc
-asked_stands q at (x ∷ h) w k =
-    later x (or_case (q x) (has q h) (λ a. at x h a (and_left (is_asked_well h x) (always is_asked_well h) w)) (asked_stands q at h (and_right (is_asked_well h x) (always is_asked_well h) w)) k)
-  where
-    later : (x : Entry) → has_promotable h ≡ true → has_promotable (x ∷ h) ≡ true
-    later (Enlisted e c) k = or_right (is_promotable c) (has_promotable h) k
-    later x k = k
+-- who was asked by an entry that names a promotable, and its row
+record IsAskedRow (q : ℕ → Entry → Bool) (h : List Entry) : Type 0 where
+  place : ℕ
+  row : Row
+  stands : slice_get (rows h) place ≡ Some row
+  promotable : is_promotable row.class ≡ true
+  asked : has (q row.number.value) h ≡ true
 
-made_promotable : (e : ℕ) (h : List Entry) → has (is_made e is_promotable) h ≡ true → has_promotable h ≡ true
-made_promotable e [] k = absurd cc
-made_promotable e (Enlisted f c ∷ h) k =
-    or_case ((e == f.value) && is_promotable c) (has (is_made e is_promotable) h) (λ a. or_left (is_promotable c) (has_promotable h) (and_right (e == f.value) (is_promotable c) a))
-    (λ a. or_right (is_promotable c) (has_promotable h) (made_promotable e h a)) k
-made_promotable e (x ∷ h) k = made_promotable e h k
+asked_one : (p : Entry → Bool) (q : ℕ → Entry → Bool) → ((x : Entry) (h : List Entry) → p x ≡ true → is_asked_well h x ≡ true → (e : ℕ) × (q e x ≡ true) × (has (is_made e is_promotable) h ≡ true)) → (h : List Entry) → always is_asked_well h ≡ true
+    → has p h ≡ true → (e : ℕ) × (has (q e) h ≡ true) × (has (is_made e is_promotable) h ≡ true)
+asked_one p q at [] w k = absurd cc
+asked_one p q at (x ∷ h) w k =
+    or_case (p x) (has p h)
+    (λ a. let f = at x h a (and_left (is_asked_well h x) (always is_asked_well h) w) in (f.0, or_left (q f.0 x) (has (q f.0) h) f.1, or_right (is_made f.0 is_promotable x) (has (is_made f.0 is_promotable) h) f.2))
+    (λ a. let f = asked_one p q at h (and_right (is_asked_well h x) (always is_asked_well h) w) a in (f.0, or_right (q f.0 x) (has (q f.0) h) f.1, or_right (is_made f.0 is_promotable x) (has (is_made f.0 is_promotable) h) f.2)) k
 
 -- one that passes stands at a place
 first_row : (q : Row → Bool) (xs : List Row) → has q xs ≡ true → (i : ℕ) × (x : Row) × (slice_get xs i ≡ Some x) × (q x ≡ true)
@@ -339,44 +333,113 @@ first_row q (x ∷ xs) k = step (first_row q xs) (q x) refl k
     step ih true e k = (zero, x, refl, e)
     step ih false e k = let f = ih k in (suc f.0, f.1, f.2, f.3)
 
--- of a promotable that stands neither a reply to promote nor a request is due
-promotable_rests : (p : ℕ → Plan) (h : List Entry) → IsUnowed p h → has_promotable h ≡ true → has is_decision h ≡ false
-    → ((has is_ask_promote h && not (has is_promote_reply h)) ≡ false) × ((has is_ask_single h && not (has is_request h)) ≡ false)
-unfolding observe
-promotable_rests p h r k u = let f = first_row (λ x. is_promotable x.class) (rows h) (has_rows (λ e c. is_promotable c) h ∙ k) in own f.0 f.1 f.2 f.3
-  where
-    open_still : (a b q d : Bool) → q ≡ true → d ≡ false → (a && not b && q && not d) ≡ false → (a && not b) ≡ false
-    open_still true true q d s t k = refl
-    open_still true false true false s t k = absurd cc
-    open_still true false true true s t k = absurd cc
-    open_still true false false d s t k = absurd cc
-    open_still false b q d s t k = refl
+asked_row : (p : Entry → Bool) (q : ℕ → Entry → Bool) → ((x : Entry) (h : List Entry) → p x ≡ true → is_asked_well h x ≡ true → (e : ℕ) × (q e x ≡ true) × (has (is_made e is_promotable) h ≡ true)) → (h : List Entry) → always is_asked_well h ≡ true
+    → has p h ≡ true → IsAskedRow q h
+asked_row p q at h w k =
+    let one = asked_one p q at h w k in
+    let e : ℕ = one.0 in
+    let f = first_row (λ y. is_of e y && is_promotable y.class) (rows h) (made_row e is_promotable h one.2) in
+    record {
+      place = f.0;
+      row = f.1;
+      stands = f.2;
+      promotable = and_right (is_of e f.1) (is_promotable f.1.class) f.3;
+      asked = subst (λ n. has (q n) h ≡ true) (eqb-true e f.1.number.value (and_left (is_of e f.1) (is_promotable f.1.class) f.3)) one.1;
+    }
 
-    own : (i : ℕ) (x : Row) → slice_get (rows h) i ≡ Some x → is_promotable x.class ≡ true
-        → ((has is_ask_promote h && not (has is_promote_reply h)) ≡ false) × ((has is_ask_single h && not (has is_request h)) ≡ false)
-    own i x e q =
-        let decided : is_some (latest decision_of h) ≡ false = ap is_some (none_decided h u) in
-        let both = promotable_unowed (p x.number.value) x.class (owes_vote (observe h) x) (owes_promotion (observe h) x) (owes_outcome (observe h) x) (owes_request (observe h) x)
-        (note_of_conn (conn_due (observe h) x.number.value)) (row_willing p h i x r e) q (row_unplanned p h i x r e) in (
-          open_still (has is_ask_promote h) (has is_promote_reply h) (is_promotable x.class) (is_some (latest decision_of h)) q decided both.0,
-          open_still (has is_ask_single h) (has is_request h) (is_promotable x.class) (is_some (latest decision_of h)) q decided both.1,
-        )
+-- what is still open is so by its reply alone
+open_still : (a b q d : Bool) → q ≡ true → d ≡ false → (a && not b && q && not d) ≡ false → (a && not b) ≡ false
+open_still true true q d s t k = refl
+open_still true false true false s t k = absurd cc
+open_still true false true true s t k = absurd cc
+open_still true false false d s t k = absurd cc
+open_still false b q d s t k = refl
 
 done : (a b : Bool) → a ≡ true → (a && not b) ≡ false → b ≡ true
 done true true k n = refl
 done true false k n = absurd cc
 done false b k n = absurd cc
 
+-- so a promotable that was asked to promote has replied
 pub promotion_replied : (p : ℕ → Plan) (h : List Entry) → IsUnowed p h → has is_decision h ≡ false → has is_ask_promote h ≡ true → has is_promote_reply h ≡ true
-promotion_replied p h r u k = done (has is_ask_promote h) (has is_promote_reply h) k (promotable_rests p h r (asked_stands is_ask_promote at h r.well k) u).0
+unfolding observe
+promotion_replied p h r u k = by (asked_row is_ask_promote is_asked_to_promote at h r.well k)
   where
-    at : (x : Entry) (h : List Entry) → is_ask_promote x ≡ true → is_asked_well h x ≡ true → has_promotable h ≡ true
-    at (Asked e AskPromote) h k w = made_promotable e.value h w
+    at : (x : Entry) (h : List Entry) → is_ask_promote x ≡ true → is_asked_well h x ≡ true → (e : ℕ) × (is_asked_to_promote e x ≡ true) × (has (is_made e is_promotable) h ≡ true)
+    at (Asked e AskPromote) h k w = (e.value, eq_self e.value, w)
     at x h k w = absurd cc
 
+    by : IsAskedRow is_asked_to_promote h → has is_promote_reply h ≡ true
+    by a =
+        let x = a.row in
+        let heeded = r.heeded a.place x a.stands in
+        done (has is_ask_promote h) (has is_promote_reply h) k
+        (open_still (has is_ask_promote h) (has is_promote_reply h) (is_promotable x.class) (is_some (latest decision_of h)) a.promotable (ap is_some (none_decided h u))
+        (promotion_unowed (p x.number.value) (owes_vote (observe h) x) (owes_promotion (observe h) x) (owes_outcome (observe h) x) (owes_request (observe h) x)
+        (note_of_conn (conn_due (observe h) x.number.value)) heeded.votes (heeded.promotes a.asked) (row_unplanned p h a.place x r a.stands)))
+
+-- and one that was asked for its single phase has requested
 pub commit_requested : (p : ℕ → Plan) (h : List Entry) → IsUnowed p h → has is_decision h ≡ false → has is_ask_single h ≡ true → has is_request h ≡ true
-commit_requested p h r u k = done (has is_ask_single h) (has is_request h) k (promotable_rests p h r (asked_stands is_ask_single at h r.well k) u).1
+unfolding observe
+commit_requested p h r u k = by (asked_row is_ask_single is_asked_alone at h r.well k)
   where
-    at : (x : Entry) (h : List Entry) → is_ask_single x ≡ true → is_asked_well h x ≡ true → has_promotable h ≡ true
-    at (Asked e AskSingle) h k w = made_promotable e.value h w
+    at : (x : Entry) (h : List Entry) → is_ask_single x ≡ true → is_asked_well h x ≡ true → (e : ℕ) × (is_asked_alone e x ≡ true) × (has (is_made e is_promotable) h ≡ true)
+    at (Asked e AskSingle) h k w = (e.value, eq_self e.value, w)
     at x h k w = absurd cc
+
+    replied : (a b q d : Bool) → (a ≡ true → b ≡ true) → (a && not b && q && not d) ≡ false
+    replied true true q d f = refl
+    replied true false q d f = absurd (not_both false (f refl) refl)
+    replied false b q d f = refl
+
+    by : IsAskedRow is_asked_alone h → has is_request h ≡ true
+    by a =
+        let x = a.row in
+        let heeded = r.heeded a.place x a.stands in
+        done (has is_ask_single h) (has is_request h) k
+        (open_still (has is_ask_single h) (has is_request h) (is_promotable x.class) (is_some (latest decision_of h)) a.promotable (ap is_some (none_decided h u))
+        (request_unowed (p x.number.value) (owes_vote (observe h) x) (owes_promotion (observe h) x) (owes_outcome (observe h) x) (owes_request (observe h) x)
+        (note_of_conn (conn_due (observe h) x.number.value)) heeded.votes
+        (replied (has is_ask_promote h) (has is_promote_reply h) (is_promotable x.class) (is_some (latest decision_of h)) (promotion_replied p h r u)) (heeded.commits a.asked) (row_unplanned p h a.place x r a.stands)))
+
+-- The plan of one that is willing has each reply that is due of it.
+pub willing_heeded : (p : Plan) (h : List Entry) (x : Row) → is_willing p x.class ≡ true → IsHeeded p h x
+unfolding observe
+willing_heeded p h x w =
+    record {
+      votes = λ o n. vote_there p.vote (plans_vote w) n;
+      promotes = λ a o n. promotion_there p.promote (plans_promotion x.class w (promotable_owes (has is_ask_promote h) (has is_promote_reply h) (is_promotable x.class) (is_some (latest decision_of h)) o)) n;
+      commits = λ a o n. owner_there p.owner (plans_owner x.class w (owns x.class (promotable_owes (has is_ask_single h) (has is_request h) (is_promotable x.class) (is_some (latest decision_of h)) o))) n;
+    }
+  where
+    vote_there : (o : Option Vote) → voted_well o ≡ true → is_none o ≡ true → ⊥
+    vote_there (Some v) w k = cc
+    vote_there None w k = cc
+
+    owner_there : (o : Option Outcome) → is_committed o ≡ true → is_none o ≡ true → ⊥
+    owner_there (Some x) w k = cc
+    owner_there None w k = cc
+
+    promotion_there : (o : Option Bool) → holds o ≡ true → is_none o ≡ true → ⊥
+    promotion_there (Some b) w k = cc
+    promotion_there None w k = cc
+
+    promotable_owes : (a b q d : Bool) → (a && not b && q && not d) ≡ true → q ≡ true
+    promotable_owes a b q d k = and_right (a && not b) q (and_left (a && not b && q) (not d) k)
+
+    plans_vote : is_willing p x.class ≡ true → voted_well p.vote ≡ true
+    plans_vote w = and_left (voted_well p.vote) (not (can_own x.class) || is_committed p.owner) (and_left (voted_well p.vote && (not (can_own x.class) || is_committed p.owner)) (not (is_promotable x.class) || holds p.promote) w)
+
+    held : (a b : Bool) → a ≡ true → (not a || b) ≡ true → b ≡ true
+    held true b e k = k
+    held false b e k = absurd cc
+
+    plans_owner : (c : Class) → is_willing p c ≡ true → can_own c ≡ true → is_committed p.owner ≡ true
+    plans_owner c w o = held (can_own c) (is_committed p.owner) o (and_right (voted_well p.vote) (not (can_own c) || is_committed p.owner) (and_left (voted_well p.vote && (not (can_own c) || is_committed p.owner)) (not (is_promotable c) || holds p.promote) w))
+
+    plans_promotion : (c : Class) → is_willing p c ≡ true → is_promotable c ≡ true → holds p.promote ≡ true
+    plans_promotion c w o = held (is_promotable c) (holds p.promote) o (and_right (voted_well p.vote && (not (can_own c) || is_committed p.owner)) (not (is_promotable c) || holds p.promote) w)
+
+pub all_heeded : (p : ℕ → Plan) (h : List Entry) → each (λ x. is_willing (p x.0.value) x.1) (enlisted h) ≡ true → (i : ℕ) (x : Row) → slice_get (rows h) i ≡ Some x → IsHeeded (p x.number.value) h x
+all_heeded p h w i x e =
+    willing_heeded (p x.number.value) h x (each-at (λ y. is_willing (p y.number.value) y.class) (rows h) i x (each_rows (λ e c. is_willing (p e.value) c) h ∙ w) e)

@@ -53,7 +53,7 @@ pub record IsTabled (h : List Entry) : Type 0 where
   pub shut : always is_closed_well h ≡ true
 
 -- who made an enlistment called
-maker_called : (e : ℕ) (c : Call) → makes_enlistment e c ≡ true → call_makes (OfEnlistment e) c ≡ true
+pub maker_called : (e : ℕ) (c : Call) → makes_enlistment e c ≡ true → call_makes (OfEnlistment e) c ≡ true
 maker_called e (Volatile t f x v) k = k
 maker_called e (Durable t f r s) k = k
 maker_called e (Promotable t f r v x p) k = k

@@ -9,26 +9,24 @@ use Rattle.dtx_values.specs.declared.message.Dir.{Dir}
 use Rattle.dtx_values.specs.declared.message.Dir.TheVariants.{Up, Down}
 use Rattle.dtx_values.specs.declared.message.Message.TheVariants.{BeginCommit, EnlistEnlist, EnlistPrepare, EnlistPrepared, EnlistReadonly}
 use Rattle.dtx_values.specs.declared.number.EnlNo.{EnlNo}
-use Rattle.dtx_values.specs.declared.script.Line.{Line}
 use Rattle.dtx_values.specs.Clones.{is_open_block}
 use Rattle.dtx_values.specs.Lines.{is_opening}
 use Rattle.dtx_values.specs.Waves.{zeros_voted}
 use Rattle.dtx_model.specs.Words.{has, each, always}
-use Rattle.dtx_model.specs.Entries.{is_asked, is_decision, is_promoted, is_record, is_sealed, is_vote}
+use Rattle.dtx_model.specs.Entries.{is_asked, is_commit, is_decision, is_promoted, is_record, is_sealed, is_vote}
 use Rattle.dtx_model.specs.Observed.{clone_rows, is_ask_promote, is_ask_single, is_promote_reply, is_request, rows}
 use Rattle.dtx_model.specs.Promotes.{is_promoting}
 use Rattle.dtx_model.specs.Tied.{is_logged}
-use Rattle.dtx_model.specs.Wires.{WireRun, in_transit}
+use Rattle.dtx_model.specs.Wires.{in_transit}
 use Rattle.dtx_model.specs.Coordinated.{coordinate, may_log}
 use Rattle.dtx_model.specs.declared.waiting.EnteredCall.{EnteredCall}
 use Rattle.dtx_model.specs.Waiting.{waiting}
 use Rattle.dtx_model.specs.Half.{half_of}
 use Rattle.dtx_model.specs.Acts.{act_entries}
-use Rattle.dtx_model.specs.History.{CanCommit}
 use Rattle.outcome_law.proofs.Settled.{has_answered}
-use Rattle.outcome_law.proofs.Whole.{is_got_on, is_opened_once, is_sent_on}
+use Rattle.outcome_law.proofs.Whole.{is_got_on, is_sent_on}
 use Rattle.outcome_law.proofs.Messages.{ASK, BEGUN, COMMIT, CREATED, ENLIST, PREPARE}
-use Rattle.outcome_law.proofs.Fine.{is_caused}
+use Rattle.outcome_law.proofs.Fine.{IsFine}
 use Rattle.outcome_law.proofs.Debts.{is_volatile_made, owes_none, paid, pays}
 use Rattle.outcome_law.proofs.OnTheWay.{is_on_its_way, is_unplaced}
 
@@ -71,17 +69,15 @@ pub record IsQuiet (h : List Entry) : Type 0 where
   pub free : owes_none h ≡ true
   pub empty : (c : Conn) (d : Dir) → in_transit c d h ≡ []
 
--- A history at rest, that can commit, by a script and the calls that were entered.
-pub record IsAtRest (s : List Line) (ks : List EnteredCall) (h : List Entry) : Type 0 where
+-- A history at rest, by the calls that were entered: nothing bad came, unless something is decided.
+pub record IsAtRest (ks : List EnteredCall) (h : List Entry) : Type 0 where
   -- by the table of rules
-  pub opened : always is_opened_once h ≡ true
-  pub caused : always is_caused h ≡ true
+  pub fine : has is_decision h ≡ false → IsFine h
   pub later : always is_after_start h ≡ true
   pub sound : always is_sound h ≡ true
   pub ordered : always is_ordered h ≡ true
   pub begun : always is_begun h ≡ true
   pub paying : always pays h ≡ true
-  pub run : WireRun h
   -- by the table and the rows: after the seal each Zero voted, and no blocking clone is open
   pub zeros : has is_sealed h ≡ true → zeros_voted (rows h) ≡ true
   pub closed : has is_open_block (clone_rows h) ≡ false
@@ -90,7 +86,7 @@ pub record IsAtRest (s : List Line) (ks : List EnteredCall) (h : List Entry) : T
   pub free : owes_none h ≡ true
   pub waits : has is_promoted h ≡ true → each (is_on_its_way h) (waiting ks h) ≡ true
   pub unplaced : each (is_unplaced h) (waiting ks h) ≡ true
-  pub prepares : has is_logged h ≡ false → has (is_got_on Begin Up COMMIT) h ≡ true → (e : EnlNo) → has (is_got_on (Enl e) Up ENLIST) h ≡ true → has (is_sent_on (Enl e) Down PREPARE) h ≡ true
+  pub prepares : has is_decision h ≡ false → has is_logged h ≡ false → has (is_got_on Begin Up COMMIT) h ≡ true → (e : EnlNo) → has (is_got_on (Enl e) Up ENLIST) h ≡ true → has (is_sent_on (Enl e) Down PREPARE) h ≡ true
   pub lasting : (e : EnlNo) → has (is_got_on (Enl e) Up ENLIST) h ≡ true → has (is_volatile_made e.value) h ≡ false
   -- nothing is pending: no message, no act of either side, and no reply
   pub empty : (c : Conn) (d : Dir) → in_transit c d h ≡ []
@@ -100,6 +96,6 @@ pub record IsAtRest (s : List Line) (ks : List EnteredCall) (h : List Entry) : T
   pub voted : has is_decision h ≡ false → has is_logged h ≡ false → (e : EnlNo) → has (is_asked e.value) h ≡ true → has (is_vote e.value) h ≡ true
   pub replied : has is_decision h ≡ false → has is_ask_promote h ≡ true → has is_promote_reply h ≡ true
   pub requested : has is_decision h ≡ false → has is_ask_single h ≡ true → has is_request h ≡ true
-  -- it can commit, and a promotion began
-  pub can : CanCommit s h
+  -- the commit was asked for, and a promotion began
+  pub asked : has is_commit h ≡ true
   pub started : has is_promoting h ≡ true

@@ -19,7 +19,6 @@ use Rattle.dtx_model.specs.Wires.{in_transit}
 use Rattle.dtx_model.specs.Caused.{entered_in}
 use Rattle.dtx_model.proofs.Cast.{a1, id1, says, t1}
 use Rattle.dtx_model.proofs.Computing.{model}
-use Rattle.dtx_model.proofs.Crossing.{wired}
 use Rattle.outcome_law.proofs.Rest.{IsAtRest}
 use Rattle.outcome_law.proofs.Promotions.{IsTabled}
 
@@ -43,23 +42,21 @@ none_on_the_way (Enl e) Down = refl
 none_on_the_way (Again e) Up = refl
 none_on_the_way (Again e) Down = refl
 
-marshalled_rests : IsAtRest lines (entered_in lines (past_of marshalled)) (past_of marshalled)
+marshalled_rests : IsAtRest (entered_in lines (past_of marshalled)) (past_of marshalled)
 unfolding model
 marshalled_rests = record {
-  opened = refl;
-  caused = refl;
+  fine = λ d. absurd cc;
   later = refl;
   sound = refl;
   ordered = refl;
   begun = refl;
   paying = refl;
-  run = wired (past_of marshalled) refl;
   zeros = λ k. refl;
   closed = refl;
   free = refl;
   waits = λ k. refl;
   unplaced = refl;
-  prepares = λ l k e n. absurd cc;
+  prepares = λ d l k e n. absurd cc;
   lasting = λ e n. refl;
   empty = none_on_the_way;
   act = refl;
@@ -68,7 +65,7 @@ marshalled_rests = record {
   voted = λ u l e a. absurd cc;
   replied = λ u a. absurd cc;
   requested = λ u a. absurd cc;
-  can = record { asked = refl; in_time = refl; completed = refl; willing = refl; planned = refl; ended_by_none = refl; unlost = refl };
+  asked = refl;
   started = refl;
 }
 

@@ -1,19 +1,17 @@
 -- Where nothing was lost, nothing is on the way and nothing is decided, nothing bad came: no veto, no abort, no refusal. For whatever ends the transaction decides at the local
 -- side in its block, or comes to the coordinator, which aborts and says so.
-use Rattle.std.proofs.Common.{◌≡◌, ℕ, ◌==◌, Bool, true, false, ◌&&◌, ◌||◌, List, [], ◌∷◌, refl, ◌∙◌, ap, subst, sym}
+use Rattle.std.proofs.Common.{◌≡◌, ℕ, ◌==◌, Bool, true, false, ◌&&◌, ◌||◌, List, [], ◌∷◌, refl, subst, sym}
 use Rattle.std.specs.Prelude.{not, if◌then◌else◌}
 use Rattle.std.proofs.lemmas.Bool.{eqb-true, false_from_ne_true, or_left, true_from_ne_false}
 use Rattle.dtx_values.specs.declared.entry.Entry.{Entry}
-use Rattle.dtx_values.specs.declared.entry.Entry.TheVariants.{Enlisted, Got, LogFull, OwnerAnswered, PromoteReply, Requested, Restarted, RollbackAsked, Sent, TimedOut, Voted}
+use Rattle.dtx_values.specs.declared.entry.Entry.TheVariants.{Enlisted, Got, LogFull, OwnerAnswered, PromoteReply, Requested, RollbackAsked, Sent, TimedOut, Voted}
 use Rattle.dtx_values.specs.declared.entry.Request.TheVariants.{Abort}
 use Rattle.dtx_values.specs.declared.message.Conn.{Conn}
 use Rattle.dtx_values.specs.declared.message.Conn.TheVariants.{Begin, Enl}
-use Rattle.dtx_values.specs.declared.message.Dir.{Dir}
 use Rattle.dtx_values.specs.declared.message.Dir.TheVariants.{Up, Down}
 use Rattle.dtx_values.specs.declared.message.Message.{Message}
 use Rattle.dtx_values.specs.declared.message.Message.TheVariants.{BeginAbort, BeginAborted, BeginCommitted, EnlistNo}
 use Rattle.dtx_values.specs.declared.number.EnlNo.{EnlNo}
-use Rattle.dtx_values.specs.declared.words.Class.{Class}
 use Rattle.dtx_values.specs.declared.words.Vote.{Vote}
 use Rattle.dtx_values.specs.declared.words.Vote.TheVariants.{Done, No, Yes}
 use Rattle.dtx_values.specs.Class.{is_volatile}
@@ -25,7 +23,7 @@ use Rattle.dtx_model.specs.Words.{always, each, has}
 use Rattle.dtx_model.specs.Entries.{is_asked, is_decision, is_good_vote, is_lost, is_promoted, is_vote}
 use Rattle.dtx_model.specs.Observed.{ends_of}
 use Rattle.dtx_model.specs.Outcome.{enlisted, is_outcome_got}
-use Rattle.dtx_model.specs.Wires.{WireRun, in_transit, is_stopped}
+use Rattle.dtx_model.specs.Wires.{WireRun}
 use Rattle.dtx_model.specs.Coordinated.{Coordinated, abort_if, coordinate, follow, is_undecided, stage_after}
 use Rattle.dtx_model.specs.Caused.{same_vote}
 use Rattle.dtx_model.specs.History.{is_loss}
@@ -35,12 +33,12 @@ use Rattle.outcome_law.proofs.Connections.{same_is}
 use Rattle.outcome_law.proofs.Scans.{has_less, has_more}
 use Rattle.outcome_law.proofs.Rule.{is_answer, is_enlisted}
 use Rattle.outcome_law.proofs.Going.{is_no_vote}
-use Rattle.outcome_law.proofs.Table.{is_abort_request, is_cast, rule}
+use Rattle.outcome_law.proofs.Table.{is_abort_request, is_cast}
 use Rattle.outcome_law.proofs.Keeping.{Keeps, keeps_before, newest}
-use Rattle.outcome_law.proofs.Undecided.{Stands, goes_on, is_willing}
+use Rattle.outcome_law.proofs.Undecided.{Stands, goes_on}
 use Rattle.outcome_law.proofs.Whole.{is_got_on, is_sent_on, whole, whole_of}
 use Rattle.outcome_law.proofs.Messages.{ABORT, BEGUN, NO, OUTCOME, PREPARE, VOTE}
-use Rattle.outcome_law.proofs.Fine.{IsFine, is_caused, is_origin, is_restart}
+use Rattle.outcome_law.proofs.Fine.{IsFine, is_caused, is_origin}
 use Rattle.outcome_law.proofs.Debts.{is_volatile_made}
 use Rattle.outcome_law.proofs.Rest.{IsQuiet, is_sound}
 use Rattle.outcome_law.proofs.Arrived.{arrived, before}
@@ -53,7 +51,7 @@ use Rattle.outcome_law.proofs.OpenedRows.{kept_opened}
 use Rattle.outcome_law.proofs.BeforeRows.{kept_sound}
 use Rattle.outcome_law.proofs.Unblamed.{unblamed}
 use Rattle.outcome_law.proofs.Ending.{IsGoingOn, IsUnended, is_local_end}
-use Rattle.outcome_law.proofs.Announced.{IsAnnounced, IsUnlost}
+use Rattle.outcome_law.proofs.Announced.{IsAnnounced}
 
 -- What reaches the coordinator, and makes it abort: the request of an abort, and a durable's No; and where its log is full.
 abbrev pub is_core_end : Entry → Bool

@@ -41,7 +41,7 @@ ghost use Rattle.dtx_model.specs.Caused.{IsCallOf, is_new, AreMadeOnce, Caused, 
 ghost use Rattle.dtx_model.specs.AtLog.{is_local_trace};
 ghost use Rattle.dtx_model.specs.Traces.{Placed, history, at_context, calls};
 ghost use Rattle.dtx_model.specs.Replay.{IsReplayed, LinesRan, due_calls};
-ghost use Rattle.dtx_model.specs.History.{AreAnswered, CanCommit, IsHistory, IsReplay, IsToldOrWaits};
+ghost use Rattle.dtx_model.specs.History.{AreAnswered, CanCommit, IsHistory, IsReplay, IsToldOrWaits, is_loss};
 ghost use Rattle.dtx_model.specs.Grammar.{are_named_well};
 ghost use Rattle.dtx_model.specs.Built.{is_run_line};
 
@@ -77,13 +77,16 @@ pub fn crossings()
     ensures wires { (s : List Line) (t : ℕ) (h : List Entry) → FreelyCaused (IsCallOf s t) t h → WireRun h }
 {}
 
-/// A settled transaction that can commit is committed, promoted or not: its client was told so. Where commit was asked, the client was told some outcome,
-/// or a blocking clone is open, or an enlistment whose reply is needed plans none. And each enlistment that came back was told.
+/// A settled transaction that can commit is committed, promoted or not: its client was told so. Where nothing is promoted, and also where nothing was lost: if
+/// commit was asked, the client was told some outcome, or a blocking clone is open, or an enlistment whose reply is needed plans none; and each enlistment
+/// that came back was told.
 pub fn completeness()
     ensures told { (s : List Line) (k t : ℕ) (h : List Entry) → are_named_well s ≡ true → Caused s k t h → is_unpromoted h ≡ true → IsToldOrWaits s h }
+    ensures told_unlost { (s : List Line) (k t : ℕ) (h : List Entry) → are_named_well s ≡ true → Caused s k t h → has is_loss h ≡ false → IsToldOrWaits s h }
     ensures committed { (s : List Line) (k t : ℕ) (h : List Entry) → are_named_well s ≡ true → Caused s k t h → Settled s h → CanCommit s h
         → has (is_client_told Committed) h ≡ true }
     ensures answered { (s : List Line) (k t : ℕ) (h : List Entry) → are_named_well s ≡ true → Caused s k t h → is_unpromoted h ≡ true → AreAnswered s h }
+    ensures answered_unlost { (s : List Line) (k t : ℕ) (h : List Entry) → are_named_well s ≡ true → Caused s k t h → has is_loss h ≡ false → AreAnswered s h }
 {}
 
 /// What a replay does in its order is caused by its script in each transaction where its replies are as planned, is at each context what its actor's lines

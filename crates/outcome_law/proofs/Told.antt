@@ -1,0 +1,225 @@
+-- A settled history of a script in which nothing was lost and the commit was asked for, promoted or not: the client was told, or there is something that it waits for.
+use Rattle.std.proofs.Common.{◌≡◌, ℕ, Bool, true, false, ◌&&◌, ◌||◌, List, [], ◌∷◌, slice_get, Some, refl, ◌∙◌, ap, sym, subst}
+use Rattle.std.specs.Prelude.{is_none, is_some, not}
+use Rattle.std.proofs.lemmas.Bool.{false_from_ne_true, or_left}
+use Rattle.dtx_values.specs.declared.entry.Entry.{Entry}
+use Rattle.dtx_values.specs.declared.entry.Entry.TheVariants.{PromoteReply, Promoting, Requested, Restarted}
+use Rattle.dtx_values.specs.declared.note.Plan.{Plan}
+use Rattle.dtx_values.specs.declared.number.EnlNo.{EnlNo}
+use Rattle.dtx_values.specs.declared.row.Row.{Row}
+use Rattle.dtx_values.specs.declared.script.Line.{Line}
+use Rattle.dtx_values.specs.declared.words.Class.{Class}
+use Rattle.dtx_values.specs.Class.{is_promotable}
+use Rattle.dtx_values.specs.Clones.{blocks}
+use Rattle.dtx_values.specs.Row.{has_voted, is_marked}
+use Rattle.dtx_model.specs.Words.{all_of, each, has, latest}
+use Rattle.dtx_model.specs.Entries.{client_told_of, clone_of, is_any_owner, is_asked, is_asked_alone, is_asked_to_promote, is_commit, is_decision, is_hand, is_promote_reply_of, is_request_of, is_vote}
+use Rattle.dtx_model.specs.Observed.{is_ask_promote, is_ask_single, is_promote_reply, is_request, observe, rows}
+use Rattle.dtx_model.specs.Outcome.{enlisted, is_complete}
+use Rattle.dtx_model.specs.Promotes.{is_promoting}
+use Rattle.dtx_model.specs.Wires.{is_stopped}
+use Rattle.dtx_model.specs.Waiting.{Waiter, waiting}
+use Rattle.dtx_model.specs.Plans.{plan_of}
+use Rattle.dtx_model.specs.Replies.{may_still_vote}
+use Rattle.dtx_model.specs.World.{World}
+use Rattle.dtx_model.specs.Grammar.{are_named_well}
+use Rattle.dtx_model.specs.Caused.{Caused, IsCallOf, Settled, entered_in, is_promoting_entry, plans_of}
+use Rattle.dtx_model.specs.History.{IsToldOrWaits, is_loss, is_silent, is_waiting}
+use Rattle.dtx_model.proofs.Bools.{and_both, and_left, and_right, not_both, not_false, not_true, or_first, or_right, or_second}
+use Rattle.dtx_model.proofs.Local.{free-local}
+use Rattle.outcome_law.proofs.Scans.{has_less, has_more}
+use Rattle.outcome_law.proofs.Picks.{has-at}
+use Rattle.outcome_law.proofs.Owned.{has_rows}
+use Rattle.outcome_law.proofs.Rule.{is_enlisted}
+use Rattle.outcome_law.proofs.Names.{script_once}
+use Rattle.outcome_law.proofs.Blocks.{script_kept}
+use Rattle.outcome_law.proofs.Runs.{free_run}
+use Rattle.outcome_law.proofs.Settlings.{settled_act, settled_unplanned}
+use Rattle.outcome_law.proofs.Silent.{told_or_waits}
+use Rattle.outcome_law.proofs.Planned.{plan_same}
+use Rattle.outcome_law.proofs.ScriptCalls.{waiting_read}
+use Rattle.outcome_law.proofs.OnceMade.{ran_once}
+use Rattle.outcome_law.proofs.Makers.{AreMade, all_lasting, all_unplaced, ran_made}
+use Rattle.outcome_law.proofs.Waiters.{ran_waits}
+use Rattle.outcome_law.proofs.Prepared.{ran_prepares}
+use Rattle.outcome_law.proofs.Meeting.{ran_paid}
+use Rattle.outcome_law.proofs.OnTheWay.{is_on_its_way, is_unplaced}
+use Rattle.outcome_law.proofs.Whole.{whole, whole_of}
+use Rattle.outcome_law.proofs.Fine.{IsFine, is_restart}
+use Rattle.outcome_law.proofs.Arrived.{before, unstopped}
+use Rattle.outcome_law.proofs.Rest.{IsAtRest}
+use Rattle.outcome_law.proofs.Climbed.{told_at_rest}
+use Rattle.outcome_law.proofs.Owed.{IsHeeded, IsUnowed, all_answered, all_voted, commit_requested, promotion_replied}
+use Rattle.outcome_law.proofs.Idle.{idle, none_on_the_way}
+use Rattle.outcome_law.proofs.Keeping.{Keeps, keeps_before, newest}
+use Rattle.outcome_law.proofs.ByTable.{ruled_later, ruled_recorded}
+use Rattle.outcome_law.proofs.BeforeRows.{kept_begun, kept_ordered, kept_sound}
+use Rattle.outcome_law.proofs.OpenedRows.{kept_opened}
+use Rattle.outcome_law.proofs.ClosedRows.{kept_shut}
+use Rattle.outcome_law.proofs.ClosedTables.{sealed_zeros}
+use Rattle.outcome_law.proofs.HalfRows.{open_blocks, row_marked, row_voted, rows_enlisted}
+use Rattle.outcome_law.proofs.Promotions.{maker_called}
+use Rattle.outcome_law.proofs.UnstoppedTies.{unlost_tied}
+use Rattle.outcome_law.proofs.Steady.{run_steady}
+use Rattle.outcome_law.proofs.Promised.{run_rows}
+use Rattle.outcome_law.proofs.Ending.{ran_goes}
+use Rattle.outcome_law.proofs.Announced.{ran_announces}
+use Rattle.outcome_law.proofs.UndecidedFine.{undecided_fine}
+
+-- no restart comes where nothing was lost
+unrestarted : (h : List Entry) → Keeps h → whole h ≡ true → has is_restart h ≡ false
+unrestarted [] k w = refl
+unrestarted (Restarted found ∷ h) k w = absurd (not_both (is_stopped h) (newest (Restarted found) h k) (unstopped h (before (Restarted found) h w)))
+unrestarted (x ∷ h) k w = unrestarted h (keeps_before x h k) (before x h w)
+
+-- The plan of one that isn't silent has each reply that is due of it.
+reply_of : (e : ℕ) (x : Entry) → is_promote_reply_of e x ≡ true → is_promote_reply x ≡ true
+reply_of e (PromoteReply f ok) k = refl
+reply_of e x k = absurd cc
+
+request_of : (e : ℕ) (x : Entry) → is_request_of e x ≡ true → is_request x ≡ true
+request_of e (Requested f r) k = refl
+request_of e x k = absurd cc
+
+heeded : (p : Plan) (h : List Entry) (i : ℕ) (x : Row) → Keeps h → slice_get (rows h) i ≡ Some x → is_silent p h x.number.value ≡ false → IsHeeded p h x
+unfolding observe
+heeded p h i x k e quiet =
+    record {
+      votes = λ o z. not_both prepare
+          (and_both (has (is_asked n) h && is_none p.vote) (not (has (is_vote n) h))
+          (and_both (has (is_asked n) h) (is_none p.vote) (sym (row_marked h i x k e) ∙ and_left (is_marked x) (not (has_voted x)) (and_left (is_marked x && not (has_voted x)) (may_still_vote (observe h) x) o)) z)
+          (ap not (sym (row_voted h i x k e)) ∙ and_right (is_marked x) (not (has_voted x)) (and_left (is_marked x && not (has_voted x)) (may_still_vote (observe h) x) o)))
+          (or_first prepare hand (or_first (prepare || hand) promote first));
+      promotes = λ a o z. not_both promote
+          (and_both (has (is_asked_to_promote n) h && is_none p.promote) (not (has (is_promote_reply_of n) h)) (and_both (has (is_asked_to_promote n) h) (is_none p.promote) a z)
+          (not_false (has (is_promote_reply_of n) h)
+          (has_less (is_promote_reply_of n) is_promote_reply (reply_of n) h (not_true (has is_promote_reply h) (second (has is_ask_promote h) (not (has is_promote_reply h)) (is_promotable x.class) _ o)))))
+          (or_second (prepare || hand) promote first);
+      commits = λ a o z. not_both single
+          (and_both (has (is_asked_alone n) h && is_none p.owner) (not (has (is_request_of n) h)) (and_both (has (is_asked_alone n) h) (is_none p.owner) a z)
+          (not_false (has (is_request_of n) h) (has_less (is_request_of n) is_request (request_of n) h (not_true (has is_request h) (second (has is_ask_single h) (not (has is_request h)) (is_promotable x.class) _ o)))))
+          (or_second (prepare || hand || promote) single quiet);
+    }
+  where
+    n : ℕ
+    n = x.number.value
+
+    prepare : Bool
+    prepare = has (is_asked n) h && is_none p.vote && not (has (is_vote n) h)
+
+    hand : Bool
+    hand = has (is_hand n) h && is_none p.owner && not (has (is_any_owner n) h)
+
+    promote : Bool
+    promote = has (is_asked_to_promote n) h && is_none p.promote && not (has (is_promote_reply_of n) h)
+
+    single : Bool
+    single = has (is_asked_alone n) h && is_none p.owner && not (has (is_request_of n) h)
+
+    first : (prepare || hand || promote) ≡ false
+    first = or_first (prepare || hand || promote) single quiet
+
+    second : (a b c d : Bool) → (a && b && c && d) ≡ true → b ≡ true
+    second a b c d k = and_right a b (and_left (a && b) c (and_left (a && b && c) d k))
+
+-- of nobody silent, none is
+none_silent : (s : List Line) (h : List Entry) (i : ℕ) (x : Row) → has (λ x. is_silent (plans_of s x.0.value) h x.0.value) (enlisted h) ≡ false → slice_get (rows h) i ≡ Some x
+    → is_silent (plans_of s x.number.value) h x.number.value ≡ false
+none_silent s h i x quiet e =
+    false_from_ne_true (is_silent (plans_of s x.number.value) h x.number.value)
+    (λ k. not_both (has (λ y. is_silent (plans_of s y.number.value) h y.number.value) (rows h)) (has-at (λ y. is_silent (plans_of s y.number.value) h y.number.value) (rows h) i x e k)
+    (has_rows (λ (e : EnlNo) (c : Class). is_silent (plans_of s e.value) h e.value) h ∙ quiet))
+
+-- A settled history in which a promotion began, nothing was lost and the commit was asked for, and that waits for nothing, is at rest; so its client was told.
+at_rest : (s : List Line) (k t : ℕ) (h : List Entry) → are_named_well s ≡ true → Caused s k t h → has is_loss h ≡ false → has is_promoting h ≡ true → Settled s h → has is_commit h ≡ true → is_waiting s h ≡ false
+    → IsAtRest (entered_in s h) h
+at_rest s k t h named c unlost began settled asked idles =
+    let G = IsCallOf s t in
+    let calls = c.freely.0 in
+    let steps = c.freely.1.0 in
+    let w : World = record { calls = calls; past = h } in
+    let ran = c.freely.1.1 in
+    let once = script_once s t named in
+    let tie = unlost_tied G t h c.freely unlost in
+    let stands = (run_steady G t steps w once ran tie).stands in
+    let keeps = stands.keeps in
+    let more = run_rows G t steps w ran keeps in
+    let made : AreMade G calls h = ran_made G t steps w ran in
+    let same : waiting calls h ≡ waiting (entered_in s h) h = waiting_read s t steps w ran in
+    let entire = whole_of h (kept_opened h keeps) unlost in
+    let later = ruled_later h keeps.rules in
+    let sound = kept_sound h keeps in
+    let ordered = kept_ordered h keeps in
+    let begun = kept_begun h keeps in
+    let pays = ran_paid G t steps w ran
+    (record { whole = entire; run = keeps.wires; unrestarted = unrestarted h keeps entire; later = later; sound = sound; recorded = ruled_recorded h keeps.rules; once = more.placed }) in
+    let i = idle (entered_in s h) h settled in
+    let empty = none_on_the_way h entire keeps.wires i.undelivered in
+    let fine : has is_decision h ≡ false → IsFine h =
+    undecided_fine h
+    (record {
+      stands = stands;
+      unlost = unlost;
+      caused = more.caused;
+      quiet = record { paid = pays.paid; free = pays.free; empty = empty };
+      going = ran_goes G t steps w once ran tie;
+      announced = ran_announces G t steps w ran (record { keeps = keeps; unlost = unlost });
+    }) in
+    let plans : (e : ℕ) → has (is_enlisted e) h ≡ true → plan_of (entered_in s h) e ≡ plans_of s e =
+    λ e q. let m = (made.enlisted e q).0 in
+    plan_same s t e h named (record { number = m.number; actor = m.actor; call = m.call; given = m.may; passes = maker_called e m.call m.passes; called = m.called }) in
+    let quiet = or_second (has (λ c. blocks c.1 && not (is_complete h c)) (all_of clone_of h)) (has (λ x. is_silent (plans_of s x.0.value) h x.0.value) (enlisted h)) idles in
+    let unowed : has is_decision h ≡ false → IsUnowed (plan_of (entered_in s h)) h =
+    λ d. record {
+      fine = fine d;
+      unlost = unlost;
+      once = ran_once G t steps w once ran;
+      there = more.there;
+      well = more.well;
+      heeded = λ i x e. subst (λ p. IsHeeded p h x) (sym (plans x.number.value (rows_enlisted h i x keeps e))) (heeded (plans_of s x.number.value) h i x keeps e (none_silent s h i x quiet e));
+      unowed = i.unanswered;
+    } in
+    record {
+      fine = fine;
+      later = later;
+      sound = sound;
+      ordered = ordered;
+      begun = begun;
+      paying = pays.paid;
+      zeros = sealed_zeros h (kept_shut h keeps);
+      closed = open_blocks h keeps ∙ or_first (has (λ c. blocks c.1 && not (is_complete h c)) (all_of clone_of h)) (has (λ x. is_silent (plans_of s x.0.value) h x.0.value) (enlisted h)) idles;
+      free = pays.free;
+      waits = λ p. subst (λ (ws : List Waiter). each (is_on_its_way h) ws ≡ true) same (ran_waits G t steps w ran p);
+      unplaced = subst (λ (ws : List Waiter). each (is_unplaced h) ws ≡ true) same (all_unplaced G calls h once made);
+      prepares = λ d n. ran_prepares G t steps w ran (record { fine = fine d; sound = sound; ordered = ordered; begun = begun; unlogged = n });
+      lasting = all_lasting G calls h once made keeps.wires;
+      empty = empty;
+      act = i.act;
+      append = i.append;
+      answered = λ d. all_answered (plan_of (entered_in s h)) h (unowed d) d;
+      voted = λ d l e k. all_voted (plan_of (entered_in s h)) h (unowed d) d l e.value k;
+      replied = λ d. promotion_replied (plan_of (entered_in s h)) h (unowed d) d;
+      requested = λ d. commit_requested (plan_of (entered_in s h)) h (unowed d) d;
+      asked = asked;
+      started = began;
+    }
+
+-- Where nothing was lost: a settled history in which the commit was asked for, promoted or not.
+pub told_promoted : (s : List Line) (k t : ℕ) (h : List Entry) → are_named_well s ≡ true → Caused s k t h → has is_loss h ≡ false → IsToldOrWaits s h
+told_promoted s k t h named c unlost = λ settled asked. by settled asked (has is_promoting_entry h) refl
+  where
+    same_entry : (x : Entry) → is_promoting_entry x ≡ true → is_promoting x ≡ true
+    same_entry (Promoting c) k = k
+    same_entry _ k = absurd cc
+
+    waits : (b : Bool) → is_waiting s h ≡ b → (b ≡ false → is_some (latest client_told_of h) ≡ true) → (is_some (latest client_told_of h) || b) ≡ true
+    waits true e f = or_right (is_some (latest client_told_of h)) true refl
+    waits false e f = or_left (is_some (latest client_told_of h)) false (f refl)
+
+    by : Settled s h → has is_commit h ≡ true → (b : Bool) → has is_promoting_entry h ≡ b → (is_some (latest client_told_of h) || is_waiting s h) ≡ true
+    by settled asked true q = waits (is_waiting s h) refl (λ n. told_at_rest (entered_in s h) h (at_rest s k t h named c unlost (has_more is_promoting_entry is_promoting same_entry h q) settled asked n))
+    by settled asked false q =
+        let kept = script_kept s t h named c.freely (ap not q) in
+        let home = free-local (IsCallOf s t) t h c.freely (ap not q) in
+        let run = free_run (IsCallOf s t) t h c.freely (ap not q) in
+        told_or_waits s h kept (settled_act s t h named run home kept.rules settled) (settled_unplanned s t h named run home kept.rules settled) asked
