@@ -40,6 +40,8 @@ pub mod Settlings
 pub mod Silent
 pub mod Heard
 pub mod LocalReplays
+pub mod ReplaySame
+pub mod ReplayTurns
 pub mod ReplayRuns
 pub mod Replays
 pub mod Examples

@@ -190,7 +190,7 @@ given_wants s t n a c g = by_words (call_of s g.line.body) refl g.place g.gives 
         scope_wants c (scoped (scope_calls g.line.body (scopes_of g.line.actor.value (lines_before s n))) k (scope_calls_plain g.line.body (scopes_of g.line.actor.value (lines_before s n))) f)
 
 -- where the calls of the lines that came wait for the same, the same calls wait
-same_waiting : (ks ls : List EnteredCall) (h : List Entry) → ((n : ℕ) → has (is_call n) h ≡ true → wanted (call_at ks n) ≡ wanted (call_at ls n)) → waiting ks h ≡ waiting ls h
+pub same_waiting : (ks ls : List EnteredCall) (h : List Entry) → ((n : ℕ) → has (is_call n) h ≡ true → wanted (call_at ks n) ≡ wanted (call_at ls n)) → waiting ks h ≡ waiting ls h
 same_waiting ks ls [] f = refl
 same_waiting ks ls (Called n a Wait ∷ h) f =
     ap (λ (v : _). insert_by waiter_line (n, v) (waiting ks h)) (f n (rw (eq_self n) refl))

@@ -1,3 +1,5 @@
+use Rattle.outcome_law.proofs.ReplayTurns.{local_quiet}
+use Rattle.outcome_law.proofs.ReplaySame.{block_same}
 use Rattle.outcome_law.proofs.Replays.{ran_alone, ran_new, replayed_called, replayed_caused, replayed_noted}
 use Rattle.outcome_law.proofs.Determined.{history_same}
 use Rattle.outcome_law.proofs.replay.Goals as goal
