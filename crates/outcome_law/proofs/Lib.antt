@@ -43,6 +43,7 @@ pub mod LocalReplays
 pub mod ReplaySame
 pub mod ReplayTurns
 pub mod ReplayRuns
+pub mod ReplayNew
 pub mod Replays
 pub mod Examples
 pub mod ReplayExample
