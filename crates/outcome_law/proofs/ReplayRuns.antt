@@ -1,10 +1,10 @@
 -- A step of a replay in which nothing stands at the log is one of its transaction's world, of the calls that were entered, those of scope lines too.
-use Rattle.std.proofs.Common.{◌≡◌, ℕ, zero, suc, Bool, true, false, ◌&&◌, ◌||◌, not, List, [], ◌∷◌, ◌++◌, map, filter, Option, Some, None, if◌then◌else◌, refl, ap, sym, subst, ◌∙◌}
+use Rattle.std.proofs.Common.{◌≡◌, ℕ, zero, suc, Bool, true, false, not, List, [], ◌∷◌, ◌++◌, map, filter, Some, if◌then◌else◌, refl, ap, sym, subst, ◌∙◌}
 use Rattle.std.specs.List.{flat_map}
 use Rattle.dtx_values.specs.declared.call.Call.{Call}
 use Rattle.dtx_values.specs.declared.end.End.{End}
 use Rattle.dtx_values.specs.declared.entry.Entry.{Entry}
-use Rattle.dtx_values.specs.declared.entry.Entry.TheVariants.{Called, Got, Down as Ended, Stopped}
+use Rattle.dtx_values.specs.declared.entry.Entry.TheVariants.{Called}
 use Rattle.dtx_values.specs.declared.message.Conn.{Conn}
 use Rattle.dtx_values.specs.declared.message.Dir.{Dir}
 use Rattle.dtx_values.specs.declared.message.Dir.TheVariants.{Up, Down}
@@ -30,7 +30,7 @@ use Rattle.dtx_model.specs.Caused.{IsCallOf, HasStepped, IsNamed, IsRun, MayCome
 use Rattle.dtx_model.specs.Replay.{block_in, world_at}
 use Rattle.dtx_model.proofs.Bools.{and_both, not_true}
 use Rattle.dtx_model.proofs.Histories.{history-same}
-use Rattle.dtx_model.proofs.Quiet.{Quiet, is_quiet, q_act, q_appended, q_called, q_ended_at, q_freed, q_got_by, q_if, q_one, q_reply, q_restarted}
+use Rattle.dtx_model.proofs.Quiet.{Quiet, is_quiet, q_act, q_appended, q_called, q_ended_at, q_freed, q_got_by, q_if, q_reply, q_restarted}
 use Rattle.outcome_law.proofs.Tests.{eq_self}
 use Rattle.outcome_law.proofs.Scans.{each-append, each-kth, each_more}
 use Rattle.outcome_law.proofs.Pending.{is_no_call, is_not_called}
@@ -155,7 +155,7 @@ pub run_step : (s : List Line) (ks : List EnteredCall) (t : TxNo) (m : Step) (T 
 run_step s ks t m T r q = (m ∷ r.0, (world_with ks t T, r.1, q, after_same s ks t m T r))
 
 -- a name says the same in two worlds of one past
-named_same : (ks js : List EnteredCall) (h : List Entry) (n : StepName) (m : Step) → IsNamed (record { calls = ks; past = h }) n m → IsNamed (record { calls = js; past = h }) n m
+pub named_same : (ks js : List EnteredCall) (h : List Entry) (n : StepName) (m : Step) → IsNamed (record { calls = ks; past = h }) n m → IsNamed (record { calls = js; past = h }) n m
 named_same ks js h (ReplyOf e) m k = k
 named_same ks js h LocalAct m k = k
 named_same ks js h CoordinatorAct m k = k

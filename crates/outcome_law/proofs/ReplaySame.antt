@@ -1,6 +1,6 @@
 -- The world of a script's history and the world of the calls that were entered, those of scope lines too, are of one half: they answer the same, the same is pending
 -- in them, and each step makes the same block.
-use Rattle.std.proofs.Common.{◌≡◌, ℕ, zero, suc, ◌==◌, Bool, true, false, ◌||◌, List, [], ◌∷◌, ◌++◌, Option, Some, None, refl, ap, sym, subst, ◌∙◌}
+use Rattle.std.proofs.Common.{◌≡◌, ℕ, zero, suc, ◌==◌, Bool, true, false, List, [], ◌∷◌, ◌++◌, Option, Some, None, refl, ap, sym, subst, ◌∙◌}
 use Rattle.std.specs.List.{flat_map, slice_get}
 use Rattle.std.proofs.lemmas.Bool.{eqb-true}
 use Rattle.dtx_values.specs.declared.call.Call.{Call}
@@ -20,13 +20,12 @@ use Rattle.dtx_values.specs.declared.number.RmNo.{RmNo}
 use Rattle.dtx_values.specs.declared.number.TxNo.{TxNo}
 use Rattle.dtx_values.specs.declared.script.Line.{Line}
 use Rattle.dtx_model.specs.declared.waiting.EnteredCall.{EnteredCall}
-use Rattle.dtx_model.specs.declared.waiting.Wanted.{Wanted}
-use Rattle.dtx_model.specs.Words.{each, has, kth, latest, onto, or_else, put}
+use Rattle.dtx_model.specs.Words.{has, kth, latest, onto, or_else, put}
 use Rattle.dtx_model.specs.Entries.{is_call}
 use Rattle.dtx_model.specs.Observed.{observe}
 use Rattle.dtx_model.specs.Coordinated.{may_log}
 use Rattle.dtx_model.specs.Wires.{in_transit}
-use Rattle.dtx_model.specs.Waiting.{call_at, managed, managed_by, waiting, wanted, wanted_by}
+use Rattle.dtx_model.specs.Waiting.{call_at, managed, managed_by, waiting, wanted}
 use Rattle.dtx_model.specs.Plans.{or_silent, plan_by, plan_of}
 use Rattle.dtx_model.specs.Half.{Half, half_of}
 use Rattle.dtx_model.specs.Answers.{local_answer}
@@ -37,11 +36,12 @@ use Rattle.dtx_model.specs.Facts.{facts_if, has_facts, local_facts}
 use Rattle.dtx_model.specs.Calls.{call_of}
 use Rattle.dtx_model.specs.Contexts.{lines_before, scope_calls, scopes_of}
 use Rattle.dtx_model.specs.World.{World, answer_at, core, facts_at, gone_by, gone_unlinked, half, open_ones}
-use Rattle.dtx_model.specs.Steps.{Step, Calls, Replies, Acts, Coordinates, Delivers, Stops, Restarts, StepName, after, block_at, called, coordinates, core_act, delivered, deliveries_on, ended_at, got_by, local_pending, pending, restarted}
+use Rattle.dtx_model.specs.Steps.{Step, Calls, Replies, Acts, Coordinates, Delivers, Stops, Restarts, after, block_at, called, coordinates, core_act, delivered, deliveries_on, ended_at, got_by, local_pending, pending, restarted}
 use Rattle.dtx_model.specs.Caused.{IsCallOf, MayCome, Ran, called_at, entered_by, entered_in, world_of}
 use Rattle.dtx_model.proofs.Bools.{not_both, or_case, or_right}
 use Rattle.dtx_model.proofs.Quiet.{Quiet, is_quiet, q_act, q_appended, q_called, q_ended_at, q_freed, q_got_by, q_head, q_if, q_one, q_reply, q_restarted, q_tail}
 use Rattle.outcome_law.proofs.Lists.{of-at}
+use Rattle.outcome_law.proofs.Pending.{is_no_call}
 use Rattle.outcome_law.proofs.Planned.{latest-put, plan_in}
 use Rattle.outcome_law.proofs.ScopeCalls.{IsScopeCall, is_scope_call, own_line, scope_calls_plain}
 use Rattle.outcome_law.proofs.ScriptCalls.{IsEntered, line_call, own_words, read_call, same_waiting}
@@ -224,7 +224,11 @@ pending_same s t ks h r =
     ap (λ (x : Half). local_pending (plan_of ks) x ++ core_act (core w) ++ flat_map (deliveries_on h) ends) (half_same s t ks h r)
     ∙ ap (λ p. local_pending p (half w) ++ core_act (core w) ++ flat_map (deliveries_on h) ends) (plans_same s t ks h r)
 
--- The calls of a world that steps made are those of its history.
+-- The calls of a history: at the start, after a step that is no call, and after a call that its line gives.
+pub start_calls : (s : List Line) (t : ℕ) → AreCalls s t [] []
+unfolding AreCalls
+start_calls s t = refl
+
 quiet_calls : (s : List Line) (t : ℕ) (ks : List EnteredCall) (h es : List Entry) → Quiet es → AreCalls s t ks h → AreCalls s t ks (onto h es)
 unfolding AreCalls
 quiet_calls s t ks h [] q r = r
@@ -239,19 +243,29 @@ unfolding AreCalls
 delivered_calls s t w c d [] r = quiet_calls s t w.calls (Ended c d ∷ w.past) (ended_at w c d) (q_ended_at w c d) r
 delivered_calls s t w c d (m ∷ ms) r = quiet_calls s t w.calls (Got c d m ∷ w.past) (got_by t w c d m) (q_got_by t w c d m) r
 
-step_calls : (s : List Line) (t : ℕ) (w : World) (m : Step) → MayCome (IsCallOf s t) t w m → AreCalls s t w.calls w.past → AreCalls s t (after t w m).calls (after t w m).past
-unfolding after block_at AreCalls
-step_calls s t w (Calls n a c k) q r =
+pub other_calls : (s : List Line) (t : ℕ) (w : World) (m : Step) → is_no_call m ≡ true → AreCalls s t w.calls w.past → AreCalls s t w.calls (onto w.past (block_at t w m))
+unfolding block_at
+other_calls s t w (Calls n a c k) q r = absurd cc
+other_calls s t w (Replies e x) q r = quiet_calls s t w.calls w.past (reply_entries (half w) e x) (q_reply (half w) e x) r
+other_calls s t w Acts q r = quiet_calls s t w.calls w.past (act_entries (half w)) (q_act (half w)) r
+other_calls s t w (Coordinates x) q r = quiet_calls s t w.calls w.past (coordinates (core w) x) (q_if (may_log (core w)) (q_appended (core w) x) (q_freed x)) r
+other_calls s t w (Delivers c d) q r = delivered_calls s t w c d (in_transit c d w.past) r
+other_calls s t w Stops q r = quiet_calls s t w.calls w.past (Stopped ∷ []) (q_one Stopped refl) r
+other_calls s t w (Restarts found) q r = quiet_calls s t w.calls w.past (restarted (core w).stopped found) (q_restarted (core w).stopped found) r
+
+pub call_calls : (s : List Line) (t : ℕ) (w : World) (n : ℕ) (a : ActorNo) (c : Call) (k : ℕ) → IsCallOf s t n a c → AreCalls s t w.calls w.past
+    → AreCalls s t (record { line = n; actor = a; call = c } ∷ w.calls) (onto w.past (block_at t w (Calls n a c k)))
+unfolding block_at AreCalls
+call_calls s t w n a c k g r =
     let x = answer_at t w c k in
-    quiet_calls s t (record { line = n; actor = a; call = c } ∷ w.calls) (Called n a x ∷ w.past) (facts_if (has_facts x) (facts_at t w c x)) (q_called t w c x) (c, w.calls, q.0, r, refl)
-step_calls s t w (Replies e x) q r = quiet_calls s t w.calls w.past (reply_entries (half w) e x) (q_reply (half w) e x) r
-step_calls s t w Acts q r = quiet_calls s t w.calls w.past (act_entries (half w)) (q_act (half w)) r
-step_calls s t w (Coordinates x) q r = quiet_calls s t w.calls w.past (coordinates (core w) x) (q_if (may_log (core w)) (q_appended (core w) x) (q_freed x)) r
-step_calls s t w (Delivers c d) q r = delivered_calls s t w c d (in_transit c d w.past) r
-step_calls s t w Stops q r = quiet_calls s t w.calls w.past (Stopped ∷ []) (q_one Stopped refl) r
-step_calls s t w (Restarts found) q r = quiet_calls s t w.calls w.past (restarted (core w).stopped found) (q_restarted (core w).stopped found) r
+    quiet_calls s t (record { line = n; actor = a; call = c } ∷ w.calls) (Called n a x ∷ w.past) (facts_if (has_facts x) (facts_at t w c x)) (q_called t w c x) (c, w.calls, g, r, refl)
+
+-- so those of a world that steps made
+step_calls : (s : List Line) (t : ℕ) (w : World) (m : Step) → MayCome (IsCallOf s t) t w m → AreCalls s t w.calls w.past → AreCalls s t (after t w m).calls (after t w m).past
+unfolding after
+step_calls s t w (Calls n a c k) q r = call_calls s t w n a c k q.0 r
+step_calls s t w m q r = other_calls s t w m refl r
 
 pub ran_calls : (s : List Line) (t : ℕ) (ms : List Step) (w : World) → Ran (IsCallOf s t) t ms w → AreCalls s t w.calls w.past
-unfolding AreCalls
-ran_calls s t [] w r = subst (λ h. AreCalls s t w.calls h) (sym r.1) r.0
+ran_calls s t [] w r = subst (λ ks. AreCalls s t ks w.past) (sym r.0) (subst (λ h. AreCalls s t [] h) (sym r.1) (start_calls s t))
 ran_calls s t (m ∷ ms) w r = subst (λ (x : World). AreCalls s t x.calls x.past) (sym r.3) (step_calls s t r.0 m r.2 (ran_calls s t ms r.0 r.1))

@@ -1,5 +1,5 @@
 -- Replays in which nothing stands at the log: each turn puts the block of its step after the trace, and nothing else.
-use Rattle.std.proofs.Common.{◌≡◌, ℕ, zero, suc, ◌≤◌, ◌<◌, Bool, true, false, ◌&&◌, not, List, [], ◌∷◌, length, map, Option, Some, None, refl, arith, ap, sym, subst, ◌∙◌}
+use Rattle.std.proofs.Common.{◌≡◌, ℕ, zero, suc, ◌≤◌, ◌<◌, Bool, true, false, ◌&&◌, not, List, [], ◌∷◌, length, map, Option, Some, None, refl, ap, sym, subst, ◌∙◌}
 use Rattle.std.specs.Prelude.{is_some}
 use Rattle.dtx_values.specs.declared.call.Call.{Call}
 use Rattle.dtx_values.specs.declared.call.Call.TheVariants.{Await, Do}
@@ -29,7 +29,6 @@ use Rattle.dtx_model.proofs.Bools.{and_left, and_right, or_right}
 use Rattle.dtx_model.proofs.Reading.{each-onto}
 use Rattle.outcome_law.specs.LogQuiet.{is_log_quiet}
 use Rattle.outcome_law.proofs.Scans.{each_more}
-use Rattle.outcome_law.proofs.LocalReplays.{is_log_line}
 
 -- nothing stands at the log
 abbrev pub IsQuiet : List Placed → Type 0
@@ -93,21 +92,22 @@ StepsDone s t k zero start T = T ≡ start
 StepsDone s t k (suc m) start T =
     (past : List Placed) × StepsDone s t k m start past × (n : StepName) × (step : Step) × (kth (pending (world_at s t past)) k ≡ Some n) × IsNamed (world_at s t past) n step × (T ≡ after_block s t step past)
 
--- what line i with this call does: steps that were pending, each the one at this place, and then the call, which may answer in each world in which they were done
-pub record HasCalled (s : List Line) (a : ActorNo) (i : ℕ) (t : TxNo) (c : Call) (start T : List Placed) : Type 0 where
-  pub place : ℕ
-  pub count : ℕ
-  pub done : ℕ
-  pub before : List Placed
-  pub steps : StepsDone s t place count start before
-  pub may : (ks : List EnteredCall) → HasStepped t.value place count (world_with ks t start) (world_with ks t before) → pending (world_with ks t before) ≡ pending (world_at s t before)
-      → MayAnswer t.value (world_with ks t before) c done
-  pub ends : T ≡ after_block s t (Calls i a c done) before
+-- as a `do` or an `await` does them
+pub record IsDo (s : List Line) (t : TxNo) (k n m : ℕ) (start before : List Placed) : Type 0 where
+  pub ran : StepsDone s t k m start before
+  pub most : m ≤ n
+  pub stopped : m < n → kth (pending (world_at s t before)) k ≡ None
+
+pub record IsAwait (s : List Line) (t : TxNo) (m : ℕ) (start before : List Placed) : Type 0 where
+  pub ran : StepsDone s t 1 m start before
+  pub settled : Settled s (history t.value before)
 
 -- what a line does by its own words
-abbrev pub WordsDone : List Line → ActorNo → ℕ → Option (TxNo × Call) → List Placed → List Placed → Type 0
-WordsDone s a i (Some c) start T = HasCalled s a i c.0 c.1 start T
-WordsDone s a i None start T = T ≡ start
+abbrev pub CallDone : List Line → ActorNo → ℕ → Option (TxNo × Call) → List Placed → List Placed → Type 0
+CallDone s a i (Some (t, Do u k n)) start T = (m : ℕ) × (before : List Placed) × IsDo s t k n m start before × (T ≡ after_block s t (Calls i a (Do u k n) m) before)
+CallDone s a i (Some (t, Await u)) start T = (m : ℕ) × (before : List Placed) × IsAwait s t m start before × (T ≡ after_block s t (Calls i a (Await u) 0) before)
+CallDone s a i (Some (t, c)) start T = T ≡ after_block s t (Calls i a c 0) start
+CallDone s a i None start T = T ≡ start
 
 -- the trace with these calls of line n after it
 abbrev pub calls_after : List Line → ℕ → ActorNo → List (TxNo × Call) → List Placed → List Placed
@@ -117,9 +117,15 @@ calls_after s n a (c ∷ cs) T = calls_after s n a cs (after_block s c.0 (Calls 
 abbrev pub scope_after : List Line → ℕ → Line → List OpenScope → List Placed → List Placed
 scope_after s n l xs T = calls_after s n l.actor (scope_calls l.body xs) (onto T (noted l.actor (scope_block n l.actor l.body xs)))
 
+-- the line stops the log or opens it again
+abbrev pub is_log_line : Body → Bool
+is_log_line (Stop n i) = true
+is_log_line Restart = true
+is_log_line _ = false
+
 abbrev pub LineDone : List Line → List Line → Line → List Placed → List Placed → Type 0
 LineDone s before l start T =
-    (is_log_line l.body ≡ false) × WordsDone s l.actor (suc (length before)) (call_of s l.body) (scope_after s (suc (length before)) l (scopes_of l.actor.value before) start) T
+    (is_log_line l.body ≡ false) × CallDone s l.actor (suc (length before)) (call_of s l.body) (scope_after s (suc (length before)) l (scopes_of l.actor.value before) start) T
 
 abbrev pub LinesDone : List Line → List Line → List Placed → Type 0
 LinesDone s [] T = T ≡ []
@@ -134,6 +140,40 @@ pub record ReplayDone (s : List Line) (T : List Placed) : Type 0 where
   pub lines : LinesDone s (past_of s) by_lines
   pub turns : List (TxNo × Step)
   pub rounds : RoundsDone s by_lines turns T
+
+-- Of each call: steps that were pending, each the one at this place, and then the call, which may answer in each world in which they were done.
+pub record HasCalled (s : List Line) (a : ActorNo) (i : ℕ) (t : TxNo) (c : Call) (start T : List Placed) : Type 0 where
+  pub place : ℕ
+  pub count : ℕ
+  pub done : ℕ
+  pub before : List Placed
+  pub steps : StepsDone s t place count start before
+  pub may : (ks : List EnteredCall) → HasStepped t.value place count (world_with ks t start) (world_with ks t before) → pending (world_with ks t before) ≡ pending (world_at s t before)
+      → MayAnswer t.value (world_with ks t before) c done
+  pub ends : T ≡ after_block s t (Calls i a c done) before
+
+pub has_called : (s : List Line) (a : ActorNo) (i : ℕ) (t : TxNo) (c : Call) (start T : List Placed) → CallDone s a i (Some (t, c)) start T → HasCalled s a i t c start T
+has_called s a i t (Do u k n) start T r =
+    record {
+      place = k;
+      count = r.0;
+      done = r.0;
+      before = r.1;
+      steps = r.2.ran;
+      may = λ ks st same. record { before = world_with ks t start; stepped = st; most = r.2.most; fewer = λ lt. ap (λ ns. kth ns k) same ∙ r.2.stopped lt };
+      ends = r.3;
+    }
+has_called s a i t (Await u) start T r =
+    record {
+      place = 1;
+      count = r.0;
+      done = 0;
+      before = r.1;
+      steps = r.2.ran;
+      may = λ ks st same. or_right (is_some (half (world_with ks t r.1)).seen.told_client) (is_empty (pending (world_with ks t r.1))) (ap (λ ns. is_empty ns) (same ∙ r.2.settled));
+      ends = r.3;
+    }
+has_called s a i t _ start T r = record { place = 1; count = 0; done = 0; before = start; steps = refl; may = λ ks st same. tt; ends = r }
 
 -- That is what the steps of a quiet trace come to: those of a `do` or an `await`,
 pub steps_before : (s : List Line) (t : TxNo) (k m : ℕ) (start T : List Placed) → IsQuiet T → StepsRan s t k m start T → IsQuiet start
@@ -156,29 +196,14 @@ words_before s a i None start T l r = subst IsQuiet r l
 one_done : (s : List Line) (t : TxNo) (m : Step) (before T : List Placed) → IsQuiet T → T ≡ after_turn s t m before → T ≡ after_block s t m before
 one_done s t m before T l e = e ∙ turn_block s t m before (subst IsQuiet e l)
 
-words_done : (s : List Line) (a : ActorNo) (i : ℕ) (c : Option (TxNo × Call)) (start T : List Placed) → IsQuiet T → CallRan s a i c start T → WordsDone s a i c start T
+words_done : (s : List Line) (a : ActorNo) (i : ℕ) (c : Option (TxNo × Call)) (start T : List Placed) → IsQuiet T → CallRan s a i c start T → CallDone s a i c start T
 words_done s a i (Some (t, Do u k n)) start T l r =
-    record {
-      place = k;
-      count = r.0;
-      done = r.0;
-      before = r.1;
-      steps = steps_done s t k r.0 start r.1 (turn_before s t (Calls i a (Do u k n) r.0) r.1 (subst IsQuiet r.3 l)) r.2.ran;
-      may = λ ks st same. record { before = world_with ks t start; stepped = st; most = r.2.most; fewer = λ lt. ap (λ ns. kth ns k) same ∙ r.2.stopped lt };
-      ends = one_done s t (Calls i a (Do u k n) r.0) r.1 T l r.3;
-    }
+    let steps = steps_done s t k r.0 start r.1 (turn_before s t (Calls i a (Do u k n) r.0) r.1 (subst IsQuiet r.3 l)) r.2.ran in
+    (r.0, r.1, record { ran = steps; most = r.2.most; stopped = r.2.stopped }, one_done s t (Calls i a (Do u k n) r.0) r.1 T l r.3)
 words_done s a i (Some (t, Await u)) start T l r =
-    record {
-      place = 1;
-      count = r.0;
-      done = 0;
-      before = r.1;
-      steps = steps_done s t 1 r.0 start r.1 (turn_before s t (Calls i a (Await u) 0) r.1 (subst IsQuiet r.3 l)) r.2.ran;
-      may = λ ks st same. or_right (is_some (half (world_with ks t r.1)).seen.told_client) (is_empty (pending (world_with ks t r.1))) (ap (λ ns. is_empty ns) (same ∙ r.2.settled));
-      ends = one_done s t (Calls i a (Await u) 0) r.1 T l r.3;
-    }
-words_done s a i (Some (t, c)) start T l r =
-    record { place = 1; count = 0; done = 0; before = start; steps = refl; may = λ ks st same. tt; ends = one_done s t (Calls i a c 0) start T l r }
+    let steps = steps_done s t 1 r.0 start r.1 (turn_before s t (Calls i a (Await u) 0) r.1 (subst IsQuiet r.3 l)) r.2.ran in
+    (r.0, r.1, record { ran = steps; settled = r.2.settled }, one_done s t (Calls i a (Await u) 0) r.1 T l r.3)
+words_done s a i (Some (t, c)) start T l r = one_done s t (Calls i a c 0) start T l r
 words_done s a i None start T l r = r
 
 -- the calls of a scope line,

@@ -35,7 +35,6 @@ use Rattle.dtx_model.specs.Contexts.{scope_answer, scope_calls, scope_entries, s
 use Rattle.dtx_model.specs.Caused.{IsCallOf, IsNamed, is_new, Caused, FreelyCaused, MayAnswer, has_object, is_as_planned, plans_of}
 use Rattle.dtx_model.specs.Grammar.{are_named_well}
 use Rattle.dtx_model.specs.Built.{is_lasting_for, is_run_line}
-use Rattle.dtx_model.specs.AtLog.{is_local_trace}
 use Rattle.dtx_model.specs.Traces.{Placed, history, at_context, placed, noted, called_of, calls}
 use Rattle.dtx_model.specs.Replay.{IsReplayed, LinesRan, StepsRan, at_its_context, at_log_line, block_in, due_calls, due_by_line, world_at}
 use Rattle.dtx_model.proofs.Bools.{and_left, and_right, or_false, or_right, not_both}
@@ -43,12 +42,12 @@ use Rattle.dtx_model.proofs.Histories.{onto-append, history-other, history-same,
 use Rattle.dtx_model.proofs.Reading.{has-onto, has-past}
 use Rattle.outcome_law.specs.LogQuiet.{is_log_quiet}
 use Rattle.outcome_law.proofs.Scans.{none_more}
-use Rattle.outcome_law.proofs.Lists.{OfEach, of-all, of-both, of-more}
+use Rattle.outcome_law.proofs.Lists.{OfEach, of-all, of-at, of-both, of-more}
 use Rattle.outcome_law.proofs.Pending.{is_not_called}
 use Rattle.outcome_law.proofs.ScopeCalls.{IsScopeCall, IsBeside, AreApart, is_scope_call, scope_calls_plain, scope_calls_apart, own_line}
 use Rattle.outcome_law.proofs.Runs.{free_run}
-use Rattle.outcome_law.proofs.LocalReplays.{IsLocal, history_unpromoted, is_log_line}
-use Rattle.outcome_law.proofs.ReplayTurns.{HasCalled, IsQuiet, LineDone, LinesDone, ReplayDone, RoundsDone, StepsDone, WordsDone, after_block, calls_after, lines_done, local_quiet, replay_done, scope_after, steps_done, world_with}
+use Rattle.outcome_law.proofs.LocalReplays.{IsLocal, history_unpromoted}
+use Rattle.outcome_law.proofs.ReplayTurns.{CallDone, IsQuiet, LineDone, LinesDone, ReplayDone, RoundsDone, StepsDone, after_block, calls_after, has_called, is_log_line, lines_done, local_quiet, replay_done, scope_after, steps_done, world_with}
 use Rattle.outcome_law.proofs.ReplayRuns.{IsRunWith, block_not_called, facts_not_called, named_no_call, pending_run, pending_script, run_step, steps_run}
 use Rattle.outcome_law.proofs.ReplayNew.{call_new}
 use Rattle.outcome_law.proofs.Names.{IsCalled, script_once}
@@ -150,26 +149,29 @@ scope_call_may t w _ e = tt
 abbrev IsGiven : List Line → ℕ → Line → TxNo × Call → Type 0
 IsGiven s n l c = (place : ℕ) × (slice_get (calls_by s (lines_before s n) l) place ≡ Some c)
 
+-- so the call is one of its transaction
+given_of : (s : List Line) (l : Line) (n : ℕ) (c : TxNo × Call) → kth s n ≡ Some l → IsGiven s n l c → IsCallOf s c.0.value n l.actor c.1
+given_of s l n c stands given = record { line = l; stands = stands; by_actor = refl; name = c.0; place = given.0; gives = given.1; at_t = refl }
+
 -- a call that line n gives and that doesn't stand yet keeps each history freely caused, where it may answer
 given_free : (s : List Line) (l : Line) (n : ℕ) (c : TxNo × Call) (d : ℕ) (T : List Placed) (ks : List EnteredCall) → kth s n ≡ Some l → IsGiven s n l c → has (is_call n) (history c.0.value T) ≡ false
     → IsRunWith s ks c.0 T → MayAnswer c.0.value (world_with ks c.0 T) c.1 d → AllFree s T
     → AllFree s (after_block s c.0 (Calls n l.actor c.1 d) T)
 given_free s l n c d T ks stands given new run may free =
-    let gives : IsCallOf s c.0.value n l.actor c.1 =
-    record { line = l; stands = stands; by_actor = refl; name = c.0; place = given.0; gives = given.1; at_t = refl } in
     let m : Step = Calls n l.actor c.1 d in
-    after_free s c.0 m T (entered m ks) free (run_step s ks c.0 m T run (gives, new, may))
+    after_free s c.0 m T (entered m ks) free (run_step s ks c.0 m T run (given_of s l n c stands given, new, may))
 
 -- and so does a call by its own words
 call_free : (s : List Line) (l : Line) (n : ℕ) (c : TxNo × Call) (start T : List Placed) → kth s n ≡ Some l → IsGiven s n l c → has (is_call n) (history c.0.value start) ≡ false
-    → AllFree s start → WordsDone s l.actor n (Some c) start T → AllFree s T
+    → AllFree s start → CallDone s l.actor n (Some c) start T → AllFree s T
 call_free s l n c start T stands given new free r =
+    let ran = has_called s l.actor n c.0 c.1 start T r in
     let first = free c.0 in
-    let steps = steps_run s first.0 c.0 r.place r.count start r.before first.1 r.steps in
-    let still : has (is_call n) (history c.0.value r.before) ≡ false = steps_uncalled s c.0 r.place r.count start r.before r.steps n c.0.value ∙ new in
-    subst (λ T. AllFree s T) (sym r.ends)
-    (given_free s l n c r.done r.before first.0 stands given still steps.0 (r.may first.0 steps.1 (pending_script s first.0 c.0 r.before steps.0))
-    (steps_free s c.0 r.place r.count start r.before free r.steps))
+    let steps = steps_run s first.0 c.0 ran.place ran.count start ran.before first.1 ran.steps in
+    let still : has (is_call n) (history c.0.value ran.before) ≡ false = steps_uncalled s c.0 ran.place ran.count start ran.before ran.steps n c.0.value ∙ new in
+    subst (λ T. AllFree s T) (sym ran.ends)
+    (given_free s l n c ran.done ran.before first.0 stands given still steps.0 (ran.may first.0 steps.1 (pending_script s first.0 c.0 ran.before steps.0))
+    (steps_free s c.0 ran.place ran.count start ran.before free ran.steps))
   where
     steps_free : (s : List Line) (t : TxNo) (k m : ℕ) (start T : List Placed) → AllFree s start → StepsDone s t k m start T → AllFree s T
     steps_free s t k zero start T free r = subst (λ T. AllFree s T) (sym r) free
@@ -235,6 +237,15 @@ scope_given s before l n found =
 own_given : (s : List Line) (l : Line) (n : ℕ) (c : TxNo × Call) → call_of s l.body ≡ Some c → IsGiven s n l c
 own_given s l n c e = (0, ap (λ o. slice_get (put o (scope_calls l.body (scopes_of l.actor.value (lines_before s n)))) 0) e)
 
+-- so a line's call by its own words is one of its transaction, and so is each that it gives as a scope line
+pub own_call_of : (s : List Line) (l : Line) (n : ℕ) (t : TxNo) (c : Call) → kth s n ≡ Some l → call_of s l.body ≡ Some (t, c) → IsCallOf s t.value n l.actor c
+own_call_of s l n t c stands e = given_of s l n (t, c) stands (own_given s l n (t, c) e)
+
+pub scope_call_of : (s before : List Line) (l : Line) (n k : ℕ) (t : TxNo) (c : Call) → kth s n ≡ Some l → lines_before s n ≡ before → slice_get (scope_calls l.body (scopes_of l.actor.value before)) k ≡ Some (t, c)
+    → IsCallOf s t.value n l.actor c
+scope_call_of s before l n k t c stands found e =
+    given_of s l n (t, c) stands (of-at (IsGiven s n l) (scope_calls l.body (scopes_of l.actor.value before)) k (t, c) (scope_given s before l n found) e)
+
 -- what a scope line writes keeps each history freely caused, where its calls don't stand yet
 scope_free : (s before : List Line) (l : Line) (n : ℕ) (start : List Placed) → kth s n ≡ Some l → lines_before s n ≡ before → ((u : ℕ) → has (is_call n) (history u start) ≡ false)
     → AllFree s start → AllFree s (scope_after s n l (scopes_of l.actor.value before) start)
@@ -254,7 +265,7 @@ own_uncalled s l n u c xs start e =
 
 -- what a line does after that keeps each history freely caused
 words_free : (s : List Line) (l : Line) (n : ℕ) (o : Option (TxNo × Call)) (start T : List Placed) → kth s n ≡ Some l → call_of s l.body ≡ o
-    → ((c : TxNo × Call) → o ≡ Some c → has (is_call n) (history c.0.value start) ≡ false) → AllFree s start → WordsDone s l.actor n o start T → AllFree s T
+    → ((c : TxNo × Call) → o ≡ Some c → has (is_call n) (history c.0.value start) ≡ false) → AllFree s start → CallDone s l.actor n o start T → AllFree s T
 words_free s l n None start T stands e new free r = subst (λ T. AllFree s T) (sym r) free
 words_free s l n (Some c) start T stands e new free r = call_free s l n c start T stands (own_given s l n c e) (new c refl) free r
 
@@ -268,12 +279,13 @@ line_free s before l start T stands found new free r =
     (λ c e. own_uncalled s l n c.0.value c xs start e ∙ new c.0.value) (scope_free s before l n start stands found new free) r.1
 
 -- a call by a line's own words leaves a history without the call of any other line
-words_uncalled : (s : List Line) (a : ActorNo) (m : ℕ) (o : Option (TxNo × Call)) (start T : List Placed) (n u : ℕ) → (n == m) ≡ false → WordsDone s a m o start T
+words_uncalled : (s : List Line) (a : ActorNo) (m : ℕ) (o : Option (TxNo × Call)) (start T : List Placed) (n u : ℕ) → (n == m) ≡ false → CallDone s a m o start T
     → has (is_call n) (history u T) ≡ has (is_call n) (history u start)
 words_uncalled s a m None start T n u d r = ap (λ T. has (is_call n) (history u T)) r
 words_uncalled s a m (Some c) start T n u d r =
-    ap (λ T. has (is_call n) (history u T)) r.ends ∙ call_uncalled s n m u a c.0 c.1 r.done r.before d
-    ∙ steps_uncalled s c.0 r.place r.count start r.before r.steps n u
+    let ran = has_called s a m c.0 c.1 start T r in
+    ap (λ T. has (is_call n) (history u T)) ran.ends ∙ call_uncalled s n m u a c.0 c.1 ran.done ran.before d
+    ∙ steps_uncalled s c.0 ran.place ran.count start ran.before ran.steps n u
 
 -- a line leaves a history without the call of any other line
 line_uncalled : (s before : List Line) (l : Line) (start T : List Placed) (n u : ℕ) → (n == suc (length before)) ≡ false → LineDone s before l start T
@@ -308,14 +320,15 @@ calls_counted s n a (c ∷ cs) T =
     calls_counted s n a cs (after_block s c.0 (Calls n a c.1 0) T) ∙ ap (λ ks. onto ks (map (at_transaction n a) cs)) (call_counted s n a c.0 c.1 0 T)
 
 -- a call by a line's own words is added
-words_counted : (s : List Line) (a : ActorNo) (n : ℕ) (c : TxNo × Call) (start T : List Placed) → WordsDone s a n (Some c) start T → calls T ≡ at_transaction n a c ∷ calls start
+words_counted : (s : List Line) (a : ActorNo) (n : ℕ) (c : TxNo × Call) (start T : List Placed) → CallDone s a n (Some c) start T → calls T ≡ at_transaction n a c ∷ calls start
 words_counted s a n c start T r =
-    ap (λ T. calls T) r.ends ∙ call_counted s n a c.0 c.1 r.done r.before
-    ∙ ap (λ ks. at_transaction n a c ∷ ks) (steps_called s c.0 r.place r.count start r.before r.steps)
+    let ran = has_called s a n c.0 c.1 start T r in
+    ap (λ T. calls T) ran.ends ∙ call_counted s n a c.0 c.1 ran.done ran.before
+    ∙ ap (λ ks. at_transaction n a c ∷ ks) (steps_called s c.0 ran.place ran.count start ran.before ran.steps)
 
 -- the calls of a line, in order: those that it gives as a scope line, or the one by its own words
 both_counted : (s : List Line) (a : ActorNo) (n : ℕ) (o : Option (TxNo × Call)) (cs : List (TxNo × Call)) (start T : List Placed) → ((c : TxNo × Call) → o ≡ Some c → cs ≡ [])
-    → WordsDone s a n o (calls_after s n a cs start) T → calls T ≡ onto (calls start) (map (at_transaction n a) (put o cs))
+    → CallDone s a n o (calls_after s n a cs start) T → calls T ≡ onto (calls start) (map (at_transaction n a) (put o cs))
 both_counted s a n None cs start T own r = ap (λ T. calls T) r ∙ calls_counted s n a cs start
 both_counted s a n (Some c) cs start T own r =
     let none : cs ≡ [] = own c refl in
@@ -344,11 +357,12 @@ line_counted s before l start T r =
     ∙ ap (λ (ks : List (Place × ℕ × ActorNo)). onto (calls start) (there ++ ks ++ due)) (sym (none_at_log n a l.body r.0))
 
 -- a call by a line's own words leaves each context alone
-words_beside : (s : List Line) (a : ActorNo) (n : ℕ) (o : Option (TxNo × Call)) (start T : List Placed) → WordsDone s a n o start T → (b : ℕ) → at_context b T ≡ at_context b start
+words_beside : (s : List Line) (a : ActorNo) (n : ℕ) (o : Option (TxNo × Call)) (start T : List Placed) → CallDone s a n o start T → (b : ℕ) → at_context b T ≡ at_context b start
 words_beside s a n None start T r b = ap (λ T. at_context b T) r
 words_beside s a n (Some c) start T r b =
-    ap (λ T. at_context b T) r.ends ∙ context-placed b c.0 r.before (block_in s c.0 (Calls n a c.1 r.done) r.before)
-    ∙ steps_beside s c.0 r.place r.count start r.before r.steps b
+    let ran = has_called s a n c.0 c.1 start T r in
+    ap (λ T. at_context b T) ran.ends ∙ context-placed b c.0 ran.before (block_in s c.0 (Calls n a c.1 ran.done) ran.before)
+    ∙ steps_beside s c.0 ran.place ran.count start ran.before ran.steps b
 
 -- the calls of a line at transactions leave each context alone
 context-calls : (s : List Line) (a n : ℕ) (b : ActorNo) (cs : List (TxNo × Call)) (T : List Placed) → at_context a (calls_after s n b cs T) ≡ at_context a T
@@ -519,10 +533,9 @@ ran_new s xs ys l T t c e w ran quiet g =
     let n = suc (length (past_of xs)) in
     let whole : s ≡ onto (l ∷ ys) (past_of xs) = e ∙ sym (onto-onto [] xs (l ∷ ys)) in
     let stands : kth s n ≡ Some l = ap (λ s. kth s n) whole ∙ line-onto (past_of xs) ys l in
-    let given : IsGiven s n l (t, c) = own_given s l n (t, c) g in
     let free = lines_free s (past_of xs) (l ∷ ys) T whole r t in
     call_new (IsCallOf s t.value) t.value (world_with free.0 t T) n l.actor c (script_once s t.value w) free.1
-    (record { line = l; stands = stands; by_actor = refl; name = t; place = given.0; gives = given.1; at_t = refl }) (lines_uncalled s (past_of xs) T r n (omega arith) t.value)
+    (own_call_of s l n t c stands g) (lines_uncalled s (past_of xs) T r n (omega arith) t.value)
 
 -- the line at one of the first places is one of the first
 has-among : (p : Line → Bool) (xs ys : List Line) (k : ℕ) (l : Line) → slice_get (xs ++ ys) k ≡ Some l → k < length xs → p l ≡ true → has p xs ≡ true
