@@ -39,8 +39,11 @@ pub mod Settled
 pub mod Settlings
 pub mod Silent
 pub mod Heard
-pub mod LocalReplays
+pub mod ReplaySame
+pub mod ReplayTurns
 pub mod ReplayRuns
+pub mod ReplayNew
+pub mod LocalReplays
 pub mod Replays
 pub mod Examples
 pub mod ReplayExample

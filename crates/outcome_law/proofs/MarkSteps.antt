@@ -79,7 +79,7 @@ wanted_unpromotable n (Some (Durable u e r (TwoPhase v))) = refl
 wanted_unpromotable n (Some c) = refl
 wanted_unpromotable n None = refl
 
-all_unpromotable : (ks : List EnteredCall) (h : List Entry) → each is_unpromotable (waiting ks h) ≡ true
+pub all_unpromotable : (ks : List EnteredCall) (h : List Entry) → each is_unpromotable (waiting ks h) ≡ true
 all_unpromotable ks [] = refl
 all_unpromotable ks (Called n a Wait ∷ h) =
     each-insert is_unpromotable waiter_line (n, wanted (call_at ks n)) (waiting ks h)

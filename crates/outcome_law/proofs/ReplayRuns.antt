@@ -1,230 +1,189 @@
--- A step of a replay in which nothing is promoted is one of a transaction's world: the calls that were entered, those of scope lines too, make the same pending as
--- the script says.
-use Rattle.std.proofs.Common.{◌≡◌, ℕ, zero, suc, true, false, List, [], ◌∷◌, ◌++◌, Option, Some, None, refl, ap, sym, subst, ◌∙◌, slice_get}
+-- A step of a replay in which nothing stands at the log is one of its transaction's world, of the calls that were entered, those of scope lines too.
+use Rattle.std.proofs.Common.{◌≡◌, ℕ, zero, suc, Bool, true, false, not, List, [], ◌∷◌, ◌++◌, map, filter, Some, if◌then◌else◌, refl, ap, sym, subst, ◌∙◌}
+use Rattle.std.specs.List.{flat_map}
 use Rattle.dtx_values.specs.declared.call.Call.{Call}
-use Rattle.dtx_values.specs.declared.call.Call.TheVariants.{Begin, Commit, Rollback}
-use Rattle.dtx_values.specs.declared.entry.Answer.{Answer}
-use Rattle.dtx_values.specs.declared.entry.Answer.TheVariants.{Wait}
+use Rattle.dtx_values.specs.declared.end.End.{End}
 use Rattle.dtx_values.specs.declared.entry.Entry.{Entry}
-use Rattle.dtx_values.specs.declared.entry.Entry.TheVariants.{Called, Promoting}
-use Rattle.dtx_values.specs.declared.note.Plan.{Plan}
+use Rattle.dtx_values.specs.declared.entry.Entry.TheVariants.{Called}
+use Rattle.dtx_values.specs.declared.message.Conn.{Conn}
+use Rattle.dtx_values.specs.declared.message.Dir.{Dir}
+use Rattle.dtx_values.specs.declared.message.Dir.TheVariants.{Up, Down}
+use Rattle.dtx_values.specs.declared.message.Message.{Message}
+use Rattle.dtx_values.specs.declared.note.Note.{Note}
 use Rattle.dtx_values.specs.declared.number.ActorNo.{ActorNo}
+use Rattle.dtx_values.specs.declared.number.EnlNo.{EnlNo}
 use Rattle.dtx_values.specs.declared.number.TxNo.{TxNo}
 use Rattle.dtx_values.specs.declared.script.Line.{Line}
-use Rattle.dtx_model.specs.Words.{each, has, kth, latest, onto, or_else, put}
-use Rattle.dtx_model.specs.Observed.{Observed, observe}
+use Rattle.dtx_model.specs.Words.{each, kth, onto}
+use Rattle.dtx_model.specs.Outcome.{is_empty}
+use Rattle.dtx_model.specs.Coordinated.{may_log}
 use Rattle.dtx_model.specs.declared.waiting.EnteredCall.{EnteredCall}
-use Rattle.dtx_model.specs.Waiting.{managed}
-use Rattle.dtx_model.specs.Plans.{or_silent, plan_by, plan_of}
-use Rattle.dtx_model.specs.Half.{Half}
-use Rattle.dtx_model.specs.Acts.{act_entries as full_act}
-use Rattle.dtx_model.specs.Replies.{due_of, reply_entries as full_reply}
-use Rattle.dtx_model.specs.Calls.{call_of}
-use Rattle.dtx_model.specs.Contexts.{lines_before, scope_calls, scopes_of}
-use Rattle.dtx_model.specs.Facts.{facts_if}
-use Rattle.dtx_model.specs.Caused.{IsCallOf, HasStepped, IsNamed, IsRun, MayCome, Ran, called_at, entered_by, entered_in, is_promoting_entry}
+use Rattle.dtx_model.specs.Plans.{plan_of}
+use Rattle.dtx_model.specs.Acts.{act_entries}
+use Rattle.dtx_model.specs.Replies.{all_due, is_answered, reply_entries}
+use Rattle.dtx_model.specs.Facts.{facts_if, has_facts}
+use Rattle.dtx_model.specs.Wires.{in_transit}
 use Rattle.dtx_model.specs.Traces.{Placed, history}
-use Rattle.dtx_model.specs.World.{World, half}
-use Rattle.dtx_model.specs.Steps.{Step, Calls, Replies, Acts, StepName, ReplyOf, LocalAct, CoordinatorAct, Delivery, after, block_at, entered, local_if, local_pending, pending, replies_due}
-use Rattle.dtx_model.specs.Replay.{world_at}
-use Rattle.dtx_model.proofs.Bools.{and_left, and_right, or_false}
+use Rattle.dtx_model.specs.World.{World, answer_at, core, facts_at, half, has_left}
+use Rattle.dtx_model.specs.Steps.{Step, Calls, Replies, Acts, Coordinates, Delivers, Stops, Restarts, StepName, ReplyOf, LocalAct, CoordinatorAct, Delivery, after, block_at, coordinates, core_act, delivered, deliveries_on, delivery_if, ended_at, entered, got_by, local_if, local_pending, pending, replies_due, restarted}
+use Rattle.dtx_model.specs.Caused.{IsCallOf, HasStepped, IsNamed, IsRun, MayCome, entered_in}
+use Rattle.dtx_model.specs.Replay.{block_in, world_at}
+use Rattle.dtx_model.proofs.Bools.{and_both, not_true}
 use Rattle.dtx_model.proofs.Histories.{history-same}
-use Rattle.dtx_model.proofs.Local.{pending-local}
-use Rattle.dtx_model.proofs.Narrow.{answer, block, facts, is_done}
-use Rattle.dtx_model.proofs.Narrowing.{act-narrow}
-use Rattle.dtx_model.proofs.NarrowFacts.{call-narrow, is_wait}
-use Rattle.dtx_model.proofs.NarrowReplies.{reply-narrow}
-use Rattle.dtx_model.proofs.Unpromoted.{are_local, at_home, half-local, is_local, observe-local}
+use Rattle.dtx_model.proofs.Quiet.{Quiet, is_quiet, q_act, q_appended, q_called, q_ended_at, q_freed, q_got_by, q_if, q_reply, q_restarted}
 use Rattle.outcome_law.proofs.Tests.{eq_self}
-use Rattle.outcome_law.proofs.Lists.{of-at}
-use Rattle.outcome_law.proofs.Pending.{block_plain, facts_not_called, is_not_called, plain_not_called}
-use Rattle.outcome_law.proofs.ScopeCalls.{IsScopeCall, is_scope_call, own_line, scope_calls_plain}
-use Rattle.outcome_law.proofs.Planned.{latest-put, plan_in}
-use Rattle.outcome_law.proofs.Runs.{MayComeLocal, may_come, ran_before}
-use Rattle.outcome_law.proofs.LocalReplays.{AllLocal, NoCall, StepsLocal, after_step, named_comes, pending_here, step_all_before}
+use Rattle.outcome_law.proofs.Scans.{each-append, each-kth, each_more}
+use Rattle.outcome_law.proofs.Pending.{is_no_call, is_not_called}
+use Rattle.outcome_law.proofs.ScriptCalls.{AreCalls, ran_calls}
+use Rattle.outcome_law.proofs.ReplaySame.{block_same, pending_same}
+use Rattle.outcome_law.proofs.ReplayTurns.{StepsDone, after_block, world_with}
 
--- the block of a step in any world of this past is the narrow one, where that is local
-pub narrow_block : (G : ℕ → ActorNo → Call → Type 0) (t : ℕ) (w : World) (m : Step) → are_local w.past ≡ true → MayCome G t w m → are_local (block (observe w.past) m) ≡ true
-    → block_at t w m ≡ block (observe w.past) m
-unfolding block_at block
-narrow_block G t w (Calls n a c k) p q home = call-narrow t w n a c k p (unwaited n a (answer (observe w.past) c k) (and_left (is_local (Called n a (answer (observe w.past) c k))) _ home))
+-- Blocks of steps that aren't calls have no call.
+quiet_not_called : (es : List Entry) → Quiet es → each is_not_called es ≡ true
+quiet_not_called es q = each_more is_quiet is_not_called one es q.proof
   where
-    unwaited : (n : ℕ) (a : ActorNo) (x : Answer) → is_local (Called n a x) ≡ true → is_wait x ≡ false
-    unwaited n a Wait k = absurd cc
-    unwaited n a _ k = refl
-narrow_block G t w (Replies e r) p q home =
-    let o = observe w.past in
-    ap (λ (h : Half). full_reply h e r) (half-local w.calls w.past p)
-    ∙ reply-narrow o (managed w.calls w.past) e r q.0 (ap (λ (o : Observed). due_of o e.value) (sym (observe-local w.past p)) ∙ q.1) q.2
-narrow_block G t w Acts p q home = ap full_act (half-local w.calls w.past p) ∙ act-narrow (observe w.past) (managed w.calls w.past)
-narrow_block G t w m p q home = absurd (may_come G t w m p q)
-
--- the plan that a call of a script gives is the one that its line's own words give
-given_plan : (s : List Line) (t n : ℕ) (a : ActorNo) (c : Call) (e : ℕ) → IsCallOf s t n a c → plan_by e c ≡ plan_in e (called_at s n a (kth s n))
-given_plan s t n a c e g =
-    sym (ap (λ o. plan_in e (called_at s n a o)) g.stands
-    ∙ by_words (call_of s g.line.body) refl)
-  where
-    scoped : List (TxNo × Call)
-    scoped = scope_calls g.line.body (scopes_of g.line.actor.value (lines_before s n))
-
-    of_scope : (c : Call) → is_scope_call c ≡ true → None ≡ plan_by e c
-    of_scope (Begin t d) k = refl
-    of_scope (Commit t) k = refl
-    of_scope (Rollback t) k = refl
-    of_scope _ k = absurd cc
-
-    of_one : (d x : TxNo × Call) (k : ℕ) → slice_get (d ∷ []) k ≡ Some x → d ≡ x
-    of_one d x zero k = cc
-    of_one d x (suc i) k = absurd cc
-
-    by_words : (o : Option (TxNo × Call)) → call_of s g.line.body ≡ o → plan_in e (entered_by n a (call_of s g.line.body)) ≡ plan_by e c
-    by_words (Some d) f =
-        let none : scoped ≡ [] = own_line s g.line.body d (scopes_of g.line.actor.value (lines_before s n)) f in
-        let there : slice_get (d ∷ []) g.place ≡ Some (g.name, c) = sym (ap (λ o. slice_get (put o scoped) g.place) f ∙ ap (λ cs. slice_get (put (Some d) cs) g.place) none) ∙ g.gives in
-        ap (λ o. plan_in e (entered_by n a o)) f ∙ ap (λ (x : TxNo × Call). plan_by e x.1) (of_one d (g.name, c) g.place there)
-    by_words None f =
-        let there : slice_get scoped g.place ≡ Some (g.name, c) = sym (ap (λ o. slice_get (put o scoped) g.place) f) ∙ g.gives in
-        ap (λ o. plan_in e (entered_by n a o)) f
-        ∙ of_scope c (of-at IsScopeCall scoped g.place (g.name, c) (scope_calls_plain g.line.body (scopes_of g.line.actor.value (lines_before s n))) there)
-
--- what has no call enters none
-none_entered : (s : List Line) (h es : List Entry) → each is_not_called es ≡ true → entered_in s (onto h es) ≡ entered_in s h
-none_entered s h [] k = refl
-none_entered s h (x ∷ es) k = none_entered s (x ∷ h) es (and_right (is_not_called x) (each is_not_called es) k) ∙ one x (and_left (is_not_called x) (each is_not_called es) k)
-  where
-    one : (x : Entry) → is_not_called x ≡ true → entered_in s (x ∷ h) ≡ entered_in s h
+    one : (x : Entry) → is_quiet x ≡ true → is_not_called x ≡ true
     one (Called n a y) k = absurd cc
     one _ k = refl
 
--- the plan by the calls of a world, and by its history
-abbrev IsSamePlan : List Line → ℕ → List EnteredCall → List Entry → Type 0
-IsSamePlan s e ks h = latest (λ k. plan_by e k.call) ks ≡ latest (λ k. plan_by e k.call) (entered_in s h)
+delivered_not_called : (t : ℕ) (w : World) (c : Conn) (d : Dir) (ms : List Message) → each is_not_called (delivered t w c d ms) ≡ true
+delivered_not_called t w c d [] = quiet_not_called (ended_at w c d) (q_ended_at w c d)
+delivered_not_called t w c d (m ∷ ms) = quiet_not_called (got_by t w c d m) (q_got_by t w c d m)
 
--- a step keeps them the same
-step_plan : (s : List Line) (t e : ℕ) (ks : List EnteredCall) (h : List Entry) (m : Step) → MayComeLocal (IsCallOf s t) h m → IsSamePlan s e ks h → IsSamePlan s e (entered m ks) (onto h (block (observe h) m))
-unfolding block
-step_plan s t e ks h (Calls n a c k) g f =
-    let y = answer (observe h) c k in
-    ap (λ o. or_else o (latest (λ k. plan_by e k.call) ks)) (given_plan s t n a c e g.0)
-    ∙ ap (or_else (plan_in e (called_at s n a (kth s n)))) f
-    ∙ sym (latest-put e (called_at s n a (kth s n)) (entered_in s h))
-    ∙ sym (ap (λ ks. latest (λ k. plan_by e k.call) ks) (none_entered s (Called n a y ∷ h) (facts_if (is_done y) (facts (observe h) c)) (facts_not_called (observe h) c (is_done y))))
-step_plan s t e ks h (Replies i r) g f =
-    f ∙ sym (ap (λ ks. latest (λ k. plan_by e k.call) ks) (none_entered s h (block (observe h) (Replies i r)) (plain_not_called (block (observe h) (Replies i r)) (block_plain (observe h) (Replies i r) refl))))
-step_plan s t e ks h Acts g f =
-    f ∙ sym (ap (λ ks. latest (λ k. plan_by e k.call) ks) (none_entered s h (block (observe h) Acts) (plain_not_called (block (observe h) Acts) (block_plain (observe h) Acts refl))))
-step_plan s t e ks h m g f = absurd g
+pub block_not_called : (t : ℕ) (w : World) (m : Step) → is_no_call m ≡ true → each is_not_called (block_at t w m) ≡ true
+unfolding block_at
+block_not_called t w (Calls n a c k) p = absurd cc
+block_not_called t w (Replies e r) p = quiet_not_called (reply_entries (half w) e r) (q_reply (half w) e r)
+block_not_called t w Acts p = quiet_not_called (act_entries (half w)) (q_act (half w))
+block_not_called t w (Coordinates x) p = quiet_not_called (coordinates (core w) x) (q_if (may_log (core w)) (q_appended (core w) x) (q_freed x))
+block_not_called t w (Delivers c d) p = delivered_not_called t w c d (in_transit c d w.past)
+block_not_called t w Stops p = refl
+block_not_called t w (Restarts found) p = quiet_not_called (restarted (core w).stopped found) (q_restarted (core w).stopped found)
 
--- so the plan of each enlistment is the same by a world's calls as by its history, the calls of scope lines or not
-ran_plan : (s : List Line) (t e : ℕ) (ms : List Step) (w : World) → Ran (IsCallOf s t) t ms w → has is_promoting_entry w.past ≡ false → IsSamePlan s e w.calls w.past
-unfolding after
-ran_plan s t e [] w r q = ap (λ ks. latest (λ k. plan_by e k.call) ks) r.0 ∙ sym (ap (λ h. latest (λ k. plan_by e k.call) (entered_in s h)) r.1)
-ran_plan s t e (m ∷ ms) w r q =
-    let v = r.0 in
-    let b = ran_before (IsCallOf s t) t m ms w r q in
-    let calls : w.calls ≡ entered m v.calls = ap (λ (w : World). w.calls) r.3 in
-    subst (λ ks. IsSamePlan s e ks w.past) (sym calls)
-    (subst (λ h. IsSamePlan s e (entered m v.calls) h) (sym b.past) (step_plan s t e v.calls v.past m b.may (ran_plan s t e ms v r.1 b.unpromoted)))
+-- and so have the facts of a call
+pub facts_not_called : (t : ℕ) (w : World) (c : Call) (k : ℕ) → each is_not_called (facts_if (has_facts (answer_at t w c k)) (facts_at t w c (answer_at t w c k))) ≡ true
+facts_not_called t w c k = quiet_not_called (facts_if (has_facts (answer_at t w c k)) (facts_at t w c (answer_at t w c k))) (q_called t w c (answer_at t w c k))
 
--- nothing is promoted in a local history
-pub local_unpromoted : (h : List Entry) → are_local h ≡ true → has is_promoting_entry h ≡ false
-local_unpromoted [] p = refl
-local_unpromoted (x ∷ h) p = or_false (is_promoting_entry x) (has is_promoting_entry h) (one x (and_left (is_local x) (are_local h) p)) (local_unpromoted h (and_right (is_local x) (are_local h) p))
+-- a step that has a name is no call, and enters none
+pub named_no_call : (w : World) (n : StepName) (m : Step) → IsNamed w n m → is_no_call m ≡ true
+named_no_call w (ReplyOf e) m (r, note, due, fit, same) = ap is_no_call same
+named_no_call w LocalAct m same = ap is_no_call same
+named_no_call w CoordinatorAct m (a, may, same) = ap is_no_call same
+named_no_call w (Delivery c d) m same = ap is_no_call same
+
+no_call_entered : (ks : List EnteredCall) (m : Step) → is_no_call m ≡ true → entered m ks ≡ ks
+no_call_entered ks (Calls n a c k) q = absurd cc
+no_call_entered ks _ q = refl
+
+-- What is pending may come: the local act has entries, and something is left to deliver.
+is_there : World → StepName → Bool
+is_there w (ReplyOf e) = true
+is_there w LocalAct = not (is_empty (act_entries (half w)))
+is_there w CoordinatorAct = true
+is_there w (Delivery c d) = has_left c d w.past
+
+acts_there : (w : World) (xs : List Entry) → act_entries (half w) ≡ xs → each (is_there w) (local_if xs) ≡ true
+unfolding is_there
+acts_there w [] e = refl
+acts_there w (x ∷ xs) e = and_both (not (is_empty (act_entries (half w)))) true (ap (λ ys. not (is_empty ys)) e) refl
+
+replies_there : {A : Type 0} (w : World) (f : A → StepName) → ((x : A) → is_there w (f x) ≡ true) → (xs : List A) → each (is_there w) (map f xs) ≡ true
+replies_there w f g [] = refl
+replies_there w f g (x ∷ xs) = and_both (is_there w (f x)) (each (is_there w) (map f xs)) (g x) (replies_there w f g xs)
+
+one_there : (w : World) (c : Conn) (d : Dir) (b : Bool) → has_left c d w.past ≡ b → each (is_there w) (delivery_if b c d) ≡ true
+unfolding is_there
+one_there w c d true e = and_both (has_left c d w.past) true e refl
+one_there w c d false e = refl
+
+deliveries_there : (w : World) (ns : List End) → each (is_there w) (flat_map (deliveries_on w.past) ns) ≡ true
+deliveries_there w [] = refl
+deliveries_there w (n ∷ ns) =
+    each-append (is_there w) (deliveries_on w.past n) (flat_map (deliveries_on w.past) ns)
+    (each-append (is_there w) (delivery_if (has_left n.connection Up w.past) n.connection Up) (delivery_if (has_left n.connection Down w.past) n.connection Down)
+    (one_there w n.connection Up (has_left n.connection Up w.past) refl) (one_there w n.connection Down (has_left n.connection Down w.past) refl))
+    (deliveries_there w ns)
+
+core_there : (w : World) (b : Bool) → each (is_there w) (if b then CoordinatorAct ∷ [] else []) ≡ true
+unfolding is_there
+core_there w true = refl
+core_there w false = refl
+
+all_there : (w : World) → each (is_there w) (pending w) ≡ true
+unfolding pending local_pending is_there
+all_there w =
+    each-append (is_there w) (local_pending (plan_of w.calls) (half w) ++ core_act (core w)) (flat_map (deliveries_on w.past) (half w).seen.ends)
+    (each-append (is_there w) (local_pending (plan_of w.calls) (half w)) (core_act (core w))
+    (each-append (is_there w) (replies_due (plan_of w.calls) (half w)) (local_if (act_entries (half w)))
+    (replies_there w (λ (x : EnlNo × Note). ReplyOf x.0) (λ x. refl) (filter (is_answered (plan_of w.calls)) (all_due (half w).seen))) (acts_there w (act_entries (half w)) refl))
+    (core_there w _))
+    (deliveries_there w (half w).seen.ends)
+
+-- so a step that is pending may come
+pub pending_comes : (G : ℕ → ActorNo → Call → Type 0) (t : ℕ) (w : World) (k : ℕ) (n : StepName) (m : Step) → kth (pending w) k ≡ Some n → IsNamed w n m → MayCome G t w m
+unfolding is_there
+pending_comes G t w k n m e named = by n (each-kth (is_there w) (pending w) k n (all_there w) e) named
   where
-    one : (x : Entry) → is_local x ≡ true → is_promoting_entry x ≡ false
-    one (Promoting c) k = absurd cc
-    one _ k = refl
+    by : (n : StepName) → is_there w n ≡ true → IsNamed w n m → MayCome G t w m
+    by (ReplyOf e) p (r, note, due, fit, same) = subst (λ m. MayCome G t w m) (sym same) (note, due, fit)
+    by LocalAct p same = subst (λ m. MayCome G t w m) (sym same) (not_true (is_empty (act_entries (half w))) p)
+    by CoordinatorAct p (a, may, same) = subst (λ m. MayCome G t w m) (sym same) may
+    by (Delivery c d) p same = subst (λ m. MayCome G t w m) (sym same) p
 
--- what is pending at the local side, by the plans and what was seen
-pending_seen : (ks : List EnteredCall) (h : List Entry) (p : ℕ → Plan) → are_local h ≡ true → local_pending p (half (record { calls = ks; past = h })) ≡ local_pending p (at_home (observe h) [])
-unfolding local_pending
-pending_seen ks h p l =
-    let o = observe h in
-    ap (λ (x : Half). replies_due p x ++ local_if (full_act x)) (half-local ks h l)
-    ∙ ap (λ es. replies_due p (at_home o []) ++ local_if es) (act-narrow o (managed ks h) ∙ sym (act-narrow o []))
-
-same_plans : (p q : ℕ → Plan) → ((e : ℕ) → p e ≡ q e) → p ≡ q
-same_plans p q f = λ i. λ e. f e i
-
--- what is pending in two worlds of one past whose plans are the same
-pub pending_same : (ks js : List EnteredCall) (h : List Entry) → are_local h ≡ true → ((e : ℕ) → plan_of ks e ≡ plan_of js e)
-    → pending (record { calls = ks; past = h }) ≡ pending (record { calls = js; past = h })
-pending_same ks js h l f =
-    pending-local (record { calls = ks; past = h }) l ∙ pending_seen ks h (plan_of ks) l
-    ∙ ap (λ p. local_pending p (at_home (observe h) [])) (same_plans (plan_of ks) (plan_of js) f)
-    ∙ sym (pending-local (record { calls = js; past = h }) l ∙ pending_seen js h (plan_of js) l)
-
--- the world of transaction t with these calls after a trace
-abbrev pub world_with : List EnteredCall → TxNo → List Placed → World
-world_with ks t T = record { calls = ks; past = history t.value T }
-
--- the world with these calls is run
+-- the world of these calls is run
 abbrev pub IsRunWith : List Line → List EnteredCall → TxNo → List Placed → Type 0
 IsRunWith s ks t T = IsRun (IsCallOf s t.value) t.value (world_with ks t T)
 
+-- its calls are those of its history
+pub run_calls : (s : List Line) (ks : List EnteredCall) (t : TxNo) (T : List Placed) → IsRunWith s ks t T → AreCalls s t.value ks (history t.value T)
+run_calls s ks t T r = ran_calls s t.value r.0 (world_with ks t T) r.1
+
 -- what is pending in a world that is run is pending by the script
-pub pending_script : (s : List Line) (ks : List EnteredCall) (t : TxNo) (T : List Placed) → are_local (history t.value T) ≡ true → IsRunWith s ks t T
-    → pending (world_with ks t T) ≡ pending (world_at s t T)
-pending_script s ks t T l r =
-    let h = history t.value T in
-    pending_same ks (entered_in s h) h l (λ e. ap or_silent (ran_plan s t.value e r.0 (world_with ks t T) r.1 (local_unpromoted h l)))
+pub pending_script : (s : List Line) (ks : List EnteredCall) (t : TxNo) (T : List Placed) → IsRunWith s ks t T → pending (world_with ks t T) ≡ pending (world_at s t T)
+pending_script s ks t T r = pending_same s t.value ks (history t.value T) (run_calls s ks t T r)
 
 -- the world after a step
-after_same : (s : List Line) (ks : List EnteredCall) (t : TxNo) (m : Step) (T : List Placed) → are_local (history t.value T) ≡ true → MayCome (IsCallOf s t.value) t.value (world_with ks t T) m
-    → are_local (block (observe (history t.value T)) m) ≡ true → world_with (entered m ks) t (after_step t m T) ≡ after t.value (world_with ks t T) m
+after_same : (s : List Line) (ks : List EnteredCall) (t : TxNo) (m : Step) (T : List Placed) → IsRunWith s ks t T → world_with (entered m ks) t (after_block s t m T) ≡ after t.value (world_with ks t T) m
 unfolding after
-after_same s ks t m T l q home =
+after_same s ks t m T r =
     let h = history t.value T in
     ap (λ past. record { calls = entered m ks; past = past })
-    (history-same t.value t T (block (observe h) m) (eq_self t.value) ∙ ap (onto h) (sym (narrow_block (IsCallOf s t.value) t.value (world_with ks t T) m l q home)))
+    (history-same t.value t T (block_in s t m T) (eq_self t.value) ∙ ap (onto h) (sym (block_same s t.value ks h m (run_calls s ks t T r))))
 
 -- a step that may come keeps the world run
-pub run_step : (s : List Line) (ks : List EnteredCall) (t : TxNo) (m : Step) (T : List Placed) → are_local (history t.value T) ≡ true → IsRunWith s ks t T
-    → MayCome (IsCallOf s t.value) t.value (world_with ks t T) m → are_local (block (observe (history t.value T)) m) ≡ true → IsRunWith s (entered m ks) t (after_step t m T)
-run_step s ks t m T l r q home = (m ∷ r.0, (world_with ks t T, r.1, q, after_same s ks t m T l q home))
+pub run_step : (s : List Line) (ks : List EnteredCall) (t : TxNo) (m : Step) (T : List Placed) → IsRunWith s ks t T → MayCome (IsCallOf s t.value) t.value (world_with ks t T) m
+    → IsRunWith s (entered m ks) t (after_block s t m T)
+run_step s ks t m T r q = (m ∷ r.0, (world_with ks t T, r.1, q, after_same s ks t m T r))
 
 -- a name says the same in two worlds of one past
-named_same : (ks js : List EnteredCall) (h : List Entry) (n : StepName) (m : Step) → IsNamed (record { calls = ks; past = h }) n m → IsNamed (record { calls = js; past = h }) n m
+pub named_same : (ks js : List EnteredCall) (h : List Entry) (n : StepName) (m : Step) → IsNamed (record { calls = ks; past = h }) n m → IsNamed (record { calls = js; past = h }) n m
 named_same ks js h (ReplyOf e) m k = k
 named_same ks js h LocalAct m k = k
 named_same ks js h CoordinatorAct m k = k
 named_same ks js h (Delivery c d) m k = k
 
--- a step that is no call enters none
-no_call_entered : (h : List Entry) (ks : List EnteredCall) (m : Step) → MayComeLocal NoCall h m → entered m ks ≡ ks
-no_call_entered h ks (Calls n a c k) q = absurd q.0
-no_call_entered h ks _ q = refl
-
 -- a step that is pending by the script comes in a world that is run
-pub pending_run : (s : List Line) (ks : List EnteredCall) (t : TxNo) (k : ℕ) (n : StepName) (m : Step) (T : List Placed) → AllLocal (after_step t m T) → IsRunWith s ks t T
-    → kth (pending (world_at s t T)) k ≡ Some n → IsNamed (world_at s t T) n m → MayComeLocal NoCall (history t.value T) m
-    → IsRunWith s ks t (after_step t m T) × (kth (pending (world_with ks t T)) k ≡ Some n) × IsNamed (world_with ks t T) n m × (world_with ks t (after_step t m T) ≡ after t.value (world_with ks t T) m)
-pending_run s ks t k n m T all r e named may =
+pub pending_run : (s : List Line) (ks : List EnteredCall) (t : TxNo) (k : ℕ) (n : StepName) (m : Step) (T : List Placed) → IsRunWith s ks t T
+    → kth (pending (world_at s t T)) k ≡ Some n → IsNamed (world_at s t T) n m
+    → IsRunWith s ks t (after_block s t m T) × (kth (pending (world_with ks t T)) k ≡ Some n) × IsNamed (world_with ks t T) n m × (world_with ks t (after_block s t m T) ≡ after t.value (world_with ks t T) m)
+pending_run s ks t k n m T r e named =
     let h = history t.value T in
-    let before = step_all_before t m T all in
-    let there = ap (λ ns. kth ns k) (pending_script s ks t T (before.0 t) r) ∙ e in
+    let there = ap (λ ns. kth ns k) (pending_script s ks t T r) ∙ e in
     let own = named_same (entered_in s h) ks h n m named in
-    let comes = named_comes (IsCallOf s t.value) t.value (world_with ks t T) n m (pending_here (world_with ks t T) k n (before.0 t) there) own in
-    let none = no_call_entered h ks m may in (
-      subst (λ js. IsRunWith s js t (after_step t m T)) none (run_step s ks t m T (before.0 t) r comes before.1),
+    let comes = pending_comes (IsCallOf s t.value) t.value (world_with ks t T) k n m there own in
+    let none = no_call_entered ks m (named_no_call (world_at s t T) n m named) in (
+      subst (λ js. IsRunWith s js t (after_block s t m T)) none (run_step s ks t m T r comes),
       there,
       own,
-      subst (λ js. world_with js t (after_step t m T) ≡ after t.value (world_with ks t T) m) none (after_same s ks t m T (before.0 t) comes before.1),
+      subst (λ js. world_with js t (after_block s t m T) ≡ after t.value (world_with ks t T) m) none (after_same s ks t m T r),
     )
 
--- before the steps of a `do` or an `await`
-pub steps_all_before : (s : List Line) (t : TxNo) (k m : ℕ) (start T : List Placed) → AllLocal T → StepsLocal s t k m start T → AllLocal start
-steps_all_before s t k zero start T all r = subst AllLocal r all
-steps_all_before s t k (suc m) start T all r = steps_all_before s t k m start r.0 (step_all_before t r.3 r.0 (subst AllLocal r.7 all)).0 r.1
-
--- these steps are run in a world, and were done one after the other
-pub steps_run : (s : List Line) (ks : List EnteredCall) (t : TxNo) (k m : ℕ) (start T : List Placed) → AllLocal T → IsRunWith s ks t start → StepsLocal s t k m start T
+-- steps that were pending are run in a world, and were done one after the other
+pub steps_run : (s : List Line) (ks : List EnteredCall) (t : TxNo) (k m : ℕ) (start T : List Placed) → IsRunWith s ks t start → StepsDone s t k m start T
     → IsRunWith s ks t T × HasStepped t.value k m (world_with ks t start) (world_with ks t T)
-steps_run s ks t k zero start T all r q = (subst (IsRunWith s ks t) (sym q) r, ap (world_with ks t) q)
-steps_run s ks t k (suc m) start T all r q =
+steps_run s ks t k zero start T r q = (subst (IsRunWith s ks t) (sym q) r, ap (world_with ks t) q)
+steps_run s ks t k (suc m) start T r q =
     let past = q.0 in
-    let here = subst AllLocal q.7 all in
-    let ih = steps_run s ks t k m start past (step_all_before t q.3 past here).0 r q.1 in
-    let one = pending_run s ks t k q.2 q.3 past here ih.0 q.4 q.5 q.6 in
-    (subst (IsRunWith s ks t) (sym q.7) one.0, (world_with ks t past, ih.1, q.2, q.3, one.1, one.2, ap (world_with ks t) q.7 ∙ one.3))
+    let ih = steps_run s ks t k m start past r q.1 in
+    let one = pending_run s ks t k q.2 q.3 past ih.0 q.4 q.5 in
+    (subst (IsRunWith s ks t) (sym q.6) one.0, (world_with ks t past, ih.1, q.2, q.3, one.1, one.2, ap (world_with ks t) q.6 ∙ one.3))

@@ -1,7 +1,7 @@
--- What a replay does in which nothing is promoted is caused by its script in each transaction, has each line's call once and in order, and makes each name anew.
+-- What a replay does in which nothing stands at the log is caused by its script in each transaction, has each line's call once and in order, and makes each name anew.
 use Rattle.std.proofs.Common.{◌≡◌, ℕ, zero, suc, ◌+◌, ◌-◌, ◌<◌, ◌==◌, Bool, true, false, ◌||◌, List, [], ◌∷◌, ◌++◌, length, map, take, Option, Some, None}
 use Rattle.std.proofs.Common.{refl, arith, append-nil, ◌∙◌, ap, sym, subst}
-use Rattle.std.specs.Prelude.{is_some, nat_lt, if◌then◌else◌}
+use Rattle.std.specs.Prelude.{nat_lt, if◌then◌else◌}
 use Rattle.std.specs.List.{slice_get}
 use Rattle.std.proofs.lemmas.Bool.Decides.{nat_tests}
 use Rattle.std.proofs.lemmas.Bool.{false_from_ne_true}
@@ -21,35 +21,36 @@ use Rattle.dtx_values.specs.declared.script.Line.{Line}
 use Rattle.dtx_values.specs.declared.script.Support.{Support}
 use Rattle.dtx_values.specs.declared.trace.Place.{Place}
 use Rattle.dtx_values.specs.declared.trace.Place.TheVariants.{Context, Transaction}
+use Rattle.dtx_values.specs.Row.{is_lasting}
 use Rattle.dtx_model.specs.Words.{always, has, each, kth, onto, past_of, put}
 use Rattle.dtx_model.specs.Entries.{is_call}
-use Rattle.dtx_model.specs.Outcome.{is_empty}
-use Rattle.dtx_model.specs.Observed.{Observed, observe, rows}
-use Rattle.dtx_values.specs.Row.{is_lasting}
+use Rattle.dtx_model.specs.Observed.{observe, rows}
 use Rattle.dtx_model.specs.Scopes.{ScopeEntry, Opens, Finishes, Closes}
 use Rattle.dtx_model.specs.Calls.{call_of}
-use Rattle.dtx_model.specs.Facts.{facts_if}
+use Rattle.dtx_model.specs.Facts.{facts_if, has_facts}
 use Rattle.dtx_model.specs.declared.waiting.EnteredCall.{EnteredCall}
-use Rattle.dtx_model.specs.World.{World, half}
-use Rattle.dtx_model.specs.Steps.{Step, Calls, Replies, Acts, entered, pending}
-use Rattle.dtx_model.proofs.Narrow.{answer, is_done, facts, block}
-use Rattle.dtx_model.specs.Contexts.{scope_answer, scope_entries, scope_calls, scopes_of, written, called_with, scope_block, context, lines_before, calls_by}
-use Rattle.dtx_model.specs.Caused.{IsCallOf, is_new, Caused, FreelyCaused, HasStepped, MayAnswer, has_object, is_as_planned, plans_of}
+use Rattle.dtx_model.specs.World.{World, answer_at, facts_at}
+use Rattle.dtx_model.specs.Steps.{Step, Calls, StepName, block_at, entered}
+use Rattle.dtx_model.specs.Contexts.{scope_answer, scope_calls, scope_entries, scopes_of, written, called_with, scope_block, context, lines_before, calls_by}
+use Rattle.dtx_model.specs.Caused.{IsCallOf, IsNamed, is_new, Caused, FreelyCaused, MayAnswer, has_object, is_as_planned, plans_of}
 use Rattle.dtx_model.specs.Grammar.{are_named_well}
 use Rattle.dtx_model.specs.Built.{is_lasting_for, is_run_line}
 use Rattle.dtx_model.specs.Traces.{Placed, history, at_context, placed, noted, called_of, calls}
-use Rattle.dtx_model.specs.Replay.{IsReplayed, LinesRan, at_its_context, at_log_line, due_calls, due_by_line, world_at}
+use Rattle.dtx_model.specs.Replay.{IsReplayed, LinesRan, StepsRan, at_its_context, at_log_line, block_in, due_calls, due_by_line, world_at}
 use Rattle.dtx_model.proofs.Bools.{and_left, and_right, or_false, or_right, not_both}
 use Rattle.dtx_model.proofs.Histories.{onto-append, history-other, history-same, history-noted, context-same, context-other, context-placed}
 use Rattle.dtx_model.proofs.Reading.{has-onto, has-past}
+use Rattle.outcome_law.specs.LogQuiet.{is_log_quiet}
 use Rattle.outcome_law.proofs.Scans.{none_more}
-use Rattle.outcome_law.proofs.Lists.{OfEach, of-all, of-both, of-more}
-use Rattle.outcome_law.proofs.Pending.{is_not_called, facts_not_called, block_plain, plain_not_called}
+use Rattle.outcome_law.proofs.Lists.{OfEach, of-all, of-at, of-both, of-more}
+use Rattle.outcome_law.proofs.Pending.{is_not_called}
 use Rattle.outcome_law.proofs.ScopeCalls.{IsScopeCall, IsBeside, AreApart, is_scope_call, scope_calls_plain, scope_calls_apart, own_line}
-use Rattle.outcome_law.proofs.Runs.{MayComeLocal, free_run}
-use Rattle.outcome_law.proofs.LocalReplays.{AllLocal, CallLocal, IsLocal, LineLocal, LinesLocal, NoCall, ReplayedLocal, RoundsLocal, StepsLocal, after_step, calls_after, history_unpromoted, is_log_line, lines_local, noted_all_before, replayed_local, scope_after, step_all_before}
-use Rattle.outcome_law.proofs.ReplayRuns.{IsRunWith, pending_run, pending_script, run_step, steps_all_before, steps_run, world_with}
-use Rattle.outcome_law.proofs.Names.{IsCalled, run_new, script_once}
+use Rattle.outcome_law.proofs.Runs.{free_run}
+use Rattle.outcome_law.proofs.LocalReplays.{IsLocal, history_unpromoted}
+use Rattle.outcome_law.proofs.ReplayTurns.{CallDone, IsQuiet, LineDone, LinesDone, ReplayDone, RoundsDone, StepsDone, after_block, calls_after, has_called, is_log_line, lines_done, local_quiet, replay_done, scope_after, steps_done, world_with}
+use Rattle.outcome_law.proofs.ReplayRuns.{IsRunWith, block_not_called, facts_not_called, named_no_call, pending_run, pending_script, run_step, steps_run}
+use Rattle.outcome_law.proofs.ReplayNew.{call_new}
+use Rattle.outcome_law.proofs.Names.{IsCalled, script_once}
 use Rattle.outcome_law.proofs.Lasting.{call_lasts, lasting_called, giver_lasts, first_lasting}
 
 -- each transaction's history is freely caused
@@ -57,21 +58,14 @@ abbrev pub AllFree : List Line → List Placed → Type 0
 AllFree s T = (u : TxNo) → FreelyCaused (IsCallOf s u.value) u.value (history u.value T)
 
 -- a step of t after which its world is run keeps each history freely caused: by cases, u is t or another
-after_free : (s : List Line) (t : TxNo) (m : Step) (T : List Placed) (ks : List EnteredCall) → AllFree s T → IsRunWith s ks t (after_step t m T) → AllFree s (after_step t m T)
+after_free : (s : List Line) (t : TxNo) (m : Step) (T : List Placed) (ks : List EnteredCall) → AllFree s T → IsRunWith s ks t (after_block s t m T) → AllFree s (after_block s t m T)
 after_free s t m T ks free r u = by_name (u.value == t.value) refl
   where
-    by_name : (b : Bool) → (u.value == t.value) ≡ b → FreelyCaused (IsCallOf s u.value) u.value (history u.value (after_step t m T))
+    by_name : (b : Bool) → (u.value == t.value) ≡ b → FreelyCaused (IsCallOf s u.value) u.value (history u.value (after_block s t m T))
     by_name true e =
         let same : t.value ≡ u.value = grind (arith, nat_tests) in
-        subst (λ n. FreelyCaused (IsCallOf s n) n (history n (after_step t m T))) same (ks, r)
-    by_name false e = subst (λ h. FreelyCaused (IsCallOf s u.value) u.value h) (sym (history-other u.value t T (block (observe (history t.value T)) m) e)) (free u)
-
--- the block of a step that is no call has no call
-step_not_called : (h : List Entry) (m : Step) → MayComeLocal NoCall h m → each is_not_called (block (observe h) m) ≡ true
-step_not_called h (Calls n a c k) q = absurd q.0
-step_not_called h (Replies e r) q = plain_not_called (block (observe h) (Replies e r)) (block_plain (observe h) (Replies e r) refl)
-step_not_called h Acts q = plain_not_called (block (observe h) Acts) (block_plain (observe h) Acts refl)
-step_not_called h _ q = absurd q
+        subst (λ n. FreelyCaused (IsCallOf s n) n (history n (after_block s t m T))) same (ks, r)
+    by_name false e = subst (λ h. FreelyCaused (IsCallOf s u.value) u.value h) (sym (history-other u.value t T (block_in s t m T) e)) (free u)
 
 -- what has no call hasn't this call
 not_this_call : (n : ℕ) (es : List Entry) → each is_not_called es ≡ true → has (is_call n) es ≡ false
@@ -100,83 +94,50 @@ calls-at p T (x ∷ es) h =
     ∙ one_not_called p x (calls T) (and_left (is_not_called x) (each is_not_called es) h)
 
 -- the block of a call of line m has no other line's call
-other_call : (n m : ℕ) (a : ActorNo) (c : Call) (d : ℕ) (o : Observed) → (n == m) ≡ false → has (is_call n) (block o (Calls m a c d)) ≡ false
-unfolding block
-other_call n m a c d o e =
-    let es = facts_if (is_done (answer o c d)) (facts o c) in
-    or_false (n == m) (has (is_call n) es) e (not_this_call n es (facts_not_called o c (is_done (answer o c d))))
+other_call : (n m t : ℕ) (w : World) (a : ActorNo) (c : Call) (d : ℕ) → (n == m) ≡ false → has (is_call n) (block_at t w (Calls m a c d)) ≡ false
+unfolding block_at
+other_call n m t w a c d e =
+    let x = answer_at t w c d in
+    let es = facts_if (has_facts x) (facts_at t w c x) in
+    or_false (n == m) (has (is_call n) es) e (not_this_call n es (facts_not_called t w c d))
 
 -- the step of a call leaves each history without the call of any other line
-call_uncalled : (n m u : ℕ) (a : ActorNo) (t : TxNo) (c : Call) (d : ℕ) (T : List Placed) → (n == m) ≡ false
-    → has (is_call n) (history u (after_step t (Calls m a c d) T)) ≡ has (is_call n) (history u T)
-call_uncalled n m u a t c d T e =
-    let o = observe (history t.value T) in
-    has-call-placed n u t T (block o (Calls m a c d)) (u == t.value) refl (other_call n m a c d o e)
+call_uncalled : (s : List Line) (n m u : ℕ) (a : ActorNo) (t : TxNo) (c : Call) (d : ℕ) (T : List Placed) → (n == m) ≡ false
+    → has (is_call n) (history u (after_block s t (Calls m a c d) T)) ≡ has (is_call n) (history u T)
+call_uncalled s n m u a t c d T e =
+    has-call-placed n u t T (block_in s t (Calls m a c d) T) (u == t.value) refl (other_call n m t.value (world_at s t T) a c d e)
 
 -- it adds its call to the trace
-call_counted : (m : ℕ) (a : ActorNo) (t : TxNo) (c : Call) (d : ℕ) (T : List Placed) → calls (after_step t (Calls m a c d) T) ≡ (Transaction t, m, a) ∷ calls T
-unfolding block
-call_counted m a t c d T =
-    let o = observe (history t.value T) in
-    let y = answer o c d in
-    calls-at (Transaction t) ((Transaction t, Called m a y) ∷ T) (facts_if (is_done y) (facts o c)) (facts_not_called o c (is_done y))
+call_counted : (s : List Line) (m : ℕ) (a : ActorNo) (t : TxNo) (c : Call) (d : ℕ) (T : List Placed) → calls (after_block s t (Calls m a c d) T) ≡ (Transaction t, m, a) ∷ calls T
+unfolding block_at
+call_counted s m a t c d T =
+    let w = world_at s t T in
+    let x = answer_at t.value w c d in
+    calls-at (Transaction t) ((Transaction t, Called m a x) ∷ T) (facts_if (has_facts x) (facts_at t.value w c x)) (facts_not_called t.value w c d)
+
+-- a step that has a name has no call
+named_not_called : (s : List Line) (t : TxNo) (T : List Placed) (n : StepName) (m : Step) → IsNamed (world_at s t T) n m → each is_not_called (block_in s t m T) ≡ true
+named_not_called s t T n m k = block_not_called t.value (world_at s t T) m (named_no_call (world_at s t T) n m k)
 
 -- the steps of a `do` or an `await` add no call to a history
-steps_uncalled : (s : List Line) (t : TxNo) (k m : ℕ) (start T : List Placed) → StepsLocal s t k m start T → (n u : ℕ) → has (is_call n) (history u T) ≡ has (is_call n) (history u start)
+steps_uncalled : (s : List Line) (t : TxNo) (k m : ℕ) (start T : List Placed) → StepsDone s t k m start T → (n u : ℕ) → has (is_call n) (history u T) ≡ has (is_call n) (history u start)
 steps_uncalled s t k zero start T r n u = ap (λ T. has (is_call n) (history u T)) r
 steps_uncalled s t k (suc m) start T r n u =
-    let h = history t.value r.0 in
-    let es = block (observe h) r.3 in
-    ap (λ T. has (is_call n) (history u T)) r.7 ∙ has-call-placed n u t r.0 es (u == t.value) refl (not_this_call n es (step_not_called h r.3 r.6))
+    let es = block_in s t r.3 r.0 in
+    ap (λ T. has (is_call n) (history u T)) r.6 ∙ has-call-placed n u t r.0 es (u == t.value) refl (not_this_call n es (named_not_called s t r.0 r.2 r.3 r.5))
     ∙ steps_uncalled s t k m start r.0 r.1 n u
 
 -- nor to the trace
-steps_called : (s : List Line) (t : TxNo) (k m : ℕ) (start T : List Placed) → StepsLocal s t k m start T → calls T ≡ calls start
+steps_called : (s : List Line) (t : TxNo) (k m : ℕ) (start T : List Placed) → StepsDone s t k m start T → calls T ≡ calls start
 steps_called s t k zero start T r = ap (λ T. calls T) r
 steps_called s t k (suc m) start T r =
-    let h = history t.value r.0 in
-    ap (λ T. calls T) r.7 ∙ calls-at (Transaction t) r.0 (block (observe h) r.3) (step_not_called h r.3 r.6) ∙ steps_called s t k m start r.0 r.1
+    ap (λ T. calls T) r.6 ∙ calls-at (Transaction t) r.0 (block_in s t r.3 r.0) (named_not_called s t r.0 r.2 r.3 r.5) ∙ steps_called s t k m start r.0 r.1
 
 -- nor to a context
-steps_beside : (s : List Line) (t : TxNo) (k m : ℕ) (start T : List Placed) → StepsLocal s t k m start T → (a : ℕ) → at_context a T ≡ at_context a start
+steps_beside : (s : List Line) (t : TxNo) (k m : ℕ) (start T : List Placed) → StepsDone s t k m start T → (a : ℕ) → at_context a T ≡ at_context a start
 steps_beside s t k zero start T r a = ap (λ T. at_context a T) r
 steps_beside s t k (suc m) start T r a =
-    ap (λ T. at_context a T) r.7 ∙ context-placed a t r.0 (block (observe (history t.value r.0)) r.3) ∙ steps_beside s t k m start r.0 r.1 a
-
--- what line i with this call does: steps that were pending, each the one at this place, and then the call, which may answer in each world in which they were done
-record HasCalled (s : List Line) (a : ActorNo) (i : ℕ) (t : TxNo) (c : Call) (start T : List Placed) : Type 0 where
-  place : ℕ
-  count : ℕ
-  done : ℕ
-  before : List Placed
-  steps : StepsLocal s t place count start before
-  may : (ks : List EnteredCall) → HasStepped t.value place count (world_with ks t start) (world_with ks t before) → pending (world_with ks t before) ≡ pending (world_at s t before)
-      → MayAnswer t.value (world_with ks t before) c done
-  ends : T ≡ after_step t (Calls i a c done) before
-
--- each call by a line's own words does so
-call_ran : (s : List Line) (a : ActorNo) (i : ℕ) (t : TxNo) (c : Call) (start T : List Placed) → CallLocal s a i (Some (t, c)) start T → HasCalled s a i t c start T
-call_ran s a i t (Do u k n) start T r =
-    record {
-      place = k;
-      count = r.0;
-      done = r.0;
-      before = r.1;
-      steps = r.2.ran;
-      may = λ ks st same. record { before = world_with ks t start; stepped = st; most = r.2.most; fewer = λ lt. ap (λ ns. kth ns k) same ∙ r.2.stopped lt };
-      ends = r.3;
-    }
-call_ran s a i t (Await u) start T r =
-    record {
-      place = 1;
-      count = r.0;
-      done = 0;
-      before = r.1;
-      steps = r.2.ran;
-      may = λ ks st same. or_right (is_some (half (world_with ks t r.1)).seen.told_client) (is_empty (pending (world_with ks t r.1))) (ap (λ ns. is_empty ns) (same ∙ r.2.settled));
-      ends = r.3;
-    }
-call_ran s a i t _ start T r = record { place = 1; count = 0; done = 0; before = start; steps = refl; may = λ ks st same. tt; ends = r }
+    ap (λ T. at_context a T) r.6 ∙ context-placed a t r.0 (block_in s t r.3 r.0) ∙ steps_beside s t k m start r.0 r.1 a
 
 -- a call as scope lines give it may answer wherever it comes
 scope_call_may : (t : ℕ) (w : World) (c : Call) → is_scope_call c ≡ true → MayAnswer t w c 0
@@ -188,74 +149,66 @@ scope_call_may t w _ e = tt
 abbrev IsGiven : List Line → ℕ → Line → TxNo × Call → Type 0
 IsGiven s n l c = (place : ℕ) × (slice_get (calls_by s (lines_before s n) l) place ≡ Some c)
 
+-- so the call is one of its transaction
+given_of : (s : List Line) (l : Line) (n : ℕ) (c : TxNo × Call) → kth s n ≡ Some l → IsGiven s n l c → IsCallOf s c.0.value n l.actor c.1
+given_of s l n c stands given = record { line = l; stands = stands; by_actor = refl; name = c.0; place = given.0; gives = given.1; at_t = refl }
+
 -- a call that line n gives and that doesn't stand yet keeps each history freely caused, where it may answer
 given_free : (s : List Line) (l : Line) (n : ℕ) (c : TxNo × Call) (d : ℕ) (T : List Placed) (ks : List EnteredCall) → kth s n ≡ Some l → IsGiven s n l c → has (is_call n) (history c.0.value T) ≡ false
-    → IsRunWith s ks c.0 T → MayAnswer c.0.value (world_with ks c.0 T) c.1 d → AllLocal (after_step c.0 (Calls n l.actor c.1 d) T) → AllFree s T
-    → AllFree s (after_step c.0 (Calls n l.actor c.1 d) T)
-given_free s l n c d T ks stands given new run may all free =
-    let gives : IsCallOf s c.0.value n l.actor c.1 =
-    record { line = l; stands = stands; by_actor = refl; name = c.0; place = given.0; gives = given.1; at_t = refl } in
+    → IsRunWith s ks c.0 T → MayAnswer c.0.value (world_with ks c.0 T) c.1 d → AllFree s T
+    → AllFree s (after_block s c.0 (Calls n l.actor c.1 d) T)
+given_free s l n c d T ks stands given new run may free =
     let m : Step = Calls n l.actor c.1 d in
-    let before = step_all_before c.0 m T all in
-    after_free s c.0 m T (entered m ks) free (run_step s ks c.0 m T (before.0 c.0) run (gives, new, may) before.1)
+    after_free s c.0 m T (entered m ks) free (run_step s ks c.0 m T run (given_of s l n c stands given, new, may))
 
 -- and so does a call by its own words
 call_free : (s : List Line) (l : Line) (n : ℕ) (c : TxNo × Call) (start T : List Placed) → kth s n ≡ Some l → IsGiven s n l c → has (is_call n) (history c.0.value start) ≡ false
-    → AllLocal T → AllFree s start → CallLocal s l.actor n (Some c) start T → AllFree s T
-call_free s l n c start T stands given new all free r =
-    let ran : HasCalled s l.actor n c.0 c.1 start T = call_ran s l.actor n c.0 c.1 start T r in
-    let here = subst AllLocal ran.ends all in
-    let home = (step_all_before c.0 (Calls n l.actor c.1 ran.done) ran.before here).0 in
+    → AllFree s start → CallDone s l.actor n (Some c) start T → AllFree s T
+call_free s l n c start T stands given new free r =
+    let ran = has_called s l.actor n c.0 c.1 start T r in
     let first = free c.0 in
-    let steps = steps_run s first.0 c.0 ran.place ran.count start ran.before home first.1 ran.steps in
+    let steps = steps_run s first.0 c.0 ran.place ran.count start ran.before first.1 ran.steps in
     let still : has (is_call n) (history c.0.value ran.before) ≡ false = steps_uncalled s c.0 ran.place ran.count start ran.before ran.steps n c.0.value ∙ new in
     subst (λ T. AllFree s T) (sym ran.ends)
-    (given_free s l n c ran.done ran.before first.0 stands given still steps.0
-    (ran.may first.0 steps.1 (pending_script s first.0 c.0 ran.before (home c.0) steps.0)) here (steps_free s c.0 ran.place ran.count start ran.before home free ran.steps))
+    (given_free s l n c ran.done ran.before first.0 stands given still steps.0 (ran.may first.0 steps.1 (pending_script s first.0 c.0 ran.before steps.0))
+    (steps_free s c.0 ran.place ran.count start ran.before free ran.steps))
   where
-    steps_free : (s : List Line) (t : TxNo) (k m : ℕ) (start T : List Placed) → AllLocal T → AllFree s start → StepsLocal s t k m start T → AllFree s T
-    steps_free s t k zero start T all free r = subst (λ T. AllFree s T) (sym r) free
-    steps_free s t k (suc m) start T all free r =
-        let here = subst AllLocal r.7 all in
-        let ih = steps_free s t k m start r.0 (step_all_before t r.3 r.0 here).0 free r.1 in
+    steps_free : (s : List Line) (t : TxNo) (k m : ℕ) (start T : List Placed) → AllFree s start → StepsDone s t k m start T → AllFree s T
+    steps_free s t k zero start T free r = subst (λ T. AllFree s T) (sym r) free
+    steps_free s t k (suc m) start T free r =
+        let ih = steps_free s t k m start r.0 free r.1 in
         let own = ih t in
-        subst (λ T. AllFree s T) (sym r.7) (after_free s t r.3 r.0 own.0 ih (pending_run s own.0 t k r.2 r.3 r.0 here own.1 r.4 r.5 r.6).0)
+        subst (λ T. AllFree s T) (sym r.6) (after_free s t r.3 r.0 own.0 ih (pending_run s own.0 t k r.2 r.3 r.0 own.1 r.4 r.5).0)
 
 -- the call doesn't stand yet at the transaction
 abbrev IsUncalled : ℕ → List Placed → TxNo × Call → Type 0
 IsUncalled n T c = has (is_call n) (history c.0.value T) ≡ false
 
 -- a call leaves the transactions of the others without it
-others_uncalled : (n : ℕ) (a : ActorNo) (c : TxNo × Call) (cs : List (TxNo × Call)) (T : List Placed) → OfEach (IsBeside c.0) cs → OfEach (IsUncalled n T) cs
-    → OfEach (IsUncalled n (after_step c.0 (Calls n a c.1 0) T)) cs
-others_uncalled n a c cs T apart new =
-    let es = block (observe (history c.0.value T)) (Calls n a c.1 0) in
-    of-more (λ d. IsBeside c.0 d × IsUncalled n T d) (IsUncalled n (after_step c.0 (Calls n a c.1 0) T))
+others_uncalled : (s : List Line) (n : ℕ) (a : ActorNo) (c : TxNo × Call) (cs : List (TxNo × Call)) (T : List Placed) → OfEach (IsBeside c.0) cs → OfEach (IsUncalled n T) cs
+    → OfEach (IsUncalled n (after_block s c.0 (Calls n a c.1 0) T)) cs
+others_uncalled s n a c cs T apart new =
+    let es = block_in s c.0 (Calls n a c.1 0) T in
+    of-more (λ d. IsBeside c.0 d × IsUncalled n T d) (IsUncalled n (after_block s c.0 (Calls n a c.1 0) T))
     (λ d h. ap (λ h. has (is_call n) h) (history-other d.0.value c.0 T es h.0) ∙ h.1) cs (of-both (IsBeside c.0) (IsUncalled n T) cs apart new)
-
--- before the calls of a scope line
-calls_all_before : (n : ℕ) (a : ActorNo) (cs : List (TxNo × Call)) (T : List Placed) → AllLocal (calls_after n a cs T) → AllLocal T
-calls_all_before n a [] T all = all
-calls_all_before n a (c ∷ cs) T all = (step_all_before c.0 (Calls n a c.1 0) T (calls_all_before n a cs (after_step c.0 (Calls n a c.1 0) T) all)).0
 
 -- the calls of a scope line keep each history freely caused
 calls_free : (s : List Line) (l : Line) (n : ℕ) (cs : List (TxNo × Call)) (T : List Placed) → kth s n ≡ Some l → OfEach (IsGiven s n l) cs → OfEach IsScopeCall cs → AreApart cs
-    → OfEach (IsUncalled n T) cs → AllLocal (calls_after n l.actor cs T) → AllFree s T → AllFree s (calls_after n l.actor cs T)
-calls_free s l n [] T stands given plain apart new all free = free
-calls_free s l n (c ∷ cs) T stands given plain apart new all free =
+    → OfEach (IsUncalled n T) cs → AllFree s T → AllFree s (calls_after s n l.actor cs T)
+calls_free s l n [] T stands given plain apart new free = free
+calls_free s l n (c ∷ cs) T stands given plain apart new free =
     let own = free c.0 in
-    calls_free s l n cs (after_step c.0 (Calls n l.actor c.1 0) T) stands given.1 plain.1 apart.1 (others_uncalled n l.actor c cs T apart.0 new.1) all
-    (given_free s l n c 0 T own.0 stands given.0 new.0 own.1 (scope_call_may c.0.value (world_with own.0 c.0 T) c.1 plain.0)
-    (calls_all_before n l.actor cs (after_step c.0 (Calls n l.actor c.1 0) T) all) free)
+    calls_free s l n cs (after_block s c.0 (Calls n l.actor c.1 0) T) stands given.1 plain.1 apart.1 (others_uncalled s n l.actor c cs T apart.0 new.1)
+    (given_free s l n c 0 T own.0 stands given.0 new.0 own.1 (scope_call_may c.0.value (world_with own.0 c.0 T) c.1 plain.0) free)
 
 -- what is written at a context keeps each history freely caused
 noted_free : (s : List Line) (a : ActorNo) (es : List Entry) (T : List Placed) → AllFree s T → AllFree s (onto T (noted a es))
 noted_free s a es T free u = subst (λ h. FreelyCaused (IsCallOf s u.value) u.value h) (sym (history-noted u.value a T es)) (free u)
 
 -- the calls of a scope line leave each history without the call of any other line
-calls_uncalled : (n m u : ℕ) (a : ActorNo) (cs : List (TxNo × Call)) (T : List Placed) → (n == m) ≡ false → has (is_call n) (history u (calls_after m a cs T)) ≡ has (is_call n) (history u T)
-calls_uncalled n m u a [] T e = refl
-calls_uncalled n m u a (c ∷ cs) T e = calls_uncalled n m u a cs (after_step c.0 (Calls m a c.1 0) T) e ∙ call_uncalled n m u a c.0 c.1 0 T e
+calls_uncalled : (s : List Line) (n m u : ℕ) (a : ActorNo) (cs : List (TxNo × Call)) (T : List Placed) → (n == m) ≡ false → has (is_call n) (history u (calls_after s m a cs T)) ≡ has (is_call n) (history u T)
+calls_uncalled s n m u a [] T e = refl
+calls_uncalled s n m u a (c ∷ cs) T e = calls_uncalled s n m u a cs (after_block s c.0 (Calls m a c.1 0) T) e ∙ call_uncalled s n m u a c.0 c.1 0 T e
 
 -- what is written at a context adds no call to a history
 noted_uncalled : (n u : ℕ) (a : ActorNo) (es : List Entry) (T : List Placed) → has (is_call n) (history u (onto T (noted a es))) ≡ has (is_call n) (history u T)
@@ -284,73 +237,65 @@ scope_given s before l n found =
 own_given : (s : List Line) (l : Line) (n : ℕ) (c : TxNo × Call) → call_of s l.body ≡ Some c → IsGiven s n l c
 own_given s l n c e = (0, ap (λ o. slice_get (put o (scope_calls l.body (scopes_of l.actor.value (lines_before s n)))) 0) e)
 
+-- so a line's call by its own words is one of its transaction, and so is each that it gives as a scope line
+pub own_call_of : (s : List Line) (l : Line) (n : ℕ) (t : TxNo) (c : Call) → kth s n ≡ Some l → call_of s l.body ≡ Some (t, c) → IsCallOf s t.value n l.actor c
+own_call_of s l n t c stands e = given_of s l n (t, c) stands (own_given s l n (t, c) e)
+
+pub scope_call_of : (s before : List Line) (l : Line) (n k : ℕ) (t : TxNo) (c : Call) → kth s n ≡ Some l → lines_before s n ≡ before → slice_get (scope_calls l.body (scopes_of l.actor.value before)) k ≡ Some (t, c)
+    → IsCallOf s t.value n l.actor c
+scope_call_of s before l n k t c stands found e =
+    given_of s l n (t, c) stands (of-at (IsGiven s n l) (scope_calls l.body (scopes_of l.actor.value before)) k (t, c) (scope_given s before l n found) e)
+
 -- what a scope line writes keeps each history freely caused, where its calls don't stand yet
 scope_free : (s before : List Line) (l : Line) (n : ℕ) (start : List Placed) → kth s n ≡ Some l → lines_before s n ≡ before → ((u : ℕ) → has (is_call n) (history u start) ≡ false)
-    → AllLocal (scope_after n l (scopes_of l.actor.value before) start) → AllFree s start → AllFree s (scope_after n l (scopes_of l.actor.value before) start)
-scope_free s before l n start stands found new all free =
+    → AllFree s start → AllFree s (scope_after s n l (scopes_of l.actor.value before) start)
+scope_free s before l n start stands found new free =
     let xs : List OpenScope = scopes_of l.actor.value before in
     let es : List Entry = scope_block n l.actor l.body xs in
     calls_free s l n (scope_calls l.body xs) (onto start (noted l.actor es)) stands (scope_given s before l n found) (scope_calls_plain l.body xs) (scope_calls_apart l.body xs)
-    (of-all (IsUncalled n (onto start (noted l.actor es))) (λ c. noted_uncalled n c.0.value l.actor es start ∙ new c.0.value) (scope_calls l.body xs)) all
+    (of-all (IsUncalled n (onto start (noted l.actor es))) (λ c. noted_uncalled n c.0.value l.actor es start ∙ new c.0.value) (scope_calls l.body xs))
     (noted_free s l.actor es start free)
 
 -- a line that calls by its own words writes no call as a scope line
 own_uncalled : (s : List Line) (l : Line) (n u : ℕ) (c : TxNo × Call) (xs : List OpenScope) (start : List Placed) → call_of s l.body ≡ Some c
-    → has (is_call n) (history u (scope_after n l xs start)) ≡ has (is_call n) (history u start)
+    → has (is_call n) (history u (scope_after s n l xs start)) ≡ has (is_call n) (history u start)
 own_uncalled s l n u c xs start e =
     let es : List Entry = scope_block n l.actor l.body xs in
-    ap (λ cs. has (is_call n) (history u (calls_after n l.actor cs (onto start (noted l.actor es))))) (own_line s l.body c xs e) ∙ noted_uncalled n u l.actor es start
-
--- before what a line does by its own words
-words_all_before : (s : List Line) (a : ActorNo) (i : ℕ) (o : Option (TxNo × Call)) (start T : List Placed) → AllLocal T → CallLocal s a i o start T → AllLocal start
-words_all_before s a i None start T all r = subst AllLocal r all
-words_all_before s a i (Some c) start T all r =
-    let ran : HasCalled s a i c.0 c.1 start T = call_ran s a i c.0 c.1 start T r in
-    steps_all_before s c.0 ran.place ran.count start ran.before (step_all_before c.0 (Calls i a c.1 ran.done) ran.before (subst AllLocal ran.ends all)).0 ran.steps
+    ap (λ cs. has (is_call n) (history u (calls_after s n l.actor cs (onto start (noted l.actor es))))) (own_line s l.body c xs e) ∙ noted_uncalled n u l.actor es start
 
 -- what a line does after that keeps each history freely caused
 words_free : (s : List Line) (l : Line) (n : ℕ) (o : Option (TxNo × Call)) (start T : List Placed) → kth s n ≡ Some l → call_of s l.body ≡ o
-    → ((c : TxNo × Call) → o ≡ Some c → has (is_call n) (history c.0.value start) ≡ false) → AllLocal T → AllFree s start → CallLocal s l.actor n o start T → AllFree s T
-words_free s l n None start T stands e new all free r = subst (λ T. AllFree s T) (sym r) free
-words_free s l n (Some c) start T stands e new all free r = call_free s l n c start T stands (own_given s l n c e) (new c refl) all free r
+    → ((c : TxNo × Call) → o ≡ Some c → has (is_call n) (history c.0.value start) ≡ false) → AllFree s start → CallDone s l.actor n o start T → AllFree s T
+words_free s l n None start T stands e new free r = subst (λ T. AllFree s T) (sym r) free
+words_free s l n (Some c) start T stands e new free r = call_free s l n c start T stands (own_given s l n c e) (new c refl) free r
 
 -- what a line does keeps each history freely caused, where no call of it stands yet
 line_free : (s before : List Line) (l : Line) (start T : List Placed) → kth s (suc (length before)) ≡ Some l → lines_before s (suc (length before)) ≡ before
-    → ((u : ℕ) → has (is_call (suc (length before))) (history u start) ≡ false) → AllLocal T → AllFree s start → LineLocal s before l start T → AllFree s T
-line_free s before l start T stands found new all free r =
+    → ((u : ℕ) → has (is_call (suc (length before))) (history u start) ≡ false) → AllFree s start → LineDone s before l start T → AllFree s T
+line_free s before l start T stands found new free r =
     let n : ℕ = suc (length before) in
     let xs : List OpenScope = scopes_of l.actor.value before in
-    words_free s l n (call_of s l.body) (scope_after n l xs start) T stands refl
-    (λ c e. own_uncalled s l n c.0.value c xs start e ∙ new c.0.value) all
-    (scope_free s before l n start stands found new (words_all_before s l.actor n (call_of s l.body) (scope_after n l xs start) T all r.1) free) r.1
-
--- before a line
-line_all_before : (s before : List Line) (l : Line) (start T : List Placed) → AllLocal T → LineLocal s before l start T → AllLocal start
-line_all_before s before l start T all r =
-    let n : ℕ = suc (length before) in
-    let xs : List OpenScope = scopes_of l.actor.value before in
-    let es : List Entry = scope_block n l.actor l.body xs in
-    noted_all_before l.actor es start
-    (calls_all_before n l.actor (scope_calls l.body xs) (onto start (noted l.actor es)) (words_all_before s l.actor n (call_of s l.body) (scope_after n l xs start) T all r.1))
+    words_free s l n (call_of s l.body) (scope_after s n l xs start) T stands refl
+    (λ c e. own_uncalled s l n c.0.value c xs start e ∙ new c.0.value) (scope_free s before l n start stands found new free) r.1
 
 -- a call by a line's own words leaves a history without the call of any other line
-words_uncalled : (s : List Line) (a : ActorNo) (m : ℕ) (o : Option (TxNo × Call)) (start T : List Placed) (n u : ℕ) → (n == m) ≡ false → CallLocal s a m o start T
+words_uncalled : (s : List Line) (a : ActorNo) (m : ℕ) (o : Option (TxNo × Call)) (start T : List Placed) (n u : ℕ) → (n == m) ≡ false → CallDone s a m o start T
     → has (is_call n) (history u T) ≡ has (is_call n) (history u start)
 words_uncalled s a m None start T n u d r = ap (λ T. has (is_call n) (history u T)) r
 words_uncalled s a m (Some c) start T n u d r =
-    let ran : HasCalled s a m c.0 c.1 start T = call_ran s a m c.0 c.1 start T r in
-    ap (λ T. has (is_call n) (history u T)) ran.ends ∙ call_uncalled n m u a c.0 c.1 ran.done ran.before d
+    let ran = has_called s a m c.0 c.1 start T r in
+    ap (λ T. has (is_call n) (history u T)) ran.ends ∙ call_uncalled s n m u a c.0 c.1 ran.done ran.before d
     ∙ steps_uncalled s c.0 ran.place ran.count start ran.before ran.steps n u
 
 -- a line leaves a history without the call of any other line
-line_uncalled : (s before : List Line) (l : Line) (start T : List Placed) (n u : ℕ) → (n == suc (length before)) ≡ false → LineLocal s before l start T
+line_uncalled : (s before : List Line) (l : Line) (start T : List Placed) (n u : ℕ) → (n == suc (length before)) ≡ false → LineDone s before l start T
     → has (is_call n) (history u T) ≡ has (is_call n) (history u start)
 line_uncalled s before l start T n u d r =
     let m : ℕ = suc (length before) in
     let xs : List OpenScope = scopes_of l.actor.value before in
     let es : List Entry = scope_block m l.actor l.body xs in
-    words_uncalled s l.actor m (call_of s l.body) (scope_after m l xs start) T n u d r.1
-    ∙ calls_uncalled n m u l.actor (scope_calls l.body xs) (onto start (noted l.actor es)) d ∙ noted_uncalled n u l.actor es start
+    words_uncalled s l.actor m (call_of s l.body) (scope_after s m l xs start) T n u d r.1
+    ∙ calls_uncalled s n m u l.actor (scope_calls l.body xs) (onto start (noted l.actor es)) d ∙ noted_uncalled n u l.actor es start
 
 -- the call of a line at a transaction, as the trace counts it
 abbrev at_transaction : ℕ → ActorNo → TxNo × Call → Place × ℕ × ActorNo
@@ -369,25 +314,25 @@ noted_counted n a None es T = refl
 noted_counted n a (Some x) es T = calls-at (Context a) ((Context a, Called n a x) ∷ T) (map written es) (written_not_called es)
 
 -- the calls of a scope line are added in order
-calls_counted : (n : ℕ) (a : ActorNo) (cs : List (TxNo × Call)) (T : List Placed) → calls (calls_after n a cs T) ≡ onto (calls T) (map (at_transaction n a) cs)
-calls_counted n a [] T = refl
-calls_counted n a (c ∷ cs) T =
-    calls_counted n a cs (after_step c.0 (Calls n a c.1 0) T) ∙ ap (λ ks. onto ks (map (at_transaction n a) cs)) (call_counted n a c.0 c.1 0 T)
+calls_counted : (s : List Line) (n : ℕ) (a : ActorNo) (cs : List (TxNo × Call)) (T : List Placed) → calls (calls_after s n a cs T) ≡ onto (calls T) (map (at_transaction n a) cs)
+calls_counted s n a [] T = refl
+calls_counted s n a (c ∷ cs) T =
+    calls_counted s n a cs (after_block s c.0 (Calls n a c.1 0) T) ∙ ap (λ ks. onto ks (map (at_transaction n a) cs)) (call_counted s n a c.0 c.1 0 T)
 
 -- a call by a line's own words is added
-words_counted : (s : List Line) (a : ActorNo) (n : ℕ) (c : TxNo × Call) (start T : List Placed) → CallLocal s a n (Some c) start T → calls T ≡ at_transaction n a c ∷ calls start
+words_counted : (s : List Line) (a : ActorNo) (n : ℕ) (c : TxNo × Call) (start T : List Placed) → CallDone s a n (Some c) start T → calls T ≡ at_transaction n a c ∷ calls start
 words_counted s a n c start T r =
-    let ran : HasCalled s a n c.0 c.1 start T = call_ran s a n c.0 c.1 start T r in
-    ap (λ T. calls T) ran.ends ∙ call_counted n a c.0 c.1 ran.done ran.before
+    let ran = has_called s a n c.0 c.1 start T r in
+    ap (λ T. calls T) ran.ends ∙ call_counted s n a c.0 c.1 ran.done ran.before
     ∙ ap (λ ks. at_transaction n a c ∷ ks) (steps_called s c.0 ran.place ran.count start ran.before ran.steps)
 
 -- the calls of a line, in order: those that it gives as a scope line, or the one by its own words
 both_counted : (s : List Line) (a : ActorNo) (n : ℕ) (o : Option (TxNo × Call)) (cs : List (TxNo × Call)) (start T : List Placed) → ((c : TxNo × Call) → o ≡ Some c → cs ≡ [])
-    → CallLocal s a n o (calls_after n a cs start) T → calls T ≡ onto (calls start) (map (at_transaction n a) (put o cs))
-both_counted s a n None cs start T own r = ap (λ T. calls T) r ∙ calls_counted n a cs start
+    → CallDone s a n o (calls_after s n a cs start) T → calls T ≡ onto (calls start) (map (at_transaction n a) (put o cs))
+both_counted s a n None cs start T own r = ap (λ T. calls T) r ∙ calls_counted s n a cs start
 both_counted s a n (Some c) cs start T own r =
     let none : cs ≡ [] = own c refl in
-    words_counted s a n c (calls_after n a cs start) T r ∙ ap (λ cs. at_transaction n a c ∷ calls (calls_after n a cs start)) none
+    words_counted s a n c (calls_after s n a cs start) T r ∙ ap (λ cs. at_transaction n a c ∷ calls (calls_after s n a cs start)) none
     ∙ ap (λ cs. onto (at_transaction n a c ∷ calls start) (map (at_transaction n a) cs)) (sym none)
 
 -- a line that doesn't stop the log nor open it has no call there
@@ -397,7 +342,7 @@ none_at_log n a Restart e = absurd cc
 none_at_log n a _ e = refl
 
 -- a line adds its calls
-line_counted : (s before : List Line) (l : Line) (start T : List Placed) → LineLocal s before l start T → calls T ≡ onto (calls start) (due_by_line s before l)
+line_counted : (s before : List Line) (l : Line) (start T : List Placed) → LineDone s before l start T → calls T ≡ onto (calls start) (due_by_line s before l)
 line_counted s before l start T r =
     let n : ℕ = suc (length before) in
     let a : ActorNo = l.actor in
@@ -412,27 +357,27 @@ line_counted s before l start T r =
     ∙ ap (λ (ks : List (Place × ℕ × ActorNo)). onto (calls start) (there ++ ks ++ due)) (sym (none_at_log n a l.body r.0))
 
 -- a call by a line's own words leaves each context alone
-words_beside : (s : List Line) (a : ActorNo) (n : ℕ) (o : Option (TxNo × Call)) (start T : List Placed) → CallLocal s a n o start T → (b : ℕ) → at_context b T ≡ at_context b start
+words_beside : (s : List Line) (a : ActorNo) (n : ℕ) (o : Option (TxNo × Call)) (start T : List Placed) → CallDone s a n o start T → (b : ℕ) → at_context b T ≡ at_context b start
 words_beside s a n None start T r b = ap (λ T. at_context b T) r
 words_beside s a n (Some c) start T r b =
-    let ran : HasCalled s a n c.0 c.1 start T = call_ran s a n c.0 c.1 start T r in
-    ap (λ T. at_context b T) ran.ends ∙ context-placed b c.0 ran.before (block (observe (history c.0.value ran.before)) (Calls n a c.1 ran.done))
+    let ran = has_called s a n c.0 c.1 start T r in
+    ap (λ T. at_context b T) ran.ends ∙ context-placed b c.0 ran.before (block_in s c.0 (Calls n a c.1 ran.done) ran.before)
     ∙ steps_beside s c.0 ran.place ran.count start ran.before ran.steps b
 
 -- the calls of a line at transactions leave each context alone
-context-calls : (a n : ℕ) (b : ActorNo) (cs : List (TxNo × Call)) (T : List Placed) → at_context a (calls_after n b cs T) ≡ at_context a T
-context-calls a n b [] T = refl
-context-calls a n b (c ∷ cs) T =
-    context-calls a n b cs (after_step c.0 (Calls n b c.1 0) T) ∙ context-placed a c.0 T (block (observe (history c.0.value T)) (Calls n b c.1 0))
+context-calls : (s : List Line) (a n : ℕ) (b : ActorNo) (cs : List (TxNo × Call)) (T : List Placed) → at_context a (calls_after s n b cs T) ≡ at_context a T
+context-calls s a n b [] T = refl
+context-calls s a n b (c ∷ cs) T =
+    context-calls s a n b cs (after_block s c.0 (Calls n b c.1 0) T) ∙ context-placed a c.0 T (block_in s c.0 (Calls n b c.1 0) T)
 
 -- a line writes at a context its block alone
-line_noted : (s before : List Line) (l : Line) (start T : List Placed) → LineLocal s before l start T → (b : ℕ)
+line_noted : (s before : List Line) (l : Line) (start T : List Placed) → LineDone s before l start T → (b : ℕ)
     → at_context b T ≡ at_context b (onto start (noted l.actor (scope_block (suc (length before)) l.actor l.body (scopes_of l.actor.value before))))
 line_noted s before l start T r b =
     let n : ℕ = suc (length before) in
     let xs : List OpenScope = scopes_of l.actor.value before in
-    words_beside s l.actor n (call_of s l.body) (scope_after n l xs start) T r.1 b
-    ∙ context-calls b n l.actor (scope_calls l.body xs) (onto start (noted l.actor (scope_block n l.actor l.body xs)))
+    words_beside s l.actor n (call_of s l.body) (scope_after s n l xs start) T r.1 b
+    ∙ context-calls s b n l.actor (scope_calls l.body xs) (onto start (noted l.actor (scope_block n l.actor l.body xs)))
 
 -- read newest first and put back before others, a list is as it was
 onto-onto : {A : Type 0} → (h xs ys : List A) → onto ys (onto h xs) ≡ onto (xs ++ ys) h
@@ -465,7 +410,7 @@ before-onto before rest l =
     ap (λ k. past_of (take k (onto (l ∷ rest) before))) none ∙ ap (λ xs. past_of xs) (take-onto before (l ∷ rest) 0) ∙ onto-onto [] before [] ∙ append-nil before
 
 -- no line but those that were run was called
-lines_uncalled : (s bs : List Line) (T : List Placed) → LinesLocal s bs T → (n : ℕ) → length bs < n → (u : ℕ) → has (is_call n) (history u T) ≡ false
+lines_uncalled : (s bs : List Line) (T : List Placed) → LinesDone s bs T → (n : ℕ) → length bs < n → (u : ℕ) → has (is_call n) (history u T) ≡ false
 lines_uncalled s [] T r n k u = ap (λ T. has (is_call n) (history u T)) r
 lines_uncalled s (l ∷ before) T r n k u =
     let earlier : length before < n = omega arith in
@@ -473,20 +418,20 @@ lines_uncalled s (l ∷ before) T r n k u =
     line_uncalled s before l r.0 T n u other r.2 ∙ lines_uncalled s before r.0 r.1 n earlier u
 
 -- what the lines did is freely caused in each transaction
-lines_free : (s bs rest : List Line) (T : List Placed) → s ≡ onto rest bs → AllLocal T → LinesLocal s bs T → AllFree s T
-lines_free s [] rest T e all r = subst (λ T. AllFree s T) (sym r) (λ u. ([], ([], (refl, refl))))
-lines_free s (l ∷ before) rest T e all r =
+lines_free : (s bs rest : List Line) (T : List Placed) → s ≡ onto rest bs → LinesDone s bs T → AllFree s T
+lines_free s [] rest T e r = subst (λ T. AllFree s T) (sym r) (λ u. ([], ([], (refl, refl))))
+lines_free s (l ∷ before) rest T e r =
     let n = suc (length before) in
     line_free s before l r.0 T (ap (λ s. kth s n) e ∙ line-onto before rest l) (ap (λ s. lines_before s n) e ∙ before-onto before rest l)
-    (λ u. lines_uncalled s before r.0 r.1 n (omega arith) u) all (lines_free s before (l ∷ rest) r.0 e (line_all_before s before l r.0 T all r.2) r.1) r.2
+    (λ u. lines_uncalled s before r.0 r.1 n (omega arith) u) (lines_free s before (l ∷ rest) r.0 e r.1) r.2
 
 -- the lines have each one's calls once and in order
-lines_called : (s bs : List Line) (T : List Placed) → LinesLocal s bs T → calls T ≡ due_calls s bs
+lines_called : (s bs : List Line) (T : List Placed) → LinesDone s bs T → calls T ≡ due_calls s bs
 lines_called s [] T r = ap (λ T. calls T) r
 lines_called s (l ∷ before) T r = line_counted s before l r.0 T r.2 ∙ ap (λ rest. onto rest (due_by_line s before l)) (lines_called s before r.0 r.1)
 
 -- the lines write at each context what its actor's lines write there
-lines_noted : (s bs : List Line) (T : List Placed) → LinesLocal s bs T → (a : ℕ) → at_context a T ≡ context a bs
+lines_noted : (s bs : List Line) (T : List Placed) → LinesDone s bs T → (a : ℕ) → at_context a T ≡ context a bs
 lines_noted s [] T r a = ap (λ T. at_context a T) r
 lines_noted s (l ∷ before) T r a = line_noted s before l r.0 T r.2 a ∙ by_actor (a == l.actor.value) refl (lines_noted s before r.0 r.1 a)
   where
@@ -501,70 +446,96 @@ lines_noted s (l ∷ before) T r a = line_noted s before l r.0 T r.2 a ∙ by_ac
     by_actor false e ih = context-other a l.actor r.0 (scope_block (suc (length before)) l.actor l.body (scopes_of l.actor.value before)) e ∙ ih
 
 -- what the rounds did after what is freely caused is freely caused
-rounds_free : (s : List Line) (start : List Placed) (turns : List (TxNo × Step)) (T : List Placed) → AllLocal T → AllFree s start → RoundsLocal s start turns T → AllFree s T
-rounds_free s start [] T all free r = subst (λ T. AllFree s T) (sym r) free
-rounds_free s start (x ∷ xs) T all free r =
-    let here = subst AllLocal r.4 all in
-    let ih = rounds_free s start xs r.0 (step_all_before x.0 x.1 r.0 here).0 free r.1 in
+rounds_free : (s : List Line) (start : List Placed) (turns : List (TxNo × Step)) (T : List Placed) → AllFree s start → RoundsDone s start turns T → AllFree s T
+rounds_free s start [] T free r = subst (λ T. AllFree s T) (sym r) free
+rounds_free s start (x ∷ xs) T free r =
+    let ih = rounds_free s start xs r.0 free r.1 in
     let own = ih x.0 in
-    subst (λ T. AllFree s T) (sym r.4)
-    (after_free s x.0 x.1 r.0 own.0 ih (pending_run s own.0 x.0 1 r.2.name x.1 r.0 here own.1 (ap (λ ns. slice_get ns 0) r.2.first) r.2.named r.3).0)
-
--- before the rounds
-rounds_all_before : (s : List Line) (start : List Placed) (turns : List (TxNo × Step)) (T : List Placed) → AllLocal T → RoundsLocal s start turns T → AllLocal start
-rounds_all_before s start [] T all r = subst AllLocal r all
-rounds_all_before s start (x ∷ xs) T all r = rounds_all_before s start xs r.0 (step_all_before x.0 x.1 r.0 (subst AllLocal r.4 all)).0 r.1
+    subst (λ T. AllFree s T) (sym r.3)
+    (after_free s x.0 x.1 r.0 own.0 ih (pending_run s own.0 x.0 1 r.2.name x.1 r.0 own.1 (ap (λ ns. slice_get ns 0) r.2.first) r.2.named).0)
 
 -- the rounds add no call
-rounds_called : (s : List Line) (start : List Placed) (turns : List (TxNo × Step)) (T : List Placed) → RoundsLocal s start turns T → calls T ≡ calls start
+rounds_called : (s : List Line) (start : List Placed) (turns : List (TxNo × Step)) (T : List Placed) → RoundsDone s start turns T → calls T ≡ calls start
 rounds_called s start [] T r = ap (λ T. calls T) r
 rounds_called s start (x ∷ xs) T r =
-    let h = history x.0.value r.0 in
-    ap (λ T. calls T) r.4 ∙ calls-at (Transaction x.0) r.0 (block (observe h) x.1) (step_not_called h x.1 r.3) ∙ rounds_called s start xs r.0 r.1
+    ap (λ T. calls T) r.3 ∙ calls-at (Transaction x.0) r.0 (block_in s x.0 x.1 r.0) (named_not_called s x.0 r.0 r.2.name x.1 r.2.named) ∙ rounds_called s start xs r.0 r.1
 
 -- and leave each context alone
-rounds_beside : (s : List Line) (start : List Placed) (turns : List (TxNo × Step)) (T : List Placed) → RoundsLocal s start turns T → (a : ℕ) → at_context a T ≡ at_context a start
+rounds_beside : (s : List Line) (start : List Placed) (turns : List (TxNo × Step)) (T : List Placed) → RoundsDone s start turns T → (a : ℕ) → at_context a T ≡ at_context a start
 rounds_beside s start [] T r a = ap (λ T. at_context a T) r
 rounds_beside s start (x ∷ xs) T r a =
-    ap (λ T. at_context a T) r.4 ∙ context-placed a x.0 r.0 (block (observe (history x.0.value r.0)) x.1) ∙ rounds_beside s start xs r.0 r.1 a
+    ap (λ T. at_context a T) r.3 ∙ context-placed a x.0 r.0 (block_in s x.0 x.1 r.0) ∙ rounds_beside s start xs r.0 r.1 a
 
 -- what a replay does is freely caused by its script in each transaction
-replayed_free : (s : List Line) (T : List Placed) → ReplayedLocal s T → AllLocal T → AllFree s T
-replayed_free s T r all =
-    rounds_free s r.by_lines r.turns T all
-    (lines_free s (past_of s) [] r.by_lines (sym (append-nil s) ∙ sym (onto-onto [] s [])) (rounds_all_before s r.by_lines r.turns T all r.rounds) r.lines) r.rounds
+replayed_free : (s : List Line) (T : List Placed) → ReplayDone s T → AllFree s T
+replayed_free s T r =
+    rounds_free s r.by_lines r.turns T (lines_free s (past_of s) [] r.by_lines (sym (append-nil s) ∙ sym (onto-onto [] s [])) r.lines) r.rounds
 
 -- and caused, where its replies are as planned
-pub replayed_caused : (s : List Line) (T : List Placed) → IsReplayed s T → IsLocal T → (k : ℕ) → ((t : TxNo) → always (is_as_planned (plans_of s) (has_object s k)) (history t.value T) ≡ true)
+pub replayed_caused : (s : List Line) (T : List Placed) → IsReplayed s T → IsQuiet T → (k : ℕ) → ((t : TxNo) → always (is_as_planned (plans_of s) (has_object s k)) (history t.value T) ≡ true)
     → (t : TxNo) → Caused s k t.value (history t.value T)
 replayed_caused s T r l k planned t =
-    let q = replayed_local s T l r in
-    record { freely = replayed_free s T q.0 q.1 t; planned = planned t }
+    record { freely = replayed_free s T (replay_done s T l r) t; planned = planned t }
 
 -- a replay has each line's call once and in order
-pub replayed_called : (s : List Line) (T : List Placed) → IsReplayed s T → IsLocal T → calls T ≡ due_calls s (past_of s)
+pub replayed_called : (s : List Line) (T : List Placed) → IsReplayed s T → IsQuiet T → calls T ≡ due_calls s (past_of s)
 replayed_called s T r l =
-    let q = (replayed_local s T l r).0 in
+    let q = replay_done s T l r in
     rounds_called s q.by_lines q.turns T q.rounds ∙ lines_called s (past_of s) q.by_lines q.lines
 
 -- a replay writes at each context what its actor's lines write there
-pub replayed_noted : (s : List Line) (T : List Placed) → IsReplayed s T → IsLocal T → (a : ActorNo) → at_context a.value T ≡ context a.value (past_of s)
+pub replayed_noted : (s : List Line) (T : List Placed) → IsReplayed s T → IsQuiet T → (a : ActorNo) → at_context a.value T ≡ context a.value (past_of s)
 replayed_noted s T r l a =
-    let q = (replayed_local s T l r).0 in
+    let q = replay_done s T l r in
     rounds_beside s q.by_lines q.turns T q.rounds a.value ∙ lines_noted s (past_of s) q.by_lines q.lines a.value
 
+-- the lines behind others are so many more
+length-onto : (h xs : List Line) → length (onto h xs) ≡ length xs + length h
+length-onto h [] = omega arith
+length-onto h (x ∷ xs) = length-onto (x ∷ h) xs ∙ omega arith
+
+-- the line after those that ran was called nowhere
+pub line_new : (s xs ys : List Line) (l : Line) (T : List Placed) → s ≡ xs ++ l ∷ ys → LinesRan s (past_of xs) T → is_log_quiet T ≡ true → (t : TxNo)
+    → has (is_call (suc (length xs))) (history t.value T) ≡ false
+line_new s xs ys l T e ran quiet t =
+    let many : length (past_of xs) ≡ length xs + length {A = Line} [] = length-onto [] xs in
+    lines_uncalled s (past_of xs) T (lines_done s (past_of xs) T quiet ran) (suc (length xs)) (omega arith) t.value
+
+-- nor is it where its calls come: a scope line's call at its transaction after the calls of the same line before it,
+pub scope_call_new : (s : List Line) (n : ℕ) (a : ActorNo) (cs ds : List (TxNo × Call)) (c : TxNo × Call) (T : List Placed) → AreApart (cs ++ c ∷ ds) → ((t : TxNo) → has (is_call n) (history t.value T) ≡ false)
+    → has (is_call n) (history c.0.value (calls_after s n a cs T)) ≡ false
+scope_call_new s n a cs ds c T apart new = others cs T apart (new c.0)
+  where
+    beside : (d : TxNo × Call) (cs : List (TxNo × Call)) → OfEach (IsBeside d.0) (cs ++ c ∷ ds) → IsBeside d.0 c
+    beside d [] h = h.0
+    beside d (e ∷ cs) h = beside d cs h.1
+
+    others : (cs : List (TxNo × Call)) (T : List Placed) → AreApart (cs ++ c ∷ ds) → has (is_call n) (history c.0.value T) ≡ false → has (is_call n) (history c.0.value (calls_after s n a cs T)) ≡ false
+    others [] T apart new = new
+    others (d ∷ cs) T apart new =
+        others cs (after_block s d.0 (Calls n a d.1 0) T) apart.1
+        (ap (λ h. has (is_call n) h) (history-other c.0.value d.0 T (block_in s d.0 (Calls n a d.1 0) T) (beside d cs apart.0)) ∙ new)
+
+-- and a call by a line's own words after the steps that it does first
+pub own_call_new : (s : List Line) (n : ℕ) (t : TxNo) (k m : ℕ) (start T : List Placed) → is_log_quiet T ≡ true → StepsRan s t k m start T → (u : TxNo) → has (is_call n) (history u.value start) ≡ false
+    → has (is_call n) (history u.value T) ≡ false
+own_call_new s n t k m start T quiet r u new = steps_uncalled s t k m start T (steps_done s t k m start T quiet r) n u.value ∙ new
+
+-- what is written at a context changes none of that
+pub noted_new : (n : ℕ) (t : TxNo) (a : ActorNo) (es : List Entry) (T : List Placed) → has (is_call n) (history t.value T) ≡ false → has (is_call n) (history t.value (onto T (noted a es))) ≡ false
+noted_new n t a es T new = noted_uncalled n t.value a es T ∙ new
+
 -- what a line's call makes is new where the lines before it ran
-pub ran_new : (s xs ys : List Line) (l : Line) (T : List Placed) (t : TxNo) (c : Call) → s ≡ xs ++ l ∷ ys → are_named_well s ≡ true → LinesRan s (past_of xs) T → IsLocal T
+pub ran_new : (s xs ys : List Line) (l : Line) (T : List Placed) (t : TxNo) (c : Call) → s ≡ xs ++ l ∷ ys → are_named_well s ≡ true → LinesRan s (past_of xs) T → is_log_quiet T ≡ true
     → call_of s l.body ≡ Some (t, c) → is_new (observe (history t.value T)) c ≡ true
-ran_new s xs ys l T t c e w ran home g =
-    let r = lines_local s (past_of xs) T home ran in
+ran_new s xs ys l T t c e w ran quiet g =
+    let r = lines_done s (past_of xs) T quiet ran in
     let n = suc (length (past_of xs)) in
     let whole : s ≡ onto (l ∷ ys) (past_of xs) = e ∙ sym (onto-onto [] xs (l ∷ ys)) in
     let stands : kth s n ≡ Some l = ap (λ s. kth s n) whole ∙ line-onto (past_of xs) ys l in
-    let given : IsGiven s n l (t, c) = own_given s l n (t, c) g in
-    run_new (IsCallOf s t.value) n l.actor c (history t.value T) (script_once s t.value w)
-    (free_run (IsCallOf s t.value) t.value (history t.value T) (lines_free s (past_of xs) (l ∷ ys) T whole r.1 r.0 t) (history_unpromoted t.value T home))
-    (record { line = l; stands = stands; by_actor = refl; name = t; place = given.0; gives = given.1; at_t = refl }) (lines_uncalled s (past_of xs) T r.0 n (omega arith) t.value)
+    let free = lines_free s (past_of xs) (l ∷ ys) T whole r t in
+    call_new (IsCallOf s t.value) t.value (world_with free.0 t T) n l.actor c (script_once s t.value w) free.1
+    (own_call_of s l n t c stands g) (lines_uncalled s (past_of xs) T r n (omega arith) t.value)
 
 -- the line at one of the first places is one of the first
 has-among : (p : Line → Bool) (xs ys : List Line) (k : ℕ) (l : Line) → slice_get (xs ++ ys) k ≡ Some l → k < length xs → p l ≡ true → has p xs ≡ true
@@ -572,13 +543,8 @@ has-among p [] ys k l e b h = absurd (omega (arith, b))
 has-among p (x ∷ xs) ys zero l e b h = let same : x ≡ l = cc in rw (same, h) refl
 has-among p (x ∷ xs) ys (suc k) l e b h = let less : k < length xs = omega (arith, b) in or_right (p x) (has p xs) (has-among p xs ys k l e less h)
 
--- the lines behind others are so many more
-length-onto : (h xs : List Line) → length (onto h xs) ≡ length xs + length h
-length-onto h [] = omega arith
-length-onto h (x ∷ xs) = length-onto (x ∷ h) xs ∙ omega arith
-
 -- a line that was called is one of those that ran
-called_among : (s xs rest : List Line) (n u : ℕ) (l : Line) (T : List Placed) (p : Line → Bool) → s ≡ xs ++ rest → LinesLocal s (past_of xs) T → kth s n ≡ Some l
+called_among : (s xs rest : List Line) (n u : ℕ) (l : Line) (T : List Placed) (p : Line → Bool) → s ≡ xs ++ rest → LinesDone s (past_of xs) T → kth s n ≡ Some l
     → has (is_call n) (history u T) ≡ true → p l ≡ true → has p (past_of xs) ≡ true
 called_among s xs rest zero u l T p e r stands called h = absurd cc
 called_among s xs rest (suc k) u l T p e r stands called h = by_place (nat_lt k (length xs)) refl
@@ -594,13 +560,13 @@ called_among s xs rest (suc k) u l T p e r stands called h = by_place (nat_lt k 
 ran_lasting : (s xs rest : List Line) (T : List Placed) (t : TxNo) → s ≡ xs ++ rest → LinesRan s (past_of xs) T → IsLocal T → has is_lasting (rows (history t.value T)) ≡ true
     → has (λ l. is_lasting_for t.value l.body) (past_of xs) ≡ true
 ran_lasting s xs rest T t e ran home k =
-    let r = lines_local s (past_of xs) T home ran in
+    let r = lines_done s (past_of xs) T (local_quiet T home) ran in
     let h : List Entry = history t.value T in
-    let run = free_run (IsCallOf s t.value) t.value h (lines_free s (past_of xs) rest T (e ∙ sym (onto-onto [] xs rest)) r.1 r.0 t) (history_unpromoted t.value T home) in
+    let run = free_run (IsCallOf s t.value) t.value h (lines_free s (past_of xs) rest T (e ∙ sym (onto-onto [] xs rest)) r t) (history_unpromoted t.value T home) in
     let made : IsCalled (IsCallOf s t.value) h call_lasts = lasting_called (IsCallOf s t.value) h run k in
     let g = made.given in
     let lasts : is_lasting_for g.name.value g.line.body ≡ true = giver_lasts s (lines_before s made.number) g.line g.place g.name made.call g.gives made.passes in
-    called_among s xs rest made.number t.value g.line T (λ l. is_lasting_for t.value l.body) e r.0 g.stands made.called
+    called_among s xs rest made.number t.value g.line T (λ l. is_lasting_for t.value l.body) e r g.stands made.called
     (subst (λ n. is_lasting_for n g.line.body ≡ true) g.at_t lasts)
 
 -- a durable of a line that is run comes where nothing durable or promotable stands

@@ -19,7 +19,6 @@ use Rattle.dtx_values.specs.declared.words.Outcome.TheVariants.{Aborted}
 use Rattle.dtx_values.specs.declared.words.Timeout.TheVariants.{Default as DefaultTimeout}
 use Rattle.dtx_values.specs.Table.{how_many}
 use Rattle.dtx_model.specs.Words.{always, past_of}
-use Rattle.dtx_model.specs.AtLog.{is_local_trace}
 use Rattle.dtx_model.specs.Observed.{observe, track}
 use Rattle.dtx_model.specs.Coordinated.{coordinate, follow, may_free, may_log}
 use Rattle.dtx_model.specs.Acts.{act_entries}
@@ -38,6 +37,7 @@ use Rattle.dtx_model.specs.Contexts.{scope_answer, scope_calls, scopes_of}
 use Rattle.dtx_model.proofs.Bools.{and_left, and_right}
 use Rattle.outcome_law.proofs.Examples.{a1, t1}
 use Rattle.outcome_law.proofs.ReplayExample.{none_passed}
+use Rattle.outcome_law.specs.LogQuiet.{is_log_quiet}
 use Rattle.outcome_law.proofs.Replays.{replayed_called, replayed_caused, replayed_noted}
 
 abbrev t2 : TxNo
@@ -203,9 +203,9 @@ pub isolation_differs : scope_answer other_open.body (scopes_of 1 (first_open �
 isolation_differs = refl
 
 -- no replay answers that line ok
-pub differing_is_none : (T : List Placed) → IsReplayed (first_open ∷ other_open ∷ []) T → is_local_trace T ≡ true
+pub differing_is_none : (T : List Placed) → IsReplayed (first_open ∷ other_open ∷ []) T → is_log_quiet T ≡ true
     → at_context 1 T ≡ past_of (Called 1 a1 Fine ∷ Scope (Opened s1 (Some t1)) ∷ Called 2 a1 Fine ∷ Scope (Opened s2 (Some t1)) ∷ []) → ⊥
-differing_is_none T r home e = let same = replayed_noted (first_open ∷ other_open ∷ []) T r home a1 in cc
+differing_is_none T r quiet e = let same = replayed_noted (first_open ∷ other_open ∷ []) T r quiet a1 in cc
 
 -- the close of a scope that isn't complete rolls its transaction back
 pub incomplete_rolls_back : scope_calls close.body (scopes_of 1 (first_open ∷ [])) ≡ (t1, RollbackCall t1) ∷ []

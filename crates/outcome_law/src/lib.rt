@@ -2,10 +2,11 @@
 //!
 //! Each law is a public function with an empty body. It does nothing when it runs. A caller calls it for its contract: after the call the
 //! proof of the caller has the law. Where a law is of histories in which each restart found what may be found, its clause says so by `tied`; where it is
-//! of those in which nothing is promoted, by the scan `is_unpromoted`, or `is_local_trace` of a whole trace.
+//! of those in which nothing is promoted, by the scan `is_unpromoted`, or `is_local_trace` of a whole trace; and of a trace in which nothing stands at the
+//! log, by `is_log_quiet`.
 #![tactic(auto)]
 
-ghost use Rattle.std.specs.Prelude.{◌≡◌, ℕ, true, false, List, ◌∷◌, ◌++◌, Bool, Some, length, slice_get};
+ghost use Rattle.std.specs.Prelude.{◌≡◌, ℕ, suc, true, false, List, ◌∷◌, ◌++◌, Bool, Some, length, slice_get};
 ghost use Rattle.dtx_values.specs.declared.call.Call.{Call};
 ghost use Rattle.dtx_values.specs.declared.call.Call.TheVariants.{Durable};
 ghost use Rattle.dtx_values.specs.declared.entry.Entry.{Entry};
@@ -23,7 +24,7 @@ ghost use Rattle.dtx_values.specs.declared.words.Outcome.TheVariants.{Committed}
 ghost use Rattle.dtx_values.specs.declared.row.Row.{Row};
 ghost use Rattle.dtx_model.specs.declared.listener.Listener.{Listener};
 ghost use Rattle.dtx_model.specs.Words.{has, each, always, all_of, past_of};
-ghost use Rattle.dtx_model.specs.Entries.{is_sealed, is_decision, is_promoted, is_client_told, clone_of};
+ghost use Rattle.dtx_model.specs.Entries.{is_call, is_sealed, is_decision, is_promoted, is_client_told, clone_of};
 ghost use Rattle.dtx_model.specs.Outcome.{enlisted, evidence, justified, agree};
 ghost use Rattle.dtx_model.specs.Learned.{Learned};
 ghost use Rattle.dtx_model.specs.Tied.{tied};
@@ -44,6 +45,7 @@ ghost use Rattle.dtx_model.specs.Replay.{IsReplayed, LinesRan, due_calls};
 ghost use Rattle.dtx_model.specs.History.{AreAnswered, CanCommit, IsHistory, IsReplay, IsToldOrWaits, is_loss};
 ghost use Rattle.dtx_model.specs.Grammar.{are_named_well};
 ghost use Rattle.dtx_model.specs.Built.{is_run_line};
+ghost use Rattle.outcome_law.specs.LogQuiet.{is_log_quiet};
 
 /// The law of one outcome: in a history that a script's lines freely cause, what is told is just, and no two are told opposite outcomes, promoted or not.
 /// (Presumed abort: a commit is told on evidence alone.) Freely: whatever each reply is. Of the script it needs that names are made once, before they are
@@ -89,17 +91,19 @@ pub fn completeness()
     ensures answered_unlost { (s : List Line) (k t : ℕ) (h : List Entry) → are_named_well s ≡ true → Caused s k t h → has is_loss h ≡ false → AreAnswered s h }
 {}
 
-/// What a replay does in its order is caused by its script in each transaction where its replies are as planned, is at each context what its actor's lines
-/// write there, and has each line's call exactly once at each of its places and in order. What a line's call makes is new where the lines before it ran,
-/// and a durable that is run finds nothing durable or promotable there. And a script has one trace. The trace is read newest first, but for the last
-/// clause.
+/// What a replay does in its order, promoted or not, as long as nothing stands at the log, is caused by its script in each transaction where its replies are
+/// as planned, is at each context what its actor's lines write there, and has each line's call exactly once at each of its places and in order. Where the
+/// lines before it ran, a line was called nowhere, and what its call makes is new. Where nothing is promoted either, a durable that is run finds nothing
+/// durable or promotable there, and a script has one trace. The trace is read newest first, but for the last clause.
 pub fn replay()
-    ensures caused { (s : List Line) (T : List Placed) → IsReplayed s T → is_local_trace T ≡ true → (k : ℕ)
+    ensures caused { (s : List Line) (T : List Placed) → IsReplayed s T → is_log_quiet T ≡ true → (k : ℕ)
         → ((t : TxNo) → always (is_as_planned (plans_of s) (has_object s k)) (history t.value T) ≡ true) → (t : TxNo) → Caused s k t.value (history t.value T) }
-    ensures contexts { (s : List Line) (T : List Placed) → IsReplayed s T → is_local_trace T ≡ true → (a : ActorNo) → at_context a.value T ≡ context a.value (past_of s) }
-    ensures called { (s : List Line) (T : List Placed) → IsReplayed s T → is_local_trace T ≡ true → calls T ≡ due_calls s (past_of s) }
+    ensures contexts { (s : List Line) (T : List Placed) → IsReplayed s T → is_log_quiet T ≡ true → (a : ActorNo) → at_context a.value T ≡ context a.value (past_of s) }
+    ensures called { (s : List Line) (T : List Placed) → IsReplayed s T → is_log_quiet T ≡ true → calls T ≡ due_calls s (past_of s) }
+    ensures uncalled { (s xs ys : List Line) (l : Line) (T : List Placed) → s ≡ xs ++ l ∷ ys → LinesRan s (past_of xs) T → is_log_quiet T ≡ true → (t : TxNo)
+        → has (is_call (suc (length xs))) (history t.value T) ≡ false }
     ensures fresh { (s xs ys : List Line) (l : Line) (T : List Placed) (t : TxNo) (c : Call) → s ≡ xs ++ l ∷ ys → are_named_well s ≡ true → LinesRan s (past_of xs) T
-        → is_local_trace T ≡ true → call_of s l.body ≡ Some (t, c) → is_new (observe (history t.value T)) c ≡ true }
+        → is_log_quiet T ≡ true → call_of s l.body ≡ Some (t, c) → is_new (observe (history t.value T)) c ≡ true }
     ensures alone { (s xs ys : List Line) (l : Line) (T : List Placed) (t u : TxNo) (e : EnlNo) (r : RmNo) (x : Support) → s ≡ xs ++ l ∷ ys → are_named_well s ≡ true
         → LinesRan s (past_of xs) T → is_local_trace T ≡ true → is_run_line (past_of xs) l ≡ true → call_of s l.body ≡ Some (t, Durable u e r x)
         → has is_lasting (rows (history t.value T)) ≡ false }

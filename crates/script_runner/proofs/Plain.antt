@@ -21,6 +21,8 @@ use Rattle.script_runner.specs.RunState.{are_plain}
 use Rattle.dtx_model.proofs.Bools.{and_both, and_left, and_never, and_right, not_false, not_true}
 use Rattle.outcome_law.proofs.Scans.{none_more}
 use Rattle.outcome_law.proofs.LocalTies.{local_tied}
+use Rattle.outcome_law.proofs.ReplayTurns.{local_quiet}
+use Rattle.outcome_law.specs.LogQuiet.{is_log_quiet}
 use Rattle.dtx_model.proofs.Unpromoted.{are_local, begin-local, is_local}
 
 -- nothing stands at the log
@@ -82,6 +84,10 @@ plain_local ((Transaction t, x) ∷ T) k =
 plain_local ((Context a, x) ∷ T) k =
     and_both (not (is_promoting_entry x)) (is_local_trace T) (and_left (not (is_promoting_entry x)) (are_plain T) k) (plain_local T (and_right (not (is_promoting_entry x)) (are_plain T) k))
 plain_local ((Log, x) ∷ T) k = absurd cc
+
+-- and the log is quiet
+pub plain_quiet : (T : List Placed) → are_plain T ≡ true → is_log_quiet T ≡ true
+plain_quiet T k = local_quiet T (plain_local T k)
 
 -- and nothing is promoted in a transaction's history
 pub plain_unpromoted : (t : ℕ) (T : List Placed) → are_plain T ≡ true → is_unpromoted (history t T) ≡ true

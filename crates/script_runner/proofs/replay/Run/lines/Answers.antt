@@ -7,10 +7,11 @@ use Rattle.dtx_model.specs.Traces.{history}
 use Rattle.dtx_model.specs.Calls.{call_of}
 use Rattle.dtx_model.specs.AtLog.{is_local_trace}
 use Rattle.dtx_model.specs.Words.{kth, past_of}
+use Rattle.outcome_law.specs.LogQuiet.{is_log_quiet}
 use Rattle.script_runner.specs.RunState.{RunState}
 use Rattle.script_runner.specs.Scoped.{AreOpen}
 use Rattle.script_runner.proofs.Openings.{always-here, lines_more, past_next, unopened}
-use Rattle.script_runner.proofs.Plain.{plain_local}
+use Rattle.script_runner.proofs.Plain.{plain_local, plain_quiet}
 use Rattle.script_runner.proofs.Ready.{line_ready}
 use Rattle.script_runner.proofs.Replayed.{few, line_at, split_at}
 use Rattle.script_runner.proofs.replay.Run.lines.Goals as goal
@@ -36,9 +37,10 @@ line-requires-clause-ready c =
     let split : s ≡ xs ++ l ∷ ys = sym same ∙ split_at lines i l ys here in
     let run : is_run_line (past_of xs) l ≡ true = always-here is_run_line s xs ys l split c.requires.run in
     let local : is_local_trace T ≡ true = plain_local T c.is_plain.ensures.plain in
+    let quiet : is_log_quiet T ≡ true = plain_quiet T c.is_plain.ensures.plain in
     λ t call gives.
     let given : call_of s l.body ≡ Some (t, call) = ap (λ (r : List Line). call_of r l.body) (sym c.loop-l.invariant.1) ∙ gives in
-    line_ready s (past_of xs) l.body (observe (history t.value T)) t call given run (c.replay.ensures.fresh s xs ys l T t call split c.requires.script.named c.loop-l.invariant.3 local given)
+    line_ready s (past_of xs) l.body (observe (history t.value T)) t call given run (c.replay.ensures.fresh s xs ys l T t call split c.requires.script.named c.loop-l.invariant.3 quiet given)
     (λ v e r x makes. c.replay.ensures.alone s xs ys l T t v e r x split c.requires.script.named c.loop-l.invariant.3 local run makes)
 
 pub line-requires-clause-unopened : goal.line-requires-clause-unopened
