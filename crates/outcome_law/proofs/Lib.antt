@@ -47,6 +47,7 @@ pub mod LocalReplays
 pub mod Replays
 pub mod Examples
 pub mod ReplayExample
+pub mod ReplayPromoted
 pub mod ScopeExample
 pub mod OwnerExample
 pub mod LossExample

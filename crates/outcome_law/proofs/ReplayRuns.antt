@@ -34,7 +34,8 @@ use Rattle.dtx_model.proofs.Quiet.{Quiet, is_quiet, q_act, q_appended, q_called,
 use Rattle.outcome_law.proofs.Tests.{eq_self}
 use Rattle.outcome_law.proofs.Scans.{each-append, each-kth, each_more}
 use Rattle.outcome_law.proofs.Pending.{is_no_call, is_not_called}
-use Rattle.outcome_law.proofs.ScriptCalls.{AreCalls, ran_calls}
+use Rattle.outcome_law.specs.LineCalls.{AreCalls}
+use Rattle.outcome_law.proofs.ScriptCalls.{ran_calls}
 use Rattle.outcome_law.proofs.ReplaySame.{block_same, pending_same}
 use Rattle.outcome_law.proofs.ReplayTurns.{StepsDone, after_block, world_with}
 

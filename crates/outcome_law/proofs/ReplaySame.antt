@@ -25,7 +25,8 @@ use Rattle.dtx_model.specs.Facts.{facts_if, has_facts, local_facts}
 use Rattle.dtx_model.specs.World.{World, answer_at, core, facts_at, gone_by, gone_unlinked, half, open_ones}
 use Rattle.dtx_model.specs.Steps.{Step, Calls, Replies, Acts, Coordinates, Delivers, Stops, Restarts, block_at, called, core_act, delivered, deliveries_on, local_pending, pending}
 use Rattle.dtx_model.specs.Caused.{entered_in, world_of}
-use Rattle.outcome_law.proofs.ScriptCalls.{AreCalls, half_same, plans_same}
+use Rattle.outcome_law.specs.LineCalls.{AreCalls}
+use Rattle.outcome_law.proofs.ScriptCalls.{half_same, plans_same}
 
 -- Two worlds of one past and one half answer the same, and a step makes the same block there.
 answers_alike : (t : ℕ) (ks js : List EnteredCall) (h : List Entry) (c : Call) (k : ℕ) → half_of ks h ≡ half_of js h

@@ -13,6 +13,7 @@ use Rattle.dtx_values.specs.declared.scope.OpenScope.{OpenScope}
 use Rattle.dtx_values.specs.declared.script.Body.{Body}
 use Rattle.dtx_values.specs.declared.script.Body.TheVariants.{Stop, Restart}
 use Rattle.dtx_values.specs.declared.script.Line.{Line}
+use Rattle.dtx_values.specs.declared.trace.Place.{Place}
 use Rattle.dtx_values.specs.declared.trace.Place.TheVariants.{Context, Log, Transaction}
 use Rattle.dtx_model.specs.Words.{each, has, kth, onto, past_of}
 use Rattle.dtx_model.specs.Outcome.{is_empty}
@@ -25,7 +26,7 @@ use Rattle.dtx_model.specs.Steps.{StoppedNow, Step, Calls, Coordinates, StepName
 use Rattle.dtx_model.specs.Caused.{HasStepped, IsNamed, MayAnswer, Settled, is_begin_sent, is_promoting_entry}
 use Rattle.dtx_model.specs.AtLog.{hit, is_local_trace, is_log, is_log_up, known}
 use Rattle.dtx_model.specs.Replay.{CallRan, IsReplayed, IsTurn, LineRan, LinesRan, Reopening, Opens, Faults, Differs, RoundsRan, StepsRan, after_calls, after_halt, after_restart, after_scope, after_turn, at_the_log, block_in, last_turn, others, stop_if, stopped_by_restart, world_at}
-use Rattle.dtx_model.proofs.Bools.{and_left, and_right, or_right}
+use Rattle.dtx_model.proofs.Bools.{and_both, and_left, and_right, not_false, or_right}
 use Rattle.dtx_model.proofs.Reading.{each-onto}
 use Rattle.outcome_law.specs.LogQuiet.{is_log_quiet}
 use Rattle.outcome_law.proofs.Scans.{each_more}
@@ -75,12 +76,32 @@ unstopped true true t T k = refl
 unstopped false true t T k = refl
 unstopped b false t T k = absurd cc
 
--- so a turn is the block
+-- the step stops the log
+abbrev pub is_stopping : Step → Bool
+is_stopping (Coordinates StoppedNow) = true
+is_stopping _ = false
+
+-- so a turn that doesn't stop it is the block
+pub quiet_turn : (s : List Line) (t : TxNo) (m : Step) (T : List Placed) → IsQuiet T → is_stopping m ≡ false → after_turn s t m T ≡ after_block s t m T
+quiet_turn s t (Coordinates StoppedNow) T l k = absurd cc
+quiet_turn s t m T l k = unstopped (has is_begin_sent (block_in s t m T)) (is_log_up T) t (after_block s t m T) (log_up T l)
+
+-- and one after which the log is quiet
 pub turn_block : (s : List Line) (t : TxNo) (m : Step) (T : List Placed) → IsQuiet (after_turn s t m T) → after_turn s t m T ≡ after_block s t m T
 turn_block s t (Coordinates StoppedNow) T l = absurd (never_now t T l)
 turn_block s t m T l =
-    unstopped (has is_begin_sent (block_in s t m T)) (is_log_up T) t (after_block s t m T)
-    (log_up T (quiet_before T (placed t (block_in s t m T)) (stop_before (has is_begin_sent (block_in s t m T) && not (is_log_up T)) t (after_block s t m T) l)))
+    quiet_turn s t m T (quiet_before T (placed t (block_in s t m T)) (stop_before (has is_begin_sent (block_in s t m T) && not (is_log_up T)) t (after_block s t m T) l)) refl
+
+-- the log stays quiet with a block at a transaction, or at a context
+at_quiet : (p : Place) (es : List Entry) → is_log p ≡ false → each is_off_log (map (λ e. (p, e)) es) ≡ true
+at_quiet p [] k = refl
+at_quiet p (x ∷ es) k = and_both (not (is_log p)) (each is_off_log (map (λ e. (p, e)) es)) (not_false (is_log p) k) (at_quiet p es k)
+
+pub placed_quiet : (t : TxNo) (es : List Entry) (T : List Placed) → IsQuiet T → IsQuiet (onto T (placed t es))
+placed_quiet t es T l = each-onto is_off_log T (placed t es) ∙ and_both (each is_off_log (placed t es)) (each is_off_log T) (at_quiet (Transaction t) es refl) l
+
+pub noted_quiet : (a : ActorNo) (es : List Entry) (T : List Placed) → IsQuiet T → IsQuiet (onto T (noted a es))
+noted_quiet a es T l = each-onto is_off_log T (noted a es) ∙ and_both (each is_off_log (noted a es)) (each is_off_log T) (at_quiet (Context a) es refl) l
 
 -- the world of transaction t with these calls after a trace
 abbrev pub world_with : List EnteredCall → TxNo → List Placed → World

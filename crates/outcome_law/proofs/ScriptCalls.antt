@@ -39,6 +39,7 @@ use Rattle.dtx_model.specs.Steps.{Step, Calls, Replies, Acts, Coordinates, Deliv
 use Rattle.dtx_model.specs.Caused.{IsCallOf, MayCome, Ran, called_at, entered_by, entered_in}
 use Rattle.dtx_model.proofs.Bools.{not_both, or_case, or_right}
 use Rattle.dtx_model.proofs.Quiet.{Quiet, is_quiet, q_act, q_appended, q_called, q_ended_at, q_freed, q_got_by, q_head, q_if, q_one, q_reply, q_restarted, q_tail}
+use Rattle.outcome_law.specs.LineCalls.{AreCalls}
 use Rattle.outcome_law.proofs.Lists.{of-at}
 use Rattle.outcome_law.proofs.Pending.{is_no_call}
 use Rattle.outcome_law.proofs.Planned.{latest-put, plan_in}
@@ -121,13 +122,6 @@ pub record IsEntered (G : ℕ → ActorNo → Call → Type 0) (ks : List Entere
   pub call : Call
   pub may : G n actor call
   pub entered : call_at ks n ≡ Some call
-
--- these are the calls of a history of transaction t: of each line's call that stands in it, newest first, one that the line gives t
-pub AreCalls : List Line → ℕ → List EnteredCall → List Entry → Type 0
-AreCalls s t ks [] = ks ≡ []
-AreCalls s t ks (Called n a x ∷ h) =
-    (c : Call) × (rest : List EnteredCall) × IsCallOf s t n a c × AreCalls s t rest h × (ks ≡ record { line = n; actor = a; call = c } ∷ rest)
-AreCalls s t ks (x ∷ h) = AreCalls s t ks h
 
 -- What is read of a line's call, where nothing is read of a scope line's, is read of the line's own words.
 of_one : (d x : TxNo × Call) (k : ℕ) → slice_get (d ∷ []) k ≡ Some x → d ≡ x
