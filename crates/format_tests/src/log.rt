@@ -39,7 +39,7 @@ fn disk(alloc: Global, fail: &[u64]) -> Result<MemDisk, AllocError>
 }
 
 /// An empty log.
-fn log(rt: &impl Abort, alloc: Global) -> Result<Log<MemDisk>, AllocError>
+pub fn empty_log(rt: &impl Abort, alloc: Global) -> Result<Log<MemDisk>, AllocError>
     ensures { IfOk result (λ l. l.life ≡ 0) }
 {
     match Log::format(alloc, disk(alloc, &[])?) {
@@ -50,7 +50,7 @@ fn log(rt: &impl Abort, alloc: Global) -> Result<Log<MemDisk>, AllocError>
 
 #[test]
 fn a_record_is_there_until_it_is_freed(rt: HostRuntime) -> Result<(), Fail> {
-    let mut log = log(&rt, rt.alloc())?;
+    let mut log = empty_log(&rt, rt.alloc())?;
     let wanted = record(&rt, 1);
     assert_eq!(rt; log.append(0, &wanted), Ok(0));
     assert_eq!(rt; log.lookup(id(1)).copied(), Some(wanted));
@@ -74,7 +74,7 @@ const FRONT: [u8; 40] = [
 
 #[test]
 fn a_record_has_its_bytes(rt: HostRuntime) -> Result<(), Fail> {
-    let mut log = log(&rt, rt.alloc())?;
+    let mut log = empty_log(&rt, rt.alloc())?;
     assert_eq!(rt; log.append(0, &record(&rt, 1)), Ok(0));
     let mut disk = log.into_disk();
     assert_eq!(rt; disk.len(), 524_800);
@@ -94,7 +94,7 @@ fn refused_with(
 ) -> Result<Option<LogRefusal>, AllocError>
     requires { at + length bytes.now ≤ LOG_BYTES }
 {
-    let mut disk = log(rt, alloc)?.into_disk();
+    let mut disk = empty_log(rt, alloc)?.into_disk();
     assert!(rt; disk.len() == LOG_BYTES);
     assert!(rt; disk.write_at(at, bytes).is_ok());
     match Log::from_disk(alloc, disk) {
@@ -204,7 +204,7 @@ fn is_found(
 ) -> Result<bool, AllocError>
     requires { 1 ≤ call }
 {
-    let mut log = log(rt, alloc)?;
+    let mut log = empty_log(rt, alloc)?;
     let wanted = record(rt, 1);
     if step == Step::Free {
         assert_eq!(rt; log.append(0, &wanted), Ok(0));
@@ -264,7 +264,7 @@ fn crashed<D: Disk + Drop>(
 fn a_crash_after_an_append_leaves_whole_records(rt: HostRuntime) -> Result<(), Fail> {
     // the call at which the append stops with keep, and whether its record outlives a crash with lose after that
     for (call, wanted) in [(3, false), (4, true)] {
-        let mut log = log(&rt, rt.alloc())?;
+        let mut log = empty_log(&rt, rt.alloc())?;
         log.arm(call, Image::Keep);
         match crashed(rt.alloc(), log, &record(&rt, 1), Image::Lose) {
             Ok(log) => assert_eq!(rt; log.lookup(id(1)).is_some(), wanted, "at call {call}"),

@@ -1,9 +1,10 @@
 //! Records spelled by hand, in the first slot of a log: read where the log is opened, written by an append.
 ghost use Rattle.std.specs.Prelude.{◌≡◌, ◌≤◌, length, IfOk};
 
+use crate::log::empty_log;
 use coordinator_log::{LOG_BYTES, Log, LogRefusal, is_identifier};
 use dtx_values::{EnlNo, LogRecord, RmNo};
-use outside::{Disk, MemDisk};
+use outside::Disk;
 use std::alloc::{AllocError, Global};
 use std::process::Abort;
 use std::test::Fail;
@@ -32,22 +33,13 @@ fn slot_of(front: &[u8]) -> [u8; 512]
     slot
 }
 
-/// A log without records.
-fn empty(rt: &impl Abort, alloc: Global) -> Result<Log<MemDisk>, AllocError> {
-    let disk = MemDisk::new(alloc, LOG_BYTES, Vec::new(alloc))?;
-    match Log::format(alloc, disk) {
-        Ok(log) => Ok(log),
-        Err((refusal, _disk)) => panic!(rt; "{refusal:?}"),
-    }
-}
-
 /// The record of the transaction in a log whose first slot has these bytes, or why that is no log.
 fn read(
     rt: &impl Abort,
     alloc: Global,
     slot: &[u8; 512],
 ) -> Result<Result<Option<LogRecord>, LogRefusal>, AllocError> {
-    let mut disk = empty(rt, alloc)?.into_disk();
+    let mut disk = empty_log(rt, alloc)?.into_disk();
     if disk.len() != LOG_BYTES {
         panic!(rt; "the disk has another length");
     }
@@ -60,7 +52,7 @@ fn read(
 
 /// The first slot of a log to which this record was appended.
 fn written(rt: &impl Abort, alloc: Global, r: &LogRecord) -> Result<[u8; 512], AllocError> {
-    let mut log = empty(rt, alloc)?;
+    let mut log = empty_log(rt, alloc)?;
     if !is_identifier(r.id) {
         panic!(rt; "no identifier");
     }
