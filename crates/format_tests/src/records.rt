@@ -1,5 +1,5 @@
 //! Records spelled by hand, in the first slot of a log: read where the log is opened, written by an append.
-ghost use Rattle.std.specs.Prelude.{◌≡◌, ◌≤◌, length, IfOk};
+ghost use Rattle.std.specs.Prelude.{◌≤◌, length};
 
 use crate::log::empty_log;
 use coordinator_log::{LOG_BYTES, Log, LogRefusal, is_identifier};

@@ -1,5 +1,5 @@
 //! How much is read of a source and written to a sink, and which of their faults a run can answer.
-ghost use Rattle.std.specs.Prelude.{◌≡◌, ◌≢◌, ◌≤◌, ◌^◌, ◌-◌, None, length};
+ghost use Rattle.std.specs.Prelude.{◌≢◌, ◌≤◌, ◌^◌, ◌-◌, None, length};
 
 use dtx_values::SCRIPT_BYTES;
 use outside::{Sink, Source, SureDisk, SureSink, SureSource, WriteError};
