@@ -8,8 +8,6 @@ mod desks;
 mod lists;
 mod machine;
 mod stages;
-#[cfg(test)]
-mod tests;
 mod writer;
 
 pub use act::CoreAct;

@@ -34,8 +34,6 @@ mod reading;
 mod refusal;
 mod slots;
 mod stop;
-#[cfg(test)]
-mod tests;
 mod writing;
 
 pub use dtx_values::is_identifier;

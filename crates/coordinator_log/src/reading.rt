@@ -9,9 +9,6 @@ use crate::layout::{
 };
 use dtx_values::{EnlNo, LogRecord, RmNo, read_identifier, read_pair};
 
-#[cfg(test)]
-mod tests;
-
 /// The record whose bytes come after an open gate, or the first place in the slot, from 1, of another form.
 #[tactic(auto, unfolding(dtx_model::specs::Log::record_at))]
 pub fn read_record(b: &[u8]) -> Result<LogRecord, usize>

@@ -3,8 +3,6 @@
 
 mod clones;
 mod refusal;
-#[cfg(test)]
-mod tests;
 
 pub use clones::Clones;
 pub use refusal::CloneRefusal;

@@ -20,8 +20,6 @@ mod resource;
 mod row;
 mod scope;
 mod script;
-#[cfg(test)]
-mod tests;
 mod trace;
 mod words;
 

@@ -2,8 +2,6 @@
 #![tactic(auto)]
 
 mod owner;
-#[cfg(test)]
-mod tests;
 
 pub use dtx_values::{BadInfo, parse_info, write_info};
 pub use owner::{cause_of, owner_of};

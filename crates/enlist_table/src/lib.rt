@@ -4,8 +4,6 @@
 
 mod refusal;
 mod table;
-#[cfg(test)]
-mod tests;
 
 pub use dtx_values::Row;
 pub use refusal::{AddRefusal, TableRefusal};

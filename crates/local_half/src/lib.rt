@@ -6,8 +6,6 @@ mod branches;
 mod half;
 mod listeners;
 mod outgoing;
-#[cfg(test)]
-mod tests;
 mod time;
 mod votes;
 mod waits;

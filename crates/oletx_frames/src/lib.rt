@@ -7,8 +7,6 @@ mod parts;
 mod reader;
 mod refusal;
 mod shape;
-#[cfg(test)]
-mod tests;
 mod valid;
 mod writer;
 

@@ -10,8 +10,6 @@ mod packet;
 mod queue;
 mod refusal;
 mod session;
-#[cfg(test)]
-mod tests;
 
 pub use oletx_frames::{FrameRefusal, is_valid};
 pub use refusal::SessionRefusal;

@@ -6,9 +6,6 @@ ghost use Rattle.dtx_values.specs.Owners.{may_own};
 
 use enlist_table::EnlistTable;
 
-#[cfg(test)]
-mod tests;
-
 /// Whether a promotable enlistment may own the transaction: false exactly where it is promoted or promoting, or it has a durable or promotable
 /// enlistment.
 #[tactic(auto, unfolding(dtx_values::specs::Owners::may_own))]

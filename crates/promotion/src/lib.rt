@@ -2,7 +2,5 @@
 #![tactic(auto)]
 
 mod handing;
-#[cfg(test)]
-mod tests;
 
 pub use handing::{Handover, HandoverAct, Right};

@@ -3,8 +3,6 @@
 
 mod context;
 mod refusal;
-#[cfg(test)]
-mod tests;
 
 pub use context::Context;
 pub use dtx_values::{Closed, Entered, OpenScope};

@@ -9,8 +9,6 @@ mod plans;
 mod program;
 mod replay;
 mod runnable;
-#[cfg(test)]
-mod tests;
 mod transfer;
 
 pub use coordinator_log::LOG_BYTES;

@@ -4,9 +4,6 @@ ghost use Rattle.std.specs.Option.{ForSome};
 ghost use Rattle.outside.specs.Faults.{Rose};
 ghost use Rattle.script_runner.specs.Transfer.{IsPartWritten};
 
-#[cfg(test)]
-mod tests;
-
 use dtx_values::SCRIPT_BYTES;
 use outside::{Sink, Source, WriteError};
 use std::alloc::Global;

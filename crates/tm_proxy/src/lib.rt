@@ -6,8 +6,6 @@ mod connections;
 mod ends;
 mod news;
 mod tags;
-#[cfg(test)]
-mod tests;
 
 pub use connections::Proxy;
 pub use news::ProxyNews;

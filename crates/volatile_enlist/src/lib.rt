@@ -3,8 +3,6 @@
 
 mod asks;
 mod refusal;
-#[cfg(test)]
-mod tests;
 mod votes;
 
 pub use asks::{hears, next_ask};

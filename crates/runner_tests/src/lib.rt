@@ -1,0 +1,8 @@
+//! Tests of the runner, through its public calls alone. They stand apart from it, since a crate with tests is
+//! proved twice.
+#![tactic(auto)]
+
+#[cfg(test)]
+mod runs;
+#[cfg(test)]
+mod transfers;
