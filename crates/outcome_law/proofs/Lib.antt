@@ -24,7 +24,6 @@ pub mod Runs
 pub mod LocalTies
 pub mod ScopeCalls
 pub mod Names
-pub mod Lasting
 pub mod Going
 pub mod Calls
 pub mod Acts

@@ -1,16 +1,12 @@
 -- What a replay does in which nothing stands at the log is caused by its script in each transaction, has each line's call once and in order, and makes each name anew.
-use Rattle.std.proofs.Common.{◌≡◌, ℕ, zero, suc, ◌+◌, ◌-◌, ◌<◌, ◌==◌, Bool, true, false, ◌||◌, List, [], ◌∷◌, ◌++◌, length, map, take, Option, Some, None}
+use Rattle.std.proofs.Common.{if◌then◌else◌, ◌≡◌, ℕ, zero, suc, ◌+◌, ◌-◌, ◌<◌, ◌==◌, Bool, true, false, ◌||◌, List, [], ◌∷◌, ◌++◌, length, map, take, Option, Some, None}
 use Rattle.std.proofs.Common.{refl, arith, append-nil, ◌∙◌, ap, sym, subst}
-use Rattle.std.specs.Prelude.{nat_lt, if◌then◌else◌}
 use Rattle.std.specs.List.{slice_get}
 use Rattle.std.proofs.lemmas.Bool.Decides.{nat_tests}
-use Rattle.std.proofs.lemmas.Bool.{false_from_ne_true}
 use Rattle.dtx_values.specs.declared.number.ActorNo.{ActorNo}
-use Rattle.dtx_values.specs.declared.number.EnlNo.{EnlNo}
-use Rattle.dtx_values.specs.declared.number.RmNo.{RmNo}
 use Rattle.dtx_values.specs.declared.number.TxNo.{TxNo}
 use Rattle.dtx_values.specs.declared.call.Call.{Call}
-use Rattle.dtx_values.specs.declared.call.Call.TheVariants.{Durable, Await, Do}
+use Rattle.dtx_values.specs.declared.call.Call.TheVariants.{Await, Do}
 use Rattle.dtx_values.specs.declared.entry.Answer.{Answer}
 use Rattle.dtx_values.specs.declared.entry.Entry.{Entry}
 use Rattle.dtx_values.specs.declared.entry.Entry.TheVariants.{Called}
@@ -18,13 +14,11 @@ use Rattle.dtx_values.specs.declared.scope.OpenScope.{OpenScope}
 use Rattle.dtx_values.specs.declared.script.Body.{Body}
 use Rattle.dtx_values.specs.declared.script.Body.TheVariants.{Stop, Restart}
 use Rattle.dtx_values.specs.declared.script.Line.{Line}
-use Rattle.dtx_values.specs.declared.script.Support.{Support}
 use Rattle.dtx_values.specs.declared.trace.Place.{Place}
 use Rattle.dtx_values.specs.declared.trace.Place.TheVariants.{Context, Transaction}
-use Rattle.dtx_values.specs.Row.{is_lasting}
 use Rattle.dtx_model.specs.Words.{always, has, each, kth, onto, past_of, put}
 use Rattle.dtx_model.specs.Entries.{is_call}
-use Rattle.dtx_model.specs.Observed.{observe, rows}
+use Rattle.dtx_model.specs.Observed.{observe}
 use Rattle.dtx_model.specs.Scopes.{ScopeEntry, Opens, Finishes, Closes}
 use Rattle.dtx_model.specs.Calls.{call_of}
 use Rattle.dtx_model.specs.Facts.{facts_if, has_facts}
@@ -34,24 +28,20 @@ use Rattle.dtx_model.specs.Steps.{Step, Calls, StepName, block_at, entered}
 use Rattle.dtx_model.specs.Contexts.{scope_answer, scope_calls, scope_entries, scopes_of, written, called_with, scope_block, context, lines_before, calls_by}
 use Rattle.dtx_model.specs.Caused.{IsCallOf, IsNamed, is_new, Caused, FreelyCaused, MayAnswer, has_object, is_as_planned, plans_of}
 use Rattle.dtx_model.specs.Grammar.{are_named_well}
-use Rattle.dtx_model.specs.Built.{is_lasting_for, is_run_line}
 use Rattle.dtx_model.specs.Traces.{Placed, history, at_context, placed, noted, called_of, calls}
 use Rattle.dtx_model.specs.Replay.{IsReplayed, LinesRan, StepsRan, at_its_context, at_log_line, block_in, due_calls, due_by_line, world_at}
-use Rattle.dtx_model.proofs.Bools.{and_left, and_right, or_false, or_right, not_both}
+use Rattle.dtx_model.proofs.Bools.{and_left, and_right, or_false}
 use Rattle.dtx_model.proofs.Histories.{onto-append, history-other, history-same, history-noted, context-same, context-other, context-placed}
-use Rattle.dtx_model.proofs.Reading.{has-onto, has-past}
+use Rattle.dtx_model.proofs.Reading.{has-onto}
 use Rattle.outcome_law.specs.LogQuiet.{is_log_quiet}
 use Rattle.outcome_law.proofs.Scans.{none_more}
 use Rattle.outcome_law.proofs.Lists.{OfEach, of-all, of-at, of-both, of-more}
 use Rattle.outcome_law.proofs.Pending.{is_not_called}
 use Rattle.outcome_law.proofs.ScopeCalls.{IsScopeCall, IsBeside, AreApart, is_scope_call, scope_calls_plain, scope_calls_apart, own_line}
-use Rattle.outcome_law.proofs.Runs.{free_run}
-use Rattle.outcome_law.proofs.LocalReplays.{IsLocal, history_unpromoted}
-use Rattle.outcome_law.proofs.ReplayTurns.{CallDone, IsQuiet, LineDone, LinesDone, ReplayDone, RoundsDone, StepsDone, after_block, calls_after, has_called, is_log_line, lines_done, local_quiet, replay_done, scope_after, steps_done, world_with}
+use Rattle.outcome_law.proofs.ReplayTurns.{CallDone, IsQuiet, LineDone, LinesDone, ReplayDone, RoundsDone, StepsDone, after_block, calls_after, has_called, is_log_line, lines_done, replay_done, scope_after, steps_done, world_with}
 use Rattle.outcome_law.proofs.ReplayRuns.{IsRunWith, block_not_called, facts_not_called, named_no_call, pending_run, pending_script, run_step, steps_run}
 use Rattle.outcome_law.proofs.ReplayNew.{call_new}
-use Rattle.outcome_law.proofs.Names.{IsCalled, script_once}
-use Rattle.outcome_law.proofs.Lasting.{call_lasts, lasting_called, giver_lasts, first_lasting}
+use Rattle.outcome_law.proofs.Names.{script_once}
 
 -- each transaction's history is freely caused
 abbrev pub AllFree : List Line → List Placed → Type 0
@@ -380,7 +370,7 @@ line_noted s before l start T r b =
     ∙ context-calls s b n l.actor (scope_calls l.body xs) (onto start (noted l.actor (scope_block n l.actor l.body xs)))
 
 -- read newest first and put back before others, a list is as it was
-onto-onto : {A : Type 0} → (h xs ys : List A) → onto ys (onto h xs) ≡ onto (xs ++ ys) h
+pub onto-onto : {A : Type 0} → (h xs ys : List A) → onto ys (onto h xs) ≡ onto (xs ++ ys) h
 onto-onto h [] ys = refl
 onto-onto h (x ∷ xs) ys = onto-onto (x ∷ h) xs ys
 
@@ -410,7 +400,7 @@ before-onto before rest l =
     ap (λ k. past_of (take k (onto (l ∷ rest) before))) none ∙ ap (λ xs. past_of xs) (take-onto before (l ∷ rest) 0) ∙ onto-onto [] before [] ∙ append-nil before
 
 -- no line but those that were run was called
-lines_uncalled : (s bs : List Line) (T : List Placed) → LinesDone s bs T → (n : ℕ) → length bs < n → (u : ℕ) → has (is_call n) (history u T) ≡ false
+pub lines_uncalled : (s bs : List Line) (T : List Placed) → LinesDone s bs T → (n : ℕ) → length bs < n → (u : ℕ) → has (is_call n) (history u T) ≡ false
 lines_uncalled s [] T r n k u = ap (λ T. has (is_call n) (history u T)) r
 lines_uncalled s (l ∷ before) T r n k u =
     let earlier : length before < n = omega arith in
@@ -418,7 +408,7 @@ lines_uncalled s (l ∷ before) T r n k u =
     line_uncalled s before l r.0 T n u other r.2 ∙ lines_uncalled s before r.0 r.1 n earlier u
 
 -- what the lines did is freely caused in each transaction
-lines_free : (s bs rest : List Line) (T : List Placed) → s ≡ onto rest bs → LinesDone s bs T → AllFree s T
+pub lines_free : (s bs rest : List Line) (T : List Placed) → s ≡ onto rest bs → LinesDone s bs T → AllFree s T
 lines_free s [] rest T e r = subst (λ T. AllFree s T) (sym r) (λ u. ([], ([], (refl, refl))))
 lines_free s (l ∷ before) rest T e r =
     let n = suc (length before) in
@@ -490,7 +480,7 @@ replayed_noted s T r l a =
     rounds_beside s q.by_lines q.turns T q.rounds a.value ∙ lines_noted s (past_of s) q.by_lines q.lines a.value
 
 -- the lines behind others are so many more
-length-onto : (h xs : List Line) → length (onto h xs) ≡ length xs + length h
+pub length-onto : (h xs : List Line) → length (onto h xs) ≡ length xs + length h
 length-onto h [] = omega arith
 length-onto h (x ∷ xs) = length-onto (x ∷ h) xs ∙ omega arith
 
@@ -536,42 +526,3 @@ ran_new s xs ys l T t c e w ran quiet g =
     let free = lines_free s (past_of xs) (l ∷ ys) T whole r t in
     call_new (IsCallOf s t.value) t.value (world_with free.0 t T) n l.actor c (script_once s t.value w) free.1
     (own_call_of s l n t c stands g) (lines_uncalled s (past_of xs) T r n (omega arith) t.value)
-
--- the line at one of the first places is one of the first
-has-among : (p : Line → Bool) (xs ys : List Line) (k : ℕ) (l : Line) → slice_get (xs ++ ys) k ≡ Some l → k < length xs → p l ≡ true → has p xs ≡ true
-has-among p [] ys k l e b h = absurd (omega (arith, b))
-has-among p (x ∷ xs) ys zero l e b h = let same : x ≡ l = cc in rw (same, h) refl
-has-among p (x ∷ xs) ys (suc k) l e b h = let less : k < length xs = omega (arith, b) in or_right (p x) (has p xs) (has-among p xs ys k l e less h)
-
--- a line that was called is one of those that ran
-called_among : (s xs rest : List Line) (n u : ℕ) (l : Line) (T : List Placed) (p : Line → Bool) → s ≡ xs ++ rest → LinesDone s (past_of xs) T → kth s n ≡ Some l
-    → has (is_call n) (history u T) ≡ true → p l ≡ true → has p (past_of xs) ≡ true
-called_among s xs rest zero u l T p e r stands called h = absurd cc
-called_among s xs rest (suc k) u l T p e r stands called h = by_place (nat_lt k (length xs)) refl
-  where
-    by_place : (b : Bool) → nat_lt k (length xs) ≡ b → has p (past_of xs) ≡ true
-    by_place true below = has-past p xs ∙ has-among p xs rest k l (ap (λ s. slice_get s k) (sym e) ∙ stands) (grind (arith, nat_tests)) h
-    by_place false above =
-        let many : length (past_of xs) ≡ length xs + length {A = Line} [] = length-onto [] xs in
-        let behind : length (past_of xs) < suc k = grind (arith, nat_tests) in
-        absurd (not_both (has (is_call (suc k)) (history u T)) called (lines_uncalled s (past_of xs) T r (suc k) behind u))
-
--- where a durable or promotable stands, a line that ran makes one of its transaction
-ran_lasting : (s xs rest : List Line) (T : List Placed) (t : TxNo) → s ≡ xs ++ rest → LinesRan s (past_of xs) T → IsLocal T → has is_lasting (rows (history t.value T)) ≡ true
-    → has (λ l. is_lasting_for t.value l.body) (past_of xs) ≡ true
-ran_lasting s xs rest T t e ran home k =
-    let r = lines_done s (past_of xs) T (local_quiet T home) ran in
-    let h : List Entry = history t.value T in
-    let run = free_run (IsCallOf s t.value) t.value h (lines_free s (past_of xs) rest T (e ∙ sym (onto-onto [] xs rest)) r t) (history_unpromoted t.value T home) in
-    let made : IsCalled (IsCallOf s t.value) h call_lasts = lasting_called (IsCallOf s t.value) h run k in
-    let g = made.given in
-    let lasts : is_lasting_for g.name.value g.line.body ≡ true = giver_lasts s (lines_before s made.number) g.line g.place g.name made.call g.gives made.passes in
-    called_among s xs rest made.number t.value g.line T (λ l. is_lasting_for t.value l.body) e r g.stands made.called
-    (subst (λ n. is_lasting_for n g.line.body ≡ true) g.at_t lasts)
-
--- a durable of a line that is run comes where nothing durable or promotable stands
-pub ran_alone : (s xs ys : List Line) (l : Line) (T : List Placed) (t u : TxNo) (e : EnlNo) (r : RmNo) (x : Support) → s ≡ xs ++ l ∷ ys → LinesRan s (past_of xs) T → IsLocal T
-    → is_run_line (past_of xs) l ≡ true → call_of s l.body ≡ Some (t, Durable u e r x) → has is_lasting (rows (history t.value T)) ≡ false
-ran_alone s xs ys l T t u e r x k ran home run given =
-    false_from_ne_true (has is_lasting (rows (history t.value T)))
-    (λ h. not_both (has (λ l. is_lasting_for t.value l.body) (past_of xs)) (ran_lasting s xs (l ∷ ys) T t k ran home h) (first_lasting s (past_of xs) l.body t u e r x given run))

@@ -8,16 +8,13 @@
 
 ghost use Rattle.std.specs.Prelude.{◌≡◌, ℕ, suc, true, false, List, ◌∷◌, ◌++◌, Bool, Some, length, slice_get};
 ghost use Rattle.dtx_values.specs.declared.call.Call.{Call};
-ghost use Rattle.dtx_values.specs.declared.call.Call.TheVariants.{Durable};
 ghost use Rattle.dtx_values.specs.declared.entry.Entry.{Entry};
 ghost use Rattle.dtx_values.specs.declared.number.ActorNo.{ActorNo};
 ghost use Rattle.dtx_values.specs.declared.number.CloneNo.{CloneNo};
 ghost use Rattle.dtx_values.specs.declared.number.EnlNo.{EnlNo};
-ghost use Rattle.dtx_values.specs.declared.number.RmNo.{RmNo};
 ghost use Rattle.dtx_values.specs.declared.number.TxNo.{TxNo};
 ghost use Rattle.dtx_values.specs.declared.row.CloneRow.{CloneRow};
 ghost use Rattle.dtx_values.specs.declared.script.Line.{Line};
-ghost use Rattle.dtx_values.specs.declared.script.Support.{Support};
 ghost use Rattle.dtx_values.specs.declared.words.Class.{Class};
 ghost use Rattle.dtx_values.specs.declared.words.CloneKind.{CloneKind};
 ghost use Rattle.dtx_values.specs.declared.words.Outcome.TheVariants.{Committed};
@@ -29,7 +26,6 @@ ghost use Rattle.dtx_model.specs.Outcome.{enlisted, evidence, justified, agree};
 ghost use Rattle.dtx_model.specs.Learned.{Learned};
 ghost use Rattle.dtx_model.specs.Tied.{tied};
 ghost use Rattle.dtx_model.specs.Observed.{observe, rows, clone_rows, listeners};
-ghost use Rattle.dtx_values.specs.Row.{is_lasting};
 ghost use Rattle.dtx_model.specs.Promotes.{promotes};
 ghost use Rattle.dtx_model.specs.Wires.{WireRun};
 ghost use Rattle.dtx_model.specs.Seen.{IsSeen, IsCloneSeen, IsHeard, is_timely};
@@ -44,7 +40,6 @@ ghost use Rattle.dtx_model.specs.Traces.{Placed, history, at_context, calls};
 ghost use Rattle.dtx_model.specs.Replay.{IsReplayed, LinesRan, due_calls};
 ghost use Rattle.dtx_model.specs.History.{AreAnswered, CanCommit, IsHistory, IsReplay, IsToldOrWaits, is_loss};
 ghost use Rattle.dtx_model.specs.Grammar.{are_named_well};
-ghost use Rattle.dtx_model.specs.Built.{is_run_line};
 ghost use Rattle.outcome_law.specs.LogQuiet.{is_log_quiet};
 
 /// The law of one outcome: in a history that a script's lines freely cause, what is told is just, and no two are told opposite outcomes, promoted or not.
@@ -93,8 +88,8 @@ pub fn completeness()
 
 /// What a replay does in its order, promoted or not, as long as nothing stands at the log, is caused by its script in each transaction where its replies are
 /// as planned, is at each context what its actor's lines write there, and has each line's call exactly once at each of its places and in order. Where the
-/// lines before it ran, a line was called nowhere, and what its call makes is new. Where nothing is promoted either, a durable that is run finds nothing
-/// durable or promotable there, and a script has one trace. The trace is read newest first, but for the last clause.
+/// lines before it ran, a line was called nowhere, and what its call makes is new. Where nothing is promoted either, a script has one trace. The trace is
+/// read newest first, but for the last clause.
 pub fn replay()
     ensures caused { (s : List Line) (T : List Placed) → IsReplayed s T → is_log_quiet T ≡ true → (k : ℕ)
         → ((t : TxNo) → always (is_as_planned (plans_of s) (has_object s k)) (history t.value T) ≡ true) → (t : TxNo) → Caused s k t.value (history t.value T) }
@@ -104,9 +99,6 @@ pub fn replay()
         → has (is_call (suc (length xs))) (history t.value T) ≡ false }
     ensures fresh { (s xs ys : List Line) (l : Line) (T : List Placed) (t : TxNo) (c : Call) → s ≡ xs ++ l ∷ ys → are_named_well s ≡ true → LinesRan s (past_of xs) T
         → is_log_quiet T ≡ true → call_of s l.body ≡ Some (t, c) → is_new (observe (history t.value T)) c ≡ true }
-    ensures alone { (s xs ys : List Line) (l : Line) (T : List Placed) (t u : TxNo) (e : EnlNo) (r : RmNo) (x : Support) → s ≡ xs ++ l ∷ ys → are_named_well s ≡ true
-        → LinesRan s (past_of xs) T → is_local_trace T ≡ true → is_run_line (past_of xs) l ≡ true → call_of s l.body ≡ Some (t, Durable u e r x)
-        → has is_lasting (rows (history t.value T)) ≡ false }
     ensures determined { (s : List Line) (T U : List Placed) (rise : ℕ) (honest : Bool) → IsHistory s 0 rise T → IsReplay s rise honest T
         → IsHistory s 0 rise U → IsReplay s rise honest U → is_local_trace T ≡ true → is_local_trace U ≡ true → T ≡ U }
 {}

@@ -20,7 +20,7 @@ use Rattle.dtx_model.specs.Words.{has, each, always, onto, past_of, put}
 use Rattle.dtx_model.specs.Scopes.{ScopeEntry, Opens, Finishes, Closes, close_answer, closes, finish_answer, enter_answer, entering, finishes, is_scope, open_before, open_scopes, taken_off}
 use Rattle.dtx_model.specs.Contexts.{called_with, entries_if, entries_of, isolation_in, name_in, option_in, scope_answer, scope_block, scope_calls, scope_entries, scopes_of, took_off, is_fine}
 use Rattle.dtx_model.specs.Grammar.{OfScope, are_named_well, is_made, is_named_well, makes, opening_makes, same_name, uses}
-use Rattle.dtx_model.specs.Built.{is_run, is_run_line}
+use Rattle.script_runner.specs.Built.{is_run, is_run_line}
 use Rattle.dtx_model.specs.Traces.{Placed, noted}
 use Rattle.dtx_model.specs.Replay.{CallRan, LineRan, LinesRan, after_calls, after_scope, after_turn}
 use Rattle.dtx_model.specs.Calls.{call_of}

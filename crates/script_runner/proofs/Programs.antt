@@ -14,7 +14,7 @@ use Rattle.dtx_model.specs.Faults.{Bad}
 use Rattle.dtx_model.specs.History.{HasOneOutcome, IsComplete, IsHistory, IsReplay}
 use Rattle.dtx_model.specs.Traces.{Placed}
 use Rattle.dtx_model.specs.TraceText.{trace_text}
-use Rattle.dtx_model.specs.Built.{IsNotRun, IsNotYet, are_run}
+use Rattle.script_runner.specs.Built.{IsNotRun, IsNotYet, are_run}
 use Rattle.dtx_model.specs.Grammar.{Reads}
 use Rattle.script_runner.specs.Program.{IsCutShort, IsReplayOf, IsWritten}
 use Rattle.script_runner.specs.Refusal.{IsReplayText}

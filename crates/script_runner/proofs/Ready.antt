@@ -13,7 +13,7 @@ use Rattle.dtx_values.specs.declared.number.TxNo.{TxNo}
 use Rattle.dtx_values.specs.declared.script.Body.{Body}
 use Rattle.dtx_values.specs.declared.script.Body.TheVariants.{Durable as DurableLine, Complete as CompleteLine, Gone as GoneLine, Marshal as MarshalLine, Lose as LoseLine, Reenlist as ReenlistLine, Recovered as RecoveredLine}
 use Rattle.dtx_values.specs.declared.script.Line.{Line}
-use Rattle.dtx_model.specs.Built.{is_run, is_run_durable}
+use Rattle.script_runner.specs.Built.{is_run, is_run_durable}
 use Rattle.dtx_model.specs.Observed.{Observed}
 use Rattle.dtx_model.specs.Calls.{call_of, complete_call, gone_call, transaction_of, transaction_with}
 use Rattle.dtx_model.specs.Words.{has}

@@ -4,7 +4,7 @@ use Rattle.std.specs.Prelude.{IfNone, IfSome}
 use Rattle.std.specs.Option.{is_none}
 use Rattle.std.proofs.lemmas.Option.{slice_get-get_or}
 use Rattle.dtx_values.specs.declared.script.Line.{Line}
-use Rattle.dtx_model.specs.Built.{IsNotRun, are_run, is_run_line}
+use Rattle.script_runner.specs.Built.{IsNotRun, are_run, is_run_line}
 use Rattle.dtx_model.specs.Words.{kth, past_of}
 use Rattle.script_runner.proofs.Openings.{always-here}
 

@@ -2,7 +2,7 @@
 use Rattle.std.specs.Prelude.{◌-◌, ◌≡◌, Bool, false, List, slice_index_or}
 use Rattle.dtx_values.specs.declared.number.TxNo.{TxNo}
 use Rattle.dtx_values.specs.declared.script.Line.{Line}
-use Rattle.dtx_model.specs.Built.{is_lasting_for}
+use Rattle.script_runner.specs.Built.{is_lasting_for}
 use Rattle.dtx_model.specs.Words.{has}
 
 -- the flag at the place of each transaction says whether one of these lines makes a durable or promotable enlistment of it

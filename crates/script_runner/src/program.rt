@@ -5,7 +5,7 @@ ghost use Rattle.std.specs.String.{string_bytes};
 ghost use Rattle.outside.specs.Faults.{Rose};
 ghost use Rattle.dtx_values.specs.declared.limits.TheConstants.{SCRIPT_BYTES};
 ghost use Rattle.dtx_values.specs.declared.script.BadCause.{BadCause};
-ghost use Rattle.dtx_model.specs.Built.{IsNotYet, are_run};
+ghost use Rattle.script_runner.specs.Built.{IsNotYet, are_run};
 ghost use Rattle.dtx_model.specs.Grammar.{IsScript, Reads};
 ghost use Rattle.dtx_model.specs.Log.{log_has};
 ghost use Rattle.dtx_model.specs.Traces.{Placed};

@@ -14,7 +14,7 @@ ghost use Rattle.dtx_model.specs.Traces.{Placed, history, noted};
 ghost use Rattle.dtx_model.specs.Replay.{CallRan, HasDoneAt, IsReplayed, LinesRan, after_calls, after_scope, after_turn, world_at};
 ghost use Rattle.dtx_model.specs.History.{HasOneOutcome, IsComplete, IsHistory, IsReplay};
 ghost use Rattle.dtx_model.specs.Grammar.{IsScript, are_named_well};
-ghost use Rattle.dtx_model.specs.Built.{are_run};
+ghost use Rattle.script_runner.specs.Built.{are_run};
 ghost use Rattle.script_runner.specs.Calling.{IsGiven, IsReady, own_call};
 ghost use Rattle.script_runner.specs.Remaining.{steps_left};
 ghost use Rattle.script_runner.specs.RunState.{Advances, AreTied, IsSettledBelow, IsToPlan, Settles, are_plain};

@@ -1,7 +1,7 @@
 //! Which lines are run.
 ghost use Rattle.std.specs.Prelude.{◌≡◌, ◌+◌, ◌<◌, List, ◌∷◌, length, IfNone, IfSome, true};
 ghost use Rattle.dtx_values.specs.declared.script.Line.{Line};
-ghost use Rattle.dtx_model.specs.Built.{IsNotRun, are_run, is_run, is_run_durable};
+ghost use Rattle.script_runner.specs.Built.{IsNotRun, are_run, is_run, is_run_durable};
 ghost use Rattle.script_runner.specs.Runnable.{AreLasting};
 
 use dtx_values::{Body, Line, Script, Support, TxNo};

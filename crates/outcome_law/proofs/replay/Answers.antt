@@ -1,4 +1,4 @@
-use Rattle.outcome_law.proofs.Replays.{line_new, ran_alone, ran_new, replayed_called, replayed_caused, replayed_noted}
+use Rattle.outcome_law.proofs.Replays.{line_new, ran_new, replayed_called, replayed_caused, replayed_noted}
 use Rattle.outcome_law.proofs.Determined.{history_same}
 use Rattle.outcome_law.proofs.replay.Goals as goal
 
@@ -16,9 +16,6 @@ returns-clause-uncalled c = line_new
 
 pub returns-clause-fresh : goal.returns-clause-fresh
 returns-clause-fresh c = ran_new
-
-pub returns-clause-alone : goal.returns-clause-alone
-returns-clause-alone c = λ s xs ys l T t u e r x k named ran home run given. ran_alone s xs ys l T t u e r x k ran home run given
 
 pub returns-clause-determined : goal.returns-clause-determined
 returns-clause-determined c = history_same

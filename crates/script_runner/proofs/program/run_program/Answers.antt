@@ -1,6 +1,6 @@
 use Rattle.std.proofs.Common.{◌≡◌, List, ℕ, ◌∙◌, ap, subst, inl, inr}
 use Rattle.dtx_model.specs.Faults.{Bad}
-use Rattle.dtx_model.specs.Built.{IsNotYet}
+use Rattle.script_runner.specs.Built.{IsNotYet}
 use Rattle.script_runner.specs.Refusal.{HasNoReplay}
 use Rattle.script_runner.specs.declared.exit.Exit.TheVariants.{BadScript, NotYet}
 use Rattle.script_runner.specs.declared.program.Refusal.{Refusal}

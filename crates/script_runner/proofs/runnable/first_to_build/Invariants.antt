@@ -1,5 +1,5 @@
 use Rattle.std.proofs.Common.{◌≡◌, true, take}
-use Rattle.dtx_model.specs.Built.{are_run}
+use Rattle.script_runner.specs.Built.{are_run}
 use Rattle.dtx_model.specs.Words.{past_of}
 use Rattle.script_runner.specs.Runnable.{AreLasting}
 use Rattle.script_runner.proofs.runnable.first_to_build.Given as goal

@@ -1,5 +1,5 @@
 use Rattle.std.proofs.Common.{◌≡◌, Bool, true, false, not, ap, sym, ◌∙◌}
-use Rattle.dtx_model.specs.Built.{are_run}
+use Rattle.script_runner.specs.Built.{are_run}
 use Rattle.script_runner.proofs.RunLines.{none_to_build}
 use Rattle.script_runner.proofs.runnable.is_runnable.Goals as goal
 

@@ -1,7 +1,8 @@
 use Rattle.std.proofs.Common.{◌≡◌, ◌+◌, ◌∷◌, ◌++◌, suc, Some, true, List, ap, arith, drop, length, subst, sym, take, ◌∙◌}
 use Rattle.std.proofs.lemmas.List.{drop_more}
 use Rattle.dtx_values.specs.declared.script.Line.{Line}
-use Rattle.dtx_model.specs.Built.{is_run_line}
+use Rattle.script_runner.proofs.Alone.{ran_alone}
+use Rattle.script_runner.specs.Built.{is_run_line}
 use Rattle.dtx_model.specs.Observed.{observe}
 use Rattle.dtx_model.specs.Traces.{history}
 use Rattle.dtx_model.specs.Calls.{call_of}
@@ -41,7 +42,7 @@ line-requires-clause-ready c =
     λ t call gives.
     let given : call_of s l.body ≡ Some (t, call) = ap (λ (r : List Line). call_of r l.body) (sym c.loop-l.invariant.1) ∙ gives in
     line_ready s (past_of xs) l.body (observe (history t.value T)) t call given run (c.replay.ensures.fresh s xs ys l T t call split c.requires.script.named c.loop-l.invariant.3 quiet given)
-    (λ v e r x makes. c.replay.ensures.alone s xs ys l T t v e r x split c.requires.script.named c.loop-l.invariant.3 local run makes)
+    (λ v e r x makes. ran_alone s xs ys l T t v e r x split c.loop-l.invariant.3 local run makes)
 
 pub line-requires-clause-unopened : goal.line-requires-clause-unopened
 line-requires-clause-unopened c =

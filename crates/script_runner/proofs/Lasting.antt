@@ -29,7 +29,7 @@ use Rattle.dtx_model.specs.Calls.{call_of, complete_call, transaction_of, gone_c
 use Rattle.dtx_model.specs.Half.{is_handed}
 use Rattle.dtx_model.specs.Facts.{facts_if, reaches, ticked}
 use Rattle.dtx_model.proofs.Narrow.{facts, veto_if, time_up, is_late, lost_outcome, decided_if}
-use Rattle.dtx_model.specs.Built.{is_lasting_for, is_run}
+use Rattle.script_runner.specs.Built.{is_lasting_for, is_run}
 use Rattle.dtx_model.proofs.Bools.{or_case, not_true, not_both}
 use Rattle.outcome_law.proofs.Tests.{eq_self}
 use Rattle.outcome_law.proofs.Scans.{none_more}
