@@ -1,0 +1,4 @@
+pub mod State
+pub mod AtLog
+pub mod Stepping
+pub mod Carried

@@ -1,0 +1,265 @@
+//! The whole of one transaction.
+ghost use Rattle.std.specs.Prelude.{ℕ, ◌≡◌, ◌≤◌, ◌<◌, ◌+◌, ◌∷◌, ◌↔◌, ◌⊎◌, ⊥, [], List, Option, Some, None, Ok, Err, IfOk, OnOk, OnErr, IfErr, IsOk, IsErrOf, IsTrue, true, false, length, is_some, if◌then◌else◌};
+ghost use Rattle.dtx_values.specs.declared.call.Call.{Call};
+ghost use Rattle.dtx_values.specs.declared.entry.Answer.{Answer};
+ghost use Rattle.dtx_values.specs.declared.record.Differs.{Differs};
+ghost use Rattle.dtx_model.specs.Words.{kth, past_of};
+ghost use Rattle.dtx_model.specs.Log.{first_of, record_of};
+ghost use Rattle.std.specs.Option.{option_map};
+ghost use Rattle.dtx_values.specs.declared.record.LogRecord.{LogRecord};
+ghost use Rattle.dtx_model.specs.Promotes.{identifier_of};
+ghost use Rattle.dtx_model.specs.Replies.{due_of};
+ghost use Rattle.dtx_model.specs.World.{answer_at, half, core};
+ghost use Rattle.dtx_model.specs.Steps.{Step, Calls, Replies, Stops, Restarts, after, pending};
+ghost use Rattle.dtx_model.specs.Caused.{HasDone, IsOwnRun, MayAnswer};
+ghost use Rattle.coordinator_log.specs.Slots.{open_records};
+ghost use Rattle.local_half.specs.Half.{fits_due};
+ghost use Rattle.tx_world.specs.State.{TxState, is_hit_by, is_reached_by, may_enter};
+ghost use Rattle.tx_world.specs.AtLog.{Fits, KeepsLog, Tie, id_of};
+ghost use Rattle.tx_world.specs.Stepping.{Does, DoesKth, Settles, needs_log, reply_in};
+
+use crate::refusal::WorldError;
+use coordinator_log::Log;
+use dtx_model::EnteredCall;
+use dtx_values::{ActorNo, Answer, Call, EnlNo, Entry, LogRecord, Note, Outcome, Reply, TxNo};
+use outside::Disk;
+use std::alloc::Global;
+use std::marker::Model;
+
+/// The whole of one transaction.
+#[derive(Drop)]
+pub struct TxWorld {
+    transaction: TxNo,
+    calls: Vec<EnteredCall>,
+    past: Vec<Entry>,
+    ours: Option<LogRecord>,
+    unsure: bool,
+    life: u64,
+}
+
+impl Model for TxWorld {
+    ghost use Rattle.std.specs.Prelude.{⊥};
+    ghost use Rattle.std.specs.Option.{option_map};
+    ghost use Rattle.dtx_model.specs.Words.{past_of};
+    ghost use Rattle.dtx_model.specs.Log.{record_of};
+    ghost use Rattle.tx_world.specs.State.{TxState};
+
+    ghost Value = { TxState };
+
+    ghost view = { λ w. record {
+      transaction = w.transaction;
+      world = record { calls = past_of w.calls.items; past = past_of w.past.items };
+      ours = option_map record_of w.ours;
+      unsure = w.unsure;
+      life = w.life;
+    } };
+
+    ghost invariant = { λ w. ⊥ };
+}
+
+impl TxWorld {
+    /// The world of this transaction, which has no call yet.
+    ///
+    /// # Errors
+    ///
+    /// [`WorldError::Memory`] where memory ran out.
+    pub fn new(alloc: Global, t: TxNo) -> Result<TxWorld, WorldError>
+        ensures { IfOk result (λ w. w ≡ record { transaction = t; world = record { calls = []; past = [] }; ours = None; unsure = false; life = 0 }) }
+    {
+        Err(WorldError::Memory)
+    }
+
+    /// What holds of each world: its history is one that its own calls, and the steps after them, made. It does nothing when it runs; a caller's proof asks for it.
+    pub fn is_own_run(&self)
+        ensures { IsOwnRun self.now.transaction.value self.now.world }
+    {
+        let _ = &self.past;
+    }
+
+    /// The history, oldest entry first.
+    pub fn history(&self) -> &[Entry]
+        ensures { past_of result.now ≡ self.now.world.past }
+    {
+        self.past.as_slice()
+    }
+
+    /// The identifier of the transaction at the coordinator once it is promoted, and 0 before.
+    pub fn id(&self) -> u128
+        ensures { result ≡ (if (half self.now.world).seen.promoted then id_of self.now else 0) }
+    {
+        let _ = &self.past;
+        0
+    }
+
+    /// What the client was told.
+    pub fn told(&self) -> Option<Outcome>
+        ensures { result ≡ (half self.now.world).seen.told_client }
+    {
+        let _ = &self.past;
+        None
+    }
+
+    /// Whether the coordinator stands stopped.
+    pub fn is_stopped(&self) -> bool
+        ensures { result ≡ (core self.now.world).stopped }
+    {
+        let _ = &self.past;
+        false
+    }
+
+    /// The life of the log that the coordinator lives in; 0 before BEGIN is sent.
+    pub fn life(&self) -> u64
+        ensures { result ≡ self.now.life }
+    {
+        self.life
+    }
+
+    /// Whether the call of this line may be entered: no call of the line was, and none that makes the same enlistment or the same clone.
+    pub fn may_enter(&self, line: u32, c: &Call) -> bool
+        ensures { result ≡ may_enter self.now.world line c.now }
+    {
+        let _ = &self.past;
+        false
+    }
+
+    /// Enters a call, for which so many steps were done right before where it is a `do`; and where it is an `await`, the client was told or nothing is pending. It writes the
+    /// entry of the call and its facts.
+    ///
+    /// # Errors
+    ///
+    /// [`WorldError::Memory`] where memory ran out, and then nothing was done.
+    pub fn enter<D: Disk>(&mut self, log: &Log<D>, actor: ActorNo, line: u32, c: &Call, done: u16) -> Result<Answer, WorldError>
+        requires enters { may_enter self.old.world line c.now ≡ true }
+        requires answers { MayAnswer self.old.transaction.value self.old.world c.now done }
+        requires fits { IsTrue D.honest → IsTrue log.now.is_up → Fits self.old (open_records log.now.slots) }
+        ensures answer { IfOk result (λ a. a ≡ answer_at self.old.transaction.value self.old.world c.now done) }
+        ensures done { OnOk result (Does D.faults (Calls line actor c.now done) self.old log.now self.new log.now) }
+        ensures ours { (self.new.ours ≡ self.old.ours) × (self.new.unsure ≡ self.old.unsure) }
+        ensures memory { OnErr result (self.new ≡ self.old) }
+    {
+        let _ = &self.past;
+        Ok(Answer::Fine)
+    }
+
+    /// How many steps are pending.
+    pub fn pending(&self) -> u32
+        ensures { result ≡ length (pending self.now.world) }
+    {
+        let _ = &self.past;
+        0
+    }
+
+    /// The enlistment and the note of the k-th pending step, from 1, where that step is a reply.
+    pub fn due_at(&self, k: u32) -> Option<(EnlNo, Note)>
+        ensures { result ≡ reply_in self.now.world (kth (pending self.now.world) k) }
+    {
+        let _ = &self.past;
+        None
+    }
+
+    /// Whether the k-th pending step, from 1, needs the log: it is the coordinator's act, or a reply to promote.
+    pub fn needs_log(&self, k: u32) -> bool
+        ensures { result ≡ needs_log self.now.world k }
+    {
+        let _ = &self.past;
+        false
+    }
+
+    /// Does the k-th pending step, from 1; false exactly where fewer than k are pending, or k is 0. A reply is the planned one.
+    ///
+    /// # Errors
+    ///
+    /// [`WorldError::Memory`] where memory ran out, and then nothing was done.
+    pub fn step<D: Disk>(&mut self, log: &mut Log<D>, k: u32) -> Result<bool, WorldError>
+        requires fits { IsTrue D.honest → IsTrue log.old.is_up → Fits self.old (open_records log.old.slots) }
+        ensures none { result ≡ Ok false → (kth (pending self.old.world) k ≡ None) × (self.new ≡ self.old) × (log.new ≡ log.old) }
+        ensures some { result ≡ Ok true → DoesKth D.faults k self.old log.old self.new log.new }
+        ensures kept { IsTrue D.honest → KeepsLog D.image self.old log.old self.new log.new }
+        ensures life { log.new.life ≡ log.old.life }
+        ensures grows { D.faults log.old.disk ≤ D.faults log.new.disk }
+        ensures memory { OnErr result ((self.new ≡ self.old) × (log.new ≡ log.old)) }
+    {
+        let _ = &self.past;
+        Ok(true)
+    }
+
+    /// Does the reply of an enlistment; false exactly where none is due.
+    ///
+    /// # Errors
+    ///
+    /// [`WorldError::Memory`] where memory ran out, and then nothing was done.
+    pub fn reply<D: Disk>(&mut self, log: &Log<D>, e: EnlNo, r: Reply) -> Result<bool, WorldError>
+        requires fits { fits_due r (due_of (half self.old.world).seen e.value) ≡ true }
+        ensures due { IfOk result (λ b. b ≡ is_some (due_of (half self.old.world).seen e.value)) }
+        ensures done { result ≡ Ok true → Does D.faults (Replies e r) self.old log.now self.new log.now }
+        ensures ours { (self.new.ours ≡ self.old.ours) × (self.new.unsure ≡ self.old.unsure) }
+        ensures unchanged { result ≡ Ok false → self.new ≡ self.old }
+        ensures memory { OnErr result (self.new ≡ self.old) }
+    {
+        let _ = &self.past;
+        Ok(true)
+    }
+
+    /// Does the first pending step until none is left, and says how many it did.
+    ///
+    /// # Errors
+    ///
+    /// [`WorldError::Memory`] where memory ran out. The steps before it were done.
+    pub fn settle<D: Disk>(&mut self, log: &mut Log<D>) -> Result<u32, WorldError>
+        requires fits { IsTrue D.honest → IsTrue log.old.is_up → Fits self.old (open_records log.old.slots) }
+        ensures settled { IfOk result (λ n. Settles D.faults n self.old log.old self.new log.new) }
+        ensures fits { IsTrue D.honest → IsTrue log.new.is_up → Fits self.new (open_records log.new.slots) }
+    {
+        let _ = &self.past;
+        Ok(0)
+    }
+
+    /// The log was stopped in this life: where that hits the transaction, its coordinator stops.
+    ///
+    /// # Errors
+    ///
+    /// [`WorldError::Memory`] where memory ran out, and then nothing was done.
+    pub fn coordinator_stopped(&mut self, life: u64) -> Result<(), WorldError>
+        ensures transaction { self.new.transaction ≡ self.old.transaction }
+        ensures world { OnOk result (self.new.world ≡ (if is_hit_by life self.old then after self.old.transaction.value self.old.world Stops else self.old.world)) }
+        ensures kept { (self.new.ours ≡ self.old.ours) × (self.new.unsure ≡ self.old.unsure) × (self.new.life ≡ self.old.life) }
+        ensures memory { OnErr result (self.new ≡ self.old) }
+    {
+        let _ = &self.past;
+        Ok(())
+    }
+
+    /// The log was opened again: where the coordinator lives in an earlier life, it is told whether its record was found.
+    ///
+    /// # Errors
+    ///
+    /// [`WorldError::Memory`] where memory ran out, and then nothing was done.
+    pub fn coordinator_restarted<D: Disk>(&mut self, log: &Log<D>) -> Result<(), WorldError>
+        requires up { IsTrue log.now.is_up }
+        requires fits { IsTrue D.honest → Fits self.old (open_records log.now.slots) }
+        ensures transaction { self.new.transaction ≡ self.old.transaction }
+        ensures reached { OnOk result (is_reached_by log.now.life self.old ≡ true
+            → (self.new.world ≡ after self.old.transaction.value self.old.world (Restarts (is_some (first_of (id_of self.old) (open_records log.now.slots)))))
+            × (self.new.ours ≡ first_of (id_of self.old) (open_records log.now.slots)) × (self.new.unsure ≡ false) × (self.new.life ≡ log.now.life)) }
+        ensures unreached { is_reached_by log.now.life self.old ≡ false → self.new ≡ self.old }
+        ensures kept { IsTrue D.honest → Fits self.new (open_records log.now.slots) }
+        ensures memory { OnErr result (self.new ≡ self.old) }
+    {
+        let _ = &self.past;
+        Ok(())
+    }
+
+    /// Whether what the transaction keeps as appended ties with what the log has of it. A log that is stopped says nothing.
+    ///
+    /// # Errors
+    ///
+    /// [`Differs::Log`] exactly where the log is up and the two don't tie.
+    pub fn ties<D: Disk>(&self, log: &Log<D>) -> Result<(), Differs>
+        ensures tie { IsOk result ↔ (IsTrue log.now.is_up → Tie self.now.ours self.now.unsure (first_of (id_of self.now) (open_records log.now.slots))) }
+        ensures differs { IfErr result (λ d. (o : Option LogRecord) × (f : Option LogRecord) × (d ≡ Differs.Log self.now.transaction o f)
+            × (option_map record_of o ≡ self.now.ours) × (option_map record_of f ≡ first_of (id_of self.now) (open_records log.now.slots))) }
+    {
+        let _ = &self.past;
+        Ok(())
+    }
+}
