@@ -293,6 +293,20 @@ impl LocalHalf {
         self.decided
     }
 
+    /// Whether the transaction is promoted.
+    pub fn is_promoted(&self) -> bool
+        ensures { result ≡ self.now.half.seen.promoted }
+    {
+        self.handover.is_over()
+    }
+
+    /// The enlistments whose ENLIST was sent, in order of number.
+    pub fn branches(&self) -> &[Branch]
+        ensures { result.now ≡ self.now.half.seen.branches }
+    {
+        self.branches.as_slice()
+    }
+
     /// What the client was told.
     pub fn told_client(&self) -> Option<Outcome>
         ensures { result ≡ self.now.half.seen.told_client }

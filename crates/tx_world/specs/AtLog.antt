@@ -12,8 +12,8 @@ abbrev pub id_of : TxState → ℕ
 id_of x = identifier_of x.transaction.value
 
 -- the records of the other transactions
-abbrev pub others : ℕ → List CommitRecord → List CommitRecord
-others id rs = filter (λ r. not (is_record_of id r)) rs
+abbrev pub of_others : ℕ → List CommitRecord → List CommitRecord
+of_others id rs = filter (λ r. not (is_record_of id r)) rs
 
 -- there is at most one record of this identifier
 abbrev pub AtMostOne : ℕ → List CommitRecord → Type 0
@@ -37,8 +37,8 @@ AreFit image x = (c : List ℕ) → image c → IfOk (log_has c) (λ rs. Fits x 
 pub record KeepsLog {D : Type 0} (image : D → List ℕ → Type 0) (old : TxState) (from : LogState D) (new : TxState) (to : LogState D) : Type 0 where
   pub fits : IsTrue to.is_up → Fits new (open_records to.slots)
   pub imaged : AreFit (image from.disk) old → AreFit (image to.disk) new
-  pub others : others (id_of old) (open_records to.slots) ≡ others (id_of old) (open_records from.slots)
-  pub others_imaged : (c : List ℕ) → image to.disk c → image from.disk c ⊎ IfOk (log_has c) (λ rs. others (id_of old) rs ≡ others (id_of old) (open_records from.slots))
+  pub others : of_others (id_of old) (open_records to.slots) ≡ of_others (id_of old) (open_records from.slots)
+  pub others_imaged : (c : List ℕ) → image to.disk c → image from.disk c ⊎ IfOk (log_has c) (λ rs. of_others (id_of old) rs ≡ of_others (id_of old) (open_records from.slots))
 
 -- what the log answered to the coordinator's act, with its cause: it was stopped by this call exactly where it was up and isn't any more, and by a fault unless a stop was
 -- armed; it was found stopped exactly where it wasn't up, or in another life; and it is full only where no gate is closed

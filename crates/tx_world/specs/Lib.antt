@@ -2,3 +2,5 @@ pub mod State
 pub mod AtLog
 pub mod Stepping
 pub mod Carried
+pub mod Course
+pub mod Kept

@@ -1,8 +1,10 @@
 //! The whole of one transaction: its local side, its coordinator, the connections between them, and its history.
 #![tactic(auto)]
 
+mod history;
 mod refusal;
 mod world;
+mod writing;
 
 pub use refusal::WorldError;
 pub use world::TxWorld;

@@ -1,5 +1,5 @@
 //! The whole of one transaction.
-ghost use Rattle.std.specs.Prelude.{ℕ, ◌≡◌, ◌≤◌, ◌<◌, ◌+◌, ◌∷◌, ◌↔◌, ◌⊎◌, ⊥, [], List, Option, Some, None, Ok, Err, IfOk, OnOk, OnErr, IfErr, IsOk, IsErrOf, IsTrue, true, false, length, is_some, if◌then◌else◌};
+ghost use Rattle.std.specs.Prelude.{ℕ, ◌≡◌, ◌≤◌, ◌<◌, ◌+◌, ◌∷◌, ◌↔◌, ◌⊎◌, [], List, Option, Some, None, Ok, Err, IfOk, OnOk, OnErr, IfErr, IsOk, IsErrOf, IsTrue, true, false, length, is_some, if◌then◌else◌};
 ghost use Rattle.dtx_values.specs.declared.call.Call.{Call};
 ghost use Rattle.dtx_values.specs.declared.entry.Answer.{Answer};
 ghost use Rattle.dtx_values.specs.declared.record.Differs.{Differs};
@@ -18,43 +18,62 @@ ghost use Rattle.tx_world.specs.State.{TxState, is_hit_by, is_reached_by, may_en
 ghost use Rattle.tx_world.specs.AtLog.{Fits, KeepsLog, Tie, id_of};
 ghost use Rattle.tx_world.specs.Stepping.{Does, DoesKth, Settles, needs_log, reply_in};
 
+use crate::history::History;
 use crate::refusal::WorldError;
+use coordinator_core::Core;
 use coordinator_log::Log;
 use dtx_model::EnteredCall;
-use dtx_values::{ActorNo, Answer, Call, EnlNo, Entry, LogRecord, Note, Outcome, Reply, TxNo};
+use dtx_values::{
+    ActorNo, Answer, Call, Differs, EnlNo, Entry, LogRecord, Note, Outbox, Outcome, TxNo,
+};
+use local_half::LocalHalf;
 use outside::Disk;
 use std::alloc::Global;
 use std::marker::Model;
+
+mod steps;
 
 /// The whole of one transaction.
 #[derive(Drop)]
 pub struct TxWorld {
     transaction: TxNo,
+    half: LocalHalf,
+    core: Core,
+    history: History,
+    /// The calls that were entered, oldest first.
     calls: Vec<EnteredCall>,
-    past: Vec<Entry>,
     ours: Option<LogRecord>,
     unsure: bool,
     life: u64,
+    /// What a step makes before it is written; kept for its memory alone.
+    out: Outbox,
 }
 
 impl Model for TxWorld {
-    ghost use Rattle.std.specs.Prelude.{⊥};
     ghost use Rattle.std.specs.Option.{option_map};
     ghost use Rattle.dtx_model.specs.Words.{past_of};
     ghost use Rattle.dtx_model.specs.Log.{record_of};
+    ghost use Rattle.tx_world.specs.Kept.{Kept};
     ghost use Rattle.tx_world.specs.State.{TxState};
 
     ghost Value = { TxState };
 
     ghost view = { λ w. record {
       transaction = w.transaction;
-      world = record { calls = past_of w.calls.items; past = past_of w.past.items };
+      world = record { calls = past_of w.calls.items; past = w.history.past };
       ours = option_map record_of w.ours;
       unsure = w.unsure;
       life = w.life;
     } };
 
-    ghost invariant = { λ w. ⊥ };
+    ghost invariant = { λ w. Kept w.transaction (record { calls = past_of w.calls.items; past = w.history.past }) w.half w.core };
+}
+
+/// The identifier of a transaction at the coordinator: the node 1 in the upper 64 bits, and the transaction's number in the lower.
+fn identifier(t: TxNo) -> u128
+    ensures { result ≡ identifier_of t.value }
+{
+    (1 << 64) + u128::from(t.get())
 }
 
 impl TxWorld {
@@ -66,45 +85,56 @@ impl TxWorld {
     pub fn new(alloc: Global, t: TxNo) -> Result<TxWorld, WorldError>
         ensures { IfOk result (λ w. w ≡ record { transaction = t; world = record { calls = []; past = [] }; ours = None; unsure = false; life = 0 }) }
     {
-        Err(WorldError::Memory)
+        Ok(TxWorld {
+            transaction: t,
+            half: LocalHalf::new(alloc, t)?,
+            core: Core::new(t),
+            history: History::new(alloc)?,
+            calls: Vec::new(alloc),
+            ours: None,
+            unsure: false,
+            life: 0,
+            out: Outbox::with_room(alloc)?,
+        })
     }
 
     /// What holds of each world: its history is one that its own calls, and the steps after them, made. It does nothing when it runs; a caller's proof asks for it.
     pub fn is_own_run(&self)
         ensures { IsOwnRun self.now.transaction.value self.now.world }
     {
-        let _ = &self.past;
+        let _ = &self.calls;
     }
 
     /// The history, oldest entry first.
     pub fn history(&self) -> &[Entry]
         ensures { past_of result.now ≡ self.now.world.past }
     {
-        self.past.as_slice()
+        self.history.entries()
     }
 
     /// The identifier of the transaction at the coordinator once it is promoted, and 0 before.
     pub fn id(&self) -> u128
         ensures { result ≡ (if (half self.now.world).seen.promoted then id_of self.now else 0) }
     {
-        let _ = &self.past;
-        0
+        if self.half.is_promoted() {
+            identifier(self.transaction)
+        } else {
+            0
+        }
     }
 
     /// What the client was told.
     pub fn told(&self) -> Option<Outcome>
         ensures { result ≡ (half self.now.world).seen.told_client }
     {
-        let _ = &self.past;
-        None
+        self.half.told_client()
     }
 
     /// Whether the coordinator stands stopped.
     pub fn is_stopped(&self) -> bool
         ensures { result ≡ (core self.now.world).stopped }
     {
-        let _ = &self.past;
-        false
+        self.core.is_stopped()
     }
 
     /// The life of the log that the coordinator lives in; 0 before BEGIN is sent.
@@ -118,7 +148,7 @@ impl TxWorld {
     pub fn may_enter(&self, line: u32, c: &Call) -> bool
         ensures { result ≡ may_enter self.now.world line c.now }
     {
-        let _ = &self.past;
+        let _ = &self.calls;
         false
     }
 
@@ -137,7 +167,7 @@ impl TxWorld {
         ensures ours { (self.new.ours ≡ self.old.ours) × (self.new.unsure ≡ self.old.unsure) }
         ensures memory { OnErr result (self.new ≡ self.old) }
     {
-        let _ = &self.past;
+        let _ = &self.calls;
         Ok(Answer::Fine)
     }
 
@@ -145,7 +175,7 @@ impl TxWorld {
     pub fn pending(&self) -> u32
         ensures { result ≡ length (pending self.now.world) }
     {
-        let _ = &self.past;
+        let _ = &self.calls;
         0
     }
 
@@ -153,7 +183,7 @@ impl TxWorld {
     pub fn due_at(&self, k: u32) -> Option<(EnlNo, Note)>
         ensures { result ≡ reply_in self.now.world (kth (pending self.now.world) k) }
     {
-        let _ = &self.past;
+        let _ = &self.calls;
         None
     }
 
@@ -161,7 +191,7 @@ impl TxWorld {
     pub fn needs_log(&self, k: u32) -> bool
         ensures { result ≡ needs_log self.now.world k }
     {
-        let _ = &self.past;
+        let _ = &self.calls;
         false
     }
 
@@ -179,24 +209,7 @@ impl TxWorld {
         ensures grows { D.faults log.old.disk ≤ D.faults log.new.disk }
         ensures memory { OnErr result ((self.new ≡ self.old) × (log.new ≡ log.old)) }
     {
-        let _ = &self.past;
-        Ok(true)
-    }
-
-    /// Does the reply of an enlistment; false exactly where none is due.
-    ///
-    /// # Errors
-    ///
-    /// [`WorldError::Memory`] where memory ran out, and then nothing was done.
-    pub fn reply<D: Disk>(&mut self, log: &Log<D>, e: EnlNo, r: Reply) -> Result<bool, WorldError>
-        requires fits { fits_due r (due_of (half self.old.world).seen e.value) ≡ true }
-        ensures due { IfOk result (λ b. b ≡ is_some (due_of (half self.old.world).seen e.value)) }
-        ensures done { result ≡ Ok true → Does D.faults (Replies e r) self.old log.now self.new log.now }
-        ensures ours { (self.new.ours ≡ self.old.ours) × (self.new.unsure ≡ self.old.unsure) }
-        ensures unchanged { result ≡ Ok false → self.new ≡ self.old }
-        ensures memory { OnErr result (self.new ≡ self.old) }
-    {
-        let _ = &self.past;
+        let _ = &self.calls;
         Ok(true)
     }
 
@@ -210,7 +223,7 @@ impl TxWorld {
         ensures settled { IfOk result (λ n. Settles D.faults n self.old log.old self.new log.new) }
         ensures fits { IsTrue D.honest → IsTrue log.new.is_up → Fits self.new (open_records log.new.slots) }
     {
-        let _ = &self.past;
+        let _ = &self.calls;
         Ok(0)
     }
 
@@ -225,7 +238,7 @@ impl TxWorld {
         ensures kept { (self.new.ours ≡ self.old.ours) × (self.new.unsure ≡ self.old.unsure) × (self.new.life ≡ self.old.life) }
         ensures memory { OnErr result (self.new ≡ self.old) }
     {
-        let _ = &self.past;
+        let _ = &self.calls;
         Ok(())
     }
 
@@ -245,7 +258,7 @@ impl TxWorld {
         ensures kept { IsTrue D.honest → Fits self.new (open_records log.now.slots) }
         ensures memory { OnErr result (self.new ≡ self.old) }
     {
-        let _ = &self.past;
+        let _ = &self.calls;
         Ok(())
     }
 
@@ -259,7 +272,7 @@ impl TxWorld {
         ensures differs { IfErr result (λ d. (o : Option LogRecord) × (f : Option LogRecord) × (d ≡ Differs.Log self.now.transaction o f)
             × (option_map record_of o ≡ self.now.ours) × (option_map record_of f ≡ first_of (id_of self.now) (open_records log.now.slots))) }
     {
-        let _ = &self.past;
+        let _ = &self.calls;
         Ok(())
     }
 }
