@@ -104,20 +104,20 @@ not_same false b e = refl
 -- what the local side knows it may send on
 pub known_up : (c : Conn) (h : List Entry) → knows c (ends_of h) ≡ true → can_send c Up h ≡ true
 known_up c [] k = absurd (no k)
-known_up c (Sent e Up m ∷ h) k = step (is_opening e m) refl k
+known_up c (Sent e Up m ∷ h) k = step (λ t. known_up c h t) (is_opening e m) refl k
   where
-    step : (o : Bool) → is_opening e m ≡ o → knows c (if o then with_opened e (tag_of m) (ends_of h) else map (note_sent e (tag_of m)) (ends_of h)) ≡ true → can_send c Up (Sent e Up m ∷ h) ≡ true
-    step true q k = by (same_connection c e) refl
+    step : (knows c (ends_of h) ≡ true → can_send c Up h ≡ true) → (o : Bool) → is_opening e m ≡ o → knows c (if o then with_opened e (tag_of m) (ends_of h) else map (note_sent e (tag_of m)) (ends_of h)) ≡ true → can_send c Up (Sent e Up m ∷ h) ≡ true
+    step ih true q k = by ih (same_connection c e) refl k
       where
-        by : (s : Bool) → same_connection c e ≡ s → can_send c Up (Sent e Up m ∷ h) ≡ true
-        by true s = opened_can c (Sent e Up m) h (and_both (same_connection c e) (is_opening e m) s q)
-        by false s = stays_up c (Sent e Up m) h (ap (λ b. b && is_opening e m) s) refl (known_up c h (opened_known c e (tag_of m) (ends_of h) s k))
-    step false q k = stays_up c (Sent e Up m) h (ap (λ b. same_connection c e && b) q ∙ and_never (same_connection c e)) refl (known_up c h (sym (sent_known c e (tag_of m) (ends_of h)) ∙ k))
-known_up c (Got e Down m ∷ h) k = step (has_line e Down m) refl k
+        by : (knows c (ends_of h) ≡ true → can_send c Up h ≡ true) → (s : Bool) → same_connection c e ≡ s → knows c (with_opened e (tag_of m) (ends_of h)) ≡ true → can_send c Up (Sent e Up m ∷ h) ≡ true
+        by ih true s k = opened_can c (Sent e Up m) h (and_both (same_connection c e) (is_opening e m) s q)
+        by ih false s k = stays_up c (Sent e Up m) h (ap (λ b. b && is_opening e m) s) refl (ih (opened_known c e (tag_of m) (ends_of h) s k))
+    step ih false q k = stays_up c (Sent e Up m) h (ap (λ b. same_connection c e && b) q ∙ and_never (same_connection c e)) refl (ih (sym (sent_known c e (tag_of m) (ends_of h)) ∙ k))
+known_up c (Got e Down m ∷ h) k = step (λ t. known_up c h t) (has_line e Down m) refl k
   where
-    step : (l : Bool) → has_line e Down m ≡ l → knows c (if l then map (note_got e (tag_of m)) (ends_of h) else map (note_end e) (ends_of h)) ≡ true → can_send c Up (Got e Down m ∷ h) ≡ true
-    step true q k = stays_up c (Got e Down m) h refl (lined (same_connection c e) (has_line e Down m) q) (known_up c h (sym (got_known c e (tag_of m) (ends_of h)) ∙ k))
-    step false q k = let w = end_known c e (ends_of h) k in stays_up c (Got e Down m) h refl (not_same (same_connection c e) (not (has_line e Down m)) w.0) (known_up c h w.1)
+    step : (knows c (ends_of h) ≡ true → can_send c Up h ≡ true) → (l : Bool) → has_line e Down m ≡ l → knows c (if l then map (note_got e (tag_of m)) (ends_of h) else map (note_end e) (ends_of h)) ≡ true → can_send c Up (Got e Down m ∷ h) ≡ true
+    step ih true q k = stays_up c (Got e Down m) h refl (lined (same_connection c e) (has_line e Down m) q) (ih (sym (got_known c e (tag_of m) (ends_of h)) ∙ k))
+    step ih false q k = let w = end_known c e (ends_of h) k in stays_up c (Got e Down m) h refl (not_same (same_connection c e) (not (has_line e Down m)) w.0) (ih w.1)
 known_up c (Ended e Down ∷ h) k =
     let w = end_known c e (ends_of h) k in
     stays_up c (Ended e Down) h refl (ap (λ b. b && true) w.0) (known_up c h w.1)
@@ -139,7 +139,7 @@ hears h =
 -- The coordinator. Where it has seen an end, nothing is on the way to it.
 pub ended_still : (c : Conn) (h : List Entry) → WireRun h → is_ended c Up h ≡ true → IsStill c Up h
 ended_still c [] w k = absurd (no k)
-ended_still c (x ∷ h) w k = step (opens c x) refl k
+ended_still c (x ∷ h) w k = step (λ t. ended_still c h w.1 t) (opens c x) refl k
   where
     stop_same : (x : Entry) → opens c x ≡ true → is_stopped h ≡ true → is_stopped (x ∷ h) ≡ true
     stop_same (Sent e r m) o s = s
@@ -170,11 +170,11 @@ ended_still c (x ∷ h) w k = step (opens c x) refl k
     here Stopped w t = (stopped_down c (Stopped ∷ h) refl).still
     here _ w t = absurd (no t)
 
-    step : (o : Bool) → opens c x ≡ o → ended_after o (is_stopped h) (ends c Up x || is_ended c Up h) ≡ true → IsStill c Up (x ∷ h)
-    step true q t = (stopped_down c (x ∷ h) (stop_same x q t)).still
-    step false q t =
+    step : (is_ended c Up h ≡ true → IsStill c Up h) → (o : Bool) → opens c x ≡ o → ended_after o (is_stopped h) (ends c Up x || is_ended c Up h) ≡ true → IsStill c Up (x ∷ h)
+    step ih true q t = (stopped_down c (x ∷ h) (stop_same x q t)).still
+    step ih false q t =
         or_case (ends c Up x) (is_ended c Up h) (λ a. here x w a)
-        (λ a. still_more c Up x h (λ m o. absurd (not_both (opens c x) o q)) (λ o. absurd (not_both (opens c x) o q)) (ended_still c h w.1 a)) t
+        (λ a. still_more c Up x h (λ m o. absurd (not_both (opens c x) o q)) (λ o. absurd (not_both (opens c x) o q)) (ih a)) t
 
 -- It knows no connection while it stands stopped.
 pub stopped_empty : (h : List Entry) → WireRun h → is_stopped h ≡ true → (coordinate h).known ≡ []
@@ -233,28 +233,28 @@ come_down c m h w o l =
 pub known_down : (c : Conn) (h : List Entry) → WireRun h → has (same_connection c) (coordinate h).known ≡ true → can_send c Down h ≡ true
 unfolding coordinate follow
 known_down c [] w k = absurd (no k)
-known_down c (Got e Up m ∷ h) w k = step (has_line e Up m) (is_opening e m) refl refl k
+known_down c (Got e Up m ∷ h) w k = step (λ t. known_down c h w.1 t) (has_line e Up m) (is_opening e m) refl refl k
   where
-    step : (l o : Bool) → has_line e Up m ≡ l → is_opening e m ≡ o
+    step : (has (same_connection c) (coordinate h).known ≡ true → can_send c Down h ≡ true) → (l o : Bool) → has_line e Up m ≡ l → is_opening e m ≡ o
         → has (same_connection c) (if not l then without e (coordinate h).known else if o then insert_by order_of e (without e (coordinate h).known) else (coordinate h).known) ≡ true
         → can_send c Down (Got e Up m ∷ h) ≡ true
-    step false o p q k = let t = known_without c e (coordinate h).known k in stays_down c (Got e Up m) h refl (not_same (same_connection c e) (not (has_line e Up m)) t.0) (known_down c h w.1 t.1)
-    step true false p q k = stays_down c (Got e Up m) h refl (lined (same_connection c e) (has_line e Up m) p) (known_down c h w.1 k)
-    step true true p q k =
+    step ih false o p q k = let t = known_without c e (coordinate h).known k in stays_down c (Got e Up m) h refl (not_same (same_connection c e) (not (has_line e Up m)) t.0) (ih t.1)
+    step ih true false p q k = stays_down c (Got e Up m) h refl (lined (same_connection c e) (has_line e Up m) p) (ih k)
+    step ih true true p q k =
         or_case (same_connection c e) (has (same_connection c) (without e (coordinate h).known))
         (λ s. let P : Conn → Type 0 = λ y. can_send y Down (Got e Up m ∷ h) ≡ true in subst P (sym (same_conn_is c e s)) (come_down e m h w q p))
-        (λ t. let u = known_without c e (coordinate h).known t in stays_down c (Got e Up m) h refl (not_same (same_connection c e) (not (has_line e Up m)) u.0) (known_down c h w.1 u.1))
+        (λ t. let u = known_without c e (coordinate h).known t in stays_down c (Got e Up m) h refl (not_same (same_connection c e) (not (has_line e Up m)) u.0) (ih u.1))
         (sym (has-insert (same_connection c) order_of e (without e (coordinate h).known)) ∙ k)
 known_down c (Ended e Up ∷ h) w k =
     let t = known_without c e (coordinate h).known k in stays_down c (Ended e Up) h refl (ap (λ b. b && true) t.0) (known_down c h w.1 t.1)
 known_down c (Stopped ∷ h) w k = absurd (no k)
-known_down c (Sent e r m ∷ h) w k = step (opens c (Sent e r m)) refl
+known_down c (Sent e r m ∷ h) w k = step (known_down c h w.1 k) (opens c (Sent e r m)) refl
   where
-    step : (b : Bool) → opens c (Sent e r m) ≡ b → can_send c Down (Sent e r m ∷ h) ≡ true
-    step true q =
+    step : can_send c Down h ≡ true → (b : Bool) → opens c (Sent e r m) ≡ b → can_send c Down (Sent e r m ∷ h) ≡ true
+    step ih true q =
         opened_down c (Sent e r m) h q
         (false_from_ne_true (is_stopped h) (λ s. not_both (has (same_connection c) (coordinate h).known) k (ap (has (same_connection c)) (stopped_empty h w.1 s))))
-    step false q = stays_down c (Sent e r m) h q refl (known_down c h w.1 k)
+    step ih false q = stays_down c (Sent e r m) h q refl ih
 known_down c (Got e Down m ∷ h) w k = stays_down c (Got e Down m) h refl (never (same_connection c e) (not (has_line e Down m))) (known_down c h w.1 k)
 known_down c (Ended e Down ∷ h) w k = stays_down c (Ended e Down) h refl (and_never (same_connection c e)) (known_down c h w.1 k)
 known_down c (x ∷ h) w k = stays_down c x h refl refl (known_down c h w.1 k)

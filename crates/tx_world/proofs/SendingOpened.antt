@@ -23,7 +23,8 @@ use Rattle.dtx_values.specs.Owners.{lasting, only, owner_of}
 use Rattle.dtx_values.specs.Row.{is_lasting, is_of}
 use Rattle.dtx_values.specs.Table.{how_many}
 use Rattle.dtx_model.specs.Words.{each, has}
-use Rattle.dtx_model.specs.Entries.{enlisted, is_enlisted, is_promoted}
+use Rattle.dtx_model.specs.Entries.{is_promoted}
+use Rattle.dtx_model.specs.Outcome.{enlisted}
 use Rattle.dtx_model.specs.Half.{is_handed}
 use Rattle.dtx_model.specs.Observed.{handover, is_ask_promote, is_promote_reply, rows}
 use Rattle.dtx_model.specs.Promotes.{is_begun_got, is_created_got, is_promoting}
@@ -32,6 +33,7 @@ use Rattle.dtx_model.proofs.Bools.{and_both, and_left, and_never, and_right, not
 use Rattle.outcome_law.proofs.Owned.{has_filter}
 use Rattle.outcome_law.proofs.Scans.{has_more}
 use Rattle.outcome_law.proofs.Tests.{eq_self}
+use Rattle.outcome_law.proofs.Rule.{is_enlisted}
 use Rattle.outcome_law.proofs.TableRows.{enlisted_in_rows}
 use Rattle.tx_world.proofs.SendingApt.{is_apt}
 
@@ -195,6 +197,14 @@ begin_opened h n s p i = record {
     by : (k : ℕ) → k ≡ 0 → suc k ≤ 1
     by k e = omega (arith, e)
 
+pub some_many : (p : Entry → Bool) (h : List Entry) → has p h ≡ true → 1 ≤ how_many p h
+some_many p [] k = absurd (no k)
+some_many p (x ∷ h) k = step (p x) (some_many p h) k
+  where
+    step : (b : Bool) → (has p h ≡ true → 1 ≤ how_many p h) → (b || has p h) ≡ true → 1 ≤ (if b then suc (how_many p h) else how_many p h)
+    step true f k = omega arith
+    step false f k = f k
+
 -- VOTER is sent for the first time, after BEGUN
 pub voter_opened : (h : List Entry) (u : ℕ) → has (opens Voter) h ≡ false → has is_begun_got h ≡ true → Opened h → Opened (Sent Voter Up (VoterVoter u) ∷ h)
 voter_opened h u n b i = record {
@@ -213,14 +223,6 @@ voter_opened h u n b i = record {
   where
     by : (k m : ℕ) → k ≡ 0 → 1 ≤ m → suc k ≤ m
     by k m e p = omega (arith, e, p)
-
-    some_many : (p : Entry → Bool) (h : List Entry) → has p h ≡ true → 1 ≤ how_many p h
-    some_many p [] k = absurd (no k)
-    some_many p (x ∷ h) k = step (p x) k
-      where
-        step : (b : Bool) → (b || has p h) ≡ true → 1 ≤ (if b then suc (how_many p h) else how_many p h)
-        step true k = omega arith
-        step false k = some_many p h k
 
 -- ENLIST is sent after CREATED, of the handover where the promotion isn't over
 pub enlist_opened : (h : List Entry) (e : EnlNo) (m : Info) → has is_created_got h ≡ true → has is_promoting h ≡ true → (has is_promoted h ≡ false → is_handed (handover h) e.value ≡ true) → Opened h
