@@ -5,3 +5,6 @@ pub mod SendingOpened
 pub mod SendingOnce
 pub mod SendingEnds
 pub mod SendingPlaces
+pub mod SendingOpenings
+pub mod SendingCalls
+pub mod Sendable

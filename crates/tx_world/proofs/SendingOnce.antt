@@ -23,7 +23,7 @@ use Rattle.outcome_law.proofs.Leading.{sent_opens}
 use Rattle.outcome_law.proofs.StillBlocks.{is_welcome}
 use Rattle.outcome_law.proofs.Table.{ends_with, is_opening_got}
 use Rattle.outcome_law.proofs.Welcomes.{is_direct}
-use Rattle.tx_world.proofs.SendingOpened.{Opened, some_many}
+use Rattle.tx_world.proofs.SendingOpened.{Opened, none_many, some_many}
 
 no : false ≡ true → ⊥
 no e = absurd cc
@@ -156,3 +156,14 @@ created_new h w a i =
   where
     by : (a b c d e f g k : ℕ) → a ≤ b → suc b ≤ c → c ≤ d → d ≤ e → e + f ≤ g → g ≤ k → k ≤ 1 → a ≤ 0
     by a b c d e f g k p q r s t u v = omega (arith, p, q, r, s, t, u, v)
+
+-- where an answer comes, the connection was opened
+pub opened_before : (c : Conn) (m : Message) (h : List Entry) → is_welcome m ≡ true → WireRun (Got c Down m ∷ h) → always is_direct h ≡ true → has (opens c) h ≡ true
+opened_before c m h k w a = by (has (opens c) h) refl (come_opened c m h k w a)
+  where
+    by : (b : Bool) → has (opens c) h ≡ b → suc (how_many (is_got_on c Down is_welcome) h) ≤ how_many (opens c) h → b ≡ true
+    by true q k = refl
+    by false q k = absurd (less (how_many (is_got_on c Down is_welcome) h) (how_many (opens c) h) k (none_many (opens c) h q))
+      where
+        less : (n m : ℕ) → suc n ≤ m → m ≡ 0 → ⊥
+        less n m p e = omega (arith, p, e)

@@ -173,7 +173,7 @@ calm_opened x h k i = record {
     by u v z w e p q = omega (arith, e, p, q)
 
 -- The entries that open one, begin the promotion or end it well, and a promotable.
-none_many : (p : Entry → Bool) (h : List Entry) → has p h ≡ false → how_many p h ≡ 0
+pub none_many : (p : Entry → Bool) (h : List Entry) → has p h ≡ false → how_many p h ≡ 0
 none_many p [] n = refl
 none_many p (x ∷ h) n = same_many p x h (or_first (p x) (has p h) n) ∙ none_many p h (or_second (p x) (has p h) n)
 
