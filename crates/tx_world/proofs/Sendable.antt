@@ -10,7 +10,6 @@ use Rattle.dtx_values.specs.declared.entry.Entry.{Entry}
 use Rattle.dtx_values.specs.declared.entry.Entry.TheVariants.{Down as Ended, Got, Restarted, Stopped}
 use Rattle.dtx_values.specs.declared.message.Conn.{Conn}
 use Rattle.dtx_values.specs.declared.message.Conn.TheVariants.{Begin, Voter, Enl}
-use Rattle.dtx_values.specs.declared.message.Dir.{Dir}
 use Rattle.dtx_values.specs.declared.message.Dir.TheVariants.{Up, Down}
 use Rattle.dtx_values.specs.declared.message.Message.{Message}
 use Rattle.dtx_values.specs.declared.message.Message.TheVariants.{BeginBegun, VoterCreated, EnlistEnlisted}
@@ -18,27 +17,28 @@ use Rattle.dtx_values.specs.declared.note.Reply.TheVariants.{Promote as Promotes
 use Rattle.dtx_values.specs.declared.number.ActorNo.{ActorNo}
 use Rattle.dtx_values.specs.declared.number.EnlNo.{EnlNo}
 use Rattle.dtx_values.specs.RecoveryInfo.{is_id}
-use Rattle.dtx_model.specs.Words.{always, each, has, onto}
+use Rattle.dtx_model.specs.declared.waiting.Wanted.TheVariants.{Identifier, Place}
 use Rattle.dtx_model.specs.Acts.{act_entries}
 use Rattle.dtx_model.specs.Arrivals.{arrived, local_down, local_got}
 use Rattle.dtx_model.specs.Caused.{AreMadeOnce, MayCome, Ran}
-use Rattle.dtx_model.specs.Coordinated.{coordinate, core_down, core_got, follow, may_log}
-use Rattle.dtx_model.specs.Half.{half_of, sees}
+use Rattle.dtx_model.specs.Coordinated.{coordinate, core_down, core_got, may_log}
+use Rattle.dtx_model.specs.Half.{sees}
 use Rattle.dtx_model.specs.Observed.{observe, track}
 use Rattle.dtx_model.specs.Promotes.{identifier_of, is_created_got}
 use Rattle.dtx_model.specs.Replies.{reply_entries}
 use Rattle.dtx_model.specs.Steps.{Step, Calls, Replies, Acts, Coordinates, Delivers, Stops, Restarts, Done, Full, StoppedNow, StoppedBefore, LogAnswer, after, block_at, coordinates, delivered, restarted}
 use Rattle.dtx_model.specs.Waiting.{Waiter, waiting}
-use Rattle.dtx_model.specs.declared.waiting.Wanted.TheVariants.{Identifier, Place}
 use Rattle.dtx_model.specs.Wires.{WireRun, in_transit, opens}
+use Rattle.dtx_model.specs.Words.{always, has, onto}
 use Rattle.dtx_model.specs.World.{World, half, core}
-use Rattle.dtx_model.proofs.Bools.{and_both, not_both}
+use Rattle.dtx_model.proofs.Bools.{and_both, and_left, not_both}
+use Rattle.dtx_model.proofs.Pasts.{always-before}
 use Rattle.dtx_model.proofs.Quiet.{wire_run}
 use Rattle.outcome_law.proofs.OnTheWay.{is_unplaced}
 use Rattle.outcome_law.proofs.Scans.{each_more}
 use Rattle.outcome_law.proofs.Makers.{AreMade, all_unplaced, ran_made}
 use Rattle.outcome_law.proofs.Welcomes.{is_direct, step_direct}
-use Rattle.tx_world.specs.Carried.{are_sendable}
+use Rattle.tx_world.specs.Carried.{are_sendable, is_sendable}
 use Rattle.tx_world.proofs.SendingBlocks.{apt_act, apt_arrived, apt_coordinates, apt_core_down, apt_core_got, apt_local_down, apt_reply}
 use Rattle.tx_world.proofs.SendingKnown.{hears, speaks}
 use Rattle.tx_world.proofs.SendingOnce.{created_new, opened_before, voter_new}
@@ -155,3 +155,7 @@ id_valid t low high =
 -- each message of a run might be sent where it was
 pub runs_sendable : (G : ℕ → ActorNo → Call → Type 0) (t : ℕ) (ms : List Step) (w : World) → 1 ≤ t → t ≤ 256 → AreMadeOnce G → Ran G t ms w → are_sendable w.past ≡ true
 runs_sendable G t ms w low high once r = (ran_ends G t ms w (id_valid t low high) once r).sendable
+
+-- so is each entry of a block, after those before it
+pub next_sendable : (h : List Entry) (x : Entry) (es : List Entry) → are_sendable (onto h (x ∷ es)) ≡ true → is_sendable h x ≡ true
+next_sendable h x es k = and_left (is_sendable h x) (are_sendable h) (always-before is_sendable (x ∷ h) es k)

@@ -1,25 +1,25 @@
 -- Which entries may follow in a block without opening a connection: a message that goes where its connection was opened and its sender didn't see the end, and all that
 -- changes nothing of this. Such a block sends nothing that may not be sent.
-use Rattle.std.proofs.Common.{◌≡◌, ℕ, Bool, true, false, ◌&&◌, ◌||◌, List, [], ◌∷◌, ◌++◌, map, Option, Some, None, is_some, refl, sym, ◌∙◌, subst}
+use Rattle.std.proofs.Common.{◌≡◌, Bool, true, false, ◌&&◌, ◌||◌, List, [], ◌∷◌, ◌++◌, map, Option, Some, None, is_some, refl, sym, ◌∙◌, subst}
 use Rattle.std.specs.Prelude.{not, if◌then◌else◌}
 use Rattle.std.specs.List.{flat_map}
 use Rattle.std.proofs.lemmas.List.Folds.{list_all-append}
 use Rattle.dtx_values.specs.declared.entry.Ask.TheVariants.{Promote}
 use Rattle.dtx_values.specs.declared.entry.Entry.{Entry}
-use Rattle.dtx_values.specs.declared.entry.Entry.TheVariants.{Asked, Called, Cut, Down as End, Enlisted, Got, Promoted, Promoting, Sent, Stopped}
+use Rattle.dtx_values.specs.declared.entry.Entry.TheVariants.{Asked, Called, Down as End, Enlisted, Got, Promoted, Promoting, Sent, Stopped}
 use Rattle.dtx_values.specs.declared.message.Conn.{Conn}
 use Rattle.dtx_values.specs.declared.message.Dir.{Dir}
 use Rattle.dtx_values.specs.declared.message.Dir.TheVariants.{Up, Down}
 use Rattle.dtx_values.specs.declared.message.Message.{Message}
 use Rattle.dtx_values.specs.Class.{is_promotable}
 use Rattle.dtx_values.specs.Lines.{has_line, is_opening}
-use Rattle.dtx_model.specs.Words.{always, each, has, onto}
 use Rattle.dtx_model.specs.Entries.{is_decision}
 use Rattle.dtx_model.specs.Frames.{is_valid}
 use Rattle.dtx_model.specs.Promotes.{is_failed, is_promoting}
-use Rattle.dtx_model.specs.Wires.{begins_ended, ended_after, ends, is_ended, is_stopped, loses, lost_after, lost_since, opens, same_connection}
+use Rattle.dtx_model.specs.Wires.{begins_ended, ended_after, ends, is_ended, is_stopped, loses, lost_since, opens, same_connection}
+use Rattle.dtx_model.specs.Words.{each, has, onto}
 use Rattle.oletx_session.specs.Traffic.{opposite}
-use Rattle.dtx_model.proofs.Bools.{and_both, and_left, and_never, and_right, not_true, or_right}
+use Rattle.dtx_model.proofs.Bools.{and_both, and_left, and_never, and_right, or_right}
 use Rattle.tx_world.specs.Carried.{are_sendable, is_sendable}
 
 -- the connection was opened, and whoever sends in this direction didn't see its end

@@ -1,14 +1,12 @@
 -- The blocks of steps that open no connection, by what each side knows of the connections: each message may go where it goes.
-use Rattle.std.proofs.Common.{◌≡◌, ℕ, Bool, true, false, ◌&&◌, ◌||◌, not, List, [], ◌∷◌, ◌++◌, map, filter, Option, Some, None, is_some, find, refl, ◌∙◌, if◌then◌else◌}
-use Rattle.std.specs.List.{flat_map}
-use Rattle.std.proofs.lemmas.List.Folds.{list_all-append}
+use Rattle.std.proofs.Common.{◌≡◌, ℕ, Bool, true, false, ◌&&◌, ◌||◌, not, List, [], ◌∷◌, ◌++◌, map, filter, Option, Some, None, is_some, find, refl, if◌then◌else◌}
 use Rattle.dtx_values.specs.declared.call.Call.{Call}
 use Rattle.dtx_values.specs.declared.call.Call.TheVariants.{Begin as BeginCall, Volatile, Durable, Promotable, Clone, Complete, Commit, Rollback, Marshal, Tick, Lose, Gone, Reenlist, Recovered}
 use Rattle.dtx_values.specs.declared.entry.Answer.{Answer}
 use Rattle.dtx_values.specs.declared.entry.Answer.TheVariants.{Ended as EndedAnswer}
 use Rattle.dtx_values.specs.declared.entry.Ask.TheVariants.{Prepare, Promote, Single as AskSingle}
 use Rattle.dtx_values.specs.declared.entry.Entry.{Entry}
-use Rattle.dtx_values.specs.declared.entry.Entry.TheVariants.{Called, Answered, Began, Cloned, Completed, Enlisted, CommitAsked, RollbackAsked, Clock, TimedOut, Late, Asked, Voted, PromoteReply, Requested, Sealed, Handed, OwnerAnswered, LocalYes, Decided, Told, Promoting, Promoted, PromotionFailed, Sent, Got, Down as Ended, Lost as LostEntry, Logged, LogFull, Freed, Stopped, Restarted, Reenlisted, Recovered as RecoveredEntry, Acked}
+use Rattle.dtx_values.specs.declared.entry.Entry.TheVariants.{Answered, Began, Cloned, Completed, Enlisted, CommitAsked, RollbackAsked, Clock, TimedOut, Late, Asked, Voted, PromoteReply, Requested, Sealed, Handed, OwnerAnswered, LocalYes, Decided, Told, Sent, Got, Down as Ended, Lost as LostEntry, Logged, LogFull, Freed, Recovered as RecoveredEntry, Acked}
 use Rattle.dtx_values.specs.declared.entry.Party.TheVariants.{Client, Enl as Member}
 use Rattle.dtx_values.specs.declared.message.Conn.{Conn}
 use Rattle.dtx_values.specs.declared.message.Conn.TheVariants.{Begin, Voter, Enl, Again}
@@ -21,44 +19,38 @@ use Rattle.dtx_values.specs.declared.note.Note.TheVariants.{Single}
 use Rattle.dtx_values.specs.declared.note.Reply.{Reply}
 use Rattle.dtx_values.specs.declared.note.Reply.TheVariants.{Vote as VoteReply, Promote as Promotes, Owner as OwnerReply, Ack}
 use Rattle.dtx_values.specs.declared.number.EnlNo.{EnlNo}
-use Rattle.dtx_values.specs.declared.words.Cause.{Cause}
-use Rattle.dtx_values.specs.declared.words.Cause.TheVariants.{Marshal as MarshalCause}
+use Rattle.dtx_values.specs.declared.script.EnlistOption.{EnlistOption}
+use Rattle.dtx_values.specs.declared.script.EnlistOption.TheVariants.{Plain, DuringPrepare}
 use Rattle.dtx_values.specs.declared.words.Outcome.{Outcome}
 use Rattle.dtx_values.specs.declared.words.Outcome.TheVariants.{Committed, Aborted, InDoubt}
 use Rattle.dtx_values.specs.declared.words.Vote.{Vote}
 use Rattle.dtx_values.specs.declared.words.Vote.TheVariants.{Yes, No, Done as VoteDone}
+use Rattle.dtx_values.specs.Class.{is_promotable}
 use Rattle.dtx_values.specs.Clones.{is_open_rollback}
 use Rattle.dtx_values.specs.Ends.{knows, may_abort_by_begin, may_abort_by_voter, same_connection, tag_of, was_got}
-use Rattle.dtx_model.specs.declared.listener.Listener.{Listener}
-use Rattle.dtx_model.specs.declared.desk.Desk.{Desk}
-use Rattle.dtx_model.specs.Words.{has}
-use Rattle.dtx_values.specs.Waves.{all_voted, is_over, next_ask}
+use Rattle.dtx_values.specs.Lines.{has_line, is_opening}
 use Rattle.dtx_values.specs.Owners.{owner_of}
-use Rattle.dtx_values.specs.Class.{is_promotable}
-use Rattle.dtx_values.specs.Vote.{is_no}
+use Rattle.dtx_values.specs.RecoveryInfo.{is_id}
 use Rattle.dtx_values.specs.Table.{voted}
-use Rattle.dtx_model.specs.declared.branch.Branch.{Branch}
-use Rattle.dtx_model.specs.Observed.{Observed, track}
-use Rattle.dtx_model.specs.Promotes.{identifier_of}
-use Rattle.dtx_model.specs.Coordinated.{Coordinated, aborts, opening_by, abort_sends, commit_sends, core_down, core_got, follow, has_aborted, is_active, is_early, is_prepared, is_recorded, is_undecided, may_log, opening_answer, still_hears, to, to_each, to_waiting}
-use Rattle.dtx_model.specs.Half.{Half, sees, is_promoting, to_up, fails_if, decide, veto_message, veto, veto_if, info, over, stands, is_gone, was_told, is_handed}
-use Rattle.dtx_model.specs.Arrivals.{unless_decided, told_abort, has_both_ends, ended_there, ended_by, begin_arrived, voter_arrived, enlist_arrived, again_arrived, arrived, local_down}
-use Rattle.dtx_model.specs.Acts.{tell, is_to_tell, promotable_in, under_way, commit_sent, ask_or, after_seal, commit_act, yes_act, voter_act, promoted_act, sealed_act, asked_act, unasked_promotable, undecided_act, act_by, act_entries}
-use Rattle.dtx_model.specs.Replies.{ack_on, conn_due, due_of, is_volatile_row, owner_entries, promote_entries, reply_entries, request_message, request_of, vote_message, voted_by}
-use Rattle.dtx_model.specs.Facts.{facts_if, is_late, local_facts, reaches, ticked, time_up}
-use Rattle.dtx_model.specs.Answers.{class_of, limit_of}
-use Rattle.dtx_model.specs.World.{World, half, cut, cut_upward, facts_at, gone_by, gone_decides, open_ones}
-use Rattle.dtx_model.specs.Steps.{LogAnswer, Done, Full, StoppedNow, StoppedBefore, appended, coordinates, freed}
-use Rattle.dtx_values.specs.declared.script.EnlistOption.{EnlistOption}
-use Rattle.dtx_values.specs.declared.script.EnlistOption.TheVariants.{Plain, DuringPrepare}
+use Rattle.dtx_values.specs.Vote.{is_no}
+use Rattle.dtx_values.specs.Waves.{all_voted, is_over, next_ask}
+use Rattle.dtx_model.specs.declared.desk.Desk.{Desk}
 use Rattle.dtx_model.specs.declared.desk.Stage.{Stage}
 use Rattle.dtx_model.specs.declared.desk.Stage.TheVariants.{Idle, Active, Aborted as AbortedStage, Recorded, Over, Unknown}
-use Rattle.dtx_values.specs.RecoveryInfo.{is_id}
-use Rattle.dtx_values.specs.Lines.{has_line, is_opening}
+use Rattle.dtx_model.specs.declared.listener.Listener.{Listener}
+use Rattle.dtx_model.specs.Acts.{tell, is_to_tell, promotable_in, under_way, commit_sent, ask_or, after_seal, commit_act, yes_act, voter_act, promoted_act, sealed_act, asked_act, unasked_promotable, undecided_act, act_by, act_entries}
+use Rattle.dtx_model.specs.Answers.{class_of, limit_of}
+use Rattle.dtx_model.specs.Arrivals.{unless_decided, told_abort, has_both_ends, ended_there, ended_by, begin_arrived, voter_arrived, enlist_arrived, again_arrived, arrived, local_down}
+use Rattle.dtx_model.specs.Coordinated.{Coordinated, aborts, opening_by, abort_sends, commit_sends, core_down, core_got, follow, has_aborted, is_active, is_early, is_prepared, is_recorded, is_undecided, may_log, opening_answer, still_hears, to, to_each, to_waiting}
+use Rattle.dtx_model.specs.Facts.{facts_if, is_late, local_facts, reaches, ticked, time_up}
 use Rattle.dtx_model.specs.Frames.{is_valid}
-use Rattle.dtx_model.specs.Promotes.{is_failed, is_promoting as is_start}
-use Rattle.dtx_model.specs.Entries.{is_decision}
-use Rattle.dtx_model.specs.Wires.{opens}
+use Rattle.dtx_model.specs.Half.{Half, sees, is_promoting, to_up, fails_if, decide, veto_message, veto, veto_if, over, stands, is_gone, was_told, is_handed}
+use Rattle.dtx_model.specs.Observed.{Observed, track}
+use Rattle.dtx_model.specs.Promotes.{is_promoting as is_start}
+use Rattle.dtx_model.specs.Replies.{ack_on, conn_due, due_of, is_volatile_row, owner_entries, reply_entries, request_message, request_of, vote_message, voted_by}
+use Rattle.dtx_model.specs.Steps.{LogAnswer, Done, Full, StoppedNow, StoppedBefore, appended, coordinates, freed}
+use Rattle.dtx_model.specs.Words.{has}
+use Rattle.dtx_model.specs.World.{World, half, cut, cut_upward, facts_at, gone_by, gone_decides, open_ones}
 use Rattle.dtx_model.proofs.Bools.{and_left, and_right, not_true}
 use Rattle.tx_world.proofs.SendingApt.{Apt, apt_cons, apt_flat, apt_if, apt_join, apt_map, apt_none, apt_one, apt_sent, apt_when, can_send, is_apt}
 
@@ -112,7 +104,7 @@ answer_later c good abort refused p q r t Active false = p
 answer_later c good abort refused p q r t Idle b = r
 answer_later c good abort refused p q r t Recorded b = r
 
--- after a message: k is what was known before it, and n what is known after it; p has the message
+-- after a message: k is what was known before it, and the history has it
 pub apt_core_got : {p : List Entry} (id : ℕ) (k : Coordinated) (c : Conn) (m : Message) → is_id id ≡ true → Speaks p (follow k (Got c Up m)) → Apt p (core_got id k c m)
 unfolding core_got follow
 apt_core_got id k Begin BeginBegin v s = apt_to (follow k (Got Begin Up BeginBegin)) s Begin (BeginBegun id) (valid (is_id id) v)

@@ -1,5 +1,5 @@
 -- The blocks of calls, and of a promotable's answer, that open connections: BEGIN where a promotion begins, an ENLIST where it is over, and a REENLIST where nothing is left.
-use Rattle.std.proofs.Common.{◌≡◌, ◌⊎◌, inl, inr, ℕ, ◌==◌, Bool, true, false, ◌&&◌, ◌||◌, List, [], ◌∷◌, find, Option, Some, None, is_some, refl, sym, subst, ap, ◌∙◌}
+use Rattle.std.proofs.Common.{◌≡◌, inl, inr, ℕ, ◌==◌, Bool, true, false, ◌&&◌, ◌||◌, List, [], ◌∷◌, find, Option, Some, None, is_some, refl, sym, subst, ap, ◌∙◌}
 use Rattle.std.specs.Prelude.{IfSome, not, if◌then◌else◌}
 use Rattle.std.proofs.lemmas.Bool.{eqb-true, false_from_ne_true}
 use Rattle.dtx_values.specs.declared.call.Call.{Call}
@@ -8,9 +8,9 @@ use Rattle.dtx_values.specs.declared.entry.Answer.{Answer}
 use Rattle.dtx_values.specs.declared.entry.Answer.TheVariants.{Connected, False, Fine, Finished, Id, Many, NoSuch, Over, TooLate, True, Wait}
 use Rattle.dtx_values.specs.declared.entry.Entry.{Entry}
 use Rattle.dtx_values.specs.declared.entry.Entry.TheVariants.{Called, Enlisted, Init, PromoteReply, Promoting, Reenlisted, Sent}
+use Rattle.dtx_values.specs.declared.limits.TheConstants.{CALLS, ENLISTMENTS}
 use Rattle.dtx_values.specs.declared.message.Conn.{Conn}
 use Rattle.dtx_values.specs.declared.message.Conn.TheVariants.{Begin, Voter, Enl, Again}
-use Rattle.dtx_values.specs.declared.message.Dir.{Dir}
 use Rattle.dtx_values.specs.declared.message.Dir.TheVariants.{Up, Down}
 use Rattle.dtx_values.specs.declared.message.Message.{Message}
 use Rattle.dtx_values.specs.declared.message.Message.TheVariants.{BeginBegin, EnlistEnlist}
@@ -22,48 +22,45 @@ use Rattle.dtx_values.specs.declared.number.RmNo.{RmNo}
 use Rattle.dtx_values.specs.declared.row.Row.{Row}
 use Rattle.dtx_values.specs.declared.words.Cause.{Cause}
 use Rattle.dtx_values.specs.declared.words.Cause.TheVariants.{Marshal as MarshalCause}
-use Rattle.dtx_values.specs.Lines.{is_opening}
 use Rattle.dtx_values.specs.declared.words.Class.{Class}
 use Rattle.dtx_values.specs.declared.words.Class.TheVariants.{DurableSingle, Promotable as PromotableClass}
 use Rattle.dtx_values.specs.declared.words.Outcome.{Outcome}
 use Rattle.dtx_values.specs.Class.{is_promotable}
-use Rattle.dtx_values.specs.declared.limits.TheConstants.{CALLS, ENLISTMENTS}
+use Rattle.dtx_values.specs.Ends.{is_in}
+use Rattle.dtx_values.specs.Lines.{is_opening}
 use Rattle.dtx_values.specs.Owners.{cause_of, may_own}
 use Rattle.dtx_values.specs.RecoveryInfo.{is_id}
 use Rattle.dtx_values.specs.Row.{is_of}
 use Rattle.dtx_values.specs.Support.{is_single}
 use Rattle.dtx_model.specs.declared.branch.Branch.{Branch}
-use Rattle.dtx_model.specs.Words.{each, has, latest, onto}
-use Rattle.dtx_model.specs.Entries.{began_of, decision_of, is_decision, is_promoted, is_sealed}
+use Rattle.dtx_model.specs.Answers.{durable_answer, if_begun, unless_ended, has_promotion, is_crowded, is_full, local_answer, marshal_answer, promotable_answer}
+use Rattle.dtx_model.specs.Caused.{AreMadeOnce, made_by}
+use Rattle.dtx_model.specs.Entries.{began_of, decision_of, is_decision, is_promoted, is_sealed, is_call}
 use Rattle.dtx_model.specs.Facts.{begin_promotion, durable_facts, facts_if, has_facts}
+use Rattle.dtx_model.specs.Grammar.{OfEnlistment}
 use Rattle.dtx_model.specs.Half.{Half, enlist_sent, info, is_promoting}
 use Rattle.dtx_model.specs.Observed.{Observed, is_ask_promote, is_branch, is_promote_reply, observe, rows}
+use Rattle.dtx_model.specs.Outcome.{enlisted, is_empty}
 use Rattle.dtx_model.specs.Promotes.{identifier_of, is_failed, is_promoting as is_start}
 use Rattle.dtx_model.specs.Replies.{due_of, fits, promote_entries}
-use Rattle.dtx_model.specs.Wires.{holds, in_transit, is_ended, is_stopped, lost_since, loses, opens, same_connection}
-use Rattle.dtx_model.specs.Outcome.{enlisted, is_empty}
-use Rattle.dtx_model.specs.Grammar.{OfEnlistment}
-use Rattle.dtx_model.specs.Entries.{is_call}
-use Rattle.dtx_model.specs.Caused.{AreMadeOnce, made_by}
 use Rattle.dtx_model.specs.Steps.{called}
-use Rattle.dtx_model.specs.Answers.{durable_answer, if_begun, unless_ended, has_promotion, is_crowded, is_full, local_answer, marshal_answer, promotable_answer}
-use Rattle.dtx_model.specs.World.{World, answer_at, branch_answer, facts_at, half, core, has_left, is_connected, is_finished_there, is_linked, reenlist_by, reenlist_facts, unless_stopped, was_opened}
-use Rattle.dtx_values.specs.Ends.{is_in}
+use Rattle.dtx_model.specs.Wires.{holds, in_transit, is_ended, is_stopped, lost_since, loses, opens}
+use Rattle.dtx_model.specs.Words.{each, has, latest, onto}
+use Rattle.dtx_model.specs.World.{World, answer_at, facts_at, half, core, is_connected, is_finished_there, is_linked, reenlist_by, reenlist_facts, unless_stopped}
 use Rattle.dtx_model.proofs.Bools.{and_left, and_right, not_both, not_false, not_true, or_case, or_first, or_second}
-use Rattle.outcome_law.proofs.Connections.{same_self}
 use Rattle.outcome_law.proofs.Crossed.{is_sent_on}
 use Rattle.outcome_law.proofs.HalfKnows.{way_seen}
-use Rattle.outcome_law.proofs.HalfReplies.{IsOwed, owed}
+use Rattle.outcome_law.proofs.HalfReplies.{owed}
 use Rattle.outcome_law.proofs.Makers.{AreMade, makes_lasting}
 use Rattle.outcome_law.proofs.Messages.{ENLIST}
 use Rattle.outcome_law.proofs.Owned.{decision_seen, has_rows}
 use Rattle.outcome_law.proofs.Picks.{found_at, has-at}
 use Rattle.outcome_law.proofs.Scans.{has_more}
-use Rattle.outcome_law.proofs.Tests.{eq_self, first_of_four, second_of_four, third_of_four}
-use Rattle.tx_world.proofs.SendingApt.{Apt, apt_none, can_same}
+use Rattle.outcome_law.proofs.Tests.{first_of_four, second_of_four, third_of_four}
+use Rattle.tx_world.proofs.SendingApt.{can_same}
 use Rattle.tx_world.proofs.SendingBlocks.{Hears, apt_facts_at, apt_facts_if, may_open}
 use Rattle.tx_world.proofs.SendingKnown.{hears}
-use Rattle.tx_world.proofs.SendingOpened.{Opened, is_unpromotable}
+use Rattle.tx_world.proofs.SendingOpened.{Opened}
 use Rattle.tx_world.proofs.SendingEnds.{Ends, again_ends, apt_ends, begin_ends, ends_if, enlist_ends, one_ends, promotable_ends, start_ends}
 
 no : false ≡ true → ⊥

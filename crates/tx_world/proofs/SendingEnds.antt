@@ -1,12 +1,12 @@
 -- What stands at the end of each block: each message might be sent where it was, the connections are opened as they should be, and a promotion that failed decided. Which
 -- blocks and entries keep it.
-use Rattle.std.proofs.Common.{◌≡◌, ◌⊎◌, ℕ, Bool, true, false, ◌&&◌, ◌||◌, List, [], ◌∷◌, refl, sym, subst, ap, ◌∙◌}
-use Rattle.std.specs.Prelude.{is_some, not, if◌then◌else◌}
+use Rattle.std.proofs.Common.{◌≡◌, ◌⊎◌, ℕ, Bool, true, false, ◌&&◌, ◌||◌, List, [], ◌∷◌, refl, sym, ◌∙◌}
+use Rattle.std.specs.Prelude.{not, if◌then◌else◌}
 use Rattle.dtx_values.specs.declared.entry.Entry.{Entry}
 use Rattle.dtx_values.specs.declared.entry.Entry.TheVariants.{Enlisted, Promoted, Promoting, Sent}
 use Rattle.dtx_values.specs.declared.message.Conn.{Conn}
 use Rattle.dtx_values.specs.declared.message.Conn.TheVariants.{Begin, Voter, Enl, Again}
-use Rattle.dtx_values.specs.declared.message.Dir.TheVariants.{Up, Down}
+use Rattle.dtx_values.specs.declared.message.Dir.TheVariants.{Up}
 use Rattle.dtx_values.specs.declared.message.Info.{Info}
 use Rattle.dtx_values.specs.declared.message.Message.{Message}
 use Rattle.dtx_values.specs.declared.message.Message.TheVariants.{BeginBegin, VoterVoter, EnlistEnlist, ReenlistReenlist}
@@ -15,18 +15,17 @@ use Rattle.dtx_values.specs.declared.words.Cause.{Cause}
 use Rattle.dtx_values.specs.declared.words.Class.TheVariants.{Promotable}
 use Rattle.dtx_values.specs.Lines.{has_line, is_opening}
 use Rattle.dtx_values.specs.RecoveryInfo.{is_id}
-use Rattle.dtx_model.specs.Words.{each, has, onto}
 use Rattle.dtx_model.specs.Entries.{is_decision, is_promoted}
 use Rattle.dtx_model.specs.Frames.{is_valid}
 use Rattle.dtx_model.specs.Half.{is_handed}
 use Rattle.dtx_model.specs.Observed.{handover, is_promote_reply}
 use Rattle.dtx_model.specs.Promotes.{is_begun_got, is_created_got, is_failed, is_promoting}
-use Rattle.dtx_model.specs.Wires.{is_ended, lost_since, opens, same_connection}
-use Rattle.dtx_model.specs.World.{has_left, is_linked, was_opened}
-use Rattle.dtx_model.proofs.Bools.{and_both, and_left, and_right, not_both, not_true, or_case, or_first, or_right, or_second}
+use Rattle.dtx_model.specs.Wires.{opens, same_connection}
+use Rattle.dtx_model.specs.Words.{each, has, onto}
+use Rattle.dtx_model.specs.World.{is_linked, was_opened}
+use Rattle.dtx_model.proofs.Bools.{and_both, and_left, and_right, not_both, or_case, or_first, or_right, or_second}
 use Rattle.dtx_model.proofs.Reading.{has-onto}
 use Rattle.outcome_law.proofs.Connections.{same_self}
-use Rattle.outcome_law.proofs.Tests.{eq_self}
 use Rattle.tx_world.specs.Carried.{are_sendable, is_sendable}
 use Rattle.tx_world.proofs.SendingApt.{Apt, block_sendable, can_send, each_apt, is_apt, opened_same}
 use Rattle.tx_world.proofs.SendingOpened.{Opened, apt_calm, begin_opened, calm_opened, enlist_opened, is_calm, is_unpromotable, none_opened, over_opened, promotable_opened, start_opened, voter_opened}

@@ -6,17 +6,16 @@ use Rattle.dtx_values.specs.declared.end.End.{End}
 use Rattle.dtx_values.specs.declared.entry.Entry.{Entry}
 use Rattle.dtx_values.specs.declared.entry.Entry.TheVariants.{Down as Ended, Got, Sent, Stopped, Restarted}
 use Rattle.dtx_values.specs.declared.message.Conn.{Conn}
-use Rattle.dtx_values.specs.declared.message.Dir.{Dir}
 use Rattle.dtx_values.specs.declared.message.Dir.TheVariants.{Up, Down}
 use Rattle.dtx_values.specs.declared.message.Message.{Message}
 use Rattle.dtx_values.specs.Ends.{end_order, is_end_of, knows, note_end, note_got, note_sent, order_of, tag_of, with_opened, with_tag}
 use Rattle.dtx_values.specs.Lines.{has_line, is_opening}
 use Rattle.dtx_values.specs.Table.{insert_by}
-use Rattle.dtx_model.specs.Words.{has, latest}
+use Rattle.dtx_model.specs.Coordinated.{coordinate, follow, without}
 use Rattle.dtx_model.specs.Entries.{is_promoted}
 use Rattle.dtx_model.specs.Observed.{cause_of_promotion, ends_of, is_promotion_failed, observe}
-use Rattle.dtx_model.specs.Coordinated.{coordinate, follow, known_after, without}
-use Rattle.dtx_model.specs.Wires.{MayCross, WireRun, begins_ended, ended_after, ends, in_transit, is_ended, is_kept, is_next, is_open_wire, is_stopped, loses, lost_after, lost_since, opens, same_connection, without_first}
+use Rattle.dtx_model.specs.Wires.{WireRun, ended_after, ends, in_transit, is_ended, is_kept, is_stopped, loses, lost_since, opens, same_connection, without_first}
+use Rattle.dtx_model.specs.Words.{has, latest}
 use Rattle.dtx_model.proofs.Bools.{and_both, and_left, and_never, and_right, not_both, not_false, not_true, or_case, or_false, or_right}
 use Rattle.outcome_law.proofs.Lists.{has_kept, has-insert, if_kept}
 use Rattle.outcome_law.proofs.Owned.{has_filter}
@@ -25,7 +24,6 @@ use Rattle.outcome_law.proofs.Connections.{same_self}
 use Rattle.outcome_law.proofs.Crossed.{IsStill, end_still, nothing_up, no_end_up, same_conn_is, still_more, still_silent, stopped_down}
 use Rattle.outcome_law.proofs.Leading.{opening_was_sent}
 use Rattle.outcome_law.proofs.Reenlisted.{opened_since}
-use Rattle.outcome_law.proofs.CoreStages.{known_got}
 use Rattle.outcome_law.proofs.HalfKnows.{cause_seen}
 use Rattle.outcome_law.proofs.Table.{is_opening_got}
 use Rattle.tx_world.proofs.SendingApt.{can_same, can_send, ended_same}
@@ -40,7 +38,7 @@ opened_can c x h o = by (opens c x) (lost_since c h) o
   where
     by : (b : Bool) (l : Option Bool) → b ≡ true
         → (is_some (elim l as (λ z. Option Bool) [ Some y ↦ if b then Some (is_stopped h) else Some (y || loses c x) | None ↦ if b then Some (is_stopped h) else None ])
-          && not (ended_after b false (ends c Down x || is_ended c Down h))) ≡ true
+        && not (ended_after b false (ends c Down x || is_ended c Down h))) ≡ true
     by true (Some y) o = refl
     by true None o = refl
     by false l o = absurd cc
@@ -213,7 +211,7 @@ opened_down c x h o s = by (opens c x) (is_stopped h) (lost_since c h) o s
   where
     by : (b z : Bool) (l : Option Bool) → b ≡ true → z ≡ false
         → (is_some (elim l as (λ z. Option Bool) [ Some y ↦ if b then Some z else Some (y || loses c x) | None ↦ if b then Some z else None ])
-          && not (ended_after b z (ends c Up x || is_ended c Up h))) ≡ true
+        && not (ended_after b z (ends c Up x || is_ended c Up h))) ≡ true
     by true false (Some y) o s = refl
     by true false None o s = refl
     by true true l o s = absurd cc

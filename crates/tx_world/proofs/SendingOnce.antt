@@ -1,20 +1,19 @@
 -- BEGUN and CREATED come once: each answers the message that opened its connection, which is sent once. So VOTER is sent once, and no ENLIST before CREATED.
-use Rattle.std.proofs.Common.{◌≡◌, ◌≤◌, ◌+◌, ℕ, zero, suc, Bool, true, false, ◌&&◌, ◌||◌, List, [], ◌∷◌, refl, sym, subst, ap, ◌∙◌, arith}
+use Rattle.std.proofs.Common.{◌≡◌, ◌≤◌, ◌+◌, ℕ, suc, Bool, true, false, ◌&&◌, ◌||◌, List, [], ◌∷◌, refl, sym, subst, arith}
 use Rattle.std.specs.Prelude.{not, if◌then◌else◌}
 use Rattle.std.proofs.lemmas.Bool.{false_from_ne_true}
 use Rattle.dtx_values.specs.declared.entry.Entry.{Entry}
 use Rattle.dtx_values.specs.declared.entry.Entry.TheVariants.{Got, Sent}
 use Rattle.dtx_values.specs.declared.message.Conn.{Conn}
 use Rattle.dtx_values.specs.declared.message.Conn.TheVariants.{Begin, Voter}
-use Rattle.dtx_values.specs.declared.message.Dir.{Dir}
 use Rattle.dtx_values.specs.declared.message.Dir.TheVariants.{Up, Down}
 use Rattle.dtx_values.specs.declared.message.Message.{Message}
 use Rattle.dtx_values.specs.declared.message.Message.TheVariants.{BeginBegun, VoterCreated}
 use Rattle.dtx_values.specs.Lines.{is_opening}
 use Rattle.dtx_values.specs.Table.{how_many}
-use Rattle.dtx_model.specs.Words.{always, has}
 use Rattle.dtx_model.specs.Promotes.{is_begun_got, is_created_got}
 use Rattle.dtx_model.specs.Wires.{WireRun, in_transit, opens, same_connection}
+use Rattle.dtx_model.specs.Words.{always, has}
 use Rattle.dtx_model.proofs.Bools.{and_both, and_left, and_right, not_both, not_true, or_case}
 use Rattle.outcome_law.proofs.Connections.{same_self}
 use Rattle.outcome_law.proofs.Crossed.{is_got_on, is_sent_on, same_conn_is}

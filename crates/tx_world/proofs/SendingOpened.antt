@@ -1,8 +1,8 @@
 -- What stands at the end of each block of the connections that are opened: b and the voter's connection are opened once, an enlistment's after CREATED, and what the promotion
 -- has to do with it; and which entries keep that.
-use Rattle.std.proofs.Common.{◌≡◌, ◌≤◌, ◌<◌, ◌⊎◌, inl, inr, ℕ, zero, suc, ◌==◌, Bool, true, false, ◌&&◌, ◌||◌, List, [], ◌∷◌, filter, Option, Some, None, refl, sym, subst, ap, ◌∙◌, arith}
+use Rattle.std.proofs.Common.{◌≡◌, ◌≤◌, ◌⊎◌, inl, inr, ℕ, suc, ◌==◌, Bool, true, false, ◌&&◌, ◌||◌, List, [], ◌∷◌, Option, Some, None, refl, sym, subst, ap, ◌∙◌, arith}
 use Rattle.std.specs.Prelude.{not, if◌then◌else◌}
-use Rattle.std.proofs.lemmas.Bool.{eqb-true, false_from_ne_true}
+use Rattle.std.proofs.lemmas.Bool.{eqb-true}
 use Rattle.dtx_values.specs.declared.entry.Ask.TheVariants.{Promote}
 use Rattle.dtx_values.specs.declared.entry.Entry.{Entry}
 use Rattle.dtx_values.specs.declared.entry.Entry.TheVariants.{Asked, Enlisted, Promoted, Promoting, Sent}
@@ -10,25 +10,23 @@ use Rattle.dtx_values.specs.declared.message.Conn.{Conn}
 use Rattle.dtx_values.specs.declared.message.Conn.TheVariants.{Begin, Voter, Enl, Again}
 use Rattle.dtx_values.specs.declared.message.Dir.TheVariants.{Up, Down}
 use Rattle.dtx_values.specs.declared.message.Info.{Info}
-use Rattle.dtx_values.specs.declared.message.Message.{Message}
 use Rattle.dtx_values.specs.declared.message.Message.TheVariants.{BeginBegin, VoterVoter, EnlistEnlist}
 use Rattle.dtx_values.specs.declared.number.EnlNo.{EnlNo}
 use Rattle.dtx_values.specs.declared.row.Row.{Row}
 use Rattle.dtx_values.specs.declared.words.Cause.{Cause}
-use Rattle.dtx_values.specs.declared.words.Class.{Class}
 use Rattle.dtx_values.specs.declared.words.Class.TheVariants.{Promotable}
 use Rattle.dtx_values.specs.Class.{is_promotable}
 use Rattle.dtx_values.specs.Lines.{is_opening}
 use Rattle.dtx_values.specs.Owners.{lasting, only, owner_of}
 use Rattle.dtx_values.specs.Row.{is_lasting, is_of}
 use Rattle.dtx_values.specs.Table.{how_many}
-use Rattle.dtx_model.specs.Words.{each, has}
 use Rattle.dtx_model.specs.Entries.{is_promoted}
-use Rattle.dtx_model.specs.Outcome.{enlisted}
 use Rattle.dtx_model.specs.Half.{is_handed}
 use Rattle.dtx_model.specs.Observed.{handover, is_ask_promote, is_promote_reply, rows}
+use Rattle.dtx_model.specs.Outcome.{enlisted}
 use Rattle.dtx_model.specs.Promotes.{is_begun_got, is_created_got, is_promoting}
 use Rattle.dtx_model.specs.Wires.{opens, same_connection}
+use Rattle.dtx_model.specs.Words.{each, has}
 use Rattle.dtx_model.proofs.Bools.{and_both, and_left, and_never, and_right, not_both, not_true, or_case, or_first, or_right, or_second}
 use Rattle.outcome_law.proofs.Owned.{has_filter}
 use Rattle.outcome_law.proofs.Scans.{has_more}

@@ -1,5 +1,5 @@
 -- The blocks that open connections where a message arrives: BEGUN, CREATED, and ENLISTED.
-use Rattle.std.proofs.Common.{◌≡◌, ◌≤◌, ℕ, suc, ◌==◌, Bool, true, false, ◌&&◌, ◌||◌, List, [], ◌∷◌, ◌++◌, find, Option, Some, None, is_some, refl, sym, subst, ap, ◌∙◌, arith}
+use Rattle.std.proofs.Common.{◌≡◌, ℕ, ◌==◌, Bool, true, false, ◌&&◌, ◌||◌, List, [], ◌∷◌, ◌++◌, find, Option, Some, None, is_some, refl, sym, subst, ap, ◌∙◌}
 use Rattle.std.specs.Prelude.{not, if◌then◌else◌}
 use Rattle.std.specs.List.{flat_map}
 use Rattle.std.proofs.lemmas.Bool.{eq-eqb, eqb-true, false_from_ne_true}
@@ -7,11 +7,10 @@ use Rattle.dtx_values.specs.declared.call.Call.{Call}
 use Rattle.dtx_values.specs.declared.call.Call.TheVariants.{Durable}
 use Rattle.dtx_values.specs.declared.entry.Answer.TheVariants.{Fine, Id}
 use Rattle.dtx_values.specs.declared.entry.Entry.{Entry}
-use Rattle.dtx_values.specs.declared.entry.Entry.TheVariants.{Answered, Enlisted, Got, Promoted, Sent}
-use Rattle.dtx_values.specs.declared.message.Conn.{Conn}
+use Rattle.dtx_values.specs.declared.entry.Entry.TheVariants.{Answered, Enlisted, Promoted, Sent}
 use Rattle.dtx_values.specs.declared.message.Conn.TheVariants.{Begin, Voter, Enl}
-use Rattle.dtx_values.specs.declared.message.Dir.TheVariants.{Up, Down}
-use Rattle.dtx_values.specs.declared.message.Message.TheVariants.{BeginAbort, BeginBegun, VoterCreated, VoterVoter, EnlistEnlist, EnlistEnlisted}
+use Rattle.dtx_values.specs.declared.message.Dir.TheVariants.{Up}
+use Rattle.dtx_values.specs.declared.message.Message.TheVariants.{BeginAbort, VoterVoter, EnlistEnlist}
 use Rattle.dtx_values.specs.declared.number.ActorNo.{ActorNo}
 use Rattle.dtx_values.specs.declared.number.EnlNo.{EnlNo}
 use Rattle.dtx_values.specs.declared.number.RmNo.{RmNo}
@@ -24,22 +23,22 @@ use Rattle.dtx_values.specs.RecoveryInfo.{is_id}
 use Rattle.dtx_model.specs.declared.waiting.EnteredCall.{EnteredCall}
 use Rattle.dtx_model.specs.declared.waiting.Wanted.{Wanted}
 use Rattle.dtx_model.specs.declared.waiting.Wanted.TheVariants.{Identifier, Place}
-use Rattle.dtx_model.specs.Words.{each, has, latest, onto}
+use Rattle.dtx_model.specs.Arrivals.{begun, created, enlisted_at, hand_over, place_given}
 use Rattle.dtx_model.specs.Entries.{is_promoted}
-use Rattle.dtx_model.specs.Half.{Half, by_manager, enlist_sent, given, half_of, info, is_handed, is_promoting, over, promoted_by, to_up}
+use Rattle.dtx_model.specs.Half.{by_manager, enlist_sent, given, half_of, info, is_handed, is_promoting, over, promoted_by, to_up}
 use Rattle.dtx_model.specs.Observed.{cause_of_promotion, handover, observe}
 use Rattle.dtx_model.specs.Promotes.{identifier_of, is_begun_got, is_created_got, is_promoting as is_start}
-use Rattle.dtx_model.specs.Arrivals.{begun, created, enlisted_at, hand_over, place_given}
 use Rattle.dtx_model.specs.Waiting.{Waiter, class_by, is_place_of, waiting, wanted_by}
 use Rattle.dtx_model.specs.Wires.{opens}
-use Rattle.dtx_model.proofs.Bools.{and_left, and_right, not_both, not_false, not_true, or_false}
+use Rattle.dtx_model.specs.Words.{each, has, latest, onto}
+use Rattle.dtx_model.proofs.Bools.{and_left, and_right, not_both, not_false, not_true}
 use Rattle.outcome_law.proofs.Lists.{OfEach}
 use Rattle.outcome_law.proofs.OnTheWay.{is_unplaced}
 use Rattle.outcome_law.proofs.Rule.{is_enlisted}
 use Rattle.outcome_law.proofs.Scans.{each_more}
 use Rattle.outcome_law.proofs.Tests.{eq_self}
 use Rattle.outcome_law.proofs.Makers.{IsWaiter, of-found}
-use Rattle.tx_world.proofs.SendingBlocks.{Hears, apt_begun_late}
+use Rattle.tx_world.proofs.SendingBlocks.{apt_begun_late}
 use Rattle.tx_world.proofs.SendingKnown.{hears}
 use Rattle.tx_world.proofs.SendingOpened.{Opened}
 use Rattle.tx_world.proofs.SendingEnds.{Ends, apt_ends, ends_if, enlist_ends, one_ends, over_ends, voter_ends}
