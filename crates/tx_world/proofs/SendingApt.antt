@@ -3,7 +3,7 @@
 use Rattle.std.proofs.Common.{◌≡◌, Bool, true, false, ◌&&◌, ◌||◌, List, [], ◌∷◌, ◌++◌, map, Option, Some, None, is_some, refl, sym, ◌∙◌, subst}
 use Rattle.std.specs.Prelude.{not, if◌then◌else◌}
 use Rattle.std.specs.List.{flat_map}
-use Rattle.std.proofs.lemmas.List.Folds.{list_all-append}
+use Rattle.std.proofs.lemmas.List.Folds.{list_all-append, list_any-append}
 use Rattle.dtx_values.specs.declared.entry.Ask.TheVariants.{Promote}
 use Rattle.dtx_values.specs.declared.entry.Entry.{Entry}
 use Rattle.dtx_values.specs.declared.entry.Entry.TheVariants.{Asked, Called, Down as End, Enlisted, Got, Promoted, Promoting, Sent, Stopped}
@@ -68,20 +68,12 @@ pub apt_when : {h : List Entry} (b : Bool) {x y : List Entry} → (b ≡ true �
 apt_when true p q = p refl
 apt_when false p q = q refl
 
-has-append : (p : Entry → Bool) (xs ys : List Entry) → has p (xs ++ ys) ≡ (has p xs || has p ys)
-has-append p [] ys = refl
-has-append p (x ∷ xs) ys = by (p x) (has p xs) (has p ys) (has p (xs ++ ys)) (has-append p xs ys)
-  where
-    by : (a b c d : Bool) → d ≡ (b || c) → (a || d) ≡ ((a || b) || c)
-    by true b c d e = refl
-    by false b c d e = e
-
 pub apt_join : {h x y : List Entry} → Apt h x → Apt h y → Apt h (x ++ y)
 apt_join {h} {x} {y} p q =
     record {
       proof = list_all-append (is_apt h) x y ∙ both (each (is_apt h) x) (each (is_apt h) y) p.proof q.proof;
       fails =
-          by (has is_decision x) (has is_decision y) (has is_failed x) (has is_failed y) (has is_decision (x ++ y)) (has is_failed (x ++ y)) (has-append is_decision x y) (has-append is_failed x y) p.fails q.fails;
+          by (has is_decision x) (has is_decision y) (has is_failed x) (has is_failed y) (has is_decision (x ++ y)) (has is_failed (x ++ y)) (list_any-append is_decision x y) (list_any-append is_failed x y) p.fails q.fails;
     }
   where
     by : (a b c d u v : Bool) → u ≡ (a || b) → v ≡ (c || d) → (a || not c) ≡ true → (b || not d) ≡ true → (u || not v) ≡ true

@@ -47,14 +47,14 @@ use Rattle.dtx_model.specs.Steps.{called}
 use Rattle.dtx_model.specs.Wires.{holds, in_transit, is_ended, is_stopped, lost_since, loses, opens}
 use Rattle.dtx_model.specs.Words.{each, has, latest, onto}
 use Rattle.dtx_model.specs.World.{World, answer_at, facts_at, half, core, is_connected, is_finished_there, is_linked, reenlist_by, reenlist_facts, unless_stopped}
-use Rattle.dtx_model.proofs.Bools.{and_left, and_right, not_both, not_false, not_true, or_case, or_first, or_second}
+use Rattle.dtx_model.proofs.Bools.{and_left, and_right, not_both, not_false, not_true, or_case, or_second}
 use Rattle.outcome_law.proofs.Crossed.{is_sent_on}
 use Rattle.outcome_law.proofs.HalfKnows.{way_seen}
 use Rattle.outcome_law.proofs.HalfReplies.{owed}
 use Rattle.outcome_law.proofs.Makers.{AreMade, makes_lasting}
 use Rattle.outcome_law.proofs.Messages.{ENLIST}
 use Rattle.outcome_law.proofs.Owned.{decision_seen, has_rows}
-use Rattle.outcome_law.proofs.Picks.{found_at, has-at}
+use Rattle.outcome_law.proofs.Picks.{found_at, has-at, none_each}
 use Rattle.outcome_law.proofs.Scans.{has_more}
 use Rattle.outcome_law.proofs.Tests.{first_of_four, second_of_four, third_of_four}
 use Rattle.tx_world.proofs.SendingApt.{can_same}
@@ -82,15 +82,6 @@ unstarted h p w d f =
 unbegun : (h : List Entry) → has is_start h ≡ false → Opened h → has (opens Begin) h ≡ false
 unbegun h n i = false_from_ne_true (has (opens Begin) h) (λ o. not_both (has is_start h) (i.begun o) n)
 
--- none passes: each fails
-none_each : {A : Type 0} (p : A → Bool) (xs : List A) → has p xs ≡ false → each (λ x. not (p x)) xs ≡ true
-none_each p [] n = refl
-none_each p (x ∷ xs) n = two (not (p x)) (each (λ y. not (p y)) xs) (not_false (p x) (or_first (p x) (has p xs) n)) (none_each p xs (or_second (p x) (has p xs) n))
-  where
-    two : (a b : Bool) → a ≡ true → b ≡ true → (a && b) ≡ true
-    two true b p q = q
-    two false b p q = absurd cc
-
 -- A promotion begins: BEGIN is sent where there is no promotable.
 start_block : (h : List Entry) (v : Half) (c : Option Cause) → v.seen.table ≡ rows h → has is_start h ≡ false → Ends h → Ends (onto h (begin_promotion v c))
 start_block h v None q n i = i
@@ -98,7 +89,7 @@ start_block h v (Some c) q n i =
     let next = start_ends h c n i in
     ends_if (Promoting c ∷ h) (has (λ x. is_promotable x.class) v.seen.table) [] (Sent Begin Up BeginBegin ∷ []) (λ b. next)
     (λ b. begin_ends (Promoting c ∷ h) (unbegun h n i.opened) refl
-    (inr (none_each (λ x. is_promotable x.1) (enlisted h)
+    (inr (none_each (λ x. is_promotable x.1) (λ x. not (is_promotable x.1)) (λ x u. not_false (is_promotable x.1) u) (enlisted h)
     (sym (has_rows (λ e d. is_promotable d) h) ∙ ap (has (λ (x : Row). is_promotable x.class)) (sym q) ∙ b))) next)
 
 -- A call was done where nothing is decided.
