@@ -4,3 +4,13 @@ pub mod Far
 pub mod Ended
 pub mod Carrying
 pub mod Onward
+pub mod SendingApt
+pub mod SendingBlocks
+pub mod SendingKnown
+pub mod SendingOpened
+pub mod SendingOnce
+pub mod SendingEnds
+pub mod SendingPlaces
+pub mod SendingOpenings
+pub mod SendingCalls
+pub mod Sendable
