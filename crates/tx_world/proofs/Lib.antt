@@ -3,6 +3,7 @@ pub mod Near
 pub mod Far
 pub mod Ended
 pub mod Carrying
+pub mod Arriving
 pub mod Onward
 pub mod SendingApt
 pub mod SendingBlocks
@@ -14,3 +15,5 @@ pub mod SendingPlaces
 pub mod SendingOpenings
 pub mod SendingCalls
 pub mod Sendable
+pub mod Begun
+pub mod Written

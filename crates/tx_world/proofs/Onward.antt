@@ -17,9 +17,9 @@ use Rattle.dtx_values.specs.declared.number.TxNo.{TxNo}
 use Rattle.dtx_model.specs.Words.{each, has, kth, onto}
 use Rattle.dtx_model.specs.Outcome.{is_empty}
 use Rattle.dtx_model.specs.Observed.{track}
-use Rattle.dtx_model.specs.Coordinated.{Coordinated, follow, follow_all}
+use Rattle.dtx_model.specs.Coordinated.{Coordinated, coordinate, follow, follow_all, nothing}
 use Rattle.dtx_model.specs.declared.waiting.EnteredCall.{EnteredCall}
-use Rattle.dtx_model.specs.Half.{Half, heeds, heeds_all}
+use Rattle.dtx_model.specs.Half.{Half, half_of, heeds, heeds_all}
 use Rattle.dtx_model.specs.Acts.{act_entries}
 use Rattle.dtx_model.specs.Replies.{due_of, fits, reply_entries}
 use Rattle.dtx_model.specs.World.{World, half, core}
@@ -36,6 +36,24 @@ use Rattle.tx_world.specs.Course.{is_far, is_near}
 use Rattle.tx_world.specs.Kept.{Kept, stop_if, stopped_if}
 use Rattle.tx_world.proofs.Blocks.{Each}
 use Rattle.tx_world.proofs.Near.{near_act, near_reply}
+
+-- a world to which nothing happened yet
+pub new_kept : (t : TxNo) (ks : List EnteredCall) (past : List Entry) (h : Known) (k : CoreKept) → ks ≡ [] → past ≡ [] → h ≡ record { transaction = t; half = half_of [] [] }
+    → k ≡ record { transaction = t; state = nothing } → Kept t (record { calls = ks; past = past }) h k
+unfolding coordinate
+new_kept t ks past h k no_calls no_past is_half is_core = record {
+  ran = ([], (no_calls, no_past));
+  once = λ n m a b c d x i j. absurd (none n a c (subst (λ ls. IsIn ls n a c) no_calls i));
+  half = is_half ∙ (λ j. record { transaction = t; half = half_of (sym no_calls j) (sym no_past j) });
+  core = is_core ∙ (λ j. record { transaction = t; state = coordinate (sym no_past j) });
+}
+  where
+    none : (n : ℕ) (a : ActorNo) (c : Call) → IsIn [] n a c → ⊥
+    none n a c i = by i.place i.stands
+      where
+        by : (p : ℕ) → kth {A = EnteredCall} [] p ≡ Some (record { line = n; actor = a; call = c }) → ⊥
+        by zero s = cc
+        by (suc p) s = cc
 
 -- a call that was entered stays so
 pub still_in : (k : EnteredCall) (ks : List EnteredCall) (n : ℕ) (a : ActorNo) (c : Call) → IsIn ks n a c → IsIn (k ∷ ks) n a c

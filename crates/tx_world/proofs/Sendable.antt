@@ -131,7 +131,7 @@ ran_direct : (G : ℕ → ActorNo → Call → Type 0) (t : ℕ) (ms : List Step
 ran_direct G t [] w r = ap (always is_direct) r.1
 ran_direct G t (m ∷ ms) w r = subst (λ (x : World). always is_direct x.past ≡ true) (sym r.3) (step_direct t r.0 m (ran_direct G t ms r.0 r.1))
 
-ran_ends : (G : ℕ → ActorNo → Call → Type 0) (t : ℕ) (ms : List Step) (w : World) → is_id (identifier_of t) ≡ true → AreMadeOnce G → Ran G t ms w → Ends w.past
+pub ran_ends : (G : ℕ → ActorNo → Call → Type 0) (t : ℕ) (ms : List Step) (w : World) → is_id (identifier_of t) ≡ true → AreMadeOnce G → Ran G t ms w → Ends w.past
 ran_ends G t [] w v once r = subst Ends (sym r.1) none_ends
 ran_ends G t (m ∷ ms) w v once r =
     let before : Before G r.0 = record { direct = ran_direct G t ms r.0 r.1; made = ran_made G t ms r.0 r.1; lines = ran_lines G t ms r.0 r.1; wires = wire_run G t ms r.0 r.1 } in

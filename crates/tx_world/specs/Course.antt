@@ -1,9 +1,12 @@
 -- The history of a transaction with the connections that carry it, as contracts see it; and which entries a block may have beside messages that are got, ends and losses.
-use Rattle.std.specs.Prelude.{ℕ, ◌≤◌, Bool, true, false, List}
+use Rattle.std.specs.Prelude.{ℕ, ◌≤◌, Bool, true, false, List, Option, Some, None}
 use Rattle.dtx_values.specs.declared.entry.Entry.{Entry}
 use Rattle.dtx_values.specs.declared.entry.Entry.TheVariants.{Sent, Got, Cut, Down as Ended, Stopped, Restarted, Logged, LogFull, Freed, Recovered}
 use Rattle.dtx_values.specs.declared.message.Conn.{Conn}
 use Rattle.dtx_values.specs.declared.message.Dir.TheVariants.{Up, Down}
+use Rattle.dtx_values.specs.declared.message.Dir.{Dir}
+use Rattle.oletx_session.specs.declared.session.Delivered.{Delivered}
+use Rattle.oletx_session.specs.declared.session.Delivered.TheVariants.{Msg, End}
 use Rattle.oletx_session.specs.Traffic.{Wire}
 use Rattle.oletx_session.specs.Carries.{IsStarted, IsStartedLost}
 
@@ -53,3 +56,9 @@ is_near _ = true
 abbrev pub is_far : Entry → Bool
 is_far (Sent c Down m) = true
 is_far _ = false
+
+-- the entry of what came on a connection in this direction, where something did
+abbrev pub arrival : Conn → Dir → Option Delivered → Option Entry
+arrival c d (Some (Msg m)) = Some (Got c d m)
+arrival c d (Some End) = Some (Ended c d)
+arrival c d _ = None

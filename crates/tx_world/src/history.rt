@@ -12,7 +12,7 @@ ghost use Rattle.dtx_model.specs.World.{cut, has_left, is_linked};
 ghost use Rattle.oletx_session.specs.declared.session.Delivered.{Delivered};
 ghost use Rattle.oletx_session.specs.Carries.{Carries};
 ghost use Rattle.tx_world.specs.Carried.{are_sendable, is_sendable};
-ghost use Rattle.tx_world.specs.Course.{Course, IsOpened, is_written};
+ghost use Rattle.tx_world.specs.Course.{Course, IsOpened, arrival, is_written};
 
 use dtx_values::{Conn, Dir, Entry, Message, ROOM, is_opening};
 use oletx_session::{Delivered, Session};
@@ -107,6 +107,17 @@ fn carry(session: &mut Session, stopped: bool, x: &Entry)
     }
 }
 
+/// The entry of what came, where something did.
+fn arrival(c: Conn, d: Dir, came: &Option<Delivered>) -> Option<Entry>
+    ensures { result ≡ arrival c d came.now }
+{
+    match came {
+        Some(Delivered::Msg(m)) => Some(Entry::Got(c, d, *m)),
+        Some(Delivered::End) => Some(Entry::Down(c, d)),
+        _ => None,
+    }
+}
+
 impl History {
     /// Of a transaction to which nothing happened yet.
     pub(crate) fn new(alloc: Global) -> Result<History, AllocError>
@@ -194,10 +205,8 @@ impl History {
         ensures send_room { self.old.send_room ≤ self.new.send_room }
     {
         let came = self.session.deliver(c, d);
-        match came {
-            Some(Delivered::Msg(m)) => self.entries.push_reserved(Entry::Got(c, d, m)),
-            Some(Delivered::End) => self.entries.push_reserved(Entry::Down(c, d)),
-            _ => {}
+        if let Some(x) = arrival(c, d, &came) {
+            self.entries.push_reserved(x);
         }
         came
     }

@@ -7,39 +7,36 @@ use Rattle.dtx_model.specs.Words.{past_of}
 use Rattle.dtx_model.specs.Wires.{MayCross, WireRun}
 use Rattle.dtx_model.specs.World.{has_left}
 use Rattle.dtx_model.proofs.Histories.{past_of-snoc}
-use Rattle.oletx_session.specs.declared.session.Delivered.{Delivered}
-use Rattle.oletx_session.specs.declared.session.Delivered.TheVariants.{Msg}
 use Rattle.oletx_session.specs.Carries.{Carries}
 use Rattle.tx_world.specs.Course.{Course}
+use Rattle.tx_world.proofs.Arriving.{arrived_kept, arrived_message}
 use Rattle.tx_world.proofs.Ended.{left_is}
 use Rattle.tx_world.proofs.history.History.deliver.Goals as goal
 
 pub invariant_of-self : goal.invariant_of-self
 invariant_of-self c =
-    let m = c.in-Some-Msg.m in
     let h = past_of c.self.inside.entries.items in
-    let a = c.in-Some-Msg.is in
-    let b = c.in-Some-Msg.field-0-is in
-    let is : c.deliver-came.result ≡ Some (Msg m) = cc in
-    let came = c.deliver-came.ensures.got m h is c.self.invariant.0 in
-    let lined = c.requires.lined m (subst (λ (g : List Entry). MayCross g (Got c.args.c c.args.d m)) (ap (λ (x : Course). x.past) c.self.view_is) came.0) in
-    let same = ap (λ (xs : List Entry). past_of xs) c.push_reserved.ensures.items ∙ past_of-snoc c.self.inside.entries.items (Got c.args.c c.args.d m) in
-    subst (λ (g : List Entry). Carries c.deliver-came.new.self.wires g × WireRun g) (sym same) (came.1 lined, (came.0, c.self.invariant.1))
+    let x = c.in-Some.x in
+    let e = c.deliver-came.ensures in
+    let came = sym c.arrival.ensures ∙ c.in-Some.is in
+    let before = ap (λ (y : Course). y.past) c.self.view_is in
+    let lined = λ (m : Message) (k : MayCross h (Got c.args.c c.args.d m)). c.requires.lined m (subst (λ (g : List Entry). MayCross g (Got c.args.c c.args.d m)) before k) in
+    let same = ap (λ (xs : List Entry). past_of xs) c.push_reserved.ensures.items ∙ past_of-snoc c.self.inside.entries.items x in
+    subst (λ (g : List Entry). Carries c.deliver-came.new.self.wires g × WireRun g) (sym same)
+    (arrived_kept c.args.c c.args.d c.deliver-came.result x c.self.inside.session.wires c.deliver-came.new.self.wires h came c.self.invariant.0 c.self.invariant.1 e.got e.down lined)
 
-pub returns-in-Some-Msg-clause-message : goal.returns-in-Some-Msg-clause-message
-returns-in-Some-Msg-clause-message c n e =
-    let m = c.in-Some-Msg.m in
+pub returns-in-Some-clause-message : goal.returns-in-Some-clause-message
+returns-in-Some-clause-message c n e =
     let h = past_of c.self.inside.entries.items in
-    let a = c.in-Some-Msg.is in
-    let b = c.in-Some-Msg.field-0-is in
-    let one : m ≡ n = cc in
-    let same = ap (λ (xs : List Entry). past_of xs) c.push_reserved.ensures.items ∙ past_of-snoc c.self.inside.entries.items (Got c.args.c c.args.d m) in
-    let before = ap (λ (x : Course). x.past) c.self.view_is in (
+    let x = c.in-Some.x in
+    let came = sym c.arrival.ensures ∙ c.in-Some.is in
+    let before = ap (λ (y : Course). y.past) c.self.view_is in
+    let same = ap (λ (xs : List Entry). past_of xs) c.push_reserved.ensures.items ∙ past_of-snoc c.self.inside.entries.items x in (
       subst (λ (g : List Entry). MayCross g (Got c.args.c c.args.d n)) before (c.deliver-came.ensures.got n h e c.self.invariant.0).0,
-      same ∙ ap (λ (g : List Entry). Got c.args.c c.args.d m ∷ g) before ∙ ap (λ (x : Message). Got c.args.c c.args.d x ∷ c.args.self.now.past) one,
+      same ∙ ap (λ (g : List Entry). x ∷ g) before ∙ ap (λ (y : Entry). y ∷ c.args.self.now.past) (arrived_message c.args.c c.args.d c.deliver-came.result x n came e),
     )
 
-pub returns-2-clause-none : goal.returns-2-clause-none
-returns-2-clause-none c =
+pub returns-in_default-clause-none : goal.returns-in_default-clause-none
+returns-in_default-clause-none c =
     let same = left_is c.args.c c.args.d c.self.inside.session.wires (past_of c.self.inside.entries.items) c.self.invariant.0 ∙ ap (λ (x : Course). has_left c.args.c c.args.d x.past) c.self.view_is in
     (λ n. sym same ∙ c.deliver-came.ensures.none.0 n, λ l. c.deliver-came.ensures.none.1 (same ∙ l))

@@ -1,0 +1,92 @@
+use Rattle.std.proofs.Common.{◌≡◌, List, Option, Bool, true, not, is_some, refl, ap, sym, ◌∙◌, subst, if◌then◌else◌}
+use Rattle.dtx_values.specs.declared.note.Note.{Note}
+use Rattle.dtx_model.specs.Words.{has, past_of}
+use Rattle.dtx_model.specs.Caused.{is_begin_sent}
+use Rattle.dtx_model.specs.Half.{Half}
+use Rattle.dtx_model.specs.Log.{CommitRecord, record_of}
+use Rattle.std.specs.Option.{option_map}
+use Rattle.dtx_model.specs.Replies.{due_of}
+use Rattle.dtx_model.specs.World.{World, half}
+use Rattle.dtx_model.specs.Steps.{Step, Replies, Acts}
+use Rattle.local_half.specs.Half.{fits_due}
+use Rattle.coordinator_log.specs.State.{LogState}
+use Rattle.tx_world.specs.State.{TxState}
+use Rattle.tx_world.specs.Stepping.{Does}
+use Rattle.tx_world.proofs.Onward.{half_is}
+use Rattle.tx_world.proofs.Written.{Ready, reply_ready, block_sendable, does_step, stopped_is, world_written, written_kept}
+use Rattle.tx_world.proofs.world.TxWorld.reply.Goals as goal
+
+pub write_near-begins-requires-clause-written : goal.write_near-begins-requires-clause-written
+write_near-begins-requires-clause-written g c =
+    let i = c.self.inside in
+    let w : World = record { calls = past_of i.calls.items; past = i.history.past } in
+    let xs = c.entries.result.now in
+    let t = i.transaction in
+    let due = c.reply.ensures.due in
+    let fit = ap (λ (x : Half). fits_due c.args.r (due_of x.seen c.args.e.value)) (half_is t w i.half i.core c.self.invariant ∙ ap (λ (x : TxState). half x.world) c.self.view_is) ∙ c.requires.fits in
+    let ready : Ready t w (Replies c.args.e c.args.r) c.reply.new.self i.core xs =
+    reply_ready t w i.half c.reply.new.self i.core c.args.e c.args.r c.clear.new.self c.reply.new.out xs c.self.invariant (sym due ∙ c.if-not-reply.false) fit (c.reply.ensures.state c.if-not-reply.false) c.entries.ensures.value (c.reply.ensures.out c.if-not-reply.false) c.clear.ensures in
+    ready.written
+
+pub write_near-begins-requires-clause-sendable : goal.write_near-begins-requires-clause-sendable
+write_near-begins-requires-clause-sendable g c =
+    let i = c.self.inside in
+    let w : World = record { calls = past_of i.calls.items; past = i.history.past } in
+    let xs = c.entries.result.now in
+    let t = i.transaction in
+    let due = c.reply.ensures.due in
+    let fit = ap (λ (x : Half). fits_due c.args.r (due_of x.seen c.args.e.value)) (half_is t w i.half i.core c.self.invariant ∙ ap (λ (x : TxState). half x.world) c.self.view_is) ∙ c.requires.fits in
+    let ready : Ready t w (Replies c.args.e c.args.r) c.reply.new.self i.core xs =
+    reply_ready t w i.half c.reply.new.self i.core c.args.e c.args.r c.clear.new.self c.reply.new.out xs c.self.invariant (sym due ∙ c.if-not-reply.false) fit (c.reply.ensures.state c.if-not-reply.false) c.entries.ensures.value (c.reply.ensures.out c.if-not-reply.false) c.clear.ensures in
+    block_sendable t.value w (Replies c.args.e c.args.r) c.reserve.new.self.past xs ready.may c.in_ok-reserve.ensures.same ready.block
+
+pub write_near-begins-requires-clause-stopped : goal.write_near-begins-requires-clause-stopped
+write_near-begins-requires-clause-stopped g c =
+    let i = c.self.inside in
+    let w : World = record { calls = past_of i.calls.items; past = i.history.past } in
+    stopped_is i.transaction w i.half i.core c.reserve.new.self.past c.self.invariant c.in_ok-reserve.ensures.same
+
+pub write_near-begins-requires-clause-runs : goal.write_near-begins-requires-clause-runs
+write_near-begins-requires-clause-runs g c =
+    let i = c.self.inside in
+    let w : World = record { calls = past_of i.calls.items; past = i.history.past } in
+    let xs = c.entries.result.now in
+    let t = i.transaction in
+    let due = c.reply.ensures.due in
+    let fit = ap (λ (x : Half). fits_due c.args.r (due_of x.seen c.args.e.value)) (half_is t w i.half i.core c.self.invariant ∙ ap (λ (x : TxState). half x.world) c.self.view_is) ∙ c.requires.fits in
+    let ready : Ready t w (Replies c.args.e c.args.r) c.reply.new.self i.core xs =
+    reply_ready t w i.half c.reply.new.self i.core c.args.e c.args.r c.clear.new.self c.reply.new.out xs c.self.invariant (sym due ∙ c.if-not-reply.false) fit (c.reply.ensures.state c.if-not-reply.false) c.entries.ensures.value (c.reply.ensures.out c.if-not-reply.false) c.clear.ensures in
+    ready.runs
+
+pub invariant_of-self-2 : goal.invariant_of-self-2
+invariant_of-self-2 g c =
+    let i = c.self.inside in
+    let w : World = record { calls = past_of i.calls.items; past = i.history.past } in
+    let xs = c.entries.result.now in
+    let t = i.transaction in
+    let due = c.reply.ensures.due in
+    let fit = ap (λ (x : Half). fits_due c.args.r (due_of x.seen c.args.e.value)) (half_is t w i.half i.core c.self.invariant ∙ ap (λ (x : TxState). half x.world) c.self.view_is) ∙ c.requires.fits in
+    let ready : Ready t w (Replies c.args.e c.args.r) c.reply.new.self i.core xs =
+    reply_ready t w i.half c.reply.new.self i.core c.args.e c.args.r c.clear.new.self c.reply.new.out xs c.self.invariant (sym due ∙ c.if-not-reply.false) fit (c.reply.ensures.state c.if-not-reply.false) c.entries.ensures.value (c.reply.ensures.out c.if-not-reply.false) c.clear.ensures in
+    let e = c.write_near-begins.ensures in
+    written_kept t w (Replies c.args.e c.args.r) c.args.log.now.is_up c.reply.new.self i.core c.write_near-begins.new.core (past_of i.calls.items) c.reserve.new.self.past c.write_near-begins.new.history.past xs ready.kept ready.runs refl
+    c.in_ok-reserve.ensures.same ready.block e.past e.core
+
+pub returns-clause-done : goal.returns-clause-done
+returns-clause-done g c d =
+    let i = c.self.inside in
+    let w : World = record { calls = past_of i.calls.items; past = i.history.past } in
+    let xs = c.entries.result.now in
+    let t = i.transaction in
+    let due = c.reply.ensures.due in
+    let fit = ap (λ (x : Half). fits_due c.args.r (due_of x.seen c.args.e.value)) (half_is t w i.half i.core c.self.invariant ∙ ap (λ (x : TxState). half x.world) c.self.view_is) ∙ c.requires.fits in
+    let ready : Ready t w (Replies c.args.e c.args.r) c.reply.new.self i.core xs =
+    reply_ready t w i.half c.reply.new.self i.core c.args.e c.args.r c.clear.new.self c.reply.new.out xs c.self.invariant (sym due ∙ c.if-not-reply.false) fit (c.reply.ensures.state c.if-not-reply.false) c.entries.ensures.value (c.reply.ensures.out c.if-not-reply.false) c.clear.ensures in
+    let e = c.write_near-begins.ensures in
+    let same = world_written t.value w (Replies c.args.e c.args.r) c.args.log.now.is_up (past_of i.calls.items) c.reserve.new.self.past c.write_near-begins.new.history.past xs refl c.in_ok-reserve.ensures.same ready.block e.past in
+    let lives =
+    c.life_after-self-inside.ensures ∙ ap (λ b. if b then c.life.result else i.life) e.begins ∙ ap (λ n. if has is_begin_sent xs then n else i.life) c.life.ensures in
+    let v : World = record { calls = past_of i.calls.items; past = c.write_near-begins.new.history.past } in
+    let new : TxState = record { transaction = t; world = v; ours = option_map record_of i.ours; unsure = i.unsure; life = c.life_after-self-inside.result } in
+    subst (λ (x : TxState). Does g.D.Disk.faults (Replies c.args.e c.args.r) x c.args.log.now new c.args.log.now) c.self.view_is
+    (does_step g.D.Disk.faults (Replies c.args.e c.args.r) t w v (option_map record_of i.ours) i.unsure i.life c.life_after-self-inside.result c.args.log.now xs same ready.block lives refl)
