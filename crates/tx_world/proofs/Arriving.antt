@@ -1,5 +1,5 @@
 -- What comes on a connection is written: the connections carry the history with it.
-use Rattle.std.proofs.Common.{◌≡◌, true, false, List, ◌∷◌, Option, Some, None, refl, ap, sym, ◌∙◌, subst}
+use Rattle.std.proofs.Common.{◌≡◌, true, false, List, ◌∷◌, Option, Some, None, IfSome, refl, ap, sym, ◌∙◌, subst}
 use Rattle.dtx_values.specs.declared.entry.Entry.{Entry}
 use Rattle.dtx_values.specs.declared.entry.Entry.TheVariants.{Down as Ended, Got}
 use Rattle.dtx_values.specs.declared.message.Conn.{Conn}
@@ -7,13 +7,14 @@ use Rattle.dtx_values.specs.declared.message.Dir.{Dir}
 use Rattle.dtx_values.specs.declared.message.Message.{Message}
 use Rattle.dtx_values.specs.Lines.{has_line}
 use Rattle.dtx_model.specs.Wires.{MayCross, WireRun}
+use Rattle.oletx_frames.specs.declared.refusal.FrameRefusal.{FrameRefusal}
 use Rattle.oletx_session.specs.declared.session.Delivered.{Delivered}
-use Rattle.oletx_session.specs.declared.session.Delivered.TheVariants.{Msg, End}
+use Rattle.oletx_session.specs.declared.session.Delivered.TheVariants.{Msg, End, BadFrame}
 use Rattle.oletx_session.specs.Traffic.{Wire}
 use Rattle.oletx_session.specs.Carries.{Carries}
-use Rattle.tx_world.specs.Course.{arrival}
+use Rattle.tx_world.specs.Course.{Came, arrival}
 
-same_entry : (x y : Entry) → Some x ≡ Some y → x ≡ y
+pub same_entry : (x y : Entry) → Some x ≡ Some y → x ≡ y
 same_entry x y e = cc
 
 pub arrived_kept : (c : Conn) (d : Dir) (o : Option Delivered) (x : Entry) (ws us : List Wire) (h : List Entry) → arrival c d o ≡ Some x → Carries ws h → WireRun h
@@ -28,8 +29,10 @@ arrived_kept c d (Some End) x ws us h e k r got down lined =
     subst (λ (y : Entry). Carries us (y ∷ h) × WireRun (y ∷ h)) (same_entry (Ended c d) x e) (one.1, (one.0, r))
 arrived_kept c d _ x ws us h e k r got down lined = absurd (cc)
 
-pub arrived_message : (c : Conn) (d : Dir) (o : Option Delivered) (x : Entry) (m : Message) → arrival c d o ≡ Some x → o ≡ Some (Msg m) → x ≡ Got c d m
-arrived_message c d o x m e s = same_entry x (Got c d m) (sym e ∙ ap (arrival c d) s)
-
-pub arrived_end : (c : Conn) (d : Dir) (o : Option Delivered) (x : Entry) → arrival c d o ≡ Some x → o ≡ Some End → x ≡ Ended c d
-arrived_end c d o x e s = same_entry x (Ended c d) (sym e ∙ ap (arrival c d) s)
+-- what comes is no bad frame
+pub arrived_came : (c : Conn) (d : Dir) (o : Option Delivered) (h n : List Entry) → ((x : Entry) → arrival c d o ≡ Some x → n ≡ x ∷ h) → ((m : Message) → o ≡ Some (Msg m) → MayCross h (Got c d m))
+    → (o ≡ Some End → MayCross h (Ended c d)) → ((e : FrameRefusal) → o ≡ Some (BadFrame e) → ⊥) → IfSome o (λ x. Came c d x h n)
+arrived_came c d None h n put got down never = tt
+arrived_came c d (Some (Msg m)) h n put got down never = (got m refl, put (Got c d m) refl)
+arrived_came c d (Some End) h n put got down never = (down refl, put (Ended c d) refl)
+arrived_came c d (Some (BadFrame e)) h n put got down never = never e refl

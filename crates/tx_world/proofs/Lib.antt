@@ -16,4 +16,6 @@ pub mod SendingOpenings
 pub mod SendingCalls
 pub mod Sendable
 pub mod Begun
+pub mod Few
 pub mod Written
+pub mod Delivering

@@ -25,7 +25,7 @@ use Rattle.outcome_law.proofs.Scans.{each_more}
 use Rattle.local_half.specs.Half.{Known, after as known_after, fits_due}
 use Rattle.coordinator_core.specs.Kept.{Kept as CoreKept}
 use Rattle.coordinator_log.specs.State.{LogState}
-use Rattle.tx_world.specs.State.{TxState, life_after, turned}
+use Rattle.tx_world.specs.State.{TxState, life_after, sends_begin, turned}
 use Rattle.tx_world.specs.Stepping.{Does, IsAnswered}
 use Rattle.tx_world.specs.Carried.{are_sendable}
 use Rattle.tx_world.specs.Course.{is_far, is_near, is_written}
@@ -69,30 +69,28 @@ pub begin_runs : (t : TxNo) (w : World) (m : Step) (g : Known) (k : CoreKept) (x
 begin_runs t w m g k xs kept may block b = ap (λ (x : Coordinated). x.stopped) (core_is t w g k kept) ∙ may.runs (ap (has is_begin_sent) (sym block) ∙ b)
 
 -- the world that was written is the one after the step
-pub world_written : (t : ℕ) (w : World) (m : Step) (up : Bool) (calls : List EnteredCall) (h n xs : List Entry) → calls ≡ entered m w.calls → h ≡ w.past → xs ≡ block_at t w m
-    → n ≡ stop_if (has is_begin_sent xs && not up) (onto h xs) → record { calls = calls; past = n } ≡ turned up t w m
-world_written t w m up calls h n xs same past block wrote =
-    (λ i. record { calls = same i; past = wrote i })
-    ∙ (λ i. record { calls = entered m w.calls; past = stop_if (has is_begin_sent (block i) && not up) (onto (past i) (block i)) })
-    ∙ turned_past t w m up
+pub world_written : (t : ℕ) (w : World) (m : Step) (up begins : Bool) (calls : List EnteredCall) (past n : List Entry) → calls ≡ entered m w.calls → begins ≡ sends_begin t w m
+    → past ≡ onto w.past (block_at t w m) → n ≡ stop_if (begins && not up) past → record { calls = calls; past = n } ≡ turned up t w m
+world_written t w m up begins calls past n same sends block wrote =
+    (λ i. record { calls = same i; past = wrote i }) ∙ (λ i. record { calls = entered m w.calls; past = stop_if (sends i && not up) (block i) }) ∙ turned_past t w m up
 
 -- it holds
-pub written_kept : (t : TxNo) (w : World) (m : Step) (up : Bool) (g : Known) (k j : CoreKept) (calls : List EnteredCall) (h n xs : List Entry) → Kept t (after t.value w m) g k
-    → (has is_begin_sent xs ≡ true → k.state.stopped ≡ false) → calls ≡ entered m w.calls → h ≡ w.past → xs ≡ block_at t.value w m
-    → n ≡ stop_if (has is_begin_sent xs && not up) (onto h xs) → j ≡ stopped_if (has is_begin_sent xs && not up) k → Kept t (record { calls = calls; past = n }) g j
-written_kept t w m up g k j calls h n xs kept runs same past block wrote far =
-    subst (λ (x : World). Kept t x g j) (sym (world_written t.value w m up calls h n xs same past block wrote))
-    (turned_kept t w m up g k j kept (λ b. runs (ap (has is_begin_sent) block ∙ b)) (far ∙ ap (λ ys. stopped_if (has is_begin_sent ys && not up) k) block))
+pub written_kept : (t : TxNo) (w : World) (m : Step) (up begins : Bool) (g : Known) (k j : CoreKept) (calls : List EnteredCall) (past n : List Entry) → Kept t (after t.value w m) g k
+    → (begins ≡ true → k.state.stopped ≡ false) → calls ≡ entered m w.calls → begins ≡ sends_begin t.value w m → past ≡ onto w.past (block_at t.value w m)
+    → n ≡ stop_if (begins && not up) past → j ≡ stopped_if (begins && not up) k → Kept t (record { calls = calls; past = n }) g j
+written_kept t w m up begins g k j calls past n kept runs same sends block wrote far =
+    subst (λ (x : World). Kept t x g j) (sym (world_written t.value w m up begins calls past n same sends block wrote))
+    (turned_kept t w m up g k j kept (λ b. runs (sends ∙ b)) (far ∙ ap (λ b. stopped_if (b && not up) k) sends))
 
 -- the step was done
-pub does_step : {D : Type 0} (faults : D → ℕ) (m : Step) (t : TxNo) (w v : World) (ours : Option CommitRecord) (unsure : Bool) (life now : ℕ) (log : LogState D) (xs : List Entry)
-    → v ≡ turned log.is_up t.value w m → xs ≡ block_at t.value w m → now ≡ (if has is_begin_sent xs then log.life else life)
+pub does_step : {D : Type 0} (faults : D → ℕ) (m : Step) (t : TxNo) (w v : World) (ours : Option CommitRecord) (unsure : Bool) (life now : ℕ) (log : LogState D) (begins : Bool)
+    → v ≡ turned log.is_up t.value w m → begins ≡ sends_begin t.value w m → now ≡ (if begins then log.life else life)
     → IsAnswered faults (record { transaction = t; world = w; ours = ours; unsure = unsure; life = life }) log log m
     → Does faults m (record { transaction = t; world = w; ours = ours; unsure = unsure; life = life }) log (record { transaction = t; world = v; ours = ours; unsure = unsure; life = now }) log
-does_step faults m t w v ours unsure life now log xs same block lives answered = record {
+does_step faults m t w v ours unsure life now log begins same sends lives answered = record {
   transaction = refl;
   world = same;
-  life = lives ∙ ap (λ ys. if has is_begin_sent ys then log.life else life) block;
+  life = lives ∙ ap (λ b. if b then log.life else life) sends;
   answered = answered;
 }
 

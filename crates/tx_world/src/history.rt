@@ -12,7 +12,7 @@ ghost use Rattle.dtx_model.specs.World.{cut, has_left, is_linked};
 ghost use Rattle.oletx_session.specs.declared.session.Delivered.{Delivered};
 ghost use Rattle.oletx_session.specs.Carries.{Carries};
 ghost use Rattle.tx_world.specs.Carried.{are_sendable, is_sendable};
-ghost use Rattle.tx_world.specs.Course.{Course, IsOpened, arrival, is_written};
+ghost use Rattle.tx_world.specs.Course.{Came, Course, IsOpened, arrival, is_written};
 
 use dtx_values::{Conn, Dir, Entry, Message, ROOM, is_opening};
 use oletx_session::{Delivered, Session};
@@ -129,12 +129,12 @@ impl History {
         })
     }
 
-    /// Makes room for a step.
+    /// Makes room for a step: [`ROOM`] (64) entries and as many messages, one that came before them, and a stop after them.
     pub(crate) fn reserve(&mut self) -> Result<(), AllocError>
         ensures same { self.new.past ≡ self.old.past }
-        ensures room { OnOk result ((65 ≤ self.new.room) × (64 ≤ self.new.start_room) × (64 ≤ self.new.send_room)) }
+        ensures room { OnOk result ((66 ≤ self.new.room) × (64 ≤ self.new.start_room) × (64 ≤ self.new.send_room)) }
     {
-        self.entries.reserve(ROOM + 1)?;
+        self.entries.reserve(ROOM + 2)?;
         self.session.reserve()
     }
 
@@ -198,8 +198,7 @@ impl History {
         requires room { 0 < self.old.room }
         ensures none { (result ≡ None) ↔ (has_left c d self.old.past ≡ false) }
         ensures unchanged { result ≡ None → self.new.past ≡ self.old.past }
-        ensures message { (m : Message) → result ≡ Some (Delivered.Msg m) → MayCross self.old.past (Got c d m) × (self.new.past ≡ Got c d m ∷ self.old.past) }
-        ensures end { result ≡ Some Delivered.End → MayCross self.old.past (End c d) × (self.new.past ≡ End c d ∷ self.old.past) }
+        ensures came { IfSome result (λ x. Came c d x self.old.past self.new.past) }
         ensures room { self.old.room ≤ self.new.room + 1 }
         ensures start_room { self.old.start_room ≤ self.new.start_room }
         ensures send_room { self.old.send_room ≤ self.new.send_room }

@@ -31,7 +31,9 @@ use outside::Disk;
 use std::alloc::Global;
 use std::marker::Model;
 
+mod deliveries;
 mod steps;
+mod stops;
 
 /// The whole of one transaction.
 #[derive(Drop)]
@@ -225,21 +227,6 @@ impl TxWorld {
     {
         let _ = &self.calls;
         Ok(0)
-    }
-
-    /// The log was stopped in this life: where that hits the transaction, its coordinator stops.
-    ///
-    /// # Errors
-    ///
-    /// [`WorldError::Memory`] where memory ran out, and then nothing was done.
-    pub fn coordinator_stopped(&mut self, life: u64) -> Result<(), WorldError>
-        ensures transaction { self.new.transaction ≡ self.old.transaction }
-        ensures world { OnOk result (self.new.world ≡ (if is_hit_by life self.old then after self.old.transaction.value self.old.world Stops else self.old.world)) }
-        ensures kept { (self.new.ours ≡ self.old.ours) × (self.new.unsure ≡ self.old.unsure) × (self.new.life ≡ self.old.life) }
-        ensures memory { OnErr result (self.new ≡ self.old) }
-    {
-        let _ = &self.calls;
-        Ok(())
     }
 
     /// The log was opened again: where the coordinator lives in an earlier life, it is told whether its record was found.

@@ -20,8 +20,8 @@ fn is_begin_sent(x: &Entry) -> bool
     matches!(x, Entry::Sent(Conn::Begin, Dir::Up, Message::BeginBegin))
 }
 
-/// Whether BEGIN is sent in this block.
-fn sends_begin(block: &[Entry]) -> bool
+/// Whether BEGIN is sent by one of these entries.
+pub(crate) fn sends_begin(block: &[Entry]) -> bool
     ensures { result ≡ has is_begin_sent block.now }
 {
     block.iter().any(is_begin_sent)

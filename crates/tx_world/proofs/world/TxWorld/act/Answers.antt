@@ -1,6 +1,7 @@
 use Rattle.std.proofs.Common.{◌≡◌, List, Option, Bool, true, not, is_some, refl, ap, sym, ◌∙◌, subst, if◌then◌else◌}
+use Rattle.dtx_values.specs.declared.entry.Entry.{Entry}
 use Rattle.dtx_values.specs.declared.note.Note.{Note}
-use Rattle.dtx_model.specs.Words.{has, past_of}
+use Rattle.dtx_model.specs.Words.{has, onto, past_of}
 use Rattle.dtx_model.specs.Caused.{is_begin_sent}
 use Rattle.dtx_model.specs.Half.{Half}
 use Rattle.dtx_model.specs.Log.{CommitRecord, record_of}
@@ -61,8 +62,9 @@ invariant_of-self-2 g c =
     let ready : Ready t w Acts c.act.new.self i.core xs =
     act_ready t w i.half c.act.new.self i.core c.clear.new.self c.act.new.out xs c.self.invariant (sym c.has_act.ensures ∙ c.if-not-has_act.false) c.act.ensures.state c.entries.ensures.value c.act.ensures.out c.clear.ensures in
     let e = c.write_near-begins.ensures in
-    written_kept t w Acts c.args.log.now.is_up c.act.new.self i.core c.write_near-begins.new.core (past_of i.calls.items) c.reserve.new.self.past c.write_near-begins.new.history.past xs ready.kept ready.runs refl
-    c.in_ok-reserve.ensures.same ready.block e.past e.core
+    let past = ap (λ (h : List Entry). onto h xs) c.in_ok-reserve.ensures.same ∙ ap (onto w.past) ready.block in
+    written_kept t w Acts c.args.log.now.is_up (has is_begin_sent xs) c.act.new.self i.core c.write_near-begins.new.core (past_of i.calls.items) (onto c.reserve.new.self.past xs) c.write_near-begins.new.history.past ready.kept
+    ready.runs refl (ap (has is_begin_sent) ready.block) past e.past e.core
 
 pub returns-clause-done : goal.returns-clause-done
 returns-clause-done g c d =
@@ -73,10 +75,12 @@ returns-clause-done g c d =
     let ready : Ready t w Acts c.act.new.self i.core xs =
     act_ready t w i.half c.act.new.self i.core c.clear.new.self c.act.new.out xs c.self.invariant (sym c.has_act.ensures ∙ c.if-not-has_act.false) c.act.ensures.state c.entries.ensures.value c.act.ensures.out c.clear.ensures in
     let e = c.write_near-begins.ensures in
-    let same = world_written t.value w Acts c.args.log.now.is_up (past_of i.calls.items) c.reserve.new.self.past c.write_near-begins.new.history.past xs refl c.in_ok-reserve.ensures.same ready.block e.past in
+    let past = ap (λ (h : List Entry). onto h xs) c.in_ok-reserve.ensures.same ∙ ap (onto w.past) ready.block in
+    let sends = ap (has is_begin_sent) ready.block in
+    let same = world_written t.value w Acts c.args.log.now.is_up (has is_begin_sent xs) (past_of i.calls.items) (onto c.reserve.new.self.past xs) c.write_near-begins.new.history.past refl sends past e.past in
     let lives =
     c.life_after-self-inside.ensures ∙ ap (λ b. if b then c.life.result else i.life) e.begins ∙ ap (λ n. if has is_begin_sent xs then n else i.life) c.life.ensures in
     let v : World = record { calls = past_of i.calls.items; past = c.write_near-begins.new.history.past } in
     let new : TxState = record { transaction = t; world = v; ours = option_map record_of i.ours; unsure = i.unsure; life = c.life_after-self-inside.result } in
     subst (λ (x : TxState). Does g.D.Disk.faults Acts x c.args.log.now new c.args.log.now) c.self.view_is
-    (does_step g.D.Disk.faults Acts t w v (option_map record_of i.ours) i.unsure i.life c.life_after-self-inside.result c.args.log.now xs same ready.block lives refl)
+    (does_step g.D.Disk.faults Acts t w v (option_map record_of i.ours) i.unsure i.life c.life_after-self-inside.result c.args.log.now (has is_begin_sent xs) same sends lives refl)
