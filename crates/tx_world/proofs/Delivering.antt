@@ -1,5 +1,5 @@
 -- What comes on a connection: it has a line, there is room for it, and what it makes is the block of its delivery.
-use Rattle.std.proofs.Common.{◌≡◌, ℕ, Bool, true, false, ◌&&◌, ◌||◌, not, List, [], ◌∷◌, ◌++◌, Option, Some, None, refl, ap, sym, subst, ◌∙◌}
+use Rattle.std.proofs.Common.{◌≡◌, ℕ, Bool, true, false, ◌&&◌, ◌||◌, not, List, [], ◌∷◌, ◌++◌, ◌↔◌, Option, Some, None, refl, ap, sym, subst, ◌∙◌}
 use Rattle.std.proofs.lemmas.Bool.{or_left}
 use Rattle.dtx_values.specs.declared.call.Call.{Call}
 use Rattle.dtx_values.specs.declared.entry.Entry.{Entry}
@@ -270,3 +270,11 @@ down_ready t w h g k c x o p n xs kept left came local value wrote clear =
       sends = sends;
       runs = λ b. ap (λ (s : Coordinated). s.stopped) (core_is t w h k kept) ∙ may.runs (sym sends ∙ b);
     }
+
+-- something was left where something came
+pub some_left : (b : Bool) (x : Delivered) → (Some x ≡ None) ↔ (b ≡ false) → b ≡ true
+some_left true x k = refl
+some_left false x k = absurd (not_none x (k.1 refl))
+  where
+    not_none : (x : Delivered) → Some x ≡ None → ⊥
+    not_none x e = cc

@@ -19,3 +19,4 @@ pub mod Begun
 pub mod Few
 pub mod Written
 pub mod Delivering
+pub mod Stopping

@@ -1,5 +1,5 @@
 //! What a stop of the log makes of a transaction.
-ghost use Rattle.std.specs.Prelude.{◌≡◌, OnOk, OnErr, true, if◌then◌else◌};
+ghost use Rattle.std.specs.Prelude.{◌≡◌, ◌&&◌, not, nat_le, OnOk, OnErr, true, if◌then◌else◌};
 ghost use Rattle.dtx_model.specs.Steps.{Stops, after};
 ghost use Rattle.tx_world.specs.State.{is_hit_by};
 
@@ -7,12 +7,24 @@ use super::TxWorld;
 use crate::refusal::WorldError;
 use crate::writing::sends_begin;
 
+/// Whether a stop of a life of the log hits who began in its own life.
+fn is_hit(begun: bool, stopped: bool, own: u64, life: u64) -> bool
+    ensures { result ≡ (begun && not stopped && nat_le own life) }
+{
+    begun && !stopped && own <= life
+}
+
 impl TxWorld {
     /// Whether a stop of this life of the log hits it.
     fn is_hit_by(&self, life: u64) -> bool
         ensures { result ≡ is_hit_by life self.now }
     {
-        sends_begin(self.history.entries()) && !self.core.is_stopped() && self.life <= life
+        is_hit(
+            sends_begin(self.history.entries()),
+            self.core.is_stopped(),
+            self.life,
+            life,
+        )
     }
 
     /// The log was stopped in this life: where that hits the transaction, its coordinator stops.
