@@ -20,3 +20,4 @@ pub mod Few
 pub mod Written
 pub mod Delivering
 pub mod Stopping
+pub mod Listing

@@ -3,6 +3,8 @@
 
 mod hearing;
 mod history;
+mod pending;
+mod plans;
 mod refusal;
 mod world;
 mod writing;
