@@ -1,4 +1,5 @@
 pub mod Blocks
+pub mod Bare
 pub mod Near
 pub mod Far
 pub mod Ended
@@ -21,3 +22,4 @@ pub mod Written
 pub mod Delivering
 pub mod Stopping
 pub mod Listing
+pub mod Entering
