@@ -20,3 +20,10 @@ pub mod Few
 pub mod Written
 pub mod Delivering
 pub mod Stopping
+pub mod Records
+pub mod Keeping
+pub mod Fitting
+pub mod Answering
+pub mod Freeing
+pub mod Found
+pub mod Living

@@ -282,4 +282,3 @@ near_gone h e = e_cons (LostEntry e) refl (near_gone_decides (sees h (LostEntry 
 pub near_reenlist : (t : ℕ) (b : Option Branch) → Each is_near (reenlist_facts t b)
 near_reenlist t (Some b) = e_cons (Reenlisted b.enlistment) refl (e_one (Sent (Again b.enlistment) Up (ReenlistReenlist (info t b.enlistment b.manager))) refl)
 near_reenlist t None = e_none
-
