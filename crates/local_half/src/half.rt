@@ -7,6 +7,7 @@ ghost use Rattle.dtx_values.specs.declared.entry.Answer.TheVariants.{Fine, Wait}
 ghost use Rattle.dtx_values.specs.declared.entry.Ask.TheVariants.{Prepare};
 ghost use Rattle.dtx_values.specs.declared.entry.Entry.TheVariants.{Answered, Asked, Decided, Down as Ended, Enlisted, Got, Promoting, Reenlisted, Sent, Told};
 ghost use Rattle.dtx_values.specs.declared.message.Dir.TheVariants.{Up, Down};
+ghost use Rattle.dtx_values.specs.declared.limits.TheConstants.{CONNECTIONS, DURABLES, ENLISTMENTS};
 ghost use Rattle.dtx_values.specs.declared.words.Class.{Class};
 ghost use Rattle.dtx_values.specs.declared.number.RmNo.{RmNo};
 ghost use Rattle.dtx_model.specs.declared.waiting.Wanted.TheVariants.{Place};
@@ -30,7 +31,7 @@ use crate::waits::{self, wanted_by};
 use dependent_clones::Clones;
 use dtx_model::{Branch, Listener, Wanted};
 use dtx_values::{
-    Answer, Ask, CALLS, Call, Cause, Class, CloneKind, Conn, DURABLES, Dir, ENLISTMENTS, EnlNo,
+    Answer, Ask, CALLS, Call, Cause, Class, CloneKind, Conn, DURABLES, Dir, ENLISTMENTS, End, EnlNo,
     Entry, Message, Outbox, Outcome, Party, RmNo, Row, TxNo, insert_in_order,
 };
 use durable_enlist::owner_of;
@@ -298,6 +299,22 @@ impl LocalHalf {
         ensures { result ≡ self.now.half.seen.promoted }
     {
         self.handover.is_over()
+    }
+
+    /// What it knows of the connections to the coordinator, in their order.
+    pub fn ends(&self) -> &[End]
+        ensures { result.now ≡ self.now.half.seen.ends }
+    {
+        self.proxy.ends()
+    }
+
+    /// What holds of each half: there are at most 32 enlistments, and 16 of them at the coordinator. It does nothing when it runs; a caller's proof asks for it.
+    pub fn is_few(&self)
+        ensures rows { length self.now.half.seen.table ≤ ENLISTMENTS }
+        ensures branches { length self.now.half.seen.branches ≤ DURABLES }
+        ensures ends { length self.now.half.seen.ends ≤ CONNECTIONS }
+    {
+        let _ = &self.table;
     }
 
     /// The enlistments whose ENLIST was sent, in order of number.

@@ -27,3 +27,4 @@ pub mod Answering
 pub mod Freeing
 pub mod Found
 pub mod Living
+pub mod Listing

@@ -4,3 +4,4 @@ pub mod Stepping
 pub mod Carried
 pub mod Course
 pub mod Kept
+pub mod Pending

@@ -4,6 +4,8 @@
 mod at_log;
 mod hearing;
 mod history;
+mod pending;
+mod plans;
 mod refusal;
 mod world;
 mod writing;

@@ -34,6 +34,7 @@ mod at_the_log;
 mod deliveries;
 mod steps;
 mod stops;
+mod turns;
 
 /// The whole of one transaction.
 #[derive(Drop)]
@@ -172,48 +173,6 @@ impl TxWorld {
     {
         let _ = &self.calls;
         Ok(Answer::Fine)
-    }
-
-    /// How many steps are pending.
-    pub fn pending(&self) -> u32
-        ensures { result ≡ length (pending self.now.world) }
-    {
-        let _ = &self.calls;
-        0
-    }
-
-    /// The enlistment and the note of the k-th pending step, from 1, where that step is a reply.
-    pub fn due_at(&self, k: u32) -> Option<(EnlNo, Note)>
-        ensures { result ≡ reply_in self.now.world (kth (pending self.now.world) k) }
-    {
-        let _ = &self.calls;
-        None
-    }
-
-    /// Whether the k-th pending step, from 1, needs the log: it is the coordinator's act, or a reply to promote.
-    pub fn needs_log(&self, k: u32) -> bool
-        ensures { result ≡ needs_log self.now.world k }
-    {
-        let _ = &self.calls;
-        false
-    }
-
-    /// Does the k-th pending step, from 1; false exactly where fewer than k are pending, or k is 0. A reply is the planned one.
-    ///
-    /// # Errors
-    ///
-    /// [`WorldError::Memory`] where memory ran out, and then nothing was done.
-    pub fn step<D: Disk>(&mut self, log: &mut Log<D>, k: u32) -> Result<bool, WorldError>
-        requires fits { IsTrue D.honest → IsTrue log.old.is_up → Fits self.old (open_records log.old.slots) }
-        ensures none { result ≡ Ok false → (kth (pending self.old.world) k ≡ None) × (self.new ≡ self.old) × (log.new ≡ log.old) }
-        ensures some { result ≡ Ok true → DoesKth D.faults k self.old log.old self.new log.new }
-        ensures kept { IsTrue D.honest → KeepsLog D.image self.old log.old self.new log.new }
-        ensures life { log.new.life ≡ log.old.life }
-        ensures grows { D.faults log.old.disk ≤ D.faults log.new.disk }
-        ensures memory { OnErr result ((self.new ≡ self.old) × (log.new ≡ log.old)) }
-    {
-        let _ = &self.calls;
-        Ok(true)
     }
 
     /// Does the first pending step until none is left, and says how many it did.

@@ -1,0 +1,7 @@
+use Rattle.std.proofs.Common.{◌≤◌, length, subst}
+use Rattle.local_half.specs.Half.{Known}
+use Rattle.local_half.proofs.Links.{ends_few}
+use Rattle.local_half.proofs.half.LocalHalf.is_few.Goals as goal
+
+pub returns-clause-ends : goal.returns-clause-ends
+returns-clause-ends c = subst (λ (k : Known). length k.half.seen.ends ≤ 34) c.self.view_is (ends_few _ _ _ _ _ c.self.invariant.6)
