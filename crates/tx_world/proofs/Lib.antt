@@ -28,3 +28,4 @@ pub mod Freeing
 pub mod Found
 pub mod Living
 pub mod Listing
+pub mod AtTheLog

@@ -1,18 +1,13 @@
-use Rattle.std.proofs.Common.{rules, ℕ, ◌≡◌, ◌≤◌, ◌&&◌, ◌||◌, ◌∷◌, ◌↔◌, ◌⊎◌, not, nat_le, Option, Ok, IfOk, OnOk, OnErr, IfErr, IsOk, IsTrue, true, false, is_some, ◌+◌, ◌-◌, ◌*◌, ◌<◌, length, ◌/◌, ◌%◌, Bool, nat_eq, nat_lt, List, [], ◌++◌, slice_index_or, slice_set, bit_and, bit_or, w8, w32, w64, Bor, MutBor}
-use Rattle.std.specs.Option.{option_map}
-use Rattle.dtx_values.specs.declared.record.Differs.{Differs}
-use Rattle.dtx_values.specs.declared.record.LogRecord.{LogRecord}
-use Rattle.dtx_model.specs.Coordinated.{may_free, may_log}
-use Rattle.dtx_model.specs.Log.{first_of, record_of}
-use Rattle.dtx_model.specs.World.{core}
-use Rattle.dtx_model.specs.Steps.{LogAnswer, Coordinates, Restarts, after}
-use Rattle.dtx_model.specs.Caused.{may_coordinate}
-use Rattle.coordinator_log.specs.Slots.{open_records}
+use Rattle.std.proofs.Common.{◌≡◌, ◌∙◌, ap, sym, ◌&&◌, not, nat_le}
+use Rattle.dtx_model.specs.Words.{has, past_of}
+use Rattle.dtx_model.specs.Caused.{is_begin_sent}
+use Rattle.dtx_model.proofs.Reading.{has-past}
 use Rattle.tx_world.specs.State.{is_reached_by}
-use Rattle.tx_world.specs.AtLog.{Fits, KeepsLog, Tie, id_of}
-use Rattle.tx_world.specs.Stepping.{Does}
 use Rattle.tx_world.proofs.world.TxWorld.is_reached_by.Goals as goal
 
--- src/world/at_the_log.rt:58:5
 pub returns : goal.returns
-returns c = ?
+returns c =
+    c.is_reached.ensures
+    ∙ ap (λ b. b && not (nat_le c.args.life c.life.result)) (c.sends_begin.ensures ∙ sym (has-past is_begin_sent c.entries.result.now) ∙ ap (has is_begin_sent) c.entries.ensures)
+    ∙ ap (λ n. has is_begin_sent c.self.inside.history.past && not (nat_le c.args.life n)) c.life.ensures
+    ∙ ap (is_reached_by c.args.life) c.self.view_is
