@@ -1,7 +1,7 @@
 -- What stands at a place of a list that is made of parts.
-use Rattle.std.proofs.Common.{◌≡◌, ◌<◌, ◌≤◌, ℕ, zero, suc, ◌+◌, Bool, true, false, not, List, [], ◌∷◌, ◌++◌, length, map, filter, take, drop, Option, Some, None, slice_get, is_some, refl, ap, sym, subst, ◌∙◌, arith, append_assoc, length-append, length-map, ◌==◌, ◌||◌, if◌then◌else◌}
+use Rattle.std.proofs.Common.{◌≡◌, ◌<◌, ◌≤◌, ℕ, zero, suc, ◌+◌, Bool, true, false, not, List, [], ◌∷◌, ◌++◌, length, map, filter, take, drop, Option, Some, None, slice_get, is_some, refl, ap, sym, subst, ◌∙◌, arith, append_assoc, length-append, ◌==◌, ◌||◌, if◌then◌else◌}
 use Rattle.std.specs.List.{cons_option, filter_map, flat_map}
-use Rattle.std.proofs.lemmas.List.{append-nil, drop_all, take-append-drop}
+use Rattle.std.proofs.lemmas.List.{append-nil, drop_all, length-map, take-append-drop}
 use Rattle.std.proofs.lemmas.List.Concat.{flat_map-append}
 use Rattle.dtx_values.specs.declared.entry.Entry.{Entry}
 use Rattle.dtx_values.specs.declared.message.Conn.{Conn}
@@ -35,8 +35,8 @@ use Rattle.dtx_model.specs.Steps.{StepName, CoordinatorAct, ReplyOf, core_act, d
 use Rattle.tx_world.specs.declared.pending.At.{At}
 use Rattle.tx_world.specs.declared.pending.At.TheVariants.{Step as StepHere, Beyond}
 use Rattle.tx_world.specs.declared.pending.PendingStep.{PendingStep}
-use Rattle.tx_world.specs.declared.pending.PendingStep.TheVariants.{Act, Deliver, Reply as PendingReply}
-use Rattle.tx_world.specs.Pending.{IsAt, IsPlannedAt, name_of, planned_to, reply_if, reply_step, step_if}
+use Rattle.tx_world.specs.declared.pending.PendingStep.TheVariants.{Act, Coordinate, Deliver, Reply as PendingReply}
+use Rattle.tx_world.specs.Pending.{IsAt, IsDueAt, IsDueIn, IsPlannedAt, IsReply, name_of, planned_to, reply_if, reply_step, step_if}
 
 -- what stands in the first list stands there with another after it
 at_first : {A : Type 0} (xs ys : List A) (k : ℕ) (x : A) → slice_get xs k ≡ Some x → slice_get (xs ++ ys) k ≡ Some x
@@ -127,10 +127,10 @@ pub reply_some : (p : ℕ → Plan) (o : Observed) (e : EnlNo) (n : Note) (r : R
     → IsAt (step_if true (PendingReply e n r)) more a → IsAt (reply_step p o e) more a
 reply_some p o e n r more a d q i = subst (λ ms. IsAt ms more a) (sym (ap (λ (x : Option Note). reply_if e (planned_to (p e.value) x)) d ∙ ap (reply_if e) q)) i
 
-pub reply_planned : (p : ℕ → Plan) (o : Observed) (e : EnlNo) (n : Note) (r : Reply) (a : At) → due_of o e.value ≡ Some n → planned (p e.value) n ≡ Some r
-    → ((t : PendingStep) → a ≡ StepHere t → t ≡ PendingReply e n r) → IsPlannedAt p o a
-reply_planned p o e n r (StepHere s) d q only = subst (λ t. IsPlannedAt p o (StepHere t)) (sym (only s refl)) (d, q)
-reply_planned p o e n r (Beyond m) d q only = tt
+pub reply_planned : (p : ℕ → Plan) (o : Observed) (e : EnlNo) (n : Note) (r : Reply) (a : At) (b : Bool) → due_of o e.value ≡ Some n → planned (p e.value) n ≡ Some r
+    → ((t : PendingStep) → a ≡ StepHere t → (t ≡ PendingReply e n r) × (b ≡ true)) → IsPlannedAt p o a
+reply_planned p o e n r (StepHere s) b d q only = subst (λ t. IsPlannedAt p o (StepHere t)) (sym (only s refl).0) (d, q)
+reply_planned p o e n r (Beyond m) b d q only = tt
 
 -- all were taken
 pub all_taken : {A : Type 0} (xs : List A) (i : ℕ) → length xs ≤ i → take i xs ≡ xs
@@ -240,7 +240,7 @@ pending_few t w h k kept rows branches ends =
     let d = length-append replies act in
     let e : length replies ≤ length (names o) = subst (λ (ms : List StepName). length ms ≤ length (names o)) (sym (replies_are p (half w))) (length-replies p o (names o)) in
     let f = length-names o.branches (map (λ (x : Row). x.number) o.table) in
-    let g : length (map (λ (x : Row). x.number) o.table) ≡ length o.table = length-map (λ (x : Row). x.number) o.table in
+    let g : length (map (λ (x : Row). x.number) o.table) ≡ length o.table = length-map o.table (λ (x : Row). x.number) in
     let i = length-deliveries w.past o.ends in
     let j = one_act (act_entries (half w)) in
     let l = one_core (may_log (core w) || may_free (core w)) in
@@ -253,3 +253,26 @@ pending_few t w h k kept rows branches ends =
     one_core : (b : Bool) → length (if b then CoordinatorAct ∷ [] else []) ≤ 1
     one_core true = omega arith
     one_core false = omega arith
+
+-- what stands in a list stands before its end
+pub within : {A : Type 0} (xs : List A) (k : ℕ) (x : A) → slice_get xs k ≡ Some x → k < length xs
+within [] k x e = absurd (cc)
+within (y ∷ xs) zero x e = omega arith
+within (y ∷ xs) (suc k) x e = let less = within xs k x e in omega (arith, less)
+
+-- a step that is there is due
+pub reply_due : (t : TxNo) (w : World) (h : Known) (k : CoreKept) (s : PendingStep) → Kept t w h k → IsPlannedAt (plan_of w.calls) h.half.seen (StepHere s) → IsReply s → IsDueIn w s
+reply_due t w h k (PendingReply e n r) kept planned is = subst (λ (g : Half). IsPlannedAt (plan_of w.calls) g.seen (StepHere (PendingReply e n r))) (half_is t w h k kept) planned
+reply_due t w h k Act kept planned is = absurd is
+reply_due t w h k Coordinate kept planned is = absurd is
+reply_due t w h k (Deliver c d) kept planned is = absurd is
+
+pub act_due : (t : TxNo) (w : World) (h : Known) (k : CoreKept) (s : PendingStep) → Kept t w h k → s ≡ Act → is_empty (act_entries h.half) ≡ false → IsDueIn w s
+act_due t w h k s kept same some = subst (IsDueIn w) (sym same) (ap (λ (g : Half). is_empty (act_entries g)) (sym (half_is t w h k kept)) ∙ some)
+
+pub core_due : (t : TxNo) (w : World) (h : Known) (k : CoreKept) (s : PendingStep) → Kept t w h k → s ≡ Coordinate → (may_log k.state || may_free k.state) ≡ true → IsDueIn w s
+core_due t w h k s kept same some = subst (IsDueIn w) (sym same) (ap (λ (x : Coordinated). may_log x || may_free x) (sym (core_is t w h k kept)) ∙ some)
+
+pub delivery_due : (w : World) (a : At) → ((t : PendingStep) → a ≡ StepHere t → (c : Conn) × (d : Dir) × (t ≡ Deliver c d) × (has_left c d w.past ≡ true)) → IsDueAt w a
+delivery_due w (Beyond n) only = tt
+delivery_due w (StepHere s) only = let one = only s refl in subst (IsDueIn w) (sym one.2) one.3

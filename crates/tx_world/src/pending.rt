@@ -1,5 +1,5 @@
 //! The pending steps of a transaction, in their order.
-ghost use Rattle.std.specs.Prelude.{◌≡◌, ◌==◌, ◌≤◌, ◌<◌, ◌+◌, ◌++◌, IfSome, length, true, false};
+ghost use Rattle.std.specs.Prelude.{◌≡◌, ◌==◌, ◌≤◌, ◌<◌, ◌+◌, ◌++◌, ◌||◌, IfSome, length, true, false};
 ghost use Rattle.std.specs.List.{flat_map};
 ghost use Rattle.arrayvec.specs.ArrayVec.{array_vec_len};
 ghost use Rattle.dtx_values.specs.Table.{enl_number, insert_by};
@@ -9,8 +9,12 @@ ghost use Rattle.dtx_model.specs.Plans.{plan_of};
 ghost use Rattle.dtx_model.specs.Replies.{names, with_name};
 ghost use Rattle.dtx_model.specs.Steps.{core_act, deliveries_on, delivery_if, local_if, replies_due};
 ghost use Rattle.dtx_model.specs.World.{has_left};
+ghost use Rattle.dtx_model.specs.Outcome.{is_empty};
+ghost use Rattle.dtx_model.specs.Coordinated.{may_free, may_log};
+ghost use Rattle.dtx_values.specs.declared.message.Conn.{Conn};
+ghost use Rattle.dtx_values.specs.declared.message.Dir.{Dir};
 ghost use Rattle.dtx_values.specs.declared.message.Dir.TheVariants.{Up, Down};
-ghost use Rattle.tx_world.specs.Pending.{IsAt, IsPlannedAt, reply_step, step_if};
+ghost use Rattle.tx_world.specs.Pending.{IsAt, IsPlannedAt, IsReply, reply_step, step_if};
 ghost use Rattle.tx_world.specs.declared.pending.PendingStep.{PendingStep};
 
 use crate::history::History;
@@ -48,7 +52,7 @@ pub(crate) enum At {
 /// The step, where it is pending, is at the first place; the others come after it.
 fn first_if(pending: bool, s: PendingStep, more: usize) -> At
     ensures at { IsAt (step_if pending s) more result }
-    ensures only { (t : PendingStep) → result ≡ At.Step t → t ≡ s }
+    ensures only { (t : PendingStep) → result ≡ At.Step t → (t ≡ s) × (pending ≡ true) }
 {
     if !pending {
         return At::Beyond(more);
@@ -109,6 +113,7 @@ fn names(half: &LocalHalf) -> ArrayVec<EnlNo, NAMES>
 fn reply_at(half: &LocalHalf, calls: &[EnteredCall], e: EnlNo, more: usize) -> At
     ensures at { IsAt (reply_step (plan_of (past_of calls.now)) half.now.half.seen e) more result }
     ensures planned { IsPlannedAt (plan_of (past_of calls.now)) half.now.half.seen result }
+    ensures only { (t : PendingStep) → result ≡ At.Step t → IsReply t }
 {
     let Some(note) = half.due_of(e) else {
         return At::Beyond(more);
@@ -123,6 +128,7 @@ fn reply_at(half: &LocalHalf, calls: &[EnteredCall], e: EnlNo, more: usize) -> A
 pub(crate) fn replies_at(half: &LocalHalf, calls: &[EnteredCall], k: usize) -> At
     ensures at { IsAt (replies_due (plan_of (past_of calls.now)) half.now.half) k result }
     ensures planned { IsPlannedAt (plan_of (past_of calls.now)) half.now.half.seen result }
+    ensures only { (t : PendingStep) → result ≡ At.Step t → IsReply t }
 {
     // Most local acts come while nothing is due: then the enlistments aren't looked through.
     if !half.may_be_due() {
@@ -142,6 +148,7 @@ pub(crate) fn replies_at(half: &LocalHalf, calls: &[EnteredCall], k: usize) -> A
 /// The local act.
 pub(crate) fn act_at(half: &LocalHalf, k: usize) -> At
     ensures at { IsAt (local_if (act_entries half.now.half)) k result }
+    ensures only { (t : PendingStep) → result ≡ At.Step t → (t ≡ PendingStep.Act) × (is_empty (act_entries half.now.half) ≡ false) }
 {
     first_if(half.has_act(), PendingStep::Act, k)
 }
@@ -149,13 +156,15 @@ pub(crate) fn act_at(half: &LocalHalf, k: usize) -> At
 /// The coordinator's act.
 pub(crate) fn core_at(core: &Core, k: usize) -> At
     ensures at { IsAt (core_act core.now.state) k result }
+    ensures only { (t : PendingStep) → result ≡ At.Step t → (t ≡ PendingStep.Coordinate) × ((may_log core.now.state || may_free core.now.state) ≡ true) }
 {
     first_if(core.may_log() || core.may_free(), PendingStep::Coordinate, k)
 }
 
 /// What comes on a connection: upward first.
 fn delivery_at(history: &History, c: Conn, k: usize) -> At
-    ensures { IsAt (delivery_if (has_left c Up history.now.past) c Up ++ delivery_if (has_left c Down history.now.past) c Down) k result }
+    ensures at { IsAt (delivery_if (has_left c Up history.now.past) c Up ++ delivery_if (has_left c Down history.now.past) c Down) k result }
+    ensures only { (t : PendingStep) → result ≡ At.Step t → (e : Conn) × (d : Dir) × (t ≡ PendingStep.Deliver e d) × (has_left e d history.now.past ≡ true) }
 {
     match first_if(history.has_left(c, Dir::Up), PendingStep::Deliver(c, Dir::Up), k) {
         At::Beyond(n) => first_if(
@@ -170,6 +179,7 @@ fn delivery_at(history: &History, c: Conn, k: usize) -> At
 /// What comes on the connections, in their order.
 pub(crate) fn deliveries_at(history: &History, ends: &[End], k: usize) -> At
     ensures at { IsAt (flat_map (deliveries_on history.now.past) ends.now) k result }
+    ensures only { (t : PendingStep) → result ≡ At.Step t → (e : Conn) × (d : Dir) × (t ≡ PendingStep.Deliver e d) × (has_left e d history.now.past ≡ true) }
 {
     let mut more = k;
     for n in ends {

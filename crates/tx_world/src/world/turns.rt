@@ -1,13 +1,12 @@
 //! The pending steps, and doing the k-th.
 ghost use Rattle.std.specs.Prelude.{◌≡◌, ◌≤◌, Ok, Some, None, IfSome, IsOk, OnErr, IsTrue, true, false, length};
 ghost use Rattle.dtx_model.specs.Words.{kth};
-ghost use Rattle.dtx_model.specs.Plans.{plan_of};
-ghost use Rattle.dtx_model.specs.World.{core, half};
+ghost use Rattle.dtx_model.specs.World.{core};
 ghost use Rattle.dtx_model.specs.Caused.{may_coordinate};
 ghost use Rattle.dtx_model.specs.Steps.{LogAnswer, Coordinates, pending};
 ghost use Rattle.coordinator_log.specs.Slots.{open_records};
 ghost use Rattle.tx_world.specs.AtLog.{Fits, KeepsLog};
-ghost use Rattle.tx_world.specs.Pending.{IsAt, IsPlanned, IsPlannedAt, name_of};
+ghost use Rattle.tx_world.specs.Pending.{IsAt, IsDueAt, IsDueIn, name_of};
 ghost use Rattle.tx_world.specs.Stepping.{Does, DoesKth, needs_log, reply_in};
 
 use super::TxWorld;
@@ -24,7 +23,7 @@ impl TxWorld {
     /// What is at a place of the pending steps, from 0.
     fn at_place(&self, k: usize) -> At
         ensures at { IsAt (pending self.now.world) k result }
-        ensures planned { IsPlannedAt (plan_of self.now.world.calls) (half self.now.world).seen result }
+        ensures due { IsDueAt self.now.world result }
     {
         let more = match replies_at(&self.half, &self.calls, k) {
             At::Beyond(n) => n,
@@ -43,7 +42,7 @@ impl TxWorld {
 
     /// The k-th pending step, from 1.
     fn at(&self, k: u32) -> Option<PendingStep>
-        ensures some { IfSome result (λ s. (kth (pending self.now.world) k ≡ Some (name_of s)) × IsPlanned (plan_of self.now.world.calls) (half self.now.world).seen s) }
+        ensures some { IfSome result (λ s. (kth (pending self.now.world) k ≡ Some (name_of s)) × IsDueIn self.now.world s) }
         ensures none { result ≡ None → kth (pending self.now.world) k ≡ None }
     {
         if k == 0 {

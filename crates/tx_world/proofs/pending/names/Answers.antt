@@ -16,7 +16,7 @@ loop-i-preserved c =
     let again : i - 1 + 1 ≡ i = omega (arith, c.loop-i-test.true) in
     let rest : drop (i - 1) bs ≡ b ∷ drop i bs =
     drop_more bs (i - 1) b some ∙ ap (λ (y : Branch). y ∷ drop (i - 1 + 1) bs) (sym c.index-branches-i.is) ∙ ap (λ n. b ∷ drop n bs) again in
-    let put = c.put_name.ensures in
+    let put = c.put_name.ensures ∙ ap (λ (y : Branch). with_name y.enlistment c.loop-i.found.items) (sym c.index-branches-i.is) in
     let few : length c.put_name.new.items.items ≤ length c.loop-i.found.items + 1 = subst (λ (es : List EnlNo). length es ≤ length c.loop-i.found.items + 1) (sym put) (named_few b.enlistment c.loop-i.found.items) in
     let room = c.loop-i.invariant.1 in (
       put ∙ ap (with_name b.enlistment) c.loop-i.invariant.0 ∙ sym (ap (λ (cs : List Branch). with_names cs start) rest),
