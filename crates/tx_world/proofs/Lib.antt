@@ -21,5 +21,13 @@ pub mod Few
 pub mod Written
 pub mod Delivering
 pub mod Stopping
+pub mod Records
+pub mod Keeping
+pub mod Fitting
+pub mod Answering
+pub mod Freeing
+pub mod Found
+pub mod Living
 pub mod Listing
 pub mod Entering
+pub mod AtTheLog
