@@ -1,0 +1,33 @@
+use Rattle.std.proofs.Common.{◌≡◌, ◌≤◌, ◌+◌, ◌∷◌, List, length, ap, sym, ◌∙◌, subst, drop, take}
+use Rattle.std.specs.List.{flat_map}
+use Rattle.std.proofs.lemmas.List.{drop_more}
+use Rattle.dtx_values.specs.declared.number.EnlNo.{EnlNo}
+use Rattle.dtx_model.specs.Words.{past_of}
+use Rattle.dtx_model.specs.Plans.{plan_of}
+use Rattle.dtx_model.specs.Replies.{names}
+use Rattle.dtx_model.specs.Steps.{StepName}
+use Rattle.tx_world.specs.Pending.{IsAt, reply_step}
+use Rattle.tx_world.specs.declared.pending.At.TheVariants.{Step as StepHere}
+use Rattle.tx_world.proofs.Listing.{all_taken, part_here, replies_are}
+use Rattle.tx_world.proofs.pending.replies_at.Goals as goal
+
+pub returns-in-Step-clause-at : goal.returns-in-Step-clause-at
+returns-in-Step-clause-at c =
+    let p = plan_of (past_of c.args.calls.now) in
+    let h = c.args.half.now.half in
+    let xs = c.as_slice-e-items.result.now in
+    let i = c.loop-e.e-index in
+    let x = c.e-item.result in
+    let same = c.as_slice-e-items.ensures.value ∙ c.names-es.ensures in
+    let rest = subst (λ (ys : List EnlNo). drop i ys ≡ x ∷ drop (i + 1) ys) same (drop_more xs i x c.loop-e-test.true ∙ ap (λ (y : EnlNo). y ∷ drop (i + 1) xs) (sym c.e-item.is)) in
+    subst (λ (ms : List StepName). IsAt ms c.args.k (StepHere c.in-Step.s)) (sym (replies_are p h))
+    (part_here (reply_step p h.seen) (names h.seen) i c.args.k c.loop-e.more x c.in-Step.s rest c.loop-e.invariant c.in-Step.ensures.at)
+
+pub returns-clause-at : goal.returns-clause-at
+returns-clause-at c =
+    let p = plan_of (past_of c.args.calls.now) in
+    let h = c.args.half.now.half in
+    let i = c.loop-e.e-index in
+    let same = c.as_slice-e-items.ensures.value ∙ c.names-es.ensures in
+    let over = subst (λ (ys : List EnlNo). length ys ≤ i) same c.loop-e-test.false in
+    c.loop-e.invariant ∙ ap (λ (es : List EnlNo). length (flat_map (reply_step p h.seen) es) + c.loop-e.more) (all_taken (names h.seen) i over) ∙ ap (λ (ms : List StepName). length ms + c.loop-e.more) (sym (replies_are p h))

@@ -1,0 +1,76 @@
+-- The k-th pending step of a transaction, and steps that come one after the other.
+use Rattle.std.specs.Prelude.{ℕ, zero, suc, ◌≡◌, ◌<◌, ◌≤◌, Bool, true, false, not, List, [], ◌∷◌, Option, Some, None, is_some}
+use Rattle.dtx_values.specs.declared.entry.Answer.{Answer}
+use Rattle.dtx_values.specs.declared.note.Note.{Note}
+use Rattle.dtx_values.specs.declared.note.Note.TheVariants.{Promote}
+use Rattle.dtx_values.specs.declared.number.EnlNo.{EnlNo}
+use Rattle.dtx_values.specs.declared.call.Call.{Call}
+use Rattle.dtx_values.specs.declared.number.ActorNo.{ActorNo}
+use Rattle.dtx_model.specs.Words.{kth}
+use Rattle.dtx_model.specs.Outcome.{is_empty}
+use Rattle.dtx_model.specs.Plans.{plan_of, planned}
+use Rattle.dtx_model.specs.Replies.{due_of}
+use Rattle.dtx_model.specs.World.{World, half}
+use Rattle.dtx_model.specs.Steps.{LogAnswer, Step, Calls, Replies, Coordinates, StepName, ReplyOf, CoordinatorAct, pending}
+use Rattle.dtx_model.specs.Caused.{IsNamed}
+use Rattle.coordinator_log.specs.State.{LogState}
+use Rattle.tx_world.specs.State.{TxState, life_after, turned}
+use Rattle.tx_world.specs.AtLog.{Answered}
+
+-- the enlistment and the note of a pending step that is a reply
+abbrev pub with_due : EnlNo → Option Note → Option (EnlNo × Note)
+with_due e (Some n) = Some (e, n)
+with_due e None = None
+
+abbrev pub reply_in : World → Option StepName → Option (EnlNo × Note)
+reply_in w (Some (ReplyOf e)) = with_due e (due_of (half w).seen e.value)
+reply_in w _ = None
+
+abbrev pub is_to_promote : Option Note → Bool
+is_to_promote (Some Promote) = true
+is_to_promote _ = false
+
+-- a pending step of this name needs the log: it is the coordinator's act, or a reply to promote
+abbrev pub is_at_log : World → Option StepName → Bool
+is_at_log w (Some CoordinatorAct) = true
+is_at_log w (Some (ReplyOf e)) = is_to_promote (due_of (half w).seen e.value)
+is_at_log w _ = false
+
+abbrev pub needs_log : World → ℕ → Bool
+needs_log w k = is_at_log w (kth (pending w) k)
+
+-- a reply is the one that the enlistment's call plans
+abbrev pub IsToPlan : World → Step → Type 0
+IsToPlan w (Replies e r) = (n : Note) × (due_of (half w).seen e.value ≡ Some n) × (planned (plan_of w.calls e.value) n ≡ Some r)
+IsToPlan w _ = Unit {0}
+
+-- the coordinator's act goes by what the log answered
+abbrev pub IsAnswered : {D : Type 0} → (D → ℕ) → TxState → LogState D → LogState D → Step → Type 0
+IsAnswered faults old from to (Coordinates a) = Answered faults old.life from to a
+IsAnswered faults old from to m = to ≡ from
+
+-- this step was done, while the log went from one state to the other
+pub record Does {D : Type 0} (faults : D → ℕ) (m : Step) (old : TxState) (from : LogState D) (new : TxState) (to : LogState D) : Type 0 where
+  pub transaction : new.transaction ≡ old.transaction
+  pub world : new.world ≡ turned from.is_up old.transaction.value old.world m
+  pub life : new.life ≡ life_after from.life old.transaction.value old.world m old.life
+  pub answered : IsAnswered faults old from to m
+
+-- the k-th pending step was done; a reply is the planned one
+pub record DoesKth {D : Type 0} (faults : D → ℕ) (k : ℕ) (old : TxState) (from : LogState D) (new : TxState) (to : LogState D) : Type 0 where
+  pub name : StepName
+  pub step : Step
+  pub stands : kth (pending old.world) k ≡ Some name
+  pub named : IsNamed old.world name step
+  pub planned : IsToPlan old.world step
+  pub done : Does faults step old from new to
+
+-- so many steps were done, each the k-th that was pending
+abbrev pub Stepped : {D : Type 0} → (D → ℕ) → ℕ → ℕ → TxState → LogState D → TxState → LogState D → Type 0
+Stepped faults k zero old from new to = (new ≡ old) × (to ≡ from)
+Stepped {D} faults k (suc m) old from new to = (x : TxState) × (l : LogState D) × Stepped faults k m old from x l × DoesKth faults k x l new to
+
+-- the first pending step was done so many times, until none was left
+pub record Settles {D : Type 0} (faults : D → ℕ) (count : ℕ) (old : TxState) (from : LogState D) (new : TxState) (to : LogState D) : Type 0 where
+  pub stepped : Stepped faults 1 count old from new to
+  pub settled : pending new.world ≡ []

@@ -1,0 +1,14 @@
+//! The whole of one transaction: its local side, its coordinator, the connections between them, and its history.
+#![tactic(auto)]
+
+mod at_log;
+mod hearing;
+mod history;
+mod pending;
+mod plans;
+mod refusal;
+mod world;
+mod writing;
+
+pub use refusal::WorldError;
+pub use world::TxWorld;

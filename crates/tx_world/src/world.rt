@@ -1,0 +1,191 @@
+//! The whole of one transaction.
+ghost use Rattle.std.specs.Prelude.{ℕ, ◌≡◌, ◌≤◌, ◌<◌, ◌+◌, ◌∷◌, ◌↔◌, ◌⊎◌, [], List, Option, Some, None, Ok, Err, IfOk, OnOk, OnErr, IfErr, IsOk, IsErrOf, IsTrue, true, false, length, is_some, if◌then◌else◌};
+ghost use Rattle.dtx_values.specs.declared.call.Call.{Call};
+ghost use Rattle.dtx_values.specs.declared.entry.Answer.{Answer};
+ghost use Rattle.dtx_values.specs.declared.record.Differs.{Differs};
+ghost use Rattle.dtx_model.specs.Words.{kth, past_of};
+ghost use Rattle.dtx_model.specs.Log.{first_of, record_of};
+ghost use Rattle.std.specs.Option.{option_map};
+ghost use Rattle.dtx_values.specs.declared.record.LogRecord.{LogRecord};
+ghost use Rattle.dtx_model.specs.Promotes.{identifier_of};
+ghost use Rattle.dtx_model.specs.Replies.{due_of};
+ghost use Rattle.dtx_model.specs.World.{answer_at, half, core};
+ghost use Rattle.dtx_model.specs.Steps.{Step, Calls, Replies, Stops, Restarts, after, pending};
+ghost use Rattle.dtx_model.specs.Caused.{HasDone, IsOwnRun, MayAnswer};
+ghost use Rattle.coordinator_log.specs.Slots.{open_records};
+ghost use Rattle.local_half.specs.Half.{fits_due};
+ghost use Rattle.tx_world.specs.State.{TxState, is_hit_by, is_reached_by, may_enter};
+ghost use Rattle.tx_world.specs.AtLog.{Fits, KeepsLog, Tie, id_of};
+ghost use Rattle.tx_world.specs.Stepping.{Does, DoesKth, Settles, needs_log, reply_in};
+
+use crate::at_log::AtLog;
+use crate::history::History;
+use crate::refusal::WorldError;
+use coordinator_core::Core;
+use coordinator_log::Log;
+use dtx_model::EnteredCall;
+use dtx_values::{ActorNo, Answer, Call, EnlNo, Entry, Note, Outbox, Outcome, TxNo};
+use local_half::LocalHalf;
+use outside::Disk;
+use std::alloc::Global;
+use std::marker::Model;
+
+mod at_the_log;
+mod deliveries;
+mod steps;
+mod stops;
+mod turns;
+
+/// The whole of one transaction.
+#[derive(Drop)]
+pub struct TxWorld {
+    transaction: TxNo,
+    half: LocalHalf,
+    core: Core,
+    history: History,
+    /// The calls that were entered, oldest first.
+    calls: Vec<EnteredCall>,
+    at_log: AtLog,
+    /// What a step makes before it is written; kept for its memory alone.
+    out: Outbox,
+}
+
+impl Model for TxWorld {
+    ghost use Rattle.dtx_model.specs.Words.{past_of};
+    ghost use Rattle.tx_world.specs.Kept.{Whole};
+    ghost use Rattle.tx_world.specs.State.{TxState};
+
+    ghost Value = { TxState };
+
+    ghost view = { λ w. record {
+      transaction = w.transaction;
+      world = record { calls = past_of w.calls.items; past = w.history.past };
+      ours = w.at_log.ours;
+      unsure = w.at_log.unsure;
+      life = w.at_log.life;
+    } };
+
+    ghost invariant = { λ w. Whole w.transaction (record { calls = past_of w.calls.items; past = w.history.past }) w.half w.core w.at_log };
+}
+
+/// The identifier of a transaction at the coordinator: the node 1 in the upper 64 bits, and the transaction's number in the lower.
+fn identifier(t: TxNo) -> u128
+    ensures { result ≡ identifier_of t.value }
+{
+    (1 << 64) + u128::from(t.get())
+}
+
+impl TxWorld {
+    /// The world of this transaction, which has no call yet.
+    ///
+    /// # Errors
+    ///
+    /// [`WorldError::Memory`] where memory ran out.
+    pub fn new(alloc: Global, t: TxNo) -> Result<TxWorld, WorldError>
+        ensures { IfOk result (λ w. w ≡ record { transaction = t; world = record { calls = []; past = [] }; ours = None; unsure = false; life = 0 }) }
+    {
+        Ok(TxWorld {
+            transaction: t,
+            half: LocalHalf::new(alloc, t)?,
+            core: Core::new(t),
+            history: History::new(alloc)?,
+            calls: Vec::new(alloc),
+            at_log: AtLog::new(),
+            out: Outbox::with_room(alloc)?,
+        })
+    }
+
+    /// What holds of each world: its history is one that its own calls, and the steps after them, made. It does nothing when it runs; a caller's proof asks for it.
+    pub fn is_own_run(&self)
+        ensures { IsOwnRun self.now.transaction.value self.now.world }
+    {
+        let _ = &self.calls;
+    }
+
+    /// The history, oldest entry first.
+    pub fn history(&self) -> &[Entry]
+        ensures { past_of result.now ≡ self.now.world.past }
+    {
+        self.history.entries()
+    }
+
+    /// The identifier of the transaction at the coordinator once it is promoted, and 0 before.
+    pub fn id(&self) -> u128
+        ensures { result ≡ (if (half self.now.world).seen.promoted then id_of self.now else 0) }
+    {
+        if self.half.is_promoted() {
+            identifier(self.transaction)
+        } else {
+            0
+        }
+    }
+
+    /// What the client was told.
+    pub fn told(&self) -> Option<Outcome>
+        ensures { result ≡ (half self.now.world).seen.told_client }
+    {
+        self.half.told_client()
+    }
+
+    /// Whether the coordinator stands stopped.
+    pub fn is_stopped(&self) -> bool
+        ensures { result ≡ (core self.now.world).stopped }
+    {
+        self.core.is_stopped()
+    }
+
+    /// The life of the log that the coordinator lives in; 0 before BEGIN is sent.
+    pub fn life(&self) -> u64
+        ensures { result ≡ self.now.life }
+    {
+        self.at_log.life()
+    }
+
+    /// Whether the call of this line may be entered: no call of the line was, and none that makes the same enlistment or the same clone.
+    pub fn may_enter(&self, line: u32, c: &Call) -> bool
+        ensures { result ≡ may_enter self.now.world line c.now }
+    {
+        let _ = &self.calls;
+        false
+    }
+
+    /// Enters a call, for which so many steps were done right before where it is a `do`; and where it is an `await`, the client was told or nothing is pending. It writes the
+    /// entry of the call and its facts.
+    ///
+    /// # Errors
+    ///
+    /// [`WorldError::Memory`] where memory ran out, and then nothing was done.
+    pub fn enter<D: Disk>(
+        &mut self,
+        log: &Log<D>,
+        actor: ActorNo,
+        line: u32,
+        c: &Call,
+        done: u16,
+    ) -> Result<Answer, WorldError>
+        requires enters { may_enter self.old.world line c.now ≡ true }
+        requires answers { MayAnswer self.old.transaction.value self.old.world c.now done }
+        requires fits { IsTrue D.honest → IsTrue log.now.is_up → Fits self.old (open_records log.now.slots) }
+        ensures answer { IfOk result (λ a. a ≡ answer_at self.old.transaction.value self.old.world c.now done) }
+        ensures done { OnOk result (Does D.faults (Calls line actor c.now done) self.old log.now self.new log.now) }
+        ensures ours { (self.new.ours ≡ self.old.ours) × (self.new.unsure ≡ self.old.unsure) }
+        ensures memory { OnErr result (self.new ≡ self.old) }
+    {
+        let _ = &self.calls;
+        Ok(Answer::Fine)
+    }
+
+    /// Does the first pending step until none is left, and says how many it did.
+    ///
+    /// # Errors
+    ///
+    /// [`WorldError::Memory`] where memory ran out. The steps before it were done.
+    pub fn settle<D: Disk>(&mut self, log: &mut Log<D>) -> Result<u32, WorldError>
+        requires fits { IsTrue D.honest → IsTrue log.old.is_up → Fits self.old (open_records log.old.slots) }
+        ensures settled { IfOk result (λ n. Settles D.faults n self.old log.old self.new log.new) }
+        ensures fits { IsTrue D.honest → IsTrue log.new.is_up → Fits self.new (open_records log.new.slots) }
+    {
+        let _ = &self.calls;
+        Ok(0)
+    }
+}

@@ -1,0 +1,60 @@
+//! The steps of the local side.
+ghost use Rattle.std.specs.Prelude.{◌≡◌, ◌↔◌, Ok, IfOk, OnErr, true, false, is_some, not};
+ghost use Rattle.dtx_model.specs.Acts.{act_entries};
+ghost use Rattle.dtx_model.specs.Outcome.{is_empty};
+ghost use Rattle.dtx_model.specs.Replies.{due_of};
+ghost use Rattle.dtx_model.specs.World.{half};
+ghost use Rattle.dtx_model.specs.Steps.{Replies, Acts};
+ghost use Rattle.local_half.specs.Half.{fits_due};
+ghost use Rattle.tx_world.specs.Stepping.{Does};
+
+use super::TxWorld;
+use crate::refusal::WorldError;
+use crate::writing::{live, write_near};
+use coordinator_log::Log;
+use dtx_values::{EnlNo, Reply};
+use outside::Disk;
+
+impl TxWorld {
+    /// Does the reply of an enlistment; false exactly where none is due.
+    ///
+    /// # Errors
+    ///
+    /// [`WorldError::Memory`] where memory ran out, and then nothing was done.
+    pub fn reply<D: Disk>(&mut self, log: &Log<D>, e: EnlNo, r: Reply) -> Result<bool, WorldError>
+        requires fits { fits_due r (due_of (half self.old.world).seen e.value) ≡ true }
+        ensures due { IfOk result (λ b. b ≡ is_some (due_of (half self.old.world).seen e.value)) }
+        ensures done { result ≡ Ok true → Does D.faults (Replies e r) self.old log.now self.new log.now }
+        ensures ours { (self.new.ours ≡ self.old.ours) × (self.new.unsure ≡ self.old.unsure) }
+        ensures unchanged { result ≡ Ok false → self.new ≡ self.old }
+        ensures memory { OnErr result (self.new ≡ self.old) }
+    {
+        self.history.reserve()?;
+        self.out.clear();
+        if !self.half.reply(e, r, &mut self.out) {
+            return Ok(false);
+        }
+        let begins = write_near(&mut self.history, &mut self.core, self.out.entries(), log);
+        live(&mut self.at_log, begins, log.life());
+        Ok(true)
+    }
+
+    /// Does the local act; false exactly where none is pending.
+    pub(super) fn act<D: Disk>(&mut self, log: &Log<D>) -> Result<bool, WorldError>
+        ensures due { IfOk result (λ b. b ≡ not (is_empty (act_entries (half self.old.world)))) }
+        ensures done { result ≡ Ok true → Does D.faults Acts self.old log.now self.new log.now }
+        ensures ours { (self.new.ours ≡ self.old.ours) × (self.new.unsure ≡ self.old.unsure) }
+        ensures unchanged { result ≡ Ok false → self.new ≡ self.old }
+        ensures memory { OnErr result (self.new ≡ self.old) }
+    {
+        self.history.reserve()?;
+        self.out.clear();
+        if !self.half.has_act() {
+            return Ok(false);
+        }
+        self.half.act(&mut self.out);
+        let begins = write_near(&mut self.history, &mut self.core, self.out.entries(), log);
+        live(&mut self.at_log, begins, log.life());
+        Ok(true)
+    }
+}

@@ -1,0 +1,49 @@
+//! What a stop of the log makes of a transaction.
+ghost use Rattle.std.specs.Prelude.{◌≡◌, ◌&&◌, not, nat_le, OnOk, OnErr, true, if◌then◌else◌};
+ghost use Rattle.dtx_model.specs.Steps.{Stops, after};
+ghost use Rattle.tx_world.specs.State.{is_hit_by};
+
+use super::TxWorld;
+use crate::refusal::WorldError;
+use crate::writing::sends_begin;
+
+/// Whether a stop of a life of the log hits who began in its own life.
+fn is_hit(begun: bool, stopped: bool, own: u64, life: u64) -> bool
+    ensures { result ≡ (begun && not stopped && nat_le own life) }
+{
+    begun && !stopped && own <= life
+}
+
+impl TxWorld {
+    /// Whether a stop of this life of the log hits it.
+    fn is_hit_by(&self, life: u64) -> bool
+        ensures { result ≡ is_hit_by life self.now }
+    {
+        is_hit(
+            sends_begin(self.history.entries()),
+            self.core.is_stopped(),
+            self.at_log.life(),
+            life,
+        )
+    }
+
+    /// The log was stopped in this life: where that hits the transaction, its coordinator stops.
+    ///
+    /// # Errors
+    ///
+    /// [`WorldError::Memory`] where memory ran out, and then nothing was done.
+    pub fn coordinator_stopped(&mut self, life: u64) -> Result<(), WorldError>
+        ensures transaction { self.new.transaction ≡ self.old.transaction }
+        ensures world { OnOk result (self.new.world ≡ (if is_hit_by life self.old then after self.old.transaction.value self.old.world Stops else self.old.world)) }
+        ensures kept { (self.new.ours ≡ self.old.ours) × (self.new.unsure ≡ self.old.unsure) × (self.new.life ≡ self.old.life) }
+        ensures memory { OnErr result (self.new ≡ self.old) }
+    {
+        if !self.is_hit_by(life) {
+            return Ok(());
+        }
+        self.history.reserve()?;
+        self.core.stopped();
+        self.history.stop();
+        Ok(())
+    }
+}

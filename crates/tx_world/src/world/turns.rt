@@ -1,0 +1,125 @@
+//! The pending steps, and doing the k-th.
+ghost use Rattle.std.specs.Prelude.{◌≡◌, ◌≤◌, Ok, Some, None, IfSome, IsOk, OnErr, IsTrue, true, false, length};
+ghost use Rattle.dtx_model.specs.Words.{kth};
+ghost use Rattle.dtx_model.specs.World.{core};
+ghost use Rattle.dtx_model.specs.Caused.{may_coordinate};
+ghost use Rattle.dtx_model.specs.Steps.{LogAnswer, Coordinates, pending};
+ghost use Rattle.coordinator_log.specs.Slots.{open_records};
+ghost use Rattle.tx_world.specs.AtLog.{Fits, KeepsLog};
+ghost use Rattle.tx_world.specs.Pending.{IsAt, IsDueAt, IsDueIn, name_of};
+ghost use Rattle.tx_world.specs.Stepping.{Does, DoesKth, needs_log, reply_in};
+
+use super::TxWorld;
+use crate::pending::{At, PendingStep, act_at, core_at, deliveries_at, replies_at};
+use crate::refusal::WorldError;
+use coordinator_log::Log;
+use dtx_values::{Dir, EnlNo, Note};
+use outside::Disk;
+
+/// More steps than are ever pending: 48 replies, both acts, and two deliveries on each of 34 connections.
+const FEW: usize = 118;
+
+impl TxWorld {
+    /// What is at a place of the pending steps, from 0.
+    fn at_place(&self, k: usize) -> At
+        ensures at { IsAt (pending self.now.world) k result }
+        ensures due { IsDueAt self.now.world result }
+    {
+        let more = match replies_at(&self.half, &self.calls, k) {
+            At::Beyond(n) => n,
+            At::Step(s) => return At::Step(s),
+        };
+        let more = match act_at(&self.half, more) {
+            At::Beyond(n) => n,
+            At::Step(s) => return At::Step(s),
+        };
+        let more = match core_at(&self.core, more) {
+            At::Beyond(n) => n,
+            At::Step(s) => return At::Step(s),
+        };
+        deliveries_at(&self.history, self.half.ends(), more)
+    }
+
+    /// The k-th pending step, from 1.
+    fn at(&self, k: u32) -> Option<PendingStep>
+        ensures some { IfSome result (λ s. (kth (pending self.now.world) k ≡ Some (name_of s)) × IsDueIn self.now.world s) }
+        ensures none { result ≡ None → kth (pending self.now.world) k ≡ None }
+    {
+        if k == 0 {
+            return None;
+        }
+        match self.at_place(k as usize - 1) {
+            At::Step(s) => Some(s),
+            At::Beyond(_) => None,
+        }
+    }
+
+    /// Does the coordinator's act, which is pending.
+    fn coordinate<D: Disk>(&mut self, log: &mut Log<D>) -> Result<bool, WorldError>
+        requires fits { IsTrue D.honest → IsTrue log.old.is_up → Fits self.old (open_records log.old.slots) }
+        ensures always { IsOk result → result ≡ Ok true }
+        ensures done { IsOk result → (a : LogAnswer) × (may_coordinate (core self.old.world) a ≡ true) × Does D.faults (Coordinates a) self.old log.old self.new log.new }
+        ensures kept { IsTrue D.honest → KeepsLog D.image self.old log.old self.new log.new }
+        ensures life { log.new.life ≡ log.old.life }
+        ensures grows { D.faults log.old.disk ≤ D.faults log.new.disk }
+        ensures memory { OnErr result ((self.new ≡ self.old) × (log.new ≡ log.old)) }
+    {
+        let _ = &self.calls;
+        Ok(true)
+    }
+
+    /// How many steps are pending.
+    pub fn pending(&self) -> u32
+        ensures { result ≡ length (pending self.now.world) }
+    {
+        self.half.is_few();
+        match self.at_place(FEW) {
+            At::Beyond(n) => (FEW - n) as u32,
+            At::Step(_) => unreachable!(),
+        }
+    }
+
+    /// The enlistment and the note of the k-th pending step, from 1, where that step is a reply.
+    pub fn due_at(&self, k: u32) -> Option<(EnlNo, Note)>
+        ensures { result ≡ reply_in self.now.world (kth (pending self.now.world) k) }
+    {
+        match self.at(k) {
+            Some(PendingStep::Reply(e, note, _)) => Some((e, note)),
+            _ => None,
+        }
+    }
+
+    /// Whether the k-th pending step, from 1, needs the log: it is the coordinator's act, or a reply to promote.
+    pub fn needs_log(&self, k: u32) -> bool
+        ensures { result ≡ needs_log self.now.world k }
+    {
+        matches!(
+            self.at(k),
+            Some(PendingStep::Coordinate | PendingStep::Reply(_, Note::Promote, _))
+        )
+    }
+
+    /// Does the k-th pending step, from 1; false exactly where fewer than k are pending, or k is 0. A reply is the planned one.
+    ///
+    /// # Errors
+    ///
+    /// [`WorldError::Memory`] where memory ran out, and then nothing was done.
+    pub fn step<D: Disk>(&mut self, log: &mut Log<D>, k: u32) -> Result<bool, WorldError>
+        requires fits { IsTrue D.honest → IsTrue log.old.is_up → Fits self.old (open_records log.old.slots) }
+        ensures none { result ≡ Ok false → (kth (pending self.old.world) k ≡ None) × (self.new ≡ self.old) × (log.new ≡ log.old) }
+        ensures some { result ≡ Ok true → DoesKth D.faults k self.old log.old self.new log.new }
+        ensures kept { IsTrue D.honest → KeepsLog D.image self.old log.old self.new log.new }
+        ensures life { log.new.life ≡ log.old.life }
+        ensures grows { D.faults log.old.disk ≤ D.faults log.new.disk }
+        ensures memory { OnErr result ((self.new ≡ self.old) × (log.new ≡ log.old)) }
+    {
+        match self.at(k) {
+            Some(PendingStep::Reply(e, _, r)) => self.reply(log, e, r),
+            Some(PendingStep::Act) => self.act(log),
+            Some(PendingStep::Coordinate) => self.coordinate(log),
+            Some(PendingStep::Deliver(c, Dir::Up)) => self.deliver_up(log, c),
+            Some(PendingStep::Deliver(c, Dir::Down)) => self.deliver_down(log, c),
+            None => Ok(false),
+        }
+    }
+}

@@ -1,0 +1,77 @@
+//! What a step of the local side makes of the rest of its world.
+ghost use Rattle.std.specs.Prelude.{◌≡◌, ◌≤◌, ◌+◌, ◌&&◌, not, true, false, length, if◌then◌else◌};
+ghost use Rattle.dtx_model.specs.Words.{each, has, onto};
+ghost use Rattle.dtx_model.specs.Wires.{is_stopped};
+ghost use Rattle.dtx_model.specs.Caused.{is_begin_sent};
+ghost use Rattle.tx_world.specs.Carried.{are_sendable};
+ghost use Rattle.tx_world.specs.Course.{is_written};
+ghost use Rattle.tx_world.specs.Kept.{stop_if, stopped_if};
+
+use crate::at_log::AtLog;
+use crate::history::History;
+use coordinator_core::Core;
+use coordinator_log::Log;
+use dtx_values::{Conn, Dir, Entry, Message};
+use outside::Disk;
+
+/// Whether the entry sends BEGIN.
+fn is_begin_sent(x: &Entry) -> bool
+    ensures { result ≡ is_begin_sent x.now }
+{
+    matches!(x, Entry::Sent(Conn::Begin, Dir::Up, Message::BeginBegin))
+}
+
+/// Whether BEGIN is sent by one of these entries.
+pub(crate) fn sends_begin(block: &[Entry]) -> bool
+    ensures { result ≡ has is_begin_sent block.now }
+{
+    block.iter().any(is_begin_sent)
+}
+
+/// Stops the coordinator, where it has to.
+pub(crate) fn stop_if(history: &mut History, core: &mut Core, stops: bool)
+    requires runs { stops ≡ true → core.old.state.stopped ≡ false }
+    requires room { 1 ≤ history.old.room }
+    ensures past { history.new.past ≡ stop_if stops history.old.past }
+    ensures room { history.old.room ≤ history.new.room + 1 }
+    ensures core { core.new ≡ stopped_if stops core.old }
+{
+    if stops {
+        core.stopped();
+        history.stop();
+    }
+}
+
+/// Writes the block of a step of the local side, and says whether it sends BEGIN. Where it does while the log is stopped, the coordinator stops at once.
+pub(crate) fn write_near<D: Disk>(
+    history: &mut History,
+    core: &mut Core,
+    block: &[Entry],
+    log: &Log<D>,
+) -> bool
+    requires written { each is_written block.now ≡ true }
+    requires sendable { are_sendable (onto history.old.past block.now) ≡ true }
+    requires stopped { core.old.state.stopped ≡ is_stopped history.old.past }
+    requires runs { has is_begin_sent block.now ≡ true → core.old.state.stopped ≡ false }
+    requires few { length block.now ≤ 64 }
+    requires room { 65 ≤ history.old.room }
+    requires starts { 64 ≤ history.old.start_room }
+    requires sends { 64 ≤ history.old.send_room }
+    ensures begins { result ≡ has is_begin_sent block.now }
+    ensures past { history.new.past ≡ stop_if (has is_begin_sent block.now && not log.now.is_up) (onto history.old.past block.now) }
+    ensures core { core.new ≡ stopped_if (has is_begin_sent block.now && not log.now.is_up) core.old }
+{
+    history.write(block, core.is_stopped());
+    let begins = sends_begin(block);
+    stop_if(history, core, begins && !log.is_up());
+    begins
+}
+
+/// The coordinator begins to live in this life of the log, where BEGIN was sent.
+pub(crate) fn live(at_log: &mut AtLog, begins: bool, log_life: u64)
+    ensures { at_log.new ≡ record at_log.old { life = (if begins then log_life else at_log.old.life) } }
+{
+    if begins {
+        at_log.begin(log_life);
+    }
+}
