@@ -14,3 +14,5 @@ mod scripts;
 mod sessions;
 #[cfg(test)]
 mod traces;
+#[cfg(test)]
+mod worlds;

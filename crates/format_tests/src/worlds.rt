@@ -1,0 +1,229 @@
+//! The whole of one transaction that is promoted, as text.
+ghost use Rattle.std.specs.Prelude.{◌≡◌, [], None, IsTrue, false};
+ghost use Rattle.dtx_model.specs.Caused.{MayAnswer};
+ghost use Rattle.dtx_model.specs.Steps.{pending};
+ghost use Rattle.coordinator_log.specs.Slots.{open_records};
+ghost use Rattle.tx_world.specs.AtLog.{Fits};
+
+use crate::log::empty_log;
+use coordinator_log::Log;
+use dtx_values::{
+    ActorNo, Answer, Call, EnlNo, Outcome, Place, RmNo, Support, Timeout, Trace, TxNo, Vote,
+};
+use outside::{Image, MemDisk};
+use std::alloc::{AllocError, Global};
+use std::process::Abort;
+use std::test::Fail;
+use trace_text::print_trace;
+use tx_world::TxWorld;
+
+/// Transaction 1 asks for its identifier at the coordinator, enlists a durable of manager 1 that votes yes, and asks for the commit: up to its vote.
+const BEFORE_THE_VOTE: [&str; 35] = [
+    "call 1 a1 ok",
+    "began 60000",
+    "call 2 a1 wait",
+    "promoting marshal",
+    "sent b up begin",
+    "got b up begin",
+    "sent b down begun",
+    "got b down begun",
+    "sent v up voter",
+    "got v up voter",
+    "sent v down created",
+    "got v down created",
+    "promoted 00000000-0000-0001-0000-000000000001 marshal",
+    "answer 2 id 00000000-0000-0001-0000-000000000001",
+    "call 3 a1 open",
+    "call 4 a1 wait",
+    "sent e1 up enlist",
+    "call 5 a1 ok",
+    "commit",
+    "got e1 up enlist",
+    "sent e1 down enlisted",
+    "got e1 down enlisted",
+    "enlisted e1 two",
+    "answer 4 ok",
+    "sealed",
+    "sent b up commit",
+    "got b up commit",
+    "sent v down ask",
+    "sent e1 down prepare",
+    "got v down ask",
+    "yes",
+    "sent v up yes",
+    "got v up yes",
+    "got e1 down prepare",
+    "ask e1 prepare",
+];
+
+/// After the vote yes, up to the record.
+const YES: [&str; 3] = ["vote e1 yes", "sent e1 up prepared", "got e1 up prepared"];
+
+/// From the record on.
+const COMMITTED: [&str; 14] = [
+    "logged",
+    "sent b down committed",
+    "sent v down commit",
+    "sent e1 down commit",
+    "got b down committed",
+    "decided committed",
+    "told client committed",
+    "got v down commit",
+    "got e1 down commit",
+    "told e1 committed",
+    "acked e1",
+    "sent e1 up ack",
+    "got e1 up ack",
+    "freed",
+];
+
+/// After the vote no.
+const ABORTED: [&str; 9] = [
+    "vote e1 no",
+    "sent e1 up no",
+    "got e1 up no",
+    "sent b down aborted",
+    "sent v down abort",
+    "got b down aborted",
+    "decided aborted",
+    "told client aborted",
+    "got v down abort",
+];
+
+/// The transaction.
+fn transaction(rt: &impl Abort) -> TxNo {
+    TxNo::new(1).expect(rt, "no such transaction")
+}
+
+/// Enters a call of client 1, and says what it answered.
+fn enter(
+    rt: &impl Abort,
+    world: &mut TxWorld,
+    log: &Log<MemDisk>,
+    line: u32,
+    c: &Call,
+) -> Answer
+    requires answers { MayAnswer world.old.transaction.value world.old.world c.now 0 }
+    requires fits { IsTrue log.now.is_up → Fits world.old (open_records log.now.slots) }
+    ensures fits { IsTrue log.now.is_up → Fits world.new (open_records log.now.slots) }
+{
+    let actor = ActorNo::new(1).expect(rt, "no such client");
+    if !world.may_enter(line, c) {
+        panic!(rt; "the call of line {line} may not be entered");
+    }
+    match world.enter(log, actor, line, c, 0) {
+        Ok(answer) => answer,
+        Err(error) => panic!(rt; "{error}"),
+    }
+}
+
+/// Does what is pending, until nothing is.
+fn settle(rt: &impl Abort, world: &mut TxWorld, log: &mut Log<MemDisk>)
+    requires fits { IsTrue log.old.is_up → Fits world.old (open_records log.old.slots) }
+    ensures fits { IsTrue log.new.is_up → Fits world.new (open_records log.new.slots) }
+    ensures settled { pending world.new.world ≡ [] }
+{
+    match world.settle(log) {
+        Ok(_count) => assert!(rt; world.pending() == 0),
+        Err(error) => panic!(rt; "{error}"),
+    }
+}
+
+/// A world of the transaction, to which nothing happened yet.
+fn world(rt: &impl Abort, alloc: Global) -> TxWorld
+    ensures { result ≡ record { transaction = result.transaction; world = record { calls = []; past = [] }; ours = None; unsure = false; life = 0 } }
+{
+    match TxWorld::new(alloc, transaction(rt)) {
+        Ok(world) => world,
+        Err(error) => panic!(rt; "{error}"),
+    }
+}
+
+/// Runs the transaction over an empty log, where its durable votes so.
+fn run(rt: &impl Abort, world: &mut TxWorld, log: &mut Log<MemDisk>, vote: Vote)
+    requires fits { IsTrue log.old.is_up → Fits world.old (open_records log.old.slots) }
+{
+    let t = transaction(rt);
+    let e1 = EnlNo::new(1).expect(rt, "no such enlistment");
+    let r1 = RmNo::new(1).expect(rt, "no such manager");
+    let begin = Call::Begin(t, Timeout::Default);
+    assert_eq!(rt; enter(rt, world, log, 1, &begin), Answer::Fine);
+    assert_eq!(rt; enter(rt, world, log, 2, &Call::Marshal(t)), Answer::Wait);
+    settle(rt, world, log);
+    assert_eq!(rt; enter(rt, world, log, 3, &Call::Await(t)), Answer::Open);
+    let durable = Call::Durable(t, e1, r1, Support::TwoPhase(Some(vote)));
+    assert_eq!(rt; enter(rt, world, log, 4, &durable), Answer::Wait);
+    assert_eq!(rt; enter(rt, world, log, 5, &Call::Commit(t)), Answer::Fine);
+    settle(rt, world, log);
+}
+
+/// The text of the history.
+fn text(rt: &impl Abort, alloc: Global, world: &TxWorld) -> Result<Vec<u8>, AllocError> {
+    let place = Place::Transaction(transaction(rt));
+    let mut entries = Vec::new(alloc);
+    for x in world.history() {
+        entries.push((place, *x))?;
+    }
+    print_trace(alloc, &Trace::new(entries))
+}
+
+/// The text of these lines, each with its number and the transaction.
+fn wanted(alloc: Global, parts: &[&[&str]]) -> Result<Vec<u8>, AllocError> {
+    let mut text = Vec::new(alloc);
+    let mut number = 0_u32;
+    for part in parts {
+        for line in *part {
+            number = number.saturating_add(1);
+            let line = format!(in alloc; "{number} t1 {line}\n")?;
+            text.extend_from_slice(line.as_bytes())?;
+        }
+    }
+    Ok(text)
+}
+
+#[test]
+fn what_is_promoted_commits(rt: HostRuntime) -> Result<(), Fail> {
+    let alloc = rt.alloc();
+    let mut log = empty_log(&rt, alloc)?;
+    let mut world = world(&rt, alloc);
+    run(&rt, &mut world, &mut log, Vote::Yes);
+    let found = text(&rt, alloc, &world)?;
+    let want = wanted(alloc, &[&BEFORE_THE_VOTE, &YES, &COMMITTED])?;
+    assert!(rt; found.as_slice() == want.as_slice());
+    assert_eq!(rt; world.told(), Some(Outcome::Committed));
+    assert_eq!(rt; world.id(), (1 << 64) + 1);
+    assert_eq!(rt; log.lookup(world.id()).copied(), None);
+    assert!(rt; world.ties(&log).is_ok());
+    Ok(())
+}
+
+#[test]
+fn what_is_promoted_aborts_where_its_durable_says_no(rt: HostRuntime) -> Result<(), Fail> {
+    let alloc = rt.alloc();
+    let mut log = empty_log(&rt, alloc)?;
+    let mut world = world(&rt, alloc);
+    run(&rt, &mut world, &mut log, Vote::No);
+    let found = text(&rt, alloc, &world)?;
+    let want = wanted(alloc, &[&BEFORE_THE_VOTE, &ABORTED])?;
+    assert!(rt; found.as_slice() == want.as_slice());
+    assert_eq!(rt; world.told(), Some(Outcome::Aborted));
+    Ok(())
+}
+
+#[test]
+fn a_log_that_stops_under_the_record_stops_the_coordinator(rt: HostRuntime) -> Result<(), Fail> {
+    let alloc = rt.alloc();
+    for image in [Image::Lose, Image::Keep, Image::Torn] {
+        let mut log = empty_log(&rt, alloc)?;
+        log.arm(1, image);
+        let mut world = world(&rt, alloc);
+        run(&rt, &mut world, &mut log, Vote::Yes);
+        let found = text(&rt, alloc, &world)?;
+        let want = wanted(alloc, &[&BEFORE_THE_VOTE, &YES, &["stopped"]])?;
+        assert!(rt; found.starts_with(want.as_slice()));
+        assert!(rt; world.is_stopped());
+        assert!(rt; !log.is_up());
+        assert!(rt; world.ties(&log).is_ok());
+    }
+    Ok(())
+}
