@@ -150,7 +150,7 @@ fn run(rt: &impl Abort, world: &mut TxWorld, log: &mut Log<MemDisk>, vote: Vote)
     assert_eq!(rt; enter(rt, world, log, 1, &begin), Answer::Fine);
     assert_eq!(rt; enter(rt, world, log, 2, &Call::Marshal(t)), Answer::Wait);
     settle(rt, world, log);
-    assert_eq!(rt; enter(rt, world, log, 3, &Call::Await(t)), Answer::Open);
+    assert_eq!(rt; enter(rt, world, log, 3, &Call::Await(t)), Answer::StillOpen);
     let durable = Call::Durable(t, e1, r1, Support::TwoPhase(Some(vote)));
     assert_eq!(rt; enter(rt, world, log, 4, &durable), Answer::Wait);
     assert_eq!(rt; enter(rt, world, log, 5, &Call::Commit(t)), Answer::Fine);
