@@ -54,20 +54,6 @@ impl TxWorld {
         }
     }
 
-    /// Does the coordinator's act, which is pending.
-    fn coordinate<D: Disk>(&mut self, log: &mut Log<D>) -> Result<bool, WorldError>
-        requires fits { IsTrue D.honest → IsTrue log.old.is_up → Fits self.old (open_records log.old.slots) }
-        ensures always { IsOk result → result ≡ Ok true }
-        ensures done { IsOk result → (a : LogAnswer) × (may_coordinate (core self.old.world) a ≡ true) × Does D.faults (Coordinates a) self.old log.old self.new log.new }
-        ensures kept { IsTrue D.honest → KeepsLog D.image self.old log.old self.new log.new }
-        ensures life { log.new.life ≡ log.old.life }
-        ensures grows { D.faults log.old.disk ≤ D.faults log.new.disk }
-        ensures memory { OnErr result ((self.new ≡ self.old) × (log.new ≡ log.old)) }
-    {
-        let _ = &self.calls;
-        Ok(true)
-    }
-
     /// How many steps are pending.
     pub fn pending(&self) -> u32
         ensures { result ≡ length (pending self.now.world) }
