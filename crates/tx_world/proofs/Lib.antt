@@ -1,4 +1,5 @@
 pub mod Blocks
+pub mod Bare
 pub mod Near
 pub mod Far
 pub mod Ended
@@ -28,4 +29,5 @@ pub mod Freeing
 pub mod Found
 pub mod Living
 pub mod Listing
+pub mod Entering
 pub mod AtTheLog
