@@ -31,3 +31,4 @@ pub mod Living
 pub mod Listing
 pub mod Entering
 pub mod AtTheLog
+pub mod CallsOn
