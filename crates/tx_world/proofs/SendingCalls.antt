@@ -39,7 +39,7 @@ use Rattle.dtx_model.specs.Entries.{began_of, decision_of, is_decision, is_promo
 use Rattle.dtx_model.specs.Facts.{begin_promotion, durable_facts, facts_if, has_facts}
 use Rattle.dtx_model.specs.Grammar.{OfEnlistment}
 use Rattle.dtx_model.specs.Half.{Half, enlist_sent, info, is_promoting}
-use Rattle.dtx_model.specs.Observed.{Observed, is_ask_promote, is_branch, is_promote_reply, observe, rows}
+use Rattle.dtx_model.specs.Observed.{Observed, branches, is_ask_promote, is_branch, is_promote_reply, observe, rows}
 use Rattle.dtx_model.specs.Outcome.{enlisted, is_empty}
 use Rattle.dtx_model.specs.Promotes.{identifier_of, is_failed, is_promoting as is_start}
 use Rattle.dtx_model.specs.Replies.{due_of, fits, promote_entries}
@@ -56,11 +56,11 @@ use Rattle.outcome_law.proofs.Messages.{ENLIST}
 use Rattle.outcome_law.proofs.Owned.{decision_seen, has_rows}
 use Rattle.outcome_law.proofs.Picks.{found_at, has-at, none_each}
 use Rattle.outcome_law.proofs.Scans.{has_more}
-use Rattle.outcome_law.proofs.Tests.{first_of_four, second_of_four, third_of_four}
+use Rattle.outcome_law.proofs.Tests.{eq_self, first_of_four, second_of_four, third_of_four}
 use Rattle.tx_world.proofs.SendingApt.{can_same}
 use Rattle.tx_world.proofs.SendingBlocks.{Hears, apt_facts_at, apt_facts_if, may_open}
 use Rattle.tx_world.proofs.SendingKnown.{hears}
-use Rattle.tx_world.proofs.SendingOpened.{Opened}
+use Rattle.tx_world.proofs.SendingOpened.{Opened, branch_stays}
 use Rattle.tx_world.proofs.SendingEnds.{Ends, again_ends, apt_ends, begin_ends, ends_if, enlist_ends, one_ends, promotable_ends, start_ends}
 
 no : false ≡ true → ⊥
@@ -170,13 +170,14 @@ linked_called c n a y h = ap (linked_by c h) (lost_same c (Called n a y) h refl 
 linked_back : (c : Conn) (e : EnlNo) (h : List Entry) → is_linked c (Reenlisted e ∷ h) ≡ is_linked c h
 linked_back c e h = ap (linked_by c h) (lost_same c (Reenlisted e) h refl refl)
 
-reenlist_ends : (t n : ℕ) (a : ActorNo) (y : Answer) (h : List Entry) (o : Option Branch) → is_id (identifier_of t) ≡ true → (has_facts y ≡ true → IfSome o (λ b. is_linked (Again b.enlistment) h ≡ false))
+reenlist_ends : (t n : ℕ) (a : ActorNo) (y : Answer) (h : List Entry) (o : Option Branch) → is_id (identifier_of t) ≡ true → (has_facts y ≡ true → IfSome o (λ b. is_linked (Again b.enlistment) h ≡ false)) → IfSome o (λ b. has (is_branch b.enlistment.value) (branches h) ≡ true)
     → Ends (Called n a y ∷ h) → Ends (onto (Called n a y ∷ h) (facts_if (has_facts y) (reenlist_facts t o)))
-reenlist_ends t n a y h None v f i = facts_by (Called n a y ∷ h) (has_facts y) [] i (λ b. i)
-reenlist_ends t n a y h (Some b) v f i =
+reenlist_ends t n a y h None v f there i = facts_by (Called n a y ∷ h) (has_facts y) [] i (λ b. i)
+reenlist_ends t n a y h (Some b) v f there i =
     let e = b.enlistment in
     facts_by (Called n a y ∷ h) (has_facts y) (reenlist_facts t (Some b)) i
     (λ q. again_ends (Reenlisted e ∷ Called n a y ∷ h) e (info t e b.manager) v (linked_back (Again e) e (Called n a y ∷ h) ∙ linked_called (Again e) n a y h ∙ f q)
+    (branch_stays (Reenlisted e) (Called n a y ∷ h) e.value (branch_stays (Called n a y) h e.value there))
     (one_ends (Reenlisted e) (Called n a y ∷ h) refl refl refl i))
 
 reenlist_free : (w : World) (l : Option ℕ) (o : Option Branch) → has_facts (if_begun l (reenlist_by w o)) ≡ true → IfSome o (λ b. is_linked (Again b.enlistment) w.past ≡ false)
@@ -185,6 +186,12 @@ reenlist_free w (Some d) None k = tt
 reenlist_free w (Some d) (Some b) k =
     or_second (is_linked (Enl b.enlistment) w.past) (is_linked (Again b.enlistment) w.past)
     (branch_done b.enlisted (is_finished_there (half w).seen b.enlistment.value) (is_in b.manager.value (core w).recovered) (is_connected b.enlistment w.past) b.manager b.enlistment (unless_stopped w) k)
+
+-- the branch that is found is there
+found_branch : (e : ℕ) (bs : List Branch) (o : Option Branch) → find (is_branch e) bs ≡ o → IfSome o (λ b. has (is_branch b.enlistment.value) bs ≡ true)
+found_branch e bs None q = tt
+found_branch e bs (Some b) q =
+    let at = found_at (is_branch e) bs b q in has-at (is_branch b.enlistment.value) bs at.0 b at.1 (eq_self b.enlistment.value)
 
 -- The enlistment of a call whose line is new has no connection.
 opens_sent : (e : EnlNo) (x : Entry) → opens (Enl e) x ≡ true → is_sent_on (Enl e) Up ENLIST x ≡ true
@@ -250,7 +257,7 @@ call_ends G t w n a (Marshal u) m once made g new v i =
 call_ends G t w n a (Reenlist e) m once made g new v i =
     let x = answer_at t w (Reenlist e) m in
     let o = find (is_branch e.value) (half w).seen.branches in
-    reenlist_ends t n a x w.past o v (reenlist_free w (latest began_of w.past) o) (called_ends w.past n a x i)
+    reenlist_ends t n a x w.past o v (reenlist_free w (latest began_of w.past) o) (found_branch e.value (branches w.past) o refl) (called_ends w.past n a x i)
 call_ends G t w n a c m once made g new v i = other_ends t w n a c (answer_at t w c m) refl i
 
 -- A promotable promotes: it was asked to, and hadn't answered, so b wasn't opened.

@@ -2,6 +2,7 @@
 -- blocks and entries keep it.
 use Rattle.std.proofs.Common.{◌≡◌, ◌⊎◌, ℕ, Bool, true, false, ◌&&◌, ◌||◌, List, [], ◌∷◌, refl, sym, ◌∙◌}
 use Rattle.std.specs.Prelude.{not, if◌then◌else◌}
+use Rattle.std.proofs.lemmas.Bool.{or_left}
 use Rattle.dtx_values.specs.declared.entry.Entry.{Entry}
 use Rattle.dtx_values.specs.declared.entry.Entry.TheVariants.{Enlisted, Promoted, Promoting, Sent}
 use Rattle.dtx_values.specs.declared.message.Conn.{Conn}
@@ -18,7 +19,7 @@ use Rattle.dtx_values.specs.RecoveryInfo.{is_id}
 use Rattle.dtx_model.specs.Entries.{is_decision, is_promoted}
 use Rattle.dtx_model.specs.Frames.{is_valid}
 use Rattle.dtx_model.specs.Half.{is_handed}
-use Rattle.dtx_model.specs.Observed.{handover, is_promote_reply}
+use Rattle.dtx_model.specs.Observed.{branches, handover, is_branch, is_promote_reply}
 use Rattle.dtx_model.specs.Promotes.{is_begun_got, is_created_got, is_failed, is_promoting}
 use Rattle.dtx_model.specs.Wires.{opens, same_connection}
 use Rattle.dtx_model.specs.Words.{each, has, onto}
@@ -116,13 +117,13 @@ pub enlist_ends : (h : List Entry) (e : EnlNo) (m : Info) → is_id m.id ≡ tru
     → (has is_promoted h ≡ false → is_handed (handover h) e.value ≡ true) → Ends h → Ends (Sent (Enl e) Up (EnlistEnlist m) ∷ h)
 enlist_ends h e m v n c s o i = record {
   sendable = and_both (is_sendable h (Sent (Enl e) Up (EnlistEnlist m))) (are_sendable h) (opening_sendable (Enl e) (EnlistEnlist m) h v refl refl (unlinked (Enl e) h n)) i.sendable;
-  opened = enlist_opened h e m c s o i.opened;
+  opened = enlist_opened h e m n c s o i.opened;
   failed = i.failed;
 }
 
-pub again_ends : (h : List Entry) (e : EnlNo) (m : Info) → is_id m.id ≡ true → is_linked (Again e) h ≡ false → Ends h → Ends (Sent (Again e) Up (ReenlistReenlist m) ∷ h)
-again_ends h e m v n i =
-    one_ends (Sent (Again e) Up (ReenlistReenlist m)) h (opening_sendable (Again e) (ReenlistReenlist m) h v refl refl n) refl refl i
+pub again_ends : (h : List Entry) (e : EnlNo) (m : Info) → is_id m.id ≡ true → is_linked (Again e) h ≡ false → has (is_branch e.value) (branches h) ≡ true → Ends h → Ends (Sent (Again e) Up (ReenlistReenlist m) ∷ h)
+again_ends h e m v n b i =
+    one_ends (Sent (Again e) Up (ReenlistReenlist m)) h (opening_sendable (Again e) (ReenlistReenlist m) h v refl refl n) (or_left (has (is_branch e.value) (branches h)) false b) refl i
 
 -- a promotion begins, or is over; and a promotable is made
 pub start_ends : (h : List Entry) (c : Cause) → has is_promoting h ≡ false → Ends h → Ends (Promoting c ∷ h)
