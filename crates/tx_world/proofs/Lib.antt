@@ -17,3 +17,4 @@ pub mod SendingCalls
 pub mod Sendable
 pub mod Begun
 pub mod Written
+pub mod FewBranches
