@@ -18,3 +18,5 @@ pub mod Sendable
 pub mod Begun
 pub mod Written
 pub mod FewBranches
+pub mod FewRuns
+pub mod FewAnswers
