@@ -20,3 +20,6 @@ pub mod Written
 pub mod FewBranches
 pub mod FewRuns
 pub mod FewAnswers
+pub mod FewDesks
+pub mod FewKnown
+pub mod Few
