@@ -1,8 +1,7 @@
 -- In each world that steps make the coordinator has room for the message that comes next: it has at most 16 desks, 34 known connections, and 16 that came back and wait. The
 -- disk may find what it likes.
-use Rattle.std.proofs.Common.{◌≡◌, ◌≤◌, ℕ, List, [], ◌∷◌, refl, sym, subst}
+use Rattle.std.proofs.Common.{◌≡◌, ◌≤◌, ℕ, List, ◌∷◌, refl, sym, subst}
 use Rattle.dtx_values.specs.declared.call.Call.{Call}
-use Rattle.dtx_values.specs.declared.entry.Entry.{Entry}
 use Rattle.dtx_values.specs.declared.entry.Entry.TheVariants.{Got}
 use Rattle.dtx_values.specs.declared.message.Conn.{Conn}
 use Rattle.dtx_values.specs.declared.message.Dir.TheVariants.{Up}
@@ -11,7 +10,7 @@ use Rattle.dtx_values.specs.declared.number.ActorNo.{ActorNo}
 use Rattle.dtx_model.specs.Caused.{AreMadeOnce, Ran}
 use Rattle.dtx_model.specs.Coordinated.{coordinate, follow}
 use Rattle.dtx_model.specs.Steps.{Step}
-use Rattle.dtx_model.specs.Wires.{WireRun, in_transit, is_next}
+use Rattle.dtx_model.specs.Wires.{in_transit, is_next}
 use Rattle.dtx_model.specs.World.{World, core}
 use Rattle.dtx_model.proofs.Quiet.{wire_run}
 use Rattle.coordinator_core.specs.Kept.{IsFew}

@@ -1,22 +1,13 @@
 -- The calls that make an enlistment keep who is at the coordinator few; so each step does. So in each world that steps make, at most 16 are there.
-use Rattle.std.proofs.Common.{◌≡◌, ◌≤◌, ◌<◌, ◌+◌, ℕ, suc, ◌==◌, Bool, true, false, ◌&&◌, ◌||◌, List, [], ◌∷◌, ◌++◌, find, length, Option, Some, None, is_some, nat_le, refl, sym, subst, ap, ◌∙◌, arith}
+use Rattle.std.proofs.Common.{◌≡◌, ◌≤◌, ◌<◌, ◌+◌, ℕ, Bool, true, false, List, [], ◌∷◌, Option, Some, is_some, refl, sym, subst, ap, ◌∙◌, arith}
 use Rattle.std.specs.Prelude.{not, if◌then◌else◌}
-use Rattle.std.specs.List.{flat_map}
-use Rattle.std.proofs.lemmas.Bool.{eqb-true, false_from_ne_true, or_left}
-use Rattle.std.proofs.lemmas.Bool.Decides.{nat_tests}
+use Rattle.std.proofs.lemmas.Bool.{or_left}
 use Rattle.dtx_values.specs.declared.call.Call.{Call}
 use Rattle.dtx_values.specs.declared.call.Call.TheVariants.{Volatile, Durable, Promotable}
 use Rattle.dtx_values.specs.declared.entry.Answer.{Answer}
-use Rattle.dtx_values.specs.declared.entry.Answer.TheVariants.{False, Fine, Many, TooLate, True, Wait}
+use Rattle.dtx_values.specs.declared.entry.Answer.TheVariants.{Fine, True, Wait}
 use Rattle.dtx_values.specs.declared.entry.Entry.{Entry}
-use Rattle.dtx_values.specs.declared.entry.Entry.TheVariants.{Answered, Called, Down as Ended, Enlisted, Got, Init, Promoted, Promoting, Sent, Stopped}
-use Rattle.dtx_values.specs.declared.limits.TheConstants.{CALLS, DURABLES, ENLISTMENTS}
-use Rattle.dtx_values.specs.declared.message.Conn.{Conn}
-use Rattle.dtx_values.specs.declared.message.Conn.TheVariants.{Begin, Voter, Enl}
-use Rattle.dtx_values.specs.declared.message.Dir.{Dir}
-use Rattle.dtx_values.specs.declared.message.Dir.TheVariants.{Up, Down}
-use Rattle.dtx_values.specs.declared.message.Message.{Message}
-use Rattle.dtx_values.specs.declared.message.Message.TheVariants.{BeginBegin, EnlistEnlisted, VoterCreated}
+use Rattle.dtx_values.specs.declared.entry.Entry.TheVariants.{Called, Enlisted, Init, Stopped}
 use Rattle.dtx_values.specs.declared.number.ActorNo.{ActorNo}
 use Rattle.dtx_values.specs.declared.number.EnlNo.{EnlNo}
 use Rattle.dtx_values.specs.declared.number.RmNo.{RmNo}
@@ -25,58 +16,46 @@ use Rattle.dtx_values.specs.declared.row.Row.{Row}
 use Rattle.dtx_values.specs.declared.script.EnlistOption.{EnlistOption}
 use Rattle.dtx_values.specs.declared.script.EnlistOption.TheVariants.{Plain as PlainOption, DuringPrepare}
 use Rattle.dtx_values.specs.declared.script.Support.{Support}
-use Rattle.dtx_values.specs.declared.words.Cause.{Cause}
 use Rattle.dtx_values.specs.declared.words.Class.TheVariants.{DurableSingle, Promotable as PromotableClass}
 use Rattle.dtx_values.specs.declared.words.Outcome.{Outcome}
-use Rattle.dtx_values.specs.Class.{is_promotable, is_volatile}
+use Rattle.dtx_values.specs.Class.{is_volatile}
 use Rattle.dtx_values.specs.Owners.{cause_of, may_own}
 use Rattle.dtx_values.specs.Row.{is_lasting}
 use Rattle.dtx_values.specs.Support.{is_single}
 use Rattle.dtx_values.specs.Table.{how_many}
 use Rattle.dtx_model.specs.declared.waiting.EnteredCall.{EnteredCall}
-use Rattle.dtx_model.specs.declared.waiting.Wanted.TheVariants.{Identifier, Place}
 use Rattle.dtx_model.specs.Acts.{act_entries, lasts}
-use Rattle.dtx_model.specs.Answers.{class_of, durable_answer, has_promotion, if_begun, is_crowded, is_full, is_full_of_durables, local_answer, places, promotable_answer, unless_ended, wait_for}
-use Rattle.dtx_model.specs.Arrivals.{arrived, created, enlisted_at, hand_over, local_got, place_given}
+use Rattle.dtx_model.specs.Answers.{class_of, durable_answer, has_promotion, is_crowded, is_full, is_full_of_durables, local_answer, promotable_answer, wait_for}
 use Rattle.dtx_model.specs.Caused.{AreMadeOnce, MayCome, Ran}
-use Rattle.dtx_model.specs.Coordinated.{may_log}
 use Rattle.dtx_model.specs.Entries.{began_of, decision_of, is_call, is_decision, is_promoted, is_sealed}
 use Rattle.dtx_model.specs.Facts.{begin_promotion, durable_facts, facts_if, has_facts}
-use Rattle.dtx_model.specs.Half.{Half, by_manager, enlist_sent, given, info, is_handed, is_promoting, over, promoted_by, sees}
-use Rattle.dtx_model.specs.Observed.{Observed, branches, handover, observe, rows, track}
-use Rattle.dtx_model.specs.Promotes.{identifier_of, is_failed, is_promoting as is_start}
+use Rattle.dtx_model.specs.Half.{Half, enlist_sent, info, is_promoting}
+use Rattle.dtx_model.specs.Observed.{branches, observe, rows}
+use Rattle.dtx_model.specs.Promotes.{identifier_of, is_failed}
 use Rattle.dtx_model.specs.Replies.{reply_entries}
-use Rattle.dtx_model.specs.Steps.{Step, Calls, Replies, Acts, Coordinates, Delivers, Stops, Restarts, after, block_at, called, coordinates, delivered, ended_at, got_by, restarted}
-use Rattle.dtx_model.specs.Waiting.{Waiter, call_at, is_place, is_place_of, waiter_line, waiting, wanted}
+use Rattle.dtx_model.specs.Steps.{Step, Calls, Replies, Acts, Coordinates, Delivers, Stops, Restarts, after, block_at, called, coordinates, restarted}
+use Rattle.dtx_model.specs.Waiting.{call_at, is_place, is_place_of, waiter_line, waiting, wanted}
 use Rattle.dtx_model.specs.Wires.{in_transit}
-use Rattle.dtx_model.specs.Words.{each, has, latest, onto}
+use Rattle.dtx_model.specs.Words.{has, latest, onto}
 use Rattle.dtx_model.specs.World.{World, half, core, answer_at, facts_at}
-use Rattle.dtx_model.proofs.Bools.{and_left, and_right, not_both, not_true, or_false, or_first, or_right, or_second}
+use Rattle.dtx_model.proofs.Bools.{and_left, and_right, not_both, not_true, or_first, or_right, or_second}
 use Rattle.dtx_model.proofs.Counts.{how_many-insert_by}
 use Rattle.dtx_model.proofs.Heeding.{fresh}
-use Rattle.dtx_model.proofs.Quiet.{Quiet, is_quiet, q_act, q_called, q_appended, q_ended_at, q_freed, q_got_by, q_if, q_one, q_reply, q_restarted}
-use Rattle.dtx_model.proofs.Reading.{has-onto}
-use Rattle.local_half.specs.Linked.{is_held}
-use Rattle.local_half.specs.Waits.{without}
-use Rattle.local_half.proofs.Lists.{how_many-filter-le, not_counted}
-use Rattle.local_half.proofs.Waiters.{found_number}
-use Rattle.outcome_law.proofs.DecidingBlocks.{kept_act, kept_arrived, kept_begin_promotion, kept_called, kept_coordinates, kept_core_got, kept_ended_at, kept_reply, kept_restarted}
-use Rattle.outcome_law.proofs.HalfKnows.{way_seen}
-use Rattle.outcome_law.proofs.Lists.{OfEach, of-more}
-use Rattle.outcome_law.proofs.Makers.{IsWaiter, ran_made, waiter_more}
+use Rattle.local_half.proofs.Lists.{not_counted}
+use Rattle.outcome_law.proofs.DecidingBlocks.{kept_act, kept_begin_promotion, kept_called, kept_coordinates, kept_reply, kept_restarted}
+use Rattle.outcome_law.proofs.Lists.{OfEach}
+use Rattle.outcome_law.proofs.Makers.{IsWaiter, ran_made}
 use Rattle.outcome_law.proofs.Owned.{decision_seen}
-use Rattle.outcome_law.proofs.PlainBlocks.{is_making, plain_act, plain_arrived, plain_begin_promotion, plain_called, plain_coordinates, plain_core_got, plain_ended_at, plain_reply, plain_restarted}
+use Rattle.outcome_law.proofs.PlainBlocks.{plain_act, plain_begin_promotion, plain_called, plain_coordinates, plain_reply, plain_restarted}
 use Rattle.outcome_law.proofs.Waiters.{own_call}
-use Rattle.tx_world.proofs.FewBranches.{Roomy, answered_roomy, block_roomy, called_roomy, gentle_roomy, given_roomy, list_roomy, none_roomy, placed_roomy, row_roomy, sent_roomy}
-use Rattle.dtx_values.specs.declared.words.Class.TheVariants.{One, Zero}
-use Rattle.dtx_model.specs.Facts.{local_facts}
+use Rattle.tx_world.proofs.FewBranches.{Roomy, block_roomy, called_roomy, gentle_roomy, none_roomy, row_roomy, sent_roomy}
 use Rattle.local_half.specs.Linked.{AreLinked}
 use Rattle.outcome_law.proofs.Lists.{has-insert}
 use Rattle.outcome_law.proofs.Tests.{eq_self}
-use Rattle.tx_world.proofs.SendingEnds.{Ends}
 use Rattle.tx_world.proofs.Sendable.{ran_ends}
+use Rattle.tx_world.proofs.SendingCalls.{done_open, owns_alone, unstarted}
 use Rattle.dtx_values.specs.RecoveryInfo.{is_id}
-use Rattle.tx_world.proofs.FewRuns.{IsIdle, call_idle, delivered_roomy, done_open, durable_done, room_of, roomy_if, step_idle}
+use Rattle.tx_world.proofs.FewRuns.{IsIdle, delivered_roomy, durable_done, room_of, roomy_if, step_idle}
 
 no : false ≡ true → ⊥
 no e = absurd cc
@@ -118,27 +97,9 @@ volatile_class PlainOption = refl
 volatile_class DuringPrepare = refl
 
 -- A promotable's call: nothing lasts, and no call waits for a place.
-owns_alone : (s m f : Bool) → has_facts (if s then TooLate else if not m then False else if f then Many ENLISTMENTS else True) ≡ true → m ≡ true
-owns_alone true m f k = absurd cc
-owns_alone false true f k = refl
-owns_alone false false f k = absurd cc
-
 owned : (xs : List Row) (p : Bool) → may_own xs p ≡ true → (p ≡ false) × (has is_lasting xs ≡ false)
 unfolding may_own
 owned xs p k = (not_true p (and_left (not p) (not (has is_lasting xs)) k), not_true (has is_lasting xs) (and_right (not p) (not (has is_lasting xs)) k))
-
-unstarted : (h : List Entry) → has_promotion (observe h) ≡ false → latest decision_of h ≡ None → (has is_failed h ≡ true → has is_decision h ≡ true) → has is_start h ≡ false
-unfolding observe
-unstarted h p d f =
-    by (has is_start h) (has is_promoted h) (has is_failed h) (or_first (has is_promoted h) (is_promoting (observe h)) p)
-    (false_from_ne_true (has is_failed h) (λ k. not_both (has is_decision h) (f k) (sym (decision_seen h) ∙ ap (λ (o : Option Outcome). is_some o) d)))
-    (sym (way_seen h) ∙ or_second (has is_promoted h) (is_promoting (observe h)) p)
-  where
-    by : (s p f : Bool) → p ≡ false → f ≡ false → (s && not p && not f) ≡ false → s ≡ false
-    by true false false a b k = absurd cc
-    by true true f a b k = absurd cc
-    by true false true a b k = absurd cc
-    by false p f a b k = refl
 
 -- a call that waits for no place leaves the places that are waited for
 called_places : (ks : List EnteredCall) (n : ℕ) (a : ActorNo) (x : Answer) (h : List Entry) → is_place (n, wanted (call_at ks n)) ≡ false → how_many is_place (waiting ks (Called n a x ∷ h)) ≡ how_many is_place (waiting ks h)
@@ -178,7 +139,7 @@ entered_roomy t w n a (Promotable u e r y z p) m new failed idle i =
     (let d = done_open (latest began_of w.past) (latest decision_of w.past) (promotable_answer v) k in
     let alone = owned (rows w.past) (has_promotion (observe w.past)) (owns_alone (has is_sealed w.past) (may_own (rows w.past) (has_promotion (observe w.past))) (is_full v) d.1) in
     room (not_counted is_lasting (rows w.past) alone.1)
-    (called_places (own ∷ w.calls) n a x w.past (ap (λ q. is_place (n, wanted q)) (own_call n a (Promotable u e r y z p) w.calls)) ∙ ap (how_many is_place) waits ∙ idle (sym (decision_seen w.past) ∙ ap (λ (o : Option Outcome). is_some o) d.0) (unstarted w.past alone.0 d.0 failed))) in
+    (called_places (own ∷ w.calls) n a x w.past (ap (λ q. is_place (n, wanted q)) (own_call n a (Promotable u e r y z p) w.calls)) ∙ ap (how_many is_place) waits ∙ idle (sym (decision_seen w.past) ∙ ap (λ (o : Option Outcome). is_some o) d.0) (unstarted w.past (or_first (has is_promoted w.past) (is_promoting (observe w.past)) alone.0) (or_second (has is_promoted w.past) (is_promoting (observe w.past)) alone.0) d.0 failed))) in
     let after' = Called n a x ∷ w.past in
     facts_roomy (own ∷ w.calls) after' (has_facts x) (Enlisted e PromotableClass ∷ Init e ∷ []) next
     (λ k. gentle_roomy (own ∷ w.calls) (Init e) (Enlisted e PromotableClass ∷ after') refl (row_roomy (own ∷ w.calls) e PromotableClass after' (λ d c. free k) next))

@@ -1,8 +1,8 @@
 -- How many enlistments are at the coordinator, and how many last or are waited for: what each entry and each block changes there.
-use Rattle.std.proofs.Common.{◌≡◌, ◌≤◌, ◌<◌, ◌+◌, ℕ, suc, ◌==◌, Bool, true, false, ◌&&◌, ◌||◌, List, [], ◌∷◌, filter, find, Option, Some, None, refl, sym, subst, ap, ◌∙◌, arith}
+use Rattle.std.proofs.Common.{◌≡◌, ◌≤◌, ◌<◌, ◌+◌, ℕ, suc, ◌==◌, Bool, true, false, ◌&&◌, ◌||◌, List, [], ◌∷◌, find, Some, None, refl, sym, subst, ap, ◌∙◌, arith}
 use Rattle.std.specs.Prelude.{not, if◌then◌else◌}
 use Rattle.std.specs.List.{flat_map}
-use Rattle.std.proofs.lemmas.Bool.{eq-eqb, eqb-true, false_from_ne_true, or_left}
+use Rattle.std.proofs.lemmas.Bool.{eqb-true, or_left}
 use Rattle.dtx_values.specs.declared.call.Call.{Call}
 use Rattle.dtx_values.specs.declared.call.Call.TheVariants.{Durable}
 use Rattle.dtx_values.specs.declared.entry.Answer.{Answer}
@@ -11,11 +11,9 @@ use Rattle.dtx_values.specs.declared.entry.Ask.TheVariants.{Prepare}
 use Rattle.dtx_values.specs.declared.entry.Entry.{Entry}
 use Rattle.dtx_values.specs.declared.entry.Entry.TheVariants.{Acked, Answered, Asked, Called, Enlisted, Got, Promoting, Reenlisted, Sent, Told, Voted}
 use Rattle.dtx_values.specs.declared.entry.Party.TheVariants.{Enl as Member}
-use Rattle.dtx_values.specs.declared.message.Conn.{Conn}
-use Rattle.dtx_values.specs.declared.message.Conn.TheVariants.{Begin, Voter, Enl, Again}
+use Rattle.dtx_values.specs.declared.message.Conn.TheVariants.{Enl, Again}
 use Rattle.dtx_values.specs.declared.message.Dir.TheVariants.{Up, Down}
 use Rattle.dtx_values.specs.declared.message.Info.{Info}
-use Rattle.dtx_values.specs.declared.message.Message.{Message}
 use Rattle.dtx_values.specs.declared.message.Message.TheVariants.{EnlistEnlist, EnlistEnlisted, EnlistCommit, ReenlistCommitted}
 use Rattle.dtx_values.specs.declared.number.ActorNo.{ActorNo}
 use Rattle.dtx_values.specs.declared.number.EnlNo.{EnlNo}
@@ -27,19 +25,19 @@ use Rattle.dtx_values.specs.declared.words.Outcome.TheVariants.{Aborted}
 use Rattle.dtx_values.specs.Class.{is_volatile}
 use Rattle.dtx_values.specs.Owners.{lasting, only, owner_of}
 use Rattle.dtx_values.specs.Row.{fresh_row, is_lasting, is_of, mark_in, mark_row, number_of, vote_in, vote_row}
-use Rattle.dtx_values.specs.Table.{how_many, insert_by, marks, with_mark, with_row, with_vote}
+use Rattle.dtx_values.specs.Table.{how_many, marks, with_row}
 use Rattle.dtx_model.specs.declared.branch.Branch.{Branch}
 use Rattle.dtx_model.specs.declared.waiting.EnteredCall.{EnteredCall}
 use Rattle.dtx_model.specs.declared.waiting.Wanted.{Wanted}
 use Rattle.dtx_model.specs.declared.waiting.Wanted.TheVariants.{Identifier, Place}
 use Rattle.dtx_model.specs.Acts.{lasts}
 use Rattle.dtx_model.specs.Entries.{is_decision}
-use Rattle.dtx_model.specs.Half.{Half, enlist_sent, given, info, is_handed}
-use Rattle.dtx_model.specs.Observed.{Observed, branches, handover, rows}
+use Rattle.dtx_model.specs.Half.{Half, given, info, is_handed}
+use Rattle.dtx_model.specs.Observed.{branches, handover, rows}
 use Rattle.dtx_model.specs.Promotes.{identifier_of}
 use Rattle.dtx_model.specs.Waiting.{Waiter, call_at, is_place, is_place_of, waiter_line, waiting, wanted, wanted_by}
 use Rattle.dtx_model.specs.Words.{each, has, onto}
-use Rattle.dtx_model.proofs.Bools.{and_left, and_right, not_both, not_true, or_case, or_first, or_right, or_second}
+use Rattle.dtx_model.proofs.Bools.{and_left, and_right, not_both, or_case, or_right, or_second}
 use Rattle.dtx_model.proofs.Counts.{how_many-insert_by, how_many-map}
 use Rattle.dtx_model.proofs.Reading.{has-onto}
 use Rattle.local_half.specs.declared.branches.BranchChange.TheVariants.{Enlisted as IsEnlisted, Aborted as IsAborted, Acked as IsAcked, Due}
@@ -68,6 +66,7 @@ pub record Roomy (ks : List EnteredCall) (h : List Entry) : Type 0 where
   pub owner : (e : ℕ) → is_handed (handover h) e ≡ true → lasts (rows h) e ≡ true
   pub linked : AreLinked (has is_decision h) (rows h) (waiting ks h) (branches h) []
 
+-- nothing happened yet
 pub none_roomy : (ks : List EnteredCall) → Roomy ks []
 none_roomy ks = record {
   few = λ d. omega arith;
@@ -145,6 +144,7 @@ gentle_waits ks _ h g = refl
 held_with : (xs ys : List Row) (ws vs : List Waiter) (e : ℕ) → (lasts xs e ≡ true → lasts ys e ≡ true) → (has (is_place_of e) ws ≡ true → is_held ys vs e ≡ true) → is_held xs ws e ≡ true → is_held ys vs e ≡ true
 held_with xs ys ws vs e f g k = or_case (lasts xs e) (has (is_place_of e) ws) (λ t. or_left (lasts ys e) (has (is_place_of e) vs) (f t)) g k
 
+-- such an entry keeps them few
 pub gentle_roomy : (ks : List EnteredCall) (x : Entry) (h : List Entry) → is_gentle x ≡ true → Roomy ks h → Roomy ks (x ∷ h)
 gentle_roomy ks x h g i =
     let waits = gentle_waits ks x h g in
@@ -162,6 +162,7 @@ gentle_roomy ks x h g i =
         → how_many is_lasting (rows (x ∷ h)) + how_many is_place (waiting ks (x ∷ h)) ≤ 16
     few a b k = let p = ap (how_many is_place) b in omega (arith, a, p, k)
 
+-- so do such entries in a row
 pub list_roomy : (ks : List EnteredCall) (h es : List Entry) → each is_gentle es ≡ true → Roomy ks h → Roomy ks (onto h es)
 list_roomy ks h [] g i = i
 list_roomy ks h (x ∷ es) g i = list_roomy ks (x ∷ h) es (and_right (is_gentle x) (each is_gentle es) g) (gentle_roomy ks x h (and_left (is_gentle x) (each is_gentle es) g) i)
@@ -263,8 +264,27 @@ with_tables xs ws bs =
     record {
       seen =
           record {
-            limit = None; clock = 0; commit = false; sealed = false; table = xs; clones = []; listeners = []; handed = None; decided = None; told_client = None; cause = None; promoted = false;
-            failed = false; handover = None; promote_asked = false; promote_replied = false; single_asked = false; requested = false; yes = false; ends = []; branches = bs
+            limit = None;
+            clock = 0;
+            commit = false;
+            sealed = false;
+            table = xs;
+            clones = [];
+            listeners = [];
+            handed = None;
+            decided = None;
+            told_client = None;
+            cause = None;
+            promoted = false;
+            failed = false;
+            handover = None;
+            promote_asked = false;
+            promote_replied = false;
+            single_asked = false;
+            requested = false;
+            yes = false;
+            ends = [];
+            branches = bs;
           };
       waits = ws;
       managers = [];
@@ -324,6 +344,7 @@ abbrev place_in : Wanted → ℕ
 place_in (Place e r c) = e.value
 place_in Identifier = 0
 
+-- that place becomes an enlistment that lasts
 pub placed_roomy : (G : ℕ → ActorNo → Call → Type 0) (ks : List EnteredCall) (h : List Entry) (n : ℕ) (e : EnlNo) (r : RmNo) (c : Class) → find (is_place_of e.value) (waiting ks h) ≡ Some (n, Place e r c)
     → OfEach (IsWaiter G ks h) (waiting ks h) → Roomy ks h → Roomy ks (Answered n Fine ∷ Enlisted e c ∷ h)
 placed_roomy G ks h n e r c found o i =
@@ -382,6 +403,7 @@ unplaced_at G ks h n own ((m, Place e r c) ∷ ws) o = both (n == m) refl (unpla
 no_place : (e : ℕ) (f : EnlNo) (r : RmNo) (c : Class) → Identifier ≡ Place f r c → (e == f.value) ≡ false
 no_place e f r c q = absurd cc
 
+-- so each whose ENLIST is sent is held
 pub given_roomy : (G : ℕ → ActorNo → Call → Type 0) (ks : List EnteredCall) (t : ℕ) (h : List Entry) (vs : List Waiter) (g : List Entry) → OfEach (IsWaiter G ks h) vs → OfEach (IsWaiter G ks h) (waiting ks g)
     → ((e : ℕ) → has (is_place_of e) vs ≡ true → has (is_place_of e) (waiting ks g) ≡ true) → has is_decision g ≡ false → Roomy ks g → Roomy ks (onto g (flat_map (given t) vs))
 given_roomy G ks t h [] g o w among d i = i

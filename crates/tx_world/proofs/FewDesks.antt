@@ -1,43 +1,35 @@
 -- How many desks, known connections and enlistments that came back and wait the coordinator has, by who is at the coordinator.
 use Rattle.std.proofs.Common.{◌≡◌, ◌≤◌, ◌+◌, ℕ, zero, suc, ◌==◌, Bool, true, false, ◌&&◌, ◌||◌, List, [], ◌∷◌, ◌++◌, filter, length, map, Option, Some, None, refl, sym, subst, ap, ◌∙◌, arith}
 use Rattle.std.specs.Prelude.{not, take, if◌then◌else◌}
-use Rattle.std.proofs.lemmas.Bool.{eqb-true, false_from_ne_true, or_left}
-use Rattle.std.proofs.lemmas.List.{length-map}
-use Rattle.dtx_values.specs.declared.end.End.{End}
+use Rattle.std.proofs.lemmas.Bool.{false_from_ne_true, or_left}
 use Rattle.dtx_values.specs.declared.entry.Entry.{Entry}
-use Rattle.dtx_values.specs.declared.entry.Entry.TheVariants.{Cut, Down as Ended, Got, Restarted, Sent, Stopped}
+use Rattle.dtx_values.specs.declared.entry.Entry.TheVariants.{Cut, Got, Restarted, Sent, Stopped}
 use Rattle.dtx_values.specs.declared.message.Conn.{Conn}
 use Rattle.dtx_values.specs.declared.message.Conn.TheVariants.{Begin, Voter, Enl, Again}
-use Rattle.dtx_values.specs.declared.message.Dir.{Dir}
 use Rattle.dtx_values.specs.declared.message.Dir.TheVariants.{Up, Down}
 use Rattle.dtx_values.specs.declared.message.Message.{Message}
-use Rattle.dtx_values.specs.declared.message.Message.TheVariants.{EnlistAck, EnlistEnlist, ReenlistAck, ReenlistReenlist}
+use Rattle.dtx_values.specs.declared.message.Message.TheVariants.{EnlistAck, EnlistEnlist, ReenlistAck}
 use Rattle.dtx_values.specs.declared.number.EnlNo.{EnlNo}
-use Rattle.dtx_values.specs.Ends.{is_end_of, order_of, same_connection}
+use Rattle.dtx_values.specs.Ends.{same_connection}
 use Rattle.dtx_values.specs.Lines.{has_line, is_opening}
-use Rattle.dtx_values.specs.Table.{enl_number, how_many, insert_by}
+use Rattle.dtx_values.specs.Table.{how_many, insert_by}
 use Rattle.dtx_model.specs.declared.branch.Branch.{Branch}
 use Rattle.dtx_model.specs.declared.desk.Ballot.{Ballot}
 use Rattle.dtx_model.specs.declared.desk.Desk.{Desk}
-use Rattle.dtx_model.specs.Coordinated.{Coordinated, accepts, ballot_of, but, coordinate, desk_number, follow, is_active, is_desk_of, is_prepared, kept_desks, unacked, with_ack, with_ballot, without}
-use Rattle.dtx_model.specs.Observed.{branch_number, branches, is_branch, with_branch}
-use Rattle.dtx_model.specs.Wires.{WireRun, in_transit, is_next, is_open_wire, is_stopped, opened_with, opens, same_direction, sent_behind, without_first}
+use Rattle.dtx_model.specs.Coordinated.{accepts, ballot_of, coordinate, desk_number, follow, is_active, is_desk_of, is_prepared, kept_desks, unacked, with_ack, with_ballot}
+use Rattle.dtx_model.specs.Observed.{branch_number, branches, is_branch}
+use Rattle.dtx_model.specs.Wires.{WireRun, in_transit, is_next, is_open_wire, is_stopped, opened_with, opens, sent_behind, without_first}
 use Rattle.dtx_model.specs.Words.{each, has}
-use Rattle.dtx_model.proofs.Bools.{and_both, and_left, and_right, not_both, not_true, or_case, or_first, or_right, or_second}
+use Rattle.dtx_model.proofs.Bools.{and_both, and_left, and_right, not_both, or_case, or_right}
 use Rattle.dtx_model.proofs.Counts.{how_many-insert_by, how_many-map}
-use Rattle.coordinator_core.specs.Kept.{IsFew}
-use Rattle.local_half.specs.Linked.{AreLinked, is_of_branch}
-use Rattle.local_half.proofs.Links.{ends_few}
-use Rattle.local_half.proofs.Lists.{how_many-all, how_many-filter-le, how_many-filter-none, not_counted, picked, spread}
+use Rattle.local_half.proofs.Lists.{how_many-all, how_many-filter-le, not_counted, picked, spread}
 use Rattle.outcome_law.proofs.Connections.{same_is}
 use Rattle.outcome_law.proofs.Leading.{opening_was_sent}
 use Rattle.outcome_law.proofs.Lists.{has-insert}
-use Rattle.outcome_law.proofs.Owned.{has_filter}
 use Rattle.outcome_law.proofs.Scans.{has_more}
 use Rattle.outcome_law.proofs.Table.{is_opening_got}
 use Rattle.outcome_law.proofs.Tests.{eq_self, eq_swap}
-use Rattle.tx_world.proofs.FewBranches.{Roomy}
-use Rattle.tx_world.proofs.SendingOpened.{Opened, branch_stays, some_many}
+use Rattle.tx_world.proofs.SendingOpened.{Opened, branch_stays}
 
 no : false ≡ true → ⊥
 no e = absurd cc

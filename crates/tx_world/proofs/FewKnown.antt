@@ -1,5 +1,5 @@
 -- The connections that the coordinator knows, and who came back and waits, are of those that are at the coordinator; so it has room.
-use Rattle.std.proofs.Common.{◌≡◌, ◌≤◌, ℕ, suc, ◌==◌, Bool, true, false, ◌&&◌, ◌||◌, List, [], ◌∷◌, filter, length, map, Option, Some, None, refl, sym, subst, ap, ◌∙◌, arith}
+use Rattle.std.proofs.Common.{◌≡◌, ◌≤◌, suc, ◌==◌, Bool, true, false, ◌&&◌, ◌||◌, List, [], ◌∷◌, filter, length, map, refl, sym, subst, ap, ◌∙◌, arith}
 use Rattle.std.specs.Prelude.{not, if◌then◌else◌}
 use Rattle.std.proofs.lemmas.Bool.{eqb-true, or_left}
 use Rattle.std.proofs.lemmas.List.{length-map}
@@ -9,7 +9,6 @@ use Rattle.dtx_values.specs.declared.entry.Entry.TheVariants.{Down as Ended, Got
 use Rattle.dtx_values.specs.declared.message.Conn.{Conn}
 use Rattle.dtx_values.specs.declared.message.Conn.TheVariants.{Begin, Voter, Enl, Again}
 use Rattle.dtx_values.specs.declared.message.Dir.TheVariants.{Up, Down}
-use Rattle.dtx_values.specs.declared.message.Message.{Message}
 use Rattle.dtx_values.specs.declared.message.Message.TheVariants.{ReenlistReenlist}
 use Rattle.dtx_values.specs.declared.number.EnlNo.{EnlNo}
 use Rattle.dtx_values.specs.Ends.{is_end_of, order_of, same_connection}
@@ -19,9 +18,9 @@ use Rattle.dtx_model.specs.declared.branch.Branch.{Branch}
 use Rattle.dtx_model.specs.declared.waiting.EnteredCall.{EnteredCall}
 use Rattle.dtx_model.specs.Coordinated.{but, coordinate, follow, without}
 use Rattle.dtx_model.specs.Observed.{branches, is_branch}
-use Rattle.dtx_model.specs.Wires.{WireRun, opens}
+use Rattle.dtx_model.specs.Wires.{WireRun}
 use Rattle.dtx_model.specs.Words.{each, has}
-use Rattle.dtx_model.proofs.Bools.{and_both, and_left, and_right, not_both, or_case, or_right}
+use Rattle.dtx_model.proofs.Bools.{and_both, and_left, and_right, or_case, or_right}
 use Rattle.dtx_model.proofs.Counts.{how_many-insert_by}
 use Rattle.coordinator_core.specs.Kept.{IsFew}
 use Rattle.local_half.specs.Linked.{AreLinked, is_of_branch}

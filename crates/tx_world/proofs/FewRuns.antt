@@ -1,16 +1,16 @@
 -- In each world that steps make, at most 16 enlistments are at the coordinator: each ENLIST is sent before anything is decided, of one that lasts or whose call waits for its
 -- place, and these are at most 16.
-use Rattle.std.proofs.Common.{◌≡◌, ◌≤◌, ◌<◌, ◌+◌, ℕ, suc, ◌==◌, Bool, true, false, ◌&&◌, ◌||◌, List, [], ◌∷◌, ◌++◌, find, length, Option, Some, None, is_some, nat_le, refl, sym, subst, ap, ◌∙◌, arith}
+use Rattle.std.proofs.Common.{◌≡◌, ◌<◌, ◌+◌, ℕ, suc, ◌==◌, Bool, true, false, ◌&&◌, ◌||◌, List, [], ◌∷◌, ◌++◌, find, Option, Some, None, is_some, nat_le, refl, sym, subst, ap, ◌∙◌, arith}
 use Rattle.std.specs.Prelude.{not, if◌then◌else◌}
 use Rattle.std.specs.List.{flat_map}
-use Rattle.std.proofs.lemmas.Bool.{eqb-true, false_from_ne_true, or_left}
+use Rattle.std.proofs.lemmas.Bool.{or_left}
 use Rattle.std.proofs.lemmas.Bool.Decides.{nat_tests}
 use Rattle.dtx_values.specs.declared.call.Call.{Call}
-use Rattle.dtx_values.specs.declared.call.Call.TheVariants.{Volatile, Durable, Promotable}
+use Rattle.dtx_values.specs.declared.call.Call.TheVariants.{Durable}
 use Rattle.dtx_values.specs.declared.entry.Answer.{Answer}
-use Rattle.dtx_values.specs.declared.entry.Answer.TheVariants.{False, Fine, Many, TooLate, True, Wait}
+use Rattle.dtx_values.specs.declared.entry.Answer.TheVariants.{Many, TooLate, Wait}
 use Rattle.dtx_values.specs.declared.entry.Entry.{Entry}
-use Rattle.dtx_values.specs.declared.entry.Entry.TheVariants.{Answered, Called, Down as Ended, Enlisted, Got, Init, Promoted, Promoting, Sent, Stopped}
+use Rattle.dtx_values.specs.declared.entry.Entry.TheVariants.{Answered, Called, Down as Ended, Got, Promoted, Promoting, Sent, Stopped}
 use Rattle.dtx_values.specs.declared.limits.TheConstants.{CALLS, DURABLES, ENLISTMENTS}
 use Rattle.dtx_values.specs.declared.message.Conn.{Conn}
 use Rattle.dtx_values.specs.declared.message.Conn.TheVariants.{Begin, Voter, Enl}
@@ -21,30 +21,23 @@ use Rattle.dtx_values.specs.declared.message.Message.TheVariants.{BeginBegin, En
 use Rattle.dtx_values.specs.declared.number.ActorNo.{ActorNo}
 use Rattle.dtx_values.specs.declared.number.EnlNo.{EnlNo}
 use Rattle.dtx_values.specs.declared.number.RmNo.{RmNo}
-use Rattle.dtx_values.specs.declared.number.TxNo.{TxNo}
-use Rattle.dtx_values.specs.declared.row.Row.{Row}
-use Rattle.dtx_values.specs.declared.script.EnlistOption.{EnlistOption}
-use Rattle.dtx_values.specs.declared.script.EnlistOption.TheVariants.{Plain as PlainOption, DuringPrepare}
-use Rattle.dtx_values.specs.declared.script.Support.{Support}
 use Rattle.dtx_values.specs.declared.words.Cause.{Cause}
-use Rattle.dtx_values.specs.declared.words.Class.TheVariants.{DurableSingle, Promotable as PromotableClass}
 use Rattle.dtx_values.specs.declared.words.Outcome.{Outcome}
-use Rattle.dtx_values.specs.Class.{is_promotable, is_volatile}
-use Rattle.dtx_values.specs.Owners.{cause_of, may_own}
-use Rattle.dtx_values.specs.Row.{is_lasting}
+use Rattle.dtx_values.specs.Class.{is_promotable}
+use Rattle.dtx_values.specs.Owners.{cause_of}
 use Rattle.dtx_values.specs.Support.{is_single}
 use Rattle.dtx_values.specs.Table.{how_many}
 use Rattle.dtx_model.specs.declared.waiting.EnteredCall.{EnteredCall}
 use Rattle.dtx_model.specs.declared.waiting.Wanted.TheVariants.{Identifier, Place}
 use Rattle.dtx_model.specs.Acts.{act_entries, lasts}
-use Rattle.dtx_model.specs.Answers.{class_of, durable_answer, has_promotion, if_begun, is_crowded, is_full, is_full_of_durables, local_answer, places, promotable_answer, unless_ended, wait_for}
+use Rattle.dtx_model.specs.Answers.{durable_answer, has_promotion, if_begun, is_crowded, is_full, is_full_of_durables, local_answer, unless_ended, wait_for}
 use Rattle.dtx_model.specs.Arrivals.{arrived, created, enlisted_at, hand_over, local_got, place_given}
-use Rattle.dtx_model.specs.Caused.{AreMadeOnce, MayCome, Ran}
+use Rattle.dtx_model.specs.Caused.{MayCome}
 use Rattle.dtx_model.specs.Coordinated.{may_log}
 use Rattle.dtx_model.specs.Entries.{began_of, decision_of, is_call, is_decision, is_promoted, is_sealed}
 use Rattle.dtx_model.specs.Facts.{begin_promotion, durable_facts, facts_if, has_facts}
 use Rattle.dtx_model.specs.Half.{Half, by_manager, enlist_sent, given, info, is_handed, is_promoting, over, promoted_by, sees}
-use Rattle.dtx_model.specs.Observed.{Observed, branches, handover, observe, rows, track}
+use Rattle.dtx_model.specs.Observed.{Observed, handover, observe, rows, track}
 use Rattle.dtx_model.specs.Promotes.{identifier_of, is_failed, is_promoting as is_start}
 use Rattle.dtx_model.specs.Replies.{reply_entries}
 use Rattle.dtx_model.specs.Steps.{Step, Calls, Replies, Acts, Coordinates, Delivers, Stops, Restarts, after, block_at, called, coordinates, delivered, ended_at, got_by, restarted}
@@ -52,23 +45,22 @@ use Rattle.dtx_model.specs.Waiting.{Waiter, call_at, is_place, is_place_of, wait
 use Rattle.dtx_model.specs.Wires.{in_transit}
 use Rattle.dtx_model.specs.Words.{each, has, latest, onto}
 use Rattle.dtx_model.specs.World.{World, half, core, answer_at, facts_at}
-use Rattle.dtx_model.proofs.Bools.{and_left, and_right, not_both, not_true, or_false, or_first, or_right, or_second}
+use Rattle.dtx_model.proofs.Bools.{and_left, and_right, not_both, or_right, or_second}
 use Rattle.dtx_model.proofs.Counts.{how_many-insert_by}
 use Rattle.dtx_model.proofs.Heeding.{fresh}
 use Rattle.dtx_model.proofs.Quiet.{Quiet, is_quiet, q_act, q_called, q_appended, q_ended_at, q_freed, q_got_by, q_if, q_one, q_reply, q_restarted}
 use Rattle.dtx_model.proofs.Reading.{has-onto}
 use Rattle.local_half.specs.Linked.{is_held}
-use Rattle.local_half.specs.Waits.{without}
-use Rattle.local_half.proofs.Lists.{how_many-filter-le, not_counted}
+use Rattle.local_half.proofs.Lists.{how_many-filter-le}
 use Rattle.local_half.proofs.Waiters.{found_number}
-use Rattle.outcome_law.proofs.DecidingBlocks.{kept_act, kept_arrived, kept_begin_promotion, kept_called, kept_coordinates, kept_core_got, kept_ended_at, kept_reply, kept_restarted}
+use Rattle.outcome_law.proofs.DecidingBlocks.{kept_arrived, kept_core_got, kept_ended_at}
 use Rattle.outcome_law.proofs.HalfKnows.{way_seen}
 use Rattle.outcome_law.proofs.Lists.{OfEach, of-more}
-use Rattle.outcome_law.proofs.Makers.{IsWaiter, ran_made, waiter_more}
+use Rattle.outcome_law.proofs.Makers.{IsWaiter, waiter_more}
 use Rattle.outcome_law.proofs.Owned.{decision_seen}
-use Rattle.outcome_law.proofs.PlainBlocks.{is_making, plain_act, plain_arrived, plain_begin_promotion, plain_called, plain_coordinates, plain_core_got, plain_ended_at, plain_reply, plain_restarted}
+use Rattle.outcome_law.proofs.PlainBlocks.{plain_arrived, plain_core_got, plain_ended_at}
 use Rattle.outcome_law.proofs.Waiters.{own_call}
-use Rattle.tx_world.proofs.FewBranches.{Roomy, answered_roomy, block_roomy, called_roomy, gentle_roomy, given_roomy, list_roomy, none_roomy, placed_roomy, row_roomy, sent_roomy}
+use Rattle.tx_world.proofs.FewBranches.{Roomy, block_roomy, gentle_roomy, given_roomy, placed_roomy, sent_roomy}
 
 no : false ≡ true → ⊥
 no e = absurd cc
@@ -98,11 +90,6 @@ called_idle ks n a Wait h p i = λ d s.
 called_idle ks n a _ h p i = i
 
 -- A durable's call that was done or waits: nothing is decided, and there is room; and one that waits does so in a promotion, or begins one.
-pub done_open : (l : Option ℕ) (d : Option Outcome) (a : Answer) → has_facts (if_begun l (unless_ended d a)) ≡ true → (d ≡ None) × (has_facts a ≡ true)
-done_open None d a k = absurd cc
-done_open (Some n) (Some x) a k = absurd cc
-done_open (Some n) None a k = (refl, k)
-
 pub durable_done : (s f c d p : Bool) (x : Answer) → has_facts (if s then TooLate else if f then Many ENLISTMENTS else if c then Many CALLS else if d then Many DURABLES else if p then Wait else x) ≡ true → d ≡ false
 durable_done true f c d p x k = absurd cc
 durable_done false true c d p x k = absurd cc
@@ -157,10 +144,6 @@ durable_started t h v e r single s going cause =
     by false false a b (Some c) f = fresh' (has (λ x. is_promotable x.class) v.seen.table) c
     by false false a b None f = absurd (no (f refl))
 
-facts_onto : (h : List Entry) (es : List Entry) (b : Bool) → (b ≡ true → has is_start (onto h es) ≡ true) → b ≡ true → has is_start (onto h (facts_if b es)) ≡ true
-facts_onto h es true f k = f refl
-facts_onto h es false f k = absurd (no k)
-
 durable_idle : (ks : List EnteredCall) (n : ℕ) (a : ActorNo) (x : Answer) (h es : List Entry) → Quiet es → (x ≡ Wait → has is_start (onto (Called n a x ∷ h) es) ≡ true) → IsIdle ks h → IsIdle ks (onto (Called n a x ∷ h) es)
 durable_idle ks n a Wait h es q f i = λ d s. absurd (not_both (has is_start (onto (Called n a Wait ∷ h) es)) (f refl) s)
 durable_idle ks n a x h es q f i = block_idle ks (Called n a x ∷ h) es q i
@@ -193,6 +176,7 @@ delivered_idle : (t : ℕ) (w : World) (c : Conn) (d : Dir) (ms : List Message) 
 delivered_idle t w c d [] i = block_idle w.calls (Ended c d ∷ w.past) (ended_at w c d) (q_ended_at w c d) i
 delivered_idle t w c d (m ∷ ms) i = block_idle w.calls (Got c d m ∷ w.past) (got_by t w c d m) (q_got_by t w c d m) i
 
+-- after each step
 pub step_idle : (G : ℕ → ActorNo → Call → Type 0) (t : ℕ) (w : World) (m : Step) → MayCome G t w m → (has is_promoted w.past ≡ true → has is_start w.past ≡ true) → IsIdle w.calls w.past → IsIdle (after t w m).calls (after t w m).past
 unfolding after block_at
 step_idle G t w (Calls n a c m) q going i = entered_idle t w n a c m q.1 going i
@@ -284,6 +268,7 @@ got_roomy G t w c m o i =
     let x = Got c Down m in
     block_roomy w.calls (x ∷ w.past) (arrived t (sees (half w) x) c m) (plain_arrived t (sees (half w) x) c m refl) (kept_arrived t (sees (half w) x) c m refl) (gentle_roomy w.calls x w.past refl i)
 
+-- a delivery
 pub delivered_roomy : (G : ℕ → ActorNo → Call → Type 0) (t : ℕ) (w : World) (c : Conn) (d : Dir) (ms : List Message) → OfEach (IsWaiter G w.calls w.past) (waiting w.calls w.past) → Roomy w.calls w.past
     → Roomy w.calls (onto w.past (delivered t w c d ms))
 delivered_roomy G t w c d [] o i = block_roomy w.calls (Ended c d ∷ w.past) (ended_at w c d) (plain_ended_at w c d) (kept_ended_at w c d) (gentle_roomy w.calls (Ended c d) w.past refl i)

@@ -67,7 +67,7 @@ no : false ≡ true → ⊥
 no e = absurd cc
 
 -- Where it isn't promoted, isn't promoting, and nothing is decided, no promotion began.
-unstarted : (h : List Entry) → has is_promoted h ≡ false → is_promoting (observe h) ≡ false → latest decision_of h ≡ None → (has is_failed h ≡ true → has is_decision h ≡ true) → has is_start h ≡ false
+pub unstarted : (h : List Entry) → has is_promoted h ≡ false → is_promoting (observe h) ≡ false → latest decision_of h ≡ None → (has is_failed h ≡ true → has is_decision h ≡ true) → has is_start h ≡ false
 unstarted h p w d f =
     by (has is_start h) (has is_promoted h) (has is_failed h) p
     (false_from_ne_true (has is_failed h) (λ k. not_both (has is_decision h) (f k) (sym (decision_seen h) ∙ ap (λ (o : Option Outcome). is_some o) d))) (sym (way_seen h) ∙ w)
@@ -93,7 +93,7 @@ start_block h v (Some c) q n i =
     (sym (has_rows (λ e d. is_promotable d) h) ∙ ap (has (λ (x : Row). is_promotable x.class)) (sym q) ∙ b))) next)
 
 -- A call was done where nothing is decided.
-done_open : (l : Option ℕ) (d : Option Outcome) (a : Answer) → has_facts (if_begun l (unless_ended d a)) ≡ true → (d ≡ None) × (has_facts a ≡ true)
+pub done_open : (l : Option ℕ) (d : Option Outcome) (a : Answer) → has_facts (if_begun l (unless_ended d a)) ≡ true → (d ≡ None) × (has_facts a ≡ true)
 done_open None d a k = absurd cc
 done_open (Some n) (Some x) a k = absurd cc
 done_open (Some n) None a k = (refl, k)
@@ -118,7 +118,7 @@ durable_ends t h v e r single True k s d n i = one_ends (Enlisted e DurableSingl
 durable_ends t h v e r single _ k s d n i = i
 
 -- A promotable's call, where no promotion is under way.
-owns_alone : (s m f : Bool) → has_facts (if s then TooLate else if not m then False else if f then Many ENLISTMENTS else True) ≡ true → m ≡ true
+pub owns_alone : (s m f : Bool) → has_facts (if s then TooLate else if not m then False else if f then Many ENLISTMENTS else True) ≡ true → m ≡ true
 owns_alone true m f k = absurd cc
 owns_alone false true f k = refl
 owns_alone false false f k = absurd cc

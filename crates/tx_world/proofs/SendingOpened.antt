@@ -172,6 +172,7 @@ with_stays f e r bs k =
     by true q = refl
     by false q = other q bs k
 
+-- with any entry
 pub branch_stays : (x : Entry) (h : List Entry) (f : ℕ) → has (is_branch f) (branches h) ≡ true → has (is_branch f) (branches (x ∷ h)) ≡ true
 branch_stays (Sent (Enl e) Up (EnlistEnlist i)) h f k = with_stays f e i.rm (branches h) k
 branch_stays (Got (Enl e) Down EnlistEnlisted) h f k = has_kept (is_branch f) (branch_enlisted e.value) (λ b. refl) (branches h) ∙ k
