@@ -138,10 +138,11 @@ ran_ends G t (m ∷ ms) w v once r =
     subst (λ (x : World). Ends x.past) (sym r.3)
     (step_ends G t r.0 m once before v r.2 (subst (λ (x : World). WireRun x.past) r.3 (wire_run G t (m ∷ ms) w r)) (ran_ends G t ms r.0 v once r.1))
 
--- the identifier of a transaction is valid: its halves are 1 and the transaction's number
+-- the halves of a sum: 1, and a number below
 halves : (w t : ℕ) → t < w → ((w + t) / w ≡ 1) × ((w + t) % w ≡ t)
 halves w t k = let e : w + t ≡ 1 * w + t = omega arith in (ap (λ n. n / w) e ∙ div-mul-add 1 w t k, ap (λ n. n % w) e ∙ mod-mul-add 1 w t k)
 
+-- the identifier of a transaction is valid
 pub id_valid : (t : ℕ) → 1 ≤ t → t ≤ 256 → is_id (identifier_of t) ≡ true
 id_valid t low high =
     let parts = halves 18446744073709551616 t (omega arith) in
