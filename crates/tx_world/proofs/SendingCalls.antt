@@ -232,6 +232,7 @@ other_ends t w n a c x o i =
     let h = Called n a x ∷ w.past in
     apt_ends h (facts_if (has_facts x) (facts_at t w c x)) (apt_facts_if (has_facts x) (apt_facts_at t w (called_hears w.past n a x) c x o)) (called_ends w.past n a x i)
 
+-- it keeps what stands at the end of each block
 pub call_ends : (G : ℕ → ActorNo → Call → Type 0) (t : ℕ) (w : World) (n : ℕ) (a : ActorNo) (c : Call) (m : ℕ) → AreMadeOnce G → AreMade G w.calls w.past → G n a c → has (is_call n) w.past ≡ false
     → is_id (identifier_of t) ≡ true → Ends w.past → Ends (onto w.past (called t w n a c (answer_at t w c m)))
 unfolding answer_at local_answer observe

@@ -48,6 +48,7 @@ no e = absurd cc
 abbrev pub is_unpromotable : List Entry → Bool
 is_unpromotable h = each (λ x. not (is_promotable x.1)) (enlisted h)
 
+-- what stands of the connections and of the promotion
 pub record Opened (h : List Entry) : Type 0 where
   -- b is opened after the promotion began, once, and by a promotable's answer or where there is no promotable; a promotable is asked to promote after it began
   pub begun : has (opens Begin) h ≡ true → has is_promoting h ≡ true
@@ -69,6 +70,7 @@ pub record Opened (h : List Entry) : Type 0 where
   pub fresh : (e : EnlNo) → how_many (opens (Enl e)) h ≤ 1
   pub back : (e : EnlNo) → has (opens (Again e)) h ≡ true → has (is_branch e.value) (branches h) ≡ true
 
+-- before the first step
 pub none_opened : Opened []
 none_opened = record {
   begun = λ k. absurd (no k);
@@ -86,6 +88,7 @@ none_opened = record {
   back = λ e k. absurd (no k);
 }
 
+-- a connection of a reenlistment
 abbrev pub is_again : Conn → Bool
 is_again (Again e) = true
 is_again _ = false
@@ -104,6 +107,7 @@ is_calm h (Promoting c) = false
 is_calm h (Promoted u c) = false
 is_calm h _ = true
 
+-- an entry that may follow is calm
 pub apt_calm : (h : List Entry) (x : Entry) → is_apt h x ≡ true → is_calm h x ≡ true
 apt_calm h (Sent c Up m) k = or_right (comes_back h c) (not (is_opening c m)) (by _ (is_opening c m) _ k)
   where
@@ -196,10 +200,10 @@ back_there h (Sent c Down m) e k o = absurd (no o)
 back_there h _ e k o = absurd (no o)
 
 -- where an entry fails a test, the history passes it as before
-pub older : (p : Entry → Bool) (x : Entry) (h : List Entry) → p x ≡ false → has p (x ∷ h) ≡ true → has p h ≡ true
+older : (p : Entry → Bool) (x : Entry) (h : List Entry) → p x ≡ false → has p (x ∷ h) ≡ true → has p h ≡ true
 older p x h n k = or_case (p x) (has p h) (λ t. absurd (not_both (p x) t n)) (λ t. t) k
 
-pub newer : (p : Entry → Bool) (x : Entry) (h : List Entry) → has p h ≡ true → has p (x ∷ h) ≡ true
+newer : (p : Entry → Bool) (x : Entry) (h : List Entry) → has p h ≡ true → has p (x ∷ h) ≡ true
 newer p x h k = or_right (p x) (has p h) k
 
 same_many : (p : Entry → Bool) (x : Entry) (h : List Entry) → p x ≡ false → how_many p (x ∷ h) ≡ how_many p h
@@ -262,6 +266,7 @@ begin_opened h n s p i = record {
     by : (k : ℕ) → k ≡ 0 → suc k ≤ 1
     by k e = omega (arith, e)
 
+-- one that passes counts
 pub some_many : (p : Entry → Bool) (h : List Entry) → has p h ≡ true → 1 ≤ how_many p h
 some_many p [] k = absurd (no k)
 some_many p (x ∷ h) k = step (p x) (some_many p h) k
