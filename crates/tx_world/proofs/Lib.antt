@@ -32,3 +32,8 @@ pub mod Listing
 pub mod Entering
 pub mod AtTheLog
 pub mod CallsOn
+pub mod FewBranches
+pub mod FewRuns
+pub mod FewAnswers
+pub mod FewDesks
+pub mod FewKnown
