@@ -15,7 +15,7 @@ use Rattle.dtx_model.specs.World.{core}
 use Rattle.tx_world.proofs.AtTheLog.{Acted, acted, acted_does, acted_whole, stop_only, written_only}
 use Rattle.tx_world.proofs.Living.{seen_as}
 use Rattle.tx_world.proofs.Written.{block_of, stopped_is}
-use Rattle.tx_world.proofs.world.TxWorld.coordinate.Goals as goal
+use Rattle.tx_world.proofs.world.TxWorld.act_at_log.Goals as goal
 
 pub invariant_of-self-then-is_stopped : goal.invariant_of-self-then-is_stopped
 invariant_of-self-then-is_stopped g c =
