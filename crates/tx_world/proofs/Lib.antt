@@ -31,3 +31,10 @@ pub mod Living
 pub mod Listing
 pub mod Entering
 pub mod AtTheLog
+pub mod CallsOn
+pub mod FewBranches
+pub mod FewRuns
+pub mod FewAnswers
+pub mod FewDesks
+pub mod FewKnown
+pub mod Settling

@@ -44,13 +44,8 @@ pub near_gone : (h : Half) (e : EnlNo) → Each is_near (gone_unlinked h e)
 near_gone h e = near_of (bare_gone h e)
 
 pub near_reenlist : (t : ℕ) (b : Option Branch) → Each is_near (reenlist_facts t b)
-<<<<<<< HEAD
 near_reenlist t b = near_of (bare_reenlist t b)
 
 pub near_facts : (t : ℕ) (h : Half) (c : Call) (a : Answer) → Each is_near (local_facts t h c a)
 near_facts t h (Clone u c k) a = e_one (Cloned c k) refl
 near_facts t h c a = near_of (bare_facts t h c a refl)
-=======
-near_reenlist t (Some b) = e_cons (Reenlisted b.enlistment) refl (e_one (Sent (Again b.enlistment) Up (ReenlistReenlist (info t b.enlistment b.manager))) refl)
-near_reenlist t None = e_none
->>>>>>> f9650ac239c0430e699641d4f482fe5ef881830f
