@@ -4,20 +4,24 @@ use Rattle.dtx_values.specs.Outgoing.{Outgoing, blank, written as put_out}
 use Rattle.dtx_values.specs.declared.call.Call.{Call}
 use Rattle.dtx_values.specs.declared.call.Call.TheVariants.{Await, Do, Lose, Gone, Reenlist, Recovered}
 use Rattle.dtx_values.specs.declared.entry.Answer.{Answer}
+use Rattle.dtx_values.specs.declared.entry.Answer.TheVariants.{Fine, True, Wait}
 use Rattle.dtx_values.specs.declared.entry.Entry.{Entry}
 use Rattle.dtx_values.specs.declared.entry.Entry.TheVariants.{Called}
 use Rattle.dtx_values.specs.declared.number.ActorNo.{ActorNo}
 use Rattle.dtx_values.specs.declared.number.TxNo.{TxNo}
-use Rattle.dtx_model.specs.Words.{each}
+use Rattle.dtx_model.specs.declared.waiting.EnteredCall.{EnteredCall}
+use Rattle.dtx_model.specs.Observed.{track}
+use Rattle.dtx_model.specs.Words.{each, has}
 use Rattle.dtx_model.specs.Answers.{local_answer}
 use Rattle.dtx_model.specs.Facts.{call_entries, facts_if, has_facts, local_facts}
-use Rattle.dtx_model.specs.Half.{Half}
+use Rattle.dtx_model.specs.Half.{Half, heeds_all}
 use Rattle.dtx_model.specs.World.{World, half, answer_at, facts_at}
 use Rattle.dtx_model.specs.Steps.{Calls, after, block_at, entered}
-use Rattle.dtx_model.specs.Caused.{AreMadeOnce, IsIn, MayAnswer, MayCome}
+use Rattle.dtx_model.specs.Caused.{AreMadeOnce, IsIn, MayAnswer, MayCome, is_begin_sent}
 use Rattle.local_half.specs.Half.{Known, after as known_after, is_its_own}
 use Rattle.coordinator_core.specs.Kept.{Kept as CoreKept}
-use Rattle.tx_world.specs.State.{may_enter}
+use Rattle.tx_world.specs.State.{may_enter, sends_begin}
+use Rattle.tx_world.proofs.Begun.{MayWrite, may_write}
 use Rattle.tx_world.specs.Course.{is_near}
 use Rattle.tx_world.specs.Kept.{Kept}
 use Rattle.tx_world.proofs.Blocks.{Each, e_cons, e_none}
@@ -77,3 +81,40 @@ own_ready t w h g k n a c m o p xs kept may answers own local value wrote clear 
     ready t w (Calls n a c m) h g k xs kept come once
     (near_kept t w (Calls n a c m) h g k kept come once (local ∙ ap (known_after (entered (Calls n a c 0) []) h) block) near)
     (block_of o p xs (call_entries h.transaction.value h.half n a c) value wrote clear ∙ block) near
+
+-- a call that writes its entry alone changes nothing that is known
+unheard : (ks : List EnteredCall) (h : Half) (n : ℕ) (a : ActorNo) (x : Answer) → has_facts x ≡ false → heeds_all ks h (Called n a x ∷ []) ≡ h
+unfolding heeds_all track
+unheard ks h n a Fine f = absurd (cc)
+unheard ks h n a True f = absurd (cc)
+unheard ks h n a Wait f = absurd (cc)
+unheard ks h n a _ f = refl
+
+alone_block : (t : ℕ) (w : World) (n : ℕ) (a : ActorNo) (c : Call) (m : ℕ) (x : Answer) → x ≡ answer_at t w c m → has_facts x ≡ false → Called n a x ∷ [] ≡ block_at t w (Calls n a c m)
+unfolding block_at
+alone_block t w n a c m x e f =
+    ap (λ b. Called n a x ∷ facts_if b (facts_at t w c x)) (sym f) ∙ ap (λ y. Called n a y ∷ facts_if (has_facts y) (facts_at t w c y)) e
+
+-- A call that writes its entry alone is ready to be written.
+pub record Alone (t : TxNo) (w : World) (n : ℕ) (a : ActorNo) (c : Call) (m : ℕ) (x : Answer) (h : Known) (k : CoreKept) : Type 0 where
+  pub kept : Kept t (after t.value w (Calls n a c m)) h k
+  pub block : Called n a x ∷ [] ≡ block_at t.value w (Calls n a c m)
+  pub may : MayWrite t.value w (Calls n a c m)
+  pub silent : sends_begin t.value w (Calls n a c m) ≡ false
+
+pub alone_ready : (t : TxNo) (w : World) (h : Known) (k : CoreKept) (n : ℕ) (a : ActorNo) (c : Call) (m : ℕ) (x : Answer) → Kept t w h k → may_enter w n c ≡ true → MayAnswer t.value w c m
+    → x ≡ answer_at t.value w c m → has_facts x ≡ false → Alone t w n a c m x h k
+alone_ready t w h k n a c m x kept may answers is silent =
+    let block = alone_block t.value w n a c m x is silent in
+    let come = call_comes t w h k n a c m kept may answers in
+    let once = call_once t w h k n a c m kept may in
+    let ks = entered (Calls n a c m) [] in
+    let near : each is_near (block_at t.value w (Calls n a c m)) ≡ true = ap (each is_near) (sym block) in
+    record {
+      kept =
+          near_kept t w (Calls n a c m) h h k kept come once
+          (ap (λ (g : Half). record { transaction = h.transaction; half = g }) (sym (unheard ks h.half n a x silent)) ∙ ap (known_after ks h) block) near;
+      block = block;
+      may = may_write t w (Calls n a c m) kept.ran come once;
+      silent = ap (has is_begin_sent) (sym block);
+    }
