@@ -1,10 +1,10 @@
 -- A call that the local side answers, in a world that holds.
-use Rattle.std.proofs.Common.{◌≡◌, ℕ, Bool, true, false, ◌&&◌, not, List, [], ◌∷◌, refl, ap, sym, subst, ◌∙◌}
+use Rattle.std.proofs.Common.{◌≡◌, ℕ, Bool, true, false, ◌&&◌, not, List, [], ◌∷◌, Result, Ok, Err, IfOk, refl, ap, sym, subst, ◌∙◌}
 use Rattle.dtx_values.specs.Outgoing.{Outgoing, blank, written as put_out}
 use Rattle.dtx_values.specs.declared.call.Call.{Call}
 use Rattle.dtx_values.specs.declared.call.Call.TheVariants.{Await, Do, Lose, Gone, Reenlist, Recovered}
 use Rattle.dtx_values.specs.declared.entry.Answer.{Answer}
-use Rattle.dtx_values.specs.declared.entry.Answer.TheVariants.{Fine, True, Wait}
+use Rattle.dtx_values.specs.declared.entry.Answer.TheVariants.{Did, Fine, True, Wait}
 use Rattle.dtx_values.specs.declared.entry.Entry.{Entry}
 use Rattle.dtx_values.specs.declared.entry.Entry.TheVariants.{Called}
 use Rattle.dtx_values.specs.declared.number.ActorNo.{ActorNo}
@@ -12,7 +12,7 @@ use Rattle.dtx_values.specs.declared.number.TxNo.{TxNo}
 use Rattle.dtx_model.specs.declared.waiting.EnteredCall.{EnteredCall}
 use Rattle.dtx_model.specs.Observed.{track}
 use Rattle.dtx_model.specs.Words.{each, has}
-use Rattle.dtx_model.specs.Answers.{local_answer}
+use Rattle.dtx_model.specs.Answers.{await_answer, if_begun, local_answer}
 use Rattle.dtx_model.specs.Facts.{call_entries, facts_if, has_facts, local_facts}
 use Rattle.dtx_model.specs.Half.{Half, heeds_all}
 use Rattle.dtx_model.specs.World.{World, half, answer_at, facts_at}
@@ -27,7 +27,7 @@ use Rattle.tx_world.specs.Kept.{Kept}
 use Rattle.tx_world.proofs.Blocks.{Each, e_cons, e_none}
 use Rattle.tx_world.proofs.Entering.{fresh_line, may_be_entered, once_more}
 use Rattle.tx_world.proofs.Near.{near_facts}
-use Rattle.tx_world.proofs.Onward.{near_kept}
+use Rattle.tx_world.proofs.Onward.{half_is, near_kept}
 use Rattle.tx_world.proofs.Written.{Ready, block_of, ready}
 
 -- its answer is the half's, whatever number is given with it
@@ -118,3 +118,18 @@ alone_ready t w h k n a c m x kept may answers is silent =
       may = may_write t w (Calls n a c m) kept.ran come once;
       silent = ap (has is_begin_sent) (sym block);
     }
+
+-- the answers of await and do
+pub await_is : (t : TxNo) (w : World) (h : Known) (k : CoreKept) (c : Call) (u : TxNo) (m : ℕ) (x : Answer) → Kept t w h k → c ≡ Await u → x ≡ if_begun h.half.seen.limit (await_answer h.half.seen.told_client) → x ≡ answer_at t.value w c m
+unfolding answer_at local_answer
+await_is t w h k c u m x kept same is =
+    is ∙ ap (λ (g : Half). if_begun g.seen.limit (await_answer g.seen.told_client)) (half_is t w h k kept) ∙ ap (λ d. answer_at t.value w d m) (sym same)
+
+pub did_is : (t : TxNo) (w : World) (h : Known) (k : CoreKept) (c : Call) (u : TxNo) (i j m : ℕ) (x : Answer) → Kept t w h k → c ≡ Do u i j → x ≡ if_begun h.half.seen.limit (Did m) → x ≡ answer_at t.value w c m
+unfolding answer_at local_answer
+did_is t w h k c u i j m x kept same is = is ∙ ap (λ (g : Half). if_begun g.seen.limit (Did m)) (half_is t w h k kept) ∙ ap (λ d. answer_at t.value w d m) (sym same)
+
+-- an answer that is another
+pub is_answered : {E : Type 0} (r : Result Answer E) (x y : Answer) → IfOk r (λ a. a ≡ x) → x ≡ y → IfOk r (λ a. a ≡ y)
+is_answered (Ok a) x y i e = i ∙ e
+is_answered (Err e) x y i s = tt

@@ -1,7 +1,6 @@
-use Rattle.std.proofs.Common.{◌≡◌, ◌&&◌, ◌∷◌, ◌∙◌, ℕ, Bool, List, Option, true, false, not, nat_le, ap, sym, subst, is_some}
+use Rattle.std.proofs.Common.{◌≡◌, ◌∷◌, ◌∙◌, List, Option, true, false, not, nat_le, ap, sym, subst, is_some}
 use Rattle.dtx_values.specs.declared.entry.Entry.{Entry}
 use Rattle.dtx_values.specs.declared.entry.Entry.TheVariants.{Restarted}
-use Rattle.dtx_model.specs.Coordinated.{Coordinated, follow}
 use Rattle.dtx_model.specs.Log.{CommitRecord, first_of}
 use Rattle.dtx_model.specs.Promotes.{identifier_of}
 use Rattle.dtx_model.specs.Words.{has, past_of}
@@ -14,7 +13,6 @@ use Rattle.tx_world.specs.AtLog.{Kept as LogKept, id_of}
 use Rattle.tx_world.specs.Kept.{Whole, stop_if, stopped_if}
 use Rattle.tx_world.specs.State.{TxState, is_reached_by}
 use Rattle.tx_world.proofs.AtTheLog.{told, told_stopped}
-use Rattle.tx_world.proofs.Living.{seen_as}
 use Rattle.tx_world.proofs.world.TxWorld.coordinator_restarted.Goals as goal
 
 pub restarted-requires-clause-stopped : goal.restarted-requires-clause-stopped
