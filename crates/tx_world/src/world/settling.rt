@@ -1,8 +1,11 @@
-//! Doing the pending steps until none is left.
-ghost use Rattle.std.specs.Prelude.{◌≡◌, ◌≤◌, IfOk, IsTrue};
+//! Doing the pending steps, one or all.
+ghost use Rattle.std.specs.Prelude.{◌≡◌, ◌≤◌, ◌<◌, Ok, None, IfOk, OnErr, IsTrue, true, false};
+ghost use Rattle.dtx_model.specs.Words.{kth};
+ghost use Rattle.dtx_model.specs.Steps.{pending};
 ghost use Rattle.coordinator_log.specs.Slots.{open_records};
 ghost use Rattle.tx_world.specs.AtLog.{Fits, KeepsLog};
-ghost use Rattle.tx_world.specs.Stepping.{Settles};
+ghost use Rattle.tx_world.specs.Left.{steps_left};
+ghost use Rattle.tx_world.specs.Stepping.{DoesKth, Settles};
 
 use super::TxWorld;
 use crate::refusal::WorldError;
@@ -10,6 +13,25 @@ use coordinator_log::Log;
 use outside::Disk;
 
 impl TxWorld {
+    /// Does the k-th pending step, from 1; false exactly where fewer than k are pending, or k is 0. A reply is the planned one.
+    ///
+    /// # Errors
+    ///
+    /// [`WorldError::Memory`] where memory ran out, and then nothing was done.
+    pub fn step<D: Disk>(&mut self, log: &mut Log<D>, k: u32) -> Result<bool, WorldError>
+        requires fits { IsTrue D.honest → IsTrue log.old.is_up → Fits self.old (open_records log.old.slots) }
+        ensures none { result ≡ Ok false → (kth (pending self.old.world) k ≡ None) × (self.new ≡ self.old) × (log.new ≡ log.old) }
+        ensures some { result ≡ Ok true → DoesKth D.faults k self.old log.old self.new log.new }
+        ensures nearer { result ≡ Ok true → steps_left self.new.world < steps_left self.old.world }
+        ensures kept { IsTrue D.honest → KeepsLog D.image self.old log.old self.new log.new }
+        ensures life { log.new.life ≡ log.old.life }
+        ensures grows { D.faults log.old.disk ≤ D.faults log.new.disk }
+        ensures memory { OnErr result ((self.new ≡ self.old) × (log.new ≡ log.old)) }
+    {
+        self.is_own_run();
+        self.step_kth(log, k)
+    }
+
     /// Does the first pending step until none is left, and says how many it did.
     ///
     /// # Errors

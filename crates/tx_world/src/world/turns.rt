@@ -83,12 +83,8 @@ impl TxWorld {
         )
     }
 
-    /// Does the k-th pending step, from 1; false exactly where fewer than k are pending, or k is 0. A reply is the planned one.
-    ///
-    /// # Errors
-    ///
-    /// [`WorldError::Memory`] where memory ran out, and then nothing was done.
-    pub fn step<D: Disk>(&mut self, log: &mut Log<D>, k: u32) -> Result<bool, WorldError>
+    /// Does the k-th pending step, from 1, as [`TxWorld::step`] does.
+    pub(super) fn step_kth<D: Disk>(&mut self, log: &mut Log<D>, k: u32) -> Result<bool, WorldError>
         requires fits { IsTrue D.honest → IsTrue log.old.is_up → Fits self.old (open_records log.old.slots) }
         ensures none { result ≡ Ok false → (kth (pending self.old.world) k ≡ None) × (self.new ≡ self.old) × (log.new ≡ log.old) }
         ensures some { result ≡ Ok true → DoesKth D.faults k self.old log.old self.new log.new }
