@@ -96,13 +96,7 @@ fn transaction(rt: &impl Abort) -> TxNo {
 }
 
 /// Enters a call of client 1, and says what it answered.
-fn enter(
-    rt: &impl Abort,
-    world: &mut TxWorld,
-    log: &Log<MemDisk>,
-    line: u32,
-    c: &Call,
-) -> Answer
+fn enter(rt: &impl Abort, world: &mut TxWorld, log: &Log<MemDisk>, line: u32, c: &Call) -> Answer
     requires answers { MayAnswer world.old.transaction.value world.old.world c.now 0 }
     requires fits { IsTrue log.now.is_up → Fits world.old (open_records log.now.slots) }
     ensures fits { IsTrue log.now.is_up → Fits world.new (open_records log.now.slots) }
@@ -150,7 +144,10 @@ fn run(rt: &impl Abort, world: &mut TxWorld, log: &mut Log<MemDisk>, vote: Vote)
     assert_eq!(rt; enter(rt, world, log, 1, &begin), Answer::Fine);
     assert_eq!(rt; enter(rt, world, log, 2, &Call::Marshal(t)), Answer::Wait);
     settle(rt, world, log);
-    assert_eq!(rt; enter(rt, world, log, 3, &Call::Await(t)), Answer::StillOpen);
+    assert_eq!(rt;
+        enter(rt, world, log, 3, &Call::Await(t)),
+        Answer::StillOpen
+    );
     let durable = Call::Durable(t, e1, r1, Support::TwoPhase(Some(vote)));
     assert_eq!(rt; enter(rt, world, log, 4, &durable), Answer::Wait);
     assert_eq!(rt; enter(rt, world, log, 5, &Call::Commit(t)), Answer::Fine);
