@@ -121,6 +121,8 @@ impl AtLog {
         ensures kept { IsTrue D.honest → Keeps D.image (identifier_of core.old.transaction.value) (IsFit (identifier_of core.old.transaction.value) self.old.ours self.old.unsure)
             (IsFit (identifier_of core.old.transaction.value) self.new.ours self.new.unsure) log.old log.new }
         ensures grows { D.faults log.old.disk ≤ D.faults log.new.disk }
+        ensures unarmed { log.old.armed ≡ None → log.new.armed ≡ None }
+        ensures still { IsTrue log.new.is_up → IsTrue log.old.is_up }
     {
         match log.append(self.life, &kept) {
             Ok(_) => {
@@ -177,6 +179,8 @@ impl AtLog {
         ensures kept { IsTrue D.honest → Keeps D.image (identifier_of core.old.transaction.value) (IsFit (identifier_of core.old.transaction.value) self.old.ours self.old.unsure)
             (IsFit (identifier_of core.old.transaction.value) self.new.ours self.new.unsure) log.old log.new }
         ensures grows { D.faults log.old.disk ≤ D.faults log.new.disk }
+        ensures unarmed { log.old.armed ≡ None → log.new.armed ≡ None }
+        ensures still { IsTrue log.new.is_up → IsTrue log.old.is_up }
     {
         match log.free(self.life, id) {
             Ok(()) => self.freed(core, out),
@@ -210,6 +214,8 @@ impl AtLog {
         ensures kept { IsTrue D.honest → Keeps D.image (identifier_of core.old.transaction.value) (IsFit (identifier_of core.old.transaction.value) self.old.ours self.old.unsure)
             (IsFit (identifier_of core.old.transaction.value) self.new.ours self.new.unsure) log.old log.new }
         ensures grows { D.faults log.old.disk ≤ D.faults log.new.disk }
+        ensures unarmed { log.old.armed ≡ None → log.new.armed ≡ None }
+        ensures still { IsTrue log.new.is_up → IsTrue log.old.is_up }
     {
         match core.act() {
             Some(CoreAct::WriteRecord(record)) => self.append(record, core, log, out),

@@ -1,5 +1,5 @@
 //! The coordinator at the log: its act there, what an opening of the log says to it, and whether what it keeps ties with what the log has.
-ghost use Rattle.std.specs.Prelude.{ℕ, ◌≡◌, ◌≤◌, ◌&&◌, ◌||◌, ◌∷◌, ◌↔◌, ◌⊎◌, not, nat_le, Option, Ok, IfOk, OnOk, OnErr, IfErr, IsOk, IsTrue, true, false, is_some};
+ghost use Rattle.std.specs.Prelude.{ℕ, ◌≡◌, ◌≤◌, ◌&&◌, ◌||◌, ◌∷◌, ◌↔◌, ◌⊎◌, not, nat_le, Option, None, Ok, IfOk, OnOk, OnErr, IfErr, IsOk, IsTrue, true, false, is_some};
 ghost use Rattle.std.specs.Option.{option_map};
 ghost use Rattle.dtx_values.specs.declared.record.Differs.{Differs};
 ghost use Rattle.dtx_values.specs.declared.record.LogRecord.{LogRecord};
@@ -36,6 +36,8 @@ impl TxWorld {
         ensures kept { IsTrue D.honest → KeepsLog D.image self.old log.old self.new log.new }
         ensures life { log.new.life ≡ log.old.life }
         ensures grows { D.faults log.old.disk ≤ D.faults log.new.disk }
+        ensures unarmed { log.old.armed ≡ None → log.new.armed ≡ None }
+        ensures still { IsTrue log.new.is_up → IsTrue log.old.is_up }
         ensures unchanged { result ≡ Ok false → (self.new ≡ self.old) × (log.new ≡ log.old) }
         ensures memory { OnErr result ((self.new ≡ self.old) × (log.new ≡ log.old)) }
     {

@@ -26,6 +26,8 @@ impl TxWorld {
         ensures kept { IsTrue D.honest → KeepsLog D.image self.old log.old self.new log.new }
         ensures life { log.new.life ≡ log.old.life }
         ensures grows { D.faults log.old.disk ≤ D.faults log.new.disk }
+        ensures unarmed { log.old.armed ≡ None → log.new.armed ≡ None }
+        ensures still { IsTrue log.new.is_up → IsTrue log.old.is_up }
         ensures memory { OnErr result ((self.new ≡ self.old) × (log.new ≡ log.old)) }
     {
         self.is_own_run();
@@ -45,6 +47,8 @@ impl TxWorld {
         ensures kept { IsTrue D.honest → KeepsLog D.image self.old log.old self.new log.new }
         ensures life { log.new.life ≡ log.old.life }
         ensures grows { D.faults log.old.disk ≤ D.faults log.new.disk }
+        ensures unarmed { log.old.armed ≡ None → log.new.armed ≡ None }
+        ensures still { IsTrue log.new.is_up → IsTrue log.old.is_up }
     {
         let mut count = 0;
         while count < u32::MAX {
