@@ -18,4 +18,6 @@ loop-count-preserved g c =
       did.done.transaction ∙ was.2,
       c.step.ensures.life ∙ was.3,
       omega (arith, was.4, c.step.ensures.grows),
+      λ none. c.step.ensures.unarmed (was.5 none),
+      λ up. was.6 (c.step.ensures.still up),
     )

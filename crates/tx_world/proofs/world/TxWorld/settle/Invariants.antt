@@ -1,4 +1,4 @@
-use Rattle.std.proofs.Common.{◌-◌, ◌≡◌, ◌≤◌, IsTrue}
+use Rattle.std.proofs.Common.{◌-◌, ◌≡◌, ◌≤◌, IsTrue, None}
 use Rattle.tx_world.specs.AtLog.{KeepsLog}
 use Rattle.tx_world.specs.Stepping.{Stepped}
 use Rattle.tx_world.proofs.world.TxWorld.settle.Given as goal
@@ -10,6 +10,8 @@ invariant-loop-count g l =
     × (l.self.transaction ≡ l.initial.self.transaction)
     × (l.log.life ≡ l.initial.log.life)
     × (g.D.Disk.faults l.initial.log.disk ≤ g.D.Disk.faults l.log.disk)
+    × (l.initial.log.armed ≡ None → l.log.armed ≡ None)
+    × (IsTrue l.log.is_up → IsTrue l.initial.log.is_up)
 
 abbrev pub decreases-loop-count : goal.decreases-loop-count
 decreases-loop-count g l = 4294967295 - l.count
