@@ -5,3 +5,4 @@ pub mod Carried
 pub mod Course
 pub mod Kept
 pub mod Pending
+pub mod Entering

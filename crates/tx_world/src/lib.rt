@@ -1,6 +1,7 @@
 //! The whole of one transaction: its local side, its coordinator, the connections between them, and its history.
 #![tactic(auto)]
 
+mod answering;
 mod hearing;
 mod history;
 mod pending;

@@ -31,6 +31,7 @@ use outside::Disk;
 use std::alloc::Global;
 use std::marker::Model;
 
+mod calls;
 mod deliveries;
 mod steps;
 mod stops;

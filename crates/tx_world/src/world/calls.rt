@@ -1,0 +1,43 @@
+//! The calls.
+ghost use Rattle.std.specs.Prelude.{◌≡◌, IfOk, OnOk, OnErr, true};
+ghost use Rattle.dtx_model.specs.Caused.{MayAnswer};
+ghost use Rattle.dtx_model.specs.Steps.{Calls};
+ghost use Rattle.dtx_model.specs.World.{answer_at};
+ghost use Rattle.tx_world.specs.Entering.{is_local};
+ghost use Rattle.tx_world.specs.State.{may_enter};
+ghost use Rattle.tx_world.specs.Stepping.{Does};
+
+use super::TxWorld;
+use crate::answering::answer_call;
+use crate::refusal::WorldError;
+use crate::writing::{life_after, write_near};
+use coordinator_log::Log;
+use dtx_model::EnteredCall;
+use dtx_values::{ActorNo, Answer, Call};
+use outside::Disk;
+
+impl TxWorld {
+    /// Enters a call that is answered without the connections.
+    pub(super) fn enter_local<D: Disk>(&mut self, log: &Log<D>, actor: ActorNo, line: u32, c: &Call, done: u16) -> Result<Answer, WorldError>
+        requires near { is_local c.now ≡ true }
+        requires enters { may_enter self.old.world line c.now ≡ true }
+        requires answers { MayAnswer self.old.transaction.value self.old.world c.now done }
+        ensures answer { IfOk result (λ a. a ≡ answer_at self.old.transaction.value self.old.world c.now done) }
+        ensures done { OnOk result (Does D.faults (Calls line actor c.now done) self.old log.now self.new log.now) }
+        ensures ours { (self.new.ours ≡ self.old.ours) × (self.new.unsure ≡ self.old.unsure) }
+        ensures memory { OnErr result (self.new ≡ self.old) }
+    {
+        self.history.reserve()?;
+        self.calls.reserve(1)?;
+        self.out.clear();
+        let answer = answer_call(&mut self.half, actor, line, c, done, &mut self.out);
+        self.calls.push_reserved(EnteredCall {
+            line,
+            actor,
+            call: *c,
+        });
+        let begins = write_near(&mut self.history, &mut self.core, self.out.entries(), log);
+        self.life = life_after(begins, log.life(), self.life);
+        Ok(answer)
+    }
+}
