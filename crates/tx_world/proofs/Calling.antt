@@ -1,5 +1,5 @@
 -- What a call that is answered without the connections writes and leaves; and that it is ready to be written.
-use Rattle.std.proofs.Common.{◌≡◌, ◌∙◌, ℕ, Bool, true, false, List, [], ◌∷◌, Option, Some, None, refl, ap, subst, sym}
+use Rattle.std.proofs.Common.{◌≡◌, ◌∙◌, ℕ, Bool, true, false, List, [], ◌∷◌, ◌++◌, Option, Some, None, refl, ap, subst, sym}
 use Rattle.dtx_values.specs.Outgoing.{Outgoing, blank, written as put_out}
 use Rattle.dtx_values.specs.declared.call.Call.{Call}
 use Rattle.dtx_values.specs.declared.call.Call.TheVariants.{Durable, Promotable, Await, Do, Lose, Gone, Reenlist, Recovered}
@@ -18,10 +18,11 @@ use Rattle.dtx_model.specs.Facts.{call_entries, facts_if, has_facts, local_facts
 use Rattle.dtx_model.specs.Half.{Half, heeds, heeds_all}
 use Rattle.dtx_model.specs.declared.waiting.EnteredCall.{EnteredCall}
 use Rattle.dtx_model.specs.Waiting.{managed_by}
-use Rattle.dtx_model.specs.Words.{each}
+use Rattle.dtx_model.specs.Words.{each, past_of}
 use Rattle.dtx_model.specs.World.{World, half, answer_at, facts_at}
 use Rattle.dtx_model.specs.Steps.{Step, Calls, after, block_at, entered}
 use Rattle.dtx_model.specs.Caused.{AreMadeOnce, IsIn, MayAnswer, MayCome}
+use Rattle.dtx_model.proofs.Histories.{past_of-snoc}
 use Rattle.outcome_law.proofs.Tests.{eq_self}
 use Rattle.local_half.specs.Half.{Known, after as known_after, is_free, is_its_own, is_wait}
 use Rattle.coordinator_core.specs.Kept.{Kept as CoreKept}
@@ -184,3 +185,7 @@ call_ready t w h g k n a c m o p xs kept near may answers local value wrote clea
 
 pub answer_there : (t : TxNo) (w : World) (h : Known) (k : CoreKept) (c : Call) (m : ℕ) → Kept t w h k → is_local c ≡ true → local_answer h.transaction.value h.half c m ≡ answer_at t.value w c m
 answer_there t w h k c m kept near = ap (λ (x : Known). local_answer x.transaction.value x.half c m) kept.half ∙ answer_is t.value w c m near
+
+-- the calls with one more
+pub with_call : (ks js ls : List EnteredCall) (k : EnteredCall) → ls ≡ js ++ k ∷ [] → js ≡ ks → past_of ls ≡ k ∷ past_of ks
+with_call ks js ls k e f = ap (λ (xs : List EnteredCall). past_of xs) (e ∙ ap (λ (xs : List EnteredCall). xs ++ k ∷ []) f) ∙ past_of-snoc ks k

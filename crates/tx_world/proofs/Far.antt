@@ -96,4 +96,3 @@ far_core_got id k c m = e_if (aborts k (Got c Up m) && is_undecided k.stage) (fa
 pub far_core_down : (k : Coordinated) (c : Conn) → Each is_far (core_down k c)
 unfolding core_down
 far_core_down k c = e_if (is_early k c && is_undecided k.stage) (far_abort (follow k (Ended c Up))) e_none
-

@@ -1,4 +1,5 @@
 pub mod Blocks
+pub mod Bare
 pub mod Near
 pub mod Far
 pub mod Ended
@@ -20,4 +21,14 @@ pub mod Few
 pub mod Written
 pub mod Delivering
 pub mod Stopping
+pub mod Records
+pub mod Keeping
+pub mod Fitting
+pub mod Answering
+pub mod Freeing
+pub mod Found
+pub mod Living
 pub mod Listing
+pub mod Entering
+pub mod Calling
+pub mod AtTheLog

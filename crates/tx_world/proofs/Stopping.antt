@@ -35,6 +35,6 @@ hit_kept t w h k j calls n late kept hit same past transaction state =
     let runs = not_true (core w).stopped (and_right (has is_begin_sent w.past) (not (core w).stopped) both) in
     let world : record { calls = calls; past = n } ≡ after t.value w Stops = λ i. record { calls = same i; past = past i } in (
       subst (λ (x : World). Kept t x h j) (sym world)
-      (stop_kept t w h k j kept begun (ap (λ (s : Coordinated). s.stopped) (core_is t w h k kept) ∙ runs) (λ i. record { transaction = transaction i; state = state i })),
+          (stop_kept t w h k j kept begun (ap (λ (s : Coordinated). s.stopped) (core_is t w h k kept) ∙ runs) (λ i. record { transaction = transaction i; state = state i })),
       world,
     )

@@ -1,11 +1,15 @@
 -- What the coordinator of one transaction keeps of the log, and what of the log is another's.
-use Rattle.std.specs.Prelude.{ℕ, ◌≡◌, ◌≢◌, ◌⊎◌, ◌↔◌, ◌≤◌, Bool, true, false, not, List, filter, length, Option, Some, None, IfOk, IsTrue, IsFalse}
+use Rattle.std.specs.Prelude.{ℕ, ◌≡◌, ◌≢◌, ◌⊎◌, ◌↔◌, ◌≤◌, Bool, true, false, not, List, filter, length, Option, None, is_some, IfOk, IfSome, IsTrue, IsFalse}
+use Rattle.dtx_values.specs.Outgoing.{Outgoing, written as put_out}
 use Rattle.outside.specs.Faults.{Rose}
 use Rattle.dtx_model.specs.Log.{CommitRecord, first_of, is_record_of, log_has}
 use Rattle.dtx_model.specs.Promotes.{identifier_of}
-use Rattle.dtx_model.specs.Steps.{LogAnswer, Done, Full, StoppedNow, StoppedBefore}
+use Rattle.dtx_model.specs.Coordinated.{Coordinated, follow_all, is_recorded}
+use Rattle.dtx_model.specs.Steps.{LogAnswer, Full, StoppedNow, StoppedBefore, coordinates}
+use Rattle.dtx_model.specs.Caused.{may_coordinate}
 use Rattle.coordinator_log.specs.Slots.{lowest_closed, open_records}
 use Rattle.coordinator_log.specs.State.{LogState}
+use Rattle.coordinator_log.specs.Stop.{stop_in}
 use Rattle.tx_world.specs.State.{TxState}
 
 abbrev pub id_of : TxState → ℕ
@@ -23,28 +27,55 @@ AtMostOne id rs = length (filter (is_record_of id) rs) ≤ 1
 abbrev pub Tie : Option CommitRecord → Bool → Option CommitRecord → Type 0
 Tie ours unsure found = (found ≡ ours) ⊎ ((found ≡ None) × (unsure ≡ true))
 
--- the records fit the transaction: the two tie, and there is at most one record of its identifier
-pub record Fits (x : TxState) (rs : List CommitRecord) : Type 0 where
-  pub tie : Tie x.ours x.unsure (first_of (id_of x) rs)
-  pub one : AtMostOne (id_of x) rs
+-- The records fit what a transaction of this identifier keeps: the two tie, and there is at most one record of the identifier.
+pub record IsFit (id : ℕ) (ours : Option CommitRecord) (unsure : Bool) (rs : List CommitRecord) : Type 0 where
+  pub tie : Tie ours unsure (first_of id rs)
+  pub one : AtMostOne id rs
 
--- the records of each image that a crash can leave fit the transaction
-abbrev pub AreFit : (List ℕ → Type 0) → TxState → Type 0
-AreFit image x = (c : List ℕ) → image c → IfOk (log_has c) (λ rs. Fits x rs)
+abbrev pub Fits : TxState → List CommitRecord → Type 0
+Fits x rs = IsFit (id_of x) x.ours x.unsure rs
 
--- what a call leaves of an honest log: where it is up its records fit the transaction; so do those of each image, where they did before; and the records of each other
--- transaction stay, in the log and in each image
-pub record KeepsLog {D : Type 0} (image : D → List ℕ → Type 0) (old : TxState) (from : LogState D) (new : TxState) (to : LogState D) : Type 0 where
-  pub fits : IsTrue to.is_up → Fits new (open_records to.slots)
-  pub imaged : AreFit (image from.disk) old → AreFit (image to.disk) new
-  pub others : of_others (id_of old) (open_records to.slots) ≡ of_others (id_of old) (open_records from.slots)
-  pub others_imaged : (c : List ℕ) → image to.disk c → image from.disk c ⊎ IfOk (log_has c) (λ rs. of_others (id_of old) rs ≡ of_others (id_of old) (open_records from.slots))
+-- the records of each image that a crash can leave are so
+abbrev pub AreFit : (List ℕ → Type 0) → (List CommitRecord → Type 0) → Type 0
+AreFit image fits = (c : List ℕ) → image c → IfOk (log_has c) fits
 
--- what the log answered to the coordinator's act, with its cause: it was stopped by this call exactly where it was up and isn't any more, and by a fault unless a stop was
--- armed; it was found stopped exactly where it wasn't up, or in another life; and it is full only where no gate is closed
-pub record Answered {D : Type 0} (faults : D → ℕ) (old : TxState) (from to : LogState D) (a : LogAnswer) : Type 0 where
+-- What a call of the transaction with this identifier leaves of an honest log, where this is what fits it before and after: where the log is up its records fit the
+-- transaction; so do those of each image, where they did before; and the records of each other transaction stay, in the log and in each image.
+pub record Keeps {D : Type 0} (image : D → List ℕ → Type 0) (id : ℕ) (fit_before fit_after : List CommitRecord → Type 0) (from to : LogState D) : Type 0 where
+  pub fits : IsTrue to.is_up → fit_after (open_records to.slots)
+  pub imaged : AreFit (image from.disk) fit_before → AreFit (image to.disk) fit_after
+  pub others : of_others id (open_records to.slots) ≡ of_others id (open_records from.slots)
+  pub others_imaged : (c : List ℕ) → image to.disk c → image from.disk c ⊎ IfOk (log_has c) (λ rs. of_others id rs ≡ of_others id (open_records from.slots))
+
+abbrev pub KeepsLog : {D : Type 0} → (D → List ℕ → Type 0) → TxState → LogState D → TxState → LogState D → Type 0
+KeepsLog image old from new to = Keeps image (id_of old) (Fits old) (Fits new) from to
+
+-- What the log answered to the coordinator's act, with its cause: it was stopped by this call exactly where it was up and isn't any more, and by a fault unless a stop was
+-- armed; it was found stopped exactly where it wasn't up, or in another life than the coordinator's; and it is full only where no gate is closed.
+pub record Answered {D : Type 0} (faults : D → ℕ) (life : ℕ) (from to : LogState D) (a : LogAnswer) : Type 0 where
   pub now : (a ≡ StoppedNow) ↔ (IsTrue from.is_up × IsFalse to.is_up)
-  pub before : (a ≡ StoppedBefore) ↔ (IsFalse from.is_up ⊎ (old.life ≢ from.life))
+  pub before : (a ≡ StoppedBefore) ↔ (IsFalse from.is_up ⊎ (life ≢ from.life))
   pub full : a ≡ Full → lowest_closed from.slots ≡ 1024
-  pub cause : a ≡ StoppedNow → from.armed ≡ None → Rose (faults from.disk) (faults to.disk)
+  pub cause : a ≡ StoppedNow → stop_in 4 from.armed ≡ None → Rose (faults from.disk) (faults to.disk)
   pub smooth : a ≢ StoppedNow → faults to.disk ≡ faults from.disk
+
+-- what a coordinator keeps of the log: its record, whether the log was stopped under it, and the life of the log that it lives in
+pub record Kept : Type 0 where
+  pub ours : Option CommitRecord
+  pub unsure : Bool
+  pub life : ℕ
+
+-- What is kept is what the coordinator knows: while it isn't stopped, there is a record exactly where it was logged and wasn't freed, and nothing is unsure. A record
+-- has the transaction's identifier.
+pub record IsOurs (id : ℕ) (k : Coordinated) (x : Kept) : Type 0 where
+  pub sure : k.stopped ≡ false → x.unsure ≡ false
+  pub recorded : k.stopped ≡ false → is_some x.ours ≡ is_recorded k.stage
+  pub named : IfSome x.ours (λ r. r.id ≡ id)
+
+-- the coordinator of transaction t did its act at the log, which answered so
+pub record Acts {D : Type 0} (faults : D → ℕ) (k : Coordinated) (life : ℕ) (out : Outgoing) (from : LogState D) (after_it : Coordinated) (out_after : Outgoing) (to : LogState D) : Type 0 where
+  pub answer : LogAnswer
+  pub may : may_coordinate k answer ≡ true
+  pub state : after_it ≡ follow_all k (coordinates k answer)
+  pub written : out_after ≡ put_out out (coordinates k answer)
+  pub answered : Answered faults life from to answer

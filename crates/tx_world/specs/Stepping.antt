@@ -46,7 +46,7 @@ IsToPlan w _ = Unit {0}
 
 -- the coordinator's act goes by what the log answered
 abbrev pub IsAnswered : {D : Type 0} → (D → ℕ) → TxState → LogState D → LogState D → Step → Type 0
-IsAnswered faults old from to (Coordinates a) = Answered faults old from to a
+IsAnswered faults old from to (Coordinates a) = Answered faults old.life from to a
 IsAnswered faults old from to m = to ≡ from
 
 -- this step was done, while the log went from one state to the other

@@ -1,7 +1,7 @@
 //! The history of one transaction, with the connections that carry it.
 ghost use Rattle.std.specs.Prelude.{◌≡◌, ◌≢◌, ◌≤◌, ◌<◌, ◌+◌, ◌∷◌, ◌↔◌, [], List, Some, None, IfOk, IfSome, OnOk, true, false, length, min};
 ghost use Rattle.dtx_values.specs.declared.entry.Entry.{Entry};
-ghost use Rattle.dtx_values.specs.declared.entry.Entry.TheVariants.{Cut, Down as End, Got, Sent, Stopped};
+ghost use Rattle.dtx_values.specs.declared.entry.Entry.TheVariants.{Cut, Down as End, Got, Restarted, Sent, Stopped};
 ghost use Rattle.dtx_values.specs.declared.message.Dir.TheVariants.{Up, Down};
 ghost use Rattle.dtx_values.specs.declared.message.Message.{Message};
 ghost use Rattle.dtx_values.specs.Lines.{has_line};
@@ -235,5 +235,13 @@ impl History {
     {
         self.session.stop();
         self.entries.push_reserved(Entry::Stopped);
+    }
+
+    /// Writes that the coordinator is told what an opening of the log found. Each connection stands as it did.
+    pub(crate) fn restart(&mut self, found: bool)
+        requires room { 0 < self.old.room }
+        ensures past { self.new.past ≡ Restarted found ∷ self.old.past }
+    {
+        self.entries.push_reserved(Entry::Restarted(found));
     }
 }

@@ -1,9 +1,10 @@
 //! The whole of one transaction: its local side, its coordinator, the connections between them, and its history.
 #![tactic(auto)]
 
-mod answering;
+mod at_log;
 mod hearing;
 mod history;
+mod local_calls;
 mod pending;
 mod plans;
 mod refusal;

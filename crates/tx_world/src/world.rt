@@ -18,21 +18,21 @@ ghost use Rattle.tx_world.specs.State.{TxState, is_hit_by, is_reached_by, may_en
 ghost use Rattle.tx_world.specs.AtLog.{Fits, KeepsLog, Tie, id_of};
 ghost use Rattle.tx_world.specs.Stepping.{Does, DoesKth, Settles, needs_log, reply_in};
 
+use crate::at_log::AtLog;
 use crate::history::History;
 use crate::refusal::WorldError;
 use coordinator_core::Core;
 use coordinator_log::Log;
 use dtx_model::EnteredCall;
-use dtx_values::{
-    ActorNo, Answer, Call, Differs, EnlNo, Entry, LogRecord, Note, Outbox, Outcome, TxNo,
-};
+use dtx_values::{ActorNo, Answer, Call, EnlNo, Entry, Note, Outbox, Outcome, TxNo};
 use local_half::LocalHalf;
 use outside::Disk;
 use std::alloc::Global;
 use std::marker::Model;
 
-mod calls;
+mod at_the_log;
 mod deliveries;
+mod entering;
 mod steps;
 mod stops;
 mod turns;
@@ -46,18 +46,14 @@ pub struct TxWorld {
     history: History,
     /// The calls that were entered, oldest first.
     calls: Vec<EnteredCall>,
-    ours: Option<LogRecord>,
-    unsure: bool,
-    life: u64,
+    at_log: AtLog,
     /// What a step makes before it is written; kept for its memory alone.
     out: Outbox,
 }
 
 impl Model for TxWorld {
-    ghost use Rattle.std.specs.Option.{option_map};
     ghost use Rattle.dtx_model.specs.Words.{past_of};
-    ghost use Rattle.dtx_model.specs.Log.{record_of};
-    ghost use Rattle.tx_world.specs.Kept.{Kept};
+    ghost use Rattle.tx_world.specs.Kept.{Whole};
     ghost use Rattle.tx_world.specs.State.{TxState};
 
     ghost Value = { TxState };
@@ -65,12 +61,12 @@ impl Model for TxWorld {
     ghost view = { λ w. record {
       transaction = w.transaction;
       world = record { calls = past_of w.calls.items; past = w.history.past };
-      ours = option_map record_of w.ours;
-      unsure = w.unsure;
-      life = w.life;
+      ours = w.at_log.ours;
+      unsure = w.at_log.unsure;
+      life = w.at_log.life;
     } };
 
-    ghost invariant = { λ w. Kept w.transaction (record { calls = past_of w.calls.items; past = w.history.past }) w.half w.core };
+    ghost invariant = { λ w. Whole w.transaction (record { calls = past_of w.calls.items; past = w.history.past }) w.half w.core w.at_log };
 }
 
 /// The identifier of a transaction at the coordinator: the node 1 in the upper 64 bits, and the transaction's number in the lower.
@@ -95,9 +91,7 @@ impl TxWorld {
             core: Core::new(t),
             history: History::new(alloc)?,
             calls: Vec::new(alloc),
-            ours: None,
-            unsure: false,
-            life: 0,
+            at_log: AtLog::new(),
             out: Outbox::with_room(alloc)?,
         })
     }
@@ -145,7 +139,7 @@ impl TxWorld {
     pub fn life(&self) -> u64
         ensures { result ≡ self.now.life }
     {
-        self.life
+        self.at_log.life()
     }
 
     /// Whether the call of this line may be entered: no call of the line was, and none that makes the same enlistment or the same clone.
@@ -162,7 +156,14 @@ impl TxWorld {
     /// # Errors
     ///
     /// [`WorldError::Memory`] where memory ran out, and then nothing was done.
-    pub fn enter<D: Disk>(&mut self, log: &Log<D>, actor: ActorNo, line: u32, c: &Call, done: u16) -> Result<Answer, WorldError>
+    pub fn enter<D: Disk>(
+        &mut self,
+        log: &Log<D>,
+        actor: ActorNo,
+        line: u32,
+        c: &Call,
+        done: u16,
+    ) -> Result<Answer, WorldError>
         requires enters { may_enter self.old.world line c.now ≡ true }
         requires answers { MayAnswer self.old.transaction.value self.old.world c.now done }
         requires fits { IsTrue D.honest → IsTrue log.now.is_up → Fits self.old (open_records log.now.slots) }
@@ -187,39 +188,5 @@ impl TxWorld {
     {
         let _ = &self.calls;
         Ok(0)
-    }
-
-    /// The log was opened again: where the coordinator lives in an earlier life, it is told whether its record was found.
-    ///
-    /// # Errors
-    ///
-    /// [`WorldError::Memory`] where memory ran out, and then nothing was done.
-    pub fn coordinator_restarted<D: Disk>(&mut self, log: &Log<D>) -> Result<(), WorldError>
-        requires up { IsTrue log.now.is_up }
-        requires fits { IsTrue D.honest → Fits self.old (open_records log.now.slots) }
-        ensures transaction { self.new.transaction ≡ self.old.transaction }
-        ensures reached { OnOk result (is_reached_by log.now.life self.old ≡ true
-            → (self.new.world ≡ after self.old.transaction.value self.old.world (Restarts (is_some (first_of (id_of self.old) (open_records log.now.slots)))))
-            × (self.new.ours ≡ first_of (id_of self.old) (open_records log.now.slots)) × (self.new.unsure ≡ false) × (self.new.life ≡ log.now.life)) }
-        ensures unreached { is_reached_by log.now.life self.old ≡ false → self.new ≡ self.old }
-        ensures kept { IsTrue D.honest → Fits self.new (open_records log.now.slots) }
-        ensures memory { OnErr result (self.new ≡ self.old) }
-    {
-        let _ = &self.calls;
-        Ok(())
-    }
-
-    /// Whether what the transaction keeps as appended ties with what the log has of it. A log that is stopped says nothing.
-    ///
-    /// # Errors
-    ///
-    /// [`Differs::Log`] exactly where the log is up and the two don't tie.
-    pub fn ties<D: Disk>(&self, log: &Log<D>) -> Result<(), Differs>
-        ensures tie { IsOk result ↔ (IsTrue log.now.is_up → Tie self.now.ours self.now.unsure (first_of (id_of self.now) (open_records log.now.slots))) }
-        ensures differs { IfErr result (λ d. (o : Option LogRecord) × (f : Option LogRecord) × (d ≡ Differs.Log self.now.transaction o f)
-            × (option_map record_of o ≡ self.now.ours) × (option_map record_of f ≡ first_of (id_of self.now) (open_records log.now.slots))) }
-    {
-        let _ = &self.calls;
-        Ok(())
     }
 }

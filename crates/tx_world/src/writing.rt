@@ -1,5 +1,5 @@
 //! What a step of the local side makes of the rest of its world.
-ghost use Rattle.std.specs.Prelude.{◌≡◌, ◌≤◌, ◌&&◌, not, true, false, length, if◌then◌else◌};
+ghost use Rattle.std.specs.Prelude.{◌≡◌, ◌≤◌, ◌+◌, ◌&&◌, not, true, false, length, if◌then◌else◌};
 ghost use Rattle.dtx_model.specs.Words.{each, has, onto};
 ghost use Rattle.dtx_model.specs.Wires.{is_stopped};
 ghost use Rattle.dtx_model.specs.Caused.{is_begin_sent};
@@ -7,6 +7,7 @@ ghost use Rattle.tx_world.specs.Carried.{are_sendable};
 ghost use Rattle.tx_world.specs.Course.{is_written};
 ghost use Rattle.tx_world.specs.Kept.{stop_if, stopped_if};
 
+use crate::at_log::AtLog;
 use crate::history::History;
 use coordinator_core::Core;
 use coordinator_log::Log;
@@ -28,10 +29,11 @@ pub(crate) fn sends_begin(block: &[Entry]) -> bool
 }
 
 /// Stops the coordinator, where it has to.
-fn stop_if(history: &mut History, core: &mut Core, stops: bool)
+pub(crate) fn stop_if(history: &mut History, core: &mut Core, stops: bool)
     requires runs { stops ≡ true → core.old.state.stopped ≡ false }
     requires room { 1 ≤ history.old.room }
     ensures past { history.new.past ≡ stop_if stops history.old.past }
+    ensures room { history.old.room ≤ history.new.room + 1 }
     ensures core { core.new ≡ stopped_if stops core.old }
 {
     if stops {
@@ -41,7 +43,12 @@ fn stop_if(history: &mut History, core: &mut Core, stops: bool)
 }
 
 /// Writes the block of a step of the local side, and says whether it sends BEGIN. Where it does while the log is stopped, the coordinator stops at once.
-pub(crate) fn write_near<D: Disk>(history: &mut History, core: &mut Core, block: &[Entry], log: &Log<D>) -> bool
+pub(crate) fn write_near<D: Disk>(
+    history: &mut History,
+    core: &mut Core,
+    block: &[Entry],
+    log: &Log<D>,
+) -> bool
     requires written { each is_written block.now ≡ true }
     requires sendable { are_sendable (onto history.old.past block.now) ≡ true }
     requires stopped { core.old.state.stopped ≡ is_stopped history.old.past }
@@ -60,9 +67,11 @@ pub(crate) fn write_near<D: Disk>(history: &mut History, core: &mut Core, block:
     begins
 }
 
-/// The life of the coordinator after a step: it begins to live where BEGIN is sent.
-pub(crate) fn life_after(begins: bool, log_life: u64, life: u64) -> u64
-    ensures { result ≡ (if begins then log_life else life) }
+/// The coordinator begins to live in this life of the log, where BEGIN was sent.
+pub(crate) fn live(at_log: &mut AtLog, begins: bool, log_life: u64)
+    ensures { at_log.new ≡ record at_log.old { life = (if begins then log_life else at_log.old.life) } }
 {
-    if begins { log_life } else { life }
+    if begins {
+        at_log.begin(log_life);
+    }
 }

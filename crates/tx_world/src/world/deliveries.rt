@@ -8,7 +8,7 @@ ghost use Rattle.tx_world.specs.Stepping.{Does};
 use super::TxWorld;
 use crate::hearing::{hear_down, hear_up};
 use crate::refusal::WorldError;
-use crate::writing::{life_after, write_near};
+use crate::writing::{live, write_near};
 use coordinator_log::Log;
 use dtx_values::{Conn, Dir};
 use outside::Disk;
@@ -29,12 +29,17 @@ impl TxWorld {
             return Ok(false);
         };
         hear_up(&mut self.core, c, &came, &mut self.out);
-        self.history.write(self.out.entries(), self.core.is_stopped());
+        self.history
+            .write(self.out.entries(), self.core.is_stopped());
         Ok(true)
     }
 
     /// Delivers what comes next downward on a connection; false exactly where nothing is left.
-    pub(super) fn deliver_down<D: Disk>(&mut self, log: &Log<D>, c: Conn) -> Result<bool, WorldError>
+    pub(super) fn deliver_down<D: Disk>(
+        &mut self,
+        log: &Log<D>,
+        c: Conn,
+    ) -> Result<bool, WorldError>
         ensures left { IfOk result (λ b. b ≡ has_left c Down self.old.world.past) }
         ensures done { result ≡ Ok true → Does D.faults (Delivers c Down) self.old log.now self.new log.now }
         ensures ours { (self.new.ours ≡ self.old.ours) × (self.new.unsure ≡ self.old.unsure) }
@@ -48,7 +53,7 @@ impl TxWorld {
         };
         hear_down(&mut self.half, c, &came, &mut self.out);
         let begins = write_near(&mut self.history, &mut self.core, self.out.entries(), log);
-        self.life = life_after(begins, log.life(), self.life);
+        live(&mut self.at_log, begins, log.life());
         Ok(true)
     }
 }

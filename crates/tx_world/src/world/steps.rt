@@ -10,7 +10,7 @@ ghost use Rattle.tx_world.specs.Stepping.{Does};
 
 use super::TxWorld;
 use crate::refusal::WorldError;
-use crate::writing::{life_after, write_near};
+use crate::writing::{live, write_near};
 use coordinator_log::Log;
 use dtx_values::{EnlNo, Reply};
 use outside::Disk;
@@ -35,7 +35,7 @@ impl TxWorld {
             return Ok(false);
         }
         let begins = write_near(&mut self.history, &mut self.core, self.out.entries(), log);
-        self.life = life_after(begins, log.life(), self.life);
+        live(&mut self.at_log, begins, log.life());
         Ok(true)
     }
 
@@ -54,7 +54,7 @@ impl TxWorld {
         }
         self.half.act(&mut self.out);
         let begins = write_near(&mut self.history, &mut self.core, self.out.entries(), log);
-        self.life = life_after(begins, log.life(), self.life);
+        live(&mut self.at_log, begins, log.life());
         Ok(true)
     }
 }

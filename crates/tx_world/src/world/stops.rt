@@ -22,7 +22,7 @@ impl TxWorld {
         is_hit(
             sends_begin(self.history.entries()),
             self.core.is_stopped(),
-            self.life,
+            self.at_log.life(),
             life,
         )
     }

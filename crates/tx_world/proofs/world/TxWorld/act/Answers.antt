@@ -1,4 +1,4 @@
-use Rattle.std.proofs.Common.{◌≡◌, List, Option, Bool, true, not, is_some, refl, ap, sym, ◌∙◌, subst, if◌then◌else◌}
+use Rattle.std.proofs.Common.{◌≡◌, ◌&&◌, List, Option, Bool, true, not, is_some, refl, ap, sym, ◌∙◌, subst, if◌then◌else◌}
 use Rattle.dtx_values.specs.declared.entry.Entry.{Entry}
 use Rattle.dtx_values.specs.declared.note.Note.{Note}
 use Rattle.dtx_model.specs.Words.{has, onto, past_of}
@@ -14,7 +14,8 @@ use Rattle.coordinator_log.specs.State.{LogState}
 use Rattle.tx_world.specs.State.{TxState}
 use Rattle.tx_world.specs.Stepping.{Does}
 use Rattle.tx_world.proofs.Onward.{half_is}
-use Rattle.tx_world.proofs.Written.{Ready, act_ready, block_sendable, does_step, stopped_is, world_written, written_kept}
+use Rattle.tx_world.proofs.Living.{does_near, seen_as, whole_near}
+use Rattle.tx_world.proofs.Written.{Ready, act_ready, block_sendable, stopped_is, world_written, written_kept}
 use Rattle.tx_world.proofs.world.TxWorld.act.Goals as goal
 
 pub write_near-begins-requires-clause-written : goal.write_near-begins-requires-clause-written
@@ -24,7 +25,7 @@ write_near-begins-requires-clause-written g c =
     let xs = c.entries.result.now in
     let t = i.transaction in
     let ready : Ready t w Acts c.act.new.self i.core xs =
-    act_ready t w i.half c.act.new.self i.core c.clear.new.self c.act.new.out xs c.self.invariant (sym c.has_act.ensures ∙ c.if-not-has_act.false) c.act.ensures.state c.entries.ensures.value c.act.ensures.out c.clear.ensures in
+    act_ready t w i.half c.act.new.self i.core c.clear.new.self c.act.new.out xs c.self.invariant.kept (sym c.has_act.ensures ∙ c.if-not-has_act.false) c.act.ensures.state c.entries.ensures.value c.act.ensures.out c.clear.ensures in
     ready.written
 
 pub write_near-begins-requires-clause-sendable : goal.write_near-begins-requires-clause-sendable
@@ -34,14 +35,14 @@ write_near-begins-requires-clause-sendable g c =
     let xs = c.entries.result.now in
     let t = i.transaction in
     let ready : Ready t w Acts c.act.new.self i.core xs =
-    act_ready t w i.half c.act.new.self i.core c.clear.new.self c.act.new.out xs c.self.invariant (sym c.has_act.ensures ∙ c.if-not-has_act.false) c.act.ensures.state c.entries.ensures.value c.act.ensures.out c.clear.ensures in
+    act_ready t w i.half c.act.new.self i.core c.clear.new.self c.act.new.out xs c.self.invariant.kept (sym c.has_act.ensures ∙ c.if-not-has_act.false) c.act.ensures.state c.entries.ensures.value c.act.ensures.out c.clear.ensures in
     block_sendable t.value w Acts c.reserve.new.self.past xs ready.may c.in_ok-reserve.ensures.same ready.block
 
 pub write_near-begins-requires-clause-stopped : goal.write_near-begins-requires-clause-stopped
 write_near-begins-requires-clause-stopped g c =
     let i = c.self.inside in
     let w : World = record { calls = past_of i.calls.items; past = i.history.past } in
-    stopped_is i.transaction w i.half i.core c.reserve.new.self.past c.self.invariant c.in_ok-reserve.ensures.same
+    stopped_is i.transaction w i.half i.core c.reserve.new.self.past c.self.invariant.kept c.in_ok-reserve.ensures.same
 
 pub write_near-begins-requires-clause-runs : goal.write_near-begins-requires-clause-runs
 write_near-begins-requires-clause-runs g c =
@@ -50,7 +51,7 @@ write_near-begins-requires-clause-runs g c =
     let xs = c.entries.result.now in
     let t = i.transaction in
     let ready : Ready t w Acts c.act.new.self i.core xs =
-    act_ready t w i.half c.act.new.self i.core c.clear.new.self c.act.new.out xs c.self.invariant (sym c.has_act.ensures ∙ c.if-not-has_act.false) c.act.ensures.state c.entries.ensures.value c.act.ensures.out c.clear.ensures in
+    act_ready t w i.half c.act.new.self i.core c.clear.new.self c.act.new.out xs c.self.invariant.kept (sym c.has_act.ensures ∙ c.if-not-has_act.false) c.act.ensures.state c.entries.ensures.value c.act.ensures.out c.clear.ensures in
     ready.runs
 
 pub invariant_of-self-2 : goal.invariant_of-self-2
@@ -60,11 +61,13 @@ invariant_of-self-2 g c =
     let xs = c.entries.result.now in
     let t = i.transaction in
     let ready : Ready t w Acts c.act.new.self i.core xs =
-    act_ready t w i.half c.act.new.self i.core c.clear.new.self c.act.new.out xs c.self.invariant (sym c.has_act.ensures ∙ c.if-not-has_act.false) c.act.ensures.state c.entries.ensures.value c.act.ensures.out c.clear.ensures in
+    act_ready t w i.half c.act.new.self i.core c.clear.new.self c.act.new.out xs c.self.invariant.kept (sym c.has_act.ensures ∙ c.if-not-has_act.false) c.act.ensures.state c.entries.ensures.value c.act.ensures.out c.clear.ensures in
     let e = c.write_near-begins.ensures in
     let past = ap (λ (h : List Entry). onto h xs) c.in_ok-reserve.ensures.same ∙ ap (onto w.past) ready.block in
-    written_kept t w Acts c.args.log.now.is_up (has is_begin_sent xs) c.act.new.self i.core c.write_near-begins.new.core (past_of i.calls.items) (onto c.reserve.new.self.past xs) c.write_near-begins.new.history.past ready.kept
-    ready.runs refl (ap (has is_begin_sent) ready.block) past e.past e.core
+    whole_near i.core (has is_begin_sent xs && not c.args.log.now.is_up) _
+    (written_kept t w Acts c.args.log.now.is_up (has is_begin_sent xs) c.act.new.self i.core c.write_near-begins.new.core (past_of i.calls.items) (onto c.reserve.new.self.past xs) c.write_near-begins.new.history.past ready.kept
+    ready.runs refl (ap (has is_begin_sent) ready.block) past e.past e.core)
+    c.self.invariant.ours e.core c.live.ensures
 
 pub returns-clause-done : goal.returns-clause-done
 returns-clause-done g c d =
@@ -73,14 +76,11 @@ returns-clause-done g c d =
     let xs = c.entries.result.now in
     let t = i.transaction in
     let ready : Ready t w Acts c.act.new.self i.core xs =
-    act_ready t w i.half c.act.new.self i.core c.clear.new.self c.act.new.out xs c.self.invariant (sym c.has_act.ensures ∙ c.if-not-has_act.false) c.act.ensures.state c.entries.ensures.value c.act.ensures.out c.clear.ensures in
+    act_ready t w i.half c.act.new.self i.core c.clear.new.self c.act.new.out xs c.self.invariant.kept (sym c.has_act.ensures ∙ c.if-not-has_act.false) c.act.ensures.state c.entries.ensures.value c.act.ensures.out c.clear.ensures in
     let e = c.write_near-begins.ensures in
     let past = ap (λ (h : List Entry). onto h xs) c.in_ok-reserve.ensures.same ∙ ap (onto w.past) ready.block in
     let sends = ap (has is_begin_sent) ready.block in
     let same = world_written t.value w Acts c.args.log.now.is_up (has is_begin_sent xs) (past_of i.calls.items) (onto c.reserve.new.self.past xs) c.write_near-begins.new.history.past refl sends past e.past in
-    let lives =
-    c.life_after-self-inside.ensures ∙ ap (λ b. if b then c.life.result else i.life) e.begins ∙ ap (λ n. if has is_begin_sent xs then n else i.life) c.life.ensures in
     let v : World = record { calls = past_of i.calls.items; past = c.write_near-begins.new.history.past } in
-    let new : TxState = record { transaction = t; world = v; ours = option_map record_of i.ours; unsure = i.unsure; life = c.life_after-self-inside.result } in
-    subst (λ (x : TxState). Does g.D.Disk.faults Acts x c.args.log.now new c.args.log.now) c.self.view_is
-    (does_step g.D.Disk.faults Acts t w v (option_map record_of i.ours) i.unsure i.life c.life_after-self-inside.result c.args.log.now (has is_begin_sent xs) same sends lives refl)
+    subst (λ (x : TxState). Does g.D.Disk.faults Acts x c.args.log.now (seen_as i.transaction v c.live.new.at_log) c.args.log.now) c.self.view_is
+    (does_near g.D.Disk.faults Acts i.transaction w v i.at_log c.live.new.at_log c.args.log.now c.write_near-begins.result (has is_begin_sent xs) c.life.result same sends c.live.ensures e.begins c.life.ensures refl)

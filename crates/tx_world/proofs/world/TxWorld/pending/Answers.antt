@@ -13,5 +13,5 @@ unreachable-requires c =
     let w : World = record { calls = past_of i.calls.items; past = i.history.past } in
     let kept = c.self.invariant in
     let few = subst (λ (x : TxState). length (pending x.world) ≤ 118) c.self.view_is (pending_few i.transaction w i.half i.core kept c.is_few.ensures.rows c.is_few.ensures.branches c.is_few.ensures.ends) in
-    let more = within (pending c.args.self.now.world) 118 (name_of c.in-Step.s) c.in-Step.ensures.at in
+    let more = within (pending c.args.self.now.world) 118 _ c.in-Step.ensures.at in
     omega (arith, few, more)

@@ -11,8 +11,8 @@ use Rattle.local_half.proofs.Writing.{unsent}
 use Rattle.local_half.specs.Half.{after, is_its_own}
 use Rattle.tx_world.specs.Entering.{local_call}
 use Rattle.tx_world.proofs.Calling.{answers_itself, await_answered, do_answer, own_answer, own_call, told_block, told_known}
-use Rattle.tx_world.proofs.answering.answer_call.Goals.{in-Do, in-Await}
-use Rattle.tx_world.proofs.answering.answer_call.Goals as goal
+use Rattle.tx_world.proofs.local_calls.answer_call.Goals.{in-Do, in-Await}
+use Rattle.tx_world.proofs.local_calls.answer_call.Goals as goal
 
 pub call-requires-clause-own : goal.call-requires-clause-own
 call-requires-clause-own c = answers_itself c.args.c.now c.requires.near c.in_default.not-Await c.in_default.not-Do

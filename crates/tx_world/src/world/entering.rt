@@ -8,9 +8,9 @@ ghost use Rattle.tx_world.specs.State.{may_enter};
 ghost use Rattle.tx_world.specs.Stepping.{Does};
 
 use super::TxWorld;
-use crate::answering::answer_call;
+use crate::local_calls::answer_call;
 use crate::refusal::WorldError;
-use crate::writing::{life_after, write_near};
+use crate::writing::{live, write_near};
 use coordinator_log::Log;
 use dtx_model::EnteredCall;
 use dtx_values::{ActorNo, Answer, Call};
@@ -37,7 +37,7 @@ impl TxWorld {
             call: *c,
         });
         let begins = write_near(&mut self.history, &mut self.core, self.out.entries(), log);
-        self.life = life_after(begins, log.life(), self.life);
+        live(&mut self.at_log, begins, log.life());
         Ok(answer)
     }
 }

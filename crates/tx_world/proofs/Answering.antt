@@ -1,0 +1,148 @@
+-- What the log answered to the coordinator's act, and what the coordinator does at it.
+use Rattle.std.proofs.Common.{◌≡◌, ◌⊎◌, ◌∙◌, inl, ℕ, Bool, true, false, List, [], ◌∷◌, refl, sym, ap, subst}
+use Rattle.std.specs.Prelude.{◌||◌, ◌&&◌, ◌≢◌, not, None, Result, Ok, Err, IfErr, IsTrue, IsFalse, if◌then◌else◌}
+use Rattle.outside.specs.Faults.{Rose}
+use Rattle.dtx_values.specs.Outgoing.{Outgoing, written}
+use Rattle.dtx_values.specs.declared.entry.Entry.{Entry}
+use Rattle.dtx_values.specs.declared.entry.Entry.TheVariants.{Freed, Stopped}
+use Rattle.dtx_model.specs.Coordinated.{Coordinated, follow, follow_all, may_free, may_log}
+use Rattle.dtx_model.specs.Steps.{LogAnswer, Done, StoppedNow, StoppedBefore, appended, coordinates, freed}
+use Rattle.dtx_model.specs.Caused.{is_full_answer, may_coordinate}
+use Rattle.coordinator_log.specs.State.{LogState}
+use Rattle.coordinator_log.specs.Stop.{stop_in}
+use Rattle.coordinator_log.specs.declared.refusal.LogRefusal.{LogRefusal}
+use Rattle.coordinator_log.specs.declared.refusal.LogRefusal.TheVariants.{Stopped as Refused, StoppedNow as Broken, NoSuch}
+use Rattle.tx_world.specs.AtLog.{Acts}
+
+-- an append may be answered in each way, and a free in each but that the log is full
+pub may_append : (k : Coordinated) (a : LogAnswer) → may_log k ≡ true → may_coordinate k a ≡ true
+may_append k a m = rw m refl
+
+pub may_release : (k : Coordinated) (a : LogAnswer) → may_free k ≡ true → is_full_answer a ≡ false → may_coordinate k a ≡ true
+may_release k a f n = step (may_log k) (may_free k) (is_full_answer a) f n
+  where
+    step : (b c d : Bool) → c ≡ true → d ≡ false → (b || (c && not d)) ≡ true
+    step true c d f n = refl
+    step false true false f n = refl
+    step false true true f n = absurd cc
+    step false false d f n = absurd cc
+
+-- either way `stopped` is written
+stop_written : (k : Coordinated) (b : Bool) → (if b then appended k StoppedNow else freed StoppedNow) ≡ Stopped ∷ []
+stop_written k true = refl
+stop_written k false = refl
+
+stop_written_before : (k : Coordinated) (b : Bool) → (if b then appended k StoppedBefore else freed StoppedBefore) ≡ Stopped ∷ []
+stop_written_before k true = refl
+stop_written_before k false = refl
+
+one_stop : (k : Coordinated) (es : List Entry) → es ≡ Stopped ∷ [] → follow k Stopped ≡ follow_all k es
+unfolding follow_all
+one_stop k es e = let P : List Entry → Type 0 = λ xs. follow k Stopped ≡ follow_all k xs in subst P (sym e) refl
+
+pub was_up : (b : Bool) → (b ≡ false → ⊥) → b ≡ true
+was_up true n = refl
+was_up false n = absurd (n refl)
+
+-- The log was stopped by the act.
+pub acts_now : {D : Type 0} (faults : D → ℕ) (k : Coordinated) (life : ℕ) (out : Outgoing) (from : LogState D) (j : Coordinated) (o : Outgoing) (to : LogState D)
+    → may_coordinate k StoppedNow ≡ true → j ≡ follow k Stopped → o ≡ written out (Stopped ∷ []) → ((IsFalse from.is_up ⊎ (life ≢ from.life)) → ⊥) → IsFalse to.is_up
+    → (stop_in 4 from.armed ≡ None → Rose (faults from.disk) (faults to.disk)) → Acts faults k life out from j o to
+acts_now faults k life out from j o to may state put ran down cause =
+    record {
+      answer = StoppedNow;
+      may = may;
+      state = state ∙ one_stop k (coordinates k StoppedNow) (stop_written k (may_log k));
+      written = put ∙ ap (written out) (sym (stop_written k (may_log k)));
+      answered =
+          record {
+            now = (λ e. (was_up from.is_up (λ d. ran (inl d)), down), λ e. refl);
+            before = (λ e. absurd cc, λ x. absurd (ran x));
+            full = λ e. absurd cc;
+            cause = λ e. cause;
+            smooth = λ n. absurd (n refl);
+          };
+    }
+
+-- The log was found stopped, or in another life, and is as it was.
+pub acts_before : {D : Type 0} (faults : D → ℕ) (k : Coordinated) (life : ℕ) (out : Outgoing) (from : LogState D) (j : Coordinated) (o : Outgoing) (to : LogState D)
+    → may_coordinate k StoppedBefore ≡ true → j ≡ follow k Stopped → o ≡ written out (Stopped ∷ []) → (IsFalse from.is_up ⊎ (life ≢ from.life)) → to ≡ from → Acts faults k life out from j o to
+acts_before {D} faults k life out from j o to may state put refused same =
+    record {
+      answer = StoppedBefore;
+      may = may;
+      state = state ∙ one_stop k (coordinates k StoppedBefore) (stop_written_before k (may_log k));
+      written = put ∙ ap (written out) (sym (stop_written_before k (may_log k)));
+      answered =
+          record {
+            now = (λ e. absurd cc, λ x. absurd (up_and_down from.is_up x.0 (sym (ap (λ (l : LogState D). l.is_up) same) ∙ x.1)));
+            before = (λ e. refused, λ x. refl);
+            full = λ e. absurd cc;
+            cause = λ e. absurd cc;
+            smooth = λ n. ap (λ (l : LogState D). faults l.disk) same;
+          };
+    }
+  where
+    up_and_down : (b : Bool) → b ≡ true → b ≡ false → ⊥
+    up_and_down true t f = absurd cc
+    up_and_down false t f = absurd cc
+
+-- The record was freed: nothing else is written.
+pub acts_freed : {D : Type 0} (faults : D → ℕ) (k : Coordinated) (life : ℕ) (out : Outgoing) (from : LogState D) (j : Coordinated) (o : Outgoing) (to : LogState D)
+    → may_log k ≡ false → may_free k ≡ true → j ≡ follow k Freed → o ≡ written out (Freed ∷ []) → ((IsFalse from.is_up ⊎ (life ≢ from.life)) → ⊥) → IsTrue to.is_up
+    → faults to.disk ≡ faults from.disk → Acts faults k life out from j o to
+unfolding follow_all
+acts_freed faults k life out from j o to none may state put ran up smooth =
+    record {
+      answer = Done;
+      may = may_release k Done may refl;
+      state = state ∙ one_free (coordinates k Done) (written_free (may_log k) none);
+      written = put ∙ ap (written out) (sym (written_free (may_log k) none));
+      answered =
+          record {
+            now = (λ e. absurd cc, λ x. absurd (up_and_down to.is_up up x.1));
+            before = (λ e. absurd cc, λ x. absurd (ran x));
+            full = λ e. absurd cc;
+            cause = λ e. absurd cc;
+            smooth = λ n. smooth;
+          };
+    }
+  where
+    up_and_down : (b : Bool) → b ≡ true → b ≡ false → ⊥
+    up_and_down true t f = absurd cc
+    up_and_down false t f = absurd cc
+
+    written_free : (b : Bool) → b ≡ false → (if b then appended k Done else freed Done) ≡ Freed ∷ []
+    written_free true n = absurd cc
+    written_free false n = refl
+
+    one_free : (es : List Entry) → es ≡ Freed ∷ [] → follow k Freed ≡ follow_all k es
+    one_free es e = let P : List Entry → Type 0 = λ xs. follow k Freed ≡ follow_all k xs in subst P (sym e) refl
+
+-- answers of the log that can't be both
+pub broken_refused : {A : Type 0} (r : Result A LogRefusal) → r ≡ Err Broken → r ≡ Err Refused → ⊥
+broken_refused (Ok x) a b = absurd cc
+broken_refused (Err e) a b = absurd cc
+
+pub none_refused : {A : Type 0} (r : Result A LogRefusal) (x : A) → r ≡ Ok x → r ≡ Err Refused → ⊥
+none_refused (Ok y) x a b = absurd cc
+none_refused (Err e) x a b = absurd cc
+
+pub lost_refused : {A : Type 0} (r : Result A LogRefusal) (id : ℕ) → r ≡ Err (NoSuch id) → r ≡ Err Refused → ⊥
+lost_refused (Ok x) id a b = absurd cc
+lost_refused (Err e) id a b = absurd cc
+
+pub never_both : (b : Bool) → b ≡ true → b ≡ false → ⊥
+never_both true t f = absurd cc
+never_both false t f = absurd cc
+
+-- a log that refused a call as one that is stopped, or has no such record, is as it was
+pub unchanged_by : {A L : Type 0} (r : Result A LogRefusal) {old new : L} (e : LogRefusal) → (e ≡ Broken → ⊥) → r ≡ Err e → IfErr r (λ x. x ≢ Broken → new ≡ old) → new ≡ old
+unchanged_by {A} {L} r {old} {new} e differs a u =
+    let P : Result A LogRefusal → Type 0 = λ x. IfErr x (λ y. y ≢ Broken → new ≡ old) in subst P a u differs
+
+pub refused_unbroken : Refused ≡ Broken → ⊥
+refused_unbroken e = absurd cc
+
+pub lost_unbroken : (id : ℕ) → NoSuch id ≡ Broken → ⊥
+lost_unbroken id e = absurd cc

@@ -1,0 +1,260 @@
+-- The coordinator's act at the log, and what an opening of the log says to it: what is written then is the block of its step, and the world is the one after it.
+use Rattle.std.proofs.Common.{◌≡◌, ◌⊎◌, ◌&&◌, ◌||◌, ◌++◌, ◌∙◌, inl, inr, ℕ, Bool, true, false, not, List, [], ◌∷◌, Option, refl, ap, sym, subst, is_some, if◌then◌else◌}
+use Rattle.std.proofs.lemmas.Bool.{cond-false}
+use Rattle.dtx_values.specs.declared.entry.Entry.{Entry}
+use Rattle.dtx_values.specs.declared.entry.Entry.TheVariants.{Freed, Logged, LogFull, Restarted, Sent, Stopped}
+use Rattle.dtx_values.specs.declared.message.Conn.TheVariants.{Begin, Voter, Enl, Again}
+use Rattle.dtx_values.specs.declared.message.Dir.TheVariants.{Up, Down}
+use Rattle.dtx_values.specs.declared.number.TxNo.{TxNo}
+use Rattle.dtx_values.specs.Outgoing.{Outgoing, blank, written as put_out}
+use Rattle.dtx_model.specs.Words.{each, has, onto}
+use Rattle.dtx_model.specs.Observed.{track}
+use Rattle.dtx_model.specs.Promotes.{identifier_of}
+use Rattle.dtx_model.specs.Coordinated.{Coordinated, abort_sends, commit_sends, follow, follow_all, may_free, may_log, stopped_after}
+use Rattle.dtx_model.specs.Half.{Half, heeds, heeds_all}
+use Rattle.dtx_model.specs.Wires.{is_stopped}
+use Rattle.dtx_model.specs.World.{World, core}
+use Rattle.dtx_model.specs.Steps.{LogAnswer, Done, Full, StoppedNow, StoppedBefore, Coordinates, Restarts, Stops, after, appended, block_at, coordinates, freed, restarted}
+use Rattle.dtx_model.specs.Caused.{is_begin_sent, is_full_answer, may_coordinate}
+use Rattle.dtx_model.specs.declared.waiting.EnteredCall.{EnteredCall}
+use Rattle.dtx_model.proofs.Bools.{and_left, and_right, or_case, or_false}
+use Rattle.outcome_law.proofs.Scans.{each_more}
+use Rattle.local_half.specs.Half.{Known}
+use Rattle.coordinator_core.specs.Kept.{Kept as CoreKept}
+use Rattle.coordinator_core.proofs.Following.{follow_all-append}
+use Rattle.coordinator_log.specs.State.{LogState}
+use Rattle.tx_world.specs.State.{TxState, sends_begin}
+use Rattle.tx_world.specs.AtLog.{Acts, IsOurs, Kept as LogKept}
+use Rattle.tx_world.specs.Carried.{are_sendable}
+use Rattle.tx_world.specs.Course.{is_far, is_written}
+use Rattle.tx_world.specs.Kept.{Kept, Whole, stop_if, stopped_if}
+use Rattle.tx_world.specs.Stepping.{Does}
+use Rattle.tx_world.proofs.Begun.{may_write}
+use Rattle.tx_world.proofs.Far.{far_abort, far_commit}
+use Rattle.tx_world.proofs.Keeping.{runs_still, runs_then}
+use Rattle.tx_world.proofs.Living.{seen_as}
+use Rattle.tx_world.proofs.Onward.{core_is, core_transaction, step_kept}
+use Rattle.tx_world.proofs.Written.{block_of, stopped_is}
+
+-- what the coordinator writes of its act where it doesn't stop
+abbrev pub is_said : Entry → Bool
+is_said (Sent c Down m) = true
+is_said Logged = true
+is_said LogFull = true
+is_said Freed = true
+is_said _ = false
+
+far_said : (x : Entry) → is_far x ≡ true → is_said x ≡ true
+far_said (Sent c Down m) f = refl
+far_said (Sent c Up m) f = absurd cc
+far_said Logged f = absurd cc
+far_said LogFull f = absurd cc
+far_said Freed f = absurd cc
+far_said _ f = absurd cc
+
+-- it writes that alone, or that it stopped
+said : (k : Coordinated) (a : LogAnswer) → (coordinates k a ≡ Stopped ∷ []) ⊎ (each is_said (coordinates k a) ≡ true)
+said k a = by (may_log k) a
+  where
+    by : (b : Bool) (x : LogAnswer) → ((if b then appended k x else freed x) ≡ Stopped ∷ []) ⊎ (each is_said (if b then appended k x else freed x) ≡ true)
+    by true Done = inr (each_more is_far is_said far_said (commit_sends (follow k Logged)) (far_commit (follow k Logged)).proof)
+    by true Full = inr (each_more is_far is_said far_said (abort_sends (follow k LogFull)) (far_abort (follow k LogFull)).proof)
+    by true StoppedNow = inl refl
+    by true StoppedBefore = inl refl
+    by false Done = inr refl
+    by false Full = inr refl
+    by false StoppedNow = inl refl
+    by false StoppedBefore = inl refl
+
+written_one : (x : Entry) → is_said x ≡ true → is_written x ≡ true
+written_one (Sent c d m) s = refl
+written_one Logged s = refl
+written_one LogFull s = refl
+written_one Freed s = refl
+written_one _ s = absurd cc
+
+silent_one : (x : Entry) → is_said x ≡ true → is_begin_sent x ≡ false
+silent_one (Sent Begin Down m) s = refl
+silent_one (Sent Voter Down m) s = refl
+silent_one (Sent (Enl e) Down m) s = refl
+silent_one (Sent (Again e) Down m) s = refl
+silent_one (Sent c Up m) s = absurd cc
+silent_one Logged s = refl
+silent_one LogFull s = refl
+silent_one Freed s = refl
+silent_one _ s = absurd cc
+
+silent_all : (es : List Entry) → each is_said es ≡ true → has is_begin_sent es ≡ false
+silent_all [] s = refl
+silent_all (x ∷ es) s =
+    or_false (is_begin_sent x) (has is_begin_sent es) (silent_one x (and_left (is_said x) (each is_said es) s)) (silent_all es (and_right (is_said x) (each is_said es) s))
+
+running_one : (x : Entry) (b : Bool) → is_said x ≡ true → stopped_after x b ≡ b
+running_one (Sent c d m) b s = refl
+running_one Logged b s = refl
+running_one LogFull b s = refl
+running_one Freed b s = refl
+running_one _ b s = absurd cc
+
+running_all : (k : Coordinated) (es : List Entry) → each is_said es ≡ true → (follow_all k es).stopped ≡ k.stopped
+unfolding follow_all follow
+running_all k [] s = refl
+running_all k (x ∷ es) s = running_all (follow k x) es (and_right (is_said x) (each is_said es) s) ∙ running_one x k.stopped (and_left (is_said x) (each is_said es) s)
+
+unheard_one : (h : Half) (x : Entry) → is_said x ≡ true → heeds [] h x ≡ h
+unfolding track
+unheard_one h (Sent Begin Down m) s = refl
+unheard_one h (Sent Voter Down m) s = refl
+unheard_one h (Sent (Enl e) Down m) s = refl
+unheard_one h (Sent (Again e) Down m) s = refl
+unheard_one h (Sent c Up m) s = absurd cc
+unheard_one h Logged s = refl
+unheard_one h LogFull s = refl
+unheard_one h Freed s = refl
+unheard_one h _ s = absurd cc
+
+unheard_all : (h : Half) (es : List Entry) → each is_said es ≡ true → heeds_all [] h es ≡ h
+unfolding heeds_all
+unheard_all h [] s = refl
+unheard_all h (x ∷ es) s =
+    ap (λ (g : Half). heeds_all [] g es) (unheard_one h x (and_left (is_said x) (each is_said es) s)) ∙ unheard_all h es (and_right (is_said x) (each is_said es) s)
+
+-- so BEGIN isn't in it, and the local side doesn't hear it
+silent_act : (k : Coordinated) (a : LogAnswer) → has is_begin_sent (coordinates k a) ≡ false
+silent_act k a = elim (said k a) [ inl e ↦ ap (has is_begin_sent) e | inr s ↦ silent_all (coordinates k a) s ]
+
+unheard_act : (k : Coordinated) (a : LogAnswer) (h : Half) → heeds_all [] h (coordinates k a) ≡ h
+unfolding heeds_all track
+unheard_act k a h = elim (said k a) [ inl e ↦ ap (heeds_all [] h) e | inr s ↦ unheard_all h (coordinates k a) s ]
+
+-- it is stopped then exactly where it wrote that alone
+pub stop_only : (k : Coordinated) (a : LogAnswer) → k.stopped ≡ false → (follow_all k (coordinates k a)).stopped ≡ true → coordinates k a ≡ Stopped ∷ []
+stop_only k a runs stops = elim (said k a) [ inl e ↦ e | inr s ↦ absurd (never (sym runs ∙ sym (running_all k (coordinates k a) s) ∙ stops)) ]
+  where
+    never : false ≡ true → ⊥
+    never e = absurd cc
+
+pub written_only : (k : Coordinated) (a : LogAnswer) → (follow_all k (coordinates k a)).stopped ≡ false → each is_written (coordinates k a) ≡ true
+unfolding follow_all follow
+written_only k a runs =
+    elim (said k a) [ inl e ↦ absurd (never (ap (λ (es : List Entry). (follow_all k es).stopped) (sym e) ∙ runs)) | inr s ↦ each_more is_said is_written written_one (coordinates k a) s ]
+  where
+    never : true ≡ false → ⊥
+    never e = absurd cc
+
+-- it runs where it may act
+act_runs : (k : Coordinated) (a : LogAnswer) → may_coordinate k a ≡ true → k.stopped ≡ false
+act_runs k a m =
+    or_case (may_log k) (may_free k && not (is_full_answer a)) (λ l. runs_then k l) (λ f. runs_still k (and_left (may_free k) (not (is_full_answer a)) f)) m
+
+-- The coordinator did its act: what it leaves is what its step does.
+pub record Acted (t : TxNo) (w : World) (h : Known) (k j : CoreKept) (a : LogAnswer) : Type 0 where
+  pub kept : Kept t (after t.value w (Coordinates a)) h j
+  pub may : may_coordinate (core w) a ≡ true
+  pub block : coordinates k.state a ≡ block_at t.value w (Coordinates a)
+  pub silent : sends_begin t.value w (Coordinates a) ≡ false
+  pub sendable : are_sendable (onto w.past (coordinates k.state a)) ≡ true
+  pub running : k.state.stopped ≡ false
+
+pub acted : (t : TxNo) (w : World) (h : Known) (k j : CoreKept) (a : LogAnswer) → Kept t w h k → may_coordinate k.state a ≡ true → j.transaction ≡ k.transaction
+    → j.state ≡ follow_all k.state (coordinates k.state a) → Acted t w h k j a
+unfolding block_at
+acted t w h k j a kept may same state =
+    let m = Coordinates a in
+    let block : coordinates k.state a ≡ coordinates (core w) a = ap (λ (s : Coordinated). coordinates s a) (core_is t w h k kept) in
+    let may_come : may_coordinate (core w) a ≡ true = ap (λ (s : Coordinated). may_coordinate s a) (sym (core_is t w h k kept)) ∙ may in
+    let write = may_write t w m kept.ran may_come kept.once in
+    record {
+      kept =
+          step_kept t w m h h k j kept may_come kept.once (ap (λ (g : Half). record { transaction = h.transaction; half = g }) (sym (unheard_act (core w) a h.half)))
+          ((λ i. record { transaction = same i; state = state i }) ∙ ap (λ (es : List Entry). record { transaction = k.transaction; state = follow_all k.state es }) block);
+      may = may_come;
+      block = block;
+      silent = silent_act (core w) a;
+      sendable = ap (λ (es : List Entry). are_sendable (onto w.past es)) block ∙ write.sendable;
+      running = act_runs k.state a may;
+    }
+
+-- the world that was written
+pub acted_world : (t : TxNo) (w : World) (h : Known) (k j : CoreKept) (a : LogAnswer) (n : List Entry) → Acted t w h k j a → n ≡ onto w.past (coordinates k.state a)
+    → record { calls = w.calls; past = n } ≡ after t.value w (Coordinates a)
+unfolding after
+acted_world t w h k j a n acts past = λ i. record { calls = w.calls; past = (past ∙ ap (onto w.past) acts.block) i }
+
+pub acted_whole : (t : TxNo) (w : World) (h : Known) (k j : CoreKept) (a : LogAnswer) (n : List Entry) (x : LogKept) → Acted t w h k j a → n ≡ onto w.past (coordinates k.state a)
+    → j.transaction ≡ k.transaction → IsOurs (identifier_of k.transaction.value) j.state x → Whole t (record { calls = w.calls; past = n }) h j x
+acted_whole t w h k j a n x acts past same ours =
+    let P : World → Type 0 = λ v. Kept t v h j in
+    let Q : TxNo → Type 0 = λ u. IsOurs (identifier_of u.value) j.state x in
+    record { kept = subst P (sym (acted_world t w h k j a n acts past)) acts.kept; ours = subst Q (sym same) ours }
+
+pub acted_does : {D : Type 0} (faults : D → ℕ) (t : TxNo) (w : World) (h : Known) (k j : CoreKept) (n : List Entry) (x y : LogKept) (o p : Outgoing) (from to : LogState D)
+    (acts : Acts faults k.state x.life o from j.state p to) → Acted t w h k j acts.answer → n ≡ onto w.past (coordinates k.state acts.answer) → y.life ≡ x.life
+    → Does faults (Coordinates acts.answer) (seen_as t w x) from (seen_as t (record { calls = w.calls; past = n }) y) to
+acted_does faults t w h k j n x y o p from to acts did past lives =
+    let m = Coordinates acts.answer in
+    record {
+      transaction = refl;
+      world = acted_world t w h k j acts.answer n did past ∙ unturned (sends_begin t.value w m) (not from.is_up) did.silent;
+      life = lives ∙ unbegun (sends_begin t.value w m) did.silent;
+      answered = acts.answered;
+    }
+  where
+    unturned : (b u : Bool) → b ≡ false → after t.value w (Coordinates acts.answer)
+        ≡ (if b && u then after t.value (after t.value w (Coordinates acts.answer)) Stops else after t.value w (Coordinates acts.answer))
+    unturned true u e = absurd cc
+    unturned false u e = refl
+    unbegun : (b : Bool) → b ≡ false → x.life ≡ (if b then from.life else x.life)
+    unbegun true e = absurd cc
+    unbegun false e = refl
+
+-- A coordinator that is told what an opening of the log found: where it still runs it stops first.
+told_state : (k : CoreKept) (found : Bool) → follow (stopped_if (not k.state.stopped) k).state (Restarted found) ≡ follow_all k.state (restarted k.state.stopped found)
+unfolding follow_all
+told_state k found = by k.state.stopped
+  where
+    by : (b : Bool) → follow (stopped_if (not b) k).state (Restarted found) ≡ follow_all k.state (restarted b found)
+    by true = refl
+    by false = refl
+
+told_transaction : (k : CoreKept) (b : Bool) → (stopped_if b k).transaction ≡ k.transaction
+told_transaction k true = refl
+told_transaction k false = refl
+
+told_past : (h : List Entry) (found b : Bool) → Restarted found ∷ stop_if (not b) h ≡ onto h (restarted b found)
+told_past h found true = refl
+told_past h found false = refl
+
+unheard_told : (h : Half) (b found : Bool) → heeds_all [] h (restarted b found) ≡ h
+unfolding heeds_all track
+unheard_told h true found = refl
+unheard_told h false found = refl
+
+-- it stands stopped when it is told
+pub told_stopped : (k i : CoreKept) → i ≡ stopped_if (not k.state.stopped) k → i.state.stopped ≡ true
+unfolding follow
+told_stopped k i e = ap (λ (x : CoreKept). x.state.stopped) e ∙ by k.state.stopped refl
+  where
+    by : (b : Bool) → k.state.stopped ≡ b → (stopped_if (not b) k).state.stopped ≡ true
+    by true s = s
+    by false s = refl
+
+-- and its world is the one after its step
+pub told : (t : TxNo) (w : World) (h : Known) (k i j : CoreKept) (found : Bool) (n : List Entry) (x : LogKept) → Kept t w h k → has is_begin_sent w.past ≡ true
+    → i ≡ stopped_if (not k.state.stopped) k → j.transaction ≡ i.transaction → j.state ≡ follow i.state (Restarted found) → n ≡ Restarted found ∷ stop_if (not k.state.stopped) w.past
+    → IsOurs (identifier_of i.transaction.value) j.state x
+    → Whole t (record { calls = w.calls; past = n }) h j x × (record { calls = w.calls; past = n } ≡ after t.value w (Restarts found))
+unfolding after block_at
+told t w h k i j found n x kept begun stopped same state past ours =
+    let m = Restarts found in
+    let block : restarted k.state.stopped found ≡ restarted (core w).stopped found = ap (λ (s : Coordinated). restarted s.stopped found) (core_is t w h k kept) in
+    let one : j.transaction ≡ k.transaction = same ∙ ap (λ (y : CoreKept). y.transaction) stopped ∙ told_transaction k (not k.state.stopped) in
+    let went : j.state ≡ follow_all k.state (restarted (core w).stopped found)
+        = state ∙ ap (λ (y : CoreKept). follow y.state (Restarted found)) stopped ∙ told_state k found ∙ ap (follow_all k.state) block in
+    let world : record { calls = w.calls; past = n } ≡ after t.value w m = λ z. record { calls = w.calls; past = (past ∙ told_past w.past found k.state.stopped ∙ ap (onto w.past) block) z } in
+    let after_it : Kept t (after t.value w m) h j
+        = step_kept t w m h h k j kept begun kept.once (ap (λ (g : Half). record { transaction = h.transaction; half = g }) (sym (unheard_told h.half (core w).stopped found)))
+            (λ z. record { transaction = one z; state = went z }) in
+    let P : World → Type 0 = λ v. Kept t v h j in
+    let Q : TxNo → Type 0 = λ u. IsOurs (identifier_of u.value) j.state x in
+    (record { kept = subst P (sym world) after_it; ours = subst Q (sym same) ours }, world)

@@ -1,0 +1,123 @@
+use Rattle.std.proofs.Common.{ℕ, ◌≡◌, None, true}
+use Rattle.std.specs.Option.{option_map}
+use Rattle.dtx_model.specs.Log.{first_of, record_of}
+use Rattle.dtx_model.specs.Promotes.{identifier_of}
+use Rattle.coordinator_log.specs.Slots.{open_records}
+use Rattle.tx_world.specs.AtLog.{Acts, IsFit, IsOurs, Keeps}
+use Rattle.tx_world.proofs.at_log.AtLog.free.Goals as goal
+use Rattle.std.proofs.Common.{sym, subst, ap, ◌∙◌, inl, Err, refl}
+use Rattle.std.specs.Prelude.{IfSome}
+use Rattle.coordinator_log.specs.State.{LogState}
+use Rattle.tx_world.proofs.Freeing.{fewer, images_of, lost_id, never_lost, records_of}
+use Rattle.dtx_model.specs.Coordinated.{Coordinated}
+use Rattle.dtx_model.specs.Steps.{StoppedNow, StoppedBefore}
+use Rattle.coordinator_log.specs.declared.refusal.LogRefusal.{LogRefusal}
+use Rattle.coordinator_log.specs.declared.refusal.LogRefusal.TheVariants.{Stopped as Refused, NoSuch}
+use Rattle.tx_world.specs.AtLog.{Kept}
+use Rattle.tx_world.proofs.Answering.{acts_before, acts_freed, acts_now, broken_refused, lost_refused, lost_unbroken, may_release, never_both, none_refused, refused_unbroken, unchanged_by, was_up}
+use Rattle.tx_world.proofs.Fitting.{keeps_freed, keeps_unfreed}
+use Rattle.tx_world.proofs.Keeping.{one_kept, ours_freed, ours_stopped, runs_still}
+
+pub stop-requires-clause-up : goal.stop-requires-clause-up
+stop-requires-clause-up g c = runs_still c.args.core.now.state c.requires.finished
+
+pub stop-requires-in-Err-Stopped-clause-up : goal.stop-requires-in-Err-Stopped-clause-up
+stop-requires-in-Err-Stopped-clause-up g c = runs_still c.args.core.now.state c.requires.finished
+
+-- the record was freed
+pub returns-in-Ok-clause-acts : goal.returns-in-Ok-clause-acts
+returns-in-Ok-clause-acts g c =
+    let P : Kept → Type 0 = λ x. Acts g.D.Disk.faults c.args.core.now.state x.life c.args.out.now c.args.log.now c.freed.new.core.state c.freed.new.out c.free.new.self in
+    subst P c.self.view_is (acts_freed g.D.Disk.faults c.args.core.now.state c.self.inside.life c.args.out.now c.args.log.now c.freed.new.core.state c.freed.new.out c.free.new.self
+    c.requires.votes c.requires.finished c.freed.ensures.state c.freed.ensures.out (λ x. none_refused c.free.result c.in-Ok.field-0 c.in-Ok.is (c.free.ensures.stopped.1 x))
+    c.in-Ok.ensures.up c.in-Ok.ensures.smooth)
+
+pub returns-in-Ok-clause-ours : goal.returns-in-Ok-clause-ours
+returns-in-Ok-clause-ours g c =
+    let id = identifier_of c.args.core.now.transaction.value in
+    let k = c.args.core.now.state in
+    let sure = (one_kept id k c.args.self.now c.requires.finished c.requires.ours).1 in
+    let P : Coordinated → Type 0 = λ j. IsOurs id j (record { ours = None; unsure = c.args.self.now.unsure; life = c.args.self.now.life }) in
+    let Q : Kept → Type 0 = λ x. IsOurs id c.freed.new.core.state x in
+    subst Q (sym c.freed.ensures.kept) (subst P (sym c.freed.ensures.state) (ours_freed id k c.args.self.now.unsure c.args.self.now.life sure))
+
+pub returns-in-Ok-clause-kept : goal.returns-in-Ok-clause-kept
+returns-in-Ok-clause-kept g c = λ honest.
+    let id = identifier_of c.args.core.now.transaction.value in
+    let up = was_up c.args.log.now.is_up (λ d. none_refused c.free.result c.in-Ok.field-0 c.in-Ok.is (c.free.ensures.stopped.1 (inl d))) in
+    let from : LogState g.row.D.Denot = c.args.log.now in
+    let Q : Kept → Type 0 = λ x. Keeps g.D.Disk.image id (IsFit id c.args.self.now.ours c.args.self.now.unsure) (IsFit id x.ours x.unsure) from c.free.new.self in
+    subst Q (sym c.freed.ensures.kept) (keeps_freed g.D.Disk.image id c.args.self.now.ours c.args.self.now.unsure c.args.self.now.unsure from c.free.new.self (c.requires.fits honest up)
+    (records_of id c.args.id (open_records c.free.new.self.slots) (open_records from.slots) c.requires.own c.in-Ok.ensures.records) (c.in-Ok.ensures.durable honest))
+
+-- the log has no such record: nothing is left to free
+pub returns-in-Err-NoSuch-clause-acts : goal.returns-in-Err-NoSuch-clause-acts
+returns-in-Err-NoSuch-clause-acts g c =
+    let lost = lost_id c.free.result c.args.id c.in-Err-NoSuch.field-0-0 (c.in-Err-NoSuch.is ∙ ap (λ (e : LogRefusal). Err e) c.in-Err-NoSuch.field-0-is) c.free.ensures.only in
+    let same : c.free.new.self ≡ c.args.log.now = unchanged_by c.free.result (NoSuch c.args.id) (lost_unbroken c.args.id) lost c.free.ensures.unchanged in
+    let P : Kept → Type 0 = λ x. Acts g.D.Disk.faults c.args.core.now.state x.life c.args.out.now c.args.log.now c.freed-in-Err-NoSuch.new.core.state c.freed-in-Err-NoSuch.new.out c.free.new.self in
+    subst P c.self.view_is (acts_freed g.D.Disk.faults c.args.core.now.state c.self.inside.life c.args.out.now c.args.log.now c.freed-in-Err-NoSuch.new.core.state c.freed-in-Err-NoSuch.new.out c.free.new.self
+    c.requires.votes c.requires.finished c.freed-in-Err-NoSuch.ensures.state c.freed-in-Err-NoSuch.ensures.out (λ x. lost_refused c.free.result c.args.id lost (c.free.ensures.stopped.1 x))
+    (ap (λ (l : LogState g.row.D.Denot). l.is_up) same ∙ (c.free.ensures.none.0 lost).0) (ap (λ (l : LogState g.row.D.Denot). g.D.Disk.faults l.disk) same))
+
+pub returns-in-Err-NoSuch-clause-ours : goal.returns-in-Err-NoSuch-clause-ours
+returns-in-Err-NoSuch-clause-ours g c =
+    let id = identifier_of c.args.core.now.transaction.value in
+    let k = c.args.core.now.state in
+    let sure = (one_kept id k c.args.self.now c.requires.finished c.requires.ours).1 in
+    let P : Coordinated → Type 0 = λ j. IsOurs id j (record { ours = None; unsure = c.args.self.now.unsure; life = c.args.self.now.life }) in
+    let Q : Kept → Type 0 = λ x. IsOurs id c.freed-in-Err-NoSuch.new.core.state x in
+    subst Q (sym c.freed-in-Err-NoSuch.ensures.kept) (subst P (sym c.freed-in-Err-NoSuch.ensures.state) (ours_freed id k c.args.self.now.unsure c.args.self.now.life sure))
+
+pub returns-in-Err-NoSuch-clause-kept : goal.returns-in-Err-NoSuch-clause-kept
+returns-in-Err-NoSuch-clause-kept g c = λ honest.
+    let id = identifier_of c.args.core.now.transaction.value in
+    let lost = lost_id c.free.result c.args.id c.in-Err-NoSuch.field-0-0 (c.in-Err-NoSuch.is ∙ ap (λ (e : LogRefusal). Err e) c.in-Err-NoSuch.field-0-is) c.free.ensures.only in
+    let kept = one_kept id c.args.core.now.state c.args.self.now c.requires.finished c.requires.ours in
+    let why = c.free.ensures.none.0 lost in
+    let N : ℕ → Type 0 = λ i. first_of i (open_records c.args.log.now.slots) ≡ None in
+    absurd (never_lost id c.args.self.now.ours c.args.self.now.unsure (open_records c.args.log.now.slots) kept.0 kept.1 (c.requires.fits honest why.0) (subst N c.requires.own why.2))
+
+-- the log was stopped by the free
+pub returns-in-Err-StoppedNow-clause-acts : goal.returns-in-Err-StoppedNow-clause-acts
+returns-in-Err-StoppedNow-clause-acts g c =
+    let broken = c.in-Err-StoppedNow.is ∙ ap (λ (e : LogRefusal). Err e) c.in-Err-StoppedNow.field-0-is in
+    let P : Kept → Type 0 = λ x. Acts g.D.Disk.faults c.args.core.now.state x.life c.args.out.now c.args.log.now c.stop.new.core.state c.stop.new.out c.free.new.self in
+    subst P c.self.view_is (acts_now g.D.Disk.faults c.args.core.now.state c.self.inside.life c.args.out.now c.args.log.now c.stop.new.core.state c.stop.new.out c.free.new.self
+    (may_release c.args.core.now.state StoppedNow c.requires.finished refl) c.stop.ensures.state c.stop.ensures.out
+    (λ x. broken_refused c.free.result broken (c.free.ensures.stopped.1 x)) (c.free.ensures.stopped_now broken).0 (λ n. c.free.ensures.cause broken (fewer c.args.log.now.armed n)))
+
+pub returns-in-Err-StoppedNow-clause-ours : goal.returns-in-Err-StoppedNow-clause-ours
+returns-in-Err-StoppedNow-clause-ours g c =
+    let id = identifier_of c.args.core.now.transaction.value in
+    let kept : Kept = record { ours = option_map record_of c.self.inside.ours; unsure = true; life = c.self.inside.life } in
+    let named : IfSome (option_map record_of c.self.inside.ours) (λ r. r.id ≡ id) = (let N : Kept → Type 0 = λ x. IfSome x.ours (λ r. r.id ≡ id) in subst N (sym c.self.view_is) c.requires.ours.named) in
+    let P : Coordinated → Type 0 = λ j. IsOurs id j kept in
+    subst P (sym c.stop.ensures.state) (ours_stopped id c.args.core.now.state kept named)
+
+pub returns-in-Err-StoppedNow-clause-kept : goal.returns-in-Err-StoppedNow-clause-kept
+returns-in-Err-StoppedNow-clause-kept g c = λ honest.
+    let id = identifier_of c.args.core.now.transaction.value in
+    let broken = c.in-Err-StoppedNow.is ∙ ap (λ (e : LogRefusal). Err e) c.in-Err-StoppedNow.field-0-is in
+    let up = was_up c.args.log.now.is_up (λ d. broken_refused c.free.result broken (c.free.ensures.stopped.1 (inl d))) in
+    let sure = (one_kept id c.args.core.now.state c.args.self.now c.requires.finished c.requires.ours).1 in
+    let from : LogState g.row.D.Denot = c.args.log.now in
+    let Q : Kept → Type 0 = λ x. Keeps g.D.Disk.image id (IsFit id c.args.self.now.ours c.args.self.now.unsure) (IsFit id x.ours true) from c.free.new.self in
+    subst Q (sym c.self.view_is) (keeps_unfreed g.D.Disk.image id c.args.self.now.ours c.args.self.now.unsure from c.free.new.self sure (c.requires.fits honest up)
+    (c.free.ensures.stopped_now broken).1 (λ u. never_both c.free.new.self.is_up u (c.free.ensures.stopped_now broken).0)
+    (images_of id c.args.id (g.D.Disk.image c.free.new.self.disk) (open_records from.slots) c.requires.own (c.free.ensures.images honest up).images))
+
+-- the log was found stopped
+pub returns-in-Err-Stopped-clause-acts : goal.returns-in-Err-Stopped-clause-acts
+returns-in-Err-Stopped-clause-acts g c =
+    let refused = c.in-Err-Stopped.is ∙ ap (λ (e : LogRefusal). Err e) c.in-Err-Stopped.field-0-is in
+    let P : Kept → Type 0 = λ x. Acts g.D.Disk.faults c.args.core.now.state x.life c.args.out.now c.args.log.now c.stop-in-Err-Stopped.new.core.state c.stop-in-Err-Stopped.new.out c.free.new.self in
+    subst P c.self.view_is (acts_before g.D.Disk.faults c.args.core.now.state c.self.inside.life c.args.out.now c.args.log.now c.stop-in-Err-Stopped.new.core.state c.stop-in-Err-Stopped.new.out c.free.new.self
+    (may_release c.args.core.now.state StoppedBefore c.requires.finished refl) c.stop-in-Err-Stopped.ensures.state c.stop-in-Err-Stopped.ensures.out (c.free.ensures.stopped.0 refused)
+    (unchanged_by c.free.result Refused refused_unbroken refused c.free.ensures.unchanged))
+
+pub returns-in-Err-Stopped-clause-ours : goal.returns-in-Err-Stopped-clause-ours
+returns-in-Err-Stopped-clause-ours g c =
+    let id = identifier_of c.args.core.now.transaction.value in
+    let P : Coordinated → Type 0 = λ j. IsOurs id j c.args.self.now in
+    subst P (sym c.stop-in-Err-Stopped.ensures.state) (ours_stopped id c.args.core.now.state c.args.self.now c.requires.ours.named)
