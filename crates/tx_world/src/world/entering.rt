@@ -3,7 +3,7 @@ ghost use Rattle.std.specs.Prelude.{◌≡◌, IfOk, OnOk, OnErr, true};
 ghost use Rattle.dtx_model.specs.Caused.{MayAnswer};
 ghost use Rattle.dtx_model.specs.Steps.{Calls};
 ghost use Rattle.dtx_model.specs.World.{answer_at};
-ghost use Rattle.tx_world.specs.Entering.{is_local};
+ghost use Rattle.tx_world.specs.Entering.{is_local, is_unlinked};
 ghost use Rattle.tx_world.specs.State.{may_enter};
 ghost use Rattle.tx_world.specs.Stepping.{Does};
 
@@ -17,9 +17,10 @@ use dtx_values::{ActorNo, Answer, Call};
 use outside::Disk;
 
 impl TxWorld {
-    /// Enters a call that is answered without the connections.
+    /// Enters a call that the local side answers alone.
     pub(super) fn enter_local<D: Disk>(&mut self, log: &Log<D>, actor: ActorNo, line: u32, c: &Call, done: u16) -> Result<Answer, WorldError>
         requires near { is_local c.now ≡ true }
+        requires unlinked { is_unlinked self.old.world c.now ≡ true }
         requires enters { may_enter self.old.world line c.now ≡ true }
         requires answers { MayAnswer self.old.transaction.value self.old.world c.now done }
         ensures answer { IfOk result (λ a. a ≡ answer_at self.old.transaction.value self.old.world c.now done) }

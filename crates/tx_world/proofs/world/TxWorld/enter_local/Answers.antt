@@ -4,6 +4,7 @@ use Rattle.dtx_model.specs.Words.{has, onto, past_of}
 use Rattle.dtx_model.specs.Caused.{MayAnswer, is_begin_sent}
 use Rattle.dtx_model.specs.World.{World, answer_at}
 use Rattle.dtx_model.specs.Steps.{Step, Calls, entered}
+use Rattle.tx_world.specs.Entering.{is_unlinked}
 use Rattle.tx_world.specs.State.{TxState, may_enter}
 use Rattle.tx_world.specs.Stepping.{Does}
 use Rattle.tx_world.proofs.Calling.{answer_there, call_ready, free_there, with_call}
@@ -34,9 +35,10 @@ write_near-begins-requires-clause-written g c =
     let m : Step = Calls c.args.line c.args.actor c.args.c.now c.args.done in
     let may = ap (λ (x : TxState). may_enter x.world c.args.line c.args.c.now) c.self.view_is ∙ c.requires.enters in
     let answers = subst (λ (x : TxState). MayAnswer x.transaction.value x.world c.args.c.now c.args.done) (sym c.self.view_is) c.requires.answers in
+    let alone = ap (λ (x : TxState). is_unlinked x.world c.args.c.now) c.self.view_is ∙ c.requires.unlinked in
     let told = c.answer_call-answer.ensures in
     let ready : Ready t w m c.answer_call-answer.new.half i.core xs =
-    call_ready t w i.half c.answer_call-answer.new.half i.core c.args.line c.args.actor c.args.c.now c.args.done c.clear.new.self c.answer_call-answer.new.out xs c.self.invariant.kept c.requires.near may answers
+    call_ready t w i.half c.answer_call-answer.new.half i.core c.args.line c.args.actor c.args.c.now c.args.done c.clear.new.self c.answer_call-answer.new.out xs c.self.invariant.kept c.requires.near alone may answers
     told.state c.entries.ensures.value told.out c.clear.ensures in
     ready.written
 
@@ -49,9 +51,10 @@ write_near-begins-requires-clause-sendable g c =
     let m : Step = Calls c.args.line c.args.actor c.args.c.now c.args.done in
     let may = ap (λ (x : TxState). may_enter x.world c.args.line c.args.c.now) c.self.view_is ∙ c.requires.enters in
     let answers = subst (λ (x : TxState). MayAnswer x.transaction.value x.world c.args.c.now c.args.done) (sym c.self.view_is) c.requires.answers in
+    let alone = ap (λ (x : TxState). is_unlinked x.world c.args.c.now) c.self.view_is ∙ c.requires.unlinked in
     let told = c.answer_call-answer.ensures in
     let ready : Ready t w m c.answer_call-answer.new.half i.core xs =
-    call_ready t w i.half c.answer_call-answer.new.half i.core c.args.line c.args.actor c.args.c.now c.args.done c.clear.new.self c.answer_call-answer.new.out xs c.self.invariant.kept c.requires.near may answers
+    call_ready t w i.half c.answer_call-answer.new.half i.core c.args.line c.args.actor c.args.c.now c.args.done c.clear.new.self c.answer_call-answer.new.out xs c.self.invariant.kept c.requires.near alone may answers
     told.state c.entries.ensures.value told.out c.clear.ensures in
     block_sendable t.value w m c.reserve.new.self.past xs ready.may c.in_ok-reserve.ensures.same ready.block
 
@@ -70,9 +73,10 @@ write_near-begins-requires-clause-runs g c =
     let m : Step = Calls c.args.line c.args.actor c.args.c.now c.args.done in
     let may = ap (λ (x : TxState). may_enter x.world c.args.line c.args.c.now) c.self.view_is ∙ c.requires.enters in
     let answers = subst (λ (x : TxState). MayAnswer x.transaction.value x.world c.args.c.now c.args.done) (sym c.self.view_is) c.requires.answers in
+    let alone = ap (λ (x : TxState). is_unlinked x.world c.args.c.now) c.self.view_is ∙ c.requires.unlinked in
     let told = c.answer_call-answer.ensures in
     let ready : Ready t w m c.answer_call-answer.new.half i.core xs =
-    call_ready t w i.half c.answer_call-answer.new.half i.core c.args.line c.args.actor c.args.c.now c.args.done c.clear.new.self c.answer_call-answer.new.out xs c.self.invariant.kept c.requires.near may answers
+    call_ready t w i.half c.answer_call-answer.new.half i.core c.args.line c.args.actor c.args.c.now c.args.done c.clear.new.self c.answer_call-answer.new.out xs c.self.invariant.kept c.requires.near alone may answers
     told.state c.entries.ensures.value told.out c.clear.ensures in
     ready.runs
 
@@ -85,9 +89,10 @@ invariant_of-self-2 g c =
     let m : Step = Calls c.args.line c.args.actor c.args.c.now c.args.done in
     let may = ap (λ (x : TxState). may_enter x.world c.args.line c.args.c.now) c.self.view_is ∙ c.requires.enters in
     let answers = subst (λ (x : TxState). MayAnswer x.transaction.value x.world c.args.c.now c.args.done) (sym c.self.view_is) c.requires.answers in
+    let alone = ap (λ (x : TxState). is_unlinked x.world c.args.c.now) c.self.view_is ∙ c.requires.unlinked in
     let told = c.answer_call-answer.ensures in
     let ready : Ready t w m c.answer_call-answer.new.half i.core xs =
-    call_ready t w i.half c.answer_call-answer.new.half i.core c.args.line c.args.actor c.args.c.now c.args.done c.clear.new.self c.answer_call-answer.new.out xs c.self.invariant.kept c.requires.near may answers
+    call_ready t w i.half c.answer_call-answer.new.half i.core c.args.line c.args.actor c.args.c.now c.args.done c.clear.new.self c.answer_call-answer.new.out xs c.self.invariant.kept c.requires.near alone may answers
     told.state c.entries.ensures.value told.out c.clear.ensures in
     let e = c.write_near-begins.ensures in
     let past = ap (λ (h : List Entry). onto h xs) c.in_ok-reserve.ensures.same ∙ ap (onto w.past) ready.block in
@@ -107,9 +112,10 @@ returns-clause-done g c =
     let m : Step = Calls c.args.line c.args.actor c.args.c.now c.args.done in
     let may = ap (λ (x : TxState). may_enter x.world c.args.line c.args.c.now) c.self.view_is ∙ c.requires.enters in
     let answers = subst (λ (x : TxState). MayAnswer x.transaction.value x.world c.args.c.now c.args.done) (sym c.self.view_is) c.requires.answers in
+    let alone = ap (λ (x : TxState). is_unlinked x.world c.args.c.now) c.self.view_is ∙ c.requires.unlinked in
     let told = c.answer_call-answer.ensures in
     let ready : Ready t w m c.answer_call-answer.new.half i.core xs =
-    call_ready t w i.half c.answer_call-answer.new.half i.core c.args.line c.args.actor c.args.c.now c.args.done c.clear.new.self c.answer_call-answer.new.out xs c.self.invariant.kept c.requires.near may answers
+    call_ready t w i.half c.answer_call-answer.new.half i.core c.args.line c.args.actor c.args.c.now c.args.done c.clear.new.self c.answer_call-answer.new.out xs c.self.invariant.kept c.requires.near alone may answers
     told.state c.entries.ensures.value told.out c.clear.ensures in
     let e = c.write_near-begins.ensures in
     let past = ap (λ (h : List Entry). onto h xs) c.in_ok-reserve.ensures.same ∙ ap (onto w.past) ready.block in
