@@ -52,16 +52,16 @@ manages_none (Promotable t e r v o p) ms u = absurd cc
 manages_none _ ms u = refl
 
 -- the entry of such a call changes nothing of what is known
-heeds-called : (h : Half) (n : ℕ) (a : ActorNo) (c : Call) (x : Answer) → is_unmanaged c ≡ true → is_wait x ≡ false → heeds (record { line = n; actor = a; call = c } ∷ []) h (Called n a x) ≡ h
+pub call_heeded : (h : Half) (n : ℕ) (a : ActorNo) (c : Call) (x : Answer) → is_unmanaged c ≡ true → is_wait x ≡ false → heeds (record { line = n; actor = a; call = c } ∷ []) h (Called n a x) ≡ h
 unfolding track
-heeds-called h n a c Wait u k = absurd cc
-heeds-called h n a c Fine u k = rw (eq_self n, manages_none c h.managers u) refl
-heeds-called h n a c True u k = rw (eq_self n, manages_none c h.managers u) refl
-heeds-called h n a c _ u k = refl
+call_heeded h n a c Wait u k = absurd cc
+call_heeded h n a c Fine u k = rw (eq_self n, manages_none c h.managers u) refl
+call_heeded h n a c True u k = rw (eq_self n, manages_none c h.managers u) refl
+call_heeded h n a c _ u k = refl
 
 called_alone : (h : Known) (n : ℕ) (a : ActorNo) (c : Call) (x : Answer) → is_unmanaged c ≡ true → is_wait x ≡ false → h ≡ known_after (record { line = n; actor = a; call = c } ∷ []) h (Called n a x ∷ [])
 unfolding heeds_all
-called_alone h n a c x u k = ap (λ (g : Half). record { transaction = h.transaction; half = g }) (sym (heeds-called h.half n a c x u k))
+called_alone h n a c x u k = ap (λ (g : Half). record { transaction = h.transaction; half = g }) (sym (call_heeded h.half n a c x u k))
 
 -- the block of a call that the half answers itself
 pub own_answer : (t : ℕ) (h : Half) (c : Call) (m : ℕ) → is_its_own c ≡ true → local_answer t h c 0 ≡ half_answer t h c m
@@ -163,7 +163,7 @@ unfolding heeds_all
 gone_known h n a e x k f =
     let mine : List EnteredCall = record { line = n; actor = a; call = Gone e } ∷ [] in
     ap (λ (g : Half). record { transaction = h.transaction; half = g }) (sym (heeds_all_same mine h.half (gone_unlinked h.half e) (gone_quiet h.half e)))
-    ∙ ap (λ (g : Half). record { transaction = h.transaction; half = heeds_all mine g (gone_unlinked h.half e) }) (sym (heeds-called h.half n a (Gone e) x refl (gone_wait h.transaction.value h.half e x k)))
+    ∙ ap (λ (g : Half). record { transaction = h.transaction; half = heeds_all mine g (gone_unlinked h.half e) }) (sym (call_heeded h.half n a (Gone e) x refl (gone_wait h.transaction.value h.half e x k)))
     ∙ ap (known_after mine h) (gone_fine h.transaction.value h.half n a e x k f)
 
 pub not_gone_known : (h : Known) (n : ℕ) (a : ActorNo) (e : EnlNo) (x : Answer) → x ≡ half_answer h.transaction.value h.half (Gone e) 0 → x ≢ Fine

@@ -31,4 +31,5 @@ pub mod Living
 pub mod Listing
 pub mod Entering
 pub mod Calling
+pub mod Linking
 pub mod AtTheLog

@@ -1,5 +1,7 @@
 //! The calls.
-ghost use Rattle.std.specs.Prelude.{◌≡◌, IfOk, OnOk, OnErr, true};
+ghost use Rattle.std.specs.Prelude.{ℕ, ◌≡◌, IfOk, OnOk, OnErr, true};
+ghost use Rattle.dtx_values.specs.declared.call.Call.TheVariants.{Lose, Recovered};
+ghost use Rattle.dtx_values.specs.declared.entry.Answer.TheVariants.{Fine};
 ghost use Rattle.dtx_model.specs.Caused.{MayAnswer};
 ghost use Rattle.dtx_model.specs.Steps.{Calls};
 ghost use Rattle.dtx_model.specs.World.{answer_at};
@@ -13,7 +15,7 @@ use crate::refusal::WorldError;
 use crate::writing::{live, write_near};
 use coordinator_log::Log;
 use dtx_model::EnteredCall;
-use dtx_values::{ActorNo, Answer, Call};
+use dtx_values::{ActorNo, Answer, Call, Conn, Entry, RmNo, TxNo};
 use outside::Disk;
 
 impl TxWorld {
@@ -40,5 +42,48 @@ impl TxWorld {
         let begins = write_near(&mut self.history, &mut self.core, self.out.entries(), log);
         live(&mut self.at_log, begins, log.life());
         Ok(answer)
+    }
+
+    /// Enters the loss of an open connection.
+    pub(super) fn enter_lost<D: Disk>(&mut self, log: &Log<D>, actor: ActorNo, line: u32, u: TxNo, c: Conn, up: u16, down: u16) -> Result<(), WorldError>
+        requires enters { may_enter self.old.world line (Lose u c up down) ≡ true }
+        requires fine { answer_at self.old.transaction.value self.old.world (Lose u c up down) 0 ≡ Fine }
+        ensures done { (m : ℕ) → OnOk result (Does D.faults (Calls line actor (Lose u c up down) m) self.old log.now self.new log.now) }
+        ensures ours { (self.new.ours ≡ self.old.ours) × (self.new.unsure ≡ self.old.unsure) }
+        ensures memory { OnErr result (self.new ≡ self.old) }
+    {
+        let _ = log.is_up();
+        self.history.reserve()?;
+        self.calls.reserve(1)?;
+        let call = Call::Lose(u, c, up, down);
+        self.calls.push_reserved(EnteredCall { line, actor, call });
+        let block = [Entry::Called(line, actor, Answer::Fine)];
+        self.history.write(&block, self.core.is_stopped());
+        // It is open, since that is ok. So it is lost.
+        let _ = self.history.lose(c, u32::from(up), u32::from(down));
+        Ok(())
+    }
+
+    /// Enters that a manager has recovered.
+    pub(super) fn enter_recovered<D: Disk>(&mut self, log: &Log<D>, actor: ActorNo, line: u32, u: TxNo, r: RmNo) -> Result<(), WorldError>
+        requires enters { may_enter self.old.world line (Recovered u r) ≡ true }
+        requires fine { answer_at self.old.transaction.value self.old.world (Recovered u r) 0 ≡ Fine }
+        ensures done { (m : ℕ) → OnOk result (Does D.faults (Calls line actor (Recovered u r) m) self.old log.now self.new log.now) }
+        ensures ours { (self.new.ours ≡ self.old.ours) × (self.new.unsure ≡ self.old.unsure) }
+        ensures memory { OnErr result (self.new ≡ self.old) }
+    {
+        let _ = log.is_up();
+        self.history.reserve()?;
+        self.calls.reserve(1)?;
+        let call = Call::Recovered(u, r);
+        self.calls.push_reserved(EnteredCall { line, actor, call });
+        let block = [
+            Entry::Called(line, actor, Answer::Fine),
+            Entry::Recovered(r),
+        ];
+        let stopped = self.core.is_stopped();
+        self.core.recovery_over(r);
+        self.history.write(&block, stopped);
+        Ok(())
     }
 }
