@@ -78,9 +78,6 @@ after_call n a v c h = by (lost_since c h)
     by (Some true) = refl
     by (Some false) = refl
 
-pub cut_after : (n : ℕ) (a : ActorNo) (v : Answer) (c : Conn) (x y : ℕ) (h : List Entry) → cut (Called n a v ∷ h) c x y ≡ cut h c x y
-cut_after n a v c x y h = refl
-
 cut_heeded : (h : Known) (n : ℕ) (a : ActorNo) (u : TxNo) (c : Conn) (x y i j : ℕ)
     → h ≡ known_after (record { line = n; actor = a; call = Lose u c x y } ∷ []) h (Called n a Fine ∷ Cut c i j ∷ [])
 unfolding heeds_all track
@@ -124,3 +121,8 @@ recovery_alone s r = refl
 pub none_followed : (s : Coordinated) → s ≡ follow_all s []
 unfolding follow_all
 none_followed s = refl
+
+-- the history after a loss
+pub lost_past : (n : ℕ) (a : ActorNo) (c : Conn) (x y i j : ℕ) (h p q : List Entry) → p ≡ Called n a Fine ∷ h → i ≡ x → j ≡ y → q ≡ cut p c i j ∷ p → q ≡ cut h c x y ∷ Called n a Fine ∷ h
+lost_past n a c x y i j h p q wrote e f k =
+    k ∙ ap (λ (g : List Entry). cut g c i j ∷ g) wrote ∙ ap (λ z. cut h c z j ∷ Called n a Fine ∷ h) e ∙ ap (λ z. cut h c x z ∷ Called n a Fine ∷ h) f

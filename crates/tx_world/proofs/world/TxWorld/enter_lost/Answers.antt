@@ -12,7 +12,7 @@ use Rattle.tx_world.specs.Carried.{are_sendable}
 use Rattle.tx_world.specs.State.{TxState, may_enter}
 use Rattle.tx_world.specs.Stepping.{Does}
 use Rattle.tx_world.proofs.Calling.{with_call}
-use Rattle.tx_world.proofs.Linking.{Linked, after_call, cut_after, lost, lost_open, none_followed}
+use Rattle.tx_world.proofs.Linking.{Linked, after_call, lost, lost_open, lost_past, none_followed}
 use Rattle.tx_world.proofs.Living.{seen_as, whole_far}
 use Rattle.tx_world.proofs.Written.{does_step, stopped_is, world_written, written_kept}
 use Rattle.tx_world.proofs.world.TxWorld.enter_lost.Goals as goal
@@ -46,7 +46,7 @@ invariant_of-self-2 g c =
     let wrote : c.write.new.self.past ≡ Called c.args.line c.args.actor Fine ∷ w.past = c.write.ensures.past ∙ ap (λ (h : List Entry). Called c.args.line c.args.actor Fine ∷ h) c.in_ok-reserve.ensures.same in
     let opened = c.lose.ensures.open ∙ ap (is_open_wire c.args.c) wrote ∙ after_call c.args.line c.args.actor Fine c.args.c w.past ∙ lost_open t.value w c.args.u c.args.c c.args.up c.args.down 0 fine in
     let past : c.lose.new.self.past ≡ onto w.past es =
-    c.lose.ensures.cut opened ∙ ap (λ (h : List Entry). cut h c.args.c c.args.up c.args.down ∷ h) wrote ∙ ap (λ (x : Entry). x ∷ Called c.args.line c.args.actor Fine ∷ w.past) (cut_after c.args.line c.args.actor Fine c.args.c c.args.up c.args.down w.past) in
+    lost_past c.args.line c.args.actor c.args.c c.args.up c.args.down c.from.result c.from-2.result w.past c.write.new.self.past c.lose.new.self.past wrote c.from.ensures c.from-2.ensures (c.lose.ensures.cut opened) in
     let calls = with_call i.calls.items c.reserve-2.new.self.items c.push_reserved.new.self.items (record { line = c.args.line; actor = c.args.actor; call = Lose c.args.u c.args.c c.args.up c.args.down }) c.push_reserved.ensures.items c.in_ok-reserve-2.ensures.items in
     whole_far i.core i.core []
     (written_kept t w (Calls c.args.line c.args.actor (Lose c.args.u c.args.c c.args.up c.args.down) 0) c.args.log.now.is_up false i.half i.core i.core (past_of c.push_reserved.new.self.items) (onto w.past es) c.lose.new.self.past linked.kept (λ b. absurd cc) calls linked.silent
@@ -65,7 +65,7 @@ returns-clause-done g c m =
     let wrote : c.write.new.self.past ≡ Called c.args.line c.args.actor Fine ∷ w.past = c.write.ensures.past ∙ ap (λ (h : List Entry). Called c.args.line c.args.actor Fine ∷ h) c.in_ok-reserve.ensures.same in
     let opened = c.lose.ensures.open ∙ ap (is_open_wire c.args.c) wrote ∙ after_call c.args.line c.args.actor Fine c.args.c w.past ∙ lost_open t.value w c.args.u c.args.c c.args.up c.args.down 0 fine in
     let past : c.lose.new.self.past ≡ onto w.past es =
-    c.lose.ensures.cut opened ∙ ap (λ (h : List Entry). cut h c.args.c c.args.up c.args.down ∷ h) wrote ∙ ap (λ (x : Entry). x ∷ Called c.args.line c.args.actor Fine ∷ w.past) (cut_after c.args.line c.args.actor Fine c.args.c c.args.up c.args.down w.past) in
+    lost_past c.args.line c.args.actor c.args.c c.args.up c.args.down c.from.result c.from-2.result w.past c.write.new.self.past c.lose.new.self.past wrote c.from.ensures c.from-2.ensures (c.lose.ensures.cut opened) in
     let calls = with_call i.calls.items c.reserve-2.new.self.items c.push_reserved.new.self.items (record { line = c.args.line; actor = c.args.actor; call = Lose c.args.u c.args.c c.args.up c.args.down }) c.push_reserved.ensures.items c.in_ok-reserve-2.ensures.items in
     let same = world_written t.value w (Calls c.args.line c.args.actor (Lose c.args.u c.args.c c.args.up c.args.down) m) c.args.log.now.is_up false (past_of c.push_reserved.new.self.items) (onto w.past es) c.lose.new.self.past calls linked.silent (ap (onto w.past) linked.block) past in
     let v : World = record { calls = past_of c.push_reserved.new.self.items; past = c.lose.new.self.past } in
