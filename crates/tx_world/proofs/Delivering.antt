@@ -116,7 +116,7 @@ pub came_few : (t : TxNo) (w : World) (h : Known) (k : CoreKept) (c : Conn) (x :
 came_few t w h k c x n kept came m e =
     let cross : MayCross w.past (Got c Up m) = (subst (λ (y : Delivered). Came c Up y w.past n) e came).0 in
     let first = next_first m (in_transit c Up w.past) cross in
-    subst (λ (s : Coordinated). IsFew (follow s (Got c Up m))) (sym (core_is t w h k kept)) (runs_few (IsIn w.calls) t.value kept.ran.0 w c m first.0 kept.once kept.ran.1 first.1)
+    subst (λ (s : Coordinated). IsFew (follow s (Got c Up m))) (sym (core_is t w h k kept)) (runs_few (IsIn w.calls) t.value kept.ran.0 w c m first.0 t.in_range.0 t.in_range.1 kept.once kept.ran.1 first.1)
 
 -- what comes to one side is nothing to the other
 up_heeded : (h : Half) (c : Conn) (x : Delivered) → heeds_all [] h (noted c Up x) ≡ h

@@ -33,3 +33,9 @@ pub mod Entering
 pub mod Calling
 pub mod Linking
 pub mod AtTheLog
+pub mod CallsOn
+pub mod FewBranches
+pub mod FewRuns
+pub mod FewAnswers
+pub mod FewDesks
+pub mod FewKnown

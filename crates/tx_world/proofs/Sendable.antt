@@ -31,14 +31,13 @@ use Rattle.dtx_model.specs.Waiting.{Waiter, waiting}
 use Rattle.dtx_model.specs.Wires.{WireRun, in_transit, opens}
 use Rattle.dtx_model.specs.Words.{always, has, onto}
 use Rattle.dtx_model.specs.World.{World, half, core}
-use Rattle.dtx_model.proofs.Bools.{and_both, and_left, not_both}
-use Rattle.dtx_model.proofs.Pasts.{always-before}
+use Rattle.dtx_model.proofs.Bools.{and_both, not_both}
 use Rattle.dtx_model.proofs.Quiet.{wire_run}
 use Rattle.outcome_law.proofs.OnTheWay.{is_unplaced}
 use Rattle.outcome_law.proofs.Scans.{each_more}
 use Rattle.outcome_law.proofs.Makers.{AreMade, all_unplaced, ran_made}
 use Rattle.outcome_law.proofs.Welcomes.{is_direct, step_direct}
-use Rattle.tx_world.specs.Carried.{are_sendable, is_sendable}
+use Rattle.tx_world.specs.Carried.{are_sendable}
 use Rattle.tx_world.proofs.SendingBlocks.{apt_act, apt_arrived, apt_coordinates, apt_core_down, apt_core_got, apt_local_down, apt_reply}
 use Rattle.tx_world.proofs.SendingKnown.{hears, speaks}
 use Rattle.tx_world.proofs.SendingOnce.{created_new, opened_before, voter_new}
@@ -131,6 +130,7 @@ ran_direct : (G : ℕ → ActorNo → Call → Type 0) (t : ℕ) (ms : List Step
 ran_direct G t [] w r = ap (always is_direct) r.1
 ran_direct G t (m ∷ ms) w r = subst (λ (x : World). always is_direct x.past ≡ true) (sym r.3) (step_direct t r.0 m (ran_direct G t ms r.0 r.1))
 
+-- what stands at the end of each block stands in each world that steps made
 pub ran_ends : (G : ℕ → ActorNo → Call → Type 0) (t : ℕ) (ms : List Step) (w : World) → is_id (identifier_of t) ≡ true → AreMadeOnce G → Ran G t ms w → Ends w.past
 ran_ends G t [] w v once r = subst Ends (sym r.1) none_ends
 ran_ends G t (m ∷ ms) w v once r =
@@ -138,10 +138,11 @@ ran_ends G t (m ∷ ms) w v once r =
     subst (λ (x : World). Ends x.past) (sym r.3)
     (step_ends G t r.0 m once before v r.2 (subst (λ (x : World). WireRun x.past) r.3 (wire_run G t (m ∷ ms) w r)) (ran_ends G t ms r.0 v once r.1))
 
--- the identifier of a transaction is valid: its halves are 1 and the transaction's number
+-- the halves of a sum: 1, and a number below
 halves : (w t : ℕ) → t < w → ((w + t) / w ≡ 1) × ((w + t) % w ≡ t)
 halves w t k = let e : w + t ≡ 1 * w + t = omega arith in (ap (λ n. n / w) e ∙ div-mul-add 1 w t k, ap (λ n. n % w) e ∙ mod-mul-add 1 w t k)
 
+-- the identifier of a transaction is valid
 pub id_valid : (t : ℕ) → 1 ≤ t → t ≤ 256 → is_id (identifier_of t) ≡ true
 id_valid t low high =
     let parts = halves 18446744073709551616 t (omega arith) in
@@ -155,7 +156,3 @@ id_valid t low high =
 -- each message of a run might be sent where it was
 pub runs_sendable : (G : ℕ → ActorNo → Call → Type 0) (t : ℕ) (ms : List Step) (w : World) → 1 ≤ t → t ≤ 256 → AreMadeOnce G → Ran G t ms w → are_sendable w.past ≡ true
 runs_sendable G t ms w low high once r = (ran_ends G t ms w (id_valid t low high) once r).sendable
-
--- so is each entry of a block, after those before it
-pub next_sendable : (h : List Entry) (x : Entry) (es : List Entry) → are_sendable (onto h (x ∷ es)) ≡ true → is_sendable h x ≡ true
-next_sendable h x es k = and_left (is_sendable h x) (are_sendable h) (always-before is_sendable (x ∷ h) es k)

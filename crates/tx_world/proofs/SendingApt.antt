@@ -49,9 +49,11 @@ both : (a b : Bool) → a ≡ true → b ≡ true → (a && b) ≡ true
 both true b p q = q
 both false b p q = absurd cc
 
+-- an empty block
 pub apt_none : {h : List Entry} → Apt h []
 apt_none = record { proof = refl; fails = refl }
 
+-- one more entry first
 pub apt_cons : {h : List Entry} (x : Entry) {es : List Entry} → is_apt h x ≡ true → is_failed x ≡ false → Apt h es → Apt h (x ∷ es)
 apt_cons {h} x {es} p f q = record { proof = both (is_apt h x) (each (is_apt h) es) p q.proof; fails = by (is_decision x) (has is_decision es) (is_failed x) (has is_failed es) f q.fails }
   where
@@ -60,14 +62,17 @@ apt_cons {h} x {es} p f q = record { proof = both (is_apt h x) (each (is_apt h) 
     by false b true d e k = absurd cc
     by false b false d e k = k
 
+-- one of two blocks
 pub apt_if : {h : List Entry} (b : Bool) {x y : List Entry} → Apt h x → Apt h y → Apt h (if b then x else y)
 apt_if true p q = p
 apt_if false p q = q
 
+-- one of two blocks, by the test between them
 pub apt_when : {h : List Entry} (b : Bool) {x y : List Entry} → (b ≡ true → Apt h x) → (b ≡ false → Apt h y) → Apt h (if b then x else y)
 apt_when true p q = p refl
 apt_when false p q = q refl
 
+-- two blocks, one after the other
 pub apt_join : {h x y : List Entry} → Apt h x → Apt h y → Apt h (x ++ y)
 apt_join {h} {x} {y} p q =
     record {
@@ -87,13 +92,16 @@ apt_join {h} {x} {y} p q =
     by false false false false true false e f p q = refl
     by false false false false false false e f p q = refl
 
+-- a block of one entry
 pub apt_one : {h : List Entry} (x : Entry) → is_apt h x ≡ true → is_failed x ≡ false → Apt h (x ∷ [])
 apt_one x p f = apt_cons x p f apt_none
 
+-- an entry for each item
 pub apt_map : {h : List Entry} {A : Type 0} (f : A → Entry) → ((a : A) → is_apt h (f a) ≡ true) → ((a : A) → is_failed (f a) ≡ false) → (xs : List A) → Apt h (map f xs)
 apt_map f p q [] = apt_none
 apt_map f p q (x ∷ xs) = apt_cons (f x) (p x) (q x) (apt_map f p q xs)
 
+-- a block for each item
 pub apt_flat : {h : List Entry} {A : Type 0} (f : A → List Entry) → ((a : A) → Apt h (f a)) → (xs : List A) → Apt h (flat_map f xs)
 apt_flat f p [] = apt_none
 apt_flat f p (x ∷ xs) = apt_join (p x) (apt_flat f p xs)
@@ -129,6 +137,7 @@ opened_same c h x n = by (opens c x) (lost_since c h) n
     by false (Some l) n = refl
     by false None n = refl
 
+-- an entry that neither opens it nor shows its end leaves whether its end was seen
 pub ended_same : (c : Conn) (d : Dir) (h : List Entry) (x : Entry) → opens c x ≡ false → ends c d x ≡ false → is_ended c d (x ∷ h) ≡ is_ended c d h
 ended_same c d h x n m = by (opens c x) (begins_ended d h) (ends c d x) n m
   where
@@ -137,6 +146,7 @@ ended_same c d h x n m = by (opens c x) (begins_ended d h) (ends c d x) n m
     by false z true n m = absurd cc
     by false z false n m = refl
 
+-- such an entry leaves who may send there
 pub can_same : (c : Conn) (d : Dir) (h : List Entry) (x : Entry) → opens c x ≡ false → ends c (opposite d) x ≡ false → can_send c d (x ∷ h) ≡ can_send c d h
 can_same c d h x n m = rw (opened_same c h x n, ended_same c (opposite d) h x n m) refl
 
@@ -147,6 +157,7 @@ unending c d h Stopped k = absurd cc
 unending c Up h _ k = refl
 unending c Down h _ k = refl
 
+-- so does an entry that may follow
 pub can_more : (c : Conn) (d : Dir) (h : List Entry) (x : Entry) → is_apt h x ≡ true → can_send c d (x ∷ h) ≡ can_send c d h
 can_more c d h x k = can_same c d h x (unopening c h x k) (unending c (opposite d) h x k)
 
@@ -163,6 +174,7 @@ apt_more h y (Promoting c) a k = absurd cc
 apt_more h y (Promoted u c) a k = absurd cc
 apt_more h y _ a k = refl
 
+-- the same of each entry of a block
 pub each_apt : (h : List Entry) (y : Entry) (es : List Entry) → is_apt h y ≡ true → each (is_apt h) es ≡ true → each (is_apt (y ∷ h)) es ≡ true
 each_apt h y [] a k = refl
 each_apt h y (x ∷ es) a k =

@@ -124,6 +124,7 @@ apt_core_got id k (Again e) (ReenlistReenlist i) v s =
     (apt_if (has_aborted k.stage) (apt_to (follow k (Got (Again e) Up (ReenlistReenlist i))) s (Again e) ReenlistAborted refl) apt_none)
 apt_core_got id k c m v s = apt_if (aborts k (Got c Up m) && is_undecided k.stage) (apt_abort (follow k (Got c Up m)) s) apt_none
 
+-- after the end of a connection
 pub apt_core_down : {p : List Entry} (k : Coordinated) (c : Conn) → Speaks p (follow k (Ended c Up)) → Apt p (core_down k c)
 unfolding core_down
 apt_core_down k c s = apt_if (is_early k c && is_undecided k.stage) (apt_abort (follow k (Ended c Up)) s) apt_none
@@ -134,6 +135,7 @@ is_hit StoppedNow = true
 is_hit StoppedBefore = true
 is_hit _ = false
 
+-- the coordinator's act where the log isn't stopped
 pub apt_coordinates : {p : List Entry} (k : Coordinated) (a : LogAnswer) → is_hit a ≡ false → Speaks p k → Apt p (coordinates k a)
 unfolding follow
 apt_coordinates {p} k a n s = apt_if (may_log k) (appends a n) (frees a n)
@@ -169,6 +171,7 @@ apt_message {p} o s =
     apt_when (may_abort_by_begin o.ends) (λ t. apt_one (Sent Begin Up BeginAbort) (later p Begin Up BeginAbort refl (s.up Begin (and_right _ (knows Begin o.ends) t))) refl)
     (λ n. apt_when (may_abort_by_voter o.ends) (λ t. apt_one (Sent Voter Up VoterNo) (later p Voter Up VoterNo refl (s.up Voter (and_right _ (knows Voter o.ends) t))) refl) (λ t. apt_none))
 
+-- a veto
 pub apt_veto : {p : List Entry} (h : Half) → Hears p h.seen → Apt p (veto h)
 unfolding veto
 apt_veto h s = apt_join (apt_decide h Aborted) (apt_message h.seen s)
@@ -226,6 +229,7 @@ apt_again h s e ReenlistCommitted = apt_one (Told (Member e) Committed) refl ref
 apt_again h s e ReenlistAborted = apt_one (Told (Member e) Aborted) refl refl
 apt_again h s e _ = apt_ended h s (Again e)
 
+-- after a message of the coordinator
 pub apt_arrived : {p : List Entry} (t : ℕ) (h : Half) → Hears p h.seen → (c : Conn) (m : Message) → is_going_on c m ≡ false → Apt p (arrived t h c m)
 apt_arrived t h s Begin m g = apt_begin t h s m g
 apt_arrived t h s Voter m g = apt_voter t h s m g
@@ -236,6 +240,7 @@ apt_arrived t h s (Again e) m g = apt_again h s e m
 pub apt_begun_late : {p : List Entry} (h : Half) → Hears p h.seen → Apt p (to_up h.seen Begin BeginAbort)
 apt_begun_late h s = apt_up h.seen s Begin BeginAbort refl
 
+-- after the end of a connection at the local side
 pub apt_local_down : {p : List Entry} (h : Half) (c : Conn) → Hears p (sees h (Ended c Down)).seen → Apt p (local_down h c)
 unfolding local_down
 apt_local_down h c s = apt_ended (sees h (Ended c Down)) s c
@@ -292,6 +297,7 @@ apt_act_by : {p : List Entry} (x : Option Outcome) (h : Half) → Hears p h.seen
 apt_act_by (Some x) h s = apt_tell x (find (is_to_tell h.seen x) h.seen.listeners) h.seen.told_client
 apt_act_by None h s = apt_undecided h s (unasked_promotable h.seen) refl
 
+-- the first local act that applies
 pub apt_act : {p : List Entry} (h : Half) → Hears p h.seen → Apt p (act_entries h)
 unfolding act_entries
 apt_act h s = apt_act_by h.seen.decided h s
@@ -327,6 +333,7 @@ abbrev pub is_promoting_reply : Reply → Bool
 is_promoting_reply (Promotes ok) = ok
 is_promoting_reply _ = false
 
+-- each reply but that of a promotable that promotes
 pub apt_reply : {p : List Entry} (h : Half) → Hears p h.seen → (e : EnlNo) (r : Reply) → is_promoting_reply r ≡ false → Apt p (reply_entries h e r)
 unfolding reply_entries track
 apt_reply h s e (VoteReply v) g = apt_cons (Voted e v) refl refl (apt_voted (sees h (Voted e v)) (record { up = s.up; promoting = s.promoting }) e v)
@@ -374,6 +381,7 @@ unfolding track
 apt_gone w s e [] = apt_cons (LostEntry e) refl refl (apt_gone_decides (sees (half w) (LostEntry e)) (record { up = s.up; promoting = s.promoting }) e)
 apt_gone w s e (c ∷ cs) = apt_cons (LostEntry e) refl refl (apt_map (cut_upward w.past) (λ d. refl) (λ d. refl) (c ∷ cs))
 
+-- the facts of a call that opens nothing
 pub apt_facts_at : {p : List Entry} (t : ℕ) (w : World) → Hears p (half w).seen → (c : Call) (a : Answer) → may_open c ≡ false → Apt p (facts_at t w c a)
 apt_facts_at t w s (Lose u c n m) a g = apt_one (cut w.past c n m) refl refl
 apt_facts_at t w s (Gone e) a g = apt_gone w s e (open_ones w e)
@@ -381,6 +389,7 @@ apt_facts_at t w s (Reenlist e) a g = absurd cc
 apt_facts_at t w s (Recovered u r) a g = apt_one (RecoveredEntry r) refl refl
 apt_facts_at t w s c a g = apt_facts t (half w) s c a g
 
+-- the same, where the call was done
 pub apt_facts_if : {p : List Entry} (b : Bool) {es : List Entry} → Apt p es → Apt p (facts_if b es)
 apt_facts_if true q = q
 apt_facts_if false q = apt_none

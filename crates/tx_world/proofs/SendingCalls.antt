@@ -39,7 +39,7 @@ use Rattle.dtx_model.specs.Entries.{began_of, decision_of, is_decision, is_promo
 use Rattle.dtx_model.specs.Facts.{begin_promotion, durable_facts, facts_if, has_facts}
 use Rattle.dtx_model.specs.Grammar.{OfEnlistment}
 use Rattle.dtx_model.specs.Half.{Half, enlist_sent, info, is_promoting}
-use Rattle.dtx_model.specs.Observed.{Observed, is_ask_promote, is_branch, is_promote_reply, observe, rows}
+use Rattle.dtx_model.specs.Observed.{Observed, branches, is_ask_promote, is_branch, is_promote_reply, observe, rows}
 use Rattle.dtx_model.specs.Outcome.{enlisted, is_empty}
 use Rattle.dtx_model.specs.Promotes.{identifier_of, is_failed, is_promoting as is_start}
 use Rattle.dtx_model.specs.Replies.{due_of, fits, promote_entries}
@@ -56,18 +56,18 @@ use Rattle.outcome_law.proofs.Messages.{ENLIST}
 use Rattle.outcome_law.proofs.Owned.{decision_seen, has_rows}
 use Rattle.outcome_law.proofs.Picks.{found_at, has-at, none_each}
 use Rattle.outcome_law.proofs.Scans.{has_more}
-use Rattle.outcome_law.proofs.Tests.{first_of_four, second_of_four, third_of_four}
+use Rattle.outcome_law.proofs.Tests.{eq_self, first_of_four, second_of_four, third_of_four}
 use Rattle.tx_world.proofs.SendingApt.{can_same}
 use Rattle.tx_world.proofs.SendingBlocks.{Hears, apt_facts_at, apt_facts_if, may_open}
 use Rattle.tx_world.proofs.SendingKnown.{hears}
-use Rattle.tx_world.proofs.SendingOpened.{Opened}
+use Rattle.tx_world.proofs.SendingOpened.{Opened, branch_stays}
 use Rattle.tx_world.proofs.SendingEnds.{Ends, again_ends, apt_ends, begin_ends, ends_if, enlist_ends, one_ends, promotable_ends, start_ends}
 
 no : false ≡ true → ⊥
 no e = absurd cc
 
 -- Where it isn't promoted, isn't promoting, and nothing is decided, no promotion began.
-unstarted : (h : List Entry) → has is_promoted h ≡ false → is_promoting (observe h) ≡ false → latest decision_of h ≡ None → (has is_failed h ≡ true → has is_decision h ≡ true) → has is_start h ≡ false
+pub unstarted : (h : List Entry) → has is_promoted h ≡ false → is_promoting (observe h) ≡ false → latest decision_of h ≡ None → (has is_failed h ≡ true → has is_decision h ≡ true) → has is_start h ≡ false
 unstarted h p w d f =
     by (has is_start h) (has is_promoted h) (has is_failed h) p
     (false_from_ne_true (has is_failed h) (λ k. not_both (has is_decision h) (f k) (sym (decision_seen h) ∙ ap (λ (o : Option Outcome). is_some o) d))) (sym (way_seen h) ∙ w)
@@ -93,7 +93,7 @@ start_block h v (Some c) q n i =
     (sym (has_rows (λ e d. is_promotable d) h) ∙ ap (has (λ (x : Row). is_promotable x.class)) (sym q) ∙ b))) next)
 
 -- A call was done where nothing is decided.
-done_open : (l : Option ℕ) (d : Option Outcome) (a : Answer) → has_facts (if_begun l (unless_ended d a)) ≡ true → (d ≡ None) × (has_facts a ≡ true)
+pub done_open : (l : Option ℕ) (d : Option Outcome) (a : Answer) → has_facts (if_begun l (unless_ended d a)) ≡ true → (d ≡ None) × (has_facts a ≡ true)
 done_open None d a k = absurd cc
 done_open (Some n) (Some x) a k = absurd cc
 done_open (Some n) None a k = (refl, k)
@@ -118,7 +118,7 @@ durable_ends t h v e r single True k s d n i = one_ends (Enlisted e DurableSingl
 durable_ends t h v e r single _ k s d n i = i
 
 -- A promotable's call, where no promotion is under way.
-owns_alone : (s m f : Bool) → has_facts (if s then TooLate else if not m then False else if f then Many ENLISTMENTS else True) ≡ true → m ≡ true
+pub owns_alone : (s m f : Bool) → has_facts (if s then TooLate else if not m then False else if f then Many ENLISTMENTS else True) ≡ true → m ≡ true
 owns_alone true m f k = absurd cc
 owns_alone false true f k = refl
 owns_alone false false f k = absurd cc
@@ -170,13 +170,14 @@ linked_called c n a y h = ap (linked_by c h) (lost_same c (Called n a y) h refl 
 linked_back : (c : Conn) (e : EnlNo) (h : List Entry) → is_linked c (Reenlisted e ∷ h) ≡ is_linked c h
 linked_back c e h = ap (linked_by c h) (lost_same c (Reenlisted e) h refl refl)
 
-reenlist_ends : (t n : ℕ) (a : ActorNo) (y : Answer) (h : List Entry) (o : Option Branch) → is_id (identifier_of t) ≡ true → (has_facts y ≡ true → IfSome o (λ b. is_linked (Again b.enlistment) h ≡ false))
+reenlist_ends : (t n : ℕ) (a : ActorNo) (y : Answer) (h : List Entry) (o : Option Branch) → is_id (identifier_of t) ≡ true → (has_facts y ≡ true → IfSome o (λ b. is_linked (Again b.enlistment) h ≡ false)) → IfSome o (λ b. has (is_branch b.enlistment.value) (branches h) ≡ true)
     → Ends (Called n a y ∷ h) → Ends (onto (Called n a y ∷ h) (facts_if (has_facts y) (reenlist_facts t o)))
-reenlist_ends t n a y h None v f i = facts_by (Called n a y ∷ h) (has_facts y) [] i (λ b. i)
-reenlist_ends t n a y h (Some b) v f i =
+reenlist_ends t n a y h None v f there i = facts_by (Called n a y ∷ h) (has_facts y) [] i (λ b. i)
+reenlist_ends t n a y h (Some b) v f there i =
     let e = b.enlistment in
     facts_by (Called n a y ∷ h) (has_facts y) (reenlist_facts t (Some b)) i
     (λ q. again_ends (Reenlisted e ∷ Called n a y ∷ h) e (info t e b.manager) v (linked_back (Again e) e (Called n a y ∷ h) ∙ linked_called (Again e) n a y h ∙ f q)
+    (branch_stays (Reenlisted e) (Called n a y ∷ h) e.value (branch_stays (Called n a y) h e.value there))
     (one_ends (Reenlisted e) (Called n a y ∷ h) refl refl refl i))
 
 reenlist_free : (w : World) (l : Option ℕ) (o : Option Branch) → has_facts (if_begun l (reenlist_by w o)) ≡ true → IfSome o (λ b. is_linked (Again b.enlistment) w.past ≡ false)
@@ -185,6 +186,12 @@ reenlist_free w (Some d) None k = tt
 reenlist_free w (Some d) (Some b) k =
     or_second (is_linked (Enl b.enlistment) w.past) (is_linked (Again b.enlistment) w.past)
     (branch_done b.enlisted (is_finished_there (half w).seen b.enlistment.value) (is_in b.manager.value (core w).recovered) (is_connected b.enlistment w.past) b.manager b.enlistment (unless_stopped w) k)
+
+-- the branch that is found is there
+found_branch : (e : ℕ) (bs : List Branch) (o : Option Branch) → find (is_branch e) bs ≡ o → IfSome o (λ b. has (is_branch b.enlistment.value) bs ≡ true)
+found_branch e bs None q = tt
+found_branch e bs (Some b) q =
+    let at = found_at (is_branch e) bs b q in has-at (is_branch b.enlistment.value) bs at.0 b at.1 (eq_self b.enlistment.value)
 
 -- The enlistment of a call whose line is new has no connection.
 opens_sent : (e : EnlNo) (x : Entry) → opens (Enl e) x ≡ true → is_sent_on (Enl e) Up ENLIST x ≡ true
@@ -225,6 +232,7 @@ other_ends t w n a c x o i =
     let h = Called n a x ∷ w.past in
     apt_ends h (facts_if (has_facts x) (facts_at t w c x)) (apt_facts_if (has_facts x) (apt_facts_at t w (called_hears w.past n a x) c x o)) (called_ends w.past n a x i)
 
+-- it keeps what stands at the end of each block
 pub call_ends : (G : ℕ → ActorNo → Call → Type 0) (t : ℕ) (w : World) (n : ℕ) (a : ActorNo) (c : Call) (m : ℕ) → AreMadeOnce G → AreMade G w.calls w.past → G n a c → has (is_call n) w.past ≡ false
     → is_id (identifier_of t) ≡ true → Ends w.past → Ends (onto w.past (called t w n a c (answer_at t w c m)))
 unfolding answer_at local_answer observe
@@ -250,7 +258,7 @@ call_ends G t w n a (Marshal u) m once made g new v i =
 call_ends G t w n a (Reenlist e) m once made g new v i =
     let x = answer_at t w (Reenlist e) m in
     let o = find (is_branch e.value) (half w).seen.branches in
-    reenlist_ends t n a x w.past o v (reenlist_free w (latest began_of w.past) o) (called_ends w.past n a x i)
+    reenlist_ends t n a x w.past o v (reenlist_free w (latest began_of w.past) o) (found_branch e.value (branches w.past) o refl) (called_ends w.past n a x i)
 call_ends G t w n a c m once made g new v i = other_ends t w n a c (answer_at t w c m) refl i
 
 -- A promotable promotes: it was asked to, and hadn't answered, so b wasn't opened.

@@ -123,7 +123,7 @@ known_up c (Got e Up m ∷ h) k = stays_up c (Got e Up m) h refl (never (same_co
 known_up c (Ended e Up ∷ h) k = stays_up c (Ended e Up) h refl (and_never (same_connection c e)) (known_up c h k)
 known_up c (x ∷ h) k = stays_up c x h refl refl (known_up c h k)
 
--- so the local side hears and the coordinator speaks
+-- the local side may send on what it knows, and where it is promoting, a promotion began
 pub hears : (h : List Entry) → Hears h (observe h)
 unfolding observe
 hears h =
@@ -257,5 +257,6 @@ known_down c (Got e Down m ∷ h) w k = stays_down c (Got e Down m) h refl (neve
 known_down c (Ended e Down ∷ h) w k = stays_down c (Ended e Down) h refl (and_never (same_connection c e)) (known_down c h w.1 k)
 known_down c (x ∷ h) w k = stays_down c x h refl refl (known_down c h w.1 k)
 
+-- the coordinator may send on what it knows
 pub speaks : (h : List Entry) → WireRun h → Speaks h (coordinate h)
 speaks h w = record { down = λ c k. known_down c h w k }

@@ -138,6 +138,7 @@ abbrev pub same_place : Waiter → Waiter → Bool
 same_place (n, Place e r c) (m, Place f q d) = e.value == f.value
 same_place _ _ = false
 
+-- no two wait for the place of one enlistment
 abbrev pub are_apart : List Waiter → Bool
 are_apart [] = true
 are_apart (v ∷ vs) = not (has (same_place v) vs) && are_apart vs

@@ -6,3 +6,4 @@ pub mod Course
 pub mod Kept
 pub mod Pending
 pub mod Entering
+pub mod Names

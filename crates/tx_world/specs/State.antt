@@ -1,6 +1,7 @@
 -- The world of one transaction, as its users see it, and what a call and a stop make of it.
 use Rattle.std.specs.Prelude.{ℕ, ◌==◌, ◌&&◌, not, nat_le, Bool, true, false, List, Option, Some, None, if◌then◌else◌}
 use Rattle.dtx_values.specs.declared.call.Call.{Call}
+use Rattle.dtx_values.specs.declared.call.Call.TheVariants.{Lose, Gone, Reenlist, Recovered}
 use Rattle.dtx_values.specs.declared.number.TxNo.{TxNo}
 use Rattle.dtx_model.specs.Words.{has}
 use Rattle.dtx_model.specs.Grammar.{Name, OfEnlistment, OfClone}
@@ -52,3 +53,11 @@ is_hit_by life x = has is_begin_sent x.world.past && not (core x.world).stopped 
 -- an opening of the log in this life says to it what was found: BEGIN was sent, and it lives in an earlier life
 abbrev pub is_reached_by : ℕ → TxState → Bool
 is_reached_by life x = has is_begin_sent x.world.past && not (nat_le life x.life)
+
+-- the call asks connections: a loss, or one of a manager
+abbrev pub is_linking : Call → Bool
+is_linking (Lose t c u w) = true
+is_linking (Gone e) = true
+is_linking (Reenlist e) = true
+is_linking (Recovered t r) = true
+is_linking _ = false

@@ -31,6 +31,7 @@ use std::alloc::Global;
 use std::marker::Model;
 
 mod at_the_log;
+mod calls;
 mod deliveries;
 mod entering;
 mod steps;
@@ -140,40 +141,6 @@ impl TxWorld {
         ensures { result ≡ self.now.life }
     {
         self.at_log.life()
-    }
-
-    /// Whether the call of this line may be entered: no call of the line was, and none that makes the same enlistment or the same clone.
-    pub fn may_enter(&self, line: u32, c: &Call) -> bool
-        ensures { result ≡ may_enter self.now.world line c.now }
-    {
-        let _ = &self.calls;
-        false
-    }
-
-    /// Enters a call, for which so many steps were done right before where it is a `do`; and where it is an `await`, the client was told or nothing is pending. It writes the
-    /// entry of the call and its facts.
-    ///
-    /// # Errors
-    ///
-    /// [`WorldError::Memory`] where memory ran out, and then nothing was done.
-    pub fn enter<D: Disk>(
-        &mut self,
-        log: &Log<D>,
-        actor: ActorNo,
-        line: u32,
-        c: &Call,
-        done: u16,
-    ) -> Result<Answer, WorldError>
-        requires enters { may_enter self.old.world line c.now ≡ true }
-        requires answers { MayAnswer self.old.transaction.value self.old.world c.now done }
-        requires fits { IsTrue D.honest → IsTrue log.now.is_up → Fits self.old (open_records log.now.slots) }
-        ensures answer { IfOk result (λ a. a ≡ answer_at self.old.transaction.value self.old.world c.now done) }
-        ensures done { OnOk result (Does D.faults (Calls line actor c.now done) self.old log.now self.new log.now) }
-        ensures ours { (self.new.ours ≡ self.old.ours) × (self.new.unsure ≡ self.old.unsure) }
-        ensures memory { OnErr result (self.new ≡ self.old) }
-    {
-        let _ = &self.calls;
-        Ok(Answer::Fine)
     }
 
     /// Does the first pending step until none is left, and says how many it did.

@@ -1,13 +1,11 @@
 //! The pending steps, and doing the k-th.
-ghost use Rattle.std.specs.Prelude.{◌≡◌, ◌≤◌, Ok, Some, None, IfSome, IsOk, OnErr, IsTrue, true, false, length};
+ghost use Rattle.std.specs.Prelude.{◌≡◌, ◌≤◌, Ok, Some, None, IfSome, OnErr, IsTrue, true, false, length};
 ghost use Rattle.dtx_model.specs.Words.{kth};
-ghost use Rattle.dtx_model.specs.World.{core};
-ghost use Rattle.dtx_model.specs.Caused.{may_coordinate};
-ghost use Rattle.dtx_model.specs.Steps.{LogAnswer, Coordinates, pending};
+ghost use Rattle.dtx_model.specs.Steps.{pending};
 ghost use Rattle.coordinator_log.specs.Slots.{open_records};
 ghost use Rattle.tx_world.specs.AtLog.{Fits, KeepsLog};
 ghost use Rattle.tx_world.specs.Pending.{IsAt, IsDueAt, IsDueIn, name_of};
-ghost use Rattle.tx_world.specs.Stepping.{Does, DoesKth, needs_log, reply_in};
+ghost use Rattle.tx_world.specs.Stepping.{DoesKth, needs_log, reply_in};
 
 use super::TxWorld;
 use crate::pending::{At, PendingStep, act_at, core_at, deliveries_at, replies_at};
@@ -52,20 +50,6 @@ impl TxWorld {
             At::Step(s) => Some(s),
             At::Beyond(_) => None,
         }
-    }
-
-    /// Does the coordinator's act, which is pending.
-    fn coordinate<D: Disk>(&mut self, log: &mut Log<D>) -> Result<bool, WorldError>
-        requires fits { IsTrue D.honest → IsTrue log.old.is_up → Fits self.old (open_records log.old.slots) }
-        ensures always { IsOk result → result ≡ Ok true }
-        ensures done { IsOk result → (a : LogAnswer) × (may_coordinate (core self.old.world) a ≡ true) × Does D.faults (Coordinates a) self.old log.old self.new log.new }
-        ensures kept { IsTrue D.honest → KeepsLog D.image self.old log.old self.new log.new }
-        ensures life { log.new.life ≡ log.old.life }
-        ensures grows { D.faults log.old.disk ≤ D.faults log.new.disk }
-        ensures memory { OnErr result ((self.new ≡ self.old) × (log.new ≡ log.old)) }
-    {
-        let _ = &self.calls;
-        Ok(true)
     }
 
     /// How many steps are pending.
@@ -116,7 +100,7 @@ impl TxWorld {
         match self.at(k) {
             Some(PendingStep::Reply(e, _, r)) => self.reply(log, e, r),
             Some(PendingStep::Act) => self.act(log),
-            Some(PendingStep::Coordinate) => self.coordinate(log),
+            Some(PendingStep::Coordinate) => self.act_at_log(log),
             Some(PendingStep::Deliver(c, Dir::Up)) => self.deliver_up(log, c),
             Some(PendingStep::Deliver(c, Dir::Down)) => self.deliver_down(log, c),
             None => Ok(false),

@@ -11,7 +11,7 @@ pub unreachable-requires : goal.unreachable-requires
 unreachable-requires c =
     let i = c.self.inside in
     let w : World = record { calls = past_of i.calls.items; past = i.history.past } in
-    let kept = c.self.invariant in
+    let kept = c.self.invariant.kept in
     let few = subst (λ (x : TxState). length (pending x.world) ≤ 118) c.self.view_is (pending_few i.transaction w i.half i.core kept c.is_few.ensures.rows c.is_few.ensures.branches c.is_few.ensures.ends) in
     let more = within (pending c.args.self.now.world) 118 _ c.in-Step.ensures.at in
     omega (arith, few, more)

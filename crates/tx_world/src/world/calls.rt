@@ -1,0 +1,148 @@
+//! The calls that a world is given.
+ghost use Rattle.std.specs.Prelude.{◌≡◌, ◌&&◌, not, IfOk, OnOk, OnErr, IsTrue, true, false};
+ghost use Rattle.dtx_model.specs.Answers.{await_answer};
+ghost use Rattle.dtx_model.specs.Facts.{has_facts};
+ghost use Rattle.dtx_model.specs.World.{answer_at};
+ghost use Rattle.dtx_model.specs.Steps.{Calls};
+ghost use Rattle.dtx_model.specs.Caused.{MayAnswer};
+ghost use Rattle.coordinator_log.specs.Slots.{open_records};
+ghost use Rattle.local_half.specs.Half.{is_its_own};
+ghost use Rattle.tx_world.specs.State.{is_linking, may_enter};
+ghost use Rattle.tx_world.specs.AtLog.{Fits};
+ghost use Rattle.tx_world.specs.Stepping.{Does};
+
+use super::TxWorld;
+use crate::names::{is_entered, is_made};
+use crate::refusal::WorldError;
+use crate::writing::{live, write_near};
+use coordinator_log::Log;
+use dtx_model::EnteredCall;
+use dtx_values::{ActorNo, Answer, Call, Entry, Outcome};
+use local_half::LocalHalf;
+use outside::Disk;
+
+/// Whether neither holds.
+fn is_neither(a: bool, b: bool) -> bool
+    ensures { result ≡ (not a && not b) }
+{
+    !a && !b
+}
+
+/// The answer of an await, once the transaction is begun.
+fn await_answer(told: Option<Outcome>) -> Answer
+    ensures { result ≡ await_answer told }
+{
+    match told {
+        Some(o) => Answer::OutcomeIs(o),
+        None => Answer::StillOpen,
+    }
+}
+
+impl TxWorld {
+    /// Whether the call of this line may be entered: no call of the line was, and none that makes the same enlistment or the same clone.
+    pub fn may_enter(&self, line: u32, c: &Call) -> bool
+        ensures { result ≡ may_enter self.now.world line c.now }
+    {
+        is_neither(is_entered(&self.calls, line), is_made(&self.calls, c))
+    }
+
+    /// Enters a call, for which so many steps were done right before where it is a `do`; and where it is an `await`, the client was told or nothing is pending. It writes the
+    /// entry of the call and its facts.
+    ///
+    /// # Errors
+    ///
+    /// [`WorldError::Memory`] where memory ran out, and then nothing was done.
+    pub fn enter<D: Disk>(
+        &mut self,
+        log: &Log<D>,
+        actor: ActorNo,
+        line: u32,
+        c: &Call,
+        done: u16,
+    ) -> Result<Answer, WorldError>
+        requires enters { may_enter self.old.world line c.now ≡ true }
+        requires answers { MayAnswer self.old.transaction.value self.old.world c.now done }
+        requires fits { IsTrue D.honest → IsTrue log.now.is_up → Fits self.old (open_records log.now.slots) }
+        ensures answer { IfOk result (λ a. a ≡ answer_at self.old.transaction.value self.old.world c.now done) }
+        ensures done { OnOk result (Does D.faults (Calls line actor c.now done) self.old log.now self.new log.now) }
+        ensures ours { (self.new.ours ≡ self.old.ours) × (self.new.unsure ≡ self.old.unsure) }
+        ensures memory { OnErr result (self.new ≡ self.old) }
+    {
+        if LocalHalf::is_its_own(c) {
+            return self.enter_own(log, actor, line, c, done);
+        }
+        match *c {
+            Call::Await(_) => {
+                let answer = self.half.if_begun(await_answer(self.half.told_client()));
+                self.enter_alone(log, actor, line, c, done, answer)
+            }
+            Call::Do(_, _, _) => {
+                let answer = self.half.if_begun(Answer::Did(done));
+                self.enter_alone(log, actor, line, c, done, answer)
+            }
+            _ => self.enter_linked(log, actor, line, c, done),
+        }
+    }
+
+    /// Enters a loss, or a call of a manager.
+    fn enter_linked<D: Disk>(&mut self, log: &Log<D>, actor: ActorNo, line: u32, c: &Call, done: u16) -> Result<Answer, WorldError>
+        requires enters { may_enter self.old.world line c.now ≡ true }
+        requires answers { MayAnswer self.old.transaction.value self.old.world c.now done }
+        requires kind { is_linking c.now ≡ true }
+        ensures answer { IfOk result (λ a. a ≡ answer_at self.old.transaction.value self.old.world c.now done) }
+        ensures done { OnOk result (Does D.faults (Calls line actor c.now done) self.old log.now self.new log.now) }
+        ensures ours { (self.new.ours ≡ self.old.ours) × (self.new.unsure ≡ self.old.unsure) }
+        ensures memory { OnErr result (self.new ≡ self.old) }
+    {
+        let _ = &self.calls;
+        Ok(Answer::Fine)
+    }
+
+    /// Enters a call that writes its entry alone, with this answer.
+    fn enter_alone<D: Disk>(&mut self, log: &Log<D>, actor: ActorNo, line: u32, c: &Call, done: u16, answer: Answer) -> Result<Answer, WorldError>
+        requires enters { may_enter self.old.world line c.now ≡ true }
+        requires answers { MayAnswer self.old.transaction.value self.old.world c.now done }
+        requires answer { answer ≡ answer_at self.old.transaction.value self.old.world c.now done }
+        requires alone { has_facts answer ≡ false }
+        ensures answer { IfOk result (λ a. a ≡ answer) }
+        ensures done { OnOk result (Does D.faults (Calls line actor c.now done) self.old log.now self.new log.now) }
+        ensures ours { (self.new.ours ≡ self.old.ours) × (self.new.unsure ≡ self.old.unsure) }
+        ensures memory { OnErr result (self.new ≡ self.old) }
+    {
+        let _ = log.is_up();
+        self.calls.reserve(1)?;
+        self.history.reserve()?;
+        self.calls.push_reserved(EnteredCall {
+            line,
+            actor,
+            call: *c,
+        });
+        let block = [Entry::Called(line, actor, answer)];
+        self.history.write(&block, self.core.is_stopped());
+        Ok(answer)
+    }
+
+    /// Enters a call that the local side answers.
+    fn enter_own<D: Disk>(&mut self, log: &Log<D>, actor: ActorNo, line: u32, c: &Call, done: u16) -> Result<Answer, WorldError>
+        requires enters { may_enter self.old.world line c.now ≡ true }
+        requires answers { MayAnswer self.old.transaction.value self.old.world c.now done }
+        requires kind { is_its_own c.now ≡ true }
+        ensures answer { IfOk result (λ a. a ≡ answer_at self.old.transaction.value self.old.world c.now done) }
+        ensures done { OnOk result (Does D.faults (Calls line actor c.now done) self.old log.now self.new log.now) }
+        ensures ours { (self.new.ours ≡ self.old.ours) × (self.new.unsure ≡ self.old.unsure) }
+        ensures memory { OnErr result (self.new ≡ self.old) }
+    {
+        self.calls.reserve(1)?;
+        self.history.reserve()?;
+        self.out.clear();
+        let answer = self.half.call(actor, line, c, &mut self.out);
+        self.calls.push_reserved(EnteredCall {
+            line,
+            actor,
+            call: *c,
+        });
+        let begins = write_near(&mut self.history, &mut self.core, self.out.entries(), log);
+        live(&mut self.at_log, begins, log.life());
+        Ok(answer)
+    }
+}
