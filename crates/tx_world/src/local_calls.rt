@@ -21,7 +21,13 @@ fn await_answer(half: &LocalHalf) -> Answer
 }
 
 /// Answers a `gone` of an enlistment with no open connection: writes its entry, and loses the enlistment where that is ok.
-fn answer_gone(half: &mut LocalHalf, actor: ActorNo, line: u32, e: EnlNo, out: &mut Outbox) -> Answer
+fn answer_gone(
+    half: &mut LocalHalf,
+    actor: ActorNo,
+    line: u32,
+    e: EnlNo,
+    out: &mut Outbox,
+) -> Answer
     requires { IsRoom 41 20 out.old }
     ensures answer { result ≡ half_answer half.old.transaction.value half.old.half (Gone e) 0 }
     ensures state { half.new ≡ after (entered (Calls line actor (Gone e) 0) []) half.old (local_call half.old.transaction.value half.old.half line actor (Gone e) 0) }
@@ -36,7 +42,14 @@ fn answer_gone(half: &mut LocalHalf, actor: ActorNo, line: u32, e: EnlNo, out: &
 }
 
 /// Answers a call, for which so many steps were done: writes its entry, and then its facts.
-pub(crate) fn answer_call(half: &mut LocalHalf, actor: ActorNo, line: u32, c: &Call, done: u16, out: &mut Outbox) -> Answer
+pub(crate) fn answer_call(
+    half: &mut LocalHalf,
+    actor: ActorNo,
+    line: u32,
+    c: &Call,
+    done: u16,
+    out: &mut Outbox,
+) -> Answer
     requires near { is_local c.now ≡ true }
     requires new { is_free half.old.half line c.now ≡ true }
     requires room { IsRoom 41 20 out.old }

@@ -85,7 +85,14 @@ impl TxWorld {
     }
 
     /// Enters a loss, or a call of a manager.
-    fn enter_linked<D: Disk>(&mut self, log: &Log<D>, actor: ActorNo, line: u32, c: &Call, done: u16) -> Result<Answer, WorldError>
+    fn enter_linked<D: Disk>(
+        &mut self,
+        log: &Log<D>,
+        actor: ActorNo,
+        line: u32,
+        c: &Call,
+        done: u16,
+    ) -> Result<Answer, WorldError>
         requires enters { may_enter self.old.world line c.now ≡ true }
         requires answers { MayAnswer self.old.transaction.value self.old.world c.now done }
         requires kind { is_linking c.now ≡ true }
@@ -99,7 +106,15 @@ impl TxWorld {
     }
 
     /// Enters a call that writes its entry alone, with this answer.
-    fn enter_alone<D: Disk>(&mut self, log: &Log<D>, actor: ActorNo, line: u32, c: &Call, done: u16, answer: Answer) -> Result<Answer, WorldError>
+    fn enter_alone<D: Disk>(
+        &mut self,
+        log: &Log<D>,
+        actor: ActorNo,
+        line: u32,
+        c: &Call,
+        done: u16,
+        answer: Answer,
+    ) -> Result<Answer, WorldError>
         requires enters { may_enter self.old.world line c.now ≡ true }
         requires answers { MayAnswer self.old.transaction.value self.old.world c.now done }
         requires answer { answer ≡ answer_at self.old.transaction.value self.old.world c.now done }
@@ -123,7 +138,14 @@ impl TxWorld {
     }
 
     /// Enters a call that the local side answers.
-    fn enter_own<D: Disk>(&mut self, log: &Log<D>, actor: ActorNo, line: u32, c: &Call, done: u16) -> Result<Answer, WorldError>
+    fn enter_own<D: Disk>(
+        &mut self,
+        log: &Log<D>,
+        actor: ActorNo,
+        line: u32,
+        c: &Call,
+        done: u16,
+    ) -> Result<Answer, WorldError>
         requires enters { may_enter self.old.world line c.now ≡ true }
         requires answers { MayAnswer self.old.transaction.value self.old.world c.now done }
         requires kind { is_its_own c.now ≡ true }

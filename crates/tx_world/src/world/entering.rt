@@ -20,7 +20,14 @@ use outside::Disk;
 
 impl TxWorld {
     /// Enters a call that the local side answers alone.
-    pub(super) fn enter_local<D: Disk>(&mut self, log: &Log<D>, actor: ActorNo, line: u32, c: &Call, done: u16) -> Result<Answer, WorldError>
+    pub(super) fn enter_local<D: Disk>(
+        &mut self,
+        log: &Log<D>,
+        actor: ActorNo,
+        line: u32,
+        c: &Call,
+        done: u16,
+    ) -> Result<Answer, WorldError>
         requires near { is_local c.now ≡ true }
         requires unlinked { is_unlinked self.old.world c.now ≡ true }
         requires enters { may_enter self.old.world line c.now ≡ true }
@@ -45,7 +52,16 @@ impl TxWorld {
     }
 
     /// Enters the loss of an open connection.
-    pub(super) fn enter_lost<D: Disk>(&mut self, log: &Log<D>, actor: ActorNo, line: u32, u: TxNo, c: Conn, up: u16, down: u16) -> Result<(), WorldError>
+    pub(super) fn enter_lost<D: Disk>(
+        &mut self,
+        log: &Log<D>,
+        actor: ActorNo,
+        line: u32,
+        u: TxNo,
+        c: Conn,
+        up: u16,
+        down: u16,
+    ) -> Result<(), WorldError>
         requires enters { may_enter self.old.world line (Lose u c up down) ≡ true }
         requires fine { answer_at self.old.transaction.value self.old.world (Lose u c up down) 0 ≡ Fine }
         ensures done { (m : ℕ) → OnOk result (Does D.faults (Calls line actor (Lose u c up down) m) self.old log.now self.new log.now) }
@@ -65,7 +81,14 @@ impl TxWorld {
     }
 
     /// Enters that a manager has recovered.
-    pub(super) fn enter_recovered<D: Disk>(&mut self, log: &Log<D>, actor: ActorNo, line: u32, u: TxNo, r: RmNo) -> Result<(), WorldError>
+    pub(super) fn enter_recovered<D: Disk>(
+        &mut self,
+        log: &Log<D>,
+        actor: ActorNo,
+        line: u32,
+        u: TxNo,
+        r: RmNo,
+    ) -> Result<(), WorldError>
         requires enters { may_enter self.old.world line (Recovered u r) ≡ true }
         requires fine { answer_at self.old.transaction.value self.old.world (Recovered u r) 0 ≡ Fine }
         ensures done { (m : ℕ) → OnOk result (Does D.faults (Calls line actor (Recovered u r) m) self.old log.now self.new log.now) }

@@ -35,12 +35,12 @@ returns-clause-answer c =
     let h = c.args.half.now in
     let t = h.transaction.value in
     elim c.match-c.branch [
-      in-Do w ↦ w.answer-is ∙ w.if_begun-answer.ensures ∙ do_answer t h.half c.args.c.now w.in-Do.field-0 w.in-Do.field-1 w.in-Do.field-2 c.args.done w.in-Do.is
-    | in-Await w ↦
-        w.answer-is
-        ∙ w.if_begun-answer-in-Await.ensures
-        ∙ ap (if_begun h.half.seen.limit) w.await_answer.ensures
-        ∙ await_answered t h.half c.args.c.now w.in-Await.field-0 c.args.done w.in-Await.is
+      | in-Do w ↦ w.answer-is ∙ w.if_begun-answer.ensures ∙ do_answer t h.half c.args.c.now w.in-Do.field-0 w.in-Do.field-1 w.in-Do.field-2 c.args.done w.in-Do.is
+      | in-Await w ↦
+          w.answer-is
+          ∙ w.if_begun-answer-in-Await.ensures
+          ∙ ap (if_begun h.half.seen.limit) w.await_answer.ensures
+          ∙ await_answered t h.half c.args.c.now w.in-Await.field-0 c.args.done w.in-Await.is
     ]
 
 pub returns-clause-state : goal.returns-clause-state
@@ -54,12 +54,12 @@ returns-clause-out c =
     let t = h.transaction.value in
     let none : is_told c.args.c.now ≡ true = elim c.match-c.branch [ in-Do w ↦ ap is_told w.in-Do.is | in-Await w ↦ ap is_told w.in-Await.is ] in
     let is : c.match-c.answer ≡ half_answer t h.half c.args.c.now c.args.done = elim c.match-c.branch [
-      in-Do w ↦ w.answer-is ∙ w.if_begun-answer.ensures ∙ do_answer t h.half c.args.c.now w.in-Do.field-0 w.in-Do.field-1 w.in-Do.field-2 c.args.done w.in-Do.is
-    | in-Await w ↦
-        w.answer-is
-        ∙ w.if_begun-answer-in-Await.ensures
-        ∙ ap (if_begun h.half.seen.limit) w.await_answer.ensures
-        ∙ await_answered t h.half c.args.c.now w.in-Await.field-0 c.args.done w.in-Await.is
+      | in-Do w ↦ w.answer-is ∙ w.if_begun-answer.ensures ∙ do_answer t h.half c.args.c.now w.in-Do.field-0 w.in-Do.field-1 w.in-Do.field-2 c.args.done w.in-Do.is
+      | in-Await w ↦
+          w.answer-is
+          ∙ w.if_begun-answer-in-Await.ensures
+          ∙ ap (if_begun h.half.seen.limit) w.await_answer.ensures
+          ∙ await_answered t h.half c.args.c.now w.in-Await.field-0 c.args.done w.in-Await.is
     ] in
     c.put.ensures
     ∙ unsent c.args.out.now (Called c.args.line c.args.actor c.match-c.answer ∷ []) refl

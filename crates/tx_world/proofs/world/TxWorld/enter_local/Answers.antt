@@ -126,4 +126,3 @@ returns-clause-done g c =
     let v : World = record { calls = past_of c.push_reserved.new.self.items; past = c.write_near-begins.new.history.past } in
     subst (λ (x : TxState). Does g.D.Disk.faults m x c.args.log.now (seen_as i.transaction v c.live.new.at_log) c.args.log.now) c.self.view_is
     (does_near g.D.Disk.faults m i.transaction w v i.at_log c.live.new.at_log c.args.log.now c.write_near-begins.result (has is_begin_sent xs) c.life.result same sends c.live.ensures e.begins c.life.ensures refl)
-

@@ -64,4 +64,3 @@ returns-clause-done g c m =
     let v : World = record { calls = past_of c.push_reserved.new.self.items; past = c.write.new.self.past } in
     subst (λ (x : TxState). Does g.D.Disk.faults (Calls c.args.line c.args.actor (Recovered c.args.u c.args.r) m) x c.args.log.now (seen_as t v i.at_log) c.args.log.now) c.self.view_is
     (does_step g.D.Disk.faults (Calls c.args.line c.args.actor (Recovered c.args.u c.args.r) m) t w v i.at_log.ours i.at_log.unsure i.at_log.life i.at_log.life c.args.log.now false same linked.silent refl refl)
-
