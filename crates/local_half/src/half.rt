@@ -31,8 +31,8 @@ use crate::waits::{self, wanted_by};
 use dependent_clones::Clones;
 use dtx_model::{Branch, Listener, Wanted};
 use dtx_values::{
-    Answer, Ask, CALLS, Call, Cause, Class, CloneKind, Conn, DURABLES, Dir, ENLISTMENTS, End, EnlNo,
-    Entry, Message, Outbox, Outcome, Party, RmNo, Row, TxNo, insert_in_order,
+    Answer, Ask, CALLS, Call, Cause, Class, CloneKind, Conn, DURABLES, Dir, ENLISTMENTS, End,
+    EnlNo, Entry, Message, Outbox, Outcome, Party, RmNo, Row, TxNo, insert_in_order,
 };
 use durable_enlist::owner_of;
 use enlist_table::EnlistTable;

@@ -204,6 +204,7 @@ acted_does faults t w h k j n x y o p from to acts did past lives =
         ≡ (if b && u then after t.value (after t.value w (Coordinates acts.answer)) Stops else after t.value w (Coordinates acts.answer))
     unturned true u e = absurd cc
     unturned false u e = refl
+
     unbegun : (b : Bool) → b ≡ false → x.life ≡ (if b then from.life else x.life)
     unbegun true e = absurd cc
     unbegun false e = refl
@@ -250,11 +251,11 @@ told t w h k i j found n x kept begun stopped same state past ours =
     let block : restarted k.state.stopped found ≡ restarted (core w).stopped found = ap (λ (s : Coordinated). restarted s.stopped found) (core_is t w h k kept) in
     let one : j.transaction ≡ k.transaction = same ∙ ap (λ (y : CoreKept). y.transaction) stopped ∙ told_transaction k (not k.state.stopped) in
     let went : j.state ≡ follow_all k.state (restarted (core w).stopped found)
-        = state ∙ ap (λ (y : CoreKept). follow y.state (Restarted found)) stopped ∙ told_state k found ∙ ap (follow_all k.state) block in
+    = state ∙ ap (λ (y : CoreKept). follow y.state (Restarted found)) stopped ∙ told_state k found ∙ ap (follow_all k.state) block in
     let world : record { calls = w.calls; past = n } ≡ after t.value w m = λ z. record { calls = w.calls; past = (past ∙ told_past w.past found k.state.stopped ∙ ap (onto w.past) block) z } in
     let after_it : Kept t (after t.value w m) h j
-        = step_kept t w m h h k j kept begun kept.once (ap (λ (g : Half). record { transaction = h.transaction; half = g }) (sym (unheard_told h.half (core w).stopped found)))
-            (λ z. record { transaction = one z; state = went z }) in
+    = step_kept t w m h h k j kept begun kept.once (ap (λ (g : Half). record { transaction = h.transaction; half = g }) (sym (unheard_told h.half (core w).stopped found)))
+    (λ z. record { transaction = one z; state = went z }) in
     let P : World → Type 0 = λ v. Kept t v h j in
     let Q : TxNo → Type 0 = λ u. IsOurs (identifier_of u.value) j.state x in
     (record { kept = subst P (sym world) after_it; ours = subst Q (sym same) ours }, world)

@@ -292,4 +292,3 @@ bare_gone h e = e_cons (LostEntry e) refl (bare_gone_decides (sees h (LostEntry 
 pub bare_reenlist : (t : ℕ) (b : Option Branch) → Each is_bare (reenlist_facts t b)
 bare_reenlist t (Some b) = e_cons (Reenlisted b.enlistment) refl (e_one (Sent (Again b.enlistment) Up (ReenlistReenlist (info t b.enlistment b.manager))) refl)
 bare_reenlist t None = e_none
-

@@ -39,3 +39,4 @@ pub mod FewRuns
 pub mod FewAnswers
 pub mod FewDesks
 pub mod FewKnown
+pub mod Settling

@@ -158,7 +158,11 @@ pub(crate) fn core_at(core: &Core, k: usize) -> At
     ensures at { IsAt (core_act core.now.state) k result }
     ensures only { (t : PendingStep) → result ≡ At.Step t → (t ≡ PendingStep.Coordinate) × ((may_log core.now.state || may_free core.now.state) ≡ true) }
 {
-    first_if(core.may_log() || core.may_free(), PendingStep::Coordinate, k)
+    first_if(
+        core.may_log() || core.may_free(),
+        PendingStep::Coordinate,
+        k,
+    )
 }
 
 /// What comes on a connection: upward first.
@@ -166,7 +170,11 @@ fn delivery_at(history: &History, c: Conn, k: usize) -> At
     ensures at { IsAt (delivery_if (has_left c Up history.now.past) c Up ++ delivery_if (has_left c Down history.now.past) c Down) k result }
     ensures only { (t : PendingStep) → result ≡ At.Step t → (e : Conn) × (d : Dir) × (t ≡ PendingStep.Deliver e d) × (has_left e d history.now.past ≡ true) }
 {
-    match first_if(history.has_left(c, Dir::Up), PendingStep::Deliver(c, Dir::Up), k) {
+    match first_if(
+        history.has_left(c, Dir::Up),
+        PendingStep::Deliver(c, Dir::Up),
+        k,
+    ) {
         At::Beyond(n) => first_if(
             history.has_left(c, Dir::Down),
             PendingStep::Deliver(c, Dir::Down),

@@ -11,7 +11,7 @@ ghost use Rattle.dtx_model.specs.Promotes.{identifier_of};
 ghost use Rattle.dtx_model.specs.Replies.{due_of};
 ghost use Rattle.dtx_model.specs.World.{answer_at, half, core};
 ghost use Rattle.dtx_model.specs.Steps.{Step, Calls, Replies, Stops, Restarts, after, pending};
-ghost use Rattle.dtx_model.specs.Caused.{HasDone, IsOwnRun, MayAnswer};
+ghost use Rattle.dtx_model.specs.Caused.{HasDone, IsOwnRun, MayAnswer, AreMadeOnce, IsIn};
 ghost use Rattle.coordinator_log.specs.Slots.{open_records};
 ghost use Rattle.local_half.specs.Half.{fits_due};
 ghost use Rattle.tx_world.specs.State.{TxState, is_hit_by, is_reached_by, may_enter};
@@ -34,6 +34,7 @@ mod at_the_log;
 mod calls;
 mod deliveries;
 mod entering;
+mod settling;
 mod steps;
 mod stops;
 mod turns;
@@ -97,9 +98,11 @@ impl TxWorld {
         })
     }
 
-    /// What holds of each world: its history is one that its own calls, and the steps after them, made. It does nothing when it runs; a caller's proof asks for it.
+    /// What holds of each world: its history is one that its own calls, and the steps after them, made, and no two of its calls make the same enlistment or the
+    /// same clone. It does nothing when it runs; a caller's proof asks for it.
     pub fn is_own_run(&self)
-        ensures { IsOwnRun self.now.transaction.value self.now.world }
+        ensures run { IsOwnRun self.now.transaction.value self.now.world }
+        ensures once { AreMadeOnce (IsIn self.now.world.calls) }
     {
         let _ = &self.calls;
     }
@@ -141,19 +144,5 @@ impl TxWorld {
         ensures { result ≡ self.now.life }
     {
         self.at_log.life()
-    }
-
-    /// Does the first pending step until none is left, and says how many it did.
-    ///
-    /// # Errors
-    ///
-    /// [`WorldError::Memory`] where memory ran out. The steps before it were done.
-    pub fn settle<D: Disk>(&mut self, log: &mut Log<D>) -> Result<u32, WorldError>
-        requires fits { IsTrue D.honest → IsTrue log.old.is_up → Fits self.old (open_records log.old.slots) }
-        ensures settled { IfOk result (λ n. Settles D.faults n self.old log.old self.new log.new) }
-        ensures fits { IsTrue D.honest → IsTrue log.new.is_up → Fits self.new (open_records log.new.slots) }
-    {
-        let _ = &self.calls;
-        Ok(0)
     }
 }

@@ -1,4 +1,4 @@
-use Rattle.std.proofs.Common.{◌≡◌, sym, subst, true, false, Bool}
+use Rattle.std.proofs.Common.{sym, subst, Bool}
 use Rattle.oletx_session.specs.Traffic.{wire_of}
 use Rattle.tx_world.specs.Course.{IsOpened}
 use Rattle.tx_world.proofs.Carrying.{starts}

@@ -1,4 +1,4 @@
-use Rattle.std.proofs.Common.{◌≡◌, ◌≤◌, ◌<◌, ◌+◌, ◌-◌, ◌∷◌, ℕ, List, length, ap, sym, ◌∙◌, subst, drop, arith}
+use Rattle.std.proofs.Common.{◌≡◌, ◌≤◌, ◌<◌, ◌+◌, ◌-◌, ◌∷◌, List, length, ap, sym, ◌∙◌, subst, drop, arith}
 use Rattle.std.proofs.lemmas.List.{drop_more}
 use Rattle.dtx_values.specs.declared.number.EnlNo.{EnlNo}
 use Rattle.dtx_model.specs.declared.branch.Branch.{Branch}

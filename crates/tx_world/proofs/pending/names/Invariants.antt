@@ -1,4 +1,4 @@
-use Rattle.std.proofs.Common.{◌≡◌, ◌≤◌, ◌+◌, ℕ, length, map, take, drop}
+use Rattle.std.proofs.Common.{◌≡◌, ◌≤◌, ◌+◌, length, map, take, drop}
 use Rattle.arrayvec.specs.ArrayVec.{array_vec_len}
 use Rattle.dtx_values.specs.declared.row.Row.{Row}
 use Rattle.dtx_model.specs.Replies.{with_names}

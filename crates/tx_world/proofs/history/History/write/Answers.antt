@@ -1,7 +1,6 @@
-use Rattle.std.proofs.Common.{◌≡◌, ◌+◌, List, ◌∷◌, ap, sym, ◌∙◌, subst, take, drop, true}
+use Rattle.std.proofs.Common.{◌≡◌, ◌+◌, List, ◌∷◌, ap, sym, ◌∙◌, subst, drop, true}
 use Rattle.std.proofs.lemmas.List.{drop_more}
 use Rattle.dtx_values.specs.declared.entry.Entry.{Entry}
-use Rattle.dtx_model.specs.Words.{onto}
 use Rattle.tx_world.specs.Carried.{is_sendable}
 use Rattle.tx_world.proofs.Carrying.{next_sendable}
 use Rattle.tx_world.proofs.history.History.write.Goals as goal

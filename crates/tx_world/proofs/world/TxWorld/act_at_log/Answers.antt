@@ -1,7 +1,6 @@
-use Rattle.std.proofs.Common.{◌≡◌, ◌∷◌, ◌∙◌, List, [], true, false, ap, sym, subst}
+use Rattle.std.proofs.Common.{◌≡◌, ◌∷◌, ◌∙◌, List, true, ap, sym, subst}
 use Rattle.dtx_values.specs.declared.entry.Entry.{Entry}
 use Rattle.dtx_values.specs.declared.entry.Entry.TheVariants.{Stopped}
-use Rattle.dtx_values.specs.Outgoing.{Outgoing}
 use Rattle.dtx_model.specs.Coordinated.{Coordinated}
 use Rattle.dtx_model.specs.Words.{each, onto, past_of}
 use Rattle.dtx_model.specs.World.{World}
@@ -76,7 +75,7 @@ returns-then-is_stopped-clause-done g c = λ ok.
     let past : c.stop.new.self.past ≡ onto w.past (coordinates i.core.state a) = c.stop.ensures.past ∙ ap (λ (h : List Entry). Stopped ∷ h) c.in_ok-reserve.ensures.same ∙ ap (onto w.past) (sym only) in
     let v : World = record { calls = past_of i.calls.items; past = c.stop.new.self.past } in
     let did_so : (x : LogAnswer) × (may_coordinate (core w) x ≡ true) × Does g.D.Disk.faults (Coordinates x) (seen_as i.transaction w i.at_log) c.args.log.now (seen_as i.transaction v c.act.new.self) c.act.new.log
-        = (a, did.may, acted_does g.D.Disk.faults i.transaction w i.half i.core c.act.new.core c.stop.new.self.past i.at_log c.act.new.self c.clear.new.self c.act.new.out c.args.log.now c.act.new.log acts did past c.act.ensures.life.0) in
+    = (a, did.may, acted_does g.D.Disk.faults i.transaction w i.half i.core c.act.new.core c.stop.new.self.past i.at_log c.act.new.self c.clear.new.self c.act.new.out c.args.log.now c.act.new.log acts did past c.act.ensures.life.0) in
     subst (λ (y : TxState). (x : LogAnswer) × (may_coordinate (core y.world) x ≡ true) × Does g.D.Disk.faults (Coordinates x) y c.args.log.now (seen_as i.transaction v c.act.new.self) c.act.new.log) c.self.view_is did_so
 
 pub returns-else-is_stopped-clause-done : goal.returns-else-is_stopped-clause-done
@@ -90,5 +89,5 @@ returns-else-is_stopped-clause-done g c = λ ok.
     let past : c.write.new.self.past ≡ onto w.past (coordinates i.core.state a) = c.write.ensures.past ∙ ap (λ (h : List Entry). onto h c.entries.result.now) c.in_ok-reserve.ensures.same ∙ ap (onto w.past) block in
     let v : World = record { calls = past_of i.calls.items; past = c.write.new.self.past } in
     let did_so : (x : LogAnswer) × (may_coordinate (core w) x ≡ true) × Does g.D.Disk.faults (Coordinates x) (seen_as i.transaction w i.at_log) c.args.log.now (seen_as i.transaction v c.act.new.self) c.act.new.log
-        = (a, did.may, acted_does g.D.Disk.faults i.transaction w i.half i.core c.act.new.core c.write.new.self.past i.at_log c.act.new.self c.clear.new.self c.act.new.out c.args.log.now c.act.new.log acts did past c.act.ensures.life.0) in
+    = (a, did.may, acted_does g.D.Disk.faults i.transaction w i.half i.core c.act.new.core c.write.new.self.past i.at_log c.act.new.self c.clear.new.self c.act.new.out c.args.log.now c.act.new.log acts did past c.act.ensures.life.0) in
     subst (λ (y : TxState). (x : LogAnswer) × (may_coordinate (core y.world) x ≡ true) × Does g.D.Disk.faults (Coordinates x) y c.args.log.now (seen_as i.transaction v c.act.new.self) c.act.new.log) c.self.view_is did_so

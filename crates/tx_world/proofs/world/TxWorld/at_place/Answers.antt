@@ -1,13 +1,12 @@
-use Rattle.std.proofs.Common.{◌≡◌, List, ap, refl, subst}
+use Rattle.std.proofs.Common.{List, refl, subst}
 use Rattle.std.specs.List.{flat_map}
 use Rattle.dtx_values.specs.declared.end.End.{End}
 use Rattle.dtx_model.specs.declared.waiting.EnteredCall.{EnteredCall}
 use Rattle.dtx_model.specs.Words.{past_of}
 use Rattle.dtx_model.specs.Plans.{plan_of}
 use Rattle.dtx_model.specs.World.{World}
-use Rattle.dtx_model.specs.Steps.{StepName, deliveries_on, pending, replies_due}
+use Rattle.dtx_model.specs.Steps.{deliveries_on, pending, replies_due}
 use Rattle.tx_world.specs.State.{TxState}
-use Rattle.tx_world.specs.declared.pending.At.{At}
 use Rattle.tx_world.specs.declared.pending.At.TheVariants.{Step as StepHere, Beyond}
 use Rattle.tx_world.specs.Pending.{IsAt, IsDueAt, IsDueIn, IsPlannedAt}
 use Rattle.tx_world.proofs.Listing.{act_due, at_act, at_core, at_delivery, at_reply, core_due, delivery_due, reply_due}

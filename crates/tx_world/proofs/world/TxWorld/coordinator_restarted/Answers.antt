@@ -1,7 +1,6 @@
-use Rattle.std.proofs.Common.{◌≡◌, ◌&&◌, ◌∷◌, ◌∙◌, ℕ, Bool, List, Option, true, false, not, nat_le, ap, sym, subst, is_some}
+use Rattle.std.proofs.Common.{◌≡◌, ◌∷◌, ◌∙◌, List, Option, true, false, not, nat_le, ap, sym, subst, is_some}
 use Rattle.dtx_values.specs.declared.entry.Entry.{Entry}
 use Rattle.dtx_values.specs.declared.entry.Entry.TheVariants.{Restarted}
-use Rattle.dtx_model.specs.Coordinated.{Coordinated, follow}
 use Rattle.dtx_model.specs.Log.{CommitRecord, first_of}
 use Rattle.dtx_model.specs.Promotes.{identifier_of}
 use Rattle.dtx_model.specs.Words.{has, past_of}
@@ -14,7 +13,6 @@ use Rattle.tx_world.specs.AtLog.{Kept as LogKept, id_of}
 use Rattle.tx_world.specs.Kept.{Whole, stop_if, stopped_if}
 use Rattle.tx_world.specs.State.{TxState, is_reached_by}
 use Rattle.tx_world.proofs.AtTheLog.{told, told_stopped}
-use Rattle.tx_world.proofs.Living.{seen_as}
 use Rattle.tx_world.proofs.world.TxWorld.coordinator_restarted.Goals as goal
 
 pub restarted-requires-clause-stopped : goal.restarted-requires-clause-stopped
@@ -34,12 +32,12 @@ invariant_of-self-2 g c =
     let stopped : c.stop_if.new.core ≡ stopped_if (not i.core.state.stopped) i.core = c.stop_if.ensures.core ∙ ap (λ b. stopped_if (not b) i.core) c.is_stopped-runs.ensures in
     let here : c.has_record.result ≡ found = c.has_record.ensures ∙ ap (λ (x : LogKept). is_some x.ours) kept in
     let past : c.restart.new.self.past ≡ Restarted found ∷ stop_if (not i.core.state.stopped) w.past
-        = c.restart.ensures.past ∙ ap (λ b. Restarted b ∷ c.stop_if.new.history.past) here ∙ ap (λ (h : List Entry). Restarted found ∷ h) (c.stop_if.ensures.past
-            ∙ ap (λ b. stop_if (not b) c.reserve.new.self.past) c.is_stopped-runs.ensures ∙ ap (stop_if (not i.core.state.stopped)) c.in_ok-reserve.ensures.same) in
+    = c.restart.ensures.past ∙ ap (λ b. Restarted b ∷ c.stop_if.new.history.past) here ∙ ap (λ (h : List Entry). Restarted found ∷ h) (c.stop_if.ensures.past
+    ∙ ap (λ b. stop_if (not b) c.reserve.new.self.past) c.is_stopped-runs.ensures ∙ ap (stop_if (not i.core.state.stopped)) c.in_ok-reserve.ensures.same) in
     let v : World = record { calls = past_of i.calls.items; past = c.restart.new.self.past } in
     let all : Whole i.transaction v i.half c.restarted.new.core c.restarted.new.self × (v ≡ after i.transaction.value w (Restarts found))
-        = told i.transaction w i.half i.core c.stop_if.new.core c.restarted.new.core found c.restart.new.self.past c.restarted.new.self c.self.invariant.kept begun stopped
-            c.restarted.ensures.transaction c.restarted.ensures.state past c.restarted.ensures.ours in
+    = told i.transaction w i.half i.core c.stop_if.new.core c.restarted.new.core found c.restart.new.self.past c.restarted.new.self c.self.invariant.kept begun stopped
+    c.restarted.ensures.transaction c.restarted.ensures.state past c.restarted.ensures.ours in
     all.0
 
 pub returns-clause-reached : goal.returns-clause-reached
@@ -54,14 +52,18 @@ returns-clause-reached g c = λ reached.
     let stopped : c.stop_if.new.core ≡ stopped_if (not i.core.state.stopped) i.core = c.stop_if.ensures.core ∙ ap (λ b. stopped_if (not b) i.core) c.is_stopped-runs.ensures in
     let here : c.has_record.result ≡ found = c.has_record.ensures ∙ ap (λ (x : LogKept). is_some x.ours) kept in
     let past : c.restart.new.self.past ≡ Restarted found ∷ stop_if (not i.core.state.stopped) w.past
-        = c.restart.ensures.past ∙ ap (λ b. Restarted b ∷ c.stop_if.new.history.past) here ∙ ap (λ (h : List Entry). Restarted found ∷ h) (c.stop_if.ensures.past
-            ∙ ap (λ b. stop_if (not b) c.reserve.new.self.past) c.is_stopped-runs.ensures ∙ ap (stop_if (not i.core.state.stopped)) c.in_ok-reserve.ensures.same) in
+    = c.restart.ensures.past ∙ ap (λ b. Restarted b ∷ c.stop_if.new.history.past) here ∙ ap (λ (h : List Entry). Restarted found ∷ h) (c.stop_if.ensures.past
+    ∙ ap (λ b. stop_if (not b) c.reserve.new.self.past) c.is_stopped-runs.ensures ∙ ap (stop_if (not i.core.state.stopped)) c.in_ok-reserve.ensures.same) in
     let v : World = record { calls = past_of i.calls.items; past = c.restart.new.self.past } in
     let all : Whole i.transaction v i.half c.restarted.new.core c.restarted.new.self × (v ≡ after i.transaction.value w (Restarts found))
-        = told i.transaction w i.half i.core c.stop_if.new.core c.restarted.new.core found c.restart.new.self.past c.restarted.new.self c.self.invariant.kept begun stopped
-            c.restarted.ensures.transaction c.restarted.ensures.state past c.restarted.ensures.ours in
+    = told i.transaction w i.half i.core c.stop_if.new.core c.restarted.new.core found c.restart.new.self.past c.restarted.new.self c.self.invariant.kept begun stopped
+    c.restarted.ensures.transaction c.restarted.ensures.state past c.restarted.ensures.ours in
     let P : TxState → Type 0 = λ y. (v ≡ after y.transaction.value y.world (Restarts (is_some (first_of (id_of y) rs)))) × (c.restarted.new.self.ours ≡ first_of (id_of y) rs)
-        × (c.restarted.new.self.unsure ≡ false) × (c.restarted.new.self.life ≡ c.args.log.now.life) in
+    × (c.restarted.new.self.unsure ≡ false) × (c.restarted.new.self.life ≡ c.args.log.now.life) in
     let mine : first_of c.identifier.result rs ≡ first_of (identifier_of i.transaction.value) rs = ap (λ n. first_of n rs) c.identifier.ensures in
-    subst P c.self.view_is (all.1 ∙ ap (λ (o : Option CommitRecord). after i.transaction.value w (Restarts (is_some o))) mine, ap (λ (x : LogKept). x.ours) kept ∙ mine,
-        ap (λ (x : LogKept). x.unsure) kept, ap (λ (x : LogKept). x.life) kept)
+    subst P c.self.view_is (
+      all.1 ∙ ap (λ (o : Option CommitRecord). after i.transaction.value w (Restarts (is_some o))) mine,
+      ap (λ (x : LogKept). x.ours) kept ∙ mine,
+      ap (λ (x : LogKept). x.unsure) kept,
+      ap (λ (x : LogKept). x.life) kept,
+    )

@@ -1,4 +1,4 @@
-use Rattle.std.proofs.Common.{◌≡◌, ◌∷◌, ◌∙◌, ap, sym, true, nat_le, refl, cond, List}
+use Rattle.std.proofs.Common.{◌∷◌, ◌∙◌, ap, sym, nat_le, refl, List}
 use Rattle.std.proofs.lemmas.Bool.{cond-true}
 use Rattle.dtx_values.specs.declared.entry.Entry.{Entry}
 use Rattle.dtx_values.specs.declared.entry.Entry.TheVariants.{Stopped}

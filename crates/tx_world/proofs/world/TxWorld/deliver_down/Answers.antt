@@ -1,10 +1,8 @@
-use Rattle.std.proofs.Common.{◌≡◌, not, ◌&&◌, List, Option, Some, None, ◌↔◌, Bool, true, false, refl, ap, sym, ◌∙◌, subst, if◌then◌else◌}
-use Rattle.std.specs.Option.{option_map}
+use Rattle.std.proofs.Common.{◌≡◌, not, ◌&&◌, List, Some, None, ◌↔◌, false, refl, subst}
 use Rattle.dtx_values.specs.declared.entry.Entry.{Entry}
 use Rattle.dtx_values.specs.declared.entry.Entry.TheVariants.{Got}
-use Rattle.dtx_values.specs.declared.message.Dir.TheVariants.{Up, Down}
+use Rattle.dtx_values.specs.declared.message.Dir.TheVariants.{Down}
 use Rattle.dtx_model.specs.Words.{has, onto, past_of}
-use Rattle.dtx_model.specs.Log.{record_of}
 use Rattle.dtx_model.specs.Wires.{MayCross}
 use Rattle.dtx_model.specs.World.{World, has_left}
 use Rattle.dtx_model.specs.Steps.{Delivers}
@@ -12,7 +10,6 @@ use Rattle.dtx_model.specs.Caused.{is_begin_sent}
 use Rattle.tx_world.specs.State.{TxState}
 use Rattle.tx_world.specs.Stepping.{Does}
 use Rattle.tx_world.specs.Course.{Came}
-use Rattle.tx_world.specs.Kept.{stopped_if}
 use Rattle.tx_world.proofs.Delivering.{ReadyDown, down_ready, lined, some_left}
 use Rattle.tx_world.proofs.Living.{does_near, seen_as, whole_near}
 use Rattle.tx_world.proofs.Written.{world_written, written_kept}

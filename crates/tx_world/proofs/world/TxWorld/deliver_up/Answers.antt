@@ -1,21 +1,17 @@
-use Rattle.std.proofs.Common.{◌≡◌, ◌++◌, List, Option, Some, None, ◌↔◌, Bool, true, false, refl, ap, sym, ◌∙◌, subst, if◌then◌else◌}
-use Rattle.std.specs.Option.{option_map}
+use Rattle.std.proofs.Common.{◌≡◌, ◌++◌, List, Some, None, ◌↔◌, false, refl, sym, ◌∙◌, subst}
 use Rattle.dtx_values.specs.declared.entry.Entry.{Entry}
 use Rattle.dtx_values.specs.declared.entry.Entry.TheVariants.{Got}
-use Rattle.dtx_values.specs.declared.message.Dir.TheVariants.{Up, Down}
-use Rattle.dtx_model.specs.Words.{has, onto, past_of}
-use Rattle.dtx_model.specs.Log.{record_of}
+use Rattle.dtx_values.specs.declared.message.Dir.TheVariants.{Up}
+use Rattle.dtx_model.specs.Words.{onto, past_of}
 use Rattle.dtx_model.specs.Wires.{MayCross}
 use Rattle.dtx_model.specs.World.{World, has_left}
 use Rattle.dtx_model.specs.Steps.{Delivers}
-use Rattle.dtx_model.specs.Caused.{is_begin_sent}
 use Rattle.tx_world.specs.State.{TxState}
 use Rattle.tx_world.specs.Stepping.{Does}
 use Rattle.dtx_model.specs.Promotes.{identifier_of}
 use Rattle.tx_world.specs.Course.{Came, noted, rest_up}
-use Rattle.tx_world.specs.Kept.{stopped_if}
 use Rattle.tx_world.proofs.Delivering.{ReadyUp, came_few, lined, some_left, up_ready}
-use Rattle.tx_world.proofs.Living.{seen_as, up_elsewhere, whole_far}
+use Rattle.tx_world.proofs.Living.{up_elsewhere, whole_far}
 use Rattle.tx_world.proofs.Written.{does_step, world_written, written_kept}
 use Rattle.tx_world.proofs.world.TxWorld.deliver_up.Goals as goal
 

@@ -1,8 +1,8 @@
-use Rattle.std.proofs.Common.{◌≡◌, List, Option, Bool, true, false, refl, ap, sym, ◌∙◌, ◌∷◌, ◌++◌, [], subst}
+use Rattle.std.proofs.Common.{◌≡◌, List, true, false, refl, ap, sym, ◌∙◌, ◌∷◌, ◌++◌, [], subst}
 use Rattle.dtx_values.specs.declared.entry.Entry.{Entry}
 use Rattle.dtx_values.specs.declared.entry.Entry.TheVariants.{Called}
 use Rattle.dtx_model.specs.declared.waiting.EnteredCall.{EnteredCall}
-use Rattle.dtx_model.specs.Words.{has, onto, past_of}
+use Rattle.dtx_model.specs.Words.{onto, past_of}
 use Rattle.dtx_model.specs.Caused.{MayAnswer}
 use Rattle.dtx_model.specs.World.{World, answer_at}
 use Rattle.dtx_model.specs.Steps.{Calls}

@@ -1,11 +1,11 @@
-use Rattle.std.proofs.Common.{◌≡◌, ◌&&◌, List, Option, Bool, true, not, is_some, refl, ap, sym, ◌∙◌, ◌∷◌, ◌++◌, [], subst}
+use Rattle.std.proofs.Common.{◌≡◌, ◌&&◌, List, true, not, refl, ap, sym, ◌∙◌, ◌∷◌, ◌++◌, [], subst}
 use Rattle.dtx_values.specs.declared.entry.Entry.{Entry}
 use Rattle.dtx_model.specs.declared.waiting.EnteredCall.{EnteredCall}
 use Rattle.dtx_model.specs.Words.{has, onto, past_of}
 use Rattle.dtx_model.specs.Answers.{local_answer}
 use Rattle.dtx_model.specs.Caused.{MayAnswer, is_begin_sent}
 use Rattle.dtx_model.specs.Half.{Half}
-use Rattle.dtx_model.specs.World.{World, answer_at, half}
+use Rattle.dtx_model.specs.World.{World, answer_at}
 use Rattle.dtx_model.specs.Steps.{Calls}
 use Rattle.dtx_model.proofs.Histories.{past_of-snoc}
 use Rattle.local_half.specs.Half.{Known, is_free}

@@ -1,8 +1,8 @@
-use Rattle.std.proofs.Common.{◌≡◌, ◌∙◌, ap, sym, ◌&&◌, not, nat_le, Bool}
+use Rattle.std.proofs.Common.{◌∙◌, ap, ◌&&◌, not, nat_le}
 use Rattle.dtx_model.specs.Words.{has, past_of}
 use Rattle.dtx_model.specs.Caused.{is_begin_sent}
 use Rattle.dtx_model.specs.World.{World}
-use Rattle.tx_world.specs.State.{TxState, is_hit_by}
+use Rattle.tx_world.specs.State.{is_hit_by}
 use Rattle.tx_world.proofs.Stopping.{hit_is}
 use Rattle.tx_world.proofs.world.TxWorld.is_hit_by.Goals as goal
 

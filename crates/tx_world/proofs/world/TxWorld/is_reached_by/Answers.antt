@@ -1,5 +1,5 @@
-use Rattle.std.proofs.Common.{◌≡◌, ◌∙◌, ap, sym, ◌&&◌, not, nat_le}
-use Rattle.dtx_model.specs.Words.{has, past_of}
+use Rattle.std.proofs.Common.{◌∙◌, ap, sym, ◌&&◌, not, nat_le}
+use Rattle.dtx_model.specs.Words.{has}
 use Rattle.dtx_model.specs.Caused.{is_begin_sent}
 use Rattle.dtx_model.proofs.Reading.{has-past}
 use Rattle.tx_world.specs.State.{is_reached_by}

@@ -1,6 +1,6 @@
-use Rattle.std.proofs.Common.{◌≡◌, ◌==◌, ◌&&◌, not, List, ap, sym, ◌∙◌}
+use Rattle.std.proofs.Common.{◌==◌, ◌&&◌, not, ap, sym, ◌∙◌}
 use Rattle.dtx_model.specs.declared.waiting.EnteredCall.{EnteredCall}
-use Rattle.dtx_model.specs.Words.{has, past_of}
+use Rattle.dtx_model.specs.Words.{has}
 use Rattle.dtx_model.specs.Caused.{made_by}
 use Rattle.dtx_model.proofs.Reading.{has-past}
 use Rattle.tx_world.specs.State.{TxState, is_maker, may_enter}

@@ -1,5 +1,4 @@
-use Rattle.std.proofs.Common.{◌≡◌, ap, ◌∙◌}
-use Rattle.dtx_model.specs.declared.waiting.EnteredCall.{EnteredCall}
+use Rattle.std.proofs.Common.{ap}
 use Rattle.dtx_model.specs.Words.{past_of}
 use Rattle.tx_world.proofs.Living.{whole_new}
 use Rattle.tx_world.proofs.Onward.{new_kept}

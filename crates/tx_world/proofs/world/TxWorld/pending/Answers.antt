@@ -1,9 +1,8 @@
-use Rattle.std.proofs.Common.{◌≡◌, ◌≤◌, ◌<◌, length, subst, arith}
+use Rattle.std.proofs.Common.{◌≤◌, length, subst, arith}
 use Rattle.dtx_model.specs.Words.{past_of}
 use Rattle.dtx_model.specs.World.{World}
-use Rattle.dtx_model.specs.Steps.{StepName, pending}
+use Rattle.dtx_model.specs.Steps.{pending}
 use Rattle.tx_world.specs.State.{TxState}
-use Rattle.tx_world.specs.Pending.{name_of}
 use Rattle.tx_world.proofs.Listing.{pending_few, within}
 use Rattle.tx_world.proofs.world.TxWorld.pending.Goals as goal
 

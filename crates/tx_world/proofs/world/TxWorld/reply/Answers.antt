@@ -1,16 +1,12 @@
-use Rattle.std.proofs.Common.{◌≡◌, ◌&&◌, List, Option, Bool, true, not, is_some, refl, ap, sym, ◌∙◌, subst, if◌then◌else◌}
+use Rattle.std.proofs.Common.{◌&&◌, List, not, refl, ap, sym, ◌∙◌, subst}
 use Rattle.dtx_values.specs.declared.entry.Entry.{Entry}
-use Rattle.dtx_values.specs.declared.note.Note.{Note}
 use Rattle.dtx_model.specs.Words.{has, onto, past_of}
 use Rattle.dtx_model.specs.Caused.{is_begin_sent}
 use Rattle.dtx_model.specs.Half.{Half}
-use Rattle.dtx_model.specs.Log.{CommitRecord, record_of}
-use Rattle.std.specs.Option.{option_map}
 use Rattle.dtx_model.specs.Replies.{due_of}
 use Rattle.dtx_model.specs.World.{World, half}
-use Rattle.dtx_model.specs.Steps.{Step, Replies, Acts}
+use Rattle.dtx_model.specs.Steps.{Replies}
 use Rattle.local_half.specs.Half.{fits_due}
-use Rattle.coordinator_log.specs.State.{LogState}
 use Rattle.tx_world.specs.State.{TxState}
 use Rattle.tx_world.specs.Stepping.{Does}
 use Rattle.tx_world.proofs.Onward.{half_is}

@@ -1,0 +1,15 @@
+use Rattle.std.proofs.Common.{◌-◌, ◌≡◌, ◌≤◌, IsTrue}
+use Rattle.tx_world.specs.AtLog.{KeepsLog}
+use Rattle.tx_world.specs.Stepping.{Stepped}
+use Rattle.tx_world.proofs.world.TxWorld.settle.Given as goal
+
+abbrev pub invariant-loop-count : goal.invariant-loop-count
+invariant-loop-count g l =
+    Stepped g.D.Disk.faults 1 l.count l.initial.self l.initial.log l.self l.log
+    × (IsTrue g.D.Disk.honest → KeepsLog g.D.Disk.image l.initial.self l.initial.log l.self l.log)
+    × (l.self.transaction ≡ l.initial.self.transaction)
+    × (l.log.life ≡ l.initial.log.life)
+    × (g.D.Disk.faults l.initial.log.disk ≤ g.D.Disk.faults l.log.disk)
+
+abbrev pub decreases-loop-count : goal.decreases-loop-count
+decreases-loop-count g l = 4294967295 - l.count
