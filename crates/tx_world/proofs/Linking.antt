@@ -27,7 +27,8 @@ use Rattle.tx_world.specs.State.{may_enter, sends_begin}
 use Rattle.tx_world.proofs.Begun.{may_write}
 use Rattle.tx_world.proofs.Calling.{call_heeded, may_come}
 use Rattle.tx_world.proofs.Entering.{may_be_entered, once_more}
-use Rattle.tx_world.proofs.Onward.{step_kept}
+use Rattle.tx_world.proofs.Onward.{half_is, step_kept}
+use Rattle.dtx_model.specs.Facts.{has_facts}
 
 -- the block of a call that is answered ok
 fine_block : (t : ℕ) (w : World) (n : ℕ) (a : ActorNo) (c : Call) (m : ℕ) → answer_at t w c m ≡ Fine → Called n a Fine ∷ facts_at t w c Fine ≡ block_at t w (Calls n a c m)
@@ -126,3 +127,19 @@ none_followed s = refl
 pub lost_past : (n : ℕ) (a : ActorNo) (c : Conn) (x y i j : ℕ) (h p q : List Entry) → p ≡ Called n a Fine ∷ h → i ≡ x → j ≡ y → q ≡ cut p c i j ∷ p → q ≡ cut h c x y ∷ Called n a Fine ∷ h
 lost_past n a c x y i j h p q wrote e f k =
     k ∙ ap (λ (g : List Entry). cut g c i j ∷ g) wrote ∙ ap (λ z. cut h c z j ∷ Called n a Fine ∷ h) e ∙ ap (λ z. cut h c x z ∷ Called n a Fine ∷ h) f
+
+-- what it is answered
+pub lose_is : (t : TxNo) (w : World) (h : Known) (k : CoreKept) (u : TxNo) (c : Conn) (x y m : ℕ) (b : Bool) (a : Answer) → Kept t w h k → b ≡ is_open_wire c w.past → a ≡ if_begun h.half.seen.limit (if b then Fine else NoSuch)
+    → a ≡ answer_at t.value w (Lose u c x y) m
+unfolding answer_at
+lose_is t w h k u c x y m b a kept wire answered =
+    answered ∙ ap (λ (v : Bool). if_begun h.half.seen.limit (if v then Fine else NoSuch)) wire ∙ ap (λ (g : Half). if_begun g.seen.limit (lose_answer w c)) (half_is t w h k kept)
+
+lose_refused : (l : Option ℕ) (b : Bool) (a : Answer) → a ≡ if_begun l (if b then Fine else NoSuch) → a ≢ Fine → has_facts a ≡ false
+lose_refused None b a e d = ap has_facts e
+lose_refused (Some n) true a e d = absurd (d e)
+lose_refused (Some n) false a e d = ap has_facts e
+
+pub lose_alone : (t : ℕ) (w : World) (u : TxNo) (c : Conn) (x y m : ℕ) (a : Answer) → a ≡ answer_at t w (Lose u c x y) m → a ≢ Fine → has_facts a ≡ false
+unfolding answer_at
+lose_alone t w u c x y m a e d = lose_refused (half w).seen.limit (is_open_wire c w.past) a e d

@@ -19,6 +19,11 @@ is_local (Reenlist e) = false
 is_local (Recovered t r) = false
 is_local _ = true
 
+-- the call loses a connection
+abbrev pub is_lose : Call → Bool
+is_lose (Lose t c u w) = true
+is_lose _ = false
+
 -- the call isn't the loss of an enlistment with an open connection
 abbrev pub is_unlinked : World → Call → Bool
 is_unlinked w (Gone e) = is_empty (open_ones w e)

@@ -106,7 +106,7 @@ impl TxWorld {
     }
 
     /// Enters a call that writes its entry alone, with this answer.
-    fn enter_alone<D: Disk>(
+    pub(super) fn enter_alone<D: Disk>(
         &mut self,
         log: &Log<D>,
         actor: ActorNo,

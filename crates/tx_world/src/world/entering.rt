@@ -5,7 +5,7 @@ ghost use Rattle.dtx_values.specs.declared.entry.Answer.TheVariants.{Fine};
 ghost use Rattle.dtx_model.specs.Caused.{MayAnswer};
 ghost use Rattle.dtx_model.specs.Steps.{Calls};
 ghost use Rattle.dtx_model.specs.World.{answer_at};
-ghost use Rattle.tx_world.specs.Entering.{is_local, is_unlinked};
+ghost use Rattle.tx_world.specs.Entering.{is_local, is_lose, is_unlinked};
 ghost use Rattle.tx_world.specs.State.{may_enter};
 ghost use Rattle.tx_world.specs.Stepping.{Does};
 
@@ -49,6 +49,45 @@ impl TxWorld {
         let begins = write_near(&mut self.history, &mut self.core, self.out.entries(), log);
         live(&mut self.at_log, begins, log.life());
         Ok(answer)
+    }
+
+    /// What a `lose` is answered.
+    fn answer_lose(&self, u: TxNo, c: Conn, up: u16, down: u16) -> Answer
+        ensures { (m : ℕ) → result ≡ answer_at self.now.transaction.value self.now.world (Lose u c up down) m }
+    {
+        let is_open = self.history.is_open(c);
+        self.half.if_begun(if is_open {
+            Answer::Fine
+        } else {
+            Answer::NoSuch
+        })
+    }
+
+    /// Enters a `lose`.
+    pub(super) fn enter_lose<D: Disk>(
+        &mut self,
+        log: &Log<D>,
+        actor: ActorNo,
+        line: u32,
+        c: &Call,
+        done: u16,
+    ) -> Result<Answer, WorldError>
+        requires enters { may_enter self.old.world line c.now ≡ true }
+        requires kind { is_lose c.now ≡ true }
+        ensures answer { IfOk result (λ a. a ≡ answer_at self.old.transaction.value self.old.world c.now done) }
+        ensures done { OnOk result (Does D.faults (Calls line actor c.now done) self.old log.now self.new log.now) }
+        ensures ours { (self.new.ours ≡ self.old.ours) × (self.new.unsure ≡ self.old.unsure) }
+        ensures memory { OnErr result (self.new ≡ self.old) }
+    {
+        let Call::Lose(u, wire, up, down) = *c else {
+            return Ok(Answer::NoSuch);
+        };
+        let answer = self.answer_lose(u, wire, up, down);
+        if answer == Answer::Fine {
+            self.enter_lost(log, actor, line, u, wire, up, down)?;
+            return Ok(answer);
+        }
+        self.enter_alone(log, actor, line, c, done, answer)
     }
 
     /// Enters the loss of an open connection.
