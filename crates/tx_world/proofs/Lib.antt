@@ -32,6 +32,7 @@ pub mod Listing
 pub mod Entering
 pub mod Calling
 pub mod Linking
+pub mod Leaving
 pub mod AtTheLog
 pub mod CallsOn
 pub mod FewBranches

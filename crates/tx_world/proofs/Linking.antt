@@ -31,7 +31,7 @@ use Rattle.tx_world.proofs.Onward.{half_is, step_kept}
 use Rattle.dtx_model.specs.Facts.{has_facts}
 
 -- the block of a call that is answered ok
-fine_block : (t : ℕ) (w : World) (n : ℕ) (a : ActorNo) (c : Call) (m : ℕ) → answer_at t w c m ≡ Fine → Called n a Fine ∷ facts_at t w c Fine ≡ block_at t w (Calls n a c m)
+pub fine_block : (t : ℕ) (w : World) (n : ℕ) (a : ActorNo) (c : Call) (m : ℕ) → answer_at t w c m ≡ Fine → Called n a Fine ∷ facts_at t w c Fine ≡ block_at t w (Calls n a c m)
 unfolding block_at
 fine_block t w n a c m e = ap (called t w n a c) (sym e)
 
@@ -42,7 +42,7 @@ pub record Linked (t : TxNo) (w : World) (m : Step) (g : Known) (j : CoreKept) (
   pub sendable : are_sendable (onto w.past es) ≡ true
   pub silent : false ≡ sends_begin t.value w m
 
-linked : (t : TxNo) (w : World) (h g : Known) (k j : CoreKept) (n : ℕ) (a : ActorNo) (c : Call) (m : ℕ) (es : List Entry) → Kept t w h k → may_enter w n c ≡ true → MayAnswer t.value w c m
+pub linked : (t : TxNo) (w : World) (h g : Known) (k j : CoreKept) (n : ℕ) (a : ActorNo) (c : Call) (m : ℕ) (es : List Entry) → Kept t w h k → may_enter w n c ≡ true → MayAnswer t.value w c m
     → es ≡ block_at t.value w (Calls n a c m) → has is_begin_sent es ≡ false → g ≡ known_after (entered (Calls n a c m) []) h es → j ≡ record { transaction = k.transaction; state = follow_all k.state es }
     → Linked t w (Calls n a c m) g j es
 linked t w h g k j n a c m es kept may answers block silent local far =

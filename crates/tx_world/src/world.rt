@@ -34,6 +34,7 @@ mod at_the_log;
 mod calls;
 mod deliveries;
 mod entering;
+mod leaving;
 mod settling;
 mod steps;
 mod stops;
