@@ -65,3 +65,9 @@ links_cut past begin e = cut_if past begin Begin ++ (cut_if past true (Enl e) ++
 -- as many entries as a cut can count, or fewer: no more messages than entries are on the way
 abbrev pub is_countable : List Entry → Bool
 is_countable past = nat_le (length past) 4294967295
+
+-- the call can be entered as the program stands: it is none of the calls of managers, by which enlistments come back and recoveries are over
+abbrev pub is_entered_yet : Call → Bool
+is_entered_yet (Reenlist e) = false
+is_entered_yet (Recovered t r) = false
+is_entered_yet _ = true
