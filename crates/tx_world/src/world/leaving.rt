@@ -118,10 +118,7 @@ impl TxWorld {
         self.half.gone(e, true, &mut self.out);
         let call = Call::Gone(e);
         self.calls.push_reserved(EnteredCall { line, actor, call });
-        let block = [
-            Entry::Called(line, actor, Answer::Fine),
-            Entry::Lost(e),
-        ];
+        let block = [Entry::Called(line, actor, Answer::Fine), Entry::Lost(e)];
         self.history.write(&block, self.core.is_stopped());
         self.history.cut_links(e, promotes);
         Ok(())

@@ -1,4 +1,4 @@
-use Rattle.std.proofs.Common.{◌≡◌, ◌∙◌, ap}
+use Rattle.std.proofs.Common.{◌∙◌, ap}
 use Rattle.dtx_values.specs.declared.call.Call.TheVariants.{Gone}
 use Rattle.dtx_model.specs.Answers.{if_begun}
 use Rattle.dtx_model.specs.Words.{past_of}

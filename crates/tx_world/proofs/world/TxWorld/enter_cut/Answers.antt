@@ -5,10 +5,8 @@ use Rattle.dtx_values.specs.declared.entry.Entry.{Entry}
 use Rattle.dtx_values.specs.declared.entry.Entry.TheVariants.{Called, Lost}
 use Rattle.dtx_model.specs.Outcome.{is_empty}
 use Rattle.dtx_model.specs.Words.{onto, past_of}
-use Rattle.dtx_model.specs.Steps.{Calls, entered}
+use Rattle.dtx_model.specs.Steps.{Calls}
 use Rattle.dtx_model.specs.World.{World, answer_at, open_ones}
-use Rattle.dtx_model.specs.declared.waiting.EnteredCall.{EnteredCall}
-use Rattle.tx_world.specs.Carried.{are_sendable}
 use Rattle.tx_world.specs.Entering.{links_cut}
 use Rattle.tx_world.specs.State.{TxState, may_enter}
 use Rattle.tx_world.specs.Stepping.{Does}

@@ -1,8 +1,7 @@
-use Rattle.std.proofs.Common.{◌≡◌, ◌∙◌, ap, not}
+use Rattle.std.proofs.Common.{◌∙◌, ap, not}
 use Rattle.dtx_model.specs.Outcome.{is_empty}
-use Rattle.dtx_model.specs.Half.{Half}
 use Rattle.dtx_model.specs.Words.{past_of}
-use Rattle.dtx_model.specs.World.{World, is_promotable_row, open_ones}
+use Rattle.dtx_model.specs.World.{World, open_ones}
 use Rattle.tx_world.specs.State.{TxState}
 use Rattle.tx_world.proofs.Leaving.{some_open, rows_promotable}
 use Rattle.tx_world.proofs.world.TxWorld.has_open.Goals as goal
