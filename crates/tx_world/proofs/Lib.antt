@@ -30,6 +30,9 @@ pub mod Found
 pub mod Living
 pub mod Listing
 pub mod Entering
+pub mod Calling
+pub mod Linking
+pub mod Leaving
 pub mod AtTheLog
 pub mod CallsOn
 pub mod FewBranches

@@ -5,5 +5,6 @@ pub mod Carried
 pub mod Course
 pub mod Kept
 pub mod Pending
+pub mod Entering
 pub mod Names
 pub mod Left

@@ -3,18 +3,20 @@ ghost use Rattle.std.specs.Prelude.{◌≡◌, ◌≢◌, ◌≤◌, ◌<◌, �
 ghost use Rattle.dtx_values.specs.declared.entry.Entry.{Entry};
 ghost use Rattle.dtx_values.specs.declared.entry.Entry.TheVariants.{Cut, Down as End, Got, Restarted, Sent, Stopped};
 ghost use Rattle.dtx_values.specs.declared.message.Dir.TheVariants.{Up, Down};
+ghost use Rattle.dtx_values.specs.declared.message.Conn.{Conn};
 ghost use Rattle.dtx_values.specs.declared.message.Message.{Message};
 ghost use Rattle.dtx_values.specs.Lines.{has_line};
 ghost use Rattle.dtx_model.specs.Frames.{is_valid};
 ghost use Rattle.dtx_model.specs.Words.{each, onto, past_of};
 ghost use Rattle.dtx_model.specs.Wires.{MayCross, WireRun, is_open_wire, is_stopped, opens};
-ghost use Rattle.dtx_model.specs.World.{cut, has_left, is_linked};
+ghost use Rattle.dtx_model.specs.World.{cut, has_left, is_linked, on_the_way};
 ghost use Rattle.oletx_session.specs.declared.session.Delivered.{Delivered};
 ghost use Rattle.oletx_session.specs.Carries.{Carries};
 ghost use Rattle.tx_world.specs.Carried.{are_sendable, is_sendable};
+ghost use Rattle.tx_world.specs.Entering.{cut_if, is_countable, links_cut};
 ghost use Rattle.tx_world.specs.Course.{Came, Course, IsOpened, arrival, is_written};
 
-use dtx_values::{Conn, Dir, Entry, Message, ROOM, is_opening};
+use dtx_values::{Conn, Dir, EnlNo, Entry, Message, ROOM, is_opening};
 use oletx_session::{Delivered, Session};
 use std::alloc::{AllocError, Global};
 use std::marker::Model;
@@ -225,6 +227,37 @@ impl History {
         };
         self.entries.push_reserved(Entry::Cut(c, up, down));
         true
+    }
+
+    /// Whether there are as many entries as a cut can count, or fewer.
+    pub(crate) fn is_countable(&self) -> bool
+        ensures { result ≡ is_countable self.now.past }
+    {
+        self.entries.len() <= 4_294_967_295
+    }
+
+    /// Loses a connection, where that is wanted and it is open. All its upward messages on the way are kept, and none downward.
+    fn cut_upward(&mut self, c: Conn, wanted: bool)
+        requires few { on_the_way c Up self.old.past ≤ 4294967295 }
+        requires room { 0 < self.old.room }
+        ensures past { self.new.past ≡ onto self.old.past (cut_if self.old.past wanted c) }
+        ensures room { self.old.room ≤ self.new.room + 1 }
+    {
+        if wanted {
+            // One that isn't open stays as it is.
+            let _ = self.lose(c, u32::MAX, 0);
+        }
+    }
+
+    /// Loses the open connections of an enlistment, that of the promotion too where `begin` says so. All their upward messages on the way are kept, and none downward.
+    pub(crate) fn cut_links(&mut self, e: EnlNo, begin: bool)
+        requires few { (c : Conn) → on_the_way c Up self.old.past ≤ 4294967295 }
+        requires room { 3 ≤ self.old.room }
+        ensures past { self.new.past ≡ onto self.old.past (links_cut self.old.past begin e) }
+    {
+        self.cut_upward(Conn::Begin, begin);
+        self.cut_upward(Conn::Enl(e), true);
+        self.cut_upward(Conn::Again(e), true);
     }
 
     /// Loses every connection as a stop of the coordinator does, and writes it.

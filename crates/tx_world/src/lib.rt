@@ -4,6 +4,7 @@
 mod at_log;
 mod hearing;
 mod history;
+mod local_calls;
 mod names;
 mod pending;
 mod plans;

@@ -33,6 +33,8 @@ use std::marker::Model;
 mod at_the_log;
 mod calls;
 mod deliveries;
+mod entering;
+mod leaving;
 mod settling;
 mod steps;
 mod stops;

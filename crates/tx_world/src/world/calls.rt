@@ -9,6 +9,7 @@ ghost use Rattle.coordinator_log.specs.Slots.{open_records};
 ghost use Rattle.local_half.specs.Half.{is_its_own};
 ghost use Rattle.tx_world.specs.State.{is_linking, may_enter};
 ghost use Rattle.tx_world.specs.AtLog.{Fits};
+ghost use Rattle.tx_world.specs.Entering.{is_entered_yet};
 ghost use Rattle.tx_world.specs.Stepping.{Does};
 
 use super::TxWorld;
@@ -46,6 +47,13 @@ impl TxWorld {
         is_neither(is_entered(&self.calls, line), is_made(&self.calls, c))
     }
 
+    /// Whether the call can be entered as the program stands: the calls of managers can't yet, by which an enlistment comes back or a recovery is over.
+    pub fn is_entered_yet(c: &Call) -> bool
+        ensures { result ≡ is_entered_yet c.now }
+    {
+        !matches!(c, Call::Reenlist(_) | Call::Recovered(_, _))
+    }
+
     /// Enters a call, for which so many steps were done right before where it is a `do`; and where it is an `await`, the client was told or nothing is pending. It writes the
     /// entry of the call and its facts.
     ///
@@ -62,6 +70,7 @@ impl TxWorld {
     ) -> Result<Answer, WorldError>
         requires enters { may_enter self.old.world line c.now ≡ true }
         requires answers { MayAnswer self.old.transaction.value self.old.world c.now done }
+        requires entered { is_entered_yet c.now ≡ true }
         requires fits { IsTrue D.honest → IsTrue log.now.is_up → Fits self.old (open_records log.now.slots) }
         ensures answer { IfOk result (λ a. a ≡ answer_at self.old.transaction.value self.old.world c.now done) }
         ensures done { OnOk result (Does D.faults (Calls line actor c.now done) self.old log.now self.new log.now) }
@@ -84,7 +93,7 @@ impl TxWorld {
         }
     }
 
-    /// Enters a loss, or a call of a manager.
+    /// Enters the loss of a connection, or that of an enlistment.
     fn enter_linked<D: Disk>(
         &mut self,
         log: &Log<D>,
@@ -96,17 +105,20 @@ impl TxWorld {
         requires enters { may_enter self.old.world line c.now ≡ true }
         requires answers { MayAnswer self.old.transaction.value self.old.world c.now done }
         requires kind { is_linking c.now ≡ true }
+        requires entered { is_entered_yet c.now ≡ true }
         ensures answer { IfOk result (λ a. a ≡ answer_at self.old.transaction.value self.old.world c.now done) }
         ensures done { OnOk result (Does D.faults (Calls line actor c.now done) self.old log.now self.new log.now) }
         ensures ours { (self.new.ours ≡ self.old.ours) × (self.new.unsure ≡ self.old.unsure) }
         ensures memory { OnErr result (self.new ≡ self.old) }
     {
-        let _ = &self.calls;
-        Ok(Answer::Fine)
+        if matches!(c, Call::Lose(_, _, _, _)) {
+            return self.enter_lose(log, actor, line, c, done);
+        }
+        self.enter_gone(log, actor, line, c, done)
     }
 
     /// Enters a call that writes its entry alone, with this answer.
-    fn enter_alone<D: Disk>(
+    pub(super) fn enter_alone<D: Disk>(
         &mut self,
         log: &Log<D>,
         actor: ActorNo,

@@ -1,0 +1,17 @@
+use Rattle.std.proofs.Common.{◌≢◌, rules, sym, subst}
+use Rattle.dtx_values.specs.declared.call.Call.{Call}
+use Rattle.dtx_values.specs.declared.entry.Answer.TheVariants.{Fine}
+use Rattle.dtx_model.specs.Steps.{Calls}
+use Rattle.tx_world.specs.Stepping.{Does}
+use Rattle.tx_world.proofs.Leaving.{gone_alone}
+use Rattle.tx_world.proofs.world.TxWorld.enter_gone.Goals as goal
+
+pub returns-then-eq-clause-done : goal.returns-then-eq-clause-done
+returns-then-eq-clause-done g c =
+    subst (λ (x : Call). Does g.D.Disk.faults (Calls c.args.line c.args.actor x c.args.done) c.args.self.now c.args.log.now c.enter_cut.new.self c.args.log.now) (sym c.in-Gone.is) (c.in_ok-enter_cut.ensures.done c.args.done)
+
+pub enter_alone-requires-clause-alone : goal.enter_alone-requires-clause-alone
+enter_alone-requires-clause-alone g c =
+    let other : c.answer_gone-answer.result ≢ Fine = search rules in
+    let w = c.args.self.now in
+    gone_alone w.transaction.value w.world c.in-Gone.e c.args.done c.answer_gone-answer.result (c.answer_gone-answer.ensures c.args.done) other

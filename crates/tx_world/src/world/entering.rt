@@ -1,0 +1,151 @@
+//! The calls.
+ghost use Rattle.std.specs.Prelude.{ℕ, ◌≡◌, IfOk, OnOk, OnErr, true};
+ghost use Rattle.dtx_values.specs.declared.call.Call.TheVariants.{Lose, Recovered};
+ghost use Rattle.dtx_values.specs.declared.entry.Answer.TheVariants.{Fine};
+ghost use Rattle.dtx_model.specs.Caused.{MayAnswer};
+ghost use Rattle.dtx_model.specs.Steps.{Calls};
+ghost use Rattle.dtx_model.specs.World.{answer_at};
+ghost use Rattle.tx_world.specs.Entering.{is_local, is_lose, is_unlinked};
+ghost use Rattle.tx_world.specs.State.{may_enter};
+ghost use Rattle.tx_world.specs.Stepping.{Does};
+
+use super::TxWorld;
+use crate::local_calls::answer_call;
+use crate::refusal::WorldError;
+use crate::writing::{live, write_near};
+use coordinator_log::Log;
+use dtx_model::EnteredCall;
+use dtx_values::{ActorNo, Answer, Call, Conn, Entry, RmNo, TxNo};
+use outside::Disk;
+
+impl TxWorld {
+    /// Enters a call that the local side answers alone.
+    pub(super) fn enter_local<D: Disk>(
+        &mut self,
+        log: &Log<D>,
+        actor: ActorNo,
+        line: u32,
+        c: &Call,
+        done: u16,
+    ) -> Result<Answer, WorldError>
+        requires near { is_local c.now ≡ true }
+        requires unlinked { is_unlinked self.old.world c.now ≡ true }
+        requires enters { may_enter self.old.world line c.now ≡ true }
+        requires answers { MayAnswer self.old.transaction.value self.old.world c.now done }
+        ensures answer { IfOk result (λ a. a ≡ answer_at self.old.transaction.value self.old.world c.now done) }
+        ensures done { OnOk result (Does D.faults (Calls line actor c.now done) self.old log.now self.new log.now) }
+        ensures ours { (self.new.ours ≡ self.old.ours) × (self.new.unsure ≡ self.old.unsure) }
+        ensures memory { OnErr result (self.new ≡ self.old) }
+    {
+        self.history.reserve()?;
+        self.calls.reserve(1)?;
+        self.out.clear();
+        let answer = answer_call(&mut self.half, actor, line, c, done, &mut self.out);
+        self.calls.push_reserved(EnteredCall {
+            line,
+            actor,
+            call: *c,
+        });
+        let begins = write_near(&mut self.history, &mut self.core, self.out.entries(), log);
+        live(&mut self.at_log, begins, log.life());
+        Ok(answer)
+    }
+
+    /// What a `lose` is answered.
+    fn answer_lose(&self, u: TxNo, c: Conn, up: u16, down: u16) -> Answer
+        ensures { (m : ℕ) → result ≡ answer_at self.now.transaction.value self.now.world (Lose u c up down) m }
+    {
+        let is_open = self.history.is_open(c);
+        self.half.if_begun(if is_open {
+            Answer::Fine
+        } else {
+            Answer::NoSuch
+        })
+    }
+
+    /// Enters a `lose`.
+    pub(super) fn enter_lose<D: Disk>(
+        &mut self,
+        log: &Log<D>,
+        actor: ActorNo,
+        line: u32,
+        c: &Call,
+        done: u16,
+    ) -> Result<Answer, WorldError>
+        requires enters { may_enter self.old.world line c.now ≡ true }
+        requires kind { is_lose c.now ≡ true }
+        ensures answer { IfOk result (λ a. a ≡ answer_at self.old.transaction.value self.old.world c.now done) }
+        ensures done { OnOk result (Does D.faults (Calls line actor c.now done) self.old log.now self.new log.now) }
+        ensures ours { (self.new.ours ≡ self.old.ours) × (self.new.unsure ≡ self.old.unsure) }
+        ensures memory { OnErr result (self.new ≡ self.old) }
+    {
+        let Call::Lose(u, wire, up, down) = *c else {
+            return Ok(Answer::NoSuch);
+        };
+        let answer = self.answer_lose(u, wire, up, down);
+        if answer == Answer::Fine {
+            self.enter_lost(log, actor, line, u, wire, up, down)?;
+            return Ok(answer);
+        }
+        self.enter_alone(log, actor, line, c, done, answer)
+    }
+
+    /// Enters the loss of an open connection.
+    pub(super) fn enter_lost<D: Disk>(
+        &mut self,
+        log: &Log<D>,
+        actor: ActorNo,
+        line: u32,
+        u: TxNo,
+        c: Conn,
+        up: u16,
+        down: u16,
+    ) -> Result<(), WorldError>
+        requires enters { may_enter self.old.world line (Lose u c up down) ≡ true }
+        requires fine { answer_at self.old.transaction.value self.old.world (Lose u c up down) 0 ≡ Fine }
+        ensures done { (m : ℕ) → OnOk result (Does D.faults (Calls line actor (Lose u c up down) m) self.old log.now self.new log.now) }
+        ensures ours { (self.new.ours ≡ self.old.ours) × (self.new.unsure ≡ self.old.unsure) }
+        ensures memory { OnErr result (self.new ≡ self.old) }
+    {
+        let _ = log.is_up();
+        self.history.reserve()?;
+        self.calls.reserve(1)?;
+        let call = Call::Lose(u, c, up, down);
+        self.calls.push_reserved(EnteredCall { line, actor, call });
+        let block = [Entry::Called(line, actor, Answer::Fine)];
+        self.history.write(&block, self.core.is_stopped());
+        // It is open, since that is ok. So it is lost.
+        let _ = self.history.lose(c, u32::from(up), u32::from(down));
+        Ok(())
+    }
+
+    /// Enters that a manager has recovered.
+    pub(super) fn enter_recovered<D: Disk>(
+        &mut self,
+        log: &Log<D>,
+        actor: ActorNo,
+        line: u32,
+        u: TxNo,
+        r: RmNo,
+    ) -> Result<(), WorldError>
+        requires enters { may_enter self.old.world line (Recovered u r) ≡ true }
+        requires fine { answer_at self.old.transaction.value self.old.world (Recovered u r) 0 ≡ Fine }
+        ensures done { (m : ℕ) → OnOk result (Does D.faults (Calls line actor (Recovered u r) m) self.old log.now self.new log.now) }
+        ensures ours { (self.new.ours ≡ self.old.ours) × (self.new.unsure ≡ self.old.unsure) }
+        ensures memory { OnErr result (self.new ≡ self.old) }
+    {
+        let _ = log.is_up();
+        self.history.reserve()?;
+        self.calls.reserve(1)?;
+        let call = Call::Recovered(u, r);
+        self.calls.push_reserved(EnteredCall { line, actor, call });
+        let block = [
+            Entry::Called(line, actor, Answer::Fine),
+            Entry::Recovered(r),
+        ];
+        let stopped = self.core.is_stopped();
+        self.core.recovery_over(r);
+        self.history.write(&block, stopped);
+        Ok(())
+    }
+}

@@ -1,0 +1,126 @@
+//! The losses of enlistments.
+ghost use Rattle.std.specs.Prelude.{ℕ, ◌≡◌, ◌&&◌, ◌||◌, not, IfOk, OnOk, OnErr, true, false};
+ghost use Rattle.dtx_values.specs.declared.call.Call.TheVariants.{Gone};
+ghost use Rattle.dtx_values.specs.declared.entry.Answer.TheVariants.{Fine};
+ghost use Rattle.dtx_values.specs.Class.{is_promotable};
+ghost use Rattle.dtx_values.specs.Row.{is_of};
+ghost use Rattle.dtx_model.specs.Caused.{MayAnswer};
+ghost use Rattle.dtx_model.specs.Outcome.{is_empty};
+ghost use Rattle.dtx_model.specs.Steps.{Calls};
+ghost use Rattle.dtx_model.specs.Words.{has};
+ghost use Rattle.dtx_model.specs.World.{answer_at, open_ones};
+ghost use Rattle.tx_world.specs.Entering.{is_gone_call};
+ghost use Rattle.tx_world.specs.State.{may_enter};
+ghost use Rattle.tx_world.specs.Stepping.{Does};
+
+use super::TxWorld;
+use crate::refusal::WorldError;
+use coordinator_log::Log;
+use dtx_model::EnteredCall;
+use dtx_values::{ActorNo, Answer, Call, Conn, EnlNo, Entry, Row};
+use outside::Disk;
+
+/// Whether the row is that of the enlistment, which is a promotable.
+fn is_promotable_one(x: &Row, e: EnlNo) -> bool
+    ensures { result ≡ (is_of e.value x.now && is_promotable x.now.class) }
+{
+    e == x.number && x.class.is_promotable()
+}
+
+/// Whether the enlistment is a promotable.
+fn is_promotable_row(rows: &[Row], e: EnlNo) -> bool
+    ensures { result ≡ has (λ x. is_of e.value x && is_promotable x.class) rows.now }
+{
+    rows.iter().any(|x| is_promotable_one(x, e))
+}
+
+/// Whether one of the connections of an enlistment is open, where that of the promotion is one of them if `promotes` says so.
+fn is_any_open(promotes: bool, begin: bool, own: bool, again: bool) -> bool
+    ensures { result ≡ ((promotes && begin) || (own || again)) }
+{
+    (promotes && begin) || own || again
+}
+
+impl TxWorld {
+    /// Whether one of the enlistment's connections is open.
+    fn has_open(&self, e: EnlNo) -> bool
+        ensures { result ≡ not (is_empty (open_ones self.now.world e)) }
+    {
+        is_any_open(
+            is_promotable_row(self.half.rows(), e),
+            self.history.is_open(Conn::Begin),
+            self.history.is_open(Conn::Enl(e)),
+            self.history.is_open(Conn::Again(e)),
+        )
+    }
+
+    /// What a `gone` is answered.
+    fn answer_gone(&self, e: EnlNo) -> Answer
+        ensures { (m : ℕ) → result ≡ answer_at self.now.transaction.value self.now.world (Gone e) m }
+    {
+        self.half.if_begun(self.half.gone_answer(e))
+    }
+
+    /// Enters a `gone`.
+    pub(super) fn enter_gone<D: Disk>(
+        &mut self,
+        log: &Log<D>,
+        actor: ActorNo,
+        line: u32,
+        c: &Call,
+        done: u16,
+    ) -> Result<Answer, WorldError>
+        requires enters { may_enter self.old.world line c.now ≡ true }
+        requires kind { is_gone_call c.now ≡ true }
+        ensures answer { IfOk result (λ a. a ≡ answer_at self.old.transaction.value self.old.world c.now done) }
+        ensures done { OnOk result (Does D.faults (Calls line actor c.now done) self.old log.now self.new log.now) }
+        ensures ours { (self.new.ours ≡ self.old.ours) × (self.new.unsure ≡ self.old.unsure) }
+        ensures memory { OnErr result (self.new ≡ self.old) }
+    {
+        let Call::Gone(e) = *c else {
+            return Ok(Answer::NoSuch);
+        };
+        if !self.has_open(e) {
+            return self.enter_local(log, actor, line, c, done);
+        }
+        let answer = self.answer_gone(e);
+        if answer == Answer::Fine {
+            self.enter_cut(log, actor, line, e)?;
+            return Ok(answer);
+        }
+        self.enter_alone(log, actor, line, c, done, answer)
+    }
+
+    /// Enters the loss of an enlistment with open connections, which are cut. A cut counts up to 4,294,967,295 messages: where the history has more entries than that,
+    /// there is no memory for it.
+    fn enter_cut<D: Disk>(
+        &mut self,
+        log: &Log<D>,
+        actor: ActorNo,
+        line: u32,
+        e: EnlNo,
+    ) -> Result<(), WorldError>
+        requires enters { may_enter self.old.world line (Gone e) ≡ true }
+        requires fine { answer_at self.old.transaction.value self.old.world (Gone e) 0 ≡ Fine }
+        requires linked { is_empty (open_ones self.old.world e) ≡ false }
+        ensures done { (m : ℕ) → OnOk result (Does D.faults (Calls line actor (Gone e) m) self.old log.now self.new log.now) }
+        ensures ours { (self.new.ours ≡ self.old.ours) × (self.new.unsure ≡ self.old.unsure) }
+        ensures memory { OnErr result (self.new ≡ self.old) }
+    {
+        let _ = log.is_up();
+        if !self.history.is_countable() {
+            return Err(WorldError::Memory);
+        }
+        self.history.reserve()?;
+        self.calls.reserve(1)?;
+        self.out.clear();
+        let promotes = is_promotable_row(self.half.rows(), e);
+        self.half.gone(e, true, &mut self.out);
+        let call = Call::Gone(e);
+        self.calls.push_reserved(EnteredCall { line, actor, call });
+        let block = [Entry::Called(line, actor, Answer::Fine), Entry::Lost(e)];
+        self.history.write(&block, self.core.is_stopped());
+        self.history.cut_links(e, promotes);
+        Ok(())
+    }
+}
