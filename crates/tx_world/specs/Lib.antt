@@ -7,3 +7,4 @@ pub mod Kept
 pub mod Pending
 pub mod Entering
 pub mod Names
+pub mod Managers
