@@ -1,5 +1,5 @@
 -- What the calls of managers are answered, by what is kept of a transaction.
-use Rattle.std.specs.Prelude.{ℕ, ◌==◌, Bool, ◌&&◌, not, List, find, filter, Option, if◌then◌else◌}
+use Rattle.std.specs.Prelude.{◌==◌, Bool, ◌&&◌, not, List, find, filter, Option, if◌then◌else◌}
 use Rattle.dtx_values.specs.declared.entry.Answer.{Answer}
 use Rattle.dtx_values.specs.declared.entry.Answer.TheVariants.{Fine, NoSuch, Over, Stopped}
 use Rattle.dtx_values.specs.declared.entry.Entry.{Entry}

@@ -1,4 +1,4 @@
-use Rattle.std.proofs.Common.{◌≡◌, ◌∙◌, ◌&&◌, ap, List}
+use Rattle.std.proofs.Common.{◌∙◌, ◌&&◌, ap, List}
 use Rattle.dtx_model.specs.declared.branch.Branch.{Branch}
 use Rattle.dtx_model.specs.Words.{has}
 use Rattle.tx_world.specs.Managers.{is_by}

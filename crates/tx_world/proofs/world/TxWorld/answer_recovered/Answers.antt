@@ -1,4 +1,4 @@
-use Rattle.std.proofs.Common.{◌≡◌, ◌∙◌, ap, List}
+use Rattle.std.proofs.Common.{◌∙◌, ap}
 use Rattle.dtx_values.specs.declared.call.Call.TheVariants.{Recovered}
 use Rattle.dtx_model.specs.Answers.{if_begun}
 use Rattle.dtx_model.specs.Words.{past_of}
