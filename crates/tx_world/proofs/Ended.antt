@@ -171,3 +171,43 @@ may_be_sent c d ws h k may = by (wire_of c ws) (k c)
     by : (o : Option Wire) → IsWire c o h → may_send d o ≡ true
     by None none = absurd (not_both (is_some (lost_since c h)) (and_left (is_some (lost_since c h)) (not (is_ended c (opposite d) h)) may) (ap is_some none))
     by (Some w) at = ap not (at.1 (opposite d)).ended ∙ and_right (is_some (lost_since c h)) (not (is_ended c (opposite d) h)) may
+
+-- what is linked by the history is open or has something left to deliver
+pub linked_is : (c : Conn) (ws : List Wire) (h : List Entry) → Carries ws h → WireRun h → (is_open_wire c h || has_left c Up h || has_left c Down h) ≡ is_linked c h
+linked_is c ws h k r = by (lost_since c h) refl
+  where
+    none : is_linked c h ≡ false → (is_open_wire c h || has_left c Up h || has_left c Down h) ≡ is_linked c h
+    none free =
+        (λ i. sym (open_is c ws h k) i || sym (left_is c Up ws h k) i || sym (left_is c Down ws h k) i) ∙ is_free c ws h k r free ∙ sym free
+
+    lost : (a b x y : Bool) → ((a || not x) || (b || not y)) ≡ (not (x && y) || (a || not x) || (b || not y))
+    lost true true true true = refl
+    lost true true true false = refl
+    lost true true false y = refl
+    lost true false true true = refl
+    lost true false true false = refl
+    lost true false false y = refl
+    lost false true true true = refl
+    lost false true true false = refl
+    lost false true false y = refl
+    lost false false true true = refl
+    lost false false true false = refl
+    lost false false false y = refl
+
+    unended : is_lost_wire c h ≡ false → is_some (lost_since c h) ≡ true → is_ended c Up h ≡ false
+    unended shut opened = case (is_ended c Up h) refl
+      where
+        case : (b : Bool) → is_ended c Up h ≡ b → is_ended c Up h ≡ false
+        case false e = e
+        case true e = absurd (not_both (is_lost_wire c h) (ended_lost c Up h r opened e) shut)
+
+    by : (s : Option Bool) → lost_since c h ≡ s → (is_open_wire c h || has_left c Up h || has_left c Down h) ≡ is_linked c h
+    by None s = none (ap (λ (o : Option Bool). is_some o && (not (is_ended c Up h && is_ended c Down h) || has_left c Up h || has_left c Down h)) s)
+    by (Some false) s =
+        ap (λ (o : Option Bool). is_kept o || has_left c Up h || has_left c Down h) s
+        ∙ sym (ap (λ (o : Option Bool). is_some o && (not (is_ended c Up h && is_ended c Down h) || has_left c Up h || has_left c Down h)) s
+        ∙ ap (λ b. not (b && is_ended c Down h) || has_left c Up h || has_left c Down h) (unended (ap holds s) (ap is_some s)))
+    by (Some true) s =
+        (λ i. is_kept (s i) || (not (is_empty (in_transit c Up h)) || (holds (s i) && not (is_ended c Up h))) || (not (is_empty (in_transit c Down h)) || (holds (s i) && not (is_ended c Down h))))
+        ∙ lost (not (is_empty (in_transit c Up h))) (not (is_empty (in_transit c Down h))) (is_ended c Up h) (is_ended c Down h)
+        ∙ sym (λ i. is_some (s i) && (not (is_ended c Up h && is_ended c Down h) || (not (is_empty (in_transit c Up h)) || (holds (s i) && not (is_ended c Up h))) || (not (is_empty (in_transit c Down h)) || (holds (s i) && not (is_ended c Down h)))))

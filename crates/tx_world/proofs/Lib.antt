@@ -33,6 +33,7 @@ pub mod Entering
 pub mod Calling
 pub mod Linking
 pub mod Leaving
+pub mod Managing
 pub mod AtTheLog
 pub mod CallsOn
 pub mod FewBranches

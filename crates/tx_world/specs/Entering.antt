@@ -66,8 +66,12 @@ links_cut past begin e = cut_if past begin Begin ++ (cut_if past true (Enl e) ++
 abbrev pub is_countable : List Entry → Bool
 is_countable past = nat_le (length past) 4294967295
 
--- the call can be entered as the program stands: it is none of the calls of managers, by which enlistments come back and recoveries are over
+-- the call says that a manager has recovered
+abbrev pub is_recovered : Call → Bool
+is_recovered (Recovered t r) = true
+is_recovered _ = false
+
+-- the call can be entered as the program stands: it isn't the one by which an enlistment comes back
 abbrev pub is_entered_yet : Call → Bool
 is_entered_yet (Reenlist e) = false
-is_entered_yet (Recovered t r) = false
 is_entered_yet _ = true

@@ -8,3 +8,4 @@ pub mod Pending
 pub mod Entering
 pub mod Names
 pub mod Left
+pub mod Managers

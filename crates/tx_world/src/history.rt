@@ -1,5 +1,5 @@
 //! The history of one transaction, with the connections that carry it.
-ghost use Rattle.std.specs.Prelude.{◌≡◌, ◌≢◌, ◌≤◌, ◌<◌, ◌+◌, ◌∷◌, ◌↔◌, [], List, Some, None, IfOk, IfSome, OnOk, true, false, length, min};
+ghost use Rattle.std.specs.Prelude.{◌≡◌, ◌||◌, ◌≢◌, ◌≤◌, ◌<◌, ◌+◌, ◌∷◌, ◌↔◌, [], List, Some, None, IfOk, IfSome, OnOk, true, false, length, min};
 ghost use Rattle.dtx_values.specs.declared.entry.Entry.{Entry};
 ghost use Rattle.dtx_values.specs.declared.entry.Entry.TheVariants.{Cut, Down as End, Got, Restarted, Sent, Stopped};
 ghost use Rattle.dtx_values.specs.declared.message.Dir.TheVariants.{Up, Down};
@@ -109,6 +109,13 @@ fn carry(session: &mut Session, stopped: bool, x: &Entry)
     }
 }
 
+/// Whether one of these holds.
+fn is_one_of_three(a: bool, b: bool, c: bool) -> bool
+    ensures { result ≡ (a || b || c) }
+{
+    a || b || c
+}
+
 /// The entry of what came, where something did.
 fn arrival(c: Conn, d: Dir, came: &Option<Delivered>) -> Option<Entry>
     ensures { result ≡ arrival c d came.now }
@@ -159,6 +166,19 @@ impl History {
         ensures { result ≡ is_open_wire c self.now.past }
     {
         self.session.is_open(c)
+    }
+
+    /// Whether a connection was opened, and its end isn't seen by both sides, or something is left to deliver: that is, whether it is open or something is left.
+    pub(crate) fn is_linked(&self, c: Conn) -> bool
+        ensures { result ≡ is_linked c self.now.past }
+    {
+        // A proof sees here that the session carries the history.
+        let _ = &self.session;
+        is_one_of_three(
+            self.is_open(c),
+            self.has_left(c, Dir::Up),
+            self.has_left(c, Dir::Down),
+        )
     }
 
     /// Writes an entry. A message that it sends is on the way then.

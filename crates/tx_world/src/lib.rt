@@ -5,6 +5,7 @@ mod at_log;
 mod hearing;
 mod history;
 mod local_calls;
+mod managers;
 mod names;
 mod pending;
 mod plans;

@@ -47,11 +47,11 @@ impl TxWorld {
         is_neither(is_entered(&self.calls, line), is_made(&self.calls, c))
     }
 
-    /// Whether the call can be entered as the program stands: the calls of managers can't yet, by which an enlistment comes back or a recovery is over.
+    /// Whether the call can be entered as the program stands: that by which an enlistment comes back can't yet.
     pub fn is_entered_yet(c: &Call) -> bool
         ensures { result ≡ is_entered_yet c.now }
     {
-        !matches!(c, Call::Reenlist(_) | Call::Recovered(_, _))
+        !matches!(c, Call::Reenlist(_))
     }
 
     /// Enters a call, for which so many steps were done right before where it is a `do`; and where it is an `await`, the client was told or nothing is pending. It writes the
@@ -93,7 +93,7 @@ impl TxWorld {
         }
     }
 
-    /// Enters the loss of a connection, or that of an enlistment.
+    /// Enters the loss of a connection, that of an enlistment, or that a manager has recovered.
     fn enter_linked<D: Disk>(
         &mut self,
         log: &Log<D>,
@@ -111,10 +111,11 @@ impl TxWorld {
         ensures ours { (self.new.ours ≡ self.old.ours) × (self.new.unsure ≡ self.old.unsure) }
         ensures memory { OnErr result (self.new ≡ self.old) }
     {
-        if matches!(c, Call::Lose(_, _, _, _)) {
-            return self.enter_lose(log, actor, line, c, done);
+        match c {
+            Call::Lose(_, _, _, _) => self.enter_lose(log, actor, line, c, done),
+            Call::Gone(_) => self.enter_gone(log, actor, line, c, done),
+            _ => self.enter_recovery(log, actor, line, c, done),
         }
-        self.enter_gone(log, actor, line, c, done)
     }
 
     /// Enters a call that writes its entry alone, with this answer.

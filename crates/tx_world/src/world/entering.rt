@@ -5,12 +5,13 @@ ghost use Rattle.dtx_values.specs.declared.entry.Answer.TheVariants.{Fine};
 ghost use Rattle.dtx_model.specs.Caused.{MayAnswer};
 ghost use Rattle.dtx_model.specs.Steps.{Calls};
 ghost use Rattle.dtx_model.specs.World.{answer_at};
-ghost use Rattle.tx_world.specs.Entering.{is_local, is_lose, is_unlinked};
+ghost use Rattle.tx_world.specs.Entering.{is_local, is_lose, is_recovered, is_unlinked};
 ghost use Rattle.tx_world.specs.State.{may_enter};
 ghost use Rattle.tx_world.specs.Stepping.{Does};
 
 use super::TxWorld;
 use crate::local_calls::answer_call;
+use crate::managers::recovery_answer;
 use crate::refusal::WorldError;
 use crate::writing::{live, write_near};
 use coordinator_log::Log;
@@ -117,6 +118,41 @@ impl TxWorld {
         // It is open, since that is ok. So it is lost.
         let _ = self.history.lose(c, u32::from(up), u32::from(down));
         Ok(())
+    }
+
+    /// What a `recovered` is answered.
+    fn answer_recovered(&self, u: TxNo, r: RmNo) -> Answer
+        ensures { (m : ℕ) → result ≡ answer_at self.now.transaction.value self.now.world (Recovered u r) m }
+    {
+        self.half
+            .if_begun(recovery_answer(&self.half, &self.core, &self.history, r))
+    }
+
+    /// Enters a `recovered`.
+    pub(super) fn enter_recovery<D: Disk>(
+        &mut self,
+        log: &Log<D>,
+        actor: ActorNo,
+        line: u32,
+        c: &Call,
+        done: u16,
+    ) -> Result<Answer, WorldError>
+        requires enters { may_enter self.old.world line c.now ≡ true }
+        requires kind { is_recovered c.now ≡ true }
+        ensures answer { IfOk result (λ a. a ≡ answer_at self.old.transaction.value self.old.world c.now done) }
+        ensures done { OnOk result (Does D.faults (Calls line actor c.now done) self.old log.now self.new log.now) }
+        ensures ours { (self.new.ours ≡ self.old.ours) × (self.new.unsure ≡ self.old.unsure) }
+        ensures memory { OnErr result (self.new ≡ self.old) }
+    {
+        let Call::Recovered(u, r) = *c else {
+            return Ok(Answer::NoSuch);
+        };
+        let answer = self.answer_recovered(u, r);
+        if answer == Answer::Fine {
+            self.enter_recovered(log, actor, line, u, r)?;
+            return Ok(answer);
+        }
+        self.enter_alone(log, actor, line, c, done, answer)
     }
 
     /// Enters that a manager has recovered.

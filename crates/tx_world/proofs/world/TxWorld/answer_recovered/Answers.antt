@@ -1,0 +1,15 @@
+use Rattle.std.proofs.Common.{◌∙◌, ap}
+use Rattle.dtx_values.specs.declared.call.Call.TheVariants.{Recovered}
+use Rattle.dtx_model.specs.Answers.{if_begun}
+use Rattle.dtx_model.specs.Words.{past_of}
+use Rattle.dtx_model.specs.World.{World, answer_at}
+use Rattle.tx_world.specs.State.{TxState}
+use Rattle.tx_world.proofs.Managing.{recovered_is}
+use Rattle.tx_world.proofs.world.TxWorld.answer_recovered.Goals as goal
+
+pub returns : goal.returns
+returns c m =
+    let i = c.self.inside in
+    let w : World = record { calls = past_of i.calls.items; past = i.history.past } in
+    recovered_is i.transaction w i.half i.core c.args.u c.args.r m c.if_begun.result c.self.invariant.kept (c.if_begun.ensures ∙ ap (if_begun i.half.half.seen.limit) c.recovery_answer.ensures)
+    ∙ ap (λ (x : TxState). answer_at x.transaction.value x.world (Recovered c.args.u c.args.r) m) c.self.view_is
