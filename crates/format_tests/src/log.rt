@@ -1,5 +1,5 @@
 //! The log over disks in memory, by tables of cases.
-ghost use Rattle.std.specs.Prelude.{◌≡◌, ◌⊎◌, ◌≤◌, ◌<◌, ◌+◌, ◌^◌, length, true, IfOk, IsTrue};
+ghost use Rattle.std.specs.Prelude.{◌≡◌, ◌⊎◌, ◌≤◌, ◌<◌, ◌+◌, ◌^◌, [], length, true, IfOk, IsTrue};
 ghost use Rattle.dtx_values.specs.RecoveryInfo.{is_id};
 ghost use Rattle.coordinator_log.specs.Crash.{with_record};
 ghost use Rattle.coordinator_log.specs.Slots.{open_records};
@@ -40,7 +40,8 @@ fn disk(alloc: Global, fail: &[u64]) -> Result<MemDisk, AllocError>
 
 /// An empty log.
 pub fn empty_log(rt: &impl Abort, alloc: Global) -> Result<Log<MemDisk>, AllocError>
-    ensures { IfOk result (λ l. l.life ≡ 0) }
+    ensures life { IfOk result (λ l. l.life ≡ 0) }
+    ensures empty { IfOk result (λ l. open_records l.slots ≡ []) }
 {
     match Log::format(alloc, disk(alloc, &[])?) {
         Ok(log) => Ok(log),

@@ -1,5 +1,5 @@
 //! The whole of one transaction that is promoted, as text.
-ghost use Rattle.std.specs.Prelude.{◌≡◌, [], None, IsTrue, false};
+ghost use Rattle.std.specs.Prelude.{◌≡◌, [], IsTrue};
 ghost use Rattle.dtx_model.specs.Caused.{MayAnswer};
 ghost use Rattle.dtx_model.specs.Steps.{pending};
 ghost use Rattle.coordinator_log.specs.Slots.{open_records};
@@ -102,7 +102,7 @@ fn enter(rt: &impl Abort, world: &mut TxWorld, log: &Log<MemDisk>, line: u32, c:
     ensures fits { IsTrue log.now.is_up → Fits world.new (open_records log.now.slots) }
 {
     let actor = ActorNo::new(1).expect(rt, "no such client");
-    if !world.may_enter(line, c) {
+    if !world.may_enter(line, c) || !TxWorld::is_entered_yet(c) {
         panic!(rt; "the call of line {line} may not be entered");
     }
     match world.enter(log, actor, line, c, 0) {
@@ -125,7 +125,7 @@ fn settle(rt: &impl Abort, world: &mut TxWorld, log: &mut Log<MemDisk>)
 
 /// A world of the transaction, to which nothing happened yet.
 fn world(rt: &impl Abort, alloc: Global) -> TxWorld
-    ensures { result ≡ record { transaction = result.transaction; world = record { calls = []; past = [] }; ours = None; unsure = false; life = 0 } }
+    ensures { Fits result [] }
 {
     match TxWorld::new(alloc, transaction(rt)) {
         Ok(world) => world,
@@ -135,7 +135,8 @@ fn world(rt: &impl Abort, alloc: Global) -> TxWorld
 
 /// Runs the transaction over an empty log, where its durable votes so.
 fn run(rt: &impl Abort, world: &mut TxWorld, log: &mut Log<MemDisk>, vote: Vote)
-    requires fits { IsTrue log.old.is_up → Fits world.old (open_records log.old.slots) }
+    requires new { Fits world.old [] }
+    requires empty { open_records log.old.slots ≡ [] }
 {
     let t = transaction(rt);
     let e1 = EnlNo::new(1).expect(rt, "no such enlistment");

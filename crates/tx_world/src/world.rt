@@ -86,7 +86,8 @@ impl TxWorld {
     ///
     /// [`WorldError::Memory`] where memory ran out.
     pub fn new(alloc: Global, t: TxNo) -> Result<TxWorld, WorldError>
-        ensures { IfOk result (λ w. w ≡ record { transaction = t; world = record { calls = []; past = [] }; ours = None; unsure = false; life = 0 }) }
+        ensures blank { IfOk result (λ w. w ≡ record { transaction = t; world = record { calls = []; past = [] }; ours = None; unsure = false; life = 0 }) }
+        ensures fits { IfOk result (λ w. Fits w []) }
     {
         Ok(TxWorld {
             transaction: t,
