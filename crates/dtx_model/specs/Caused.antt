@@ -31,7 +31,7 @@ use Rattle.dtx_model.specs.Plans.{manager_of, plan_of}
 use Rattle.dtx_model.specs.Acts.{act_entries}
 use Rattle.dtx_model.specs.Replies.{due_of, fits}
 use Rattle.dtx_model.specs.World.{World, half, core, has_left}
-use Rattle.dtx_model.specs.Steps.{LogAnswer, Full, Step, Calls, Replies, Acts, Coordinates, Delivers, Stops, Restarts, StepName, ReplyOf, LocalAct, CoordinatorAct, Delivery, after, pending}
+use Rattle.dtx_model.specs.Steps.{LogAnswer, Full, Step, Calls, Replies, Acts, Coordinates, Delivers, Stops, Restarts, StepName, ReplyOf, LocalAct, CoordinatorAct, Delivery, after, block_at, pending}
 use Rattle.std.specs.Prelude.{ℕ, ◌≡◌, ◌≤◌, Bool, true, false, ◌||◌, not, List, [], ◌∷◌, Some, is_some, slice_get}
 use Rattle.dtx_values.specs.Row.{is_of}
 use Rattle.dtx_values.specs.Clones.{is_clone}
@@ -76,11 +76,21 @@ IsNamed w LocalAct m = m ≡ Acts
 IsNamed w CoordinatorAct m = (a : LogAnswer) × (may_coordinate (core w) a ≡ true) × (m ≡ Coordinates a)
 IsNamed w (Delivery c d) m = m ≡ Delivers c d
 
+-- the log may stop in the transaction right after a step that sent BEGIN: where it stands stopped, `stopped` follows that step at once
+abbrev pub may_stop_after : Bool → List Entry → Bool
+may_stop_after true block = has is_begin_sent block
+may_stop_after false block = true
+
+abbrev pub stopped_if : Bool → ℕ → World → World
+stopped_if true t w = after t w Stops
+stopped_if false t w = w
+
 -- the world is what so many steps made of the one before, each the k-th that was pending
 abbrev pub HasStepped : ℕ → ℕ → ℕ → World → World → Type 0
 HasStepped t k zero before w = w ≡ before
 HasStepped t k (suc m) before w =
-    (v : World) × HasStepped t k m before v × (n : StepName) × (step : Step) × (kth (pending v) k ≡ Some n) × IsNamed v n step × (w ≡ after t v step)
+    (v : World) × HasStepped t k m before v × (n : StepName) × (step : Step) × (kth (pending v) k ≡ Some n) × IsNamed v n step
+    × (stops : Bool) × (may_stop_after stops (block_at t v step) ≡ true) × (w ≡ stopped_if stops t (after t v step))
 
 -- so many steps were done right before, each the k-th that was pending: at most n, and fewer only where fewer than k are pending now
 pub record HasDone (t : ℕ) (w : World) (k n m : ℕ) : Type 0 where

@@ -187,4 +187,4 @@ steps_run s ks t k (suc m) start T r q =
     let past = q.0 in
     let ih = steps_run s ks t k m start past r q.1 in
     let one = pending_run s ks t k q.2 q.3 past ih.0 q.4 q.5 in
-    (subst (IsRunWith s ks t) (sym q.6) one.0, (world_with ks t past, ih.1, q.2, q.3, one.1, one.2, ap (world_with ks t) q.6 ∙ one.3))
+    (subst (IsRunWith s ks t) (sym q.6) one.0, (world_with ks t past, ih.1, q.2, q.3, one.1, one.2, false, refl, ap (world_with ks t) q.6 ∙ one.3))
