@@ -1,68 +1,125 @@
 -- A replay under way.
-use Rattle.std.specs.Prelude.{ℕ, zero, suc, ◌-◌, ◌<◌, ◌≤◌, ◌≡◌, Bool, true, false, not, List, [], length, Some, slice_get}
+use Rattle.std.specs.Prelude.{ℕ, zero, suc, ◌-◌, ◌<◌, ◌≤◌, ◌≡◌, ◌⊎◌, ⊥, nat_lt, Bool, true, false, List, [], length, filter, None, Some, is_some, IsTrue, slice_index_or}
 use Rattle.dtx_values.specs.declared.entry.Entry.{Entry}
+use Rattle.dtx_values.specs.declared.entry.Entry.TheVariants.{Restarted, Stopped}
+use Rattle.dtx_values.specs.declared.number.ActorNo.{ActorNo}
 use Rattle.dtx_values.specs.declared.number.TxNo.{TxNo}
 use Rattle.dtx_values.specs.declared.number.TheConstants.TxNo.{MAX}
+use Rattle.dtx_values.specs.declared.call.Call.{Call}
 use Rattle.dtx_values.specs.declared.script.Line.{Line}
-use Rattle.dtx_values.specs.declared.trace.Place.TheVariants.{Context, Log, Transaction}
-use Rattle.dtx_values.specs.Row.{is_of}
+use Rattle.outside.specs.Faults.{Rose}
 use Rattle.dtx_model.specs.Words.{always, each, has, kth, past_of}
-use Rattle.dtx_model.specs.Grammar.{are_named_well}
-use Rattle.dtx_model.specs.Observed.{rows}
-use Rattle.dtx_model.specs.Plans.{plan_of}
-use Rattle.dtx_model.specs.World.{half}
-use Rattle.dtx_model.specs.Steps.{Step, Replies, Acts, StepName, pending}
-use Rattle.dtx_model.specs.Caused.{IsNamed, Settled, entered_in, is_as_planned, is_promoting_entry, plans_of}
+use Rattle.dtx_model.specs.Log.{is_record_of}
+use Rattle.dtx_model.specs.Promotes.{identifier_of}
+use Rattle.dtx_model.specs.Coordinated.{is_recorded}
+use Rattle.dtx_model.specs.World.{core}
+use Rattle.dtx_model.specs.Steps.{Step, Calls, Coordinates, Stops, Restarts, LogAnswer, StoppedBefore, StoppedNow, StepName, pending}
+use Rattle.dtx_model.specs.Caused.{IsCallOf, IsIn, IsNamed, Settled, is_as_planned, is_begin_sent, plans_of}
 use Rattle.dtx_model.specs.Traces.{Placed, history}
 use Rattle.dtx_model.specs.Replay.{HasSettled, RoundsRan, after_turn, last_turn, world_at}
 use Rattle.dtx_model.specs.History.{nobody}
-use Rattle.dtx_model.proofs.Unpromoted.{is_local}
-use Rattle.local_half.specs.Half.{Known}
+use Rattle.coordinator_log.specs.Slots.{open_records}
+use Rattle.coordinator_log.specs.State.{LogState}
+use Rattle.outcome_law.specs.LogQuiet.{is_log_quiet}
 use Rattle.scope_context.specs.Standing.{Standing}
+use Rattle.tx_world.specs.AtLog.{Fits}
+use Rattle.tx_world.specs.State.{TxState}
 
--- its script, the contexts of its actors, and its trace
+-- its script, the transactions by number up to the last that was called, the contexts of its actors, and its trace
 pub record RunState : Type 0 where
   pub script : List Line
+  pub worlds : List TxState
   pub contexts : List Standing
   pub trace : List Placed
 
--- what the half of transaction t knows, where it knows what its history in this trace shows; the trace is read newest first
-abbrev pub known_of : List Line → TxNo → List Placed → Known
-known_of s t T = record { transaction = t; half = half (world_at s t T) }
+-- a transaction to which nothing came yet
+abbrev pub untouched : TxNo → TxState
+untouched t = record { transaction = t; world = record { calls = []; past = [] }; ours = None; unsure = false; life = 0 }
 
--- what a run writes while nothing is promoted: nothing at the log, and at a transaction what steps make then
-abbrev pub is_plain : Placed → Bool
-is_plain (Transaction t, x) = is_local x
-is_plain (Context a, x) = not (is_promoting_entry x)
-is_plain (Log, x) = false
+-- the transaction of this number, of these
+abbrev pub state_of : TxNo → List TxState → TxState
+state_of t ws = slice_index_or ws (t.value - 1) (untouched t)
 
-abbrev pub are_plain : List Placed → Bool
-are_plain T = each is_plain T
+-- each has its own number, and there are no more than a script can name
+pub record AreNumbered (ws : List TxState) : Type 0 where
+  pub few : length ws ≤ MAX
+  pub numbered : (t : TxNo) → (state_of t ws).transaction ≡ t
 
--- the calls of the history plan for each enlistment that stands what the script does
-abbrev pub HavePlans : List Line → List Entry → Type 0
-HavePlans s h = (e : ℕ) → has (is_of e) (rows h) ≡ true → plan_of (entered_in s h) e ≡ plans_of s e
+-- nothing stands at the log in the trace: no fault stopped it
+abbrev pub IsQuiet : RunState → Type 0
+IsQuiet r = is_log_quiet (past_of r.trace) ≡ true
 
 -- each reply in the history is the planned one
 abbrev pub IsToPlan : List Line → List Entry → Type 0
 IsToPlan s h = always (is_as_planned (plans_of s) nobody) h ≡ true
 
--- each half, in order of the transactions' numbers, knows what its transaction's history in the trace shows; of one that has no half nothing is shown. The
--- trace has nothing of a promotion, and its replies are as planned.
-pub record AreTied (s : List Line) (halves : List Known) (trace : List Placed) : Type 0 where
-  pub few : length halves ≤ MAX
-  pub ties : (t : TxNo) → t.value ≤ length halves → slice_get halves (t.value - 1) ≡ Some (known_of s t (past_of trace))
-  pub blank : (t : TxNo) → length halves < t.value → history t.value (past_of trace) ≡ []
-  pub named : are_named_well s ≡ true
-  pub plain : are_plain (past_of trace) ≡ true
-  pub plans : (t : TxNo) → HavePlans s (history t.value (past_of trace))
-  pub planned : (t : TxNo) → IsToPlan s (history t.value (past_of trace))
+-- what only a stop of the log brings to a transaction
+abbrev pub is_of_stop : Entry → Bool
+is_of_stop Stopped = true
+is_of_stop (Restarted found) = true
+is_of_stop _ = false
 
--- a step of the local side: a reply or the act
-abbrev pub is_own_step : Step → Bool
-is_own_step (Replies e r) = true
-is_own_step Acts = true
-is_own_step _ = false
+-- A transaction is that of its history in the trace T, newest first: each call that was entered is one that the script gives it.
+pub record IsTied (s : List Line) (t : TxNo) (T : List Placed) (x : TxState) : Type 0 where
+  pub past : x.world.past ≡ history t.value T
+  pub given : (n : ℕ) (a : ActorNo) (c : Call) → IsIn x.world.calls n a c → IsCallOf s t.value n a c
+
+-- As long as no fault stopped the log: its replies are as planned, no stop came to it, from BEGIN on it lives in this life of the log, and it keeps a record where its
+-- coordinator has one.
+pub record IsCalm (s : List Line) (life : ℕ) (x : TxState) : Type 0 where
+  pub planned : IsToPlan s x.world.past
+  pub unstopped : has is_of_stop x.world.past ≡ false
+  pub life : has is_begin_sent x.world.past ≡ true → x.life ≡ life
+  pub sure : x.unsure ≡ false
+  pub recorded : is_some x.ours ≡ is_recorded (core x.world).stage
+
+-- What holds of a run over a log: each transaction is tied to its history in the trace; no stop is armed at the log; where the log is up and honest its records fit
+-- each transaction; and as long as no fault stopped the log it is up, and each transaction is calm.
+pub record Holds {D : Type 0} (honest : Bool) (log : LogState D) (r : RunState) : Type 0 where
+  pub tied : (t : TxNo) → IsTied r.script t (past_of r.trace) (state_of t r.worlds)
+  pub unarmed : log.armed ≡ None
+  pub fits : IsTrue honest → IsTrue log.is_up → (t : TxNo) → Fits (state_of t r.worlds) (open_records log.slots)
+  pub up : IsQuiet r → IsTrue log.is_up
+  pub calm : IsQuiet r → (t : TxNo) → IsCalm r.script log.life (state_of t r.worlds)
+
+-- the records that are no transaction's are the same
+abbrev pub AreOthersKept : {D : Type 0} → LogState D → LogState D → Type 0
+AreOthersKept from to = (id : ℕ) → ((t : TxNo) → identifier_of t.value ≡ id → ⊥) → filter (is_record_of id) (open_records to.slots) ≡ filter (is_record_of id) (open_records from.slots)
+
+-- How a log goes on under a run: the count of faults never falls; a log that is up, on which no stop is armed, is stopped by a fault alone, and none is armed; and the
+-- records of others stay, where the log is honest and up.
+pub record LogGoes {D : Type 0} (faults : D → ℕ) (honest : Bool) (from to : LogState D) : Type 0 where
+  pub grows : faults from.disk ≤ faults to.disk
+  pub stays : IsTrue from.is_up → from.armed ≡ None → IsTrue to.is_up ⊎ Rose (faults from.disk) (faults to.disk)
+  pub still : IsTrue to.is_up → IsTrue from.is_up
+  pub unarmed : from.armed ≡ None → to.armed ≡ None
+  pub others : IsTrue honest → IsTrue to.is_up → AreOthersKept from to
+
+-- What each part of a run does: the script stays, and a stop of the log stands in the trace only where a fault came.
+pub record Runs {D : Type 0} (faults : D → ℕ) (from to : LogState D) (old new : RunState) : Type 0 where
+  pub script : new.script ≡ old.script
+  pub back : IsQuiet new → IsQuiet old
+  pub forth : IsQuiet old → IsQuiet new ⊎ Rose (faults from.disk) (faults to.disk)
+
+-- each call that was entered is one of a line before this one
+abbrev pub IsBelow : ℕ → TxState → Type 0
+IsBelow n x = each (λ k. nat_lt k.line n) x.world.calls ≡ true
+
+abbrev pub AreBelow : ℕ → List TxState → Type 0
+AreBelow n ws = (t : TxNo) → IsBelow n (state_of t ws)
+
+-- no call was entered
+abbrev pub HaveSameCalls : List TxState → List TxState → Type 0
+HaveSameCalls old new = (t : TxNo) → (state_of t new).world.calls ≡ (state_of t old).world.calls
+
+-- a step that a name has, at which the log isn't stopped
+abbrev pub is_calm_step : Step → Bool
+is_calm_step (Calls n a c m) = false
+is_calm_step (Coordinates StoppedNow) = false
+is_calm_step (Coordinates StoppedBefore) = false
+is_calm_step Stops = false
+is_calm_step (Restarts found) = false
+is_calm_step _ = true
 
 -- the k-th pending step of t was done
 pub record Advances (s : List Line) (t : TxNo) (k : ℕ) (old new : List Placed) : Type 0 where
@@ -70,18 +127,18 @@ pub record Advances (s : List Line) (t : TxNo) (k : ℕ) (old new : List Placed)
   pub step : Step
   pub stands : kth (pending (world_at s t (past_of old))) k ≡ Some name
   pub named : IsNamed (world_at s t (past_of old)) name step
-  pub own : is_own_step step ≡ true
+  pub calm : is_calm_step step ≡ true
   pub done : past_of new ≡ after_turn s t step (past_of old)
 
--- so many steps of t were done, each the k-th that was pending, and each of the local side; the traces are read newest first
-abbrev pub OwnSteps : List Line → TxNo → ℕ → ℕ → List Placed → List Placed → Type 0
-OwnSteps s t k zero start T = T ≡ start
-OwnSteps s t k (suc m) start T =
-    (past : List Placed) × OwnSteps s t k m start past × (n : StepName) × (step : Step) × (kth (pending (world_at s t past)) k ≡ Some n) × IsNamed (world_at s t past) n step
-    × (is_own_step step ≡ true) × (T ≡ after_turn s t step past)
+-- so many steps of t were done, each the k-th that was pending, and the log wasn't stopped; the traces are read newest first
+abbrev pub CalmSteps : List Line → TxNo → ℕ → ℕ → List Placed → List Placed → Type 0
+CalmSteps s t k zero start T = T ≡ start
+CalmSteps s t k (suc m) start T =
+    (past : List Placed) × CalmSteps s t k m start past × (n : StepName) × (step : Step) × (kth (pending (world_at s t past)) k ≡ Some n) × IsNamed (world_at s t past) n step
+    × (is_calm_step step ≡ true) × (T ≡ after_turn s t step past)
 
 abbrev pub StepsDone : List Line → TxNo → ℕ → ℕ → List Placed → List Placed → Type 0
-StepsDone s t k m old new = OwnSteps s t k m (past_of old) (past_of new)
+StepsDone s t k m old new = CalmSteps s t k m (past_of old) (past_of new)
 
 -- the first pending step of t was done until none was left
 pub record Settles (s : List Line) (t : TxNo) (old new : List Placed) : Type 0 where

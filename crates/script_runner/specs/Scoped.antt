@@ -62,6 +62,10 @@ abbrev pub IsUnopened : Body → List OpenScope → Type 0
 IsUnopened (Open s o) xs = has (is_scope s.value) xs ≡ false
 IsUnopened _ xs = Unit {0}
 
+-- each stands once
+abbrev pub AreOnce : List TxNo → Type 0
+AreOnce ts = once [] ts ≡ ts
+
 -- a rollback of each of these transactions
 abbrev pub rollbacks : List TxNo → List (TxNo × Call)
 rollbacks ts = map (λ t. (t, RollbackCall t)) ts

@@ -1,10 +1,8 @@
 //! Runs scripts: the top call of the program.
 #![tactic(auto)]
 
-mod calls;
 mod contexts;
 mod exit;
-mod pending;
 mod plans;
 mod program;
 mod replay;

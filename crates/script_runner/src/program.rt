@@ -1,5 +1,5 @@
 //! The top call.
-ghost use Rattle.std.specs.Prelude.{◌≡◌, ◌≢◌, ◌⊎◌, ◌↔◌, ◌≤◌, ◌+◌, ◌-◌, ℕ, List, [], Ok, Some, drop, map, true, IfErr, IfOk, IsTrue};
+ghost use Rattle.std.specs.Prelude.{◌≡◌, ◌≢◌, ◌⊎◌, ◌↔◌, ◌≤◌, ◌+◌, ◌-◌, ⊥, ℕ, List, [], None, Ok, Some, drop, map, true, IfErr, IfOk, IsTrue};
 ghost use Rattle.std.specs.Option.{ForSome};
 ghost use Rattle.std.specs.String.{string_bytes};
 ghost use Rattle.outside.specs.Faults.{Rose};
@@ -7,17 +7,18 @@ ghost use Rattle.dtx_values.specs.declared.limits.TheConstants.{SCRIPT_BYTES};
 ghost use Rattle.dtx_values.specs.declared.script.BadCause.{BadCause};
 ghost use Rattle.script_runner.specs.Built.{IsNotYet, are_run};
 ghost use Rattle.dtx_model.specs.Grammar.{IsScript, Reads};
-ghost use Rattle.dtx_model.specs.Log.{log_has};
 ghost use Rattle.dtx_model.specs.Traces.{Placed};
 ghost use Rattle.dtx_model.specs.TraceText.{trace_text};
 ghost use Rattle.dtx_model.specs.Words.{each};
 ghost use Rattle.dtx_values.specs.declared.message.Info.{Info};
 ghost use Rattle.trace_text.specs.OneTrace.{is_carried_at, is_typed_at, named_at, told_at};
-ghost use Rattle.coordinator_log.specs.Crash.{AllHold};
+ghost use Rattle.coordinator_log.specs.Slots.{open_records};
 ghost use Rattle.coordinator_log.specs.declared.layout.TheConstants.{LOG_BYTES};
 ghost use Rattle.dtx_model.specs.Faults.{Bad};
 ghost use Rattle.script_runner.specs.Program.{AreWords, IsCutShort, IsWritten};
+ghost use Rattle.script_runner.specs.Ending.{HasNone, IsLog};
 ghost use Rattle.script_runner.specs.Judged.{IsJudged};
+ghost use Rattle.script_runner.specs.RunState.{LogGoes};
 ghost use Rattle.script_runner.specs.Refusal.{HasNoReplay, IsReplayText};
 
 use crate::exit::Exit;
@@ -64,7 +65,7 @@ fn script_to_run(alloc: Global, bytes: &[u8]) -> Result<Script, Refusal>
     }
 }
 
-/// The text of the replay of a script, over a log without records.
+/// The text of the replay of a script, over a log that is up, without a stop that is armed, and without records of the script's transactions.
 fn replayed<D: Disk>(
     alloc: Global,
     script: &Script,
@@ -72,8 +73,11 @@ fn replayed<D: Disk>(
 ) -> Result<Vec<u8>, AllocError>
     requires script { IsScript script.now }
     requires run { are_run script.now ≡ true }
-    ensures text { IfOk result (λ text. IsReplayText script.now 0 D.honest text.items) }
-    ensures log { log.new ≡ log.old }
+    requires up { IsTrue log.old.is_up }
+    requires unarmed { log.old.armed ≡ None }
+    requires none { IsTrue D.honest → HasNone (open_records log.old.slots) }
+    ensures text { (Rose (D.faults log.old.disk) (D.faults log.new.disk) → ⊥) → IfOk result (λ text. IsReplayText script.now (D.faults log.new.disk - D.faults log.old.disk) D.honest (open_records log.old.slots) (open_records log.new.slots) text.items) }
+    ensures log { LogGoes D.faults D.honest log.old log.new }
 {
     let trace = run_replay(alloc, script, log)?;
     print_trace(alloc, &trace)
@@ -91,7 +95,9 @@ enum FormatStop {
 /// Makes the disk an empty log, or hands it back.
 fn formatted<D: Disk>(alloc: Global, disk: D) -> Result<Log<D>, (FormatStop, D)>
     requires { LOG_BYTES ≤ D.size disk }
-    ensures images { IsTrue D.honest → IfOk result (λ log. AllHold (D.image log.disk) []) }
+    ensures up { IfOk result (λ log. IsTrue log.is_up) }
+    ensures unarmed { IfOk result (λ log. log.armed ≡ None) }
+    ensures empty { IfOk result (λ log. open_records log.slots ≡ []) }
     ensures smooth { IfOk result (λ log. D.faults log.disk ≡ D.faults disk) }
     ensures fault { IfErr result (λ e. e.0 ≡ FormatStop.Fault → Rose (D.faults disk) (D.faults e.1)) }
     ensures memory { IfErr result (λ e. e.0 ≡ FormatStop.Memory → e.1 ≡ disk) }
@@ -108,7 +114,8 @@ fn formatted<D: Disk>(alloc: Global, disk: D) -> Result<Log<D>, (FormatStop, D)>
 /// form to the sink. It hands the disk back, which has at least [`LOG_BYTES`](crate::LOG_BYTES) bytes: [`Disk::len`] tells whether it has.
 ///
 /// The source is read to its end, or one byte past the longest script, before anything is judged. The disk is touched only where the script is run, and the sink only where
-/// the log was formatted. A fault is answered as the fault that it is: with each other answer the counts of faults are as they were.
+/// the log was formatted. A fault is answered as the fault that it is, but for one of the disk after the log
+/// was formatted: that stops the log, which the trace says.
 pub fn run_program<S: Source, K: Sink, D: Disk>(
     alloc: Global,
     words: &[String],
@@ -118,9 +125,9 @@ pub fn run_program<S: Source, K: Sink, D: Disk>(
 ) -> (Exit, D)
     requires { LOG_BYTES ≤ D.size disk }
 
-    // The headline. At the end the log has no record, in what a read gives and in each image that a crash can leave.
-    ensures headline { result.0 ≡ Exit.Fine → IsWritten (D.faults result.1 - D.faults disk) D.honest (S.left source.old) (K.written sink.old) (K.written sink.new) }
-    ensures log { IsTrue D.honest → (result.0 ≡ Exit.Fine) ⊎ (result.0 ≡ Exit.WriteFault) → (c : List ℕ) → D.image result.1 c → log_has c ≡ Ok [] }
+    // The headline, where the disk met no fault; the log at the end is in it, in each image that a crash can leave. A fault after the log was formatted stops the log, and
+    // is no answer of its own.
+    ensures headline { result.0 ≡ Exit.Fine → (Rose (D.faults disk) (D.faults result.1) → ⊥) → IsWritten (D.faults result.1 - D.faults disk) D.honest (D.image result.1) (S.left source.old) (K.written sink.old) (K.written sink.new) }
     ensures read { result.0 ≡ Exit.Fine → ForSome (S.left source.old) (λ b. S.left source.new ≡ Some []) }
 
     // Usage comes exactly by the words, and then nothing is read.
@@ -140,15 +147,15 @@ pub fn run_program<S: Source, K: Sink, D: Disk>(
     ensures log_fault { result.0 ≡ Exit.LogFault → Rose (D.faults disk) (D.faults result.1) }
     ensures write_fault { result.0 ≡ Exit.WriteFault → Rose (K.faults sink.old) (K.faults sink.new) }
     ensures read_smooth { result.0 ≢ Exit.ReadFault → S.faults source.new ≡ S.faults source.old }
-    ensures log_smooth { result.0 ≢ Exit.LogFault → D.faults result.1 ≡ D.faults disk }
+    ensures log_grows { D.faults disk ≤ D.faults result.1 }
     ensures write_smooth { result.0 ≢ Exit.WriteFault → K.faults sink.new ≡ K.faults sink.old }
 
     // What was written: the whole text with Fine, above; else a part of it, or nothing. The disk is touched only where the script is run.
-    ensures cut_short { result.0 ≡ Exit.WriteFault → IsCutShort (D.faults result.1 - D.faults disk) D.honest (S.left source.old) (K.written sink.old) (K.written sink.new) }
-    ensures memory { result.0 ≡ Exit.Memory → (sink.new ≡ sink.old) ⊎ IsCutShort (D.faults result.1 - D.faults disk) D.honest (S.left source.old) (K.written sink.old) (K.written sink.new) }
+    ensures cut_short { result.0 ≡ Exit.WriteFault → (Rose (D.faults disk) (D.faults result.1) → ⊥) → IsCutShort (D.faults result.1 - D.faults disk) D.honest (D.image result.1) (S.left source.old) (K.written sink.old) (K.written sink.new) }
+    ensures memory { result.0 ≡ Exit.Memory → (Rose (D.faults disk) (D.faults result.1) → ⊥) → (sink.new ≡ sink.old) ⊎ IsCutShort (D.faults result.1 - D.faults disk) D.honest (D.image result.1) (S.left source.old) (K.written sink.old) (K.written sink.new) }
     ensures unwritten { (result.0 ≡ Exit.Usage) ⊎ ((result.0 ≡ Exit.ReadFault) ⊎ ((result.0 ≡ Exit.LogFault) ⊎ IsJudged result.0)) → sink.new ≡ sink.old }
     ensures room { LOG_BYTES ≤ D.size result.1 }
-    ensures given_up { IsTrue D.honest → result.0 ≡ Exit.Memory → (result.1 ≡ disk) ⊎ AllHold (D.image result.1) [] }
+    ensures given_up { IsTrue D.honest → result.0 ≡ Exit.Memory → (Rose (D.faults disk) (D.faults result.1) → ⊥) → (result.1 ≡ disk) ⊎ IsLog (D.image result.1) }
     ensures untouched { (result.0 ≡ Exit.Usage) ⊎ ((result.0 ≡ Exit.ReadFault) ⊎ IsJudged result.0) → result.1 ≡ disk }
 {
     // This does nothing when it runs. It brings in that bytes are one script or have one first bad line, and never both, so that the answer which

@@ -1,74 +1,76 @@
 //! A replay: the lines in order, and then the rounds at the end.
-ghost use Rattle.std.specs.Prelude.{◌≡◌, ◌≤◌, ◌<◌, ◌+◌, ◌-◌, List, [], ◌∷◌, ◌++◌, IfOk, OnErr, OnOk, None, Ok, Some, true, false, length, map, replicate, vec_len, vec_capacity};
+ghost use Rattle.std.specs.Prelude.{ℕ, ◌≡◌, ◌⊎◌, ◌≢◌, ◌≤◌, ◌<◌, ◌+◌, ◌-◌, List, [], ◌∷◌, ◌++◌, IfOk, OnErr, OnOk, IsTrue, None, Ok, Some, true, false, ⊥, length, map, replicate, slice_get, suc, vec_len, vec_capacity};
 ghost use Rattle.dtx_values.specs.declared.call.Call.{Call};
+ghost use Rattle.dtx_values.specs.declared.entry.Entry.{Entry};
 ghost use Rattle.dtx_values.specs.declared.number.ActorNo.{ActorNo};
 ghost use Rattle.dtx_values.specs.declared.number.TxNo.{TxNo};
 ghost use Rattle.dtx_values.specs.declared.script.Line.{Line};
-ghost use Rattle.dtx_model.specs.Words.{kth, onto, past_of};
+ghost use Rattle.outside.specs.Faults.{Rose};
+ghost use Rattle.dtx_model.specs.Words.{has, kth, onto, past_of};
 ghost use Rattle.dtx_model.specs.Calls.{call_of};
-ghost use Rattle.dtx_model.specs.Observed.{observe};
+ghost use Rattle.dtx_model.specs.World.{World};
 ghost use Rattle.dtx_model.specs.Steps.{Calls, pending};
-ghost use Rattle.dtx_model.specs.Caused.{Settled};
-ghost use Rattle.dtx_model.specs.Contexts.{scope_block, scope_calls};
-ghost use Rattle.dtx_model.specs.Traces.{Placed, history, noted};
-ghost use Rattle.dtx_model.specs.Replay.{CallRan, HasDoneAt, IsReplayed, LinesRan, after_calls, after_scope, after_turn, world_at};
+ghost use Rattle.dtx_model.specs.Caused.{HasDone, HasStepped, IsCallOf, MayAnswer, Settled};
+ghost use Rattle.dtx_model.specs.Contexts.{calls_by, lines_before, scope_block, scope_calls};
+ghost use Rattle.dtx_model.specs.Traces.{Placed, history, noted, placed};
+ghost use Rattle.dtx_model.specs.Replay.{CallRan, HasDoneAt, IsReplayed, LinesRan, after_calls, after_scope, after_turn};
 ghost use Rattle.dtx_model.specs.History.{HasOneOutcome, IsComplete, IsHistory, IsReplay};
 ghost use Rattle.dtx_model.specs.Grammar.{IsScript, are_named_well};
+ghost use Rattle.outcome_law.specs.LogQuiet.{is_log_quiet};
 ghost use Rattle.script_runner.specs.Built.{are_run};
-ghost use Rattle.script_runner.specs.Calling.{IsGiven, IsReady, own_call};
-ghost use Rattle.script_runner.specs.Remaining.{steps_left};
-ghost use Rattle.script_runner.specs.RunState.{Advances, AreTied, IsSettledBelow, IsToPlan, Settles, are_plain};
-ghost use Rattle.script_runner.specs.Scoped.{AreOpen, IsUnopened, calls_given, nothing_open, rollbacks, rolled_at, scopes_at};
+ghost use Rattle.script_runner.specs.Ending.{AreRecorded, HasNone};
+ghost use Rattle.script_runner.specs.RunState.{Advances, AreBelow, HaveSameCalls, Holds, IsBelow, IsQuiet, IsSettledBelow, IsTied, IsToPlan, LogGoes, Runs, Settles, is_of_stop, state_of};
+ghost use Rattle.script_runner.specs.Scoped.{AreOnce, AreOpen, IsUnopened, calls_given, nothing_open, rollbacks, rolled_at, scopes_at};
+ghost use Rattle.tx_world.specs.Entering.{is_entered_yet};
+ghost use Rattle.tx_world.specs.Left.{steps_left};
 
-use crate::calls::call;
 use crate::contexts::{Gives, act, contexts};
-use crate::pending::step;
 use crate::plans::Plans;
 use coordinator_log::Log;
-use dtx_values::{ActorNo, Body, Call, Entry, Line, Outbox, Place, ROOM, Script, Trace, TxNo};
-use local_half::LocalHalf;
-use outcome_law::{completeness, crossings, one_outcome, replay};
+use dtx_values::{ActorNo, Body, Call, Entry, Line, Place, Script, Trace, TxNo};
+use outcome_law::{completeness, crossings, lifting, one_outcome, replay};
 use outside::Disk;
 use scope_context::Context;
 use std::alloc::{AllocError, Global};
 use std::marker::Model;
+use tx_world::{TxWorld, WorldError};
 
-/// A replay under way: its script's plans, its transactions and its actors' contexts by number, and its trace. Contracts see the script,
-/// the contexts and the trace.
+/// A replay under way: its script's names, its transactions and its actors' contexts by number, and its trace. Contracts see the script,
+/// the transactions, the contexts and the trace.
 #[derive(Drop)]
 pub struct Run<'a> {
     alloc: Global,
     plans: Plans<'a>,
     /// The transactions by number, up to the last that was called.
-    halves: Vec<LocalHalf>,
+    worlds: Vec<TxWorld>,
     contexts: Vec<Context>,
-    /// The entries of the step under way at a transaction.
-    out: Outbox,
     /// The entries of the line under way at a context, after its call.
     entries: Vec<Entry>,
     trace: Vec<(Place, Entry)>,
 }
 
 impl<'a> Model for Run<'a> {
-    ghost use Rattle.std.specs.Prelude.{◌≡◌, length};
+    ghost use Rattle.std.specs.Prelude.{◌≡◌, length, true};
     ghost use Rattle.dtx_values.specs.declared.number.TheConstants.ActorNo.{MAX};
-    ghost use Rattle.script_runner.specs.RunState.{AreTied, RunState};
+    ghost use Rattle.dtx_model.specs.Grammar.{are_named_well};
+    ghost use Rattle.script_runner.specs.RunState.{AreNumbered, RunState};
 
     ghost Value = { RunState };
 
-    ghost view = { λ r. record { script = r.plans; contexts = r.contexts.items; trace = r.trace.items } };
+    ghost view = { λ r. record { script = r.plans; worlds = r.worlds.items; contexts = r.contexts.items; trace = r.trace.items } };
 
-    ghost invariant = { λ r. AreTied r.plans r.halves.items r.trace.items × (length r.contexts.items ≡ MAX) };
+    ghost invariant = { λ r. AreNumbered r.worlds.items × (length r.contexts.items ≡ MAX) × (are_named_well r.plans ≡ true) };
 }
 
-/// Makes the halves that aren't there yet, up to the transaction's.
-fn reach(alloc: Global, halves: &mut Vec<LocalHalf>, t: TxNo) -> Result<(), AllocError>
-    ensures tied { (s : List Line) (T : List Placed) → AreTied s halves.old.items T → AreTied s halves.new.items T }
-    ensures reached { OnOk result (t.value ≤ length halves.new.items) }
+/// Makes the transactions that aren't there yet, up to this one.
+fn reach(alloc: Global, worlds: &mut Vec<TxWorld>, t: TxNo) -> Result<(), WorldError>
+    ensures same { (u : TxNo) → state_of u worlds.new.items ≡ state_of u worlds.old.items }
+    ensures few { length worlds.old.items ≤ TxNo.MAX → length worlds.new.items ≤ TxNo.MAX }
+    ensures reached { OnOk result (t.value ≤ length worlds.new.items) }
 {
-    for number in halves.len()..t.index() + 1 {
+    for number in worlds.len()..t.index() + 1 {
         let next = TxNo::new(number as u32 + 1).unwrap();
-        halves.push(LocalHalf::new(alloc, next)?)?;
+        worlds.push(TxWorld::new(alloc, next)?)?;
     }
     Ok(())
 }
@@ -83,89 +85,147 @@ fn append(trace: &mut Vec<(Place, Entry)>, place: Place, entries: &[Entry])
     }
 }
 
+/// Puts at the end of the trace what was written to a transaction's history from this place on.
+fn note(
+    trace: &mut Vec<(Place, Entry)>,
+    t: TxNo,
+    world: &TxWorld,
+    from: usize,
+) -> Result<(), AllocError>
+    requires { from ≤ length world.now.world.past }
+    ensures { OnOk result ((past es : List Entry) → length past ≡ from → world.now.world.past ≡ onto past es → trace.new.items ≡ trace.old.items ++ placed t es) }
+{
+    let entries = &world.history()[from..];
+    trace.reserve(entries.len())?;
+    append(trace, Place::Transaction(t), entries);
+    Ok(())
+}
+
 impl<'a> Run<'a> {
     /// A replay of these lines, before its first step.
     pub fn new(alloc: Global, lines: &'a [Line]) -> Result<Self, AllocError>
         requires { are_named_well lines.now ≡ true }
-        ensures { IfOk result (λ r. r ≡ record { script = lines.entry.now; contexts = replicate ActorNo.MAX nothing_open; trace = [] }) }
+        ensures { IfOk result (λ r. r ≡ record { script = lines.entry.now; worlds = []; contexts = replicate ActorNo.MAX nothing_open; trace = [] }) }
     {
         Ok(Run {
             alloc,
             plans: Plans::new(alloc, lines)?,
-            halves: Vec::new(alloc),
+            worlds: Vec::new(alloc),
             contexts: contexts(alloc)?,
-            out: Outbox::with_room(alloc)?,
             entries: Vec::new(alloc),
             trace: Vec::new(alloc),
         })
     }
 
-    /// What holds of each run: nothing in its trace is of a promotion or stands at the log, and its replies are as planned. It does nothing
-    /// when it runs; a caller's proof asks for it.
-    fn is_plain(&self)
-        ensures plain { are_plain (past_of self.now.trace) ≡ true }
-        ensures planned { (t : TxNo) → IsToPlan self.now.script (history t.value (past_of self.now.trace)) }
-    {
-        // A proof sees the invariant of a run that it reads.
-        let _ = &self.trace;
-    }
-
     /// Does the call that line n gives transaction t, for which so many steps were done.
-    fn call(
+    fn call<D: Disk>(
         &mut self,
+        log: &Log<D>,
         n: u32,
         actor: ActorNo,
         t: TxNo,
         c: &Call,
         done: u16,
-    ) -> Result<(), AllocError>
-        requires ready { IsReady (observe (history t.value (past_of self.old.trace))) c.now }
-        requires given { IsGiven (own_call self.old.script n) c.now }
+    ) -> Result<(), WorldError>
+        requires holds { Holds D.honest log.now self.old }
+        requires given { IsCallOf self.old.script t.value n actor c.now }
+        requires below { IsBelow n (state_of t self.old.worlds) }
+        requires answers { MayAnswer t.value (state_of t self.old.worlds).world c.now done }
+        requires entered { is_entered_yet c.now ≡ true }
+        ensures contexts { self.new.contexts ≡ self.old.contexts }
+        ensures runs { OnOk result (Runs D.faults log.now log.now self.old self.new) }
+        ensures holds { OnOk result (Holds D.honest log.now self.new) }
+        ensures others { (u : TxNo) → u ≢ t → state_of u self.new.worlds ≡ state_of u self.old.worlds }
+        ensures entered { OnOk result (IsBelow (n + 1) (state_of t self.new.worlds)) }
+        ensures done { OnOk result (IsQuiet self.new → past_of self.new.trace ≡ after_turn self.old.script t (Calls n actor c.now done) (past_of self.old.trace)) }
+    {
+        // What a script's lines make is made once, so that the call may be entered.
+        lifting();
+        reach(self.alloc, &mut self.worlds, t)?;
+        let world = &mut self.worlds[t.index()];
+        world.is_own_run();
+        let from = world.history().len();
+        let _ = world.enter(log, actor, n, c, done)?;
+        note(&mut self.trace, t, world, from)?;
+        Ok(())
+    }
+
+    /// Tells each other transaction, by number, that the log was stopped, and writes what that brings.
+    fn stop_others(&mut self, t: TxNo, life: u64) -> Result<(), WorldError>
         ensures script { self.new.script ≡ self.old.script }
         ensures contexts { self.new.contexts ≡ self.old.contexts }
-        ensures done { OnOk result (past_of self.new.trace ≡ after_turn self.old.script t (Calls n actor c.now done) (past_of self.old.trace)) }
-        ensures memory { OnErr result (self.new ≡ self.old) }
+        ensures calls { HaveSameCalls self.old.worlds self.new.worlds }
+        ensures here { state_of t self.new.worlds ≡ state_of t self.old.worlds }
+        ensures tied { OnOk result (((u : TxNo) → IsTied self.old.script u (past_of self.old.trace) (state_of u self.old.worlds)) → (u : TxNo) → IsTied self.old.script u (past_of self.new.trace) (state_of u self.new.worlds)) }
+        ensures loud { (IsQuiet self.old → ⊥) → IsQuiet self.new → ⊥ }
     {
-        reach(self.alloc, &mut self.halves, t)?;
-        self.trace.reserve(ROOM)?;
-        self.out.clear();
-        let half = &mut self.halves[t.index()];
-        call(half, actor, n, c, done, &mut self.out);
-        append(&mut self.trace, Place::Transaction(t), self.out.entries());
+        for place in 0..self.worlds.len() {
+            if place == t.index() {
+                continue;
+            }
+            let u = TxNo::new(place as u32 + 1).unwrap();
+            let world = &mut self.worlds[place];
+            let from = world.history().len();
+            world.coordinator_stopped(life)?;
+            note(&mut self.trace, u, world, from)?;
+        }
         Ok(())
     }
 
     /// Does the k-th pending step of transaction t; false where fewer than k are pending.
-    fn step(&mut self, t: TxNo, k: u8) -> Result<bool, AllocError>
-        ensures script { self.new.script ≡ self.old.script }
+    fn step<D: Disk>(&mut self, log: &mut Log<D>, t: TxNo, k: u8) -> Result<bool, WorldError>
+        requires holds { Holds D.honest log.old self.old }
         ensures contexts { self.new.contexts ≡ self.old.contexts }
-        ensures some { result ≡ Ok true → Advances self.old.script t k self.old.trace self.new.trace }
-        ensures nearer { result ≡ Ok true → steps_left (observe (history t.value (past_of self.new.trace))) < steps_left (observe (history t.value (past_of self.old.trace))) }
-        ensures none { result ≡ Ok false → kth (pending (world_at self.old.script t (past_of self.old.trace))) k ≡ None }
-        ensures unchanged { result ≡ Ok false → self.new ≡ self.old }
-        ensures memory { OnErr result (self.new ≡ self.old) }
+        ensures log { LogGoes D.faults D.honest log.old log.new }
+        ensures runs { OnOk result (Runs D.faults log.old log.new self.old self.new) }
+        ensures holds { OnOk result (Holds D.honest log.new self.new) }
+        ensures calls { HaveSameCalls self.old.worlds self.new.worlds }
+        ensures stepped { result ≡ Ok true → (m : ℕ) (start : World) → HasStepped t.value k m start (state_of t self.old.worlds).world → HasStepped t.value k (suc m) start (state_of t self.new.worlds).world }
+        ensures some { result ≡ Ok true → IsQuiet self.new → Advances self.old.script t k self.old.trace self.new.trace }
+        ensures nearer { result ≡ Ok true → steps_left (state_of t self.new.worlds).world < steps_left (state_of t self.old.worlds).world }
+        ensures none { result ≡ Ok false → kth (pending (state_of t self.old.worlds).world) k ≡ None }
+        ensures unchanged { result ≡ Ok false → (self.new ≡ self.old) × (log.new ≡ log.old) }
     {
-        if self.halves.len() <= t.index() {
+        if self.worlds.len() <= t.index() {
             return Ok(false);
         }
-        self.trace.reserve(ROOM)?;
-        self.out.clear();
-        let half = &mut self.halves[t.index()];
-        if !step(half, &self.plans, k, &mut self.out) {
+        let was_up = log.is_up();
+        let world = &mut self.worlds[t.index()];
+        world.is_own_run();
+        let from = world.history().len();
+        if !world.step(log, u32::from(k))? {
             return Ok(false);
         }
-        append(&mut self.trace, Place::Transaction(t), self.out.entries());
+        let is_stopped = was_up && !log.is_up();
+        if is_stopped {
+            self.trace.push((Place::Log, Entry::Stopped))?;
+        }
+        note(&mut self.trace, t, &self.worlds[t.index()], from)?;
+        if is_stopped {
+            self.stop_others(t, log.life())?;
+        }
         Ok(true)
     }
 
     /// Does the k-th pending step of transaction t, n times, and stops where there are fewer; how often it did.
-    fn steps(&mut self, t: TxNo, k: u8, n: u16) -> Result<u16, AllocError>
-        ensures script { self.new.script ≡ self.old.script }
+    fn steps<D: Disk>(
+        &mut self,
+        log: &mut Log<D>,
+        t: TxNo,
+        k: u8,
+        n: u16,
+    ) -> Result<u16, WorldError>
+        requires holds { Holds D.honest log.old self.old }
         ensures contexts { self.new.contexts ≡ self.old.contexts }
-        ensures done { IfOk result (λ m. HasDoneAt self.old.script t k n m (past_of self.old.trace) (past_of self.new.trace)) }
+        ensures log { LogGoes D.faults D.honest log.old log.new }
+        ensures runs { OnOk result (Runs D.faults log.old log.new self.old self.new) }
+        ensures holds { OnOk result (Holds D.honest log.new self.new) }
+        ensures calls { HaveSameCalls self.old.worlds self.new.worlds }
+        ensures did { IfOk result (λ m. HasDone t.value (state_of t self.new.worlds).world k n m) }
+        ensures done { IfOk result (λ m. IsQuiet self.new → HasDoneAt self.old.script t k n m (past_of self.old.trace) (past_of self.new.trace)) }
     {
         for m in 0..n {
-            if !self.step(t, k)? {
+            if !self.step(log, t, k)? {
                 return Ok(m);
             }
         }
@@ -173,26 +233,50 @@ impl<'a> Run<'a> {
     }
 
     /// Does the pending steps of transaction t, each time the first, until none is left.
-    fn settle(&mut self, t: TxNo) -> Result<(), AllocError>
-        ensures script { self.new.script ≡ self.old.script }
+    fn settle<D: Disk>(&mut self, log: &mut Log<D>, t: TxNo) -> Result<(), WorldError>
+        requires holds { Holds D.honest log.old self.old }
         ensures contexts { self.new.contexts ≡ self.old.contexts }
-        ensures settled { OnOk result (Settles self.old.script t self.old.trace self.new.trace) }
+        ensures log { LogGoes D.faults D.honest log.old log.new }
+        ensures runs { OnOk result (Runs D.faults log.old log.new self.old self.new) }
+        ensures holds { OnOk result (Holds D.honest log.new self.new) }
+        ensures calls { HaveSameCalls self.old.worlds self.new.worlds }
+        ensures settled { OnOk result (pending (state_of t self.new.worlds).world ≡ []) }
+        ensures done { OnOk result (IsQuiet self.new → Settles self.old.script t self.old.trace self.new.trace) }
     {
         loop {
-            if !self.step(t, 1)? {
+            if !self.step(log, t, 1)? {
                 return Ok(());
             }
         }
     }
 
-    /// Settles t1, t2 and so on in turn. No step of one makes another's pending, so one round leaves nothing.
-    fn settle_all(&mut self) -> Result<(), AllocError>
-        ensures script { self.new.script ≡ self.old.script }
-        ensures settled { OnOk result ((start : List Placed) → IsSettledBelow self.old.script start 1 (past_of self.old.trace) → IsSettledBelow self.old.script start (TxNo.MAX + 1) (past_of self.new.trace)) }
+    /// Settles t1, t2 and so on in turn. As long as the log isn't stopped, no step of one makes another's pending: so one round leaves nothing.
+    fn settle_round<D: Disk>(&mut self, log: &mut Log<D>) -> Result<(), WorldError>
+        requires holds { Holds D.honest log.old self.old }
+        ensures log { LogGoes D.faults D.honest log.old log.new }
+        ensures runs { OnOk result (Runs D.faults log.old log.new self.old self.new) }
+        ensures holds { OnOk result (Holds D.honest log.new self.new) }
+        ensures settled { OnOk result (IsQuiet self.new → (start : List Placed) → IsSettledBelow self.old.script start 1 (past_of self.old.trace) → IsSettledBelow self.old.script start (TxNo.MAX + 1) (past_of self.new.trace)) }
     {
         for n in 1..TxNo::MAX + 1 {
             let t = TxNo::new(n).unwrap();
-            self.settle(t)?;
+            self.settle(log, t)?;
+        }
+        Ok(())
+    }
+
+    /// Settles all, round after round. A fault that stops the log in a round may leave something to do in those before; once it is stopped, it stops no more.
+    fn settle_all<D: Disk>(&mut self, log: &mut Log<D>) -> Result<(), WorldError>
+        requires holds { Holds D.honest log.old self.old }
+        ensures log { LogGoes D.faults D.honest log.old log.new }
+        ensures runs { OnOk result (Runs D.faults log.old log.new self.old self.new) }
+        ensures holds { OnOk result (Holds D.honest log.new self.new) }
+        ensures settled { OnOk result (IsQuiet self.new → (start : List Placed) → IsSettledBelow self.old.script start 1 (past_of self.old.trace) → IsSettledBelow self.old.script start (TxNo.MAX + 1) (past_of self.new.trace)) }
+    {
+        let was_up = log.is_up();
+        self.settle_round(log)?;
+        if was_up && !log.is_up() {
+            self.settle_round(log)?;
         }
         Ok(())
     }
@@ -202,6 +286,7 @@ impl<'a> Run<'a> {
     fn at_context(&mut self, n: u32, l: &Line) -> Result<Gives, AllocError>
         requires { IsUnopened l.now.body (scopes_at l.now.actor self.old.contexts) }
         ensures script { self.new.script ≡ self.old.script }
+        ensures worlds { self.new.worlds ≡ self.old.worlds }
         ensures block { OnOk result (past_of self.new.trace ≡ onto (past_of self.old.trace) (noted l.now.actor (scope_block n l.now.actor l.now.body (scopes_at l.now.actor self.old.contexts)))) }
         ensures calls { IfOk result (λ g. calls_given g (rolled_at l.now.actor self.new.contexts) ≡ scope_calls l.now.body (scopes_at l.now.actor self.old.contexts)) }
         ensures scopes { OnOk result ((before : List Line) → AreOpen self.old.contexts before → AreOpen self.new.contexts (l.now ∷ before)) }
@@ -223,89 +308,118 @@ impl<'a> Run<'a> {
     }
 
     /// Does, as line n, a rollback of each transaction that the last nested close at this actor's context is to roll back, in order.
-    fn roll_back(&mut self, n: u32, actor: ActorNo) -> Result<(), AllocError>
-        requires { own_call self.old.script n ≡ None }
-        ensures script { self.new.script ≡ self.old.script }
+    fn roll_back<D: Disk>(&mut self, log: &Log<D>, n: u32, actor: ActorNo) -> Result<(), WorldError>
+        requires holds { Holds D.honest log.now self.old }
+        requires below { AreBelow n self.old.worlds }
+        requires given { (t : TxNo) (c : Call) (i : ℕ) → slice_get (rollbacks (rolled_at actor self.old.contexts)) i ≡ Some (t, c) → IsCallOf self.old.script t.value n actor c }
+        requires once { AreOnce (rolled_at actor self.old.contexts) }
         ensures contexts { self.new.contexts ≡ self.old.contexts }
-        ensures done { OnOk result (past_of self.new.trace ≡ after_calls self.old.script n actor (rollbacks (rolled_at actor self.old.contexts)) (past_of self.old.trace)) }
+        ensures runs { OnOk result (Runs D.faults log.now log.now self.old self.new) }
+        ensures holds { OnOk result (Holds D.honest log.now self.new) }
+        ensures entered { OnOk result (AreBelow (n + 1) self.new.worlds) }
+        ensures done { OnOk result (IsQuiet self.new → past_of self.new.trace ≡ after_calls self.old.script n actor (rollbacks (rolled_at actor self.old.contexts)) (past_of self.old.trace)) }
     {
         let place = actor.index();
         for i in 0..self.contexts[place].rolled().len() {
             let t = self.contexts[place].rolled()[i];
-            self.call(n, actor, t, &Call::Rollback(t), 0)?;
+            self.call(log, n, actor, t, &Call::Rollback(t), 0)?;
         }
         Ok(())
     }
 
     /// Does what line n does as a scope line: what it writes at its actor's context, and then the calls that it gives transactions.
-    fn scope(&mut self, n: u32, l: &Line) -> Result<(), AllocError>
+    fn scope<D: Disk>(&mut self, log: &Log<D>, n: u32, l: &Line) -> Result<(), WorldError>
+        requires holds { Holds D.honest log.now self.old }
+        requires below { AreBelow n self.old.worlds }
+        requires stands { kth self.old.script n ≡ Some l.now }
+        requires open { AreOpen self.old.contexts (lines_before self.old.script n) }
         requires unopened { IsUnopened l.now.body (scopes_at l.now.actor self.old.contexts) }
-        requires no_call { own_call self.old.script n ≡ None }
-        ensures script { self.new.script ≡ self.old.script }
-        ensures done { OnOk result (past_of self.new.trace ≡ after_scope self.old.script n l.now (scopes_at l.now.actor self.old.contexts) (past_of self.old.trace)) }
+        requires no_call { call_of self.old.script l.now.body ≡ None }
+        ensures runs { OnOk result (Runs D.faults log.now log.now self.old self.new) }
+        ensures holds { OnOk result (Holds D.honest log.now self.new) }
+        ensures entered { OnOk result (AreBelow (n + 1) self.new.worlds) }
+        ensures done { OnOk result (IsQuiet self.new → past_of self.new.trace ≡ after_scope self.old.script n l.now (scopes_at l.now.actor self.old.contexts) (past_of self.old.trace)) }
         ensures scopes { OnOk result ((before : List Line) → AreOpen self.old.contexts before → AreOpen self.new.contexts (l.now ∷ before)) }
     {
         match self.at_context(n, l)? {
             Gives::Nothing => Ok(()),
-            Gives::Call(t, c) => self.call(n, l.actor, t, &c, 0),
-            Gives::Rollbacks => self.roll_back(n, l.actor),
+            Gives::Call(t, c) => self.call(log, n, l.actor, t, &c, 0),
+            Gives::Rollbacks => self.roll_back(log, n, l.actor),
         }
     }
 
     /// Does the call that line n gives transaction t by its own words, after the steps of a `do` or an `await`.
-    fn own_call(&mut self, n: u32, actor: ActorNo, t: TxNo, c: &Call) -> Result<(), AllocError>
-        requires ready { IsReady (observe (history t.value (past_of self.old.trace))) c.now }
-        requires given { own_call self.old.script n ≡ Some c.now }
-        ensures script { self.new.script ≡ self.old.script }
+    fn own_call<D: Disk>(
+        &mut self,
+        log: &mut Log<D>,
+        n: u32,
+        actor: ActorNo,
+        t: TxNo,
+        c: &Call,
+    ) -> Result<(), WorldError>
+        requires holds { Holds D.honest log.old self.old }
+        requires below { AreBelow n self.old.worlds }
+        requires given { IsCallOf self.old.script t.value n actor c.now }
+        requires entered { is_entered_yet c.now ≡ true }
         ensures contexts { self.new.contexts ≡ self.old.contexts }
-        ensures done { OnOk result (CallRan self.old.script actor n (Some (t, c.now)) (past_of self.old.trace) (past_of self.new.trace)) }
+        ensures log { LogGoes D.faults D.honest log.old log.new }
+        ensures runs { OnOk result (Runs D.faults log.old log.new self.old self.new) }
+        ensures holds { OnOk result (Holds D.honest log.new self.new) }
+        ensures entered { OnOk result (AreBelow (n + 1) self.new.worlds) }
+        ensures done { OnOk result (IsQuiet self.new → CallRan self.old.script actor n (Some (t, c.now)) (past_of self.old.trace) (past_of self.new.trace)) }
     {
         match *c {
             Call::Do(_, k, times) => {
-                let done = self.steps(t, k, times)?;
-                self.call(n, actor, t, c, done)
+                let done = self.steps(log, t, k, times)?;
+                self.call(log, n, actor, t, c, done)
             }
             Call::Await(_) => {
-                self.settle(t)?;
-                self.call(n, actor, t, c, 0)
+                self.settle(log, t)?;
+                self.call(log, n, actor, t, c, 0)
             }
-            _ => self.call(n, actor, t, c, 0),
+            _ => self.call(log, n, actor, t, c, 0),
         }
     }
 
     /// Does what line n does: its own call, or what it does as a scope line.
-    fn line(&mut self, n: u32, l: &Line) -> Result<(), AllocError>
-        requires ready { (t : TxNo) (c : Call) → call_of self.old.script l.now.body ≡ Some (t, c) → IsReady (observe (history t.value (past_of self.old.trace))) c }
-        requires unopened { IsUnopened l.now.body (scopes_at l.now.actor self.old.contexts) }
+    fn line<D: Disk>(&mut self, log: &mut Log<D>, n: u32, l: &Line) -> Result<(), WorldError>
+        requires holds { Holds D.honest log.old self.old }
+        requires below { AreBelow n self.old.worlds }
         requires stands { kth self.old.script n ≡ Some l.now }
-        ensures script { self.new.script ≡ self.old.script }
-        ensures done { OnOk result (CallRan self.old.script l.now.actor n (call_of self.old.script l.now.body) (after_scope self.old.script n l.now (scopes_at l.now.actor self.old.contexts) (past_of self.old.trace)) (past_of self.new.trace)) }
+        requires open { AreOpen self.old.contexts (lines_before self.old.script n) }
+        requires unopened { IsUnopened l.now.body (scopes_at l.now.actor self.old.contexts) }
+        requires entered { (t : TxNo) (c : Call) → call_of self.old.script l.now.body ≡ Some (t, c) → is_entered_yet c ≡ true }
+        ensures log { LogGoes D.faults D.honest log.old log.new }
+        ensures runs { OnOk result (Runs D.faults log.old log.new self.old self.new) }
+        ensures holds { OnOk result (Holds D.honest log.new self.new) }
+        ensures entered { OnOk result (AreBelow (n + 1) self.new.worlds) }
+        ensures done { OnOk result (IsQuiet self.new → CallRan self.old.script l.now.actor n (call_of self.old.script l.now.body) (after_scope self.old.script n l.now (scopes_at l.now.actor self.old.contexts) (past_of self.old.trace)) (past_of self.new.trace)) }
         ensures scopes { OnOk result ((before : List Line) → AreOpen self.old.contexts before → AreOpen self.new.contexts (l.now ∷ before)) }
     {
         match call_of(&self.plans, l.body) {
-            Some((t, c)) => self.own_call(n, l.actor, t, &c),
-            None => self.scope(n, l),
+            Some((t, c)) => self.own_call(log, n, l.actor, t, &c),
+            None => self.scope(log, n, l),
         }
     }
 
     /// Runs the lines in order.
-    fn lines(&mut self) -> Result<(), AllocError>
+    fn lines<D: Disk>(&mut self, log: &mut Log<D>) -> Result<(), WorldError>
+        requires holds { Holds D.honest log.old self.old }
+        requires below { AreBelow 1 self.old.worlds }
         requires start { self.old.trace ≡ [] }
         requires contexts { AreOpen self.old.contexts [] }
         requires script { IsScript self.old.script }
         requires run { are_run self.old.script ≡ true }
-        ensures script { self.new.script ≡ self.old.script }
-        ensures ran { OnOk result (LinesRan self.old.script (past_of self.old.script) (past_of self.new.trace)) }
+        ensures log { LogGoes D.faults D.honest log.old log.new }
+        ensures runs { OnOk result (Runs D.faults log.old log.new self.old self.new) }
+        ensures holds { OnOk result (Holds D.honest log.new self.new) }
+        ensures ran { OnOk result (IsQuiet self.new → LinesRan self.old.script (past_of self.old.script) (past_of self.new.trace)) }
     {
-        // This does nothing when it runs. It brings in that what a call makes is new, and that a durable which is run finds nothing durable or
-        // promotable, which the calls below ask for.
-        replay();
         let lines = self.plans.lines();
         let mut n = 0;
         for l in lines {
-            self.is_plain();
             n += 1;
-            self.line(n, l)?;
+            self.line(log, n, l)?;
         }
         Ok(())
     }
@@ -344,23 +458,28 @@ fn call_of(plans: &Plans, body: Body) -> Option<(TxNo, Call)>
     }
 }
 
-/// The trace of what the lines do in order, and of the rounds after them.
-fn trace_of(alloc: Global, lines: &[Line]) -> Result<Trace, AllocError>
+/// The trace of what the lines do in order, and of the rounds after them. Where a fault of the disk stopped the log, nothing is promised of it.
+fn trace_of<D: Disk>(alloc: Global, lines: &[Line], log: &mut Log<D>) -> Result<Trace, WorldError>
     requires script { IsScript lines.now }
     requires run { are_run lines.now ≡ true }
-    ensures replayed { IfOk result (λ T. IsReplayed lines.now (past_of T)) }
-    ensures settled { IfOk result (λ T. (t : TxNo) → Settled lines.now (history t.value (past_of T))) }
-    ensures plain { IfOk result (λ T. are_plain (past_of T) ≡ true) }
-    ensures planned { IfOk result (λ T. (t : TxNo) → IsToPlan lines.now (history t.value (past_of T))) }
+    requires up { IsTrue log.old.is_up }
+    requires unarmed { log.old.armed ≡ None }
+    requires none { IsTrue D.honest → HasNone (open_records log.old.slots) }
+    ensures log { LogGoes D.faults D.honest log.old log.new }
+    ensures quiet { IfOk result (λ T. (is_log_quiet (past_of T) ≡ true) ⊎ Rose (D.faults log.old.disk) (D.faults log.new.disk)) }
+    ensures replayed { IfOk result (λ T. is_log_quiet (past_of T) ≡ true → IsReplayed lines.now (past_of T)) }
+    ensures settled { IfOk result (λ T. is_log_quiet (past_of T) ≡ true → (t : TxNo) → Settled lines.now (history t.value (past_of T))) }
+    ensures calm { IfOk result (λ T. is_log_quiet (past_of T) ≡ true → (t : TxNo) → IsToPlan lines.now (history t.value (past_of T)) × (has is_of_stop (history t.value (past_of T)) ≡ false)) }
+    ensures recorded { IsTrue D.honest → IfOk result (λ T. is_log_quiet (past_of T) ≡ true → AreRecorded (past_of T) (open_records log.old.slots) (open_records log.new.slots)) }
 {
     let mut run = Run::new(alloc, lines)?;
-    run.lines()?;
-    run.settle_all()?;
-    run.is_plain();
+    run.lines(log)?;
+    run.settle_all(log)?;
     Ok(run.into_trace())
 }
 
-/// Replays a script: runs its lines in order, and settles its transactions. No line that is run yet commits at the coordinator, so the log stays as it is.
+/// Replays a script: runs its lines in order, and settles its transactions, over a log that is up, on which no stop is armed, and that has no record of the
+/// script's transactions. Where a fault of the disk stopped the log, nothing is promised of the trace.
 ///
 /// # Errors
 ///
@@ -368,17 +487,23 @@ fn trace_of(alloc: Global, lines: &[Line]) -> Result<Trace, AllocError>
 pub fn run_replay<D: Disk>(alloc: Global, s: &Script, log: &mut Log<D>) -> Result<Trace, AllocError>
     requires script { IsScript s.now }
     requires run { are_run s.now ≡ true }
-    ensures log { log.new ≡ log.old }
-    ensures history { IfOk result (λ T. IsHistory s.now 0 (D.faults log.new.disk - D.faults log.old.disk) T) }
-    ensures replay { IfOk result (λ T. IsReplay s.now (D.faults log.new.disk - D.faults log.old.disk) D.honest T) }
-    ensures outcome { IfOk result (λ T. HasOneOutcome T) }
-    ensures complete { IfOk result (λ T. IsComplete s.now T) }
+    requires up { IsTrue log.old.is_up }
+    requires unarmed { log.old.armed ≡ None }
+    requires none { IsTrue D.honest → HasNone (open_records log.old.slots) }
+    ensures log { LogGoes D.faults D.honest log.old log.new }
+    ensures recorded { IsTrue D.honest → (Rose (D.faults log.old.disk) (D.faults log.new.disk) → ⊥) → IfOk result (λ T. AreRecorded (past_of T) (open_records log.old.slots) (open_records log.new.slots)) }
+    ensures history { (Rose (D.faults log.old.disk) (D.faults log.new.disk) → ⊥) → IfOk result (λ T. IsHistory s.now 0 (D.faults log.new.disk - D.faults log.old.disk) T) }
+    ensures replay { (Rose (D.faults log.old.disk) (D.faults log.new.disk) → ⊥) → IfOk result (λ T. IsReplay s.now (D.faults log.new.disk - D.faults log.old.disk) D.honest T) }
+    ensures outcome { (Rose (D.faults log.old.disk) (D.faults log.new.disk) → ⊥) → IfOk result (λ T. HasOneOutcome T) }
+    ensures complete { (Rose (D.faults log.old.disk) (D.faults log.new.disk) → ⊥) → IfOk result (λ T. IsComplete s.now T) }
 {
     // These calls do nothing when they run: their bodies are empty. Each brings its law into this proof, from which the clauses follow.
     one_outcome();
     crossings();
     completeness();
     replay();
-    let trace = trace_of(alloc, s.lines())?;
-    Ok(trace)
+    match trace_of(alloc, s.lines(), log) {
+        Ok(trace) => Ok(trace),
+        Err(WorldError::Memory) => Err(AllocError),
+    }
 }
