@@ -338,3 +338,120 @@ fn a_promotion_at_a_stopped_log_fails(rt: HostRuntime) -> Result<(), Fail> {
     assert_eq!(rt; records, Ok(0));
     Ok(())
 }
+
+/// A volatile's vote ends the promotion that is under way.
+const FAILED: [&str; 23] = [
+    "call 1 a1 ok",
+    "began 60000",
+    "call 2 a1 ok",
+    "enlisted e1 zero",
+    "call 3 a1 ok",
+    "commit",
+    "call 4 a1 wait",
+    "promoting marshal",
+    "sent b up begin",
+    "ask e1 prepare",
+    "vote e1 no",
+    "promotionfailed",
+    "decided aborted",
+    "answer 4 ended aborted",
+    "told client aborted",
+    "got b up begin",
+    "sent b down begun",
+    "got b down begun",
+    "sent b up abort",
+    "got b up abort",
+    "sent b down aborted",
+    "got b down aborted",
+    "call 5 a1 aborted",
+];
+
+/// A durable is enlisted at the coordinator, and the client rolls back.
+const ROLLED_BACK: [&str; 19] = [
+    "call 4 a1 wait",
+    "sent e1 up enlist",
+    "got e1 up enlist",
+    "sent e1 down enlisted",
+    "got e1 down enlisted",
+    "enlisted e1 two",
+    "answer 4 ok",
+    "call 5 a1 open",
+    "call 6 a2 ok",
+    "rollback",
+    "decided aborted",
+    "sent b up abort",
+    "told client aborted",
+    "got b up abort",
+    "sent b down aborted",
+    "sent v down abort",
+    "sent e1 down abort",
+    "got b down aborted",
+    "got v down abort",
+];
+
+/// The durable hears it over its own connection.
+const HEARD: [&str; 2] = ["got e1 down abort", "told e1 aborted"];
+
+/// A durable that has nothing to commit: the record names nobody, and goes as soon as it is there.
+const READ_ONLY: [&str; 11] = [
+    "vote e1 done",
+    "sent e1 up readonly",
+    "got e1 up readonly",
+    "logged",
+    "sent b down committed",
+    "sent v down commit",
+    "freed",
+    "got b down committed",
+    "decided committed",
+    "told client committed",
+    "got v down commit",
+];
+
+/// A commit with no enlistment.
+const NOBODY: [&str; 18] = [
+    "call 4 a1 ok",
+    "commit",
+    "sealed",
+    "sent b up commit",
+    "got b up commit",
+    "sent v down ask",
+    "got v down ask",
+    "yes",
+    "sent v up yes",
+    "got v up yes",
+    "logged",
+    "sent b down committed",
+    "sent v down commit",
+    "freed",
+    "got b down committed",
+    "decided committed",
+    "told client committed",
+    "got v down commit",
+];
+
+#[test]
+fn a_transaction_at_the_coordinator_ends_in_other_ways(rt: HostRuntime) -> Result<(), Fail> {
+    let cases: [(&str, &[(&str, &[&str])]); 4] = [
+        (
+            "a1 begin t1 default\na1 volatile t1 e1 during no\na1 commit t1\na1 marshal t1\na1 await t1\n",
+            &[("t1", &FAILED)],
+        ),
+        (
+            "a1 begin t1 default\na1 marshal t1\na1 await t1\na1 durable t1 e1 r1 two yes\na1 await t1\na2 rollback t1\n",
+            &[("t1", &PROMOTED), ("t1", &ROLLED_BACK), ("t1", &HEARD)],
+        ),
+        (
+            "a1 begin t1 default\na1 marshal t1\na1 await t1\na1 durable t1 e1 r1 two done\na1 commit t1\n",
+            &[("t1", &BEFORE_THE_VOTE), ("t1", &READ_ONLY)],
+        ),
+        (
+            "a1 begin t1 default\na1 marshal t1\na1 await t1\na1 commit t1\n",
+            &[("t1", &PROMOTED), ("t1", &NOBODY)],
+        ),
+    ];
+    for (script, parts) in cases {
+        let records = prints(&rt, rt.alloc(), script, &[], parts)?;
+        assert_eq!(rt; records, Ok(0), "at {script}");
+    }
+    Ok(())
+}
