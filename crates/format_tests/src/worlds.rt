@@ -180,6 +180,18 @@ fn wanted(alloc: Global, parts: &[&[&str]]) -> Result<Vec<u8>, AllocError> {
 }
 
 #[test]
+fn nothing_is_pending_in_a_new_world(rt: HostRuntime) -> Result<(), Fail> {
+    let alloc = rt.alloc();
+    let mut log = empty_log(&rt, alloc)?;
+    let mut world = world(&rt, alloc);
+    assert_eq!(rt; world.pending(), 0);
+    assert_eq!(rt; world.step(&mut log, 1), Ok(false));
+    assert_eq!(rt; world.told(), None);
+    assert_eq!(rt; world.id(), 0);
+    Ok(())
+}
+
+#[test]
 fn what_is_promoted_commits(rt: HostRuntime) -> Result<(), Fail> {
     let alloc = rt.alloc();
     let mut log = empty_log(&rt, alloc)?;

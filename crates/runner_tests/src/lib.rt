@@ -3,6 +3,10 @@
 #![tactic(auto)]
 
 #[cfg(test)]
+mod distributed;
+#[cfg(test)]
+mod not_built;
+#[cfg(test)]
 mod runs;
 #[cfg(test)]
 mod transfers;

@@ -13,7 +13,7 @@ use std::process::Abort;
 use std::test::Fail;
 
 /// These words.
-fn words(alloc: Global, given: &[&str]) -> Result<Vec<String>, AllocError> {
+pub fn words(alloc: Global, given: &[&str]) -> Result<Vec<String>, AllocError> {
     let mut words = Vec::new(alloc);
     for word in given {
         words.push(String::from_str(alloc, word)?)?;
@@ -22,7 +22,7 @@ fn words(alloc: Global, given: &[&str]) -> Result<Vec<String>, AllocError> {
 }
 
 /// A blank disk for the log, whose calls of these numbers fail.
-fn disk(alloc: Global, fail: &[u64]) -> Result<MemDisk, AllocError>
+pub fn disk(alloc: Global, fail: &[u64]) -> Result<MemDisk, AllocError>
     ensures { IfOk result (λ d. length d.images.kept ≡ LOG_BYTES) }
 {
     MemDisk::new(alloc, LOG_BYTES, Vec::from_slice(alloc, fail)?)
@@ -35,7 +35,7 @@ const TRACE: &str =
     7 t1 sealed\n8 t1 ask e1 prepare\n9 t1 vote e1 yes\n10 t1 decided committed\n11 t1 told e1 committed\n12 t1 told client committed\n";
 
 /// What is on a disk: how many records its log has, or why it has none.
-fn found(rt: &impl Abort, alloc: Global, disk: MemDisk) -> Result<u16, LogRefusal>
+pub fn found(rt: &impl Abort, alloc: Global, disk: MemDisk) -> Result<u16, LogRefusal>
     requires { LOG_BYTES ≤ length disk.images.kept }
 {
     match Log::from_disk(alloc, disk) {
@@ -132,7 +132,7 @@ fn each_call_of_the_sink_fails_in_turn(rt: HostRuntime) -> Result<(), Fail> {
 }
 
 /// The exit of a run that writes nothing, where the source's calls of these numbers fail, and the disk's first call.
-fn unwritten(
+pub fn unwritten(
     rt: &impl Abort,
     alloc: Global,
     given: &[&str],
@@ -191,11 +191,15 @@ fn tried(alloc: Global, script: &Script, disk: SureDisk) -> Result<Option<usize>
     }
 }
 
+/// A client asks for the identifier, and waits for it.
+const MARSHALLED: &str = "a1 begin t1 0\na1 marshal t1\na1 await t1\n";
+
 #[test]
 fn what_a_replay_needs_can_be_tested(rt: HostRuntime) -> Result<(), Fail> {
     let later = "a1 begin t1 0\na1 marshal t1\n";
     let cases = [
         (SCRIPT, LOG_BYTES, Some(12)),
+        (MARSHALLED, LOG_BYTES, Some(15)),
         (SCRIPT, LOG_BYTES - 1, None),
         (later, LOG_BYTES, None),
     ];
