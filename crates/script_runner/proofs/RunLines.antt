@@ -3,7 +3,7 @@ use Rattle.std.proofs.Common.{◌≡◌, ℕ, Bool, Option, zero, suc, ◌+◌, 
 use Rattle.std.specs.Prelude.{IfNone, IfSome}
 use Rattle.std.specs.Option.{is_none}
 use Rattle.std.proofs.lemmas.List.{take_all}
-use Rattle.std.proofs.lemmas.Option.{slice_get-get_or}
+use Rattle.std.proofs.lemmas.Option.{slice_get-get_or, slice_get_past}
 use Rattle.dtx_values.specs.declared.script.Line.{Line}
 use Rattle.dtx_model.specs.Contexts.{lines_before}
 use Rattle.dtx_model.specs.Words.{kth, onto, past_of}
@@ -90,14 +90,9 @@ run_more s i l more stands runs before =
     (subst (λ o. are_run_before o (past_of (take i s)) ≡ true) stands before)
 
 -- where those up to the end are run, all are
-none_there : (s : List Line) (i : ℕ) → length s < i + 1 → slice_get s i ≡ None
-none_there [] i less = refl
-none_there (l ∷ s) zero less = absurd (omega (arith, less))
-none_there (l ∷ s) (suc i) less = none_there s i (omega (arith, less))
-
 pub run_all : (s : List Line) (i : ℕ) → length s < i + 1 → are_run_before (slice_get s i) (past_of (take i s)) ≡ true → are_run s ≡ true
 run_all s i less k =
-    subst (λ (ls : List Line). are_run_before None (past_of ls) ≡ true) (take_all i s (omega (arith, less))) (subst (λ o. are_run_before o (past_of (take i s)) ≡ true) (none_there s i less) k)
+    subst (λ (ls : List Line). are_run_before None (past_of ls) ≡ true) (take_all i s (omega (arith, less))) (subst (λ o. are_run_before o (past_of (take i s)) ≡ true) (slice_get_past s i (omega (arith, less))) k)
 
 -- where each line is run, none isn't
 pub all_run_none : (s : List Line) (n : ℕ) → are_run s ≡ true → IsNotRun s n → ⊥
