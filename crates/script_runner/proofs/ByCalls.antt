@@ -1,5 +1,5 @@
 -- Nothing but a call begins a promotion, loses an enlistment or cuts a connection; and only a few calls do.
-use Rattle.std.proofs.Common.{◌≡◌, ℕ, ◌==◌, ⊥, Bool, true, false, ◌&&◌, ◌||◌, not, List, [], ◌∷◌, ◌++◌, map, filter, Option, Some, None, is_some, find, refl, sym, subst, ◌∙◌, if◌then◌else◌}
+use Rattle.std.proofs.Common.{◌≡◌, ℕ, ◌==◌, Bool, true, false, ◌&&◌, ◌||◌, not, List, [], ◌∷◌, ◌++◌, map, filter, Option, Some, None, is_some, find, refl, sym, subst, ◌∙◌, if◌then◌else◌}
 use Rattle.std.specs.List.{flat_map}
 use Rattle.std.proofs.lemmas.List.Folds.{list_all-append}
 use Rattle.dtx_values.specs.declared.call.Call.{Call}
@@ -8,7 +8,7 @@ use Rattle.dtx_values.specs.declared.entry.Answer.{Answer}
 use Rattle.dtx_values.specs.declared.entry.Answer.TheVariants.{Fine, Wait, Id, Ended as EndedAnswer}
 use Rattle.dtx_values.specs.declared.entry.Ask.TheVariants.{Prepare, Promote, Single as AskSingle}
 use Rattle.dtx_values.specs.declared.entry.Entry.{Entry}
-use Rattle.dtx_values.specs.declared.entry.Entry.TheVariants.{Called, Answered, Began, Cloned, Completed, Enlisted, Init, CommitAsked, RollbackAsked, Clock, TimedOut, Late, Asked, Voted, PromoteReply, Requested, Sealed, Handed, OwnerAnswered, LocalYes, Decided, Told, Promoting, Promoted, PromotionFailed, Sent, Got, Cut, Down as Ended, Lost as LostEntry, Logged, LogFull, Freed, Stopped, Restarted, Reenlisted, Recovered as RecoveredEntry, Acked}
+use Rattle.dtx_values.specs.declared.entry.Entry.TheVariants.{Answered, Began, Cloned, Completed, Enlisted, Init, CommitAsked, RollbackAsked, Clock, TimedOut, Late, Asked, Voted, PromoteReply, Requested, Sealed, Handed, OwnerAnswered, LocalYes, Decided, Told, Promoting, Promoted, PromotionFailed, Sent, Got, Cut, Down as Ended, Lost as LostEntry, Logged, LogFull, Freed, Stopped, Restarted, Reenlisted, Recovered as RecoveredEntry, Acked}
 use Rattle.dtx_values.specs.declared.entry.Party.TheVariants.{Client, Enl as Member}
 use Rattle.dtx_values.specs.declared.message.Conn.{Conn}
 use Rattle.dtx_values.specs.declared.message.Conn.TheVariants.{Begin, Voter, Enl, Again}
@@ -57,7 +57,6 @@ use Rattle.dtx_model.specs.Answers.{class_of, limit_of}
 use Rattle.dtx_model.specs.World.{World, half, core, answer_at, cut_upward, facts_at, gone_by, gone_decides, open_ones, reenlist_facts}
 use Rattle.dtx_model.specs.Steps.{LogAnswer, Done, Full, StoppedNow, StoppedBefore, Step, Calls, Replies, Acts, Coordinates, Delivers, Stops, Restarts, appended, block_at, coordinates, delivered, ended_at, freed, got_by, restarted}
 use Rattle.dtx_model.specs.Caused.{is_promoting_entry}
-use Rattle.dtx_model.proofs.Bools.{and_both}
 use Rattle.outcome_law.proofs.Pending.{is_no_call}
 use Rattle.outcome_law.proofs.Scans.{each_more, none_more}
 
@@ -125,7 +124,7 @@ s_core_got : (id : ℕ) (k : Coordinated) (c : Conn) (m : Message) → Spared (c
 unfolding core_got
 s_core_got id k Begin BeginBegin = s_to (follow k (Got Begin Up BeginBegin)) Begin (BeginBegun id)
 s_core_got id k Voter (VoterVoter u) = s_to (follow k (Got Voter Up (VoterVoter u))) Voter (opening_answer k VoterCreated VoterAbort VoterRefused)
-s_core_got id k (Enl e) (EnlistEnlist i) = s_to (follow k (Got (Enl e) Up (EnlistEnlist i))) (Enl e) (opening_answer k EnlistEnlisted EnlistAbort EnlistRefused) 
+s_core_got id k (Enl e) (EnlistEnlist i) = s_to (follow k (Got (Enl e) Up (EnlistEnlist i))) (Enl e) (opening_answer k EnlistEnlisted EnlistAbort EnlistRefused)
 s_core_got id k Begin BeginCommit = s_if (is_active k.stage) (s_join (s_to k Voter VoterAsk) (s_each k EnlistPrepare k.desks)) s_none
 s_core_got id k (Again e) (ReenlistReenlist i) =
     s_if (is_recorded k.stage) (s_to (follow k (Got (Again e) Up (ReenlistReenlist i))) (Again e) ReenlistCommitted)

@@ -1,6 +1,6 @@
 -- Where a line of a script marshals a transaction and each line is run, no line loses anything of it, so nothing is lost in its history but by a stop of the log.
-use Rattle.std.proofs.Common.{◌≡◌, ℕ, zero, suc, ◌-◌, ◌==◌, ⊥, Bool, true, false, ◌&&◌, ◌||◌, not, List, [], ◌∷◌, ◌++◌, take, slice_get, Option, Some, None, inl, inr, refl, ap, arith, sym, subst, ◌∙◌, if◌then◌else◌}
-use Rattle.std.proofs.lemmas.Bool.{eqb-true}
+use Rattle.std.proofs.Common.{◌≡◌, ℕ, zero, suc, ◌==◌, ◌⊎◌, Bool, true, false, ◌&&◌, ◌||◌, not, List, [], ◌∷◌, ◌++◌, take, Option, Some, None, inl, inr, refl, ap, sym, subst, ◌∙◌, if◌then◌else◌}
+use Rattle.std.proofs.lemmas.Bool.{eqb-true, or_left}
 use Rattle.dtx_values.specs.declared.call.Call.{Call}
 use Rattle.dtx_values.specs.declared.call.Call.TheVariants.{Lose, Gone}
 use Rattle.dtx_values.specs.declared.entry.Entry.{Entry}
@@ -12,7 +12,7 @@ use Rattle.dtx_values.specs.declared.number.TxNo.{TxNo}
 use Rattle.dtx_values.specs.declared.script.Body.{Body}
 use Rattle.dtx_values.specs.declared.script.Body.TheVariants.{Volatile as VolatileLine, Durable as DurableLine, Promotable as PromotableLine, Complete as CompleteLine, Gone as GoneLine, Lose as LoseLine, Marshal as MarshalLine, Reenlist as ReenlistLine}
 use Rattle.dtx_values.specs.declared.script.Line.{Line}
-use Rattle.dtx_model.specs.Words.{always, each, ever, has, kth, latest, onto, or_else, past_of}
+use Rattle.dtx_model.specs.Words.{always, each, has, onto, or_else, past_of}
 use Rattle.dtx_model.specs.Calls.{call_of, complete_call, enlistment_made, gone_call, transaction_of, transaction_with}
 use Rattle.dtx_model.specs.Contexts.{lines_before}
 use Rattle.dtx_model.specs.Grammar.{OfEnlistment, are_named_well, is_made, is_named_well, makes, same_name, uses}
@@ -20,7 +20,7 @@ use Rattle.dtx_model.specs.World.{World}
 use Rattle.dtx_model.specs.Steps.{Step, Calls, after, block_at}
 use Rattle.dtx_model.specs.Caused.{FreelyCaused, IsCallOf, MayCome, Ran}
 use Rattle.dtx_model.specs.History.{is_loss}
-use Rattle.dtx_model.proofs.Bools.{and_left, and_right, not_both, not_false, not_true, or_case, or_false, or_first, or_left, or_right, or_second}
+use Rattle.dtx_model.proofs.Bools.{and_left, and_right, not_both, not_true, or_case, or_false, or_first, or_right, or_second}
 use Rattle.dtx_model.proofs.Histories.{onto-append}
 use Rattle.dtx_model.proofs.Reading.{has-onto}
 use Rattle.outcome_law.proofs.Picks.{passes}

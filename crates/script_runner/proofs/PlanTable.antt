@@ -11,7 +11,7 @@ use Rattle.dtx_values.specs.declared.number.CloneNo.{CloneNo}
 use Rattle.dtx_values.specs.declared.number.EnlNo.{EnlNo}
 use Rattle.dtx_values.specs.declared.number.TxNo.{TxNo}
 use Rattle.dtx_values.specs.declared.script.Line.{Line}
-use Rattle.dtx_model.specs.Words.{latest, or_else, past_of}
+use Rattle.dtx_model.specs.Words.{latest, or_else}
 use Rattle.dtx_model.specs.Calls.{clone_made, enlistment_made, transaction_of, transaction_with}
 use Rattle.dtx_model.proofs.Histories.{past_of-snoc}
 use Rattle.script_runner.specs.Plans.{ArePlanned}

@@ -1,5 +1,5 @@
 -- The call of a line that is run can be entered, and no such line stops the log or opens it again.
-use Rattle.std.proofs.Common.{◌≡◌, Bool, true, false, List, Option, Some, None, refl, ap, sym, ◌∙◌}
+use Rattle.std.proofs.Common.{◌≡◌, true, false, List, Option, Some, None, refl, ap, sym, ◌∙◌}
 use Rattle.dtx_values.specs.declared.call.Call.{Call}
 use Rattle.dtx_values.specs.declared.number.CloneNo.{CloneNo}
 use Rattle.dtx_values.specs.declared.number.EnlNo.{EnlNo}

@@ -1,5 +1,5 @@
 -- Which lines of a script are run.
-use Rattle.std.proofs.Common.{◌≡◌, ℕ, Bool, Option, zero, suc, ◌+◌, ◌-◌, ◌<◌, ◌&&◌, true, false, List, [], ◌∷◌, ◌++◌, length, take, get_or, slice_get, Some, None, refl, ap, sym, ◌∙◌, subst, arith}
+use Rattle.std.proofs.Common.{◌≡◌, ℕ, Bool, Option, zero, suc, ◌+◌, ◌-◌, ◌<◌, true, false, List, [], ◌∷◌, ◌++◌, length, take, get_or, slice_get, Some, None, refl, ap, sym, ◌∙◌, subst, arith}
 use Rattle.std.specs.Prelude.{IfNone, IfSome}
 use Rattle.std.specs.Option.{is_none}
 use Rattle.std.proofs.lemmas.List.{take_all}
@@ -33,7 +33,7 @@ run_here next s xs rest l split k =
     )
 
 -- a list is cut at one of its items, and the next item is the first after it
-cut_here : (xs : List Line) (i : ℕ) (x : Line) → slice_get xs i ≡ Some x → (rest : List Line) × (xs ≡ take i xs ++ x ∷ rest) × (first_of rest None ≡ slice_get xs (suc i))
+pub cut_here : (xs : List Line) (i : ℕ) (x : Line) → slice_get xs i ≡ Some x → (rest : List Line) × (xs ≡ take i xs ++ x ∷ rest) × (first_of rest None ≡ slice_get xs (suc i))
 cut_here [] i x e = absurd cc
 cut_here (y ∷ ys) zero x e = let same : y ≡ x = cc in (ys, ap (λ (z : Line). z ∷ ys) same, head ys)
   where
