@@ -14,5 +14,3 @@ mod scripts;
 mod sessions;
 #[cfg(test)]
 mod traces;
-#[cfg(test)]
-mod worlds;

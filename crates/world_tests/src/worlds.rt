@@ -1,12 +1,11 @@
 //! The whole of one transaction that is promoted, as text.
-ghost use Rattle.std.specs.Prelude.{◌≡◌, [], IsTrue};
+ghost use Rattle.std.specs.Prelude.{◌≡◌, [], IfOk, IsTrue};
 ghost use Rattle.dtx_model.specs.Caused.{MayAnswer};
 ghost use Rattle.dtx_model.specs.Steps.{pending};
 ghost use Rattle.coordinator_log.specs.Slots.{open_records};
 ghost use Rattle.tx_world.specs.AtLog.{Fits};
 
-use crate::log::empty_log;
-use coordinator_log::Log;
+use coordinator_log::{LOG_BYTES, Log};
 use dtx_values::{
     ActorNo, Answer, Call, EnlNo, Outcome, Place, RmNo, Support, Timeout, Trace, TxNo, Vote,
 };
@@ -89,6 +88,17 @@ const ABORTED: [&str; 9] = [
     "told client aborted",
     "got v down abort",
 ];
+
+/// An empty log.
+fn empty_log(rt: &impl Abort, alloc: Global) -> Result<Log<MemDisk>, AllocError>
+    ensures empty { IfOk result (λ l. open_records l.slots ≡ []) }
+{
+    let disk = MemDisk::new(alloc, LOG_BYTES, Vec::new(alloc))?;
+    match Log::format(alloc, disk) {
+        Ok(log) => Ok(log),
+        Err((refusal, _disk)) => panic!(rt; "{refusal:?}"),
+    }
+}
 
 /// The transaction.
 fn transaction(rt: &impl Abort) -> TxNo {
