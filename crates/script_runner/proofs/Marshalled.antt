@@ -12,21 +12,22 @@ use Rattle.dtx_values.specs.declared.number.TxNo.{TxNo}
 use Rattle.dtx_values.specs.declared.script.Body.{Body}
 use Rattle.dtx_values.specs.declared.script.Body.TheVariants.{Volatile as VolatileLine, Durable as DurableLine, Promotable as PromotableLine, Complete as CompleteLine, Gone as GoneLine, Lose as LoseLine, Marshal as MarshalLine, Reenlist as ReenlistLine}
 use Rattle.dtx_values.specs.declared.script.Line.{Line}
-use Rattle.dtx_model.specs.Words.{always, each, has, onto, or_else, past_of}
+use Rattle.dtx_model.specs.Words.{always, each, ever, has, onto, or_else, past_of}
 use Rattle.dtx_model.specs.Calls.{call_of, complete_call, enlistment_made, gone_call, transaction_of, transaction_with}
 use Rattle.dtx_model.specs.Contexts.{lines_before}
-use Rattle.dtx_model.specs.Grammar.{OfEnlistment, are_named_well, is_made, is_named_well, makes, same_name, uses}
+use Rattle.dtx_model.specs.Grammar.{IsScript, OfEnlistment, are_named_well, is_made, is_made_lasting, is_named_well, is_of_kind, makes, makes_lasting, same_name, uses}
 use Rattle.dtx_model.specs.World.{World}
 use Rattle.dtx_model.specs.Steps.{Step, Calls, after, block_at}
 use Rattle.dtx_model.specs.Caused.{FreelyCaused, IsCallOf, MayCome, Ran}
 use Rattle.dtx_model.specs.History.{is_loss}
-use Rattle.dtx_model.proofs.Bools.{and_left, and_right, not_both, not_true, or_case, or_false, or_first, or_right, or_second}
+use Rattle.dtx_model.proofs.Bools.{and_left, and_right, not_both, not_false, not_true, or_case, or_false, or_first, or_right, or_second}
 use Rattle.dtx_model.proofs.Histories.{onto-append}
 use Rattle.dtx_model.proofs.Reading.{has-onto}
 use Rattle.outcome_law.proofs.Picks.{passes}
+use Rattle.outcome_law.proofs.Scans.{has_more}
 use Rattle.outcome_law.proofs.ScopeCalls.{given_call, is_scope_call}
 use Rattle.outcome_law.proofs.Tests.{eq_self}
-use Rattle.script_runner.specs.Built.{are_run, are_run_before, has_gone, has_marshal, is_gone_of, is_marshal_of, is_marshalled, is_run, is_tx, made_for}
+use Rattle.script_runner.specs.Built.{are_run, are_run_before, has_lasting, has_marshal, is_lasting_for, is_marshal_of, is_marshalled, is_run, made_for}
 use Rattle.script_runner.specs.RunState.{is_of_stop}
 use Rattle.script_runner.proofs.ByCalls.{block_spared, call_kept, each_kept, is_kept, is_losing}
 use Rattle.script_runner.proofs.RunLines.{cut_here, run_line}
@@ -61,10 +62,98 @@ made_before before (l ∷ ls) e made well =
     made_before (l ∷ before) ls e (or_right (has (λ m. same_name (OfEnlistment e) m) (makes l.body)) (is_made before (OfEnlistment e)) made) well
     ∙ ap (λ (o : Option TxNo). or_else o (made_for before e)) (made_no_more before e l made here)
 
+-- The command loses an enlistment of this transaction, which one of these lines makes; and one of these lines is such a one.
+abbrev is_tx : ℕ → Option TxNo → Bool
+is_tx t (Some u) = t == u.value
+is_tx t None = false
+
+abbrev is_gone_of : ℕ → List Line → Body → Bool
+is_gone_of t before (GoneLine e) = is_tx t (made_for before e.value)
+is_gone_of t before _ = false
+
+abbrev has_gone : List Line → ℕ → Bool
+has_gone before t = ever (λ earlier l. is_gone_of t earlier l.body) before
+
+-- What is lost is a durable or promotable, so a line before makes one of the transaction.
+-- a line that makes a durable or promotable makes an enlistment
+lasting_makes : (e : ℕ) (ls : List Line) → is_made_lasting ls e ≡ true → is_made ls (OfEnlistment e) ≡ true
+lasting_makes e ls k = has_more (λ l. makes_lasting e l.body) (λ l. has (λ m. same_name (OfEnlistment e) m) (makes l.body)) (λ l. one l.body) ls k
+  where
+    one : (b : Body) → makes_lasting e b ≡ true → has (λ m. same_name (OfEnlistment e) m) (makes b) ≡ true
+    one (DurableLine t f r x) k = or_left (e == f.value) false k
+    one (PromotableLine t f r v o p) k = or_left (e == f.value) false k
+    one _ k = absurd cc
+
+-- of a command that makes this enlistment: it makes it durable or promotable, for its transaction; and one that doesn't makes no such one
+abbrev is_lasting_maker : ℕ → Body → Option TxNo → Bool
+is_lasting_maker e b (Some u) = not (makes_lasting e b) || is_lasting_for u.value b
+is_lasting_maker e b None = not (makes_lasting e b)
+
+maker_lasts : (e : ℕ) (b : Body) → is_lasting_maker e b (enlistment_made e b) ≡ true
+maker_lasts e (VolatileLine t f o v) = by (e == f.value)
+  where
+    by : (c : Bool) → is_lasting_maker e (VolatileLine t f o v) (if c then Some t else None) ≡ true
+    by true = refl
+    by false = refl
+maker_lasts e (DurableLine t f r x) = by (e == f.value) refl
+  where
+    by : (c : Bool) → (e == f.value) ≡ c → is_lasting_maker e (DurableLine t f r x) (if c then Some t else None) ≡ true
+    by true k = or_right (not (e == f.value)) (t.value == t.value) (eq_self t.value)
+    by false k = not_false (e == f.value) k
+maker_lasts e (PromotableLine t f r v o p) = by (e == f.value) refl
+  where
+    by : (c : Bool) → (e == f.value) ≡ c → is_lasting_maker e (PromotableLine t f r v o p) (if c then Some t else None) ≡ true
+    by true k = or_right (not (e == f.value)) (t.value == t.value) (eq_self t.value)
+    by false k = not_false (e == f.value) k
+maker_lasts e _ = refl
+
+made_lasting : (e : ℕ) (u : TxNo) (ls : List Line) → always is_named_well ls ≡ true → is_made_lasting ls e ≡ true → made_for ls e ≡ Some u → has_lasting ls u.value ≡ true
+made_lasting e u [] well lasts of_u = absurd cc
+made_lasting e u (l ∷ before) well lasts of_u =
+    by (enlistment_made e l.body) refl (λ k of_rest. made_lasting e u before (and_right (is_named_well before l) (always is_named_well before) well) k of_rest)
+  where
+    by : (o : Option TxNo) → enlistment_made e l.body ≡ o → (is_made_lasting before e ≡ true → made_for before e ≡ Some u → has_lasting before u.value ≡ true) → has_lasting (l ∷ before) u.value ≡ true
+    by (Some v) k ih =
+        let here : is_named_well before l ≡ true = and_left (is_named_well before l) (always is_named_well before) well in
+        let same : Some v ≡ Some u = ap (λ (o : Option TxNo). or_else o (made_for before e)) (sym k) ∙ of_u in
+        let one : v ≡ u = cc in
+        let maker : is_lasting_maker e l.body (Some v) ≡ true = ap (λ o. is_lasting_maker e l.body o) (sym k) ∙ maker_lasts e l.body in
+        or_case (makes_lasting e l.body) (is_made_lasting before e)
+        (λ q. or_left (is_lasting_for u.value l.body) (has_lasting before u.value)
+        (subst (λ (w : TxNo). is_lasting_for w.value l.body ≡ true) one
+        (or_case (not (makes_lasting e l.body)) (is_lasting_for v.value l.body) (λ n. absurd (not_both (makes_lasting e l.body) q (not_true (makes_lasting e l.body) n))) (λ n. n) maker)))
+        (λ q. absurd (let none : Some v ≡ None = sym k ∙ made_no_more before e l (lasting_makes e before q) here in cc)) lasts
+    by None k ih =
+        let none : makes_lasting e l.body ≡ false = not_true (makes_lasting e l.body) (ap (λ o. is_lasting_maker e l.body o) (sym k) ∙ maker_lasts e l.body) in
+        or_right (is_lasting_for u.value l.body) (has_lasting before u.value)
+        (ih (or_case (makes_lasting e l.body) (is_made_lasting before e) (λ q. absurd (not_both (makes_lasting e l.body) q none)) (λ q. q) lasts)
+        (ap (λ (o : Option TxNo). or_else o (made_for before e)) (sym k) ∙ of_u))
+
+-- enlistments are of the kind that is asked for
+abbrev AreOfKind : List Line → Type 0
+AreOfKind ls = always (λ before l. is_of_kind before l.body) ls ≡ true
+
+gone_lasting : (ls : List Line) (t : ℕ) → always is_named_well ls ≡ true → AreOfKind ls → has_gone ls t ≡ true → has_lasting ls t ≡ true
+gone_lasting [] t well kinds gone = absurd cc
+gone_lasting (l ∷ before) t well kinds gone =
+    let earlier : always is_named_well before ≡ true = and_right (is_named_well before l) (always is_named_well before) well in
+    let others : AreOfKind before = and_right (is_of_kind before l.body) (always (λ b m. is_of_kind b m.body) before) kinds in
+    or_right (is_lasting_for t l.body) (has_lasting before t)
+    (or_case (is_gone_of t before l.body) (has_gone before t) (λ q. one earlier l.body (and_left (is_of_kind before l.body) (always (λ b m. is_of_kind b m.body) before) kinds) q)
+    (λ q. gone_lasting before t earlier others q) gone)
+  where
+    one : always is_named_well before ≡ true → (b : Body) → is_of_kind before b ≡ true → is_gone_of t before b ≡ true → has_lasting before t ≡ true
+    one well (GoneLine e) lasts of_t = by (made_for before e.value) refl of_t
+      where
+        by : (o : Option TxNo) → made_for before e.value ≡ o → is_tx t o ≡ true → has_lasting before t ≡ true
+        by (Some u) k same = subst (λ n. has_lasting before n ≡ true) (sym (eqb-true t u.value same)) (made_lasting e.value u before well lasts k)
+        by None k same = absurd cc
+    one well _ lasts of_t = absurd cc
+
 -- The two rules against each other: no line loses an enlistment of a transaction that another line marshals.
-marshal_rule : (before : List Line) (b : Body) (next : Option Line) (t : ℕ) → is_run before b next ≡ true → is_marshal_of t b ≡ true → has_gone before t ≡ false
+marshal_rule : (before : List Line) (b : Body) (next : Option Line) (t : ℕ) → is_run before b next ≡ true → is_marshal_of t b ≡ true → has_lasting before t ≡ false
 marshal_rule before (MarshalLine u) next t run same =
-    subst (λ n. has_gone before n ≡ false) (sym (eqb-true t u.value same)) (not_true (has_gone before u.value) (and_right _ (not (has_gone before u.value)) run))
+    subst (λ n. has_lasting before n ≡ false) (sym (eqb-true t u.value same)) (not_true (has_lasting before u.value) (and_right _ (not (has_lasting before u.value)) run))
 marshal_rule before _ next t run same = absurd cc
 
 gone_rule : (before : List Line) (b : Body) (next : Option Line) (t : ℕ) → is_run before b next ≡ true → is_gone_of t before b ≡ true → has_marshal before t ≡ false
@@ -79,14 +168,18 @@ never_both : (before : List Line) (b : Body) (t : ℕ) → is_marshal_of t b ≡
 never_both before (GoneLine e) t m g = cc
 never_both before _ t m g = cc
 
-apart : (next : Option Line) (ls : List Line) (t : ℕ) → are_run_before next ls ≡ true → has_marshal ls t ≡ true → has_gone ls t ≡ true → ⊥
-apart next [] t run m g = cc
-apart next (l ∷ before) t run m g =
+apart : (next : Option Line) (ls : List Line) (t : ℕ) → always is_named_well ls ≡ true → AreOfKind ls → are_run_before next ls ≡ true → has_marshal ls t ≡ true → has_gone ls t ≡ true → ⊥
+apart next [] t well kinds run m g = cc
+apart next (l ∷ before) t well kinds run m g =
     let here : is_run before l.body next ≡ true = and_left (is_run before l.body next) (are_run_before (Some l) before) run in
     let earlier : are_run_before (Some l) before ≡ true = and_right (is_run before l.body next) (are_run_before (Some l) before) run in
+    let named : always is_named_well before ≡ true = and_right (is_named_well before l) (always is_named_well before) well in
+    let others : AreOfKind before = and_right (is_of_kind before l.body) (always (λ b k. is_of_kind b k.body) before) kinds in
     or_case (is_marshal_of t l.body) (has_marshal before t)
-    (λ p. or_case (is_gone_of t before l.body) (has_gone before t) (λ q. never_both before l.body t p q) (λ q. not_both (has_gone before t) q (marshal_rule before l.body next t here p)) g)
-    (λ p. or_case (is_gone_of t before l.body) (has_gone before t) (λ q. not_both (has_marshal before t) p (gone_rule before l.body next t here q)) (λ q. apart (Some l) before t earlier p q) g) m
+    (λ p. or_case (is_gone_of t before l.body) (has_gone before t) (λ q. never_both before l.body t p q)
+    (λ q. not_both (has_lasting before t) (gone_lasting before t named others q) (marshal_rule before l.body next t here p)) g)
+    (λ p. or_case (is_gone_of t before l.body) (has_gone before t) (λ q. not_both (has_marshal before t) p (gone_rule before l.body next t here q))
+    (λ q. apart (Some l) before t named others earlier p q) g) m
 
 -- a line that loses one is among those that do
 gone_onto : (before ls : List Line) (t : ℕ) → has_gone before t ≡ true → has_gone (onto before ls) t ≡ true
@@ -138,16 +231,16 @@ gone_calls s e t c k = by (transaction_with s e.value) k
         first None = None
     by None k = absurd cc
 
-call_loses_none : (s : List Line) (t : ℕ) → are_named_well s ≡ true → are_run s ≡ true → has_marshal (past_of s) t ≡ true → (n : ℕ) (a : ActorNo) (c : Call) → IsCallOf s t n a c → is_losing c ≡ false
-call_loses_none s t named run marshals zero a c g = let none : None ≡ Some g.line = g.stands in absurd (cc)
-call_loses_none s t named run marshals (suc n) a c g = by (given_call s (lines_before s (suc n)) g.line g.place (g.name, c) g.gives)
+call_loses_none : (s : List Line) (t : ℕ) → IsScript s → are_run s ≡ true → has_marshal (past_of s) t ≡ true → (n : ℕ) (a : ActorNo) (c : Call) → IsCallOf s t n a c → is_losing c ≡ false
+call_loses_none s t script run marshals zero a c g = let none : None ≡ Some g.line = g.stands in absurd (cc)
+call_loses_none s t script run marshals (suc n) a c g = by (given_call s (lines_before s (suc n)) g.line g.place (g.name, c) g.gives)
   where
     no_gone : (e : EnlNo) → g.line.body ≡ GoneLine e → call_of s g.line.body ≡ Some (g.name, c) → ⊥
     no_gone e body own =
         let cut = cut_here s n g.line g.stands in
         let of_t = gone_calls s e g.name c (ap (λ (b : Body). call_of s b) (sym body) ∙ own) in
-        let gone = gone_there s (take n s) cut.0 g.line e g.name cut.1 named body of_t in
-        apart None (past_of s) t run marshals (subst (λ m. has_gone (past_of s) m ≡ true) g.at_t gone)
+        let gone = gone_there s (take n s) cut.0 g.line e g.name cut.1 script.named body of_t in
+        apart None (past_of s) t script.named script.kinds run marshals (subst (λ m. has_gone (past_of s) m ≡ true) g.at_t gone)
 
     by : (call_of s g.line.body ≡ Some (g.name, c)) ⊎ (is_scope_call c ≡ true) → is_losing c ≡ false
     by (inl own) =
@@ -187,7 +280,7 @@ ran_unlost G t (m ∷ ms) w f r n =
     (ran_unlost G t ms v f r.1 (or_second (has is_of_stop es) (has is_of_stop v.past) none))
 
 -- so nothing is lost in the history of a transaction that a line marshals, where no stop came
-pub marshalled_unlost : (s : List Line) (t : ℕ) (h : List Entry) → are_named_well s ≡ true → are_run s ≡ true → has_marshal (past_of s) t ≡ true → FreelyCaused (IsCallOf s t) t h → has is_of_stop h ≡ false
+pub marshalled_unlost : (s : List Line) (t : ℕ) (h : List Entry) → IsScript s → are_run s ≡ true → has_marshal (past_of s) t ≡ true → FreelyCaused (IsCallOf s t) t h → has is_of_stop h ≡ false
     → has is_loss h ≡ false
-marshalled_unlost s t h named run marshals free unstopped =
-    ran_unlost (IsCallOf s t) t free.1.0 (record { calls = free.0; past = h }) (call_loses_none s t named run marshals) free.1.1 unstopped
+marshalled_unlost s t h script run marshals free unstopped =
+    ran_unlost (IsCallOf s t) t free.1.0 (record { calls = free.0; past = h }) (call_loses_none s t script run marshals) free.1.1 unstopped

@@ -5,7 +5,7 @@ use Rattle.dtx_values.specs.declared.script.Body.{Body}
 use Rattle.dtx_values.specs.declared.script.Body.TheVariants.{Begin, Open, Finish, Close, Current, Volatile, Durable, Promotable, Clone, Complete, Commit, Rollback, Marshal, Status, Await, Tick, Do, Gone, Par}
 use Rattle.dtx_values.specs.declared.script.Line.{Line}
 use Rattle.dtx_values.specs.Support.{is_single}
-use Rattle.dtx_model.specs.Words.{ever, has, kth, latest, past_of}
+use Rattle.dtx_model.specs.Words.{has, kth, latest, past_of}
 use Rattle.dtx_model.specs.Calls.{enlistment_made}
 use Rattle.dtx_model.specs.Grammar.{Reads}
 
@@ -24,15 +24,6 @@ is_marshal_of t _ = false
 abbrev pub made_for : List Line → ℕ → Option TxNo
 made_for before e = latest (λ l. enlistment_made e l.body) before
 
-abbrev pub is_tx : ℕ → Option TxNo → Bool
-is_tx t (Some u) = t == u.value
-is_tx t None = false
-
--- the command loses an enlistment of this transaction, which one of these lines made
-abbrev pub is_gone_of : ℕ → List Line → Body → Bool
-is_gone_of t before (Gone e) = is_tx t (made_for before e.value)
-is_gone_of t before _ = false
-
 -- one of these lines makes a durable or promotable enlistment of the transaction
 abbrev pub has_lasting : List Line → ℕ → Bool
 has_lasting before t = has (λ l. is_lasting_for t l.body) before
@@ -40,10 +31,6 @@ has_lasting before t = has (λ l. is_lasting_for t l.body) before
 -- one of them marshals it
 abbrev pub has_marshal : List Line → ℕ → Bool
 has_marshal before t = has (λ l. is_marshal_of t l.body) before
-
--- one of them loses an enlistment of it
-abbrev pub has_gone : List Line → ℕ → Bool
-has_gone before t = ever (λ earlier l. is_gone_of t earlier l.body) before
 
 abbrev pub is_marshalled : List Line → Option TxNo → Bool
 is_marshalled before (Some t) = has_marshal before t.value
@@ -60,8 +47,8 @@ is_await_line t None = false
 
 -- The commands that are run, where these lines stand before, newest first, and this line, if any, comes next.
 -- `durable` is run after a `marshal` of its transaction, and else where it has single-phase support and is the transaction's first durable or promotable;
--- `marshal` right before an `await` of its transaction, where that has no durable, no promotable, and no enlistment that is lost; `gone` where its transaction
--- wasn't marshalled; and each other but `lose`, `reenlist`, `recovered`, `stop` and `restart`.
+-- `marshal` right before an `await` of its transaction, where that has no durable and no promotable yet; `gone` where its enlistment's transaction wasn't marshalled;
+-- and each other but `lose`, `reenlist`, `recovered`, `stop` and `restart`.
 abbrev pub is_run : List Line → Body → Option Line → Bool
 is_run before (Begin t d) next = true
 is_run before (Open s o) next = true
@@ -75,7 +62,7 @@ is_run before (Clone t c k) next = true
 is_run before (Complete c) next = true
 is_run before (Commit t) next = true
 is_run before (Rollback t) next = true
-is_run before (Marshal t) next = is_await_line t.value next && not (has_lasting before t.value) && not (has_gone before t.value)
+is_run before (Marshal t) next = is_await_line t.value next && not (has_lasting before t.value)
 is_run before (Status t) next = true
 is_run before (Await t) next = true
 is_run before (Tick t n) next = true

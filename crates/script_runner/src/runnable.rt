@@ -2,7 +2,7 @@
 ghost use Rattle.std.specs.Prelude.{◌≡◌, ◌+◌, ◌<◌, List, [], ◌∷◌, length, IfNone, IfSome, slice_get, true};
 ghost use Rattle.dtx_values.specs.declared.script.Line.{Line};
 ghost use Rattle.script_runner.specs.Built.{IsNotRun, are_run, is_await_line, is_marshalled, is_run};
-ghost use Rattle.script_runner.specs.Runnable.{AreLasting, AreMadeFor, AreMarshalled, HaveGone, IsKept};
+ghost use Rattle.script_runner.specs.Runnable.{AreLasting, AreMadeFor, AreMarshalled, IsKept};
 
 use crate::plans::made_by;
 use dtx_values::{Body, EnlNo, Line, Script, TxNo};
@@ -26,8 +26,6 @@ struct Kept {
     lasting: Flags,
     /// Which were marshalled.
     marshalled: Flags,
-    /// Of which an enlistment is lost.
-    bereft: Flags,
     /// Whose each enlistment is.
     owners: Owners,
 }
@@ -90,9 +88,7 @@ fn is_run(body: Body, next: Option<Line>, kept: &Kept) -> bool
         Body::Durable(t, _, _, support) => {
             kept.marshalled[t.index()] || (support.is_single() && !kept.lasting[t.index()])
         }
-        Body::Marshal(t) => {
-            is_await(t, next) && !kept.lasting[t.index()] && !kept.bereft[t.index()]
-        }
+        Body::Marshal(t) => is_await(t, next) && !kept.lasting[t.index()],
         Body::Gone(e) => !is_marshalled(kept.owners[e.index()], &kept.marshalled),
         _ => false,
     }
@@ -119,18 +115,6 @@ fn mark_marshalled(marshalled: &mut Flags, body: Body)
     }
 }
 
-/// Marks the transaction of which a command loses an enlistment.
-fn mark_bereft(bereft: &mut Flags, owners: &Owners, body: Body)
-    ensures { (before : List Line) (l : Line) → l.body ≡ body → AreMadeFor owners.now before → HaveGone bereft.old before → HaveGone bereft.new (l ∷ before) }
-{
-    let Body::Gone(e) = body else {
-        return;
-    };
-    if let Some(t) = owners[e.index()] {
-        bereft[t.index()] = true;
-    }
-}
-
 /// Keeps whose the enlistment is that a command makes.
 fn keep_owner(owners: &mut Owners, body: Body)
     ensures { (before : List Line) (l : Line) → l.body ≡ body → AreMadeFor owners.old before → AreMadeFor owners.new (l ∷ before) }
@@ -148,7 +132,6 @@ impl Kept {
         Kept {
             lasting: [false; TRANSACTIONS],
             marshalled: [false; TRANSACTIONS],
-            bereft: [false; TRANSACTIONS],
             owners: [None; ENLISTMENTS],
         }
     }
@@ -159,7 +142,6 @@ impl Kept {
     {
         mark_lasting(&mut self.lasting, body);
         mark_marshalled(&mut self.marshalled, body);
-        mark_bereft(&mut self.bereft, &self.owners, body);
         keep_owner(&mut self.owners, body);
     }
 }
@@ -182,7 +164,7 @@ pub fn first_to_build(lines: &[Line]) -> Option<usize>
 
 /// Whether each line of a script is run, as [`run_replay`](crate::run_replay) needs it: each is of this version's commands. A `durable` is run after a `marshal` of its
 /// transaction, or else where it can own the commit and is the first durable or promotable of its transaction; a `marshal` right before an `await` of its transaction,
-/// where that has no durable or promotable yet, and no enlistment that is lost; and a `gone` where no line before it marshals the enlistment's transaction.
+/// where that has no durable or promotable yet; and a `gone` where no line before it marshals the enlistment's transaction.
 pub fn is_runnable(s: &Script) -> bool
     ensures { result ≡ are_run s.now }
 {
