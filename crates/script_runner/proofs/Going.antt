@@ -19,8 +19,8 @@ goes_then faults honest a b c p q =
       grows = omega (arith, p.grows, q.grows);
       stays = λ up none.
           elim (p.stays up none) [
-            | inl mid ↦ elim (q.stays mid (p.unarmed none)) [
-                | inl end ↦ inl end
+            | inl here ↦ elim (q.stays here (p.unarmed none)) [
+                | inl there ↦ inl there
                 | inr rose ↦ inr (rose_earlier (faults a.disk) (faults b.disk) (faults c.disk) p.grows rose)
               ]
             | inr rose ↦ inr (rose_later (faults a.disk) (faults b.disk) (faults c.disk) rose q.grows)
@@ -43,8 +43,8 @@ runs_then faults a b c x y z first second p q =
       back = λ quiet. p.back (q.back quiet);
       forth = λ quiet.
           elim (p.forth quiet) [
-            | inl mid ↦ elim (q.forth mid) [
-                | inl end ↦ inl end
+            | inl here ↦ elim (q.forth here) [
+                | inl there ↦ inl there
                 | inr rose ↦ inr (rose_earlier (faults a.disk) (faults b.disk) (faults c.disk) first rose)
               ]
             | inr rose ↦ inr (rose_later (faults a.disk) (faults b.disk) (faults c.disk) rose second)
