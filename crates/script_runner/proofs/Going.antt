@@ -2,7 +2,7 @@
 use Rattle.std.proofs.Common.{◌≡◌, ◌≤◌, ◌⊎◌, ◌∙◌, ℕ, Bool, true, List, [], ◌∷◌, refl, sym, subst, arith, inl, inr}
 use Rattle.std.specs.Prelude.{nat_lt}
 use Rattle.outside.proofs.Rising.{rose_earlier, rose_later}
-use Rattle.dtx_model.specs.Waiting.{EnteredCall}
+use Rattle.dtx_model.specs.declared.waiting.EnteredCall.{EnteredCall}
 use Rattle.dtx_model.specs.Words.{each}
 use Rattle.coordinator_log.specs.State.{LogState}
 use Rattle.tx_world.specs.State.{TxState}
