@@ -37,28 +37,6 @@ loop-preserved g c =
           (suc did.0, steps-more start.script c.args.t 1 did.0 start.trace c.loop.self.trace c.step.new.self.trace did.1 one);
     }
 
-pub loop-smaller : goal.loop-smaller
-loop-smaller g c =
-    let some : c.step.result ≡ Ok true = cc in
-    c.step.ensures.nearer some
-
-pub returns-then-not-branch-clause-contexts : goal.returns-then-not-branch-clause-contexts
-returns-then-not-branch-clause-contexts g c = c.step.ensures.contexts ∙ c.loop.invariant.contexts
-
-pub returns-then-not-branch-clause-log : goal.returns-then-not-branch-clause-log
-returns-then-not-branch-clause-log g c = goes_then g.D.Disk.faults g.D.Disk.honest c.args.log.now c.loop.log c.step.new.log c.loop.invariant.log c.step.ensures.log
-
-pub returns-then-not-branch-clause-runs : goal.returns-then-not-branch-clause-runs
-returns-then-not-branch-clause-runs g c =
-    let was = c.loop.invariant in
-    runs_then g.D.Disk.faults c.args.log.now c.loop.log c.step.new.log c.args.self.now c.loop.self c.step.new.self was.log.grows c.step.ensures.log.grows was.runs c.in_ok-step.ensures.runs
-
-pub returns-then-not-branch-clause-holds : goal.returns-then-not-branch-clause-holds
-returns-then-not-branch-clause-holds g c = c.in_ok-step.ensures.holds
-
-pub returns-then-not-branch-clause-calls : goal.returns-then-not-branch-clause-calls
-returns-then-not-branch-clause-calls g c = calls_then c.args.self.now.worlds c.loop.self.worlds c.step.new.self.worlds c.loop.invariant.calls c.step.ensures.calls
-
 pub returns-then-not-branch-clause-settled : goal.returns-then-not-branch-clause-settled
 returns-then-not-branch-clause-settled g c =
     let done : c.step.result ≡ Ok false = cc in

@@ -43,23 +43,6 @@ loop-m-preserved g c =
           (steps-more start.script c.args.t c.args.k m start.trace c.loop-m.self.trace c.step.new.self.trace (was.done before) one);
     }
 
-pub returns-then-not-branch-clause-contexts : goal.returns-then-not-branch-clause-contexts
-returns-then-not-branch-clause-contexts g c = c.step.ensures.contexts ∙ c.loop-m.invariant.contexts
-
-pub returns-then-not-branch-clause-log : goal.returns-then-not-branch-clause-log
-returns-then-not-branch-clause-log g c = goes_then g.D.Disk.faults g.D.Disk.honest c.args.log.now c.loop-m.log c.step.new.log c.loop-m.invariant.log c.step.ensures.log
-
-pub returns-then-not-branch-clause-runs : goal.returns-then-not-branch-clause-runs
-returns-then-not-branch-clause-runs g c =
-    let was = c.loop-m.invariant in
-    runs_then g.D.Disk.faults c.args.log.now c.loop-m.log c.step.new.log c.args.self.now c.loop-m.self c.step.new.self was.log.grows c.step.ensures.log.grows was.runs c.in_ok-step.ensures.runs
-
-pub returns-then-not-branch-clause-holds : goal.returns-then-not-branch-clause-holds
-returns-then-not-branch-clause-holds g c = c.in_ok-step.ensures.holds
-
-pub returns-then-not-branch-clause-calls : goal.returns-then-not-branch-clause-calls
-returns-then-not-branch-clause-calls g c = calls_then c.args.self.now.worlds c.loop-m.self.worlds c.step.new.self.worlds c.loop-m.invariant.calls c.step.ensures.calls
-
 pub returns-then-not-branch-clause-did : goal.returns-then-not-branch-clause-did
 returns-then-not-branch-clause-did g c =
     let done : c.step.result ≡ Ok false = cc in
