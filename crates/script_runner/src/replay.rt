@@ -1,5 +1,5 @@
 //! A replay: the lines in order, and then the rounds at the end.
-ghost use Rattle.std.specs.Prelude.{ℕ, ◌≡◌, ◌⊎◌, ◌≢◌, ◌≤◌, ◌<◌, ◌+◌, ◌-◌, List, [], ◌∷◌, ◌++◌, IfOk, OnErr, OnOk, IsTrue, None, Ok, Some, true, false, ⊥, length, map, replicate, slice_get, suc, vec_len, vec_capacity};
+ghost use Rattle.std.specs.Prelude.{ℕ, ◌≡◌, ◌⊎◌, ◌≢◌, ◌≤◌, ◌<◌, ◌+◌, ◌-◌, List, [], ◌∷◌, ◌++◌, IfOk, OnErr, OnOk, IsTrue, None, Ok, Some, true, false, length, map, replicate, slice_get, suc, vec_len, vec_capacity};
 ghost use Rattle.dtx_values.specs.declared.call.Call.{Call};
 ghost use Rattle.dtx_values.specs.declared.entry.Entry.{Entry};
 ghost use Rattle.dtx_values.specs.declared.number.ActorNo.{ActorNo};
@@ -13,7 +13,7 @@ ghost use Rattle.dtx_model.specs.Steps.{Calls, pending};
 ghost use Rattle.dtx_model.specs.Caused.{HasDone, HasStepped, IsCallOf, MayAnswer, Settled};
 ghost use Rattle.dtx_model.specs.Contexts.{calls_by, lines_before, scope_block, scope_calls};
 ghost use Rattle.dtx_model.specs.Traces.{Placed, history, noted, placed};
-ghost use Rattle.dtx_model.specs.Replay.{CallRan, HasDoneAt, IsReplayed, LinesRan, after_calls, after_scope, after_turn};
+ghost use Rattle.dtx_model.specs.Replay.{CallRan, HasDoneAt, IsReplayed, LinesRan, after_calls, after_scope, after_turn, world_at};
 ghost use Rattle.dtx_model.specs.History.{HasOneOutcome, IsComplete, IsHistory, IsReplay};
 ghost use Rattle.dtx_model.specs.Grammar.{IsScript, are_named_well};
 ghost use Rattle.outcome_law.specs.LogQuiet.{is_log_quiet};
@@ -184,6 +184,7 @@ impl<'a> Run<'a> {
         ensures some { result ≡ Ok true → IsQuiet self.new → Advances self.old.script t k self.old.trace self.new.trace }
         ensures nearer { result ≡ Ok true → steps_left (state_of t self.new.worlds).world < steps_left (state_of t self.old.worlds).world }
         ensures none { result ≡ Ok false → kth (pending (state_of t self.old.worlds).world) k ≡ None }
+        ensures none_here { result ≡ Ok false → IsQuiet self.old → kth (pending (world_at self.old.script t (past_of self.old.trace))) k ≡ None }
         ensures unchanged { result ≡ Ok false → (self.new ≡ self.old) × (log.new ≡ log.old) }
     {
         if self.worlds.len() <= t.index() {
