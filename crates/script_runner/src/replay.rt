@@ -426,7 +426,8 @@ impl<'a> Run<'a> {
 
     /// The trace so far.
     fn into_trace(self) -> Trace
-        ensures { result ≡ self.entry.trace }
+        ensures trace { result ≡ self.entry.trace }
+        ensures numbered { (t : TxNo) → (state_of t self.entry.worlds).transaction ≡ t }
     {
         Trace::new(self.trace)
     }
