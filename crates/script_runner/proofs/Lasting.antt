@@ -17,20 +17,20 @@ use Rattle.dtx_values.specs.declared.script.Body.TheVariants.{Durable as Durable
 use Rattle.dtx_values.specs.declared.script.EnlistOption.TheVariants.{Plain, DuringPrepare}
 use Rattle.dtx_values.specs.declared.script.Line.{Line}
 use Rattle.dtx_values.specs.declared.script.Support.{Support}
-use Rattle.dtx_values.specs.declared.script.Support.TheVariants.{SinglePhase, TwoPhase}
 use Rattle.dtx_values.specs.Table.{marks, voted}
 use Rattle.dtx_values.specs.Clones.{is_open_rollback}
 use Rattle.dtx_model.specs.Words.{has, each}
 use Rattle.dtx_values.specs.Row.{is_lasting, is_of, number_of, fresh_row, mark_row, vote_row}
 use Rattle.dtx_values.specs.Class.{is_volatile}
+use Rattle.dtx_values.specs.Support.{is_single}
 use Rattle.dtx_model.specs.Observed.{Observed, rows}
 use Rattle.dtx_model.specs.Contexts.{calls_by}
 use Rattle.dtx_model.specs.Calls.{call_of, complete_call, transaction_of, gone_call, reenlist_call, transaction_with}
 use Rattle.dtx_model.specs.Half.{is_handed}
 use Rattle.dtx_model.specs.Facts.{facts_if, reaches, ticked}
 use Rattle.dtx_model.proofs.Narrow.{facts, veto_if, time_up, is_late, lost_outcome, decided_if}
-use Rattle.script_runner.specs.Built.{is_lasting_for, is_run}
-use Rattle.dtx_model.proofs.Bools.{or_case, not_true, not_both}
+use Rattle.script_runner.specs.Built.{has_lasting, has_marshal, is_lasting_for, is_run}
+use Rattle.dtx_model.proofs.Bools.{and_left, and_right, or_case, not_true, not_both}
 use Rattle.outcome_law.proofs.Tests.{eq_self}
 use Rattle.outcome_law.proofs.Scans.{none_more}
 use Rattle.outcome_law.proofs.Lists.{has_kept, if_kept, has-insert}
@@ -145,6 +145,11 @@ abbrev called_in : TxNo → Option (TxNo × Call) → TxNo
 called_in t (Some c) = c.0
 called_in t None = t
 
+-- its support, and this one where none is
+abbrev supported_in : Support → Option (TxNo × Call) → Support
+supported_in y (Some (t, Durable u e r x)) = x
+supported_in y _ = y
+
 -- a clone's call makes none
 complete_no_durable : (c : CloneNo) (o : Option TxNo) → is_durable_call (complete_call c o) ≡ true → ⊥
 complete_no_durable c (Some t) h = cc
@@ -155,16 +160,27 @@ gone_no_durable : (e : EnlNo) (o : Option TxNo) → is_durable_call (gone_call e
 gone_no_durable e (Some t) h = cc
 gone_no_durable e None h = cc
 
--- a line that is run and calls a durable stands after none that makes a durable or promotable of its transaction
-pub first_lasting : (s before : List Line) (b : Body) (t u : TxNo) (e : EnlNo) (r : RmNo) (x : Support) → call_of s b ≡ Some (t, Durable u e r x) → is_run before b ≡ true
-    → has (λ l. is_lasting_for t.value l.body) before ≡ false
-first_lasting s before b t u e r x k h = by_body b k h (ap (λ o. is_durable_call o) k)
+-- A durable that is run, and whose transaction no line before it marshals, has single-phase support, and stands after no line that makes a durable or promotable of it.
+pub record IsFirst (before : List Line) (t : ℕ) (x : Support) : Type 0 where
+  pub single : is_single x ≡ true
+  pub first : has_lasting before t ≡ false
+
+pub first_lasting : (s before : List Line) (b : Body) (next : Option Line) (t u : TxNo) (e : EnlNo) (r : RmNo) (x : Support) → call_of s b ≡ Some (t, Durable u e r x) → is_run before b next ≡ true
+    → has_marshal before t.value ≡ false → IsFirst before t.value x
+first_lasting s before b next t u e r x k h unmarshalled = by_body b k h (ap (λ o. is_durable_call o) k)
   where
-    by_body : (b : Body) → call_of s b ≡ Some (t, Durable u e r x) → is_run before b ≡ true → is_durable_call (call_of s b) ≡ true → has (λ l. is_lasting_for t.value l.body) before ≡ false
-    by_body (DurableLine v f q (SinglePhase w o)) k h m =
+    alone : (m single second : Bool) → m ≡ false → (m || (single && not second)) ≡ true → (single ≡ true) × (second ≡ false)
+    alone true single second n k = absurd cc
+    alone false single second n k = (and_left single (not second) k, not_true second (and_right single (not second) k))
+
+    by_body : (b : Body) → call_of s b ≡ Some (t, Durable u e r x) → is_run before b next ≡ true → is_durable_call (call_of s b) ≡ true → IsFirst before t.value x
+    by_body (DurableLine v f q y) k h m =
         let same : v ≡ t = ap (λ o. called_in v o) k in
-        subst (λ v. has (λ l. is_lasting_for v.value l.body) before ≡ false) same (not_true (has (λ l. is_lasting_for v.value l.body) before) h)
-    by_body (DurableLine v f q (TwoPhase w)) k h m = absurd cc
+        let supports : y ≡ x = ap (λ o. supported_in y o) k in
+        let h_t : (has_marshal before t.value || (is_single y && not (has_lasting before t.value))) ≡ true = subst (λ (w : TxNo). (has_marshal before w.value || (is_single y && not (has_lasting before w.value))) ≡ true) same h in
+        let parts = alone (has_marshal before t.value) (is_single y) (has_lasting before t.value) unmarshalled h_t in
+        record { single = subst (λ z. is_single z ≡ true) supports parts.0; first = parts.1 }
     by_body (CompleteLine c) k h m = absurd (complete_no_durable c (transaction_of s c.value) m)
     by_body (GoneLine f) k h m = absurd (gone_no_durable f (transaction_with s f.value) m)
+    by_body (ReenlistLine f) k h m = absurd cc
     by_body _ k h m = absurd cc
