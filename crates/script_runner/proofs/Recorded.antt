@@ -14,6 +14,7 @@ use Rattle.dtx_model.specs.Traces.{Placed, history}
 use Rattle.dtx_model.specs.declared.waiting.EnteredCall.{EnteredCall}
 use Rattle.coordinator_log.specs.Slots.{open_records}
 use Rattle.coordinator_log.specs.State.{LogState}
+use Rattle.outcome_law.specs.LogQuiet.{is_log_quiet}
 use Rattle.outcome_law.proofs.CoreStages.{recorded_mark}
 use Rattle.scope_context.specs.Standing.{Standing}
 use Rattle.tx_world.specs.AtLog.{AtMostOne, Fits, id_of}
@@ -21,7 +22,7 @@ use Rattle.tx_world.specs.State.{TxState}
 use Rattle.tx_world.proofs.Fitting.{one_found}
 use Rattle.tx_world.proofs.Records.{one_where_none}
 use Rattle.script_runner.specs.Ending.{AreRecorded, HasNone}
-use Rattle.script_runner.specs.RunState.{AreOthersKept, Holds, IsCalm, IsQuiet, IsTied, RunState, state_of, untouched}
+use Rattle.script_runner.specs.RunState.{Holds, IsCalm, IsQuiet, IsTied, LogGoes, RunState, state_of, untouched}
 
 -- where there is at most one record of an identifier, there is one exactly where the first is found
 pub counted : (id : ℕ) (rs : List CommitRecord) → AtMostOne id rs → length (filter (is_record_of id) rs) ≡ (if is_some (first_of id rs) then 1 else 0)
@@ -44,14 +45,13 @@ recorded_there s life t T x rs named tied calm fits =
     subst (λ (u : TxNo). length (filter (is_record_of (identifier_of u.value)) rs) ≡ (if has_mark (history t.value T) then 1 else 0)) named (there ∙ ap (λ b. if b then 1 else 0) found)
 
 -- and the whole log has those records, where those that are no transaction's stayed
-pub are_recorded : {D : Type 0} (honest : Bool) (from to : LogState D) (r : RunState) → ((t : TxNo) → (state_of t r.worlds).transaction ≡ t) → IsTrue honest → IsQuiet r → Holds honest to r
-    → AreOthersKept from to → AreRecorded (past_of r.trace) (open_records from.slots) (open_records to.slots)
-are_recorded honest from to r numbered h quiet holds others =
-    record {
-      recorded = λ t.
-          recorded_there r.script to.life t (past_of r.trace) (state_of t r.worlds) (open_records to.slots) (numbered t) (holds.tied t) (holds.calm quiet t) (holds.fits h (holds.up quiet) t);
-      others = others;
-    }
+pub are_recorded : {D : Type 0} (faults : D → ℕ) (honest : Bool) (from to : LogState D) (r : RunState) (T : List Placed) → T ≡ r.trace → ((t : TxNo) → (state_of t r.worlds).transaction ≡ t) → IsTrue honest
+    → is_log_quiet (past_of T) ≡ true → Holds honest to r → LogGoes faults honest from to → AreRecorded (past_of T) (open_records from.slots) (open_records to.slots)
+are_recorded faults honest from to r T same numbered h k holds goes =
+    let quiet : IsQuiet r = subst (λ (U : List Placed). is_log_quiet (past_of U) ≡ true) same k in
+    let there : (t : TxNo) → length (filter (is_record_of (identifier_of t.value)) (open_records to.slots)) ≡ (if has_mark (history t.value (past_of r.trace)) then 1 else 0) =
+        λ t. recorded_there r.script to.life t (past_of r.trace) (state_of t r.worlds) (open_records to.slots) (numbered t) (holds.tied t) (holds.calm quiet t) (holds.fits h (holds.up quiet) t) in
+    subst (λ (U : List Placed). AreRecorded (past_of U) (open_records from.slots) (open_records to.slots)) (sym same) (record { recorded = there; others = goes.others h (holds.up quiet) })
 
 -- Before the first step: nothing is called,
 none_in : (k : ℕ) (c : EnteredCall) → kth {A = EnteredCall} [] k ≡ Some c → ⊥

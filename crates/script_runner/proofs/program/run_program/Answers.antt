@@ -105,3 +105,15 @@ returns-in-Err-Fault-default-clause-not_yet_refused g c n words b told bad =
 
 pub replayed-replayed-requires-clause-none : goal.replayed-replayed-requires-clause-none
 replayed-replayed-requires-clause-none g c honest = none_there _ c.in-Ok-formatted.ensures.empty
+
+pub returns-in_default-clause-given_up : goal.returns-in_default-clause-given_up
+returns-in_default-clause-given_up g c honest k none =
+    inr
+    (is_log g.D.Disk.faults g.D.Disk.honest g.D.Disk.image c.args.disk c.into_disk-disk.result c.in-Ok-formatted.log c.replayed-replayed.new.log c.in-Ok-formatted.ensures.smooth c.into_disk-disk.ensures.disk
+    c.in-Ok-formatted.ensures.up c.in-Ok-formatted.ensures.unarmed c.in-Ok-formatted.ensures.empty c.replayed-replayed.ensures.log c.into_disk-disk.ensures.images honest none)
+
+pub returns-clause-given_up : goal.returns-clause-given_up
+returns-clause-given_up g c honest k none =
+    inr
+    (is_log g.D.Disk.faults g.D.Disk.honest g.D.Disk.image c.args.disk c.into_disk-disk.result c.in-Ok-formatted.log c.replayed-replayed.new.log c.in-Ok-formatted.ensures.smooth c.into_disk-disk.ensures.disk
+    c.in-Ok-formatted.ensures.up c.in-Ok-formatted.ensures.unarmed c.in-Ok-formatted.ensures.empty c.replayed-replayed.ensures.log c.into_disk-disk.ensures.images honest none)

@@ -6,7 +6,6 @@ use Rattle.dtx_model.specs.Traces.{Placed, history}
 use Rattle.dtx_model.specs.Replay.{IsReplayed, LinesRan}
 use Rattle.dtx_model.specs.Words.{has, past_of}
 use Rattle.outcome_law.specs.LogQuiet.{is_log_quiet}
-use Rattle.script_runner.specs.Ending.{AreRecorded}
 use Rattle.script_runner.specs.RunState.{AreBelow, IsQuiet, IsSettledBelow, IsToPlan, RunState, Holds, Runs, is_of_stop}
 use Rattle.script_runner.specs.Scoped.{AreOpen}
 use Rattle.script_runner.proofs.Going.{goes_then, runs_then}
@@ -70,8 +69,5 @@ returns-clause-calm g c q t =
 
 pub returns-clause-recorded : goal.returns-clause-recorded
 returns-clause-recorded g c h q =
-    let quiet : IsQuiet c.settle_all.new.self = subst (λ (T : List Placed). is_log_quiet (past_of T) ≡ true) c.into_trace.ensures.trace q in
-    let goes = goes_then g.D.Disk.faults g.D.Disk.honest _ _ _ c.lines.ensures.log c.settle_all.ensures.log in
-    let holds = c.in_ok-settle_all.ensures.holds in
-    subst (λ (T : List Placed). AreRecorded (past_of T) _ _) (sym c.into_trace.ensures.trace)
-    (are_recorded g.D.Disk.honest _ _ c.settle_all.new.self c.into_trace.ensures.numbered h quiet holds (goes.others h (holds.up quiet)))
+    are_recorded g.D.Disk.faults g.D.Disk.honest c.args.log.now c.settle_all.new.log c.settle_all.new.self _ c.into_trace.ensures.trace c.into_trace.ensures.numbered h q c.in_ok-settle_all.ensures.holds
+    (goes_then g.D.Disk.faults g.D.Disk.honest c.args.log.now c.lines.new.log c.settle_all.new.log c.lines.ensures.log c.settle_all.ensures.log)
