@@ -41,7 +41,7 @@ pub recorded_there : (s : List Line) (life : ℕ) (t : TxNo) (T : List Placed) (
 recorded_there s life t T x rs named tied calm fits =
     let there : length (filter (is_record_of (id_of x)) rs) ≡ (if is_some (first_of (id_of x) rs) then 1 else 0) = counted (id_of x) rs fits.one in
     let found : is_some (first_of (id_of x) rs) ≡ has_mark (history t.value T) =
-        ap (λ (o : Option CommitRecord). is_some o) (one_found (id_of x) x.ours x.unsure rs calm.sure fits) ∙ calm.recorded ∙ recorded_mark x.world.past ∙ ap has_mark tied.past in
+    ap (λ (o : Option CommitRecord). is_some o) (one_found (id_of x) x.ours x.unsure rs calm.sure fits) ∙ calm.recorded ∙ recorded_mark x.world.past ∙ ap has_mark tied.past in
     subst (λ (u : TxNo). length (filter (is_record_of (identifier_of u.value)) rs) ≡ (if has_mark (history t.value T) then 1 else 0)) named (there ∙ ap (λ b. if b then 1 else 0) found)
 
 -- and the whole log has those records, where those that are no transaction's stayed
@@ -50,7 +50,7 @@ pub are_recorded : {D : Type 0} (faults : D → ℕ) (honest : Bool) (from to : 
 are_recorded faults honest from to r T same numbered h k holds goes =
     let quiet : IsQuiet r = subst (λ (U : List Placed). is_log_quiet (past_of U) ≡ true) same k in
     let there : (t : TxNo) → length (filter (is_record_of (identifier_of t.value)) (open_records to.slots)) ≡ (if has_mark (history t.value (past_of r.trace)) then 1 else 0) =
-        λ t. recorded_there r.script to.life t (past_of r.trace) (state_of t r.worlds) (open_records to.slots) (numbered t) (holds.tied t) (holds.calm quiet t) (holds.fits h (holds.up quiet) t) in
+    λ t. recorded_there r.script to.life t (past_of r.trace) (state_of t r.worlds) (open_records to.slots) (numbered t) (holds.tied t) (holds.calm quiet t) (holds.fits h (holds.up quiet) t) in
     subst (λ (U : List Placed). AreRecorded (past_of U) (open_records from.slots) (open_records to.slots)) (sym same) (record { recorded = there; others = goes.others h (holds.up quiet) })
 
 -- Before the first step: nothing is called,

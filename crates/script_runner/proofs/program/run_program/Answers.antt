@@ -55,7 +55,6 @@ returns-in-Ok-write_all-clause-headline g c k none =
     (λ b told. c.deref.ensures.value ∙ c.in-Ok.ensures.read b told) c.in-Ok-script_to_run.ensures.script.0 c.in-Ok-replayed.ensures.text none)
     c.deref-2.ensures.value c.in-Ok-write_all.ensures.all
 
-
 pub returns-in-Ok-write_all-clause-read : goal.returns-in-Ok-write_all-clause-read
 returns-in-Ok-write_all-clause-read g c k =
     left-none _ _ c.deref.result.now c.in-Ok-script_to_run.script (λ b told. c.deref.ensures.value ∙ c.in-Ok.ensures.read b told) c.in-Ok-script_to_run.ensures.script.0 c.in-Ok.ensures.left
@@ -68,7 +67,6 @@ returns-in-Err-Fault-write_all-clause-cut_short g c k none =
     (λ b told. c.deref.ensures.value ∙ c.in-Ok.ensures.read b told) c.in-Ok-script_to_run.ensures.script.0 c.in-Ok-replayed.ensures.text none)
     c.deref-2.ensures.value c.in-Err-Fault-write_all.ensures.part
 
-
 pub returns-clause-memory : goal.returns-clause-memory
 returns-clause-memory g c k none =
     inr
@@ -77,7 +75,6 @@ returns-clause-memory g c k none =
     c.in-Ok-formatted.ensures.up c.in-Ok-formatted.ensures.unarmed c.in-Ok-formatted.ensures.empty c.replayed-replayed.ensures.log c.into_disk-disk.ensures.images
     (λ b told. c.deref.ensures.value ∙ c.in-Ok.ensures.read b told) c.in-Ok-script_to_run.ensures.script.0 c.in-Ok-replayed.ensures.text none)
     c.deref-2.ensures.value c.in-Err-Memory-write_all.ensures.part)
-
 
 pub returns-in-Ok-write_all-clause-bad_refused : goal.returns-in-Ok-write_all-clause-bad_refused
 returns-in-Ok-write_all-clause-bad_refused g c n cause words b told bad =

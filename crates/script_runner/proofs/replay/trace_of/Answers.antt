@@ -61,11 +61,11 @@ returns-clause-calm g c q t =
     let quiet : IsQuiet c.settle_all.new.self = subst (λ (T : List Placed). is_log_quiet (past_of T) ≡ true) c.into_trace.ensures.trace q in
     let first : c.in_ok-run.run'.script ≡ c.args.lines.now = ap (λ (r : RunState). r.script) c.in_ok-run.ensures in
     let same : c.settle_all.new.self.script ≡ c.args.lines.now = c.in_ok-settle_all.ensures.runs.script ∙ c.in_ok-lines.ensures.runs.script ∙ first in
-    let calm = calm_history g.D.Disk.honest _ c.settle_all.new.self quiet c.in_ok-settle_all.ensures.holds t in
-    (
-    subst (λ (T : List Placed). IsToPlan c.args.lines.now (history t.value (past_of T))) (sym c.into_trace.ensures.trace)
-    (subst (λ (s : List Line). IsToPlan s (history t.value (past_of c.settle_all.new.self.trace))) same calm.0),
-    subst (λ (T : List Placed). has is_of_stop (history t.value (past_of T)) ≡ false) (sym c.into_trace.ensures.trace) calm.1)
+    let calm = calm_history g.D.Disk.honest _ c.settle_all.new.self quiet c.in_ok-settle_all.ensures.holds t in (
+      subst (λ (T : List Placed). IsToPlan c.args.lines.now (history t.value (past_of T))) (sym c.into_trace.ensures.trace)
+          (subst (λ (s : List Line). IsToPlan s (history t.value (past_of c.settle_all.new.self.trace))) same calm.0),
+      subst (λ (T : List Placed). has is_of_stop (history t.value (past_of T)) ≡ false) (sym c.into_trace.ensures.trace) calm.1,
+    )
 
 pub returns-clause-recorded : goal.returns-clause-recorded
 returns-clause-recorded g c h q =
