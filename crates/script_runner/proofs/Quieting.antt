@@ -1,17 +1,17 @@
 -- Traces in which nothing stands at the log: no stop and no opening is there, so that they stand where they should.
-use Rattle.std.proofs.Common.{◌≡◌, ◌≤◌, ◌+◌, ℕ, arith, Bool, true, false, ◌&&◌, ◌||◌, not, List, [], ◌∷◌, None, refl, ap}
+use Rattle.std.proofs.Common.{◌≡◌, ◌≤◌, ℕ, arith, Bool, true, false, not, List, [], ◌∷◌, None, refl, ap}
 use Rattle.dtx_values.specs.declared.entry.Entry.{Entry}
 use Rattle.dtx_values.specs.declared.entry.Entry.TheVariants.{Freed, Logged, Restarted, Stopped}
 use Rattle.dtx_values.specs.declared.number.TxNo.{TxNo}
 use Rattle.dtx_values.specs.declared.trace.Place.TheVariants.{Context, Log, Transaction}
 use Rattle.dtx_values.specs.Table.{how_many}
 use Rattle.dtx_model.specs.Words.{each, has, latest}
-use Rattle.dtx_model.specs.AtLog.{at_log, faults, follow_log, follows_log, is_known, is_met, is_restart, is_stop, open_right, stop_right, transactions}
+use Rattle.dtx_model.specs.AtLog.{at_log, faults, follow_log, follows_log, is_met, is_restart, is_stop, open_right, stop_right, transactions}
 use Rattle.dtx_model.specs.Caused.{is_begin_sent}
 use Rattle.dtx_model.specs.Tied.{tied}
 use Rattle.dtx_model.specs.Traces.{Placed, history}
 use Rattle.dtx_model.specs.Wires.{holds, is_stopped, stop_of}
-use Rattle.dtx_model.proofs.Bools.{and_both, not_false, or_first, or_right, or_second}
+use Rattle.dtx_model.proofs.Bools.{and_both, or_first, or_right, or_second}
 use Rattle.outcome_law.specs.LogQuiet.{is_log_quiet}
 use Rattle.outcome_law.proofs.Scans.{has_less}
 use Rattle.script_runner.specs.RunState.{is_of_stop}

@@ -1,14 +1,11 @@
 -- The log at the end of a run: its records are those of the transactions that have one by their histories.
-use Rattle.std.proofs.Common.{◌≡◌, ◌≤◌, ◌<◌, ◌-◌, ◌∙◌, ℕ, zero, suc, Bool, true, false, List, [], ◌∷◌, Option, Some, None, arith, refl, sym, ap, subst, inl}
-use Rattle.std.specs.Prelude.{IsTrue, filter, is_some, length, slice_get, if◌then◌else◌}
-use Rattle.dtx_values.specs.declared.call.Call.{Call}
-use Rattle.dtx_values.specs.declared.number.ActorNo.{ActorNo}
+use Rattle.std.proofs.Common.{◌≡◌, ◌≤◌, ◌∙◌, ℕ, zero, suc, Bool, true, false, List, [], ◌∷◌, Option, Some, None, arith, refl, sym, ap, subst, inl}
+use Rattle.std.specs.Prelude.{IsTrue, filter, is_some, length, if◌then◌else◌}
 use Rattle.dtx_values.specs.declared.number.TxNo.{TxNo}
 use Rattle.dtx_values.specs.declared.script.Line.{Line}
-use Rattle.dtx_model.specs.Words.{has, kth, past_of}
+use Rattle.dtx_model.specs.Words.{kth, past_of}
 use Rattle.dtx_model.specs.Log.{CommitRecord, first_of, is_record_of}
 use Rattle.dtx_model.specs.Promotes.{identifier_of}
-use Rattle.dtx_model.specs.Caused.{IsCallOf, IsIn, is_begin_sent}
 use Rattle.dtx_model.specs.Tied.{has_mark}
 use Rattle.dtx_model.specs.Traces.{Placed, history}
 use Rattle.dtx_model.specs.declared.waiting.EnteredCall.{EnteredCall}

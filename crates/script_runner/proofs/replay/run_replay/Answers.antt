@@ -1,4 +1,4 @@
-use Rattle.std.proofs.Common.{◌≡◌, ◌⊎◌, [], List, inl, inr}
+use Rattle.std.proofs.Common.{[], inl, inr}
 use Rattle.dtx_values.specs.declared.number.TxNo.{TxNo}
 use Rattle.dtx_model.specs.Caused.{Caused}
 use Rattle.dtx_model.specs.Traces.{history}

@@ -1,12 +1,11 @@
 use Rattle.std.proofs.Common.{◌≡◌, List, [], false, true, ap, arith, refl, subst, sym, ◌∙◌}
 use Rattle.dtx_values.specs.declared.script.Line.{Line}
-use Rattle.dtx_values.specs.declared.number.TxNo.{TxNo}
 use Rattle.dtx_model.specs.Caused.{Settled}
 use Rattle.dtx_model.specs.Traces.{Placed, history}
 use Rattle.dtx_model.specs.Replay.{IsReplayed, LinesRan}
 use Rattle.dtx_model.specs.Words.{has, past_of}
 use Rattle.outcome_law.specs.LogQuiet.{is_log_quiet}
-use Rattle.script_runner.specs.RunState.{AreBelow, IsQuiet, IsSettledBelow, IsToPlan, RunState, Holds, Runs, is_of_stop}
+use Rattle.script_runner.specs.RunState.{AreBelow, IsQuiet, IsSettledBelow, IsToPlan, RunState, Holds, is_of_stop}
 use Rattle.script_runner.specs.Scoped.{AreOpen}
 use Rattle.script_runner.proofs.Going.{goes_then, runs_then}
 use Rattle.script_runner.proofs.Openings.{open_none}
