@@ -1,5 +1,5 @@
 //! The top call.
-ghost use Rattle.std.specs.Prelude.{◌≡◌, ◌≢◌, ◌⊎◌, ◌↔◌, ◌≤◌, ◌+◌, ◌-◌, ⊥, ℕ, List, [], None, Ok, Some, drop, map, true, IfErr, IfOk, IsTrue};
+ghost use Rattle.std.specs.Prelude.{◌≡◌, ◌≢◌, ◌⊎◌, ◌↔◌, ◌≤◌, ◌+◌, ◌-◌, ℕ, List, [], None, Ok, Some, drop, map, true, IfErr, IfOk, IsTrue};
 ghost use Rattle.std.specs.Option.{ForSome};
 ghost use Rattle.std.specs.String.{string_bytes};
 ghost use Rattle.outside.specs.Faults.{Rose};
@@ -147,7 +147,7 @@ pub fn run_program<S: Source, K: Sink, D: Disk>(
     ensures log_fault { result.0 ≡ Exit.LogFault → Rose (D.faults disk) (D.faults result.1) }
     ensures write_fault { result.0 ≡ Exit.WriteFault → Rose (K.faults sink.old) (K.faults sink.new) }
     ensures read_smooth { result.0 ≢ Exit.ReadFault → S.faults source.new ≡ S.faults source.old }
-    ensures log_grows { D.faults disk ≤ D.faults result.1 }
+    ensures log_grows { result.0 ≢ Exit.LogFault → D.faults disk ≤ D.faults result.1 }
     ensures write_smooth { result.0 ≢ Exit.WriteFault → K.faults sink.new ≡ K.faults sink.old }
 
     // What was written: the whole text with Fine, above; else a part of it, or nothing. The disk is touched only where the script is run.

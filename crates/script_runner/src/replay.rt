@@ -16,6 +16,7 @@ ghost use Rattle.dtx_model.specs.Traces.{Placed, history, noted, placed};
 ghost use Rattle.dtx_model.specs.Replay.{CallRan, HasDoneAt, IsReplayed, LinesRan, after_calls, after_scope, after_turn, world_at};
 ghost use Rattle.dtx_model.specs.History.{HasOneOutcome, IsComplete, IsHistory, IsReplay};
 ghost use Rattle.dtx_model.specs.Grammar.{IsScript, are_named_well};
+ghost use Rattle.coordinator_log.specs.Slots.{open_records};
 ghost use Rattle.outcome_law.specs.LogQuiet.{is_log_quiet};
 ghost use Rattle.script_runner.specs.Built.{are_run};
 ghost use Rattle.script_runner.specs.Ending.{AreRecorded, HasNone};
@@ -427,7 +428,8 @@ impl<'a> Run<'a> {
 
     /// The trace so far.
     fn into_trace(self) -> Trace
-        ensures { result ≡ self.entry.trace }
+        ensures trace { result ≡ self.entry.trace }
+        ensures numbered { (t : TxNo) → (state_of t self.entry.worlds).transaction ≡ t }
     {
         Trace::new(self.trace)
     }

@@ -4,7 +4,7 @@ use Rattle.script_runner.specs.Built.{IsNotYet}
 use Rattle.script_runner.specs.Refusal.{HasNoReplay}
 use Rattle.script_runner.specs.declared.exit.Exit.TheVariants.{BadScript, NotYet}
 use Rattle.script_runner.specs.declared.program.Refusal.{Refusal}
-use Rattle.script_runner.proofs.Programs.{is_cut_short, is_written, left-none, never_bad, never_not_yet, no_rise, not_yet-all, one_not_yet}
+use Rattle.script_runner.proofs.Programs.{has_text, is_cut_short, is_log, is_written, left-none, never_bad, never_not_yet, none_there, not_yet-all, one_not_yet}
 use Rattle.script_runner.proofs.program.run_program.Goals as goal
 
 pub returns-in-Err-Bad-clause-bad_refused : goal.returns-in-Err-Bad-clause-bad_refused
@@ -48,27 +48,33 @@ returns-in-Err-NotYet-clause-not_yet_refused g c n words b told bad =
     rw c.in-Err-NotYet.field-0-is (inl (ap NotYet (one_not_yet c.reads_exactly.ensures.one b line n here bad)))
 
 pub returns-in-Ok-write_all-clause-headline : goal.returns-in-Ok-write_all-clause-headline
-returns-in-Ok-write_all-clause-headline g c k =
-    is_written _ g.D.Disk.honest _ _ _ c.deref.result.now c.in-Ok-script_to_run.script c.in-Ok-replayed.text.items c.deref-2.result.now
-    (no_rise _ _ (ap g.D.Disk.faults c.into_disk-disk.ensures.disk ∙ ap (λ l. g.D.Disk.faults l.disk) c.replayed-replayed.ensures.log ∙ c.in-Ok-formatted.ensures.smooth)) (λ b told. c.deref.ensures.value ∙ c.in-Ok.ensures.read b told) c.in-Ok-script_to_run.ensures.script.0
-    c.in-Ok-replayed.ensures.text c.deref-2.ensures.value c.in-Ok-write_all.ensures.all
+returns-in-Ok-write_all-clause-headline g c k none =
+    is_written _ g.D.Disk.honest _ _ _ _ c.in-Ok-replayed.text.items c.deref-2.result.now
+    (has_text g.D.Disk.faults g.D.Disk.honest g.D.Disk.image _ _ _ _ _ c.deref.result.now c.in-Ok-script_to_run.script c.in-Ok-replayed.text.items c.in-Ok-formatted.ensures.smooth c.into_disk-disk.ensures.disk
+    c.in-Ok-formatted.ensures.up c.in-Ok-formatted.ensures.unarmed c.in-Ok-formatted.ensures.empty c.replayed-replayed.ensures.log c.into_disk-disk.ensures.images
+    (λ b told. c.deref.ensures.value ∙ c.in-Ok.ensures.read b told) c.in-Ok-script_to_run.ensures.script.0 c.in-Ok-replayed.ensures.text none)
+    c.deref-2.ensures.value c.in-Ok-write_all.ensures.all
 
 pub returns-in-Ok-write_all-clause-read : goal.returns-in-Ok-write_all-clause-read
 returns-in-Ok-write_all-clause-read g c k =
     left-none _ _ c.deref.result.now c.in-Ok-script_to_run.script (λ b told. c.deref.ensures.value ∙ c.in-Ok.ensures.read b told) c.in-Ok-script_to_run.ensures.script.0 c.in-Ok.ensures.left
 
 pub returns-in-Err-Fault-write_all-clause-cut_short : goal.returns-in-Err-Fault-write_all-clause-cut_short
-returns-in-Err-Fault-write_all-clause-cut_short g c k =
-    is_cut_short _ g.D.Disk.honest _ _ _ c.deref.result.now c.in-Ok-script_to_run.script c.in-Ok-replayed.text.items c.deref-2.result.now
-    (no_rise _ _ (ap g.D.Disk.faults c.into_disk-disk.ensures.disk ∙ ap (λ l. g.D.Disk.faults l.disk) c.replayed-replayed.ensures.log ∙ c.in-Ok-formatted.ensures.smooth)) (λ b told. c.deref.ensures.value ∙ c.in-Ok.ensures.read b told) c.in-Ok-script_to_run.ensures.script.0
-    c.in-Ok-replayed.ensures.text c.deref-2.ensures.value c.in-Err-Fault-write_all.ensures.part
+returns-in-Err-Fault-write_all-clause-cut_short g c k none =
+    is_cut_short _ g.D.Disk.honest _ _ _ _ c.in-Ok-replayed.text.items c.deref-2.result.now
+    (has_text g.D.Disk.faults g.D.Disk.honest g.D.Disk.image _ _ _ _ _ c.deref.result.now c.in-Ok-script_to_run.script c.in-Ok-replayed.text.items c.in-Ok-formatted.ensures.smooth c.into_disk-disk.ensures.disk
+    c.in-Ok-formatted.ensures.up c.in-Ok-formatted.ensures.unarmed c.in-Ok-formatted.ensures.empty c.replayed-replayed.ensures.log c.into_disk-disk.ensures.images
+    (λ b told. c.deref.ensures.value ∙ c.in-Ok.ensures.read b told) c.in-Ok-script_to_run.ensures.script.0 c.in-Ok-replayed.ensures.text none)
+    c.deref-2.ensures.value c.in-Err-Fault-write_all.ensures.part
 
 pub returns-clause-memory : goal.returns-clause-memory
-returns-clause-memory g c k =
+returns-clause-memory g c k none =
     inr
-    (is_cut_short _ g.D.Disk.honest _ _ _ c.deref.result.now c.in-Ok-script_to_run.script c.in-Ok-replayed.text.items c.deref-2.result.now
-    (no_rise _ _ (ap g.D.Disk.faults c.into_disk-disk.ensures.disk ∙ ap (λ l. g.D.Disk.faults l.disk) c.replayed-replayed.ensures.log ∙ c.in-Ok-formatted.ensures.smooth)) (λ b told. c.deref.ensures.value ∙ c.in-Ok.ensures.read b told) c.in-Ok-script_to_run.ensures.script.0
-    c.in-Ok-replayed.ensures.text c.deref-2.ensures.value c.in-Err-Memory-write_all.ensures.part)
+    (is_cut_short _ g.D.Disk.honest _ _ _ _ c.in-Ok-replayed.text.items c.deref-2.result.now
+    (has_text g.D.Disk.faults g.D.Disk.honest g.D.Disk.image _ _ _ _ _ c.deref.result.now c.in-Ok-script_to_run.script c.in-Ok-replayed.text.items c.in-Ok-formatted.ensures.smooth c.into_disk-disk.ensures.disk
+    c.in-Ok-formatted.ensures.up c.in-Ok-formatted.ensures.unarmed c.in-Ok-formatted.ensures.empty c.replayed-replayed.ensures.log c.into_disk-disk.ensures.images
+    (λ b told. c.deref.ensures.value ∙ c.in-Ok.ensures.read b told) c.in-Ok-script_to_run.ensures.script.0 c.in-Ok-replayed.ensures.text none)
+    c.deref-2.ensures.value c.in-Err-Memory-write_all.ensures.part)
 
 pub returns-in-Ok-write_all-clause-bad_refused : goal.returns-in-Ok-write_all-clause-bad_refused
 returns-in-Ok-write_all-clause-bad_refused g c n cause words b told bad =
@@ -93,3 +99,18 @@ returns-in-Err-Fault-default-clause-bad_refused g c n cause words b told bad =
 pub returns-in-Err-Fault-default-clause-not_yet_refused : goal.returns-in-Err-Fault-default-clause-not_yet_refused
 returns-in-Err-Fault-default-clause-not_yet_refused g c n words b told bad =
     absurd (never_not_yet c.reads_exactly.ensures.one _ c.deref.result.now c.in-Ok-script_to_run.script (λ x t. c.deref.ensures.value ∙ c.in-Ok.ensures.read x t) c.in-Ok-script_to_run.ensures.script.0 c.in-Ok-script_to_run.ensures.script.1 n b told bad)
+
+pub replayed-replayed-requires-clause-none : goal.replayed-replayed-requires-clause-none
+replayed-replayed-requires-clause-none g c honest = none_there _ c.in-Ok-formatted.ensures.empty
+
+pub returns-in_default-clause-given_up : goal.returns-in_default-clause-given_up
+returns-in_default-clause-given_up g c honest k none =
+    inr
+    (is_log g.D.Disk.faults g.D.Disk.honest g.D.Disk.image c.args.disk c.into_disk-disk.result c.in-Ok-formatted.log c.replayed-replayed.new.log c.in-Ok-formatted.ensures.smooth c.into_disk-disk.ensures.disk
+    c.in-Ok-formatted.ensures.up c.in-Ok-formatted.ensures.unarmed c.in-Ok-formatted.ensures.empty c.replayed-replayed.ensures.log c.into_disk-disk.ensures.images honest none)
+
+pub returns-clause-given_up : goal.returns-clause-given_up
+returns-clause-given_up g c honest k none =
+    inr
+    (is_log g.D.Disk.faults g.D.Disk.honest g.D.Disk.image c.args.disk c.into_disk-disk.result c.in-Ok-formatted.log c.replayed-replayed.new.log c.in-Ok-formatted.ensures.smooth c.into_disk-disk.ensures.disk
+    c.in-Ok-formatted.ensures.up c.in-Ok-formatted.ensures.unarmed c.in-Ok-formatted.ensures.empty c.replayed-replayed.ensures.log c.into_disk-disk.ensures.images honest none)

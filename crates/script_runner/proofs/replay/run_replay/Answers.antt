@@ -1,74 +1,75 @@
-use Rattle.std.proofs.Common.{[], List, subst}
+use Rattle.std.proofs.Common.{[], inl, inr}
 use Rattle.dtx_values.specs.declared.number.TxNo.{TxNo}
-use Rattle.dtx_values.specs.declared.script.Line.{Line}
-use Rattle.dtx_model.specs.Caused.{Caused, Settled}
+use Rattle.dtx_model.specs.Caused.{Caused}
 use Rattle.dtx_model.specs.Traces.{history}
-use Rattle.dtx_model.specs.Replay.{IsReplayed}
 use Rattle.dtx_model.specs.Words.{past_of}
-use Rattle.script_runner.specs.RunState.{IsToPlan}
-use Rattle.script_runner.proofs.Plain.{plain_faults, plain_follows, plain_opens, plain_quiet, plain_stops, plain_tied, plain_unpromoted}
-use Rattle.script_runner.proofs.Replayed.{called_at, to_any}
+use Rattle.script_runner.proofs.Quieting.{quiet_faults, quiet_follows, quiet_opens, quiet_stops, unstopped_tied}
+use Rattle.script_runner.proofs.Replayed.{IsQuietReplay, called_at, quiet_replay, to_any_each, unless_rose}
+use Rattle.script_runner.proofs.Unlost.{unlost_or_unpromoted}
 use Rattle.script_runner.proofs.replay.run_replay.Goals as goal
 
-pub returns-clause-history : goal.returns-clause-history
-returns-clause-history g c =
+pub returns-in-Ok-clause-recorded : goal.returns-in-Ok-clause-recorded
+returns-in-Ok-clause-recorded g c honest none = c.in-Ok.ensures.recorded honest (unless_rose c.in-Ok.ensures.quiet none)
+
+pub returns-in-Ok-clause-history : goal.returns-in-Ok-clause-history
+returns-in-Ok-clause-history g c none =
     let s = c.args.s.now in
-    let T = past_of c.in_ok-trace.trace in
-    let plain = c.in_ok-trace.ensures.plain in
-    let quiet = plain_quiet T plain in
-    let ran : IsReplayed s T = subst (λ (ls : List Line). IsReplayed ls T) c.lines.ensures c.in_ok-trace.ensures.replayed in
-    let planned : (t : TxNo) → IsToPlan s (history t.value T) = subst (λ (ls : List Line). (t : TxNo) → IsToPlan ls (history t.value T)) c.lines.ensures c.in_ok-trace.ensures.planned in
-    let settled : (t : TxNo) → Settled s (history t.value T) = subst (λ (ls : List Line). (t : TxNo) → Settled ls (history t.value T)) c.lines.ensures c.in_ok-trace.ensures.settled in
-    let caused : (t : TxNo) → Caused s 0 t.value (history t.value T) = c.replay.ensures.caused s T ran quiet 0 (λ t. to_any s 0 (history t.value T) (planned t)) in
+    let T = past_of c.in-Ok.trace in
+    let r : IsQuietReplay s T = quiet_replay s _ T c.lines.ensures c.in-Ok.ensures.quiet none c.in-Ok.ensures.replayed c.in-Ok.ensures.settled c.in-Ok.ensures.calm in
+    let caused : (t : TxNo) → Caused s 0 t.value (history t.value T) = c.replay.ensures.caused s T r.replayed r.quiet 0 (to_any_each s T 0 r) in
     record {
       caused = caused;
-      promotes = λ t. c.crossings.ensures.promotes s t.value (history t.value T) c.requires.script.named (caused t).freely (plain_tied t.value T plain);
+      promotes = λ t. c.crossings.ensures.promotes s t.value (history t.value T) c.requires.script.named (caused t).freely (unstopped_tied (history t.value T) (r.unstopped t));
       wires = λ t. c.crossings.ensures.wires s t.value (history t.value T) (caused t).freely;
-      settled = settled;
-      contexts = c.replay.ensures.contexts s T ran quiet;
-      called = called_at s T (c.replay.ensures.called s T ran quiet);
-      faulted = plain_faults T _ plain;
-      followed = plain_follows T plain;
+      settled = r.settled;
+      contexts = c.replay.ensures.contexts s T r.replayed r.quiet;
+      called = called_at s T (c.replay.ensures.called s T r.replayed r.quiet);
+      faulted = quiet_faults T _ r.quiet;
+      followed = quiet_follows T r.quiet r.unstopped;
     }
 
-pub returns-clause-replay : goal.returns-clause-replay
-returns-clause-replay g c =
+pub returns-in-Ok-clause-replay : goal.returns-in-Ok-clause-replay
+returns-in-Ok-clause-replay g c none =
     let s = c.args.s.now in
-    let T = past_of c.in_ok-trace.trace in
-    let plain = c.in_ok-trace.ensures.plain in
-    let ran : IsReplayed s T = subst (λ (ls : List Line). IsReplayed ls T) c.lines.ensures c.in_ok-trace.ensures.replayed in
+    let T = past_of c.in-Ok.trace in
+    let r : IsQuietReplay s T = quiet_replay s _ T c.lines.ensures c.in-Ok.ensures.quiet none c.in-Ok.ensures.replayed c.in-Ok.ensures.settled c.in-Ok.ensures.calm in
     record {
-      called = c.replay.ensures.called s T ran (plain_quiet T plain);
-      replayed = ran;
-      stops = λ none. plain_stops [] T plain;
-      opens = λ honest. plain_opens [] T plain;
+      called = c.replay.ensures.called s T r.replayed r.quiet;
+      replayed = r.replayed;
+      stops = λ risen. quiet_stops [] T r.quiet;
+      opens = λ honest. quiet_opens [] T r.quiet;
     }
 
-pub returns-clause-outcome : goal.returns-clause-outcome
-returns-clause-outcome g c =
+pub returns-in-Ok-clause-outcome : goal.returns-in-Ok-clause-outcome
+returns-in-Ok-clause-outcome g c none =
     let s = c.args.s.now in
-    let T = past_of c.in_ok-trace.trace in
-    let plain = c.in_ok-trace.ensures.plain in
-    let ran : IsReplayed s T = subst (λ (ls : List Line). IsReplayed ls T) c.lines.ensures c.in_ok-trace.ensures.replayed in
-    let planned : (t : TxNo) → IsToPlan s (history t.value T) = subst (λ (ls : List Line). (t : TxNo) → IsToPlan ls (history t.value T)) c.lines.ensures c.in_ok-trace.ensures.planned in
-    let caused : (t : TxNo) → Caused s 0 t.value (history t.value T) = c.replay.ensures.caused s T ran (plain_quiet T plain) 0 (λ t. to_any s 0 (history t.value T) (planned t)) in
+    let T = past_of c.in-Ok.trace in
+    let r : IsQuietReplay s T = quiet_replay s _ T c.lines.ensures c.in-Ok.ensures.quiet none c.in-Ok.ensures.replayed c.in-Ok.ensures.settled c.in-Ok.ensures.calm in
+    let caused : (t : TxNo) → Caused s 0 t.value (history t.value T) = c.replay.ensures.caused s T r.replayed r.quiet 0 (to_any_each s T 0 r) in
     record {
-      just = λ t. c.one_outcome.ensures.just s t.value (history t.value T) c.requires.script.named (caused t).freely (plain_tied t.value T plain);
-      agrees = λ t. c.one_outcome.ensures.agrees s t.value (history t.value T) c.requires.script.named (caused t).freely (plain_tied t.value T plain);
-      learned = λ t. c.one_outcome.ensures.learned s t.value (history t.value T) c.requires.script.named (caused t).freely (plain_tied t.value T plain);
+      just = λ t. c.one_outcome.ensures.just s t.value (history t.value T) c.requires.script.named (caused t).freely (unstopped_tied (history t.value T) (r.unstopped t));
+      agrees = λ t. c.one_outcome.ensures.agrees s t.value (history t.value T) c.requires.script.named (caused t).freely (unstopped_tied (history t.value T) (r.unstopped t));
+      learned = λ t. c.one_outcome.ensures.learned s t.value (history t.value T) c.requires.script.named (caused t).freely (unstopped_tied (history t.value T) (r.unstopped t));
     }
 
-pub returns-clause-complete : goal.returns-clause-complete
-returns-clause-complete g c =
+pub returns-in-Ok-clause-complete : goal.returns-in-Ok-clause-complete
+returns-in-Ok-clause-complete g c none =
     let s = c.args.s.now in
-    let T = past_of c.in_ok-trace.trace in
-    let plain = c.in_ok-trace.ensures.plain in
-    let ran : IsReplayed s T = subst (λ (ls : List Line). IsReplayed ls T) c.lines.ensures c.in_ok-trace.ensures.replayed in
-    let planned : (t : TxNo) → IsToPlan s (history t.value T) = subst (λ (ls : List Line). (t : TxNo) → IsToPlan ls (history t.value T)) c.lines.ensures c.in_ok-trace.ensures.planned in
-    let settled : (t : TxNo) → Settled s (history t.value T) = subst (λ (ls : List Line). (t : TxNo) → Settled ls (history t.value T)) c.lines.ensures c.in_ok-trace.ensures.settled in
-    let caused : (t : TxNo) → Caused s 0 t.value (history t.value T) = c.replay.ensures.caused s T ran (plain_quiet T plain) 0 (λ t. to_any s 0 (history t.value T) (planned t)) in
+    let T = past_of c.in-Ok.trace in
+    let r : IsQuietReplay s T = quiet_replay s _ T c.lines.ensures c.in-Ok.ensures.quiet none c.in-Ok.ensures.replayed c.in-Ok.ensures.settled c.in-Ok.ensures.calm in
+    let named = c.requires.script.named in
+    let caused : (t : TxNo) → Caused s 0 t.value (history t.value T) = c.replay.ensures.caused s T r.replayed r.quiet 0 (to_any_each s T 0 r) in
+    let unlost = unlost_or_unpromoted s T named c.requires.run r.replayed r.quiet r.unstopped (λ t. (caused t).freely) in
     record {
-      told = λ t. c.completeness.ensures.told s 0 t.value (history t.value T) c.requires.script.named (caused t) (plain_unpromoted t.value T plain);
-      committed = λ t asked. c.completeness.ensures.committed s 0 t.value (history t.value T) c.requires.script.named (caused t) (settled t) asked;
-      answered = λ t. c.completeness.ensures.answered s 0 t.value (history t.value T) c.requires.script.named (caused t) (plain_unpromoted t.value T plain);
+      told = λ t.
+          elim (unlost t) [
+            | inl home ↦ c.completeness.ensures.told s 0 t.value (history t.value T) named (caused t) home
+            | inr kept ↦ c.completeness.ensures.told_unlost s 0 t.value (history t.value T) named (caused t) kept
+          ];
+      committed = λ t asked. c.completeness.ensures.committed s 0 t.value (history t.value T) named (caused t) (r.settled t) asked;
+      answered = λ t.
+          elim (unlost t) [
+            | inl home ↦ c.completeness.ensures.answered s 0 t.value (history t.value T) named (caused t) home
+            | inr kept ↦ c.completeness.ensures.answered_unlost s 0 t.value (history t.value T) named (caused t) kept
+          ];
     }
