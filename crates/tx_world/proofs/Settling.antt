@@ -39,10 +39,10 @@ keeps_on image old mid new from at_it to same a b =
     keeps_both image (id_of old) (Fits old) (Fits mid) (Fits new) from at_it to a (subst P (ap (λ (t : TxNo). identifier_of t.value) same) b)
 
 -- one step more
-pub one_more : {D : Type 0} (faults : D → ℕ) (count : ℕ) (old : TxState) (from : LogState D) (mid : TxState) (at_it : LogState D) (new : TxState) (to : LogState D)
-    → Stepped faults 1 count old from mid at_it → DoesKth faults 1 mid at_it new to → Stepped faults 1 (count + 1) old from new to
-one_more faults count old from mid at_it new to before did =
-    let P : ℕ → Type 0 = λ n. Stepped faults 1 n old from new to in
+pub one_more : {D : Type 0} (faults : D → ℕ) (k count : ℕ) (old : TxState) (from : LogState D) (mid : TxState) (at_it : LogState D) (new : TxState) (to : LogState D)
+    → Stepped faults k count old from mid at_it → DoesKth faults k mid at_it new to → Stepped faults k (count + 1) old from new to
+one_more faults k count old from mid at_it new to before did =
+    let P : ℕ → Type 0 = λ n. Stepped faults k n old from new to in
     let more : suc count ≡ count + 1 = omega arith in
     subst P more (mid, at_it, before, did)
 
