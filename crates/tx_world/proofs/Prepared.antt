@@ -17,8 +17,8 @@ use Rattle.dtx_model.proofs.Bools.{or_right}
 use Rattle.coordinator_log.specs.State.{LogState}
 use Rattle.tx_world.specs.AtLog.{Fits, IsFit, id_of}
 use Rattle.tx_world.specs.State.{TxState, is_maker, may_enter}
-use Rattle.tx_world.specs.Stepping.{Does, Settles}
-use Rattle.tx_world.specs.OwnCalls.{DoesCall, Prepares, Repeats}
+use Rattle.tx_world.specs.Stepping.{Does, Settles, SomeSteps, Stepped}
+use Rattle.tx_world.specs.OwnCalls.{DoesCall, Prepares, Repeats, place_of}
 use Rattle.tx_world.proofs.Chained.{has_stepped, stepped_calls}
 
 -- the steps of a `do` are those that it counts
@@ -55,6 +55,29 @@ repeated_here {D} faults k n m old from mid at_it new to before most none same s
 
 pub repeated_all : {D : Type 0} (faults : D → ℕ) (k n m : ℕ) (old : TxState) (from : LogState D) (new : TxState) (to : LogState D) → Stepped faults k m old from new to → m ≤ n → n ≤ m → Repeats faults k n m old from new to
 repeated_all faults k n m old from new to before most all = record { stepped = before; most = most; fewer = λ less. absurd (omega (arith, less, all)) }
+
+-- What was done before is some steps.
+prepared_steps : {D : Type 0} (faults : D → ℕ) (c : Call) (m : ℕ) (old : TxState) (from : LogState D) (new : TxState) (to : LogState D)
+    → Prepares faults c m old from new to → SomeSteps faults (place_of c) old from new to
+prepared_steps faults (Do t k n) m old from new to p = (m, p.stepped)
+prepared_steps faults (Await t) m old from new to p = (p.1, p.2.stepped)
+prepared_steps faults _ m old from new to p = (0, p.1, p.2)
+
+-- so where a call isn't entered, some steps were done
+pub call_fails : {D A E : Type 0} (faults : D → ℕ) (c : Call) (m : ℕ) (old : TxState) (from : LogState D) (mid new : TxState) (to : LogState D) (r : Result A E)
+    → Prepares faults c m old from mid to → OnErr r (new ≡ mid) → OnErr r (SomeSteps faults (place_of c) old from new to)
+call_fails faults c m old from mid new to (Ok a) p same = tt
+call_fails {D} faults c m old from mid new to (Err e) p same =
+    let P : TxState → Type 0 = λ x. SomeSteps faults (place_of c) old from x to in
+    subst P (sym same) (prepared_steps faults c m old from mid to p)
+
+-- some steps, by the call that they come before
+pub steps_before : {D A E : Type 0} (faults : D → ℕ) (c d : Call) (k : ℕ) (old : TxState) (from : LogState D) (new : TxState) (to : LogState D) (r : Result A E)
+    → c ≡ d → k ≡ place_of d → OnErr r (SomeSteps faults k old from new to) → OnErr r (SomeSteps faults (place_of c) old from new to)
+steps_before faults c d k old from new to (Ok a) is same s = tt
+steps_before {D} faults c d k old from new to (Err e) is same s =
+    let P : ℕ → Type 0 = λ j. SomeSteps faults j old from new to in
+    subst P (same ∙ ap (λ (x : Call). place_of x) (sym is)) s
 
 -- What comes before a call of a kind, by that kind.
 pub repeats : {D E : Type 0} (faults : D → ℕ) (c : Call) (t : TxNo) (j k n : ℕ) (old : TxState) (from : LogState D) (new : TxState) (to : LogState D) (r : Result ℕ E)

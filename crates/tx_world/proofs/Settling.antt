@@ -11,7 +11,7 @@ use Rattle.coordinator_log.specs.Slots.{open_records}
 use Rattle.coordinator_log.specs.State.{LogState}
 use Rattle.tx_world.specs.AtLog.{Fits, Keeps, KeepsLog, id_of, of_others}
 use Rattle.tx_world.specs.State.{TxState}
-use Rattle.tx_world.specs.Stepping.{DoesKth, Settles, Stepped}
+use Rattle.tx_world.specs.Stepping.{DoesKth, Settles, SomeSteps, Stepped}
 
 -- no first step: none at all
 pub none_pending : (ms : List StepName) → kth ms 1 ≡ None → ms ≡ []
@@ -53,3 +53,11 @@ settled_here {D} faults count old from mid at_it new to before none same same_lo
     let P : TxState → Type 0 = λ x. Settles faults count old from x to in
     let Q : LogState D → Type 0 = λ l. Settles faults count old from mid l in
     subst P (sym same) (subst Q (sym same_log) (record { stepped = before; settled = none_pending (pending mid.world) none }))
+
+-- where no more steps are done, some were
+pub stopped_there : {D : Type 0} (faults : D → ℕ) (k count : ℕ) (old : TxState) (from : LogState D) (mid : TxState) (at_it : LogState D) (new : TxState) (to : LogState D)
+    → Stepped faults k count old from mid at_it → (new ≡ mid) × (to ≡ at_it) → SomeSteps faults k old from new to
+stopped_there {D} faults k count old from mid at_it new to before same =
+    let P : TxState → Type 0 = λ x. SomeSteps faults k old from x to in
+    let Q : LogState D → Type 0 = λ l. SomeSteps faults k old from mid l in
+    subst P (sym same.0) (subst Q (sym same.1) (count, before))

@@ -35,6 +35,11 @@ abbrev pub is_do : Call → Bool
 is_do (Do t k n) = true
 is_do _ = false
 
+-- which pending step comes before the call: the one that a `do` names, and the first for an `await`
+abbrev pub place_of : Call → ℕ
+place_of (Do t k n) = k
+place_of _ = 1
+
 -- This step was done, whatever the log was: it sent no BEGIN.
 pub record DoesAlone (m : Step) (old new : TxState) : Type 0 where
   pub transaction : new.transaction ≡ old.transaction

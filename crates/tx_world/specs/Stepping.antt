@@ -70,6 +70,10 @@ abbrev pub Stepped : {D : Type 0} → (D → ℕ) → ℕ → ℕ → TxState �
 Stepped faults k zero old from new to = (new ≡ old) × (to ≡ from)
 Stepped {D} faults k (suc m) old from new to = (x : TxState) × (l : LogState D) × Stepped faults k m old from x l × DoesKth faults k x l new to
 
+-- some steps were done, each the k-th that was pending, and nothing else
+abbrev pub SomeSteps : {D : Type 0} → (D → ℕ) → ℕ → TxState → LogState D → TxState → LogState D → Type 0
+SomeSteps faults k old from new to = (m : ℕ) × Stepped faults k m old from new to
+
 -- the first pending step was done so many times, until none was left
 pub record Settles {D : Type 0} (faults : D → ℕ) (count : ℕ) (old : TxState) (from : LogState D) (new : TxState) (to : LogState D) : Type 0 where
   pub stepped : Stepped faults 1 count old from new to

@@ -11,8 +11,9 @@ ghost use Rattle.dtx_model.specs.World.{answer_at, half};
 ghost use Rattle.coordinator_log.specs.Slots.{open_records};
 ghost use Rattle.tx_world.specs.AtLog.{Fits, KeepsLog};
 ghost use Rattle.tx_world.specs.Entering.{is_entered_yet};
-ghost use Rattle.tx_world.specs.OwnCalls.{DoesAlone, DoesCall, Prepares, Repeats, is_do, said, status_of};
+ghost use Rattle.tx_world.specs.OwnCalls.{DoesAlone, DoesCall, Prepares, Repeats, is_do, place_of, said, status_of};
 ghost use Rattle.tx_world.specs.State.{may_enter};
+ghost use Rattle.tx_world.specs.Stepping.{SomeSteps};
 
 use super::TxWorld;
 use crate::refusal::WorldError;
@@ -70,6 +71,7 @@ impl TxWorld {
     fn repeat<D: Disk>(&mut self, log: &mut Log<D>, k: u32, n: u16) -> Result<u16, WorldError>
         requires fits { IsTrue D.honest → IsTrue log.old.is_up → Fits self.old (open_records log.old.slots) }
         ensures repeated { IfOk result (λ m. Repeats D.faults k n m self.old log.old self.new log.new) }
+        ensures memory { OnErr result (SomeSteps D.faults k self.old log.old self.new log.new) }
         ensures transaction { self.new.transaction ≡ self.old.transaction }
         ensures fits { IsTrue D.honest → IsTrue log.new.is_up → Fits self.new (open_records log.new.slots) }
         ensures kept { IsTrue D.honest → KeepsLog D.image self.old log.old self.new log.new }
@@ -92,6 +94,7 @@ impl TxWorld {
     fn prepare<D: Disk>(&mut self, log: &mut Log<D>, c: &Call) -> Result<u16, WorldError>
         requires fits { IsTrue D.honest → IsTrue log.old.is_up → Fits self.old (open_records log.old.slots) }
         ensures prepared { IfOk result (λ m. Prepares D.faults c.now m self.old log.old self.new log.new) }
+        ensures memory { OnErr result (SomeSteps D.faults (place_of c.now) self.old log.old self.new log.new) }
         ensures transaction { self.new.transaction ≡ self.old.transaction }
         ensures fits { IsTrue D.honest → IsTrue log.new.is_up → Fits self.new (open_records log.new.slots) }
         ensures kept { IsTrue D.honest → KeepsLog D.image self.old log.old self.new log.new }
@@ -127,6 +130,7 @@ impl TxWorld {
         requires entered { is_entered_yet c.now ≡ true }
         requires fits { IsTrue D.honest → IsTrue log.old.is_up → Fits self.old (open_records log.old.slots) }
         ensures done { IfOk result (λ a. DoesCall D.faults line actor c.now a self.old log.old self.new log.new) }
+        ensures memory { OnErr result (SomeSteps D.faults (place_of c.now) self.old log.old self.new log.new) }
         ensures transaction { self.new.transaction ≡ self.old.transaction }
         ensures fits { IsTrue D.honest → IsTrue log.new.is_up → Fits self.new (open_records log.new.slots) }
         ensures kept { IsTrue D.honest → KeepsLog D.image self.old log.old self.new log.new }
