@@ -61,7 +61,7 @@ prepared_steps : {D : Type 0} (faults : D → ℕ) (c : Call) (m : ℕ) (old : T
     → Prepares faults c m old from new to → SomeSteps faults (place_of c) old from new to
 prepared_steps faults (Do t k n) m old from new to p = (m, p.stepped)
 prepared_steps faults (Await t) m old from new to p = (p.1, p.2.stepped)
-prepared_steps faults _ m old from new to p = (0, p.1, p.2)
+prepared_steps faults _ m old from new to p = (0, (p.1, p.2))
 
 -- so where a call isn't entered, some steps were done
 pub call_fails : {D A E : Type 0} (faults : D → ℕ) (c : Call) (m : ℕ) (old : TxState) (from : LogState D) (mid new : TxState) (to : LogState D) (r : Result A E)

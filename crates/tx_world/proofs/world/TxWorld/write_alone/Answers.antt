@@ -15,7 +15,7 @@ use Rattle.tx_world.proofs.Unlogged.{turned_silent}
 use Rattle.tx_world.proofs.world.TxWorld.write_alone.Goals as goal
 
 pub write-requires-clause-sendable : goal.write-requires-clause-sendable
-write-requires-clause-sendable g c =
+write-requires-clause-sendable c =
     let i = c.self.inside in
     let w : World = record { calls = past_of i.calls.items; past = i.history.past } in
     let t = i.transaction in
@@ -30,13 +30,13 @@ write-requires-clause-sendable g c =
     block_sendable t.value w (Calls n a d c.args.done) c.reserve-2.new.self.past (Called n a x ∷ []) ready.may c.in_ok-reserve-2.ensures.same ready.block
 
 pub write-requires-clause-stopped : goal.write-requires-clause-stopped
-write-requires-clause-stopped g c =
+write-requires-clause-stopped c =
     let i = c.self.inside in
     let w : World = record { calls = past_of i.calls.items; past = i.history.past } in
     c.is_stopped.ensures ∙ stopped_is i.transaction w i.half i.core c.reserve-2.new.self.past c.self.invariant.kept c.in_ok-reserve-2.ensures.same
 
 pub invariant_of-self-2 : goal.invariant_of-self-2
-invariant_of-self-2 g c =
+invariant_of-self-2 c =
     let i = c.self.inside in
     let w : World = record { calls = past_of i.calls.items; past = i.history.past } in
     let t = i.transaction in
@@ -60,7 +60,7 @@ invariant_of-self-2 g c =
     }
 
 pub returns-clause-done : goal.returns-clause-done
-returns-clause-done g c =
+returns-clause-done c =
     let i = c.self.inside in
     let w : World = record { calls = past_of i.calls.items; past = i.history.past } in
     let t = i.transaction in
