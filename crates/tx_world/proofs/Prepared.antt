@@ -1,5 +1,5 @@
 -- What comes right before a call lets it be entered, and then it is done; and of the log it keeps what the steps before it kept.
-use Rattle.std.proofs.Common.{◌≡◌, ◌≤◌, ◌<◌, ◌∙◌, ℕ, Bool, true, List, Option, None, Result, Ok, Err, IfOk, OnOk, OnErr, refl, sym, ap, subst, ◌&&◌, ◌==◌, not, is_some, arith}
+use Rattle.std.proofs.Common.{◌≡◌, ◌≤◌, ◌∙◌, ℕ, Bool, true, List, Option, None, Result, Ok, Err, IfOk, OnOk, OnErr, refl, sym, ap, subst, ◌&&◌, ◌==◌, not, is_some, arith}
 use Rattle.dtx_values.specs.declared.call.Call.{Call}
 use Rattle.dtx_values.specs.declared.call.Call.TheVariants.{Await, Do}
 use Rattle.dtx_values.specs.declared.entry.Answer.{Answer}
@@ -10,7 +10,7 @@ use Rattle.dtx_model.specs.Words.{has, kth}
 use Rattle.dtx_model.specs.Log.{CommitRecord}
 use Rattle.dtx_model.specs.Outcome.{is_empty}
 use Rattle.dtx_model.specs.Promotes.{identifier_of}
-use Rattle.dtx_model.specs.World.{World, answer_at, half}
+use Rattle.dtx_model.specs.World.{answer_at, half}
 use Rattle.dtx_model.specs.Steps.{Step, StepName, Calls, pending}
 use Rattle.dtx_model.specs.Caused.{HasDone, MayAnswer, made_by}
 use Rattle.dtx_model.proofs.Bools.{or_right}

@@ -1,11 +1,10 @@
 -- What steps keep of the log one after the other they keep together.
-use Rattle.std.proofs.Common.{◌≡◌, ◌⊎◌, ◌<◌, ◌+◌, ◌∙◌, inl, inr, ℕ, suc, Bool, List, [], ◌∷◌, Some, None, arith, refl, sym, ap, subst}
+use Rattle.std.proofs.Common.{◌≡◌, ◌+◌, ◌∙◌, inl, inr, ℕ, suc, List, [], ◌∷◌, None, arith, refl, sym, ap, subst}
 use Rattle.std.specs.Prelude.{IfOk, Ok, Err, Result}
 use Rattle.dtx_values.specs.declared.number.TxNo.{TxNo}
 use Rattle.dtx_model.specs.Promotes.{identifier_of}
 use Rattle.dtx_model.specs.Words.{kth}
 use Rattle.dtx_model.specs.Log.{CommitRecord, log_has}
-use Rattle.dtx_model.specs.World.{World}
 use Rattle.dtx_model.specs.Steps.{StepName, pending}
 use Rattle.coordinator_log.specs.Slots.{open_records}
 use Rattle.coordinator_log.specs.State.{LogState}

@@ -1,5 +1,5 @@
 -- A call that writes its entry alone is done whatever the log is; and what a `do` writes.
-use Rattle.std.proofs.Common.{◌≡◌, ◌∙◌, ℕ, Bool, true, false, ◌&&◌, not, List, ◌∷◌, Option, Some, None, Result, Ok, Err, OnOk, is_some, refl, sym, ap, if◌then◌else◌}
+use Rattle.std.proofs.Common.{◌≡◌, ◌∙◌, ℕ, Bool, true, false, ◌&&◌, not, ◌∷◌, Option, Some, None, Result, Ok, Err, OnOk, is_some, refl, sym, ap, if◌then◌else◌}
 use Rattle.dtx_values.specs.declared.call.Call.{Call}
 use Rattle.dtx_values.specs.declared.call.Call.TheVariants.{Do}
 use Rattle.dtx_values.specs.declared.entry.Answer.{Answer}

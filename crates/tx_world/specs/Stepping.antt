@@ -1,17 +1,13 @@
 -- The k-th pending step of a transaction, and steps that come one after the other.
-use Rattle.std.specs.Prelude.{ℕ, zero, suc, ◌≡◌, ◌<◌, ◌≤◌, Bool, true, false, not, List, [], ◌∷◌, Option, Some, None, is_some}
-use Rattle.dtx_values.specs.declared.entry.Answer.{Answer}
+use Rattle.std.specs.Prelude.{ℕ, zero, suc, ◌≡◌, Bool, true, false, [], Option, Some, None}
 use Rattle.dtx_values.specs.declared.note.Note.{Note}
 use Rattle.dtx_values.specs.declared.note.Note.TheVariants.{Promote}
 use Rattle.dtx_values.specs.declared.number.EnlNo.{EnlNo}
-use Rattle.dtx_values.specs.declared.call.Call.{Call}
-use Rattle.dtx_values.specs.declared.number.ActorNo.{ActorNo}
 use Rattle.dtx_model.specs.Words.{kth}
-use Rattle.dtx_model.specs.Outcome.{is_empty}
 use Rattle.dtx_model.specs.Plans.{plan_of, planned}
 use Rattle.dtx_model.specs.Replies.{due_of}
 use Rattle.dtx_model.specs.World.{World, half}
-use Rattle.dtx_model.specs.Steps.{LogAnswer, Step, Calls, Replies, Coordinates, StepName, ReplyOf, CoordinatorAct, pending}
+use Rattle.dtx_model.specs.Steps.{Step, Replies, Coordinates, StepName, ReplyOf, CoordinatorAct, pending}
 use Rattle.dtx_model.specs.Caused.{IsNamed}
 use Rattle.coordinator_log.specs.State.{LogState}
 use Rattle.tx_world.specs.State.{TxState, life_after, turned}

@@ -48,13 +48,7 @@ impl TxWorld {
     /// # Errors
     ///
     /// [`WorldError::Memory`] where memory ran out, and then nothing was done.
-    pub fn did(
-        &mut self,
-        actor: ActorNo,
-        line: u32,
-        c: &Call,
-        m: u16,
-    ) -> Result<(), WorldError>
+    pub fn did(&mut self, actor: ActorNo, line: u32, c: &Call, m: u16) -> Result<(), WorldError>
         requires enters { may_enter self.old.world line c.now ≡ true }
         requires kind { is_do c.now ≡ true }
         requires answers { MayAnswer self.old.transaction.value self.old.world c.now m }

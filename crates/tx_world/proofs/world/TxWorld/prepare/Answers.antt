@@ -1,5 +1,3 @@
-use Rattle.std.proofs.Common.{ap}
-use Rattle.tx_world.specs.OwnCalls.{place_of}
 use Rattle.tx_world.proofs.Prepared.{repeats, settles, steps_before}
 use Rattle.tx_world.proofs.world.TxWorld.prepare.Goals as goal
 

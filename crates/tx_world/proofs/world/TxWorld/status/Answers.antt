@@ -1,4 +1,4 @@
-use Rattle.std.proofs.Common.{◌≡◌, ◌∙◌, ap}
+use Rattle.std.proofs.Common.{◌∙◌, ap}
 use Rattle.dtx_model.specs.Half.{Half}
 use Rattle.dtx_model.specs.Words.{past_of}
 use Rattle.dtx_model.specs.World.{World, half}
