@@ -35,6 +35,7 @@ mod calls;
 mod deliveries;
 mod entering;
 mod leaving;
+mod own_calls;
 mod settling;
 mod steps;
 mod stops;

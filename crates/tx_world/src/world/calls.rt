@@ -8,6 +8,7 @@ ghost use Rattle.dtx_model.specs.Caused.{MayAnswer};
 ghost use Rattle.local_half.specs.Half.{is_its_own};
 ghost use Rattle.tx_world.specs.State.{is_linking, may_enter};
 ghost use Rattle.tx_world.specs.Entering.{is_entered_yet};
+ghost use Rattle.tx_world.specs.OwnCalls.{DoesAlone};
 ghost use Rattle.tx_world.specs.Stepping.{Does};
 
 use super::TxWorld;
@@ -135,6 +136,27 @@ impl TxWorld {
         ensures memory { OnErr result (self.new ≡ self.old) }
     {
         let _ = log.is_up();
+        self.write_alone(actor, line, c, done, answer)?;
+        Ok(answer)
+    }
+
+    /// Writes the entry of a call that writes its entry alone, with this answer.
+    pub(super) fn write_alone(
+        &mut self,
+        actor: ActorNo,
+        line: u32,
+        c: &Call,
+        done: u16,
+        answer: Answer,
+    ) -> Result<(), WorldError>
+        requires enters { may_enter self.old.world line c.now ≡ true }
+        requires answers { MayAnswer self.old.transaction.value self.old.world c.now done }
+        requires answer { answer ≡ answer_at self.old.transaction.value self.old.world c.now done }
+        requires alone { has_facts answer ≡ false }
+        ensures done { OnOk result (DoesAlone (Calls line actor c.now done) self.old self.new) }
+        ensures ours { (self.new.ours ≡ self.old.ours) × (self.new.unsure ≡ self.old.unsure) }
+        ensures memory { OnErr result (self.new ≡ self.old) }
+    {
         self.calls.reserve(1)?;
         self.history.reserve()?;
         self.calls.push_reserved(EnteredCall {
@@ -144,7 +166,7 @@ impl TxWorld {
         });
         let block = [Entry::Called(line, actor, answer)];
         self.history.write(&block, self.core.is_stopped());
-        Ok(answer)
+        Ok(())
     }
 
     /// Enters a call that the local side answers.
