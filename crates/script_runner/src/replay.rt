@@ -146,6 +146,7 @@ impl<'a> Run<'a> {
         world.is_own_run();
         let from = world.history().len();
         let _ = world.enter(log, actor, n, c, done)?;
+        world.is_own_run();
         note(&mut self.trace, t, world, from)?;
         Ok(())
     }
