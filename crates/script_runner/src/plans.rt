@@ -1,44 +1,19 @@
-//! What the lines of a script plan for each enlistment, and whose each enlistment and each clone is.
+//! Whose each enlistment and each clone of a script is.
 ghost use Rattle.std.specs.Prelude.{◌≡◌, ◌<◌, ◌==◌, ◌-◌, ℕ, length, IfNone, IfOk, IfSome, None, OnOk, Some, slice_index_or, if◌then◌else◌};
 ghost use Rattle.dtx_values.specs.declared.number.CloneNo.{CloneNo};
 ghost use Rattle.dtx_values.specs.declared.number.EnlNo.{EnlNo};
-ghost use Rattle.dtx_model.specs.Calls.{clone_made, transaction_of, transaction_with};
-ghost use Rattle.dtx_model.specs.Caused.{plans_of};
+ghost use Rattle.dtx_model.specs.Calls.{clone_made, enlistment_made, transaction_of, transaction_with};
 ghost use Rattle.dtx_model.specs.Words.{or_else};
-ghost use Rattle.script_runner.specs.Plans.{made_by, made_in};
 
-use dtx_values::{Body, CloneNo, EnlNo, Line, Outcome, Plan, Support, TxNo, Vote};
+use dtx_values::{Body, CloneNo, EnlNo, Line, TxNo};
 use std::alloc::{AllocError, Global};
 use std::marker::Model;
 
-/// What a line says of the enlistment that it makes: its transaction, and its plan.
-#[derive(Clone, Copy, PartialEq, Eq, Debug)]
-pub struct Made {
-    transaction: TxNo,
-    plan: Plan,
-}
-
-impl Made {
-    /// An enlistment of this transaction, with its plan.
-    fn new(t: TxNo, vote: Option<Vote>, owner: Option<Outcome>, promote: Option<bool>) -> Self
-        ensures { result ≡ record { transaction = t; plan = record { vote = vote; owner = owner; promote = promote } } }
-    {
-        Made {
-            transaction: t,
-            plan: Plan {
-                vote,
-                owner,
-                promote,
-            },
-        }
-    }
-}
-
-/// The enlistments, and the transactions of the clones, each at the place of its number, as far as the script names them. Contracts see the script that says so.
+/// The transactions of the enlistments, and those of the clones, each at the place of its number, as far as the script names them. Contracts see the script that says so.
 #[derive(Drop)]
 pub struct Plans<'a> {
     lines: &'a [Line],
-    enlistments: Vec<Option<Made>>,
+    enlistments: Vec<Option<TxNo>>,
     clones: Vec<Option<TxNo>>,
 }
 
@@ -53,22 +28,15 @@ fn item_at<T: Copy>(items: &[T], place: usize, blank: T) -> T
     }
 }
 
-/// The enlistment that a command makes, and what it says of it.
-fn said_by(body: Body) -> Option<(EnlNo, Made)>
-    ensures some { IfSome result (λ x. (e : ℕ) → made_by e body ≡ (if e == x.0.value then Some x.1 else None)) }
-    ensures none { IfNone result ((e : ℕ) → made_by e body ≡ None) }
+/// The enlistment that a command makes, and its transaction.
+pub fn made_by(body: Body) -> Option<(EnlNo, TxNo)>
+    ensures some { IfSome result (λ x. (e : ℕ) → enlistment_made e body ≡ (if e == x.0.value then Some x.1 else None)) }
+    ensures none { IfNone result ((e : ℕ) → enlistment_made e body ≡ None) }
 {
     match body {
-        Body::Volatile(t, e, _, vote) => Some((e, Made::new(t, vote, None, None))),
-        Body::Durable(t, e, _, Support::SinglePhase(vote, owner)) => {
-            Some((e, Made::new(t, vote, owner, None)))
-        }
-        Body::Durable(t, e, _, Support::TwoPhase(vote)) => {
-            Some((e, Made::new(t, vote, None, None)))
-        }
-        Body::Promotable(t, e, _, vote, owner, promote) => {
-            Some((e, Made::new(t, vote, owner, promote)))
-        }
+        Body::Volatile(t, e, _, _)
+        | Body::Durable(t, e, _, _)
+        | Body::Promotable(t, e, _, _, _, _) => Some((e, t)),
         _ => None,
     }
 }
@@ -96,15 +64,15 @@ fn put_at<T: Copy>(items: &mut Vec<T>, place: usize, blank: T, item: T) -> Resul
     Ok(())
 }
 
-/// Keeps what a command says of the enlistment that it makes.
-fn plan(enlistments: &mut Vec<Option<Made>>, body: Body) -> Result<(), AllocError>
+/// Keeps whose enlistment a command makes.
+fn enlist(enlistments: &mut Vec<Option<TxNo>>, body: Body) -> Result<(), AllocError>
     ensures { OnOk result ((e : EnlNo) → slice_index_or enlistments.new.items (e.value - 1) None
-        ≡ or_else (made_by e.value body) (slice_index_or enlistments.old.items (e.value - 1) None)) }
+        ≡ or_else (enlistment_made e.value body) (slice_index_or enlistments.old.items (e.value - 1) None)) }
 {
-    let Some((e, said)) = said_by(body) else {
+    let Some((e, t)) = made_by(body) else {
         return Ok(());
     };
-    put_at(enlistments, e.index(), None, Some(said))
+    put_at(enlistments, e.index(), None, Some(t))
 }
 
 /// Keeps whose clone a command makes.
@@ -131,14 +99,14 @@ impl<'a> Model for Plans<'a> {
 }
 
 impl<'a> Plans<'a> {
-    /// The plans of these lines.
+    /// The tables of these lines.
     pub fn new(alloc: Global, lines: &'a [Line]) -> Result<Self, AllocError>
         ensures { IfOk result (λ p. p ≡ lines.entry.now) }
     {
         let mut enlistments = Vec::new(alloc);
         let mut clones = Vec::new(alloc);
         for line in lines {
-            plan(&mut enlistments, line.body)?;
+            enlist(&mut enlistments, line.body)?;
             own(&mut clones, line.body)?;
         }
         Ok(Plans {
@@ -148,35 +116,11 @@ impl<'a> Plans<'a> {
         })
     }
 
-    /// What the line of this enlistment says of it; `None` where no line makes it.
-    fn enlistment(&self, e: EnlNo) -> Option<Made>
-        ensures { result ≡ made_in self.now e.value }
-    {
-        item_at(&self.enlistments, e.index(), None)
-    }
-
-    /// What the line of this enlistment plans for it: a part is `None` where it is silent, or where no line makes it.
-    pub fn plan(&self, e: EnlNo) -> Plan
-        ensures { result ≡ plans_of self.now e.value }
-    {
-        match self.enlistment(e) {
-            Some(made) => made.plan,
-            None => Plan {
-                vote: None,
-                owner: None,
-                promote: None,
-            },
-        }
-    }
-
     /// The transaction of the enlistment that a line makes; `None` where no line makes it.
     pub fn transaction_with(&self, e: EnlNo) -> Option<TxNo>
         ensures { result ≡ transaction_with self.now e.value }
     {
-        match self.enlistment(e) {
-            Some(made) => Some(made.transaction),
-            None => None,
-        }
+        item_at(&self.enlistments, e.index(), None)
     }
 
     /// The transaction of the clone that a line makes; `None` where no line makes it.
