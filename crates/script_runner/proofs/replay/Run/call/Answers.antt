@@ -29,3 +29,28 @@ enter-requires-clause-answers g c =
     let numbered = numbered_same c.self.inside.worlds.items c.reach.new.worlds.items c.self.invariant.0 (c.reach.ensures.few c.self.invariant.0.few) c.reach.ensures.same in
     may_answer_here c.args.self.now.worlds c.reach.new.worlds.items c.args.t c.args.c.now c.args.done c.index_mut-world.result.now numbered c.in_ok-reach.ensures.reached
     (rw place at c.index_mut-world.ensures.value) (λ u. c.reach.ensures.same u ∙ ap (λ (r : RunState). state_of u r.worlds) c.self.view_is) c.requires.answers
+
+pub note-requires : goal.note-requires
+note-requires g c =
+    past_longer g.D.Disk.faults c.args.log.now (Calls c.args.n c.args.actor c.args.c.now c.args.done) c.index_mut-world.result.now c.enter.new.self c.len-from.result c.in_ok-enter.ensures.done
+    (c.len-from.ensures ∙ sym (length-past c.history.result.now) ∙ ap length c.history.ensures)
+
+pub returns : goal.returns
+returns g c =
+    let old = c.args.self.now in
+    let new = c.self-2.now in
+    let log = c.args.log.now in
+    let t = c.args.t in
+    let ws = c.reach.new.worlds.items in
+    let x = c.index_mut-world.result.now in
+    let y = c.enter.new.self in
+    let step = Calls c.args.n c.args.actor c.args.c.now c.args.done in
+    let place : c.index.result ≡ t.value - 1 = omega (arith, c.index.ensures.place) in
+    let made = c.in_ok-reach.ensures.reached in
+    let here : x ≡ get_or ws (t.value - 1) x = rw place at c.index_mut-world.ensures.value in
+    let same : (u : TxNo) → state_of u ws ≡ state_of u old.worlds = λ u. c.reach.ensures.same u ∙ ap (λ (r : RunState). state_of u r.worlds) c.self.view_is in
+    let numbered : AreNumbered ws = numbered_same c.self.inside.worlds.items ws c.self.invariant.0 (c.reach.ensures.few c.self.invariant.0.few) c.reach.ensures.same in
+    let past = past_after g.D.Disk.faults log ws t step x y numbered made here c.in_ok-enter.ensures.done in
+    let many : length x.world.past ≡ c.len-from.result = sym (ap length c.history.ensures) ∙ length-past c.history.result.now ∙ sym c.len-from.ensures in
+    let noted = c.in_ok-note.ensures x.world.past (written log.is_up t.value x.world step) many past in
+    ?
