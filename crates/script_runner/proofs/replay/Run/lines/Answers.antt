@@ -9,7 +9,8 @@ use Rattle.script_runner.specs.Scoped.{AreOpen}
 use Rattle.script_runner.proofs.Going.{goes_same, goes_then, runs_same, runs_then}
 use Rattle.script_runner.proofs.Openings.{lines_more, past_next, unopened}
 use Rattle.script_runner.proofs.Replayed.{few, line_at, split_at}
-use Rattle.script_runner.proofs.RunHere.{enters_here, off_log_here}
+use Rattle.script_runner.proofs.RunLines.{run_line}
+use Rattle.script_runner.proofs.Ready.{line_entered, line_off_log}
 use Rattle.script_runner.proofs.replay.Run.lines.Goals as goal
 
 pub overflow_add-n : goal.overflow_add-n
@@ -36,10 +37,9 @@ line-requires-clause-entered g c =
     let i = c.loop-l.l-index in
     let l = c.l-item.result in
     let same : lines ≡ s = c.lines-lines.ensures ∙ ap (λ (r : RunState). r.script) c.self.view_is in
-    let here : drop i lines ≡ l ∷ drop (i + 1) lines = drop_more lines i l c.loop-l-test.true ∙ ap (λ (x : Line). x ∷ drop (i + 1) lines) (sym c.l-item.is) in
-    let split : s ≡ take i lines ++ l ∷ drop (i + 1) lines = sym same ∙ split_at lines i l (drop (i + 1) lines) here in
+    let stands : kth s (suc i) ≡ Some l = subst (λ (r : List Line). kth r (suc i) ≡ Some l) same (line_at lines i l c.loop-l-test.true c.l-item.is) in
     λ t call gives.
-    enters_here s (take i lines) (drop (i + 1) lines) l t call split c.requires.run (ap (λ (r : List Line). call_of r l.body) (sym c.loop-l.invariant.runs.script) ∙ gives)
+    line_entered s (lines_before s (suc i)) l.body (kth s (suc i + 1)) t call (ap (λ (r : List Line). call_of r l.body) (sym c.loop-l.invariant.runs.script) ∙ gives) (run_line s (suc i) l stands c.requires.run)
 
 pub line-requires-clause-unopened : goal.line-requires-clause-unopened
 line-requires-clause-unopened g c =
@@ -80,9 +80,8 @@ loop-l-preserved g c =
     let i = c.loop-l.l-index in
     let l = c.l-item.result in
     let same : lines ≡ s = c.lines-lines.ensures ∙ ap (λ (r : RunState). r.script) c.self.view_is in
-    let here : drop i lines ≡ l ∷ drop (i + 1) lines = drop_more lines i l c.loop-l-test.true ∙ ap (λ (x : Line). x ∷ drop (i + 1) lines) (sym c.l-item.is) in
-    let split : s ≡ take i lines ++ l ∷ drop (i + 1) lines = sym same ∙ split_at lines i l (drop (i + 1) lines) here in
-    let off = off_log_here s (take i lines) (drop (i + 1) lines) l split c.requires.run in
+    let stands : kth s (suc i) ≡ Some l = subst (λ (r : List Line). kth r (suc i) ≡ Some l) same (line_at lines i l c.loop-l-test.true c.l-item.is) in
+    let off = line_off_log (lines_before s (suc i)) l.body (kth s (suc i + 1)) (run_line s (suc i) l stands c.requires.run) in
     let was = c.loop-l.invariant in
     let did = c.in_ok-line.ensures in
     let faults = g.D.Disk.faults in record {
