@@ -1,12 +1,16 @@
-use Rattle.std.proofs.Common.{◌≡◌, ◌-◌, ◌≤◌, ◌++◌, List, arith, get_or, length, refl, set, subst, sym, ap, ◌∙◌}
+use Rattle.std.proofs.Common.{◌≡◌, ◌+◌, ◌-◌, ◌≤◌, ◌++◌, List, arith, get_or, length, refl, set, subst, sym, ap, ◌∙◌}
 use Rattle.std.proofs.Math.ListN.{length-set}
 use Rattle.dtx_values.specs.declared.entry.Entry.{Entry}
+use Rattle.dtx_values.specs.declared.number.TxNo.{TxNo}
+use Rattle.dtx_model.specs.Grammar.{are_named_well}
 use Rattle.dtx_model.specs.Caused.{IsCallOf}
 use Rattle.dtx_model.specs.Replay.{after_turn}
 use Rattle.dtx_model.specs.Steps.{Calls}
 use Rattle.dtx_model.specs.Traces.{placed}
 use Rattle.dtx_model.specs.Words.{past_of}
 use Rattle.dtx_model.proofs.Pasts.{length-past}
+use Rattle.dtx_model.specs.World.{core}
+use Rattle.tx_world.specs.AtLog.{IsOurs, id_of}
 use Rattle.tx_world.specs.State.{TxState}
 use Rattle.script_runner.specs.RunState.{AreNumbered, IsBelow, IsTied, RunState, state_of}
 use Rattle.script_runner.proofs.CallsHold.{Entered, entered_at_place, entered_holds, entered_runs, entered_turn, may_answer_here, may_enter_here, past_after, past_longer}
@@ -14,6 +18,9 @@ use Rattle.script_runner.proofs.Entering.{below_after}
 use Rattle.script_runner.proofs.Numbered.{numbered_same, numbered_set}
 use Rattle.script_runner.proofs.Turns.{written}
 use Rattle.script_runner.proofs.replay.Run.call.Goals as goal
+
+kept_stub : (y : TxState) → IsOurs (id_of y) (core y.world) (record { ours = y.ours; unsure = y.unsure; life = y.life })
+kept_stub y = ?
 
 pub enter-requires-clause-enters : goal.enter-requires-clause-enters
 enter-requires-clause-enters g c =
@@ -32,18 +39,19 @@ enter-requires-clause-answers g c =
 
 pub note-requires : goal.note-requires
 note-requires g c =
-    past_longer g.D.Disk.faults c.args.log.now (Calls c.args.n c.args.actor c.args.c.now c.args.done) c.index_mut-world.result.now c.enter.new.self c.len-from.result c.in_ok-enter.ensures.done
-    (c.len-from.ensures ∙ sym (length-past c.history.result.now) ∙ ap length c.history.ensures)
+    let h = c.history-from.result.now in
+    past_longer g.D.Disk.faults c.args.log.now (Calls c.args.n c.args.actor c.args.c.now c.args.done) c.index_mut-world.result.now c.enter.new.self (length h) c.in_ok-enter.ensures.done
+    (sym (length-past h) ∙ ap length c.history-from.ensures)
 
 pub returns : goal.returns
 returns g c =
     let old = c.args.self.now in
-    let new = c.self-2.now in
     let log = c.args.log.now in
     let t = c.args.t in
     let ws = c.reach.new.worlds.items in
     let x = c.index_mut-world.result.now in
     let y = c.enter.new.self in
+    let h = c.history-from.result.now in
     let step = Calls c.args.n c.args.actor c.args.c.now c.args.done in
     let place : c.index.result ≡ t.value - 1 = omega (arith, c.index.ensures.place) in
     let made = c.in_ok-reach.ensures.reached in
@@ -51,6 +59,20 @@ returns g c =
     let same : (u : TxNo) → state_of u ws ≡ state_of u old.worlds = λ u. c.reach.ensures.same u ∙ ap (λ (r : RunState). state_of u r.worlds) c.self.view_is in
     let numbered : AreNumbered ws = numbered_same c.self.inside.worlds.items ws c.self.invariant.0 (c.reach.ensures.few c.self.invariant.0.few) c.reach.ensures.same in
     let past = past_after g.D.Disk.faults log ws t step x y numbered made here c.in_ok-enter.ensures.done in
-    let many : length x.world.past ≡ c.len-from.result = sym (ap length c.history.ensures) ∙ length-past c.history.result.now ∙ sym c.len-from.ensures in
+    let many : length x.world.past ≡ length h = sym (ap length c.history-from.ensures) ∙ length-past h in
     let noted = c.in_ok-note.ensures x.world.past (written log.is_up t.value x.world step) many past in
-    ?
+    let new : RunState = record { script = c.self.inside.plans; worlds = set ws c.index.result y; contexts = c.self.inside.contexts.items; trace = c.note.new.trace.items } in
+    let did : Entered g.D.Disk.faults log t c.args.n c.args.actor c.args.c.now c.args.done x y old new =
+    entered_at_place g.D.Disk.faults log t c.args.n c.args.actor c.args.c.now c.args.done x y old new ws numbered made here same (ap (λ (r : RunState). r.script) c.self.view_is)
+    (ap (λ k. set ws k y) place) c.is_own_run.ensures.run c.in_ok-enter.ensures.done c.in_ok-enter.ensures.ours (kept_stub y)
+    (noted ∙ ap (λ (r : RunState). r.trace ++ placed t (written log.is_up t.value x.world step)) c.self.view_is) in
+    record {
+      contexts = ap (λ (r : RunState). r.contexts) c.self.view_is;
+      runs = entered_runs g.D.Disk.faults log t c.args.n c.args.actor c.args.c.now c.args.done x y old new did;
+      holds = entered_holds g.D.Disk.faults g.D.Disk.honest log t c.args.n c.args.actor c.args.c.now c.args.done x y old new did c.requires.given c.requires.holds;
+      others = did.others;
+      entered =
+          subst (λ (z : TxState). IsBelow (c.args.n + 1) z) (sym did.now)
+          (below_after c.args.n c.args.actor c.args.c.now c.args.done log.is_up x.transaction.value x y did.does.world (subst (λ (z : TxState). IsBelow c.args.n z) did.was c.requires.below));
+      done = entered_turn g.D.Disk.faults g.D.Disk.honest log t c.args.n c.args.actor c.args.c.now c.args.done x y old new did c.requires.holds;
+    }

@@ -1,21 +1,70 @@
-use Rattle.std.proofs.Common.{◌≡◌, arith, Ok, None, false, List, subst, sym}
+use Rattle.std.proofs.Common.{◌≡◌, ◌+◌, ℕ, suc, arith, Ok, None, true, false, List, refl, subst, sym, ◌∙◌}
 use Rattle.dtx_values.specs.declared.script.Line.{Line}
+use Rattle.dtx_model.specs.Caused.{HasDone, HasStepped}
 use Rattle.dtx_model.specs.Replay.{HasDoneAt, world_at}
 use Rattle.dtx_model.specs.Steps.{pending}
 use Rattle.dtx_model.specs.Words.{kth, past_of}
-use Rattle.script_runner.specs.RunState.{RunState}
-use Rattle.script_runner.proofs.Rounds.{done_all, done_some}
+use Rattle.script_runner.specs.RunState.{Advances, IsQuiet, RunState, StepsDone, state_of}
+use Rattle.script_runner.proofs.Going.{calls_then, goes_same, goes_then, runs_same, runs_then}
+use Rattle.script_runner.proofs.Rounds.{did_all, did_some, done_all, done_some, steps-more}
 use Rattle.script_runner.proofs.replay.Run.steps.Goals as goal
 
+pub loop-m-init : goal.loop-m-init
+loop-m-init g c =
+    record {
+      contexts = refl;
+      log = goes_same g.D.Disk.faults g.D.Disk.honest c.args.log.now;
+      runs = runs_same g.D.Disk.faults c.args.log.now c.args.self.now;
+      holds = c.requires.holds;
+      calls = λ t. refl;
+      did = refl;
+      done = λ quiet. refl;
+    }
+
+pub loop-m-preserved : goal.loop-m-preserved
+loop-m-preserved g c =
+    let some : c.step.result ≡ Ok true = cc in
+    let was = c.loop-m.invariant in
+    let m = c.loop-m.m in
+    let more : suc m ≡ m + 1 = omega arith in
+    let start = c.args.self.now in
+    record {
+      contexts = c.step.ensures.contexts ∙ was.contexts;
+      log = goes_then g.D.Disk.faults g.D.Disk.honest c.args.log.now c.loop-m.log c.step.new.log was.log c.step.ensures.log;
+      runs = runs_then g.D.Disk.faults c.args.log.now c.loop-m.log c.step.new.log start c.loop-m.self c.step.new.self was.log.grows c.step.ensures.log.grows was.runs c.in_ok-step.ensures.runs;
+      holds = c.in_ok-step.ensures.holds;
+      calls = calls_then start.worlds c.loop-m.self.worlds c.step.new.self.worlds was.calls c.step.ensures.calls;
+      did = subst (λ (i : ℕ). HasStepped c.args.t.value c.args.k i (state_of c.args.t start.worlds).world (state_of c.args.t c.step.new.self.worlds).world) more
+          (c.step.ensures.stepped some m (state_of c.args.t start.worlds).world was.did);
+      done = λ quiet.
+          let before : IsQuiet c.loop-m.self = c.in_ok-step.ensures.runs.back quiet in
+          let one = subst (λ (s : List Line). Advances s c.args.t c.args.k c.loop-m.self.trace c.step.new.self.trace) was.runs.script (c.step.ensures.some some quiet) in
+          subst (λ (i : ℕ). StepsDone start.script c.args.t c.args.k i start.trace c.step.new.self.trace) more
+          (steps-more start.script c.args.t c.args.k m start.trace c.loop-m.self.trace c.step.new.self.trace (was.done before) one);
+    }
+
+pub returns-then-not-branch-clause-did : goal.returns-then-not-branch-clause-did
+returns-then-not-branch-clause-did g c =
+    let done : c.step.result ≡ Ok false = cc in
+    let t = c.args.t in
+    subst (λ (r : RunState). HasDone t.value (state_of t r.worlds).world c.args.k c.args.n c.loop-m.m) (sym (c.step.ensures.unchanged done).0)
+    (did_some t.value c.args.k c.args.n c.loop-m.m (state_of t c.args.self.now.worlds).world (state_of t c.loop-m.self.worlds).world c.loop-m-test.true c.loop-m.invariant.did (c.step.ensures.none done))
+
 pub returns-then-not-branch-clause-done : goal.returns-then-not-branch-clause-done
-returns-then-not-branch-clause-done c =
+returns-then-not-branch-clause-done g c quiet =
     let done : c.step.result ≡ Ok false = cc in
     let s = c.args.self.now.script in
+    let before : IsQuiet c.loop-m.self = c.in_ok-step.ensures.runs.back quiet in
     let none : kth (pending (world_at s c.args.t (past_of c.loop-m.self.trace))) c.args.k ≡ None =
-    subst (λ (r : List Line). kth (pending (world_at r c.args.t (past_of c.loop-m.self.trace))) c.args.k ≡ None) c.loop-m.invariant.0 (c.step.ensures.none done) in
-    subst (λ (r : RunState). HasDoneAt s c.args.t c.args.k c.args.n c.loop-m.m (past_of c.args.self.now.trace) (past_of r.trace)) (sym (c.step.ensures.unchanged done))
-    (done_some s c.args.t c.args.k c.args.n c.loop-m.m c.args.self.now.trace c.loop-m.self.trace c.loop-m-test.true c.loop-m.invariant.2 none)
+    subst (λ (r : List Line). kth (pending (world_at r c.args.t (past_of c.loop-m.self.trace))) c.args.k ≡ None) c.loop-m.invariant.runs.script (c.step.ensures.none_here done before) in
+    subst (λ (r : RunState). HasDoneAt s c.args.t c.args.k c.args.n c.loop-m.m (past_of c.args.self.now.trace) (past_of r.trace)) (sym (c.step.ensures.unchanged done).0)
+    (done_some s c.args.t c.args.k c.args.n c.loop-m.m c.args.self.now.trace c.loop-m.self.trace c.loop-m-test.true (c.loop-m.invariant.done before) none)
+
+pub returns-clause-did : goal.returns-clause-did
+returns-clause-did g c =
+    let t = c.args.t in
+    did_all t.value c.args.k c.args.n c.loop-m.m (state_of t c.args.self.now.worlds).world (state_of t c.loop-m.self.worlds).world (omega (arith, c.loop-m-test.false, c.loop-m.auto.m-end)) c.loop-m.invariant.did
 
 pub returns-clause-done : goal.returns-clause-done
-returns-clause-done c =
-    done_all c.args.self.now.script c.args.t c.args.k c.args.n c.loop-m.m c.args.self.now.trace c.loop-m.self.trace (omega (arith, c.loop-m-test.false, c.loop-m.auto.m-end)) c.loop-m.invariant.2
+returns-clause-done g c quiet =
+    done_all c.args.self.now.script c.args.t c.args.k c.args.n c.loop-m.m c.args.self.now.trace c.loop-m.self.trace (omega (arith, c.loop-m-test.false, c.loop-m.auto.m-end)) (c.loop-m.invariant.done quiet)

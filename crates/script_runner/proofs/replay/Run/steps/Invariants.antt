@@ -1,6 +1,15 @@
 use Rattle.std.proofs.Common.{◌≡◌}
-use Rattle.script_runner.specs.RunState.{StepsDone}
+use Rattle.dtx_model.specs.Caused.{HasStepped}
+use Rattle.script_runner.specs.RunState.{HaveSameCalls, Holds, IsQuiet, LogGoes, Runs, StepsDone, state_of}
 use Rattle.script_runner.proofs.replay.Run.steps.Given as goal
 
 abbrev pub invariant-loop-m : goal.invariant-loop-m
-invariant-loop-m l = (l.self.script ≡ l.initial.self.script) × (l.self.contexts ≡ l.initial.self.contexts) × StepsDone l.initial.self.script l.t l.k l.m l.initial.self.trace l.self.trace
+invariant-loop-m g l = record {
+  contexts : l.self.contexts ≡ l.initial.self.contexts;
+  log : LogGoes g.D.Disk.faults g.D.Disk.honest l.initial.log l.log;
+  runs : Runs g.D.Disk.faults l.initial.log l.log l.initial.self l.self;
+  holds : Holds g.D.Disk.honest l.log l.self;
+  calls : HaveSameCalls l.initial.self.worlds l.self.worlds;
+  did : HasStepped l.t.value l.k l.m (state_of l.t l.initial.self.worlds).world (state_of l.t l.self.worlds).world;
+  done : IsQuiet l.self → StepsDone l.initial.self.script l.t l.k l.m l.initial.self.trace l.self.trace;
+}
