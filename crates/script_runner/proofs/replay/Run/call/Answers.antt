@@ -9,8 +9,6 @@ use Rattle.dtx_model.specs.Steps.{Calls}
 use Rattle.dtx_model.specs.Traces.{placed}
 use Rattle.dtx_model.specs.Words.{past_of}
 use Rattle.dtx_model.proofs.Pasts.{length-past}
-use Rattle.dtx_model.specs.World.{core}
-use Rattle.tx_world.specs.AtLog.{IsOurs, id_of}
 use Rattle.tx_world.specs.State.{TxState}
 use Rattle.script_runner.specs.RunState.{AreNumbered, IsBelow, IsTied, RunState, state_of}
 use Rattle.script_runner.proofs.CallsHold.{Entered, entered_at_place, entered_holds, entered_runs, entered_turn, may_answer_here, may_enter_here, past_after, past_longer}
@@ -18,9 +16,6 @@ use Rattle.script_runner.proofs.Entering.{below_after}
 use Rattle.script_runner.proofs.Numbered.{numbered_same, numbered_set}
 use Rattle.script_runner.proofs.Turns.{written}
 use Rattle.script_runner.proofs.replay.Run.call.Goals as goal
-
-kept_stub : (y : TxState) → IsOurs (id_of y) (core y.world) (record { ours = y.ours; unsure = y.unsure; life = y.life })
-kept_stub y = ?
 
 pub enter-requires-clause-enters : goal.enter-requires-clause-enters
 enter-requires-clause-enters g c =
@@ -64,7 +59,7 @@ returns g c =
     let new : RunState = record { script = c.self.inside.plans; worlds = set ws c.index.result y; contexts = c.self.inside.contexts.items; trace = c.note.new.trace.items } in
     let did : Entered g.D.Disk.faults log t c.args.n c.args.actor c.args.c.now c.args.done x y old new =
     entered_at_place g.D.Disk.faults log t c.args.n c.args.actor c.args.c.now c.args.done x y old new ws numbered made here same (ap (λ (r : RunState). r.script) c.self.view_is)
-    (ap (λ k. set ws k y) place) c.is_own_run.ensures.run c.in_ok-enter.ensures.done c.in_ok-enter.ensures.ours (kept_stub y)
+    (ap (λ k. set ws k y) place) c.is_own_run.ensures.run c.in_ok-enter.ensures.done c.in_ok-enter.ensures.ours c.is_own_run-2.ensures.ours
     (noted ∙ ap (λ (r : RunState). r.trace ++ placed t (written log.is_up t.value x.world step)) c.self.view_is) in
     record {
       contexts = ap (λ (r : RunState). r.contexts) c.self.view_is;
