@@ -1,5 +1,5 @@
 -- A step of a run: what the step of one transaction's world, once it is noted, makes of the run.
-use Rattle.std.proofs.Common.{◌≡◌, ◌≢◌, ◌⊎◌, ⊥, ◌≤◌, ◌<◌, ◌-◌, ℕ, zero, suc, Bool, true, false, ◌&&◌, not, List, [], ◌∷◌, ◌++◌, length, get_or, set, None, Some, inl, inr, refl, ap, sym, subst, ◌∙◌}
+use Rattle.std.proofs.Common.{◌≡◌, ◌≢◌, ◌⊎◌, ◌≤◌, ◌<◌, ◌-◌, ℕ, zero, suc, Bool, true, false, ◌&&◌, not, List, [], ◌∷◌, ◌++◌, length, get_or, set, None, Some, inl, inr, refl, ap, sym, subst, ◌∙◌}
 use Rattle.std.specs.Prelude.{IsTrue, IsFalse}
 use Rattle.dtx_values.specs.declared.call.Call.{Call}
 use Rattle.dtx_values.specs.declared.entry.Entry.{Entry}
@@ -16,14 +16,15 @@ use Rattle.dtx_model.specs.Coordinated.{coordinate, may_free, may_log}
 use Rattle.dtx_model.specs.Observed.{observe}
 use Rattle.dtx_model.specs.Replies.{all_due}
 use Rattle.dtx_model.specs.World.{World, core}
-use Rattle.dtx_model.specs.Steps.{Step, after, block_at, local_pending, pending}
+use Rattle.dtx_model.specs.Steps.{Step, Calls, after, block_at, entered, local_pending, pending}
 use Rattle.dtx_model.specs.Caused.{HasStepped, IsCallOf, IsIn, IsOwnRun, is_begin_sent, plans_of, world_of}
 use Rattle.dtx_model.specs.Traces.{Placed, history, placed}
 use Rattle.dtx_model.specs.Replay.{after_turn, world_at}
 use Rattle.dtx_model.specs.declared.waiting.EnteredCall.{EnteredCall}
 use Rattle.dtx_model.proofs.Histories.{past_of-snoc}
 use Rattle.outcome_law.specs.LogQuiet.{is_log_quiet}
-use Rattle.outcome_law.proofs.ReplayRuns.{named_no_call, no_call_entered}
+use Rattle.outcome_law.proofs.Pending.{is_no_call}
+use Rattle.outcome_law.proofs.ReplayRuns.{named_no_call}
 use Rattle.outcome_law.proofs.ReplayTurns.{quiet_before}
 use Rattle.coordinator_log.specs.Slots.{open_records}
 use Rattle.coordinator_log.specs.State.{LogState}
@@ -31,13 +32,14 @@ use Rattle.scope_context.specs.Standing.{Standing}
 use Rattle.tx_world.specs.AtLog.{Fits, IsOurs, KeepsLog, id_of}
 use Rattle.tx_world.specs.State.{TxState, life_after, turned}
 use Rattle.tx_world.specs.Stepping.{DoesKth}
-use Rattle.script_runner.specs.RunState.{Advances, AreNumbered, HaveSameCalls, Holds, IsCalm, IsTied, LogGoes, RunState, Runs, is_calm_step, state_of, untouched}
+use Rattle.tx_world.specs.Left.{steps_left}
+use Rattle.script_runner.specs.RunState.{Advances, AreNumbered, HaveSameCalls, Holds, IsQuiet, IsCalm, IsTied, LogGoes, RunState, Runs, is_calm_step, state_of, untouched}
 use Rattle.script_runner.proofs.Calmed.{calm_after, given_same, holds_noted, tied_noted, tied_same}
 use Rattle.script_runner.proofs.Deeds.{calm_block}
 use Rattle.script_runner.proofs.Fitting.{fits_after, others_after}
 use Rattle.script_runner.proofs.Noting.{quiet_noted, quiet_was, trace_noted}
 use Rattle.script_runner.proofs.Numbered.{is_it, state_here, state_reached, state_there}
-use Rattle.script_runner.proofs.Turns.{IsOwn, calm_halting, calm_stopping, has_stepped, named_here, pending_here, planned_here, stays_up, step_calm, turn_here, turned_calls, turned_past, turned_up, written, written_up}
+use Rattle.script_runner.proofs.Turns.{IsOwn, calm_halting, calm_stopping, has_stepped, named_here, never_both, pending_here, planned_here, stays_up, step_calm, turn_here, turned_calls, turned_past, turned_up, written, written_up}
 
 -- The k-th pending step of transaction t of a run was done: its world was x and is y now.
 pub record IsStepAt {D : Type 0} (faults : D → ℕ) (honest : Bool) (image : D → List ℕ → Type 0) (s : List Line) (ws : List TxState) (cs : List Standing) (trace : List Placed) (t : TxNo) (k : ℕ) (x y : TxState)
@@ -49,12 +51,18 @@ pub record IsStepAt {D : Type 0} (faults : D → ℕ) (honest : Bool) (image : D
   pub there : x ≡ get_or ws (t.value - 1) x
   pub run : IsOwnRun x.transaction.value x.world
   pub does : DoesKth faults k x from y to
+  pub nearer : steps_left y.world < steps_left x.world
   pub kept : IsTrue honest → KeepsLog image x from y to
   pub life : to.life ≡ from.life
   pub grows : faults from.disk ≤ faults to.disk
   pub unarmed : from.armed ≡ None → to.armed ≡ None
   pub still : IsTrue to.is_up → IsTrue from.is_up
   pub ours : IsOurs (id_of y) (core y.world) (record { ours = y.ours; unsure = y.unsure; life = y.life })
+
+-- a step that is no call enters none
+none_entered : (ks : List EnteredCall) (m : Step) → is_no_call m ≡ true → entered m ks ≡ ks
+none_entered ks (Calls n a c k) q = absurd cc
+none_entered ks _ q = refl
 
 -- it is transaction t
 at_place : {D : Type 0} (faults : D → ℕ) (honest : Bool) (image : D → List ℕ → Type 0) (s : List Line) (ws : List TxState) (cs : List Standing) (trace : List Placed) (t : TxNo) (k : ℕ) (x y : TxState)
@@ -81,7 +89,7 @@ did_step faults honest image s ws cs trace t k x y from to at =
     let is : z.transaction ≡ t = d.numbered.numbered t in
     let world : y.world ≡ turned from.is_up t.value z.world m = d.does.done.world ∙ ap (λ (u : TxNo). turned from.is_up u.value z.world m) is in
     let calls : y.world.calls ≡ z.world.calls =
-    ap (λ (w : World). w.calls) world ∙ (turned_calls from.is_up t.value z.world m ∙ no_call_entered z.world.calls m (named_no_call z.world d.does.name m d.does.named)) in
+    ap (λ (w : World). w.calls) world ∙ (turned_calls from.is_up t.value z.world m ∙ none_entered z.world.calls m (named_no_call z.world d.does.name m d.does.named)) in
     record {
       own = record { transaction = is; run = subst (λ (u : TxNo). IsOwnRun u.value z.world) is d.run };
       does = d.does;
@@ -202,3 +210,86 @@ pub stopped_tied : (s : List Line) (ws : List TxState) (trace new : List Placed)
     → ((n : ℕ) (a : ActorNo) (c : Call) → IsIn y.world.calls n a c → IsCallOf s t.value n a c) → (u : TxNo) → IsTied s u (past_of new) (state_of u (set ws (t.value - 1) y))
 stopped_tied s ws trace new t y es made tied noted past given =
     tied_noted s ws ((Log, Stopped) ∷ past_of trace) (past_of new) t y es made (λ u. tied_same s u (past_of trace) ((Log, Stopped) ∷ past_of trace) (state_of u ws) refl (tied u)) noted past given
+
+-- What a step makes of a run.
+pub record IsStepped {D : Type 0} (faults : D → ℕ) (honest : Bool) (r q : RunState) (t : TxNo) (k : ℕ) (from to : LogState D) : Type 0 where
+  pub runs : Runs faults from to r q
+  pub holds : Holds honest to q
+  pub calls : HaveSameCalls r.worlds q.worlds
+  pub stepped : (m : ℕ) (start : World) → HasStepped t.value k m start (state_of t r.worlds).world → HasStepped t.value k (suc m) start (state_of t q.worlds).world
+  pub some : IsQuiet q → Advances r.script t k r.trace q.trace
+  pub nearer : steps_left (state_of t q.worlds).world < steps_left (state_of t r.worlds).world
+
+-- where it left the log up, if it was,
+pub step_done : {D : Type 0} (faults : D → ℕ) (honest : Bool) (image : D → List ℕ → Type 0) (s : List Line) (ws : List TxState) (cs : List Standing) (trace new : List Placed) (t : TxNo) (k : ℕ) (x y : TxState)
+    (from to : LogState D) → IsStepAt faults honest image s ws cs trace t k x y from to → (IsTrue from.is_up → IsTrue to.is_up)
+    → ((es : List Entry) → y.world.past ≡ onto x.world.past es → new ≡ trace ++ placed t es)
+    → IsStepped faults honest (record { script = s; worlds = ws; contexts = cs; trace = trace }) (record { script = s; worlds = set ws (t.value - 1) y; contexts = cs; trace = new }) t k from to
+step_done faults honest image s ws cs trace new t k x y from to at stays written_down =
+    let d = did_step faults honest image s ws cs trace t k x y from to at in
+    let es = written from.is_up t.value (state_of t ws).world d.does.step in
+    let reached = state_reached t ws x at.made at.there in
+    let noted : past_of new ≡ onto (past_of trace) (placed t es) =
+    ap past_of (written_down es (d.past ∙ ap (λ (z : TxState). onto z.world.past es) reached)) ∙ trace_noted trace t es in
+    let here : state_of t (set ws (t.value - 1) y) ≡ y = state_here t ws y at.made in
+    record {
+      runs = step_runs faults from to s ws (set ws (t.value - 1) y) cs trace new t es noted;
+      holds = step_holds faults honest image s ws cs trace new t k x y from to at d stays noted;
+      calls = step_calls ws t y at.made d.calls;
+      stepped = λ m start before.
+          subst (λ (z : TxState). HasStepped t.value k (suc m) start z.world) (sym here) (has_stepped faults t k m start (state_of t ws) y from to d.own.transaction d.does before);
+      some = step_advances faults honest image s ws cs trace new t k x y from to at d stays noted;
+      nearer =
+          subst (λ (z : TxState). steps_left z.world < steps_left (state_of t ws).world) (sym here)
+          (subst (λ (z : TxState). steps_left y.world < steps_left z.world) (sym reached) at.nearer);
+    }
+
+-- and where it stopped it, after the others were told.
+pub step_stopped : {D : Type 0} (faults : D → ℕ) (honest : Bool) (image : D → List ℕ → Type 0) (s : List Line) (ws : List TxState) (cs : List Standing) (trace mid : List Placed) (t : TxNo) (k : ℕ) (x y : TxState)
+    (from to : LogState D) (q : RunState) → IsStepAt faults honest image s ws cs trace t k x y from to → IsTrue from.is_up → IsFalse to.is_up
+    → ((es : List Entry) → y.world.past ≡ onto x.world.past es → mid ≡ (trace ++ (Log, Stopped) ∷ []) ++ placed t es) → q.script ≡ s → HaveSameCalls (set ws (t.value - 1) y) q.worlds
+    → state_of t q.worlds ≡ state_of t (set ws (t.value - 1) y)
+    → (((u : TxNo) → IsTied s u (past_of mid) (state_of u (set ws (t.value - 1) y))) → (u : TxNo) → IsTied s u (past_of q.trace) (state_of u q.worlds))
+    → ((is_log_quiet (past_of mid) ≡ true → ⊥) → IsQuiet q → ⊥)
+    → IsStepped faults honest (record { script = s; worlds = ws; contexts = cs; trace = trace }) q t k from to
+step_stopped {D} faults honest image s ws cs trace mid t k x y from to q at up down written_down script calls same tied loud =
+    let d = did_step faults honest image s ws cs trace t k x y from to at in
+    let es = written from.is_up t.value (state_of t ws).world d.does.step in
+    let reached = state_reached t ws x at.made at.there in
+    let noted : past_of mid ≡ onto ((Log, Stopped) ∷ past_of trace) (placed t es) =
+    stopped_noted trace mid t es (written_down es (d.past ∙ ap (λ (z : TxState). onto z.world.past es) reached)) in
+    let noisy : IsQuiet q → ⊥ = loud (stopped_loud trace mid t es noted) in
+    let here : state_of t q.worlds ≡ y = same ∙ state_here t ws y at.made in
+    let ties = tied (stopped_tied s ws trace mid t y es at.made at.holds.tied noted d.past d.given) in
+    let rose : Rose (faults from.disk) (faults to.disk) =
+    elim (stays_up faults x from to at.does.step at.does.done.answered up at.holds.unarmed) [ inl k ↦ absurd (never_both to.is_up k down) | inr r ↦ r ] in
+    record {
+      runs = record { script = script; back = λ quiet. absurd (noisy quiet); forth = λ quiet. inr rose };
+      holds = record {
+        tied = subst (λ (z : List Line). (u : TxNo) → IsTied z u (past_of q.trace) (state_of u q.worlds)) (sym script) ties;
+        unarmed = at.unarmed at.holds.unarmed;
+        fits = λ h still. absurd (never_both to.is_up still down);
+        up = λ quiet. absurd (noisy quiet);
+        calm = λ quiet. absurd (noisy quiet);
+      };
+      calls = λ u. calls u ∙ step_calls ws t y at.made d.calls u;
+      stepped = λ m start before.
+          subst (λ (z : TxState). HasStepped t.value k (suc m) start z.world) (sym here) (has_stepped faults t k m start (state_of t ws) y from to d.own.transaction d.does before);
+      some = λ quiet. absurd (noisy quiet);
+      nearer =
+          subst (λ (z : TxState). steps_left z.world < steps_left (state_of t ws).world) (sym here)
+          (subst (λ (z : TxState). steps_left y.world < steps_left z.world) (sym reached) at.nearer);
+    }
+
+-- where the memory ran out before it was noted, no call was entered
+pub failed_calls : {D : Type 0} (faults : D → ℕ) (honest : Bool) (image : D → List ℕ → Type 0) (s : List Line) (ws : List TxState) (cs : List Standing) (trace : List Placed) (t : TxNo) (k : ℕ) (x y : TxState)
+    (from to : LogState D) → IsStepAt faults honest image s ws cs trace t k x y from to → HaveSameCalls ws (set ws (t.value - 1) y)
+failed_calls faults honest image s ws cs trace t k x y from to at = step_calls ws t y at.made (did_step faults honest image s ws cs trace t k x y from to at).calls
+
+-- and it wrote something, or nothing
+pub step_past : {D : Type 0} (faults : D → ℕ) (honest : Bool) (image : D → List ℕ → Type 0) (s : List Line) (ws : List TxState) (cs : List Standing) (trace : List Placed) (t : TxNo) (k : ℕ) (x y : TxState)
+    (from to : LogState D) → IsStepAt faults honest image s ws cs trace t k x y from to → (es : List Entry) × (y.world.past ≡ onto x.world.past es)
+step_past faults honest image s ws cs trace t k x y from to at =
+    let d = did_step faults honest image s ws cs trace t k x y from to at in
+    let es = written from.is_up t.value (state_of t ws).world d.does.step in
+    (es, d.past ∙ ap (λ (z : TxState). onto z.world.past es) (state_reached t ws x at.made at.there))
