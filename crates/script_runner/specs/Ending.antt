@@ -1,5 +1,5 @@
 -- The log at the end of a run.
-use Rattle.std.specs.Prelude.{ℕ, ◌≡◌, ⊥, List, [], filter, length, if◌then◌else◌}
+use Rattle.std.specs.Prelude.{ℕ, ◌≡◌, List, [], filter, length, if◌then◌else◌}
 use Rattle.dtx_values.specs.declared.number.TxNo.{TxNo}
 use Rattle.dtx_model.specs.Log.{CommitRecord, is_record_of}
 use Rattle.dtx_model.specs.Promotes.{identifier_of}

@@ -1,5 +1,5 @@
 -- A replay under way.
-use Rattle.std.specs.Prelude.{ℕ, zero, suc, ◌-◌, ◌<◌, ◌≤◌, ◌≡◌, ◌⊎◌, ⊥, nat_lt, Bool, true, false, List, [], length, filter, None, Some, is_some, IsTrue, slice_index_or}
+use Rattle.std.specs.Prelude.{ℕ, zero, suc, ◌-◌, ◌<◌, ◌≤◌, ◌≡◌, ◌⊎◌, nat_lt, Bool, true, false, List, [], length, filter, None, Some, is_some, IsTrue, slice_index_or}
 use Rattle.dtx_values.specs.declared.entry.Entry.{Entry}
 use Rattle.dtx_values.specs.declared.entry.Entry.TheVariants.{Restarted, Stopped}
 use Rattle.dtx_values.specs.declared.number.ActorNo.{ActorNo}
@@ -66,10 +66,10 @@ pub record IsTied (s : List Line) (t : TxNo) (T : List Placed) (x : TxState) : T
 
 -- As long as no fault stopped the log: its replies are as planned, no stop came to it, from BEGIN on it lives in this life of the log, and it keeps a record where its
 -- coordinator has one.
-pub record IsCalm (s : List Line) (life : ℕ) (x : TxState) : Type 0 where
+pub record IsCalm (s : List Line) (log_life : ℕ) (x : TxState) : Type 0 where
   pub planned : IsToPlan s x.world.past
   pub unstopped : has is_of_stop x.world.past ≡ false
-  pub life : has is_begin_sent x.world.past ≡ true → x.life ≡ life
+  pub life : has is_begin_sent x.world.past ≡ true → x.life ≡ log_life
   pub sure : x.unsure ≡ false
   pub recorded : is_some x.ours ≡ is_recorded (core x.world).stage
 

@@ -1,5 +1,5 @@
 //! A replay: the lines in order, and then the rounds at the end.
-ghost use Rattle.std.specs.Prelude.{ℕ, ◌≡◌, ◌⊎◌, ◌≢◌, ◌≤◌, ◌<◌, ◌+◌, ◌-◌, List, [], ◌∷◌, ◌++◌, IfOk, OnErr, OnOk, IsTrue, None, Ok, Some, true, false, ⊥, length, map, replicate, slice_get, suc, vec_len, vec_capacity};
+ghost use Rattle.std.specs.Prelude.{ℕ, ◌≡◌, ◌⊎◌, ◌≢◌, ◌≤◌, ◌<◌, ◌+◌, ◌-◌, List, [], ◌∷◌, ◌++◌, IfOk, OnErr, OnOk, IsTrue, None, Ok, Some, true, false, length, map, replicate, slice_get, suc, vec_len, vec_capacity};
 ghost use Rattle.dtx_values.specs.declared.call.Call.{Call};
 ghost use Rattle.dtx_values.specs.declared.entry.Entry.{Entry};
 ghost use Rattle.dtx_values.specs.declared.number.ActorNo.{ActorNo};
@@ -13,7 +13,7 @@ ghost use Rattle.dtx_model.specs.Steps.{Calls, pending};
 ghost use Rattle.dtx_model.specs.Caused.{HasDone, HasStepped, IsCallOf, MayAnswer, Settled};
 ghost use Rattle.dtx_model.specs.Contexts.{calls_by, lines_before, scope_block, scope_calls};
 ghost use Rattle.dtx_model.specs.Traces.{Placed, history, noted, placed};
-ghost use Rattle.dtx_model.specs.Replay.{CallRan, HasDoneAt, IsReplayed, LinesRan, after_calls, after_scope, after_turn};
+ghost use Rattle.dtx_model.specs.Replay.{CallRan, HasDoneAt, IsReplayed, LinesRan, after_calls, after_scope, after_turn, world_at};
 ghost use Rattle.dtx_model.specs.History.{HasOneOutcome, IsComplete, IsHistory, IsReplay};
 ghost use Rattle.dtx_model.specs.Grammar.{IsScript, are_named_well};
 ghost use Rattle.outcome_law.specs.LogQuiet.{is_log_quiet};
@@ -70,7 +70,8 @@ fn reach(alloc: Global, worlds: &mut Vec<TxWorld>, t: TxNo) -> Result<(), WorldE
 {
     for number in worlds.len()..t.index() + 1 {
         let next = TxNo::new(number as u32 + 1).unwrap();
-        worlds.push(TxWorld::new(alloc, next)?)?;
+        worlds.reserve(1)?;
+        worlds.push_reserved(TxWorld::new(alloc, next)?);
     }
     Ok(())
 }
@@ -146,6 +147,7 @@ impl<'a> Run<'a> {
         world.is_own_run();
         let from = world.history().len();
         let _ = world.enter(log, actor, n, c, done)?;
+        world.is_own_run();
         note(&mut self.trace, t, world, from)?;
         Ok(())
     }
@@ -157,7 +159,7 @@ impl<'a> Run<'a> {
         ensures calls { HaveSameCalls self.old.worlds self.new.worlds }
         ensures here { state_of t self.new.worlds ≡ state_of t self.old.worlds }
         ensures tied { OnOk result (((u : TxNo) → IsTied self.old.script u (past_of self.old.trace) (state_of u self.old.worlds)) → (u : TxNo) → IsTied self.old.script u (past_of self.new.trace) (state_of u self.new.worlds)) }
-        ensures loud { (IsQuiet self.old → ⊥) → IsQuiet self.new → ⊥ }
+        ensures loud { OnOk result ((IsQuiet self.old → ⊥) → IsQuiet self.new → ⊥) }
     {
         for place in 0..self.worlds.len() {
             if place == t.index() {
@@ -184,6 +186,7 @@ impl<'a> Run<'a> {
         ensures some { result ≡ Ok true → IsQuiet self.new → Advances self.old.script t k self.old.trace self.new.trace }
         ensures nearer { result ≡ Ok true → steps_left (state_of t self.new.worlds).world < steps_left (state_of t self.old.worlds).world }
         ensures none { result ≡ Ok false → kth (pending (state_of t self.old.worlds).world) k ≡ None }
+        ensures none_here { result ≡ Ok false → IsQuiet self.old → kth (pending (world_at self.old.script t (past_of self.old.trace))) k ≡ None }
         ensures unchanged { result ≡ Ok false → (self.new ≡ self.old) × (log.new ≡ log.old) }
     {
         if self.worlds.len() <= t.index() {
@@ -196,14 +199,16 @@ impl<'a> Run<'a> {
         if !world.step(log, u32::from(k))? {
             return Ok(false);
         }
-        let is_stopped = was_up && !log.is_up();
-        if is_stopped {
-            self.trace.push((Place::Log, Entry::Stopped))?;
-        }
-        note(&mut self.trace, t, &self.worlds[t.index()], from)?;
-        if is_stopped {
+        // What holds of the world after the step: what it keeps of the log is what its coordinator knows.
+        world.is_own_run();
+        if was_up && !log.is_up() {
+            self.trace.reserve(1)?;
+            self.trace.push_reserved((Place::Log, Entry::Stopped));
+            note(&mut self.trace, t, world, from)?;
             self.stop_others(t, log.life())?;
+            return Ok(true);
         }
+        note(&mut self.trace, t, world, from)?;
         Ok(true)
     }
 
