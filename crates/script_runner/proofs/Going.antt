@@ -1,12 +1,12 @@
 -- How the parts of a run follow each other: what two parts in a row keep, they keep together.
-use Rattle.std.proofs.Common.{◌≡◌, ◌≤◌, ◌⊎◌, ◌∙◌, ℕ, Bool, true, List, [], ◌∷◌, refl, sym, subst, arith, inl, inr}
+use Rattle.std.proofs.Common.{◌≡◌, ◌≤◌, ◌∙◌, ℕ, Bool, true, List, refl, sym, subst, arith, inl, inr}
 use Rattle.std.specs.Prelude.{nat_lt}
 use Rattle.outside.proofs.Rising.{rose_earlier, rose_later}
 use Rattle.dtx_model.specs.declared.waiting.EnteredCall.{EnteredCall}
 use Rattle.dtx_model.specs.Words.{each}
 use Rattle.coordinator_log.specs.State.{LogState}
 use Rattle.tx_world.specs.State.{TxState}
-use Rattle.script_runner.specs.RunState.{AreBelow, HaveSameCalls, LogGoes, RunState, Runs, state_of}
+use Rattle.script_runner.specs.RunState.{AreBelow, HaveSameCalls, LogGoes, RunState, Runs}
 
 -- a log that nothing touched
 pub goes_same : {D : Type 0} (faults : D → ℕ) (honest : Bool) (log : LogState D) → LogGoes faults honest log log
@@ -20,9 +20,9 @@ goes_then faults honest a b c p q =
       stays = λ up none.
           elim (p.stays up none) [
             | inl here ↦ elim (q.stays here (p.unarmed none)) [
-                | inl there ↦ inl there
-                | inr rose ↦ inr (rose_earlier (faults a.disk) (faults b.disk) (faults c.disk) p.grows rose)
-              ]
+              | inl there ↦ inl there
+              | inr rose ↦ inr (rose_earlier (faults a.disk) (faults b.disk) (faults c.disk) p.grows rose)
+            ]
             | inr rose ↦ inr (rose_later (faults a.disk) (faults b.disk) (faults c.disk) rose q.grows)
           ];
       still = λ up. p.still (q.still up);
@@ -44,9 +44,9 @@ runs_then faults a b c x y z first second p q =
       forth = λ quiet.
           elim (p.forth quiet) [
             | inl here ↦ elim (q.forth here) [
-                | inl there ↦ inl there
-                | inr rose ↦ inr (rose_earlier (faults a.disk) (faults b.disk) (faults c.disk) first rose)
-              ]
+              | inl there ↦ inl there
+              | inr rose ↦ inr (rose_earlier (faults a.disk) (faults b.disk) (faults c.disk) first rose)
+            ]
             | inr rose ↦ inr (rose_later (faults a.disk) (faults b.disk) (faults c.disk) rose second)
           ];
     }
