@@ -127,7 +127,7 @@ returns-in_err-reserve-clause-calls g c =
       grows = c.step.ensures.grows;
       unarmed = c.step.ensures.unarmed;
       still = c.step.ensures.still;
-      ours = ?;
+      ours = c.is_own_run-2.ensures.ours;
     } in
     let calls : HaveSameCalls ws (set ws c.index-2.result y) =
     subst (λ (i : ℕ). HaveSameCalls ws (set ws i y)) (sym place) (failed_calls faults honest image s ws cs tr t k x y from to at) in
@@ -170,7 +170,7 @@ returns-in_err-note-clause-calls g c =
       grows = c.step.ensures.grows;
       unarmed = c.step.ensures.unarmed;
       still = c.step.ensures.still;
-      ours = ?;
+      ours = c.is_own_run-2.ensures.ours;
     } in
     let calls : HaveSameCalls ws (set ws c.index-2.result y) =
     subst (λ (i : ℕ). HaveSameCalls ws (set ws i y)) (sym place) (failed_calls faults honest image s ws cs tr t k x y from to at) in
@@ -213,7 +213,7 @@ returns-in_err-note-2-clause-calls g c =
       grows = c.step.ensures.grows;
       unarmed = c.step.ensures.unarmed;
       still = c.step.ensures.still;
-      ours = ?;
+      ours = c.is_own_run-2.ensures.ours;
     } in
     let calls : HaveSameCalls ws (set ws c.index-2.result y) =
     subst (λ (i : ℕ). HaveSameCalls ws (set ws i y)) (sym place) (failed_calls faults honest image s ws cs tr t k x y from to at) in
@@ -256,7 +256,7 @@ returns-in_err-stop_others-clause-calls g c =
       grows = c.step.ensures.grows;
       unarmed = c.step.ensures.unarmed;
       still = c.step.ensures.still;
-      ours = ?;
+      ours = c.is_own_run-2.ensures.ours;
     } in
     let calls : HaveSameCalls ws (set ws c.index-2.result y) =
     subst (λ (i : ℕ). HaveSameCalls ws (set ws i y)) (sym place) (failed_calls faults honest image s ws cs tr t k x y from to at) in
@@ -299,7 +299,7 @@ returns-in_err-note-2-clause-log g c =
       grows = c.step.ensures.grows;
       unarmed = c.step.ensures.unarmed;
       still = c.step.ensures.still;
-      ours = ?;
+      ours = c.is_own_run-2.ensures.ours;
     } in
     step_log faults honest image s ws cs tr t k x y from to at
 
@@ -340,7 +340,7 @@ note-requires g c =
       grows = c.step.ensures.grows;
       unarmed = c.step.ensures.unarmed;
       still = c.step.ensures.still;
-      ours = ?;
+      ours = c.is_own_run-2.ensures.ours;
     } in
     let past = step_past faults honest image s ws cs tr t k x y from to at in
     grown c.history-from.result.now x.world.past y.world.past past.0 c.history-from.ensures past.1
@@ -382,7 +382,7 @@ note-requires-2 g c =
       grows = c.step.ensures.grows;
       unarmed = c.step.ensures.unarmed;
       still = c.step.ensures.still;
-      ours = ?;
+      ours = c.is_own_run-2.ensures.ours;
     } in
     let past = step_past faults honest image s ws cs tr t k x y from to at in
     grown c.history-from.result.now x.world.past y.world.past past.0 c.history-from.ensures past.1
@@ -424,7 +424,7 @@ returns-then-not-is_up g c =
       grows = c.step.ensures.grows;
       unarmed = c.step.ensures.unarmed;
       still = c.step.ensures.still;
-      ours = ?;
+      ours = c.is_own_run-2.ensures.ours;
     } in
     let q = c.stop_others.new.self in
     let mid : List Placed = c.note.new.trace.items in
@@ -492,7 +492,7 @@ returns g c =
       grows = c.step.ensures.grows;
       unarmed = c.step.ensures.unarmed;
       still = c.step.ensures.still;
-      ours = ?;
+      ours = c.is_own_run-2.ensures.ours;
     } in
     let new : List Placed = c.note-2.new.trace.items in
     let stays : IsTrue from.is_up → IsTrue to.is_up = λ up. elim c.else-was_up.branch [
