@@ -192,8 +192,7 @@ blank_pending (suc k) = refl
 pub untouched_pending : (s : List Line) (ws : List TxState) (T : List Placed) (t : TxNo) (k : ℕ) → IsTied s t T (state_of t ws) → state_of t ws ≡ untouched t
     → (kth (pending (state_of t ws).world) k ≡ None) × (kth (pending (world_at s t T)) k ≡ None)
 untouched_pending s ws T t k tied blank =
-    let past : [] ≡ history t.value T = sym (ap (λ (x : TxState). x.world.past) blank) ∙ tied.past in
-    (
+    let past : [] ≡ history t.value T = sym (ap (λ (x : TxState). x.world.past) blank) ∙ tied.past in (
       ap (λ (x : TxState). kth (pending x.world) k) blank ∙ blank_pending k,
       ap (λ (h : List Entry). kth (pending (world_of s h)) k) (sym past) ∙ blank_pending k,
     )
