@@ -1,10 +1,10 @@
 -- A transaction after a step that was noted: it is tied to its history, and calm as long as no fault stopped the log.
-use Rattle.std.proofs.Common.{◌≡◌, ◌≢◌, ◌≤◌, ◌-◌, ℕ, Bool, true, false, ◌&&◌, ◌||◌, not, List, [], ◌∷◌, length, set, Option, None, Some, is_some, inl, inr, refl, ap, sym, subst, ◌∙◌, if◌then◌else◌}
+use Rattle.std.proofs.Common.{◌≡◌, ◌≢◌, ◌≤◌, ◌-◌, ℕ, Bool, true, false, ◌||◌, List, [], ◌∷◌, length, set, None, inl, inr, refl, ap, sym, subst, ◌∙◌, if◌then◌else◌}
 use Rattle.std.specs.Prelude.{IsTrue}
 use Rattle.std.proofs.lemmas.Bool.{false_from_ne_true}
 use Rattle.dtx_values.specs.declared.call.Call.{Call}
 use Rattle.dtx_values.specs.declared.entry.Entry.{Entry}
-use Rattle.dtx_values.specs.declared.entry.Entry.TheVariants.{Restarted, Stopped}
+use Rattle.dtx_values.specs.declared.entry.Entry.TheVariants.{Stopped}
 use Rattle.dtx_values.specs.declared.number.ActorNo.{ActorNo}
 use Rattle.dtx_values.specs.declared.number.TxNo.{TxNo}
 use Rattle.dtx_values.specs.declared.script.Line.{Line}
@@ -17,7 +17,7 @@ use Rattle.dtx_model.specs.Steps.{Step, after, block_at}
 use Rattle.dtx_model.specs.Caused.{IsCallOf, IsIn, is_as_planned, is_begin_sent, plans_of}
 use Rattle.dtx_model.specs.History.{nobody}
 use Rattle.dtx_model.specs.Traces.{Placed, history, placed}
-use Rattle.dtx_model.proofs.Bools.{and_both, and_left, and_right, not_both, or_case, or_false}
+use Rattle.dtx_model.proofs.Bools.{and_both, and_left, and_right, not_both, or_false}
 use Rattle.dtx_model.proofs.Reading.{has-onto}
 use Rattle.outcome_law.specs.LogQuiet.{is_log_quiet}
 use Rattle.outcome_law.proofs.CoreStages.{stopped_same}
@@ -28,7 +28,7 @@ use Rattle.coordinator_log.specs.State.{LogState}
 use Rattle.tx_world.specs.AtLog.{Fits, IsOurs}
 use Rattle.tx_world.specs.State.{TxState, life_after, sends_begin}
 use Rattle.scope_context.specs.Standing.{Standing}
-use Rattle.script_runner.specs.RunState.{Holds, IsCalm, IsTied, IsToPlan, RunState, is_of_stop, state_of, untouched}
+use Rattle.script_runner.specs.RunState.{Holds, IsCalm, IsTied, IsToPlan, is_of_stop, state_of, untouched}
 use Rattle.script_runner.proofs.Deeds.{IsCalmBlock, is_to, to_any}
 use Rattle.script_runner.proofs.Noting.{history_here, history_there}
 use Rattle.script_runner.proofs.Numbered.{is_it, state_here, state_there}

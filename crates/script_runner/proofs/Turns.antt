@@ -9,32 +9,29 @@ use Rattle.dtx_values.specs.declared.message.Conn.{Conn}
 use Rattle.dtx_values.specs.declared.note.Note.{Note}
 use Rattle.dtx_values.specs.declared.note.Note.TheVariants.{Commit as CommitNote}
 use Rattle.dtx_values.specs.declared.note.Plan.{Plan}
-use Rattle.dtx_values.specs.declared.note.Reply.{Reply}
 use Rattle.dtx_values.specs.declared.number.ActorNo.{ActorNo}
-use Rattle.dtx_values.specs.declared.number.EnlNo.{EnlNo}
 use Rattle.dtx_values.specs.declared.number.TxNo.{TxNo}
 use Rattle.dtx_values.specs.declared.row.Row.{Row}
 use Rattle.dtx_values.specs.declared.script.Line.{Line}
 use Rattle.dtx_values.specs.Row.{is_of}
 use Rattle.outside.specs.Faults.{Rose}
-use Rattle.dtx_model.specs.Words.{has, kth, onto, or_else, past_of}
+use Rattle.dtx_model.specs.Words.{has, onto, or_else}
 use Rattle.dtx_model.specs.Coordinated.{coordinate, follow, may_log}
 use Rattle.dtx_model.specs.Grammar.{are_named_well}
-use Rattle.dtx_model.specs.Observed.{Observed, observe, rows}
+use Rattle.dtx_model.specs.Observed.{Observed, observe}
 use Rattle.dtx_model.specs.Plans.{plan_of, planned as reply_planned}
 use Rattle.dtx_model.specs.Replies.{conn_due, due_of, note_of_conn, note_of_row}
 use Rattle.dtx_model.specs.Half.{is_gone}
 use Rattle.dtx_model.specs.World.{World, core, half}
-use Rattle.dtx_model.specs.Steps.{LogAnswer, Done, Full, StoppedNow, StoppedBefore, Step, Calls, Replies, Acts, Coordinates, Delivers, Stops, Restarts, StepName, ReplyOf, LocalAct, CoordinatorAct, Delivery, after, appended, block_at, entered, freed, pending}
+use Rattle.dtx_model.specs.Steps.{LogAnswer, Done, Full, StoppedNow, StoppedBefore, Step, Calls, Replies, Coordinates, Stops, Restarts, StepName, ReplyOf, LocalAct, CoordinatorAct, Delivery, after, appended, block_at, entered, freed, pending}
 use Rattle.dtx_model.specs.Caused.{HasStepped, IsCallOf, IsIn, IsNamed, IsOwnRun, IsRun, entered_in, is_begin_sent, may_coordinate, may_stop_after, plans_of, stopped_if, world_of}
-use Rattle.dtx_model.specs.Traces.{Placed, history, placed}
+use Rattle.dtx_model.specs.Traces.{Placed, placed}
 use Rattle.dtx_model.specs.Replay.{after_turn, block_in, world_at}
 use Rattle.dtx_model.proofs.Histories.{onto-append}
 use Rattle.dtx_model.proofs.Lifting.{lift_ran}
 use Rattle.outcome_law.specs.LineCalls.{AreCalls}
 use Rattle.outcome_law.specs.LogQuiet.{is_log_quiet}
 use Rattle.outcome_law.proofs.Makers.{ran_made}
-use Rattle.outcome_law.proofs.Names.{IsCalled, call_makes}
 use Rattle.outcome_law.proofs.Planned.{plan_same}
 use Rattle.outcome_law.proofs.Promotions.{maker_called}
 use Rattle.outcome_law.proofs.ReplayRuns.{named_same}

@@ -1,4 +1,4 @@
-use Rattle.std.proofs.Common.{◌≡◌, ◌++◌, ◌-◌, List, ap, drop, length, map, sym, take, ◌∙◌, ℕ}
+use Rattle.std.proofs.Common.{◌≡◌, ◌++◌, ◌-◌, List, ap, drop, length, sym, take, ◌∙◌, ℕ}
 use Rattle.std.proofs.lemmas.List.{take_rest}
 use Rattle.dtx_values.specs.declared.entry.Entry.{Entry}
 use Rattle.dtx_model.specs.Traces.{Placed, placed}

@@ -1,4 +1,4 @@
-use Rattle.std.proofs.Common.{◌≡◌, ◌≤◌, ◌<◌, ◌-◌, ◌++◌, ◌∷◌, [], ◌∙◌, ℕ, Bool, true, false, List, None, Ok, Result, ap, arith, get_or, length, set, subst, sym, refl}
+use Rattle.std.proofs.Common.{◌≡◌, ◌≤◌, ◌<◌, ◌-◌, ◌++◌, ◌∷◌, [], ◌∙◌, ℕ, Bool, true, false, List, None, Ok, Result, ap, arith, get_or, length, set, subst, sym}
 use Rattle.std.specs.Prelude.{IsTrue, IsFalse}
 use Rattle.dtx_values.specs.declared.entry.Entry.{Entry}
 use Rattle.dtx_values.specs.declared.entry.Entry.TheVariants.{Stopped}
@@ -15,10 +15,9 @@ use Rattle.tx_world.specs.State.{TxState}
 use Rattle.tx_world.specs.declared.refusal.WorldError.{WorldError}
 use Rattle.tx_world.specs.Stepping.{DoesKth}
 use Rattle.script_runner.specs.RunState.{HaveSameCalls, Holds, IsTied, RunState, state_of}
-use Rattle.script_runner.proofs.Going.{goes_same}
 use Rattle.script_runner.proofs.Noting.{as_long, grown}
 use Rattle.script_runner.proofs.Numbered.{state_reached, state_unreached}
-use Rattle.script_runner.proofs.Steps.{IsStepAt, IsStepped, did_step, failed_calls, none_pending, step_done, step_log, step_past, step_stopped, untouched_pending}
+use Rattle.script_runner.proofs.Steps.{IsStepAt, IsStepped, failed_calls, none_pending, step_done, step_log, step_past, step_stopped, untouched_pending}
 use Rattle.script_runner.proofs.Turns.{never_both, own_here}
 use Rattle.script_runner.proofs.replay.Run.step.Goals.{else-was_up-via-then-was_up+else-not-is_up, else-was_up-via-else-was_up}
 use Rattle.script_runner.proofs.replay.Run.step.Goals as goal

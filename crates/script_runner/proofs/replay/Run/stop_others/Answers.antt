@@ -3,7 +3,7 @@ use Rattle.std.specs.Prelude.{IfSome}
 use Rattle.dtx_values.specs.declared.number.TxNo.{TxNo}
 use Rattle.dtx_model.specs.Words.{onto, past_of}
 use Rattle.dtx_model.specs.World.{World}
-use Rattle.tx_world.specs.State.{TxState, is_hit_by}
+use Rattle.tx_world.specs.State.{is_hit_by}
 use Rattle.script_runner.specs.RunState.{IsTied, RunState, state_of}
 use Rattle.script_runner.proofs.Halting.{AreAlike, AreHalted, alike_set, halted_next, hit_calls, hit_past, stop_entries}
 use Rattle.script_runner.proofs.Noting.{as_long, grown}
