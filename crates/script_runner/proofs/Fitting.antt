@@ -1,5 +1,5 @@
 -- What a call of one transaction leaves of a log fits each other: the records of others stay.
-use Rattle.std.proofs.Common.{◌≡◌, ◌≢◌, ◌≤◌, ℕ, ◌==◌, Bool, true, false, not, List, [], ◌∷◌, filter, length, Option, Some, refl, ap, sym, subst, ◌∙◌, inl, inr, if◌then◌else◌, arith, set, ◌-◌}
+use Rattle.std.proofs.Common.{◌≡◌, ◌≢◌, ◌≤◌, ℕ, Bool, true, false, not, List, [], ◌∷◌, filter, length, Option, Some, refl, ap, sym, subst, ◌∙◌, inl, inr, if◌then◌else◌, arith, set, ◌-◌}
 use Rattle.std.specs.Prelude.{IsTrue}
 use Rattle.std.proofs.lemmas.Bool.{eqb-true}
 use Rattle.std.proofs.lemmas.Bool.Decides.{eqb_tells}

@@ -1,5 +1,5 @@
 -- A step of a run: what the step of one transaction's world, once it is noted, makes of the run.
-use Rattle.std.proofs.Common.{◌≡◌, ◌≢◌, ◌⊎◌, ◌≤◌, ◌<◌, ◌-◌, ℕ, zero, suc, Bool, true, false, ◌&&◌, not, List, [], ◌∷◌, ◌++◌, length, get_or, set, None, Some, inl, inr, refl, ap, sym, subst, ◌∙◌}
+use Rattle.std.proofs.Common.{◌≡◌, ◌≤◌, ◌<◌, ◌-◌, ℕ, zero, suc, Bool, true, List, [], ◌∷◌, ◌++◌, length, get_or, set, None, inl, inr, refl, ap, sym, subst, ◌∙◌}
 use Rattle.std.specs.Prelude.{IsTrue, IsFalse}
 use Rattle.dtx_values.specs.declared.call.Call.{Call}
 use Rattle.dtx_values.specs.declared.entry.Entry.{Entry}
@@ -9,27 +9,26 @@ use Rattle.dtx_values.specs.declared.number.TxNo.{TxNo}
 use Rattle.dtx_values.specs.declared.script.Line.{Line}
 use Rattle.dtx_values.specs.declared.trace.Place.TheVariants.{Log}
 use Rattle.outside.specs.Faults.{Rose}
-use Rattle.dtx_model.specs.Words.{has, kth, onto, past_of}
+use Rattle.dtx_model.specs.Words.{kth, onto, past_of}
 use Rattle.dtx_model.specs.Grammar.{are_named_well}
 use Rattle.dtx_model.specs.Acts.{act_entries}
 use Rattle.dtx_model.specs.Coordinated.{coordinate, may_free, may_log}
 use Rattle.dtx_model.specs.Observed.{observe}
 use Rattle.dtx_model.specs.Replies.{all_due}
 use Rattle.dtx_model.specs.World.{World, core}
-use Rattle.dtx_model.specs.Steps.{Step, Calls, after, block_at, entered, local_pending, pending}
-use Rattle.dtx_model.specs.Caused.{HasStepped, IsCallOf, IsIn, IsOwnRun, is_begin_sent, plans_of, world_of}
+use Rattle.dtx_model.specs.Steps.{Step, Calls, after, entered, local_pending, pending}
+use Rattle.dtx_model.specs.Caused.{HasStepped, IsCallOf, IsIn, IsOwnRun, plans_of, world_of}
 use Rattle.dtx_model.specs.Traces.{Placed, history, placed}
-use Rattle.dtx_model.specs.Replay.{after_turn, world_at}
+use Rattle.dtx_model.specs.Replay.{world_at}
 use Rattle.dtx_model.specs.declared.waiting.EnteredCall.{EnteredCall}
 use Rattle.dtx_model.proofs.Histories.{past_of-snoc}
 use Rattle.outcome_law.specs.LogQuiet.{is_log_quiet}
 use Rattle.outcome_law.proofs.Pending.{is_no_call}
 use Rattle.outcome_law.proofs.ReplayRuns.{named_no_call}
 use Rattle.outcome_law.proofs.ReplayTurns.{quiet_before}
-use Rattle.coordinator_log.specs.Slots.{open_records}
 use Rattle.coordinator_log.specs.State.{LogState}
 use Rattle.scope_context.specs.Standing.{Standing}
-use Rattle.tx_world.specs.AtLog.{Fits, IsOurs, KeepsLog, id_of}
+use Rattle.tx_world.specs.AtLog.{IsOurs, KeepsLog, id_of}
 use Rattle.tx_world.specs.State.{TxState, life_after, turned}
 use Rattle.tx_world.specs.Stepping.{DoesKth}
 use Rattle.tx_world.specs.Left.{steps_left}
@@ -192,8 +191,7 @@ blank_pending (suc k) = refl
 pub untouched_pending : (s : List Line) (ws : List TxState) (T : List Placed) (t : TxNo) (k : ℕ) → IsTied s t T (state_of t ws) → state_of t ws ≡ untouched t
     → (kth (pending (state_of t ws).world) k ≡ None) × (kth (pending (world_at s t T)) k ≡ None)
 untouched_pending s ws T t k tied blank =
-    let past : [] ≡ history t.value T = sym (ap (λ (x : TxState). x.world.past) blank) ∙ tied.past in
-    (
+    let past : [] ≡ history t.value T = sym (ap (λ (x : TxState). x.world.past) blank) ∙ tied.past in (
       ap (λ (x : TxState). kth (pending x.world) k) blank ∙ blank_pending k,
       ap (λ (h : List Entry). kth (pending (world_of s h)) k) (sym past) ∙ blank_pending k,
     )

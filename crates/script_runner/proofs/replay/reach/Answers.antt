@@ -1,9 +1,8 @@
-use Rattle.std.proofs.Common.{◌≡◌, ◌≤◌, ◌+◌, ◌∷◌, [], ◌++◌, List, Option, ap, arith, length, subst, sym, ◌∙◌}
+use Rattle.std.proofs.Common.{◌≡◌, ◌+◌, ◌∷◌, [], ◌++◌, List, Option, ap, arith, length, subst, ◌∙◌}
 use Rattle.std.specs.Prelude.{IfSome}
 use Rattle.dtx_values.specs.declared.number.TxNo.{TxNo}
-use Rattle.dtx_values.specs.declared.number.TheConstants.TxNo.{MAX}
 use Rattle.tx_world.specs.State.{TxState}
-use Rattle.script_runner.specs.RunState.{state_of, untouched}
+use Rattle.script_runner.specs.RunState.{state_of}
 use Rattle.script_runner.proofs.Numbered.{state_pushed}
 use Rattle.script_runner.proofs.replay.reach.Goals as goal
 

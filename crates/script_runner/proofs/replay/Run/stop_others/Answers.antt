@@ -1,8 +1,9 @@
-use Rattle.std.proofs.Common.{◌≡◌, ◌≢◌, ◌≤◌, ◌-◌, ◌∙◌, ℕ, ap, arith, get_or, length, set, subst, sym}
+use Rattle.std.proofs.Common.{◌≡◌, ◌≢◌, ◌≤◌, ◌+◌, ◌-◌, ◌∙◌, ℕ, Option, ap, arith, get_or, length, set, subst, sym}
+use Rattle.std.specs.Prelude.{IfSome}
 use Rattle.dtx_values.specs.declared.number.TxNo.{TxNo}
 use Rattle.dtx_model.specs.Words.{onto, past_of}
 use Rattle.dtx_model.specs.World.{World}
-use Rattle.tx_world.specs.State.{TxState, is_hit_by}
+use Rattle.tx_world.specs.State.{is_hit_by}
 use Rattle.script_runner.specs.RunState.{IsTied, RunState, state_of}
 use Rattle.script_runner.proofs.Halting.{AreAlike, AreHalted, alike_set, halted_next, hit_calls, hit_past, stop_entries}
 use Rattle.script_runner.proofs.Noting.{as_long, grown}
@@ -22,7 +23,8 @@ returns-in_err-note-clause-calls c =
     let u = c.unwrap-u.result in
     let ws = c.self.inside.worlds.items in
     let vs = c.loop-place.self-inside.worlds.items in
-    let at : u.value - 1 ≡ c.loop-place.place = omega (arith, c.unwrap-u.ensures, c.new.ensures.value) in
+    let value : u.value ≡ c.loop-place.place + 1 = subst (λ (o : Option TxNo). IfSome o (λ x. x.value ≡ c.loop-place.place + 1)) c.unwrap-u.ensures c.new.ensures.value in
+    let at : u.value - 1 ≡ c.loop-place.place = omega (arith, value) in
     let made : u.value ≤ length vs = omega (arith, at, u.in_range.0, c.loop-place-test.true, c.len-place-end.ensures, c.loop-place.invariant.alike.long) in
     let there : x ≡ get_or vs (u.value - 1) x = subst (λ (i : ℕ). x ≡ get_or vs i x) (sym at) c.index_mut-world.ensures.value in
     let other : c.args.t ≢ u = λ e. c.if-place-index.false (omega (arith, ap (λ (v : TxNo). v.value) e, at, u.in_range.0, c.index.ensures.place)) in
@@ -39,7 +41,8 @@ loop-place-preserved c =
     let ws = c.self.inside.worlds.items in
     let vs = c.loop-place.self-inside.worlds.items in
     let hit = is_hit_by c.args.life x in
-    let at : u.value - 1 ≡ c.loop-place.place = omega (arith, c.unwrap-u.ensures, c.new.ensures.value) in
+    let value : u.value ≡ c.loop-place.place + 1 = subst (λ (o : Option TxNo). IfSome o (λ x. x.value ≡ c.loop-place.place + 1)) c.unwrap-u.ensures c.new.ensures.value in
+    let at : u.value - 1 ≡ c.loop-place.place = omega (arith, value) in
     let made : u.value ≤ length vs = omega (arith, at, u.in_range.0, c.loop-place-test.true, c.len-place-end.ensures, c.loop-place.invariant.alike.long) in
     let there : x ≡ get_or vs (u.value - 1) x = subst (λ (i : ℕ). x ≡ get_or vs i x) (sym at) c.index_mut-world.ensures.value in
     let other : c.args.t ≢ u = λ e. c.if-place-index.false (omega (arith, ap (λ (v : TxNo). v.value) e, at, u.in_range.0, c.index.ensures.place)) in

@@ -1,0 +1,60 @@
+-- How the parts of a run follow each other: what two parts in a row keep, they keep together.
+use Rattle.std.proofs.Common.{◌≡◌, ◌≤◌, ◌∙◌, ℕ, Bool, true, List, refl, sym, subst, arith, inl, inr}
+use Rattle.std.specs.Prelude.{nat_lt}
+use Rattle.outside.proofs.Rising.{rose_earlier, rose_later}
+use Rattle.dtx_model.specs.declared.waiting.EnteredCall.{EnteredCall}
+use Rattle.dtx_model.specs.Words.{each}
+use Rattle.coordinator_log.specs.State.{LogState}
+use Rattle.tx_world.specs.State.{TxState}
+use Rattle.script_runner.specs.RunState.{AreBelow, HaveSameCalls, LogGoes, RunState, Runs}
+
+-- a log that nothing touched
+pub goes_same : {D : Type 0} (faults : D → ℕ) (honest : Bool) (log : LogState D) → LogGoes faults honest log log
+goes_same faults honest log = record { grows = omega arith; stays = λ up none. inl up; still = λ up. up; unarmed = λ none. none; others = λ h up id out. refl }
+
+-- two parts of a run in a row, at the log
+pub goes_then : {D : Type 0} (faults : D → ℕ) (honest : Bool) (a b c : LogState D) → LogGoes faults honest a b → LogGoes faults honest b c → LogGoes faults honest a c
+goes_then faults honest a b c p q =
+    record {
+      grows = omega (arith, p.grows, q.grows);
+      stays = λ up none.
+          elim (p.stays up none) [
+            | inl here ↦ elim (q.stays here (p.unarmed none)) [
+              | inl there ↦ inl there
+              | inr rose ↦ inr (rose_earlier (faults a.disk) (faults b.disk) (faults c.disk) p.grows rose)
+            ]
+            | inr rose ↦ inr (rose_later (faults a.disk) (faults b.disk) (faults c.disk) rose q.grows)
+          ];
+      still = λ up. p.still (q.still up);
+      unarmed = λ none. q.unarmed (p.unarmed none);
+      others = λ h up id out. q.others h up id out ∙ p.others h (q.still up) id out;
+    }
+
+-- a run that nothing touched
+pub runs_same : {D : Type 0} (faults : D → ℕ) (log : LogState D) (r : RunState) → Runs faults log log r r
+runs_same faults log r = record { script = refl; back = λ quiet. quiet; forth = λ quiet. inl quiet }
+
+-- two parts of a run in a row
+pub runs_then : {D : Type 0} (faults : D → ℕ) (a b c : LogState D) (x y z : RunState) → faults a.disk ≤ faults b.disk → faults b.disk ≤ faults c.disk
+    → Runs faults a b x y → Runs faults b c y z → Runs faults a c x z
+runs_then faults a b c x y z first second p q =
+    record {
+      script = q.script ∙ p.script;
+      back = λ quiet. p.back (q.back quiet);
+      forth = λ quiet.
+          elim (p.forth quiet) [
+            | inl here ↦ elim (q.forth here) [
+              | inl there ↦ inl there
+              | inr rose ↦ inr (rose_earlier (faults a.disk) (faults b.disk) (faults c.disk) first rose)
+            ]
+            | inr rose ↦ inr (rose_later (faults a.disk) (faults b.disk) (faults c.disk) rose second)
+          ];
+    }
+
+-- no part entered a call
+pub calls_then : (a b c : List TxState) → HaveSameCalls a b → HaveSameCalls b c → HaveSameCalls a c
+calls_then a b c p q = λ t. q t ∙ p t
+
+-- where no call was entered, the calls are still those of the lines before
+pub below_same : (n : ℕ) (old new : List TxState) → HaveSameCalls old new → AreBelow n old → AreBelow n new
+below_same n old new same below = λ t. subst (λ (ks : List EnteredCall). each (λ k. nat_lt k.line n) ks ≡ true) (sym (same t)) (below t)
