@@ -1,5 +1,5 @@
--- The contexts of a run have the scopes that its lines leave open, and what a scope line writes leaves the transactions alone.
-use Rattle.std.proofs.Common.{◌≡◌, ◌≢◌, ℕ, min, suc, ◌+◌, ◌-◌, ◌<◌, ◌==◌, Bool, true, false, ◌||◌, List, [], ◌∷◌, ◌++◌, length, map, Option, Some, None, slice_get, get_or, set, take, replicate, refl, ap, sym, ◌∙◌, subst, arith, inl, inr}
+-- The contexts of a run have the scopes that its lines leave open.
+use Rattle.std.proofs.Common.{◌≡◌, ◌≢◌, ℕ, min, zero, suc, ◌+◌, ◌-◌, ◌<◌, ◌==◌, Bool, true, false, ◌||◌, List, [], ◌∷◌, ◌++◌, length, map, Option, Some, None, slice_get, get_or, set, take, replicate, refl, ap, sym, ◌∙◌, subst, arith, inl, inr}
 use Rattle.std.specs.Prelude.{not, if◌then◌else◌}
 use Rattle.std.proofs.lemmas.Bool.Decides.{eqb_tells}
 use Rattle.std.proofs.lemmas.List.{get_or-set_same, get_or-replicate, length-replicate, length-take, map-append, take_more}
@@ -20,7 +20,6 @@ use Rattle.dtx_model.specs.Words.{has, each, always, onto, past_of, put}
 use Rattle.dtx_model.specs.Scopes.{ScopeEntry, Opens, Finishes, Closes, close_answer, closes, finish_answer, enter_answer, entering, finishes, is_scope, open_before, open_scopes, taken_off}
 use Rattle.dtx_model.specs.Contexts.{called_with, entries_if, entries_of, isolation_in, name_in, option_in, scope_answer, scope_block, scope_calls, scope_entries, scopes_of, took_off, is_fine}
 use Rattle.dtx_model.specs.Grammar.{OfScope, are_named_well, is_made, is_named_well, makes, opening_makes, same_name, uses}
-use Rattle.script_runner.specs.Built.{is_run, is_run_line}
 use Rattle.dtx_model.specs.Traces.{Placed, noted}
 use Rattle.dtx_model.specs.Replay.{CallRan, LineRan, LinesRan, after_calls, after_scope, after_turn}
 use Rattle.dtx_model.specs.Calls.{call_of}
@@ -30,10 +29,18 @@ use Rattle.dtx_model.proofs.Histories.{onto-append}
 use Rattle.dtx_model.proofs.Pasts.{always-before, length-past}
 use Rattle.dtx_model.proofs.Prefixes.{past-more}
 use Rattle.dtx_model.proofs.Reading.{has-onto}
+use Rattle.outcome_law.proofs.ReplayTurns.{is_log_line}
 use Rattle.scope_context.specs.Standing.{Standing}
 use Rattle.script_runner.specs.Scoped.{AreOpen, IsUnopened, context_at, nothing_open, rollbacks, scopes_at, scopes_in}
 use Rattle.script_runner.proofs.Scoping.{no_scope_line}
-use Rattle.script_runner.proofs.Ties.{slice_get-set_other}
+
+-- a write leaves the other places alone
+slice_get-set_other : {X : Type 0} (xs : List X) (i j : ℕ) (x : X) → j ≢ i → slice_get (set xs i x) j ≡ slice_get xs j
+slice_get-set_other [] i j x k = refl
+slice_get-set_other (y ∷ ys) zero zero x k = absurd (k refl)
+slice_get-set_other (y ∷ ys) zero (suc j) x k = refl
+slice_get-set_other (y ∷ ys) (suc i) zero x k = refl
+slice_get-set_other (y ∷ ys) (suc i) (suc j) x k = slice_get-set_other ys i j x (λ e. k (ap suc e))
 
 -- before the first line nothing is open
 pub open_none : AreOpen (replicate 16 nothing_open) []
@@ -211,23 +218,23 @@ unopened s xs ys l cs split named ties = by_body l.body (scopes_at l.actor cs) (
 pub past_next : (lines : List Line) (i : ℕ) (l : Line) → i < length lines → l ≡ get_or lines i l → past_of (take (i + 1) lines) ≡ l ∷ past_of (take i lines)
 past_next lines i l less here = past-more lines i l less ∙ ap (λ (m : Line). m ∷ past_of (take i lines)) (sym here)
 
--- a line that is run neither stops the log nor opens it again
-line_ran : (s before : List Line) (a : ActorNo) (b : Body) (start T : List Placed) → is_run before b ≡ true
+-- what a line did that neither stops the log nor opens it again
+line_ran : (s before : List Line) (a : ActorNo) (b : Body) (start T : List Placed) → is_log_line b ≡ false
     → CallRan s a (suc (length before)) (call_of s b) (after_scope s (suc (length before)) (record { actor = a; body = b }) (scopes_of a.value before) start) T
     → LineRan s before (record { actor = a; body = b }) start T
-line_ran s before a (Stop k i) start T run did = absurd cc
-line_ran s before a Restart start T run did = absurd cc
-line_ran s before a _ start T run did = did
+line_ran s before a (Stop k i) start T off did = absurd cc
+line_ran s before a Restart start T off did = absurd cc
+line_ran s before a _ start T off did = did
 
 -- one line more was run
 pub lines_more : (s r lines : List Line) (i n : ℕ) (l : Line) (cs : List Standing) (old new : List Placed) → i < length lines → l ≡ get_or lines i l → n ≡ i → r ≡ s
-    → is_run_line (past_of (take i lines)) l ≡ true → AreOpen cs (past_of (take i lines)) → LinesRan s (past_of (take i lines)) old
+    → is_log_line l.body ≡ false → AreOpen cs (past_of (take i lines)) → LinesRan s (past_of (take i lines)) old
     → CallRan r l.actor (n + 1) (call_of r l.body) (after_scope r (n + 1) l (scopes_at l.actor cs) old) new → LinesRan s (past_of (take (i + 1) lines)) new
-lines_more s r lines i n l cs old new less here count same run ties ran did =
+lines_more s r lines i n l cs old new less here count same off ties ran did =
     let before = past_of (take i lines) in
     let many : length before ≡ min i (length lines) = length-past (take i lines) ∙ length-take i lines in
     let number : n + 1 ≡ suc (length before) = omega arith in
     let by_number = subst (λ k. CallRan r l.actor k (call_of r l.body) (after_scope r k l (scopes_at l.actor cs) old) new) number did in
     let by_scopes = subst (λ (xs : List OpenScope). CallRan r l.actor (suc (length before)) (call_of r l.body) (after_scope r (suc (length before)) l xs old) new) (ties l.actor) by_number in
     let by_script = subst (λ (t : List Line). CallRan t l.actor (suc (length before)) (call_of t l.body) (after_scope t (suc (length before)) l (scopes_of l.actor.value before) old) new) same by_scopes in
-    subst (λ (b : List Line). LinesRan s b new) (sym (past_next lines i l less here)) (old, ran, line_ran s before l.actor l.body old new run by_script)
+    subst (λ (b : List Line). LinesRan s b new) (sym (past_next lines i l less here)) (old, ran, line_ran s before l.actor l.body old new off by_script)

@@ -1,6 +1,6 @@
 -- What a scope line does at its context is the definition's.
 use Rattle.std.proofs.Common.{◌≡◌, ℕ, suc, ◌+◌, ◌≤◌, Bool, true, false, List, [], ◌∷◌, ◌++◌, length, map, Option, Some, None, refl, ap, sym, ◌∙◌, subst, append_assoc, arith}
-use Rattle.std.specs.Prelude.{if◌then◌else◌, not}
+use Rattle.std.specs.Prelude.{if◌then◌else◌}
 use Rattle.std.proofs.lemmas.List.{length-map}
 use Rattle.dtx_values.specs.declared.call.Call.{Call}
 use Rattle.dtx_values.specs.declared.call.Call.TheVariants.{Begin, Commit as CommitCall, Rollback as RollbackCall}
@@ -20,12 +20,12 @@ use Rattle.dtx_values.specs.declared.script.Opening.{Opening}
 use Rattle.dtx_values.specs.declared.trace.Place.TheVariants.{Context}
 use Rattle.dtx_values.specs.declared.words.Iso.{Iso}
 use Rattle.dtx_values.specs.declared.words.ScopeOption.{ScopeOption}
-use Rattle.dtx_model.specs.Words.{each, onto, past_of}
-use Rattle.dtx_model.specs.Observed.{Observed}
+use Rattle.dtx_model.specs.Words.{onto, past_of}
 use Rattle.dtx_model.specs.Scopes.{ScopeEntry, Opens, Finishes, Closes, close_answer, finish_answer, differing, enter_answer, entering, is_deep, is_scope, open_scopes, taken_off, unless_differing}
 use Rattle.dtx_model.specs.Contexts.{called_with, entries_if, isolation_in, name_in, opening_calls, option_in, scope_answer, scope_block, scope_calls, scope_entries, timeout_in, took_off, written, is_fine}
 use Rattle.dtx_model.specs.Traces.{Placed, noted}
-use Rattle.dtx_model.specs.Caused.{is_promoting_entry}
+use Rattle.dtx_model.specs.World.{World}
+use Rattle.dtx_model.specs.Caused.{MayAnswer}
 use Rattle.dtx_model.proofs.Histories.{onto-append}
 use Rattle.outcome_law.proofs.Lists.{OfEach}
 use Rattle.outcome_law.proofs.ScopeCalls.{IsScopeCall, is_scope_call, scope_calls_plain}
@@ -33,7 +33,7 @@ use Rattle.scope_context.specs.Refusals.{enter_refusal, if_differing}
 use Rattle.scope_context.specs.Standing.{Standing}
 use Rattle.scope_context.specs.declared.refusal.ScopeRefusal.{ScopeRefusal}
 use Rattle.scope_context.specs.declared.refusal.ScopeRefusal.TheVariants.{TooDeep, IsolationDiffers, NoScope, AlreadyComplete, NestedWrongly}
-use Rattle.script_runner.specs.Calling.{IsReady}
+use Rattle.tx_world.specs.Entering.{is_entered_yet}
 use Rattle.script_runner.specs.declared.contexts.Acted.{Acted}
 use Rattle.script_runner.specs.declared.contexts.Gives.TheVariants.{Nothing}
 use Rattle.script_runner.specs.Scoped.{DoesScope, calls_given, refused_answer}
@@ -117,33 +117,22 @@ few_notes b old new notes x did =
     let same : length notes ≡ length (scope_entries b old.scopes) = ap length did.noted ∙ length-map (scope_entries b old.scopes) written in
     omega arith
 
--- a call of a scope line is answered, makes no enlistment and no clone, and is no durable
-pub scope_call_ready : (o : Observed) (c : Call) → is_scope_call c ≡ true → IsReady o c
-scope_call_ready o (Begin t d) k = record { answered = refl; new = refl; alone = tt }
-scope_call_ready o (CommitCall t) k = record { answered = refl; new = refl; alone = tt }
-scope_call_ready o (RollbackCall t) k = record { answered = refl; new = refl; alone = tt }
-scope_call_ready o _ k = absurd (cc)
+-- a call as scope lines give it may be entered, and may answer wherever it comes
+pub scope_call_enters : (c : Call) → is_scope_call c ≡ true → is_entered_yet c ≡ true
+scope_call_enters (Begin t d) k = refl
+scope_call_enters (CommitCall t) k = refl
+scope_call_enters (RollbackCall t) k = refl
+scope_call_enters _ k = absurd (cc)
+
+pub scope_call_answers : (t : ℕ) (w : World) (c : Call) → is_scope_call c ≡ true → MayAnswer t w c 0
+scope_call_answers t w (Begin u d) k = tt
+scope_call_answers t w (CommitCall u) k = tt
+scope_call_answers t w (RollbackCall u) k = tt
+scope_call_answers t w _ k = absurd (cc)
 
 -- the one call of a scope line
 pub given_plain : (b : Body) (xs : List OpenScope) (t : TxNo) (c : Call) → (t, c) ∷ [] ≡ scope_calls b xs → is_scope_call c ≡ true
 given_plain b xs t c e = (subst (λ (cs : List (TxNo × Call)). OfEach IsScopeCall cs) (sym e) (scope_calls_plain b xs)).0
-
-pub given_ready : (o : Observed) (b : Body) (xs : List OpenScope) (t : TxNo) (c : Call) → (t, c) ∷ [] ≡ scope_calls b xs → IsReady o c
-given_ready o b xs t c e = scope_call_ready o c (given_plain b xs t c e)
-
--- what a scope line writes is of no promotion
-written_calm : (es : List ScopeEntry) → each (λ x. not (is_promoting_entry x)) (map written es) ≡ true
-written_calm [] = refl
-written_calm (Opens u x i ∷ es) = written_calm es
-written_calm (Finishes u ∷ es) = written_calm es
-written_calm (Closes u ∷ es) = written_calm es
-
-pub scope_calm : (n : ℕ) (a : ActorNo) (b : Body) (xs : List OpenScope) → each (λ x. not (is_promoting_entry x)) (scope_block n a b xs) ≡ true
-scope_calm n a b xs = step (scope_answer b xs)
-  where
-    step : (o : Option Answer) → each (λ x. not (is_promoting_entry x)) (called_with n a o (scope_entries b xs)) ≡ true
-    step (Some x) = written_calm (scope_entries b xs)
-    step None = refl
 
 -- a call and the entries noted at a context are the block of the scope line
 pub noted_block : (trace new : List Placed) (n : ℕ) (a : ActorNo) (b : Body) (old after : Standing) (notes : List Entry) (x : Acted) → DoesScope b old after notes x

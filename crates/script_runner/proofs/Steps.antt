@@ -1,148 +1,293 @@
--- The steps of a run, by its halves: what each writes, and that it is the k-th that was pending.
-use Rattle.std.proofs.Common.{◌≡◌, ℕ, ◌<◌, true, List, [], ◌++◌, Some, None, refl, ap, sym, ◌∙◌, subst}
-use Rattle.std.proofs.lemmas.Bool.Decides.{Decides-eqb}
+-- A step of a run: what the step of one transaction's world, once it is noted, makes of the run.
+use Rattle.std.proofs.Common.{◌≡◌, ◌≤◌, ◌<◌, ◌-◌, ℕ, zero, suc, Bool, true, List, [], ◌∷◌, ◌++◌, length, get_or, set, None, inl, inr, refl, ap, sym, subst, ◌∙◌}
+use Rattle.std.specs.Prelude.{IsTrue, IsFalse}
 use Rattle.dtx_values.specs.declared.call.Call.{Call}
 use Rattle.dtx_values.specs.declared.entry.Entry.{Entry}
+use Rattle.dtx_values.specs.declared.entry.Entry.TheVariants.{Stopped}
 use Rattle.dtx_values.specs.declared.number.ActorNo.{ActorNo}
 use Rattle.dtx_values.specs.declared.number.TxNo.{TxNo}
 use Rattle.dtx_values.specs.declared.script.Line.{Line}
+use Rattle.dtx_values.specs.declared.trace.Place.TheVariants.{Log}
+use Rattle.outside.specs.Faults.{Rose}
 use Rattle.dtx_model.specs.Words.{kth, onto, past_of}
-use Rattle.dtx_model.specs.Caused.{entered_in, plans_of, world_of}
-use Rattle.dtx_model.specs.Half.{Half}
-use Rattle.dtx_model.specs.Observed.{Observed, observe, track_all}
+use Rattle.dtx_model.specs.Grammar.{are_named_well}
+use Rattle.dtx_model.specs.Acts.{act_entries}
+use Rattle.dtx_model.specs.Coordinated.{coordinate, may_free, may_log}
+use Rattle.dtx_model.specs.Observed.{observe}
+use Rattle.dtx_model.specs.Replies.{all_due}
+use Rattle.dtx_model.specs.World.{World, core}
+use Rattle.dtx_model.specs.Steps.{Step, Calls, after, entered, local_pending, pending}
+use Rattle.dtx_model.specs.Caused.{HasStepped, IsCallOf, IsIn, IsOwnRun, plans_of, world_of}
 use Rattle.dtx_model.specs.Traces.{Placed, history, placed}
-use Rattle.dtx_model.specs.Replay.{after_turn, block_in, world_at}
-use Rattle.dtx_model.specs.Steps.{Step, Calls, Replies, Acts, StepName, ReplyOf, LocalAct, block_at, entered, local_pending, pending}
-use Rattle.dtx_model.specs.World.{half}
-use Rattle.dtx_model.proofs.Histories.{history-same, observe-onto}
-use Rattle.dtx_model.proofs.Unpromoted.{half-local}
-use Rattle.local_half.specs.Half.{IsAtHome, Known}
-use Rattle.script_runner.specs.Calling.{IsGiven, IsReady, call_block, is_answered, own_call}
-use Rattle.script_runner.specs.Pending.{IsStep}
-use Rattle.script_runner.specs.Remaining.{steps_left}
-use Rattle.script_runner.specs.RunState.{Advances, AreTied, known_of}
-use Rattle.script_runner.proofs.Blocks.{Continues, act-continues, reply-continues}
-use Rattle.script_runner.proofs.CallBlocks.{call-continues}
-use Rattle.script_runner.proofs.Calling.{block_here}
-use Rattle.script_runner.proofs.DueReplies.{planned_fits}
-use Rattle.script_runner.proofs.Measure.{steps_left-acts, steps_left-reply}
-use Rattle.script_runner.proofs.Plain.{history-plain, turn-act, turn-call, turn-reply}
-use Rattle.script_runner.proofs.Ties.{past_of-placed, pending-tied}
+use Rattle.dtx_model.specs.Replay.{world_at}
+use Rattle.dtx_model.specs.declared.waiting.EnteredCall.{EnteredCall}
+use Rattle.dtx_model.proofs.Histories.{past_of-snoc}
+use Rattle.outcome_law.specs.LogQuiet.{is_log_quiet}
+use Rattle.outcome_law.proofs.Pending.{is_no_call}
+use Rattle.outcome_law.proofs.ReplayRuns.{named_no_call}
+use Rattle.outcome_law.proofs.ReplayTurns.{quiet_before}
+use Rattle.coordinator_log.specs.State.{LogState}
+use Rattle.scope_context.specs.Standing.{Standing}
+use Rattle.tx_world.specs.AtLog.{IsOurs, KeepsLog, id_of}
+use Rattle.tx_world.specs.State.{TxState, life_after, turned}
+use Rattle.tx_world.specs.Stepping.{DoesKth}
+use Rattle.tx_world.specs.Left.{steps_left}
+use Rattle.script_runner.specs.RunState.{Advances, AreNumbered, HaveSameCalls, Holds, IsQuiet, IsCalm, IsTied, LogGoes, RunState, Runs, is_calm_step, state_of, untouched}
+use Rattle.script_runner.proofs.Calmed.{calm_after, given_same, holds_noted, tied_noted, tied_same}
+use Rattle.script_runner.proofs.Deeds.{calm_block}
+use Rattle.script_runner.proofs.Fitting.{fits_after, others_after}
+use Rattle.script_runner.proofs.Noting.{quiet_noted, quiet_was, trace_noted}
+use Rattle.script_runner.proofs.Numbered.{is_it, state_here, state_reached, state_there}
+use Rattle.script_runner.proofs.Turns.{IsOwn, calm_halting, calm_stopping, has_stepped, named_here, never_both, pending_here, planned_here, stays_up, step_calm, turn_here, turned_calls, turned_past, turned_up, written, written_up}
 
--- the half of t knows what t's history shows; its call is ready where that is
-pub half-ready : (s : List Line) (trace : List Placed) (t : TxNo) (h : Known) (c : Call) → h ≡ known_of s t (past_of trace) → IsReady (observe (history t.value (past_of trace))) c → IsReady h.half.seen c
-half-ready s trace t h c at ready = subst (λ (g : Known). IsReady g.half.seen c) (sym at) ready
+-- The k-th pending step of transaction t of a run was done: its world was x and is y now.
+pub record IsStepAt {D : Type 0} (faults : D → ℕ) (honest : Bool) (image : D → List ℕ → Type 0) (s : List Line) (ws : List TxState) (cs : List Standing) (trace : List Placed) (t : TxNo) (k : ℕ) (x y : TxState)
+    (from to : LogState D) : Type 0 where
+  pub holds : Holds honest from (record { script = s; worlds = ws; contexts = cs; trace = trace })
+  pub numbered : AreNumbered ws
+  pub names : are_named_well s ≡ true
+  pub made : t.value ≤ length ws
+  pub there : x ≡ get_or ws (t.value - 1) x
+  pub run : IsOwnRun x.transaction.value x.world
+  pub does : DoesKth faults k x from y to
+  pub nearer : steps_left y.world < steps_left x.world
+  pub kept : IsTrue honest → KeepsLog image x from y to
+  pub life : to.life ≡ from.life
+  pub grows : faults from.disk ≤ faults to.disk
+  pub unarmed : from.armed ≡ None → to.armed ≡ None
+  pub still : IsTrue to.is_up → IsTrue from.is_up
+  pub ours : IsOurs (id_of y) (core y.world) (record { ours = y.ours; unsure = y.unsure; life = y.life })
 
--- and nothing of a promotion
-pub half-home : (s : List Line) (hs : List Known) (trace : List Placed) (t : TxNo) (h : Known) → AreTied s hs trace → h ≡ known_of s t (past_of trace) → IsAtHome h.half
-half-home s hs trace t h tied at =
-    let past = history t.value (past_of trace) in
-    let ks = entered_in s past in
-    let k = history-plain t.value (past_of trace) tied.plain in
-    let same = half-local ks past k in
-    subst (λ (g : Known). IsAtHome g.half) (sym at) (subst (λ (g : Half). IsAtHome g) (sym same) (record { same = refl }))
+-- a step that is no call enters none
+none_entered : (ks : List EnteredCall) (m : Step) → is_no_call m ≡ true → entered m ks ≡ ks
+none_entered ks (Calls n a c k) q = absurd cc
+none_entered ks _ q = refl
 
--- a call
-pub call-goes : (s : List Line) (hs : List Known) (trace : List Placed) (t : TxNo) (h : Known) (n : ℕ) (a : ActorNo) (c : Call) (m : ℕ) → AreTied s hs trace → h ≡ known_of s t (past_of trace)
-    → IsGiven (own_call s n) c → IsReady (observe (history t.value (past_of trace))) c
-    → Continues s (history t.value (past_of trace)) (entered (Calls n a c m) []) (call_block h.transaction.value h.half n a c m)
-call-goes s hs trace t h n a c m tied at given ready =
-    let past = history t.value (past_of trace) in
-    let k = history-plain t.value (past_of trace) tied.plain in
-    let same : call_block h.transaction.value h.half n a c m ≡ block_at t.value (world_of s past) (Calls n a c m) =
-    ap (λ (g : Known). call_block g.transaction.value g.half n a c m) at ∙ block_here t.value (world_of s past) n a c m k ready.answered in
-    subst (λ (es : List Entry). Continues s past (entered (Calls n a c m) []) es) (sym same)
-    (call-continues s t.value past n a c m tied.named k (tied.plans t) (tied.planned t) given ready)
+-- it is transaction t
+at_place : {D : Type 0} (faults : D → ℕ) (honest : Bool) (image : D → List ℕ → Type 0) (s : List Line) (ws : List TxState) (cs : List Standing) (trace : List Placed) (t : TxNo) (k : ℕ) (x y : TxState)
+    (from to : LogState D) → IsStepAt faults honest image s ws cs trace t k x y from to → IsStepAt faults honest image s ws cs trace t k (state_of t ws) y from to
+at_place faults honest image s ws cs trace t k x y from to d = subst (λ (z : TxState). IsStepAt faults honest image s ws cs trace t k z y from to) (sym (state_reached t ws x d.made d.there)) d
 
-pub call-written : (s : List Line) (hs : List Known) (trace new : List Placed) (t : TxNo) (h : Known) (n : ℕ) (a : ActorNo) (c : Call) (m : ℕ) → AreTied s hs trace → h ≡ known_of s t (past_of trace)
-    → is_answered c ≡ true → new ≡ trace ++ placed t (call_block h.transaction.value h.half n a c m) → past_of new ≡ after_turn s t (Calls n a c m) (past_of trace)
-call-written s hs trace new t h n a c m tied at answered written =
-    let past = history t.value (past_of trace) in
-    let k = history-plain t.value (past_of trace) tied.plain in
-    let same : call_block h.transaction.value h.half n a c m ≡ block_in s t (Calls n a c m) (past_of trace) =
-    ap (λ (g : Known). call_block g.transaction.value g.half n a c m) at ∙ block_here t.value (world_of s past) n a c m k answered in
-    ap past_of written ∙ past_of-placed trace t (call_block h.transaction.value h.half n a c m)
-    ∙ ap (λ (es : List Entry). onto (past_of trace) (placed t es)) same ∙ sym (turn-call s t n a c m (past_of trace) tied.plain)
+-- The parts of what it does, of transaction t itself.
+pub record DidStep {D : Type 0} (faults : D → ℕ) (s : List Line) (ws : List TxState) (trace : List Placed) (t : TxNo) (k : ℕ) (y : TxState) (from to : LogState D) : Type 0 where
+  pub own : IsOwn t (state_of t ws)
+  pub does : DoesKth faults k (state_of t ws) from y to
+  pub tied : IsTied s t (past_of trace) (state_of t ws)
+  pub world : y.world ≡ turned from.is_up t.value (state_of t ws).world does.step
+  pub past : y.world.past ≡ onto (state_of t ws).world.past (written from.is_up t.value (state_of t ws).world does.step)
+  pub calls : y.world.calls ≡ (state_of t ws).world.calls
+  pub given : (n : ℕ) (a : ActorNo) (c : Call) → IsIn y.world.calls n a c → IsCallOf s t.value n a c
+  pub own_life : y.life ≡ life_after to.life t.value (state_of t ws).world does.step (state_of t ws).life
 
--- nothing more is pending than the half has to do
-pub none-pending : (s : List Line) (hs : List Known) (trace : List Placed) (t : TxNo) (h : Known) (k : ℕ) → AreTied s hs trace → h ≡ known_of s t (past_of trace)
-    → kth (local_pending (plans_of s) h.half) k ≡ None → kth (pending (world_at s t (past_of trace))) k ≡ None
-none-pending s hs trace t h k tied at none =
-    ap (λ ns. kth ns k) (pending-tied s hs trace t tied) ∙ ap (λ (g : Known). kth (local_pending (plans_of s) g.half) k) (sym at) ∙ none
-
--- the step in the world of t's history
-abbrev pub IsStepHere : List Line → TxNo → List Placed → StepName → Step → List Entry → Type 0
-IsStepHere s t T n m es = IsStep (plans_of s) (half (world_at s t T)) n m es
-
-here : (s : List Line) (trace : List Placed) (t : TxNo) (h : Known) (n : StepName) (m : Step) (es : List Entry) → h ≡ known_of s t (past_of trace) → IsStep (plans_of s) h.half n m es
-    → IsStepHere s t (past_of trace) n m es
-here s trace t h n m es at step = subst (λ (g : Known). IsStep (plans_of s) g.half n m es) at step
-
-goes_on : (s : List Line) (hs : List Known) (trace : List Placed) (t : TxNo) (n : StepName) (m : Step) (es : List Entry) → AreTied s hs trace → IsStepHere s t (past_of trace) n m es
-    → Continues s (history t.value (past_of trace)) [] es
-goes_on s hs trace t (ReplyOf e) m es tied step =
-    let past = history t.value (past_of trace) in
-    subst (λ (xs : List Entry). Continues s past [] xs) (sym step.3) (reply-continues s past e step.0 (history-plain t.value (past_of trace) tied.plain) (tied.plans t) (tied.planned t) step.1)
-goes_on s hs trace t LocalAct m es tied step =
-    let past = history t.value (past_of trace) in
-    subst (λ (xs : List Entry). Continues s past [] xs) (sym step.2) (act-continues s past (history-plain t.value (past_of trace) tied.plain) (tied.plans t) (tied.planned t))
-goes_on s hs trace t _ m es tied step = absurd step
-
-pub step-goes : (s : List Line) (hs : List Known) (trace : List Placed) (t : TxNo) (h : Known) (n : StepName) (m : Step) (es : List Entry) → AreTied s hs trace → h ≡ known_of s t (past_of trace)
-    → IsStep (plans_of s) h.half n m es → Continues s (history t.value (past_of trace)) [] es
-step-goes s hs trace t h n m es tied at step = goes_on s hs trace t n m es tied (here s trace t h n m es at step)
-
--- it is the k-th that was pending, of its name, and the trace has its block
-did : (s : List Line) (hs : List Known) (trace new : List Placed) (t : TxNo) (k : ℕ) (n : StepName) (m : Step) (es : List Entry) → AreTied s hs trace
-    → kth (pending (world_at s t (past_of trace))) k ≡ Some n → IsStepHere s t (past_of trace) n m es → past_of new ≡ onto (past_of trace) (placed t es) → Advances s t k trace new
-unfolding block_at
-did s hs trace new t k (ReplyOf e) m es tied stands step written =
-    let d = step.1 in
-    let fit = planned_fits (plans_of s e.value) d.note step.0 d.answers in
+pub did_step : {D : Type 0} (faults : D → ℕ) (honest : Bool) (image : D → List ℕ → Type 0) (s : List Line) (ws : List TxState) (cs : List Standing) (trace : List Placed) (t : TxNo) (k : ℕ) (x y : TxState)
+    (from to : LogState D) → IsStepAt faults honest image s ws cs trace t k x y from to → DidStep faults s ws trace t k y from to
+did_step faults honest image s ws cs trace t k x y from to at =
+    let d = at_place faults honest image s ws cs trace t k x y from to at in
+    let z = state_of t ws in
+    let m = d.does.step in
+    let is : z.transaction ≡ t = d.numbered.numbered t in
+    let world : y.world ≡ turned from.is_up t.value z.world m = d.does.done.world ∙ ap (λ (u : TxNo). turned from.is_up u.value z.world m) is in
+    let calls : y.world.calls ≡ z.world.calls =
+    ap (λ (w : World). w.calls) world ∙ (turned_calls from.is_up t.value z.world m ∙ none_entered z.world.calls m (named_no_call z.world d.does.name m d.does.named)) in
     record {
-      name = ReplyOf e;
-      step = Replies e step.0;
-      stands = stands;
-      named = (step.0, d.note, d.due, fit, refl);
-      own = refl;
-      done = written ∙ ap (λ (xs : List Entry). onto (past_of trace) (placed t xs)) step.3 ∙ sym (turn-reply s t e step.0 (past_of trace) tied.plain);
+      own = record { transaction = is; run = subst (λ (u : TxNo). IsOwnRun u.value z.world) is d.run };
+      does = d.does;
+      tied = d.holds.tied t;
+      world = world;
+      past = ap (λ (w : World). w.past) world ∙ turned_past from.is_up t.value z.world m;
+      calls = calls;
+      given = given_same s t.value z.world y.world calls (d.holds.tied t).given;
+      own_life = d.does.done.life ∙ (ap (λ (u : TxNo). life_after from.life u.value z.world m z.life) is ∙ ap (λ (l : ℕ). life_after l t.value z.world m z.life) (sym d.life));
     }
-did s hs trace new t k LocalAct m es tied stands step written =
+
+-- what it leaves of the log
+pub step_log : {D : Type 0} (faults : D → ℕ) (honest : Bool) (image : D → List ℕ → Type 0) (s : List Line) (ws : List TxState) (cs : List Standing) (trace : List Placed) (t : TxNo) (k : ℕ) (x y : TxState)
+    (from to : LogState D) → IsStepAt faults honest image s ws cs trace t k x y from to → LogGoes faults honest from to
+step_log faults honest image s ws cs trace t k x y from to d =
     record {
-      name = LocalAct;
-      step = Acts;
-      stands = stands;
-      named = refl;
-      own = refl;
-      done = written ∙ ap (λ (xs : List Entry). onto (past_of trace) (placed t xs)) step.2 ∙ sym (turn-act s t (past_of trace) tied.plain);
+      grows = d.grows;
+      stays = λ up none. stays_up faults x from to d.does.step d.does.done.answered up none;
+      still = d.still;
+      unarmed = d.unarmed;
+      others = λ h up. others_after image x y from to (d.kept h);
     }
-did s hs trace new t k _ m es tied stands step written = absurd step
 
-pub advances : (s : List Line) (hs : List Known) (trace new : List Placed) (t : TxNo) (h : Known) (k : ℕ) (n : StepName) (m : Step) (es : List Entry) → AreTied s hs trace
-    → h ≡ known_of s t (past_of trace) → kth (local_pending (plans_of s) h.half) k ≡ Some n → IsStep (plans_of s) h.half n m es → new ≡ trace ++ placed t es → Advances s t k trace new
-advances s hs trace new t h k n m es tied at stands step written =
-    did s hs trace new t k n m es tied (ap (λ ns. kth ns k) (pending-tied s hs trace t tied) ∙ ap (λ (g : Known). kth (local_pending (plans_of s) g.half) k) (sym at) ∙ stands)
-    (here s trace t h n m es at step) (ap past_of written ∙ past_of-placed trace t es)
+-- no call was entered
+pub step_calls : (ws : List TxState) (t : TxNo) (y : TxState) → t.value ≤ length ws → y.world.calls ≡ (state_of t ws).world.calls → HaveSameCalls ws (set ws (t.value - 1) y)
+step_calls ws t y made same u = elim (is_it u t) [
+  | inl e ↦
+      subst (λ (v : TxNo). (state_of v (set ws (t.value - 1) y)).world.calls ≡ (state_of v ws).world.calls) (sym e)
+      (ap (λ (x : TxState). x.world.calls) (state_here t ws y made) ∙ same)
+  | inr k ↦ ap (λ (x : TxState). x.world.calls) (state_there u t ws y k)
+]
 
--- and it brings t nearer its end
-nearer : (s : List Line) (hs : List Known) (trace : List Placed) (t : TxNo) (n : StepName) (m : Step) (es : List Entry) → AreTied s hs trace → IsStepHere s t (past_of trace) n m es
-    → steps_left (track_all (observe (history t.value (past_of trace))) es) < steps_left (observe (history t.value (past_of trace)))
-nearer s hs trace t (ReplyOf e) m es tied step =
-    let past = history t.value (past_of trace) in
-    subst (λ (xs : List Entry). steps_left (track_all (observe past) xs) < steps_left (observe past)) (sym step.3)
-    (steps_left-reply (plans_of s) (entered_in s past) past e step.0 (history-plain t.value (past_of trace) tied.plain) step.1)
-nearer s hs trace t LocalAct m es tied step =
-    let past = history t.value (past_of trace) in
-    subst (λ (xs : List Entry). steps_left (track_all (observe past) xs) < steps_left (observe past)) (sym step.2)
-    (steps_left-acts (entered_in s past) past (history-plain t.value (past_of trace) tied.plain) step.0)
-nearer s hs trace t _ m es tied step = absurd step
+-- The log wasn't stopped by the step: so it is calm, as long as nothing stands at the log.
+calm_here : {D : Type 0} (faults : D → ℕ) (honest : Bool) (image : D → List ℕ → Type 0) (s : List Line) (ws : List TxState) (cs : List Standing) (trace : List Placed) (t : TxNo) (k : ℕ) (x y : TxState)
+    (from to : LogState D) → IsStepAt faults honest image s ws cs trace t k x y from to → (d : DidStep faults s ws trace t k y from to) → (IsTrue from.is_up → IsTrue to.is_up)
+    → is_log_quiet (past_of trace) ≡ true → is_calm_step d.does.step ≡ true
+calm_here faults honest image s ws cs trace t k x y from to at d stays quiet =
+    let up = at.holds.up quiet in
+    step_calm faults t (state_of t ws) from to d.does.name d.does.step d.own d.does.named d.does.done.answered up (stays up) (at.holds.calm quiet t).life
 
-pub step-nearer : (s : List Line) (hs : List Known) (trace new : List Placed) (t : TxNo) (h : Known) (n : StepName) (m : Step) (es : List Entry) → AreTied s hs trace → h ≡ known_of s t (past_of trace)
-    → IsStep (plans_of s) h.half n m es → new ≡ trace ++ placed t es
-    → steps_left (observe (history t.value (past_of new))) < steps_left (observe (history t.value (past_of trace)))
-step-nearer s hs trace new t h n m es tied at step written =
-    let past = history t.value (past_of trace) in
-    let same : observe (history t.value (past_of new)) ≡ track_all (observe past) es =
-    ap (λ (T : List Placed). observe (history t.value T)) (ap past_of written ∙ past_of-placed trace t es)
-    ∙ (ap observe (history-same t.value t (past_of trace) es ((Decides-eqb t.value t.value).1 refl)) ∙ observe-onto past es) in
-    subst (λ (o : Observed). steps_left o < steps_left (observe past)) (sym same) (nearer s hs trace t n m es tied (here s trace t h n m es at step))
+-- What holds of the run after it is noted,
+pub step_holds : {D : Type 0} (faults : D → ℕ) (honest : Bool) (image : D → List ℕ → Type 0) (s : List Line) (ws : List TxState) (cs : List Standing) (trace new : List Placed) (t : TxNo) (k : ℕ) (x y : TxState)
+    (from to : LogState D) → IsStepAt faults honest image s ws cs trace t k x y from to → (d : DidStep faults s ws trace t k y from to) → (IsTrue from.is_up → IsTrue to.is_up)
+    → past_of new ≡ onto (past_of trace) (placed t (written from.is_up t.value (state_of t ws).world d.does.step))
+    → Holds honest to (record { script = s; worlds = set ws (t.value - 1) y; contexts = cs; trace = new })
+step_holds faults honest image s ws cs trace new t k x y from to start d stays noted =
+    let at = at_place faults honest image s ws cs trace t k x y from to start in
+    let z = state_of t ws in
+    let m = d.does.step in
+    let es = written from.is_up t.value z.world m in
+    let calm : is_log_quiet (past_of trace) ≡ true → IsCalm s to.life y =
+    λ quiet.
+    let goes = calm_here faults honest image s ws cs trace t k x y from to start d stays quiet in
+    let planned = planned_here s t (past_of trace) z m at.names d.tied d.own d.does.planned in
+    let world : y.world ≡ after t.value z.world m = d.world ∙ turned_up from.is_up t.value z.world m (at.holds.up quiet) in
+    calm_after s to.life t.value (id_of y) z y m (subst (λ (l : ℕ). IsCalm s l z) (sym at.life) (at.holds.calm quiet t)) world d.own_life
+    (calm_block (plans_of s) t.value z.world m (calm_halting m goes) planned) at.ours in
+    holds_noted honest from to s ws (set ws (t.value - 1) y) cs cs trace new t y es at.holds at.made refl noted d.past d.given (at.unarmed at.holds.unarmed)
+    (λ h up. fits_after image ws t y from to at.numbered at.made (at.kept h) up (at.holds.fits h (at.still up))) at.life (quiet_was (past_of trace) (past_of new) t es noted)
+    (λ quiet. (stays (at.holds.up quiet), calm quiet))
+
+-- and as long as nothing stands at the log it is a turn of the trace.
+pub step_advances : {D : Type 0} (faults : D → ℕ) (honest : Bool) (image : D → List ℕ → Type 0) (s : List Line) (ws : List TxState) (cs : List Standing) (trace new : List Placed) (t : TxNo) (k : ℕ) (x y : TxState)
+    (from to : LogState D) → IsStepAt faults honest image s ws cs trace t k x y from to → (d : DidStep faults s ws trace t k y from to) → (IsTrue from.is_up → IsTrue to.is_up)
+    → past_of new ≡ onto (past_of trace) (placed t (written from.is_up t.value (state_of t ws).world d.does.step)) → is_log_quiet (past_of new) ≡ true → Advances s t k trace new
+step_advances faults honest image s ws cs trace new t k x y from to at d stays noted quiet =
+    let z = state_of t ws in
+    let m = d.does.step in
+    let was = quiet_was (past_of trace) (past_of new) t (written from.is_up t.value z.world m) noted quiet in
+    let goes = calm_here faults honest image s ws cs trace t k x y from to at d stays was in
+    record {
+      name = d.does.name;
+      step = m;
+      stands = ap (λ ns. kth ns k) (sym (pending_here s t (past_of trace) z d.tied d.own)) ∙ d.does.stands;
+      named = named_here s t (past_of trace) z d.does.name m d.tied d.does.named;
+      calm = goes;
+      done =
+          noted ∙ (ap (λ (es : List Entry). onto (past_of trace) (placed t es)) (written_up from.is_up t.value z.world m (at.holds.up was))
+          ∙ turn_here s t (past_of trace) z m d.tied d.own was (calm_stopping m goes));
+    }
+
+-- what it does to the run
+pub step_runs : {D : Type 0} (faults : D → ℕ) (from to : LogState D) (s : List Line) (ws vs : List TxState) (cs : List Standing) (trace new : List Placed) (t : TxNo) (es : List Entry)
+    → past_of new ≡ onto (past_of trace) (placed t es)
+    → Runs faults from to (record { script = s; worlds = ws; contexts = cs; trace = trace }) (record { script = s; worlds = vs; contexts = cs; trace = new })
+step_runs faults from to s ws vs cs trace new t es noted =
+    record { script = refl; back = quiet_was (past_of trace) (past_of new) t es noted; forth = λ quiet. inl (quiet_noted (past_of trace) (past_of new) t es noted quiet) }
+
+-- Nothing more is pending in the trace than in the world.
+pub none_pending : (s : List Line) (ws : List TxState) (T : List Placed) (t : TxNo) (k : ℕ) → IsTied s t T (state_of t ws) → IsOwn t (state_of t ws) → kth (pending (state_of t ws).world) k ≡ None
+    → kth (pending (world_at s t T)) k ≡ None
+none_pending s ws T t k tied own none = ap (λ ns. kth ns k) (sym (pending_here s t T (state_of t ws) tied own)) ∙ none
+
+-- and in one to which nothing came nothing is
+blank_pending : (k : ℕ) → kth (pending (record { calls = []; past = [] })) k ≡ None
+unfolding pending local_pending all_due act_entries observe coordinate may_log may_free
+blank_pending zero = refl
+blank_pending (suc k) = refl
+
+pub untouched_pending : (s : List Line) (ws : List TxState) (T : List Placed) (t : TxNo) (k : ℕ) → IsTied s t T (state_of t ws) → state_of t ws ≡ untouched t
+    → (kth (pending (state_of t ws).world) k ≡ None) × (kth (pending (world_at s t T)) k ≡ None)
+untouched_pending s ws T t k tied blank =
+    let past : [] ≡ history t.value T = sym (ap (λ (x : TxState). x.world.past) blank) ∙ tied.past in (
+      ap (λ (x : TxState). kth (pending x.world) k) blank ∙ blank_pending k,
+      ap (λ (h : List Entry). kth (pending (world_of s h)) k) (sym past) ∙ blank_pending k,
+    )
+
+-- Where the step stopped the log, its stop is noted first, and then something stands at the log.
+pub stopped_noted : (trace new : List Placed) (t : TxNo) (es : List Entry) → new ≡ (trace ++ (Log, Stopped) ∷ []) ++ placed t es → past_of new ≡ onto ((Log, Stopped) ∷ past_of trace) (placed t es)
+stopped_noted trace new t es e = ap past_of e ∙ (trace_noted (trace ++ (Log, Stopped) ∷ []) t es ∙ ap (λ (T : List Placed). onto T (placed t es)) (past_of-snoc trace (Log, Stopped)))
+
+pub stopped_loud : (trace new : List Placed) (t : TxNo) (es : List Entry) → past_of new ≡ onto ((Log, Stopped) ∷ past_of trace) (placed t es) → is_log_quiet (past_of new) ≡ true → ⊥
+stopped_loud trace new t es e quiet = let k = quiet_before ((Log, Stopped) ∷ past_of trace) (placed t es) (subst (λ (V : List Placed). is_log_quiet V ≡ true) e quiet) in cc
+
+pub stopped_tied : (s : List Line) (ws : List TxState) (trace new : List Placed) (t : TxNo) (y : TxState) (es : List Entry) → t.value ≤ length ws
+    → ((u : TxNo) → IsTied s u (past_of trace) (state_of u ws)) → past_of new ≡ onto ((Log, Stopped) ∷ past_of trace) (placed t es) → y.world.past ≡ onto (state_of t ws).world.past es
+    → ((n : ℕ) (a : ActorNo) (c : Call) → IsIn y.world.calls n a c → IsCallOf s t.value n a c) → (u : TxNo) → IsTied s u (past_of new) (state_of u (set ws (t.value - 1) y))
+stopped_tied s ws trace new t y es made tied noted past given =
+    tied_noted s ws ((Log, Stopped) ∷ past_of trace) (past_of new) t y es made (λ u. tied_same s u (past_of trace) ((Log, Stopped) ∷ past_of trace) (state_of u ws) refl (tied u)) noted past given
+
+-- What a step makes of a run.
+pub record IsStepped {D : Type 0} (faults : D → ℕ) (honest : Bool) (r q : RunState) (t : TxNo) (k : ℕ) (from to : LogState D) : Type 0 where
+  pub runs : Runs faults from to r q
+  pub holds : Holds honest to q
+  pub calls : HaveSameCalls r.worlds q.worlds
+  pub stepped : (m : ℕ) (start : World) → HasStepped t.value k m start (state_of t r.worlds).world → HasStepped t.value k (suc m) start (state_of t q.worlds).world
+  pub some : IsQuiet q → Advances r.script t k r.trace q.trace
+  pub nearer : steps_left (state_of t q.worlds).world < steps_left (state_of t r.worlds).world
+
+-- where it left the log up, if it was,
+pub step_done : {D : Type 0} (faults : D → ℕ) (honest : Bool) (image : D → List ℕ → Type 0) (s : List Line) (ws : List TxState) (cs : List Standing) (trace new : List Placed) (t : TxNo) (k : ℕ) (x y : TxState)
+    (from to : LogState D) → IsStepAt faults honest image s ws cs trace t k x y from to → (IsTrue from.is_up → IsTrue to.is_up)
+    → ((es : List Entry) → y.world.past ≡ onto x.world.past es → new ≡ trace ++ placed t es)
+    → IsStepped faults honest (record { script = s; worlds = ws; contexts = cs; trace = trace }) (record { script = s; worlds = set ws (t.value - 1) y; contexts = cs; trace = new }) t k from to
+step_done faults honest image s ws cs trace new t k x y from to at stays written_down =
+    let d = did_step faults honest image s ws cs trace t k x y from to at in
+    let es = written from.is_up t.value (state_of t ws).world d.does.step in
+    let reached = state_reached t ws x at.made at.there in
+    let noted : past_of new ≡ onto (past_of trace) (placed t es) =
+    ap past_of (written_down es (d.past ∙ ap (λ (z : TxState). onto z.world.past es) reached)) ∙ trace_noted trace t es in
+    let here : state_of t (set ws (t.value - 1) y) ≡ y = state_here t ws y at.made in
+    record {
+      runs = step_runs faults from to s ws (set ws (t.value - 1) y) cs trace new t es noted;
+      holds = step_holds faults honest image s ws cs trace new t k x y from to at d stays noted;
+      calls = step_calls ws t y at.made d.calls;
+      stepped = λ m start before.
+          subst (λ (z : TxState). HasStepped t.value k (suc m) start z.world) (sym here) (has_stepped faults t k m start (state_of t ws) y from to d.own.transaction d.does before);
+      some = step_advances faults honest image s ws cs trace new t k x y from to at d stays noted;
+      nearer =
+          subst (λ (z : TxState). steps_left z.world < steps_left (state_of t ws).world) (sym here)
+          (subst (λ (z : TxState). steps_left y.world < steps_left z.world) (sym reached) at.nearer);
+    }
+
+-- and where it stopped it, after the others were told.
+pub step_stopped : {D : Type 0} (faults : D → ℕ) (honest : Bool) (image : D → List ℕ → Type 0) (s : List Line) (ws : List TxState) (cs : List Standing) (trace mid : List Placed) (t : TxNo) (k : ℕ) (x y : TxState)
+    (from to : LogState D) (q : RunState) → IsStepAt faults honest image s ws cs trace t k x y from to → IsTrue from.is_up → IsFalse to.is_up
+    → ((es : List Entry) → y.world.past ≡ onto x.world.past es → mid ≡ (trace ++ (Log, Stopped) ∷ []) ++ placed t es) → q.script ≡ s → HaveSameCalls (set ws (t.value - 1) y) q.worlds
+    → state_of t q.worlds ≡ state_of t (set ws (t.value - 1) y)
+    → (((u : TxNo) → IsTied s u (past_of mid) (state_of u (set ws (t.value - 1) y))) → (u : TxNo) → IsTied s u (past_of q.trace) (state_of u q.worlds))
+    → ((is_log_quiet (past_of mid) ≡ true → ⊥) → IsQuiet q → ⊥)
+    → IsStepped faults honest (record { script = s; worlds = ws; contexts = cs; trace = trace }) q t k from to
+step_stopped {D} faults honest image s ws cs trace mid t k x y from to q at up down written_down script calls same tied loud =
+    let d = did_step faults honest image s ws cs trace t k x y from to at in
+    let es = written from.is_up t.value (state_of t ws).world d.does.step in
+    let reached = state_reached t ws x at.made at.there in
+    let noted : past_of mid ≡ onto ((Log, Stopped) ∷ past_of trace) (placed t es) =
+    stopped_noted trace mid t es (written_down es (d.past ∙ ap (λ (z : TxState). onto z.world.past es) reached)) in
+    let noisy : IsQuiet q → ⊥ = loud (stopped_loud trace mid t es noted) in
+    let here : state_of t q.worlds ≡ y = same ∙ state_here t ws y at.made in
+    let ties = tied (stopped_tied s ws trace mid t y es at.made at.holds.tied noted d.past d.given) in
+    let rose : Rose (faults from.disk) (faults to.disk) =
+    elim (stays_up faults x from to at.does.step at.does.done.answered up at.holds.unarmed) [ inl k ↦ absurd (never_both to.is_up k down) | inr r ↦ r ] in
+    record {
+      runs = record { script = script; back = λ quiet. absurd (noisy quiet); forth = λ quiet. inr rose };
+      holds = record {
+        tied = subst (λ (z : List Line). (u : TxNo) → IsTied z u (past_of q.trace) (state_of u q.worlds)) (sym script) ties;
+        unarmed = at.unarmed at.holds.unarmed;
+        fits = λ h still. absurd (never_both to.is_up still down);
+        up = λ quiet. absurd (noisy quiet);
+        calm = λ quiet. absurd (noisy quiet);
+      };
+      calls = λ u. calls u ∙ step_calls ws t y at.made d.calls u;
+      stepped = λ m start before.
+          subst (λ (z : TxState). HasStepped t.value k (suc m) start z.world) (sym here) (has_stepped faults t k m start (state_of t ws) y from to d.own.transaction d.does before);
+      some = λ quiet. absurd (noisy quiet);
+      nearer =
+          subst (λ (z : TxState). steps_left z.world < steps_left (state_of t ws).world) (sym here)
+          (subst (λ (z : TxState). steps_left y.world < steps_left z.world) (sym reached) at.nearer);
+    }
+
+-- where the memory ran out before it was noted, no call was entered
+pub failed_calls : {D : Type 0} (faults : D → ℕ) (honest : Bool) (image : D → List ℕ → Type 0) (s : List Line) (ws : List TxState) (cs : List Standing) (trace : List Placed) (t : TxNo) (k : ℕ) (x y : TxState)
+    (from to : LogState D) → IsStepAt faults honest image s ws cs trace t k x y from to → HaveSameCalls ws (set ws (t.value - 1) y)
+failed_calls faults honest image s ws cs trace t k x y from to at = step_calls ws t y at.made (did_step faults honest image s ws cs trace t k x y from to at).calls
+
+-- and it wrote something, or nothing
+pub step_past : {D : Type 0} (faults : D → ℕ) (honest : Bool) (image : D → List ℕ → Type 0) (s : List Line) (ws : List TxState) (cs : List Standing) (trace : List Placed) (t : TxNo) (k : ℕ) (x y : TxState)
+    (from to : LogState D) → IsStepAt faults honest image s ws cs trace t k x y from to → (es : List Entry) × (y.world.past ≡ onto x.world.past es)
+step_past faults honest image s ws cs trace t k x y from to at =
+    let d = did_step faults honest image s ws cs trace t k x y from to at in
+    let es = written from.is_up t.value (state_of t ws).world d.does.step in
+    (es, d.past ∙ ap (λ (z : TxState). onto z.world.past es) (state_reached t ws x at.made at.there))

@@ -1,5 +1,5 @@
 -- What scope lines do at the contexts of a run.
-use Rattle.std.specs.Prelude.{◌-◌, ◌≡◌, false, List, [], ◌∷◌, map, Option, Some, None, slice_get}
+use Rattle.std.specs.Prelude.{ℕ, ◌-◌, ◌≡◌, ◌<◌, ◌==◌, false, List, [], ◌∷◌, map, Option, Some, None, slice_get}
 use Rattle.dtx_values.specs.declared.call.Call.{Call}
 use Rattle.dtx_values.specs.declared.call.Call.TheVariants.{Rollback as RollbackCall}
 use Rattle.dtx_values.specs.declared.entry.Answer.{Answer}
@@ -62,9 +62,9 @@ abbrev pub IsUnopened : Body → List OpenScope → Type 0
 IsUnopened (Open s o) xs = has (is_scope s.value) xs ≡ false
 IsUnopened _ xs = Unit {0}
 
--- each stands once
+-- no transaction stands at two places
 abbrev pub AreOnce : List TxNo → Type 0
-AreOnce ts = once [] ts ≡ ts
+AreOnce ts = (i j : ℕ) (t u : TxNo) → i < j → slice_get ts i ≡ Some t → slice_get ts j ≡ Some u → (u.value == t.value) ≡ false
 
 -- a rollback of each of these transactions
 abbrev pub rollbacks : List TxNo → List (TxNo × Call)

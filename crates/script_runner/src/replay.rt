@@ -71,7 +71,8 @@ fn reach(alloc: Global, worlds: &mut Vec<TxWorld>, t: TxNo) -> Result<(), WorldE
 {
     for number in worlds.len()..t.index() + 1 {
         let next = TxNo::new(number as u32 + 1).unwrap();
-        worlds.push(TxWorld::new(alloc, next)?)?;
+        worlds.reserve(1)?;
+        worlds.push_reserved(TxWorld::new(alloc, next)?);
     }
     Ok(())
 }
@@ -147,6 +148,7 @@ impl<'a> Run<'a> {
         world.is_own_run();
         let from = world.history().len();
         let _ = world.enter(log, actor, n, c, done)?;
+        world.is_own_run();
         note(&mut self.trace, t, world, from)?;
         Ok(())
     }
@@ -158,7 +160,7 @@ impl<'a> Run<'a> {
         ensures calls { HaveSameCalls self.old.worlds self.new.worlds }
         ensures here { state_of t self.new.worlds ≡ state_of t self.old.worlds }
         ensures tied { OnOk result (((u : TxNo) → IsTied self.old.script u (past_of self.old.trace) (state_of u self.old.worlds)) → (u : TxNo) → IsTied self.old.script u (past_of self.new.trace) (state_of u self.new.worlds)) }
-        ensures loud { (IsQuiet self.old → ⊥) → IsQuiet self.new → ⊥ }
+        ensures loud { OnOk result ((IsQuiet self.old → ⊥) → IsQuiet self.new → ⊥) }
     {
         for place in 0..self.worlds.len() {
             if place == t.index() {
@@ -198,14 +200,16 @@ impl<'a> Run<'a> {
         if !world.step(log, u32::from(k))? {
             return Ok(false);
         }
-        let is_stopped = was_up && !log.is_up();
-        if is_stopped {
-            self.trace.push((Place::Log, Entry::Stopped))?;
-        }
-        note(&mut self.trace, t, &self.worlds[t.index()], from)?;
-        if is_stopped {
+        // What holds of the world after the step: what it keeps of the log is what its coordinator knows.
+        world.is_own_run();
+        if was_up && !log.is_up() {
+            self.trace.reserve(1)?;
+            self.trace.push_reserved((Place::Log, Entry::Stopped));
+            note(&mut self.trace, t, world, from)?;
             self.stop_others(t, log.life())?;
+            return Ok(true);
         }
+        note(&mut self.trace, t, world, from)?;
         Ok(true)
     }
 

@@ -9,8 +9,7 @@ use Rattle.script_runner.specs.RunState.{RunState}
 use Rattle.script_runner.specs.Scoped.{AreOpen, DoesScope, calls_given, rolled_in, scopes_at, scopes_in}
 use Rattle.dtx_model.proofs.Pasts.{length-past}
 use Rattle.script_runner.proofs.Openings.{context_here, context_put, open_after}
-use Rattle.script_runner.proofs.Scoping.{few_notes, noted_block, scope_calm}
-use Rattle.script_runner.proofs.Ties.{tied_noted}
+use Rattle.script_runner.proofs.Scoping.{few_notes, noted_block}
 use Rattle.script_runner.proofs.replay.Run.at_context.Goals as goal
 
 pub append-requires : goal.append-requires
@@ -22,11 +21,7 @@ append-requires c =
     omega (arith, few, many, notes, c.in_ok-reserve-2.ensures.ok, c.push_reserved.ensures.len, c.push_reserved.ensures.capacity)
 
 pub invariant_of-self-2 : goal.invariant_of-self-2
-invariant_of-self-2 c =
-    let did : DoesScope c.args.l.now.body c.index_mut-context.result.now c.act.new.context c.act.new.entries.items c.in-Some.acted = c.in-Some.ensures.some in
-    let block = noted_block c.self.inside.trace.items c.append.new.trace.items c.args.n c.args.l.now.actor _ _ _ _ _ did
-    (rw (c.append.ensures, c.deref.ensures.value, c.push_reserved.ensures.items, c.reserve-2.ensures.items) refl) in
-    (tied_noted c.self.inside.plans c.self.inside.halves.items c.self.inside.trace.items c.append.new.trace.items c.args.l.now.actor (scope_block c.args.n c.args.l.now.actor c.args.l.now.body c.index_mut-context.result.now.scopes) c.self.invariant.0 block (scope_calm c.args.n c.args.l.now.actor c.args.l.now.body c.index_mut-context.result.now.scopes), rw length-set c.self.invariant.1)
+invariant_of-self-2 c = (c.self.invariant.0, rw length-set c.self.invariant.1, c.self.invariant.2)
 
 pub returns-clause-block : goal.returns-clause-block
 returns-clause-block c =

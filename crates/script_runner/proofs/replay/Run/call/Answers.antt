@@ -1,71 +1,73 @@
-use Rattle.std.proofs.Common.{◌≡◌, ◌-◌, ◌++◌, [], arith, refl, subst, sym}
-use Rattle.dtx_model.specs.Observed.{observe}
-use Rattle.dtx_model.specs.Traces.{history, placed}
+use Rattle.std.proofs.Common.{◌≡◌, ◌+◌, ◌-◌, ◌≤◌, ◌++◌, List, arith, get_or, length, refl, set, subst, sym, ap, ◌∙◌}
+use Rattle.std.proofs.Math.ListN.{length-set}
+use Rattle.dtx_values.specs.declared.entry.Entry.{Entry}
+use Rattle.dtx_values.specs.declared.number.TxNo.{TxNo}
+use Rattle.dtx_model.specs.Grammar.{are_named_well}
+use Rattle.dtx_model.specs.Caused.{IsCallOf}
 use Rattle.dtx_model.specs.Replay.{after_turn}
-use Rattle.dtx_model.specs.Steps.{Calls, entered}
+use Rattle.dtx_model.specs.Steps.{Calls}
+use Rattle.dtx_model.specs.Traces.{placed}
 use Rattle.dtx_model.specs.Words.{past_of}
-use Rattle.script_runner.specs.Calling.{IsGiven, IsReady, call_block, own_call}
-use Rattle.script_runner.specs.RunState.{AreTied, RunState}
-use Rattle.script_runner.proofs.Steps.{call-goes, call-written, half-home, half-ready}
-use Rattle.script_runner.proofs.Ties.{half-at, tied_after}
+use Rattle.dtx_model.proofs.Pasts.{length-past}
+use Rattle.tx_world.specs.State.{TxState}
+use Rattle.script_runner.specs.RunState.{AreNumbered, IsBelow, IsTied, RunState, state_of}
+use Rattle.script_runner.proofs.CallsHold.{Entered, entered_at_place, entered_holds, entered_runs, entered_turn, may_answer_here, may_enter_here, past_after, past_longer}
+use Rattle.script_runner.proofs.Entering.{below_after}
+use Rattle.script_runner.proofs.Numbered.{numbered_same, numbered_set}
+use Rattle.script_runner.proofs.Turns.{written}
 use Rattle.script_runner.proofs.replay.Run.call.Goals as goal
 
-pub call-requires-clause-ready : goal.call-requires-clause-ready
-call-requires-clause-ready c =
-    let h = c.index_mut-half.result.now in
-    let s = c.self.inside.plans in
+pub enter-requires-clause-enters : goal.enter-requires-clause-enters
+enter-requires-clause-enters g c =
+    let s = c.args.self.now.script in
     let place : c.index.result ≡ c.args.t.value - 1 = omega (arith, c.index.ensures.place) in
-    let tied : AreTied s c.reach.new.halves.items c.self.inside.trace.items = c.reach.ensures.tied _ _ c.self.invariant.0 in
-    let at = half-at s c.reach.new.halves.items c.self.inside.trace.items c.args.t h tied c.in_ok-reach.ensures.reached (rw place at c.index_mut-half.ensures.value) in
-    half-ready s c.self.inside.trace.items c.args.t h c.args.c.now at
-    (subst (λ (r : RunState). IsReady (observe (history c.args.t.value (past_of r.trace))) c.args.c.now) (sym c.self.view_is) c.requires.ready)
+    may_enter_here s (past_of c.args.self.now.trace) c.args.self.now.worlds c.reach.new.worlds.items c.args.t c.args.n c.args.actor c.args.c.now c.index_mut-world.result.now c.in_ok-reach.ensures.reached
+    (rw place at c.index_mut-world.ensures.value) (λ u. c.reach.ensures.same u ∙ ap (λ (r : RunState). state_of u r.worlds) c.self.view_is)
+    (c.lifting.ensures.once s c.args.t.value (ap (λ (r : RunState). are_named_well r.script) (sym c.self.view_is) ∙ c.self.invariant.2)) (c.requires.holds.tied c.args.t) c.requires.given c.requires.below
 
-pub call-requires-clause-home : goal.call-requires-clause-home
-call-requires-clause-home c =
-    let h = c.index_mut-half.result.now in
-    let s = c.self.inside.plans in
+pub enter-requires-clause-answers : goal.enter-requires-clause-answers
+enter-requires-clause-answers g c =
     let place : c.index.result ≡ c.args.t.value - 1 = omega (arith, c.index.ensures.place) in
-    let tied : AreTied s c.reach.new.halves.items c.self.inside.trace.items = c.reach.ensures.tied _ _ c.self.invariant.0 in
-    half-home s c.reach.new.halves.items c.self.inside.trace.items c.args.t h tied
-    (half-at s c.reach.new.halves.items c.self.inside.trace.items c.args.t h tied c.in_ok-reach.ensures.reached (rw place at c.index_mut-half.ensures.value))
+    let numbered = numbered_same c.self.inside.worlds.items c.reach.new.worlds.items c.self.invariant.0 (c.reach.ensures.few c.self.invariant.0.few) c.reach.ensures.same in
+    may_answer_here c.args.self.now.worlds c.reach.new.worlds.items c.args.t c.args.c.now c.args.done c.index_mut-world.result.now numbered c.in_ok-reach.ensures.reached
+    (rw place at c.index_mut-world.ensures.value) (λ u. c.reach.ensures.same u ∙ ap (λ (r : RunState). state_of u r.worlds) c.self.view_is) c.requires.answers
 
-pub invariant_of-self : goal.invariant_of-self
-invariant_of-self c = (c.reach.ensures.tied _ _ c.self.invariant.0, c.self.invariant.1)
+pub note-requires : goal.note-requires
+note-requires g c =
+    let h = c.history-from.result.now in
+    past_longer g.D.Disk.faults c.args.log.now (Calls c.args.n c.args.actor c.args.c.now c.args.done) c.index_mut-world.result.now c.enter.new.self (length h) c.in_ok-enter.ensures.done
+    (sym (length-past h) ∙ ap length c.history-from.ensures)
 
-pub invariant_of-self-in_err-reserve : goal.invariant_of-self-in_err-reserve
-invariant_of-self-in_err-reserve c = (rw c.reserve.ensures.items (c.reach.ensures.tied _ _ c.self.invariant.0), c.self.invariant.1)
-
-pub invariant_of-self-2 : goal.invariant_of-self-2
-invariant_of-self-2 c =
-    let h = c.index_mut-half.result.now in
-    let s = c.self.inside.plans in
-    let place : c.index.result ≡ c.args.t.value - 1 = omega (arith, c.index.ensures.place) in
-    let tied : AreTied s c.reach.new.halves.items c.self.inside.trace.items = c.reach.ensures.tied _ _ c.self.invariant.0 in
+pub returns : goal.returns
+returns g c =
+    let old = c.args.self.now in
+    let log = c.args.log.now in
+    let t = c.args.t in
+    let ws = c.reach.new.worlds.items in
+    let x = c.index_mut-world.result.now in
+    let y = c.enter.new.self in
+    let h = c.history-from.result.now in
+    let step = Calls c.args.n c.args.actor c.args.c.now c.args.done in
+    let place : c.index.result ≡ t.value - 1 = omega (arith, c.index.ensures.place) in
     let made = c.in_ok-reach.ensures.reached in
-    let here = rw place at c.index_mut-half.ensures.value in
-    let at = half-at s c.reach.new.halves.items c.self.inside.trace.items c.args.t h tied made here in
-    let es = call_block h.transaction.value h.half c.args.n c.args.actor c.args.c.now c.args.done in
-    let written : c.append.new.trace.items ≡ c.self.inside.trace.items ++ placed c.args.t es =
-    rw (c.append.ensures, c.entries.ensures.value, c.call.ensures.out, c.clear.ensures, c.reserve.ensures.items) refl in
-    let ready = subst (λ (r : RunState). IsReady (observe (history c.args.t.value (past_of r.trace))) c.args.c.now) (sym c.self.view_is) c.requires.ready in
-    let given = subst (λ (r : RunState). IsGiven (own_call r.script c.args.n) c.args.c.now) (sym c.self.view_is) c.requires.given in (
-      rw place
-          (tied_after s _ c.self.inside.trace.items _ c.args.t h _ (entered (Calls c.args.n c.args.actor c.args.c.now c.args.done) []) es tied made here c.call.ensures.state written
-          (call-goes s c.reach.new.halves.items c.self.inside.trace.items c.args.t h c.args.n c.args.actor c.args.c.now c.args.done tied at given ready)),
-      c.self.invariant.1,
-    )
-
-pub returns-clause-done : goal.returns-clause-done
-returns-clause-done c =
-    let h = c.index_mut-half.result.now in
-    let s = c.self.inside.plans in
-    let place : c.index.result ≡ c.args.t.value - 1 = omega (arith, c.index.ensures.place) in
-    let tied : AreTied s c.reach.new.halves.items c.self.inside.trace.items = c.reach.ensures.tied _ _ c.self.invariant.0 in
-    let here = rw place at c.index_mut-half.ensures.value in
-    let at = half-at s c.reach.new.halves.items c.self.inside.trace.items c.args.t h tied c.in_ok-reach.ensures.reached here in
-    let es = call_block h.transaction.value h.half c.args.n c.args.actor c.args.c.now c.args.done in
-    let written : c.append.new.trace.items ≡ c.self.inside.trace.items ++ placed c.args.t es =
-    rw (c.append.ensures, c.entries.ensures.value, c.call.ensures.out, c.clear.ensures, c.reserve.ensures.items) refl in
-    let ready = subst (λ (r : RunState). IsReady (observe (history c.args.t.value (past_of r.trace))) c.args.c.now) (sym c.self.view_is) c.requires.ready in
-    subst (λ (r : RunState). past_of c.append.new.trace.items ≡ after_turn r.script c.args.t (Calls c.args.n c.args.actor c.args.c.now c.args.done) (past_of r.trace)) c.self.view_is
-    (call-written s c.reach.new.halves.items c.self.inside.trace.items c.append.new.trace.items c.args.t h c.args.n c.args.actor c.args.c.now c.args.done tied at ready.answered written)
+    let here : x ≡ get_or ws (t.value - 1) x = rw place at c.index_mut-world.ensures.value in
+    let same : (u : TxNo) → state_of u ws ≡ state_of u old.worlds = λ u. c.reach.ensures.same u ∙ ap (λ (r : RunState). state_of u r.worlds) c.self.view_is in
+    let numbered : AreNumbered ws = numbered_same c.self.inside.worlds.items ws c.self.invariant.0 (c.reach.ensures.few c.self.invariant.0.few) c.reach.ensures.same in
+    let past = past_after g.D.Disk.faults log ws t step x y numbered made here c.in_ok-enter.ensures.done in
+    let many : length x.world.past ≡ length h = sym (ap length c.history-from.ensures) ∙ length-past h in
+    let noted = c.in_ok-note.ensures x.world.past (written log.is_up t.value x.world step) many past in
+    let new : RunState = record { script = c.self.inside.plans; worlds = set ws c.index.result y; contexts = c.self.inside.contexts.items; trace = c.note.new.trace.items } in
+    let did : Entered g.D.Disk.faults log t c.args.n c.args.actor c.args.c.now c.args.done x y old new =
+    entered_at_place g.D.Disk.faults log t c.args.n c.args.actor c.args.c.now c.args.done x y old new ws numbered made here same (ap (λ (r : RunState). r.script) c.self.view_is)
+    (ap (λ k. set ws k y) place) c.is_own_run.ensures.run c.in_ok-enter.ensures.done c.in_ok-enter.ensures.ours c.is_own_run-2.ensures.ours
+    (noted ∙ ap (λ (r : RunState). r.trace ++ placed t (written log.is_up t.value x.world step)) c.self.view_is) in
+    record {
+      contexts = ap (λ (r : RunState). r.contexts) c.self.view_is;
+      runs = entered_runs g.D.Disk.faults log t c.args.n c.args.actor c.args.c.now c.args.done x y old new did;
+      holds = entered_holds g.D.Disk.faults g.D.Disk.honest log t c.args.n c.args.actor c.args.c.now c.args.done x y old new did c.requires.given c.requires.holds;
+      others = did.others;
+      entered =
+          subst (λ (z : TxState). IsBelow (c.args.n + 1) z) (sym did.now)
+          (below_after c.args.n c.args.actor c.args.c.now c.args.done log.is_up x.transaction.value x y did.does.world (subst (λ (z : TxState). IsBelow c.args.n z) did.was c.requires.below));
+      done = entered_turn g.D.Disk.faults g.D.Disk.honest log t c.args.n c.args.actor c.args.c.now c.args.done x y old new did c.requires.holds;
+    }

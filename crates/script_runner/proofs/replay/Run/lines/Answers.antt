@@ -1,51 +1,48 @@
-use Rattle.std.proofs.Common.{◌≡◌, ◌+◌, ◌∷◌, ◌++◌, suc, Some, true, List, ap, arith, drop, length, subst, sym, take, ◌∙◌}
+use Rattle.std.proofs.Common.{◌≡◌, ◌+◌, ◌-◌, ◌∷◌, ◌++◌, suc, Some, List, [], ap, arith, drop, length, refl, subst, sym, take, ◌∙◌}
 use Rattle.std.proofs.lemmas.List.{drop_more}
 use Rattle.dtx_values.specs.declared.script.Line.{Line}
-use Rattle.script_runner.proofs.Alone.{ran_alone}
-use Rattle.script_runner.specs.Built.{is_run_line}
-use Rattle.dtx_model.specs.Observed.{observe}
-use Rattle.dtx_model.specs.Traces.{history}
 use Rattle.dtx_model.specs.Calls.{call_of}
-use Rattle.dtx_model.specs.AtLog.{is_local_trace}
+use Rattle.dtx_model.specs.Contexts.{lines_before}
 use Rattle.dtx_model.specs.Words.{kth, past_of}
-use Rattle.outcome_law.specs.LogQuiet.{is_log_quiet}
 use Rattle.script_runner.specs.RunState.{RunState}
 use Rattle.script_runner.specs.Scoped.{AreOpen}
-use Rattle.script_runner.proofs.Openings.{always-here, lines_more, past_next, unopened}
-use Rattle.script_runner.proofs.Plain.{plain_local, plain_quiet}
-use Rattle.script_runner.proofs.Ready.{line_ready}
+use Rattle.script_runner.proofs.Going.{goes_same, goes_then, runs_same, runs_then}
+use Rattle.script_runner.proofs.Openings.{lines_more, past_next, unopened}
 use Rattle.script_runner.proofs.Replayed.{few, line_at, split_at}
+use Rattle.script_runner.proofs.RunLines.{run_line}
+use Rattle.script_runner.proofs.Ready.{line_entered, line_off_log}
 use Rattle.script_runner.proofs.replay.Run.lines.Goals as goal
 
 pub overflow_add-n : goal.overflow_add-n
-overflow_add-n c =
+overflow_add-n g c =
     let same = ap length c.lines-lines.ensures ∙ ap (λ (r : RunState). length r.script) c.self.view_is in
     let most = few c.args.self.now.script c.requires.script in
-    omega (arith, same, most, c.loop-l.invariant.0, c.loop-l-test.true)
+    omega (arith, same, most, c.loop-l.invariant.count, c.loop-l-test.true)
 
-pub line-requires-clause-ready : goal.line-requires-clause-ready
-unfolding observe
-line-requires-clause-ready c =
+pub loop-l-init : goal.loop-l-init
+loop-l-init g c = record {
+  count = refl;
+  log = goes_same g.D.Disk.faults g.D.Disk.honest c.args.log.now;
+  runs = runs_same g.D.Disk.faults c.args.log.now c.args.self.now;
+  holds = c.requires.holds;
+  below = c.requires.below;
+  open_at = c.requires.contexts;
+  ran = λ quiet. ap past_of c.requires.start;
+}
+
+pub line-requires-clause-entered : goal.line-requires-clause-entered
+line-requires-clause-entered g c =
     let s = c.args.self.now.script in
-    let T = past_of c.loop-l.self.trace in
     let lines = c.lines-lines.result.now in
     let i = c.loop-l.l-index in
     let l = c.l-item.result in
-    let xs = take i lines in
-    let ys = drop (i + 1) lines in
     let same : lines ≡ s = c.lines-lines.ensures ∙ ap (λ (r : RunState). r.script) c.self.view_is in
-    let here : drop i lines ≡ l ∷ ys = drop_more lines i l c.loop-l-test.true ∙ ap (λ (x : Line). x ∷ ys) (sym c.l-item.is) in
-    let split : s ≡ xs ++ l ∷ ys = sym same ∙ split_at lines i l ys here in
-    let run : is_run_line (past_of xs) l ≡ true = always-here is_run_line s xs ys l split c.requires.run in
-    let local : is_local_trace T ≡ true = plain_local T c.is_plain.ensures.plain in
-    let quiet : is_log_quiet T ≡ true = plain_quiet T c.is_plain.ensures.plain in
+    let stands : kth s (suc i) ≡ Some l = subst (λ (r : List Line). kth r (suc i) ≡ Some l) same (line_at lines i l c.loop-l-test.true c.l-item.is) in
     λ t call gives.
-    let given : call_of s l.body ≡ Some (t, call) = ap (λ (r : List Line). call_of r l.body) (sym c.loop-l.invariant.1) ∙ gives in
-    line_ready s (past_of xs) l.body (observe (history t.value T)) t call given run (c.replay.ensures.fresh s xs ys l T t call split c.requires.script.named c.loop-l.invariant.3 quiet given)
-    (λ v e r x makes. ran_alone s xs ys l T t v e r x split c.loop-l.invariant.3 local run makes)
+    line_entered s (lines_before s (suc i)) l.body (kth s (suc i + 1)) t call (ap (λ (r : List Line). call_of r l.body) (sym c.loop-l.invariant.runs.script) ∙ gives) (run_line s (suc i) l stands c.requires.run)
 
 pub line-requires-clause-unopened : goal.line-requires-clause-unopened
-line-requires-clause-unopened c =
+line-requires-clause-unopened g c =
     let s = c.args.self.now.script in
     let lines = c.lines-lines.result.now in
     let i = c.loop-l.l-index in
@@ -53,31 +50,48 @@ line-requires-clause-unopened c =
     let same : lines ≡ s = c.lines-lines.ensures ∙ ap (λ (r : RunState). r.script) c.self.view_is in
     let here : drop i lines ≡ l ∷ drop (i + 1) lines = drop_more lines i l c.loop-l-test.true ∙ ap (λ (x : Line). x ∷ drop (i + 1) lines) (sym c.l-item.is) in
     let split : s ≡ take i lines ++ l ∷ drop (i + 1) lines = sym same ∙ split_at lines i l (drop (i + 1) lines) here in
-    unopened s (take i lines) (drop (i + 1) lines) l c.loop-l.self.contexts split c.requires.script.named c.loop-l.invariant.2
+    unopened s (take i lines) (drop (i + 1) lines) l c.loop-l.self.contexts split c.requires.script.named c.loop-l.invariant.open_at
 
-pub line-requires-clause-stands : goal.line-requires-clause-stands
-line-requires-clause-stands c =
+pub line-requires-clause-open : goal.line-requires-clause-open
+line-requires-clause-open g c =
     let s = c.args.self.now.script in
     let lines = c.lines-lines.result.now in
     let i = c.loop-l.l-index in
     let same : lines ≡ s = c.lines-lines.ensures ∙ ap (λ (r : RunState). r.script) c.self.view_is in
-    let next : suc i ≡ c.loop-l.n + 1 = omega (arith, c.loop-l.invariant.0) in
-    subst (λ (r : List Line). kth r (c.loop-l.n + 1) ≡ Some c.l-item.result) (sym c.loop-l.invariant.1)
+    let number : i ≡ (c.loop-l.n + 1) - 1 = omega (arith, c.loop-l.invariant.count) in
+    let before : past_of (take i lines) ≡ lines_before c.loop-l.self.script (c.loop-l.n + 1) =
+    ap (λ k. past_of (take k lines)) number ∙ ap (λ (r : List Line). past_of (take ((c.loop-l.n + 1) - 1) r)) (same ∙ sym c.loop-l.invariant.runs.script) in
+    subst (λ (b : List Line). AreOpen c.loop-l.self.contexts b) before c.loop-l.invariant.open_at
+
+pub line-requires-clause-stands : goal.line-requires-clause-stands
+line-requires-clause-stands g c =
+    let s = c.args.self.now.script in
+    let lines = c.lines-lines.result.now in
+    let i = c.loop-l.l-index in
+    let same : lines ≡ s = c.lines-lines.ensures ∙ ap (λ (r : RunState). r.script) c.self.view_is in
+    let next : suc i ≡ c.loop-l.n + 1 = omega (arith, c.loop-l.invariant.count) in
+    subst (λ (r : List Line). kth r (c.loop-l.n + 1) ≡ Some c.l-item.result) (sym c.loop-l.invariant.runs.script)
     (subst (λ (r : List Line). kth r (c.loop-l.n + 1) ≡ Some c.l-item.result) same (ap (kth lines) (sym next) ∙ line_at lines i c.l-item.result c.loop-l-test.true c.l-item.is))
 
 pub loop-l-preserved : goal.loop-l-preserved
-loop-l-preserved c =
+loop-l-preserved g c =
     let s = c.args.self.now.script in
     let lines = c.lines-lines.result.now in
     let i = c.loop-l.l-index in
     let l = c.l-item.result in
     let same : lines ≡ s = c.lines-lines.ensures ∙ ap (λ (r : RunState). r.script) c.self.view_is in
-    let here : drop i lines ≡ l ∷ drop (i + 1) lines = drop_more lines i l c.loop-l-test.true ∙ ap (λ (x : Line). x ∷ drop (i + 1) lines) (sym c.l-item.is) in
-    let split : s ≡ take i lines ++ l ∷ drop (i + 1) lines = sym same ∙ split_at lines i l (drop (i + 1) lines) here in
-    let run : is_run_line (past_of (take i lines)) l ≡ true = always-here is_run_line s (take i lines) (drop (i + 1) lines) l split c.requires.run in (
-      ap (λ n. n + 1) c.loop-l.invariant.0,
-      c.line.ensures.script ∙ c.loop-l.invariant.1,
-      subst (λ (before : List Line). AreOpen c.line.new.self.contexts before) (sym (past_next lines i l c.loop-l-test.true c.l-item.is)) (c.in_ok-line.ensures.scopes (past_of (take i lines)) c.loop-l.invariant.2),
-      lines_more c.args.self.now.script c.loop-l.self.script lines i c.loop-l.n l c.loop-l.self.contexts (past_of c.loop-l.self.trace) (past_of c.line.new.self.trace) c.loop-l-test.true c.l-item.is
-          c.loop-l.invariant.0 c.loop-l.invariant.1 run c.loop-l.invariant.2 c.loop-l.invariant.3 c.in_ok-line.ensures.done,
-    )
+    let stands : kth s (suc i) ≡ Some l = subst (λ (r : List Line). kth r (suc i) ≡ Some l) same (line_at lines i l c.loop-l-test.true c.l-item.is) in
+    let off = line_off_log (lines_before s (suc i)) l.body (kth s (suc i + 1)) (run_line s (suc i) l stands c.requires.run) in
+    let was = c.loop-l.invariant in
+    let did = c.in_ok-line.ensures in
+    let faults = g.D.Disk.faults in record {
+      count = ap (λ n. n + 1) was.count;
+      log = goes_then faults g.D.Disk.honest c.args.log.now c.loop-l.log c.line.new.log was.log c.line.ensures.log;
+      runs = runs_then faults c.args.log.now c.loop-l.log c.line.new.log c.args.self.now c.loop-l.self c.line.new.self was.log.grows c.line.ensures.log.grows was.runs did.runs;
+      holds = did.holds;
+      below = did.entered;
+      open_at = subst (λ (before : List Line). AreOpen c.line.new.self.contexts before) (sym (past_next lines i l c.loop-l-test.true c.l-item.is)) (did.scopes (past_of (take i lines)) was.open_at);
+      ran = λ quiet.
+          lines_more s c.loop-l.self.script lines i c.loop-l.n l c.loop-l.self.contexts (past_of c.loop-l.self.trace) (past_of c.line.new.self.trace) c.loop-l-test.true c.l-item.is
+              was.count was.runs.script off was.open_at (was.ran (did.runs.back quiet)) (did.done quiet);
+    }

@@ -1,10 +1,17 @@
-use Rattle.std.proofs.Common.{ap, length, ◌∙◌}
+use Rattle.std.proofs.Common.{◌≡◌, List, true, ap, length, sym, subst, ◌∙◌}
 use Rattle.std.proofs.lemmas.List.{length-replicate}
+use Rattle.dtx_values.specs.declared.script.Line.{Line}
+use Rattle.dtx_model.specs.Grammar.{are_named_well}
 use Rattle.scope_context.specs.Standing.{Standing}
+use Rattle.tx_world.specs.State.{TxState}
+use Rattle.script_runner.specs.RunState.{AreNumbered}
 use Rattle.script_runner.specs.Scoped.{nothing_open}
-use Rattle.script_runner.proofs.Ties.{tied_none}
+use Rattle.script_runner.proofs.Numbered.{numbered_none}
 use Rattle.script_runner.proofs.replay.Run.new.Goals as goal
 
 pub invariant_of-result : goal.invariant_of-result
-invariant_of-result c =
-    (rw (c.new-2.ensures.items, c.new-4.ensures.items, c.in_ok-new.ensures) (tied_none _ c.requires), ap length c.in_ok-contexts.ensures ∙ length-replicate {A = Standing} 16 nothing_open)
+invariant_of-result c = (
+  subst (λ (ws : List TxState). AreNumbered ws) (sym c.new-2.ensures.items) numbered_none,
+  ap length c.in_ok-contexts.ensures ∙ length-replicate {A = Standing} 16 nothing_open,
+  subst (λ (ls : List Line). are_named_well ls ≡ true) (sym c.in_ok-new.ensures) c.requires,
+)

@@ -1,0 +1,78 @@
+-- What is written at an actor's context leaves the transactions and the log alone; and what a scope line does.
+use Rattle.std.proofs.Common.{◌≡◌, ℕ, Bool, true, List, Some, slice_get, ap, inl, refl, sym, subst, ◌∙◌}
+use Rattle.dtx_values.specs.declared.call.Call.{Call}
+use Rattle.dtx_values.specs.declared.entry.Entry.{Entry}
+use Rattle.dtx_values.specs.declared.number.ActorNo.{ActorNo}
+use Rattle.dtx_values.specs.declared.number.TxNo.{TxNo}
+use Rattle.dtx_values.specs.declared.scope.OpenScope.{OpenScope}
+use Rattle.dtx_values.specs.declared.script.Line.{Line}
+use Rattle.dtx_model.specs.Words.{kth, onto, past_of}
+use Rattle.dtx_model.specs.Caused.{IsCallOf, IsIn}
+use Rattle.dtx_model.specs.Contexts.{lines_before, scope_block, scope_calls}
+use Rattle.dtx_model.specs.Replay.{after_calls, after_scope}
+use Rattle.dtx_model.specs.Traces.{Placed, history, noted}
+use Rattle.dtx_model.proofs.Histories.{history-noted}
+use Rattle.coordinator_log.specs.Slots.{open_records}
+use Rattle.coordinator_log.specs.State.{LogState}
+use Rattle.outcome_law.specs.LogQuiet.{is_log_quiet}
+use Rattle.outcome_law.proofs.ReplayTurns.{noted_quiet, quiet_before}
+use Rattle.outcome_law.proofs.Replays.{scope_call_of}
+use Rattle.scope_context.specs.Standing.{Standing}
+use Rattle.tx_world.specs.AtLog.{Fits}
+use Rattle.tx_world.specs.State.{TxState}
+use Rattle.script_runner.specs.RunState.{Holds, IsCalm, IsQuiet, IsTied, RunState, Runs, state_of}
+use Rattle.script_runner.specs.Scoped.{AreOpen, scopes_at}
+
+-- the trace has this block of entries at an actor's context more, and the transactions and the script are the same
+pub record IsNoted (a : ActorNo) (es : List Entry) (old new : RunState) : Type 0 where
+  pub script : new.script ≡ old.script
+  pub worlds : new.worlds ≡ old.worlds
+  pub block : past_of new.trace ≡ onto (past_of old.trace) (noted a es)
+
+noted_back : (a : ActorNo) (es : List Entry) (old new : RunState) → IsNoted a es old new → IsQuiet new → IsQuiet old
+noted_back a es old new n q = quiet_before (past_of old.trace) (noted a es) (subst (λ (T : List Placed). is_log_quiet T ≡ true) n.block q)
+
+pub noted_runs : {D : Type 0} (faults : D → ℕ) (log : LogState D) (a : ActorNo) (es : List Entry) (old new : RunState) → IsNoted a es old new → Runs faults log log old new
+noted_runs faults log a es old new n =
+    record {
+      script = n.script;
+      back = λ q. noted_back a es old new n q;
+      forth = λ q. inl (subst (λ (T : List Placed). is_log_quiet T ≡ true) (sym n.block) (noted_quiet a es (past_of old.trace) q));
+    }
+
+noted_tied : (a : ActorNo) (es : List Entry) (old new : RunState) (t : TxNo) → IsNoted a es old new → IsTied old.script t (past_of old.trace) (state_of t old.worlds)
+    → IsTied new.script t (past_of new.trace) (state_of t new.worlds)
+noted_tied a es old new t n k =
+    let same : state_of t new.worlds ≡ state_of t old.worlds = ap (λ (ws : List TxState). state_of t ws) n.worlds in
+    let here : history t.value (past_of new.trace) ≡ history t.value (past_of old.trace) =
+    ap (λ (T : List Placed). history t.value T) n.block ∙ history-noted t.value a (past_of old.trace) es in
+    record {
+      past = ap (λ (x : TxState). x.world.past) same ∙ k.past ∙ sym here;
+      given = λ m b c i. subst (λ (s : List Line). IsCallOf s t.value m b c) (sym n.script) (k.given m b c (subst (λ (x : TxState). IsIn x.world.calls m b c) same i));
+    }
+
+pub noted_holds : {D : Type 0} (honest : Bool) (log : LogState D) (a : ActorNo) (es : List Entry) (old new : RunState) → IsNoted a es old new → Holds honest log old → Holds honest log new
+noted_holds honest log a es old new n h =
+    let same : (t : TxNo) → state_of t old.worlds ≡ state_of t new.worlds = λ t. ap (λ (ws : List TxState). state_of t ws) (sym n.worlds) in
+    record {
+      tied = λ t. noted_tied a es old new t n (h.tied t);
+      unarmed = h.unarmed;
+      fits = λ hon up t. subst (λ (x : TxState). Fits x (open_records log.slots)) (same t) (h.fits hon up t);
+      up = λ q. h.up (noted_back a es old new n q);
+      calm = λ q t.
+          subst (λ (s : List Line). IsCalm s log.life (state_of t new.worlds)) (sym n.script)
+          (subst (λ (x : TxState). IsCalm old.script log.life x) (same t) (h.calm (noted_back a es old new n q) t));
+    }
+
+-- So a scope line did what it writes at its context and then these calls.
+pub scope_did : (s : List Line) (n : ℕ) (l : Line) (xs : List OpenScope) (cs : List (TxNo × Call)) (start noted_at end : List Placed) → cs ≡ scope_calls l.body xs
+    → noted_at ≡ onto start (noted l.actor (scope_block n l.actor l.body xs)) → end ≡ after_calls s n l.actor cs noted_at → end ≡ after_scope s n l xs start
+scope_did s n l xs cs start noted_at end given block did =
+    did ∙ ap (λ (ds : List (TxNo × Call)). after_calls s n l.actor ds noted_at) given ∙ ap (λ (T : List Placed). after_calls s n l.actor (scope_calls l.body xs) T) block
+
+-- and each of these calls is one that the script gives
+pub scope_gives : (s : List Line) (n : ℕ) (l : Line) (contexts : List Standing) (cs : List (TxNo × Call)) (i : ℕ) (t : TxNo) (c : Call) → kth s n ≡ Some l → AreOpen contexts (lines_before s n)
+    → cs ≡ scope_calls l.body (scopes_at l.actor contexts) → slice_get cs i ≡ Some (t, c) → IsCallOf s t.value n l.actor c
+scope_gives s n l contexts cs i t c stands open_at given here =
+    scope_call_of s (lines_before s n) l n i t c stands refl
+    (subst (λ (xs : List OpenScope). slice_get (scope_calls l.body xs) i ≡ Some (t, c)) (open_at l.actor) (subst (λ (ds : List (TxNo × Call)). slice_get ds i ≡ Some (t, c)) given here))

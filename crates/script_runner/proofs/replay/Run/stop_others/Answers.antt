@@ -1,0 +1,65 @@
+use Rattle.std.proofs.Common.{◌≡◌, ◌≢◌, ◌≤◌, ◌+◌, ◌-◌, ◌∙◌, ℕ, Option, ap, arith, get_or, length, set, subst, sym}
+use Rattle.std.specs.Prelude.{IfSome}
+use Rattle.dtx_values.specs.declared.number.TxNo.{TxNo}
+use Rattle.dtx_model.specs.Words.{onto, past_of}
+use Rattle.dtx_model.specs.World.{World}
+use Rattle.tx_world.specs.State.{is_hit_by}
+use Rattle.script_runner.specs.RunState.{IsTied, RunState, state_of}
+use Rattle.script_runner.proofs.Halting.{AreAlike, AreHalted, alike_set, halted_next, hit_calls, hit_past, stop_entries}
+use Rattle.script_runner.proofs.Noting.{as_long, grown}
+use Rattle.script_runner.proofs.replay.Run.stop_others.Goals as goal
+
+pub note-requires : goal.note-requires
+note-requires c =
+    let x = c.index_mut-world.result.now in
+    let hit = is_hit_by c.args.life x in
+    grown c.history-from.result.now x.world.past c.coordinator_stopped.new.self.world.past (stop_entries hit) c.history-from.ensures
+    (ap (λ (w : World). w.past) c.in_ok-coordinator_stopped.ensures.world ∙ hit_past hit x.transaction.value x.world)
+
+pub returns-in_err-note-clause-calls : goal.returns-in_err-note-clause-calls
+returns-in_err-note-clause-calls c =
+    let x = c.index_mut-world.result.now in
+    let y = c.coordinator_stopped.new.self in
+    let u = c.unwrap-u.result in
+    let ws = c.self.inside.worlds.items in
+    let vs = c.loop-place.self-inside.worlds.items in
+    let value : u.value ≡ c.loop-place.place + 1 = subst (λ (o : Option TxNo). IfSome o (λ x. x.value ≡ c.loop-place.place + 1)) c.unwrap-u.ensures c.new.ensures.value in
+    let at : u.value - 1 ≡ c.loop-place.place = omega (arith, value) in
+    let made : u.value ≤ length vs = omega (arith, at, u.in_range.0, c.loop-place-test.true, c.len-place-end.ensures, c.loop-place.invariant.alike.long) in
+    let there : x ≡ get_or vs (u.value - 1) x = subst (λ (i : ℕ). x ≡ get_or vs i x) (sym at) c.index_mut-world.ensures.value in
+    let other : c.args.t ≢ u = λ e. c.if-place-index.false (omega (arith, ap (λ (v : TxNo). v.value) e, at, u.in_range.0, c.index.ensures.place)) in
+    let calls : y.world.calls ≡ x.world.calls = ap (λ (w : World). w.calls) c.in_ok-coordinator_stopped.ensures.world ∙ hit_calls (is_hit_by c.args.life x) x.transaction.value x.world in
+    let alike : AreAlike c.args.t ws (set vs c.loop-place.place y) =
+    subst (λ (i : ℕ). AreAlike c.args.t ws (set vs i y)) at (alike_set c.args.t u ws vs x y c.loop-place.invariant.alike made other there c.coordinator_stopped.ensures.transaction calls) in
+    λ v. alike.calls v ∙ ap (λ (r : RunState). (state_of v r.worlds).world.calls) c.self.view_is
+
+pub loop-place-preserved : goal.loop-place-preserved
+loop-place-preserved c =
+    let x = c.index_mut-world.result.now in
+    let y = c.coordinator_stopped.new.self in
+    let u = c.unwrap-u.result in
+    let ws = c.self.inside.worlds.items in
+    let vs = c.loop-place.self-inside.worlds.items in
+    let hit = is_hit_by c.args.life x in
+    let value : u.value ≡ c.loop-place.place + 1 = subst (λ (o : Option TxNo). IfSome o (λ x. x.value ≡ c.loop-place.place + 1)) c.unwrap-u.ensures c.new.ensures.value in
+    let at : u.value - 1 ≡ c.loop-place.place = omega (arith, value) in
+    let made : u.value ≤ length vs = omega (arith, at, u.in_range.0, c.loop-place-test.true, c.len-place-end.ensures, c.loop-place.invariant.alike.long) in
+    let there : x ≡ get_or vs (u.value - 1) x = subst (λ (i : ℕ). x ≡ get_or vs i x) (sym at) c.index_mut-world.ensures.value in
+    let other : c.args.t ≢ u = λ e. c.if-place-index.false (omega (arith, ap (λ (v : TxNo). v.value) e, at, u.in_range.0, c.index.ensures.place)) in
+    let world = c.in_ok-coordinator_stopped.ensures.world in
+    let calls : y.world.calls ≡ x.world.calls = ap (λ (w : World). w.calls) world ∙ hit_calls hit x.transaction.value x.world in
+    let past : y.world.past ≡ onto x.world.past (stop_entries hit) = ap (λ (w : World). w.past) world ∙ hit_past hit x.transaction.value x.world in
+    let noted = c.in_ok-note.ensures x.world.past (stop_entries hit) (sym (as_long c.history-from.result.now x.world.past c.history-from.ensures)) past in
+    record {
+      plans = c.loop-place.invariant.plans;
+      contexts = c.loop-place.invariant.contexts;
+      alike = subst (λ (i : ℕ). AreAlike c.args.t ws (set vs i y)) at (alike_set c.args.t u ws vs x y c.loop-place.invariant.alike made other there c.coordinator_stopped.ensures.transaction calls);
+      halted =
+          subst (λ (i : ℕ). AreHalted c.self.inside.plans ws (set vs i y) c.self.inside.trace.items c.note.new.trace.items) at
+          (halted_next c.self.inside.plans ws vs c.self.inside.trace.items c.loop-place.self-inside.trace.items c.note.new.trace.items u x y c.args.life c.loop-place.invariant.halted made there world noted);
+    }
+
+pub returns-clause-tied : goal.returns-clause-tied
+returns-clause-tied c =
+    subst (λ (r : RunState). ((u : TxNo) → IsTied r.script u (past_of r.trace) (state_of u r.worlds)) → (u : TxNo) → IsTied r.script u (past_of c.loop-place.self-inside.trace.items) (state_of u c.loop-place.self-inside.worlds.items))
+    c.self.view_is c.loop-place.invariant.halted.tied
