@@ -1,5 +1,5 @@
 -- What comes on a connection is written: the connections carry the history with it.
-use Rattle.std.proofs.Common.{◌≡◌, true, false, List, ◌∷◌, Option, Some, None, IfSome, refl, ap, sym, ◌∙◌, subst}
+use Rattle.std.proofs.Common.{◌≡◌, true, List, ◌∷◌, Option, Some, None, IfSome, refl, subst}
 use Rattle.dtx_values.specs.declared.entry.Entry.{Entry}
 use Rattle.dtx_values.specs.declared.entry.Entry.TheVariants.{Down as Ended, Got}
 use Rattle.dtx_values.specs.declared.message.Conn.{Conn}

@@ -1,29 +1,25 @@
 -- The coordinator's act at the log, and what an opening of the log says to it: what is written then is the block of its step, and the world is the one after it.
-use Rattle.std.proofs.Common.{◌≡◌, ◌⊎◌, ◌&&◌, ◌||◌, ◌++◌, ◌∙◌, inl, inr, ℕ, Bool, true, false, not, List, [], ◌∷◌, Option, refl, ap, sym, subst, is_some, if◌then◌else◌}
-use Rattle.std.proofs.lemmas.Bool.{cond-false}
+use Rattle.std.proofs.Common.{◌≡◌, ◌⊎◌, ◌&&◌, ◌∙◌, inl, inr, ℕ, Bool, true, false, not, List, [], ◌∷◌, refl, ap, sym, subst, if◌then◌else◌}
 use Rattle.dtx_values.specs.declared.entry.Entry.{Entry}
 use Rattle.dtx_values.specs.declared.entry.Entry.TheVariants.{Freed, Logged, LogFull, Restarted, Sent, Stopped}
 use Rattle.dtx_values.specs.declared.message.Conn.TheVariants.{Begin, Voter, Enl, Again}
 use Rattle.dtx_values.specs.declared.message.Dir.TheVariants.{Up, Down}
 use Rattle.dtx_values.specs.declared.number.TxNo.{TxNo}
-use Rattle.dtx_values.specs.Outgoing.{Outgoing, blank, written as put_out}
+use Rattle.dtx_values.specs.Outgoing.{Outgoing}
 use Rattle.dtx_model.specs.Words.{each, has, onto}
 use Rattle.dtx_model.specs.Observed.{track}
 use Rattle.dtx_model.specs.Promotes.{identifier_of}
 use Rattle.dtx_model.specs.Coordinated.{Coordinated, abort_sends, commit_sends, follow, follow_all, may_free, may_log, stopped_after}
 use Rattle.dtx_model.specs.Half.{Half, heeds, heeds_all}
-use Rattle.dtx_model.specs.Wires.{is_stopped}
 use Rattle.dtx_model.specs.World.{World, core}
 use Rattle.dtx_model.specs.Steps.{LogAnswer, Done, Full, StoppedNow, StoppedBefore, Coordinates, Restarts, Stops, after, appended, block_at, coordinates, freed, restarted}
 use Rattle.dtx_model.specs.Caused.{is_begin_sent, is_full_answer, may_coordinate}
-use Rattle.dtx_model.specs.declared.waiting.EnteredCall.{EnteredCall}
 use Rattle.dtx_model.proofs.Bools.{and_left, and_right, or_case, or_false}
 use Rattle.outcome_law.proofs.Scans.{each_more}
 use Rattle.local_half.specs.Half.{Known}
 use Rattle.coordinator_core.specs.Kept.{Kept as CoreKept}
-use Rattle.coordinator_core.proofs.Following.{follow_all-append}
 use Rattle.coordinator_log.specs.State.{LogState}
-use Rattle.tx_world.specs.State.{TxState, sends_begin}
+use Rattle.tx_world.specs.State.{sends_begin}
 use Rattle.tx_world.specs.AtLog.{Acts, IsOurs, Kept as LogKept}
 use Rattle.tx_world.specs.Carried.{are_sendable}
 use Rattle.tx_world.specs.Course.{is_far, is_written}
@@ -33,8 +29,7 @@ use Rattle.tx_world.proofs.Begun.{may_write}
 use Rattle.tx_world.proofs.Far.{far_abort, far_commit}
 use Rattle.tx_world.proofs.Keeping.{runs_still, runs_then}
 use Rattle.tx_world.proofs.Living.{seen_as}
-use Rattle.tx_world.proofs.Onward.{core_is, core_transaction, step_kept}
-use Rattle.tx_world.proofs.Written.{block_of, stopped_is}
+use Rattle.tx_world.proofs.Onward.{core_is, step_kept}
 
 -- what the coordinator writes of its act where it doesn't stop
 abbrev pub is_said : Entry → Bool

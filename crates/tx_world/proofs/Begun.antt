@@ -1,15 +1,14 @@
 -- The coordinator knows of a transaction, and stops, only once BEGIN was sent; and BEGIN is sent once. So where it is sent, the coordinator isn't stopped. And what the block of
 -- a step sends may be sent.
-use Rattle.std.proofs.Common.{◌≡◌, ◌≤◌, ◌<◌, ℕ, zero, suc, ◌+◌, Bool, true, false, ◌&&◌, ◌||◌, not, List, [], ◌∷◌, ◌++◌, map, Option, Some, None, find, refl, ap, sym, subst, ◌∙◌, ◌⊎◌, inl, inr, arith, if◌then◌else◌}
+use Rattle.std.proofs.Common.{◌≡◌, ◌≤◌, ℕ, suc, ◌+◌, Bool, true, false, ◌&&◌, ◌||◌, not, List, [], ◌∷◌, find, refl, ap, sym, subst, ◌∙◌, ◌⊎◌, inl, inr, arith, if◌then◌else◌}
 use Rattle.std.proofs.lemmas.Bool.{cases_Bool, or_left}
 use Rattle.dtx_values.specs.declared.call.Call.{Call}
 use Rattle.dtx_values.specs.declared.call.Call.TheVariants.{Lose, Gone, Reenlist, Recovered}
 use Rattle.dtx_values.specs.declared.entry.Answer.{Answer}
 use Rattle.dtx_values.specs.declared.entry.Entry.{Entry}
-use Rattle.dtx_values.specs.declared.entry.Entry.TheVariants.{Called, Cut, Down as Ended, Freed, Got, LogFull, Logged, Lost as LostEntry, Recovered as RecoveredEntry, Restarted, Sent, Stopped}
+use Rattle.dtx_values.specs.declared.entry.Entry.TheVariants.{Called, Down as Ended, Freed, Got, Logged, Lost as LostEntry, Recovered as RecoveredEntry, Restarted, Sent, Stopped}
 use Rattle.dtx_values.specs.declared.message.Conn.{Conn}
 use Rattle.dtx_values.specs.declared.message.Conn.TheVariants.{Begin, Voter, Enl, Again}
-use Rattle.dtx_values.specs.declared.message.Dir.{Dir}
 use Rattle.dtx_values.specs.declared.message.Dir.TheVariants.{Up, Down}
 use Rattle.dtx_values.specs.declared.message.Message.{Message}
 use Rattle.dtx_values.specs.declared.message.Message.TheVariants.{BeginBegin}
@@ -18,25 +17,22 @@ use Rattle.dtx_values.specs.declared.number.EnlNo.{EnlNo}
 use Rattle.dtx_values.specs.declared.number.TxNo.{TxNo}
 use Rattle.dtx_values.specs.Table.{how_many}
 use Rattle.dtx_model.specs.declared.desk.Stage.{Stage}
-use Rattle.dtx_model.specs.declared.desk.Stage.TheVariants.{Idle, Active, Aborted, Recorded, Over, Unknown}
+use Rattle.dtx_model.specs.declared.desk.Stage.TheVariants.{Aborted}
 use Rattle.dtx_model.specs.Words.{each, has, onto}
-use Rattle.dtx_model.specs.Acts.{act_entries}
 use Rattle.dtx_model.specs.Observed.{is_branch}
 use Rattle.dtx_model.specs.Promotes.{identifier_of}
-use Rattle.dtx_model.specs.Coordinated.{Coordinated, abort_if, aborts, core_down, core_got, coordinate, follow, follow_all, is_active, is_finished, is_prepared, is_ready, is_recorded, is_undecided, may_free, may_log}
-use Rattle.dtx_model.specs.Facts.{facts_if, has_facts, local_facts}
-use Rattle.dtx_model.specs.Replies.{reply_entries}
-use Rattle.dtx_model.specs.Wires.{in_transit, opens, same_connection, same_direction}
+use Rattle.dtx_model.specs.Coordinated.{Coordinated, aborts, coordinate, follow, follow_all, is_active, is_finished, is_prepared, is_ready, is_recorded, is_undecided, may_free, may_log}
+use Rattle.dtx_model.specs.Facts.{facts_if, has_facts}
+use Rattle.dtx_model.specs.Wires.{in_transit, opens}
 use Rattle.dtx_model.specs.World.{World, half, core, answer_at, cut, cut_upward, facts_at, gone_by, open_ones}
 use Rattle.dtx_model.specs.Steps.{Step, Calls, Replies, Acts, Coordinates, Delivers, Stops, Restarts, LogAnswer, after, block_at, delivered, entered}
 use Rattle.dtx_model.specs.Caused.{AreMadeOnce, IsIn, IsOwnRun, MayCome, Ran, is_begin_sent, is_full_answer, may_coordinate}
-use Rattle.dtx_model.proofs.Bools.{and_left, and_right, not_both, not_true, or_case, or_right}
+use Rattle.dtx_model.proofs.Bools.{and_left, and_right, not_both, or_case, or_right}
 use Rattle.dtx_model.proofs.Heeding.{core_behind}
 use Rattle.dtx_model.proofs.Reading.{has-onto}
 use Rattle.outcome_law.proofs.Crossed.{came}
 use Rattle.outcome_law.proofs.Scans.{each_more, has_more}
 use Rattle.outcome_law.proofs.Whole.{is_sent_on}
-use Rattle.tx_world.specs.State.{sends_begin}
 use Rattle.tx_world.specs.Carried.{are_sendable}
 use Rattle.tx_world.specs.Course.{is_far, is_near}
 use Rattle.tx_world.proofs.Blocks.{Each, e_cons, e_map, e_none, e_one}

@@ -1,5 +1,5 @@
 -- What a call that the local side answers alone writes and leaves; and that it is ready to be written.
-use Rattle.std.proofs.Common.{◌≡◌, ◌≢◌, ◌∙◌, ℕ, Bool, true, false, List, [], ◌∷◌, ◌++◌, Option, Some, None, refl, ap, subst, sym}
+use Rattle.std.proofs.Common.{◌≡◌, ◌≢◌, ◌∙◌, ℕ, Bool, true, false, List, [], ◌∷◌, ◌++◌, Option, Some, None, refl, ap, sym}
 use Rattle.dtx_values.specs.Outgoing.{Outgoing, blank, written as put_out}
 use Rattle.dtx_values.specs.declared.call.Call.{Call}
 use Rattle.dtx_values.specs.declared.call.Call.TheVariants.{Durable, Promotable, Await, Do, Lose, Gone, Reenlist, Recovered}
@@ -14,14 +14,14 @@ use Rattle.dtx_values.specs.declared.number.TxNo.{TxNo}
 use Rattle.dtx_values.specs.declared.words.Outcome.{Outcome}
 use Rattle.dtx_model.specs.Observed.{track}
 use Rattle.dtx_model.specs.Answers.{await_answer, gone_answer, if_begun, local_answer}
-use Rattle.dtx_model.specs.Facts.{call_entries, facts_if, has_facts, local_facts}
+use Rattle.dtx_model.specs.Facts.{call_entries, facts_if, has_facts}
 use Rattle.dtx_model.specs.Half.{Half, heeds, heeds_all, is_gone, sees, stands}
 use Rattle.dtx_model.specs.declared.waiting.EnteredCall.{EnteredCall}
 use Rattle.dtx_model.specs.Waiting.{managed_by}
 use Rattle.dtx_model.specs.Words.{each, past_of}
 use Rattle.dtx_model.specs.World.{World, half, answer_at, facts_at, gone_by, gone_unlinked, open_ones}
-use Rattle.dtx_model.specs.Steps.{Step, Calls, after, block_at, entered}
-use Rattle.dtx_model.specs.Caused.{AreMadeOnce, IsIn, MayAnswer, MayCome}
+use Rattle.dtx_model.specs.Steps.{Calls, block_at, entered}
+use Rattle.dtx_model.specs.Caused.{IsIn, MayAnswer, MayCome}
 use Rattle.dtx_values.specs.declared.message.Conn.{Conn}
 use Rattle.dtx_model.specs.Outcome.{is_empty}
 use Rattle.dtx_model.proofs.Heeding.{heeds_all_same}

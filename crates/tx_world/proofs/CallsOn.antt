@@ -1,5 +1,5 @@
 -- A call that the local side answers, in a world that holds.
-use Rattle.std.proofs.Common.{◌≡◌, ℕ, Bool, true, false, ◌&&◌, not, List, [], ◌∷◌, Result, Ok, Err, IfOk, refl, ap, sym, subst, ◌∙◌}
+use Rattle.std.proofs.Common.{◌≡◌, ℕ, Bool, true, false, List, [], ◌∷◌, Result, Ok, Err, IfOk, refl, ap, sym, ◌∙◌}
 use Rattle.dtx_values.specs.Outgoing.{Outgoing, blank, written as put_out}
 use Rattle.dtx_values.specs.declared.call.Call.{Call}
 use Rattle.dtx_values.specs.declared.call.Call.TheVariants.{Await, Do, Lose, Gone, Reenlist, Recovered}

@@ -1,5 +1,5 @@
 -- The connections carry the history with one more entry that is written: a message that may be sent, or an entry that has nothing to do with connections.
-use Rattle.std.proofs.Common.{◌≡◌, ℕ, ◌+◌, zero, suc, Bool, true, false, ◌&&◌, ◌||◌, not, List, [], ◌∷◌, ◌++◌, length, take, drop, Option, Some, None, Result, Ok, Err, IfErr, IfSome, IsErrOf, OnOk, ◌⊎◌, ◌↔◌, ◌<◌, is_some, if◌then◌else◌, refl, ap, sym, ◌∙◌, subst, inl, inr, cond, arith}
+use Rattle.std.proofs.Common.{◌≡◌, ℕ, ◌+◌, Bool, true, false, ◌&&◌, ◌||◌, not, List, [], ◌∷◌, ◌++◌, take, drop, Option, Some, None, Result, Ok, Err, IfErr, IsErrOf, OnOk, ◌⊎◌, ◌↔◌, ◌<◌, is_some, if◌then◌else◌, refl, ap, sym, ◌∙◌, subst, inl, inr, arith}
 use Rattle.std.proofs.lemmas.Bool.{cond-false, cond-true}
 use Rattle.std.proofs.lemmas.List.{take-append-drop}
 use Rattle.std.proofs.lemmas.List.Folds.{list_all-append}
@@ -13,7 +13,7 @@ use Rattle.dtx_values.specs.declared.message.Message.{Message}
 use Rattle.dtx_values.specs.Lines.{has_line}
 use Rattle.dtx_model.specs.Frames.{is_valid}
 use Rattle.dtx_model.specs.Words.{always, each, onto}
-use Rattle.dtx_model.specs.Wires.{MayCross, WireRun, is_ended, is_stopped, in_transit, loses, lost_after, lost_since, is_opening, opens, same_connection}
+use Rattle.dtx_model.specs.Wires.{MayCross, is_ended, is_stopped, in_transit, loses, lost_after, lost_since, is_opening, opens, same_connection}
 use Rattle.dtx_model.specs.World.{is_linked}
 use Rattle.dtx_model.proofs.Bools.{and_both, and_left, and_right, not_both, not_true}
 use Rattle.dtx_model.proofs.Histories.{onto-append}
@@ -22,7 +22,7 @@ use Rattle.oletx_session.specs.declared.refusal.SessionRefusal.{SessionRefusal}
 use Rattle.oletx_session.specs.declared.refusal.SessionRefusal.TheVariants.{Memory, NotOpen, Taken}
 use Rattle.oletx_session.specs.Traffic.{Spells, Wire, is_taken, lane, may_send, opposite, wire_of}
 use Rattle.oletx_session.proofs.Conns.{same_self}
-use Rattle.oletx_session.specs.Carries.{Carries, IsLane, IsWire}
+use Rattle.oletx_session.specs.Carries.{Carries, IsWire}
 use Rattle.tx_world.specs.Carried.{are_sendable, is_sendable}
 use Rattle.tx_world.specs.Course.{IsOpened, is_written}
 

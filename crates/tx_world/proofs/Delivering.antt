@@ -1,14 +1,12 @@
 -- What comes on a connection: it has a line, there is room for it, and what it makes is the block of its delivery.
-use Rattle.std.proofs.Common.{◌≡◌, ℕ, Bool, true, false, ◌&&◌, ◌||◌, not, List, [], ◌∷◌, ◌++◌, ◌↔◌, Option, Some, None, refl, ap, sym, subst, ◌∙◌}
+use Rattle.std.proofs.Common.{◌≡◌, ℕ, Bool, true, false, ◌&&◌, not, List, [], ◌∷◌, ◌++◌, ◌↔◌, Some, None, refl, ap, sym, subst, ◌∙◌}
 use Rattle.std.proofs.lemmas.Bool.{or_left}
-use Rattle.dtx_values.specs.declared.call.Call.{Call}
 use Rattle.dtx_values.specs.declared.entry.Entry.{Entry}
 use Rattle.dtx_values.specs.declared.entry.Entry.TheVariants.{Down as Ended, Got, Sent}
 use Rattle.dtx_values.specs.declared.message.Conn.{Conn}
 use Rattle.dtx_values.specs.declared.message.Dir.{Dir}
 use Rattle.dtx_values.specs.declared.message.Dir.TheVariants.{Up, Down}
 use Rattle.dtx_values.specs.declared.message.Message.{Message}
-use Rattle.dtx_values.specs.declared.number.ActorNo.{ActorNo}
 use Rattle.dtx_values.specs.declared.number.TxNo.{TxNo}
 use Rattle.dtx_values.specs.Lines.{has_line}
 use Rattle.dtx_values.specs.Outgoing.{Outgoing, blank, written as put_out}
@@ -22,7 +20,7 @@ use Rattle.dtx_model.specs.Half.{Half, heeds, heeds_all}
 use Rattle.dtx_model.specs.Wires.{MayCross, is_ended, is_lost_wire, is_next, is_stopped, in_transit, same_connection, same_direction}
 use Rattle.dtx_model.specs.World.{World, half, core, has_left}
 use Rattle.dtx_model.specs.Steps.{Delivers, after, block_at, delivered}
-use Rattle.dtx_model.specs.Caused.{IsIn, IsOwnRun, Ran, is_begin_sent}
+use Rattle.dtx_model.specs.Caused.{IsIn, IsOwnRun, is_begin_sent}
 use Rattle.dtx_model.proofs.Bools.{and_left, and_right, not_both, not_false, not_true, or_case, or_false}
 use Rattle.dtx_model.proofs.Heeding.{coordinate-onto}
 use Rattle.dtx_model.proofs.Histories.{onto-append}

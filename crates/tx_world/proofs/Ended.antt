@@ -1,8 +1,8 @@
 -- The connections of a history, and what the session keeps of them: an end that was seen is that of a lost connection; and what is open, free or left to deliver by the
 -- history is so there.
-use Rattle.std.proofs.Common.{◌≡◌, ℕ, zero, suc, take, Bool, true, false, ◌&&◌, ◌||◌, not, List, [], ◌∷◌, ◌++◌, Option, Some, None, is_some, refl, ap, sym, ◌∙◌, subst, inl, inr, cond, if◌then◌else◌}
+use Rattle.std.proofs.Common.{◌≡◌, ℕ, zero, suc, take, Bool, true, false, ◌&&◌, ◌||◌, not, List, [], ◌∷◌, Option, Some, None, is_some, refl, ap, sym, ◌∙◌, cond, if◌then◌else◌}
 use Rattle.std.specs.List.{flat_map}
-use Rattle.std.proofs.lemmas.Bool.{cases_Bool, cond-false, cond-true, or_left}
+use Rattle.std.proofs.lemmas.Bool.{cond-false, cond-true, or_left}
 use Rattle.dtx_values.specs.declared.entry.Entry.{Entry}
 use Rattle.dtx_values.specs.declared.entry.Entry.TheVariants.{Cut, Down as End, Got, Sent, Stopped}
 use Rattle.dtx_values.specs.declared.message.Conn.{Conn}
@@ -13,11 +13,11 @@ use Rattle.dtx_values.specs.Lines.{has_line}
 use Rattle.dtx_model.specs.Frames.{frame_of}
 use Rattle.dtx_model.specs.Outcome.{is_empty}
 use Rattle.dtx_model.specs.Wires.{MayCross, WireRun, begins_ended, ended_after, ends, holds, is_ended, is_kept, is_lost_wire, is_open_wire, is_stopped, in_transit, kept, loses, lost_after, lost_since, opened_with, opens, same_connection, same_direction, sent_behind, transit_after, transit_after_stop, without_first}
-use Rattle.dtx_model.specs.World.{has_left, is_linked, was_opened}
-use Rattle.dtx_model.proofs.Bools.{and_left, and_right, not_both, not_true, or_case, or_false, or_first, or_right, or_second}
-use Rattle.oletx_session.specs.Traffic.{Spells, Wire, has_left as is_left_on, is_open, is_taken, lane, may_send, opposite, wire_of}
+use Rattle.dtx_model.specs.World.{has_left, is_linked}
+use Rattle.dtx_model.proofs.Bools.{and_left, and_right, not_both, or_case, or_false, or_first, or_right, or_second}
+use Rattle.oletx_session.specs.Traffic.{Wire, has_left as is_left_on, is_open, is_taken, lane, may_send, opposite, wire_of}
 use Rattle.oletx_session.specs.Carries.{Carries, IsLane, IsWire}
-use Rattle.oletx_session.proofs.Conns.{same_is, same_self}
+use Rattle.oletx_session.proofs.Conns.{same_is}
 use Rattle.oletx_session.proofs.Views.{frame_full}
 
 -- whether it is lost, where the history says so

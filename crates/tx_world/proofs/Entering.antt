@@ -1,18 +1,18 @@
 -- A call that may be entered is new to the history: its line didn't come, and what it makes neither stands nor is waited for.
-use Rattle.std.proofs.Common.{◌≡◌, ℕ, zero, suc, ◌==◌, Bool, true, false, ◌&&◌, ◌||◌, not, List, [], ◌∷◌, Option, Some, None, find, map, slice_get, ◌⊎◌, inl, inr, is_some, refl, ap, sym, subst, ◌∙◌, if◌then◌else◌, arith}
-use Rattle.std.proofs.lemmas.Bool.{cases_Bool, eqb-true, false_from_ne_true, or_left}
+use Rattle.std.proofs.Common.{◌≡◌, ℕ, zero, suc, ◌==◌, Bool, true, false, ◌||◌, not, List, [], ◌∷◌, Option, Some, None, find, map, slice_get, ◌⊎◌, inl, inr, refl, ap, sym, subst, ◌∙◌, if◌then◌else◌}
+use Rattle.std.proofs.lemmas.Bool.{eqb-true, false_from_ne_true, or_left}
 use Rattle.dtx_values.specs.declared.call.Call.{Call}
 use Rattle.dtx_values.specs.declared.call.Call.TheVariants.{Volatile, Durable, Promotable, Clone, Lose, Gone, Reenlist, Recovered}
 use Rattle.dtx_values.specs.declared.entry.Answer.{Answer}
 use Rattle.dtx_values.specs.declared.entry.Entry.{Entry}
-use Rattle.dtx_values.specs.declared.entry.Entry.TheVariants.{Called, Cloned, Cut, Down as Ended, Freed, Got, LogFull, Logged, Lost as LostEntry, Recovered as RecoveredEntry, Restarted, Stopped}
+use Rattle.dtx_values.specs.declared.entry.Entry.TheVariants.{Called, Cloned, LogFull, Logged}
 use Rattle.dtx_values.specs.declared.message.Conn.{Conn}
 use Rattle.dtx_values.specs.declared.message.Dir.{Dir}
 use Rattle.dtx_values.specs.declared.message.Dir.TheVariants.{Up, Down}
 use Rattle.dtx_values.specs.declared.message.Message.{Message}
 use Rattle.dtx_values.specs.declared.number.ActorNo.{ActorNo}
 use Rattle.dtx_values.specs.declared.number.EnlNo.{EnlNo}
-use Rattle.dtx_model.specs.Words.{each, has, kth, onto}
+use Rattle.dtx_model.specs.Words.{each, has, kth}
 use Rattle.dtx_model.specs.Entries.{is_call}
 use Rattle.dtx_model.specs.Grammar.{Name, OfEnlistment, OfClone}
 use Rattle.dtx_model.specs.Acts.{act_entries}
@@ -21,18 +21,17 @@ use Rattle.dtx_values.specs.Clones.{is_clone}
 use Rattle.dtx_model.specs.Observed.{clone_rows, is_branch, observe, rows}
 use Rattle.dtx_model.specs.Waiting.{Waiter, is_place_of, waiting, wanted_by}
 use Rattle.dtx_model.specs.Promotes.{identifier_of}
-use Rattle.dtx_model.specs.Coordinated.{Coordinated, core_down, core_got, follow, may_log}
+use Rattle.dtx_model.specs.Coordinated.{Coordinated, follow, may_log}
 use Rattle.dtx_model.specs.Facts.{facts_if, has_facts, local_facts}
 use Rattle.dtx_model.specs.Replies.{reply_entries}
 use Rattle.dtx_model.specs.Wires.{in_transit}
 use Rattle.dtx_model.specs.declared.waiting.EnteredCall.{EnteredCall}
-use Rattle.dtx_model.specs.World.{World, half, core, answer_at, cut, cut_upward, facts_at, gone_by, open_ones}
+use Rattle.dtx_model.specs.World.{World, half, core, answer_at, cut_upward, facts_at, gone_by, open_ones}
 use Rattle.dtx_model.specs.Steps.{Step, Calls, Replies, Acts, Coordinates, Delivers, Stops, Restarts, LogAnswer, Done, Full, StoppedNow, StoppedBefore, after, appended, block_at, coordinates, delivered, freed, restarted}
 use Rattle.dtx_model.specs.Caused.{AreMadeOnce, IsIn, IsOwnRun, MayCome, Ran, is_new, made_by}
 use Rattle.dtx_model.proofs.Bools.{and_left, and_right, not_both, not_false, not_true, or_case, or_right, three_hold}
-use Rattle.dtx_model.proofs.Quiet.{Quiet, is_quiet, q_act, q_appended, q_called, q_ended_at, q_freed, q_got_by, q_if, q_one, q_reply, q_restarted}
+use Rattle.dtx_model.proofs.Quiet.{Quiet, is_quiet, q_act, q_appended, q_called, q_ended_at, q_freed, q_got_by, q_if, q_reply, q_restarted}
 use Rattle.dtx_model.proofs.Reading.{has-onto}
-use Rattle.outcome_law.proofs.Scans.{each_more}
 use Rattle.outcome_law.proofs.Lists.{of-at}
 use Rattle.outcome_law.proofs.Makers.{IsWaiter, makes_name, ran_made}
 use Rattle.outcome_law.proofs.Rule.{is_cloned}
@@ -40,7 +39,7 @@ use Rattle.outcome_law.proofs.TableRows.{clone_stands, enlisted_in_rows}
 use Rattle.outcome_law.proofs.Tests.{eq_self}
 use Rattle.local_half.specs.Half.{is_free, is_made_by_waiting}
 use Rattle.tx_world.specs.State.{is_maker, is_name, may_enter}
-use Rattle.tx_world.specs.Course.{is_far, is_near}
+use Rattle.tx_world.specs.Course.{is_far}
 use Rattle.tx_world.proofs.Bare.{bare_act, bare_facts, bare_gone, bare_local_down, bare_local_got, bare_reenlist, bare_reply, is_bare}
 use Rattle.tx_world.proofs.Blocks.{Each}
 use Rattle.tx_world.proofs.Far.{far_abort, far_commit, far_core_down, far_core_got}

@@ -57,3 +57,7 @@ pub mod LeftActs
 pub mod LeftCommits
 pub mod LeftSteps
 pub mod Nearer
+pub mod Chained
+pub mod Prepared
+pub mod Unlogged
+pub mod Statuses

@@ -1,6 +1,5 @@
 -- What is kept of the log stays what the coordinator knows in a step that isn't the coordinator's own at the log: it only begins to live where BEGIN was sent.
-use Rattle.std.proofs.Common.{◌≡◌, ◌&&◌, ◌++◌, ◌∙◌, ℕ, Bool, true, false, List, [], None, refl, ap, sym, subst, if◌then◌else◌}
-use Rattle.std.specs.Prelude.{IfSome}
+use Rattle.std.proofs.Common.{◌≡◌, ◌++◌, ◌∙◌, ℕ, Bool, true, false, List, None, refl, ap, sym, subst, if◌then◌else◌}
 use Rattle.dtx_values.specs.declared.entry.Entry.{Entry}
 use Rattle.dtx_values.specs.declared.entry.Entry.TheVariants.{Freed, Logged, Restarted, Sent, Stopped}
 use Rattle.dtx_values.specs.declared.number.TxNo.{TxNo}

@@ -1,5 +1,5 @@
 -- What the local side writes in a call, a reply, its act, or after a message or an end, is of the local side alone.
-use Rattle.std.proofs.Common.{◌≡◌, ℕ, Bool, true, false, List, [], ◌∷◌, Option, refl}
+use Rattle.std.proofs.Common.{◌≡◌, ℕ, true, List, Option, refl}
 use Rattle.dtx_values.specs.declared.call.Call.{Call}
 use Rattle.dtx_values.specs.declared.call.Call.TheVariants.{Clone}
 use Rattle.dtx_values.specs.declared.entry.Answer.{Answer}

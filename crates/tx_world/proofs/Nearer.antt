@@ -1,5 +1,5 @@
 -- A pending step leaves fewer that can come.
-use Rattle.std.proofs.Common.{◌≡◌, ◌<◌, ℕ, sym, subst}
+use Rattle.std.proofs.Common.{◌<◌, ℕ, sym, subst}
 use Rattle.dtx_model.specs.World.{World}
 use Rattle.dtx_model.specs.Caused.{IsIn, IsOwnRun}
 use Rattle.coordinator_log.specs.State.{LogState}

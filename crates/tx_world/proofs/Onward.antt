@@ -1,14 +1,11 @@
 -- What holds of each world holds after a step that may come, once its block was written and both halves took it.
-use Rattle.std.proofs.Common.{◌≡◌, ℕ, zero, suc, ◌==◌, Bool, true, false, ◌&&◌, ◌||◌, not, List, [], ◌∷◌, ◌++◌, Option, Some, None, is_some, refl, ap, sym, ◌∙◌, subst, if◌then◌else◌}
+use Rattle.std.proofs.Common.{◌≡◌, ℕ, zero, suc, Bool, true, false, ◌&&◌, ◌||◌, not, List, [], ◌∷◌, Some, refl, ap, sym, ◌∙◌, subst, if◌then◌else◌}
 use Rattle.std.proofs.lemmas.Bool.{cond-false, cond-true}
 use Rattle.dtx_values.specs.declared.call.Call.{Call}
 use Rattle.dtx_values.specs.declared.entry.Entry.{Entry}
-use Rattle.dtx_values.specs.declared.entry.Entry.TheVariants.{Called, Down as Ended, Freed, Got, LogFull, Logged, Recovered, Restarted, Sent, Stopped}
-use Rattle.dtx_values.specs.declared.message.Conn.{Conn}
+use Rattle.dtx_values.specs.declared.entry.Entry.TheVariants.{Down as Ended, Freed, Got, LogFull, Logged, Recovered, Restarted, Sent, Stopped}
 use Rattle.dtx_values.specs.declared.message.Conn.TheVariants.{Begin, Voter, Enl, Again}
-use Rattle.dtx_values.specs.declared.message.Dir.{Dir}
 use Rattle.dtx_values.specs.declared.message.Dir.TheVariants.{Up, Down}
-use Rattle.dtx_values.specs.declared.message.Message.{Message}
 use Rattle.dtx_values.specs.declared.note.Note.{Note}
 use Rattle.dtx_values.specs.declared.note.Reply.{Reply}
 use Rattle.dtx_values.specs.declared.number.ActorNo.{ActorNo}
@@ -25,7 +22,7 @@ use Rattle.dtx_model.specs.Replies.{due_of, fits, reply_entries}
 use Rattle.dtx_model.specs.World.{World, half, core}
 use Rattle.dtx_model.specs.Steps.{Step, Calls, Replies, Acts, Stops, after, block_at, entered}
 use Rattle.dtx_model.specs.Caused.{AreMadeOnce, IsIn, IsOwnRun, MayCome, is_begin_sent}
-use Rattle.dtx_model.proofs.Bools.{and_both, and_left, and_right, not_both, not_false, or_right}
+use Rattle.dtx_model.proofs.Bools.{and_both, and_left, and_right, not_false}
 use Rattle.dtx_model.proofs.Heeding.{core_behind, half_behind}
 use Rattle.dtx_model.proofs.Lifting.{lift_ran}
 use Rattle.dtx_model.proofs.Reading.{has-onto}
@@ -34,7 +31,6 @@ use Rattle.coordinator_core.specs.Kept.{Kept as CoreKept}
 use Rattle.tx_world.specs.State.{sends_begin, turned}
 use Rattle.tx_world.specs.Course.{is_far, is_near}
 use Rattle.tx_world.specs.Kept.{Kept, stop_if, stopped_if}
-use Rattle.tx_world.proofs.Blocks.{Each}
 use Rattle.tx_world.proofs.Near.{near_act, near_reply}
 
 -- a world to which nothing happened yet

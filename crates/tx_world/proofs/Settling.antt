@@ -1,17 +1,16 @@
 -- What steps keep of the log one after the other they keep together.
-use Rattle.std.proofs.Common.{◌≡◌, ◌⊎◌, ◌<◌, ◌+◌, ◌∙◌, inl, inr, ℕ, suc, Bool, List, [], ◌∷◌, Some, None, arith, refl, sym, ap, subst}
+use Rattle.std.proofs.Common.{◌≡◌, ◌+◌, ◌∙◌, inl, inr, ℕ, suc, List, [], ◌∷◌, None, arith, refl, sym, ap, subst}
 use Rattle.std.specs.Prelude.{IfOk, Ok, Err, Result}
 use Rattle.dtx_values.specs.declared.number.TxNo.{TxNo}
 use Rattle.dtx_model.specs.Promotes.{identifier_of}
 use Rattle.dtx_model.specs.Words.{kth}
 use Rattle.dtx_model.specs.Log.{CommitRecord, log_has}
-use Rattle.dtx_model.specs.World.{World}
 use Rattle.dtx_model.specs.Steps.{StepName, pending}
 use Rattle.coordinator_log.specs.Slots.{open_records}
 use Rattle.coordinator_log.specs.State.{LogState}
 use Rattle.tx_world.specs.AtLog.{Fits, Keeps, KeepsLog, id_of, of_others}
 use Rattle.tx_world.specs.State.{TxState}
-use Rattle.tx_world.specs.Stepping.{DoesKth, Settles, Stepped}
+use Rattle.tx_world.specs.Stepping.{DoesKth, Settles, SomeSteps, Stepped}
 
 -- no first step: none at all
 pub none_pending : (ms : List StepName) → kth ms 1 ≡ None → ms ≡ []
@@ -39,10 +38,10 @@ keeps_on image old mid new from at_it to same a b =
     keeps_both image (id_of old) (Fits old) (Fits mid) (Fits new) from at_it to a (subst P (ap (λ (t : TxNo). identifier_of t.value) same) b)
 
 -- one step more
-pub one_more : {D : Type 0} (faults : D → ℕ) (count : ℕ) (old : TxState) (from : LogState D) (mid : TxState) (at_it : LogState D) (new : TxState) (to : LogState D)
-    → Stepped faults 1 count old from mid at_it → DoesKth faults 1 mid at_it new to → Stepped faults 1 (count + 1) old from new to
-one_more faults count old from mid at_it new to before did =
-    let P : ℕ → Type 0 = λ n. Stepped faults 1 n old from new to in
+pub one_more : {D : Type 0} (faults : D → ℕ) (k count : ℕ) (old : TxState) (from : LogState D) (mid : TxState) (at_it : LogState D) (new : TxState) (to : LogState D)
+    → Stepped faults k count old from mid at_it → DoesKth faults k mid at_it new to → Stepped faults k (count + 1) old from new to
+one_more faults k count old from mid at_it new to before did =
+    let P : ℕ → Type 0 = λ n. Stepped faults k n old from new to in
     let more : suc count ≡ count + 1 = omega arith in
     subst P more (mid, at_it, before, did)
 
@@ -53,3 +52,11 @@ settled_here {D} faults count old from mid at_it new to before none same same_lo
     let P : TxState → Type 0 = λ x. Settles faults count old from x to in
     let Q : LogState D → Type 0 = λ l. Settles faults count old from mid l in
     subst P (sym same) (subst Q (sym same_log) (record { stepped = before; settled = none_pending (pending mid.world) none }))
+
+-- where no more steps are done, some were
+pub stopped_there : {D : Type 0} (faults : D → ℕ) (k count : ℕ) (old : TxState) (from : LogState D) (mid : TxState) (at_it : LogState D) (new : TxState) (to : LogState D)
+    → Stepped faults k count old from mid at_it → (new ≡ mid) × (to ≡ at_it) → SomeSteps faults k old from new to
+stopped_there {D} faults k count old from mid at_it new to before same =
+    let P : TxState → Type 0 = λ x. SomeSteps faults k old from x to in
+    let Q : LogState D → Type 0 = λ l. SomeSteps faults k old from mid l in
+    subst P (sym same.0) (subst Q (sym same.1) (count, before))

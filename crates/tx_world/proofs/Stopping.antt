@@ -1,9 +1,9 @@
 -- A stop of the log, where it hits a transaction.
-use Rattle.std.proofs.Common.{◌≡◌, ℕ, Bool, true, false, ◌&&◌, not, List, ◌∷◌, refl, ap, sym, ◌∙◌, subst, nat_le}
+use Rattle.std.proofs.Common.{◌≡◌, ℕ, Bool, true, ◌&&◌, not, List, ◌∷◌, ap, sym, ◌∙◌, subst, nat_le}
 use Rattle.dtx_values.specs.declared.entry.Entry.{Entry}
 use Rattle.dtx_values.specs.declared.entry.Entry.TheVariants.{Stopped}
 use Rattle.dtx_values.specs.declared.number.TxNo.{TxNo}
-use Rattle.dtx_model.specs.Words.{has, onto, past_of}
+use Rattle.dtx_model.specs.Words.{has, past_of}
 use Rattle.dtx_model.specs.Coordinated.{Coordinated, follow}
 use Rattle.dtx_model.specs.World.{World, core}
 use Rattle.dtx_model.specs.Steps.{Stops, after, block_at}
@@ -13,7 +13,6 @@ use Rattle.dtx_model.proofs.Bools.{and_left, and_right, not_true}
 use Rattle.dtx_model.proofs.Reading.{has-past}
 use Rattle.local_half.specs.Half.{Known}
 use Rattle.coordinator_core.specs.Kept.{Kept as CoreKept}
-use Rattle.tx_world.specs.State.{TxState, is_hit_by}
 use Rattle.tx_world.specs.Kept.{Kept}
 use Rattle.tx_world.proofs.Onward.{core_is, stop_kept}
 

@@ -1,5 +1,5 @@
 -- What a step of the local side leaves, once its block was written: the world is the one after the step, which holds; and the step was done.
-use Rattle.std.proofs.Common.{◌≡◌, ℕ, Bool, true, false, ◌&&◌, not, List, [], ◌∷◌, Option, Some, None, is_some, refl, ap, sym, subst, ◌∙◌, if◌then◌else◌}
+use Rattle.std.proofs.Common.{◌≡◌, ℕ, Bool, true, false, ◌&&◌, not, List, [], Option, Some, None, is_some, refl, ap, sym, subst, ◌∙◌, if◌then◌else◌}
 use Rattle.dtx_values.specs.Outgoing.{Outgoing, blank, written as put_out}
 use Rattle.dtx_values.specs.declared.entry.Entry.{Entry}
 use Rattle.dtx_values.specs.declared.entry.Entry.TheVariants.{Cut, Down as Ended, Got, Restarted, Sent, Stopped}
@@ -10,13 +10,13 @@ use Rattle.dtx_values.specs.declared.number.TxNo.{TxNo}
 use Rattle.dtx_model.specs.Words.{each, has, onto}
 use Rattle.dtx_model.specs.Log.{CommitRecord}
 use Rattle.dtx_model.specs.declared.waiting.EnteredCall.{EnteredCall}
-use Rattle.dtx_model.specs.Coordinated.{Coordinated, coordinate}
+use Rattle.dtx_model.specs.Coordinated.{Coordinated}
 use Rattle.dtx_model.specs.Wires.{is_stopped}
 use Rattle.dtx_model.specs.Half.{Half}
 use Rattle.dtx_model.specs.Outcome.{is_empty}
 use Rattle.dtx_model.specs.Acts.{act_entries}
 use Rattle.dtx_model.specs.Replies.{due_of, fits, reply_entries}
-use Rattle.dtx_model.specs.World.{World, half, core}
+use Rattle.dtx_model.specs.World.{World, half}
 use Rattle.dtx_model.specs.Steps.{Step, Replies, Acts, after, block_at, entered}
 use Rattle.dtx_model.specs.Caused.{AreMadeOnce, IsIn, MayCome, is_begin_sent}
 use Rattle.dtx_model.proofs.Bools.{not_true}
@@ -25,7 +25,7 @@ use Rattle.outcome_law.proofs.Scans.{each_more}
 use Rattle.local_half.specs.Half.{Known, after as known_after, fits_due}
 use Rattle.coordinator_core.specs.Kept.{Kept as CoreKept}
 use Rattle.coordinator_log.specs.State.{LogState}
-use Rattle.tx_world.specs.State.{TxState, life_after, sends_begin, turned}
+use Rattle.tx_world.specs.State.{sends_begin, turned}
 use Rattle.tx_world.specs.Stepping.{Does, IsAnswered}
 use Rattle.tx_world.specs.Carried.{are_sendable}
 use Rattle.tx_world.specs.Course.{is_far, is_near, is_written}

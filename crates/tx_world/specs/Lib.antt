@@ -9,3 +9,4 @@ pub mod Entering
 pub mod Names
 pub mod Left
 pub mod Managers
+pub mod OwnCalls

@@ -1,5 +1,5 @@
 -- What calls make, as the code names it.
-use Rattle.std.specs.Prelude.{ℕ, ◌==◌, Bool, false, Option, Some, None}
+use Rattle.std.specs.Prelude.{◌==◌, Bool, false, Option, Some, None}
 use Rattle.dtx_model.specs.Grammar.{Name, OfEnlistment, OfClone}
 use Rattle.tx_world.specs.declared.names.Made.{Made}
 use Rattle.tx_world.specs.declared.names.Made.TheVariants.{Enlistment, Clone}

@@ -1,17 +1,13 @@
 -- The k-th pending step of a transaction, and steps that come one after the other.
-use Rattle.std.specs.Prelude.{ℕ, zero, suc, ◌≡◌, ◌<◌, ◌≤◌, Bool, true, false, not, List, [], ◌∷◌, Option, Some, None, is_some}
-use Rattle.dtx_values.specs.declared.entry.Answer.{Answer}
+use Rattle.std.specs.Prelude.{ℕ, zero, suc, ◌≡◌, Bool, true, false, [], Option, Some, None}
 use Rattle.dtx_values.specs.declared.note.Note.{Note}
 use Rattle.dtx_values.specs.declared.note.Note.TheVariants.{Promote}
 use Rattle.dtx_values.specs.declared.number.EnlNo.{EnlNo}
-use Rattle.dtx_values.specs.declared.call.Call.{Call}
-use Rattle.dtx_values.specs.declared.number.ActorNo.{ActorNo}
 use Rattle.dtx_model.specs.Words.{kth}
-use Rattle.dtx_model.specs.Outcome.{is_empty}
 use Rattle.dtx_model.specs.Plans.{plan_of, planned}
 use Rattle.dtx_model.specs.Replies.{due_of}
 use Rattle.dtx_model.specs.World.{World, half}
-use Rattle.dtx_model.specs.Steps.{LogAnswer, Step, Calls, Replies, Coordinates, StepName, ReplyOf, CoordinatorAct, pending}
+use Rattle.dtx_model.specs.Steps.{Step, Replies, Coordinates, StepName, ReplyOf, CoordinatorAct, pending}
 use Rattle.dtx_model.specs.Caused.{IsNamed}
 use Rattle.coordinator_log.specs.State.{LogState}
 use Rattle.tx_world.specs.State.{TxState, life_after, turned}
@@ -69,6 +65,10 @@ pub record DoesKth {D : Type 0} (faults : D → ℕ) (k : ℕ) (old : TxState) (
 abbrev pub Stepped : {D : Type 0} → (D → ℕ) → ℕ → ℕ → TxState → LogState D → TxState → LogState D → Type 0
 Stepped faults k zero old from new to = (new ≡ old) × (to ≡ from)
 Stepped {D} faults k (suc m) old from new to = (x : TxState) × (l : LogState D) × Stepped faults k m old from x l × DoesKth faults k x l new to
+
+-- some steps were done, each the k-th that was pending, and nothing else
+abbrev pub SomeSteps : {D : Type 0} → (D → ℕ) → ℕ → TxState → LogState D → TxState → LogState D → Type 0
+SomeSteps faults k old from new to = (m : ℕ) × Stepped faults k m old from new to
 
 -- the first pending step was done so many times, until none was left
 pub record Settles {D : Type 0} (faults : D → ℕ) (count : ℕ) (old : TxState) (from : LogState D) (new : TxState) (to : LogState D) : Type 0 where

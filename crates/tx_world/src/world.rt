@@ -15,7 +15,7 @@ ghost use Rattle.dtx_model.specs.Caused.{HasDone, IsOwnRun, MayAnswer, AreMadeOn
 ghost use Rattle.coordinator_log.specs.Slots.{open_records};
 ghost use Rattle.local_half.specs.Half.{fits_due};
 ghost use Rattle.tx_world.specs.State.{TxState, is_hit_by, is_reached_by, may_enter};
-ghost use Rattle.tx_world.specs.AtLog.{Fits, KeepsLog, Tie, id_of};
+ghost use Rattle.tx_world.specs.AtLog.{Fits, IsOurs, KeepsLog, Tie, id_of};
 ghost use Rattle.tx_world.specs.Stepping.{Does, DoesKth, Settles, needs_log, reply_in};
 
 use crate::at_log::AtLog;
@@ -35,6 +35,7 @@ mod calls;
 mod deliveries;
 mod entering;
 mod leaving;
+mod own_calls;
 mod settling;
 mod steps;
 mod stops;
@@ -100,11 +101,13 @@ impl TxWorld {
         })
     }
 
-    /// What holds of each world: its history is one that its own calls, and the steps after them, made, and no two of its calls make the same enlistment or the
-    /// same clone. It does nothing when it runs; a caller's proof asks for it.
+    /// What holds of each world: its history is one that its own calls, and the steps after them, made; no two of its calls make the same enlistment or the
+    /// same clone; and while its coordinator isn't stopped, it keeps a record exactly where one was logged and not freed. It does nothing when it runs; a
+    /// caller's proof asks for it.
     pub fn is_own_run(&self)
         ensures run { IsOwnRun self.now.transaction.value self.now.world }
         ensures once { AreMadeOnce (IsIn self.now.world.calls) }
+        ensures ours { IsOurs (id_of self.now) (core self.now.world) (record { ours = self.now.ours; unsure = self.now.unsure; life = self.now.life }) }
     {
         let _ = &self.calls;
     }

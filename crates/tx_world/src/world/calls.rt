@@ -1,15 +1,14 @@
 //! The calls that a world is given.
-ghost use Rattle.std.specs.Prelude.{◌≡◌, ◌&&◌, not, IfOk, OnOk, OnErr, IsTrue, true, false};
+ghost use Rattle.std.specs.Prelude.{◌≡◌, ◌&&◌, not, IfOk, OnOk, OnErr, true, false};
 ghost use Rattle.dtx_model.specs.Answers.{await_answer};
 ghost use Rattle.dtx_model.specs.Facts.{has_facts};
 ghost use Rattle.dtx_model.specs.World.{answer_at};
 ghost use Rattle.dtx_model.specs.Steps.{Calls};
 ghost use Rattle.dtx_model.specs.Caused.{MayAnswer};
-ghost use Rattle.coordinator_log.specs.Slots.{open_records};
 ghost use Rattle.local_half.specs.Half.{is_its_own};
 ghost use Rattle.tx_world.specs.State.{is_linking, may_enter};
-ghost use Rattle.tx_world.specs.AtLog.{Fits};
 ghost use Rattle.tx_world.specs.Entering.{is_entered_yet};
+ghost use Rattle.tx_world.specs.OwnCalls.{DoesAlone};
 ghost use Rattle.tx_world.specs.Stepping.{Does};
 
 use super::TxWorld;
@@ -71,7 +70,6 @@ impl TxWorld {
         requires enters { may_enter self.old.world line c.now ≡ true }
         requires answers { MayAnswer self.old.transaction.value self.old.world c.now done }
         requires entered { is_entered_yet c.now ≡ true }
-        requires fits { IsTrue D.honest → IsTrue log.now.is_up → Fits self.old (open_records log.now.slots) }
         ensures answer { IfOk result (λ a. a ≡ answer_at self.old.transaction.value self.old.world c.now done) }
         ensures done { OnOk result (Does D.faults (Calls line actor c.now done) self.old log.now self.new log.now) }
         ensures ours { (self.new.ours ≡ self.old.ours) × (self.new.unsure ≡ self.old.unsure) }
@@ -138,6 +136,27 @@ impl TxWorld {
         ensures memory { OnErr result (self.new ≡ self.old) }
     {
         let _ = log.is_up();
+        self.write_alone(actor, line, c, done, answer)?;
+        Ok(answer)
+    }
+
+    /// Writes the entry of a call that writes its entry alone, with this answer.
+    pub(super) fn write_alone(
+        &mut self,
+        actor: ActorNo,
+        line: u32,
+        c: &Call,
+        done: u16,
+        answer: Answer,
+    ) -> Result<(), WorldError>
+        requires enters { may_enter self.old.world line c.now ≡ true }
+        requires answers { MayAnswer self.old.transaction.value self.old.world c.now done }
+        requires answer { answer ≡ answer_at self.old.transaction.value self.old.world c.now done }
+        requires alone { has_facts answer ≡ false }
+        ensures done { OnOk result (DoesAlone (Calls line actor c.now done) self.old self.new) }
+        ensures ours { (self.new.ours ≡ self.old.ours) × (self.new.unsure ≡ self.old.unsure) }
+        ensures memory { OnErr result (self.new ≡ self.old) }
+    {
         self.calls.reserve(1)?;
         self.history.reserve()?;
         self.calls.push_reserved(EnteredCall {
@@ -147,7 +166,7 @@ impl TxWorld {
         });
         let block = [Entry::Called(line, actor, answer)];
         self.history.write(&block, self.core.is_stopped());
-        Ok(answer)
+        Ok(())
     }
 
     /// Enters a call that the local side answers.

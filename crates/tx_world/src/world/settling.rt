@@ -5,7 +5,7 @@ ghost use Rattle.dtx_model.specs.Steps.{pending};
 ghost use Rattle.coordinator_log.specs.Slots.{open_records};
 ghost use Rattle.tx_world.specs.AtLog.{Fits, KeepsLog};
 ghost use Rattle.tx_world.specs.Left.{steps_left};
-ghost use Rattle.tx_world.specs.Stepping.{DoesKth, Settles};
+ghost use Rattle.tx_world.specs.Stepping.{DoesKth, Settles, SomeSteps};
 
 use super::TxWorld;
 use crate::refusal::WorldError;
@@ -42,6 +42,7 @@ impl TxWorld {
     pub fn settle<D: Disk>(&mut self, log: &mut Log<D>) -> Result<u32, WorldError>
         requires fits { IsTrue D.honest → IsTrue log.old.is_up → Fits self.old (open_records log.old.slots) }
         ensures settled { IfOk result (λ n. Settles D.faults n self.old log.old self.new log.new) }
+        ensures memory { OnErr result (SomeSteps D.faults 1 self.old log.old self.new log.new) }
         ensures transaction { self.new.transaction ≡ self.old.transaction }
         ensures fits { IsTrue D.honest → IsTrue log.new.is_up → Fits self.new (open_records log.new.slots) }
         ensures kept { IsTrue D.honest → KeepsLog D.image self.old log.old self.new log.new }

@@ -1,15 +1,13 @@
-use Rattle.std.proofs.Common.{◌≡◌, ◌∷◌, [], List, true, ap, refl, sym, ◌∙◌}
+use Rattle.std.proofs.Common.{◌≡◌, ◌∷◌, [], List, true, ap, refl, ◌∙◌}
 use Rattle.dtx_values.specs.Outgoing.{written}
-use Rattle.dtx_values.specs.declared.call.Call.{Call}
 use Rattle.dtx_values.specs.declared.entry.Answer.{Answer}
-use Rattle.dtx_values.specs.declared.entry.Answer.TheVariants.{Did}
 use Rattle.dtx_values.specs.declared.entry.Entry.{Entry}
 use Rattle.dtx_values.specs.declared.entry.Entry.TheVariants.{Called}
-use Rattle.dtx_model.specs.Answers.{await_answer, if_begun}
+use Rattle.dtx_model.specs.Answers.{if_begun}
 use Rattle.dtx_model.specs.Steps.{Calls, entered}
 use Rattle.local_half.proofs.Writing.{unsent}
 use Rattle.local_half.specs.Half.{after}
-use Rattle.tx_world.specs.Entering.{half_answer, local_call}
+use Rattle.tx_world.specs.Entering.{half_answer}
 use Rattle.tx_world.proofs.Calling.{answers_itself, await_answered, do_answer, own_answer, own_call, is_told, told_block, told_known}
 use Rattle.tx_world.proofs.local_calls.answer_call.Goals.{in-Do, in-Await}
 use Rattle.tx_world.proofs.local_calls.answer_call.Goals as goal

@@ -1,4 +1,4 @@
-use Rattle.std.proofs.Common.{◌≡◌, ◌≢◌, List, ◌∷◌, [], ap, refl, rules, sym, ◌∙◌}
+use Rattle.std.proofs.Common.{◌≡◌, ◌≢◌, List, ◌∷◌, [], ap, refl, rules, ◌∙◌}
 use Rattle.dtx_values.specs.Outgoing.{Outgoing, written}
 use Rattle.dtx_values.specs.declared.entry.Answer.TheVariants.{Fine}
 use Rattle.dtx_values.specs.declared.entry.Entry.{Entry}

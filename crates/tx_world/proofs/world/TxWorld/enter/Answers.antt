@@ -1,4 +1,4 @@
-use Rattle.std.proofs.Common.{◌≡◌, ◌∙◌, ap}
+use Rattle.std.proofs.Common.{◌∙◌, ap}
 use Rattle.dtx_model.specs.Words.{past_of}
 use Rattle.dtx_model.specs.Answers.{await_answer, if_begun}
 use Rattle.dtx_model.specs.World.{World, answer_at}

@@ -1,13 +1,12 @@
-use Rattle.std.proofs.Common.{◌≡◌, List, ◌∷◌, [], false, ap, refl, sym, ◌∙◌, subst}
+use Rattle.std.proofs.Common.{◌≡◌, List, ◌∷◌, [], false, ap, refl, ◌∙◌, subst}
 use Rattle.dtx_values.specs.declared.call.Call.TheVariants.{Lose}
 use Rattle.dtx_values.specs.declared.entry.Answer.TheVariants.{Fine}
 use Rattle.dtx_values.specs.declared.entry.Entry.{Entry}
 use Rattle.dtx_values.specs.declared.entry.Entry.TheVariants.{Called}
 use Rattle.dtx_model.specs.Wires.{is_open_wire}
 use Rattle.dtx_model.specs.Words.{onto, past_of}
-use Rattle.dtx_model.specs.Steps.{Calls, entered}
+use Rattle.dtx_model.specs.Steps.{Calls}
 use Rattle.dtx_model.specs.World.{World, answer_at, cut}
-use Rattle.dtx_model.specs.declared.waiting.EnteredCall.{EnteredCall}
 use Rattle.tx_world.specs.Carried.{are_sendable}
 use Rattle.tx_world.specs.State.{TxState, may_enter}
 use Rattle.tx_world.specs.Stepping.{Does}

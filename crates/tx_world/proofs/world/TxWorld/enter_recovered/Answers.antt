@@ -1,12 +1,11 @@
-use Rattle.std.proofs.Common.{◌≡◌, List, ◌∷◌, [], false, ap, refl, sym, ◌∙◌, subst}
+use Rattle.std.proofs.Common.{◌≡◌, List, ◌∷◌, [], false, ap, refl, ◌∙◌, subst}
 use Rattle.dtx_values.specs.declared.call.Call.TheVariants.{Recovered}
 use Rattle.dtx_values.specs.declared.entry.Answer.TheVariants.{Fine}
 use Rattle.dtx_values.specs.declared.entry.Entry.{Entry}
 use Rattle.dtx_values.specs.declared.entry.Entry.TheVariants.{Called, Recovered as RecoveredEntry}
 use Rattle.dtx_model.specs.Words.{onto, past_of}
-use Rattle.dtx_model.specs.Steps.{Calls, entered}
+use Rattle.dtx_model.specs.Steps.{Calls}
 use Rattle.dtx_model.specs.World.{World, answer_at}
-use Rattle.dtx_model.specs.declared.waiting.EnteredCall.{EnteredCall}
 use Rattle.tx_world.specs.Carried.{are_sendable}
 use Rattle.tx_world.specs.State.{TxState, may_enter}
 use Rattle.tx_world.specs.Stepping.{Does}

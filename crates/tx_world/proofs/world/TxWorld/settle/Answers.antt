@@ -13,7 +13,7 @@ loop-count-preserved g c =
     let some : c.step.result ≡ Ok true = cc in
     let did = c.step.ensures.some some in
     let was = c.loop-count.invariant in (
-      one_more g.D.Disk.faults c.loop-count.count c.args.self.now c.args.log.now c.loop-count.self c.loop-count.log c.step.new.self c.step.new.log was.0 did,
+      one_more g.D.Disk.faults 1 c.loop-count.count c.args.self.now c.args.log.now c.loop-count.self c.loop-count.log c.step.new.self c.step.new.log was.0 did,
       λ honest. keeps_on g.D.Disk.image c.args.self.now c.loop-count.self c.step.new.self c.args.log.now c.loop-count.log c.step.new.log was.2 (was.1 honest) (c.step.ensures.kept honest),
       did.done.transaction ∙ was.2,
       c.step.ensures.life ∙ was.3,

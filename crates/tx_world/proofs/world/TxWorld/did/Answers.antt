@@ -1,0 +1,20 @@
+use Rattle.std.proofs.Common.{◌∙◌, ap}
+use Rattle.dtx_model.specs.Words.{past_of}
+use Rattle.dtx_model.specs.World.{World, answer_at}
+use Rattle.tx_world.specs.State.{TxState}
+use Rattle.tx_world.proofs.Unlogged.{did_answer, did_silent, wrote_did}
+use Rattle.tx_world.proofs.world.TxWorld.did.Goals as goal
+
+pub write_alone-requires-clause-answer : goal.write_alone-requires-clause-answer
+write_alone-requires-clause-answer c =
+    let i = c.self.inside in
+    let w : World = record { calls = past_of i.calls.items; past = i.history.past } in
+    did_answer i.transaction w i.half i.core c.args.c.now c.args.m c.if_begun-answer.result c.self.invariant.kept c.requires.kind c.if_begun-answer.ensures
+    ∙ ap (λ (y : TxState). answer_at y.transaction.value y.world c.args.c.now c.args.m) c.self.view_is
+
+pub write_alone-requires-clause-alone : goal.write_alone-requires-clause-alone
+write_alone-requires-clause-alone c = did_silent c.self.inside.half.half.seen.limit c.args.m c.if_begun-answer.result c.if_begun-answer.ensures
+
+pub returns-clause-wrote : goal.returns-clause-wrote
+returns-clause-wrote c = λ begun.
+    wrote_did c.args.line c.args.actor c.args.c.now c.args.m c.args.self.now c.write_alone.new.self c.write_alone.result c.requires.kind c.write_alone.ensures.done begun
