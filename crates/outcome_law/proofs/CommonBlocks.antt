@@ -54,7 +54,7 @@ use Rattle.dtx_model.specs.Acts.{tell, is_to_tell, promotable_in, under_way, com
 use Rattle.dtx_model.specs.Replies.{ack_on, conn_due, due_of, is_volatile_row, owner_entries, promote_entries, reply_entries, request_message, request_of, vote_message, voted_by}
 use Rattle.dtx_model.specs.Facts.{begin_promotion, facts_if, has_facts, local_facts, durable_facts}
 use Rattle.dtx_model.specs.Answers.{limit_of, class_of}
-use Rattle.dtx_model.specs.World.{World, half, core, cut, cut_upward, facts_at, gone_by, gone_decides, open_ones, answer_at}
+use Rattle.dtx_model.specs.World.{World, half, core, cut, cut_upward, facts_at, gone_by, gone_decides, answer_at}
 use Rattle.dtx_model.specs.Steps.{LogAnswer, Done, Full, StoppedNow, StoppedBefore, appended, coordinates, ended_at, freed, restarted, Step, Calls, Replies, Acts, Coordinates, Delivers, Stops, Restarts, block_at, delivered}
 
 -- the message opens the connection of a reenlistment
