@@ -1,4 +1,4 @@
--- In each world that steps made, in which nothing was lost: where the coordinator has decided, it sent its decision on b.
+-- In each world that steps made, in which no connection was cut and the coordinator didn't stop: where the coordinator has decided, it sent its decision on b.
 use Rattle.std.proofs.Common.{◌≡◌, ℕ, Bool, true, false, ◌&&◌, List, [], ◌∷◌, refl, ◌∙◌, ap, subst, sym, if◌then◌else◌, Option, Some, None}
 use Rattle.std.specs.Prelude.{find, not}
 use Rattle.std.proofs.lemmas.Bool.{or_left}
@@ -30,7 +30,7 @@ use Rattle.dtx_model.specs.Replies.{reply_entries}
 use Rattle.dtx_model.specs.World.{World, answer_at, core, facts_at, half, reenlist_facts}
 use Rattle.dtx_model.specs.Steps.{LogAnswer, Done, Full, StoppedBefore, StoppedNow, Step, Calls, Replies, Acts, Coordinates, Delivers, Stops, Restarts, after, appended, block_at, coordinates, delivered, ended_at, freed, restarted}
 use Rattle.dtx_model.specs.Caused.{MayCome, Ran, may_coordinate}
-use Rattle.dtx_model.specs.History.{is_loss}
+use Rattle.outcome_law.specs.Severed.{is_severing}
 use Rattle.dtx_model.proofs.Bools.{and_both, and_left, and_right, not_both, or_case, or_right, or_second}
 use Rattle.dtx_model.proofs.Reading.{has-onto}
 use Rattle.outcome_law.proofs.Scans.{has_more}
@@ -50,18 +50,18 @@ use Rattle.outcome_law.proofs.MildBlocks.{IsWide, Mild, is_mild, m_abort, m_act,
 abbrev pub IsAnnounced : List Entry → Type 0
 IsAnnounced h = is_undecided (coordinate h).stage ≡ false → has (is_sent_on Begin Down OUTCOME) h ≡ true
 
--- a history that keeps the table and in which nothing is lost
-pub record IsUnlost (h : List Entry) : Type 0 where
+-- a history that keeps the table and in which nothing is severed
+pub record IsUnsevered (h : List Entry) : Type 0 where
   pub keeps : Keeps h
-  pub unlost : has is_loss h ≡ false
+  pub unsevered : has is_severing h ≡ false
 
 -- it was so before its newest entry, and before a block
-pub unlost_before : (x : Entry) (h : List Entry) → IsUnlost (x ∷ h) → IsUnlost h
-unlost_before x h u = record { keeps = keeps_before x h u.keeps; unlost = or_second (is_loss x) (has is_loss h) u.unlost }
+pub unsevered_before : (x : Entry) (h : List Entry) → IsUnsevered (x ∷ h) → IsUnsevered h
+unsevered_before x h u = record { keeps = keeps_before x h u.keeps; unsevered = or_second (is_severing x) (has is_severing h) u.unsevered }
 
-pub unlost_under : (h es : List Entry) → IsUnlost (onto h es) → IsUnlost h
-unlost_under h [] u = u
-unlost_under h (x ∷ es) u = unlost_before x h (unlost_under (x ∷ h) es u)
+pub unsevered_under : (h es : List Entry) → IsUnsevered (onto h es) → IsUnsevered h
+unsevered_under h [] u = u
+unsevered_under h (x ∷ es) u = unsevered_before x h (unsevered_under (x ∷ h) es u)
 
 -- the entry leaves the coordinator's stage as it is: it is neither got, an end, an act of the log, nor a restart
 abbrev pub is_apart : Entry → Bool
@@ -138,8 +138,8 @@ got_begin (Got c Up m) t = absurd cc
 got_begin (Got c Down m) t = absurd cc
 got_begin x t = absurd cc
 
-knows_begin : (h : List Entry) → IsUnlost h → has (is_opening_got Begin) h ≡ true → has (same_connection Begin) (coordinate h).known ≡ true
-knows_begin h u k = got_known Begin (λ m. true) h (whole_of h (kept_opened h u.keeps) u.unlost) u.keeps.wires (has_more (is_opening_got Begin) (is_got_on Begin Up (λ m. true)) got_begin h k)
+knows_begin : (h : List Entry) → IsUnsevered h → has (is_opening_got Begin) h ≡ true → has (same_connection Begin) (coordinate h).known ≡ true
+knows_begin h u k = got_known Begin (λ m. true) h (whole_of h (kept_opened h u.keeps) u.unsevered) u.keeps.wires (has_more (is_opening_got Begin) (is_got_on Begin Up (λ m. true)) got_begin h k)
 
 -- A message that the coordinator gets.
 abort_kept : (b : Bool) (s : Stage) → is_undecided s ≡ true → is_undecided (abort_if b s) ≡ false → b ≡ true
@@ -152,7 +152,7 @@ begin_kept Active u n = absurd cc
 begin_kept _ u n = absurd cc
 
 -- b was known before, or is by the message
-known_then : (c : Conn) (m : Message) (h : List Entry) → IsUnlost (Got c Up m ∷ h) → aborts (coordinate h) (Got c Up m) ≡ true → has (same_connection Begin) (coordinate (Got c Up m ∷ h)).known ≡ true
+known_then : (c : Conn) (m : Message) (h : List Entry) → IsUnsevered (Got c Up m ∷ h) → aborts (coordinate h) (Got c Up m) ≡ true → has (same_connection Begin) (coordinate (Got c Up m ∷ h)).known ≡ true
 known_then c m h u a = knows_begin (Got c Up m ∷ h) u (or_right (is_opening_got Begin (Got c Up m)) (has (is_opening_got Begin) h) (opened c m a u.keeps))
   where
     opened : (c : Conn) (m : Message) → aborts (coordinate h) (Got c Up m) ≡ true → Keeps (Got c Up m ∷ h) → has (is_opening_got Begin) h ≡ true
@@ -166,12 +166,12 @@ known_then c m h u a = knows_begin (Got c Up m ∷ h) u (or_right (is_opening_go
         never true a = absurd cc
         never false a = absurd cc
 
-abort_sent_by : (c : Conn) (m : Message) (h : List Entry) → IsUnlost (Got c Up m ∷ h) → aborts (coordinate h) (Got c Up m) ≡ true
+abort_sent_by : (c : Conn) (m : Message) (h : List Entry) → IsUnsevered (Got c Up m ∷ h) → aborts (coordinate h) (Got c Up m) ≡ true
     → has (is_sent_on Begin Down OUTCOME) (abort_sends (follow (coordinate h) (Got c Up m))) ≡ true
 unfolding coordinate
 abort_sent_by c m h u a = abort_sent (follow (coordinate h) (Got c Up m)) (known_then c m h u a)
 
-got_sends : (id : ℕ) (c : Conn) (m : Message) (h : List Entry) → IsUnlost (Got c Up m ∷ h) → is_undecided (coordinate h).stage ≡ true → is_undecided (stage_after (coordinate h) (Got c Up m)) ≡ false
+got_sends : (id : ℕ) (c : Conn) (m : Message) (h : List Entry) → IsUnsevered (Got c Up m ∷ h) → is_undecided (coordinate h).stage ≡ true → is_undecided (stage_after (coordinate h) (Got c Up m)) ≡ false
     → has (is_sent_on Begin Down OUTCOME) (core_got id (coordinate h) c m) ≡ true
 unfolding core_got
 got_sends id Begin BeginBegin h u s n = absurd (begin_kept (coordinate h).stage s n)
@@ -194,14 +194,14 @@ stage_down k Voter m = refl
 stage_down k (Enl e) m = refl
 stage_down k (Again e) m = refl
 
-delivered_announces : (t : ℕ) (w : World) (c : Conn) (d : Dir) (ms : List Message) → IsUnlost (onto w.past (delivered t w c d ms)) → IsAnnounced w.past → IsAnnounced (onto w.past (delivered t w c d ms))
+delivered_announces : (t : ℕ) (w : World) (c : Conn) (d : Dir) (ms : List Message) → IsUnsevered (onto w.past (delivered t w c d ms)) → IsAnnounced w.past → IsAnnounced (onto w.past (delivered t w c d ms))
 delivered_announces t w c d [] u a =
-    let here = unlost_under (Ended c d ∷ w.past) (ended_at w c d) u in
-    let before = unlost_before (Ended c d) w.past here in
-    absurd (no_end c d w.past (whole_of w.past (kept_opened w.past before.keeps) before.unlost) here.keeps.wires)
+    let here = unsevered_under (Ended c d ∷ w.past) (ended_at w c d) u in
+    let before = unsevered_before (Ended c d) w.past here in
+    absurd (no_end c d w.past (whole_of w.past (kept_opened w.past before.keeps) before.unsevered) here.keeps.wires)
 delivered_announces t w c Up (m ∷ ms) u a =
     let block = core_got (identifier_of t) (core w) c m in
-    let here = unlost_under (Got c Up m ∷ w.past) block u in
+    let here = unsevered_under (Got c Up m ∷ w.past) block u in
     head_announces (Got c Up m) w.past block (mild_apart block (m_core_got (identifier_of t) (core w) c m)) a (λ s n. got_sends (identifier_of t) c m w.past here s n)
 delivered_announces t w c Down (m ∷ ms) u a =
     head_announces (Got c Down m) w.past (local_got t (half w) c m) (mild_apart (local_got t (half w) c m) (m_local_got t (half w) c m)) a (λ s n. still (Got c Down m) w.past (stage_down (coordinate w.past) c m) s n)
@@ -222,15 +222,15 @@ log_active k l = second (not k.stopped) (is_active k.stage) k.commit k.yes _ l
     second : (a b c d e : Bool) → (a && b && c && d && e) ≡ true → b ≡ true
     second a b c d e k = and_right a b (and_left (a && b) c (and_left (a && b && c) d (and_left (a && b && c && d) e k)))
 
-logged_known : (h : List Entry) → IsUnlost h → may_log (coordinate h) ≡ true → has (same_connection Begin) (follow (coordinate h) Logged).known ≡ true
+logged_known : (h : List Entry) → IsUnsevered h → may_log (coordinate h) ≡ true → has (same_connection Begin) (follow (coordinate h) Logged).known ≡ true
 unfolding follow
 logged_known h u l = knows_begin h u (begun_if_active h (log_active (coordinate h) l))
 
-full_known : (h : List Entry) → IsUnlost h → may_log (coordinate h) ≡ true → has (same_connection Begin) (follow (coordinate h) LogFull).known ≡ true
+full_known : (h : List Entry) → IsUnsevered h → may_log (coordinate h) ≡ true → has (same_connection Begin) (follow (coordinate h) LogFull).known ≡ true
 unfolding follow
 full_known h u l = knows_begin h u (begun_if_active h (log_active (coordinate h) l))
 
-log_announces : (a : LogAnswer) (h : List Entry) → may_log (coordinate h) ≡ true → IsUnlost h → IsAnnounced h → IsAnnounced (onto h (appended (coordinate h) a))
+log_announces : (a : LogAnswer) (h : List Entry) → may_log (coordinate h) ≡ true → IsUnsevered h → IsAnnounced h → IsAnnounced (onto h (appended (coordinate h) a))
 log_announces Done h l u n =
     head_announces Logged h (commit_sends (follow (coordinate h) Logged)) (mild_apart (commit_sends (follow (coordinate h) Logged)) (m_commit (follow (coordinate h) Logged))) n
     (λ s d. commit_sent (follow (coordinate h) Logged) (logged_known h u l))
@@ -249,17 +249,17 @@ free_announces Full h e c n = n
 free_announces StoppedNow h e c n = apart_announces h (Stopped ∷ []) refl n
 free_announces StoppedBefore h e c n = apart_announces h (Stopped ∷ []) refl n
 
-coordinates_announces : (a : LogAnswer) (h : List Entry) (b : Bool) → may_log (coordinate h) ≡ b → may_coordinate (coordinate h) a ≡ true → IsUnlost h → IsAnnounced h
+coordinates_announces : (a : LogAnswer) (h : List Entry) (b : Bool) → may_log (coordinate h) ≡ b → may_coordinate (coordinate h) a ≡ true → IsUnsevered h → IsAnnounced h
     → IsAnnounced (onto h (if b then appended (coordinate h) a else freed a))
 coordinates_announces a h true e c u n = log_announces a h e u n
 coordinates_announces a h false e c u n = free_announces a h e c n
 
--- a restart is a loss
-restarted_announces : (h : List Entry) (b found : Bool) → (coordinate h).stopped ≡ b → IsUnlost (onto h (restarted b found)) → IsAnnounced (onto h (restarted b found))
+-- a restart comes with a stop
+restarted_announces : (h : List Entry) (b found : Bool) → (coordinate h).stopped ≡ b → IsUnsevered (onto h (restarted b found)) → IsAnnounced (onto h (restarted b found))
 restarted_announces h true found e u =
-    let before = unlost_before (Restarted found) h u in
-    absurd (not_both (is_stopped h) (sym (stopped_same h) ∙ e) (unstopped h (whole_of h (kept_opened h before.keeps) before.unlost)))
-restarted_announces h false found e u = let lost : true ≡ false = u.unlost in absurd cc
+    let before = unsevered_before (Restarted found) h u in
+    absurd (not_both (is_stopped h) (sym (stopped_same h) ∙ e) (unstopped h (whole_of h (kept_opened h before.keeps) before.unsevered)))
+restarted_announces h false found e u = let lost : true ≡ false = u.unsevered in absurd cc
 
 reenlist_apart : (t : ℕ) (o : Option Branch) (f : Bool) → each is_apart (facts_if f (reenlist_facts t o)) ≡ true
 reenlist_apart t o false = refl
@@ -267,7 +267,7 @@ reenlist_apart t None true = refl
 reenlist_apart t (Some b) true = refl
 
 -- after each step
-step_announces : (G : ℕ → ActorNo → Call → Type 0) (t : ℕ) (w : World) (m : Step) → MayCome G t w m → IsUnlost (after t w m).past → IsAnnounced w.past → IsAnnounced (after t w m).past
+step_announces : (G : ℕ → ActorNo → Call → Type 0) (t : ℕ) (w : World) (m : Step) → MayCome G t w m → IsUnsevered (after t w m).past → IsAnnounced w.past → IsAnnounced (after t w m).past
 unfolding after block_at
 step_announces G t w (Calls n a (Reenlist e) i) q s g =
     let y = answer_at t w (Reenlist e) i in
@@ -278,7 +278,7 @@ step_announces G t w (Calls n a c i) q s g =
     apart_announces w.past (Called n a y ∷ facts_if (has_facts y) (facts_at t w c y)) (wide_called is_apart wide_apart t w c y refl) g
 step_announces G t w (Replies e r) q s g = apart_announces w.past (reply_entries (half w) e r) (wide_reply is_apart wide_apart (half w) e r) g
 step_announces G t w Acts q s g = apart_announces w.past (act_entries (half w)) (mild_apart (act_entries (half w)) (m_act (half w))) g
-step_announces G t w (Coordinates a) q s g = coordinates_announces a w.past (may_log (core w)) refl q (unlost_under w.past (coordinates (core w) a) s) g
+step_announces G t w (Coordinates a) q s g = coordinates_announces a w.past (may_log (core w)) refl q (unsevered_under w.past (coordinates (core w) a) s) g
 step_announces G t w (Delivers c d) q s g = delivered_announces t w c d (in_transit c d w.past) s g
 step_announces G t w Stops q s g = apart_announces w.past (Stopped ∷ []) refl g
 step_announces G t w (Restarts found) q s g = restarted_announces w.past (core w).stopped found refl s
@@ -288,11 +288,11 @@ none_announced : IsAnnounced []
 unfolding coordinate
 none_announced n = absurd cc
 
--- so in each world that steps made, in which nothing was lost
-pub ran_announces : (G : ℕ → ActorNo → Call → Type 0) (t : ℕ) (ms : List Step) (w : World) → Ran G t ms w → IsUnlost w.past → IsAnnounced w.past
+-- so in each world that steps made, in which nothing was severed
+pub ran_announces : (G : ℕ → ActorNo → Call → Type 0) (t : ℕ) (ms : List Step) (w : World) → Ran G t ms w → IsUnsevered w.past → IsAnnounced w.past
 unfolding after
 ran_announces G t [] w r u = subst IsAnnounced (sym r.1) none_announced
 ran_announces G t (m ∷ ms) w r u =
     let v = r.0 in
-    let now = subst (λ (x : World). IsUnlost x.past) r.3 u in
-    subst (λ (x : World). IsAnnounced x.past) (sym r.3) (step_announces G t v m r.2 now (ran_announces G t ms v r.1 (unlost_under v.past (block_at t v m) now)))
+    let now = subst (λ (x : World). IsUnsevered x.past) r.3 u in
+    subst (λ (x : World). IsAnnounced x.past) (sym r.3) (step_announces G t v m r.2 now (ran_announces G t ms v r.1 (unsevered_under v.past (block_at t v m) now)))

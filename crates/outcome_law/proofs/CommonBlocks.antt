@@ -1,5 +1,5 @@
 -- Which entries most blocks of steps don't have: only a tick's call has one of the clock or of a timeout, only a call of reenlist opens the connection of a
--- reenlistment, and only the local act after a decision and the arrivals of an outcome tell anybody.
+-- reenlistment, only a call of gone loses an enlistment, and only the local act after a decision and the arrivals of an outcome tell anybody.
 use Rattle.std.proofs.Common.{◌≡◌, ℕ, Bool, true, false, ◌&&◌, ◌||◌, not, List, [], ◌∷◌, ◌++◌, map, filter, Option, Some, None, is_some, find, refl, ◌∙◌, if◌then◌else◌, ◌==◌, subst, sym}
 use Rattle.std.specs.List.{flat_map}
 use Rattle.std.proofs.lemmas.List.Folds.{list_all-append}
@@ -54,7 +54,7 @@ use Rattle.dtx_model.specs.Acts.{tell, is_to_tell, promotable_in, under_way, com
 use Rattle.dtx_model.specs.Replies.{ack_on, conn_due, due_of, is_volatile_row, owner_entries, promote_entries, reply_entries, request_message, request_of, vote_message, voted_by}
 use Rattle.dtx_model.specs.Facts.{begin_promotion, facts_if, has_facts, local_facts, durable_facts}
 use Rattle.dtx_model.specs.Answers.{limit_of, class_of}
-use Rattle.dtx_model.specs.World.{World, half, core, cut, cut_upward, facts_at, gone_by, gone_decides, open_ones, answer_at}
+use Rattle.dtx_model.specs.World.{World, half, core, cut, cut_upward, facts_at, gone_by, gone_decides, answer_at}
 use Rattle.dtx_model.specs.Steps.{LogAnswer, Done, Full, StoppedNow, StoppedBefore, appended, coordinates, ended_at, freed, restarted, Step, Calls, Replies, Acts, Coordinates, Delivers, Stops, Restarts, block_at, delivered}
 
 -- the message opens the connection of a reenlistment
@@ -62,12 +62,13 @@ abbrev pub is_reenlist : Message → Bool
 is_reenlist (ReenlistReenlist i) = true
 is_reenlist _ = false
 
--- the entry is of no clock and no timeout, tells nobody, and sends no message that opens the connection of a reenlistment
+-- the entry is of no clock and no timeout, tells nobody, loses no enlistment, and sends no message that opens the connection of a reenlistment
 abbrev pub is_common : Entry → Bool
 is_common (Clock n) = false
 is_common TimedOut = false
 is_common Late = false
 is_common (Told p o) = false
+is_common (LostEntry e) = false
 is_common (Sent c Up m) = not (is_reenlist m)
 is_common _ = true
 
@@ -330,10 +331,11 @@ pub common_begin_promotion : (h : Half) (c : Option Cause) → Common (begin_pro
 common_begin_promotion h (Some c) = common_cons (Promoting c) refl (common_if (has (λ x. is_promotable x.class) h.seen.table) common_none (common_one (Sent Begin Up BeginBegin) refl))
 common_begin_promotion h None = common_none
 
--- the call moves the clock, or brings an enlistment back
+-- the call moves the clock, or brings an enlistment back or loses one
 abbrev pub is_marking : Call → Bool
 is_marking (Tick u n) = true
 is_marking (Reenlist e) = true
+is_marking (Gone e) = true
 is_marking _ = false
 
 common_durable : (t : ℕ) (h : Half) (e : EnlNo) (r : RmNo) (s : Bool) (a : Answer) → Common (durable_facts t h e r s a)
@@ -357,13 +359,22 @@ common_facts t h _ a g = common_none
 common_gone_decides : (h : Half) (e : EnlNo) → Common (gone_decides h e)
 common_gone_decides h e = common_if (is_some h.seen.decided || voted e.value h.seen.table) common_none (common_if (is_handed h.seen.handed e.value) (common_decide h InDoubt) (common_veto h))
 
-common_gone : (w : World) (e : EnlNo) (cs : List Conn) → Common (gone_by w e cs)
-common_gone w e [] = common_cons (LostEntry e) refl (common_gone_decides (sees (half w) (LostEntry e)) e)
-common_gone w e (c ∷ cs) = common_cons (LostEntry e) refl (common_map (cut_upward w.past) (λ d. refl) (c ∷ cs))
+-- what stands after a loss
+abbrev pub gone_rest : World → EnlNo → List Conn → List Entry
+gone_rest w e [] = gone_decides (sees (half w) (LostEntry e)) e
+gone_rest w e (c ∷ cs) = map (cut_upward w.past) (c ∷ cs)
+
+pub gone_parts : (w : World) (e : EnlNo) (cs : List Conn) → gone_by w e cs ≡ LostEntry e ∷ gone_rest w e cs
+gone_parts w e [] = refl
+gone_parts w e (c ∷ cs) = refl
+
+pub common_gone : (w : World) (e : EnlNo) (cs : List Conn) → Common (gone_rest w e cs)
+common_gone w e [] = common_gone_decides (sees (half w) (LostEntry e)) e
+common_gone w e (c ∷ cs) = common_map (cut_upward w.past) (λ d. refl) (c ∷ cs)
 
 common_facts_at : (t : ℕ) (w : World) (c : Call) (a : Answer) → is_marking c ≡ false → Common (facts_at t w c a)
 common_facts_at t w (Lose u c n m) a g = common_one (cut w.past c n m) refl
-common_facts_at t w (Gone e) a g = common_gone w e (open_ones w e)
+common_facts_at t w (Gone e) a g = absurd cc
 common_facts_at t w (Reenlist e) a g = absurd cc
 common_facts_at t w (Recovered u r) a g = common_one (RecoveredEntry r) refl
 common_facts_at t w c a g = common_facts t (half w) c a g
@@ -400,7 +411,7 @@ common_restarted false found = common_cons Stopped refl (common_one (Restarted f
 pub common_called : (t : ℕ) (w : World) (c : Call) (a : Answer) → is_marking c ≡ false → Common (facts_if (has_facts a) (facts_at t w c a))
 common_called t w c a g = common_facts_if (has_facts a) (common_facts_at t w c a g)
 
--- The block of each step but a tick and the return of an enlistment has such entries alone, and those that tell somebody.
+-- The block of each step but a tick and the return or the loss of an enlistment has such entries alone, and those that tell somebody.
 abbrev pub is_usual : Entry → Bool
 is_usual (Told p o) = true
 is_usual x = is_common x
@@ -442,7 +453,7 @@ delivered_usual t w c d [] = usual (ended_at w c d) (common_ended_at w c d)
 delivered_usual t w c Up (m ∷ ms) = usual (core_got (identifier_of t) (core w) c m) (common_core_got (identifier_of t) (core w) c m)
 delivered_usual t w c Down (m ∷ ms) = arrived_usual t (sees (half w) (Got c Down m)) c m
 
--- a call that moves the clock or brings an enlistment back
+-- a call that moves the clock, or brings an enlistment back or loses one
 abbrev pub is_marking_step : Step → Bool
 is_marking_step (Calls n a c m) = is_marking c
 is_marking_step _ = false
@@ -456,3 +467,9 @@ usual_block t w (Coordinates x) k = usual (coordinates (core w) x) (common_coord
 usual_block t w (Delivers c d) k = delivered_usual t w c d (in_transit c d w.past)
 usual_block t w Stops k = refl
 usual_block t w (Restarts found) k = usual (restarted (core w).stopped found) (common_restarted (core w).stopped found)
+
+-- Where such entries pass, and a loss does, the block of a loss passes.
+pub gone_passes : (p : Entry → Bool) → ((x : Entry) → is_usual x ≡ true → p x ≡ true) → (w : World) (e : EnlNo) (cs : List Conn) (b : Bool) → p (LostEntry e) ≡ true → each p (facts_if b (gone_by w e cs)) ≡ true
+gone_passes p q w e cs false k = refl
+gone_passes p q w e cs true k =
+    subst (λ (es : List Entry). each p es ≡ true) (sym (gone_parts w e cs)) (both (p (LostEntry e)) (each p (gone_rest w e cs)) k (each_more is_usual p q (gone_rest w e cs) (usual (gone_rest w e cs) (common_gone w e cs))))

@@ -109,14 +109,14 @@ has_front (x ∷ xs) ys k = step (is_decision x) (has is_decision xs) (has_front
     step true b f k = refl
     step false b f k = f k
 
-decide_decides : (h : Half) (x : Outcome) → has is_decision (decide h x) ≡ true
+pub decide_decides : (h : Half) (x : Outcome) → has is_decision (decide h x) ≡ true
 decide_decides h x = step (is_promoting h.seen) (ended h.waits x)
   where
     step : (b : Bool) (ys : List Entry) → has is_decision (fails_if b ++ Decided x ∷ ys) ≡ true
     step true ys = refl
     step false ys = refl
 
-veto_decides : (h : Half) → has is_decision (veto h) ≡ true
+pub veto_decides : (h : Half) → has is_decision (veto h) ≡ true
 unfolding veto
 veto_decides h = has_front (decide h Aborted) (veto_message h.seen) (decide_decides h Aborted)
 

@@ -2,7 +2,7 @@
 use Rattle.std.proofs.Common.{◌≡◌, ℕ, ◌==◌, Bool, true, false, ◌&&◌, ◌||◌, List, ◌∷◌}
 use Rattle.std.specs.Prelude.{not}
 use Rattle.dtx_values.specs.declared.entry.Entry.{Entry}
-use Rattle.dtx_values.specs.declared.entry.Entry.TheVariants.{Enlisted, RollbackAsked, TimedOut, Voted, PromoteReply, Requested, OwnerAnswered, Decided, Told, PromotionFailed, Sent, Got, Down as End, Lost, LogFull, Restarted}
+use Rattle.dtx_values.specs.declared.entry.Entry.TheVariants.{Enlisted, RollbackAsked, TimedOut, Voted, PromoteReply, Requested, OwnerAnswered, Decided, Told, PromotionFailed, Sent, Got, Down as End, LogFull, Restarted}
 use Rattle.dtx_values.specs.declared.entry.Request.TheVariants.{Abort}
 use Rattle.dtx_values.specs.declared.message.Conn.TheVariants.{Enl, Again}
 use Rattle.dtx_values.specs.declared.message.Dir.TheVariants.{Down}
@@ -54,7 +54,6 @@ is_bad PromotionFailed = true
 is_bad (Sent c d m) = is_bad_message m
 is_bad (Got c d m) = is_bad_message m
 is_bad (End c d) = true
-is_bad (Lost e) = true
 is_bad LogFull = true
 is_bad (Restarted found) = true
 is_bad _ = false
@@ -70,7 +69,7 @@ is_origin (OwnerAnswered e x) = is_bad_outcome x
 is_origin LogFull = true
 is_origin _ = false
 
--- a history in which nothing was lost and nothing bad came
+-- a history in which nothing was severed and nothing bad came
 pub record IsFine (h : List Entry) : Type 0 where
   pub whole : whole h ≡ true
   pub run : WireRun h

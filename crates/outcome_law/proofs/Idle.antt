@@ -27,7 +27,7 @@ use Rattle.dtx_model.specs.Wires.{WireRun, in_transit, opens}
 use Rattle.dtx_model.specs.Coordinated.{Coordinated, coordinate, may_free, may_log}
 use Rattle.dtx_model.specs.Waiting.{waiting}
 use Rattle.dtx_model.specs.Plans.{plan_of}
-use Rattle.dtx_model.specs.Half.{half_of}
+use Rattle.dtx_model.specs.Half.{half_of, is_gone}
 use Rattle.dtx_model.specs.Acts.{act_entries}
 use Rattle.dtx_model.specs.Replies.{all_due, due_of, names}
 use Rattle.dtx_model.specs.World.{has_left}
@@ -35,13 +35,13 @@ use Rattle.dtx_model.specs.Steps.{CoordinatorAct, core_act, deliveries_on, deliv
 use Rattle.dtx_model.specs.Caused.{plans_of}
 use Rattle.dtx_model.specs.History.{CanCommit, is_willing}
 use Rattle.dtx_values.specs.declared.words.Outcome.TheVariants.{Committed}
-use Rattle.dtx_model.proofs.Bools.{and_both, and_left, and_right, or_case, or_first, or_right}
+use Rattle.dtx_model.proofs.Bools.{and_both, and_left, and_right, not_both, or_case, or_first, or_right}
 use Rattle.outcome_law.proofs.Tests.{eq_self}
 use Rattle.outcome_law.proofs.Scans.{has_more}
 use Rattle.outcome_law.proofs.Rule.{is_enlisted}
 use Rattle.outcome_law.proofs.Dues.{is_unplanned, none_answered}
 use Rattle.outcome_law.proofs.Settlings.{append_first, append_second, no_act, no_name}
-use Rattle.outcome_law.proofs.Whole.{is_got_on, is_opened_once, is_sent_on, whole, whole_of}
+use Rattle.outcome_law.proofs.Whole.{is_got_on, is_opened_once, is_sent_on, none_severed, whole, whole_of}
 use Rattle.outcome_law.proofs.Messages.{COMMIT, ENLIST, PREPARE}
 use Rattle.outcome_law.proofs.Fine.{IsFine, is_caused}
 use Rattle.outcome_law.proofs.Debts.{is_volatile_made, owes_none, pays}
@@ -53,7 +53,7 @@ use Rattle.outcome_law.proofs.Knowledge.{is_known_end, knows_where}
 use Rattle.outcome_law.proofs.Unblamed.{nothing_bad}
 use Rattle.outcome_law.proofs.Climbed.{committed_at_rest}
 use Rattle.outcome_law.proofs.SameRows.{is_asked_there, is_made_once}
-use Rattle.outcome_law.proofs.Owed.{IsUnowed, all_answered, all_heeded, all_voted, commit_requested, is_asked_well, promotion_replied}
+use Rattle.outcome_law.proofs.Owed.{IsUnowed, all_answered, all_heeded, all_voted, commit_requested, is_asked_well, promotion_replied, unlost_there}
 
 -- Nothing is on the way.
 none_delivered : (b : Bool) (c : Conn) (d : Dir) → delivery_if b c d ≡ [] → b ≡ false
@@ -170,7 +170,7 @@ same_willing p q (x ∷ h) f k = same_willing p q h (λ n a. f n (or_right (is_e
 -- nothing bad came
 governed_fine : (s : List Line) (ks : List EnteredCall) (h : List Entry) → IsGoverned s ks h → IsFine h
 governed_fine s ks h g =
-    let w = whole_of h g.opened g.can.unlost in
+    let w = whole_of h g.opened (none_severed h g.can.unlost) in
     record {
       whole = w;
       run = g.run;
@@ -186,7 +186,7 @@ rests s ks h g e =
     let u : IsUnowed (plan_of ks) h =
     record {
       fine = fine;
-      unlost = g.can.unlost;
+      spared = λ i x e q. absurd (not_both (is_gone (observe h) x.number.value) q (unlost_there h x.number.value g.can.unlost));
       once = g.once;
       there = g.there;
       well = g.well;

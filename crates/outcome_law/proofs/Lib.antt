@@ -157,6 +157,7 @@ pub mod QuietBlocks
 pub mod MildBlocks
 pub mod Ending
 pub mod Announced
+pub mod LostVoters
 pub mod UndecidedFine
 pub mod Told
 pub mod Unreturning

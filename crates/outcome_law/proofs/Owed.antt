@@ -1,4 +1,5 @@
--- Where no reply is due of anyone whose plan isn't silent, whoever was asked to prepare has voted, and the promotable that was asked has replied.
+-- Where no reply is due of anyone whose plan isn't silent, and whoever is lost is a volatile that voted, whoever was asked to prepare has voted, and the promotable that was asked has
+-- replied.
 use Rattle.std.proofs.Common.{◌≡◌, ℕ, zero, suc, ◌==◌, Bool, true, false, ◌&&◌, ◌||◌, List, [], ◌∷◌, Option, Some, None, refl, ◌∙◌, ap, sym, subst, map}
 use Rattle.std.specs.Prelude.{find, is_none, is_some, not, if◌then◌else◌}
 use Rattle.std.specs.List.{slice_get}
@@ -16,6 +17,7 @@ use Rattle.dtx_values.specs.declared.note.Plan.{Plan}
 use Rattle.dtx_values.specs.declared.number.EnlNo.{EnlNo}
 use Rattle.dtx_values.specs.declared.row.Row.{Row}
 use Rattle.dtx_values.specs.declared.words.Class.{Class}
+use Rattle.dtx_values.specs.declared.words.Class.TheVariants.{Promotable}
 use Rattle.dtx_values.specs.declared.words.Outcome.{Outcome}
 use Rattle.dtx_values.specs.declared.words.Outcome.TheVariants.{Committed, Aborted, InDoubt}
 use Rattle.dtx_values.specs.declared.words.Vote.{Vote}
@@ -71,10 +73,15 @@ pub record IsHeeded (p : Plan) (h : List Entry) (x : Row) : Type 0 where
   pub promotes : has (is_asked_to_promote x.number.value) h ≡ true → owes_promotion (observe h) x ≡ true → is_none p.promote ≡ true → ⊥
   pub commits : has (is_asked_alone x.number.value) h ≡ true → owes_request (observe h) x ≡ true → is_none p.owner ≡ true → ⊥
 
--- a fine history whose plans have each reply that is due of a row, and where of none a reply is due that its plan has
+-- One that is lost is volatile, and has voted.
+pub record IsSpared (x : Row) : Type 0 where
+  pub of_volatile : is_volatile x.class ≡ true
+  pub has_cast : has_voted x ≡ true
+
+-- a fine history in which each that is lost is spared, whose plans have each reply that is due of a row, and where of none a reply is due that its plan has
 pub record IsUnowed (p : ℕ → Plan) (h : List Entry) : Type 0 where
   pub fine : IsFine h
-  pub unlost : has is_loss h ≡ false
+  pub spared : (i : ℕ) (x : Row) → slice_get (rows h) i ≡ Some x → is_gone (observe h) x.number.value ≡ true → IsSpared x
   pub once : always is_made_once h ≡ true
   pub there : always is_asked_there h ≡ true
   pub well : always is_asked_well h ≡ true
@@ -109,9 +116,9 @@ none_gone (Reenlisted e ∷ h) n =
     unlost p q f sub (x ∷ xs) k = or_case (q (f x)) (has q (map f xs)) (λ a. or_left (p x) (has p xs) (sub x a)) (λ a. or_right (p x) (has p xs) (unlost p q f sub xs a)) k
 none_gone (x ∷ h) n = none_gone h (or_second (is_loss x) (has is_loss h) n)
 
-here : (h : List Entry) (e : ℕ) → has is_loss h ≡ false → is_gone (observe h) e ≡ false
+pub unlost_there : (h : List Entry) (e : ℕ) → has is_loss h ≡ false → is_gone (observe h) e ≡ false
 unfolding observe
-here h e n =
+unlost_there h e n =
     has_less (λ l. (e == l.enlistment.value) && l.lost) (λ l. l.lost) (λ l a. and_right (e == l.enlistment.value) l.lost a) (listeners h) (none_gone h n)
 
 -- whose listener was told was told
@@ -197,17 +204,17 @@ request_unowed p false false true true z f n g k = absurd (g refl (silent_owner 
 request_unowed p false false false true z f n g k = absurd (g refl (silent_owner p.owner k))
 request_unowed p false false w false z f n g k = refl
 
--- what is due of a row is what its own note is
-row_unplanned : (p : ℕ → Plan) (h : List Entry) (i : ℕ) (x : Row) → IsUnowed p h → slice_get (rows h) i ≡ Some x
+-- what is due of a row that isn't lost is what its own note is
+row_unplanned : (p : ℕ → Plan) (h : List Entry) (i : ℕ) (x : Row) → IsUnowed p h → slice_get (rows h) i ≡ Some x → is_gone (observe h) x.number.value ≡ false
     → is_unplanned (p x.number.value) (or_else (row_note (observe h) x) (note_of_conn (conn_due (observe h) x.number.value))) ≡ true
 unfolding observe due_of
-row_unplanned p h i x r e =
+row_unplanned p h i x r e g =
     let n = x.number.value in
     let o = observe h in
     let each_name = named_rows (λ f. is_unplanned (p f.value) (due_of o f.value)) (rows h) (all_each (λ f. is_unplanned (p f.value) (due_of o f.value)) o.branches (map (λ y. y.number) (rows h)) r.unowed) in
     let own : is_unplanned (p n) (note_at o n (find (is_of n) (rows h))) ≡ true = each-at (λ y. is_unplanned (p y.number.value) (due_of o y.number.value)) (rows h) i x each_name e in
     let found : is_unplanned (p n) (note_at o n (Some x)) ≡ true = ap (λ (y : Option Row). is_unplanned (p n) (note_at o n y)) (sym (row_found h i x r.once e)) ∙ own in
-    ap (λ b. is_unplanned (p n) (if b then None else or_else (row_note o x) (note_of_conn (conn_due o n)))) (sym (here h n r.unlost)) ∙ found
+    ap (λ b. is_unplanned (p n) (if b then None else or_else (row_note o x) (note_of_conn (conn_due o n)))) (sym g) ∙ found
 
 -- a durable or promotable that was asked to prepare got PREPARE
 prepare_got : (e : EnlNo) (h : List Entry) → always is_asked_well h ≡ true → has (is_asked e.value) h ≡ true → (has (is_volatile_made e.value) h || has (is_got_on (Enl e) Down PREPARE) h) ≡ true
@@ -279,13 +286,14 @@ marked_votes p h i x r u l e m = by_class (is_volatile x.class) refl
 
 -- so each that was asked to prepare has voted
 pub all_answered : (p : ℕ → Plan) (h : List Entry) → IsUnowed p h → has is_decision h ≡ false → has is_logged h ≡ false → each has_answered (rows h) ≡ true
-all_answered p h r u l = each_from_at has_answered (rows h) (λ i x e. row i x e)
+all_answered p h r u l = each_from_at has_answered (rows h) (λ i x e. row i x e (is_gone (observe h) x.number.value) refl)
   where
-    row : (i : ℕ) (x : Row) → slice_get (rows h) i ≡ Some x → has_answered x ≡ true
-    row i x e =
+    row : (i : ℕ) (x : Row) → slice_get (rows h) i ≡ Some x → (b : Bool) → is_gone (observe h) x.number.value ≡ b → has_answered x ≡ true
+    row i x e true g = or_right (not (is_marked x)) (has_voted x) (r.spared i x e g).has_cast
+    row i x e false g =
         step (is_marked x) (has_voted x) (may_still_vote (observe h) x) (marked_votes p h i x r u l e)
         (vote_unowed (p x.number.value) (owes_vote (observe h) x) (owes_promotion (observe h) x) (owes_outcome (observe h) x) (owes_request (observe h) x)
-        (note_of_conn (conn_due (observe h) x.number.value)) (r.heeded i x e).votes (row_unplanned p h i x r e))
+        (note_of_conn (conn_due (observe h) x.number.value)) (r.heeded i x e).votes (row_unplanned p h i x r e g))
       where
         step : (m v w : Bool) → (m ≡ true → w ≡ true) → (m && not v && w) ≡ false → (not m || v) ≡ true
         step true true w f k = refl
@@ -347,6 +355,14 @@ asked_row p q at h w k =
       asked = subst (λ n. has (q n) h ≡ true) (eqb-true e f.1.number.value (and_left (is_of e f.1) (is_promotable f.1.class) f.3)) one.1;
     }
 
+-- a promotable isn't lost
+unvolatile : (c : Class) → is_volatile c ≡ true → is_promotable c ≡ true → ⊥
+unvolatile Promotable v k = absurd cc
+unvolatile c v k = absurd cc
+
+promotable_there : (p : ℕ → Plan) (h : List Entry) (i : ℕ) (x : Row) → IsUnowed p h → slice_get (rows h) i ≡ Some x → is_promotable x.class ≡ true → is_gone (observe h) x.number.value ≡ false
+promotable_there p h i x r e k = false_from_ne_true (is_gone (observe h) x.number.value) (λ g. unvolatile x.class (r.spared i x e g).of_volatile k)
+
 -- what is still open is so by its reply alone
 open_still : (a b q d : Bool) → q ≡ true → d ≡ false → (a && not b && q && not d) ≡ false → (a && not b) ≡ false
 open_still true true q d s t k = refl
@@ -376,7 +392,7 @@ promotion_replied p h r u k = by (asked_row is_ask_promote is_asked_to_promote a
         done (has is_ask_promote h) (has is_promote_reply h) k
         (open_still (has is_ask_promote h) (has is_promote_reply h) (is_promotable x.class) (is_some (latest decision_of h)) a.promotable (ap is_some (none_decided h u))
         (promotion_unowed (p x.number.value) (owes_vote (observe h) x) (owes_promotion (observe h) x) (owes_outcome (observe h) x) (owes_request (observe h) x)
-        (note_of_conn (conn_due (observe h) x.number.value)) heeded.votes (heeded.promotes a.asked) (row_unplanned p h a.place x r a.stands)))
+        (note_of_conn (conn_due (observe h) x.number.value)) heeded.votes (heeded.promotes a.asked) (row_unplanned p h a.place x r a.stands (promotable_there p h a.place x r a.stands a.promotable))))
 
 -- and one that was asked for its single phase has requested
 pub commit_requested : (p : ℕ → Plan) (h : List Entry) → IsUnowed p h → has is_decision h ≡ false → has is_ask_single h ≡ true → has is_request h ≡ true
@@ -400,7 +416,7 @@ commit_requested p h r u k = by (asked_row is_ask_single is_asked_alone at h r.w
         (open_still (has is_ask_single h) (has is_request h) (is_promotable x.class) (is_some (latest decision_of h)) a.promotable (ap is_some (none_decided h u))
         (request_unowed (p x.number.value) (owes_vote (observe h) x) (owes_promotion (observe h) x) (owes_outcome (observe h) x) (owes_request (observe h) x)
         (note_of_conn (conn_due (observe h) x.number.value)) heeded.votes
-        (replied (has is_ask_promote h) (has is_promote_reply h) (is_promotable x.class) (is_some (latest decision_of h)) (promotion_replied p h r u)) (heeded.commits a.asked) (row_unplanned p h a.place x r a.stands)))
+        (replied (has is_ask_promote h) (has is_promote_reply h) (is_promotable x.class) (is_some (latest decision_of h)) (promotion_replied p h r u)) (heeded.commits a.asked) (row_unplanned p h a.place x r a.stands (promotable_there p h a.place x r a.stands a.promotable))))
 
 -- The plan of one that is willing has each reply that is due of it.
 pub willing_heeded : (p : Plan) (h : List Entry) (x : Row) → is_willing p x.class ≡ true → IsHeeded p h x

@@ -19,7 +19,7 @@ use Rattle.dtx_model.specs.History.{CanCommit}
 use Rattle.dtx_model.proofs.Quiet.{wire_run_of}
 use Rattle.outcome_law.proofs.Names.{call_makes, script_once}
 use Rattle.outcome_law.proofs.Planned.{plan_same}
-use Rattle.outcome_law.proofs.Whole.{is_opened_once, is_sent_on, whole_of}
+use Rattle.outcome_law.proofs.Whole.{is_opened_once, is_sent_on, none_severed, whole_of}
 use Rattle.outcome_law.proofs.Fine.{IsFine, is_caused}
 use Rattle.outcome_law.proofs.OnTheWay.{is_on_its_way, is_unplaced}
 use Rattle.outcome_law.proofs.Rest.{is_after_start, is_begun, is_ordered, is_sound}
@@ -71,7 +71,7 @@ governed s k t h named c r can began =
     let made : AreMade G calls h = ran_made G t steps w ran in
     let same : waiting calls h ≡ waiting (entered_in s h) h = waiting_read s t steps w ran in
     let run = wire_run_of G t h c.freely in
-    let whole = whole_of h r.opened can.unlost in
+    let whole = whole_of h r.opened (none_severed h can.unlost) in
     let fine : IsFine h =
     record {
       whole = whole;

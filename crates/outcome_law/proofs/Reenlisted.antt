@@ -1,4 +1,4 @@
--- The block of a reenlistment keeps the table: the one that comes back had its ENLISTED, and its connection opens again only after a loss.
+-- The block of a reenlistment keeps the table: the one that comes back had its ENLISTED, and its connection opens again only after a cut or a stop.
 use Rattle.std.proofs.Common.{◌≡◌, ◌==◌, Bool, true, false, ◌&&◌, ◌||◌, List, [], ◌∷◌, Option, Some, None, refl, ◌∙◌, ap}
 use Rattle.std.specs.Prelude.{is_some, not, map, filter, if◌then◌else◌}
 use Rattle.std.proofs.lemmas.Bool.{or_left}
@@ -15,7 +15,7 @@ use Rattle.dtx_values.specs.Lines.{has_line}
 use Rattle.dtx_model.specs.declared.branch.Branch.{Branch}
 use Rattle.dtx_model.specs.Words.{each, has}
 use Rattle.dtx_model.specs.Observed.{branch_number, branches, is_branch}
-use Rattle.dtx_model.specs.History.{is_loss}
+use Rattle.outcome_law.specs.Severed.{is_severing}
 use Rattle.dtx_model.specs.Promotes.{is_enlisted_got}
 use Rattle.dtx_model.specs.Wires.{ended_after, ends, holds, is_ended, is_lost_wire, is_stopped, loses, lost_after, lost_since, opens}
 use Rattle.dtx_model.specs.Tied.{is_stop}
@@ -27,52 +27,52 @@ use Rattle.outcome_law.proofs.Keeping.{Keeps, keeps_before}
 use Rattle.outcome_law.proofs.Sendings.{got_line}
 use Rattle.outcome_law.proofs.Recording.{stopped_stop}
 
--- Where a connection is lost, there was a loss.
-stop_loss : (x : Entry) → is_stop x ≡ true → is_loss x ≡ true
+-- Where a connection is lost, there was a cut or a stop.
+stop_loss : (x : Entry) → is_stop x ≡ true → is_severing x ≡ true
 stop_loss Stopped t = refl
 stop_loss _ t = absurd cc
 
-stopped_loss : (h : List Entry) → is_stopped h ≡ true → has is_loss h ≡ true
-stopped_loss h s = has_more is_stop is_loss stop_loss h (stopped_stop h s)
+stopped_loss : (h : List Entry) → is_stopped h ≡ true → has is_severing h ≡ true
+stopped_loss h s = has_more is_stop is_severing stop_loss h (stopped_stop h s)
 
-loses_loss : (c : Conn) (x : Entry) (h : List Entry) → Keeps (x ∷ h) → loses c x ≡ true → is_loss x ≡ true
+loses_loss : (c : Conn) (x : Entry) (h : List Entry) → Keeps (x ∷ h) → loses c x ≡ true → is_severing x ≡ true
 loses_loss c Stopped h k t = refl
 loses_loss c (Cut d u w) h k t = refl
 loses_loss c (Got d r m) h k t = absurd (not_both (has_line d r m) (got_line d r m h k) (not_true (has_line d r m) (and_right (same_connection c d) (not (has_line d r m)) t)))
 loses_loss c _ h k t = absurd cc
 
-lost_loss : (c : Conn) (h : List Entry) → Keeps h → is_lost_wire c h ≡ true → has is_loss h ≡ true
+lost_loss : (c : Conn) (h : List Entry) → Keeps h → is_lost_wire c h ≡ true → has is_severing h ≡ true
 lost_loss c [] k t = absurd cc
 lost_loss c (x ∷ h) k t = step (lost_loss c h (keeps_before x h k)) (lost_since c h) refl t
   where
-    stopped : is_stopped h ≡ true → has is_loss (x ∷ h) ≡ true
-    stopped s = or_right (is_loss x) (has is_loss h) (stopped_loss h s)
+    stopped : is_stopped h ≡ true → has is_severing (x ∷ h) ≡ true
+    stopped s = or_right (is_severing x) (has is_severing h) (stopped_loss h s)
 
-    first : (b : Bool) → holds (if b then Some (is_stopped h) else None) ≡ true → has is_loss (x ∷ h) ≡ true
+    first : (b : Bool) → holds (if b then Some (is_stopped h) else None) ≡ true → has is_severing (x ∷ h) ≡ true
     first true t = stopped t
     first false t = absurd cc
 
-    later : (b l : Bool) → (l ≡ true → has is_loss h ≡ true) → holds (if b then Some (is_stopped h) else Some (l || loses c x)) ≡ true → has is_loss (x ∷ h) ≡ true
+    later : (b l : Bool) → (l ≡ true → has is_severing h ≡ true) → holds (if b then Some (is_stopped h) else Some (l || loses c x)) ≡ true → has is_severing (x ∷ h) ≡ true
     later true l f t = stopped t
-    later false l f t = or_case l (loses c x) (λ q. or_right (is_loss x) (has is_loss h) (f q)) (λ q. or_left (is_loss x) (has is_loss h) (loses_loss c x h k q)) t
+    later false l f t = or_case l (loses c x) (λ q. or_right (is_severing x) (has is_severing h) (f q)) (λ q. or_left (is_severing x) (has is_severing h) (loses_loss c x h k q)) t
 
-    step : (is_lost_wire c h ≡ true → has is_loss h ≡ true) → (o : Option Bool) → lost_since c h ≡ o → holds (lost_after c h x o) ≡ true → has is_loss (x ∷ h) ≡ true
+    step : (is_lost_wire c h ≡ true → has is_severing h ≡ true) → (o : Option Bool) → lost_since c h ≡ o → holds (lost_after c h x o) ≡ true → has is_severing (x ∷ h) ≡ true
     step ih None e t = first (opens c x) t
     step ih (Some l) e t = later (opens c x) l (λ q. ih (ap holds e ∙ q)) t
 
 -- Whose end was seen, was lost.
-ends_loss : (c : Conn) (x : Entry) (h : List Entry) → Keeps (x ∷ h) → ends c Down x ≡ true → has is_loss h ≡ true
+ends_loss : (c : Conn) (x : Entry) (h : List Entry) → Keeps (x ∷ h) → ends c Down x ≡ true → has is_severing h ≡ true
 ends_loss c (End d r) h k t =
     lost_loss d h (keeps_before (End d r) h k) (and_left (is_lost_wire d h) _ (and_left (is_lost_wire d h && _) _ k.wires.0))
 ends_loss c (Got d r m) h k t =
     absurd (not_both (has_line d r m) (got_line d r m h k) (not_true (has_line d r m) (and_right (same_connection c d && same_direction Down r) (not (has_line d r m)) t)))
 ends_loss c _ h k t = absurd cc
 
-pub ended_loss : (c : Conn) (h : List Entry) → Keeps h → is_ended c Down h ≡ true → has is_loss h ≡ true
+pub ended_loss : (c : Conn) (h : List Entry) → Keeps h → is_ended c Down h ≡ true → has is_severing h ≡ true
 ended_loss c [] k t = absurd cc
-ended_loss c (x ∷ h) k t = or_right (is_loss x) (has is_loss h) (step (ended_loss c h (keeps_before x h k)) (opens c x) t)
+ended_loss c (x ∷ h) k t = or_right (is_severing x) (has is_severing h) (step (ended_loss c h (keeps_before x h k)) (opens c x) t)
   where
-    step : (is_ended c Down h ≡ true → has is_loss h ≡ true) → (b : Bool) → ended_after b false (ends c Down x || is_ended c Down h) ≡ true → has is_loss h ≡ true
+    step : (is_ended c Down h ≡ true → has is_severing h ≡ true) → (b : Bool) → ended_after b false (ends c Down x || is_ended c Down h) ≡ true → has is_severing h ≡ true
     step ih true t = absurd cc
     step ih false t = or_case (ends c Down x) (is_ended c Down h) (λ q. ends_loss c x h k q) ih t
 

@@ -32,7 +32,7 @@ use Rattle.dtx_model.specs.Tied.{can_log, has_mark, is_logged}
 use Rattle.dtx_model.specs.Wires.{is_stopped, opens}
 use Rattle.dtx_model.specs.Promotes.{ends_refused, ends_told, is_begun_got, is_created_got, is_enlisted_got, is_promoting, is_refusal, is_under_way}
 use Rattle.dtx_model.specs.Caused.{is_begin_sent, same_vote}
-use Rattle.dtx_model.specs.History.{is_loss}
+use Rattle.outcome_law.specs.Severed.{is_severing}
 use Rattle.outcome_law.proofs.Rule.{all_complete, is_answer, is_certain, is_cloned, is_decided, is_enlisted, is_only, is_volatile_of, zeros_cast}
 
 -- the coordinator got this enlistment's ENLIST
@@ -108,7 +108,7 @@ abbrev pub is_abort_decided : List Entry → Bool
 is_abort_decided h = is_decided Aborted (latest decision_of h)
 
 -- what a message needs before it, on a connection that carries it. A message that opens b, v or an enlistment's connection is sent once, one that opens a
--- reenlistment's again only where something was lost. A commit is sent where it was logged, over a reenlistment's connection where there is a record; an abort or a
+-- reenlistment's again only where a connection was cut or the coordinator stopped. A commit is sent where it was logged, over a reenlistment's connection where there is a record; an abort or a
 -- refusal where the coordinator aborted.
 abbrev pub message_row : List Entry → Conn → Message → Bool
 message_row h c BeginBegin = not (has (opens Begin) h)
@@ -131,7 +131,7 @@ message_row h c (EnlistRefused cause) = coordinator_aborted h
 message_row h c EnlistPrepare = has is_commit_got h
 message_row h c EnlistCommit = has is_logged h
 message_row h c EnlistAbort = coordinator_aborted h
-message_row h c (ReenlistReenlist i) = is_of_conn c i && (not (has (opens c) h) || has is_loss h)
+message_row h c (ReenlistReenlist i) = is_of_conn c i && (not (has (opens c) h) || has is_severing h)
 message_row h c ReenlistCommitted = has_mark h
 message_row h c ReenlistAborted = coordinator_aborted h
 message_row h c _ = true

@@ -4,10 +4,10 @@ use Rattle.std.proofs.Common.{◌≡◌, ◌==◌, ◌∙◌, ℕ, Bool, true, f
 use Rattle.std.specs.Prelude.{find, is_some, not, if◌then◌else◌}
 use Rattle.std.proofs.lemmas.Bool.{eqb-true, or_left}
 use Rattle.dtx_values.specs.declared.call.Call.{Call}
-use Rattle.dtx_values.specs.declared.call.Call.TheVariants.{Reenlist, Tick}
+use Rattle.dtx_values.specs.declared.call.Call.TheVariants.{Gone, Reenlist, Tick}
 use Rattle.dtx_values.specs.declared.entry.Answer.{Answer}
 use Rattle.dtx_values.specs.declared.entry.Entry.{Entry}
-use Rattle.dtx_values.specs.declared.entry.Entry.TheVariants.{Called, Clock, Down as End, Got, Late, Reenlisted, Sent, TimedOut, Told}
+use Rattle.dtx_values.specs.declared.entry.Entry.TheVariants.{Called, Clock, Down as End, Got, Late, Lost, Reenlisted, Sent, TimedOut, Told}
 use Rattle.dtx_values.specs.declared.entry.Party.{Party}
 use Rattle.dtx_values.specs.declared.entry.Party.TheVariants.{Client, Enl as Member}
 use Rattle.dtx_values.specs.declared.message.Conn.{Conn}
@@ -39,7 +39,7 @@ use Rattle.dtx_model.specs.Arrivals.{aborted_by, arrived, local_got, place_given
 use Rattle.dtx_model.specs.Coordinated.{core_got, may_log}
 use Rattle.dtx_model.specs.Facts.{facts_if, has_facts, is_late, reaches, tick_facts, ticked, time_up}
 use Rattle.dtx_model.specs.Replies.{reply_entries}
-use Rattle.dtx_model.specs.World.{World, answer_at, branch_answer, core, facts_at, half, is_connected, is_finished_there, reenlist_answer, reenlist_by, reenlist_facts, unless_stopped}
+use Rattle.dtx_model.specs.World.{World, answer_at, branch_answer, core, facts_at, gone_by, half, is_connected, is_finished_there, open_ones, reenlist_answer, reenlist_by, reenlist_facts, unless_stopped}
 use Rattle.dtx_model.specs.Steps.{Step, Calls, Replies, Acts, Coordinates, Delivers, Stops, Restarts, after, block_at, coordinates, delivered, ended_at, got_by, restarted}
 use Rattle.dtx_model.specs.Caused.{Ran}
 use Rattle.dtx_model.proofs.Bools.{and_both, and_left, and_never, and_right, not_both, or_case, or_right}
@@ -62,7 +62,7 @@ use Rattle.outcome_law.proofs.ByTable.{ruled_later}
 use Rattle.outcome_law.proofs.Coming.{AreComing}
 use Rattle.outcome_law.proofs.ComingRuns.{ran_coming}
 use Rattle.outcome_law.proofs.HalfHeard.{is_told_here}
-use Rattle.outcome_law.proofs.CommonBlocks.{common_act, common_arrived, common_called, common_coordinates, common_core_got, common_decide, common_ended_at, common_reply, common_restarted, common_unless, common_veto, is_common, is_reenlist, is_usual, usual_block}
+use Rattle.outcome_law.proofs.CommonBlocks.{common_act, common_arrived, common_called, common_coordinates, common_core_got, common_decide, common_ended_at, common_gone, common_reply, common_restarted, common_unless, common_veto, gone_parts, gone_passes, gone_rest, is_common, is_reenlist, is_usual, usual_block}
 use Rattle.outcome_law.proofs.PromotesRuns.{keeps_past, keeps_start}
 
 -- Who comes back had its ENLISTED.
@@ -151,6 +151,9 @@ unfolding after block_at answer_at
 step_returned t w (Calls n a (Tick u i) m) k =
     let y = answer_at t w (Tick u i) m in tick_unreturned (Called n a y ∷ w.past) (half w) (ticked (half w).seen.clock i) (has_facts y) k
 step_returned t w (Calls n a (Reenlist e) m) k = back_returned t w n a e (half w).seen.limit k
+step_returned t w (Calls n a (Gone e) m) k =
+    let y = answer_at t w (Gone e) m in
+    unreturned (Called n a y ∷ w.past) (facts_if (has_facts y) (gone_by w e (open_ones w e))) (gone_passes is_unreturning usual_unreturning w e (open_ones w e) (has_facts y) refl) k
 step_returned t w m k = unreturned w.past (block_at t w m) (each_more is_usual is_unreturning usual_unreturning (block_at t w m) (usual_block t w m refl)) k
 
 pub ran_returned : (G : ℕ → ActorNo → Call → Type 0) (t : ℕ) (ms : List Step) (w : World) → Ran G t ms w → AreReturned w.past
@@ -371,9 +374,15 @@ back_told t h o false a = a
 back_told t h (Some x) true a = a
 back_told t h None true a = a
 
+-- a loss
+lost_told : (w : World) (h : List Entry) (e : EnlNo) (cs : List Conn) (b : Bool) → AreTold h → AreTold (onto h (facts_if b (gone_by w e cs)))
+lost_told w h e cs false a = a
+lost_told w h e cs true a = subst (λ (es : List Entry). AreTold (onto h es)) (sym (gone_parts w e cs)) (common_told (Lost e ∷ h) (gone_rest w e cs) (common_gone w e cs).proof a)
+
 call_told : (t : ℕ) (w : World) (n : ℕ) (a : ActorNo) (c : Call) (y : Answer) → AreTold w.past → AreTold (onto w.past (Called n a y ∷ facts_if (has_facts y) (facts_at t w c y)))
 call_told t w n a (Tick u i) y k = tick_told (Called n a y ∷ w.past) (half w) (ticked (half w).seen.clock i) (has_facts y) k
 call_told t w n a (Reenlist e) y k = back_told t (Called n a y ∷ w.past) (find (is_branch e.value) (half w).seen.branches) (has_facts y) k
+call_told t w n a (Gone e) y k = lost_told w (Called n a y ∷ w.past) e (open_ones w e) (has_facts y) k
 call_told t w n a c y k = common_told (Called n a y ∷ w.past) (facts_if (has_facts y) (facts_at t w c y)) (common_called t w c y refl).proof k
 
 -- the arrivals

@@ -6,7 +6,7 @@ use Rattle.dtx_values.specs.declared.number.ActorNo.{ActorNo}
 use Rattle.dtx_values.specs.declared.number.EnlNo.{EnlNo}
 use Rattle.dtx_values.specs.declared.number.TxNo.{TxNo}
 use Rattle.dtx_values.specs.declared.call.Call.{Call}
-use Rattle.dtx_values.specs.declared.call.Call.TheVariants.{Reenlist, Tick}
+use Rattle.dtx_values.specs.declared.call.Call.TheVariants.{Gone, Reenlist, Tick}
 use Rattle.dtx_values.specs.declared.entry.Answer.{Answer}
 use Rattle.dtx_values.specs.declared.entry.Entry.{Entry}
 use Rattle.dtx_values.specs.declared.entry.Entry.TheVariants.{Called, Clock, Late, TimedOut}
@@ -17,12 +17,12 @@ use Rattle.dtx_model.specs.Seen.{is_clock_from, is_first_over, is_behind_first, 
 use Rattle.dtx_model.specs.declared.branch.Branch.{Branch}
 use Rattle.dtx_model.specs.Half.{Half, veto}
 use Rattle.dtx_model.specs.Facts.{facts_if, has_facts, is_late, reaches, ticked, time_up}
-use Rattle.dtx_model.specs.World.{World, answer_at, facts_at, half, reenlist_facts}
+use Rattle.dtx_model.specs.World.{World, answer_at, facts_at, half, open_ones, reenlist_facts}
 use Rattle.dtx_model.specs.Steps.{Step, Calls, after, block_at}
 use Rattle.dtx_model.specs.Caused.{FreelyCaused, Ran}
 use Rattle.dtx_model.proofs.Bools.{and_left, and_right, and_both, or_false, not_false}
 use Rattle.outcome_law.proofs.Scans.{each_more}
-use Rattle.outcome_law.proofs.CommonBlocks.{common_veto, is_usual, usual, usual_block}
+use Rattle.outcome_law.proofs.CommonBlocks.{common_veto, gone_passes, is_usual, usual, usual_block}
 
 -- a clock isn't below the clock before it and fits a u64, and an entry of a timeout is timely
 abbrev is_on_time : List Entry → Entry → Bool
@@ -135,6 +135,8 @@ unfolding after block_at
 step_on t w (Calls n a (Tick u i) m) r = tick_on t w n a u i (answer_at t w (Tick u i) m) (has_facts (answer_at t w (Tick u i) m)) r
 step_on t w (Calls n a (Reenlist e) m) r =
     let y = answer_at t w (Reenlist e) m in timeless_on (Called n a y ∷ w.past) (facts_if (has_facts y) (facts_at t w (Reenlist e) y)) (return_timeless t w e y (has_facts y)) r
+step_on t w (Calls n a (Gone e) m) r =
+    let y = answer_at t w (Gone e) m in timeless_on (Called n a y ∷ w.past) (facts_if (has_facts y) (facts_at t w (Gone e) y)) (gone_passes is_timeless usual_timeless w e (open_ones w e) (has_facts y) refl) r
 step_on t w m r = usual_on w.past (block_at t w m) (usual_block t w m refl) r
 
 -- what the steps make is on time

@@ -1,4 +1,5 @@
--- A settled history of a script in which nothing was lost and the commit was asked for, promoted or not: the client was told, or there is something that it waits for.
+-- A settled history of a script in which no connection was cut, the coordinator didn't stop and the commit was asked for, promoted or not: the client was told, or there is something
+-- that it waits for.
 use Rattle.std.proofs.Common.{◌≡◌, ℕ, Bool, true, false, ◌&&◌, ◌||◌, List, [], ◌∷◌, slice_get, Some, refl, ◌∙◌, ap, sym, subst}
 use Rattle.std.specs.Prelude.{is_none, is_some, not}
 use Rattle.std.proofs.lemmas.Bool.{false_from_ne_true, or_left}
@@ -24,7 +25,8 @@ use Rattle.dtx_model.specs.Replies.{may_still_vote}
 use Rattle.dtx_model.specs.World.{World}
 use Rattle.dtx_model.specs.Grammar.{are_named_well}
 use Rattle.dtx_model.specs.Caused.{Caused, IsCallOf, Settled, entered_in, is_promoting_entry, plans_of}
-use Rattle.dtx_model.specs.History.{IsToldOrWaits, is_loss, is_silent, is_waiting}
+use Rattle.dtx_model.specs.History.{IsToldOrWaits, is_silent, is_waiting}
+use Rattle.outcome_law.specs.Severed.{is_severing}
 use Rattle.dtx_model.proofs.Bools.{and_both, and_left, and_right, not_both, not_false, not_true, or_first, or_right, or_second}
 use Rattle.dtx_model.proofs.Local.{free-local}
 use Rattle.outcome_law.proofs.Scans.{has_less, has_more}
@@ -59,14 +61,15 @@ use Rattle.outcome_law.proofs.ClosedRows.{kept_shut}
 use Rattle.outcome_law.proofs.ClosedTables.{sealed_zeros}
 use Rattle.outcome_law.proofs.HalfRows.{open_blocks, row_marked, row_voted, rows_enlisted}
 use Rattle.outcome_law.proofs.Promotions.{maker_called}
-use Rattle.outcome_law.proofs.UnstoppedTies.{unlost_tied}
+use Rattle.outcome_law.proofs.UnstoppedTies.{unsevered_tied}
 use Rattle.outcome_law.proofs.Steady.{run_steady}
 use Rattle.outcome_law.proofs.Promised.{run_rows}
 use Rattle.outcome_law.proofs.Ending.{ran_goes}
 use Rattle.outcome_law.proofs.Announced.{ran_announces}
 use Rattle.outcome_law.proofs.UndecidedFine.{undecided_fine}
+use Rattle.outcome_law.proofs.LostVoters.{ran_voters, row_spared}
 
--- no restart comes where nothing was lost
+-- no restart comes where nothing was severed
 unrestarted : (h : List Entry) → Keeps h → whole h ≡ true → has is_restart h ≡ false
 unrestarted [] k w = refl
 unrestarted (Restarted found ∷ h) k w = absurd (not_both (is_stopped h) (newest (Restarted found) h k) (unstopped h (before (Restarted found) h w)))
@@ -130,23 +133,25 @@ none_silent s h i x quiet e =
     (λ k. not_both (has (λ y. is_silent (plans_of s y.number.value) h y.number.value) (rows h)) (has-at (λ y. is_silent (plans_of s y.number.value) h y.number.value) (rows h) i x e k)
     (has_rows (λ (e : EnlNo) (c : Class). is_silent (plans_of s e.value) h e.value) h ∙ quiet))
 
--- A settled history in which a promotion began, nothing was lost and the commit was asked for, and that waits for nothing, is at rest; so its client was told.
-at_rest : (s : List Line) (k t : ℕ) (h : List Entry) → are_named_well s ≡ true → Caused s k t h → has is_loss h ≡ false → has is_promoting h ≡ true → Settled s h → has is_commit h ≡ true → is_waiting s h ≡ false
+-- A settled history in which a promotion began, nothing was severed and the commit was asked for, and that waits for nothing, is at rest; so its client was told.
+at_rest : (s : List Line) (k t : ℕ) (h : List Entry) → are_named_well s ≡ true → Caused s k t h → has is_severing h ≡ false → has is_promoting h ≡ true → Settled s h → has is_commit h ≡ true → is_waiting s h ≡ false
     → IsAtRest (entered_in s h) h
-at_rest s k t h named c unlost began settled asked idles =
+at_rest s k t h named c unsevered began settled asked idles =
     let G = IsCallOf s t in
     let calls = c.freely.0 in
     let steps = c.freely.1.0 in
     let w : World = record { calls = calls; past = h } in
     let ran = c.freely.1.1 in
     let once = script_once s t named in
-    let tie = unlost_tied G t h c.freely unlost in
+    let tie = unsevered_tied G t h c.freely unsevered in
     let stands = (run_steady G t steps w once ran tie).stands in
     let keeps = stands.keeps in
     let more = run_rows G t steps w ran keeps in
     let made : AreMade G calls h = ran_made G t steps w ran in
     let same : waiting calls h ≡ waiting (entered_in s h) h = waiting_read s t steps w ran in
-    let entire = whole_of h (kept_opened h keeps) unlost in
+    let entire = whole_of h (kept_opened h keeps) unsevered in
+    let made_once = ran_once G t steps w once ran in
+    let voters = ran_voters G t steps w ran (record { keeps = keeps; unsevered = unsevered }) in
     let later = ruled_later h keeps.rules in
     let sound = kept_sound h keeps in
     let ordered = kept_ordered h keeps in
@@ -159,11 +164,11 @@ at_rest s k t h named c unlost began settled asked idles =
     undecided_fine h
     (record {
       stands = stands;
-      unlost = unlost;
+      unsevered = unsevered;
       caused = more.caused;
       quiet = record { paid = pays.paid; free = pays.free; empty = empty };
       going = ran_goes G t steps w once ran tie;
-      announced = ran_announces G t steps w ran (record { keeps = keeps; unlost = unlost });
+      announced = ran_announces G t steps w ran (record { keeps = keeps; unsevered = unsevered });
     }) in
     let plans : (e : ℕ) → has (is_enlisted e) h ≡ true → plan_of (entered_in s h) e ≡ plans_of s e =
     λ e q. let m = (made.enlisted e q).0 in
@@ -172,8 +177,8 @@ at_rest s k t h named c unlost began settled asked idles =
     let unowed : has is_decision h ≡ false → IsUnowed (plan_of (entered_in s h)) h =
     λ d. record {
       fine = fine d;
-      unlost = unlost;
-      once = ran_once G t steps w once ran;
+      spared = λ i x e g. row_spared h i x keeps made_once d voters e g;
+      once = made_once;
       there = more.there;
       well = more.well;
       heeded = λ i x e. subst (λ p. IsHeeded p h x) (sym (plans x.number.value (rows_enlisted h i x keeps e))) (heeded (plans_of s x.number.value) h i x keeps e (none_silent s h i x quiet e));
@@ -204,9 +209,9 @@ at_rest s k t h named c unlost began settled asked idles =
       started = began;
     }
 
--- Where nothing was lost: a settled history in which the commit was asked for, promoted or not.
-pub told_promoted : (s : List Line) (k t : ℕ) (h : List Entry) → are_named_well s ≡ true → Caused s k t h → has is_loss h ≡ false → IsToldOrWaits s h
-told_promoted s k t h named c unlost = λ settled asked. by settled asked (has is_promoting_entry h) refl
+-- Where nothing was severed: a settled history in which the commit was asked for, promoted or not.
+pub told_promoted : (s : List Line) (k t : ℕ) (h : List Entry) → are_named_well s ≡ true → Caused s k t h → has is_severing h ≡ false → IsToldOrWaits s h
+told_promoted s k t h named c unsevered = λ settled asked. by settled asked (has is_promoting_entry h) refl
   where
     same_entry : (x : Entry) → is_promoting_entry x ≡ true → is_promoting x ≡ true
     same_entry (Promoting c) k = k
@@ -217,7 +222,7 @@ told_promoted s k t h named c unlost = λ settled asked. by settled asked (has i
     waits false e f = or_left (is_some (latest client_told_of h)) false (f refl)
 
     by : Settled s h → has is_commit h ≡ true → (b : Bool) → has is_promoting_entry h ≡ b → (is_some (latest client_told_of h) || is_waiting s h) ≡ true
-    by settled asked true q = waits (is_waiting s h) refl (λ n. told_at_rest (entered_in s h) h (at_rest s k t h named c unlost (has_more is_promoting_entry is_promoting same_entry h q) settled asked n))
+    by settled asked true q = waits (is_waiting s h) refl (λ n. told_at_rest (entered_in s h) h (at_rest s k t h named c unsevered (has_more is_promoting_entry is_promoting same_entry h q) settled asked n))
     by settled asked false q =
         let kept = script_kept s t h named c.freely (ap not q) in
         let home = free-local (IsCallOf s t) t h c.freely (ap not q) in

@@ -1,4 +1,5 @@
--- Where nothing is lost and nothing ends the transaction of itself, nothing bad comes: no veto, no abort, no refusal. So it is where all are willing.
+-- Where nothing is lost and nothing ends the transaction of itself, nothing bad comes: no veto, no abort, no refusal. So it is where all are willing. While nothing is decided, an
+-- enlistment may be lost as well.
 use Rattle.std.proofs.Common.{◌≡◌, ℕ, zero, suc, ◌==◌, Bool, true, false, ◌&&◌, ◌||◌, List, [], ◌∷◌, ◌++◌, Option, Some, None, refl, sym, subst, ap}
 use Rattle.std.specs.Prelude.{not, take, if◌then◌else◌}
 use Rattle.std.proofs.lemmas.Bool.{eqb-true, or_left, false_from_ne_true}
@@ -24,12 +25,12 @@ use Rattle.dtx_values.specs.Ends.{same_connection, same_direction}
 use Rattle.dtx_values.specs.Lines.{has_line}
 use Rattle.dtx_values.specs.Vote.{is_no, voted_well}
 use Rattle.dtx_model.specs.Words.{has, each, ever, always, latest, all_of}
-use Rattle.dtx_model.specs.Entries.{decision_of, handed_of, is_owner, is_yes, same_outcome}
+use Rattle.dtx_model.specs.Entries.{decision_of, handed_of, is_decision, is_owner, is_yes, same_outcome}
 use Rattle.dtx_model.specs.Caused.{is_as_planned, is_outcome_planned, is_promotion_planned, is_request_planned, is_vote_planned}
 use Rattle.dtx_model.specs.History.{is_asked_in_time, is_committed, is_ending, is_loss, is_willing, nobody}
 use Rattle.dtx_model.specs.Learned.{coordinator_aborted, is_abort, is_first_abort}
 use Rattle.dtx_model.specs.Outcome.{can_own, coordinator_doubt, doubt, enlisted, is_begin_end, is_empty, is_lost_owner, is_outcome_got, is_veto, is_veto_end, is_voter_end, owner_doubt}
-use Rattle.dtx_model.specs.Promotes.{ends_refused, ends_told, is_refusal}
+use Rattle.dtx_model.specs.Promotes.{ends_refused, ends_told, is_failed, is_refusal}
 use Rattle.dtx_model.specs.Wires.{WireRun, holds, is_ended, is_lost_wire, is_next, is_stopped, kept, in_transit, transit_after_stop, lost_since, opened_with, opens, sent_behind, is_open_wire, without_first}
 use Rattle.dtx_model.proofs.Bools.{and_left, and_right, and_both, or_case, or_false, or_first, or_second, or_right, not_both}
 use Rattle.outcome_law.proofs.Rule.{is_decided}
@@ -109,7 +110,7 @@ got_sent c d m p h n k = came c d p h (first (in_transit c d h) n)
     first [] n = absurd n
     first (x ∷ ms) n = let P : Message → Type 0 = λ y. (p y || has p ms) ≡ true in subst P n (or_left (p m) (has p ms) k)
 
--- Where nothing is lost no end comes.
+-- Where nothing is severed no end comes.
 unlost : (c : Conn) (h : List Entry) → has (opens c) h ≡ false → lost_since c h ≡ None
 unlost c [] k = refl
 unlost c (x ∷ h) k = rw (unlost c h (or_second (opens c x) (has (opens c) h) k), or_first (opens c x) (has (opens c) h) k) refl
@@ -131,24 +132,24 @@ fine_before x h f = record {
   unbad = or_second (is_bad x) (has is_bad h) f.unbad;
 }
 
--- the newest entry isn't bad, and no veto
+-- the newest entry isn't bad, and where it is no loss no veto
 first_good : (x : Entry) (h : List Entry) → IsFine (x ∷ h) → is_bad x ≡ false
 first_good x h f = or_first (is_bad x) (has is_bad h) f.unbad
 
-no_veto : (x : Entry) (h : List Entry) → IsFine (x ∷ h) → is_veto h x ≡ false
-no_veto RollbackAsked h f = absurd cc
-no_veto TimedOut h f = absurd cc
-no_veto (Voted e No) h f = absurd cc
-no_veto (OwnerAnswered e Aborted) h f = absurd cc
-no_veto (PromoteReply e ok) h f = first_good (PromoteReply e ok) h f
-no_veto (Requested e Abort) h f = absurd cc
-no_veto LogFull h f = absurd cc
-no_veto (Restarted found) h f = absurd cc
-no_veto CommitAsked h f = asked_well h (and_left (is_asked_in_time h CommitAsked) (always is_asked_in_time h) f.in_time)
-no_veto (Lost e) h f = absurd cc
-no_veto (End c d) h f = absurd cc
-no_veto (Got c d m) h f = let l : has_line c d m ≡ true = newest (Got c d m) h f.whole in rw l refl
-no_veto x h f = refl
+no_veto : (x : Entry) (h : List Entry) → IsFine (x ∷ h) → is_loss x ≡ false → is_veto h x ≡ false
+no_veto RollbackAsked h f l = absurd cc
+no_veto TimedOut h f l = absurd cc
+no_veto (Voted e No) h f l = absurd cc
+no_veto (OwnerAnswered e Aborted) h f l = absurd cc
+no_veto (PromoteReply e ok) h f l = first_good (PromoteReply e ok) h f
+no_veto (Requested e Abort) h f l = absurd cc
+no_veto LogFull h f l = absurd cc
+no_veto (Restarted found) h f l = absurd cc
+no_veto CommitAsked h f l = asked_well h (and_left (is_asked_in_time h CommitAsked) (always is_asked_in_time h) f.in_time)
+no_veto (Lost e) h f l = absurd cc
+no_veto (End c d) h f l = absurd cc
+no_veto (Got c d m) h f l = let line : has_line c d m ≡ true = newest (Got c d m) h f.whole in rw line refl
+no_veto x h f l = refl
 
 no_refusal : (x : Entry) (h : List Entry) → IsFine (x ∷ h) → is_refusal x ≡ false
 no_refusal (Got Begin Down BeginAborted) h f = absurd cc
@@ -163,10 +164,11 @@ unended x [] f = refl
 unended x (Got (Enl e) Down EnlistAbort ∷ h) f = let q : true ≡ false = or_first true (has is_bad h) (or_second (is_bad x) (true || has is_bad h) f.unbad) in absurd cc
 unended x (y ∷ h) f = refl
 
--- nothing stands that is to blame for an abort
-pub no_blame : (h : List Entry) → IsFine h → ends_refused h ≡ false
-no_blame [] f = refl
-no_blame (x ∷ h) f = or_false (is_veto h x || is_refusal x) (ends_told h x) (or_false (is_veto h x) (is_refusal x) (no_veto x h f) (no_refusal x h f)) (unended x h f)
+-- where nothing is lost, nothing stands that is to blame for an abort
+pub no_blame : (h : List Entry) → IsFine h → has is_loss h ≡ false → ends_refused h ≡ false
+no_blame [] f l = refl
+no_blame (x ∷ h) f l =
+    or_false (is_veto h x || is_refusal x) (ends_told h x) (or_false (is_veto h x) (is_refusal x) (no_veto x h f (or_first (is_loss x) (has is_loss h) l)) (no_refusal x h f)) (unended x h f)
 
 -- the coordinator hasn't aborted
 no_abort_here : (x : Entry) (h : List Entry) → IsFine (x ∷ h) → is_abort h x ≡ false
@@ -200,12 +202,12 @@ decided_well x (Decided y ∷ h) u k = same x y k (or_first (is_bad_outcome y) (
     same x y k u = absurd cc
 decided_well x (y ∷ h) u k = decided_well x h (or_second (is_bad y) (has is_bad h) u) k
 
--- nobody holds the commit in doubt
-no_doubt : (h : List Entry) → IsFine h → doubt h ≡ false
+-- where nothing is lost, nobody holds the commit in doubt
+no_doubt : (h : List Entry) → IsFine h → has is_loss h ≡ false → doubt h ≡ false
 unfolding doubt owner_doubt coordinator_doubt
-no_doubt h f =
+no_doubt h f l =
     or_false (owner_doubt h) (coordinator_doubt h)
-    (or_false (has (λ e. has (is_owner e.value InDoubt) h) (all_of handed_of h)) (ever is_lost_owner h) (unanswered (all_of handed_of h)) (unlost_owner h f.unbad))
+    (or_false (has (λ e. has (is_owner e.value InDoubt) h) (all_of handed_of h)) (ever is_lost_owner h) (unanswered (all_of handed_of h)) (unlost_owner h l))
     (unseen (has is_yes h) (has is_begin_end h) (has is_voter_end h) (not (has is_outcome_got h)) (unseen_end h f))
   where
     answered : (e : ℕ) (x : Entry) → is_owner e InDoubt x ≡ true → is_bad x ≡ true
@@ -221,10 +223,10 @@ no_doubt h f =
     unanswered [] = refl
     unanswered (e ∷ es) = or_false (has (is_owner e.value InDoubt) h) (has (λ e. has (is_owner e.value InDoubt) h) es) (has_less (is_owner e.value InDoubt) is_bad (answered e.value) h f.unbad) (unanswered es)
 
-    unlost_owner : (h : List Entry) → has is_bad h ≡ false → ever is_lost_owner h ≡ false
-    unlost_owner [] u = refl
-    unlost_owner (Lost e ∷ h) u = absurd cc
-    unlost_owner (x ∷ h) u = unlost_owner h (or_second (is_bad x) (has is_bad h) u)
+    unlost_owner : (h : List Entry) → has is_loss h ≡ false → ever is_lost_owner h ≡ false
+    unlost_owner [] n = refl
+    unlost_owner (Lost e ∷ h) n = absurd cc
+    unlost_owner (x ∷ h) n = unlost_owner h (or_second (is_loss x) (has is_loss h) n)
 
     unseen_end : (h : List Entry) → IsFine h → has is_begin_end h ≡ false
     unseen_end [] f = refl
@@ -237,10 +239,10 @@ no_doubt h f =
     unseen false b c d k = refl
 
 -- nothing is to blame for a decision
-undue : (h : List Entry) → IsFine h → blames h ≡ false
-undue [] f = refl
-undue (PromotionFailed ∷ h) f = absurd cc
-undue (x ∷ h) f = no_blame (x ∷ h) f
+undue : (h : List Entry) → IsFine h → has is_loss h ≡ false → blames h ≡ false
+undue [] f l = refl
+undue (PromotionFailed ∷ h) f l = absurd cc
+undue (x ∷ h) f l = no_blame (x ∷ h) f l
 
 not_requested : (h : List Entry) → IsFine h → ends_requested h ≡ false
 not_requested [] f = refl
@@ -306,35 +308,54 @@ good_told InDoubt h f r = decided_well InDoubt h f.unbad (either (is_decided InD
     either true k = refl
     either false k = absurd cc
 
--- the newest entry isn't bad, where it doesn't end the transaction of itself
-good_here : (x : Entry) (h : List Entry) → IsFine h → WireRun (x ∷ h) → is_origin x ≡ false → is_loss x ≡ false → is_caused h x ≡ true → is_bad x ≡ false
-good_here RollbackAsked h f run n l r = absurd cc
-good_here TimedOut h f run n l r = absurd cc
-good_here LogFull h f run n l r = absurd cc
-good_here (Lost e) h f run n l r = absurd cc
-good_here (Voted e v) h f run n l r = n
-good_here (OwnerAnswered e x) h f run n l r = n
-good_here (PromoteReply e ok) h f run n l r = n
-good_here (Requested e Abort) h f run n l r = absurd cc
-good_here PromotionFailed h f run n l r = absurd (not_both (ends_refused h) r (no_blame h f))
-good_here (Decided Aborted) h f run n l r = absurd (not_both (blames h) r (undue h f))
-good_here (Decided InDoubt) h f run n l r = absurd (not_both (doubt h) r (no_doubt h f))
-good_here (Told q x) h f run n l r = good_told x h f r
-good_here (Sent c d m) h f run n l r = good_sent m h f r
-good_here (Got c d m) h f run n l r = good_got c d m h f run.0
-good_here (End c d) h f run n l r = absurd (no_end c d h f.whole run)
-good_here (Restarted found) h f run n l r = absurd (not_both (is_stopped h) r (unstopped h f.whole))
-good_here x h f run n l r = refl
+-- the newest entry isn't bad, where it doesn't end the transaction of itself, and is no decision and no failure of the promotion
+good_open : (x : Entry) (h : List Entry) → IsFine h → WireRun (x ∷ h) → is_origin x ≡ false → is_decision x ≡ false → is_failed x ≡ false → is_caused h x ≡ true → is_bad x ≡ false
+good_open RollbackAsked h f run n d u r = absurd cc
+good_open TimedOut h f run n d u r = absurd cc
+good_open LogFull h f run n d u r = absurd cc
+good_open (Voted e v) h f run n d u r = n
+good_open (OwnerAnswered e x) h f run n d u r = n
+good_open (PromoteReply e ok) h f run n d u r = n
+good_open (Requested e Abort) h f run n d u r = absurd cc
+good_open PromotionFailed h f run n d u r = absurd cc
+good_open (Decided x) h f run n d u r = absurd cc
+good_open (Told q x) h f run n d u r = good_told x h f r
+good_open (Sent c m v) h f run n d u r = good_sent v h f r
+good_open (Got c m v) h f run n d u r = good_got c m v h f run.0
+good_open (End c m) h f run n d u r = absurd (no_end c m h f.whole run)
+good_open (Restarted found) h f run n d u r = absurd (not_both (is_stopped h) r (unstopped h f.whole))
+good_open x h f run n d u r = refl
+
+-- nor where nothing is lost before it
+good_here : (x : Entry) (h : List Entry) → IsFine h → WireRun (x ∷ h) → is_origin x ≡ false → has is_loss h ≡ false → is_caused h x ≡ true → is_bad x ≡ false
+good_here PromotionFailed h f run n l r = absurd (not_both (ends_refused h) r (no_blame h f l))
+good_here (Decided Committed) h f run n l r = refl
+good_here (Decided Aborted) h f run n l r = absurd (not_both (blames h) r (undue h f l))
+good_here (Decided InDoubt) h f run n l r = absurd (not_both (doubt h) r (no_doubt h f l))
+good_here x h f run n l r = good_open x h f run n refl refl r
 
 -- where nothing is lost and nothing ends the transaction of itself, nothing bad comes
 pub unblamed : (h : List Entry) → whole h ≡ true → WireRun h → always is_asked_in_time h ≡ true → has is_origin h ≡ false → has is_loss h ≡ false → always is_caused h ≡ true → has is_bad h ≡ false
 unblamed [] w run a n l r = refl
 unblamed (x ∷ h) w run a n l r =
     let in_time = and_right (is_asked_in_time h x) (always is_asked_in_time h) a in
-    let past = unblamed h (before x h w) run.1 in_time (or_second (is_origin x) (has is_origin h) n) (or_second (is_loss x) (has is_loss h) l) (and_right (is_caused h x) (always is_caused h) r) in
+    let unlost = or_second (is_loss x) (has is_loss h) l in
+    let past = unblamed h (before x h w) run.1 in_time (or_second (is_origin x) (has is_origin h) n) unlost (and_right (is_caused h x) (always is_caused h) r) in
     or_false (is_bad x) (has is_bad h)
-    (good_here x h (record { whole = before x h w; run = run.1; in_time = in_time; unbad = past }) run (or_first (is_origin x) (has is_origin h) n) (or_first (is_loss x) (has is_loss h) l)
+    (good_here x h (record { whole = before x h w; run = run.1; in_time = in_time; unbad = past }) run (or_first (is_origin x) (has is_origin h) n) unlost
     (and_left (is_caused h x) (always is_caused h) r)) past
+
+-- nor where nothing is decided, the promotion didn't fail, and nothing ends the transaction of itself, whoever was lost
+pub open_unblamed : (h : List Entry) → whole h ≡ true → WireRun h → always is_asked_in_time h ≡ true → has is_origin h ≡ false → has is_decision h ≡ false → has is_failed h ≡ false → always is_caused h ≡ true
+    → has is_bad h ≡ false
+open_unblamed [] w run a n d u r = refl
+open_unblamed (x ∷ h) w run a n d u r =
+    let in_time = and_right (is_asked_in_time h x) (always is_asked_in_time h) a in
+    let past = open_unblamed h (before x h w) run.1 in_time (or_second (is_origin x) (has is_origin h) n) (or_second (is_decision x) (has is_decision h) d) (or_second (is_failed x) (has is_failed h) u)
+    (and_right (is_caused h x) (always is_caused h) r) in
+    or_false (is_bad x) (has is_bad h)
+    (good_open x h (record { whole = before x h w; run = run.1; in_time = in_time; unbad = past }) run (or_first (is_origin x) (has is_origin h) n) (or_first (is_decision x) (has is_decision h) d)
+    (or_first (is_failed x) (has is_failed h) u) (and_left (is_caused h x) (always is_caused h) r)) past
 
 -- an enlistment of a number is willing, with a class that passes
 abbrev all_willing : (ℕ → Plan) → List Entry → Bool

@@ -1,4 +1,4 @@
--- Where nothing was lost, nothing is on the way and nothing is decided, nothing bad came: no veto, no abort, no refusal. For whatever ends the transaction decides at the local
+-- Where no connection was cut and the coordinator didn't stop, nothing is on the way and nothing is decided, nothing bad came: no veto, no abort, no refusal. For whatever ends the transaction decides at the local
 -- side in its block, or comes to the coordinator, which aborts and says so.
 use Rattle.std.proofs.Common.{◌≡◌, ℕ, ◌==◌, Bool, true, false, ◌&&◌, ◌||◌, List, [], ◌∷◌, refl, subst, sym}
 use Rattle.std.specs.Prelude.{not, if◌then◌else◌}
@@ -26,7 +26,7 @@ use Rattle.dtx_model.specs.Outcome.{enlisted, is_outcome_got}
 use Rattle.dtx_model.specs.Wires.{WireRun}
 use Rattle.dtx_model.specs.Coordinated.{Coordinated, abort_if, coordinate, follow, is_undecided, stage_after}
 use Rattle.dtx_model.specs.Caused.{same_vote}
-use Rattle.dtx_model.specs.History.{is_loss}
+use Rattle.outcome_law.specs.Severed.{is_severing}
 use Rattle.dtx_model.proofs.Bools.{and_left, and_right, and_both, not_both, not_false, not_true, or_case, or_false, or_first, or_second, or_right}
 use Rattle.outcome_law.proofs.Tests.{eq_self}
 use Rattle.outcome_law.proofs.Connections.{same_is}
@@ -49,7 +49,7 @@ use Rattle.outcome_law.proofs.Committed.{promoted_begun}
 use Rattle.outcome_law.proofs.CoreStages.{open_before}
 use Rattle.outcome_law.proofs.OpenedRows.{kept_opened}
 use Rattle.outcome_law.proofs.BeforeRows.{kept_sound}
-use Rattle.outcome_law.proofs.Unblamed.{unblamed}
+use Rattle.outcome_law.proofs.Unblamed.{open_unblamed}
 use Rattle.outcome_law.proofs.Ending.{IsGoingOn, IsUnended, is_local_end}
 use Rattle.outcome_law.proofs.Announced.{IsAnnounced}
 
@@ -80,17 +80,17 @@ none_ended [] u = refl
 none_ended (x ∷ h) u =
     or_false (is_core_end x) (has is_core_end h) (false_from_ne_true (is_core_end x) (λ q. core_ended (coordinate h) x q u)) (none_ended h (open_before (coordinate h) x u))
 
--- What is asked of the history: it keeps the table, nothing was lost, what is bad has its cause, each demand is paid, and nothing is on the way.
+-- What is asked of the history: it keeps the table, nothing was severed, what is bad has its cause, each demand is paid, and nothing is on the way.
 pub record IsSettling (h : List Entry) : Type 0 where
   pub stands : Stands h
-  pub unlost : has is_loss h ≡ false
+  pub unsevered : has is_severing h ≡ false
   pub caused : always is_caused h ≡ true
   pub quiet : IsQuiet h
   pub going : IsGoingOn h
   pub announced : IsAnnounced h
 
 whole_there : (h : List Entry) → IsSettling h → whole h ≡ true
-whole_there h r = whole_of h (kept_opened h r.stands.keeps) r.unlost
+whole_there h r = whole_of h (kept_opened h r.stands.keeps) r.unsevered
 
 -- the coordinator has decided nothing, since its decision would have come
 stage_open : (h : List Entry) → IsSettling h → has is_decision h ≡ false → is_undecided (coordinate h).stage ≡ true
@@ -257,7 +257,7 @@ undecided_fine h r d =
       whole = w;
       run = run;
       in_time = u.in_time;
-      unbad = unblamed h w run u.in_time (origin_absent h u.unended ended none_no none_requested (goes_on h r.stands d).unanswered) r.unlost r.caused;
+      unbad = open_unblamed h w run u.in_time (origin_absent h u.unended ended none_no none_requested (goes_on h r.stands d).unanswered) d (goes_on h r.stands d).unfailed r.caused;
     }
   where
     w : whole h ≡ true

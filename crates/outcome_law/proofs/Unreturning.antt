@@ -1,5 +1,5 @@
--- Where nothing was lost nobody comes back, in each world that steps made: the connection of whose ENLISTED was got is open, so a reenlistment is refused. So in a history of a
--- script in which nothing was lost, each that came back was told.
+-- Where no connection was cut and the coordinator didn't stop nobody comes back, in each world that steps made: the connection of whose ENLISTED was got is open, so a reenlistment
+-- is refused. So in such a history of a script, each that came back was told.
 use Rattle.std.proofs.Common.{◌≡◌, ℕ, Bool, true, false, ◌&&◌, ◌||◌, List, [], ◌∷◌, Option, Some, None, refl, ap, subst, sym, if◌then◌else◌}
 use Rattle.std.specs.Prelude.{find, is_some, not}
 use Rattle.std.proofs.lemmas.Bool.{or_left}
@@ -35,7 +35,8 @@ use Rattle.dtx_model.specs.World.{World, answer_at, branch_answer, core, facts_a
 use Rattle.dtx_model.specs.Steps.{LogAnswer, Done, Full, StoppedBefore, StoppedNow, Step, Calls, Replies, Acts, Coordinates, Delivers, Stops, Restarts, after, appended, block_at, coordinates, delivered, ended_at, freed, restarted}
 use Rattle.dtx_model.specs.Caused.{Caused, IsCallOf, Ran}
 use Rattle.dtx_model.specs.Grammar.{are_named_well}
-use Rattle.dtx_model.specs.History.{AreAnswered, is_loss}
+use Rattle.dtx_model.specs.History.{AreAnswered}
+use Rattle.outcome_law.specs.Severed.{is_severing}
 use Rattle.dtx_model.proofs.Bools.{and_left, and_right, not_both, not_true, or_false}
 use Rattle.outcome_law.proofs.Names.{script_once}
 use Rattle.outcome_law.proofs.Keeping.{newest}
@@ -45,9 +46,9 @@ use Rattle.outcome_law.proofs.Arrived.{stays}
 use Rattle.outcome_law.proofs.Openings.{unseen}
 use Rattle.outcome_law.proofs.Marks.{opened_if_enlisted}
 use Rattle.outcome_law.proofs.MildBlocks.{IsWide, Mild, is_mild, m_abort, m_act, m_commit, m_core_got, m_ended_at, m_local_got, wide_called, wide_mild, wide_reply}
-use Rattle.outcome_law.proofs.Announced.{IsUnlost, unlost_before, unlost_under}
+use Rattle.outcome_law.proofs.Announced.{IsUnsevered, unsevered_before, unsevered_under}
 use Rattle.outcome_law.proofs.Steady.{free_keeps}
-use Rattle.outcome_law.proofs.UnstoppedTies.{unlost_tied}
+use Rattle.outcome_law.proofs.UnstoppedTies.{unsevered_tied}
 use Rattle.outcome_law.proofs.Unreturned.{answered_where_none, is_reenlisted}
 
 -- nobody comes back by these entries
@@ -73,9 +74,9 @@ both_away h (x ∷ es) q a =
     both_away (x ∷ h) es (and_right (is_away x) (each is_away es) q) (or_false (is_reenlisted x) (has is_reenlisted h) (not_true (is_reenlisted x) (and_left (is_away x) (each is_away es) q)) a)
 
 -- whose ENLISTED was got is connected
-connected : (e : EnlNo) (h : List Entry) → IsUnlost h → has (is_enlisted_got e.value) h ≡ true → is_connected e h ≡ true
+connected : (e : EnlNo) (h : List Entry) → IsUnsevered h → has (is_enlisted_got e.value) h ≡ true → is_connected e h ≡ true
 connected e h u g =
-    let w = whole_of h (kept_opened h u.keeps) u.unlost in
+    let w = whole_of h (kept_opened h u.keeps) u.unsevered in
     or_left (is_linked (Enl e) h) (is_linked (Again e) h)
     (linked (is_some (lost_since (Enl e) h)) (is_ended (Enl e) Up h) (is_ended (Enl e) Down h) (has_left (Enl e) Up h) (has_left (Enl e) Down h) (ap is_some (stays (Enl e) h w (opened_if_enlisted e h u.keeps g))) (unseen (Enl e) Up h w u.keeps.wires))
   where
@@ -98,17 +99,17 @@ refused w b (Some d) k = step (not b.enlisted) (is_finished_there (half w).seen 
 
 -- the block of a reenlistment
 returns : (t : ℕ) (w : World) (n : ℕ) (a : ActorNo) (x : Answer) (o : Option Branch) (l : Option ℕ) (f : Bool) → has_facts (if_begun l (reenlist_by w o)) ≡ f
-    → IsUnlost (onto (Called n a x ∷ w.past) (facts_if f (reenlist_facts t o))) → IsAway w.past → IsAway (onto (Called n a x ∷ w.past) (facts_if f (reenlist_facts t o)))
+    → IsUnsevered (onto (Called n a x ∷ w.past) (facts_if f (reenlist_facts t o))) → IsAway w.past → IsAway (onto (Called n a x ∷ w.past) (facts_if f (reenlist_facts t o)))
 returns t w n a x o l false e u r = r
 returns t w n a x None l true e u r = r
 returns t w n a x (Some b) l true e u r =
     let last = Sent (Again b.enlistment) Up (ReenlistReenlist (info t b.enlistment b.manager)) in
-    let back = unlost_before last (Reenlisted b.enlistment ∷ Called n a x ∷ w.past) u in
-    let before = unlost_before (Called n a x) w.past (unlost_before (Reenlisted b.enlistment) (Called n a x ∷ w.past) back) in
+    let back = unsevered_before last (Reenlisted b.enlistment ∷ Called n a x ∷ w.past) u in
+    let before = unsevered_before (Called n a x) w.past (unsevered_before (Reenlisted b.enlistment) (Called n a x ∷ w.past) back) in
     absurd (not_both (has_facts (if_begun l (branch_answer w b))) e (refused w b l (connected b.enlistment w.past before (newest (Reenlisted b.enlistment) (Called n a x ∷ w.past) back.keeps))))
 
 reenlist_away : (t : ℕ) (w : World) (n : ℕ) (a : ActorNo) (e : EnlNo) (i : ℕ)
-    → IsUnlost (onto (Called n a (answer_at t w (Reenlist e) i) ∷ w.past) (facts_if (has_facts (answer_at t w (Reenlist e) i)) (facts_at t w (Reenlist e) (answer_at t w (Reenlist e) i)))) → IsAway w.past
+    → IsUnsevered (onto (Called n a (answer_at t w (Reenlist e) i) ∷ w.past) (facts_if (has_facts (answer_at t w (Reenlist e) i)) (facts_at t w (Reenlist e) (answer_at t w (Reenlist e) i)))) → IsAway w.past
     → IsAway (onto (Called n a (answer_at t w (Reenlist e) i) ∷ w.past) (facts_if (has_facts (answer_at t w (Reenlist e) i)) (facts_at t w (Reenlist e) (answer_at t w (Reenlist e) i))))
 unfolding answer_at
 reenlist_away t w n a e i u r =
@@ -135,7 +136,7 @@ restarted_away true found = refl
 restarted_away false found = refl
 
 -- after each step
-step_away : (t : ℕ) (w : World) (m : Step) → IsUnlost (after t w m).past → IsAway w.past → IsAway (after t w m).past
+step_away : (t : ℕ) (w : World) (m : Step) → IsUnsevered (after t w m).past → IsAway w.past → IsAway (after t w m).past
 unfolding after block_at
 step_away t w (Calls n a (Reenlist e) i) u r = reenlist_away t w n a e i u r
 step_away t w (Calls n a c i) u r =
@@ -148,18 +149,18 @@ step_away t w (Delivers c d) u r = both_away w.past (delivered t w c d (in_trans
 step_away t w Stops u r = both_away w.past (Stopped ∷ []) refl r
 step_away t w (Restarts found) u r = both_away w.past (restarted (core w).stopped found) (restarted_away (core w).stopped found) r
 
--- so in each world that steps made, in which nothing was lost
-pub ran_away : (G : ℕ → ActorNo → Call → Type 0) (t : ℕ) (ms : List Step) (w : World) → Ran G t ms w → IsUnlost w.past → IsAway w.past
+-- so in each world that steps made, in which nothing was severed
+pub ran_away : (G : ℕ → ActorNo → Call → Type 0) (t : ℕ) (ms : List Step) (w : World) → Ran G t ms w → IsUnsevered w.past → IsAway w.past
 unfolding after
 ran_away G t [] w r u = subst IsAway (sym r.1) refl
 ran_away G t (m ∷ ms) w r u =
     let v = r.0 in
-    let now = subst (λ (x : World). IsUnlost x.past) r.3 u in
-    subst (λ (x : World). IsAway x.past) (sym r.3) (step_away t v m now (ran_away G t ms v r.1 (unlost_under v.past (block_at t v m) now)))
+    let now = subst (λ (x : World). IsUnsevered x.past) r.3 u in
+    subst (λ (x : World). IsAway x.past) (sym r.3) (step_away t v m now (ran_away G t ms v r.1 (unsevered_under v.past (block_at t v m) now)))
 
--- in a history of a script in which nothing was lost, each that came back was told
-pub answered_unlost : (s : List Line) (k t : ℕ) (h : List Entry) → are_named_well s ≡ true → Caused s k t h → has is_loss h ≡ false → AreAnswered s h
-answered_unlost s k t h named c unlost =
+-- in a history of a script in which nothing was severed, each that came back was told
+pub answered_unsevered : (s : List Line) (k t : ℕ) (h : List Entry) → are_named_well s ≡ true → Caused s k t h → has is_severing h ≡ false → AreAnswered s h
+answered_unsevered s k t h named c unsevered =
     let G = IsCallOf s t in
-    let keeps = free_keeps G t h (script_once s t named) c.freely (unlost_tied G t h c.freely unlost) in
-    answered_where_none s h (ran_away G t c.freely.1.0 (record { calls = c.freely.0; past = h }) c.freely.1.1 (record { keeps = keeps; unlost = unlost }))
+    let keeps = free_keeps G t h (script_once s t named) c.freely (unsevered_tied G t h c.freely unsevered) in
+    answered_where_none s h (ran_away G t c.freely.1.0 (record { calls = c.freely.0; past = h }) c.freely.1.1 (record { keeps = keeps; unsevered = unsevered }))

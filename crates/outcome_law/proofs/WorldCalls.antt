@@ -39,7 +39,7 @@ use Rattle.dtx_model.specs.Observed.{branches, clock, clone_rows, is_branch, obs
 use Rattle.dtx_model.specs.Outcome.{by_log, by_owner, by_seal, doubt, enlisted, evidence, is_lost_owner, owner_doubt, ready}
 use Rattle.dtx_model.specs.Promotes.{identifier_of, is_enlisted_got, is_promoting, is_under_way}
 use Rattle.dtx_model.specs.Wires.{is_ended, opens}
-use Rattle.dtx_model.specs.History.{is_loss}
+use Rattle.outcome_law.specs.Severed.{is_severing}
 use Rattle.dtx_model.specs.declared.branch.Branch.{Branch}
 use Rattle.dtx_model.specs.Waiting.{Waiter, managed, waiting}
 use Rattle.dtx_model.specs.Half.{decide, enlist_sent, fails_if, info, is_gone, is_handed, sees, veto, veto_if, is_promoting as sees_promoting}
@@ -353,7 +353,7 @@ branch_done true false true c r e x k = absurd cc
 branch_done true false false true r e x k = absurd cc
 branch_done true false false false r e x k = (refl, refl)
 
-unlinked_row : (e : EnlNo) (h : List Entry) → Keeps h → is_connected e h ≡ false → (not (has (opens (Again e)) h) || has is_loss h) ≡ true
+unlinked_row : (e : EnlNo) (h : List Entry) → Keeps h → is_connected e h ≡ false → (not (has (opens (Again e)) h) || has is_severing h) ≡ true
 unlinked_row e h k u = step (has (opens (Again e)) h) refl
   where
     both_ended : (o a b l r : Bool) → o ≡ true → (o && (not (a && b) || l || r)) ≡ false → b ≡ true
@@ -362,7 +362,7 @@ unlinked_row e h k u = step (has (opens (Again e)) h) refl
     both_ended true true false l r p q = absurd cc
     both_ended true false b l r p q = absurd cc
 
-    step : (b : Bool) → has (opens (Again e)) h ≡ b → (not b || has is_loss h) ≡ true
+    step : (b : Bool) → has (opens (Again e)) h ≡ b → (not b || has is_severing h) ≡ true
     step false o = refl
     step true o =
         ended_loss (Again e) h k
@@ -377,14 +377,14 @@ found_branch p q (x ∷ bs) b k e = step (p x) e (found_branch p q bs b (and_rig
     step true e f = let same : x ≡ b = cc in subst (λ z. q z ≡ true) same (and_left (q x) (each q bs) k)
     step false e f = f e
 
-reenlist_block : (t : ℕ) (h : List Entry) (b : Branch) → Stands h → has (is_enlisted_got b.enlistment.value) h ≡ true → (not (has (opens (Again b.enlistment)) h) || has is_loss h) ≡ true
+reenlist_block : (t : ℕ) (h : List Entry) (b : Branch) → Stands h → has (is_enlisted_got b.enlistment.value) h ≡ true → (not (has (opens (Again b.enlistment)) h) || has is_severing h) ≡ true
     → Stands (onto h (reenlist_facts t (Some b)))
 reenlist_block t h b k g l =
     let promoting = promoting_if_enlisted b.enlistment.value h k.keeps g in
     stand (Sent (Again b.enlistment) Up (ReenlistReenlist (info t b.enlistment b.manager))) (Reenlisted b.enlistment ∷ h) refl tt
     (stand (Reenlisted b.enlistment) h refl tt k g (λ g. g))
-    (and_both (has is_promoting h && true) ((b.enlistment.value == b.enlistment.value) && (not (has (opens (Again b.enlistment)) h) || has is_loss h)) (and_both (has is_promoting h) true promoting refl)
-    (and_both (b.enlistment.value == b.enlistment.value) (not (has (opens (Again b.enlistment)) h) || has is_loss h) (eq_self b.enlistment.value) l)) (λ g. g)
+    (and_both (has is_promoting h && true) ((b.enlistment.value == b.enlistment.value) && (not (has (opens (Again b.enlistment)) h) || has is_severing h)) (and_both (has is_promoting h) true promoting refl)
+    (and_both (b.enlistment.value == b.enlistment.value) (not (has (opens (Again b.enlistment)) h) || has is_severing h) (eq_self b.enlistment.value) l)) (λ g. g)
 
 reenlist_call : (t : ℕ) (w : World) (n : ℕ) (a : ActorNo) (e : EnlNo) (l : Option ℕ) → Stands w.past
     → Stands (onto w.past (called t w n a (Reenlist e) (if_begun l (reenlist_answer w e))))

@@ -9,7 +9,8 @@ use Rattle.outcome_law.proofs.Promised.{caused_commits}
 use Rattle.outcome_law.proofs.Settlings.{settled_act, settled_unplanned}
 use Rattle.outcome_law.proofs.Silent.{told_or_waits}
 use Rattle.outcome_law.proofs.Told.{told_promoted}
-use Rattle.outcome_law.proofs.Unreturning.{answered_unlost}
+use Rattle.outcome_law.proofs.Unreturning.{answered_unsevered}
+use Rattle.outcome_law.proofs.Whole.{none_severed}
 use Rattle.outcome_law.proofs.completeness.Goals as goal
 
 pub returns-clause-told : goal.returns-clause-told
@@ -20,7 +21,10 @@ returns-clause-told c = λ s k t h named r u settled asked.
     told_or_waits s h kept (settled_act s t h named run home kept.rules settled) (settled_unplanned s t h named run home kept.rules settled) asked
 
 pub returns-clause-told_unlost : goal.returns-clause-told_unlost
-returns-clause-told_unlost c = told_promoted
+returns-clause-told_unlost c = λ s k t h named r u. told_promoted s k t h named r (none_severed h u)
+
+pub returns-clause-told_local : goal.returns-clause-told_local
+returns-clause-told_local c = told_promoted
 
 pub returns-clause-committed : goal.returns-clause-committed
 returns-clause-committed c = λ s k t h named r settled can. caused_commits s k t h named r settled can
@@ -29,4 +33,7 @@ pub returns-clause-answered : goal.returns-clause-answered
 returns-clause-answered c = λ s k t h named r u settled. ruled_answered (is_decided_there h) [] h (script_kept s t h named r.freely u).rules
 
 pub returns-clause-answered_unlost : goal.returns-clause-answered_unlost
-returns-clause-answered_unlost c = answered_unlost
+returns-clause-answered_unlost c = λ s k t h named r u. answered_unsevered s k t h named r (none_severed h u)
+
+pub returns-clause-answered_local : goal.returns-clause-answered_local
+returns-clause-answered_local c = answered_unsevered
