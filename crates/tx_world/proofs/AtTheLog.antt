@@ -20,7 +20,7 @@ use Rattle.local_half.specs.Half.{Known}
 use Rattle.coordinator_core.specs.Kept.{Kept as CoreKept}
 use Rattle.coordinator_log.specs.State.{LogState}
 use Rattle.tx_world.specs.State.{sends_begin}
-use Rattle.tx_world.specs.AtLog.{Acts, IsOurs, Kept as LogKept}
+use Rattle.tx_world.specs.AtLog.{Acts, IsFit, IsOurs, Keeps, KeepsLog, Kept as LogKept}
 use Rattle.tx_world.specs.Carried.{are_sendable}
 use Rattle.tx_world.specs.Course.{is_far, is_written}
 use Rattle.tx_world.specs.Kept.{Kept, Whole, stop_if, stopped_if}
@@ -203,6 +203,14 @@ acted_does faults t w h k j n x y o p from to acts did past lives =
     unbegun : (b : Bool) → b ≡ false → x.life ≡ (if b then from.life else x.life)
     unbegun true e = absurd cc
     unbegun false e = refl
+
+-- what its act keeps of the log the world keeps
+pub acted_keeps : {D : Type 0} (image : D → List ℕ → Type 0) (t : TxNo) (w v : World) (h : Known) (k : CoreKept) (x y : LogKept) (from to : LogState D) → Kept t w h k
+    → Keeps image (identifier_of k.transaction.value) (IsFit (identifier_of k.transaction.value) x.ours x.unsure) (IsFit (identifier_of k.transaction.value) y.ours y.unsure) from to
+    → KeepsLog image (seen_as t w x) from (seen_as t v y) to
+acted_keeps image t w v h k x y from to kept keeps =
+    let P : ℕ → Type 0 = λ id. Keeps image id (IsFit id x.ours x.unsure) (IsFit id y.ours y.unsure) from to in
+    subst P (ap (λ (j : CoreKept). identifier_of j.transaction.value) kept.core) keeps
 
 -- A coordinator that is told what an opening of the log found: where it still runs it stops first.
 told_state : (k : CoreKept) (found : Bool) → follow (stopped_if (not k.state.stopped) k).state (Restarted found) ≡ follow_all k.state (restarted k.state.stopped found)

@@ -42,6 +42,7 @@ keeps_appended image id k r o u v from to e n same held =
     record {
       fits = λ up. fits;
       imaged = λ a c i. same_ok c (open_records to.slots) (IsFit id (Some r) v) (held c i) fits;
+      logs = λ a c i. (open_records to.slots, held c i);
       others = others;
       others_imaged = λ c i. inr (same_ok c (open_records to.slots) (λ rs. of_others id rs ≡ of_others id (open_records from.slots)) (held c i) others);
     }
@@ -57,6 +58,7 @@ keeps_stopped image id k r o u from to e n same down held =
         | inl h ↦ same_ok c (open_records from.slots) (IsFit id (Some r) true) h (fit_unsure id (Some r) (open_records from.slots) n)
         | inr h ↦ same_ok c (insert (open_records from.slots) k r) (IsFit id (Some r) true) h (fit_insert id k r true (open_records from.slots) e n)
       ];
+      logs = λ a c i. elim (held c i) [ inl h ↦ (open_records from.slots, h) | inr h ↦ (insert (open_records from.slots) k r, h) ];
       others = ap (λ (ss : List (Option CommitRecord)). of_others id (open_records ss)) same;
       others_imaged = λ c i. inr (elim (held c i) [
         | inl h ↦ same_ok c (open_records from.slots) (λ rs. of_others id rs ≡ of_others id (open_records from.slots)) h refl
@@ -75,6 +77,7 @@ keeps_freed image id o u v from to f same held =
     record {
       fits = λ up. fits;
       imaged = λ a c i. same_ok c (open_records to.slots) (IsFit id None v) (held c i) fits;
+      logs = λ a c i. (open_records to.slots, held c i);
       others = others;
       others_imaged = λ c i. inr (same_ok c (open_records to.slots) (λ rs. of_others id rs ≡ of_others id (open_records from.slots)) (held c i) others);
     }
@@ -91,6 +94,7 @@ keeps_unfreed image id o u from to sure f same down held =
         | inl h ↦ same_ok c (open_records from.slots) (IsFit id o true) h (record { tie = inl (one_found id o u (open_records from.slots) sure f); one = f.one })
         | inr h ↦ same_ok c (without_first_of id (open_records from.slots)) (IsFit id o true) h (fit_unsure id o (without_first_of id (open_records from.slots)) gone)
       ];
+      logs = λ a c i. elim (held c i) [ inl h ↦ (open_records from.slots, h) | inr h ↦ (without_first_of id (open_records from.slots), h) ];
       others = ap (λ (ss : List (Option CommitRecord)). of_others id (open_records ss)) same;
       others_imaged = λ c i. inr (elim (held c i) [
         | inl h ↦ same_ok c (open_records from.slots) (λ rs. of_others id rs ≡ of_others id (open_records from.slots)) h refl
@@ -103,4 +107,4 @@ pub keeps_same : {D : Type 0} (image : D → List ℕ → Type 0) (id : ℕ) (o 
     → (IsTrue from.is_up → IsFit id o u (open_records from.slots)) → Keeps image id (IsFit id o u) (IsFit id o u) from to
 keeps_same {D} image id o u from to same f =
     let P : LogState D → Type 0 = λ l. Keeps image id (IsFit id o u) (IsFit id o u) from l in
-    subst P (sym same) (record { fits = f; imaged = λ a. a; others = refl; others_imaged = λ c i. inl i })
+    subst P (sym same) (record { fits = f; imaged = λ a. a; logs = λ a. a; others = refl; others_imaged = λ c i. inl i })

@@ -23,6 +23,7 @@ keeps_both image id f g h from at_it to a b =
     record {
       fits = b.fits;
       imaged = λ i. b.imaged (a.imaged i);
+      logs = λ i. b.logs (a.logs i);
       others = b.others ∙ a.others;
       others_imaged = λ c i. elim (b.others_imaged c i) [ inl k ↦ a.others_imaged c k | inr k ↦ inr (further (log_has c) k) ];
     }

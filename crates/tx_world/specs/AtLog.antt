@@ -1,5 +1,5 @@
 -- What the coordinator of one transaction keeps of the log, and what of the log is another's.
-use Rattle.std.specs.Prelude.{ℕ, ◌≡◌, ◌≢◌, ◌⊎◌, ◌↔◌, ◌≤◌, Bool, true, false, not, List, filter, length, Option, None, is_some, IfOk, IfSome, IsTrue, IsFalse}
+use Rattle.std.specs.Prelude.{ℕ, ◌≡◌, ◌≢◌, ◌⊎◌, ◌↔◌, ◌≤◌, Bool, true, false, not, List, filter, length, Option, None, is_some, IfOk, IfSome, IsTrue, IsFalse, Ok}
 use Rattle.dtx_values.specs.Outgoing.{Outgoing, written as put_out}
 use Rattle.outside.specs.Faults.{Rose}
 use Rattle.dtx_model.specs.Log.{CommitRecord, first_of, is_record_of, log_has}
@@ -39,11 +39,16 @@ Fits x rs = IsFit (id_of x) x.ours x.unsure rs
 abbrev pub AreFit : (List ℕ → Type 0) → (List CommitRecord → Type 0) → Type 0
 AreFit image fits = (c : List ℕ) → image c → IfOk (log_has c) fits
 
+-- each image that a crash can leave is a log, of whichever records
+abbrev pub AreLogs : (List ℕ → Type 0) → Type 0
+AreLogs image = (c : List ℕ) → image c → (rs : List CommitRecord) × (log_has c ≡ Ok rs)
+
 -- What a call of the transaction with this identifier leaves of an honest log, where this is what fits it before and after: where the log is up its records fit the
--- transaction; so do those of each image, where they did before; and the records of each other transaction stay, in the log and in each image.
+-- transaction; so do those of each image, where they did before; each image is a log, where each was before; and the records of each other transaction stay, in the log and in each image.
 pub record Keeps {D : Type 0} (image : D → List ℕ → Type 0) (id : ℕ) (fit_before fit_after : List CommitRecord → Type 0) (from to : LogState D) : Type 0 where
   pub fits : IsTrue to.is_up → fit_after (open_records to.slots)
   pub imaged : AreFit (image from.disk) fit_before → AreFit (image to.disk) fit_after
+  pub logs : AreLogs (image from.disk) → AreLogs (image to.disk)
   pub others : of_others id (open_records to.slots) ≡ of_others id (open_records from.slots)
   pub others_imaged : (c : List ℕ) → image to.disk c → image from.disk c ⊎ IfOk (log_has c) (λ rs. of_others id rs ≡ of_others id (open_records from.slots))
 

@@ -6,12 +6,13 @@ use Rattle.dtx_model.specs.Words.{each, onto, past_of}
 use Rattle.dtx_model.specs.World.{World}
 use Rattle.dtx_model.specs.Caused.{may_coordinate}
 use Rattle.dtx_model.specs.Steps.{LogAnswer, Coordinates, coordinates}
+use Rattle.tx_world.specs.AtLog.{KeepsLog}
 use Rattle.tx_world.specs.Carried.{are_sendable}
 use Rattle.tx_world.specs.Course.{is_written}
 use Rattle.tx_world.specs.State.{TxState}
 use Rattle.tx_world.specs.Stepping.{Does}
 use Rattle.dtx_model.specs.World.{core}
-use Rattle.tx_world.proofs.AtTheLog.{Acted, acted, acted_does, acted_whole, stop_only, written_only}
+use Rattle.tx_world.proofs.AtTheLog.{Acted, acted, acted_does, acted_keeps, acted_whole, stop_only, written_only}
 use Rattle.tx_world.proofs.Living.{seen_as}
 use Rattle.tx_world.proofs.Written.{block_of, stopped_is}
 use Rattle.tx_world.proofs.world.TxWorld.act_at_log.Goals as goal
@@ -91,3 +92,19 @@ returns-else-is_stopped-clause-done g c = λ ok.
     let did_so : (x : LogAnswer) × (may_coordinate (core w) x ≡ true) × Does g.D.Disk.faults (Coordinates x) (seen_as i.transaction w i.at_log) c.args.log.now (seen_as i.transaction v c.act.new.self) c.act.new.log
     = (a, did.may, acted_does g.D.Disk.faults i.transaction w i.half i.core c.act.new.core c.write.new.self.past i.at_log c.act.new.self c.clear.new.self c.act.new.out c.args.log.now c.act.new.log acts did past c.act.ensures.life.0) in
     subst (λ (y : TxState). (x : LogAnswer) × (may_coordinate (core y.world) x ≡ true) × Does g.D.Disk.faults (Coordinates x) y c.args.log.now (seen_as i.transaction v c.act.new.self) c.act.new.log) c.self.view_is did_so
+
+pub returns-then-is_stopped-clause-kept : goal.returns-then-is_stopped-clause-kept
+returns-then-is_stopped-clause-kept g c = λ honest.
+    let i = c.self.inside in
+    let w : World = record { calls = past_of i.calls.items; past = i.history.past } in
+    let v : World = record { calls = past_of i.calls.items; past = c.stop.new.self.past } in
+    subst (λ (y : TxState). KeepsLog g.D.Disk.image y c.args.log.now (seen_as i.transaction v c.act.new.self) c.act.new.log) c.self.view_is
+    (acted_keeps g.D.Disk.image i.transaction w v i.half i.core i.at_log c.act.new.self c.args.log.now c.act.new.log c.self.invariant.kept (c.act.ensures.kept honest))
+
+pub returns-else-is_stopped-clause-kept : goal.returns-else-is_stopped-clause-kept
+returns-else-is_stopped-clause-kept g c = λ honest.
+    let i = c.self.inside in
+    let w : World = record { calls = past_of i.calls.items; past = i.history.past } in
+    let v : World = record { calls = past_of i.calls.items; past = c.write.new.self.past } in
+    subst (λ (y : TxState). KeepsLog g.D.Disk.image y c.args.log.now (seen_as i.transaction v c.act.new.self) c.act.new.log) c.self.view_is
+    (acted_keeps g.D.Disk.image i.transaction w v i.half i.core i.at_log c.act.new.self c.args.log.now c.act.new.log c.self.invariant.kept (c.act.ensures.kept honest))
