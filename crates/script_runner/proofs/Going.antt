@@ -9,12 +9,13 @@ use Rattle.tx_world.specs.State.{TxState}
 use Rattle.script_runner.specs.RunState.{AreBelow, HaveSameCalls, LogGoes, RunState, Runs}
 
 -- a log that nothing touched
-pub goes_same : {D : Type 0} (faults : D → ℕ) (honest : Bool) (log : LogState D) → LogGoes faults honest log log
-goes_same faults honest log = record { grows = omega arith; stays = λ up none. inl up; still = λ up. up; unarmed = λ none. none; others = λ h up id out. refl }
+pub goes_same : {D : Type 0} (faults : D → ℕ) (honest : Bool) (image : D → List ℕ → Type 0) (log : LogState D) → LogGoes faults honest image log log
+goes_same faults honest image log = record { grows = omega arith; stays = λ up none. inl up; still = λ up. up; unarmed = λ none. none; others = λ h up id out. refl; logs = λ h are. are }
 
 -- two parts of a run in a row, at the log
-pub goes_then : {D : Type 0} (faults : D → ℕ) (honest : Bool) (a b c : LogState D) → LogGoes faults honest a b → LogGoes faults honest b c → LogGoes faults honest a c
-goes_then faults honest a b c p q =
+pub goes_then : {D : Type 0} (faults : D → ℕ) (honest : Bool) (image : D → List ℕ → Type 0) (a b c : LogState D) → LogGoes faults honest image a b → LogGoes faults honest image b c
+    → LogGoes faults honest image a c
+goes_then faults honest image a b c p q =
     record {
       grows = omega (arith, p.grows, q.grows);
       stays = λ up none.
@@ -28,6 +29,7 @@ goes_then faults honest a b c p q =
       still = λ up. p.still (q.still up);
       unarmed = λ none. q.unarmed (p.unarmed none);
       others = λ h up id out. q.others h up id out ∙ p.others h (q.still up) id out;
+      logs = λ h are. q.logs h (p.logs h are);
     }
 
 -- a run that nothing touched

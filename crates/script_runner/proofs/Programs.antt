@@ -27,6 +27,7 @@ use Rattle.script_runner.specs.Ending.{AreRecorded, HasNone, IsLog}
 use Rattle.script_runner.specs.Program.{IsCutShort, IsReplayOf, IsWritten}
 use Rattle.script_runner.specs.Refusal.{IsReplayText}
 use Rattle.script_runner.specs.RunState.{LogGoes}
+use Rattle.tx_world.specs.AtLog.{AreLogs}
 use Rattle.script_runner.specs.Transfer.{IsPartWritten}
 use Rattle.script_runner.proofs.Replayed.{unless_rose}
 use Rattle.script_runner.proofs.RunLines.{all_run_none, one_not_run}
@@ -82,18 +83,23 @@ pub none_there : (rs : List CommitRecord) → rs ≡ [] → HasNone rs
 none_there rs none t = ap (λ (xs : List CommitRecord). filter (is_record_of (identifier_of t.value)) xs) none
 
 -- it is up after a run in which no fault came,
-pub stays_up : {D : Type 0} (faults : D → ℕ) (honest : Bool) (from to : LogState D) → LogGoes faults honest from to → IsTrue from.is_up → from.armed ≡ None → (Rose (faults from.disk) (faults to.disk) → ⊥)
+pub stays_up : {D : Type 0} (faults : D → ℕ) (honest : Bool) (image : D → List ℕ → Type 0) (from to : LogState D) → LogGoes faults honest image from to → IsTrue from.is_up → from.armed ≡ None → (Rose (faults from.disk) (faults to.disk) → ⊥)
     → IsTrue to.is_up
-stays_up faults honest from to goes up unarmed none = unless_rose (goes.stays up unarmed) none
+stays_up faults honest image from to goes up unarmed none = unless_rose (goes.stays up unarmed) none
 
 -- and has then only records of the script's transactions
 pub is_log : {D : Type 0} (faults : D → ℕ) (honest : Bool) (image : D → List ℕ → Type 0) (start end : D) (from to : LogState D) → faults from.disk ≡ faults start → end ≡ to.disk → IsTrue from.is_up
-    → from.armed ≡ None → open_records from.slots ≡ [] → LogGoes faults honest from to → (IsTrue honest → IsTrue to.is_up → AllHold (image end) (open_records to.slots)) → IsTrue honest
+    → from.armed ≡ None → open_records from.slots ≡ [] → LogGoes faults honest image from to → (IsTrue honest → IsTrue to.is_up → AllHold (image end) (open_records to.slots)) → IsTrue honest
     → (Rose (faults start) (faults end) → ⊥) → IsLog (image end)
 is_log faults honest image start end from to smooth same up unarmed empty goes held h none =
     let calm = none_rose (faults start) (faults end) (faults from.disk) (faults to.disk) smooth (sym (ap faults same)) none in
-    let stands = stays_up faults honest from to goes up unarmed calm in
+    let stands = stays_up faults honest image from to goes up unarmed calm in
     (open_records to.slots, held h stands, λ id out. goes.others h stands id out ∙ ap (λ (xs : List CommitRecord). filter (is_record_of id) xs) empty)
+
+-- whatever came, each image is a log
+pub are_logs : {D : Type 0} (faults : D → ℕ) (honest : Bool) (image : D → List ℕ → Type 0) (end : D) (from to : LogState D) → end ≡ to.disk → (IsTrue honest → AllHold (image from.disk) [])
+    → LogGoes faults honest image from to → IsTrue honest → AreLogs (image end)
+are_logs faults honest image end from to same held goes h = subst (λ d. AreLogs (image d)) (sym same) (goes.logs h (λ c i. ([], held h c i)))
 
 -- What the top call knows when the text is to be written: the script in what was read, the replay's text over a log that had no record, and what each image holds of it.
 pub record HasText (rise : ℕ) (honest : Bool) (image : List ℕ → Type 0) (given : Option (List ℕ)) (text : List ℕ) : Type 0 where
@@ -109,7 +115,7 @@ pub record HasText (rise : ℕ) (honest : Bool) (image : List ℕ → Type 0) (g
 
 -- That is so after a replay over a log that was made of a disk without a fault, where none came in the replay.
 pub has_text : {D : Type 0} (faults : D → ℕ) (honest : Bool) (image : D → List ℕ → Type 0) (start end : D) (from to : LogState D) (given : Option (List ℕ)) (bytes : List ℕ) (s : List Line) (text : List ℕ)
-    → faults from.disk ≡ faults start → end ≡ to.disk → IsTrue from.is_up → from.armed ≡ None → open_records from.slots ≡ [] → LogGoes faults honest from to
+    → faults from.disk ≡ faults start → end ≡ to.disk → IsTrue from.is_up → from.armed ≡ None → open_records from.slots ≡ [] → LogGoes faults honest image from to
     → (IsTrue honest → IsTrue to.is_up → AllHold (image end) (open_records to.slots)) → IsFront given bytes → Reads bytes s
     → ((Rose (faults from.disk) (faults to.disk) → ⊥) → IsReplayText s (faults to.disk - faults from.disk) honest (open_records from.slots) (open_records to.slots) text)
     → (Rose (faults start) (faults end) → ⊥) → HasText (faults end - faults start) honest (image end) given text
@@ -124,7 +130,7 @@ has_text faults honest image start end from to given bytes s text smooth same up
       front = front;
       reads = reads;
       none = empty;
-      held = λ h. held h (stays_up faults honest from to goes up unarmed calm);
+      held = λ h. held h (stays_up faults honest image from to goes up unarmed calm);
       replay =
           subst (λ (n : ℕ). IsReplayText s n honest (open_records from.slots) (open_records to.slots) text) (same_rise (faults start) (faults end) (faults from.disk) (faults to.disk) smooth last)
           (replayed calm);

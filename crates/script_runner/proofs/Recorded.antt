@@ -42,9 +42,9 @@ recorded_there s life t T x rs named tied calm fits =
     subst (λ (u : TxNo). length (filter (is_record_of (identifier_of u.value)) rs) ≡ (if has_mark (history t.value T) then 1 else 0)) named (there ∙ ap (λ b. if b then 1 else 0) found)
 
 -- and the whole log has those records, where those that are no transaction's stayed
-pub are_recorded : {D : Type 0} (faults : D → ℕ) (honest : Bool) (from to : LogState D) (r : RunState) (T : List Placed) → T ≡ r.trace → ((t : TxNo) → (state_of t r.worlds).transaction ≡ t) → IsTrue honest
-    → is_log_quiet (past_of T) ≡ true → Holds honest to r → LogGoes faults honest from to → AreRecorded (past_of T) (open_records from.slots) (open_records to.slots)
-are_recorded faults honest from to r T same numbered h k holds goes =
+pub are_recorded : {D : Type 0} (faults : D → ℕ) (honest : Bool) (image : D → List ℕ → Type 0) (from to : LogState D) (r : RunState) (T : List Placed) → T ≡ r.trace → ((t : TxNo) → (state_of t r.worlds).transaction ≡ t) → IsTrue honest
+    → is_log_quiet (past_of T) ≡ true → Holds honest to r → LogGoes faults honest image from to → AreRecorded (past_of T) (open_records from.slots) (open_records to.slots)
+are_recorded faults honest image from to r T same numbered h k holds goes =
     let quiet : IsQuiet r = subst (λ (U : List Placed). is_log_quiet (past_of U) ≡ true) same k in
     let there : (t : TxNo) → length (filter (is_record_of (identifier_of t.value)) (open_records to.slots)) ≡ (if has_mark (history t.value (past_of r.trace)) then 1 else 0) =
     λ t. recorded_there r.script to.life t (past_of r.trace) (state_of t r.worlds) (open_records to.slots) (numbered t) (holds.tied t) (holds.calm quiet t) (holds.fits h (holds.up quiet) t) in

@@ -102,7 +102,7 @@ did_step faults honest image s ws cs trace t k x y from to at =
 
 -- what it leaves of the log
 pub step_log : {D : Type 0} (faults : D → ℕ) (honest : Bool) (image : D → List ℕ → Type 0) (s : List Line) (ws : List TxState) (cs : List Standing) (trace : List Placed) (t : TxNo) (k : ℕ) (x y : TxState)
-    (from to : LogState D) → IsStepAt faults honest image s ws cs trace t k x y from to → LogGoes faults honest from to
+    (from to : LogState D) → IsStepAt faults honest image s ws cs trace t k x y from to → LogGoes faults honest image from to
 step_log faults honest image s ws cs trace t k x y from to d =
     record {
       grows = d.grows;
@@ -110,6 +110,7 @@ step_log faults honest image s ws cs trace t k x y from to d =
       still = d.still;
       unarmed = d.unarmed;
       others = λ h up. others_after image x y from to (d.kept h);
+      logs = λ h. (d.kept h).logs;
     }
 
 -- no call was entered

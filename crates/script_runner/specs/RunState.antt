@@ -22,7 +22,7 @@ use Rattle.coordinator_log.specs.Slots.{open_records}
 use Rattle.coordinator_log.specs.State.{LogState}
 use Rattle.outcome_law.specs.LogQuiet.{is_log_quiet}
 use Rattle.scope_context.specs.Standing.{Standing}
-use Rattle.tx_world.specs.AtLog.{Fits}
+use Rattle.tx_world.specs.AtLog.{AreLogs, Fits}
 use Rattle.tx_world.specs.State.{TxState}
 
 -- its script, the transactions by number up to the last that was called, the contexts of its actors, and its trace
@@ -87,13 +87,14 @@ abbrev pub AreOthersKept : {D : Type 0} → LogState D → LogState D → Type 0
 AreOthersKept from to = (id : ℕ) → ((t : TxNo) → identifier_of t.value ≡ id → ⊥) → filter (is_record_of id) (open_records to.slots) ≡ filter (is_record_of id) (open_records from.slots)
 
 -- How a log goes on under a run: the count of faults never falls; a log that is up, on which no stop is armed, is stopped by a fault alone, and none is armed; and the
--- records of others stay, where the log is honest and up.
-pub record LogGoes {D : Type 0} (faults : D → ℕ) (honest : Bool) (from to : LogState D) : Type 0 where
+-- records of others stay, where the log is honest and up; and each image that a crash of an honest disk can leave stays a log.
+pub record LogGoes {D : Type 0} (faults : D → ℕ) (honest : Bool) (image : D → List ℕ → Type 0) (from to : LogState D) : Type 0 where
   pub grows : faults from.disk ≤ faults to.disk
   pub stays : IsTrue from.is_up → from.armed ≡ None → IsTrue to.is_up ⊎ Rose (faults from.disk) (faults to.disk)
   pub still : IsTrue to.is_up → IsTrue from.is_up
   pub unarmed : from.armed ≡ None → to.armed ≡ None
   pub others : IsTrue honest → IsTrue to.is_up → AreOthersKept from to
+  pub logs : IsTrue honest → AreLogs (image from.disk) → AreLogs (image to.disk)
 
 -- What each part of a run does: the script stays, and a stop of the log stands in the trace only where a fault came.
 pub record Runs {D : Type 0} (faults : D → ℕ) (from to : LogState D) (old new : RunState) : Type 0 where

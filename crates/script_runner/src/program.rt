@@ -12,7 +12,9 @@ ghost use Rattle.dtx_model.specs.TraceText.{trace_text};
 ghost use Rattle.dtx_model.specs.Words.{each};
 ghost use Rattle.dtx_values.specs.declared.message.Info.{Info};
 ghost use Rattle.trace_text.specs.OneTrace.{is_carried_at, is_typed_at, named_at, told_at};
+ghost use Rattle.coordinator_log.specs.Crash.{AllHold};
 ghost use Rattle.coordinator_log.specs.Slots.{open_records};
+ghost use Rattle.tx_world.specs.AtLog.{AreLogs};
 ghost use Rattle.coordinator_log.specs.declared.layout.TheConstants.{LOG_BYTES};
 ghost use Rattle.dtx_model.specs.Faults.{Bad};
 ghost use Rattle.script_runner.specs.Program.{AreWords, IsCutShort, IsWritten};
@@ -77,7 +79,7 @@ fn replayed<D: Disk>(
     requires unarmed { log.old.armed ≡ None }
     requires none { IsTrue D.honest → HasNone (open_records log.old.slots) }
     ensures text { (Rose (D.faults log.old.disk) (D.faults log.new.disk) → ⊥) → IfOk result (λ text. IsReplayText script.now (D.faults log.new.disk - D.faults log.old.disk) D.honest (open_records log.old.slots) (open_records log.new.slots) text.items) }
-    ensures log { LogGoes D.faults D.honest log.old log.new }
+    ensures log { LogGoes D.faults D.honest D.image log.old log.new }
 {
     let trace = run_replay(alloc, script, log)?;
     print_trace(alloc, &trace)
@@ -95,6 +97,7 @@ enum FormatStop {
 /// Makes the disk an empty log, or hands it back.
 fn formatted<D: Disk>(alloc: Global, disk: D) -> Result<Log<D>, (FormatStop, D)>
     requires { LOG_BYTES ≤ D.size disk }
+    ensures images { IsTrue D.honest → IfOk result (λ log. AllHold (D.image log.disk) []) }
     ensures up { IfOk result (λ log. IsTrue log.is_up) }
     ensures unarmed { IfOk result (λ log. log.armed ≡ None) }
     ensures empty { IfOk result (λ log. open_records log.slots ≡ []) }
@@ -155,6 +158,7 @@ pub fn run_program<S: Source, K: Sink, D: Disk>(
     ensures memory { result.0 ≡ Exit.Memory → (Rose (D.faults disk) (D.faults result.1) → ⊥) → (sink.new ≡ sink.old) ⊎ IsCutShort (D.faults result.1 - D.faults disk) D.honest (D.image result.1) (S.left source.old) (K.written sink.old) (K.written sink.new) }
     ensures unwritten { (result.0 ≡ Exit.Usage) ⊎ ((result.0 ≡ Exit.ReadFault) ⊎ ((result.0 ≡ Exit.LogFault) ⊎ IsJudged result.0)) → sink.new ≡ sink.old }
     ensures room { LOG_BYTES ≤ D.size result.1 }
+    ensures logs { IsTrue D.honest → result.0 ≢ Exit.LogFault → (result.1 ≡ disk) ⊎ AreLogs (D.image result.1) }
     ensures given_up { IsTrue D.honest → result.0 ≡ Exit.Memory → (Rose (D.faults disk) (D.faults result.1) → ⊥) → (result.1 ≡ disk) ⊎ IsLog (D.image result.1) }
     ensures untouched { (result.0 ≡ Exit.Usage) ⊎ ((result.0 ≡ Exit.ReadFault) ⊎ IsJudged result.0) → result.1 ≡ disk }
 {

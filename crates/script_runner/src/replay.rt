@@ -179,7 +179,7 @@ impl<'a> Run<'a> {
     fn step<D: Disk>(&mut self, log: &mut Log<D>, t: TxNo, k: u8) -> Result<bool, WorldError>
         requires holds { Holds D.honest log.old self.old }
         ensures contexts { self.new.contexts ≡ self.old.contexts }
-        ensures log { LogGoes D.faults D.honest log.old log.new }
+        ensures log { LogGoes D.faults D.honest D.image log.old log.new }
         ensures runs { OnOk result (Runs D.faults log.old log.new self.old self.new) }
         ensures holds { OnOk result (Holds D.honest log.new self.new) }
         ensures calls { HaveSameCalls self.old.worlds self.new.worlds }
@@ -223,7 +223,7 @@ impl<'a> Run<'a> {
     ) -> Result<u16, WorldError>
         requires holds { Holds D.honest log.old self.old }
         ensures contexts { self.new.contexts ≡ self.old.contexts }
-        ensures log { LogGoes D.faults D.honest log.old log.new }
+        ensures log { LogGoes D.faults D.honest D.image log.old log.new }
         ensures runs { OnOk result (Runs D.faults log.old log.new self.old self.new) }
         ensures holds { OnOk result (Holds D.honest log.new self.new) }
         ensures calls { HaveSameCalls self.old.worlds self.new.worlds }
@@ -242,7 +242,7 @@ impl<'a> Run<'a> {
     fn settle<D: Disk>(&mut self, log: &mut Log<D>, t: TxNo) -> Result<(), WorldError>
         requires holds { Holds D.honest log.old self.old }
         ensures contexts { self.new.contexts ≡ self.old.contexts }
-        ensures log { LogGoes D.faults D.honest log.old log.new }
+        ensures log { LogGoes D.faults D.honest D.image log.old log.new }
         ensures runs { OnOk result (Runs D.faults log.old log.new self.old self.new) }
         ensures holds { OnOk result (Holds D.honest log.new self.new) }
         ensures calls { HaveSameCalls self.old.worlds self.new.worlds }
@@ -259,7 +259,7 @@ impl<'a> Run<'a> {
     /// Settles t1, t2 and so on in turn. As long as the log isn't stopped, no step of one makes another's pending: so one round leaves nothing.
     fn settle_round<D: Disk>(&mut self, log: &mut Log<D>) -> Result<(), WorldError>
         requires holds { Holds D.honest log.old self.old }
-        ensures log { LogGoes D.faults D.honest log.old log.new }
+        ensures log { LogGoes D.faults D.honest D.image log.old log.new }
         ensures runs { OnOk result (Runs D.faults log.old log.new self.old self.new) }
         ensures holds { OnOk result (Holds D.honest log.new self.new) }
         ensures settled { OnOk result (IsQuiet self.new → (start : List Placed) → IsSettledBelow self.old.script start 1 (past_of self.old.trace) → IsSettledBelow self.old.script start (TxNo.MAX + 1) (past_of self.new.trace)) }
@@ -274,7 +274,7 @@ impl<'a> Run<'a> {
     /// Settles all, round after round. A fault that stops the log in a round may leave something to do in those before; once it is stopped, it stops no more.
     fn settle_all<D: Disk>(&mut self, log: &mut Log<D>) -> Result<(), WorldError>
         requires holds { Holds D.honest log.old self.old }
-        ensures log { LogGoes D.faults D.honest log.old log.new }
+        ensures log { LogGoes D.faults D.honest D.image log.old log.new }
         ensures runs { OnOk result (Runs D.faults log.old log.new self.old self.new) }
         ensures holds { OnOk result (Holds D.honest log.new self.new) }
         ensures settled { OnOk result (IsQuiet self.new → (start : List Placed) → IsSettledBelow self.old.script start 1 (past_of self.old.trace) → IsSettledBelow self.old.script start (TxNo.MAX + 1) (past_of self.new.trace)) }
@@ -368,7 +368,7 @@ impl<'a> Run<'a> {
         requires given { IsCallOf self.old.script t.value n actor c.now }
         requires entered { is_entered_yet c.now ≡ true }
         ensures contexts { self.new.contexts ≡ self.old.contexts }
-        ensures log { LogGoes D.faults D.honest log.old log.new }
+        ensures log { LogGoes D.faults D.honest D.image log.old log.new }
         ensures runs { OnOk result (Runs D.faults log.old log.new self.old self.new) }
         ensures holds { OnOk result (Holds D.honest log.new self.new) }
         ensures entered { OnOk result (AreBelow (n + 1) self.new.worlds) }
@@ -395,7 +395,7 @@ impl<'a> Run<'a> {
         requires open { AreOpen self.old.contexts (lines_before self.old.script n) }
         requires unopened { IsUnopened l.now.body (scopes_at l.now.actor self.old.contexts) }
         requires entered { (t : TxNo) (c : Call) → call_of self.old.script l.now.body ≡ Some (t, c) → is_entered_yet c ≡ true }
-        ensures log { LogGoes D.faults D.honest log.old log.new }
+        ensures log { LogGoes D.faults D.honest D.image log.old log.new }
         ensures runs { OnOk result (Runs D.faults log.old log.new self.old self.new) }
         ensures holds { OnOk result (Holds D.honest log.new self.new) }
         ensures entered { OnOk result (AreBelow (n + 1) self.new.worlds) }
@@ -416,7 +416,7 @@ impl<'a> Run<'a> {
         requires contexts { AreOpen self.old.contexts [] }
         requires script { IsScript self.old.script }
         requires run { are_run self.old.script ≡ true }
-        ensures log { LogGoes D.faults D.honest log.old log.new }
+        ensures log { LogGoes D.faults D.honest D.image log.old log.new }
         ensures runs { OnOk result (Runs D.faults log.old log.new self.old self.new) }
         ensures holds { OnOk result (Holds D.honest log.new self.new) }
         ensures ran { OnOk result (IsQuiet self.new → LinesRan self.old.script (past_of self.old.script) (past_of self.new.trace)) }
@@ -472,7 +472,7 @@ fn trace_of<D: Disk>(alloc: Global, lines: &[Line], log: &mut Log<D>) -> Result<
     requires up { IsTrue log.old.is_up }
     requires unarmed { log.old.armed ≡ None }
     requires none { IsTrue D.honest → HasNone (open_records log.old.slots) }
-    ensures log { LogGoes D.faults D.honest log.old log.new }
+    ensures log { LogGoes D.faults D.honest D.image log.old log.new }
     ensures quiet { IfOk result (λ T. (is_log_quiet (past_of T) ≡ true) ⊎ Rose (D.faults log.old.disk) (D.faults log.new.disk)) }
     ensures replayed { IfOk result (λ T. is_log_quiet (past_of T) ≡ true → IsReplayed lines.now (past_of T)) }
     ensures settled { IfOk result (λ T. is_log_quiet (past_of T) ≡ true → (t : TxNo) → Settled lines.now (history t.value (past_of T))) }
@@ -497,7 +497,7 @@ pub fn run_replay<D: Disk>(alloc: Global, s: &Script, log: &mut Log<D>) -> Resul
     requires up { IsTrue log.old.is_up }
     requires unarmed { log.old.armed ≡ None }
     requires none { IsTrue D.honest → HasNone (open_records log.old.slots) }
-    ensures log { LogGoes D.faults D.honest log.old log.new }
+    ensures log { LogGoes D.faults D.honest D.image log.old log.new }
     ensures recorded { IsTrue D.honest → (Rose (D.faults log.old.disk) (D.faults log.new.disk) → ⊥) → IfOk result (λ T. AreRecorded (past_of T) (open_records log.old.slots) (open_records log.new.slots)) }
     ensures history { (Rose (D.faults log.old.disk) (D.faults log.new.disk) → ⊥) → IfOk result (λ T. IsHistory s.now 0 (D.faults log.new.disk - D.faults log.old.disk) T) }
     ensures replay { (Rose (D.faults log.old.disk) (D.faults log.new.disk) → ⊥) → IfOk result (λ T. IsReplay s.now (D.faults log.new.disk - D.faults log.old.disk) D.honest T) }

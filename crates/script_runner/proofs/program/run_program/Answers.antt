@@ -4,7 +4,7 @@ use Rattle.script_runner.specs.Built.{IsNotYet}
 use Rattle.script_runner.specs.Refusal.{HasNoReplay}
 use Rattle.script_runner.specs.declared.exit.Exit.TheVariants.{BadScript, NotYet}
 use Rattle.script_runner.specs.declared.program.Refusal.{Refusal}
-use Rattle.script_runner.proofs.Programs.{has_text, is_cut_short, is_log, is_written, left-none, never_bad, never_not_yet, none_there, not_yet-all, one_not_yet}
+use Rattle.script_runner.proofs.Programs.{are_logs, has_text, is_cut_short, is_log, is_written, left-none, never_bad, never_not_yet, none_there, not_yet-all, one_not_yet}
 use Rattle.script_runner.proofs.program.run_program.Goals as goal
 
 pub returns-in-Err-Bad-clause-bad_refused : goal.returns-in-Err-Bad-clause-bad_refused
@@ -114,3 +114,27 @@ returns-clause-given_up g c honest k none =
     inr
     (is_log g.D.Disk.faults g.D.Disk.honest g.D.Disk.image c.args.disk c.into_disk-disk.result c.in-Ok-formatted.log c.replayed-replayed.new.log c.in-Ok-formatted.ensures.smooth c.into_disk-disk.ensures.disk
     c.in-Ok-formatted.ensures.up c.in-Ok-formatted.ensures.unarmed c.in-Ok-formatted.ensures.empty c.replayed-replayed.ensures.log c.into_disk-disk.ensures.images honest none)
+
+pub returns-in_default-clause-logs : goal.returns-in_default-clause-logs
+returns-in_default-clause-logs g c honest k =
+    inr
+    (are_logs g.D.Disk.faults g.D.Disk.honest g.D.Disk.image c.into_disk-disk.result c.in-Ok-formatted.log c.replayed-replayed.new.log c.into_disk-disk.ensures.disk c.in-Ok-formatted.ensures.images
+    c.replayed-replayed.ensures.log honest)
+
+pub returns-clause-logs : goal.returns-clause-logs
+returns-clause-logs g c honest k =
+    inr
+    (are_logs g.D.Disk.faults g.D.Disk.honest g.D.Disk.image c.into_disk-disk.result c.in-Ok-formatted.log c.replayed-replayed.new.log c.into_disk-disk.ensures.disk c.in-Ok-formatted.ensures.images
+    c.replayed-replayed.ensures.log honest)
+
+pub returns-in-Ok-write_all-clause-logs : goal.returns-in-Ok-write_all-clause-logs
+returns-in-Ok-write_all-clause-logs g c honest k =
+    inr
+    (are_logs g.D.Disk.faults g.D.Disk.honest g.D.Disk.image c.into_disk-disk.result c.in-Ok-formatted.log c.replayed-replayed.new.log c.into_disk-disk.ensures.disk c.in-Ok-formatted.ensures.images
+    c.replayed-replayed.ensures.log honest)
+
+pub returns-in-Err-Fault-write_all-clause-logs : goal.returns-in-Err-Fault-write_all-clause-logs
+returns-in-Err-Fault-write_all-clause-logs g c honest k =
+    inr
+    (are_logs g.D.Disk.faults g.D.Disk.honest g.D.Disk.image c.into_disk-disk.result c.in-Ok-formatted.log c.replayed-replayed.new.log c.into_disk-disk.ensures.disk c.in-Ok-formatted.ensures.images
+    c.replayed-replayed.ensures.log honest)

@@ -59,7 +59,7 @@ returns-in-Ok-clause-complete g c none =
     let r : IsQuietReplay s T = quiet_replay s _ T c.lines.ensures c.in-Ok.ensures.quiet none c.in-Ok.ensures.replayed c.in-Ok.ensures.settled c.in-Ok.ensures.calm in
     let named = c.requires.script.named in
     let caused : (t : TxNo) → Caused s 0 t.value (history t.value T) = c.replay.ensures.caused s T r.replayed r.quiet 0 (to_any_each s T 0 r) in
-    let unlost = unlost_or_unpromoted s T named c.requires.run r.replayed r.quiet r.unstopped (λ t. (caused t).freely) in
+    let unlost = unlost_or_unpromoted s T c.requires.script c.requires.run r.replayed r.quiet r.unstopped (λ t. (caused t).freely) in
     record {
       told = λ t.
           elim (unlost t) [

@@ -25,7 +25,7 @@ pub lines-requires-clause-below : goal.lines-requires-clause-below
 lines-requires-clause-below g c = subst (λ (r : RunState). AreBelow 1 r.worlds) (sym c.in_ok-run.ensures) (λ t. refl)
 
 pub returns-clause-log : goal.returns-clause-log
-returns-clause-log g c = goes_then g.D.Disk.faults g.D.Disk.honest _ _ _ c.lines.ensures.log c.settle_all.ensures.log
+returns-clause-log g c = goes_then g.D.Disk.faults g.D.Disk.honest g.D.Disk.image _ _ _ c.lines.ensures.log c.settle_all.ensures.log
 
 pub returns-clause-quiet : goal.returns-clause-quiet
 returns-clause-quiet g c =
@@ -68,5 +68,5 @@ returns-clause-calm g c q t =
 
 pub returns-clause-recorded : goal.returns-clause-recorded
 returns-clause-recorded g c h q =
-    are_recorded g.D.Disk.faults g.D.Disk.honest c.args.log.now c.settle_all.new.log c.settle_all.new.self _ c.into_trace.ensures.trace c.into_trace.ensures.numbered h q c.in_ok-settle_all.ensures.holds
-    (goes_then g.D.Disk.faults g.D.Disk.honest c.args.log.now c.lines.new.log c.settle_all.new.log c.lines.ensures.log c.settle_all.ensures.log)
+    are_recorded g.D.Disk.faults g.D.Disk.honest g.D.Disk.image c.args.log.now c.settle_all.new.log c.settle_all.new.self _ c.into_trace.ensures.trace c.into_trace.ensures.numbered h q c.in_ok-settle_all.ensures.holds
+    (goes_then g.D.Disk.faults g.D.Disk.honest g.D.Disk.image c.args.log.now c.lines.new.log c.settle_all.new.log c.lines.ensures.log c.settle_all.ensures.log)

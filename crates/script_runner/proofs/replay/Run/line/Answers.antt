@@ -58,7 +58,7 @@ returns-in-Some-clause-scopes g c =
     c.own_call.ensures.holds
 
 pub returns-in-None-clause-log : goal.returns-in-None-clause-log
-returns-in-None-clause-log g c = goes_same g.D.Disk.faults g.D.Disk.honest c.args.log.now
+returns-in-None-clause-log g c = goes_same g.D.Disk.faults g.D.Disk.honest g.D.Disk.image c.args.log.now
 
 pub returns-in-None-clause-done : goal.returns-in-None-clause-done
 returns-in-None-clause-done g c =

@@ -22,7 +22,7 @@ overflow_add-n g c =
 pub loop-l-init : goal.loop-l-init
 loop-l-init g c = record {
   count = refl;
-  log = goes_same g.D.Disk.faults g.D.Disk.honest c.args.log.now;
+  log = goes_same g.D.Disk.faults g.D.Disk.honest g.D.Disk.image c.args.log.now;
   runs = runs_same g.D.Disk.faults c.args.log.now c.args.self.now;
   holds = c.requires.holds;
   below = c.requires.below;
@@ -86,7 +86,7 @@ loop-l-preserved g c =
     let did = c.in_ok-line.ensures in
     let faults = g.D.Disk.faults in record {
       count = ap (λ n. n + 1) was.count;
-      log = goes_then faults g.D.Disk.honest c.args.log.now c.loop-l.log c.line.new.log was.log c.line.ensures.log;
+      log = goes_then faults g.D.Disk.honest g.D.Disk.image c.args.log.now c.loop-l.log c.line.new.log was.log c.line.ensures.log;
       runs = runs_then faults c.args.log.now c.loop-l.log c.line.new.log c.args.self.now c.loop-l.self c.line.new.self was.log.grows c.line.ensures.log.grows was.runs did.runs;
       holds = did.holds;
       below = did.entered;

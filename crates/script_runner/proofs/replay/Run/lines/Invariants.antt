@@ -8,7 +8,7 @@ use Rattle.script_runner.proofs.replay.Run.lines.Given as goal
 abbrev pub invariant-loop-l : goal.invariant-loop-l
 invariant-loop-l g l = record {
   count : l.n ≡ l.l-index;
-  log : LogGoes g.D.Disk.faults g.D.Disk.honest l.initial.log l.log;
+  log : LogGoes g.D.Disk.faults g.D.Disk.honest g.D.Disk.image l.initial.log l.log;
   runs : Runs g.D.Disk.faults l.initial.log l.log l.initial.self l.self;
   holds : Holds g.D.Disk.honest l.log l.self;
   below : AreBelow (l.n + 1) l.self.worlds;

@@ -78,7 +78,7 @@ returns-in_default-clause-entered g c =
     on_ok_weaker c.call-in_default.result (λ entered. all_below (c.args.n + 1) c.args.t ws c.call-in_default.new.self.worlds c.call-in_default.ensures.others entered (all_below_next c.args.n ws c.requires.below)) c.call-in_default.ensures.entered
 
 pub returns-in_default-clause-log : goal.returns-in_default-clause-log
-returns-in_default-clause-log g c = goes_same g.D.Disk.faults g.D.Disk.honest c.args.log.now
+returns-in_default-clause-log g c = goes_same g.D.Disk.faults g.D.Disk.honest g.D.Disk.image c.args.log.now
 
 pub returns-in_default-clause-done : goal.returns-in_default-clause-done
 returns-in_default-clause-done g c =

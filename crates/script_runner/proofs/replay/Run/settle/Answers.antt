@@ -12,7 +12,7 @@ pub loop-init : goal.loop-init
 loop-init g c =
     record {
       contexts = refl;
-      log = goes_same g.D.Disk.faults g.D.Disk.honest c.args.log.now;
+      log = goes_same g.D.Disk.faults g.D.Disk.honest g.D.Disk.image c.args.log.now;
       runs = runs_same g.D.Disk.faults c.args.log.now c.args.self.now;
       holds = c.requires.holds;
       calls = λ t. refl;
@@ -26,7 +26,7 @@ loop-preserved g c =
     let start = c.args.self.now in
     record {
       contexts = c.step.ensures.contexts ∙ was.contexts;
-      log = goes_then g.D.Disk.faults g.D.Disk.honest c.args.log.now c.loop.log c.step.new.log was.log c.step.ensures.log;
+      log = goes_then g.D.Disk.faults g.D.Disk.honest g.D.Disk.image c.args.log.now c.loop.log c.step.new.log was.log c.step.ensures.log;
       runs = runs_then g.D.Disk.faults c.args.log.now c.loop.log c.step.new.log start c.loop.self c.step.new.self was.log.grows c.step.ensures.log.grows was.runs c.in_ok-step.ensures.runs;
       holds = c.in_ok-step.ensures.holds;
       calls = calls_then start.worlds c.loop.self.worlds c.step.new.self.worlds was.calls c.step.ensures.calls;

@@ -11,7 +11,7 @@ use Rattle.script_runner.proofs.replay.Run.settle_round.Goals as goal
 pub loop-n-init : goal.loop-n-init
 loop-n-init g c =
     record {
-      log = goes_same g.D.Disk.faults g.D.Disk.honest c.args.log.now;
+      log = goes_same g.D.Disk.faults g.D.Disk.honest g.D.Disk.image c.args.log.now;
       runs = runs_same g.D.Disk.faults c.args.log.now c.args.self.now;
       holds = c.requires.holds;
       settled = λ quiet start b. b;
@@ -24,7 +24,7 @@ loop-n-preserved g c =
     let was = c.loop-n.invariant in
     let n : t.value ≡ c.loop-n.n = subst (λ (o : Option TxNo). IfSome o (λ x. x.value ≡ c.loop-n.n)) c.unwrap-t.ensures c.new.ensures.value in
     record {
-      log = goes_then g.D.Disk.faults g.D.Disk.honest c.args.log.now c.loop-n.log c.settle.new.log was.log c.settle.ensures.log;
+      log = goes_then g.D.Disk.faults g.D.Disk.honest g.D.Disk.image c.args.log.now c.loop-n.log c.settle.new.log was.log c.settle.ensures.log;
       runs = runs_then g.D.Disk.faults c.args.log.now c.loop-n.log c.settle.new.log c.args.self.now c.loop-n.self c.settle.new.self was.log.grows c.settle.ensures.log.grows was.runs c.in_ok-settle.ensures.runs;
       holds = c.in_ok-settle.ensures.holds;
       settled = λ quiet start b.

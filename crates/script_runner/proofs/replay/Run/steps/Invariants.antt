@@ -6,7 +6,7 @@ use Rattle.script_runner.proofs.replay.Run.steps.Given as goal
 abbrev pub invariant-loop-m : goal.invariant-loop-m
 invariant-loop-m g l = record {
   contexts : l.self.contexts ≡ l.initial.self.contexts;
-  log : LogGoes g.D.Disk.faults g.D.Disk.honest l.initial.log l.log;
+  log : LogGoes g.D.Disk.faults g.D.Disk.honest g.D.Disk.image l.initial.log l.log;
   runs : Runs g.D.Disk.faults l.initial.log l.log l.initial.self l.self;
   holds : Holds g.D.Disk.honest l.log l.self;
   calls : HaveSameCalls l.initial.self.worlds l.self.worlds;

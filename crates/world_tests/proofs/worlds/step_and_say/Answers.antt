@@ -1,6 +1,6 @@
 use Rattle.std.proofs.Common.{◌≡◌, Ok, true, refl, arith}
 use Rattle.tx_world.proofs.Chained.{kth_more}
-use Rattle.format_tests.proofs.worlds.step_and_say.Goals as goal
+use Rattle.world_tests.proofs.worlds.step_and_say.Goals as goal
 
 pub did-requires-clause-answers : goal.did-requires-clause-answers
 did-requires-clause-answers g c =
