@@ -273,6 +273,48 @@ fn nothing_is_pending_in_a_new_world(rt: HostRuntime) -> Result<(), Fail> {
     Ok(())
 }
 
+/// Begins the transaction, asks for its identifier at the coordinator, and then the coordinator stops. The log wasn't opened since, so nothing is found yet.
+fn stopped_at_once(rt: &impl Abort, world: &mut TxWorld, log: &mut Log<MemDisk>)
+    requires new { Fits world.old [] }
+    requires empty { open_records log.old.slots ≡ [] }
+{
+    let t = transaction(rt);
+    let begin = Call::Begin(t, Timeout::Default);
+    assert_eq!(rt; call(rt, world, log, 1, &begin), Answer::Fine);
+    assert_eq!(rt; world.coordinator_stopped(0), Ok(()));
+    assert!(rt; !world.is_stopped());
+    assert_eq!(rt; call(rt, world, log, 2, &Call::Marshal(t)), Answer::Wait);
+    assert_eq!(rt; world.coordinator_stopped(0), Ok(()));
+    assert!(rt; world.is_stopped());
+    if !log.is_up() {
+        panic!(rt; "the log is stopped");
+    }
+    assert_eq!(rt; world.coordinator_restarted(log), Ok(()));
+    assert!(rt; world.is_stopped());
+}
+
+#[test]
+fn a_stop_reaches_who_is_at_the_coordinator(rt: HostRuntime) -> Result<(), Fail> {
+    let alloc = rt.alloc();
+    let mut log = empty_log(&rt, alloc)?;
+    let mut world = world(&rt, alloc);
+    stopped_at_once(&rt, &mut world, &mut log);
+    let found = text(&rt, alloc, &world)?;
+    let want = wanted(
+        alloc,
+        &[&[
+            "call 1 a1 ok",
+            "began 60000",
+            "call 2 a1 wait",
+            "promoting marshal",
+            "sent b up begin",
+            "stopped",
+        ]],
+    )?;
+    assert!(rt; found.as_slice() == want.as_slice());
+    Ok(())
+}
+
 #[test]
 fn what_is_promoted_commits(rt: HostRuntime) -> Result<(), Fail> {
     let alloc = rt.alloc();
