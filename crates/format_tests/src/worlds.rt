@@ -8,8 +8,8 @@ ghost use Rattle.tx_world.specs.AtLog.{Fits};
 use crate::log::empty_log;
 use coordinator_log::Log;
 use dtx_values::{
-    ActorNo, Answer, Call, EnlNo, EnlistOption, Outcome, Place, RmNo, Status, Support, Timeout,
-    Trace, TxNo, Vote,
+    ActorNo, Answer, Call, EnlNo, EnlistOption, Note, Outcome, Place, Reply, RmNo, Status, Support,
+    Timeout, Trace, TxNo, Vote,
 };
 use outside::{Image, MemDisk};
 use std::alloc::{AllocError, Global};
@@ -270,6 +270,69 @@ fn nothing_is_pending_in_a_new_world(rt: HostRuntime) -> Result<(), Fail> {
     assert_eq!(rt; world.step(&mut log, 1), Ok(false));
     assert_eq!(rt; world.status(), Status::Active);
     assert_eq!(rt; world.id(), 0);
+    Ok(())
+}
+
+/// Replies so for the enlistment that is asked first, where one is asked to prepare; whether the reply was due.
+fn reply(rt: &impl Abort, world: &mut TxWorld, log: &Log<MemDisk>, vote: Vote) -> bool
+    requires fits { IsTrue log.now.is_up → Fits world.old (open_records log.now.slots) }
+    ensures fits { IsTrue log.now.is_up → Fits world.new (open_records log.now.slots) }
+{
+    let Some((e, Note::Prepare)) = world.due_at(1) else {
+        return false;
+    };
+    match world.reply(log, e, Reply::Vote(vote)) {
+        Ok(was_due) => was_due,
+        Err(error) => panic!(rt; "{error}"),
+    }
+}
+
+/// The volatile of a transaction votes no, though its line plans yes.
+fn votes_by_hand(rt: &impl Abort, world: &mut TxWorld, log: &mut Log<MemDisk>)
+    requires new { Fits world.old [] }
+    requires empty { open_records log.old.slots ≡ [] }
+{
+    let t = transaction(rt);
+    let e1 = EnlNo::new(1).expect(rt, "no such enlistment");
+    let begin = Call::Begin(t, Timeout::Default);
+    let volatile = Call::Volatile(t, e1, EnlistOption::Plain, Some(Vote::Yes));
+    let told = Answer::OutcomeIs(Outcome::Aborted);
+    assert_eq!(rt; call(rt, world, log, 1, &begin), Answer::Fine);
+    assert_eq!(rt; call(rt, world, log, 2, &volatile), Answer::Fine);
+    assert_eq!(rt; call(rt, world, log, 3, &Call::Commit(t)), Answer::Fine);
+    assert!(rt; !reply(rt, world, log, Vote::No));
+    assert_eq!(rt; call(rt, world, log, 4, &Call::Do(t, 1, 2)), Answer::Did(2));
+    assert!(rt; reply(rt, world, log, Vote::No));
+    assert!(rt; !reply(rt, world, log, Vote::No));
+    assert_eq!(rt; call(rt, world, log, 5, &Call::Await(t)), told);
+}
+
+#[test]
+fn a_reply_need_not_be_the_planned_one(rt: HostRuntime) -> Result<(), Fail> {
+    let alloc = rt.alloc();
+    let mut log = empty_log(&rt, alloc)?;
+    let mut world = world(&rt, alloc);
+    votes_by_hand(&rt, &mut world, &mut log);
+    let found = text(&rt, alloc, &world)?;
+    let want = wanted(
+        alloc,
+        &[&[
+            "call 1 a1 ok",
+            "began 60000",
+            "call 2 a1 ok",
+            "enlisted e1 one",
+            "call 3 a1 ok",
+            "commit",
+            "sealed",
+            "ask e1 prepare",
+            "call 4 a1 did 2",
+            "vote e1 no",
+            "decided aborted",
+            "told client aborted",
+            "call 5 a1 aborted",
+        ]],
+    )?;
+    assert!(rt; found.as_slice() == want.as_slice());
     Ok(())
 }
 
