@@ -168,7 +168,9 @@ const UNDER_THE_FREEING: [(&str, &[&str]); 5] = [
 ];
 
 #[test]
-fn a_commit_calls_the_disk_six_times_and_each_may_stop_the_log(rt: HostRuntime) -> Result<(), Fail> {
+fn a_commit_calls_the_disk_six_times_and_each_may_stop_the_log(
+    rt: HostRuntime,
+) -> Result<(), Fail> {
     // The log is formatted by calls 1 to 4, the record is appended by calls 5 to 8 and freed by calls 9 and 10. A call that fails does nothing. Call 11 is the first of
     // whoever opens the log.
     let cases: [(u64, &[(&str, &[&str])], Result<u16, LogRefusal>); 8] = [

@@ -14,14 +14,23 @@ fn the_first_line_that_is_not_run_yet_is_named(rt: HostRuntime) -> Result<(), Fa
     let cases: [(&str, Exit); 35] = [
         // A marshal is run where an await of its transaction is the next line, by whichever client.
         ("a1 marshal t1\n", Exit::NotYet(3)),
-        ("a1 marshal t1\na1 status t1\na1 await t1\n", Exit::NotYet(3)),
+        (
+            "a1 marshal t1\na1 status t1\na1 await t1\n",
+            Exit::NotYet(3),
+        ),
         ("a1 marshal t1\na1 await t2\n", Exit::NotYet(3)),
         ("a1 marshal t1\na1 par\na1 await t1\n", Exit::NotYet(3)),
         ("a1 await t1\na1 marshal t1\n", Exit::NotYet(4)),
         ("a1 marshal t1\na1 await t1\n", RUNS),
         ("a1 marshal t1\na2 await t1\n", RUNS),
-        ("a1 marshal t1\na1 await t1\na2 marshal t1\na2 await t1\n", RUNS),
-        ("a1 marshal t1\na1 await t1\na2 marshal t1\n", Exit::NotYet(5)),
+        (
+            "a1 marshal t1\na1 await t1\na2 marshal t1\na2 await t1\n",
+            RUNS,
+        ),
+        (
+            "a1 marshal t1\na1 await t1\na2 marshal t1\n",
+            Exit::NotYet(5),
+        ),
         // It isn't where a line before it makes a durable or promotable of its transaction.
         (
             "a1 durable t1 e1 r1 single yes committed\na1 marshal t1\na1 await t1\n",
@@ -39,7 +48,10 @@ fn the_first_line_that_is_not_run_yet_is_named(rt: HostRuntime) -> Result<(), Fa
             "a1 durable t2 e1 r1 single yes committed\na1 gone e1\na1 marshal t1\na1 await t1\n",
             RUNS,
         ),
-        ("a1 volatile t1 e1 none yes\na1 marshal t1\na1 await t1\n", RUNS),
+        (
+            "a1 volatile t1 e1 none yes\na1 marshal t1\na1 await t1\n",
+            RUNS,
+        ),
         // A durable is run after a marshal of its transaction, and else where it can own the commit.
         (
             "a1 marshal t1\na1 await t1\na1 durable t1 e1 r1 two yes\na1 durable t1 e2 r2 two yes\n",
@@ -53,8 +65,14 @@ fn the_first_line_that_is_not_run_yet_is_named(rt: HostRuntime) -> Result<(), Fa
             "a1 marshal t1\na1 await t1\na1 durable t1 e1 r1 two yes\na1 marshal t1\na1 await t1\n",
             Exit::NotYet(6),
         ),
-        ("a1 marshal t1\na1 await t1\na1 durable t2 e1 r1 two yes\n", Exit::NotYet(5)),
-        ("a1 durable t1 e1 r1 two yes\na1 marshal t1\na1 await t1\n", Exit::NotYet(3)),
+        (
+            "a1 marshal t1\na1 await t1\na1 durable t2 e1 r1 two yes\n",
+            Exit::NotYet(5),
+        ),
+        (
+            "a1 durable t1 e1 r1 two yes\na1 marshal t1\na1 await t1\n",
+            Exit::NotYet(3),
+        ),
         (
             "a1 durable t1 e1 r1 single yes committed\na1 durable t1 e2 r2 single yes committed\n",
             Exit::NotYet(4),
@@ -90,7 +108,10 @@ fn the_first_line_that_is_not_run_yet_is_named(rt: HostRuntime) -> Result<(), Fa
         ),
         // What is lost in between, stops and recovery aren't run.
         ("a1 lose t1 b 0 0\n", Exit::NotYet(3)),
-        ("a1 marshal t1\na1 await t1\na1 lose t1 v 0 0\n", Exit::NotYet(5)),
+        (
+            "a1 marshal t1\na1 await t1\na1 lose t1 v 0 0\n",
+            Exit::NotYet(5),
+        ),
         ("a1 stop 1 keep\n", Exit::NotYet(3)),
         ("a1 restart\n", Exit::NotYet(3)),
         (

@@ -7,7 +7,8 @@ ghost use Rattle.tx_world.specs.AtLog.{Fits};
 
 use coordinator_log::{LOG_BYTES, Log};
 use dtx_values::{
-    ActorNo, Answer, Call, EnlNo, Outcome, Place, RmNo, Status, Support, Timeout, Trace, TxNo, Vote,
+    ActorNo, Answer, Call, EnlNo, EnlistOption, Note, Outcome, Place, Reply, RmNo, Status, Support,
+    Timeout, Trace, TxNo, Vote,
 };
 use outside::{Image, MemDisk};
 use std::alloc::{AllocError, Global};
@@ -219,6 +220,87 @@ fn wanted(alloc: Global, parts: &[&[&str]]) -> Result<Vec<u8>, AllocError> {
     Ok(text)
 }
 
+/// Does a call of client 1, with the steps before it, and says what it answered.
+fn call(rt: &impl Abort, world: &mut TxWorld, log: &mut Log<MemDisk>, line: u32, c: &Call) -> Answer
+    requires fits { IsTrue log.old.is_up → Fits world.old (open_records log.old.slots) }
+    ensures fits { IsTrue log.new.is_up → Fits world.new (open_records log.new.slots) }
+{
+    let actor = ActorNo::new(1).expect(rt, "no such client");
+    if !world.may_enter(line, c) || !TxWorld::is_entered_yet(c) {
+        panic!(rt; "the call of line {line} may not be entered");
+    }
+    match world.call(log, actor, line, c) {
+        Ok(answer) => answer,
+        Err(error) => panic!(rt; "{error}"),
+    }
+}
+
+/// Enters a `do` of client 1 for which no step was done, since none is pending.
+fn did_none(rt: &impl Abort, world: &mut TxWorld, log: &mut Log<MemDisk>, line: u32)
+    requires fits { IsTrue log.old.is_up → Fits world.old (open_records log.old.slots) }
+{
+    let actor = ActorNo::new(1).expect(rt, "no such client");
+    let c = Call::Do(transaction(rt), 1, 1);
+    if world.step(log, 1) != Ok(false) || !world.may_enter(line, &c) {
+        panic!(rt; "a step is pending, or the call may not be entered");
+    }
+    match world.did(actor, line, &c, 0) {
+        Ok(()) => (),
+        Err(error) => panic!(rt; "{error}"),
+    }
+}
+
+/// Calls that do the steps before them.
+fn calls(rt: &impl Abort, world: &mut TxWorld, log: &mut Log<MemDisk>)
+    requires new { Fits world.old [] }
+    requires empty { open_records log.old.slots ≡ [] }
+{
+    let t = transaction(rt);
+    let e1 = EnlNo::new(1).expect(rt, "no such enlistment");
+    let begin = Call::Begin(t, Timeout::Default);
+    let volatile = Call::Volatile(t, e1, EnlistOption::Plain, Some(Vote::Yes));
+    let told = Answer::OutcomeIs(Outcome::Committed);
+    assert_eq!(rt; call(rt, world, log, 1, &begin), Answer::Fine);
+    assert_eq!(rt; call(rt, world, log, 2, &volatile), Answer::Fine);
+    assert_eq!(rt; call(rt, world, log, 3, &Call::Commit(t)), Answer::Fine);
+    assert_eq!(rt; call(rt, world, log, 4, &Call::Do(t, 1, 3)), Answer::Did(3));
+    assert_eq!(rt; world.status(), Status::Active);
+    assert_eq!(rt; call(rt, world, log, 5, &Call::Await(t)), told);
+    assert_eq!(rt; world.status(), Status::Committed);
+    did_none(rt, world, log, 6);
+}
+
+#[test]
+fn a_call_does_the_steps_before_it(rt: HostRuntime) -> Result<(), Fail> {
+    let alloc = rt.alloc();
+    let mut log = empty_log(&rt, alloc)?;
+    let mut world = world(&rt, alloc);
+    calls(&rt, &mut world, &mut log);
+    let found = text(&rt, alloc, &world)?;
+    let want = wanted(
+        alloc,
+        &[&[
+            "call 1 a1 ok",
+            "began 60000",
+            "call 2 a1 ok",
+            "enlisted e1 one",
+            "call 3 a1 ok",
+            "commit",
+            "sealed",
+            "ask e1 prepare",
+            "vote e1 yes",
+            "call 4 a1 did 3",
+            "decided committed",
+            "told e1 committed",
+            "told client committed",
+            "call 5 a1 committed",
+            "call 6 a1 did 0",
+        ]],
+    )?;
+    assert!(rt; found.as_slice() == want.as_slice());
+    Ok(())
+}
+
 #[test]
 fn nothing_is_pending_in_a_new_world(rt: HostRuntime) -> Result<(), Fail> {
     let alloc = rt.alloc();
@@ -226,8 +308,113 @@ fn nothing_is_pending_in_a_new_world(rt: HostRuntime) -> Result<(), Fail> {
     let mut world = world(&rt, alloc);
     assert_eq!(rt; world.pending(), 0);
     assert_eq!(rt; world.step(&mut log, 1), Ok(false));
-    assert_eq!(rt; world.told(), None);
+    assert_eq!(rt; world.status(), Status::Active);
     assert_eq!(rt; world.id(), 0);
+    Ok(())
+}
+
+/// Replies so for the enlistment that is asked first, where one is asked to prepare; whether the reply was due.
+fn reply(rt: &impl Abort, world: &mut TxWorld, log: &Log<MemDisk>, vote: Vote) -> bool
+    requires fits { IsTrue log.now.is_up → Fits world.old (open_records log.now.slots) }
+    ensures fits { IsTrue log.now.is_up → Fits world.new (open_records log.now.slots) }
+{
+    let Some((e, Note::Prepare)) = world.due_at(1) else {
+        return false;
+    };
+    match world.reply(log, e, Reply::Vote(vote)) {
+        Ok(was_due) => was_due,
+        Err(error) => panic!(rt; "{error}"),
+    }
+}
+
+/// The volatile of a transaction votes no, though its line plans yes.
+fn votes_by_hand(rt: &impl Abort, world: &mut TxWorld, log: &mut Log<MemDisk>)
+    requires new { Fits world.old [] }
+    requires empty { open_records log.old.slots ≡ [] }
+{
+    let t = transaction(rt);
+    let e1 = EnlNo::new(1).expect(rt, "no such enlistment");
+    let begin = Call::Begin(t, Timeout::Default);
+    let volatile = Call::Volatile(t, e1, EnlistOption::Plain, Some(Vote::Yes));
+    let told = Answer::OutcomeIs(Outcome::Aborted);
+    assert_eq!(rt; call(rt, world, log, 1, &begin), Answer::Fine);
+    assert_eq!(rt; call(rt, world, log, 2, &volatile), Answer::Fine);
+    assert_eq!(rt; call(rt, world, log, 3, &Call::Commit(t)), Answer::Fine);
+    assert!(rt; !reply(rt, world, log, Vote::No));
+    assert_eq!(rt; call(rt, world, log, 4, &Call::Do(t, 1, 2)), Answer::Did(2));
+    assert!(rt; reply(rt, world, log, Vote::No));
+    assert!(rt; !reply(rt, world, log, Vote::No));
+    assert_eq!(rt; call(rt, world, log, 5, &Call::Await(t)), told);
+}
+
+#[test]
+fn a_reply_need_not_be_the_planned_one(rt: HostRuntime) -> Result<(), Fail> {
+    let alloc = rt.alloc();
+    let mut log = empty_log(&rt, alloc)?;
+    let mut world = world(&rt, alloc);
+    votes_by_hand(&rt, &mut world, &mut log);
+    let found = text(&rt, alloc, &world)?;
+    let want = wanted(
+        alloc,
+        &[&[
+            "call 1 a1 ok",
+            "began 60000",
+            "call 2 a1 ok",
+            "enlisted e1 one",
+            "call 3 a1 ok",
+            "commit",
+            "sealed",
+            "ask e1 prepare",
+            "call 4 a1 did 2",
+            "vote e1 no",
+            "decided aborted",
+            "told client aborted",
+            "call 5 a1 aborted",
+        ]],
+    )?;
+    assert!(rt; found.as_slice() == want.as_slice());
+    Ok(())
+}
+
+/// Begins the transaction, asks for its identifier at the coordinator, and then the coordinator stops. The log wasn't opened since, so nothing is found yet.
+fn stopped_at_once(rt: &impl Abort, world: &mut TxWorld, log: &mut Log<MemDisk>)
+    requires new { Fits world.old [] }
+    requires empty { open_records log.old.slots ≡ [] }
+{
+    let t = transaction(rt);
+    let begin = Call::Begin(t, Timeout::Default);
+    assert_eq!(rt; call(rt, world, log, 1, &begin), Answer::Fine);
+    assert_eq!(rt; world.coordinator_stopped(0), Ok(()));
+    assert!(rt; !world.is_stopped());
+    assert_eq!(rt; call(rt, world, log, 2, &Call::Marshal(t)), Answer::Wait);
+    assert_eq!(rt; world.coordinator_stopped(0), Ok(()));
+    assert!(rt; world.is_stopped());
+    if !log.is_up() {
+        panic!(rt; "the log is stopped");
+    }
+    assert_eq!(rt; world.coordinator_restarted(log), Ok(()));
+    assert!(rt; world.is_stopped());
+}
+
+#[test]
+fn a_stop_reaches_who_is_at_the_coordinator(rt: HostRuntime) -> Result<(), Fail> {
+    let alloc = rt.alloc();
+    let mut log = empty_log(&rt, alloc)?;
+    let mut world = world(&rt, alloc);
+    stopped_at_once(&rt, &mut world, &mut log);
+    let found = text(&rt, alloc, &world)?;
+    let want = wanted(
+        alloc,
+        &[&[
+            "call 1 a1 ok",
+            "began 60000",
+            "call 2 a1 wait",
+            "promoting marshal",
+            "sent b up begin",
+            "stopped",
+        ]],
+    )?;
+    assert!(rt; found.as_slice() == want.as_slice());
     Ok(())
 }
 
