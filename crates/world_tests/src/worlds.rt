@@ -122,21 +122,6 @@ fn enter(rt: &impl Abort, world: &mut TxWorld, log: &Log<MemDisk>, line: u32, c:
     }
 }
 
-/// Does a call of client 1 with the steps before it, and says what it answered.
-fn call(rt: &impl Abort, world: &mut TxWorld, log: &mut Log<MemDisk>, line: u32, c: &Call) -> Answer
-    requires fits { IsTrue log.old.is_up → Fits world.old (open_records log.old.slots) }
-    ensures fits { IsTrue log.new.is_up → Fits world.new (open_records log.new.slots) }
-{
-    let actor = ActorNo::new(1).expect(rt, "no such client");
-    if !world.may_enter(line, c) || !TxWorld::is_entered_yet(c) {
-        panic!(rt; "the call of line {line} may not be entered");
-    }
-    match world.call(log, actor, line, c) {
-        Ok(answer) => answer,
-        Err(error) => panic!(rt; "{error}"),
-    }
-}
-
 /// Does the first pending step, and then says so by a `do` of client 1.
 fn step_and_say(rt: &impl Abort, world: &mut TxWorld, log: &mut Log<MemDisk>, line: u32)
     requires fits { IsTrue log.old.is_up → Fits world.old (open_records log.old.slots) }
@@ -462,31 +447,6 @@ fn a_log_that_stops_under_the_record_stops_the_coordinator(rt: HostRuntime) -> R
         assert!(rt; !log.is_up());
         assert!(rt; world.ties(&log).is_ok());
     }
-    Ok(())
-}
-
-#[test]
-fn a_do_says_its_steps_and_an_await_settles(rt: HostRuntime) -> Result<(), Fail> {
-    let alloc = rt.alloc();
-    let mut log = empty_log(&rt, alloc)?;
-    let mut world = world(&rt, alloc);
-    let t = transaction(&rt);
-    let begin = Call::Begin(t, Timeout::Default);
-    assert_eq!(rt; call(&rt, &mut world, &mut log, 1, &begin), Answer::Fine);
-    assert_eq!(rt;
-        call(&rt, &mut world, &mut log, 2, &Call::Marshal(t)),
-        Answer::Wait
-    );
-    let first = call(&rt, &mut world, &mut log, 3, &Call::Do(t, 1, 2));
-    assert_eq!(rt; first, Answer::Did(2));
-    assert_eq!(rt;
-        call(&rt, &mut world, &mut log, 4, &Call::Commit(t)),
-        Answer::Fine
-    );
-    assert_eq!(rt; world.status(), Status::Active);
-    let last = call(&rt, &mut world, &mut log, 5, &Call::Await(t));
-    assert_eq!(rt; last, Answer::OutcomeIs(Outcome::Committed));
-    assert_eq!(rt; world.status(), Status::Committed);
     Ok(())
 }
 

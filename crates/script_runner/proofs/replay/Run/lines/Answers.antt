@@ -93,5 +93,5 @@ loop-l-preserved g c =
       open_at = subst (λ (before : List Line). AreOpen c.line.new.self.contexts before) (sym (past_next lines i l c.loop-l-test.true c.l-item.is)) (did.scopes (past_of (take i lines)) was.open_at);
       ran = λ quiet.
           lines_more s c.loop-l.self.script lines i c.loop-l.n l c.loop-l.self.contexts (past_of c.loop-l.self.trace) (past_of c.line.new.self.trace) c.loop-l-test.true c.l-item.is
-              was.count was.runs.script off was.open_at (was.ran (did.runs.back quiet)) (did.done quiet);
+          was.count was.runs.script off was.open_at (was.ran (did.runs.back quiet)) (did.done quiet);
     }
