@@ -280,30 +280,36 @@ const IN_DOUBT_NEXT: [&str; 5] = [
     "down e1 down",
 ];
 
+/// Of a transaction without enlistments that is asked to commit.
+const ASKED: [&str; 4] = ["call 9 a1 ok", "began 60000", "call 10 a1 ok", "commit"];
+
+/// What comes of it.
+const COMMITTED_ALONE: [&str; 3] = ["sealed", "decided committed", "told client committed"];
+
+/// Of a promoted transaction that loses its coordinator before the local side voted.
+const ABORTED_BEFORE_ITS_VOTE: [&str; 5] = [
+    "down b down",
+    "decided aborted",
+    "sent v up no",
+    "told client aborted",
+    "down v down",
+];
+
 #[test]
 fn a_stop_of_the_log_reaches_each_transaction_at_the_coordinator(
     rt: HostRuntime,
 ) -> Result<(), Fail> {
-    let asked = ["call 9 a1 ok", "began 60000", "call 10 a1 ok", "commit"];
-    let committed = ["sealed", "decided committed", "told client committed"];
-    let aborted = [
-        "down b down",
-        "decided aborted",
-        "sent v up no",
-        "told client aborted",
-        "down v down",
-    ];
     let parts: [(&str, &[&str]); 10] = [
         ("t1", &PROMOTED),
         ("t2", &PROMOTED_NEXT),
-        ("t3", &asked),
+        ("t3", &ASKED),
         ("t2", &UP_TO_THE_VOTE),
         ("log", &STOPPED),
         ("t2", &STOPPED),
         ("t1", &STOPPED),
         ("t2", &IN_DOUBT_NEXT),
-        ("t3", &committed),
-        ("t1", &aborted),
+        ("t3", &COMMITTED_ALONE),
+        ("t1", &ABORTED_BEFORE_ITS_VOTE),
     ];
     let records = prints(&rt, rt.alloc(), THREE, &[5], &parts)?;
     assert_eq!(rt; records, Ok(0));
