@@ -59,37 +59,6 @@ const BEFORE_THE_VOTE: [&str; 35] = [
 /// After the vote yes, up to the record.
 const YES: [&str; 3] = ["vote e1 yes", "sent e1 up prepared", "got e1 up prepared"];
 
-/// From the record on.
-const COMMITTED: [&str; 14] = [
-    "logged",
-    "sent b down committed",
-    "sent v down commit",
-    "sent e1 down commit",
-    "got b down committed",
-    "decided committed",
-    "told client committed",
-    "got v down commit",
-    "got e1 down commit",
-    "told e1 committed",
-    "acked e1",
-    "sent e1 up ack",
-    "got e1 up ack",
-    "freed",
-];
-
-/// After the vote no.
-const ABORTED: [&str; 9] = [
-    "vote e1 no",
-    "sent e1 up no",
-    "got e1 up no",
-    "sent b down aborted",
-    "sent v down abort",
-    "got b down aborted",
-    "decided aborted",
-    "told client aborted",
-    "got v down abort",
-];
-
 /// An empty log.
 fn empty_log(rt: &impl Abort, alloc: Global) -> Result<Log<MemDisk>, AllocError>
     ensures empty { IfOk result (λ l. open_records l.slots ≡ []) }
@@ -159,8 +128,8 @@ fn world(rt: &impl Abort, alloc: Global) -> TxWorld
     }
 }
 
-/// Runs the transaction over an empty log, where its durable votes so.
-fn run(rt: &impl Abort, world: &mut TxWorld, log: &mut Log<MemDisk>, vote: Vote)
+/// Runs the transaction over an empty log.
+fn run(rt: &impl Abort, world: &mut TxWorld, log: &mut Log<MemDisk>)
     requires new { Fits world.old [] }
     requires empty { open_records log.old.slots ≡ [] }
 {
@@ -175,7 +144,7 @@ fn run(rt: &impl Abort, world: &mut TxWorld, log: &mut Log<MemDisk>, vote: Vote)
         enter(rt, world, log, 3, &Call::Await(t)),
         Answer::StillOpen
     );
-    let durable = Call::Durable(t, e1, r1, Support::TwoPhase(Some(vote)));
+    let durable = Call::Durable(t, e1, r1, Support::TwoPhase(Some(Vote::Yes)));
     assert_eq!(rt; enter(rt, world, log, 4, &durable), Answer::Wait);
     assert_eq!(rt; enter(rt, world, log, 5, &Call::Commit(t)), Answer::Fine);
     settle(rt, world, log);
@@ -404,42 +373,13 @@ fn a_stop_reaches_who_is_at_the_coordinator(rt: HostRuntime) -> Result<(), Fail>
 }
 
 #[test]
-fn what_is_promoted_commits(rt: HostRuntime) -> Result<(), Fail> {
-    let alloc = rt.alloc();
-    let mut log = empty_log(&rt, alloc)?;
-    let mut world = world(&rt, alloc);
-    run(&rt, &mut world, &mut log, Vote::Yes);
-    let found = text(&rt, alloc, &world)?;
-    let want = wanted(alloc, &[&BEFORE_THE_VOTE, &YES, &COMMITTED])?;
-    assert!(rt; found.as_slice() == want.as_slice());
-    assert_eq!(rt; world.told(), Some(Outcome::Committed));
-    assert_eq!(rt; world.id(), (1 << 64) + 1);
-    assert_eq!(rt; log.lookup(world.id()).copied(), None);
-    assert!(rt; world.ties(&log).is_ok());
-    Ok(())
-}
-
-#[test]
-fn what_is_promoted_aborts_where_its_durable_says_no(rt: HostRuntime) -> Result<(), Fail> {
-    let alloc = rt.alloc();
-    let mut log = empty_log(&rt, alloc)?;
-    let mut world = world(&rt, alloc);
-    run(&rt, &mut world, &mut log, Vote::No);
-    let found = text(&rt, alloc, &world)?;
-    let want = wanted(alloc, &[&BEFORE_THE_VOTE, &ABORTED])?;
-    assert!(rt; found.as_slice() == want.as_slice());
-    assert_eq!(rt; world.told(), Some(Outcome::Aborted));
-    Ok(())
-}
-
-#[test]
 fn a_log_that_stops_under_the_record_stops_the_coordinator(rt: HostRuntime) -> Result<(), Fail> {
     let alloc = rt.alloc();
     for image in [Image::Lose, Image::Keep, Image::Torn] {
         let mut log = empty_log(&rt, alloc)?;
         log.arm(1, image);
         let mut world = world(&rt, alloc);
-        run(&rt, &mut world, &mut log, Vote::Yes);
+        run(&rt, &mut world, &mut log);
         let found = text(&rt, alloc, &world)?;
         let want = wanted(alloc, &[&BEFORE_THE_VOTE, &YES, &["stopped"]])?;
         assert!(rt; found.starts_with(want.as_slice()));
