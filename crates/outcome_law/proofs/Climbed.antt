@@ -43,7 +43,7 @@ use Rattle.outcome_law.proofs.Whole.{is_got_on, is_sent_on}
 use Rattle.outcome_law.proofs.Messages.{BEGIN, COMMIT, ENLIST, ENLISTED, ENLIST_ANSWER}
 use Rattle.outcome_law.proofs.Fine.{IsFine, is_bad}
 use Rattle.outcome_law.proofs.Debts.{enlisted_next, has_promotable}
-use Rattle.outcome_law.proofs.Rest.{IsAtRest, IsQuiet}
+use Rattle.outcome_law.proofs.Rest.{IsAtRest, IsQuiet, IsUnmoved}
 use Rattle.outcome_law.proofs.OnTheWay.{is_on_its_way, is_unplaced}
 use Rattle.outcome_law.proofs.Arrived.{arrived}
 use Rattle.outcome_law.proofs.Followed.{Demands, followed}
@@ -174,7 +174,7 @@ sent_stands e h r w k =
     (followed (IsOut e) (out_before e) (is_got_on (Enl e) Down ENLISTED) (is_enlisted e.value) (got_due (IsOut e) (Enl e) Down ENLISTED (is_enlisted e.value) (stands_due e)) h
     (record { opened = r; out = n }) w.paid w.free back) n)
 
--- so no call waits
+-- so no call waits where each is on its way
 none_waits : (h : List Entry) (ws : List Waiter) → IsOpen h → IsQuiet h → each (is_on_its_way h) ws ≡ true → each (is_unplaced h) ws ≡ true → ws ≡ []
 none_waits h [] r w a b = refl
 none_waits h ((n, Identifier) ∷ ws) r w a b = absurd cc
@@ -210,17 +210,17 @@ none_decided (Decided x ∷ h) k = absurd cc
 none_decided (x ∷ h) k = none_decided h k
 
 -- nothing is owed, and nothing on the way
-rest_quiet : (ks : List EnteredCall) (h : List Entry) → IsAtRest ks h → IsQuiet h
+rest_quiet : (ks : List EnteredCall) (h : List Entry) → IsUnmoved ks h → IsQuiet h
 rest_quiet ks h r = record { paid = r.paying; free = r.free; empty = r.empty }
 
 -- what the local side does where nothing is decided
-open_act : (ks : List EnteredCall) (h : List Entry) → IsAtRest ks h → has is_decision h ≡ false
+open_act : (ks : List EnteredCall) (h : List Entry) → IsUnmoved ks h → has is_decision h ≡ false
     → undecided_act (half_of ks h) (unasked_promotable (observe h)) ≡ []
 unfolding act_entries observe
 open_act ks h r u = ap (λ d. act_by d (half_of ks h)) (sym (none_decided h u)) ∙ r.act
 
 -- where BEGIN wasn't sent by then, it is after the promotable's ok; so a transaction that promotes is promoted
-is_promoted_there : (ks : List EnteredCall) (h : List Entry) → IsAtRest ks h → has is_decision h ≡ false → has is_promoted h ≡ true
+is_promoted_there : (ks : List EnteredCall) (h : List Entry) → IsUnmoved ks h → has is_decision h ≡ false → has is_promoted h ≡ true
 unfolding observe
 is_promoted_there ks h r u =
     true_from_ne_false (has is_promoted h) (λ n. not_both (has is_promoted h) (promoted h f u r.later (rest_quiet ks h r) (begins n (promotable_in (rows h)) refl)) n)
@@ -242,7 +242,12 @@ is_promoted_there ks h r u =
     begins n None q = plain_begins h (rest_quiet ks h r) (none_found h q) r.started
     begins n (Some e) q =
         let asked = asked_promote (promotable_in (rows h)) e (is_promoting_now (observe h)) (has is_ask_promote h) q (going n) (promote_stuck (half_of ks h) (unasked_promotable (observe h)) (open_act ks h r u)).0 in
-        ok_begins h f (rest_quiet ks h r) (ok_replied h f.unbad (r.replied u asked))
+        ok_begins h f (rest_quiet ks h r) (ok_replied h f.unbad (r.replied u n asked))
+
+-- so no call waits
+pub none_waiting : (ks : List EnteredCall) (h : List Entry) → IsUnmoved ks h → has is_decision h ≡ false → waiting ks h ≡ []
+none_waiting ks h r u =
+    none_waits h (waiting ks h) (record { fine = r.fine u; undecided = u; sound = r.sound }) (rest_quiet ks h r) (r.waits (is_promoted_there ks h r u)) r.unplaced
 
 -- after the promotion phase zero ends with the seal
 is_sealed_there : (ks : List EnteredCall) (h : List Entry) → IsAtRest ks h → has is_decision h ≡ false → has is_logged h ≡ false → waiting ks h ≡ [] → has is_promoted h ≡ true
@@ -274,24 +279,24 @@ unfolding observe
 decided_at_rest ks h r = true_from_ne_false (has is_decision h) (λ u. by_record u (has is_logged h) refl)
   where
     w : IsQuiet h
-    w = rest_quiet ks h r
+    w = rest_quiet ks h r.unmoved
 
     -- COMMIT was sent
     commits : has is_decision h ≡ false → IsOpen h → has is_promoted h ≡ true → has is_sealed h ≡ true → promoted_act (half_of ks h) (promotable_in (rows h)) ≡ [] → (p : Option EnlNo) → promotable_in (rows h) ≡ p
         → has (is_sent_on Begin Up COMMIT) h ≡ true
     commits u o p sealed b None q = seal_commits h (record { opened = o; plain = none_found h q; order = λ k. p }) w sealed
-    commits u o p sealed b (Some e) q = request_commits h o w (commit_requested h (r.fine u).unbad (r.requested u ((single_stuck (half_of ks h) (promotable_in (rows h)) b).1 e q)))
+    commits u o p sealed b (Some e) q = request_commits h o w (commit_requested h (r.unmoved.fine u).unbad (r.requested u ((single_stuck (half_of ks h) (promotable_in (rows h)) b).1 e q)))
 
     -- and so all is got, voted and logged
     climb_all : has is_decision h ≡ false → has is_logged h ≡ false → IsOpen h → ⊥
     climb_all u n o =
-        let p = is_promoted_there ks h r u in
-        let a = if_part (has is_commit h) (asked_act (half_of ks h)) [] r.asked (promote_stuck (half_of ks h) (unasked_promotable (observe h)) (open_act ks h r u)).1 in
-        let sealed = is_sealed_there ks h r u n (none_waits h (waiting ks h) o w (r.waits p) r.unplaced) p a in
+        let p = is_promoted_there ks h r.unmoved u in
+        let a = if_part (has is_commit h) (asked_act (half_of ks h)) [] r.asked (promote_stuck (half_of ks h) (unasked_promotable (observe h)) (open_act ks h r.unmoved u)).1 in
+        let sealed = is_sealed_there ks h r u n (none_waiting ks h r.unmoved u) p a in
         let b = if_part (has is_promoted h) (promoted_act (half_of ks h) (promotable_in (rows h))) _ p (if_part (has is_sealed h) (sealed_act (half_of ks h)) _ sealed a) in
-        let unlogged : IsUnlogged h = record { fine = r.fine u; sound = r.sound; ordered = r.ordered; begun = r.begun; unlogged = n } in
+        let unlogged : IsUnlogged h = record { fine = r.unmoved.fine u; sound = r.unmoved.sound; ordered = r.ordered; begun = r.begun; unlogged = n } in
         let got = commit_got h o w (commits u o p sealed b (promotable_in (rows h)) refl) in
-        let ask = ask_heard h (r.fine u).whole (r.fine u).run (ask_got h unlogged w got) in
+        let ask = ask_heard h (r.unmoved.fine u).whole (r.unmoved.fine u).run (ask_got h unlogged w got) in
         let y = yes_stuck (next_ask (rows h) false) (all_voted (rows h)) (has is_yes h) _
         (if_part (was_got Voter (tag_of VoterAsk) (ends_of h)) (after_seal (half_of ks h) (yes_act (observe h))) [] ask (single_stuck (half_of ks h) (promotable_in (rows h)) b).0) in
         let answer = yes_got h o w (y.1 (ones_done (rows h) (r.answered u n) (r.zeros sealed) y.0)) in
@@ -299,8 +304,8 @@ decided_at_rest ks h r = true_from_ne_false (has is_decision h) (λ u. by_record
         (may_append h unlogged got answer (λ e k. vote_got e h (record { opened = o; lasting = r.lasting e k }) w (r.voted u n e (enlistment_asked e h o w (r.prepares u n got e k))))) r.append
 
     by_record : has is_decision h ≡ false → (l : Bool) → has is_logged h ≡ l → ⊥
-    by_record u true l = not_both (has is_decision h) (logged_decided h (r.fine u) r.sound w l) u
-    by_record u false l = climb_all u l (record { fine = r.fine u; undecided = u; sound = r.sound })
+    by_record u true l = not_both (has is_decision h) (logged_decided h (r.unmoved.fine u) r.unmoved.sound w l) u
+    by_record u false l = climb_all u l (record { fine = r.unmoved.fine u; undecided = u; sound = r.unmoved.sound })
 
 -- what the client was told where nothing bad came
 told_well : (h : List Entry) → has is_bad h ≡ false → is_some (latest client_told_of h) ≡ true → has (is_client_told Committed) h ≡ true
@@ -317,7 +322,7 @@ told_at_rest ks h r = by_decision (latest decision_of h) refl
   where
     by_decision : (d : Option Outcome) → latest decision_of h ≡ d → is_some (latest client_told_of h) ≡ true
     by_decision (Some x) e =
-        told_all x (find (is_to_tell (observe h) x) (observe h).listeners) (latest client_told_of h) (ap (λ d. act_by d (half_of ks h)) (sym e) ∙ r.act)
+        told_all x (find (is_to_tell (observe h) x) (observe h).listeners) (latest client_told_of h) (ap (λ d. act_by d (half_of ks h)) (sym e) ∙ r.unmoved.act)
     by_decision None e = absurd (not_both (has is_decision h) (decided_at_rest ks h r) (undecided h e))
 
 -- that it is committed, where nothing bad came

@@ -53,7 +53,7 @@ use Rattle.outcome_law.proofs.Knowledge.{is_known_end, knows_where}
 use Rattle.outcome_law.proofs.Unblamed.{nothing_bad}
 use Rattle.outcome_law.proofs.Climbed.{committed_at_rest}
 use Rattle.outcome_law.proofs.SameRows.{is_asked_there, is_made_once}
-use Rattle.outcome_law.proofs.Owed.{IsUnowed, all_answered, all_heeded, all_voted, commit_requested, is_asked_well, promotion_replied, unlost_there}
+use Rattle.outcome_law.proofs.Owed.{IsUnowed, all_answered, all_heeded, all_voted, commit_requested, heeded_promised, is_asked_well, promotion_replied, unlost_there}
 
 -- Nothing is on the way.
 none_delivered : (b : Bool) (c : Conn) (d : Dir) → delivery_if b c d ≡ [] → b ≡ false
@@ -190,32 +190,35 @@ rests s ks h g e =
       once = g.once;
       there = g.there;
       well = g.well;
-      heeded = all_heeded (plan_of ks) h (same_willing (plan_of ks) (plans_of s) h g.plans g.can.willing);
       unowed = i.unanswered;
     } in
+    let heeded = all_heeded (plan_of ks) h (same_willing (plan_of ks) (plans_of s) h g.plans g.can.willing) in
     record {
-      fine = λ d. fine;
-      later = g.later;
-      sound = g.sound;
+      unmoved =
+          record {
+            fine = λ d. fine;
+            later = g.later;
+            sound = g.sound;
+            paying = g.paying;
+            free = g.free;
+            waits = g.waits;
+            unplaced = g.unplaced;
+            empty = none_on_the_way h fine.whole g.run i.undelivered;
+            act = i.act;
+            replied = λ d n. promotion_replied (plan_of ks) h u (heeded_promised (plan_of ks) h heeded) d;
+            started = g.started;
+          };
       ordered = g.ordered;
       begun = g.begun;
-      paying = g.paying;
       zeros = g.zeros;
       closed = g.closed;
-      free = g.free;
-      waits = g.waits;
-      unplaced = g.unplaced;
       prepares = λ d. g.prepares;
       lasting = g.lasting;
-      empty = none_on_the_way h fine.whole g.run i.undelivered;
-      act = i.act;
       append = i.append;
-      answered = all_answered (plan_of ks) h u;
-      voted = λ d l e k. all_voted (plan_of ks) h u d l e.value k;
-      replied = promotion_replied (plan_of ks) h u;
-      requested = commit_requested (plan_of ks) h u;
+      answered = all_answered (plan_of ks) h u heeded;
+      voted = λ d l e k. all_voted (plan_of ks) h u heeded d l e.value k;
+      requested = commit_requested (plan_of ks) h u heeded;
       asked = g.can.asked;
-      started = g.started;
     }
 
 -- so a transaction that promotes and can commit is committed where nothing is pending, and its client was told so

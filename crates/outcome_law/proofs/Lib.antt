@@ -143,6 +143,7 @@ pub mod CameOnce
 pub mod Handing
 pub mod OnlyHanded
 pub mod WaitingApart
+pub mod WaitsOver
 pub mod WaitedFor
 pub mod Once
 pub mod TameBlocks
@@ -171,3 +172,4 @@ pub mod CommitExample
 pub mod PromotesRuns
 pub mod CommonBlocks
 pub mod TellingRuns
+pub mod CallsAnswered

@@ -48,7 +48,7 @@ same_wait (n, Place e r c) (m, Place f q d) = (n == m) && (e.value == f.value)
 same_wait _ _ = false
 
 -- each but one passes, where each that passed p passes q after that one is taken off
-each_but : (n : ℕ) (p q : Waiter → Bool) → ((w : Waiter) → (n == w.0) ≡ false → p w ≡ true → q w ≡ true) → (ws : List Waiter) → each p ws ≡ true → each q (but n ws) ≡ true
+pub each_but : (n : ℕ) (p q : Waiter → Bool) → ((w : Waiter) → (n == w.0) ≡ false → p w ≡ true → q w ≡ true) → (ws : List Waiter) → each p ws ≡ true → each q (but n ws) ≡ true
 each_but n p q sub [] k = refl
 each_but n p q sub (w ∷ ws) k = step (n == w.0) refl (each_but n p q sub ws (and_right (p w) (each p ws) k))
   where

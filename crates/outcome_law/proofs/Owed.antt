@@ -78,14 +78,28 @@ pub record IsSpared (x : Row) : Type 0 where
   pub of_volatile : is_volatile x.class ≡ true
   pub has_cast : has_voted x ≡ true
 
--- a fine history in which each that is lost is spared, whose plans have each reply that is due of a row, and where of none a reply is due that its plan has
+-- The same of the vote, and that it can be promoted, alone.
+pub record IsPromised (p : Plan) (h : List Entry) (x : Row) : Type 0 where
+  pub votes : owes_vote (observe h) x ≡ true → is_none p.vote ≡ true → ⊥
+  pub promotes : has (is_asked_to_promote x.number.value) h ≡ true → owes_promotion (observe h) x ≡ true → is_none p.promote ≡ true → ⊥
+
+-- the plans have each reply that is due of a row; or of a promotable's row, those that come while it promotes
+abbrev pub AreHeeded : (ℕ → Plan) → List Entry → Type 0
+AreHeeded p h = (i : ℕ) (x : Row) → slice_get (rows h) i ≡ Some x → IsHeeded (p x.number.value) h x
+
+abbrev pub ArePromised : (ℕ → Plan) → List Entry → Type 0
+ArePromised p h = (i : ℕ) (x : Row) → slice_get (rows h) i ≡ Some x → is_promotable x.class ≡ true → IsPromised (p x.number.value) h x
+
+pub heeded_promised : (p : ℕ → Plan) (h : List Entry) → AreHeeded p h → ArePromised p h
+heeded_promised p h g = λ i x e k. record { votes = (g i x e).votes; promotes = (g i x e).promotes }
+
+-- a fine history in which each that is lost is spared, and where of none a reply is due that its plan has
 pub record IsUnowed (p : ℕ → Plan) (h : List Entry) : Type 0 where
   pub fine : IsFine h
   pub spared : (i : ℕ) (x : Row) → slice_get (rows h) i ≡ Some x → is_gone (observe h) x.number.value ≡ true → IsSpared x
   pub once : always is_made_once h ≡ true
   pub there : always is_asked_there h ≡ true
   pub well : always is_asked_well h ≡ true
-  pub heeded : (i : ℕ) (x : Row) → slice_get (rows h) i ≡ Some x → IsHeeded (p x.number.value) h x
   pub unowed : each (λ e. is_unplanned (p e.value) (due_of (observe h) e.value)) (names (observe h)) ≡ true
 
 -- each name of the table is among the names
@@ -285,23 +299,23 @@ marked_votes p h i x r u l e m = by_class (is_volatile x.class) refl
         (false_from_ne_true (was_told (observe h) n) (λ k. not_both (has (is_told n) h) (told_seen n h k) (untold n h r.fine.unbad r.well u l))))
 
 -- so each that was asked to prepare has voted
-pub all_answered : (p : ℕ → Plan) (h : List Entry) → IsUnowed p h → has is_decision h ≡ false → has is_logged h ≡ false → each has_answered (rows h) ≡ true
-all_answered p h r u l = each_from_at has_answered (rows h) (λ i x e. row i x e (is_gone (observe h) x.number.value) refl)
+pub all_answered : (p : ℕ → Plan) (h : List Entry) → IsUnowed p h → AreHeeded p h → has is_decision h ≡ false → has is_logged h ≡ false → each has_answered (rows h) ≡ true
+all_answered p h r g u l = each_from_at has_answered (rows h) (λ i x e. row i x e (is_gone (observe h) x.number.value) refl)
   where
     row : (i : ℕ) (x : Row) → slice_get (rows h) i ≡ Some x → (b : Bool) → is_gone (observe h) x.number.value ≡ b → has_answered x ≡ true
-    row i x e true g = or_right (not (is_marked x)) (has_voted x) (r.spared i x e g).has_cast
-    row i x e false g =
+    row i x e true lost = or_right (not (is_marked x)) (has_voted x) (r.spared i x e lost).has_cast
+    row i x e false lost =
         step (is_marked x) (has_voted x) (may_still_vote (observe h) x) (marked_votes p h i x r u l e)
         (vote_unowed (p x.number.value) (owes_vote (observe h) x) (owes_promotion (observe h) x) (owes_outcome (observe h) x) (owes_request (observe h) x)
-        (note_of_conn (conn_due (observe h) x.number.value)) (r.heeded i x e).votes (row_unplanned p h i x r e g))
+        (note_of_conn (conn_due (observe h) x.number.value)) (g i x e).votes (row_unplanned p h i x r e lost))
       where
         step : (m v w : Bool) → (m ≡ true → w ≡ true) → (m && not v && w) ≡ false → (not m || v) ≡ true
         step true true w f k = refl
         step true false w f k = absurd (not_both w (f refl) k)
         step false v w f k = refl
 
-pub all_voted : (p : ℕ → Plan) (h : List Entry) → IsUnowed p h → has is_decision h ≡ false → has is_logged h ≡ false → (e : ℕ) → has (is_asked e) h ≡ true → has (is_vote e) h ≡ true
-all_voted p h r u l e k = voted_cast e h (each_of (rows h) (all_answered p h r u l) (asked_marked e h r.there k))
+pub all_voted : (p : ℕ → Plan) (h : List Entry) → IsUnowed p h → AreHeeded p h → has is_decision h ≡ false → has is_logged h ≡ false → (e : ℕ) → has (is_asked e) h ≡ true → has (is_vote e) h ≡ true
+all_voted p h r g u l e k = voted_cast e h (each_of (rows h) (all_answered p h r g u l) (asked_marked e h r.there k))
   where
     each_of : (xs : List Row) → each has_answered xs ≡ true → was_asked e xs ≡ true → voted e xs ≡ true
     each_of [] a k = absurd cc
@@ -356,7 +370,7 @@ asked_row p q at h w k =
     }
 
 -- a promotable isn't lost
-unvolatile : (c : Class) → is_volatile c ≡ true → is_promotable c ≡ true → ⊥
+pub unvolatile : (c : Class) → is_volatile c ≡ true → is_promotable c ≡ true → ⊥
 unvolatile Promotable v k = absurd cc
 unvolatile c v k = absurd cc
 
@@ -377,9 +391,9 @@ done true false k n = absurd cc
 done false b k n = absurd cc
 
 -- so a promotable that was asked to promote has replied
-pub promotion_replied : (p : ℕ → Plan) (h : List Entry) → IsUnowed p h → has is_decision h ≡ false → has is_ask_promote h ≡ true → has is_promote_reply h ≡ true
+pub promotion_replied : (p : ℕ → Plan) (h : List Entry) → IsUnowed p h → ArePromised p h → has is_decision h ≡ false → has is_ask_promote h ≡ true → has is_promote_reply h ≡ true
 unfolding observe
-promotion_replied p h r u k = by (asked_row is_ask_promote is_asked_to_promote at h r.well k)
+promotion_replied p h r g u k = by (asked_row is_ask_promote is_asked_to_promote at h r.well k)
   where
     at : (x : Entry) (h : List Entry) → is_ask_promote x ≡ true → is_asked_well h x ≡ true → (e : ℕ) × (is_asked_to_promote e x ≡ true) × (has (is_made e is_promotable) h ≡ true)
     at (Asked e AskPromote) h k w = (e.value, eq_self e.value, w)
@@ -388,16 +402,16 @@ promotion_replied p h r u k = by (asked_row is_ask_promote is_asked_to_promote a
     by : IsAskedRow is_asked_to_promote h → has is_promote_reply h ≡ true
     by a =
         let x = a.row in
-        let heeded = r.heeded a.place x a.stands in
+        let heeded = g a.place x a.stands a.promotable in
         done (has is_ask_promote h) (has is_promote_reply h) k
         (open_still (has is_ask_promote h) (has is_promote_reply h) (is_promotable x.class) (is_some (latest decision_of h)) a.promotable (ap is_some (none_decided h u))
         (promotion_unowed (p x.number.value) (owes_vote (observe h) x) (owes_promotion (observe h) x) (owes_outcome (observe h) x) (owes_request (observe h) x)
         (note_of_conn (conn_due (observe h) x.number.value)) heeded.votes (heeded.promotes a.asked) (row_unplanned p h a.place x r a.stands (promotable_there p h a.place x r a.stands a.promotable))))
 
 -- and one that was asked for its single phase has requested
-pub commit_requested : (p : ℕ → Plan) (h : List Entry) → IsUnowed p h → has is_decision h ≡ false → has is_ask_single h ≡ true → has is_request h ≡ true
+pub commit_requested : (p : ℕ → Plan) (h : List Entry) → IsUnowed p h → AreHeeded p h → has is_decision h ≡ false → has is_ask_single h ≡ true → has is_request h ≡ true
 unfolding observe
-commit_requested p h r u k = by (asked_row is_ask_single is_asked_alone at h r.well k)
+commit_requested p h r g u k = by (asked_row is_ask_single is_asked_alone at h r.well k)
   where
     at : (x : Entry) (h : List Entry) → is_ask_single x ≡ true → is_asked_well h x ≡ true → (e : ℕ) × (is_asked_alone e x ≡ true) × (has (is_made e is_promotable) h ≡ true)
     at (Asked e AskSingle) h k w = (e.value, eq_self e.value, w)
@@ -411,12 +425,12 @@ commit_requested p h r u k = by (asked_row is_ask_single is_asked_alone at h r.w
     by : IsAskedRow is_asked_alone h → has is_request h ≡ true
     by a =
         let x = a.row in
-        let heeded = r.heeded a.place x a.stands in
+        let heeded = g a.place x a.stands in
         done (has is_ask_single h) (has is_request h) k
         (open_still (has is_ask_single h) (has is_request h) (is_promotable x.class) (is_some (latest decision_of h)) a.promotable (ap is_some (none_decided h u))
         (request_unowed (p x.number.value) (owes_vote (observe h) x) (owes_promotion (observe h) x) (owes_outcome (observe h) x) (owes_request (observe h) x)
         (note_of_conn (conn_due (observe h) x.number.value)) heeded.votes
-        (replied (has is_ask_promote h) (has is_promote_reply h) (is_promotable x.class) (is_some (latest decision_of h)) (promotion_replied p h r u)) (heeded.commits a.asked) (row_unplanned p h a.place x r a.stands (promotable_there p h a.place x r a.stands a.promotable))))
+        (replied (has is_ask_promote h) (has is_promote_reply h) (is_promotable x.class) (is_some (latest decision_of h)) (promotion_replied p h r (heeded_promised p h g) u)) (heeded.commits a.asked) (row_unplanned p h a.place x r a.stands (promotable_there p h a.place x r a.stands a.promotable))))
 
 -- The plan of one that is willing has each reply that is due of it.
 pub willing_heeded : (p : Plan) (h : List Entry) (x : Row) → is_willing p x.class ≡ true → IsHeeded p h x
@@ -456,6 +470,6 @@ willing_heeded p h x w =
     plans_promotion : (c : Class) → is_willing p c ≡ true → is_promotable c ≡ true → holds p.promote ≡ true
     plans_promotion c w o = held (is_promotable c) (holds p.promote) o (and_right (voted_well p.vote && (not (can_own c) || is_committed p.owner)) (not (is_promotable c) || holds p.promote) w)
 
-pub all_heeded : (p : ℕ → Plan) (h : List Entry) → each (λ x. is_willing (p x.0.value) x.1) (enlisted h) ≡ true → (i : ℕ) (x : Row) → slice_get (rows h) i ≡ Some x → IsHeeded (p x.number.value) h x
-all_heeded p h w i x e =
+pub all_heeded : (p : ℕ → Plan) (h : List Entry) → each (λ x. is_willing (p x.0.value) x.1) (enlisted h) ≡ true → AreHeeded p h
+all_heeded p h w = λ i x e.
     willing_heeded (p x.number.value) h x (each-at (λ y. is_willing (p y.number.value) y.class) (rows h) i x (each_rows (λ e c. is_willing (p e.value) c) h ∙ w) e)

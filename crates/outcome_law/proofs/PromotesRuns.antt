@@ -387,6 +387,10 @@ ran_called s t (m ∷ ms) w r k =
     let now = subst (λ (x : World). Keeps x.past) r.3 k in
     subst (λ (x : World). IsCalled s t x.past) (sym r.3) (step_called s t r.0 m r.2 now (ran_called s t ms r.0 r.1 (keeps_past t r.0 m now)))
 
+-- So where a call waited, a promotion began.
+pub waits_promoting : (s : List Line) (t : ℕ) (ms : List Step) (w : World) → Ran (IsCallOf s t) t ms w → Keeps w.past → has is_wait w.past ≡ true → has is_promoting w.past ≡ true
+waits_promoting s t ms w r k = (ran_called s t ms w r k).waits
+
 -- What a script's lines freely cause and keeps the table is promoted in order.
 pub runs_promote : (s : List Line) (t : ℕ) (h : List Entry) → FreelyCaused (IsCallOf s t) t h → Keeps h → promotes s t h ≡ true
 runs_promote s t h r k = ruled_ordered s t h k.rules (ran_called s t r.1.0 (record { calls = r.0; past = h }) r.1.1 k).called

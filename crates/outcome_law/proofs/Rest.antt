@@ -69,33 +69,39 @@ pub record IsQuiet (h : List Entry) : Type 0 where
   pub free : owes_none h ≡ true
   pub empty : (c : Conn) (d : Dir) → in_transit c d h ≡ []
 
--- A history at rest, by the calls that were entered: nothing bad came, unless something is decided.
-pub record IsAtRest (ks : List EnteredCall) (h : List Entry) : Type 0 where
+-- A history in which a promotion began and can't go on, by the calls that were entered: no message is pending, no act of the local side and no reply to promote; and nothing
+-- bad came, unless something is decided.
+pub record IsUnmoved (ks : List EnteredCall) (h : List Entry) : Type 0 where
   -- by the table of rules
   pub fine : has is_decision h ≡ false → IsFine h
   pub later : always is_after_start h ≡ true
   pub sound : always is_sound h ≡ true
-  pub ordered : always is_ordered h ≡ true
-  pub begun : always is_begun h ≡ true
   pub paying : always pays h ≡ true
-  -- by the table and the rows: after the seal each Zero voted, and no blocking clone is open
-  pub zeros : has is_sealed h ≡ true → zeros_voted (rows h) ≡ true
-  pub closed : has is_open_block (clone_rows h) ≡ false
-  -- at the end of a block: nothing is owed; after the promotion each call that waits has its ENLIST sent, and its enlistment doesn't stand; after COMMIT, while nothing
-  -- is logged, each enlistment at the coordinator has its PREPARE sent; and none of these is volatile
+  -- at the end of a block: nothing is owed; after the promotion each call that waits has its ENLIST sent, and its enlistment doesn't stand
   pub free : owes_none h ≡ true
   pub waits : has is_promoted h ≡ true → each (is_on_its_way h) (waiting ks h) ≡ true
   pub unplaced : each (is_unplaced h) (waiting ks h) ≡ true
-  pub prepares : has is_decision h ≡ false → has is_logged h ≡ false → has (is_got_on Begin Up COMMIT) h ≡ true → (e : EnlNo) → has (is_got_on (Enl e) Up ENLIST) h ≡ true → has (is_sent_on (Enl e) Down PREPARE) h ≡ true
-  pub lasting : (e : EnlNo) → has (is_got_on (Enl e) Up ENLIST) h ≡ true → has (is_volatile_made e.value) h ≡ false
-  -- nothing is pending: no message, no act of either side, and no reply
+  -- nothing is pending: no message, no act of the local side, and no reply to promote
   pub empty : (c : Conn) (d : Dir) → in_transit c d h ≡ []
   pub act : act_entries (half_of ks h) ≡ []
+  pub replied : has is_decision h ≡ false → has is_promoted h ≡ false → has is_ask_promote h ≡ true → has is_promote_reply h ≡ true
+  pub started : has is_promoting h ≡ true
+
+-- A history at rest: the commit was asked for too, no blocking clone is open, and nothing at all is pending.
+pub record IsAtRest (ks : List EnteredCall) (h : List Entry) : Type 0 where
+  pub unmoved : IsUnmoved ks h
+  -- by the table of rules
+  pub ordered : always is_ordered h ≡ true
+  pub begun : always is_begun h ≡ true
+  -- by the table and the rows: after the seal each Zero voted, and no blocking clone is open
+  pub zeros : has is_sealed h ≡ true → zeros_voted (rows h) ≡ true
+  pub closed : has is_open_block (clone_rows h) ≡ false
+  -- at the end of a block: after COMMIT, while nothing is logged, each enlistment at the coordinator has its PREPARE sent; and none of these is volatile
+  pub prepares : has is_decision h ≡ false → has is_logged h ≡ false → has (is_got_on Begin Up COMMIT) h ≡ true → (e : EnlNo) → has (is_got_on (Enl e) Up ENLIST) h ≡ true → has (is_sent_on (Enl e) Down PREPARE) h ≡ true
+  pub lasting : (e : EnlNo) → has (is_got_on (Enl e) Up ENLIST) h ≡ true → has (is_volatile_made e.value) h ≡ false
+  -- no act of the coordinator is pending, and no other reply
   pub append : may_log (coordinate h) ≡ false
   pub answered : has is_decision h ≡ false → has is_logged h ≡ false → each has_answered (rows h) ≡ true
   pub voted : has is_decision h ≡ false → has is_logged h ≡ false → (e : EnlNo) → has (is_asked e.value) h ≡ true → has (is_vote e.value) h ≡ true
-  pub replied : has is_decision h ≡ false → has is_ask_promote h ≡ true → has is_promote_reply h ≡ true
   pub requested : has is_decision h ≡ false → has is_ask_single h ≡ true → has is_request h ≡ true
-  -- the commit was asked for, and a promotion began
   pub asked : has is_commit h ≡ true
-  pub started : has is_promoting h ≡ true

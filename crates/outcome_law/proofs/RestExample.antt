@@ -45,28 +45,31 @@ none_on_the_way (Again e) Down = refl
 marshalled_rests : IsAtRest (entered_in lines (past_of marshalled)) (past_of marshalled)
 unfolding model
 marshalled_rests = record {
-  fine = λ d. absurd cc;
-  later = refl;
-  sound = refl;
+  unmoved =
+      record {
+        fine = λ d. absurd cc;
+        later = refl;
+        sound = refl;
+        paying = refl;
+        free = refl;
+        waits = λ k. refl;
+        unplaced = refl;
+        empty = none_on_the_way;
+        act = refl;
+        replied = λ u n a. absurd cc;
+        started = refl;
+      };
   ordered = refl;
   begun = refl;
-  paying = refl;
   zeros = λ k. refl;
   closed = refl;
-  free = refl;
-  waits = λ k. refl;
-  unplaced = refl;
   prepares = λ d l k e n. absurd cc;
   lasting = λ e n. refl;
-  empty = none_on_the_way;
-  act = refl;
   append = refl;
   answered = λ u l. refl;
   voted = λ u l e a. absurd cc;
-  replied = λ u a. absurd cc;
   requested = λ u a. absurd cc;
   asked = refl;
-  started = refl;
 }
 
 -- and it keeps the table of rules

@@ -13,20 +13,22 @@ use Rattle.dtx_values.specs.declared.words.Class.{Class}
 use Rattle.dtx_values.specs.Class.{is_promotable}
 use Rattle.dtx_values.specs.Clones.{blocks}
 use Rattle.dtx_values.specs.Row.{has_voted, is_marked}
-use Rattle.dtx_model.specs.Words.{all_of, each, has, latest}
-use Rattle.dtx_model.specs.Entries.{client_told_of, clone_of, is_any_owner, is_asked, is_asked_alone, is_asked_to_promote, is_commit, is_decision, is_hand, is_promote_reply_of, is_request_of, is_vote}
+use Rattle.dtx_model.specs.Words.{all_of, always, each, has, latest}
+use Rattle.dtx_model.specs.Entries.{client_told_of, clone_of, is_any_owner, is_asked, is_asked_alone, is_asked_to_promote, is_commit, is_decision, is_hand, is_promote_reply_of, is_promoted, is_request_of, is_vote}
 use Rattle.dtx_model.specs.Observed.{is_ask_promote, is_ask_single, is_promote_reply, is_request, observe, rows}
 use Rattle.dtx_model.specs.Outcome.{enlisted, is_complete}
 use Rattle.dtx_model.specs.Promotes.{is_promoting}
 use Rattle.dtx_model.specs.Wires.{is_stopped}
-use Rattle.dtx_model.specs.Waiting.{Waiter, waiting}
+use Rattle.dtx_model.specs.Waiting.{EnteredCall, Waiter, waiting}
 use Rattle.dtx_model.specs.Plans.{plan_of}
-use Rattle.dtx_model.specs.Replies.{may_still_vote}
+use Rattle.dtx_model.specs.Replies.{may_still_vote, owes_promotion}
+use Rattle.dtx_model.specs.Steps.{Step}
 use Rattle.dtx_model.specs.World.{World}
 use Rattle.dtx_model.specs.Grammar.{are_named_well}
-use Rattle.dtx_model.specs.Caused.{Caused, IsCallOf, Settled, entered_in, is_promoting_entry, plans_of}
+use Rattle.dtx_model.specs.Caused.{AreMadeOnce, Caused, IsCallOf, Ran, Settled, entered_in, is_promoting_entry, plans_of}
 use Rattle.dtx_model.specs.History.{IsToldOrWaits, is_silent, is_waiting}
 use Rattle.outcome_law.specs.Severed.{is_severing}
+use Rattle.outcome_law.specs.Waited.{is_silent_to_promote}
 use Rattle.dtx_model.proofs.Bools.{and_both, and_left, and_right, not_both, not_false, not_true, or_first, or_right, or_second}
 use Rattle.dtx_model.proofs.Local.{free-local}
 use Rattle.outcome_law.proofs.Scans.{has_less, has_more}
@@ -49,10 +51,13 @@ use Rattle.outcome_law.proofs.OnTheWay.{is_on_its_way, is_unplaced}
 use Rattle.outcome_law.proofs.Whole.{whole, whole_of}
 use Rattle.outcome_law.proofs.Fine.{IsFine, is_restart}
 use Rattle.outcome_law.proofs.Arrived.{before, unstopped}
-use Rattle.outcome_law.proofs.Rest.{IsAtRest}
+use Rattle.outcome_law.proofs.Rest.{IsAtRest, IsQuiet, IsUnmoved}
 use Rattle.outcome_law.proofs.Climbed.{told_at_rest}
-use Rattle.outcome_law.proofs.Owed.{IsHeeded, IsUnowed, all_answered, all_voted, commit_requested, promotion_replied}
-use Rattle.outcome_law.proofs.Idle.{idle, none_on_the_way}
+use Rattle.outcome_law.proofs.Owed.{AreHeeded, ArePromised, IsHeeded, IsUnowed, all_answered, all_voted, commit_requested, heeded_promised, promotion_replied}
+use Rattle.outcome_law.proofs.Idle.{IsIdle, idle, none_on_the_way}
+use Rattle.outcome_law.proofs.SameRows.{is_made_once}
+use Rattle.outcome_law.proofs.Tabled.{KeepsMore}
+use Rattle.outcome_law.proofs.Undecided.{Stands}
 use Rattle.outcome_law.proofs.Keeping.{Keeps, keeps_before, newest}
 use Rattle.outcome_law.proofs.ByTable.{ruled_later, ruled_recorded}
 use Rattle.outcome_law.proofs.BeforeRows.{kept_begun, kept_ordered, kept_sound}
@@ -80,9 +85,26 @@ reply_of : (e : ℕ) (x : Entry) → is_promote_reply_of e x ≡ true → is_pro
 reply_of e (PromoteReply f ok) k = refl
 reply_of e x k = absurd cc
 
+second : (a b c d : Bool) → (a && b && c && d) ≡ true → b ≡ true
+second a b c d k = and_right a b (and_left (a && b) c (and_left (a && b && c) d k))
+
 request_of : (e : ℕ) (x : Entry) → is_request_of e x ≡ true → is_request x ≡ true
 request_of e (Requested f r) k = refl
 request_of e x k = absurd cc
+
+-- who was asked to promote and isn't silent to that, and owes its reply, plans one
+pub promise_planned : (p : Plan) (h : List Entry) (x : Row) → is_silent_to_promote p h x.number.value ≡ false → has (is_asked_to_promote x.number.value) h ≡ true → owes_promotion (observe h) x ≡ true
+    → is_none p.promote ≡ true → ⊥
+unfolding observe
+promise_planned p h x quiet a o z =
+    let n = x.number.value in
+    not_both (is_silent_to_promote p h n)
+    (and_both (has (is_asked_to_promote n) h && is_none p.promote) (not (has (is_promote_reply_of n) h)) (and_both (has (is_asked_to_promote n) h) (is_none p.promote) a z)
+    (not_false (has (is_promote_reply_of n) h)
+    (has_less (is_promote_reply_of n) is_promote_reply (reply_of n) h (not_true (has is_promote_reply h) (second has_asked (not (has is_promote_reply h)) (is_promotable x.class) _ o))))) quiet
+  where
+    has_asked : Bool
+    has_asked = has is_ask_promote h
 
 heeded : (p : Plan) (h : List Entry) (i : ℕ) (x : Row) → Keeps h → slice_get (rows h) i ≡ Some x → is_silent p h x.number.value ≡ false → IsHeeded p h x
 unfolding observe
@@ -93,11 +115,7 @@ heeded p h i x k e quiet =
           (and_both (has (is_asked n) h) (is_none p.vote) (sym (row_marked h i x k e) ∙ and_left (is_marked x) (not (has_voted x)) (and_left (is_marked x && not (has_voted x)) (may_still_vote (observe h) x) o)) z)
           (ap not (sym (row_voted h i x k e)) ∙ and_right (is_marked x) (not (has_voted x)) (and_left (is_marked x && not (has_voted x)) (may_still_vote (observe h) x) o)))
           (or_first prepare hand (or_first (prepare || hand) promote first));
-      promotes = λ a o z. not_both promote
-          (and_both (has (is_asked_to_promote n) h && is_none p.promote) (not (has (is_promote_reply_of n) h)) (and_both (has (is_asked_to_promote n) h) (is_none p.promote) a z)
-          (not_false (has (is_promote_reply_of n) h)
-          (has_less (is_promote_reply_of n) is_promote_reply (reply_of n) h (not_true (has is_promote_reply h) (second (has is_ask_promote h) (not (has is_promote_reply h)) (is_promotable x.class) _ o)))))
-          (or_second (prepare || hand) promote first);
+      promotes = promise_planned p h x (or_second (prepare || hand) promote first);
       commits = λ a o z. not_both single
           (and_both (has (is_asked_alone n) h && is_none p.owner) (not (has (is_request_of n) h)) (and_both (has (is_asked_alone n) h) (is_none p.owner) a z)
           (not_false (has (is_request_of n) h) (has_less (is_request_of n) is_request (request_of n) h (not_true (has is_request h) (second (has is_ask_single h) (not (has is_request h)) (is_promotable x.class) _ o)))))
@@ -122,21 +140,30 @@ heeded p h i x k e quiet =
     first : (prepare || hand || promote) ≡ false
     first = or_first (prepare || hand || promote) single quiet
 
-    second : (a b c d : Bool) → (a && b && c && d) ≡ true → b ≡ true
-    second a b c d k = and_right a b (and_left (a && b) c (and_left (a && b && c) d k))
+-- what no enlistment passes, no row does
+pub none_row : (q : ℕ → Bool) (h : List Entry) (i : ℕ) (x : Row) → has (λ y. q y.0.value) (enlisted h) ≡ false → slice_get (rows h) i ≡ Some x → q x.number.value ≡ false
+none_row q h i x quiet e =
+    false_from_ne_true (q x.number.value)
+    (λ k. not_both (has (λ y. q y.number.value) (rows h)) (has-at (λ y. q y.number.value) (rows h) i x e k) (has_rows (λ (e : EnlNo) (c : Class). q e.value) h ∙ quiet))
 
--- of nobody silent, none is
-none_silent : (s : List Line) (h : List Entry) (i : ℕ) (x : Row) → has (λ x. is_silent (plans_of s x.0.value) h x.0.value) (enlisted h) ≡ false → slice_get (rows h) i ≡ Some x
-    → is_silent (plans_of s x.number.value) h x.number.value ≡ false
-none_silent s h i x quiet e =
-    false_from_ne_true (is_silent (plans_of s x.number.value) h x.number.value)
-    (λ k. not_both (has (λ y. is_silent (plans_of s y.number.value) h y.number.value) (rows h)) (has-at (λ y. is_silent (plans_of s y.number.value) h y.number.value) (rows h) i x e k)
-    (has_rows (λ (e : EnlNo) (c : Class). is_silent (plans_of s e.value) h e.value) h ∙ quiet))
+-- What is so in a settled history of a script in which nothing was severed, with a run that made it: it keeps the tables; nothing bad came, unless something is decided; and
+-- nothing is owed, on the way or pending.
+pub record IsSettledRun (s : List Line) (t : ℕ) (h : List Entry) : Type 0 where
+  pub calls : List EnteredCall
+  pub steps : List Step
+  pub ran : Ran (IsCallOf s t) t steps (record { calls = calls; past = h })
+  pub made : AreMadeOnce (IsCallOf s t)
+  pub stands : Stands h
+  pub more : KeepsMore h
+  pub once : always is_made_once h ≡ true
+  pub quiet : IsQuiet h
+  pub fine : has is_decision h ≡ false → IsFine h
+  pub pended : IsIdle (entered_in s h) h
+  pub plans : (e : ℕ) → has (is_enlisted e) h ≡ true → plan_of (entered_in s h) e ≡ plans_of s e
+  pub unowed : has is_decision h ≡ false → IsUnowed (plan_of (entered_in s h)) h
 
--- A settled history in which a promotion began, nothing was severed and the commit was asked for, and that waits for nothing, is at rest; so its client was told.
-at_rest : (s : List Line) (k t : ℕ) (h : List Entry) → are_named_well s ≡ true → Caused s k t h → has is_severing h ≡ false → has is_promoting h ≡ true → Settled s h → has is_commit h ≡ true → is_waiting s h ≡ false
-    → IsAtRest (entered_in s h) h
-at_rest s k t h named c unsevered began settled asked idles =
+pub settled_run : (s : List Line) (k t : ℕ) (h : List Entry) → are_named_well s ≡ true → Caused s k t h → has is_severing h ≡ false → Settled s h → IsSettledRun s t h
+settled_run s k t h named c unsevered settled =
     let G = IsCallOf s t in
     let calls = c.freely.0 in
     let steps = c.freely.1.0 in
@@ -148,65 +175,100 @@ at_rest s k t h named c unsevered began settled asked idles =
     let keeps = stands.keeps in
     let more = run_rows G t steps w ran keeps in
     let made : AreMade G calls h = ran_made G t steps w ran in
-    let same : waiting calls h ≡ waiting (entered_in s h) h = waiting_read s t steps w ran in
     let entire = whole_of h (kept_opened h keeps) unsevered in
     let made_once = ran_once G t steps w once ran in
     let voters = ran_voters G t steps w ran (record { keeps = keeps; unsevered = unsevered }) in
-    let later = ruled_later h keeps.rules in
-    let sound = kept_sound h keeps in
-    let ordered = kept_ordered h keeps in
-    let begun = kept_begun h keeps in
     let pays = ran_paid G t steps w ran
-    (record { whole = entire; run = keeps.wires; unrestarted = unrestarted h keeps entire; later = later; sound = sound; recorded = ruled_recorded h keeps.rules; once = more.placed }) in
+    (record {
+      whole = entire;
+      run = keeps.wires;
+      unrestarted = unrestarted h keeps entire;
+      later = ruled_later h keeps.rules;
+      sound = kept_sound h keeps;
+      recorded = ruled_recorded h keeps.rules;
+      once = more.placed;
+    }) in
     let i = idle (entered_in s h) h settled in
-    let empty = none_on_the_way h entire keeps.wires i.undelivered in
+    let quiet : IsQuiet h = record { paid = pays.paid; free = pays.free; empty = none_on_the_way h entire keeps.wires i.undelivered } in
     let fine : has is_decision h ≡ false → IsFine h =
     undecided_fine h
     (record {
       stands = stands;
       unsevered = unsevered;
       caused = more.caused;
-      quiet = record { paid = pays.paid; free = pays.free; empty = empty };
+      quiet = quiet;
       going = ran_goes G t steps w once ran tie;
       announced = ran_announces G t steps w ran (record { keeps = keeps; unsevered = unsevered });
     }) in
-    let plans : (e : ℕ) → has (is_enlisted e) h ≡ true → plan_of (entered_in s h) e ≡ plans_of s e =
-    λ e q. let m = (made.enlisted e q).0 in
-    plan_same s t e h named (record { number = m.number; actor = m.actor; call = m.call; given = m.may; passes = maker_called e m.call m.passes; called = m.called }) in
-    let quiet = or_second (has (λ c. blocks c.1 && not (is_complete h c)) (all_of clone_of h)) (has (λ x. is_silent (plans_of s x.0.value) h x.0.value) (enlisted h)) idles in
-    let unowed : has is_decision h ≡ false → IsUnowed (plan_of (entered_in s h)) h =
-    λ d. record {
-      fine = fine d;
-      spared = λ i x e g. row_spared h i x keeps made_once d voters e g;
-      once = made_once;
-      there = more.there;
-      well = more.well;
-      heeded = λ i x e. subst (λ p. IsHeeded p h x) (sym (plans x.number.value (rows_enlisted h i x keeps e))) (heeded (plans_of s x.number.value) h i x keeps e (none_silent s h i x quiet e));
-      unowed = i.unanswered;
-    } in
     record {
+      calls = calls;
+      steps = steps;
+      ran = ran;
+      made = once;
+      stands = stands;
+      more = more;
+      once = made_once;
+      quiet = quiet;
       fine = fine;
-      later = later;
-      sound = sound;
-      ordered = ordered;
-      begun = begun;
-      paying = pays.paid;
-      zeros = sealed_zeros h (kept_shut h keeps);
-      closed = open_blocks h keeps ∙ or_first (has (λ c. blocks c.1 && not (is_complete h c)) (all_of clone_of h)) (has (λ x. is_silent (plans_of s x.0.value) h x.0.value) (enlisted h)) idles;
-      free = pays.free;
-      waits = λ p. subst (λ (ws : List Waiter). each (is_on_its_way h) ws ≡ true) same (ran_waits G t steps w ran p);
-      unplaced = subst (λ (ws : List Waiter). each (is_unplaced h) ws ≡ true) same (all_unplaced G calls h once made);
-      prepares = λ d n. ran_prepares G t steps w ran (record { fine = fine d; sound = sound; ordered = ordered; begun = begun; unlogged = n });
-      lasting = all_lasting G calls h once made keeps.wires;
-      empty = empty;
-      act = i.act;
-      append = i.append;
-      answered = λ d. all_answered (plan_of (entered_in s h)) h (unowed d) d;
-      voted = λ d l e k. all_voted (plan_of (entered_in s h)) h (unowed d) d l e.value k;
-      replied = λ d. promotion_replied (plan_of (entered_in s h)) h (unowed d) d;
-      requested = λ d. commit_requested (plan_of (entered_in s h)) h (unowed d) d;
-      asked = asked;
+      pended = i;
+      plans = λ e q. let m = (made.enlisted e q).0 in
+          plan_same s t e h named (record { number = m.number; actor = m.actor; call = m.call; given = m.may; passes = maker_called e m.call m.passes; called = m.called });
+      unowed = λ d. record {
+        fine = fine d;
+        spared = λ i x e g. row_spared h i x keeps made_once d voters e g;
+        once = made_once;
+        there = more.there;
+        well = more.well;
+        unowed = i.unanswered;
+      };
+    }
+
+-- where a promotion began in it, and the promotable's plan has a reply to that, it can't go on
+pub unmoved : (s : List Line) (t : ℕ) (h : List Entry) → IsSettledRun s t h → has is_promoting h ≡ true → (has is_promoted h ≡ false → ArePromised (plan_of (entered_in s h)) h) → IsUnmoved (entered_in s h) h
+unmoved s t h r began promised =
+    let G = IsCallOf s t in
+    let w : World = record { calls = r.calls; past = h } in
+    let same : waiting r.calls h ≡ waiting (entered_in s h) h = waiting_read s t r.steps w r.ran in
+    let keeps = r.stands.keeps in
+    record {
+      fine = r.fine;
+      later = ruled_later h keeps.rules;
+      sound = kept_sound h keeps;
+      paying = r.quiet.paid;
+      free = r.quiet.free;
+      waits = λ p. subst (λ (ws : List Waiter). each (is_on_its_way h) ws ≡ true) same (ran_waits G t r.steps w r.ran p);
+      unplaced = subst (λ (ws : List Waiter). each (is_unplaced h) ws ≡ true) same (all_unplaced G r.calls h r.made (ran_made G t r.steps w r.ran));
+      empty = r.quiet.empty;
+      act = r.pended.act;
+      replied = λ d n. promotion_replied (plan_of (entered_in s h)) h (r.unowed d) (promised n) d;
       started = began;
+    }
+
+-- Where the commit was asked for too, and it waits for nothing, it is at rest; so its client was told.
+at_rest : (s : List Line) (t : ℕ) (h : List Entry) → IsSettledRun s t h → has is_promoting h ≡ true → has is_commit h ≡ true → is_waiting s h ≡ false → IsAtRest (entered_in s h) h
+at_rest s t h r began asked idles =
+    let G = IsCallOf s t in
+    let w : World = record { calls = r.calls; past = h } in
+    let p = plan_of (entered_in s h) in
+    let keeps = r.stands.keeps in
+    let blocked = has (λ c. blocks c.1 && not (is_complete h c)) (all_of clone_of h) in
+    let silent = has (λ x. is_silent (plans_of s x.0.value) h x.0.value) (enlisted h) in
+    let all : AreHeeded p h =
+    λ i x e. subst (λ q. IsHeeded q h x) (sym (r.plans x.number.value (rows_enlisted h i x keeps e)))
+    (heeded (plans_of s x.number.value) h i x keeps e (none_row (λ n. is_silent (plans_of s n) h n) h i x (or_second blocked silent idles) e)) in
+    record {
+      unmoved = unmoved s t h r began (λ n. heeded_promised p h all);
+      ordered = kept_ordered h keeps;
+      begun = kept_begun h keeps;
+      zeros = sealed_zeros h (kept_shut h keeps);
+      closed = open_blocks h keeps ∙ or_first blocked silent idles;
+      prepares = λ d n. ran_prepares G t r.steps w r.ran (record { fine = r.fine d; sound = kept_sound h keeps; ordered = kept_ordered h keeps; begun = kept_begun h keeps; unlogged = n });
+      lasting = all_lasting G r.calls h r.made (ran_made G t r.steps w r.ran) keeps.wires;
+      append = r.pended.append;
+      answered = λ d. all_answered p h (r.unowed d) all d;
+      voted = λ d l e k. all_voted p h (r.unowed d) all d l e.value k;
+      requested = λ d. commit_requested p h (r.unowed d) all d;
+      asked = asked;
     }
 
 -- Where nothing was severed: a settled history in which the commit was asked for, promoted or not.
@@ -222,7 +284,7 @@ told_promoted s k t h named c unsevered = λ settled asked. by settled asked (ha
     waits false e f = or_left (is_some (latest client_told_of h)) false (f refl)
 
     by : Settled s h → has is_commit h ≡ true → (b : Bool) → has is_promoting_entry h ≡ b → (is_some (latest client_told_of h) || is_waiting s h) ≡ true
-    by settled asked true q = waits (is_waiting s h) refl (λ n. told_at_rest (entered_in s h) h (at_rest s k t h named c unsevered (has_more is_promoting_entry is_promoting same_entry h q) settled asked n))
+    by settled asked true q = waits (is_waiting s h) refl (λ n. told_at_rest (entered_in s h) h (at_rest s t h (settled_run s k t h named c unsevered settled) (has_more is_promoting_entry is_promoting same_entry h q) asked n))
     by settled asked false q =
         let kept = script_kept s t h named c.freely (ap not q) in
         let home = free-local (IsCallOf s t) t h c.freely (ap not q) in

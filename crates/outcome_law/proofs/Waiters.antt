@@ -43,7 +43,7 @@ use Rattle.dtx_model.specs.Half.{Half, by_manager, enlist_sent, given, is_gone, 
 use Rattle.dtx_model.specs.Arrivals.{arrived, created, enlisted_at, hand_over, local_got, place_given}
 use Rattle.dtx_model.specs.Acts.{act_entries}
 use Rattle.dtx_model.specs.Replies.{reply_entries}
-use Rattle.dtx_model.specs.Answers.{await_answer, has_promotion, promotable_answer, volatile_answer, if_begun, is_crowded, is_full, local_answer, status_answer, unless_ended, unless_late, unless_over}
+use Rattle.dtx_model.specs.Answers.{await_answer, durable_answer, marshal_answer, has_promotion, promotable_answer, volatile_answer, if_begun, is_crowded, is_full, local_answer, status_answer, unless_ended, unless_late, unless_over}
 use Rattle.dtx_model.specs.Facts.{begin_promotion, durable_facts, facts_if, has_facts}
 use Rattle.dtx_model.specs.World.{World, answer_at, branches_by, core, facts_at, half, is_connected, is_finished_there, is_unfinished_link, reenlist_by, unless_connected, unless_stopped}
 use Rattle.dtx_model.specs.Steps.{Step, Calls, Replies, Acts, Coordinates, Delivers, Stops, Restarts, after, block_at, coordinates, delivered, ended_at, got_by, restarted}
@@ -290,6 +290,17 @@ unfolding answer_at local_answer observe
 sealed_gives t w (Durable u e r s) m q = (durable_late (half w).seen.limit (half w).seen.decided (has is_sealed w.past) _ q).proof
 sealed_gives t w c m q = (gives t w c m (or_right (has is_promoted w.past) (has is_sealed w.past) q) refl).proof
 
+-- once it is decided no call waits
+decided_late : (o : Option ℕ) (d : Option Outcome) (x : Answer) → is_some d ≡ true → Gives (if_begun o (unless_ended d x))
+decided_late o (Some y) x q = gives_begun o (sure refl)
+decided_late o None x q = absurd cc
+
+pub decided_gives : (t : ℕ) (w : World) (c : Call) (m : ℕ) → is_some (half w).seen.decided ≡ true → is_waiting_answer (answer_at t w c m) ≡ false
+unfolding answer_at local_answer
+decided_gives t w (Durable u e r s) m q = (decided_late (half w).seen.limit (half w).seen.decided (durable_answer (half w) (is_single s)) q).proof
+decided_gives t w (Marshal u) m q = (decided_late (half w).seen.limit (half w).seen.decided (marshal_answer t (half w)) q).proof
+decided_gives t w c m q = (other_given t w c m refl).proof
+
 -- what a call that waits for nothing new writes
 still_if : (b : Bool) (es : List Entry) → each is_still es ≡ true → each is_still (facts_if b es) ≡ true
 still_if true es k = k
@@ -307,7 +318,7 @@ still_durable t h e r single Fine n = refl
 still_durable t h e r single True n = refl
 still_durable t h e r single _ n = refl
 
-waits_as : (n : ℕ) (a : ActorNo) (x : Answer) → is_wait (Called n a x) ≡ is_waiting_answer x
+pub waits_as : (n : ℕ) (a : ActorNo) (x : Answer) → is_wait (Called n a x) ≡ is_waiting_answer x
 waits_as n a Wait = refl
 waits_as n a _ = refl
 

@@ -6,20 +6,22 @@ use Rattle.std.proofs.lemmas.Bool.{false_from_ne_true}
 use Rattle.dtx_values.specs.declared.call.Call.{Call}
 use Rattle.dtx_values.specs.declared.call.Call.TheVariants.{Volatile, Durable, Promotable, Marshal}
 use Rattle.dtx_values.specs.declared.entry.Answer.{Answer}
-use Rattle.dtx_values.specs.declared.entry.Answer.TheVariants.{Wait}
+use Rattle.dtx_values.specs.declared.entry.Answer.TheVariants.{Fine, Id, Wait}
 use Rattle.dtx_values.specs.declared.entry.Entry.{Entry}
-use Rattle.dtx_values.specs.declared.entry.Entry.TheVariants.{Answered, Called, Got, Sealed, Sent, Stopped}
+use Rattle.dtx_values.specs.declared.entry.Entry.TheVariants.{Answered, Called, Enlisted, Got, Promoted, Sealed, Sent, Stopped}
 use Rattle.dtx_values.specs.declared.message.Conn.{Conn}
 use Rattle.dtx_values.specs.declared.message.Conn.TheVariants.{Begin, Voter, Enl}
 use Rattle.dtx_values.specs.declared.message.Dir.{Dir}
 use Rattle.dtx_values.specs.declared.message.Dir.TheVariants.{Up, Down}
+use Rattle.dtx_values.specs.declared.message.Info.{Info}
 use Rattle.dtx_values.specs.declared.message.Message.{Message}
-use Rattle.dtx_values.specs.declared.message.Message.TheVariants.{BeginBegin, VoterCreated, EnlistEnlisted}
+use Rattle.dtx_values.specs.declared.message.Message.TheVariants.{BeginBegin, VoterCreated, EnlistEnlist, EnlistEnlisted}
 use Rattle.dtx_values.specs.declared.number.ActorNo.{ActorNo}
 use Rattle.dtx_values.specs.declared.number.EnlNo.{EnlNo}
 use Rattle.dtx_values.specs.declared.number.RmNo.{RmNo}
 use Rattle.dtx_values.specs.declared.words.Cause.{Cause}
 use Rattle.dtx_values.specs.declared.words.Cause.TheVariants.{Marshal as MarshalCause}
+use Rattle.dtx_values.specs.declared.words.Class.{Class}
 use Rattle.dtx_values.specs.Class.{is_promotable}
 use Rattle.dtx_values.specs.Owners.{cause_of}
 use Rattle.dtx_values.specs.Support.{is_single}
@@ -32,7 +34,7 @@ use Rattle.dtx_model.specs.Grammar.{OfEnlistment}
 use Rattle.dtx_model.specs.Promotes.{identifier_of}
 use Rattle.dtx_model.specs.Wires.{in_transit}
 use Rattle.dtx_model.specs.Waiting.{Waiter, call_at, is_place_of, waiter_line, waiting, wanted, wanted_by}
-use Rattle.dtx_model.specs.Half.{Half, by_manager, enlist_sent, given, is_handed, is_promoting, over, promoted_by, sees}
+use Rattle.dtx_model.specs.Half.{Half, by_manager, enlist_sent, given, info, is_handed, is_promoting, over, promoted_by, sees}
 use Rattle.dtx_model.specs.Arrivals.{arrived, created, enlisted_at, hand_over, local_got, place_given}
 use Rattle.dtx_model.specs.Acts.{act_entries, commit_sent}
 use Rattle.dtx_model.specs.Replies.{reply_entries}
@@ -58,7 +60,7 @@ pub record AreApart (ks : List EnteredCall) (h : List Entry) : Type 0 where
   pub quiet : has is_sealed h ≡ true → waiting ks h ≡ []
 
 -- the entry is no call and no seal
-abbrev is_idle : Entry → Bool
+abbrev pub is_idle : Entry → Bool
 is_idle (Called n a x) = false
 is_idle Sealed = false
 is_idle _ = true
@@ -92,56 +94,68 @@ idle_apart : (ks : List EnteredCall) (h es : List Entry) → each is_idle es ≡
 idle_apart ks h [] t k = k
 idle_apart ks h (x ∷ es) t k = idle_apart ks (x ∷ h) es (and_right (is_idle x) (each is_idle es) t) (idle_one ks x h (and_left (is_idle x) (each is_idle es) t) k)
 
--- The arrivals of CREATED and ENLISTED.
-idle_given : (t : ℕ) (ws : List Waiter) → each is_idle (flat_map (given t) ws) ≡ true
-idle_given t [] = refl
-idle_given t ((n, Identifier) ∷ ws) = idle_given t ws
-idle_given t ((n, Place e r c) ∷ ws) = idle_given t ws
+-- The arrivals of CREATED and ENLISTED: a test passes them that passes what they bring.
+pub record PassesGiven (p : Entry → Bool) : Type 0 where
+  pub promoted : (u : ℕ) (c : Cause) → p (Promoted u c) ≡ true
+  pub answered : (n : ℕ) (x : Answer) → p (Answered n x) ≡ true
+  pub placed : (e : EnlNo) (c : Class) → p (Enlisted e c) ≡ true
+  pub sent : (e : EnlNo) (i : Info) → p (Sent (Enl e) Up (EnlistEnlist i)) ≡ true
 
-idle_handed : (t : ℕ) (v : Half) (x : Option EnlNo) → each is_idle (hand_over t v x) ≡ true
-idle_handed t v (Some e) = sent v.managers
+given_pass : (p : Entry → Bool) → PassesGiven p → (t : ℕ) (ws : List Waiter) → each p (flat_map (given t) ws) ≡ true
+given_pass p g t [] = refl
+given_pass p g t ((n, Identifier) ∷ ws) =
+    and_both (p (Answered n (Id (identifier_of t)))) (each p (flat_map (given t) ws)) (g.answered n (Id (identifier_of t))) (given_pass p g t ws)
+given_pass p g t ((n, Place e r c) ∷ ws) =
+    and_both (p (Sent (Enl e) Up (EnlistEnlist (info t e r)))) (each p (flat_map (given t) ws)) (g.sent e (info t e r)) (given_pass p g t ws)
+
+handed_pass : (p : Entry → Bool) → PassesGiven p → (t : ℕ) (v : Half) (x : Option EnlNo) → each p (hand_over t v x) ≡ true
+handed_pass p g t v (Some e) = sent v.managers
   where
-    sent : (ms : List (EnlNo × RmNo)) → each is_idle (by_manager (enlist_sent t) ms e) ≡ true
+    sent : (ms : List (EnlNo × RmNo)) → each p (by_manager (enlist_sent t) ms e) ≡ true
     sent [] = refl
     sent (m ∷ ms) = step (e.value == m.0.value) (sent ms)
       where
-        step : (b : Bool) → each is_idle (by_manager (enlist_sent t) ms e) ≡ true → each is_idle (if b then enlist_sent t e m.1 else by_manager (enlist_sent t) ms e) ≡ true
-        step true k = refl
+        step : (b : Bool) → each p (by_manager (enlist_sent t) ms e) ≡ true → each p (if b then enlist_sent t e m.1 else by_manager (enlist_sent t) ms e) ≡ true
+        step true k = and_both (p (Sent (Enl e) Up (EnlistEnlist (info t e m.1)))) true (g.sent e (info t e m.1)) refl
         step false k = k
-idle_handed t v None = by v.seen.cause
+handed_pass p g t v None = by v.seen.cause
   where
-    by : (o : Option Cause) → each is_idle (promoted_by t o ++ flat_map (given t) v.waits) ≡ true
-    by (Some c) = idle_given t v.waits
-    by None = idle_given t v.waits
+    by : (o : Option Cause) → each p (promoted_by t o ++ flat_map (given t) v.waits) ≡ true
+    by (Some c) = and_both (p (Promoted (identifier_of t) c)) (each p (flat_map (given t) v.waits)) (g.promoted (identifier_of t) c) (given_pass p g t v.waits)
+    by None = given_pass p g t v.waits
 
-idle_if : (b : Bool) (xs ys : List Entry) → each is_idle xs ≡ true → each is_idle ys ≡ true → each is_idle (if b then xs else ys) ≡ true
-idle_if true xs ys p q = p
-idle_if false xs ys p q = q
+pass_if : (p : Entry → Bool) (b : Bool) (xs ys : List Entry) → each p xs ≡ true → each p ys ≡ true → each p (if b then xs else ys) ≡ true
+pass_if p true xs ys k l = k
+pass_if p false xs ys k l = l
 
-idle_placed : (o : Option Waiter) → each is_idle (place_given o) ≡ true
-idle_placed (Some (n, Place e r c)) = refl
-idle_placed (Some (n, Identifier)) = refl
-idle_placed None = refl
+placed_pass : (p : Entry → Bool) → PassesGiven p → (o : Option Waiter) → each p (place_given o) ≡ true
+placed_pass p g (Some (n, Place e r c)) = and_both (p (Enlisted e c)) (p (Answered n Fine) && true) (g.placed e c) (and_both (p (Answered n Fine)) true (g.answered n Fine) refl)
+placed_pass p g (Some (n, Identifier)) = refl
+placed_pass p g None = refl
 
-idle_created : (t : ℕ) (v : Half) → each is_idle (created t v) ≡ true
-idle_created t v =
-    idle_if (is_some v.seen.decided) [] (if is_promoting v.seen then hand_over t v v.seen.handover else []) refl
-    (idle_if (is_promoting v.seen) (hand_over t v v.seen.handover) [] (idle_handed t v v.seen.handover) refl)
+pub created_pass : (p : Entry → Bool) → PassesGiven p → (t : ℕ) (v : Half) → each p (created t v) ≡ true
+created_pass p g t v =
+    pass_if p (is_some v.seen.decided) [] (if is_promoting v.seen then hand_over t v v.seen.handover else []) refl
+    (pass_if p (is_promoting v.seen) (hand_over t v v.seen.handover) [] (handed_pass p g t v v.seen.handover) refl)
 
-idle_enlisted : (t : ℕ) (v : Half) (e : EnlNo) → each is_idle (enlisted_at t v e) ≡ true
-idle_enlisted t v e =
+pub enlisted_pass : (p : Entry → Bool) → PassesGiven p → (t : ℕ) (v : Half) (e : EnlNo) → each p (enlisted_at t v e) ≡ true
+enlisted_pass p g t v e =
     let own = is_promoting v.seen && is_handed v.seen.handover e.value in
     let placed = place_given (find (is_place_of e.value) v.waits) in
-    idle_if (is_some v.seen.decided) [] (if own then over t v else if v.seen.promoted then placed else []) refl
-    (idle_if own (over t v) (if v.seen.promoted then placed else []) (idle_handed t v None) (idle_if v.seen.promoted placed [] (idle_placed (find (is_place_of e.value) v.waits)) refl))
+    pass_if p (is_some v.seen.decided) [] (if own then over t v else if v.seen.promoted then placed else []) refl
+    (pass_if p own (over t v) (if v.seen.promoted then placed else []) (handed_pass p g t v None)
+    (pass_if p v.seen.promoted placed [] (placed_pass p g (find (is_place_of e.value) v.waits)) refl))
+
+idle_passes : PassesGiven is_idle
+idle_passes = record { promoted = λ u c. refl; answered = λ n x. refl; placed = λ e c. refl; sent = λ e i. refl }
 
 idle_got : (t : ℕ) (h : Half) (c : Conn) (m : Message) → each is_idle (local_got t h c m) ≡ true
 unfolding local_got
-idle_got t h Voter VoterCreated = idle_created t (sees h (Got Voter Down VoterCreated))
-idle_got t h (Enl e) EnlistEnlisted = idle_enlisted t (sees h (Got (Enl e) Down EnlistEnlisted)) e
+idle_got t h Voter VoterCreated = created_pass is_idle idle_passes t (sees h (Got Voter Down VoterCreated))
+idle_got t h (Enl e) EnlistEnlisted = enlisted_pass is_idle idle_passes t (sees h (Got (Enl e) Down EnlistEnlisted)) e
 idle_got t h c m = calm_idle (arrived t (sees h (Got c Down m)) c m) (calm_arrived t (sees h (Got c Down m)) c m refl)
 
-idle_delivered : (t : ℕ) (w : World) (c : Conn) (d : Dir) (ms : List Message) → each is_idle (delivered t w c d ms) ≡ true
+pub idle_delivered : (t : ℕ) (w : World) (c : Conn) (d : Dir) (ms : List Message) → each is_idle (delivered t w c d ms) ≡ true
 idle_delivered t w c d [] = calm_idle (ended_at w c d) (calm_ended_at w c d)
 idle_delivered t w c Up (m ∷ ms) = calm_idle (got_by t w c Up m) (calm_core_got (identifier_of t) (core w) c m)
 idle_delivered t w c Down (m ∷ ms) = idle_got t (half w) c m
@@ -149,7 +163,7 @@ idle_delivered t w c Down (m ∷ ms) = idle_got t (half w) c m
 -- The facts of a call.
 idle_begin : (v : Half) (o : Option Cause) → each is_idle (begin_promotion v o) ≡ true
 idle_begin v None = refl
-idle_begin v (Some c) = idle_if (has (λ x. is_promotable x.class) v.seen.table) [] (Sent Begin Up BeginBegin ∷ []) refl refl
+idle_begin v (Some c) = pass_if is_idle (has (λ x. is_promotable x.class) v.seen.table) [] (Sent Begin Up BeginBegin ∷ []) refl refl
 
 idle_facts : (b : Bool) (es : List Entry) → each is_idle es ≡ true → each is_idle (facts_if b es) ≡ true
 idle_facts true es k = k
@@ -157,15 +171,15 @@ idle_facts false es k = refl
 
 idle_durable : (t : ℕ) (v : Half) (e : EnlNo) (r : RmNo) (s : Bool) (x : Answer) → each is_idle (durable_facts t v e r s x) ≡ true
 idle_durable t v e r s Wait =
-    idle_if v.seen.promoted (enlist_sent t e r) (if is_promoting v.seen then [] else begin_promotion v (cause_of v.seen.table s)) refl
-    (idle_if (is_promoting v.seen) [] (begin_promotion v (cause_of v.seen.table s)) refl (idle_begin v (cause_of v.seen.table s)))
+    pass_if is_idle v.seen.promoted (enlist_sent t e r) (if is_promoting v.seen then [] else begin_promotion v (cause_of v.seen.table s)) refl
+    (pass_if is_idle (is_promoting v.seen) [] (begin_promotion v (cause_of v.seen.table s)) refl (idle_begin v (cause_of v.seen.table s)))
 idle_durable t v e r s _ = refl
 
-idle_call : (t : ℕ) (w : World) (c : Call) (x : Answer) → each is_idle (facts_if (has_facts x) (facts_at t w c x)) ≡ true
+pub idle_call : (t : ℕ) (w : World) (c : Call) (x : Answer) → each is_idle (facts_if (has_facts x) (facts_at t w c x)) ≡ true
 idle_call t w (Volatile u e o v) x = idle_facts (has_facts x) (facts_at t w (Volatile u e o v) x) refl
 idle_call t w (Promotable u e r v o y) x = idle_facts (has_facts x) (facts_at t w (Promotable u e r v o y) x) refl
 idle_call t w (Marshal u) x =
-    idle_facts (has_facts x) (facts_at t w (Marshal u) x) (idle_if (is_promoting (half w).seen) [] (begin_promotion (half w) (Some MarshalCause)) refl (idle_begin (half w) (Some MarshalCause)))
+    idle_facts (has_facts x) (facts_at t w (Marshal u) x) (pass_if is_idle (is_promoting (half w).seen) [] (begin_promotion (half w) (Some MarshalCause)) refl (idle_begin (half w) (Some MarshalCause)))
 idle_call t w (Durable u e r s) x = idle_facts (has_facts x) (facts_at t w (Durable u e r s) x) (idle_durable t (half w) e r (is_single s) x)
 idle_call t w c x = calm_idle (facts_if (has_facts x) (facts_at t w c x)) (calm_called t w c x refl)
 

@@ -42,6 +42,7 @@ ghost use Rattle.dtx_model.specs.History.{AreAnswered, CanCommit, IsHistory, IsR
 ghost use Rattle.dtx_model.specs.Grammar.{are_named_well};
 ghost use Rattle.outcome_law.specs.LogQuiet.{is_log_quiet};
 ghost use Rattle.outcome_law.specs.Severed.{is_severing};
+ghost use Rattle.outcome_law.specs.Waited.{AreCallsAnswered};
 
 /// The law of one outcome: in a history that a script's lines freely cause, what is told is just, and no two are told opposite outcomes, promoted or not.
 /// (Presumed abort: a commit is told on evidence alone.) Freely: whatever each reply is. Of the script it needs that names are made once, before they are
@@ -77,8 +78,8 @@ pub fn crossings()
 
 /// A settled transaction that can commit is committed, promoted or not: its client was told so. Where nothing is promoted, and also where no connection was cut and
 /// the coordinator didn't stop: if commit was asked, the client was told some outcome, or a blocking clone is open, or an enlistment whose reply is needed plans
-/// none; and each enlistment that came back was told. (An enlistment that was lost before a decision, with no open connection to cut, had voted, or else its loss
-/// ended the transaction.)
+/// none; each enlistment that came back was told; and each call that had to wait was answered, or an enlistment that was asked to promote plans no reply to that.
+/// (An enlistment that was lost before a decision, with no open connection to cut, had voted, or else its loss ended the transaction.)
 pub fn completeness()
     ensures told { (s : List Line) (k t : ℕ) (h : List Entry) → are_named_well s ≡ true → Caused s k t h → is_unpromoted h ≡ true → IsToldOrWaits s h }
     ensures told_unlost { (s : List Line) (k t : ℕ) (h : List Entry) → are_named_well s ≡ true → Caused s k t h → has is_loss h ≡ false → IsToldOrWaits s h }
@@ -88,6 +89,7 @@ pub fn completeness()
     ensures answered { (s : List Line) (k t : ℕ) (h : List Entry) → are_named_well s ≡ true → Caused s k t h → is_unpromoted h ≡ true → AreAnswered s h }
     ensures answered_unlost { (s : List Line) (k t : ℕ) (h : List Entry) → are_named_well s ≡ true → Caused s k t h → has is_loss h ≡ false → AreAnswered s h }
     ensures answered_local { (s : List Line) (k t : ℕ) (h : List Entry) → are_named_well s ≡ true → Caused s k t h → has is_severing h ≡ false → AreAnswered s h }
+    ensures waited { (s : List Line) (k t : ℕ) (h : List Entry) → are_named_well s ≡ true → Caused s k t h → has is_severing h ≡ false → AreCallsAnswered s h }
 {}
 
 /// What a replay does in its order, promoted or not, as long as nothing stands at the log, is caused by its script in each transaction where its replies are

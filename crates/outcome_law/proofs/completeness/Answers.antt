@@ -4,6 +4,7 @@ use Rattle.dtx_model.specs.Learned.{is_decided_there}
 use Rattle.dtx_model.proofs.Local.{free-local}
 use Rattle.outcome_law.proofs.Beyond.{ruled_answered}
 use Rattle.outcome_law.proofs.Blocks.{script_kept}
+use Rattle.outcome_law.proofs.CallsAnswered.{calls_answered}
 use Rattle.outcome_law.proofs.Runs.{free_run}
 use Rattle.outcome_law.proofs.Promised.{caused_commits}
 use Rattle.outcome_law.proofs.Settlings.{settled_act, settled_unplanned}
@@ -37,3 +38,6 @@ returns-clause-answered_unlost c = λ s k t h named r u. answered_unsevered s k 
 
 pub returns-clause-answered_local : goal.returns-clause-answered_local
 returns-clause-answered_local c = answered_unsevered
+
+pub returns-clause-waited : goal.returns-clause-waited
+returns-clause-waited c = calls_answered
