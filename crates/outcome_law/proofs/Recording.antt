@@ -151,17 +151,17 @@ can_commit h t =
     and_left (has is_commit_got h) (has is_yes_got h) (and_left (has is_commit_got h && has is_yes_got h) (each (λ i. has (is_ready_got i.enl.value) h) (all_of enlist_got h))
     (and_left (has is_commit_got h && has is_yes_got h && each (λ i. has (is_ready_got i.enl.value) h) (all_of enlist_got h)) (not (coordinator_aborted h)) (can_first h t)))
 
-can_yes : (h : List Entry) → can_log h ≡ true → has is_yes_got h ≡ true
+pub can_yes : (h : List Entry) → can_log h ≡ true → has is_yes_got h ≡ true
 can_yes h t =
     and_right (has is_commit_got h) (has is_yes_got h) (and_left (has is_commit_got h && has is_yes_got h) (each (λ i. has (is_ready_got i.enl.value) h) (all_of enlist_got h))
     (and_left (has is_commit_got h && has is_yes_got h && each (λ i. has (is_ready_got i.enl.value) h) (all_of enlist_got h)) (not (coordinator_aborted h)) (can_first h t)))
 
-can_ready : (h : List Entry) → can_log h ≡ true → each (λ i. has (is_ready_got i.enl.value) h) (all_of enlist_got h) ≡ true
+pub can_ready : (h : List Entry) → can_log h ≡ true → each (λ i. has (is_ready_got i.enl.value) h) (all_of enlist_got h) ≡ true
 can_ready h t =
     and_right (has is_commit_got h && has is_yes_got h) (each (λ i. has (is_ready_got i.enl.value) h) (all_of enlist_got h))
     (and_left (has is_commit_got h && has is_yes_got h && each (λ i. has (is_ready_got i.enl.value) h) (all_of enlist_got h)) (not (coordinator_aborted h)) (can_first h t))
 
-can_live : (h : List Entry) → can_log h ≡ true → coordinator_aborted h ≡ false
+pub can_live : (h : List Entry) → can_log h ≡ true → coordinator_aborted h ≡ false
 can_live h t =
     not_true (coordinator_aborted h) (and_right (has is_commit_got h && has is_yes_got h && each (λ i. has (is_ready_got i.enl.value) h) (all_of enlist_got h)) (not (coordinator_aborted h)) (can_first h t))
 
@@ -188,7 +188,7 @@ first_step : (Q : List Entry → Bool) (x : Entry) (h : List Entry) (b : Bool) �
 first_step Q x h true s on q = on (subst (λ g. Q g ≡ true) (first_some (x ∷ h) h h s) q)
 first_step Q x h false s on q = subst (λ g. Q g ≡ true) (first_none (x ∷ h) h s) q
 
-from_first : (Q : List Entry → Bool) → ((x : Entry) (h : List Entry) → Keeps (x ∷ h) → Q h ≡ true → Q (x ∷ h) ≡ true) → (h : List Entry) → Keeps h → Q (before_first_stop h) ≡ true → Q h ≡ true
+pub from_first : (Q : List Entry → Bool) → ((x : Entry) (h : List Entry) → Keeps (x ∷ h) → Q h ≡ true → Q (x ∷ h) ≡ true) → (h : List Entry) → Keeps h → Q (before_first_stop h) ≡ true → Q h ≡ true
 from_first Q stays [] k q = q
 from_first Q stays (Stopped ∷ h) k q = stays Stopped h k (from_first Q stays h (keeps_before Stopped h k) q)
 from_first Q stays (x ∷ h) k q = first_step Q x h (has is_stop h) refl (λ t. stays x h k (from_first Q stays h (keeps_before x h k) t)) q
@@ -198,7 +198,7 @@ keeps_step : (x : Entry) (h : List Entry) (b : Bool) → has is_stop h ≡ b →
 keeps_step x h true s k w = subst (λ g. Keeps g) (sym (first_some (x ∷ h) h h s)) w
 keeps_step x h false s k w = subst (λ g. Keeps g) (sym (first_none (x ∷ h) h s)) k
 
-keeps_first : (h : List Entry) → Keeps h → Keeps (before_first_stop h)
+pub keeps_first : (h : List Entry) → Keeps h → Keeps (before_first_stop h)
 keeps_first [] k = k
 keeps_first (Stopped ∷ h) k = keeps_first h (keeps_before Stopped h k)
 keeps_first (x ∷ h) k = keeps_step x h (has is_stop h) refl k (keeps_first h (keeps_before x h k))
@@ -221,7 +221,7 @@ if_record Q stays at (x ∷ h) k s =
     new _ h k t ih = absurd cc
 
 -- the local side said yes
-yes_at : (h : List Entry) → Keeps h → can_log h ≡ true → has is_yes h ≡ true
+pub yes_at : (h : List Entry) → Keeps h → can_log h ≡ true → has is_yes h ≡ true
 yes_at h k c = yes_if_got h k (can_yes h c)
 
 pub yes_if_record : (h : List Entry) → Keeps h → has is_record h ≡ true → has is_yes h ≡ true
@@ -241,7 +241,7 @@ named e P (Got (Enl f) Up (EnlistEnlist i) ∷ h) k s a =
 named e P (x ∷ h) k s a = named e P h (keeps_before x h k) s a
 
 -- where an append may come, each that came voted well
-came_good : (e : EnlNo) (h : List Entry) → Keeps h → can_log h ≡ true → has (is_enlist_got e.value) h ≡ true → has (is_good_vote e.value) h ≡ true
+pub came_good : (e : EnlNo) (h : List Entry) → Keeps h → can_log h ≡ true → has (is_enlist_got e.value) h ≡ true → has (is_good_vote e.value) h ≡ true
 came_good e h k c s = good_if_ready e h k (named e.value (λ n. has (is_ready_got n) h) h k s (can_ready h c))
 
 -- each enlistment voted well
@@ -252,7 +252,7 @@ good_class : (v came good : Bool) → (v || came) ≡ true → (not v || good) �
 good_class true came good p q f = q
 good_class false came good p q f = f p
 
-good_at : (h : List Entry) → Keeps h → can_log h ≡ true → (has is_sealed h && all_good h) ≡ true
+pub good_at : (h : List Entry) → Keeps h → can_log h ≡ true → (has is_sealed h && all_good h) ≡ true
 good_at h k c =
     let yes = yes_at h k c in
     and_both (has is_sealed h) (all_good h) (sealed_if_yes h k yes)
@@ -267,13 +267,13 @@ good_more (Voted e v) h r s a =
     (λ y t. or_right (is_good_vote y.0.value (Voted e v)) (has (is_good_vote y.0.value) h) t) (enlisted h) a
 good_more _ h r s a = a
 
-good_stays : (x : Entry) (h : List Entry) → Keeps (x ∷ h) → (has is_sealed h && all_good h) ≡ true → (has is_sealed (x ∷ h) && all_good (x ∷ h)) ≡ true
+pub good_stays : (x : Entry) (h : List Entry) → Keeps (x ∷ h) → (has is_sealed h && all_good h) ≡ true → (has is_sealed (x ∷ h) && all_good (x ∷ h)) ≡ true
 good_stays x h k t =
     let sealed = and_left (has is_sealed h) (all_good h) t in
     and_both (has is_sealed (x ∷ h)) (all_good (x ∷ h)) (or_right (is_sealed x) (has is_sealed h) sealed) (good_more x h (newest x h k) sealed (and_right (has is_sealed h) (all_good h) t))
 
-pub good_if_record : (h : List Entry) → Keeps h → has is_record h ≡ true → all_good h ≡ true
-good_if_record h k s = and_right (has is_sealed h) (all_good h) (if_record (λ g. has is_sealed g && all_good g) good_stays good_at h k s)
+good_if_record : (h : List Entry) → Keeps h → has is_record h ≡ true → (has is_sealed h && all_good h) ≡ true
+good_if_record h k s = if_record (λ g. has is_sealed g && all_good g) good_stays good_at h k s
 
 -- who came, voted well, where there is a record
 came_voted_at : (e : EnlNo) (h : List Entry) → Keeps h → can_log h ≡ true → (has is_commit_got h && (not (has (is_enlist_got e.value) h) || has (is_good_vote e.value) h)) ≡ true
@@ -320,14 +320,18 @@ voters_pass p h a = step (has is_promoted h) (volatiles h) (durables h) (each_fi
     step true vs ds v d = each-append p vs ds v d
     step false vs ds v d = v
 
+pub ready_if_good : (h : List Entry) → Keeps h → (has is_sealed h && all_good h) ≡ true → ready h ≡ true
+unfolding ready
+ready_if_good h k t =
+    let sealed = and_left (has is_sealed h) (all_good h) t in
+    three_hold (has is_commit h) (all_complete h) _ (commit_if_sealed h k sealed) (complete_if_sealed h k sealed)
+    (voters_pass (λ x. has (is_good_vote x.0.value) h) h (and_right (has is_sealed h) (all_good h) t))
+
 pub evidence_if_record : (h : List Entry) → Keeps h → has is_record h ≡ true → evidence h ≡ true
-unfolding evidence ready by_log
+unfolding evidence by_log
 evidence_if_record h k s =
-    let yes = yes_if_record h k s in
-    let sealed = sealed_if_yes h k yes in
-    and_both (has is_commit h && all_complete h && each (λ x. has (is_good_vote x.0.value) h) (voters h)) (by_seal h || by_owner h || (has is_promoted h && has is_record h))
-    (three_hold (has is_commit h) (all_complete h) _ (commit_if_sealed h k sealed) (complete_if_sealed h k sealed) (voters_pass (λ x. has (is_good_vote x.0.value) h) h (good_if_record h k s)))
-    (or_right (by_seal h || by_owner h) (has is_promoted h && has is_record h) (and_both (has is_promoted h) (has is_record h) (promoted_if_yes h k yes) s))
+    and_both (ready h) (by_seal h || by_owner h || (has is_promoted h && has is_record h)) (ready_if_good h k (good_if_record h k s))
+    (or_right (by_seal h || by_owner h) (has is_promoted h && has is_record h) (and_both (has is_promoted h) (has is_record h) (promoted_if_yes h k (yes_if_record h k s)) s))
 
 -- A coordinator with a record doesn't abort: while it stands stopped it gets nothing.
 pub live_more : (x : Entry) (h : List Entry) → (is_abort h x && not (has is_record h)) ≡ false → coordinator_aborted h ≡ false → coordinator_aborted (x ∷ h) ≡ false

@@ -6,7 +6,7 @@
 //! log, by `is_log_quiet`.
 #![tactic(auto)]
 
-ghost use Rattle.std.specs.Prelude.{◌≡◌, ℕ, suc, true, false, List, ◌∷◌, ◌++◌, Bool, Some, length, slice_get};
+ghost use Rattle.std.specs.Prelude.{◌≡◌, ◌||◌, ℕ, suc, true, false, List, ◌∷◌, ◌++◌, Bool, Some, length, slice_get};
 ghost use Rattle.dtx_values.specs.declared.call.Call.{Call};
 ghost use Rattle.dtx_values.specs.declared.entry.Entry.{Entry};
 ghost use Rattle.dtx_values.specs.declared.number.ActorNo.{ActorNo};
@@ -40,6 +40,7 @@ ghost use Rattle.dtx_model.specs.Traces.{Placed, history, at_context, calls};
 ghost use Rattle.dtx_model.specs.Replay.{IsReplayed, LinesRan, due_calls};
 ghost use Rattle.dtx_model.specs.History.{AreAnswered, CanCommit, IsHistory, IsReplay, IsToldOrWaits, is_loss};
 ghost use Rattle.dtx_model.specs.Grammar.{are_named_well};
+ghost use Rattle.outcome_law.specs.Appended.{backs_append, has_append, is_abort_decision, stopped_at_append};
 ghost use Rattle.outcome_law.specs.LogQuiet.{is_log_quiet};
 ghost use Rattle.outcome_law.specs.Severed.{is_severing};
 ghost use Rattle.outcome_law.specs.Waited.{AreCallsAnswered};
@@ -60,6 +61,16 @@ pub fn own_outcome()
     ensures agrees { (t : ℕ) (w : World) → AreMadeOnce (IsIn w.calls) → IsOwnRun t w → tied w.past ≡ true → agree w.past ≡ true }
     ensures learned { (t : ℕ) (w : World) → AreMadeOnce (IsIn w.calls) → IsOwnRun t w → tied w.past ≡ true → Learned w.past }
     ensures tied { (t : ℕ) (w : World) → IsOwnRun t w → is_unpromoted w.past ≡ true → tied w.past ≡ true }
+{}
+
+/// What appends to the log have to do with the outcome, whatever was cut, stopped and started again. Where an abort is decided, nothing was logged, there is no
+/// record, and none may be appended. Where an append may be tried, was done, or may have been tried where the log stopped first, and where there is a record, the
+/// transaction is ready, and the coordinator got COMMIT, YES, and the vote of each whose ENLIST it got.
+pub fn appends()
+    ensures unlogged { (s : List Line) (t : ℕ) (h : List Entry) → are_named_well s ≡ true → FreelyCaused (IsCallOf s t) t h → tied h ≡ true → has is_abort_decision h ≡ true
+        → has_append h ≡ false }
+    ensures backed { (s : List Line) (t : ℕ) (h : List Entry) → are_named_well s ≡ true → FreelyCaused (IsCallOf s t) t h → tied h ≡ true
+        → (has_append h || stopped_at_append h) ≡ true → backs_append h ≡ true }
 {}
 
 /// What is caused over calls that were entered is caused over a script whose lines give these calls; and a script in which names are made once gives

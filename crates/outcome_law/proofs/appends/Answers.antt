@@ -1,0 +1,11 @@
+use Rattle.dtx_model.specs.Caused.{IsCallOf}
+use Rattle.outcome_law.proofs.Appends.{abort_unlogged, append_ready}
+use Rattle.outcome_law.proofs.Names.{script_once}
+use Rattle.outcome_law.proofs.Steady.{free_keeps}
+use Rattle.outcome_law.proofs.appends.Goals as goal
+
+pub returns-clause-unlogged : goal.returns-clause-unlogged
+returns-clause-unlogged c = λ s t h named r d. abort_unlogged h (free_keeps (IsCallOf s t) t h (script_once s t named) r d)
+
+pub returns-clause-backed : goal.returns-clause-backed
+returns-clause-backed c = λ s t h named r d. append_ready h (free_keeps (IsCallOf s t) t h (script_once s t named) r d)
