@@ -4,3 +4,4 @@ pub mod Linked
 pub mod Taken
 pub mod Branches
 pub mod Told
+pub mod Rights

@@ -21,6 +21,7 @@ ghost use Rattle.dtx_model.specs.Waiting.{is_place_of};
 ghost use Rattle.dtx_model.specs.World.{World};
 ghost use Rattle.tm_proxy.specs.News.{news_of};
 ghost use Rattle.local_half.specs.Half.{Follows, IsRoom, after, is_free, is_its_own, is_made_by_waiting};
+ghost use Rattle.local_half.specs.Rights.{right_seen};
 ghost use Rattle.local_half.specs.Taken.{HasPlace, IsFor, MaySend, MayTakeIn, with_waiter};
 ghost use Rattle.local_half.specs.Told.{act_at, promoted_at};
 
@@ -37,7 +38,7 @@ use dtx_values::{
 use durable_enlist::owner_of;
 use enlist_table::EnlistTable;
 use phase_zero::Waves;
-use promotion::{Handover, HandoverAct};
+use promotion::{Handover, HandoverAct, Right};
 use std::alloc::{AllocError, Global};
 use std::marker::Model;
 use tm_proxy::{Proxy, ProxyNews};
@@ -649,5 +650,16 @@ impl LocalHalf {
         waits::remove(&mut self.waits, n);
         put_out(Entry::Enlisted(e, class), out);
         put_out(Entry::Answered(n, Answer::Fine), out);
+    }
+
+    /// Where the right to decide the outcome stands, by what it has seen.
+    pub fn right(&self) -> Right
+        ensures { result ≡ right_seen self.now.half.seen }
+    {
+        self.handover.place(
+            self.handed.is_some(),
+            self.proxy.was_sent(Conn::Begin, &Message::BeginCommit),
+            self.decided.is_some(),
+        )
     }
 }

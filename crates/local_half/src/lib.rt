@@ -11,3 +11,4 @@ mod votes;
 mod waits;
 
 pub use half::LocalHalf;
+pub use promotion::Right;

@@ -4,6 +4,7 @@
 mod at_log;
 mod hearing;
 mod history;
+mod laws;
 mod local_calls;
 mod managers;
 mod names;
@@ -13,5 +14,7 @@ mod refusal;
 mod world;
 mod writing;
 
+pub use laws::rights;
+pub use local_half::Right;
 pub use refusal::WorldError;
 pub use world::TxWorld;

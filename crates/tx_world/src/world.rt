@@ -14,6 +14,7 @@ ghost use Rattle.dtx_model.specs.Steps.{Step, Calls, Replies, Stops, Restarts, a
 ghost use Rattle.dtx_model.specs.Caused.{HasDone, IsOwnRun, MayAnswer, AreMadeOnce, IsIn};
 ghost use Rattle.coordinator_log.specs.Slots.{open_records};
 ghost use Rattle.local_half.specs.Half.{fits_due};
+ghost use Rattle.local_half.specs.Rights.{right_of};
 ghost use Rattle.tx_world.specs.State.{TxState, is_hit_by, is_reached_by, may_enter};
 ghost use Rattle.tx_world.specs.AtLog.{Fits, IsOurs, KeepsLog, Tie, id_of};
 ghost use Rattle.tx_world.specs.Stepping.{Does, DoesKth, Settles, needs_log, reply_in};
@@ -25,7 +26,7 @@ use coordinator_core::Core;
 use coordinator_log::Log;
 use dtx_model::EnteredCall;
 use dtx_values::{ActorNo, Answer, Call, EnlNo, Entry, Note, Outbox, Outcome, TxNo};
-use local_half::LocalHalf;
+use local_half::{LocalHalf, Right};
 use outside::Disk;
 use std::alloc::Global;
 use std::marker::Model;
@@ -149,5 +150,12 @@ impl TxWorld {
         ensures { result ≡ self.now.life }
     {
         self.at_log.life()
+    }
+
+    /// Where the right to decide the outcome stands.
+    pub fn right(&self) -> Right
+        ensures { result ≡ right_of self.now.world.past }
+    {
+        self.half.right()
     }
 }
