@@ -42,16 +42,16 @@ use Rattle.outcome_law.proofs.WaitsOver.{ran_over}
 -- Each call that was answered `wait` got its answer, or still waits.
 others_left : (n m : ℕ) (ws : List Waiter) → (n == m) ≡ false → has (λ w. n == w.0) ws ≡ true → has (λ w. n == w.0) (filter (λ w. not (m == w.0)) ws) ≡ true
 others_left n m [] o k = absurd cc
-others_left n m (w ∷ ws) o k = step (m == w.0) refl k
+others_left n m (w ∷ ws) o k = step (others_left n m ws o) (m == w.0) refl k
   where
-    step : (b : Bool) → (m == w.0) ≡ b → ((n == w.0) || has (λ w. n == w.0) ws) ≡ true
-        → has (λ w. n == w.0) (if not b then w ∷ filter (λ w. not (m == w.0)) ws else filter (λ w. not (m == w.0)) ws) ≡ true
-    step true q k =
-        or_case (n == w.0) (has (λ w. n == w.0) ws)
-        (λ a. let same : n ≡ m = eqb-true n w.0 a ∙ sym (eqb-true m w.0 q) in absurd (not_both (n == m) (subst (λ l. (n == l) ≡ true) same (eq_self n)) o)) (others_left n m ws o) k
-    step false q k =
-        or_case (n == w.0) (has (λ w. n == w.0) ws) (λ a. or_left (n == w.0) (has (λ w. n == w.0) (filter (λ w. not (m == w.0)) ws)) a)
-        (λ a. or_right (n == w.0) (has (λ w. n == w.0) (filter (λ w. not (m == w.0)) ws)) (others_left n m ws o a)) k
+    step : (has (λ v. n == v.0) ws ≡ true → has (λ v. n == v.0) (filter (λ v. not (m == v.0)) ws) ≡ true) → (b : Bool) → (m == w.0) ≡ b → ((n == w.0) || has (λ v. n == v.0) ws) ≡ true
+        → has (λ v. n == v.0) (if not b then w ∷ filter (λ v. not (m == v.0)) ws else filter (λ v. not (m == v.0)) ws) ≡ true
+    step ih true q k =
+        or_case (n == w.0) (has (λ v. n == v.0) ws)
+        (λ e. let same : n ≡ m = eqb-true n w.0 e ∙ sym (eqb-true m w.0 q) in absurd (not_both (n == m) (subst (λ l. (n == l) ≡ true) same (eq_self n)) o)) ih k
+    step ih false q k =
+        or_case (n == w.0) (has (λ v. n == v.0) ws) (λ e. or_left (n == w.0) (has (λ v. n == v.0) (filter (λ v. not (m == v.0)) ws)) e)
+        (λ e. or_right (n == w.0) (has (λ v. n == v.0) (filter (λ v. not (m == v.0)) ws)) (ih e)) k
 
 -- the call of this line got its answer, or waits
 abbrev is_heard : List EnteredCall → List Entry → ℕ → Bool

@@ -173,4 +173,4 @@ pub mod PromotesRuns
 pub mod CommonBlocks
 pub mod TellingRuns
 pub mod CallsAnswered
-pub mod Appends
+pub mod Appending

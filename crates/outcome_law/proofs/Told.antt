@@ -19,7 +19,8 @@ use Rattle.dtx_model.specs.Observed.{is_ask_promote, is_ask_single, is_promote_r
 use Rattle.dtx_model.specs.Outcome.{enlisted, is_complete}
 use Rattle.dtx_model.specs.Promotes.{is_promoting}
 use Rattle.dtx_model.specs.Wires.{is_stopped}
-use Rattle.dtx_model.specs.Waiting.{EnteredCall, Waiter, waiting}
+use Rattle.dtx_model.specs.declared.waiting.EnteredCall.{EnteredCall}
+use Rattle.dtx_model.specs.Waiting.{Waiter, waiting}
 use Rattle.dtx_model.specs.Plans.{plan_of}
 use Rattle.dtx_model.specs.Replies.{may_still_vote, owes_promotion}
 use Rattle.dtx_model.specs.Steps.{Step}

@@ -1,5 +1,5 @@
 use Rattle.dtx_model.specs.Caused.{IsCallOf}
-use Rattle.outcome_law.proofs.Appends.{abort_unlogged, append_ready}
+use Rattle.outcome_law.proofs.Appending.{abort_unlogged, append_ready}
 use Rattle.outcome_law.proofs.Names.{script_once}
 use Rattle.outcome_law.proofs.Steady.{free_keeps}
 use Rattle.outcome_law.proofs.appends.Goals as goal
