@@ -137,7 +137,7 @@ lost_opened : (c : Conn) (h : List Entry) (x : Entry) (o : Option Bool) → (is_
 lost_opened c h x None f k = opened_step (opens c x) (is_stopped h) (has (opens c) h) k
 lost_opened c h x (Some l) f k = or_right (opens c x) (has (opens c) h) (f refl)
 
-since_opened : (c : Conn) (h : List Entry) → is_some (lost_since c h) ≡ true → has (opens c) h ≡ true
+pub since_opened : (c : Conn) (h : List Entry) → is_some (lost_since c h) ≡ true → has (opens c) h ≡ true
 since_opened c [] k = absurd cc
 since_opened c (x ∷ h) k = lost_opened c h x (lost_since c h) (since_opened c h) k
 

@@ -48,17 +48,17 @@ way_seen h =
     ap (λ b. b && not (has is_promoted h) && not (has is_promotion_failed h)) (cause_seen h) ∙ ap (λ b. has is_promoting h && not (has is_promoted h) && not b) (failed_seen h)
 
 -- what a message that is sent changes in the ends, and what one that is got, or an end, changes
-sent_same : (c e : Conn) (tag : ℕ) (ns : List End) → has (is_end_of c) (map (note_sent e tag) ns) ≡ has (is_end_of c) ns
+pub sent_same : (c e : Conn) (tag : ℕ) (ns : List End) → has (is_end_of c) (map (note_sent e tag) ns) ≡ has (is_end_of c) ns
 sent_same c e tag ns =
     has_kept (is_end_of c) (note_sent e tag)
     (λ n. if_kept (is_end_of c) (is_end_of e n) (record { connection = n.connection; sent = with_tag tag n.sent; got = n.got; ended = n.ended }) n refl) ns
 
-got_same : (c e : Conn) (tag : ℕ) (ns : List End) → has (is_end_of c) (map (note_got e tag) ns) ≡ has (is_end_of c) ns
+pub got_same : (c e : Conn) (tag : ℕ) (ns : List End) → has (is_end_of c) (map (note_got e tag) ns) ≡ has (is_end_of c) ns
 got_same c e tag ns =
     has_kept (is_end_of c) (note_got e tag)
     (λ n. if_kept (is_end_of c) (is_end_of e n) (record { connection = n.connection; sent = n.sent; got = with_tag tag n.got; ended = n.ended }) n refl) ns
 
-end_same : (c e : Conn) (ns : List End) → has (is_end_of c) (map (note_end e) ns) ≡ has (is_end_of c) ns
+pub end_same : (c e : Conn) (ns : List End) → has (is_end_of c) (map (note_end e) ns) ≡ has (is_end_of c) ns
 end_same c e ns =
     has_kept (is_end_of c) (note_end e)
     (λ n. if_kept (is_end_of c) (is_end_of e n) (record { connection = n.connection; sent = n.sent; got = n.got; ended = true }) n refl) ns

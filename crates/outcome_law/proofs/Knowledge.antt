@@ -49,7 +49,7 @@ got_known_end c e tag ns =
     (λ n. if_kept (is_known_end c) (is_end_of e n) (record { connection = n.connection; sent = n.sent; got = with_tag tag n.got; ended = n.ended }) n refl) ns
 
 -- where another is opened, what stands of this one stays
-other_stays : (c e : Conn) (q : End → Bool) (tag : ℕ) (ns : List End) → same_connection c e ≡ false → ((n : End) → q n ≡ true → is_end_of c n ≡ true) → has q ns ≡ true → has q (with_opened e tag ns) ≡ true
+pub other_stays : (c e : Conn) (q : End → Bool) (tag : ℕ) (ns : List End) → same_connection c e ≡ false → ((n : End) → q n ≡ true → is_end_of c n ≡ true) → has q ns ≡ true → has q (with_opened e tag ns) ≡ true
 other_stays c e q tag ns other of k =
     let new : End = record { connection = e; sent = with_tag tag 0; got = 0; ended = false } in
     has-insert q end_order new (filter (λ n. not (is_end_of e n)) ns)
@@ -94,7 +94,7 @@ pub knows_got : (c : Conn) (d : Dir) (p : Message → Bool) (h : List Entry) →
 knows_got c d p h w run k = knows_where c h w run (got_opened c d p h w run k)
 
 -- A message's tag is among those of what was got.
-with_own : (tag tags : ℕ) → is_in tag (with_tag tag tags) ≡ true
+pub with_own : (tag tags : ℕ) → is_in tag (with_tag tag tags) ≡ true
 with_own tag tags =
     let e = bit_at_or tags (2 ^ tag) tag in
     let one = bit_at-pow_same tag in
@@ -104,7 +104,7 @@ with_own tag tags =
     bit : (a b c : ℕ) → a < 2 → b ≡ 1 → c ≡ max a b → (c == 1) ≡ true
     bit a b c l o e = grind (arith, nat_tests)
 
-with_other : (tag other tags : ℕ) → is_in tag tags ≡ true → is_in tag (with_tag other tags) ≡ true
+pub with_other : (tag other tags : ℕ) → is_in tag tags ≡ true → is_in tag (with_tag other tags) ≡ true
 with_other tag other tags k =
     bit (bit_at tags tag) (bit_at (2 ^ other) tag) (bit_at (bit_or tags (2 ^ other)) tag) (bit_at-lt (2 ^ other) tag) k (bit_at_or tags (2 ^ other) tag)
   where
