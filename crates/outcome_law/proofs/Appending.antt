@@ -8,7 +8,6 @@ use Rattle.dtx_values.specs.declared.message.Conn.TheVariants.{Enl}
 use Rattle.dtx_values.specs.declared.message.Dir.TheVariants.{Up}
 use Rattle.dtx_values.specs.declared.message.Info.{Info}
 use Rattle.dtx_values.specs.declared.message.Message.TheVariants.{EnlistEnlist, EnlistPrepared, EnlistReadonly}
-use Rattle.dtx_values.specs.declared.words.Outcome.{Outcome}
 use Rattle.dtx_values.specs.declared.words.Outcome.TheVariants.{Aborted}
 use Rattle.dtx_model.specs.Words.{all_of, each, has, latest}
 use Rattle.dtx_model.specs.Entries.{decision_of, is_commit_got, is_decision, is_good_vote, is_record, is_sealed, is_vote, is_vote_got, is_yes, is_yes_got}
@@ -19,7 +18,7 @@ use Rattle.dtx_model.specs.Tied.{before_first_stop, can_log, enlist_got, has_mar
 use Rattle.outcome_law.specs.Appended.{are_votes_got, backs_append, has_append, is_abort_decision, stopped_at_append}
 use Rattle.dtx_model.proofs.Bools.{and_both, and_left, and_right, not_both, not_true, or_case, or_false, or_right}
 use Rattle.outcome_law.proofs.Scans.{each_more, has_less, has_more}
-use Rattle.outcome_law.proofs.Table.{decision_row, rule}
+use Rattle.outcome_law.proofs.Table.{decision_row}
 use Rattle.outcome_law.proofs.Keeping.{Keeps, keeps_before, newest}
 use Rattle.outcome_law.proofs.Sendings.{record_of_mark}
 use Rattle.outcome_law.proofs.Recording.{all_good, came_good, can_commit, can_live, can_ready, can_yes, from_first, good_at, good_stays, if_record, keeps_first, ready_if_good, yes_at}

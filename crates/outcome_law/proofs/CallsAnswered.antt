@@ -20,7 +20,7 @@ use Rattle.dtx_model.specs.Promotes.{is_promoting, is_wait}
 use Rattle.dtx_model.specs.Replies.{may_still_vote, owes_vote}
 use Rattle.dtx_model.specs.Waiting.{Waiter, call_at, waiter_line, waiting, wanted}
 use Rattle.dtx_model.specs.Grammar.{are_named_well}
-use Rattle.dtx_model.specs.Caused.{Caused, IsCallOf, Settled, entered_in, plans_of}
+use Rattle.dtx_model.specs.Caused.{Caused, IsCallOf, entered_in, plans_of}
 use Rattle.outcome_law.specs.Severed.{is_severing}
 use Rattle.outcome_law.specs.Waited.{AreCallsAnswered, is_answer_of, is_silent_to_promote, waiting_line}
 use Rattle.dtx_model.proofs.Bools.{and_both, and_left, not_both, or_case, or_right}

@@ -1,13 +1,13 @@
 -- In each world that steps make: once the outcome is decided, no call waits.
-use Rattle.std.proofs.Common.{◌≡◌, ℕ, ◌==◌, Bool, true, false, ◌&&◌, ◌||◌, List, [], ◌∷◌, Option, Some, None, refl, ◌∙◌, ap, sym, subst}
-use Rattle.std.specs.Prelude.{is_some, not, if◌then◌else◌}
+use Rattle.std.proofs.Common.{◌≡◌, ℕ, ◌==◌, Bool, true, false, List, [], ◌∷◌, Option, Some, None, refl, ◌∙◌, ap, sym, subst}
+use Rattle.std.specs.Prelude.{not, if◌then◌else◌}
 use Rattle.std.proofs.lemmas.Bool.{false_from_ne_true, true_from_ne_false}
 use Rattle.dtx_values.specs.declared.call.Call.{Call}
 use Rattle.dtx_values.specs.declared.call.Call.TheVariants.{Durable, Marshal}
 use Rattle.dtx_values.specs.declared.entry.Answer.{Answer}
 use Rattle.dtx_values.specs.declared.entry.Answer.TheVariants.{Wait}
 use Rattle.dtx_values.specs.declared.entry.Entry.{Entry}
-use Rattle.dtx_values.specs.declared.entry.Entry.TheVariants.{Answered, Called, Decided, Down as Ended, Got, Sent, Stopped}
+use Rattle.dtx_values.specs.declared.entry.Entry.TheVariants.{Answered, Called, Got, Sent, Stopped}
 use Rattle.dtx_values.specs.declared.message.Conn.{Conn}
 use Rattle.dtx_values.specs.declared.message.Conn.TheVariants.{Begin, Enl, Voter}
 use Rattle.dtx_values.specs.declared.message.Dir.{Dir}
@@ -23,21 +23,21 @@ use Rattle.dtx_values.specs.Class.{is_promotable}
 use Rattle.dtx_values.specs.Owners.{cause_of}
 use Rattle.dtx_values.specs.Support.{is_single}
 use Rattle.dtx_model.specs.declared.waiting.EnteredCall.{EnteredCall}
-use Rattle.dtx_model.specs.Words.{each, has, latest, onto}
-use Rattle.dtx_model.specs.Entries.{decision_of, is_call, is_decision}
+use Rattle.dtx_model.specs.Words.{each, has, onto}
+use Rattle.dtx_model.specs.Entries.{is_call, is_decision}
 use Rattle.dtx_model.specs.Observed.{observe}
 use Rattle.dtx_model.specs.Promotes.{identifier_of, is_wait}
 use Rattle.dtx_model.specs.Wires.{in_transit}
 use Rattle.dtx_model.specs.Waiting.{Waiter, waiting}
 use Rattle.dtx_model.specs.Half.{Half, enlist_sent, is_promoting, sees}
-use Rattle.dtx_model.specs.Arrivals.{arrived, created, enlisted_at, local_got}
+use Rattle.dtx_model.specs.Arrivals.{created, enlisted_at, local_got}
 use Rattle.dtx_model.specs.Acts.{act_entries}
 use Rattle.dtx_model.specs.Replies.{reply_entries}
 use Rattle.dtx_model.specs.Facts.{begin_promotion, durable_facts, facts_if, has_facts}
 use Rattle.dtx_model.specs.World.{World, answer_at, core, facts_at, half}
-use Rattle.dtx_model.specs.Steps.{Step, Calls, Replies, Acts, Coordinates, Delivers, Stops, Restarts, after, block_at, coordinates, delivered, ended_at, got_by, restarted}
+use Rattle.dtx_model.specs.Steps.{Step, Calls, Replies, Acts, Coordinates, Delivers, Stops, Restarts, after, block_at, coordinates, delivered, restarted}
 use Rattle.dtx_model.specs.Caused.{MayCome, Ran}
-use Rattle.dtx_model.proofs.Bools.{and_both, and_left, and_right, not_both, not_false, not_true, or_case, or_false}
+use Rattle.dtx_model.proofs.Bools.{and_both, and_left, and_right, not_both, not_true, or_case, or_false}
 use Rattle.dtx_model.proofs.Heeding.{fresh}
 use Rattle.dtx_model.proofs.Reading.{has-onto}
 use Rattle.outcome_law.specs.Waited.{is_answer_of}
@@ -46,7 +46,7 @@ use Rattle.outcome_law.proofs.Tests.{eq_swap}
 use Rattle.outcome_law.proofs.Owned.{decision_seen}
 use Rattle.outcome_law.proofs.OnTheWay.{each_but}
 use Rattle.outcome_law.proofs.PlainBlocks.{Plain, is_plain, plain_act, plain_coordinates, plain_reply, plain_restarted}
-use Rattle.outcome_law.proofs.DecidingBlocks.{Keeps, are_answered, kept_act, kept_arrived, kept_called, kept_cons, kept_coordinates, kept_core_got, kept_ended_at, kept_reply, kept_restarted}
+use Rattle.outcome_law.proofs.DecidingBlocks.{are_answered, kept_act, kept_arrived, kept_called, kept_coordinates, kept_core_got, kept_ended_at, kept_reply, kept_restarted}
 use Rattle.outcome_law.proofs.Waiters.{decided_gives, is_waiting_answer, may_wait, other_gives, waits_as}
 use Rattle.outcome_law.proofs.WaitingApart.{PassesGiven, created_pass, enlisted_pass, idle_call, idle_delivered, is_idle}
 

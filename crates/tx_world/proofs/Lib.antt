@@ -61,3 +61,4 @@ pub mod Chained
 pub mod Prepared
 pub mod Unlogged
 pub mod Statuses
+pub mod Places

@@ -5,7 +5,7 @@ use Rattle.dtx_model.specs.Caused.{IsCallOf}
 use Rattle.outcome_law.proofs.Names.{script_once}
 use Rattle.outcome_law.proofs.PromotesRuns.{keeps_start}
 use Rattle.outcome_law.proofs.Steady.{free_keeps}
-use Rattle.tx_world.proofs.Rights.{in_one_place, right_moves, right_placed}
+use Rattle.tx_world.proofs.Places.{in_one_place, right_moves, right_placed}
 use Rattle.tx_world.proofs.laws.rights.Goals as goal
 
 pub returns-clause-placed : goal.returns-clause-placed
