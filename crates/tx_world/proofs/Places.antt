@@ -1,23 +1,23 @@
 -- Where the right to commit stands: the local side sees it, it is in one place, and each entry moves it as it should.
-use Rattle.std.proofs.Common.{◌≡◌, ◌≤◌, ℕ, suc, ◌==◌, Bool, true, false, ◌&&◌, ◌||◌, List, [], ◌∷◌, Option, Some, None, map, filter, is_some, refl, ◌∙◌, ap, sym, subst, arith}
+use Rattle.std.proofs.Common.{◌≡◌, ◌≤◌, ℕ, suc, ◌==◌, Bool, true, false, ◌&&◌, ◌||◌, List, [], ◌∷◌, map, filter, is_some, refl, ◌∙◌, ap, sym, subst, arith}
 use Rattle.std.specs.Prelude.{not, if◌then◌else◌}
-use Rattle.std.proofs.lemmas.Bool.{false_from_ne_true, or_left, true_from_ne_false}
+use Rattle.std.proofs.lemmas.Bool.{false_from_ne_true, or_left}
 use Rattle.dtx_values.specs.declared.call.Call.{Call}
 use Rattle.dtx_values.specs.declared.end.End.{End}
 use Rattle.dtx_values.specs.declared.entry.Entry.{Entry}
 use Rattle.dtx_values.specs.declared.entry.Entry.TheVariants.{Decided, Down as Ended, Got, Handed, Promoted, Promoting, PromotionFailed, Sent}
 use Rattle.dtx_values.specs.declared.message.Conn.{Conn}
-use Rattle.dtx_values.specs.declared.message.Conn.TheVariants.{Again, Begin, Enl, Voter}
+use Rattle.dtx_values.specs.declared.message.Conn.TheVariants.{Begin}
 use Rattle.dtx_values.specs.declared.message.Dir.TheVariants.{Down, Up}
 use Rattle.dtx_values.specs.declared.message.Message.{Message}
 use Rattle.dtx_values.specs.declared.message.Message.TheVariants.{BeginAbort, BeginBegin, BeginCommit}
 use Rattle.dtx_values.specs.declared.number.ActorNo.{ActorNo}
 use Rattle.dtx_values.specs.declared.number.TxNo.{TxNo}
-use Rattle.dtx_values.specs.Ends.{end_order, is_end_of, is_in, note_end, note_got, note_sent, same_connection, tag_of, was_sent, with_opened, with_tag}
+use Rattle.dtx_values.specs.Ends.{end_order, is_end_of, is_in, note_end, note_got, note_sent, same_connection, tag_of, with_opened, with_tag}
 use Rattle.dtx_values.specs.Lines.{has_line, is_opening}
 use Rattle.dtx_values.specs.Table.{how_many}
-use Rattle.dtx_model.specs.Words.{each, has, latest}
-use Rattle.dtx_model.specs.Entries.{decision_of, handed_of, is_any_hand, is_decision, is_promoted, is_sealed}
+use Rattle.dtx_model.specs.Words.{has}
+use Rattle.dtx_model.specs.Entries.{is_any_hand, is_decision, is_promoted, is_sealed}
 use Rattle.dtx_model.specs.Frames.{is_valid}
 use Rattle.dtx_model.specs.Observed.{ends_of, observe}
 use Rattle.dtx_model.specs.Outcome.{durables, ready}
@@ -29,7 +29,7 @@ use Rattle.dtx_model.specs.Caused.{AreMadeOnce, Ran}
 use Rattle.local_half.specs.Rights.{is_commit_sent, is_in_one_place, right_after, right_of, right_seen}
 use Rattle.dtx_model.proofs.Bools.{and_both, and_left, and_never, and_right, not_both, not_true, or_case, or_right, three_hold}
 use Rattle.outcome_law.proofs.Tests.{first_of_five, first_of_three, fourth_of_four, second_of_three, third_of_five}
-use Rattle.outcome_law.proofs.Scans.{has_less, has_more}
+use Rattle.outcome_law.proofs.Scans.{has_more}
 use Rattle.outcome_law.proofs.Lists.{has-insert, has_kept, if_kept}
 use Rattle.outcome_law.proofs.Owned.{any_hand_seen, decision_seen, has_filter}
 use Rattle.outcome_law.proofs.Rule.{is_only}
