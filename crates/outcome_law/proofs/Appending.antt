@@ -89,14 +89,14 @@ append_ready h k t =
     (and_right (has is_commit_got h && has is_yes_got h) (are_votes_got h) got)
 
 -- Where no record comes, none may be appended.
-barred_unable : (h : List Entry) → Keeps h → IsBarred h → can_log h ≡ true → ⊥
+pub barred_unable : (h : List Entry) → Keeps h → IsBarred h → can_log h ≡ true → ⊥
 barred_unable h k (inl a) c = not_both (coordinator_aborted h) a (can_live h c)
 barred_unable h k (inr (inl n)) c = not_both (has is_yes h) (yes_at h k c) n
 barred_unable h k (inr (inr g)) c =
     not_both (has (is_vote g.name.value) h) (has_more (is_good_vote g.name.value) (is_vote g.name.value) (good_voted g.name.value) h (came_good g.name h k c g.came)) g.silent
 
 -- it is decided once
-abort_latest : (h : List Entry) → Keeps h → has is_abort_decision h ≡ true → latest decision_of h ≡ Some Aborted
+pub abort_latest : (h : List Entry) → Keeps h → has is_abort_decision h ≡ true → latest decision_of h ≡ Some Aborted
 abort_latest [] k d = absurd cc
 abort_latest (Decided Aborted ∷ h) k d = refl
 abort_latest (Decided o ∷ h) k d =

@@ -172,12 +172,12 @@ can_unstopped h t =
     (and_right (has is_commit_got h && has is_yes_got h && each (λ i. has (is_ready_got i.enl.value) h) (all_of enlist_got h) && not (coordinator_aborted h) && not (has is_logged h)) (not (has is_stop h)) t)
 
 -- Up to the first stop and on from there.
-first_none : (g h : List Entry) → has is_stop h ≡ false → before_first g h ≡ g
+pub first_none : (g h : List Entry) → has is_stop h ≡ false → before_first g h ≡ g
 first_none g [] s = refl
 first_none g (Stopped ∷ h) s = absurd cc
 first_none g (x ∷ h) s = first_none g h (or_second (is_stop x) (has is_stop h) s)
 
-first_some : (f g h : List Entry) → has is_stop h ≡ true → before_first f h ≡ before_first g h
+pub first_some : (f g h : List Entry) → has is_stop h ≡ true → before_first f h ≡ before_first g h
 first_some f g [] s = absurd cc
 first_some f g (Stopped ∷ h) s = refl
 first_some f g (x ∷ h) s = first_some f g h s
@@ -276,7 +276,7 @@ good_if_record : (h : List Entry) → Keeps h → has is_record h ≡ true → (
 good_if_record h k s = if_record (λ g. has is_sealed g && all_good g) good_stays good_at h k s
 
 -- who came, voted well, where there is a record
-came_voted_at : (e : EnlNo) (h : List Entry) → Keeps h → can_log h ≡ true → (has is_commit_got h && (not (has (is_enlist_got e.value) h) || has (is_good_vote e.value) h)) ≡ true
+pub came_voted_at : (e : EnlNo) (h : List Entry) → Keeps h → can_log h ≡ true → (has is_commit_got h && (not (has (is_enlist_got e.value) h) || has (is_good_vote e.value) h)) ≡ true
 came_voted_at e h k c =
     and_both (has is_commit_got h) _ (can_commit h c) (implied (has (is_enlist_got e.value) h) (has (is_good_vote e.value) h) (λ s. came_good e h k c s))
   where
@@ -284,7 +284,7 @@ came_voted_at e h k c =
     implied true b f = f refl
     implied false b f = refl
 
-came_voted_stays : (e : ℕ) (x : Entry) (h : List Entry) → Keeps (x ∷ h) → (has is_commit_got h && (not (has (is_enlist_got e) h) || has (is_good_vote e) h)) ≡ true
+pub came_voted_stays : (e : ℕ) (x : Entry) (h : List Entry) → Keeps (x ∷ h) → (has is_commit_got h && (not (has (is_enlist_got e) h) || has (is_good_vote e) h)) ≡ true
     → (has is_commit_got (x ∷ h) && (not (has (is_enlist_got e) (x ∷ h)) || has (is_good_vote e) (x ∷ h))) ≡ true
 came_voted_stays e (Got (Enl f) Up (EnlistEnlist i)) h k t =
     absurd (not_both (has is_commit_got h) (and_left (has is_commit_got h) (not (has (is_enlist_got e) h) || has (is_good_vote e) h) t) (not_true (has is_commit_got h) (newest (Got (Enl f) Up (EnlistEnlist i)) h k)))

@@ -220,7 +220,7 @@ pub aborted_more : (x : Entry) (h : List Entry) → coordinator_aborted h ≡ tr
 unfolding coordinator_aborted
 aborted_more x h t = or_right (is_first_abort h x) (ever is_first_abort h) t
 
-abort_of : (c : Conn) (m : Message) (h : List Entry) → Keeps h → is_abort_message m ≡ true → has_line c Down m ≡ true → message_row h c m ≡ true → coordinator_aborted h ≡ true
+pub abort_of : (c : Conn) (m : Message) (h : List Entry) → Keeps h → is_abort_message m ≡ true → has_line c Down m ≡ true → message_row h c m ≡ true → coordinator_aborted h ≡ true
 abort_of c BeginAborted h k t l r = r
 abort_of c (VoterRefused cause) h k t l r = r
 abort_of c VoterAbort h k t l r = r

@@ -62,3 +62,4 @@ pub mod Prepared
 pub mod Unlogged
 pub mod Statuses
 pub mod Places
+pub mod LateAborts

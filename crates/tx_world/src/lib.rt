@@ -14,7 +14,7 @@ mod refusal;
 mod world;
 mod writing;
 
-pub use laws::rights;
+pub use laws::{rights, untried};
 pub use local_half::Right;
 pub use refusal::WorldError;
 pub use world::TxWorld;
