@@ -12,6 +12,8 @@ pub mod Unowned
 pub mod Unpromoted
 pub mod Narrow
 pub mod Narrowing
+pub mod Writes
+pub mod Blocks
 pub mod Quiet
 pub mod Heeding
 pub mod Lifting

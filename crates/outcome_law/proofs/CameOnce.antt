@@ -45,9 +45,10 @@ use Rattle.outcome_law.proofs.Arrivals.{ComeOnce}
 use Rattle.outcome_law.proofs.Leading.{opening_was_sent}
 use Rattle.outcome_law.proofs.CoreKnown.{sent_opened_there}
 use Rattle.outcome_law.proofs.CoreBlocks.{promoted_created}
-use Rattle.outcome_law.proofs.CalmBlocks.{Calm, Seals, act_kind, calm_arrived, calm_called, calm_commit_sent, calm_coordinates, calm_core_got, calm_ended_at, calm_reply, calm_restarted, is_enlist, is_slow}
+use Rattle.outcome_law.proofs.CalmBlocks.{Calm, Seals, act_kind, calm_arrived, calm_called, calm_commit_sent, calm_coordinates, calm_core_got, calm_ended_at, calm_reply, calm_restarted, is_slow}
 use Rattle.outcome_law.proofs.Welcomes.{begun_new, created_new, is_direct}
 use Rattle.outcome_law.proofs.Asking.{IsAsking, prepare_new}
+use Rattle.outcome_law.proofs.Messages.{ENLIST}
 
 no : false ≡ true → ⊥
 no e = absurd cc
@@ -58,7 +59,7 @@ IsAfter h = (e : EnlNo) → has (opens (Enl e)) h ≡ true → has is_created_go
 
 -- the entry sends no ENLIST
 abbrev pub is_unopening : Entry → Bool
-is_unopening (Sent c Up m) = not (is_enlist m)
+is_unopening (Sent c Up m) = not (ENLIST m)
 is_unopening _ = true
 
 slow_un : (x : Entry) → is_slow x ≡ true → is_unopening x ≡ true
@@ -66,7 +67,7 @@ slow_un (Sent c Up m) t = t
 slow_un (Sent c Down m) t = refl
 slow_un _ t = refl
 
-not_opening : (e : EnlNo) (m : Message) → not (is_enlist m) ≡ true → is_opening (Enl e) m ≡ false
+not_opening : (e : EnlNo) (m : Message) → not (ENLIST m) ≡ true → is_opening (Enl e) m ≡ false
 not_opening e (EnlistEnlist i) t = absurd (no t)
 not_opening e _ t = refl
 

@@ -65,7 +65,9 @@ use Rattle.outcome_law.proofs.Deciding.{stays}
 use Rattle.outcome_law.proofs.Undecided.{way_unsealed}
 use Rattle.outcome_law.proofs.Leading.{none_again}
 use Rattle.outcome_law.proofs.CoreKnown.{got_there}
-use Rattle.outcome_law.proofs.CalmBlocks.{Calm, Seals, act_kind, calm_arrived, calm_called, calm_commit_sent, calm_cons, calm_coordinates, calm_core_got, calm_ended_at, calm_one, calm_reply, calm_restarted, is_enlist, is_mild, is_slow}
+use Rattle.outcome_law.proofs.CalmBlocks.{Calm, Seals, act_kind, calm_arrived, calm_called, calm_commit_sent, calm_cons, calm_coordinates, calm_core_got, calm_ended_at, calm_one, calm_reply, calm_restarted, is_slow}
+use Rattle.outcome_law.proofs.Messages.{ENLIST}
+use Rattle.outcome_law.proofs.DecidingBlocks.{is_kept}
 
 never : false ≡ true → ⊥
 never e = absurd cc
@@ -94,7 +96,7 @@ one_came c d p (Cut e u w) h k = cut_came p (same_connection c e) (kept d u w) (
 one_came c d p Stopped h k = stopped_came p d (in_transit c d h) k
 one_came c d p x h k = k
 
-not_opening : (e : EnlNo) (m : Message) → not (is_enlist m) ≡ true → is_opening (Enl e) m ≡ false
+not_opening : (e : EnlNo) (m : Message) → not (ENLIST m) ≡ true → is_opening (Enl e) m ≡ false
 not_opening e (EnlistEnlist i) t = absurd cc
 not_opening e _ t = refl
 
@@ -122,7 +124,7 @@ late_more x h s l t e =
     let before = or_case (is_sealed x) (has is_sealed h) (λ a. absurd (slow_unsealed x s a)) (λ a. a) t in
     false_from_ne_true (is_coming e (x ∷ h)) (λ a. not_both (is_coming e h) (coming_slow e x h s a) (l before e))
 
-mild_place : (ks : List EnteredCall) (x : Entry) (h : List Entry) (e : EnlNo) → is_slow x ≡ true → is_mild x ≡ true → has_place (waiting ks h) h e ≡ true → has_place (waiting ks (x ∷ h)) (x ∷ h) e ≡ true
+mild_place : (ks : List EnteredCall) (x : Entry) (h : List Entry) (e : EnlNo) → is_slow x ≡ true → is_kept x ≡ true → has_place (waiting ks h) h e ≡ true → has_place (waiting ks (x ∷ h)) (x ∷ h) e ≡ true
 mild_place ks (Called n a x) h e s m t = absurd (never s)
 mild_place ks (Promoting c) h e s m t = absurd (never s)
 mild_place ks (Promoted u c) h e s m t = absurd (never s)
@@ -130,7 +132,7 @@ mild_place ks (Answered n x) h e s m t = absurd (never m)
 mild_place ks PromotionFailed h e s m t = absurd (never m)
 mild_place ks x h e s m t = t
 
-mild_coming : (ks : List EnteredCall) (x : Entry) (h : List Entry) → is_slow x ≡ true → is_mild x ≡ true → IsComing ks h → IsComing ks (x ∷ h)
+mild_coming : (ks : List EnteredCall) (x : Entry) (h : List Entry) → is_slow x ≡ true → is_kept x ≡ true → IsComing ks h → IsComing ks (x ∷ h)
 mild_coming ks x h s m k =
     record {
       placed = λ d e c. mild_place ks x h e s m (k.placed (or_second (is_decision x) (has is_decision h) d) e (coming_slow e x h s c));
@@ -138,11 +140,11 @@ mild_coming ks x h s m k =
     }
 
 -- with a calm block
-all_mild : (ks : List EnteredCall) (h es : List Entry) → each is_slow es ≡ true → each is_mild es ≡ true → IsComing ks h → IsComing ks (onto h es)
+all_mild : (ks : List EnteredCall) (h es : List Entry) → each is_slow es ≡ true → each is_kept es ≡ true → IsComing ks h → IsComing ks (onto h es)
 all_mild ks h [] s m k = k
 all_mild ks h (x ∷ es) s m k =
-    all_mild ks (x ∷ h) es (and_right (is_slow x) (each is_slow es) s) (and_right (is_mild x) (each is_mild es) m)
-    (mild_coming ks x h (and_left (is_slow x) (each is_slow es) s) (and_left (is_mild x) (each is_mild es) m) k)
+    all_mild ks (x ∷ h) es (and_right (is_slow x) (each is_slow es) s) (and_right (is_kept x) (each is_kept es) m)
+    (mild_coming ks x h (and_left (is_slow x) (each is_slow es) s) (and_left (is_kept x) (each is_kept es) m) k)
 
 all_late : (h es : List Entry) → each is_slow es ≡ true → (has is_sealed h ≡ true → (e : EnlNo) → is_coming e h ≡ false) → has is_sealed (onto h es) ≡ true → (e : EnlNo) → is_coming e (onto h es) ≡ false
 all_late h [] s l = l
@@ -154,7 +156,7 @@ stands_onto p h (x ∷ es) t = or_case (p x) (has p es) (λ a. stays p (x ∷ h)
 
 pub calm_coming : (ks : List EnteredCall) (h es : List Entry) → Calm es → IsComing ks h → IsComing ks (onto h es)
 calm_coming ks h es c k =
-    or_case (has is_decision es) (each is_mild es)
+    or_case (has is_decision es) (each is_kept es)
     (λ d. record { placed = λ n e t. absurd (not_both (has is_decision (onto h es)) (stands_onto is_decision h es d) n); late = all_late h es c.slow k.late })
     (λ m. all_mild ks h es c.slow m k) c.rest
 
