@@ -7,6 +7,7 @@ pub mod Scopes
 pub mod Digits
 pub mod Pasts
 pub mod SameNumbers
+pub mod Connections
 pub mod Counts
 pub mod Unowned
 pub mod Unpromoted

@@ -24,7 +24,7 @@ use Rattle.std.proofs.lemmas.Bool.{false_from_ne_true, or_left}
 use Rattle.dtx_model.specs.Outcome.{enlisted}
 use Rattle.outcome_law.proofs.Rule.{is_enlisted, is_volatile_of}
 use Rattle.outcome_law.proofs.Debts.{is_volatile_made}
-use Rattle.outcome_law.proofs.Connections.{same_is}
+use Rattle.dtx_model.proofs.Connections.{same_is}
 use Rattle.dtx_model.specs.Learned.{coordinator_aborted}
 use Rattle.outcome_law.proofs.Scans.{has_more}
 use Rattle.outcome_law.proofs.Tests.{eq_self, second_of_three, second_of_four, third_of_four, second_of_five}

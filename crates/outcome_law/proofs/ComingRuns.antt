@@ -63,7 +63,7 @@ use Rattle.dtx_model.proofs.Bools.{and_both, and_left, and_right, not_both, or_c
 use Rattle.outcome_law.proofs.Lists.{OfEach}
 use Rattle.outcome_law.proofs.Scans.{each_more}
 use Rattle.outcome_law.proofs.Tests.{eq_self}
-use Rattle.outcome_law.proofs.Connections.{same_is}
+use Rattle.dtx_model.proofs.Connections.{same_is}
 use Rattle.outcome_law.proofs.Whole.{is_got_on, is_sent_on}
 use Rattle.outcome_law.proofs.Messages.{ENLIST, ENLISTED}
 use Rattle.outcome_law.proofs.Prepared.{has_after}

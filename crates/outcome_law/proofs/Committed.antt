@@ -33,7 +33,7 @@ use Rattle.outcome_law.proofs.Debts.{has_promotable, is_decided_committed, is_vo
 use Rattle.outcome_law.proofs.Knowledge.{got_known, knows_got}
 use Rattle.outcome_law.proofs.Stages.{IsUnlogged, begin_got, earlier, record_logged, sent_known, stage_of, stage_seen, unlogged_before}
 use Rattle.outcome_law.proofs.Arrived.{arrived}
-use Rattle.outcome_law.proofs.Connections.{same_is}
+use Rattle.dtx_model.proofs.Connections.{same_is}
 use Rattle.outcome_law.proofs.Followed.{Demands, followed}
 use Rattle.outcome_law.proofs.Openings.{once_sent}
 use Rattle.outcome_law.proofs.Promoted.{climb, got_due, if_so, while_open}

@@ -26,7 +26,7 @@ use Rattle.outcome_law.proofs.Messages.{COMMIT, ENLIST}
 use Rattle.outcome_law.proofs.Fine.{IsFine}
 use Rattle.outcome_law.proofs.Rest.{is_ordered}
 use Rattle.outcome_law.proofs.Arrived.{newest}
-use Rattle.outcome_law.proofs.Connections.{same_self}
+use Rattle.dtx_model.proofs.Connections.{same_self}
 use Rattle.outcome_law.proofs.Knowledge.{elsewhere, has_mapped, known_still}
 use Rattle.outcome_law.proofs.Stages.{IsUnlogged, active_at, unlogged_before}
 use Rattle.outcome_law.proofs.Recorded.{each_changed, each_inserted}

@@ -47,7 +47,7 @@ use Rattle.outcome_law.proofs.Fine.{IsFine, is_caused}
 use Rattle.outcome_law.proofs.Debts.{is_volatile_made, owes_none, pays}
 use Rattle.outcome_law.proofs.OnTheWay.{is_on_its_way, is_unplaced}
 use Rattle.outcome_law.proofs.Rest.{IsAtRest, is_after_start, is_begun, is_ordered, is_sound}
-use Rattle.outcome_law.proofs.Connections.{same_is}
+use Rattle.dtx_model.proofs.Connections.{same_is}
 use Rattle.outcome_law.proofs.Openings.{unopened_empty}
 use Rattle.outcome_law.proofs.Knowledge.{is_known_end, knows_where}
 use Rattle.outcome_law.proofs.Unblamed.{nothing_bad}

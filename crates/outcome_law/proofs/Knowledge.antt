@@ -23,7 +23,7 @@ use Rattle.dtx_model.specs.Wires.{WireRun, opens}
 use Rattle.dtx_model.specs.Observed.{ends_of}
 use Rattle.dtx_model.specs.Coordinated.{coordinate, follow, without}
 use Rattle.dtx_model.proofs.Bools.{and_both, and_left, and_right, or_case, or_right, not_both, not_false}
-use Rattle.outcome_law.proofs.Connections.{same_is}
+use Rattle.dtx_model.proofs.Connections.{same_is}
 use Rattle.outcome_law.proofs.Lists.{has_kept, has-insert, if_kept}
 use Rattle.outcome_law.proofs.Owned.{has_filter}
 use Rattle.outcome_law.proofs.Scans.{has_more}

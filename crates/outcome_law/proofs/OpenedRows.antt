@@ -18,7 +18,7 @@ use Rattle.dtx_model.specs.Promotes.{is_begun_got, is_promoting}
 use Rattle.dtx_model.specs.Wires.{opens}
 use Rattle.dtx_model.proofs.Bools.{and_left, and_right, or_case}
 use Rattle.outcome_law.proofs.Tests.{first_of_four, third_of_four}
-use Rattle.outcome_law.proofs.Connections.{same_is, same_self, same_way_is}
+use Rattle.dtx_model.proofs.Connections.{same_is, same_self, same_way_is}
 use Rattle.outcome_law.proofs.Whole.{is_opened_once, is_sent_on}
 use Rattle.outcome_law.proofs.Unblamed.{got_sent}
 use Rattle.outcome_law.proofs.Table.{is_of_conn, is_opening_got, is_there, is_volatile_conn, message_row, rule, ruled}

@@ -15,7 +15,7 @@ use Rattle.dtx_values.specs.Ends.{same_connection, same_direction}
 use Rattle.dtx_model.proofs.Bools.{and_left, and_right, and_both, or_case, or_false, or_first, or_second, or_right, not_true, not_both, not_false}
 use Rattle.outcome_law.proofs.Whole.{is_got_on, is_sent_on, is_whole, whole}
 use Rattle.outcome_law.proofs.Arrived.{before, newest, on_way, opens_same, sent_rule, unopened, unstopped}
-use Rattle.outcome_law.proofs.Connections.{same_is}
+use Rattle.dtx_model.proofs.Connections.{same_is}
 use Rattle.outcome_law.proofs.Unblamed.{came, got_sent, no_end}
 use Rattle.outcome_law.proofs.Scans.{has_more}
 

@@ -51,7 +51,7 @@ use Rattle.outcome_law.proofs.Whole.{is_got_on}
 use Rattle.outcome_law.proofs.Messages.{PREPARE}
 use Rattle.outcome_law.proofs.Fine.{IsFine, is_bad, is_made}
 use Rattle.outcome_law.proofs.Debts.{is_volatile_made}
-use Rattle.outcome_law.proofs.Connections.{same_is}
+use Rattle.dtx_model.proofs.Connections.{same_is}
 use Rattle.outcome_law.proofs.Knowledge.{knows_got}
 use Rattle.outcome_law.proofs.Stages.{record_logged}
 use Rattle.outcome_law.proofs.Unblamed.{owns, unrestarted}

@@ -63,7 +63,7 @@ use Rattle.outcome_law.proofs.Lists.{has-insert}
 use Rattle.outcome_law.proofs.Owned.{has_rows}
 use Rattle.outcome_law.proofs.Tests.{eq_self}
 use Rattle.outcome_law.proofs.Rule.{is_enlisted}
-use Rattle.outcome_law.proofs.Connections.{same_self}
+use Rattle.dtx_model.proofs.Connections.{same_self}
 use Rattle.outcome_law.proofs.Whole.{is_sent_on}
 use Rattle.outcome_law.proofs.Messages.{ABORT, ASK, BEGIN, BEGUN, COMMIT, ENLIST, ENLIST_ANSWER, VOTE, VOTER, VOTER_ANSWER, YES}
 use Rattle.outcome_law.proofs.Debts.{created_next, debt, enlisted_next, has_promotable, is_decided_committed, is_free, is_going_up, is_volatile_made, knows_there, meets, when}

@@ -23,7 +23,7 @@ use Rattle.dtx_model.specs.Half.{is_handed}
 use Rattle.outcome_law.proofs.Messages.{BEGIN, BEGUN, CREATED, ENLIST, ENLISTED, ENLIST_ANSWER, VOTER, VOTER_ANSWER}
 use Rattle.outcome_law.proofs.Debts.{created_next, enlisted_next, is_going_up, when}
 use Rattle.outcome_law.proofs.Arrived.{arrived}
-use Rattle.outcome_law.proofs.Connections.{same_is, same_self, same_way_is}
+use Rattle.dtx_model.proofs.Connections.{same_is, same_self, same_way_is}
 use Rattle.outcome_law.proofs.Followed.{Demands, followed}
 use Rattle.outcome_law.proofs.Unblamed.{fine_before, got_sent}
 use Rattle.outcome_law.proofs.Scans.{has_less}

@@ -27,7 +27,7 @@ use Rattle.outcome_law.proofs.Messages.{COMMIT, ENLIST, PREPARE, VOTED, YES}
 use Rattle.outcome_law.proofs.Fine.{IsFine}
 use Rattle.outcome_law.proofs.Rest.{is_ordered}
 use Rattle.outcome_law.proofs.Arrived.{newest}
-use Rattle.outcome_law.proofs.Connections.{same_is}
+use Rattle.dtx_model.proofs.Connections.{same_is}
 use Rattle.outcome_law.proofs.Openings.{once_sent}
 use Rattle.outcome_law.proofs.Stages.{IsUnlogged, active_at, begin_got, earlier, stage_of, stage_seen, unlogged_before}
 use Rattle.outcome_law.proofs.Unblamed.{fine_before}

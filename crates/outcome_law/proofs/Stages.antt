@@ -24,7 +24,7 @@ use Rattle.outcome_law.proofs.Messages.{BEGIN, BEGUN}
 use Rattle.outcome_law.proofs.Fine.{IsFine, is_restart}
 use Rattle.outcome_law.proofs.Rest.{is_sound, is_ordered, is_begun}
 use Rattle.outcome_law.proofs.Arrived.{newest}
-use Rattle.outcome_law.proofs.Connections.{same_is}
+use Rattle.dtx_model.proofs.Connections.{same_is}
 use Rattle.outcome_law.proofs.Openings.{once_sent, opening_first}
 use Rattle.outcome_law.proofs.Unblamed.{fine_before, got_sent, unrestarted}
 

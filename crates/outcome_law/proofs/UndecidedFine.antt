@@ -29,7 +29,7 @@ use Rattle.dtx_model.specs.Caused.{same_vote}
 use Rattle.outcome_law.specs.Severed.{is_severing}
 use Rattle.dtx_model.proofs.Bools.{and_left, and_right, and_both, not_both, not_false, not_true, or_case, or_false, or_first, or_second, or_right}
 use Rattle.outcome_law.proofs.Tests.{eq_self}
-use Rattle.outcome_law.proofs.Connections.{same_is}
+use Rattle.dtx_model.proofs.Connections.{same_is}
 use Rattle.outcome_law.proofs.Scans.{has_less, has_more}
 use Rattle.outcome_law.proofs.Rule.{is_answer, is_enlisted}
 use Rattle.outcome_law.proofs.Going.{is_no_vote}

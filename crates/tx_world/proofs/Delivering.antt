@@ -42,7 +42,7 @@ use Rattle.tx_world.proofs.Near.{near_local_down, near_local_got}
 use Rattle.tx_world.proofs.Onward.{core_is, core_transaction, far_heeds_all, near_follow_all, step_kept}
 use Rattle.tx_world.proofs.Written.{block_of, far_written, near_written, stopped_is}
 use Rattle.dtx_model.proofs.Quiet.{is_lined, sent_has_line}
-use Rattle.outcome_law.proofs.Connections.{same_is, same_way_is}
+use Rattle.dtx_model.proofs.Connections.{same_is, same_way_is}
 use Rattle.outcome_law.proofs.Crossed.{came}
 use Rattle.outcome_law.proofs.Whole.{is_sent_on}
 

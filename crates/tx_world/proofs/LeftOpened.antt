@@ -13,7 +13,7 @@ use Rattle.dtx_model.specs.Wires.{in_transit, kept, lost_since, opens}
 use Rattle.dtx_model.specs.Words.{has}
 use Rattle.dtx_model.specs.World.{has_left}
 use Rattle.dtx_model.proofs.Bools.{not_both, or_false, or_first, or_second}
-use Rattle.outcome_law.proofs.Connections.{same_is}
+use Rattle.dtx_model.proofs.Connections.{same_is}
 use Rattle.tx_world.specs.Left.{opened}
 
 -- nothing is left there, and it wasn't opened

@@ -20,7 +20,7 @@ use Rattle.dtx_model.proofs.Bools.{and_both, and_left, and_never, and_right, not
 use Rattle.outcome_law.proofs.Lists.{has_kept, has-insert, if_kept}
 use Rattle.outcome_law.proofs.Owned.{has_filter}
 use Rattle.outcome_law.proofs.Scans.{has_more}
-use Rattle.outcome_law.proofs.Connections.{same_self}
+use Rattle.dtx_model.proofs.Connections.{same_self}
 use Rattle.outcome_law.proofs.Crossed.{IsStill, end_still, nothing_up, no_end_up, same_conn_is, still_more, still_silent, stopped_down}
 use Rattle.outcome_law.proofs.Leading.{opening_was_sent}
 use Rattle.outcome_law.proofs.Reenlisted.{opened_since}

@@ -15,7 +15,7 @@ use Rattle.dtx_model.specs.Promotes.{is_begun_got, is_created_got}
 use Rattle.dtx_model.specs.Wires.{WireRun, in_transit, opens, same_connection}
 use Rattle.dtx_model.specs.Words.{always, has}
 use Rattle.dtx_model.proofs.Bools.{and_both, and_left, and_right, not_both, not_true, or_case}
-use Rattle.outcome_law.proofs.Connections.{same_self}
+use Rattle.dtx_model.proofs.Connections.{same_self}
 use Rattle.outcome_law.proofs.Crossed.{is_got_on, is_sent_on, same_conn_is}
 use Rattle.outcome_law.proofs.InTransit.{no_more}
 use Rattle.outcome_law.proofs.Leading.{sent_opens}
