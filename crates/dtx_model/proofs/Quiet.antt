@@ -136,12 +136,12 @@ runs_after past [] q r = r
 runs_after past (x ∷ es) q r = runs_after (x ∷ past) es (q_tail x es q) (still past x (q_head x es q), r)
 
 -- a delivery takes what is next on the way, or an end where nothing is
-is_end : (lost unseen : Bool) (ms : List Message) → ms ≡ [] → (not (is_empty ms) || (lost && unseen)) ≡ true → (lost && is_empty ms && unseen) ≡ true
+pub is_end : (lost unseen : Bool) (ms : List Message) → ms ≡ [] → (not (is_empty ms) || (lost && unseen)) ≡ true → (lost && is_empty ms && unseen) ≡ true
 is_end true unseen [] e p = p
 is_end false unseen [] e p = absurd cc
 is_end lost unseen (m ∷ ms) e p = absurd cc
 
-takes_next : (m : Message) (ms ns : List Message) → ns ≡ m ∷ ms → is_next m ns
+pub takes_next : (m : Message) (ms ns : List Message) → ns ≡ m ∷ ms → is_next m ns
 takes_next m ms [] e = absurd cc
 takes_next m ms (n ∷ ns) e = cc
 

@@ -110,7 +110,7 @@ pub reply_keeps : (h : List Entry) (e : EnlNo) (y : Reply) (n : Note) → IsKept
 reply_keeps h e y n i d f = vote_keeps h e y i (fits_well h e y n f d (due_well h e.value n i d))
 
 -- an outcome is itself
-same_self : (x : Outcome) → same_outcome x x ≡ true
+pub same_self : (x : Outcome) → same_outcome x x ≡ true
 same_self Committed = refl
 same_self Aborted = refl
 same_self InDoubt = refl
@@ -214,12 +214,12 @@ commit_act_keeps h false (Some e) k f g = keep (Handed e) h k refl (f e refl ref
 commit_act_keeps h false None k f g = keep (Decided Committed) h k refl (g refl) (λ g. refl)
 
 -- what neither waits nor is open is complete
-close_step : (b x : Bool) → (not b || x) ≡ true → (b || x) ≡ true → x ≡ true
+pub close_step : (b x : Bool) → (not b || x) ≡ true → (b || x) ≡ true → x ≡ true
 close_step true x p q = p
 close_step false x p q = q
 
 -- what isn't open blocks nothing
-shut_step : (b x : Bool) → (b && not x) ≡ false → (not b || x) ≡ true
+pub shut_step : (b x : Bool) → (b && not x) ≡ false → (not b || x) ≡ true
 shut_step true true p = refl
 shut_step true false p = absurd cc
 shut_step false x p = refl
@@ -251,7 +251,7 @@ voted_good e (Voted f Done ∷ h) w k = good_step (e == f.value) (has (is_vote e
 voted_good e (x ∷ h) w k = voted_good e h w k
 
 -- each of those that are picked passes where each passes that is picked
-each_filter : {A : Type 0} (p q : A → Bool) (xs : List A) → each (λ x. not (p x) || q x) xs ≡ true → each q (filter p xs) ≡ true
+pub each_filter : {A : Type 0} (p q : A → Bool) (xs : List A) → each (λ x. not (p x) || q x) xs ≡ true → each q (filter p xs) ≡ true
 each_filter p q [] h = refl
 each_filter p q (x ∷ xs) h =
     step q (p x) x (filter p xs) (and_left (not (p x) || q x) (each (λ x. not (p x) || q x) xs) h) (each_filter p q xs (and_right (not (p x) || q x) (each (λ x. not (p x) || q x) xs) h))

@@ -29,20 +29,12 @@ use Rattle.dtx_model.proofs.Writes.{Each, e_cons, e_if, e_one, IsClosed, each_cl
 use Rattle.dtx_model.proofs.Blocks.{of_core_got, of_core_down, of_appended, of_freed, of_restarted, of_local_down, of_arrived, of_act, of_reply, of_called}
 use Rattle.dtx_model.proofs.Bools.{and_right, not_both}
 use Rattle.dtx_values.specs.Lines.{has_line}
-
--- COMMIT, and PREPARE
-abbrev pub is_commit : Message → Bool
-is_commit BeginCommit = true
-is_commit _ = false
-
-abbrev pub is_prepare : Message → Bool
-is_prepare EnlistPrepare = true
-is_prepare _ = false
+use Rattle.outcome_law.proofs.Messages.{COMMIT, PREPARE}
 
 -- the entry sends neither
 abbrev pub is_bare : Entry → Bool
-is_bare (Sent c Up m) = not (is_commit m)
-is_bare (Sent c Down m) = not (is_prepare m)
+is_bare (Sent c Up m) = not (COMMIT m)
+is_bare (Sent c Down m) = not (PREPARE m)
 is_bare _ = true
 
 abbrev pub Bare : List Entry → Type 0
@@ -61,7 +53,7 @@ bare : IsClosed (λ es. Each is_bare es)
 bare = each_closed is_bare refl (λ x. refl) (λ n x. refl) refl refl
 
 -- so are the entries of blocks, but where an owner's answer is requested
-bare_up : (s : Source) → requests s ≡ false → (m : Message) → sends s m ≡ true → not (is_commit m) ≡ true
+bare_up : (s : Source) → requests s ≡ false → (m : Message) → sends s m ≡ true → not (COMMIT m) ≡ true
 bare_up s r BeginCommit t = absurd (not_both (requests s) t r)
 bare_up s r _ t = refl
 
@@ -74,14 +66,14 @@ bare_entry s r x t = bare_one x (passes x t)
     passes _ t = refl
 
 -- what the coordinator sends after a message that isn't COMMIT
-bare_answer : (c : Conn) (m : Message) → is_asking c m ≡ false → (n : Message) → answers c m n ≡ true → not (is_prepare n) ≡ true
+bare_answer : (c : Conn) (m : Message) → is_asking c m ≡ false → (n : Message) → answers c m n ≡ true → not (PREPARE n) ≡ true
 bare_answer c m k EnlistPrepare t = absurd (not_both (is_asking c m) t k)
 bare_answer c m k _ t = refl
 
 bare_sent : (c : Conn) (m : Message) → has_line c Down m ≡ true → is_outcome_message m ≡ true → Bare (Sent c Down m ∷ [])
 bare_sent c m l o = bare_one (Sent c Down m) (passes m o)
   where
-    passes : (m : Message) → is_outcome_message m ≡ true → not (is_prepare m) ≡ true
+    passes : (m : Message) → is_outcome_message m ≡ true → not (PREPARE m) ≡ true
     passes EnlistPrepare o = absurd cc
     passes _ o = refl
 

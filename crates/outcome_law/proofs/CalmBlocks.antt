@@ -11,7 +11,7 @@ use Rattle.dtx_values.specs.declared.message.Conn.TheVariants.{Begin, Voter}
 use Rattle.dtx_values.specs.declared.message.Dir.{Dir}
 use Rattle.dtx_values.specs.declared.message.Dir.TheVariants.{Up, Down}
 use Rattle.dtx_values.specs.declared.message.Message.{Message}
-use Rattle.dtx_values.specs.declared.message.Message.TheVariants.{BeginCommit, BeginAbort, VoterNo, EnlistEnlist}
+use Rattle.dtx_values.specs.declared.message.Message.TheVariants.{BeginCommit, BeginAbort, VoterNo}
 use Rattle.dtx_values.specs.declared.note.Reply.{Reply}
 use Rattle.dtx_values.specs.declared.number.EnlNo.{EnlNo}
 use Rattle.dtx_model.specs.Words.{each, has}
@@ -31,6 +31,7 @@ use Rattle.dtx_model.proofs.Blocks.{of_core_got, of_core_down, of_coordinates, o
 use Rattle.dtx_values.specs.Lines.{has_line}
 use Rattle.outcome_law.proofs.Messages.{ENLIST}
 use Rattle.outcome_law.proofs.DecidingBlocks.{Keeps, is_kept, kept, kept_entry, kept_join, kept_one}
+use Rattle.outcome_law.proofs.PlainBlocks.{plain_up}
 
 -- the entry is no call, begins or ends no promotion well, is no seal, and sends no ENLIST
 abbrev pub is_slow : Entry → Bool
@@ -76,10 +77,6 @@ calm =
     }
 
 -- so are the entries of blocks that give no place, make no enlistment and begin no promotion
-calm_up : (s : Source) → enlists s ≡ false → (m : Message) → sends s m ≡ true → not (ENLIST m) ≡ true
-calm_up s n (EnlistEnlist i) t = absurd (not_both (enlists s) t n)
-calm_up s n _ t = refl
-
 calm_entry : (s : Source) → enlists s ≡ false → gives s ≡ false → begins s ≡ false → (x : Entry) → writes s x ≡ true → Calm (x ∷ [])
 calm_entry s n g b x t = both_calm (e_one x (passes x t)) (kept_entry s g x t)
   where
@@ -88,7 +85,7 @@ calm_entry s n g b x t = both_calm (e_one x (passes x t)) (kept_entry s g x t)
     passes (Promoting c) t = absurd (not_both (begins s) t b)
     passes (Promoted u c) t = absurd (not_both (gives s) t g)
     passes Sealed t = absurd cc
-    passes (Sent c Up m) t = calm_up s n m (and_right (has_line c Up m) (sends s m) t)
+    passes (Sent c Up m) t = plain_up s n m (and_right (has_line c Up m) (sends s m) t)
     passes _ t = refl
 
 calm_sent : (c : Conn) (m : Message) → has_line c Down m ≡ true → is_outcome_message m ≡ true → Calm (Sent c Down m ∷ [])

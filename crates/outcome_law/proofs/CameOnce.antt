@@ -49,6 +49,7 @@ use Rattle.outcome_law.proofs.CalmBlocks.{Calm, Seals, act_kind, calm_arrived, c
 use Rattle.outcome_law.proofs.Welcomes.{begun_new, created_new, is_direct}
 use Rattle.outcome_law.proofs.Asking.{IsAsking, prepare_new}
 use Rattle.outcome_law.proofs.Messages.{ENLIST}
+use Rattle.dtx_model.proofs.Quiet.{takes_next}
 
 no : false ≡ true → ⊥
 no e = absurd cc
@@ -138,10 +139,6 @@ got_after t w Voter VoterCreated k n f a = there (Got Voter Down VoterCreated �
 got_after t w (Enl e) EnlistEnlisted k n f a = absurd (not_both (has is_created_got w.past) (a e (down_opened (Enl e) EnlistEnlisted w.past k n)) f)
 got_after t w c m k n f a =
     un_onto w.past (Got c Down m ∷ arrived t (sees (half w) (Got c Down m)) c m) (calm_un (arrived t (sees (half w) (Got c Down m)) c m) (calm_arrived t (sees (half w) (Got c Down m)) c m refl)) a
-
-takes_next : (m : Message) (ms ns : List Message) → ns ≡ m ∷ ms → is_next m ns
-takes_next m ms [] e = absurd cc
-takes_next m ms (n ∷ ns) e = cc
 
 down_after : (t : ℕ) (w : World) (c : Conn) (ms : List Message) → in_transit c Down w.past ≡ ms → Keeps w.past → has is_created_got w.past ≡ false → IsAfter w.past → IsAfter (onto w.past (delivered t w c Down ms))
 down_after t w c [] q k f a = un_onto w.past (Ended c Down ∷ ended_at w c Down) (calm_un (ended_at w c Down) (calm_ended_at w c Down)) a

@@ -27,13 +27,13 @@ use Rattle.dtx_model.proofs.Bools.{and_left, and_right, not_both, not_true, or_c
 use Rattle.dtx_model.proofs.Reading.{has-onto}
 use Rattle.outcome_law.proofs.Lists.{OfEach}
 use Rattle.outcome_law.proofs.Scans.{each_both}
-use Rattle.outcome_law.proofs.Whole.{is_got_on, is_sent_on}
 use Rattle.outcome_law.proofs.Messages.{ENLIST, ENLISTED}
 use Rattle.outcome_law.proofs.Rest.{is_after_start}
 use Rattle.outcome_law.proofs.Promoted.{sent_after_start}
 use Rattle.outcome_law.proofs.PlainBlocks.{Plain, is_plain}
 use Rattle.outcome_law.proofs.DecidingBlocks.{Keeps, is_kept}
 use Rattle.outcome_law.proofs.Makers.{IsWaiter}
+use Rattle.outcome_law.proofs.Crossed.{is_sent_on, is_got_on}
 
 abbrev pub is_coming : List EnteredCall → List Entry → ℕ → Bool
 is_coming ks h e = (is_under_way h && is_handed (handover h) e) || (has is_promoted h && has (is_place_of e) (waiting ks h))

@@ -131,7 +131,7 @@ abort_open true Active u = refl
 abort_open true _ u = u
 abort_open false s u = u
 
-restart_open : (b : Bool) (s : Stage) → is_undecided (behind_restart b s) ≡ true → ⊥
+pub restart_open : (b : Bool) (s : Stage) → is_undecided (behind_restart b s) ≡ true → ⊥
 restart_open true s u = absurd cc
 restart_open false Recorded u = absurd cc
 restart_open false Over u = absurd cc

@@ -41,17 +41,17 @@ same_way_is Down Down k = refl
 same_way_is _ _ k = absurd cc
 
 -- what is left of the messages on the way was on the way
-taken_less : (p : Message → Bool) (n : ℕ) (ms : List Message) → has p (take n ms) ≡ true → has p ms ≡ true
+pub taken_less : (p : Message → Bool) (n : ℕ) (ms : List Message) → has p (take n ms) ≡ true → has p ms ≡ true
 taken_less p zero ms k = absurd cc
 taken_less p (suc n) [] k = absurd cc
 taken_less p (suc n) (m ∷ ms) k = or_case (p m) (has p (take n ms)) (λ q. or_left (p m) (has p ms) q) (λ q. or_right (p m) (has p ms) (taken_less p n ms q)) k
 
-rest_less : (p : Message → Bool) (ms : List Message) → has p (without_first ms) ≡ true → has p ms ≡ true
+pub rest_less : (p : Message → Bool) (ms : List Message) → has p (without_first ms) ≡ true → has p ms ≡ true
 rest_less p [] k = k
 rest_less p (m ∷ ms) k = or_right (p m) (has p ms) k
 
 -- one more at the end
-parted : (p : Message → Bool) (m : Message) (ms : List Message) → has p (ms ++ m ∷ []) ≡ true → (p m || has p ms) ≡ true
+pub parted : (p : Message → Bool) (m : Message) (ms : List Message) → has p (ms ++ m ∷ []) ≡ true → (p m || has p ms) ≡ true
 parted p m [] k = k
 parted p m (x ∷ ms) k =
     or_case (p x) (has p (ms ++ m ∷ [])) (λ q. or_right (p m) (p x || has p ms) (or_left (p x) (has p ms) q))

@@ -38,8 +38,9 @@ use Rattle.dtx_values.specs.Lines.{has_line}
 use Rattle.dtx_model.specs.Wires.{opens}
 use Rattle.outcome_law.proofs.Scans.{has_more}
 use Rattle.outcome_law.proofs.Crossed.{is_got_on}
-use Rattle.outcome_law.proofs.Sendings.{by_got, from_got, is_begin_commit, is_prepare_message}
+use Rattle.outcome_law.proofs.Sendings.{by_got, from_got, commit_got_on}
 use Rattle.outcome_law.proofs.Recording.{enlisted_unsealed}
+use Rattle.outcome_law.proofs.Messages.{COMMIT, PREPARE}
 
 -- what is enlisted wasn't before
 pub enlisted_once : (e : EnlNo) (c : Class) (h : List Entry) → rule h (Enlisted e c) ≡ true → has (is_enlisted e.value) h ≡ false
@@ -57,26 +58,22 @@ voted_once e v h r =
     not_true (has (is_vote e.value) h) (third_of_five (has (is_enlisted e.value) h) (has (is_asked e.value) h) (not (has (is_vote e.value) h)) (not (has (is_lost e.value) h)) (not (stands_volatile e.value h && has is_decision h)) r)
 
 -- It was sealed where the coordinator got COMMIT, and so where an enlistment got PREPARE.
-commit_sealed : (m : Message) (h : List Entry) → Keeps h → is_begin_commit m ≡ true → has_line Begin Up m ≡ true → message_row h Begin m ≡ true → has is_sealed h ≡ true
+commit_sealed : (m : Message) (h : List Entry) → Keeps h → COMMIT m ≡ true → has_line Begin Up m ≡ true → message_row h Begin m ≡ true → has is_sealed h ≡ true
 commit_sealed BeginCommit h k t l r = first_of_three (has is_sealed h) (has is_promoted h) (not (has is_decision h)) r
 commit_sealed _ h k t l r = absurd cc
 
-commit_got_on : (x : Entry) → is_commit_got x ≡ true → is_got_on Begin Up is_begin_commit x ≡ true
-commit_got_on (Got Begin Up BeginCommit) t = refl
-commit_got_on _ t = absurd cc
-
 pub sealed_if_commit : (h : List Entry) → Keeps h → has is_commit_got h ≡ true → has is_sealed h ≡ true
 sealed_if_commit h k s =
-    from_got Begin Up is_begin_commit (λ g. has is_sealed g) (λ x g t. or_right (is_sealed x) (has is_sealed g) t) commit_sealed h k
-    (has_more is_commit_got (is_got_on Begin Up is_begin_commit) commit_got_on h s)
+    from_got Begin Up COMMIT (λ g. has is_sealed g) (λ x g t. or_right (is_sealed x) (has is_sealed g) t) commit_sealed h k
+    (has_more is_commit_got (is_got_on Begin Up COMMIT) commit_got_on h s)
 
-prepare_of : (e : EnlNo) (m : Message) (h : List Entry) → Keeps h → is_prepare_message m ≡ true → has_line (OnEnl e) Down m ≡ true → message_row h (OnEnl e) m ≡ true → has is_sealed h ≡ true
+prepare_of : (e : EnlNo) (m : Message) (h : List Entry) → Keeps h → PREPARE m ≡ true → has_line (OnEnl e) Down m ≡ true → message_row h (OnEnl e) m ≡ true → has is_sealed h ≡ true
 prepare_of e EnlistPrepare h k t l r = sealed_if_commit h k r
 prepare_of e _ h k t l r = absurd cc
 
 pub sealed_by_prepare : (n : ℕ) (h : List Entry) → Keeps h → ends_with (is_prepare_got n) h ≡ true → has is_sealed h ≡ true
 sealed_by_prepare n (Got (OnEnl e) Down EnlistPrepare ∷ h) k t =
-    by_got (OnEnl e) Down is_prepare_message (λ g. has is_sealed g) (λ x g t. or_right (is_sealed x) (has is_sealed g) t) (prepare_of e) EnlistPrepare h k refl
+    by_got (OnEnl e) Down PREPARE (λ g. has is_sealed g) (λ x g t. or_right (is_sealed x) (has is_sealed g) t) (prepare_of e) EnlistPrepare h k refl
 sealed_by_prepare n _ k t = absurd cc
 
 -- a volatile that stands was enlisted

@@ -336,7 +336,7 @@ once c (Cut e u v ∷ h) s k = once_cut c (same_connection c e) (has (is_opening
 once c (Stopped ∷ h) s k = once_none c (has (is_opening_got c) h)
 once c (x ∷ h) s k = once c h s (keeps_before x h k)
 
-next_stands : (p : Message → Bool) (m : Message) (ms : List Message) → is_next m ms → p m ≡ true → has p ms ≡ true
+pub next_stands : (p : Message → Bool) (m : Message) (ms : List Message) → is_next m ms → p m ≡ true → has p ms ≡ true
 next_stands p m [] n t = absurd n
 next_stands p m (x ∷ ms) n t = let P : Message → Type 0 = λ y. (p y || has p ms) ≡ true in subst P n (or_left (p m) (has p ms) t)
 

@@ -37,8 +37,10 @@ use Rattle.outcome_law.proofs.Tests.{fourth_of_four}
 use Rattle.outcome_law.proofs.Standing.{opened_if_got}
 use Rattle.outcome_law.proofs.HalfHeard.{is_return}
 use Rattle.outcome_law.proofs.CoreKnown.{sent_opened_there}
-use Rattle.outcome_law.proofs.TameBlocks.{Tame, is_begin, is_tame}
+use Rattle.outcome_law.proofs.TameBlocks.{Tame, is_tame}
 use Rattle.outcome_law.proofs.Unlinked.{unknown_more}
+use Rattle.outcome_law.proofs.Handing.{keeps_within}
+use Rattle.outcome_law.proofs.Messages.{BEGIN}
 
 -- a call that may come made this clone, and its line came
 pub record IsCloner (G : ℕ → ActorNo → Call → Type 0) (h : List Entry) (c : ℕ) : Type 0 where
@@ -120,12 +122,12 @@ tame_promotable e (Enlisted f c) h t s =
     or_case ((e == f.value) && is_promotable c) (stands_promotable e h) (λ a. absurd (not_both (is_promotable c) (and_right (e == f.value) (is_promotable c) a) (not_true (is_promotable c) t))) (λ a. a) s
 tame_promotable e _ h t s = s
 
-begin_opening : (m : Message) → is_opening Begin m ≡ true → is_begin m ≡ true
+begin_opening : (m : Message) → is_opening Begin m ≡ true → BEGIN m ≡ true
 begin_opening BeginBegin t = refl
 begin_opening _ t = absurd cc
 
 tame_unopened : (x : Entry) → is_tame x ≡ true → opens Begin x ≡ true → ⊥
-tame_unopened (Sent Begin Up m) t o = not_both (is_begin m) (begin_opening m o) (not_true (is_begin m) t)
+tame_unopened (Sent Begin Up m) t o = not_both (BEGIN m) (begin_opening m o) (not_true (BEGIN m) t)
 tame_unopened (Sent c Down m) t o = absurd cc
 tame_unopened _ t o = absurd cc
 
@@ -159,17 +161,12 @@ tame_marked G x h t k m =
       cloned = λ c a. cloner_more G h c x (m.cloned c (old (is_cloned c x) (has (is_cloned c) h) (tame_uncloned c x t) a));
     }
 
--- what keeps the table kept it before its last entries
-pub keeps_under : (h es : List Entry) → Keeps (onto h es) → Keeps h
-keeps_under h [] k = k
-keeps_under h (x ∷ es) k = keeps_before x h (keeps_under (x ∷ h) es k)
-
 -- a list of tame entries keeps it too
 pub tame_onto : (G : ℕ → ActorNo → Call → Type 0) (h es : List Entry) → Tame es → Keeps (onto h es) → IsMarked G h → IsMarked G (onto h es)
 tame_onto G h [] t k m = m
 tame_onto G h (x ∷ es) t k m =
     tame_onto G (x ∷ h) es (record { proof = and_right (is_tame x) (each is_tame es) t.proof }) k
-    (tame_marked G x h (and_left (is_tame x) (each is_tame es) t.proof) (keeps_under (x ∷ h) es k) m)
+    (tame_marked G x h (and_left (is_tame x) (each is_tame es) t.proof) (keeps_within (x ∷ h) es k) m)
 
 -- The other entries. An ask to promote.
 pub promote_marked : (G : ℕ → ActorNo → Call → Type 0) (e : EnlNo) (h : List Entry) → has is_promoting h ≡ true → IsMarked G h → IsMarked G (Asked e Promote ∷ h)

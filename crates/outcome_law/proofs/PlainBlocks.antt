@@ -50,8 +50,7 @@ plain_one x p = e_one x p
 plain : IsClosed (λ es. Each is_plain es)
 plain = each_closed is_plain refl (λ x. refl) (λ n x. refl) refl refl
 
--- so are the entries of blocks that neither give a place nor make an enlistment
-plain_up : (s : Source) → enlists s ≡ false → (m : Message) → sends s m ≡ true → not (ENLIST m) ≡ true
+pub plain_up : (s : Source) → enlists s ≡ false → (m : Message) → sends s m ≡ true → not (ENLIST m) ≡ true
 plain_up s n (EnlistEnlist i) t = absurd (not_both (enlists s) t n)
 plain_up s n _ t = refl
 

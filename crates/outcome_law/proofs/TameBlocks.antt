@@ -30,11 +30,7 @@ use Rattle.dtx_model.proofs.Blocks.{of_act as of_kinds, of_core_got, of_core_dow
 use Rattle.dtx_model.proofs.Writes.{Each, e_cons, e_one, IsClosed, each_closed, Source, ByCall, ByReply, ByMessage, ByAct, is_making_promotable, may_begin, is_cloning, is_returning, promotes, is_promotable_place, enlists, enlists_promotable, opens_begin, clones, returns, sends, writes, is_outcome_message}
 use Rattle.dtx_model.proofs.Bools.{and_right, not_both, not_true, or_first, or_second, or_case}
 use Rattle.dtx_values.specs.Lines.{has_line}
-
--- BEGIN
-abbrev pub is_begin : Message → Bool
-is_begin BeginBegin = true
-is_begin _ = false
+use Rattle.outcome_law.proofs.Messages.{BEGIN}
 
 -- the entry makes no clone and no promotable, takes none back, asks none to promote or to commit, and sends no BEGIN
 abbrev pub is_tame : Entry → Bool
@@ -43,7 +39,7 @@ is_tame (Cloned c k) = false
 is_tame (Asked e Promote) = false
 is_tame (Asked e AskSingle) = false
 is_tame (Reenlisted e) = false
-is_tame (Sent c Up m) = not (is_begin m)
+is_tame (Sent c Up m) = not (BEGIN m)
 is_tame _ = true
 
 abbrev pub Tame : List Entry → Type 0
@@ -59,7 +55,7 @@ tame : IsClosed (λ es. Each is_tame es)
 tame = each_closed is_tame refl (λ x. refl) (λ n x. refl) refl refl
 
 -- so are the entries of blocks that make no clone and no promotable, take none back and don't open b
-tame_up : (s : Source) → opens_begin s ≡ false → (m : Message) → sends s m ≡ true → not (is_begin m) ≡ true
+tame_up : (s : Source) → opens_begin s ≡ false → (m : Message) → sends s m ≡ true → not (BEGIN m) ≡ true
 tame_up s b BeginBegin t = absurd (not_both (opens_begin s) t b)
 tame_up s b _ t = refl
 

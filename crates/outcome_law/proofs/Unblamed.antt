@@ -1,6 +1,6 @@
 -- Where nothing is lost and nothing ends the transaction of itself, nothing bad comes: no veto, no abort, no refusal. So it is where all are willing. While nothing is decided, an
 -- enlistment may be lost as well.
-use Rattle.std.proofs.Common.{◌≡◌, ℕ, zero, suc, ◌==◌, Bool, true, false, ◌&&◌, ◌||◌, List, [], ◌∷◌, ◌++◌, Option, Some, None, refl, sym, subst, ap}
+use Rattle.std.proofs.Common.{◌≡◌, ℕ, ◌==◌, Bool, true, false, ◌&&◌, ◌||◌, List, [], ◌∷◌, Option, Some, None, refl, sym, subst, ap}
 use Rattle.std.specs.Prelude.{not, take, if◌then◌else◌}
 use Rattle.std.proofs.lemmas.Bool.{eqb-true, or_left, false_from_ne_true}
 use Rattle.dtx_values.specs.declared.entry.Entry.{Entry}
@@ -37,26 +37,10 @@ use Rattle.outcome_law.proofs.Rule.{is_decided}
 use Rattle.outcome_law.proofs.Going.{is_no_vote}
 use Rattle.outcome_law.proofs.Scans.{has_more, has_less}
 use Rattle.outcome_law.proofs.Settled.{asked_well}
-use Rattle.outcome_law.proofs.Whole.{is_sent_on, whole}
+use Rattle.outcome_law.proofs.Whole.{whole}
 use Rattle.outcome_law.proofs.Fine.{IsFine, any_class, blames, ends_aborted, ends_requested, has_cause, is_bad, is_bad_message, is_bad_outcome, is_caused, is_made, is_origin, is_restart}
 use Rattle.outcome_law.proofs.Arrived.{before, newest, unstopped, stays}
-
--- What is on the way was sent.
-shrinks : (p : Message → Bool) (n : ℕ) (ms : List Message) → has p (take n ms) ≡ true → has p ms ≡ true
-shrinks p zero ms k = absurd cc
-shrinks p (suc n) [] k = absurd cc
-shrinks p (suc n) (m ∷ ms) k = or_case (p m) (has p (take n ms)) (λ q. or_left (p m) (has p ms) q) (λ q. or_right (p m) (has p ms) (shrinks p n ms q)) k
-
-rest : (p : Message → Bool) (ms : List Message) → has p (without_first ms) ≡ true → has p ms ≡ true
-rest p [] k = k
-rest p (m ∷ ms) k = or_right (p m) (has p ms) k
-
--- one of two lists has what their list together has
-parted : (p : Message → Bool) (m : Message) (ms : List Message) → has p (ms ++ m ∷ []) ≡ true → (p m || has p ms) ≡ true
-parted p m [] k = k
-parted p m (x ∷ ms) k =
-    or_case (p x) (has p (ms ++ m ∷ [])) (λ q. or_right (p m) (p x || has p ms) (or_left (p x) (has p ms) q))
-    (λ q. or_case (p m) (has p ms) (λ a. or_left (p m) (p x || has p ms) a) (λ a. or_right (p m) (p x || has p ms) (or_right (p x) (has p ms) a)) (parted p m ms q)) k
+use Rattle.outcome_law.proofs.Crossed.{is_sent_on, taken_less, rest_less, parted}
 
 -- the message of an opening is sent there
 opening_sent : (c e : Conn) (d r : Dir) (m : Message) (p : Message → Bool) (stop : Bool) → opens c (Sent e r m) ≡ true → has p (opened_with d m stop) ≡ true
@@ -67,24 +51,24 @@ opening_sent c e Down Up m p stop o k = absurd cc
 opening_sent c e d Down m p stop o k = absurd cc
 
 -- one more message that is sent
-sent_came : (p : Message → Bool) (m : Message) (o s t b rest : Bool) (new ms : List Message) → (o ≡ true → has p new ≡ true → (s && t && p m) ≡ true) → (has p ms ≡ true → rest ≡ true)
-    → has p (if o then new else if s && t then sent_behind b m ms else ms) ≡ true → ((s && t && p m) || rest) ≡ true
-sent_came p m true s t b rest new ms op ih k = or_left (s && t && p m) rest (op refl k)
-sent_came p m false true true true rest new ms op ih k = or_case (p m) (has p ms) (λ q. or_left (p m) rest q) (λ q. or_right (p m) rest (ih q)) (parted p m ms k)
-sent_came p m false true true false rest new ms op ih k = or_right (p m) rest (ih k)
-sent_came p m false true false b rest new ms op ih k = ih k
-sent_came p m false false t b rest new ms op ih k = ih k
+sent_came : (p : Message → Bool) (m : Message) (o s t b rest_less : Bool) (new ms : List Message) → (o ≡ true → has p new ≡ true → (s && t && p m) ≡ true) → (has p ms ≡ true → rest_less ≡ true)
+    → has p (if o then new else if s && t then sent_behind b m ms else ms) ≡ true → ((s && t && p m) || rest_less) ≡ true
+sent_came p m true s t b rest_less new ms op ih k = or_left (s && t && p m) rest_less (op refl k)
+sent_came p m false true true true rest_less new ms op ih k = or_case (p m) (has p ms) (λ q. or_left (p m) rest_less q) (λ q. or_right (p m) rest_less (ih q)) (parted p m ms k)
+sent_came p m false true true false rest_less new ms op ih k = or_right (p m) rest_less (ih k)
+sent_came p m false true false b rest_less new ms op ih k = ih k
+sent_came p m false false t b rest_less new ms op ih k = ih k
 
 -- what is got leaves no more on the way
 got_came : (p : Message → Bool) (s line t : Bool) (ms : List Message) → has p (if not s then ms else if not line then [] else if t then without_first ms else ms) ≡ true → has p ms ≡ true
 got_came p false line t ms k = k
 got_came p true false t ms k = absurd cc
-got_came p true true true ms k = rest p ms k
+got_came p true true true ms k = rest_less p ms k
 got_came p true true false ms k = k
 
 -- nor does a cut
 cut_came : (p : Message → Bool) (s : Bool) (n : ℕ) (ms : List Message) → has p (if s then take n ms else ms) ≡ true → has p ms ≡ true
-cut_came p true n ms k = shrinks p n ms k
+cut_came p true n ms k = taken_less p n ms k
 cut_came p false n ms k = k
 
 -- what is on the way was sent

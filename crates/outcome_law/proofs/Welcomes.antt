@@ -16,14 +16,13 @@ use Rattle.dtx_values.specs.Lines.{has_line, is_opening}
 use Rattle.dtx_model.specs.Words.{always, each, has, onto}
 use Rattle.dtx_model.specs.Promotes.{identifier_of, is_begun_got, is_created_got, is_enlisted_got}
 use Rattle.dtx_model.specs.Wires.{MayCross, in_transit, is_next, is_open_wire, opens, sent_behind, without_first}
-use Rattle.dtx_model.specs.Coordinated.{Coordinated, coordinate, core_got, follow, has_aborted, is_recorded, opening_answer, to}
+use Rattle.dtx_model.specs.Coordinated.{Coordinated, coordinate, core_got, follow, has_aborted, is_recorded, opening_answer, to, may_log}
 use Rattle.dtx_model.specs.World.{World, answer_at, core, facts_at, half}
 use Rattle.dtx_model.specs.Facts.{facts_if, has_facts}
 use Rattle.dtx_model.specs.Replies.{reply_entries}
 use Rattle.dtx_model.specs.Acts.{act_entries}
 use Rattle.dtx_model.specs.Arrivals.{local_got}
 use Rattle.dtx_model.specs.Steps.{Step, Calls, Replies, Acts, Coordinates, Delivers, Stops, Restarts, after, block_at, coordinates, delivered, ended_at, restarted}
-use Rattle.dtx_model.specs.Coordinated.{may_log}
 use Rattle.dtx_model.proofs.Bools.{and_both, and_left, and_right, not_both, not_false, not_true, or_case, or_false, or_right}
 use Rattle.outcome_law.proofs.Tests.{eq_self}
 use Rattle.outcome_law.proofs.Lists.{has-behind}
@@ -31,7 +30,7 @@ use Rattle.outcome_law.proofs.Scans.{has_less}
 use Rattle.outcome_law.proofs.Table.{ends_with, is_opening_got}
 use Rattle.outcome_law.proofs.Keeping.{Keeps, keeps_before}
 use Rattle.outcome_law.proofs.Crossed.{came, is_got_on, is_sent_on, same_conn_is, was_sent}
-use Rattle.outcome_law.proofs.Leading.{is_single, none_again}
+use Rattle.outcome_law.proofs.Leading.{is_single, none_again, next_stands}
 use Rattle.outcome_law.proofs.CoreKnown.{sent_opened_there}
 use Rattle.outcome_law.proofs.StillBlocks.{Still, is_still, is_welcome, st_act, st_appended, st_called, st_cons, st_core_got, st_ended_at, st_freed, st_if, st_local_got, st_none, st_one, st_reply, st_restarted, st_to}
 
@@ -206,10 +205,6 @@ o_up g true true ms i = i
 o_cut : (g s : Bool) (n : ℕ) (ms : List Message) → IsOnce g ms → IsOnce g (if s then take n ms else ms)
 o_cut g false n ms i = i
 o_cut g true n ms i = record { none = λ t. taken_none n ms (i.none t); one = taken_one n ms i.one }
-
-next_stands : (p : Message → Bool) (m : Message) (ms : List Message) → is_next m ms → p m ≡ true → has p ms ≡ true
-next_stands p m [] n t = absurd n
-next_stands p m (x ∷ ms) n t = let P : Message → Type 0 = λ y. (p y || has p ms) ≡ true in subst P n (or_left (p m) (has p ms) t)
 
 -- directly after the message that opened the connection nothing was sent downward on it
 no : false ≡ true → ⊥

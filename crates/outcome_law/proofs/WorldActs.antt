@@ -1,6 +1,6 @@
 -- The local act keeps the table, promoted or not.
 use Rattle.std.proofs.Common.{◌≡◌, ℕ, ◌+◌, ◌==◌, Bool, true, false, ◌&&◌, ◌||◌, List, [], ◌∷◌, ◌++◌, Option, Some, None, refl, ◌∙◌, ap, sym, arith}
-use Rattle.std.specs.Prelude.{filter, find, is_some, length, not, if◌then◌else◌}
+use Rattle.std.specs.Prelude.{find, is_some, length, not, if◌then◌else◌}
 use Rattle.std.specs.List.{slice_get}
 use Rattle.std.proofs.lemmas.Bool.{false_from_ne_true, or_left}
 use Rattle.std.proofs.lemmas.Bool.Decides.{nat_tests}
@@ -26,7 +26,7 @@ use Rattle.dtx_values.specs.Row.{is_marked}
 use Rattle.dtx_values.specs.Waves.{all_voted, hears, is_over, may_be_asked, name_of, next_ask, zeros_voted}
 use Rattle.dtx_model.specs.declared.listener.Listener.{Listener}
 use Rattle.dtx_model.specs.Words.{all_of, each, has, latest, onto}
-use Rattle.dtx_model.specs.Entries.{clone_of, decision_of, handed_of, is_any_hand, is_asked, is_commit, is_decision, is_good_vote, is_promoted, is_sealed, is_vote, is_yes, same_outcome}
+use Rattle.dtx_model.specs.Entries.{clone_of, decision_of, handed_of, is_any_hand, is_asked, is_commit, is_decision, is_good_vote, is_promoted, is_sealed, is_vote, is_yes}
 use Rattle.dtx_model.specs.Observed.{clone_rows, ends_of, is_ask_single, listeners, observe, rows}
 use Rattle.dtx_model.specs.Outcome.{by_log, by_owner, by_seal, durables, enlisted, evidence, hears_doubt, is_complete, is_empty, ready, volatiles, voters}
 use Rattle.dtx_model.specs.Promotes.{is_promoting, is_under_way}
@@ -51,16 +51,11 @@ use Rattle.outcome_law.proofs.HalfOwner.{owner_none, owner_only}
 use Rattle.outcome_law.proofs.Deciding.{decide_decides, decide_keeps, decided_there, seen_half}
 use Rattle.outcome_law.proofs.Undecided.{Stands, decided_stand, goes_on, is_willing, promotes_on, stand, way_unsealed}
 use Rattle.outcome_law.proofs.HalfReplies.{to_up_stands}
+use Rattle.outcome_law.proofs.Acts.{same_self, close_step, shut_step, each_filter}
 
 -- the history doesn't end with a message on the connection of a reenlistment: what it brings is told in its block
 abbrev pub IsToldOn : List Entry → Type 0
 IsToldOn h = (e : ℕ) → ends_with (is_again e) h ≡ false
-
--- Telling.
-same_self : (x : Outcome) → same_outcome x x ≡ true
-same_self Committed = refl
-same_self Aborted = refl
-same_self InDoubt = refl
 
 told_on : (h : List Entry) (p : Party) → IsToldOn h → ends_again h p ≡ false
 told_on h Client t = refl
@@ -141,16 +136,6 @@ ask_or_stands h (Some e) over next k w f = stand (Asked e Prepare) h refl tt k w
 ask_or_stands h None true next k w f = f refl
 ask_or_stands h None false next k w f = k
 
--- The seal.
-close_step : (b x : Bool) → (not b || x) ≡ true → (b || x) ≡ true → x ≡ true
-close_step true x p q = p
-close_step false x p q = q
-
-shut_step : (b x : Bool) → (b && not x) ≡ false → (not b || x) ≡ true
-shut_step true true p = refl
-shut_step true false p = absurd cc
-shut_step false x p = refl
-
 closed_now : (c a : Bool) → (not c || a) ≡ true → c ≡ true → a ≡ true
 closed_now true a k e = k
 closed_now false a k e = absurd cc
@@ -230,16 +215,6 @@ voter_stands h ws ms k d s p = step (was_got Voter (tag_of VoterAsk) (ends_of h)
         ask_or_stands h (next_ask (rows h) false) (all_voted (rows h)) (yes_act (observe h)) k (next_well h false k.keeps d (commit_if_sealed h k.keeps s))
         (λ a. yes_stands h k d s p (ask_got h e) (well_now h k d a))
     step false e = k
-
--- where it isn't promoted: it is ready where all voted
-each_filter : {A : Type 0} (p q : A → Bool) (xs : List A) → each (λ x. not (p x) || q x) xs ≡ true → each q (filter p xs) ≡ true
-each_filter p q [] h = refl
-each_filter p q (x ∷ xs) h =
-    step q (p x) x (filter p xs) (and_left (not (p x) || q x) (each (λ x. not (p x) || q x) xs) h) (each_filter p q xs (and_right (not (p x) || q x) (each (λ x. not (p x) || q x) xs) h))
-  where
-    step : {A : Type 0} (q : A → Bool) (b : Bool) (x : A) (ys : List A) → (not b || q x) ≡ true → each q ys ≡ true → each q (if b then x ∷ ys else ys) ≡ true
-    step q true x ys h k = and_both (q x) (each q ys) h k
-    step q false x ys h k = k
 
 may_ready : (h : List Entry) → Stands h → has is_decision h ≡ false → has is_sealed h ≡ true → has is_promoted h ≡ false → all_voted (rows h) ≡ true → ready h ≡ true
 unfolding ready

@@ -32,7 +32,7 @@ use Rattle.dtx_model.proofs.Heeding.{core_behind}
 use Rattle.dtx_model.proofs.Reading.{has-onto}
 use Rattle.outcome_law.proofs.Crossed.{came}
 use Rattle.outcome_law.proofs.Scans.{each_more, has_more}
-use Rattle.outcome_law.proofs.Whole.{is_sent_on}
+use Rattle.outcome_law.proofs.Crossed.{is_sent_on}
 use Rattle.tx_world.specs.Carried.{are_sendable}
 use Rattle.tx_world.specs.Course.{is_far, is_near}
 use Rattle.tx_world.proofs.Blocks.{Each, e_cons, e_map, e_none, e_one}

@@ -44,7 +44,7 @@ use Rattle.tx_world.proofs.Written.{block_of, far_written, near_written, stopped
 use Rattle.dtx_model.proofs.Quiet.{is_lined, sent_has_line}
 use Rattle.dtx_model.proofs.Connections.{same_is, same_way_is}
 use Rattle.outcome_law.proofs.Crossed.{came}
-use Rattle.outcome_law.proofs.Whole.{is_sent_on}
+use Rattle.outcome_law.proofs.Crossed.{is_sent_on}
 
 -- the message is the first of those on the way
 pub next_first : (m : Message) (ms : List Message) → is_next m ms → (rest : List Message) × (ms ≡ m ∷ rest)
