@@ -62,7 +62,7 @@ use Rattle.dtx_model.proofs.Bools.{and_right, or_right}
 use Rattle.std.proofs.lemmas.Bool.{or_left}
 use Rattle.dtx_values.specs.declared.number.TxNo.{TxNo}
 use Rattle.dtx_values.specs.declared.script.Support.{Support}
-use Rattle.dtx_model.proofs.Writes.{ByAct, ByCall, ByMessage, ByReply, IsClosed, Source, answers, clones, is_giving, is_outcome_message, is_promotable_place, outcome_answers, writes}
+use Rattle.dtx_model.proofs.Writes.{ByAct, ByCall, ByMessage, ByReply, IsClosed, Source, answers, is_giving, is_outcome_message, is_promotable_place, outcome_answers, writes}
 
 -- what is found is there
 place_found : (e : ℕ) (ws : List Waiter) (v : Waiter) → find (is_place_of e) ws ≡ Some v → is_promotable_place v ≡ true → has is_promotable_place ws ≡ true
