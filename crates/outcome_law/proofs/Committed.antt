@@ -36,10 +36,10 @@ use Rattle.dtx_model.proofs.Connections.{same_is}
 use Rattle.outcome_law.proofs.Followed.{Demands, followed}
 use Rattle.outcome_law.proofs.Openings.{once_sent}
 use Rattle.outcome_law.proofs.Promoted.{climb, got_due, if_so, while_open}
-use Rattle.outcome_law.proofs.Unblamed.{fine_before, got_sent}
+use Rattle.outcome_law.proofs.Unblamed.{fine_before}
 use Rattle.outcome_law.proofs.Scans.{has_more}
 use Rattle.outcome_law.proofs.Rest.{IsQuiet, is_sound}
-use Rattle.outcome_law.proofs.Crossed.{is_sent_on, is_got_on}
+use Rattle.outcome_law.proofs.Crossed.{is_sent_on, is_got_on, got_sent}
 
 -- a history in which nothing is decided
 pub record IsOpen (h : List Entry) : Type 0 where

@@ -35,11 +35,12 @@ use Rattle.outcome_law.proofs.Scans.{has_more}
 use Rattle.outcome_law.proofs.Lists.{has-insert}
 use Rattle.outcome_law.proofs.Table.{is_enlist_got, is_opening_got, is_there, message_row, rule}
 use Rattle.outcome_law.proofs.Keeping.{Keeps, before, earlier, fifth_of_five, keeps_before, newest}
-use Rattle.outcome_law.proofs.Crossed.{got_sent, is_got_on, is_sent_on, same_conn_is, was_sent}
+use Rattle.outcome_law.proofs.Crossed.{got_sent, is_got_on, is_sent_on, was_sent}
 use Rattle.outcome_law.proofs.Sendings.{aborted_more, opened_promoting, own_info, record_of_mark, logged_record}
 use Rattle.outcome_law.proofs.Recording.{can_commit, if_record}
 use Rattle.outcome_law.proofs.Leading.{led_got, opening_came, opening_was_sent, sent_opens}
 use Rattle.outcome_law.proofs.CoreStages.{active_begun, active_open, commit_noted, desks_ready, has_recorded, is_backed, open_before, open_unaborted, open_unrecorded, record_stage, stop_seen, yes_noted, restart_open}
+use Rattle.dtx_model.proofs.Connections.{same_is}
 
 no : false ≡ true → ⊥
 no e = absurd cc
@@ -59,7 +60,7 @@ opens_begun : (c : Conn) → is_work c ≡ true → (x : Entry) (h : List Entry)
 opens_begun c w (Sent e Up m) h k r t =
     let s = and_left (same_connection c e) (is_opening e m) t in
     let P : Conn → Type 0 = λ y. is_work y ≡ true in
-    row_begun e m h (subst P (same_conn_is c e s) w) (and_right (same_connection c e) (is_opening e m) t)
+    row_begun e m h (subst P (same_is c e s) w) (and_right (same_connection c e) (is_opening e m) t)
     (fourth_of_four (has_line e Up m) (has is_promoting h) (is_there h e Up m) (message_row h e m) r)
 opens_begun c w (Sent e Down m) h k r t = absurd (no t)
 opens_begun c w _ h k r t = absurd (no t)
@@ -73,7 +74,7 @@ sent_there : (c : Conn) (p : Message → Bool) (x : Entry) (h : List Entry) → 
 sent_there c p (Sent e Down m) h k r t =
     let s = and_left (same_connection c e) true (and_left (same_connection c e && true) (p m) t) in
     let P : Conn → Type 0 = λ y. has (is_opening_got y) h ≡ true in
-    subst P (sym (same_conn_is c e s)) (third_of_four (has_line e Down m) (has is_promoting h) (has (is_opening_got e) h) (message_row h e m) r)
+    subst P (sym (same_is c e s)) (third_of_four (has_line e Down m) (has is_promoting h) (has (is_opening_got e) h) (message_row h e m) r)
 sent_there c p (Sent e Up m) h k r t = absurd (never (same_connection c e) (p m) t)
   where
     never : (a b : Bool) → (a && false && b) ≡ true → ⊥

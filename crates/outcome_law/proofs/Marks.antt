@@ -32,7 +32,7 @@ use Rattle.outcome_law.proofs.Scans.{has_more}
 use Rattle.outcome_law.proofs.Rule.{is_cloned}
 use Rattle.outcome_law.proofs.Table.{is_there, message_row, rule, stands_promotable}
 use Rattle.outcome_law.proofs.Keeping.{Keeps, before, keeps_before, newest}
-use Rattle.outcome_law.proofs.Crossed.{is_got_on, same_conn_is, was_sent}
+use Rattle.outcome_law.proofs.Crossed.{is_got_on, was_sent}
 use Rattle.outcome_law.proofs.Tests.{fourth_of_four}
 use Rattle.outcome_law.proofs.Standing.{opened_if_got}
 use Rattle.outcome_law.proofs.HalfHeard.{is_return}
@@ -41,6 +41,7 @@ use Rattle.outcome_law.proofs.TameBlocks.{Tame, is_tame}
 use Rattle.outcome_law.proofs.Unlinked.{unknown_more}
 use Rattle.outcome_law.proofs.Handing.{keeps_within}
 use Rattle.outcome_law.proofs.Messages.{BEGIN}
+use Rattle.dtx_model.proofs.Connections.{same_is}
 
 -- a call that may come made this clone, and its line came
 pub record IsCloner (G : ℕ → ActorNo → Call → Type 0) (h : List Entry) (c : ℕ) : Type 0 where
@@ -103,7 +104,7 @@ enlist_new e _ h o r = absurd cc
 pub unopened_again : (e : EnlNo) (x : Entry) (h : List Entry) → Keeps (x ∷ h) → has (opens (Enl e)) h ≡ true → opens (Enl e) x ≡ false
 unopened_again e (Sent c Up m) h k o =
     false_from_ne_true (same_connection (Enl e) c && is_opening c m)
-    (λ t. let same : Enl e ≡ c = same_conn_is (Enl e) c (and_left (same_connection (Enl e) c) (is_opening c m) t) in
+    (λ t. let same : Enl e ≡ c = same_is (Enl e) c (and_left (same_connection (Enl e) c) (is_opening c m) t) in
     let P : Conn → Type 0 = λ d. (is_opening d m ≡ true) × (message_row h d m ≡ true) in
     let row = subst P (sym same) (and_right (same_connection (Enl e) c) (is_opening c m) t, fourth_of_four (has_line c Up m) (has is_promoting h) (is_there h c Up m) (message_row h c m) (newest (Sent c Up m) h k)) in
     not_both (has (opens (Enl e)) h) o (enlist_new e m h row.0 row.1))
@@ -207,7 +208,7 @@ return_marked G e h n m =
       single = m.single;
       back =
           λ f a. or_case (f.value == e.value) (has (is_return f.value) h)
-          (λ q. let same : Enl f ≡ Enl e = same_conn_is (Enl f) (Enl e) q in
+          (λ q. let same : Enl f ≡ Enl e = same_is (Enl f) (Enl e) q in
           let P : Conn → Type 0 = λ d. knows d (ends_of h) ≡ false in
           subst P (sym same) n) (λ q. m.back f q) a;
       cloned = λ c a. cloner_more G h c (Reenlisted e) (m.cloned c a);

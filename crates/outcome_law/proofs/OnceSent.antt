@@ -14,8 +14,9 @@ use Rattle.dtx_model.specs.Words.{always, has}
 use Rattle.dtx_model.specs.Wires.{MayCross, WireRun, in_transit, is_next, is_open_wire, is_stopped, kept, opened_with, opens, sent_behind, transit_after_stop, without_first}
 use Rattle.dtx_model.proofs.Bools.{and_left, and_right, not_both, not_false, not_true, or_case, or_false}
 use Rattle.outcome_law.proofs.Lists.{has-behind}
-use Rattle.outcome_law.proofs.Crossed.{came, is_got_on, is_sent_on, same_conn_is, same_way_is, was_sent}
+use Rattle.outcome_law.proofs.Crossed.{came, is_got_on, is_sent_on, was_sent}
 use Rattle.outcome_law.proofs.Leading.{opening_of, next_stands}
+use Rattle.dtx_model.proofs.Connections.{same_is, same_way_is}
 
 -- none that passes was sent there before
 abbrev pub is_first_sent : Conn → Dir → (Message → Bool) → List Entry → Entry → Bool
@@ -172,7 +173,7 @@ got_once c d p f (Got e r m ∷ h) w a =
     o_got p (has (is_got_on c d p) h) (same_connection c e) (same_direction d r) (has_line e r m) m (in_transit c d h)
     (λ s b. let N : Conn → Type 0 = λ y. is_next m (in_transit y d h) in
     let D : Dir → Type 0 = λ y. is_next m (in_transit e y h) in
-    subst N (sym (same_conn_is c e s)) (subst D (sym (same_way_is d r b)) w.0)) (got_once c d p f h w.1 a)
+    subst N (sym (same_is c e s)) (subst D (sym (same_way_is d r b)) w.0)) (got_once c d p f h w.1 a)
 got_once c d p f (Cut e u v ∷ h) w a = o_cut p (has (is_got_on c d p) h) (same_connection c e) (kept d u v) (in_transit c d h) (got_once c d p f h w.1 a)
 got_once c d p f (Stopped ∷ h) w a = o_stop p (has (is_got_on c d p) h) d (in_transit c d h) (got_once c d p f h w.1 a)
 got_once c d p f (x ∷ h) w a = got_once c d p f h w.1 a

@@ -16,9 +16,9 @@ use Rattle.dtx_model.proofs.Bools.{and_left, and_right, and_both, or_case, or_fa
 use Rattle.outcome_law.proofs.Whole.{is_whole, whole}
 use Rattle.outcome_law.proofs.Arrived.{before, newest, on_way, opens_same, sent_rule, unopened, unstopped}
 use Rattle.dtx_model.proofs.Connections.{same_is}
-use Rattle.outcome_law.proofs.Unblamed.{came, got_sent, no_end}
+use Rattle.outcome_law.proofs.Unblamed.{no_end}
 use Rattle.outcome_law.proofs.Scans.{has_more}
-use Rattle.outcome_law.proofs.Crossed.{is_sent_on, is_got_on}
+use Rattle.outcome_law.proofs.Crossed.{is_sent_on, is_got_on, came, got_sent}
 
 -- what was got was sent, and a connection on which something was sent was opened
 pub once_sent : (c : Conn) (d : Dir) (p : Message → Bool) (h : List Entry) → WireRun h → has (is_got_on c d p) h ≡ true → has (is_sent_on c d p) h ≡ true

@@ -24,10 +24,10 @@ use Rattle.outcome_law.proofs.Debts.{created_next, enlisted_next, is_going_up, w
 use Rattle.outcome_law.proofs.Arrived.{arrived}
 use Rattle.dtx_model.proofs.Connections.{same_is, same_self, same_way_is}
 use Rattle.outcome_law.proofs.Followed.{Demands, followed}
-use Rattle.outcome_law.proofs.Unblamed.{fine_before, got_sent}
+use Rattle.outcome_law.proofs.Unblamed.{fine_before}
 use Rattle.outcome_law.proofs.Scans.{has_less}
 use Rattle.outcome_law.proofs.Rest.{is_after_start, IsQuiet}
-use Rattle.outcome_law.proofs.Crossed.{is_sent_on, is_got_on}
+use Rattle.outcome_law.proofs.Crossed.{is_sent_on, is_got_on, got_sent}
 
 -- a history in which nothing is decided, and o is the handover of its promotion
 pub record IsRising (o : Option EnlNo) (h : List Entry) : Type 0 where

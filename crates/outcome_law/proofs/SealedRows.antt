@@ -47,7 +47,7 @@ use Rattle.outcome_law.proofs.HalfRows.{sealed_if_commit, volatile_stands}
 use Rattle.outcome_law.proofs.Deciding.{stays}
 use Rattle.outcome_law.proofs.Table.{ask_row, ends_with, is_opening_got, is_prepare_got, is_there, message_row, rule, stands_volatile}
 use Rattle.outcome_law.proofs.Keeping.{Keeps, earlier, keeps_before, newest}
-use Rattle.outcome_law.proofs.Crossed.{got_sent, is_got_on, is_sent_on, same_conn_is, was_sent}
+use Rattle.outcome_law.proofs.Crossed.{got_sent, is_got_on, is_sent_on, was_sent}
 use Rattle.outcome_law.proofs.CoreKnown.{sent_opened_there}
 use Rattle.outcome_law.proofs.Leading.{opening_was_sent}
 use Rattle.outcome_law.proofs.Standing.{ends_has}
@@ -61,6 +61,7 @@ use Rattle.outcome_law.proofs.QuietBlocks.{ActKind, act_kind, is_quiet, q_called
 use Rattle.dtx_model.proofs.Quiet.{takes_next}
 use Rattle.outcome_law.proofs.Handing.{keeps_within}
 use Rattle.outcome_law.proofs.Recorded.{not_up}
+use Rattle.dtx_model.proofs.Connections.{same_is}
 
 -- whose ENLISTED was got stands, while nothing is decided
 abbrev pub IsJoined : List Entry → Type 0
@@ -196,7 +197,7 @@ enlisted_joins t w e k n c j = λ d f g.
 
     own : (f : EnlNo) → has is_decision w.past ≡ false → has (is_got_on (Enl f) Down ENLISTED) w.past ≡ false → (f.value == e.value) ≡ true → has (is_enlisted f.value) (onto (Got (Enl e) Down EnlistEnlisted ∷ w.past) block) ≡ true
     own f u b q =
-        let same : Enl f ≡ Enl e = same_conn_is (Enl f) (Enl e) q in
+        let same : Enl f ≡ Enl e = same_is (Enl f) (Enl e) q in
         let P : Conn → Type 0 = λ z. has (is_got_on z Down ENLISTED) w.past ≡ false in
         let coming = c u e (enlist_was_sent e w.past k n) (subst P same b) in
         let N : ℕ → Type 0 = λ m. has (is_enlisted m) (onto (Got (Enl e) Down EnlistEnlisted ∷ w.past) block) ≡ true in
@@ -362,7 +363,7 @@ ran_well G t (m ∷ ms) w r k =
 -- where PREPARE is sent, COMMIT was got, and ENLIST on its connection
 prepare_after : (e : EnlNo) (x : Entry) (h : List Entry) → Keeps h → rule h x ≡ true → is_sent_on (Enl e) Down PREPARE x ≡ true → (has is_commit_got h && has (is_opening_got (Enl e)) h) ≡ true
 prepare_after e (Sent c Down EnlistPrepare) h k r t =
-    let same : Enl e ≡ c = same_conn_is (Enl e) c (and_left (same_connection (Enl e) c) true (and_left (same_connection (Enl e) c && true) true t)) in
+    let same : Enl e ≡ c = same_is (Enl e) c (and_left (same_connection (Enl e) c) true (and_left (same_connection (Enl e) c && true) true t)) in
     let P : Conn → Type 0 = λ z. has (is_opening_got z) h ≡ true in
     and_both (has is_commit_got h) (has (is_opening_got (Enl e)) h)
     (fourth_of_four (has_line c Down EnlistPrepare) (has is_promoting h) (is_there h c Down EnlistPrepare) (message_row h c EnlistPrepare) r)

@@ -28,8 +28,9 @@ use Rattle.outcome_law.proofs.Tests.{first_of_four, second_of_four, fourth_of_fo
 use Rattle.outcome_law.proofs.Scans.{has_more}
 use Rattle.outcome_law.proofs.Table.{is_cast, is_there, message_row, rule}
 use Rattle.outcome_law.proofs.Keeping.{Keeps, before, earlier, keeps_before}
-use Rattle.outcome_law.proofs.Crossed.{end_opened, got_sent, is_got_on, is_sent_on, same_conn_is, same_way_is, was_sent}
+use Rattle.outcome_law.proofs.Crossed.{end_opened, got_sent, is_got_on, is_sent_on, was_sent}
 use Rattle.outcome_law.proofs.Messages.{COMMIT, PREPARE, YES, VOTED}
+use Rattle.dtx_model.proofs.Connections.{same_is, same_way_is}
 
 -- What is sent has a line there, and keeps its row.
 pub sent_row : (c : Conn) (d : Dir) (p : Message → Bool) (Q : List Entry → Bool)
@@ -37,7 +38,7 @@ pub sent_row : (c : Conn) (d : Dir) (p : Message → Bool) (Q : List Entry → B
     → (x : Entry) (h : List Entry) → Keeps h → rule h x ≡ true → is_sent_on c d p x ≡ true → Q h ≡ true
 sent_row c d p Q f (Sent e r m) h k q t =
     let both = and_left (same_connection c e && same_direction d r) (p m) t in
-    let conn : c ≡ e = same_conn_is c e (and_left (same_connection c e) (same_direction d r) both) in
+    let conn : c ≡ e = same_is c e (and_left (same_connection c e) (same_direction d r) both) in
     let way : d ≡ r = same_way_is d r (and_right (same_connection c e) (same_direction d r) both) in
     let line : has_line e r m ≡ true = first_of_four (has_line e r m) (has is_promoting h) (is_there h e r m) (message_row h e m) q in
     let row : message_row h e m ≡ true = fourth_of_four (has_line e r m) (has is_promoting h) (is_there h e r m) (message_row h e m) q in

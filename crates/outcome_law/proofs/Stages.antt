@@ -25,9 +25,9 @@ use Rattle.outcome_law.proofs.Rest.{is_sound, is_ordered, is_begun}
 use Rattle.outcome_law.proofs.Arrived.{newest}
 use Rattle.dtx_model.proofs.Connections.{same_is}
 use Rattle.outcome_law.proofs.Openings.{once_sent, opening_first}
-use Rattle.outcome_law.proofs.Unblamed.{fine_before, got_sent, unrestarted}
+use Rattle.outcome_law.proofs.Unblamed.{fine_before, unrestarted}
 use Rattle.outcome_law.proofs.CoreKnown.{is_work}
-use Rattle.outcome_law.proofs.Crossed.{is_sent_on, is_got_on}
+use Rattle.outcome_law.proofs.Crossed.{is_sent_on, is_got_on, got_sent}
 
 -- where something that passes p stands, Q holds, if by the row it holds before each such entry, and stays
 pub earlier : (row : List Entry → Entry → Bool) (p : Entry → Bool) (Q : List Entry → Bool) → ((x : Entry) (h : List Entry) → Q h ≡ true → Q (x ∷ h) ≡ true)

@@ -35,7 +35,7 @@ use Rattle.outcome_law.proofs.Scans.{each_more, has_more}
 use Rattle.outcome_law.proofs.Crossed.{is_sent_on}
 use Rattle.tx_world.specs.Carried.{are_sendable}
 use Rattle.tx_world.specs.Course.{is_far, is_near}
-use Rattle.tx_world.proofs.Blocks.{Each, e_cons, e_map, e_none, e_one}
+use Rattle.dtx_model.proofs.Writes.{Each, e_cons, e_map, e_none, e_one}
 use Rattle.tx_world.proofs.Far.{far_core_down, far_core_got}
 use Rattle.tx_world.proofs.Near.{near_act, near_facts, near_gone, near_local_down, near_local_got, near_reenlist, near_reply}
 use Rattle.tx_world.proofs.Onward.{ran_on}

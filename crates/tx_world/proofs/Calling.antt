@@ -34,7 +34,7 @@ use Rattle.tx_world.specs.Course.{is_near}
 use Rattle.tx_world.specs.Entering.{called_with, half_answer, half_facts, is_local, is_unlinked, local_call}
 use Rattle.tx_world.specs.Kept.{Kept}
 use Rattle.tx_world.specs.State.{may_enter}
-use Rattle.tx_world.proofs.Blocks.{Each, e_cons, e_none}
+use Rattle.dtx_model.proofs.Writes.{Each, e_cons, e_none}
 use Rattle.tx_world.proofs.Entering.{free_call, fresh_line, may_be_entered, once_more}
 use Rattle.tx_world.proofs.Near.{near_facts, near_gone}
 use Rattle.tx_world.proofs.Onward.{half_is, near_kept}

@@ -24,7 +24,7 @@ use Rattle.tx_world.specs.State.{may_enter, sends_begin}
 use Rattle.tx_world.proofs.Begun.{MayWrite, may_write}
 use Rattle.tx_world.specs.Course.{is_near}
 use Rattle.tx_world.specs.Kept.{Kept}
-use Rattle.tx_world.proofs.Blocks.{Each, e_cons, e_none}
+use Rattle.dtx_model.proofs.Writes.{Each, e_cons, e_none}
 use Rattle.tx_world.proofs.Entering.{fresh_line, may_be_entered, once_more}
 use Rattle.tx_world.proofs.Near.{near_facts}
 use Rattle.tx_world.proofs.Onward.{half_is, near_kept}

@@ -35,7 +35,7 @@ use Rattle.tx_world.specs.Carried.{are_sendable}
 use Rattle.tx_world.specs.Course.{Came, is_far, is_near, is_written, noted, rest_down, rest_up}
 use Rattle.tx_world.specs.Kept.{Kept}
 use Rattle.tx_world.proofs.Begun.{may_write}
-use Rattle.tx_world.proofs.Blocks.{Each, e_none}
+use Rattle.dtx_model.proofs.Writes.{Each, e_none}
 use Rattle.tx_world.proofs.Far.{far_core_down, far_core_got}
 use Rattle.tx_world.proofs.Few.{runs_few}
 use Rattle.tx_world.proofs.Near.{near_local_down, near_local_got}

@@ -1,5 +1,5 @@
 -- What the coordinator writes after a message, an end, or its act are its messages alone.
-use Rattle.std.proofs.Common.{ℕ, ◌&&◌, List, filter, refl}
+use Rattle.std.proofs.Common.{ℕ, ◌&&◌, List, filter, refl, [], ◌∷◌}
 use Rattle.dtx_values.specs.declared.entry.Entry.TheVariants.{Sent, Got, Down as Ended}
 use Rattle.dtx_values.specs.declared.message.Conn.{Conn}
 use Rattle.dtx_values.specs.declared.message.Conn.TheVariants.{Begin, Voter, Enl, Again}
@@ -11,17 +11,24 @@ use Rattle.dtx_model.specs.declared.desk.Desk.{Desk}
 use Rattle.dtx_model.specs.Words.{has}
 use Rattle.dtx_model.specs.Coordinated.{Coordinated, aborts, abort_sends, commit_sends, core_down, core_got, follow, has_aborted, is_active, is_early, is_prepared, is_recorded, is_undecided, opening_answer, still_hears, to, to_each, to_waiting}
 use Rattle.tx_world.specs.Course.{is_far}
-use Rattle.tx_world.proofs.Blocks.{Each, e_flat, e_if, e_join, e_none, e_one}
+use Rattle.dtx_model.proofs.Writes.{Each, e_if, e_join, e_none, e_one}
+use Rattle.std.specs.List.{flat_map}
+use Rattle.dtx_values.specs.declared.entry.Entry.{Entry}
+
+-- a block for each item
+far_flat : {A : Type 0} (f : A → List Entry) → ((a : A) → Each is_far (f a)) → (xs : List A) → Each is_far (flat_map f xs)
+far_flat f k [] = e_none
+far_flat f k (x ∷ xs) = e_join (k x) (far_flat f k xs)
 
 -- the coordinator's blocks
 far_to : (k : Coordinated) (c : Conn) (m : Message) → Each is_far (to k c m)
 far_to k c m = e_if (has (same_connection c) k.known) (e_one (Sent c Down m) refl) e_none
 
 far_each : (k : Coordinated) (m : Message) (ds : List Desk) → Each is_far (to_each k m ds)
-far_each k m ds = e_flat (λ d. to k (Enl d.enlistment) m) (λ d. far_to k (Enl d.enlistment) m) ds
+far_each k m ds = far_flat (λ d. to k (Enl d.enlistment) m) (λ d. far_to k (Enl d.enlistment) m) ds
 
 far_waiting : (k : Coordinated) (m : Message) → Each is_far (to_waiting k m)
-far_waiting k m = e_flat (λ e. to k (Again e) m) (λ e. far_to k (Again e) m) k.waits
+far_waiting k m = far_flat (λ e. to k (Again e) m) (λ e. far_to k (Again e) m) k.waits
 
 pub far_abort : (k : Coordinated) → Each is_far (abort_sends k)
 far_abort k =

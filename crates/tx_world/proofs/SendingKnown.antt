@@ -20,8 +20,8 @@ use Rattle.dtx_model.proofs.Bools.{and_both, and_left, and_never, and_right, not
 use Rattle.outcome_law.proofs.Lists.{has_kept, has-insert, if_kept}
 use Rattle.outcome_law.proofs.Owned.{has_filter}
 use Rattle.outcome_law.proofs.Scans.{has_more}
-use Rattle.dtx_model.proofs.Connections.{same_self}
-use Rattle.outcome_law.proofs.Crossed.{IsStill, end_still, nothing_up, no_end_up, same_conn_is, still_more, still_silent, stopped_down}
+use Rattle.dtx_model.proofs.Connections.{same_self, same_is}
+use Rattle.outcome_law.proofs.Crossed.{IsStill, end_still, nothing_up, no_end_up, still_more, still_silent, stopped_down}
 use Rattle.outcome_law.proofs.Leading.{opening_was_sent}
 use Rattle.outcome_law.proofs.Reenlisted.{opened_since}
 use Rattle.outcome_law.proofs.HalfKnows.{cause_seen}
@@ -79,9 +79,9 @@ end_known c e (n ∷ ns) k =
       where
         apart_by : is_end_of e n ≡ false → is_known c n ≡ true → same_connection c e ≡ false
         apart_by q t =
-            let at = same_conn_is c n.connection (and_left (is_end_of c n) (not n.ended) t) in
+            let at = same_is c n.connection (and_left (is_end_of c n) (not n.ended) t) in
             false_from_ne_true (same_connection c e)
-            (λ s. not_both (is_end_of e n) (let P : Conn → Type 0 = λ x. same_connection x n.connection ≡ true in subst P (same_conn_is c e s) (and_left (is_end_of c n) (not n.ended) t)) q)
+            (λ s. not_both (is_end_of e n) (let P : Conn → Type 0 = λ x. same_connection x n.connection ≡ true in subst P (same_is c e s) (and_left (is_end_of c n) (not n.ended) t)) q)
 
 stays_up : (c : Conn) (x : Entry) (h : List Entry) → opens c x ≡ false → ends c Down x ≡ false → can_send c Up h ≡ true → can_send c Up (x ∷ h) ≡ true
 stays_up c x h n m k = can_same c Up h x n m ∙ k
@@ -160,7 +160,7 @@ ended_still c (x ∷ h) w k = step (λ t. ended_still c h w.1 t) (opens c x) ref
 
     here : (x : Entry) → WireRun (x ∷ h) → ends c Up x ≡ true → IsStill c Up (x ∷ h)
     here (Ended e Up) w t =
-        let P : Conn → Type 0 = λ y. IsStill y Up (Ended e Up ∷ h) in subst P (sym (same_conn_is c e (and_left (same_connection c e) true t))) (end_still e Up h w.0)
+        let P : Conn → Type 0 = λ y. IsStill y Up (Ended e Up ∷ h) in subst P (sym (same_is c e (and_left (same_connection c e) true t))) (end_still e Up h w.0)
     here (Ended e Down) w t = absurd (not_both (same_connection c e && false) t (and_never (same_connection c e)))
     here (Got e Up m) w t =
         lost e m (and_left (same_connection c e) true (and_left (same_connection c e && true) (not (has_line e Up m)) t)) (not_true (has_line e Up m) (and_right (same_connection c e && true) (not (has_line e Up m)) t))
@@ -191,7 +191,7 @@ stays_down c x h n m k = can_same c Down h x n m ∙ k
 known_without : (c e : Conn) (cs : List Conn) → has (same_connection c) (without e cs) ≡ true → (same_connection c e ≡ false) × (has (same_connection c) cs ≡ true)
 known_without c e cs k =
     let t = sym (has_filter (same_connection c) (λ d. not (same_connection e d)) cs) ∙ k in (
-      false_from_ne_true (same_connection c e) (λ s. not_both (has (λ d. same_connection c d && not (same_connection e d)) cs) t (none (same_conn_is c e s) cs)),
+      false_from_ne_true (same_connection c e) (λ s. not_both (has (λ d. same_connection c d && not (same_connection e d)) cs) t (none (same_is c e s) cs)),
       has_more (λ d. same_connection c d && not (same_connection e d)) (same_connection c) (λ d a. and_left (same_connection c d) (not (same_connection e d)) a) cs t,
     )
   where
@@ -240,7 +240,7 @@ known_down c (Got e Up m ∷ h) w k = step (λ t. known_down c h w.1 t) (has_lin
     step ih true false p q k = stays_down c (Got e Up m) h refl (lined (same_connection c e) (has_line e Up m) p) (ih k)
     step ih true true p q k =
         or_case (same_connection c e) (has (same_connection c) (without e (coordinate h).known))
-        (λ s. let P : Conn → Type 0 = λ y. can_send y Down (Got e Up m ∷ h) ≡ true in subst P (sym (same_conn_is c e s)) (come_down e m h w q p))
+        (λ s. let P : Conn → Type 0 = λ y. can_send y Down (Got e Up m ∷ h) ≡ true in subst P (sym (same_is c e s)) (come_down e m h w q p))
         (λ t. let u = known_without c e (coordinate h).known t in stays_down c (Got e Up m) h refl (not_same (same_connection c e) (not (has_line e Up m)) u.0) (ih u.1))
         (sym (has-insert (same_connection c) order_of e (without e (coordinate h).known)) ∙ k)
 known_down c (Ended e Up ∷ h) w k =
