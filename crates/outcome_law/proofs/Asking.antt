@@ -79,7 +79,7 @@ pub record IsAsking (h : List Entry) : Type 0 where
   pub asks : (e : EnlNo) → always (is_first_sent (Enl e) Down PREPARE) h ≡ true
 
 -- an entry that sends neither keeps it
-bare_uncommit : (x : Entry) → is_bare x ≡ true → is_commit_sent x ≡ false
+pub bare_uncommit : (x : Entry) → is_bare x ≡ true → is_commit_sent x ≡ false
 bare_uncommit (Sent c Up m) t = ap (λ b. same_connection Begin c && true && b) (not_true (COMMIT m) t) ∙ and_never (same_connection Begin c && true)
 bare_uncommit (Sent c Down m) t = down (same_connection Begin c) (COMMIT m)
   where

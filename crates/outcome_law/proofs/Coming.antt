@@ -122,7 +122,7 @@ managed_coming ks t h e (m ∷ ms) c j = step (e.value == m.0.value) (managed_co
     step false k = k
 
 -- two calls that wait at one line wait for the same
-same_wants : (G : ℕ → ActorNo → Call → Type 0) (ks : List EnteredCall) (h : List Entry) (n m : ℕ) (v w : Wanted) → IsWaiter G ks h (n, v) → IsWaiter G ks h (m, w) → n ≡ m → v ≡ w
+pub same_wants : (G : ℕ → ActorNo → Call → Type 0) (ks : List EnteredCall) (h : List Entry) (n m : ℕ) (v w : Wanted) → IsWaiter G ks h (n, v) → IsWaiter G ks h (m, w) → n ≡ m → v ≡ w
 same_wants G ks h n m v w a b e =
     let both : Some a.call ≡ Some b.call = sym a.entered ∙ ap (call_at ks) e ∙ b.entered in
     let same : a.call ≡ b.call = cc in

@@ -18,7 +18,7 @@ use Rattle.dtx_model.specs.Promotes.{identifier_of}
 use Rattle.dtx_model.specs.Coordinated.{Coordinated, aborts, abort_sends, commit_sends, core_down, core_got, follow, has_aborted, is_active, is_early, is_prepared, is_recorded, is_undecided, may_log, opening_answer, still_hears, to, to_each, to_waiting}
 use Rattle.dtx_model.specs.World.{World, core}
 use Rattle.dtx_model.specs.Steps.{LogAnswer, Done, Full, StoppedNow, StoppedBefore, appended, coordinates, freed, restarted, delivered, block_at, after, Step, Coordinates, Delivers, Stops, Restarts}
-use Rattle.dtx_model.proofs.Bools.{and_left, and_right}
+use Rattle.dtx_model.proofs.Bools.{and_left, and_right, and_both}
 use Rattle.dtx_model.specs.Tied.{tied}
 use Rattle.dtx_model.specs.Wires.{in_transit, WireRun}
 use Rattle.dtx_model.specs.Caused.{MayCome}
@@ -64,15 +64,11 @@ going_onto h [] o = refl
 going_onto h (x ∷ es) o =
     going_onto (x ∷ h) es (record { proof = and_right (is_own x) (each is_own es) o.proof }) ∙ going_more x h (and_left (is_own x) (each is_own es) o.proof)
 
-both : (a b : Bool) → a ≡ true → b ≡ true → (a && b) ≡ true
-both true b p q = q
-both false b p q = absurd cc
-
 own_none : Own []
 own_none = record { proof = refl }
 
 own_cons : (x : Entry) {es : List Entry} → is_own x ≡ true → Own es → Own (x ∷ es)
-own_cons x {es} p q = record { proof = both (is_own x) (each is_own es) p q.proof }
+own_cons x {es} p q = record { proof = and_both (is_own x) (each is_own es) p q.proof }
 
 own_one : (x : Entry) → is_own x ≡ true → Own (x ∷ [])
 own_one x p = own_cons x p own_none
@@ -82,7 +78,7 @@ own_if true p q = p
 own_if false p q = q
 
 own_join : {x y : List Entry} → Own x → Own y → Own (x ++ y)
-own_join {x} {y} p q = record { proof = list_all-append is_own x y ∙ both (each is_own x) (each is_own y) p.proof q.proof }
+own_join {x} {y} p q = record { proof = list_all-append is_own x y ∙ and_both (each is_own x) (each is_own y) p.proof q.proof }
 
 own_flat : {A : Type 0} (f : A → List Entry) → ((a : A) → Own (f a)) → (xs : List A) → Own (flat_map f xs)
 own_flat f p [] = own_none

@@ -137,7 +137,7 @@ end_opened c d h w =
     since_opened c h (holds_some (lost_since c h) (and_left (is_lost_wire c h) (is_empty (in_transit c d h)) (and_left (is_lost_wire c h && is_empty (in_transit c d h)) (not (is_ended c d h)) w)))
 
 -- Nothing more is on the way where nothing was, and the connection isn't open nor opened so that something is.
-none_taken : (n : ℕ) (ms : List Message) → ms ≡ [] → take n ms ≡ []
+pub none_taken : (n : ℕ) (ms : List Message) → ms ≡ [] → take n ms ≡ []
 none_taken zero ms e = refl
 none_taken (suc n) [] e = refl
 none_taken (suc n) (m ∷ ms) e = absurd cc

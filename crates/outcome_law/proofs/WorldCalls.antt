@@ -89,7 +89,7 @@ unopened : (h : List Entry) (e : EnlNo) → (not (has (is_enlisted e.value) h) &
 unopened h e w = not_true (has (opens (OnEnl e)) h) (and_right (not (has (is_enlisted e.value) h)) (not (has (opens (OnEnl e)) h)) w)
 
 -- a call was done where it was begun and nothing is decided
-done_behind : (l : Option ℕ) (d : Option Outcome) (a : Answer) → has_facts (if_begun l (unless_ended d a)) ≡ true → (d ≡ None) × (has_facts a ≡ true)
+pub done_behind : (l : Option ℕ) (d : Option Outcome) (a : Answer) → has_facts (if_begun l (unless_ended d a)) ≡ true → (d ≡ None) × (has_facts a ≡ true)
 done_behind None d a k = absurd cc
 done_behind (Some n) (Some x) a k = absurd cc
 done_behind (Some n) None a k = (refl, k)

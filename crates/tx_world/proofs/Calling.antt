@@ -207,7 +207,7 @@ near_half : (t : ℕ) (h : Half) (c : Call) (x : Answer) → Each is_near (half_
 near_half t h (Gone e) x = near_gone h e
 near_half t h c x = near_facts t h c x
 
-near_if : (b : Bool) {es : List Entry} → Each is_near es → Each is_near (facts_if b es)
+pub near_if : (b : Bool) {es : List Entry} → Each is_near es → Each is_near (facts_if b es)
 near_if true n = n
 near_if false n = e_none
 

@@ -1,5 +1,5 @@
 -- COMMIT is sent at most once after the seal and once on request; so where one is on the way, the coordinator got one at most.
-use Rattle.std.proofs.Common.{◌≡◌, ◌⊎◌, inl, inr, ℕ, suc, ◌+◌, ◌≤◌, Bool, true, false, ◌&&◌, ◌||◌, not, List, [], ◌∷◌, ◌++◌, Some, is_some, if◌then◌else◌, refl, sym, subst, ap, ◌∙◌, arith}
+use Rattle.std.proofs.Common.{◌≡◌, ◌⊎◌, inl, inr, ℕ, suc, ◌+◌, ◌≤◌, Bool, true, false, ◌&&◌, ◌||◌, not, List, [], ◌∷◌, ◌++◌, Some, is_some, if◌then◌else◌, refl, sym, subst, ap, arith}
 use Rattle.dtx_values.specs.declared.call.Call.{Call}
 use Rattle.dtx_values.specs.declared.entry.Entry.{Entry}
 use Rattle.dtx_values.specs.declared.entry.Entry.TheVariants.{Called, Down as Ended, Got, Requested, Sealed, Sent, Stopped}
@@ -28,19 +28,17 @@ use Rattle.dtx_model.specs.Steps.{Step, Calls, Replies, Acts, Coordinates, Deliv
 use Rattle.dtx_model.specs.Wires.{WireRun, in_transit}
 use Rattle.dtx_model.specs.Words.{each, has, onto}
 use Rattle.dtx_model.specs.World.{World, answer_at, core, facts_at, half}
-use Rattle.dtx_model.proofs.Bools.{and_both, and_left, and_never, and_right, not_true}
+use Rattle.dtx_model.proofs.Bools.{and_both, and_left, and_right, not_true}
 use Rattle.outcome_law.proofs.BareBlocks.{Bare, Requests, Seals, act_kind, bare_appended, bare_called, bare_cons, bare_core_got, bare_ended_at, bare_freed, bare_if, bare_local_got, bare_one, bare_restarted, is_bare, reply_kind}
 use Rattle.outcome_law.proofs.Messages.{COMMIT}
-use Rattle.outcome_law.proofs.Crossed.{is_got_on, is_sent_on}
+use Rattle.outcome_law.proofs.Crossed.{is_got_on}
 use Rattle.outcome_law.proofs.InTransit.{no_more}
 use Rattle.tx_world.specs.Left.{commits}
 use Rattle.tx_world.proofs.LeftActs.{owed}
+use Rattle.outcome_law.proofs.Asking.{is_commit_sent, bare_uncommit}
 
 no : false ≡ true → ⊥
 no e = absurd cc
-
-abbrev is_commit_sent : Entry → Bool
-is_commit_sent x = is_sent_on Begin Up COMMIT x
 
 abbrev one_if : Bool → ℕ
 one_if b = if b then 1 else 0
@@ -68,15 +66,6 @@ quiets_few : (h es : List Entry) → each is_uncommit es ≡ true → AreFew h �
 quiets_few h [] q i = i
 quiets_few h (x ∷ es) q i =
     quiets_few (x ∷ h) es (and_right (is_uncommit x) (each is_uncommit es) q) (quiet_few x h (not_true (is_commit_sent x) (and_left (is_uncommit x) (each is_uncommit es) q)) i)
-
-bare_uncommit : (x : Entry) → is_bare x ≡ true → is_commit_sent x ≡ false
-bare_uncommit (Sent c Up m) t = ap (λ b. same_connection Begin c && true && b) (not_true (COMMIT m) t) ∙ and_never (same_connection Begin c && true)
-bare_uncommit (Sent c Down m) t = down (same_connection Begin c) (COMMIT m)
-  where
-    down : (a b : Bool) → (a && false && b) ≡ false
-    down true b = refl
-    down false b = refl
-bare_uncommit _ t = refl
 
 bare_few : (h es : List Entry) → Bare es → AreFew h → AreFew (onto h es)
 bare_few h [] b i = i

@@ -28,6 +28,7 @@ use Rattle.outcome_law.proofs.HalfKnows.{cause_seen}
 use Rattle.outcome_law.proofs.Table.{is_opening_got}
 use Rattle.tx_world.proofs.SendingApt.{can_same, can_send, ended_same}
 use Rattle.tx_world.proofs.SendingBlocks.{Hears, Speaks}
+use Rattle.outcome_law.proofs.Recorded.{not_up}
 
 no : false ≡ true → ⊥
 no e = absurd cc
@@ -86,10 +87,6 @@ end_known c e (n ∷ ns) k =
 stays_up : (c : Conn) (x : Entry) (h : List Entry) → opens c x ≡ false → ends c Down x ≡ false → can_send c Up h ≡ true → can_send c Up (x ∷ h) ≡ true
 stays_up c x h n m k = can_same c Up h x n m ∙ k
 
-never : (a b : Bool) → (a && false && b) ≡ false
-never true b = refl
-never false b = refl
-
 lined : (a b : Bool) → b ≡ true → (a && true && not b) ≡ false
 lined true true e = refl
 lined true false e = absurd cc
@@ -119,7 +116,7 @@ known_up c (Got e Down m ∷ h) k = step (λ t. known_up c h t) (has_line e Down
 known_up c (Ended e Down ∷ h) k =
     let w = end_known c e (ends_of h) k in
     stays_up c (Ended e Down) h refl (ap (λ b. b && true) w.0) (known_up c h w.1)
-known_up c (Got e Up m ∷ h) k = stays_up c (Got e Up m) h refl (never (same_connection c e) (not (has_line e Up m))) (known_up c h k)
+known_up c (Got e Up m ∷ h) k = stays_up c (Got e Up m) h refl (not_up (same_connection c e) (not (has_line e Up m))) (known_up c h k)
 known_up c (Ended e Up ∷ h) k = stays_up c (Ended e Up) h refl (and_never (same_connection c e)) (known_up c h k)
 known_up c (x ∷ h) k = stays_up c x h refl refl (known_up c h k)
 
@@ -164,7 +161,7 @@ ended_still c (x ∷ h) w k = step (λ t. ended_still c h w.1 t) (opens c x) ref
     here (Ended e Down) w t = absurd (not_both (same_connection c e && false) t (and_never (same_connection c e)))
     here (Got e Up m) w t =
         lost e m (and_left (same_connection c e) true (and_left (same_connection c e && true) (not (has_line e Up m)) t)) (not_true (has_line e Up m) (and_right (same_connection c e && true) (not (has_line e Up m)) t))
-    here (Got e Down m) w t = absurd (not_both (same_connection c e && false && not (has_line e Down m)) t (never (same_connection c e) (not (has_line e Down m))))
+    here (Got e Down m) w t = absurd (not_both (same_connection c e && false && not (has_line e Down m)) t (not_up (same_connection c e) (not (has_line e Down m))))
     here Stopped w t = (stopped_down c (Stopped ∷ h) refl).still
     here _ w t = absurd (no t)
 
@@ -253,7 +250,7 @@ known_down c (Sent e r m ∷ h) w k = step (known_down c h w.1 k) (opens c (Sent
         opened_down c (Sent e r m) h q
         (false_from_ne_true (is_stopped h) (λ s. not_both (has (same_connection c) (coordinate h).known) k (ap (has (same_connection c)) (stopped_empty h w.1 s))))
     step ih false q = stays_down c (Sent e r m) h q refl ih
-known_down c (Got e Down m ∷ h) w k = stays_down c (Got e Down m) h refl (never (same_connection c e) (not (has_line e Down m))) (known_down c h w.1 k)
+known_down c (Got e Down m ∷ h) w k = stays_down c (Got e Down m) h refl (not_up (same_connection c e) (not (has_line e Down m))) (known_down c h w.1 k)
 known_down c (Ended e Down ∷ h) w k = stays_down c (Ended e Down) h refl (and_never (same_connection c e)) (known_down c h w.1 k)
 known_down c (x ∷ h) w k = stays_down c x h refl refl (known_down c h w.1 k)
 
