@@ -62,7 +62,7 @@ use Rattle.dtx_model.proofs.Bools.{and_right, or_right}
 use Rattle.std.proofs.lemmas.Bool.{or_left}
 use Rattle.dtx_values.specs.declared.number.TxNo.{TxNo}
 use Rattle.dtx_values.specs.declared.script.Support.{Support}
-use Rattle.dtx_model.proofs.Writes.{ByAct, ByCall, ByMessage, ByReply, IsClosed, Source, answers, is_giving, is_outcome_message, is_promotable_place, outcome_answers, writes}
+use Rattle.dtx_model.proofs.Writes.{ByAct, ByCall, ByMessage, ByReply, IsClosed, Source, answers, is_giving, is_outcome_message, is_promotable_place, outcome_answers, writes, OfLists}
 
 -- what is found is there
 place_found : (e : ℕ) (ws : List Waiter) (v : Waiter) → find (is_place_of e) ws ≡ Some v → is_promotable_place v ≡ true → has is_promotable_place ws ≡ true
@@ -103,28 +103,28 @@ pub record OfKinds (h : Half) (Q P : List Entry → Type 0) : Type 0 where
   pub single : (e : EnlNo) → h.seen.decided ≡ None → h.seen.sealed ≡ true → h.seen.promoted ≡ true → promotable_in h.seen.table ≡ Some e → P (Asked e AskSingle ∷ [])
   pub seal : h.seen.decided ≡ None → h.seen.sealed ≡ false → (under_way h == 0) ≡ true → P (Sealed ∷ commit_sent h.seen)
 
-module _ {P : List Entry → Type 0} (w : IsClosed P) where
+-- The coordinator's blocks.
+module _ {P : List Entry → Type 0} (l : OfLists P) where
   holds_join : {x y : List Entry} → P x → P y → P (x ++ y)
-  holds_join {x} {y} p q = w.join x y p q
+  holds_join {x} {y} p q = l.join x y p q
 
   holds_cons : (x : Entry) {es : List Entry} → P (x ∷ []) → P es → P (x ∷ es)
-  holds_cons x {es} p q = w.join (x ∷ []) es p q
+  holds_cons x {es} p q = l.join (x ∷ []) es p q
 
   holds_if : (b : Bool) {x y : List Entry} → P x → P y → P (if b then x else y)
   holds_if true p q = p
   holds_if false p q = q
 
   holds_map : {A : Type 0} (f : A → Entry) → ((a : A) → P (f a ∷ [])) → (xs : List A) → P (map f xs)
-  holds_map f p [] = w.none
+  holds_map f p [] = l.none
   holds_map f p (x ∷ xs) = holds_cons (f x) (p x) (holds_map f p xs)
 
   holds_flat : {A : Type 0} (f : A → List Entry) → ((a : A) → P (f a)) → (xs : List A) → P (flat_map f xs)
-  holds_flat f p [] = w.none
+  holds_flat f p [] = l.none
   holds_flat f p (x ∷ xs) = holds_join (p x) (holds_flat f p xs)
 
-  -- The coordinator's blocks.
   pub of_to : (k : Coordinated) (c : Conn) (m : Message) → P (Sent c Down m ∷ []) → P (to k c m)
-  of_to k c m p = holds_if (has (same_connection c) k.known) p w.none
+  of_to k c m p = holds_if (has (same_connection c) k.known) p l.none
 
   of_each : (k : Coordinated) (m : Message) (ds : List Desk) → ((e : EnlNo) → P (Sent (Enl e) Down m ∷ [])) → P (to_each k m ds)
   of_each k m ds p = holds_flat (λ d. to k (Enl d.enlistment) m) (λ d. of_to k (Enl d.enlistment) m (p d.enlistment)) ds
@@ -145,7 +145,7 @@ module _ {P : List Entry → Type 0} (w : IsClosed P) where
   -- what it sends where it aborts, and where it recorded the commit
   pub of_abort_sends : (k : Coordinated) → ((c : Conn) (m : Message) → has_line c Down m ≡ true → is_outcome_message m ≡ true → P (Sent c Down m ∷ [])) → P (abort_sends k)
   of_abort_sends k f =
-      holds_join (holds_join (holds_join (of_to k Begin BeginAborted (f Begin BeginAborted refl refl)) (holds_if k.no w.none (of_to k Voter VoterAbort (f Voter VoterAbort refl refl))))
+      holds_join (holds_join (holds_join (of_to k Begin BeginAborted (f Begin BeginAborted refl refl)) (holds_if k.no l.none (of_to k Voter VoterAbort (f Voter VoterAbort refl refl))))
       (of_each k EnlistAbort (filter (λ d. still_hears d.ballot) k.desks) (λ e. f (Enl e) EnlistAbort refl refl))) (of_waiting k ReenlistAborted (λ e. f (Again e) ReenlistAborted refl refl))
 
   pub of_commit_sends : (k : Coordinated) → ((c : Conn) (m : Message) → has_line c Down m ≡ true → is_outcome_message m ≡ true → P (Sent c Down m ∷ [])) → P (commit_sends k)
@@ -164,65 +164,66 @@ module _ {P : List Entry → Type 0} (w : IsClosed P) where
       of_to (follow k (Got (Enl e) Up (EnlistEnlist i))) (Enl e) (opening_answer k EnlistEnlisted EnlistAbort EnlistRefused)
       (of_opening (Enl e) EnlistEnlisted EnlistAbort EnlistRefused (f (Enl e) EnlistEnlisted refl refl) (f (Enl e) EnlistAbort refl refl) (λ n. f (Enl e) (EnlistRefused n) refl refl) k.stage k.commit)
   of_core_got id k Begin BeginCommit f =
-      holds_if (is_active k.stage) (holds_join (of_to k Voter VoterAsk (f Voter VoterAsk refl refl)) (of_each k EnlistPrepare k.desks (λ e. f (Enl e) EnlistPrepare refl refl))) w.none
+      holds_if (is_active k.stage) (holds_join (of_to k Voter VoterAsk (f Voter VoterAsk refl refl)) (of_each k EnlistPrepare k.desks (λ e. f (Enl e) EnlistPrepare refl refl))) l.none
   of_core_got id k (Again e) (ReenlistReenlist i) f =
       holds_if (is_recorded k.stage) (of_to (follow k (Got (Again e) Up (ReenlistReenlist i))) (Again e) ReenlistCommitted (f (Again e) ReenlistCommitted refl refl))
-      (holds_if (has_aborted k.stage) (of_to (follow k (Got (Again e) Up (ReenlistReenlist i))) (Again e) ReenlistAborted (f (Again e) ReenlistAborted refl refl)) w.none)
-  of_core_got id k c m f = holds_if (aborts k (Got c Up m) && is_undecided k.stage) (of_abort_sends (follow k (Got c Up m)) (λ d n l a. f d n l (outcome_answers c m n a))) w.none
+      (holds_if (has_aborted k.stage) (of_to (follow k (Got (Again e) Up (ReenlistReenlist i))) (Again e) ReenlistAborted (f (Again e) ReenlistAborted refl refl)) l.none)
+  of_core_got id k c m f = holds_if (aborts k (Got c Up m) && is_undecided k.stage) (of_abort_sends (follow k (Got c Up m)) (λ d n t a. f d n t (outcome_answers c m n a))) l.none
 
   pub of_core_down : (k : Coordinated) (c : Conn) → ((d : Conn) (m : Message) → has_line d Down m ≡ true → is_outcome_message m ≡ true → P (Sent d Down m ∷ [])) → P (core_down k c)
   unfolding core_down
-  of_core_down k c f = holds_if (is_early k c && is_undecided k.stage) (of_abort_sends (follow k (Ended c Up)) f) w.none
+  of_core_down k c f = holds_if (is_early k c && is_undecided k.stage) (of_abort_sends (follow k (Ended c Up)) f) l.none
 
   -- its act, and its restart
   pub of_appended : (k : Coordinated) (a : LogAnswer) → ((c : Conn) (m : Message) → has_line c Down m ≡ true → is_outcome_message m ≡ true → P (Sent c Down m ∷ [])) → P (Logged ∷ []) → P (LogFull ∷ []) → P (Stopped ∷ [])
       → P (appended k a)
-  of_appended k Done f l n s = holds_cons Logged l (of_commit_sends (follow k Logged) f)
-  of_appended k Full f l n s = holds_cons LogFull n (of_abort_sends (follow k LogFull) f)
-  of_appended k StoppedNow f l n s = s
-  of_appended k StoppedBefore f l n s = s
+  of_appended k Done f g n s = holds_cons Logged g (of_commit_sends (follow k Logged) f)
+  of_appended k Full f g n s = holds_cons LogFull n (of_abort_sends (follow k LogFull) f)
+  of_appended k StoppedNow f g n s = s
+  of_appended k StoppedBefore f g n s = s
 
   pub of_freed : (a : LogAnswer) → P (Freed ∷ []) → P (Stopped ∷ []) → P (freed a)
   of_freed Done f s = f
-  of_freed Full f s = w.none
+  of_freed Full f s = l.none
   of_freed StoppedNow f s = s
   of_freed StoppedBefore f s = s
 
   pub of_coordinates : (k : Coordinated) (a : LogAnswer) → ((c : Conn) (m : Message) → has_line c Down m ≡ true → is_outcome_message m ≡ true → P (Sent c Down m ∷ [])) → P (Logged ∷ []) → P (LogFull ∷ []) → P (Freed ∷ [])
       → P (Stopped ∷ []) → P (coordinates k a)
-  of_coordinates k a f l n r s = holds_if (may_log k) (of_appended k a f l n s) (of_freed a r s)
+  of_coordinates k a f g n r s = holds_if (may_log k) (of_appended k a f g n s) (of_freed a r s)
 
   pub of_restarted : (b found : Bool) → P (Stopped ∷ []) → P (Restarted found ∷ []) → P (restarted b found)
   of_restarted true found s r = r
   of_restarted false found s r = holds_cons Stopped s r
 
+module _ {P : List Entry → Type 0} (w : IsClosed P) where
   -- What the local side writes in more than one of its steps.
   of_up : (o : Observed) (c : Conn) (m : Message) → P (Sent c Up m ∷ []) → P (to_up o c m)
-  of_up o c m p = holds_if (knows c o.ends) p w.none
+  of_up o c m p = holds_if w.lists (knows c o.ends) p w.lists.none
 
   of_message : (o : Observed) → P (veto_message o)
-  of_message o = holds_if (may_abort_by_begin o.ends) w.abort (holds_if (may_abort_by_voter o.ends) w.no w.none)
+  of_message o = holds_if w.lists (may_abort_by_begin o.ends) w.abort (holds_if w.lists (may_abort_by_voter o.ends) w.no w.lists.none)
 
   pub of_veto : (h : Half) → P (veto h)
   unfolding veto
-  of_veto h = holds_join (w.decides h Aborted) (of_message h.seen)
+  of_veto h = holds_join w.lists (w.decides h Aborted) (of_message h.seen)
 
   pub of_veto_if : (b : Bool) (h : Half) → P (veto_if b h)
   of_veto_if true h = of_veto h
-  of_veto_if false h = w.none
+  of_veto_if false h = w.lists.none
 
   pub of_unless : (h : Half) {es : List Entry} → P es → P (unless_decided h es)
-  of_unless h p = holds_if (is_some h.seen.decided) w.none p
+  of_unless h p = holds_if w.lists (is_some h.seen.decided) w.lists.none p
 
   -- after an end
   of_ended_there : (h : Half) → P (ended_there h)
-  of_ended_there h = holds_if (not h.seen.yes) (of_veto h) (holds_if (has_both_ends h.seen) (w.decides h InDoubt) w.none)
+  of_ended_there h = holds_if w.lists (not h.seen.yes) (of_veto h) (holds_if w.lists (has_both_ends h.seen) (w.decides h InDoubt) w.lists.none)
 
   of_ended : (h : Half) (c : Conn) → P (ended_by h c)
   of_ended h Begin = of_unless h (of_ended_there h)
   of_ended h Voter = of_unless h (of_ended_there h)
-  of_ended h (Enl e) = of_unless h (holds_if (h.seen.yes || voted e.value h.seen.table) w.none (of_veto h))
-  of_ended h (Again e) = w.none
+  of_ended h (Enl e) = of_unless h (holds_if w.lists (h.seen.yes || voted e.value h.seen.table) w.lists.none (of_veto h))
+  of_ended h (Again e) = w.lists.none
 
   pub of_local_down : (h : Half) (c : Conn) → P (local_down h c)
   unfolding local_down
@@ -235,15 +236,15 @@ module _ {P : List Entry → Type 0} (w : IsClosed P) where
 
   of_promoted : (t : ℕ) (c : Option Cause) → ((u : ℕ) (c : Cause) → P (Promoted u c ∷ [])) → P (promoted_by t c)
   of_promoted t (Some c) p = p (identifier_of t) c
-  of_promoted t None p = w.none
+  of_promoted t None p = w.lists.none
 
   of_over : (t : ℕ) (h : Half) (ws : List Waiter) (d : Conn) (m : Message) → is_giving d m ≡ true → ((x : Entry) → writes (ByMessage ws d m) x ≡ true → P (x ∷ [])) → P (over t h)
   of_over t h ws d m g f =
-      holds_join (of_promoted t h.seen.cause (λ u c. f (Promoted u c) g)) (holds_flat (given t) (λ v. of_given t v (λ n u. f (Answered n (Id u)) g) (λ e i. f (Sent (Enl e) Up (EnlistEnlist i)) g)) h.waits)
+      holds_join w.lists (of_promoted t h.seen.cause (λ u c. f (Promoted u c) g)) (holds_flat w.lists (given t) (λ v. of_given t v (λ n u. f (Answered n (Id u)) g) (λ e i. f (Sent (Enl e) Up (EnlistEnlist i)) g)) h.waits)
 
   of_manager : (f : EnlNo → RmNo → List Entry) → ((e : EnlNo) (r : RmNo) → P (f e r)) → (ms : List (EnlNo × RmNo)) (e : EnlNo) → P (by_manager f ms e)
-  of_manager f p [] e = w.none
-  of_manager f p (m ∷ ms) e = holds_if (e.value == m.0.value) (p e m.1) (of_manager f p ms e)
+  of_manager f p [] e = w.lists.none
+  of_manager f p (m ∷ ms) e = holds_if w.lists (e.value == m.0.value) (p e m.1) (of_manager f p ms e)
 
   of_hand_over : (t : ℕ) (h : Half) (ws : List Waiter) (d : Conn) (m : Message) → is_giving d m ≡ true → ((x : Entry) → writes (ByMessage ws d m) x ≡ true → P (x ∷ [])) → (o : Option EnlNo) → P (hand_over t h o)
   of_hand_over t h ws d m g f (Some e) = of_manager (enlist_sent t) (λ e r. f (Sent (Enl e) Up (EnlistEnlist (info t e r))) g) h.managers e
@@ -251,23 +252,23 @@ module _ {P : List Entry → Type 0} (w : IsClosed P) where
 
   of_placed : (ws : List Waiter) (e : EnlNo) → ((x : Entry) → writes (ByMessage ws (Enl e) EnlistEnlisted) x ≡ true → P (x ∷ [])) → (v : Option Waiter) → find (is_place_of e.value) ws ≡ v → P (place_given v)
   of_placed ws e f (Some (n, Place i r c)) q =
-      holds_cons (Enlisted i c) (f (Enlisted i c) (implied (is_promotable c) (has is_promotable_place ws) (λ t. place_found e.value ws (n, Place i r c) q t))) (f (Answered n Fine) refl)
-  of_placed ws e f (Some (n, Identifier)) q = w.none
-  of_placed ws e f None q = w.none
+      holds_cons w.lists (Enlisted i c) (f (Enlisted i c) (implied (is_promotable c) (has is_promotable_place ws) (λ t. place_found e.value ws (n, Place i r c) q t))) (f (Answered n Fine) refl)
+  of_placed ws e f (Some (n, Identifier)) q = w.lists.none
+  of_placed ws e f None q = w.lists.none
 
   of_told_abort : (h : Half) (e : EnlNo) → P (Told (Member e) Aborted ∷ []) → P (told_abort h e)
-  of_told_abort h e p = holds_if (stands h.seen e.value && not (was_told h.seen e.value) && not (is_gone h.seen e.value)) p w.none
+  of_told_abort h e p = holds_if w.lists (stands h.seen e.value && not (was_told h.seen e.value) && not (is_gone h.seen e.value)) p w.lists.none
 
   of_begin : (t : ℕ) (h : Half) (m : Message) → P (Sent Voter Up (VoterVoter (identifier_of t)) ∷ []) → P (begin_arrived t h m)
-  of_begin t h (BeginBegun u) p = holds_if (is_some h.seen.decided) (of_up h.seen Begin BeginAbort w.abort) (holds_if (is_promoting h.seen) p w.none)
+  of_begin t h (BeginBegun u) p = holds_if w.lists (is_some h.seen.decided) (of_up h.seen Begin BeginAbort w.abort) (holds_if w.lists (is_promoting h.seen) p w.lists.none)
   of_begin t h BeginCommitted p = of_unless h (w.decides h Committed)
   of_begin t h BeginAborted p = of_unless h (w.decides h Aborted)
   of_begin t h _ p = of_ended h Begin
 
   of_voter : (t : ℕ) (h : Half) (m : Message) → ((x : Entry) → writes (ByMessage h.waits Voter m) x ≡ true → P (x ∷ [])) → P (voter_arrived t h m)
-  of_voter t h VoterCreated f = of_unless h (holds_if (is_promoting h.seen) (of_hand_over t h h.waits Voter VoterCreated refl f h.seen.handover) w.none)
+  of_voter t h VoterCreated f = of_unless h (holds_if w.lists (is_promoting h.seen) (of_hand_over t h h.waits Voter VoterCreated refl f h.seen.handover) w.lists.none)
   of_voter t h (VoterRefused cause) f = of_unless h (of_veto h)
-  of_voter t h VoterAsk f = w.none
+  of_voter t h VoterAsk f = w.lists.none
   of_voter t h VoterCommit f = of_unless h (w.decides h Committed)
   of_voter t h VoterAbort f = of_unless h (w.decides h Aborted)
   of_voter t h _ f = of_ended h Voter
@@ -275,12 +276,12 @@ module _ {P : List Entry → Type 0} (w : IsClosed P) where
   of_enlist : (t : ℕ) (h : Half) (e : EnlNo) (m : Message) → ((x : Entry) → writes (ByMessage h.waits (Enl e) m) x ≡ true → P (x ∷ [])) → P (enlist_arrived t h e m)
   of_enlist t h e EnlistEnlisted f =
       of_unless h
-      (holds_if (is_promoting h.seen && is_handed h.seen.handover e.value) (of_over t h h.waits (Enl e) EnlistEnlisted refl f)
-      (holds_if h.seen.promoted (of_placed h.waits e f (find (is_place_of e.value) h.waits) refl) w.none))
+      (holds_if w.lists (is_promoting h.seen && is_handed h.seen.handover e.value) (of_over t h h.waits (Enl e) EnlistEnlisted refl f)
+      (holds_if w.lists h.seen.promoted (of_placed h.waits e f (find (is_place_of e.value) h.waits) refl) w.lists.none))
   of_enlist t h e (EnlistRefused cause) f = of_unless h (of_veto h)
   of_enlist t h e EnlistPrepare f = f (Asked e Prepare) refl
   of_enlist t h e EnlistCommit f = f (Told (Member e) Committed) refl
-  of_enlist t h e EnlistAbort f = holds_join (of_told_abort h e (f (Told (Member e) Aborted) refl)) (of_unless h (w.decides h Aborted))
+  of_enlist t h e EnlistAbort f = holds_join w.lists (of_told_abort h e (f (Told (Member e) Aborted) refl)) (of_unless h (w.decides h Aborted))
   of_enlist t h e _ f = of_ended h (Enl e)
 
   of_again : (h : Half) (e : EnlNo) (m : Message) → ((x : Entry) → writes (ByMessage h.waits (Again e) m) x ≡ true → P (x ∷ [])) → P (again_arrived h e m)
@@ -297,7 +298,7 @@ module _ {P : List Entry → Type 0} (w : IsClosed P) where
   -- The local act.
   pub of_tell : (x : Outcome) (l : Option Listener) (o : Option Outcome) → ((e : EnlNo) → P (Told (Member e) x ∷ [])) → P (Told Client x ∷ []) → P (tell x l o)
   of_tell x (Some l) o p q = p l.enlistment
-  of_tell x None (Some y) p q = w.none
+  of_tell x None (Some y) p q = w.lists.none
   of_tell x None None p q = q
 
   pub of_commit_act : (h : Half) (e : Option EnlNo) → ((e : EnlNo) → P (Handed e ∷ [])) → P (commit_act h e)
@@ -305,7 +306,7 @@ module _ {P : List Entry → Type 0} (w : IsClosed P) where
   of_commit_act h None p = w.decides h Committed
 
   pub of_commit_sent : (o : Observed) → P (Sent Begin Up BeginCommit ∷ []) → P (commit_sent o)
-  of_commit_sent o p = holds_if (o.promoted && not (is_some (promotable_in o.table))) (of_up o Begin BeginCommit p) w.none
+  of_commit_sent o p = holds_if w.lists (o.promoted && not (is_some (promotable_in o.table))) (of_up o Begin BeginCommit p) w.lists.none
 
   module _ (Q : List Entry → Type 0) (h : Half) (f : (x : Entry) → writes (ByAct (is_some h.seen.decided)) x ≡ true → P (x ∷ [])) (g : OfKinds h P Q) where
     of_after_seal : {es : List Entry} → P es → P (after_seal h es)
@@ -313,12 +314,12 @@ module _ {P : List Entry → Type 0} (w : IsClosed P) where
       where
         by : (e : Option EnlNo) → P (ask_or e (all_voted h.seen.table) es)
         by (Some e) = f (Asked e Prepare) refl
-        by None = holds_if (all_voted h.seen.table) p w.none
+        by None = holds_if w.lists (all_voted h.seen.table) p w.lists.none
 
     of_voter_act : P (voter_act h)
     of_voter_act =
-        holds_if (was_got Voter (tag_of VoterAsk) h.seen.ends)
-        (of_after_seal (holds_if h.seen.yes w.none (holds_cons LocalYes (f LocalYes refl) (of_up h.seen Voter VoterYes (f (Sent Voter Up VoterYes) refl))))) w.none
+        holds_if w.lists (was_got Voter (tag_of VoterAsk) h.seen.ends)
+        (of_after_seal (holds_if w.lists h.seen.yes w.lists.none (holds_cons w.lists LocalYes (f LocalYes refl) (of_up h.seen Voter VoterYes (f (Sent Voter Up VoterYes) refl))))) w.lists.none
 
     of_promoted_act : h.seen.decided ≡ None → h.seen.sealed ≡ true → h.seen.promoted ≡ true → (o : Option EnlNo) → promotable_in h.seen.table ≡ o → Q (promoted_act h o)
     of_promoted_act d s p None q = g.rest (voter_act h) of_voter_act
@@ -336,12 +337,12 @@ module _ {P : List Entry → Type 0} (w : IsClosed P) where
 
         by : (b : Bool) → h.seen.promoted ≡ b → Q (if b then promoted_act h (promotable_in h.seen.table) else local)
         by true p = of_promoted_act d s p (promotable_in h.seen.table) refl
-        by false p = g.rest local (of_after_seal (holds_if (is_some h.seen.handed) w.none (of_commit_act h (owner_of h.seen.table) (λ e. f (Handed e) refl))))
+        by false p = g.rest local (of_after_seal (holds_if w.lists (is_some h.seen.handed) w.lists.none (of_commit_act h (owner_of h.seen.table) (λ e. f (Handed e) refl))))
 
     of_zero_act : h.seen.decided ≡ None → h.seen.sealed ≡ false → (e : Option EnlNo) (o : Bool) → (o ≡ true → (under_way h == 0) ≡ true) → Q (ask_or e o (Sealed ∷ commit_sent h.seen))
     of_zero_act d s (Some e) o u = g.rest (Asked e Prepare ∷ []) (f (Asked e Prepare) refl)
     of_zero_act d s None true u = g.seal d s (u refl)
-    of_zero_act d s None false u = g.rest [] w.none
+    of_zero_act d s None false u = g.rest [] w.lists.none
 
     of_asked_act : h.seen.decided ≡ None → Q (asked_act h)
     of_asked_act d = by h.seen.sealed refl
@@ -359,7 +360,7 @@ module _ {P : List Entry → Type 0} (w : IsClosed P) where
       where
         by : (b : Bool) → Q (if b then asked_act h else [])
         by true = of_asked_act d
-        by false = g.rest [] w.none
+        by false = g.rest [] w.lists.none
 
     -- each kind
     pub of_act : Q (act_entries h)
@@ -376,15 +377,15 @@ module _ {P : List Entry → Type 0} (w : IsClosed P) where
   pub of_whole_act : (h : Half) → ((x : Entry) → writes (ByAct (is_some h.seen.decided)) x ≡ true → P (x ∷ [])) → ((e : EnlNo) → P (Asked e Promote ∷ [])) → ((e : EnlNo) → P (Asked e AskSingle ∷ [])) → P (Sealed ∷ [])
       → P (Sent Begin Up BeginCommit ∷ []) → P (act_entries h)
   of_whole_act h f p q s c =
-      of_act P h f (record { rest = λ es r. r; promote = λ e d a b. p e; single = λ e d a b i. q e; seal = λ d a b. holds_cons Sealed s (of_commit_sent h.seen c) })
+      of_act P h f (record { rest = λ es r. r; promote = λ e d a b. p e; single = λ e d a b i. q e; seal = λ d a b. holds_cons w.lists Sealed s (of_commit_sent h.seen c) })
 
   -- Replies. An acknowledgement is due on e or x alone.
   pub of_ack : (o : Observed) (c : Option Conn) → ((e : EnlNo) → P (Sent (Enl e) Up EnlistAck ∷ [])) → ((e : EnlNo) → P (Sent (Again e) Up ReenlistAck ∷ [])) → P (ack_on o c)
-  of_ack o (Some Begin) p q = w.none
-  of_ack o (Some Voter) p q = w.none
+  of_ack o (Some Begin) p q = w.lists.none
+  of_ack o (Some Voter) p q = w.lists.none
   of_ack o (Some (Enl e)) p q = of_up o (Enl e) EnlistAck (p e)
   of_ack o (Some (Again e)) p q = of_up o (Again e) ReenlistAck (q e)
-  of_ack o None p q = w.none
+  of_ack o None p q = w.lists.none
 
   of_vote_message : (s : Source) → ((x : Entry) → writes s x ≡ true → P (x ∷ [])) → (e : EnlNo) (v : Vote) → P (Sent (Enl e) Up (vote_message v) ∷ [])
   of_vote_message s f e Yes = f (Sent (Enl e) Up EnlistPrepared) refl
@@ -398,68 +399,68 @@ module _ {P : List Entry → Type 0} (w : IsClosed P) where
 
   of_owner : (h : Half) (e : EnlNo) (x : Outcome) (n : Option Note) → ((y : Entry) → writes (ByReply (OwnerReply x)) y ≡ true → P (y ∷ [])) → P (owner_entries h e x n)
   of_owner h e x (Some Single) f =
-      holds_cons (Requested e (request_of x)) (f (Requested e (request_of x)) refl) (of_up h.seen Begin (request_message x) (of_request_message (f (Sent Begin Up BeginCommit) refl) x))
-  of_owner h e x _ f = holds_cons (OwnerAnswered e x) (f (OwnerAnswered e x) refl) (w.decides h x)
+      holds_cons w.lists (Requested e (request_of x)) (f (Requested e (request_of x)) refl) (of_up h.seen Begin (request_message x) (of_request_message (f (Sent Begin Up BeginCommit) refl) x))
+  of_owner h e x _ f = holds_cons w.lists (OwnerAnswered e x) (f (OwnerAnswered e x) refl) (w.decides h x)
 
   of_promote : (h : Half) (e : EnlNo) (ok : Bool) → ((x : Entry) → writes (ByReply (Promotes ok)) x ≡ true → P (x ∷ [])) → P (promote_entries h e ok)
-  of_promote h e true f = holds_cons (PromoteReply e true) (f (PromoteReply e true) refl) (f (Sent Begin Up BeginBegin) refl)
-  of_promote h e false f = holds_cons (PromoteReply e false) (f (PromoteReply e false) refl) (of_veto (sees h (PromoteReply e false)))
+  of_promote h e true f = holds_cons w.lists (PromoteReply e true) (f (PromoteReply e true) refl) (f (Sent Begin Up BeginBegin) refl)
+  of_promote h e false f = holds_cons w.lists (PromoteReply e false) (f (PromoteReply e false) refl) (of_veto (sees h (PromoteReply e false)))
 
   pub of_reply : (h : Half) (e : EnlNo) (r : Reply) → ((x : Entry) → writes (ByReply r) x ≡ true → P (x ∷ [])) → P (reply_entries h e r)
   unfolding reply_entries
   of_reply h e (VoteReply v) f =
-      holds_cons (Voted e v) (f (Voted e v) refl)
-      (holds_if (is_volatile_row (sees h (Voted e v)).seen e.value) (of_veto_if (is_no v) (sees h (Voted e v)))
+      holds_cons w.lists (Voted e v) (f (Voted e v) refl)
+      (holds_if w.lists (is_volatile_row (sees h (Voted e v)).seen e.value) (of_veto_if (is_no v) (sees h (Voted e v)))
       (of_up (sees h (Voted e v)).seen (Enl e) (vote_message v) (of_vote_message (ByReply (VoteReply v)) f e v)))
   of_reply h e (Promotes ok) f = of_promote h e ok f
   of_reply h e (OwnerReply x) f = of_owner h e x (due_of h.seen e.value) f
-  of_reply h e Ack f = holds_cons (Acked e) (f (Acked e) refl) (of_ack h.seen (conn_due h.seen e.value) (λ e. f (Sent (Enl e) Up EnlistAck) refl) (λ e. f (Sent (Again e) Up ReenlistAck) refl))
+  of_reply h e Ack f = holds_cons w.lists (Acked e) (f (Acked e) refl) (of_ack h.seen (conn_due h.seen e.value) (λ e. f (Sent (Enl e) Up EnlistAck) refl) (λ e. f (Sent (Again e) Up ReenlistAck) refl))
 
   -- Calls.
   pub of_begin_promotion : (h : Half) (c : Option Cause) → ((c : Cause) → P (Promoting c ∷ [])) → P (Sent Begin Up BeginBegin ∷ []) → P (begin_promotion h c)
-  of_begin_promotion h (Some c) p q = holds_cons (Promoting c) (p c) (holds_if (has (λ x. is_promotable x.class) h.seen.table) w.none q)
-  of_begin_promotion h None p q = w.none
+  of_begin_promotion h (Some c) p q = holds_cons w.lists (Promoting c) (p c) (holds_if w.lists (has (λ x. is_promotable x.class) h.seen.table) w.lists.none q)
+  of_begin_promotion h None p q = w.lists.none
 
   of_durable : (t : ℕ) (h : Half) (u : TxNo) (e : EnlNo) (r : RmNo) (s : Support) (single : Bool) (a : Answer) → ((x : Entry) → writes (ByCall (Durable u e r s)) x ≡ true → P (x ∷ [])) → P (durable_facts t h e r single a)
   of_durable t h u e r s single Wait f =
-      holds_if h.seen.promoted (f (Sent (Enl e) Up (EnlistEnlist (info t e r))) refl)
-      (holds_if (is_promoting h.seen) w.none (of_begin_promotion h (cause_of h.seen.table single) (λ c. f (Promoting c) refl) (f (Sent Begin Up BeginBegin) refl)))
+      holds_if w.lists h.seen.promoted (f (Sent (Enl e) Up (EnlistEnlist (info t e r))) refl)
+      (holds_if w.lists (is_promoting h.seen) w.lists.none (of_begin_promotion h (cause_of h.seen.table single) (λ c. f (Promoting c) refl) (f (Sent Begin Up BeginBegin) refl)))
   of_durable t h u e r s single _ f = f (Enlisted e DurableSingle) refl
 
   of_time_up : (h : Half) → P (Late ∷ []) → P (TimedOut ∷ []) → P (time_up h)
-  of_time_up h p q = holds_if (is_late h.seen) p (holds_cons TimedOut q (of_veto h))
+  of_time_up h p q = holds_if w.lists (is_late h.seen) p (holds_cons w.lists TimedOut q (of_veto h))
 
   pub of_facts : (t : ℕ) (h : Half) (c : Call) (a : Answer) → ((x : Entry) → writes (ByCall c) x ≡ true → P (x ∷ [])) → P (local_facts t h c a)
   of_facts t h (BeginCall u d) a f = f (Began (limit_of d)) refl
   of_facts t h (Volatile u e x v) a f = f (Enlisted e (class_of x)) (volatile_option x false)
   of_facts t h (Durable u e r s) a f = of_durable t h u e r s (is_single s) a f
-  of_facts t h (Promotable u e r v x p) a f = holds_cons (Enlisted e PromotableClass) (f (Enlisted e PromotableClass) refl) (f (Init e) refl)
+  of_facts t h (Promotable u e r v x p) a f = holds_cons w.lists (Enlisted e PromotableClass) (f (Enlisted e PromotableClass) refl) (f (Init e) refl)
   of_facts t h (Clone u c k) a f = f (Cloned c k) refl
   of_facts t h (Complete c) a f = f (Completed c) refl
-  of_facts t h (Commit u) a f = holds_cons CommitAsked (f CommitAsked refl) (of_veto_if (has is_open_rollback h.seen.clones) (sees h CommitAsked))
-  of_facts t h (Rollback u) a f = holds_cons RollbackAsked (f RollbackAsked refl) (of_veto (sees h RollbackAsked))
-  of_facts t h (Marshal u) a f = holds_if (is_promoting h.seen) w.none (of_begin_promotion h (Some MarshalCause) (λ c. f (Promoting c) refl) (f (Sent Begin Up BeginBegin) refl))
+  of_facts t h (Commit u) a f = holds_cons w.lists CommitAsked (f CommitAsked refl) (of_veto_if (has is_open_rollback h.seen.clones) (sees h CommitAsked))
+  of_facts t h (Rollback u) a f = holds_cons w.lists RollbackAsked (f RollbackAsked refl) (of_veto (sees h RollbackAsked))
+  of_facts t h (Marshal u) a f = holds_if w.lists (is_promoting h.seen) w.lists.none (of_begin_promotion h (Some MarshalCause) (λ c. f (Promoting c) refl) (f (Sent Begin Up BeginBegin) refl))
   of_facts t h (Tick u n) a f =
-      holds_cons (Clock (ticked h.seen.clock n)) (f (Clock (ticked h.seen.clock n)) refl)
-      (holds_if (reaches h.seen.limit h.seen.clock (ticked h.seen.clock n)) (of_time_up h (f Late refl) (f TimedOut refl)) w.none)
-  of_facts t h _ a f = w.none
+      holds_cons w.lists (Clock (ticked h.seen.clock n)) (f (Clock (ticked h.seen.clock n)) refl)
+      (holds_if w.lists (reaches h.seen.limit h.seen.clock (ticked h.seen.clock n)) (of_time_up h (f Late refl) (f TimedOut refl)) w.lists.none)
+  of_facts t h _ a f = w.lists.none
 
   pub of_gone_decides : (h : Half) (e : EnlNo) → P (gone_decides h e)
-  of_gone_decides h e = holds_if (is_some h.seen.decided || voted e.value h.seen.table) w.none (holds_if (is_handed h.seen.handed e.value) (w.decides h InDoubt) (of_veto h))
+  of_gone_decides h e = holds_if w.lists (is_some h.seen.decided || voted e.value h.seen.table) w.lists.none (holds_if w.lists (is_handed h.seen.handed e.value) (w.decides h InDoubt) (of_veto h))
 
   pub of_gone_unlinked : (h : Half) (e : EnlNo) → P (LostEntry e ∷ []) → P (gone_unlinked h e)
-  of_gone_unlinked h e p = holds_cons (LostEntry e) p (of_gone_decides (sees h (LostEntry e)) e)
+  of_gone_unlinked h e p = holds_cons w.lists (LostEntry e) p (of_gone_decides (sees h (LostEntry e)) e)
 
   pub of_cuts : (v : World) (cs : List Conn) → ((c : Conn) (n m : ℕ) → P (Cut c n m ∷ [])) → P (map (cut_upward v.past) cs)
-  of_cuts v cs p = holds_map (cut_upward v.past) (λ c. p c (on_the_way c Up v.past) 0) cs
+  of_cuts v cs p = holds_map w.lists (cut_upward v.past) (λ c. p c (on_the_way c Up v.past) 0) cs
 
   of_gone : (v : World) (e : EnlNo) (cs : List Conn) → P (LostEntry e ∷ []) → ((c : Conn) (n m : ℕ) → P (Cut c n m ∷ [])) → P (gone_by v e cs)
   of_gone v e [] p q = of_gone_unlinked (half v) e p
-  of_gone v e (c ∷ cs) p q = holds_cons (LostEntry e) p (of_cuts v (c ∷ cs) q)
+  of_gone v e (c ∷ cs) p q = holds_cons w.lists (LostEntry e) p (of_cuts v (c ∷ cs) q)
 
   pub of_reenlist : (t : ℕ) (b : Option Branch) → ((e : EnlNo) → P (Reenlisted e ∷ [])) → ((e : EnlNo) (i : Info) → P (Sent (Again e) Up (ReenlistReenlist i) ∷ [])) → P (reenlist_facts t b)
-  of_reenlist t (Some b) p q = holds_cons (Reenlisted b.enlistment) (p b.enlistment) (q b.enlistment (info t b.enlistment b.manager))
-  of_reenlist t None p q = w.none
+  of_reenlist t (Some b) p q = holds_cons w.lists (Reenlisted b.enlistment) (p b.enlistment) (q b.enlistment (info t b.enlistment b.manager))
+  of_reenlist t None p q = w.lists.none
 
   of_facts_at : (t : ℕ) (v : World) (c : Call) (a : Answer) → ((x : Entry) → writes (ByCall c) x ≡ true → P (x ∷ [])) → ((c : Conn) (n m : ℕ) → P (Cut c n m ∷ [])) → ((r : RmNo) → P (RecoveredEntry r ∷ []))
       → P (facts_at t v c a)
@@ -476,4 +477,4 @@ module _ {P : List Entry → Type 0} (w : IsClosed P) where
     where
       by : (b : Bool) → P (facts_if b (facts_at t v c a))
       by true = of_facts_at t v c a f p q
-      by false = w.none
+      by false = w.lists.none

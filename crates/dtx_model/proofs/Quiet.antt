@@ -74,11 +74,11 @@ quiet_sent c m l o = q_one (Sent c Down m) l
 -- a delivery
 pub q_got_by : (t : ℕ) (w : World) (c : Conn) (d : Dir) (m : Message) → Quiet (got_by t w c d m)
 unfolding local_got
-q_got_by t w c Up m = of_core_got quiet (identifier_of t) (core w) c m (λ d n l a. q_one (Sent d Down n) l)
+q_got_by t w c Up m = of_core_got quiet.lists (identifier_of t) (core w) c m (λ d n l a. q_one (Sent d Down n) l)
 q_got_by t w c Down m = let h = sees (half w) (Got c Down m) in of_arrived quiet t h c m (quiet_one (ByMessage h.waits c m))
 
 pub q_ended_at : (w : World) (c : Conn) (d : Dir) → Quiet (ended_at w c d)
-q_ended_at w c Up = of_core_down quiet (core w) c quiet_sent
+q_ended_at w c Up = of_core_down quiet.lists (core w) c quiet_sent
 q_ended_at w c Down = of_local_down quiet (half w) c
 
 -- the local act, and replies
@@ -102,13 +102,13 @@ q_called t w c a = of_called quiet t w c a (quiet_one (ByCall c)) (λ d n m. q_o
 
 -- the coordinator's act, and its restart
 pub q_appended : (k : Coordinated) (a : LogAnswer) → Quiet (appended k a)
-q_appended k a = of_appended quiet k a quiet_sent (q_one Logged refl) (q_one LogFull refl) (q_one Stopped refl)
+q_appended k a = of_appended quiet.lists k a quiet_sent (q_one Logged refl) (q_one LogFull refl) (q_one Stopped refl)
 
 pub q_freed : (a : LogAnswer) → Quiet (freed a)
-q_freed a = of_freed quiet a (q_one Freed refl) (q_one Stopped refl)
+q_freed a = of_freed quiet.lists a (q_one Freed refl) (q_one Stopped refl)
 
 pub q_restarted : (b found : Bool) → Quiet (restarted b found)
-q_restarted b found = of_restarted quiet b found (q_one Stopped refl) (q_one (Restarted found) refl)
+q_restarted b found = of_restarted quiet.lists b found (q_one Stopped refl) (q_one (Restarted found) refl)
 
 -- after a quiet block WireRun still holds
 still : (past : List Entry) (x : Entry) → is_quiet x ≡ true → MayCross past x

@@ -47,21 +47,27 @@ pub e_map : {p : Entry → Bool} {A : Type 0} (f : A → Entry) → ((a : A) →
 e_map f k [] = e_none
 e_map f k (x ∷ xs) = e_cons (f x) (k x) (e_map f k xs)
 
--- What holds of no entries, of two lists together, and of what a decision and the message of a veto write.
-pub record IsClosed (P : List Entry → Type 0) : Type 0 where
+-- What holds of no entries and of two lists together,
+pub record OfLists (P : List Entry → Type 0) : Type 0 where
   pub none : P []
   pub join : (x y : List Entry) → P x → P y → P (x ++ y)
+
+-- and of what a decision and the message of a veto write.
+pub record IsClosed (P : List Entry → Type 0) : Type 0 where
+  pub lists : OfLists P
   pub decides : (h : Half) (x : Outcome) → P (decide h x)
   pub abort : P (Sent Begin Up BeginAbort ∷ [])
   pub no : P (Sent Voter Up VoterNo ∷ [])
+
+pub each_lists : (p : Entry → Bool) → OfLists (λ es. Each p es)
+each_lists p = record { none = e_none; join = λ x y q r. e_join q r }
 
 -- that each entry passes is so where these do
 pub each_closed : (p : Entry → Bool) → p PromotionFailed ≡ true → ((x : Outcome) → p (Decided x) ≡ true) → ((n : ℕ) (x : Outcome) → p (Answered n (EndedAnswer x)) ≡ true)
     → p (Sent Begin Up BeginAbort) ≡ true → p (Sent Voter Up VoterNo) ≡ true → IsClosed (λ es. Each p es)
 each_closed p f d a b n =
     record {
-      none = e_none;
-      join = λ x y q r. e_join q r;
+      lists = each_lists p;
       decides = λ h x. e_join (fails (is_promoting h.seen)) (e_cons (Decided x) (d x) (e_map (λ w. Answered w.0 (EndedAnswer x)) (λ w. a w.0 x) h.waits));
       abort = e_one (Sent Begin Up BeginAbort) b;
       no = e_one (Sent Voter Up VoterNo) n;

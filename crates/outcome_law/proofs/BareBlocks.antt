@@ -78,14 +78,14 @@ bare_sent c m l o = bare_one (Sent c Down m) (passes m o)
     passes _ o = refl
 
 pub bare_core_got : (id : ℕ) (k : Coordinated) (c : Conn) (m : Message) → is_asking c m ≡ false → Bare (core_got id k c m)
-bare_core_got id k c m n = of_core_got bare id k c m (λ d i l a. bare_one (Sent d Down i) (bare_answer c m n i a))
+bare_core_got id k c m n = of_core_got bare.lists id k c m (λ d i l a. bare_one (Sent d Down i) (bare_answer c m n i a))
 
 pub bare_local_got : (t : ℕ) (h : Half) (c : Conn) (m : Message) → Bare (local_got t h c m)
 unfolding local_got
 bare_local_got t h c m = let g = sees h (Got c Down m) in of_arrived bare t g c m (bare_entry (ByMessage g.waits c m) refl)
 
 pub bare_ended_at : (w : World) (c : Conn) (d : Dir) → Bare (ended_at w c d)
-bare_ended_at w c Up = of_core_down bare (core w) c bare_sent
+bare_ended_at w c Up = of_core_down bare.lists (core w) c bare_sent
 bare_ended_at w c Down = of_local_down bare (half w) c
 
 -- the block seals, where nothing is under way and nothing decided
@@ -118,10 +118,10 @@ bare_called t w c a = of_called bare t w c a (bare_entry (ByCall c) refl) (λ d 
 
 -- the coordinator's act, and its restart
 pub bare_appended : (k : Coordinated) (a : LogAnswer) → Bare (appended k a)
-bare_appended k a = of_appended bare k a bare_sent (bare_one Logged refl) (bare_one LogFull refl) (bare_one Stopped refl)
+bare_appended k a = of_appended bare.lists k a bare_sent (bare_one Logged refl) (bare_one LogFull refl) (bare_one Stopped refl)
 
 pub bare_freed : (a : LogAnswer) → Bare (freed a)
-bare_freed a = of_freed bare a (bare_one Freed refl) (bare_one Stopped refl)
+bare_freed a = of_freed bare.lists a (bare_one Freed refl) (bare_one Stopped refl)
 
 pub bare_restarted : (b found : Bool) → Bare (restarted b found)
-bare_restarted b found = of_restarted bare b found (bare_one Stopped refl) (bare_one (Restarted found) refl)
+bare_restarted b found = of_restarted bare.lists b found (bare_one Stopped refl) (bare_one (Restarted found) refl)

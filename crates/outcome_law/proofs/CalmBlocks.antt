@@ -69,8 +69,7 @@ slowly = each_closed is_slow refl (λ x. refl) (λ n x. refl) refl refl
 calm : IsClosed (λ es. Calm es)
 calm =
     record {
-      none = record { slow = refl; rest = refl };
-      join = calm_join;
+      lists = record { none = record { slow = refl; rest = refl }; join = calm_join };
       decides = λ h x. both_calm (slowly.decides h x) (kept.decides h x);
       abort = calm_one (Sent Begin Up BeginAbort) refl;
       no = calm_one (Sent Voter Up VoterNo) refl;
@@ -92,13 +91,13 @@ calm_sent : (c : Conn) (m : Message) → has_line c Down m ≡ true → is_outco
 calm_sent c m l o = calm_one (Sent c Down m) refl
 
 pub calm_core_got : (id : ℕ) (k : Coordinated) (c : Conn) (m : Message) → Calm (core_got id k c m)
-calm_core_got id k c m = of_core_got calm id k c m (λ d n l a. calm_one (Sent d Down n) refl)
+calm_core_got id k c m = of_core_got calm.lists id k c m (λ d n l a. calm_one (Sent d Down n) refl)
 
 pub calm_arrived : (t : ℕ) (h : Half) (c : Conn) (m : Message) → is_giving c m ≡ false → Calm (arrived t h c m)
 calm_arrived t h c m g = of_arrived calm t h c m (calm_entry (ByMessage h.waits c m) g g refl)
 
 pub calm_ended_at : (w : World) (c : Conn) (d : Dir) → Calm (ended_at w c d)
-calm_ended_at w c Up = of_core_down calm (core w) c calm_sent
+calm_ended_at w c Up = of_core_down calm.lists (core w) c calm_sent
 calm_ended_at w c Down = of_local_down calm (half w) c
 
 pub calm_commit_sent : (o : Observed) → Calm (commit_sent o)
@@ -133,7 +132,7 @@ calm_called t w c a g =
     (λ r. calm_one (RecoveredEntry r) refl)
 
 pub calm_coordinates : (k : Coordinated) (a : LogAnswer) → Calm (coordinates k a)
-calm_coordinates k a = of_coordinates calm k a calm_sent (calm_one Logged refl) (calm_one LogFull refl) (calm_one Freed refl) (calm_one Stopped refl)
+calm_coordinates k a = of_coordinates calm.lists k a calm_sent (calm_one Logged refl) (calm_one LogFull refl) (calm_one Freed refl) (calm_one Stopped refl)
 
 pub calm_restarted : (b found : Bool) → Calm (restarted b found)
-calm_restarted b found = of_restarted calm b found (calm_one Stopped refl) (calm_one (Restarted found) refl)
+calm_restarted b found = of_restarted calm.lists b found (calm_one Stopped refl) (calm_one (Restarted found) refl)

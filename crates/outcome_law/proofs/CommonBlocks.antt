@@ -77,7 +77,7 @@ common_sent : (c : Conn) (m : Message) → has_line c Down m ≡ true → is_out
 common_sent c m l o = e_one (Sent c Down m) refl
 
 pub common_core_got : (id : ℕ) (k : Coordinated) (c : Conn) (m : Message) → Common (core_got id k c m)
-common_core_got id k c m = of_core_got common id k c m (λ d n l a. e_one (Sent d Down n) refl)
+common_core_got id k c m = of_core_got common.lists id k c m (λ d n l a. e_one (Sent d Down n) refl)
 
 pub common_decide : (h : Half) (x : Outcome) → Common (decide h x)
 common_decide h x = common.decides h x
@@ -92,7 +92,7 @@ pub common_arrived : (t : ℕ) (h : Half) (c : Conn) (m : Message) → is_tellin
 common_arrived t h c m g = of_arrived common t h c m (common_entry (ByMessage h.waits c m) refl g refl refl)
 
 pub common_ended_at : (w : World) (c : Conn) (d : Dir) → Common (ended_at w c d)
-common_ended_at w c Up = of_core_down common (core w) c common_sent
+common_ended_at w c Up = of_core_down common.lists (core w) c common_sent
 common_ended_at w c Down = of_local_down common (half w) c
 
 -- the local act while nothing is decided
@@ -130,10 +130,10 @@ common_called t w c a g =
     (λ d n m. e_one (Cut d n m) refl) (λ r. e_one (RecoveredEntry r) refl)
 
 pub common_coordinates : (k : Coordinated) (a : LogAnswer) → Common (coordinates k a)
-common_coordinates k a = of_coordinates common k a common_sent (e_one Logged refl) (e_one LogFull refl) (e_one Freed refl) (e_one Stopped refl)
+common_coordinates k a = of_coordinates common.lists k a common_sent (e_one Logged refl) (e_one LogFull refl) (e_one Freed refl) (e_one Stopped refl)
 
 pub common_restarted : (b found : Bool) → Common (restarted b found)
-common_restarted b found = of_restarted common b found (e_one Stopped refl) (e_one (Restarted found) refl)
+common_restarted b found = of_restarted common.lists b found (e_one Stopped refl) (e_one (Restarted found) refl)
 
 -- The block of each step but a tick and the return or the loss of an enlistment has such entries alone, and those that tell somebody.
 abbrev pub is_usual : Entry → Bool

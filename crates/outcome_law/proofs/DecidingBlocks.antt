@@ -69,7 +69,7 @@ kept_decide h x = record { proof = step (is_promoting h.seen) (ended h.waits x) 
     step false es = refl
 
 pub kept : IsClosed (λ es. Keeps es)
-kept = record { none = kept_none; join = λ x y p q. kept_join p q; decides = kept_decide; abort = kept_one (Sent Begin Up BeginAbort) refl; no = kept_one (Sent Voter Up VoterNo) refl }
+kept = record { lists = record { none = kept_none; join = λ x y p q. kept_join p q }; decides = kept_decide; abort = kept_one (Sent Begin Up BeginAbort) refl; no = kept_one (Sent Voter Up VoterNo) refl }
 
 -- so are the entries of blocks that give no place
 pub kept_entry : (s : Source) → gives s ≡ false → (x : Entry) → writes s x ≡ true → Keeps (x ∷ [])
@@ -86,13 +86,13 @@ kept_sent : (c : Conn) (m : Message) → has_line c Down m ≡ true → is_outco
 kept_sent c m l o = kept_one (Sent c Down m) refl
 
 pub kept_core_got : (id : ℕ) (k : Coordinated) (c : Conn) (m : Message) → Keeps (core_got id k c m)
-kept_core_got id k c m = of_core_got kept id k c m (λ d n l a. kept_one (Sent d Down n) refl)
+kept_core_got id k c m = of_core_got kept.lists id k c m (λ d n l a. kept_one (Sent d Down n) refl)
 
 pub kept_arrived : (t : ℕ) (h : Half) (c : Conn) (m : Message) → is_giving c m ≡ false → Keeps (arrived t h c m)
 kept_arrived t h c m g = of_arrived kept t h c m (kept_entry (ByMessage h.waits c m) g)
 
 pub kept_ended_at : (w : World) (c : Conn) (d : Dir) → Keeps (ended_at w c d)
-kept_ended_at w c Up = of_core_down kept (core w) c kept_sent
+kept_ended_at w c Up = of_core_down kept.lists (core w) c kept_sent
 kept_ended_at w c Down = of_local_down kept (half w) c
 
 pub kept_act : (h : Half) → Keeps (act_entries h)
@@ -111,7 +111,7 @@ pub kept_called : (t : ℕ) (w : World) (c : Call) (a : Answer) → is_making c 
 kept_called t w c a g = of_called kept t w c a (kept_entry (ByCall c) refl) (λ d n m. kept_one (Cut d n m) refl) (λ r. kept_one (RecoveredEntry r) refl)
 
 pub kept_coordinates : (k : Coordinated) (a : LogAnswer) → Keeps (coordinates k a)
-kept_coordinates k a = of_coordinates kept k a kept_sent (kept_one Logged refl) (kept_one LogFull refl) (kept_one Freed refl) (kept_one Stopped refl)
+kept_coordinates k a = of_coordinates kept.lists k a kept_sent (kept_one Logged refl) (kept_one LogFull refl) (kept_one Freed refl) (kept_one Stopped refl)
 
 pub kept_restarted : (b found : Bool) → Keeps (restarted b found)
-kept_restarted b found = of_restarted kept b found (kept_one Stopped refl) (kept_one (Restarted found) refl)
+kept_restarted b found = of_restarted kept.lists b found (kept_one Stopped refl) (kept_one (Restarted found) refl)

@@ -76,13 +76,13 @@ mild_sent : (c : Conn) (m : Message) → has_line c Down m ≡ true → is_outco
 mild_sent c m l o = e_one (Sent c Down m) refl
 
 pub m_abort : (k : Coordinated) → Mild (abort_sends k)
-m_abort k = of_abort_sends mild k mild_sent
+m_abort k = of_abort_sends mild.lists k mild_sent
 
 pub m_commit : (k : Coordinated) → Mild (commit_sends k)
-m_commit k = of_commit_sends mild k mild_sent
+m_commit k = of_commit_sends mild.lists k mild_sent
 
 pub m_core_got : (id : ℕ) (k : Coordinated) (c : Conn) (m : Message) → Mild (core_got id k c m)
-m_core_got id k c m = of_core_got mild id k c m (λ d n l a. e_one (Sent d Down n) refl)
+m_core_got id k c m = of_core_got mild.lists id k c m (λ d n l a. e_one (Sent d Down n) refl)
 
 -- what the local side does after a message
 pub m_local_got : (t : ℕ) (h : Half) (c : Conn) (m : Message) → Mild (local_got t h c m)
@@ -90,7 +90,7 @@ unfolding local_got
 m_local_got t h c m = let g = sees h (Got c Down m) in of_arrived mild t g c m (mild_entry (ByMessage g.waits c m) refl refl refl refl refl)
 
 pub m_ended_at : (w : World) (c : Conn) (d : Dir) → Mild (ended_at w c d)
-m_ended_at w c Up = of_core_down mild (core w) c mild_sent
+m_ended_at w c Up = of_core_down mild.lists (core w) c mild_sent
 m_ended_at w c Down = of_local_down mild (half w) c
 
 -- the local act is mild

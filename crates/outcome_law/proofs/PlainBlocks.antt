@@ -68,13 +68,13 @@ plain_sent : (c : Conn) (m : Message) → has_line c Down m ≡ true → is_outc
 plain_sent c m l o = plain_one (Sent c Down m) refl
 
 pub plain_core_got : (id : ℕ) (k : Coordinated) (c : Conn) (m : Message) → Plain (core_got id k c m)
-plain_core_got id k c m = of_core_got plain id k c m (λ d n l a. plain_one (Sent d Down n) refl)
+plain_core_got id k c m = of_core_got plain.lists id k c m (λ d n l a. plain_one (Sent d Down n) refl)
 
 pub plain_arrived : (t : ℕ) (h : Half) (c : Conn) (m : Message) → is_giving c m ≡ false → Plain (arrived t h c m)
 plain_arrived t h c m g = of_arrived plain t h c m (plain_entry (ByMessage h.waits c m) g g)
 
 pub plain_ended_at : (w : World) (c : Conn) (d : Dir) → Plain (ended_at w c d)
-plain_ended_at w c Up = of_core_down plain (core w) c plain_sent
+plain_ended_at w c Up = of_core_down plain.lists (core w) c plain_sent
 plain_ended_at w c Down = of_local_down plain (half w) c
 
 pub plain_act : (h : Half) → Plain (act_entries h)
@@ -93,7 +93,7 @@ pub plain_called : (t : ℕ) (w : World) (c : Call) (a : Answer) → is_making c
 plain_called t w c a g = of_called plain t w c a (plain_entry (ByCall c) g refl) (λ d n m. plain_one (Cut d n m) refl) (λ r. plain_one (RecoveredEntry r) refl)
 
 pub plain_coordinates : (k : Coordinated) (a : LogAnswer) → Plain (coordinates k a)
-plain_coordinates k a = of_coordinates plain k a plain_sent (plain_one Logged refl) (plain_one LogFull refl) (plain_one Freed refl) (plain_one Stopped refl)
+plain_coordinates k a = of_coordinates plain.lists k a plain_sent (plain_one Logged refl) (plain_one LogFull refl) (plain_one Freed refl) (plain_one Stopped refl)
 
 pub plain_restarted : (b found : Bool) → Plain (restarted b found)
-plain_restarted b found = of_restarted plain b found (plain_one Stopped refl) (plain_one (Restarted found) refl)
+plain_restarted b found = of_restarted plain.lists b found (plain_one Stopped refl) (plain_one (Restarted found) refl)

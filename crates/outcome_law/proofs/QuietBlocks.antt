@@ -58,14 +58,14 @@ quiet_sent c m l o = e_one (Sent c Down m) refl
 
 -- a delivery
 pub q_core_got : (id : ℕ) (k : Coordinated) (c : Conn) (m : Message) → Quiet (core_got id k c m)
-q_core_got id k c m = of_core_got quiet id k c m (λ d n l a. e_one (Sent d Down n) refl)
+q_core_got id k c m = of_core_got quiet.lists id k c m (λ d n l a. e_one (Sent d Down n) refl)
 
 pub q_local_got : (t : ℕ) (h : Half) (c : Conn) (m : Message) → Quiet (local_got t h c m)
 unfolding local_got
 q_local_got t h c m = let g = sees h (Got c Down m) in of_arrived quiet t g c m (quiet_one (ByMessage g.waits c m))
 
 pub q_ended_at : (w : World) (c : Conn) (d : Dir) → Quiet (ended_at w c d)
-q_ended_at w c Up = of_core_down quiet (core w) c quiet_sent
+q_ended_at w c Up = of_core_down quiet.lists (core w) c quiet_sent
 q_ended_at w c Down = of_local_down quiet (half w) c
 
 -- replies and calls, and the coordinator's act
@@ -76,7 +76,7 @@ pub q_called : (t : ℕ) (w : World) (c : Call) (a : Answer) → Quiet (facts_if
 q_called t w c a = of_called quiet t w c a (quiet_one (ByCall c)) (λ d n m. e_one (Cut d n m) refl) (λ r. e_one (RecoveredEntry r) refl)
 
 pub q_coordinates : (k : Coordinated) (a : LogAnswer) → Quiet (coordinates k a)
-q_coordinates k a = of_coordinates quiet k a quiet_sent (e_one Logged refl) (e_one LogFull refl) (e_one Freed refl) (e_one Stopped refl)
+q_coordinates k a = of_coordinates quiet.lists k a quiet_sent (e_one Logged refl) (e_one LogFull refl) (e_one Freed refl) (e_one Stopped refl)
 
 pub q_commit_sent : (o : Observed) → Quiet (commit_sent o)
 q_commit_sent o = of_commit_sent quiet o (e_one (Sent Begin Up BeginCommit) refl)

@@ -57,10 +57,10 @@ silent_sent : (c : Conn) (m : Message) → has_line c Down m ≡ true → is_out
 silent_sent c m l o = silent_one (Sent c Down m) refl
 
 pub silent_abort : (k : Coordinated) → Silent (abort_sends k)
-silent_abort k = of_abort_sends silent k silent_sent
+silent_abort k = of_abort_sends silent.lists k silent_sent
 
 pub silent_core_got : (id : ℕ) (k : Coordinated) (c : Conn) (m : Message) → Silent (core_got id k c m)
-silent_core_got id k c m = of_core_got silent id k c m (λ d n l a. silent_one (Sent d Down n) refl)
+silent_core_got id k c m = of_core_got silent.lists id k c m (λ d n l a. silent_one (Sent d Down n) refl)
 
 pub silent_decide : (h : Half) (x : Outcome) → Silent (decide h x)
 silent_decide h x = silent.decides h x
@@ -76,7 +76,7 @@ unfolding local_got
 silent_local_got t h c m = let g = sees h (Got c Down m) in of_arrived silent t g c m (silent_entry (ByMessage g.waits c m) refl refl refl refl)
 
 pub silent_ended_at : (w : World) (c : Conn) (d : Dir) → Silent (ended_at w c d)
-silent_ended_at w c Up = of_core_down silent (core w) c silent_sent
+silent_ended_at w c Up = of_core_down silent.lists (core w) c silent_sent
 silent_ended_at w c Down = of_local_down silent (half w) c
 
 pub silent_tell : (x : Outcome) (l : Option Listener) (o : Option Outcome) → Silent (tell x l o)
@@ -92,7 +92,7 @@ pub silent_called : (t : ℕ) (w : World) (c : Call) (a : Answer) → may_begin 
 silent_called t w c a g = of_called silent t w c a (silent_entry (ByCall c) g refl refl refl) (λ d n m. silent_one (Cut d n m) refl) (λ r. silent_one (RecoveredEntry r) refl)
 
 pub silent_freed : (a : LogAnswer) → Silent (freed a)
-silent_freed a = of_freed silent a (silent_one Freed refl) (silent_one Stopped refl)
+silent_freed a = of_freed silent.lists a (silent_one Freed refl) (silent_one Stopped refl)
 
 pub silent_restarted : (b found : Bool) → Silent (restarted b found)
-silent_restarted b found = of_restarted silent b found (silent_one Stopped refl) (silent_one (Restarted found) refl)
+silent_restarted b found = of_restarted silent.lists b found (silent_one Stopped refl) (silent_one (Restarted found) refl)

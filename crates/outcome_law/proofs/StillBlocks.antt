@@ -80,17 +80,17 @@ still_sent c m l o = st_one (Sent c Down m) (passes m o)
     passes _ o = refl
 
 pub st_to : (k : Coordinated) (c : Conn) (m : Message) → is_still (Sent c Down m) ≡ true → Still (to k c m)
-st_to k c m p = of_to still k c m (st_one (Sent c Down m) p)
+st_to k c m p = of_to still.lists k c m (st_one (Sent c Down m) p)
 
 pub st_core_got : (id : ℕ) (k : Coordinated) (c : Conn) (m : Message) → is_opening c m ≡ false → Still (core_got id k c m)
-st_core_got id k c m o = of_core_got still id k c m (λ d n l a. st_one (Sent d Down n) (still_answer c m o n a))
+st_core_got id k c m o = of_core_got still.lists id k c m (λ d n l a. st_one (Sent d Down n) (still_answer c m o n a))
 
 pub st_local_got : (t : ℕ) (h : Half) (c : Conn) (m : Message) → Still (local_got t h c m)
 unfolding local_got
 st_local_got t h c m = let g = sees h (Got c Down m) in of_arrived still t g c m (still_entry (ByMessage g.waits c m))
 
 pub st_ended_at : (w : World) (c : Conn) (d : Dir) → Still (ended_at w c d)
-st_ended_at w c Up = of_core_down still (core w) c still_sent
+st_ended_at w c Up = of_core_down still.lists (core w) c still_sent
 st_ended_at w c Down = of_local_down still (half w) c
 
 pub st_act : (h : Half) → Still (act_entries h)
@@ -107,10 +107,10 @@ st_called t w c a = of_called still t w c a (still_entry (ByCall c)) (λ d n m. 
 
 -- the coordinator's act, and its restart
 pub st_appended : (k : Coordinated) (a : LogAnswer) → Still (appended k a)
-st_appended k a = of_appended still k a still_sent (st_one Logged refl) (st_one LogFull refl) (st_one Stopped refl)
+st_appended k a = of_appended still.lists k a still_sent (st_one Logged refl) (st_one LogFull refl) (st_one Stopped refl)
 
 pub st_freed : (a : LogAnswer) → Still (freed a)
-st_freed a = of_freed still a (st_one Freed refl) (st_one Stopped refl)
+st_freed a = of_freed still.lists a (st_one Freed refl) (st_one Stopped refl)
 
 pub st_restarted : (b found : Bool) → Still (restarted b found)
-st_restarted b found = of_restarted still b found (st_one Stopped refl) (st_one (Restarted found) refl)
+st_restarted b found = of_restarted still.lists b found (st_one Stopped refl) (st_one (Restarted found) refl)

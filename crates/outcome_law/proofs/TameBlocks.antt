@@ -76,7 +76,7 @@ tame_sent : (c : Conn) (m : Message) → has_line c Down m ≡ true → is_outco
 tame_sent c m l o = tame_one (Sent c Down m) refl
 
 pub tame_core_got : (id : ℕ) (k : Coordinated) (c : Conn) (m : Message) → Tame (core_got id k c m)
-tame_core_got id k c m = of_core_got tame id k c m (λ d n l a. tame_one (Sent d Down n) refl)
+tame_core_got id k c m = of_core_got tame.lists id k c m (λ d n l a. tame_one (Sent d Down n) refl)
 
 -- the calls that wait have no promotable's place
 abbrev pub is_unpromotable : Waiter → Bool
@@ -89,7 +89,7 @@ pub tame_arrived : (t : ℕ) (h : Half) (c : Conn) (m : Message) → each is_unp
 tame_arrived t h c m u = of_arrived tame t h c m (tame_entry (ByMessage h.waits c m) refl (unplaced h.waits u) refl refl)
 
 pub tame_ended_at : (w : World) (c : Conn) (d : Dir) → Tame (ended_at w c d)
-tame_ended_at w c Up = of_core_down tame (core w) c tame_sent
+tame_ended_at w c Up = of_core_down tame.lists (core w) c tame_sent
 tame_ended_at w c Down = of_local_down tame (half w) c
 
 -- what holds of tame blocks, of an ask to promote while a promotion is under way, and of an ask to commit once it is sealed and promoted, holds of the local act
@@ -127,7 +127,7 @@ tame_called t w c a g =
 
 -- the coordinator's act, and its restart
 pub tame_coordinates : (k : Coordinated) (a : LogAnswer) → Tame (coordinates k a)
-tame_coordinates k a = of_coordinates tame k a tame_sent (tame_one Logged refl) (tame_one LogFull refl) (tame_one Freed refl) (tame_one Stopped refl)
+tame_coordinates k a = of_coordinates tame.lists k a tame_sent (tame_one Logged refl) (tame_one LogFull refl) (tame_one Freed refl) (tame_one Stopped refl)
 
 pub tame_restarted : (b found : Bool) → Tame (restarted b found)
-tame_restarted b found = of_restarted tame b found (tame_one Stopped refl) (tame_one (Restarted found) refl)
+tame_restarted b found = of_restarted tame.lists b found (tame_one Stopped refl) (tame_one (Restarted found) refl)
