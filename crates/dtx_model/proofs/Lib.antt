@@ -7,11 +7,14 @@ pub mod Scopes
 pub mod Digits
 pub mod Pasts
 pub mod SameNumbers
+pub mod Connections
 pub mod Counts
 pub mod Unowned
 pub mod Unpromoted
 pub mod Narrow
 pub mod Narrowing
+pub mod Writes
+pub mod Blocks
 pub mod Quiet
 pub mod Heeding
 pub mod Lifting

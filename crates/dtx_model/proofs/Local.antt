@@ -220,7 +220,7 @@ waits_promotes t w n a c k p q =
 abbrev pub IsNarrow : ℕ → World → Step → Type 0
 IsNarrow t w m = (block_at t w m ≡ block (observe w.past) m) × (are_local (block (observe w.past) m) ≡ true)
 
-may_nothing : (w : World) (a : LogAnswer) → are_local w.past ≡ true → may_coordinate (core w) a ≡ false
+pub may_nothing : (w : World) (a : LogAnswer) → are_local w.past ≡ true → may_coordinate (core w) a ≡ false
 unfolding may_log may_free
 may_nothing w a p = rw (coordinate-local w.past p) refl
 

@@ -18,7 +18,7 @@ use Rattle.dtx_model.specs.Words.{each}
 use Rattle.dtx_model.specs.Wires.{MayCross, begins_ended, ended_after, ends, holds, is_ended, is_kept, is_lost_wire, is_next, is_open_wire, is_opening, is_stopped, kept, in_transit, loses, lost_after, lost_since, opened_with, opens, same_connection, same_direction, sent_behind, without_first}
 use Rattle.oletx_session.specs.Traffic.{Becomes, Delivers, Ends, IsCut, Spells, Wire, fresh, lane, lost_at_once, lost_with, may_send, sent_on, wire_of, with_bytes, with_end}
 use Rattle.oletx_session.specs.Carries.{Carries, IsLane, IsStarted, IsStartedLost, IsWire}
-use Rattle.oletx_session.proofs.Conns.{same_is, same_self, same_way_is}
+use Rattle.dtx_model.proofs.Connections.{same_is, same_self, same_way_is}
 use Rattle.oletx_session.proofs.Reading.{first_read, none_read}
 
 -- what neither opens nor loses a connection leaves it as it was

@@ -1,4 +1,3 @@
-pub mod Conns
 pub mod Links
 pub mod Packets
 pub mod Views

@@ -7,7 +7,7 @@ use Rattle.std.proofs.lemmas.Option.{slice_get_past}
 use Rattle.std.proofs.lemmas.List.Quantifiers.{position-Some}
 use Rattle.oletx_session.specs.declared.link.Link.{Link}
 use Rattle.oletx_session.specs.Queues.{Changes, is_of, link_of}
-use Rattle.oletx_session.proofs.Conns.{not_same, same_self}
+use Rattle.dtx_model.proofs.Connections.{not_same, same_self}
 
 -- a choice that gives nothing was made against the value
 none_where : (b : Bool) (x : ℕ) → cond b (Some x) None ≡ None → b ≡ false

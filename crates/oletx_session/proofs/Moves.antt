@@ -17,7 +17,7 @@ use Rattle.oletx_session.specs.declared.packet.Packet.{Packet}
 use Rattle.oletx_session.specs.Queues.{AreSameElse, Changes, HasNoStray, bytes_on, ended_in, frame_in, has_ended, is_ending, is_on, link_of, lost_link, new_link, on_way, stopped_link, wire_in, wires_in}
 use Rattle.dtx_model.specs.Outcome.{is_empty}
 use Rattle.oletx_session.specs.Traffic.{Becomes, Delivers, Ends, IsCut, Spells, Wire, fresh, has_left, is_open, is_taken, lane, lost_at_once, lost_with, may_send, opposite, sent_on, wire_of, with_bytes, with_end}
-use Rattle.oletx_session.proofs.Conns.{same_is, same_self, same_way}
+use Rattle.dtx_model.proofs.Connections.{same_is, same_self, same_way}
 use Rattle.oletx_session.proofs.Reading.{count_read, front_read}
 use Rattle.oletx_session.proofs.Views.{AreOthers, any_bytes, becomes, lane_bytes, lane_ended, left_seen, link_is, made, no_stray, packet_full, others_else, others_push, stays, wire_found, wire_missing}
 

@@ -13,7 +13,7 @@ use Rattle.dtx_values.specs.declared.message.Dir.{Dir}
 use Rattle.dtx_model.specs.Wires.{same_connection, same_direction}
 use Rattle.oletx_session.specs.declared.packet.Packet.{Packet}
 use Rattle.oletx_session.specs.Queues.{AreSameElse, is_on, on_way}
-use Rattle.oletx_session.proofs.Conns.{same_is, same_way_is}
+use Rattle.dtx_model.proofs.Connections.{same_is, same_way_is}
 use Rattle.oletx_session.proofs.Links.{no_place}
 
 module _ {X : Type 0} where

@@ -14,7 +14,7 @@ use Rattle.oletx_session.specs.declared.packet.Packet.{Packet}
 use Rattle.oletx_session.specs.Queues.{HasNoStray, frame_in, goes, is_of, is_on, link_of, on_way, stopped_link, wire_in, wires_in}
 use Rattle.oletx_session.specs.Traffic.{Wire, stopped_wire, wire_of}
 use Rattle.oletx_session.specs.Carries.{Carries, IsLane, IsWire}
-use Rattle.oletx_session.proofs.Conns.{same_way_is}
+use Rattle.dtx_model.proofs.Connections.{same_way_is}
 use Rattle.oletx_session.proofs.Views.{made}
 
 -- of the packets that go in one direction none on a lane in this direction is missing

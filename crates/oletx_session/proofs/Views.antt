@@ -18,7 +18,7 @@ use Rattle.oletx_session.specs.declared.packet.Packet.{Packet}
 use Rattle.oletx_session.specs.Queues.{AreSameElse, Changes, HasNoStray, bytes_on, frame_in, has_ended, is_ending, is_of, is_on, link_of, on_way, wire_in, wires_in}
 use Rattle.dtx_model.specs.Outcome.{is_empty}
 use Rattle.oletx_session.specs.Traffic.{Becomes, Spells, Wire, has_left, lane, wire_of}
-use Rattle.oletx_session.proofs.Conns.{not_same_as, same_is}
+use Rattle.dtx_model.proofs.Connections.{not_same_as, same_is}
 
 -- the wire of a connection is what is seen of its link
 pub wire_seen : (ps : List Packet) (ls : List Link) (c : Conn) → wire_of c (wires_in ps ls) ≡ option_map (wire_in ps) (link_of c ls)

@@ -1,5 +1,5 @@
 -- The block of each reply that is due and of each local act keeps the rules.
-use Rattle.std.proofs.Common.{suc, zero, ◌≡◌, ℕ, ◌==◌, Bool, true, false, ◌&&◌, ◌||◌, inl, inr, List, [], ◌∷◌, Option, Some, None, refl, ◌∙◌, ap, sym, subst, slice_get}
+use Rattle.std.proofs.Common.{◌≡◌, ℕ, ◌==◌, Bool, true, false, ◌&&◌, ◌||◌, inl, inr, List, [], ◌∷◌, Option, Some, None, refl, ◌∙◌, ap, sym, subst, slice_get}
 use Rattle.std.specs.Prelude.{is_some, filter, find, not, if◌then◌else◌}
 use Rattle.std.proofs.lemmas.Bool.{eqb-true, or_left}
 use Rattle.dtx_values.specs.declared.number.EnlNo.{EnlNo}
@@ -27,16 +27,15 @@ use Rattle.dtx_model.specs.Outcome.{durables, enlisted, volatiles, voters, is_co
 use Rattle.dtx_values.specs.Class.{is_class, is_volatile}
 use Rattle.dtx_values.specs.Owners.{owner_of}
 use Rattle.dtx_model.specs.Replies.{fits}
-use Rattle.dtx_model.proofs.Narrow.{reply_entries}
+use Rattle.dtx_model.proofs.Narrow.{reply_entries, hears_abort, is_to_tell, commit_act, before_seal, after_seal, undecided_act, act_by}
 use Rattle.dtx_model.proofs.NarrowReplies.{IsDue}
 use Rattle.dtx_values.specs.Waves.{all_voted, hears, may_be_asked, name_of, next_ask, zeros_voted, is_over}
 use Rattle.dtx_model.specs.Half.{is_handed}
 use Rattle.dtx_model.specs.Acts.{tell}
-use Rattle.dtx_model.proofs.Narrow.{hears_abort, is_to_tell, commit_act, before_seal, after_seal, undecided_act, act_by}
 use Rattle.dtx_model.proofs.Bools.{and_left, and_right, and_both, or_right, not_true, not_false, three_hold}
 use Rattle.outcome_law.proofs.Tests.{four_hold, five_hold, eq_self}
 use Rattle.outcome_law.proofs.Scans.{each_more, each_both}
-use Rattle.outcome_law.proofs.Picks.{passes, each_from_at, found_at, found_well, none_each}
+use Rattle.outcome_law.proofs.Picks.{passes, each_from_at, found_at, found_well, none_each, has-at}
 use Rattle.outcome_law.proofs.Rule.{is_enlisted, is_only, is_answer, all_complete, zeros_cast, is_decided, is_certain, rule, ruled, is_volatile_of}
 use Rattle.outcome_law.proofs.TableRows.{none_there, rows_enlisted, row_marked, row_voted, zeros_seen, all_voted_seen, open_blocks}
 use Rattle.outcome_law.proofs.Evidence.{none_promoted, voters-volatile, sealed_closed}
@@ -110,7 +109,7 @@ pub reply_keeps : (h : List Entry) (e : EnlNo) (y : Reply) (n : Note) → IsKept
 reply_keeps h e y n i d f = vote_keeps h e y i (fits_well h e y n f d (due_well h e.value n i d))
 
 -- an outcome is itself
-same_self : (x : Outcome) → same_outcome x x ≡ true
+pub same_self : (x : Outcome) → same_outcome x x ≡ true
 same_self Committed = refl
 same_self Aborted = refl
 same_self InDoubt = refl
@@ -152,7 +151,7 @@ ask_step true false w d t s a v p q u e f =
 ask_step false m w d t s a v p q u e f = refl
 
 -- what is asked is volatile
-asked_volatile : (zero : Bool) (c : Class) → is_class zero c ≡ true → is_volatile c ≡ true
+pub asked_volatile : (zero : Bool) (c : Class) → is_class zero c ≡ true → is_volatile c ≡ true
 asked_volatile true Zero k = refl
 asked_volatile true One k = refl
 asked_volatile true DurableTwo k = absurd cc
@@ -165,16 +164,11 @@ asked_volatile false DurableSingle k = absurd cc
 asked_volatile false Promotable k = absurd cc
 
 -- a row of a volatile is that of a volatile enlistment
-row_volatile : (h : List Entry) (k : ℕ) (x : Row) → slice_get (rows h) k ≡ Some x → is_volatile x.class ≡ true → has (is_volatile_of x.number.value) (enlisted h) ≡ true
+pub row_volatile : (h : List Entry) (k : ℕ) (x : Row) → slice_get (rows h) k ≡ Some x → is_volatile x.class ≡ true → has (is_volatile_of x.number.value) (enlisted h) ≡ true
 row_volatile h k x e v =
     let n = x.number.value in
     sym (has_rows (λ (f : EnlNo) (c : Class). (n == f.value) && is_volatile c) h)
-    ∙ has_at (λ (y : Row). (n == y.number.value) && is_volatile y.class) (rows h) k x e (and_both (n == n) (is_volatile x.class) (eq_self n) v)
-  where
-    has_at : (p : Row → Bool) (xs : List Row) (k : ℕ) (x : Row) → slice_get xs k ≡ Some x → p x ≡ true → has p xs ≡ true
-    has_at p [] k x e v = absurd cc
-    has_at p (y ∷ ys) zero x e v = let same : y ≡ x = cc in or_left (p y) (has p ys) (ap p same ∙ v)
-    has_at p (y ∷ ys) (suc k) x e v = or_right (p y) (has p ys) (has_at p ys k x e v)
+    ∙ has-at (λ (y : Row). (n == y.number.value) && is_volatile y.class) (rows h) k x e (and_both (n == n) (is_volatile x.class) (eq_self n) v)
 
 -- the name of what passes passes
 name_well : (h : List Entry) (o : Option Row) → passes (λ x. rule h (Asked x.number Prepare)) o ≡ true → passes (λ e. rule h (Asked e Prepare)) (name_of o) ≡ true
@@ -214,12 +208,12 @@ commit_act_keeps h false (Some e) k f g = keep (Handed e) h k refl (f e refl ref
 commit_act_keeps h false None k f g = keep (Decided Committed) h k refl (g refl) (λ g. refl)
 
 -- what neither waits nor is open is complete
-close_step : (b x : Bool) → (not b || x) ≡ true → (b || x) ≡ true → x ≡ true
+pub close_step : (b x : Bool) → (not b || x) ≡ true → (b || x) ≡ true → x ≡ true
 close_step true x p q = p
 close_step false x p q = q
 
 -- what isn't open blocks nothing
-shut_step : (b x : Bool) → (b && not x) ≡ false → (not b || x) ≡ true
+pub shut_step : (b x : Bool) → (b && not x) ≡ false → (not b || x) ≡ true
 shut_step true true p = refl
 shut_step true false p = absurd cc
 shut_step false x p = refl
@@ -251,7 +245,7 @@ voted_good e (Voted f Done ∷ h) w k = good_step (e == f.value) (has (is_vote e
 voted_good e (x ∷ h) w k = voted_good e h w k
 
 -- each of those that are picked passes where each passes that is picked
-each_filter : {A : Type 0} (p q : A → Bool) (xs : List A) → each (λ x. not (p x) || q x) xs ≡ true → each q (filter p xs) ≡ true
+pub each_filter : {A : Type 0} (p q : A → Bool) (xs : List A) → each (λ x. not (p x) || q x) xs ≡ true → each q (filter p xs) ≡ true
 each_filter p q [] h = refl
 each_filter p q (x ∷ xs) h =
     step q (p x) x (filter p xs) (and_left (not (p x) || q x) (each (λ x. not (p x) || q x) xs) h) (each_filter p q xs (and_right (not (p x) || q x) (each (λ x. not (p x) || q x) xs) h))

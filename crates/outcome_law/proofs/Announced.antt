@@ -34,7 +34,7 @@ use Rattle.outcome_law.specs.Severed.{is_severing}
 use Rattle.dtx_model.proofs.Bools.{and_both, and_left, and_right, not_both, or_case, or_right, or_second}
 use Rattle.dtx_model.proofs.Reading.{has-onto}
 use Rattle.outcome_law.proofs.Scans.{has_more}
-use Rattle.outcome_law.proofs.Whole.{is_got_on, is_sent_on, whole_of}
+use Rattle.outcome_law.proofs.Whole.{whole_of}
 use Rattle.outcome_law.proofs.Messages.{OUTCOME}
 use Rattle.outcome_law.proofs.Table.{is_opening_got}
 use Rattle.outcome_law.proofs.Keeping.{Keeps, keeps_before}
@@ -45,6 +45,7 @@ use Rattle.outcome_law.proofs.CoreStages.{begun_if_active, stopped_same}
 use Rattle.outcome_law.proofs.CoreKnown.{later_opened, work_begun}
 use Rattle.outcome_law.proofs.Unblamed.{no_end}
 use Rattle.outcome_law.proofs.MildBlocks.{IsWide, Mild, is_mild, m_abort, m_act, m_commit, m_core_got, m_local_got, wide_called, wide_mild, wide_reply}
+use Rattle.outcome_law.proofs.Crossed.{is_sent_on, is_got_on}
 
 -- where the coordinator has decided, it sent its decision on b
 abbrev pub IsAnnounced : List Entry → Type 0

@@ -13,8 +13,9 @@ use Rattle.dtx_model.specs.Wires.{WireRun, holds, is_next, is_open_wire, is_kept
 use Rattle.dtx_values.specs.Ends.{same_connection, same_direction}
 use Rattle.std.proofs.lemmas.Bool.{or_left}
 use Rattle.dtx_model.proofs.Bools.{and_left, and_right, or_case, or_first, or_second, or_false, or_right, not_true, not_both}
-use Rattle.outcome_law.proofs.Whole.{is_got_on, is_sent_on, is_whole, whole}
-use Rattle.outcome_law.proofs.Connections.{same_is, same_way_is}
+use Rattle.outcome_law.proofs.Whole.{is_whole, whole}
+use Rattle.dtx_model.proofs.Connections.{same_is, same_way_is}
+use Rattle.outcome_law.proofs.Crossed.{is_sent_on, is_got_on}
 
 -- what stands before is whole
 pub before : (x : Entry) (h : List Entry) → whole (x ∷ h) ≡ true → whole h ≡ true

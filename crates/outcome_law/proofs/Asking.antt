@@ -31,7 +31,7 @@ use Rattle.dtx_model.specs.Entries.{is_commit_got, is_decision, is_promoted, is_
 use Rattle.dtx_model.specs.Observed.{Observed, is_request, observe, rows}
 use Rattle.dtx_model.specs.Outcome.{enlisted}
 use Rattle.dtx_model.specs.Promotes.{identifier_of, is_promoting}
-use Rattle.dtx_model.specs.Wires.{MayCross, in_transit, is_next}
+use Rattle.dtx_model.specs.Wires.{MayCross, in_transit}
 use Rattle.dtx_model.specs.Coordinated.{Coordinated, accepts, ballot_of, coordinate, core_got, desk_number, follow, is_active, is_desk_of, is_prepared, may_log, to, to_each, unacked, with_ack, with_ballot}
 use Rattle.dtx_model.specs.Half.{Half, to_up}
 use Rattle.dtx_model.specs.Acts.{act_entries, commit_sent, promotable_in}
@@ -50,17 +50,19 @@ use Rattle.outcome_law.proofs.Table.{is_enlist_got, is_opening_got, is_prepare_g
 use Rattle.outcome_law.proofs.Keeping.{Keeps, before, keeps_before, newest}
 use Rattle.outcome_law.proofs.Crossed.{is_got_on, is_sent_on}
 use Rattle.outcome_law.proofs.Recording.{enlisted_unsealed}
-use Rattle.outcome_law.proofs.Leading.{none_again}
+use Rattle.outcome_law.proofs.Leading.{none_again, next_stands}
 use Rattle.outcome_law.proofs.HalfReplies.{owed}
-use Rattle.outcome_law.proofs.OnceSent.{first_got, is_first_sent, next_stands}
-use Rattle.outcome_law.proofs.BareBlocks.{Bare, Requests, Seals, act_kind, bare_appended, bare_called, bare_cons, bare_core_got, bare_ended_at, bare_freed, bare_if, bare_local_got, bare_one, bare_restarted, is_bare, is_commit, is_prepare, reply_kind}
+use Rattle.outcome_law.proofs.OnceSent.{first_got, is_first_sent}
+use Rattle.outcome_law.proofs.BareBlocks.{Bare, Requests, Seals, act_kind, bare_appended, bare_called, bare_cons, bare_core_got, bare_ended_at, bare_freed, bare_if, bare_local_got, bare_one, bare_restarted, is_bare, reply_kind}
+use Rattle.dtx_model.proofs.Quiet.{takes_next}
+use Rattle.outcome_law.proofs.Messages.{COMMIT, PREPARE}
 
 no : false ≡ true → ⊥
 no e = absurd cc
 
 -- COMMIT is sent; PREPARE is sent to this enlistment
 abbrev pub is_commit_sent : Entry → Bool
-is_commit_sent x = is_sent_on Begin Up is_commit x
+is_commit_sent x = is_sent_on Begin Up COMMIT x
 
 abbrev pub has_promotable : List Entry → Bool
 has_promotable h = has (λ x. is_promotable x.1) (enlisted h)
@@ -71,24 +73,24 @@ is_lone h x = not (is_commit_sent x) || (has is_request h || not (has_promotable
 
 pub record IsAsking (h : List Entry) : Type 0 where
   -- COMMIT is sent once
-  pub first : always (is_first_sent Begin Up is_commit) h ≡ true
+  pub first : always (is_first_sent Begin Up COMMIT) h ≡ true
   pub lone : always is_lone h ≡ true
   -- and so is each PREPARE
-  pub asks : (e : EnlNo) → always (is_first_sent (Enl e) Down is_prepare) h ≡ true
+  pub asks : (e : EnlNo) → always (is_first_sent (Enl e) Down PREPARE) h ≡ true
 
 -- an entry that sends neither keeps it
-bare_uncommit : (x : Entry) → is_bare x ≡ true → is_commit_sent x ≡ false
-bare_uncommit (Sent c Up m) t = ap (λ b. same_connection Begin c && true && b) (not_true (is_commit m) t) ∙ and_never (same_connection Begin c && true)
-bare_uncommit (Sent c Down m) t = down (same_connection Begin c) (is_commit m)
+pub bare_uncommit : (x : Entry) → is_bare x ≡ true → is_commit_sent x ≡ false
+bare_uncommit (Sent c Up m) t = ap (λ b. same_connection Begin c && true && b) (not_true (COMMIT m) t) ∙ and_never (same_connection Begin c && true)
+bare_uncommit (Sent c Down m) t = down (same_connection Begin c) (COMMIT m)
   where
     down : (a b : Bool) → (a && false && b) ≡ false
     down true b = refl
     down false b = refl
 bare_uncommit _ t = refl
 
-bare_unasked : (e : EnlNo) (x : Entry) → is_bare x ≡ true → is_sent_on (Enl e) Down is_prepare x ≡ false
-bare_unasked e (Sent c Down m) t = ap (λ b. same_connection (Enl e) c && true && b) (not_true (is_prepare m) t) ∙ and_never (same_connection (Enl e) c && true)
-bare_unasked e (Sent c Up m) t = up (same_connection (Enl e) c) (is_prepare m)
+bare_unasked : (e : EnlNo) (x : Entry) → is_bare x ≡ true → is_sent_on (Enl e) Down PREPARE x ≡ false
+bare_unasked e (Sent c Down m) t = ap (λ b. same_connection (Enl e) c && true && b) (not_true (PREPARE m) t) ∙ and_never (same_connection (Enl e) c && true)
+bare_unasked e (Sent c Up m) t = up (same_connection (Enl e) c) (PREPARE m)
   where
     up : (a b : Bool) → (a && false && b) ≡ false
     up true b = refl
@@ -100,12 +102,12 @@ unless_sent true b e = absurd cc
 unless_sent false b e = refl
 
 one_more : (x : Entry) (h : List Entry) → (is_commit_sent x ≡ true → (has is_commit_sent h ≡ false) × ((has is_request h || not (has_promotable h)) ≡ true))
-    → ((e : EnlNo) → is_sent_on (Enl e) Down is_prepare x ≡ false) → IsAsking h → IsAsking (x ∷ h)
+    → ((e : EnlNo) → is_sent_on (Enl e) Down PREPARE x ≡ false) → IsAsking h → IsAsking (x ∷ h)
 one_more x h f g i =
     record {
-      first = and_both (is_first_sent Begin Up is_commit h x) (always (is_first_sent Begin Up is_commit) h) (sure (is_commit_sent x) (has is_commit_sent h) (λ t. (f t).0)) i.first;
+      first = and_both (is_first_sent Begin Up COMMIT h x) (always (is_first_sent Begin Up COMMIT) h) (sure (is_commit_sent x) (has is_commit_sent h) (λ t. (f t).0)) i.first;
       lone = and_both (is_lone h x) (always is_lone h) (owns (is_commit_sent x) (has is_request h || not (has_promotable h)) (λ t. (f t).1)) i.lone;
-      asks = λ e. and_both (is_first_sent (Enl e) Down is_prepare h x) (always (is_first_sent (Enl e) Down is_prepare) h) (unless_sent (is_sent_on (Enl e) Down is_prepare x) _ (g e)) (i.asks e);
+      asks = λ e. and_both (is_first_sent (Enl e) Down PREPARE h x) (always (is_first_sent (Enl e) Down PREPARE) h) (unless_sent (is_sent_on (Enl e) Down PREPARE x) _ (g e)) (i.asks e);
     }
   where
     sure : (a b : Bool) → (a ≡ true → b ≡ false) → (not a || not b) ≡ true
@@ -126,9 +128,9 @@ bare_onto h (x ∷ es) b i =
 
 -- COMMIT is sent after the seal
 sent_is : (x : Entry) → is_commit_sent x ≡ true → x ≡ Sent Begin Up BeginCommit
-sent_is (Sent c r m) t = by c r m (and_left (same_connection Begin c && same_direction Up r) (is_commit m) t) (and_right (same_connection Begin c && same_direction Up r) (is_commit m) t)
+sent_is (Sent c r m) t = by c r m (and_left (same_connection Begin c && same_direction Up r) (COMMIT m) t) (and_right (same_connection Begin c && same_direction Up r) (COMMIT m) t)
   where
-    by : (c : Conn) (r : Dir) (m : Message) → (same_connection Begin c && same_direction Up r) ≡ true → is_commit m ≡ true → Sent c r m ≡ Sent Begin Up BeginCommit
+    by : (c : Conn) (r : Dir) (m : Message) → (same_connection Begin c && same_direction Up r) ≡ true → COMMIT m ≡ true → Sent c r m ≡ Sent Begin Up BeginCommit
     by Begin Up BeginCommit s t = refl
     by _ _ _ s t = absurd cc
 sent_is _ t = absurd (no t)
@@ -168,7 +170,7 @@ named_none xs t = find_none (λ x. is_promotable x.class) xs (by (find (λ x. is
 rows_promotable : (h : List Entry) → has (λ x. is_promotable x.class) (rows h) ≡ has_promotable h
 rows_promotable h = has_rows (λ (f : EnlNo) (c : Class). is_promotable c) h
 
-asked_up : (o : Observed) (h : List Entry) (m : Message) → IsAsking h → (is_commit m ≡ true → (has is_commit_sent h ≡ false) × ((has is_request h || not (has_promotable h)) ≡ true)) → IsAsking (onto h (to_up o Begin m))
+asked_up : (o : Observed) (h : List Entry) (m : Message) → IsAsking h → (COMMIT m ≡ true → (has is_commit_sent h ≡ false) × ((has is_request h || not (has_promotable h)) ≡ true)) → IsAsking (onto h (to_up o Begin m))
 asked_up o h m i f = by (knows Begin o.ends)
   where
     by : (b : Bool) → IsAsking (onto h (if b then Sent Begin Up m ∷ [] else []))
@@ -239,8 +241,8 @@ are_single [] = true
 are_single (d ∷ ds) = not (has (is_desk_of d.enlistment.value) ds) && are_single ds
 
 -- PREPARE to each desk, where none was sent to it
-each_asked : (e : EnlNo) (k : Coordinated) (ds : List Desk) (h : List Entry) → are_single ds ≡ true → (has (is_desk_of e.value) ds ≡ true → has (is_sent_on (Enl e) Down is_prepare) h ≡ false)
-    → always (is_first_sent (Enl e) Down is_prepare) h ≡ true → always (is_first_sent (Enl e) Down is_prepare) (onto h (to_each k EnlistPrepare ds)) ≡ true
+each_asked : (e : EnlNo) (k : Coordinated) (ds : List Desk) (h : List Entry) → are_single ds ≡ true → (has (is_desk_of e.value) ds ≡ true → has (is_sent_on (Enl e) Down PREPARE) h ≡ false)
+    → always (is_first_sent (Enl e) Down PREPARE) h ≡ true → always (is_first_sent (Enl e) Down PREPARE) (onto h (to_each k EnlistPrepare ds)) ≡ true
 each_asked e k [] h s f a = a
 each_asked e k (d ∷ ds) h s f a = by (has (same_connection (Enl d.enlistment)) k.known) (λ g t b. each_asked e k ds g (and_right (not (has (is_desk_of d.enlistment.value) ds)) (are_single ds) s) t b)
   where
@@ -255,15 +257,15 @@ each_asked e k (d ∷ ds) h s f a = by (has (same_connection (Enl d.enlistment))
     later true c r g q t = absurd (not_both r t (g refl))
     later false c r g q t = q t
 
-    by : (b : Bool) → ((g : List Entry) → (has (is_desk_of e.value) ds ≡ true → has (is_sent_on (Enl e) Down is_prepare) g ≡ false) → always (is_first_sent (Enl e) Down is_prepare) g ≡ true
-        → always (is_first_sent (Enl e) Down is_prepare) (onto g (to_each k EnlistPrepare ds)) ≡ true)
-        → always (is_first_sent (Enl e) Down is_prepare) (onto h ((if b then Sent (Enl d.enlistment) Down EnlistPrepare ∷ [] else []) ++ to_each k EnlistPrepare ds)) ≡ true
+    by : (b : Bool) → ((g : List Entry) → (has (is_desk_of e.value) ds ≡ true → has (is_sent_on (Enl e) Down PREPARE) g ≡ false) → always (is_first_sent (Enl e) Down PREPARE) g ≡ true
+        → always (is_first_sent (Enl e) Down PREPARE) (onto g (to_each k EnlistPrepare ds)) ≡ true)
+        → always (is_first_sent (Enl e) Down PREPARE) (onto h ((if b then Sent (Enl d.enlistment) Down EnlistPrepare ∷ [] else []) ++ to_each k EnlistPrepare ds)) ≡ true
     by true rest =
         rest (Sent (Enl d.enlistment) Down EnlistPrepare ∷ h)
-        (later (e.value == d.enlistment.value) (has (is_sent_on (Enl e) Down is_prepare) h) (has (is_desk_of e.value) ds)
+        (later (e.value == d.enlistment.value) (has (is_sent_on (Enl e) Down PREPARE) h) (has (is_desk_of e.value) ds)
         (λ q. let P : ℕ → Type 0 = λ n. has (is_desk_of n) ds ≡ false in subst P (sym (eqb-true e.value d.enlistment.value q)) alone) (λ t. f (or_right (is_desk_of e.value d) (has (is_desk_of e.value) ds) t)))
-        (and_both (is_first_sent (Enl e) Down is_prepare h (Sent (Enl d.enlistment) Down EnlistPrepare)) (always (is_first_sent (Enl e) Down is_prepare) h)
-        (here (e.value == d.enlistment.value) (has (is_sent_on (Enl e) Down is_prepare) h) (λ q. f (or_left (is_desk_of e.value d) (has (is_desk_of e.value) ds) q))) a)
+        (and_both (is_first_sent (Enl e) Down PREPARE h (Sent (Enl d.enlistment) Down EnlistPrepare)) (always (is_first_sent (Enl e) Down PREPARE) h)
+        (here (e.value == d.enlistment.value) (has (is_sent_on (Enl e) Down PREPARE) h) (λ q. f (or_left (is_desk_of e.value d) (has (is_desk_of e.value) ds) q))) a)
     by false rest = rest h (λ t. f (or_right (is_desk_of e.value d) (has (is_desk_of e.value) ds) t)) a
 
 single_insert : (x : Desk) (ds : List Desk) → has (is_desk_of x.enlistment.value) ds ≡ false → are_single ds ≡ true → are_single (insert_by desk_number x ds) ≡ true
@@ -391,29 +393,29 @@ desks_single (Restarted false ∷ h) k = refl
 desks_single (x ∷ h) k = desks_single h (keeps_before x h k)
 
 -- The block of COMMIT.
-prepare_row : (h : List Entry) (c : Conn) (m : Message) → is_prepare m ≡ true → message_row h c m ≡ true → has is_commit_got h ≡ true
+prepare_row : (h : List Entry) (c : Conn) (m : Message) → PREPARE m ≡ true → message_row h c m ≡ true → has is_commit_got h ≡ true
 prepare_row h c EnlistPrepare t r = r
 prepare_row h c _ t r = absurd (no t)
 
-prepare_committed : (e : EnlNo) (x : Entry) (h : List Entry) → Keeps h → rule h x ≡ true → is_sent_on (Enl e) Down is_prepare x ≡ true → has is_commit_got h ≡ true
+prepare_committed : (e : EnlNo) (x : Entry) (h : List Entry) → Keeps h → rule h x ≡ true → is_sent_on (Enl e) Down PREPARE x ≡ true → has is_commit_got h ≡ true
 prepare_committed e (Sent c r m) h k q t =
-    prepare_row h c m (and_right (same_connection (Enl e) c && same_direction Down r) (is_prepare m) t) (fourth_of_four (has_line c r m) (has is_promoting h) (is_there h c r m) (message_row h c m) q)
+    prepare_row h c m (and_right (same_connection (Enl e) c && same_direction Down r) (PREPARE m) t) (fourth_of_four (has_line c r m) (has is_promoting h) (is_there h c r m) (message_row h c m) q)
 prepare_committed e _ h k q t = absurd (no t)
 
-commit_on : (x : Entry) → is_commit_got x ≡ true → is_got_on Begin Up is_commit x ≡ true
+commit_on : (x : Entry) → is_commit_got x ≡ true → is_got_on Begin Up COMMIT x ≡ true
 commit_on (Got Begin Up BeginCommit) t = refl
 commit_on _ t = absurd (no t)
 
-opening_uncommit : (m : Message) → is_opening Begin m ≡ true → is_commit m ≡ false
+opening_uncommit : (m : Message) → is_opening Begin m ≡ true → COMMIT m ≡ false
 opening_uncommit BeginBegin t = refl
 opening_uncommit _ t = absurd (no t)
 
-opening_unasked : (e : EnlNo) (m : Message) → is_opening (Enl e) m ≡ true → is_prepare m ≡ false
+opening_unasked : (e : EnlNo) (m : Message) → is_opening (Enl e) m ≡ true → PREPARE m ≡ false
 opening_unasked e (EnlistEnlist i) t = refl
 opening_unasked e _ t = absurd (no t)
 
 commit_new : (h : List Entry) → Keeps h → IsAsking h → MayCross h (Got Begin Up BeginCommit) → has is_commit_got h ≡ false
-commit_new h k i n = has_less is_commit_got (is_got_on Begin Up is_commit) commit_on h (first_got Begin Up is_commit BeginCommit opening_uncommit refl h k.wires i.first n)
+commit_new h k i n = has_less is_commit_got (is_got_on Begin Up COMMIT) commit_on h (first_got Begin Up COMMIT BeginCommit opening_uncommit refl h k.wires i.first n)
 
 -- no COMMIT is sent by what is sent downward
 abbrev is_downward : Entry → Bool
@@ -421,18 +423,18 @@ is_downward (Sent c Down m) = true
 is_downward _ = false
 
 downward_uncommit : (x : Entry) → is_downward x ≡ true → is_commit_sent x ≡ false
-downward_uncommit (Sent c Down m) t = by (same_connection Begin c) (is_commit m)
+downward_uncommit (Sent c Down m) t = by (same_connection Begin c) (COMMIT m)
   where
     by : (a b : Bool) → (a && false && b) ≡ false
     by true b = refl
     by false b = refl
 downward_uncommit _ t = absurd (no t)
 
-first_onto : (h es : List Entry) → each is_downward es ≡ true → always (is_first_sent Begin Up is_commit) h ≡ true → always (is_first_sent Begin Up is_commit) (onto h es) ≡ true
+first_onto : (h es : List Entry) → each is_downward es ≡ true → always (is_first_sent Begin Up COMMIT) h ≡ true → always (is_first_sent Begin Up COMMIT) (onto h es) ≡ true
 first_onto h [] d a = a
 first_onto h (x ∷ es) d a =
     first_onto (x ∷ h) es (and_right (is_downward x) (each is_downward es) d)
-    (and_both (is_first_sent Begin Up is_commit h x) (always (is_first_sent Begin Up is_commit) h)
+    (and_both (is_first_sent Begin Up COMMIT h x) (always (is_first_sent Begin Up COMMIT) h)
     (unless_sent (is_commit_sent x) _ (downward_uncommit x (and_left (is_downward x) (each is_downward es) d))) a)
 
 lone_onto : (h es : List Entry) → each is_downward es ≡ true → always is_lone h ≡ true → always is_lone (onto h es) ≡ true
@@ -452,7 +454,7 @@ down_each : (k : Coordinated) (m : Message) (ds : List Desk) → each is_downwar
 down_each k m [] = refl
 down_each k m (d ∷ ds) = each-append is_downward (to k (Enl d.enlistment) m) (to_each k m ds) (down_to k (Enl d.enlistment) m) (down_each k m ds)
 
-asks_block : (k : Coordinated) (h : List Entry) → are_single k.desks ≡ true → ((e : EnlNo) → has (is_sent_on (Enl e) Down is_prepare) h ≡ false) → IsAsking h
+asks_block : (k : Coordinated) (h : List Entry) → are_single k.desks ≡ true → ((e : EnlNo) → has (is_sent_on (Enl e) Down PREPARE) h ≡ false) → IsAsking h
     → IsAsking (onto h (to k Voter VoterAsk ++ to_each k EnlistPrepare k.desks))
 asks_block k h s n i =
     let all = each-append is_downward (to k Voter VoterAsk) (to_each k EnlistPrepare k.desks) (down_to k Voter VoterAsk) (down_each k EnlistPrepare k.desks) in
@@ -462,7 +464,7 @@ asks_block k h s n i =
       asks = λ e. by e (has (same_connection Voter) k.known);
     }
   where
-    by : (e : EnlNo) (b : Bool) → always (is_first_sent (Enl e) Down is_prepare) (onto h ((if b then Sent Voter Down VoterAsk ∷ [] else []) ++ to_each k EnlistPrepare k.desks)) ≡ true
+    by : (e : EnlNo) (b : Bool) → always (is_first_sent (Enl e) Down PREPARE) (onto h ((if b then Sent Voter Down VoterAsk ∷ [] else []) ++ to_each k EnlistPrepare k.desks)) ≡ true
     by e true = each_asked e k k.desks (Sent Voter Down VoterAsk ∷ h) s (λ t. n e) (i.asks e)
     by e false = each_asked e k k.desks h s (λ t. n e) (i.asks e)
 
@@ -470,10 +472,10 @@ commit_asking : (id : ℕ) (h : List Entry) → Keeps h → MayCross h (Got Begi
 unfolding core_got
 commit_asking id h k n i = by (is_active (coordinate h).stage)
   where
-    none : (e : EnlNo) → has (is_sent_on (Enl e) Down is_prepare) h ≡ false
+    none : (e : EnlNo) → has (is_sent_on (Enl e) Down PREPARE) h ≡ false
     none e =
-        false_from_ne_true (has (is_sent_on (Enl e) Down is_prepare) h)
-        (λ t. not_both (has is_commit_got h) (before (is_sent_on (Enl e) Down is_prepare) is_commit_got (prepare_committed e) h k t) (commit_new h k i n))
+        false_from_ne_true (has (is_sent_on (Enl e) Down PREPARE) h)
+        (λ t. not_both (has is_commit_got h) (before (is_sent_on (Enl e) Down PREPARE) is_commit_got (prepare_committed e) h k t) (commit_new h k i n))
 
     by : (b : Bool) → IsAsking (onto (Got Begin Up BeginCommit ∷ h) (if b then to (coordinate h) Voter VoterAsk ++ to_each (coordinate h) EnlistPrepare (coordinate h).desks else []))
     by true = asks_block (coordinate h) (Got Begin Up BeginCommit ∷ h) (desks_single h k) none (bare_more (Got Begin Up BeginCommit) h refl i)
@@ -483,10 +485,6 @@ commit_asking id h k n i = by (is_active (coordinate h).stage)
 got_asking : (id : ℕ) (c : Conn) (m : Message) (h : List Entry) → Keeps h → MayCross h (Got c Up m) → IsAsking h → IsAsking (onto (Got c Up m ∷ h) (core_got id (coordinate h) c m))
 got_asking id Begin BeginCommit h k n i = commit_asking id h k n i
 got_asking id c m h k n i = bare_onto (Got c Up m ∷ h) (core_got id (coordinate h) c m) (bare_core_got id (coordinate h) c m refl) (bare_more (Got c Up m) h refl i)
-
-takes_next : (m : Message) (ms ns : List Message) → ns ≡ m ∷ ms → is_next m ns
-takes_next m ms [] e = absurd cc
-takes_next m ms (n ∷ ns) e = cc
 
 up_asking : (t : ℕ) (w : World) (c : Conn) (ms : List Message) → in_transit c Up w.past ≡ ms → Keeps w.past → IsAsking w.past → IsAsking (onto w.past (delivered t w c Up ms))
 up_asking t w c [] q k i = bare_onto w.past (Ended c Up ∷ ended_at w c Up) (bare_cons (Ended c Up) refl (bare_ended_at w c Up)) i
@@ -521,10 +519,10 @@ pub none_asked : IsAsking []
 none_asked = record { first = refl; lone = refl; asks = λ e. refl }
 
 -- so where PREPARE comes, none came before
-prepare_on : (e : EnlNo) (x : Entry) → is_prepare_got e.value x ≡ true → is_got_on (Enl e) Down is_prepare x ≡ true
+prepare_on : (e : EnlNo) (x : Entry) → is_prepare_got e.value x ≡ true → is_got_on (Enl e) Down PREPARE x ≡ true
 prepare_on e (Got (Enl f) Down EnlistPrepare) t = rw t refl
 prepare_on e _ t = absurd (no t)
 
 pub prepare_new : (e : EnlNo) (h : List Entry) → Keeps h → IsAsking h → MayCross h (Got (Enl e) Down EnlistPrepare) → has (is_prepare_got e.value) h ≡ false
 prepare_new e h k i n =
-    has_less (is_prepare_got e.value) (is_got_on (Enl e) Down is_prepare) (prepare_on e) h (first_got (Enl e) Down is_prepare EnlistPrepare (opening_unasked e) refl h k.wires (i.asks e) n)
+    has_less (is_prepare_got e.value) (is_got_on (Enl e) Down PREPARE) (prepare_on e) h (first_got (Enl e) Down PREPARE EnlistPrepare (opening_unasked e) refl h k.wires (i.asks e) n)

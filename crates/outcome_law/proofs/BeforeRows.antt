@@ -24,16 +24,16 @@ use Rattle.std.proofs.lemmas.Bool.{false_from_ne_true, or_left}
 use Rattle.dtx_model.specs.Outcome.{enlisted}
 use Rattle.outcome_law.proofs.Rule.{is_enlisted, is_volatile_of}
 use Rattle.outcome_law.proofs.Debts.{is_volatile_made}
-use Rattle.outcome_law.proofs.Connections.{same_is}
+use Rattle.dtx_model.proofs.Connections.{same_is}
 use Rattle.dtx_model.specs.Learned.{coordinator_aborted}
 use Rattle.outcome_law.proofs.Scans.{has_more}
 use Rattle.outcome_law.proofs.Tests.{eq_self, second_of_three, second_of_four, third_of_four, second_of_five}
-use Rattle.outcome_law.proofs.Whole.{is_got_on}
 use Rattle.outcome_law.proofs.Messages.{BEGUN, COMMIT, PREPARE, ASK, CREATED}
 use Rattle.outcome_law.proofs.Rest.{is_begun, is_ordered, is_sound}
 use Rattle.outcome_law.proofs.Table.{is_prepare_got, is_there, message_row, rule, have_come, is_ask_got, is_opening_got, stands_promotable, stands_volatile, volatiles_well}
 use Rattle.outcome_law.proofs.Keeping.{Keeps, keeps_before, newest, fifth_of_five}
 use Rattle.outcome_law.proofs.Standing.{begun_if_enlist, begun_if_voter, prepared_if_cast, sent_opened, prepared_if_asked}
+use Rattle.outcome_law.proofs.Crossed.{is_got_on}
 
 -- a row that each entry keeps of a history that keeps the table
 pub by_keeping : (row : List Entry → Entry → Bool) → ((x : Entry) (h : List Entry) → Keeps (x ∷ h) → row h x ≡ true) → (h : List Entry) → Keeps h → always row h ≡ true

@@ -104,7 +104,7 @@ gone_done (Some n) true true k = absurd cc
 gone_done (Some n) true false k = (refl, refl)
 
 -- what a call of volatile enlists is volatile
-volatile_class : (x : EnlistOption) → is_volatile (class_of x) ≡ true
+pub volatile_class : (x : EnlistOption) → is_volatile (class_of x) ≡ true
 volatile_class Plain = refl
 volatile_class DuringPrepare = refl
 

@@ -45,9 +45,11 @@ use Rattle.outcome_law.proofs.Arrivals.{ComeOnce}
 use Rattle.outcome_law.proofs.Leading.{opening_was_sent}
 use Rattle.outcome_law.proofs.CoreKnown.{sent_opened_there}
 use Rattle.outcome_law.proofs.CoreBlocks.{promoted_created}
-use Rattle.outcome_law.proofs.CalmBlocks.{Calm, Seals, act_kind, calm_arrived, calm_called, calm_commit_sent, calm_coordinates, calm_core_got, calm_ended_at, calm_reply, calm_restarted, is_enlist, is_slow}
+use Rattle.outcome_law.proofs.CalmBlocks.{Calm, Seals, act_kind, calm_arrived, calm_called, calm_commit_sent, calm_coordinates, calm_core_got, calm_ended_at, calm_reply, calm_restarted, is_slow}
 use Rattle.outcome_law.proofs.Welcomes.{begun_new, created_new, is_direct}
 use Rattle.outcome_law.proofs.Asking.{IsAsking, prepare_new}
+use Rattle.outcome_law.proofs.Messages.{ENLIST}
+use Rattle.dtx_model.proofs.Quiet.{takes_next}
 
 no : false ≡ true → ⊥
 no e = absurd cc
@@ -58,7 +60,7 @@ IsAfter h = (e : EnlNo) → has (opens (Enl e)) h ≡ true → has is_created_go
 
 -- the entry sends no ENLIST
 abbrev pub is_unopening : Entry → Bool
-is_unopening (Sent c Up m) = not (is_enlist m)
+is_unopening (Sent c Up m) = not (ENLIST m)
 is_unopening _ = true
 
 slow_un : (x : Entry) → is_slow x ≡ true → is_unopening x ≡ true
@@ -66,7 +68,7 @@ slow_un (Sent c Up m) t = t
 slow_un (Sent c Down m) t = refl
 slow_un _ t = refl
 
-not_opening : (e : EnlNo) (m : Message) → not (is_enlist m) ≡ true → is_opening (Enl e) m ≡ false
+not_opening : (e : EnlNo) (m : Message) → not (ENLIST m) ≡ true → is_opening (Enl e) m ≡ false
 not_opening e (EnlistEnlist i) t = absurd (no t)
 not_opening e _ t = refl
 
@@ -137,10 +139,6 @@ got_after t w Voter VoterCreated k n f a = there (Got Voter Down VoterCreated �
 got_after t w (Enl e) EnlistEnlisted k n f a = absurd (not_both (has is_created_got w.past) (a e (down_opened (Enl e) EnlistEnlisted w.past k n)) f)
 got_after t w c m k n f a =
     un_onto w.past (Got c Down m ∷ arrived t (sees (half w) (Got c Down m)) c m) (calm_un (arrived t (sees (half w) (Got c Down m)) c m) (calm_arrived t (sees (half w) (Got c Down m)) c m refl)) a
-
-takes_next : (m : Message) (ms ns : List Message) → ns ≡ m ∷ ms → is_next m ns
-takes_next m ms [] e = absurd cc
-takes_next m ms (n ∷ ns) e = cc
 
 down_after : (t : ℕ) (w : World) (c : Conn) (ms : List Message) → in_transit c Down w.past ≡ ms → Keeps w.past → has is_created_got w.past ≡ false → IsAfter w.past → IsAfter (onto w.past (delivered t w c Down ms))
 down_after t w c [] q k f a = un_onto w.past (Ended c Down ∷ ended_at w c Down) (calm_un (ended_at w c Down) (calm_ended_at w c Down)) a

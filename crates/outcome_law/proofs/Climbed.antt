@@ -39,7 +39,6 @@ use Rattle.outcome_law.proofs.Rules.{undecided}
 use Rattle.outcome_law.proofs.TableRows.{enlisted_in_rows}
 use Rattle.outcome_law.proofs.Owned.{has_rows, has_filter}
 use Rattle.outcome_law.proofs.Settled.{ones_done, told_all, zeros_done}
-use Rattle.outcome_law.proofs.Whole.{is_got_on, is_sent_on}
 use Rattle.outcome_law.proofs.Messages.{BEGIN, COMMIT, ENLIST, ENLISTED, ENLIST_ANSWER}
 use Rattle.outcome_law.proofs.Fine.{IsFine, is_bad}
 use Rattle.outcome_law.proofs.Debts.{enlisted_next, has_promotable}
@@ -53,6 +52,7 @@ use Rattle.outcome_law.proofs.Promoted.{climb, enlisted_well, good_answer, got_d
 use Rattle.outcome_law.proofs.Stages.{IsUnlogged}
 use Rattle.outcome_law.proofs.Committed.{IsOpen, ask_got, commit_got, enlistment_asked, is_commit_request, logged_decided, open_before, plain_first, request_commits, seal_commits, vote_got, yes_got}
 use Rattle.outcome_law.proofs.Recorded.{may_append}
+use Rattle.outcome_law.proofs.Crossed.{is_sent_on, is_got_on}
 
 -- Where no promotable was enlisted, BEGIN is sent after `promoting`; else after the promotable's ok.
 begin_due : (y : Entry) (past : List Entry) → has_promotable (y ∷ past) ≡ false → is_promoting y ≡ true → Demands (λ h. has_promotable h ≡ false) past y (is_sent_on Begin Up BEGIN)

@@ -27,13 +27,13 @@ use Rattle.dtx_model.proofs.Bools.{and_left, and_right, not_both, not_true, or_c
 use Rattle.dtx_model.proofs.Reading.{has-onto}
 use Rattle.outcome_law.proofs.Lists.{OfEach}
 use Rattle.outcome_law.proofs.Scans.{each_both}
-use Rattle.outcome_law.proofs.Whole.{is_got_on, is_sent_on}
 use Rattle.outcome_law.proofs.Messages.{ENLIST, ENLISTED}
 use Rattle.outcome_law.proofs.Rest.{is_after_start}
 use Rattle.outcome_law.proofs.Promoted.{sent_after_start}
 use Rattle.outcome_law.proofs.PlainBlocks.{Plain, is_plain}
 use Rattle.outcome_law.proofs.DecidingBlocks.{Keeps, is_kept}
 use Rattle.outcome_law.proofs.Makers.{IsWaiter}
+use Rattle.outcome_law.proofs.Crossed.{is_sent_on, is_got_on}
 
 abbrev pub is_coming : List EnteredCall → List Entry → ℕ → Bool
 is_coming ks h e = (is_under_way h && is_handed (handover h) e) || (has is_promoted h && has (is_place_of e) (waiting ks h))
@@ -122,7 +122,7 @@ managed_coming ks t h e (m ∷ ms) c j = step (e.value == m.0.value) (managed_co
     step false k = k
 
 -- two calls that wait at one line wait for the same
-same_wants : (G : ℕ → ActorNo → Call → Type 0) (ks : List EnteredCall) (h : List Entry) (n m : ℕ) (v w : Wanted) → IsWaiter G ks h (n, v) → IsWaiter G ks h (m, w) → n ≡ m → v ≡ w
+pub same_wants : (G : ℕ → ActorNo → Call → Type 0) (ks : List EnteredCall) (h : List Entry) (n m : ℕ) (v w : Wanted) → IsWaiter G ks h (n, v) → IsWaiter G ks h (m, w) → n ≡ m → v ≡ w
 same_wants G ks h n m v w a b e =
     let both : Some a.call ≡ Some b.call = sym a.entered ∙ ap (call_at ks) e ∙ b.entered in
     let same : a.call ≡ b.call = cc in

@@ -25,13 +25,13 @@ use Rattle.dtx_values.specs.declared.script.Support.{Support}
 use Rattle.dtx_values.specs.declared.words.Class.TheVariants.{DurableSingle, Promotable as PromotableClass}
 use Rattle.dtx_values.specs.Owners.{cause_of}
 use Rattle.dtx_values.specs.Support.{is_single}
-use Rattle.dtx_model.specs.Words.{latest}
-use Rattle.dtx_model.specs.Entries.{is_call}
-use Rattle.dtx_model.specs.Observed.{cause_of_promotion, is_promotion_failed, observe, track}
+use Rattle.dtx_model.specs.Words.{latest, always, each, has, onto}
+use Rattle.dtx_model.specs.Entries.{is_call, is_decision, is_promoted}
+use Rattle.dtx_model.specs.Observed.{cause_of_promotion, is_promotion_failed, observe, track, handover}
 use Rattle.dtx_model.specs.Answers.{class_of}
 use Rattle.dtx_model.specs.Wires.{in_transit}
-use Rattle.dtx_model.specs.Waiting.{call_at, waiter_line, wanted}
-use Rattle.dtx_model.specs.Half.{Half, enlist_sent, is_promoting as is_promoting_now, over, sees}
+use Rattle.dtx_model.specs.Waiting.{call_at, waiter_line, wanted, Waiter, is_place_of, waiting}
+use Rattle.dtx_model.specs.Half.{Half, enlist_sent, is_promoting as is_promoting_now, over, sees, given, info, is_handed, promoted_by}
 use Rattle.dtx_model.specs.Arrivals.{arrived, created, enlisted_at, hand_over, local_got, place_given}
 use Rattle.dtx_model.specs.Acts.{act_entries}
 use Rattle.dtx_model.specs.Replies.{reply_entries}
@@ -41,34 +41,25 @@ use Rattle.dtx_model.specs.Steps.{Step, Calls, Replies, Acts, Coordinates, Deliv
 use Rattle.dtx_model.specs.Caused.{MayCome, Ran}
 use Rattle.dtx_model.proofs.Heeding.{fresh}
 use Rattle.outcome_law.proofs.Picks.{found_at}
-use Rattle.outcome_law.proofs.Lists.{has-insert, of-more}
+use Rattle.outcome_law.proofs.Lists.{has-insert, of-more, OfEach}
 use Rattle.outcome_law.proofs.Rest.{is_after_start}
 use Rattle.outcome_law.proofs.PlainBlocks.{plain_act, plain_arrived, plain_begin_promotion, plain_called, plain_coordinates, plain_core_got, plain_ended_at, plain_reply, plain_restarted}
 use Rattle.outcome_law.proofs.DecidingBlocks.{kept_act, kept_arrived, kept_begin_promotion, kept_called, kept_coordinates, kept_core_got, kept_ended_at, kept_reply, kept_restarted}
-use Rattle.outcome_law.proofs.PaidBlocks.{caused_way, way_seen}
+use Rattle.outcome_law.proofs.PaidBlocks.{caused_way, way_seen, unpromoted_way}
 use Rattle.outcome_law.proofs.PaidRuns.{IsMet}
 use Rattle.outcome_law.proofs.Waiters.{own_call, seen_promoted}
-use Rattle.outcome_law.proofs.Makers.{of-found, ran_made, waiter_more}
-use Rattle.outcome_law.proofs.Coming.{after_start_onto, block_coming, inert_coming, is_inert, list_coming, managed_coming, sent_coming}
+use Rattle.outcome_law.proofs.Makers.{of-found, ran_made, waiter_more, IsWaiter, of-filter, place_number}
+use Rattle.outcome_law.proofs.Coming.{after_start_onto, block_coming, inert_coming, is_inert, list_coming, managed_coming, sent_coming, AreComing, keep_place}
 use Rattle.dtx_model.specs.declared.waiting.EnteredCall.{EnteredCall}
-use Rattle.dtx_model.specs.declared.waiting.Wanted.{Wanted}
 use Rattle.dtx_model.specs.declared.waiting.Wanted.TheVariants.{Identifier, Place}
-use Rattle.dtx_model.specs.Words.{always, each, has, onto}
-use Rattle.dtx_model.specs.Entries.{is_decision, is_promoted}
-use Rattle.dtx_model.specs.Observed.{handover}
 use Rattle.dtx_model.specs.Promotes.{identifier_of, is_failed, is_promoting, is_under_way}
-use Rattle.dtx_model.specs.Waiting.{Waiter, is_place_of, waiting}
-use Rattle.dtx_model.specs.Half.{given, info, is_handed, promoted_by}
 use Rattle.dtx_model.proofs.Bools.{and_both, and_left, and_right, not_both, or_case, or_right}
-use Rattle.outcome_law.proofs.Lists.{OfEach}
 use Rattle.outcome_law.proofs.Scans.{each_more}
 use Rattle.outcome_law.proofs.Tests.{eq_self}
-use Rattle.outcome_law.proofs.Connections.{same_is}
-use Rattle.outcome_law.proofs.Whole.{is_got_on, is_sent_on}
+use Rattle.dtx_model.proofs.Connections.{same_is}
 use Rattle.outcome_law.proofs.Messages.{ENLIST, ENLISTED}
 use Rattle.outcome_law.proofs.Prepared.{has_after}
-use Rattle.outcome_law.proofs.Makers.{IsWaiter, of-filter}
-use Rattle.outcome_law.proofs.Coming.{AreComing, keep_place}
+use Rattle.outcome_law.proofs.Crossed.{is_sent_on, is_got_on}
 
 -- Where the promotion is over: each whose ENLIST was sent and whose ENLISTED wasn't got is one whose call waits.
 abbrev ArePlaces : List EnteredCall → List Entry → Type 0
@@ -76,7 +67,7 @@ ArePlaces ks h =
     has is_decision h ≡ false → (e : EnlNo) → has (is_sent_on (Enl e) Up ENLIST) h ≡ true → has (is_got_on (Enl e) Down ENLISTED) h ≡ false → has (is_place_of e.value) (waiting ks h) ≡ true
 
 -- what waits for a place is among these
-abbrev is_placed : List Waiter → Waiter → Bool
+abbrev pub is_placed : List Waiter → Waiter → Bool
 is_placed ws (n, Identifier) = true
 is_placed ws (n, Place e r c) = has (is_place_of e.value) ws
 
@@ -122,11 +113,6 @@ over_coming G ks t (Some c) h q w f = λ d e s g.
     or_right (is_under_way after && is_handed (handover after) e.value) (has is_promoted after && has (is_place_of e.value) (waiting ks after))
     (and_both (has is_promoted after) (has (is_place_of e.value) (waiting ks after)) (has_after is_promoted (x ∷ h) (flat_map (given t) (waiting ks h)) refl) place)
 
--- a call has its place, whose ENLISTED was got
-abbrev place_of : Wanted → ℕ
-place_of (Place e r c) = e.value
-place_of Identifier = 0
-
 placed_coming : (G : ℕ → ActorNo → Call → Type 0) (ks : List EnteredCall) (h : List Entry) (n : ℕ) (f : EnlNo) (r : RmNo) (c : Class) → IsWaiter G ks h (n, Place f r c) → OfEach (IsWaiter G ks h) (waiting ks h) → has is_promoted h ≡ true
     → has (is_got_on (Enl f) Down ENLISTED) h ≡ true → AreComing ks h → AreComing ks (Answered n Fine ∷ Enlisted f c ∷ h)
 placed_coming G ks h n f r c w o p z j = λ d e s g.
@@ -140,7 +126,7 @@ placed_coming G ks h n f r c w o p z j = λ d e s g.
     (λ q. and_right (has is_promoted h) (has (is_place_of e.value) (waiting ks h)) q) old in
     or_right (is_under_way h && is_handed (handover h) e.value) (has is_promoted h && has (is_place_of e.value) (filter (λ v. not (n == v.0)) (waiting ks h)))
     (and_both (has is_promoted h) (has (is_place_of e.value) (filter (λ v. not (n == v.0)) (waiting ks h))) p
-    (keep_place G ks h n e.value (Place f r c) w (λ k q y i. subst (λ m. (e.value == m) ≡ false) (ap place_of i) other) (waiting ks h) o place))
+    (keep_place G ks h n e.value (Place f r c) w (λ k q y i. subst (λ m. (e.value == m) ≡ false) (ap place_number i) other) (waiting ks h) o place))
   where
     settled : (a b c : Bool) → b ≡ true → (a && not b && not c) ≡ true → ⊥
     settled true true c p k = cc
@@ -159,11 +145,6 @@ record IsKnown (ks : List EnteredCall) (h : List Entry) (v : Half) : Type 0 wher
   handed : v.seen.handover ≡ handover h
   promoted : v.seen.promoted ≡ has is_promoted h
   cause : is_promoting_now v.seen ≡ true → is_some v.seen.cause ≡ true
-
-unpromoted_way : (a b c : Bool) → (a && not b && not c) ≡ true → b ≡ false
-unpromoted_way true true c k = absurd cc
-unpromoted_way true false c k = refl
-unpromoted_way false b c k = absurd cc
 
 -- none is coming where the promotion is under way without a handover, or whose handover has come
 none_coming : (ks : List EnteredCall) (h : List Entry) → AreComing ks h → is_under_way h ≡ true → ((e : EnlNo) → is_handed (handover h) e.value ≡ true → has (is_got_on (Enl e) Down ENLISTED) h ≡ true)

@@ -26,20 +26,20 @@ use Rattle.dtx_values.specs.Lines.{is_opening}
 use Rattle.dtx_values.specs.Class.{is_promotable}
 use Rattle.dtx_values.specs.Ends.{knows, same_connection, same_direction}
 use Rattle.dtx_model.proofs.Bools.{and_left, and_right, and_both, not_false, not_true, not_both, or_case, or_first, or_second, or_right}
-use Rattle.outcome_law.proofs.Whole.{is_got_on, is_sent_on}
 use Rattle.outcome_law.proofs.Fine.{IsFine, is_bad, is_restart}
 use Rattle.outcome_law.proofs.Messages.{ASK, BEGIN, BEGUN, COMMIT, COMMITTED, CREATED, PREPARE, VOTE, VOTED, YES}
 use Rattle.outcome_law.proofs.Debts.{has_promotable, is_decided_committed, is_volatile_made, knows_there}
 use Rattle.outcome_law.proofs.Knowledge.{got_known, knows_got}
 use Rattle.outcome_law.proofs.Stages.{IsUnlogged, begin_got, earlier, record_logged, sent_known, stage_of, stage_seen, unlogged_before}
 use Rattle.outcome_law.proofs.Arrived.{arrived}
-use Rattle.outcome_law.proofs.Connections.{same_is}
+use Rattle.dtx_model.proofs.Connections.{same_is}
 use Rattle.outcome_law.proofs.Followed.{Demands, followed}
 use Rattle.outcome_law.proofs.Openings.{once_sent}
 use Rattle.outcome_law.proofs.Promoted.{climb, got_due, if_so, while_open}
-use Rattle.outcome_law.proofs.Unblamed.{fine_before, got_sent}
+use Rattle.outcome_law.proofs.Unblamed.{fine_before}
 use Rattle.outcome_law.proofs.Scans.{has_more}
 use Rattle.outcome_law.proofs.Rest.{IsQuiet, is_sound}
+use Rattle.outcome_law.proofs.Crossed.{is_sent_on, is_got_on, got_sent}
 
 -- a history in which nothing is decided
 pub record IsOpen (h : List Entry) : Type 0 where

@@ -35,17 +35,18 @@ use Rattle.outcome_law.proofs.Scans.{has_more}
 use Rattle.outcome_law.proofs.Lists.{has-insert}
 use Rattle.outcome_law.proofs.Table.{is_enlist_got, is_opening_got, is_there, message_row, rule}
 use Rattle.outcome_law.proofs.Keeping.{Keeps, before, earlier, fifth_of_five, keeps_before, newest}
-use Rattle.outcome_law.proofs.Crossed.{got_sent, is_got_on, is_sent_on, same_conn_is, was_sent}
-use Rattle.outcome_law.proofs.Sendings.{aborted_more, opened_promoting, own_info, record_of_mark}
+use Rattle.outcome_law.proofs.Crossed.{got_sent, is_got_on, is_sent_on, was_sent}
+use Rattle.outcome_law.proofs.Sendings.{aborted_more, opened_promoting, own_info, record_of_mark, logged_record}
 use Rattle.outcome_law.proofs.Recording.{can_commit, if_record}
 use Rattle.outcome_law.proofs.Leading.{led_got, opening_came, opening_was_sent, sent_opens}
-use Rattle.outcome_law.proofs.CoreStages.{active_begun, active_open, commit_noted, desks_ready, has_recorded, is_backed, open_before, open_unaborted, open_unrecorded, record_stage, stop_seen, yes_noted}
+use Rattle.outcome_law.proofs.CoreStages.{active_begun, active_open, commit_noted, desks_ready, has_recorded, is_backed, open_before, open_unaborted, open_unrecorded, record_stage, stop_seen, yes_noted, restart_open}
+use Rattle.dtx_model.proofs.Connections.{same_is}
 
 no : false ≡ true → ⊥
 no e = absurd cc
 
 -- Where anything came on the voter's connection or an enlistment's, BEGIN came.
-abbrev is_work : Conn → Bool
+abbrev pub is_work : Conn → Bool
 is_work Voter = true
 is_work (Enl e) = true
 is_work _ = false
@@ -59,12 +60,12 @@ opens_begun : (c : Conn) → is_work c ≡ true → (x : Entry) (h : List Entry)
 opens_begun c w (Sent e Up m) h k r t =
     let s = and_left (same_connection c e) (is_opening e m) t in
     let P : Conn → Type 0 = λ y. is_work y ≡ true in
-    row_begun e m h (subst P (same_conn_is c e s) w) (and_right (same_connection c e) (is_opening e m) t)
+    row_begun e m h (subst P (same_is c e s) w) (and_right (same_connection c e) (is_opening e m) t)
     (fourth_of_four (has_line e Up m) (has is_promoting h) (is_there h e Up m) (message_row h e m) r)
 opens_begun c w (Sent e Down m) h k r t = absurd (no t)
 opens_begun c w _ h k r t = absurd (no t)
 
-begun_on : (x : Entry) → is_begun_got x ≡ true → is_got_on Begin Down (λ m. true) x ≡ true
+pub begun_on : (x : Entry) → is_begun_got x ≡ true → is_got_on Begin Down (λ m. true) x ≡ true
 begun_on (Got Begin Down (BeginBegun u)) t = refl
 begun_on _ t = absurd cc
 
@@ -73,7 +74,7 @@ sent_there : (c : Conn) (p : Message → Bool) (x : Entry) (h : List Entry) → 
 sent_there c p (Sent e Down m) h k r t =
     let s = and_left (same_connection c e) true (and_left (same_connection c e && true) (p m) t) in
     let P : Conn → Type 0 = λ y. has (is_opening_got y) h ≡ true in
-    subst P (sym (same_conn_is c e s)) (third_of_four (has_line e Down m) (has is_promoting h) (has (is_opening_got e) h) (message_row h e m) r)
+    subst P (sym (same_is c e s)) (third_of_four (has_line e Down m) (has is_promoting h) (has (is_opening_got e) h) (message_row h e m) r)
 sent_there c p (Sent e Up m) h k r t = absurd (never (same_connection c e) (p m) t)
   where
     never : (a b : Bool) → (a && false && b) ≡ true → ⊥
@@ -179,12 +180,6 @@ record IsLasting (q : Desk → Bool) : Type 0 where
   acks : (e : ℕ) (d : Desk) → q d ≡ true → q (with_ack e d) ≡ true
   ballots : (e : ℕ) (o : Option Ballot) (d : Desk) → q d ≡ true → q (with_ballot e o d) ≡ true
 
-restart_decided : (b : Bool) (s : Stage) → is_undecided (behind_restart b s) ≡ true → ⊥
-restart_decided true s u = absurd cc
-restart_decided false Recorded u = absurd cc
-restart_decided false Over u = absurd cc
-restart_decided false _ u = absurd cc
-
 desk_stays : (q : Desk → Bool) → IsLasting q → (k : Coordinated) (x : Entry) → is_undecided (stage_after k x) ≡ true → has q k.desks ≡ true → has q (desks_after k x) ≡ true
 desk_stays q l k (Got (Enl e) Up (EnlistEnlist i)) u t =
     let new : Desk = record { enlistment = e; manager = i.rm; ballot = None; acked = false } in
@@ -193,7 +188,7 @@ desk_stays q l k (Got (Enl e) Up EnlistAck) u t = has_made q q (with_ack e.value
 desk_stays q l k (Got (Again e) Up ReenlistAck) u t = has_made q q (with_ack e.value) (λ d a. l.acks e.value d a) k.desks t
 desk_stays q l k (Got (Enl e) Up m) u t =
     has_if q (is_active k.stage) (map (with_ballot e.value (ballot_of m)) k.desks) k.desks (has_made q q (with_ballot e.value (ballot_of m)) (λ d a. l.ballots e.value (ballot_of m) d a) k.desks t) t
-desk_stays q l k (Restarted b) u t = absurd (restart_decided b k.stage u)
+desk_stays q l k (Restarted b) u t = absurd (restart_open b k.stage u)
 desk_stays q l k x u t = t
 
 numbered : (e : ℕ) → IsLasting (is_desk_of e)
@@ -409,10 +404,6 @@ each_named P (Got (Enl e) Up (EnlistEnlist i) ∷ h) k f =
     (f i.enl.value (or_left (i.enl.value == e.value) (has (is_enlist_got i.enl.value) h) (eq_swap i.enl.value e.value ∙ own_info e i h k)))
     (each_named P h (keeps_before (Got (Enl e) Up (EnlistEnlist i)) h k) (λ n t. f n (or_right (n == e.value) (has (is_enlist_got n) h) t)))
 each_named P (x ∷ h) k f = each_named P h (keeps_before x h k) (λ n t. f n (or_right (is_enlist_got n x) (has (is_enlist_got n) h) t))
-
-pub logged_record : (x : Entry) → is_logged x ≡ true → is_record x ≡ true
-logged_record Logged t = refl
-logged_record _ t = absurd cc
 
 six_hold : (a b c d e f : Bool) → a ≡ true → b ≡ true → c ≡ true → d ≡ true → e ≡ true → f ≡ true → (a && b && c && d && e && f) ≡ true
 six_hold a b c d e f p q r s t u =

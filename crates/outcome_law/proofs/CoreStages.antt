@@ -54,17 +54,17 @@ known_got c (Stopped ∷ h) k = absurd cc
 known_got c (x ∷ h) k = or_right (is_opening_got c x) (has (is_opening_got c) h) (known_got c h k)
 
 -- It has a record where the last mark is one.
-begin_recorded : (s : Stage) → is_recorded (begin_if s) ≡ is_recorded s
+pub begin_recorded : (s : Stage) → is_recorded (begin_if s) ≡ is_recorded s
 begin_recorded Idle = refl
 begin_recorded _ = refl
 
-abort_recorded : (b : Bool) (s : Stage) → is_recorded (abort_if b s) ≡ is_recorded s
+pub abort_recorded : (b : Bool) (s : Stage) → is_recorded (abort_if b s) ≡ is_recorded s
 abort_recorded true Idle = refl
 abort_recorded true Active = refl
 abort_recorded true _ = refl
 abort_recorded false s = refl
 
-none_recorded : (s : Stage) → is_recorded (behind_restart false s) ≡ false
+pub none_recorded : (s : Stage) → is_recorded (behind_restart false s) ≡ false
 none_recorded Recorded = refl
 none_recorded Over = refl
 none_recorded _ = refl
@@ -131,7 +131,7 @@ abort_open true Active u = refl
 abort_open true _ u = u
 abort_open false s u = u
 
-restart_open : (b : Bool) (s : Stage) → is_undecided (behind_restart b s) ≡ true → ⊥
+pub restart_open : (b : Bool) (s : Stage) → is_undecided (behind_restart b s) ≡ true → ⊥
 restart_open true s u = absurd cc
 restart_open false Recorded u = absurd cc
 restart_open false Over u = absurd cc

@@ -1,5 +1,5 @@
 -- The steps of the coordinator's side keep what stands at the end of each block: what comes upward, its act, stops and restarts.
-use Rattle.std.proofs.Common.{◌≡◌, ◌∙◌, ℕ, Bool, true, false, ◌&&◌, ◌||◌, List, [], ◌∷◌, refl, ap}
+use Rattle.std.proofs.Common.{◌≡◌, ◌∙◌, ℕ, Bool, true, false, ◌||◌, List, [], ◌∷◌, refl, ap}
 use Rattle.std.specs.Prelude.{not}
 use Rattle.dtx_values.specs.declared.call.Call.{Call}
 use Rattle.dtx_values.specs.declared.entry.Entry.{Entry}
@@ -13,15 +13,15 @@ use Rattle.dtx_values.specs.declared.number.EnlNo.{EnlNo}
 use Rattle.dtx_values.specs.Lines.{is_opening}
 use Rattle.dtx_model.specs.Words.{has, onto}
 use Rattle.dtx_model.specs.Entries.{is_commit_got}
-use Rattle.dtx_model.specs.Outcome.{is_empty}
 use Rattle.dtx_model.specs.Promotes.{identifier_of}
-use Rattle.dtx_model.specs.Wires.{in_transit, is_ended, is_lost_wire, is_next}
+use Rattle.dtx_model.specs.Wires.{in_transit, is_ended, is_lost_wire}
 use Rattle.dtx_model.specs.World.{World, has_left}
 use Rattle.dtx_model.specs.Steps.{Step, Calls, Replies, Acts, Coordinates, Delivers, Stops, Restarts, after, block_at, delivered}
 use Rattle.dtx_model.specs.Caused.{MayCome}
 use Rattle.outcome_law.proofs.Table.{ruled}
 use Rattle.outcome_law.proofs.Keeping.{Keeps}
 use Rattle.outcome_law.proofs.CoreBlocks.{act_ruled, end_ruled, got_ruled, is_enlisting, restart_ruled, stops_ruled}
+use Rattle.dtx_model.proofs.Quiet.{is_end, takes_next}
 
 -- the step is of the coordinator's side
 abbrev pub is_core_step : Step → Bool
@@ -45,15 +45,6 @@ first_stands e m ms h q o = ap (has (is_opening (Enl e))) q ∙ first (is_openin
 late_got : (c : Conn) (m : Message) (ms : List Message) (h : List Entry) → IsLate h → in_transit c Up h ≡ m ∷ ms → is_enlisting c m ≡ true → has is_commit_got h ≡ false
 late_got (Enl e) (EnlistEnlist i) ms h l q t = l e (first_stands e (EnlistEnlist i) ms h q refl)
 late_got _ m ms h l q t = absurd cc
-
-takes_next : (m : Message) (ms ns : List Message) → ns ≡ m ∷ ms → is_next m ns
-takes_next m ms [] e = absurd cc
-takes_next m ms (n ∷ ns) e = cc
-
-is_end : (lost unseen : Bool) (ms : List Message) → ms ≡ [] → (not (is_empty ms) || (lost && unseen)) ≡ true → (lost && is_empty ms && unseen) ≡ true
-is_end true unseen [] e p = p
-is_end false unseen [] e p = absurd cc
-is_end lost unseen (m ∷ ms) e p = absurd cc
 
 delivered_ruled : (t : ℕ) (w : World) (c : Conn) → Keeps w.past → IsLate w.past → has_left c Up w.past ≡ true → (ms : List Message) → in_transit c Up w.past ≡ ms
     → ruled (onto w.past (delivered t w c Up ms)) ≡ true

@@ -14,9 +14,10 @@ use Rattle.std.proofs.lemmas.Bool.{false_from_ne_true, or_left}
 use Rattle.dtx_model.specs.Words.{always, has}
 use Rattle.dtx_model.specs.Wires.{WireRun, in_transit, is_next, is_open_wire, is_stopped, opened_with, opens, sent_behind, without_first}
 use Rattle.dtx_model.proofs.Bools.{and_left, and_right, or_first, or_second}
-use Rattle.outcome_law.proofs.Connections.{same_is, same_way_is}
-use Rattle.outcome_law.proofs.Whole.{is_got_on, is_sent_on, whole}
+use Rattle.dtx_model.proofs.Connections.{same_is, same_way_is}
+use Rattle.outcome_law.proofs.Whole.{whole}
 use Rattle.outcome_law.proofs.Arrived.{before, newest, opens_same}
+use Rattle.outcome_law.proofs.Crossed.{is_sent_on, is_got_on}
 
 -- as a number
 abbrev one_if : Bool → ℕ

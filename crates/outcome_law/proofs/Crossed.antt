@@ -1,12 +1,11 @@
 -- What WireRun gives: what is got was sent, nothing goes up while the coordinator stands stopped, and nothing comes down after the end of a connection that is opened
 -- once.
-use Rattle.std.proofs.Common.{◌≡◌, ℕ, zero, suc, Bool, true, false, ◌&&◌, ◌||◌, List, [], ◌∷◌, ◌++◌, Option, Some, None, refl, sym, subst, ap}
+use Rattle.std.proofs.Common.{◌≡◌, ℕ, zero, suc, Bool, true, false, ◌&&◌, ◌||◌, List, [], ◌∷◌, ◌++◌, Option, Some, None, refl, sym, subst}
 use Rattle.std.specs.Prelude.{not, take, is_some, if◌then◌else◌}
-use Rattle.std.proofs.lemmas.Bool.{eqb-true, or_left}
+use Rattle.std.proofs.lemmas.Bool.{or_left}
 use Rattle.dtx_values.specs.declared.entry.Entry.{Entry}
 use Rattle.dtx_values.specs.declared.entry.Entry.TheVariants.{Cut, Down as End, Got, Restarted, Sent, Stopped}
 use Rattle.dtx_values.specs.declared.message.Conn.{Conn}
-use Rattle.dtx_values.specs.declared.message.Conn.TheVariants.{Begin, Voter, Enl, Again}
 use Rattle.dtx_values.specs.declared.message.Dir.{Dir}
 use Rattle.dtx_values.specs.declared.message.Dir.TheVariants.{Up, Down}
 use Rattle.dtx_values.specs.declared.message.Message.{Message}
@@ -16,7 +15,7 @@ use Rattle.dtx_model.specs.Words.{has}
 use Rattle.dtx_model.specs.Outcome.{is_empty}
 use Rattle.dtx_model.specs.Wires.{MayCross, WireRun, ended_after, ends, holds, in_transit, is_ended, is_kept, is_lost_wire, is_next, is_open_wire, is_stopped, kept, loses, lost_after, lost_since, opened_with, opens, sent_behind, transit_after, transit_after_stop, without_first}
 use Rattle.dtx_model.proofs.Bools.{and_left, and_right, and_both, not_both, not_true, or_case, or_right}
-use Rattle.dtx_model.proofs.SameNumbers.{same_enlistment}
+use Rattle.dtx_model.proofs.Connections.{same_is, same_way_is}
 
 -- a message that passes is sent, or got, on this connection in this direction
 abbrev pub is_sent_on : Conn → Dir → (Message → Bool) → Entry → Bool
@@ -26,19 +25,6 @@ is_sent_on c d p _ = false
 abbrev pub is_got_on : Conn → Dir → (Message → Bool) → Entry → Bool
 is_got_on c d p (Got e r m) = same_connection c e && same_direction d r && p m
 is_got_on c d p _ = false
-
--- Connections and directions that test the same are one.
-pub same_conn_is : (c d : Conn) → same_connection c d ≡ true → c ≡ d
-same_conn_is Begin Begin k = refl
-same_conn_is Voter Voter k = refl
-same_conn_is (Enl e) (Enl f) k = ap Enl (same_enlistment e f (eqb-true e.value f.value k))
-same_conn_is (Again e) (Again f) k = ap Again (same_enlistment e f (eqb-true e.value f.value k))
-same_conn_is _ _ k = absurd cc
-
-pub same_way_is : (d e : Dir) → same_direction d e ≡ true → d ≡ e
-same_way_is Up Up k = refl
-same_way_is Down Down k = refl
-same_way_is _ _ k = absurd cc
 
 -- what is left of the messages on the way was on the way
 taken_less : (p : Message → Bool) (n : ℕ) (ms : List Message) → has p (take n ms) ≡ true → has p ms ≡ true
@@ -114,7 +100,7 @@ got_sent c d m p h w k = came c d p h (next_passes p m (in_transit c d h) w k)
 new_sent : (c : Conn) (d : Dir) (p : Message → Bool) (x : Entry) (h : List Entry) → MayCross h x → is_got_on c d p x ≡ true → has (is_sent_on c d p) h ≡ true
 new_sent c d p (Got e r m) h w k =
     let both = and_left (same_connection c e && same_direction d r) (p m) k in
-    let conn : c ≡ e = same_conn_is c e (and_left (same_connection c e) (same_direction d r) both) in
+    let conn : c ≡ e = same_is c e (and_left (same_connection c e) (same_direction d r) both) in
     let way : d ≡ r = same_way_is d r (and_right (same_connection c e) (same_direction d r) both) in
     let P : Conn → Type 0 = λ y. has (is_sent_on y d p) h ≡ true in
     let Q : Dir → Type 0 = λ y. has (is_sent_on e y p) h ≡ true in
@@ -151,7 +137,7 @@ end_opened c d h w =
     since_opened c h (holds_some (lost_since c h) (and_left (is_lost_wire c h) (is_empty (in_transit c d h)) (and_left (is_lost_wire c h && is_empty (in_transit c d h)) (not (is_ended c d h)) w)))
 
 -- Nothing more is on the way where nothing was, and the connection isn't open nor opened so that something is.
-none_taken : (n : ℕ) (ms : List Message) → ms ≡ [] → take n ms ≡ []
+pub none_taken : (n : ℕ) (ms : List Message) → ms ≡ [] → take n ms ≡ []
 none_taken zero ms e = refl
 none_taken (suc n) [] e = refl
 none_taken (suc n) (m ∷ ms) e = absurd cc

@@ -20,8 +20,8 @@ use Rattle.dtx_model.specs.Observed.{ends_of, handover}
 use Rattle.dtx_model.specs.Half.{is_handed}
 use Rattle.dtx_model.specs.Coordinated.{coordinate, is_active}
 use Rattle.outcome_law.proofs.Rule.{is_enlisted}
-use Rattle.outcome_law.proofs.Whole.{is_sent_on}
 use Rattle.outcome_law.proofs.Messages.{ABORT, ASK, BEGIN, BEGUN, COMMIT, COMMITTED, ENLIST, ENLIST_ANSWER, VOTE, VOTER, VOTER_ANSWER, YES}
+use Rattle.outcome_law.proofs.Crossed.{is_sent_on}
 
 -- a promotable was enlisted
 abbrev pub has_promotable : List Entry → Bool

@@ -31,15 +31,11 @@ use Rattle.outcome_law.proofs.Table.{but_failed, decision_row, ends_called_off, 
 use Rattle.outcome_law.proofs.Keeping.{Keeps}
 use Rattle.outcome_law.proofs.Sendings.{opened_promoting}
 use Rattle.outcome_law.proofs.HalfKnows.{known_opened, way_seen}
+use Rattle.dtx_model.proofs.Histories.{onto-append}
 
 -- one more entry keeps the table where it keeps its row, finds what may be found, and comes where it may cross
 pub one_more : (x : Entry) (h : List Entry) → is_tied h x ≡ true → MayCross h x → Keeps h → rule h x ≡ true → Keeps (x ∷ h)
 one_more x h t c k r = record { rules = and_both (rule h x) (ruled h) r k.rules; ties = and_both (is_tied h x) (tied h) t k.ties; wires = (c, k.wires) }
-
--- a block of two parts
-pub onto-parts : {E : Type 0} (h xs ys : List E) → onto h (xs ++ ys) ≡ onto (onto h xs) ys
-onto-parts h [] ys = refl
-onto-parts h (x ∷ xs) ys = onto-parts (x ∷ h) xs ys
 
 -- what some entry passes, some passes after a block
 pub stays : (p : Entry → Bool) (h es : List Entry) → has p h ≡ true → has p (onto h es) ≡ true
@@ -138,7 +134,7 @@ pub veto_keeps : (h : List Entry) (ws : List Waiter) (ms : List (EnlNo × RmNo))
 unfolding veto
 veto_keeps h ws ms k d f c e =
     let first = decide (seen_half h ws ms) Aborted in
-    subst Keeps (sym (onto-parts h first (veto_message (observe h))))
+    subst Keeps (sym (onto-append h first (veto_message (observe h))))
     (message_keeps h (onto h first) (abort_keeps h ws ms k d f c e) (λ n o. stays (opens n) h first o) (decide_decides h ws ms Aborted))
 
 -- and is decided after that
@@ -146,5 +142,5 @@ pub veto_decides : (h : List Entry) (ws : List Waiter) (ms : List (EnlNo × RmNo
 unfolding veto
 veto_decides h ws ms =
     let first = decide (seen_half h ws ms) Aborted in
-    ap (has is_decision) (onto-parts h first (veto_message (observe h)))
+    ap (has is_decision) (onto-append h first (veto_message (observe h)))
     ∙ stays is_decision (onto h first) (veto_message (observe h)) (decided_there (onto h first) Aborted (decide_decides h ws ms Aborted))

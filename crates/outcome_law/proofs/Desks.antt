@@ -21,16 +21,17 @@ use Rattle.dtx_model.specs.Coordinated.{accepts, ballot_of, coordinate, desk_num
 use Rattle.dtx_model.proofs.Bools.{and_left, or_case, or_false, or_second, or_right, not_true}
 use Rattle.outcome_law.proofs.Lists.{has-insert}
 use Rattle.outcome_law.proofs.Scans.{each_more}
-use Rattle.outcome_law.proofs.Whole.{is_got_on}
 use Rattle.outcome_law.proofs.Messages.{COMMIT, ENLIST}
 use Rattle.outcome_law.proofs.Fine.{IsFine}
 use Rattle.outcome_law.proofs.Rest.{is_ordered}
 use Rattle.outcome_law.proofs.Arrived.{newest}
-use Rattle.outcome_law.proofs.Connections.{same_self}
-use Rattle.outcome_law.proofs.Knowledge.{elsewhere, has_mapped, known_still}
+use Rattle.dtx_model.proofs.Connections.{same_self}
+use Rattle.outcome_law.proofs.Knowledge.{elsewhere, known_still}
 use Rattle.outcome_law.proofs.Stages.{IsUnlogged, active_at, unlogged_before}
 use Rattle.outcome_law.proofs.Recorded.{each_changed, each_inserted}
 use Rattle.outcome_law.proofs.Unblamed.{fine_before}
+use Rattle.outcome_law.proofs.CoreKnown.{has_made}
+use Rattle.outcome_law.proofs.Crossed.{is_got_on}
 
 -- it stays known with any entry that comes where nothing is lost
 stays_known : (c : Conn) (x : Entry) (h : List Entry) (ks : List Conn) → IsFine (x ∷ h) → has (same_connection c) ks ≡ true → has (same_connection c) (known_after x ks) ≡ true
@@ -127,13 +128,13 @@ desk_there e (Got (Enl f) Up (EnlistEnlist i) ∷ h) r k =
     (λ q. or_left (e.value == f.value) (has (is_desk_of e.value) (coordinate h).desks) (and_left (e.value == f.value) true (and_left ((e.value == f.value) && true) true q)))
     (λ q. or_right (e.value == f.value) (has (is_desk_of e.value) (coordinate h).desks) (desk_there e h before q)) k))
 desk_there e (Got (Enl f) Up EnlistAck ∷ h) r k =
-    has_mapped (is_desk_of e.value) (is_desk_of e.value) (with_ack f.value) (λ d q. q) (coordinate h).desks (desk_there e h (unlogged_before (Got (Enl f) Up EnlistAck) h r) (later (e.value == f.value) (has (is_got_on (Enl e) Up ENLIST) h) k))
+    has_made (is_desk_of e.value) (is_desk_of e.value) (with_ack f.value) (λ d q. q) (coordinate h).desks (desk_there e h (unlogged_before (Got (Enl f) Up EnlistAck) h r) (later (e.value == f.value) (has (is_got_on (Enl e) Up ENLIST) h) k))
 desk_there e (Got (Again f) Up ReenlistAck ∷ h) r k =
-    has_mapped (is_desk_of e.value) (is_desk_of e.value) (with_ack f.value) (λ d q. q) (coordinate h).desks (desk_there e h (unlogged_before (Got (Again f) Up ReenlistAck) h r) k)
+    has_made (is_desk_of e.value) (is_desk_of e.value) (with_ack f.value) (λ d q. q) (coordinate h).desks (desk_there e h (unlogged_before (Got (Again f) Up ReenlistAck) h r) k)
 desk_there e (Got (Enl f) Up m ∷ h) r k =
     let there = desk_there e h (unlogged_before (Got (Enl f) Up m) h r) (later (e.value == f.value) (has (is_got_on (Enl e) Up ENLIST) h) k) in
     either (is_active (coordinate h).stage) (is_desk_of e.value) (map (with_ballot f.value (ballot_of m)) (coordinate h).desks) (coordinate h).desks
-    (has_mapped (is_desk_of e.value) (is_desk_of e.value) (with_ballot f.value (ballot_of m)) (named_ballot e.value f.value (ballot_of m)) (coordinate h).desks there) there
+    (has_made (is_desk_of e.value) (is_desk_of e.value) (with_ballot f.value (ballot_of m)) (named_ballot e.value f.value (ballot_of m)) (coordinate h).desks there) there
 desk_there e (Got (Enl f) Down m ∷ h) r k = desk_there e h (unlogged_before (Got (Enl f) Down m) h r) (elsewhere (e.value == f.value) (ENLIST m) (has (is_got_on (Enl e) Up ENLIST) h) k)
 desk_there e (Restarted b ∷ h) r k = absurd cc
 desk_there e (x ∷ h) r k = desk_there e h (unlogged_before x h r) k

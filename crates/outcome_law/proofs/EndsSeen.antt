@@ -18,8 +18,8 @@ use Rattle.dtx_model.proofs.Bools.{and_both, and_left, and_never, not_both, or_c
 use Rattle.outcome_law.proofs.Lists.{has_kept, has-insert, if_kept}
 use Rattle.outcome_law.proofs.Owned.{has_filter}
 use Rattle.outcome_law.proofs.Scans.{has_more}
-use Rattle.outcome_law.proofs.Crossed.{same_conn_is}
 use Rattle.outcome_law.proofs.HalfKnows.{unmapped}
+use Rattle.dtx_model.proofs.Connections.{same_is}
 
 abbrev is_over : Conn → End → Bool
 is_over c n = is_end_of c n && n.ended
@@ -31,7 +31,7 @@ ended_more c e ns k = unmapped (same_connection c e) (is_over c) (note_end e) (�
         → (same_connection c e || is_over c n) ≡ true
     by n false q t = or_right (same_connection c e) (is_over c n) t
     by n true q t =
-        let P : Conn → Type 0 = λ d. same_connection c d ≡ true in or_left (same_connection c e) (is_over c n) (subst P (sym (same_conn_is e n.connection q)) (and_left (is_end_of c n) true t))
+        let P : Conn → Type 0 = λ d. same_connection c d ≡ true in or_left (same_connection c e) (is_over c n) (subst P (sym (same_is e n.connection q)) (and_left (is_end_of c n) true t))
 
 pub end_seen : (c : Conn) (h : List Entry) → saw_end c (ends_of h) ≡ true → has (ends c Down) h ≡ true
 end_seen c [] k = absurd cc

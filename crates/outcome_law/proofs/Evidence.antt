@@ -229,7 +229,7 @@ hand_stands e (Handed f ∷ h) r k =
 hand_stands e (x ∷ h) r k = handed_more x h e r (hand_stands e h (other_rules x h r) k)
 
 -- the only one has one name
-only_name : (e f : ℕ) (ds : List (EnlNo × Class)) → is_only e ds ≡ true → is_only f ds ≡ true → (f == e) ≡ true
+pub only_name : (e f : ℕ) (ds : List (EnlNo × Class)) → is_only e ds ≡ true → is_only f ds ≡ true → (f == e) ≡ true
 only_name e f [] p q = absurd cc
 only_name e f (x ∷ []) p q =
     let first : e ≡ x.0.value = eqb-true e x.0.value (and_left (e == x.0.value) (can_own x.1) p) in
@@ -255,7 +255,7 @@ hand_name (Handed f ∷ h) k = (f.value, rw (eq_self f.value) refl)
 hand_name (x ∷ h) k = hand_name h k
 
 -- what is ready and not promoted, and whose one durable or promotable was handed the commit, is evidence where that one answered committed
-owner_alone : (a s p l : Bool) (h : List Entry) (e : ℕ) (ds : List (EnlNo × Class)) → a ≡ true → p ≡ false → is_only e ds ≡ true → has (is_hand e) h ≡ true
+pub owner_alone : (a s p l : Bool) (h : List Entry) (e : ℕ) (ds : List (EnlNo × Class)) → a ≡ true → p ≡ false → is_only e ds ≡ true → has (is_hand e) h ≡ true
     → (a && ((s && not p && is_empty ds) || (not p && owner_committed h ds) || (p && l))) ≡ has (is_owner e Committed) h
 owner_alone a s p l h e [] b q o k = absurd cc
 owner_alone a s p l h e (x ∷ []) b q o k =

@@ -21,10 +21,10 @@ use Rattle.dtx_model.specs.Entries.{is_any_hand, is_asked, is_commit, is_decisio
 use Rattle.dtx_model.specs.Outcome.{by_log, by_owner, by_seal, can_own, durables, enlisted, evidence, is_empty, owner_committed, ready, volatiles, voters}
 use Rattle.dtx_model.specs.Promotes.{is_begun_got, is_created_got, is_promoting, is_under_way}
 use Rattle.dtx_model.proofs.Bools.{and_left, and_right, and_both, not_both, not_true, or_case, or_first, or_right, or_second, three_hold}
-use Rattle.outcome_law.proofs.Tests.{eq_self, eq_swap, first_of_five, first_of_three, second_of_three, second_of_five, third_of_five, fourth_of_five, third_of_four}
+use Rattle.outcome_law.proofs.Tests.{eq_swap, first_of_five, first_of_three, second_of_three, second_of_five, third_of_five, fourth_of_five, third_of_four}
 use Rattle.outcome_law.proofs.Scans.{each_more, has_more}
 use Rattle.outcome_law.proofs.Rule.{all_complete, is_answer, is_cloned, is_enlisted, is_only, is_volatile_of, zeros_cast}
-use Rattle.outcome_law.proofs.Evidence.{hand_any, is_answered}
+use Rattle.outcome_law.proofs.Evidence.{hand_any, is_answered, only_name, hand_name, owner_alone}
 use Rattle.outcome_law.proofs.Table.{ask_row, class_row, ends_with, have_come, is_prepare_got, rule, stands_volatile}
 use Rattle.outcome_law.proofs.Keeping.{Keeps, before, earlier, fifth_of_five, keeps_before, newest}
 use Rattle.outcome_law.proofs.Sendings.{promoted_by_prepare}
@@ -39,7 +39,7 @@ pub sealed_if_handed : (h : List Entry) → Keeps h → has is_any_hand h ≡ tr
 sealed_if_handed h k s = before is_any_hand is_sealed hand_sealed h k s
 
 -- who could own the commit and committed was handed it
-owner_handed : (h : List Entry) (ds : List (EnlNo × Class)) → owner_committed h ds ≡ true → has is_any_hand h ≡ true
+pub owner_handed : (h : List Entry) (ds : List (EnlNo × Class)) → owner_committed h ds ≡ true → has is_any_hand h ≡ true
 owner_handed h [] t = absurd cc
 owner_handed h (x ∷ xs) t =
     has_more (is_hand x.0.value) is_any_hand (hand_any x.0.value) h
@@ -242,15 +242,6 @@ hand_stands e (Handed f ∷ h) k s =
     (λ t. handed_more (Handed f) h e k (hand_stands e h (keeps_before (Handed f) h k) t)) s
 hand_stands e (x ∷ h) k s = handed_more x h e k (hand_stands e h (keeps_before x h k) s)
 
--- the only one has one name
-only_name : (e f : ℕ) (ds : List (EnlNo × Class)) → is_only e ds ≡ true → is_only f ds ≡ true → (f == e) ≡ true
-only_name e f [] p q = absurd cc
-only_name e f (x ∷ []) p q =
-    let first : e ≡ x.0.value = eqb-true e x.0.value (and_left (e == x.0.value) (can_own x.1) p) in
-    let second : f ≡ x.0.value = eqb-true f x.0.value (and_left (f == x.0.value) (can_own x.1) q) in
-    rw (first, second) (eq_self x.0.value)
-only_name e f (x ∷ y ∷ ds) p q = absurd cc
-
 -- where the commit is only this one's, the answers are its answers
 answers_alone : (e : ℕ) (o : Outcome) (h : List Entry) → Keeps h → ((f : ℕ) → has (is_hand f) h ≡ true → (e == f) ≡ true) → has (is_owner e o) h ≡ has (is_answered o) h
 answers_alone e o [] k one = refl
@@ -260,32 +251,6 @@ answers_alone e o (OwnerAnswered f y ∷ h) k one =
     ap (λ b. (b && same_outcome o y) || has (is_owner e o) h) (one f.value handed)
     ∙ ap (λ b. same_outcome o y || b) (answers_alone e o h (keeps_before (OwnerAnswered f y) h k) one)
 answers_alone e o (x ∷ h) k one = answers_alone e o h (keeps_before x h k) one
-
-hand_name : (h : List Entry) → has is_any_hand h ≡ true → (e : ℕ) × (has (is_hand e) h ≡ true)
-hand_name [] k = absurd cc
-hand_name (Handed f ∷ h) k = (f.value, rw (eq_self f.value) refl)
-hand_name (x ∷ h) k = hand_name h k
-
--- what is ready and not promoted, and whose one durable or promotable was handed the commit, is evidence where that one answered committed
-owner_alone : (a s p l : Bool) (h : List Entry) (e : ℕ) (ds : List (EnlNo × Class)) → a ≡ true → p ≡ false → is_only e ds ≡ true → has (is_hand e) h ≡ true
-    → (a && ((s && not p && is_empty ds) || (not p && owner_committed h ds) || (p && l))) ≡ has (is_owner e Committed) h
-owner_alone a s p l h e [] b q o k = absurd cc
-owner_alone a s p l h e (x ∷ []) b q o k =
-    let same : e ≡ x.0.value = eqb-true e x.0.value (and_left (e == x.0.value) (can_own x.1) o) in
-    let hand : has (is_hand x.0.value) h ≡ true = subst (λ n. has (is_hand n) h ≡ true) same k in
-    step a s p l (can_own x.1) (has (is_hand x.0.value) h) (has (is_owner x.0.value Committed) h) b q (and_right (e == x.0.value) (can_own x.1) o) hand
-    ∙ ap (λ n. has (is_owner n Committed) h) (sym same)
-  where
-    step : (a s p l c k o : Bool) → a ≡ true → p ≡ false → c ≡ true → k ≡ true → (a && ((s && not p && false) || (not p && (true && c && k && o)) || (p && l))) ≡ o
-    step false s p l c k o d q f g = absurd cc
-    step true s true l c k o d q f g = absurd cc
-    step true s false l false k o d q f g = absurd cc
-    step true s false l true false o d q f g = absurd cc
-    step true true false l true true true d q f g = refl
-    step true true false l true true false d q f g = refl
-    step true false false l true true true d q f g = refl
-    step true false false l true true false d q f g = refl
-owner_alone a s p l h e (x ∷ y ∷ ds) b q o k = absurd cc
 
 -- where the commit was handed over, evidence stands where the owner answered committed
 pub evidence-handed : (h : List Entry) → Keeps h → has is_any_hand h ≡ true → evidence h ≡ has (is_answered Committed) h

@@ -27,7 +27,7 @@ use Rattle.outcome_law.proofs.Lists.{has_kept, has-insert, if_kept}
 use Rattle.outcome_law.proofs.Owned.{has_filter}
 use Rattle.outcome_law.proofs.Scans.{has_more}
 use Rattle.outcome_law.proofs.Table.{is_ask_got}
-use Rattle.outcome_law.proofs.Crossed.{same_conn_is}
+use Rattle.dtx_model.proofs.Connections.{same_is}
 
 -- a promotion began where a cause is known
 pub cause_seen : (h : List Entry) → is_some (latest cause_of_promotion h) ≡ has is_promoting h
@@ -131,7 +131,7 @@ heard_got c e tag m ns k = unmapped (same_connection c e && (tag == tag_of m)) (
         tagged : (s : Bool) → (tag == tag_of m) ≡ s → ((same_connection c e && s) || is_heard c tag n) ≡ true
         tagged true z =
             let P : Conn → Type 0 = λ d. same_connection c d ≡ true in
-            or_left (same_connection c e && true) (is_heard c tag n) (and_both (same_connection c e) true (subst P (sym (same_conn_is e n.connection q)) here) refl)
+            or_left (same_connection c e && true) (is_heard c tag n) (and_both (same_connection c e) true (subst P (sym (same_is e n.connection q)) here) refl)
         tagged false z =
             or_right (same_connection c e && false) (is_heard c tag n)
             (and_both (is_end_of c n) (is_in tag n.got) here (one_tag_more tag (tag_of m) n.got (and_right (is_end_of c n) (is_in tag (with_tag (tag_of m) n.got)) t) z))

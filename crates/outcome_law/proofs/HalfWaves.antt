@@ -1,6 +1,5 @@
 -- By its row, an enlistment waits for the votes of those that were asked to prepare before it came, in each history that keeps the table, promoted or not.
-use Rattle.std.proofs.Common.{◌≡◌, ℕ, ◌==◌, Bool, true, false, ◌&&◌, ◌||◌, List, [], ◌∷◌, Some, map}
-use Rattle.std.proofs.Common.{refl, ◌∙◌, ap, arith}
+use Rattle.std.proofs.Common.{◌≡◌, ℕ, ◌==◌, Bool, true, false, ◌&&◌, ◌||◌, List, [], ◌∷◌, Some, map, refl, ◌∙◌, ap, arith}
 use Rattle.std.specs.Prelude.{not, if◌then◌else◌}
 use Rattle.std.specs.List.{slice_get}
 use Rattle.std.proofs.Math.Nat.{le_trans}
@@ -21,10 +20,10 @@ use Rattle.dtx_model.proofs.Counts.{how_many-map}
 use Rattle.outcome_law.proofs.Tests.{eq_self, eq_swap, apart}
 use Rattle.outcome_law.proofs.Lists.{OfEach, of-at, of-more, of-map, of-insert, of-both, each_same, each_kept, if_kept, each-insert, how_many-insert}
 use Rattle.outcome_law.proofs.Rule.{is_enlisted}
-use Rattle.outcome_law.proofs.TableRows.{enlisted_in_rows}
+use Rattle.outcome_law.proofs.TableRows.{enlisted_in_rows, IsRow, rows_by}
 use Rattle.outcome_law.proofs.Keeping.{Keeps, keeps_before, newest}
 use Rattle.outcome_law.proofs.Recording.{enlisted_unsealed}
-use Rattle.outcome_law.proofs.HalfRows.{enlisted_once, unenlisted_unasked, IsRow, rows_seen, row_seen}
+use Rattle.outcome_law.proofs.HalfRows.{enlisted_once, unenlisted_unasked, keeps_order, row_seen}
 use Rattle.outcome_law.proofs.Waves.{marked, passes_marked, passes_before, each-marked, marks_more, IsBelow, marks_below, IsWave, asked_kept, own_wave}
 
 -- before the seal, what is asked to prepare was enlisted
@@ -68,7 +67,7 @@ rows_waves (Enlisted e c ∷ h) r =
           ∙ all_asked v h rest (enlisted_unsealed e c h (newest (Enlisted e c) h r)) ∙ rw (eq_self e.value) refl;
     }) (rows h)
     (of-more (λ x. IsRow h x × IsWave h x) (IsWave (Enlisted e c ∷ h)) (λ x w. older e c n h x kept once w.0.stands w.1) (rows h)
-    (of-both (IsRow h) (IsWave h) (rows h) (rows_seen h rest) (rows_waves h rest)))
+    (of-both (IsRow h) (IsWave h) (rows h) (rows_by keeps_order h rest) (rows_waves h rest)))
   where
     older : (e : EnlNo) (c : Class) (n : ℕ) (h : List Entry) (x : Row) → marks (rows (Enlisted e c ∷ h)) ≡ marks (rows h) → has (is_enlisted e.value) h ≡ false
         → has (is_enlisted x.number.value) h ≡ true → IsWave h x → IsWave (Enlisted e c ∷ h) x
@@ -103,7 +102,7 @@ row_waited h k x r e =
     let w = of-at (IsWave h) (rows h) k x (rows_waves h r) e in
     each_same (λ q. not (is_asked_before q.asked x.added) || has_voted q) (passes_before x.added (λ f. has (is_vote f) h)) (rows h)
     (of-more (IsRow h) (λ q. (not (is_asked_before q.asked x.added) || has_voted q) ≡ passes_before x.added (λ f. has (is_vote f) h) q)
-    (λ q m. ap (λ b. not (is_asked_before q.asked x.added) || b) m.voted) (rows h) (rows_seen h r))
+    (λ q m. ap (λ b. not (is_asked_before q.asked x.added) || b) m.voted) (rows h) (rows_by keeps_order h r))
     ∙ w.waits (λ f. has (is_vote f) h)
 
 -- the row at a place says what the history shows of its enlistment

@@ -37,7 +37,7 @@ use Rattle.outcome_law.proofs.Rule.{is_enlisted}
 use Rattle.outcome_law.proofs.Evidence.{hand_any}
 use Rattle.outcome_law.proofs.Table.{have_come, is_enlist_got, is_opening_got, is_there, message_row, rule, stands_volatile}
 use Rattle.outcome_law.proofs.Keeping.{Keeps, earlier, keeps_before}
-use Rattle.outcome_law.proofs.Crossed.{got_sent, is_sent_on, same_conn_is}
+use Rattle.outcome_law.proofs.Crossed.{got_sent, is_sent_on}
 use Rattle.outcome_law.proofs.Sendings.{got_promoting}
 use Rattle.outcome_law.proofs.Recording.{promoted_if_sealed, promoted_if_yes}
 use Rattle.outcome_law.proofs.Evident.{hand_stands, sealed_if_evident}
@@ -50,11 +50,12 @@ use Rattle.outcome_law.proofs.Undecided.{Stands, stand, way_unsealed}
 use Rattle.outcome_law.proofs.HalfCalls.{begun_if_promoted, enlist_stands}
 use Rattle.outcome_law.proofs.HalfReplies.{to_up_stands}
 use Rattle.outcome_law.proofs.EndArrivals.{open_block}
+use Rattle.dtx_model.proofs.Connections.{same_is}
 
 -- What comes down comes where the coordinator got the message that opened the connection.
 down_row : (c : Conn) (x : Entry) (h : List Entry) → Keeps h → rule h x ≡ true → is_sent_on c Down (λ m. true) x ≡ true → has (is_opening_got c) h ≡ true
 down_row c (Sent e Down m) h k r t =
-    let same : c ≡ e = same_conn_is c e (and_left (same_connection c e) true (and_left (same_connection c e && true) true t)) in
+    let same : c ≡ e = same_is c e (and_left (same_connection c e) true (and_left (same_connection c e && true) true t)) in
     let P : Conn → Type 0 = λ d. has (is_opening_got d) h ≡ true in
     subst P (sym same) (third_of_four (has_line e Down m) (has is_promoting h) (is_there h e Down m) (message_row h e m) r)
 down_row c (Sent e Up m) h k r t = absurd (not_both (same_connection c e && false) (and_left (same_connection c e && false) true t) (and_never (same_connection c e)))

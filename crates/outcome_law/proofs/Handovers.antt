@@ -200,7 +200,7 @@ called_managed ks h n a x m = more_managed ks h (Called n a x ∷ h) (managed ks
 enlist_managed : (ks : List EnteredCall) (h : List Entry) (e : EnlNo) (c : Class) → is_managed (managed ks h) (e, c) ≡ true → AreManaged ks h → AreManaged ks (Enlisted e c ∷ h)
 enlist_managed ks h e c k m = record { lasting = λ n. and_both (is_managed (managed ks h) (e, c)) (each (is_managed (managed ks h)) (enlisted h)) k (m.lasting n); handed = m.handed }
 
-option_volatile : (o : EnlistOption) → is_volatile (class_of o) ≡ true
+pub option_volatile : (o : EnlistOption) → is_volatile (class_of o) ≡ true
 option_volatile PlainOption = refl
 option_volatile DuringPrepare = refl
 

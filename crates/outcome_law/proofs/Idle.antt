@@ -41,19 +41,20 @@ use Rattle.outcome_law.proofs.Scans.{has_more}
 use Rattle.outcome_law.proofs.Rule.{is_enlisted}
 use Rattle.outcome_law.proofs.Dues.{is_unplanned, none_answered}
 use Rattle.outcome_law.proofs.Settlings.{append_first, append_second, no_act, no_name}
-use Rattle.outcome_law.proofs.Whole.{is_got_on, is_opened_once, is_sent_on, none_severed, whole, whole_of}
+use Rattle.outcome_law.proofs.Whole.{is_opened_once, none_severed, whole, whole_of}
 use Rattle.outcome_law.proofs.Messages.{COMMIT, ENLIST, PREPARE}
 use Rattle.outcome_law.proofs.Fine.{IsFine, is_caused}
 use Rattle.outcome_law.proofs.Debts.{is_volatile_made, owes_none, pays}
 use Rattle.outcome_law.proofs.OnTheWay.{is_on_its_way, is_unplaced}
 use Rattle.outcome_law.proofs.Rest.{IsAtRest, is_after_start, is_begun, is_ordered, is_sound}
-use Rattle.outcome_law.proofs.Connections.{same_is}
+use Rattle.dtx_model.proofs.Connections.{same_is}
 use Rattle.outcome_law.proofs.Openings.{unopened_empty}
 use Rattle.outcome_law.proofs.Knowledge.{is_known_end, knows_where}
 use Rattle.outcome_law.proofs.Unblamed.{nothing_bad}
 use Rattle.outcome_law.proofs.Climbed.{committed_at_rest}
 use Rattle.outcome_law.proofs.SameRows.{is_asked_there, is_made_once}
 use Rattle.outcome_law.proofs.Owed.{IsUnowed, all_answered, all_heeded, all_voted, commit_requested, heeded_promised, is_asked_well, promotion_replied, unlost_there}
+use Rattle.outcome_law.proofs.Crossed.{is_sent_on, is_got_on}
 
 -- Nothing is on the way.
 none_delivered : (b : Bool) (c : Conn) (d : Dir) → delivery_if b c d ≡ [] → b ≡ false

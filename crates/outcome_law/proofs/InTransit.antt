@@ -12,7 +12,8 @@ use Rattle.dtx_values.specs.Lines.{has_line, is_opening}
 use Rattle.dtx_values.specs.Table.{how_many}
 use Rattle.dtx_model.specs.Wires.{WireRun, in_transit, is_next, is_open_wire, is_stopped, kept, opened_with, opens, sent_behind, without_first}
 use Rattle.dtx_model.proofs.Bools.{and_left}
-use Rattle.outcome_law.proofs.Crossed.{is_got_on, is_sent_on, same_conn_is, same_way_is}
+use Rattle.outcome_law.proofs.Crossed.{is_got_on, is_sent_on}
+use Rattle.dtx_model.proofs.Connections.{same_is, same_way_is}
 
 -- one more, where it passes
 abbrev one_if : Bool → ℕ
@@ -96,7 +97,7 @@ no_more c d p (Got e r m ∷ h) w =
   where
     next : same_connection c e ≡ true → same_direction d r ≡ true → is_next m (in_transit c d h)
     next a b =
-        let conn : c ≡ e = same_conn_is c e a in
+        let conn : c ≡ e = same_is c e a in
         let way : d ≡ r = same_way_is d r b in
         let C : Conn → Type 0 = λ y. is_next m (in_transit y r h) in
         let D : Dir → Type 0 = λ y. is_next m (in_transit c y h) in

@@ -23,16 +23,18 @@ use Rattle.dtx_model.specs.Wires.{WireRun, opens}
 use Rattle.dtx_model.specs.Observed.{ends_of}
 use Rattle.dtx_model.specs.Coordinated.{coordinate, follow, without}
 use Rattle.dtx_model.proofs.Bools.{and_both, and_left, and_right, or_case, or_right, not_both, not_false}
-use Rattle.outcome_law.proofs.Connections.{same_is}
+use Rattle.dtx_model.proofs.Connections.{same_is}
 use Rattle.outcome_law.proofs.Lists.{has_kept, has-insert, if_kept}
 use Rattle.outcome_law.proofs.Owned.{has_filter}
 use Rattle.outcome_law.proofs.Scans.{has_more}
-use Rattle.outcome_law.proofs.Whole.{is_got_on, is_whole, whole}
+use Rattle.outcome_law.proofs.Whole.{is_whole, whole}
 use Rattle.outcome_law.proofs.Messages.{ASK}
 use Rattle.outcome_law.proofs.Debts.{knows_there}
 use Rattle.outcome_law.proofs.Arrived.{before, newest}
 use Rattle.outcome_law.proofs.Unblamed.{no_end}
 use Rattle.outcome_law.proofs.Openings.{got_opened, opening_first}
+use Rattle.outcome_law.proofs.CoreKnown.{has_made}
+use Rattle.outcome_law.proofs.Crossed.{is_got_on}
 
 -- The local side. A connection that is known stays known with a message that is sent or got on any.
 abbrev pub is_known_end : Conn → End → Bool
@@ -119,13 +121,8 @@ heard_sent c e tag other ns =
     has_kept (is_heard_end c tag) (note_sent e other)
     (λ n. if_kept (is_heard_end c tag) (is_end_of e n) (record { connection = n.connection; sent = with_tag other n.sent; got = n.got; ended = n.ended }) n refl) ns
 
--- some changed item passes where each that passed does so changed
-pub has_mapped : {A : Type 0} (p q : A → Bool) (f : A → A) → ((x : A) → p x ≡ true → q (f x) ≡ true) → (xs : List A) → has p xs ≡ true → has q (map f xs) ≡ true
-has_mapped p q f sub [] k = absurd cc
-has_mapped p q f sub (x ∷ xs) k = or_case (p x) (has p xs) (λ a. or_left (q (f x)) (has q (map f xs)) (sub x a)) (λ a. or_right (q (f x)) (has q (map f xs)) (has_mapped p q f sub xs a)) k
-
 heard_got : (c e : Conn) (tag other : ℕ) (ns : List End) → was_got c tag ns ≡ true → was_got c tag (map (note_got e other) ns) ≡ true
-heard_got c e tag other ns k = has_mapped (is_heard_end c tag) (is_heard_end c tag) (note_got e other) (λ n a. step n (is_end_of e n) a) ns k
+heard_got c e tag other ns k = has_made (is_heard_end c tag) (is_heard_end c tag) (note_got e other) (λ n a. step n (is_end_of e n) a) ns k
   where
     step : (n : End) (b : Bool) → is_heard_end c tag n ≡ true
         → is_heard_end c tag (if b then record { connection = n.connection; sent = n.sent; got = with_tag other n.got; ended = n.ended } else n) ≡ true
@@ -133,7 +130,7 @@ heard_got c e tag other ns k = has_mapped (is_heard_end c tag) (is_heard_end c t
     step n false a = a
 
 heard_own : (c : Conn) (tag : ℕ) (ns : List End) → knows c ns ≡ true → was_got c tag (map (note_got c tag) ns) ≡ true
-heard_own c tag ns k = has_mapped (is_known_end c) (is_heard_end c tag) (note_got c tag) (λ n a. step n (is_end_of c n) refl (and_left (is_end_of c n) (not n.ended) a)) ns k
+heard_own c tag ns k = has_made (is_known_end c) (is_heard_end c tag) (note_got c tag) (λ n a. step n (is_end_of c n) refl (and_left (is_end_of c n) (not n.ended) a)) ns k
   where
     step : (n : End) (b : Bool) → is_end_of c n ≡ b → b ≡ true
         → is_heard_end c tag (if b then record { connection = n.connection; sent = n.sent; got = with_tag tag n.got; ended = n.ended } else n) ≡ true

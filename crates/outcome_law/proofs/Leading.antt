@@ -22,7 +22,8 @@ use Rattle.outcome_law.proofs.Lists.{has-behind}
 use Rattle.outcome_law.proofs.Scans.{has_more}
 use Rattle.outcome_law.proofs.Table.{is_opening_got, is_there, message_row, rule}
 use Rattle.outcome_law.proofs.Keeping.{Keeps, keeps_before, newest}
-use Rattle.outcome_law.proofs.Crossed.{is_got_on, is_sent_on, same_conn_is, was_sent}
+use Rattle.outcome_law.proofs.Crossed.{is_got_on, is_sent_on, was_sent}
+use Rattle.dtx_model.proofs.Connections.{same_is}
 
 -- what is on the way begins with the message that opens the connection, or nothing is and the connection isn't open
 abbrev pub is_led : Conn → Bool → List Message → Bool
@@ -58,7 +59,7 @@ open_opened c h x (Some l) e = opened_some (opens c x) (is_stopped h) (l || lose
 -- a message that opens this connection is an opening of it
 pub opening_of : (c e : Conn) (r : Dir) (m : Message) → opens c (Sent e r m) ≡ true → is_opening c m ≡ true
 opening_of c e Up m t =
-    let P : Conn → Type 0 = λ y. is_opening y m ≡ true in subst P (sym (same_conn_is c e (and_left (same_connection c e) (is_opening e m) t))) (and_right (same_connection c e) (is_opening e m) t)
+    let P : Conn → Type 0 = λ y. is_opening y m ≡ true in subst P (sym (same_is c e (and_left (same_connection c e) (is_opening e m) t))) (and_right (same_connection c e) (is_opening e m) t)
 opening_of c e Down m t = absurd cc
 
 new_led : (c : Conn) (m : Message) (s n : Bool) → is_opening c m ≡ true → n ≡ not s → is_led c n (opened_with Up m s) ≡ true
@@ -120,7 +121,7 @@ next_led c m k (x ∷ ms) n t = let P : Message → Type 0 = λ y. is_opening c 
 
 next_opening : (c e : Conn) (m : Message) (k : Bool) (h : List Entry) → is_next m (in_transit e Up h) → same_connection c e ≡ true → is_led c k (in_transit c Up h) ≡ true → is_opening e m ≡ true
 next_opening c e m k h n s t =
-    let same : c ≡ e = same_conn_is c e s in
+    let same : c ≡ e = same_is c e s in
     let P : Conn → Type 0 = λ y. is_led y k (in_transit y Up h) ≡ true in
     next_led e m k (in_transit e Up h) n (subst P same t)
 
@@ -160,7 +161,7 @@ first_here c p (Got e Up m) h w n t =
     let s = and_left (same_connection c e) true (and_left (same_connection c e && true) (p m) t) in
     let P : Conn → Type 0 = λ y. has (is_opening_got y) h ≡ true in
     or_case (is_opening e m) (has (is_opening_got e) h) (λ o. or_left (same_connection c e && is_opening e m) (has (is_opening_got c) h) (and_both (same_connection c e) (is_opening e m) s o))
-    (λ g. or_right (same_connection c e && is_opening e m) (has (is_opening_got c) h) (subst P (sym (same_conn_is c e s)) g)) (led_got e m h w n)
+    (λ g. or_right (same_connection c e && is_opening e m) (has (is_opening_got c) h) (subst P (sym (same_is c e s)) g)) (led_got e m h w n)
 first_here c p (Got e Down m) h w n t = absurd (never (same_connection c e) (p m) t)
   where
     never : (a b : Bool) → (a && false && b) ≡ true → ⊥
@@ -179,14 +180,14 @@ opening_on : (c : Conn) (x : Entry) → is_opening_got c x ≡ true → is_got_o
 opening_on c (Got e Up m) t =
     let s = and_left (same_connection c e) (is_opening e m) t in
     let P : Conn → Type 0 = λ y. is_opening y m ≡ true in
-    and_both (same_connection c e && true) (is_opening c m) (and_both (same_connection c e) true s refl) (subst P (sym (same_conn_is c e s)) (and_right (same_connection c e) (is_opening e m) t))
+    and_both (same_connection c e && true) (is_opening c m) (and_both (same_connection c e) true s refl) (subst P (sym (same_is c e s)) (and_right (same_connection c e) (is_opening e m) t))
 opening_on c _ t = absurd cc
 
 pub sent_opens : (c : Conn) (x : Entry) → is_sent_on c Up (is_opening c) x ≡ true → opens c x ≡ true
 sent_opens c (Sent e Up m) t =
     let s = and_left (same_connection c e) true (and_left (same_connection c e && true) (is_opening c m) t) in
     let P : Conn → Type 0 = λ y. is_opening y m ≡ true in
-    and_both (same_connection c e) (is_opening e m) s (subst P (same_conn_is c e s) (and_right (same_connection c e && true) (is_opening c m) t))
+    and_both (same_connection c e) (is_opening e m) s (subst P (same_is c e s) (and_right (same_connection c e && true) (is_opening c m) t))
 sent_opens c (Sent e Down m) t = absurd (never (same_connection c e) (is_opening c m) t)
   where
     never : (a b : Bool) → (a && false && b) ≡ true → ⊥
@@ -291,7 +292,7 @@ single_row _ _ h s o r = absurd cc
 opens_row : (c : Conn) (x : Entry) (h : List Entry) → is_single c ≡ true → rule h x ≡ true → opens c x ≡ true → has (opens c) h ≡ false
 opens_row c (Sent e Up m) h s r t =
     let q = and_left (same_connection c e) (is_opening e m) t in
-    let same : c ≡ e = same_conn_is c e q in
+    let same : c ≡ e = same_is c e q in
     let P : Conn → Type 0 = λ y. is_single y ≡ true in
     let Q : Conn → Type 0 = λ y. has (opens y) h ≡ false in
     subst Q (sym same)
@@ -312,7 +313,7 @@ no_opening : (c e : Conn) (r : Dir) (m : Message) → opens c (Sent e r m) ≡ f
 no_opening c e Up m o t =
     let s = and_left (same_connection c e) true t in
     let P : Conn → Type 0 = λ y. is_opening y m ≡ false in
-    subst P (sym (same_conn_is c e s)) (by (same_connection c e) (is_opening e m) s o)
+    subst P (sym (same_is c e s)) (by (same_connection c e) (is_opening e m) s o)
   where
     by : (a b : Bool) → a ≡ true → (a && b) ≡ false → b ≡ false
     by true b p q = q
@@ -336,7 +337,7 @@ once c (Cut e u v ∷ h) s k = once_cut c (same_connection c e) (has (is_opening
 once c (Stopped ∷ h) s k = once_none c (has (is_opening_got c) h)
 once c (x ∷ h) s k = once c h s (keeps_before x h k)
 
-next_stands : (p : Message → Bool) (m : Message) (ms : List Message) → is_next m ms → p m ≡ true → has p ms ≡ true
+pub next_stands : (p : Message → Bool) (m : Message) (ms : List Message) → is_next m ms → p m ≡ true → has p ms ≡ true
 next_stands p m [] n t = absurd n
 next_stands p m (x ∷ ms) n t = let P : Message → Type 0 = λ y. (p y || has p ms) ≡ true in subst P n (or_left (p m) (has p ms) t)
 

@@ -54,7 +54,6 @@ pub mod PromotionExample
 pub mod PlannedReplays
 pub mod Determined
 pub mod OtherTraces
-pub mod Connections
 pub mod Whole
 pub mod Messages
 pub mod OnTheWay

@@ -42,7 +42,7 @@ use Rattle.outcome_law.proofs.Table.{is_prepare_got, stands_volatile}
 use Rattle.outcome_law.proofs.Keeping.{Keeps}
 use Rattle.outcome_law.proofs.Owned.{decision_seen, has_rows}
 use Rattle.outcome_law.proofs.SameRows.{found_passes, is_made_once, row_found, voted_cast}
-use Rattle.outcome_law.proofs.Whole.{is_got_on, whole, whole_of}
+use Rattle.outcome_law.proofs.Whole.{whole, whole_of}
 use Rattle.outcome_law.proofs.Messages.{PREPARE}
 use Rattle.outcome_law.proofs.OpenedRows.{kept_opened}
 use Rattle.outcome_law.proofs.Arrived.{stays}
@@ -54,6 +54,7 @@ use Rattle.outcome_law.proofs.Ending.{decide_decides, veto_decides}
 use Rattle.outcome_law.proofs.Announced.{IsUnsevered, unsevered_before, unsevered_under}
 use Rattle.outcome_law.proofs.CommonBlocks.{common_veto, is_usual, usual, usual_block}
 use Rattle.outcome_law.proofs.Owed.{IsSpared}
+use Rattle.outcome_law.proofs.Crossed.{is_got_on}
 
 -- it is a volatile that voted
 pub record IsVoter (e : ℕ) (h : List Entry) : Type 0 where

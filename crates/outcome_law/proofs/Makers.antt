@@ -20,8 +20,6 @@ use Rattle.dtx_values.specs.declared.number.ActorNo.{ActorNo}
 use Rattle.dtx_values.specs.declared.number.EnlNo.{EnlNo}
 use Rattle.dtx_values.specs.declared.number.RmNo.{RmNo}
 use Rattle.dtx_values.specs.declared.number.TxNo.{TxNo}
-use Rattle.dtx_values.specs.declared.script.EnlistOption.{EnlistOption}
-use Rattle.dtx_values.specs.declared.script.EnlistOption.TheVariants.{Plain as PlainOption, DuringPrepare}
 use Rattle.dtx_values.specs.declared.script.Support.{Support}
 use Rattle.dtx_values.specs.declared.script.Support.TheVariants.{SinglePhase, TwoPhase}
 use Rattle.dtx_values.specs.declared.words.Cause.{Cause}
@@ -57,13 +55,13 @@ use Rattle.outcome_law.proofs.Scans.{each_more, has_less}
 use Rattle.outcome_law.proofs.Owned.{has_filter}
 use Rattle.outcome_law.proofs.Rule.{is_enlisted}
 use Rattle.outcome_law.proofs.Tests.{apart, eq_self, eq_swap}
-use Rattle.outcome_law.proofs.Whole.{is_got_on, is_sent_on}
 use Rattle.outcome_law.proofs.Messages.{ENLIST}
 use Rattle.outcome_law.proofs.Debts.{is_volatile_made}
 use Rattle.outcome_law.proofs.OnTheWay.{is_unplaced}
 use Rattle.outcome_law.proofs.Openings.{once_sent}
 use Rattle.outcome_law.proofs.PlainBlocks.{Plain, is_plain, plain_act, plain_arrived, plain_begin_promotion, plain_called, plain_coordinates, plain_core_got, plain_ended_at, plain_reply, plain_restarted}
 use Rattle.outcome_law.proofs.Waiters.{is_waiting_answer, own_call, promotable_gives, volatile_gives}
+use Rattle.outcome_law.proofs.Crossed.{is_sent_on, is_got_on}
 
 -- the call makes this enlistment: any, a volatile one, or a durable or promotable one
 abbrev pub makes_enlistment : ℕ → Call → Bool
@@ -266,7 +264,7 @@ sent_made G ks t e r h m a =
     }
 
 -- what waits for a place is a durable's call that makes the enlistment
-abbrev place_number : Wanted → ℕ
+abbrev pub place_number : Wanted → ℕ
 place_number (Place e r c) = e.value
 place_number Identifier = 0
 
@@ -527,10 +525,6 @@ own_made G ks h n a c x e k g q new w p f o =
 fine_facts : (G : ℕ → ActorNo → Call → Type 0) (ks : List EnteredCall) (h es : List Entry) (b : Bool) → AreMade G ks h → AreMade G ks (onto h es) → AreMade G ks (onto h (facts_if b es))
 fine_facts G ks h es true a k = k
 fine_facts G ks h es false a k = a
-
-option_class : (o : EnlistOption) → is_volatile (class_of o) ≡ true
-option_class PlainOption = refl
-option_class DuringPrepare = refl
 
 -- a durable call: it waits, and then its ENLIST may be sent; or it makes its enlistment
 durable_made : (G : ℕ → ActorNo → Call → Type 0) (ks : List EnteredCall) (t n : ℕ) (a : ActorNo) (u : TxNo) (e : EnlNo) (r : RmNo) (s : Support) (v : Half) (x : Answer) (h : List Entry) → G n a (Durable u e r s)

@@ -61,8 +61,9 @@ use Rattle.outcome_law.proofs.HalfOwner.{enlist_opening}
 use Rattle.outcome_law.proofs.Reenlisted.{opened_since}
 use Rattle.outcome_law.proofs.WorldCalls.{branch_done, makes_new}
 use Rattle.outcome_law.proofs.TameBlocks.{is_unpromotable, of_act, tame_arrived, tame_called, tame_cons, tame_coordinates, tame_core_got, tame_ended_at, tame_reply, tame_restarted}
-use Rattle.outcome_law.proofs.Marks.{IsMarked, cloned_marked, keeps_under, opened_if_enlisted, opening_marked, promotable_marked, promote_marked, return_marked, single_marked, tame_marked, tame_onto}
+use Rattle.outcome_law.proofs.Marks.{IsMarked, cloned_marked, opened_if_enlisted, opening_marked, promotable_marked, promote_marked, return_marked, single_marked, tame_marked, tame_onto}
 use Rattle.outcome_law.proofs.Unlinked.{ended_unknown}
+use Rattle.outcome_law.proofs.Handing.{keeps_within}
 
 -- What waits has no promotable's place.
 each_filter : {A : Type 0} (p q : A → Bool) (xs : List A) → each p xs ≡ true → each p (filter q xs) ≡ true
@@ -103,7 +104,7 @@ begin_marked G h v (Some c) e k m = by (has (λ x. is_promotable x.class) v.seen
     by false q k =
         opening_marked G (Promoting c ∷ h)
         (λ f s. absurd (not_both (stands_promotable f h) s (no_promotable f h (ap (has (λ x. is_promotable x.class)) (sym e) ∙ q))))
-        (tame_marked G (Promoting c) h refl (keeps_under (Promoting c ∷ h) (Sent Begin Up BeginBegin ∷ []) k) m)
+        (tame_marked G (Promoting c) h refl (keeps_within (Promoting c ∷ h) (Sent Begin Up BeginBegin ∷ []) k) m)
 
 unless_marked : (G : ℕ → ActorNo → Call → Type 0) (h : List Entry) (v : Half) (o : Option Cause) (b : Bool) → v.seen.table ≡ rows h → Keeps (onto h (if b then [] else begin_promotion v o)) → IsMarked G h
     → IsMarked G (onto h (if b then [] else begin_promotion v o))
@@ -188,7 +189,7 @@ return_call G t w n a e (Some d) m k = by (find (is_branch e.value) (half w).see
         let x = Called n a (branch_answer w b) in
         let g = branch_done b.enlisted (is_finished_there (half w).seen b.enlistment.value) (is_in b.manager.value (core w).recovered) (is_connected b.enlistment w.past) b.manager b.enlistment (unless_stopped w) f in
         return_block G t (x ∷ w.past) b (unlinked_unknown b.enlistment w.past (return_opened t (x ∷ w.past) b k) g.1)
-        (tame_marked G x w.past refl (keeps_under (x ∷ w.past) (reenlist_facts t (Some b)) k) m) k
+        (tame_marked G x w.past refl (keeps_within (x ∷ w.past) (reenlist_facts t (Some b)) k) m) k
 
     by : (o : Option Branch) → Keeps (onto w.past (Called n a (reenlist_by w o) ∷ facts_if (has_facts (reenlist_by w o)) (reenlist_facts t o)))
         → IsMarked G (onto w.past (Called n a (reenlist_by w o) ∷ facts_if (has_facts (reenlist_by w o)) (reenlist_facts t o)))
@@ -198,7 +199,7 @@ return_call G t w n a e (Some d) m k = by (find (is_branch e.value) (half w).see
 -- The calls.
 called_marked : (G : ℕ → ActorNo → Call → Type 0) (h : List Entry) (n : ℕ) (a : ActorNo) (x : Answer) (b : Bool) (es : List Entry) → IsMarked G h → Keeps (onto (Called n a x ∷ h) (facts_if b es))
     → (IsMarked G (Called n a x ∷ h) → Keeps (onto (Called n a x ∷ h) es) → IsMarked G (onto (Called n a x ∷ h) es)) → IsMarked G (onto (Called n a x ∷ h) (facts_if b es))
-called_marked G h n a x true es m k f = f (tame_marked G (Called n a x) h refl (keeps_under (Called n a x ∷ h) es k) m) k
+called_marked G h n a x true es m k f = f (tame_marked G (Called n a x) h refl (keeps_within (Called n a x ∷ h) es k) m) k
 called_marked G h n a x false es m k f = tame_marked G (Called n a x) h refl k m
 
 call_marked : (G : ℕ → ActorNo → Call → Type 0) (t : ℕ) (w : World) (n : ℕ) (a : ActorNo) (c : Call) (j : ℕ) → G n a c → makes_new w.past c ≡ true → Keeps (onto w.past (called t w n a c (answer_at t w c j))) → IsMarked G w.past
@@ -229,7 +230,7 @@ reply_marked : (G : ℕ → ActorNo → Call → Type 0) (w : World) (e : EnlNo)
 unfolding reply_entries
 reply_marked G w e (Promotes true) k m =
     opening_marked G (PromoteReply e true ∷ w.past) (λ f s. refl)
-    (tame_marked G (PromoteReply e true) w.past refl (keeps_under (PromoteReply e true ∷ w.past) (Sent Begin Up BeginBegin ∷ []) k) m)
+    (tame_marked G (PromoteReply e true) w.past refl (keeps_within (PromoteReply e true ∷ w.past) (Sent Begin Up BeginBegin ∷ []) k) m)
 reply_marked G w e (Promotes false) k m = tame_onto G w.past (reply_entries (half w) e (Promotes false)) (tame_reply (half w) e (Promotes false) refl) k m
 reply_marked G w e r k m = tame_onto G w.past (reply_entries (half w) e r) (tame_reply (half w) e r refl) k m
 

@@ -32,13 +32,16 @@ use Rattle.outcome_law.proofs.Scans.{has_more}
 use Rattle.outcome_law.proofs.Rule.{is_cloned}
 use Rattle.outcome_law.proofs.Table.{is_there, message_row, rule, stands_promotable}
 use Rattle.outcome_law.proofs.Keeping.{Keeps, before, keeps_before, newest}
-use Rattle.outcome_law.proofs.Crossed.{is_got_on, same_conn_is, was_sent}
+use Rattle.outcome_law.proofs.Crossed.{is_got_on, was_sent}
 use Rattle.outcome_law.proofs.Tests.{fourth_of_four}
 use Rattle.outcome_law.proofs.Standing.{opened_if_got}
 use Rattle.outcome_law.proofs.HalfHeard.{is_return}
 use Rattle.outcome_law.proofs.CoreKnown.{sent_opened_there}
-use Rattle.outcome_law.proofs.TameBlocks.{Tame, is_begin, is_tame}
+use Rattle.outcome_law.proofs.TameBlocks.{Tame, is_tame}
 use Rattle.outcome_law.proofs.Unlinked.{unknown_more}
+use Rattle.outcome_law.proofs.Handing.{keeps_within}
+use Rattle.outcome_law.proofs.Messages.{BEGIN}
+use Rattle.dtx_model.proofs.Connections.{same_is}
 
 -- a call that may come made this clone, and its line came
 pub record IsCloner (G : ℕ → ActorNo → Call → Type 0) (h : List Entry) (c : ℕ) : Type 0 where
@@ -101,7 +104,7 @@ enlist_new e _ h o r = absurd cc
 pub unopened_again : (e : EnlNo) (x : Entry) (h : List Entry) → Keeps (x ∷ h) → has (opens (Enl e)) h ≡ true → opens (Enl e) x ≡ false
 unopened_again e (Sent c Up m) h k o =
     false_from_ne_true (same_connection (Enl e) c && is_opening c m)
-    (λ t. let same : Enl e ≡ c = same_conn_is (Enl e) c (and_left (same_connection (Enl e) c) (is_opening c m) t) in
+    (λ t. let same : Enl e ≡ c = same_is (Enl e) c (and_left (same_connection (Enl e) c) (is_opening c m) t) in
     let P : Conn → Type 0 = λ d. (is_opening d m ≡ true) × (message_row h d m ≡ true) in
     let row = subst P (sym same) (and_right (same_connection (Enl e) c) (is_opening c m) t, fourth_of_four (has_line c Up m) (has is_promoting h) (is_there h c Up m) (message_row h c m) (newest (Sent c Up m) h k)) in
     not_both (has (opens (Enl e)) h) o (enlist_new e m h row.0 row.1))
@@ -120,12 +123,12 @@ tame_promotable e (Enlisted f c) h t s =
     or_case ((e == f.value) && is_promotable c) (stands_promotable e h) (λ a. absurd (not_both (is_promotable c) (and_right (e == f.value) (is_promotable c) a) (not_true (is_promotable c) t))) (λ a. a) s
 tame_promotable e _ h t s = s
 
-begin_opening : (m : Message) → is_opening Begin m ≡ true → is_begin m ≡ true
+begin_opening : (m : Message) → is_opening Begin m ≡ true → BEGIN m ≡ true
 begin_opening BeginBegin t = refl
 begin_opening _ t = absurd cc
 
 tame_unopened : (x : Entry) → is_tame x ≡ true → opens Begin x ≡ true → ⊥
-tame_unopened (Sent Begin Up m) t o = not_both (is_begin m) (begin_opening m o) (not_true (is_begin m) t)
+tame_unopened (Sent Begin Up m) t o = not_both (BEGIN m) (begin_opening m o) (not_true (BEGIN m) t)
 tame_unopened (Sent c Down m) t o = absurd cc
 tame_unopened _ t o = absurd cc
 
@@ -159,17 +162,12 @@ tame_marked G x h t k m =
       cloned = λ c a. cloner_more G h c x (m.cloned c (old (is_cloned c x) (has (is_cloned c) h) (tame_uncloned c x t) a));
     }
 
--- what keeps the table kept it before its last entries
-pub keeps_under : (h es : List Entry) → Keeps (onto h es) → Keeps h
-keeps_under h [] k = k
-keeps_under h (x ∷ es) k = keeps_before x h (keeps_under (x ∷ h) es k)
-
 -- a list of tame entries keeps it too
 pub tame_onto : (G : ℕ → ActorNo → Call → Type 0) (h es : List Entry) → Tame es → Keeps (onto h es) → IsMarked G h → IsMarked G (onto h es)
 tame_onto G h [] t k m = m
 tame_onto G h (x ∷ es) t k m =
     tame_onto G (x ∷ h) es (record { proof = and_right (is_tame x) (each is_tame es) t.proof }) k
-    (tame_marked G x h (and_left (is_tame x) (each is_tame es) t.proof) (keeps_under (x ∷ h) es k) m)
+    (tame_marked G x h (and_left (is_tame x) (each is_tame es) t.proof) (keeps_within (x ∷ h) es k) m)
 
 -- The other entries. An ask to promote.
 pub promote_marked : (G : ℕ → ActorNo → Call → Type 0) (e : EnlNo) (h : List Entry) → has is_promoting h ≡ true → IsMarked G h → IsMarked G (Asked e Promote ∷ h)
@@ -210,7 +208,7 @@ return_marked G e h n m =
       single = m.single;
       back =
           λ f a. or_case (f.value == e.value) (has (is_return f.value) h)
-          (λ q. let same : Enl f ≡ Enl e = same_conn_is (Enl f) (Enl e) q in
+          (λ q. let same : Enl f ≡ Enl e = same_is (Enl f) (Enl e) q in
           let P : Conn → Type 0 = λ d. knows d (ends_of h) ≡ false in
           subst P (sym same) n) (λ q. m.back f q) a;
       cloned = λ c a. cloner_more G h c (Reenlisted e) (m.cloned c a);

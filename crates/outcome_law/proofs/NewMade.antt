@@ -20,11 +20,11 @@ use Rattle.dtx_model.specs.Wires.{opens}
 use Rattle.dtx_model.proofs.Bools.{and_both, and_left, not_both, not_false}
 use Rattle.outcome_law.proofs.Scans.{has_more}
 use Rattle.outcome_law.proofs.Rule.{is_cloned, is_enlisted}
-use Rattle.outcome_law.proofs.Whole.{is_sent_on}
 use Rattle.outcome_law.proofs.Messages.{ENLIST}
 use Rattle.outcome_law.proofs.Makers.{AreMade, lasting_makes, makes_name}
 use Rattle.outcome_law.proofs.WorldCalls.{makes_new}
 use Rattle.outcome_law.proofs.Marks.{IsMarked}
+use Rattle.outcome_law.proofs.Crossed.{is_sent_on}
 
 -- a call whose line came, and that makes this name, isn't that of a line that didn't come
 came_already : (G : ℕ → ActorNo → Call → Type 0) (h : List Entry) (x : Name) (n m : ℕ) (a b : ActorNo) (c d : Call) → AreMadeOnce G → G n a c → G m b d → made_by c ≡ Some x → made_by d ≡ Some x

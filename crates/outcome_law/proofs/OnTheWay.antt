@@ -24,8 +24,8 @@ use Rattle.dtx_model.proofs.Bools.{and_left, and_right, and_both, or_case, or_ri
 use Rattle.outcome_law.proofs.Lists.{each-insert}
 use Rattle.outcome_law.proofs.Scans.{each_more}
 use Rattle.outcome_law.proofs.Rule.{is_enlisted}
-use Rattle.outcome_law.proofs.Whole.{is_sent_on}
 use Rattle.outcome_law.proofs.Messages.{ENLIST}
+use Rattle.outcome_law.proofs.Crossed.{is_sent_on}
 
 -- the call waits for a place, and its ENLIST was sent
 abbrev pub is_on_its_way : List Entry → Waiter → Bool

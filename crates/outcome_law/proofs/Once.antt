@@ -22,6 +22,7 @@ use Rattle.outcome_law.proofs.Crossed.{is_got_on, is_sent_on}
 use Rattle.outcome_law.proofs.Doubting.{begin_once, voter_once}
 use Rattle.outcome_law.proofs.Standing.{opening_sent_on}
 use Rattle.outcome_law.proofs.InTransit.{no_more}
+use Rattle.outcome_law.proofs.Messages.{BEGUN, CREATED}
 
 -- what passes p is sent down only directly after the message that opens the connection was got
 abbrev pub is_answer_to : Conn → (Message → Bool) → List Entry → Entry → Bool
@@ -96,25 +97,17 @@ comes_once c p f m h k a n t =
     clash : (g t s e o u v : ℕ) → 1 ≤ g → 1 ≤ t → g + t ≤ s → s + e ≤ o → o + u ≤ v → v ≤ 1 → ⊥
     clash g t s e o u v a b c d i j = omega (arith, a, b, c, d, i, j)
 
-abbrev pub is_begun : Message → Bool
-is_begun (BeginBegun u) = true
-is_begun _ = false
-
-abbrev pub is_created : Message → Bool
-is_created VoterCreated = true
-is_created _ = false
-
-begun_on : (x : Entry) → is_begun_got x ≡ true → is_got_on Begin Down is_begun x ≡ true
+begun_on : (x : Entry) → is_begun_got x ≡ true → is_got_on Begin Down BEGUN x ≡ true
 begun_on (Got Begin Down (BeginBegun u)) t = refl
 begun_on _ t = absurd cc
 
-created_on : (x : Entry) → is_created_got x ≡ true → is_got_on Voter Down is_created x ≡ true
+created_on : (x : Entry) → is_created_got x ≡ true → is_got_on Voter Down CREATED x ≡ true
 created_on (Got Voter Down VoterCreated) t = refl
 created_on _ t = absurd cc
 
 -- BEGUN, and CREATED
-pub begun_once : (u : ℕ) (h : List Entry) → Keeps h → always (is_answer_to Begin is_begun) h ≡ true → is_next (BeginBegun u) (in_transit Begin Down h) → has is_begun_got h ≡ false
-begun_once u h k a n = has_less is_begun_got (is_got_on Begin Down is_begun) begun_on h (comes_once Begin is_begun begin_once (BeginBegun u) h k a n refl)
+pub begun_once : (u : ℕ) (h : List Entry) → Keeps h → always (is_answer_to Begin BEGUN) h ≡ true → is_next (BeginBegun u) (in_transit Begin Down h) → has is_begun_got h ≡ false
+begun_once u h k a n = has_less is_begun_got (is_got_on Begin Down BEGUN) begun_on h (comes_once Begin BEGUN begin_once (BeginBegun u) h k a n refl)
 
-pub created_once : (h : List Entry) → Keeps h → always (is_answer_to Voter is_created) h ≡ true → is_next VoterCreated (in_transit Voter Down h) → has is_created_got h ≡ false
-created_once h k a n = has_less is_created_got (is_got_on Voter Down is_created) created_on h (comes_once Voter is_created voter_once VoterCreated h k a n refl)
+pub created_once : (h : List Entry) → Keeps h → always (is_answer_to Voter CREATED) h ≡ true → is_next VoterCreated (in_transit Voter Down h) → has is_created_got h ≡ false
+created_once h k a n = has_less is_created_got (is_got_on Voter Down CREATED) created_on h (comes_once Voter CREATED voter_once VoterCreated h k a n refl)

@@ -1,7 +1,7 @@
 -- A message that is sent once on a connection is got once there.
 use Rattle.std.proofs.Common.{◌≡◌, ℕ, zero, suc, Bool, true, false, ◌&&◌, ◌||◌, List, [], ◌∷◌, ◌++◌, refl, sym, subst, ap, ◌∙◌}
 use Rattle.std.specs.Prelude.{not, take, if◌then◌else◌}
-use Rattle.std.proofs.lemmas.Bool.{false_from_ne_true, or_left}
+use Rattle.std.proofs.lemmas.Bool.{false_from_ne_true}
 use Rattle.dtx_values.specs.declared.entry.Entry.{Entry}
 use Rattle.dtx_values.specs.declared.entry.Entry.TheVariants.{Cut, Got, Sent, Stopped}
 use Rattle.dtx_values.specs.declared.message.Conn.{Conn}
@@ -14,8 +14,9 @@ use Rattle.dtx_model.specs.Words.{always, has}
 use Rattle.dtx_model.specs.Wires.{MayCross, WireRun, in_transit, is_next, is_open_wire, is_stopped, kept, opened_with, opens, sent_behind, transit_after_stop, without_first}
 use Rattle.dtx_model.proofs.Bools.{and_left, and_right, not_both, not_false, not_true, or_case, or_false}
 use Rattle.outcome_law.proofs.Lists.{has-behind}
-use Rattle.outcome_law.proofs.Crossed.{came, is_got_on, is_sent_on, same_conn_is, same_way_is, was_sent}
-use Rattle.outcome_law.proofs.Leading.{opening_of}
+use Rattle.outcome_law.proofs.Crossed.{came, is_got_on, is_sent_on, was_sent}
+use Rattle.outcome_law.proofs.Leading.{opening_of, next_stands}
+use Rattle.dtx_model.proofs.Connections.{same_is, same_way_is}
 
 -- none that passes was sent there before
 abbrev pub is_first_sent : Conn → Dir → (Message → Bool) → List Entry → Entry → Bool
@@ -172,14 +173,10 @@ got_once c d p f (Got e r m ∷ h) w a =
     o_got p (has (is_got_on c d p) h) (same_connection c e) (same_direction d r) (has_line e r m) m (in_transit c d h)
     (λ s b. let N : Conn → Type 0 = λ y. is_next m (in_transit y d h) in
     let D : Dir → Type 0 = λ y. is_next m (in_transit e y h) in
-    subst N (sym (same_conn_is c e s)) (subst D (sym (same_way_is d r b)) w.0)) (got_once c d p f h w.1 a)
+    subst N (sym (same_is c e s)) (subst D (sym (same_way_is d r b)) w.0)) (got_once c d p f h w.1 a)
 got_once c d p f (Cut e u v ∷ h) w a = o_cut p (has (is_got_on c d p) h) (same_connection c e) (kept d u v) (in_transit c d h) (got_once c d p f h w.1 a)
 got_once c d p f (Stopped ∷ h) w a = o_stop p (has (is_got_on c d p) h) d (in_transit c d h) (got_once c d p f h w.1 a)
 got_once c d p f (x ∷ h) w a = got_once c d p f h w.1 a
-
-pub next_stands : (p : Message → Bool) (m : Message) (ms : List Message) → is_next m ms → p m ≡ true → has p ms ≡ true
-next_stands p m [] n t = absurd n
-next_stands p m (x ∷ ms) n t = let P : Message → Type 0 = λ y. (p y || has p ms) ≡ true in subst P n (or_left (p m) (has p ms) t)
 
 -- so where it comes, none came before
 pub first_got : (c : Conn) (d : Dir) (p : Message → Bool) (m : Message) → ((n : Message) → is_opening c n ≡ true → p n ≡ false) → p m ≡ true → (h : List Entry) → WireRun h → always (is_first_sent c d p) h ≡ true

@@ -23,7 +23,7 @@ use Rattle.dtx_model.proofs.Bools.{and_both, and_left, and_right, not_both, not_
 use Rattle.outcome_law.proofs.Tests.{first_of_three, second_of_three}
 use Rattle.outcome_law.proofs.Scans.{has_less, has_more}
 use Rattle.outcome_law.proofs.Rule.{is_answer, is_certain, is_decided}
-use Rattle.outcome_law.proofs.Rules.{decided_same}
+use Rattle.outcome_law.proofs.Rules.{decided_same, not_opposite}
 use Rattle.outcome_law.proofs.Evidence.{is_answered}
 use Rattle.outcome_law.proofs.Table.{brings, brings_abort, brings_commit, decision_row, ends_again, ends_with, hears_decision, hears_here, is_commit_come, rule, ruled}
 use Rattle.outcome_law.proofs.Keeping.{Keeps, keeps_before, newest, third_of_three}
@@ -212,11 +212,6 @@ final_open h k t =
     (λ d. off_open h k (decided_off h k (decided_same Aborted (latest decision_of h) d)))
     (λ b. evidence-handed h k (answered_handed Aborted h k b) ∙ answered_once h k b) a)
     (λ c. off_open h k (aborted_off h k c)) (final_cause Aborted coordinator_aborted aborted_more heard_aborted h k t)
-
-not_opposite : (a b e : Bool) → (a ≡ true → e ≡ true) → (b ≡ true → e ≡ false) → (a && b) ≡ false
-not_opposite false b e f g = refl
-not_opposite true false e f g = refl
-not_opposite true true e f g = absurd (not_both e (f refl) (g refl))
 
 -- it is decided once
 one_decision : (x : Entry) (h : List Entry) → Keeps (x ∷ h) → is_decided_again h x ≡ false

@@ -18,13 +18,13 @@ use Rattle.dtx_model.specs.Promotes.{is_begun_got, is_promoting}
 use Rattle.dtx_model.specs.Wires.{opens}
 use Rattle.dtx_model.proofs.Bools.{and_left, and_right, or_case}
 use Rattle.outcome_law.proofs.Tests.{first_of_four, third_of_four}
-use Rattle.outcome_law.proofs.Connections.{same_is, same_self, same_way_is}
-use Rattle.outcome_law.proofs.Whole.{is_opened_once, is_sent_on}
-use Rattle.outcome_law.proofs.Unblamed.{got_sent}
+use Rattle.dtx_model.proofs.Connections.{same_is, same_self, same_way_is}
+use Rattle.outcome_law.proofs.Whole.{is_opened_once}
 use Rattle.outcome_law.proofs.Table.{is_of_conn, is_opening_got, is_there, is_volatile_conn, message_row, rule, ruled}
 use Rattle.outcome_law.proofs.Keeping.{Keeps, keeps_before, newest}
 use Rattle.outcome_law.proofs.Standing.{opened_if_got}
 use Rattle.outcome_law.proofs.BeforeRows.{by_keeping, row_of}
+use Rattle.outcome_law.proofs.Crossed.{is_sent_on, got_sent}
 
 -- what opens a connection opens it for the first time, or after a cut or a stop
 opening_new : (c : Conn) (m : Message) (h : List Entry) → message_row h c m ≡ true → is_opening c m ≡ true → (not (has (opens c) h) || has is_severing h) ≡ true

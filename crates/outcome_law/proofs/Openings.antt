@@ -13,11 +13,12 @@ use Rattle.dtx_values.specs.Lines.{has_line, is_opening}
 use Rattle.dtx_model.specs.Wires.{WireRun, begins_ended, ended_after, ends, is_ended, is_open_wire, is_stopped, in_transit, opened_with, opens, sent_behind, without_first}
 use Rattle.dtx_values.specs.Ends.{same_connection, same_direction}
 use Rattle.dtx_model.proofs.Bools.{and_left, and_right, and_both, or_case, or_false, or_first, or_second, or_right, not_true, not_both, not_false}
-use Rattle.outcome_law.proofs.Whole.{is_got_on, is_sent_on, is_whole, whole}
+use Rattle.outcome_law.proofs.Whole.{is_whole, whole}
 use Rattle.outcome_law.proofs.Arrived.{before, newest, on_way, opens_same, sent_rule, unopened, unstopped}
-use Rattle.outcome_law.proofs.Connections.{same_is}
-use Rattle.outcome_law.proofs.Unblamed.{came, got_sent, no_end}
+use Rattle.dtx_model.proofs.Connections.{same_is}
+use Rattle.outcome_law.proofs.Unblamed.{no_end}
 use Rattle.outcome_law.proofs.Scans.{has_more}
+use Rattle.outcome_law.proofs.Crossed.{is_sent_on, is_got_on, came, got_sent}
 
 -- what was got was sent, and a connection on which something was sent was opened
 pub once_sent : (c : Conn) (d : Dir) (p : Message → Bool) (h : List Entry) → WireRun h → has (is_got_on c d p) h ≡ true → has (is_sent_on c d p) h ≡ true

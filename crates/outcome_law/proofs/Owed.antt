@@ -47,16 +47,16 @@ use Rattle.outcome_law.proofs.Dues.{is_unplanned, named_rows}
 use Rattle.outcome_law.proofs.Owned.{has_rows}
 use Rattle.outcome_law.proofs.TableRows.{each_rows}
 use Rattle.outcome_law.proofs.Settled.{has_answered}
-use Rattle.outcome_law.proofs.Whole.{is_got_on}
 use Rattle.outcome_law.proofs.Messages.{PREPARE}
 use Rattle.outcome_law.proofs.Fine.{IsFine, is_bad, is_made}
 use Rattle.outcome_law.proofs.Debts.{is_volatile_made}
-use Rattle.outcome_law.proofs.Connections.{same_is}
+use Rattle.dtx_model.proofs.Connections.{same_is}
 use Rattle.outcome_law.proofs.Knowledge.{knows_got}
 use Rattle.outcome_law.proofs.Stages.{record_logged}
 use Rattle.outcome_law.proofs.Unblamed.{owns, unrestarted}
 use Rattle.outcome_law.proofs.Climbed.{none_decided}
 use Rattle.outcome_law.proofs.SameRows.{asked_marked, found_passes, is_asked_there, is_made_once, marked_asked, row_found, voted_cast}
+use Rattle.outcome_law.proofs.Crossed.{is_got_on}
 
 -- Rows of the table of rules: a volatile is asked to prepare, or who got PREPARE; a promotable is asked to promote or for its single phase; and an enlistment is
 -- told committed or in doubt where it was decided, or where there is a record.

@@ -1,7 +1,7 @@
 -- What the rows and the listeners show of the owner of the commit, of who hears of doubt, and of who is lost.
-use Rattle.std.proofs.Common.{◌≡◌, ℕ, ◌==◌, Bool, true, false, ◌&&◌, ◌||◌, List, [], ◌∷◌, map, Option, Some, None, refl, ◌∙◌, ap, sym, subst, inl, inr}
+use Rattle.std.proofs.Common.{◌≡◌, ℕ, ◌==◌, Bool, true, false, ◌&&◌, ◌||◌, List, [], ◌∷◌, map, Option, Some, None, refl, ◌∙◌, ap, sym, subst}
 use Rattle.std.specs.Prelude.{is_some, nat_lt, not, filter, if◌then◌else◌}
-use Rattle.std.proofs.lemmas.Bool.{eqb-true, cases_Bool}
+use Rattle.std.proofs.lemmas.Bool.{eqb-true}
 use Rattle.dtx_values.specs.declared.number.EnlNo.{EnlNo}
 use Rattle.dtx_values.specs.declared.entry.Ask.TheVariants.{Prepare}
 use Rattle.dtx_values.specs.declared.entry.Entry.{Entry}
@@ -17,16 +17,16 @@ use Rattle.dtx_model.specs.Entries.{is_sealed, is_hand, is_any_hand, is_lost, is
 use Rattle.dtx_model.specs.Observed.{listener_number, come_back, hear, listeners, lose, rows}
 use Rattle.dtx_model.specs.Outcome.{can_own, durables, enlisted, hears_doubt, is_empty, ready}
 use Rattle.dtx_values.specs.Owners.{lasting, only, owner_of}
-use Rattle.dtx_values.specs.Row.{is_lasting, is_of, has_voted, number_of, fresh_row, mark_row, vote_row}
+use Rattle.dtx_values.specs.Row.{is_lasting, is_of, number_of, fresh_row, mark_row, vote_row}
 use Rattle.dtx_model.specs.Half.{is_handed}
 use Rattle.dtx_values.specs.Vote.{still_hears}
 use Rattle.dtx_values.specs.Waves.{hears}
-use Rattle.dtx_model.proofs.Bools.{and_left, and_right, and_never, or_first, or_second, or_case, not_both, not_true}
+use Rattle.dtx_model.proofs.Bools.{and_left, and_right, and_never, or_first, or_second, not_both, not_true}
 use Rattle.outcome_law.proofs.Tests.{eq_self, fourth_of_four}
 use Rattle.outcome_law.proofs.Scans.{has_more, has_less}
-use Rattle.outcome_law.proofs.Lists.{OfEach, has_kept, if_kept, has-insert}
+use Rattle.outcome_law.proofs.Lists.{has_kept, if_kept, has-insert}
 use Rattle.outcome_law.proofs.Rule.{is_enlisted, is_only, rule, ruled, first_rule, other_rules}
-use Rattle.outcome_law.proofs.TableRows.{IsRow, rows_seen}
+use Rattle.outcome_law.proofs.TableRows.{ruled_order, vote_by}
 use Rattle.outcome_law.proofs.Evidence.{hand_any}
 
 -- what some row passes by its number and class, some enlistment passes
@@ -136,35 +136,10 @@ only_of [] = None
 only_of (x ∷ []) = Some x.0
 only_of (x ∷ y ∷ xs) = None
 
--- an enlistment that comes is volatile, or it is the first durable or promotable and can own the commit
-pub enlisted_class : (e : EnlNo) (c : Class) (h : List Entry) → rule h (Enlisted e c) ≡ true → (is_volatile c || (can_own c && is_empty (durables h))) ≡ true
-enlisted_class e c h r = fourth_of_four (not (has is_decision h)) (not (has is_sealed h)) (not (has (is_enlisted e.value) h)) _ r
-
 -- what is empty has nothing
 pub empty_list : {A : Type 0} (xs : List A) → is_empty xs ≡ true → xs ≡ []
 empty_list [] e = refl
 empty_list (x ∷ xs) e = absurd cc
-
--- the owner by the rows is the one durable or promotable of the history
-owner_seen : (h : List Entry) → ruled h ≡ true → owner_of (rows h) ≡ only_of (durables h)
-unfolding owner_of
-owner_seen [] r = refl
-owner_seen (Enlisted e c ∷ h) r = step e c h (enlisted_class e c h (first_rule (Enlisted e c) h r)) (owner_seen h (other_rules (Enlisted e c) h r)) (is_volatile c) refl
-  where
-    step : (e : EnlNo) (c : Class) (h : List Entry) → (is_volatile c || (can_own c && is_empty (durables h))) ≡ true → only (lasting (rows h)) ≡ only_of (durables h)
-        → (b : Bool) → is_volatile c ≡ b → only (lasting (rows (Enlisted e c ∷ h))) ≡ only_of (if not (is_volatile c) then (e, c) ∷ durables h else durables h)
-    step e c h k ih true v = rw v (ap only (insert_other is_lasting number_of (fresh_row e c (marks (rows h))) (rows h) (ap (λ b. not b) v)) ∙ ih)
-    step e c h k ih false v =
-        let first : (false || (can_own c && is_empty (durables h))) ≡ true = rw v at k in
-        let bare : durables h ≡ [] = empty_list (durables h) (and_right (can_own c) (is_empty (durables h)) first) in
-        rw (v, bare) (ap only (insert_alone is_lasting number_of (fresh_row e c (marks (rows h))) (rows h) (ap (λ b. not b) v) (lasting_none h bare)))
-owner_seen (Asked e Prepare ∷ h) r =
-    kept_owner (λ x. if is_of e.value x then (mark_row (marks (rows h)) x) else x) (λ x. if_kept is_lasting (is_of e.value x) (mark_row (marks (rows h)) x) x refl)
-    (λ x. if_named (is_of e.value x) (mark_row (marks (rows h)) x) x refl) (rows h) ∙ owner_seen h (other_rules (Asked e Prepare) h r)
-owner_seen (Voted e v ∷ h) r =
-    kept_owner (λ x. if is_of e.value x then (vote_row v x) else x) (λ x. if_kept is_lasting (is_of e.value x) (vote_row v x) x refl)
-    (λ x. if_named (is_of e.value x) (vote_row v x) x refl) (rows h) ∙ owner_seen h (other_rules (Voted e v) h r)
-owner_seen (x ∷ h) r = owner_seen h (other_rules x h r)
 
 -- at most one stands, and it can own the commit
 abbrev pub is_single_owner : List (EnlNo × Class) → Bool
@@ -172,35 +147,78 @@ is_single_owner [] = true
 is_single_owner (x ∷ []) = can_own x.1
 is_single_owner (x ∷ y ∷ xs) = false
 
--- at most one durable or promotable stands, and it can own the commit
-pub durables_single : (h : List Entry) → ruled h ≡ true → is_single_owner (durables h) ≡ true
-durables_single [] r = refl
-durables_single (Enlisted e c ∷ h) r = step e c (durables h) (is_volatile c) (enlisted_class e c h (first_rule (Enlisted e c) h r)) (durables_single h (other_rules (Enlisted e c) h r))
-  where
-    step : (e : EnlNo) (c : Class) (ds : List (EnlNo × Class)) (v : Bool) → (v || (can_own c && is_empty ds)) ≡ true → is_single_owner ds ≡ true
-        → is_single_owner (if not v then (e, c) ∷ ds else ds) ≡ true
-    step e c ds true k s = s
-    step e c [] false k s = and_left (can_own c) true k
-    step e c (x ∷ xs) false k s = absurd (not_both (can_own c && false) k (and_never (can_own c)))
-durables_single (x ∷ h) r = durables_single h (other_rules x h r)
+-- A history in which each enlistment that comes is volatile, or the first durable or promotable, and can own the commit.
+pub record Owning (K : List Entry → Type 0) : Type 0 where
+  pub before : (x : Entry) (h : List Entry) → K (x ∷ h) → K h
+  pub class : (e : EnlNo) (c : Class) (h : List Entry) → K (Enlisted e c ∷ h) → (is_volatile c || (can_own c && is_empty (durables h))) ≡ true
+
+module _ {K : List Entry → Type 0} (o : Owning K) where
+  -- the owner by the rows is the one durable or promotable of the history
+  owner_by : (h : List Entry) → K h → owner_of (rows h) ≡ only_of (durables h)
+  unfolding owner_of
+  owner_by [] r = refl
+  owner_by (Enlisted e c ∷ h) r = step e c h (o.class e c h r) (owner_by h (o.before (Enlisted e c) h r)) (is_volatile c) refl
+    where
+      step : (e : EnlNo) (c : Class) (h : List Entry) → (is_volatile c || (can_own c && is_empty (durables h))) ≡ true → only (lasting (rows h)) ≡ only_of (durables h)
+          → (b : Bool) → is_volatile c ≡ b → only (lasting (rows (Enlisted e c ∷ h))) ≡ only_of (if not (is_volatile c) then (e, c) ∷ durables h else durables h)
+      step e c h k ih true v = rw v (ap only (insert_other is_lasting number_of (fresh_row e c (marks (rows h))) (rows h) (ap (λ b. not b) v)) ∙ ih)
+      step e c h k ih false v =
+          let first : (false || (can_own c && is_empty (durables h))) ≡ true = rw v at k in
+          let bare : durables h ≡ [] = empty_list (durables h) (and_right (can_own c) (is_empty (durables h)) first) in
+          rw (v, bare) (ap only (insert_alone is_lasting number_of (fresh_row e c (marks (rows h))) (rows h) (ap (λ b. not b) v) (lasting_none h bare)))
+  owner_by (Asked e Prepare ∷ h) r =
+      kept_owner (λ x. if is_of e.value x then (mark_row (marks (rows h)) x) else x) (λ x. if_kept is_lasting (is_of e.value x) (mark_row (marks (rows h)) x) x refl)
+      (λ x. if_named (is_of e.value x) (mark_row (marks (rows h)) x) x refl) (rows h) ∙ owner_by h (o.before (Asked e Prepare) h r)
+  owner_by (Voted e v ∷ h) r =
+      kept_owner (λ x. if is_of e.value x then (vote_row v x) else x) (λ x. if_kept is_lasting (is_of e.value x) (vote_row v x) x refl)
+      (λ x. if_named (is_of e.value x) (vote_row v x) x refl) (rows h) ∙ owner_by h (o.before (Voted e v) h r)
+  owner_by (x ∷ h) r = owner_by h (o.before x h r)
+
+  -- at most one durable or promotable stands, and it can own the commit
+  single_by : (h : List Entry) → K h → is_single_owner (durables h) ≡ true
+  single_by [] r = refl
+  single_by (Enlisted e c ∷ h) r = step e c (durables h) (is_volatile c) (o.class e c h r) (single_by h (o.before (Enlisted e c) h r))
+    where
+      step : (e : EnlNo) (c : Class) (ds : List (EnlNo × Class)) (v : Bool) → (v || (can_own c && is_empty ds)) ≡ true → is_single_owner ds ≡ true
+          → is_single_owner (if not v then (e, c) ∷ ds else ds) ≡ true
+      step e c ds true k s = s
+      step e c [] false k s = and_left (can_own c) true k
+      step e c (x ∷ xs) false k s = absurd (not_both (can_own c && false) k (and_never (can_own c)))
+  single_by (x ∷ h) r = single_by h (o.before x h r)
+
+  -- the owner by the rows is the only durable or promotable, and can own the commit
+  pub only_by : (h : List Entry) (e : EnlNo) → K h → owner_of (rows h) ≡ Some e → is_only e.value (durables h) ≡ true
+  only_by h e r q = step e (durables h) (single_by h r) (sym (owner_by h r) ∙ q)
+    where
+      step : (e : EnlNo) (ds : List (EnlNo × Class)) → is_single_owner ds ≡ true → only_of ds ≡ Some e → is_only e.value ds ≡ true
+      step e [] s o = absurd cc
+      step e (x ∷ []) s o = let same : x.0 ≡ e = cc in rw (ap (λ f. f.value) same, eq_self e.value) s
+      step e (x ∷ y ∷ ds) s o = absurd cc
+
+  -- where the rows have no owner, nothing is durable or promotable
+  pub none_by : (h : List Entry) → K h → owner_of (rows h) ≡ None → durables h ≡ []
+  none_by h r q = step (durables h) (single_by h r) (sym (owner_by h r) ∙ q)
+    where
+      step : (ds : List (EnlNo × Class)) → is_single_owner ds ≡ true → only_of ds ≡ None → ds ≡ []
+      step [] s o = refl
+      step (x ∷ []) s o = absurd cc
+      step (x ∷ y ∷ ds) s o = absurd cc
+
+-- a history that keeps the rules
+owning : Owning (λ h. ruled h ≡ true)
+owning =
+    record {
+      before = λ x h r. other_rules x h r;
+      class = λ e c h r. fourth_of_four (not (has is_decision h)) (not (has is_sealed h)) (not (has (is_enlisted e.value) h)) _ (first_rule (Enlisted e c) h r);
+    }
 
 -- the owner by the rows is the only durable or promotable, and can own the commit
 pub owner_only : (h : List Entry) (e : EnlNo) → ruled h ≡ true → owner_of (rows h) ≡ Some e → is_only e.value (durables h) ≡ true
-owner_only h e r o = step e (durables h) (durables_single h r) (sym (owner_seen h r) ∙ o)
-  where
-    step : (e : EnlNo) (ds : List (EnlNo × Class)) → is_single_owner ds ≡ true → only_of ds ≡ Some e → is_only e.value ds ≡ true
-    step e [] s o = absurd cc
-    step e (x ∷ []) s o = let same : x.0 ≡ e = cc in rw (ap (λ f. f.value) same, eq_self e.value) s
-    step e (x ∷ y ∷ ds) s o = absurd cc
+owner_only h e r o = only_by owning h e r o
 
 -- where the rows have no owner, nothing is durable or promotable
 pub owner_none : (h : List Entry) → ruled h ≡ true → owner_of (rows h) ≡ None → durables h ≡ []
-owner_none h r o = step (durables h) (durables_single h r) (sym (owner_seen h r) ∙ o)
-  where
-    step : (ds : List (EnlNo × Class)) → is_single_owner ds ≡ true → only_of ds ≡ None → ds ≡ []
-    step [] s o = refl
-    step (x ∷ []) s o = absurd cc
-    step (x ∷ y ∷ ds) s o = absurd cc
+owner_none h r o = none_by owning h r o
 
 -- to whom the commit was handed by what is observed it was handed by the history
 pub hand_seen : (e : ℕ) (h : List Entry) → ruled h ≡ true → is_handed (latest handed_of h) e ≡ has (is_hand e) h
@@ -274,37 +292,9 @@ lost_seen n (Lost e ∷ h) r =
 lost_seen n (Reenlisted e ∷ h) r = absurd cc
 lost_seen n (x ∷ h) r = lost_seen n h (other_rules x h r)
 
--- an enlistment whose row has no vote didn't vote
-pub unvoted_seen : (h : List Entry) (e : ℕ) → ruled h ≡ true → has (is_of e) (rows h) ≡ true → voted e (rows h) ≡ false → has (is_vote e) h ≡ false
-unvoted_seen h e r s v = of_row h e (rows h) (rows_seen h r) s v
-  where
-    of_row : (h : List Entry) (e : ℕ) (xs : List Row) → OfEach (IsRow h) xs → has (is_of e) xs ≡ true → has (λ x. is_of e x && has_voted x) xs ≡ false → has (is_vote e) h ≡ false
-    of_row h e [] w s v = absurd cc
-    of_row h e (x ∷ xs) w s v =
-        or_case (is_of e x) (has (is_of e) xs)
-        (λ k. let same : e ≡ x.number.value = eqb-true e x.number.value k in
-        let none : (is_of e x && has_voted x) ≡ false = or_first (is_of e x && has_voted x) (has (λ x. is_of e x && has_voted x) xs) v in
-        let unvoted : has_voted x ≡ false = rw k at none in
-        rw same (sym w.0.voted ∙ unvoted))
-        (λ k. of_row h e xs w.1 k (or_second (is_of e x && has_voted x) (has (λ x. is_of e x && has_voted x) xs) v)) s
-
--- an enlistment whose row has a vote voted
-cast_seen : (h : List Entry) (e : ℕ) → ruled h ≡ true → voted e (rows h) ≡ true → has (is_vote e) h ≡ true
-cast_seen h e r v = of_row h e (rows h) (rows_seen h r) v
-  where
-    of_row : (h : List Entry) (e : ℕ) (xs : List Row) → OfEach (IsRow h) xs → has (λ x. is_of e x && has_voted x) xs ≡ true → has (is_vote e) h ≡ true
-    of_row h e [] w v = absurd cc
-    of_row h e (x ∷ xs) w v =
-        or_case (is_of e x && has_voted x) (has (λ x. is_of e x && has_voted x) xs)
-        (λ k. let same : e ≡ x.number.value = eqb-true e x.number.value (and_left (is_of e x) (has_voted x) k) in rw same (sym w.0.voted ∙ and_right (is_of e x) (has_voted x) k))
-        (of_row h e xs w.1) v
-
 -- an enlistment that stands voted exactly where its row has a vote
 pub vote_seen : (h : List Entry) (e : ℕ) → ruled h ≡ true → has (is_of e) (rows h) ≡ true → voted e (rows h) ≡ has (is_vote e) h
-vote_seen h e r s = elim (cases_Bool (voted e (rows h))) [
-  | inl v ↦ v ∙ sym (cast_seen h e r v)
-  | inr v ↦ v ∙ sym (unvoted_seen h e r s v)
-]
+vote_seen h e r s = vote_by ruled_order h e r s
 
 -- what was decided last was decided
 pub decision_seen : (h : List Entry) → is_some (latest decision_of h) ≡ has is_decision h

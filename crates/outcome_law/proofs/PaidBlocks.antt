@@ -60,15 +60,16 @@ use Rattle.dtx_model.specs.World.{World, answer_at, core, facts_at, half}
 use Rattle.dtx_model.specs.Steps.{LogAnswer, Done as LogDone, Full, StoppedNow, StoppedBefore, Step, Calls, Replies, Acts, Coordinates, Delivers, Stops, Restarts, after, appended, block_at, coordinates, delivered, ended_at, freed, restarted}
 use Rattle.dtx_model.proofs.Bools.{and_both, and_left, not_both}
 use Rattle.outcome_law.proofs.Lists.{has-insert}
-use Rattle.outcome_law.proofs.Owned.{has_rows}
+use Rattle.outcome_law.proofs.Owned.{has_rows, decision_seen}
 use Rattle.outcome_law.proofs.Tests.{eq_self}
 use Rattle.outcome_law.proofs.Rule.{is_enlisted}
-use Rattle.outcome_law.proofs.Connections.{same_self}
-use Rattle.outcome_law.proofs.Whole.{is_sent_on}
+use Rattle.dtx_model.proofs.Connections.{same_self}
 use Rattle.outcome_law.proofs.Messages.{ABORT, ASK, BEGIN, BEGUN, COMMIT, ENLIST, ENLIST_ANSWER, VOTE, VOTER, VOTER_ANSWER, YES}
 use Rattle.outcome_law.proofs.Debts.{created_next, debt, enlisted_next, has_promotable, is_decided_committed, is_free, is_going_up, is_volatile_made, knows_there, meets, when}
 use Rattle.outcome_law.proofs.Paid.{IsPaid, block_paid, logged_paid, silent_paid, single_paid}
 use Rattle.outcome_law.proofs.SilentBlocks.{Silent, silent_abort, silent_ack, silent_called, silent_commit_act, silent_core_got, silent_decide, silent_ended_at, silent_freed, silent_local_got, silent_one, silent_restarted, silent_tell, silent_veto, silent_veto_if}
+use Rattle.outcome_law.proofs.Crossed.{is_sent_on}
+use Rattle.outcome_law.proofs.HalfKnows.{cause_seen}
 
 -- the list begins with an entry that passes
 abbrev leads : (Entry → Bool) → List Entry → Bool
@@ -97,17 +98,6 @@ lead_first : (q : Entry → Bool) (xs ys : List Entry) → leads q xs ≡ true �
 lead_first q [] ys k = absurd cc
 lead_first q (x ∷ xs) ys k = k
 
--- What the local side has seen is what the history says.
-decided_seen : (h : List Entry) → is_some (latest decision_of h) ≡ has is_decision h
-decided_seen [] = refl
-decided_seen (Decided x ∷ h) = refl
-decided_seen (x ∷ h) = decided_seen h
-
-began_seen : (h : List Entry) → is_some (latest cause_of_promotion h) ≡ has is_promoting h
-began_seen [] = refl
-began_seen (Promoting c ∷ h) = refl
-began_seen (x ∷ h) = began_seen h
-
 failed_seen : (h : List Entry) → has is_promotion_failed h ≡ has is_failed h
 failed_seen [] = refl
 failed_seen (x ∷ h) = ap (λ b. is_promotion_failed x || b) (failed_seen h) ∙ ap (λ b. b || has is_failed h) (one x)
@@ -118,7 +108,7 @@ failed_seen (x ∷ h) = ap (λ b. is_promotion_failed x || b) (failed_seen h) �
 
 pub way_seen : (h : List Entry) → is_promoting_now (observe h) ≡ is_under_way h
 unfolding observe
-way_seen h = ap (λ b. b && not (has is_promoted h) && not (has is_promotion_failed h)) (began_seen h) ∙ ap (λ b. has is_promoting h && not (has is_promoted h) && not b) (failed_seen h)
+way_seen h = ap (λ b. b && not (has is_promoted h) && not (has is_promotion_failed h)) (cause_seen h) ∙ ap (λ b. has is_promoting h && not (has is_promoted h) && not b) (failed_seen h)
 
 promotable_seen : (h : List Entry) → is_some (promotable_in (rows h)) ≡ has_promotable h
 promotable_seen h = named (rows h) ∙ has_rows (λ e c. is_promotable c) h
@@ -409,7 +399,7 @@ pub caused_way : (a b c : Bool) → (a && not b && not c) ≡ true → a ≡ tru
 caused_way true b c k = refl
 caused_way false b c k = absurd cc
 
-unpromoted_way : (a b c : Bool) → (a && not b && not c) ≡ true → b ≡ false
+pub unpromoted_way : (a b c : Bool) → (a && not b && not c) ≡ true → b ≡ false
 unpromoted_way true true c k = absurd cc
 unpromoted_way true false c k = refl
 unpromoted_way false b c k = absurd cc
@@ -447,12 +437,12 @@ unfolding local_got observe track
 arrived_paid t w Begin (BeginBegun u) f p =
     head_paid w.past (Got Begin Down (BeginBegun u)) (is_going_up w.past) (is_sent_on Voter Up VOTER) (local_got t (half w) Begin (BeginBegun u)) refl
     (going_leads (is_sent_on Voter Up VOTER) (is_some (latest decision_of w.past)) (has is_decision w.past) (is_promoting_now (observe w.past)) (is_under_way w.past) _
-    (Sent Voter Up (VoterVoter (identifier_of t)) ∷ []) (decided_seen w.past) (way_seen w.past) (λ q. refl)) (silent_local_got t (half w) Begin (BeginBegun u)) p
+    (Sent Voter Up (VoterVoter (identifier_of t)) ∷ []) (decision_seen w.past) (way_seen w.past) (λ q. refl)) (silent_local_got t (half w) Begin (BeginBegun u)) p
 arrived_paid t w Voter VoterCreated f p =
     let v = sees (half w) (Got Voter Down VoterCreated) in
     head_paid w.past (Got Voter Down VoterCreated) (is_going_up w.past) (created_next (handover w.past)) (local_got t (half w) Voter VoterCreated) refl
     (going_leads (created_next (handover w.past)) (is_some (latest decision_of w.past)) (has is_decision w.past) (is_promoting_now (observe w.past)) (is_under_way w.past) []
-    (hand_over t v (handover w.past)) (decided_seen w.past) (way_seen w.past)
+    (hand_over t v (handover w.past)) (decision_seen w.past) (way_seen w.past)
     (λ q. handed_leads t v (handover w.past) (f (unpromoted_way (has is_promoting w.past) (has is_promoted w.past) (has is_failed w.past) q)) (caused_way (is_some (latest cause_of_promotion w.past)) (has is_promoted w.past) (has is_promotion_failed w.past) (way_seen w.past ∙ q))))
     (silent_local_got t (half w) Voter VoterCreated) p
 arrived_paid t w (Enl e) EnlistEnlisted f p =
@@ -460,7 +450,7 @@ arrived_paid t w (Enl e) EnlistEnlisted f p =
     let own = is_under_way w.past && is_handed (handover w.past) e.value in
     head_paid w.past (Got (Enl e) Down EnlistEnlisted) (not (has is_decision w.past)) (enlisted_next own e.value) (local_got t (half w) (Enl e) EnlistEnlisted) refl
     (enlisted_leads e.value (is_some (latest decision_of w.past)) (has is_decision w.past) (is_promoting_now (observe w.past) && is_handed (handover w.past) e.value) own (has is_promoted w.past) (over t v)
-    (place_given (find (is_place_of e.value) (waiting w.calls w.past))) (decided_seen w.past) (ap (λ b. b && is_handed (handover w.past) e.value) (way_seen w.past))
+    (place_given (find (is_place_of e.value) (waiting w.calls w.past))) (decision_seen w.past) (ap (λ b. b && is_handed (handover w.past) e.value) (way_seen w.past))
     (λ q. over_leads t (latest cause_of_promotion w.past) (flat_map (given t) v.waits)
     (caused_way (is_some (latest cause_of_promotion w.past)) (has is_promoted w.past) (has is_promotion_failed w.past) (way_seen w.past ∙ and_left (is_under_way w.past) (is_handed (handover w.past) e.value) q)))
     (λ d o. let s = f d o in (s.0, find_leads e.value (waiting w.calls w.past) s.1))) (silent_local_got t (half w) (Enl e) EnlistEnlisted) p
@@ -468,7 +458,7 @@ arrived_paid t w (Enl e) EnlistPrepare f p = block_paid w.past (Got (Enl e) Down
 arrived_paid t w Begin BeginCommitted f p =
     let v = sees (half w) (Got Begin Down BeginCommitted) in
     head_paid w.past (Got Begin Down BeginCommitted) (not (has is_decision w.past)) is_decided_committed (local_got t (half w) Begin BeginCommitted) refl
-    (committed_leads (is_some (latest decision_of w.past)) (has is_decision w.past) (is_promoting_now (observe w.past)) (is_under_way w.past) (ended v.waits Committed) (decided_seen w.past) (way_seen w.past) f)
+    (committed_leads (is_some (latest decision_of w.past)) (has is_decision w.past) (is_promoting_now (observe w.past)) (is_under_way w.past) (ended v.waits Committed) (decision_seen w.past) (way_seen w.past) f)
     (silent_local_got t (half w) Begin BeginCommitted) p
 arrived_paid t w c m f p = list_paid (Got c Down m ∷ w.past) (local_got t (half w) c m) (silent_local_got t (half w) c m) (single_paid w.past (Got c Down m) p refl)
 

@@ -23,11 +23,11 @@ use Rattle.std.specs.Prelude.{Bool, not}
 use Rattle.outcome_law.proofs.Messages.{COMMITTED}
 use Rattle.outcome_law.proofs.Fine.{is_restart}
 use Rattle.outcome_law.proofs.Rest.{is_sound}
-use Rattle.outcome_law.proofs.Unblamed.{got_sent}
 use Rattle.outcome_law.proofs.Committed.{committed_promoted, is_recorded_first}
 use Rattle.outcome_law.proofs.Paid.{IsPaid}
 use Rattle.outcome_law.proofs.PaidBlocks.{MayServe, Serves, step_pays}
 use Rattle.outcome_law.proofs.Handovers.{AreManaged, ran_managed}
+use Rattle.outcome_law.proofs.Crossed.{got_sent}
 
 -- Where nothing is decided: before ENLISTED that is not the handover's, the promotion is over and a call waits for the place; and before COMMITTED no promotion is
 -- under way.

@@ -22,9 +22,10 @@ use Rattle.outcome_law.proofs.Messages.{ENLISTED}
 use Rattle.outcome_law.proofs.Counted.{is_once}
 use Rattle.outcome_law.proofs.Table.{ends_with, is_opening_got}
 use Rattle.outcome_law.proofs.Keeping.{Keeps, keeps_before}
-use Rattle.outcome_law.proofs.Crossed.{is_sent_on, same_conn_is}
+use Rattle.outcome_law.proofs.Crossed.{is_sent_on}
 use Rattle.outcome_law.proofs.StillBlocks.{is_welcome}
 use Rattle.outcome_law.proofs.Welcomes.{is_direct, step_direct, unsent_there}
+use Rattle.dtx_model.proofs.Connections.{same_is}
 
 -- in each world that steps made each answer is sent directly after the message that opened its connection
 pub ran_direct : (G : ℕ → ActorNo → Call → Type 0) (t : ℕ) (ms : List Step) (w : World) → Ran G t ms w → always is_direct w.past ≡ true
@@ -44,7 +45,7 @@ first_there e c Up m h k d q = absurd (never (same_connection (Enl e) c) (ENLIST
     never true b k = cc
     never false b k = cc
 first_there e c Down m h k d q =
-    let same : Enl e ≡ c = same_conn_is (Enl e) c (and_left (same_connection (Enl e) c) true (and_left (same_connection (Enl e) c && true) (ENLISTED m) q)) in
+    let same : Enl e ≡ c = same_is (Enl e) c (and_left (same_connection (Enl e) c) true (and_left (same_connection (Enl e) c && true) (ENLISTED m) q)) in
     let welcome = enlisted_welcome m (and_right (same_connection (Enl e) c && true) (ENLISTED m) q) in
     let P : Conn → Type 0 = λ x. ends_with (is_opening_got x) h ≡ true in
     let ends : ends_with (is_opening_got c) h ≡ true =

@@ -27,12 +27,12 @@ use Rattle.dtx_model.proofs.Bools.{and_left, not_both, not_true, or_right}
 use Rattle.dtx_model.proofs.Reading.{has-onto}
 use Rattle.dtx_model.proofs.Quiet.{Quiet, is_quiet, q_act, q_appended, q_called, q_ended_at, q_freed, q_got_by, q_head, q_if, q_one, q_reply, q_restarted, q_tail}
 use Rattle.outcome_law.proofs.Scans.{has_more}
-use Rattle.outcome_law.proofs.Whole.{is_got_on, is_sent_on}
 use Rattle.outcome_law.proofs.Messages.{COMMIT, ENLIST, PREPARE}
 use Rattle.outcome_law.proofs.Rest.{is_ordered}
 use Rattle.outcome_law.proofs.Stages.{IsUnlogged, begin_got, stage_of, stage_seen, unlogged_before}
-use Rattle.outcome_law.proofs.Recorded.{commit_asks, is_prepare_to}
+use Rattle.outcome_law.proofs.Recorded.{commit_asks, is_prepare_to, not_up}
 use Rattle.outcome_law.proofs.Desks.{desk_there, desks_known}
+use Rattle.outcome_law.proofs.Crossed.{is_sent_on, is_got_on}
 
 abbrev pub IsPrepared : List Entry → Type 0
 IsPrepared h = has (is_got_on Begin Up COMMIT) h ≡ true → (e : EnlNo) → has (is_got_on (Enl e) Up ENLIST) h ≡ true → has (is_sent_on (Enl e) Down PREPARE) h ≡ true
@@ -64,10 +64,6 @@ head_keeps x past es n f q p =
     rest : (a b : Bool) → a ≡ false → (a || b) ≡ true → b ≡ true
     rest true b n k = absurd cc
     rest false b n k = k
-
-off_way : (a b : Bool) → (a && false && b) ≡ false
-off_way true b = refl
-off_way false b = refl
 
 off_name : (a : Bool) → (a && true && false) ≡ false
 off_name true = refl
@@ -109,7 +105,7 @@ delivered_prepares : (t : ℕ) (w : World) (c : Conn) (d : Dir) (ms : List Messa
 delivered_prepares t w c d [] u p = head_keeps (Ended c d) w.past (ended_at w c d) refl (λ e. refl) (q_ended_at w c d) p
 delivered_prepares t w c Up (m ∷ ms) u p = got_prepares t w c m u p
 delivered_prepares t w c Down (m ∷ ms) u p =
-    head_keeps (Got c Down m) w.past (got_by t w c Down m) (off_way (same_connection Begin c) (COMMIT m)) (λ e. off_way (same_connection (Enl e) c) (ENLIST m)) (q_got_by t w c Down m) p
+    head_keeps (Got c Down m) w.past (got_by t w c Down m) (not_up (same_connection Begin c) (COMMIT m)) (λ e. not_up (same_connection (Enl e) c) (ENLIST m)) (q_got_by t w c Down m) p
 
 -- after each step
 step_prepares : (t : ℕ) (w : World) (m : Step) → IsUnlogged (after t w m).past → IsPrepared w.past → IsPrepared (after t w m).past

@@ -16,18 +16,18 @@ use Rattle.dtx_model.specs.Entries.{is_decision, is_promoted}
 use Rattle.dtx_model.specs.Promotes.{is_failed, is_promoting, is_under_way}
 use Rattle.dtx_values.specs.Ends.{same_connection, same_direction}
 use Rattle.dtx_model.proofs.Bools.{and_left, and_right, and_both, not_false, not_true, not_both, or_first, or_second, or_right}
-use Rattle.outcome_law.proofs.Whole.{is_got_on, is_sent_on}
 use Rattle.outcome_law.proofs.Fine.{IsFine, is_bad, is_bad_message}
 use Rattle.dtx_model.specs.Observed.{handover}
 use Rattle.dtx_model.specs.Half.{is_handed}
 use Rattle.outcome_law.proofs.Messages.{BEGIN, BEGUN, CREATED, ENLIST, ENLISTED, ENLIST_ANSWER, VOTER, VOTER_ANSWER}
 use Rattle.outcome_law.proofs.Debts.{created_next, enlisted_next, is_going_up, when}
 use Rattle.outcome_law.proofs.Arrived.{arrived}
-use Rattle.outcome_law.proofs.Connections.{same_is, same_self, same_way_is}
+use Rattle.dtx_model.proofs.Connections.{same_is, same_self, same_way_is}
 use Rattle.outcome_law.proofs.Followed.{Demands, followed}
-use Rattle.outcome_law.proofs.Unblamed.{fine_before, got_sent}
+use Rattle.outcome_law.proofs.Unblamed.{fine_before}
 use Rattle.outcome_law.proofs.Scans.{has_less}
 use Rattle.outcome_law.proofs.Rest.{is_after_start, IsQuiet}
+use Rattle.outcome_law.proofs.Crossed.{is_sent_on, is_got_on, got_sent}
 
 -- a history in which nothing is decided, and o is the handover of its promotion
 pub record IsRising (o : Option EnlNo) (h : List Entry) : Type 0 where

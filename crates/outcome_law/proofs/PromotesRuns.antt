@@ -64,11 +64,7 @@ use Rattle.outcome_law.proofs.Waiters.{is_waiting_answer, other_gives}
 use Rattle.outcome_law.proofs.CalmBlocks.{Calm, Seals, act_kind, calm_arrived, calm_called, calm_commit_sent, calm_coordinates, calm_core_got, calm_ended_at, calm_reply, calm_restarted, is_slow}
 use Rattle.outcome_law.proofs.Ordered.{is_called_for, ruled_ordered}
 use Rattle.outcome_law.proofs.HandedOver.{none_to_hand, over_called, own_cause, own_handed}
-
--- a history that keeps the table kept it before its last entries
-pub keeps_start : (h es : List Entry) → Keeps (onto h es) → Keeps h
-keeps_start h [] k = k
-keeps_start h (x ∷ es) k = keeps_before x h (keeps_start (x ∷ h) es k)
+use Rattle.outcome_law.proofs.Handing.{keeps_within}
 
 -- What a promotion is called for by, so far; and whoever waits, a promotion began.
 record IsCalled (s : List Line) (t : ℕ) (h : List Entry) : Type 0 where
@@ -253,7 +249,7 @@ durable_called s t w n a u e r x m g k i =
     (λ p k. waits o.promoted refl (sees_promoting o) refl (inl p) k) (λ y q k. waits o.promoted refl (sees_promoting o) refl (inr (y, q)) k) (λ y q k. idle s t n a y w.past (facts_at t w (Durable u e r x) y) q i) k
   where
     before : (es : List Entry) → Keeps (onto (Called n a Wait ∷ w.past) es) → Keeps w.past
-    before es k = keeps_before (Called n a Wait) w.past (keeps_start (Called n a Wait ∷ w.past) es k)
+    before es k = keeps_before (Called n a Wait) w.past (keeps_within (Called n a Wait ∷ w.past) es k)
 
     waits : (p : Bool) → has is_promoted w.past ≡ p → (b : Bool) → sees_promoting (observe w.past) ≡ b
         → ((has is_promoted w.past || sees_promoting (observe w.past)) ≡ true) ⊎ ((y : Cause) × (cause_of (rows w.past) (is_single x) ≡ Some y))
@@ -356,7 +352,7 @@ delivered_called : (s : List Line) (t : ℕ) (w : World) (c : Conn) (d : Dir) (m
 delivered_called s t w c d [] k i = aside s t (End c d ∷ w.past) (ended_at w c d) (calm_aside (ended_at w c d) (calm_ended_at w c d)) (one_aside s t (End c d) w.past refl i)
 delivered_called s t w c Up (m ∷ ms) k i =
     aside s t (Got c Up m ∷ w.past) (core_got (identifier_of t) (core w) c m) (calm_aside (core_got (identifier_of t) (core w) c m) (calm_core_got (identifier_of t) (core w) c m)) (one_aside s t (Got c Up m) w.past refl i)
-delivered_called s t w c Down (m ∷ ms) k i = got_called s t w c m (keeps_start (Got c Down m ∷ w.past) (local_got t (half w) c m) k) i
+delivered_called s t w c Down (m ∷ ms) k i = got_called s t w c m (keeps_within (Got c Down m ∷ w.past) (local_got t (half w) c m) k) i
 
 act_aside : (h : Half) → each is_aside (act_entries h) ≡ true
 act_aside h = by (act_kind h)
@@ -379,7 +375,7 @@ step_called s t w (Restarts found) q k i = aside s t w.past (restarted (core w).
 -- the history before a step keeps the table where that after it does
 pub keeps_past : (t : ℕ) (w : World) (m : Step) → Keeps (after t w m).past → Keeps w.past
 unfolding after
-keeps_past t w m k = keeps_start w.past (block_at t w m) k
+keeps_past t w m k = keeps_within w.past (block_at t w m) k
 
 ran_called : (s : List Line) (t : ℕ) (ms : List Step) (w : World) → Ran (IsCallOf s t) t ms w → Keeps w.past → IsCalled s t w.past
 ran_called s t [] w r k = subst (IsCalled s t) (sym r.1) (record { called = refl; waits = λ q. absurd cc })

@@ -19,7 +19,7 @@ use Rattle.dtx_model.specs.History.{CanCommit}
 use Rattle.dtx_model.proofs.Quiet.{wire_run_of}
 use Rattle.outcome_law.proofs.Names.{call_makes, script_once}
 use Rattle.outcome_law.proofs.Planned.{plan_same}
-use Rattle.outcome_law.proofs.Whole.{is_opened_once, is_sent_on, none_severed, whole_of}
+use Rattle.outcome_law.proofs.Whole.{is_opened_once, none_severed, whole_of}
 use Rattle.outcome_law.proofs.Fine.{IsFine, is_caused}
 use Rattle.outcome_law.proofs.OnTheWay.{is_on_its_way, is_unplaced}
 use Rattle.outcome_law.proofs.Rest.{is_after_start, is_begun, is_ordered, is_sound}
@@ -37,6 +37,7 @@ use Rattle.outcome_law.proofs.Messages.{ENLISTED}
 use Rattle.outcome_law.proofs.Counted.{is_once}
 use Rattle.outcome_law.proofs.Meeting.{ran_paid}
 use Rattle.outcome_law.proofs.Idle.{IsGoverned, settled_commits}
+use Rattle.outcome_law.proofs.Crossed.{is_sent_on}
 
 -- Each row of the table of rules that completeness makes use of.
 pub record IsTabled (h : List Entry) : Type 0 where

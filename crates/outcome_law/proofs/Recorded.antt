@@ -22,15 +22,15 @@ use Rattle.dtx_model.specs.Coordinated.{accepts, Coordinated, coordinate, core_g
 use Rattle.dtx_model.proofs.Bools.{and_left, and_right, and_both, or_case, or_right, not_true, not_both}
 use Rattle.outcome_law.proofs.Lists.{each-insert}
 use Rattle.outcome_law.proofs.Scans.{each_more}
-use Rattle.outcome_law.proofs.Whole.{is_got_on, is_sent_on}
 use Rattle.outcome_law.proofs.Messages.{COMMIT, ENLIST, PREPARE, VOTED, YES}
 use Rattle.outcome_law.proofs.Fine.{IsFine}
 use Rattle.outcome_law.proofs.Rest.{is_ordered}
 use Rattle.outcome_law.proofs.Arrived.{newest}
-use Rattle.outcome_law.proofs.Connections.{same_is}
+use Rattle.dtx_model.proofs.Connections.{same_is}
 use Rattle.outcome_law.proofs.Openings.{once_sent}
 use Rattle.outcome_law.proofs.Stages.{IsUnlogged, active_at, begin_got, earlier, stage_of, stage_seen, unlogged_before}
 use Rattle.outcome_law.proofs.Unblamed.{fine_before}
+use Rattle.outcome_law.proofs.Crossed.{is_sent_on, is_got_on}
 
 -- PREPARE is sent to this enlistment
 abbrev pub is_prepare_to : ℕ → Entry → Bool
@@ -111,7 +111,7 @@ no_vote true true = refl
 no_vote true false = refl
 no_vote false b = refl
 
-not_up : (a b : Bool) → (a && false && b) ≡ false
+pub not_up : (a b : Bool) → (a && false && b) ≡ false
 not_up true b = refl
 not_up false b = refl
 

@@ -24,11 +24,11 @@ use Rattle.dtx_model.specs.Waiting.{waiting}
 use Rattle.dtx_model.specs.Half.{half_of}
 use Rattle.dtx_model.specs.Acts.{act_entries}
 use Rattle.outcome_law.proofs.Settled.{has_answered}
-use Rattle.outcome_law.proofs.Whole.{is_got_on, is_sent_on}
 use Rattle.outcome_law.proofs.Messages.{ASK, BEGUN, COMMIT, CREATED, ENLIST, PREPARE}
 use Rattle.outcome_law.proofs.Fine.{IsFine}
 use Rattle.outcome_law.proofs.Debts.{is_volatile_made, owes_none, paid, pays}
 use Rattle.outcome_law.proofs.OnTheWay.{is_on_its_way, is_unplaced}
+use Rattle.outcome_law.proofs.Crossed.{is_sent_on, is_got_on}
 
 -- Rows of the table of rules: what is sent is sent after `promoting`, which comes once.
 abbrev pub is_after_start : List Entry → Entry → Bool

@@ -233,7 +233,7 @@ final_open h r k =
     (λ e. evidence-handed h r (answered_handed Aborted h r e) ∙ answered_once h r e) (final_cause Aborted h r k)
 
 -- where the one needs a test and the other its opposite, not both hold
-not_opposite : (a b e : Bool) → (a ≡ true → e ≡ true) → (b ≡ true → e ≡ false) → (a && b) ≡ false
+pub not_opposite : (a b e : Bool) → (a ≡ true → e ≡ true) → (b ≡ true → e ≡ false) → (a && b) ≡ false
 not_opposite false b e f g = refl
 not_opposite true false e f g = refl
 not_opposite true true e f g = absurd (not_both e (f refl) (g refl))

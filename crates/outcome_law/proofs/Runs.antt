@@ -1,5 +1,5 @@
 -- Runs in which nothing is promoted, by what the local side has seen; and a run in which no promotion begins is one.
-use Rattle.std.proofs.Common.{◌≡◌, ◌⊎◌, inl, inr, ℕ, true, false, List, [], ◌∷◌, refl, ap, sym, ◌∙◌}
+use Rattle.std.proofs.Common.{◌≡◌, ◌⊎◌, inl, inr, ℕ, true, false, List, [], ◌∷◌, ap, sym, ◌∙◌}
 use Rattle.std.specs.Prelude.{not}
 use Rattle.dtx_values.specs.declared.call.Call.{Call}
 use Rattle.dtx_values.specs.declared.entry.Entry.{Entry}
@@ -8,17 +8,16 @@ use Rattle.dtx_values.specs.declared.number.ActorNo.{ActorNo}
 use Rattle.dtx_model.specs.Words.{has, onto}
 use Rattle.dtx_model.specs.Entries.{is_call}
 use Rattle.dtx_model.specs.Observed.{Observed, observe}
-use Rattle.dtx_model.specs.Coordinated.{may_free, may_log}
 use Rattle.dtx_model.specs.Replies.{due_of, fits}
 use Rattle.dtx_model.specs.World.{World, core, has_left}
-use Rattle.dtx_model.specs.Steps.{LogAnswer, Step, Calls, Replies, Acts, Coordinates, Delivers, Stops, Restarts, after, block_at}
+use Rattle.dtx_model.specs.Steps.{Step, Calls, Replies, Acts, Coordinates, Delivers, Stops, Restarts, after, block_at}
 use Rattle.dtx_model.specs.Caused.{FreelyCaused, IsIn, IsOwnRun, MayCome, Ran, is_begin_sent, is_promoting_entry, is_unpromoted, may_coordinate}
 use Rattle.dtx_model.proofs.Bools.{and_left, not_both, not_true, or_first, or_second}
 use Rattle.dtx_model.proofs.Narrow.{block}
 use Rattle.dtx_model.proofs.NarrowReplies.{IsDue, due-narrow}
-use Rattle.dtx_model.proofs.Local.{IsNarrow, free-local, step-narrow}
+use Rattle.dtx_model.proofs.Local.{IsNarrow, free-local, step-narrow, may_nothing}
 use Rattle.dtx_model.proofs.Reading.{has-onto}
-use Rattle.dtx_model.proofs.Unpromoted.{are_local, begin-local, coordinate-local, left-local, observe-local}
+use Rattle.dtx_model.proofs.Unpromoted.{are_local, begin-local, left-local, observe-local}
 
 -- the step may come after this history: a call where it may be entered and its line hasn't come yet, and a reply where one is due and it fits
 abbrev pub MayComeLocal : (ℕ → ActorNo → Call → Type 0) → List Entry → Step → Type 0
@@ -36,17 +35,12 @@ RanLocal G (m ∷ ms) h = (past : List Entry) × RanLocal G ms past × MayComeLo
 abbrev pub IsLocalRun : (ℕ → ActorNo → Call → Type 0) → List Entry → Type 0
 IsLocalRun G h = (steps : List Step) × RanLocal G steps h
 
--- the coordinator has nothing to do
-none_coordinates : (w : World) (a : LogAnswer) → are_local w.past ≡ true → may_coordinate (core w) a ≡ false
-unfolding may_log may_free
-none_coordinates w a p = rw (coordinate-local w.past p) refl
-
 -- a step that may come where nothing is promoted may come by what the local side has seen
 pub may_come : (G : ℕ → ActorNo → Call → Type 0) (t : ℕ) (w : World) (m : Step) → are_local w.past ≡ true → MayCome G t w m → MayComeLocal G w.past m
 may_come G t w (Calls n a c k) p q = (q.0, q.1)
 may_come G t w (Replies e r) p q = (q.0, due-narrow (observe w.past) e.value q.0 (ap (λ (o : Observed). due_of o e.value) (sym (observe-local w.past p)) ∙ q.1), q.2)
 may_come G t w Acts p q = tt
-may_come G t w (Coordinates a) p q = absurd (not_both (may_coordinate (core w) a) q (none_coordinates w a p))
+may_come G t w (Coordinates a) p q = absurd (not_both (may_coordinate (core w) a) q (may_nothing w a p))
 may_come G t w (Delivers c d) p q = absurd (not_both (has_left c d w.past) q (left-local c d w.past p))
 may_come G t w Stops p q = absurd (not_both (has is_begin_sent w.past) (and_left (has is_begin_sent w.past) (not (core w).stopped) q) (begin-local w.past p))
 may_come G t w (Restarts found) p q = absurd (not_both (has is_begin_sent w.past) q (begin-local w.past p))

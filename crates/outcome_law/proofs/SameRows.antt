@@ -17,7 +17,7 @@ use Rattle.outcome_law.proofs.Tests.{apart, eq_self, eq_swap}
 use Rattle.outcome_law.proofs.Lists.{OfEach, has-insert, if_kept, of-at, of-insert, of-map, of-more, has_kept}
 use Rattle.outcome_law.proofs.Rule.{is_enlisted}
 use Rattle.outcome_law.proofs.TableRows.{enlisted_in_rows, there}
-use Rattle.outcome_law.proofs.Knowledge.{has_mapped}
+use Rattle.outcome_law.proofs.CoreKnown.{has_made}
 
 -- Rows of the table of rules: an enlistment is made once; and it is asked to prepare where it was made.
 abbrev pub is_made_once : List Entry → Entry → Bool
@@ -184,8 +184,8 @@ asked_marked e (Asked f Prepare ∷ h) r k =
     (λ q. let name : e ≡ f.value = eqb-true e f.value q in
     let stands : has (is_of f.value) (rows h) ≡ true = enlisted_in_rows f.value h ∙ and_left (has (is_enlisted f.value) h) (always is_asked_there h) r in
     subst (λ m. was_asked m (map (mark_in f.value n) (rows h)) ≡ true) (sym name)
-    (has_mapped (is_of f.value) (λ x. is_of f.value x && is_marked x) (mark_in f.value n) (λ x a. own x (is_of f.value x) refl a) (rows h) stands))
-    (λ q. has_mapped (λ x. is_of e x && is_marked x) (λ x. is_of e x && is_marked x) (mark_in f.value n) (λ x a. kept x (is_of f.value x) a) (rows h)
+    (has_made (is_of f.value) (λ x. is_of f.value x && is_marked x) (mark_in f.value n) (λ x a. own x (is_of f.value x) refl a) (rows h) stands))
+    (λ q. has_made (λ x. is_of e x && is_marked x) (λ x. is_of e x && is_marked x) (mark_in f.value n) (λ x a. kept x (is_of f.value x) a) (rows h)
     (asked_marked e h (and_right (has (is_enlisted f.value) h) (always is_asked_there h) r) q)) k
   where
     n : ℕ

@@ -47,18 +47,21 @@ use Rattle.outcome_law.proofs.HalfRows.{sealed_if_commit, volatile_stands}
 use Rattle.outcome_law.proofs.Deciding.{stays}
 use Rattle.outcome_law.proofs.Table.{ask_row, ends_with, is_opening_got, is_prepare_got, is_there, message_row, rule, stands_volatile}
 use Rattle.outcome_law.proofs.Keeping.{Keeps, earlier, keeps_before, newest}
-use Rattle.outcome_law.proofs.Crossed.{got_sent, is_got_on, is_sent_on, same_conn_is, was_sent}
+use Rattle.outcome_law.proofs.Crossed.{got_sent, is_got_on, is_sent_on, was_sent}
 use Rattle.outcome_law.proofs.CoreKnown.{sent_opened_there}
 use Rattle.outcome_law.proofs.Leading.{opening_was_sent}
 use Rattle.outcome_law.proofs.Standing.{ends_has}
 use Rattle.outcome_law.proofs.Climbed.{handover_stands}
-use Rattle.outcome_law.proofs.Marks.{keeps_under}
 use Rattle.outcome_law.proofs.BeforeRows.{prepare_on}
 use Rattle.outcome_law.proofs.ByTable.{ruled_later}
 use Rattle.outcome_law.proofs.Coming.{AreComing}
 use Rattle.outcome_law.proofs.ComingRuns.{ran_coming}
-use Rattle.outcome_law.proofs.Upward.{IsComing, none_coming, none_waits, step_coming, takes_next}
+use Rattle.outcome_law.proofs.Upward.{IsComing, none_coming, none_waits, step_coming}
 use Rattle.outcome_law.proofs.QuietBlocks.{ActKind, act_kind, is_quiet, q_called, q_commit_sent, q_coordinates, q_core_got, q_ended_at, q_local_got, q_reply}
+use Rattle.dtx_model.proofs.Quiet.{takes_next}
+use Rattle.outcome_law.proofs.Handing.{keeps_within}
+use Rattle.outcome_law.proofs.Recorded.{not_up}
+use Rattle.dtx_model.proofs.Connections.{same_is}
 
 -- whose ENLISTED was got stands, while nothing is decided
 abbrev pub IsJoined : List Entry → Type 0
@@ -114,11 +117,6 @@ well_onto h (x ∷ es) q a =
     let own = and_left (is_quiet x) (each is_quiet es) q in
     well_onto (x ∷ h) es (and_right (is_quiet x) (each is_quiet es) q) (one_well x h (quiet_unsealed x own) (λ e. quiet_ungot (Enl e) Up ENLIST x own) a)
 
--- What is got that isn't such a message.
-down_off : (a b : Bool) → (a && false && b) ≡ false
-down_off true b = refl
-down_off false b = refl
-
 no_enlisted : (e : EnlNo) (c : Conn) (m : Message) → ENLISTED m ≡ false → is_got_on (Enl e) Down ENLISTED (Got c Down m) ≡ false
 no_enlisted e c m n = ap (λ b. same_connection (Enl e) c && true && b) n ∙ and_never (same_connection (Enl e) c && true)
 
@@ -126,7 +124,7 @@ no_enlist : (e : EnlNo) (c : Conn) (m : Message) → ENLIST m ≡ false → is_g
 no_enlist e c m n = ap (λ b. same_connection (Enl e) c && true && b) n ∙ and_never (same_connection (Enl e) c && true)
 
 -- ENLISTED comes: its enlistment is the handover's, or the call that waited has its place.
-opens_sends : (e : EnlNo) (x : Entry) → opens (Enl e) x ≡ true → is_sent_on (Enl e) Up ENLIST x ≡ true
+pub opens_sends : (e : EnlNo) (x : Entry) → opens (Enl e) x ≡ true → is_sent_on (Enl e) Up ENLIST x ≡ true
 opens_sends e (Sent (Enl f) Up (EnlistEnlist i)) t = and_both ((e.value == f.value) && true) true (and_both (e.value == f.value) true (and_left (e.value == f.value) true t) refl) refl
 opens_sends e (Sent (Enl f) Up m) t = absurd (not_both ((e.value == f.value) && false) t (and_never (e.value == f.value)))
 opens_sends e (Sent Begin Up m) t = absurd cc
@@ -199,7 +197,7 @@ enlisted_joins t w e k n c j = λ d f g.
 
     own : (f : EnlNo) → has is_decision w.past ≡ false → has (is_got_on (Enl f) Down ENLISTED) w.past ≡ false → (f.value == e.value) ≡ true → has (is_enlisted f.value) (onto (Got (Enl e) Down EnlistEnlisted ∷ w.past) block) ≡ true
     own f u b q =
-        let same : Enl f ≡ Enl e = same_conn_is (Enl f) (Enl e) q in
+        let same : Enl f ≡ Enl e = same_is (Enl f) (Enl e) q in
         let P : Conn → Type 0 = λ z. has (is_got_on z Down ENLISTED) w.past ≡ false in
         let coming = c u e (enlist_was_sent e w.past k n) (subst P same b) in
         let N : ℕ → Type 0 = λ m. has (is_enlisted m) (onto (Got (Enl e) Down EnlistEnlisted ∷ w.past) block) ≡ true in
@@ -238,7 +236,7 @@ up_joined : (t : ℕ) (w : World) (c : Conn) (ms : List Message) → IsJoined w.
 up_joined t w c [] j = joined_onto w.past (Ended c Up ∷ ended_at w c Up) (and_both true (each is_quiet (ended_at w c Up)) refl (q_ended_at w c Up).proof) j
 up_joined t w c (m ∷ ms) j =
     joined_onto (Got c Up m ∷ w.past) (core_got (identifier_of t) (core w) c m) (q_core_got (identifier_of t) (core w) c m).proof
-    (joined_more (Got c Up m) w.past (λ e. down_off (same_connection (Enl e) c) (ENLISTED m)) j)
+    (joined_more (Got c Up m) w.past (λ e. not_up (same_connection (Enl e) c) (ENLISTED m)) j)
 
 act_joined : (w : World) (es : List Entry) → ActKind (half w) es → IsJoined w.past → IsJoined (onto w.past es)
 act_joined w es (inl q) j = joined_onto w.past es q.proof j
@@ -268,7 +266,7 @@ step_joined t w (Restarts found) k a j = restarted_joined w.past (core w).stoppe
 -- the world before the last step keeps the table where the one after it does
 before_step : (G : ℕ → ActorNo → Call → Type 0) (t : ℕ) (m : Step) (ms : List Step) (w : World) (r : Ran G t (m ∷ ms) w) → Keeps w.past → Keeps r.0.past
 unfolding after
-before_step G t m ms w r k = keeps_under r.0.past (block_at t r.0 m) (subst (λ (x : World). Keeps x.past) r.3 k)
+before_step G t m ms w r k = keeps_within r.0.past (block_at t r.0 m) (subst (λ (x : World). Keeps x.past) r.3 k)
 
 coming_of : (G : ℕ → ActorNo → Call → Type 0) (t : ℕ) (ms : List Step) (w : World) → Ran G t ms w → Keeps w.past → AreComing w.calls w.past
 coming_of G t ms w r k = ran_coming G t ms w r (ruled_later w.past k.rules)
@@ -335,7 +333,7 @@ up_well t w c (m ∷ ms) q u a =
 down_well : (t : ℕ) (w : World) (c : Conn) (ms : List Message) → AreSealedWell w.past → AreSealedWell (onto w.past (delivered t w c Down ms))
 down_well t w c [] a = well_onto w.past (Ended c Down ∷ ended_at w c Down) (and_both true (each is_quiet (ended_at w c Down)) refl (q_ended_at w c Down).proof) a
 down_well t w c (m ∷ ms) a =
-    well_onto (Got c Down m ∷ w.past) (local_got t (half w) c m) (q_local_got t (half w) c m).proof (one_well (Got c Down m) w.past refl (λ e. down_off (same_connection (Enl e) c) (ENLIST m)) a)
+    well_onto (Got c Down m ∷ w.past) (local_got t (half w) c m) (q_local_got t (half w) c m).proof (one_well (Got c Down m) w.past refl (λ e. not_up (same_connection (Enl e) c) (ENLIST m)) a)
 
 restarted_well : (h : List Entry) (b found : Bool) → AreSealedWell h → AreSealedWell (onto h (restarted b found))
 restarted_well h true found a = one_well (Restarted found) h refl (λ e. refl) a
@@ -365,13 +363,13 @@ ran_well G t (m ∷ ms) w r k =
 -- where PREPARE is sent, COMMIT was got, and ENLIST on its connection
 prepare_after : (e : EnlNo) (x : Entry) (h : List Entry) → Keeps h → rule h x ≡ true → is_sent_on (Enl e) Down PREPARE x ≡ true → (has is_commit_got h && has (is_opening_got (Enl e)) h) ≡ true
 prepare_after e (Sent c Down EnlistPrepare) h k r t =
-    let same : Enl e ≡ c = same_conn_is (Enl e) c (and_left (same_connection (Enl e) c) true (and_left (same_connection (Enl e) c && true) true t)) in
+    let same : Enl e ≡ c = same_is (Enl e) c (and_left (same_connection (Enl e) c) true (and_left (same_connection (Enl e) c && true) true t)) in
     let P : Conn → Type 0 = λ z. has (is_opening_got z) h ≡ true in
     and_both (has is_commit_got h) (has (is_opening_got (Enl e)) h)
     (fourth_of_four (has_line c Down EnlistPrepare) (has is_promoting h) (is_there h c Down EnlistPrepare) (message_row h c EnlistPrepare) r)
     (subst P (sym same) (third_of_four (has_line c Down EnlistPrepare) (has is_promoting h) (is_there h c Down EnlistPrepare) (message_row h c EnlistPrepare) r))
 prepare_after e (Sent c Down m) h k r t = absurd (not_both (same_connection (Enl e) c && true && false) t (and_never (same_connection (Enl e) c && true)))
-prepare_after e (Sent c Up m) h k r t = absurd (not_both (same_connection (Enl e) c && false && PREPARE m) t (down_off (same_connection (Enl e) c) (PREPARE m)))
+prepare_after e (Sent c Up m) h k r t = absurd (not_both (same_connection (Enl e) c && false && PREPARE m) t (not_up (same_connection (Enl e) c) (PREPARE m)))
 prepare_after e _ h k r t = absurd cc
 
 opening_enlist : (e : EnlNo) (x : Entry) → is_opening_got (Enl e) x ≡ true → is_got_on (Enl e) Up ENLIST x ≡ true

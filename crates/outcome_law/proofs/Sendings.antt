@@ -28,7 +28,9 @@ use Rattle.outcome_law.proofs.Tests.{first_of_four, second_of_four, fourth_of_fo
 use Rattle.outcome_law.proofs.Scans.{has_more}
 use Rattle.outcome_law.proofs.Table.{is_cast, is_there, message_row, rule}
 use Rattle.outcome_law.proofs.Keeping.{Keeps, before, earlier, keeps_before}
-use Rattle.outcome_law.proofs.Crossed.{end_opened, got_sent, is_got_on, is_sent_on, same_conn_is, same_way_is, was_sent}
+use Rattle.outcome_law.proofs.Crossed.{end_opened, got_sent, is_got_on, is_sent_on, was_sent}
+use Rattle.outcome_law.proofs.Messages.{COMMIT, PREPARE, YES, VOTED}
+use Rattle.dtx_model.proofs.Connections.{same_is, same_way_is}
 
 -- What is sent has a line there, and keeps its row.
 pub sent_row : (c : Conn) (d : Dir) (p : Message → Bool) (Q : List Entry → Bool)
@@ -36,7 +38,7 @@ pub sent_row : (c : Conn) (d : Dir) (p : Message → Bool) (Q : List Entry → B
     → (x : Entry) (h : List Entry) → Keeps h → rule h x ≡ true → is_sent_on c d p x ≡ true → Q h ≡ true
 sent_row c d p Q f (Sent e r m) h k q t =
     let both = and_left (same_connection c e && same_direction d r) (p m) t in
-    let conn : c ≡ e = same_conn_is c e (and_left (same_connection c e) (same_direction d r) both) in
+    let conn : c ≡ e = same_is c e (and_left (same_connection c e) (same_direction d r) both) in
     let way : d ≡ r = same_way_is d r (and_right (same_connection c e) (same_direction d r) both) in
     let line : has_line e r m ≡ true = first_of_four (has_line e r m) (has is_promoting h) (is_there h e r m) (message_row h e m) q in
     let row : message_row h e m ≡ true = fourth_of_four (has_line e r m) (has is_promoting h) (is_there h e r m) (message_row h e m) q in
@@ -93,24 +95,6 @@ got_promoting c d m h k =
 pub end_promoting : (c : Conn) (d : Dir) (h : List Entry) → Keeps (End c d ∷ h) → has is_promoting h ≡ true
 end_promoting c d h k = opened_promoting c h (keeps_before (End c d) h k) (end_opened c d h k.wires.0)
 
--- The messages, by what they say.
-abbrev pub is_voter_yes : Message → Bool
-is_voter_yes VoterYes = true
-is_voter_yes _ = false
-
-abbrev pub is_begin_commit : Message → Bool
-is_begin_commit BeginCommit = true
-is_begin_commit _ = false
-
-abbrev pub is_ready_message : Message → Bool
-is_ready_message EnlistPrepared = true
-is_ready_message EnlistReadonly = true
-is_ready_message _ = false
-
-abbrev pub is_prepare_message : Message → Bool
-is_prepare_message EnlistPrepare = true
-is_prepare_message _ = false
-
 -- a commit that the coordinator sends, and an abort or a refusal
 abbrev pub is_commit_message : Message → Bool
 is_commit_message BeginCommitted = true
@@ -129,40 +113,40 @@ is_abort_message ReenlistAborted = true
 is_abort_message _ = false
 
 -- The local side said yes where the coordinator got that.
-yes_of : (m : Message) (h : List Entry) → Keeps h → is_voter_yes m ≡ true → has_line Voter Up m ≡ true → message_row h Voter m ≡ true → has is_yes h ≡ true
+yes_of : (m : Message) (h : List Entry) → Keeps h → YES m ≡ true → has_line Voter Up m ≡ true → message_row h Voter m ≡ true → has is_yes h ≡ true
 yes_of VoterYes h k t l r = r
 yes_of _ h k t l r = absurd cc
 
-yes_got_on : (x : Entry) → is_yes_got x ≡ true → is_got_on Voter Up is_voter_yes x ≡ true
+yes_got_on : (x : Entry) → is_yes_got x ≡ true → is_got_on Voter Up YES x ≡ true
 yes_got_on (Got Voter Up VoterYes) t = refl
 yes_got_on _ t = absurd cc
 
 pub yes_if_got : (h : List Entry) → Keeps h → has is_yes_got h ≡ true → has is_yes h ≡ true
 yes_if_got h k s =
-    from_got Voter Up is_voter_yes (λ g. has is_yes g) (λ x g t. or_right (is_yes x) (has is_yes g) t) yes_of h k (has_more is_yes_got (is_got_on Voter Up is_voter_yes) yes_got_on h s)
+    from_got Voter Up YES (λ g. has is_yes g) (λ x g t. or_right (is_yes x) (has is_yes g) t) yes_of h k (has_more is_yes_got (is_got_on Voter Up YES) yes_got_on h s)
 
 -- It was promoted where the coordinator got COMMIT.
-commit_of : (m : Message) (h : List Entry) → Keeps h → is_begin_commit m ≡ true → has_line Begin Up m ≡ true → message_row h Begin m ≡ true → has is_promoted h ≡ true
+commit_of : (m : Message) (h : List Entry) → Keeps h → COMMIT m ≡ true → has_line Begin Up m ≡ true → message_row h Begin m ≡ true → has is_promoted h ≡ true
 commit_of BeginCommit h k t l r = second_of_three (has is_sealed h) (has is_promoted h) (not (has is_decision h)) r
 commit_of _ h k t l r = absurd cc
 
-commit_got_on : (x : Entry) → is_commit_got x ≡ true → is_got_on Begin Up is_begin_commit x ≡ true
+pub commit_got_on : (x : Entry) → is_commit_got x ≡ true → is_got_on Begin Up COMMIT x ≡ true
 commit_got_on (Got Begin Up BeginCommit) t = refl
 commit_got_on _ t = absurd cc
 
 pub promoted_if_commit : (h : List Entry) → Keeps h → has is_commit_got h ≡ true → has is_promoted h ≡ true
 promoted_if_commit h k s =
-    from_got Begin Up is_begin_commit (λ g. has is_promoted g) (λ x g t. or_right (is_promoted x) (has is_promoted g) t) commit_of h k
-    (has_more is_commit_got (is_got_on Begin Up is_begin_commit) commit_got_on h s)
+    from_got Begin Up COMMIT (λ g. has is_promoted g) (λ x g t. or_right (is_promoted x) (has is_promoted g) t) commit_of h k
+    (has_more is_commit_got (is_got_on Begin Up COMMIT) commit_got_on h s)
 
 -- It was promoted where an enlistment got PREPARE.
-prepare_of : (e : EnlNo) (m : Message) (h : List Entry) → Keeps h → is_prepare_message m ≡ true → has_line (Enl e) Down m ≡ true → message_row h (Enl e) m ≡ true → has is_promoted h ≡ true
+prepare_of : (e : EnlNo) (m : Message) (h : List Entry) → Keeps h → PREPARE m ≡ true → has_line (Enl e) Down m ≡ true → message_row h (Enl e) m ≡ true → has is_promoted h ≡ true
 prepare_of e EnlistPrepare h k t l r = promoted_if_commit h k r
 prepare_of e _ h k t l r = absurd cc
 
 pub promoted_by_prepare : (e : EnlNo) (h : List Entry) → Keeps (Got (Enl e) Down EnlistPrepare ∷ h) → has is_promoted h ≡ true
 promoted_by_prepare e h k =
-    by_got (Enl e) Down is_prepare_message (λ g. has is_promoted g) (λ x g t. or_right (is_promoted x) (has is_promoted g) t) (prepare_of e) EnlistPrepare h k refl
+    by_got (Enl e) Down PREPARE (λ g. has is_promoted g) (λ x g t. or_right (is_promoted x) (has is_promoted g) t) (prepare_of e) EnlistPrepare h k refl
 
 -- An enlistment voted well where the coordinator got its PREPARED or READONLY.
 vote_is : (v w : Vote) → same_vote v w ≡ true → v ≡ w
@@ -177,20 +161,20 @@ cast_good e v g (Voted f w) t =
     and_both (e.value == f.value) (is_good w) (and_left (e.value == f.value) (same_vote v w) t) good
 cast_good e v g _ t = absurd cc
 
-ready_of : (e : EnlNo) (m : Message) (h : List Entry) → Keeps h → is_ready_message m ≡ true → has_line (Enl e) Up m ≡ true → message_row h (Enl e) m ≡ true → has (is_good_vote e.value) h ≡ true
+ready_of : (e : EnlNo) (m : Message) (h : List Entry) → Keeps h → VOTED m ≡ true → has_line (Enl e) Up m ≡ true → message_row h (Enl e) m ≡ true → has (is_good_vote e.value) h ≡ true
 ready_of e EnlistPrepared h k t l r = has_more (is_cast (Enl e) Yes) (is_good_vote e.value) (cast_good e Yes refl) h r
 ready_of e EnlistReadonly h k t l r = has_more (is_cast (Enl e) Done) (is_good_vote e.value) (cast_good e Done refl) h r
 ready_of e _ h k t l r = absurd cc
 
-ready_got_on : (e : EnlNo) (x : Entry) → is_ready_got e.value x ≡ true → is_got_on (Enl e) Up is_ready_message x ≡ true
+ready_got_on : (e : EnlNo) (x : Entry) → is_ready_got e.value x ≡ true → is_got_on (Enl e) Up VOTED x ≡ true
 ready_got_on e (Got (Enl f) Up EnlistPrepared) t = rw t refl
 ready_got_on e (Got (Enl f) Up EnlistReadonly) t = rw t refl
 ready_got_on e _ t = absurd cc
 
 pub good_if_ready : (e : EnlNo) (h : List Entry) → Keeps h → has (is_ready_got e.value) h ≡ true → has (is_good_vote e.value) h ≡ true
 good_if_ready e h k s =
-    from_got (Enl e) Up is_ready_message (λ g. has (is_good_vote e.value) g) (λ x g t. or_right (is_good_vote e.value x) (has (is_good_vote e.value) g) t) (ready_of e) h k
-    (has_more (is_ready_got e.value) (is_got_on (Enl e) Up is_ready_message) (ready_got_on e) h s)
+    from_got (Enl e) Up VOTED (λ g. has (is_good_vote e.value) g) (λ x g t. or_right (is_good_vote e.value x) (has (is_good_vote e.value) g) t) (ready_of e) h k
+    (has_more (is_ready_got e.value) (is_got_on (Enl e) Up VOTED) (ready_got_on e) h s)
 
 -- A record stands where the coordinator's commit is got.
 pub record_of_mark : (h : List Entry) → has_mark h ≡ true → has is_record h ≡ true
@@ -201,7 +185,7 @@ record_of_mark (Restarted false ∷ h) t = absurd cc
 record_of_mark (Freed ∷ h) t = absurd cc
 record_of_mark (x ∷ h) t = or_right (is_record x) (has is_record h) (record_of_mark h t)
 
-logged_record : (x : Entry) → is_logged x ≡ true → is_record x ≡ true
+pub logged_record : (x : Entry) → is_logged x ≡ true → is_record x ≡ true
 logged_record Logged t = refl
 logged_record _ t = absurd cc
 

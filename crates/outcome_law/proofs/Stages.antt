@@ -19,14 +19,15 @@ use Rattle.dtx_model.specs.Wires.{is_next, in_transit}
 use Rattle.dtx_model.specs.Coordinated.{Coordinated, abort_if, aborts, begin_if, coordinate, follow, is_active, is_early}
 use Rattle.dtx_model.proofs.Bools.{and_left, and_right, or_case, or_second, or_right, not_both}
 use Rattle.outcome_law.proofs.Scans.{has_more}
-use Rattle.outcome_law.proofs.Whole.{is_got_on, is_sent_on}
 use Rattle.outcome_law.proofs.Messages.{BEGIN, BEGUN}
 use Rattle.outcome_law.proofs.Fine.{IsFine, is_restart}
 use Rattle.outcome_law.proofs.Rest.{is_sound, is_ordered, is_begun}
 use Rattle.outcome_law.proofs.Arrived.{newest}
-use Rattle.outcome_law.proofs.Connections.{same_is}
+use Rattle.dtx_model.proofs.Connections.{same_is}
 use Rattle.outcome_law.proofs.Openings.{once_sent, opening_first}
-use Rattle.outcome_law.proofs.Unblamed.{fine_before, got_sent, unrestarted}
+use Rattle.outcome_law.proofs.Unblamed.{fine_before, unrestarted}
+use Rattle.outcome_law.proofs.CoreKnown.{is_work}
+use Rattle.outcome_law.proofs.Crossed.{is_sent_on, is_got_on, got_sent}
 
 -- where something that passes p stands, Q holds, if by the row it holds before each such entry, and stays
 pub earlier : (row : List Entry → Entry → Bool) (p : Entry → Bool) (Q : List Entry → Bool) → ((x : Entry) (h : List Entry) → Q h ≡ true → Q (x ∷ h) ≡ true)
@@ -122,20 +123,14 @@ begin_got p h f k = has_more (is_got_on Begin Up (is_opening Begin)) (is_got_on 
 pub heard_begun : (h : List Entry) → IsFine h → always is_sound h ≡ true → has (is_got_on Begin Down BEGUN) h ≡ true → has (is_got_on Begin Up BEGIN) h ≡ true
 heard_begun h f s k = has_more (is_got_on Begin Up (is_opening Begin)) (is_got_on Begin Up BEGIN) begin_of h (sent_known Begin BEGUN h s (once_sent Begin Down BEGUN h f.run k))
 
--- what was sent upward on c was sent after BEGUN
-abbrev is_other : Conn → Bool
-is_other Voter = true
-is_other (Enl e) = true
-is_other _ = false
-
-sent_begun : (c : Conn) (p : Message → Bool) (h : List Entry) → is_other c ≡ true → always is_begun h ≡ true → has (is_sent_on c Up p) h ≡ true → has (is_got_on Begin Down BEGUN) h ≡ true
+sent_begun : (c : Conn) (p : Message → Bool) (h : List Entry) → is_work c ≡ true → always is_begun h ≡ true → has (is_sent_on c Up p) h ≡ true → has (is_got_on Begin Down BEGUN) h ≡ true
 sent_begun c p [] o s k = absurd cc
 sent_begun c p (Sent e Up m ∷ h) o s k =
     or_case (same_connection c e && true && p m) (has (is_sent_on c Up p) h)
     (λ q. rule c e m h o (and_left (same_connection c e) true (and_left (same_connection c e && true) (p m) q)) (and_left (is_begun h (Sent e Up m)) (always is_begun h) s))
     (λ q. sent_begun c p h o (and_right (is_begun h (Sent e Up m)) (always is_begun h) s) q) k
   where
-    rule : (c e : Conn) (m : Message) (h : List Entry) → is_other c ≡ true → same_connection c e ≡ true → is_begun h (Sent e Up m) ≡ true → has (is_got_on Begin Down BEGUN) h ≡ true
+    rule : (c e : Conn) (m : Message) (h : List Entry) → is_work c ≡ true → same_connection c e ≡ true → is_begun h (Sent e Up m) ≡ true → has (is_got_on Begin Down BEGUN) h ≡ true
     rule Voter Voter m h o q k = k
     rule (Enl e) (Enl f) m h o q k = k
     rule _ _ m h o q k = absurd cc
@@ -148,7 +143,7 @@ sent_begun c p (Sent e Down m ∷ h) o s k =
 sent_begun c p (x ∷ h) o s k = or_right (is_got_on Begin Down BEGUN x) (has (is_got_on Begin Down BEGUN) h) (sent_begun c p h o (and_right (is_begun h x) (always is_begun h) s) k)
 
 -- it is active where a message comes on such a connection
-pub active_at : (c : Conn) (m : Message) (h : List Entry) → is_other c ≡ true → IsUnlogged h → is_next m (in_transit c Up h) → is_active (coordinate h).stage ≡ true
+pub active_at : (c : Conn) (m : Message) (h : List Entry) → is_work c ≡ true → IsUnlogged h → is_next m (in_transit c Up h) → is_active (coordinate h).stage ≡ true
 active_at c m h o r n =
     ap is_active (stage_seen h r)
     ∙ ap (λ b. is_active (stage_of b)) (heard_begun h r.fine r.sound (sent_begun c (λ m. true) h o r.begun (got_sent c Up m (λ m. true) h n refl)))

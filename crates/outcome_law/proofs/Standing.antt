@@ -29,15 +29,16 @@ use Rattle.outcome_law.proofs.Scans.{has_more}
 use Rattle.outcome_law.proofs.Rule.{is_enlisted}
 use Rattle.outcome_law.proofs.Table.{ask_row, class_row, ends_with, is_cast, is_of_conn, is_opening_got, is_prepare_got, is_there, is_volatile_conn, message_row, rule, stands_volatile}
 use Rattle.outcome_law.proofs.Keeping.{Keeps, before, earlier, fifth_of_five, keeps_before, newest}
-use Rattle.outcome_law.proofs.Crossed.{is_got_on, is_sent_on, same_conn_is, was_sent}
+use Rattle.outcome_law.proofs.Crossed.{is_got_on, is_sent_on, was_sent}
 use Rattle.outcome_law.proofs.Evident.{volatile_more}
+use Rattle.dtx_model.proofs.Connections.{same_is}
 
 -- Where the message that opens a connection was got, the connection was opened.
 opening_got_on : (c : Conn) (x : Entry) → is_opening_got c x ≡ true → is_got_on c Up (is_opening c) x ≡ true
 opening_got_on c (Got e Up m) t =
     let same = and_left (same_connection c e) (is_opening e m) t in
     let P : Conn → Type 0 = λ y. is_opening y m ≡ true in
-    let opening : is_opening c m ≡ true = subst P (sym (same_conn_is c e same)) (and_right (same_connection c e) (is_opening e m) t) in
+    let opening : is_opening c m ≡ true = subst P (sym (same_is c e same)) (and_right (same_connection c e) (is_opening e m) t) in
     and_both (same_connection c e && true) (is_opening c m) (and_both (same_connection c e) true same refl) opening
 opening_got_on c _ t = absurd cc
 
@@ -45,7 +46,7 @@ pub opening_sent_on : (c : Conn) (x : Entry) → is_sent_on c Up (is_opening c) 
 opening_sent_on c (Sent e Up m) t =
     let same = and_left (same_connection c e) true (and_left (same_connection c e && true) (is_opening c m) t) in
     let P : Conn → Type 0 = λ y. is_opening y m ≡ true in
-    and_both (same_connection c e) (is_opening e m) same (subst P (same_conn_is c e same) (and_right (same_connection c e && true) (is_opening c m) t))
+    and_both (same_connection c e) (is_opening e m) same (subst P (same_is c e same) (and_right (same_connection c e && true) (is_opening c m) t))
 opening_sent_on c (Sent e Down m) t = absurd (not_both (same_connection c e && false) (and_left (same_connection c e && false) (is_opening c m) t) (and_never (same_connection c e)))
 opening_sent_on c _ t = absurd cc
 
@@ -73,7 +74,7 @@ enlist_begun e _ h t r = absurd cc
 opens_row : (c : Conn) (Q : List Entry → Bool) → ((m : Message) (h : List Entry) → is_opening c m ≡ true → message_row h c m ≡ true → Q h ≡ true)
     → (x : Entry) (h : List Entry) → Keeps h → rule h x ≡ true → opens c x ≡ true → Q h ≡ true
 opens_row c Q f (Sent e Up m) h k r t =
-    let same : c ≡ e = same_conn_is c e (and_left (same_connection c e) (is_opening e m) t) in
+    let same : c ≡ e = same_is c e (and_left (same_connection c e) (is_opening e m) t) in
     let P : Conn → Type 0 = λ y. is_opening y m ≡ true in
     let R : Conn → Type 0 = λ y. message_row h y m ≡ true in
     f m h (subst P (sym same) (and_right (same_connection c e) (is_opening e m) t))

@@ -1,9 +1,9 @@
 -- The tables of a history: what their rows have to do with its entries.
-use Rattle.std.proofs.Common.{◌≡◌, ℕ, ◌==◌, Bool, true, false, ◌&&◌, ◌||◌, List, [], ◌∷◌, Option, Some, None, refl, ◌∙◌, ap, sym, subst}
+use Rattle.std.proofs.Common.{◌≡◌, ℕ, ◌==◌, Bool, true, false, ◌&&◌, ◌||◌, List, [], ◌∷◌, Option, Some, None, refl, ◌∙◌, ap, sym, subst, inl, inr}
 use Rattle.std.specs.Prelude.{is_some, not, if◌then◌else◌}
 use Rattle.std.specs.List.{slice_get}
 use Rattle.std.proofs.Math.Bool.{or-false}
-use Rattle.std.proofs.lemmas.Bool.{eqb-true}
+use Rattle.std.proofs.lemmas.Bool.{eqb-true, cases_Bool}
 use Rattle.dtx_values.specs.declared.number.CloneNo.{CloneNo}
 use Rattle.dtx_values.specs.declared.number.EnlNo.{EnlNo}
 use Rattle.dtx_values.specs.declared.entry.Ask.TheVariants.{Prepare}
@@ -15,7 +15,7 @@ use Rattle.dtx_values.specs.declared.words.CloneKind.TheVariants.{Block, Rollbac
 use Rattle.dtx_values.specs.declared.words.Vote.{Vote}
 use Rattle.dtx_values.specs.Row.{is_of, is_marked, has_voted, number_of, fresh_row, unless_there, mark_row, vote_row}
 use Rattle.dtx_values.specs.declared.row.Row.{Row}
-use Rattle.dtx_values.specs.Table.{marks}
+use Rattle.dtx_values.specs.Table.{marks, voted}
 use Rattle.dtx_values.specs.Clones.{is_clone, blocks, is_open_block, is_open_rollback}
 use Rattle.dtx_model.specs.Words.{has, each, latest, or_else, all_of}
 use Rattle.dtx_model.specs.Entries.{is_decision, is_sealed, is_commit, clone_of, is_completed, is_asked, is_vote, is_good_vote}
@@ -25,7 +25,7 @@ use Rattle.dtx_model.specs.Seen.{vote_of, IsCloneSeen}
 use Rattle.dtx_values.specs.Class.{is_zero, is_volatile}
 use Rattle.dtx_values.specs.Waves.{all_voted, zeros_voted}
 use Rattle.dtx_values.specs.Vote.{voted_well, is_good}
-use Rattle.dtx_model.proofs.Bools.{and_right, or_false, or_second, or_right, not_true}
+use Rattle.dtx_model.proofs.Bools.{and_right, or_false, or_second, or_right, not_true, and_left, or_case, or_first}
 use Rattle.outcome_law.proofs.Tests.{eq_self, eq_swap, apart, second_of_four, third_of_four, fourth_of_four, third_of_five}
 use Rattle.outcome_law.proofs.Lists.{OfEach, of-at, of-more, of-map, of-insert, of-behind, of-all, each_same, has_same, each_kept, has_kept, if_kept, each-insert, has-insert, each-behind, has-behind}
 use Rattle.outcome_law.proofs.Rule.{is_enlisted, is_cloned, zeros_cast, rule, ruled, first_rule, other_rules}
@@ -80,15 +80,6 @@ unenlisted_unasked n (Asked f Prepare ∷ h) r e =
     (unenlisted_unasked n h (other_rules (Asked f Prepare) h r) e)
 unenlisted_unasked n (x ∷ h) r e = unenlisted_unasked n h (other_rules x h r) e
 
--- what wasn't enlisted didn't vote
-unenlisted_unvoted : (n : ℕ) (h : List Entry) → ruled h ≡ true → has (is_enlisted n) h ≡ false → has (is_vote n) h ≡ false
-unenlisted_unvoted n [] r e = refl
-unenlisted_unvoted n (Enlisted f c ∷ h) r e = unenlisted_unvoted n h (other_rules (Enlisted f c) h r) (or_second (n == f.value) (has (is_enlisted n) h) e)
-unenlisted_unvoted n (Voted f v ∷ h) r e =
-    or_false (n == f.value) (has (is_vote n) h) (apart (λ m. has (is_enlisted m) h) n f.value e (voted_enlisted f v h (first_rule (Voted f v) h r)))
-    (unenlisted_unvoted n h (other_rules (Voted f v) h r) e)
-unenlisted_unvoted n (x ∷ h) r e = unenlisted_unvoted n h (other_rules x h r) e
-
 -- what didn't vote has no vote
 pub unvoted_latest : (n : ℕ) (h : List Entry) → has (is_vote n) h ≡ false → latest (vote_of n) h ≡ None
 unvoted_latest n [] k = refl
@@ -118,12 +109,11 @@ pub record IsRow (h : List Entry) (x : Row) : Type 0 where
   pub well : voted_well x.vote ≡ has (is_good_vote x.number.value) h
 
 -- the row of an enlistment that has just come
-fresh_seen : (e : EnlNo) (c : Class) (n : ℕ) (h : List Entry) → ruled h ≡ true → has (is_enlisted e.value) h ≡ false → IsRow (Enlisted e c ∷ h) (fresh_row e c n)
-fresh_seen e c n h r k =
-    let silent = unenlisted_unvoted e.value h r k in
+fresh_seen : (e : EnlNo) (c : Class) (n : ℕ) (h : List Entry) → has (is_asked e.value) h ≡ false → has (is_vote e.value) h ≡ false → IsRow (Enlisted e c ∷ h) (fresh_row e c n)
+fresh_seen e c n h asked silent =
     record {
       stands = rw (eq_self e.value) refl;
-      marked = sym (unenlisted_unasked e.value h r k);
+      marked = sym asked;
       voted = sym silent;
       vote = sym (unvoted_latest e.value h silent);
       well = sym (unvoted_unwell e.value h silent);
@@ -180,51 +170,6 @@ voted_seen e v h x false other once w =
       well = rw other w.well;
     }
 
--- each row says what the history shows of its enlistment
-pub rows_seen : (h : List Entry) → ruled h ≡ true → OfEach (IsRow h) (rows h)
-rows_seen [] r = tt
-rows_seen (Enlisted e c ∷ h) r =
-    of-insert (IsRow (Enlisted e c ∷ h)) number_of (fresh_row e c (marks (rows h)))
-    (fresh_seen e c (marks (rows h)) h (other_rules (Enlisted e c) h r) (enlisted_once e c h (first_rule (Enlisted e c) h r))) (rows h)
-    (of-more (IsRow h) (IsRow (Enlisted e c ∷ h)) (older_seen e c h) (rows h) (rows_seen h (other_rules (Enlisted e c) h r)))
-rows_seen (Asked e Prepare ∷ h) r =
-    of-map (IsRow h) (IsRow (Asked e Prepare ∷ h)) (λ x. if is_of e.value x then (mark_row (marks (rows h)) x) else x)
-    (λ x. asked_seen e (marks (rows h)) h x (is_of e.value x) (eq_swap x.number.value e.value)) (rows h) (rows_seen h (other_rules (Asked e Prepare) h r))
-rows_seen (Voted e v ∷ h) r =
-    of-map (IsRow h) (IsRow (Voted e v ∷ h)) (λ x. if is_of e.value x then (vote_row v x) else x)
-    (λ x. voted_seen e v h x (is_of e.value x) (eq_swap x.number.value e.value) (voted_once e v h (first_rule (Voted e v) h r))) (rows h) (rows_seen h (other_rules (Voted e v) h r))
-rows_seen (x ∷ h) r =
-    of-more (IsRow h) (IsRow (x ∷ h)) (λ q w. record { stands = w.stands; marked = w.marked; voted = w.voted; vote = w.vote; well = w.well }) (rows h)
-    (rows_seen h (other_rules x h r))
-
--- the row at a place says what the history shows of its enlistment
-pub row_seen : (h : List Entry) (k : ℕ) (x : Row) → ruled h ≡ true → slice_get (rows h) k ≡ Some x → IsRow h x
-row_seen h k x r e = of-at (IsRow h) (rows h) k x (rows_seen h r) e
-
--- the row is marked where its enlistment was asked to prepare
-pub row_marked : (h : List Entry) (k : ℕ) (x : Row) → ruled h ≡ true → slice_get (rows h) k ≡ Some x → is_marked x ≡ has (is_asked x.number.value) h
-row_marked h k x r e = (row_seen h k x r e).marked
-
--- the row has a vote where its enlistment voted
-pub row_voted : (h : List Entry) (k : ℕ) (x : Row) → ruled h ≡ true → slice_get (rows h) k ≡ Some x → has_voted x ≡ has (is_vote x.number.value) h
-row_voted h k x r e = (row_seen h k x r e).voted
-
--- where each row of a class that p names has a vote, each such enlistment voted
-class_voted : (p : Class → Bool) (h : List Entry) → ruled h ≡ true
-    → each (λ x. not (p x.class) || has_voted x) (rows h) ≡ each (λ x. not (p x.1) || has (is_vote x.0.value) h) (enlisted h)
-class_voted p h r =
-    each_same (λ x. not (p x.class) || has_voted x) (λ x. not (p x.class) || has (is_vote x.number.value) h) (rows h)
-    (of-more (IsRow h) (λ x. (not (p x.class) || has_voted x) ≡ (not (p x.class) || has (is_vote x.number.value) h)) (λ x w. ap (λ b. not (p x.class) || b) w.voted) (rows h) (rows_seen h r))
-    ∙ each_rows (λ e c. not (p c) || has (is_vote e.value) h) h
-
--- each Zero row has a vote where each Zero enlistment voted
-pub zeros_seen : (h : List Entry) → ruled h ≡ true → zeros_voted (rows h) ≡ zeros_cast h
-zeros_seen h r = class_voted is_zero h r
-
--- each volatile row has a vote where each volatile enlistment voted
-pub all_voted_seen : (h : List Entry) → ruled h ≡ true → all_voted (rows h) ≡ each (λ x. not (is_volatile x.1) || has (is_vote x.0.value) h) (enlisted h)
-all_voted_seen h r = class_voted is_volatile h r
-
 -- what each row of a clone passes by its number and kind, each clone passes
 pub each_clones : (f : CloneNo → CloneKind → Bool) (h : List Entry) → each (λ r. f r.clone r.kind) (clone_rows h) ≡ each (λ c. f c.0 c.1) (all_of clone_of h)
 each_clones f [] = refl
@@ -257,59 +202,178 @@ cloned_once c k h r = not_true (has (is_cloned c.value) h) (and_right (not (has 
 completed_cloned : (c : CloneNo) (h : List Entry) → rule h (Completed c) ≡ true → has (is_cloned c.value) h ≡ true
 completed_cloned c h r = and_right (not (has is_decision h)) (has (is_cloned c.value) h) r
 
--- what wasn't cloned wasn't completed
-uncloned_uncompleted : (n : ℕ) (h : List Entry) → ruled h ≡ true → has (is_cloned n) h ≡ false → has (is_completed n) h ≡ false
-uncloned_uncompleted n [] r e = refl
-uncloned_uncompleted n (Cloned c k ∷ h) r e = uncloned_uncompleted n h (other_rules (Cloned c k) h r) (or_second (n == c.value) (has (is_cloned n) h) e)
-uncloned_uncompleted n (Completed c ∷ h) r e =
-    or_false (n == c.value) (has (is_completed n) h) (apart (λ m. has (is_cloned m) h) n c.value e (completed_cloned c h (first_rule (Completed c) h r)))
-    (uncloned_uncompleted n h (other_rules (Completed c) h r) e)
-uncloned_uncompleted n (x ∷ h) r e = uncloned_uncompleted n h (other_rules x h r) e
-
--- each clone's row says whether it was completed
-clones_seen : (h : List Entry) → ruled h ≡ true → OfEach (IsCloneSeen h) (clone_rows h)
-clones_seen [] r = tt
-clones_seen (Cloned c k ∷ h) r =
-    of-behind (IsCloneSeen h) (record { clone = c; kind = k; complete = false })
-    (sym (uncloned_uncompleted c.value h (other_rules (Cloned c k) h r) (cloned_once c k h (first_rule (Cloned c k) h r)))) (clone_rows h) (clones_seen h (other_rules (Cloned c k) h r))
-clones_seen (Completed c ∷ h) r =
-    of-map (IsCloneSeen h) (IsCloneSeen (Completed c ∷ h)) (λ r. record { clone = r.clone; kind = r.kind; complete = is_clone c.value r || r.complete })
-    (λ r w. ap (λ b. b || r.complete) (eq_swap c.value r.clone.value) ∙ ap (λ b. (r.clone.value == c.value) || b) w) (clone_rows h) (clones_seen h (other_rules (Completed c) h r))
-clones_seen (x ∷ h) r = clones_seen h (other_rules x h r)
-
--- where p passes the kind of a clone that isn't complete, as the rows and as the history show it
-open_clones : (p : CloneKind → Bool) (h : List Entry) → ruled h ≡ true
-    → has (λ c. p c.kind && not c.complete) (clone_rows h) ≡ has (λ c. p c.1 && not (is_complete h c)) (all_of clone_of h)
-open_clones p h r =
-    has_same (λ c. p c.kind && not c.complete) (λ c. p c.kind && not (has (is_completed c.clone.value) h)) (clone_rows h)
-    (of-more (IsCloneSeen h) (λ c. (p c.kind && not c.complete) ≡ (p c.kind && not (has (is_completed c.clone.value) h))) (λ c w. ap (λ b. p c.kind && not b) w) (clone_rows h) (clones_seen h r))
-    ∙ has_clones (λ c k. p k && not (has (is_completed c.value) h)) h
-
--- a blocking clone is open by the rows where it is by the history
-pub open_blocks : (h : List Entry) → ruled h ≡ true → has is_open_block (clone_rows h) ≡ has (λ c. blocks c.1 && not (is_complete h c)) (all_of clone_of h)
-open_blocks h r = open_clones blocks h r
-
 -- a clone that doesn't block makes a commit a veto
 pub rollback_kind : (k : CloneKind) → not (blocks k) ≡ is_rollback k
 rollback_kind Block = refl
 rollback_kind Rollback = refl
 
--- a commit is a veto where such a clone is open by the rows
-pub commit_vetoed : (h : List Entry) → ruled h ≡ true → has is_open_rollback (clone_rows h) ≡ is_veto h CommitAsked
-commit_vetoed h r =
-    has_same is_open_rollback (λ c. is_rollback c.kind && not c.complete) (clone_rows h)
-    (of-all (λ c. is_open_rollback c ≡ (is_rollback c.kind && not c.complete)) (λ c. ap (λ b. b && not c.complete) (rollback_kind c.kind)) (clone_rows h))
-    ∙ open_clones is_rollback h r
+-- A history whose entries follow one another: what is so of it is so of what stands before its last entry, who is enlisted wasn't before and wasn't asked, who votes was enlisted and
+-- hadn't voted, and a clone is made once, before it is complete.
+pub record Ordered (K : List Entry → Type 0) : Type 0 where
+  pub before : (x : Entry) (h : List Entry) → K (x ∷ h) → K h
+  pub new : (e : EnlNo) (c : Class) (h : List Entry) → K (Enlisted e c ∷ h) → has (is_enlisted e.value) h ≡ false
+  pub unasked : (e : EnlNo) (c : Class) (h : List Entry) → K (Enlisted e c ∷ h) → has (is_asked e.value) h ≡ false
+  pub enlisted : (e : EnlNo) (v : Vote) (h : List Entry) → K (Voted e v ∷ h) → has (is_enlisted e.value) h ≡ true
+  pub once : (e : EnlNo) (v : Vote) (h : List Entry) → K (Voted e v ∷ h) → has (is_vote e.value) h ≡ false
+  pub unmade : (c : CloneNo) (k : CloneKind) (h : List Entry) → K (Cloned c k ∷ h) → has (is_cloned c.value) h ≡ false
+  pub made : (c : CloneNo) (h : List Entry) → K (Completed c ∷ h) → has (is_cloned c.value) h ≡ true
+
+-- So its rows say what its entries show.
+module _ {K : List Entry → Type 0} (o : Ordered K) where
+  -- what wasn't enlisted didn't vote
+  pub unvoted_by : (n : ℕ) (h : List Entry) → K h → has (is_enlisted n) h ≡ false → has (is_vote n) h ≡ false
+  unvoted_by n [] r e = refl
+  unvoted_by n (Enlisted f c ∷ h) r e = unvoted_by n h (o.before (Enlisted f c) h r) (or_second (n == f.value) (has (is_enlisted n) h) e)
+  unvoted_by n (Voted f v ∷ h) r e =
+      or_false (n == f.value) (has (is_vote n) h) (apart (λ m. has (is_enlisted m) h) n f.value e (o.enlisted f v h r)) (unvoted_by n h (o.before (Voted f v) h r) e)
+  unvoted_by n (x ∷ h) r e = unvoted_by n h (o.before x h r) e
+
+  -- each row says what the history shows of its enlistment
+  pub rows_by : (h : List Entry) → K h → OfEach (IsRow h) (rows h)
+  rows_by [] r = tt
+  rows_by (Enlisted e c ∷ h) r =
+      of-insert (IsRow (Enlisted e c ∷ h)) number_of (fresh_row e c (marks (rows h)))
+      (fresh_seen e c (marks (rows h)) h (o.unasked e c h r) (unvoted_by e.value h (o.before (Enlisted e c) h r) (o.new e c h r))) (rows h)
+      (of-more (IsRow h) (IsRow (Enlisted e c ∷ h)) (older_seen e c h) (rows h) (rows_by h (o.before (Enlisted e c) h r)))
+  rows_by (Asked e Prepare ∷ h) r =
+      of-map (IsRow h) (IsRow (Asked e Prepare ∷ h)) (λ x. if is_of e.value x then (mark_row (marks (rows h)) x) else x)
+      (λ x. asked_seen e (marks (rows h)) h x (is_of e.value x) (eq_swap x.number.value e.value)) (rows h) (rows_by h (o.before (Asked e Prepare) h r))
+  rows_by (Voted e v ∷ h) r =
+      of-map (IsRow h) (IsRow (Voted e v ∷ h)) (λ x. if is_of e.value x then (vote_row v x) else x)
+      (λ x. voted_seen e v h x (is_of e.value x) (eq_swap x.number.value e.value) (o.once e v h r)) (rows h) (rows_by h (o.before (Voted e v) h r))
+  rows_by (x ∷ h) r =
+      of-more (IsRow h) (IsRow (x ∷ h)) (λ q w. record { stands = w.stands; marked = w.marked; voted = w.voted; vote = w.vote; well = w.well }) (rows h)
+      (rows_by h (o.before x h r))
+
+  -- the row at a place says what the history shows of its enlistment
+  pub row_by : (h : List Entry) (k : ℕ) (x : Row) → K h → slice_get (rows h) k ≡ Some x → IsRow h x
+  row_by h k x r e = of-at (IsRow h) (rows h) k x (rows_by h r) e
+
+  -- where each row of a class that p names has a vote, each such enlistment voted
+  pub class_by : (p : Class → Bool) (h : List Entry) → K h → each (λ x. not (p x.class) || has_voted x) (rows h) ≡ each (λ x. not (p x.1) || has (is_vote x.0.value) h) (enlisted h)
+  class_by p h r =
+      each_same (λ x. not (p x.class) || has_voted x) (λ x. not (p x.class) || has (is_vote x.number.value) h) (rows h)
+      (of-more (IsRow h) (λ x. (not (p x.class) || has_voted x) ≡ (not (p x.class) || has (is_vote x.number.value) h)) (λ x w. ap (λ b. not (p x.class) || b) w.voted) (rows h) (rows_by h r))
+      ∙ each_rows (λ e c. not (p c) || has (is_vote e.value) h) h
+
+  -- each row is volatile with a vote yes or done where each enlistment is volatile and voted so
+  pub evident_by : (h : List Entry) → K h → each (λ x. is_volatile x.class && voted_well x.vote) (rows h) ≡ each (λ x. is_volatile x.1 && has (is_good_vote x.0.value) h) (enlisted h)
+  evident_by h r =
+      each_same (λ x. is_volatile x.class && voted_well x.vote) (λ x. is_volatile x.class && has (is_good_vote x.number.value) h) (rows h)
+      (of-more (IsRow h) (λ x. (is_volatile x.class && voted_well x.vote) ≡ (is_volatile x.class && has (is_good_vote x.number.value) h))
+      (λ x w. ap (λ b. is_volatile x.class && b) w.well) (rows h) (rows_by h r))
+      ∙ each_rows (λ e c. is_volatile c && has (is_good_vote e.value) h) h
+
+  -- what wasn't cloned wasn't completed
+  uncompleted_by : (n : ℕ) (h : List Entry) → K h → has (is_cloned n) h ≡ false → has (is_completed n) h ≡ false
+  uncompleted_by n [] r e = refl
+  uncompleted_by n (Cloned c k ∷ h) r e = uncompleted_by n h (o.before (Cloned c k) h r) (or_second (n == c.value) (has (is_cloned n) h) e)
+  uncompleted_by n (Completed c ∷ h) r e =
+      or_false (n == c.value) (has (is_completed n) h) (apart (λ m. has (is_cloned m) h) n c.value e (o.made c h r)) (uncompleted_by n h (o.before (Completed c) h r) e)
+  uncompleted_by n (x ∷ h) r e = uncompleted_by n h (o.before x h r) e
+
+  -- each clone's row says whether it was completed
+  pub clones_by : (h : List Entry) → K h → OfEach (IsCloneSeen h) (clone_rows h)
+  clones_by [] r = tt
+  clones_by (Cloned c k ∷ h) r =
+      of-behind (IsCloneSeen h) (record { clone = c; kind = k; complete = false }) (sym (uncompleted_by c.value h (o.before (Cloned c k) h r) (o.unmade c k h r))) (clone_rows h)
+      (clones_by h (o.before (Cloned c k) h r))
+  clones_by (Completed c ∷ h) r =
+      of-map (IsCloneSeen h) (IsCloneSeen (Completed c ∷ h)) (λ r. record { clone = r.clone; kind = r.kind; complete = is_clone c.value r || r.complete })
+      (λ r w. ap (λ b. b || r.complete) (eq_swap c.value r.clone.value) ∙ ap (λ b. (r.clone.value == c.value) || b) w) (clone_rows h) (clones_by h (o.before (Completed c) h r))
+  clones_by (x ∷ h) r = clones_by h (o.before x h r)
+
+  -- where p passes the kind of a clone that isn't complete, as the rows and as the history show it
+  pub open_by : (p : CloneKind → Bool) (h : List Entry) → K h → has (λ c. p c.kind && not c.complete) (clone_rows h) ≡ has (λ c. p c.1 && not (is_complete h c)) (all_of clone_of h)
+  open_by p h r =
+      has_same (λ c. p c.kind && not c.complete) (λ c. p c.kind && not (has (is_completed c.clone.value) h)) (clone_rows h)
+      (of-more (IsCloneSeen h) (λ c. (p c.kind && not c.complete) ≡ (p c.kind && not (has (is_completed c.clone.value) h))) (λ c w. ap (λ b. p c.kind && not b) w) (clone_rows h) (clones_by h r))
+      ∙ has_clones (λ c k. p k && not (has (is_completed c.value) h)) h
+
+  -- a commit is a veto where such a clone is open by the rows
+  pub vetoed_by : (h : List Entry) → K h → has is_open_rollback (clone_rows h) ≡ is_veto h CommitAsked
+  vetoed_by h r =
+      has_same is_open_rollback (λ c. is_rollback c.kind && not c.complete) (clone_rows h)
+      (of-all (λ c. is_open_rollback c ≡ (is_rollback c.kind && not c.complete)) (λ c. ap (λ b. b && not c.complete) (rollback_kind c.kind)) (clone_rows h))
+      ∙ open_by is_rollback h r
+
+  -- an enlistment whose row has no vote didn't vote
+  pub unvoted_row_by : (h : List Entry) (e : ℕ) → K h → has (is_of e) (rows h) ≡ true → voted e (rows h) ≡ false → has (is_vote e) h ≡ false
+  unvoted_row_by h e r s v = of_row h e (rows h) (rows_by h r) s v
+    where
+      of_row : (h : List Entry) (e : ℕ) (xs : List Row) → OfEach (IsRow h) xs → has (is_of e) xs ≡ true → has (λ x. is_of e x && has_voted x) xs ≡ false → has (is_vote e) h ≡ false
+      of_row h e [] w s v = absurd cc
+      of_row h e (x ∷ xs) w s v =
+          or_case (is_of e x) (has (is_of e) xs)
+          (λ k. let same : e ≡ x.number.value = eqb-true e x.number.value k in
+          let none : (is_of e x && has_voted x) ≡ false = or_first (is_of e x && has_voted x) (has (λ x. is_of e x && has_voted x) xs) v in
+          let unvoted : has_voted x ≡ false = rw k at none in
+          rw same (sym w.0.voted ∙ unvoted))
+          (λ k. of_row h e xs w.1 k (or_second (is_of e x && has_voted x) (has (λ x. is_of e x && has_voted x) xs) v)) s
+
+  -- an enlistment whose row has a vote voted
+  pub cast_row_by : (h : List Entry) (e : ℕ) → K h → voted e (rows h) ≡ true → has (is_vote e) h ≡ true
+  cast_row_by h e r v = of_row h e (rows h) (rows_by h r) v
+    where
+      of_row : (h : List Entry) (e : ℕ) (xs : List Row) → OfEach (IsRow h) xs → has (λ x. is_of e x && has_voted x) xs ≡ true → has (is_vote e) h ≡ true
+      of_row h e [] w v = absurd cc
+      of_row h e (x ∷ xs) w v =
+          or_case (is_of e x && has_voted x) (has (λ x. is_of e x && has_voted x) xs)
+          (λ k. let same : e ≡ x.number.value = eqb-true e x.number.value (and_left (is_of e x) (has_voted x) k) in rw same (sym w.0.voted ∙ and_right (is_of e x) (has_voted x) k))
+          (of_row h e xs w.1) v
+
+  -- an enlistment that stands voted exactly where its row has a vote
+  pub vote_by : (h : List Entry) (e : ℕ) → K h → has (is_of e) (rows h) ≡ true → voted e (rows h) ≡ has (is_vote e) h
+  vote_by h e r s = elim (cases_Bool (voted e (rows h))) [
+    | inl v ↦ v ∙ sym (cast_row_by h e r v)
+    | inr v ↦ v ∙ sym (unvoted_row_by h e r s v)
+  ]
+
+-- so does a history that keeps the rules
+pub ruled_order : Ordered (λ h. ruled h ≡ true)
+ruled_order =
+    record {
+      before = λ x h r. other_rules x h r;
+      new = λ e c h r. enlisted_once e c h (first_rule (Enlisted e c) h r);
+      unasked = λ e c h r. unenlisted_unasked e.value h (other_rules (Enlisted e c) h r) (enlisted_once e c h (first_rule (Enlisted e c) h r));
+      enlisted = λ e v h r. voted_enlisted e v h (first_rule (Voted e v) h r);
+      once = λ e v h r. voted_once e v h (first_rule (Voted e v) h r);
+      unmade = λ c k h r. cloned_once c k h (first_rule (Cloned c k) h r);
+      made = λ c h r. completed_cloned c h (first_rule (Completed c) h r);
+    }
+
+-- the row at a place says what the history shows of its enlistment
+pub row_seen : (h : List Entry) (k : ℕ) (x : Row) → ruled h ≡ true → slice_get (rows h) k ≡ Some x → IsRow h x
+row_seen h k x r e = row_by ruled_order h k x r e
+
+-- the row is marked where its enlistment was asked to prepare
+pub row_marked : (h : List Entry) (k : ℕ) (x : Row) → ruled h ≡ true → slice_get (rows h) k ≡ Some x → is_marked x ≡ has (is_asked x.number.value) h
+row_marked h k x r e = (row_by ruled_order h k x r e).marked
+
+-- the row has a vote where its enlistment voted
+pub row_voted : (h : List Entry) (k : ℕ) (x : Row) → ruled h ≡ true → slice_get (rows h) k ≡ Some x → has_voted x ≡ has (is_vote x.number.value) h
+row_voted h k x r e = (row_by ruled_order h k x r e).voted
 
 -- the row at a place is of an enlistment of the history
 pub rows_enlisted : (h : List Entry) (k : ℕ) (x : Row) → ruled h ≡ true → slice_get (rows h) k ≡ Some x → has (is_enlisted x.number.value) h ≡ true
-rows_enlisted h k x r e = (row_seen h k x r e).stands
+rows_enlisted h k x r e = (row_by ruled_order h k x r e).stands
+
+-- each Zero row has a vote where each Zero enlistment voted
+pub zeros_seen : (h : List Entry) → ruled h ≡ true → zeros_voted (rows h) ≡ zeros_cast h
+zeros_seen h r = class_by ruled_order is_zero h r
+
+-- each volatile row has a vote where each volatile enlistment voted
+pub all_voted_seen : (h : List Entry) → ruled h ≡ true → all_voted (rows h) ≡ each (λ x. not (is_volatile x.1) || has (is_vote x.0.value) h) (enlisted h)
+all_voted_seen h r = class_by ruled_order is_volatile h r
 
 -- each row is volatile with a vote yes or done where each enlistment is volatile and voted so
-pub evident_seen : (h : List Entry) → ruled h ≡ true
-    → each (λ x. is_volatile x.class && voted_well x.vote) (rows h) ≡ each (λ x. is_volatile x.1 && has (is_good_vote x.0.value) h) (enlisted h)
-evident_seen h r =
-    each_same (λ x. is_volatile x.class && voted_well x.vote) (λ x. is_volatile x.class && has (is_good_vote x.number.value) h) (rows h)
-    (of-more (IsRow h) (λ x. (is_volatile x.class && voted_well x.vote) ≡ (is_volatile x.class && has (is_good_vote x.number.value) h))
-    (λ x w. ap (λ b. is_volatile x.class && b) w.well) (rows h) (rows_seen h r))
-    ∙ each_rows (λ e c. is_volatile c && has (is_good_vote e.value) h) h
+pub evident_seen : (h : List Entry) → ruled h ≡ true → each (λ x. is_volatile x.class && voted_well x.vote) (rows h) ≡ each (λ x. is_volatile x.1 && has (is_good_vote x.0.value) h) (enlisted h)
+evident_seen h r = evident_by ruled_order h r
+
+-- a blocking clone is open by the rows where it is by the history
+pub open_blocks : (h : List Entry) → ruled h ≡ true → has is_open_block (clone_rows h) ≡ has (λ c. blocks c.1 && not (is_complete h c)) (all_of clone_of h)
+open_blocks h r = open_by ruled_order blocks h r
+
+-- a commit is a veto where such a clone is open by the rows
+pub commit_vetoed : (h : List Entry) → ruled h ≡ true → has is_open_rollback (clone_rows h) ≡ is_veto h CommitAsked
+commit_vetoed h r = vetoed_by ruled_order h r

@@ -11,7 +11,6 @@ use Rattle.dtx_model.specs.Entries.{is_client_told}
 use Rattle.dtx_model.specs.Grammar.{are_named_well}
 use Rattle.dtx_model.specs.Caused.{Caused, Settled, is_unpromoted}
 use Rattle.dtx_model.specs.History.{CanCommit}
-use Rattle.outcome_law.proofs.Whole.{is_sent_on}
 use Rattle.outcome_law.proofs.Messages.{ENLISTED}
 use Rattle.outcome_law.proofs.Fine.{is_caused}
 use Rattle.outcome_law.proofs.SameRows.{is_asked_there}
@@ -24,6 +23,7 @@ use Rattle.outcome_law.proofs.ByTable.{ruled_later, ruled_recorded}
 use Rattle.outcome_law.proofs.BeforeRows.{kept_begun, kept_ordered, kept_sound}
 use Rattle.outcome_law.proofs.OpenedRows.{kept_opened}
 use Rattle.outcome_law.proofs.ClosedRows.{kept_shut}
+use Rattle.outcome_law.proofs.Crossed.{is_sent_on}
 
 -- what is bad has its cause, ENLISTED is sent once to each enlistment, and who is asked was enlisted, and is asked for what it may be asked
 pub record KeepsMore (h : List Entry) : Type 0 where

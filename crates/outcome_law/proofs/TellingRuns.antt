@@ -16,7 +16,7 @@ use Rattle.dtx_values.specs.declared.message.Dir.{Dir}
 use Rattle.dtx_values.specs.declared.message.Dir.TheVariants.{Down, Up}
 use Rattle.dtx_values.specs.declared.message.Info.{Info}
 use Rattle.dtx_values.specs.declared.message.Message.{Message}
-use Rattle.dtx_values.specs.declared.message.Message.TheVariants.{EnlistAbort, EnlistCommit, EnlistEnlist, EnlistEnlisted, ReenlistAborted, ReenlistCommitted, ReenlistReenlist}
+use Rattle.dtx_values.specs.declared.message.Message.TheVariants.{EnlistAbort, EnlistCommit, EnlistEnlisted, ReenlistAborted, ReenlistCommitted, ReenlistReenlist}
 use Rattle.dtx_values.specs.declared.number.ActorNo.{ActorNo}
 use Rattle.dtx_values.specs.declared.number.EnlNo.{EnlNo}
 use Rattle.dtx_values.specs.declared.words.Outcome.{Outcome}
@@ -49,21 +49,24 @@ use Rattle.outcome_law.proofs.Rule.{is_enlisted}
 use Rattle.outcome_law.proofs.TableRows.{enlisted_in_rows}
 use Rattle.outcome_law.proofs.Owned.{decision_seen}
 use Rattle.outcome_law.proofs.Keeping.{Keeps}
-use Rattle.outcome_law.proofs.Deciding.{decided_there, onto-parts, stays}
+use Rattle.outcome_law.proofs.Deciding.{decided_there, stays}
 use Rattle.outcome_law.proofs.HalfKnows.{way_seen}
 use Rattle.outcome_law.proofs.Handover.{opening_before}
 use Rattle.outcome_law.proofs.Leading.{opening_was_sent}
 use Rattle.outcome_law.proofs.Climbed.{handover_stands}
 use Rattle.outcome_law.proofs.Reenlisted.{branches_got}
 use Rattle.outcome_law.proofs.WorldCalls.{branch_done, found_branch}
-use Rattle.outcome_law.proofs.Whole.{is_got_on, is_sent_on}
 use Rattle.outcome_law.proofs.Messages.{ENLIST, ENLISTED}
 use Rattle.outcome_law.proofs.ByTable.{ruled_later}
 use Rattle.outcome_law.proofs.Coming.{AreComing}
 use Rattle.outcome_law.proofs.ComingRuns.{ran_coming}
 use Rattle.outcome_law.proofs.HalfHeard.{is_told_here}
 use Rattle.outcome_law.proofs.CommonBlocks.{common_act, common_arrived, common_called, common_coordinates, common_core_got, common_decide, common_ended_at, common_gone, common_reply, common_restarted, common_unless, common_veto, gone_parts, gone_passes, gone_rest, is_common, is_reenlist, is_usual, usual_block}
-use Rattle.outcome_law.proofs.PromotesRuns.{keeps_past, keeps_start}
+use Rattle.outcome_law.proofs.PromotesRuns.{keeps_past}
+use Rattle.dtx_model.proofs.Histories.{onto-append}
+use Rattle.outcome_law.proofs.Crossed.{is_sent_on, is_got_on}
+use Rattle.outcome_law.proofs.Handing.{keeps_within}
+use Rattle.outcome_law.proofs.SealedRows.{opens_sends}
 
 -- Who comes back had its ENLISTED.
 abbrev pub AreReturned : List Entry → Type 0
@@ -200,16 +203,6 @@ quiet_all es k = each_more is_quiet is_unplacing quiet_unplacing es k
 quiet_placed : (h es : List Entry) → each is_quiet es ≡ true → ArePlaced h → ArePlaced (onto h es)
 quiet_placed h es k p = unplaced h es (quiet_all es k) p
 
--- The ENLISTED of one that has its place: it is enlisted by it.
-opens_enlist : (e : EnlNo) (x : Entry) → opens (Enl e) x ≡ true → is_sent_on (Enl e) Up ENLIST x ≡ true
-opens_enlist e (Sent (Enl f) Up (EnlistEnlist i)) t = and_both ((e.value == f.value) && true) true (and_both (e.value == f.value) true (and_left (e.value == f.value) true t) refl) refl
-opens_enlist e (Sent (Enl f) Up m) t = absurd (not_both ((e.value == f.value) && false) t (and_never (e.value == f.value)))
-opens_enlist e (Sent Begin Up m) t = absurd cc
-opens_enlist e (Sent Voter Up m) t = absurd cc
-opens_enlist e (Sent (Again f) Up m) t = absurd cc
-opens_enlist e (Sent c Down m) t = absurd cc
-opens_enlist e _ t = absurd cc
-
 enlisted_on : (e : EnlNo) (x : Entry) → is_got_on (Enl e) Down ENLISTED x ≡ true → is_enlisted_got e.value x ≡ true
 enlisted_on e (Got (Enl f) Down EnlistEnlisted) t = and_left (e.value == f.value) true (and_left ((e.value == f.value) && true) true t)
 enlisted_on e (Got (Enl f) Down m) t = absurd (not_both (((e.value == f.value) && true) && false) t (and_never ((e.value == f.value) && true)))
@@ -277,7 +270,7 @@ enlisted_placed t w e k j p = λ f x.
     G = onto g es
 
     sent : has (is_sent_on (Enl e) Up ENLIST) w.past ≡ true
-    sent = has_more (opens (Enl e)) (is_sent_on (Enl e) Up ENLIST) (opens_enlist e) w.past (opening_was_sent (Enl e) w.past k.wires.1 (opening_before (Enl e) EnlistEnlisted w.past k))
+    sent = has_more (opens (Enl e)) (is_sent_on (Enl e) Up ENLIST) (opens_sends e) w.past (opening_was_sent (Enl e) w.past k.wires.1 (opening_before (Enl e) EnlistEnlisted w.past k))
 
     first : has is_decision w.past ≡ false → (b : Bool) → has (is_enlisted_got e.value) w.past ≡ b → is_placed e.value G ≡ true
     first d true q = placed_stays e.value g es (p e q)
@@ -299,7 +292,7 @@ got_placed t w c d m k j p = quiet_placed (Got c d m ∷ w.past) (got_by t w c d
 
 delivered_placed : (t : ℕ) (w : World) (c : Conn) (d : Dir) (ms : List Message) → Keeps (onto w.past (delivered t w c d ms)) → AreComing w.calls w.past → ArePlaced w.past → ArePlaced (onto w.past (delivered t w c d ms))
 delivered_placed t w c d [] k j p = quiet_placed (End c d ∷ w.past) (ended_at w c d) (q_ended_at w c d).proof p
-delivered_placed t w c d (m ∷ ms) k j p = got_placed t w c d m (keeps_start (Got c d m ∷ w.past) (got_by t w c d m) k) j p
+delivered_placed t w c d (m ∷ ms) k j p = got_placed t w c d m (keeps_within (Got c d m ∷ w.past) (got_by t w c d m) k) j p
 
 step_placed : (t : ℕ) (w : World) (m : Step) → Keeps (after t w m).past → AreComing w.calls w.past → ArePlaced w.past → ArePlaced (after t w m).past
 unfolding after block_at
@@ -401,7 +394,7 @@ arrived_told t w (Enl e) EnlistCommit k p r a = a
 arrived_told t w (Enl e) EnlistAbort k p r a =
     let g = Got (Enl e) Down EnlistAbort ∷ w.past in
     let v = sees (half w) (Got (Enl e) Down EnlistAbort) in
-    subst AreTold (sym (onto-parts g (told_abort v e) (aborted_by v)))
+    subst AreTold (sym (onto-append g (told_abort v e) (aborted_by v)))
     (common_told (onto g (told_abort v e)) (aborted_by v) (common_unless v (common_decide v Aborted)).proof (abort_told g v e (λ s. sym (enlisted_in_rows e.value w.past) ∙ s) a))
 arrived_told t w (Again e) ReenlistCommitted k p r a = a
 arrived_told t w (Again e) ReenlistAborted k p r a =
@@ -413,7 +406,7 @@ delivered_told : (t : ℕ) (w : World) (c : Conn) (d : Dir) (ms : List Message) 
     → AreTold (onto w.past (delivered t w c d ms))
 delivered_told t w c d [] k p r a = common_told (End c d ∷ w.past) (ended_at w c d) (common_ended_at w c d).proof a
 delivered_told t w c Up (m ∷ ms) k p r a = common_told (Got c Up m ∷ w.past) (core_got (identifier_of t) (core w) c m) (common_core_got (identifier_of t) (core w) c m).proof a
-delivered_told t w c Down (m ∷ ms) k p r a = arrived_told t w c m (keeps_start (Got c Down m ∷ w.past) (local_got t (half w) c m) k) p r a
+delivered_told t w c Down (m ∷ ms) k p r a = arrived_told t w c m (keeps_within (Got c Down m ∷ w.past) (local_got t (half w) c m) k) p r a
 
 step_heard : (t : ℕ) (w : World) (m : Step) → Keeps (after t w m).past → ArePlaced w.past → AreReturned w.past → AreTold w.past → AreTold (after t w m).past
 unfolding after block_at

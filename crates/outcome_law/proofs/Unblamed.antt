@@ -1,10 +1,10 @@
 -- Where nothing is lost and nothing ends the transaction of itself, nothing bad comes: no veto, no abort, no refusal. So it is where all are willing. While nothing is decided, an
 -- enlistment may be lost as well.
-use Rattle.std.proofs.Common.{◌≡◌, ℕ, zero, suc, ◌==◌, Bool, true, false, ◌&&◌, ◌||◌, List, [], ◌∷◌, ◌++◌, Option, Some, None, refl, sym, subst, ap}
-use Rattle.std.specs.Prelude.{not, take, if◌then◌else◌}
-use Rattle.std.proofs.lemmas.Bool.{eqb-true, or_left, false_from_ne_true}
+use Rattle.std.proofs.Common.{◌≡◌, ℕ, ◌==◌, Bool, true, false, ◌&&◌, ◌||◌, List, [], ◌∷◌, Option, Some, None, refl, sym, subst, ap}
+use Rattle.std.specs.Prelude.{not}
+use Rattle.std.proofs.lemmas.Bool.{eqb-true, false_from_ne_true}
 use Rattle.dtx_values.specs.declared.entry.Entry.{Entry}
-use Rattle.dtx_values.specs.declared.entry.Entry.TheVariants.{Enlisted, CommitAsked, RollbackAsked, TimedOut, Voted, PromoteReply, Requested, OwnerAnswered, Decided, Told, PromotionFailed, Sent, Got, Cut, Down as End, Lost, LogFull, Stopped, Restarted}
+use Rattle.dtx_values.specs.declared.entry.Entry.TheVariants.{Enlisted, CommitAsked, RollbackAsked, TimedOut, Voted, PromoteReply, Requested, OwnerAnswered, Decided, Told, PromotionFailed, Sent, Got, Down as End, Lost, LogFull, Restarted}
 use Rattle.dtx_values.specs.declared.number.EnlNo.{EnlNo}
 use Rattle.dtx_values.specs.declared.entry.Request.TheVariants.{Abort}
 use Rattle.dtx_values.specs.declared.message.Conn.{Conn}
@@ -31,84 +31,16 @@ use Rattle.dtx_model.specs.History.{is_asked_in_time, is_committed, is_ending, i
 use Rattle.dtx_model.specs.Learned.{coordinator_aborted, is_abort, is_first_abort}
 use Rattle.dtx_model.specs.Outcome.{can_own, coordinator_doubt, doubt, enlisted, is_begin_end, is_empty, is_lost_owner, is_outcome_got, is_veto, is_veto_end, is_voter_end, owner_doubt}
 use Rattle.dtx_model.specs.Promotes.{ends_refused, ends_told, is_failed, is_refusal}
-use Rattle.dtx_model.specs.Wires.{WireRun, holds, is_ended, is_lost_wire, is_next, is_stopped, kept, in_transit, transit_after_stop, lost_since, opened_with, opens, sent_behind, is_open_wire, without_first}
-use Rattle.dtx_model.proofs.Bools.{and_left, and_right, and_both, or_case, or_false, or_first, or_second, or_right, not_both}
+use Rattle.dtx_model.specs.Wires.{WireRun, holds, is_ended, is_lost_wire, is_next, is_stopped, in_transit, lost_since, opens}
+use Rattle.dtx_model.proofs.Bools.{and_left, and_right, or_case, or_false, or_first, or_second, not_both}
 use Rattle.outcome_law.proofs.Rule.{is_decided}
 use Rattle.outcome_law.proofs.Going.{is_no_vote}
 use Rattle.outcome_law.proofs.Scans.{has_more, has_less}
 use Rattle.outcome_law.proofs.Settled.{asked_well}
-use Rattle.outcome_law.proofs.Whole.{is_sent_on, whole}
+use Rattle.outcome_law.proofs.Whole.{whole}
 use Rattle.outcome_law.proofs.Fine.{IsFine, any_class, blames, ends_aborted, ends_requested, has_cause, is_bad, is_bad_message, is_bad_outcome, is_caused, is_made, is_origin, is_restart}
 use Rattle.outcome_law.proofs.Arrived.{before, newest, unstopped, stays}
-
--- What is on the way was sent.
-shrinks : (p : Message → Bool) (n : ℕ) (ms : List Message) → has p (take n ms) ≡ true → has p ms ≡ true
-shrinks p zero ms k = absurd cc
-shrinks p (suc n) [] k = absurd cc
-shrinks p (suc n) (m ∷ ms) k = or_case (p m) (has p (take n ms)) (λ q. or_left (p m) (has p ms) q) (λ q. or_right (p m) (has p ms) (shrinks p n ms q)) k
-
-rest : (p : Message → Bool) (ms : List Message) → has p (without_first ms) ≡ true → has p ms ≡ true
-rest p [] k = k
-rest p (m ∷ ms) k = or_right (p m) (has p ms) k
-
--- one of two lists has what their list together has
-parted : (p : Message → Bool) (m : Message) (ms : List Message) → has p (ms ++ m ∷ []) ≡ true → (p m || has p ms) ≡ true
-parted p m [] k = k
-parted p m (x ∷ ms) k =
-    or_case (p x) (has p (ms ++ m ∷ [])) (λ q. or_right (p m) (p x || has p ms) (or_left (p x) (has p ms) q))
-    (λ q. or_case (p m) (has p ms) (λ a. or_left (p m) (p x || has p ms) a) (λ a. or_right (p m) (p x || has p ms) (or_right (p x) (has p ms) a)) (parted p m ms q)) k
-
--- the message of an opening is sent there
-opening_sent : (c e : Conn) (d r : Dir) (m : Message) (p : Message → Bool) (stop : Bool) → opens c (Sent e r m) ≡ true → has p (opened_with d m stop) ≡ true
-    → (same_connection c e && same_direction d r && p m) ≡ true
-opening_sent c e Up Up m p true o k = absurd cc
-opening_sent c e Up Up m p false o k = and_both (same_connection c e && true) (p m) (and_both (same_connection c e) true (and_left (same_connection c e) _ o) refl) (or_case (p m) false (λ q. q) (λ q. absurd cc) k)
-opening_sent c e Down Up m p stop o k = absurd cc
-opening_sent c e d Down m p stop o k = absurd cc
-
--- one more message that is sent
-sent_came : (p : Message → Bool) (m : Message) (o s t b rest : Bool) (new ms : List Message) → (o ≡ true → has p new ≡ true → (s && t && p m) ≡ true) → (has p ms ≡ true → rest ≡ true)
-    → has p (if o then new else if s && t then sent_behind b m ms else ms) ≡ true → ((s && t && p m) || rest) ≡ true
-sent_came p m true s t b rest new ms op ih k = or_left (s && t && p m) rest (op refl k)
-sent_came p m false true true true rest new ms op ih k = or_case (p m) (has p ms) (λ q. or_left (p m) rest q) (λ q. or_right (p m) rest (ih q)) (parted p m ms k)
-sent_came p m false true true false rest new ms op ih k = or_right (p m) rest (ih k)
-sent_came p m false true false b rest new ms op ih k = ih k
-sent_came p m false false t b rest new ms op ih k = ih k
-
--- what is got leaves no more on the way
-got_came : (p : Message → Bool) (s line t : Bool) (ms : List Message) → has p (if not s then ms else if not line then [] else if t then without_first ms else ms) ≡ true → has p ms ≡ true
-got_came p false line t ms k = k
-got_came p true false t ms k = absurd cc
-got_came p true true true ms k = rest p ms k
-got_came p true true false ms k = k
-
--- nor does a cut
-cut_came : (p : Message → Bool) (s : Bool) (n : ℕ) (ms : List Message) → has p (if s then take n ms else ms) ≡ true → has p ms ≡ true
-cut_came p true n ms k = shrinks p n ms k
-cut_came p false n ms k = k
-
--- what is on the way was sent
-pub came : (c : Conn) (d : Dir) (p : Message → Bool) (h : List Entry) → has p (in_transit c d h) ≡ true → has (is_sent_on c d p) h ≡ true
-came c d p [] k = absurd cc
-came c d p (Sent e r m ∷ h) k =
-    sent_came p m (opens c (Sent e r m)) (same_connection c e) (same_direction d r) (is_open_wire c h) (has (is_sent_on c d p) h) (opened_with d m (is_stopped h)) (in_transit c d h)
-    (opening_sent c e d r m p (is_stopped h)) (came c d p h) k
-came c d p (Got e r m ∷ h) k = came c d p h (got_came p (same_connection c e) (has_line e r m) (same_direction d r) (in_transit c d h) k)
-came c d p (Cut e u w ∷ h) k = came c d p h (cut_came p (same_connection c e) (kept d u w) (in_transit c d h) k)
-came c d p (Stopped ∷ h) k = came c d p h (stopped d (in_transit c d h) k)
-  where
-    stopped : (d : Dir) (ms : List Message) → has p (transit_after_stop d ms) ≡ true → has p ms ≡ true
-    stopped Up ms k = absurd cc
-    stopped Down ms k = k
-came c d p (x ∷ h) k = came c d p h k
-
--- what is got was sent
-pub got_sent : (c : Conn) (d : Dir) (m : Message) (p : Message → Bool) (h : List Entry) → is_next m (in_transit c d h) → p m ≡ true → has (is_sent_on c d p) h ≡ true
-got_sent c d m p h n k = came c d p h (first (in_transit c d h) n)
-  where
-    first : (ms : List Message) → is_next m ms → has p ms ≡ true
-    first [] n = absurd n
-    first (x ∷ ms) n = let P : Message → Type 0 = λ y. (p y || has p ms) ≡ true in subst P n (or_left (p m) (has p ms) k)
+use Rattle.outcome_law.proofs.Crossed.{is_sent_on, got_sent}
 
 -- Where nothing is severed no end comes.
 unlost : (c : Conn) (h : List Entry) → has (opens c) h ≡ false → lost_since c h ≡ None

@@ -21,7 +21,7 @@ use Rattle.dtx_model.specs.Tied.{is_tied}
 use Rattle.dtx_model.specs.Wires.{MayCross}
 use Rattle.dtx_model.specs.Answers.{has_promotion}
 use Rattle.dtx_model.proofs.Bools.{and_both, and_left, and_right, not_both, not_false, not_true, or_case, or_first, or_second}
-use Rattle.outcome_law.proofs.Tests.{third_of_four, first_of_three, second_of_three}
+use Rattle.outcome_law.proofs.Tests.{first_of_three, second_of_three}
 use Rattle.outcome_law.proofs.Scans.{each_more, has_less, has_more}
 use Rattle.outcome_law.proofs.Rule.{is_answer, is_enlisted, is_only}
 use Rattle.outcome_law.proofs.Going.{all_closed, enlisted_passes}
@@ -33,6 +33,7 @@ use Rattle.outcome_law.proofs.Recording.{promoted_if_sealed, yes_if_record}
 use Rattle.outcome_law.proofs.HalfRows.{evident_seen}
 use Rattle.outcome_law.proofs.HalfKnows.{way_seen}
 use Rattle.outcome_law.proofs.Deciding.{one_more}
+use Rattle.outcome_law.proofs.Evident.{owner_handed}
 
 -- each volatile that voted, voted yes or done
 abbrev pub is_willing : List Entry → EnlNo × Class → Bool
@@ -123,13 +124,6 @@ both_picked p q (x ∷ xs) n k = step (both_picked p q xs) (p x) n k
         → ((b && q x) && each (λ x. p x && q x) xs) ≡ true
     step ih true n k = and_both (q x) (each (λ x. p x && q x) xs) (and_left (q x) (each q (filter p xs)) k) (ih n (and_right (q x) (each q (filter p xs)) k))
     step ih false n k = absurd cc
-
--- an owner that committed was handed the commit
-owner_handed : (h : List Entry) (ds : List (EnlNo × Class)) → owner_committed h ds ≡ true → has is_any_hand h ≡ true
-owner_handed h [] t = absurd cc
-owner_handed h (x ∷ xs) t =
-    has_more (is_hand x.0.value) is_any_hand (hand_any x.0.value) h
-    (third_of_four (each (λ y. x.0.value == y.0.value) xs) (can_own x.1) (has (is_hand x.0.value) h) (has (is_owner x.0.value Committed) h) t)
 
 -- an owner that committed answered
 owner_answered : (h : List Entry) (ds : List (EnlNo × Class)) → owner_committed h ds ≡ true → has is_answer h ≡ true

@@ -29,14 +29,14 @@ use Rattle.dtx_model.specs.Caused.{same_vote}
 use Rattle.outcome_law.specs.Severed.{is_severing}
 use Rattle.dtx_model.proofs.Bools.{and_left, and_right, and_both, not_both, not_false, not_true, or_case, or_false, or_first, or_second, or_right}
 use Rattle.outcome_law.proofs.Tests.{eq_self}
-use Rattle.outcome_law.proofs.Connections.{same_is}
+use Rattle.dtx_model.proofs.Connections.{same_is}
 use Rattle.outcome_law.proofs.Scans.{has_less, has_more}
 use Rattle.outcome_law.proofs.Rule.{is_answer, is_enlisted}
 use Rattle.outcome_law.proofs.Going.{is_no_vote}
 use Rattle.outcome_law.proofs.Table.{is_abort_request, is_cast}
 use Rattle.outcome_law.proofs.Keeping.{Keeps, keeps_before, newest}
 use Rattle.outcome_law.proofs.Undecided.{Stands, goes_on}
-use Rattle.outcome_law.proofs.Whole.{is_got_on, is_sent_on, whole, whole_of}
+use Rattle.outcome_law.proofs.Whole.{whole, whole_of}
 use Rattle.outcome_law.proofs.Messages.{ABORT, BEGUN, NO, OUTCOME, PREPARE, VOTE}
 use Rattle.outcome_law.proofs.Fine.{IsFine, is_caused, is_origin}
 use Rattle.outcome_law.proofs.Debts.{is_volatile_made}
@@ -52,6 +52,7 @@ use Rattle.outcome_law.proofs.BeforeRows.{kept_sound}
 use Rattle.outcome_law.proofs.Unblamed.{open_unblamed}
 use Rattle.outcome_law.proofs.Ending.{IsGoingOn, IsUnended, is_local_end}
 use Rattle.outcome_law.proofs.Announced.{IsAnnounced}
+use Rattle.outcome_law.proofs.Crossed.{is_sent_on, is_got_on}
 
 -- What reaches the coordinator, and makes it abort: the request of an abort, and a durable's No; and where its log is full.
 abbrev pub is_core_end : Entry → Bool

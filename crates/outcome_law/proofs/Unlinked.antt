@@ -17,7 +17,7 @@ use Rattle.outcome_law.proofs.Lists.{has_kept, has-insert, if_kept}
 use Rattle.outcome_law.proofs.Owned.{has_filter}
 use Rattle.outcome_law.proofs.Scans.{has_more}
 use Rattle.outcome_law.proofs.HalfKnows.{unmapped}
-use Rattle.outcome_law.proofs.Crossed.{same_conn_is}
+use Rattle.dtx_model.proofs.Connections.{same_is}
 
 abbrev is_known_end : Conn → End → Bool
 is_known_end c n = is_end_of c n && not n.ended
@@ -89,7 +89,7 @@ noted_unknown c e (n ∷ ns) s = by (is_end_of e n) refl (noted_unknown c e ns s
         (false_from_ne_true (is_known_end c n) (λ t. not_both (is_end_of e n) (own (and_left (is_end_of c n) (not n.ended) t)) q)) ih
       where
         own : is_end_of c n ≡ true → is_end_of e n ≡ true
-        own t = let P : Conn → Type 0 = λ d. same_connection d n.connection ≡ true in subst P (same_conn_is c e s) t
+        own t = let P : Conn → Type 0 = λ d. same_connection d n.connection ≡ true in subst P (same_is c e s) t
 
 -- such an entry notes the end
 ends_unknown : (c : Conn) (x : Entry) (h : List Entry) → ends c Down x ≡ true → knows c (ends_of (x ∷ h)) ≡ false

@@ -65,7 +65,12 @@ use Rattle.outcome_law.proofs.Deciding.{stays}
 use Rattle.outcome_law.proofs.Undecided.{way_unsealed}
 use Rattle.outcome_law.proofs.Leading.{none_again}
 use Rattle.outcome_law.proofs.CoreKnown.{got_there}
-use Rattle.outcome_law.proofs.CalmBlocks.{Calm, Seals, act_kind, calm_arrived, calm_called, calm_commit_sent, calm_cons, calm_coordinates, calm_core_got, calm_ended_at, calm_one, calm_reply, calm_restarted, is_enlist, is_mild, is_slow}
+use Rattle.outcome_law.proofs.CalmBlocks.{Calm, Seals, act_kind, calm_arrived, calm_called, calm_commit_sent, calm_cons, calm_coordinates, calm_core_got, calm_ended_at, calm_one, calm_reply, calm_restarted, is_slow}
+use Rattle.outcome_law.proofs.Messages.{ENLIST}
+use Rattle.outcome_law.proofs.DecidingBlocks.{is_kept}
+use Rattle.dtx_model.proofs.Quiet.{takes_next}
+use Rattle.outcome_law.proofs.ComingRuns.{is_placed}
+use Rattle.outcome_law.proofs.Waiters.{own_call}
 
 never : false ≡ true → ⊥
 never e = absurd cc
@@ -94,7 +99,7 @@ one_came c d p (Cut e u w) h k = cut_came p (same_connection c e) (kept d u w) (
 one_came c d p Stopped h k = stopped_came p d (in_transit c d h) k
 one_came c d p x h k = k
 
-not_opening : (e : EnlNo) (m : Message) → not (is_enlist m) ≡ true → is_opening (Enl e) m ≡ false
+not_opening : (e : EnlNo) (m : Message) → not (ENLIST m) ≡ true → is_opening (Enl e) m ≡ false
 not_opening e (EnlistEnlist i) t = absurd cc
 not_opening e _ t = refl
 
@@ -122,7 +127,7 @@ late_more x h s l t e =
     let before = or_case (is_sealed x) (has is_sealed h) (λ a. absurd (slow_unsealed x s a)) (λ a. a) t in
     false_from_ne_true (is_coming e (x ∷ h)) (λ a. not_both (is_coming e h) (coming_slow e x h s a) (l before e))
 
-mild_place : (ks : List EnteredCall) (x : Entry) (h : List Entry) (e : EnlNo) → is_slow x ≡ true → is_mild x ≡ true → has_place (waiting ks h) h e ≡ true → has_place (waiting ks (x ∷ h)) (x ∷ h) e ≡ true
+mild_place : (ks : List EnteredCall) (x : Entry) (h : List Entry) (e : EnlNo) → is_slow x ≡ true → is_kept x ≡ true → has_place (waiting ks h) h e ≡ true → has_place (waiting ks (x ∷ h)) (x ∷ h) e ≡ true
 mild_place ks (Called n a x) h e s m t = absurd (never s)
 mild_place ks (Promoting c) h e s m t = absurd (never s)
 mild_place ks (Promoted u c) h e s m t = absurd (never s)
@@ -130,7 +135,7 @@ mild_place ks (Answered n x) h e s m t = absurd (never m)
 mild_place ks PromotionFailed h e s m t = absurd (never m)
 mild_place ks x h e s m t = t
 
-mild_coming : (ks : List EnteredCall) (x : Entry) (h : List Entry) → is_slow x ≡ true → is_mild x ≡ true → IsComing ks h → IsComing ks (x ∷ h)
+mild_coming : (ks : List EnteredCall) (x : Entry) (h : List Entry) → is_slow x ≡ true → is_kept x ≡ true → IsComing ks h → IsComing ks (x ∷ h)
 mild_coming ks x h s m k =
     record {
       placed = λ d e c. mild_place ks x h e s m (k.placed (or_second (is_decision x) (has is_decision h) d) e (coming_slow e x h s c));
@@ -138,11 +143,11 @@ mild_coming ks x h s m k =
     }
 
 -- with a calm block
-all_mild : (ks : List EnteredCall) (h es : List Entry) → each is_slow es ≡ true → each is_mild es ≡ true → IsComing ks h → IsComing ks (onto h es)
+all_mild : (ks : List EnteredCall) (h es : List Entry) → each is_slow es ≡ true → each is_kept es ≡ true → IsComing ks h → IsComing ks (onto h es)
 all_mild ks h [] s m k = k
 all_mild ks h (x ∷ es) s m k =
-    all_mild ks (x ∷ h) es (and_right (is_slow x) (each is_slow es) s) (and_right (is_mild x) (each is_mild es) m)
-    (mild_coming ks x h (and_left (is_slow x) (each is_slow es) s) (and_left (is_mild x) (each is_mild es) m) k)
+    all_mild ks (x ∷ h) es (and_right (is_slow x) (each is_slow es) s) (and_right (is_kept x) (each is_kept es) m)
+    (mild_coming ks x h (and_left (is_slow x) (each is_slow es) s) (and_left (is_kept x) (each is_kept es) m) k)
 
 all_late : (h es : List Entry) → each is_slow es ≡ true → (has is_sealed h ≡ true → (e : EnlNo) → is_coming e h ≡ false) → has is_sealed (onto h es) ≡ true → (e : EnlNo) → is_coming e (onto h es) ≡ false
 all_late h [] s l = l
@@ -154,7 +159,7 @@ stands_onto p h (x ∷ es) t = or_case (p x) (has p es) (λ a. stays p (x ∷ h)
 
 pub calm_coming : (ks : List EnteredCall) (h es : List Entry) → Calm es → IsComing ks h → IsComing ks (onto h es)
 calm_coming ks h es c k =
-    or_case (has is_decision es) (each is_mild es)
+    or_case (has is_decision es) (each is_kept es)
     (λ d. record { placed = λ n e t. absurd (not_both (has is_decision (onto h es)) (stands_onto is_decision h es d) n); late = all_late h es c.slow k.late })
     (λ m. all_mild ks h es c.slow m k) c.rest
 
@@ -262,25 +267,20 @@ places_left ks n w e ws own o f t =
     left_there n (is_place_of e) ws
     (of-more (IsOwn ks) (λ v. (n == v.0) ≡ true → is_place_of e v ≡ false) (λ v i q. place_not e v w (same_line ks n w v o i q) f) ws own) t
 
--- The handover is over: each call that waits for the identifier is answered, and for each other its ENLIST is sent.
-abbrev is_kept_place : List Waiter → Waiter → Bool
-is_kept_place ws (n, Identifier) = true
-is_kept_place ws (n, Place e r c) = has (is_place_of e.value) ws
-
-kept_more : (us ws : List Waiter) (v : Waiter) → ((e : ℕ) → has (is_place_of e) us ≡ true → has (is_place_of e) ws ≡ true) → is_kept_place us v ≡ true → is_kept_place ws v ≡ true
+kept_more : (us ws : List Waiter) (v : Waiter) → ((e : ℕ) → has (is_place_of e) us ≡ true → has (is_place_of e) ws ≡ true) → is_placed us v ≡ true → is_placed ws v ≡ true
 kept_more us ws (n, Identifier) f t = refl
 kept_more us ws (n, Place e r c) f t = f e.value t
 
-all_kept : (us ws : List Waiter) → ((e : ℕ) → has (is_place_of e) us ≡ true → has (is_place_of e) ws ≡ true) → each (is_kept_place ws) us ≡ true
+all_kept : (us ws : List Waiter) → ((e : ℕ) → has (is_place_of e) us ≡ true → has (is_place_of e) ws ≡ true) → each (is_placed ws) us ≡ true
 all_kept [] ws f = refl
-all_kept (v ∷ us) ws f = and_both (is_kept_place ws v) (each (is_kept_place ws) us) (own v f) (all_kept us ws (λ e t. f e (or_right (is_place_of e v) (has (is_place_of e) us) t)))
+all_kept (v ∷ us) ws f = and_both (is_placed ws v) (each (is_placed ws) us) (own v f) (all_kept us ws (λ e t. f e (or_right (is_place_of e v) (has (is_place_of e) us) t)))
   where
-    own : (v : Waiter) → ((e : ℕ) → has (is_place_of e) (v ∷ us) ≡ true → has (is_place_of e) ws ≡ true) → is_kept_place ws v ≡ true
+    own : (v : Waiter) → ((e : ℕ) → has (is_place_of e) (v ∷ us) ≡ true → has (is_place_of e) ws ≡ true) → is_placed ws v ≡ true
     own (n, Identifier) f = refl
     own (n, Place e r c) f = f e.value (or_left (e.value == e.value) (has (is_place_of e.value) us) (eq_self e.value))
 
 given_coming : (ks : List EnteredCall) (t : ℕ) (vs : List Waiter) (h : List Entry) → has is_sealed h ≡ false → ((e : EnlNo) → is_coming e h ≡ true → has (is_place_of e.value) (waiting ks h) ≡ true)
-    → OfEach (IsOwn ks) vs → each (is_kept_place (waiting ks h)) vs ≡ true → IsComing ks (onto h (flat_map (given t) vs))
+    → OfEach (IsOwn ks) vs → each (is_placed (waiting ks h)) vs ≡ true → IsComing ks (onto h (flat_map (given t) vs))
 given_coming ks t [] h s all own kept =
     record {
       placed = λ d e c. or_left (has (is_place_of e.value) (waiting ks h)) (is_under_way h && is_handed (handover h) e.value) (all e c);
@@ -291,15 +291,15 @@ given_coming ks t ((n, Identifier) ∷ vs) h s all own kept =
     let after = filter (λ v. not (n == v.0)) ws in
     let left : (e : ℕ) → has (is_place_of e) ws ≡ true → has (is_place_of e) after ≡ true = λ e a. places_left ks n Identifier e ws (all_own ks h) own.0 refl a in
     given_coming ks t vs (Answered n (Id (identifier_of t)) ∷ h) s (λ e c. left e.value (all e c)) own.1
-    (each_more (is_kept_place ws) (is_kept_place after) (λ v a. kept_more ws after v left a) vs kept)
+    (each_more (is_placed ws) (is_placed after) (λ v a. kept_more ws after v left a) vs kept)
 given_coming ks t ((n, Place e r c) ∷ vs) h s all own kept =
     let x : Entry = Sent (Enl e) Up (EnlistEnlist (info t e r)) in
     let ws = waiting ks h in
     given_coming ks t vs (x ∷ h) s
     (λ f q. or_case (is_sent_on (Enl f) Up (is_opening (Enl f)) x) (is_coming f h)
-    (λ a. let P : EnlNo → Type 0 = λ y. has (is_place_of y.value) ws ≡ true in subst P (same_sent e f t r a) (and_left (has (is_place_of e.value) ws) (each (is_kept_place ws) vs) kept)) (λ a. all f a)
+    (λ a. let P : EnlNo → Type 0 = λ y. has (is_place_of y.value) ws ≡ true in subst P (same_sent e f t r a) (and_left (has (is_place_of e.value) ws) (each (is_placed ws) vs) kept)) (λ a. all f a)
     (one_came (Enl f) Up (is_opening (Enl f)) x h q)) own.1
-    (and_right (has (is_place_of e.value) ws) (each (is_kept_place ws) vs) kept)
+    (and_right (has (is_place_of e.value) ws) (each (is_placed ws) vs) kept)
 
 over_coming : (ks : List EnteredCall) (t : ℕ) (h : List Entry) (o : Option Cause) → has is_sealed h ≡ false → ((e : EnlNo) → is_coming e h ≡ true → has (is_place_of e.value) (waiting ks h) ≡ true)
     → IsComing ks (onto h (promoted_by t o ++ flat_map (given t) (waiting ks h)))
@@ -471,9 +471,6 @@ waits_unsealed : (t : ℕ) (w : World) (u : TxNo) (e : EnlNo) (r : RmNo) (s : Su
 unfolding answer_at local_answer observe
 waits_unsealed t w u e r s m q = late_wait (half w).seen.limit (half w).seen.decided (has is_sealed w.past) _ q
 
-own_call : (n : ℕ) (a : ActorNo) (c : Call) (ks : List EnteredCall) → call_at (record { line = n; actor = a; call = c } ∷ ks) n ≡ Some c
-own_call n a c ks = rw (eq_self n) refl
-
 call_coming : (t : ℕ) (w : World) (n : ℕ) (a : ActorNo) (c : Call) (m : ℕ) → IsComing (record { line = n; actor = a; call = c } ∷ w.calls) (Called n a (answer_at t w c m) ∷ w.past)
     → IsComing (record { line = n; actor = a; call = c } ∷ w.calls) (onto (Called n a (answer_at t w c m) ∷ w.past) (facts_if (has_facts (answer_at t w c m)) (facts_at t w c (answer_at t w c m))))
 unfolding observe
@@ -497,11 +494,6 @@ call_coming t w n a (Durable u e r s) m k =
 call_coming t w n a c m k =
     calm_coming (record { line = n; actor = a; call = c } ∷ w.calls) (Called n a (answer_at t w c m) ∷ w.past) (facts_if (has_facts (answer_at t w c m)) (facts_at t w c (answer_at t w c m)))
     (calm_called t w c (answer_at t w c m) refl) k
-
--- The deliveries.
-pub takes_next : (m : Message) (ms ns : List Message) → ns ≡ m ∷ ms → is_next m ns
-takes_next m ms [] e = absurd cc
-takes_next m ms (n ∷ ns) e = cc
 
 down_keeps : (c : Conn) (m : Message) (h : List Entry) → Keeps h → is_next m (in_transit c Down h) → Keeps (Got c Down m ∷ h)
 down_keeps (Enl e) m h k n = record { rules = k.rules; ties = k.ties; wires = (n, k.wires) }

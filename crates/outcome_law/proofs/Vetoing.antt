@@ -33,10 +33,11 @@ use Rattle.outcome_law.proofs.Rule.{is_enlisted}
 use Rattle.outcome_law.proofs.Rules.{decided_same}
 use Rattle.outcome_law.proofs.Table.{but_failed, calls_off, ends_called_off, ends_with, is_abort_decided, is_abort_request, is_cast, is_lost_there, is_there, message_row, rule, stands_promotable, stands_volatile}
 use Rattle.outcome_law.proofs.Keeping.{Keeps, before, keeps_before, newest}
-use Rattle.outcome_law.proofs.Crossed.{got_sent, is_sent_on, same_conn_is, same_way_is}
+use Rattle.outcome_law.proofs.Crossed.{got_sent, is_sent_on}
 use Rattle.outcome_law.proofs.Sendings.{aborted_by_got, aborted_more, end_promoting, got_line, got_promoting, promoted_if_commit}
 use Rattle.outcome_law.proofs.Recording.{can_commit, got_calm, promoting_if_promoted, stopped_stop}
 use Rattle.outcome_law.proofs.Evident.{asked_volatile, unrecorded_open, unvoted_open}
+use Rattle.dtx_model.proofs.Connections.{same_is, same_way_is}
 
 -- a veto stays, and a first one is one
 pub veto_more : (x : Entry) (h : List Entry) → vetoed h ≡ true → vetoed (x ∷ h) ≡ true
@@ -64,7 +65,7 @@ is_veto_sent _ = false
 sent_veto : (c : Conn) (x : Entry) → is_sent_on c Up (is_veto_message c) x ≡ true → is_veto_sent x ≡ true
 sent_veto c (Sent e r m) t =
     let both = and_left (same_connection c e && same_direction Up r) (is_veto_message c m) t in
-    let conn : c ≡ e = same_conn_is c e (and_left (same_connection c e) (same_direction Up r) both) in
+    let conn : c ≡ e = same_is c e (and_left (same_connection c e) (same_direction Up r) both) in
     let way : Up ≡ r = same_way_is Up r (and_right (same_connection c e) (same_direction Up r) both) in
     let P : Conn → Type 0 = λ y. is_veto_message y m ≡ true in
     let Q : Dir → Type 0 = λ y. is_veto_sent (Sent e y m) ≡ true in

@@ -54,6 +54,7 @@ use Rattle.outcome_law.proofs.Scans.{each_more}
 use Rattle.outcome_law.proofs.Tests.{eq_self}
 use Rattle.outcome_law.proofs.OnTheWay.{durable_waits, is_on_its_way, over_waits, waits_stay}
 use Rattle.outcome_law.proofs.PlainBlocks.{Plain, is_plain, plain_act, plain_arrived, plain_begin_promotion, plain_called, plain_coordinates, plain_core_got, plain_ended_at, plain_reply, plain_restarted}
+use Rattle.dtx_model.proofs.Writes.{may_begin}
 
 abbrev pub AreOnTheWay : List EnteredCall → List Entry → Type 0
 AreOnTheWay ks h = has is_promoted h ≡ true → each (is_on_its_way h) (waiting ks h) ≡ true
@@ -235,14 +236,8 @@ pub promotable_gives : (t : ℕ) (w : World) (u : TxNo) (e : EnlNo) (r : RmNo) (
 unfolding answer_at local_answer
 promotable_gives t w u e r v x p m = (promotable_given w).proof
 
--- the call may wait
-abbrev pub may_wait : Call → Bool
-may_wait (Durable u e r s) = true
-may_wait (Marshal u) = true
-may_wait _ = false
-
 -- no call waits but a durable or marshal call
-other_given : (t : ℕ) (w : World) (c : Call) (m : ℕ) → may_wait c ≡ false → Gives (answer_at t w c m)
+other_given : (t : ℕ) (w : World) (c : Call) (m : ℕ) → may_begin c ≡ false → Gives (answer_at t w c m)
 unfolding answer_at local_answer
 other_given t w (Begin u d) m n = sure refl
 other_given t w (Volatile u e x v) m n = volatile_given w
@@ -268,7 +263,7 @@ other_given t w (Recovered u r) m n =
     (gives_if (not (has (λ b. b.enlisted) (branches_by w r.value))) (sure refl)
     (gives_if (is_in r.value (core w).recovered) (sure refl) (gives_connected (find (is_unfinished_link w) (branches_by w r.value)) (gives_stopped w))))
 
-pub other_gives : (t : ℕ) (w : World) (c : Call) (m : ℕ) → may_wait c ≡ false → is_waiting_answer (answer_at t w c m) ≡ false
+pub other_gives : (t : ℕ) (w : World) (c : Call) (m : ℕ) → may_begin c ≡ false → is_waiting_answer (answer_at t w c m) ≡ false
 other_gives t w c m n = (other_given t w c m n).proof
 
 -- and a marshal call doesn't where it is promoted or sealed

@@ -47,7 +47,8 @@ use Rattle.outcome_law.proofs.Owned.{decision_seen}
 use Rattle.outcome_law.proofs.OnTheWay.{each_but}
 use Rattle.outcome_law.proofs.PlainBlocks.{Plain, is_plain, plain_act, plain_coordinates, plain_reply, plain_restarted}
 use Rattle.outcome_law.proofs.DecidingBlocks.{are_answered, kept_act, kept_arrived, kept_called, kept_coordinates, kept_core_got, kept_ended_at, kept_reply, kept_restarted}
-use Rattle.outcome_law.proofs.Waiters.{decided_gives, is_waiting_answer, may_wait, other_gives, waits_as}
+use Rattle.dtx_model.proofs.Writes.{may_begin}
+use Rattle.outcome_law.proofs.Waiters.{decided_gives, is_waiting_answer, other_gives, waits_as}
 use Rattle.outcome_law.proofs.WaitingApart.{PassesGiven, created_pass, enlisted_pass, idle_call, idle_delivered, is_idle}
 
 -- once it is decided no call waits
@@ -142,7 +143,7 @@ open_marshal : (h : Half) (b : Bool) → has is_decision (if b then [] else begi
 open_marshal h true = refl
 open_marshal h false = open_begin h (Some MarshalCause)
 
-open_wait : (t : ℕ) (w : World) (c : Call) (x : Answer) → may_wait c ≡ true → is_waiting_answer x ≡ true → has is_decision (facts_if (has_facts x) (facts_at t w c x)) ≡ false
+open_wait : (t : ℕ) (w : World) (c : Call) (x : Answer) → may_begin c ≡ true → is_waiting_answer x ≡ true → has is_decision (facts_if (has_facts x) (facts_at t w c x)) ≡ false
 open_wait t w (Durable u e r s) Wait p q = open_durable t (half w) e r (is_single s)
 open_wait t w (Marshal u) Wait p q = open_marshal (half w) (is_promoting (half w).seen)
 open_wait t w (Durable u e r s) x p q = absurd cc
@@ -170,7 +171,7 @@ called_over t w n a c m new o = by (is_waiting_answer x) refl
     by true q = λ d.
         let undecided : has is_decision w.past ≡ false =
         false_from_ne_true (has is_decision w.past) (λ k. not_both (is_waiting_answer x) q (decided_gives t w c m (decision_seen w.past ∙ k))) in
-        let may : may_wait c ≡ true = true_from_ne_false (may_wait c) (λ k. not_both (is_waiting_answer x) q (other_gives t w c m k)) in
+        let may : may_begin c ≡ true = true_from_ne_false (may_begin c) (λ k. not_both (is_waiting_answer x) q (other_gives t w c m k)) in
         absurd (not_both (has is_decision (onto w.past (Called n a x ∷ es))) d
         (has-onto is_decision w.past (Called n a x ∷ es) ∙ or_false (has is_decision es) (has is_decision w.past) (open_wait t w c x may q) undecided))
     by false q =

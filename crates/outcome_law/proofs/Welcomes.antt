@@ -16,24 +16,24 @@ use Rattle.dtx_values.specs.Lines.{has_line, is_opening}
 use Rattle.dtx_model.specs.Words.{always, each, has, onto}
 use Rattle.dtx_model.specs.Promotes.{identifier_of, is_begun_got, is_created_got, is_enlisted_got}
 use Rattle.dtx_model.specs.Wires.{MayCross, in_transit, is_next, is_open_wire, opens, sent_behind, without_first}
-use Rattle.dtx_model.specs.Coordinated.{Coordinated, coordinate, core_got, follow, has_aborted, is_recorded, opening_answer, to}
+use Rattle.dtx_model.specs.Coordinated.{Coordinated, coordinate, core_got, follow, has_aborted, is_recorded, opening_answer, to, may_log}
 use Rattle.dtx_model.specs.World.{World, answer_at, core, facts_at, half}
 use Rattle.dtx_model.specs.Facts.{facts_if, has_facts}
 use Rattle.dtx_model.specs.Replies.{reply_entries}
 use Rattle.dtx_model.specs.Acts.{act_entries}
 use Rattle.dtx_model.specs.Arrivals.{local_got}
 use Rattle.dtx_model.specs.Steps.{Step, Calls, Replies, Acts, Coordinates, Delivers, Stops, Restarts, after, block_at, coordinates, delivered, ended_at, restarted}
-use Rattle.dtx_model.specs.Coordinated.{may_log}
 use Rattle.dtx_model.proofs.Bools.{and_both, and_left, and_right, not_both, not_false, not_true, or_case, or_false, or_right}
 use Rattle.outcome_law.proofs.Tests.{eq_self}
 use Rattle.outcome_law.proofs.Lists.{has-behind}
 use Rattle.outcome_law.proofs.Scans.{has_less}
 use Rattle.outcome_law.proofs.Table.{ends_with, is_opening_got}
 use Rattle.outcome_law.proofs.Keeping.{Keeps, keeps_before}
-use Rattle.outcome_law.proofs.Crossed.{came, is_got_on, is_sent_on, same_conn_is, was_sent}
-use Rattle.outcome_law.proofs.Leading.{is_single, none_again}
+use Rattle.outcome_law.proofs.Crossed.{came, is_got_on, is_sent_on, was_sent}
+use Rattle.outcome_law.proofs.Leading.{is_single, none_again, next_stands}
 use Rattle.outcome_law.proofs.CoreKnown.{sent_opened_there}
 use Rattle.outcome_law.proofs.StillBlocks.{Still, is_still, is_welcome, st_act, st_appended, st_called, st_cons, st_core_got, st_ended_at, st_freed, st_if, st_local_got, st_none, st_one, st_reply, st_restarted, st_to}
+use Rattle.dtx_model.proofs.Connections.{same_is}
 
 -- an answer is sent directly after the message that opened its connection
 abbrev pub is_direct : List Entry → Entry → Bool
@@ -207,10 +207,6 @@ o_cut : (g s : Bool) (n : ℕ) (ms : List Message) → IsOnce g ms → IsOnce g 
 o_cut g false n ms i = i
 o_cut g true n ms i = record { none = λ t. taken_none n ms (i.none t); one = taken_one n ms i.one }
 
-next_stands : (p : Message → Bool) (m : Message) (ms : List Message) → is_next m ms → p m ≡ true → has p ms ≡ true
-next_stands p m [] n t = absurd n
-next_stands p m (x ∷ ms) n t = let P : Message → Type 0 = λ y. (p y || has p ms) ≡ true in subst P n (or_left (p m) (has p ms) t)
-
 -- directly after the message that opened the connection nothing was sent downward on it
 no : false ≡ true → ⊥
 no e = absurd cc
@@ -222,7 +218,7 @@ unsent_there c p (x ∷ h) s k e = by x k e
     by : (x : Entry) → Keeps (x ∷ h) → is_opening_got c x ≡ true → has (is_sent_on c Down p) (x ∷ h) ≡ false
     by (Got d Up n) k e =
         let q = and_left (same_connection c d) (is_opening d n) e in
-        let same : c ≡ d = same_conn_is c d q in
+        let same : c ≡ d = same_is c d q in
         let P : Conn → Type 0 = λ y. is_opening y n ≡ true in
         let N : Conn → Type 0 = λ y. is_next n (in_transit y Up h) in
         let past = keeps_before (Got d Up n) h k in
@@ -233,7 +229,7 @@ unsent_there c p (x ∷ h) s k e = by x k e
 first_answer : (c e : Conn) (r : Dir) (m : Message) (h : List Entry) → is_single c ≡ true → Keeps h → is_direct h (Sent e r m) ≡ true → is_welcome m ≡ true → (same_connection c e && same_direction Down r) ≡ true
     → (has (is_got_on c Down is_welcome) h ≡ false) × (has is_welcome (in_transit c Down h) ≡ false)
 first_answer c e Down m h s k d w q =
-    let same : c ≡ e = same_conn_is c e (and_left (same_connection c e) true q) in
+    let same : c ≡ e = same_is c e (and_left (same_connection c e) true q) in
     let P : Conn → Type 0 = λ y. ends_with (is_opening_got y) h ≡ true in
     let ends = subst P (sym same) (or_case (not (is_welcome m)) (ends_with (is_opening_got e) h) (λ a. absurd (not_both (is_welcome m) w (not_true (is_welcome m) a))) (λ a. a) d) in
     let none = unsent_there c is_welcome h s k ends in (
@@ -267,7 +263,7 @@ welcomes c (Got e Down m ∷ h) s k a =
     let P : Bool → Type 0 = λ b. IsOnce (b || g) (if not (same_connection c e) then ms else if not (has_line e Down m) then [] else without_first ms) in
     let N : Conn → Type 0 = λ y. is_next m (in_transit y Down h) in
     subst P (sym (and_same (same_connection c e) (is_welcome m)))
-    (o_got g (same_connection c e) (has_line e Down m) (is_welcome m) m ms (λ q. subst N (sym (same_conn_is c e q)) k.wires.0) refl (welcomes c h s (keeps_before (Got e Down m) h k) a))
+    (o_got g (same_connection c e) (has_line e Down m) (is_welcome m) m ms (λ q. subst N (sym (same_is c e q)) k.wires.0) refl (welcomes c h s (keeps_before (Got e Down m) h k) a))
 welcomes c (Got e Up m ∷ h) s k a =
     let g = has (is_got_on c Down is_welcome) h in
     let ms = in_transit c Down h in

@@ -1,29 +1,15 @@
 -- What was sent and got on a connection, the rows of the table of rules on openings, and what they say of a history in which no connection is cut and the coordinator doesn't stop.
-use Rattle.std.proofs.Common.{◌≡◌, Bool, true, false, ◌&&◌, ◌||◌, List, [], ◌∷◌, refl}
+use Rattle.std.proofs.Common.{◌≡◌, Bool, true, false, ◌||◌, List, [], ◌∷◌, refl}
 use Rattle.std.specs.Prelude.{not, if◌then◌else◌}
 use Rattle.dtx_values.specs.declared.entry.Entry.{Entry}
 use Rattle.dtx_values.specs.declared.entry.Entry.TheVariants.{Sent, Got, Cut, Stopped}
-use Rattle.dtx_values.specs.declared.message.Conn.{Conn}
-use Rattle.dtx_values.specs.declared.message.Dir.{Dir}
-use Rattle.dtx_values.specs.declared.message.Message.{Message}
 use Rattle.dtx_values.specs.Lines.{has_line}
-use Rattle.dtx_values.specs.Ends.{same_connection, same_direction}
 use Rattle.dtx_model.specs.Words.{has, always}
 use Rattle.dtx_model.specs.Wires.{opens}
 use Rattle.dtx_model.specs.History.{is_loss}
 use Rattle.outcome_law.specs.Severed.{is_severing}
 use Rattle.dtx_model.proofs.Bools.{and_both, and_left, and_right, or_first, or_second}
 use Rattle.outcome_law.proofs.Scans.{has_less}
-
--- a message that passes was sent on this connection in this direction
-abbrev pub is_sent_on : Conn → Dir → (Message → Bool) → Entry → Bool
-is_sent_on c d p (Sent e r m) = same_connection c e && same_direction d r && p m
-is_sent_on c d p _ = false
-
--- a message that passes was got on this connection in this direction
-abbrev pub is_got_on : Conn → Dir → (Message → Bool) → Entry → Bool
-is_got_on c d p (Got e r m) = same_connection c e && same_direction d r && p m
-is_got_on c d p _ = false
 
 -- Rows of the table of rules: a connection is opened again only where one was cut or the coordinator stopped, what else is sent is sent where it was opened, and what is got has a line.
 abbrev pub is_opened_once : List Entry → Entry → Bool

@@ -1,7 +1,6 @@
 -- The local act keeps the table, promoted or not.
 use Rattle.std.proofs.Common.{◌≡◌, ℕ, ◌+◌, ◌==◌, Bool, true, false, ◌&&◌, ◌||◌, List, [], ◌∷◌, ◌++◌, Option, Some, None, refl, ◌∙◌, ap, sym, arith}
-use Rattle.std.specs.Prelude.{filter, find, is_some, length, not, if◌then◌else◌}
-use Rattle.std.specs.List.{slice_get}
+use Rattle.std.specs.Prelude.{find, is_some, length, not, if◌then◌else◌}
 use Rattle.std.proofs.lemmas.Bool.{false_from_ne_true, or_left}
 use Rattle.std.proofs.lemmas.Bool.Decides.{nat_tests}
 use Rattle.dtx_values.specs.declared.entry.Ask.TheVariants.{Prepare, Promote, Single}
@@ -14,8 +13,6 @@ use Rattle.dtx_values.specs.declared.message.Message.TheVariants.{BeginCommit, V
 use Rattle.dtx_values.specs.declared.number.EnlNo.{EnlNo}
 use Rattle.dtx_values.specs.declared.number.RmNo.{RmNo}
 use Rattle.dtx_values.specs.declared.row.Row.{Row}
-use Rattle.dtx_values.specs.declared.words.Class.{Class}
-use Rattle.dtx_values.specs.declared.words.Class.TheVariants.{Zero, One, DurableTwo, DurableSingle, Promotable}
 use Rattle.dtx_values.specs.declared.words.Outcome.{Outcome}
 use Rattle.dtx_values.specs.declared.words.Outcome.TheVariants.{Committed, Aborted, InDoubt}
 use Rattle.dtx_values.specs.Class.{is_class, is_volatile}
@@ -26,7 +23,7 @@ use Rattle.dtx_values.specs.Row.{is_marked}
 use Rattle.dtx_values.specs.Waves.{all_voted, hears, is_over, may_be_asked, name_of, next_ask, zeros_voted}
 use Rattle.dtx_model.specs.declared.listener.Listener.{Listener}
 use Rattle.dtx_model.specs.Words.{all_of, each, has, latest, onto}
-use Rattle.dtx_model.specs.Entries.{clone_of, decision_of, handed_of, is_any_hand, is_asked, is_commit, is_decision, is_good_vote, is_promoted, is_sealed, is_vote, is_yes, same_outcome}
+use Rattle.dtx_model.specs.Entries.{clone_of, decision_of, handed_of, is_any_hand, is_asked, is_commit, is_decision, is_good_vote, is_promoted, is_sealed, is_vote, is_yes}
 use Rattle.dtx_model.specs.Observed.{clone_rows, ends_of, is_ask_single, listeners, observe, rows}
 use Rattle.dtx_model.specs.Outcome.{by_log, by_owner, by_seal, durables, enlisted, evidence, hears_doubt, is_complete, is_empty, ready, volatiles, voters}
 use Rattle.dtx_model.specs.Promotes.{is_promoting, is_under_way}
@@ -35,12 +32,12 @@ use Rattle.dtx_model.specs.Half.{decide, fails_if, to_up, is_promoting as sees_p
 use Rattle.dtx_model.specs.Acts.{act_by, act_entries, after_seal, ask_or, asked_act, commit_act, commit_sent, hears_abort, is_to_tell, promotable_in, promoted_act, sealed_act, tell, unasked_promotable, undecided_act, under_way, voter_act, yes_act}
 use Rattle.dtx_model.specs.World.{World, half}
 use Rattle.dtx_model.proofs.Bools.{and_both, and_left, and_right, not_both, not_false, not_true, or_right, three_hold}
-use Rattle.outcome_law.proofs.Tests.{eq_self, five_hold}
+use Rattle.outcome_law.proofs.Tests.{five_hold}
 use Rattle.outcome_law.proofs.Scans.{each_both}
-use Rattle.outcome_law.proofs.Picks.{each_from_at, found_well, has-at, none_each, passes}
+use Rattle.outcome_law.proofs.Picks.{each_from_at, found_well, none_each, passes}
 use Rattle.outcome_law.proofs.Rule.{all_complete, is_certain, is_decided, is_only, zeros_cast}
 use Rattle.outcome_law.proofs.Rules.{undecided}
-use Rattle.outcome_law.proofs.Owned.{any_hand_seen, has_rows, volatile_hears}
+use Rattle.outcome_law.proofs.Owned.{any_hand_seen, volatile_hears}
 use Rattle.outcome_law.proofs.Going.{all_closed}
 use Rattle.outcome_law.proofs.Table.{decision_row, ends_again, ends_with, hears_decision, hears_here, is_again, is_ask_got, is_settled_there, rule, stands_volatile, volatiles_well}
 use Rattle.outcome_law.proofs.Keeping.{Keeps}
@@ -51,16 +48,11 @@ use Rattle.outcome_law.proofs.HalfOwner.{owner_none, owner_only}
 use Rattle.outcome_law.proofs.Deciding.{decide_decides, decide_keeps, decided_there, seen_half}
 use Rattle.outcome_law.proofs.Undecided.{Stands, decided_stand, goes_on, is_willing, promotes_on, stand, way_unsealed}
 use Rattle.outcome_law.proofs.HalfReplies.{to_up_stands}
+use Rattle.outcome_law.proofs.Acts.{same_self, close_step, shut_step, each_filter, asked_volatile, row_volatile}
 
 -- the history doesn't end with a message on the connection of a reenlistment: what it brings is told in its block
 abbrev pub IsToldOn : List Entry → Type 0
 IsToldOn h = (e : ℕ) → ends_with (is_again e) h ≡ false
-
--- Telling.
-same_self : (x : Outcome) → same_outcome x x ≡ true
-same_self Committed = refl
-same_self Aborted = refl
-same_self InDoubt = refl
 
 told_on : (h : List Entry) (p : Party) → IsToldOn h → ends_again h p ≡ false
 told_on h Client t = refl
@@ -94,25 +86,6 @@ tell_stands h x (Some l) t k e d w = stand (Told (Enl l.enlistment) x) h refl tt
 tell_stands h x None (Some y) k e d w = k
 tell_stands h x None None k e d w = stand (Told Client x) h refl tt k (told_row h Client x e d (or_right (is_certain x) true refl)) (λ g. g)
 
--- Asking. The next that is asked is a volatile that wasn't.
-asked_class : (zero : Bool) (c : Class) → is_class zero c ≡ true → is_volatile c ≡ true
-asked_class true Zero k = refl
-asked_class true One k = refl
-asked_class true DurableTwo k = absurd cc
-asked_class true DurableSingle k = absurd cc
-asked_class true Promotable k = absurd cc
-asked_class false Zero k = refl
-asked_class false One k = refl
-asked_class false DurableTwo k = absurd cc
-asked_class false DurableSingle k = absurd cc
-asked_class false Promotable k = absurd cc
-
-row_volatile : (h : List Entry) (k : ℕ) (x : Row) → slice_get (rows h) k ≡ Some x → is_volatile x.class ≡ true → stands_volatile x.number.value h ≡ true
-row_volatile h k x e v =
-    let n = x.number.value in
-    sym (has_rows (λ (f : EnlNo) (c : Class). (n == f.value) && is_volatile c) h)
-    ∙ has-at (λ (y : Row). (n == y.number.value) && is_volatile y.class) (rows h) k x e (and_both (n == n) (is_volatile x.class) (eq_self n) v)
-
 ask_step : (c m w a v t d : Bool) (r : Bool) → d ≡ false → t ≡ true → m ≡ a → (c ≡ true → v ≡ true) → (not (c && not m && w) || (not a && ((v && t && not d) || r))) ≡ true
 ask_step true true w a v t d r p q e f = refl
 ask_step true false w true v t d r p q e f = absurd cc
@@ -133,23 +106,13 @@ next_well h first r d c =
     (found_well (may_be_asked (rows h) first) (λ x. rule h (Asked x.number Prepare)) (rows h)
     (each_from_at (λ x. not (may_be_asked (rows h) first x) || rule h (Asked x.number Prepare)) (rows h)
     (λ k x e. ask_step (is_class first x.class) (is_marked x) _ (has (is_asked x.number.value) h) (stands_volatile x.number.value h) (has is_commit h) (has is_decision h) _
-    d c (row_marked h k x r e) (λ z. row_volatile h k x e (asked_class first x.class z)))))
+    d c (row_marked h k x r e) (λ z. row_volatile h k x e (asked_volatile first x.class z)))))
 
 ask_or_stands : (h : List Entry) (q : Option EnlNo) (over : Bool) (next : List Entry) → Stands h → passes (λ e. rule h (Asked e Prepare)) q ≡ true → (over ≡ true → Stands (onto h next))
     → Stands (onto h (ask_or q over next))
 ask_or_stands h (Some e) over next k w f = stand (Asked e Prepare) h refl tt k w (λ g. g)
 ask_or_stands h None true next k w f = f refl
 ask_or_stands h None false next k w f = k
-
--- The seal.
-close_step : (b x : Bool) → (not b || x) ≡ true → (b || x) ≡ true → x ≡ true
-close_step true x p q = p
-close_step false x p q = q
-
-shut_step : (b x : Bool) → (b && not x) ≡ false → (not b || x) ≡ true
-shut_step true true p = refl
-shut_step true false p = absurd cc
-shut_step false x p = refl
 
 closed_now : (c a : Bool) → (not c || a) ≡ true → c ≡ true → a ≡ true
 closed_now true a k e = k
@@ -230,16 +193,6 @@ voter_stands h ws ms k d s p = step (was_got Voter (tag_of VoterAsk) (ends_of h)
         ask_or_stands h (next_ask (rows h) false) (all_voted (rows h)) (yes_act (observe h)) k (next_well h false k.keeps d (commit_if_sealed h k.keeps s))
         (λ a. yes_stands h k d s p (ask_got h e) (well_now h k d a))
     step false e = k
-
--- where it isn't promoted: it is ready where all voted
-each_filter : {A : Type 0} (p q : A → Bool) (xs : List A) → each (λ x. not (p x) || q x) xs ≡ true → each q (filter p xs) ≡ true
-each_filter p q [] h = refl
-each_filter p q (x ∷ xs) h =
-    step q (p x) x (filter p xs) (and_left (not (p x) || q x) (each (λ x. not (p x) || q x) xs) h) (each_filter p q xs (and_right (not (p x) || q x) (each (λ x. not (p x) || q x) xs) h))
-  where
-    step : {A : Type 0} (q : A → Bool) (b : Bool) (x : A) (ys : List A) → (not b || q x) ≡ true → each q ys ≡ true → each q (if b then x ∷ ys else ys) ≡ true
-    step q true x ys h k = and_both (q x) (each q ys) h k
-    step q false x ys h k = k
 
 may_ready : (h : List Entry) → Stands h → has is_decision h ≡ false → has is_sealed h ≡ true → has is_promoted h ≡ false → all_voted (rows h) ≡ true → ready h ≡ true
 unfolding ready

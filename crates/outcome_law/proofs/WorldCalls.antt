@@ -14,7 +14,7 @@ use Rattle.dtx_values.specs.declared.limits.TheConstants.{CALLS, DURABLES, ENLIS
 use Rattle.dtx_values.specs.declared.entry.Answer.{Answer}
 use Rattle.dtx_values.specs.declared.entry.Answer.TheVariants.{Fine, True, False, Wait, Id, Many, TooLate, NotBegun, NoSuch, Finished, Over, Connected}
 use Rattle.dtx_values.specs.declared.entry.Entry.{Entry}
-use Rattle.dtx_values.specs.declared.entry.Entry.TheVariants.{Called, Began, Clock, Cloned, CommitAsked, Completed, RollbackAsked, Enlisted, Got, Init, Late, Lost, OwnerAnswered, Reenlisted, Sent, Recovered as RecoveredEntry, TimedOut}
+use Rattle.dtx_values.specs.declared.entry.Entry.TheVariants.{Called, Began, Clock, Cloned, CommitAsked, Completed, RollbackAsked, Enlisted, Got, Init, Late, Lost, Reenlisted, Sent, Recovered as RecoveredEntry, TimedOut}
 use Rattle.dtx_values.specs.declared.message.Conn.{Conn}
 use Rattle.dtx_values.specs.declared.message.Conn.TheVariants.{Again, Enl as OnEnl}
 use Rattle.dtx_values.specs.declared.message.Dir.TheVariants.{Up, Down}
@@ -26,7 +26,6 @@ use Rattle.dtx_values.specs.declared.words.Class.TheVariants.{DurableSingle, Pro
 use Rattle.dtx_values.specs.declared.words.Outcome.{Outcome}
 use Rattle.dtx_values.specs.declared.words.Outcome.TheVariants.{InDoubt}
 use Rattle.dtx_values.specs.declared.script.EnlistOption.{EnlistOption}
-use Rattle.dtx_values.specs.declared.script.EnlistOption.TheVariants.{Plain, DuringPrepare}
 use Rattle.dtx_values.specs.Class.{is_volatile}
 use Rattle.dtx_values.specs.Clones.{is_clone, is_complete_clone, is_open_rollback}
 use Rattle.dtx_values.specs.Owners.{cause_of, is_evident, may_own}
@@ -54,7 +53,7 @@ use Rattle.outcome_law.proofs.Scans.{each_both, has_less, has_more}
 use Rattle.outcome_law.proofs.Rule.{is_answer, is_cloned, is_enlisted}
 use Rattle.outcome_law.proofs.Rules.{undecided}
 use Rattle.outcome_law.proofs.TableRows.{clone_stands, enlisted_in_rows, none_there, unvoted_unwell}
-use Rattle.outcome_law.proofs.Going.{enlisted_passes}
+use Rattle.outcome_law.proofs.Going.{enlisted_passes, any_answer}
 use Rattle.outcome_law.proofs.Evidence.{hand_any}
 use Rattle.outcome_law.proofs.Owned.{any_hand_seen, decision_seen, none_lasting}
 use Rattle.outcome_law.proofs.Table.{decision_row, is_enlist_got, is_lost_there, stands_volatile}
@@ -70,6 +69,7 @@ use Rattle.outcome_law.proofs.HalfKnows.{way_seen}
 use Rattle.outcome_law.proofs.Deciding.{decide_decides, decide_keeps, decided_there, seen_half}
 use Rattle.outcome_law.proofs.Undecided.{Stands, decided_stand, goes_on, hand_seen, none_began, stand, unowned_evident, unwilling_open, way_unsealed}
 use Rattle.outcome_law.proofs.HalfCalls.{begin_stands, begun_if_promoted, call_alone, cloned_stands, commit_stands, completed_stands, enlist_stands, enlisted_stands, owner_row, rollback_stands, timeout_stands, veto_stands}
+use Rattle.outcome_law.proofs.Calls.{volatile_class}
 
 -- what a call makes stands nowhere yet: the enlistment, or the clone, and no connection was opened for it
 abbrev pub is_unmade : ℕ → EnlNo → List Entry → Bool
@@ -89,7 +89,7 @@ unopened : (h : List Entry) (e : EnlNo) → (not (has (is_enlisted e.value) h) &
 unopened h e w = not_true (has (opens (OnEnl e)) h) (and_right (not (has (is_enlisted e.value) h)) (not (has (opens (OnEnl e)) h)) w)
 
 -- a call was done where it was begun and nothing is decided
-done_behind : (l : Option ℕ) (d : Option Outcome) (a : Answer) → has_facts (if_begun l (unless_ended d a)) ≡ true → (d ≡ None) × (has_facts a ≡ true)
+pub done_behind : (l : Option ℕ) (d : Option Outcome) (a : Answer) → has_facts (if_begun l (unless_ended d a)) ≡ true → (d ≡ None) × (has_facts a ≡ true)
 done_behind None d a k = absurd cc
 done_behind (Some n) (Some x) a k = absurd cc
 done_behind (Some n) None a k = (refl, k)
@@ -98,10 +98,6 @@ done_behind (Some n) None a k = (refl, k)
 volatile_done : (s f : Bool) → has_facts (if s then TooLate else if f then Many ENLISTMENTS else Fine) ≡ true → s ≡ false
 volatile_done true f k = absurd cc
 volatile_done false f k = refl
-
-volatile_class : (x : EnlistOption) → is_volatile (class_of x) ≡ true
-volatile_class Plain = refl
-volatile_class DuringPrepare = refl
 
 -- a promotable call that was done stood after no seal, no promotion, and nothing durable or promotable
 promotable_done : (s l p f : Bool) → has_facts (if s then TooLate else if not (not p && not l) then False else if f then Many ENLISTMENTS else True) ≡ true
@@ -180,10 +176,6 @@ lost_vetoes : (h : List Entry) (ws : List Waiter) (ms : List (EnlNo × RmNo)) (e
 lost_vetoes h ws ms e k s d v u =
     let veto = and_both (not (has (is_vote e.value) h)) (not (has (is_hand e.value) h)) (not_false (has (is_vote e.value) h) v) (not_false (has (is_hand e.value) h) u) in
     veto_stands (Lost e) h ws ms refl (lost_alone h e k s).keeps d veto (unwilling_open h e.value s (unvoted_unwell e.value h v) (goes_on h k d).unanswered) (lost_where h e k.keeps s v)
-
-any_answer : (e : ℕ) (x : Entry) → is_any_owner e x ≡ true → is_answer x ≡ true
-any_answer e (OwnerAnswered f y) k = refl
-any_answer e _ k = k
 
 lost_doubts : (h : List Entry) (ws : List Waiter) (ms : List (EnlNo × RmNo)) (e : EnlNo) → Stands h → has (is_enlisted e.value) h ≡ true → has is_decision h ≡ false → has (is_hand e.value) h ≡ true
     → Stands (onto (Lost e ∷ h) (decide (seen_half (Lost e ∷ h) ws ms) InDoubt))

@@ -3,13 +3,13 @@ use Rattle.std.proofs.Common.{◌≡◌, ℕ, ◌==◌, Bool, true, false, ◌&&
 use Rattle.std.specs.Prelude.{is_some, not, if◌then◌else◌}
 use Rattle.std.proofs.lemmas.Bool.{eqb-true, false_from_ne_true, or_left}
 use Rattle.dtx_values.specs.declared.entry.Entry.{Entry}
-use Rattle.dtx_values.specs.declared.entry.Entry.TheVariants.{Acked, Got, OwnerAnswered, PromoteReply, Requested, Sent, Voted}
+use Rattle.dtx_values.specs.declared.entry.Entry.TheVariants.{Acked, OwnerAnswered, PromoteReply, Requested, Sent, Voted}
 use Rattle.dtx_values.specs.declared.entry.Request.{Request}
 use Rattle.dtx_values.specs.declared.entry.Request.TheVariants.{Commit as RequestCommit, Abort as RequestAbort}
 use Rattle.dtx_values.specs.declared.message.Conn.{Conn}
 use Rattle.dtx_values.specs.declared.message.Conn.TheVariants.{Begin as OnBegin, Voter as OnVoter, Enl as OnEnl, Again}
 use Rattle.dtx_values.specs.declared.message.Dir.TheVariants.{Up, Down}
-use Rattle.dtx_values.specs.declared.message.Message.TheVariants.{BeginBegin, BeginBegun, BeginCommit, BeginAbort, EnlistAck, ReenlistAck}
+use Rattle.dtx_values.specs.declared.message.Message.TheVariants.{BeginBegin, BeginCommit, BeginAbort, EnlistAck, ReenlistAck}
 use Rattle.dtx_values.specs.declared.note.Note.{Note}
 use Rattle.dtx_values.specs.declared.note.Reply.{Reply}
 use Rattle.dtx_values.specs.declared.note.Reply.TheVariants.{Vote as VoteReply, Promote as Promotes, Owner as OwnerReply, Ack}
@@ -56,6 +56,7 @@ use Rattle.outcome_law.proofs.Deciding.{decide_decides, decide_keeps, decided_th
 use Rattle.outcome_law.proofs.Undecided.{Stands, all_willing, decided_stand, goes_on, hand_seen, is_going, is_willing, promotes_on, stand, unwilling_open, way_unsealed}
 use Rattle.outcome_law.proofs.HalfCalls.{begun_if_promoted, veto_stands}
 use Rattle.outcome_law.proofs.HalfReplies.{Answers, IsLeft, IsOwed, owed, to_up_stands, volatile_seen, vote_rule}
+use Rattle.outcome_law.proofs.CoreKnown.{begun_on}
 
 -- A vote: each volatile that voted, voted well after it, where it is good or no volatile's.
 good_willing : (h : List Entry) (e : EnlNo) (v : Vote) → is_good v ≡ true → all_willing h ≡ true → all_willing (Voted e v ∷ h) ≡ true
@@ -137,11 +138,6 @@ vote_reply w e v n k l d f =
     subst B (sym (volatile_seen (Voted e v ∷ h) e.value))
     (vote_block h (waiting w.calls h) (managed w.calls h) e v (stands_volatile e.value h) k (vote_rule h e v n k l (owed h (VoteReply v) n e.value refl d f)) refl)
 
--- A promotion. BEGUN was got only where b was opened.
-begun_got_on : (x : Entry) → is_begun_got x ≡ true → is_got_on OnBegin Down (λ m. true) x ≡ true
-begun_got_on (Got OnBegin Down (BeginBegun u)) t = refl
-begun_got_on _ t = absurd cc
-
 down_opened : (x : Entry) (h : List Entry) → Keeps h → rule h x ≡ true → is_sent_on OnBegin Down (λ m. true) x ≡ true → has (opens OnBegin) h ≡ true
 down_opened (Sent OnBegin Down m) h k r t =
     opened_if_got OnBegin h k (third_of_four (has_line OnBegin Down m) (has is_promoting h) (is_there h OnBegin Down m) (message_row h OnBegin m) r)
@@ -150,7 +146,7 @@ down_opened _ h k r t = absurd cc
 pub opened_if_begun : (h : List Entry) → Keeps h → has is_begun_got h ≡ true → has (opens OnBegin) h ≡ true
 opened_if_begun h k b =
     earlier (is_sent_on OnBegin Down (λ m. true)) (λ g. has (opens OnBegin) g) (λ x g t. or_right (opens OnBegin x) (has (opens OnBegin) g) t) down_opened h k
-    (was_sent OnBegin Down (λ m. true) h k.wires (has_more is_begun_got (is_got_on OnBegin Down (λ m. true)) begun_got_on h b))
+    (was_sent OnBegin Down (λ m. true) h k.wires (has_more is_begun_got (is_got_on OnBegin Down (λ m. true)) begun_on h b))
 
 -- Who was asked to promote, or to commit in a single phase, at the end of each block: a promotion began; b is opened after the promotable's reply; and the single phase
 -- comes after the seal of what is promoted.

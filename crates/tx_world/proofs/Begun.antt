@@ -30,18 +30,18 @@ use Rattle.dtx_model.specs.Caused.{AreMadeOnce, IsIn, IsOwnRun, MayCome, Ran, is
 use Rattle.dtx_model.proofs.Bools.{and_left, and_right, not_both, or_case, or_right}
 use Rattle.dtx_model.proofs.Heeding.{core_behind}
 use Rattle.dtx_model.proofs.Reading.{has-onto}
-use Rattle.outcome_law.proofs.Crossed.{came}
+use Rattle.outcome_law.proofs.Crossed.{came, is_sent_on}
 use Rattle.outcome_law.proofs.Scans.{each_more, has_more}
-use Rattle.outcome_law.proofs.Whole.{is_sent_on}
 use Rattle.tx_world.specs.Carried.{are_sendable}
 use Rattle.tx_world.specs.Course.{is_far, is_near}
-use Rattle.tx_world.proofs.Blocks.{Each, e_cons, e_map, e_none, e_one}
+use Rattle.dtx_model.proofs.Writes.{Each, e_cons, e_map, e_none, e_one}
 use Rattle.tx_world.proofs.Far.{far_core_down, far_core_got}
 use Rattle.tx_world.proofs.Near.{near_act, near_facts, near_gone, near_local_down, near_local_got, near_reenlist, near_reply}
 use Rattle.tx_world.proofs.Onward.{ran_on}
 use Rattle.tx_world.proofs.Sendable.{id_valid, ran_ends}
 use Rattle.tx_world.proofs.SendingEnds.{Ends}
 use Rattle.tx_world.proofs.SendingOpened.{some_many}
+use Rattle.outcome_law.proofs.Messages.{BEGIN}
 
 -- the coordinator decides on the transaction, or has its record, or is stopped
 abbrev knows : Coordinated → Bool
@@ -110,11 +110,6 @@ mild_facts_if : (b : Bool) {es : List Entry} → Each is_mild es → Each is_mil
 mild_facts_if true m = m
 mild_facts_if false m = e_none
 
--- a message that is got, unless it is BEGIN
-abbrev is_begin : Message → Bool
-is_begin BeginBegin = true
-is_begin _ = false
-
 got_mild : (c : Conn) (m : Message) → (is_mild (Got c Up m) ≡ true) ⊎ ((c ≡ Begin) × (m ≡ BeginBegin))
 got_mild Begin BeginBegin = inr (refl, refl)
 got_mild Begin _ = inl refl
@@ -128,7 +123,7 @@ down_mild Voter m = refl
 down_mild (Enl e) m = refl
 down_mild (Again e) m = refl
 
-sent_begin : (x : Entry) → is_sent_on Begin Up is_begin x ≡ true → is_begin_sent x ≡ true
+sent_begin : (x : Entry) → is_sent_on Begin Up BEGIN x ≡ true → is_begin_sent x ≡ true
 sent_begin (Sent Begin Up BeginBegin) s = refl
 sent_begin (Sent Begin Up _) s = absurd (cc)
 sent_begin (Sent Begin Down m) s = absurd (cc)
@@ -159,9 +154,9 @@ come_begun t w c (x ∷ ms) way m block before = by (got_mild c x)
         mild_begun t w m (subst (λ es. Each is_mild es) (sym block) (e_cons (Got c Up x) mild (mild_of_far (far_core_got (identifier_of t) (core w) c x)))) before
     by (inr (on, begin)) = λ k.
         still_begun t w m
-        (has_more (is_sent_on Begin Up is_begin) is_begin_sent sent_begin w.past
-        (came Begin Up is_begin w.past
-        (ap (λ y. has is_begin (in_transit y Up w.past)) (sym on) ∙ ap (has is_begin) way ∙ or_left (is_begin x) (has is_begin ms) (ap is_begin begin))))
+        (has_more (is_sent_on Begin Up BEGIN) is_begin_sent sent_begin w.past
+        (came Begin Up BEGIN w.past
+        (ap (λ y. has BEGIN (in_transit y Up w.past)) (sym on) ∙ ap (has BEGIN) way ∙ or_left (BEGIN x) (has BEGIN ms) (ap BEGIN begin))))
 
 logs : (k : Coordinated) → may_log k ≡ true → is_active k.stage ≡ true
 unfolding may_log

@@ -34,7 +34,7 @@ use Rattle.tx_world.specs.Course.{is_near}
 use Rattle.tx_world.specs.Entering.{called_with, half_answer, half_facts, is_local, is_unlinked, local_call}
 use Rattle.tx_world.specs.Kept.{Kept}
 use Rattle.tx_world.specs.State.{may_enter}
-use Rattle.tx_world.proofs.Blocks.{Each, e_cons, e_none}
+use Rattle.dtx_model.proofs.Writes.{Each, e_cons, e_none}
 use Rattle.tx_world.proofs.Entering.{free_call, fresh_line, may_be_entered, once_more}
 use Rattle.tx_world.proofs.Near.{near_facts, near_gone}
 use Rattle.tx_world.proofs.Onward.{half_is, near_kept}
@@ -207,7 +207,7 @@ near_half : (t : ℕ) (h : Half) (c : Call) (x : Answer) → Each is_near (half_
 near_half t h (Gone e) x = near_gone h e
 near_half t h c x = near_facts t h c x
 
-near_if : (b : Bool) {es : List Entry} → Each is_near es → Each is_near (facts_if b es)
+pub near_if : (b : Bool) {es : List Entry} → Each is_near es → Each is_near (facts_if b es)
 near_if true n = n
 near_if false n = e_none
 

@@ -1,5 +1,5 @@
 -- A call that the local side answers, in a world that holds.
-use Rattle.std.proofs.Common.{◌≡◌, ℕ, Bool, true, false, List, [], ◌∷◌, Result, Ok, Err, IfOk, refl, ap, sym, ◌∙◌}
+use Rattle.std.proofs.Common.{◌≡◌, ℕ, true, false, List, [], ◌∷◌, Result, Ok, Err, IfOk, refl, ap, sym, ◌∙◌}
 use Rattle.dtx_values.specs.Outgoing.{Outgoing, blank, written as put_out}
 use Rattle.dtx_values.specs.declared.call.Call.{Call}
 use Rattle.dtx_values.specs.declared.call.Call.TheVariants.{Await, Do, Lose, Gone, Reenlist, Recovered}
@@ -24,11 +24,12 @@ use Rattle.tx_world.specs.State.{may_enter, sends_begin}
 use Rattle.tx_world.proofs.Begun.{MayWrite, may_write}
 use Rattle.tx_world.specs.Course.{is_near}
 use Rattle.tx_world.specs.Kept.{Kept}
-use Rattle.tx_world.proofs.Blocks.{Each, e_cons, e_none}
+use Rattle.dtx_model.proofs.Writes.{Each, e_cons}
 use Rattle.tx_world.proofs.Entering.{fresh_line, may_be_entered, once_more}
 use Rattle.tx_world.proofs.Near.{near_facts}
 use Rattle.tx_world.proofs.Onward.{half_is, near_kept}
 use Rattle.tx_world.proofs.Written.{Ready, block_of, ready}
+use Rattle.tx_world.proofs.Calling.{near_if}
 
 -- its answer is the half's, whatever number is given with it
 pub own_answer : (t : ℕ) (w : World) (c : Call) (m : ℕ) → is_its_own c ≡ true → answer_at t w c m ≡ local_answer t (half w) c 0
@@ -53,10 +54,6 @@ unfolding block_at
 own_block t w n a c m o =
     let x = local_answer t (half w) c 0 in
     ap (λ es. Called n a x ∷ facts_if (has_facts x) es) (sym (own_facts t w c x o)) ∙ ap (λ y. Called n a y ∷ facts_if (has_facts y) (facts_at t w c y)) (sym (own_answer t w c m o))
-
-near_if : (b : Bool) {es : List Entry} → Each is_near es → Each is_near (facts_if b es)
-near_if true n = n
-near_if false n = e_none
 
 own_near : (t : ℕ) (h : Half) (n : ℕ) (a : ActorNo) (c : Call) → Each is_near (call_entries t h n a c)
 own_near t h n a c = let x = local_answer t h c 0 in e_cons (Called n a x) refl (near_if (has_facts x) (near_facts t h c x))

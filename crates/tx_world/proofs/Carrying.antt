@@ -21,7 +21,7 @@ use Rattle.dtx_model.proofs.Pasts.{always-before}
 use Rattle.oletx_session.specs.declared.refusal.SessionRefusal.{SessionRefusal}
 use Rattle.oletx_session.specs.declared.refusal.SessionRefusal.TheVariants.{Memory, NotOpen, Taken}
 use Rattle.oletx_session.specs.Traffic.{Spells, Wire, is_taken, lane, may_send, opposite, wire_of}
-use Rattle.oletx_session.proofs.Conns.{same_self}
+use Rattle.dtx_model.proofs.Connections.{same_self}
 use Rattle.oletx_session.specs.Carries.{Carries, IsWire}
 use Rattle.tx_world.specs.Carried.{are_sendable, is_sendable}
 use Rattle.tx_world.specs.Course.{IsOpened, is_written}

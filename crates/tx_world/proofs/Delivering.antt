@@ -35,16 +35,16 @@ use Rattle.tx_world.specs.Carried.{are_sendable}
 use Rattle.tx_world.specs.Course.{Came, is_far, is_near, is_written, noted, rest_down, rest_up}
 use Rattle.tx_world.specs.Kept.{Kept}
 use Rattle.tx_world.proofs.Begun.{may_write}
-use Rattle.tx_world.proofs.Blocks.{Each, e_none}
+use Rattle.dtx_model.proofs.Writes.{Each, e_none}
 use Rattle.tx_world.proofs.Far.{far_core_down, far_core_got}
 use Rattle.tx_world.proofs.Few.{runs_few}
 use Rattle.tx_world.proofs.Near.{near_local_down, near_local_got}
 use Rattle.tx_world.proofs.Onward.{core_is, core_transaction, far_heeds_all, near_follow_all, step_kept}
 use Rattle.tx_world.proofs.Written.{block_of, far_written, near_written, stopped_is}
 use Rattle.dtx_model.proofs.Quiet.{is_lined, sent_has_line}
-use Rattle.outcome_law.proofs.Connections.{same_is, same_way_is}
+use Rattle.dtx_model.proofs.Connections.{same_is, same_way_is}
 use Rattle.outcome_law.proofs.Crossed.{came}
-use Rattle.outcome_law.proofs.Whole.{is_sent_on}
+use Rattle.outcome_law.proofs.Crossed.{is_sent_on}
 
 -- the message is the first of those on the way
 pub next_first : (m : Message) (ms : List Message) → is_next m ms → (rest : List Message) × (ms ≡ m ∷ rest)

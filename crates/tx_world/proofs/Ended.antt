@@ -17,7 +17,7 @@ use Rattle.dtx_model.specs.World.{has_left, is_linked}
 use Rattle.dtx_model.proofs.Bools.{and_left, and_right, not_both, or_case, or_false, or_first, or_right, or_second}
 use Rattle.oletx_session.specs.Traffic.{Wire, has_left as is_left_on, is_open, is_taken, lane, may_send, opposite, wire_of}
 use Rattle.oletx_session.specs.Carries.{Carries, IsLane, IsWire}
-use Rattle.oletx_session.proofs.Conns.{same_is}
+use Rattle.dtx_model.proofs.Connections.{same_is}
 use Rattle.oletx_session.proofs.Views.{frame_full}
 
 -- whether it is lost, where the history says so

@@ -41,7 +41,7 @@ use Rattle.local_half.specs.Half.{is_free, is_made_by_waiting}
 use Rattle.tx_world.specs.State.{is_maker, is_name, may_enter}
 use Rattle.tx_world.specs.Course.{is_far}
 use Rattle.tx_world.proofs.Bare.{bare_act, bare_facts, bare_gone, bare_local_down, bare_local_got, bare_reenlist, bare_reply, is_bare}
-use Rattle.tx_world.proofs.Blocks.{Each}
+use Rattle.dtx_model.proofs.Writes.{Each}
 use Rattle.tx_world.proofs.Far.{far_abort, far_commit, far_core_down, far_core_got}
 
 -- a list of entries that pass has none that passes another test

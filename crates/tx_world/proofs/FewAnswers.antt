@@ -13,8 +13,6 @@ use Rattle.dtx_values.specs.declared.number.EnlNo.{EnlNo}
 use Rattle.dtx_values.specs.declared.number.RmNo.{RmNo}
 use Rattle.dtx_values.specs.declared.number.TxNo.{TxNo}
 use Rattle.dtx_values.specs.declared.row.Row.{Row}
-use Rattle.dtx_values.specs.declared.script.EnlistOption.{EnlistOption}
-use Rattle.dtx_values.specs.declared.script.EnlistOption.TheVariants.{Plain as PlainOption, DuringPrepare}
 use Rattle.dtx_values.specs.declared.script.Support.{Support}
 use Rattle.dtx_values.specs.declared.words.Class.TheVariants.{DurableSingle, Promotable as PromotableClass}
 use Rattle.dtx_values.specs.declared.words.Outcome.{Outcome}
@@ -43,19 +41,20 @@ use Rattle.dtx_model.proofs.Counts.{how_many-insert_by}
 use Rattle.dtx_model.proofs.Heeding.{fresh}
 use Rattle.local_half.proofs.Lists.{not_counted}
 use Rattle.outcome_law.proofs.DecidingBlocks.{kept_act, kept_begin_promotion, kept_called, kept_coordinates, kept_reply, kept_restarted}
-use Rattle.outcome_law.proofs.Lists.{OfEach}
+use Rattle.outcome_law.proofs.Lists.{OfEach, has-insert}
 use Rattle.outcome_law.proofs.Makers.{IsWaiter, ran_made}
 use Rattle.outcome_law.proofs.Owned.{decision_seen}
 use Rattle.outcome_law.proofs.PlainBlocks.{plain_act, plain_begin_promotion, plain_called, plain_coordinates, plain_reply, plain_restarted}
 use Rattle.outcome_law.proofs.Waiters.{own_call}
 use Rattle.tx_world.proofs.FewBranches.{Roomy, block_roomy, called_roomy, gentle_roomy, none_roomy, row_roomy, sent_roomy}
 use Rattle.local_half.specs.Linked.{AreLinked}
-use Rattle.outcome_law.proofs.Lists.{has-insert}
 use Rattle.outcome_law.proofs.Tests.{eq_self}
 use Rattle.tx_world.proofs.Sendable.{ran_ends}
-use Rattle.tx_world.proofs.SendingCalls.{done_open, owns_alone, unstarted}
+use Rattle.tx_world.proofs.SendingCalls.{owns_alone, unstarted}
 use Rattle.dtx_values.specs.RecoveryInfo.{is_id}
 use Rattle.tx_world.proofs.FewRuns.{IsIdle, delivered_roomy, durable_done, room_of, roomy_if, step_idle}
+use Rattle.outcome_law.proofs.Handovers.{option_volatile}
+use Rattle.outcome_law.proofs.WorldCalls.{done_behind}
 
 no : false ≡ true → ⊥
 no e = absurd cc
@@ -92,10 +91,6 @@ durable_roomy ks t n a u e r s v Fine h call open' room i = row_roomy ks e Durab
 durable_roomy ks t n a u e r s v True h call open' room i = row_roomy ks e DurableSingle (Called n a True ∷ h) (λ d c. room refl) (called_roomy ks n a True h (λ z. absurd cc) i)
 durable_roomy ks t n a u e r s v x h call open' room i = record { few = i.few; owner = i.owner; linked = i.linked }
 
-volatile_class : (o : EnlistOption) → is_volatile (class_of o) ≡ true
-volatile_class PlainOption = refl
-volatile_class DuringPrepare = refl
-
 -- A promotable's call: nothing lasts, and no call waits for a place.
 owned : (xs : List Row) (p : Bool) → may_own xs p ≡ true → (p ≡ false) × (has is_lasting xs ≡ false)
 unfolding may_own
@@ -114,7 +109,7 @@ entered_roomy t w n a (Durable u e r s) m new failed idle i =
     let x = answer_at t w (Durable u e r s) m in
     let v = half w in
     let waits : waiting (own ∷ w.calls) w.past ≡ waiting w.calls w.past = ap (λ (y : Half). y.waits) (fresh own w.calls w.past new) in
-    let done = λ (k : has_facts x ≡ true). done_open (latest began_of w.past) (latest decision_of w.past) (durable_answer v (is_single s)) k in
+    let done = λ (k : has_facts x ≡ true). done_behind (latest began_of w.past) (latest decision_of w.past) (durable_answer v (is_single s)) k in
     durable_roomy (own ∷ w.calls) t n a u e r s v x w.past (own_call n a (Durable u e r s) w.calls)
     (λ k. sym (decision_seen w.past) ∙ ap (λ (o : Option Outcome). is_some o) (done k).0)
     (λ k. subst (λ ws. how_many is_lasting (rows w.past) + how_many is_place ws < 16) (sym waits)
@@ -127,7 +122,7 @@ entered_roomy t w n a (Volatile u e o y) m new failed idle i =
     let next = called_roomy (own ∷ w.calls) n a x w.past (λ z d p. absurd (not_both (is_place (n, wanted (call_at (own ∷ w.calls) n))) p (ap (λ q. is_place (n, wanted q)) (own_call n a (Volatile u e o y) w.calls))))
     (call_roomy w.calls w.past own new i) in
     facts_roomy (own ∷ w.calls) (Called n a x ∷ w.past) (has_facts x) (Enlisted e (class_of o) ∷ []) next
-    (λ k. row_roomy (own ∷ w.calls) e (class_of o) (Called n a x ∷ w.past) (λ d c. absurd (not_both (is_volatile (class_of o)) (volatile_class o) c)) next)
+    (λ k. row_roomy (own ∷ w.calls) e (class_of o) (Called n a x ∷ w.past) (λ d c. absurd (not_both (is_volatile (class_of o)) (option_volatile o) c)) next)
 entered_roomy t w n a (Promotable u e r y z p) m new failed idle i =
     let own : EnteredCall = record { line = n; actor = a; call = Promotable u e r y z p } in
     let x = answer_at t w (Promotable u e r y z p) m in
@@ -136,7 +131,7 @@ entered_roomy t w n a (Promotable u e r y z p) m new failed idle i =
     (call_roomy w.calls w.past own new i) in
     let waits : waiting (own ∷ w.calls) w.past ≡ waiting w.calls w.past = ap (λ (b : Half). b.waits) (fresh own w.calls w.past new) in
     let free = λ (k : has_facts x ≡ true).
-    (let d = done_open (latest began_of w.past) (latest decision_of w.past) (promotable_answer v) k in
+    (let d = done_behind (latest began_of w.past) (latest decision_of w.past) (promotable_answer v) k in
     let alone = owned (rows w.past) (has_promotion (observe w.past)) (owns_alone (has is_sealed w.past) (may_own (rows w.past) (has_promotion (observe w.past))) (is_full v) d.1) in
     room (not_counted is_lasting (rows w.past) alone.1)
     (called_places (own ∷ w.calls) n a x w.past (ap (λ q. is_place (n, wanted q)) (own_call n a (Promotable u e r y z p) w.calls)) ∙ ap (how_many is_place) waits ∙ idle (sym (decision_seen w.past) ∙ ap (λ (o : Option Outcome). is_some o) d.0) (unstarted w.past (or_first (has is_promoted w.past) (is_promoting (observe w.past)) alone.0) (or_second (has is_promoted w.past) (is_promoting (observe w.past)) alone.0) d.0 failed))) in

@@ -46,15 +46,16 @@ use Rattle.local_half.specs.Waits.{without}
 use Rattle.local_half.proofs.Links.{links-answered, links-changed, links-held, links-row, links-sent, links-wait}
 use Rattle.local_half.proofs.Lists.{how_many-filter-le}
 use Rattle.local_half.proofs.Rows.{lasts-mark, lasts-more, lasts-new, lasts-vote}
-use Rattle.outcome_law.proofs.Coming.{keep_place}
+use Rattle.outcome_law.proofs.Coming.{keep_place, same_wants}
 use Rattle.outcome_law.proofs.DecidingBlocks.{Keeps, is_kept}
 use Rattle.outcome_law.proofs.Lists.{OfEach}
-use Rattle.outcome_law.proofs.Makers.{IsWaiter, of-filter, of-found}
+use Rattle.outcome_law.proofs.Makers.{IsWaiter, of-filter, of-found, place_number}
 use Rattle.outcome_law.proofs.Messages.{ENLIST}
 use Rattle.outcome_law.proofs.Owned.{has_filter}
 use Rattle.outcome_law.proofs.PlainBlocks.{Plain, is_plain}
 use Rattle.outcome_law.proofs.Scans.{each_both}
 use Rattle.outcome_law.proofs.Tests.{eq_self}
+use Rattle.outcome_law.proofs.CameOnce.{is_unopening}
 
 no : false ≡ true → ⊥
 no e = absurd cc
@@ -74,12 +75,7 @@ none_roomy ks = record {
   linked = record { once = λ e. omega arith; few = omega arith; held = λ k. refl; known_once = λ c. omega arith; of_branches = refl };
 }
 
--- An entry that sends no ENLIST leaves who is at the coordinator.
-abbrev is_unbranching : Entry → Bool
-is_unbranching (Sent c Up m) = not (ENLIST m)
-is_unbranching _ = true
-
-branch_links : (d : Bool) (xs : List Row) (ws : List Waiter) (x : Entry) (h : List Entry) → is_unbranching x ≡ true → AreLinked d xs ws (branches h) [] → AreLinked d xs ws (branches (x ∷ h)) []
+branch_links : (d : Bool) (xs : List Row) (ws : List Waiter) (x : Entry) (h : List Entry) → is_unopening x ≡ true → AreLinked d xs ws (branches h) [] → AreLinked d xs ws (branches (x ∷ h)) []
 branch_links d xs ws (Sent (Enl e) Up (EnlistEnlist i)) h p l = absurd (no p)
 branch_links d xs ws (Got (Enl e) Down EnlistEnlisted) h p l = links-changed d xs ws (branches h) [] e.value IsEnlisted l
 branch_links d xs ws (Got (Enl e) Down EnlistCommit) h p l = links-changed d xs ws (branches h) [] e.value (Due (Some (Enl e))) l
@@ -120,7 +116,7 @@ is_gentle (Enlisted e c) = false
 is_gentle (Sent c Up m) = not (ENLIST m)
 is_gentle _ = true
 
-gentle_unbranching : (x : Entry) → is_gentle x ≡ true → is_unbranching x ≡ true
+gentle_unbranching : (x : Entry) → is_gentle x ≡ true → is_unopening x ≡ true
 gentle_unbranching (Sent c Up m) g = g
 gentle_unbranching _ g = refl
 
@@ -172,7 +168,7 @@ record Loose (ks : List EnteredCall) (h : List Entry) : Type 0 where
   owner : (e : ℕ) → is_handed (handover h) e ≡ true → lasts (rows h) e ≡ true
   linked : AreLinked true (rows h) (waiting ks h) (branches h) []
 
-plain_unbranching : (x : Entry) → is_plain x ≡ true → is_unbranching x ≡ true
+plain_unbranching : (x : Entry) → is_plain x ≡ true → is_unopening x ≡ true
 plain_unbranching (Sent c Up m) p = p
 plain_unbranching _ p = refl
 
@@ -340,10 +336,6 @@ durable_place e r c (Durable t f q (SinglePhase v o)) w = ap (λ x. is_volatile 
 durable_place e r c (Durable t f q (TwoPhase v)) w = ap (λ x. is_volatile (class_in c x)) w
 durable_place e r c _ w = absurd cc
 
-abbrev place_in : Wanted → ℕ
-place_in (Place e r c) = e.value
-place_in Identifier = 0
-
 -- that place becomes an enlistment that lasts
 pub placed_roomy : (G : ℕ → ActorNo → Call → Type 0) (ks : List EnteredCall) (h : List Entry) (n : ℕ) (e : EnlNo) (r : RmNo) (c : Class) → find (is_place_of e.value) (waiting ks h) ≡ Some (n, Place e r c)
     → OfEach (IsWaiter G ks h) (waiting ks h) → Roomy ks h → Roomy ks (Answered n Fine ∷ Enlisted e c ∷ h)
@@ -376,14 +368,7 @@ placed_roomy G ks h n e r c found o i =
         (subst (λ g. lasts (rows (Enlisted e c ∷ h)) g ≡ true) (sym (eqb-true f e.value q)) (lasts-new e c (rows h) v))
     held f false q v own t =
         or_right (lasts (rows (Enlisted e c ∷ h)) f) (has (is_place_of f) (without n (waiting ks h)))
-        (keep_place G ks h n f (Place e r c) own (λ g s d z. subst (λ m. (f == m) ≡ false) (ap place_in z) q) (waiting ks h) o t)
-
--- two calls that wait at one line wait for the same
-same_wants : (G : ℕ → ActorNo → Call → Type 0) (ks : List EnteredCall) (h : List Entry) (n m : ℕ) (v w : Wanted) → IsWaiter G ks h (n, v) → IsWaiter G ks h (m, w) → n ≡ m → v ≡ w
-same_wants G ks h n m v w a b e =
-    let both : Some a.call ≡ Some b.call = sym a.entered ∙ ap (call_at ks) e ∙ b.entered in
-    let same : a.call ≡ b.call = cc in
-    a.wants ∙ ap wanted_by same ∙ sym b.wants
+        (keep_place G ks h n f (Place e r c) own (λ g s d z. subst (λ m. (f == m) ≡ false) (ap place_number z) q) (waiting ks h) o t)
 
 -- The promotion is over: each call that waits has the identifier, or its ENLIST is sent.
 unplaced_at : (G : ℕ → ActorNo → Call → Type 0) (ks : List EnteredCall) (h : List Entry) (n : ℕ) → IsWaiter G ks h (n, Identifier) → (ws : List Waiter) → OfEach (IsWaiter G ks h) ws

@@ -23,7 +23,7 @@ use Rattle.dtx_model.specs.Words.{each, has}
 use Rattle.dtx_model.proofs.Bools.{and_both, and_left, and_right, not_both, or_case, or_right}
 use Rattle.dtx_model.proofs.Counts.{how_many-insert_by, how_many-map}
 use Rattle.local_half.proofs.Lists.{how_many-all, how_many-filter-le, not_counted, picked, spread}
-use Rattle.outcome_law.proofs.Connections.{same_is}
+use Rattle.dtx_model.proofs.Connections.{same_is}
 use Rattle.outcome_law.proofs.Leading.{opening_was_sent}
 use Rattle.outcome_law.proofs.Lists.{has-insert}
 use Rattle.outcome_law.proofs.Scans.{has_more}

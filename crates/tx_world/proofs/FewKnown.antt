@@ -26,7 +26,7 @@ use Rattle.coordinator_core.specs.Kept.{IsFew}
 use Rattle.local_half.specs.Linked.{AreLinked, is_of_branch}
 use Rattle.local_half.proofs.Links.{ends_few}
 use Rattle.local_half.proofs.Lists.{how_many-filter-le, how_many-filter-none}
-use Rattle.outcome_law.proofs.Connections.{same_is, same_self}
+use Rattle.dtx_model.proofs.Connections.{same_is, same_self}
 use Rattle.outcome_law.proofs.Leading.{opening_was_sent}
 use Rattle.outcome_law.proofs.Lists.{has-insert}
 use Rattle.outcome_law.proofs.Owned.{has_filter}

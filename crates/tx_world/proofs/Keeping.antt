@@ -5,18 +5,18 @@ use Rattle.dtx_values.specs.declared.entry.Entry.{Entry}
 use Rattle.dtx_values.specs.declared.entry.Entry.TheVariants.{Freed, Got, LogFull, Logged, Restarted, Stopped}
 use Rattle.dtx_values.specs.declared.message.Conn.TheVariants.{Begin}
 use Rattle.dtx_values.specs.declared.message.Dir.TheVariants.{Up}
-use Rattle.dtx_values.specs.declared.message.Message.TheVariants.{BeginBegin}
+use Rattle.dtx_values.specs.declared.message.Message.TheVariants.{BeginBegin, ReenlistCommitted, ReenlistAborted}
 use Rattle.dtx_model.specs.declared.desk.Stage.{Stage}
-use Rattle.dtx_model.specs.declared.desk.Stage.TheVariants.{Idle, Active, Recorded, Over}
+use Rattle.dtx_model.specs.declared.desk.Stage.TheVariants.{Active}
 use Rattle.dtx_model.specs.Words.{each}
 use Rattle.dtx_model.specs.Log.{CommitRecord}
-use Rattle.dtx_model.specs.Coordinated.{Coordinated, abort_if, abort_sends, aborts, begin_if, behind_restart, commit_sends, follow, follow_all, is_active, is_recorded, may_free, may_log}
+use Rattle.dtx_model.specs.Coordinated.{Coordinated, abort_sends, aborts, commit_sends, follow, follow_all, is_active, is_recorded, may_free, may_log}
 use Rattle.coordinator_core.proofs.Causes.{active_then, heard_why, voted_why}
 use Rattle.coordinator_core.proofs.Following.{after_abort, after_commit, after_waiting, with_waits}
 use Rattle.coordinator_core.specs.Kept.{unreached}
 use Rattle.dtx_values.specs.declared.number.EnlNo.{EnlNo}
-use Rattle.dtx_values.specs.declared.message.Message.TheVariants.{ReenlistCommitted, ReenlistAborted}
 use Rattle.tx_world.specs.AtLog.{IsOurs, Kept}
+use Rattle.outcome_law.proofs.CoreStages.{begin_recorded, abort_recorded, none_recorded}
 
 -- the entry isn't the log's: none of an append, a free, a stop and a restart
 abbrev pub is_elsewhere : Entry → Bool
@@ -26,24 +26,14 @@ is_elsewhere Stopped = false
 is_elsewhere (Restarted found) = false
 is_elsewhere _ = true
 
-begun_same : (s : Stage) → is_recorded (begin_if s) ≡ is_recorded s
-begun_same Idle = refl
-begun_same _ = refl
-
-aborted_same : (b : Bool) (s : Stage) → is_recorded (abort_if b s) ≡ is_recorded s
-aborted_same true Idle = refl
-aborted_same true Active = refl
-aborted_same true _ = refl
-aborted_same false s = refl
-
 stage_same : (k : Coordinated) (x : Entry) → is_elsewhere x ≡ true → is_recorded (follow k x).stage ≡ is_recorded k.stage
 unfolding follow
-stage_same k (Got Begin Up BeginBegin) e = begun_same k.stage
+stage_same k (Got Begin Up BeginBegin) e = begin_recorded k.stage
 stage_same k Logged e = absurd cc
 stage_same k Freed e = absurd cc
 stage_same k Stopped e = absurd cc
 stage_same k (Restarted found) e = absurd cc
-stage_same k x e = aborted_same (aborts k x) k.stage
+stage_same k x e = abort_recorded (aborts k x) k.stage
 
 stopped_same : (k : Coordinated) (x : Entry) → is_elsewhere x ≡ true → (follow k x).stopped ≡ k.stopped
 unfolding follow
@@ -79,11 +69,6 @@ ours_stays id k x (e ∷ es) i o = ours_stays id (follow k e) x es (second (is_e
 pub ours_stopped : (id : ℕ) (k : Coordinated) (x : Kept) → IfSome x.ours (λ r. r.id ≡ id) → IsOurs id (follow k Stopped) x
 unfolding follow
 ours_stopped id k x n = record { sure = λ s. absurd cc; recorded = λ s. absurd cc; named = n }
-
-none_recorded : (s : Stage) → is_recorded (behind_restart false s) ≡ false
-none_recorded Recorded = refl
-none_recorded Over = refl
-none_recorded _ = refl
 
 -- Before an append nothing is kept, and before a free a record is.
 none_there : (o : Option CommitRecord) → is_some o ≡ false → o ≡ None

@@ -1,5 +1,5 @@
 -- COMMIT is sent at most once after the seal and once on request; so where one is on the way, the coordinator got one at most.
-use Rattle.std.proofs.Common.{◌≡◌, ◌⊎◌, inl, inr, ℕ, suc, ◌+◌, ◌≤◌, Bool, true, false, ◌&&◌, ◌||◌, not, List, [], ◌∷◌, ◌++◌, Some, is_some, if◌then◌else◌, refl, sym, subst, ap, ◌∙◌, arith}
+use Rattle.std.proofs.Common.{◌≡◌, ◌⊎◌, inl, inr, ℕ, suc, ◌+◌, ◌≤◌, Bool, true, false, ◌&&◌, ◌||◌, not, List, [], ◌∷◌, ◌++◌, Some, is_some, if◌then◌else◌, refl, sym, subst, ap, arith}
 use Rattle.dtx_values.specs.declared.call.Call.{Call}
 use Rattle.dtx_values.specs.declared.entry.Entry.{Entry}
 use Rattle.dtx_values.specs.declared.entry.Entry.TheVariants.{Called, Down as Ended, Got, Requested, Sealed, Sent, Stopped}
@@ -28,18 +28,17 @@ use Rattle.dtx_model.specs.Steps.{Step, Calls, Replies, Acts, Coordinates, Deliv
 use Rattle.dtx_model.specs.Wires.{WireRun, in_transit}
 use Rattle.dtx_model.specs.Words.{each, has, onto}
 use Rattle.dtx_model.specs.World.{World, answer_at, core, facts_at, half}
-use Rattle.dtx_model.proofs.Bools.{and_both, and_left, and_never, and_right, not_true}
-use Rattle.outcome_law.proofs.BareBlocks.{Bare, Requests, Seals, act_kind, bare_appended, bare_called, bare_cons, bare_core_got, bare_ended_at, bare_freed, bare_if, bare_local_got, bare_one, bare_restarted, is_bare, is_commit, reply_kind}
-use Rattle.outcome_law.proofs.Crossed.{is_got_on, is_sent_on}
+use Rattle.dtx_model.proofs.Bools.{and_both, and_left, and_right, not_true}
+use Rattle.outcome_law.proofs.BareBlocks.{Bare, Requests, Seals, act_kind, bare_appended, bare_called, bare_cons, bare_core_got, bare_ended_at, bare_freed, bare_if, bare_local_got, bare_one, bare_restarted, is_bare, reply_kind}
+use Rattle.outcome_law.proofs.Messages.{COMMIT}
+use Rattle.outcome_law.proofs.Crossed.{is_got_on}
 use Rattle.outcome_law.proofs.InTransit.{no_more}
 use Rattle.tx_world.specs.Left.{commits}
 use Rattle.tx_world.proofs.LeftActs.{owed}
+use Rattle.outcome_law.proofs.Asking.{is_commit_sent, bare_uncommit}
 
 no : false ≡ true → ⊥
 no e = absurd cc
-
-abbrev is_commit_sent : Entry → Bool
-is_commit_sent x = is_sent_on Begin Up is_commit x
 
 abbrev one_if : Bool → ℕ
 one_if b = if b then 1 else 0
@@ -68,15 +67,6 @@ quiets_few h [] q i = i
 quiets_few h (x ∷ es) q i =
     quiets_few (x ∷ h) es (and_right (is_uncommit x) (each is_uncommit es) q) (quiet_few x h (not_true (is_commit_sent x) (and_left (is_uncommit x) (each is_uncommit es) q)) i)
 
-bare_uncommit : (x : Entry) → is_bare x ≡ true → is_commit_sent x ≡ false
-bare_uncommit (Sent c Up m) t = ap (λ b. same_connection Begin c && true && b) (not_true (is_commit m) t) ∙ and_never (same_connection Begin c && true)
-bare_uncommit (Sent c Down m) t = down (same_connection Begin c) (is_commit m)
-  where
-    down : (a b : Bool) → (a && false && b) ≡ false
-    down true b = refl
-    down false b = refl
-bare_uncommit _ t = refl
-
 bare_few : (h es : List Entry) → Bare es → AreFew h → AreFew (onto h es)
 bare_few h [] b i = i
 bare_few h (x ∷ es) b i =
@@ -91,7 +81,7 @@ sent_few o m h l = by (knows Begin o.ends)
     one false = omega arith
 
     by : (b : Bool) → AreFew (onto h (if b then Sent Begin Up m ∷ [] else []))
-    by true = record { few = one (is_commit m) }
+    by true = record { few = one (COMMIT m) }
     by false = record { few = omega arith }
 
 seal_few : (h : List Entry) (es : List Entry) (v : Half) → v.seen ≡ observe h → Seals v es → AreFew h → AreFew (onto h es)
@@ -125,7 +115,7 @@ down_to k c m = by (has (same_connection c) k.known)
     one false b = refl
 
     by : (b : Bool) → each is_uncommit (if b then Sent c Down m ∷ [] else []) ≡ true
-    by true = one (same_connection Begin c) (is_commit m)
+    by true = one (same_connection Begin c) (COMMIT m)
     by false = refl
 
 join : (xs ys : List Entry) → each is_uncommit xs ≡ true → each is_uncommit ys ≡ true → each is_uncommit (xs ++ ys) ≡ true
@@ -182,16 +172,16 @@ pub ran_few : (G : ℕ → ActorNo → Call → Type 0) (t : ℕ) (ms : List Ste
 ran_few G t [] w r = subst AreFew (sym r.1) (record { few = omega arith })
 ran_few G t (m ∷ ms) w r = subst (λ (x : World). AreFew x.past) (sym r.3) (step_few t r.0 m (ran_few G t ms r.0 r.1))
 
-got_fewer : (h : List Entry) → commits h ≤ how_many (is_got_on Begin Up is_commit) h
+got_fewer : (h : List Entry) → commits h ≤ how_many (is_got_on Begin Up COMMIT) h
 got_fewer [] = omega arith
-got_fewer (x ∷ h) = by (is_commit_got x) (is_got_on Begin Up is_commit x) (same x) (got_fewer h)
+got_fewer (x ∷ h) = by (is_commit_got x) (is_got_on Begin Up COMMIT x) (same x) (got_fewer h)
   where
-    same : (x : Entry) → is_commit_got x ≡ true → is_got_on Begin Up is_commit x ≡ true
+    same : (x : Entry) → is_commit_got x ≡ true → is_got_on Begin Up COMMIT x ≡ true
     same (Got Begin Up BeginCommit) t = refl
     same _ t = absurd (no t)
 
-    by : (a b : Bool) → (a ≡ true → b ≡ true) → commits h ≤ how_many (is_got_on Begin Up is_commit) h
-        → (if a then suc (commits h) else commits h) ≤ (if b then suc (how_many (is_got_on Begin Up is_commit) h) else how_many (is_got_on Begin Up is_commit) h)
+    by : (a b : Bool) → (a ≡ true → b ≡ true) → commits h ≤ how_many (is_got_on Begin Up COMMIT) h
+        → (if a then suc (commits h) else commits h) ≤ (if b then suc (how_many (is_got_on Begin Up COMMIT) h) else how_many (is_got_on Begin Up COMMIT) h)
     by true true s i = omega arith
     by true false s i = absurd (no (s refl))
     by false true s i = omega arith
@@ -200,8 +190,8 @@ got_fewer (x ∷ h) = by (is_commit_got x) (is_got_on Begin Up is_commit x) (sam
 -- where a COMMIT comes, one came before at most
 pub commits_few : (h : List Entry) (ms : List Message) → WireRun h → AreFew h → in_transit Begin Up h ≡ BeginCommit ∷ ms → commits h ≤ 1
 commits_few h ms w i t =
-    let a = no_more Begin Up is_commit h w in
-    let b : how_many is_commit (in_transit Begin Up h) ≡ suc (how_many is_commit ms) = ap (how_many is_commit) t in
+    let a = no_more Begin Up COMMIT h w in
+    let b : how_many COMMIT (in_transit Begin Up h) ≡ suc (how_many COMMIT ms) = ap (how_many COMMIT) t in
     let c = got_fewer h in
     let d = i.few in
     let s = most (has is_sealed h) in

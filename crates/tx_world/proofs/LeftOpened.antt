@@ -1,5 +1,5 @@
 -- Where something is left to deliver, the connection is among those that were opened.
-use Rattle.std.proofs.Common.{◌≡◌, ℕ, zero, suc, Bool, true, false, ◌&&◌, ◌||◌, not, List, [], ◌∷◌, take, None, if◌then◌else◌, refl, subst, ◌∙◌}
+use Rattle.std.proofs.Common.{◌≡◌, ℕ, Bool, true, false, ◌&&◌, ◌||◌, not, List, [], ◌∷◌, take, None, if◌then◌else◌, refl, subst, ◌∙◌}
 use Rattle.dtx_values.specs.declared.entry.Entry.{Entry}
 use Rattle.dtx_values.specs.declared.entry.Entry.TheVariants.{Cut, Got, Sent, Stopped}
 use Rattle.dtx_values.specs.declared.message.Conn.{Conn}
@@ -13,8 +13,9 @@ use Rattle.dtx_model.specs.Wires.{in_transit, kept, lost_since, opens}
 use Rattle.dtx_model.specs.Words.{has}
 use Rattle.dtx_model.specs.World.{has_left}
 use Rattle.dtx_model.proofs.Bools.{not_both, or_false, or_first, or_second}
-use Rattle.outcome_law.proofs.Connections.{same_is}
+use Rattle.dtx_model.proofs.Connections.{same_is}
 use Rattle.tx_world.specs.Left.{opened}
+use Rattle.outcome_law.proofs.Crossed.{none_taken}
 
 -- nothing is left there, and it wasn't opened
 record IsBare (c : Conn) (d : Dir) (h : List Entry) : Type 0 where
@@ -31,11 +32,6 @@ without_other c e (x ∷ cs) s n = by (same_connection e x) refl n (without_othe
     by false q n i =
         or_false (same_connection c x) (has (same_connection c) cs) (or_first (same_connection c x) (has (same_connection c) (without e cs)) n)
         (i (or_second (same_connection c x) (has (same_connection c) (without e cs)) n))
-
-take_none : (n : ℕ) (ms : List Message) → ms ≡ [] → take n ms ≡ []
-take_none zero ms e = refl
-take_none (suc n) [] e = refl
-take_none (suc n) (m ∷ ms) e = absurd cc
 
 unsent : (c e : Conn) (d r : Dir) (m : Message) (h : List Entry) → opens c (Sent e r m) ≡ false → IsBare c d h → IsBare c d (Sent e r m ∷ h)
 unsent c e d r m h o i = record {
@@ -66,7 +62,7 @@ uncut : (c e : Conn) (d : Dir) (u n : ℕ) (h : List Entry) → IsBare c d h →
 uncut c e d u n h i = record { transit = by (same_connection c e) (kept d u n) (in_transit c d h) i.transit; lost = rw i.lost refl }
   where
     by : (s : Bool) (k : ℕ) (ms : List Message) → ms ≡ [] → (if s then take k ms else ms) ≡ []
-    by true k ms e = take_none k ms e
+    by true k ms e = none_taken k ms e
     by false k ms e = e
 
 unstopped : (c : Conn) (d : Dir) (h : List Entry) → IsBare c d h → IsBare c d (Stopped ∷ h)

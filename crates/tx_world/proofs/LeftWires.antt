@@ -13,7 +13,7 @@ use Rattle.dtx_model.specs.Coordinated.{without}
 use Rattle.dtx_model.specs.Wires.{begins_ended, ended_after, in_transit, is_ended, is_open_wire, is_stopped, opened_with, opens, sent_behind, without_first}
 use Rattle.dtx_model.specs.Words.{has}
 use Rattle.dtx_model.proofs.Bools.{not_both, not_true}
-use Rattle.outcome_law.proofs.Connections.{same_is, same_self, same_turned}
+use Rattle.dtx_model.proofs.Connections.{same_is, same_self, same_turned}
 use Rattle.tx_world.specs.Left.{end_weight, opened, total, unless, way_left, weight, wire_left, wires_left}
 use Rattle.tx_world.proofs.LeftSums.{how_many-filter, how_many-none, total-append, total-filter, total-le, total-less, total-more, unless-or}
 

@@ -1,4 +1,3 @@
-pub mod Blocks
 pub mod Bare
 pub mod Near
 pub mod Far

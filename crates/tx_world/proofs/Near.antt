@@ -18,7 +18,7 @@ use Rattle.dtx_model.specs.Replies.{reply_entries}
 use Rattle.dtx_model.specs.World.{gone_unlinked, reenlist_facts}
 use Rattle.outcome_law.proofs.Scans.{each_more}
 use Rattle.tx_world.specs.Course.{is_near}
-use Rattle.tx_world.proofs.Blocks.{Each, e_one}
+use Rattle.dtx_model.proofs.Writes.{Each, e_one}
 use Rattle.tx_world.proofs.Bare.{bare_act, bare_facts, bare_gone, bare_local_down, bare_local_got, bare_reenlist, bare_reply, is_bare}
 
 bare_near : (x : Entry) → is_bare x ≡ true → is_near x ≡ true

@@ -44,18 +44,13 @@ pub record Apt (h es : List Entry) : Type 0 where
   pub proof : each (is_apt h) es ≡ true
   pub fails : (has is_decision es || not (has is_failed es)) ≡ true
 
--- Combining blocks.
-both : (a b : Bool) → a ≡ true → b ≡ true → (a && b) ≡ true
-both true b p q = q
-both false b p q = absurd cc
-
 -- an empty block
 pub apt_none : {h : List Entry} → Apt h []
 apt_none = record { proof = refl; fails = refl }
 
 -- one more entry first
 pub apt_cons : {h : List Entry} (x : Entry) {es : List Entry} → is_apt h x ≡ true → is_failed x ≡ false → Apt h es → Apt h (x ∷ es)
-apt_cons {h} x {es} p f q = record { proof = both (is_apt h x) (each (is_apt h) es) p q.proof; fails = by (is_decision x) (has is_decision es) (is_failed x) (has is_failed es) f q.fails }
+apt_cons {h} x {es} p f q = record { proof = and_both (is_apt h x) (each (is_apt h) es) p q.proof; fails = by (is_decision x) (has is_decision es) (is_failed x) (has is_failed es) f q.fails }
   where
     by : (a b c d : Bool) → c ≡ false → (b || not d) ≡ true → ((a || b) || not (c || d)) ≡ true
     by true b c d e k = refl
@@ -76,7 +71,7 @@ apt_when false p q = q refl
 pub apt_join : {h x y : List Entry} → Apt h x → Apt h y → Apt h (x ++ y)
 apt_join {h} {x} {y} p q =
     record {
-      proof = list_all-append (is_apt h) x y ∙ both (each (is_apt h) x) (each (is_apt h) y) p.proof q.proof;
+      proof = list_all-append (is_apt h) x y ∙ and_both (each (is_apt h) x) (each (is_apt h) y) p.proof q.proof;
       fails =
           by (has is_decision x) (has is_decision y) (has is_failed x) (has is_failed y) (has is_decision (x ++ y)) (has is_failed (x ++ y)) (list_any-append is_decision x y) (list_any-append is_failed x y) p.fails q.fails;
     }
@@ -178,7 +173,7 @@ apt_more h y _ a k = refl
 pub each_apt : (h : List Entry) (y : Entry) (es : List Entry) → is_apt h y ≡ true → each (is_apt h) es ≡ true → each (is_apt (y ∷ h)) es ≡ true
 each_apt h y [] a k = refl
 each_apt h y (x ∷ es) a k =
-    both (is_apt (y ∷ h) x) (each (is_apt (y ∷ h)) es) (apt_more h y x a (and_left (is_apt h x) (each (is_apt h) es) k)) (each_apt h y es a (and_right (is_apt h x) (each (is_apt h) es) k))
+    and_both (is_apt (y ∷ h) x) (each (is_apt (y ∷ h)) es) (apt_more h y x a (and_left (is_apt h x) (each (is_apt h) es) k)) (each_apt h y es a (and_right (is_apt h x) (each (is_apt h) es) k))
 
 -- it may be sent
 pub apt_sendable : (h : List Entry) (x : Entry) → is_apt h x ≡ true → is_sendable h x ≡ true

@@ -53,6 +53,7 @@ use Rattle.dtx_model.specs.Words.{has}
 use Rattle.dtx_model.specs.World.{World, half, cut, cut_upward, facts_at, gone_by, gone_decides, open_ones}
 use Rattle.dtx_model.proofs.Bools.{and_left, and_right, not_true}
 use Rattle.tx_world.proofs.SendingApt.{Apt, apt_cons, apt_flat, apt_if, apt_join, apt_map, apt_none, apt_one, apt_sent, apt_when, can_send, is_apt}
+use Rattle.dtx_model.proofs.Writes.{promotes}
 
 -- the local side may send on what it knows, and a promotion began where it is promoting
 pub record Hears (p : List Entry) (o : Observed) : Type 0 where
@@ -328,13 +329,8 @@ apt_owner h s e x _ = apt_cons (OwnerAnswered e x) refl refl (apt_decide h x)
 apt_voted : {p : List Entry} (h : Half) → Hears p h.seen → (e : EnlNo) (v : Vote) → Apt p (voted_by h e v)
 apt_voted h s e v = apt_if (is_volatile_row h.seen e.value) (apt_veto_if (is_no v) h s) (apt_up h.seen s (Enl e) (vote_message v) (vote_later e v))
 
--- the reply opens b: a promotable promotes
-abbrev pub is_promoting_reply : Reply → Bool
-is_promoting_reply (Promotes ok) = ok
-is_promoting_reply _ = false
-
 -- each reply but that of a promotable that promotes
-pub apt_reply : {p : List Entry} (h : Half) → Hears p h.seen → (e : EnlNo) (r : Reply) → is_promoting_reply r ≡ false → Apt p (reply_entries h e r)
+pub apt_reply : {p : List Entry} (h : Half) → Hears p h.seen → (e : EnlNo) (r : Reply) → promotes r ≡ false → Apt p (reply_entries h e r)
 unfolding reply_entries track
 apt_reply h s e (VoteReply v) g = apt_cons (Voted e v) refl refl (apt_voted (sees h (Voted e v)) (record { up = s.up; promoting = s.promoting }) e v)
 apt_reply h s e (Promotes true) g = absurd cc

@@ -33,7 +33,7 @@ use Rattle.dtx_values.specs.RecoveryInfo.{is_id}
 use Rattle.dtx_values.specs.Row.{is_of}
 use Rattle.dtx_values.specs.Support.{is_single}
 use Rattle.dtx_model.specs.declared.branch.Branch.{Branch}
-use Rattle.dtx_model.specs.Answers.{durable_answer, if_begun, unless_ended, has_promotion, is_crowded, is_full, local_answer, marshal_answer, promotable_answer}
+use Rattle.dtx_model.specs.Answers.{durable_answer, if_begun, has_promotion, is_crowded, is_full, local_answer, marshal_answer, promotable_answer}
 use Rattle.dtx_model.specs.Caused.{AreMadeOnce, made_by}
 use Rattle.dtx_model.specs.Entries.{began_of, decision_of, is_decision, is_promoted, is_sealed, is_call}
 use Rattle.dtx_model.specs.Facts.{begin_promotion, durable_facts, facts_if, has_facts}
@@ -62,6 +62,7 @@ use Rattle.tx_world.proofs.SendingBlocks.{Hears, apt_facts_at, apt_facts_if, may
 use Rattle.tx_world.proofs.SendingKnown.{hears}
 use Rattle.tx_world.proofs.SendingOpened.{Opened, branch_stays}
 use Rattle.tx_world.proofs.SendingEnds.{Ends, again_ends, apt_ends, begin_ends, ends_if, enlist_ends, one_ends, promotable_ends, start_ends}
+use Rattle.outcome_law.proofs.WorldCalls.{done_behind}
 
 no : false ≡ true → ⊥
 no e = absurd cc
@@ -91,12 +92,6 @@ start_block h v (Some c) q n i =
     (λ b. begin_ends (Promoting c ∷ h) (unbegun h n i.opened) refl
     (inr (none_each (λ x. is_promotable x.1) (λ x. not (is_promotable x.1)) (λ x u. not_false (is_promotable x.1) u) (enlisted h)
     (sym (has_rows (λ e d. is_promotable d) h) ∙ ap (has (λ (x : Row). is_promotable x.class)) (sym q) ∙ b))) next)
-
--- A call was done where nothing is decided.
-pub done_open : (l : Option ℕ) (d : Option Outcome) (a : Answer) → has_facts (if_begun l (unless_ended d a)) ≡ true → (d ≡ None) × (has_facts a ≡ true)
-done_open None d a k = absurd cc
-done_open (Some n) (Some x) a k = absurd cc
-done_open (Some n) None a k = (refl, k)
 
 facts_by : (h : List Entry) (b : Bool) (es : List Entry) → Ends h → (b ≡ true → Ends (onto h es)) → Ends (onto h (facts_if b es))
 facts_by h true es i f = f refl
@@ -238,12 +233,12 @@ pub call_ends : (G : ℕ → ActorNo → Call → Type 0) (t : ℕ) (w : World) 
 unfolding answer_at local_answer observe
 call_ends G t w n a (Durable u e r s) m once made g new v i =
     let x = answer_at t w (Durable u e r s) m in
-    durable_ends t (Called n a x ∷ w.past) (half w) e r (is_single s) x v refl (λ k. (done_open (latest began_of w.past) (latest decision_of w.past) (durable_answer (half w) (is_single s)) k).0)
+    durable_ends t (Called n a x ∷ w.past) (half w) e r (is_single s) x v refl (λ k. (done_behind (latest began_of w.past) (latest decision_of w.past) (durable_answer (half w) (is_single s)) k).0)
     (own_unopened G w n a (Durable u e r s) e once made g new refl) (called_ends w.past n a x i)
 call_ends G t w n a (Promotable u e r y z p) m once made g new v i =
     let x = answer_at t w (Promotable u e r y z p) m in
     promotable_block (Called n a x ∷ w.past) e x
-    (λ k. let d = done_open (latest began_of w.past) (latest decision_of w.past) (promotable_answer (half w)) k in
+    (λ k. let d = done_behind (latest began_of w.past) (latest decision_of w.past) (promotable_answer (half w)) k in
     let free = unowned (rows w.past) (has_promotion (observe w.past)) (owns_alone (has is_sealed w.past) (may_own (rows w.past) (has_promotion (observe w.past))) (is_full (half w)) d.1) in
     let both = promoted_or (has is_promoted w.past) (is_promoting (observe w.past)) free in
     unbegun w.past (unstarted w.past both.0 both.1 d.0 i.failed) i.opened) (called_ends w.past n a x i)
@@ -251,7 +246,7 @@ call_ends G t w n a (Marshal u) m once made g new v i =
     let x = answer_at t w (Marshal u) m in
     let h = Called n a x ∷ w.past in
     facts_by h (has_facts x) (if is_promoting (half w).seen then [] else begin_promotion (half w) (Some MarshalCause)) (called_ends w.past n a x i)
-    (λ k. let d = done_open (latest began_of w.past) (latest decision_of w.past) (marshal_answer t (half w)) k in
+    (λ k. let d = done_behind (latest began_of w.past) (latest decision_of w.past) (marshal_answer t (half w)) k in
     ends_if h (is_promoting (half w).seen) [] (begin_promotion (half w) (Some MarshalCause)) (λ b. called_ends w.past n a x i)
     (λ b. start_block h (half w) (Some MarshalCause) refl
     (unstarted w.past (marshal_waits (has is_promoted w.past) (has is_sealed w.past) (is_crowded (half w)) (identifier_of t) d.1) b d.0 i.failed) (called_ends w.past n a x i)))

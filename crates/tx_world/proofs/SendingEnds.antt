@@ -26,7 +26,7 @@ use Rattle.dtx_model.specs.Words.{each, has, onto}
 use Rattle.dtx_model.specs.World.{is_linked, was_opened}
 use Rattle.dtx_model.proofs.Bools.{and_both, and_left, and_right, not_both, or_case, or_first, or_right, or_second}
 use Rattle.dtx_model.proofs.Reading.{has-onto}
-use Rattle.outcome_law.proofs.Connections.{same_self}
+use Rattle.dtx_model.proofs.Connections.{same_self}
 use Rattle.tx_world.specs.Carried.{are_sendable, is_sendable}
 use Rattle.tx_world.proofs.SendingApt.{Apt, block_sendable, can_send, each_apt, is_apt, opened_same}
 use Rattle.tx_world.proofs.SendingOpened.{Opened, apt_calm, begin_opened, calm_opened, enlist_opened, is_calm, is_unpromotable, none_opened, over_opened, promotable_opened, start_opened, voter_opened}

@@ -20,14 +20,15 @@ use Rattle.dtx_model.proofs.Bools.{and_both, and_left, and_never, and_right, not
 use Rattle.outcome_law.proofs.Lists.{has_kept, has-insert, if_kept}
 use Rattle.outcome_law.proofs.Owned.{has_filter}
 use Rattle.outcome_law.proofs.Scans.{has_more}
-use Rattle.outcome_law.proofs.Connections.{same_self}
-use Rattle.outcome_law.proofs.Crossed.{IsStill, end_still, nothing_up, no_end_up, same_conn_is, still_more, still_silent, stopped_down}
+use Rattle.dtx_model.proofs.Connections.{same_self, same_is}
+use Rattle.outcome_law.proofs.Crossed.{IsStill, end_still, nothing_up, no_end_up, still_more, still_silent, stopped_down}
 use Rattle.outcome_law.proofs.Leading.{opening_was_sent}
 use Rattle.outcome_law.proofs.Reenlisted.{opened_since}
 use Rattle.outcome_law.proofs.HalfKnows.{cause_seen}
 use Rattle.outcome_law.proofs.Table.{is_opening_got}
 use Rattle.tx_world.proofs.SendingApt.{can_same, can_send, ended_same}
 use Rattle.tx_world.proofs.SendingBlocks.{Hears, Speaks}
+use Rattle.outcome_law.proofs.Recorded.{not_up}
 
 no : false ≡ true → ⊥
 no e = absurd cc
@@ -79,16 +80,12 @@ end_known c e (n ∷ ns) k =
       where
         apart_by : is_end_of e n ≡ false → is_known c n ≡ true → same_connection c e ≡ false
         apart_by q t =
-            let at = same_conn_is c n.connection (and_left (is_end_of c n) (not n.ended) t) in
+            let at = same_is c n.connection (and_left (is_end_of c n) (not n.ended) t) in
             false_from_ne_true (same_connection c e)
-            (λ s. not_both (is_end_of e n) (let P : Conn → Type 0 = λ x. same_connection x n.connection ≡ true in subst P (same_conn_is c e s) (and_left (is_end_of c n) (not n.ended) t)) q)
+            (λ s. not_both (is_end_of e n) (let P : Conn → Type 0 = λ x. same_connection x n.connection ≡ true in subst P (same_is c e s) (and_left (is_end_of c n) (not n.ended) t)) q)
 
 stays_up : (c : Conn) (x : Entry) (h : List Entry) → opens c x ≡ false → ends c Down x ≡ false → can_send c Up h ≡ true → can_send c Up (x ∷ h) ≡ true
 stays_up c x h n m k = can_same c Up h x n m ∙ k
-
-never : (a b : Bool) → (a && false && b) ≡ false
-never true b = refl
-never false b = refl
 
 lined : (a b : Bool) → b ≡ true → (a && true && not b) ≡ false
 lined true true e = refl
@@ -119,7 +116,7 @@ known_up c (Got e Down m ∷ h) k = step (λ t. known_up c h t) (has_line e Down
 known_up c (Ended e Down ∷ h) k =
     let w = end_known c e (ends_of h) k in
     stays_up c (Ended e Down) h refl (ap (λ b. b && true) w.0) (known_up c h w.1)
-known_up c (Got e Up m ∷ h) k = stays_up c (Got e Up m) h refl (never (same_connection c e) (not (has_line e Up m))) (known_up c h k)
+known_up c (Got e Up m ∷ h) k = stays_up c (Got e Up m) h refl (not_up (same_connection c e) (not (has_line e Up m))) (known_up c h k)
 known_up c (Ended e Up ∷ h) k = stays_up c (Ended e Up) h refl (and_never (same_connection c e)) (known_up c h k)
 known_up c (x ∷ h) k = stays_up c x h refl refl (known_up c h k)
 
@@ -160,11 +157,11 @@ ended_still c (x ∷ h) w k = step (λ t. ended_still c h w.1 t) (opens c x) ref
 
     here : (x : Entry) → WireRun (x ∷ h) → ends c Up x ≡ true → IsStill c Up (x ∷ h)
     here (Ended e Up) w t =
-        let P : Conn → Type 0 = λ y. IsStill y Up (Ended e Up ∷ h) in subst P (sym (same_conn_is c e (and_left (same_connection c e) true t))) (end_still e Up h w.0)
+        let P : Conn → Type 0 = λ y. IsStill y Up (Ended e Up ∷ h) in subst P (sym (same_is c e (and_left (same_connection c e) true t))) (end_still e Up h w.0)
     here (Ended e Down) w t = absurd (not_both (same_connection c e && false) t (and_never (same_connection c e)))
     here (Got e Up m) w t =
         lost e m (and_left (same_connection c e) true (and_left (same_connection c e && true) (not (has_line e Up m)) t)) (not_true (has_line e Up m) (and_right (same_connection c e && true) (not (has_line e Up m)) t))
-    here (Got e Down m) w t = absurd (not_both (same_connection c e && false && not (has_line e Down m)) t (never (same_connection c e) (not (has_line e Down m))))
+    here (Got e Down m) w t = absurd (not_both (same_connection c e && false && not (has_line e Down m)) t (not_up (same_connection c e) (not (has_line e Down m))))
     here Stopped w t = (stopped_down c (Stopped ∷ h) refl).still
     here _ w t = absurd (no t)
 
@@ -191,7 +188,7 @@ stays_down c x h n m k = can_same c Down h x n m ∙ k
 known_without : (c e : Conn) (cs : List Conn) → has (same_connection c) (without e cs) ≡ true → (same_connection c e ≡ false) × (has (same_connection c) cs ≡ true)
 known_without c e cs k =
     let t = sym (has_filter (same_connection c) (λ d. not (same_connection e d)) cs) ∙ k in (
-      false_from_ne_true (same_connection c e) (λ s. not_both (has (λ d. same_connection c d && not (same_connection e d)) cs) t (none (same_conn_is c e s) cs)),
+      false_from_ne_true (same_connection c e) (λ s. not_both (has (λ d. same_connection c d && not (same_connection e d)) cs) t (none (same_is c e s) cs)),
       has_more (λ d. same_connection c d && not (same_connection e d)) (same_connection c) (λ d a. and_left (same_connection c d) (not (same_connection e d)) a) cs t,
     )
   where
@@ -240,7 +237,7 @@ known_down c (Got e Up m ∷ h) w k = step (λ t. known_down c h w.1 t) (has_lin
     step ih true false p q k = stays_down c (Got e Up m) h refl (lined (same_connection c e) (has_line e Up m) p) (ih k)
     step ih true true p q k =
         or_case (same_connection c e) (has (same_connection c) (without e (coordinate h).known))
-        (λ s. let P : Conn → Type 0 = λ y. can_send y Down (Got e Up m ∷ h) ≡ true in subst P (sym (same_conn_is c e s)) (come_down e m h w q p))
+        (λ s. let P : Conn → Type 0 = λ y. can_send y Down (Got e Up m ∷ h) ≡ true in subst P (sym (same_is c e s)) (come_down e m h w q p))
         (λ t. let u = known_without c e (coordinate h).known t in stays_down c (Got e Up m) h refl (not_same (same_connection c e) (not (has_line e Up m)) u.0) (ih u.1))
         (sym (has-insert (same_connection c) order_of e (without e (coordinate h).known)) ∙ k)
 known_down c (Ended e Up ∷ h) w k =
@@ -253,7 +250,7 @@ known_down c (Sent e r m ∷ h) w k = step (known_down c h w.1 k) (opens c (Sent
         opened_down c (Sent e r m) h q
         (false_from_ne_true (is_stopped h) (λ s. not_both (has (same_connection c) (coordinate h).known) k (ap (has (same_connection c)) (stopped_empty h w.1 s))))
     step ih false q = stays_down c (Sent e r m) h q refl ih
-known_down c (Got e Down m ∷ h) w k = stays_down c (Got e Down m) h refl (never (same_connection c e) (not (has_line e Down m))) (known_down c h w.1 k)
+known_down c (Got e Down m ∷ h) w k = stays_down c (Got e Down m) h refl (not_up (same_connection c e) (not (has_line e Down m))) (known_down c h w.1 k)
 known_down c (Ended e Down ∷ h) w k = stays_down c (Ended e Down) h refl (and_never (same_connection c e)) (known_down c h w.1 k)
 known_down c (x ∷ h) w k = stays_down c x h refl refl (known_down c h w.1 k)
 

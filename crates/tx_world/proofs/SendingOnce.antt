@@ -15,8 +15,8 @@ use Rattle.dtx_model.specs.Promotes.{is_begun_got, is_created_got}
 use Rattle.dtx_model.specs.Wires.{WireRun, in_transit, opens, same_connection}
 use Rattle.dtx_model.specs.Words.{always, has}
 use Rattle.dtx_model.proofs.Bools.{and_both, and_left, and_right, not_both, not_true, or_case}
-use Rattle.outcome_law.proofs.Connections.{same_self}
-use Rattle.outcome_law.proofs.Crossed.{is_got_on, is_sent_on, same_conn_is}
+use Rattle.dtx_model.proofs.Connections.{same_self, same_is}
+use Rattle.outcome_law.proofs.Crossed.{is_got_on, is_sent_on}
 use Rattle.outcome_law.proofs.InTransit.{no_more}
 use Rattle.outcome_law.proofs.Leading.{sent_opens}
 use Rattle.outcome_law.proofs.StillBlocks.{is_welcome}
@@ -49,7 +49,7 @@ got_opening : (c : Conn) (x : Entry) → is_opening_got c x ≡ true → is_got_
 got_opening c (Got e Up m) t =
     let s = and_left (same_connection c e) (is_opening e m) t in
     and_both (same_connection c e && true) (is_opening c m) (and_both (same_connection c e) true s refl)
-    (let P : Conn → Type 0 = λ y. is_opening y m ≡ true in subst P (sym (same_conn_is c e s)) (and_right (same_connection c e) (is_opening e m) t))
+    (let P : Conn → Type 0 = λ y. is_opening y m ≡ true in subst P (sym (same_is c e s)) (and_right (same_connection c e) (is_opening e m) t))
 got_opening c _ t = absurd (no t)
 
 abbrev one_if : Bool → ℕ
@@ -65,7 +65,7 @@ answers c (Sent e Down m ∷ h) a =
   where
     ends : (not (is_welcome m) || ends_with (is_opening_got e) h) ≡ true → (same_connection c e && true && is_welcome m) ≡ true → ends_with (is_opening_got c) h ≡ true
     ends d t =
-        let same = same_conn_is c e (and_left (same_connection c e) true (and_left (same_connection c e && true) (is_welcome m) t)) in
+        let same = same_is c e (and_left (same_connection c e) true (and_left (same_connection c e && true) (is_welcome m) t)) in
         let welcome = and_right (same_connection c e && true) (is_welcome m) t in
         let P : Conn → Type 0 = λ y. ends_with (is_opening_got y) h ≡ true in
         subst P (sym same) (or_case (not (is_welcome m)) (ends_with (is_opening_got e) h) (λ n. absurd (not_both (is_welcome m) welcome (not_true (is_welcome m) n))) (λ q. q) d)

@@ -39,7 +39,7 @@ use Rattle.outcome_law.proofs.Lists.{OfEach, has-insert}
 use Rattle.outcome_law.proofs.Owned.{has_filter}
 use Rattle.outcome_law.proofs.Scans.{has_more}
 use Rattle.outcome_law.proofs.Tests.{eq_swap}
-use Rattle.outcome_law.proofs.Makers.{AreMade, IsWaiter, waits_at}
+use Rattle.outcome_law.proofs.Makers.{AreMade, IsWaiter, waits_at, place_number}
 
 no : false ≡ true → ⊥
 no e = absurd cc
@@ -143,13 +143,9 @@ abbrev pub are_apart : List Waiter → Bool
 are_apart [] = true
 are_apart (v ∷ vs) = not (has (same_place v) vs) && are_apart vs
 
-abbrev place_of : Wanted → ℕ
-place_of (Place e r c) = e.value
-place_of Identifier = 0
-
 -- a call that waits for a place makes its enlistment
 place_made : (e : EnlNo) (r : RmNo) (c : Class) (k : Call) → Place e r c ≡ wanted_by k → made_by k ≡ Some (OfEnlistment e.value)
-place_made e r c (Durable t f q s) w = ap (λ n. Some (OfEnlistment n)) (sym (ap place_of w))
+place_made e r c (Durable t f q s) w = ap (λ n. Some (OfEnlistment n)) (sym (ap place_number w))
 place_made e r c _ w = absurd cc
 
 one_apart : (G : ℕ → ActorNo → Call → Type 0) (ks : List EnteredCall) (h : List Entry) (v w : Waiter) → AreMadeOnce G → IsWaiter G ks h v → IsWaiter G ks h w → (v.0 == w.0) ≡ false → same_place v w ≡ false
