@@ -18,7 +18,7 @@ use Rattle.dtx_model.specs.Half.{is_gone, is_handed}
 use Rattle.dtx_model.specs.Replies.{all_due, conn_due, due_conn, due_of, fits, may_still_vote, names, note_at, note_of_conn, note_of_row, owes_outcome, owes_promotion, owes_request, row_note, with_name, with_names, with_note}
 use Rattle.dtx_model.proofs.Bools.{and_both, and_left, and_right, or_case, or_first, or_second}
 use Rattle.enlist_table.specs.Waiting.{is_waiting}
-use Rattle.local_half.specs.Half.{first_due, lower, may_owe, owes_ack}
+use Rattle.local_half.specs.Half.{first_due, lower, may_owe, owes_ack, owes_more}
 
 -- what is found fails a test that none passes
 found_fails : {A : Type 0} (p q : A → Bool) (xs : List A) (x : A) → find p xs ≡ Some x → has q xs ≡ false → q x ≡ false
@@ -42,29 +42,22 @@ unhanded : (f : Option EnlNo) (e : ℕ) → is_some f ≡ false → is_handed f 
 unhanded None e k = refl
 unhanded (Some f) e k = absurd (cc)
 
--- where none may be due, none is due of a row, and none to a commit
-module _ (o : Observed) (k : may_owe o ≡ false) where
-  parts : (has is_waiting o.table ≡ false) × (is_some o.handed ≡ false) × ((o.promote_asked && not o.promote_replied) ≡ false) × ((o.single_asked && not o.requested) ≡ false) × (has owes_ack o.branches ≡ false)
+-- where votes alone may be due, none is due of a row that isn't waited for, and none to a commit
+module _ (o : Observed) (k : owes_more o ≡ false) where
+  parts : (is_some o.handed ≡ false) × ((o.promote_asked && not o.promote_replied) ≡ false) × ((o.single_asked && not o.requested) ≡ false) × (has owes_ack o.branches ≡ false)
   parts =
-      let a = has is_waiting o.table in
-      let b = is_some o.handed in
-      let c = o.promote_asked && not o.promote_replied in
-      let d = o.single_asked && not o.requested in
-      let e = has owes_ack o.branches in
-      let four = or_first (((a || b) || c) || d) e k in
-      let three = or_first ((a || b) || c) d four in
+      let a = is_some o.handed in
+      let b = o.promote_asked && not o.promote_replied in
+      let c = o.single_asked && not o.requested in
+      let d = has owes_ack o.branches in
+      let three = or_first ((a || b) || c) d k in
       let two = or_first (a || b) c three in
-      (or_first a b two, or_second a b two, or_second (a || b) c three, or_second ((a || b) || c) d four, or_second (((a || b) || c) || d) e k)
+      (or_first a b two, or_second a b two, or_second (a || b) c three, or_second ((a || b) || c) d k)
 
-  row_due : (e : ℕ) (x : Row) → find (is_of e) o.table ≡ Some x → row_note o x ≡ None
-  row_due e x f =
-      let unvoted : (is_marked x && not (has_voted x)) ≡ false = found_fails (is_of e) is_waiting o.table x f parts.0 in
-      let outcome = unhanded o.handed x.number.value parts.1 in
-      rw (unvoted, parts.2, outcome, parts.3) refl
-
-  note_due : (e : ℕ) (x : Option Row) → find (is_of e) o.table ≡ x → note_of_row o x ≡ None
-  note_due e None f = refl
-  note_due e (Some x) f = row_due e x f
+  no_note : (x : Row) → is_waiting x ≡ false → row_note o x ≡ None
+  no_note x unvoted =
+      let outcome = unhanded o.handed x.number.value parts.0 in
+      rw (unvoted, parts.1, outcome, parts.2) refl
 
   conn_none : (c : Option Conn) → is_some c ≡ false → note_of_conn c ≡ None
   conn_none None i = refl
@@ -72,15 +65,28 @@ module _ (o : Observed) (k : may_owe o ≡ false) where
 
   ack_due : (e : ℕ) (b : Option Branch) → find (is_branch e) o.branches ≡ b → note_of_conn (due_conn b) ≡ None
   ack_due e None f = refl
-  ack_due e (Some b) f = conn_none b.due (found_fails (is_branch e) owes_ack o.branches b f parts.4)
+  ack_due e (Some b) f = conn_none b.due (found_fails (is_branch e) owes_ack o.branches b f parts.3)
+
+  no_reply : (e : ℕ) (x : Option Row) → note_of_row o x ≡ None → note_at o e x ≡ None
+  no_reply e x none = by (is_gone o e)
+    where
+      by : (g : Bool) → (if g then None else or_else (note_of_row o x) (note_of_conn (due_conn (find (is_branch e) o.branches)))) ≡ None
+      by true = refl
+      by false = rw (none, ack_due e (find (is_branch e) o.branches) refl) refl
+
+-- such a row
+pub quiet_row : (o : Observed) → owes_more o ≡ false → (x : Row) → is_waiting x ≡ false → note_at o x.number.value (Some x) ≡ None
+quiet_row o k x unvoted = no_reply o k x.number.value (Some x) (no_note o k x unvoted)
+
+-- where none may be due, none is
+module _ (o : Observed) (k : may_owe o ≡ false) where
+  note_due : (e : ℕ) (x : Option Row) → find (is_of e) o.table ≡ x → note_of_row o x ≡ None
+  note_due e None f = refl
+  note_due e (Some x) f = no_note o (or_second (has is_waiting o.table) (owes_more o) k) x (found_fails (is_of e) is_waiting o.table x f (or_first (has is_waiting o.table) (owes_more o) k))
 
   none_of : (e : ℕ) → due_of o e ≡ None
   unfolding due_of
-  none_of e = by (is_gone o e)
-    where
-      by : (g : Bool) → (if g then None else or_else (note_of_row o (find (is_of e) o.table)) (note_of_conn (due_conn (find (is_branch e) o.branches)))) ≡ None
-      by true = refl
-      by false = rw (note_due e (find (is_of e) o.table) refl, ack_due e (find (is_branch e) o.branches) refl) refl
+  none_of e = no_reply o (or_second (has is_waiting o.table) (owes_more o) k) e (find (is_of e) o.table) (note_due e (find (is_of e) o.table) refl)
 
   none_in : (es : List EnlNo) → filter_map (λ (e : EnlNo). with_note e (due_of o e.value)) es ≡ []
   none_in [] = refl
@@ -264,7 +270,7 @@ unfolding all_due
 first_of_all o = refl
 
 -- a row at a place is found by its number
-found_above : (n : ℕ) (xs : List Row) (k : ℕ) (x : Row) → rises_above n xs ≡ true → slice_get xs k ≡ Some x → (n < number_of x) × (find (is_of x.number.value) xs ≡ Some x)
+pub found_above : (n : ℕ) (xs : List Row) (k : ℕ) (x : Row) → rises_above n xs ≡ true → slice_get xs k ≡ Some x → (n < number_of x) × (find (is_of x.number.value) xs ≡ Some x)
 found_above n [] k x r e = absurd cc
 found_above n (y ∷ ys) zero x r e =
     let same : y ≡ x = cc in

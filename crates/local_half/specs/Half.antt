@@ -100,9 +100,13 @@ fits_due r None = true
 abbrev pub owes_ack : Branch → Bool
 owes_ack b = is_some b.due
 
--- A reply may be due: a vote is awaited, the commit was handed over, a promotable was asked and didn't reply, or a commit wasn't acknowledged.
+-- Something else than a vote may be due: the commit was handed over, a promotable was asked and didn't reply, or a commit wasn't acknowledged.
+abbrev pub owes_more : Observed → Bool
+owes_more o = is_some o.handed || (o.promote_asked && not o.promote_replied) || (o.single_asked && not o.requested) || has owes_ack o.branches
+
+-- A reply may be due: a vote is awaited, or something else may be due.
 abbrev pub may_owe : Observed → Bool
-may_owe o = has is_waiting o.table || is_some o.handed || (o.promote_asked && not o.promote_replied) || (o.single_asked && not o.requested) || has owes_ack o.branches
+may_owe o = has is_waiting o.table || owes_more o
 
 -- the reply of the lower number; the second where the numbers are the same
 abbrev pub lower : Option (EnlNo × Note) → Option (EnlNo × Note) → Option (EnlNo × Note)

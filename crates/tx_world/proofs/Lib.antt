@@ -28,6 +28,7 @@ pub mod Freeing
 pub mod Found
 pub mod Living
 pub mod Listing
+pub mod ByRow
 pub mod Entering
 pub mod Calling
 pub mod Linking

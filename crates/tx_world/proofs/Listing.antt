@@ -16,7 +16,7 @@ use Rattle.dtx_values.specs.declared.number.TxNo.{TxNo}
 use Rattle.dtx_values.specs.declared.row.Row.{Row}
 use Rattle.dtx_values.specs.Table.{enl_number, insert_by}
 use Rattle.dtx_model.specs.declared.branch.Branch.{Branch}
-use Rattle.dtx_model.specs.Words.{has}
+use Rattle.dtx_model.specs.Words.{has, kth}
 use Rattle.dtx_model.specs.Acts.{act_entries}
 use Rattle.dtx_model.specs.Coordinated.{Coordinated, may_free, may_log}
 use Rattle.dtx_model.specs.Plans.{plan_of}
@@ -31,7 +31,7 @@ use Rattle.dtx_model.specs.Observed.{Observed}
 use Rattle.dtx_model.specs.Half.{Half}
 use Rattle.dtx_model.specs.Plans.{planned}
 use Rattle.dtx_model.specs.Replies.{all_due, due_of, is_answered, names, with_name, with_names, with_note}
-use Rattle.dtx_model.specs.Steps.{StepName, CoordinatorAct, ReplyOf, core_act, deliveries_on, delivery_if, local_if, local_pending, pending, replies_due}
+use Rattle.dtx_model.specs.Steps.{StepName, CoordinatorAct, LocalAct, ReplyOf, core_act, deliveries_on, delivery_if, local_if, local_pending, pending, replies_due}
 use Rattle.tx_world.specs.declared.pending.At.{At}
 use Rattle.tx_world.specs.declared.pending.At.TheVariants.{Step as StepHere, Beyond}
 use Rattle.tx_world.specs.declared.pending.PendingStep.{PendingStep}
@@ -164,6 +164,16 @@ at_act t w h k i n s kept before here =
     let passed = subst (λ (g : Half). IsAt (replies_due p g) i (Beyond n)) (half_is t w h k kept) before in
     let found = subst (λ (g : Half). IsAt (local_if (act_entries g)) n (StepHere s)) (half_is t w h k kept) here in
     at_sooner (replies ++ act ++ core_act (core w)) (flat_map (deliveries_on w.past) (half w).seen.ends) i s (at_sooner (replies ++ act) (core_act (core w)) i s (at_later replies act i n (StepHere s) passed found))
+
+-- where no reply is due, the local act is the first
+pub act_is_first : (t : TxNo) (w : World) (h : Known) (k : CoreKept) → Kept t w h k → all_due h.half.seen ≡ [] → not (is_empty (act_entries (half w))) ≡ true → kth (pending w) 1 ≡ Some LocalAct
+act_is_first t w h k kept none some =
+    let here = subst (λ (g : Half). slice_get (local_if (act_entries g)) 0 ≡ Some LocalAct) (sym (half_is t w h k kept)) (first (act_entries (half w)) some) in
+    at_act t w h k 0 0 Act kept (no_replies (plan_of w.calls) h.half 0 none) here
+  where
+    first : (es : List Entry) → not (is_empty es) ≡ true → slice_get (local_if es) 0 ≡ Some LocalAct
+    first [] e = absurd (cc)
+    first (x ∷ es) e = refl
 
 pub at_core : (t : TxNo) (w : World) (h : Known) (k : CoreKept) (i n m : ℕ) (s : PendingStep) → Kept t w h k → IsAt (replies_due (plan_of w.calls) h.half) i (Beyond n) → IsAt (local_if (act_entries h.half)) n (Beyond m)
     → IsAt (core_act k.state) m (StepHere s) → IsAt (pending w) i (StepHere s)

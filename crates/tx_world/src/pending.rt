@@ -1,12 +1,13 @@
 //! The pending steps of a transaction, in their order.
-ghost use Rattle.std.specs.Prelude.{◌≡◌, ◌==◌, ◌≤◌, ◌<◌, ◌+◌, ◌++◌, ◌||◌, IfSome, length, true, false};
+ghost use Rattle.std.specs.Prelude.{◌≡◌, ◌==◌, ◌≤◌, ◌<◌, ◌+◌, ◌++◌, ◌||◌, [], IfSome, length, true, false};
 ghost use Rattle.std.specs.List.{flat_map};
 ghost use Rattle.arrayvec.specs.ArrayVec.{array_vec_len};
 ghost use Rattle.dtx_values.specs.Table.{enl_number, insert_by};
 ghost use Rattle.dtx_model.specs.Words.{has, past_of};
 ghost use Rattle.dtx_model.specs.Acts.{act_entries};
 ghost use Rattle.dtx_model.specs.Plans.{plan_of};
-ghost use Rattle.dtx_model.specs.Replies.{names, with_name};
+ghost use Rattle.dtx_model.specs.Observed.{Observed};
+ghost use Rattle.dtx_model.specs.Replies.{due_of, names, with_name};
 ghost use Rattle.dtx_model.specs.Steps.{core_act, deliveries_on, delivery_if, local_if, replies_due};
 ghost use Rattle.dtx_model.specs.World.{has_left};
 ghost use Rattle.dtx_model.specs.Outcome.{is_empty};
@@ -14,7 +15,7 @@ ghost use Rattle.dtx_model.specs.Coordinated.{may_free, may_log};
 ghost use Rattle.dtx_values.specs.declared.message.Conn.{Conn};
 ghost use Rattle.dtx_values.specs.declared.message.Dir.{Dir};
 ghost use Rattle.dtx_values.specs.declared.message.Dir.TheVariants.{Up, Down};
-ghost use Rattle.tx_world.specs.Pending.{IsAt, IsPlannedAt, IsReply, reply_step, step_if};
+ghost use Rattle.tx_world.specs.Pending.{IsAt, IsPlannedAt, IsReply, planned_to, reply_if, step_if};
 ghost use Rattle.tx_world.specs.declared.pending.PendingStep.{PendingStep};
 
 use crate::history::History;
@@ -109,19 +110,58 @@ fn names(half: &LocalHalf) -> ArrayVec<EnlNo, NAMES>
     found
 }
 
-/// The step of an enlistment, where a reply of it is due and planned.
-fn reply_at(half: &LocalHalf, calls: &[EnteredCall], e: EnlNo, more: usize) -> At
-    ensures at { IsAt (reply_step (plan_of (past_of calls.now)) half.now.half.seen e) more result }
-    ensures planned { IsPlannedAt (plan_of (past_of calls.now)) half.now.half.seen result }
+/// The step of an enlistment, where a reply of it is due, to this note, and planned.
+fn reply_at(calls: &[EnteredCall], e: EnlNo, due: Option<Note>, more: usize) -> At
+    ensures at { IsAt (reply_if e (planned_to (plan_of (past_of calls.now) e.value) due)) more result }
+    ensures planned { (o : Observed) → due ≡ due_of o e.value → IsPlannedAt (plan_of (past_of calls.now)) o result }
     ensures only { (t : PendingStep) → result ≡ At.Step t → IsReply t }
 {
-    let Some(note) = half.due_of(e) else {
+    let Some(note) = due else {
         return At::Beyond(more);
     };
     let Some(reply) = planned_reply(calls, e, note) else {
         return At::Beyond(more);
     };
     first_if(true, PendingStep::Reply(e, note, reply), more)
+}
+
+/// The replies that are due and planned, row by row, where no enlistment stands at the coordinator.
+fn row_replies_at(half: &LocalHalf, calls: &[EnteredCall], k: usize) -> At
+    requires { half.now.half.seen.branches ≡ [] }
+    ensures at { IsAt (replies_due (plan_of (past_of calls.now)) half.now.half) k result }
+    ensures planned { IsPlannedAt (plan_of (past_of calls.now)) half.now.half.seen result }
+    ensures only { (t : PendingStep) → result ≡ At.Step t → IsReply t }
+{
+    // Where votes alone may be due, a row that isn't waited for needs no look.
+    let all = half.may_owe_more();
+    let mut more = k;
+    for x in half.rows() {
+        if !all && (!x.is_marked() || x.has_voted()) {
+            continue;
+        }
+        match reply_at(calls, x.number, half.due_note(x), more) {
+            At::Beyond(n) => more = n,
+            At::Step(s) => return At::Step(s),
+        }
+    }
+    At::Beyond(more)
+}
+
+/// The replies that are due and planned, name by name.
+fn named_replies_at(half: &LocalHalf, calls: &[EnteredCall], k: usize) -> At
+    ensures at { IsAt (replies_due (plan_of (past_of calls.now)) half.now.half) k result }
+    ensures planned { IsPlannedAt (plan_of (past_of calls.now)) half.now.half.seen result }
+    ensures only { (t : PendingStep) → result ≡ At.Step t → IsReply t }
+{
+    let es = names(half);
+    let mut more = k;
+    for e in es.as_slice() {
+        match reply_at(calls, *e, half.due_of(*e), more) {
+            At::Beyond(n) => more = n,
+            At::Step(s) => return At::Step(s),
+        }
+    }
+    At::Beyond(more)
 }
 
 /// The replies that are due and planned.
@@ -134,15 +174,11 @@ pub(crate) fn replies_at(half: &LocalHalf, calls: &[EnteredCall], k: usize) -> A
     if !half.may_be_due() {
         return At::Beyond(k);
     }
-    let es = names(half);
-    let mut more = k;
-    for e in es.as_slice() {
-        match reply_at(half, calls, *e, more) {
-            At::Beyond(n) => more = n,
-            At::Step(s) => return At::Step(s),
-        }
+    if half.branches().is_empty() {
+        row_replies_at(half, calls, k)
+    } else {
+        named_replies_at(half, calls, k)
     }
-    At::Beyond(more)
 }
 
 /// The local act.

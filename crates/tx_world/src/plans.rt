@@ -1,5 +1,5 @@
 //! What the calls of a transaction plan for its enlistments.
-ghost use Rattle.std.specs.Prelude.{◌≡◌, ◌==◌, ℕ, IfNone, IfSome, None};
+ghost use Rattle.std.specs.Prelude.{◌≡◌};
 ghost use Rattle.dtx_model.specs.Plans.{plan_by, plan_if, plan_of, planned, support_plan};
 ghost use Rattle.dtx_model.specs.Words.{past_of};
 
@@ -27,38 +27,39 @@ fn support_plan(s: Support) -> Plan
     }
 }
 
-/// The enlistment that a call makes, and its plan.
-fn said_by(c: &Call) -> Option<(EnlNo, Plan)>
-    ensures some { IfSome result (λ x. (e : ℕ) → plan_by e c.now ≡ plan_if (e == x.0.value) x.1) }
-    ensures none { IfNone result ((e : ℕ) → plan_by e c.now ≡ None) }
+/// The plan, where it is said of this enlistment.
+fn plan_if(is_it: bool, p: Plan) -> Option<Plan>
+    ensures { result ≡ plan_if is_it p }
 {
-    match *c {
-        Call::Volatile(_, e, _, vote) => Some((e, plan(vote, None, None))),
-        Call::Durable(_, e, _, support) => Some((e, support_plan(support))),
-        Call::Promotable(_, e, _, vote, owner, promote) => Some((e, plan(vote, owner, promote))),
-        _ => None,
-    }
+    if is_it { Some(p) } else { None }
 }
 
 /// The plan that a call makes for an enlistment; `None` where it doesn't make the enlistment.
 fn plan_by(e: EnlNo, c: &Call) -> Option<Plan>
     ensures { result ≡ plan_by e.value c.now }
 {
-    let (f, said) = said_by(c)?;
-    if e == f { Some(said) } else { None }
+    match *c {
+        Call::Volatile(_, f, _, vote) => plan_if(e == f, plan(vote, None, None)),
+        Call::Durable(_, f, _, support) => plan_if(e == f, support_plan(support)),
+        Call::Promotable(_, f, _, vote, owner, promote) => {
+            plan_if(e == f, plan(vote, owner, promote))
+        }
+        _ => None,
+    }
 }
 
 /// The plan of an enlistment, by the last call that makes it.
 fn plan_of(calls: &[EnteredCall], e: EnlNo) -> Plan
     ensures { result ≡ plan_of (past_of calls.now) e.value }
 {
-    let mut found = plan(None, None, None);
-    for k in calls {
-        if let Some(p) = plan_by(e, &k.call) {
-            found = p;
+    let mut i = calls.len();
+    while i > 0 {
+        i -= 1;
+        if let Some(found) = plan_by(e, &calls[i].call) {
+            return found;
         }
     }
-    found
+    plan(None, None, None)
 }
 
 /// The reply that an enlistment plans to a note; `None` where it is silent.

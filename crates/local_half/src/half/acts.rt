@@ -276,6 +276,7 @@ impl LocalHalf {
         ensures acted { result ≡ not (is_empty (act_entries self.old.half)) }
         ensures state { self.new ≡ after [] self.old (act_entries self.old.half) }
         ensures out { out.new ≡ written out.old (act_entries self.old.half) }
+        ensures unchanged { result ≡ false → self.new ≡ self.old }
         ensures runs { (w : World) → Follows self.old.transaction.value w self.old.half → result ≡ true → Follows self.old.transaction.value (world_after self.old.transaction.value w Acts) self.new.half }
     {
         match self.next_act() {

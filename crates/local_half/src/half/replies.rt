@@ -1,5 +1,5 @@
 //! The replies that are due, and what a reply writes.
-ghost use Rattle.std.specs.Prelude.{◌≡◌, [], ◌∷◌, Some, false, find, is_some, map, true};
+ghost use Rattle.std.specs.Prelude.{◌≡◌, [], ◌∷◌, None, Some, false, find, is_some, map, true};
 ghost use Rattle.dtx_values.specs.Outgoing.{written};
 ghost use Rattle.dtx_values.specs.Table.{rises_above, was_asked};
 ghost use Rattle.dtx_values.specs.declared.entry.Entry.TheVariants.{Acked};
@@ -8,7 +8,9 @@ ghost use Rattle.dtx_model.specs.Replies.{ack_on, all_due, conn_due, due_of, fit
 ghost use Rattle.dtx_model.specs.Steps.{Replies, after as world_after};
 ghost use Rattle.dtx_model.specs.Words.{kth};
 ghost use Rattle.dtx_model.specs.World.{World};
-ghost use Rattle.local_half.specs.Half.{Follows, HasRoom, IsRoom, after, first_due, fits_due, lower, may_owe};
+ghost use Rattle.dtx_values.specs.declared.row.Row.{Row};
+ghost use Rattle.enlist_table.specs.Waiting.{is_waiting};
+ghost use Rattle.local_half.specs.Half.{Follows, HasRoom, IsRoom, after, first_due, fits_due, lower, may_owe, owes_more};
 
 use super::LocalHalf;
 use crate::branches::{branch_at, branch_of, owe_ack};
@@ -154,15 +156,29 @@ impl LocalHalf {
         None
     }
 
-    /// Whether a vote is awaited, the commit was handed over, a promotable was asked and didn't reply, or a commit wasn't acknowledged.
-    fn may_owe(&self) -> bool
-        ensures { result ≡ may_owe self.now.half.seen }
+    /// Whether the commit was handed over, a promotable was asked and didn't reply, or a commit wasn't acknowledged.
+    fn owes_more(&self) -> bool
+        ensures { result ≡ owes_more self.now.half.seen }
     {
-        self.table.waits()
-            || self.handed.is_some()
+        self.handed.is_some()
             || (self.promote_asked && !self.promote_replied)
             || (self.single_asked && !self.requested)
             || owe_ack(&self.branches)
+    }
+
+    /// Whether something else than votes may be due. Where nothing else may, nothing is due of a row that wasn't asked to prepare, or voted.
+    pub fn may_owe_more(&self) -> bool
+        ensures exact { result ≡ owes_more self.now.half.seen }
+        ensures votes { result ≡ false → (x : Row) → is_waiting x ≡ false → note_at self.now.half.seen x.number.value (Some x) ≡ None }
+    {
+        self.owes_more()
+    }
+
+    /// Whether a vote is awaited, or something else may be due.
+    fn may_owe(&self) -> bool
+        ensures { result ≡ may_owe self.now.half.seen }
+    {
+        self.table.waits() || self.owes_more()
     }
 
     /// Whether a reply may be due: a vote is awaited, the commit was handed over, a promotable was asked and

@@ -1,10 +1,11 @@
 //! The steps of the local side.
-ghost use Rattle.std.specs.Prelude.{◌≡◌, ◌↔◌, Ok, IfOk, OnErr, true, false, is_some, not};
+ghost use Rattle.std.specs.Prelude.{◌≡◌, Ok, Some, IfOk, OnErr, true, false, is_some, not};
 ghost use Rattle.dtx_model.specs.Acts.{act_entries};
 ghost use Rattle.dtx_model.specs.Outcome.{is_empty};
 ghost use Rattle.dtx_model.specs.Replies.{due_of};
 ghost use Rattle.dtx_model.specs.World.{half};
-ghost use Rattle.dtx_model.specs.Steps.{Replies, Acts};
+ghost use Rattle.dtx_model.specs.Words.{kth};
+ghost use Rattle.dtx_model.specs.Steps.{Acts, LocalAct, Replies, pending};
 ghost use Rattle.local_half.specs.Half.{fits_due};
 ghost use Rattle.tx_world.specs.Stepping.{Does};
 
@@ -39,6 +40,20 @@ impl TxWorld {
         Ok(true)
     }
 
+    /// Does the local act where it is the first pending step and no reply may be due: so most steps are. False where a reply may be due, or no act is pending.
+    pub(super) fn act_first<D: Disk>(&mut self, log: &Log<D>) -> Result<bool, WorldError>
+        ensures first { result ≡ Ok true → kth (pending self.old.world) 1 ≡ Some LocalAct }
+        ensures done { result ≡ Ok true → Does D.faults Acts self.old log.now self.new log.now }
+        ensures ours { (self.new.ours ≡ self.old.ours) × (self.new.unsure ≡ self.old.unsure) }
+        ensures unchanged { result ≡ Ok false → self.new ≡ self.old }
+        ensures memory { OnErr result (self.new ≡ self.old) }
+    {
+        if self.half.may_be_due() {
+            return Ok(false);
+        }
+        self.act(log)
+    }
+
     /// Does the local act; false exactly where none is pending.
     pub(super) fn act<D: Disk>(&mut self, log: &Log<D>) -> Result<bool, WorldError>
         ensures due { IfOk result (λ b. b ≡ not (is_empty (act_entries (half self.old.world)))) }
@@ -49,10 +64,9 @@ impl TxWorld {
     {
         self.history.reserve()?;
         self.out.clear();
-        if !self.half.has_act() {
+        if !self.half.act(&mut self.out) {
             return Ok(false);
         }
-        self.half.act(&mut self.out);
         let begins = write_near(&mut self.history, &mut self.core, self.out.entries(), log);
         live(&mut self.at_log, begins, log.life());
         Ok(true)

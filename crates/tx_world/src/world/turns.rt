@@ -95,6 +95,9 @@ impl TxWorld {
         ensures still { IsTrue log.new.is_up → IsTrue log.old.is_up }
         ensures memory { OnErr result ((self.new ≡ self.old) × (log.new ≡ log.old)) }
     {
+        if k == 1 && self.act_first(log)? {
+            return Ok(true);
+        }
         match self.at(k) {
             Some(PendingStep::Reply(e, _, r)) => self.reply(log, e, r),
             Some(PendingStep::Act) => self.act(log),

@@ -17,7 +17,7 @@ write_near-begins-requires-clause-written g c =
     let xs = c.entries.result.now in
     let t = i.transaction in
     let ready : Ready t w Acts c.act.new.self i.core xs =
-    act_ready t w i.half c.act.new.self i.core c.clear.new.self c.act.new.out xs c.self.invariant.kept (sym c.has_act.ensures ∙ c.if-not-has_act.false) c.act.ensures.state c.entries.ensures.value c.act.ensures.out c.clear.ensures in
+    act_ready t w i.half c.act.new.self i.core c.clear.new.self c.act.new.out xs c.self.invariant.kept (sym c.act.ensures.acted ∙ c.if-not-act.false) c.act.ensures.state c.entries.ensures.value c.act.ensures.out c.clear.ensures in
     ready.written
 
 pub write_near-begins-requires-clause-sendable : goal.write_near-begins-requires-clause-sendable
@@ -27,7 +27,7 @@ write_near-begins-requires-clause-sendable g c =
     let xs = c.entries.result.now in
     let t = i.transaction in
     let ready : Ready t w Acts c.act.new.self i.core xs =
-    act_ready t w i.half c.act.new.self i.core c.clear.new.self c.act.new.out xs c.self.invariant.kept (sym c.has_act.ensures ∙ c.if-not-has_act.false) c.act.ensures.state c.entries.ensures.value c.act.ensures.out c.clear.ensures in
+    act_ready t w i.half c.act.new.self i.core c.clear.new.self c.act.new.out xs c.self.invariant.kept (sym c.act.ensures.acted ∙ c.if-not-act.false) c.act.ensures.state c.entries.ensures.value c.act.ensures.out c.clear.ensures in
     block_sendable t.value w Acts c.reserve.new.self.past xs ready.may c.in_ok-reserve.ensures.same ready.block
 
 pub write_near-begins-requires-clause-stopped : goal.write_near-begins-requires-clause-stopped
@@ -43,7 +43,7 @@ write_near-begins-requires-clause-runs g c =
     let xs = c.entries.result.now in
     let t = i.transaction in
     let ready : Ready t w Acts c.act.new.self i.core xs =
-    act_ready t w i.half c.act.new.self i.core c.clear.new.self c.act.new.out xs c.self.invariant.kept (sym c.has_act.ensures ∙ c.if-not-has_act.false) c.act.ensures.state c.entries.ensures.value c.act.ensures.out c.clear.ensures in
+    act_ready t w i.half c.act.new.self i.core c.clear.new.self c.act.new.out xs c.self.invariant.kept (sym c.act.ensures.acted ∙ c.if-not-act.false) c.act.ensures.state c.entries.ensures.value c.act.ensures.out c.clear.ensures in
     ready.runs
 
 pub invariant_of-self-2 : goal.invariant_of-self-2
@@ -53,7 +53,7 @@ invariant_of-self-2 g c =
     let xs = c.entries.result.now in
     let t = i.transaction in
     let ready : Ready t w Acts c.act.new.self i.core xs =
-    act_ready t w i.half c.act.new.self i.core c.clear.new.self c.act.new.out xs c.self.invariant.kept (sym c.has_act.ensures ∙ c.if-not-has_act.false) c.act.ensures.state c.entries.ensures.value c.act.ensures.out c.clear.ensures in
+    act_ready t w i.half c.act.new.self i.core c.clear.new.self c.act.new.out xs c.self.invariant.kept (sym c.act.ensures.acted ∙ c.if-not-act.false) c.act.ensures.state c.entries.ensures.value c.act.ensures.out c.clear.ensures in
     let e = c.write_near-begins.ensures in
     let past = ap (λ (h : List Entry). onto h xs) c.in_ok-reserve.ensures.same ∙ ap (onto w.past) ready.block in
     whole_near i.core (has is_begin_sent xs && not c.args.log.now.is_up) _
@@ -68,7 +68,7 @@ returns-clause-done g c d =
     let xs = c.entries.result.now in
     let t = i.transaction in
     let ready : Ready t w Acts c.act.new.self i.core xs =
-    act_ready t w i.half c.act.new.self i.core c.clear.new.self c.act.new.out xs c.self.invariant.kept (sym c.has_act.ensures ∙ c.if-not-has_act.false) c.act.ensures.state c.entries.ensures.value c.act.ensures.out c.clear.ensures in
+    act_ready t w i.half c.act.new.self i.core c.clear.new.self c.act.new.out xs c.self.invariant.kept (sym c.act.ensures.acted ∙ c.if-not-act.false) c.act.ensures.state c.entries.ensures.value c.act.ensures.out c.clear.ensures in
     let e = c.write_near-begins.ensures in
     let past = ap (λ (h : List Entry). onto h xs) c.in_ok-reserve.ensures.same ∙ ap (onto w.past) ready.block in
     let sends = ap (has is_begin_sent) ready.block in
