@@ -99,7 +99,7 @@ inert_of (Promoted u c) p k = absurd cc
 inert_of (Sent c Up m) p k = p
 inert_of _ p k = refl
 
-pub block_coming : {ws : List Waiter} (ks : List EnteredCall) (h es : List Entry) → Plain es → Keeps ws es → always is_after_start (onto h es) ≡ true → AreComing ks h → AreComing ks (onto h es)
+pub block_coming : (ks : List EnteredCall) (h es : List Entry) → Plain es → Keeps es → always is_after_start (onto h es) ≡ true → AreComing ks h → AreComing ks (onto h es)
 block_coming ks h es p k b j = λ d. by (has is_decision es) (each is_kept es) (or_first (has is_decision es) (has is_decision h) (sym (has-onto is_decision h es) ∙ d)) k.proof refl d
   where
     by : (a c : Bool) → a ≡ false → (a || c) ≡ true → each is_kept es ≡ c → AreComing ks (onto h es)

@@ -255,7 +255,7 @@ delivered_coming G t w c d [] o b j =
     block_coming w.calls (Ended c d ∷ w.past) (ended_at w c d) (plain_ended_at w c d) (kept_ended_at w c d) b (inert_coming w.calls (Ended c d) w.past refl (after_start_onto (Ended c d ∷ w.past) (ended_at w c d) b) j)
 delivered_coming G t w c Up (m ∷ ms) o b j =
     let es = got_by t w c Up m in
-    block_coming w.calls (Got c Up m ∷ w.past) es (plain_core_got (identifier_of t) (core w) c m) (kept_core_got {ws = []} (identifier_of t) (core w) c m) b
+    block_coming w.calls (Got c Up m ∷ w.past) es (plain_core_got (identifier_of t) (core w) c m) (kept_core_got (identifier_of t) (core w) c m) b
     (inert_coming w.calls (Got c Up m) w.past refl (after_start_onto (Got c Up m ∷ w.past) es b) j)
 delivered_coming G t w c Down (m ∷ ms) o b j = got_coming G t w c m o b j
 
@@ -321,7 +321,7 @@ entered_coming t w n a (Promotable u e r v x p) m new b j =
 entered_coming t w n a c m new b j =
     let k : EnteredCall = record { line = n; actor = a; call = c } in
     let y = answer_at t w c m in
-    block_coming (k ∷ w.calls) (Called n a y ∷ w.past) (facts_if (has_facts y) (facts_at t w c y)) (plain_called t w c y refl) (kept_called t w c y) b
+    block_coming (k ∷ w.calls) (Called n a y ∷ w.past) (facts_if (has_facts y) (facts_at t w c y)) (plain_called t w c y refl) (kept_called t w c y refl) b
     (called_coming (k ∷ w.calls) w.past n a y (call_coming w.calls w.past k new j))
 
 -- after each step
@@ -331,10 +331,10 @@ unfolding after block_at
 step_coming G t w (Calls n a c m) q o b j = entered_coming t w n a c m q.1 b j
 step_coming G t w (Replies e x) q o b j = block_coming w.calls w.past (reply_entries (half w) e x) (plain_reply (half w) e x) (kept_reply (half w) e x) b j
 step_coming G t w Acts q o b j = block_coming w.calls w.past (act_entries (half w)) (plain_act (half w)) (kept_act (half w)) b j
-step_coming G t w (Coordinates x) q o b j = block_coming w.calls w.past (coordinates (core w) x) (plain_coordinates (core w) x) (kept_coordinates {ws = []} (core w) x) b j
+step_coming G t w (Coordinates x) q o b j = block_coming w.calls w.past (coordinates (core w) x) (plain_coordinates (core w) x) (kept_coordinates (core w) x) b j
 step_coming G t w (Delivers c d) q o b j = delivered_coming G t w c d (in_transit c d w.past) o b j
 step_coming G t w Stops q o b j = list_coming w.calls w.past (Stopped ∷ []) refl b j
-step_coming G t w (Restarts found) q o b j = block_coming w.calls w.past (restarted (core w).stopped found) (plain_restarted (core w).stopped found) (kept_restarted {ws = []} (core w).stopped found) b j
+step_coming G t w (Restarts found) q o b j = block_coming w.calls w.past (restarted (core w).stopped found) (plain_restarted (core w).stopped found) (kept_restarted (core w).stopped found) b j
 
 -- so in each world that steps made, where what is sent is sent after the promotion began
 pub ran_coming : (G : ℕ → ActorNo → Call → Type 0) (t : ℕ) (ms : List Step) (w : World) → Ran G t ms w → always is_after_start w.past ≡ true → AreComing w.calls w.past

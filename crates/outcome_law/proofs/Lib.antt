@@ -143,6 +143,7 @@ pub mod CameOnce
 pub mod Handing
 pub mod OnlyHanded
 pub mod WaitingApart
+pub mod DrainBlocks
 pub mod WaitsOver
 pub mod WaitedFor
 pub mod Once

@@ -7,13 +7,12 @@ use Rattle.dtx_values.specs.declared.call.Call.TheVariants.{Durable, Marshal}
 use Rattle.dtx_values.specs.declared.entry.Answer.{Answer}
 use Rattle.dtx_values.specs.declared.entry.Answer.TheVariants.{Wait}
 use Rattle.dtx_values.specs.declared.entry.Entry.{Entry}
-use Rattle.dtx_values.specs.declared.entry.Entry.TheVariants.{Answered, Called, Got, Sent, Stopped}
+use Rattle.dtx_values.specs.declared.entry.Entry.TheVariants.{Answered, Called, Decided, Down as Ended, Got, Sent, Stopped}
 use Rattle.dtx_values.specs.declared.message.Conn.{Conn}
-use Rattle.dtx_values.specs.declared.message.Conn.TheVariants.{Begin, Enl, Voter}
-use Rattle.dtx_values.specs.declared.message.Dir.{Dir}
+use Rattle.dtx_values.specs.declared.message.Conn.TheVariants.{Begin}
 use Rattle.dtx_values.specs.declared.message.Dir.TheVariants.{Down, Up}
 use Rattle.dtx_values.specs.declared.message.Message.{Message}
-use Rattle.dtx_values.specs.declared.message.Message.TheVariants.{BeginBegin, EnlistEnlisted, VoterCreated}
+use Rattle.dtx_values.specs.declared.message.Message.TheVariants.{BeginBegin}
 use Rattle.dtx_values.specs.declared.number.ActorNo.{ActorNo}
 use Rattle.dtx_values.specs.declared.number.EnlNo.{EnlNo}
 use Rattle.dtx_values.specs.declared.number.RmNo.{RmNo}
@@ -26,18 +25,17 @@ use Rattle.dtx_model.specs.declared.waiting.EnteredCall.{EnteredCall}
 use Rattle.dtx_model.specs.Words.{each, has, onto}
 use Rattle.dtx_model.specs.Entries.{is_call, is_decision}
 use Rattle.dtx_model.specs.Observed.{observe}
-use Rattle.dtx_model.specs.Promotes.{identifier_of, is_wait}
+use Rattle.dtx_model.specs.Promotes.{is_wait}
 use Rattle.dtx_model.specs.Wires.{in_transit}
 use Rattle.dtx_model.specs.Waiting.{Waiter, waiting}
-use Rattle.dtx_model.specs.Half.{Half, enlist_sent, is_promoting, sees}
-use Rattle.dtx_model.specs.Arrivals.{created, enlisted_at, local_got}
+use Rattle.dtx_model.specs.Half.{Half, enlist_sent, is_promoting}
 use Rattle.dtx_model.specs.Acts.{act_entries}
 use Rattle.dtx_model.specs.Replies.{reply_entries}
 use Rattle.dtx_model.specs.Facts.{begin_promotion, durable_facts, facts_if, has_facts}
 use Rattle.dtx_model.specs.World.{World, answer_at, core, facts_at, half}
 use Rattle.dtx_model.specs.Steps.{Step, Calls, Replies, Acts, Coordinates, Delivers, Stops, Restarts, after, block_at, coordinates, delivered, restarted}
 use Rattle.dtx_model.specs.Caused.{MayCome, Ran}
-use Rattle.dtx_model.proofs.Bools.{and_both, and_left, and_right, not_both, not_true, or_case, or_false}
+use Rattle.dtx_model.proofs.Bools.{and_both, and_left, and_right, not_both, or_case, or_false}
 use Rattle.dtx_model.proofs.Heeding.{fresh}
 use Rattle.dtx_model.proofs.Reading.{has-onto}
 use Rattle.outcome_law.specs.Waited.{is_answer_of}
@@ -46,9 +44,11 @@ use Rattle.outcome_law.proofs.Tests.{eq_swap}
 use Rattle.outcome_law.proofs.Owned.{decision_seen}
 use Rattle.outcome_law.proofs.OnTheWay.{each_but}
 use Rattle.outcome_law.proofs.PlainBlocks.{Plain, is_plain, plain_act, plain_coordinates, plain_reply, plain_restarted}
-use Rattle.outcome_law.proofs.DecidingBlocks.{are_answered, kept_act, kept_arrived, kept_called, kept_coordinates, kept_core_got, kept_ended_at, kept_reply, kept_restarted}
+use Rattle.outcome_law.proofs.CoreGoing.{is_own, own_block}
+use Rattle.outcome_law.proofs.CoreSteps.{is_core_step}
+use Rattle.outcome_law.proofs.DrainBlocks.{Drains, are_answered, drains_act, drains_called, drains_cons, drains_local_down, drains_local_got, drains_reply, open_drains}
 use Rattle.outcome_law.proofs.Waiters.{decided_gives, is_waiting_answer, may_wait, other_gives, waits_as}
-use Rattle.outcome_law.proofs.WaitingApart.{PassesGiven, created_pass, enlisted_pass, idle_call, idle_delivered, is_idle}
+use Rattle.outcome_law.proofs.WaitingApart.{idle_call, idle_delivered, is_idle}
 
 -- once it is decided no call waits
 abbrev pub IsOver : List EnteredCall → List Entry → Type 0
@@ -93,33 +93,18 @@ block_over ks h es u f o = λ d.
     or_case (has is_decision es) (has is_decision h) (λ a. all_answered ks h es u (f a))
     (λ a. all_answered ks h es u (subst (λ ws. are_answered ws es ≡ true) (sym (o a)) refl)) (sym (has-onto is_decision h es) ∙ d)
 
--- a block that decides nothing
-open_over : (ks : List EnteredCall) (h es : List Entry) → makes_none_wait es ≡ true → has is_decision es ≡ false → IsOver ks h → IsOver ks (onto h es)
-open_over ks h es u n o = block_over ks h es u (λ d. absurd (not_both (has is_decision es) d n)) o
+-- The block of a step that is no call.
+delivered_drains : (t : ℕ) (w : World) (c : Conn) (ms : List Message) → Drains (half w).waits (delivered t w c Down ms)
+delivered_drains t w c [] = drains_cons (Ended c Down) refl (drains_local_down (half w) c)
+delivered_drains t w c (m ∷ ms) = drains_cons (Got c Down m) refl (drains_local_got t (half w) c m)
 
--- The arrivals: CREATED and ENLISTED decide nothing.
-abbrev is_open : Entry → Bool
-is_open x = not (is_decision x)
+-- the coordinator's decide nothing
+own_open : (x : Entry) → is_own x ≡ true → is_decision x ≡ false
+own_open (Decided o) k = absurd cc
+own_open _ k = refl
 
-open_passes : PassesGiven is_open
-open_passes = record { promoted = λ u c. refl; answered = λ n x. refl; placed = λ e c. refl; sent = λ e i. refl }
-
-undecided_by : (es : List Entry) → each is_open es ≡ true → has is_decision es ≡ false
-undecided_by es k = none_more is_open is_decision (λ x q. not_true (is_decision x) q) es k
-
-got_answers : (t : ℕ) (w : World) (c : Conn) (m : Message) → has is_decision (local_got t (half w) c m) ≡ true → are_answered (half w).waits (local_got t (half w) c m) ≡ true
-unfolding local_got
-got_answers t w Voter VoterCreated d =
-    let h = sees (half w) (Got Voter Down VoterCreated) in absurd (not_both (has is_decision (created t h)) d (undecided_by (created t h) (created_pass is_open open_passes t h)))
-got_answers t w (Enl e) EnlistEnlisted d =
-    let h = sees (half w) (Got (Enl e) Down EnlistEnlisted) in
-    absurd (not_both (has is_decision (enlisted_at t h e)) d (undecided_by (enlisted_at t h e) (enlisted_pass is_open open_passes t h e)))
-got_answers t w c m d = (kept_arrived t (sees (half w) (Got c Down m)) c m refl).answers d
-
-delivered_answers : (t : ℕ) (w : World) (c : Conn) (d : Dir) (ms : List Message) → has is_decision (delivered t w c d ms) ≡ true → are_answered (half w).waits (delivered t w c d ms) ≡ true
-delivered_answers t w c d [] k = (kept_ended_at w c d).answers k
-delivered_answers t w c Up (m ∷ ms) k = (kept_core_got {ws = (half w).waits} (identifier_of t) (core w) c m).answers k
-delivered_answers t w c Down (m ∷ ms) k = got_answers t w c m k
+core_drains : {ws : List Waiter} (t : ℕ) (w : World) (m : Step) → is_core_step m ≡ true → Drains ws (block_at t w m)
+core_drains t w m k = open_drains (block_at t w m) (none_more is_own is_decision own_open (block_at t w m) (own_block t w m k).proof)
 
 -- The calls. One that waits comes where nothing is decided, and decides nothing.
 open_begin : (h : Half) (c : Option Cause) → has is_decision (begin_promotion h c) ≡ false
@@ -175,23 +160,25 @@ called_over t w n a c m new o = by (is_waiting_answer x) refl
         (has-onto is_decision w.past (Called n a x ∷ es) ∙ or_false (has is_decision es) (has is_decision w.past) (open_wait t w c x may q) undecided))
     by false q =
         block_over ks w.past (Called n a x ∷ es) (and_both (not (is_wait (Called n a x))) (makes_none_wait es) (ap not (waits_as n a x ∙ q)) (idle_waits es (idle_call t w c x)))
-        (λ d. subst (λ ws. are_answered ws es ≡ true) (sym same) ((kept_called t w c x).answers d)) (λ d. same ∙ o d)
+        (λ d. subst (λ ws. are_answered ws es ≡ true) (sym same) ((drains_called t w c x).proof d)) (λ d. same ∙ o d)
 
 -- after each step
 step_over : (G : ℕ → ActorNo → Call → Type 0) (t : ℕ) (w : World) (m : Step) → MayCome G t w m → IsOver w.calls w.past → IsOver (after t w m).calls (after t w m).past
 unfolding after block_at
 step_over G t w (Calls n a c m) q o = called_over t w n a c m q.1 o
-step_over G t w (Replies e x) q o = block_over w.calls w.past (reply_entries (half w) e x) (plain_waits (plain_reply (half w) e x)) (kept_reply (half w) e x).answers o
-step_over G t w Acts q o = block_over w.calls w.past (act_entries (half w)) (plain_waits (plain_act (half w))) (kept_act (half w)).answers o
+step_over G t w (Replies e x) q o = block_over w.calls w.past (reply_entries (half w) e x) (plain_waits (plain_reply (half w) e x)) (drains_reply (half w) e x).proof o
+step_over G t w Acts q o = block_over w.calls w.past (act_entries (half w)) (plain_waits (plain_act (half w))) (drains_act (half w)).proof o
 step_over G t w (Coordinates x) q o =
-    block_over w.calls w.past (coordinates (core w) x) (plain_waits (plain_coordinates (core w) x)) (kept_coordinates {ws = (half w).waits} (core w) x).answers o
-step_over G t w (Delivers c d) q o =
-    let ms = in_transit c d w.past in
-    block_over w.calls w.past (delivered t w c d ms) (idle_waits (delivered t w c d ms) (idle_delivered t w c d ms)) (delivered_answers t w c d ms) o
-step_over G t w Stops q o = open_over w.calls w.past (Stopped ∷ []) refl refl o
+    block_over w.calls w.past (coordinates (core w) x) (plain_waits (plain_coordinates (core w) x)) (core_drains {ws = (half w).waits} t w (Coordinates x) refl).proof o
+step_over G t w (Delivers c Up) q o =
+    let ms = in_transit c Up w.past in
+    block_over w.calls w.past (delivered t w c Up ms) (idle_waits (delivered t w c Up ms) (idle_delivered t w c Up ms)) (core_drains {ws = (half w).waits} t w (Delivers c Up) refl).proof o
+step_over G t w (Delivers c Down) q o =
+    let ms = in_transit c Down w.past in
+    block_over w.calls w.past (delivered t w c Down ms) (idle_waits (delivered t w c Down ms) (idle_delivered t w c Down ms)) (delivered_drains t w c ms).proof o
+step_over G t w Stops q o = block_over w.calls w.past (Stopped ∷ []) refl (core_drains {ws = (half w).waits} t w Stops refl).proof o
 step_over G t w (Restarts found) q o =
-    let b = (core w).stopped in
-    block_over w.calls w.past (restarted b found) (plain_waits (plain_restarted b found)) (kept_restarted {ws = (half w).waits} b found).answers o
+    block_over w.calls w.past (restarted (core w).stopped found) (plain_waits (plain_restarted (core w).stopped found)) (core_drains {ws = (half w).waits} t w (Restarts found) refl).proof o
 
 -- So in each world that steps made.
 pub ran_over : (G : ℕ → ActorNo → Call → Type 0) (t : ℕ) (ms : List Step) (w : World) → Ran G t ms w → IsOver w.calls w.past

@@ -149,7 +149,7 @@ entered_roomy t w n a (Promotable u e r y z p) m new failed idle i =
 entered_roomy t w n a c m new failed idle i =
     let own : EnteredCall = record { line = n; actor = a; call = c } in
     let x = answer_at t w c m in
-    block_roomy (own ∷ w.calls) (Called n a x ∷ w.past) (facts_if (has_facts x) (facts_at t w c x)) (plain_called t w c x refl) (kept_called t w c x)
+    block_roomy (own ∷ w.calls) (Called n a x ∷ w.past) (facts_if (has_facts x) (facts_at t w c x)) (plain_called t w c x refl) (kept_called t w c x refl)
     (called_roomy (own ∷ w.calls) n a x w.past (λ z d p. absurd (not_both (is_place (n, wanted (call_at (own ∷ w.calls) n))) p (ap (λ o. is_place (n, wanted o)) (own_call n a c w.calls))))
     (call_roomy w.calls w.past own new i))
 
@@ -160,10 +160,10 @@ unfolding after block_at
 step_roomy G t w (Calls n a c m) q o failed idle i = entered_roomy t w n a c m q.1 failed idle i
 step_roomy G t w (Replies e x) q o failed idle i = block_roomy w.calls w.past (reply_entries (half w) e x) (plain_reply (half w) e x) (kept_reply (half w) e x) i
 step_roomy G t w Acts q o failed idle i = block_roomy w.calls w.past (act_entries (half w)) (plain_act (half w)) (kept_act (half w)) i
-step_roomy G t w (Coordinates x) q o failed idle i = block_roomy w.calls w.past (coordinates (core w) x) (plain_coordinates (core w) x) (kept_coordinates {ws = []} (core w) x) i
+step_roomy G t w (Coordinates x) q o failed idle i = block_roomy w.calls w.past (coordinates (core w) x) (plain_coordinates (core w) x) (kept_coordinates (core w) x) i
 step_roomy G t w (Delivers c d) q o failed idle i = delivered_roomy G t w c d (in_transit c d w.past) o i
 step_roomy G t w Stops q o failed idle i = gentle_roomy w.calls Stopped w.past refl i
-step_roomy G t w (Restarts found) q o failed idle i = block_roomy w.calls w.past (restarted (core w).stopped found) (plain_restarted (core w).stopped found) (kept_restarted {ws = []} (core w).stopped found) i
+step_roomy G t w (Restarts found) q o failed idle i = block_roomy w.calls w.past (restarted (core w).stopped found) (plain_restarted (core w).stopped found) (kept_restarted (core w).stopped found) i
 
 -- until something is decided or a promotion begins, no call waits for a place
 pub ran_idle : (G : ℕ → ActorNo → Call → Type 0) (t : ℕ) (ms : List Step) (w : World) → is_id (identifier_of t) ≡ true → AreMadeOnce G → Ran G t ms w → IsIdle w.calls w.past

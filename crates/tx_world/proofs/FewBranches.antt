@@ -195,7 +195,7 @@ gentle_of (Sent c Up m) p k = p
 gentle_of _ p k = refl
 
 -- a block that makes nothing, and decides or answers nobody
-pub block_roomy : {ws : List Waiter} (ks : List EnteredCall) (h es : List Entry) → Plain es → Keeps ws es → Roomy ks h → Roomy ks (onto h es)
+pub block_roomy : (ks : List EnteredCall) (h es : List Entry) → Plain es → Keeps es → Roomy ks h → Roomy ks (onto h es)
 block_roomy ks h es p k i = by (has is_decision es) refl (each is_kept es) refl k.proof
   where
     by : (a : Bool) → has is_decision es ≡ a → (c : Bool) → each is_kept es ≡ c → (a || c) ≡ true → Roomy ks (onto h es)

@@ -273,5 +273,5 @@ pub delivered_roomy : (G : ℕ → ActorNo → Call → Type 0) (t : ℕ) (w : W
     → Roomy w.calls (onto w.past (delivered t w c d ms))
 delivered_roomy G t w c d [] o i = block_roomy w.calls (Ended c d ∷ w.past) (ended_at w c d) (plain_ended_at w c d) (kept_ended_at w c d) (gentle_roomy w.calls (Ended c d) w.past refl i)
 delivered_roomy G t w c Up (m ∷ ms) o i =
-    block_roomy w.calls (Got c Up m ∷ w.past) (got_by t w c Up m) (plain_core_got (identifier_of t) (core w) c m) (kept_core_got {ws = []} (identifier_of t) (core w) c m) (gentle_roomy w.calls (Got c Up m) w.past refl i)
+    block_roomy w.calls (Got c Up m ∷ w.past) (got_by t w c Up m) (plain_core_got (identifier_of t) (core w) c m) (kept_core_got (identifier_of t) (core w) c m) (gentle_roomy w.calls (Got c Up m) w.past refl i)
 delivered_roomy G t w c Down (m ∷ ms) o i = got_roomy G t w c m o i
