@@ -20,11 +20,11 @@ use Rattle.dtx_model.proofs.Bools.{and_both, and_left, and_right, not_both, not_
 use Rattle.outcome_law.proofs.Scans.{each_more, has_less, has_more}
 use Rattle.outcome_law.proofs.Table.{decision_row}
 use Rattle.outcome_law.proofs.Keeping.{Keeps, keeps_before, newest}
-use Rattle.outcome_law.proofs.Sendings.{record_of_mark}
+use Rattle.outcome_law.proofs.Sendings.{logged_record, record_of_mark}
 use Rattle.outcome_law.proofs.Recording.{all_good, came_good, can_commit, can_live, can_ready, can_yes, from_first, good_at, good_stays, if_record, keeps_first, ready_if_good, yes_at}
 use Rattle.outcome_law.proofs.Evident.{good_voted}
 use Rattle.outcome_law.proofs.Aborting.{IsBarred, barred_apart, decided_off}
-use Rattle.outcome_law.proofs.CoreKnown.{logged_record, may_log_can}
+use Rattle.outcome_law.proofs.CoreKnown.{may_log_can}
 
 -- What the coordinator got, and that it was sealed and each voted well: it stands where an append may come, and stays.
 abbrev is_backed : List Entry → Bool

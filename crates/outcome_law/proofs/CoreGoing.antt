@@ -56,8 +56,8 @@ going_more _ h t = absurd (never t)
     never : false ≡ true → ⊥
     never e = absurd cc
 
-pub record Own (es : List Entry) : Type 0 where
-  pub proof : each is_own es ≡ true
+record Own (es : List Entry) : Type 0 where
+  proof : each is_own es ≡ true
 
 going_onto : (h es : List Entry) → Own es → is_going (onto h es) ≡ is_going h
 going_onto h [] o = refl
@@ -145,7 +145,7 @@ own_delivered : (t : ℕ) (w : World) (c : Conn) (ms : List Message) → Own (de
 own_delivered t w c [] = own_cons (Ended c Up) refl (own_core_down (core w) c)
 own_delivered t w c (m ∷ ms) = own_cons (Got c Up m) refl (own_core_got (identifier_of t) (core w) c m)
 
-pub own_block : (t : ℕ) (w : World) (m : Step) → is_core_step m ≡ true → Own (block_at t w m)
+own_block : (t : ℕ) (w : World) (m : Step) → is_core_step m ≡ true → Own (block_at t w m)
 unfolding block_at
 own_block t w (Coordinates a) s = own_coordinates (core w) a
 own_block t w (Delivers c Up) s = own_delivered t w c (in_transit c Up w.past)
@@ -168,3 +168,7 @@ core_stands G t w m s q k i d r =
       keeps = record { rules = core_ruled G t w m s q k.keeps (coming_late w.calls w.past k.keeps i); ties = d; wires = r };
       going = core_going t w m s k.going;
     }
+
+-- all entries of such a step are of the coordinator's side
+pub core_own : (t : ℕ) (w : World) (m : Step) → is_core_step m ≡ true → each is_own (block_at t w m) ≡ true
+core_own t w m s = (own_block t w m s).proof

@@ -410,7 +410,7 @@ each_named P (Got (Enl e) Up (EnlistEnlist i) ∷ h) k f =
     (each_named P h (keeps_before (Got (Enl e) Up (EnlistEnlist i)) h k) (λ n t. f n (or_right (n == e.value) (has (is_enlist_got n) h) t)))
 each_named P (x ∷ h) k f = each_named P h (keeps_before x h k) (λ n t. f n (or_right (is_enlist_got n x) (has (is_enlist_got n) h) t))
 
-pub logged_record : (x : Entry) → is_logged x ≡ true → is_record x ≡ true
+logged_record : (x : Entry) → is_logged x ≡ true → is_record x ≡ true
 logged_record Logged t = refl
 logged_record _ t = absurd cc
 

@@ -39,6 +39,7 @@ use Rattle.dtx_model.proofs.Bools.{and_both, and_left, and_right, not_both, or_c
 use Rattle.outcome_law.proofs.Tests.{eq_self}
 use Rattle.outcome_law.proofs.Scans.{has_more}
 use Rattle.outcome_law.proofs.Rule.{is_enlisted}
+use Rattle.outcome_law.proofs.Owed.{heeded_promised}
 use Rattle.outcome_law.proofs.Dues.{is_unplanned, none_answered}
 use Rattle.outcome_law.proofs.Settlings.{append_first, append_second, no_act, no_name}
 use Rattle.outcome_law.proofs.Whole.{is_got_on, is_opened_once, is_sent_on, none_severed, whole, whole_of}
@@ -53,7 +54,7 @@ use Rattle.outcome_law.proofs.Knowledge.{is_known_end, knows_where}
 use Rattle.outcome_law.proofs.Unblamed.{nothing_bad}
 use Rattle.outcome_law.proofs.Climbed.{committed_at_rest}
 use Rattle.outcome_law.proofs.SameRows.{is_asked_there, is_made_once}
-use Rattle.outcome_law.proofs.Owed.{IsUnowed, all_answered, all_heeded, all_voted, commit_requested, heeded_promised, is_asked_well, promotion_replied, unlost_there}
+use Rattle.outcome_law.proofs.Owed.{IsUnowed, all_answered, all_heeded, all_voted, commit_requested, is_asked_well, promotion_replied, unlost_there}
 
 -- Nothing is on the way.
 none_delivered : (b : Bool) (c : Conn) (d : Dir) → delivery_if b c d ≡ [] → b ≡ false

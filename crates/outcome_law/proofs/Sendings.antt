@@ -201,7 +201,7 @@ record_of_mark (Restarted false ∷ h) t = absurd cc
 record_of_mark (Freed ∷ h) t = absurd cc
 record_of_mark (x ∷ h) t = or_right (is_record x) (has is_record h) (record_of_mark h t)
 
-logged_record : (x : Entry) → is_logged x ≡ true → is_record x ≡ true
+pub logged_record : (x : Entry) → is_logged x ≡ true → is_record x ≡ true
 logged_record Logged t = refl
 logged_record _ t = absurd cc
 

@@ -44,7 +44,7 @@ use Rattle.outcome_law.proofs.Tests.{eq_swap}
 use Rattle.outcome_law.proofs.Owned.{decision_seen}
 use Rattle.outcome_law.proofs.OnTheWay.{each_but}
 use Rattle.outcome_law.proofs.PlainBlocks.{Plain, is_plain, plain_act, plain_coordinates, plain_reply, plain_restarted}
-use Rattle.outcome_law.proofs.CoreGoing.{is_own, own_block}
+use Rattle.outcome_law.proofs.CoreGoing.{core_own, is_own}
 use Rattle.outcome_law.proofs.CoreSteps.{is_core_step}
 use Rattle.outcome_law.proofs.DrainBlocks.{Drains, are_answered, drains_act, drains_called, drains_cons, drains_local_down, drains_local_got, drains_reply, open_drains}
 use Rattle.outcome_law.proofs.Waiters.{decided_gives, is_waiting_answer, may_wait, other_gives, waits_as}
@@ -104,7 +104,7 @@ own_open (Decided o) k = absurd cc
 own_open _ k = refl
 
 core_drains : {ws : List Waiter} (t : ℕ) (w : World) (m : Step) → is_core_step m ≡ true → Drains ws (block_at t w m)
-core_drains t w m k = open_drains (block_at t w m) (none_more is_own is_decision own_open (block_at t w m) (own_block t w m k).proof)
+core_drains t w m k = open_drains (block_at t w m) (none_more is_own is_decision own_open (block_at t w m) (core_own t w m k))
 
 -- The calls. One that waits comes where nothing is decided, and decides nothing.
 open_begin : (h : Half) (c : Option Cause) → has is_decision (begin_promotion h c) ≡ false
