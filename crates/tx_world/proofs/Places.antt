@@ -38,7 +38,8 @@ use Rattle.outcome_law.proofs.Keeping.{Keeps, before, fifth_of_five, keeps_befor
 use Rattle.outcome_law.proofs.Crossed.{same_conn_is, since_opened}
 use Rattle.outcome_law.proofs.Recording.{promoting_if_promoted}
 use Rattle.outcome_law.proofs.Evident.{sealed_if_handed}
-use Rattle.outcome_law.proofs.Knowledge.{has_mapped, other_stays, with_other, with_own}
+use Rattle.outcome_law.proofs.Knowledge.{other_stays, with_other, with_own}
+use Rattle.outcome_law.proofs.CoreKnown.{has_made}
 use Rattle.outcome_law.proofs.HalfKnows.{end_same, got_same, one_tag_more, sent_same, unmapped, way_seen}
 use Rattle.tx_world.specs.Carried.{are_sendable, is_sendable}
 use Rattle.tx_world.proofs.SendingApt.{can_send}
@@ -103,7 +104,7 @@ sent_noted e m ns k = unmapped (same_connection Begin e && (commit_tag == tag_of
             (and_both (is_end_of Begin n) (is_in commit_tag n.sent) here (one_tag_more commit_tag (tag_of m) n.sent (and_right (is_end_of Begin n) (is_in commit_tag (with_tag (tag_of m) n.sent)) t) z))
 
 sent_stays : (e : Conn) (m : Message) (ns : List End) → has is_seen ns ≡ true → has is_seen (map (note_sent e (tag_of m)) ns) ≡ true
-sent_stays e m ns k = has_mapped is_seen is_seen (note_sent e (tag_of m)) (λ n t. step n (is_end_of e n) t) ns k
+sent_stays e m ns k = has_made is_seen is_seen (note_sent e (tag_of m)) (λ n t. step n (is_end_of e n) t) ns k
   where
     step : (n : End) (b : Bool) → is_seen n ≡ true → is_seen (if b then record { connection = n.connection; sent = with_tag (tag_of m) n.sent; got = n.got; ended = n.ended } else n) ≡ true
     step n true t =
@@ -112,7 +113,7 @@ sent_stays e m ns k = has_mapped is_seen is_seen (note_sent e (tag_of m)) (λ n 
     step n false t = t
 
 commit_noted : (e : Conn) (m : Message) (ns : List End) → same_connection Begin e ≡ true → commit_tag ≡ tag_of m → has (is_end_of Begin) ns ≡ true → has is_seen (map (note_sent e (tag_of m)) ns) ≡ true
-commit_noted e m ns s c k = has_mapped (is_end_of Begin) is_seen (note_sent e (tag_of m)) (λ n t. step n (is_end_of e n) refl t) ns k
+commit_noted e m ns s c k = has_made (is_end_of Begin) is_seen (note_sent e (tag_of m)) (λ n t. step n (is_end_of e n) refl t) ns k
   where
     step : (n : End) (b : Bool) → is_end_of e n ≡ b → is_end_of Begin n ≡ true
         → is_seen (if b then record { connection = n.connection; sent = with_tag (tag_of m) n.sent; got = n.got; ended = n.ended } else n) ≡ true

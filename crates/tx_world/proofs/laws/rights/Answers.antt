@@ -3,7 +3,7 @@ use Rattle.dtx_model.specs.World.{World}
 use Rattle.dtx_model.specs.Words.{onto}
 use Rattle.dtx_model.specs.Caused.{IsCallOf}
 use Rattle.outcome_law.proofs.Names.{script_once}
-use Rattle.outcome_law.proofs.PromotesRuns.{keeps_start}
+use Rattle.outcome_law.proofs.Handing.{keeps_within}
 use Rattle.outcome_law.proofs.Steady.{free_keeps}
 use Rattle.tx_world.proofs.Places.{in_one_place, right_moves, right_placed}
 use Rattle.tx_world.proofs.laws.rights.Goals as goal
@@ -17,4 +17,4 @@ returns-clause-one c = λ s t h named r d. in_one_place h (free_keeps (IsCallOf 
 
 pub returns-clause-moves : goal.returns-clause-moves
 returns-clause-moves c = λ s t past es x named r d.
-    right_moves x past (keeps_start (x ∷ past) es (free_keeps (IsCallOf s t) t (onto past (x ∷ es)) (script_once s t named) r d))
+    right_moves x past (keeps_within (x ∷ past) es (free_keeps (IsCallOf s t) t (onto past (x ∷ es)) (script_once s t named) r d))
