@@ -7,7 +7,7 @@ use Rattle.std.specs.List.{list_any}
 use Rattle.dtx_values.specs.declared.row.Row.{Row}
 use Rattle.dtx_values.specs.declared.words.Vote.{Vote}
 use Rattle.dtx_values.specs.Row.{has_voted, is_marked}
-use Rattle.dtx_values.specs.Table.{how_many, insert_by}
+use Rattle.dtx_values.specs.Table.{how_many, insert_by, marks}
 use Rattle.enlist_table.specs.Waiting.{is_waiting, one_if}
 
 -- a row's part of the count
@@ -72,3 +72,20 @@ counted_vote v xs i x r s w b less r_is new_one x_is s_is b_is w_is =
     never : (c : Bool) → (c && false) ≡ false
     never true = refl
     never false = refl
+
+-- a row whose mark is written is one more with a mark
+pub one_more_mark : (n : ℕ) (xs : List Row) (i : ℕ) (x r : Row) (m : ℕ) → i < length xs → r ≡ get_or xs i r → is_marked r ≡ false → x ≡ get_or xs i x → m ≡ marks xs
+    → m + 1 ≡ marks (set xs i (record { number = x.number; class = x.class; added = x.added; asked = Some n; vote = x.vote }))
+one_more_mark n xs i x r m less r_is unmarked x_is m_is =
+    let y : Row = record { number = x.number; class = x.class; added = x.added; asked = Some n; vote = x.vote } in
+    let old : one_if (is_marked (get_or xs i x)) ≡ 0 = ap (λ (z : Row). one_if (is_marked z)) (get_or_default xs i x r less ∙ sym r_is) ∙ ap one_if unmarked in
+    let new : one_if (is_marked y) ≡ 1 = refl in
+    omega (arith, how_many-set is_marked xs i y x less, old, new, m_is)
+
+-- a row whose vote is written keeps its mark
+pub same_marks : (v : Vote) (xs : List Row) (i : ℕ) (x : Row) (m : ℕ) → i < length xs → x ≡ get_or xs i x → m ≡ marks xs
+    → m ≡ marks (set xs i (record { number = x.number; class = x.class; added = x.added; asked = x.asked; vote = Some v }))
+same_marks v xs i x m less x_is m_is =
+    let y : Row = record { number = x.number; class = x.class; added = x.added; asked = x.asked; vote = Some v } in
+    let same : one_if (is_marked (get_or xs i x)) ≡ one_if (is_marked y) = ap (λ (z : Row). one_if (is_marked z)) (sym x_is) in
+    omega (arith, how_many-set is_marked xs i y x less, same, m_is)

@@ -20,6 +20,8 @@ use std::marker::Model;
 #[derive(Drop)]
 pub struct EnlistTable {
     rows: Vec<Row>,
+    /// How many rows are marked as asked to prepare.
+    marked: u8,
     /// How many rows are marked as asked to prepare and have no vote.
     waiting: u8,
 }
@@ -28,14 +30,14 @@ impl Model for EnlistTable {
     ghost use Rattle.std.specs.Prelude.{List, ◌≡◌, ◌≤◌, true, vec_capacity, length};
     ghost use Rattle.dtx_values.specs.declared.limits.TheConstants.{ENLISTMENTS};
     ghost use Rattle.dtx_values.specs.declared.row.Row.{Row};
-    ghost use Rattle.dtx_values.specs.Table.{how_many, rises_above};
+    ghost use Rattle.dtx_values.specs.Table.{how_many, marks, rises_above};
     ghost use Rattle.enlist_table.specs.Waiting.{is_waiting};
 
     ghost Value = { List Row };
 
     ghost view = { λ t. t.rows.items };
 
-    ghost invariant = { λ t. (ENLISTMENTS ≤ vec_capacity t.rows) × (length t.rows.items ≤ ENLISTMENTS) × (rises_above 0 t.rows.items ≡ true) × (t.waiting ≡ how_many is_waiting t.rows.items) };
+    ghost invariant = { λ t. (ENLISTMENTS ≤ vec_capacity t.rows) × (length t.rows.items ≤ ENLISTMENTS) × (rises_above 0 t.rows.items ≡ true) × (t.waiting ≡ how_many is_waiting t.rows.items) × (t.marked ≡ marks t.rows.items) };
 }
 
 /// Whether the mark is there, and fewer than n were marked before it.
@@ -46,14 +48,6 @@ fn is_asked_before(mark: Option<u8>, n: u8) -> bool
         Some(k) => k < n,
         None => false,
     }
-}
-
-/// How many rows are marked as asked to prepare.
-fn marks(rows: &[Row]) -> u8
-    requires { length rows.now ≤ ENLISTMENTS }
-    ensures { result ≡ marks rows.now }
-{
-    rows.iter().filter(|x| x.is_marked()).count() as u8
 }
 
 /// How many rows are durable or promotable.
@@ -88,6 +82,7 @@ impl EnlistTable {
     {
         Ok(EnlistTable {
             rows: Vec::with_capacity(alloc, ENLISTMENTS)?,
+            marked: 0,
             waiting: 0,
         })
     }
@@ -266,7 +261,7 @@ impl EnlistTable {
         let row = Row {
             number: e,
             class,
-            added: marks(&self.rows),
+            added: self.marked,
             asked: None,
             vote: None,
         };
@@ -292,9 +287,10 @@ impl EnlistTable {
         if self.rows[at].is_marked() {
             return Err(TableRefusal::AlreadyThere(e));
         }
-        let n = marks(&self.rows);
+        let n = self.marked;
         self.waiting += one_if(!self.rows[at].has_voted());
         self.rows[at].asked = Some(n);
+        self.marked = n + 1;
         Ok(())
     }
 

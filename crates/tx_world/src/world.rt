@@ -42,9 +42,6 @@ mod steps;
 mod stops;
 mod turns;
 
-/// So many calls most transactions are given at most.
-const FEW_CALLS: usize = 64;
-
 /// The whole of one transaction.
 #[derive(Drop)]
 pub struct TxWorld {
@@ -99,7 +96,7 @@ impl TxWorld {
             half: LocalHalf::new(alloc, t)?,
             core: Core::new(t),
             history: History::new(alloc)?,
-            calls: Vec::with_capacity(alloc, FEW_CALLS)?,
+            calls: Vec::new(alloc),
             at_log: AtLog::new(),
             out: Outbox::with_room(alloc)?,
         })

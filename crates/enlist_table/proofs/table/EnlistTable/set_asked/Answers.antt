@@ -8,7 +8,7 @@ use Rattle.enlist_table.proofs.Places.{IsPlace, has_row_at, marked_at, no_place,
 use Rattle.enlist_table.proofs.Rising.{map-absent, map-there, mark-kept, mark-other, number-mark, rises-map}
 use Rattle.dtx_values.proofs.Counts.{how_many-le-length}
 use Rattle.enlist_table.specs.Waiting.{is_waiting, one_if}
-use Rattle.enlist_table.proofs.Waiting.{counted_mark, one_at_most}
+use Rattle.enlist_table.proofs.Waiting.{counted_mark, one_at_most, one_more_mark}
 use Rattle.enlist_table.proofs.table.EnlistTable.set_asked.Goals as goal
 
 none_stands : (c : goal.In_default) → has_row c.args.e.value c.args.self.now ≡ false
@@ -52,17 +52,17 @@ returns-then-is_marked-clause-marked c =
     let rising = subst (λ ys. rises_above 0 ys ≡ true) c.self.view_is c.self.invariant.2 in
     sym (map-there f e is_marked (mark-other e n) (mark-kept e n) 0 c.args.self.now rising (there_already c))
 
-place_after : (c : goal.After-self-2-1) → IsPlace c.args.e.value c.self.inside.rows.items c.in-Some.at
+place_after : (c : goal.After-self-3-1) → IsPlace c.args.e.value c.self.inside.rows.items c.in-Some.at
 place_after c =
     let e = c.args.e.value in
     place_found e c.self.inside.rows.items c.in-Some.at (sym c.in-Some.is ∙ c.place_of.ensures ∙ ap (position (is_of e)) c.deref.ensures.value)
 
-written : (c : goal.After-self-2-1) → set c.self.inside.rows.items c.in-Some.at (record { number = c.index_mut.result.now.number; class = c.index_mut.result.now.class; added = c.index_mut.result.now.added; asked = Some c.marks-n.result; vote = c.index_mut.result.now.vote }) ≡ with_mark c.args.e.value (c.self.inside.rows.items)
+written : (c : goal.After-self-3-1) → set c.self.inside.rows.items c.in-Some.at (record { number = c.index_mut.result.now.number; class = c.index_mut.result.now.class; added = c.index_mut.result.now.added; asked = Some c.self.inside.marked; vote = c.index_mut.result.now.vote }) ≡ with_mark c.args.e.value (c.self.inside.rows.items)
 written c =
     let e = c.args.e.value in
     let xs = c.self.inside.rows.items in
-    let n_is = c.marks-n.ensures ∙ ap marks c.deref-2.ensures.value in
-    marked_at e c.marks-n.result xs c.in-Some.at c.index_mut.result.now c.index.result.now c.self.invariant.2 (place_after c) c.index_mut.ensures.value c.index.ensures (sym c.is_marked.ensures ∙ c.if-is_marked.false)
+    let n_is = c.self.invariant.4 in
+    marked_at e c.self.inside.marked xs c.in-Some.at c.index_mut.result.now c.index.result.now c.self.invariant.2 (place_after c) c.index_mut.ensures.value c.index.ensures (sym c.is_marked.ensures ∙ c.if-is_marked.false)
     ∙ ap (λ k. map (mark_in e k) xs) n_is
 
 pub invariant_of-self : goal.invariant_of-self
@@ -73,7 +73,8 @@ invariant_of-self c =
       c.self.invariant.0,
       rw length-set c.self.invariant.1,
       rw (written c) (rw (rises-map (λ (x : Row). mark_in e n x) (number-mark e n) 0 xs) c.self.invariant.2),
-      counted_mark c.marks-n.result xs c.in-Some.at c.index_mut.result.now c.index.result.now c.index-2.result.now c.self.inside.waiting c.one_if.result (place_after c).within c.index.ensures (sym c.is_marked.ensures ∙ c.if-is_marked.false) c.index_mut.ensures.value c.index-2.ensures (c.one_if.ensures ∙ ap (λ v. one_if (not v)) c.has_voted.ensures) c.self.invariant.3,
+      counted_mark c.self.inside.marked xs c.in-Some.at c.index_mut.result.now c.index.result.now c.index-2.result.now c.self.inside.waiting c.one_if.result (place_after c).within c.index.ensures (sym c.is_marked.ensures ∙ c.if-is_marked.false) c.index_mut.ensures.value c.index-2.ensures (c.one_if.ensures ∙ ap (λ v. one_if (not v)) c.has_voted.ensures) c.self.invariant.3,
+      one_more_mark c.self.inside.marked xs c.in-Some.at c.index_mut.result.now c.index.result.now c.self.inside.marked (place_after c).within c.index.ensures (sym c.is_marked.ensures ∙ c.if-is_marked.false) c.index_mut.ensures.value c.self.invariant.4,
     )
 
 pub returns-clause-allowed : goal.returns-clause-allowed
@@ -90,3 +91,6 @@ returns-clause-marked c = written c ∙ ap (λ ys. with_mark c.args.e.value (ys)
 
 pub overflow_add-self : goal.overflow_add-self
 overflow_add-self c = omega (arith, c.self.invariant.3, c.self.invariant.1, how_many-le-length is_waiting c.self.inside.rows.items, c.one_if.ensures, one_at_most (not c.has_voted.result))
+
+pub overflow_add-self-2 : goal.overflow_add-self-2
+overflow_add-self-2 c = omega (arith, c.self.invariant.4, c.self.invariant.1, how_many-le-length is_marked c.self.inside.rows.items)

@@ -7,7 +7,7 @@ use Rattle.dtx_values.specs.Row.{has_voted, is_of, vote_in}
 use Rattle.enlist_table.proofs.Places.{IsPlace, has_row_at, voted_at, no_place, passes_at, place_found}
 use Rattle.enlist_table.proofs.Rising.{map-absent, map-there, vote-kept, vote-other, number-vote, rises-map}
 use Rattle.enlist_table.specs.Waiting.{is_waiting, one_if}
-use Rattle.enlist_table.proofs.Waiting.{counted_vote}
+use Rattle.enlist_table.proofs.Waiting.{counted_vote, same_marks}
 use Rattle.enlist_table.proofs.table.EnlistTable.set_vote.Goals as goal
 
 none_stands : (c : goal.In_default) → has_row c.args.e.value c.args.self.now ≡ false
@@ -75,6 +75,7 @@ invariant_of-self c =
       rw length-set c.self.invariant.1,
       rw (written c) (rw (rises-map (λ (x : Row). vote_in e n x) (number-vote e n) 0 xs) c.self.invariant.2),
       omega (arith, counted c),
+      same_marks n xs c.in-Some.at c.index_mut.result.now c.self.inside.marked (place_after c).within c.index_mut.ensures.value c.self.invariant.4,
     )
 
 pub returns-clause-allowed : goal.returns-clause-allowed
