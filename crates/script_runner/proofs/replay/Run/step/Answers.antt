@@ -37,7 +37,7 @@ reached g c =
     (omega (arith, c.index.ensures.place, c.if-len-index.false, c.len.ensures)) c.index_mut-world.ensures.value)
 
 -- what the step is about
-abbrev about : (g : Over) → After-is_own_run-2 g → StepOf g.D.Disk.Value
+abbrev about : (g : Over) → After-is_own_run-2 g → StepOf g.row.D.Denot
 about g c = record { run = c.args.self.now; t = c.args.t; k = c.args.k; y = c.step.new.self; from = c.args.log.now; to = c.step.new.log }
 
 -- the world was the transaction's
@@ -52,8 +52,8 @@ done : (g : Over) (c : After-is_own_run-2 g) → IsStep g.D.Disk.faults g.D.Disk
 done g c =
     let x = c.index_mut-world.result.now in
     let y = c.step.new.self in
-    let did = ap (λ (b : Bool). Ok b) c.if-not-branch.false in
     let made : c.args.t.value ≤ length c.self.inside.worlds.items = omega (arith, c.index.ensures.place, c.if-len-index.false, c.len.ensures) in
+    let did = ap (λ (b : Bool). Ok b) c.if-not-branch.false in
     subst (λ (z : TxState). IsStepAt g.D.Disk.faults g.D.Disk.honest g.D.Disk.image (about g c) z) (sym (was_reached g c))
     (record {
       holds = c.requires.holds;
@@ -77,7 +77,7 @@ parts : (g : Over) (c : After-is_own_run-2 g) (T : List Placed)
     ≡ run_with (about g c) (worlds_after (about g c)) T
 parts g c T =
     let place : c.index-2.result ≡ c.args.t.value - 1 = omega (arith, c.index-2.ensures.place) in
-    ap (λ (r : RunState). run_with (about g c) (set r.worlds c.index-2.result c.step.new.self) T) c.self.view_is
+    ap (λ (r : RunState). record { script = r.script; worlds = set r.worlds c.index-2.result c.step.new.self; contexts = r.contexts; trace = T }) c.self.view_is
     ∙ ap (λ (i : ℕ). run_with (about g c) (set c.args.self.now.worlds i c.step.new.self) T) place
 
 -- no call was entered
