@@ -115,7 +115,8 @@ fn note(
 }
 
 impl<'a> Run<'a> {
-    /// A replay of these lines, before its first step.
+    /// A replay of these lines, before its first step. It has room for every transaction, and for an entry of each line: memory that is never written costs
+    /// nothing, and what grows step by step is copied.
     pub fn new(alloc: Global, lines: &'a [Line]) -> Result<Self, AllocError>
         requires { are_named_well lines.now ≡ true }
         ensures { IfOk result (λ r. r ≡ record { script = lines.entry.now; worlds = []; contexts = replicate ActorNo.MAX nothing_open; trace = [] }) }
@@ -123,10 +124,10 @@ impl<'a> Run<'a> {
         Ok(Run {
             alloc,
             plans: Plans::new(alloc, lines)?,
-            worlds: Vec::new(alloc),
+            worlds: Vec::with_capacity(alloc, TxNo::MAX as usize)?,
             contexts: contexts(alloc)?,
             entries: Vec::new(alloc),
-            trace: Vec::new(alloc),
+            trace: Vec::with_capacity(alloc, lines.len())?,
         })
     }
 
