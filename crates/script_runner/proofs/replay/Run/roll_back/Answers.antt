@@ -78,4 +78,6 @@ returns-clause-done g c =
     rolled_here c.self.inside.contexts.items c.args.self.now.contexts c.args.actor c.index-place.result c.index.result.now c.rolled-i-end.result.now c.self.invariant.1 c.index-place.ensures.place
     c.index.ensures c.rolled-i-end.ensures (ap (λ (r : RunState). r.contexts) c.self.view_is) in
     let all : length ts ≤ c.loop-i.i = subst (λ (us : List TxNo). length us ≤ c.loop-i.i) first c.loop-i-test.false in
-    λ quiet. c.loop-i.invariant.done quiet ∙ ap (λ (us : List TxNo). after_calls c.args.self.now.script c.args.n c.args.actor (rollbacks us) (past_of c.args.self.now.trace)) (take_all c.loop-i.i ts all)
+    λ quiet.
+    subst (λ (us : List TxNo). past_of c.loop-i.self.trace ≡ after_calls c.args.self.now.script c.args.n c.args.actor (rollbacks us) (past_of c.args.self.now.trace)) (take_all c.loop-i.i ts all)
+    (c.loop-i.invariant.done quiet)
