@@ -28,7 +28,7 @@ use Rattle.script_runner.proofs.Deeds.{calm_block}
 use Rattle.script_runner.proofs.Entering.{enters, given_more}
 use Rattle.script_runner.proofs.Noting.{history_here, history_there, trace_noted}
 use Rattle.script_runner.proofs.Numbered.{is_it, state_here, state_reached, state_there}
-use Rattle.script_runner.proofs.Turns.{IsOwn, own_here, turn_here, turned_calls, turned_past, turned_up, written, written_up}
+use Rattle.script_runner.proofs.Turns.{IsOwn, own_at, turn_here, turned_calls, turned_past, turned_up, written, written_up}
 
 -- A call of line n was entered at transaction t, which was x and is y then: what it wrote stands at the end of the trace, and the other transactions are as before.
 pub record Entered {D : Type 0} (faults : D → ℕ) (log : LogState D) (t : TxNo) (n : ℕ) (a : ActorNo) (c : Call) (m : ℕ) (x y : TxState) (old new : RunState) : Type 0 where
@@ -161,7 +161,7 @@ entered_at_place faults log t n a c m x y old new ws numbered made here same scr
       others = λ u k. ap (λ (vs : List TxState). state_of u vs) worlds ∙ state_there u t ws y k ∙ same u;
       was = sym (same t) ∙ at;
       now = ap (λ (vs : List TxState). state_of t vs) worlds ∙ state_here t ws y made;
-      own = subst (λ (z : TxState). IsOwn t z) at (own_here t ws x numbered made here run);
+      own = subst (λ (z : TxState). IsOwn t z) at (own_at t ws x numbered at run);
       does = does;
       ours = ours.0;
       unsure = ours.1;

@@ -1,5 +1,5 @@
 -- Which calls may be entered at a transaction of a run, and what is entered there afterwards.
-use Rattle.std.proofs.Common.{◌≡◌, ◌≢◌, ℕ, zero, suc, ◌+◌, ◌<◌, ◌≤◌, ◌==◌, Bool, true, false, ◌&&◌, not, List, [], ◌∷◌, Option, Some, None, refl, ap, sym, subst, ◌∙◌, if◌then◌else◌, arith, inl, inr}
+use Rattle.std.proofs.Common.{◌≡◌, ◌≢◌, ℕ, zero, suc, ◌+◌, ◌<◌, ◌==◌, Bool, true, false, ◌&&◌, not, List, [], ◌∷◌, Option, Some, None, refl, ap, sym, subst, ◌∙◌, if◌then◌else◌, arith, inl, inr}
 use Rattle.std.specs.Prelude.{nat_lt}
 use Rattle.std.proofs.lemmas.Bool.{eqb-true, lt-ltb, ltb-true}
 use Rattle.std.proofs.lemmas.Bool.Decides.{eqb_tells}
@@ -11,7 +11,7 @@ use Rattle.dtx_model.specs.Words.{each, has, kth}
 use Rattle.dtx_model.specs.Grammar.{Name, OfTransaction, OfEnlistment, OfClone, OfScope}
 use Rattle.dtx_model.specs.declared.waiting.EnteredCall.{EnteredCall}
 use Rattle.dtx_model.specs.World.{World}
-use Rattle.dtx_model.specs.Steps.{Calls, Stops, after, entered}
+use Rattle.dtx_model.specs.Steps.{Calls, Stops, after}
 use Rattle.dtx_model.specs.Caused.{AreMadeOnce, IsCallOf, IsIn, made_by}
 use Rattle.dtx_model.proofs.Bools.{and_both, and_left, and_right, not_false, or_false}
 use Rattle.dtx_model.proofs.SameNumbers.{same_transaction}

@@ -23,6 +23,10 @@ state_reached t ws x made e =
     let within : t.value - 1 < length ws = omega (arith, made, t.in_range.0) in
     sym (get_or_read ws (t.value - 1) x within e (untouched t))
 
+-- and so it is, where it is indexed
+pub state_indexed : (t : TxNo) (ws : List TxState) (x : TxState) (i : ℕ) → i ≡ t.value - 1 → t.value ≤ length ws → x ≡ get_or ws i x → state_of t ws ≡ x
+state_indexed t ws x i place made e = state_reached t ws x made (subst (λ (j : ℕ). x ≡ get_or ws j x) place e)
+
 -- and beyond them it is untouched
 pub state_unreached : (t : TxNo) (ws : List TxState) → length ws < t.value → state_of t ws ≡ untouched t
 state_unreached t ws more = get_or_past ws (t.value - 1) (untouched t) (omega (arith, more))

@@ -31,7 +31,7 @@ use Rattle.dtx_model.proofs.Prefixes.{past-more}
 use Rattle.dtx_model.proofs.Reading.{has-onto}
 use Rattle.outcome_law.proofs.ReplayTurns.{is_log_line}
 use Rattle.scope_context.specs.Standing.{Standing}
-use Rattle.script_runner.specs.Scoped.{AreOpen, IsUnopened, context_at, nothing_open, rollbacks, scopes_at, scopes_in}
+use Rattle.script_runner.specs.Scoped.{AreOpen, IsUnopened, context_at, nothing_open, rollbacks, rolled_at, rolled_in, scopes_at, scopes_in}
 use Rattle.script_runner.proofs.Scoping.{no_scope_line}
 
 -- a write leaves the other places alone
@@ -121,6 +121,10 @@ context_here cs a i c long place here =
     let within : a.value - 1 < length cs = rw long (omega (arith, a.in_range.0, a.in_range.1)) in
     let same : a.value - 1 ≡ i = omega (arith, place) in
     slice_get-get_or {X = Standing} cs (a.value - 1) c within ∙ ap Some (ap (λ n. get_or cs n c) same ∙ sym here)
+
+-- and what it is to roll back
+pub rolled_here : (ds cs : List Standing) (a : ActorNo) (i : ℕ) (c : Standing) (ts : List TxNo) → length ds ≡ 16 → i + 1 ≡ a.value → c ≡ get_or ds i c → ts ≡ c.rolled → ds ≡ cs → ts ≡ rolled_at a cs
+rolled_here ds cs a i c ts long place here is same = is ∙ (ap rolled_in (sym (context_here ds a i c long place here)) ∙ ap (λ (es : List Standing). rolled_at a es) same)
 
 -- and the context that was put there
 pub context_put : (cs : List Standing) (a : ActorNo) (i : ℕ) (c : Standing) → length cs ≡ 16 → i + 1 ≡ a.value → context_at a (set cs i c) ≡ Some c

@@ -1,5 +1,6 @@
 -- The rollbacks of a nested close: each is of another transaction, so that each may still be entered when its turn comes.
-use Rattle.std.proofs.Common.{◌≡◌, ◌≢◌, ℕ, zero, suc, ◌+◌, ◌<◌, ◌≤◌, ◌==◌, false, List, [], ◌∷◌, Some, slice_get, ap, sym, subst, ◌∙◌, arith}
+use Rattle.std.proofs.Common.{◌≡◌, ◌≢◌, ℕ, zero, suc, ◌+◌, ◌<◌, ◌≤◌, ◌==◌, false, List, [], ◌∷◌, Some, get_or, length, slice_get, ap, sym, subst, ◌∙◌, arith}
+use Rattle.std.proofs.lemmas.Option.{slice_get-get_or}
 use Rattle.dtx_values.specs.declared.call.Call.{Call}
 use Rattle.dtx_values.specs.declared.call.Call.TheVariants.{Rollback as RollbackCall}
 use Rattle.dtx_values.specs.declared.number.TxNo.{TxNo}
@@ -11,7 +12,7 @@ use Rattle.outcome_law.proofs.Lists.{of-at}
 use Rattle.outcome_law.proofs.ScopeCalls.{AreApart, IsBeside, scope_calls_apart}
 use Rattle.outcome_law.proofs.Tests.{eq_self}
 use Rattle.tx_world.specs.State.{TxState}
-use Rattle.script_runner.specs.RunState.{AreBelow, IsBelow, state_of}
+use Rattle.script_runner.specs.RunState.{IsBelow, state_of}
 use Rattle.script_runner.specs.Scoped.{AreOnce, rollbacks}
 
 -- the rollback of the transaction at a place
@@ -19,6 +20,18 @@ pub rolled_there : (ts : List TxNo) (i : ℕ) (t : TxNo) → slice_get ts i ≡ 
 rolled_there [] i t e = absurd cc
 rolled_there (x ∷ ts) zero t e = let same : x ≡ t = cc in ap (λ (u : TxNo). Some (u, RollbackCall u)) same
 rolled_there (x ∷ ts) (suc i) t e = rolled_there ts i t e
+
+-- A transaction stands at this place of these.
+pub record IsAt (ts : List TxNo) (i : ℕ) (t : TxNo) : Type 0 where
+  pub less : i < length ts
+  pub is : t ≡ get_or ts i t
+  pub slot : slice_get ts i ≡ Some t
+
+-- so does one that is read there in an equal list
+pub at_place : (ts us : List TxNo) (i : ℕ) (t : TxNo) → us ≡ ts → i < length ts → t ≡ get_or us i t → IsAt ts i t
+at_place ts us i t same less is =
+    let there : t ≡ get_or ts i t = subst (λ (vs : List TxNo). t ≡ get_or vs i t) same is in
+    record { less = less; is = there; slot = slice_get-get_or {X = TxNo} ts i t less ∙ ap Some (sym there) }
 
 -- calls of different transactions are of transactions that stand at one place each
 apart_once : (ts : List TxNo) → AreApart (rollbacks ts) → AreOnce ts

@@ -1,5 +1,5 @@
 -- A step of a run: what the step of one transaction's world, once it is noted, makes of the run.
-use Rattle.std.proofs.Common.{◌≡◌, ◌≤◌, ◌<◌, ◌-◌, ℕ, zero, suc, Bool, true, List, [], ◌∷◌, ◌++◌, length, get_or, set, None, inl, inr, refl, ap, sym, subst, ◌∙◌}
+use Rattle.std.proofs.Common.{◌≡◌, ◌≤◌, ◌<◌, ◌-◌, ℕ, zero, suc, Bool, true, List, [], ◌∷◌, ◌++◌, length, set, None, inl, inr, refl, ap, sym, subst, ◌∙◌}
 use Rattle.std.specs.Prelude.{IsTrue, IsFalse}
 use Rattle.dtx_values.specs.declared.call.Call.{Call}
 use Rattle.dtx_values.specs.declared.entry.Entry.{Entry}
@@ -27,7 +27,6 @@ use Rattle.outcome_law.proofs.Pending.{is_no_call}
 use Rattle.outcome_law.proofs.ReplayRuns.{named_no_call}
 use Rattle.outcome_law.proofs.ReplayTurns.{quiet_before}
 use Rattle.coordinator_log.specs.State.{LogState}
-use Rattle.scope_context.specs.Standing.{Standing}
 use Rattle.tx_world.specs.AtLog.{IsOurs, KeepsLog, id_of}
 use Rattle.tx_world.specs.State.{TxState, life_after, turned}
 use Rattle.tx_world.specs.Stepping.{DoesKth}
@@ -37,79 +36,100 @@ use Rattle.script_runner.proofs.Calmed.{calm_after, given_same, holds_noted, tie
 use Rattle.script_runner.proofs.Deeds.{calm_block}
 use Rattle.script_runner.proofs.Fitting.{fits_after, others_after}
 use Rattle.script_runner.proofs.Noting.{quiet_noted, quiet_was, trace_noted}
-use Rattle.script_runner.proofs.Numbered.{is_it, state_here, state_reached, state_there}
+use Rattle.script_runner.proofs.Numbered.{is_it, state_here, state_there, state_unreached}
 use Rattle.script_runner.proofs.Turns.{IsOwn, calm_halting, calm_stopping, has_stepped, named_here, never_both, pending_here, planned_here, stays_up, step_calm, turn_here, turned_calls, turned_past, turned_up, written, written_up}
 
--- The k-th pending step of transaction t of a run was done: its world was x and is y now.
-pub record IsStepAt {D : Type 0} (faults : D → ℕ) (honest : Bool) (image : D → List ℕ → Type 0) (s : List Line) (ws : List TxState) (cs : List Standing) (trace : List Placed) (t : TxNo) (k : ℕ) (x y : TxState)
-    (from to : LogState D) : Type 0 where
-  pub holds : Holds honest from (record { script = s; worlds = ws; contexts = cs; trace = trace })
-  pub numbered : AreNumbered ws
-  pub names : are_named_well s ≡ true
-  pub made : t.value ≤ length ws
-  pub there : x ≡ get_or ws (t.value - 1) x
-  pub run : IsOwnRun x.transaction.value x.world
-  pub does : DoesKth faults k x from y to
-  pub nearer : steps_left y.world < steps_left x.world
-  pub kept : IsTrue honest → KeepsLog image x from y to
-  pub life : to.life ≡ from.life
-  pub grows : faults from.disk ≤ faults to.disk
-  pub unarmed : from.armed ≡ None → to.armed ≡ None
-  pub still : IsTrue to.is_up → IsTrue from.is_up
-  pub ours : IsOurs (id_of y) (core y.world) (record { ours = y.ours; unsure = y.unsure; life = y.life })
+-- What a step of a run is about: it is the k-th that was pending in transaction t of the run, whose world is y after it.
+pub record StepOf (D : Type 0) : Type 0 where
+  pub run : RunState
+  pub t : TxNo
+  pub k : ℕ
+  pub y : TxState
+  pub from : LogState D
+  pub to : LogState D
+
+-- the transaction before it
+abbrev pub was : {D : Type 0} → StepOf D → TxState
+was a = state_of a.t a.run.worlds
+
+-- the run after it, with these transactions and this trace
+abbrev pub run_with : {D : Type 0} → StepOf D → List TxState → List Placed → RunState
+run_with a ws new = record { script = a.run.script; worlds = ws; contexts = a.run.contexts; trace = new }
+
+-- the transactions after it
+abbrev pub worlds_after : {D : Type 0} → StepOf D → List TxState
+worlds_after a = set a.run.worlds (a.t.value - 1) a.y
+
+-- It was done, where x was the transaction.
+pub record IsStepAt {D : Type 0} (faults : D → ℕ) (honest : Bool) (image : D → List ℕ → Type 0) (a : StepOf D) (x : TxState) : Type 0 where
+  pub holds : Holds honest a.from a.run
+  pub numbered : AreNumbered a.run.worlds
+  pub names : are_named_well a.run.script ≡ true
+  pub made : a.t.value ≤ length a.run.worlds
+  pub own : IsOwnRun x.transaction.value x.world
+  pub does : DoesKth faults a.k x a.from a.y a.to
+  pub nearer : steps_left a.y.world < steps_left x.world
+  pub kept : IsTrue honest → KeepsLog image x a.from a.y a.to
+  pub life : a.to.life ≡ a.from.life
+  pub grows : faults a.from.disk ≤ faults a.to.disk
+  pub unarmed : a.from.armed ≡ None → a.to.armed ≡ None
+  pub still : IsTrue a.to.is_up → IsTrue a.from.is_up
+  pub ours : IsOurs (id_of a.y) (core a.y.world) (record { ours = a.y.ours; unsure = a.y.unsure; life = a.y.life })
+
+-- It was done.
+abbrev pub IsStep : {D : Type 0} → (D → ℕ) → Bool → (D → List ℕ → Type 0) → StepOf D → Type 0
+IsStep faults honest image a = IsStepAt faults honest image a (was a)
 
 -- a step that is no call enters none
 none_entered : (ks : List EnteredCall) (m : Step) → is_no_call m ≡ true → entered m ks ≡ ks
 none_entered ks (Calls n a c k) q = absurd cc
 none_entered ks _ q = refl
 
--- it is transaction t
-at_place : {D : Type 0} (faults : D → ℕ) (honest : Bool) (image : D → List ℕ → Type 0) (s : List Line) (ws : List TxState) (cs : List Standing) (trace : List Placed) (t : TxNo) (k : ℕ) (x y : TxState)
-    (from to : LogState D) → IsStepAt faults honest image s ws cs trace t k x y from to → IsStepAt faults honest image s ws cs trace t k (state_of t ws) y from to
-at_place faults honest image s ws cs trace t k x y from to d = subst (λ (z : TxState). IsStepAt faults honest image s ws cs trace t k z y from to) (sym (state_reached t ws x d.made d.there)) d
+-- What it does of transaction t itself.
+pub record DidStep {D : Type 0} (faults : D → ℕ) (a : StepOf D) : Type 0 where
+  pub own : IsOwn a.t (was a)
+  pub does : DoesKth faults a.k (was a) a.from a.y a.to
+  pub tied : IsTied a.run.script a.t (past_of a.run.trace) (was a)
+  pub world : a.y.world ≡ turned a.from.is_up a.t.value (was a).world does.step
+  pub past : a.y.world.past ≡ onto (was a).world.past (written a.from.is_up a.t.value (was a).world does.step)
+  pub calls : a.y.world.calls ≡ (was a).world.calls
+  pub given : (n : ℕ) (w : ActorNo) (c : Call) → IsIn a.y.world.calls n w c → IsCallOf a.run.script a.t.value n w c
+  pub own_life : a.y.life ≡ life_after a.to.life a.t.value (was a).world does.step (was a).life
 
--- The parts of what it does, of transaction t itself.
-pub record DidStep {D : Type 0} (faults : D → ℕ) (s : List Line) (ws : List TxState) (trace : List Placed) (t : TxNo) (k : ℕ) (y : TxState) (from to : LogState D) : Type 0 where
-  pub own : IsOwn t (state_of t ws)
-  pub does : DoesKth faults k (state_of t ws) from y to
-  pub tied : IsTied s t (past_of trace) (state_of t ws)
-  pub world : y.world ≡ turned from.is_up t.value (state_of t ws).world does.step
-  pub past : y.world.past ≡ onto (state_of t ws).world.past (written from.is_up t.value (state_of t ws).world does.step)
-  pub calls : y.world.calls ≡ (state_of t ws).world.calls
-  pub given : (n : ℕ) (a : ActorNo) (c : Call) → IsIn y.world.calls n a c → IsCallOf s t.value n a c
-  pub own_life : y.life ≡ life_after to.life t.value (state_of t ws).world does.step (state_of t ws).life
+-- the entries that it wrote
+abbrev wrote : {D : Type 0} (faults : D → ℕ) (a : StepOf D) → DidStep faults a → List Entry
+wrote faults a d = written a.from.is_up a.t.value (was a).world d.does.step
 
-pub did_step : {D : Type 0} (faults : D → ℕ) (honest : Bool) (image : D → List ℕ → Type 0) (s : List Line) (ws : List TxState) (cs : List Standing) (trace : List Placed) (t : TxNo) (k : ℕ) (x y : TxState)
-    (from to : LogState D) → IsStepAt faults honest image s ws cs trace t k x y from to → DidStep faults s ws trace t k y from to
-did_step faults honest image s ws cs trace t k x y from to at =
-    let d = at_place faults honest image s ws cs trace t k x y from to at in
-    let z = state_of t ws in
+did_step : {D : Type 0} (faults : D → ℕ) (honest : Bool) (image : D → List ℕ → Type 0) (a : StepOf D) → IsStep faults honest image a → DidStep faults a
+did_step faults honest image a d =
+    let z = was a in
     let m = d.does.step in
-    let is : z.transaction ≡ t = d.numbered.numbered t in
-    let world : y.world ≡ turned from.is_up t.value z.world m = d.does.done.world ∙ ap (λ (u : TxNo). turned from.is_up u.value z.world m) is in
-    let calls : y.world.calls ≡ z.world.calls =
-    ap (λ (w : World). w.calls) world ∙ (turned_calls from.is_up t.value z.world m ∙ none_entered z.world.calls m (named_no_call z.world d.does.name m d.does.named)) in
+    let is : z.transaction ≡ a.t = d.numbered.numbered a.t in
+    let world : a.y.world ≡ turned a.from.is_up a.t.value z.world m = d.does.done.world ∙ ap (λ (u : TxNo). turned a.from.is_up u.value z.world m) is in
+    let calls : a.y.world.calls ≡ z.world.calls =
+    ap (λ (w : World). w.calls) world ∙ (turned_calls a.from.is_up a.t.value z.world m ∙ none_entered z.world.calls m (named_no_call z.world d.does.name m d.does.named)) in
     record {
-      own = record { transaction = is; run = subst (λ (u : TxNo). IsOwnRun u.value z.world) is d.run };
+      own = record { transaction = is; run = subst (λ (u : TxNo). IsOwnRun u.value z.world) is d.own };
       does = d.does;
-      tied = d.holds.tied t;
+      tied = d.holds.tied a.t;
       world = world;
-      past = ap (λ (w : World). w.past) world ∙ turned_past from.is_up t.value z.world m;
+      past = ap (λ (w : World). w.past) world ∙ turned_past a.from.is_up a.t.value z.world m;
       calls = calls;
-      given = given_same s t.value z.world y.world calls (d.holds.tied t).given;
-      own_life = d.does.done.life ∙ (ap (λ (u : TxNo). life_after from.life u.value z.world m z.life) is ∙ ap (λ (l : ℕ). life_after l t.value z.world m z.life) (sym d.life));
+      given = given_same a.run.script a.t.value z.world a.y.world calls (d.holds.tied a.t).given;
+      own_life =
+          d.does.done.life
+          ∙ (ap (λ (u : TxNo). life_after a.from.life u.value z.world m z.life) is ∙ ap (λ (l : ℕ). life_after l a.t.value z.world m z.life) (sym d.life));
     }
 
 -- what it leaves of the log
-pub step_log : {D : Type 0} (faults : D → ℕ) (honest : Bool) (image : D → List ℕ → Type 0) (s : List Line) (ws : List TxState) (cs : List Standing) (trace : List Placed) (t : TxNo) (k : ℕ) (x y : TxState)
-    (from to : LogState D) → IsStepAt faults honest image s ws cs trace t k x y from to → LogGoes faults honest image from to
-step_log faults honest image s ws cs trace t k x y from to d =
+pub step_log : {D : Type 0} (faults : D → ℕ) (honest : Bool) (image : D → List ℕ → Type 0) (a : StepOf D) → IsStep faults honest image a → LogGoes faults honest image a.from a.to
+step_log faults honest image a d =
     record {
       grows = d.grows;
-      stays = λ up none. stays_up faults x from to d.does.step d.does.done.answered up none;
+      stays = λ up none. stays_up faults (was a) a.from a.to d.does.step d.does.done.answered up none;
       still = d.still;
       unarmed = d.unarmed;
-      others = λ h up. others_after image x y from to (d.kept h);
+      others = λ h up. others_after image (was a) a.y a.from a.to (d.kept h);
       logs = λ h. (d.kept h).logs;
     }
 
@@ -122,61 +142,61 @@ step_calls ws t y made same u = elim (is_it u t) [
   | inr k ↦ ap (λ (x : TxState). x.world.calls) (state_there u t ws y k)
 ]
 
+pub calls_same : {D : Type 0} (faults : D → ℕ) (honest : Bool) (image : D → List ℕ → Type 0) (a : StepOf D) → IsStep faults honest image a → HaveSameCalls a.run.worlds (worlds_after a)
+calls_same faults honest image a at = step_calls a.run.worlds a.t a.y at.made (did_step faults honest image a at).calls
+
+-- and it wrote something, or nothing
+pub step_past : {D : Type 0} (faults : D → ℕ) (honest : Bool) (image : D → List ℕ → Type 0) (a : StepOf D) → IsStep faults honest image a
+    → (es : List Entry) × (a.y.world.past ≡ onto (was a).world.past es)
+step_past faults honest image a at = let d = did_step faults honest image a at in (wrote faults a d, d.past)
+
 -- The log wasn't stopped by the step: so it is calm, as long as nothing stands at the log.
-calm_here : {D : Type 0} (faults : D → ℕ) (honest : Bool) (image : D → List ℕ → Type 0) (s : List Line) (ws : List TxState) (cs : List Standing) (trace : List Placed) (t : TxNo) (k : ℕ) (x y : TxState)
-    (from to : LogState D) → IsStepAt faults honest image s ws cs trace t k x y from to → (d : DidStep faults s ws trace t k y from to) → (IsTrue from.is_up → IsTrue to.is_up)
-    → is_log_quiet (past_of trace) ≡ true → is_calm_step d.does.step ≡ true
-calm_here faults honest image s ws cs trace t k x y from to at d stays quiet =
+calm_here : {D : Type 0} (faults : D → ℕ) (honest : Bool) (image : D → List ℕ → Type 0) (a : StepOf D) → IsStep faults honest image a → (d : DidStep faults a)
+    → (IsTrue a.from.is_up → IsTrue a.to.is_up) → is_log_quiet (past_of a.run.trace) ≡ true → is_calm_step d.does.step ≡ true
+calm_here faults honest image a at d stays quiet =
     let up = at.holds.up quiet in
-    step_calm faults t (state_of t ws) from to d.does.name d.does.step d.own d.does.named d.does.done.answered up (stays up) (at.holds.calm quiet t).life
+    step_calm faults a.t (was a) a.from a.to d.does.name d.does.step d.own d.does.named d.does.done.answered up (stays up) (at.holds.calm quiet a.t).life
 
 -- What holds of the run after it is noted,
-pub step_holds : {D : Type 0} (faults : D → ℕ) (honest : Bool) (image : D → List ℕ → Type 0) (s : List Line) (ws : List TxState) (cs : List Standing) (trace new : List Placed) (t : TxNo) (k : ℕ) (x y : TxState)
-    (from to : LogState D) → IsStepAt faults honest image s ws cs trace t k x y from to → (d : DidStep faults s ws trace t k y from to) → (IsTrue from.is_up → IsTrue to.is_up)
-    → past_of new ≡ onto (past_of trace) (placed t (written from.is_up t.value (state_of t ws).world d.does.step))
-    → Holds honest to (record { script = s; worlds = set ws (t.value - 1) y; contexts = cs; trace = new })
-step_holds faults honest image s ws cs trace new t k x y from to start d stays noted =
-    let at = at_place faults honest image s ws cs trace t k x y from to start in
-    let z = state_of t ws in
+step_holds : {D : Type 0} (faults : D → ℕ) (honest : Bool) (image : D → List ℕ → Type 0) (a : StepOf D) (new : List Placed) → IsStep faults honest image a → (d : DidStep faults a)
+    → (IsTrue a.from.is_up → IsTrue a.to.is_up) → past_of new ≡ onto (past_of a.run.trace) (placed a.t (wrote faults a d)) → Holds honest a.to (run_with a (worlds_after a) new)
+step_holds faults honest image a new at d stays noted =
+    let z = was a in
     let m = d.does.step in
-    let es = written from.is_up t.value z.world m in
-    let calm : is_log_quiet (past_of trace) ≡ true → IsCalm s to.life y =
+    let old = past_of a.run.trace in
+    let es = wrote faults a d in
+    let calm : is_log_quiet old ≡ true → IsCalm a.run.script a.to.life a.y =
     λ quiet.
-    let goes = calm_here faults honest image s ws cs trace t k x y from to start d stays quiet in
-    let planned = planned_here s t (past_of trace) z m at.names d.tied d.own d.does.planned in
-    let world : y.world ≡ after t.value z.world m = d.world ∙ turned_up from.is_up t.value z.world m (at.holds.up quiet) in
-    calm_after s to.life t.value (id_of y) z y m (subst (λ (l : ℕ). IsCalm s l z) (sym at.life) (at.holds.calm quiet t)) world d.own_life
-    (calm_block (plans_of s) t.value z.world m (calm_halting m goes) planned) at.ours in
-    holds_noted honest from to s ws (set ws (t.value - 1) y) cs cs trace new t y es at.holds at.made refl noted d.past d.given (at.unarmed at.holds.unarmed)
-    (λ h up. fits_after image ws t y from to at.numbered at.made (at.kept h) up (at.holds.fits h (at.still up))) at.life (quiet_was (past_of trace) (past_of new) t es noted)
+    let goes = calm_here faults honest image a at d stays quiet in
+    let planned = planned_here a.run.script a.t old z m at.names d.tied d.own d.does.planned in
+    let world : a.y.world ≡ after a.t.value z.world m = d.world ∙ turned_up a.from.is_up a.t.value z.world m (at.holds.up quiet) in
+    calm_after a.run.script a.to.life a.t.value (id_of a.y) z a.y m (subst (λ (l : ℕ). IsCalm a.run.script l z) (sym at.life) (at.holds.calm quiet a.t)) world d.own_life
+    (calm_block (plans_of a.run.script) a.t.value z.world m (calm_halting m goes) planned) at.ours in
+    holds_noted honest a.from a.to a.run.script a.run.worlds (worlds_after a) a.run.contexts a.run.contexts a.run.trace new a.t a.y es at.holds at.made refl noted d.past d.given
+    (at.unarmed at.holds.unarmed)
+    (λ h up. fits_after image a.run.worlds a.t a.y a.from a.to at.numbered at.made (at.kept h) up (at.holds.fits h (at.still up))) at.life (quiet_was old (past_of new) a.t es noted)
     (λ quiet. (stays (at.holds.up quiet), calm quiet))
 
 -- and as long as nothing stands at the log it is a turn of the trace.
-pub step_advances : {D : Type 0} (faults : D → ℕ) (honest : Bool) (image : D → List ℕ → Type 0) (s : List Line) (ws : List TxState) (cs : List Standing) (trace new : List Placed) (t : TxNo) (k : ℕ) (x y : TxState)
-    (from to : LogState D) → IsStepAt faults honest image s ws cs trace t k x y from to → (d : DidStep faults s ws trace t k y from to) → (IsTrue from.is_up → IsTrue to.is_up)
-    → past_of new ≡ onto (past_of trace) (placed t (written from.is_up t.value (state_of t ws).world d.does.step)) → is_log_quiet (past_of new) ≡ true → Advances s t k trace new
-step_advances faults honest image s ws cs trace new t k x y from to at d stays noted quiet =
-    let z = state_of t ws in
+step_advances : {D : Type 0} (faults : D → ℕ) (honest : Bool) (image : D → List ℕ → Type 0) (a : StepOf D) (new : List Placed) → IsStep faults honest image a → (d : DidStep faults a)
+    → (IsTrue a.from.is_up → IsTrue a.to.is_up) → past_of new ≡ onto (past_of a.run.trace) (placed a.t (wrote faults a d)) → is_log_quiet (past_of new) ≡ true
+    → Advances a.run.script a.t a.k a.run.trace new
+step_advances faults honest image a new at d stays noted quiet =
+    let z = was a in
     let m = d.does.step in
-    let was = quiet_was (past_of trace) (past_of new) t (written from.is_up t.value z.world m) noted quiet in
-    let goes = calm_here faults honest image s ws cs trace t k x y from to at d stays was in
+    let old = past_of a.run.trace in
+    let quiet_old = quiet_was old (past_of new) a.t (wrote faults a d) noted quiet in
+    let goes = calm_here faults honest image a at d stays quiet_old in
     record {
       name = d.does.name;
       step = m;
-      stands = ap (λ ns. kth ns k) (sym (pending_here s t (past_of trace) z d.tied d.own)) ∙ d.does.stands;
-      named = named_here s t (past_of trace) z d.does.name m d.tied d.does.named;
+      stands = ap (λ ns. kth ns a.k) (sym (pending_here a.run.script a.t old z d.tied d.own)) ∙ d.does.stands;
+      named = named_here a.run.script a.t old z d.does.name m d.tied d.does.named;
       calm = goes;
       done =
-          noted ∙ (ap (λ (es : List Entry). onto (past_of trace) (placed t es)) (written_up from.is_up t.value z.world m (at.holds.up was))
-          ∙ turn_here s t (past_of trace) z m d.tied d.own was (calm_stopping m goes));
+          noted ∙ (ap (λ (es : List Entry). onto old (placed a.t es)) (written_up a.from.is_up a.t.value z.world m (at.holds.up quiet_old))
+          ∙ turn_here a.run.script a.t old z m d.tied d.own quiet_old (calm_stopping m goes));
     }
-
--- what it does to the run
-pub step_runs : {D : Type 0} (faults : D → ℕ) (from to : LogState D) (s : List Line) (ws vs : List TxState) (cs : List Standing) (trace new : List Placed) (t : TxNo) (es : List Entry)
-    → past_of new ≡ onto (past_of trace) (placed t es)
-    → Runs faults from to (record { script = s; worlds = ws; contexts = cs; trace = trace }) (record { script = s; worlds = vs; contexts = cs; trace = new })
-step_runs faults from to s ws vs cs trace new t es noted =
-    record { script = refl; back = quiet_was (past_of trace) (past_of new) t es noted; forth = λ quiet. inl (quiet_noted (past_of trace) (past_of new) t es noted quiet) }
 
 -- Nothing more is pending in the trace than in the world.
 pub none_pending : (s : List Line) (ws : List TxState) (T : List Placed) (t : TxNo) (k : ℕ) → IsTied s t T (state_of t ws) → IsOwn t (state_of t ws) → kth (pending (state_of t ws).world) k ≡ None
@@ -189,7 +209,7 @@ unfolding pending local_pending all_due act_entries observe coordinate may_log m
 blank_pending zero = refl
 blank_pending (suc k) = refl
 
-pub untouched_pending : (s : List Line) (ws : List TxState) (T : List Placed) (t : TxNo) (k : ℕ) → IsTied s t T (state_of t ws) → state_of t ws ≡ untouched t
+untouched_pending : (s : List Line) (ws : List TxState) (T : List Placed) (t : TxNo) (k : ℕ) → IsTied s t T (state_of t ws) → state_of t ws ≡ untouched t
     → (kth (pending (state_of t ws).world) k ≡ None) × (kth (pending (world_at s t T)) k ≡ None)
 untouched_pending s ws T t k tied blank =
     let past : [] ≡ history t.value T = sym (ap (λ (x : TxState). x.world.past) blank) ∙ tied.past in (
@@ -197,98 +217,88 @@ untouched_pending s ws T t k tied blank =
       ap (λ (h : List Entry). kth (pending (world_of s h)) k) (sym past) ∙ blank_pending k,
     )
 
+-- So beyond the transactions that were called nothing is.
+pub none_beyond : (r : RunState) (t : TxNo) (k : ℕ) → IsTied r.script t (past_of r.trace) (state_of t r.worlds) → length r.worlds < t.value
+    → (kth (pending (state_of t r.worlds).world) k ≡ None) × (kth (pending (world_at r.script t (past_of r.trace))) k ≡ None)
+none_beyond r t k tied more = untouched_pending r.script r.worlds (past_of r.trace) t k tied (state_unreached t r.worlds more)
+
 -- Where the step stopped the log, its stop is noted first, and then something stands at the log.
-pub stopped_noted : (trace new : List Placed) (t : TxNo) (es : List Entry) → new ≡ (trace ++ (Log, Stopped) ∷ []) ++ placed t es → past_of new ≡ onto ((Log, Stopped) ∷ past_of trace) (placed t es)
+stopped_noted : (trace new : List Placed) (t : TxNo) (es : List Entry) → new ≡ (trace ++ (Log, Stopped) ∷ []) ++ placed t es → past_of new ≡ onto ((Log, Stopped) ∷ past_of trace) (placed t es)
 stopped_noted trace new t es e = ap past_of e ∙ (trace_noted (trace ++ (Log, Stopped) ∷ []) t es ∙ ap (λ (T : List Placed). onto T (placed t es)) (past_of-snoc trace (Log, Stopped)))
 
-pub stopped_loud : (trace new : List Placed) (t : TxNo) (es : List Entry) → past_of new ≡ onto ((Log, Stopped) ∷ past_of trace) (placed t es) → is_log_quiet (past_of new) ≡ true → ⊥
+stopped_loud : (trace new : List Placed) (t : TxNo) (es : List Entry) → past_of new ≡ onto ((Log, Stopped) ∷ past_of trace) (placed t es) → is_log_quiet (past_of new) ≡ true → ⊥
 stopped_loud trace new t es e quiet = let k = quiet_before ((Log, Stopped) ∷ past_of trace) (placed t es) (subst (λ (V : List Placed). is_log_quiet V ≡ true) e quiet) in cc
 
-pub stopped_tied : (s : List Line) (ws : List TxState) (trace new : List Placed) (t : TxNo) (y : TxState) (es : List Entry) → t.value ≤ length ws
+stopped_tied : (s : List Line) (ws : List TxState) (trace new : List Placed) (t : TxNo) (y : TxState) (es : List Entry) → t.value ≤ length ws
     → ((u : TxNo) → IsTied s u (past_of trace) (state_of u ws)) → past_of new ≡ onto ((Log, Stopped) ∷ past_of trace) (placed t es) → y.world.past ≡ onto (state_of t ws).world.past es
     → ((n : ℕ) (a : ActorNo) (c : Call) → IsIn y.world.calls n a c → IsCallOf s t.value n a c) → (u : TxNo) → IsTied s u (past_of new) (state_of u (set ws (t.value - 1) y))
 stopped_tied s ws trace new t y es made tied noted past given =
     tied_noted s ws ((Log, Stopped) ∷ past_of trace) (past_of new) t y es made (λ u. tied_same s u (past_of trace) ((Log, Stopped) ∷ past_of trace) (state_of u ws) refl (tied u)) noted past given
 
 -- What a step makes of a run.
-pub record IsStepped {D : Type 0} (faults : D → ℕ) (honest : Bool) (r q : RunState) (t : TxNo) (k : ℕ) (from to : LogState D) : Type 0 where
-  pub runs : Runs faults from to r q
-  pub holds : Holds honest to q
-  pub calls : HaveSameCalls r.worlds q.worlds
-  pub stepped : (m : ℕ) (start : World) → HasStepped t.value k m start (state_of t r.worlds).world → HasStepped t.value k (suc m) start (state_of t q.worlds).world
-  pub some : IsQuiet q → Advances r.script t k r.trace q.trace
-  pub nearer : steps_left (state_of t q.worlds).world < steps_left (state_of t r.worlds).world
+pub record IsStepped {D : Type 0} (faults : D → ℕ) (honest : Bool) (a : StepOf D) (q : RunState) : Type 0 where
+  pub runs : Runs faults a.from a.to a.run q
+  pub holds : Holds honest a.to q
+  pub calls : HaveSameCalls a.run.worlds q.worlds
+  pub stepped : (m : ℕ) (start : World) → HasStepped a.t.value a.k m start (was a).world → HasStepped a.t.value a.k (suc m) start (state_of a.t q.worlds).world
+  pub some : IsQuiet q → Advances a.run.script a.t a.k a.run.trace q.trace
+  pub nearer : steps_left (state_of a.t q.worlds).world < steps_left (was a).world
+
+-- one more step was done of the transaction, as it is now
+one_more : {D : Type 0} (faults : D → ℕ) (a : StepOf D) (z : TxState) → DidStep faults a → z ≡ a.y → (m : ℕ) (start : World) → HasStepped a.t.value a.k m start (was a).world
+    → HasStepped a.t.value a.k (suc m) start z.world
+one_more faults a z d here m start before =
+    subst (λ (v : TxState). HasStepped a.t.value a.k (suc m) start v.world) (sym here) (has_stepped faults a.t a.k m start (was a) a.y a.from a.to d.own.transaction d.does before)
 
 -- where it left the log up, if it was,
-pub step_done : {D : Type 0} (faults : D → ℕ) (honest : Bool) (image : D → List ℕ → Type 0) (s : List Line) (ws : List TxState) (cs : List Standing) (trace new : List Placed) (t : TxNo) (k : ℕ) (x y : TxState)
-    (from to : LogState D) → IsStepAt faults honest image s ws cs trace t k x y from to → (IsTrue from.is_up → IsTrue to.is_up)
-    → ((es : List Entry) → y.world.past ≡ onto x.world.past es → new ≡ trace ++ placed t es)
-    → IsStepped faults honest (record { script = s; worlds = ws; contexts = cs; trace = trace }) (record { script = s; worlds = set ws (t.value - 1) y; contexts = cs; trace = new }) t k from to
-step_done faults honest image s ws cs trace new t k x y from to at stays written_down =
-    let d = did_step faults honest image s ws cs trace t k x y from to at in
-    let es = written from.is_up t.value (state_of t ws).world d.does.step in
-    let reached = state_reached t ws x at.made at.there in
-    let noted : past_of new ≡ onto (past_of trace) (placed t es) =
-    ap past_of (written_down es (d.past ∙ ap (λ (z : TxState). onto z.world.past es) reached)) ∙ trace_noted trace t es in
-    let here : state_of t (set ws (t.value - 1) y) ≡ y = state_here t ws y at.made in
+pub step_done : {D : Type 0} (faults : D → ℕ) (honest : Bool) (image : D → List ℕ → Type 0) (a : StepOf D) (new : List Placed) → IsStep faults honest image a
+    → (IsTrue a.from.is_up → IsTrue a.to.is_up) → ((es : List Entry) → a.y.world.past ≡ onto (was a).world.past es → new ≡ a.run.trace ++ placed a.t es)
+    → IsStepped faults honest a (run_with a (worlds_after a) new)
+step_done faults honest image a new at stays written_down =
+    let d = did_step faults honest image a at in
+    let es = wrote faults a d in
+    let noted : past_of new ≡ onto (past_of a.run.trace) (placed a.t es) = ap past_of (written_down es d.past) ∙ trace_noted a.run.trace a.t es in
+    let here : state_of a.t (worlds_after a) ≡ a.y = state_here a.t a.run.worlds a.y at.made in
     record {
-      runs = step_runs faults from to s ws (set ws (t.value - 1) y) cs trace new t es noted;
-      holds = step_holds faults honest image s ws cs trace new t k x y from to at d stays noted;
-      calls = step_calls ws t y at.made d.calls;
-      stepped = λ m start before.
-          subst (λ (z : TxState). HasStepped t.value k (suc m) start z.world) (sym here) (has_stepped faults t k m start (state_of t ws) y from to d.own.transaction d.does before);
-      some = step_advances faults honest image s ws cs trace new t k x y from to at d stays noted;
-      nearer =
-          subst (λ (z : TxState). steps_left z.world < steps_left (state_of t ws).world) (sym here)
-          (subst (λ (z : TxState). steps_left y.world < steps_left z.world) (sym reached) at.nearer);
+      runs = record {
+        script = refl;
+        back = quiet_was (past_of a.run.trace) (past_of new) a.t es noted;
+        forth = λ quiet. inl (quiet_noted (past_of a.run.trace) (past_of new) a.t es noted quiet);
+      };
+      holds = step_holds faults honest image a new at d stays noted;
+      calls = step_calls a.run.worlds a.t a.y at.made d.calls;
+      stepped = one_more faults a (state_of a.t (worlds_after a)) d here;
+      some = step_advances faults honest image a new at d stays noted;
+      nearer = subst (λ (z : TxState). steps_left z.world < steps_left (was a).world) (sym here) at.nearer;
     }
 
 -- and where it stopped it, after the others were told.
-pub step_stopped : {D : Type 0} (faults : D → ℕ) (honest : Bool) (image : D → List ℕ → Type 0) (s : List Line) (ws : List TxState) (cs : List Standing) (trace mid : List Placed) (t : TxNo) (k : ℕ) (x y : TxState)
-    (from to : LogState D) (q : RunState) → IsStepAt faults honest image s ws cs trace t k x y from to → IsTrue from.is_up → IsFalse to.is_up
-    → ((es : List Entry) → y.world.past ≡ onto x.world.past es → mid ≡ (trace ++ (Log, Stopped) ∷ []) ++ placed t es) → q.script ≡ s → HaveSameCalls (set ws (t.value - 1) y) q.worlds
-    → state_of t q.worlds ≡ state_of t (set ws (t.value - 1) y)
-    → (((u : TxNo) → IsTied s u (past_of mid) (state_of u (set ws (t.value - 1) y))) → (u : TxNo) → IsTied s u (past_of q.trace) (state_of u q.worlds))
+pub step_stopped : {D : Type 0} (faults : D → ℕ) (honest : Bool) (image : D → List ℕ → Type 0) (a : StepOf D) (mid : List Placed) (q : RunState) → IsStep faults honest image a
+    → IsTrue a.from.is_up → IsFalse a.to.is_up → ((es : List Entry) → a.y.world.past ≡ onto (was a).world.past es → mid ≡ (a.run.trace ++ (Log, Stopped) ∷ []) ++ placed a.t es)
+    → q.script ≡ a.run.script → HaveSameCalls (worlds_after a) q.worlds → state_of a.t q.worlds ≡ state_of a.t (worlds_after a)
+    → (((u : TxNo) → IsTied a.run.script u (past_of mid) (state_of u (worlds_after a))) → (u : TxNo) → IsTied a.run.script u (past_of q.trace) (state_of u q.worlds))
     → ((is_log_quiet (past_of mid) ≡ true → ⊥) → IsQuiet q → ⊥)
-    → IsStepped faults honest (record { script = s; worlds = ws; contexts = cs; trace = trace }) q t k from to
-step_stopped {D} faults honest image s ws cs trace mid t k x y from to q at up down written_down script calls same tied loud =
-    let d = did_step faults honest image s ws cs trace t k x y from to at in
-    let es = written from.is_up t.value (state_of t ws).world d.does.step in
-    let reached = state_reached t ws x at.made at.there in
-    let noted : past_of mid ≡ onto ((Log, Stopped) ∷ past_of trace) (placed t es) =
-    stopped_noted trace mid t es (written_down es (d.past ∙ ap (λ (z : TxState). onto z.world.past es) reached)) in
-    let noisy : IsQuiet q → ⊥ = loud (stopped_loud trace mid t es noted) in
-    let here : state_of t q.worlds ≡ y = same ∙ state_here t ws y at.made in
-    let ties = tied (stopped_tied s ws trace mid t y es at.made at.holds.tied noted d.past d.given) in
-    let rose : Rose (faults from.disk) (faults to.disk) =
-    elim (stays_up faults x from to at.does.step at.does.done.answered up at.holds.unarmed) [ inl k ↦ absurd (never_both to.is_up k down) | inr r ↦ r ] in
+    → IsStepped faults honest a q
+step_stopped {D} faults honest image a mid q at up down written_down script calls same tied loud =
+    let d = did_step faults honest image a at in
+    let es = wrote faults a d in
+    let noted : past_of mid ≡ onto ((Log, Stopped) ∷ past_of a.run.trace) (placed a.t es) = stopped_noted a.run.trace mid a.t es (written_down es d.past) in
+    let noisy : IsQuiet q → ⊥ = loud (stopped_loud a.run.trace mid a.t es noted) in
+    let here : state_of a.t q.worlds ≡ a.y = same ∙ state_here a.t a.run.worlds a.y at.made in
+    let ties = tied (stopped_tied a.run.script a.run.worlds a.run.trace mid a.t a.y es at.made at.holds.tied noted d.past d.given) in
+    let rose : Rose (faults a.from.disk) (faults a.to.disk) =
+    elim (stays_up faults (was a) a.from a.to at.does.step at.does.done.answered up at.holds.unarmed) [ inl k ↦ absurd (never_both a.to.is_up k down) | inr r ↦ r ] in
     record {
       runs = record { script = script; back = λ quiet. absurd (noisy quiet); forth = λ quiet. inr rose };
       holds = record {
         tied = subst (λ (z : List Line). (u : TxNo) → IsTied z u (past_of q.trace) (state_of u q.worlds)) (sym script) ties;
         unarmed = at.unarmed at.holds.unarmed;
-        fits = λ h still. absurd (never_both to.is_up still down);
+        fits = λ h still. absurd (never_both a.to.is_up still down);
         up = λ quiet. absurd (noisy quiet);
         calm = λ quiet. absurd (noisy quiet);
       };
-      calls = λ u. calls u ∙ step_calls ws t y at.made d.calls u;
-      stepped = λ m start before.
-          subst (λ (z : TxState). HasStepped t.value k (suc m) start z.world) (sym here) (has_stepped faults t k m start (state_of t ws) y from to d.own.transaction d.does before);
+      calls = λ u. calls u ∙ step_calls a.run.worlds a.t a.y at.made d.calls u;
+      stepped = one_more faults a (state_of a.t q.worlds) d here;
       some = λ quiet. absurd (noisy quiet);
-      nearer =
-          subst (λ (z : TxState). steps_left z.world < steps_left (state_of t ws).world) (sym here)
-          (subst (λ (z : TxState). steps_left y.world < steps_left z.world) (sym reached) at.nearer);
+      nearer = subst (λ (z : TxState). steps_left z.world < steps_left (was a).world) (sym here) at.nearer;
     }
-
--- where the memory ran out before it was noted, no call was entered
-pub failed_calls : {D : Type 0} (faults : D → ℕ) (honest : Bool) (image : D → List ℕ → Type 0) (s : List Line) (ws : List TxState) (cs : List Standing) (trace : List Placed) (t : TxNo) (k : ℕ) (x y : TxState)
-    (from to : LogState D) → IsStepAt faults honest image s ws cs trace t k x y from to → HaveSameCalls ws (set ws (t.value - 1) y)
-failed_calls faults honest image s ws cs trace t k x y from to at = step_calls ws t y at.made (did_step faults honest image s ws cs trace t k x y from to at).calls
-
--- and it wrote something, or nothing
-pub step_past : {D : Type 0} (faults : D → ℕ) (honest : Bool) (image : D → List ℕ → Type 0) (s : List Line) (ws : List TxState) (cs : List Standing) (trace : List Placed) (t : TxNo) (k : ℕ) (x y : TxState)
-    (from to : LogState D) → IsStepAt faults honest image s ws cs trace t k x y from to → (es : List Entry) × (y.world.past ≡ onto x.world.past es)
-step_past faults honest image s ws cs trace t k x y from to at =
-    let d = did_step faults honest image s ws cs trace t k x y from to at in
-    let es = written from.is_up t.value (state_of t ws).world d.does.step in
-    (es, d.past ∙ ap (λ (z : TxState). onto z.world.past es) (state_reached t ws x at.made at.there))

@@ -1,5 +1,5 @@
 -- A step of a transaction, as its world does it and as the trace has it: as long as nothing stands at the log, a step is a turn of the trace.
-use Rattle.std.proofs.Common.{◌≡◌, ◌≢◌, ◌⊎◌, ◌≤◌, ◌-◌, ℕ, suc, Bool, true, false, ◌&&◌, ◌||◌, not, List, [], ◌∷◌, ◌++◌, length, get_or, find, Option, None, Some, inl, inr, refl, ap, sym, subst, ◌∙◌, if◌then◌else◌}
+use Rattle.std.proofs.Common.{◌≡◌, ◌≢◌, ◌⊎◌, ℕ, suc, Bool, true, false, ◌&&◌, ◌||◌, not, List, [], ◌∷◌, ◌++◌, find, Option, None, Some, inl, inr, refl, ap, sym, subst, ◌∙◌, if◌then◌else◌}
 use Rattle.std.specs.Prelude.{IsTrue, IsFalse}
 use Rattle.std.proofs.lemmas.Bool.{cases_Bool}
 use Rattle.dtx_values.specs.declared.call.Call.{Call}
@@ -48,16 +48,14 @@ use Rattle.tx_world.specs.Stepping.{DoesKth, IsAnswered, IsToPlan}
 use Rattle.tx_world.proofs.Begun.{stopped_begun}
 use Rattle.script_runner.specs.RunState.{AreNumbered, IsTied, is_calm_step, state_of}
 use Rattle.script_runner.proofs.Deeds.{IsPlannedBy, is_halting}
-use Rattle.script_runner.proofs.Numbered.{state_reached}
 
 -- what holds of each world, of that of transaction t
 pub record IsOwn (t : TxNo) (x : TxState) : Type 0 where
   pub transaction : x.transaction ≡ t
   pub run : IsOwnRun t.value x.world
 
-pub own_here : (t : TxNo) (ws : List TxState) (x : TxState) → AreNumbered ws → t.value ≤ length ws → x ≡ get_or ws (t.value - 1) x → IsOwnRun x.transaction.value x.world → IsOwn t (state_of t ws)
-own_here t ws x n made e run =
-    let at = state_reached t ws x made e in
+pub own_at : (t : TxNo) (ws : List TxState) (x : TxState) → AreNumbered ws → state_of t ws ≡ x → IsOwnRun x.transaction.value x.world → IsOwn t (state_of t ws)
+own_at t ws x n at run =
     let moved : IsOwnRun (state_of t ws).transaction.value (state_of t ws).world = subst (λ (z : TxState). IsOwnRun z.transaction.value z.world) (sym at) run in
     record { transaction = n.numbered t; run = subst (λ (u : TxNo). IsOwnRun u.value (state_of t ws).world) (n.numbered t) moved }
 

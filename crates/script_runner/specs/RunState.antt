@@ -1,7 +1,6 @@
 -- A replay under way.
-use Rattle.std.specs.Prelude.{ℕ, zero, suc, ◌-◌, ◌<◌, ◌≤◌, ◌≡◌, ◌⊎◌, nat_lt, Bool, true, false, List, [], length, filter, None, Some, is_some, IsTrue, slice_index_or}
+use Rattle.std.specs.Prelude.{ℕ, zero, suc, ◌-◌, ◌<◌, ◌≤◌, ◌≡◌, ◌⊎◌, nat_lt, Bool, true, false, ◌||◌, List, [], length, filter, None, Some, is_some, IsTrue, slice_index_or}
 use Rattle.dtx_values.specs.declared.entry.Entry.{Entry}
-use Rattle.dtx_values.specs.declared.entry.Entry.TheVariants.{Restarted, Stopped}
 use Rattle.dtx_values.specs.declared.number.ActorNo.{ActorNo}
 use Rattle.dtx_values.specs.declared.number.TxNo.{TxNo}
 use Rattle.dtx_values.specs.declared.number.TheConstants.TxNo.{MAX}
@@ -9,11 +8,12 @@ use Rattle.dtx_values.specs.declared.call.Call.{Call}
 use Rattle.dtx_values.specs.declared.script.Line.{Line}
 use Rattle.outside.specs.Faults.{Rose}
 use Rattle.dtx_model.specs.Words.{always, each, has, kth, past_of}
+use Rattle.dtx_model.specs.AtLog.{is_restart, is_stop}
 use Rattle.dtx_model.specs.Log.{is_record_of}
 use Rattle.dtx_model.specs.Promotes.{identifier_of}
 use Rattle.dtx_model.specs.Coordinated.{is_recorded}
 use Rattle.dtx_model.specs.World.{core}
-use Rattle.dtx_model.specs.Steps.{Step, Calls, Coordinates, Stops, Restarts, LogAnswer, StoppedBefore, StoppedNow, StepName, pending}
+use Rattle.dtx_model.specs.Steps.{Step, Calls, Coordinates, Stops, Restarts, StoppedBefore, StoppedNow, StepName, pending}
 use Rattle.dtx_model.specs.Caused.{IsCallOf, IsIn, IsNamed, Settled, is_as_planned, is_begin_sent, plans_of}
 use Rattle.dtx_model.specs.Traces.{Placed, history}
 use Rattle.dtx_model.specs.Replay.{HasSettled, RoundsRan, after_turn, last_turn, world_at}
@@ -55,9 +55,7 @@ IsToPlan s h = always (is_as_planned (plans_of s) nobody) h ≡ true
 
 -- what only a stop of the log brings to a transaction
 abbrev pub is_of_stop : Entry → Bool
-is_of_stop Stopped = true
-is_of_stop (Restarted found) = true
-is_of_stop _ = false
+is_of_stop x = is_stop x || is_restart x
 
 -- A transaction is that of its history in the trace T, newest first: each call that was entered is one that the script gives it.
 pub record IsTied (s : List Line) (t : TxNo) (T : List Placed) (x : TxState) : Type 0 where
@@ -81,6 +79,10 @@ pub record Holds {D : Type 0} (honest : Bool) (log : LogState D) (r : RunState) 
   pub fits : IsTrue honest → IsTrue log.is_up → (t : TxNo) → Fits (state_of t r.worlds) (open_records log.slots)
   pub up : IsQuiet r → IsTrue log.is_up
   pub calm : IsQuiet r → (t : TxNo) → IsCalm r.script log.life (state_of t r.worlds)
+
+-- the disk met no fault from the one state to the other: its count of faults didn't rise
+abbrev pub MetNoFault : {D : Type 0} → (D → ℕ) → D → D → Type 0
+MetNoFault faults from to = Rose (faults from) (faults to) → ⊥
 
 -- the records that are no transaction's are the same
 abbrev pub AreOthersKept : {D : Type 0} → LogState D → LogState D → Type 0

@@ -12,7 +12,7 @@ use Rattle.dtx_values.specs.declared.script.Body.{Body}
 use Rattle.dtx_values.specs.declared.script.Body.TheVariants.{Open}
 use Rattle.dtx_values.specs.declared.script.Line.{Line}
 use Rattle.dtx_model.specs.Words.{has, onto}
-use Rattle.dtx_model.specs.Scopes.{once, ScopeEntry, is_scope, open_scopes}
+use Rattle.dtx_model.specs.Scopes.{ScopeEntry, is_scope, open_scopes}
 use Rattle.dtx_model.specs.Contexts.{scope_answer, scope_calls, scope_entries, scopes_of, written}
 use Rattle.scope_context.specs.Standing.{Standing}
 use Rattle.scope_context.specs.declared.refusal.ScopeRefusal.{ScopeRefusal}

@@ -20,7 +20,7 @@ ghost use Rattle.coordinator_log.specs.Slots.{open_records};
 ghost use Rattle.outcome_law.specs.LogQuiet.{is_log_quiet};
 ghost use Rattle.script_runner.specs.Built.{are_run};
 ghost use Rattle.script_runner.specs.Ending.{AreRecorded, HasNone};
-ghost use Rattle.script_runner.specs.RunState.{Advances, AreBelow, HaveSameCalls, Holds, IsBelow, IsQuiet, IsSettledBelow, IsTied, IsToPlan, LogGoes, Runs, Settles, is_of_stop, state_of};
+ghost use Rattle.script_runner.specs.RunState.{Advances, AreBelow, HaveSameCalls, Holds, IsBelow, IsQuiet, IsSettledBelow, IsTied, IsToPlan, LogGoes, Runs, Settles, is_of_stop, state_of, untouched};
 ghost use Rattle.script_runner.specs.Scoped.{AreOnce, AreOpen, IsUnopened, calls_given, nothing_open, rollbacks, rolled_at, scopes_at};
 ghost use Rattle.tx_world.specs.Entering.{is_entered_yet};
 ghost use Rattle.tx_world.specs.Left.{steps_left};
@@ -63,6 +63,18 @@ impl<'a> Model for Run<'a> {
     ghost invariant = { λ r. AreNumbered r.worlds.items × (length r.contexts.items ≡ MAX) × (are_named_well r.plans ≡ true) };
 }
 
+/// Makes transaction t, to which nothing came yet, after the others. It stands for itself, so that a call of a transaction that is there doesn't clear the
+/// room that a new one is made in.
+#[inline(never)]
+fn add(alloc: Global, worlds: &mut Vec<TxWorld>, t: TxNo) -> Result<(), WorldError>
+    ensures added { OnOk result (worlds.new.items ≡ worlds.old.items ++ untouched t ∷ []) }
+    ensures memory { OnErr result (worlds.new.items ≡ worlds.old.items) }
+{
+    worlds.reserve(1)?;
+    worlds.push_reserved(TxWorld::new(alloc, t)?);
+    Ok(())
+}
+
 /// Makes the transactions that aren't there yet, up to this one.
 fn reach(alloc: Global, worlds: &mut Vec<TxWorld>, t: TxNo) -> Result<(), WorldError>
     ensures same { (u : TxNo) → state_of u worlds.new.items ≡ state_of u worlds.old.items }
@@ -71,8 +83,7 @@ fn reach(alloc: Global, worlds: &mut Vec<TxWorld>, t: TxNo) -> Result<(), WorldE
 {
     for number in worlds.len()..t.index() + 1 {
         let next = TxNo::new(number as u32 + 1).unwrap();
-        worlds.reserve(1)?;
-        worlds.push_reserved(TxWorld::new(alloc, next)?);
+        add(alloc, worlds, next)?;
     }
     Ok(())
 }
@@ -104,7 +115,8 @@ fn note(
 }
 
 impl<'a> Run<'a> {
-    /// A replay of these lines, before its first step.
+    /// A replay of these lines, before its first step. It has room for every transaction, and for an entry of each line: memory that is never written costs
+    /// nothing, and what grows step by step is copied.
     pub fn new(alloc: Global, lines: &'a [Line]) -> Result<Self, AllocError>
         requires { are_named_well lines.now ≡ true }
         ensures { IfOk result (λ r. r ≡ record { script = lines.entry.now; worlds = []; contexts = replicate ActorNo.MAX nothing_open; trace = [] }) }
@@ -112,10 +124,10 @@ impl<'a> Run<'a> {
         Ok(Run {
             alloc,
             plans: Plans::new(alloc, lines)?,
-            worlds: Vec::new(alloc),
+            worlds: Vec::with_capacity(alloc, TxNo::MAX as usize)?,
             contexts: contexts(alloc)?,
             entries: Vec::new(alloc),
-            trace: Vec::new(alloc),
+            trace: Vec::with_capacity(alloc, lines.len())?,
         })
     }
 

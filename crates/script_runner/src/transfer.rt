@@ -50,7 +50,8 @@ pub fn read_all<S: Source>(alloc: Global, source: &mut S) -> Result<Vec<u8>, Rea
     ensures memory { IfErr result (λ e. e ≡ ReadError.Memory → S.faults source.new ≡ S.faults source.old) }
     ensures grows { S.faults source.old ≤ S.faults source.new }
 {
-    let mut bytes = Vec::new(alloc);
+    // Room for all at once: what is never written costs nothing, and what grows is copied.
+    let mut bytes = Vec::with_capacity(alloc, MOST).map_err(|_| ReadError::Memory)?;
     let mut piece = [0u8; PIECE];
     while bytes.len() < MOST {
         let room = (MOST - bytes.len()).min(PIECE);

@@ -1,19 +1,15 @@
-use Rattle.std.proofs.Common.{◌≡◌, ◌+◌, ◌-◌, ◌≤◌, ◌++◌, List, arith, get_or, length, refl, set, subst, sym, ap, ◌∙◌}
-use Rattle.std.proofs.Math.ListN.{length-set}
-use Rattle.dtx_values.specs.declared.entry.Entry.{Entry}
+use Rattle.std.proofs.Common.{◌≡◌, ◌+◌, ◌-◌, ◌++◌, arith, get_or, length, set, subst, sym, ap, ◌∙◌}
 use Rattle.dtx_values.specs.declared.number.TxNo.{TxNo}
 use Rattle.dtx_model.specs.Grammar.{are_named_well}
-use Rattle.dtx_model.specs.Caused.{IsCallOf}
-use Rattle.dtx_model.specs.Replay.{after_turn}
 use Rattle.dtx_model.specs.Steps.{Calls}
 use Rattle.dtx_model.specs.Traces.{placed}
 use Rattle.dtx_model.specs.Words.{past_of}
 use Rattle.dtx_model.proofs.Pasts.{length-past}
 use Rattle.tx_world.specs.State.{TxState}
-use Rattle.script_runner.specs.RunState.{AreNumbered, IsBelow, IsTied, RunState, state_of}
+use Rattle.script_runner.specs.RunState.{AreNumbered, IsBelow, RunState, state_of}
 use Rattle.script_runner.proofs.CallsHold.{Entered, entered_at_place, entered_holds, entered_runs, entered_turn, may_answer_here, may_enter_here, past_after, past_longer}
 use Rattle.script_runner.proofs.Entering.{below_after}
-use Rattle.script_runner.proofs.Numbered.{numbered_same, numbered_set}
+use Rattle.script_runner.proofs.Numbered.{numbered_same}
 use Rattle.script_runner.proofs.Turns.{written}
 use Rattle.script_runner.proofs.replay.Run.call.Goals as goal
 

@@ -1,4 +1,4 @@
-use Rattle.std.proofs.Common.{◌≡◌, ◌+◌, ◌-◌, ◌∷◌, ◌++◌, suc, Some, List, [], ap, arith, drop, length, refl, subst, sym, take, ◌∙◌}
+use Rattle.std.proofs.Common.{◌≡◌, ◌+◌, ◌-◌, ◌∷◌, ◌++◌, suc, Some, List, ap, arith, drop, get_or, length, ℕ, ◌<◌, refl, subst, sym, take, ◌∙◌}
 use Rattle.std.proofs.lemmas.List.{drop_more}
 use Rattle.dtx_values.specs.declared.script.Line.{Line}
 use Rattle.dtx_model.specs.Calls.{call_of}
@@ -11,11 +11,21 @@ use Rattle.script_runner.proofs.Openings.{lines_more, past_next, unopened}
 use Rattle.script_runner.proofs.Replayed.{few, line_at, split_at}
 use Rattle.script_runner.proofs.RunLines.{run_line}
 use Rattle.script_runner.proofs.Ready.{line_entered, line_off_log}
+use Rattle.script_runner.proofs.replay.Run.lines.Given.{Over}
+use Rattle.script_runner.proofs.replay.Run.lines.Goals.{After-lines-lines}
 use Rattle.script_runner.proofs.replay.Run.lines.Goals as goal
+
+-- the lines that are gone through are the script's
+own : (g : Over) (c : After-lines-lines g) → c.lines-lines.result.now ≡ c.args.self.now.script
+own g c = c.lines-lines.ensures ∙ ap (λ (r : RunState). r.script) c.self.view_is
+
+-- where one of them stands in the script
+at : (g : Over) (c : After-lines-lines g) (i : ℕ) (l : Line) → i < length c.lines-lines.result.now → l ≡ get_or c.lines-lines.result.now i l → kth c.args.self.now.script (suc i) ≡ Some l
+at g c i l less is = subst (λ (r : List Line). kth r (suc i) ≡ Some l) (own g c) (line_at c.lines-lines.result.now i l less is)
 
 pub overflow_add-n : goal.overflow_add-n
 overflow_add-n g c =
-    let same = ap length c.lines-lines.ensures ∙ ap (λ (r : RunState). length r.script) c.self.view_is in
+    let same = ap length (own g (goal.at.overflow_add-n g c).After-lines-lines) in
     let most = few c.args.self.now.script c.requires.script in
     omega (arith, same, most, c.loop-l.invariant.count, c.loop-l-test.true)
 
@@ -33,11 +43,9 @@ loop-l-init g c = record {
 pub line-requires-clause-entered : goal.line-requires-clause-entered
 line-requires-clause-entered g c =
     let s = c.args.self.now.script in
-    let lines = c.lines-lines.result.now in
     let i = c.loop-l.l-index in
     let l = c.l-item.result in
-    let same : lines ≡ s = c.lines-lines.ensures ∙ ap (λ (r : RunState). r.script) c.self.view_is in
-    let stands : kth s (suc i) ≡ Some l = subst (λ (r : List Line). kth r (suc i) ≡ Some l) same (line_at lines i l c.loop-l-test.true c.l-item.is) in
+    let stands = at g (goal.at.line-requires-clause-entered g c).After-lines-lines i l c.loop-l-test.true c.l-item.is in
     λ t call gives.
     line_entered s (lines_before s (suc i)) l.body (kth s (suc i + 1)) t call (ap (λ (r : List Line). call_of r l.body) (sym c.loop-l.invariant.runs.script) ∙ gives) (run_line s (suc i) l stands c.requires.run)
 
@@ -47,7 +55,7 @@ line-requires-clause-unopened g c =
     let lines = c.lines-lines.result.now in
     let i = c.loop-l.l-index in
     let l = c.l-item.result in
-    let same : lines ≡ s = c.lines-lines.ensures ∙ ap (λ (r : RunState). r.script) c.self.view_is in
+    let same = own g (goal.at.line-requires-clause-unopened g c).After-lines-lines in
     let here : drop i lines ≡ l ∷ drop (i + 1) lines = drop_more lines i l c.loop-l-test.true ∙ ap (λ (x : Line). x ∷ drop (i + 1) lines) (sym c.l-item.is) in
     let split : s ≡ take i lines ++ l ∷ drop (i + 1) lines = sym same ∙ split_at lines i l (drop (i + 1) lines) here in
     unopened s (take i lines) (drop (i + 1) lines) l c.loop-l.self.contexts split c.requires.script.named c.loop-l.invariant.open_at
@@ -57,7 +65,7 @@ line-requires-clause-open g c =
     let s = c.args.self.now.script in
     let lines = c.lines-lines.result.now in
     let i = c.loop-l.l-index in
-    let same : lines ≡ s = c.lines-lines.ensures ∙ ap (λ (r : RunState). r.script) c.self.view_is in
+    let same = own g (goal.at.line-requires-clause-open g c).After-lines-lines in
     let number : i ≡ (c.loop-l.n + 1) - 1 = omega (arith, c.loop-l.invariant.count) in
     let before : past_of (take i lines) ≡ lines_before c.loop-l.self.script (c.loop-l.n + 1) =
     ap (λ k. past_of (take k lines)) number ∙ ap (λ (r : List Line). past_of (take ((c.loop-l.n + 1) - 1) r)) (same ∙ sym c.loop-l.invariant.runs.script) in
@@ -65,13 +73,9 @@ line-requires-clause-open g c =
 
 pub line-requires-clause-stands : goal.line-requires-clause-stands
 line-requires-clause-stands g c =
-    let s = c.args.self.now.script in
-    let lines = c.lines-lines.result.now in
-    let i = c.loop-l.l-index in
-    let same : lines ≡ s = c.lines-lines.ensures ∙ ap (λ (r : RunState). r.script) c.self.view_is in
-    let next : suc i ≡ c.loop-l.n + 1 = omega (arith, c.loop-l.invariant.count) in
+    let next : suc c.loop-l.l-index ≡ c.loop-l.n + 1 = omega (arith, c.loop-l.invariant.count) in
     subst (λ (r : List Line). kth r (c.loop-l.n + 1) ≡ Some c.l-item.result) (sym c.loop-l.invariant.runs.script)
-    (subst (λ (r : List Line). kth r (c.loop-l.n + 1) ≡ Some c.l-item.result) same (ap (kth lines) (sym next) ∙ line_at lines i c.l-item.result c.loop-l-test.true c.l-item.is))
+    (ap (kth c.args.self.now.script) (sym next) ∙ at g (goal.at.line-requires-clause-stands g c).After-lines-lines c.loop-l.l-index c.l-item.result c.loop-l-test.true c.l-item.is)
 
 pub loop-l-preserved : goal.loop-l-preserved
 loop-l-preserved g c =
@@ -79,8 +83,7 @@ loop-l-preserved g c =
     let lines = c.lines-lines.result.now in
     let i = c.loop-l.l-index in
     let l = c.l-item.result in
-    let same : lines ≡ s = c.lines-lines.ensures ∙ ap (λ (r : RunState). r.script) c.self.view_is in
-    let stands : kth s (suc i) ≡ Some l = subst (λ (r : List Line). kth r (suc i) ≡ Some l) same (line_at lines i l c.loop-l-test.true c.l-item.is) in
+    let stands = at g (goal.at.loop-l-preserved g c).After-lines-lines i l c.loop-l-test.true c.l-item.is in
     let off = line_off_log (lines_before s (suc i)) l.body (kth s (suc i + 1)) (run_line s (suc i) l stands c.requires.run) in
     let was = c.loop-l.invariant in
     let did = c.in_ok-line.ensures in

@@ -11,7 +11,7 @@ use Rattle.script_runner.proofs.replay.Run.new.Goals as goal
 
 pub invariant_of-result : goal.invariant_of-result
 invariant_of-result c = (
-  subst (λ (ws : List TxState). AreNumbered ws) (sym c.new-2.ensures.items) numbered_none,
+  subst (λ (ws : List TxState). AreNumbered ws) (sym c.in_ok-with_capacity.ensures.items) numbered_none,
   ap length c.in_ok-contexts.ensures ∙ length-replicate {A = Standing} 16 nothing_open,
   subst (λ (ls : List Line). are_named_well ls ≡ true) (sym c.in_ok-new.ensures) c.requires,
 )

@@ -1,184 +1,161 @@
-use Rattle.std.proofs.Common.{◌≡◌, ◌∷◌, ◌+◌, [], Some, List, arith, ap, refl, sym, subst, ◌∙◌}
+use Rattle.std.proofs.Common.{◌≡◌, ◌∷◌, ◌+◌, [], List, arith, ap, refl, sym, subst, ◌∙◌}
 use Rattle.std.proofs.lemmas.Result.{on_ok_weaker}
-use Rattle.dtx_values.specs.declared.call.Call.{Call}
-use Rattle.dtx_values.specs.declared.number.TxNo.{TxNo}
 use Rattle.dtx_values.specs.declared.script.Line.{Line}
 use Rattle.dtx_model.specs.Caused.{IsCallOf}
 use Rattle.dtx_model.specs.Contexts.{scope_block, scope_calls}
-use Rattle.dtx_model.specs.Replay.{after_calls, after_turn}
-use Rattle.dtx_model.specs.Steps.{Calls}
+use Rattle.dtx_model.specs.Replay.{after_calls, after_scope}
+use Rattle.dtx_model.specs.Traces.{Placed}
 use Rattle.dtx_model.specs.Words.{past_of}
 use Rattle.scope_context.specs.Standing.{Standing}
 use Rattle.tx_world.specs.State.{TxState}
 use Rattle.script_runner.specs.declared.contexts.Gives.{Gives}
-use Rattle.script_runner.specs.RunState.{AreBelow, state_of}
+use Rattle.script_runner.specs.declared.contexts.Gives.TheVariants.{Call as CallGiven, Nothing, Rollbacks}
+use Rattle.script_runner.specs.RunState.{AreBelow, Holds, Runs, state_of}
 use Rattle.script_runner.specs.Scoped.{AreOpen, calls_given, rollbacks, rolled_at, scopes_at}
-use Rattle.script_runner.proofs.AtContext.{IsNoted, noted_holds, noted_runs, scope_did, scope_gives}
+use Rattle.script_runner.proofs.AtContext.{noted_holds, noted_runs, scope_did, scope_gives}
 use Rattle.script_runner.proofs.Entering.{all_below, all_below_next}
 use Rattle.script_runner.proofs.Going.{runs_then}
 use Rattle.script_runner.proofs.RollingBack.{rolled_once}
 use Rattle.script_runner.proofs.Scoping.{given_plain, scope_call_answers, scope_call_enters}
+use Rattle.script_runner.proofs.replay.Run.scope.Given.{Over}
+use Rattle.script_runner.proofs.replay.Run.scope.Goals.{In_ok-at_context}
 use Rattle.script_runner.proofs.replay.Run.scope.Goals as goal
 
-pub call-requires-clause-holds : goal.call-requires-clause-holds
-call-requires-clause-holds g c =
+-- what was done at the context holds of the run,
+held : (g : Over) (c : In_ok-at_context g) → Holds g.D.Disk.honest c.args.log.now c.at_context.new.self
+held g c =
+    let l = c.args.l.now in
+    let es = scope_block c.args.n l.actor l.body (scopes_at l.actor c.args.self.now.contexts) in
+    noted_holds g.D.Disk.honest c.args.log.now l.actor es c.args.self.now c.at_context.new.self
+    (record { script = c.at_context.ensures.script; worlds = c.at_context.ensures.worlds; block = c.in_ok-at_context.ensures.block }) c.requires.holds
+
+-- and is a part of it;
+ran : (g : Over) (c : In_ok-at_context g) → Runs g.D.Disk.faults c.args.log.now c.args.log.now c.args.self.now c.at_context.new.self
+ran g c =
+    let l = c.args.l.now in
+    let es = scope_block c.args.n l.actor l.body (scopes_at l.actor c.args.self.now.contexts) in
+    noted_runs g.D.Disk.faults c.args.log.now l.actor es c.args.self.now c.at_context.new.self
+    (record { script = c.at_context.ensures.script; worlds = c.at_context.ensures.worlds; block = c.in_ok-at_context.ensures.block })
+
+-- it entered no call,
+below : (g : Over) (c : In_ok-at_context g) → AreBelow c.args.n c.at_context.new.self.worlds
+below g c = subst (λ (ws : List TxState). AreBelow c.args.n ws) (sym c.at_context.ensures.worlds) c.requires.below
+
+-- and the calls that it gives are those of the line.
+given : (g : Over) (c : In_ok-at_context g) (x : Gives) → c.in_ok-at_context.field-0 ≡ x
+    → calls_given x (rolled_at c.args.l.now.actor c.at_context.new.self.contexts) ≡ scope_calls c.args.l.now.body (scopes_at c.args.l.now.actor c.args.self.now.contexts)
+given g c x is = ap (λ (y : Gives). calls_given y (rolled_at c.args.l.now.actor c.at_context.new.self.contexts)) (sym is) ∙ c.in_ok-at_context.ensures.calls
+
+-- So with what they did it is what the line does.
+did : (g : Over) (c : In_ok-at_context g) (x : Gives) (end : List Placed) → c.in_ok-at_context.field-0 ≡ x
+    → end ≡ after_calls c.at_context.new.self.script c.args.n c.args.l.now.actor (calls_given x (rolled_at c.args.l.now.actor c.at_context.new.self.contexts)) (past_of c.at_context.new.self.trace)
+    → end ≡ after_scope c.args.self.now.script c.args.n c.args.l.now (scopes_at c.args.l.now.actor c.args.self.now.contexts) (past_of c.args.self.now.trace)
+did g c x end is e =
     let l = c.args.l.now in
     let old = c.args.self.now in
     let new = c.at_context.new.self in
-    let es = scope_block c.args.n l.actor l.body (scopes_at l.actor old.contexts) in
-    let noted : IsNoted l.actor es old new = record { script = c.at_context.ensures.script; worlds = c.at_context.ensures.worlds; block = c.in_ok-at_context.ensures.block } in
-    noted_holds g.D.Disk.honest c.args.log.now l.actor es old new noted c.requires.holds
+    let cs = calls_given x (rolled_at l.actor new.contexts) in
+    scope_did old.script c.args.n l (scopes_at l.actor old.contexts) cs (past_of old.trace) (past_of new.trace) end (given g c x is) c.in_ok-at_context.ensures.block
+    (subst (λ (s : List Line). end ≡ after_calls s c.args.n l.actor cs (past_of new.trace)) c.at_context.ensures.script e)
+
+-- the scopes stay as the line leaves them
+kept : (g : Over) (c : In_ok-at_context g) (cs : List Standing) → cs ≡ c.at_context.new.self.contexts → (before : List Line) → AreOpen c.args.self.now.contexts before
+    → AreOpen cs (c.args.l.now ∷ before)
+kept g c cs same before ties = subst (λ (ds : List Standing). AreOpen ds (c.args.l.now ∷ before)) (sym same) (c.in_ok-at_context.ensures.scopes before ties)
+
+pub call-requires-clause-holds : goal.call-requires-clause-holds
+call-requires-clause-holds g c = held g (goal.at.call-requires-clause-holds g c).In_ok-at_context
 
 pub call-requires-clause-given : goal.call-requires-clause-given
 call-requires-clause-given g c =
     let l = c.args.l.now in
-    let s = c.args.self.now.script in
-    let given : (c.in-Call.t, c.in-Call.c) ∷ [] ≡ scope_calls l.body (scopes_at l.actor c.args.self.now.contexts) =
-    ap (λ (g : Gives). calls_given g (rolled_at l.actor c.at_context.new.self.contexts)) (sym c.in-Call.is) ∙ c.in_ok-at_context.ensures.calls in
+    let one = given g (goal.at.call-requires-clause-given g c).In_ok-at_context (CallGiven c.in-Call.t c.in-Call.c) c.in-Call.is in
     subst (λ (r : List Line). IsCallOf r c.in-Call.t.value c.args.n l.actor c.in-Call.c) (sym c.at_context.ensures.script)
-    (scope_gives s c.args.n l c.args.self.now.contexts ((c.in-Call.t, c.in-Call.c) ∷ []) 0 c.in-Call.t c.in-Call.c c.requires.stands c.requires.open given refl)
+    (scope_gives c.args.self.now.script c.args.n l c.args.self.now.contexts ((c.in-Call.t, c.in-Call.c) ∷ []) 0 c.in-Call.t c.in-Call.c c.requires.stands c.requires.open one refl)
 
 pub call-requires-clause-below : goal.call-requires-clause-below
-call-requires-clause-below g c = subst (λ (ws : List TxState). AreBelow c.args.n ws) (sym c.at_context.ensures.worlds) c.requires.below c.in-Call.t
+call-requires-clause-below g c = below g (goal.at.call-requires-clause-below g c).In_ok-at_context c.in-Call.t
 
 pub call-requires-clause-answers : goal.call-requires-clause-answers
 call-requires-clause-answers g c =
     let l = c.args.l.now in
-    let given : (c.in-Call.t, c.in-Call.c) ∷ [] ≡ scope_calls l.body (scopes_at l.actor c.args.self.now.contexts) =
-    ap (λ (g : Gives). calls_given g (rolled_at l.actor c.at_context.new.self.contexts)) (sym c.in-Call.is) ∙ c.in_ok-at_context.ensures.calls in
-    scope_call_answers c.in-Call.t.value (state_of c.in-Call.t c.at_context.new.self.worlds).world c.in-Call.c (given_plain l.body (scopes_at l.actor c.args.self.now.contexts) c.in-Call.t c.in-Call.c given)
+    let one = given g (goal.at.call-requires-clause-answers g c).In_ok-at_context (CallGiven c.in-Call.t c.in-Call.c) c.in-Call.is in
+    scope_call_answers c.in-Call.t.value (state_of c.in-Call.t c.at_context.new.self.worlds).world c.in-Call.c (given_plain l.body (scopes_at l.actor c.args.self.now.contexts) c.in-Call.t c.in-Call.c one)
 
 pub call-requires-clause-entered : goal.call-requires-clause-entered
 call-requires-clause-entered g c =
     let l = c.args.l.now in
-    let given : (c.in-Call.t, c.in-Call.c) ∷ [] ≡ scope_calls l.body (scopes_at l.actor c.args.self.now.contexts) =
-    ap (λ (g : Gives). calls_given g (rolled_at l.actor c.at_context.new.self.contexts)) (sym c.in-Call.is) ∙ c.in_ok-at_context.ensures.calls in
-    scope_call_enters c.in-Call.c (given_plain l.body (scopes_at l.actor c.args.self.now.contexts) c.in-Call.t c.in-Call.c given)
+    let one = given g (goal.at.call-requires-clause-entered g c).In_ok-at_context (CallGiven c.in-Call.t c.in-Call.c) c.in-Call.is in
+    scope_call_enters c.in-Call.c (given_plain l.body (scopes_at l.actor c.args.self.now.contexts) c.in-Call.t c.in-Call.c one)
 
 pub roll_back-requires-clause-holds : goal.roll_back-requires-clause-holds
-roll_back-requires-clause-holds g c =
-    let l = c.args.l.now in
-    let old = c.args.self.now in
-    let new = c.at_context.new.self in
-    let es = scope_block c.args.n l.actor l.body (scopes_at l.actor old.contexts) in
-    let noted : IsNoted l.actor es old new = record { script = c.at_context.ensures.script; worlds = c.at_context.ensures.worlds; block = c.in_ok-at_context.ensures.block } in
-    noted_holds g.D.Disk.honest c.args.log.now l.actor es old new noted c.requires.holds
+roll_back-requires-clause-holds g c = held g (goal.at.roll_back-requires-clause-holds g c).In_ok-at_context
 
 pub roll_back-requires-clause-below : goal.roll_back-requires-clause-below
-roll_back-requires-clause-below g c = subst (λ (ws : List TxState). AreBelow c.args.n ws) (sym c.at_context.ensures.worlds) c.requires.below
+roll_back-requires-clause-below g c = below g (goal.at.roll_back-requires-clause-below g c).In_ok-at_context
 
 pub roll_back-requires-clause-given : goal.roll_back-requires-clause-given
 roll_back-requires-clause-given g c =
     let l = c.args.l.now in
-    let s = c.args.self.now.script in
     let ts = rolled_at l.actor c.at_context.new.self.contexts in
-    let given : rollbacks ts ≡ scope_calls l.body (scopes_at l.actor c.args.self.now.contexts) =
-    ap (λ (g : Gives). calls_given g ts) (sym c.in-Rollbacks.is) ∙ c.in_ok-at_context.ensures.calls in
+    let all = given g (goal.at.roll_back-requires-clause-given g c).In_ok-at_context Rollbacks c.in-Rollbacks.is in
     λ t d i here.
     subst (λ (r : List Line). IsCallOf r t.value c.args.n l.actor d) (sym c.at_context.ensures.script)
-    (scope_gives s c.args.n l c.args.self.now.contexts (rollbacks ts) i t d c.requires.stands c.requires.open given here)
+    (scope_gives c.args.self.now.script c.args.n l c.args.self.now.contexts (rollbacks ts) i t d c.requires.stands c.requires.open all here)
 
 pub roll_back-requires-clause-once : goal.roll_back-requires-clause-once
 roll_back-requires-clause-once g c =
     let l = c.args.l.now in
-    let ts = rolled_at l.actor c.at_context.new.self.contexts in
-    let given : rollbacks ts ≡ scope_calls l.body (scopes_at l.actor c.args.self.now.contexts) =
-    ap (λ (g : Gives). calls_given g ts) (sym c.in-Rollbacks.is) ∙ c.in_ok-at_context.ensures.calls in
-    rolled_once l.body (scopes_at l.actor c.args.self.now.contexts) ts given
+    rolled_once l.body (scopes_at l.actor c.args.self.now.contexts) (rolled_at l.actor c.at_context.new.self.contexts)
+    (given g (goal.at.roll_back-requires-clause-once g c).In_ok-at_context Rollbacks c.in-Rollbacks.is)
 
 pub returns-in-Nothing-clause-runs : goal.returns-in-Nothing-clause-runs
-returns-in-Nothing-clause-runs g c =
-    let l = c.args.l.now in
-    let old = c.args.self.now in
-    let new = c.at_context.new.self in
-    let es = scope_block c.args.n l.actor l.body (scopes_at l.actor old.contexts) in
-    let noted : IsNoted l.actor es old new = record { script = c.at_context.ensures.script; worlds = c.at_context.ensures.worlds; block = c.in_ok-at_context.ensures.block } in
-    noted_runs g.D.Disk.faults c.args.log.now l.actor es old new noted
+returns-in-Nothing-clause-runs g c = ran g (goal.at.returns-in-Nothing-clause-runs g c).In_ok-at_context
 
 pub returns-in-Nothing-clause-holds : goal.returns-in-Nothing-clause-holds
-returns-in-Nothing-clause-holds g c =
-    let l = c.args.l.now in
-    let old = c.args.self.now in
-    let new = c.at_context.new.self in
-    let es = scope_block c.args.n l.actor l.body (scopes_at l.actor old.contexts) in
-    let noted : IsNoted l.actor es old new = record { script = c.at_context.ensures.script; worlds = c.at_context.ensures.worlds; block = c.in_ok-at_context.ensures.block } in
-    noted_holds g.D.Disk.honest c.args.log.now l.actor es old new noted c.requires.holds
+returns-in-Nothing-clause-holds g c = held g (goal.at.returns-in-Nothing-clause-holds g c).In_ok-at_context
 
 pub returns-in-Nothing-clause-entered : goal.returns-in-Nothing-clause-entered
-returns-in-Nothing-clause-entered g c =
-    all_below_next c.args.n c.at_context.new.self.worlds (subst (λ (ws : List TxState). AreBelow c.args.n ws) (sym c.at_context.ensures.worlds) c.requires.below)
+returns-in-Nothing-clause-entered g c = all_below_next c.args.n c.at_context.new.self.worlds (below g (goal.at.returns-in-Nothing-clause-entered g c).In_ok-at_context)
 
 pub returns-in-Nothing-clause-done : goal.returns-in-Nothing-clause-done
-returns-in-Nothing-clause-done g c =
-    let l = c.args.l.now in
-    let old = c.args.self.now in
-    let new = c.at_context.new.self in
-    let xs = scopes_at l.actor old.contexts in
-    let given : [] ≡ scope_calls l.body xs = ap (λ (g : Gives). calls_given g (rolled_at l.actor new.contexts)) (sym c.in-Nothing.is) ∙ c.in_ok-at_context.ensures.calls in
-    λ quiet. scope_did old.script c.args.n l xs [] (past_of old.trace) (past_of new.trace) (past_of new.trace) given c.in_ok-at_context.ensures.block refl
+returns-in-Nothing-clause-done g c = λ quiet. did g (goal.at.returns-in-Nothing-clause-done g c).In_ok-at_context Nothing (past_of c.at_context.new.self.trace) c.in-Nothing.is refl
 
 pub returns-in-Call-clause-runs : goal.returns-in-Call-clause-runs
 returns-in-Call-clause-runs g c =
-    let l = c.args.l.now in
-    let old = c.args.self.now in
-    let new = c.at_context.new.self in
+    let b = (goal.at.returns-in-Call-clause-runs g c).In_ok-at_context in
     let log = c.args.log.now in
-    let es = scope_block c.args.n l.actor l.body (scopes_at l.actor old.contexts) in
-    let noted : IsNoted l.actor es old new = record { script = c.at_context.ensures.script; worlds = c.at_context.ensures.worlds; block = c.in_ok-at_context.ensures.block } in
     on_ok_weaker c.call.result
-    (λ runs. runs_then g.D.Disk.faults log log log old new c.call.new.self (omega arith) (omega arith) (noted_runs g.D.Disk.faults log l.actor es old new noted) runs) c.call.ensures.runs
+    (λ runs. runs_then g.D.Disk.faults log log log c.args.self.now c.at_context.new.self c.call.new.self (omega arith) (omega arith) (ran g b) runs) c.call.ensures.runs
 
 pub returns-in-Call-clause-entered : goal.returns-in-Call-clause-entered
 returns-in-Call-clause-entered g c =
     let ws = c.at_context.new.self.worlds in
-    let below = subst (λ (ws : List TxState). AreBelow c.args.n ws) (sym c.at_context.ensures.worlds) c.requires.below in
-    on_ok_weaker c.call.result (λ entered. all_below (c.args.n + 1) c.in-Call.t ws c.call.new.self.worlds c.call.ensures.others entered (all_below_next c.args.n ws below)) c.call.ensures.entered
+    let was = all_below_next c.args.n ws (below g (goal.at.returns-in-Call-clause-entered g c).In_ok-at_context) in
+    on_ok_weaker c.call.result (λ entered. all_below (c.args.n + 1) c.in-Call.t ws c.call.new.self.worlds c.call.ensures.others entered was) c.call.ensures.entered
 
 pub returns-in-Call-clause-done : goal.returns-in-Call-clause-done
 returns-in-Call-clause-done g c =
-    let l = c.args.l.now in
-    let old = c.args.self.now in
-    let new = c.at_context.new.self in
-    let xs = scopes_at l.actor old.contexts in
-    let one = (c.in-Call.t, c.in-Call.c) ∷ [] in
-    let given : one ≡ scope_calls l.body xs = ap (λ (g : Gives). calls_given g (rolled_at l.actor new.contexts)) (sym c.in-Call.is) ∙ c.in_ok-at_context.ensures.calls in
-    on_ok_weaker c.call.result
-    (λ did quiet. scope_did old.script c.args.n l xs one (past_of old.trace) (past_of new.trace) (past_of c.call.new.self.trace) given c.in_ok-at_context.ensures.block
-    (subst (λ (r : List Line). past_of c.call.new.self.trace ≡ after_turn r c.in-Call.t (Calls c.args.n l.actor c.in-Call.c 0) (past_of new.trace)) c.at_context.ensures.script (did quiet)))
-    c.call.ensures.done
+    let b = (goal.at.returns-in-Call-clause-done g c).In_ok-at_context in
+    on_ok_weaker c.call.result (λ ran quiet. did g b (CallGiven c.in-Call.t c.in-Call.c) (past_of c.call.new.self.trace) c.in-Call.is (ran quiet)) c.call.ensures.done
 
 pub returns-in-Call-clause-scopes : goal.returns-in-Call-clause-scopes
 returns-in-Call-clause-scopes g c =
-    let l = c.args.l.now in
-    on_ok_weaker c.call.result
-    (λ held before ties. subst (λ (cs : List Standing). AreOpen cs (l ∷ before)) (sym c.call.ensures.contexts) (c.in_ok-at_context.ensures.scopes before ties)) c.call.ensures.holds
+    on_ok_weaker c.call.result (λ _. kept g (goal.at.returns-in-Call-clause-scopes g c).In_ok-at_context c.call.new.self.contexts c.call.ensures.contexts) c.call.ensures.holds
 
 pub returns-in-Rollbacks-clause-runs : goal.returns-in-Rollbacks-clause-runs
 returns-in-Rollbacks-clause-runs g c =
-    let l = c.args.l.now in
-    let old = c.args.self.now in
-    let new = c.at_context.new.self in
+    let b = (goal.at.returns-in-Rollbacks-clause-runs g c).In_ok-at_context in
     let log = c.args.log.now in
-    let es = scope_block c.args.n l.actor l.body (scopes_at l.actor old.contexts) in
-    let noted : IsNoted l.actor es old new = record { script = c.at_context.ensures.script; worlds = c.at_context.ensures.worlds; block = c.in_ok-at_context.ensures.block } in
     on_ok_weaker c.roll_back.result
-    (λ runs. runs_then g.D.Disk.faults log log log old new c.roll_back.new.self (omega arith) (omega arith) (noted_runs g.D.Disk.faults log l.actor es old new noted) runs) c.roll_back.ensures.runs
+    (λ runs. runs_then g.D.Disk.faults log log log c.args.self.now c.at_context.new.self c.roll_back.new.self (omega arith) (omega arith) (ran g b) runs) c.roll_back.ensures.runs
 
 pub returns-in-Rollbacks-clause-done : goal.returns-in-Rollbacks-clause-done
 returns-in-Rollbacks-clause-done g c =
-    let l = c.args.l.now in
-    let old = c.args.self.now in
-    let new = c.at_context.new.self in
-    let xs = scopes_at l.actor old.contexts in
-    let ts = rolled_at l.actor new.contexts in
-    let given : rollbacks ts ≡ scope_calls l.body xs = ap (λ (g : Gives). calls_given g ts) (sym c.in-Rollbacks.is) ∙ c.in_ok-at_context.ensures.calls in
-    on_ok_weaker c.roll_back.result
-    (λ did quiet. scope_did old.script c.args.n l xs (rollbacks ts) (past_of old.trace) (past_of new.trace) (past_of c.roll_back.new.self.trace) given c.in_ok-at_context.ensures.block
-    (subst (λ (r : List Line). past_of c.roll_back.new.self.trace ≡ after_calls r c.args.n l.actor (rollbacks ts) (past_of new.trace)) c.at_context.ensures.script (did quiet)))
-    c.roll_back.ensures.done
+    let b = (goal.at.returns-in-Rollbacks-clause-done g c).In_ok-at_context in
+    on_ok_weaker c.roll_back.result (λ ran quiet. did g b Rollbacks (past_of c.roll_back.new.self.trace) c.in-Rollbacks.is (ran quiet)) c.roll_back.ensures.done
 
 pub returns-in-Rollbacks-clause-scopes : goal.returns-in-Rollbacks-clause-scopes
 returns-in-Rollbacks-clause-scopes g c =
-    let l = c.args.l.now in
-    on_ok_weaker c.roll_back.result
-    (λ held before ties. subst (λ (cs : List Standing). AreOpen cs (l ∷ before)) (sym c.roll_back.ensures.contexts) (c.in_ok-at_context.ensures.scopes before ties)) c.roll_back.ensures.holds
+    on_ok_weaker c.roll_back.result (λ _. kept g (goal.at.returns-in-Rollbacks-clause-scopes g c).In_ok-at_context c.roll_back.new.self.contexts c.roll_back.ensures.contexts)
+    c.roll_back.ensures.holds

@@ -1,25 +1,25 @@
-use Rattle.std.proofs.Common.{◌≡◌, ◌≤◌, ◌<◌, ◌-◌, ◌++◌, ◌∷◌, [], ◌∙◌, ℕ, Bool, true, false, List, None, Ok, Result, ap, arith, get_or, length, set, subst, sym}
+use Rattle.std.proofs.Common.{◌≡◌, ◌≤◌, ◌<◌, ◌-◌, ◌++◌, ◌∷◌, [], ◌∙◌, ℕ, Bool, true, false, List, None, Ok, Result, ap, arith, length, set, subst, sym}
 use Rattle.std.specs.Prelude.{IsTrue, IsFalse}
 use Rattle.dtx_values.specs.declared.entry.Entry.{Entry}
 use Rattle.dtx_values.specs.declared.entry.Entry.TheVariants.{Stopped}
 use Rattle.dtx_values.specs.declared.number.TxNo.{TxNo}
 use Rattle.dtx_values.specs.declared.trace.Place.TheVariants.{Log}
+use Rattle.dtx_model.specs.Grammar.{are_named_well}
 use Rattle.dtx_model.specs.Words.{kth, onto, past_of}
-use Rattle.dtx_model.specs.Replay.{world_at}
 use Rattle.dtx_model.specs.Steps.{pending}
 use Rattle.dtx_model.specs.Traces.{Placed, placed}
 use Rattle.coordinator_log.specs.Slots.{open_records}
 use Rattle.tx_world.specs.AtLog.{Fits}
-use Rattle.tx_world.specs.Left.{steps_left}
 use Rattle.tx_world.specs.State.{TxState}
 use Rattle.tx_world.specs.declared.refusal.WorldError.{WorldError}
 use Rattle.tx_world.specs.Stepping.{DoesKth}
-use Rattle.script_runner.specs.RunState.{HaveSameCalls, Holds, IsTied, RunState, state_of}
+use Rattle.script_runner.specs.RunState.{AreNumbered, HaveSameCalls, IsTied, RunState, state_of}
 use Rattle.script_runner.proofs.Noting.{as_long, grown}
-use Rattle.script_runner.proofs.Numbered.{state_reached, state_unreached}
-use Rattle.script_runner.proofs.Steps.{IsStepAt, IsStepped, failed_calls, none_pending, step_done, step_log, step_past, step_stopped, untouched_pending}
-use Rattle.script_runner.proofs.Turns.{never_both, own_here}
-use Rattle.script_runner.proofs.replay.Run.step.Goals.{else-was_up-via-then-was_up+else-not-is_up, else-was_up-via-else-was_up}
+use Rattle.script_runner.proofs.Numbered.{state_indexed}
+use Rattle.script_runner.proofs.Steps.{IsStep, IsStepAt, IsStepped, StepOf, calls_same, none_beyond, none_pending, run_with, step_done, step_log, step_past, step_stopped, was, worlds_after}
+use Rattle.script_runner.proofs.Turns.{never_both, own_at}
+use Rattle.script_runner.proofs.replay.Run.step.Given.{Over}
+use Rattle.script_runner.proofs.replay.Run.step.Goals.{After-is_own_run, After-is_own_run-2, else-was_up-via-then-was_up+else-not-is_up, else-was_up-via-else-was_up}
 use Rattle.script_runner.proofs.replay.Run.step.Goals as goal
 
 -- it was done
@@ -29,420 +29,148 @@ did_nothing r = r ≡ Ok false
 never_false : did_nothing (Ok true) → ⊥
 never_false e = cc
 
+-- the world is the transaction's
+reached : (g : Over) (c : After-is_own_run g) → state_of c.args.t c.args.self.now.worlds ≡ c.index_mut-world.result.now
+reached g c =
+    subst (λ (r : RunState). state_of c.args.t r.worlds ≡ c.index_mut-world.result.now) c.self.view_is
+    (state_indexed c.args.t c.self.inside.worlds.items c.index_mut-world.result.now c.index-2.result (omega (arith, c.index-2.ensures.place))
+    (omega (arith, c.index.ensures.place, c.if-len-index.false, c.len.ensures)) c.index_mut-world.ensures.value)
+
+-- what the step is about
+abbrev about : (g : Over) → After-is_own_run-2 g → StepOf g.row.D.Denot
+about g c = record { run = c.args.self.now; t = c.args.t; k = c.args.k; y = c.step.new.self; from = c.args.log.now; to = c.step.new.log }
+
+-- the world was the transaction's
+was_reached : (g : Over) (c : After-is_own_run-2 g) → was (about g c) ≡ c.index_mut-world.result.now
+was_reached g c =
+    subst (λ (r : RunState). state_of c.args.t r.worlds ≡ c.index_mut-world.result.now) c.self.view_is
+    (state_indexed c.args.t c.self.inside.worlds.items c.index_mut-world.result.now c.index-2.result (omega (arith, c.index-2.ensures.place))
+    (omega (arith, c.index.ensures.place, c.if-len-index.false, c.len.ensures)) c.index_mut-world.ensures.value)
+
+-- it was done
+done : (g : Over) (c : After-is_own_run-2 g) → IsStep g.D.Disk.faults g.D.Disk.honest g.D.Disk.image (about g c)
+done g c =
+    let x = c.index_mut-world.result.now in
+    let y = c.step.new.self in
+    let made : c.args.t.value ≤ length c.self.inside.worlds.items = omega (arith, c.index.ensures.place, c.if-len-index.false, c.len.ensures) in
+    let did = ap (λ (b : Bool). Ok b) c.if-not-branch.false in
+    subst (λ (z : TxState). IsStepAt g.D.Disk.faults g.D.Disk.honest g.D.Disk.image (about g c) z) (sym (was_reached g c))
+    (record {
+      holds = c.requires.holds;
+      numbered = subst (λ (r : RunState). AreNumbered r.worlds) c.self.view_is c.self.invariant.0;
+      names = subst (λ (r : RunState). are_named_well r.script ≡ true) c.self.view_is c.self.invariant.2;
+      made = subst (λ (r : RunState). c.args.t.value ≤ length r.worlds) c.self.view_is made;
+      own = c.is_own_run.ensures.run;
+      does = subst (λ (j : ℕ). DoesKth g.D.Disk.faults j x c.args.log.now y c.step.new.log) c.from.ensures (c.in_ok-step.ensures.some did);
+      nearer = c.in_ok-step.ensures.nearer did;
+      kept = c.step.ensures.kept;
+      life = c.step.ensures.life;
+      grows = c.step.ensures.grows;
+      unarmed = c.step.ensures.unarmed;
+      still = c.step.ensures.still;
+      ours = c.is_own_run-2.ensures.ours;
+    })
+
+-- the run after it, as its parts stand then
+parts : (g : Over) (c : After-is_own_run-2 g) (T : List Placed)
+    → record { script = c.self.inside.plans; worlds = set c.self.inside.worlds.items c.index-2.result c.step.new.self; contexts = c.self.inside.contexts.items; trace = T }
+    ≡ run_with (about g c) (worlds_after (about g c)) T
+parts g c T =
+    let place : c.index-2.result ≡ c.args.t.value - 1 = omega (arith, c.index-2.ensures.place) in
+    ap (λ (r : RunState). record { script = r.script; worlds = set r.worlds c.index-2.result c.step.new.self; contexts = r.contexts; trace = T }) c.self.view_is
+    ∙ ap (λ (i : ℕ). run_with (about g c) (set c.args.self.now.worlds i c.step.new.self) T) place
+
+-- no call was entered
+calls : (g : Over) (c : After-is_own_run-2 g) → HaveSameCalls c.args.self.now.worlds (set c.self.inside.worlds.items c.index-2.result c.step.new.self)
+calls g c = subst (λ (r : RunState). HaveSameCalls c.args.self.now.worlds r.worlds) (sym (parts g c [])) (calls_same g.D.Disk.faults g.D.Disk.honest g.D.Disk.image (about g c) (done g c))
+
+-- its history was as long as was asked before
+past : (g : Over) (c : After-is_own_run-2 g) → past_of c.history-from.result.now ≡ (was (about g c)).world.past
+past g c = c.history-from.ensures ∙ sym (ap (λ (z : TxState). z.world.past) (was_reached g c))
+
+long : (g : Over) (c : After-is_own_run-2 g) → length (was (about g c)).world.past ≡ length c.history-from.result.now
+long g c = sym (as_long c.history-from.result.now (was (about g c)).world.past (past g c))
+
+-- and didn't get shorter
+longer : (g : Over) (c : After-is_own_run-2 g) → length c.history-from.result.now ≤ length c.step.new.self.world.past
+longer g c =
+    let wrote = step_past g.D.Disk.faults g.D.Disk.honest g.D.Disk.image (about g c) (done g c) in
+    grown c.history-from.result.now (was (about g c)).world.past c.step.new.self.world.past wrote.0 (past g c) wrote.1
+
 pub returns-then-len-index-clause-none : goal.returns-then-len-index-clause-none
 returns-then-len-index-clause-none g c = λ e.
-    let ws = c.self.inside.worlds.items in
-    let more : length ws < c.args.t.value = omega (arith, c.index.ensures.place, c.if-len-index.true, c.len.ensures) in
-    let holds = subst (λ (r : RunState). Holds g.D.Disk.honest c.args.log.now r) (sym c.self.view_is) c.requires.holds in
-    subst (λ (r : RunState). kth (pending (state_of c.args.t r.worlds).world) c.args.k ≡ None) c.self.view_is
-    (untouched_pending c.self.inside.plans ws (past_of c.self.inside.trace.items) c.args.t c.args.k (holds.tied c.args.t) (state_unreached c.args.t ws more)).0
+    let more : length c.self.inside.worlds.items < c.args.t.value = omega (arith, c.index.ensures.place, c.if-len-index.true, c.len.ensures) in
+    (none_beyond c.args.self.now c.args.t c.args.k (c.requires.holds.tied c.args.t) (subst (λ (r : RunState). length r.worlds < c.args.t.value) c.self.view_is more)).0
 
 pub returns-then-len-index-clause-none_here : goal.returns-then-len-index-clause-none_here
 returns-then-len-index-clause-none_here g c = λ e quiet.
-    let ws = c.self.inside.worlds.items in
-    let more : length ws < c.args.t.value = omega (arith, c.index.ensures.place, c.if-len-index.true, c.len.ensures) in
-    let holds = subst (λ (r : RunState). Holds g.D.Disk.honest c.args.log.now r) (sym c.self.view_is) c.requires.holds in
-    subst (λ (r : RunState). kth (pending (world_at r.script c.args.t (past_of r.trace))) c.args.k ≡ None) c.self.view_is
-    (untouched_pending c.self.inside.plans ws (past_of c.self.inside.trace.items) c.args.t c.args.k (holds.tied c.args.t) (state_unreached c.args.t ws more)).1
+    let more : length c.self.inside.worlds.items < c.args.t.value = omega (arith, c.index.ensures.place, c.if-len-index.true, c.len.ensures) in
+    (none_beyond c.args.self.now c.args.t c.args.k (c.requires.holds.tied c.args.t) (subst (λ (r : RunState). length r.worlds < c.args.t.value) c.self.view_is more)).1
 
 pub step-requires : goal.step-requires
-step-requires g c =
-    let s = c.self.inside.plans in
-    let ws = c.self.inside.worlds.items in
-    let cs = c.self.inside.contexts.items in
-    let tr = c.self.inside.trace.items in
-    let t = c.args.t in
-    let k = c.args.k in
-    let x = c.index_mut-world.result.now in
-    let from = c.args.log.now in
-    let faults = g.D.Disk.faults in
-    let honest = g.D.Disk.honest in
-    let image = g.D.Disk.image in
-    let place : c.index-2.result ≡ t.value - 1 = omega (arith, c.index-2.ensures.place) in
-    let made : t.value ≤ length ws = omega (arith, c.index.ensures.place, c.if-len-index.false, c.len.ensures) in
-    let there : x ≡ get_or ws (t.value - 1) x = subst (λ (i : ℕ). x ≡ get_or ws i x) place c.index_mut-world.ensures.value in
-    let holds : Holds honest from (record { script = s; worlds = ws; contexts = cs; trace = tr }) = subst (λ (r : RunState). Holds honest from r) (sym c.self.view_is) c.requires.holds in
-    record { fits = λ h up. subst (λ (z : TxState). Fits z (open_records from.slots)) (state_reached t ws x made there) (holds.fits h up t) }
+step-requires g c = record {
+  fits = λ h up.
+      subst (λ (z : TxState). Fits z (open_records c.args.log.now.slots)) (reached g (goal.at.step-requires g c).After-is_own_run) (c.requires.holds.fits h up c.args.t);
+}
 
 pub returns-then-not-branch-clause-none_here : goal.returns-then-not-branch-clause-none_here
 returns-then-not-branch-clause-none_here g c = λ e quiet.
-    let s = c.self.inside.plans in
-    let ws = c.self.inside.worlds.items in
-    let cs = c.self.inside.contexts.items in
-    let tr = c.self.inside.trace.items in
-    let t = c.args.t in
-    let k = c.args.k in
+    let at = reached g (goal.at.returns-then-not-branch-clause-none_here g c).After-is_own_run in
+    let r = c.args.self.now in
     let x = c.index_mut-world.result.now in
-    let y = c.step.new.self in
-    let from = c.args.log.now in
-    let to = c.step.new.log in
-    let faults = g.D.Disk.faults in
-    let honest = g.D.Disk.honest in
-    let image = g.D.Disk.image in
-    let place : c.index-2.result ≡ t.value - 1 = omega (arith, c.index-2.ensures.place) in
-    let made : t.value ≤ length ws = omega (arith, c.index.ensures.place, c.if-len-index.false, c.len.ensures) in
-    let there : x ≡ get_or ws (t.value - 1) x = subst (λ (i : ℕ). x ≡ get_or ws i x) place c.index_mut-world.ensures.value in
-    let holds : Holds honest from (record { script = s; worlds = ws; contexts = cs; trace = tr }) = subst (λ (r : RunState). Holds honest from r) (sym c.self.view_is) c.requires.holds in
-    let none : kth (pending x.world) k ≡ None =
+    let numbered = subst (λ (r : RunState). AreNumbered r.worlds) c.self.view_is c.self.invariant.0 in
+    let none : kth (pending x.world) c.args.k ≡ None =
     subst (λ (j : ℕ). kth (pending x.world) j ≡ None) c.from.ensures (c.in_ok-step.ensures.none (ap (λ (b : Bool). Ok b) c.if-not-branch.true)).0 in
-    subst (λ (r : RunState). kth (pending (world_at r.script t (past_of r.trace))) k ≡ None) c.self.view_is
-    (none_pending s ws (past_of tr) t k (holds.tied t) (own_here t ws x c.self.invariant.0 made there c.is_own_run.ensures.run)
-    (ap (λ (z : TxState). kth (pending z.world) k) (state_reached t ws x made there) ∙ none))
+    none_pending r.script r.worlds (past_of r.trace) c.args.t c.args.k (c.requires.holds.tied c.args.t) (own_at c.args.t r.worlds x numbered at c.is_own_run.ensures.run)
+    (ap (λ (z : TxState). kth (pending z.world) c.args.k) at ∙ none)
 
 pub returns-in_err-reserve-clause-calls : goal.returns-in_err-reserve-clause-calls
-returns-in_err-reserve-clause-calls g c =
-    let s = c.self.inside.plans in
-    let ws = c.self.inside.worlds.items in
-    let cs = c.self.inside.contexts.items in
-    let tr = c.self.inside.trace.items in
-    let t = c.args.t in
-    let k = c.args.k in
-    let x = c.index_mut-world.result.now in
-    let y = c.step.new.self in
-    let from = c.args.log.now in
-    let to = c.step.new.log in
-    let faults = g.D.Disk.faults in
-    let honest = g.D.Disk.honest in
-    let image = g.D.Disk.image in
-    let place : c.index-2.result ≡ t.value - 1 = omega (arith, c.index-2.ensures.place) in
-    let made : t.value ≤ length ws = omega (arith, c.index.ensures.place, c.if-len-index.false, c.len.ensures) in
-    let there : x ≡ get_or ws (t.value - 1) x = subst (λ (i : ℕ). x ≡ get_or ws i x) place c.index_mut-world.ensures.value in
-    let holds : Holds honest from (record { script = s; worlds = ws; contexts = cs; trace = tr }) = subst (λ (r : RunState). Holds honest from r) (sym c.self.view_is) c.requires.holds in
-    let did = ap (λ (b : Bool). Ok b) c.if-not-branch.false in
-    let does : DoesKth faults k x from y to = subst (λ (j : ℕ). DoesKth faults j x from y to) c.from.ensures (c.in_ok-step.ensures.some did) in
-    let nearer : steps_left y.world < steps_left x.world = c.in_ok-step.ensures.nearer did in
-    let at : IsStepAt faults honest image s ws cs tr t k x y from to =
-    record {
-      holds = holds;
-      numbered = c.self.invariant.0;
-      names = c.self.invariant.2;
-      made = made;
-      there = there;
-      run = c.is_own_run.ensures.run;
-      does = does;
-      nearer = nearer;
-      kept = c.step.ensures.kept;
-      life = c.step.ensures.life;
-      grows = c.step.ensures.grows;
-      unarmed = c.step.ensures.unarmed;
-      still = c.step.ensures.still;
-      ours = c.is_own_run-2.ensures.ours;
-    } in
-    let calls : HaveSameCalls ws (set ws c.index-2.result y) =
-    subst (λ (i : ℕ). HaveSameCalls ws (set ws i y)) (sym place) (failed_calls faults honest image s ws cs tr t k x y from to at) in
-    λ v. calls v ∙ ap (λ (r : RunState). (state_of v r.worlds).world.calls) c.self.view_is
+returns-in_err-reserve-clause-calls g c = calls g (goal.at.returns-in_err-reserve-clause-calls g c).After-is_own_run-2
 
 pub returns-in_err-note-clause-calls : goal.returns-in_err-note-clause-calls
-returns-in_err-note-clause-calls g c =
-    let s = c.self.inside.plans in
-    let ws = c.self.inside.worlds.items in
-    let cs = c.self.inside.contexts.items in
-    let tr = c.self.inside.trace.items in
-    let t = c.args.t in
-    let k = c.args.k in
-    let x = c.index_mut-world.result.now in
-    let y = c.step.new.self in
-    let from = c.args.log.now in
-    let to = c.step.new.log in
-    let faults = g.D.Disk.faults in
-    let honest = g.D.Disk.honest in
-    let image = g.D.Disk.image in
-    let place : c.index-2.result ≡ t.value - 1 = omega (arith, c.index-2.ensures.place) in
-    let made : t.value ≤ length ws = omega (arith, c.index.ensures.place, c.if-len-index.false, c.len.ensures) in
-    let there : x ≡ get_or ws (t.value - 1) x = subst (λ (i : ℕ). x ≡ get_or ws i x) place c.index_mut-world.ensures.value in
-    let holds : Holds honest from (record { script = s; worlds = ws; contexts = cs; trace = tr }) = subst (λ (r : RunState). Holds honest from r) (sym c.self.view_is) c.requires.holds in
-    let did = ap (λ (b : Bool). Ok b) c.if-not-branch.false in
-    let does : DoesKth faults k x from y to = subst (λ (j : ℕ). DoesKth faults j x from y to) c.from.ensures (c.in_ok-step.ensures.some did) in
-    let nearer : steps_left y.world < steps_left x.world = c.in_ok-step.ensures.nearer did in
-    let at : IsStepAt faults honest image s ws cs tr t k x y from to =
-    record {
-      holds = holds;
-      numbered = c.self.invariant.0;
-      names = c.self.invariant.2;
-      made = made;
-      there = there;
-      run = c.is_own_run.ensures.run;
-      does = does;
-      nearer = nearer;
-      kept = c.step.ensures.kept;
-      life = c.step.ensures.life;
-      grows = c.step.ensures.grows;
-      unarmed = c.step.ensures.unarmed;
-      still = c.step.ensures.still;
-      ours = c.is_own_run-2.ensures.ours;
-    } in
-    let calls : HaveSameCalls ws (set ws c.index-2.result y) =
-    subst (λ (i : ℕ). HaveSameCalls ws (set ws i y)) (sym place) (failed_calls faults honest image s ws cs tr t k x y from to at) in
-    λ v. calls v ∙ ap (λ (r : RunState). (state_of v r.worlds).world.calls) c.self.view_is
+returns-in_err-note-clause-calls g c = calls g (goal.at.returns-in_err-note-clause-calls g c).After-is_own_run-2
 
 pub returns-in_err-note-2-clause-calls : goal.returns-in_err-note-2-clause-calls
-returns-in_err-note-2-clause-calls g c =
-    let s = c.self.inside.plans in
-    let ws = c.self.inside.worlds.items in
-    let cs = c.self.inside.contexts.items in
-    let tr = c.self.inside.trace.items in
-    let t = c.args.t in
-    let k = c.args.k in
-    let x = c.index_mut-world.result.now in
-    let y = c.step.new.self in
-    let from = c.args.log.now in
-    let to = c.step.new.log in
-    let faults = g.D.Disk.faults in
-    let honest = g.D.Disk.honest in
-    let image = g.D.Disk.image in
-    let place : c.index-2.result ≡ t.value - 1 = omega (arith, c.index-2.ensures.place) in
-    let made : t.value ≤ length ws = omega (arith, c.index.ensures.place, c.if-len-index.false, c.len.ensures) in
-    let there : x ≡ get_or ws (t.value - 1) x = subst (λ (i : ℕ). x ≡ get_or ws i x) place c.index_mut-world.ensures.value in
-    let holds : Holds honest from (record { script = s; worlds = ws; contexts = cs; trace = tr }) = subst (λ (r : RunState). Holds honest from r) (sym c.self.view_is) c.requires.holds in
-    let did = ap (λ (b : Bool). Ok b) c.if-not-branch.false in
-    let does : DoesKth faults k x from y to = subst (λ (j : ℕ). DoesKth faults j x from y to) c.from.ensures (c.in_ok-step.ensures.some did) in
-    let nearer : steps_left y.world < steps_left x.world = c.in_ok-step.ensures.nearer did in
-    let at : IsStepAt faults honest image s ws cs tr t k x y from to =
-    record {
-      holds = holds;
-      numbered = c.self.invariant.0;
-      names = c.self.invariant.2;
-      made = made;
-      there = there;
-      run = c.is_own_run.ensures.run;
-      does = does;
-      nearer = nearer;
-      kept = c.step.ensures.kept;
-      life = c.step.ensures.life;
-      grows = c.step.ensures.grows;
-      unarmed = c.step.ensures.unarmed;
-      still = c.step.ensures.still;
-      ours = c.is_own_run-2.ensures.ours;
-    } in
-    let calls : HaveSameCalls ws (set ws c.index-2.result y) =
-    subst (λ (i : ℕ). HaveSameCalls ws (set ws i y)) (sym place) (failed_calls faults honest image s ws cs tr t k x y from to at) in
-    λ v. calls v ∙ ap (λ (r : RunState). (state_of v r.worlds).world.calls) c.self.view_is
+returns-in_err-note-2-clause-calls g c = calls g (goal.at.returns-in_err-note-2-clause-calls g c).After-is_own_run-2
 
 pub returns-in_err-stop_others-clause-calls : goal.returns-in_err-stop_others-clause-calls
-returns-in_err-stop_others-clause-calls g c =
-    let s = c.self.inside.plans in
-    let ws = c.self.inside.worlds.items in
-    let cs = c.self.inside.contexts.items in
-    let tr = c.self.inside.trace.items in
-    let t = c.args.t in
-    let k = c.args.k in
-    let x = c.index_mut-world.result.now in
-    let y = c.step.new.self in
-    let from = c.args.log.now in
-    let to = c.step.new.log in
-    let faults = g.D.Disk.faults in
-    let honest = g.D.Disk.honest in
-    let image = g.D.Disk.image in
-    let place : c.index-2.result ≡ t.value - 1 = omega (arith, c.index-2.ensures.place) in
-    let made : t.value ≤ length ws = omega (arith, c.index.ensures.place, c.if-len-index.false, c.len.ensures) in
-    let there : x ≡ get_or ws (t.value - 1) x = subst (λ (i : ℕ). x ≡ get_or ws i x) place c.index_mut-world.ensures.value in
-    let holds : Holds honest from (record { script = s; worlds = ws; contexts = cs; trace = tr }) = subst (λ (r : RunState). Holds honest from r) (sym c.self.view_is) c.requires.holds in
-    let did = ap (λ (b : Bool). Ok b) c.if-not-branch.false in
-    let does : DoesKth faults k x from y to = subst (λ (j : ℕ). DoesKth faults j x from y to) c.from.ensures (c.in_ok-step.ensures.some did) in
-    let nearer : steps_left y.world < steps_left x.world = c.in_ok-step.ensures.nearer did in
-    let at : IsStepAt faults honest image s ws cs tr t k x y from to =
-    record {
-      holds = holds;
-      numbered = c.self.invariant.0;
-      names = c.self.invariant.2;
-      made = made;
-      there = there;
-      run = c.is_own_run.ensures.run;
-      does = does;
-      nearer = nearer;
-      kept = c.step.ensures.kept;
-      life = c.step.ensures.life;
-      grows = c.step.ensures.grows;
-      unarmed = c.step.ensures.unarmed;
-      still = c.step.ensures.still;
-      ours = c.is_own_run-2.ensures.ours;
-    } in
-    let calls : HaveSameCalls ws (set ws c.index-2.result y) =
-    subst (λ (i : ℕ). HaveSameCalls ws (set ws i y)) (sym place) (failed_calls faults honest image s ws cs tr t k x y from to at) in
-    λ v. c.stop_others.ensures.calls v ∙ (calls v ∙ ap (λ (r : RunState). (state_of v r.worlds).world.calls) c.self.view_is)
+returns-in_err-stop_others-clause-calls g c = λ v. c.stop_others.ensures.calls v ∙ calls g (goal.at.returns-in_err-stop_others-clause-calls g c).After-is_own_run-2 v
 
 pub returns-in_err-note-2-clause-log : goal.returns-in_err-note-2-clause-log
 returns-in_err-note-2-clause-log g c =
-    let s = c.self.inside.plans in
-    let ws = c.self.inside.worlds.items in
-    let cs = c.self.inside.contexts.items in
-    let tr = c.self.inside.trace.items in
-    let t = c.args.t in
-    let k = c.args.k in
-    let x = c.index_mut-world.result.now in
-    let y = c.step.new.self in
-    let from = c.args.log.now in
-    let to = c.step.new.log in
-    let faults = g.D.Disk.faults in
-    let honest = g.D.Disk.honest in
-    let image = g.D.Disk.image in
-    let place : c.index-2.result ≡ t.value - 1 = omega (arith, c.index-2.ensures.place) in
-    let made : t.value ≤ length ws = omega (arith, c.index.ensures.place, c.if-len-index.false, c.len.ensures) in
-    let there : x ≡ get_or ws (t.value - 1) x = subst (λ (i : ℕ). x ≡ get_or ws i x) place c.index_mut-world.ensures.value in
-    let holds : Holds honest from (record { script = s; worlds = ws; contexts = cs; trace = tr }) = subst (λ (r : RunState). Holds honest from r) (sym c.self.view_is) c.requires.holds in
-    let did = ap (λ (b : Bool). Ok b) c.if-not-branch.false in
-    let does : DoesKth faults k x from y to = subst (λ (j : ℕ). DoesKth faults j x from y to) c.from.ensures (c.in_ok-step.ensures.some did) in
-    let nearer : steps_left y.world < steps_left x.world = c.in_ok-step.ensures.nearer did in
-    let at : IsStepAt faults honest image s ws cs tr t k x y from to =
-    record {
-      holds = holds;
-      numbered = c.self.invariant.0;
-      names = c.self.invariant.2;
-      made = made;
-      there = there;
-      run = c.is_own_run.ensures.run;
-      does = does;
-      nearer = nearer;
-      kept = c.step.ensures.kept;
-      life = c.step.ensures.life;
-      grows = c.step.ensures.grows;
-      unarmed = c.step.ensures.unarmed;
-      still = c.step.ensures.still;
-      ours = c.is_own_run-2.ensures.ours;
-    } in
-    step_log faults honest image s ws cs tr t k x y from to at
+    let b = (goal.at.returns-in_err-note-2-clause-log g c).After-is_own_run-2 in
+    step_log g.D.Disk.faults g.D.Disk.honest g.D.Disk.image (about g b) (done g b)
 
 pub note-requires : goal.note-requires
-note-requires g c =
-    let s = c.self.inside.plans in
-    let ws = c.self.inside.worlds.items in
-    let cs = c.self.inside.contexts.items in
-    let tr = c.self.inside.trace.items in
-    let t = c.args.t in
-    let k = c.args.k in
-    let x = c.index_mut-world.result.now in
-    let y = c.step.new.self in
-    let from = c.args.log.now in
-    let to = c.step.new.log in
-    let faults = g.D.Disk.faults in
-    let honest = g.D.Disk.honest in
-    let image = g.D.Disk.image in
-    let place : c.index-2.result ≡ t.value - 1 = omega (arith, c.index-2.ensures.place) in
-    let made : t.value ≤ length ws = omega (arith, c.index.ensures.place, c.if-len-index.false, c.len.ensures) in
-    let there : x ≡ get_or ws (t.value - 1) x = subst (λ (i : ℕ). x ≡ get_or ws i x) place c.index_mut-world.ensures.value in
-    let holds : Holds honest from (record { script = s; worlds = ws; contexts = cs; trace = tr }) = subst (λ (r : RunState). Holds honest from r) (sym c.self.view_is) c.requires.holds in
-    let did = ap (λ (b : Bool). Ok b) c.if-not-branch.false in
-    let does : DoesKth faults k x from y to = subst (λ (j : ℕ). DoesKth faults j x from y to) c.from.ensures (c.in_ok-step.ensures.some did) in
-    let nearer : steps_left y.world < steps_left x.world = c.in_ok-step.ensures.nearer did in
-    let at : IsStepAt faults honest image s ws cs tr t k x y from to =
-    record {
-      holds = holds;
-      numbered = c.self.invariant.0;
-      names = c.self.invariant.2;
-      made = made;
-      there = there;
-      run = c.is_own_run.ensures.run;
-      does = does;
-      nearer = nearer;
-      kept = c.step.ensures.kept;
-      life = c.step.ensures.life;
-      grows = c.step.ensures.grows;
-      unarmed = c.step.ensures.unarmed;
-      still = c.step.ensures.still;
-      ours = c.is_own_run-2.ensures.ours;
-    } in
-    let past = step_past faults honest image s ws cs tr t k x y from to at in
-    grown c.history-from.result.now x.world.past y.world.past past.0 c.history-from.ensures past.1
+note-requires g c = longer g (goal.at.note-requires g c).After-is_own_run-2
 
 pub note-requires-2 : goal.note-requires-2
-note-requires-2 g c =
-    let s = c.self.inside.plans in
-    let ws = c.self.inside.worlds.items in
-    let cs = c.self.inside.contexts.items in
-    let tr = c.self.inside.trace.items in
-    let t = c.args.t in
-    let k = c.args.k in
-    let x = c.index_mut-world.result.now in
-    let y = c.step.new.self in
-    let from = c.args.log.now in
-    let to = c.step.new.log in
-    let faults = g.D.Disk.faults in
-    let honest = g.D.Disk.honest in
-    let image = g.D.Disk.image in
-    let place : c.index-2.result ≡ t.value - 1 = omega (arith, c.index-2.ensures.place) in
-    let made : t.value ≤ length ws = omega (arith, c.index.ensures.place, c.if-len-index.false, c.len.ensures) in
-    let there : x ≡ get_or ws (t.value - 1) x = subst (λ (i : ℕ). x ≡ get_or ws i x) place c.index_mut-world.ensures.value in
-    let holds : Holds honest from (record { script = s; worlds = ws; contexts = cs; trace = tr }) = subst (λ (r : RunState). Holds honest from r) (sym c.self.view_is) c.requires.holds in
-    let did = ap (λ (b : Bool). Ok b) c.if-not-branch.false in
-    let does : DoesKth faults k x from y to = subst (λ (j : ℕ). DoesKth faults j x from y to) c.from.ensures (c.in_ok-step.ensures.some did) in
-    let nearer : steps_left y.world < steps_left x.world = c.in_ok-step.ensures.nearer did in
-    let at : IsStepAt faults honest image s ws cs tr t k x y from to =
-    record {
-      holds = holds;
-      numbered = c.self.invariant.0;
-      names = c.self.invariant.2;
-      made = made;
-      there = there;
-      run = c.is_own_run.ensures.run;
-      does = does;
-      nearer = nearer;
-      kept = c.step.ensures.kept;
-      life = c.step.ensures.life;
-      grows = c.step.ensures.grows;
-      unarmed = c.step.ensures.unarmed;
-      still = c.step.ensures.still;
-      ours = c.is_own_run-2.ensures.ours;
-    } in
-    let past = step_past faults honest image s ws cs tr t k x y from to at in
-    grown c.history-from.result.now x.world.past y.world.past past.0 c.history-from.ensures past.1
+note-requires-2 g c = longer g (goal.at.note-requires-2 g c).After-is_own_run-2
 
 pub returns-then-not-is_up : goal.returns-then-not-is_up
 returns-then-not-is_up g c =
-    let s = c.self.inside.plans in
-    let ws = c.self.inside.worlds.items in
-    let cs = c.self.inside.contexts.items in
-    let tr = c.self.inside.trace.items in
-    let t = c.args.t in
-    let k = c.args.k in
-    let x = c.index_mut-world.result.now in
-    let y = c.step.new.self in
-    let from = c.args.log.now in
-    let to = c.step.new.log in
-    let faults = g.D.Disk.faults in
-    let honest = g.D.Disk.honest in
-    let image = g.D.Disk.image in
-    let place : c.index-2.result ≡ t.value - 1 = omega (arith, c.index-2.ensures.place) in
-    let made : t.value ≤ length ws = omega (arith, c.index.ensures.place, c.if-len-index.false, c.len.ensures) in
-    let there : x ≡ get_or ws (t.value - 1) x = subst (λ (i : ℕ). x ≡ get_or ws i x) place c.index_mut-world.ensures.value in
-    let holds : Holds honest from (record { script = s; worlds = ws; contexts = cs; trace = tr }) = subst (λ (r : RunState). Holds honest from r) (sym c.self.view_is) c.requires.holds in
-    let did = ap (λ (b : Bool). Ok b) c.if-not-branch.false in
-    let does : DoesKth faults k x from y to = subst (λ (j : ℕ). DoesKth faults j x from y to) c.from.ensures (c.in_ok-step.ensures.some did) in
-    let nearer : steps_left y.world < steps_left x.world = c.in_ok-step.ensures.nearer did in
-    let at : IsStepAt faults honest image s ws cs tr t k x y from to =
-    record {
-      holds = holds;
-      numbered = c.self.invariant.0;
-      names = c.self.invariant.2;
-      made = made;
-      there = there;
-      run = c.is_own_run.ensures.run;
-      does = does;
-      nearer = nearer;
-      kept = c.step.ensures.kept;
-      life = c.step.ensures.life;
-      grows = c.step.ensures.grows;
-      unarmed = c.step.ensures.unarmed;
-      still = c.step.ensures.still;
-      ours = c.is_own_run-2.ensures.ours;
-    } in
+    let b = (goal.at.returns-then-not-is_up g c).After-is_own_run-2 in
+    let a = about g b in
     let q = c.stop_others.new.self in
     let mid : List Placed = c.note.new.trace.items in
-    let up : IsTrue from.is_up = sym c.is_up-was_up.ensures ∙ c.if-was_up.true in
-    let down : IsFalse to.is_up = sym c.is_up.ensures ∙ c.if-not-is_up.true in
-    let noted : (es : List Entry) → y.world.past ≡ onto x.world.past es → mid ≡ (tr ++ (Log, Stopped) ∷ []) ++ placed t es =
+    let now = parts g b mid in
+    let up : IsTrue a.from.is_up = sym c.is_up-was_up.ensures ∙ c.if-was_up.true in
+    let down : IsFalse a.to.is_up = sym c.is_up.ensures ∙ c.if-not-is_up.true in
+    let noted : (es : List Entry) → a.y.world.past ≡ onto (was a).world.past es → mid ≡ (a.run.trace ++ (Log, Stopped) ∷ []) ++ placed a.t es =
     λ es wrote.
-    c.in_ok-note.ensures x.world.past es (sym (as_long c.history-from.result.now x.world.past c.history-from.ensures)) wrote
-    ∙ ap (λ (T : List Placed). T ++ placed t es) (c.push_reserved.ensures.items ∙ ap (λ (T : List Placed). T ++ (Log, Stopped) ∷ []) c.reserve.ensures.items) in
-    let did_it : IsStepped faults honest (record { script = s; worlds = ws; contexts = cs; trace = tr }) q t k from to =
-    step_stopped faults honest image s ws cs tr mid t k x y from to q at up down noted c.stop_others.ensures.script
-    (subst (λ (i : ℕ). HaveSameCalls (set ws i y) q.worlds) place c.stop_others.ensures.calls)
-    (subst (λ (i : ℕ). state_of t q.worlds ≡ state_of t (set ws i y)) place c.stop_others.ensures.here)
-    (subst (λ (i : ℕ). ((u : TxNo) → IsTied s u (past_of mid) (state_of u (set ws i y))) → (u : TxNo) → IsTied s u (past_of q.trace) (state_of u q.worlds)) place c.in_ok-stop_others.ensures.tied)
+    c.in_ok-note.ensures (was a).world.past es (long g b) wrote
+    ∙ ap (λ (T : List Placed). T ++ placed a.t es)
+    (c.push_reserved.ensures.items ∙ ap (λ (T : List Placed). T ++ (Log, Stopped) ∷ []) (c.reserve.ensures.items ∙ ap (λ (r : RunState). r.trace) c.self.view_is)) in
+    let d : IsStepped g.D.Disk.faults g.D.Disk.honest a q =
+    step_stopped g.D.Disk.faults g.D.Disk.honest g.D.Disk.image a mid q (done g b) up down noted (c.stop_others.ensures.script ∙ ap (λ (r : RunState). r.script) c.self.view_is)
+    (subst (λ (r : RunState). HaveSameCalls r.worlds q.worlds) now c.stop_others.ensures.calls)
+    (subst (λ (r : RunState). state_of a.t q.worlds ≡ state_of a.t r.worlds) now c.stop_others.ensures.here)
+    (subst (λ (r : RunState). ((u : TxNo) → IsTied r.script u (past_of r.trace) (state_of u r.worlds)) → (u : TxNo) → IsTied r.script u (past_of q.trace) (state_of u q.worlds)) now
+    c.in_ok-stop_others.ensures.tied)
     c.in_ok-stop_others.ensures.loud in
-    let d = subst (λ (r : RunState). IsStepped faults honest r q t k from to) c.self.view_is did_it in
     record {
       contexts = c.stop_others.ensures.contexts ∙ ap (λ (r : RunState). r.contexts) c.self.view_is;
-      log = step_log faults honest image s ws cs tr t k x y from to at;
+      log = step_log g.D.Disk.faults g.D.Disk.honest g.D.Disk.image a (done g b);
       runs = d.runs;
       holds = d.holds;
       calls = d.calls;
@@ -456,58 +184,21 @@ returns-then-not-is_up g c =
 
 pub returns : goal.returns
 returns g c =
-    let s = c.self.inside.plans in
-    let ws = c.self.inside.worlds.items in
-    let cs = c.self.inside.contexts.items in
-    let tr = c.self.inside.trace.items in
-    let t = c.args.t in
-    let k = c.args.k in
-    let x = c.index_mut-world.result.now in
-    let y = c.step.new.self in
-    let from = c.args.log.now in
-    let to = c.step.new.log in
-    let faults = g.D.Disk.faults in
-    let honest = g.D.Disk.honest in
-    let image = g.D.Disk.image in
-    let place : c.index-2.result ≡ t.value - 1 = omega (arith, c.index-2.ensures.place) in
-    let made : t.value ≤ length ws = omega (arith, c.index.ensures.place, c.if-len-index.false, c.len.ensures) in
-    let there : x ≡ get_or ws (t.value - 1) x = subst (λ (i : ℕ). x ≡ get_or ws i x) place c.index_mut-world.ensures.value in
-    let holds : Holds honest from (record { script = s; worlds = ws; contexts = cs; trace = tr }) = subst (λ (r : RunState). Holds honest from r) (sym c.self.view_is) c.requires.holds in
-    let did = ap (λ (b : Bool). Ok b) c.if-not-branch.false in
-    let does : DoesKth faults k x from y to = subst (λ (j : ℕ). DoesKth faults j x from y to) c.from.ensures (c.in_ok-step.ensures.some did) in
-    let nearer : steps_left y.world < steps_left x.world = c.in_ok-step.ensures.nearer did in
-    let at : IsStepAt faults honest image s ws cs tr t k x y from to =
-    record {
-      holds = holds;
-      numbered = c.self.invariant.0;
-      names = c.self.invariant.2;
-      made = made;
-      there = there;
-      run = c.is_own_run.ensures.run;
-      does = does;
-      nearer = nearer;
-      kept = c.step.ensures.kept;
-      life = c.step.ensures.life;
-      grows = c.step.ensures.grows;
-      unarmed = c.step.ensures.unarmed;
-      still = c.step.ensures.still;
-      ours = c.is_own_run-2.ensures.ours;
-    } in
+    let b = (goal.at.returns g c).After-is_own_run-2 in
+    let a = about g b in
     let new : List Placed = c.note-2.new.trace.items in
-    let stays : IsTrue from.is_up → IsTrue to.is_up = λ up. elim c.else-was_up.branch [
+    let stays : IsTrue a.from.is_up → IsTrue a.to.is_up = λ up. elim c.else-was_up.branch [
       | else-was_up-via-then-was_up+else-not-is_up w ↦ sym w.is_up.ensures ∙ w.if-not-is_up.false
-      | else-was_up-via-else-was_up w ↦ absurd (never_both from.is_up up (sym c.is_up-was_up.ensures ∙ w.if-was_up.false))
+      | else-was_up-via-else-was_up w ↦ absurd (never_both a.from.is_up up (sym c.is_up-was_up.ensures ∙ w.if-was_up.false))
     ] in
-    let noted : (es : List Entry) → y.world.past ≡ onto x.world.past es → new ≡ tr ++ placed t es =
-    λ es wrote. c.in_ok-note-2.ensures x.world.past es (sym (as_long c.history-from.result.now x.world.past c.history-from.ensures)) wrote in
-    let q : RunState = record { script = s; worlds = set ws c.index-2.result y; contexts = cs; trace = new } in
-    let did_it : IsStepped faults honest (record { script = s; worlds = ws; contexts = cs; trace = tr }) q t k from to =
-    subst (λ (i : ℕ). IsStepped faults honest (record { script = s; worlds = ws; contexts = cs; trace = tr }) (record { script = s; worlds = set ws i y; contexts = cs; trace = new }) t k from to) (sym place)
-    (step_done faults honest image s ws cs tr new t k x y from to at stays noted) in
-    let d = subst (λ (r : RunState). IsStepped faults honest r q t k from to) c.self.view_is did_it in
+    let noted : (es : List Entry) → a.y.world.past ≡ onto (was a).world.past es → new ≡ a.run.trace ++ placed a.t es =
+    λ es wrote. c.in_ok-note-2.ensures (was a).world.past es (long g b) wrote ∙ ap (λ (r : RunState). r.trace ++ placed a.t es) c.self.view_is in
+    let d =
+    subst (λ (q : RunState). IsStepped g.D.Disk.faults g.D.Disk.honest a q) (sym (parts g b new))
+    (step_done g.D.Disk.faults g.D.Disk.honest g.D.Disk.image a new (done g b) stays noted) in
     record {
       contexts = ap (λ (r : RunState). r.contexts) c.self.view_is;
-      log = step_log faults honest image s ws cs tr t k x y from to at;
+      log = step_log g.D.Disk.faults g.D.Disk.honest g.D.Disk.image a (done g b);
       runs = d.runs;
       holds = d.holds;
       calls = d.calls;
