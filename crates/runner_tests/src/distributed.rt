@@ -29,7 +29,12 @@ const SAYS_YES: &str = "a1 durable t1 e1 r1 two yes\na1 commit t1\n";
 const SAYS_NO: &str = "a1 durable t1 e1 r1 two no\na1 commit t1\n";
 
 /// Their calls.
-const CALLS: [&str; 4] = ["call 4 a1 wait", "sent e1 up enlist", "call 5 a1 ok", "commit"];
+const CALLS: [&str; 4] = [
+    "call 4 a1 wait",
+    "sent e1 up enlist",
+    "call 5 a1 ok",
+    "commit",
+];
 
 /// The coordinator enlists the durable.
 const ENLISTED: [&str; 4] = [
@@ -44,7 +49,15 @@ const SEALED: [&str; 2] = ["answer 4 ok", "sealed"];
 
 /// The transaction up to the vote, where both are the same.
 const BEFORE_THE_VOTE: [&[&str]; 9] = [
-    &MARSHALLED, &TAKEN, &IDENTIFIED, &CALLS, &ENLISTED, &SEALED, &ALL_ASKED, &LOCAL_YES, &E1_ASKED,
+    &MARSHALLED,
+    &TAKEN,
+    &IDENTIFIED,
+    &CALLS,
+    &ENLISTED,
+    &SEALED,
+    &ALL_ASKED,
+    &LOCAL_YES,
+    &E1_ASKED,
 ];
 
 /// After the vote no.
@@ -98,12 +111,7 @@ const UNDER_THE_FREEING: [Part; 4] = [
 ];
 
 /// A run: what comes after the promotion, which call of the disk fails, what is printed, and how many records the log has then.
-type Case = (
-    &'static str,
-    u64,
-    &'static [Part],
-    Result<u16, LogRefusal>,
-);
+type Case = (&'static str, u64, &'static [Part], Result<u16, LogRefusal>);
 
 /// The number of no call of the disk.
 const NONE: u64 = 1_000_000;
@@ -139,10 +147,7 @@ fn a_commit_calls_the_disk_six_times_and_each_may_stop_the_log(
 }
 
 /// The durable votes no: nothing is recorded.
-const ABORTED: [Part; 2] = [
-    ("t1", &BEFORE_THE_VOTE),
-    ("t1", &[&VOTED_NO]),
-];
+const ABORTED: [Part; 2] = [("t1", &BEFORE_THE_VOTE), ("t1", &[&VOTED_NO])];
 
 /// A durable that is enlisted at the coordinator, and a client that rolls back.
 const ROLLS_BACK: &str = "a1 durable t1 e1 r1 two yes\na1 await t1\na2 rollback t1\n";
@@ -198,7 +203,8 @@ const NOBODY: [&str; 6] = [
 ];
 
 /// Transaction 2 is promoted for its durable; transaction 3 isn't promoted.
-const TWO_MORE: &str = "a1 begin t2 default\na1 durable t2 e1 r1 two yes\na1 commit t2\na1 begin t3 default\na1 commit t3\n";
+const TWO_MORE: &str =
+    "a1 begin t2 default\na1 durable t2 e1 r1 two yes\na1 commit t2\na1 begin t3 default\na1 commit t3\n";
 
 /// The calls of transaction 2.
 const CALLS_OF_2: [&str; 7] = [
@@ -222,7 +228,14 @@ const SEALED_2: [&str; 2] = ["answer 5 ok", "sealed"];
 
 /// Transaction 2 after its calls, up to the record.
 const UP_TO_THE_RECORD: [&[&str]; 8] = [
-    &TAKEN, &PROMOTED_2, &ENLISTED, &SEALED_2, &ALL_ASKED, &LOCAL_YES, &E1_ASKED, &E1_YES,
+    &TAKEN,
+    &PROMOTED_2,
+    &ENLISTED,
+    &SEALED_2,
+    &ALL_ASKED,
+    &LOCAL_YES,
+    &E1_ASKED,
+    &E1_YES,
 ];
 
 /// The calls of transaction 3.
@@ -255,7 +268,8 @@ const TWO_STOPPED: [Part; 10] = [
 ];
 
 /// A durable that votes yes, the commit, and then another transaction, which is to be promoted.
-const PROMOTES_LATE: &str = "a1 durable t1 e1 r1 two yes\na1 commit t1\na1 await t1\na2 begin t2 default\na2 marshal t2\na2 await t2\n";
+const PROMOTES_LATE: &str =
+    "a1 durable t1 e1 r1 two yes\na1 commit t1\na1 await t1\na2 begin t2 default\na2 marshal t2\na2 await t2\n";
 
 /// It finds the log stopped.
 const FAILED: [&str; 12] = [
@@ -292,19 +306,28 @@ fn a_transaction_at_the_coordinator_ends_in_other_ways(rt: HostRuntime) -> Resul
         (
             ROLLS_BACK,
             NONE,
-            &[("t1", &PROMOTED), ("t1", &[&ROLLING_BACK, &ENLISTED, &ROLLED_BACK])],
+            &[
+                ("t1", &PROMOTED),
+                ("t1", &[&ROLLING_BACK, &ENLISTED, &ROLLED_BACK]),
+            ],
             Ok(0),
         ),
         (
             SAYS_DONE,
             NONE,
-            &[("t1", &BEFORE_THE_VOTE), ("t1", &[&READ_ONLY, &FREED_AT_ONCE])],
+            &[
+                ("t1", &BEFORE_THE_VOTE),
+                ("t1", &[&READ_ONLY, &FREED_AT_ONCE]),
+            ],
             Ok(0),
         ),
         (
             "a1 commit t1\n",
             NONE,
-            &[("t1", &PROMOTED), ("t1", &[&NOBODY, &LOCAL_YES, &FREED_AT_ONCE])],
+            &[
+                ("t1", &PROMOTED),
+                ("t1", &[&NOBODY, &LOCAL_YES, &FREED_AT_ONCE]),
+            ],
             Ok(0),
         ),
         (TWO_MORE, 5, &TWO_STOPPED, Ok(0)),

@@ -13,11 +13,13 @@ use trace_text::read_trace;
 /// A durable is the owner; while phase zero is under way, a voter of it enlists a second one.
 const WAVE: &str = "a1 begin t1 default\na1 volatile t1 e1 during yes\n\
     a1 durable t1 e2 r1 single yes committed\na1 commit t1\n";
+
 const IN_THE_WAVE: &str = "a1 durable t1 e3 r2 single yes committed\n";
 
 /// It is promoted for a second durable; while it is, another client asks for the commit, and a third durable comes.
 const SECOND: &str = "a1 begin t1 default\na1 durable t1 e1 r1 single yes committed\n\
     a2 durable t1 e2 r2 single yes committed\n";
+
 const MEANWHILE: &str = "a3 commit t1\na4 durable t1 e3 r3 two yes\n";
 
 /// The calls of the first, with one step between them: the voter is asked.
@@ -151,6 +153,7 @@ const SECOND_PROMOTED: [&str; 21] = [
 
 /// Two more are asked, and told, than enlistment 1.
 const ASKED_TOO: [&str; 2] = ["sent e2 down prepare", "sent e3 down prepare"];
+
 const SECOND_LOGGED: [&str; 10] = [
     "logged",
     "sent b down committed",
@@ -260,8 +263,15 @@ fn calls_come_while_a_promotion_is_under_way(rt: HostRuntime) -> Result<(), Fail
             "a1 do t1 1 1\n",
             IN_THE_WAVE,
             &[
-                &WAVE_CALLS, &TAKEN, &WAVE_PROMOTED, &ASKED_BOTH, &LOCAL_YES, &YES_OF_BOTH,
-                &WAVE_LOGGED, &BOTH_HEAR, &FREED,
+                &WAVE_CALLS,
+                &TAKEN,
+                &WAVE_PROMOTED,
+                &ASKED_BOTH,
+                &LOCAL_YES,
+                &YES_OF_BOTH,
+                &WAVE_LOGGED,
+                &BOTH_HEAR,
+                &FREED,
             ],
         ),
         (
@@ -269,8 +279,18 @@ fn calls_come_while_a_promotion_is_under_way(rt: HostRuntime) -> Result<(), Fail
             "a1 do t1 1 2\n",
             MEANWHILE,
             &[
-                &SECOND_CALLS, &SECOND_PROMOTED, &ALL_ASKED, &ASKED_TOO, &LOCAL_YES, &E1_ASKED,
-                &E1_YES, &YES_OF_BOTH, &SECOND_LOGGED, &E1_HEARS, &BOTH_HEAR, &FREED,
+                &SECOND_CALLS,
+                &SECOND_PROMOTED,
+                &ALL_ASKED,
+                &ASKED_TOO,
+                &LOCAL_YES,
+                &E1_ASKED,
+                &E1_YES,
+                &YES_OF_BOTH,
+                &SECOND_LOGGED,
+                &E1_HEARS,
+                &BOTH_HEAR,
+                &FREED,
             ],
         ),
         (
@@ -284,8 +304,16 @@ fn calls_come_while_a_promotion_is_under_way(rt: HostRuntime) -> Result<(), Fail
             "",
             "",
             &[
-                &PROMOTABLE_CALLS, &TAKEN, &PROMOTABLE_PROMOTED, &ALL_ASKED, &LOCAL_YES, &E1_ASKED,
-                &E1_YES, &LOGGED, &E1_HEARS, &FREED,
+                &PROMOTABLE_CALLS,
+                &TAKEN,
+                &PROMOTABLE_PROMOTED,
+                &ALL_ASKED,
+                &LOCAL_YES,
+                &E1_ASKED,
+                &E1_YES,
+                &LOGGED,
+                &E1_HEARS,
+                &FREED,
             ],
         ),
         (
@@ -322,37 +350,33 @@ fn history(rt: &impl Abort, alloc: Global, script: &str) -> Result<Vec<Entry>, A
     Ok(history)
 }
 
-/// Whether a history's call of this line has this answer.
-fn is_answered(history: &[Entry], line: u32, answer: Answer) -> bool {
-    history
-        .iter()
-        .any(|x| matches!(*x, Entry::Called(n, _, y) if n == line && y == answer))
-}
-
-/// The lines before a `do` and after it, the least and the greatest number of its steps, the answer of line 6, the number of entries, and the last.
-type Steps = (&'static str, &'static str, u16, u16, Answer, usize, Entry);
+/// The lines before a `do` and after it, the least and the greatest number of its steps, the call of line 6, the number of entries, and the last.
+type Steps = (&'static str, &'static str, u16, u16, Entry, usize, Entry);
 
 #[test]
 fn a_promotion_may_begin_or_go_on_after_each_step(rt: HostRuntime) -> Result<(), Fail> {
     let a1 = ActorNo::new(1).unwrap();
+    let a4 = ActorNo::new(4).unwrap();
     let told = Entry::Told(Party::Client, Outcome::Committed);
-    let ended = Answer::Ended(Outcome::Committed);
-    let last_call = Entry::Called(6, a1, ended);
+    let waits = Entry::Called(6, a1, Answer::Wait);
+    let late = Entry::Called(6, a1, Answer::TooLate);
+    let ended = Entry::Called(6, a1, Answer::Ended(Outcome::Committed));
+    let third_waits = Entry::Called(6, a4, Answer::Wait);
     // The second durable comes before the seal, after it, after the decision, and when the client was told; the third comes before the promotion is over or after it.
     let cases: [Steps; 5] = [
-        (WAVE, IN_THE_WAVE, 1, 2, Answer::Wait, 73, Entry::Freed),
-        (WAVE, IN_THE_WAVE, 3, 4, Answer::TooLate, 18, told),
+        (WAVE, IN_THE_WAVE, 1, 2, waits, 73, Entry::Freed),
+        (WAVE, IN_THE_WAVE, 3, 4, late, 18, told),
         (WAVE, IN_THE_WAVE, 5, 6, ended, 18, told),
-        (WAVE, IN_THE_WAVE, 7, 20, ended, 18, last_call),
-        (SECOND, MEANWHILE, 1, 20, Answer::Wait, 87, Entry::Freed),
+        (WAVE, IN_THE_WAVE, 7, 20, ended, 18, ended),
+        (SECOND, MEANWHILE, 1, 20, third_waits, 87, Entry::Freed),
     ];
-    for (before, after, least, greatest, answer, count, last) in cases {
+    for (before, after, least, greatest, call, count, last) in cases {
         for steps in least..=greatest {
             let script = format!(in rt.alloc(); "{before}a1 do t1 1 {steps}\n{after}")?;
             let history = history(&rt, rt.alloc(), script.as_str())?;
             let h = history.as_slice();
             assert_eq!(rt; judge(h), Verdict::Fine, "at {script}");
-            assert!(rt; is_answered(h, 6, answer), "at {script}");
+            assert!(rt; h.contains(&call), "at {script}");
             assert_eq!(rt; h.len(), count, "at {script}");
             assert_eq!(rt; h.last().copied(), Some(last), "at {script}");
         }
@@ -369,11 +393,15 @@ fn sixteen_durables_are_enlisted_or_wait_and_no_more(rt: HostRuntime) -> Result<
     }
     let history = history(&rt, rt.alloc(), script.as_str())?;
     let h = history.as_slice();
-    assert!(rt; is_answered(h, 2, Answer::Fine));
+    let a1 = ActorNo::new(1).unwrap();
+    assert!(rt; h.contains(&Entry::Called(2, a1, Answer::Fine)));
     for line in 3..=17 {
-        assert!(rt; is_answered(h, line, Answer::Wait), "at line {line}");
+        assert!(rt;
+            h.contains(&Entry::Called(line, a1, Answer::Wait)),
+            "at line {line}"
+        );
     }
-    assert!(rt; is_answered(h, 18, Answer::Many(16)));
+    assert!(rt; h.contains(&Entry::Called(18, a1, Answer::Many(16))));
     assert_eq!(rt; judge(h), Verdict::Fine);
     assert_eq!(rt; h.len(), 124);
     Ok(())

@@ -7,8 +7,7 @@ use std::test::Fail;
 const RUNS: Exit = Exit::LogFault;
 
 /// Transactions 1 and 2 are begun, and a durable owns the first; what comes after that is a case's own.
-const BEGUN: &str =
-    "a1 begin t1 0\na1 begin t2 0\na1 durable t1 e1 r1 single yes committed\n";
+const BEGUN: &str = "a1 begin t1 0\na1 begin t2 0\na1 durable t1 e1 r1 single yes committed\n";
 
 #[test]
 fn the_first_line_that_is_not_run_yet_is_named(rt: HostRuntime) -> Result<(), Fail> {
@@ -22,11 +21,26 @@ fn the_first_line_that_is_not_run_yet_is_named(rt: HostRuntime) -> Result<(), Fa
         ("a1 marshal t1\na1 gone e1\n", Exit::NotYet(5)),
         ("a1 durable t2 e2 r2 two yes\na1 gone e1\n", RUNS),
         ("a1 durable t2 e2 r2 two yes\na1 gone e2\n", Exit::NotYet(5)),
-        ("a1 durable t2 e2 r2 single yes committed\na1 gone e2\n", RUNS),
-        ("a1 durable t1 e2 r2 single yes committed\na1 gone e1\n", Exit::NotYet(5)),
-        ("a1 gone e1\na1 durable t1 e2 r2 single yes committed\na1 gone e2\n", Exit::NotYet(6)),
-        ("a1 promotable t1 e2 r2 yes committed ok\na1 gone e1\n", RUNS),
-        ("a1 promotable t2 e2 r2 yes committed ok\na1 gone e2\n", RUNS),
+        (
+            "a1 durable t2 e2 r2 single yes committed\na1 gone e2\n",
+            RUNS,
+        ),
+        (
+            "a1 durable t1 e2 r2 single yes committed\na1 gone e1\n",
+            Exit::NotYet(5),
+        ),
+        (
+            "a1 gone e1\na1 durable t1 e2 r2 single yes committed\na1 gone e2\n",
+            Exit::NotYet(6),
+        ),
+        (
+            "a1 promotable t1 e2 r2 yes committed ok\na1 gone e1\n",
+            RUNS,
+        ),
+        (
+            "a1 promotable t2 e2 r2 yes committed ok\na1 gone e2\n",
+            RUNS,
+        ),
         (
             "a1 promotable t2 e2 r2 yes committed ok\na1 durable t2 e3 r3 single yes committed\na1 gone e2\n",
             Exit::NotYet(6),
