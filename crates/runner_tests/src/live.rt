@@ -207,7 +207,7 @@ const PROMOTABLE_PROMOTED: [&str; 9] = [
 ];
 
 /// A promotable can't be promoted.
-const NOT_PROMOTED: [&str; 15] = [
+const NOT_PROMOTED: [&str; 17] = [
     "call 1 a1 ok",
     "began 60000",
     "call 2 a1 true",
@@ -223,10 +223,9 @@ const NOT_PROMOTED: [&str; 15] = [
     "decided aborted",
     "answer 4 ended aborted",
     "told e1 aborted",
+    "told e2 aborted",
+    "told client aborted",
 ];
-
-/// The volatile and the client hear of it.
-const NOT_PROMOTED_HEARD: [&str; 2] = ["told e2 aborted", "told client aborted"];
 
 /// A volatile's vote ends the promotion that is under way.
 const VOTED_NO: [&str; 15] = [
@@ -255,81 +254,69 @@ type Case = (
     &'static [&'static [&'static str]],
 );
 
+/// What the first prints, what the second does, and what a promoted promotable has.
+const WAVE_WHOLE: [&[&str]; 9] = [
+    &WAVE_CALLS,
+    &TAKEN,
+    &WAVE_PROMOTED,
+    &ASKED_BOTH,
+    &LOCAL_YES,
+    &YES_OF_BOTH,
+    &WAVE_LOGGED,
+    &BOTH_HEAR,
+    &FREED,
+];
+const SECOND_WHOLE: [&[&str]; 12] = [
+    &SECOND_CALLS,
+    &SECOND_PROMOTED,
+    &ALL_ASKED,
+    &ASKED_TOO,
+    &LOCAL_YES,
+    &E1_ASKED,
+    &E1_YES,
+    &YES_OF_BOTH,
+    &SECOND_LOGGED,
+    &E1_HEARS,
+    &BOTH_HEAR,
+    &FREED,
+];
+const PROMOTABLE_WHOLE: [&[&str]; 10] = [
+    &PROMOTABLE_CALLS,
+    &TAKEN,
+    &PROMOTABLE_PROMOTED,
+    &ALL_ASKED,
+    &LOCAL_YES,
+    &E1_ASKED,
+    &E1_YES,
+    &LOGGED,
+    &E1_HEARS,
+    &FREED,
+];
+
+/// A client asks for the identifier and rolls back; a promotable promotes, and another doesn't; a volatile votes no.
+const MARSHAL: &str = "a1 begin t1 default\na1 marshal t1\na1 rollback t1\n";
+const PROMOTES: &str = "a1 begin t1 default\na1 promotable t1 e1 r1 yes committed ok\na1 marshal t1\na1 commit t1\n";
+const FAILS: &str = "a1 begin t1 default\na1 promotable t1 e1 r1 yes committed fail\na1 volatile t1 e2 none yes\na1 marshal t1\n";
+const VETOES: &str =
+    "a1 begin t1 default\na1 volatile t1 e1 during no\na1 commit t1\na1 marshal t1\n";
+
+const CASES: [Case; 6] = [
+    (WAVE, "a1 do t1 1 1\n", IN_THE_WAVE, &WAVE_WHOLE),
+    (SECOND, "a1 do t1 1 2\n", MEANWHILE, &SECOND_WHOLE),
+    (
+        MARSHAL,
+        "",
+        "",
+        &[&MARSHALLED, &ROLLED_BACK, &TAKEN_TOO_LATE],
+    ),
+    (PROMOTES, "", "", &PROMOTABLE_WHOLE),
+    (FAILS, "", "", &[&NOT_PROMOTED]),
+    (VETOES, "", "", &[&VOTED_NO, &TAKEN_TOO_LATE]),
+];
+
 #[test]
 fn calls_come_while_a_promotion_is_under_way(rt: HostRuntime) -> Result<(), Fail> {
-    let cases: [Case; 6] = [
-        (
-            WAVE,
-            "a1 do t1 1 1\n",
-            IN_THE_WAVE,
-            &[
-                &WAVE_CALLS,
-                &TAKEN,
-                &WAVE_PROMOTED,
-                &ASKED_BOTH,
-                &LOCAL_YES,
-                &YES_OF_BOTH,
-                &WAVE_LOGGED,
-                &BOTH_HEAR,
-                &FREED,
-            ],
-        ),
-        (
-            SECOND,
-            "a1 do t1 1 2\n",
-            MEANWHILE,
-            &[
-                &SECOND_CALLS,
-                &SECOND_PROMOTED,
-                &ALL_ASKED,
-                &ASKED_TOO,
-                &LOCAL_YES,
-                &E1_ASKED,
-                &E1_YES,
-                &YES_OF_BOTH,
-                &SECOND_LOGGED,
-                &E1_HEARS,
-                &BOTH_HEAR,
-                &FREED,
-            ],
-        ),
-        (
-            "a1 begin t1 default\na1 marshal t1\na1 rollback t1\n",
-            "",
-            "",
-            &[&MARSHALLED, &ROLLED_BACK, &TAKEN_TOO_LATE],
-        ),
-        (
-            "a1 begin t1 default\na1 promotable t1 e1 r1 yes committed ok\na1 marshal t1\na1 commit t1\n",
-            "",
-            "",
-            &[
-                &PROMOTABLE_CALLS,
-                &TAKEN,
-                &PROMOTABLE_PROMOTED,
-                &ALL_ASKED,
-                &LOCAL_YES,
-                &E1_ASKED,
-                &E1_YES,
-                &LOGGED,
-                &E1_HEARS,
-                &FREED,
-            ],
-        ),
-        (
-            "a1 begin t1 default\na1 promotable t1 e1 r1 yes committed fail\na1 volatile t1 e2 none yes\na1 marshal t1\n",
-            "",
-            "",
-            &[&NOT_PROMOTED, &NOT_PROMOTED_HEARD],
-        ),
-        (
-            "a1 begin t1 default\na1 volatile t1 e1 during no\na1 commit t1\na1 marshal t1\n",
-            "",
-            "",
-            &[&VOTED_NO, &TAKEN_TOO_LATE],
-        ),
-    ];
-    for (before, steps, after, pieces) in cases {
+    for (before, steps, after, pieces) in CASES {
         let script = format!(in rt.alloc(); "{before}{steps}{after}")?;
         let records = prints(&rt, rt.alloc(), script.as_str(), &[], &[("t1", pieces)])?;
         assert_eq!(rt; records, Ok(0), "at {script}");
