@@ -266,6 +266,7 @@ const WAVE_WHOLE: [&[&str]; 9] = [
     &BOTH_HEAR,
     &FREED,
 ];
+
 const SECOND_WHOLE: [&[&str]; 12] = [
     &SECOND_CALLS,
     &SECOND_PROMOTED,
@@ -280,6 +281,7 @@ const SECOND_WHOLE: [&[&str]; 12] = [
     &BOTH_HEAR,
     &FREED,
 ];
+
 const PROMOTABLE_WHOLE: [&[&str]; 10] = [
     &PROMOTABLE_CALLS,
     &TAKEN,
@@ -295,8 +297,13 @@ const PROMOTABLE_WHOLE: [&[&str]; 10] = [
 
 /// A client asks for the identifier and rolls back; a promotable promotes, and another doesn't; a volatile votes no.
 const MARSHAL: &str = "a1 begin t1 default\na1 marshal t1\na1 rollback t1\n";
-const PROMOTES: &str = "a1 begin t1 default\na1 promotable t1 e1 r1 yes committed ok\na1 marshal t1\na1 commit t1\n";
-const FAILS: &str = "a1 begin t1 default\na1 promotable t1 e1 r1 yes committed fail\na1 volatile t1 e2 none yes\na1 marshal t1\n";
+
+const PROMOTES: &str =
+    "a1 begin t1 default\na1 promotable t1 e1 r1 yes committed ok\na1 marshal t1\na1 commit t1\n";
+
+const FAILS: &str =
+    "a1 begin t1 default\na1 promotable t1 e1 r1 yes committed fail\na1 volatile t1 e2 none yes\na1 marshal t1\n";
+
 const VETOES: &str =
     "a1 begin t1 default\na1 volatile t1 e1 during no\na1 commit t1\na1 marshal t1\n";
 
