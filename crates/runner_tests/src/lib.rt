@@ -5,7 +5,11 @@
 #[cfg(test)]
 mod distributed;
 #[cfg(test)]
+mod live;
+#[cfg(test)]
 mod not_built;
+#[cfg(test)]
+mod printed;
 #[cfg(test)]
 mod runs;
 #[cfg(test)]

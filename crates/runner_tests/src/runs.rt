@@ -150,20 +150,17 @@ pub fn unwritten(
 
 #[test]
 fn the_first_of_several_causes_is_answered(rt: HostRuntime) -> Result<(), Fail> {
-    let later = "a1 begin t1 0\na1 durable t1 e1 r1 two yes\n";
-    let second =
-        "a1 begin t1 0\na1 promotable t1 e1 r1 yes committed ok\na1 durable t1 e2 r1 single yes committed\n";
-    let bad = "a1 begin t1 0\na1 marshal t1\na1 commit t2\n";
+    let later = "a1 begin t1 0\na1 restart\n";
+    let bad = "a1 begin t1 0\na1 restart\na1 commit t2\n";
     let unknown = Exit::BadScript(3, BadCause::NameUnknown);
     // the script has 54 bytes, which come in six pieces; a seventh call finds its end
-    let cases: [(&[&str], &str, &[u64], Exit); 10] = [
+    let cases: [(&[&str], &str, &[u64], Exit); 9] = [
         (&[], bad, &[1], Exit::Usage),
         (&["reply"], bad, &[1], Exit::Usage),
         (&["replay", "now"], bad, &[1], Exit::Usage),
         (&["replay"], bad, &[3], Exit::ReadFault),
         (&["replay"], bad, &[], unknown),
         (&["replay"], later, &[], Exit::NotYet(2)),
-        (&["replay"], second, &[], Exit::NotYet(3)),
         (&["replay"], SCRIPT, &[1], Exit::ReadFault),
         (&["replay"], SCRIPT, &[7], Exit::ReadFault),
         (&["replay"], SCRIPT, &[8], Exit::LogFault),
@@ -196,7 +193,7 @@ const MARSHALLED: &str = "a1 begin t1 0\na1 marshal t1\na1 await t1\n";
 
 #[test]
 fn what_a_replay_needs_can_be_tested(rt: HostRuntime) -> Result<(), Fail> {
-    let later = "a1 begin t1 0\na1 marshal t1\n";
+    let later = "a1 begin t1 0\na1 restart\n";
     let cases = [
         (SCRIPT, LOG_BYTES, Some(12)),
         (MARSHALLED, LOG_BYTES, Some(15)),
