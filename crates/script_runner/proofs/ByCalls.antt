@@ -1,4 +1,4 @@
--- Nothing but a call begins a promotion, loses an enlistment or cuts a connection; and only a few calls do.
+-- Nothing but a call begins a promotion or cuts a connection; and only a few calls do.
 use Rattle.std.proofs.Common.{◌≡◌, ℕ, ◌==◌, Bool, true, false, ◌&&◌, ◌||◌, not, List, [], ◌∷◌, ◌++◌, map, filter, Option, Some, None, is_some, find, refl, sym, subst, ◌∙◌, if◌then◌else◌}
 use Rattle.std.specs.List.{flat_map}
 use Rattle.std.proofs.lemmas.List.Folds.{list_all-append}
@@ -8,7 +8,7 @@ use Rattle.dtx_values.specs.declared.entry.Answer.{Answer}
 use Rattle.dtx_values.specs.declared.entry.Answer.TheVariants.{Fine, Wait, Id, Ended as EndedAnswer}
 use Rattle.dtx_values.specs.declared.entry.Ask.TheVariants.{Prepare, Promote, Single as AskSingle}
 use Rattle.dtx_values.specs.declared.entry.Entry.{Entry}
-use Rattle.dtx_values.specs.declared.entry.Entry.TheVariants.{Answered, Began, Cloned, Completed, Enlisted, Init, CommitAsked, RollbackAsked, Clock, TimedOut, Late, Asked, Voted, PromoteReply, Requested, Sealed, Handed, OwnerAnswered, LocalYes, Decided, Told, Promoting, Promoted, PromotionFailed, Sent, Got, Cut, Down as Ended, Lost as LostEntry, Logged, LogFull, Freed, Stopped, Restarted, Reenlisted, Recovered as RecoveredEntry, Acked}
+use Rattle.dtx_values.specs.declared.entry.Entry.TheVariants.{Called, Answered, Began, Cloned, Completed, Enlisted, Init, CommitAsked, RollbackAsked, Clock, TimedOut, Late, Asked, Voted, PromoteReply, Requested, Sealed, Handed, OwnerAnswered, LocalYes, Decided, Told, Promoting, Promoted, PromotionFailed, Sent, Got, Cut, Down as Ended, Lost as LostEntry, Logged, LogFull, Freed, Stopped, Restarted, Reenlisted, Recovered as RecoveredEntry, Acked}
 use Rattle.dtx_values.specs.declared.entry.Party.TheVariants.{Client, Enl as Member}
 use Rattle.dtx_values.specs.declared.message.Conn.{Conn}
 use Rattle.dtx_values.specs.declared.message.Conn.TheVariants.{Begin, Voter, Enl, Again}
@@ -54,20 +54,20 @@ use Rattle.dtx_model.specs.Acts.{tell, is_to_tell, promotable_in, under_way, com
 use Rattle.dtx_model.specs.Replies.{ack_on, conn_due, due_of, is_volatile_row, owner_entries, promote_entries, reply_entries, request_message, request_of, vote_message, voted_by}
 use Rattle.dtx_model.specs.Facts.{begin_promotion, durable_facts, durable_waits, facts_if, has_facts, is_late, local_facts, reaches, ticked, time_up}
 use Rattle.dtx_model.specs.Answers.{class_of, limit_of}
-use Rattle.dtx_model.specs.World.{World, half, core, answer_at, cut_upward, facts_at, gone_by, gone_decides, open_ones, reenlist_facts}
+use Rattle.dtx_model.specs.World.{World, half, core, answer_at, cut_upward, facts_at, gone_by, gone_decides, gone_unlinked, open_ones, reenlist_facts}
 use Rattle.dtx_model.specs.Steps.{LogAnswer, Done, Full, StoppedNow, StoppedBefore, Step, Calls, Replies, Acts, Coordinates, Delivers, Stops, Restarts, appended, block_at, coordinates, delivered, ended_at, freed, got_by, restarted}
 use Rattle.dtx_model.specs.Caused.{is_promoting_entry}
+use Rattle.dtx_model.proofs.Bools.{or_false}
 use Rattle.outcome_law.proofs.Pending.{is_no_call}
-use Rattle.outcome_law.proofs.Scans.{each_more, none_more}
+use Rattle.outcome_law.proofs.Scans.{none_more}
 
--- the entry begins no promotion, loses no enlistment, and cuts no connection
+-- the entry begins no promotion and cuts no connection
 abbrev pub is_spared : Entry → Bool
 is_spared (Promoting c) = false
-is_spared (LostEntry e) = false
 is_spared (Cut c u w) = false
 is_spared _ = true
 
-pub record Spared (es : List Entry) : Type 0 where
+record Spared (es : List Entry) : Type 0 where
   pub proof : each is_spared es ≡ true
 
 s_none : Spared []
@@ -332,12 +332,15 @@ s_durable t h e r single _ none = s_one (Enlisted e DurableSingle) refl
 s_gone_decides : (h : Half) (e : EnlNo) → Spared (gone_decides h e)
 s_gone_decides h e = s_if (is_some h.seen.decided || voted e.value h.seen.table) s_none (s_if (is_handed h.seen.handed e.value) (s_decide h InDoubt) (s_veto h))
 
+s_gone : (h : Half) (e : EnlNo) → Spared (gone_unlinked h e)
+s_gone h e = s_cons (LostEntry e) refl (s_gone_decides (sees h (LostEntry e)) e)
+
 s_reenlist : (t : ℕ) (b : Option Branch) → Spared (reenlist_facts t b)
 s_reenlist t (Some b) = s_cons (Reenlisted b.enlistment) refl (s_one (Sent (Again b.enlistment) Up (ReenlistReenlist (info t b.enlistment b.manager))) refl)
 s_reenlist t None = s_none
 
--- the call may begin a promotion, or loses something
-abbrev is_grave : Call → Bool
+-- the call may begin a promotion, or cut a connection
+abbrev pub is_grave : Call → Bool
 is_grave (Durable u e r s) = true
 is_grave (Marshal u) = true
 is_grave (Lose u c n m) = true
@@ -397,106 +400,107 @@ s_delivered : (t : ℕ) (w : World) (c : Conn) (d : Dir) (ms : List Message) →
 s_delivered t w c d [] = s_cons (Ended c d) refl (s_ended_at w c d)
 s_delivered t w c d (m ∷ ms) = s_cons (Got c d m) refl (s_got_by t w c d m)
 
--- no step but a call does any of these
-pub block_spared : (t : ℕ) (w : World) (m : Step) → is_no_call m ≡ true → each is_spared (block_at t w m) ≡ true
+-- no step but a call does either
+step_spared : (t : ℕ) (w : World) (m : Step) → is_no_call m ≡ true → each is_spared (block_at t w m) ≡ true
 unfolding block_at
-block_spared t w (Calls n a c k) p = absurd cc
-block_spared t w (Replies e r) p = (s_reply (half w) e r).proof
-block_spared t w Acts p = (s_act (half w)).proof
-block_spared t w (Coordinates x) p = (s_coordinates (core w) x).proof
-block_spared t w (Delivers c d) p = (s_delivered t w c d (in_transit c d w.past)).proof
-block_spared t w Stops p = refl
-block_spared t w (Restarts found) p = (s_restarted (core w).stopped found).proof
+step_spared t w (Calls n a c k) p = absurd cc
+step_spared t w (Replies e r) p = (s_reply (half w) e r).proof
+step_spared t w Acts p = (s_act (half w)).proof
+step_spared t w (Coordinates x) p = (s_coordinates (core w) x).proof
+step_spared t w (Delivers c d) p = (s_delivered t w c d (in_transit c d w.past)).proof
+step_spared t w Stops p = refl
+step_spared t w (Restarts found) p = (s_restarted (core w).stopped found).proof
 
--- what is spared begins no promotion
-spared_unpromoting : (x : Entry) → is_spared x ≡ true → is_promoting_entry x ≡ false
+-- what is spared passes no such p
+abbrev pub PassesNoneSpared : (Entry → Bool) → Type 0
+PassesNoneSpared p = (x : Entry) → is_spared x ≡ true → p x ≡ false
+
+-- so no step but a call brings what passes p,
+pub step_none : (p : Entry → Bool) → PassesNoneSpared p → (t : ℕ) (w : World) (m : Step) → is_no_call m ≡ true → has p (block_at t w m) ≡ false
+step_none p spares t w m k = none_more is_spared p spares (block_at t w m) (step_spared t w m k)
+
+-- and of the calls only those whose facts do
+pub call_none : (p : Entry → Bool) → PassesNoneSpared p → (t : ℕ) (w : World) (n : ℕ) (a : ActorNo) (c : Call) (m : ℕ) → ((x : Answer) → has p (facts_at t w c x) ≡ false)
+    → has p (block_at t w (Calls n a c m)) ≡ false
+unfolding block_at
+call_none p spares t w n a c m none =
+    let x = answer_at t w c m in
+    or_false (p (Called n a x)) (has p (facts_if (has_facts x) (facts_at t w c x))) (spares (Called n a x) refl) (by (has_facts x) (facts_at t w c x) (none x))
+  where
+    by : (b : Bool) (es : List Entry) → has p es ≡ false → has p (facts_if b es) ≡ false
+    by true es k = k
+    by false es k = refl
+
+-- which one that isn't grave doesn't
+pub mild_none : (p : Entry → Bool) → PassesNoneSpared p → (t : ℕ) (w : World) (c : Call) (x : Answer) → is_grave c ≡ false → has p (facts_at t w c x) ≡ false
+mild_none p spares t w c x mild = none_more is_spared p spares (facts_at t w c x) (s_facts_at t w c x mild).proof
+
+-- The calls that begin a promotion: `marshal`, and a durable call that is a cause of one.
+pub spared_unpromoting : PassesNoneSpared is_promoting_entry
 spared_unpromoting (Promoting c) k = absurd cc
 spared_unpromoting _ k = refl
 
-pub none_promoting : (es : List Entry) → each is_spared es ≡ true → has is_promoting_entry es ≡ false
-none_promoting es k = none_more is_spared is_promoting_entry spared_unpromoting es k
-
--- the entry loses no enlistment and cuts no connection
-abbrev pub is_kept : Entry → Bool
-is_kept (LostEntry e) = false
-is_kept (Cut c u w) = false
-is_kept _ = true
-
-spared_kept : (x : Entry) → is_spared x ≡ true → is_kept x ≡ true
-spared_kept (LostEntry e) k = absurd cc
-spared_kept (Cut c u w) k = absurd cc
-spared_kept _ k = refl
-
-pub each_kept : (es : List Entry) → each is_spared es ≡ true → each is_kept es ≡ true
-each_kept es k = each_more is_spared is_kept spared_kept es k
-
--- The calls that begin a promotion: `marshal`, and a durable call that is a cause of one.
 abbrev pub BeginsNone : List Row → Call → Type 0
 BeginsNone xs (Durable u e r s) = cause_of xs (is_single s) ≡ None
 BeginsNone xs (Marshal u) = ⊥
 BeginsNone xs _ = Unit {0}
 
-cuts_unpromoting : (past : List Entry) (cs : List Conn) → has is_promoting_entry (map (cut_upward past) cs) ≡ false
-cuts_unpromoting past [] = refl
-cuts_unpromoting past (c ∷ cs) = cuts_unpromoting past cs
-
 gone_unpromoting : (w : World) (e : EnlNo) (cs : List Conn) → has is_promoting_entry (gone_by w e cs) ≡ false
-gone_unpromoting w e [] = none_promoting (gone_decides (sees (half w) (LostEntry e)) e) (s_gone_decides (sees (half w) (LostEntry e)) e).proof
-gone_unpromoting w e (c ∷ cs) = cuts_unpromoting w.past (c ∷ cs)
+gone_unpromoting w e [] = none_more is_spared is_promoting_entry spared_unpromoting (gone_unlinked (half w) e) (s_gone (half w) e).proof
+gone_unpromoting w e (c ∷ cs) = cuts (c ∷ cs)
+  where
+    cuts : (cs : List Conn) → has is_promoting_entry (map (cut_upward w.past) cs) ≡ false
+    cuts [] = refl
+    cuts (c ∷ cs) = cuts cs
 
-facts_unpromoting : (t : ℕ) (w : World) (c : Call) (a : Answer) → BeginsNone (half w).seen.table c → has is_promoting_entry (facts_at t w c a) ≡ false
-facts_unpromoting t w (Durable u e r s) a none = none_promoting (facts_at t w (Durable u e r s) a) (s_durable t (half w) e r (is_single s) a none).proof
+-- the facts of another begin none
+pub facts_unpromoting : (t : ℕ) (w : World) (c : Call) (a : Answer) → BeginsNone (half w).seen.table c → has is_promoting_entry (facts_at t w c a) ≡ false
+facts_unpromoting t w (Durable u e r s) a none =
+    none_more is_spared is_promoting_entry spared_unpromoting (facts_at t w (Durable u e r s) a) (s_durable t (half w) e r (is_single s) a none).proof
 facts_unpromoting t w (Marshal u) a none = absurd none
 facts_unpromoting t w (Lose u c n m) a none = refl
 facts_unpromoting t w (Gone e) a none = gone_unpromoting w e (open_ones w e)
-facts_unpromoting t w c a none = none_promoting (facts_at t w c a) (s_facts_at t w c a refl).proof
+facts_unpromoting t w c a none = mild_none is_promoting_entry spared_unpromoting t w c a refl
 
-if_unpromoting : (b : Bool) (es : List Entry) → has is_promoting_entry es ≡ false → has is_promoting_entry (facts_if b es) ≡ false
-if_unpromoting true es k = k
-if_unpromoting false es k = refl
+-- The calls that cut a connection: `lose`, and the loss of an enlistment that has an open one.
+abbrev pub is_cut : Entry → Bool
+is_cut (Cut c u w) = true
+is_cut _ = false
 
--- another call begins none
-pub call_unpromoting : (t : ℕ) (w : World) (n : ℕ) (a : ActorNo) (c : Call) (m : ℕ) → BeginsNone (half w).seen.table c → has is_promoting_entry (block_at t w (Calls n a c m)) ≡ false
-unfolding block_at
-call_unpromoting t w n a c m none =
-    let x = answer_at t w c m in if_unpromoting (has_facts x) (facts_at t w c x) (facts_unpromoting t w c x none)
+pub spared_uncut : PassesNoneSpared is_cut
+spared_uncut (Cut c u w) k = absurd cc
+spared_uncut _ k = refl
 
--- The calls that lose something: `lose` and `gone`.
-abbrev pub is_losing : Call → Bool
-is_losing (Lose u c n m) = true
-is_losing (Gone e) = true
-is_losing _ = false
+abbrev pub CutsNone : World → Call → Type 0
+CutsNone w (Lose u c n m) = ⊥
+CutsNone w (Gone e) = open_ones w e ≡ []
+CutsNone w _ = Unit {0}
 
-begin_kept : (h : Half) (c : Option Cause) → each is_kept (begin_promotion h c) ≡ true
-begin_kept h (Some c) = by (has (λ x. is_promotable x.class) h.seen.table)
+begin_uncut : (h : Half) (c : Option Cause) → has is_cut (begin_promotion h c) ≡ false
+begin_uncut h (Some c) = by (has (λ x. is_promotable x.class) h.seen.table)
   where
-    by : (b : Bool) → each is_kept (if b then [] else Sent Begin Up BeginBegin ∷ []) ≡ true
+    by : (b : Bool) → has is_cut (if b then [] else Sent Begin Up BeginBegin ∷ []) ≡ false
     by true = refl
     by false = refl
-begin_kept h None = refl
+begin_uncut h None = refl
 
-if_kept : (b : Bool) (xs ys : List Entry) → each is_kept xs ≡ true → each is_kept ys ≡ true → each is_kept (if b then xs else ys) ≡ true
-if_kept true xs ys p q = p
-if_kept false xs ys p q = q
+if_uncut : (b : Bool) (xs ys : List Entry) → has is_cut xs ≡ false → has is_cut ys ≡ false → has is_cut (if b then xs else ys) ≡ false
+if_uncut true xs ys p q = p
+if_uncut false xs ys p q = q
 
-durable_kept : (t : ℕ) (h : Half) (e : EnlNo) (r : RmNo) (single : Bool) (a : Answer) → each is_kept (durable_facts t h e r single a) ≡ true
-durable_kept t h e r single Wait =
+durable_uncut : (t : ℕ) (h : Half) (e : EnlNo) (r : RmNo) (single : Bool) (a : Answer) → has is_cut (durable_facts t h e r single a) ≡ false
+durable_uncut t h e r single Wait =
     let begins : List Entry = begin_promotion h (cause_of h.seen.table single) in
-    if_kept h.seen.promoted (enlist_sent t e r) (if is_promoting h.seen then [] else begins) refl (if_kept (is_promoting h.seen) [] begins refl (begin_kept h (cause_of h.seen.table single)))
-durable_kept t h e r single _ = refl
+    if_uncut h.seen.promoted (enlist_sent t e r) (if is_promoting h.seen then [] else begins) refl (if_uncut (is_promoting h.seen) [] begins refl (begin_uncut h (cause_of h.seen.table single)))
+durable_uncut t h e r single _ = refl
 
-facts_kept : (t : ℕ) (w : World) (c : Call) (a : Answer) → is_losing c ≡ false → each is_kept (facts_at t w c a) ≡ true
-facts_kept t w (Durable u e r s) a g = durable_kept t (half w) e r (is_single s) a
-facts_kept t w (Marshal u) a g = if_kept (is_promoting (half w).seen) [] (begin_promotion (half w) (Some MarshalCause)) refl (begin_kept (half w) (Some MarshalCause))
-facts_kept t w (Lose u c n m) a g = absurd cc
-facts_kept t w (Gone e) a g = absurd cc
-facts_kept t w c a g = each_kept (facts_at t w c a) (s_facts_at t w c a refl).proof
+gone_uncut : (w : World) (e : EnlNo) → has is_cut (gone_by w e []) ≡ false
+gone_uncut w e = none_more is_spared is_cut spared_uncut (gone_unlinked (half w) e) (s_gone (half w) e).proof
 
-facts_if_kept : (b : Bool) (es : List Entry) → each is_kept es ≡ true → each is_kept (facts_if b es) ≡ true
-facts_if_kept true es k = k
-facts_if_kept false es k = refl
-
--- another call loses nothing
-pub call_kept : (t : ℕ) (w : World) (n : ℕ) (a : ActorNo) (c : Call) (m : ℕ) → is_losing c ≡ false → each is_kept (block_at t w (Calls n a c m)) ≡ true
-unfolding block_at
-call_kept t w n a c m g = let x = answer_at t w c m in facts_if_kept (has_facts x) (facts_at t w c x) (facts_kept t w c x g)
+-- the facts of another cut none
+pub facts_uncut : (t : ℕ) (w : World) (c : Call) (a : Answer) → CutsNone w c → has is_cut (facts_at t w c a) ≡ false
+facts_uncut t w (Durable u e r s) a none = durable_uncut t (half w) e r (is_single s) a
+facts_uncut t w (Marshal u) a none = if_uncut (is_promoting (half w).seen) [] (begin_promotion (half w) (Some MarshalCause)) refl (begin_uncut (half w) (Some MarshalCause))
+facts_uncut t w (Lose u c n m) a none = absurd none
+facts_uncut t w (Gone e) a none = subst (λ (cs : List Conn). has is_cut (gone_by w e cs) ≡ false) (sym none) (gone_uncut w e)
+facts_uncut t w c a none = mild_none is_cut spared_uncut t w c a refl

@@ -29,8 +29,8 @@ use Rattle.dtx_model.specs.Calls.{call_of, complete_call, transaction_of, gone_c
 use Rattle.dtx_model.specs.Half.{is_handed}
 use Rattle.dtx_model.specs.Facts.{facts_if, reaches, ticked}
 use Rattle.dtx_model.proofs.Narrow.{facts, veto_if, time_up, is_late, lost_outcome, decided_if}
-use Rattle.script_runner.specs.Built.{has_lasting, has_marshal, is_lasting_for, is_run}
-use Rattle.dtx_model.proofs.Bools.{and_left, and_right, or_case, not_true, not_both}
+use Rattle.script_runner.specs.Built.{has_lasting, is_lasting_for, may_promote}
+use Rattle.dtx_model.proofs.Bools.{or_case, not_true, not_both}
 use Rattle.outcome_law.proofs.Tests.{eq_self}
 use Rattle.outcome_law.proofs.Scans.{none_more}
 use Rattle.outcome_law.proofs.Lists.{has_kept, if_kept, has-insert}
@@ -155,32 +155,38 @@ complete_no_durable : (c : CloneNo) (o : Option TxNo) → is_durable_call (compl
 complete_no_durable c (Some t) h = cc
 complete_no_durable c None h = cc
 
--- nor does the loss of an enlistment
+-- nor does the loss of an enlistment, or its return
 gone_no_durable : (e : EnlNo) (o : Option TxNo) → is_durable_call (gone_call e o) ≡ true → ⊥
 gone_no_durable e (Some t) h = cc
 gone_no_durable e None h = cc
 
--- A durable that is run, and whose transaction no line before it marshals, has single-phase support, and stands after no line that makes a durable or promotable of it.
+reenlist_no_durable : (e : EnlNo) (o : Option TxNo) → is_durable_call (reenlist_call e o) ≡ true → ⊥
+reenlist_no_durable e (Some t) h = cc
+reenlist_no_durable e None h = cc
+
+-- A durable that may not promote has single-phase support, and stands after no line that makes a durable or promotable of its transaction.
 pub record IsFirst (before : List Line) (t : ℕ) (x : Support) : Type 0 where
   pub single : is_single x ≡ true
   pub first : has_lasting before t ≡ false
 
-pub first_lasting : (s before : List Line) (b : Body) (next : Option Line) (t u : TxNo) (e : EnlNo) (r : RmNo) (x : Support) → call_of s b ≡ Some (t, Durable u e r x) → is_run before b next ≡ true
-    → has_marshal before t.value ≡ false → IsFirst before t.value x
-first_lasting s before b next t u e r x k h unmarshalled = by_body b k h (ap (λ o. is_durable_call o) k)
+pub first_lasting : (s before : List Line) (b : Body) (t u : TxNo) (e : EnlNo) (r : RmNo) (x : Support) → call_of s b ≡ Some (t, Durable u e r x) → may_promote before t.value b ≡ false
+    → IsFirst before t.value x
+first_lasting s before b t u e r x k none = by_body b k none (ap (λ o. is_durable_call o) k)
   where
-    alone : (m single second : Bool) → m ≡ false → (m || (single && not second)) ≡ true → (single ≡ true) × (second ≡ false)
-    alone true single second n k = absurd cc
-    alone false single second n k = (and_left single (not second) k, not_true second (and_right single (not second) k))
+    alone : (same single second : Bool) → same ≡ true → (same && (not single || second)) ≡ false → (single ≡ true) × (second ≡ false)
+    alone true true false m k = (refl, refl)
+    alone true true true m k = absurd cc
+    alone true false second m k = absurd cc
+    alone false single second m k = absurd cc
 
-    by_body : (b : Body) → call_of s b ≡ Some (t, Durable u e r x) → is_run before b next ≡ true → is_durable_call (call_of s b) ≡ true → IsFirst before t.value x
-    by_body (DurableLine v f q y) k h m =
+    by_body : (b : Body) → call_of s b ≡ Some (t, Durable u e r x) → may_promote before t.value b ≡ false → is_durable_call (call_of s b) ≡ true → IsFirst before t.value x
+    by_body (DurableLine v f q y) k none m =
         let same : v ≡ t = ap (λ o. called_in v o) k in
         let supports : y ≡ x = ap (λ o. supported_in y o) k in
-        let h_t : (has_marshal before t.value || (is_single y && not (has_lasting before t.value))) ≡ true = subst (λ (w : TxNo). (has_marshal before w.value || (is_single y && not (has_lasting before w.value))) ≡ true) same h in
-        let parts = alone (has_marshal before t.value) (is_single y) (has_lasting before t.value) unmarshalled h_t in
+        let own : (t.value == v.value) ≡ true = subst (λ (w : TxNo). (t.value == w.value) ≡ true) (sym same) (eq_self t.value) in
+        let parts = alone (t.value == v.value) (is_single y) (has_lasting before t.value) own none in
         record { single = subst (λ z. is_single z ≡ true) supports parts.0; first = parts.1 }
-    by_body (CompleteLine c) k h m = absurd (complete_no_durable c (transaction_of s c.value) m)
-    by_body (GoneLine f) k h m = absurd (gone_no_durable f (transaction_with s f.value) m)
-    by_body (ReenlistLine f) k h m = absurd cc
-    by_body _ k h m = absurd cc
+    by_body (CompleteLine c) k none m = absurd (complete_no_durable c (transaction_of s c.value) m)
+    by_body (GoneLine f) k none m = absurd (gone_no_durable f (transaction_with s f.value) m)
+    by_body (ReenlistLine f) k none m = absurd (reenlist_no_durable f (transaction_with s f.value) m)
+    by_body _ k none m = absurd cc

@@ -16,7 +16,7 @@ use Rattle.dtx_values.specs.declared.scope.OpenScope.{OpenScope}
 use Rattle.dtx_values.specs.declared.script.Body.{Body}
 use Rattle.dtx_values.specs.declared.script.Body.TheVariants.{Open, Finish, Close, Current, Stop, Restart}
 use Rattle.dtx_values.specs.declared.script.Line.{Line}
-use Rattle.dtx_model.specs.Words.{has, each, always, onto, past_of, put}
+use Rattle.dtx_model.specs.Words.{has, each, onto, past_of, put}
 use Rattle.dtx_model.specs.Scopes.{ScopeEntry, Opens, Finishes, Closes, close_answer, closes, finish_answer, enter_answer, entering, finishes, is_scope, open_before, open_scopes, taken_off}
 use Rattle.dtx_model.specs.Contexts.{called_with, entries_if, entries_of, isolation_in, name_in, option_in, scope_answer, scope_block, scope_calls, scope_entries, scopes_of, took_off, is_fine}
 use Rattle.dtx_model.specs.Grammar.{OfScope, are_named_well, is_made, is_named_well, makes, opening_makes, same_name, uses}
@@ -25,13 +25,13 @@ use Rattle.dtx_model.specs.Replay.{CallRan, LineRan, LinesRan, after_calls, afte
 use Rattle.dtx_model.specs.Calls.{call_of}
 use Rattle.dtx_model.specs.Steps.{Calls}
 use Rattle.dtx_model.proofs.Bools.{and_left, not_both, not_true, or_case, or_right}
-use Rattle.dtx_model.proofs.Histories.{onto-append}
-use Rattle.dtx_model.proofs.Pasts.{always-before, length-past}
+use Rattle.dtx_model.proofs.Pasts.{length-past}
 use Rattle.dtx_model.proofs.Prefixes.{past-more}
 use Rattle.dtx_model.proofs.Reading.{has-onto}
 use Rattle.outcome_law.proofs.ReplayTurns.{is_log_line}
 use Rattle.scope_context.specs.Standing.{Standing}
 use Rattle.script_runner.specs.Scoped.{AreOpen, IsUnopened, context_at, nothing_open, rollbacks, rolled_at, rolled_in, scopes_at, scopes_in}
+use Rattle.script_runner.proofs.RunLines.{always-here}
 use Rattle.script_runner.proofs.Scoping.{no_scope_line}
 
 -- a write leaves the other places alone
@@ -187,13 +187,6 @@ opened_was_made s a (l ∷ before) h = step (a == l.actor.value) h (opened_was_m
         let xs = scope_entries l.body (open_scopes es) in
         or_case (has (opens s) xs) (has (opens s) es) (λ e. rw (entries_make s l.body (open_scopes es) e) refl) (λ e. or_right _ _ (ih e)) (sym (has-onto (opens s) es xs) ∙ h)
     step false h ih = or_right _ _ (ih h)
-
--- what holds of each line of a script with those before it holds of one of them
-pub always-here : (p : List Line → Line → Bool) (s xs ys : List Line) (l : Line) → s ≡ xs ++ l ∷ ys → always p (past_of s) ≡ true → p (past_of xs) l ≡ true
-always-here p s xs ys l split k =
-    let before = past_of xs in
-    let all : always p (onto (l ∷ before) ys) ≡ true = ap (λ (h : List Line). always p h) (sym (ap past_of split ∙ onto-append [] xs (l ∷ ys))) ∙ k in
-    and_left (p before l) (always p before) (always-before p (l ∷ before) ys all)
 
 -- a name that a line of a script makes wasn't made before it
 not_made : (s xs ys : List Line) (l : Line) → s ≡ xs ++ l ∷ ys → are_named_well s ≡ true → each (λ n. not (is_made (past_of xs) n)) (makes l.body) ≡ true

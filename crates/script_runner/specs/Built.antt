@@ -1,11 +1,11 @@
--- Which lines are run yet: those of transactions that are never promoted, or that a `marshal` promotes and in which nothing is lost.
-use Rattle.std.specs.Prelude.{ℕ, ◌≡◌, ◌-◌, ◌+◌, ◌==◌, Bool, true, false, ◌&&◌, ◌||◌, not, List, [], ◌∷◌, Option, Some, None, take}
+-- Which lines are run yet: all but those that lose something of a transaction that may be promoted, bring back what was lost, or stop the log.
+use Rattle.std.specs.Prelude.{ℕ, ◌≡◌, ◌-◌, ◌==◌, Bool, true, false, ◌&&◌, ◌||◌, not, List, Option, Some, None, take}
 use Rattle.dtx_values.specs.declared.number.TxNo.{TxNo}
 use Rattle.dtx_values.specs.declared.script.Body.{Body}
-use Rattle.dtx_values.specs.declared.script.Body.TheVariants.{Begin, Open, Finish, Close, Current, Volatile, Durable, Promotable, Clone, Complete, Commit, Rollback, Marshal, Status, Await, Tick, Do, Gone, Par}
+use Rattle.dtx_values.specs.declared.script.Body.TheVariants.{Durable, Promotable, Marshal, Lose, Gone, Reenlist, Recovered, Stop, Restart}
 use Rattle.dtx_values.specs.declared.script.Line.{Line}
 use Rattle.dtx_values.specs.Support.{is_single}
-use Rattle.dtx_model.specs.Words.{has, kth, latest, past_of}
+use Rattle.dtx_model.specs.Words.{always, ever, has, kth, latest, past_of}
 use Rattle.dtx_model.specs.Calls.{enlistment_made}
 use Rattle.dtx_model.specs.Grammar.{Reads}
 
@@ -15,77 +15,51 @@ is_lasting_for t (Durable u e r s) = t == u.value
 is_lasting_for t (Promotable u e r v o p) = t == u.value
 is_lasting_for t _ = false
 
--- the command marshals this transaction
-abbrev pub is_marshal_of : ℕ → Body → Bool
-is_marshal_of t (Marshal u) = t == u.value
-is_marshal_of t _ = false
+-- one of these lines makes a durable or promotable enlistment of the transaction
+abbrev pub has_lasting : List Line → ℕ → Bool
+has_lasting before t = has (λ l. is_lasting_for t l.body) before
+
+-- the command may promote this transaction, where these lines come before it: it marshals it, or makes a durable enlistment of it that has two phases alone, or that
+-- isn't its first durable or promotable
+abbrev pub may_promote : List Line → ℕ → Body → Bool
+may_promote before t (Marshal u) = t == u.value
+may_promote before t (Durable u e r s) = (t == u.value) && (not (is_single s) || has_lasting before t)
+may_promote before t _ = false
+
+-- one of these lines, newest first, may promote the transaction
+abbrev pub may_be_promoted : List Line → ℕ → Bool
+may_be_promoted before t = ever (λ earlier l. may_promote earlier t l.body) before
 
 -- the transaction of the enlistment that one of these lines makes
 abbrev pub made_for : List Line → ℕ → Option TxNo
 made_for before e = latest (λ l. enlistment_made e l.body) before
 
--- one of these lines makes a durable or promotable enlistment of the transaction
-abbrev pub has_lasting : List Line → ℕ → Bool
-has_lasting before t = has (λ l. is_lasting_for t l.body) before
+-- one of these lines may promote the transaction, where there is one
+abbrev pub may_any_be_promoted : List Line → Option TxNo → Bool
+may_any_be_promoted before (Some t) = may_be_promoted before t.value
+may_any_be_promoted before None = false
 
--- one of them marshals it
-abbrev pub has_marshal : List Line → ℕ → Bool
-has_marshal before t = has (λ l. is_marshal_of t l.body) before
-
-abbrev pub is_marshalled : List Line → Option TxNo → Bool
-is_marshalled before (Some t) = has_marshal before t.value
-is_marshalled before None = false
-
--- the command awaits this transaction
-abbrev pub is_await : ℕ → Body → Bool
-is_await t (Await u) = t == u.value
-is_await t _ = false
-
-abbrev pub is_await_line : ℕ → Option Line → Bool
-is_await_line t (Some l) = is_await t l.body
-is_await_line t None = false
-
--- The commands that are run, where these lines stand before, newest first, and this line, if any, comes next.
--- `durable` is run after a `marshal` of its transaction, and else where it has single-phase support and is the transaction's first durable or promotable;
--- `marshal` right before an `await` of its transaction, where that has no durable and no promotable yet; `gone` where its enlistment's transaction wasn't marshalled;
--- and each other but `lose`, `reenlist`, `recovered`, `stop` and `restart`.
-abbrev pub is_run : List Line → Body → Option Line → Bool
-is_run before (Begin t d) next = true
-is_run before (Open s o) next = true
-is_run before (Finish s) next = true
-is_run before (Close s) next = true
-is_run before Current next = true
-is_run before (Volatile t e o v) next = true
-is_run before (Durable t e r s) next = has_marshal before t.value || (is_single s && not (has_lasting before t.value))
-is_run before (Promotable t e r v o p) next = true
-is_run before (Clone t c k) next = true
-is_run before (Complete c) next = true
-is_run before (Commit t) next = true
-is_run before (Rollback t) next = true
-is_run before (Marshal t) next = is_await_line t.value next && not (has_lasting before t.value)
-is_run before (Status t) next = true
-is_run before (Await t) next = true
-is_run before (Tick t n) next = true
-is_run before (Do t k n) next = true
-is_run before (Gone e) next = not (is_marshalled before (made_for before e.value))
-is_run before Par next = true
-is_run before _ next = false
-
--- each of these lines, newest first, is run, where this line, if any, comes after them
-abbrev pub are_run_before : Option Line → List Line → Bool
-are_run_before next [] = true
-are_run_before next (l ∷ before) = is_run before l.body next && are_run_before (Some l) before
+-- The commands that are run, where these lines come before, newest first: all but `lose`, `reenlist`, `recovered`, `stop` and `restart`, and but `gone` where one of the
+-- lines may promote the enlistment's transaction.
+abbrev pub is_run : List Line → Body → Bool
+is_run before (Gone e) = not (may_any_be_promoted before (made_for before e.value))
+is_run before (Lose t c n m) = false
+is_run before (Reenlist e) = false
+is_run before (Recovered t r) = false
+is_run before (Stop n i) = false
+is_run before Restart = false
+is_run before _ = true
 
 -- each line is run
 abbrev pub are_run : List Line → Bool
-are_run s = are_run_before None (past_of s)
+are_run s = always (λ before l. is_run before l.body) (past_of s)
 
 -- line n of a script is the first that isn't run yet
 pub record IsNotRun (s : List Line) (n : ℕ) : Type 0 where
   pub line : Line
   pub stands : kth s n ≡ Some line
-  pub not_run : is_run (past_of (take (n - 1) s)) line.body (kth s (n + 1)) ≡ false
-  pub before : are_run_before (Some line) (past_of (take (n - 1) s)) ≡ true
+  pub not_run : is_run (past_of (take (n - 1) s)) line.body ≡ false
+  pub before : are_run (take (n - 1) s) ≡ true
 
 -- these bytes are a script, and line n is the first that isn't run yet
 pub record IsNotYet (b : List ℕ) (n : ℕ) : Type 0 where

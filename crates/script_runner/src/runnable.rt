@@ -1,8 +1,8 @@
 //! Which lines are run.
-ghost use Rattle.std.specs.Prelude.{◌≡◌, ◌+◌, ◌<◌, List, [], ◌∷◌, length, IfNone, IfSome, slice_get, true};
+ghost use Rattle.std.specs.Prelude.{◌≡◌, ◌+◌, ◌<◌, List, [], ◌∷◌, length, IfNone, IfSome, true};
 ghost use Rattle.dtx_values.specs.declared.script.Line.{Line};
-ghost use Rattle.script_runner.specs.Built.{IsNotRun, are_run, is_await_line, is_marshalled, is_run};
-ghost use Rattle.script_runner.specs.Runnable.{AreLasting, AreMadeFor, AreMarshalled, IsKept};
+ghost use Rattle.script_runner.specs.Built.{IsNotRun, are_run, is_run, may_any_be_promoted};
+ghost use Rattle.script_runner.specs.Runnable.{AreLasting, AreMadeFor, IsKept, MayBePromoted};
 
 use crate::plans::made_by;
 use dtx_values::{Body, EnlNo, Line, Script, TxNo};
@@ -24,73 +24,34 @@ type Owners = [Option<TxNo>; ENLISTMENTS];
 struct Kept {
     /// Which transactions have a durable or promotable enlistment.
     lasting: Flags,
-    /// Which were marshalled.
-    marshalled: Flags,
+    /// Which a line may promote.
+    promoted: Flags,
     /// Whose each enlistment is.
     owners: Owners,
 }
 
-/// The line at a place, where there is one.
-fn line_at(lines: &[Line], place: usize) -> Option<Line>
-    ensures { result ≡ slice_get lines.now place }
-{
-    if place < lines.len() {
-        Some(lines[place])
-    } else {
-        None
-    }
-}
-
-/// Whether the line is an `await` of this transaction.
-fn is_await(t: TxNo, line: Option<Line>) -> bool
-    ensures { result ≡ is_await_line t.value line }
-{
-    match line {
-        Some(l) => match l.body {
-            Body::Await(u) => t.get() == u.get(),
-            _ => false,
-        },
-        None => false,
-    }
-}
-
-/// Whether this transaction, where there is one, was marshalled.
-fn is_marshalled(t: Option<TxNo>, marshalled: &Flags) -> bool
-    ensures { (before : List Line) → AreMarshalled marshalled.now before → result ≡ is_marshalled before t }
+/// Whether this transaction, where there is one, may be promoted.
+fn may_be_promoted(t: Option<TxNo>, promoted: &Flags) -> bool
+    ensures { (before : List Line) → MayBePromoted promoted.now before → result ≡ may_any_be_promoted before t }
 {
     match t {
-        Some(t) => marshalled[t.index()],
+        Some(t) => promoted[t.index()],
         None => false,
     }
 }
 
-/// Whether a line of this command is run, after the lines of which this is kept, and before this line.
-fn is_run(body: Body, next: Option<Line>, kept: &Kept) -> bool
-    ensures { (before : List Line) → IsKept kept.now before → result ≡ is_run before body next }
+/// Whether a line of this command is run, after the lines of which this is kept.
+fn is_run(body: Body, kept: &Kept) -> bool
+    ensures { (before : List Line) → IsKept kept.now before → result ≡ is_run before body }
 {
     match body {
-        Body::Begin(_, _)
-        | Body::Open(_, _)
-        | Body::Finish(_)
-        | Body::Close(_)
-        | Body::Current
-        | Body::Volatile(_, _, _, _)
-        | Body::Promotable(_, _, _, _, _, _)
-        | Body::Clone(_, _, _)
-        | Body::Complete(_)
-        | Body::Commit(_)
-        | Body::Rollback(_)
-        | Body::Status(_)
-        | Body::Await(_)
-        | Body::Tick(_, _)
-        | Body::Do(_, _, _)
-        | Body::Par => true,
-        Body::Durable(t, _, _, support) => {
-            kept.marshalled[t.index()] || (support.is_single() && !kept.lasting[t.index()])
-        }
-        Body::Marshal(t) => is_await(t, next) && !kept.lasting[t.index()],
-        Body::Gone(e) => !is_marshalled(kept.owners[e.index()], &kept.marshalled),
-        _ => false,
+        Body::Lose(_, _, _, _)
+        | Body::Reenlist(_)
+        | Body::Recovered(_, _)
+        | Body::Stop(_, _)
+        | Body::Restart => false,
+        Body::Gone(e) => !may_be_promoted(kept.owners[e.index()], &kept.promoted),
+        _ => true,
     }
 }
 
@@ -106,12 +67,20 @@ fn mark_lasting(lasting: &mut Flags, body: Body)
     }
 }
 
-/// Marks the transaction that a command marshals.
-fn mark_marshalled(marshalled: &mut Flags, body: Body)
-    ensures { (before : List Line) (l : Line) → l.body ≡ body → AreMarshalled marshalled.old before → AreMarshalled marshalled.new (l ∷ before) }
+/// Marks the transaction that a command may promote, where these have a durable or promotable.
+fn mark_promoted(promoted: &mut Flags, lasting: &Flags, body: Body)
+    ensures { (before : List Line) (l : Line) → l.body ≡ body → AreLasting lasting.now before → MayBePromoted promoted.old before → MayBePromoted promoted.new (l ∷ before) }
 {
-    if let Body::Marshal(t) = body {
-        marshalled[t.index()] = true;
+    match body {
+        Body::Marshal(t) => {
+            promoted[t.index()] = true;
+        }
+        Body::Durable(t, _, _, support) => {
+            if !support.is_single() || lasting[t.index()] {
+                promoted[t.index()] = true;
+            }
+        }
+        _ => {}
     }
 }
 
@@ -131,7 +100,7 @@ impl Kept {
     {
         Kept {
             lasting: [false; TRANSACTIONS],
-            marshalled: [false; TRANSACTIONS],
+            promoted: [false; TRANSACTIONS],
             owners: [None; ENLISTMENTS],
         }
     }
@@ -140,8 +109,8 @@ impl Kept {
     fn keep(&mut self, body: Body)
         ensures { (before : List Line) (l : Line) → l.body ≡ body → IsKept self.old before → IsKept self.new (l ∷ before) }
     {
+        mark_promoted(&mut self.promoted, &self.lasting, body);
         mark_lasting(&mut self.lasting, body);
-        mark_marshalled(&mut self.marshalled, body);
         keep_owner(&mut self.owners, body);
     }
 }
@@ -154,7 +123,7 @@ pub fn first_to_build(lines: &[Line]) -> Option<usize>
 {
     let mut kept = Kept::new();
     for (i, l) in lines.iter().enumerate() {
-        if !is_run(l.body, line_at(lines, i + 1), &kept) {
+        if !is_run(l.body, &kept) {
             return Some(i);
         }
         kept.keep(l.body);
@@ -162,9 +131,9 @@ pub fn first_to_build(lines: &[Line]) -> Option<usize>
     None
 }
 
-/// Whether each line of a script is run, as [`run_replay`](crate::run_replay) needs it: each is of this version's commands. A `durable` is run after a `marshal` of its
-/// transaction, or else where it can own the commit and is the first durable or promotable of its transaction; a `marshal` right before an `await` of its transaction,
-/// where that has no durable or promotable yet; and a `gone` where no line before it marshals the enlistment's transaction.
+/// Whether each line of a script is run, as [`run_replay`](crate::run_replay) needs it: none is a `lose`, `reenlist`, `recovered`, `stop` or `restart`, and before a `gone`
+/// no line may promote the enlistment's transaction. A `marshal` may promote its transaction, and so may a `durable` of two phases, or one that comes after another
+/// `durable` or `promotable` of its transaction.
 pub fn is_runnable(s: &Script) -> bool
     ensures { result ≡ are_run s.now }
 {

@@ -1,11 +1,12 @@
-use Rattle.std.proofs.Common.{[], inl, inr}
+use Rattle.std.proofs.Common.{◌≡◌, false, []}
 use Rattle.dtx_values.specs.declared.number.TxNo.{TxNo}
 use Rattle.dtx_model.specs.Caused.{Caused}
 use Rattle.dtx_model.specs.Traces.{history}
-use Rattle.dtx_model.specs.Words.{past_of}
+use Rattle.dtx_model.specs.Words.{has, past_of}
+use Rattle.outcome_law.specs.Severed.{is_severing}
 use Rattle.script_runner.proofs.Quieting.{quiet_faults, quiet_follows, quiet_opens, quiet_stops, unstopped_tied}
 use Rattle.script_runner.proofs.Replayed.{IsQuietReplay, called_at, quiet_replay, to_any_each, unless_rose}
-use Rattle.script_runner.proofs.Unlost.{unlost_or_unpromoted}
+use Rattle.script_runner.proofs.Unsevered.{unsevered}
 use Rattle.script_runner.proofs.replay.run_replay.Goals as goal
 
 pub returns-in-Ok-clause-recorded : goal.returns-in-Ok-clause-recorded
@@ -59,17 +60,9 @@ returns-in-Ok-clause-complete g c none =
     let r : IsQuietReplay s T = quiet_replay s _ T c.lines.ensures c.in-Ok.ensures.quiet none c.in-Ok.ensures.replayed c.in-Ok.ensures.settled c.in-Ok.ensures.calm in
     let named = c.requires.script.named in
     let caused : (t : TxNo) → Caused s 0 t.value (history t.value T) = c.replay.ensures.caused s T r.replayed r.quiet 0 (to_any_each s T 0 r) in
-    let unlost = unlost_or_unpromoted s T c.requires.script c.requires.run r.replayed r.quiet r.unstopped (λ t. (caused t).freely) in
+    let whole : (t : TxNo) → has is_severing (history t.value T) ≡ false = λ t. unsevered s T named c.requires.run r.replayed r.quiet t.value (r.unstopped t) in
     record {
-      told = λ t.
-          elim (unlost t) [
-            | inl home ↦ c.completeness.ensures.told s 0 t.value (history t.value T) named (caused t) home
-            | inr kept ↦ c.completeness.ensures.told_unlost s 0 t.value (history t.value T) named (caused t) kept
-          ];
+      told = λ t. c.completeness.ensures.told_local s 0 t.value (history t.value T) named (caused t) (whole t);
       committed = λ t asked. c.completeness.ensures.committed s 0 t.value (history t.value T) named (caused t) (r.settled t) asked;
-      answered = λ t.
-          elim (unlost t) [
-            | inl home ↦ c.completeness.ensures.answered s 0 t.value (history t.value T) named (caused t) home
-            | inr kept ↦ c.completeness.ensures.answered_unlost s 0 t.value (history t.value T) named (caused t) kept
-          ];
+      answered = λ t. c.completeness.ensures.answered_local s 0 t.value (history t.value T) named (caused t) (whole t);
     }

@@ -1,7 +1,5 @@
-use Rattle.std.proofs.Common.{◌≡◌, ◌+◌, false, true, List, [], ◌∷◌, ◌++◌, Option, Some, refl, ap, arith, sym, subst, ◌∙◌, take}
-use Rattle.std.specs.List.{slice_get}
+use Rattle.std.proofs.Common.{◌≡◌, ◌+◌, false, true, List, [], ◌∷◌, ◌++◌, refl, ap, arith, sym, subst, ◌∙◌, take}
 use Rattle.std.proofs.lemmas.List.{take_more}
-use Rattle.std.proofs.lemmas.Option.{slice_get-get_or}
 use Rattle.dtx_values.specs.declared.script.Line.{Line}
 use Rattle.dtx_model.specs.Words.{past_of}
 use Rattle.dtx_model.proofs.Histories.{past_of-snoc}
@@ -20,10 +18,8 @@ loop-i-preserved c =
     let l = c.index-lines-i.result in
     let before = past_of (take i s) in
     let more : take (i + 1) s ≡ take i s ++ l ∷ [] = take_more s i l c.loop-i-test.true ∙ ap (λ (x : Line). take i s ++ x ∷ []) (sym c.index-lines-i.is) in
-    let stands : slice_get s i ≡ Some l = slice_get-get_or {X = Line} s i l c.loop-i-test.true ∙ ap Some (sym c.index-lines-i.is) in
-    let runs : is_run before l.body (slice_get s (i + 1)) ≡ true =
-    ap (λ (o : Option Line). is_run before l.body o) (sym c.line_at.ensures) ∙ sym (c.is_run.ensures before c.loop-i.invariant.1) ∙ c.if-not-is_run.false in (
-      run_more s i l more stands runs c.loop-i.invariant.0,
+    let runs : is_run before l.body ≡ true = sym (c.is_run.ensures before c.loop-i.invariant.1) ∙ c.if-not-is_run.false in (
+      run_more s i l more runs c.loop-i.invariant.0,
       subst (λ (h : List Line). IsKept c.keep.new.self h) (sym (ap past_of more ∙ past_of-snoc (take i s) l)) (c.keep.ensures before l refl c.loop-i.invariant.1),
     )
 
@@ -35,7 +31,5 @@ returns-then-not-is_run-clause-some c =
     let s = c.args.lines.now in
     let i = c.loop-i.i in
     let l = c.index-lines-i.result in
-    let before = past_of (take i s) in
-    let fails : is_run before l.body (slice_get s (i + 1)) ≡ false =
-    ap (λ (o : Option Line). is_run before l.body o) (sym c.line_at.ensures) ∙ sym (c.is_run.ensures before c.loop-i.invariant.1) ∙ c.if-not-is_run.true in
+    let fails : is_run (past_of (take i s)) l.body ≡ false = sym (c.is_run.ensures (past_of (take i s)) c.loop-i.invariant.1) ∙ c.if-not-is_run.true in
     not_run_at s i l c.loop-i-test.true c.index-lines-i.is fails c.loop-i.invariant.0
