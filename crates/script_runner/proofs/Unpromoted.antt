@@ -33,7 +33,7 @@ use Rattle.dtx_model.proofs.Bools.{not_both, or_first, or_right, or_second}
 use Rattle.dtx_model.proofs.Reading.{has-past}
 use Rattle.outcome_law.proofs.Names.{IsCalled}
 use Rattle.outcome_law.proofs.Replays.{length-onto, lines_free, lines_uncalled, onto-onto}
-use Rattle.outcome_law.proofs.ReplayTurns.{LinesDone}
+use Rattle.outcome_law.proofs.ReplayTurns.{LineDone, LinesDone}
 use Rattle.outcome_law.proofs.Runs.{free_run}
 use Rattle.outcome_law.proofs.Scans.{has_less}
 use Rattle.outcome_law.proofs.Tests.{eq_self}
@@ -143,23 +143,26 @@ call_begins s before b t (Marshal v) xs gives none lasts =
     absurd (not_both (may_promote before t.value b) (subst (λ o. marshals_by before b o ≡ true) gives (line_marshals s before b)) none)
 call_begins s before b t _ xs gives none lasts = tt
 
--- No promotion of u began.
+-- no promotion of u began
 abbrev pub IsUnpromoted : ℕ → List Placed → Type 0
 IsUnpromoted u T = IsFree is_promoting_entry u T
 
--- none did after lines of which none may promote it
-pub lines_unpromoted : (s rest ls : List Line) (T : List Placed) (u : ℕ) → s ≡ onto rest ls → LinesDone s ls T → may_be_promoted ls u ≡ false → IsUnpromoted u T
+line_unpromoted : (s before rest : List Line) (l : Line) (start T : List Placed) (u : ℕ) → s ≡ onto (l ∷ rest) before → LinesDone s before start → LineDone s before l start T
+    → may_promote before u l.body ≡ false → IsUnpromoted u start → IsUnpromoted u T
 unfolding observe
-lines_unpromoted s rest [] T u e r none = ap (λ (U : List Placed). has is_promoting_entry (history u U)) r
-lines_unpromoted s rest (l ∷ before) T u e r none = line_free is_promoting_entry spared_unpromoting s before l r.0 T u r.2 facts earlier
+line_unpromoted s before rest l start T u split ran r own earlier = line_free is_promoting_entry spared_unpromoting s before l start T u r facts earlier
   where
-    earlier : IsUnpromoted u r.0
-    earlier = lines_unpromoted s (l ∷ rest) before r.0 u e r.1 (or_second (may_promote before u l.body) (may_be_promoted before u) none)
-
-    facts : (t : TxNo) (c : Call) → call_of s l.body ≡ Some (t, c) → (u == t.value) ≡ true → (x : Answer) → has is_promoting_entry (facts_at t.value (world_at s t r.0) c x) ≡ false
+    facts : (t : TxNo) (c : Call) → call_of s l.body ≡ Some (t, c) → (u == t.value) ≡ true → (x : Answer) → has is_promoting_entry (facts_at t.value (world_at s t start) c x) ≡ false
     facts t c gives same x =
         let at : u ≡ t.value = eqb-true u t.value same in
-        let own : may_promote before t.value l.body ≡ false = subst (λ n. may_promote before n l.body ≡ false) at (or_first (may_promote before u l.body) (may_be_promoted before u) none) in
-        let unpromoted : IsUnpromoted t.value r.0 = subst (λ n. has is_promoting_entry (history n r.0) ≡ false) at earlier in
-        facts_unpromoting t.value (world_at s t r.0) c x
-        (call_begins s before l.body t c (rows (history t.value r.0)) gives own (λ first. none_lasts s before (l ∷ rest) r.0 t e r.1 unpromoted first))
+        let here : may_promote before t.value l.body ≡ false = subst (λ n. may_promote before n l.body ≡ false) at own in
+        let unpromoted : IsUnpromoted t.value start = subst (λ n. has is_promoting_entry (history n start) ≡ false) at earlier in
+        facts_unpromoting t.value (world_at s t start) c x
+        (call_begins s before l.body t c (rows (history t.value start)) gives here (λ first. none_lasts s before (l ∷ rest) start t split ran unpromoted first))
+
+-- none did after lines of which none may promote it
+pub lines_unpromoted : (s rest ls : List Line) (T : List Placed) (u : ℕ) → s ≡ onto rest ls → LinesDone s ls T → may_be_promoted ls u ≡ false → IsUnpromoted u T
+lines_unpromoted s rest [] T u split r none = ap (λ (U : List Placed). has is_promoting_entry (history u U)) r
+lines_unpromoted s rest (l ∷ before) T u split r none =
+    line_unpromoted s before rest l r.0 T u split r.1 r.2 (or_first (may_promote before u l.body) (may_be_promoted before u) none)
+    (lines_unpromoted s (l ∷ rest) before r.0 u split r.1 (or_second (may_promote before u l.body) (may_be_promoted before u) none))

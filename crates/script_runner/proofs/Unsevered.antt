@@ -3,7 +3,6 @@
 use Rattle.std.proofs.Common.{◌≡◌, ℕ, ◌==◌, Bool, true, false, ◌&&◌, not, List, [], ◌∷◌, filter, Option, Some, None, refl, append-nil, ◌∙◌, ap, sym, subst, if◌then◌else◌}
 use Rattle.std.proofs.lemmas.Bool.{eqb-true}
 use Rattle.dtx_values.specs.declared.call.Call.{Call}
-use Rattle.dtx_values.specs.declared.entry.Answer.{Answer}
 use Rattle.dtx_values.specs.declared.entry.Entry.{Entry}
 use Rattle.dtx_values.specs.declared.entry.Entry.TheVariants.{Cut, Stopped}
 use Rattle.dtx_values.specs.declared.message.Conn.{Conn}
@@ -17,7 +16,7 @@ use Rattle.dtx_model.specs.Words.{always, each, has, onto, or_else, past_of}
 use Rattle.dtx_model.specs.Calls.{call_of, complete_call, enlistment_made, gone_call, transaction_of, transaction_with}
 use Rattle.dtx_model.specs.Grammar.{OfEnlistment, are_named_well, is_made, is_named_well, makes, same_name, uses}
 use Rattle.dtx_model.specs.Wires.{is_kept, is_open_wire}
-use Rattle.dtx_model.specs.World.{connections_of, facts_at, half, open_ones}
+use Rattle.dtx_model.specs.World.{connections_of, half, open_ones}
 use Rattle.dtx_model.specs.Caused.{IsCallOf}
 use Rattle.dtx_model.specs.Traces.{Placed, history}
 use Rattle.dtx_model.specs.Replay.{IsReplayed, world_at}
