@@ -29,6 +29,7 @@ use Rattle.script_runner.specs.Refusal.{IsReplayText}
 use Rattle.script_runner.specs.RunState.{LogGoes}
 use Rattle.tx_world.specs.AtLog.{AreLogs}
 use Rattle.script_runner.specs.Transfer.{IsPartWritten}
+use Rattle.script_runner.specs.Waits.{AreWaitsAnswered}
 use Rattle.script_runner.proofs.Replayed.{unless_rose}
 use Rattle.script_runner.proofs.RunLines.{all_run_none, one_not_run}
 
@@ -60,6 +61,7 @@ replay-of given rise honest image bytes s before rs text front reads none held t
       replay = t.replay;
       outcome = t.outcome;
       complete = t.complete;
+      waited = t.waited;
       log = λ h. (rs, held h, subst (λ (old : List CommitRecord). AreRecorded (past_of t.trace) old rs) none (t.recorded h));
     }
 
@@ -73,10 +75,11 @@ none_rose a b x y e f none rose = none (subst (λ (n : ℕ). Rose n b) e (subst 
 
 -- the text of a replay's trace is that of a replay
 pub text_of : {E : Type 0} (rise : ℕ) (honest : Bool) (before rs : List CommitRecord) (s : List Line) (T : List Placed) (r : Result (Vec ℕ Global) E) → IsHistory s 0 rise T → IsReplay s rise honest T → HasOneOutcome T
-    → IsComplete s T → (IsTrue honest → AreRecorded (past_of T) before rs) → IfOk r (λ v. v.items ≡ trace_text T) → IfOk r (λ v. IsReplayText s rise honest before rs v.items)
-text_of rise honest before rs s T (Ok v) history replay outcome complete recorded k =
-    record { trace = T; history = history; replay = replay; outcome = outcome; complete = complete; recorded = recorded; spelled = k }
-text_of rise honest before rs s T (Err e) history replay outcome complete recorded k = k
+    → IsComplete s T → AreWaitsAnswered s T → (IsTrue honest → AreRecorded (past_of T) before rs) → IfOk r (λ v. v.items ≡ trace_text T)
+    → IfOk r (λ v. IsReplayText s rise honest before rs v.items)
+text_of rise honest before rs s T (Ok v) history replay outcome complete waited recorded k =
+    record { trace = T; history = history; replay = replay; outcome = outcome; complete = complete; waited = waited; recorded = recorded; spelled = k }
+text_of rise honest before rs s T (Err e) history replay outcome complete waited recorded k = k
 
 -- A log that had no record when a run began has none of a script's transactions,
 pub none_there : (rs : List CommitRecord) → rs ≡ [] → HasNone rs

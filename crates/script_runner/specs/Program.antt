@@ -8,6 +8,7 @@ use Rattle.dtx_model.specs.Traces.{Placed}
 use Rattle.dtx_model.specs.TraceText.{trace_text}
 use Rattle.script_runner.specs.Ending.{IsLogOf}
 use Rattle.script_runner.specs.Transfer.{IsPartWritten}
+use Rattle.script_runner.specs.Waits.{AreWaitsAnswered}
 
 -- the program's words: the one word `replay`
 abbrev pub AreWords : List (List ℕ) → Type 0
@@ -15,8 +16,9 @@ AreWords ws = ws ≡ codes "replay" ∷ []
 
 -- T is a settled history of the script s that the source gave, in the order of a replay, over a disk that is honest or not, whose count of faults rose by so many: what is told is just,
 -- nobody is told the opposite of what another is told, and each transaction that can commit is committed; where commit was asked, the client was told an outcome,
--- or there is something that the transaction waits for (`told`). Where the source tells its bytes, they are that script; s is a script also where it tells nothing. Where
--- the disk is honest, the log that each image holds has a record of just the transactions that are recorded at the end.
+-- or there is something that the transaction waits for (`told`); each call that was answered `wait` got its answer, or an enlistment that was asked to promote stays silent.
+-- Where the source tells its bytes, they are that script; s is a script also where it tells nothing. Where the disk is honest, the log that each image holds has a record
+-- of just the transactions that are recorded at the end.
 pub record IsReplayOf (given : Option (List ℕ)) (rise : ℕ) (honest : Bool) (image : List ℕ → Type 0) (s : List Line) (T : List Placed) : Type 0 where
   pub read : ForSome given (λ b. Reads b s)
   pub script : IsScript s
@@ -24,6 +26,7 @@ pub record IsReplayOf (given : Option (List ℕ)) (rise : ℕ) (honest : Bool) (
   pub replay : IsReplay s rise honest T
   pub outcome : HasOneOutcome T
   pub complete : IsComplete s T
+  pub waited : AreWaitsAnswered s T
   pub log : IsTrue honest → IsLogOf image T
 
 -- the headline: there is a trace, a settled history of the script with one outcome for each transaction, and the sink, where it tells what was

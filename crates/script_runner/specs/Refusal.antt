@@ -9,6 +9,7 @@ use Rattle.dtx_model.specs.Traces.{Placed}
 use Rattle.dtx_model.specs.Words.{past_of}
 use Rattle.dtx_model.specs.TraceText.{trace_text}
 use Rattle.script_runner.specs.Ending.{AreRecorded}
+use Rattle.script_runner.specs.Waits.{AreWaitsAnswered}
 use Rattle.script_runner.specs.declared.program.Refusal.{Refusal}
 use Rattle.script_runner.specs.declared.program.Refusal.TheVariants.{Bad as BadBytes, NotYet, Memory}
 
@@ -25,5 +26,6 @@ pub record IsReplayText (s : List Line) (rise : ℕ) (honest : Bool) (before rs 
   pub replay : IsReplay s rise honest trace
   pub outcome : HasOneOutcome trace
   pub complete : IsComplete s trace
+  pub waited : AreWaitsAnswered s trace
   pub recorded : IsTrue honest → AreRecorded (past_of trace) before rs
   pub spelled : text ≡ trace_text trace

@@ -22,6 +22,7 @@ ghost use Rattle.script_runner.specs.Built.{are_run};
 ghost use Rattle.script_runner.specs.Ending.{AreRecorded, HasNone};
 ghost use Rattle.script_runner.specs.RunState.{Advances, AreBelow, HaveSameCalls, Holds, IsBelow, IsQuiet, IsSettledBelow, IsTied, IsToPlan, LogGoes, Runs, Settles, is_of_stop, state_of, untouched};
 ghost use Rattle.script_runner.specs.Scoped.{AreOnce, AreOpen, IsUnopened, calls_given, nothing_open, rollbacks, rolled_at, scopes_at};
+ghost use Rattle.script_runner.specs.Waits.{AreWaitsAnswered};
 ghost use Rattle.tx_world.specs.Entering.{is_entered_yet};
 ghost use Rattle.tx_world.specs.Left.{steps_left};
 
@@ -515,6 +516,7 @@ pub fn run_replay<D: Disk>(alloc: Global, s: &Script, log: &mut Log<D>) -> Resul
     ensures replay { (Rose (D.faults log.old.disk) (D.faults log.new.disk) → ⊥) → IfOk result (λ T. IsReplay s.now (D.faults log.new.disk - D.faults log.old.disk) D.honest T) }
     ensures outcome { (Rose (D.faults log.old.disk) (D.faults log.new.disk) → ⊥) → IfOk result (λ T. HasOneOutcome T) }
     ensures complete { (Rose (D.faults log.old.disk) (D.faults log.new.disk) → ⊥) → IfOk result (λ T. IsComplete s.now T) }
+    ensures waited { (Rose (D.faults log.old.disk) (D.faults log.new.disk) → ⊥) → IfOk result (λ T. AreWaitsAnswered s.now T) }
 {
     // These calls do nothing when they run: their bodies are empty. Each brings its law into this proof, from which the clauses follow.
     one_outcome();

@@ -66,3 +66,12 @@ returns-in-Ok-clause-complete g c none =
       committed = λ t asked. c.completeness.ensures.committed s 0 t.value (history t.value T) named (caused t) (r.settled t) asked;
       answered = λ t. c.completeness.ensures.answered_local s 0 t.value (history t.value T) named (caused t) (whole t);
     }
+
+pub returns-in-Ok-clause-waited : goal.returns-in-Ok-clause-waited
+returns-in-Ok-clause-waited g c none t =
+    let s = c.args.s.now in
+    let T = past_of c.in-Ok.trace in
+    let r : IsQuietReplay s T = quiet_replay s _ T c.lines.ensures c.in-Ok.ensures.quiet none c.in-Ok.ensures.replayed c.in-Ok.ensures.settled c.in-Ok.ensures.calm in
+    let named = c.requires.script.named in
+    let caused : Caused s 0 t.value (history t.value T) = c.replay.ensures.caused s T r.replayed r.quiet 0 (to_any_each s T 0 r) t in
+    c.completeness.ensures.waited s 0 t.value (history t.value T) named caused (unsevered s T named c.requires.run r.replayed r.quiet t.value (r.unstopped t))
