@@ -20,7 +20,7 @@ ghost use Rattle.dtx_model.specs.Faults.{Bad};
 ghost use Rattle.script_runner.specs.Program.{AreWords, IsCutShort, IsWritten};
 ghost use Rattle.script_runner.specs.Ending.{HasNone, IsLog};
 ghost use Rattle.script_runner.specs.Judged.{IsJudged};
-ghost use Rattle.script_runner.specs.RunState.{LogGoes};
+ghost use Rattle.script_runner.specs.RunState.{LogGoes, MetNoFault};
 ghost use Rattle.script_runner.specs.Refusal.{HasNoReplay, IsReplayText};
 
 use crate::exit::Exit;
@@ -78,7 +78,7 @@ fn replayed<D: Disk>(
     requires up { IsTrue log.old.is_up }
     requires unarmed { log.old.armed ≡ None }
     requires none { IsTrue D.honest → HasNone (open_records log.old.slots) }
-    ensures text { (Rose (D.faults log.old.disk) (D.faults log.new.disk) → ⊥) → IfOk result (λ text. IsReplayText script.now (D.faults log.new.disk - D.faults log.old.disk) D.honest (open_records log.old.slots) (open_records log.new.slots) text.items) }
+    ensures text { MetNoFault D.faults log.old.disk log.new.disk → IfOk result (λ text. IsReplayText script.now (D.faults log.new.disk - D.faults log.old.disk) D.honest (open_records log.old.slots) (open_records log.new.slots) text.items) }
     ensures log { LogGoes D.faults D.honest D.image log.old log.new }
 {
     let trace = run_replay(alloc, script, log)?;
@@ -130,7 +130,7 @@ pub fn run_program<S: Source, K: Sink, D: Disk>(
 
     // The headline, where the disk met no fault; the log at the end is in it, in each image that a crash can leave. A fault after the log was formatted stops the log, and
     // is no answer of its own.
-    ensures headline { result.0 ≡ Exit.Fine → (Rose (D.faults disk) (D.faults result.1) → ⊥) → IsWritten (D.faults result.1 - D.faults disk) D.honest (D.image result.1) (S.left source.old) (K.written sink.old) (K.written sink.new) }
+    ensures headline { result.0 ≡ Exit.Fine → MetNoFault D.faults disk result.1 → IsWritten (D.faults result.1 - D.faults disk) D.honest (D.image result.1) (S.left source.old) (K.written sink.old) (K.written sink.new) }
     ensures read { result.0 ≡ Exit.Fine → ForSome (S.left source.old) (λ b. S.left source.new ≡ Some []) }
 
     // Usage comes exactly by the words, and then nothing is read.
@@ -154,12 +154,12 @@ pub fn run_program<S: Source, K: Sink, D: Disk>(
     ensures write_smooth { result.0 ≢ Exit.WriteFault → K.faults sink.new ≡ K.faults sink.old }
 
     // What was written: the whole text with Fine, above; else a part of it, or nothing. The disk is touched only where the script is run.
-    ensures cut_short { result.0 ≡ Exit.WriteFault → (Rose (D.faults disk) (D.faults result.1) → ⊥) → IsCutShort (D.faults result.1 - D.faults disk) D.honest (D.image result.1) (S.left source.old) (K.written sink.old) (K.written sink.new) }
-    ensures memory { result.0 ≡ Exit.Memory → (Rose (D.faults disk) (D.faults result.1) → ⊥) → (sink.new ≡ sink.old) ⊎ IsCutShort (D.faults result.1 - D.faults disk) D.honest (D.image result.1) (S.left source.old) (K.written sink.old) (K.written sink.new) }
+    ensures cut_short { result.0 ≡ Exit.WriteFault → MetNoFault D.faults disk result.1 → IsCutShort (D.faults result.1 - D.faults disk) D.honest (D.image result.1) (S.left source.old) (K.written sink.old) (K.written sink.new) }
+    ensures memory { result.0 ≡ Exit.Memory → MetNoFault D.faults disk result.1 → (sink.new ≡ sink.old) ⊎ IsCutShort (D.faults result.1 - D.faults disk) D.honest (D.image result.1) (S.left source.old) (K.written sink.old) (K.written sink.new) }
     ensures unwritten { (result.0 ≡ Exit.Usage) ⊎ ((result.0 ≡ Exit.ReadFault) ⊎ ((result.0 ≡ Exit.LogFault) ⊎ IsJudged result.0)) → sink.new ≡ sink.old }
     ensures room { LOG_BYTES ≤ D.size result.1 }
     ensures logs { IsTrue D.honest → result.0 ≢ Exit.LogFault → (result.1 ≡ disk) ⊎ AreLogs (D.image result.1) }
-    ensures given_up { IsTrue D.honest → result.0 ≡ Exit.Memory → (Rose (D.faults disk) (D.faults result.1) → ⊥) → (result.1 ≡ disk) ⊎ IsLog (D.image result.1) }
+    ensures given_up { IsTrue D.honest → result.0 ≡ Exit.Memory → MetNoFault D.faults disk result.1 → (result.1 ≡ disk) ⊎ IsLog (D.image result.1) }
     ensures untouched { (result.0 ≡ Exit.Usage) ⊎ ((result.0 ≡ Exit.ReadFault) ⊎ IsJudged result.0) → result.1 ≡ disk }
 {
     // This does nothing when it runs. It brings in that bytes are one script or have one first bad line, and never both, so that the answer which

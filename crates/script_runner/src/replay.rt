@@ -20,7 +20,7 @@ ghost use Rattle.coordinator_log.specs.Slots.{open_records};
 ghost use Rattle.outcome_law.specs.LogQuiet.{is_log_quiet};
 ghost use Rattle.script_runner.specs.Built.{are_run};
 ghost use Rattle.script_runner.specs.Ending.{AreRecorded, HasNone};
-ghost use Rattle.script_runner.specs.RunState.{Advances, AreBelow, HaveSameCalls, Holds, IsBelow, IsQuiet, IsSettledBelow, IsTied, IsToPlan, LogGoes, Runs, Settles, is_of_stop, state_of, untouched};
+ghost use Rattle.script_runner.specs.RunState.{Advances, AreBelow, HaveSameCalls, Holds, IsBelow, IsQuiet, IsSettledBelow, IsTied, IsToPlan, LogGoes, MetNoFault, Runs, Settles, is_of_stop, state_of, untouched};
 ghost use Rattle.script_runner.specs.Scoped.{AreOnce, AreOpen, IsUnopened, calls_given, nothing_open, rollbacks, rolled_at, scopes_at};
 ghost use Rattle.script_runner.specs.Waits.{AreWaitsAnswered};
 ghost use Rattle.tx_world.specs.Entering.{is_entered_yet};
@@ -30,12 +30,12 @@ use crate::contexts::{Gives, act, contexts};
 use crate::plans::Plans;
 use coordinator_log::Log;
 use dtx_values::{ActorNo, Body, Call, Entry, Line, Place, Script, Trace, TxNo};
-use outcome_law::{completeness, crossings, lifting, one_outcome, replay};
+use outcome_law::{appends, completeness, crossings, lifting, one_outcome, replay};
 use outside::Disk;
 use scope_context::Context;
 use std::alloc::{AllocError, Global};
 use std::marker::Model;
-use tx_world::{TxWorld, WorldError};
+use tx_world::{TxWorld, WorldError, rights, untried};
 
 /// A replay under way: its script's names, its transactions and its actors' contexts by number, and its trace. Contracts see the script,
 /// the transactions, the contexts and the trace.
@@ -511,15 +511,18 @@ pub fn run_replay<D: Disk>(alloc: Global, s: &Script, log: &mut Log<D>) -> Resul
     requires unarmed { log.old.armed ≡ None }
     requires none { IsTrue D.honest → HasNone (open_records log.old.slots) }
     ensures log { LogGoes D.faults D.honest D.image log.old log.new }
-    ensures recorded { IsTrue D.honest → (Rose (D.faults log.old.disk) (D.faults log.new.disk) → ⊥) → IfOk result (λ T. AreRecorded (past_of T) (open_records log.old.slots) (open_records log.new.slots)) }
-    ensures history { (Rose (D.faults log.old.disk) (D.faults log.new.disk) → ⊥) → IfOk result (λ T. IsHistory s.now 0 (D.faults log.new.disk - D.faults log.old.disk) T) }
-    ensures replay { (Rose (D.faults log.old.disk) (D.faults log.new.disk) → ⊥) → IfOk result (λ T. IsReplay s.now (D.faults log.new.disk - D.faults log.old.disk) D.honest T) }
-    ensures outcome { (Rose (D.faults log.old.disk) (D.faults log.new.disk) → ⊥) → IfOk result (λ T. HasOneOutcome T) }
-    ensures complete { (Rose (D.faults log.old.disk) (D.faults log.new.disk) → ⊥) → IfOk result (λ T. IsComplete s.now T) }
-    ensures waited { (Rose (D.faults log.old.disk) (D.faults log.new.disk) → ⊥) → IfOk result (λ T. AreWaitsAnswered s.now T) }
+    ensures recorded { IsTrue D.honest → MetNoFault D.faults log.old.disk log.new.disk → IfOk result (λ T. AreRecorded (past_of T) (open_records log.old.slots) (open_records log.new.slots)) }
+    ensures history { MetNoFault D.faults log.old.disk log.new.disk → IfOk result (λ T. IsHistory s.now 0 (D.faults log.new.disk - D.faults log.old.disk) T) }
+    ensures replay { MetNoFault D.faults log.old.disk log.new.disk → IfOk result (λ T. IsReplay s.now (D.faults log.new.disk - D.faults log.old.disk) D.honest T) }
+    ensures outcome { MetNoFault D.faults log.old.disk log.new.disk → IfOk result (λ T. HasOneOutcome T) }
+    ensures complete { MetNoFault D.faults log.old.disk log.new.disk → IfOk result (λ T. IsComplete s.now T) }
+    ensures waited { MetNoFault D.faults log.old.disk log.new.disk → IfOk result (λ T. AreWaitsAnswered s.now T) }
 {
-    // These calls do nothing when they run: their bodies are empty. Each brings its law into this proof, from which the clauses follow.
+    // These calls do nothing when they run: their bodies are empty. Each states its law: of appends, of the right to commit, and those from which the clauses follow.
     one_outcome();
+    appends();
+    rights();
+    untried();
     crossings();
     completeness();
     replay();
