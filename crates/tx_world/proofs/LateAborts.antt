@@ -28,7 +28,8 @@ use Rattle.outcome_law.proofs.Tests.{fourth_of_four, third_of_four}
 use Rattle.outcome_law.proofs.Scans.{has_more}
 use Rattle.outcome_law.proofs.Table.{but_failed, ends_called_off, is_enlist_got, is_lost_there, is_of_conn, is_opening_got, is_there, is_volatile_conn, message_row, rule}
 use Rattle.outcome_law.proofs.Keeping.{Keeps, arrived, earlier, keeps_before, newest}
-use Rattle.outcome_law.proofs.Crossed.{got_sent, is_sent_on, same_conn_is}
+use Rattle.outcome_law.proofs.Crossed.{got_sent, is_sent_on}
+use Rattle.dtx_model.proofs.Connections.{same_is}
 use Rattle.outcome_law.proofs.Sendings.{abort_of, aborted_more, is_abort_message, sent_row}
 use Rattle.outcome_law.proofs.Recording.{came_voted_at, came_voted_stays, can_commit, can_live, can_yes, first_none, first_some, from_first, keeps_first, yes_at}
 use Rattle.outcome_law.proofs.Evident.{good_voted}
@@ -64,7 +65,7 @@ once_row _ m h w o _ = absurd cc
 
 once_at : (c : Conn) (x : Entry) (h : List Entry) → is_side c ≡ true → rule h x ≡ true → opens c x ≡ true → has (opens c) h ≡ false
 once_at c (Sent e Up m) h w r t =
-    let same : c ≡ e = same_conn_is c e (and_left (same_connection c e) (is_opening e m) t) in
+    let same : c ≡ e = same_is c e (and_left (same_connection c e) (is_opening e m) t) in
     let P : Conn → Type 0 = λ d. is_side d ≡ true in
     let R : Conn → Type 0 = λ d. has (opens d) h ≡ false in
     subst R (sym same)
@@ -92,7 +93,7 @@ ended_since c (x ∷ h) w k s o =
 -- and sends nothing more there
 late : (c : Conn) (x : Entry) (h : List Entry) → is_sendable h x ≡ true → is_sent_on c Down is_abort_message x ≡ true → is_ended c Up h ≡ false
 late c (Sent e Down m) h q z =
-    let same : c ≡ e = same_conn_is c e (and_left (same_connection c e) true (and_left (same_connection c e && true) (is_abort_message m) z)) in
+    let same : c ≡ e = same_is c e (and_left (same_connection c e) true (and_left (same_connection c e && true) (is_abort_message m) z)) in
     let P : Conn → Type 0 = λ d. is_ended d Up h ≡ false in
     subst P (sym same) (not_true (is_ended e Up h) (and_right (is_some (lost_since e h)) (not (is_ended e Up h)) (and_right (is_valid m && has_line e Down m) (can_send e Down h) q)))
 late c (Sent e Up m) h q z = absurd (never (same_connection c e) (is_abort_message m) z)

@@ -35,7 +35,8 @@ use Rattle.outcome_law.proofs.Owned.{any_hand_seen, decision_seen, has_filter}
 use Rattle.outcome_law.proofs.Rule.{is_only}
 use Rattle.outcome_law.proofs.Table.{have_come, is_there, message_row, rule}
 use Rattle.outcome_law.proofs.Keeping.{Keeps, before, fifth_of_five, keeps_before, newest, third_of_three}
-use Rattle.outcome_law.proofs.Crossed.{same_conn_is, since_opened}
+use Rattle.outcome_law.proofs.Crossed.{since_opened}
+use Rattle.dtx_model.proofs.Connections.{same_is}
 use Rattle.outcome_law.proofs.Recording.{promoting_if_promoted}
 use Rattle.outcome_law.proofs.Evident.{sealed_if_handed}
 use Rattle.outcome_law.proofs.Knowledge.{other_stays, with_other, with_own}
@@ -98,7 +99,7 @@ sent_noted e m ns k = unmapped (same_connection Begin e && (commit_tag == tag_of
         tagged : (s : Bool) → (commit_tag == tag_of m) ≡ s → ((same_connection Begin e && s) || is_seen n) ≡ true
         tagged true z =
             let P : Conn → Type 0 = λ d. same_connection Begin d ≡ true in
-            or_left (same_connection Begin e && true) (is_seen n) (and_both (same_connection Begin e) true (subst P (sym (same_conn_is e n.connection q)) here) refl)
+            or_left (same_connection Begin e && true) (is_seen n) (and_both (same_connection Begin e) true (subst P (sym (same_is e n.connection q)) here) refl)
         tagged false z =
             or_right (same_connection Begin e && false) (is_seen n)
             (and_both (is_end_of Begin n) (is_in commit_tag n.sent) here (one_tag_more commit_tag (tag_of m) n.sent (and_right (is_end_of Begin n) (is_in commit_tag (with_tag (tag_of m) n.sent)) t) z))
@@ -121,7 +122,7 @@ commit_noted e m ns s c k = has_made (is_end_of Begin) is_seen (note_sent e (tag
         and_both (is_end_of Begin n) (is_in commit_tag (with_tag (tag_of m) n.sent)) t
         (subst (λ g. is_in commit_tag (with_tag g n.sent) ≡ true) c (with_own commit_tag n.sent))
     step n false q t =
-        let P : Conn → Type 0 = λ d. is_end_of d n ≡ true in absurd (not_both (is_end_of e n) (subst P (same_conn_is Begin e s) t) q)
+        let P : Conn → Type 0 = λ d. is_end_of d n ≡ true in absurd (not_both (is_end_of e n) (subst P (same_is Begin e s) t) q)
 
 got_stays : (e : Conn) (tag : ℕ) (ns : List End) → has is_seen (map (note_got e tag) ns) ≡ has is_seen ns
 got_stays e tag ns =
