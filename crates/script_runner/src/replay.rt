@@ -20,6 +20,7 @@ ghost use Rattle.coordinator_log.specs.Slots.{open_records};
 ghost use Rattle.outcome_law.specs.LogQuiet.{is_log_quiet};
 ghost use Rattle.script_runner.specs.Built.{are_run};
 ghost use Rattle.script_runner.specs.Ending.{AreRecorded, HasNone};
+ghost use Rattle.script_runner.specs.Rights.{AreAppendsBacked, HasOneRight};
 ghost use Rattle.script_runner.specs.RunState.{Advances, AreBelow, HaveSameCalls, Holds, IsBelow, IsQuiet, IsSettledBelow, IsTied, IsToPlan, LogGoes, MetNoFault, Runs, Settles, is_of_stop, state_of, untouched};
 ghost use Rattle.script_runner.specs.Scoped.{AreOnce, AreOpen, IsUnopened, calls_given, nothing_open, rollbacks, rolled_at, scopes_at};
 ghost use Rattle.script_runner.specs.Waits.{AreWaitsAnswered};
@@ -517,15 +518,17 @@ pub fn run_replay<D: Disk>(alloc: Global, s: &Script, log: &mut Log<D>) -> Resul
     ensures outcome { MetNoFault D.faults log.old.disk log.new.disk → IfOk result (λ T. HasOneOutcome T) }
     ensures complete { MetNoFault D.faults log.old.disk log.new.disk → IfOk result (λ T. IsComplete s.now T) }
     ensures waited { MetNoFault D.faults log.old.disk log.new.disk → IfOk result (λ T. AreWaitsAnswered s.now T) }
+    ensures rights { MetNoFault D.faults log.old.disk log.new.disk → IfOk result (λ T. HasOneRight T) }
+    ensures appends { MetNoFault D.faults log.old.disk log.new.disk → IfOk result (λ T. AreAppendsBacked T) }
 {
-    // These calls do nothing when they run: their bodies are empty. Each states its law: of appends, of the right to commit, and those from which the clauses follow.
+    // These calls do nothing when they run: their bodies are empty. Each brings its law into this proof, from which the clauses follow.
     one_outcome();
-    appends();
-    rights();
-    untried();
     crossings();
     completeness();
     replay();
+    rights();
+    appends();
+    untried();
     match trace_of(alloc, s.lines(), log) {
         Ok(trace) => Ok(trace),
         Err(WorldError::Memory) => Err(AllocError),

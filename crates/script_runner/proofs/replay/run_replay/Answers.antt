@@ -1,6 +1,10 @@
-use Rattle.std.proofs.Common.{◌≡◌, false, []}
+use Rattle.std.proofs.Common.{◌≡◌, true, false, List, [], subst}
+use Rattle.dtx_values.specs.declared.entry.Entry.{Entry}
 use Rattle.dtx_values.specs.declared.number.TxNo.{TxNo}
-use Rattle.dtx_model.specs.Caused.{Caused}
+use Rattle.dtx_model.specs.Caused.{Caused, FreelyCaused, IsCallOf}
+use Rattle.dtx_model.specs.Tied.{tied}
+use Rattle.dtx_model.proofs.Bools.{or_false}
+use Rattle.outcome_law.specs.Appended.{has_append, stopped_at_append}
 use Rattle.dtx_model.specs.Traces.{history}
 use Rattle.dtx_model.specs.Words.{has, past_of}
 use Rattle.outcome_law.specs.Severed.{is_severing}
@@ -75,3 +79,33 @@ returns-in-Ok-clause-waited g c none t =
     let named = c.requires.script.named in
     let caused : Caused s 0 t.value (history t.value T) = c.replay.ensures.caused s T r.replayed r.quiet 0 (to_any_each s T 0 r) t in
     c.completeness.ensures.waited s 0 t.value (history t.value T) named caused (unsevered s T named c.requires.run r.replayed r.quiet t.value (r.unstopped t))
+
+pub returns-in-Ok-clause-rights : goal.returns-in-Ok-clause-rights
+returns-in-Ok-clause-rights g c none =
+    let s = c.args.s.now in
+    let T = past_of c.in-Ok.trace in
+    let r : IsQuietReplay s T = quiet_replay s _ T c.lines.ensures c.in-Ok.ensures.quiet none c.in-Ok.ensures.replayed c.in-Ok.ensures.settled c.in-Ok.ensures.calm in
+    let named = c.requires.script.named in
+    let caused : (t : TxNo) → Caused s 0 t.value (history t.value T) = c.replay.ensures.caused s T r.replayed r.quiet 0 (to_any_each s T 0 r) in
+    record {
+      one = λ t. c.rights.ensures.one s t.value (history t.value T) named (caused t).freely (unstopped_tied (history t.value T) (r.unstopped t));
+      seen = λ t. c.rights.ensures.placed s t (history t.value T) named (caused t).freely;
+      moves = λ t past es x split.
+          c.rights.ensures.moves s t.value past es x named (subst (λ (h : List Entry). FreelyCaused (IsCallOf s t.value) t.value h) split (caused t).freely)
+          (subst (λ (h : List Entry). tied h ≡ true) split (unstopped_tied (history t.value T) (r.unstopped t)));
+    }
+
+pub returns-in-Ok-clause-appends : goal.returns-in-Ok-clause-appends
+returns-in-Ok-clause-appends g c none =
+    let s = c.args.s.now in
+    let T = past_of c.in-Ok.trace in
+    let r : IsQuietReplay s T = quiet_replay s _ T c.lines.ensures c.in-Ok.ensures.quiet none c.in-Ok.ensures.replayed c.in-Ok.ensures.settled c.in-Ok.ensures.calm in
+    let named = c.requires.script.named in
+    let caused : (t : TxNo) → Caused s 0 t.value (history t.value T) = c.replay.ensures.caused s T r.replayed r.quiet 0 (to_any_each s T 0 r) in
+    let sound : (t : TxNo) → tied (history t.value T) ≡ true = λ t. unstopped_tied (history t.value T) (r.unstopped t) in
+    record {
+      untried = λ t aborted.
+          or_false (has_append (history t.value T)) (stopped_at_append (history t.value T)) (c.appends.ensures.unlogged s t.value (history t.value T) named (caused t).freely (sound t) aborted)
+          (c.untried.ensures s t (history t.value T) named (caused t).freely (sound t) aborted);
+      backed = λ t. c.appends.ensures.backed s t.value (history t.value T) named (caused t).freely (sound t);
+    }
