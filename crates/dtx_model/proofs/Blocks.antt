@@ -62,7 +62,7 @@ use Rattle.dtx_model.proofs.Bools.{and_right, or_right}
 use Rattle.std.proofs.lemmas.Bool.{or_left}
 use Rattle.dtx_values.specs.declared.number.TxNo.{TxNo}
 use Rattle.dtx_values.specs.declared.script.Support.{Support}
-use Rattle.dtx_model.proofs.Writes.{ByAct, ByCall, ByMessage, ByReply, IsClosed, Source, answers, is_giving, is_outcome_message, is_promotable_place, outcome_answers, writes, OfLists}
+use Rattle.dtx_model.proofs.Writes.{ByAct, ByCall, ByMessage, ByReply, IsClosed, Source, answers, is_giving, is_promotable_place, outcome_answers, OfLists, OfWritten, OfOutcomes}
 
 -- what is found is there
 place_found : (e : ℕ) (ws : List Waiter) (v : Waiter) → find (is_place_of e) ws ≡ Some v → is_promotable_place v ≡ true → has is_promotable_place ws ≡ true
@@ -143,12 +143,12 @@ module _ {P : List Entry → Type 0} (l : OfLists P) where
   of_opening c good abort refused p q r Recorded b = r 1
 
   -- what it sends where it aborts, and where it recorded the commit
-  pub of_abort_sends : (k : Coordinated) → ((c : Conn) (m : Message) → has_line c Down m ≡ true → is_outcome_message m ≡ true → P (Sent c Down m ∷ [])) → P (abort_sends k)
+  pub of_abort_sends : (k : Coordinated) → OfOutcomes P → P (abort_sends k)
   of_abort_sends k f =
       holds_join (holds_join (holds_join (of_to k Begin BeginAborted (f Begin BeginAborted refl refl)) (holds_if k.no l.none (of_to k Voter VoterAbort (f Voter VoterAbort refl refl))))
       (of_each k EnlistAbort (filter (λ d. still_hears d.ballot) k.desks) (λ e. f (Enl e) EnlistAbort refl refl))) (of_waiting k ReenlistAborted (λ e. f (Again e) ReenlistAborted refl refl))
 
-  pub of_commit_sends : (k : Coordinated) → ((c : Conn) (m : Message) → has_line c Down m ≡ true → is_outcome_message m ≡ true → P (Sent c Down m ∷ [])) → P (commit_sends k)
+  pub of_commit_sends : (k : Coordinated) → OfOutcomes P → P (commit_sends k)
   of_commit_sends k f =
       holds_join (holds_join (holds_join (of_to k Begin BeginCommitted (f Begin BeginCommitted refl refl)) (of_to k Voter VoterCommit (f Voter VoterCommit refl refl)))
       (of_each k EnlistCommit (filter (λ d. is_prepared d.ballot) k.desks) (λ e. f (Enl e) EnlistCommit refl refl))) (of_waiting k ReenlistCommitted (λ e. f (Again e) ReenlistCommitted refl refl))
@@ -170,12 +170,12 @@ module _ {P : List Entry → Type 0} (l : OfLists P) where
       (holds_if (has_aborted k.stage) (of_to (follow k (Got (Again e) Up (ReenlistReenlist i))) (Again e) ReenlistAborted (f (Again e) ReenlistAborted refl refl)) l.none)
   of_core_got id k c m f = holds_if (aborts k (Got c Up m) && is_undecided k.stage) (of_abort_sends (follow k (Got c Up m)) (λ d n t a. f d n t (outcome_answers c m n a))) l.none
 
-  pub of_core_down : (k : Coordinated) (c : Conn) → ((d : Conn) (m : Message) → has_line d Down m ≡ true → is_outcome_message m ≡ true → P (Sent d Down m ∷ [])) → P (core_down k c)
+  pub of_core_down : (k : Coordinated) (c : Conn) → OfOutcomes P → P (core_down k c)
   unfolding core_down
   of_core_down k c f = holds_if (is_early k c && is_undecided k.stage) (of_abort_sends (follow k (Ended c Up)) f) l.none
 
   -- its act, and its restart
-  pub of_appended : (k : Coordinated) (a : LogAnswer) → ((c : Conn) (m : Message) → has_line c Down m ≡ true → is_outcome_message m ≡ true → P (Sent c Down m ∷ [])) → P (Logged ∷ []) → P (LogFull ∷ []) → P (Stopped ∷ [])
+  pub of_appended : (k : Coordinated) (a : LogAnswer) → OfOutcomes P → P (Logged ∷ []) → P (LogFull ∷ []) → P (Stopped ∷ [])
       → P (appended k a)
   of_appended k Done f g n s = holds_cons Logged g (of_commit_sends (follow k Logged) f)
   of_appended k Full f g n s = holds_cons LogFull n (of_abort_sends (follow k LogFull) f)
@@ -188,7 +188,7 @@ module _ {P : List Entry → Type 0} (l : OfLists P) where
   of_freed StoppedNow f s = s
   of_freed StoppedBefore f s = s
 
-  pub of_coordinates : (k : Coordinated) (a : LogAnswer) → ((c : Conn) (m : Message) → has_line c Down m ≡ true → is_outcome_message m ≡ true → P (Sent c Down m ∷ [])) → P (Logged ∷ []) → P (LogFull ∷ []) → P (Freed ∷ [])
+  pub of_coordinates : (k : Coordinated) (a : LogAnswer) → OfOutcomes P → P (Logged ∷ []) → P (LogFull ∷ []) → P (Freed ∷ [])
       → P (Stopped ∷ []) → P (coordinates k a)
   of_coordinates k a f g n r s = holds_if (may_log k) (of_appended k a f g n s) (of_freed a r s)
 
@@ -238,7 +238,7 @@ module _ {P : List Waiter → List Entry → Type 0} (w : IsClosed P) where
   of_promoted {ws} t (Some c) p = p (identifier_of t) c
   of_promoted {ws} t None p = (w.lists ws).none
 
-  of_over : (t : ℕ) (h : Half) (ws : List Waiter) (d : Conn) (m : Message) → is_giving d m ≡ true → ((x : Entry) → writes (ByMessage ws d m) x ≡ true → P h.waits (x ∷ [])) → P h.waits (over t h)
+  of_over : (t : ℕ) (h : Half) (ws : List Waiter) (d : Conn) (m : Message) → is_giving d m ≡ true → OfWritten (ByMessage ws d m) (P h.waits) → P h.waits (over t h)
   of_over t h ws d m g f =
       holds_join (w.lists h.waits) (of_promoted t h.seen.cause (λ u c. f (Promoted u c) g)) (holds_flat (w.lists h.waits) (given t) (λ v. of_given t v (λ n u. f (Answered n (Id u)) g) (λ e i. f (Sent (Enl e) Up (EnlistEnlist i)) g)) h.waits)
 
@@ -246,11 +246,11 @@ module _ {P : List Waiter → List Entry → Type 0} (w : IsClosed P) where
   of_manager {ws} f p [] e = (w.lists ws).none
   of_manager {ws} f p (m ∷ ms) e = holds_if (w.lists ws) (e.value == m.0.value) (p e m.1) (of_manager f p ms e)
 
-  of_hand_over : (t : ℕ) (h : Half) (ws : List Waiter) (d : Conn) (m : Message) → is_giving d m ≡ true → ((x : Entry) → writes (ByMessage ws d m) x ≡ true → P h.waits (x ∷ [])) → (o : Option EnlNo) → P h.waits (hand_over t h o)
+  of_hand_over : (t : ℕ) (h : Half) (ws : List Waiter) (d : Conn) (m : Message) → is_giving d m ≡ true → OfWritten (ByMessage ws d m) (P h.waits) → (o : Option EnlNo) → P h.waits (hand_over t h o)
   of_hand_over t h ws d m g f (Some e) = of_manager (enlist_sent t) (λ e r. f (Sent (Enl e) Up (EnlistEnlist (info t e r))) g) h.managers e
   of_hand_over t h ws d m g f None = of_over t h ws d m g f
 
-  of_placed : (ws : List Waiter) (e : EnlNo) → ((x : Entry) → writes (ByMessage ws (Enl e) EnlistEnlisted) x ≡ true → P ws (x ∷ [])) → (v : Option Waiter) → find (is_place_of e.value) ws ≡ v → P ws (place_given v)
+  of_placed : (ws : List Waiter) (e : EnlNo) → OfWritten (ByMessage ws (Enl e) EnlistEnlisted) (P ws) → (v : Option Waiter) → find (is_place_of e.value) ws ≡ v → P ws (place_given v)
   of_placed ws e f (Some (n, Place i r c)) q =
       holds_cons (w.lists ws) (Enlisted i c) (f (Enlisted i c) (implied (is_promotable c) (has is_promotable_place ws) (λ t. place_found e.value ws (n, Place i r c) q t))) (f (Answered n Fine) refl)
   of_placed ws e f (Some (n, Identifier)) q = (w.lists ws).none
@@ -265,7 +265,7 @@ module _ {P : List Waiter → List Entry → Type 0} (w : IsClosed P) where
   of_begin t h BeginAborted p = of_unless h (w.decides h Aborted)
   of_begin t h _ p = of_ended h Begin
 
-  of_voter : (t : ℕ) (h : Half) (m : Message) → ((x : Entry) → writes (ByMessage h.waits Voter m) x ≡ true → P h.waits (x ∷ [])) → P h.waits (voter_arrived t h m)
+  of_voter : (t : ℕ) (h : Half) (m : Message) → OfWritten (ByMessage h.waits Voter m) (P h.waits) → P h.waits (voter_arrived t h m)
   of_voter t h VoterCreated f = of_unless h (holds_if (w.lists h.waits) (is_promoting h.seen) (of_hand_over t h h.waits Voter VoterCreated refl f h.seen.handover) (w.lists h.waits).none)
   of_voter t h (VoterRefused cause) f = of_unless h (of_veto h)
   of_voter t h VoterAsk f = (w.lists h.waits).none
@@ -273,7 +273,7 @@ module _ {P : List Waiter → List Entry → Type 0} (w : IsClosed P) where
   of_voter t h VoterAbort f = of_unless h (w.decides h Aborted)
   of_voter t h _ f = of_ended h Voter
 
-  of_enlist : (t : ℕ) (h : Half) (e : EnlNo) (m : Message) → ((x : Entry) → writes (ByMessage h.waits (Enl e) m) x ≡ true → P h.waits (x ∷ [])) → P h.waits (enlist_arrived t h e m)
+  of_enlist : (t : ℕ) (h : Half) (e : EnlNo) (m : Message) → OfWritten (ByMessage h.waits (Enl e) m) (P h.waits) → P h.waits (enlist_arrived t h e m)
   of_enlist t h e EnlistEnlisted f =
       of_unless h
       (holds_if (w.lists h.waits) (is_promoting h.seen && is_handed h.seen.handover e.value) (of_over t h h.waits (Enl e) EnlistEnlisted refl f)
@@ -284,12 +284,12 @@ module _ {P : List Waiter → List Entry → Type 0} (w : IsClosed P) where
   of_enlist t h e EnlistAbort f = holds_join (w.lists h.waits) (of_told_abort h e (f (Told (Member e) Aborted) refl)) (of_unless h (w.decides h Aborted))
   of_enlist t h e _ f = of_ended h (Enl e)
 
-  of_again : (h : Half) (e : EnlNo) (m : Message) → ((x : Entry) → writes (ByMessage h.waits (Again e) m) x ≡ true → P h.waits (x ∷ [])) → P h.waits (again_arrived h e m)
+  of_again : (h : Half) (e : EnlNo) (m : Message) → OfWritten (ByMessage h.waits (Again e) m) (P h.waits) → P h.waits (again_arrived h e m)
   of_again h e ReenlistCommitted f = f (Told (Member e) Committed) refl
   of_again h e ReenlistAborted f = f (Told (Member e) Aborted) refl
   of_again h e _ f = of_ended h (Again e)
 
-  pub of_arrived : (t : ℕ) (h : Half) (c : Conn) (m : Message) → ((x : Entry) → writes (ByMessage h.waits c m) x ≡ true → P h.waits (x ∷ [])) → P h.waits (arrived t h c m)
+  pub of_arrived : (t : ℕ) (h : Half) (c : Conn) (m : Message) → OfWritten (ByMessage h.waits c m) (P h.waits) → P h.waits (arrived t h c m)
   of_arrived t h Begin m f = of_begin t h m (f (Sent Voter Up (VoterVoter (identifier_of t))) refl)
   of_arrived t h Voter m f = of_voter t h m f
   of_arrived t h (Enl e) m f = of_enlist t h e m f
@@ -308,7 +308,7 @@ module _ {P : List Waiter → List Entry → Type 0} (w : IsClosed P) where
   pub of_commit_sent : (ws : List Waiter) (o : Observed) → P ws (Sent Begin Up BeginCommit ∷ []) → P ws (commit_sent o)
   of_commit_sent ws o p = holds_if (w.lists ws) (o.promoted && not (is_some (promotable_in o.table))) (of_up o Begin BeginCommit p) (w.lists ws).none
 
-  module _ (Q : List Entry → Type 0) (h : Half) (f : (x : Entry) → writes (ByAct (is_some h.seen.decided)) x ≡ true → P h.waits (x ∷ [])) (g : OfKinds h (P h.waits) Q) where
+  module _ (Q : List Entry → Type 0) (h : Half) (f : OfWritten (ByAct (is_some h.seen.decided)) (P h.waits)) (g : OfKinds h (P h.waits) Q) where
     of_after_seal : {es : List Entry} → P h.waits es → P h.waits (after_seal h es)
     of_after_seal {es} p = by (next_ask h.seen.table false)
       where
@@ -374,7 +374,7 @@ module _ {P : List Waiter → List Entry → Type 0} (w : IsClosed P) where
         by None d = of_undecided_act d (unasked_promotable h.seen) refl
 
   -- the act as a whole
-  pub of_whole_act : (h : Half) → ((x : Entry) → writes (ByAct (is_some h.seen.decided)) x ≡ true → P h.waits (x ∷ [])) → ((e : EnlNo) → P h.waits (Asked e Promote ∷ [])) → ((e : EnlNo) → P h.waits (Asked e AskSingle ∷ [])) → P h.waits (Sealed ∷ [])
+  pub of_whole_act : (h : Half) → OfWritten (ByAct (is_some h.seen.decided)) (P h.waits) → ((e : EnlNo) → P h.waits (Asked e Promote ∷ [])) → ((e : EnlNo) → P h.waits (Asked e AskSingle ∷ [])) → P h.waits (Sealed ∷ [])
       → P h.waits (Sent Begin Up BeginCommit ∷ []) → P h.waits (act_entries h)
   of_whole_act h f p q s c =
       of_act (P h.waits) h f (record { rest = λ es r. r; promote = λ e d a b. p e; single = λ e d a b i. q e; seal = λ d a b. holds_cons (w.lists h.waits) Sealed s (of_commit_sent h.waits h.seen c) })
@@ -387,7 +387,7 @@ module _ {P : List Waiter → List Entry → Type 0} (w : IsClosed P) where
   of_ack ws o (Some (Again e)) p q = of_up o (Again e) ReenlistAck (q e)
   of_ack ws o None p q = (w.lists ws).none
 
-  of_vote_message : {ws : List Waiter} (s : Source) → ((x : Entry) → writes s x ≡ true → P ws (x ∷ [])) → (e : EnlNo) (v : Vote) → P ws (Sent (Enl e) Up (vote_message v) ∷ [])
+  of_vote_message : {ws : List Waiter} (s : Source) → OfWritten s (P ws) → (e : EnlNo) (v : Vote) → P ws (Sent (Enl e) Up (vote_message v) ∷ [])
   of_vote_message {ws} s f e Yes = f (Sent (Enl e) Up EnlistPrepared) refl
   of_vote_message {ws} s f e No = f (Sent (Enl e) Up EnlistNo) refl
   of_vote_message {ws} s f e VoteDone = f (Sent (Enl e) Up EnlistReadonly) refl
@@ -397,16 +397,16 @@ module _ {P : List Waiter → List Entry → Type 0} (w : IsClosed P) where
   of_request_message {ws} p Aborted = (w.abort ws)
   of_request_message {ws} p InDoubt = p
 
-  of_owner : (h : Half) (e : EnlNo) (x : Outcome) (n : Option Note) → ((y : Entry) → writes (ByReply (OwnerReply x)) y ≡ true → P h.waits (y ∷ [])) → P h.waits (owner_entries h e x n)
+  of_owner : (h : Half) (e : EnlNo) (x : Outcome) (n : Option Note) → OfWritten (ByReply (OwnerReply x)) (P h.waits) → P h.waits (owner_entries h e x n)
   of_owner h e x (Some Single) f =
       holds_cons (w.lists h.waits) (Requested e (request_of x)) (f (Requested e (request_of x)) refl) (of_up h.seen Begin (request_message x) (of_request_message (f (Sent Begin Up BeginCommit) refl) x))
   of_owner h e x _ f = holds_cons (w.lists h.waits) (OwnerAnswered e x) (f (OwnerAnswered e x) refl) (w.decides h x)
 
-  of_promote : (h : Half) (e : EnlNo) (ok : Bool) → ((x : Entry) → writes (ByReply (Promotes ok)) x ≡ true → P h.waits (x ∷ [])) → P h.waits (promote_entries h e ok)
+  of_promote : (h : Half) (e : EnlNo) (ok : Bool) → OfWritten (ByReply (Promotes ok)) (P h.waits) → P h.waits (promote_entries h e ok)
   of_promote h e true f = holds_cons (w.lists h.waits) (PromoteReply e true) (f (PromoteReply e true) refl) (f (Sent Begin Up BeginBegin) refl)
   of_promote h e false f = holds_cons (w.lists h.waits) (PromoteReply e false) (f (PromoteReply e false) refl) (of_veto (sees h (PromoteReply e false)))
 
-  pub of_reply : (h : Half) (e : EnlNo) (r : Reply) → ((x : Entry) → writes (ByReply r) x ≡ true → P h.waits (x ∷ [])) → P h.waits (reply_entries h e r)
+  pub of_reply : (h : Half) (e : EnlNo) (r : Reply) → OfWritten (ByReply r) (P h.waits) → P h.waits (reply_entries h e r)
   unfolding reply_entries
   of_reply h e (VoteReply v) f =
       holds_cons (w.lists h.waits) (Voted e v) (f (Voted e v) refl)
@@ -421,7 +421,7 @@ module _ {P : List Waiter → List Entry → Type 0} (w : IsClosed P) where
   of_begin_promotion h (Some c) p q = holds_cons (w.lists h.waits) (Promoting c) (p c) (holds_if (w.lists h.waits) (has (λ x. is_promotable x.class) h.seen.table) (w.lists h.waits).none q)
   of_begin_promotion h None p q = (w.lists h.waits).none
 
-  of_durable : (t : ℕ) (h : Half) (u : TxNo) (e : EnlNo) (r : RmNo) (s : Support) (single : Bool) (a : Answer) → ((x : Entry) → writes (ByCall (Durable u e r s)) x ≡ true → P h.waits (x ∷ [])) → P h.waits (durable_facts t h e r single a)
+  of_durable : (t : ℕ) (h : Half) (u : TxNo) (e : EnlNo) (r : RmNo) (s : Support) (single : Bool) (a : Answer) → OfWritten (ByCall (Durable u e r s)) (P h.waits) → P h.waits (durable_facts t h e r single a)
   of_durable t h u e r s single Wait f =
       holds_if (w.lists h.waits) h.seen.promoted (f (Sent (Enl e) Up (EnlistEnlist (info t e r))) refl)
       (holds_if (w.lists h.waits) (is_promoting h.seen) (w.lists h.waits).none (of_begin_promotion h (cause_of h.seen.table single) (λ c. f (Promoting c) refl) (f (Sent Begin Up BeginBegin) refl)))
@@ -430,7 +430,7 @@ module _ {P : List Waiter → List Entry → Type 0} (w : IsClosed P) where
   of_time_up : (h : Half) → P h.waits (Late ∷ []) → P h.waits (TimedOut ∷ []) → P h.waits (time_up h)
   of_time_up h p q = holds_if (w.lists h.waits) (is_late h.seen) p (holds_cons (w.lists h.waits) TimedOut q (of_veto h))
 
-  pub of_facts : (t : ℕ) (h : Half) (c : Call) (a : Answer) → ((x : Entry) → writes (ByCall c) x ≡ true → P h.waits (x ∷ [])) → P h.waits (local_facts t h c a)
+  pub of_facts : (t : ℕ) (h : Half) (c : Call) (a : Answer) → OfWritten (ByCall c) (P h.waits) → P h.waits (local_facts t h c a)
   of_facts t h (BeginCall u d) a f = f (Began (limit_of d)) refl
   of_facts t h (Volatile u e x v) a f = f (Enlisted e (class_of x)) (volatile_option x false)
   of_facts t h (Durable u e r s) a f = of_durable t h u e r s (is_single s) a f
@@ -462,7 +462,7 @@ module _ {P : List Waiter → List Entry → Type 0} (w : IsClosed P) where
   of_reenlist ws t (Some b) p q = holds_cons (w.lists ws) (Reenlisted b.enlistment) (p b.enlistment) (q b.enlistment (info t b.enlistment b.manager))
   of_reenlist ws t None p q = (w.lists ws).none
 
-  of_facts_at : (t : ℕ) (v : World) (c : Call) (a : Answer) → ((x : Entry) → writes (ByCall c) x ≡ true → P (half v).waits (x ∷ [])) → ((c : Conn) (n m : ℕ) → P (half v).waits (Cut c n m ∷ [])) → ((r : RmNo) → P (half v).waits (RecoveredEntry r ∷ []))
+  of_facts_at : (t : ℕ) (v : World) (c : Call) (a : Answer) → OfWritten (ByCall c) (P (half v).waits) → ((c : Conn) (n m : ℕ) → P (half v).waits (Cut c n m ∷ [])) → ((r : RmNo) → P (half v).waits (RecoveredEntry r ∷ []))
       → P (half v).waits (facts_at t v c a)
   of_facts_at t v (Lose u c n m) a f p q = p c (min n (on_the_way c Up v.past)) (min m (on_the_way c Down v.past))
   of_facts_at t v (Gone e) a f p q = of_gone v e (open_ones v e) (f (LostEntry e) refl) p
@@ -471,7 +471,7 @@ module _ {P : List Waiter → List Entry → Type 0} (w : IsClosed P) where
   of_facts_at t v c a f p q = of_facts t (half v) c a f
 
   -- what stands after the entry of the call
-  pub of_called : (t : ℕ) (v : World) (c : Call) (a : Answer) → ((x : Entry) → writes (ByCall c) x ≡ true → P (half v).waits (x ∷ [])) → ((c : Conn) (n m : ℕ) → P (half v).waits (Cut c n m ∷ [])) → ((r : RmNo) → P (half v).waits (RecoveredEntry r ∷ []))
+  pub of_called : (t : ℕ) (v : World) (c : Call) (a : Answer) → OfWritten (ByCall c) (P (half v).waits) → ((c : Conn) (n m : ℕ) → P (half v).waits (Cut c n m ∷ [])) → ((r : RmNo) → P (half v).waits (RecoveredEntry r ∷ []))
       → P (half v).waits (facts_if (has_facts a) (facts_at t v c a))
   of_called t v c a f p q = by (has_facts a)
     where

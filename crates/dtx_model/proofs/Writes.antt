@@ -9,7 +9,7 @@ use Rattle.dtx_values.specs.declared.entry.Entry.{Entry}
 use Rattle.dtx_values.specs.declared.entry.Entry.TheVariants.{Answered, Began, Cloned, Completed, Enlisted, Init, CommitAsked, RollbackAsked, Clock, TimedOut, Late, Asked, Voted, PromoteReply, Requested, Handed, OwnerAnswered, LocalYes, Decided, Told, Promoting, Promoted, PromotionFailed, Sent, Lost as LostEntry, Reenlisted, Acked}
 use Rattle.dtx_values.specs.declared.message.Conn.{Conn}
 use Rattle.dtx_values.specs.declared.message.Conn.TheVariants.{Begin, Voter, Enl, Again}
-use Rattle.dtx_values.specs.declared.message.Dir.TheVariants.{Up}
+use Rattle.dtx_values.specs.declared.message.Dir.TheVariants.{Up, Down}
 use Rattle.dtx_values.specs.declared.message.Message.{Message}
 use Rattle.dtx_values.specs.declared.message.Message.TheVariants.{BeginBegin, BeginCommit, BeginAbort, BeginBegun, BeginCommitted, BeginAborted, VoterVoter, VoterNo, VoterYes, VoterCreated, VoterAsk, VoterCommit, VoterAbort, EnlistEnlist, EnlistPrepared, EnlistNo, EnlistReadonly, EnlistAck, EnlistEnlisted, EnlistPrepare, EnlistCommit, EnlistAbort, ReenlistReenlist, ReenlistAck, ReenlistCommitted, ReenlistAborted}
 use Rattle.dtx_values.specs.declared.note.Reply.{Reply}
@@ -307,3 +307,11 @@ outcome_answers c m EnlistAbort t = refl
 outcome_answers c m ReenlistCommitted t = refl
 outcome_answers c m ReenlistAborted t = refl
 outcome_answers c m _ t = absurd cc
+
+-- P holds of each entry that the source may write,
+abbrev pub OfWritten : Source → (List Entry → Type 0) → Type 0
+OfWritten s P = (x : Entry) → writes s x ≡ true → P (x ∷ [])
+
+-- and of each message of the coordinator that tells an outcome.
+abbrev pub OfOutcomes : (List Entry → Type 0) → Type 0
+OfOutcomes P = (c : Conn) (m : Message) → has_line c Down m ≡ true → is_outcome_message m ≡ true → P (Sent c Down m ∷ [])

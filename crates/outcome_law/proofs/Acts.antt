@@ -30,7 +30,7 @@ use Rattle.dtx_model.specs.Replies.{fits}
 use Rattle.dtx_model.proofs.Narrow.{reply_entries, hears_abort, is_to_tell, commit_act, before_seal, after_seal, undecided_act, act_by}
 use Rattle.dtx_model.proofs.NarrowReplies.{IsDue}
 use Rattle.dtx_values.specs.Waves.{all_voted, hears, may_be_asked, name_of, next_ask, zeros_voted, is_over}
-use Rattle.dtx_model.specs.Half.{is_handed}
+use Rattle.dtx_model.specs.Half.{is_handed, is_aborted}
 use Rattle.dtx_model.specs.Acts.{tell}
 use Rattle.dtx_model.proofs.Bools.{and_left, and_right, and_both, or_right, not_true, not_false, three_hold}
 use Rattle.outcome_law.proofs.Tests.{four_hold, five_hold, eq_self}
@@ -118,22 +118,25 @@ same_self InDoubt = refl
 told_rule : (h : List Entry) (x : Outcome) → latest decision_of h ≡ Some x → is_decided x (latest decision_of h) ≡ true
 told_rule h x e = ap (is_decided x) e ∙ same_self x
 
+-- still to be told: it wasn't, and it is a volatile that hears, or passes a where the outcome is aborted
+abbrev pub hears_by : List Entry → Outcome → (Listener → Bool) → Listener → Bool
+hears_by h x a l = not l.told && (hears (rows h) l.enlistment.value || (is_aborted x && a l))
+
 -- whoever is to be told may hear the outcome
-to_tell_well : (h : List Entry) (x : Outcome) → passes (λ l. is_certain x || hears_doubt h (Enl l.enlistment)) (find (is_to_tell (observe h) x) (listeners h)) ≡ true
-unfolding observe
-to_tell_well h x =
-    found_well (is_to_tell (observe h) x) (λ l. is_certain x || hears_doubt h (Enl l.enlistment)) (listeners h)
-    (each_from_at (λ l. not (is_to_tell (observe h) x l) || (is_certain x || hears_doubt h (Enl l.enlistment))) (listeners h) (λ k l e. well h x l))
+pub to_tell_well : (h : List Entry) (x : Outcome) (a : Listener → Bool) → passes (λ l. is_certain x || hears_doubt h (Enl l.enlistment)) (find (hears_by h x a) (listeners h)) ≡ true
+to_tell_well h x a =
+    found_well (hears_by h x a) (λ l. is_certain x || hears_doubt h (Enl l.enlistment)) (listeners h)
+    (each_from_at (λ l. not (hears_by h x a l) || (is_certain x || hears_doubt h (Enl l.enlistment))) (listeners h) (λ k l e. well h x l))
   where
     in_doubt : (t b c q : Bool) → (b ≡ true → q ≡ true) → (not (not t && (b || (false && c))) || q) ≡ true
     in_doubt true b c q f = refl
     in_doubt false true c q f = f refl
     in_doubt false false c q f = refl
 
-    well : (h : List Entry) (x : Outcome) (l : Listener) → (not (is_to_tell (observe h) x l) || (is_certain x || hears_doubt h (Enl l.enlistment))) ≡ true
-    well h Committed l = or_right (not (is_to_tell (observe h) Committed l)) true refl
-    well h Aborted l = or_right (not (is_to_tell (observe h) Aborted l)) true refl
-    well h InDoubt l = in_doubt l.told (hears (rows h) l.enlistment.value) (hears_abort (observe h) l) (hears_doubt h (Enl l.enlistment)) (volatile_hears h l.enlistment)
+    well : (h : List Entry) (x : Outcome) (l : Listener) → (not (hears_by h x a l) || (is_certain x || hears_doubt h (Enl l.enlistment))) ≡ true
+    well h Committed l = or_right (not (hears_by h Committed a l)) true refl
+    well h Aborted l = or_right (not (hears_by h Aborted a l)) true refl
+    well h InDoubt l = in_doubt l.told (hears (rows h) l.enlistment.value) (a l) (hears_doubt h (Enl l.enlistment)) (volatile_hears h l.enlistment)
 
 -- what is told keeps it
 tell_keeps : (h : List Entry) (x : Outcome) (l : Option Listener) (t : Option Outcome) → IsKept h → is_decided x (latest decision_of h) ≡ true
@@ -291,7 +294,7 @@ undecided_keeps h true true xs ys k f g = g refl refl
 -- the local act keeps it
 pub act_keeps : (h : List Entry) (d : Option Outcome) → latest decision_of h ≡ d → IsKept h → IsKept (onto h (act_by d (observe h)))
 unfolding observe
-act_keeps h (Some x) e k = tell_keeps h x (find (is_to_tell (observe h) x) (listeners h)) _ k (told_rule h x e) (to_tell_well h x)
+act_keeps h (Some x) e k = tell_keeps h x (find (is_to_tell (observe h) x) (listeners h)) _ k (told_rule h x e) (to_tell_well h x (hears_abort (observe h)))
 act_keeps h None e k =
     let d = undecided h e in
     undecided_keeps h (has is_commit h) (has is_sealed h) _ _ k

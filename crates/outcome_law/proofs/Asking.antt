@@ -29,7 +29,6 @@ use Rattle.dtx_model.specs.declared.desk.Desk.{Desk}
 use Rattle.dtx_model.specs.Words.{always, each, has, onto}
 use Rattle.dtx_model.specs.Entries.{is_commit_got, is_decision, is_promoted, is_sealed}
 use Rattle.dtx_model.specs.Observed.{Observed, is_request, observe, rows}
-use Rattle.dtx_model.specs.Outcome.{enlisted}
 use Rattle.dtx_model.specs.Promotes.{identifier_of, is_promoting}
 use Rattle.dtx_model.specs.Wires.{MayCross, in_transit}
 use Rattle.dtx_model.specs.Coordinated.{Coordinated, accepts, ballot_of, coordinate, core_got, desk_number, follow, is_active, is_desk_of, is_prepared, may_log, to, to_each, unacked, with_ack, with_ballot}
@@ -56,6 +55,7 @@ use Rattle.outcome_law.proofs.OnceSent.{first_got, is_first_sent}
 use Rattle.outcome_law.proofs.BareBlocks.{Bare, Requests, Seals, act_kind, bare_appended, bare_called, bare_cons, bare_core_got, bare_ended_at, bare_freed, bare_if, bare_local_got, bare_one, bare_restarted, is_bare, reply_kind}
 use Rattle.dtx_model.proofs.Quiet.{takes_next}
 use Rattle.outcome_law.proofs.Messages.{COMMIT, PREPARE}
+use Rattle.outcome_law.proofs.Debts.{has_promotable}
 
 no : false ≡ true → ⊥
 no e = absurd cc
@@ -63,9 +63,6 @@ no e = absurd cc
 -- COMMIT is sent; PREPARE is sent to this enlistment
 abbrev pub is_commit_sent : Entry → Bool
 is_commit_sent x = is_sent_on Begin Up COMMIT x
-
-abbrev pub has_promotable : List Entry → Bool
-has_promotable h = has (λ x. is_promotable x.1) (enlisted h)
 
 -- where COMMIT is sent it was requested, or nothing is promotable
 abbrev pub is_lone : List Entry → Entry → Bool

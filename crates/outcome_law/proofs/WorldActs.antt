@@ -14,13 +14,13 @@ use Rattle.dtx_values.specs.declared.number.EnlNo.{EnlNo}
 use Rattle.dtx_values.specs.declared.number.RmNo.{RmNo}
 use Rattle.dtx_values.specs.declared.row.Row.{Row}
 use Rattle.dtx_values.specs.declared.words.Outcome.{Outcome}
-use Rattle.dtx_values.specs.declared.words.Outcome.TheVariants.{Committed, Aborted, InDoubt}
+use Rattle.dtx_values.specs.declared.words.Outcome.TheVariants.{Committed}
 use Rattle.dtx_values.specs.Class.{is_class, is_volatile}
 use Rattle.dtx_values.specs.Clones.{blocks, is_open_block}
 use Rattle.dtx_values.specs.Ends.{tag_of, was_got}
 use Rattle.dtx_values.specs.Owners.{owner_of}
 use Rattle.dtx_values.specs.Row.{is_marked}
-use Rattle.dtx_values.specs.Waves.{all_voted, hears, is_over, may_be_asked, name_of, next_ask, zeros_voted}
+use Rattle.dtx_values.specs.Waves.{all_voted, is_over, may_be_asked, name_of, next_ask, zeros_voted}
 use Rattle.dtx_model.specs.declared.listener.Listener.{Listener}
 use Rattle.dtx_model.specs.Words.{all_of, each, has, latest, onto}
 use Rattle.dtx_model.specs.Entries.{clone_of, decision_of, handed_of, is_any_hand, is_asked, is_commit, is_decision, is_good_vote, is_promoted, is_sealed, is_vote, is_yes}
@@ -37,7 +37,7 @@ use Rattle.outcome_law.proofs.Scans.{each_both}
 use Rattle.outcome_law.proofs.Picks.{each_from_at, found_well, none_each, passes}
 use Rattle.outcome_law.proofs.Rule.{all_complete, is_certain, is_decided, is_only, zeros_cast}
 use Rattle.outcome_law.proofs.Rules.{undecided}
-use Rattle.outcome_law.proofs.Owned.{any_hand_seen, volatile_hears}
+use Rattle.outcome_law.proofs.Owned.{any_hand_seen}
 use Rattle.outcome_law.proofs.Going.{all_closed}
 use Rattle.outcome_law.proofs.Table.{decision_row, ends_again, ends_with, hears_decision, hears_here, is_again, is_ask_got, is_settled_there, rule, stands_volatile, volatiles_well}
 use Rattle.outcome_law.proofs.Keeping.{Keeps}
@@ -48,7 +48,7 @@ use Rattle.outcome_law.proofs.HalfOwner.{owner_none, owner_only}
 use Rattle.outcome_law.proofs.Deciding.{decide_decides, decide_keeps, decided_there, seen_half}
 use Rattle.outcome_law.proofs.Undecided.{Stands, decided_stand, goes_on, is_willing, promotes_on, stand, way_unsealed}
 use Rattle.outcome_law.proofs.HalfReplies.{to_up_stands}
-use Rattle.outcome_law.proofs.Acts.{same_self, close_step, shut_step, each_filter, asked_volatile, row_volatile}
+use Rattle.outcome_law.proofs.Acts.{same_self, close_step, shut_step, each_filter, asked_volatile, row_volatile, to_tell_well}
 
 -- the history doesn't end with a message on the connection of a reenlistment: what it brings is told in its block
 abbrev pub IsToldOn : List Entry → Type 0
@@ -63,22 +63,6 @@ told_row h p x t d q =
     or_right (hears_here h p x) (hears_decision h p x)
     (and_both (is_decided x (latest decision_of h) && (is_certain x || hears_doubt h p)) (not (ends_again h p))
     (and_both (is_decided x (latest decision_of h)) (is_certain x || hears_doubt h p) (ap (is_decided x) d ∙ same_self x) q) (not_false (ends_again h p) (told_on h p t)))
-
-to_tell_well : (h : List Entry) (x : Outcome) → passes (λ l. is_certain x || hears_doubt h (Enl l.enlistment)) (find (is_to_tell (observe h) x) (listeners h)) ≡ true
-unfolding observe
-to_tell_well h x =
-    found_well (is_to_tell (observe h) x) (λ l. is_certain x || hears_doubt h (Enl l.enlistment)) (listeners h)
-    (each_from_at (λ l. not (is_to_tell (observe h) x l) || (is_certain x || hears_doubt h (Enl l.enlistment))) (listeners h) (λ k l e. well h x l))
-  where
-    in_doubt : (t b c q : Bool) → (b ≡ true → q ≡ true) → (not (not t && (b || (false && c))) || q) ≡ true
-    in_doubt true b c q f = refl
-    in_doubt false true c q f = f refl
-    in_doubt false false c q f = refl
-
-    well : (h : List Entry) (x : Outcome) (l : Listener) → (not (is_to_tell (observe h) x l) || (is_certain x || hears_doubt h (Enl l.enlistment))) ≡ true
-    well h Committed l = or_right (not (is_to_tell (observe h) Committed l)) true refl
-    well h Aborted l = or_right (not (is_to_tell (observe h) Aborted l)) true refl
-    well h InDoubt l = in_doubt l.told (hears (rows h) l.enlistment.value) (hears_abort (observe h) l) (hears_doubt h (Enl l.enlistment)) (volatile_hears h l.enlistment)
 
 tell_stands : (h : List Entry) (x : Outcome) (l : Option Listener) (t : Option Outcome) → Stands h → IsToldOn h → latest decision_of h ≡ Some x
     → passes (λ l. is_certain x || hears_doubt h (Enl l.enlistment)) l ≡ true → Stands (onto h (tell x l t))
@@ -281,5 +265,5 @@ unfolding act_entries observe
 act_stands w k t = step (latest decision_of w.past) refl
   where
     step : (d : Option Outcome) → latest decision_of w.past ≡ d → Stands (onto w.past (act_by d (half w)))
-    step (Some x) e = tell_stands w.past x (find (is_to_tell (observe w.past) x) (listeners w.past)) (half w).seen.told_client k t e (to_tell_well w.past x)
+    step (Some x) e = tell_stands w.past x (find (is_to_tell (observe w.past) x) (listeners w.past)) (half w).seen.told_client k t e (to_tell_well w.past x (hears_abort (observe w.past)))
     step None e = undecided_stands w.past (waiting w.calls w.past) (managed w.calls w.past) (unasked_promotable (observe w.past)) k (undecided w.past e)

@@ -21,8 +21,8 @@ use oletx_session::{Delivered, Session};
 use std::alloc::{AllocError, Global};
 use std::marker::Model;
 
-/// So many entries most histories have room in, with that for the next step: a history that outgrew its first room would be copied.
-const MOSTLY: usize = 4 * (ROOM + 2);
+/// The first room of a history, in entries. Most histories are shorter, with the room for their next step, so they are never copied.
+const FIRST_ROOM: usize = 4 * (ROOM + 2);
 
 /// The history of one transaction, and its connections. What is on the way there is what the history says.
 #[derive(Drop)]
@@ -136,7 +136,7 @@ impl History {
         ensures { IfOk result (λ h. h.past ≡ []) }
     {
         Ok(History {
-            entries: Vec::with_capacity(alloc, MOSTLY)?,
+            entries: Vec::with_capacity(alloc, FIRST_ROOM)?,
             session: Session::new(alloc)?,
         })
     }
