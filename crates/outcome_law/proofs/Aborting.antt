@@ -1,7 +1,7 @@
 -- Where the local side decided an abort, or the coordinator aborted, no evidence stands, then or later.
 use Rattle.std.proofs.Common.{◌≡◌, ℕ, ◌==◌, Bool, true, false, ◌&&◌, ◌||◌, ◌⊎◌, inl, inr, List, [], ◌∷◌, Some, refl, subst, ◌∙◌}
 use Rattle.std.specs.Prelude.{not}
-use Rattle.std.proofs.lemmas.Bool.{eqb-true, false_from_ne_true}
+use Rattle.std.proofs.lemmas.Bool.{eqb-true, false_from_ne_true, or_left}
 use Rattle.dtx_values.specs.declared.entry.Entry.{Entry}
 use Rattle.dtx_values.specs.declared.entry.Entry.TheVariants.{CommitAsked, Decided, Down as End, Got, LocalYes, LogFull, Lost, OwnerAnswered, PromoteReply, PromotionFailed, Requested, Restarted, RollbackAsked, TimedOut, Voted}
 use Rattle.dtx_values.specs.declared.number.EnlNo.{EnlNo}
@@ -9,7 +9,7 @@ use Rattle.dtx_values.specs.declared.words.Class.{Class}
 use Rattle.dtx_values.specs.declared.words.Outcome.{Outcome}
 use Rattle.dtx_values.specs.declared.words.Outcome.TheVariants.{Committed, Aborted, InDoubt}
 use Rattle.dtx_values.specs.declared.words.Vote.TheVariants.{Yes, No, Done}
-use Rattle.dtx_model.specs.Words.{each, has, latest}
+use Rattle.dtx_model.specs.Words.{each, ever, has, latest}
 use Rattle.dtx_model.specs.Entries.{decision_of, is_asked, is_commit, is_decision, is_good_vote, is_hand, is_lost, is_owner, is_promoted, is_record, is_sealed, is_vote, is_yes}
 use Rattle.dtx_model.specs.Outcome.{by_log, by_owner, by_seal, can_own, durables, evidence, is_empty, is_first_veto, is_veto, owner_committed, ready, voters}
 use Rattle.dtx_model.specs.Learned.{coordinator_aborted}
@@ -25,9 +25,15 @@ use Rattle.outcome_law.proofs.Recording.{came_voted, commit_if_sealed, live_if_r
 use Rattle.outcome_law.proofs.Evident.{evidence_same, evident_record, good_voted, not_after, sealed_if_evident, unsealed_open}
 use Rattle.outcome_law.proofs.Vetoing.{aborted_promoting, refusal_aborted, told_aborted}
 
--- an enlistment came to the coordinator, and is lost without a vote
+-- the entry loses this enlistment, whose ENLIST the coordinator got before
+abbrev pub loses_there : ℕ → List Entry → Entry → Bool
+loses_there e past (Lost f) = (e == f.value) && has (is_enlist_got e) past
+loses_there e past _ = false
+
+-- an enlistment came to the coordinator, and then was lost without a vote
 pub record IsGone (h : List Entry) : Type 0 where
   pub name : EnlNo
+  pub after : ever (loses_there name.value) h ≡ true
   pub came : has (is_enlist_got name.value) h ≡ true
   pub lost : has (is_lost name.value) h ≡ true
   pub silent : has (is_vote name.value) h ≡ false
@@ -57,6 +63,7 @@ barred_more x h r n (inr (inl y)) = inr (inl (or_false (is_yes x) (has is_yes h)
 barred_more x h r n (inr (inr g)) =
     inr (inr (record {
       name = g.name;
+      after = or_right (loses_there g.name.value h x) (ever (loses_there g.name.value) h) g.after;
       came = or_right (is_enlist_got g.name.value x) (has (is_enlist_got g.name.value) h) g.came;
       lost = or_right (is_lost g.name.value x) (has (is_lost g.name.value) h) g.lost;
       silent = silent_more x h r g.name.value g.lost g.silent;
@@ -145,6 +152,7 @@ no_yes _ h v = refl
 lost_gone : (x : Entry) (h : List Entry) → is_veto h x ≡ true → is_lost_there h x ≡ true → IsGone (x ∷ h)
 lost_gone (Lost e) h v t = record {
   name = e;
+  after = or_left ((e.value == e.value) && has (is_enlist_got e.value) h) (ever (loses_there e.value) h) (and_both (e.value == e.value) (has (is_enlist_got e.value) h) (eq_self e.value) t);
   came = t;
   lost = rw (eq_self e.value) refl;
   silent = not_true (has (is_vote e.value) h) (and_left (not (has (is_vote e.value) h)) (not (has (is_hand e.value) h)) v);

@@ -158,6 +158,7 @@ pub mod MildBlocks
 pub mod Ending
 pub mod Announced
 pub mod LostVoters
+pub mod Barred
 pub mod UndecidedFine
 pub mod Told
 pub mod Unreturning

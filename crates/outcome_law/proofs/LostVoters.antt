@@ -70,11 +70,11 @@ voter_more : (x : Entry) (h : List Entry) (e : ℕ) → IsVoter e h → IsVoter 
 voter_more x h e v = record { has_cast = or_right (is_vote e x) (has (is_vote e) h) v.has_cast; of_volatile = volatile_more e x h v.of_volatile }
 
 -- entries that lose nobody
-abbrev is_lossless : Entry → Bool
+abbrev pub is_lossless : Entry → Bool
 is_lossless (Lost e) = false
 is_lossless _ = true
 
-usual_lossless : (x : Entry) → is_usual x ≡ true → is_lossless x ≡ true
+pub usual_lossless : (x : Entry) → is_usual x ≡ true → is_lossless x ≡ true
 usual_lossless (Lost e) k = absurd cc
 usual_lossless _ k = refl
 
@@ -166,13 +166,13 @@ gone_voters w n a e y true u s = by (open_ones w e) refl u
         let cut : true ≡ false = (unsevered_under (cut_upward w.past c ∷ Lost e ∷ Called n a y ∷ w.past) (map (cut_upward w.past) cs) u).unsevered in absurd cc
 
 -- The blocks of a tick and of a reenlistment.
-tick_lossless : (v : Half) (n : ℕ) (b r l : Bool) → each is_lossless (facts_if b (Clock n ∷ (if r then (if l then Late ∷ [] else TimedOut ∷ veto v) else []))) ≡ true
+pub tick_lossless : (v : Half) (n : ℕ) (b r l : Bool) → each is_lossless (facts_if b (Clock n ∷ (if r then (if l then Late ∷ [] else TimedOut ∷ veto v) else []))) ≡ true
 tick_lossless v n false r l = refl
 tick_lossless v n true false l = refl
 tick_lossless v n true true true = refl
 tick_lossless v n true true false = each_more is_usual is_lossless usual_lossless (veto v) (usual (veto v) (common_veto v))
 
-return_lossless : (t : ℕ) (o : Option Branch) (b : Bool) → each is_lossless (facts_if b (reenlist_facts t o)) ≡ true
+pub return_lossless : (t : ℕ) (o : Option Branch) (b : Bool) → each is_lossless (facts_if b (reenlist_facts t o)) ≡ true
 return_lossless t o false = refl
 return_lossless t None true = refl
 return_lossless t (Some b) true = refl

@@ -240,6 +240,19 @@ named e P (Got (Enl f) Up (EnlistEnlist i) ∷ h) k s a =
     (λ t. named e P h (keeps_before (Got (Enl f) Up (EnlistEnlist i)) h k) t (and_right (P i.enl.value) (each (λ j. P j.enl.value) (all_of enlist_got h)) a)) (e == f.value) refl s
 named e P (x ∷ h) k s a = named e P h (keeps_before x h k) s a
 
+-- so what passes of its connection and its number passes of one of these
+pub came_among : (e : EnlNo) (Q : Conn → ℕ → Bool) (h : List Entry) → Keeps h → has (is_enlist_got e.value) h ≡ true → Q (Enl e) e.value ≡ true → has (λ i. Q (Enl i.enl) i.enl.value) (all_of enlist_got h) ≡ true
+came_among e Q [] k s q = absurd cc
+came_among e Q (Got (Enl f) Up (EnlistEnlist i) ∷ h) k s q =
+    or_case (e.value == f.value) (has (is_enlist_got e.value) h)
+    (λ a. or_left (Q (Enl i.enl) i.enl.value) (has (λ j. Q (Enl j.enl) j.enl.value) (all_of enlist_got h))
+    (let same : e.value ≡ i.enl.value = eqb-true e.value f.value a ∙ eqb-true f.value i.enl.value (own_info f i h k) in
+    let conn : Enl e ≡ Enl i.enl = same_is (Enl e) (Enl i.enl) (subst (λ n. (e.value == n) ≡ true) same (eq_self e.value)) in
+    let P : Conn → Type 0 = λ c. Q c i.enl.value ≡ true in
+    subst P conn (subst (λ n. Q (Enl e) n ≡ true) same q)))
+    (λ a. or_right (Q (Enl i.enl) i.enl.value) (has (λ j. Q (Enl j.enl) j.enl.value) (all_of enlist_got h)) (came_among e Q h (keeps_before (Got (Enl f) Up (EnlistEnlist i)) h k) a q)) s
+came_among e Q (x ∷ h) k s q = came_among e Q h (keeps_before x h k) s q
+
 -- where an append may come, each that came voted well
 pub came_good : (e : EnlNo) (h : List Entry) → Keeps h → can_log h ≡ true → has (is_enlist_got e.value) h ≡ true → has (is_good_vote e.value) h ≡ true
 came_good e h k c s = good_if_ready e h k (named e.value (λ n. has (is_ready_got n) h) h k s (can_ready h c))

@@ -40,7 +40,7 @@ ghost use Rattle.dtx_model.specs.Traces.{Placed, history, at_context, calls};
 ghost use Rattle.dtx_model.specs.Replay.{IsReplayed, LinesRan, due_calls};
 ghost use Rattle.dtx_model.specs.History.{AreAnswered, CanCommit, IsHistory, IsReplay, IsToldOrWaits, is_loss};
 ghost use Rattle.dtx_model.specs.Grammar.{are_named_well};
-ghost use Rattle.outcome_law.specs.Appended.{backs_append, has_append, is_abort_decision, stopped_at_append};
+ghost use Rattle.outcome_law.specs.Appended.{backs_append, has_append, is_abort_decision, is_barred, stopped_at_append};
 ghost use Rattle.outcome_law.specs.LogQuiet.{is_log_quiet};
 ghost use Rattle.outcome_law.specs.Severed.{is_severing};
 ghost use Rattle.outcome_law.specs.Waited.{AreCallsAnswered};
@@ -64,11 +64,13 @@ pub fn own_outcome()
 {}
 
 /// What appends to the log have to do with the outcome, whatever was cut, stopped and started again. Where an abort is decided, nothing was logged, there is no
-/// record, and none may be appended. Where an append may be tried, was done, or may have been tried where the log stopped first, and where there is a record, the
+/// record, and none may be appended; nor will one be, since the local side said no yes, the coordinator aborted, or the vote of one whose ENLIST it got never comes. Where an append may be tried, was done, or may have been tried where the log stopped first, and where there is a record, the
 /// transaction is ready, and the coordinator got COMMIT, YES, and the vote of each whose ENLIST it got.
 pub fn appends()
     ensures unlogged { (s : List Line) (t : ℕ) (h : List Entry) → are_named_well s ≡ true → FreelyCaused (IsCallOf s t) t h → tied h ≡ true → has is_abort_decision h ≡ true
         → has_append h ≡ false }
+    ensures barred { (s : List Line) (t : ℕ) (h : List Entry) → are_named_well s ≡ true → FreelyCaused (IsCallOf s t) t h → tied h ≡ true → has is_abort_decision h ≡ true
+        → is_barred h ≡ true }
     ensures backed { (s : List Line) (t : ℕ) (h : List Entry) → are_named_well s ≡ true → FreelyCaused (IsCallOf s t) t h → tied h ≡ true
         → (has_append h || stopped_at_append h) ≡ true → backs_append h ≡ true }
 {}
