@@ -158,7 +158,6 @@ pub mod MildBlocks
 pub mod Ending
 pub mod Announced
 pub mod LostVoters
-pub mod Barred
 pub mod UndecidedFine
 pub mod Told
 pub mod Unreturning
@@ -174,3 +173,4 @@ pub mod CommonBlocks
 pub mod TellingRuns
 pub mod CallsAnswered
 pub mod Appending
+pub mod Barred
