@@ -1,16 +1,16 @@
 -- Where an abort is decided no append comes any more, and why: the local side said no yes, the coordinator aborted, or one of those whose ENLIST it got was lost without a vote. Of that one
 -- the connection is lost: for in each world that steps made, who was lost after its ENLIST was got has no open connection of its own.
-use Rattle.std.proofs.Common.{◌≡◌, ℕ, ◌==◌, Bool, true, false, ◌&&◌, ◌||◌, inl, inr, List, [], ◌∷◌, Option, Some, None, refl, ◌∙◌, ap, map, subst, sym, if◌then◌else◌}
-use Rattle.std.specs.Prelude.{filter, find, is_some, not}
+use Rattle.std.proofs.Common.{◌≡◌, ℕ, ◌==◌, Bool, true, false, ◌&&◌, ◌||◌, inl, inr, List, [], ◌∷◌, Option, Some, None, refl, ◌∙◌, map, subst, sym, if◌then◌else◌}
+use Rattle.std.specs.Prelude.{find, is_some, not}
 use Rattle.std.proofs.lemmas.Bool.{eqb-true, false_from_ne_true, or_left}
 use Rattle.dtx_values.specs.declared.call.Call.{Call}
 use Rattle.dtx_values.specs.declared.call.Call.TheVariants.{Gone, Reenlist, Tick}
 use Rattle.dtx_values.specs.declared.entry.Answer.{Answer}
 use Rattle.dtx_values.specs.declared.entry.Entry.{Entry}
-use Rattle.dtx_values.specs.declared.entry.Entry.TheVariants.{Called, Clock, Cut, Got, Late, Lost, Sent, TimedOut}
+use Rattle.dtx_values.specs.declared.entry.Entry.TheVariants.{Called, Clock, Cut, Got, Late, Lost, Sent, TimedOut, Voted}
 use Rattle.dtx_values.specs.declared.message.Conn.{Conn}
 use Rattle.dtx_values.specs.declared.message.Conn.TheVariants.{Begin, Enl, Again}
-use Rattle.dtx_values.specs.declared.message.Dir.TheVariants.{Up, Down}
+use Rattle.dtx_values.specs.declared.message.Dir.TheVariants.{Up}
 use Rattle.dtx_values.specs.declared.message.Message.{Message}
 use Rattle.dtx_values.specs.declared.message.Message.TheVariants.{EnlistEnlist, EnlistNo, EnlistPrepared, EnlistReadonly}
 use Rattle.dtx_values.specs.declared.number.ActorNo.{ActorNo}
@@ -19,10 +19,9 @@ use Rattle.dtx_values.specs.declared.words.Vote.{Vote}
 use Rattle.dtx_values.specs.declared.words.Vote.TheVariants.{Done, No, Yes}
 use Rattle.dtx_values.specs.Ends.{same_connection, same_direction}
 use Rattle.dtx_values.specs.Lines.{is_opening}
-use Rattle.dtx_model.specs.declared.branch.Branch.{Branch}
 use Rattle.dtx_model.specs.Words.{all_of, each, ever, has, onto}
-use Rattle.dtx_model.specs.Entries.{is_lost, is_vote, is_vote_got, is_yes}
-use Rattle.dtx_model.specs.Observed.{is_branch, observe}
+use Rattle.dtx_model.specs.Entries.{is_vote, is_vote_got, is_yes}
+use Rattle.dtx_model.specs.Observed.{is_branch}
 use Rattle.dtx_model.specs.Learned.{coordinator_aborted}
 use Rattle.dtx_model.specs.Promotes.{is_begun_got}
 use Rattle.dtx_model.specs.Tied.{enlist_got}
@@ -35,7 +34,7 @@ use Rattle.dtx_model.specs.Caused.{Ran, same_vote}
 use Rattle.outcome_law.specs.Appended.{is_abort_decision, is_barred, is_vote_message, never_votes}
 use Rattle.dtx_model.proofs.Bools.{and_both, and_left, and_right, not_both, not_false, not_true, or_case, or_right}
 use Rattle.dtx_model.proofs.Connections.{same_is}
-use Rattle.outcome_law.proofs.Scans.{each_more, has_less, has_more}
+use Rattle.outcome_law.proofs.Scans.{each_more, has_more}
 use Rattle.outcome_law.proofs.Tests.{eq_self, third_of_four}
 use Rattle.outcome_law.proofs.Table.{is_cast, is_enlist_got, is_of_conn, is_opening_got, is_volatile_conn, message_row, rule}
 use Rattle.outcome_law.proofs.Keeping.{Keeps, keeps_before, newest}
@@ -68,15 +67,15 @@ opens_new e x h r t = absurd cc
 -- whose loss is known was opened
 was_opened : (c : Conn) (h : List Entry) (l : Bool) → lost_since c h ≡ Some l → has (opens c) h ≡ true
 was_opened c [] l q = absurd cc
-was_opened c (x ∷ h) l q = step (lost_since c h) refl q
+was_opened c (x ∷ h) l q = step (lost_since c h) (λ m e. was_opened c h m e) refl q
   where
     first : (b : Bool) → (if b then Some (is_stopped h) else None) ≡ Some l → (b || has (opens c) h) ≡ true
     first true q = refl
     first false q = absurd cc
 
-    step : (o : Option Bool) → lost_since c h ≡ o → lost_after c h x o ≡ Some l → has (opens c) (x ∷ h) ≡ true
-    step None e q = first (opens c x) q
-    step (Some m) e q = or_right (opens c x) (has (opens c) h) (was_opened c h m e)
+    step : (o : Option Bool) → ((m : Bool) → lost_since c h ≡ Some m → has (opens c) h ≡ true) → lost_since c h ≡ o → lost_after c h x o ≡ Some l → has (opens c) (x ∷ h) ≡ true
+    step None ih e q = first (opens c x) q
+    step (Some m) ih e q = or_right (opens c x) (has (opens c) h) (ih m e)
 
 lost_more : (e : EnlNo) (x : Entry) (h : List Entry) → Keeps (x ∷ h) → is_lost_wire (Enl e) h ≡ true → is_lost_wire (Enl e) (x ∷ h) ≡ true
 lost_more e x h k l = step (lost_since (Enl e) h) refl l

@@ -1,7 +1,7 @@
 -- Where a record stands, there is evidence: the local side said yes, so it was sealed and promoted; each voted well; and the coordinator doesn't abort.
 use Rattle.std.proofs.Common.{◌≡◌, ℕ, ◌==◌, Bool, true, false, ◌&&◌, ◌||◌, List, [], ◌∷◌, ◌++◌, Option, Some, None, refl, sym, subst, ◌∙◌}
 use Rattle.std.specs.Prelude.{not, filter, if◌then◌else◌}
-use Rattle.std.proofs.lemmas.Bool.{eqb-true}
+use Rattle.std.proofs.lemmas.Bool.{eqb-true, or_left}
 use Rattle.dtx_values.specs.declared.entry.Entry.{Entry}
 use Rattle.dtx_values.specs.declared.entry.Entry.TheVariants.{Cloned, Completed, Down as End, Enlisted, Freed, Got, LocalYes, LogFull, Logged, Promoted, Promoting, Restarted, Sealed, Stopped, Voted}
 use Rattle.dtx_values.specs.declared.message.Conn.{Conn}
@@ -21,7 +21,8 @@ use Rattle.dtx_model.specs.Tied.{before_first, before_first_stop, can_log, enlis
 use Rattle.dtx_model.specs.Wires.{is_stopped}
 use Rattle.dtx_model.specs.Promotes.{is_created_got, is_begun_got, is_promoting, is_under_way, is_failed}
 use Rattle.dtx_model.proofs.Bools.{and_left, and_right, and_both, not_both, not_true, or_case, or_false, or_right, or_second, and_never, three_hold}
-use Rattle.outcome_law.proofs.Tests.{second_of_five, third_of_five, fourth_of_five, second_of_three, or_between}
+use Rattle.dtx_model.proofs.Connections.{same_is}
+use Rattle.outcome_law.proofs.Tests.{eq_self, second_of_five, third_of_five, fourth_of_five, second_of_three, or_between}
 use Rattle.outcome_law.proofs.Scans.{each_both, each_more, each-append}
 use Rattle.outcome_law.proofs.Rule.{all_complete, is_cloned, is_enlisted, zeros_cast}
 use Rattle.outcome_law.proofs.Table.{class_row, have_come, is_ask_got, is_enlist_got, is_settled_there, rule, volatiles_well}
