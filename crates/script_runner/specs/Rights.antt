@@ -5,7 +5,7 @@ use Rattle.dtx_values.specs.declared.number.TxNo.{TxNo}
 use Rattle.dtx_model.specs.Observed.{observe}
 use Rattle.dtx_model.specs.Traces.{Placed, history}
 use Rattle.dtx_model.specs.Words.{has, onto, past_of}
-use Rattle.outcome_law.specs.Appended.{backs_append, has_append, is_abort_decision, stopped_at_append}
+use Rattle.outcome_law.specs.Appended.{backs_append, has_append, is_abort_decision, is_barred, stopped_at_append}
 use Rattle.local_half.specs.Rights.{is_in_one_place, right_after, right_of, right_seen}
 
 -- in each transaction the right to commit is in one place, which the local side knows, and each entry moves it as `right_after` says
@@ -14,8 +14,9 @@ pub record HasOneRight (T : List Placed) : Type 0 where
   pub seen : (t : TxNo) → right_seen (observe (history t.value (past_of T))) ≡ right_of (history t.value (past_of T))
   pub moves : (t : TxNo) (past es : List Entry) (x : Entry) → history t.value (past_of T) ≡ onto past (x ∷ es) → right_of (x ∷ past) ≡ right_after x (right_of past)
 
--- in each transaction that is decided to be aborted no append was tried and none may be; and where one may be tried or was, or there is a record, the transaction is
--- ready, and COMMIT, YES and each vote were got
+-- in each transaction that is decided to be aborted no append was tried and none may be, nor will be (`is_barred` says why); and where one may be tried or was, or
+-- there is a record, the transaction is ready, and COMMIT, YES and each vote were got
 pub record AreAppendsBacked (T : List Placed) : Type 0 where
   pub untried : (t : TxNo) → has is_abort_decision (history t.value (past_of T)) ≡ true → (has_append (history t.value (past_of T)) || stopped_at_append (history t.value (past_of T))) ≡ false
+  pub barred : (t : TxNo) → has is_abort_decision (history t.value (past_of T)) ≡ true → is_barred (history t.value (past_of T)) ≡ true
   pub backed : (t : TxNo) → (has_append (history t.value (past_of T)) || stopped_at_append (history t.value (past_of T))) ≡ true → backs_append (history t.value (past_of T)) ≡ true

@@ -107,5 +107,6 @@ returns-in-Ok-clause-appends g c none =
       untried = λ t aborted.
           or_false (has_append (history t.value T)) (stopped_at_append (history t.value T)) (c.appends.ensures.unlogged s t.value (history t.value T) named (caused t).freely (sound t) aborted)
           (c.untried.ensures s t (history t.value T) named (caused t).freely (sound t) aborted);
+      barred = λ t aborted. c.appends.ensures.barred s t.value (history t.value T) named (caused t).freely (sound t) aborted;
       backed = λ t. c.appends.ensures.backed s t.value (history t.value T) named (caused t).freely (sound t);
     }
