@@ -1,6 +1,6 @@
 -- In each world that steps made, in which the coordinator didn't stop: where it has decided, it said so on b, unless it saw the end of b; and on v where it had asked the voter, unless it saw
 -- the end of v or got its NO.
-use Rattle.std.proofs.Common.{◌≡◌, ℕ, Bool, true, false, ◌&&◌, ◌||◌, List, [], ◌∷◌, ◌++◌, refl, ◌∙◌, ap, subst, sym, if◌then◌else◌, Option, Some, None, is_some}
+use Rattle.std.proofs.Common.{◌≡◌, ℕ, Bool, true, false, ◌&&◌, List, [], ◌∷◌, ◌++◌, refl, ◌∙◌, ap, subst, sym, if◌then◌else◌, Option, Some, None, is_some}
 use Rattle.std.specs.Prelude.{filter, find, not}
 use Rattle.std.proofs.lemmas.Bool.{false_from_ne_true, or_left}
 use Rattle.dtx_values.specs.declared.call.Call.{Call}
@@ -36,18 +36,18 @@ use Rattle.dtx_model.specs.Acts.{act_entries}
 use Rattle.dtx_model.specs.Facts.{facts_if, has_facts}
 use Rattle.dtx_model.specs.Replies.{reply_entries}
 use Rattle.dtx_model.specs.World.{World, answer_at, core, facts_at, half, reenlist_facts}
-use Rattle.dtx_model.specs.Steps.{LogAnswer, Done, Full, StoppedBefore, StoppedNow, Step, Calls, Replies, Acts, Coordinates, Delivers, Stops, Restarts, after, appended, block_at, coordinates, delivered, ended_at, freed, restarted}
+use Rattle.dtx_model.specs.Steps.{LogAnswer, Done, Full, StoppedBefore, StoppedNow, Step, Calls, Replies, Acts, Coordinates, Delivers, Stops, Restarts, after, appended, block_at, delivered, ended_at, freed, restarted}
 use Rattle.dtx_model.specs.Caused.{MayCome, Ran, may_coordinate}
 use Rattle.dtx_model.proofs.Writes.{Each, e_one, IsClosed, each_closed, Source, ByAct, ByCall, ByMessage, ByReply, answers, is_asking, is_outcome_message, writes}
 use Rattle.dtx_model.proofs.Blocks.{of_abort_sends, of_arrived, of_called, of_commit_sends, of_core_down, of_core_got, of_local_down, of_reply, of_whole_act}
-use Rattle.dtx_model.proofs.Bools.{and_both, and_left, and_right, not_both, not_true, or_case, or_false, or_right, or_second}
+use Rattle.dtx_model.proofs.Bools.{and_both, and_left, and_right, not_both, not_true, or_case, or_right, or_second}
 use Rattle.dtx_model.proofs.Reading.{has-onto}
 use Rattle.dtx_model.proofs.Connections.{same_is}
 use Rattle.outcome_law.proofs.Scans.{has_more}
 use Rattle.outcome_law.proofs.Onto.{none_before, stood_before}
 use Rattle.outcome_law.proofs.Wired.{IsWired, is_end_on}
 use Rattle.outcome_law.proofs.Messages.{ASK, OUTCOME, VOTER_NO, VOTER_OUTCOME}
-use Rattle.outcome_law.proofs.Table.{is_opening_got, rule}
+use Rattle.outcome_law.proofs.Table.{is_opening_got}
 use Rattle.outcome_law.proofs.Keeping.{Keeps, keeps_before, newest}
 use Rattle.outcome_law.proofs.OpenedRows.{kept_opened}
 use Rattle.outcome_law.proofs.Arrived.{unstopped}

@@ -138,7 +138,7 @@ commit_row h r = first_of_three (has is_sealed h) (has is_promoted h) (not (has 
 sent_sealed : (x : Entry) (h : List Entry) → Keeps h → rule h x ≡ true → is_commit_sent x ≡ true → has is_sealed h ≡ true
 sent_sealed x h k r t = let P : Entry → Type 0 = λ y. rule h y ≡ true in commit_row h (subst P (sent_is x t) r)
 
-pub sealed_there : (h : List Entry) → Keeps h → has is_commit_sent h ≡ true → has is_sealed h ≡ true
+sealed_there : (h : List Entry) → Keeps h → has is_commit_sent h ≡ true → has is_sealed h ≡ true
 sealed_there h k t = before is_commit_sent is_sealed sent_sealed h k t
 
 -- so where it was sent it was requested, or nothing is promotable
@@ -164,7 +164,7 @@ named_none xs t = find_none (λ x. is_promotable x.class) xs (by (find (λ x. is
     by (Some x) t = absurd cc
     by None t = refl
 
-pub rows_promotable : (h : List Entry) → has (λ x. is_promotable x.class) (rows h) ≡ has_promotable h
+rows_promotable : (h : List Entry) → has (λ x. is_promotable x.class) (rows h) ≡ has_promotable h
 rows_promotable h = has_rows (λ (f : EnlNo) (c : Class). is_promotable c) h
 
 asked_up : (o : Observed) (h : List Entry) (m : Message) → IsAsking h → (COMMIT m ≡ true → (has is_commit_sent h ≡ false) × ((has is_request h || not (has_promotable h)) ≡ true)) → IsAsking (onto h (to_up o Begin m))

@@ -7,9 +7,8 @@ use Rattle.dtx_values.specs.declared.call.Call.{Call}
 use Rattle.dtx_values.specs.declared.call.Call.TheVariants.{Gone, Reenlist, Tick}
 use Rattle.dtx_values.specs.declared.entry.Answer.{Answer}
 use Rattle.dtx_values.specs.declared.entry.Entry.{Entry}
-use Rattle.dtx_values.specs.declared.entry.Entry.TheVariants.{Called, Clock, Cut, Enlisted, Late, Lost, Reenlisted, Requested, Sealed, TimedOut, Told}
+use Rattle.dtx_values.specs.declared.entry.Entry.TheVariants.{Called, Clock, Cut, Enlisted, Late, Lost, Reenlisted, Requested, TimedOut, Told}
 use Rattle.dtx_values.specs.declared.entry.Party.TheVariants.{Enl as Member}
-use Rattle.dtx_values.specs.declared.entry.Request.{Request}
 use Rattle.dtx_values.specs.declared.message.Conn.{Conn}
 use Rattle.dtx_values.specs.declared.message.Conn.TheVariants.{Begin, Enl, Again}
 use Rattle.dtx_values.specs.declared.message.Dir.TheVariants.{Up, Down}
@@ -32,24 +31,22 @@ use Rattle.dtx_model.specs.Observed.{Observed, come_back, ends_of, hear, is_bran
 use Rattle.dtx_model.specs.Outcome.{enlisted}
 use Rattle.dtx_model.specs.Wires.{WireRun, holds, is_kept, is_lost_wire, is_open_wire, is_stopped, loses, lost_after, lost_since, opens}
 use Rattle.dtx_model.specs.Half.{Half, decide, is_gone, is_handed, sees, to_up, veto}
-use Rattle.dtx_model.specs.Acts.{commit_sent}
 use Rattle.dtx_model.specs.Facts.{facts_if, has_facts, is_late, reaches, ticked}
 use Rattle.dtx_model.specs.Replies.{due_of, request_message, request_of}
 use Rattle.dtx_model.specs.World.{World, answer_at, cut_upward, gone_by, half, is_promotable_row, on_the_way, open_ones, reenlist_facts}
 use Rattle.dtx_model.specs.Steps.{Step, Calls, after, block_at}
 use Rattle.dtx_model.specs.Caused.{AreMadeOnce, Ran}
-use Rattle.dtx_model.proofs.Bools.{and_both, and_left, and_right, not_both, not_false, not_true, or_case, or_false, or_right, or_second}
+use Rattle.dtx_model.proofs.Bools.{and_both, and_left, and_right, not_both, not_false, not_true, or_case, or_right}
 use Rattle.dtx_model.proofs.Reading.{has-onto}
 use Rattle.dtx_model.proofs.SameNumbers.{same_enlistment}
 use Rattle.outcome_law.proofs.Lists.{has-insert, has_kept}
 use Rattle.outcome_law.proofs.Scans.{each_both, each_more, has_more}
 use Rattle.outcome_law.proofs.Tests.{eq_self, fourth_of_four, second_of_four}
-use Rattle.outcome_law.proofs.Wired.{IsFirm, IsWired, firm_before, firm_unended, is_plain}
+use Rattle.outcome_law.proofs.Wired.{IsWired, firm_before, firm_unended, is_plain}
 use Rattle.outcome_law.proofs.Onto.{none_before, stood_before}
 use Rattle.outcome_law.proofs.Messages.{COMMIT}
 use Rattle.outcome_law.proofs.Table.{is_enlist_got, is_opening_got, is_promotable_of, rule, stands_promotable}
 use Rattle.outcome_law.proofs.Keeping.{Keeps, before, newest}
-use Rattle.outcome_law.proofs.Debts.{has_promotable}
 use Rattle.outcome_law.proofs.Owned.{decision_seen, has_filter, has_rows}
 use Rattle.outcome_law.proofs.SameRows.{voted_cast}
 use Rattle.outcome_law.proofs.Standing.{opened_if_got}
@@ -60,7 +57,7 @@ use Rattle.outcome_law.proofs.Reenlisted.{opened_since}
 use Rattle.outcome_law.proofs.Knowledge.{knows_where}
 use Rattle.outcome_law.proofs.Ending.{decide_decides, veto_decides}
 use Rattle.outcome_law.proofs.CommonBlocks.{common_veto, is_usual, usual, usual_block}
-use Rattle.outcome_law.proofs.BareBlocks.{Requests, Seals}
+use Rattle.outcome_law.proofs.BareBlocks.{Requests}
 use Rattle.outcome_law.proofs.RequestBlocks.{BlockKind, block_kind, is_meek, request_passes, seal_passes}
 use Rattle.outcome_law.proofs.Marks.{IsMarked, opened_if_enlisted}
 use Rattle.outcome_law.proofs.AskedWhom.{is_left}
@@ -68,7 +65,7 @@ use Rattle.outcome_law.proofs.Steady.{run_stands}
 use Rattle.outcome_law.proofs.Requests.{IsLone, IsRequesting, lone_same, promotable_stands, ran_alone}
 use Rattle.outcome_law.proofs.Returned.{AreReturned, ran_returned}
 use Rattle.outcome_law.proofs.Announced.{IsUnstopped, unstopped_before, unstopped_under, unstopped_wired}
-use Rattle.outcome_law.proofs.Crossed.{is_got_on, is_sent_on, since_opened, was_sent}
+use Rattle.outcome_law.proofs.Crossed.{is_got_on, since_opened, was_sent}
 
 -- it had voted, or its own connection is lost, or it is a promotable, b is lost and nothing was requested
 abbrev pub is_spared_loss : EnlNo → List Entry → Bool
@@ -88,8 +85,11 @@ spared_cases e h k =
     or_case (has (is_vote e.value) h || is_lost_wire (Enl e) h) (stands_promotable e.value h && is_lost_wire Begin h && not (has is_request h))
     (λ a. or_case (has (is_vote e.value) h) (is_lost_wire (Enl e) h) (λ v. inl v) (λ l. inr (inl l)) a)
     (λ a. let both = and_left (stands_promotable e.value h && is_lost_wire Begin h) (not (has is_request h)) a in
-    inr (inr (and_left (stands_promotable e.value h) (is_lost_wire Begin h) both, and_right (stands_promotable e.value h) (is_lost_wire Begin h) both,
-    not_true (has is_request h) (and_right (stands_promotable e.value h && is_lost_wire Begin h) (not (has is_request h)) a)))) k
+    inr (inr (
+      and_left (stands_promotable e.value h) (is_lost_wire Begin h) both,
+      and_right (stands_promotable e.value h) (is_lost_wire Begin h) both,
+      not_true (has is_request h) (and_right (stands_promotable e.value h && is_lost_wire Begin h) (not (has is_request h)) a),
+    ))) k
 
 spared_so : (e : EnlNo) (h : List Entry) → IsSparedBy e h → is_spared_loss e h ≡ true
 spared_so e h (inl v) = or_left (has (is_vote e.value) h || is_lost_wire (Enl e) h) _ (or_left (has (is_vote e.value) h) (is_lost_wire (Enl e) h) v)
@@ -149,17 +149,27 @@ harmless_unrequesting : (x : Entry) → is_harmless x ≡ true → is_unrequesti
 harmless_unrequesting (Requested e r) k = absurd cc
 harmless_unrequesting _ k = refl
 
+harmless_quiet : (es : List Entry) → each is_harmless es ≡ true → each is_unrequesting es ≡ true
+harmless_quiet es k = each_more is_harmless is_unrequesting harmless_unrequesting es k
+
+none_requested : (h es : List Entry) → each is_unrequesting es ≡ true → has is_request h ≡ false → has is_request (onto h es) ≡ false
+none_requested h es k n =
+    false_from_ne_true (has is_request (onto h es)) (λ q. not_both (has is_request h) (stood_before is_request is_unrequesting (λ x t. not_true (is_request x) t) h es k q) n)
+
 spared_onto : (e : EnlNo) (h es : List Entry) → IsUnstopped (onto h es) → each is_unrequesting es ≡ true → IsSparedBy e h → IsSparedBy e (onto h es)
 spared_onto e h es u k (inl v) = inl (has-onto (is_vote e.value) h es ∙ or_right (has (is_vote e.value) es) (has (is_vote e.value) h) v)
 spared_onto e h es u k (inr (inl l)) = inr (inl (lost_onto (Enl e) h es u refl l))
 spared_onto e h es u k (inr (inr t)) =
-    inr (inr (promotable_onto e.value h es t.0, lost_onto Begin h es u refl t.1,
-    false_from_ne_true (has is_request (onto h es)) (λ q. not_both (has is_request h) (stood_before is_request is_unrequesting (λ x n. not_true (is_request x) n) h es k q) t.2)))
+    inr (inr (
+      promotable_onto e.value h es t.0,
+      lost_onto Begin h es u refl t.1,
+      none_requested h es k t.2,
+    ))
 
 harmless_voters : (h es : List Entry) → each is_harmless es ≡ true → IsUnstopped (onto h es) → AreVoters h → AreVoters (onto h es)
 harmless_voters h es k u a = λ d e l.
     spared_so e (onto h es)
-    (spared_onto e h es u (each_more is_harmless is_unrequesting harmless_unrequesting es k)
+    (spared_onto e h es u (harmless_quiet es k)
     (spared_cases e h (a (none_before is_decision h es d) e (stood_before (is_lost e.value) is_harmless (harmless_lost e.value) h es k l))))
 
 -- A loss of one that is spared, with what follows it; and one after which it is decided.
@@ -169,7 +179,7 @@ gone_more f h es k u s a = λ d e l.
     (λ q. let same = same_enlistment e f (eqb-true e.value f.value q) in
     let P : EnlNo → Type 0 = λ g. is_spared_loss g (onto (Lost f ∷ h) es) ≡ true in subst P (sym same) (spared_so f (onto (Lost f ∷ h) es) s))
     (λ q. spared_so e (onto (Lost f ∷ h) es)
-    (spared_onto e h (Lost f ∷ es) u (each_more is_harmless is_unrequesting harmless_unrequesting es k) (spared_cases e h (a (none_before is_decision h (Lost f ∷ es) d) e q))))
+    (spared_onto e h (Lost f ∷ es) u (harmless_quiet es k) (spared_cases e h (a (none_before is_decision h (Lost f ∷ es) d) e q))))
     (stood_before (is_lost e.value) is_harmless (harmless_lost e.value) (Lost f ∷ h) es k l)
 
 decided_voters : (h : List Entry) → has is_decision h ≡ true → AreVoters h
@@ -330,11 +340,11 @@ cut_spared w n a e y c cs q u r = by (is_open_wire (Enl e) w.past) refl (has (op
         let unrequested : has is_request w.past ≡ false =
         false_from_ne_true (has is_request w.past)
         (λ s. not_both (has (opens (Enl e)) w.past) (promotable_opened e w.past keeps (before is_request is_promoted request_promoted w.past keeps s) stands) p) in
-        inr (inr (promotable_onto e.value w.past (Called n a y ∷ gone_by w e (c ∷ cs)) stands,
-        cuts_lose Begin w.past here (c ∷ cs) (opened_here Begin (kept_some (lost_since Begin w.past) t.1)) (among Begin (begin_among w e t.0 t.1)),
-        false_from_ne_true (has is_request (onto here (map (cut_upward w.past) (c ∷ cs))))
-        (λ s. not_both (has is_request w.past)
-        (stood_before is_request is_unrequesting (λ x k. not_true (is_request x) k) here (map (cut_upward w.past) (c ∷ cs)) (each_more is_harmless is_unrequesting harmless_unrequesting (map (cut_upward w.past) (c ∷ cs)) (cuts_harmless w.past (c ∷ cs))) s) unrequested)))
+        inr (inr (
+          promotable_onto e.value w.past (Called n a y ∷ gone_by w e (c ∷ cs)) stands,
+          cuts_lose Begin w.past here (c ∷ cs) (opened_here Begin (kept_some (lost_since Begin w.past) t.1)) (among Begin (begin_among w e t.0 t.1)),
+          none_requested here (map (cut_upward w.past) (c ∷ cs)) (harmless_quiet (map (cut_upward w.past) (c ∷ cs)) (cuts_harmless w.past (c ∷ cs))) unrequested,
+        ))
 
 gone_voters : (w : World) (n : ℕ) (a : ActorNo) (e : EnlNo) (y : Answer) (b : Bool) → IsUnstopped (onto (Called n a y ∷ w.past) (facts_if b (gone_by w e (open_ones w e)))) → AreReturned w.past → AreVoters w.past
     → AreVoters (onto (Called n a y ∷ w.past) (facts_if b (gone_by w e (open_ones w e))))

@@ -1,5 +1,5 @@
 -- What stands in a history with a block of entries after it, and in the history before.
-use Rattle.std.proofs.Common.{◌≡◌, Bool, true, false, ◌||◌, List, ◌∙◌, sym}
+use Rattle.std.proofs.Common.{◌≡◌, Bool, true, false, List, ◌∙◌, sym}
 use Rattle.dtx_values.specs.declared.entry.Entry.{Entry}
 use Rattle.dtx_model.specs.Words.{each, has, onto}
 use Rattle.dtx_model.proofs.Bools.{not_both, or_case, or_second}

@@ -23,18 +23,17 @@ use Rattle.dtx_values.specs.Class.{is_promotable}
 use Rattle.dtx_values.specs.Ends.{knows}
 use Rattle.dtx_values.specs.Lines.{has_line}
 use Rattle.dtx_values.specs.Vote.{is_no}
-use Rattle.dtx_model.specs.Words.{each, has}
+use Rattle.dtx_model.specs.Words.{each}
 use Rattle.dtx_model.specs.Observed.{Observed}
 use Rattle.dtx_model.specs.Promotes.{identifier_of}
 use Rattle.dtx_model.specs.Wires.{in_transit}
-use Rattle.dtx_model.specs.Coordinated.{Coordinated, core_got}
 use Rattle.dtx_model.specs.Half.{Half, sees, to_up}
 use Rattle.dtx_model.specs.Arrivals.{local_got}
 use Rattle.dtx_model.specs.Acts.{act_entries, commit_sent, promotable_in}
 use Rattle.dtx_model.specs.Facts.{facts_if, has_facts}
 use Rattle.dtx_model.specs.Replies.{conn_due, due_of, is_volatile_row, owner_entries, reply_entries, vote_message}
 use Rattle.dtx_model.specs.World.{World, answer_at, core, facts_at, half}
-use Rattle.dtx_model.specs.Steps.{Step, Calls, Replies, Acts, Coordinates, Delivers, Stops, Restarts, block_at, coordinates, delivered, ended_at, restarted}
+use Rattle.dtx_model.specs.Steps.{Step, Calls, Replies, Acts, Coordinates, Delivers, Stops, Restarts, block_at, delivered, ended_at}
 use Rattle.dtx_model.proofs.Writes.{Each, e_cons, e_if, e_none, e_one, IsClosed, each_closed, Source, ByAct, ByCall, ByMessage, ByReply, enlists, enlists_promotable, is_making_promotable, is_outcome_message, is_promotable_place, replies, requests, sends, writes}
 use Rattle.dtx_model.proofs.Blocks.{of_ack, of_act, of_arrived, of_called, of_coordinates, of_core_down, of_core_got, of_local_down, of_reply, of_restarted, of_veto, of_veto_if, of_whole_act}
 use Rattle.dtx_model.proofs.Bools.{and_both, and_right, not_both, not_true, or_case}

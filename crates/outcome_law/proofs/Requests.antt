@@ -1,14 +1,12 @@
 -- In each world that steps made one promotable at most was enlisted; and COMMIT was sent where a promotable had requested it, or none stood, and never where a promotable requested an abort.
-use Rattle.std.proofs.Common.{◌≡◌, ◌==◌, ℕ, Bool, true, false, if◌then◌else◌, ◌&&◌, ◌||◌, ◌⊎◌, inl, inr, List, [], ◌∷◌, Option, Some, refl, ◌∙◌, ap, sym, subst}
+use Rattle.std.proofs.Common.{◌≡◌, ◌==◌, ℕ, Bool, true, false, if◌then◌else◌, ◌&&◌, ◌||◌, inl, inr, List, [], ◌∷◌, Some, refl, ◌∙◌, ap, sym, subst}
 use Rattle.std.specs.Prelude.{filter, not}
 use Rattle.std.proofs.lemmas.Bool.{eqb-true, false_from_ne_true, or_left}
 use Rattle.dtx_values.specs.declared.call.Call.{Call}
 use Rattle.dtx_values.specs.declared.call.Call.TheVariants.{Promotable as PromotableCall}
-use Rattle.dtx_values.specs.declared.entry.Answer.{Answer}
 use Rattle.dtx_values.specs.declared.entry.Entry.{Entry}
 use Rattle.dtx_values.specs.declared.entry.Entry.TheVariants.{Called, Enlisted, Init, Requested, Sealed, Sent}
 use Rattle.dtx_values.specs.declared.entry.Request.TheVariants.{Abort}
-use Rattle.dtx_values.specs.declared.message.Conn.{Conn}
 use Rattle.dtx_values.specs.declared.message.Conn.TheVariants.{Begin, Enl}
 use Rattle.dtx_values.specs.declared.message.Dir.TheVariants.{Up, Down}
 use Rattle.dtx_values.specs.declared.message.Message.{Message}
@@ -21,36 +19,36 @@ use Rattle.dtx_values.specs.declared.words.Class.TheVariants.{One, Promotable, Z
 use Rattle.dtx_values.specs.declared.words.Outcome.{Outcome}
 use Rattle.dtx_values.specs.declared.words.Outcome.TheVariants.{Committed, Aborted, InDoubt}
 use Rattle.dtx_values.specs.Class.{is_promotable, is_volatile}
-use Rattle.dtx_values.specs.Ends.{same_connection, same_direction}
+use Rattle.dtx_values.specs.Ends.{same_connection}
 use Rattle.dtx_model.specs.Words.{always, each, has, onto}
 use Rattle.dtx_model.specs.Entries.{is_call, is_decision, is_promoted, is_sealed}
 use Rattle.dtx_model.specs.Observed.{Observed, is_request, observe}
-use Rattle.dtx_model.specs.Outcome.{can_own, durables, enlisted, is_empty}
+use Rattle.dtx_model.specs.Outcome.{durables, enlisted, is_empty}
 use Rattle.dtx_model.specs.Promotes.{is_promoting}
 use Rattle.dtx_model.specs.Wires.{opens}
 use Rattle.dtx_model.specs.Half.{Half, to_up}
 use Rattle.dtx_model.specs.Acts.{commit_sent}
 use Rattle.dtx_model.specs.Facts.{facts_if, has_facts}
 use Rattle.dtx_model.specs.Replies.{due_of, request_message, request_of}
-use Rattle.dtx_model.specs.World.{World, answer_at, facts_at, half}
+use Rattle.dtx_model.specs.World.{World, answer_at, half}
 use Rattle.dtx_model.specs.Steps.{Step, Calls, after, block_at}
 use Rattle.dtx_model.specs.Caused.{AreMadeOnce, MayCome, Ran}
-use Rattle.dtx_model.proofs.Bools.{and_both, and_left, and_never, and_right, not_both, not_false, not_true, or_case, or_right, or_second}
+use Rattle.dtx_model.proofs.Bools.{and_both, and_left, and_never, and_right, not_both, not_false, not_true, or_case}
 use Rattle.outcome_law.proofs.Tests.{fourth_of_five}
-use Rattle.outcome_law.proofs.Scans.{has_less, has_more}
+use Rattle.outcome_law.proofs.Scans.{has_more}
 use Rattle.outcome_law.proofs.Rule.{is_enlisted}
 use Rattle.outcome_law.proofs.Table.{class_row, is_abort_request, is_enlist_got, is_opening_got, is_promotable_of, rule, stands_promotable}
-use Rattle.outcome_law.proofs.Keeping.{Keeps, before, keeps_before, newest, third_of_three}
+use Rattle.outcome_law.proofs.Keeping.{Keeps, before, keeps_before, newest}
 use Rattle.outcome_law.proofs.Standing.{opened_if_got}
 use Rattle.outcome_law.proofs.HalfOwner.{enlist_opening}
 use Rattle.outcome_law.proofs.WorldCalls.{makes_new}
 use Rattle.outcome_law.proofs.Handing.{keeps_within}
 use Rattle.outcome_law.proofs.Messages.{COMMIT}
 use Rattle.outcome_law.proofs.Debts.{has_promotable}
-use Rattle.outcome_law.proofs.Onto.{none_before, stood_before}
+use Rattle.outcome_law.proofs.Onto.{stood_before}
 use Rattle.outcome_law.proofs.BareBlocks.{Requests, Seals}
-use Rattle.outcome_law.proofs.RequestBlocks.{BlockKind, Meek, block_kind, humble_block, is_humble, is_making_step, is_meek, request_passes, seal_passes}
-use Rattle.outcome_law.proofs.Asking.{IsAsking, is_commit_sent, lone_there, request_owed, sealed_there}
+use Rattle.outcome_law.proofs.RequestBlocks.{BlockKind, block_kind, humble_block, is_humble, is_meek, request_passes, seal_passes}
+use Rattle.outcome_law.proofs.Asking.{IsAsking, is_commit_sent, lone_there, request_owed}
 use Rattle.outcome_law.proofs.Steady.{run_stands}
 use Rattle.outcome_law.proofs.Crossed.{is_sent_on}
 
