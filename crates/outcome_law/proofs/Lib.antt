@@ -56,6 +56,7 @@ pub mod Determined
 pub mod OtherTraces
 pub mod Whole
 pub mod Messages
+pub mod Joined
 pub mod OnTheWay
 pub mod Fine
 pub mod Debts

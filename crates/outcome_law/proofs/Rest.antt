@@ -23,9 +23,11 @@ use Rattle.dtx_model.specs.declared.waiting.EnteredCall.{EnteredCall}
 use Rattle.dtx_model.specs.Waiting.{waiting}
 use Rattle.dtx_model.specs.Half.{half_of}
 use Rattle.dtx_model.specs.Acts.{act_entries}
+use Rattle.outcome_law.proofs.Rule.{is_enlisted}
 use Rattle.outcome_law.proofs.Settled.{has_answered}
-use Rattle.outcome_law.proofs.Messages.{ASK, BEGUN, COMMIT, CREATED, ENLIST, PREPARE}
+use Rattle.outcome_law.proofs.Messages.{ASK, BEGUN, COMMIT, CREATED, ENLIST, PREPARE, VOTED}
 use Rattle.outcome_law.proofs.Fine.{IsFine}
+use Rattle.outcome_law.proofs.Joined.{IsJoined}
 use Rattle.outcome_law.proofs.Debts.{is_volatile_made, owes_none, paid, pays}
 use Rattle.outcome_law.proofs.OnTheWay.{is_on_its_way, is_unplaced}
 use Rattle.outcome_law.proofs.Crossed.{is_sent_on, is_got_on}
@@ -72,10 +74,14 @@ pub record IsQuiet (h : List Entry) : Type 0 where
 -- A history in which a promotion began and can't go on, by the calls that were entered: no message is pending, no act of the local side and no reply to promote; and nothing
 -- bad came, unless something is decided.
 pub record IsUnmoved (ks : List EnteredCall) (h : List Entry) : Type 0 where
-  -- by the table of rules
+  -- where nothing is decided, nothing bad came, and the connections that were lost had carried what they were to carry
   pub fine : has is_decision h ≡ false → IsFine h
+  pub joined : has is_decision h ≡ false → IsJoined h
+  -- by the table of rules; an enlistment whose vote was got stands
   pub later : always is_after_start h ≡ true
   pub sound : always is_sound h ≡ true
+  pub ordered : always is_ordered h ≡ true
+  pub stood : (e : EnlNo) → has (is_got_on (Enl e) Up VOTED) h ≡ true → has (is_enlisted e.value) h ≡ true
   pub paying : always pays h ≡ true
   -- at the end of a block: nothing is owed; after the promotion each call that waits has its ENLIST sent, and its enlistment doesn't stand
   pub free : owes_none h ≡ true
@@ -91,7 +97,6 @@ pub record IsUnmoved (ks : List EnteredCall) (h : List Entry) : Type 0 where
 pub record IsAtRest (ks : List EnteredCall) (h : List Entry) : Type 0 where
   pub unmoved : IsUnmoved ks h
   -- by the table of rules
-  pub ordered : always is_ordered h ≡ true
   pub begun : always is_begun h ≡ true
   -- by the table and the rows: after the seal each Zero voted, and no blocking clone is open
   pub zeros : has is_sealed h ≡ true → zeros_voted (rows h) ≡ true
