@@ -50,8 +50,7 @@ use Rattle.outcome_law.proofs.Keeping.{Keeps, keeps_before}
 use Rattle.outcome_law.proofs.Undecided.{Stands, goes_on}
 use Rattle.outcome_law.proofs.HalfVotes.{vote_seen}
 use Rattle.outcome_law.proofs.Wired.{is_any_end, is_end_on}
-use Rattle.outcome_law.proofs.Fine.{is_spared_down}
-use Rattle.outcome_law.proofs.Joined.{is_pair}
+use Rattle.outcome_law.proofs.Fine.{is_pair, is_spared_down}
 use Rattle.outcome_law.proofs.Unblamed.{down_early}
 use Rattle.outcome_law.proofs.EndsNoted.{ends_noted}
 use Rattle.outcome_law.proofs.MildBlocks.{is_mild, m_abort, m_act, m_called, m_commit, m_core_got, m_ended_at, m_local_got, m_reply}

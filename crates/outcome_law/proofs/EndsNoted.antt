@@ -23,7 +23,7 @@ use Rattle.outcome_law.proofs.Doubting.{begin_once, voter_once}
 use Rattle.outcome_law.proofs.HalfKnows.{end_same, got_same, sent_same}
 use Rattle.outcome_law.proofs.CoreKnown.{has_made}
 use Rattle.outcome_law.proofs.Wired.{is_end_on}
-use Rattle.outcome_law.proofs.Joined.{is_pair}
+use Rattle.outcome_law.proofs.Fine.{is_pair}
 use Rattle.outcome_law.proofs.Knowledge.{other_stays}
 
 abbrev is_over : Conn → End → Bool

@@ -4,7 +4,8 @@ use Rattle.std.specs.Prelude.{not}
 use Rattle.dtx_values.specs.declared.entry.Entry.{Entry}
 use Rattle.dtx_values.specs.declared.entry.Entry.TheVariants.{Enlisted, RollbackAsked, TimedOut, Voted, PromoteReply, Requested, OwnerAnswered, Decided, Told, PromotionFailed, Sent, Got, Down as End, LogFull, Restarted}
 use Rattle.dtx_values.specs.declared.entry.Request.TheVariants.{Abort}
-use Rattle.dtx_values.specs.declared.message.Conn.TheVariants.{Enl, Again}
+use Rattle.dtx_values.specs.declared.message.Conn.{Conn}
+use Rattle.dtx_values.specs.declared.message.Conn.TheVariants.{Begin, Voter, Enl, Again}
 use Rattle.dtx_values.specs.declared.message.Dir.TheVariants.{Down}
 use Rattle.dtx_values.specs.declared.message.Message.{Message}
 use Rattle.dtx_values.specs.declared.message.Message.TheVariants.{BeginAbort, BeginAborted, VoterNo, VoterRefused, VoterAbort, EnlistNo, EnlistRefused, EnlistAbort, ReenlistAborted}
@@ -67,6 +68,12 @@ is_origin (Requested e Abort) = true
 is_origin (OwnerAnswered e x) = is_bad_outcome x
 is_origin LogFull = true
 is_origin _ = false
+
+-- b or v, over which the local side and the coordinator agree on the outcome
+abbrev pub is_pair : Conn → Bool
+is_pair Begin = true
+is_pair Voter = true
+is_pair _ = false
 
 -- the entry is no end that is a veto, seen on either side, and seen on the local side
 abbrev pub is_spared : List Entry → Entry → Bool

@@ -39,8 +39,7 @@ use Rattle.outcome_law.proofs.Going.{is_no_vote}
 use Rattle.outcome_law.proofs.Scans.{has_more, has_less}
 use Rattle.outcome_law.proofs.Settled.{asked_well}
 use Rattle.outcome_law.proofs.Wired.{IsWired, is_any_end, is_end_on, is_opened_once, unlost_unended, wired_before}
-use Rattle.outcome_law.proofs.Fine.{IsFine, any_class, blames, ends_aborted, ends_requested, has_cause, is_bad, is_bad_message, is_bad_outcome, is_caused, is_made, is_origin, is_restart, is_spared, is_spared_down}
-use Rattle.outcome_law.proofs.Joined.{is_pair}
+use Rattle.outcome_law.proofs.Fine.{IsFine, any_class, blames, ends_aborted, ends_requested, has_cause, is_bad, is_bad_message, is_bad_outcome, is_caused, is_made, is_origin, is_pair, is_restart, is_spared, is_spared_down}
 use Rattle.outcome_law.proofs.Arrived.{unstopped}
 use Rattle.outcome_law.proofs.Crossed.{is_sent_on, got_sent}
 
