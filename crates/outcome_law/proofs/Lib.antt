@@ -54,7 +54,8 @@ pub mod PromotionExample
 pub mod PlannedReplays
 pub mod Determined
 pub mod OtherTraces
-pub mod Whole
+pub mod Severed
+pub mod Wired
 pub mod Messages
 pub mod Joined
 pub mod OnTheWay
