@@ -1,5 +1,5 @@
 -- What is so of the connections between the two sides where nothing is pending and nothing is decided.
-use Rattle.std.proofs.Common.{◌≡◌, Bool, true, false, List}
+use Rattle.std.proofs.Common.{◌≡◌, true, false, List}
 use Rattle.dtx_values.specs.declared.entry.Entry.{Entry}
 use Rattle.dtx_values.specs.declared.message.Conn.{Conn}
 use Rattle.dtx_values.specs.declared.message.Conn.TheVariants.{Begin, Voter, Enl}
@@ -12,12 +12,7 @@ use Rattle.dtx_model.specs.Wires.{is_lost_wire}
 use Rattle.outcome_law.proofs.Crossed.{is_got_on}
 use Rattle.outcome_law.proofs.Messages.{COMMIT, VOTED, YES}
 use Rattle.outcome_law.proofs.Wired.{IsFirm}
-
--- b or v, over which the local side and the coordinator agree on the outcome
-abbrev pub is_pair : Conn → Bool
-is_pair Begin = true
-is_pair Voter = true
-is_pair _ = false
+use Rattle.outcome_law.proofs.Fine.{is_pair}
 
 -- The coordinator has decided nothing. Before the local yes b and v are firm. Where b was lost, COMMIT was got; where v was, YES was got; and where the connection of an enlistment was, its vote
 -- was got.
