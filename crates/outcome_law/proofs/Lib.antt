@@ -54,7 +54,7 @@ pub mod PromotionExample
 pub mod PlannedReplays
 pub mod Determined
 pub mod OtherTraces
-pub mod Whole
+pub mod Wired
 pub mod Messages
 pub mod Joined
 pub mod OnTheWay
@@ -68,6 +68,7 @@ pub mod Knowledge
 pub mod Followed
 pub mod Promoted
 pub mod Stages
+pub mod Foregoing
 pub mod Committed
 pub mod Recorded
 pub mod Desks
@@ -167,7 +168,6 @@ pub mod PlacedRows
 pub mod SealedRows
 pub mod WellRows
 pub mod UnstoppedTies
-pub mod Promised
 pub mod CommitExample
 pub mod PromotesRuns
 pub mod CommonBlocks

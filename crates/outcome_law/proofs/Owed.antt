@@ -121,27 +121,6 @@ all_each : (f : EnlNo → Bool) (bs : List Branch) (es : List EnlNo) → each f 
 all_each f [] es k = k
 all_each f (b ∷ bs) es k = all_each f bs es (with_each f b.enlistment (with_names bs es) k)
 
--- where nobody was lost, none is gone
-none_gone : (h : List Entry) → has is_loss h ≡ false → has (λ l. l.lost) (listeners h) ≡ false
-none_gone [] n = refl
-none_gone (Enlisted e c ∷ h) n = has-insert (λ l. l.lost) listener_number (record { enlistment = e; told = false; lost = false }) (listeners h) ∙ none_gone h n
-none_gone (Told (Member e) x ∷ h) n = has_kept (λ l. l.lost) (hear e.value) (λ l. refl) (listeners h) ∙ none_gone h n
-none_gone (Lost e ∷ h) n = absurd cc
-none_gone (Reenlisted e ∷ h) n =
-    false_from_ne_true (has (λ l. l.lost) (listeners (Reenlisted e ∷ h)))
-    (λ k. not_both (has (λ l. l.lost) (listeners h))
-    (unlost (λ l. l.lost) (λ l. l.lost) (come_back e.value) (λ l a. and_right (not (e.value == l.enlistment.value)) l.lost a) (listeners h) k) (none_gone h n))
-  where
-    unlost : (p q : Listener → Bool) (f : Listener → Listener) → ((x : Listener) → q (f x) ≡ true → p x ≡ true) → (xs : List Listener) → has q (map f xs) ≡ true → has p xs ≡ true
-    unlost p q f sub [] k = absurd cc
-    unlost p q f sub (x ∷ xs) k = or_case (q (f x)) (has q (map f xs)) (λ a. or_left (p x) (has p xs) (sub x a)) (λ a. or_right (p x) (has p xs) (unlost p q f sub xs a)) k
-none_gone (x ∷ h) n = none_gone h (or_second (is_loss x) (has is_loss h) n)
-
-pub unlost_there : (h : List Entry) (e : ℕ) → has is_loss h ≡ false → is_gone (observe h) e ≡ false
-unfolding observe
-unlost_there h e n =
-    has_less (λ l. (e == l.enlistment.value) && l.lost) (λ l. l.lost) (λ l a. and_right (e == l.enlistment.value) l.lost a) (listeners h) (none_gone h n)
-
 -- whose listener was told was told
 told_seen : (e : ℕ) (h : List Entry) → has (λ l. (e == l.enlistment.value) && l.told) (listeners h) ≡ true → has (is_told e) h ≡ true
 told_seen e [] k = absurd cc
