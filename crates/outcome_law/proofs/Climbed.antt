@@ -303,7 +303,7 @@ decided_at_rest ks h r = true_from_ne_false (has is_decision h) (λ u. climb_all
 
     commits : IsOpen h → has is_promoted h ≡ true → has is_sealed h ≡ true → promoted_act (half_of ks h) (promotable_in (rows h)) ≡ [] → (l : Bool) → is_lost_wire Begin h ≡ l → has (is_got_on Begin Up COMMIT) h ≡ true
     commits o p sealed b true l = (r.unmoved.joined o.undecided).commit l
-    commits o p sealed b false l = let b_linked = linked Begin h o refl l in commit_got h b_linked w (sends b_linked p sealed b (promotable_in (rows h)) refl)
+    commits o p sealed b false l = let own = linked Begin h o refl l in commit_got h own w (sends own p sealed b (promotable_in (rows h)) refl)
 
     -- ASK was got, YES, and each vote
     asks : IsOpenThere h → IsJoined h → has (is_got_on Begin Up COMMIT) h ≡ true → (l : Bool) → is_lost_wire Voter h ≡ l → has (is_got_on Voter Down ASK) h ≡ true

@@ -1,5 +1,5 @@
 -- What is so of the connections between the two sides where nothing is pending and nothing is decided.
-use Rattle.std.proofs.Common.{◌≡◌, Bool, true, false, List}
+use Rattle.std.proofs.Common.{◌≡◌, true, false, List}
 use Rattle.dtx_values.specs.declared.entry.Entry.{Entry}
 use Rattle.dtx_values.specs.declared.message.Conn.{Conn}
 use Rattle.dtx_values.specs.declared.message.Conn.TheVariants.{Begin, Voter, Enl}

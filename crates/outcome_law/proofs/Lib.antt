@@ -69,6 +69,7 @@ pub mod Knowledge
 pub mod Followed
 pub mod Promoted
 pub mod Stages
+pub mod Foregoing
 pub mod Committed
 pub mod Recorded
 pub mod Desks
@@ -169,7 +170,6 @@ pub mod PlacedRows
 pub mod SealedRows
 pub mod WellRows
 pub mod UnstoppedTies
-pub mod Promised
 pub mod CommitExample
 pub mod PromotesRuns
 pub mod CommonBlocks
