@@ -54,6 +54,7 @@ pub mod PromotionExample
 pub mod PlannedReplays
 pub mod Determined
 pub mod OtherTraces
+pub mod Severed
 pub mod Wired
 pub mod Messages
 pub mod Joined

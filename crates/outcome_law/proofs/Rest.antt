@@ -7,13 +7,13 @@ use Rattle.dtx_values.specs.declared.message.Conn.{Conn}
 use Rattle.dtx_values.specs.declared.message.Conn.TheVariants.{Begin, Voter, Enl}
 use Rattle.dtx_values.specs.declared.message.Dir.{Dir}
 use Rattle.dtx_values.specs.declared.message.Dir.TheVariants.{Up, Down}
-use Rattle.dtx_values.specs.declared.message.Message.TheVariants.{BeginCommit, EnlistEnlist, EnlistPrepare, EnlistPrepared, EnlistReadonly}
+use Rattle.dtx_values.specs.declared.message.Message.TheVariants.{BeginCommit, EnlistEnlist, EnlistPrepare, EnlistPrepared, EnlistReadonly, VoterAsk}
 use Rattle.dtx_values.specs.declared.number.EnlNo.{EnlNo}
 use Rattle.dtx_values.specs.Clones.{is_open_block}
 use Rattle.dtx_values.specs.Lines.{is_opening}
 use Rattle.dtx_values.specs.Waves.{zeros_voted}
 use Rattle.dtx_model.specs.Words.{has, each, always}
-use Rattle.dtx_model.specs.Entries.{is_asked, is_commit, is_decision, is_promoted, is_record, is_sealed, is_vote}
+use Rattle.dtx_model.specs.Entries.{is_asked, is_commit, is_decision, is_promoted, is_record, is_sealed, is_vote, is_yes}
 use Rattle.dtx_model.specs.Observed.{clone_rows, is_ask_promote, is_ask_single, is_promote_reply, is_request, rows}
 use Rattle.dtx_model.specs.Promotes.{is_promoting}
 use Rattle.dtx_model.specs.Tied.{is_logged}
@@ -39,24 +39,25 @@ is_after_start past (Promoting c) = not (has is_promoting past)
 is_after_start past x = true
 
 -- A promotion is over after BEGUN and CREATED, and before the seal. A request comes after it, and so does COMMIT. The coordinator sends where it got the
--- opening message. The local yes comes after ASK, the record after COMMIT, and the vote of a durable after PREPARE.
+-- opening message. The local yes comes once and after ASK, the record after COMMIT, and the vote of a durable after PREPARE.
 abbrev pub is_sound : List Entry → Entry → Bool
 is_sound past (Promoted u c) = has (is_got_on Begin Down BEGUN) past && has (is_got_on Voter Down CREATED) past && not (has is_sealed past)
 is_sound past (Requested e x) = has is_promoted past
 is_sound past (Sent c Down m) = has (is_got_on c Up (is_opening c)) past
 is_sound past (Sent Begin Up BeginCommit) = has is_promoted past
-is_sound past LocalYes = has (is_got_on Voter Down ASK) past
+is_sound past LocalYes = has (is_got_on Voter Down ASK) past && not (has is_yes past)
 is_sound past Logged = has (is_got_on Begin Up COMMIT) past
 is_sound past (Voted e v) = has (is_volatile_made e.value) past || has (is_got_on (Enl e) Down PREPARE) past
 is_sound past x = true
 
--- A record is freed where there is one. ENLIST comes to the coordinator before COMMIT, which comes before PREPARE is sent; and a vote is sent after PREPARE.
+-- A record is freed where there is one. ENLIST comes to the coordinator before COMMIT, which comes before PREPARE and ASK are sent; and a vote is sent after PREPARE.
 abbrev pub is_ordered : List Entry → Entry → Bool
 is_ordered past Freed = has is_record past
 is_ordered past (Got (Enl e) Up (EnlistEnlist i)) = not (has (is_got_on Begin Up COMMIT) past)
 is_ordered past (Sent (Enl e) Up EnlistPrepared) = has (is_got_on (Enl e) Down PREPARE) past
 is_ordered past (Sent (Enl e) Up EnlistReadonly) = has (is_got_on (Enl e) Down PREPARE) past
 is_ordered past (Sent (Enl e) Down EnlistPrepare) = has (is_got_on Begin Up COMMIT) past
+is_ordered past (Sent Voter Down VoterAsk) = has (is_got_on Begin Up COMMIT) past
 is_ordered past x = true
 
 -- What is sent upward on v or on an enlistment's connection is sent after BEGUN.
