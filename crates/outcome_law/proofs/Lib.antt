@@ -158,6 +158,7 @@ pub mod Steady
 pub mod CausedRows
 pub mod QuietBlocks
 pub mod MildBlocks
+pub mod EndsNoted
 pub mod Ending
 pub mod Announced
 pub mod LostVoters
