@@ -81,11 +81,8 @@ commit_prepares : (id : ℕ) (h : List Entry) → IsOpenThere (onto (Got Begin U
 commit_prepares id h u q p = λ c e k.
     by e (sym (quiet_got (Enl e) Up ENLIST (Got Begin Up BeginCommit ∷ h) (core_got id (coordinate h) Begin BeginCommit) q) ∙ k) (has (is_got_on Begin Up COMMIT) h) refl
   where
-    block : List Entry
-    block = core_got id (coordinate h) Begin BeginCommit
-
     now : IsOpenThere (Got Begin Up BeginCommit ∷ h)
-    now = there_onto (Got Begin Up BeginCommit ∷ h) block u
+    now = there_onto (Got Begin Up BeginCommit ∷ h) (core_got id (coordinate h) Begin BeginCommit) u
 
     past : IsOpenThere h
     past = there_before (Got Begin Up BeginCommit) h now
