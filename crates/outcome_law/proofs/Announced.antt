@@ -44,6 +44,7 @@ use Rattle.dtx_model.proofs.Bools.{and_both, and_left, and_right, not_both, not_
 use Rattle.dtx_model.proofs.Reading.{has-onto}
 use Rattle.dtx_model.proofs.Connections.{same_is}
 use Rattle.outcome_law.proofs.Scans.{has_more}
+use Rattle.outcome_law.proofs.Onto.{none_before, stood_before}
 use Rattle.outcome_law.proofs.Wired.{IsWired, is_end_on}
 use Rattle.outcome_law.proofs.Messages.{ASK, OUTCOME, VOTER_NO, VOTER_OUTCOME}
 use Rattle.outcome_law.proofs.Table.{is_opening_got, rule}
@@ -194,16 +195,6 @@ sent_there c p h es k = has-onto (is_sent_on c Down p) h es ∙ or_right (has (i
 sent_here : (c : Conn) (p : Message → Bool) (h es : List Entry) → has (is_sent_on c Down p) es ≡ true → has (is_sent_on c Down p) (onto h es) ≡ true
 sent_here c p h es k = has-onto (is_sent_on c Down p) h es ∙ or_left (has (is_sent_on c Down p) es) (has (is_sent_on c Down p) h) k
 
--- what stands nowhere doesn't stand before the block
-none_before : (p : Entry → Bool) (h es : List Entry) → has p (onto h es) ≡ false → has p h ≡ false
-none_before p h es n = or_second (has p es) (has p h) (sym (has-onto p h es) ∙ n)
-
--- what no entry of the block is stands before it
-old : (p q : Entry → Bool) → ((x : Entry) → q x ≡ true → p x ≡ false) → (h es : List Entry) → each q es ≡ true → has p (onto h es) ≡ true → has p h ≡ true
-old p q f h [] k t = t
-old p q f h (x ∷ es) k t =
-    or_case (p x) (has p h) (λ a. absurd (not_both (p x) a (f x (and_left (q x) (each q es) k)))) (λ a. a) (old p q f (x ∷ h) es (and_right (q x) (each q es) k) t)
-
 unasking_unsent : (x : Entry) → is_unasking x ≡ true → is_sent_on Voter Down ASK x ≡ false
 unasking_unsent (Sent Voter Down m) t = not_true (ASK m) t
 unasking_unsent (Sent Voter Up m) t = refl
@@ -222,7 +213,7 @@ apart_announces h es q s a =
     record {
       on_begin = λ n u. sent_there Begin OUTCOME h es (a.on_begin (ap is_undecided (sym (stage_block h es q)) ∙ n) (none_before (is_end_on Begin Up) h es u));
       on_voter = λ n k u v. sent_there Voter VOTER_OUTCOME h es
-          (a.on_voter (ap is_undecided (sym (stage_block h es q)) ∙ n) (old (is_sent_on Voter Down ASK) is_unasking unasking_unsent h es s k) (none_before (is_end_on Voter Up) h es u)
+          (a.on_voter (ap is_undecided (sym (stage_block h es q)) ∙ n) (stood_before (is_sent_on Voter Down ASK) is_unasking unasking_unsent h es s k) (none_before (is_end_on Voter Up) h es u)
           (none_before (is_got_on Voter Up VOTER_NO) h es v));
     }
 
@@ -243,7 +234,7 @@ head_announces x h es q s d a f = by (is_undecided (coordinate h).stage) refl (i
         record {
           on_begin = λ n u. sent_there Begin OUTCOME h (x ∷ es) (a.on_begin e (none_before (is_end_on Begin Up) h (x ∷ es) u));
           on_voter = λ n k u v. sent_there Voter VOTER_OUTCOME h (x ∷ es)
-              (a.on_voter e (old (is_sent_on Voter Down ASK) is_unasking unasking_unsent h (x ∷ es) all k) (none_before (is_end_on Voter Up) h (x ∷ es) u)
+              (a.on_voter e (stood_before (is_sent_on Voter Down ASK) is_unasking unasking_unsent h (x ∷ es) all k) (none_before (is_end_on Voter Up) h (x ∷ es) u)
               (none_before (is_got_on Voter Up VOTER_NO) h (x ∷ es) v));
         }
 
@@ -309,7 +300,7 @@ decision_announces h es u q o f g =
       on_begin = λ n e. let unended = none_before (is_end_on Begin Up) h es e in sent_here Begin OUTCOME h es (f (known Begin h here (o unended) unended));
       on_voter = λ n k e v.
           sent_here Voter VOTER_OUTCOME h es
-          (g (known Voter h here (old (is_opening_got Voter) is_apart (apart_ungot Voter) h es q (sent_opened_there Voter ASK (onto h es) u.keeps k)) (none_before (is_end_on Voter Up) h es e))
+          (g (known Voter h here (stood_before (is_opening_got Voter) is_apart (apart_ungot Voter) h es q (sent_opened_there Voter ASK (onto h es) u.keeps k)) (none_before (is_end_on Voter Up) h es e))
           (no_unnoted h (none_before (is_got_on Voter Up VOTER_NO) h es v)));
     }
 
