@@ -138,7 +138,7 @@ commit_row h r = first_of_three (has is_sealed h) (has is_promoted h) (not (has 
 sent_sealed : (x : Entry) (h : List Entry) → Keeps h → rule h x ≡ true → is_commit_sent x ≡ true → has is_sealed h ≡ true
 sent_sealed x h k r t = let P : Entry → Type 0 = λ y. rule h y ≡ true in commit_row h (subst P (sent_is x t) r)
 
-sealed_there : (h : List Entry) → Keeps h → has is_commit_sent h ≡ true → has is_sealed h ≡ true
+pub sealed_there : (h : List Entry) → Keeps h → has is_commit_sent h ≡ true → has is_sealed h ≡ true
 sealed_there h k t = before is_commit_sent is_sealed sent_sealed h k t
 
 -- so where it was sent it was requested, or nothing is promotable
@@ -147,7 +147,7 @@ lone_more (Enlisted e c) h r s t = absurd (not_both (has is_sealed h) s (enliste
 lone_more (Requested e y) h r s t = refl
 lone_more _ h r s t = t
 
-lone_there : (h : List Entry) → Keeps h → always is_lone h ≡ true → has is_commit_sent h ≡ true → (has is_request h || not (has_promotable h)) ≡ true
+pub lone_there : (h : List Entry) → Keeps h → always is_lone h ≡ true → has is_commit_sent h ≡ true → (has is_request h || not (has_promotable h)) ≡ true
 lone_there [] k l t = absurd (no t)
 lone_there (x ∷ h) k l t =
     let past = keeps_before x h k in
@@ -164,7 +164,7 @@ named_none xs t = find_none (λ x. is_promotable x.class) xs (by (find (λ x. is
     by (Some x) t = absurd cc
     by None t = refl
 
-rows_promotable : (h : List Entry) → has (λ x. is_promotable x.class) (rows h) ≡ has_promotable h
+pub rows_promotable : (h : List Entry) → has (λ x. is_promotable x.class) (rows h) ≡ has_promotable h
 rows_promotable h = has_rows (λ (f : EnlNo) (c : Class). is_promotable c) h
 
 asked_up : (o : Observed) (h : List Entry) (m : Message) → IsAsking h → (COMMIT m ≡ true → (has is_commit_sent h ≡ false) × ((has is_request h || not (has_promotable h)) ≡ true)) → IsAsking (onto h (to_up o Begin m))
@@ -199,7 +199,7 @@ has_at p [] k x e t = absurd cc
 has_at p (y ∷ xs) zero x e t = let same : y ≡ x = cc in or_left (p y) (has p xs) (ap p same ∙ t)
 has_at p (y ∷ xs) (suc k) x e t = or_right (p y) (has p xs) (has_at p xs k x e t)
 
-request_owed : (h : List Entry) (e : ℕ) (x : Outcome) → due_of (observe h) e ≡ Some Single → (has is_request h ≡ false) × (has_promotable h ≡ true)
+pub request_owed : (h : List Entry) (e : ℕ) (x : Outcome) → due_of (observe h) e ≡ Some Single → (has is_request h ≡ false) × (has_promotable h ≡ true)
 unfolding observe
 request_owed h e x d =
     let o = owed h (OwnerReply x) Single e refl d refl in

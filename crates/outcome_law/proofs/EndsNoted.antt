@@ -47,11 +47,11 @@ noted c (Sent e Up m ∷ h) k = step (is_opening e m) (same_connection c e) refl
         has-insert (is_end_of c) end_order new others ∙ or_left (same_connection c e) (has (is_end_of c) others) q
     step true false q ih k = other_stays c e (is_end_of c) (tag_of m) (ends_of h) q (λ n a. a) (ih k)
     step false s q ih k = sent_same c e (tag_of m) (ends_of h) ∙ ih (last s (has (opens c) h) k)
-noted c (Got e Down m ∷ h) k = step (has_line e Down m)
+noted c (Got e Down m ∷ h) k = step (noted c h k) (has_line e Down m)
   where
-    step : (l : Bool) → has (is_end_of c) (if l then map (note_got e (tag_of m)) (ends_of h) else map (note_end e) (ends_of h)) ≡ true
-    step true = got_same c e (tag_of m) (ends_of h) ∙ noted c h k
-    step false = end_same c e (ends_of h) ∙ noted c h k
+    step : has (is_end_of c) (ends_of h) ≡ true → (l : Bool) → has (is_end_of c) (if l then map (note_got e (tag_of m)) (ends_of h) else map (note_end e) (ends_of h)) ≡ true
+    step ih true = got_same c e (tag_of m) (ends_of h) ∙ ih
+    step ih false = end_same c e (ends_of h) ∙ ih
 noted c (Ended e Down ∷ h) k = end_same c e (ends_of h) ∙ noted c h k
 noted c (x ∷ h) k = noted c h k
 
@@ -97,27 +97,22 @@ ends_noted c (Ended e Down ∷ h) p k t =
     has_made (is_end_of c) (is_over c) (note_end e) (end_now c e same) (ends_of h) (noted c h (subst P (sym same) (end_opened e Down h k.wires.0))))
     (λ q. has_made (is_over c) (is_over c) (note_end e) (end_more c e) (ends_of h) (ends_noted c h p (keeps_before (Ended e Down) h k) q)) t
 ends_noted c (Ended e Up ∷ h) p k t = ends_noted c h p (keeps_before (Ended e Up) h k) (last (same_connection c e) (has (is_end_on c Down) h) t)
-ends_noted c (Sent e Up m ∷ h) p k t = step (is_opening e m) refl (same_connection c e) refl
+ends_noted c (Sent e Up m ∷ h) p k t = step (ends_noted c h p (keeps_before (Sent e Up m) h k) t) (is_opening e m) refl (same_connection c e) refl
   where
-    before : saw_end c (ends_of h) ≡ true
-    before = ends_noted c h p (keeps_before (Sent e Up m) h k) t
-
-    step : (o : Bool) → is_opening e m ≡ o → (s : Bool) → same_connection c e ≡ s → saw_end c (if o then with_opened e (tag_of m) (ends_of h) else map (note_sent e (tag_of m)) (ends_of h)) ≡ true
-    step true a true b =
+    step : saw_end c (ends_of h) ≡ true → (o : Bool) → is_opening e m ≡ o → (s : Bool) → same_connection c e ≡ s
+        → saw_end c (if o then with_opened e (tag_of m) (ends_of h) else map (note_sent e (tag_of m)) (ends_of h)) ≡ true
+    step ih true a true b =
         absurd (not_both (has (opens c) h) (ended_opened c h k.wires.1 t)
         (pair_once c (Sent e Up m) h p (newest (Sent e Up m) h k) (and_both (same_connection c e) (is_opening e m) b a)))
-    step true a false b = other_stays c e (is_over c) (tag_of m) (ends_of h) b (λ n q. and_left (is_end_of c n) n.ended q) before
-    step false a s b =
+    step ih true a false b = other_stays c e (is_over c) (tag_of m) (ends_of h) b (λ n q. and_left (is_end_of c n) n.ended q) ih
+    step ih false a s b =
         has_kept (is_over c) (note_sent e (tag_of m))
-        (λ n. if_kept (is_over c) (is_end_of e n) (record { connection = n.connection; sent = with_tag (tag_of m) n.sent; got = n.got; ended = n.ended }) n refl) (ends_of h) ∙ before
-ends_noted c (Got e Down m ∷ h) p k t = step (has_line e Down m)
+        (λ n. if_kept (is_over c) (is_end_of e n) (record { connection = n.connection; sent = with_tag (tag_of m) n.sent; got = n.got; ended = n.ended }) n refl) (ends_of h) ∙ ih
+ends_noted c (Got e Down m ∷ h) p k t = step (ends_noted c h p (keeps_before (Got e Down m) h k) t) (has_line e Down m)
   where
-    before : saw_end c (ends_of h) ≡ true
-    before = ends_noted c h p (keeps_before (Got e Down m) h k) t
-
-    step : (l : Bool) → saw_end c (if l then map (note_got e (tag_of m)) (ends_of h) else map (note_end e) (ends_of h)) ≡ true
-    step true =
+    step : saw_end c (ends_of h) ≡ true → (l : Bool) → saw_end c (if l then map (note_got e (tag_of m)) (ends_of h) else map (note_end e) (ends_of h)) ≡ true
+    step ih true =
         has_kept (is_over c) (note_got e (tag_of m))
-        (λ n. if_kept (is_over c) (is_end_of e n) (record { connection = n.connection; sent = n.sent; got = with_tag (tag_of m) n.got; ended = n.ended }) n refl) (ends_of h) ∙ before
-    step false = has_made (is_over c) (is_over c) (note_end e) (end_more c e) (ends_of h) before
+        (λ n. if_kept (is_over c) (is_end_of e n) (record { connection = n.connection; sent = n.sent; got = with_tag (tag_of m) n.got; ended = n.ended }) n refl) (ends_of h) ∙ ih
+    step ih false = has_made (is_over c) (is_over c) (note_end e) (end_more c e) (ends_of h) ih
 ends_noted c (x ∷ h) p k t = ends_noted c h p (keeps_before x h k) t

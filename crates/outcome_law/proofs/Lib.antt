@@ -139,6 +139,10 @@ pub mod OpenedRows
 pub mod ClosedRows
 pub mod Tabled
 pub mod Asking
+pub mod Onto
+pub mod RequestBlocks
+pub mod Requests
+pub mod Returned
 pub mod LocalSteps
 pub mod ToldOn
 pub mod CameOnce

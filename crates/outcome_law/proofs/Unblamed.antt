@@ -38,9 +38,8 @@ use Rattle.outcome_law.proofs.Rule.{is_decided}
 use Rattle.outcome_law.proofs.Going.{is_no_vote}
 use Rattle.outcome_law.proofs.Scans.{has_more, has_less}
 use Rattle.outcome_law.proofs.Settled.{asked_well}
-use Rattle.outcome_law.proofs.Wired.{IsWired, is_any_end, is_end_on, is_opened_once, unlost_unended, wired_before}
+use Rattle.outcome_law.proofs.Wired.{IsWired, is_any_end, is_end_on, newest, unlost_unended, unstopped, wired_before}
 use Rattle.outcome_law.proofs.Fine.{IsFine, any_class, blames, ends_aborted, ends_requested, has_cause, is_bad, is_bad_message, is_bad_outcome, is_caused, is_made, is_origin, is_pair, is_restart, is_spared, is_spared_down}
-use Rattle.outcome_law.proofs.Arrived.{unstopped}
 use Rattle.outcome_law.proofs.Crossed.{is_sent_on, got_sent}
 
 -- While the local side hasn't said yes, the end of b or of v is a veto there: where each end there is spared, none came.
@@ -97,7 +96,7 @@ fine_before x h f = record {
 
 -- the newest entry isn't bad, it has a line where it was got, is spared where it is an end, and where it is no loss it is no veto
 lined : (c : Conn) (d : Dir) (m : Message) (h : List Entry) → IsFine (Got c d m ∷ h) → has_line c d m ≡ true
-lined c d m h f = and_left (has_line c d m) (always is_opened_once h) f.wired.opened
+lined c d m h f = newest (Got c d m) h f.wired
 
 spared_end : (c : Conn) (d : Dir) (h : List Entry) → IsFine (End c d ∷ h) → is_veto_end h c d ≡ false
 spared_end c d h f = not_true (is_veto_end h c d) (and_left (not (is_veto_end h c d)) (always is_spared h) f.spared)
