@@ -17,7 +17,7 @@ use Rattle.outcome_law.proofs.Fine.{is_pair}
 -- The coordinator has decided nothing. Before the local yes b and v are firm. Where b was lost, COMMIT was got; where v was, YES was got; and where the connection of an enlistment was, its vote
 -- was got.
 pub record IsJoined (h : List Entry) : Type 0 where
-  pub open : is_undecided (coordinate h).stage ≡ true
+  pub undecided : is_undecided (coordinate h).stage ≡ true
   pub early : (c : Conn) → is_pair c ≡ true → has is_yes h ≡ false → IsFirm c h
   pub commit : is_lost_wire Begin h ≡ true → has (is_got_on Begin Up COMMIT) h ≡ true
   pub yes : is_lost_wire Voter h ≡ true → has (is_got_on Voter Up YES) h ≡ true

@@ -185,7 +185,7 @@ open_spared (x ∷ h) a r k =
 
 all_spared : (h : List Entry) → IsSettling h → has is_decision h ≡ false → always is_spared h ≡ true
 unfolding coordinator_aborted
-all_spared h r d = let open = stage_open h r d in open_spared h (open_unaborted h open) (open_unrecorded h open) (r.going d).spared
+all_spared h r d = let u = stage_open h r d in open_spared h (open_unaborted h u) (open_unrecorded h u) (r.going d).spared
 
 -- Where it saw the end of a connection, it had got what makes that end no veto: COMMIT, YES or the vote.
 ended_got : (c : Conn) (q : Entry → Bool) → ((h : List Entry) → is_veto_end h c Up ≡ false → has q h ≡ true) → (h : List Entry) → always is_spared h ≡ true → has (is_end_on c Up) h ≡ true → has q h ≡ true
@@ -222,15 +222,15 @@ vote_well e (x ∷ h) n t =
 pub undecided_joined : (h : List Entry) → IsSettling h → has is_decision h ≡ false → IsJoined h
 undecided_joined h r d =
     record {
-      open = open;
+      undecided = undecided;
       early = early_firm h r d;
       commit = λ l. has_more is_commit_got (is_got_on Begin Up COMMIT) commit_got_on h (ended_got Begin is_commit_got (λ g v. taken (has is_commit_got g) v) h spared (r.ended Begin refl l Up));
       yes = λ l. has_more is_yes_got (is_got_on Voter Up YES) yes_got_on h (ended_got Voter is_yes_got (λ g v. taken (has is_yes_got g) v) h spared (r.ended Voter refl l Up));
-      cast = λ e l. vote_well e h (none_ended h open) (ended_got (Enl e) (is_vote_got e.value) (λ g v. taken (has (is_vote_got e.value) g) v) h spared (r.ended (Enl e) refl l Up));
+      cast = λ e l. vote_well e h (none_ended h undecided) (ended_got (Enl e) (is_vote_got e.value) (λ g v. taken (has (is_vote_got e.value) g) v) h spared (r.ended (Enl e) refl l Up));
     }
   where
-    open : is_undecided (coordinate h).stage ≡ true
-    open = stage_open h r d
+    undecided : is_undecided (coordinate h).stage ≡ true
+    undecided = stage_open h r d
 
     spared : always is_spared h ≡ true
     spared = all_spared h r d
@@ -416,7 +416,7 @@ none_requested h r j = false_from_ne_true (has is_abort_request h) (λ k. by k (
         not_both (has is_core_end h)
         (has_more (is_got_on Begin Up ABORT) is_core_end come h
         (arrived Begin Up ABORT h r.wired firm (r.quiet.empty Begin Up)
-        (followed (IsSent Begin) (sent_before Begin) is_abort_request (is_sent_on Begin Up ABORT) request_due h sent r.quiet.paid r.quiet.free k))) (none_ended h j.open)
+        (followed (IsSent Begin) (sent_before Begin) is_abort_request (is_sent_on Begin Up ABORT) request_due h sent r.quiet.paid r.quiet.free k))) (none_ended h j.undecided)
 
 -- And nobody voted No: on a firm connection it would have come, and where that was lost a good vote came.
 no_come : (e : EnlNo) (x : Entry) → is_got_on (Enl e) Up NO x ≡ true → is_core_end x ≡ true
@@ -439,7 +439,7 @@ none_by h r d j e k = by (is_lost_wire (Enl e) h) refl
         not_both (has is_core_end h)
         (has_more (is_got_on (Enl e) Up NO) is_core_end (no_come e) h
         (arrived (Enl e) Up NO h r.wired firm (r.quiet.empty (Enl e) Up)
-        (followed (IsVoter e) (voter_before e) (is_cast (Enl e) No) (is_sent_on (Enl e) Up NO) (no_due e) h voter r.quiet.paid r.quiet.free k))) (none_ended h j.open)
+        (followed (IsVoter e) (voter_before e) (is_cast (Enl e) No) (is_sent_on (Enl e) Up NO) (no_due e) h voter r.quiet.paid r.quiet.free k))) (none_ended h j.undecided)
 
 -- where nothing is decided, nothing bad came
 pub undecided_fine : (h : List Entry) → IsSettling h → has is_decision h ≡ false → IsFine h
@@ -451,7 +451,7 @@ undecided_fine h r d =
     record {
       wired = r.wired;
       in_time = u.in_time;
-      unbad = open_unblamed h r.wired spared u.in_time (origin_absent h u.unended (none_ended h j.open) (none_no j) (none_requested h r j) here.unanswered) d here.unfailed r.caused;
+      unbad = open_unblamed h r.wired spared u.in_time (origin_absent h u.unended (none_ended h j.undecided) (none_no j) (none_requested h r j) here.unanswered) d here.unfailed r.caused;
       spared = spared;
     }
   where
