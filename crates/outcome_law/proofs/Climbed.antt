@@ -327,12 +327,12 @@ decided_at_rest ks h r = true_from_ne_false (has is_decision h) (λ u. climb_all
     climb_all : has is_decision h ≡ false → IsOpen h → ⊥
     climb_all u o =
         let j = r.unmoved.joined u in
-        let n = open_unlogged h j.open in
+        let n = open_unlogged h j.undecided in
         let p = is_promoted_there ks h r.unmoved u in
         let a = if_part (has is_commit h) (asked_act (half_of ks h)) [] r.asked (promote_stuck (half_of ks h) (unasked_promotable (observe h)) (open_act ks h r.unmoved u)).1 in
         let sealed = is_sealed_there ks h r u n (none_waiting ks h r.unmoved u) p a in
         let b = if_part (has is_promoted h) (promoted_act (half_of ks h) (promotable_in (rows h))) _ p (if_part (has is_sealed h) (sealed_act (half_of ks h)) _ sealed a) in
-        let there : IsOpenThere h = record { fine = r.unmoved.fine u; sound = r.unmoved.sound; ordered = r.unmoved.ordered; begun = r.begun; open = j.open } in
+        let there : IsOpenThere h = record { fine = r.unmoved.fine u; sound = r.unmoved.sound; ordered = r.unmoved.ordered; begun = r.begun; undecided = j.undecided } in
         let got = commits o p sealed b (is_lost_wire Begin h) refl in
         let ask = ask_heard h (r.unmoved.fine u).wired (asks there j got (is_lost_wire Voter h) refl) in
         let y = yes_stuck (next_ask (rows h) false) (all_voted (rows h)) (has is_yes h) _

@@ -165,6 +165,7 @@ pub mod MildBlocks
 pub mod EndsNoted
 pub mod Ending
 pub mod Announced
+pub mod Requests
 pub mod LostVoters
 pub mod UndecidedFine
 pub mod Told

@@ -56,10 +56,9 @@ use Rattle.outcome_law.proofs.Waiters.{ran_waits}
 use Rattle.outcome_law.proofs.Prepared.{ran_prepares}
 use Rattle.outcome_law.proofs.Meeting.{ran_paid}
 use Rattle.outcome_law.proofs.OnTheWay.{is_on_its_way, is_unplaced}
-use Rattle.outcome_law.proofs.Wired.{IsWired}
+use Rattle.outcome_law.proofs.Wired.{IsWired, unstopped}
 use Rattle.outcome_law.proofs.Joined.{IsJoined}
 use Rattle.outcome_law.proofs.Fine.{IsFine, is_restart}
-use Rattle.outcome_law.proofs.Arrived.{unstopped}
 use Rattle.outcome_law.proofs.Rest.{IsAtRest, IsQuiet, IsUnmoved}
 use Rattle.outcome_law.proofs.Climbed.{told_at_rest}
 use Rattle.outcome_law.proofs.Owed.{AreHeeded, ArePromised, IsHeeded, IsUnowed, all_answered, all_voted, commit_requested, heeded_promised, promotion_replied}
@@ -300,7 +299,7 @@ at_rest s t h r began asked closed all =
       closed = closed;
       prepares =
           λ d n. ran_prepares G t r.steps w r.ran
-          (record { fine = r.fine d; sound = kept_sound h keeps; ordered = kept_ordered h keeps; begun = kept_begun h keeps; open = (r.joined d).open });
+          (record { fine = r.fine d; sound = kept_sound h keeps; ordered = kept_ordered h keeps; begun = kept_begun h keeps; undecided = (r.joined d).undecided });
       lasting = all_lasting G r.calls h r.made (ran_made G t r.steps w r.ran) keeps.wires;
       append = r.pended.append;
       answered = λ d. all_answered p h (r.unowed d) all d;
