@@ -1,6 +1,6 @@
 -- In each world that steps made, where nothing is decided: no rollback was asked for, no time was up, no promotable failed to promote, and where the commit was asked for each
 -- rollback clone was complete. No end that the local side saw was a veto, and after its yes it didn't see both b and v end.
-use Rattle.std.proofs.Common.{◌≡◌, ◌==◌, ℕ, Bool, true, false, ◌&&◌, ◌||◌, ◌⊎◌, inl, inr, List, [], ◌∷◌, ◌++◌, refl, ◌∙◌, subst, sym, if◌then◌else◌, Option, Some, None}
+use Rattle.std.proofs.Common.{◌≡◌, ℕ, Bool, true, false, ◌&&◌, ◌||◌, ◌⊎◌, inl, inr, List, [], ◌∷◌, ◌++◌, refl, ◌∙◌, subst, sym, if◌then◌else◌, Option, Some, None}
 use Rattle.std.specs.Prelude.{find, is_some, not}
 use Rattle.std.proofs.lemmas.Bool.{or_left}
 use Rattle.dtx_values.specs.declared.call.Call.{Call}

@@ -69,8 +69,8 @@ pub record IsRequesting (h : List Entry) : Type 0 where
   pub apart : has is_abort_request h ≡ true → has (is_sent_on Begin Up COMMIT) h ≡ false
 
 -- two promotables are one
-stands_some : (e : ℕ) (h : List Entry) → stands_promotable e h ≡ true → has_promotable h ≡ true
-stands_some e h t = has_more (is_promotable_of e) (λ x. is_promotable x.1) (λ x a. and_right (e == x.0.value) (is_promotable x.1) a) (enlisted h) t
+pub promotable_stands : (e : ℕ) (h : List Entry) → stands_promotable e h ≡ true → has_promotable h ≡ true
+promotable_stands e h t = has_more (is_promotable_of e) (λ x. is_promotable x.1) (λ x a. and_right (e == x.0.value) (is_promotable x.1) a) (enlisted h) t
 
 pub lone_same : (e f : ℕ) (h : List Entry) → always is_alone h ≡ true → stands_promotable e h ≡ true → stands_promotable f h ≡ true → e ≡ f
 lone_same e f [] a s t = absurd cc
@@ -79,8 +79,8 @@ lone_same e f (Enlisted g c ∷ h) a s t =
     or_case ((e == g.value) && is_promotable c) (stands_promotable e h)
     (λ p. or_case ((f == g.value) && is_promotable c) (stands_promotable f h)
     (λ q. eqb-true e g.value (and_left (e == g.value) (is_promotable c) p) ∙ sym (eqb-true f g.value (and_left (f == g.value) (is_promotable c) q)))
-    (λ q. absurd (none (and_right (e == g.value) (is_promotable c) p) (stands_some f h q))) t)
-    (λ p. or_case ((f == g.value) && is_promotable c) (stands_promotable f h) (λ q. absurd (none (and_right (f == g.value) (is_promotable c) q) (stands_some e h p))) (λ q. lone_same e f h past p q) t) s
+    (λ q. absurd (none (and_right (e == g.value) (is_promotable c) p) (promotable_stands f h q))) t)
+    (λ p. or_case ((f == g.value) && is_promotable c) (stands_promotable f h) (λ q. absurd (none (and_right (f == g.value) (is_promotable c) q) (promotable_stands e h p))) (λ q. lone_same e f h past p q) t) s
   where
     none : is_promotable c ≡ true → has_promotable h ≡ true → ⊥
     none p q =
@@ -128,11 +128,10 @@ promotable_lone e h true n k a = and_both (not (has_promotable h)) (always is_al
 promotable_lone e h false n k a = a
 
 step_lone : (t : ℕ) (w : World) (m : Step) → ((n : ℕ) (a : ActorNo) (c : Call) (j : ℕ) → m ≡ Calls n a c j → makes_new w.past c ≡ true) → Keeps (after t w m).past → IsLone w.past → IsLone (after t w m).past
-unfolding after
+unfolding after block_at
 step_lone t w m new k l = record { alone = by m new k }
   where
     by : (m : Step) → ((n : ℕ) (a : ActorNo) (c : Call) (j : ℕ) → m ≡ Calls n a c j → makes_new w.past c ≡ true) → Keeps (onto w.past (block_at t w m)) → always is_alone (onto w.past (block_at t w m)) ≡ true
-    unfolding block_at
     by (Calls n a (PromotableCall u e r v o p) j) new k =
         let x = answer_at t w (PromotableCall u e r v o p) j in
         promotable_lone e (Called n a x ∷ w.past) (has_facts x)

@@ -56,7 +56,7 @@ use Rattle.outcome_law.proofs.Foregoing.{unlost_here, yes_asked}
 use Rattle.outcome_law.proofs.CoreStages.{open_before, open_unaborted, open_unrecorded}
 use Rattle.outcome_law.proofs.BeforeRows.{kept_sound}
 use Rattle.outcome_law.proofs.Unblamed.{down_early, open_unblamed}
-use Rattle.outcome_law.proofs.Ending.{IsGoingOn, IsUnended, is_local_end}
+use Rattle.outcome_law.proofs.Ending.{IsGoingOn, is_local_end}
 use Rattle.outcome_law.proofs.Announced.{IsAnnounced}
 use Rattle.outcome_law.proofs.Requests.{IsRequesting}
 use Rattle.outcome_law.proofs.Crossed.{is_sent_on, is_got_on, was_sent}
