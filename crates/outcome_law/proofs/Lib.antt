@@ -169,7 +169,7 @@ pub mod Requests
 pub mod LostVoters
 pub mod UndecidedFine
 pub mod Told
-pub mod Unreturning
+pub mod Returning
 pub mod AskedRows
 pub mod PlacedRows
 pub mod SealedRows

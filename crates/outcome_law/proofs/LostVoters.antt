@@ -186,7 +186,8 @@ decides_voters h k e false false true f q a u = decided_onto (Lost e ∷ h) (dec
 decides_voters h k e false false false f q a u = decided_onto (Lost e ∷ h) (veto k) (veto_decides k)
 
 -- Whoever has no open connection. Its loss decides, unless it had voted.
-unlinked_voters : (w : World) (n : ℕ) (a : ActorNo) (e : EnlNo) (y : Answer) → IsUnstopped (onto (Called n a y ∷ w.past) (gone_by w e [])) → AreVoters w.past → AreVoters (onto (Called n a y ∷ w.past) (gone_by w e []))
+unlinked_voters : (w : World) (n : ℕ) (a : ActorNo) (e : EnlNo) (y : Answer) → IsUnstopped (onto (Called n a y ∷ w.past) (gone_by w e [])) → AreVoters (Called n a y ∷ w.past)
+    → AreVoters (onto (Called n a y ∷ w.past) (gone_by w e []))
 unfolding observe track
 unlinked_voters w n a e y u s =
     decides_voters (Called n a y ∷ w.past) (sees (half w) (Lost e)) e (is_some (latest decision_of w.past)) (voted e.value (rows w.past)) (is_handed (half w).seen.handed e.value)

@@ -291,17 +291,17 @@ all_answered p h r g u l = each_from_at has_answered (rows h) (λ i x e. row i x
     row i x e true lost = or_right (not (is_marked x)) (has_voted x) (r.spared i x e lost).has_cast
     row i x e false lost = by (is_lost_wire (Enl x.number) h) refl
       where
+        step : (m v w : Bool) → (m ≡ true → w ≡ true) → (m && not v && w) ≡ false → (not m || v) ≡ true
+        step true true w f k = refl
+        step true false w f k = absurd (not_both w (f refl) k)
+        step false v w f k = refl
+
         by : (c : Bool) → is_lost_wire (Enl x.number) h ≡ c → has_answered x ≡ true
         by true q = or_right (not (is_marked x)) (has_voted x) (r.carried i x e q).has_cast
         by false q =
             step (is_marked x) (has_voted x) (may_still_vote (observe h) x) (marked_votes p h i x r u l e q)
             (vote_unowed (p x.number.value) (owes_vote (observe h) x) (owes_promotion (observe h) x) (owes_outcome (observe h) x) (owes_request (observe h) x)
             (note_of_conn (conn_due (observe h) x.number.value)) (g i x e).votes (row_unplanned p h i x r e lost))
-
-        step : (m v w : Bool) → (m ≡ true → w ≡ true) → (m && not v && w) ≡ false → (not m || v) ≡ true
-        step true true w f k = refl
-        step true false w f k = absurd (not_both w (f refl) k)
-        step false v w f k = refl
 
 pub all_voted : (p : ℕ → Plan) (h : List Entry) → IsUnowed p h → AreHeeded p h → has is_decision h ≡ false → has is_logged h ≡ false → (e : ℕ) → has (is_asked e) h ≡ true → has (is_vote e) h ≡ true
 all_voted p h r g u l e k = voted_cast e h (each_of (rows h) (all_answered p h r g u l) (asked_marked e h r.there k))

@@ -101,13 +101,12 @@ humble_lone h (x ∷ es) k a =
 -- A promotable's call: its own connection wasn't opened, so nothing durable or promotable stood.
 none_lasting : (xs : List (EnlNo × Class)) → is_empty (filter (λ x. not (is_volatile x.1)) xs) ≡ true → has (λ x. is_promotable x.1) xs ≡ false
 none_lasting [] k = refl
-none_lasting (x ∷ xs) k = step x.1 k
+none_lasting (x ∷ xs) k = step x.1 (filter (λ x. not (is_volatile x.1)) xs) (has (λ x. is_promotable x.1) xs) (λ q. none_lasting xs q) k
   where
-    step : (c : Class) → is_empty (if not (is_volatile c) then x ∷ filter (λ x. not (is_volatile x.1)) xs else filter (λ x. not (is_volatile x.1)) xs) ≡ true → (is_promotable c || has (λ x. is_promotable x.1) xs) ≡ false
-    step Promotable k = absurd cc
-    step Zero k = none_lasting xs k
-    step One k = none_lasting xs k
-    step _ k = absurd cc
+    step : (c : Class) (ys : List (EnlNo × Class)) (b : Bool) → (is_empty ys ≡ true → b ≡ false) → is_empty (if not (is_volatile c) then x ∷ ys else ys) ≡ true → (is_promotable c || b) ≡ false
+    step Zero ys b f k = f k
+    step One ys b f k = f k
+    step _ ys b f k = absurd cc
 
 first_promotable : (h : List Entry) (e : EnlNo) → Keeps (Enlisted e Promotable ∷ h) → has (opens (Enl e)) h ≡ false → has_promotable h ≡ false
 first_promotable h e k n =
