@@ -286,7 +286,8 @@ aware w c k =
       yes = refl;
       cast = λ e t. voted_there e w.past (keeps_before (Ended c Down) w.past k) t;
       both = λ n.
-          not_noted (has (is_end_on Begin Down) (Ended c Down ∷ w.past)) (has (is_end_on Voter Down) (Ended c Down ∷ w.past)) (saw_end Begin (ends_of (Ended c Down ∷ w.past))) (saw_end Voter (ends_of (Ended c Down ∷ w.past)))
+          not_noted (has (is_end_on Begin Down) (Ended c Down ∷ w.past)) (has (is_end_on Voter Down) (Ended c Down ∷ w.past))
+          (saw_end Begin (ends_of (Ended c Down ∷ w.past))) (saw_end Voter (ends_of (Ended c Down ∷ w.past)))
           (ends_noted Begin (Ended c Down ∷ w.past) refl k) (ends_noted Voter (Ended c Down ∷ w.past) refl k) n;
     }
   where

@@ -52,7 +52,8 @@ pub down_early : (c : Conn) (h : List Entry) → is_pair c ≡ true → always i
 down_early c [] p k y = refl
 down_early c (x ∷ h) p k y =
     let none = or_second (is_yes x) (has is_yes h) y in
-    or_false (is_end_on c Down x) (has (is_end_on c Down) h) (one x (and_left (is_spared_down h x) (always is_spared_down h) k) none) (down_early c h p (and_right (is_spared_down h x) (always is_spared_down h) k) none)
+    or_false (is_end_on c Down x) (has (is_end_on c Down) h) (one x (and_left (is_spared_down h x) (always is_spared_down h) k) none)
+    (down_early c h p (and_right (is_spared_down h x) (always is_spared_down h) k) none)
   where
     one : (x : Entry) → is_spared_down h x ≡ true → has is_yes h ≡ false → is_end_on c Down x ≡ false
     one (End e Down) k n =

@@ -188,7 +188,8 @@ unfolding coordinator_aborted
 all_spared h r d = let u = stage_open h r d in open_spared h (open_unaborted h u) (open_unrecorded h u) (r.going d).spared
 
 -- Where it saw the end of a connection, it had got what makes that end no veto: COMMIT, YES or the vote.
-ended_got : (c : Conn) (q : Entry → Bool) → ((h : List Entry) → is_veto_end h c Up ≡ false → has q h ≡ true) → (h : List Entry) → always is_spared h ≡ true → has (is_end_on c Up) h ≡ true → has q h ≡ true
+ended_got : (c : Conn) (q : Entry → Bool) → ((h : List Entry) → is_veto_end h c Up ≡ false → has q h ≡ true) → (h : List Entry) → always is_spared h ≡ true
+    → has (is_end_on c Up) h ≡ true → has q h ≡ true
 ended_got c q f [] k t = absurd cc
 ended_got c q f (x ∷ h) k t =
     or_right (q x) (has q h)
