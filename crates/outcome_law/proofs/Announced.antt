@@ -45,12 +45,11 @@ use Rattle.dtx_model.proofs.Reading.{has-onto}
 use Rattle.dtx_model.proofs.Connections.{same_is}
 use Rattle.outcome_law.proofs.Scans.{has_more}
 use Rattle.outcome_law.proofs.Onto.{none_before, stood_before}
-use Rattle.outcome_law.proofs.Wired.{IsWired, is_end_on}
+use Rattle.outcome_law.proofs.Wired.{IsWired, is_end_on, unstopped}
 use Rattle.outcome_law.proofs.Messages.{ASK, OUTCOME, VOTER_NO, VOTER_OUTCOME}
 use Rattle.outcome_law.proofs.Table.{is_opening_got}
 use Rattle.outcome_law.proofs.Keeping.{Keeps, keeps_before, newest}
 use Rattle.outcome_law.proofs.OpenedRows.{kept_opened}
-use Rattle.outcome_law.proofs.Arrived.{unstopped}
 use Rattle.outcome_law.proofs.Knowledge.{opening_known}
 use Rattle.outcome_law.proofs.Standing.{begun_if_enlist, begun_if_voter}
 use Rattle.outcome_law.proofs.CoreStages.{active_open, begun_if_active}
