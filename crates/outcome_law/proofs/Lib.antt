@@ -165,7 +165,6 @@ pub mod MildBlocks
 pub mod EndsNoted
 pub mod Ending
 pub mod Announced
-pub mod Requests
 pub mod LostVoters
 pub mod UndecidedFine
 pub mod Told
