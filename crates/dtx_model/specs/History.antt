@@ -1,7 +1,7 @@
 -- The traces of a script, in whatever order its actors go on, and those of a replay. A trace stands oldest first here, as it is printed.
-use Rattle.std.specs.Prelude.{ℕ, ◌≡◌, ◌≤◌, ◌==◌, Bool, true, false, ◌&&◌, ◌||◌, not, List, [], Option, Some, is_none, is_some}
+use Rattle.std.specs.Prelude.{ℕ, ◌≡◌, ◌≤◌, ◌==◌, Bool, true, false, ◌&&◌, ◌||◌, not, List, [], Option, Some, None, is_none, is_some, if◌then◌else◌}
 use Rattle.dtx_values.specs.declared.entry.Entry.{Entry}
-use Rattle.dtx_values.specs.declared.entry.Entry.TheVariants.{CommitAsked, Cut, LogFull, Lost, RollbackAsked, Stopped, TimedOut}
+use Rattle.dtx_values.specs.declared.entry.Entry.TheVariants.{CommitAsked, Cut, LogFull, Lost, Reenlisted, RollbackAsked, Stopped, TimedOut}
 use Rattle.dtx_values.specs.declared.note.Plan.{Plan}
 use Rattle.dtx_values.specs.declared.number.ActorNo.{ActorNo}
 use Rattle.dtx_values.specs.declared.number.TxNo.{TxNo}
@@ -101,12 +101,26 @@ pub record CanCommit (s : List Line) (h : List Entry) : Type 0 where
   pub ended_by_none : has is_ending h ≡ false
   pub unlost : has is_loss h ≡ false
 
--- this enlistment stays silent to a note that it was given: to prepare, to be the owner of the commit, to promote, or to commit in a single phase. Its line plans
--- no reply to that note, and it gave none.
+-- the entry says that this enlistment is lost, or that it came back
+abbrev pub loss_of : ℕ → Entry → Option Bool
+loss_of e (Lost f) = if e == f.value then Some true else None
+loss_of e (Reenlisted f) = if e == f.value then Some false else None
+loss_of e _ = None
+
+-- this enlistment was lost, and didn't come back since
+abbrev pub is_still_lost : ℕ → List Entry → Bool
+is_still_lost e h = holds (latest (loss_of e) h)
+
+-- this enlistment stays silent where it was asked to promote: its line plans no reply to that, and it gave none
+abbrev pub is_silent_to_promote : Plan → List Entry → ℕ → Bool
+is_silent_to_promote p h e = has (is_asked_to_promote e) h && is_none p.promote && not (has (is_promote_reply_of e) h)
+
+-- this enlistment, which isn't lost, stays silent to a note that it was given: to prepare, to be the owner of the commit, to promote, or to commit in a single phase.
+-- Its line plans no reply to that note, and it gave none.
 abbrev pub is_silent : Plan → List Entry → ℕ → Bool
 is_silent p h e =
-    (has (is_asked e) h && is_none p.vote && not (has (is_vote e) h)) || (has (is_hand e) h && is_none p.owner && not (has (is_any_owner e) h))
-    || (has (is_asked_to_promote e) h && is_none p.promote && not (has (is_promote_reply_of e) h)) || (has (is_asked_alone e) h && is_none p.owner && not (has (is_request_of e) h))
+    not (is_still_lost e h) && ((has (is_asked e) h && is_none p.vote && not (has (is_vote e) h)) || (has (is_hand e) h && is_none p.owner && not (has (is_any_owner e) h))
+    || is_silent_to_promote p h e || (has (is_asked_alone e) h && is_none p.owner && not (has (is_request_of e) h)))
 
 -- there is something that it waits for: a clone that blocks and isn't complete, or an enlistment that stays silent
 abbrev pub is_waiting : List Line → List Entry → Bool

@@ -21,7 +21,8 @@ use Rattle.dtx_model.specs.Replies.{may_still_vote, owes_vote}
 use Rattle.dtx_model.specs.Waiting.{Waiter, call_at, waiter_line, waiting, wanted}
 use Rattle.dtx_model.specs.Grammar.{are_named_well}
 use Rattle.dtx_model.specs.Caused.{Caused, IsCallOf, entered_in, plans_of}
-use Rattle.outcome_law.specs.Waited.{AreCallsAnswered, is_answer_of, is_silent_to_promote, waiting_line}
+use Rattle.outcome_law.specs.Waited.{AreCallsAnswered, is_answer_of, waiting_line}
+use Rattle.dtx_model.specs.History.{is_silent_to_promote, is_still_lost}
 use Rattle.dtx_model.proofs.Bools.{and_both, and_left, not_both, or_case, or_right}
 use Rattle.outcome_law.proofs.Lists.{has-insert}
 use Rattle.outcome_law.proofs.Scans.{each_more, has_more}
@@ -35,7 +36,7 @@ use Rattle.outcome_law.proofs.SameRows.{found_passes, row_found}
 use Rattle.outcome_law.proofs.Climbed.{none_waiting}
 use Rattle.outcome_law.proofs.Owed.{ArePromised, IsPromised, unvolatile}
 use Rattle.outcome_law.proofs.PromotesRuns.{waits_promoting}
-use Rattle.outcome_law.proofs.Told.{IsSettledRun, none_row, promise_planned, settled_run, unmoved}
+use Rattle.outcome_law.proofs.Told.{IsSettledRun, none_row, promise_planned, settled_run, unlost_row, unmoved}
 use Rattle.outcome_law.proofs.WaitsOver.{ran_over}
 
 -- Each call that was answered `wait` got its answer, or still waits.
@@ -96,15 +97,16 @@ none_called (Called m a Wait ∷ h) p n = absurd cc
 none_called (x ∷ h) p n = none_called h p n
 
 -- While it isn't promoted, a promotable owes no vote; so where none is silent to that, its plan has a reply to promote.
-promised : (s : List Line) (t : ℕ) (h : List Entry) → IsSettledRun s t h → has is_promoted h ≡ false → has (λ x. is_silent_to_promote (plans_of s x.0.value) h x.0.value) (enlisted h) ≡ false
+promised : (s : List Line) (t : ℕ) (h : List Entry) → IsSettledRun s t h → has is_promoted h ≡ false → has (λ x. not (is_still_lost x.0.value h) && is_silent_to_promote (plans_of s x.0.value) h x.0.value) (enlisted h) ≡ false
     → ArePromised (plan_of (entered_in s h)) h
-promised s t h r u quiet = λ i x e promotable.
+promised s t h r u quiet = λ i x e promotable there.
     let n = x.number.value in
     let keeps = r.stands.keeps in
     subst (λ p. IsPromised p h x) (sym (r.plans n (rows_enlisted h i x keeps e)))
     (record {
       votes = λ o z. unasked i x e promotable (sym (row_marked h i x keeps e) ∙ marked x o);
-      promotes = promise_planned (plans_of s n) h x (none_row (λ m. is_silent_to_promote (plans_of s m) h m) h i x quiet e);
+      promotes = promise_planned (plans_of s n) h x
+          (unlost_row h x keeps there (is_silent_to_promote (plans_of s n) h n) (none_row (λ m. not (is_still_lost m h) && is_silent_to_promote (plans_of s m) h m) h i x quiet e));
     })
   where
     marked : (x : Row) → owes_vote (observe h) x ≡ true → is_marked x ≡ true
@@ -124,7 +126,7 @@ pub calls_answered : (s : List Line) (k t : ℕ) (h : List Entry) → are_named_
 calls_answered s k t h named c running = λ settled. began (settled_run s k t h named c running settled) (has is_promoting h) refl
   where
     silent : Bool
-    silent = has (λ x. is_silent_to_promote (plans_of s x.0.value) h x.0.value) (enlisted h)
+    silent = has (λ x. not (is_still_lost x.0.value h) && is_silent_to_promote (plans_of s x.0.value) h x.0.value) (enlisted h)
 
     answered : Bool
     answered = each (λ n. has (is_answer_of n) h) (all_of waiting_line h)

@@ -25,7 +25,8 @@ use Rattle.dtx_values.specs.Ends.{knows, same_connection}
 use Rattle.dtx_values.specs.Table.{voted}
 use Rattle.dtx_model.specs.declared.branch.Branch.{Branch}
 use Rattle.dtx_model.specs.declared.listener.Listener.{Listener}
-use Rattle.dtx_model.specs.Words.{each, has, latest, onto}
+use Rattle.dtx_model.specs.Words.{each, has, latest, onto, or_else}
+use Rattle.dtx_model.specs.History.{is_still_lost, loss_of}
 use Rattle.dtx_model.specs.Entries.{decision_of, is_decision, is_lost, is_promoted, is_sealed, is_vote}
 use Rattle.dtx_model.specs.Observed.{Observed, come_back, ends_of, hear, is_branch, is_request, listener_number, listeners, lose, observe, rows, track}
 use Rattle.dtx_model.specs.Outcome.{enlisted}
@@ -41,13 +42,15 @@ use Rattle.dtx_model.proofs.Reading.{has-onto}
 use Rattle.dtx_model.proofs.SameNumbers.{same_enlistment}
 use Rattle.outcome_law.proofs.Lists.{has-insert, has_kept}
 use Rattle.outcome_law.proofs.Scans.{each_both, each_more, has_more}
+use Rattle.outcome_law.proofs.Rule.{is_enlisted}
 use Rattle.outcome_law.proofs.Tests.{eq_self, fourth_of_four, second_of_four}
 use Rattle.outcome_law.proofs.Wired.{IsWired, firm_before, firm_unended, is_plain}
 use Rattle.outcome_law.proofs.Onto.{none_before, stood_before}
 use Rattle.outcome_law.proofs.Messages.{COMMIT}
 use Rattle.outcome_law.proofs.Table.{is_enlist_got, is_opening_got, is_promotable_of, rule, stands_promotable}
 use Rattle.outcome_law.proofs.Keeping.{Keeps, before, newest}
-use Rattle.outcome_law.proofs.Owned.{decision_seen, has_filter, has_rows}
+use Rattle.outcome_law.proofs.CoreKnown.{has_made}
+use Rattle.outcome_law.proofs.Owned.{decision_seen, has_filter, has_rows, is_lost_listener, listens}
 use Rattle.outcome_law.proofs.SameRows.{voted_cast}
 use Rattle.outcome_law.proofs.Standing.{opened_if_got}
 use Rattle.outcome_law.proofs.Recording.{come_if_promoted}
@@ -482,3 +485,44 @@ gone_lost e (x ∷ h) k = or_right (is_lost e x) (has (is_lost e) h) (gone_lost 
 pub gone_was_lost : (h : List Entry) (x : Row) → is_gone (observe h) x.number.value ≡ true → has (is_lost x.number.value) h ≡ true
 unfolding observe
 gone_was_lost h x g = gone_lost x.number.value h g
+
+-- and who was lost and didn't come back is gone
+lost_listener : (n : ℕ) (h : List Entry) → Keeps h → is_still_lost n h ≡ true → has (is_lost_listener n) (listeners h) ≡ true
+lost_listener n [] k t = absurd cc
+lost_listener n (Enlisted e c ∷ h) k t =
+    has-insert (is_lost_listener n) listener_number (record { enlistment = e; told = false; lost = false }) (listeners h)
+    ∙ or_right ((n == e.value) && false) (has (is_lost_listener n) (listeners h)) (lost_listener n h (before (Enlisted e c) h k) t)
+lost_listener n (Told (Member e) x ∷ h) k t = has_kept (is_lost_listener n) (hear e.value) (λ l. refl) (listeners h) ∙ lost_listener n h (before (Told (Member e) x) h k) t
+lost_listener n (Lost e ∷ h) k t = step (lost_listener n h (before (Lost e) h k)) (n == e.value) refl t
+  where
+    step : (is_still_lost n h ≡ true → has (is_lost_listener n) (listeners h) ≡ true) → (b : Bool) → (n == e.value) ≡ b → holds (or_else (if b then Some true else None) (latest (loss_of n) h)) ≡ true
+        → has (is_lost_listener n) (map (lose e.value) (listeners h)) ≡ true
+    step ih true q t =
+        has_made (λ l. n == l.enlistment.value) (is_lost_listener n) (lose e.value)
+        (λ l a. and_both (n == l.enlistment.value) ((e.value == l.enlistment.value) || l.lost) a
+        (or_left (e.value == l.enlistment.value) l.lost (subst (λ m. (m == l.enlistment.value) ≡ true) (eqb-true n e.value q) a))) (listeners h)
+        (listens n h ∙ subst (λ m. has (is_enlisted m) h ≡ true) (sym (eqb-true n e.value q)) (newest (Lost e) h k))
+    step ih false q t =
+        has_made (is_lost_listener n) (is_lost_listener n) (lose e.value)
+        (λ l a. and_both (n == l.enlistment.value) ((e.value == l.enlistment.value) || l.lost) (and_left (n == l.enlistment.value) l.lost a)
+        (or_right (e.value == l.enlistment.value) l.lost (and_right (n == l.enlistment.value) l.lost a))) (listeners h) (ih t)
+lost_listener n (Reenlisted e ∷ h) k t = step (lost_listener n h (before (Reenlisted e) h k)) (n == e.value) refl t
+  where
+    other : (l : Listener) → (n == e.value) ≡ false → (n == l.enlistment.value) ≡ true → (e.value == l.enlistment.value) ≡ false
+    other l q a =
+        false_from_ne_true (e.value == l.enlistment.value)
+        (λ b. let same : n ≡ e.value = eqb-true n l.enlistment.value a ∙ sym (eqb-true e.value l.enlistment.value b) in not_both (n == e.value) (subst (λ m. (n == m) ≡ true) same (eq_self n)) q)
+
+    step : (is_still_lost n h ≡ true → has (is_lost_listener n) (listeners h) ≡ true) → (b : Bool) → (n == e.value) ≡ b → holds (or_else (if b then Some false else None) (latest (loss_of n) h)) ≡ true
+        → has (is_lost_listener n) (map (come_back e.value) (listeners h)) ≡ true
+    step ih true q t = absurd cc
+    step ih false q t =
+        has_made (is_lost_listener n) (is_lost_listener n) (come_back e.value)
+        (λ l a. let own = and_left (n == l.enlistment.value) l.lost a in
+        and_both (n == l.enlistment.value) (not (e.value == l.enlistment.value) && l.lost) own
+        (and_both (not (e.value == l.enlistment.value)) l.lost (not_false (e.value == l.enlistment.value) (other l q own)) (and_right (n == l.enlistment.value) l.lost a))) (listeners h) (ih t)
+lost_listener n (x ∷ h) k t = lost_listener n h (before x h k) t
+
+pub lost_is_gone : (h : List Entry) (x : Row) → Keeps h → is_still_lost x.number.value h ≡ true → is_gone (observe h) x.number.value ≡ true
+unfolding observe
+lost_is_gone h x k t = lost_listener x.number.value h k t

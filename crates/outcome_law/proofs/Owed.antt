@@ -87,13 +87,13 @@ pub record IsPromised (p : Plan) (h : List Entry) (x : Row) : Type 0 where
 
 -- the plans have each reply that is due of a row; or of a promotable's row, those that come while it promotes
 abbrev pub AreHeeded : (ℕ → Plan) → List Entry → Type 0
-AreHeeded p h = (i : ℕ) (x : Row) → slice_get (rows h) i ≡ Some x → IsHeeded (p x.number.value) h x
+AreHeeded p h = (i : ℕ) (x : Row) → slice_get (rows h) i ≡ Some x → is_gone (observe h) x.number.value ≡ false → IsHeeded (p x.number.value) h x
 
 abbrev pub ArePromised : (ℕ → Plan) → List Entry → Type 0
-ArePromised p h = (i : ℕ) (x : Row) → slice_get (rows h) i ≡ Some x → is_promotable x.class ≡ true → IsPromised (p x.number.value) h x
+ArePromised p h = (i : ℕ) (x : Row) → slice_get (rows h) i ≡ Some x → is_promotable x.class ≡ true → is_gone (observe h) x.number.value ≡ false → IsPromised (p x.number.value) h x
 
 pub heeded_promised : (p : ℕ → Plan) (h : List Entry) → AreHeeded p h → ArePromised p h
-heeded_promised p h g = λ i x e k. record { votes = (g i x e).votes; promotes = (g i x e).promotes }
+heeded_promised p h g = λ i x e k there. record { votes = (g i x e there).votes; promotes = (g i x e there).promotes }
 
 -- a fine history in which each that is lost is spared, and so is each whose connection was lost; in which a promotable requested where COMMIT was sent; and where of none a reply is due that its
 -- plan has
@@ -301,7 +301,7 @@ all_answered p h r g u l = each_from_at has_answered (rows h) (λ i x e. row i x
         by false q =
             step (is_marked x) (has_voted x) (may_still_vote (observe h) x) (marked_votes p h i x r u l e q)
             (vote_unowed (p x.number.value) (owes_vote (observe h) x) (owes_promotion (observe h) x) (owes_outcome (observe h) x) (owes_request (observe h) x)
-            (note_of_conn (conn_due (observe h) x.number.value)) (g i x e).votes (row_unplanned p h i x r e lost))
+            (note_of_conn (conn_due (observe h) x.number.value)) (g i x e lost).votes (row_unplanned p h i x r e lost))
 
 pub all_voted : (p : ℕ → Plan) (h : List Entry) → IsUnowed p h → AreHeeded p h → has is_decision h ≡ false → has is_logged h ≡ false → (e : ℕ) → has (is_asked e) h ≡ true → has (is_vote e) h ≡ true
 all_voted p h r g u l e k = voted_cast e h (each_of (rows h) (all_answered p h r g u l) (asked_marked e h r.there k))
@@ -406,11 +406,12 @@ promotion_replied p h r g u unsent k = by (asked_row is_ask_promote is_asked_to_
     by : IsAskedRow is_asked_to_promote h → has is_promote_reply h ≡ true
     by a =
         let x = a.row in
-        let heeded = g a.place x a.stands a.promotable in
+        let there = promotable_there p h a.place x r a.stands a.promotable unsent in
+        let heeded = g a.place x a.stands a.promotable there in
         done (has is_ask_promote h) (has is_promote_reply h) k
         (open_still (has is_ask_promote h) (has is_promote_reply h) (is_promotable x.class) (is_some (latest decision_of h)) a.promotable (ap is_some (none_decided h u))
         (promotion_unowed (p x.number.value) (owes_vote (observe h) x) (owes_promotion (observe h) x) (owes_outcome (observe h) x) (owes_request (observe h) x)
-        (note_of_conn (conn_due (observe h) x.number.value)) heeded.votes (heeded.promotes a.asked) (row_unplanned p h a.place x r a.stands (promotable_there p h a.place x r a.stands a.promotable unsent))))
+        (note_of_conn (conn_due (observe h) x.number.value)) heeded.votes (heeded.promotes a.asked) (row_unplanned p h a.place x r a.stands there)))
 
 -- and one that was asked for its single phase has requested
 pub commit_requested : (p : ℕ → Plan) (h : List Entry) → IsUnowed p h → AreHeeded p h → has is_decision h ≡ false → has is_ask_single h ≡ true → has is_request h ≡ true
@@ -436,12 +437,13 @@ commit_requested p h r g u k =
     by : IsAskedRow is_asked_alone h → has (is_sent_on Begin Up COMMIT) h ≡ false → has is_request h ≡ true
     by a early =
         let x = a.row in
-        let heeded = g a.place x a.stands in
+        let there = promotable_there p h a.place x r a.stands a.promotable early in
+        let heeded = g a.place x a.stands there in
         done (has is_ask_single h) (has is_request h) k
         (open_still (has is_ask_single h) (has is_request h) (is_promotable x.class) (is_some (latest decision_of h)) a.promotable (ap is_some (none_decided h u))
         (request_unowed (p x.number.value) (owes_vote (observe h) x) (owes_promotion (observe h) x) (owes_outcome (observe h) x) (owes_request (observe h) x)
         (note_of_conn (conn_due (observe h) x.number.value)) heeded.votes
-        (replied (has is_ask_promote h) (has is_promote_reply h) (is_promotable x.class) (is_some (latest decision_of h)) (promotion_replied p h r (heeded_promised p h g) u early)) (heeded.commits a.asked) (row_unplanned p h a.place x r a.stands (promotable_there p h a.place x r a.stands a.promotable early))))
+        (replied (has is_ask_promote h) (has is_promote_reply h) (is_promotable x.class) (is_some (latest decision_of h)) (promotion_replied p h r (heeded_promised p h g) u early)) (heeded.commits a.asked) (row_unplanned p h a.place x r a.stands there)))
 
 -- The plan of one that is willing has each reply that is due of it.
 pub willing_heeded : (p : Plan) (h : List Entry) (x : Row) → is_willing p x.class ≡ true → IsHeeded p h x
@@ -482,5 +484,5 @@ willing_heeded p h x w =
     plans_promotion c w o = held (is_promotable c) (holds p.promote) o (and_right (voted_well p.vote && (not (can_own c) || is_committed p.owner)) (not (is_promotable c) || holds p.promote) w)
 
 pub all_heeded : (p : ℕ → Plan) (h : List Entry) → each (λ x. is_willing (p x.0.value) x.1) (enlisted h) ≡ true → AreHeeded p h
-all_heeded p h w = λ i x e.
+all_heeded p h w = λ i x e there.
     willing_heeded (p x.number.value) h x (each-at (λ y. is_willing (p y.number.value) y.class) (rows h) i x (each_rows (λ e c. is_willing (p e.value) c) h ∙ w) e)

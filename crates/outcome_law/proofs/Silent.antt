@@ -4,7 +4,7 @@ use Rattle.std.specs.Prelude.{is_some, is_none, not, find, if◌then◌else◌}
 use Rattle.std.proofs.lemmas.Bool.{eqb-true, false_from_ne_true}
 use Rattle.dtx_values.specs.declared.number.EnlNo.{EnlNo}
 use Rattle.dtx_values.specs.declared.entry.Entry.{Entry}
-use Rattle.dtx_values.specs.declared.entry.Entry.TheVariants.{Lost}
+use Rattle.dtx_values.specs.declared.entry.Entry.TheVariants.{Lost, Reenlisted}
 use Rattle.dtx_values.specs.declared.script.Line.{Line}
 use Rattle.dtx_values.specs.declared.note.Plan.{Plan}
 use Rattle.dtx_values.specs.declared.words.Class.{Class}
@@ -13,7 +13,7 @@ use Rattle.dtx_values.specs.declared.words.Vote.{Vote}
 use Rattle.dtx_values.specs.Class.{is_volatile}
 use Rattle.dtx_values.specs.Clones.{blocks}
 use Rattle.dtx_values.specs.Row.{has_voted, is_marked}
-use Rattle.dtx_model.specs.Words.{has, each, latest, all_of}
+use Rattle.dtx_model.specs.Words.{has, each, latest, all_of, or_else}
 use Rattle.dtx_model.specs.Entries.{client_told_of, clone_of, decision_of, handed_of, is_any_owner, is_asked, is_asked_alone, is_asked_to_promote, is_commit, is_decision, is_hand, is_lost, is_promote_reply_of, is_request_of, is_sealed, is_vote}
 use Rattle.dtx_model.specs.Observed.{observe, rows}
 use Rattle.dtx_model.specs.Outcome.{can_own, durables, enlisted, is_complete}
@@ -21,9 +21,10 @@ use Rattle.dtx_model.specs.Half.{is_gone, is_handed}
 use Rattle.dtx_model.specs.Plans.{owner_reply, vote_reply}
 use Rattle.dtx_model.specs.Caused.{plans_of}
 use Rattle.dtx_model.proofs.Narrow.{act_by, act_entries, due_note, is_to_tell, open_note}
-use Rattle.dtx_model.specs.History.{is_silent, is_waiting}
+use Rattle.dtx_model.specs.History.{is_silent, is_silent_to_promote, is_still_lost, is_waiting, loss_of}
+use Rattle.dtx_model.specs.Wires.{holds}
 use Rattle.std.proofs.lemmas.Bool.{or_left}
-use Rattle.dtx_model.proofs.Bools.{and_both, and_left, and_right, or_case, or_first, or_right, or_second}
+use Rattle.dtx_model.proofs.Bools.{and_both, and_left, and_right, not_both, or_case, or_first, or_right, or_second}
 use Rattle.outcome_law.proofs.Scans.{each-at, each_more, has_less}
 use Rattle.outcome_law.proofs.Picks.{each_from_at}
 use Rattle.outcome_law.proofs.Dues.{is_unplanned, one_class, voted_volatile}
@@ -86,14 +87,45 @@ row_rest s e false false false v true false n y f g due silent = absurd (answer 
     answer e None p q = cc
 row_rest s e false false false v false false n y f g due silent = refl
 
+-- who is lost was lost
+still_was_lost : (e : ℕ) (h : List Entry) → is_still_lost e h ≡ true → has (is_lost e) h ≡ true
+still_was_lost e [] k = absurd cc
+still_was_lost e (Lost f ∷ h) k = step (e == f.value) (still_was_lost e h) k
+  where
+    step : (b : Bool) → (is_still_lost e h ≡ true → has (is_lost e) h ≡ true) → holds (or_else (if b then Some true else None) (latest (loss_of e) h)) ≡ true → (b || has (is_lost e) h) ≡ true
+    step true ih k = refl
+    step false ih k = ih k
+still_was_lost e (Reenlisted f ∷ h) k = step (e == f.value) (still_was_lost e h) k
+  where
+    step : (b : Bool) → (is_still_lost e h ≡ true → has (is_lost e) h ≡ true) → holds (or_else (if b then Some false else None) (latest (loss_of e) h)) ≡ true → has (is_lost e) h ≡ true
+    step true ih k = absurd cc
+    step false ih k = ih k
+still_was_lost e (x ∷ h) k = or_right (is_lost e x) (has (is_lost e) h) (still_was_lost e h k)
+
 -- nobody is silent to the notes that the local side gives where nothing is promoted
-local_notes : (p : Plan) (h : List Entry) (e : ℕ) → is_silent p h e ≡ false
+local_notes : (p : Plan) (h : List Entry) (e : ℕ) → (has (is_lost e) h ≡ true → has (is_vote e) h ≡ true) → (has (is_hand e) h ≡ true → has (is_vote e) h ≡ false) → is_silent p h e ≡ false
     → ((has (is_asked e) h && is_none p.vote && not (has (is_vote e) h)) || (has (is_hand e) h && is_none p.owner && not (has (is_any_owner e) h))) ≡ false
-local_notes p h e k =
-    let prepare = has (is_asked e) h && is_none p.vote && not (has (is_vote e) h) in
-    let hand = has (is_hand e) h && is_none p.owner && not (has (is_any_owner e) h) in
-    let promote = has (is_asked_to_promote e) h && is_none p.promote && not (has (is_promote_reply_of e) h) in
-    or_first (prepare || hand) promote (or_first (prepare || hand || promote) (has (is_asked_alone e) h && is_none p.owner && not (has (is_request_of e) h)) k)
+local_notes p h e cast handed k = by_loss (is_still_lost e h) refl k
+  where
+    prepare : Bool
+    prepare = has (is_asked e) h && is_none p.vote && not (has (is_vote e) h)
+
+    hand : Bool
+    hand = has (is_hand e) h && is_none p.owner && not (has (is_any_owner e) h)
+
+    single : Bool
+    single = has (is_asked_alone e) h && is_none p.owner && not (has (is_request_of e) h)
+
+    voted : has (is_vote e) h ≡ true → (prepare || hand) ≡ false
+    voted v = both (has (is_asked e) h && is_none p.vote) (has (is_vote e) h) (has (is_hand e) h) (is_none p.owner) (not (has (is_any_owner e) h)) v (false_from_ne_true (has (is_hand e) h) (λ q. not_both (has (is_vote e) h) v (handed q)))
+      where
+        both : (a v w b c : Bool) → v ≡ true → w ≡ false → ((a && not v) || (w && b && c)) ≡ false
+        both true v w b c e f = rw (e, f) refl
+        both false v w b c e f = rw f refl
+
+    by_loss : (l : Bool) → is_still_lost e h ≡ l → (not l && (prepare || hand || is_silent_to_promote p h e || single)) ≡ false → (prepare || hand) ≡ false
+    by_loss true q k = voted (cast (still_was_lost e h q))
+    by_loss false q k = or_first (prepare || hand) (is_silent_to_promote p h e) (or_first (prepare || hand || is_silent_to_promote p h e) single k)
 
 -- where nothing is decided, no reply is due and nobody is silent, each row voted if it was asked, and none was handed the commit
 rows_rest : (s : List Line) (h : List Entry) → IsKept h → latest decision_of h ≡ None → AreUnplanned s h → has (λ x. is_silent (plans_of s x.0.value) h x.0.value) (enlisted h) ≡ false
@@ -110,7 +142,7 @@ rows_rest s h k d due silent =
     (λ l. row_voted h i x k.rules e ∙ lost_voted h n k u (sym (lost_seen n h k.rules) ∙ l))
     (λ w. row_voted h i x k.rules e ∙ handed_unvoted n h k.rules (sym (hand_seen n h k.rules) ∙ w))
     (each-at (λ y. is_unplanned (plans_of s y.number.value) (due_note (observe h) y)) (rows h) i x due e)
-    (rw (row_marked h i x k.rules e, row_voted h i x k.rules e, hand_seen n h k.rules) (local_notes (plans_of s n) h n (none-at (λ y. is_silent (plans_of s y.number.value) h y.number.value) (rows h) i x quiet e))))
+    (rw (row_marked h i x k.rules e, row_voted h i x k.rules e, hand_seen n h k.rules) (local_notes (plans_of s n) h n (lost_voted h n k u) (handed_unvoted n h k.rules) (none-at (λ y. is_silent (plans_of s y.number.value) h y.number.value) (rows h) i x quiet e))))
   where
     none-at : {A : Type 0} (p : A → Bool) (xs : List A) (i : ℕ) (x : A) → has p xs ≡ false → slice_get xs i ≡ Some x → p x ≡ false
     none-at p [] i x n e = absurd cc

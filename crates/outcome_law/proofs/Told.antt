@@ -32,8 +32,7 @@ use Rattle.dtx_model.specs.Steps.{Step}
 use Rattle.dtx_model.specs.World.{World}
 use Rattle.dtx_model.specs.Grammar.{OfEnlistment, are_named_well}
 use Rattle.dtx_model.specs.Caused.{AreMadeOnce, Caused, IsCallOf, Ran, Settled, entered_in, is_promoting_entry, plans_of}
-use Rattle.dtx_model.specs.History.{IsToldOrWaits, is_silent, is_waiting}
-use Rattle.outcome_law.specs.Waited.{is_silent_to_promote}
+use Rattle.dtx_model.specs.History.{IsToldOrWaits, is_silent, is_silent_to_promote, is_still_lost, is_waiting}
 use Rattle.dtx_model.proofs.Bools.{and_both, and_left, and_right, not_both, not_false, not_true, or_first, or_right, or_second}
 use Rattle.dtx_model.proofs.Local.{free-local}
 use Rattle.outcome_law.proofs.Scans.{has_less, has_more}
@@ -80,7 +79,7 @@ use Rattle.outcome_law.proofs.Announced.{IsUnstopped, ran_announces}
 use Rattle.outcome_law.proofs.Requests.{IsRequesting, ran_requests}
 use Rattle.outcome_law.proofs.Foregoing.{commit_promoted, vote_cast, vote_stood}
 use Rattle.outcome_law.proofs.UndecidedFine.{IsSettling, undecided_fine, undecided_joined}
-use Rattle.outcome_law.proofs.LostVoters.{AreVoters, gone_cast, gone_was_lost, ran_voters}
+use Rattle.outcome_law.proofs.LostVoters.{AreVoters, gone_cast, gone_was_lost, lost_is_gone, ran_voters}
 
 -- no restart comes where the coordinator didn't stop
 unrestarted : (h : List Entry) → Keeps h → has is_stop h ≡ false → has is_restart h ≡ false
@@ -121,9 +120,17 @@ promise_planned p h x quiet a o z =
     has_asked : Bool
     has_asked = has is_ask_promote h
 
-heeded : (p : Plan) (h : List Entry) (i : ℕ) (x : Row) → Keeps h → slice_get (rows h) i ≡ Some x → is_silent p h x.number.value ≡ false → IsHeeded p h x
+-- who is there and isn't silent, is silent to no note
+unsilent : (l b : Bool) → l ≡ false → (not l && b) ≡ false → b ≡ false
+unsilent true b n k = absurd cc
+unsilent false b n k = k
+
+pub unlost_row : (h : List Entry) (x : Row) → Keeps h → is_gone (observe h) x.number.value ≡ false → (b : Bool) → (not (is_still_lost x.number.value h) && b) ≡ false → b ≡ false
+unlost_row h x k there b n = unsilent (is_still_lost x.number.value h) b (false_from_ne_true (is_still_lost x.number.value h) (λ q. not_both (is_gone (observe h) x.number.value) (lost_is_gone h x k q) there)) n
+
+heeded : (p : Plan) (h : List Entry) (i : ℕ) (x : Row) → Keeps h → slice_get (rows h) i ≡ Some x → is_gone (observe h) x.number.value ≡ false → is_silent p h x.number.value ≡ false → IsHeeded p h x
 unfolding observe
-heeded p h i x k e quiet =
+heeded p h i x k e there silent =
     record {
       votes = λ o z. not_both prepare
           (and_both (has (is_asked n) h && is_none p.vote) (not (has (is_vote n) h))
@@ -151,6 +158,9 @@ heeded p h i x k e quiet =
 
     single : Bool
     single = has (is_asked_alone n) h && is_none p.owner && not (has (is_request_of n) h)
+
+    quiet : (prepare || hand || promote || single) ≡ false
+    quiet = unlost_row h x k there (prepare || hand || promote || single) silent
 
     first : (prepare || hand || promote) ≡ false
     first = or_first (prepare || hand || promote) single quiet
@@ -310,10 +320,10 @@ at_rest s t h r began asked closed all =
 
 -- where nobody is silent, the plans have each reply that is due
 none_silent : (s : List Line) (t : ℕ) (h : List Entry) → IsSettledRun s t h → has (λ x. is_silent (plans_of s x.0.value) h x.0.value) (enlisted h) ≡ false → AreHeeded (plan_of (entered_in s h)) h
-none_silent s t h r quiet = λ i x e.
+none_silent s t h r quiet = λ i x e there.
     let keeps = r.stands.keeps in
     subst (λ q. IsHeeded q h x) (sym (r.plans x.number.value (rows_enlisted h i x keeps e)))
-    (heeded (plans_of s x.number.value) h i x keeps e (none_row (λ n. is_silent (plans_of s n) h n) h i x quiet e))
+    (heeded (plans_of s x.number.value) h i x keeps e there (none_row (λ n. is_silent (plans_of s n) h n) h i x quiet e))
 
 -- Where the coordinator didn't stop: a settled history in which the commit was asked for, promoted or not. Where it waits for nothing, it is at rest; so its client was told.
 pub told_promoted : (s : List Line) (k t : ℕ) (h : List Entry) → are_named_well s ≡ true → Caused s k t h → has is_stop h ≡ false → IsToldOrWaits s h

@@ -3,12 +3,11 @@ use Rattle.std.specs.Prelude.{ℕ, ◌==◌, ◌≡◌, Bool, true, false, ◌&&
 use Rattle.dtx_values.specs.declared.entry.Answer.TheVariants.{Wait}
 use Rattle.dtx_values.specs.declared.entry.Entry.{Entry}
 use Rattle.dtx_values.specs.declared.entry.Entry.TheVariants.{Called, Answered}
-use Rattle.dtx_values.specs.declared.note.Plan.{Plan}
 use Rattle.dtx_values.specs.declared.script.Line.{Line}
 use Rattle.dtx_model.specs.Words.{has, each, all_of}
-use Rattle.dtx_model.specs.Entries.{is_asked_to_promote, is_promote_reply_of}
 use Rattle.dtx_model.specs.Outcome.{enlisted}
 use Rattle.dtx_model.specs.Caused.{Settled, plans_of}
+use Rattle.dtx_model.specs.History.{is_silent_to_promote, is_still_lost}
 
 -- the line whose call was answered `wait`
 abbrev pub waiting_line : Entry → Option ℕ
@@ -20,11 +19,7 @@ abbrev pub is_answer_of : ℕ → Entry → Bool
 is_answer_of n (Answered m x) = n == m
 is_answer_of n _ = false
 
--- this enlistment stays silent where it was asked to promote: its line plans no reply to that, and it gave none
-abbrev pub is_silent_to_promote : Plan → List Entry → ℕ → Bool
-is_silent_to_promote p h e = has (is_asked_to_promote e) h && is_none p.promote && not (has (is_promote_reply_of e) h)
-
--- where the history is settled, each call that was answered `wait` got its answer, or an enlistment that was asked to promote stays silent
+-- where the history is settled, each call that was answered `wait` got its answer, or an enlistment that was asked to promote, and isn't lost, stays silent
 abbrev pub AreCallsAnswered : List Line → List Entry → Type 0
 AreCallsAnswered s h =
-    Settled s h → (each (λ n. has (is_answer_of n) h) (all_of waiting_line h) || has (λ x. is_silent_to_promote (plans_of s x.0.value) h x.0.value) (enlisted h)) ≡ true
+    Settled s h → (each (λ n. has (is_answer_of n) h) (all_of waiting_line h) || has (λ x. not (is_still_lost x.0.value h) && is_silent_to_promote (plans_of s x.0.value) h x.0.value) (enlisted h)) ≡ true
