@@ -146,9 +146,6 @@ unlost_wire c (x ∷ h) w n =
     step (Some l) true s z n k i = n
     step (Some l) false s z n k i = or_false l z i k
 
-pub unlost_firm : (c : Conn) (h : List Entry) → is_plain c ≡ true → IsWired h → has is_loss h ≡ false → IsFirm c h
-unlost_firm c h p w n = record { plain = p; kept = unlost_wire c h w n }
-
 -- and no end comes
 pub unlost_unended : (h : List Entry) → IsWired h → has is_loss h ≡ false → has is_any_end h ≡ false
 unlost_unended [] w n = refl
