@@ -11,6 +11,7 @@ pub mod Connections
 pub mod Counts
 pub mod Unowned
 pub mod Unpromoted
+pub mod Classes
 pub mod Narrow
 pub mod Narrowing
 pub mod Writes

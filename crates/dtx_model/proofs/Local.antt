@@ -34,16 +34,16 @@ use Rattle.dtx_model.specs.Coordinated.{may_free, may_log}
 use Rattle.dtx_model.specs.Acts.{act_entries as full_act, tell}
 use Rattle.dtx_model.specs.Replies.{due_of, reply_entries as full_reply}
 use Rattle.dtx_model.specs.Answers.{await_answer, clone_answer, complete_answer, gone_answer, if_begun, status_answer, unless_ended, unless_late, wait_for}
-use Rattle.dtx_model.specs.Facts.{begin_promotion, durable_waits, facts_if, has_facts, local_facts, reaches, ticked}
+use Rattle.dtx_model.specs.Facts.{begin_promotion, durable_waits, facts_if, has_facts, local_facts, reaches, ticked, is_done, is_wait}
 use Rattle.dtx_model.specs.World.{World, core, facts_at, half, has_left}
 use Rattle.dtx_model.specs.Steps.{LogAnswer, Step, Calls, Replies, Acts, Coordinates, Delivers, Stops, Restarts, after, block_at, core_act, deliveries_on, local_pending, pending}
 use Rattle.dtx_model.specs.Caused.{FreelyCaused, MayCome, Ran, is_begin_sent, is_promoting_entry, is_unpromoted, may_coordinate}
 use Rattle.dtx_model.proofs.Bools.{and_both, and_left, and_right, not_both, not_true, or_first, or_second}
-use Rattle.dtx_model.proofs.Narrow.{act_by, act_entries, after_seal, answer, before_seal, block, commit_act, decided_if, facts, is_done, is_late, is_to_tell, lost_outcome, reply_entries, time_up, undecided_act, veto_if}
+use Rattle.dtx_model.proofs.Narrow.{act_by, act_entries, after_seal, answer, before_seal, block, commit_act, decided_if, facts, is_late, is_to_tell, lost_outcome, reply_entries, time_up, undecided_act, veto_if}
 use Rattle.dtx_model.proofs.Narrowing.{act-narrow}
 use Rattle.dtx_model.proofs.NarrowReplies.{reply-narrow}
 use Rattle.dtx_model.proofs.NarrowCalls.{answer-narrow}
-use Rattle.dtx_model.proofs.NarrowFacts.{call-narrow, is_wait}
+use Rattle.dtx_model.proofs.NarrowFacts.{call-narrow}
 use Rattle.dtx_model.proofs.Unpromoted.{are_local, at_home, begin-local, coordinate-local, half-local, is_local, left-local, observe-local}
 
 -- blocks are local

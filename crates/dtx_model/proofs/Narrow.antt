@@ -30,7 +30,7 @@ use Rattle.dtx_model.specs.Observed.{Observed}
 use Rattle.dtx_model.specs.Half.{stands, is_gone, is_handed, is_aborted}
 use Rattle.dtx_model.specs.Acts.{lasts, tell}
 use Rattle.dtx_model.specs.Answers.{limit_of, class_of, if_begun, unless_over, wait_for, clone_answer, complete_answer, unless_late, gone_answer, status_answer, await_answer}
-use Rattle.dtx_model.specs.Facts.{ticked, reaches, facts_if}
+use Rattle.dtx_model.specs.Facts.{ticked, reaches, facts_if, is_done}
 use Rattle.dtx_model.specs.Steps.{Step, Calls, Replies, Acts}
 
 abbrev pub volatile_answer : Bool → List Row → Answer
@@ -63,12 +63,6 @@ answer o (Lose t c u w) m = if_begun o.limit NoSuch
 answer o (Reenlist e) m = if_begun o.limit NoSuch
 answer o (Recovered t r) m = if_begun o.limit NoSuch
 answer o (Begin t d) m = Fine
-
--- the call was done: its facts follow
-abbrev pub is_done : Answer → Bool
-is_done Fine = true
-is_done True = true
-is_done _ = false
 
 -- a veto decides that it is aborted, in the same step
 abbrev pub veto : List Entry

@@ -19,11 +19,11 @@ use Rattle.dtx_model.specs.Observed.{Observed, observe, track}
 use Rattle.dtx_model.specs.Waiting.{managed}
 use Rattle.dtx_model.specs.Half.{Half, decide, is_handed, sees, veto, veto_if as full_veto_if}
 use Rattle.dtx_model.specs.Wires.{is_open_wire}
-use Rattle.dtx_model.specs.Facts.{facts_if, has_facts, is_late as full_late, local_facts, reaches, ticked, time_up as full_time_up}
+use Rattle.dtx_model.specs.Facts.{facts_if, has_facts, is_late as full_late, local_facts, reaches, ticked, time_up as full_time_up, is_wait, is_done}
 use Rattle.dtx_model.specs.Answers.{if_begun, unless_ended}
 use Rattle.dtx_model.specs.World.{World, connections_of, facts_at, gone_by, gone_unlinked, half, open_ones}
 use Rattle.dtx_model.specs.Steps.{Calls, block_at}
-use Rattle.dtx_model.proofs.Narrow.{answer, block, decided_if, facts, is_done, is_late, lost_outcome, time_up, veto_if}
+use Rattle.dtx_model.proofs.Narrow.{answer, block, decided_if, facts, is_late, lost_outcome, time_up, veto_if}
 use Rattle.dtx_model.proofs.Bools.{not_both}
 use Rattle.dtx_model.proofs.NarrowCalls.{answer-narrow, is_answered_here}
 use Rattle.dtx_model.proofs.Unpromoted.{are_local, at_home, half-local, narrow, unopened-local}
@@ -92,10 +92,6 @@ gone_same t w e x p =
     ap (gone_by w e) (open_ones-local w e p) ∙ ap (λ (h : Half). gone_unlinked h e) (half-local w.calls w.past p) ∙ unlinked-narrow (observe w.past) (managed w.calls w.past) e
 
 -- the block of a call
-abbrev pub is_wait : Answer → Bool
-is_wait Wait = true
-is_wait _ = false
-
 written_same : (t : ℕ) (w : World) (c : Call) (x : Answer) → are_local w.past ≡ true → is_written_here c ≡ true → facts_at t w c x ≡ local_facts t (half w) c x
 written_same t w (Begin u d) x p q = refl
 written_same t w (Volatile u e y v) x p q = refl

@@ -8,9 +8,9 @@ use Rattle.dtx_values.specs.Owners.{cause_of}
 use Rattle.dtx_values.specs.Class.{is_volatile, is_durable, is_promotable}
 use Rattle.dtx_values.specs.declared.row.Row.{Row}
 use Rattle.dtx_model.specs.Answers.{wait_for}
-use Rattle.dtx_model.proofs.Narrow.{is_done}
 use Rattle.dtx_model.specs.Words.{has}
 use Rattle.dtx_model.proofs.Bools.{or_false, or_first, or_second}
+use Rattle.dtx_model.specs.Facts.{is_done}
 
 -- a class that is neither durable nor promotable is volatile
 volatile_else : (c : Class) → is_durable c ≡ false → is_promotable c ≡ false → not (is_volatile c) ≡ false

@@ -22,6 +22,7 @@ use Rattle.dtx_model.specs.Words.{each, has}
 use Rattle.dtx_model.specs.Waiting.{Waiter}
 use Rattle.dtx_model.specs.Half.{Half, is_promoting, fails_if, decide}
 use Rattle.dtx_model.proofs.Bools.{and_both}
+use Rattle.dtx_model.specs.Calls.{is_gone_call}
 
 -- Each entry of a list passes, and how that goes together.
 pub record Each (p : Entry → Bool) (es : List Entry) : Type 0 where
@@ -117,10 +118,6 @@ abbrev pub is_tick : Call → Bool
 is_tick (Tick u n) = true
 is_tick _ = false
 
-abbrev pub is_losing : Call → Bool
-is_losing (Gone e) = true
-is_losing _ = false
-
 abbrev pub is_returning : Call → Bool
 is_returning (Reenlist e) = true
 is_returning _ = false
@@ -198,7 +195,7 @@ ticks (ByCall c) = is_tick c
 ticks _ = false
 
 abbrev pub loses : Source → Bool
-loses (ByCall c) = is_losing c
+loses (ByCall c) = is_gone_call c
 loses _ = false
 
 abbrev pub returns : Source → Bool

@@ -31,6 +31,17 @@ has_facts True = true
 has_facts Wait = true
 has_facts _ = false
 
+-- the call was done: its facts follow, and it doesn't wait
+abbrev pub is_done : Answer → Bool
+is_done Fine = true
+is_done True = true
+is_done _ = false
+
+-- the call has to wait
+abbrev pub is_wait : Answer → Bool
+is_wait Wait = true
+is_wait _ = false
+
 -- the timeout comes too late: it was decided, the local side said yes, the commit was handed over, or there is evidence
 abbrev pub is_late : Observed → Bool
 is_late o = o.yes || is_some o.decided || is_some o.handed || (not o.promoted && is_evident o.sealed o.table)

@@ -306,10 +306,6 @@ may_clone h c k new =
     step false true k = absurd (cc)
     step false false k = (refl, refl)
 
-pub volatile_class : (x : EnlistOption) → is_volatile (class_of x) ≡ true
-volatile_class Plain = refl
-volatile_class DuringPrepare = refl
-
 -- a call that is done and makes no entry of its own
 marshal_undone : (t : ℕ) (h : Half) → is_done (unless_over h.seen (marshal_answer t h)) ≡ true → ⊥
 marshal_undone t h k = step h.seen.promoted h.seen.sealed (is_crowded h) (done_inside h.seen (marshal_answer t h) k).0

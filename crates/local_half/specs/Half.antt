@@ -22,6 +22,7 @@ use Rattle.dtx_model.specs.Replies.{due_of, fits, with_note}
 use Rattle.dtx_model.specs.World.{World, half as half_at, gone_unlinked}
 use Rattle.dtx_model.specs.Caused.{IsOwnRun, is_new}
 use Rattle.enlist_table.specs.Waiting.{is_waiting}
+pub use Rattle.dtx_model.specs.Facts.{is_done, is_wait}
 
 -- the transaction, and what its local side knows of its calls and its history
 pub record Known : Type 0 where
@@ -60,17 +61,6 @@ is_its_own (Gone e) = false
 is_its_own (Reenlist e) = false
 is_its_own (Recovered t r) = false
 is_its_own _ = true
-
--- the call has to wait
-abbrev pub is_wait : Answer → Bool
-is_wait Wait = true
-is_wait _ = false
-
--- the call was done: its facts follow, and it doesn't wait
-abbrev pub is_done : Answer → Bool
-is_done Fine = true
-is_done True = true
-is_done _ = false
 
 -- a call waits for a place of this enlistment
 abbrev pub is_awaited : List Waiter → ℕ → Bool

@@ -13,6 +13,7 @@ use Rattle.dtx_model.specs.Promotes.{is_under_way}
 use Rattle.promotion.specs.Handover.{Promotion, place_of}
 use Rattle.promotion.specs.declared.handing.Right.{Right}
 use Rattle.promotion.specs.declared.handing.Right.TheVariants.{Local, Owner, InFlight, Coordinator, Spent}
+use Rattle.local_half.specs.Told.{handover_of}
 
 -- COMMIT was sent to the coordinator
 abbrev pub is_commit_sent : Entry → Bool
@@ -40,10 +41,6 @@ right_after x r = r
 abbrev pub is_in_one_place : List Entry → Bool
 is_in_one_place h = not (has is_any_hand h && has is_commit_sent h) && not (has is_any_hand h && is_under_way h) && not (has is_commit_sent h && is_under_way h)
 
--- the handover, as the local side has seen it
-abbrev pub handover_seen : Observed → Promotion
-handover_seen o = record { cause = o.cause; stands = o.handover; over = o.promoted; failed = o.failed }
-
 -- the place of the right by what the local side has seen
 abbrev pub right_seen : Observed → Right
-right_seen o = place_of (is_some o.handed) (was_sent Begin (tag_of BeginCommit) o.ends) (is_some o.decided) (handover_seen o)
+right_seen o = place_of (is_some o.handed) (was_sent Begin (tag_of BeginCommit) o.ends) (is_some o.decided) (handover_of o)

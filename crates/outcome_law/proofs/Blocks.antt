@@ -10,12 +10,13 @@ use Rattle.dtx_model.specs.Caused.{IsCallOf, AreMadeOnce, FreelyCaused, IsIn, Is
 use Rattle.dtx_model.specs.Grammar.{are_named_well}
 use Rattle.dtx_model.specs.World.{World}
 use Rattle.dtx_model.specs.Steps.{Step, Calls, Replies, Acts}
-use Rattle.dtx_model.proofs.Narrow.{answer, is_done, act_entries, block}
+use Rattle.dtx_model.proofs.Narrow.{answer, act_entries, block}
 use Rattle.outcome_law.proofs.Runs.{MayComeLocal, RanLocal, IsLocalRun, free_run, own_free}
 use Rattle.outcome_law.proofs.Going.{IsKept}
 use Rattle.outcome_law.proofs.Calls.{call_keeps}
 use Rattle.outcome_law.proofs.Acts.{reply_keeps, act_keeps}
 use Rattle.outcome_law.proofs.Names.{run_new, script_once}
+use Rattle.dtx_model.specs.Facts.{is_done}
 
 -- the block of a step that may come keeps it
 step_keeps : (G : ℕ → ActorNo → Call → Type 0) (h : List Entry) (m : Step) → AreMadeOnce G → IsLocalRun G h → MayComeLocal G h m → IsKept h → IsKept (onto h (block (observe h) m))

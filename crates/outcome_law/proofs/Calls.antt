@@ -26,8 +26,8 @@ use Rattle.dtx_model.specs.Outcome.{is_empty, ready, by_seal, by_owner, by_log, 
 use Rattle.dtx_values.specs.Support.{is_single}
 use Rattle.dtx_values.specs.Row.{is_lasting, is_of}
 use Rattle.dtx_model.specs.Answers.{limit_of, class_of, if_begun, unless_ended, wait_for, clone_answer, complete_answer, gone_answer, unless_late}
-use Rattle.dtx_model.specs.Facts.{ticked, reaches, facts_if}
-use Rattle.dtx_model.proofs.Narrow.{volatile_answer, durable_answer, promotable_answer, answer, is_done}
+use Rattle.dtx_model.specs.Facts.{ticked, reaches, facts_if, is_done}
+use Rattle.dtx_model.proofs.Narrow.{volatile_answer, durable_answer, promotable_answer, answer}
 use Rattle.dtx_values.specs.Owners.{is_evident, cause_of, may_own}
 use Rattle.dtx_model.specs.Half.{is_gone, is_handed}
 use Rattle.dtx_model.proofs.Narrow.{veto_if, is_late, time_up, lost_outcome, decided_if, facts}
@@ -40,6 +40,7 @@ use Rattle.outcome_law.proofs.Evidence.{evidence-sealed}
 use Rattle.outcome_law.proofs.Rules.{undecided}
 use Rattle.outcome_law.proofs.Owned.{decision_seen, none_lasting, hand_seen, any_hand_seen, lost_seen, vote_seen}
 use Rattle.outcome_law.proofs.Going.{IsKept, keep, keep_lost, going_unanswered, enlisted_keeps, cloned_keeps, completed_keeps, rollback_keeps, timeout_keeps, refused_keeps, commit_keeps, lost_aborts, lost_doubts}
+use Rattle.dtx_model.proofs.Classes.{volatile_class}
 
 -- where no owner answered, the rows show whether evidence stands
 evidence_shown : (h : List Entry) → ruled h ≡ true → has is_answer h ≡ false → is_evident (has is_sealed h) (rows h) ≡ evidence h
@@ -102,11 +103,6 @@ gone_done None stands lost k = absurd cc
 gone_done (Some n) false lost k = absurd cc
 gone_done (Some n) true true k = absurd cc
 gone_done (Some n) true false k = (refl, refl)
-
--- what a call of volatile enlists is volatile
-pub volatile_class : (x : EnlistOption) → is_volatile (class_of x) ≡ true
-volatile_class Plain = refl
-volatile_class DuringPrepare = refl
 
 -- commit keeps it, whether it is a veto or none
 asked_commit : (h : List Entry) (b : Bool) → IsKept h → has is_decision h ≡ false → has is_commit h ≡ false → is_veto h CommitAsked ≡ b → IsKept (onto h (CommitAsked ∷ veto_if b))

@@ -26,12 +26,13 @@ use Rattle.dtx_model.proofs.Bools.{and_both, and_left, and_right, not_both, not_
 use Rattle.dtx_model.proofs.Histories.{history-noted, history-other, history-same}
 use Rattle.dtx_model.proofs.Local.{IsNarrow, call_local, step-narrow, waits_promotes}
 use Rattle.dtx_model.proofs.Narrow.{answer, block}
-use Rattle.dtx_model.proofs.NarrowFacts.{call-narrow, is_wait}
+use Rattle.dtx_model.proofs.NarrowFacts.{call-narrow}
 use Rattle.dtx_model.proofs.Reading.{each-onto}
 use Rattle.dtx_model.proofs.Unpromoted.{are_local, is_local}
 use Rattle.outcome_law.proofs.Runs.{MayComeLocal, may_come}
 use Rattle.outcome_law.proofs.ReplayRuns.{pending_comes}
 use Rattle.outcome_law.proofs.ReplayTurns.{CallDone, LineDone, LinesDone, RoundsDone, StepsDone, after_block, calls_after as blocks_after, has_called, is_log_line, local_quiet, replay_done, scope_after as scope_done}
+use Rattle.dtx_model.specs.Facts.{is_wait}
 
 -- no call may be entered
 abbrev pub NoCall : ℕ → ActorNo → Call → Type 0

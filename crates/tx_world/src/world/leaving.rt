@@ -9,7 +9,7 @@ ghost use Rattle.dtx_model.specs.Outcome.{is_empty};
 ghost use Rattle.dtx_model.specs.Steps.{Calls};
 ghost use Rattle.dtx_model.specs.Words.{has};
 ghost use Rattle.dtx_model.specs.World.{answer_at, open_ones};
-ghost use Rattle.tx_world.specs.Entering.{is_gone_call};
+ghost use Rattle.dtx_model.specs.Calls.{is_gone_call};
 ghost use Rattle.tx_world.specs.State.{may_enter};
 ghost use Rattle.tx_world.specs.Stepping.{Does};
 
