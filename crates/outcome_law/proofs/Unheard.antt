@@ -6,7 +6,6 @@ use Rattle.std.proofs.lemmas.Bool.{false_from_ne_true, or_left}
 use Rattle.dtx_values.specs.declared.entry.Entry.{Entry}
 use Rattle.dtx_values.specs.declared.entry.Entry.TheVariants.{Decided, Freed, Logged, OwnerAnswered, Restarted, Stopped, Told}
 use Rattle.dtx_values.specs.declared.number.EnlNo.{EnlNo}
-use Rattle.dtx_values.specs.declared.words.Outcome.{Outcome}
 use Rattle.dtx_values.specs.declared.words.Outcome.TheVariants.{Committed, Aborted}
 use Rattle.dtx_model.specs.Words.{all_of, always, each, ever, has, latest}
 use Rattle.dtx_model.specs.Entries.{decision_of, is_commit_got, is_final, is_good_vote, is_record, is_vote, is_yes, is_yes_got}
@@ -17,7 +16,7 @@ use Rattle.dtx_model.specs.Tied.{before_first, before_first_stop, can_log, enlis
 use Rattle.dtx_model.specs.AtLog.{is_restart}
 use Rattle.outcome_law.specs.Appended.{stopped_at_append}
 use Rattle.outcome_law.specs.Stopped.{is_outcome_said, is_record_unknown, is_silent, restarts_without_evidence}
-use Rattle.dtx_model.proofs.Bools.{and_both, and_left, and_right, not_both, not_false, not_true, or_case, or_false, or_right, or_second}
+use Rattle.dtx_model.proofs.Bools.{and_both, and_left, and_right, not_both, not_false, not_true, or_case, or_right, or_second}
 use Rattle.outcome_law.proofs.Scans.{has_more}
 use Rattle.outcome_law.proofs.Rule.{is_decided}
 use Rattle.outcome_law.proofs.Rules.{decided_same}

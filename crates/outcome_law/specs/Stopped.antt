@@ -1,5 +1,5 @@
 -- What is said of the outcome where the log stops: while it isn't known whether the record is there, nobody hears it; and where a restart found no record and there was no evidence, there never is any.
-use Rattle.std.specs.Prelude.{Bool, true, false, ◌&&◌, ◌||◌, not, List}
+use Rattle.std.specs.Prelude.{Bool, false, ◌&&◌, ◌||◌, not, List}
 use Rattle.dtx_values.specs.declared.entry.Entry.{Entry}
 use Rattle.dtx_values.specs.declared.entry.Entry.TheVariants.{Restarted}
 use Rattle.dtx_values.specs.declared.words.Outcome.TheVariants.{Committed, Aborted}
