@@ -182,3 +182,4 @@ pub mod CallsAnswered
 pub mod Appending
 pub mod Barred
 pub mod Unheard
+pub mod StopExample
