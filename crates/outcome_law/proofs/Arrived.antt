@@ -20,7 +20,7 @@ use Rattle.dtx_model.proofs.Connections.{same_is, same_way_is}
 use Rattle.outcome_law.proofs.Crossed.{is_sent_on, is_got_on}
 
 -- a connection that was opened is open, where it is firm
-pub stays : (c : Conn) (h : List Entry) → IsWired h → IsFirm c h → has (opens c) h ≡ true → lost_since c h ≡ Some false
+stays : (c : Conn) (h : List Entry) → IsWired h → IsFirm c h → has (opens c) h ≡ true → lost_since c h ≡ Some false
 stays c h w f k = step (lost_since c h) (opened_since c h k) f.kept
   where
     step : (o : Option Bool) → is_some o ≡ true → holds o ≡ false → o ≡ Some false
@@ -38,14 +38,14 @@ rule_later true b p l n k = absurd cc
 rule_later false b p l n k = k
 
 -- where one opens a plain connection, it wasn't
-pub rule_first : (o b p l : Bool) → p ≡ true → o ≡ true → (if o then not b || (not p && l) else b) ≡ true → b ≡ false
+rule_first : (o b p l : Bool) → p ≡ true → o ≡ true → (if o then not b || (not p && l) else b) ≡ true → b ≡ false
 rule_first true true true l q n k = absurd cc
 rule_first true true false l q n k = absurd cc
 rule_first true false p l q n k = refl
 rule_first false b p l q n k = absurd cc
 
 -- the rule of a message that is sent, on the connection as it is tested
-pub sent_rule : (c e : Conn) (r : Dir) (m : Message) (h : List Entry) → same_connection c e ≡ true → is_opened_once h (Sent e r m) ≡ true
+sent_rule : (c e : Conn) (r : Dir) (m : Message) (h : List Entry) → same_connection c e ≡ true → is_opened_once h (Sent e r m) ≡ true
     → (if opens c (Sent e r m) then not (has (opens c) h) || (not (is_plain c) && has is_severing h) else has (opens c) h) ≡ true
 sent_rule c e r m h q w =
     let P : Conn → Type 0 = λ x. (if opens x (Sent e r m) then not (has (opens x) h) || (not (is_plain x) && has is_severing h) else has (opens x) h) ≡ true in
@@ -82,7 +82,7 @@ abbrev pub reached : Conn → Dir → (Message → Bool) → List Entry → Bool
 reached c d p h = has (is_got_on c d p) h || has p (in_transit c d h)
 
 -- what opens a connection is sent on it
-pub opens_same : (c e : Conn) (r : Dir) (m : Message) → opens c (Sent e r m) ≡ true → same_connection c e ≡ true
+opens_same : (c e : Conn) (r : Dir) (m : Message) → opens c (Sent e r m) ≡ true → same_connection c e ≡ true
 opens_same c e Up m o = and_left (same_connection c e) (is_opening e m) o
 opens_same c e Down m o = absurd cc
 
@@ -131,7 +131,7 @@ cut_lost c e u n h None s q = absurd cc
 cut_lost c e u n h (Some l) s q = or_right l (same_connection c e) q
 
 -- where it was sent on a firm connection, it was got or is on the way
-pub on_way : (c : Conn) (d : Dir) (p : Message → Bool) (h : List Entry) → IsWired h → IsFirm c h → has (is_sent_on c d p) h ≡ true → reached c d p h ≡ true
+on_way : (c : Conn) (d : Dir) (p : Message → Bool) (h : List Entry) → IsWired h → IsFirm c h → has (is_sent_on c d p) h ≡ true → reached c d p h ≡ true
 on_way c d p [] w f k = absurd cc
 on_way c d p (Sent e r m ∷ h) w f k =
     let past = wired_before (Sent e r m) h w in

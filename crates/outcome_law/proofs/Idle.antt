@@ -3,9 +3,9 @@ use Rattle.std.proofs.Common.{◌≡◌, ℕ, ◌==◌, Bool, true, false, ◌&&
 use Rattle.std.specs.Prelude.{is_some, not, if◌then◌else◌}
 use Rattle.std.specs.List.{flat_map}
 use Rattle.std.proofs.lemmas.Bool.{or_left}
-use Rattle.dtx_values.specs.declared.end.End.{End as Side}
+use Rattle.dtx_values.specs.declared.end.End.{End}
 use Rattle.dtx_values.specs.declared.entry.Entry.{Entry}
-use Rattle.dtx_values.specs.declared.entry.Entry.TheVariants.{Down as End, Enlisted, Got, Stopped}
+use Rattle.dtx_values.specs.declared.entry.Entry.TheVariants.{Down as Ended, Enlisted, Got, Stopped}
 use Rattle.dtx_values.specs.declared.message.Conn.{Conn}
 use Rattle.dtx_values.specs.declared.message.Dir.{Dir}
 use Rattle.dtx_values.specs.declared.message.Dir.TheVariants.{Up, Down}
@@ -49,7 +49,7 @@ none_left c d h k = bare (in_transit c d h) (or_first (not (is_empty (in_transit
     bare [] k = refl
     bare (m ∷ ms) k = absurd cc
 
-none_pending_on : (c : Conn) (h : List Entry) (ns : List Side) → flat_map (deliveries_on h) ns ≡ [] → has (is_end_of c) ns ≡ true → (has_left c Up h ≡ false) × (has_left c Down h ≡ false)
+pub none_pending_on : (c : Conn) (h : List Entry) (ns : List End) → flat_map (deliveries_on h) ns ≡ [] → has (is_end_of c) ns ≡ true → (has_left c Up h ≡ false) × (has_left c Down h ≡ false)
 none_pending_on c h [] e k = absurd cc
 none_pending_on c h (n ∷ ns) e k =
     or_case (is_end_of c n) (has (is_end_of c) ns)
@@ -77,7 +77,7 @@ none_on_the_way h w e c d = by_opening (has (opens c) h) refl
 
 -- Each side saw the end of each connection that was lost.
 end_there : (c : Conn) (d : Dir) (x : Entry) (h : List Entry) → IsWired (x ∷ h) → ends c d x ≡ true → is_end_on c d x ≡ true
-end_there c d (End e r) h w k = k
+end_there c d (Ended e r) h w k = k
 end_there c d (Got e r m) h w k =
     absurd (not_both (has_line e r m) (newest (Got e r m) h w) (not_true (has_line e r m) (and_right (same_connection c e && same_direction d r) (not (has_line e r m)) k)))
 end_there c d Stopped h w k = let s : true ≡ false = w.unstopped in absurd cc

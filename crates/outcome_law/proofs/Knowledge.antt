@@ -29,8 +29,8 @@ use Rattle.outcome_law.proofs.Owned.{has_filter}
 use Rattle.outcome_law.proofs.Scans.{has_more}
 use Rattle.outcome_law.proofs.Messages.{ASK}
 use Rattle.outcome_law.proofs.Debts.{knows_there}
-use Rattle.outcome_law.proofs.Wired.{IsWired, is_end_on, is_plain, newest, opened_new, wired_before}
-use Rattle.outcome_law.proofs.Openings.{got_opened, opening_first}
+use Rattle.outcome_law.proofs.Wired.{IsWired, is_end_on, newest, opened_new, wired_before}
+use Rattle.outcome_law.proofs.Openings.{got_opened}
 use Rattle.outcome_law.proofs.CoreKnown.{has_made}
 use Rattle.outcome_law.proofs.Crossed.{is_got_on}
 
@@ -282,7 +282,3 @@ opening_known c (Ended e Up ∷ h) w k n =
     (opening_known c h (wired_before (Ended e Up) h w) k (or_second (same_connection c e && true) (has (is_end_on c Up) h) n))
 opening_known c (Stopped ∷ h) w k n = let s : true ≡ false = w.unstopped in absurd cc
 opening_known c (x ∷ h) w k n = opening_known c h (wired_before x h w) k (or_second (is_end_on c Up x) (has (is_end_on c Up) h) n)
-
--- and so is one on which anything was got, where it is opened once
-pub got_known : (c : Conn) (p : Message → Bool) (h : List Entry) → IsWired h → is_plain c ≡ true → has (is_got_on c Up p) h ≡ true → has (is_end_on c Up) h ≡ false → knows_there c h ≡ true
-got_known c p h w q k n = opening_known c h w (opening_first c p h w q k) n

@@ -1,5 +1,5 @@
 -- The message that opens a connection is the first that is got on it, where the connection is opened once at most and the coordinator doesn't stop.
-use Rattle.std.proofs.Common.{◌≡◌, ℕ, zero, suc, Bool, true, false, ◌&&◌, ◌||◌, List, [], ◌∷◌, ◌++◌, Option, Some, None, refl, sym, subst}
+use Rattle.std.proofs.Common.{◌≡◌, ℕ, zero, suc, Bool, true, false, ◌&&◌, ◌||◌, List, [], ◌∷◌, Option, Some, None, refl, sym, subst}
 use Rattle.std.specs.Prelude.{not, take, if◌then◌else◌}
 use Rattle.std.proofs.lemmas.Bool.{false_from_ne_true, or_left, true_from_ne_false}
 use Rattle.dtx_values.specs.declared.entry.Entry.{Entry}

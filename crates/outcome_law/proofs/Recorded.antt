@@ -1,10 +1,9 @@
 -- The coordinator's side: where COMMIT, YES and each vote were got and it has decided nothing, it may log.
-use Rattle.std.proofs.Common.{◌≡◌, ℕ, ◌==◌, Bool, true, false, ◌&&◌, ◌||◌, List, [], ◌∷◌, ◌++◌, Some, None, refl, ◌∙◌, sym, subst, ap}
+use Rattle.std.proofs.Common.{◌≡◌, ℕ, ◌==◌, Bool, true, false, ◌&&◌, ◌||◌, List, [], ◌∷◌, ◌++◌, Some, None, refl, ◌∙◌, sym, ap}
 use Rattle.std.specs.Prelude.{not, map, if◌then◌else◌}
 use Rattle.std.proofs.lemmas.Bool.{eq-eqb, eqb-true, or_left, false_from_ne_true}
 use Rattle.dtx_values.specs.declared.entry.Entry.{Entry}
 use Rattle.dtx_values.specs.declared.entry.Entry.TheVariants.{Sent, Got, Restarted}
-use Rattle.dtx_values.specs.declared.message.Conn.{Conn}
 use Rattle.dtx_values.specs.declared.message.Conn.TheVariants.{Begin, Voter, Enl, Again}
 use Rattle.dtx_values.specs.declared.message.Dir.TheVariants.{Up, Down}
 use Rattle.dtx_values.specs.declared.message.Message.{Message}
@@ -22,7 +21,7 @@ use Rattle.dtx_model.specs.Coordinated.{accepts, Coordinated, coordinate, core_g
 use Rattle.dtx_model.proofs.Bools.{and_left, and_right, and_both, or_case, or_right, not_true, not_both}
 use Rattle.outcome_law.proofs.Lists.{each-insert}
 use Rattle.outcome_law.proofs.Scans.{each_more}
-use Rattle.outcome_law.proofs.Messages.{COMMIT, ENLIST, PREPARE, VOTED, YES}
+use Rattle.outcome_law.proofs.Messages.{COMMIT, ENLIST, VOTED, YES}
 use Rattle.outcome_law.proofs.Fine.{IsFine}
 use Rattle.outcome_law.proofs.Rest.{is_ordered}
 use Rattle.outcome_law.proofs.Wired.{newest, unstopped}

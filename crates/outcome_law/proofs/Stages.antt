@@ -1,6 +1,5 @@
 -- The coordinator is active from BEGIN on, where it has decided nothing; and what the table says of what stands before an entry.
 use Rattle.std.proofs.Common.{◌≡◌, Bool, true, false, ◌&&◌, List, [], ◌∷◌, refl, ◌∙◌, sym, subst, ap}
-use Rattle.std.specs.Prelude.{not}
 use Rattle.dtx_values.specs.declared.entry.Entry.{Entry}
 use Rattle.dtx_values.specs.declared.entry.Entry.TheVariants.{Sent, Got, Logged, Freed, Restarted}
 use Rattle.dtx_values.specs.declared.message.Conn.{Conn}

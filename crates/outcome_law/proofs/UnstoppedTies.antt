@@ -80,13 +80,10 @@ ran_tied G t (m ∷ ms) w r u =
 pub unstopped_tied : (G : ℕ → ActorNo → Call → Type 0) (t : ℕ) (h : List Entry) → FreelyCaused G t h → has is_stop h ≡ false → tied h ≡ true
 unstopped_tied G t h f u = ran_tied G t f.1.0 (record { calls = f.0; past = h }) f.1.1 u
 
--- so where nothing is lost
+-- where nothing is lost, it never stopped
 stop_loses : (x : Entry) → is_stop x ≡ true → is_loss x ≡ true
 stop_loses Stopped k = refl
 stop_loses _ k = absurd cc
 
 pub unlost_unstopped : (h : List Entry) → has is_loss h ≡ false → has is_stop h ≡ false
 unlost_unstopped h u = has_less is_stop is_loss stop_loses h u
-
-pub unlost_tied : (G : ℕ → ActorNo → Call → Type 0) (t : ℕ) (h : List Entry) → FreelyCaused G t h → has is_loss h ≡ false → tied h ≡ true
-unlost_tied G t h f u = unstopped_tied G t h f (unlost_unstopped h u)

@@ -6,8 +6,7 @@ use Rattle.dtx_values.specs.declared.entry.Entry.TheVariants.{Sent, Got, Cut, Do
 use Rattle.dtx_values.specs.declared.message.Conn.{Conn}
 use Rattle.dtx_values.specs.declared.message.Conn.TheVariants.{Again}
 use Rattle.dtx_values.specs.declared.message.Dir.{Dir}
-use Rattle.dtx_values.specs.declared.message.Dir.TheVariants.{Up, Down}
-use Rattle.dtx_values.specs.declared.message.Message.{Message}
+use Rattle.dtx_values.specs.declared.message.Dir.TheVariants.{Up}
 use Rattle.dtx_values.specs.Ends.{same_connection, same_direction}
 use Rattle.dtx_values.specs.Lines.{has_line, is_opening}
 use Rattle.dtx_model.specs.Words.{has, always}
@@ -146,9 +145,6 @@ unlost_wire c (x ∷ h) w n =
     step None false s z n k i = refl
     step (Some l) true s z n k i = n
     step (Some l) false s z n k i = or_false l z i k
-
-pub unlost_firm : (c : Conn) (h : List Entry) → is_plain c ≡ true → IsWired h → has is_loss h ≡ false → IsFirm c h
-unlost_firm c h p w n = record { plain = p; kept = unlost_wire c h w n }
 
 -- and no end comes
 pub unlost_unended : (h : List Entry) → IsWired h → has is_loss h ≡ false → has is_any_end h ≡ false
