@@ -25,16 +25,16 @@ use Rattle.dtx_model.proofs.WorkedOutcomes.{commits_history, commits_lines}
 use Rattle.outcome_law.proofs.Completes.{settled_told}
 
 -- the world that steps make, the newest step first
-abbrev made : List Step → World
+abbrev pub made : List Step → World
 made [] = record { calls = []; past = [] }
 made (m ∷ ms) = after 1 (made ms) m
 
 -- each may come where it comes
-abbrev AllMay : (ℕ → ActorNo → Call → Type 0) → List Step → Type 0
+abbrev pub AllMay : (ℕ → ActorNo → Call → Type 0) → List Step → Type 0
 AllMay G [] = Unit {0}
 AllMay G (m ∷ ms) = AllMay G ms × MayCome G 1 (made ms) m
 
-ran : (G : ℕ → ActorNo → Call → Type 0) (ms : List Step) → AllMay G ms → Ran G 1 ms (made ms)
+pub ran : (G : ℕ → ActorNo → Call → Type 0) (ms : List Step) → AllMay G ms → Ran G 1 ms (made ms)
 ran G [] a = (refl, refl)
 ran G (m ∷ ms) a = (made ms, ran G ms a.0, a.1, refl)
 
@@ -62,7 +62,7 @@ abbrev sealing : List Step
 sealing =
     Acts ∷ Delivers (Enl e1) Down ∷ Delivers (Enl e1) Up ∷ Calls 5 a1 (CommitCall t1) 0 ∷ Calls 4 a1 (Durable t1 e1 r1 (TwoPhase (Some Yes))) 0 ∷ Calls 3 a1 (Await t1) 0 ∷ promoting
 
-abbrev voting : List Step
+abbrev pub voting : List Step
 voting =
     Delivers (Enl e1) Up ∷ Replies e1 (Vote Yes) ∷ Delivers (Enl e1) Down ∷ Delivers Voter Up ∷ Acts ∷ Delivers Voter Down ∷ Delivers Begin Up ∷ sealing
 
@@ -78,7 +78,7 @@ may_seal : AllMay (IsCallOf commits_lines 1) sealing
 unfolding model
 may_seal = ((((((may_promote, (call_3, refl, refl)), (call_4, refl, tt)), (call_5, refl, tt)), refl), refl), refl)
 
-may_vote : AllMay (IsCallOf commits_lines 1) voting
+pub may_vote : AllMay (IsCallOf commits_lines 1) voting
 unfolding model
 may_vote = (((((((may_seal, refl), refl), refl), refl), refl), (Prepare, refl, refl)), refl)
 

@@ -1,6 +1,6 @@
 -- What went before by the rows of the table: COMMIT before ASK and PREPARE, and so before the local yes and each vote that was got; and that no connection is lost before a promotion is over, where
 -- nothing is pending and nothing is decided.
-use Rattle.std.proofs.Common.{◌≡◌, ◌==◌, Bool, true, false, ◌&&◌, ◌||◌, List, [], ◌∷◌, refl, sym, subst}
+use Rattle.std.proofs.Common.{◌≡◌, ◌==◌, Bool, true, false, ◌&&◌, ◌||◌, List, ◌∷◌, refl, sym, subst}
 use Rattle.std.proofs.lemmas.Bool.{eqb-true, false_from_ne_true, or_left}
 use Rattle.dtx_values.specs.declared.entry.Entry.{Entry}
 use Rattle.dtx_values.specs.declared.entry.Entry.TheVariants.{Got, LocalYes, Sent, Voted}
@@ -91,28 +91,32 @@ vote_prepared e h o k =
     at e (Sent (Enl f) Down m) h s k = absurd (not_both ((e.value == f.value) && false && VOTED m) k (not_up (e.value == f.value) (VOTED m)))
     at e x h s k = absurd cc
 
--- whoever voted is volatile, or got PREPARE
-pub voted_prepared : (e : EnlNo) (h : List Entry) → always is_sound h ≡ true → has (is_vote e.value) h ≡ true → (has (is_volatile_made e.value) h || has (is_got_on (Enl e) Down PREPARE) h) ≡ true
-voted_prepared e h s k = earlier is_sound (is_vote e.value) (is_prepared e) (stays e) (at e) h s k
+-- an enlistment is volatile, or got PREPARE; it stays so, and it is so of one with the same number
+abbrev pub is_prepared : EnlNo → List Entry → Bool
+is_prepared e h = has (is_volatile_made e.value) h || has (is_got_on (Enl e) Down PREPARE) h
+
+pub prepared_stays : (e : EnlNo) (x : Entry) (h : List Entry) → is_prepared e h ≡ true → is_prepared e (x ∷ h) ≡ true
+prepared_stays e x h q = more (is_volatile_made e.value x) (is_got_on (Enl e) Down PREPARE x) (has (is_volatile_made e.value) h) (has (is_got_on (Enl e) Down PREPARE) h) q
   where
-    is_prepared : EnlNo → List Entry → Bool
-    is_prepared e h = has (is_volatile_made e.value) h || has (is_got_on (Enl e) Down PREPARE) h
+    more : (a b c d : Bool) → (c || d) ≡ true → ((a || c) || (b || d)) ≡ true
+    more true b c d k = refl
+    more false b true d k = refl
+    more false true false d k = refl
+    more false false false d k = k
 
-    stays : (e : EnlNo) (x : Entry) (h : List Entry) → is_prepared e h ≡ true → is_prepared e (x ∷ h) ≡ true
-    stays e x h q = more (is_volatile_made e.value x) (is_got_on (Enl e) Down PREPARE x) (has (is_volatile_made e.value) h) (has (is_got_on (Enl e) Down PREPARE) h) q
-      where
-        more : (a b c d : Bool) → (c || d) ≡ true → ((a || c) || (b || d)) ≡ true
-        more true b c d k = refl
-        more false b true d k = refl
-        more false true false d k = refl
-        more false false false d k = k
+pub prepared_same : (e f : EnlNo) (h : List Entry) → (e.value == f.value) ≡ true → is_prepared f h ≡ true → is_prepared e h ≡ true
+prepared_same e f h k s =
+    let P : Conn → Type 0 = λ c. has (is_got_on c Down PREPARE) h ≡ true in
+    or_case (has (is_volatile_made f.value) h) (has (is_got_on (Enl f) Down PREPARE) h)
+    (λ a. or_left (has (is_volatile_made e.value) h) (has (is_got_on (Enl e) Down PREPARE) h) (subst (λ n. has (is_volatile_made n) h ≡ true) (sym (eqb-true e.value f.value k)) a))
+    (λ a. or_right (has (is_volatile_made e.value) h) (has (is_got_on (Enl e) Down PREPARE) h) (subst P (sym (same_is (Enl e) (Enl f) k)) a)) s
 
+-- whoever voted is so
+pub voted_prepared : (e : EnlNo) (h : List Entry) → always is_sound h ≡ true → has (is_vote e.value) h ≡ true → is_prepared e h ≡ true
+voted_prepared e h s k = earlier is_sound (is_vote e.value) (is_prepared e) (prepared_stays e) (at e) h s k
+  where
     at : (e : EnlNo) (x : Entry) (h : List Entry) → is_sound h x ≡ true → is_vote e.value x ≡ true → is_prepared e h ≡ true
-    at e (Voted f v) h s k =
-        let P : Conn → Type 0 = λ c. has (is_got_on c Down PREPARE) h ≡ true in
-        or_case (has (is_volatile_made f.value) h) (has (is_got_on (Enl f) Down PREPARE) h)
-        (λ a. or_left (has (is_volatile_made e.value) h) (has (is_got_on (Enl e) Down PREPARE) h) (subst (λ n. has (is_volatile_made n) h ≡ true) (sym (eqb-true e.value f.value k)) a))
-        (λ a. or_right (has (is_volatile_made e.value) h) (has (is_got_on (Enl e) Down PREPARE) h) (subst P (sym (same_is (Enl e) (Enl f) k)) a)) s
+    at e (Voted f v) h s k = prepared_same e f h k s
     at e x h s k = absurd cc
 
 -- so COMMIT was got where an enlistment got PREPARE, where a vote was got, and where the local side said yes

@@ -181,3 +181,5 @@ pub mod TellingRuns
 pub mod CallsAnswered
 pub mod Appending
 pub mod Barred
+pub mod Unheard
+pub mod StopExample

@@ -79,7 +79,7 @@ heard_record (Enl e) h k t = brought_record e.value h k (brings_is h t)
     brings_is [] t = t
     brings_is (x ∷ h) t = t
 
-heard_aborted : (p : Party) (h : List Entry) → Keeps h → hears_here h p Aborted ≡ true → coordinator_aborted h ≡ true
+pub heard_aborted : (p : Party) (h : List Entry) → Keeps h → hears_here h p Aborted ≡ true → coordinator_aborted h ≡ true
 heard_aborted Client h k t = absurd cc
 heard_aborted (Enl e) h k t = brought_aborted e.value h k (brings_is h t)
   where
@@ -173,7 +173,7 @@ cause_now o q stays heard (OwnerAnswered f y) h k t =
     (or_right (is_decided o (latest decision_of h)) (same_outcome o y || has (is_answered o) h) (or_left (same_outcome o y) (has (is_answered o) h) t))
 cause_now o q stays heard _ h k t = absurd cc
 
-final_cause : (o : Outcome) (q : List Entry → Bool) → ((x : Entry) (h : List Entry) → q h ≡ true → q (x ∷ h) ≡ true)
+pub final_cause : (o : Outcome) (q : List Entry → Bool) → ((x : Entry) (h : List Entry) → q h ≡ true → q (x ∷ h) ≡ true)
     → ((p : Party) (h : List Entry) → Keeps h → hears_here h p o ≡ true → q h ≡ true) → (h : List Entry) → Keeps h → has (is_final o) h ≡ true → has_cause o q h ≡ true
 final_cause o q stays heard [] k t = absurd cc
 final_cause o q stays heard (x ∷ h) k t =
@@ -184,7 +184,7 @@ answered_any : (o : Outcome) (x : Entry) → is_answered o x ≡ true → is_ans
 answered_any o (OwnerAnswered e y) t = refl
 answered_any o _ t = absurd cc
 
-answered_handed : (o : Outcome) (h : List Entry) → Keeps h → has (is_answered o) h ≡ true → has is_any_hand h ≡ true
+pub answered_handed : (o : Outcome) (h : List Entry) → Keeps h → has (is_answered o) h ≡ true → has is_any_hand h ≡ true
 answered_handed o h k t = handed_if_answered h k (has_more (is_answered o) is_answer (answered_any o) h t)
 
 unanswered : (o : Outcome) (e : EnlNo) (y : Outcome) (h : List Entry) → rule h (OwnerAnswered e y) ≡ true → has (is_answered o) h ≡ false
@@ -198,7 +198,7 @@ answered_once (OwnerAnswered f Committed ∷ h) k t = absurd (not_both (has (is_
 answered_once (OwnerAnswered f Aborted ∷ h) k t = unanswered Committed f Aborted h (newest (OwnerAnswered f Aborted) h k)
 answered_once (x ∷ h) k t = answered_once h (keeps_before x h k) t
 
-final_evident : (h : List Entry) → Keeps h → has (is_final Committed) h ≡ true → evidence h ≡ true
+pub final_evident : (h : List Entry) → Keeps h → has (is_final Committed) h ≡ true → evidence h ≡ true
 final_evident h k t =
     or_case (is_decided Committed (latest decision_of h) || has (is_answered Committed) h) (has is_record h)
     (λ a. or_case (is_decided Committed (latest decision_of h)) (has (is_answered Committed) h) (λ d. decided_evident h k (decided_same Committed (latest decision_of h) d))

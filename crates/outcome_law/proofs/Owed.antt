@@ -7,7 +7,6 @@ use Rattle.dtx_values.specs.declared.entry.Ask.TheVariants.{Prepare as AskPrepar
 use Rattle.dtx_values.specs.declared.entry.Entry.{Entry}
 use Rattle.dtx_values.specs.declared.entry.Entry.TheVariants.{Asked, Enlisted, Lost, Reenlisted, Told}
 use Rattle.dtx_values.specs.declared.entry.Party.TheVariants.{Enl as Member}
-use Rattle.dtx_values.specs.declared.message.Conn.{Conn}
 use Rattle.dtx_values.specs.declared.message.Conn.TheVariants.{Begin, Enl}
 use Rattle.dtx_values.specs.declared.message.Dir.TheVariants.{Down, Up}
 use Rattle.dtx_values.specs.declared.note.Note.{Note}
@@ -36,11 +35,11 @@ use Rattle.dtx_model.specs.Wires.{holds, is_lost_wire}
 use Rattle.dtx_model.specs.Plans.{owner_reply, promote_reply, vote_reply}
 use Rattle.dtx_model.specs.Half.{is_gone, was_told}
 use Rattle.dtx_model.specs.Replies.{conn_due, due_of, may_still_vote, names, note_at, note_of_conn, owes_outcome, owes_promotion, owes_request, owes_vote, row_note, with_name, with_names}
-use Rattle.dtx_model.specs.History.{is_committed, is_loss, is_willing}
+use Rattle.dtx_model.specs.History.{is_committed, is_willing}
 use Rattle.dtx_model.proofs.Bools.{and_both, and_left, and_right, not_both, not_false, or_case, or_false, or_first, or_right, or_second}
 use Rattle.outcome_law.proofs.Lists.{each-insert, has-insert, has_kept}
 use Rattle.outcome_law.proofs.Picks.{each_from_at, has-at}
-use Rattle.outcome_law.proofs.Scans.{each-at, has_less, has_more}
+use Rattle.outcome_law.proofs.Scans.{each-at, has_more}
 use Rattle.outcome_law.proofs.Tests.{eq_self}
 use Rattle.outcome_law.proofs.Dues.{is_unplanned, named_rows}
 use Rattle.outcome_law.proofs.Owned.{has_rows}
@@ -49,12 +48,11 @@ use Rattle.outcome_law.proofs.Settled.{has_answered}
 use Rattle.outcome_law.proofs.Messages.{COMMIT, PREPARE}
 use Rattle.outcome_law.proofs.Fine.{IsFine, is_bad, is_made}
 use Rattle.outcome_law.proofs.Debts.{has_promotable, is_volatile_made}
-use Rattle.dtx_model.proofs.Connections.{same_is}
 use Rattle.outcome_law.proofs.Knowledge.{knows_got}
-use Rattle.outcome_law.proofs.Stages.{record_logged}
+use Rattle.outcome_law.proofs.Stages.{earlier, record_logged}
 use Rattle.outcome_law.proofs.Rest.{is_ordered, is_sound}
 use Rattle.outcome_law.proofs.Openings.{once_sent}
-use Rattle.outcome_law.proofs.Foregoing.{prepared_commit, voted_prepared}
+use Rattle.outcome_law.proofs.Foregoing.{is_prepared, prepared_commit, prepared_same, prepared_stays, voted_prepared}
 use Rattle.outcome_law.proofs.Wired.{firm_unended}
 use Rattle.outcome_law.proofs.Unblamed.{owns, unrestarted}
 use Rattle.outcome_law.proofs.Climbed.{none_decided}
@@ -217,26 +215,12 @@ row_unplanned p h i x r e g =
     ap (λ b. is_unplanned (p n) (if b then None else or_else (row_note o x) (note_of_conn (conn_due o n)))) (sym g) ∙ found
 
 -- a durable or promotable that was asked to prepare got PREPARE
-prepare_got : (e : EnlNo) (h : List Entry) → always is_asked_well h ≡ true → has (is_asked e.value) h ≡ true → (has (is_volatile_made e.value) h || has (is_got_on (Enl e) Down PREPARE) h) ≡ true
-prepare_got e [] w k = absurd cc
-prepare_got e (x ∷ h) w k =
-    more (is_volatile_made e.value x) (is_got_on (Enl e) Down PREPARE x) (has (is_volatile_made e.value) h) (has (is_got_on (Enl e) Down PREPARE) h)
-    (or_case (is_asked e.value x) (has (is_asked e.value) h) (own x (and_left (is_asked_well h x) (always is_asked_well h) w)) (prepare_got e h (and_right (is_asked_well h x) (always is_asked_well h) w)) k)
+prepare_got : (e : EnlNo) (h : List Entry) → always is_asked_well h ≡ true → has (is_asked e.value) h ≡ true → is_prepared e h ≡ true
+prepare_got e h w k = earlier is_asked_well (is_asked e.value) (is_prepared e) (prepared_stays e) (at e) h w k
   where
-    more : (a b c d : Bool) → (c || d) ≡ true → ((a || c) || (b || d)) ≡ true
-    more true b c d k = refl
-    more false b true d k = refl
-    more false true false d k = refl
-    more false false false d k = k
-
-    own : (x : Entry) → is_asked_well h x ≡ true → is_asked e.value x ≡ true → (has (is_volatile_made e.value) h || has (is_got_on (Enl e) Down PREPARE) h) ≡ true
-    own (Asked f AskPrepare) w q =
-        let same : Enl e ≡ Enl f = same_is (Enl e) (Enl f) q in
-        or_case (has (is_volatile_made f.value) h) (has (is_got_on (Enl f) Down PREPARE) h)
-        (λ a. or_left (has (is_volatile_made e.value) h) (has (is_got_on (Enl e) Down PREPARE) h) (subst (λ n. has (is_volatile_made n) h ≡ true) (sym (eqb-true e.value f.value q)) a))
-        (λ a. or_right (has (is_volatile_made e.value) h) (has (is_got_on (Enl e) Down PREPARE) h)
-        (let P : Conn → Type 0 = λ c. has (is_got_on c Down PREPARE) h ≡ true in subst P (sym same) a)) w
-    own x w q = absurd cc
+    at : (e : EnlNo) (x : Entry) (h : List Entry) → is_asked_well h x ≡ true → is_asked e.value x ≡ true → is_prepared e h ≡ true
+    at e (Asked f AskPrepare) h w q = prepared_same e f h q w
+    at e x h w q = absurd cc
 
 -- who was made with a class that passes is a row with a class that passes
 made_row : (e : ℕ) (q : Class → Bool) (h : List Entry) → has (is_made e q) h ≡ true → has (λ y. is_of e y && q y.class) (rows h) ≡ true

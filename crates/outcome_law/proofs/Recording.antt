@@ -390,7 +390,7 @@ live_stop : (h : List Entry) (b : Bool) → has is_stop h ≡ b → coordinator_
 live_stop h true t l f = f t
 live_stop h false t l f = subst (λ g. coordinator_aborted g ≡ false) (first_none h h t) l
 
-live_first : (h : List Entry) → Keeps h → has is_stop h ≡ true → is_unmarked (latest mark_of h) ≡ true → coordinator_aborted (before_first_stop h) ≡ false → coordinator_aborted h ≡ false
+pub live_first : (h : List Entry) → Keeps h → has is_stop h ≡ true → is_unmarked (latest mark_of h) ≡ true → coordinator_aborted (before_first_stop h) ≡ false → coordinator_aborted h ≡ false
 live_first [] k s m l = l
 live_first (Stopped ∷ h) k s m l = calm_more Stopped h refl (live_stop h (has is_stop h) refl l (λ t. live_first h (keeps_before Stopped h k) t m l))
 live_first (x ∷ h) k s m l =

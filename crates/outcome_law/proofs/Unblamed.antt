@@ -63,20 +63,6 @@ down_early c (x ∷ h) p k y =
     one (End e Up) k n = and_never (same_connection c e)
     one x k n = refl
 
--- where each end is spared, each on the local side is
-spared_down : (x : Entry) (h : List Entry) → is_spared h x ≡ true → is_spared_down h x ≡ true
-spared_down (End c Down) h k = k
-spared_down (End c Up) h k = refl
-spared_down x h k = refl
-
-all_down : (h : List Entry) → always is_spared h ≡ true → always is_spared_down h ≡ true
-all_down [] k = refl
-all_down (x ∷ h) k =
-    and_both (is_spared_down h x) (always is_spared_down h) (spared_down x h (and_left (is_spared h x) (always is_spared h) k)) (all_down h (and_right (is_spared h x) (always is_spared h) k))
-
-pub unended_early : (c : Conn) (h : List Entry) → is_pair c ≡ true → always is_spared h ≡ true → has is_yes h ≡ false → has (is_end_on c Down) h ≡ false
-unended_early c h p k y = down_early c h p (all_down h k) y
-
 -- where no end came, each is spared
 none_spared : (h : List Entry) → has is_any_end h ≡ false → always is_spared h ≡ true
 none_spared [] n = refl
