@@ -173,3 +173,5 @@ pub mod CommonBlocks
 pub mod TellingRuns
 pub mod CallsAnswered
 pub mod Appending
+pub mod Awaiting
+pub mod Managed
