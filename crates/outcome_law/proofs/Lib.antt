@@ -175,3 +175,5 @@ pub mod CallsAnswered
 pub mod Appending
 pub mod Awaiting
 pub mod Managed
+pub mod Finished
+pub mod FreedDesks
