@@ -135,7 +135,7 @@ cut_apart e (Enl f) u w b = refl
 cut_apart e (Again f) u w b = b
 
 -- an entry that is no message got on it leaves what is on the way
-underway_more : (e : EnlNo) (x : Entry) (h : List Entry) → is_stopped h ≡ false → breaks_off e.value x ≡ false → ((c : Conn) (d : Dir) (m : Message) → x ≡ Got c d m → same_connection (Again e) c ≡ false)
+pub underway_more : (e : EnlNo) (x : Entry) (h : List Entry) → is_stopped h ≡ false → breaks_off e.value x ≡ false → ((c : Conn) (d : Dir) (m : Message) → x ≡ Got c d m → same_connection (Again e) c ≡ false)
     → is_underway e h ≡ true → is_underway e (x ∷ h) ≡ true
 underway_more e (Sent d r m) h s b f k =
     sent_underway (opens (Again e) (Sent d r m)) (same_connection (Again e) d && same_direction Up r) (same_connection (Again e) d && same_direction Down r) (is_open_wire (Again e) h) (is_stopped h) m
@@ -240,7 +240,7 @@ asked_waits e f (ReenlistReenlist i) h q t =
     (has-insert (same_connection (Again e)) order_of (Again f) (without (Again f) (coordinate h).known) ∙ or_left (e.value == f.value) (has (same_connection (Again e)) (without (Again f) (coordinate h).known)) q)
 asked_waits e f _ h q t = absurd cc
 
-next_asks : (m : Message) (ms : List Message) → is_next m ms → is_asking_back ms ≡ true → is_reenlist m ≡ true
+pub next_asks : (m : Message) (ms : List Message) → is_next m ms → is_asking_back ms ≡ true → is_reenlist m ≡ true
 next_asks m [] n k = absurd n
 next_asks m (x ∷ ms) n k = let P : Message → Type 0 = λ y. is_reenlist y ≡ true in subst P (sym n) k
 

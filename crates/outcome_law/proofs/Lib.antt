@@ -177,3 +177,4 @@ pub mod Awaiting
 pub mod Managed
 pub mod Finished
 pub mod FreedDesks
+pub mod Back
