@@ -244,25 +244,29 @@ pub next_asks : (m : Message) (ms : List Message) → is_next m ms → is_asking
 next_asks m [] n k = absurd n
 next_asks m (x ∷ ms) n k = let P : Message → Type 0 = λ y. is_reenlist y ≡ true in subst P (sym n) k
 
+pub own_next : (e f : EnlNo) (m : Message) (h : List Entry) → Keeps (Got (Again f) Up m ∷ h) → (e.value == f.value) ≡ true → is_next m (in_transit (Again e) Up h)
+own_next e f m h k q = let P : Conn → Type 0 = λ y. is_next m (in_transit y Up h) in subst P (sym (same_is (Again e) (Again f) q)) k.wires.0
+
+pub own_down : (e f : EnlNo) (m : Message) (h : List Entry) → Keeps (Got (Again f) Up m ∷ h) → not (is_empty (in_transit (Again e) Down h)) ≡ true → is_underway e (Got (Again f) Up m ∷ h) ≡ true
+own_down e f m h k t =
+    or_right (is_asking_back (in_transit (Again e) Up (Got (Again f) Up m ∷ h))) (not (is_empty (in_transit (Again e) Down (Got (Again f) Up m ∷ h))))
+    (down (same_connection (Again e) (Again f)) (has_line (Again f) Up m) (got_line (Again f) Up m h k) t)
+  where
+    down : (s l : Bool) → l ≡ true → not (is_empty (in_transit (Again e) Down h)) ≡ true
+        → not (is_empty (if not s then in_transit (Again e) Down h else if not l then [] else if false then without_first (in_transit (Again e) Down h) else in_transit (Again e) Down h)) ≡ true
+    down false l p a = a
+    down true true p a = a
+    down true false p a = absurd cc
+
 got_own : (e f : EnlNo) (m : Message) (h : List Entry) → Keeps (Got (Again f) Up m ∷ h) → lost_since (Again e) h ≡ Some false → (e.value == f.value) ≡ true → (is_underway e h || is_waiting_there e h) ≡ true
     → (is_underway e (Got (Again f) Up m ∷ h) || is_waiting_there e (Got (Again f) Up m ∷ h)) ≡ true
 got_own e f m h k o q w =
     let x = Got (Again f) Up m in
     or_case (is_underway e h) (is_waiting_there e h)
     (λ t. or_case (is_asking_back (in_transit (Again e) Up h)) (not (is_empty (in_transit (Again e) Down h)))
-    (λ a. or_right (is_underway e (x ∷ h)) (is_waiting_there e (x ∷ h)) (asked_waits e f m h q (next_asks m (in_transit (Again e) Up h) next a)))
-    (λ a. or_left (is_underway e (x ∷ h)) (is_waiting_there e (x ∷ h))
-    (or_right (is_asking_back (in_transit (Again e) Up (x ∷ h))) (not (is_empty (in_transit (Again e) Down (x ∷ h)))) (down (same_connection (Again e) (Again f)) (has_line (Again f) Up m) (got_line (Again f) Up m h k) a))) t)
+    (λ a. or_right (is_underway e (x ∷ h)) (is_waiting_there e (x ∷ h)) (asked_waits e f m h q (next_asks m (in_transit (Again e) Up h) (own_next e f m h k q) a)))
+    (λ a. or_left (is_underway e (x ∷ h)) (is_waiting_there e (x ∷ h)) (own_down e f m h k a)) t)
     (λ t. or_right (is_underway e (x ∷ h)) (is_waiting_there e (x ∷ h)) (waiting_more e x h k refl o (λ c n s. absurd cc) t)) w
-  where
-    next : is_next m (in_transit (Again e) Up h)
-    next = let P : Conn → Type 0 = λ y. is_next m (in_transit y Up h) in subst P (sym (same_is (Again e) (Again f) q)) k.wires.0
-
-    down : (s l : Bool) → l ≡ true → not (is_empty (in_transit (Again e) Down h)) ≡ true
-        → not (is_empty (if not s then in_transit (Again e) Down h else if not l then [] else if false then without_first (in_transit (Again e) Down h) else in_transit (Again e) Down h)) ≡ true
-    down false l p a = a
-    down true true p a = a
-    down true false p a = absurd cc
 
 -- One more entry.
 way_other : (e : EnlNo) (x : Entry) (h : List Entry) → Keeps (x ∷ h) → is_stopped h ≡ false → breaks_off e.value x ≡ false → ((c : Conn) (d : Dir) (m : Message) → x ≡ Got c d m → same_connection (Again e) c ≡ false)

@@ -178,3 +178,4 @@ pub mod Managed
 pub mod Finished
 pub mod FreedDesks
 pub mod Back
+pub mod BackBlocks
