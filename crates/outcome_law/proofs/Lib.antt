@@ -179,3 +179,4 @@ pub mod Finished
 pub mod FreedDesks
 pub mod Back
 pub mod BackBlocks
+pub mod Returning
