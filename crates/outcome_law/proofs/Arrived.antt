@@ -1,94 +1,72 @@
--- Where nothing is lost, what was sent was got or is on the way.
-use Rattle.std.proofs.Common.{◌≡◌, Bool, true, false, ◌&&◌, ◌||◌, List, [], ◌∷◌, ◌++◌, Option, Some, None, refl, sym, subst, ap}
-use Rattle.std.specs.Prelude.{not, if◌then◌else◌}
+-- On a connection that isn't lost, what was sent was got or is on the way.
+use Rattle.std.proofs.Common.{◌≡◌, ℕ, Bool, true, false, ◌&&◌, ◌||◌, List, [], ◌∷◌, ◌++◌, Option, Some, None, refl, sym, subst, ap}
+use Rattle.std.specs.Prelude.{is_some, not, take, if◌then◌else◌}
 use Rattle.dtx_values.specs.declared.entry.Entry.{Entry}
-use Rattle.dtx_values.specs.declared.entry.Entry.TheVariants.{Sent, Got, Cut, Stopped, Restarted}
+use Rattle.dtx_values.specs.declared.entry.Entry.TheVariants.{Sent, Got, Cut, Stopped}
 use Rattle.dtx_values.specs.declared.message.Conn.{Conn}
 use Rattle.dtx_values.specs.declared.message.Dir.{Dir}
 use Rattle.dtx_values.specs.declared.message.Dir.TheVariants.{Up, Down}
 use Rattle.dtx_values.specs.declared.message.Message.{Message}
 use Rattle.dtx_model.specs.Words.{has}
 use Rattle.dtx_values.specs.Lines.{has_line, is_opening}
-use Rattle.dtx_model.specs.Wires.{WireRun, holds, is_next, is_open_wire, is_kept, is_stopped, in_transit, loses, lost_after, lost_since, opened_with, opens, sent_behind, without_first}
+use Rattle.dtx_model.specs.Wires.{holds, is_lost_wire, is_next, is_open_wire, is_kept, is_stopped, in_transit, kept, lost_after, lost_since, opened_with, opens, sent_behind, without_first}
 use Rattle.dtx_values.specs.Ends.{same_connection, same_direction}
-use Rattle.std.proofs.lemmas.Bool.{or_left}
-use Rattle.dtx_model.proofs.Bools.{and_left, and_right, or_case, or_first, or_second, or_false, or_right, not_true, not_both}
-use Rattle.outcome_law.proofs.Whole.{is_whole, whole}
+use Rattle.std.proofs.lemmas.Bool.{or_left, true_from_ne_false}
+use Rattle.dtx_model.proofs.Bools.{and_left, and_right, or_case, or_first, or_second, or_false, or_right, not_both}
+use Rattle.outcome_law.proofs.Severed.{is_severing}
+use Rattle.outcome_law.proofs.Wired.{IsFirm, IsWired, firm_before, is_opened_once, is_plain, newest, unstopped, wired_before}
+use Rattle.outcome_law.proofs.Reenlisted.{opened_since}
 use Rattle.dtx_model.proofs.Connections.{same_is, same_way_is}
 use Rattle.outcome_law.proofs.Crossed.{is_sent_on, is_got_on}
 
--- what stands before is whole
-pub before : (x : Entry) (h : List Entry) → whole (x ∷ h) ≡ true → whole h ≡ true
-before x h w = and_right (is_whole h x) (whole h) w
-
--- the newest entry is
-pub newest : (x : Entry) (h : List Entry) → whole (x ∷ h) ≡ true → is_whole h x ≡ true
-newest x h w = and_left (is_whole h x) (whole h) w
-
--- nothing stands stopped
-pub unstopped : (h : List Entry) → whole h ≡ true → is_stopped h ≡ false
-unstopped [] w = refl
-unstopped (Stopped ∷ h) w = absurd cc
-unstopped (Restarted true ∷ h) w = refl
-unstopped (Restarted false ∷ h) w = refl
-unstopped (x ∷ h) w = unstopped h (before x h w)
-
--- what is whole doesn't lose a connection
-no_loss : (c : Conn) (h : List Entry) (x : Entry) → is_whole h x ≡ true → loses c x ≡ false
-no_loss c h Stopped w = absurd cc
-no_loss c h (Cut d u k) w = absurd cc
-no_loss c h (Got d r m) w = rw w (never (same_connection c d))
+-- a connection that was opened is open, where it is firm
+stays : (c : Conn) (h : List Entry) → IsWired h → IsFirm c h → has (opens c) h ≡ true → lost_since c h ≡ Some false
+stays c h w f k = step (lost_since c h) (opened_since c h k) f.kept
   where
-    never : (b : Bool) → (b && not true) ≡ false
-    never true = refl
-    never false = refl
-no_loss c h _ w = refl
-
--- a connection that was opened is open
-pub stays : (c : Conn) (h : List Entry) → whole h ≡ true → has (opens c) h ≡ true → lost_since c h ≡ Some false
-stays c [] w k = absurd cc
-stays c (x ∷ h) w k = step (lost_since c h) (stays c h (before x h w))
-  where
-    none : (a s rest : Bool) → s ≡ false → (rest ≡ true → None ≡ Some false) → (a || rest) ≡ true → (if a then Some s else None) ≡ Some false
-    none true s rest u ih k = ap (λ b. Some b) u
-    none false s rest u ih k = ih k
-
-    some : (b a l s rest : Bool) → l ≡ false → s ≡ false → (rest ≡ true → Some b ≡ Some false) → (a || rest) ≡ true → (if a then Some s else Some (b || l)) ≡ Some false
-    some b true l s rest n u ih k = ap (λ b. Some b) u
-    some b false l s rest n u ih k = rw (ap holds (ih k), n) refl
-
-    step : (o : Option Bool) → (has (opens c) h ≡ true → o ≡ Some false) → lost_after c h x o ≡ Some false
-    step None ih = none (opens c x) (is_stopped h) (has (opens c) h) (unstopped h (before x h w)) ih k
-    step (Some b) ih = some b (opens c x) (loses c x) (is_stopped h) (has (opens c) h) (no_loss c h x (newest x h w)) (unstopped h (before x h w)) ih k
+    step : (o : Option Bool) → is_some o ≡ true → holds o ≡ false → o ≡ Some false
+    step None s n = absurd cc
+    step (Some true) s n = absurd cc
+    step (Some false) s n = refl
 
 -- and so what is sent on it comes last on the way
-goes : (c : Conn) (m : Message) (h : List Entry) (ms : List Message) → whole h ≡ true → has (opens c) h ≡ true → sent_behind (is_open_wire c h) m ms ≡ ms ++ m ∷ []
-goes c m h ms w k = ap (λ o. sent_behind (is_kept o) m ms) (stays c h w k)
+goes : (c : Conn) (m : Message) (h : List Entry) (ms : List Message) → IsWired h → IsFirm c h → has (opens c) h ≡ true → sent_behind (is_open_wire c h) m ms ≡ ms ++ m ∷ []
+goes c m h ms w f k = ap (λ o. sent_behind (is_kept o) m ms) (stays c h w f k)
+
+-- where a message is sent that doesn't open the connection, it was opened
+rule_later : (o b p l : Bool) → o ≡ false → (if o then not b || (not p && l) else b) ≡ true → b ≡ true
+rule_later true b p l n k = absurd cc
+rule_later false b p l n k = k
+
+-- where one opens a plain connection, it wasn't
+rule_first : (o b p l : Bool) → p ≡ true → o ≡ true → (if o then not b || (not p && l) else b) ≡ true → b ≡ false
+rule_first true true true l q n k = absurd cc
+rule_first true true false l q n k = absurd cc
+rule_first true false p l q n k = refl
+rule_first false b p l q n k = absurd cc
+
+-- the rule of a message that is sent, on the connection as it is tested
+sent_rule : (c e : Conn) (r : Dir) (m : Message) (h : List Entry) → same_connection c e ≡ true → is_opened_once h (Sent e r m) ≡ true
+    → (if opens c (Sent e r m) then not (has (opens c) h) || (not (is_plain c) && has is_severing h) else has (opens c) h) ≡ true
+sent_rule c e r m h q w =
+    let P : Conn → Type 0 = λ x. (if opens x (Sent e r m) then not (has (opens x) h) || (not (is_plain x) && has is_severing h) else has (opens x) h) ≡ true in
+    subst P (sym (same_is c e q)) w
 
 -- nothing was sent on a connection that wasn't opened
-pub unopened : (c : Conn) (d : Dir) (p : Message → Bool) (h : List Entry) → whole h ≡ true → has (opens c) h ≡ false → has (is_sent_on c d p) h ≡ false
+pub unopened : (c : Conn) (d : Dir) (p : Message → Bool) (h : List Entry) → IsWired h → has (opens c) h ≡ false → has (is_sent_on c d p) h ≡ false
 unopened c d p [] w k = refl
 unopened c d p (Sent e r m ∷ h) w k =
-    let ih = unopened c d p h (before (Sent e r m) h w) (or_second (opens c (Sent e r m)) (has (opens c) h) k) in
+    let ih = unopened c d p h (wired_before (Sent e r m) h w) shut in
     or_false (same_connection c e && same_direction d r && p m) (has (is_sent_on c d p) h) (other (same_connection c e) refl) ih
   where
-    first : opens c (Sent e r m) ≡ false
-    first = or_first (opens c (Sent e r m)) (has (opens c) h) k
-
     shut : has (opens c) h ≡ false
     shut = or_second (opens c (Sent e r m)) (has (opens c) h) k
-
-    of_same : (b : Bool) → opens c (Sent e r m) ≡ b → b ≡ false → (if b then not (has (opens c) h) else has (opens c) h) ≡ true → ⊥
-    of_same true q f w = absurd cc
-    of_same false q f w = not_both (has (opens c) h) w shut
 
     other : (b : Bool) → same_connection c e ≡ b → (b && same_direction d r && p m) ≡ false
     other false q = refl
     other true q =
-        absurd (of_same (opens c (Sent e r m)) refl first
-        (let P : Conn → Type 0 = λ x. (if opens x (Sent e r m) then not (has (opens x) h) else has (opens x) h) ≡ true in
-        subst P (sym (same_is c e q)) (newest (Sent e r m) h w)))
-unopened c d p (x ∷ h) w k = unopened c d p h (before x h w) (or_second (opens c x) (has (opens c) h) k)
+        absurd (not_both (has (opens c) h)
+        (rule_later (opens c (Sent e r m)) (has (opens c) h) (is_plain c) (has is_severing h) (or_first (opens c (Sent e r m)) (has (opens c) h) k) (sent_rule c e r m h q (newest (Sent e r m) h w))) shut)
+unopened c d p (x ∷ h) w k = unopened c d p h (wired_before x h w) (or_second (opens c x) (has (opens c) h) k)
 
 -- what passes is in one of two lists together where it is in the first, or in the second
 in_first : (p : Message → Bool) (xs ys : List Message) → has p xs ≡ true → has p (xs ++ ys) ≡ true
@@ -104,7 +82,7 @@ abbrev pub reached : Conn → Dir → (Message → Bool) → List Entry → Bool
 reached c d p h = has (is_got_on c d p) h || has p (in_transit c d h)
 
 -- what opens a connection is sent on it
-pub opens_same : (c e : Conn) (r : Dir) (m : Message) → opens c (Sent e r m) ≡ true → same_connection c e ≡ true
+opens_same : (c e : Conn) (r : Dir) (m : Message) → opens c (Sent e r m) ≡ true → same_connection c e ≡ true
 opens_same c e Up m o = and_left (same_connection c e) (is_opening e m) o
 opens_same c e Down m o = absurd cc
 
@@ -114,11 +92,6 @@ opening_goes : (c e : Conn) (d r : Dir) (m : Message) (p : Message → Bool) (st
 opening_goes c e Up Up m p stop o t u k = rw u (or_left (p m) false k)
 opening_goes c e Down Up m p stop o t u k = absurd cc
 opening_goes c e d Down m p stop o t u k = absurd cc
-
--- the rule of a message that is sent, on the connection as it is tested
-pub sent_rule : (c e : Conn) (r : Dir) (m : Message) (h : List Entry) → same_connection c e ≡ true → is_whole h (Sent e r m) ≡ true
-    → (if opens c (Sent e r m) then not (has (opens c) h) else has (opens c) h) ≡ true
-sent_rule c e r m h q w = let P : Conn → Type 0 = λ x. (if opens x (Sent e r m) then not (has (opens x) h) else has (opens x) h) ≡ true in subst P (sym (same_is c e q)) w
 
 -- one more message: o, it opens the connection; s and t, it is on it in this direction; q, it passes
 sent_step : (p : Message → Bool) (m : Message) (o s t g rest : Bool) (new later ms : List Message) → (o ≡ true → rest ≡ false) → (o ≡ true → t ≡ true → p m ≡ true → has p new ≡ true)
@@ -152,41 +125,50 @@ got_step p m true false t g ms l n k = absurd cc
 got_step p m true true false g ms l n k = k
 got_step p m true true true g ms l n k = taken p m g ms (n refl refl) k
 
--- where it was sent, it was got or is on the way
-pub on_way : (c : Conn) (d : Dir) (p : Message → Bool) (h : List Entry) → whole h ≡ true → WireRun h → has (is_sent_on c d p) h ≡ true → reached c d p h ≡ true
-on_way c d p [] w r k = absurd cc
-on_way c d p (Sent e r m ∷ h) w run k =
-    let now = newest (Sent e r m) h w in
-    let past = before (Sent e r m) h w in
+-- a cut loses a connection that was opened
+cut_lost : (c e : Conn) (u n : ℕ) (h : List Entry) (o : Option Bool) → is_some o ≡ true → same_connection c e ≡ true → holds (lost_after c h (Cut e u n) o) ≡ true
+cut_lost c e u n h None s q = absurd cc
+cut_lost c e u n h (Some l) s q = or_right l (same_connection c e) q
+
+-- where it was sent on a firm connection, it was got or is on the way
+on_way : (c : Conn) (d : Dir) (p : Message → Bool) (h : List Entry) → IsWired h → IsFirm c h → has (is_sent_on c d p) h ≡ true → reached c d p h ≡ true
+on_way c d p [] w f k = absurd cc
+on_way c d p (Sent e r m ∷ h) w f k =
+    let past = wired_before (Sent e r m) h w in
+    let firm = firm_before c (Sent e r m) h w f in
+    let rule : same_connection c e ≡ true → (if opens c (Sent e r m) then not (has (opens c) h) || (not (is_plain c) && has is_severing h) else has (opens c) h) ≡ true = λ q. sent_rule c e r m h q (newest (Sent e r m) h w) in
     sent_step p m (opens c (Sent e r m)) (same_connection c e) (same_direction d r) (has (is_got_on c d p) h) (has (is_sent_on c d p) h) (opened_with d m (is_stopped h))
     (sent_behind (is_open_wire c h) m (in_transit c d h)) (in_transit c d h)
-    (λ o. unopened c d p h past (first c e r m h o (sent_rule c e r m h (opens_same c e r m o) now)))
-    (λ o t q. opening_goes c e d r m p (is_stopped h) o t (unstopped h past) q)
-    (λ o s. goes c m h (in_transit c d h) past (later c e r m h o (sent_rule c e r m h s now))) (on_way c d p h past run.1) k
-  where
-    first : (c e : Conn) (r : Dir) (m : Message) (h : List Entry) → opens c (Sent e r m) ≡ true → (if opens c (Sent e r m) then not (has (opens c) h) else has (opens c) h) ≡ true
-        → has (opens c) h ≡ false
-    first c e r m h o k = not_true (has (opens c) h) (rw o at k)
-
-    later : (c e : Conn) (r : Dir) (m : Message) (h : List Entry) → opens c (Sent e r m) ≡ false → (if opens c (Sent e r m) then not (has (opens c) h) else has (opens c) h) ≡ true
-        → has (opens c) h ≡ true
-    later c e r m h o k = rw o at k
-on_way c d p (Got e r m ∷ h) w run k =
+    (λ o. unopened c d p h past (rule_first (opens c (Sent e r m)) (has (opens c) h) (is_plain c) (has is_severing h) f.plain o (rule (opens_same c e r m o))))
+    (λ o t q. opening_goes c e d r m p (is_stopped h) o t (unstopped h past.unstopped) q)
+    (λ o s. goes c m h (in_transit c d h) past firm (rule_later (opens c (Sent e r m)) (has (opens c) h) (is_plain c) (has is_severing h) o (rule s))) (on_way c d p h past firm) k
+on_way c d p (Got e r m ∷ h) w f k =
     got_step p m (same_connection c e) (has_line e r m) (same_direction d r) (has (is_got_on c d p) h) (in_transit c d h) (newest (Got e r m) h w) next
-    (on_way c d p h (before (Got e r m) h w) run.1 k)
+    (on_way c d p h (wired_before (Got e r m) h w) (firm_before c (Got e r m) h w f) k)
   where
     next : same_connection c e ≡ true → same_direction d r ≡ true → is_next m (in_transit c d h)
     next s t =
         let P : Conn → Type 0 = λ x. is_next m (in_transit x d h) in
         let Q : Dir → Type 0 = λ x. is_next m (in_transit e x h) in
-        subst P (sym (same_is c e s)) (subst Q (sym (same_way_is d r t)) run.0)
-on_way c d p (Cut e u n ∷ h) w run k = absurd cc
-on_way c d p (Stopped ∷ h) w run k = absurd cc
-on_way c d p (x ∷ h) w run k = on_way c d p h (before x h w) run.1 k
+        subst P (sym (same_is c e s)) (subst Q (sym (same_way_is d r t)) w.run.0)
+on_way c d p (Cut e u n ∷ h) w f k = step (on_way c d p h past (firm_before c (Cut e u n) h w f) k) (same_connection c e) refl
+  where
+    past : IsWired h
+    past = wired_before (Cut e u n) h w
 
--- where nothing is left on the way, what was sent was got
-pub arrived : (c : Conn) (d : Dir) (p : Message → Bool) (h : List Entry) → whole h ≡ true → WireRun h → in_transit c d h ≡ [] → has (is_sent_on c d p) h ≡ true → has (is_got_on c d p) h ≡ true
-arrived c d p h w run e k = all_got (has (is_got_on c d p) h) (in_transit c d h) e (on_way c d p h w run k)
+    opened : has (opens c) h ≡ true
+    opened = true_from_ne_false (has (opens c) h) (λ q. not_both (has (is_sent_on c d p) h) k (unopened c d p h past q))
+
+    step : reached c d p h ≡ true → (s : Bool) → same_connection c e ≡ s
+        → (has (is_got_on c d p) h || has p (if s then take (kept d u n) (in_transit c d h) else in_transit c d h)) ≡ true
+    step ih true q = absurd (not_both (is_lost_wire c (Cut e u n ∷ h)) (cut_lost c e u n h (lost_since c h) (opened_since c h opened) q) f.kept)
+    step ih false q = ih
+on_way c d p (Stopped ∷ h) w f k = let n : true ≡ false = w.unstopped in absurd cc
+on_way c d p (x ∷ h) w f k = on_way c d p h (wired_before x h w) (firm_before c x h w f) k
+
+-- where nothing is left on the way, what was sent on a firm connection was got
+pub arrived : (c : Conn) (d : Dir) (p : Message → Bool) (h : List Entry) → IsWired h → IsFirm c h → in_transit c d h ≡ [] → has (is_sent_on c d p) h ≡ true → has (is_got_on c d p) h ≡ true
+arrived c d p h w f e k = all_got (has (is_got_on c d p) h) (in_transit c d h) e (on_way c d p h w f k)
   where
     all_got : (g : Bool) (ms : List Message) → ms ≡ [] → (g || has p ms) ≡ true → g ≡ true
     all_got true ms e k = refl

@@ -147,7 +147,7 @@ lone_more (Enlisted e c) h r s t = absurd (not_both (has is_sealed h) s (enliste
 lone_more (Requested e y) h r s t = refl
 lone_more _ h r s t = t
 
-lone_there : (h : List Entry) → Keeps h → always is_lone h ≡ true → has is_commit_sent h ≡ true → (has is_request h || not (has_promotable h)) ≡ true
+pub lone_there : (h : List Entry) → Keeps h → always is_lone h ≡ true → has is_commit_sent h ≡ true → (has is_request h || not (has_promotable h)) ≡ true
 lone_there [] k l t = absurd (no t)
 lone_there (x ∷ h) k l t =
     let past = keeps_before x h k in
@@ -199,7 +199,7 @@ has_at p [] k x e t = absurd cc
 has_at p (y ∷ xs) zero x e t = let same : y ≡ x = cc in or_left (p y) (has p xs) (ap p same ∙ t)
 has_at p (y ∷ xs) (suc k) x e t = or_right (p y) (has p xs) (has_at p xs k x e t)
 
-request_owed : (h : List Entry) (e : ℕ) (x : Outcome) → due_of (observe h) e ≡ Some Single → (has is_request h ≡ false) × (has_promotable h ≡ true)
+pub request_owed : (h : List Entry) (e : ℕ) (x : Outcome) → due_of (observe h) e ≡ Some Single → (has is_request h ≡ false) × (has_promotable h ≡ true)
 unfolding observe
 request_owed h e x d =
     let o = owed h (OwnerReply x) Single e refl d refl in

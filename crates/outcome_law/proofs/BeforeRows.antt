@@ -106,6 +106,8 @@ kept_ordered = by_keeping is_ordered at
         (prepared_if_cast e Done h b (sent_opened (Enl e) Up EnlistReadonly h b r) (row_of (Enl e) Up EnlistReadonly h r))
     at (Sent (Enl e) Down EnlistPrepare) h k =
         has_more is_commit_got (is_got_on Begin Up COMMIT) commit_on h (row_of (Enl e) Down EnlistPrepare h (newest (Sent (Enl e) Down EnlistPrepare) h k))
+    at (Sent Voter Down VoterAsk) h k =
+        has_more is_commit_got (is_got_on Begin Up COMMIT) commit_on h (row_of Voter Down VoterAsk h (newest (Sent Voter Down VoterAsk) h k))
     at x h k = refl
 
 opening_on : (c : Conn) (x : Entry) → is_opening_got c x ≡ true → is_got_on c Up (is_opening c) x ≡ true
@@ -154,9 +156,9 @@ kept_sound = by_keeping is_sound at
     at (Sent Begin Up BeginCommit) h k =
         second_of_three (has is_sealed h) (has is_promoted h) (not (has is_decision h)) (row_of Begin Up BeginCommit h (newest (Sent Begin Up BeginCommit) h k))
     at LocalYes h k =
-        has_more is_ask_got (is_got_on Voter Down ASK) ask_on h
-        (and_left (has is_ask_got h) (not (has is_yes h))
-        (fifth_of_five (not (has is_decision h)) (has is_sealed h) (has is_promoted h) (volatiles_well h) (has is_ask_got h && not (has is_yes h)) (newest LocalYes h k)))
+        let r = fifth_of_five (not (has is_decision h)) (has is_sealed h) (has is_promoted h) (volatiles_well h) (has is_ask_got h && not (has is_yes h)) (newest LocalYes h k) in
+        and_both (has (is_got_on Voter Down ASK) h) (not (has is_yes h)) (has_more is_ask_got (is_got_on Voter Down ASK) ask_on h (and_left (has is_ask_got h) (not (has is_yes h)) r))
+        (and_right (has is_ask_got h) (not (has is_yes h)) r)
     at Logged h k = has_more is_commit_got (is_got_on Begin Up COMMIT) commit_on h (first_of_six (has is_commit_got h) (has is_yes_got h) (each (λ i. has (is_ready_got i.enl.value) h) (all_of enlist_got h)) (not (coordinator_aborted h)) (not (has is_logged h)) (not (has is_stop h)) (newest Logged h k))
     at (Voted e v) h k =
         let r = newest (Voted e v) h k in

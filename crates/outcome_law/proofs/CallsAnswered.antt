@@ -1,5 +1,4 @@
--- A settled history of a script in which no connection was cut and the coordinator didn't stop: each call that was answered `wait` got its answer, or an enlistment that was asked to
--- promote stays silent.
+-- A settled history of a script in which the coordinator didn't stop: each call that was answered `wait` got its answer, or an enlistment that was asked to promote stays silent.
 use Rattle.std.proofs.Common.{◌≡◌, ℕ, ◌==◌, Bool, true, false, ◌&&◌, ◌||◌, List, [], ◌∷◌, slice_get, Some, refl, ◌∙◌, sym, subst}
 use Rattle.std.specs.Prelude.{filter, not, if◌then◌else◌}
 use Rattle.std.proofs.lemmas.Bool.{eqb-true, false_from_ne_true, or_left}
@@ -17,11 +16,11 @@ use Rattle.dtx_model.specs.Observed.{observe, rows}
 use Rattle.dtx_model.specs.Outcome.{enlisted}
 use Rattle.dtx_model.specs.Plans.{plan_of}
 use Rattle.dtx_model.specs.Promotes.{is_promoting, is_wait}
+use Rattle.dtx_model.specs.Tied.{is_stop}
 use Rattle.dtx_model.specs.Replies.{may_still_vote, owes_vote}
 use Rattle.dtx_model.specs.Waiting.{Waiter, call_at, waiter_line, waiting, wanted}
 use Rattle.dtx_model.specs.Grammar.{are_named_well}
 use Rattle.dtx_model.specs.Caused.{Caused, IsCallOf, entered_in, plans_of}
-use Rattle.outcome_law.specs.Severed.{is_severing}
 use Rattle.outcome_law.specs.Waited.{AreCallsAnswered, is_answer_of, is_silent_to_promote, waiting_line}
 use Rattle.dtx_model.proofs.Bools.{and_both, and_left, not_both, or_case, or_right}
 use Rattle.outcome_law.proofs.Lists.{has-insert}
@@ -121,8 +120,8 @@ promised s t h r u quiet = λ i x e promotable.
         (λ p. not_both (has is_promoted h) p u) (asked_volatile n h r.stands.keeps asked)
 
 -- Each waiting call is answered: by the decision where there is one; else the promotion is over, and so is each enlistment that waited for it.
-pub calls_answered : (s : List Line) (k t : ℕ) (h : List Entry) → are_named_well s ≡ true → Caused s k t h → has is_severing h ≡ false → AreCallsAnswered s h
-calls_answered s k t h named c unsevered = λ settled. began (settled_run s k t h named c unsevered settled) (has is_promoting h) refl
+pub calls_answered : (s : List Line) (k t : ℕ) (h : List Entry) → are_named_well s ≡ true → Caused s k t h → has is_stop h ≡ false → AreCallsAnswered s h
+calls_answered s k t h named c running = λ settled. began (settled_run s k t h named c running settled) (has is_promoting h) refl
   where
     silent : Bool
     silent = has (λ x. is_silent_to_promote (plans_of s x.0.value) h x.0.value) (enlisted h)

@@ -7,6 +7,7 @@ use Rattle.dtx_values.specs.declared.entry.Entry.{Entry}
 use Rattle.dtx_values.specs.declared.entry.Entry.TheVariants.{Asked, Decided, LocalYes, PromoteReply, Requested, Promoting, PromotionFailed, Sealed, Got, Told}
 use Rattle.dtx_values.specs.declared.entry.Party.TheVariants.{Client}
 use Rattle.dtx_values.specs.declared.entry.Request.TheVariants.{Commit, Abort}
+use Rattle.dtx_values.specs.declared.message.Conn.{Conn}
 use Rattle.dtx_values.specs.declared.message.Conn.TheVariants.{Begin, Voter, Enl}
 use Rattle.dtx_values.specs.declared.message.Dir.TheVariants.{Up, Down}
 use Rattle.dtx_values.specs.declared.message.Message.{Message}
@@ -28,6 +29,7 @@ use Rattle.dtx_model.specs.Observed.{cause_of_promotion, clone_rows, ends_of, ha
 use Rattle.dtx_model.specs.Promotes.{is_promoting, is_under_way}
 use Rattle.dtx_model.specs.Tied.{is_logged}
 use Rattle.dtx_model.specs.Coordinated.{coordinate, may_log}
+use Rattle.dtx_model.specs.Wires.{is_lost_wire}
 use Rattle.dtx_model.specs.declared.waiting.EnteredCall.{EnteredCall}
 use Rattle.dtx_model.specs.Waiting.{Waiter, waiting}
 use Rattle.dtx_model.specs.Half.{Half, half_of, is_handed, is_promoting as is_promoting_now}
@@ -39,7 +41,7 @@ use Rattle.outcome_law.proofs.Rules.{undecided}
 use Rattle.outcome_law.proofs.TableRows.{enlisted_in_rows}
 use Rattle.outcome_law.proofs.Owned.{has_rows, has_filter}
 use Rattle.outcome_law.proofs.Settled.{ones_done, told_all, zeros_done}
-use Rattle.outcome_law.proofs.Messages.{BEGIN, COMMIT, ENLIST, ENLISTED, ENLIST_ANSWER}
+use Rattle.outcome_law.proofs.Messages.{ASK, BEGIN, COMMIT, ENLIST, ENLISTED, ENLIST_ANSWER, VOTED, YES}
 use Rattle.outcome_law.proofs.Fine.{IsFine, is_bad}
 use Rattle.outcome_law.proofs.Debts.{enlisted_next, has_promotable}
 use Rattle.outcome_law.proofs.Rest.{IsAtRest, IsQuiet, IsUnmoved}
@@ -49,8 +51,11 @@ use Rattle.outcome_law.proofs.Followed.{Demands, followed}
 use Rattle.outcome_law.proofs.Unblamed.{fine_before}
 use Rattle.outcome_law.proofs.Knowledge.{ask_heard}
 use Rattle.outcome_law.proofs.Promoted.{climb, enlisted_well, good_answer, got_due, promoted, while_open}
-use Rattle.outcome_law.proofs.Stages.{IsUnlogged}
-use Rattle.outcome_law.proofs.Committed.{IsOpen, ask_got, commit_got, enlistment_asked, is_commit_request, logged_decided, open_before, plain_first, request_commits, seal_commits, vote_got, yes_got}
+use Rattle.outcome_law.proofs.Stages.{IsOpenThere, open_unlogged}
+use Rattle.outcome_law.proofs.Foregoing.{yes_asked}
+use Rattle.outcome_law.proofs.Joined.{IsJoined}
+use Rattle.outcome_law.proofs.Wired.{is_plain}
+use Rattle.outcome_law.proofs.Committed.{IsLinked, IsOpen, ask_got, commit_got, enlistment_asked, is_commit_request, open_before, plain_first, request_commits, seal_commits, vote_got, yes_got}
 use Rattle.outcome_law.proofs.Recorded.{may_append}
 use Rattle.outcome_law.proofs.Crossed.{is_sent_on, is_got_on}
 
@@ -164,23 +169,31 @@ stands_due e EnlistEnlisted past r k =
     }
 stands_due e m past r k = absurd cc
 
--- so an enlistment whose ENLIST was sent stands
-pub sent_stands : (e : EnlNo) (h : List Entry) → IsOpen h → IsQuiet h → has (is_sent_on (Enl e) Up ENLIST) h ≡ true → has (is_enlisted e.value) h ≡ true
+-- so an enlistment whose ENLIST was sent on a firm connection stands
+pub sent_stands : (e : EnlNo) (h : List Entry) → IsLinked (Enl e) h → IsQuiet h → has (is_sent_on (Enl e) Up ENLIST) h ≡ true → has (is_enlisted e.value) h ≡ true
 sent_stands e h r w k =
     true_from_ne_false (has (is_enlisted e.value) h)
-    (λ n. let got : has (is_got_on (Enl e) Up ENLIST) h ≡ true = arrived (Enl e) Up ENLIST h r.fine.whole r.fine.run (w.empty (Enl e) Up) k in
-    let back : has (is_got_on (Enl e) Down ENLISTED) h ≡ true = climb IsOpen open_before (λ h r. r.fine) (Enl e) (Enl e) Up Down ENLIST ENLISTED (enlisted_due e) h r w got in
+    (λ n. let got : has (is_got_on (Enl e) Up ENLIST) h ≡ true = arrived (Enl e) Up ENLIST h r.opened.fine.wired r.firm (w.empty (Enl e) Up) k in
+    let back : has (is_got_on (Enl e) Down ENLISTED) h ≡ true = climb IsOpen open_before (λ h r. r.fine) (Enl e) (Enl e) Up Down ENLIST ENLISTED (enlisted_due e) h r.opened r.firm w got in
     not_both (has (is_enlisted e.value) h)
     (followed (IsOut e) (out_before e) (is_got_on (Enl e) Down ENLISTED) (is_enlisted e.value) (got_due (IsOut e) (Enl e) Down ENLISTED (is_enlisted e.value) (stands_due e)) h
-    (record { opened = r; out = n }) w.paid w.free back) n)
+    (record { opened = r.opened; out = n }) w.paid w.free back) n)
 
--- so no call waits where each is on its way
-none_waits : (h : List Entry) (ws : List Waiter) → IsOpen h → IsQuiet h → each (is_on_its_way h) ws ≡ true → each (is_unplaced h) ws ≡ true → ws ≡ []
-none_waits h [] r w a b = refl
-none_waits h ((n, Identifier) ∷ ws) r w a b = absurd cc
-none_waits h ((n, Place e m c) ∷ ws) r w a b =
-    absurd (not_both (has (is_enlisted e.value) h) (sent_stands e h r w (and_left (has (is_sent_on (Enl e) Up ENLIST) h) (each (is_on_its_way h) ws) a))
-    (not_true (has (is_enlisted e.value) h) (and_left (not (has (is_enlisted e.value) h)) (each (is_unplaced h) ws) b)))
+-- a connection that isn't lost is firm
+linked : (c : Conn) (h : List Entry) → IsOpen h → is_plain c ≡ true → is_lost_wire c h ≡ false → IsLinked c h
+linked c h r p k = record { opened = r; firm = record { plain = p; kept = k } }
+
+-- so no call waits where each is on its way: its enlistment stands, also where its connection was lost, since then its vote was got
+none_waits : (h : List Entry) (ws : List Waiter) → IsOpen h → IsQuiet h → ((e : EnlNo) → is_lost_wire (Enl e) h ≡ true → has (is_enlisted e.value) h ≡ true) → each (is_on_its_way h) ws ≡ true
+    → each (is_unplaced h) ws ≡ true → ws ≡ []
+none_waits h [] r w t a b = refl
+none_waits h ((n, Identifier) ∷ ws) r w t a b = absurd cc
+none_waits h ((n, Place e m c) ∷ ws) r w t a b =
+    absurd (not_both (has (is_enlisted e.value) h) (by (is_lost_wire (Enl e) h) refl) (not_true (has (is_enlisted e.value) h) (and_left (not (has (is_enlisted e.value) h)) (each (is_unplaced h) ws) b)))
+  where
+    by : (l : Bool) → is_lost_wire (Enl e) h ≡ l → has (is_enlisted e.value) h ≡ true
+    by true k = t e k
+    by false k = sent_stands e h (linked (Enl e) h r refl k) w (and_left (has (is_sent_on (Enl e) Up ENLIST) h) (each (is_on_its_way h) ws) a)
 
 -- a reply that stands is a good one
 ok_replied : (h : List Entry) → has is_bad h ≡ false → has is_promote_reply h ≡ true → has is_ok h ≡ true
@@ -223,7 +236,7 @@ open_act ks h r u = ap (λ d. act_by d (half_of ks h)) (sym (none_decided h u)) 
 is_promoted_there : (ks : List EnteredCall) (h : List Entry) → IsUnmoved ks h → has is_decision h ≡ false → has is_promoted h ≡ true
 unfolding observe
 is_promoted_there ks h r u =
-    true_from_ne_false (has is_promoted h) (λ n. not_both (has is_promoted h) (promoted h f u r.later (rest_quiet ks h r) (begins n (promotable_in (rows h)) refl)) n)
+    true_from_ne_false (has is_promoted h) (λ n. not_both (has is_promoted h) (promoted h f (r.joined u) u r.later r.sound r.ordered (rest_quiet ks h r) (begins n (promotable_in (rows h)) refl)) n)
   where
     f : IsFine h
     f = r.fine u
@@ -247,7 +260,7 @@ is_promoted_there ks h r u =
 -- so no call waits
 pub none_waiting : (ks : List EnteredCall) (h : List Entry) → IsUnmoved ks h → has is_decision h ≡ false → waiting ks h ≡ []
 none_waiting ks h r u =
-    none_waits h (waiting ks h) (record { fine = r.fine u; undecided = u; sound = r.sound }) (rest_quiet ks h r) (r.waits (is_promoted_there ks h r u)) r.unplaced
+    none_waits h (waiting ks h) (record { fine = r.fine u; undecided = u; sound = r.sound }) (rest_quiet ks h r) (λ e l. r.stood e ((r.joined u).cast e l)) (r.waits (is_promoted_there ks h r u)) r.unplaced
 
 -- after the promotion phase zero ends with the seal
 is_sealed_there : (ks : List EnteredCall) (h : List Entry) → IsAtRest ks h → has is_decision h ≡ false → has is_logged h ≡ false → waiting ks h ≡ [] → has is_promoted h ≡ true
@@ -276,36 +289,56 @@ is_sealed_there ks h r u l none p a =
 -- at rest it is decided
 pub decided_at_rest : (ks : List EnteredCall) (h : List Entry) → IsAtRest ks h → has is_decision h ≡ true
 unfolding observe
-decided_at_rest ks h r = true_from_ne_false (has is_decision h) (λ u. by_record u (has is_logged h) refl)
+decided_at_rest ks h r = true_from_ne_false (has is_decision h) (λ u. climb_all u (record { fine = r.unmoved.fine u; undecided = u; sound = r.unmoved.sound }))
   where
     w : IsQuiet h
     w = rest_quiet ks h r.unmoved
 
-    -- COMMIT was sent
-    commits : has is_decision h ≡ false → IsOpen h → has is_promoted h ≡ true → has is_sealed h ≡ true → promoted_act (half_of ks h) (promotable_in (rows h)) ≡ [] → (p : Option EnlNo) → promotable_in (rows h) ≡ p
+    -- COMMIT was sent on b where it is firm, and so it was got
+    sends : IsLinked Begin h → has is_promoted h ≡ true → has is_sealed h ≡ true → promoted_act (half_of ks h) (promotable_in (rows h)) ≡ [] → (p : Option EnlNo) → promotable_in (rows h) ≡ p
         → has (is_sent_on Begin Up COMMIT) h ≡ true
-    commits u o p sealed b None q = seal_commits h (record { opened = o; plain = none_found h q; order = λ k. p }) w sealed
-    commits u o p sealed b (Some e) q = request_commits h o w (commit_requested h (r.unmoved.fine u).unbad (r.requested u ((single_stuck (half_of ks h) (promotable_in (rows h)) b).1 e q)))
+    sends o p sealed b None q = seal_commits h (record { linked = o; plain = none_found h q; order = λ k. p }) w sealed
+    sends o p sealed b (Some e) q =
+        request_commits h o w (commit_requested h o.opened.fine.unbad (r.requested o.opened.undecided ((single_stuck (half_of ks h) (promotable_in (rows h)) b).1 e q)))
 
-    -- and so all is got, voted and logged
-    climb_all : has is_decision h ≡ false → has is_logged h ≡ false → IsOpen h → ⊥
-    climb_all u n o =
+    commits : IsOpen h → has is_promoted h ≡ true → has is_sealed h ≡ true → promoted_act (half_of ks h) (promotable_in (rows h)) ≡ [] → (l : Bool) → is_lost_wire Begin h ≡ l → has (is_got_on Begin Up COMMIT) h ≡ true
+    commits o p sealed b true l = (r.unmoved.joined o.undecided).commit l
+    commits o p sealed b false l = let own = linked Begin h o refl l in commit_got h own w (sends own p sealed b (promotable_in (rows h)) refl)
+
+    -- ASK was got, YES, and each vote
+    asks : IsOpenThere h → IsJoined h → has (is_got_on Begin Up COMMIT) h ≡ true → (l : Bool) → is_lost_wire Voter h ≡ l → has (is_got_on Voter Down ASK) h ≡ true
+    asks t j got true l =
+        yes_asked h r.unmoved.sound
+        (true_from_ne_false (has is_yes h) (λ n. not_both (is_lost_wire Voter h) l (j.early Voter refl n).kept))
+    asks t j got false l = ask_got h (record { there = t; firm = record { plain = refl; kept = l } }) w got
+
+    answers : IsOpen h → has is_yes h ≡ true → (l : Bool) → is_lost_wire Voter h ≡ l → has (is_got_on Voter Up YES) h ≡ true
+    answers o said true l = (r.unmoved.joined o.undecided).yes l
+    answers o said false l = yes_got h (linked Voter h o refl l) w said
+
+    votes : IsOpen h → has is_logged h ≡ false → has (is_got_on Begin Up COMMIT) h ≡ true → (e : EnlNo) → has (is_got_on (Enl e) Up ENLIST) h ≡ true → (l : Bool) → is_lost_wire (Enl e) h ≡ l
+        → has (is_got_on (Enl e) Up VOTED) h ≡ true
+    votes o n got e k true l = (r.unmoved.joined o.undecided).cast e l
+    votes o n got e k false l =
+        let own = linked (Enl e) h o refl l in
+        vote_got e h (record { linked = own; lasting = r.lasting e k }) w (r.voted o.undecided n e (enlistment_asked e h own w (r.prepares o.undecided n got e k)))
+
+    -- and so the append is pending
+    climb_all : has is_decision h ≡ false → IsOpen h → ⊥
+    climb_all u o =
+        let j = r.unmoved.joined u in
+        let n = open_unlogged h j.undecided in
         let p = is_promoted_there ks h r.unmoved u in
         let a = if_part (has is_commit h) (asked_act (half_of ks h)) [] r.asked (promote_stuck (half_of ks h) (unasked_promotable (observe h)) (open_act ks h r.unmoved u)).1 in
         let sealed = is_sealed_there ks h r u n (none_waiting ks h r.unmoved u) p a in
         let b = if_part (has is_promoted h) (promoted_act (half_of ks h) (promotable_in (rows h))) _ p (if_part (has is_sealed h) (sealed_act (half_of ks h)) _ sealed a) in
-        let unlogged : IsUnlogged h = record { fine = r.unmoved.fine u; sound = r.unmoved.sound; ordered = r.ordered; begun = r.begun; unlogged = n } in
-        let got = commit_got h o w (commits u o p sealed b (promotable_in (rows h)) refl) in
-        let ask = ask_heard h (r.unmoved.fine u).whole (r.unmoved.fine u).run (ask_got h unlogged w got) in
+        let there : IsOpenThere h = record { fine = r.unmoved.fine u; sound = r.unmoved.sound; ordered = r.unmoved.ordered; begun = r.begun; undecided = j.undecided } in
+        let got = commits o p sealed b (is_lost_wire Begin h) refl in
+        let ask = ask_heard h (r.unmoved.fine u).wired (asks there j got (is_lost_wire Voter h) refl) in
         let y = yes_stuck (next_ask (rows h) false) (all_voted (rows h)) (has is_yes h) _
         (if_part (was_got Voter (tag_of VoterAsk) (ends_of h)) (after_seal (half_of ks h) (yes_act (observe h))) [] ask (single_stuck (half_of ks h) (promotable_in (rows h)) b).0) in
-        let answer = yes_got h o w (y.1 (ones_done (rows h) (r.answered u n) (r.zeros sealed) y.0)) in
-        not_both (may_log (coordinate h))
-        (may_append h unlogged got answer (λ e k. vote_got e h (record { opened = o; lasting = r.lasting e k }) w (r.voted u n e (enlistment_asked e h o w (r.prepares u n got e k))))) r.append
-
-    by_record : has is_decision h ≡ false → (l : Bool) → has is_logged h ≡ l → ⊥
-    by_record u true l = not_both (has is_decision h) (logged_decided h (r.unmoved.fine u) r.unmoved.sound w l) u
-    by_record u false l = climb_all u l (record { fine = r.unmoved.fine u; undecided = u; sound = r.unmoved.sound })
+        let answer = answers o (y.1 (ones_done (rows h) (r.answered u n) (r.zeros sealed) y.0)) (is_lost_wire Voter h) refl in
+        not_both (may_log (coordinate h)) (may_append h there got answer (λ e k. votes o n got e k (is_lost_wire (Enl e) h) refl)) r.append
 
 -- what the client was told where nothing bad came
 told_well : (h : List Entry) → has is_bad h ≡ false → is_some (latest client_told_of h) ≡ true → has (is_client_told Committed) h ≡ true

@@ -22,7 +22,7 @@ use Rattle.dtx_model.specs.History.{CanCommit}
 use Rattle.dtx_model.proofs.Cast.{a1, e1, r1, says, t1}
 use Rattle.dtx_model.proofs.Computing.{model}
 use Rattle.dtx_model.proofs.WorkedOutcomes.{commits_history, commits_lines}
-use Rattle.outcome_law.proofs.Promised.{caused_commits}
+use Rattle.outcome_law.proofs.Completes.{settled_told}
 
 -- the world that steps make, the newest step first
 abbrev made : List Step → World
@@ -106,4 +106,4 @@ commits_named = refl
 
 -- so the law says of it that its client was told
 commits_told : has (is_client_told Committed) (past_of commits_history) ≡ true
-commits_told = caused_commits commits_lines 0 1 (past_of commits_history) commits_named commits_caused commits_settled commits_can
+commits_told = settled_told commits_lines 0 1 (past_of commits_history) commits_named commits_caused commits_settled commits_can

@@ -1,4 +1,4 @@
--- A settled history of a script that can commit is committed: where nothing was promoted, and where something was and the history keeps the table of rules.
+-- A settled history of a script that can commit is committed, promoted or not.
 use Rattle.std.proofs.Common.{◌≡◌, ℕ, Bool, true, false, List, refl, ap}
 use Rattle.std.specs.Prelude.{not}
 use Rattle.dtx_values.specs.declared.entry.Entry.{Entry}
@@ -13,7 +13,7 @@ use Rattle.dtx_model.specs.Caused.{Caused, IsCallOf, Settled, is_promoting_entry
 use Rattle.dtx_model.specs.History.{CanCommit}
 use Rattle.dtx_model.proofs.Local.{free-local}
 use Rattle.outcome_law.proofs.Blocks.{script_kept}
-use Rattle.outcome_law.proofs.Promotions.{IsTabled, promoted_committed}
+use Rattle.outcome_law.proofs.Promotions.{promoted_committed}
 use Rattle.outcome_law.proofs.Runs.{free_run}
 use Rattle.outcome_law.proofs.Scans.{has_more}
 use Rattle.outcome_law.proofs.Settled.{settled_committed}
@@ -30,10 +30,9 @@ unpromoted_committed s k t h named c u settled can =
     let run = free_run (IsCallOf s t) t h c.freely u in
     settled_committed s h kept.rules (settled_act s t h named run home kept.rules settled) (settled_unplanned s t h named run home kept.rules settled) can
 
-pub settled_told : (s : List Line) (k t : ℕ) (h : List Entry) → are_named_well s ≡ true → Caused s k t h → (is_unpromoted h ≡ false → IsTabled h) → Settled s h → CanCommit s h
-    → has (is_client_told Committed) h ≡ true
-settled_told s k t h named c r settled can = over (has is_promoting_entry h) refl
+pub settled_told : (s : List Line) (k t : ℕ) (h : List Entry) → are_named_well s ≡ true → Caused s k t h → Settled s h → CanCommit s h → has (is_client_told Committed) h ≡ true
+settled_told s k t h named c settled can = over (has is_promoting_entry h) refl
   where
     over : (b : Bool) → has is_promoting_entry h ≡ b → has (is_client_told Committed) h ≡ true
-    over true q = promoted_committed s k t h named c (r (ap not q)) settled can (has_more is_promoting_entry is_promoting same_entry h q)
+    over true q = promoted_committed s k t h named c settled can (has_more is_promoting_entry is_promoting same_entry h q)
     over false q = unpromoted_committed s k t h named c (ap not q) settled can

@@ -1,14 +1,14 @@
--- The coordinator knows each desk's connection, and has a desk for each ENLIST that it got.
+-- Until COMMIT is got, the coordinator knows each desk's connection; and it has a desk for each ENLIST that it got.
 use Rattle.std.proofs.Common.{◌≡◌, ◌∙◌, ℕ, ◌==◌, Bool, true, false, ◌&&◌, ◌||◌, List, [], ◌∷◌, Option, Some, None, refl}
 use Rattle.std.specs.Prelude.{not, map, if◌then◌else◌}
 use Rattle.std.proofs.lemmas.Bool.{or_left}
 use Rattle.dtx_values.specs.declared.entry.Entry.{Entry}
 use Rattle.dtx_values.specs.declared.entry.Entry.TheVariants.{Got, Down as End, Stopped, Restarted}
 use Rattle.dtx_values.specs.declared.message.Conn.{Conn}
-use Rattle.dtx_values.specs.declared.message.Conn.TheVariants.{Begin, Enl, Again}
+use Rattle.dtx_values.specs.declared.message.Conn.TheVariants.{Begin, Voter, Enl, Again}
 use Rattle.dtx_values.specs.declared.message.Dir.TheVariants.{Up, Down}
 use Rattle.dtx_values.specs.declared.message.Message.{Message}
-use Rattle.dtx_values.specs.declared.message.Message.TheVariants.{BeginCommit, EnlistEnlist, EnlistAck, ReenlistAck}
+use Rattle.dtx_values.specs.declared.message.Message.TheVariants.{BeginCommit, EnlistEnlist, EnlistPrepared, EnlistNo, EnlistReadonly, EnlistAck, ReenlistAck}
 use Rattle.dtx_values.specs.declared.number.EnlNo.{EnlNo}
 use Rattle.dtx_values.specs.Ends.{order_of, same_connection}
 use Rattle.dtx_values.specs.Lines.{has_line, is_opening}
@@ -16,46 +16,83 @@ use Rattle.dtx_values.specs.Table.{insert_by}
 use Rattle.dtx_model.specs.declared.desk.Ballot.{Ballot}
 use Rattle.dtx_model.specs.declared.desk.Desk.{Desk}
 use Rattle.dtx_model.specs.Words.{has, each, always}
-use Rattle.dtx_model.specs.Entries.{is_commit_got}
+use Rattle.dtx_model.specs.Entries.{is_commit_got, is_vote_got}
 use Rattle.dtx_model.specs.Coordinated.{accepts, ballot_of, coordinate, desk_number, desks_after, follow, is_active, is_desk_of, known_after, with_ack, with_ballot, without}
-use Rattle.dtx_model.proofs.Bools.{and_left, or_case, or_false, or_second, or_right, not_true}
+use Rattle.dtx_model.proofs.Bools.{and_left, or_case, or_false, or_first, or_second, or_right, not_both, not_true}
 use Rattle.outcome_law.proofs.Lists.{has-insert}
 use Rattle.outcome_law.proofs.Scans.{each_more}
-use Rattle.outcome_law.proofs.Messages.{COMMIT, ENLIST}
-use Rattle.outcome_law.proofs.Fine.{IsFine}
+use Rattle.outcome_law.proofs.Messages.{COMMIT, ENLIST, VOTED}
+use Rattle.outcome_law.proofs.Fine.{IsFine, is_bad, is_spared}
 use Rattle.outcome_law.proofs.Rest.{is_ordered}
-use Rattle.outcome_law.proofs.Arrived.{newest}
+use Rattle.outcome_law.proofs.Wired.{newest}
 use Rattle.dtx_model.proofs.Connections.{same_self}
-use Rattle.outcome_law.proofs.Knowledge.{elsewhere, known_still}
-use Rattle.outcome_law.proofs.Stages.{IsUnlogged, active_at, unlogged_before}
+use Rattle.outcome_law.proofs.Knowledge.{elsewhere, known_still, known_without}
+use Rattle.outcome_law.proofs.Stages.{IsOpenThere, active_at, there_before}
 use Rattle.outcome_law.proofs.Recorded.{each_changed, each_inserted}
-use Rattle.outcome_law.proofs.Unblamed.{fine_before}
+use Rattle.outcome_law.proofs.Foregoing.{voted_commit}
 use Rattle.outcome_law.proofs.CoreKnown.{has_made}
 use Rattle.outcome_law.proofs.Crossed.{is_got_on}
 
--- it stays known with any entry that comes where nothing is lost
-stays_known : (c : Conn) (x : Entry) (h : List Entry) (ks : List Conn) → IsFine (x ∷ h) → has (same_connection c) ks ≡ true → has (same_connection c) (known_after x ks) ≡ true
-stays_known c (Got d Up m) h ks f k = step (has_line d Up m) (is_opening d m) (newest (Got d Up m) h f.whole)
+-- a vote that was got is a good one
+voted_well : (e : EnlNo) (h : List Entry) → has is_bad h ≡ false → has (is_vote_got e.value) h ≡ true → has (is_got_on (Enl e) Up VOTED) h ≡ true
+voted_well e [] u k = absurd cc
+voted_well e (x ∷ h) u k =
+    or_case (is_vote_got e.value x) (has (is_vote_got e.value) h)
+    (λ q. or_left (is_got_on (Enl e) Up VOTED x) (has (is_got_on (Enl e) Up VOTED) h) (at e x (or_first (is_bad x) (has is_bad h) u) q))
+    (λ q. or_right (is_got_on (Enl e) Up VOTED x) (has (is_got_on (Enl e) Up VOTED) h) (voted_well e h (or_second (is_bad x) (has is_bad h) u) q)) k
   where
-    step : (l o : Bool) → l ≡ true → has (same_connection c) (if not l then without d ks else if o then insert_by order_of d (without d ks) else ks) ≡ true
-    step true true e = known_still c d ks k
-    step true false e = k
-    step false o e = absurd cc
-stays_known c (End d Up) h ks f k = absurd cc
-stays_known c Stopped h ks f k = absurd cc
-stays_known c x h ks f k = k
+    on : (a : Bool) → a ≡ true → (a && true && true) ≡ true
+    on true k = refl
+    on false k = k
+
+    at : (e : EnlNo) (x : Entry) → is_bad x ≡ false → is_vote_got e.value x ≡ true → is_got_on (Enl e) Up VOTED x ≡ true
+    at e (Got (Enl f) Up EnlistPrepared) u q = on (e.value == f.value) q
+    at e (Got (Enl f) Up EnlistReadonly) u q = on (e.value == f.value) q
+    at e (Got (Enl f) Up EnlistNo) u q = absurd cc
+    at e x u q = absurd cc
+
+-- so before COMMIT the coordinator sees no end of an enlistment's own connection
+unended : (e : EnlNo) (d : Conn) (h : List Entry) → IsOpenThere (End d Up ∷ h) → has (is_got_on Begin Up COMMIT) h ≡ false → same_connection (Enl e) d ≡ false
+unended e (Enl f) h r n =
+    let b = there_before (End (Enl f) Up) h r in
+    let voted : has (is_vote_got f.value) h ≡ true = spared (has (is_vote_got f.value) h) (and_left (is_spared h (End (Enl f) Up)) (always is_spared h) r.fine.spared) in
+    absurd (not_both (has (is_got_on Begin Up COMMIT) h) (voted_commit f h b.fine.wired.run b.ordered (voted_well f h b.fine.unbad voted)) n)
+  where
+    spared : (a : Bool) → not (not a) ≡ true → a ≡ true
+    spared true k = refl
+    spared false k = k
+unended e Begin h r n = refl
+unended e Voter h r n = refl
+unended e (Again f) h r n = refl
+
+-- a connection stays known with any entry that comes before COMMIT
+stays_known : (e : EnlNo) (x : Entry) (h : List Entry) (ks : List Conn) → IsOpenThere (x ∷ h) → has (is_got_on Begin Up COMMIT) h ≡ false → has (same_connection (Enl e)) ks ≡ true
+    → has (same_connection (Enl e)) (known_after x ks) ≡ true
+stays_known e (Got d Up m) h ks r n k = step (has_line d Up m) (is_opening d m) (newest (Got d Up m) h r.fine.wired)
+  where
+    step : (l o : Bool) → l ≡ true → has (same_connection (Enl e)) (if not l then without d ks else if o then insert_by order_of d (without d ks) else ks) ≡ true
+    step true true q = known_still (Enl e) d ks k
+    step true false q = k
+    step false o q = absurd cc
+stays_known e (End d Up) h ks r n k = known_without (Enl e) d ks (unended e d h r n) k
+stays_known e Stopped h ks r n k = let q : true ≡ false = r.fine.wired.unstopped in absurd cc
+stays_known e x h ks r n k = k
 
 abbrev pub is_desk_known : List Conn → Desk → Bool
 is_desk_known ks d = has (same_connection (Enl d.enlistment)) ks
 
--- each desk is known
-pub desks_known : (h : List Entry) → IsFine h → each (is_desk_known (coordinate h).known) (coordinate h).desks ≡ true
+-- until COMMIT is got, each desk's is known
+pub desks_known : (h : List Entry) → IsOpenThere h → has (is_got_on Begin Up COMMIT) h ≡ false → each (is_desk_known (coordinate h).known) (coordinate h).desks ≡ true
 unfolding coordinate follow
-desks_known [] f = refl
-desks_known (x ∷ h) f =
-    changed x f (each_more (is_desk_known (coordinate h).known) (is_desk_known (known_after x (coordinate h).known)) (λ d k. stays_known (Enl d.enlistment) x h (coordinate h).known f k) (coordinate h).desks
-    (desks_known h (fine_before x h f)))
+desks_known [] r n = refl
+desks_known (x ∷ h) r n =
+    changed x r.fine
+    (each_more (is_desk_known (coordinate h).known) (is_desk_known (known_after x (coordinate h).known)) (λ d k. stays_known d.enlistment x h (coordinate h).known r early k) (coordinate h).desks
+    (desks_known h (there_before x h r) early))
   where
+    early : has (is_got_on Begin Up COMMIT) h ≡ false
+    early = or_second (is_got_on Begin Up COMMIT x) (has (is_got_on Begin Up COMMIT) h) n
+
     both : (b : Bool) (xs ys : List Desk) (p : Desk → Bool) → each p xs ≡ true → each p ys ≡ true → each p (if b then xs else ys) ≡ true
     both true xs ys p a k = a
     both false xs ys p a k = k
@@ -115,26 +152,26 @@ either true p xs ys a k = a
 either false p xs ys a k = k
 
 -- it has a desk for each ENLIST that it got
-pub desk_there : (e : EnlNo) (h : List Entry) → IsUnlogged h → has (is_got_on (Enl e) Up ENLIST) h ≡ true → has (is_desk_of e.value) (coordinate h).desks ≡ true
+pub desk_there : (e : EnlNo) (h : List Entry) → IsOpenThere h → has (is_got_on (Enl e) Up ENLIST) h ≡ true → has (is_desk_of e.value) (coordinate h).desks ≡ true
 unfolding coordinate follow
 desk_there e [] r k = absurd cc
 desk_there e (Got (Enl f) Up (EnlistEnlist i) ∷ h) r k =
     let x = Got (Enl f) Up (EnlistEnlist i) in
-    let before = unlogged_before x h r in
+    let before = there_before x h r in
     let early : has (is_got_on Begin Up COMMIT) h ≡ false = not_true (has (is_got_on Begin Up COMMIT) h) (and_left (not (has (is_got_on Begin Up COMMIT) h)) (always is_ordered h) r.ordered) in
-    rw (active_at (Enl f) (EnlistEnlist i) h refl before r.fine.run.0, commit_unseen h early)
+    rw (active_at (Enl f) (EnlistEnlist i) h refl before r.fine.wired.run.0, commit_unseen h early)
     (has-insert (is_desk_of e.value) desk_number (record { enlistment = f; manager = i.rm; ballot = None; acked = false }) (coordinate h).desks
     ∙ (or_case ((e.value == f.value) && true && true) (has (is_got_on (Enl e) Up ENLIST) h)
     (λ q. or_left (e.value == f.value) (has (is_desk_of e.value) (coordinate h).desks) (and_left (e.value == f.value) true (and_left ((e.value == f.value) && true) true q)))
     (λ q. or_right (e.value == f.value) (has (is_desk_of e.value) (coordinate h).desks) (desk_there e h before q)) k))
 desk_there e (Got (Enl f) Up EnlistAck ∷ h) r k =
-    has_made (is_desk_of e.value) (is_desk_of e.value) (with_ack f.value) (λ d q. q) (coordinate h).desks (desk_there e h (unlogged_before (Got (Enl f) Up EnlistAck) h r) (later (e.value == f.value) (has (is_got_on (Enl e) Up ENLIST) h) k))
+    has_made (is_desk_of e.value) (is_desk_of e.value) (with_ack f.value) (λ d q. q) (coordinate h).desks (desk_there e h (there_before (Got (Enl f) Up EnlistAck) h r) (later (e.value == f.value) (has (is_got_on (Enl e) Up ENLIST) h) k))
 desk_there e (Got (Again f) Up ReenlistAck ∷ h) r k =
-    has_made (is_desk_of e.value) (is_desk_of e.value) (with_ack f.value) (λ d q. q) (coordinate h).desks (desk_there e h (unlogged_before (Got (Again f) Up ReenlistAck) h r) k)
+    has_made (is_desk_of e.value) (is_desk_of e.value) (with_ack f.value) (λ d q. q) (coordinate h).desks (desk_there e h (there_before (Got (Again f) Up ReenlistAck) h r) k)
 desk_there e (Got (Enl f) Up m ∷ h) r k =
-    let there = desk_there e h (unlogged_before (Got (Enl f) Up m) h r) (later (e.value == f.value) (has (is_got_on (Enl e) Up ENLIST) h) k) in
+    let there = desk_there e h (there_before (Got (Enl f) Up m) h r) (later (e.value == f.value) (has (is_got_on (Enl e) Up ENLIST) h) k) in
     either (is_active (coordinate h).stage) (is_desk_of e.value) (map (with_ballot f.value (ballot_of m)) (coordinate h).desks) (coordinate h).desks
     (has_made (is_desk_of e.value) (is_desk_of e.value) (with_ballot f.value (ballot_of m)) (named_ballot e.value f.value (ballot_of m)) (coordinate h).desks there) there
-desk_there e (Got (Enl f) Down m ∷ h) r k = desk_there e h (unlogged_before (Got (Enl f) Down m) h r) (elsewhere (e.value == f.value) (ENLIST m) (has (is_got_on (Enl e) Up ENLIST) h) k)
+desk_there e (Got (Enl f) Down m ∷ h) r k = desk_there e h (there_before (Got (Enl f) Down m) h r) (elsewhere (e.value == f.value) (ENLIST m) (has (is_got_on (Enl e) Up ENLIST) h) k)
 desk_there e (Restarted b ∷ h) r k = absurd cc
-desk_there e (x ∷ h) r k = desk_there e h (unlogged_before x h r) k
+desk_there e (x ∷ h) r k = desk_there e h (there_before x h r) k

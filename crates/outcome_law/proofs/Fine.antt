@@ -1,10 +1,11 @@
--- What never comes where nothing is lost and all are willing, the rows of the table of rules that say so, and a history that is fine so far.
+-- What never comes where no end is a veto and all are willing, the rows of the table of rules that say so, and a history that is fine so far.
 use Rattle.std.proofs.Common.{◌≡◌, ℕ, ◌==◌, Bool, true, false, ◌&&◌, ◌||◌, List, ◌∷◌}
 use Rattle.std.specs.Prelude.{not}
 use Rattle.dtx_values.specs.declared.entry.Entry.{Entry}
 use Rattle.dtx_values.specs.declared.entry.Entry.TheVariants.{Enlisted, RollbackAsked, TimedOut, Voted, PromoteReply, Requested, OwnerAnswered, Decided, Told, PromotionFailed, Sent, Got, Down as End, LogFull, Restarted}
 use Rattle.dtx_values.specs.declared.entry.Request.TheVariants.{Abort}
-use Rattle.dtx_values.specs.declared.message.Conn.TheVariants.{Enl, Again}
+use Rattle.dtx_values.specs.declared.message.Conn.{Conn}
+use Rattle.dtx_values.specs.declared.message.Conn.TheVariants.{Begin, Voter, Enl, Again}
 use Rattle.dtx_values.specs.declared.message.Dir.TheVariants.{Down}
 use Rattle.dtx_values.specs.declared.message.Message.{Message}
 use Rattle.dtx_values.specs.declared.message.Message.TheVariants.{BeginAbort, BeginAborted, VoterNo, VoterRefused, VoterAbort, EnlistNo, EnlistRefused, EnlistAbort, ReenlistAborted}
@@ -17,12 +18,12 @@ use Rattle.dtx_model.specs.Words.{has, always, latest}
 use Rattle.dtx_model.specs.Entries.{decision_of, same_outcome}
 use Rattle.dtx_model.specs.History.{is_asked_in_time}
 use Rattle.dtx_model.specs.Learned.{coordinator_aborted}
-use Rattle.dtx_model.specs.Outcome.{can_own, doubt}
+use Rattle.dtx_model.specs.Outcome.{can_own, doubt, is_veto_end}
 use Rattle.dtx_model.specs.Promotes.{ends_refused}
-use Rattle.dtx_model.specs.Wires.{WireRun, is_stopped}
+use Rattle.dtx_model.specs.Wires.{is_stopped}
 use Rattle.outcome_law.proofs.Rule.{is_decided}
 use Rattle.outcome_law.proofs.Going.{is_no_vote}
-use Rattle.outcome_law.proofs.Whole.{whole}
+use Rattle.outcome_law.proofs.Wired.{IsWired}
 
 abbrev pub is_bad_message : Message → Bool
 is_bad_message BeginAbort = true
@@ -53,7 +54,6 @@ is_bad (Told p x) = is_bad_outcome x
 is_bad PromotionFailed = true
 is_bad (Sent c d m) = is_bad_message m
 is_bad (Got c d m) = is_bad_message m
-is_bad (End c d) = true
 is_bad LogFull = true
 is_bad (Restarted found) = true
 is_bad _ = false
@@ -69,12 +69,27 @@ is_origin (OwnerAnswered e x) = is_bad_outcome x
 is_origin LogFull = true
 is_origin _ = false
 
--- a history in which nothing was severed and nothing bad came
+-- b or v, over which the local side and the coordinator agree on the outcome
+abbrev pub is_pair : Conn → Bool
+is_pair Begin = true
+is_pair Voter = true
+is_pair _ = false
+
+-- the entry is no end that is a veto, seen on either side, and seen on the local side
+abbrev pub is_spared : List Entry → Entry → Bool
+is_spared past (End c d) = not (is_veto_end past c d)
+is_spared past _ = true
+
+abbrev pub is_spared_down : List Entry → Entry → Bool
+is_spared_down past (End c Down) = not (is_veto_end past c Down)
+is_spared_down past _ = true
+
+-- a history in which the coordinator never stopped, nothing bad came, and no end was a veto
 pub record IsFine (h : List Entry) : Type 0 where
-  pub whole : whole h ≡ true
-  pub run : WireRun h
+  pub wired : IsWired h
   pub in_time : always is_asked_in_time h ≡ true
   pub unbad : has is_bad h ≡ false
+  pub spared : always is_spared h ≡ true
 
 -- an enlistment of this number was made, with a class that passes
 abbrev pub is_made : ℕ → (Class → Bool) → Entry → Bool

@@ -1,60 +1,41 @@
--- What 'nothing is pending' says: nothing is on the way, neither side has an act, and no reply is due that its plan has. So a history that keeps the rules is at rest.
-use Rattle.std.proofs.Common.{◌≡◌, ℕ, ◌==◌, Bool, true, false, ◌||◌, List, [], ◌∷◌, ◌++◌, refl, ◌∙◌, ap, subst, sym}
-use Rattle.std.specs.Prelude.{not, if◌then◌else◌}
+-- What 'nothing is pending' says: nothing is on the way, each side saw the end of what was lost, neither side has an act, and no reply is due that its plan has.
+use Rattle.std.proofs.Common.{◌≡◌, ℕ, ◌==◌, Bool, true, false, ◌&&◌, ◌||◌, List, [], ◌∷◌, ◌++◌, Option, Some, None, refl, ◌∙◌, ap, subst, sym}
+use Rattle.std.specs.Prelude.{is_some, not, if◌then◌else◌}
 use Rattle.std.specs.List.{flat_map}
+use Rattle.std.proofs.lemmas.Bool.{or_left}
 use Rattle.dtx_values.specs.declared.end.End.{End}
 use Rattle.dtx_values.specs.declared.entry.Entry.{Entry}
-use Rattle.dtx_values.specs.declared.entry.Entry.TheVariants.{Enlisted}
+use Rattle.dtx_values.specs.declared.entry.Entry.TheVariants.{Down as Ended, Enlisted, Got, Stopped}
 use Rattle.dtx_values.specs.declared.message.Conn.{Conn}
-use Rattle.dtx_values.specs.declared.message.Conn.TheVariants.{Begin, Enl}
 use Rattle.dtx_values.specs.declared.message.Dir.{Dir}
 use Rattle.dtx_values.specs.declared.message.Dir.TheVariants.{Up, Down}
 use Rattle.dtx_values.specs.declared.message.Message.{Message}
 use Rattle.dtx_values.specs.declared.note.Plan.{Plan}
-use Rattle.dtx_values.specs.declared.number.EnlNo.{EnlNo}
-use Rattle.dtx_values.specs.declared.script.Line.{Line}
-use Rattle.dtx_values.specs.Clones.{is_open_block}
-use Rattle.dtx_values.specs.Ends.{is_end_of}
-use Rattle.dtx_values.specs.Waves.{zeros_voted}
+use Rattle.dtx_values.specs.Ends.{is_end_of, same_connection, same_direction}
+use Rattle.dtx_values.specs.Lines.{has_line}
 use Rattle.dtx_model.specs.declared.waiting.EnteredCall.{EnteredCall}
-use Rattle.dtx_model.specs.Words.{has, each, always}
-use Rattle.dtx_model.specs.Entries.{is_client_told, is_promoted, is_sealed}
-use Rattle.dtx_model.specs.Observed.{clone_rows, ends_of, observe, rows}
+use Rattle.dtx_model.specs.Words.{has, each}
+use Rattle.dtx_model.specs.Observed.{ends_of, observe}
 use Rattle.dtx_model.specs.Outcome.{enlisted, is_empty}
-use Rattle.dtx_model.specs.Promotes.{is_promoting}
-use Rattle.dtx_model.specs.Tied.{is_logged}
-use Rattle.dtx_model.specs.Wires.{WireRun, in_transit, opens}
+use Rattle.dtx_model.specs.Wires.{begins_ended, ended_after, ends, holds, in_transit, is_ended, is_lost_wire, lost_since, opens}
 use Rattle.dtx_model.specs.Coordinated.{Coordinated, coordinate, may_free, may_log}
-use Rattle.dtx_model.specs.Waiting.{waiting}
 use Rattle.dtx_model.specs.Plans.{plan_of}
-use Rattle.dtx_model.specs.Half.{half_of, is_gone}
+use Rattle.dtx_model.specs.Half.{half_of}
 use Rattle.dtx_model.specs.Acts.{act_entries}
 use Rattle.dtx_model.specs.Replies.{all_due, due_of, names}
 use Rattle.dtx_model.specs.World.{has_left}
 use Rattle.dtx_model.specs.Steps.{CoordinatorAct, core_act, deliveries_on, delivery_if, local_if, local_pending, pending, replies_due}
-use Rattle.dtx_model.specs.Caused.{plans_of}
-use Rattle.dtx_model.specs.History.{CanCommit, is_willing}
-use Rattle.dtx_values.specs.declared.words.Outcome.TheVariants.{Committed}
-use Rattle.dtx_model.proofs.Bools.{and_both, and_left, and_right, not_both, or_case, or_first, or_right}
+use Rattle.dtx_model.specs.History.{is_willing}
+use Rattle.dtx_model.proofs.Bools.{and_both, and_left, and_right, not_both, not_true, or_case, or_first, or_right}
 use Rattle.outcome_law.proofs.Tests.{eq_self}
-use Rattle.outcome_law.proofs.Scans.{has_more}
 use Rattle.outcome_law.proofs.Rule.{is_enlisted}
 use Rattle.outcome_law.proofs.Dues.{is_unplanned, none_answered}
 use Rattle.outcome_law.proofs.Settlings.{append_first, append_second, no_act, no_name}
-use Rattle.outcome_law.proofs.Whole.{is_opened_once, none_severed, whole, whole_of}
-use Rattle.outcome_law.proofs.Messages.{COMMIT, ENLIST, PREPARE}
-use Rattle.outcome_law.proofs.Fine.{IsFine, is_caused}
-use Rattle.outcome_law.proofs.Debts.{is_volatile_made, owes_none, pays}
-use Rattle.outcome_law.proofs.OnTheWay.{is_on_its_way, is_unplaced}
-use Rattle.outcome_law.proofs.Rest.{IsAtRest, is_after_start, is_begun, is_ordered, is_sound}
+use Rattle.outcome_law.proofs.Wired.{IsWired, is_end_on, is_plain, newest, unstopped, wired_before}
 use Rattle.dtx_model.proofs.Connections.{same_is}
 use Rattle.outcome_law.proofs.Openings.{unopened_empty}
-use Rattle.outcome_law.proofs.Knowledge.{is_known_end, knows_where}
-use Rattle.outcome_law.proofs.Unblamed.{nothing_bad}
-use Rattle.outcome_law.proofs.Climbed.{committed_at_rest}
-use Rattle.outcome_law.proofs.SameRows.{is_asked_there, is_made_once}
-use Rattle.outcome_law.proofs.Owed.{IsUnowed, all_answered, all_heeded, all_voted, commit_requested, heeded_promised, is_asked_well, promotion_replied, unlost_there}
-use Rattle.outcome_law.proofs.Crossed.{is_sent_on, is_got_on}
+use Rattle.outcome_law.proofs.Knowledge.{opened_noted}
+use Rattle.outcome_law.proofs.Crossed.{since_opened}
 
 -- Nothing is on the way.
 none_delivered : (b : Bool) (c : Conn) (d : Dir) → delivery_if b c d ≡ [] → b ≡ false
@@ -83,18 +64,60 @@ none_pending_on c h (n ∷ ns) e k =
     subst P (sym (same_is c n.connection q)) there)
     (λ q. none_pending_on c h ns (append_second (deliveries_on h n) (flat_map (deliveries_on h) ns) e) q) k
 
-pub none_on_the_way : (h : List Entry) → whole h ≡ true → WireRun h → flat_map (deliveries_on h) (ends_of h) ≡ [] → (c : Conn) (d : Dir) → in_transit c d h ≡ []
-none_on_the_way h w run e c d = by_opening (has (opens c) h) refl
+pub none_on_the_way : (h : List Entry) → IsWired h → flat_map (deliveries_on h) (ends_of h) ≡ [] → (c : Conn) (d : Dir) → in_transit c d h ≡ []
+none_on_the_way h w e c d = by_opening (has (opens c) h) refl
   where
     of_way : (d : Dir) → (has_left c Up h ≡ false) × (has_left c Down h ≡ false) → in_transit c d h ≡ []
     of_way Up k = none_left c Up h k.0
     of_way Down k = none_left c Down h k.1
 
     by_opening : (b : Bool) → has (opens c) h ≡ b → in_transit c d h ≡ []
-    by_opening true o =
-        of_way d
-        (none_pending_on c h (ends_of h) e (has_more (is_known_end c) (is_end_of c) (λ n a. and_left (is_end_of c n) (not n.ended) a) (ends_of h) (knows_where c h w run o)))
+    by_opening true o = of_way d (none_pending_on c h (ends_of h) e (opened_noted c h w o))
     by_opening false o = unopened_empty c d h w o
+
+-- Each side saw the end of each connection that was lost.
+end_there : (c : Conn) (d : Dir) (x : Entry) (h : List Entry) → IsWired (x ∷ h) → ends c d x ≡ true → is_end_on c d x ≡ true
+end_there c d (Ended e r) h w k = k
+end_there c d (Got e r m) h w k =
+    absurd (not_both (has_line e r m) (newest (Got e r m) h w) (not_true (has_line e r m) (and_right (same_connection c e && same_direction d r) (not (has_line e r m)) k)))
+end_there c d Stopped h w k = let s : true ≡ false = w.unstopped in absurd cc
+end_there c Up _ h w k = absurd cc
+end_there c Down _ h w k = absurd cc
+
+end_saw : (c : Conn) (d : Dir) (h : List Entry) → IsWired h → is_ended c d h ≡ true → has (is_end_on c d) h ≡ true
+end_saw c d [] w k = absurd cc
+end_saw c d (x ∷ h) w k = step (end_saw c d h past) (opens c x) (begins_ended d h) (fresh d) k
+  where
+    past : IsWired h
+    past = wired_before x h w
+
+    fresh : (d : Dir) → begins_ended d h ≡ false
+    fresh Up = unstopped h past.unstopped
+    fresh Down = refl
+
+    step : (is_ended c d h ≡ true → has (is_end_on c d) h ≡ true) → (b s : Bool) → s ≡ false → ended_after b s (ends c d x || is_ended c d h) ≡ true
+        → (is_end_on c d x || has (is_end_on c d) h) ≡ true
+    step ih true s n k = absurd (not_both s k n)
+    step ih false s n k =
+        or_case (ends c d x) (is_ended c d h) (λ q. or_left (is_end_on c d x) (has (is_end_on c d) h) (end_there c d x h w q))
+        (λ q. or_right (is_end_on c d x) (has (is_end_on c d) h) (ih q)) k
+
+pub ends_seen : (c : Conn) (h : List Entry) → IsWired h → flat_map (deliveries_on h) (ends_of h) ≡ [] → is_plain c ≡ true → is_lost_wire c h ≡ true → (d : Dir) → has (is_end_on c d) h ≡ true
+ends_seen c h w e p l d = end_saw c d h w (seen d (none_pending_on c h (ends_of h) e (opened_noted c h w (since_opened c h (some (lost_since c h) l)))))
+  where
+    some : (o : Option Bool) → holds o ≡ true → is_some o ≡ true
+    some (Some b) k = refl
+    some None k = absurd cc
+
+    ended : (m l n : Bool) → l ≡ true → (m || (l && not n)) ≡ false → n ≡ true
+    ended m true true l k = refl
+    ended true true false l k = absurd cc
+    ended false true false l k = absurd cc
+    ended m false n l k = absurd cc
+
+    seen : (d : Dir) → (has_left c Up h ≡ false) × (has_left c Down h ≡ false) → is_ended c d h ≡ true
+    seen Up k = ended (not (is_empty (in_transit c Up h))) (is_lost_wire c h) (is_ended c Up h) l k.0
+    seen Down k = ended (not (is_empty (in_transit c Down h))) (is_lost_wire c h) (is_ended c Down h) l k.1
 
 -- Neither side has an act.
 none_appended : (k : Coordinated) → core_act k ≡ [] → may_log k ≡ false
@@ -130,36 +153,8 @@ idle ks h e =
       undelivered = append_second (local ++ coordinator) deliveries e;
     }
 
--- A history that keeps the rules and what is so at the end of a block, in which a promotion began, and that can commit; the plans are those of the calls entered.
-pub record IsGoverned (s : List Line) (ks : List EnteredCall) (h : List Entry) : Type 0 where
-  -- by the table of rules
-  pub opened : always is_opened_once h ≡ true
-  pub caused : always is_caused h ≡ true
-  pub later : always is_after_start h ≡ true
-  pub sound : always is_sound h ≡ true
-  pub ordered : always is_ordered h ≡ true
-  pub begun : always is_begun h ≡ true
-  pub paying : always pays h ≡ true
-  pub once : always is_made_once h ≡ true
-  pub there : always is_asked_there h ≡ true
-  pub well : always is_asked_well h ≡ true
-  pub run : WireRun h
-  -- by the table and the rows
-  pub zeros : has is_sealed h ≡ true → zeros_voted (rows h) ≡ true
-  pub closed : has is_open_block (clone_rows h) ≡ false
-  -- at the end of a block
-  pub free : owes_none h ≡ true
-  pub waits : has is_promoted h ≡ true → each (is_on_its_way h) (waiting ks h) ≡ true
-  pub unplaced : each (is_unplaced h) (waiting ks h) ≡ true
-  pub prepares : has is_logged h ≡ false → has (is_got_on Begin Up COMMIT) h ≡ true → (e : EnlNo) → has (is_got_on (Enl e) Up ENLIST) h ≡ true → has (is_sent_on (Enl e) Down PREPARE) h ≡ true
-  pub lasting : (e : EnlNo) → has (is_got_on (Enl e) Up ENLIST) h ≡ true → has (is_volatile_made e.value) h ≡ false
-  -- it can commit, a promotion began, and whoever was made has the plan of its line
-  pub can : CanCommit s h
-  pub started : has is_promoting h ≡ true
-  pub plans : (e : ℕ) → has (is_enlisted e) h ≡ true → plan_of ks e ≡ plans_of s e
-
 -- where whoever was made has the same plan, all are willing by the one as by the other
-same_willing : (p q : ℕ → Plan) (h : List Entry) → ((e : ℕ) → has (is_enlisted e) h ≡ true → p e ≡ q e) → each (λ x. is_willing (q x.0.value) x.1) (enlisted h) ≡ true
+pub same_willing : (p q : ℕ → Plan) (h : List Entry) → ((e : ℕ) → has (is_enlisted e) h ≡ true → p e ≡ q e) → each (λ x. is_willing (q x.0.value) x.1) (enlisted h) ≡ true
     → each (λ x. is_willing (p x.0.value) x.1) (enlisted h) ≡ true
 same_willing p q [] f k = refl
 same_willing p q (Enlisted e c ∷ h) f k =
@@ -167,61 +162,3 @@ same_willing p q (Enlisted e c ∷ h) f k =
     (ap (λ r. is_willing r c) (f e.value (rw (eq_self e.value) refl)) ∙ and_left (is_willing (q e.value) c) (each (λ x. is_willing (q x.0.value) x.1) (enlisted h)) k)
     (same_willing p q h (λ n a. f n (or_right (n == e.value) (has (is_enlisted n) h) a)) (and_right (is_willing (q e.value) c) (each (λ x. is_willing (q x.0.value) x.1) (enlisted h)) k))
 same_willing p q (x ∷ h) f k = same_willing p q h (λ n a. f n (or_right (is_enlisted n x) (has (is_enlisted n) h) a)) k
-
--- nothing bad came
-governed_fine : (s : List Line) (ks : List EnteredCall) (h : List Entry) → IsGoverned s ks h → IsFine h
-governed_fine s ks h g =
-    let w = whole_of h g.opened (none_severed h g.can.unlost) in
-    record {
-      whole = w;
-      run = g.run;
-      in_time = g.can.in_time;
-      unbad = nothing_bad (plans_of s) h w g.run g.can.in_time g.can.ended_by_none g.can.unlost g.caused g.can.planned g.can.willing;
-    }
-
--- where nothing is pending, it is at rest
-pub rests : (s : List Line) (ks : List EnteredCall) (h : List Entry) → IsGoverned s ks h → pending (record { calls = ks; past = h }) ≡ [] → IsAtRest ks h
-rests s ks h g e =
-    let i = idle ks h e in
-    let fine = governed_fine s ks h g in
-    let u : IsUnowed (plan_of ks) h =
-    record {
-      fine = fine;
-      spared = λ i x e q. absurd (not_both (is_gone (observe h) x.number.value) q (unlost_there h x.number.value g.can.unlost));
-      once = g.once;
-      there = g.there;
-      well = g.well;
-      unowed = i.unanswered;
-    } in
-    let heeded = all_heeded (plan_of ks) h (same_willing (plan_of ks) (plans_of s) h g.plans g.can.willing) in
-    record {
-      unmoved =
-          record {
-            fine = λ d. fine;
-            later = g.later;
-            sound = g.sound;
-            paying = g.paying;
-            free = g.free;
-            waits = g.waits;
-            unplaced = g.unplaced;
-            empty = none_on_the_way h fine.whole g.run i.undelivered;
-            act = i.act;
-            replied = λ d n. promotion_replied (plan_of ks) h u (heeded_promised (plan_of ks) h heeded) d;
-            started = g.started;
-          };
-      ordered = g.ordered;
-      begun = g.begun;
-      zeros = g.zeros;
-      closed = g.closed;
-      prepares = λ d. g.prepares;
-      lasting = g.lasting;
-      append = i.append;
-      answered = all_answered (plan_of ks) h u heeded;
-      voted = λ d l e k. all_voted (plan_of ks) h u heeded d l e.value k;
-      requested = commit_requested (plan_of ks) h u heeded;
-      asked = g.can.asked;
-    }
-
--- so a transaction that promotes and can commit is committed where nothing is pending, and its client was told so
-pub settled_commits : (s : List Line) (ks : List EnteredCall) (h : List Entry) → IsGoverned s ks h → pending (record { calls = ks; past = h }) ≡ [] → has (is_client_told Committed) h ≡ true
-settled_commits s ks h g e = committed_at_rest ks h (rests s ks h g e) (governed_fine s ks h g).unbad

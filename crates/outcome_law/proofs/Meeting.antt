@@ -15,11 +15,9 @@ use Rattle.dtx_model.specs.World.{World}
 use Rattle.dtx_model.specs.Steps.{Step, Delivers, after, block_at}
 use Rattle.dtx_model.specs.Caused.{Ran}
 use Rattle.dtx_model.proofs.Bools.{and_right, or_second}
-use Rattle.outcome_law.proofs.Whole.{whole}
 use Rattle.outcome_law.proofs.Messages.{ENLIST, ENLISTED}
 use Rattle.outcome_law.proofs.Fine.{is_restart}
 use Rattle.outcome_law.proofs.Rest.{is_after_start, is_sound}
-use Rattle.outcome_law.proofs.Arrived.{before}
 use Rattle.outcome_law.proofs.Openings.{once_sent}
 use Rattle.outcome_law.proofs.Stages.{sent_known}
 use Rattle.outcome_law.proofs.Committed.{is_recorded_first}
@@ -29,9 +27,8 @@ use Rattle.outcome_law.proofs.Counted.{got_first, is_once}
 use Rattle.outcome_law.proofs.ComingRuns.{enlisted_met, ran_coming}
 use Rattle.outcome_law.proofs.Crossed.{is_sent_on, got_sent}
 
--- a history in which nothing was lost and no restart came, whose messages are sent after the promotion began, on connections that are known, COMMITTED after a record, and ENLISTED once to each enlistment
+-- a history in which no restart came, whose messages are sent after the promotion began, on connections that are known, COMMITTED after a record, and ENLISTED once to each enlistment
 pub record IsMeeting (h : List Entry) : Type 0 where
-  pub whole : whole h ≡ true
   pub run : WireRun h
   pub unrestarted : has is_restart h ≡ false
   pub later : always is_after_start h ≡ true
@@ -41,7 +38,6 @@ pub record IsMeeting (h : List Entry) : Type 0 where
 
 meeting_before : (x : Entry) (h : List Entry) → IsMeeting (x ∷ h) → IsMeeting h
 meeting_before x h g = record {
-  whole = before x h g.whole;
   run = g.run.1;
   unrestarted = or_second (is_restart x) (has is_restart h) g.unrestarted;
   later = and_right (is_after_start h x) (always is_after_start h) g.later;
@@ -58,7 +54,7 @@ met : (G : ℕ → ActorNo → Call → Type 0) (t : ℕ) (ms : List Step) (w : 
 met G t ms w r g (Enl e) EnlistEnlisted n =
     enlisted_met w.calls w.past e (ran_coming G t ms w r g.later)
     (once_sent (Enl e) Up ENLIST w.past g.run (sent_known (Enl e) ENLISTED w.past g.sound (got_sent (Enl e) Down EnlistEnlisted ENLISTED w.past n refl)))
-    (got_first (Enl e) Down EnlistEnlisted ENLISTED w.past g.whole g.run n refl (g.once e))
+    (got_first (Enl e) Down EnlistEnlisted ENLISTED w.past g.run n refl (g.once e))
 met G t ms w r g Begin BeginCommitted n = λ d. committed_met w.past g.run g.unrestarted n g.sound g.recorded
 met G t ms w r g c m n = tt
 

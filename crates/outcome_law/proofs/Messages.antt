@@ -1,7 +1,7 @@
 -- The messages by their names, as tests.
 use Rattle.std.proofs.Common.{Bool, true, false}
 use Rattle.dtx_values.specs.declared.message.Message.{Message}
-use Rattle.dtx_values.specs.declared.message.Message.TheVariants.{BeginBegin, BeginBegun, BeginCommit, BeginAbort, BeginCommitted, BeginAborted, VoterVoter, VoterCreated, VoterRefused, VoterAbort, VoterAsk, VoterYes, EnlistEnlist, EnlistEnlisted, EnlistRefused, EnlistAbort, EnlistPrepare, EnlistPrepared, EnlistReadonly, EnlistNo}
+use Rattle.dtx_values.specs.declared.message.Message.TheVariants.{BeginBegin, BeginBegun, BeginCommit, BeginAbort, BeginCommitted, BeginAborted, VoterVoter, VoterCreated, VoterRefused, VoterAbort, VoterAsk, VoterCommit, VoterNo, VoterYes, EnlistEnlist, EnlistEnlisted, EnlistRefused, EnlistAbort, EnlistPrepare, EnlistPrepared, EnlistReadonly, EnlistNo}
 use Rattle.dtx_values.specs.declared.words.Vote.{Vote}
 use Rattle.dtx_values.specs.declared.words.Vote.TheVariants.{Yes, No, Done}
 
@@ -53,6 +53,16 @@ ASK _ = false
 abbrev pub YES : Message → Bool
 YES VoterYes = true
 YES _ = false
+
+abbrev pub VOTER_NO : Message → Bool
+VOTER_NO VoterNo = true
+VOTER_NO _ = false
+
+-- what the coordinator sends on v of its decision
+abbrev pub VOTER_OUTCOME : Message → Bool
+VOTER_OUTCOME VoterCommit = true
+VOTER_OUTCOME VoterAbort = true
+VOTER_OUTCOME _ = false
 
 abbrev pub ENLIST : Message → Bool
 ENLIST (EnlistEnlist i) = true

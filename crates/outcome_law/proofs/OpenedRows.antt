@@ -1,4 +1,4 @@
--- In a history that keeps the joint table each connection is opened once, but after a cut or a stop, and what else crosses does where it was opened, in a line that it has.
+-- In a history that keeps the joint table each connection is opened once, but that of a reenlistment after a cut or a stop, and what else crosses does where it was opened, in a line that it has.
 use Rattle.std.proofs.Common.{◌≡◌, Bool, true, false, ◌&&◌, ◌||◌, List, [], ◌∷◌, refl, ap, sym, subst}
 use Rattle.std.specs.Prelude.{not, if◌then◌else◌}
 use Rattle.std.proofs.lemmas.Bool.{or_left}
@@ -13,25 +13,25 @@ use Rattle.dtx_values.specs.declared.message.Message.TheVariants.{BeginBegin, Vo
 use Rattle.dtx_values.specs.Ends.{same_connection, same_direction}
 use Rattle.dtx_values.specs.Lines.{has_line, is_opening}
 use Rattle.dtx_model.specs.Words.{always, has}
-use Rattle.outcome_law.specs.Severed.{is_severing}
+use Rattle.outcome_law.proofs.Severed.{is_severing}
 use Rattle.dtx_model.specs.Promotes.{is_begun_got, is_promoting}
 use Rattle.dtx_model.specs.Wires.{opens}
 use Rattle.dtx_model.proofs.Bools.{and_left, and_right, or_case}
 use Rattle.outcome_law.proofs.Tests.{first_of_four, third_of_four}
 use Rattle.dtx_model.proofs.Connections.{same_is, same_self, same_way_is}
-use Rattle.outcome_law.proofs.Whole.{is_opened_once}
+use Rattle.outcome_law.proofs.Wired.{is_opened_once, is_plain}
 use Rattle.outcome_law.proofs.Table.{is_of_conn, is_opening_got, is_there, is_volatile_conn, message_row, rule, ruled}
 use Rattle.outcome_law.proofs.Keeping.{Keeps, keeps_before, newest}
 use Rattle.outcome_law.proofs.Standing.{opened_if_got}
 use Rattle.outcome_law.proofs.BeforeRows.{by_keeping, row_of}
 use Rattle.outcome_law.proofs.Crossed.{is_sent_on, got_sent}
 
--- what opens a connection opens it for the first time, or after a cut or a stop
-opening_new : (c : Conn) (m : Message) (h : List Entry) → message_row h c m ≡ true → is_opening c m ≡ true → (not (has (opens c) h) || has is_severing h) ≡ true
-opening_new Begin BeginBegin h k t = or_left (not (has (opens Begin) h)) (has is_severing h) k
-opening_new Voter (VoterVoter u) h k t = or_left (not (has (opens Voter) h)) (has is_severing h) (and_right (has is_begun_got h) (not (has (opens Voter) h)) k)
+-- what opens a connection opens it for the first time, or is of a reenlistment and comes after a cut or a stop
+opening_new : (c : Conn) (m : Message) (h : List Entry) → message_row h c m ≡ true → is_opening c m ≡ true → (not (has (opens c) h) || (not (is_plain c) && has is_severing h)) ≡ true
+opening_new Begin BeginBegin h k t = or_left (not (has (opens Begin) h)) false k
+opening_new Voter (VoterVoter u) h k t = or_left (not (has (opens Voter) h)) false (and_right (has is_begun_got h) (not (has (opens Voter) h)) k)
 opening_new (Enl e) (EnlistEnlist i) h k t =
-    or_left (not (has (opens (Enl e)) h)) (has is_severing h) (third_of_four (is_of_conn (Enl e) i) (has is_begun_got h) (not (has (opens (Enl e)) h)) (not (is_volatile_conn (Enl e) h)) k)
+    or_left (not (has (opens (Enl e)) h)) false (third_of_four (is_of_conn (Enl e) i) (has is_begun_got h) (not (has (opens (Enl e)) h)) (not (is_volatile_conn (Enl e) h)) k)
 opening_new (Again e) (ReenlistReenlist i) h k t = and_right (is_of_conn (Again e) i) (not (has (opens (Again e)) h) || has is_severing h) k
 opening_new _ _ h k t = absurd cc
 
@@ -68,7 +68,7 @@ kept_opened = by_keeping is_opened_once at
     at : (x : Entry) (h : List Entry) → Keeps (x ∷ h) → is_opened_once h x ≡ true
     at (Sent c Up m) h k =
         let r = newest (Sent c Up m) h k in
-        chosen (same_connection c c) (is_opening c m) (has (opens c) h) (has is_severing h) (same_self c) (opening_new c m h (row_of c Up m h r))
+        chosen (same_connection c c) (is_opening c m) (has (opens c) h) (not (is_plain c) && has is_severing h) (same_self c) (opening_new c m h (row_of c Up m h r))
         (third_of_four (has_line c Up m) (has is_promoting h) (is_there h c Up m) (message_row h c m) r)
     at (Sent c Down m) h k =
         opened_if_got c h (keeps_before (Sent c Down m) h k)

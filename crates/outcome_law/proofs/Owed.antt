@@ -1,16 +1,14 @@
--- Where no reply is due of anyone whose plan isn't silent, and whoever is lost is a volatile that voted, whoever was asked to prepare has voted, and the promotable that was asked has
--- replied.
+-- Where no reply is due of anyone whose plan isn't silent, and whoever is lost has voted, whoever was asked to prepare has voted, and the promotable that was asked has replied.
 use Rattle.std.proofs.Common.{◌≡◌, ℕ, zero, suc, ◌==◌, Bool, true, false, ◌&&◌, ◌||◌, List, [], ◌∷◌, Option, Some, None, refl, ◌∙◌, ap, sym, subst, map}
 use Rattle.std.specs.Prelude.{find, is_none, is_some, not, if◌then◌else◌}
 use Rattle.std.specs.List.{slice_get}
-use Rattle.std.proofs.lemmas.Bool.{eqb-true, false_from_ne_true, or_left}
+use Rattle.std.proofs.lemmas.Bool.{eqb-true, false_from_ne_true, or_left, true_from_ne_false}
 use Rattle.dtx_values.specs.declared.entry.Ask.TheVariants.{Prepare as AskPrepare, Promote as AskPromote, Single as AskSingle}
 use Rattle.dtx_values.specs.declared.entry.Entry.{Entry}
 use Rattle.dtx_values.specs.declared.entry.Entry.TheVariants.{Asked, Enlisted, Lost, Reenlisted, Told}
 use Rattle.dtx_values.specs.declared.entry.Party.TheVariants.{Enl as Member}
-use Rattle.dtx_values.specs.declared.message.Conn.{Conn}
-use Rattle.dtx_values.specs.declared.message.Conn.TheVariants.{Enl}
-use Rattle.dtx_values.specs.declared.message.Dir.TheVariants.{Down}
+use Rattle.dtx_values.specs.declared.message.Conn.TheVariants.{Begin, Enl}
+use Rattle.dtx_values.specs.declared.message.Dir.TheVariants.{Down, Up}
 use Rattle.dtx_values.specs.declared.note.Note.{Note}
 use Rattle.dtx_values.specs.declared.note.Note.TheVariants.{Prepare, Promote as PromoteNote, Hand, Single}
 use Rattle.dtx_values.specs.declared.note.Plan.{Plan}
@@ -33,30 +31,33 @@ use Rattle.dtx_model.specs.Entries.{decision_of, is_asked, is_asked_alone, is_as
 use Rattle.dtx_model.specs.Observed.{come_back, ends_of, hear, lose, is_ask_promote, is_ask_single, is_promote_reply, is_request, listener_number, listeners, observe, rows}
 use Rattle.dtx_model.specs.Outcome.{can_own, enlisted}
 use Rattle.dtx_model.specs.Tied.{is_logged}
-use Rattle.dtx_model.specs.Wires.{holds}
+use Rattle.dtx_model.specs.Wires.{holds, is_lost_wire}
 use Rattle.dtx_model.specs.Plans.{owner_reply, promote_reply, vote_reply}
 use Rattle.dtx_model.specs.Half.{is_gone, was_told}
 use Rattle.dtx_model.specs.Replies.{conn_due, due_of, may_still_vote, names, note_at, note_of_conn, owes_outcome, owes_promotion, owes_request, owes_vote, row_note, with_name, with_names}
-use Rattle.dtx_model.specs.History.{is_committed, is_loss, is_willing}
+use Rattle.dtx_model.specs.History.{is_committed, is_willing}
 use Rattle.dtx_model.proofs.Bools.{and_both, and_left, and_right, not_both, not_false, or_case, or_false, or_first, or_right, or_second}
 use Rattle.outcome_law.proofs.Lists.{each-insert, has-insert, has_kept}
 use Rattle.outcome_law.proofs.Picks.{each_from_at, has-at}
-use Rattle.outcome_law.proofs.Scans.{each-at, has_less}
+use Rattle.outcome_law.proofs.Scans.{each-at, has_more}
 use Rattle.outcome_law.proofs.Tests.{eq_self}
 use Rattle.outcome_law.proofs.Dues.{is_unplanned, named_rows}
 use Rattle.outcome_law.proofs.Owned.{has_rows}
 use Rattle.outcome_law.proofs.TableRows.{each_rows}
 use Rattle.outcome_law.proofs.Settled.{has_answered}
-use Rattle.outcome_law.proofs.Messages.{PREPARE}
+use Rattle.outcome_law.proofs.Messages.{COMMIT, PREPARE}
 use Rattle.outcome_law.proofs.Fine.{IsFine, is_bad, is_made}
-use Rattle.outcome_law.proofs.Debts.{is_volatile_made}
-use Rattle.dtx_model.proofs.Connections.{same_is}
+use Rattle.outcome_law.proofs.Debts.{has_promotable, is_volatile_made}
 use Rattle.outcome_law.proofs.Knowledge.{knows_got}
-use Rattle.outcome_law.proofs.Stages.{record_logged}
+use Rattle.outcome_law.proofs.Stages.{earlier, record_logged}
+use Rattle.outcome_law.proofs.Rest.{is_ordered, is_sound}
+use Rattle.outcome_law.proofs.Openings.{once_sent}
+use Rattle.outcome_law.proofs.Foregoing.{is_prepared, prepared_commit, prepared_same, prepared_stays, voted_prepared}
+use Rattle.outcome_law.proofs.Wired.{firm_unended}
 use Rattle.outcome_law.proofs.Unblamed.{owns, unrestarted}
 use Rattle.outcome_law.proofs.Climbed.{none_decided}
 use Rattle.outcome_law.proofs.SameRows.{asked_marked, found_passes, is_asked_there, is_made_once, marked_asked, row_found, voted_cast}
-use Rattle.outcome_law.proofs.Crossed.{is_got_on}
+use Rattle.outcome_law.proofs.Crossed.{is_got_on, is_sent_on}
 
 -- Rows of the table of rules: a volatile is asked to prepare, or who got PREPARE; a promotable is asked to promote or for its single phase; and an enlistment is
 -- told committed or in doubt where it was decided, or where there is a record.
@@ -73,9 +74,8 @@ pub record IsHeeded (p : Plan) (h : List Entry) (x : Row) : Type 0 where
   pub promotes : has (is_asked_to_promote x.number.value) h ≡ true → owes_promotion (observe h) x ≡ true → is_none p.promote ≡ true → ⊥
   pub commits : has (is_asked_alone x.number.value) h ≡ true → owes_request (observe h) x ≡ true → is_none p.owner ≡ true → ⊥
 
--- One that is lost is volatile, and has voted.
+-- One that is lost has voted.
 pub record IsSpared (x : Row) : Type 0 where
-  pub of_volatile : is_volatile x.class ≡ true
   pub has_cast : has_voted x ≡ true
 
 -- The same of the vote, and that it can be promoted, alone.
@@ -93,10 +93,15 @@ ArePromised p h = (i : ℕ) (x : Row) → slice_get (rows h) i ≡ Some x → is
 pub heeded_promised : (p : ℕ → Plan) (h : List Entry) → AreHeeded p h → ArePromised p h
 heeded_promised p h g = λ i x e k. record { votes = (g i x e).votes; promotes = (g i x e).promotes }
 
--- a fine history in which each that is lost is spared, and where of none a reply is due that its plan has
+-- a fine history in which each that is lost is spared, and so is each whose connection was lost; in which a promotable requested where COMMIT was sent; and where of none a reply is due that its
+-- plan has
 pub record IsUnowed (p : ℕ → Plan) (h : List Entry) : Type 0 where
   pub fine : IsFine h
   pub spared : (i : ℕ) (x : Row) → slice_get (rows h) i ≡ Some x → is_gone (observe h) x.number.value ≡ true → IsSpared x
+  pub carried : (i : ℕ) (x : Row) → slice_get (rows h) i ≡ Some x → is_lost_wire (Enl x.number) h ≡ true → IsSpared x
+  pub requests : has (is_sent_on Begin Up COMMIT) h ≡ true → has_promotable h ≡ true → has is_request h ≡ true
+  pub sound : always is_sound h ≡ true
+  pub ordered : always is_ordered h ≡ true
   pub once : always is_made_once h ≡ true
   pub there : always is_asked_there h ≡ true
   pub well : always is_asked_well h ≡ true
@@ -113,27 +118,6 @@ with_each f e es k = step (has (λ n. e.value == n.value) es) k
 all_each : (f : EnlNo → Bool) (bs : List Branch) (es : List EnlNo) → each f (with_names bs es) ≡ true → each f es ≡ true
 all_each f [] es k = k
 all_each f (b ∷ bs) es k = all_each f bs es (with_each f b.enlistment (with_names bs es) k)
-
--- where nobody was lost, none is gone
-none_gone : (h : List Entry) → has is_loss h ≡ false → has (λ l. l.lost) (listeners h) ≡ false
-none_gone [] n = refl
-none_gone (Enlisted e c ∷ h) n = has-insert (λ l. l.lost) listener_number (record { enlistment = e; told = false; lost = false }) (listeners h) ∙ none_gone h n
-none_gone (Told (Member e) x ∷ h) n = has_kept (λ l. l.lost) (hear e.value) (λ l. refl) (listeners h) ∙ none_gone h n
-none_gone (Lost e ∷ h) n = absurd cc
-none_gone (Reenlisted e ∷ h) n =
-    false_from_ne_true (has (λ l. l.lost) (listeners (Reenlisted e ∷ h)))
-    (λ k. not_both (has (λ l. l.lost) (listeners h))
-    (unlost (λ l. l.lost) (λ l. l.lost) (come_back e.value) (λ l a. and_right (not (e.value == l.enlistment.value)) l.lost a) (listeners h) k) (none_gone h n))
-  where
-    unlost : (p q : Listener → Bool) (f : Listener → Listener) → ((x : Listener) → q (f x) ≡ true → p x ≡ true) → (xs : List Listener) → has q (map f xs) ≡ true → has p xs ≡ true
-    unlost p q f sub [] k = absurd cc
-    unlost p q f sub (x ∷ xs) k = or_case (q (f x)) (has q (map f xs)) (λ a. or_left (p x) (has p xs) (sub x a)) (λ a. or_right (p x) (has p xs) (unlost p q f sub xs a)) k
-none_gone (x ∷ h) n = none_gone h (or_second (is_loss x) (has is_loss h) n)
-
-pub unlost_there : (h : List Entry) (e : ℕ) → has is_loss h ≡ false → is_gone (observe h) e ≡ false
-unfolding observe
-unlost_there h e n =
-    has_less (λ l. (e == l.enlistment.value) && l.lost) (λ l. l.lost) (λ l a. and_right (e == l.enlistment.value) l.lost a) (listeners h) (none_gone h n)
 
 -- whose listener was told was told
 told_seen : (e : ℕ) (h : List Entry) → has (λ l. (e == l.enlistment.value) && l.told) (listeners h) ≡ true → has (is_told e) h ≡ true
@@ -231,26 +215,12 @@ row_unplanned p h i x r e g =
     ap (λ b. is_unplanned (p n) (if b then None else or_else (row_note o x) (note_of_conn (conn_due o n)))) (sym g) ∙ found
 
 -- a durable or promotable that was asked to prepare got PREPARE
-prepare_got : (e : EnlNo) (h : List Entry) → always is_asked_well h ≡ true → has (is_asked e.value) h ≡ true → (has (is_volatile_made e.value) h || has (is_got_on (Enl e) Down PREPARE) h) ≡ true
-prepare_got e [] w k = absurd cc
-prepare_got e (x ∷ h) w k =
-    more (is_volatile_made e.value x) (is_got_on (Enl e) Down PREPARE x) (has (is_volatile_made e.value) h) (has (is_got_on (Enl e) Down PREPARE) h)
-    (or_case (is_asked e.value x) (has (is_asked e.value) h) (own x (and_left (is_asked_well h x) (always is_asked_well h) w)) (prepare_got e h (and_right (is_asked_well h x) (always is_asked_well h) w)) k)
+prepare_got : (e : EnlNo) (h : List Entry) → always is_asked_well h ≡ true → has (is_asked e.value) h ≡ true → is_prepared e h ≡ true
+prepare_got e h w k = earlier is_asked_well (is_asked e.value) (is_prepared e) (prepared_stays e) (at e) h w k
   where
-    more : (a b c d : Bool) → (c || d) ≡ true → ((a || c) || (b || d)) ≡ true
-    more true b c d k = refl
-    more false b true d k = refl
-    more false true false d k = refl
-    more false false false d k = k
-
-    own : (x : Entry) → is_asked_well h x ≡ true → is_asked e.value x ≡ true → (has (is_volatile_made e.value) h || has (is_got_on (Enl e) Down PREPARE) h) ≡ true
-    own (Asked f AskPrepare) w q =
-        let same : Enl e ≡ Enl f = same_is (Enl e) (Enl f) q in
-        or_case (has (is_volatile_made f.value) h) (has (is_got_on (Enl f) Down PREPARE) h)
-        (λ a. or_left (has (is_volatile_made e.value) h) (has (is_got_on (Enl e) Down PREPARE) h) (subst (λ n. has (is_volatile_made n) h ≡ true) (sym (eqb-true e.value f.value q)) a))
-        (λ a. or_right (has (is_volatile_made e.value) h) (has (is_got_on (Enl e) Down PREPARE) h)
-        (let P : Conn → Type 0 = λ c. has (is_got_on c Down PREPARE) h ≡ true in subst P (sym same) a)) w
-    own x w q = absurd cc
+    at : (e : EnlNo) (x : Entry) (h : List Entry) → is_asked_well h x ≡ true → is_asked e.value x ≡ true → is_prepared e h ≡ true
+    at e (Asked f AskPrepare) h w q = prepared_same e f h q w
+    at e x h w q = absurd cc
 
 -- who was made with a class that passes is a row with a class that passes
 made_row : (e : ℕ) (q : Class → Bool) (h : List Entry) → has (is_made e q) h ≡ true → has (λ y. is_of e y && q y.class) (rows h) ≡ true
@@ -267,34 +237,33 @@ volatile_made : (e : ℕ) (x : Entry) → is_volatile_made e x ≡ true → is_m
 volatile_made e (Enlisted f c) k = k
 volatile_made e x k = absurd cc
 
--- while nothing is decided or logged, a row that is marked may still vote
-marked_votes : (p : ℕ → Plan) (h : List Entry) (i : ℕ) (x : Row) → IsUnowed p h → has is_decision h ≡ false → has is_logged h ≡ false → slice_get (rows h) i ≡ Some x → is_marked x ≡ true
-    → may_still_vote (observe h) x ≡ true
+-- a row that isn't a volatile's has an enlistment that wasn't made as one
+lasting_made : (h : List Entry) (i : ℕ) (x : Row) → always is_made_once h ≡ true → slice_get (rows h) i ≡ Some x → is_volatile x.class ≡ false → has (is_volatile_made x.number.value) h ≡ true → ⊥
+lasting_made h i x once e v a =
+    not_both (is_volatile x.class)
+    (found_passes h x.number.value (λ y. is_volatile y.class) x once (row_found h i x once e)
+    (made_row x.number.value is_volatile h (has_more (is_volatile_made x.number.value) (is_made x.number.value is_volatile) (volatile_made x.number.value) h a))) v
+
+-- while nothing is decided or logged, a row that is marked may still vote, where its own connection isn't lost
+marked_votes : (p : ℕ → Plan) (h : List Entry) (i : ℕ) (x : Row) → IsUnowed p h → has is_decision h ≡ false → has is_logged h ≡ false → slice_get (rows h) i ≡ Some x → is_lost_wire (Enl x.number) h ≡ false
+    → is_marked x ≡ true → may_still_vote (observe h) x ≡ true
 unfolding observe
-marked_votes p h i x r u l e m = by_class (is_volatile x.class) refl
+marked_votes p h i x r u l e kept m = by_class (is_volatile x.class) refl
   where
     n : ℕ
     n = x.number.value
 
     got : is_volatile x.class ≡ false → has (is_got_on (Enl x.number) Down PREPARE) h ≡ true
     got v =
-        or_case (has (is_volatile_made n) h) (has (is_got_on (Enl x.number) Down PREPARE) h)
-        (λ a. absurd (not_both (is_volatile x.class)
-        (found_passes h n (λ y. is_volatile y.class) x r.once (row_found h i x r.once e) (made_row n is_volatile h (has_sub h a))) v)) (λ a. a)
+        or_case (has (is_volatile_made n) h) (has (is_got_on (Enl x.number) Down PREPARE) h) (λ a. absurd (lasting_made h i x r.once e v a)) (λ a. a)
         (prepare_got x.number h r.well
         (marked_asked n h (has-at (λ y. is_of n y && is_marked y) (rows h) i x e (and_both (n == n) (is_marked x) (eq_self n) m))))
-      where
-        has_sub : (h : List Entry) → has (is_volatile_made n) h ≡ true → has (is_made n is_volatile) h ≡ true
-        has_sub [] k = absurd cc
-        has_sub (y ∷ h) k =
-            or_case (is_volatile_made n y) (has (is_volatile_made n) h) (λ a. or_left (is_made n is_volatile y) (has (is_made n is_volatile) h) (volatile_made n y a))
-            (λ a. or_right (is_made n is_volatile y) (has (is_made n is_volatile) h) (has_sub h a)) k
 
     by_class : (b : Bool) → is_volatile x.class ≡ b
         → (if b then not (is_some (latest decision_of h)) else knows (Enl x.number) (ends_of h) && not (was_told (observe h) n)) ≡ true
     by_class true v = ap (λ d. not (is_some d)) (none_decided h u)
     by_class false v =
-        and_both (knows (Enl x.number) (ends_of h)) (not (was_told (observe h) n)) (knows_got (Enl x.number) Down PREPARE h r.fine.whole r.fine.run (got v))
+        and_both (knows (Enl x.number) (ends_of h)) (not (was_told (observe h) n)) (knows_got (Enl x.number) Down PREPARE h r.fine.wired (got v) (firm_unended (Enl x.number) Down h r.fine.wired (record { plain = refl; kept = kept })))
         (not_false (was_told (observe h) n)
         (false_from_ne_true (was_told (observe h) n) (λ k. not_both (has (is_told n) h) (told_seen n h k) (untold n h r.fine.unbad r.well u l))))
 
@@ -304,15 +273,19 @@ all_answered p h r g u l = each_from_at has_answered (rows h) (λ i x e. row i x
   where
     row : (i : ℕ) (x : Row) → slice_get (rows h) i ≡ Some x → (b : Bool) → is_gone (observe h) x.number.value ≡ b → has_answered x ≡ true
     row i x e true lost = or_right (not (is_marked x)) (has_voted x) (r.spared i x e lost).has_cast
-    row i x e false lost =
-        step (is_marked x) (has_voted x) (may_still_vote (observe h) x) (marked_votes p h i x r u l e)
-        (vote_unowed (p x.number.value) (owes_vote (observe h) x) (owes_promotion (observe h) x) (owes_outcome (observe h) x) (owes_request (observe h) x)
-        (note_of_conn (conn_due (observe h) x.number.value)) (g i x e).votes (row_unplanned p h i x r e lost))
+    row i x e false lost = by (is_lost_wire (Enl x.number) h) refl
       where
         step : (m v w : Bool) → (m ≡ true → w ≡ true) → (m && not v && w) ≡ false → (not m || v) ≡ true
         step true true w f k = refl
         step true false w f k = absurd (not_both w (f refl) k)
         step false v w f k = refl
+
+        by : (c : Bool) → is_lost_wire (Enl x.number) h ≡ c → has_answered x ≡ true
+        by true q = or_right (not (is_marked x)) (has_voted x) (r.carried i x e q).has_cast
+        by false q =
+            step (is_marked x) (has_voted x) (may_still_vote (observe h) x) (marked_votes p h i x r u l e q)
+            (vote_unowed (p x.number.value) (owes_vote (observe h) x) (owes_promotion (observe h) x) (owes_outcome (observe h) x) (owes_request (observe h) x)
+            (note_of_conn (conn_due (observe h) x.number.value)) (g i x e).votes (row_unplanned p h i x r e lost))
 
 pub all_voted : (p : ℕ → Plan) (h : List Entry) → IsUnowed p h → AreHeeded p h → has is_decision h ≡ false → has is_logged h ≡ false → (e : ℕ) → has (is_asked e) h ≡ true → has (is_vote e) h ≡ true
 all_voted p h r g u l e k = voted_cast e h (each_of (rows h) (all_answered p h r g u l) (asked_marked e h r.there k))
@@ -369,13 +342,27 @@ asked_row p q at h w k =
       asked = subst (λ n. has (q n) h ≡ true) (eqb-true e f.1.number.value (and_left (is_of e f.1) (is_promotable f.1.class) f.3)) one.1;
     }
 
--- a promotable isn't lost
+-- a promotable isn't volatile
 pub unvolatile : (c : Class) → is_volatile c ≡ true → is_promotable c ≡ true → ⊥
 unvolatile Promotable v k = absurd cc
 unvolatile c v k = absurd cc
 
-promotable_there : (p : ℕ → Plan) (h : List Entry) (i : ℕ) (x : Row) → IsUnowed p h → slice_get (rows h) i ≡ Some x → is_promotable x.class ≡ true → is_gone (observe h) x.number.value ≡ false
-promotable_there p h i x r e k = false_from_ne_true (is_gone (observe h) x.number.value) (λ g. unvolatile x.class (r.spared i x e g).of_volatile k)
+-- where a promotable has voted, COMMIT was sent
+cast_commits : (p : ℕ → Plan) (h : List Entry) (i : ℕ) (x : Row) → IsUnowed p h → slice_get (rows h) i ≡ Some x → is_promotable x.class ≡ true → has_voted x ≡ true → has (is_sent_on Begin Up COMMIT) h ≡ true
+cast_commits p h i x r e k v =
+    or_case (has (is_volatile_made n) h) (has (is_got_on (Enl x.number) Down PREPARE) h)
+    (λ a. absurd (lasting_made h i x r.once e (false_from_ne_true (is_volatile x.class) (λ w. unvolatile x.class w k)) a))
+    (λ a. once_sent Begin Up COMMIT h r.fine.wired.run (prepared_commit x.number h r.fine.wired.run r.ordered a))
+    (voted_prepared x.number h r.sound (voted_cast n h (has-at (λ y. is_of n y && has_voted y) (rows h) i x e (and_both (n == n) (has_voted x) (eq_self n) v))))
+  where
+    n : ℕ
+    n = x.number.value
+
+-- so it isn't lost before
+promotable_there : (p : ℕ → Plan) (h : List Entry) (i : ℕ) (x : Row) → IsUnowed p h → slice_get (rows h) i ≡ Some x → is_promotable x.class ≡ true → has (is_sent_on Begin Up COMMIT) h ≡ false
+    → is_gone (observe h) x.number.value ≡ false
+promotable_there p h i x r e k n =
+    false_from_ne_true (is_gone (observe h) x.number.value) (λ g. not_both (has (is_sent_on Begin Up COMMIT) h) (cast_commits p h i x r e k (r.spared i x e g).has_cast) n)
 
 -- what is still open is so by its reply alone
 open_still : (a b q d : Bool) → q ≡ true → d ≡ false → (a && not b && q && not d) ≡ false → (a && not b) ≡ false
@@ -390,10 +377,11 @@ done true true k n = refl
 done true false k n = absurd cc
 done false b k n = absurd cc
 
--- so a promotable that was asked to promote has replied
-pub promotion_replied : (p : ℕ → Plan) (h : List Entry) → IsUnowed p h → ArePromised p h → has is_decision h ≡ false → has is_ask_promote h ≡ true → has is_promote_reply h ≡ true
+-- so before COMMIT was sent a promotable that was asked to promote has replied
+pub promotion_replied : (p : ℕ → Plan) (h : List Entry) → IsUnowed p h → ArePromised p h → has is_decision h ≡ false → has (is_sent_on Begin Up COMMIT) h ≡ false → has is_ask_promote h ≡ true
+    → has is_promote_reply h ≡ true
 unfolding observe
-promotion_replied p h r g u k = by (asked_row is_ask_promote is_asked_to_promote at h r.well k)
+promotion_replied p h r g u unsent k = by (asked_row is_ask_promote is_asked_to_promote at h r.well k)
   where
     at : (x : Entry) (h : List Entry) → is_ask_promote x ≡ true → is_asked_well h x ≡ true → (e : ℕ) × (is_asked_to_promote e x ≡ true) × (has (is_made e is_promotable) h ≡ true)
     at (Asked e AskPromote) h k w = (e.value, eq_self e.value, w)
@@ -406,12 +394,13 @@ promotion_replied p h r g u k = by (asked_row is_ask_promote is_asked_to_promote
         done (has is_ask_promote h) (has is_promote_reply h) k
         (open_still (has is_ask_promote h) (has is_promote_reply h) (is_promotable x.class) (is_some (latest decision_of h)) a.promotable (ap is_some (none_decided h u))
         (promotion_unowed (p x.number.value) (owes_vote (observe h) x) (owes_promotion (observe h) x) (owes_outcome (observe h) x) (owes_request (observe h) x)
-        (note_of_conn (conn_due (observe h) x.number.value)) heeded.votes (heeded.promotes a.asked) (row_unplanned p h a.place x r a.stands (promotable_there p h a.place x r a.stands a.promotable))))
+        (note_of_conn (conn_due (observe h) x.number.value)) heeded.votes (heeded.promotes a.asked) (row_unplanned p h a.place x r a.stands (promotable_there p h a.place x r a.stands a.promotable unsent))))
 
 -- and one that was asked for its single phase has requested
 pub commit_requested : (p : ℕ → Plan) (h : List Entry) → IsUnowed p h → AreHeeded p h → has is_decision h ≡ false → has is_ask_single h ≡ true → has is_request h ≡ true
 unfolding observe
-commit_requested p h r g u k = by (asked_row is_ask_single is_asked_alone at h r.well k)
+commit_requested p h r g u k =
+    let a = asked_row is_ask_single is_asked_alone at h r.well k in true_from_ne_false (has is_request h) (λ n. not_both (has is_request h) (by a (unsent a n)) n)
   where
     at : (x : Entry) (h : List Entry) → is_ask_single x ≡ true → is_asked_well h x ≡ true → (e : ℕ) × (is_asked_alone e x ≡ true) × (has (is_made e is_promotable) h ≡ true)
     at (Asked e AskSingle) h k w = (e.value, eq_self e.value, w)
@@ -422,15 +411,21 @@ commit_requested p h r g u k = by (asked_row is_ask_single is_asked_alone at h r
     replied true false q d f = absurd (not_both false (f refl) refl)
     replied false b q d f = refl
 
-    by : IsAskedRow is_asked_alone h → has is_request h ≡ true
-    by a =
+    -- without a request COMMIT wasn't sent
+    unsent : IsAskedRow is_asked_alone h → has is_request h ≡ false → has (is_sent_on Begin Up COMMIT) h ≡ false
+    unsent a n =
+        false_from_ne_true (has (is_sent_on Begin Up COMMIT) h)
+        (λ q. not_both (has is_request h) (r.requests q (sym (has_rows (λ e c. is_promotable c) h) ∙ has-at (λ y. is_promotable y.class) (rows h) a.place a.row a.stands a.promotable)) n)
+
+    by : IsAskedRow is_asked_alone h → has (is_sent_on Begin Up COMMIT) h ≡ false → has is_request h ≡ true
+    by a early =
         let x = a.row in
         let heeded = g a.place x a.stands in
         done (has is_ask_single h) (has is_request h) k
         (open_still (has is_ask_single h) (has is_request h) (is_promotable x.class) (is_some (latest decision_of h)) a.promotable (ap is_some (none_decided h u))
         (request_unowed (p x.number.value) (owes_vote (observe h) x) (owes_promotion (observe h) x) (owes_outcome (observe h) x) (owes_request (observe h) x)
         (note_of_conn (conn_due (observe h) x.number.value)) heeded.votes
-        (replied (has is_ask_promote h) (has is_promote_reply h) (is_promotable x.class) (is_some (latest decision_of h)) (promotion_replied p h r (heeded_promised p h g) u)) (heeded.commits a.asked) (row_unplanned p h a.place x r a.stands (promotable_there p h a.place x r a.stands a.promotable))))
+        (replied (has is_ask_promote h) (has is_promote_reply h) (is_promotable x.class) (is_some (latest decision_of h)) (promotion_replied p h r (heeded_promised p h g) u early)) (heeded.commits a.asked) (row_unplanned p h a.place x r a.stands (promotable_there p h a.place x r a.stands a.promotable early))))
 
 -- The plan of one that is willing has each reply that is due of it.
 pub willing_heeded : (p : Plan) (h : List Entry) (x : Row) → is_willing p x.class ≡ true → IsHeeded p h x

@@ -1,4 +1,4 @@
--- After COMMIT, while nothing is logged, the coordinator has asked each enlistment of which it got ENLIST to prepare: so in each world that steps make.
+-- After COMMIT, while the coordinator has decided nothing, it has asked each enlistment of which it got ENLIST to prepare: so in each world that steps make.
 use Rattle.std.proofs.Common.{◌≡◌, ℕ, ◌==◌, Bool, true, false, ◌&&◌, ◌||◌, List, [], ◌∷◌, refl, ◌∙◌, ap, sym, subst}
 use Rattle.dtx_values.specs.declared.call.Call.{Call}
 use Rattle.dtx_values.specs.declared.entry.Entry.{Entry}
@@ -29,9 +29,10 @@ use Rattle.dtx_model.proofs.Quiet.{Quiet, is_quiet, q_act, q_appended, q_called,
 use Rattle.outcome_law.proofs.Scans.{has_more}
 use Rattle.outcome_law.proofs.Messages.{COMMIT, ENLIST, PREPARE}
 use Rattle.outcome_law.proofs.Rest.{is_ordered}
-use Rattle.outcome_law.proofs.Stages.{IsUnlogged, begin_got, stage_of, stage_seen, unlogged_before}
-use Rattle.outcome_law.proofs.Recorded.{commit_asks, is_prepare_to, not_up}
+use Rattle.outcome_law.proofs.Stages.{IsOpenThere, begin_got, stage_of, stage_seen, there_before}
+use Rattle.outcome_law.proofs.Recorded.{commit_asks, is_prepare_to}
 use Rattle.outcome_law.proofs.Desks.{desk_there, desks_known}
+use Rattle.outcome_law.proofs.Foregoing.{not_up}
 use Rattle.outcome_law.proofs.Crossed.{is_sent_on, is_got_on}
 
 abbrev pub IsPrepared : List Entry → Type 0
@@ -69,31 +70,42 @@ off_name : (a : Bool) → (a && true && false) ≡ false
 off_name true = refl
 off_name false = refl
 
--- before a block nothing was logged either
-unlogged_onto : (past es : List Entry) → IsUnlogged (onto past es) → IsUnlogged past
-unlogged_onto past [] u = u
-unlogged_onto past (x ∷ es) u = unlogged_before x past (unlogged_onto (x ∷ past) es u)
+-- before a block nothing was decided there either
+there_onto : (past es : List Entry) → IsOpenThere (onto past es) → IsOpenThere past
+there_onto past [] u = u
+there_onto past (x ∷ es) u = there_before x past (there_onto (x ∷ past) es u)
 
 -- the block of COMMIT
-commit_prepares : (id : ℕ) (h : List Entry) → IsUnlogged (onto (Got Begin Up BeginCommit ∷ h) (core_got id (coordinate h) Begin BeginCommit)) → Quiet (core_got id (coordinate h) Begin BeginCommit)
-    → IsPrepared (onto (Got Begin Up BeginCommit ∷ h) (core_got id (coordinate h) Begin BeginCommit))
-commit_prepares id h u q = λ c e k.
-    let block = core_got id (coordinate h) Begin BeginCommit in
-    let now = unlogged_onto (Got Begin Up BeginCommit ∷ h) block u in
-    let before = unlogged_before (Got Begin Up BeginCommit) h now in
-    let active : is_active (coordinate h).stage ≡ true = ap is_active (stage_seen h before) ∙ ap (λ b. is_active (stage_of b)) (begin_got COMMIT (Got Begin Up BeginCommit ∷ h) now.fine refl) in
-    let desk = desk_there e h before (sym (quiet_got (Enl e) Up ENLIST (Got Begin Up BeginCommit ∷ h) block q) ∙ k) in
-    has_more (is_prepare_to e.value) (is_sent_on (Enl e) Down PREPARE) (sent e) (onto (Got Begin Up BeginCommit ∷ h) block) (commit_asks id h e.value active (desks_known h before.fine) desk)
+commit_prepares : (id : ℕ) (h : List Entry) → IsOpenThere (onto (Got Begin Up BeginCommit ∷ h) (core_got id (coordinate h) Begin BeginCommit)) → Quiet (core_got id (coordinate h) Begin BeginCommit)
+    → IsPrepared h → IsPrepared (onto (Got Begin Up BeginCommit ∷ h) (core_got id (coordinate h) Begin BeginCommit))
+commit_prepares id h u q p = λ c e k.
+    by e (sym (quiet_got (Enl e) Up ENLIST (Got Begin Up BeginCommit ∷ h) (core_got id (coordinate h) Begin BeginCommit) q) ∙ k) (has (is_got_on Begin Up COMMIT) h) refl
   where
+    now : IsOpenThere (Got Begin Up BeginCommit ∷ h)
+    now = there_onto (Got Begin Up BeginCommit ∷ h) (core_got id (coordinate h) Begin BeginCommit) u
+
+    past : IsOpenThere h
+    past = there_before (Got Begin Up BeginCommit) h now
+
+    active : is_active (coordinate h).stage ≡ true
+    active = ap is_active (stage_seen h past) ∙ ap (λ b. is_active (stage_of b)) (begin_got COMMIT (Got Begin Up BeginCommit ∷ h) now.fine refl)
+
     sent : (e : EnlNo) (x : Entry) → is_prepare_to e.value x ≡ true → is_sent_on (Enl e) Down PREPARE x ≡ true
     sent e (Sent (Enl f) Down EnlistPrepare) k = rw k refl
     sent e x k = absurd cc
 
+    by : (e : EnlNo) → has (is_got_on (Enl e) Up ENLIST) h ≡ true → (b : Bool) → has (is_got_on Begin Up COMMIT) h ≡ b
+        → has (is_sent_on (Enl e) Down PREPARE) (onto (Got Begin Up BeginCommit ∷ h) (core_got id (coordinate h) Begin BeginCommit)) ≡ true
+    by e k true c = has_after (is_sent_on (Enl e) Down PREPARE) (Got Begin Up BeginCommit ∷ h) (core_got id (coordinate h) Begin BeginCommit) (p c e k)
+    by e k false c =
+        has_more (is_prepare_to e.value) (is_sent_on (Enl e) Down PREPARE) (sent e) (onto (Got Begin Up BeginCommit ∷ h) (core_got id (coordinate h) Begin BeginCommit))
+        (commit_asks id h e.value active (desks_known h past c) (desk_there e h past k))
+
 -- a message got by the coordinator
-got_prepares : (t : ℕ) (w : World) (c : Conn) (m : Message) → IsUnlogged (onto (Got c Up m ∷ w.past) (got_by t w c Up m)) → IsPrepared w.past → IsPrepared (onto (Got c Up m ∷ w.past) (got_by t w c Up m))
-got_prepares t w Begin BeginCommit u p = commit_prepares (identifier_of t) w.past u (q_got_by t w Begin Up BeginCommit)
+got_prepares : (t : ℕ) (w : World) (c : Conn) (m : Message) → IsOpenThere (onto (Got c Up m ∷ w.past) (got_by t w c Up m)) → IsPrepared w.past → IsPrepared (onto (Got c Up m ∷ w.past) (got_by t w c Up m))
+got_prepares t w Begin BeginCommit u p = commit_prepares (identifier_of t) w.past u (q_got_by t w Begin Up BeginCommit) p
 got_prepares t w (Enl f) (EnlistEnlist i) u p = λ c e k.
-    let now = unlogged_onto (Got (Enl f) Up (EnlistEnlist i) ∷ w.past) (got_by t w (Enl f) Up (EnlistEnlist i)) u in
+    let now = there_onto (Got (Enl f) Up (EnlistEnlist i) ∷ w.past) (got_by t w (Enl f) Up (EnlistEnlist i)) u in
     let early : has (is_got_on Begin Up COMMIT) w.past ≡ false = not_true (has (is_got_on Begin Up COMMIT) w.past) (and_left (not (has (is_got_on Begin Up COMMIT) w.past)) (always is_ordered w.past) now.ordered) in
     absurd
     (not_both (has (is_got_on Begin Up COMMIT) w.past)
@@ -101,14 +113,14 @@ got_prepares t w (Enl f) (EnlistEnlist i) u p = λ c e k.
 got_prepares t w (Enl f) m u p = head_keeps (Got (Enl f) Up m) w.past (got_by t w (Enl f) Up m) refl (λ e. off_name (e.value == f.value)) (q_got_by t w (Enl f) Up m) p
 got_prepares t w c m u p = head_keeps (Got c Up m) w.past (got_by t w c Up m) refl (λ e. refl) (q_got_by t w c Up m) p
 
-delivered_prepares : (t : ℕ) (w : World) (c : Conn) (d : Dir) (ms : List Message) → IsUnlogged (onto w.past (delivered t w c d ms)) → IsPrepared w.past → IsPrepared (onto w.past (delivered t w c d ms))
+delivered_prepares : (t : ℕ) (w : World) (c : Conn) (d : Dir) (ms : List Message) → IsOpenThere (onto w.past (delivered t w c d ms)) → IsPrepared w.past → IsPrepared (onto w.past (delivered t w c d ms))
 delivered_prepares t w c d [] u p = head_keeps (Ended c d) w.past (ended_at w c d) refl (λ e. refl) (q_ended_at w c d) p
 delivered_prepares t w c Up (m ∷ ms) u p = got_prepares t w c m u p
 delivered_prepares t w c Down (m ∷ ms) u p =
     head_keeps (Got c Down m) w.past (got_by t w c Down m) (not_up (same_connection Begin c) (COMMIT m)) (λ e. not_up (same_connection (Enl e) c) (ENLIST m)) (q_got_by t w c Down m) p
 
 -- after each step
-step_prepares : (t : ℕ) (w : World) (m : Step) → IsUnlogged (after t w m).past → IsPrepared w.past → IsPrepared (after t w m).past
+step_prepares : (t : ℕ) (w : World) (m : Step) → IsOpenThere (after t w m).past → IsPrepared w.past → IsPrepared (after t w m).past
 unfolding after block_at
 step_prepares t w (Calls n a c m) u p =
     head_keeps (Called n a (answer_at t w c m)) w.past (facts_if (has_facts (answer_at t w c m)) (facts_at t w c (answer_at t w c m))) refl (λ e. refl) (q_called t w c (answer_at t w c m)) p
@@ -120,11 +132,11 @@ step_prepares t w Stops u p = quiet_keeps w.past (Stopped ∷ []) (q_one Stopped
 step_prepares t w (Restarts found) u p = quiet_keeps w.past (restarted (core w).stopped found) (q_restarted (core w).stopped found) p
 
 -- so in each world that steps made
-pub ran_prepares : (G : ℕ → ActorNo → Call → Type 0) (t : ℕ) (ms : List Step) (w : World) → Ran G t ms w → IsUnlogged w.past → IsPrepared w.past
+pub ran_prepares : (G : ℕ → ActorNo → Call → Type 0) (t : ℕ) (ms : List Step) (w : World) → Ran G t ms w → IsOpenThere w.past → IsPrepared w.past
 unfolding after
 ran_prepares G t [] w r u = λ c e k. absurd (not_both (has (is_got_on Begin Up COMMIT) w.past) c (ap (has (is_got_on Begin Up COMMIT)) r.1))
 ran_prepares G t (m ∷ ms) w r u =
     let v = r.0 in
     let past : w.past ≡ onto v.past (block_at t v m) = ap (λ (x : World). x.past) r.3 in
-    let now = subst IsUnlogged past u in
-    subst IsPrepared (sym past) (step_prepares t v m now (ran_prepares G t ms v r.1 (unlogged_onto v.past (block_at t v m) now)))
+    let now = subst IsOpenThere past u in
+    subst IsPrepared (sym past) (step_prepares t v m now (ran_prepares G t ms v r.1 (there_onto v.past (block_at t v m) now)))

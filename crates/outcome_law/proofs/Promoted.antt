@@ -26,7 +26,10 @@ use Rattle.dtx_model.proofs.Connections.{same_is, same_self, same_way_is}
 use Rattle.outcome_law.proofs.Followed.{Demands, followed}
 use Rattle.outcome_law.proofs.Unblamed.{fine_before}
 use Rattle.outcome_law.proofs.Scans.{has_less}
-use Rattle.outcome_law.proofs.Rest.{is_after_start, IsQuiet}
+use Rattle.outcome_law.proofs.Rest.{is_after_start, is_ordered, is_sound, IsQuiet}
+use Rattle.outcome_law.proofs.Foregoing.{unpromoted_firm}
+use Rattle.outcome_law.proofs.Joined.{IsJoined}
+use Rattle.outcome_law.proofs.Wired.{IsFirm, is_plain}
 use Rattle.outcome_law.proofs.Crossed.{is_sent_on, is_got_on, got_sent}
 
 -- a history in which nothing is decided, and o is the handover of its promotion
@@ -58,7 +61,7 @@ sent_after_start c d p (Sent e r m ∷ h) b k = and_left (has is_promoting h) (a
 sent_after_start c d p (x ∷ h) b k = or_right (is_promoting x) (has is_promoting h) (sent_after_start c d p h (and_right (is_after_start h x) (always is_after_start h) b) k)
 
 got_after_start : (o : Option EnlNo) (c : Conn) (d : Dir) (m : Message) (h : List Entry) → IsRising o (Got c d m ∷ h) → has is_promoting h ≡ true
-got_after_start o c d m h r = sent_after_start c d (λ n. true) h r.later (got_sent c d m (λ n. true) h r.fine.run.0 refl)
+got_after_start o c d m h r = sent_after_start c d (λ n. true) h r.later (got_sent c d m (λ n. true) h r.fine.wired.run.0 refl)
 
 -- a bad message isn't sent
 good_of : (c e : Conn) (d r : Dir) (m : Message) (p q : Message → Bool) → ((m : Message) → p m ≡ true → is_bad_message m ≡ false → q m ≡ true) → is_bad_message m ≡ false
@@ -177,28 +180,33 @@ over_due e EnlistEnlisted past r k =
     }
 over_due e m past r k = absurd cc
 
--- what was got was answered by what is got
+-- what was got was answered by what is got, on a connection that is firm
 pub climb : (P : List Entry → Type 0) → ((x : Entry) (h : List Entry) → P (x ∷ h) → P h) → ((h : List Entry) → P h → IsFine h) → (c e : Conn) (d r : Dir) (p q : Message → Bool)
     → ((m : Message) (past : List Entry) → P (Got c d m ∷ past) → p m ≡ true → Demands P past (Got c d m) (is_sent_on e r q))
-    → (h : List Entry) → P h → IsQuiet h → has (is_got_on c d p) h ≡ true → has (is_got_on e r q) h ≡ true
-climb P closed fine c e d r p q due h g w k =
-    arrived e r q h (fine h g).whole (fine h g).run (w.empty e r) (followed P closed (is_got_on c d p) (is_sent_on e r q) (got_due P c d p (is_sent_on e r q) due) h g w.paid w.free k)
+    → (h : List Entry) → P h → IsFirm e h → IsQuiet h → has (is_got_on c d p) h ≡ true → has (is_got_on e r q) h ≡ true
+climb P closed fine c e d r p q due h g s w k =
+    arrived e r q h (fine h g).wired s (w.empty e r) (followed P closed (is_got_on c d p) (is_sent_on e r q) (got_due P c d p (is_sent_on e r q) due) h g w.paid w.free k)
 
 -- where BEGIN was sent and nothing is decided, a promotion is over
-pub promoted : (h : List Entry) → IsFine h → has is_decision h ≡ false → always is_after_start h ≡ true → IsQuiet h → has (is_sent_on Begin Up BEGIN) h ≡ true → has is_promoted h ≡ true
-promoted h f u b w s = true_from_ne_false (has is_promoted h) (λ n. last (handover h) (record { fine = f; undecided = u; unpromoted = n; later = b; start = λ p. refl }))
+pub promoted : (h : List Entry) → IsFine h → IsJoined h → has is_decision h ≡ false → always is_after_start h ≡ true → always is_sound h ≡ true → always is_ordered h ≡ true → IsQuiet h
+    → has (is_sent_on Begin Up BEGIN) h ≡ true → has is_promoted h ≡ true
+promoted h f j u l s o w k = true_from_ne_false (has is_promoted h) (λ n. last (handover h) (record { fine = f; undecided = u; unpromoted = n; later = l; start = λ p. refl }))
   where
-    rung : (o : Option EnlNo) → IsRising o h → (c e : Conn) (d r : Dir) (p q : Message → Bool)
-        → ((m : Message) (past : List Entry) → IsRising o (Got c d m ∷ past) → p m ≡ true → Demands (IsRising o) past (Got c d m) (is_sent_on e r q)) → has (is_got_on c d p) h ≡ true → has (is_got_on e r q) h ≡ true
-    rung o r c e d t p q due k = climb (IsRising o) (rising_before o) (λ h r. r.fine) c e d t p q due h r w k
+    firm : (o : Option EnlNo) → IsRising o h → (c : Conn) → is_plain c ≡ true → IsFirm c h
+    firm x r c p = unpromoted_firm h f.wired.run j s o r.unpromoted c p
 
-    begin : has (is_got_on Begin Up BEGIN) h ≡ true
-    begin = arrived Begin Up BEGIN h f.whole f.run (w.empty Begin Up) s
+    rung : (o : Option EnlNo) → IsRising o h → (c e : Conn) (d r : Dir) (p q : Message → Bool)
+        → ((m : Message) (past : List Entry) → IsRising o (Got c d m ∷ past) → p m ≡ true → Demands (IsRising o) past (Got c d m) (is_sent_on e r q)) → IsFirm e h → has (is_got_on c d p) h ≡ true
+        → has (is_got_on e r q) h ≡ true
+    rung o r c e d t p q due g k = climb (IsRising o) (rising_before o) (λ h r. r.fine) c e d t p q due h r g w k
+
+    begin : (o : Option EnlNo) → IsRising o h → has (is_got_on Begin Up BEGIN) h ≡ true
+    begin o r = arrived Begin Up BEGIN h f.wired (firm o r Begin refl) (w.empty Begin Up) k
 
     created : (o : Option EnlNo) → IsRising o h → has (is_got_on Voter Down CREATED) h ≡ true
     created o r =
-        rung o r Voter Voter Up Down VOTER CREATED (created_due o)
-        (rung o r Begin Voter Down Up BEGUN VOTER (voter_due o) (rung o r Begin Begin Up Down BEGIN BEGUN (begun_due o) begin))
+        rung o r Voter Voter Up Down VOTER CREATED (created_due o) (firm o r Voter refl)
+        (rung o r Begin Voter Down Up BEGUN VOTER (voter_due o) (firm o r Voter refl) (rung o r Begin Begin Up Down BEGIN BEGUN (begun_due o) (firm o r Begin refl) (begin o r)))
 
     next : (o : Option EnlNo) → IsRising o h → has (created_next o) h ≡ true
     next o r = followed (IsRising o) (rising_before o) (is_got_on Voter Down CREATED) (created_next o) (got_due (IsRising o) Voter Down CREATED (created_next o) (next_due o)) h r w.paid w.free (created o r)
@@ -206,8 +214,9 @@ promoted h f u b w s = true_from_ne_false (has is_promoted h) (λ n. last (hando
     last : (o : Option EnlNo) → IsRising o h → ⊥
     last None r = not_both (has is_promoted h) (next None r) r.unpromoted
     last (Some e) r =
-        let enlist : has (is_got_on (Enl e) Up ENLIST) h ≡ true = arrived (Enl e) Up ENLIST h f.whole f.run (w.empty (Enl e) Up) (next (Some e) r) in
-        let enlisted = rung (Some e) r (Enl e) (Enl e) Up Down ENLIST ENLISTED (enlisted_due (Some e) e) enlist in
+        let own = firm (Some e) r (Enl e) refl in
+        let enlist : has (is_got_on (Enl e) Up ENLIST) h ≡ true = arrived (Enl e) Up ENLIST h f.wired own (w.empty (Enl e) Up) (next (Some e) r) in
+        let enlisted = rung (Some e) r (Enl e) (Enl e) Up Down ENLIST ENLISTED (enlisted_due (Some e) e) own enlist in
         not_both (has is_promoted h)
         (followed (IsRising (Some e)) (rising_before (Some e)) (is_got_on (Enl e) Down ENLISTED) is_promoted (got_due (IsRising (Some e)) (Enl e) Down ENLISTED is_promoted (over_due e)) h r w.paid w.free enlisted)
         r.unpromoted

@@ -1,10 +1,9 @@
--- The coordinator's side: where COMMIT, YES and each vote were got and nothing is logged, it may log.
-use Rattle.std.proofs.Common.{◌≡◌, ℕ, ◌==◌, Bool, true, false, ◌&&◌, ◌||◌, List, [], ◌∷◌, ◌++◌, Some, None, refl, ◌∙◌, sym, subst, ap}
+-- The coordinator's side: where COMMIT, YES and each vote were got and it has decided nothing, it may log.
+use Rattle.std.proofs.Common.{◌≡◌, ℕ, ◌==◌, Bool, true, false, ◌&&◌, ◌||◌, List, [], ◌∷◌, ◌++◌, Some, None, refl, ◌∙◌, sym, ap}
 use Rattle.std.specs.Prelude.{not, map, if◌then◌else◌}
 use Rattle.std.proofs.lemmas.Bool.{eq-eqb, eqb-true, or_left, false_from_ne_true}
 use Rattle.dtx_values.specs.declared.entry.Entry.{Entry}
-use Rattle.dtx_values.specs.declared.entry.Entry.TheVariants.{Sent, Got, Stopped, Restarted}
-use Rattle.dtx_values.specs.declared.message.Conn.{Conn}
+use Rattle.dtx_values.specs.declared.entry.Entry.TheVariants.{Sent, Got, Restarted}
 use Rattle.dtx_values.specs.declared.message.Conn.TheVariants.{Begin, Voter, Enl, Again}
 use Rattle.dtx_values.specs.declared.message.Dir.TheVariants.{Up, Down}
 use Rattle.dtx_values.specs.declared.message.Message.{Message}
@@ -22,15 +21,14 @@ use Rattle.dtx_model.specs.Coordinated.{accepts, Coordinated, coordinate, core_g
 use Rattle.dtx_model.proofs.Bools.{and_left, and_right, and_both, or_case, or_right, not_true, not_both}
 use Rattle.outcome_law.proofs.Lists.{each-insert}
 use Rattle.outcome_law.proofs.Scans.{each_more}
-use Rattle.outcome_law.proofs.Messages.{COMMIT, ENLIST, PREPARE, VOTED, YES}
+use Rattle.outcome_law.proofs.Messages.{COMMIT, ENLIST, VOTED, YES}
 use Rattle.outcome_law.proofs.Fine.{IsFine}
 use Rattle.outcome_law.proofs.Rest.{is_ordered}
-use Rattle.outcome_law.proofs.Arrived.{newest}
-use Rattle.dtx_model.proofs.Connections.{same_is}
-use Rattle.outcome_law.proofs.Openings.{once_sent}
-use Rattle.outcome_law.proofs.Stages.{IsUnlogged, active_at, begin_got, earlier, stage_of, stage_seen, unlogged_before}
-use Rattle.outcome_law.proofs.Unblamed.{fine_before}
-use Rattle.outcome_law.proofs.Crossed.{is_sent_on, is_got_on}
+use Rattle.outcome_law.proofs.Wired.{newest, unstopped}
+use Rattle.outcome_law.proofs.CoreStages.{stopped_same}
+use Rattle.outcome_law.proofs.Foregoing.{not_up, voted_commit}
+use Rattle.outcome_law.proofs.Stages.{IsOpenThere, active_at, begin_got, stage_of, stage_seen, there_before}
+use Rattle.outcome_law.proofs.Crossed.{is_got_on}
 
 -- PREPARE is sent to this enlistment
 abbrev pub is_prepare_to : ℕ → Entry → Bool
@@ -68,27 +66,23 @@ commit_asks id h e a n d =
     (rw a (has_second (is_prepare_to e) (to (coordinate h) Voter VoterAsk) (to_each (coordinate h) EnlistPrepare (coordinate h).desks) (each_prepared (coordinate h) e (coordinate h).desks n d)))
 
 -- COMMIT and YES are noted
-pub commit_seen : (h : List Entry) → IsUnlogged h → has (is_got_on Begin Up COMMIT) h ≡ true → (coordinate h).commit ≡ true
+pub commit_seen : (h : List Entry) → IsOpenThere h → has (is_got_on Begin Up COMMIT) h ≡ true → (coordinate h).commit ≡ true
 unfolding coordinate follow
 commit_seen [] r k = absurd cc
 commit_seen (Got Begin Up BeginCommit ∷ h) r k =
-    let active : is_active (coordinate h).stage ≡ true = ap is_active (stage_seen h (unlogged_before (Got Begin Up BeginCommit) h r)) ∙ ap (λ b. is_active (stage_of b)) (begin_got COMMIT (Got Begin Up BeginCommit ∷ h) r.fine k) in
+    let active : is_active (coordinate h).stage ≡ true = ap is_active (stage_seen h (there_before (Got Begin Up BeginCommit) h r)) ∙ ap (λ b. is_active (stage_of b)) (begin_got COMMIT (Got Begin Up BeginCommit ∷ h) r.fine k) in
     or_left (is_active (coordinate h).stage) (coordinate h).commit active
-commit_seen (x ∷ h) r k = or_right (is_commit_got x && is_active (coordinate h).stage) (coordinate h).commit (commit_seen h (unlogged_before x h r) k)
+commit_seen (x ∷ h) r k = or_right (is_commit_got x && is_active (coordinate h).stage) (coordinate h).commit (commit_seen h (there_before x h r) k)
 
-pub yes_seen : (h : List Entry) → IsUnlogged h → has (is_got_on Voter Up YES) h ≡ true → (coordinate h).yes ≡ true
+pub yes_seen : (h : List Entry) → IsOpenThere h → has (is_got_on Voter Up YES) h ≡ true → (coordinate h).yes ≡ true
 unfolding coordinate follow
 yes_seen [] r k = absurd cc
-yes_seen (Got Voter Up VoterYes ∷ h) r k = or_left (is_active (coordinate h).stage) (coordinate h).yes (active_at Voter VoterYes h refl (unlogged_before (Got Voter Up VoterYes) h r) r.fine.run.0)
-yes_seen (x ∷ h) r k = or_right (is_yes_got x && is_active (coordinate h).stage) (coordinate h).yes (yes_seen h (unlogged_before x h r) k)
+yes_seen (Got Voter Up VoterYes ∷ h) r k = or_left (is_active (coordinate h).stage) (coordinate h).yes (active_at Voter VoterYes h refl (there_before (Got Voter Up VoterYes) h r) r.fine.wired.run.0)
+yes_seen (x ∷ h) r k = or_right (is_yes_got x && is_active (coordinate h).stage) (coordinate h).yes (yes_seen h (there_before x h r) k)
 
--- it never stands stopped
+-- it doesn't stand stopped
 running : (h : List Entry) → IsFine h → (coordinate h).stopped ≡ false
-unfolding coordinate follow
-running [] f = refl
-running (Stopped ∷ h) f = absurd cc
-running (Restarted b ∷ h) f = refl
-running (x ∷ h) f = running h (fine_before x h f)
+running h f = stopped_same h ∙ unstopped h f.wired.unstopped
 
 -- Each desk's ENLIST was got, and it is ready where its vote was got.
 abbrev pub desk_seen : List Entry → Desk → Bool
@@ -111,10 +105,6 @@ no_vote true true = refl
 no_vote true false = refl
 no_vote false b = refl
 
-pub not_up : (a b : Bool) → (a && false && b) ≡ false
-not_up true b = refl
-not_up false b = refl
-
 pub each_changed : (p q : Desk → Bool) (f : Desk → Desk) → ((d : Desk) → p d ≡ true → q (f d) ≡ true) → (ds : List Desk) → each p ds ≡ true → each q (map f ds) ≡ true
 each_changed p q f sub [] k = refl
 each_changed p q f sub (d ∷ ds) k = and_both (q (f d)) (each q (map f ds)) (sub d (and_left (p d) (each p ds) k)) (each_changed p q f sub ds (and_right (p d) (each p ds) k))
@@ -122,39 +112,10 @@ each_changed p q f sub (d ∷ ds) k = and_both (q (f d)) (each q (map f ds)) (su
 pub each_inserted : (p : Desk → Bool) (x : Desk) (ds : List Desk) → p x ≡ true → each p ds ≡ true → each p (insert_by desk_number x ds) ≡ true
 each_inserted p x ds a k = each-insert p desk_number x ds ∙ and_both (p x) (each p ds) a k
 
--- no vote was got of one whose ENLIST comes
-unvoted : (e : EnlNo) (h : List Entry) → IsUnlogged h → has (is_got_on Begin Up COMMIT) h ≡ false → has (is_got_on (Enl e) Up VOTED) h ≡ false
+-- no vote was got before COMMIT
+pub unvoted : (e : EnlNo) (h : List Entry) → IsOpenThere h → has (is_got_on Begin Up COMMIT) h ≡ false → has (is_got_on (Enl e) Up VOTED) h ≡ false
 unvoted e h r n =
-    false_from_ne_true (has (is_got_on (Enl e) Up VOTED) h)
-    (λ k. not_both (has (is_got_on Begin Up COMMIT) h)
-    (asked (once_sent (Enl e) Down PREPARE h r.fine.run (prepared (once_sent (Enl e) Up VOTED h r.fine.run k)))) n)
-  where
-    prepared : has (is_sent_on (Enl e) Up VOTED) h ≡ true → has (is_got_on (Enl e) Down PREPARE) h ≡ true
-    prepared k = earlier is_ordered (is_sent_on (Enl e) Up VOTED) (λ h. has (is_got_on (Enl e) Down PREPARE) h) (λ x h q. or_right (is_got_on (Enl e) Down PREPARE x) (has (is_got_on (Enl e) Down PREPARE) h) q) (at e) h r.ordered k
-      where
-        at : (e : EnlNo) (x : Entry) (h : List Entry) → is_ordered h x ≡ true → is_sent_on (Enl e) Up VOTED x ≡ true → has (is_got_on (Enl e) Down PREPARE) h ≡ true
-        at e (Sent (Enl f) Up m) h s k =
-            let P : Conn → Type 0 = λ c. has (is_got_on c Down PREPARE) h ≡ true in
-            subst P (sym (same_is (Enl e) (Enl f) (and_left (e.value == f.value) true (and_left ((e.value == f.value) && true) (VOTED m) k)))) (by_message f m h s (and_right ((e.value == f.value) && true) (VOTED m) k))
-          where
-            by_message : (f : EnlNo) (m : Message) (h : List Entry) → is_ordered h (Sent (Enl f) Up m) ≡ true → VOTED m ≡ true → has (is_got_on (Enl f) Down PREPARE) h ≡ true
-            by_message f EnlistPrepared h s k = s
-            by_message f EnlistReadonly h s k = s
-            by_message f m h s k = absurd cc
-        at e (Sent (Enl f) Down m) h s k = absurd (not_both ((e.value == f.value) && false && VOTED m) k (not_up (e.value == f.value) (VOTED m)))
-        at e x h s k = absurd cc
-
-    asked : has (is_sent_on (Enl e) Down PREPARE) h ≡ true → has (is_got_on Begin Up COMMIT) h ≡ true
-    asked k = earlier is_ordered (is_sent_on (Enl e) Down PREPARE) (λ h. has (is_got_on Begin Up COMMIT) h) (λ x h q. or_right (is_got_on Begin Up COMMIT x) (has (is_got_on Begin Up COMMIT) h) q) (at e) h r.ordered k
-      where
-        at : (e : EnlNo) (x : Entry) (h : List Entry) → is_ordered h x ≡ true → is_sent_on (Enl e) Down PREPARE x ≡ true → has (is_got_on Begin Up COMMIT) h ≡ true
-        at e (Sent (Enl f) Down m) h s k = by_message f m h s (and_right ((e.value == f.value) && true) (PREPARE m) k)
-          where
-            by_message : (f : EnlNo) (m : Message) (h : List Entry) → is_ordered h (Sent (Enl f) Down m) ≡ true → PREPARE m ≡ true → has (is_got_on Begin Up COMMIT) h ≡ true
-            by_message f EnlistPrepare h s k = s
-            by_message f m h s k = absurd cc
-        at e (Sent (Enl f) Up m) h s k = absurd (not_both ((e.value == f.value) && false && PREPARE m) k (not_up (e.value == f.value) (PREPARE m)))
-        at e x h s k = absurd cc
+    false_from_ne_true (has (is_got_on (Enl e) Up VOTED) h) (λ k. not_both (has (is_got_on Begin Up COMMIT) h) (voted_commit e h r.fine.wired.run r.ordered k) n)
 
 -- a vote is noted at its desk
 voted_desk : (e : EnlNo) (b : Ballot) (m : Message) (h : List Entry) (d : Desk) → is_ready (Some b) ≡ true → VOTED m ≡ true → desk_seen h d ≡ true → desk_seen (Got (Enl e) Up m ∷ h) (with_ballot e.value (Some b) d) ≡ true
@@ -172,12 +133,12 @@ voted_desk e b m h d r v k = step (is_desk_of e.value d) refl
         other true p = absurd (not_both (e.value == d.enlistment.value) (eq-eqb e.value d.enlistment.value (sym (eqb-true d.enlistment.value e.value p))) q)
         other false p = refl
 
-pub desks_seen : (h : List Entry) → IsUnlogged h → each (desk_seen h) (coordinate h).desks ≡ true
+pub desks_seen : (h : List Entry) → IsOpenThere h → each (desk_seen h) (coordinate h).desks ≡ true
 unfolding coordinate follow
 desks_seen [] r = refl
 desks_seen (Got (Enl e) Up (EnlistEnlist i) ∷ h) r =
     let x = Got (Enl e) Up (EnlistEnlist i) in
-    let before = unlogged_before x h r in
+    let before = there_before x h r in
     let old = each_more (desk_seen h) (desk_seen (x ∷ h)) (λ d k. stays_seen x h d (no_vote (d.enlistment.value == e.value) true) k) (coordinate h).desks (desks_seen h before) in
     let early : has (is_got_on Begin Up COMMIT) h ≡ false = not_true (has (is_got_on Begin Up COMMIT) h) (and_left (not (has (is_got_on Begin Up COMMIT) h)) (always is_ordered h) r.ordered) in
     step (accepts (coordinate h)) old
@@ -194,29 +155,29 @@ desks_seen (Got (Enl e) Up (EnlistEnlist i) ∷ h) r =
     new true q = absurd cc
     new false q = rw (eq-eqb e.value e.value refl) refl
 desks_seen (Got (Enl e) Up EnlistPrepared ∷ h) r =
-    rw (active_at (Enl e) EnlistPrepared h refl (unlogged_before (Got (Enl e) Up EnlistPrepared) h r) r.fine.run.0)
+    rw (active_at (Enl e) EnlistPrepared h refl (there_before (Got (Enl e) Up EnlistPrepared) h r) r.fine.wired.run.0)
     (each_changed (desk_seen h) (desk_seen (Got (Enl e) Up EnlistPrepared ∷ h)) (with_ballot e.value (Some Prepared)) (λ d k. voted_desk e Prepared EnlistPrepared h d refl refl k) (coordinate h).desks
-    (desks_seen h (unlogged_before (Got (Enl e) Up EnlistPrepared) h r)))
+    (desks_seen h (there_before (Got (Enl e) Up EnlistPrepared) h r)))
 desks_seen (Got (Enl e) Up EnlistReadonly ∷ h) r =
-    rw (active_at (Enl e) EnlistReadonly h refl (unlogged_before (Got (Enl e) Up EnlistReadonly) h r) r.fine.run.0)
+    rw (active_at (Enl e) EnlistReadonly h refl (there_before (Got (Enl e) Up EnlistReadonly) h r) r.fine.wired.run.0)
     (each_changed (desk_seen h) (desk_seen (Got (Enl e) Up EnlistReadonly ∷ h)) (with_ballot e.value (Some ReadOnly)) (λ d k. voted_desk e ReadOnly EnlistReadonly h d refl refl k) (coordinate h).desks
-    (desks_seen h (unlogged_before (Got (Enl e) Up EnlistReadonly) h r)))
+    (desks_seen h (there_before (Got (Enl e) Up EnlistReadonly) h r)))
 desks_seen (Got (Enl e) Up EnlistNo ∷ h) r = absurd cc
 desks_seen (Got (Enl e) Up EnlistAck ∷ h) r =
     each_changed (desk_seen h) (desk_seen (Got (Enl e) Up EnlistAck ∷ h)) (with_ack e.value) (λ d k. stays_seen (Got (Enl e) Up EnlistAck) h d (no_vote (d.enlistment.value == e.value) true) k) (coordinate h).desks
-    (desks_seen h (unlogged_before (Got (Enl e) Up EnlistAck) h r))
+    (desks_seen h (there_before (Got (Enl e) Up EnlistAck) h r))
 desks_seen (Got (Again e) Up ReenlistAck ∷ h) r =
     each_changed (desk_seen h) (desk_seen (Got (Again e) Up ReenlistAck ∷ h)) (with_ack e.value) (λ d k. stays_seen (Got (Again e) Up ReenlistAck) h d refl k) (coordinate h).desks
-    (desks_seen h (unlogged_before (Got (Again e) Up ReenlistAck) h r))
-desks_seen (Got (Enl e) Up m ∷ h) r = absurd (not_both (has_line (Enl e) Up m) (newest (Got (Enl e) Up m) h r.fine.whole) refl)
+    (desks_seen h (there_before (Got (Again e) Up ReenlistAck) h r))
+desks_seen (Got (Enl e) Up m ∷ h) r = absurd (not_both (has_line (Enl e) Up m) (newest (Got (Enl e) Up m) h r.fine.wired) refl)
 desks_seen (Got (Enl e) Down m ∷ h) r =
     each_more (desk_seen h) (desk_seen (Got (Enl e) Down m ∷ h)) (λ d k. stays_seen (Got (Enl e) Down m) h d (not_up (d.enlistment.value == e.value) (VOTED m)) k) (coordinate h).desks
-    (desks_seen h (unlogged_before (Got (Enl e) Down m) h r))
+    (desks_seen h (there_before (Got (Enl e) Down m) h r))
 desks_seen (Restarted b ∷ h) r = absurd cc
-desks_seen (x ∷ h) r = each_more (desk_seen h) (desk_seen (x ∷ h)) (λ d k. stays_seen x h d refl k) (coordinate h).desks (desks_seen h (unlogged_before x h r))
+desks_seen (x ∷ h) r = each_more (desk_seen h) (desk_seen (x ∷ h)) (λ d k. stays_seen x h d refl k) (coordinate h).desks (desks_seen h (there_before x h r))
 
--- where COMMIT, YES and the vote of each ENLIST were got and nothing is logged, the append is pending
-pub may_append : (h : List Entry) → IsUnlogged h → has (is_got_on Begin Up COMMIT) h ≡ true → has (is_got_on Voter Up YES) h ≡ true
+-- where COMMIT, YES and the vote of each ENLIST were got and nothing is decided, the append is pending
+pub may_append : (h : List Entry) → IsOpenThere h → has (is_got_on Begin Up COMMIT) h ≡ true → has (is_got_on Voter Up YES) h ≡ true
     → ((e : EnlNo) → has (is_got_on (Enl e) Up ENLIST) h ≡ true → has (is_got_on (Enl e) Up VOTED) h ≡ true) → may_log (coordinate h) ≡ true
 unfolding may_log
 may_append h r commit answer votes =

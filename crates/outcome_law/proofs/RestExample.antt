@@ -20,7 +20,6 @@ use Rattle.dtx_model.specs.Caused.{entered_in}
 use Rattle.dtx_model.proofs.Cast.{a1, id1, says, t1}
 use Rattle.dtx_model.proofs.Computing.{model}
 use Rattle.outcome_law.proofs.Rest.{IsAtRest}
-use Rattle.outcome_law.proofs.Promotions.{IsTabled}
 
 abbrev lines : List Line
 lines = says a1 (BeginLine t1 Default) ∷ says a1 (MarshalLine t1) ∷ says a1 (CommitLine t1) ∷ []
@@ -48,8 +47,11 @@ marshalled_rests = record {
   unmoved =
       record {
         fine = λ d. absurd cc;
+        joined = λ d. absurd cc;
         later = refl;
         sound = refl;
+        ordered = refl;
+        stood = λ e k. absurd cc;
         paying = refl;
         free = refl;
         waits = λ k. refl;
@@ -59,7 +61,6 @@ marshalled_rests = record {
         replied = λ u n a. absurd cc;
         started = refl;
       };
-  ordered = refl;
   begun = refl;
   zeros = λ k. refl;
   closed = refl;
@@ -71,8 +72,3 @@ marshalled_rests = record {
   requested = λ u a. absurd cc;
   asked = refl;
 }
-
--- and it keeps the table of rules
-marshalled_tabled : IsTabled (past_of marshalled)
-unfolding model
-marshalled_tabled = record { opened = refl; caused = refl; later = refl; sound = refl; ordered = refl; begun = refl; recorded = refl; placed = λ e. refl; there = refl; well = refl; shut = refl }

@@ -60,7 +60,7 @@ use Rattle.outcome_law.proofs.Upward.{IsComing, none_coming, none_waits, step_co
 use Rattle.outcome_law.proofs.QuietBlocks.{ActKind, act_kind, is_quiet, q_called, q_commit_sent, q_coordinates, q_core_got, q_ended_at, q_local_got, q_reply}
 use Rattle.dtx_model.proofs.Quiet.{takes_next}
 use Rattle.outcome_law.proofs.Handing.{keeps_within}
-use Rattle.outcome_law.proofs.Recorded.{not_up}
+use Rattle.outcome_law.proofs.Foregoing.{not_up}
 use Rattle.dtx_model.proofs.Connections.{same_is}
 
 -- whose ENLISTED was got stands, while nothing is decided

@@ -117,7 +117,7 @@ yes_of : (m : Message) (h : List Entry) → Keeps h → YES m ≡ true → has_l
 yes_of VoterYes h k t l r = r
 yes_of _ h k t l r = absurd cc
 
-yes_got_on : (x : Entry) → is_yes_got x ≡ true → is_got_on Voter Up YES x ≡ true
+pub yes_got_on : (x : Entry) → is_yes_got x ≡ true → is_got_on Voter Up YES x ≡ true
 yes_got_on (Got Voter Up VoterYes) t = refl
 yes_got_on _ t = absurd cc
 

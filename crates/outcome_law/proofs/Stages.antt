@@ -1,32 +1,31 @@
--- The coordinator is active from BEGIN on, where nothing bad came and nothing is logged; and what the table says of what stands before an entry.
+-- The coordinator is active from BEGIN on, where it has decided nothing; and what the table says of what stands before an entry.
 use Rattle.std.proofs.Common.{◌≡◌, Bool, true, false, ◌&&◌, List, [], ◌∷◌, refl, ◌∙◌, sym, subst, ap}
-use Rattle.std.specs.Prelude.{not}
 use Rattle.dtx_values.specs.declared.entry.Entry.{Entry}
-use Rattle.dtx_values.specs.declared.entry.Entry.TheVariants.{Sent, Got, Down as End, Logged, LogFull, Freed, Restarted}
+use Rattle.dtx_values.specs.declared.entry.Entry.TheVariants.{Sent, Got, Logged, Freed, Restarted}
 use Rattle.dtx_values.specs.declared.message.Conn.{Conn}
 use Rattle.dtx_values.specs.declared.message.Conn.TheVariants.{Begin, Voter, Enl}
 use Rattle.dtx_values.specs.declared.message.Dir.TheVariants.{Up, Down}
 use Rattle.dtx_values.specs.declared.message.Message.{Message}
-use Rattle.dtx_values.specs.declared.message.Message.TheVariants.{BeginBegin, BeginAbort, VoterNo, EnlistNo}
+use Rattle.dtx_values.specs.declared.message.Message.TheVariants.{BeginBegin}
 use Rattle.dtx_values.specs.Ends.{same_connection}
-use Rattle.dtx_values.specs.Lines.{has_line, is_opening}
+use Rattle.dtx_values.specs.Lines.{is_opening}
 use Rattle.dtx_model.specs.declared.desk.Stage.{Stage}
 use Rattle.dtx_model.specs.declared.desk.Stage.TheVariants.{Active, Idle}
 use Rattle.dtx_model.specs.Words.{has, always}
 use Rattle.dtx_model.specs.Entries.{is_record}
 use Rattle.dtx_model.specs.Tied.{is_logged}
 use Rattle.dtx_model.specs.Wires.{is_next, in_transit}
-use Rattle.dtx_model.specs.Coordinated.{Coordinated, abort_if, aborts, begin_if, coordinate, follow, is_active, is_early}
-use Rattle.dtx_model.proofs.Bools.{and_left, and_right, or_case, or_second, or_right, not_both}
-use Rattle.outcome_law.proofs.Scans.{has_more}
+use Rattle.dtx_model.specs.Coordinated.{abort_if, aborts, begin_if, coordinate, follow, is_active, is_undecided}
+use Rattle.dtx_model.proofs.Bools.{and_left, and_right, or_case, or_second, or_right}
+use Rattle.outcome_law.proofs.Scans.{has_less, has_more}
 use Rattle.outcome_law.proofs.Messages.{BEGIN, BEGUN}
 use Rattle.outcome_law.proofs.Fine.{IsFine, is_restart}
 use Rattle.outcome_law.proofs.Rest.{is_sound, is_ordered, is_begun}
-use Rattle.outcome_law.proofs.Arrived.{newest}
 use Rattle.dtx_model.proofs.Connections.{same_is}
 use Rattle.outcome_law.proofs.Openings.{once_sent, opening_first}
-use Rattle.outcome_law.proofs.Unblamed.{fine_before, unrestarted}
+use Rattle.outcome_law.proofs.Unblamed.{fine_before}
 use Rattle.outcome_law.proofs.CoreKnown.{is_work}
+use Rattle.outcome_law.proofs.CoreStages.{open_before, open_unrecorded, restart_open}
 use Rattle.outcome_law.proofs.Crossed.{is_sent_on, is_got_on, got_sent}
 
 -- where something that passes p stands, Q holds, if by the row it holds before each such entry, and stays
@@ -51,22 +50,31 @@ sent_known c p h s k = earlier is_sound (is_sent_on c Down p) (λ h. has (is_got
         never false b k = absurd cc
     at c p x h s k = absurd cc
 
--- a history in which nothing is logged
-pub record IsUnlogged (h : List Entry) : Type 0 where
+-- a history in which nothing bad came and nothing is decided at the coordinator
+pub record IsOpenThere (h : List Entry) : Type 0 where
   pub fine : IsFine h
   pub sound : always is_sound h ≡ true
   pub ordered : always is_ordered h ≡ true
   pub begun : always is_begun h ≡ true
-  pub unlogged : has is_logged h ≡ false
+  pub undecided : is_undecided (coordinate h).stage ≡ true
 
-pub unlogged_before : (x : Entry) (h : List Entry) → IsUnlogged (x ∷ h) → IsUnlogged h
-unlogged_before x h r = record {
+pub there_before : (x : Entry) (h : List Entry) → IsOpenThere (x ∷ h) → IsOpenThere h
+unfolding coordinate follow
+there_before x h r = record {
   fine = fine_before x h r.fine;
   sound = and_right (is_sound h x) (always is_sound h) r.sound;
   ordered = and_right (is_ordered h x) (always is_ordered h) r.ordered;
   begun = and_right (is_begun h x) (always is_begun h) r.begun;
-  unlogged = or_second (is_logged x) (has is_logged h) r.unlogged;
+  undecided = open_before (coordinate h) x r.undecided;
 }
+
+-- so nothing is logged
+logged_recorded : (x : Entry) → is_logged x ≡ true → is_record x ≡ true
+logged_recorded Logged k = refl
+logged_recorded _ k = absurd cc
+
+pub open_unlogged : (h : List Entry) → is_undecided (coordinate h).stage ≡ true → has is_logged h ≡ false
+open_unlogged h u = has_less is_logged is_record logged_recorded h (open_unrecorded h u)
 
 -- without a restart, a record was logged
 pub record_logged : (h : List Entry) → has is_restart h ≡ false → has is_record h ≡ true → has is_logged h ≡ true
@@ -75,42 +83,30 @@ record_logged (Logged ∷ h) u k = refl
 record_logged (Restarted found ∷ h) u k = absurd cc
 record_logged (x ∷ h) u k = or_right (is_logged x) (has is_logged h) (record_logged h (or_second (is_restart x) (has is_restart h) u) k)
 
--- the newest entry is no cause of an abort
-unaborted : (k : Coordinated) (x : Entry) (h : List Entry) → IsFine (x ∷ h) → aborts k x ≡ false
-unaborted k (Got Begin Up BeginAbort) h f = absurd cc
-unaborted k (Got Voter Up VoterNo) h f = absurd cc
-unaborted k (Got (Enl e) Up EnlistNo) h f = absurd cc
-unaborted k (Got c Up m) h f = lined (has_line c Up m) (is_early k c) (newest (Got c Up m) h f.whole)
-  where
-    lined : (b v : Bool) → b ≡ true → (not b && v) ≡ false
-    lined true v l = refl
-    lined false v l = absurd cc
-unaborted k (End c d) h f = absurd cc
-unaborted k LogFull h f = absurd cc
-unaborted k x h f = refl
-
 -- it is active from BEGIN on
 abbrev pub stage_of : Bool → Stage
 stage_of true = Active
 stage_of false = Idle
 
-still : (b : Bool) (s t : Stage) → b ≡ false → s ≡ t → abort_if b s ≡ t
-still true s t k e = absurd cc
-still false s t k e = e
+still : (b : Bool) (s t : Stage) → is_undecided (abort_if b s) ≡ true → s ≡ t → abort_if b s ≡ t
+still true Idle t u e = absurd cc
+still true Active t u e = absurd cc
+still true _ t u e = e
+still false s t u e = e
 
-pub stage_seen : (h : List Entry) → IsUnlogged h → (coordinate h).stage ≡ stage_of (has (is_got_on Begin Up BEGIN) h)
+pub stage_seen : (h : List Entry) → IsOpenThere h → (coordinate h).stage ≡ stage_of (has (is_got_on Begin Up BEGIN) h)
 unfolding coordinate follow
 stage_seen [] r = refl
-stage_seen (Got Begin Up BeginBegin ∷ h) r = active (coordinate h).stage (has (is_got_on Begin Up BEGIN) h) (stage_seen h (unlogged_before (Got Begin Up BeginBegin) h r))
+stage_seen (Got Begin Up BeginBegin ∷ h) r = active (coordinate h).stage (has (is_got_on Begin Up BEGIN) h) (stage_seen h (there_before (Got Begin Up BeginBegin) h r))
   where
     active : (s : Stage) (b : Bool) → s ≡ stage_of b → begin_if s ≡ Active
     active s true e = ap begin_if e
     active s false e = ap begin_if e
-stage_seen (Logged ∷ h) r = absurd cc
-stage_seen (Freed ∷ h) r = absurd (not_both (has is_logged h) (record_logged h (unrestarted h (fine_before Freed h r.fine).unbad) (and_left (has is_record h) (always is_ordered h) r.ordered)) r.unlogged)
-stage_seen (Restarted b ∷ h) r = absurd cc
+stage_seen (Logged ∷ h) r = let q : false ≡ true = r.undecided in absurd cc
+stage_seen (Freed ∷ h) r = let q : false ≡ true = r.undecided in absurd cc
+stage_seen (Restarted b ∷ h) r = absurd (restart_open b (coordinate h).stage r.undecided)
 stage_seen (x ∷ h) r =
-    still (aborts (coordinate h) x) (coordinate h).stage (stage_of (has (is_got_on Begin Up BEGIN) h)) (unaborted (coordinate h) x h r.fine) (stage_seen h (unlogged_before x h r))
+    still (aborts (coordinate h) x) (coordinate h).stage (stage_of (has (is_got_on Begin Up BEGIN) h)) r.undecided (stage_seen h (there_before x h r))
 
 -- BEGIN was got where anything was got on b, or was sent upward elsewhere
 begin_of : (x : Entry) → is_got_on Begin Up (is_opening Begin) x ≡ true → is_got_on Begin Up BEGIN x ≡ true
@@ -118,10 +114,10 @@ begin_of (Got Begin Up BeginBegin) k = refl
 begin_of x k = absurd cc
 
 pub begin_got : (p : Message → Bool) (h : List Entry) → IsFine h → has (is_got_on Begin Up p) h ≡ true → has (is_got_on Begin Up BEGIN) h ≡ true
-begin_got p h f k = has_more (is_got_on Begin Up (is_opening Begin)) (is_got_on Begin Up BEGIN) begin_of h (opening_first Begin p h f.whole f.run k)
+begin_got p h f k = has_more (is_got_on Begin Up (is_opening Begin)) (is_got_on Begin Up BEGIN) begin_of h (opening_first Begin p h f.wired refl k)
 
 pub heard_begun : (h : List Entry) → IsFine h → always is_sound h ≡ true → has (is_got_on Begin Down BEGUN) h ≡ true → has (is_got_on Begin Up BEGIN) h ≡ true
-heard_begun h f s k = has_more (is_got_on Begin Up (is_opening Begin)) (is_got_on Begin Up BEGIN) begin_of h (sent_known Begin BEGUN h s (once_sent Begin Down BEGUN h f.run k))
+heard_begun h f s k = has_more (is_got_on Begin Up (is_opening Begin)) (is_got_on Begin Up BEGIN) begin_of h (sent_known Begin BEGUN h s (once_sent Begin Down BEGUN h f.wired.run k))
 
 sent_begun : (c : Conn) (p : Message → Bool) (h : List Entry) → is_work c ≡ true → always is_begun h ≡ true → has (is_sent_on c Up p) h ≡ true → has (is_got_on Begin Down BEGUN) h ≡ true
 sent_begun c p [] o s k = absurd cc
@@ -143,7 +139,7 @@ sent_begun c p (Sent e Down m ∷ h) o s k =
 sent_begun c p (x ∷ h) o s k = or_right (is_got_on Begin Down BEGUN x) (has (is_got_on Begin Down BEGUN) h) (sent_begun c p h o (and_right (is_begun h x) (always is_begun h) s) k)
 
 -- it is active where a message comes on such a connection
-pub active_at : (c : Conn) (m : Message) (h : List Entry) → is_work c ≡ true → IsUnlogged h → is_next m (in_transit c Up h) → is_active (coordinate h).stage ≡ true
+pub active_at : (c : Conn) (m : Message) (h : List Entry) → is_work c ≡ true → IsOpenThere h → is_next m (in_transit c Up h) → is_active (coordinate h).stage ≡ true
 active_at c m h o r n =
     ap is_active (stage_seen h r)
     ∙ ap (λ b. is_active (stage_of b)) (heard_begun h r.fine r.sound (sent_begun c (λ m. true) h o r.begun (got_sent c Up m (λ m. true) h n refl)))

@@ -32,7 +32,7 @@ use Rattle.dtx_model.specs.Tied.{can_log, has_mark, is_logged}
 use Rattle.dtx_model.specs.Wires.{is_stopped, opens}
 use Rattle.dtx_model.specs.Promotes.{ends_refused, ends_told, is_begun_got, is_created_got, is_enlisted_got, is_promoting, is_refusal, is_under_way}
 use Rattle.dtx_model.specs.Caused.{is_begin_sent, same_vote}
-use Rattle.outcome_law.specs.Severed.{is_severing}
+use Rattle.outcome_law.proofs.Severed.{is_severing}
 use Rattle.outcome_law.proofs.Rule.{all_complete, is_answer, is_certain, is_cloned, is_decided, is_enlisted, is_only, is_volatile_of, zeros_cast}
 
 -- the coordinator got this enlistment's ENLIST

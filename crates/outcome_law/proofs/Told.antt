@@ -1,34 +1,38 @@
--- A settled history of a script in which no connection was cut, the coordinator didn't stop and the commit was asked for, promoted or not: the client was told, or there is something
--- that it waits for.
+-- A settled history of a script in which the coordinator didn't stop, whatever else was lost, and in which the commit was asked for, promoted or not: the client was told, or there is something that
+-- it waits for.
 use Rattle.std.proofs.Common.{◌≡◌, ℕ, Bool, true, false, ◌&&◌, ◌||◌, List, [], ◌∷◌, slice_get, Some, refl, ◌∙◌, ap, sym, subst}
 use Rattle.std.specs.Prelude.{is_none, is_some, not}
 use Rattle.std.proofs.lemmas.Bool.{false_from_ne_true, or_left}
+use Rattle.dtx_values.specs.declared.call.Call.{Call}
+use Rattle.dtx_values.specs.declared.call.Call.TheVariants.{Volatile, Durable, Promotable}
 use Rattle.dtx_values.specs.declared.entry.Entry.{Entry}
 use Rattle.dtx_values.specs.declared.entry.Entry.TheVariants.{PromoteReply, Promoting, Requested, Restarted}
+use Rattle.dtx_values.specs.declared.message.Conn.TheVariants.{Begin, Enl}
+use Rattle.dtx_values.specs.declared.message.Dir.TheVariants.{Up}
 use Rattle.dtx_values.specs.declared.note.Plan.{Plan}
 use Rattle.dtx_values.specs.declared.number.EnlNo.{EnlNo}
 use Rattle.dtx_values.specs.declared.row.Row.{Row}
 use Rattle.dtx_values.specs.declared.script.Line.{Line}
 use Rattle.dtx_values.specs.declared.words.Class.{Class}
 use Rattle.dtx_values.specs.Class.{is_promotable}
-use Rattle.dtx_values.specs.Clones.{blocks}
+use Rattle.dtx_values.specs.Clones.{blocks, is_open_block}
 use Rattle.dtx_values.specs.Row.{has_voted, is_marked}
 use Rattle.dtx_model.specs.Words.{all_of, always, each, has, latest}
 use Rattle.dtx_model.specs.Entries.{client_told_of, clone_of, is_any_owner, is_asked, is_asked_alone, is_asked_to_promote, is_commit, is_decision, is_hand, is_promote_reply_of, is_promoted, is_request_of, is_vote}
-use Rattle.dtx_model.specs.Observed.{is_ask_promote, is_ask_single, is_promote_reply, is_request, observe, rows}
+use Rattle.dtx_model.specs.Observed.{clone_rows, is_ask_promote, is_ask_single, is_promote_reply, is_request, observe, rows}
 use Rattle.dtx_model.specs.Outcome.{enlisted, is_complete}
 use Rattle.dtx_model.specs.Promotes.{is_promoting}
-use Rattle.dtx_model.specs.Wires.{is_stopped}
+use Rattle.dtx_model.specs.Tied.{is_stop}
+use Rattle.dtx_model.specs.Wires.{is_lost_wire, is_stopped}
 use Rattle.dtx_model.specs.declared.waiting.EnteredCall.{EnteredCall}
 use Rattle.dtx_model.specs.Waiting.{Waiter, waiting}
 use Rattle.dtx_model.specs.Plans.{plan_of}
-use Rattle.dtx_model.specs.Replies.{may_still_vote, owes_promotion}
+use Rattle.dtx_model.specs.Replies.{due_of, may_still_vote, names, owes_promotion}
 use Rattle.dtx_model.specs.Steps.{Step}
 use Rattle.dtx_model.specs.World.{World}
-use Rattle.dtx_model.specs.Grammar.{are_named_well}
+use Rattle.dtx_model.specs.Grammar.{OfEnlistment, are_named_well}
 use Rattle.dtx_model.specs.Caused.{AreMadeOnce, Caused, IsCallOf, Ran, Settled, entered_in, is_promoting_entry, plans_of}
 use Rattle.dtx_model.specs.History.{IsToldOrWaits, is_silent, is_waiting}
-use Rattle.outcome_law.specs.Severed.{is_severing}
 use Rattle.outcome_law.specs.Waited.{is_silent_to_promote}
 use Rattle.dtx_model.proofs.Bools.{and_both, and_left, and_right, not_both, not_false, not_true, or_first, or_right, or_second}
 use Rattle.dtx_model.proofs.Local.{free-local}
@@ -36,28 +40,31 @@ use Rattle.outcome_law.proofs.Scans.{has_less, has_more}
 use Rattle.outcome_law.proofs.Picks.{has-at}
 use Rattle.outcome_law.proofs.Owned.{has_rows}
 use Rattle.outcome_law.proofs.Rule.{is_enlisted}
-use Rattle.outcome_law.proofs.Names.{script_once}
+use Rattle.outcome_law.proofs.Names.{call_makes, script_once}
 use Rattle.outcome_law.proofs.Blocks.{script_kept}
 use Rattle.outcome_law.proofs.Runs.{free_run}
 use Rattle.outcome_law.proofs.Settlings.{settled_act, settled_unplanned}
 use Rattle.outcome_law.proofs.Silent.{told_or_waits}
 use Rattle.outcome_law.proofs.Planned.{plan_same}
+use Rattle.outcome_law.proofs.Dues.{is_unplanned}
+use Rattle.outcome_law.proofs.Messages.{COMMIT}
+use Rattle.outcome_law.proofs.Crossed.{is_sent_on}
 use Rattle.outcome_law.proofs.ScriptCalls.{waiting_read}
 use Rattle.outcome_law.proofs.OnceMade.{ran_once}
-use Rattle.outcome_law.proofs.Makers.{AreMade, all_lasting, all_unplaced, ran_made}
+use Rattle.outcome_law.proofs.Makers.{AreMade, all_lasting, all_unplaced, makes_enlistment, ran_made}
 use Rattle.outcome_law.proofs.Waiters.{ran_waits}
 use Rattle.outcome_law.proofs.Prepared.{ran_prepares}
 use Rattle.outcome_law.proofs.Meeting.{ran_paid}
 use Rattle.outcome_law.proofs.OnTheWay.{is_on_its_way, is_unplaced}
-use Rattle.outcome_law.proofs.Whole.{whole, whole_of}
+use Rattle.outcome_law.proofs.Wired.{IsWired, unstopped}
+use Rattle.outcome_law.proofs.Joined.{IsJoined}
 use Rattle.outcome_law.proofs.Fine.{IsFine, is_restart}
-use Rattle.outcome_law.proofs.Arrived.{before, unstopped}
 use Rattle.outcome_law.proofs.Rest.{IsAtRest, IsQuiet, IsUnmoved}
 use Rattle.outcome_law.proofs.Climbed.{told_at_rest}
 use Rattle.outcome_law.proofs.Owed.{AreHeeded, ArePromised, IsHeeded, IsUnowed, all_answered, all_voted, commit_requested, heeded_promised, promotion_replied}
-use Rattle.outcome_law.proofs.Idle.{IsIdle, idle, none_on_the_way}
+use Rattle.outcome_law.proofs.Idle.{IsIdle, ends_seen, idle, none_on_the_way}
 use Rattle.outcome_law.proofs.SameRows.{is_made_once}
-use Rattle.outcome_law.proofs.Tabled.{KeepsMore}
+use Rattle.outcome_law.proofs.Tabled.{KeepsMore, run_rows}
 use Rattle.outcome_law.proofs.Undecided.{Stands}
 use Rattle.outcome_law.proofs.Keeping.{Keeps, keeps_before, newest}
 use Rattle.outcome_law.proofs.ByTable.{ruled_later, ruled_recorded}
@@ -66,20 +73,27 @@ use Rattle.outcome_law.proofs.OpenedRows.{kept_opened}
 use Rattle.outcome_law.proofs.ClosedRows.{kept_shut}
 use Rattle.outcome_law.proofs.ClosedTables.{sealed_zeros}
 use Rattle.outcome_law.proofs.HalfRows.{open_blocks, row_marked, row_voted, rows_enlisted}
-use Rattle.outcome_law.proofs.Promotions.{maker_called}
-use Rattle.outcome_law.proofs.UnstoppedTies.{unsevered_tied}
+use Rattle.outcome_law.proofs.UnstoppedTies.{unstopped_tied}
 use Rattle.outcome_law.proofs.Steady.{run_steady}
-use Rattle.outcome_law.proofs.Promised.{run_rows}
 use Rattle.outcome_law.proofs.Ending.{ran_goes}
-use Rattle.outcome_law.proofs.Announced.{ran_announces}
-use Rattle.outcome_law.proofs.UndecidedFine.{undecided_fine}
-use Rattle.outcome_law.proofs.LostVoters.{ran_voters, row_spared}
+use Rattle.outcome_law.proofs.Announced.{IsUnstopped, ran_announces}
+use Rattle.outcome_law.proofs.Requests.{IsRequesting, ran_requests}
+use Rattle.outcome_law.proofs.Foregoing.{commit_promoted, vote_cast, vote_stood}
+use Rattle.outcome_law.proofs.UndecidedFine.{IsSettling, undecided_fine, undecided_joined}
+use Rattle.outcome_law.proofs.LostVoters.{AreVoters, gone_cast, gone_was_lost, ran_voters}
 
--- no restart comes where nothing was severed
-unrestarted : (h : List Entry) → Keeps h → whole h ≡ true → has is_restart h ≡ false
-unrestarted [] k w = refl
-unrestarted (Restarted found ∷ h) k w = absurd (not_both (is_stopped h) (newest (Restarted found) h k) (unstopped h (before (Restarted found) h w)))
-unrestarted (x ∷ h) k w = unrestarted h (keeps_before x h k) (before x h w)
+-- no restart comes where the coordinator didn't stop
+unrestarted : (h : List Entry) → Keeps h → has is_stop h ≡ false → has is_restart h ≡ false
+unrestarted [] k n = refl
+unrestarted (Restarted found ∷ h) k n = absurd (not_both (is_stopped h) (newest (Restarted found) h k) (unstopped h n))
+unrestarted (x ∷ h) k n = unrestarted h (keeps_before x h k) (or_second (is_stop x) (has is_stop h) n)
+
+-- who made an enlistment called
+maker_called : (e : ℕ) (c : Call) → makes_enlistment e c ≡ true → call_makes (OfEnlistment e) c ≡ true
+maker_called e (Volatile t f x v) k = k
+maker_called e (Durable t f r s) k = k
+maker_called e (Promotable t f r v x p) k = k
+maker_called e _ k = absurd cc
 
 -- The plan of one that isn't silent has each reply that is due of it.
 reply_of : (e : ℕ) (x : Entry) → is_promote_reply_of e x ≡ true → is_promote_reply x ≡ true
@@ -147,8 +161,8 @@ none_row q h i x quiet e =
     false_from_ne_true (q x.number.value)
     (λ k. not_both (has (λ y. q y.number.value) (rows h)) (has-at (λ y. q y.number.value) (rows h) i x e k) (has_rows (λ (e : EnlNo) (c : Class). q e.value) h ∙ quiet))
 
--- What is so in a settled history of a script in which nothing was severed, with a run that made it: it keeps the tables; nothing bad came, unless something is decided; and
--- nothing is owed, on the way or pending.
+-- What is so in a settled history of a script in which the coordinator didn't stop, with a run that made it: it keeps the tables; nothing bad came, and what was lost had carried what it was to carry,
+-- unless something is decided; and nothing is owed, on the way or pending.
 pub record IsSettledRun (s : List Line) (t : ℕ) (h : List Entry) : Type 0 where
   pub calls : List EnteredCall
   pub steps : List Step
@@ -157,50 +171,74 @@ pub record IsSettledRun (s : List Line) (t : ℕ) (h : List Entry) : Type 0 wher
   pub stands : Stands h
   pub more : KeepsMore h
   pub once : always is_made_once h ≡ true
+  pub wired : IsWired h
   pub quiet : IsQuiet h
   pub fine : has is_decision h ≡ false → IsFine h
+  pub joined : has is_decision h ≡ false → IsJoined h
   pub pended : IsIdle (entered_in s h) h
   pub plans : (e : ℕ) → has (is_enlisted e) h ≡ true → plan_of (entered_in s h) e ≡ plans_of s e
   pub unowed : has is_decision h ≡ false → IsUnowed (plan_of (entered_in s h)) h
 
-pub settled_run : (s : List Line) (k t : ℕ) (h : List Entry) → are_named_well s ≡ true → Caused s k t h → has is_severing h ≡ false → Settled s h → IsSettledRun s t h
-settled_run s k t h named c unsevered settled =
+-- where nothing is decided, and each that is lost is spared
+unowed_of : (p : ℕ → Plan) (h : List Entry) → KeepsMore h → always is_made_once h ≡ true → IsFine h → IsJoined h → IsRequesting h → AreVoters h
+    → each (λ e. is_unplanned (p e.value) (due_of (observe h) e.value)) (names (observe h)) ≡ true → has is_decision h ≡ false → IsUnowed p h
+unowed_of p h m once f j q voters unanswered d =
+    record {
+      fine = f;
+      spared = λ i x e g. record { has_cast = row_voted h i x m.table e ∙ gone_cast h q m.table.wires voters j.commit cast d x.number (gone_was_lost h x g) };
+      carried = λ i x e l. record { has_cast = row_voted h i x m.table e ∙ cast x.number l };
+      requests = q.asked;
+      sound = kept_sound h m.table;
+      ordered = kept_ordered h m.table;
+      once = once;
+      there = m.there;
+      well = m.well;
+      unowed = unanswered;
+    }
+  where
+    cast : (e : EnlNo) → is_lost_wire (Enl e) h ≡ true → has (is_vote e.value) h ≡ true
+    cast e l = vote_cast e h m.table (j.cast e l)
+
+pub settled_run : (s : List Line) (k t : ℕ) (h : List Entry) → are_named_well s ≡ true → Caused s k t h → has is_stop h ≡ false → Settled s h → IsSettledRun s t h
+settled_run s k t h named c running settled =
     let G = IsCallOf s t in
     let calls = c.freely.0 in
     let steps = c.freely.1.0 in
     let w : World = record { calls = calls; past = h } in
     let ran = c.freely.1.1 in
     let once = script_once s t named in
-    let tie = unsevered_tied G t h c.freely unsevered in
+    let tie = unstopped_tied G t h c.freely running in
     let stands = (run_steady G t steps w once ran tie).stands in
     let keeps = stands.keeps in
     let more = run_rows G t steps w ran keeps in
     let made : AreMade G calls h = ran_made G t steps w ran in
-    let entire = whole_of h (kept_opened h keeps) unsevered in
+    let wired : IsWired h = record { opened = kept_opened h keeps; unstopped = running; run = keeps.wires } in
+    let stopless : IsUnstopped h = record { keeps = keeps; unstopped = running } in
     let made_once = ran_once G t steps w once ran in
-    let voters = ran_voters G t steps w ran (record { keeps = keeps; unsevered = unsevered }) in
+    let requests = ran_requests G t steps w once ran keeps in
     let pays = ran_paid G t steps w ran
     (record {
-      whole = entire;
       run = keeps.wires;
-      unrestarted = unrestarted h keeps entire;
+      unrestarted = unrestarted h keeps running;
       later = ruled_later h keeps.rules;
       sound = kept_sound h keeps;
       recorded = ruled_recorded h keeps.rules;
       once = more.placed;
     }) in
     let i = idle (entered_in s h) h settled in
-    let quiet : IsQuiet h = record { paid = pays.paid; free = pays.free; empty = none_on_the_way h entire keeps.wires i.undelivered } in
-    let fine : has is_decision h ≡ false → IsFine h =
-    undecided_fine h
-    (record {
+    let quiet : IsQuiet h = record { paid = pays.paid; free = pays.free; empty = none_on_the_way h wired i.undelivered } in
+    let settling : IsSettling h =
+    record {
       stands = stands;
-      unsevered = unsevered;
+      wired = wired;
       caused = more.caused;
+      ordered = kept_ordered h keeps;
       quiet = quiet;
       going = ran_goes G t steps w once ran tie;
-      announced = ran_announces G t steps w ran (record { keeps = keeps; unsevered = unsevered });
-    }) in
+      announced = ran_announces G t steps w ran stopless;
+      requests = requests;
+      ended = λ c p l d. ends_seen c h wired i.undelivered p l d;
+    } in
     record {
       calls = calls;
       steps = steps;
@@ -209,19 +247,15 @@ settled_run s k t h named c unsevered settled =
       stands = stands;
       more = more;
       once = made_once;
+      wired = wired;
       quiet = quiet;
-      fine = fine;
+      fine = undecided_fine h settling;
+      joined = undecided_joined h settling;
       pended = i;
       plans = λ e q. let m = (made.enlisted e q).0 in
           plan_same s t e h named (record { number = m.number; actor = m.actor; call = m.call; given = m.may; passes = maker_called e m.call m.passes; called = m.called });
-      unowed = λ d. record {
-        fine = fine d;
-        spared = λ i x e g. row_spared h i x keeps made_once d voters e g;
-        once = made_once;
-        there = more.there;
-        well = more.well;
-        unowed = i.unanswered;
-      };
+      unowed =
+          λ d. unowed_of (plan_of (entered_in s h)) h more made_once (undecided_fine h settling d) (undecided_joined h settling d) requests (ran_voters G t steps w once ran stopless) i.unanswered d;
     }
 
 -- where a promotion began in it, and the promotable's plan has a reply to that, it can't go on
@@ -233,37 +267,39 @@ unmoved s t h r began promised =
     let keeps = r.stands.keeps in
     record {
       fine = r.fine;
+      joined = r.joined;
       later = ruled_later h keeps.rules;
       sound = kept_sound h keeps;
+      ordered = kept_ordered h keeps;
+      stood = λ e k. vote_stood e h keeps (vote_cast e h keeps k);
       paying = r.quiet.paid;
       free = r.quiet.free;
       waits = λ p. subst (λ (ws : List Waiter). each (is_on_its_way h) ws ≡ true) same (ran_waits G t r.steps w r.ran p);
       unplaced = subst (λ (ws : List Waiter). each (is_unplaced h) ws ≡ true) same (all_unplaced G r.calls h r.made (ran_made G t r.steps w r.ran));
       empty = r.quiet.empty;
       act = r.pended.act;
-      replied = λ d n. promotion_replied (plan_of (entered_in s h)) h (r.unowed d) (promised n) d;
+      replied =
+          λ d n. promotion_replied (plan_of (entered_in s h)) h (r.unowed d) (promised n) d
+          (false_from_ne_true (has (is_sent_on Begin Up COMMIT) h) (λ q. not_both (has is_promoted h) (commit_promoted h (kept_sound h keeps) q) n));
       started = began;
     }
 
--- Where the commit was asked for too, and it waits for nothing, it is at rest; so its client was told.
-at_rest : (s : List Line) (t : ℕ) (h : List Entry) → IsSettledRun s t h → has is_promoting h ≡ true → has is_commit h ≡ true → is_waiting s h ≡ false → IsAtRest (entered_in s h) h
-at_rest s t h r began asked idles =
+-- Where the commit was asked for too, no blocking clone is open, and the plans have each reply that is due, it is at rest.
+pub at_rest : (s : List Line) (t : ℕ) (h : List Entry) → IsSettledRun s t h → has is_promoting h ≡ true → has is_commit h ≡ true → has is_open_block (clone_rows h) ≡ false
+    → AreHeeded (plan_of (entered_in s h)) h → IsAtRest (entered_in s h) h
+at_rest s t h r began asked closed all =
     let G = IsCallOf s t in
     let w : World = record { calls = r.calls; past = h } in
     let p = plan_of (entered_in s h) in
     let keeps = r.stands.keeps in
-    let blocked = has (λ c. blocks c.1 && not (is_complete h c)) (all_of clone_of h) in
-    let silent = has (λ x. is_silent (plans_of s x.0.value) h x.0.value) (enlisted h) in
-    let all : AreHeeded p h =
-    λ i x e. subst (λ q. IsHeeded q h x) (sym (r.plans x.number.value (rows_enlisted h i x keeps e)))
-    (heeded (plans_of s x.number.value) h i x keeps e (none_row (λ n. is_silent (plans_of s n) h n) h i x (or_second blocked silent idles) e)) in
     record {
       unmoved = unmoved s t h r began (λ n. heeded_promised p h all);
-      ordered = kept_ordered h keeps;
       begun = kept_begun h keeps;
       zeros = sealed_zeros h (kept_shut h keeps);
-      closed = open_blocks h keeps ∙ or_first blocked silent idles;
-      prepares = λ d n. ran_prepares G t r.steps w r.ran (record { fine = r.fine d; sound = kept_sound h keeps; ordered = kept_ordered h keeps; begun = kept_begun h keeps; unlogged = n });
+      closed = closed;
+      prepares =
+          λ d n. ran_prepares G t r.steps w r.ran
+          (record { fine = r.fine d; sound = kept_sound h keeps; ordered = kept_ordered h keeps; begun = kept_begun h keeps; undecided = (r.joined d).undecided });
       lasting = all_lasting G r.calls h r.made (ran_made G t r.steps w r.ran) keeps.wires;
       append = r.pended.append;
       answered = λ d. all_answered p h (r.unowed d) all d;
@@ -272,9 +308,16 @@ at_rest s t h r began asked idles =
       asked = asked;
     }
 
--- Where nothing was severed: a settled history in which the commit was asked for, promoted or not.
-pub told_promoted : (s : List Line) (k t : ℕ) (h : List Entry) → are_named_well s ≡ true → Caused s k t h → has is_severing h ≡ false → IsToldOrWaits s h
-told_promoted s k t h named c unsevered = λ settled asked. by settled asked (has is_promoting_entry h) refl
+-- where nobody is silent, the plans have each reply that is due
+none_silent : (s : List Line) (t : ℕ) (h : List Entry) → IsSettledRun s t h → has (λ x. is_silent (plans_of s x.0.value) h x.0.value) (enlisted h) ≡ false → AreHeeded (plan_of (entered_in s h)) h
+none_silent s t h r quiet = λ i x e.
+    let keeps = r.stands.keeps in
+    subst (λ q. IsHeeded q h x) (sym (r.plans x.number.value (rows_enlisted h i x keeps e)))
+    (heeded (plans_of s x.number.value) h i x keeps e (none_row (λ n. is_silent (plans_of s n) h n) h i x quiet e))
+
+-- Where the coordinator didn't stop: a settled history in which the commit was asked for, promoted or not. Where it waits for nothing, it is at rest; so its client was told.
+pub told_promoted : (s : List Line) (k t : ℕ) (h : List Entry) → are_named_well s ≡ true → Caused s k t h → has is_stop h ≡ false → IsToldOrWaits s h
+told_promoted s k t h named c running = λ settled asked. by settled asked (has is_promoting_entry h) refl
   where
     same_entry : (x : Entry) → is_promoting_entry x ≡ true → is_promoting x ≡ true
     same_entry (Promoting c) k = k
@@ -284,8 +327,16 @@ told_promoted s k t h named c unsevered = λ settled asked. by settled asked (ha
     waits true e f = or_right (is_some (latest client_told_of h)) true refl
     waits false e f = or_left (is_some (latest client_told_of h)) false (f refl)
 
+    rests : IsSettledRun s t h → has is_promoting h ≡ true → has is_commit h ≡ true → is_waiting s h ≡ false → IsAtRest (entered_in s h) h
+    rests r began asked idles =
+        let blocked = has (λ c. blocks c.1 && not (is_complete h c)) (all_of clone_of h) in
+        let silent = has (λ x. is_silent (plans_of s x.0.value) h x.0.value) (enlisted h) in
+        at_rest s t h r began asked (open_blocks h r.stands.keeps ∙ or_first blocked silent idles) (none_silent s t h r (or_second blocked silent idles))
+
     by : Settled s h → has is_commit h ≡ true → (b : Bool) → has is_promoting_entry h ≡ b → (is_some (latest client_told_of h) || is_waiting s h) ≡ true
-    by settled asked true q = waits (is_waiting s h) refl (λ n. told_at_rest (entered_in s h) h (at_rest s t h (settled_run s k t h named c unsevered settled) (has_more is_promoting_entry is_promoting same_entry h q) asked n))
+    by settled asked true q =
+        waits (is_waiting s h) refl
+        (λ n. told_at_rest (entered_in s h) h (rests (settled_run s k t h named c running settled) (has_more is_promoting_entry is_promoting same_entry h q) asked n))
     by settled asked false q =
         let kept = script_kept s t h named c.freely (ap not q) in
         let home = free-local (IsCallOf s t) t h c.freely (ap not q) in

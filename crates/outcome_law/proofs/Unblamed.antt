@@ -1,6 +1,6 @@
 -- Where nothing is lost and nothing ends the transaction of itself, nothing bad comes: no veto, no abort, no refusal. So it is where all are willing. While nothing is decided, an
--- enlistment may be lost as well.
-use Rattle.std.proofs.Common.{◌≡◌, ℕ, ◌==◌, Bool, true, false, ◌&&◌, ◌||◌, List, [], ◌∷◌, Option, Some, None, refl, sym, subst, ap}
+-- enlistment or a connection may be lost as well, where no end is a veto.
+use Rattle.std.proofs.Common.{◌≡◌, ℕ, ◌==◌, Bool, true, false, ◌&&◌, ◌||◌, List, [], ◌∷◌, Option, Some, None, refl, sym, subst}
 use Rattle.std.specs.Prelude.{not}
 use Rattle.std.proofs.lemmas.Bool.{eqb-true, false_from_ne_true}
 use Rattle.dtx_values.specs.declared.entry.Entry.{Entry}
@@ -29,42 +29,65 @@ use Rattle.dtx_model.specs.Entries.{decision_of, handed_of, is_decision, is_owne
 use Rattle.dtx_model.specs.Caused.{is_as_planned, is_outcome_planned, is_promotion_planned, is_request_planned, is_vote_planned}
 use Rattle.dtx_model.specs.History.{is_asked_in_time, is_committed, is_ending, is_loss, is_willing, nobody}
 use Rattle.dtx_model.specs.Learned.{coordinator_aborted, is_abort, is_first_abort}
-use Rattle.dtx_model.specs.Outcome.{can_own, coordinator_doubt, doubt, enlisted, is_begin_end, is_empty, is_lost_owner, is_outcome_got, is_veto, is_veto_end, is_voter_end, owner_doubt}
+use Rattle.dtx_model.specs.Outcome.{can_own, coordinator_doubt, doubt, enlisted, is_begin_end, is_lost_owner, is_outcome_got, is_veto, is_veto_end, is_voter_end, owner_doubt}
 use Rattle.dtx_model.specs.Promotes.{ends_refused, ends_told, is_failed, is_refusal}
-use Rattle.dtx_model.specs.Wires.{WireRun, holds, is_ended, is_lost_wire, is_next, is_stopped, in_transit, lost_since, opens}
-use Rattle.dtx_model.proofs.Bools.{and_left, and_right, or_case, or_false, or_first, or_second, not_both}
+use Rattle.dtx_model.specs.Wires.{WireRun, holds, is_next, is_stopped, in_transit}
+use Rattle.dtx_model.proofs.Bools.{and_both, and_left, and_never, and_right, or_case, or_false, or_first, or_second, not_both, not_false, not_true}
+use Rattle.dtx_model.proofs.Connections.{same_is}
 use Rattle.outcome_law.proofs.Rule.{is_decided}
 use Rattle.outcome_law.proofs.Going.{is_no_vote}
 use Rattle.outcome_law.proofs.Scans.{has_more, has_less}
 use Rattle.outcome_law.proofs.Settled.{asked_well}
-use Rattle.outcome_law.proofs.Whole.{whole}
-use Rattle.outcome_law.proofs.Fine.{IsFine, any_class, blames, ends_aborted, ends_requested, has_cause, is_bad, is_bad_message, is_bad_outcome, is_caused, is_made, is_origin, is_restart}
-use Rattle.outcome_law.proofs.Arrived.{before, newest, unstopped, stays}
+use Rattle.outcome_law.proofs.Wired.{IsWired, is_any_end, is_end_on, newest, unlost_unended, unstopped, wired_before}
+use Rattle.outcome_law.proofs.Fine.{IsFine, any_class, blames, ends_aborted, ends_requested, has_cause, is_bad, is_bad_message, is_bad_outcome, is_caused, is_made, is_origin, is_pair, is_restart, is_spared, is_spared_down}
 use Rattle.outcome_law.proofs.Crossed.{is_sent_on, got_sent}
 
--- Where nothing is severed no end comes.
-unlost : (c : Conn) (h : List Entry) → has (opens c) h ≡ false → lost_since c h ≡ None
-unlost c [] k = refl
-unlost c (x ∷ h) k = rw (unlost c h (or_second (opens c x) (has (opens c) h) k), or_first (opens c x) (has (opens c) h) k) refl
+-- While the local side hasn't said yes, the end of b or of v is a veto there: where each end there is spared, none came.
+early_veto : (c : Conn) (h : List Entry) → is_pair c ≡ true → has is_yes h ≡ false → is_veto_end h c Down ≡ true
+early_veto Begin h p y = not_false (has is_yes h) y
+early_veto Voter h p y = not_false (has is_yes h) y
+early_veto _ h p y = absurd cc
 
-pub no_end : (c : Conn) (d : Dir) (h : List Entry) → whole h ≡ true → WireRun (End c d ∷ h) → ⊥
-no_end c d h w run =
-    not_both (is_lost_wire c h) (and_left (is_lost_wire c h) (is_empty (in_transit c d h)) (and_left (is_lost_wire c h && is_empty (in_transit c d h)) (not (is_ended c d h)) run.0)) (by_opening (has (opens c) h) refl)
+pub down_early : (c : Conn) (h : List Entry) → is_pair c ≡ true → always is_spared_down h ≡ true → has is_yes h ≡ false → has (is_end_on c Down) h ≡ false
+down_early c [] p k y = refl
+down_early c (x ∷ h) p k y =
+    let none = or_second (is_yes x) (has is_yes h) y in
+    or_false (is_end_on c Down x) (has (is_end_on c Down) h) (one x (and_left (is_spared_down h x) (always is_spared_down h) k) none)
+    (down_early c h p (and_right (is_spared_down h x) (always is_spared_down h) k) none)
   where
-    by_opening : (b : Bool) → has (opens c) h ≡ b → is_lost_wire c h ≡ false
-    by_opening true o = ap holds (stays c h w o)
-    by_opening false o = ap holds (unlost c h o)
+    one : (x : Entry) → is_spared_down h x ≡ true → has is_yes h ≡ false → is_end_on c Down x ≡ false
+    one (End e Down) k n =
+        false_from_ne_true (same_connection c e && true)
+        (λ q. let P : Conn → Type 0 = λ d. is_veto_end h d Down ≡ true in
+        not_both (is_veto_end h e Down) (subst P (same_is c e (and_left (same_connection c e) true q)) (early_veto c h p n)) (not_true (is_veto_end h e Down) k))
+    one (End e Up) k n = and_never (same_connection c e)
+    one x k n = refl
+
+-- where no end came, each is spared
+none_spared : (h : List Entry) → has is_any_end h ≡ false → always is_spared h ≡ true
+none_spared [] n = refl
+none_spared (x ∷ h) n = and_both (is_spared h x) (always is_spared h) (one x (or_first (is_any_end x) (has is_any_end h) n)) (none_spared h (or_second (is_any_end x) (has is_any_end h) n))
+  where
+    one : (x : Entry) → is_any_end x ≡ false → is_spared h x ≡ true
+    one (End c d) n = absurd cc
+    one x n = refl
 
 -- it was before its newest entry
 pub fine_before : (x : Entry) (h : List Entry) → IsFine (x ∷ h) → IsFine h
 fine_before x h f = record {
-  whole = before x h f.whole;
-  run = f.run.1;
+  wired = wired_before x h f.wired;
   in_time = and_right (is_asked_in_time h x) (always is_asked_in_time h) f.in_time;
   unbad = or_second (is_bad x) (has is_bad h) f.unbad;
+  spared = and_right (is_spared h x) (always is_spared h) f.spared;
 }
 
--- the newest entry isn't bad, and where it is no loss no veto
+-- the newest entry isn't bad, it has a line where it was got, is spared where it is an end, and where it is no loss it is no veto
+lined : (c : Conn) (d : Dir) (m : Message) (h : List Entry) → IsFine (Got c d m ∷ h) → has_line c d m ≡ true
+lined c d m h f = newest (Got c d m) h f.wired
+
+spared_end : (c : Conn) (d : Dir) (h : List Entry) → IsFine (End c d ∷ h) → is_veto_end h c d ≡ false
+spared_end c d h f = not_true (is_veto_end h c d) (and_left (not (is_veto_end h c d)) (always is_spared h) f.spared)
+
 first_good : (x : Entry) (h : List Entry) → IsFine (x ∷ h) → is_bad x ≡ false
 first_good x h f = or_first (is_bad x) (has is_bad h) f.unbad
 
@@ -79,8 +102,8 @@ no_veto LogFull h f l = absurd cc
 no_veto (Restarted found) h f l = absurd cc
 no_veto CommitAsked h f l = asked_well h (and_left (is_asked_in_time h CommitAsked) (always is_asked_in_time h) f.in_time)
 no_veto (Lost e) h f l = absurd cc
-no_veto (End c d) h f l = absurd cc
-no_veto (Got c d m) h f l = let line : has_line c d m ≡ true = newest (Got c d m) h f.whole in rw line refl
+no_veto (End c d) h f l = spared_end c d h f
+no_veto (Got c d m) h f l = let line : has_line c d m ≡ true = lined c d m h f in rw line refl
 no_veto x h f l = refl
 
 no_refusal : (x : Entry) (h : List Entry) → IsFine (x ∷ h) → is_refusal x ≡ false
@@ -107,12 +130,13 @@ no_abort_here : (x : Entry) (h : List Entry) → IsFine (x ∷ h) → is_abort h
 no_abort_here (Got Begin Up BeginAbort) h f = absurd cc
 no_abort_here (Got Voter Up VoterNo) h f = absurd cc
 no_abort_here (Got (Enl e) Up EnlistNo) h f = absurd cc
-no_abort_here (Got c Up m) h f = lined (has_line c Up m) (is_veto_end h c Up) (newest (Got c Up m) h f.whole)
+no_abort_here (Got c Up m) h f = with_line (has_line c Up m) (is_veto_end h c Up) (lined c Up m h f)
   where
-    lined : (b v : Bool) → b ≡ true → (not b && v) ≡ false
-    lined true v l = refl
-    lined false v l = absurd cc
-no_abort_here (End c d) h f = absurd cc
+    with_line : (b v : Bool) → b ≡ true → (not b && v) ≡ false
+    with_line true v l = refl
+    with_line false v l = absurd cc
+no_abort_here (End c Up) h f = spared_end c Up h f
+no_abort_here (End c Down) h f = refl
 no_abort_here LogFull h f = absurd cc
 no_abort_here (Restarted found) h f = absurd cc
 no_abort_here x h f = refl
@@ -140,7 +164,7 @@ unfolding doubt owner_doubt coordinator_doubt
 no_doubt h f l =
     or_false (owner_doubt h) (coordinator_doubt h)
     (or_false (has (λ e. has (is_owner e.value InDoubt) h) (all_of handed_of h)) (ever is_lost_owner h) (unanswered (all_of handed_of h)) (unlost_owner h l))
-    (unseen (has is_yes h) (has is_begin_end h) (has is_voter_end h) (not (has is_outcome_got h)) (unseen_end h f))
+    (unseen (has is_yes h) (has is_begin_end h) (has is_voter_end h) (not (has is_outcome_got h)) (unseen_end h f (unlost_unended h f.wired l)))
   where
     answered : (e : ℕ) (x : Entry) → is_owner e InDoubt x ≡ true → is_bad x ≡ true
     answered e (OwnerAnswered f InDoubt) k = refl
@@ -160,11 +184,11 @@ no_doubt h f l =
     unlost_owner (Lost e ∷ h) n = absurd cc
     unlost_owner (x ∷ h) n = unlost_owner h (or_second (is_loss x) (has is_loss h) n)
 
-    unseen_end : (h : List Entry) → IsFine h → has is_begin_end h ≡ false
-    unseen_end [] f = refl
-    unseen_end (End c d ∷ h) f = absurd cc
-    unseen_end (Got Begin Down m ∷ h) f = let l : has_line Begin Down m ≡ true = newest (Got Begin Down m) h f.whole in rw l (unseen_end h (fine_before (Got Begin Down m) h f))
-    unseen_end (x ∷ h) f = unseen_end h (fine_before x h f)
+    unseen_end : (h : List Entry) → IsFine h → has is_any_end h ≡ false → has is_begin_end h ≡ false
+    unseen_end [] f n = refl
+    unseen_end (End c d ∷ h) f n = absurd cc
+    unseen_end (Got Begin Down m ∷ h) f n = let l : has_line Begin Down m ≡ true = lined Begin Down m h f in rw l (unseen_end h (fine_before (Got Begin Down m) h f) n)
+    unseen_end (x ∷ h) f n = unseen_end h (fine_before x h f) (or_second (is_any_end x) (has is_any_end h) n)
 
     unseen : (a b c d : Bool) → b ≡ false → (a && b && c && d) ≡ false
     unseen true b c d k = rw k refl
@@ -254,8 +278,7 @@ good_open (Decided x) h f run n d u r = absurd cc
 good_open (Told q x) h f run n d u r = good_told x h f r
 good_open (Sent c m v) h f run n d u r = good_sent v h f r
 good_open (Got c m v) h f run n d u r = good_got c m v h f run.0
-good_open (End c m) h f run n d u r = absurd (no_end c m h f.whole run)
-good_open (Restarted found) h f run n d u r = absurd (not_both (is_stopped h) r (unstopped h f.whole))
+good_open (Restarted found) h f run n d u r = absurd (not_both (is_stopped h) r (unstopped h f.wired.unstopped))
 good_open x h f run n d u r = refl
 
 -- nor where nothing is lost before it
@@ -267,26 +290,29 @@ good_here (Decided InDoubt) h f run n l r = absurd (not_both (doubt h) r (no_dou
 good_here x h f run n l r = good_open x h f run n refl refl r
 
 -- where nothing is lost and nothing ends the transaction of itself, nothing bad comes
-pub unblamed : (h : List Entry) → whole h ≡ true → WireRun h → always is_asked_in_time h ≡ true → has is_origin h ≡ false → has is_loss h ≡ false → always is_caused h ≡ true → has is_bad h ≡ false
-unblamed [] w run a n l r = refl
-unblamed (x ∷ h) w run a n l r =
+pub unblamed : (h : List Entry) → IsWired h → always is_asked_in_time h ≡ true → has is_origin h ≡ false → has is_loss h ≡ false → always is_caused h ≡ true → has is_bad h ≡ false
+unblamed [] w a n l r = refl
+unblamed (x ∷ h) w a n l r =
     let in_time = and_right (is_asked_in_time h x) (always is_asked_in_time h) a in
     let unlost = or_second (is_loss x) (has is_loss h) l in
-    let past = unblamed h (before x h w) run.1 in_time (or_second (is_origin x) (has is_origin h) n) unlost (and_right (is_caused h x) (always is_caused h) r) in
+    let before = wired_before x h w in
+    let past = unblamed h before in_time (or_second (is_origin x) (has is_origin h) n) unlost (and_right (is_caused h x) (always is_caused h) r) in
     or_false (is_bad x) (has is_bad h)
-    (good_here x h (record { whole = before x h w; run = run.1; in_time = in_time; unbad = past }) run (or_first (is_origin x) (has is_origin h) n) unlost
+    (good_here x h (record { wired = before; in_time = in_time; unbad = past; spared = none_spared h (unlost_unended h before unlost) }) w.run (or_first (is_origin x) (has is_origin h) n) unlost
     (and_left (is_caused h x) (always is_caused h) r)) past
 
--- nor where nothing is decided, the promotion didn't fail, and nothing ends the transaction of itself, whoever was lost
-pub open_unblamed : (h : List Entry) → whole h ≡ true → WireRun h → always is_asked_in_time h ≡ true → has is_origin h ≡ false → has is_decision h ≡ false → has is_failed h ≡ false → always is_caused h ≡ true
-    → has is_bad h ≡ false
-open_unblamed [] w run a n d u r = refl
-open_unblamed (x ∷ h) w run a n d u r =
+-- nor where no end is a veto, nothing is decided, the promotion didn't fail, and nothing ends the transaction of itself, whatever was lost
+pub open_unblamed : (h : List Entry) → IsWired h → always is_spared h ≡ true → always is_asked_in_time h ≡ true → has is_origin h ≡ false → has is_decision h ≡ false → has is_failed h ≡ false
+    → always is_caused h ≡ true → has is_bad h ≡ false
+open_unblamed [] w s a n d u r = refl
+open_unblamed (x ∷ h) w s a n d u r =
     let in_time = and_right (is_asked_in_time h x) (always is_asked_in_time h) a in
-    let past = open_unblamed h (before x h w) run.1 in_time (or_second (is_origin x) (has is_origin h) n) (or_second (is_decision x) (has is_decision h) d) (or_second (is_failed x) (has is_failed h) u)
+    let before = wired_before x h w in
+    let spared = and_right (is_spared h x) (always is_spared h) s in
+    let past = open_unblamed h before spared in_time (or_second (is_origin x) (has is_origin h) n) (or_second (is_decision x) (has is_decision h) d) (or_second (is_failed x) (has is_failed h) u)
     (and_right (is_caused h x) (always is_caused h) r) in
     or_false (is_bad x) (has is_bad h)
-    (good_open x h (record { whole = before x h w; run = run.1; in_time = in_time; unbad = past }) run (or_first (is_origin x) (has is_origin h) n) (or_first (is_decision x) (has is_decision h) d)
+    (good_open x h (record { wired = before; in_time = in_time; unbad = past; spared = spared }) w.run (or_first (is_origin x) (has is_origin h) n) (or_first (is_decision x) (has is_decision h) d)
     (or_first (is_failed x) (has is_failed h) u) (and_left (is_caused h x) (always is_caused h) r)) past
 
 -- an enlistment of a number is willing, with a class that passes
@@ -389,6 +415,6 @@ willing_origin p (x ∷ h) n r k w =
     (willing_origin p h (or_second (is_ending x) (has is_ending h) n) (and_right (is_caused h x) (always is_caused h) r) (and_right (is_as_planned p nobody h x) (always (is_as_planned p nobody) h) k) before)
 
 -- where nothing is lost, nothing ends it, and all are willing and answer as planned, nothing bad comes
-pub nothing_bad : (p : ℕ → Plan) (h : List Entry) → whole h ≡ true → WireRun h → always is_asked_in_time h ≡ true → has is_ending h ≡ false → has is_loss h ≡ false
+pub nothing_bad : (p : ℕ → Plan) (h : List Entry) → IsWired h → always is_asked_in_time h ≡ true → has is_ending h ≡ false → has is_loss h ≡ false
     → always is_caused h ≡ true → always (is_as_planned p nobody) h ≡ true → each (λ x. is_willing (p x.0.value) x.1) (enlisted h) ≡ true → has is_bad h ≡ false
-nothing_bad p h w run a n l r k v = unblamed h w run a (willing_origin p h n r k v) l r
+nothing_bad p h w a n l r k v = unblamed h w a (willing_origin p h n r k v) l r

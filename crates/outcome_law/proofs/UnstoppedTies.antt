@@ -21,11 +21,9 @@ use Rattle.dtx_model.specs.World.{World, answer_at, core, facts_at, half}
 use Rattle.dtx_model.specs.Steps.{Step, Calls, Replies, Acts, Coordinates, Delivers, Stops, Restarts, after, block_at, coordinates, delivered, ended_at, restarted}
 use Rattle.dtx_model.specs.Caused.{FreelyCaused, Ran}
 use Rattle.dtx_model.specs.History.{is_loss}
-use Rattle.outcome_law.specs.Severed.{is_severing}
 use Rattle.dtx_model.proofs.Bools.{and_both, and_left, and_right, not_both, or_second}
 use Rattle.dtx_model.proofs.Reading.{has-onto}
 use Rattle.outcome_law.proofs.Scans.{has_less}
-use Rattle.outcome_law.proofs.Whole.{none_severed}
 use Rattle.outcome_law.proofs.CoreStages.{stopped_same}
 use Rattle.outcome_law.proofs.Recording.{stopped_stop}
 use Rattle.outcome_law.proofs.QuietBlocks.{ActKind, act_kind, is_quiet, q_called, q_commit_sent, q_coordinates, q_core_got, q_ended_at, q_local_got, q_reply}
@@ -82,14 +80,10 @@ ran_tied G t (m ∷ ms) w r u =
 pub unstopped_tied : (G : ℕ → ActorNo → Call → Type 0) (t : ℕ) (h : List Entry) → FreelyCaused G t h → has is_stop h ≡ false → tied h ≡ true
 unstopped_tied G t h f u = ran_tied G t f.1.0 (record { calls = f.0; past = h }) f.1.1 u
 
-stop_severs : (x : Entry) → is_stop x ≡ true → is_severing x ≡ true
-stop_severs Stopped k = refl
-stop_severs _ k = absurd cc
+-- where nothing is lost, it never stopped
+stop_loses : (x : Entry) → is_stop x ≡ true → is_loss x ≡ true
+stop_loses Stopped k = refl
+stop_loses _ k = absurd cc
 
--- and where nothing is severed
-pub unsevered_tied : (G : ℕ → ActorNo → Call → Type 0) (t : ℕ) (h : List Entry) → FreelyCaused G t h → has is_severing h ≡ false → tied h ≡ true
-unsevered_tied G t h f u = unstopped_tied G t h f (has_less is_stop is_severing stop_severs h u)
-
--- so where nothing is lost
-pub unlost_tied : (G : ℕ → ActorNo → Call → Type 0) (t : ℕ) (h : List Entry) → FreelyCaused G t h → has is_loss h ≡ false → tied h ≡ true
-unlost_tied G t h f u = unsevered_tied G t h f (none_severed h u)
+pub unlost_unstopped : (h : List Entry) → has is_loss h ≡ false → has is_stop h ≡ false
+unlost_unstopped h u = has_less is_stop is_loss stop_loses h u

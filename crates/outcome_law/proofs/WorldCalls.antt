@@ -38,7 +38,7 @@ use Rattle.dtx_model.specs.Observed.{branches, clock, clone_rows, is_branch, obs
 use Rattle.dtx_model.specs.Outcome.{by_log, by_owner, by_seal, doubt, enlisted, evidence, is_lost_owner, owner_doubt, ready}
 use Rattle.dtx_model.specs.Promotes.{identifier_of, is_enlisted_got, is_promoting, is_under_way}
 use Rattle.dtx_model.specs.Wires.{is_ended, opens}
-use Rattle.outcome_law.specs.Severed.{is_severing}
+use Rattle.outcome_law.proofs.Severed.{is_severing}
 use Rattle.dtx_model.specs.declared.branch.Branch.{Branch}
 use Rattle.dtx_model.specs.Waiting.{Waiter, managed, waiting}
 use Rattle.dtx_model.specs.Half.{decide, enlist_sent, fails_if, info, is_gone, is_handed, sees, veto, veto_if, is_promoting as sees_promoting}

@@ -24,7 +24,7 @@ ghost use Rattle.dtx_model.specs.Words.{has, each, always, all_of, past_of};
 ghost use Rattle.dtx_model.specs.Entries.{is_call, is_sealed, is_decision, is_promoted, is_client_told, clone_of};
 ghost use Rattle.dtx_model.specs.Outcome.{enlisted, evidence, justified, agree};
 ghost use Rattle.dtx_model.specs.Learned.{Learned};
-ghost use Rattle.dtx_model.specs.Tied.{tied};
+ghost use Rattle.dtx_model.specs.Tied.{is_stop, tied};
 ghost use Rattle.dtx_model.specs.Observed.{observe, rows, clone_rows, listeners};
 ghost use Rattle.dtx_model.specs.Promotes.{promotes};
 ghost use Rattle.dtx_model.specs.Wires.{WireRun};
@@ -38,11 +38,10 @@ ghost use Rattle.dtx_model.specs.Caused.{IsCallOf, is_new, AreMadeOnce, Caused, 
 ghost use Rattle.dtx_model.specs.AtLog.{is_local_trace};
 ghost use Rattle.dtx_model.specs.Traces.{Placed, history, at_context, calls};
 ghost use Rattle.dtx_model.specs.Replay.{IsReplayed, LinesRan, due_calls};
-ghost use Rattle.dtx_model.specs.History.{AreAnswered, CanCommit, IsHistory, IsReplay, IsToldOrWaits, is_loss};
+ghost use Rattle.dtx_model.specs.History.{AreAnswered, CanCommit, IsHistory, IsReplay, IsToldOrWaits};
 ghost use Rattle.dtx_model.specs.Grammar.{are_named_well};
 ghost use Rattle.outcome_law.specs.Appended.{backs_append, has_append, is_abort_decision, stopped_at_append};
 ghost use Rattle.outcome_law.specs.LogQuiet.{is_log_quiet};
-ghost use Rattle.outcome_law.specs.Severed.{is_severing};
 ghost use Rattle.outcome_law.specs.Waited.{AreCallsAnswered};
 
 /// The law of one outcome: in a history that a script's lines freely cause, what is told is just, and no two are told opposite outcomes, promoted or not.
@@ -87,20 +86,15 @@ pub fn crossings()
     ensures wires { (s : List Line) (t : ℕ) (h : List Entry) → FreelyCaused (IsCallOf s t) t h → WireRun h }
 {}
 
-/// A settled transaction that can commit is committed, promoted or not: its client was told so. Where nothing is promoted, and also where no connection was cut and
-/// the coordinator didn't stop: if commit was asked, the client was told some outcome, or a blocking clone is open, or an enlistment whose reply is needed plans
-/// none; each enlistment that came back was told; and each call that had to wait was answered, or an enlistment that was asked to promote plans no reply to that.
-/// (An enlistment that was lost before a decision, with no open connection to cut, had voted, or else its loss ended the transaction.)
+/// A settled transaction that can commit is committed, promoted or not: its client was told so. Whatever was lost, enlistments and connections, as long as the
+/// coordinator didn't stop: if commit was asked, the client was told some outcome, or a blocking clone is open, or an enlistment whose reply is needed plans none; each
+/// enlistment that came back was told; and each call that had to wait was answered, or an enlistment that was asked to promote plans no reply to that.
 pub fn completeness()
-    ensures told { (s : List Line) (k t : ℕ) (h : List Entry) → are_named_well s ≡ true → Caused s k t h → is_unpromoted h ≡ true → IsToldOrWaits s h }
-    ensures told_unlost { (s : List Line) (k t : ℕ) (h : List Entry) → are_named_well s ≡ true → Caused s k t h → has is_loss h ≡ false → IsToldOrWaits s h }
-    ensures told_local { (s : List Line) (k t : ℕ) (h : List Entry) → are_named_well s ≡ true → Caused s k t h → has is_severing h ≡ false → IsToldOrWaits s h }
+    ensures told { (s : List Line) (k t : ℕ) (h : List Entry) → are_named_well s ≡ true → Caused s k t h → has is_stop h ≡ false → IsToldOrWaits s h }
     ensures committed { (s : List Line) (k t : ℕ) (h : List Entry) → are_named_well s ≡ true → Caused s k t h → Settled s h → CanCommit s h
         → has (is_client_told Committed) h ≡ true }
-    ensures answered { (s : List Line) (k t : ℕ) (h : List Entry) → are_named_well s ≡ true → Caused s k t h → is_unpromoted h ≡ true → AreAnswered s h }
-    ensures answered_unlost { (s : List Line) (k t : ℕ) (h : List Entry) → are_named_well s ≡ true → Caused s k t h → has is_loss h ≡ false → AreAnswered s h }
-    ensures answered_local { (s : List Line) (k t : ℕ) (h : List Entry) → are_named_well s ≡ true → Caused s k t h → has is_severing h ≡ false → AreAnswered s h }
-    ensures waited { (s : List Line) (k t : ℕ) (h : List Entry) → are_named_well s ≡ true → Caused s k t h → has is_severing h ≡ false → AreCallsAnswered s h }
+    ensures answered { (s : List Line) (k t : ℕ) (h : List Entry) → are_named_well s ≡ true → Caused s k t h → has is_stop h ≡ false → AreAnswered s h }
+    ensures waited { (s : List Line) (k t : ℕ) (h : List Entry) → are_named_well s ≡ true → Caused s k t h → has is_stop h ≡ false → AreCallsAnswered s h }
 {}
 
 /// What a replay does in its order, promoted or not, as long as nothing stands at the log, is caused by its script in each transaction where its replies are
