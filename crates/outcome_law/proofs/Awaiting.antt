@@ -21,7 +21,7 @@ use Rattle.dtx_model.specs.Learned.{breaks_off}
 use Rattle.dtx_model.specs.Tied.{is_stop}
 use Rattle.dtx_model.specs.Wires.{MayCross, holds, in_transit, is_kept, is_lost_wire, is_next, is_open_wire, is_stopped, loses, lost_after, lost_since, opened_with, opens, sent_behind, without_first}
 use Rattle.dtx_model.specs.Coordinated.{but, coordinate, follow, known_after, waits_after, without}
-use Rattle.dtx_model.proofs.Bools.{and_both, and_left, and_never, and_right, not_both, not_false, or_case, or_right}
+use Rattle.dtx_model.proofs.Bools.{and_both, and_left, and_never, and_right, not_both, not_false, not_true, or_case, or_right}
 use Rattle.dtx_model.proofs.Connections.{same_is}
 use Rattle.outcome_law.proofs.Tests.{eq_self}
 use Rattle.outcome_law.proofs.Lists.{has-insert}
@@ -288,11 +288,7 @@ way_more e (Got c d m) h k s n b a = by c d (same_connection (Again e) c) refl n
   where
     by : (c : Conn) (d : Dir) (q : Bool) → same_connection (Again e) c ≡ q → is_unheard e (Got c d m) ≡ true → Keeps (Got c d m ∷ h) → (is_underway e (Got c d m ∷ h) || is_waiting_there e (Got c d m ∷ h)) ≡ true
     by (Again f) Up true q n k = got_own e f m h k a.opened q a.way
-    by (Again f) Down true q n k = absurd (not_both (same_connection (Again e) (Again f)) q (false_of (same_connection (Again e) (Again f)) n))
-      where
-        false_of : (b : Bool) → not b ≡ true → b ≡ false
-        false_of true t = absurd cc
-        false_of false t = refl
+    by (Again f) Down true q n k = absurd (not_both (same_connection (Again e) (Again f)) q (not_true (same_connection (Again e) (Again f)) n))
     by Begin d true q n k = absurd cc
     by Voter d true q n k = absurd cc
     by (Enl f) d true q n k = absurd cc

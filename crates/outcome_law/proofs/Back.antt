@@ -2,7 +2,7 @@
 -- before it, has answered, or has it wait while nothing is decided.
 use Rattle.std.proofs.Common.{◌≡◌, ℕ, ◌==◌, Bool, true, false, ◌&&◌, ◌||◌, ◌⊎◌, inl, inr, List, [], ◌∷◌, Option, Some, None, is_none, refl, ◌∙◌, ap, sym, subst}
 use Rattle.std.specs.Prelude.{map, filter, not, if◌then◌else◌}
-use Rattle.std.proofs.lemmas.Bool.{eqb-true, false_from_ne_true}
+use Rattle.std.proofs.lemmas.Bool.{eqb-true, false_from_ne_true, or_left}
 use Rattle.dtx_values.specs.declared.entry.Entry.{Entry}
 use Rattle.dtx_values.specs.declared.entry.Entry.TheVariants.{Acked, Down as End, Freed, Got, LogFull, Logged, Recovered, Reenlisted, Restarted, Sent, Stopped, Told, Voted}
 use Rattle.dtx_values.specs.declared.entry.Party.TheVariants.{Enl as Member}
@@ -24,7 +24,7 @@ use Rattle.dtx_model.specs.Learned.{breaks_off}
 use Rattle.dtx_model.specs.Tied.{is_stop}
 use Rattle.dtx_model.specs.Wires.{MayCross, ended_after, ends, is_ended, is_stopped, lost_since, opens}
 use Rattle.dtx_model.specs.Coordinated.{Coordinated, coordinate, follow, is_undecided, recovered_after, stage_after}
-use Rattle.dtx_model.proofs.Bools.{and_left, and_never, and_right, not_both, not_true, or_case, or_false, or_right, or_second}
+use Rattle.dtx_model.proofs.Bools.{and_both, and_left, and_never, and_right, not_both, not_true, or_case, or_false, or_right, or_second}
 use Rattle.dtx_model.proofs.Reading.{has-onto}
 use Rattle.dtx_model.proofs.SameNumbers.{same_enlistment}
 use Rattle.outcome_law.proofs.Lists.{each-insert}
@@ -32,7 +32,7 @@ use Rattle.outcome_law.proofs.Keeping.{Keeps}
 use Rattle.outcome_law.proofs.Handing.{keeps_within}
 use Rattle.outcome_law.proofs.Sendings.{got_line}
 use Rattle.outcome_law.proofs.Crossed.{IsStill, is_sent_on, still_more, still_silent}
-use Rattle.outcome_law.proofs.Recording.{stopped_stop}
+use Rattle.outcome_law.proofs.Wired.{unstopped}
 use Rattle.outcome_law.proofs.CoreStages.{changed, kept_some}
 use Rattle.outcome_law.proofs.HalfHeard.{is_return}
 use Rattle.outcome_law.proofs.Marks.{opened_if_returned, unopened_again}
@@ -121,10 +121,7 @@ undue_more : (e : EnlNo) (x : Entry) (h : List Entry) → Keeps (x ∷ h) → Is
 undue_more e (Sent (Enl f) Up (EnlistEnlist i)) h k w u t =
     let new : Branch = record { enlistment = f; manager = i.rm; enlisted = false; aborted = false; acked = false; due = None } in
     each-insert (is_undue e.value) branch_number new (filter (λ b. not (is_branch f.value b)) (branches h))
-    ∙ both (or_right (not (is_branch e.value new)) true refl) (kept_some (is_undue e.value) (λ b. not (is_branch f.value b)) (branches h) t)
-  where
-    both : {a b : Bool} → a ≡ true → b ≡ true → (a && b) ≡ true
-    both {a} {b} p q = rw p q
+    ∙ and_both (is_undue e.value new) (each (is_undue e.value) (filter (λ b. not (is_branch f.value b)) (branches h))) (or_right (not (is_branch e.value new)) true refl) (kept_some (is_undue e.value) (λ b. not (is_branch f.value b)) (branches h) t)
 undue_more e (Got (Enl f) Down EnlistEnlisted) h k w u t = changed (is_undue e.value) (is_undue e.value) _ (λ b s. s) (branches h) t
 undue_more e (Got (Enl f) Down EnlistCommit) h k w u t =
     changed (is_undue e.value) (is_undue e.value) (branch_due f.value (Some (Enl f))) (λ b s. other_due e.value f.value (Enl f) b (silent_own e f EnlistCommit h w k.wires.0) s) (branches h) t
@@ -162,12 +159,8 @@ back_more e x h k s o p b l w =
 pub back_returned : (e : ℕ) (h : List Entry) → is_back e h ≡ true → has (is_return e) h ≡ true
 back_returned e [] t = absurd cc
 back_returned e (x ∷ h) t =
-    or_case (is_return e x) (is_back e h && (not (breaks_off e x) && not (is_told e x))) (λ a. or_first_true (is_return e x) (has (is_return e) h) a)
+    or_case (is_return e x) (is_back e h && (not (breaks_off e x) && not (is_told e x))) (λ a. or_left (is_return e x) (has (is_return e) h) a)
     (λ a. or_right (is_return e x) (has (is_return e) h) (back_returned e h (and_left (is_back e h) (not (breaks_off e x) && not (is_told e x)) a))) t
-  where
-    or_first_true : (a b : Bool) → a ≡ true → (a || b) ≡ true
-    or_first_true true b p = refl
-    or_first_true false b p = absurd cc
 
 pub record WasBack (e : ℕ) (x : Entry) (h : List Entry) : Type 0 where
   pub before : is_back e h ≡ true
@@ -242,9 +235,7 @@ sent_there e (Sent c Down m) h o t = sent_goes e c m h o (and_left (same_connect
 sent_there e (Sent c Up m) h o t = absurd (not_both (same_connection (Again e) c && false) (and_left (same_connection (Again e) c && false) true t) (and_never (same_connection (Again e) c)))
 sent_there e _ h o t = absurd cc
 
-pub unstopped : (h : List Entry) → has is_stop h ≡ false → is_stopped h ≡ false
-unstopped h n = false_from_ne_true (is_stopped h) (λ t. not_both (has is_stop h) (stopped_stop h t) n)
-
+-- where the coordinator didn't stop, it didn't before a block
 pub unstopped_under : (h es : List Entry) → has is_stop (onto h es) ≡ false → has is_stop h ≡ false
 unstopped_under h es n = or_second (has is_stop es) (has is_stop h) (sym (has-onto is_stop h es) ∙ n)
 

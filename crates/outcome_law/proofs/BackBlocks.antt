@@ -45,6 +45,7 @@ use Rattle.dtx_model.proofs.Bools.{and_both, and_left, and_never, and_right, not
 use Rattle.dtx_model.proofs.Connections.{same_is}
 use Rattle.dtx_model.proofs.SameNumbers.{same_enlistment}
 use Rattle.outcome_law.proofs.Tests.{eq_self, eq_swap}
+use Rattle.outcome_law.proofs.Announced.{abort_kept, begin_kept, stage_down}
 use Rattle.outcome_law.proofs.Awaiting.{is_number, is_waiting_there}
 use Rattle.outcome_law.proofs.Back.{is_lasting, is_sent_to}
 
@@ -161,7 +162,7 @@ in_front e xs ys t = list_any-append (is_sent_to e) xs ys ∙ or_left (has (is_s
 in_back : (e : EnlNo) (xs ys : List Entry) → has (is_sent_to e) ys ≡ true → has (is_sent_to e) (xs ++ ys) ≡ true
 in_back e xs ys t = list_any-append (is_sent_to e) xs ys ∙ or_right (has (is_sent_to e) xs) (has (is_sent_to e) ys) t
 
-to_known : (e : EnlNo) (k : Coordinated) (f : EnlNo) (m : Message) → (e.value == f.value) ≡ true → has (same_connection (Again e)) k.known ≡ true → has (is_sent_to e) (to k (Again f) m) ≡ true
+pub to_known : (e : EnlNo) (k : Coordinated) (f : EnlNo) (m : Message) → (e.value == f.value) ≡ true → has (same_connection (Again e)) k.known ≡ true → has (is_sent_to e) (to k (Again f) m) ≡ true
 to_known e k f m q t =
     let P : EnlNo → Type 0 = λ g. has (same_connection (Again g)) k.known ≡ true in
     by (has (same_connection (Again f)) k.known) (subst P (same_enlistment e f (eqb-true e.value f.value q)) t)
@@ -170,25 +171,27 @@ to_known e k f m q t =
     by true p = rw q refl
     by false p = absurd cc
 
-pub sent_again : (e f : EnlNo) (k : Coordinated) (m : Message) → (e.value == f.value) ≡ true → has (same_connection (Again e)) k.known ≡ true → has (is_sent_to e) (to k (Again f) m) ≡ true
-sent_again e f k m q t = to_known e k f m q t
-
 waiting_sent : (e : EnlNo) (k : Coordinated) (m : Message) (ws : List EnlNo) → has (is_number e.value) ws ≡ true → has (same_connection (Again e)) k.known ≡ true → has (is_sent_to e) (flat_map (λ f. to k (Again f) m) ws) ≡ true
 waiting_sent e k m [] t g = absurd cc
 waiting_sent e k m (f ∷ ws) t g =
     or_case (is_number e.value f) (has (is_number e.value) ws) (λ q. in_front e (to k (Again f) m) (flat_map (λ f. to k (Again f) m) ws) (to_known e k f m q g))
     (λ q. in_back e (to k (Again f) m) (flat_map (λ f. to k (Again f) m) ws) (waiting_sent e k m ws q g)) t
 
+-- it waits there, and its connection is known
 abbrev is_held : EnlNo → Coordinated → Bool
 is_held e k = has (is_number e.value) k.waits && has (same_connection (Again e)) k.known
 
 abort_reaches : (e : EnlNo) (k : Coordinated) → is_held e k ≡ true → has (is_sent_to e) (abort_sends k) ≡ true
 abort_reaches e k t =
-    in_back e (to k Begin BeginAborted ++ (if k.no then [] else to k Voter VoterAbort) ++ to_each k EnlistAbort (filter (λ d. still_hears d.ballot) k.desks)) (to_waiting k ReenlistAborted) (waiting_sent e k ReenlistAborted k.waits (and_left (has (is_number e.value) k.waits) (has (same_connection (Again e)) k.known) t) (and_right (has (is_number e.value) k.waits) (has (same_connection (Again e)) k.known) t))
+    let early = to k Begin BeginAborted ++ (if k.no then [] else to k Voter VoterAbort) ++ to_each k EnlistAbort (filter (λ d. still_hears d.ballot) k.desks) in
+    in_back e early (to_waiting k ReenlistAborted)
+    (waiting_sent e k ReenlistAborted k.waits (and_left (has (is_number e.value) k.waits) (has (same_connection (Again e)) k.known) t) (and_right (has (is_number e.value) k.waits) (has (same_connection (Again e)) k.known) t))
 
 commit_reaches : (e : EnlNo) (k : Coordinated) → is_held e k ≡ true → has (is_sent_to e) (commit_sends k) ≡ true
 commit_reaches e k t =
-    in_back e (to k Begin BeginCommitted ++ to k Voter VoterCommit ++ to_each k EnlistCommit (filter (λ d. is_prepared d.ballot) k.desks)) (to_waiting k ReenlistCommitted) (waiting_sent e k ReenlistCommitted k.waits (and_left (has (is_number e.value) k.waits) (has (same_connection (Again e)) k.known) t) (and_right (has (is_number e.value) k.waits) (has (same_connection (Again e)) k.known) t))
+    let early = to k Begin BeginCommitted ++ to k Voter VoterCommit ++ to_each k EnlistCommit (filter (λ d. is_prepared d.ballot) k.desks) in
+    in_back e early (to_waiting k ReenlistCommitted)
+    (waiting_sent e k ReenlistCommitted k.waits (and_left (has (is_number e.value) k.waits) (has (same_connection (Again e)) k.known) t) (and_right (has (is_number e.value) k.waits) (has (same_connection (Again e)) k.known) t))
 
 pub logged_reaches : (e : EnlNo) (h : List Entry) → is_waiting_there e (Logged ∷ h) ≡ true → has (is_sent_to e) (commit_sends (follow (coordinate h) Logged)) ≡ true
 unfolding coordinate
@@ -199,15 +202,6 @@ unfolding coordinate
 full_reaches e h t = abort_reaches e (follow (coordinate h) LogFull) t
 
 -- a message that makes it abort
-abort_kept : (b : Bool) (s : Stage) → is_undecided s ≡ true → is_undecided (abort_if b s) ≡ false → b ≡ true
-abort_kept true s u n = refl
-abort_kept false s u n = absurd (not_both (is_undecided s) u n)
-
-begin_kept : (s : Stage) → is_undecided s ≡ true → is_undecided (begin_if s) ≡ false → ⊥
-begin_kept Idle u n = absurd cc
-begin_kept Active u n = absurd cc
-begin_kept _ u n = absurd cc
-
 if_reached : (e : EnlNo) (a u : Bool) (es : List Entry) → a ≡ true → u ≡ true → has (is_sent_to e) es ≡ true → has (is_sent_to e) (if a && u then es else []) ≡ true
 if_reached e true true es p q t = t
 if_reached e true false es p q t = absurd cc
@@ -244,12 +238,6 @@ unfolding coordinate
 end_reaches e c h u n t = end_decides e (coordinate h) c u (ap is_undecided (sym (stage_there (coordinate h) (Ended c Up))) ∙ n) t
 
 -- What comes down, and ends on the local side, leave its stage.
-stage_down : (k : Coordinated) (c : Conn) (m : Message) → stage_after k (Got c Down m) ≡ k.stage
-stage_down k Begin m = refl
-stage_down k Voter m = refl
-stage_down k (Enl e) m = refl
-stage_down k (Again e) m = refl
-
 pub down_same : (c : Conn) (m : Message) (h : List Entry) → (coordinate (Got c Down m ∷ h)).stage ≡ (coordinate h).stage
 unfolding coordinate follow
 down_same c m h = stage_down (coordinate h) c m

@@ -32,7 +32,7 @@ use Rattle.dtx_model.specs.Observed.{branch_aborted, branch_acked, branch_number
 use Rattle.dtx_model.specs.World.{is_finished_there}
 use Rattle.dtx_model.specs.Wires.{opens}
 use Rattle.dtx_model.specs.Coordinated.{accepts, ballot_of, coordinate, desk_number, follow, is_active, is_desk_of, is_prepared, unacked, with_ack, with_ballot}
-use Rattle.dtx_model.proofs.Bools.{and_both, and_left, and_never, and_right, not_both, not_false, not_true, or_case, or_false, or_right}
+use Rattle.dtx_model.proofs.Bools.{and_both, and_left, and_never, and_right, not_both, not_false, not_true, or_case, or_false, or_first, or_right, or_second}
 use Rattle.outcome_law.proofs.Tests.{eq_swap, fourth_of_four}
 use Rattle.outcome_law.proofs.Lists.{each-insert, has-insert, has_kept, if_kept}
 use Rattle.outcome_law.proofs.Scans.{each_more, has_less, has_more}
@@ -86,6 +86,13 @@ other_mark e f b a c n t = by (is_branch f b) refl t
         let P : ℕ → Type 0 = λ m. (e == m) ≡ true in
         absurd (not_both (e == f) (subst P (sym (eqb-true f b.enlistment.value q)) (and_left (is_branch e b) (a || (true || c)) t)) n)
 
+-- either of two, turned round
+turned : (i a c : Bool) → (i && (a || c)) ≡ true → (i && (c || a)) ≡ true
+turned true true c t = or_right c true refl
+turned true false true t = refl
+turned true false false t = absurd cc
+turned false a c t = absurd cc
+
 branch_unfinished : (e : ℕ) (x : Entry) (h : List Entry) → is_not_own e x ≡ true → is_told e x ≡ false → has (is_done_branch e) (branches h) ≡ false → has (is_done_branch e) (branches (x ∷ h)) ≡ false
 branch_unfinished e (Sent (Enl f) Up (EnlistEnlist i)) h o n k =
     let new : Branch = record { enlistment = f; manager = i.rm; enlisted = false; aborted = false; acked = false; due = None } in
@@ -101,24 +108,10 @@ branch_unfinished e (Told (Member f) Aborted) h o n k =
 branch_unfinished e (Acked f) h o n k =
     mapped_less (is_done_branch e) (branch_acked f.value) (λ b t. acked b t) (branches h) k
   where
-    turn : (b : Branch) (q a c : Bool) → (is_branch e b && ((q || a) || c)) ≡ true → (is_branch e b && (c || (q || a))) ≡ true
-    turn b q a c t = and_both (is_branch e b) (c || (q || a)) (and_left (is_branch e b) ((q || a) || c) t) (swap (q || a) c (and_right (is_branch e b) ((q || a) || c) t))
-      where
-        swap : (x y : Bool) → (x || y) ≡ true → (y || x) ≡ true
-        swap true y t = or_right y true refl
-        swap false true t = refl
-        swap false false t = absurd cc
-
-    back : (b : Branch) (a c : Bool) → (is_branch e b && (c || a)) ≡ true → (is_branch e b && (a || c)) ≡ true
-    back b a c t = and_both (is_branch e b) (a || c) (and_left (is_branch e b) (c || a) t) (swap c a (and_right (is_branch e b) (c || a) t))
-      where
-        swap : (x y : Bool) → (x || y) ≡ true → (y || x) ≡ true
-        swap true y t = or_right y true refl
-        swap false true t = refl
-        swap false false t = absurd cc
-
     acked : (b : Branch) → is_done_branch e (branch_acked f.value b) ≡ true → is_done_branch e b ≡ true
-    acked b t = back b b.acked b.aborted (other_mark e f.value b b.aborted b.acked (not_true (e == f.value) o) (turn b (is_branch f.value b) b.acked b.aborted t))
+    acked b t =
+        turned (is_branch e b) b.aborted b.acked
+        (other_mark e f.value b b.aborted b.acked (not_true (e == f.value) o) (turned (is_branch e b) (is_branch f.value b || b.acked) b.aborted t))
 branch_unfinished e (Reenlisted f) h o n k = has_kept (is_done_branch e) _ (λ b. refl) (branches h) ∙ k
 branch_unfinished e _ h o n k = k
 
@@ -140,16 +133,8 @@ row_unfinished e _ h o k = k
 pub unfinished_more : (e : ℕ) (x : Entry) (h : List Entry) → is_not_own e x ≡ true → is_told e x ≡ false → is_finished e h ≡ false → is_finished e (x ∷ h) ≡ false
 unfinished_more e x h o n k =
     or_false (has (is_done_branch e) (branches (x ∷ h))) (has (is_out_row e) (rows (x ∷ h)))
-    (branch_unfinished e x h o n (first (has (is_done_branch e) (branches h)) (has (is_out_row e) (rows h)) k))
-    (row_unfinished e x h o (second (has (is_done_branch e) (branches h)) (has (is_out_row e) (rows h)) k))
-  where
-    first : (a b : Bool) → (a || b) ≡ false → a ≡ false
-    first true b k = absurd cc
-    first false b k = refl
-
-    second : (a b : Bool) → (a || b) ≡ false → b ≡ false
-    second true b k = absurd cc
-    second false b k = k
+    (branch_unfinished e x h o n (or_first (has (is_done_branch e) (branches h)) (has (is_out_row e) (rows h)) k))
+    (row_unfinished e x h o (or_second (has (is_done_branch e) (branches h)) (has (is_out_row e) (rows h)) k))
 
 -- Who is finished stays so.
 branch_finished : (e : EnlNo) (x : Entry) (h : List Entry) → Keeps (x ∷ h) → has (is_done_branch e.value) (branches h) ≡ true → has (is_done_branch e.value) (branches (x ∷ h)) ≡ true
@@ -243,11 +228,7 @@ done_finished f h k =
             → (is_out_row f.value (if b then vote_row Done x else x) || has (is_out_row f.value) (map (vote_in f.value Done) xs)) ≡ true
         step ih true q s u =
             or_left (is_out_row f.value (vote_row Done x)) (has (is_out_row f.value) (map (vote_in f.value Done) xs))
-            (and_both (is_of f.value x) (not (still_hears (unless_there x.vote Done))) q (voteless x.vote (first (has_voted x) (voted f.value xs) u)))
-          where
-            first : (a b : Bool) → (a || b) ≡ false → a ≡ false
-            first true b k = absurd cc
-            first false b k = refl
+            (and_both (is_of f.value x) (not (still_hears (unless_there x.vote Done))) q (voteless x.vote (or_first (has_voted x) (voted f.value xs) u)))
         step ih false q s u = or_right (is_out_row f.value x) (has (is_out_row f.value) (map (vote_in f.value Done) xs)) (ih s u)
 
 cast_finished : (e : EnlNo) (h : List Entry) → Keeps h → has (is_cast (Enl e) Done) h ≡ true → is_finished e.value h ≡ true

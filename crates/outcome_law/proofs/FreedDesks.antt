@@ -49,6 +49,7 @@ use Rattle.outcome_law.proofs.UnstoppedTies.{none_restarts}
 use Rattle.outcome_law.proofs.Knowledge.{with_other}
 use Rattle.outcome_law.proofs.MildBlocks.{IsWide, Mild, is_mild, m_abort, m_act, m_commit, m_core_got, m_ended_at, m_local_got, wide_called, wide_mild, wide_reply}
 use Rattle.outcome_law.proofs.Handing.{keeps_within}
+use Rattle.outcome_law.proofs.Announced.{log_active}
 use Rattle.outcome_law.proofs.Managed.{desks_managed, is_enlist_by, is_managed_desk}
 use Rattle.outcome_law.proofs.Finished.{desks_done, is_done_desk, is_finished as is_finished_here, is_read_only}
 
@@ -174,18 +175,14 @@ unmarking_onto h (x ∷ es) u k w =
     (unmarking_well x h (and_left (is_unmarking x) (each is_unmarking es) u) (keeps_within (x ∷ h) es k) w)
 
 -- An append, and a free.
-log_parts : (k : Coordinated) → may_log k ≡ true → (is_active k.stage ≡ true) × (each is_ready_desk k.desks ≡ true)
+log_ready : (k : Coordinated) → may_log k ≡ true → each is_ready_desk k.desks ≡ true
 unfolding may_log
-log_parts k l = parts (not k.stopped) (is_active k.stage) k.commit k.yes (each is_ready_desk k.desks) l
-  where
-    parts : (a b c d e : Bool) → (a && b && c && d && e) ≡ true → (b ≡ true) × (e ≡ true)
-    parts a b c d e t = (and_right a b (and_left (a && b) c (and_left (a && b && c) d (and_left (a && b && c && d) e t))), and_right (a && b && c && d) e t)
+log_ready k l = and_right (not k.stopped && is_active k.stage && k.commit && k.yes) (each is_ready_desk k.desks) l
 
 logged_well : (h : List Entry) → Keeps h → may_log (coordinate h) ≡ true → IsRecordedWell (Logged ∷ h)
 unfolding coordinate follow
 logged_well h k l =
-    let p = log_parts (coordinate h) l in
-    record { there = λ r e t. desk_there e h k (active_open (coordinate h).stage p.0) t; ready = λ r. p.1; settled = λ r m. absurd cc }
+    record { there = λ r e t. desk_there e h k (active_open (coordinate h).stage (log_active (coordinate h) l)) t; ready = λ r. log_ready (coordinate h) l; settled = λ r m. absurd cc }
 
 free_parts : (k : Coordinated) → may_free k ≡ true → each (is_settled_desk k.recovered) k.desks ≡ true
 unfolding may_free

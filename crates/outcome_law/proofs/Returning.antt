@@ -71,17 +71,19 @@ use Rattle.outcome_law.proofs.Table.{is_enlist_got, is_opening_got, stands_volat
 use Rattle.outcome_law.proofs.Keeping.{Keeps, before as stands_before, keeps_before}
 use Rattle.outcome_law.proofs.Handing.{keeps_within}
 use Rattle.outcome_law.proofs.Sendings.{got_line}
-use Rattle.outcome_law.proofs.Crossed.{IsStill, end_still, is_got_on, since_opened, still_more}
+use Rattle.outcome_law.proofs.Crossed.{IsStill, end_still, is_got_on, still_more}
 use Rattle.outcome_law.proofs.CoreStages.{has_recorded, open_unaborted, open_unrecorded, recorded_mark}
-use Rattle.outcome_law.proofs.CoreKnown.{got_there, record_seen}
+use Rattle.outcome_law.proofs.CoreKnown.{enlist_of, got_there, record_seen}
 use Rattle.outcome_law.proofs.HalfKnows.{one_tag_more}
 use Rattle.outcome_law.proofs.HalfReplies.{owed, volatile_seen}
 use Rattle.outcome_law.proofs.Standing.{unvolatile_if_opened}
 use Rattle.outcome_law.proofs.MildBlocks.{IsWide, is_mild, wide_reply}
 use Rattle.outcome_law.proofs.Names.{script_once}
-use Rattle.outcome_law.proofs.Steady.{run_keeps, run_stands}
+use Rattle.outcome_law.proofs.Steady.{free_keeps, run_keeps, run_stands}
 use Rattle.outcome_law.proofs.UnstoppedTies.{none_restarts, unstopped_tied}
-use Rattle.outcome_law.proofs.Idle.{idle, none_pending_on}
+use Rattle.outcome_law.proofs.Idle.{idle, none_on_the_way}
+use Rattle.outcome_law.proofs.Announced.{free_recorded, unstopped_wired}
+use Rattle.outcome_law.proofs.Wired.{IsWired, unstopped}
 use Rattle.outcome_law.proofs.HalfHeard.{is_return}
 use Rattle.outcome_law.proofs.Marks.{IsMarked, enlisted_on, opened_if_returned, return_row}
 use Rattle.outcome_law.proofs.Reenlisted.{opened_since}
@@ -89,30 +91,18 @@ use Rattle.outcome_law.proofs.Managed.{branches_managed, is_enlist_by, is_manage
 use Rattle.outcome_law.proofs.Finished.{finished_seen, is_finished, unfinished_more}
 use Rattle.outcome_law.proofs.FreedDesks.{IsRecordedWell, never_freed, none_recorded, step_recorded}
 use Rattle.outcome_law.proofs.Awaiting.{is_asking_back, is_back, is_number, is_underway, is_waiting_there, next_asks, own_down, own_next}
-use Rattle.outcome_law.proofs.Back.{IsAnswering, IsBack, IsReady, back_beyond, back_entry, back_returned, block_answers, head_answers, is_sent_to, is_undue, lasting_answers, unstopped, unstopped_under, was_back}
-use Rattle.outcome_law.proofs.BackBlocks.{again_same, down_same, end_reaches, end_same, full_reaches, got_reaches, is_own_reply, is_recovering, lasting_abort, lasting_act, lasting_called, lasting_commit, lasting_core_got, lasting_ended_at, lasting_local_got, lasting_reply, logged_reaches, sent_again}
+use Rattle.outcome_law.proofs.Back.{IsAnswering, IsBack, IsReady, back_beyond, back_entry, back_returned, block_answers, head_answers, is_sent_to, is_undue, lasting_answers, unstopped_under, was_back}
+use Rattle.outcome_law.proofs.BackBlocks.{again_same, down_same, end_reaches, end_same, full_reaches, got_reaches, is_own_reply, is_recovering, lasting_abort, lasting_act, lasting_called, lasting_commit, lasting_core_got, lasting_ended_at, lasting_local_got, lasting_reply, logged_reaches, to_known}
 use Rattle.outcome_law.proofs.CommonBlocks.{is_reenlist}
 
 -- what is so of each that is back
 abbrev AreAnswering : List Entry → Type 0
 AreAnswering h = (e : EnlNo) → is_back e.value h ≡ true → IsAnswering e h
 
-opening_enlist : (e : EnlNo) (x : Entry) → is_opening_got (Enl e) x ≡ true → is_enlist_got e.value x ≡ true
-opening_enlist e (Got c Up m) t = by c m (and_left (same_connection (Enl e) c) (is_opening c m) t) (and_right (same_connection (Enl e) c) (is_opening c m) t)
-  where
-    by : (c : Conn) (m : Message) → same_connection (Enl e) c ≡ true → is_opening c m ≡ true → is_enlist_got e.value (Got c Up m) ≡ true
-    by (Enl f) (EnlistEnlist i) s o = s
-    by (Enl f) _ s o = absurd cc
-    by Begin m s o = absurd cc
-    by Voter m s o = absurd cc
-    by (Again f) m s o = absurd cc
-opening_enlist e (Got c Down m) t = absurd cc
-opening_enlist e _ t = absurd cc
-
 -- A message that comes up on the connection of its own reenlistment.
 enlist_came : (e : EnlNo) (h : List Entry) → Keeps h → has (is_return e.value) h ≡ true → has (is_enlist_got e.value) h ≡ true
 enlist_came e h k t =
-    has_more (is_opening_got (Enl e)) (is_enlist_got e.value) (opening_enlist e) h
+    has_more (is_opening_got (Enl e)) (is_enlist_got e.value) (enlist_of e.value e (eq_self e.value)) h
     (got_there (Enl e) (λ m. true) h k (has_more (is_enlisted_got e.value) (is_got_on (Enl e) Down (λ m. true)) (enlisted_on e) h (stands_before (is_return e.value) (is_enlisted_got e.value) (return_row e.value) h k t)))
 
 over_stage : (s : Stage) → is_recorded s ≡ false → has_aborted s ≡ false → is_undecided s ≡ false → has_recorded s ≡ true
@@ -128,7 +118,7 @@ known_there : (e f : EnlNo) (m n : Message) (h : List Entry) → (e.value == f.v
 unfolding coordinate
 known_there e f m n h q t =
     let k = follow (coordinate h) (Got (Again f) Up m) in
-    sent_again e f k n q (and_right (has (is_number e.value) k.waits) (has (same_connection (Again e)) k.known) t)
+    to_known e k f n q (and_right (has (is_number e.value) k.waits) (has (same_connection (Again e)) k.known) t)
 
 reenlist_ready : (e f : EnlNo) (id : ℕ) (i : Info) (h : List Entry) → Keeps h → (e.value == f.value) ≡ true → IsRecordedWell h → is_back e.value h ≡ true → IsBack e h
     → is_waiting_there e (Got (Again f) Up (ReenlistReenlist i) ∷ h) ≡ true
@@ -220,14 +210,6 @@ delivered_answers t w c Down (m ∷ ms) r f k s e b = by (same_connection (Again
         (λ kept back. told_off e t (half w) m w.past (got_line (Again e) Down m w.past (keeps_within (Got (Again e) Down m ∷ w.past) (local_got t (half w) (Again e) m) kept)) back) k b)
 
 -- The log's.
-free_open : (k : Coordinated) → may_free k ≡ true → is_undecided k.stage ≡ true → ⊥
-unfolding may_free
-free_open k f u = recorded_open k.stage (and_right (not k.stopped) (is_recorded k.stage) (and_left (not k.stopped && is_recorded k.stage) _ f)) u
-  where
-    recorded_open : (s : Stage) → is_recorded s ≡ true → is_undecided s ≡ true → ⊥
-    recorded_open Recorded r u = absurd cc
-    recorded_open _ r u = absurd cc
-
 coordinates_answers : (h : List Entry) (a : LogAnswer) (b : Bool) → may_log (coordinate h) ≡ b → may_coordinate (coordinate h) a ≡ true → AreAnswering h → Keeps (onto h (if b then appended (coordinate h) a else freed a))
     → has is_stop (onto h (if b then appended (coordinate h) a else freed a)) ≡ false → AreAnswering (onto h (if b then appended (coordinate h) a else freed a))
 coordinates_answers h Done true l c f k s e b =
@@ -241,7 +223,7 @@ coordinates_answers h StoppedBefore true l c f k s e b = absurd cc
 coordinates_answers h Done false l c f k s e b =
     head_answers e Freed h [] refl refl (λ y d n q. absurd cc) refl k s
     (λ u n t. absurd
-    (free_open (coordinate h) (or_case (may_log (coordinate h)) (may_free (coordinate h) && true) (λ v. absurd (not_both (may_log (coordinate h)) v l)) (λ v. and_left (may_free (coordinate h)) true v) c) u)) (f e) b
+    (free_recorded (coordinate h) (or_case (may_log (coordinate h)) (may_free (coordinate h) && true) (λ v. absurd (not_both (may_log (coordinate h)) v l)) (λ v. and_left (may_free (coordinate h)) true v) c) u)) (f e) b
 coordinates_answers h Full false l c f k s e b = f e b
 coordinates_answers h StoppedNow false l c f k s e b = absurd cc
 coordinates_answers h StoppedBefore false l c f k s e b = absurd cc
@@ -595,52 +577,9 @@ ran_returning G t (m ∷ ms) w once r n =
       answering = step_answers G t v m r.2 stands.steady.stands.keeps before stands.marked past.recorded kept now past.answering;
     })
 
--- At the end. An opened connection has an end at the local side.
-end_apart : (c d : Conn) (n : End) → same_connection c d ≡ false → is_end_of c n ≡ true → is_end_of d n ≡ false
-end_apart c d n o t = by (is_end_of d n) refl
-  where
-    by : (b : Bool) → is_end_of d n ≡ b → b ≡ false
-    by false q = refl
-    by true q = let P : Conn → Type 0 = λ y. same_connection c y ≡ true in absurd (not_both (same_connection c d) (subst P (sym (same_is d n.connection q)) t) o)
-
-end_noted : (c : Conn) (h : List Entry) → has (opens c) h ≡ true → has (is_end_of c) (ends_of h) ≡ true
-end_noted c [] t = absurd cc
-end_noted c (Sent d Up m ∷ h) t = step (end_noted c h) (same_connection c d) (is_opening d m) refl t
-  where
-    new : End
-    new = record { connection = d; sent = with_tag (tag_of m) 0; got = 0; ended = false }
-
-    step : (has (opens c) h ≡ true → has (is_end_of c) (ends_of h) ≡ true) → (s o : Bool) → same_connection c d ≡ s → ((s && o) || has (opens c) h) ≡ true
-        → has (is_end_of c) (if o then with_opened d (tag_of m) (ends_of h) else map (note_sent d (tag_of m)) (ends_of h)) ≡ true
-    step ih true true q t = has-insert (is_end_of c) end_order new (filter (λ n. not (is_end_of d n)) (ends_of h)) ∙ or_left (same_connection c d) (has (is_end_of c) (filter (λ n. not (is_end_of d n)) (ends_of h))) q
-    step ih false true q t =
-        has-insert (is_end_of c) end_order new (filter (λ n. not (is_end_of d n)) (ends_of h))
-        ∙ or_right (same_connection c d) (has (is_end_of c) (filter (λ n. not (is_end_of d n)) (ends_of h)))
-        (has_filter (is_end_of c) (λ n. not (is_end_of d n)) (ends_of h)
-        ∙ has_more (is_end_of c) (λ n. is_end_of c n && not (is_end_of d n)) (λ n a. and_both (is_end_of c n) (not (is_end_of d n)) a (not_false (is_end_of d n) (end_apart c d n q a))) (ends_of h) (ih t))
-    step ih s false q t =
-        has_kept (is_end_of c) (note_sent d (tag_of m)) (λ n. if_kept (is_end_of c) (is_end_of d n) (record { connection = n.connection; sent = with_tag (tag_of m) n.sent; got = n.got; ended = n.ended }) n refl) (ends_of h) ∙ ih (later s t)
-      where
-        later : (s : Bool) → ((s && false) || has (opens c) h) ≡ true → has (opens c) h ≡ true
-        later true t = t
-        later false t = t
-end_noted c (Got d Down m ∷ h) t = step (end_noted c h t) (has_line d Down m)
-  where
-    step : has (is_end_of c) (ends_of h) ≡ true → (b : Bool) → has (is_end_of c) (if b then map (note_got d (tag_of m)) (ends_of h) else map (note_end d) (ends_of h)) ≡ true
-    step ih true = has_kept (is_end_of c) (note_got d (tag_of m)) (λ n. if_kept (is_end_of c) (is_end_of d n) (record { connection = n.connection; sent = n.sent; got = with_tag (tag_of m) n.got; ended = n.ended }) n refl) (ends_of h) ∙ ih
-    step ih false = has_kept (is_end_of c) (note_end d) (λ n. if_kept (is_end_of c) (is_end_of d n) (record { connection = n.connection; sent = n.sent; got = n.got; ended = true }) n refl) (ends_of h) ∙ ih
-end_noted c (Ended d Down ∷ h) t = has_kept (is_end_of c) (note_end d) (λ n. if_kept (is_end_of c) (is_end_of d n) (record { connection = n.connection; sent = n.sent; got = n.got; ended = true }) n refl) (ends_of h) ∙ end_noted c h t
-end_noted c (x ∷ h) t = end_noted c h t
-
--- so where nothing is pending, nothing is on the way to it
-none_underway : (e : EnlNo) (h : List Entry) → lost_since (Again e) h ≡ Some false → flat_map (deliveries_on h) (ends_of h) ≡ [] → is_underway e h ≡ false
-none_underway e h o q =
-    let none = none_pending_on (Again e) h (ends_of h) q (end_noted (Again e) h (since_opened (Again e) h (ap is_some o))) in
-    or_false (is_asking_back (in_transit (Again e) Up h)) (not (is_empty (in_transit (Again e) Down h))) (bare (in_transit (Again e) Up h) (or_first (not (is_empty (in_transit (Again e) Up h))) _ none.0)) (or_first (not (is_empty (in_transit (Again e) Down h))) _ none.1)
-  where
-    bare : (ms : List Message) → not (is_empty ms) ≡ false → is_asking_back ms ≡ false
-    bare [] t = refl
-    bare (m ∷ ms) t = absurd cc
+-- Where nothing is pending, nothing is on the way to it.
+none_underway : (e : EnlNo) (h : List Entry) → IsWired h → flat_map (deliveries_on h) (ends_of h) ≡ [] → is_underway e h ≡ false
+none_underway e h w q = rw (none_on_the_way h w q (Again e) Up, none_on_the_way h w q (Again e) Down) refl
 
 -- Where whoever is back at the end is answered by what stands after, each that came back was.
 answered_back : (behind h : List Entry) → ((e : EnlNo) → is_back e.value h ≡ true → (has (breaks_off e.value) behind || has (is_told e.value) behind) ≡ true) → are_answered true behind h ≡ true
@@ -676,14 +615,15 @@ answered_unstopped s k t h named c n settled =
     let G = IsCallOf s t in
     let w : World = record { calls = c.freely.0; past = h } in
     let all = ran_returning G t c.freely.1.0 w (script_once s t named) c.freely.1.1 n in
-    by all (is_decided_there h) refl
+    let keeps = free_keeps G t h (script_once s t named) c.freely (unstopped_tied G t h c.freely n) in
+    by all (unstopped_wired h (record { keeps = keeps; unstopped = n })) (is_decided_there h) refl
   where
     open_none : is_undecided (coordinate h).stage ≡ true → is_decided_there h ≡ false
     open_none u = or_false (has is_record h) (coordinator_aborted h) (open_unrecorded h u) (open_unaborted h u)
 
-    by : IsReturning h → (b : Bool) → is_decided_there h ≡ b → are_answered b [] h ≡ true
-    by all false d = unasked [] h
-    by all true d =
+    by : IsReturning h → IsWired h → (b : Bool) → is_decided_there h ≡ b → are_answered b [] h ≡ true
+    by all wired false d = unasked [] h
+    by all wired true d =
         answered_back [] h
         (λ e b. let a = all.answering e b in
-        absurd (not_both (is_decided_there h) d (open_none (a.heard (none_underway e h a.back.awaited.opened (idle (entered_in s h) h settled).undelivered)))))
+        absurd (not_both (is_decided_there h) d (open_none (a.heard (none_underway e h wired (idle (entered_in s h) h settled).undelivered)))))
