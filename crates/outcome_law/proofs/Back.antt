@@ -1,7 +1,7 @@
 -- What is so of whoever came back and was neither told nor broken off since, with each entry: it isn't finished, its manager hasn't recovered, and the coordinator has its REENLIST
 -- before it, has answered, or has it wait while nothing is decided.
-use Rattle.std.proofs.Common.{◌≡◌, ℕ, ◌==◌, Bool, true, false, ◌&&◌, ◌||◌, ◌⊎◌, inl, inr, List, [], ◌∷◌, Option, Some, None, is_none, refl, ◌∙◌, ap, sym, subst}
-use Rattle.std.specs.Prelude.{map, filter, not, if◌then◌else◌}
+use Rattle.std.proofs.Common.{◌≡◌, ℕ, ◌==◌, Bool, true, false, ◌&&◌, ◌||◌, ◌⊎◌, inl, inr, List, [], ◌∷◌, Some, None, is_none, refl, ◌∙◌, ap, sym, subst}
+use Rattle.std.specs.Prelude.{filter, not}
 use Rattle.std.proofs.lemmas.Bool.{eqb-true, false_from_ne_true, or_left}
 use Rattle.dtx_values.specs.declared.entry.Entry.{Entry}
 use Rattle.dtx_values.specs.declared.entry.Entry.TheVariants.{Acked, Down as End, Freed, Got, LogFull, Logged, Recovered, Reenlisted, Restarted, Sent, Stopped, Told, Voted}
@@ -15,7 +15,6 @@ use Rattle.dtx_values.specs.declared.message.Message.TheVariants.{EnlistCommit, 
 use Rattle.dtx_values.specs.declared.number.EnlNo.{EnlNo}
 use Rattle.dtx_values.specs.declared.words.Outcome.TheVariants.{Aborted}
 use Rattle.dtx_values.specs.Ends.{is_in, same_connection, same_direction}
-use Rattle.dtx_values.specs.Lines.{has_line}
 use Rattle.dtx_model.specs.declared.branch.Branch.{Branch}
 use Rattle.dtx_model.specs.Words.{each, has, onto}
 use Rattle.dtx_model.specs.Entries.{is_told}

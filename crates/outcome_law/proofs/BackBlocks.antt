@@ -1,6 +1,6 @@
 -- The blocks of steps, by what they do to one that came back: those of the local side leave it, and where the coordinator decides, it sends to each that waits.
-use Rattle.std.proofs.Common.{◌≡◌, ℕ, ◌==◌, Bool, true, false, ◌&&◌, ◌||◌, ◌⊎◌, inl, inr, List, [], ◌∷◌, ◌++◌, Option, Some, None, is_some, refl, ◌∙◌, ap, sym, subst}
-use Rattle.std.specs.Prelude.{filter, not, map, if◌then◌else◌}
+use Rattle.std.proofs.Common.{◌≡◌, ℕ, ◌==◌, Bool, true, false, ◌&&◌, List, [], ◌∷◌, ◌++◌, Option, Some, is_some, refl, ◌∙◌, ap, sym, subst}
+use Rattle.std.specs.Prelude.{filter, not, if◌then◌else◌}
 use Rattle.std.specs.List.{flat_map}
 use Rattle.std.proofs.lemmas.Bool.{eqb-true, or_left}
 use Rattle.std.proofs.lemmas.List.Folds.{list_any-append}
@@ -9,8 +9,7 @@ use Rattle.dtx_values.specs.declared.call.Call.TheVariants.{Gone, Lose, Recovere
 use Rattle.dtx_values.specs.declared.entry.Answer.{Answer}
 use Rattle.dtx_values.specs.declared.entry.Ask.TheVariants.{Promote, Single as AskSingle}
 use Rattle.dtx_values.specs.declared.entry.Entry.{Entry}
-use Rattle.dtx_values.specs.declared.entry.Entry.TheVariants.{Acked, Asked, Cut, Down as Ended, Freed, Got, LogFull, Logged, Lost as LostEntry, OwnerAnswered, PromoteReply, Recovered as RecoveredEntry, Reenlisted, Requested, Restarted, Sealed, Sent, Stopped, Told, Voted}
-use Rattle.dtx_values.specs.declared.entry.Party.TheVariants.{Enl as Member}
+use Rattle.dtx_values.specs.declared.entry.Entry.TheVariants.{Acked, Asked, Cut, Down as Ended, Freed, Got, LogFull, Logged, Lost as LostEntry, OwnerAnswered, PromoteReply, Recovered as RecoveredEntry, Reenlisted, Requested, Restarted, Sealed, Sent, Stopped, Voted}
 use Rattle.dtx_values.specs.declared.message.Conn.{Conn}
 use Rattle.dtx_values.specs.declared.message.Conn.TheVariants.{Begin, Voter, Enl, Again}
 use Rattle.dtx_values.specs.declared.message.Dir.{Dir}
@@ -23,28 +22,23 @@ use Rattle.dtx_values.specs.declared.note.Reply.{Reply}
 use Rattle.dtx_values.specs.declared.note.Reply.TheVariants.{Vote as VoteReply, Promote as Promotes, Owner as OwnerReply, Ack}
 use Rattle.dtx_values.specs.declared.number.EnlNo.{EnlNo}
 use Rattle.dtx_values.specs.declared.words.Outcome.{Outcome}
-use Rattle.dtx_values.specs.declared.words.Outcome.TheVariants.{Aborted as AbortedOutcome, Committed, InDoubt}
 use Rattle.dtx_values.specs.Ends.{knows, same_connection}
 use Rattle.dtx_values.specs.Lines.{has_line}
 use Rattle.dtx_values.specs.Vote.{is_no}
-use Rattle.dtx_model.specs.declared.desk.Stage.{Stage}
-use Rattle.dtx_model.specs.declared.desk.Stage.TheVariants.{Aborted, Active, Idle, Over, Recorded, Unknown}
 use Rattle.dtx_model.specs.Words.{each, has}
 use Rattle.dtx_model.specs.Observed.{Observed}
-use Rattle.dtx_model.specs.Coordinated.{Coordinated, abort_if, abort_sends, aborts, begin_if, commit_sends, coordinate, core_down, core_got, follow, is_early, is_prepared, is_undecided, stage_after, still_hears, to, to_each, to_waiting}
+use Rattle.dtx_model.specs.Coordinated.{Coordinated, abort_if, abort_sends, aborts, commit_sends, coordinate, core_down, core_got, follow, is_early, is_prepared, is_undecided, stage_after, still_hears, to, to_each, to_waiting}
 use Rattle.dtx_model.specs.Half.{Half, sees, to_up}
-use Rattle.dtx_model.specs.Arrivals.{local_down, local_got}
+use Rattle.dtx_model.specs.Arrivals.{local_got}
 use Rattle.dtx_model.specs.Acts.{act_entries}
 use Rattle.dtx_model.specs.Facts.{facts_if, has_facts}
-use Rattle.dtx_model.specs.Replies.{ack_on, conn_due, due_of, is_volatile_row, owner_entries, reply_entries, request_message, request_of, vote_message}
-use Rattle.dtx_model.specs.World.{World, core, cut_upward, facts_at, gone_by, half, open_ones}
+use Rattle.dtx_model.specs.Replies.{conn_due, due_of, is_volatile_row, owner_entries, reply_entries, request_message, request_of, vote_message}
+use Rattle.dtx_model.specs.World.{World, core, facts_at, gone_by, half, open_ones}
 use Rattle.dtx_model.specs.Steps.{ended_at}
 use Rattle.dtx_model.proofs.Writes.{Each, ByAct, ByCall, ByMessage, IsClosed, Source, e_cons, e_if, e_none, e_one, each_closed, is_outcome_message, is_returning, replies, returns, writes}
 use Rattle.dtx_model.proofs.Blocks.{of_abort_sends, of_ack, of_arrived, of_commit_sends, of_core_down, of_core_got, of_cuts, of_facts, of_gone_unlinked, of_local_down, of_veto, of_veto_if, of_whole_act}
-use Rattle.dtx_model.proofs.Bools.{and_both, and_left, and_never, and_right, not_both, not_false, or_case, or_right}
-use Rattle.dtx_model.proofs.Connections.{same_is}
+use Rattle.dtx_model.proofs.Bools.{and_left, and_never, and_right, not_both, not_false, or_case, or_right}
 use Rattle.dtx_model.proofs.SameNumbers.{same_enlistment}
-use Rattle.outcome_law.proofs.Tests.{eq_self, eq_swap}
 use Rattle.outcome_law.proofs.Announced.{abort_kept, begin_kept, stage_down}
 use Rattle.outcome_law.proofs.Awaiting.{is_number, is_waiting_there}
 use Rattle.outcome_law.proofs.Back.{is_lasting, is_sent_to}

@@ -1,6 +1,6 @@
 -- Who is finished at the local side: it acknowledged, was told the abort, or voted no or done. It stays so; and a desk at the coordinator is acknowledged, or read only, only where its
 -- enlistment is finished.
-use Rattle.std.proofs.Common.{◌≡◌, ℕ, ◌==◌, Bool, true, false, ◌&&◌, ◌||◌, List, [], ◌∷◌, Option, Some, None, refl, ◌∙◌, ap, sym, subst}
+use Rattle.std.proofs.Common.{◌≡◌, ℕ, ◌==◌, Bool, true, false, ◌&&◌, ◌||◌, List, [], ◌∷◌, Option, Some, None, refl, ◌∙◌, sym, subst}
 use Rattle.std.specs.Prelude.{map, filter, is_some, not, if◌then◌else◌}
 use Rattle.std.proofs.lemmas.Bool.{eqb-true, false_from_ne_true, or_left}
 use Rattle.dtx_values.specs.declared.entry.Ask.TheVariants.{Prepare}
@@ -27,18 +27,16 @@ use Rattle.dtx_model.specs.declared.desk.Ballot.{Ballot}
 use Rattle.dtx_model.specs.declared.desk.Ballot.TheVariants.{ReadOnly}
 use Rattle.dtx_model.specs.declared.desk.Desk.{Desk}
 use Rattle.dtx_model.specs.Words.{each, has}
-use Rattle.dtx_model.specs.Entries.{is_told, is_vote}
+use Rattle.dtx_model.specs.Entries.{is_told}
 use Rattle.dtx_model.specs.Observed.{branch_aborted, branch_acked, branch_number, branches, is_branch, observe, rows}
 use Rattle.dtx_model.specs.World.{is_finished_there}
 use Rattle.dtx_model.specs.Wires.{opens}
 use Rattle.dtx_model.specs.Coordinated.{accepts, ballot_of, coordinate, desk_number, follow, is_active, is_desk_of, is_prepared, unacked, with_ack, with_ballot}
 use Rattle.dtx_model.proofs.Bools.{and_both, and_left, and_never, and_right, not_both, not_false, not_true, or_case, or_false, or_first, or_right, or_second}
-use Rattle.outcome_law.proofs.Tests.{eq_swap, fourth_of_four}
 use Rattle.outcome_law.proofs.Lists.{each-insert, has-insert, has_kept, if_kept}
 use Rattle.outcome_law.proofs.Scans.{each_more, has_less, has_more}
 use Rattle.outcome_law.proofs.Owned.{has_filter}
-use Rattle.outcome_law.proofs.Rule.{is_enlisted}
-use Rattle.outcome_law.proofs.Table.{ends_with, has_just_acked, is_acked_by, is_cast, is_there, message_row, rule}
+use Rattle.outcome_law.proofs.Table.{ends_with, is_acked_by, is_cast, message_row, rule}
 use Rattle.outcome_law.proofs.TableRows.{enlisted_in_rows}
 use Rattle.outcome_law.proofs.Keeping.{Keeps, keeps_before, newest}
 use Rattle.outcome_law.proofs.Crossed.{got_sent, is_sent_on}

@@ -1,12 +1,12 @@
 -- In each world that steps made, in which the coordinator didn't stop: where there was a record, each whose ENLIST was got has a desk, and said PREPARED or READONLY; and where the
 -- record was freed, each that said PREPARED acknowledged, or its manager recovered.
-use Rattle.std.proofs.Common.{◌≡◌, ℕ, ◌==◌, Bool, true, false, ◌&&◌, ◌||◌, List, [], ◌∷◌, Option, Some, None, refl, ◌∙◌, ap, sym, subst, if◌then◌else◌}
+use Rattle.std.proofs.Common.{◌≡◌, ℕ, Bool, true, false, ◌&&◌, ◌||◌, List, [], ◌∷◌, Option, Some, None, refl, ◌∙◌, sym, subst, if◌then◌else◌}
 use Rattle.std.specs.Prelude.{find, map, not}
 use Rattle.std.proofs.lemmas.Bool.{eqb-true}
 use Rattle.dtx_values.specs.declared.call.Call.{Call}
 use Rattle.dtx_values.specs.declared.call.Call.TheVariants.{Reenlist}
 use Rattle.dtx_values.specs.declared.entry.Entry.{Entry}
-use Rattle.dtx_values.specs.declared.entry.Entry.TheVariants.{Called, Down as Ended, Freed, Got, LogFull, Logged, Recovered, Restarted, Stopped}
+use Rattle.dtx_values.specs.declared.entry.Entry.TheVariants.{Called, Freed, Got, LogFull, Logged, Recovered, Restarted, Stopped}
 use Rattle.dtx_values.specs.declared.message.Conn.{Conn}
 use Rattle.dtx_values.specs.declared.message.Conn.TheVariants.{Enl, Again}
 use Rattle.dtx_values.specs.declared.message.Dir.{Dir}
@@ -15,29 +15,28 @@ use Rattle.dtx_values.specs.declared.message.Message.{Message}
 use Rattle.dtx_values.specs.declared.message.Message.TheVariants.{EnlistAck, EnlistEnlist, ReenlistAck}
 use Rattle.dtx_values.specs.declared.number.ActorNo.{ActorNo}
 use Rattle.dtx_values.specs.declared.number.EnlNo.{EnlNo}
-use Rattle.dtx_values.specs.Ends.{is_in, with_tag}
+use Rattle.dtx_values.specs.Ends.{is_in}
 use Rattle.dtx_model.specs.declared.branch.Branch.{Branch}
 use Rattle.dtx_model.specs.declared.desk.Ballot.{Ballot}
 use Rattle.dtx_model.specs.declared.desk.Ballot.TheVariants.{Prepared, ReadOnly, Refused}
 use Rattle.dtx_model.specs.declared.desk.Desk.{Desk}
 use Rattle.dtx_model.specs.declared.desk.Stage.{Stage}
 use Rattle.dtx_model.specs.declared.desk.Stage.TheVariants.{Over, Recorded}
-use Rattle.dtx_model.specs.Words.{each, has, latest, onto}
+use Rattle.dtx_model.specs.Words.{each, has, onto}
 use Rattle.dtx_model.specs.Entries.{is_commit_got, is_record}
 use Rattle.dtx_model.specs.Observed.{is_branch}
 use Rattle.dtx_model.specs.Promotes.{identifier_of}
 use Rattle.dtx_model.specs.Tied.{has_mark, is_stop}
-use Rattle.dtx_model.specs.Wires.{in_transit, is_stopped}
+use Rattle.dtx_model.specs.Wires.{in_transit}
 use Rattle.dtx_model.specs.Coordinated.{Coordinated, abort_sends, accepts, ballot_of, commit_sends, coordinate, core_got, desks_after, follow, is_active, is_desk_of, is_finished, is_prepared, is_ready, may_free, may_log, recovered_after, with_ack, with_ballot}
 use Rattle.dtx_model.specs.Arrivals.{local_got}
 use Rattle.dtx_model.specs.Acts.{act_entries}
 use Rattle.dtx_model.specs.Facts.{facts_if, has_facts}
 use Rattle.dtx_model.specs.Replies.{reply_entries}
 use Rattle.dtx_model.specs.World.{World, answer_at, core, facts_at, half, reenlist_facts}
-use Rattle.dtx_model.specs.Steps.{LogAnswer, Done, Full, StoppedBefore, StoppedNow, Step, Calls, Replies, Acts, Coordinates, Delivers, Stops, Restarts, after, appended, block_at, coordinates, delivered, ended_at, freed, restarted}
-use Rattle.dtx_model.specs.Caused.{MayCome, Ran, may_coordinate}
-use Rattle.dtx_model.proofs.Bools.{and_both, and_left, and_right, not_both, not_true, or_case, or_right}
-use Rattle.outcome_law.proofs.Lists.{each_kept}
+use Rattle.dtx_model.specs.Steps.{LogAnswer, Done, Full, StoppedBefore, StoppedNow, Step, Calls, Replies, Acts, Coordinates, Delivers, Stops, Restarts, after, appended, block_at, delivered, ended_at, freed}
+use Rattle.dtx_model.specs.Caused.{MayCome, may_coordinate}
+use Rattle.dtx_model.proofs.Bools.{and_left, and_right, not_both, not_true, or_case}
 use Rattle.outcome_law.proofs.Scans.{each_more}
 use Rattle.outcome_law.proofs.Table.{is_enlist_got}
 use Rattle.outcome_law.proofs.Keeping.{Keeps, keeps_before, newest}

@@ -1,22 +1,21 @@
 -- In each world that steps made, in which the coordinator didn't stop, connections may have been cut: whoever came back and was neither told nor broken off since has its REENLIST or an
 -- answer on the way, or waits where nothing is decided. So in such a history of a script, each that came back was told.
 use Rattle.std.proofs.Common.{◌≡◌, ℕ, ◌==◌, Bool, true, false, ◌&&◌, ◌||◌, ◌⊎◌, inl, inr, List, [], ◌∷◌, Option, Some, None, is_none, is_some, refl, ◌∙◌, ap, sym, subst}
-use Rattle.std.specs.Prelude.{find, map, filter, not, if◌then◌else◌}
+use Rattle.std.specs.Prelude.{find, map, not, if◌then◌else◌}
 use Rattle.std.proofs.lemmas.Bool.{eqb-true, false_from_ne_true, or_left}
 use Rattle.dtx_values.specs.declared.call.Call.{Call}
 use Rattle.dtx_values.specs.declared.call.Call.TheVariants.{Recovered, Reenlist}
-use Rattle.dtx_values.specs.declared.end.End.{End}
 use Rattle.dtx_values.specs.declared.entry.Answer.{Answer}
 use Rattle.dtx_values.specs.declared.entry.Answer.TheVariants.{Connected, Finished, NoSuch, NotBegun, Over as OverAnswer}
 use Rattle.dtx_values.specs.declared.entry.Entry.{Entry}
 use Rattle.dtx_values.specs.declared.entry.Entry.TheVariants.{Called, Down as Ended, Freed, Got, LogFull, Logged, Recovered as RecoveredEntry, Reenlisted, Sent, Stopped, Told}
 use Rattle.dtx_values.specs.declared.entry.Party.TheVariants.{Enl as Member}
 use Rattle.dtx_values.specs.declared.message.Conn.{Conn}
-use Rattle.dtx_values.specs.declared.message.Conn.TheVariants.{Begin, Voter, Enl, Again}
+use Rattle.dtx_values.specs.declared.message.Conn.TheVariants.{Enl, Again}
 use Rattle.dtx_values.specs.declared.message.Dir.{Dir}
 use Rattle.dtx_values.specs.declared.message.Dir.TheVariants.{Up, Down}
 use Rattle.dtx_values.specs.declared.message.Message.{Message}
-use Rattle.dtx_values.specs.declared.message.Message.TheVariants.{EnlistEnlist, ReenlistAborted, ReenlistCommitted, ReenlistReenlist}
+use Rattle.dtx_values.specs.declared.message.Message.TheVariants.{ReenlistAborted, ReenlistCommitted, ReenlistReenlist}
 use Rattle.dtx_values.specs.declared.message.Info.{Info}
 use Rattle.dtx_values.specs.declared.note.Note.{Note}
 use Rattle.dtx_values.specs.declared.note.Note.TheVariants.{Prepare as PrepareNote, Promote as PromoteNote, Hand as HandNote, Single as SingleNote}
@@ -27,8 +26,8 @@ use Rattle.dtx_values.specs.declared.number.EnlNo.{EnlNo}
 use Rattle.dtx_values.specs.declared.number.RmNo.{RmNo}
 use Rattle.dtx_values.specs.declared.number.TxNo.{TxNo}
 use Rattle.dtx_values.specs.declared.script.Line.{Line}
-use Rattle.dtx_values.specs.Ends.{end_order, is_end_of, is_in, knows, note_end, note_got, note_sent, same_connection, same_direction, tag_of, with_opened, with_tag}
-use Rattle.dtx_values.specs.Lines.{has_line, is_opening}
+use Rattle.dtx_values.specs.Ends.{is_in, knows, same_connection, same_direction, with_tag}
+use Rattle.dtx_values.specs.Lines.{has_line}
 use Rattle.dtx_values.specs.declared.row.Row.{Row}
 use Rattle.dtx_values.specs.Row.{has_voted, is_marked, is_of}
 use Rattle.dtx_values.specs.Class.{is_volatile}
@@ -41,13 +40,13 @@ use Rattle.dtx_model.specs.declared.desk.Stage.{Stage}
 use Rattle.dtx_model.specs.declared.desk.Stage.TheVariants.{Aborted, Active, Idle, Over, Recorded, Unknown}
 use Rattle.dtx_model.specs.Words.{each, has, onto, or_else}
 use Rattle.dtx_model.specs.Entries.{is_record, is_told}
-use Rattle.dtx_model.specs.Observed.{Observed, branch_due, branches, due_in, ends_of, is_branch, observe, rows}
+use Rattle.dtx_model.specs.Observed.{branch_due, branches, due_in, ends_of, is_branch, observe, rows}
 use Rattle.dtx_model.specs.Outcome.{is_empty}
 use Rattle.dtx_model.specs.Promotes.{identifier_of, is_enlisted_got}
 use Rattle.dtx_model.specs.Learned.{are_answered, breaks_off, coordinator_aborted, is_answered, is_decided_there}
-use Rattle.dtx_model.specs.Tied.{has_mark, is_stop}
+use Rattle.dtx_model.specs.Tied.{is_stop}
 use Rattle.dtx_model.specs.Wires.{begins_ended, ended_after, ends, in_transit, is_ended, is_stopped, loses, lost_after, lost_since, opened_with, opens}
-use Rattle.dtx_model.specs.Coordinated.{Coordinated, abort_sends, commit_sends, coordinate, core_got, follow, has_aborted, is_recorded, is_undecided, may_free, may_log, stage_after, to}
+use Rattle.dtx_model.specs.Coordinated.{abort_sends, commit_sends, coordinate, core_got, follow, has_aborted, is_recorded, is_undecided, may_free, may_log, to}
 use Rattle.dtx_model.specs.Half.{Half, info, is_gone, was_told}
 use Rattle.dtx_model.specs.Arrivals.{local_got}
 use Rattle.dtx_model.specs.Acts.{act_entries}
@@ -55,7 +54,7 @@ use Rattle.dtx_model.specs.Answers.{if_begun}
 use Rattle.dtx_model.specs.Facts.{facts_if, has_facts}
 use Rattle.dtx_model.specs.Replies.{conn_due, due_conn, due_of, fits, is_volatile_row, may_still_vote, note_of_conn, note_of_row, owes_outcome, owes_promotion, owes_request, owes_vote, reply_entries, row_note}
 use Rattle.dtx_model.specs.World.{World, answer_at, branch_answer, branches_by, core, facts_at, half, has_left, is_connected, is_finished_there, is_linked, is_unfinished_link, recovered_answer, reenlist_answer, reenlist_by, reenlist_facts, unless_connected, unless_stopped, was_opened}
-use Rattle.dtx_model.specs.Steps.{LogAnswer, Done, Full, StoppedBefore, StoppedNow, Step, Calls, Replies, Acts, Coordinates, Delivers, Stops, Restarts, after, appended, block_at, called, coordinates, deliveries_on, delivered, ended_at, freed}
+use Rattle.dtx_model.specs.Steps.{LogAnswer, Done, Full, StoppedBefore, StoppedNow, Step, Calls, Replies, Acts, Coordinates, Delivers, Stops, Restarts, after, appended, block_at, called, deliveries_on, delivered, ended_at, freed}
 use Rattle.dtx_model.specs.Caused.{AreMadeOnce, Caused, IsCallOf, MayCome, Ran, entered_in, may_coordinate}
 use Rattle.dtx_model.specs.Grammar.{are_named_well}
 use Rattle.dtx_model.specs.History.{AreAnswered}
@@ -65,7 +64,6 @@ use Rattle.dtx_model.proofs.SameNumbers.{same_enlistment}
 use Rattle.outcome_law.proofs.Tests.{eq_self}
 use Rattle.outcome_law.proofs.Scans.{each-at, find_none, has_more}
 use Rattle.outcome_law.proofs.Picks.{found_at, has-at}
-use Rattle.outcome_law.proofs.Lists.{has-insert, has_kept, if_kept}
 use Rattle.outcome_law.proofs.Owned.{has_filter}
 use Rattle.outcome_law.proofs.Table.{is_enlist_got, is_opening_got, stands_volatile}
 use Rattle.outcome_law.proofs.Keeping.{Keeps, before as stands_before, keeps_before}
@@ -92,7 +90,7 @@ use Rattle.outcome_law.proofs.Finished.{finished_seen, is_finished, unfinished_m
 use Rattle.outcome_law.proofs.FreedDesks.{IsRecordedWell, never_freed, none_recorded, step_recorded}
 use Rattle.outcome_law.proofs.Awaiting.{is_asking_back, is_back, is_number, is_underway, is_waiting_there, next_asks, own_down, own_next}
 use Rattle.outcome_law.proofs.Back.{IsAnswering, IsBack, IsReady, back_beyond, back_entry, back_returned, block_answers, head_answers, is_sent_to, is_undue, lasting_answers, unstopped_under, was_back}
-use Rattle.outcome_law.proofs.BackBlocks.{again_same, down_same, end_reaches, end_same, full_reaches, got_reaches, is_own_reply, is_recovering, lasting_abort, lasting_act, lasting_called, lasting_commit, lasting_core_got, lasting_ended_at, lasting_local_got, lasting_reply, logged_reaches, to_known}
+use Rattle.outcome_law.proofs.BackBlocks.{again_same, down_same, end_reaches, end_same, full_reaches, got_reaches, is_own_reply, lasting_abort, lasting_act, lasting_called, lasting_commit, lasting_core_got, lasting_ended_at, lasting_local_got, lasting_reply, logged_reaches, to_known}
 use Rattle.outcome_law.proofs.CommonBlocks.{is_reenlist}
 
 -- what is so of each that is back
@@ -195,7 +193,7 @@ delivered_answers t w c Up (m ∷ ms) r f k s e b = by (same_connection (Again e
         (λ u n v. got_reaches e (identifier_of t) c m w.past u n v) (f e) b
     by true q =
         let P : Conn → Type 0 = λ y. Keeps (onto (Got y Up m ∷ w.past) (core_got (identifier_of t) (core w) y m)) → has is_stop (onto (Got y Up m ∷ w.past) (core_got (identifier_of t) (core w) y m)) ≡ false
-            → is_back e.value (onto (Got y Up m ∷ w.past) (core_got (identifier_of t) (core w) y m)) ≡ true → IsAnswering e (onto (Got y Up m ∷ w.past) (core_got (identifier_of t) (core w) y m)) in
+        → is_back e.value (onto (Got y Up m ∷ w.past) (core_got (identifier_of t) (core w) y m)) ≡ true → IsAnswering e (onto (Got y Up m ∷ w.past) (core_got (identifier_of t) (core w) y m)) in
         subst P (same_is (Again e) c q) (own_answers e (identifier_of t) m w.past r (f e)) k s b
 delivered_answers t w c Down (m ∷ ms) r f k s e b = by (same_connection (Again e) c) refl
   where
