@@ -47,7 +47,7 @@ use Rattle.outcome_law.proofs.HalfRows.{voted_enlisted, voted_once}
 use Rattle.outcome_law.proofs.HalfVotes.{vote_seen}
 use Rattle.outcome_law.proofs.Marks.{unopened_again}
 use Rattle.outcome_law.proofs.BeforeRows.{row_of}
-use Rattle.outcome_law.proofs.Managed.{branches_managed, enlist_opens, is_enlist_by, opened_branch}
+use Rattle.outcome_law.proofs.Managed.{branches_managed, enlist_opens, is_enlist_by, is_managed_branch, opened_branch}
 use Rattle.dtx_model.proofs.SameNumbers.{same_enlistment}
 
 abbrev pub is_done_branch : ℕ → Branch → Bool
@@ -134,36 +134,31 @@ unfinished_more e x h o n k =
     (branch_unfinished e x h o n (or_first (has (is_done_branch e) (branches h)) (has (is_out_row e) (rows h)) k))
     (row_unfinished e x h o (or_second (has (is_done_branch e) (branches h)) (has (is_out_row e) (rows h)) k))
 
--- Who is finished stays so.
+-- Who is finished stays so. A branch that is finished is of one whose own connection was opened, so its ENLIST isn't sent again.
+done_opened : (e : EnlNo) (h : List Entry) (bs : List Branch) → each (is_managed_branch h) bs ≡ true → has (is_done_branch e.value) bs ≡ true → has (opens (Enl e)) h ≡ true
+done_opened e h [] m t = absurd cc
+done_opened e h (b ∷ bs) m t =
+    or_case (is_done_branch e.value b) (has (is_done_branch e.value) bs)
+    (λ s. let P : ℕ → Type 0 = λ n. has (is_enlist_by n b.manager.value) h ≡ true in
+    has_more (is_enlist_by e.value b.manager.value) (opens (Enl e)) (enlist_opens e b.manager.value) h
+    (subst P (sym (eqb-true e.value b.enlistment.value (and_left (is_branch e.value b) (b.acked || b.aborted) s))) (and_left (is_managed_branch h b) (each (is_managed_branch h) bs) m)))
+    (λ s. done_opened e h bs (and_right (is_managed_branch h b) (each (is_managed_branch h) bs) m) s) t
+
+other_branch : (e f : EnlNo) (b : Branch) → (e.value == f.value) ≡ false → is_branch e.value b ≡ true → is_branch f.value b ≡ false
+other_branch e f b n s =
+    false_from_ne_true (is_branch f.value b)
+    (λ q. let P : ℕ → Type 0 = λ m. (e.value == m) ≡ true in not_both (e.value == f.value) (subst P (sym (eqb-true f.value b.enlistment.value q)) s) n)
+
 branch_finished : (e : EnlNo) (x : Entry) (h : List Entry) → Keeps (x ∷ h) → has (is_done_branch e.value) (branches h) ≡ true → has (is_done_branch e.value) (branches (x ∷ h)) ≡ true
 branch_finished e (Sent (Enl f) Up (EnlistEnlist i)) h k t =
     let new : Branch = record { enlistment = f; manager = i.rm; enlisted = false; aborted = false; acked = false; due = None } in
-    let there = opened (branches h) (branches_managed h) t in
+    let once = unopened_again e (Sent (Enl f) Up (EnlistEnlist i)) h k (done_opened e h (branches h) (branches_managed h) t) in
+    let other = false_from_ne_true (e.value == f.value) (λ q. not_both ((e.value == f.value) && true) (and_both (e.value == f.value) true q refl) once) in
     has-insert (is_done_branch e.value) branch_number new (filter (λ b. not (is_branch f.value b)) (branches h))
     ∙ or_right (is_done_branch e.value new) (has (is_done_branch e.value) (filter (λ b. not (is_branch f.value b)) (branches h)))
     (has_filter (is_done_branch e.value) (λ b. not (is_branch f.value b)) (branches h)
     ∙ has_more (is_done_branch e.value) (λ b. is_done_branch e.value b && not (is_branch f.value b))
-    (λ b s. and_both (is_done_branch e.value b) (not (is_branch f.value b)) s (not_false (is_branch f.value b) (apart b (and_left (is_branch e.value b) (b.acked || b.aborted) s) there))) (branches h) t)
-  where
-    opened : (bs : List Branch) → each (λ b. has (is_enlist_by b.enlistment.value b.manager.value) h) bs ≡ true → has (is_done_branch e.value) bs ≡ true → has (opens (Enl e)) h ≡ true
-    opened [] m t = absurd cc
-    opened (b ∷ bs) m t =
-        or_case (is_done_branch e.value b) (has (is_done_branch e.value) bs)
-        (λ s. let P : ℕ → Type 0 = λ n. has (is_enlist_by n b.manager.value) h ≡ true in
-        has_more (is_enlist_by e.value b.manager.value) (opens (Enl e)) (enlist_opens e b.manager.value) h
-        (subst P (sym (eqb-true e.value b.enlistment.value (and_left (is_branch e.value b) (b.acked || b.aborted) s)))
-        (and_left (has (is_enlist_by b.enlistment.value b.manager.value) h) (each (λ d. has (is_enlist_by d.enlistment.value d.manager.value) h) bs) m)))
-        (λ s. opened bs (and_right (has (is_enlist_by b.enlistment.value b.manager.value) h) (each (λ d. has (is_enlist_by d.enlistment.value d.manager.value) h) bs) m) s) t
-
-    apart : (b : Branch) → is_branch e.value b ≡ true → has (opens (Enl e)) h ≡ true → is_branch f.value b ≡ false
-    apart b s o = by (is_branch f.value b) refl
-      where
-        by : (c : Bool) → is_branch f.value b ≡ c → c ≡ false
-        by false q = refl
-        by true q =
-            let P : ℕ → Type 0 = λ n. (e.value == n) ≡ true in
-            absurd (not_both ((e.value == f.value) && true) (and_both (e.value == f.value) true (subst P (sym (eqb-true f.value b.enlistment.value q)) s) refl)
-            (unopened_again e (Sent (Enl f) Up (EnlistEnlist i)) h k o))
+    (λ b s. and_both (is_done_branch e.value b) (not (is_branch f.value b)) s (not_false (is_branch f.value b) (other_branch e f b other (and_left (is_branch e.value b) (b.acked || b.aborted) s)))) (branches h) t)
 branch_finished e (Got (Enl f) Down EnlistEnlisted) h k t = has_made (is_done_branch e.value) (is_done_branch e.value) _ (λ b s. s) (branches h) t
 branch_finished e (Got (Enl f) Down EnlistCommit) h k t = has_made (is_done_branch e.value) (is_done_branch e.value) _ (λ b s. s) (branches h) t
 branch_finished e (Got (Again f) Down ReenlistCommitted) h k t = has_made (is_done_branch e.value) (is_done_branch e.value) _ (λ b s. s) (branches h) t
