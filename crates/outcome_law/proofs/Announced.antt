@@ -310,11 +310,11 @@ commit_announces : (h : List Entry) → IsUnstopped (onto h (commit_sends (coord
 commit_announces h u o = decision_announces h (commit_sends (coordinate h)) u (mild_apart (commit_sends (coordinate h)) (m_commit (coordinate h))) o (commit_sent (coordinate h)) (λ k n. commit_told (coordinate h) k)
 
 -- A message that the coordinator gets.
-abort_kept : (b : Bool) (s : Stage) → is_undecided s ≡ true → is_undecided (abort_if b s) ≡ false → b ≡ true
+pub abort_kept : (b : Bool) (s : Stage) → is_undecided s ≡ true → is_undecided (abort_if b s) ≡ false → b ≡ true
 abort_kept true s u n = refl
 abort_kept false s u n = absurd (not_both (is_undecided s) u n)
 
-begin_kept : (s : Stage) → is_undecided s ≡ true → is_undecided (begin_if s) ≡ false → ⊥
+pub begin_kept : (s : Stage) → is_undecided s ≡ true → is_undecided (begin_if s) ≡ false → ⊥
 begin_kept Idle u n = absurd cc
 begin_kept Active u n = absurd cc
 begin_kept _ u n = absurd cc
@@ -398,7 +398,7 @@ end_announces w c u a =
         subst P (sym same) (abort_announces (Ended c Up ∷ w.past) (subst Q same u) (λ e. end_begun c w.past here.keeps early e))
 
 -- A delivery.
-stage_down : (k : Coordinated) (c : Conn) (m : Message) → stage_after k (Got c Down m) ≡ k.stage
+pub stage_down : (k : Coordinated) (c : Conn) (m : Message) → stage_after k (Got c Down m) ≡ k.stage
 stage_down k Begin m = refl
 stage_down k Voter m = refl
 stage_down k (Enl e) m = refl
@@ -418,11 +418,11 @@ recorded_open : (s : Stage) → is_recorded s ≡ true → is_undecided s ≡ tr
 recorded_open Recorded r u = absurd cc
 recorded_open _ r u = absurd cc
 
-free_recorded : (k : Coordinated) → may_free k ≡ true → is_undecided k.stage ≡ true → ⊥
+pub free_recorded : (k : Coordinated) → may_free k ≡ true → is_undecided k.stage ≡ true → ⊥
 unfolding may_free
 free_recorded k f u = recorded_open k.stage (and_right (not k.stopped) (is_recorded k.stage) (and_left (not k.stopped && is_recorded k.stage) _ f)) u
 
-log_active : (k : Coordinated) → may_log k ≡ true → is_active k.stage ≡ true
+pub log_active : (k : Coordinated) → may_log k ≡ true → is_active k.stage ≡ true
 unfolding may_log
 log_active k l = second (not k.stopped) (is_active k.stage) k.commit k.yes _ l
   where

@@ -198,7 +198,7 @@ answer_row h good abort refused g a r Over b t f = absurd cc
 commit_at : (h : List Entry) → Keeps h → can_log h ≡ true → has is_commit_got h ≡ true
 commit_at h k c = can_commit h c
 
-commit_if_record : (h : List Entry) → Keeps h → has is_record h ≡ true → has is_commit_got h ≡ true
+pub commit_if_record : (h : List Entry) → Keeps h → has is_record h ≡ true → has is_commit_got h ≡ true
 commit_if_record h k t = if_record (λ g. has is_commit_got g) (λ x g w q. or_right (is_commit_got x) (has is_commit_got g) q) commit_at h k t
 
 -- where COMMIT didn't come and BEGIN did, it accepts, or aborted

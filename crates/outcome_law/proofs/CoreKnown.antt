@@ -268,7 +268,7 @@ vote_is e (Got (Enl f) Up EnlistNo) t = (f, EnlistNo, refl, t, refl)
 vote_is e (Got (Enl f) Up EnlistReadonly) t = (f, EnlistReadonly, refl, t, refl)
 vote_is e _ t = absurd cc
 
-enlist_of : (e : ℕ) (f : EnlNo) → (e == f.value) ≡ true → (x : Entry) → is_opening_got (Enl f) x ≡ true → is_enlist_got e x ≡ true
+pub enlist_of : (e : ℕ) (f : EnlNo) → (e == f.value) ≡ true → (x : Entry) → is_opening_got (Enl f) x ≡ true → is_enlist_got e x ≡ true
 enlist_of e f q (Got c Up m) t = by c m (and_left (same_connection (Enl f) c) (is_opening c m) t) (and_right (same_connection (Enl f) c) (is_opening c m) t)
   where
     by : (c : Conn) (m : Message) → same_connection (Enl f) c ≡ true → is_opening c m ≡ true → is_enlist_got e (Got c Up m) ≡ true

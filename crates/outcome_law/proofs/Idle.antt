@@ -49,7 +49,7 @@ none_left c d h k = bare (in_transit c d h) (or_first (not (is_empty (in_transit
     bare [] k = refl
     bare (m ∷ ms) k = absurd cc
 
-pub none_pending_on : (c : Conn) (h : List Entry) (ns : List End) → flat_map (deliveries_on h) ns ≡ [] → has (is_end_of c) ns ≡ true → (has_left c Up h ≡ false) × (has_left c Down h ≡ false)
+none_pending_on : (c : Conn) (h : List Entry) (ns : List End) → flat_map (deliveries_on h) ns ≡ [] → has (is_end_of c) ns ≡ true → (has_left c Up h ≡ false) × (has_left c Down h ≡ false)
 none_pending_on c h [] e k = absurd cc
 none_pending_on c h (n ∷ ns) e k =
     or_case (is_end_of c n) (has (is_end_of c) ns)

@@ -99,7 +99,6 @@ pub mod Undecided
 pub mod CoreSteps
 pub mod CalmBlocks
 pub mod Coming
-pub mod Unreturned
 pub mod Upward
 pub mod HalfCalls
 pub mod HalfVotes
@@ -168,6 +167,12 @@ pub mod Announced
 pub mod LostVoters
 pub mod UndecidedFine
 pub mod Told
+pub mod Awaiting
+pub mod Managed
+pub mod Finished
+pub mod FreedDesks
+pub mod Back
+pub mod BackBlocks
 pub mod Returning
 pub mod AskedRows
 pub mod PlacedRows

@@ -72,7 +72,7 @@ cloner_more G h c x m =
     record { number = m.number; actor = m.actor; call = m.call; may = m.may; makes = m.makes; called = or_right (is_call m.number x) (has (is_call m.number) h) m.called }
 
 -- Who came back had its ENLISTED, so its own connection was opened, and isn't again.
-enlisted_on : (e : EnlNo) (x : Entry) → is_enlisted_got e.value x ≡ true → is_got_on (Enl e) Down (λ m. true) x ≡ true
+pub enlisted_on : (e : EnlNo) (x : Entry) → is_enlisted_got e.value x ≡ true → is_got_on (Enl e) Down (λ m. true) x ≡ true
 enlisted_on e (Got (Enl f) Down EnlistEnlisted) t = step (e.value == f.value) t
   where
     step : (b : Bool) → b ≡ true → (b && true && true) ≡ true
@@ -86,7 +86,7 @@ opened_if_enlisted e h k t =
     opened_if_got (Enl e) h k
     (sent_opened_there (Enl e) (λ m. true) h k (was_sent (Enl e) Down (λ m. true) h k.wires (has_more (is_enlisted_got e.value) (is_got_on (Enl e) Down (λ m. true)) (enlisted_on e) h t)))
 
-return_row : (n : ℕ) (x : Entry) (h : List Entry) → Keeps h → rule h x ≡ true → is_return n x ≡ true → has (is_enlisted_got n) h ≡ true
+pub return_row : (n : ℕ) (x : Entry) (h : List Entry) → Keeps h → rule h x ≡ true → is_return n x ≡ true → has (is_enlisted_got n) h ≡ true
 return_row n (Reenlisted f) h k r t = let P : ℕ → Type 0 = λ m. has (is_enlisted_got m) h ≡ true in subst P (sym (eqb-true n f.value t)) r
 return_row n _ h k r t = absurd cc
 

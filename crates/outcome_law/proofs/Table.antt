@@ -4,7 +4,7 @@ use Rattle.std.proofs.Common.{ℕ, ◌==◌, Bool, true, false, ◌&&◌, ◌||�
 use Rattle.std.specs.Prelude.{not}
 use Rattle.dtx_values.specs.declared.entry.Ask.TheVariants.{Prepare}
 use Rattle.dtx_values.specs.declared.entry.Entry.{Entry}
-use Rattle.dtx_values.specs.declared.entry.Entry.TheVariants.{Cloned, Completed, Enlisted, CommitAsked, RollbackAsked, TimedOut, Asked, Voted, PromoteReply, Requested, Sealed, Handed, OwnerAnswered, LocalYes, Decided, Told, Promoting, Promoted, PromotionFailed, Sent, Got, Lost, Logged, LogFull, Freed, Stopped, Restarted, Reenlisted, Scope, LogWord}
+use Rattle.dtx_values.specs.declared.entry.Entry.TheVariants.{Acked, Cloned, Completed, Enlisted, CommitAsked, RollbackAsked, TimedOut, Asked, Voted, PromoteReply, Requested, Sealed, Handed, OwnerAnswered, LocalYes, Decided, Told, Promoting, Promoted, PromotionFailed, Sent, Got, Lost, Logged, LogFull, Freed, Stopped, Restarted, Reenlisted, Scope, LogWord}
 use Rattle.dtx_values.specs.declared.entry.Party.{Party}
 use Rattle.dtx_values.specs.declared.entry.Party.TheVariants.{Client, Enl}
 use Rattle.dtx_values.specs.declared.entry.Request.TheVariants.{Abort}
@@ -14,7 +14,7 @@ use Rattle.dtx_values.specs.declared.message.Dir.{Dir}
 use Rattle.dtx_values.specs.declared.message.Dir.TheVariants.{Up, Down}
 use Rattle.dtx_values.specs.declared.message.Info.{Info}
 use Rattle.dtx_values.specs.declared.message.Message.{Message}
-use Rattle.dtx_values.specs.declared.message.Message.TheVariants.{BeginBegin, BeginCommit, BeginAbort, BeginCommitted, BeginAborted, VoterVoter, VoterYes, VoterNo, VoterRefused, VoterAsk, VoterCommit, VoterAbort, EnlistEnlist, EnlistPrepared, EnlistNo, EnlistReadonly, EnlistRefused, EnlistPrepare, EnlistCommit, EnlistAbort, ReenlistReenlist, ReenlistCommitted, ReenlistAborted}
+use Rattle.dtx_values.specs.declared.message.Message.TheVariants.{BeginBegin, BeginCommit, BeginAbort, BeginCommitted, BeginAborted, VoterVoter, VoterYes, VoterNo, VoterRefused, VoterAsk, VoterCommit, VoterAbort, EnlistEnlist, EnlistPrepared, EnlistNo, EnlistReadonly, EnlistAck, EnlistRefused, EnlistPrepare, EnlistCommit, EnlistAbort, ReenlistReenlist, ReenlistAck, ReenlistCommitted, ReenlistAborted}
 use Rattle.dtx_values.specs.declared.number.EnlNo.{EnlNo}
 use Rattle.dtx_values.specs.declared.words.Class.{Class}
 use Rattle.dtx_values.specs.declared.words.Outcome.{Outcome}
@@ -107,6 +107,17 @@ is_abort_request _ = false
 abbrev pub is_abort_decided : List Entry → Bool
 is_abort_decided h = is_decided Aborted (latest decision_of h)
 
+-- this enlistment acknowledged
+abbrev pub is_acked_by : ℕ → Entry → Bool
+is_acked_by e (Acked f) = e == f.value
+is_acked_by e _ = false
+
+-- the enlistment of this connection has just acknowledged, and its own connection was opened
+abbrev pub has_just_acked : Conn → List Entry → Bool
+has_just_acked (OnEnl e) h = ends_with (is_acked_by e.value) h && has (opens (OnEnl e)) h
+has_just_acked (Again e) h = ends_with (is_acked_by e.value) h && has (opens (OnEnl e)) h
+has_just_acked c h = true
+
 -- what a message needs before it, on a connection that carries it. A message that opens b, v or an enlistment's connection is sent once, one that opens a
 -- reenlistment's again only where a connection was cut or the coordinator stopped. A commit is sent where it was logged, over a reenlistment's connection where there is a record; an abort or a
 -- refusal where the coordinator aborted.
@@ -127,12 +138,14 @@ message_row h c (EnlistEnlist i) = is_of_conn c i && has is_begun_got h && not (
 message_row h c EnlistPrepared = has (is_cast c Yes) h
 message_row h c EnlistNo = has (is_cast c No) h
 message_row h c EnlistReadonly = has (is_cast c Done) h
+message_row h c EnlistAck = has_just_acked c h
 message_row h c (EnlistRefused cause) = coordinator_aborted h
 message_row h c EnlistPrepare = has is_commit_got h
 message_row h c EnlistCommit = has is_logged h
 message_row h c EnlistAbort = coordinator_aborted h
 message_row h c (ReenlistReenlist i) = is_of_conn c i && (not (has (opens c) h) || has is_severing h)
 message_row h c ReenlistCommitted = has_mark h
+message_row h c ReenlistAck = has_just_acked c h
 message_row h c ReenlistAborted = coordinator_aborted h
 message_row h c _ = true
 

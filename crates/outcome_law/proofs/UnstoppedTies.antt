@@ -52,7 +52,7 @@ delivered_tied t w c Up (m ∷ ms) k = tied_onto (Got c Up m ∷ w.past) (core_g
 delivered_tied t w c Down (m ∷ ms) k = tied_onto (Got c Down m ∷ w.past) (local_got t (half w) c m) (q_local_got t (half w) c m).proof k
 
 -- a restart comes after a stop, or brings one
-none_restarts : (w : World) (b found : Bool) → (core w).stopped ≡ b → has is_stop (onto w.past (restarted b found)) ≡ false → ⊥
+pub none_restarts : (w : World) (b found : Bool) → (core w).stopped ≡ b → has is_stop (onto w.past (restarted b found)) ≡ false → ⊥
 none_restarts w true found e n = not_both (has is_stop w.past) (stopped_stop w.past (sym (stopped_same w.past) ∙ e)) n
 none_restarts w false found e n = absurd cc
 

@@ -57,6 +57,7 @@ use Rattle.outcome_law.proofs.Undecided.{Stands, all_willing, decided_stand, goe
 use Rattle.outcome_law.proofs.HalfCalls.{begun_if_promoted, veto_stands}
 use Rattle.outcome_law.proofs.HalfReplies.{Answers, IsLeft, IsOwed, owed, to_up_stands, volatile_seen, vote_rule}
 use Rattle.outcome_law.proofs.CoreKnown.{begun_on}
+use Rattle.outcome_law.proofs.Managed.{due_opened}
 
 -- A vote: each volatile that voted, voted well after it, where it is good or no volatile's.
 good_willing : (h : List Entry) (e : EnlNo) (v : Vote) → is_good v ≡ true → all_willing h ≡ true → all_willing (Voted e v ∷ h) ≡ true
@@ -299,19 +300,19 @@ owner_reply w e x n k a o = by_note o.answers
         (promotable_row w.past (OwnerReply x) n e.value o (third_of_four b1 b2 b3 b4 q.1)))
 
 -- An acknowledgement.
-ack_stands : (w : World) (e : EnlNo) (c : Option Conn) → Stands w.past → Stands (onto w.past (Acked e ∷ ack_on (half w).seen c))
+ack_stands : (w : World) (e : EnlNo) (c : Option Conn) → conn_due (observe w.past) e.value ≡ c → Stands w.past → Stands (onto w.past (Acked e ∷ ack_on (half w).seen c))
 unfolding observe
-ack_stands w e c k = by_conn c
+ack_stands w e c d k = by_conn c d
   where
     alone : Stands (Acked e ∷ w.past)
     alone = stand (Acked e) w.past refl tt k refl (λ g. g)
 
-    by_conn : (c : Option Conn) → Stands (onto (Acked e ∷ w.past) (ack_on (half w).seen c))
-    by_conn (Some (OnEnl f)) = to_up_stands w.past (Acked e ∷ w.past) (OnEnl f) EnlistAck alone refl (λ q. q) refl
-    by_conn (Some (Again f)) = to_up_stands w.past (Acked e ∷ w.past) (Again f) ReenlistAck alone refl (λ q. q) refl
-    by_conn (Some OnBegin) = alone
-    by_conn (Some OnVoter) = alone
-    by_conn None = alone
+    by_conn : (c : Option Conn) → conn_due (observe w.past) e.value ≡ c → Stands (onto (Acked e ∷ w.past) (ack_on (half w).seen c))
+    by_conn (Some (OnEnl f)) d = to_up_stands w.past (Acked e ∷ w.past) (OnEnl f) EnlistAck alone refl (λ q. q) (due_opened e f (OnEnl f) w.past d (eq_self f.value))
+    by_conn (Some (Again f)) d = to_up_stands w.past (Acked e ∷ w.past) (Again f) ReenlistAck alone refl (λ q. q) (due_opened e f (Again f) w.past d (eq_self f.value))
+    by_conn (Some OnBegin) d = alone
+    by_conn (Some OnVoter) d = alone
+    by_conn None d = alone
 
 -- The entries of each reply that is due keep it.
 pub reply_stands : (w : World) (e : EnlNo) (r : Reply) (n : Note) → Stands w.past → IsAsked w.past → due_of (half w).seen e.value ≡ Some n → fits r n ≡ true → Stands (onto w.past (reply_entries (half w) e r))
@@ -320,4 +321,4 @@ reply_stands w e (VoteReply v) n k a d f = vote_reply w e v n k (a.left e) d f
 reply_stands w e (Promotes ok) n k a d f = promote_reply w e ok k (may_promote w.past e ok n k a (owed w.past (Promotes ok) n e.value refl d f))
 reply_stands w e (OwnerReply x) n k a d f =
     let D : Option Note → Type 0 = λ m. Stands (onto w.past (owner_entries (half w) e x m)) in subst D (sym d) (owner_reply w e x n k a (owed w.past (OwnerReply x) n e.value refl d f))
-reply_stands w e Ack n k a d f = ack_stands w e (conn_due (half w).seen e.value) k
+reply_stands w e Ack n k a d f = ack_stands w e (conn_due (half w).seen e.value) refl k
