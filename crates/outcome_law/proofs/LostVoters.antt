@@ -48,7 +48,7 @@ use Rattle.outcome_law.proofs.Wired.{IsWired, firm_before, firm_unended, is_plai
 use Rattle.outcome_law.proofs.Onto.{none_before, stood_before}
 use Rattle.outcome_law.proofs.Messages.{COMMIT}
 use Rattle.outcome_law.proofs.Table.{is_enlist_got, is_opening_got, is_promotable_of, rule, stands_promotable}
-use Rattle.outcome_law.proofs.Keeping.{Keeps, before, newest}
+use Rattle.outcome_law.proofs.Keeping.{Keeps, before, keeps_before, newest}
 use Rattle.outcome_law.proofs.CoreKnown.{has_made}
 use Rattle.outcome_law.proofs.Owned.{decision_seen, has_filter, has_rows, is_lost_listener, listens}
 use Rattle.outcome_law.proofs.SameRows.{voted_cast}
@@ -491,9 +491,9 @@ lost_listener : (n : ℕ) (h : List Entry) → Keeps h → is_still_lost n h ≡
 lost_listener n [] k t = absurd cc
 lost_listener n (Enlisted e c ∷ h) k t =
     has-insert (is_lost_listener n) listener_number (record { enlistment = e; told = false; lost = false }) (listeners h)
-    ∙ or_right ((n == e.value) && false) (has (is_lost_listener n) (listeners h)) (lost_listener n h (before (Enlisted e c) h k) t)
-lost_listener n (Told (Member e) x ∷ h) k t = has_kept (is_lost_listener n) (hear e.value) (λ l. refl) (listeners h) ∙ lost_listener n h (before (Told (Member e) x) h k) t
-lost_listener n (Lost e ∷ h) k t = step (lost_listener n h (before (Lost e) h k)) (n == e.value) refl t
+    ∙ or_right ((n == e.value) && false) (has (is_lost_listener n) (listeners h)) (lost_listener n h (keeps_before (Enlisted e c) h k) t)
+lost_listener n (Told (Member e) x ∷ h) k t = has_kept (is_lost_listener n) (hear e.value) (λ l. refl) (listeners h) ∙ lost_listener n h (keeps_before (Told (Member e) x) h k) t
+lost_listener n (Lost e ∷ h) k t = step (lost_listener n h (keeps_before (Lost e) h k)) (n == e.value) refl t
   where
     step : (is_still_lost n h ≡ true → has (is_lost_listener n) (listeners h) ≡ true) → (b : Bool) → (n == e.value) ≡ b → holds (or_else (if b then Some true else None) (latest (loss_of n) h)) ≡ true
         → has (is_lost_listener n) (map (lose e.value) (listeners h)) ≡ true
@@ -506,7 +506,7 @@ lost_listener n (Lost e ∷ h) k t = step (lost_listener n h (before (Lost e) h 
         has_made (is_lost_listener n) (is_lost_listener n) (lose e.value)
         (λ l a. and_both (n == l.enlistment.value) ((e.value == l.enlistment.value) || l.lost) (and_left (n == l.enlistment.value) l.lost a)
         (or_right (e.value == l.enlistment.value) l.lost (and_right (n == l.enlistment.value) l.lost a))) (listeners h) (ih t)
-lost_listener n (Reenlisted e ∷ h) k t = step (lost_listener n h (before (Reenlisted e) h k)) (n == e.value) refl t
+lost_listener n (Reenlisted e ∷ h) k t = step (lost_listener n h (keeps_before (Reenlisted e) h k)) (n == e.value) refl t
   where
     other : (l : Listener) → (n == e.value) ≡ false → (n == l.enlistment.value) ≡ true → (e.value == l.enlistment.value) ≡ false
     other l q a =
@@ -521,7 +521,7 @@ lost_listener n (Reenlisted e ∷ h) k t = step (lost_listener n h (before (Reen
         (λ l a. let own = and_left (n == l.enlistment.value) l.lost a in
         and_both (n == l.enlistment.value) (not (e.value == l.enlistment.value) && l.lost) own
         (and_both (not (e.value == l.enlistment.value)) l.lost (not_false (e.value == l.enlistment.value) (other l q own)) (and_right (n == l.enlistment.value) l.lost a))) (listeners h) (ih t)
-lost_listener n (x ∷ h) k t = lost_listener n h (before x h k) t
+lost_listener n (x ∷ h) k t = lost_listener n h (keeps_before x h k) t
 
 pub lost_is_gone : (h : List Entry) (x : Row) → Keeps h → is_still_lost x.number.value h ≡ true → is_gone (observe h) x.number.value ≡ true
 unfolding observe

@@ -14,7 +14,7 @@ use Rattle.dtx_values.specs.Class.{is_volatile}
 use Rattle.dtx_values.specs.Clones.{blocks}
 use Rattle.dtx_values.specs.Row.{has_voted, is_marked}
 use Rattle.dtx_model.specs.Words.{has, each, latest, all_of, or_else}
-use Rattle.dtx_model.specs.Entries.{client_told_of, clone_of, decision_of, handed_of, is_any_owner, is_asked, is_asked_alone, is_asked_to_promote, is_commit, is_decision, is_hand, is_lost, is_promote_reply_of, is_request_of, is_sealed, is_vote}
+use Rattle.dtx_model.specs.Entries.{client_told_of, clone_of, decision_of, handed_of, is_any_owner, is_asked, is_asked_alone, is_commit, is_decision, is_hand, is_lost, is_request_of, is_sealed, is_vote}
 use Rattle.dtx_model.specs.Observed.{observe, rows}
 use Rattle.dtx_model.specs.Outcome.{can_own, durables, enlisted, is_complete}
 use Rattle.dtx_model.specs.Half.{is_gone, is_handed}

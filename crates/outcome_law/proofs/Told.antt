@@ -80,6 +80,7 @@ use Rattle.outcome_law.proofs.Requests.{IsRequesting, ran_requests}
 use Rattle.outcome_law.proofs.Foregoing.{commit_promoted, vote_cast, vote_stood}
 use Rattle.outcome_law.proofs.UndecidedFine.{IsSettling, undecided_fine, undecided_joined}
 use Rattle.outcome_law.proofs.LostVoters.{AreVoters, gone_cast, gone_was_lost, lost_is_gone, ran_voters}
+use Rattle.dtx_model.specs.Half.{is_gone}
 
 -- no restart comes where the coordinator didn't stop
 unrestarted : (h : List Entry) → Keeps h → has is_stop h ≡ false → has is_restart h ≡ false
