@@ -10,7 +10,7 @@ use Rattle.dtx_model.specs.Words.{has}
 use Rattle.dtx_model.specs.Entries.{is_any_hand, is_decision}
 use Rattle.dtx_model.specs.Observed.{Observed}
 use Rattle.dtx_model.specs.Promotes.{is_under_way}
-use Rattle.promotion.specs.Handover.{Promotion, place_of}
+use Rattle.promotion.specs.Handover.{place_of}
 use Rattle.promotion.specs.declared.handing.Right.{Right}
 use Rattle.promotion.specs.declared.handing.Right.TheVariants.{Local, Owner, InFlight, Coordinator, Spent}
 use Rattle.local_half.specs.Told.{handover_of}
