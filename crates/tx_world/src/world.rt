@@ -25,7 +25,8 @@ use crate::refusal::WorldError;
 use coordinator_core::Core;
 use coordinator_log::Log;
 use dtx_model::EnteredCall;
-use dtx_values::{ActorNo, Answer, Call, EnlNo, Entry, Note, Outbox, Outcome, TxNo};
+use dtx_values::{ActorNo, Answer, Call, EnlNo, Note, Outbox, Outcome, TxNo};
+use entry_lists::Entries;
 use local_half::{LocalHalf, Right};
 use outside::Disk;
 use std::alloc::Global;
@@ -114,8 +115,8 @@ impl TxWorld {
     }
 
     /// The history, oldest entry first.
-    pub fn history(&self) -> &[Entry]
-        ensures { past_of result.now ≡ self.now.world.past }
+    pub fn history(&self) -> &Entries
+        ensures { past_of result.now.items ≡ self.now.world.past }
     {
         self.history.entries()
     }

@@ -15,7 +15,7 @@ ghost use Rattle.tx_world.specs.Stepping.{Does};
 
 use super::{TxWorld, identifier};
 use crate::refusal::WorldError;
-use crate::writing::{sends_begin, stop_if};
+use crate::writing::{has_begun, stop_if};
 use coordinator_log::Log;
 use dtx_values::Differs;
 use outside::Disk;
@@ -61,7 +61,7 @@ impl TxWorld {
         ensures { result ≡ is_reached_by life self.now }
     {
         is_reached(
-            sends_begin(self.history.entries()),
+            has_begun(self.history.entries()),
             self.at_log.life(),
             life,
         )
