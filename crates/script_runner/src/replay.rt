@@ -30,7 +30,7 @@ ghost use Rattle.tx_world.specs.Left.{steps_left};
 use crate::contexts::{Gives, act, contexts};
 use crate::plans::Plans;
 use coordinator_log::Log;
-use dtx_values::{ActorNo, Body, Call, Entry, Line, Place, Script, TxNo};
+use dtx_values::{ActorNo, Body, Call, Entry, Line, Outbox, Place, Script, TxNo};
 use entry_lists::{PlacedEntries, Trace};
 use outcome_law::{appends, completeness, crossings, lifting, one_outcome, replay};
 use outside::Disk;
@@ -50,6 +50,8 @@ pub struct Run<'a> {
     contexts: Vec<Context>,
     /// The entries of the line under way at a context, after its call.
     entries: Vec<Entry>,
+    /// Room for what a step makes; kept for its memory alone.
+    out: Outbox,
     trace: PlacedEntries,
 }
 
@@ -130,6 +132,7 @@ impl<'a> Run<'a> {
             worlds: Vec::with_capacity(alloc, TxNo::MAX as usize)?,
             contexts: contexts(alloc)?,
             entries: Vec::new(alloc),
+            out: Outbox::with_room(alloc)?,
             trace: PlacedEntries::with_capacity(alloc, lines.len())?,
         })
     }
@@ -162,7 +165,7 @@ impl<'a> Run<'a> {
         let world = &mut self.worlds[t.index()];
         world.is_own_run();
         let from = world.history().len();
-        let _ = world.enter(log, actor, n, c, done)?;
+        let _ = world.enter(log, &mut self.out, actor, n, c, done)?;
         world.is_own_run();
         note(&mut self.trace, t, world, from)?;
         Ok(())
@@ -212,7 +215,7 @@ impl<'a> Run<'a> {
         let world = &mut self.worlds[t.index()];
         world.is_own_run();
         let from = world.history().len();
-        if !world.step(log, u32::from(k))? {
+        if !world.step(log, &mut self.out, u32::from(k))? {
             return Ok(false);
         }
         // What holds of the world after the step: what it keeps of the log is what its coordinator knows.

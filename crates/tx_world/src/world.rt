@@ -25,7 +25,7 @@ use crate::refusal::WorldError;
 use coordinator_core::Core;
 use coordinator_log::Log;
 use dtx_model::EnteredCall;
-use dtx_values::{ActorNo, Answer, Call, EnlNo, Note, Outbox, Outcome, TxNo};
+use dtx_values::{ActorNo, Answer, Call, EnlNo, Note, Outcome, TxNo};
 use entry_lists::Entries;
 use local_half::{LocalHalf, Right};
 use outside::Disk;
@@ -53,8 +53,6 @@ pub struct TxWorld {
     /// The calls that were entered, oldest first.
     calls: Vec<EnteredCall>,
     at_log: AtLog,
-    /// What a step makes before it is written; kept for its memory alone.
-    out: Outbox,
 }
 
 impl Model for TxWorld {
@@ -99,7 +97,6 @@ impl TxWorld {
             history: History::new(alloc)?,
             calls: Vec::new(alloc),
             at_log: AtLog::new(),
-            out: Outbox::with_room(alloc)?,
         })
     }
 
