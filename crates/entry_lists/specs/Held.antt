@@ -4,9 +4,10 @@ use Rattle.dtx_values.specs.declared.entry.Entry.{Entry}
 use Rattle.dtx_values.specs.declared.entry.Answer.TheVariants.{Fine}
 use Rattle.dtx_values.specs.declared.entry.Entry.TheVariants.{Called as CalledWith, Began as BeganWith, Enlisted as EnlistedWith, CommitAsked as AskedCommit, RollbackAsked as AskedRollback}
 use Rattle.dtx_values.specs.declared.entry.Entry.TheVariants.{Clock as ClockAt, Asked as AskedOf, Voted as VotedOf, Sealed as SealedNow, Decided as DecidedAs, Told as ToldTo, Late}
+use Rattle.dtx_values.specs.declared.entry.Party.TheVariants.{Client, Enl}
 use Rattle.dtx_values.specs.declared.trace.Place.{Place}
 use Rattle.entry_lists.specs.declared.brief.Brief.{Brief}
-use Rattle.entry_lists.specs.declared.brief.Brief.TheVariants.{Called, Began, Enlisted, CommitAsked, RollbackAsked, Clock, Asked, Voted, Sealed, Decided, Told, Whole}
+use Rattle.entry_lists.specs.declared.brief.Brief.TheVariants.{Called, Began, Enlisted, CommitAsked, RollbackAsked, Clock, Asked, Voted, Sealed, Decided, Told, ToldClient, Whole}
 
 -- entries, and for how many more there is room
 pub record Held : Type 0 where
@@ -30,7 +31,8 @@ entry_in ws (Asked e a) = AskedOf e a
 entry_in ws (Voted e v) = VotedOf e v
 entry_in ws Sealed = SealedNow
 entry_in ws (Decided o) = DecidedAs o
-entry_in ws (Told p o) = ToldTo p o
+entry_in ws (Told e o) = ToldTo (Enl e) o
+entry_in ws (ToldClient o) = ToldTo Client o
 entry_in ws (Whole k) = slice_index_or ws k Late
 
 -- where it stands whole, it is one of so many

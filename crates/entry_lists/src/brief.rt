@@ -21,7 +21,8 @@ pub enum Brief {
     Voted(EnlNo, Vote),
     Sealed,
     Decided(Outcome),
-    Told(Party, Outcome),
+    Told(EnlNo, Outcome),
+    ToldClient(Outcome),
     /// The place of an entry that stands whole.
     Whole(u32),
 }
@@ -41,7 +42,8 @@ fn brief_of(e: &Entry) -> Option<Brief>
         Entry::Voted(f, vote) => Some(Brief::Voted(f, vote)),
         Entry::Sealed => Some(Brief::Sealed),
         Entry::Decided(outcome) => Some(Brief::Decided(outcome)),
-        Entry::Told(party, outcome) => Some(Brief::Told(party, outcome)),
+        Entry::Told(Party::Enl(f), outcome) => Some(Brief::Told(f, outcome)),
+        Entry::Told(Party::Client, outcome) => Some(Brief::ToldClient(outcome)),
         _ => None,
     }
 }
@@ -81,7 +83,8 @@ pub(crate) fn entry_in(wholes: &[Entry], b: Brief) -> Entry
         Brief::Voted(e, vote) => Entry::Voted(e, vote),
         Brief::Sealed => Entry::Sealed,
         Brief::Decided(outcome) => Entry::Decided(outcome),
-        Brief::Told(party, outcome) => Entry::Told(party, outcome),
+        Brief::Told(e, outcome) => Entry::Told(Party::Enl(e), outcome),
+        Brief::ToldClient(outcome) => Entry::Told(Party::Client, outcome),
         Brief::Whole(place) => whole(wholes, place as usize),
     }
 }
