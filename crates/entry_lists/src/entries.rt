@@ -1,5 +1,5 @@
 //! Entries of one history.
-ghost use Rattle.std.specs.Prelude.{◌≡◌, ◌≤◌, ◌<◌, ◌+◌, ◌++◌, ◌∷◌, [], IfOk, OnErr, OnOk, length, slice_get};
+ghost use Rattle.std.specs.Prelude.{◌≡◌, ◌≤◌, ◌<◌, ◌+◌, ◌++◌, ◌∷◌, [], IfOk, OnErr, OnOk, length, slice_index_or};
 
 use crate::brief::{Brief, entry_in, keep};
 use dtx_values::Entry;
@@ -75,14 +75,11 @@ impl Entries {
         self.briefs.len()
     }
 
-    /// The entry at a place, from 0; `None` after the last.
-    pub fn get(&self, i: usize) -> Option<Entry>
-        ensures { result ≡ slice_get self.now.items i }
+    /// The entry at a place, from 0.
+    pub fn at(&self, i: usize) -> Entry
+        requires { i < length self.now.items }
+        ensures { result ≡ slice_index_or self.now.items i result }
     {
-        if i < self.briefs.len() {
-            Some(entry_in(&self.wholes, self.briefs[i]))
-        } else {
-            None
-        }
+        entry_in(&self.wholes, self.briefs[i])
     }
 }

@@ -1,5 +1,5 @@
 //! Entries with their places.
-ghost use Rattle.std.specs.Prelude.{◌≡◌, ◌≤◌, ◌<◌, ◌+◌, ◌++◌, ◌∷◌, [], IfOk, OnErr, OnOk, drop, length, map, slice_get};
+ghost use Rattle.std.specs.Prelude.{◌≡◌, ◌≤◌, ◌<◌, ◌+◌, ◌++◌, ◌∷◌, [], IfOk, OnErr, OnOk, drop, length, map, slice_index_or};
 
 use crate::brief::{Brief, entry_in, keep};
 use crate::entries::Entries;
@@ -94,10 +94,8 @@ impl PlacedEntries {
         requires room { length (drop from entries.now.items) ≤ self.old.room }
         ensures items { self.new.items ≡ self.old.items ++ map (λ e. (place, e)) (drop from entries.now.items) }
     {
-        let mut i = from;
-        while let Some(e) = entries.get(i) {
-            self.push_reserved((place, e));
-            i += 1;
+        for i in from..entries.len() {
+            self.push_reserved((place, entries.at(i)));
         }
     }
 
@@ -108,15 +106,12 @@ impl PlacedEntries {
         self.briefs.len()
     }
 
-    /// The entry with its place that stands there, from 0; `None` after the last.
-    pub fn get(&self, i: usize) -> Option<(Place, Entry)>
-        ensures { result ≡ slice_get self.now.items i }
+    /// The i-th entry with its place, from 0.
+    pub fn at(&self, i: usize) -> (Place, Entry)
+        requires { i < length self.now.items }
+        ensures { result ≡ slice_index_or self.now.items i result }
     {
-        if i < self.briefs.len() {
-            let (place, brief) = self.briefs[i];
-            Some((place, entry_in(&self.wholes, brief)))
-        } else {
-            None
-        }
+        let (place, brief) = self.briefs[i];
+        (place, entry_in(&self.wholes, brief))
     }
 }

@@ -1,5 +1,5 @@
 //! Traces. Their form is this project's own.
-ghost use Rattle.std.specs.Prelude.{◌≡◌, length, slice_get};
+ghost use Rattle.std.specs.Prelude.{◌≡◌, ◌<◌, length, slice_index_or};
 
 use crate::placed::PlacedEntries;
 use dtx_values::{Entry, Place};
@@ -36,10 +36,11 @@ impl Trace {
         self.entries.len()
     }
 
-    /// The entry with its place that stands there, from 0; `None` after the last.
-    pub fn get(&self, i: usize) -> Option<(Place, Entry)>
-        ensures { result ≡ slice_get self.now i }
+    /// The i-th entry with its place, from 0.
+    pub fn at(&self, i: usize) -> (Place, Entry)
+        requires { i < length self.now }
+        ensures { result ≡ slice_index_or self.now i result }
     {
-        self.entries.get(i)
+        self.entries.at(i)
     }
 }

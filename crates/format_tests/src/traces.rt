@@ -10,7 +10,7 @@ use trace_text::{Place, PlacedEntries, Trace, TraceError, print_trace, read_trac
 /// Whether the text is that of this entry alone.
 fn reads(alloc: Global, text: &str, place: Place, want: Entry) -> bool {
     match read_trace(alloc, text.as_bytes()) {
-        Ok(trace) => trace.len() == 1 && trace.get(0) == Some((place, want)),
+        Ok(trace) => trace.len() == 1 && trace.at(0) == (place, want),
         Err(_) => false,
     }
 }

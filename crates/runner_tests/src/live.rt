@@ -339,9 +339,8 @@ fn history(rt: &impl Abort, alloc: Global, script: &str) -> Result<Vec<Entry>, A
     };
     let mut history = Vec::new(alloc);
     for i in 0..trace.len() {
-        if let Some((_place, entry)) = trace.get(i) {
-            history.push(entry)?;
-        }
+        let (_place, entry) = trace.at(i);
+        history.push(entry)?;
     }
     Ok(history)
 }

@@ -39,11 +39,9 @@ pub fn print_trace(alloc: Global, t: &Trace) -> Result<Vec<u8>, AllocError>
 {
     let mut text = Vec::with_capacity(alloc, t.len().saturating_mul(MEAN_LINE))?;
     let mut tail = Tail::new();
-    let mut number = 0;
-    while let Some(x) = t.get(number) {
-        number += 1;
+    for index in 0..t.len() {
         tail.clear();
-        put_line(&mut tail, number, x);
+        put_line(&mut tail, index + 1, t.at(index));
         text.extend_from_slice(tail.as_slice())?;
     }
     Ok(text)

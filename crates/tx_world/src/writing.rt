@@ -33,12 +33,10 @@ fn sends_begin(block: &[Entry]) -> bool
 pub(crate) fn has_begun(entries: &Entries) -> bool
     ensures { result ≡ has is_begin_sent entries.now.items }
 {
-    let mut i = 0;
-    while let Some(x) = entries.get(i) {
-        if is_begin_sent(&x) {
+    for i in 0..entries.len() {
+        if is_begin_sent(&entries.at(i)) {
             return true;
         }
-        i += 1;
     }
     false
 }

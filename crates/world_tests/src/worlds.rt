@@ -315,7 +315,7 @@ fn a_stop_reaches_who_is_at_the_coordinator(rt: HostRuntime) -> Result<(), Fail>
     stopped_at_once(&rt, &mut world, &mut log, &mut out);
     let h = world.history();
     assert_eq!(rt; h.len(), 6);
-    assert_eq!(rt; h.get(5), Some(Entry::Stopped));
+    assert_eq!(rt; h.at(5), Entry::Stopped);
     Ok(())
 }
 
@@ -353,6 +353,7 @@ fn the_steps_of_the_caller_are_said(rt: HostRuntime) -> Result<(), Fail> {
     let a1 = ActorNo::new(1).unwrap();
     let did = Entry::Called(3, a1, Answer::Did(1));
     let h = world.history();
-    assert_eq!(rt; h.get(h.len().saturating_sub(1)), Some(did));
+    assert_eq!(rt; h.len(), 6);
+    assert_eq!(rt; h.at(5), did);
     Ok(())
 }
