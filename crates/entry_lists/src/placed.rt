@@ -1,5 +1,5 @@
 //! Entries with their places.
-ghost use Rattle.std.specs.Prelude.{◌≡◌, ◌≤◌, ◌<◌, ◌+◌, ◌++◌, ◌∷◌, [], IfOk, OnErr, OnOk, drop, length, map, slice_index_or};
+ghost use Rattle.std.specs.Prelude.{◌≡◌, ◌≤◌, ◌<◌, ◌+◌, ◌^◌, ◌++◌, ◌∷◌, [], IfOk, OnErr, OnOk, drop, length, map, slice_index_or};
 
 use crate::brief::{Brief, entry_in, keep};
 use crate::entries::Entries;
@@ -101,7 +101,8 @@ impl PlacedEntries {
 
     /// How many entries there are.
     pub fn len(&self) -> usize
-        ensures { result ≡ length self.now.items }
+        ensures count { result ≡ length self.now.items }
+        ensures few { result < 2 ^ 63 }
     {
         self.briefs.len()
     }

@@ -1,5 +1,5 @@
 //! A replay: the lines in order, and then the rounds at the end.
-ghost use Rattle.std.specs.Prelude.{ℕ, ◌≡◌, ◌⊎◌, ◌≢◌, ◌≤◌, ◌<◌, ◌+◌, ◌-◌, List, [], ◌∷◌, ◌++◌, IfOk, OnErr, OnOk, IsTrue, None, Ok, Some, true, false, length, map, replicate, slice_get, suc, vec_len, vec_capacity};
+ghost use Rattle.std.specs.Prelude.{ℕ, ◌≡◌, ◌⊎◌, ◌≢◌, ◌≤◌, ◌<◌, ◌+◌, ◌-◌, List, [], ◌∷◌, ◌++◌, IfOk, OnErr, OnOk, IsTrue, None, Ok, Some, true, false, length, map, replicate, slice_get, suc};
 ghost use Rattle.dtx_values.specs.declared.call.Call.{Call};
 ghost use Rattle.dtx_values.specs.declared.entry.Entry.{Entry};
 ghost use Rattle.dtx_values.specs.declared.number.ActorNo.{ActorNo};
