@@ -5,15 +5,12 @@ use dtx_values::{
 };
 use std::alloc::{AllocError, Global};
 use std::test::Fail;
-use trace_text::{Place, Trace, TraceError, print_trace, read_trace};
+use trace_text::{Place, PlacedEntries, Trace, TraceError, print_trace, read_trace};
 
 /// Whether the text is that of this entry alone.
 fn reads(alloc: Global, text: &str, place: Place, want: Entry) -> bool {
     match read_trace(alloc, text.as_bytes()) {
-        Ok(trace) => match trace.entries() {
-            [x] => x.0 == place && x.1 == want,
-            _ => false,
-        },
+        Ok(trace) => trace.len() == 1 && trace.at(0) == (place, want),
         Err(_) => false,
     }
 }
@@ -48,7 +45,7 @@ fn finds_bad_lines(rt: HostRuntime) -> Result<(), Fail> {
     ];
     for (text, want) in cases {
         let found = match read_trace(rt.alloc(), text.as_bytes()) {
-            Ok(trace) => Ok(trace.entries().len()),
+            Ok(trace) => Ok(trace.len()),
             Err(e) => Err(e),
         };
         assert!(rt; found == want, "at {text}");
@@ -338,7 +335,9 @@ fn reads_each_message(rt: HostRuntime) -> Result<(), Fail> {
 
 /// The text of a trace of this entry alone, in the log.
 fn printed(alloc: Global, x: Entry) -> Result<Vec<u8>, AllocError> {
-    print_trace(alloc, &Trace::new(vec![in alloc; (Place::Log, x)]?))
+    let mut entries = PlacedEntries::new(alloc);
+    entries.push((Place::Log, x))?;
+    print_trace(alloc, &Trace::new(entries))
 }
 
 /// What is wanted of it: these words, and others before them.
@@ -354,7 +353,7 @@ fn wanted(alloc: Global, before: &str, words: &str) -> Result<Vec<u8>, AllocErro
 fn numbers_lines(rt: HostRuntime) -> Result<(), Fail> {
     let t1 = Place::Transaction(TxNo::new(1).unwrap());
     let a3 = Place::Context(ActorNo::new(3).unwrap());
-    let entries = vec![in rt.alloc();
+    let entries = [
         (t1, Entry::CommitAsked),
         (a3, Entry::Sealed),
         (Place::Log, Entry::Freed),
@@ -365,8 +364,12 @@ fn numbers_lines(rt: HostRuntime) -> Result<(), Fail> {
         (t1, Entry::Late),
         (t1, Entry::Late),
         (t1, Entry::Clock(0)),
-    ]?;
-    let text = print_trace(rt.alloc(), &Trace::new(entries))?;
+    ];
+    let mut list = PlacedEntries::new(rt.alloc());
+    for x in entries {
+        list.push(x)?;
+    }
+    let text = print_trace(rt.alloc(), &Trace::new(list))?;
     let expected = "1 t1 commit\n2 a3 sealed\n3 log freed\n4 t1 late\n5 t1 late\n6 t1 late\n\
         7 t1 late\n8 t1 late\n9 t1 late\n10 t1 clock 0\n";
     assert_eq!(rt; text.as_slice(), expected.as_bytes());

@@ -338,8 +338,9 @@ fn history(rt: &impl Abort, alloc: Global, script: &str) -> Result<Vec<Entry>, A
         panic!(rt; "what was printed isn't a trace");
     };
     let mut history = Vec::new(alloc);
-    for (_place, entry) in trace.entries() {
-        history.push(*entry)?;
+    for i in 0..trace.len() {
+        let (_place, entry) = trace.at(i);
+        history.push(entry)?;
     }
     Ok(history)
 }

@@ -182,7 +182,7 @@ fn tried(alloc: Global, script: &Script, disk: SureDisk) -> Result<Option<usize>
     match Log::format(alloc, disk) {
         Ok(mut log) => {
             let trace = run_replay(alloc, script, &mut log)?;
-            Ok(Some(trace.entries().len()))
+            Ok(Some(trace.len()))
         }
         Err(_) => Err(AllocError),
     }

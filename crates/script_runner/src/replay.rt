@@ -1,5 +1,5 @@
 //! A replay: the lines in order, and then the rounds at the end.
-ghost use Rattle.std.specs.Prelude.{ℕ, ◌≡◌, ◌⊎◌, ◌≢◌, ◌≤◌, ◌<◌, ◌+◌, ◌-◌, List, [], ◌∷◌, ◌++◌, IfOk, OnErr, OnOk, IsTrue, None, Ok, Some, true, false, length, map, replicate, slice_get, suc, vec_len, vec_capacity};
+ghost use Rattle.std.specs.Prelude.{ℕ, ◌≡◌, ◌⊎◌, ◌≢◌, ◌≤◌, ◌<◌, ◌+◌, ◌-◌, List, [], ◌∷◌, ◌++◌, IfOk, OnErr, OnOk, IsTrue, None, Ok, Some, true, false, length, map, replicate, slice_get, suc};
 ghost use Rattle.dtx_values.specs.declared.call.Call.{Call};
 ghost use Rattle.dtx_values.specs.declared.entry.Entry.{Entry};
 ghost use Rattle.dtx_values.specs.declared.number.ActorNo.{ActorNo};
@@ -30,7 +30,8 @@ ghost use Rattle.tx_world.specs.Left.{steps_left};
 use crate::contexts::{Gives, act, contexts};
 use crate::plans::Plans;
 use coordinator_log::Log;
-use dtx_values::{ActorNo, Body, Call, Entry, Line, Place, Script, Trace, TxNo};
+use dtx_values::{ActorNo, Body, Call, Entry, Line, Outbox, Place, Script, TxNo};
+use entry_lists::{PlacedEntries, Trace};
 use outcome_law::{appends, completeness, crossings, lifting, one_outcome, replay};
 use outside::Disk;
 use scope_context::Context;
@@ -49,7 +50,9 @@ pub struct Run<'a> {
     contexts: Vec<Context>,
     /// The entries of the line under way at a context, after its call.
     entries: Vec<Entry>,
-    trace: Vec<(Place, Entry)>,
+    /// Room for what a step makes; kept for its memory alone.
+    out: Outbox,
+    trace: PlacedEntries,
 }
 
 impl<'a> Model for Run<'a> {
@@ -91,8 +94,8 @@ fn reach(alloc: Global, worlds: &mut Vec<TxWorld>, t: TxNo) -> Result<(), WorldE
 }
 
 /// Puts the entries at the end of the trace, each at this place. The trace has room for them.
-fn append(trace: &mut Vec<(Place, Entry)>, place: Place, entries: &[Entry])
-    requires { vec_len trace.old + length entries.now ≤ vec_capacity trace.old }
+fn append(trace: &mut PlacedEntries, place: Place, entries: &[Entry])
+    requires { length entries.now ≤ trace.old.room }
     ensures { trace.new.items ≡ trace.old.items ++ map (λ e. (place, e)) entries.now }
 {
     for e in entries {
@@ -102,7 +105,7 @@ fn append(trace: &mut Vec<(Place, Entry)>, place: Place, entries: &[Entry])
 
 /// Puts at the end of the trace what was written to a transaction's history from this place on.
 fn note(
-    trace: &mut Vec<(Place, Entry)>,
+    trace: &mut PlacedEntries,
     t: TxNo,
     world: &TxWorld,
     from: usize,
@@ -110,9 +113,9 @@ fn note(
     requires { from ≤ length world.now.world.past }
     ensures { OnOk result ((past es : List Entry) → length past ≡ from → world.now.world.past ≡ onto past es → trace.new.items ≡ trace.old.items ++ placed t es) }
 {
-    let entries = &world.history()[from..];
-    trace.reserve(entries.len())?;
-    append(trace, Place::Transaction(t), entries);
+    let history = world.history();
+    trace.reserve(history.len() - from)?;
+    trace.push_from(Place::Transaction(t), history, from);
     Ok(())
 }
 
@@ -129,7 +132,8 @@ impl<'a> Run<'a> {
             worlds: Vec::with_capacity(alloc, TxNo::MAX as usize)?,
             contexts: contexts(alloc)?,
             entries: Vec::new(alloc),
-            trace: Vec::with_capacity(alloc, lines.len())?,
+            out: Outbox::with_room(alloc)?,
+            trace: PlacedEntries::with_capacity(alloc, lines.len())?,
         })
     }
 
@@ -161,7 +165,7 @@ impl<'a> Run<'a> {
         let world = &mut self.worlds[t.index()];
         world.is_own_run();
         let from = world.history().len();
-        let _ = world.enter(log, actor, n, c, done)?;
+        let _ = world.enter(log, &mut self.out, actor, n, c, done)?;
         world.is_own_run();
         note(&mut self.trace, t, world, from)?;
         Ok(())
@@ -211,7 +215,7 @@ impl<'a> Run<'a> {
         let world = &mut self.worlds[t.index()];
         world.is_own_run();
         let from = world.history().len();
-        if !world.step(log, u32::from(k))? {
+        if !world.step(log, &mut self.out, u32::from(k))? {
             return Ok(false);
         }
         // What holds of the world after the step: what it keeps of the log is what its coordinator knows.

@@ -6,7 +6,8 @@ ghost use Rattle.trace_text.specs.OneTrace.{is_typed_at};
 
 use crate::entries::put_entry;
 use crate::names::put_place;
-use dtx_values::{Entry, Place, Trace};
+use dtx_values::{Entry, Place};
+use entry_lists::Trace;
 use line_tail::Tail;
 use std::alloc::{AllocError, Global};
 
@@ -36,12 +37,11 @@ pub fn print_trace(alloc: Global, t: &Trace) -> Result<Vec<u8>, AllocError>
     ensures text { IfOk result (λ v. v.items ≡ trace_text t.now) }
     ensures typed { IfOk result (λ v. each is_typed_at t.now ≡ true) }
 {
-    let entries = t.entries();
-    let mut text = Vec::with_capacity(alloc, entries.len().saturating_mul(MEAN_LINE))?;
+    let mut text = Vec::with_capacity(alloc, t.len().saturating_mul(MEAN_LINE))?;
     let mut tail = Tail::new();
-    for (index, x) in entries.iter().enumerate() {
+    for index in 0..t.len() {
         tail.clear();
-        put_line(&mut tail, index + 1, *x);
+        put_line(&mut tail, index + 1, t.at(index));
         text.extend_from_slice(tail.as_slice())?;
     }
     Ok(text)

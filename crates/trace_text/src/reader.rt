@@ -9,7 +9,8 @@ ghost use Rattle.trace_text.specs.ReadTrace.{IsBadTrace, line_body};
 
 use crate::printer::put_line;
 use crate::read_entries::{entry, place};
-use dtx_values::{Entry, Place, Trace};
+use dtx_values::{Entry, Place};
+use entry_lists::{PlacedEntries, Trace};
 use line_tail::Tail;
 use std::alloc::Global;
 use trace_words::cut;
@@ -64,7 +65,7 @@ pub fn read_trace(alloc: Global, bytes: &[u8]) -> Result<Trace, TraceError>
     ensures text { IfOk result (λ T. IsTextOf bytes.now T) }
     ensures bad { IfErr result (λ e. IsBadTrace bytes.now e) }
 {
-    let mut entries = Vec::new(alloc);
+    let mut entries = PlacedEntries::new(alloc);
     let mut rest = bytes;
     while !rest.is_empty() {
         match first_line(entries.len() + 1, rest) {

@@ -17,6 +17,7 @@ ghost use Rattle.tx_world.specs.Entering.{cut_if, is_countable, links_cut};
 ghost use Rattle.tx_world.specs.Course.{Came, Course, IsOpened, arrival, is_written};
 
 use dtx_values::{Conn, Dir, EnlNo, Entry, Message, ROOM, is_opening};
+use entry_lists::Entries;
 use oletx_session::{Delivered, Session};
 use std::alloc::{AllocError, Global};
 use std::marker::Model;
@@ -27,12 +28,11 @@ const FIRST_ROOM: usize = 4 * (ROOM + 2);
 /// The history of one transaction, and its connections. What is on the way there is what the history says.
 #[derive(Drop)]
 pub(crate) struct History {
-    entries: Vec<Entry>,
+    entries: Entries,
     session: Session,
 }
 
 impl Model for History {
-    ghost use Rattle.std.specs.Prelude.{◌-◌, vec_capacity, vec_len};
     ghost use Rattle.dtx_model.specs.Words.{past_of};
     ghost use Rattle.dtx_model.specs.Wires.{WireRun};
     ghost use Rattle.oletx_session.specs.Carries.{Carries};
@@ -44,7 +44,7 @@ impl Model for History {
 
     ghost view = { λ h. record {
       past = past_of h.entries.items;
-      room = vec_capacity h.entries - vec_len h.entries;
+      room = h.entries.room;
       start_room = h.session.start_room;
       send_room = h.session.send_room;
     } };
@@ -136,7 +136,7 @@ impl History {
         ensures { IfOk result (λ h. h.past ≡ []) }
     {
         Ok(History {
-            entries: Vec::with_capacity(alloc, FIRST_ROOM)?,
+            entries: Entries::with_capacity(alloc, FIRST_ROOM)?,
             session: Session::new(alloc)?,
         })
     }
@@ -151,10 +151,10 @@ impl History {
     }
 
     /// The entries, oldest first.
-    pub(crate) fn entries(&self) -> &[Entry]
-        ensures { past_of result.now ≡ self.now.past }
+    pub(crate) fn entries(&self) -> &Entries
+        ensures { past_of result.now.items ≡ self.now.past }
     {
-        self.entries.as_slice()
+        &self.entries
     }
 
     /// Whether something is left to deliver on a connection in this direction.

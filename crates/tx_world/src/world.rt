@@ -25,7 +25,8 @@ use crate::refusal::WorldError;
 use coordinator_core::Core;
 use coordinator_log::Log;
 use dtx_model::EnteredCall;
-use dtx_values::{ActorNo, Answer, Call, EnlNo, Entry, Note, Outbox, Outcome, TxNo};
+use dtx_values::{ActorNo, Answer, Call, EnlNo, Note, Outcome, TxNo};
+use entry_lists::Entries;
 use local_half::{LocalHalf, Right};
 use outside::Disk;
 use std::alloc::Global;
@@ -52,8 +53,6 @@ pub struct TxWorld {
     /// The calls that were entered, oldest first.
     calls: Vec<EnteredCall>,
     at_log: AtLog,
-    /// What a step makes before it is written; kept for its memory alone.
-    out: Outbox,
 }
 
 impl Model for TxWorld {
@@ -98,7 +97,6 @@ impl TxWorld {
             history: History::new(alloc)?,
             calls: Vec::new(alloc),
             at_log: AtLog::new(),
-            out: Outbox::with_room(alloc)?,
         })
     }
 
@@ -114,8 +112,8 @@ impl TxWorld {
     }
 
     /// The history, oldest entry first.
-    pub fn history(&self) -> &[Entry]
-        ensures { past_of result.now ≡ self.now.world.past }
+    pub fn history(&self) -> &Entries
+        ensures { past_of result.now.items ≡ self.now.world.past }
     {
         self.history.entries()
     }

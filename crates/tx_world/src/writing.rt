@@ -12,6 +12,7 @@ use crate::history::History;
 use coordinator_core::Core;
 use coordinator_log::Log;
 use dtx_values::{Conn, Dir, Entry, Message};
+use entry_lists::Entries;
 use outside::Disk;
 
 /// Whether the entry sends BEGIN.
@@ -22,10 +23,22 @@ fn is_begin_sent(x: &Entry) -> bool
 }
 
 /// Whether BEGIN is sent by one of these entries.
-pub(crate) fn sends_begin(block: &[Entry]) -> bool
+fn sends_begin(block: &[Entry]) -> bool
     ensures { result ≡ has is_begin_sent block.now }
 {
     block.iter().any(is_begin_sent)
+}
+
+/// Whether BEGIN was sent by one of these entries of a history.
+pub(crate) fn has_begun(entries: &Entries) -> bool
+    ensures { result ≡ has is_begin_sent entries.now.items }
+{
+    for i in 0..entries.len() {
+        if is_begin_sent(&entries.at(i)) {
+            return true;
+        }
+    }
+    false
 }
 
 /// Stops the coordinator, where it has to.

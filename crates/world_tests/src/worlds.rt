@@ -7,9 +7,10 @@ ghost use Rattle.tx_world.specs.AtLog.{Fits};
 
 use coordinator_log::{LOG_BYTES, Log};
 use dtx_values::{
-    ActorNo, Answer, Call, EnlNo, EnlistOption, Entry, Note, Outcome, Place, Reply, RmNo, Status,
-    Support, Timeout, Trace, TxNo, Vote,
+    ActorNo, Answer, Call, EnlNo, EnlistOption, Entry, Note, Outbox, Outcome, Place, Reply, RmNo,
+    Status, Support, Timeout, TxNo, Vote,
 };
+use entry_lists::{PlacedEntries, Trace};
 use outside::{Image, MemDisk};
 use std::alloc::{AllocError, Global};
 use std::process::Abort;
@@ -34,7 +35,7 @@ fn transaction(rt: &impl Abort) -> TxNo {
 }
 
 /// Enters a call of client 1, and says what it answered.
-fn enter(rt: &impl Abort, world: &mut TxWorld, log: &Log<MemDisk>, line: u32, c: &Call) -> Answer
+fn enter(rt: &impl Abort, world: &mut TxWorld, log: &Log<MemDisk>, out: &mut Outbox, line: u32, c: &Call) -> Answer
     requires answers { MayAnswer world.old.transaction.value world.old.world c.now 0 }
     requires fits { IsTrue log.now.is_up → Fits world.old (open_records log.now.slots) }
     ensures fits { IsTrue log.now.is_up → Fits world.new (open_records log.now.slots) }
@@ -43,19 +44,19 @@ fn enter(rt: &impl Abort, world: &mut TxWorld, log: &Log<MemDisk>, line: u32, c:
     if !world.may_enter(line, c) || !TxWorld::is_entered_yet(c) {
         panic!(rt; "the call of line {line} may not be entered");
     }
-    match world.enter(log, actor, line, c, 0) {
+    match world.enter(log, out, actor, line, c, 0) {
         Ok(answer) => answer,
         Err(error) => panic!(rt; "{error}"),
     }
 }
 
 /// Does the first pending step, and then says so by a `do` of client 1.
-fn step_and_say(rt: &impl Abort, world: &mut TxWorld, log: &mut Log<MemDisk>, line: u32)
+fn step_and_say(rt: &impl Abort, world: &mut TxWorld, log: &mut Log<MemDisk>, out: &mut Outbox, line: u32)
     requires fits { IsTrue log.old.is_up → Fits world.old (open_records log.old.slots) }
 {
     let actor = ActorNo::new(1).expect(rt, "no such client");
     let c = Call::Do(transaction(rt), 1, 1);
-    let Ok(true) = world.step(log, 1) else {
+    let Ok(true) = world.step(log, out, 1) else {
         panic!(rt; "nothing is pending");
     };
     if !world.may_enter(line, &c) {
@@ -65,12 +66,12 @@ fn step_and_say(rt: &impl Abort, world: &mut TxWorld, log: &mut Log<MemDisk>, li
 }
 
 /// Does what is pending, until nothing is.
-fn settle(rt: &impl Abort, world: &mut TxWorld, log: &mut Log<MemDisk>)
+fn settle(rt: &impl Abort, world: &mut TxWorld, log: &mut Log<MemDisk>, out: &mut Outbox)
     requires fits { IsTrue log.old.is_up → Fits world.old (open_records log.old.slots) }
     ensures fits { IsTrue log.new.is_up → Fits world.new (open_records log.new.slots) }
     ensures settled { pending world.new.world ≡ [] }
 {
-    match world.settle(log) {
+    match world.settle(log, out) {
         Ok(_count) => assert!(rt; world.pending() == 0),
         Err(error) => panic!(rt; "{error}"),
     }
@@ -87,7 +88,7 @@ fn world(rt: &impl Abort, alloc: Global) -> TxWorld
 }
 
 /// Runs the transaction over an empty log.
-fn run(rt: &impl Abort, world: &mut TxWorld, log: &mut Log<MemDisk>)
+fn run(rt: &impl Abort, world: &mut TxWorld, log: &mut Log<MemDisk>, out: &mut Outbox)
     requires new { Fits world.old [] }
     requires empty { open_records log.old.slots ≡ [] }
 {
@@ -95,17 +96,17 @@ fn run(rt: &impl Abort, world: &mut TxWorld, log: &mut Log<MemDisk>)
     let e1 = EnlNo::new(1).expect(rt, "no such enlistment");
     let r1 = RmNo::new(1).expect(rt, "no such manager");
     let begin = Call::Begin(t, Timeout::Default);
-    assert_eq!(rt; enter(rt, world, log, 1, &begin), Answer::Fine);
-    assert_eq!(rt; enter(rt, world, log, 2, &Call::Marshal(t)), Answer::Wait);
-    settle(rt, world, log);
+    assert_eq!(rt; enter(rt, world, log, out, 1, &begin), Answer::Fine);
+    assert_eq!(rt; enter(rt, world, log, out, 2, &Call::Marshal(t)), Answer::Wait);
+    settle(rt, world, log, out);
     assert_eq!(rt;
-        enter(rt, world, log, 3, &Call::Await(t)),
+        enter(rt, world, log, out, 3, &Call::Await(t)),
         Answer::StillOpen
     );
     let durable = Call::Durable(t, e1, r1, Support::TwoPhase(Some(Vote::Yes)));
-    assert_eq!(rt; enter(rt, world, log, 4, &durable), Answer::Wait);
-    assert_eq!(rt; enter(rt, world, log, 5, &Call::Commit(t)), Answer::Fine);
-    settle(rt, world, log);
+    assert_eq!(rt; enter(rt, world, log, out, 4, &durable), Answer::Wait);
+    assert_eq!(rt; enter(rt, world, log, out, 5, &Call::Commit(t)), Answer::Fine);
+    settle(rt, world, log, out);
 }
 
 /// Compares the history, as text, with these entries.
@@ -116,10 +117,10 @@ fn shows(
     parts: &[&[&str]],
 ) -> Result<(), AllocError> {
     let place = Place::Transaction(transaction(rt));
-    let mut entries = Vec::new(alloc);
-    for x in world.history() {
-        entries.push((place, *x))?;
-    }
+    let mut entries = PlacedEntries::new(alloc);
+    let history = world.history();
+    entries.reserve(history.len())?;
+    entries.push_from(place, history, 0);
     let found = print_trace(alloc, &Trace::new(entries))?;
     let mut wanted = Vec::new(alloc);
     let mut number = 0_u32;
@@ -167,7 +168,7 @@ const VOTED_NO: [&str; 5] = [
 ];
 
 /// Does a call of client 1, with the steps before it, and says what it answered.
-fn call(rt: &impl Abort, world: &mut TxWorld, log: &mut Log<MemDisk>, line: u32, c: &Call) -> Answer
+fn call(rt: &impl Abort, world: &mut TxWorld, log: &mut Log<MemDisk>, out: &mut Outbox, line: u32, c: &Call) -> Answer
     requires fits { IsTrue log.old.is_up → Fits world.old (open_records log.old.slots) }
     ensures fits { IsTrue log.new.is_up → Fits world.new (open_records log.new.slots) }
 {
@@ -175,19 +176,19 @@ fn call(rt: &impl Abort, world: &mut TxWorld, log: &mut Log<MemDisk>, line: u32,
     if !world.may_enter(line, c) || !TxWorld::is_entered_yet(c) {
         panic!(rt; "the call of line {line} may not be entered");
     }
-    match world.call(log, actor, line, c) {
+    match world.call(log, out, actor, line, c) {
         Ok(answer) => answer,
         Err(error) => panic!(rt; "{error}"),
     }
 }
 
 /// Enters a `do` of client 1 for which no step was done, since none is pending.
-fn did_none(rt: &impl Abort, world: &mut TxWorld, log: &mut Log<MemDisk>, line: u32)
+fn did_none(rt: &impl Abort, world: &mut TxWorld, log: &mut Log<MemDisk>, out: &mut Outbox, line: u32)
     requires fits { IsTrue log.old.is_up → Fits world.old (open_records log.old.slots) }
 {
     let actor = ActorNo::new(1).expect(rt, "no such client");
     let c = Call::Do(transaction(rt), 1, 1);
-    if world.step(log, 1) != Ok(false) || !world.may_enter(line, &c) {
+    if world.step(log, out, 1) != Ok(false) || !world.may_enter(line, &c) {
         panic!(rt; "a step is pending, or the call may not be entered");
     }
     match world.did(actor, line, &c, 0) {
@@ -197,7 +198,7 @@ fn did_none(rt: &impl Abort, world: &mut TxWorld, log: &mut Log<MemDisk>, line: 
 }
 
 /// Calls that do the steps before them.
-fn calls(rt: &impl Abort, world: &mut TxWorld, log: &mut Log<MemDisk>)
+fn calls(rt: &impl Abort, world: &mut TxWorld, log: &mut Log<MemDisk>, out: &mut Outbox)
     requires new { Fits world.old [] }
     requires empty { open_records log.old.slots ≡ [] }
 {
@@ -206,14 +207,14 @@ fn calls(rt: &impl Abort, world: &mut TxWorld, log: &mut Log<MemDisk>)
     let begin = Call::Begin(t, Timeout::Default);
     let volatile = Call::Volatile(t, e1, EnlistOption::Plain, Some(Vote::Yes));
     let told = Answer::OutcomeIs(Outcome::Committed);
-    assert_eq!(rt; call(rt, world, log, 1, &begin), Answer::Fine);
-    assert_eq!(rt; call(rt, world, log, 2, &volatile), Answer::Fine);
-    assert_eq!(rt; call(rt, world, log, 3, &Call::Commit(t)), Answer::Fine);
-    assert_eq!(rt; call(rt, world, log, 4, &Call::Do(t, 1, 3)), Answer::Did(3));
+    assert_eq!(rt; call(rt, world, log, out, 1, &begin), Answer::Fine);
+    assert_eq!(rt; call(rt, world, log, out, 2, &volatile), Answer::Fine);
+    assert_eq!(rt; call(rt, world, log, out, 3, &Call::Commit(t)), Answer::Fine);
+    assert_eq!(rt; call(rt, world, log, out, 4, &Call::Do(t, 1, 3)), Answer::Did(3));
     assert_eq!(rt; world.status(), Status::Active);
-    assert_eq!(rt; call(rt, world, log, 5, &Call::Await(t)), told);
+    assert_eq!(rt; call(rt, world, log, out, 5, &Call::Await(t)), told);
     assert_eq!(rt; world.status(), Status::Committed);
-    did_none(rt, world, log, 6);
+    did_none(rt, world, log, out, 6);
 }
 
 #[test]
@@ -221,7 +222,8 @@ fn a_call_does_the_steps_before_it(rt: HostRuntime) -> Result<(), Fail> {
     let alloc = rt.alloc();
     let mut log = empty_log(&rt, alloc)?;
     let mut world = world(&rt, alloc);
-    calls(&rt, &mut world, &mut log);
+    let mut out = Outbox::with_room(alloc)?;
+    calls(&rt, &mut world, &mut log, &mut out);
     shows(&rt, alloc, &world, &[&ASKED, &VOTED_YES])?;
     Ok(())
 }
@@ -231,29 +233,30 @@ fn nothing_is_pending_in_a_new_world(rt: HostRuntime) -> Result<(), Fail> {
     let alloc = rt.alloc();
     let mut log = empty_log(&rt, alloc)?;
     let mut world = world(&rt, alloc);
+    let mut out = Outbox::with_room(alloc)?;
     assert_eq!(rt; world.pending(), 0);
-    assert_eq!(rt; world.step(&mut log, 1), Ok(false));
+    assert_eq!(rt; world.step(&mut log, &mut out, 1), Ok(false));
     assert_eq!(rt; world.status(), Status::Active);
     assert_eq!(rt; world.id(), 0);
     Ok(())
 }
 
 /// Replies so for the enlistment that is asked first, where one is asked to prepare; whether the reply was due.
-fn reply(rt: &impl Abort, world: &mut TxWorld, log: &Log<MemDisk>, vote: Vote) -> bool
+fn reply(rt: &impl Abort, world: &mut TxWorld, log: &Log<MemDisk>, out: &mut Outbox, vote: Vote) -> bool
     requires fits { IsTrue log.now.is_up → Fits world.old (open_records log.now.slots) }
     ensures fits { IsTrue log.now.is_up → Fits world.new (open_records log.now.slots) }
 {
     let Some((e, Note::Prepare)) = world.due_at(1) else {
         return false;
     };
-    match world.reply(log, e, Reply::Vote(vote)) {
+    match world.reply(log, out, e, Reply::Vote(vote)) {
         Ok(was_due) => was_due,
         Err(error) => panic!(rt; "{error}"),
     }
 }
 
 /// The volatile of a transaction votes no, though its line plans yes.
-fn votes_by_hand(rt: &impl Abort, world: &mut TxWorld, log: &mut Log<MemDisk>)
+fn votes_by_hand(rt: &impl Abort, world: &mut TxWorld, log: &mut Log<MemDisk>, out: &mut Outbox)
     requires new { Fits world.old [] }
     requires empty { open_records log.old.slots ≡ [] }
 {
@@ -262,14 +265,14 @@ fn votes_by_hand(rt: &impl Abort, world: &mut TxWorld, log: &mut Log<MemDisk>)
     let begin = Call::Begin(t, Timeout::Default);
     let volatile = Call::Volatile(t, e1, EnlistOption::Plain, Some(Vote::Yes));
     let told = Answer::OutcomeIs(Outcome::Aborted);
-    assert_eq!(rt; call(rt, world, log, 1, &begin), Answer::Fine);
-    assert_eq!(rt; call(rt, world, log, 2, &volatile), Answer::Fine);
-    assert_eq!(rt; call(rt, world, log, 3, &Call::Commit(t)), Answer::Fine);
-    assert!(rt; !reply(rt, world, log, Vote::No));
-    assert_eq!(rt; call(rt, world, log, 4, &Call::Do(t, 1, 2)), Answer::Did(2));
-    assert!(rt; reply(rt, world, log, Vote::No));
-    assert!(rt; !reply(rt, world, log, Vote::No));
-    assert_eq!(rt; call(rt, world, log, 5, &Call::Await(t)), told);
+    assert_eq!(rt; call(rt, world, log, out, 1, &begin), Answer::Fine);
+    assert_eq!(rt; call(rt, world, log, out, 2, &volatile), Answer::Fine);
+    assert_eq!(rt; call(rt, world, log, out, 3, &Call::Commit(t)), Answer::Fine);
+    assert!(rt; !reply(rt, world, log, out, Vote::No));
+    assert_eq!(rt; call(rt, world, log, out, 4, &Call::Do(t, 1, 2)), Answer::Did(2));
+    assert!(rt; reply(rt, world, log, out, Vote::No));
+    assert!(rt; !reply(rt, world, log, out, Vote::No));
+    assert_eq!(rt; call(rt, world, log, out, 5, &Call::Await(t)), told);
 }
 
 #[test]
@@ -277,22 +280,23 @@ fn a_reply_need_not_be_the_planned_one(rt: HostRuntime) -> Result<(), Fail> {
     let alloc = rt.alloc();
     let mut log = empty_log(&rt, alloc)?;
     let mut world = world(&rt, alloc);
-    votes_by_hand(&rt, &mut world, &mut log);
+    let mut out = Outbox::with_room(alloc)?;
+    votes_by_hand(&rt, &mut world, &mut log, &mut out);
     shows(&rt, alloc, &world, &[&ASKED, &VOTED_NO])?;
     Ok(())
 }
 
 /// Begins the transaction, asks for its identifier at the coordinator, and then the coordinator stops. The log wasn't opened since, so nothing is found yet.
-fn stopped_at_once(rt: &impl Abort, world: &mut TxWorld, log: &mut Log<MemDisk>)
+fn stopped_at_once(rt: &impl Abort, world: &mut TxWorld, log: &mut Log<MemDisk>, out: &mut Outbox)
     requires new { Fits world.old [] }
     requires empty { open_records log.old.slots ≡ [] }
 {
     let t = transaction(rt);
     let begin = Call::Begin(t, Timeout::Default);
-    assert_eq!(rt; call(rt, world, log, 1, &begin), Answer::Fine);
+    assert_eq!(rt; call(rt, world, log, out, 1, &begin), Answer::Fine);
     assert_eq!(rt; world.coordinator_stopped(0), Ok(()));
     assert!(rt; !world.is_stopped());
-    assert_eq!(rt; call(rt, world, log, 2, &Call::Marshal(t)), Answer::Wait);
+    assert_eq!(rt; call(rt, world, log, out, 2, &Call::Marshal(t)), Answer::Wait);
     assert_eq!(rt; world.coordinator_stopped(0), Ok(()));
     assert!(rt; world.is_stopped());
     if !log.is_up() {
@@ -307,10 +311,11 @@ fn a_stop_reaches_who_is_at_the_coordinator(rt: HostRuntime) -> Result<(), Fail>
     let alloc = rt.alloc();
     let mut log = empty_log(&rt, alloc)?;
     let mut world = world(&rt, alloc);
-    stopped_at_once(&rt, &mut world, &mut log);
+    let mut out = Outbox::with_room(alloc)?;
+    stopped_at_once(&rt, &mut world, &mut log, &mut out);
     let h = world.history();
     assert_eq!(rt; h.len(), 6);
-    assert_eq!(rt; h.last().copied(), Some(Entry::Stopped));
+    assert_eq!(rt; h.at(5), Entry::Stopped);
     Ok(())
 }
 
@@ -321,7 +326,8 @@ fn a_log_that_stops_under_the_record_stops_the_coordinator(rt: HostRuntime) -> R
         let mut log = empty_log(&rt, alloc)?;
         log.arm(1, image);
         let mut world = world(&rt, alloc);
-        run(&rt, &mut world, &mut log);
+        let mut out = Outbox::with_room(alloc)?;
+        run(&rt, &mut world, &mut log, &mut out);
         assert_eq!(rt; world.status(), Status::InDoubt);
         assert!(rt; world.is_stopped());
         assert!(rt; !log.is_up());
@@ -335,16 +341,19 @@ fn the_steps_of_the_caller_are_said(rt: HostRuntime) -> Result<(), Fail> {
     let alloc = rt.alloc();
     let mut log = empty_log(&rt, alloc)?;
     let mut world = world(&rt, alloc);
+    let mut out = Outbox::with_room(alloc)?;
     let t = transaction(&rt);
     let begin = Call::Begin(t, Timeout::Default);
-    assert_eq!(rt; call(&rt, &mut world, &mut log, 1, &begin), Answer::Fine);
+    assert_eq!(rt; call(&rt, &mut world, &mut log, &mut out, 1, &begin), Answer::Fine);
     assert_eq!(rt;
-        call(&rt, &mut world, &mut log, 2, &Call::Marshal(t)),
+        call(&rt, &mut world, &mut log, &mut out, 2, &Call::Marshal(t)),
         Answer::Wait
     );
-    step_and_say(&rt, &mut world, &mut log, 3);
+    step_and_say(&rt, &mut world, &mut log, &mut out, 3);
     let a1 = ActorNo::new(1).unwrap();
     let did = Entry::Called(3, a1, Answer::Did(1));
-    assert_eq!(rt; world.history().last().copied(), Some(did));
+    let h = world.history();
+    assert_eq!(rt; h.len(), 6);
+    assert_eq!(rt; h.at(5), did);
     Ok(())
 }

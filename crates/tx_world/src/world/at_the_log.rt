@@ -15,9 +15,9 @@ ghost use Rattle.tx_world.specs.Stepping.{Does};
 
 use super::{TxWorld, identifier};
 use crate::refusal::WorldError;
-use crate::writing::{sends_begin, stop_if};
+use crate::writing::{has_begun, stop_if};
 use coordinator_log::Log;
-use dtx_values::Differs;
+use dtx_values::{Differs, Outbox};
 use outside::Disk;
 
 /// Whether an opening of the log in this life says something to who began in its own life.
@@ -29,7 +29,7 @@ fn is_reached(begun: bool, own: u64, life: u64) -> bool
 
 impl TxWorld {
     /// Does the coordinator's act at the log; false exactly where none is pending.
-    pub(super) fn act_at_log<D: Disk>(&mut self, log: &mut Log<D>) -> Result<bool, WorldError>
+    pub(super) fn act_at_log<D: Disk>(&mut self, log: &mut Log<D>, out: &mut Outbox) -> Result<bool, WorldError>
         requires fits { IsTrue D.honest → IsTrue log.old.is_up → Fits self.old (open_records log.old.slots) }
         ensures due { IfOk result (λ b. b ≡ (may_log (core self.old.world) || may_free (core self.old.world))) }
         ensures done { result ≡ Ok true → (a : LogAnswer) × (may_coordinate (core self.old.world) a ≡ true) × Does D.faults (Coordinates a) self.old log.old self.new log.new }
@@ -45,13 +45,13 @@ impl TxWorld {
             return Ok(false);
         }
         self.history.reserve()?;
-        self.out.clear();
-        self.at_log.act(&mut self.core, log, &mut self.out);
+        out.clear();
+        self.at_log.act(&mut self.core, log, out);
         // A coordinator that stops says nothing more.
         if self.core.is_stopped() {
             self.history.stop();
         } else {
-            self.history.write(self.out.entries(), false);
+            self.history.write(out.entries(), false);
         }
         Ok(true)
     }
@@ -61,7 +61,7 @@ impl TxWorld {
         ensures { result ≡ is_reached_by life self.now }
     {
         is_reached(
-            sends_begin(self.history.entries()),
+            has_begun(self.history.entries()),
             self.at_log.life(),
             life,
         )

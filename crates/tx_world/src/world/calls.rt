@@ -17,7 +17,7 @@ use crate::refusal::WorldError;
 use crate::writing::{live, write_near};
 use coordinator_log::Log;
 use dtx_model::EnteredCall;
-use dtx_values::{ActorNo, Answer, Call, Entry, Outcome};
+use dtx_values::{ActorNo, Answer, Call, Entry, Outbox, Outcome};
 use local_half::LocalHalf;
 use outside::Disk;
 
@@ -61,7 +61,7 @@ impl TxWorld {
     /// [`WorldError::Memory`] where memory ran out, and then nothing was done.
     pub fn enter<D: Disk>(
         &mut self,
-        log: &Log<D>,
+        log: &Log<D>, out: &mut Outbox,
         actor: ActorNo,
         line: u32,
         c: &Call,
@@ -76,7 +76,7 @@ impl TxWorld {
         ensures memory { OnErr result (self.new ≡ self.old) }
     {
         if LocalHalf::is_its_own(c) {
-            return self.enter_own(log, actor, line, c, done);
+            return self.enter_own(log, out, actor, line, c, done);
         }
         match *c {
             Call::Await(_) => {
@@ -87,14 +87,14 @@ impl TxWorld {
                 let answer = self.half.if_begun(Answer::Did(done));
                 self.enter_alone(log, actor, line, c, done, answer)
             }
-            _ => self.enter_linked(log, actor, line, c, done),
+            _ => self.enter_linked(log, out, actor, line, c, done),
         }
     }
 
     /// Enters the loss of a connection, that of an enlistment, or that a manager has recovered.
     fn enter_linked<D: Disk>(
         &mut self,
-        log: &Log<D>,
+        log: &Log<D>, out: &mut Outbox,
         actor: ActorNo,
         line: u32,
         c: &Call,
@@ -111,7 +111,7 @@ impl TxWorld {
     {
         match c {
             Call::Lose(_, _, _, _) => self.enter_lose(log, actor, line, c, done),
-            Call::Gone(_) => self.enter_gone(log, actor, line, c, done),
+            Call::Gone(_) => self.enter_gone(log, out, actor, line, c, done),
             _ => self.enter_recovery(log, actor, line, c, done),
         }
     }
@@ -172,7 +172,7 @@ impl TxWorld {
     /// Enters a call that the local side answers.
     fn enter_own<D: Disk>(
         &mut self,
-        log: &Log<D>,
+        log: &Log<D>, out: &mut Outbox,
         actor: ActorNo,
         line: u32,
         c: &Call,
@@ -188,14 +188,14 @@ impl TxWorld {
     {
         self.calls.reserve(1)?;
         self.history.reserve()?;
-        self.out.clear();
-        let answer = self.half.call(actor, line, c, &mut self.out);
+        out.clear();
+        let answer = self.half.call(actor, line, c, out);
         self.calls.push_reserved(EnteredCall {
             line,
             actor,
             call: *c,
         });
-        let begins = write_near(&mut self.history, &mut self.core, self.out.entries(), log);
+        let begins = write_near(&mut self.history, &mut self.core, out.entries(), log);
         live(&mut self.at_log, begins, log.life());
         Ok(answer)
     }

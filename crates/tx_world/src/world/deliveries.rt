@@ -10,12 +10,12 @@ use crate::hearing::{hear_down, hear_up};
 use crate::refusal::WorldError;
 use crate::writing::{live, write_near};
 use coordinator_log::Log;
-use dtx_values::{Conn, Dir};
+use dtx_values::{Conn, Dir, Outbox};
 use outside::Disk;
 
 impl TxWorld {
     /// Delivers what comes next upward on a connection; false exactly where nothing is left.
-    pub(super) fn deliver_up<D: Disk>(&mut self, log: &Log<D>, c: Conn) -> Result<bool, WorldError>
+    pub(super) fn deliver_up<D: Disk>(&mut self, log: &Log<D>, out: &mut Outbox, c: Conn) -> Result<bool, WorldError>
         ensures left { IfOk result (λ b. b ≡ has_left c Up self.old.world.past) }
         ensures done { result ≡ Ok true → Does D.faults (Delivers c Up) self.old log.now self.new log.now }
         ensures ours { (self.new.ours ≡ self.old.ours) × (self.new.unsure ≡ self.old.unsure) }
@@ -24,20 +24,20 @@ impl TxWorld {
     {
         let _ = log.is_up();
         self.history.reserve()?;
-        self.out.clear();
+        out.clear();
         let Some(came) = self.history.deliver(c, Dir::Up) else {
             return Ok(false);
         };
-        hear_up(&mut self.core, c, &came, &mut self.out);
+        hear_up(&mut self.core, c, &came, out);
         self.history
-            .write(self.out.entries(), self.core.is_stopped());
+            .write(out.entries(), self.core.is_stopped());
         Ok(true)
     }
 
     /// Delivers what comes next downward on a connection; false exactly where nothing is left.
     pub(super) fn deliver_down<D: Disk>(
         &mut self,
-        log: &Log<D>,
+        log: &Log<D>, out: &mut Outbox,
         c: Conn,
     ) -> Result<bool, WorldError>
         ensures left { IfOk result (λ b. b ≡ has_left c Down self.old.world.past) }
@@ -47,12 +47,12 @@ impl TxWorld {
         ensures memory { OnErr result (self.new ≡ self.old) }
     {
         self.history.reserve()?;
-        self.out.clear();
+        out.clear();
         let Some(came) = self.history.deliver(c, Dir::Down) else {
             return Ok(false);
         };
-        hear_down(&mut self.half, c, &came, &mut self.out);
-        let begins = write_near(&mut self.history, &mut self.core, self.out.entries(), log);
+        hear_down(&mut self.half, c, &came, out);
+        let begins = write_near(&mut self.history, &mut self.core, out.entries(), log);
         live(&mut self.at_log, begins, log.life());
         Ok(true)
     }

@@ -16,14 +16,14 @@ use crate::refusal::WorldError;
 use crate::writing::{live, write_near};
 use coordinator_log::Log;
 use dtx_model::EnteredCall;
-use dtx_values::{ActorNo, Answer, Call, Conn, Entry, RmNo, TxNo};
+use dtx_values::{ActorNo, Answer, Call, Conn, Entry, Outbox, RmNo, TxNo};
 use outside::Disk;
 
 impl TxWorld {
     /// Enters a call that the local side answers alone.
     pub(super) fn enter_local<D: Disk>(
         &mut self,
-        log: &Log<D>,
+        log: &Log<D>, out: &mut Outbox,
         actor: ActorNo,
         line: u32,
         c: &Call,
@@ -40,14 +40,14 @@ impl TxWorld {
     {
         self.history.reserve()?;
         self.calls.reserve(1)?;
-        self.out.clear();
-        let answer = answer_call(&mut self.half, actor, line, c, done, &mut self.out);
+        out.clear();
+        let answer = answer_call(&mut self.half, actor, line, c, done, out);
         self.calls.push_reserved(EnteredCall {
             line,
             actor,
             call: *c,
         });
-        let begins = write_near(&mut self.history, &mut self.core, self.out.entries(), log);
+        let begins = write_near(&mut self.history, &mut self.core, out.entries(), log);
         live(&mut self.at_log, begins, log.life());
         Ok(answer)
     }

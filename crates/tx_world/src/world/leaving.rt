@@ -17,7 +17,7 @@ use super::TxWorld;
 use crate::refusal::WorldError;
 use coordinator_log::Log;
 use dtx_model::EnteredCall;
-use dtx_values::{ActorNo, Answer, Call, Conn, EnlNo, Entry, Row};
+use dtx_values::{ActorNo, Answer, Call, Conn, EnlNo, Entry, Outbox, Row};
 use outside::Disk;
 
 /// Whether the row is that of the enlistment, which is a promotable.
@@ -64,7 +64,7 @@ impl TxWorld {
     /// Enters a `gone`.
     pub(super) fn enter_gone<D: Disk>(
         &mut self,
-        log: &Log<D>,
+        log: &Log<D>, out: &mut Outbox,
         actor: ActorNo,
         line: u32,
         c: &Call,
@@ -81,11 +81,11 @@ impl TxWorld {
             return Ok(Answer::NoSuch);
         };
         if !self.has_open(e) {
-            return self.enter_local(log, actor, line, c, done);
+            return self.enter_local(log, out, actor, line, c, done);
         }
         let answer = self.answer_gone(e);
         if answer == Answer::Fine {
-            self.enter_cut(log, actor, line, e)?;
+            self.enter_cut(log, out, actor, line, e)?;
             return Ok(answer);
         }
         self.enter_alone(log, actor, line, c, done, answer)
@@ -95,7 +95,7 @@ impl TxWorld {
     /// there is no memory for it.
     fn enter_cut<D: Disk>(
         &mut self,
-        log: &Log<D>,
+        log: &Log<D>, out: &mut Outbox,
         actor: ActorNo,
         line: u32,
         e: EnlNo,
@@ -113,9 +113,9 @@ impl TxWorld {
         }
         self.history.reserve()?;
         self.calls.reserve(1)?;
-        self.out.clear();
+        out.clear();
         let promotes = is_promotable_row(self.half.rows(), e);
-        self.half.gone(e, true, &mut self.out);
+        self.half.gone(e, true, out);
         let call = Call::Gone(e);
         self.calls.push_reserved(EnteredCall { line, actor, call });
         let block = [Entry::Called(line, actor, Answer::Fine), Entry::Lost(e)];

@@ -18,7 +18,7 @@ ghost use Rattle.tx_world.specs.Stepping.{SomeSteps};
 use super::TxWorld;
 use crate::refusal::WorldError;
 use coordinator_log::Log;
-use dtx_values::{ActorNo, Answer, Call, Outcome, Status};
+use dtx_values::{ActorNo, Answer, Call, Outbox, Outcome, Status};
 use outside::Disk;
 
 /// The status of a transaction that was decided so, or wasn't decided.
@@ -62,7 +62,7 @@ impl TxWorld {
     }
 
     /// Does the k-th pending step, from 1, n times, or until fewer than k are pending; how often it did.
-    fn repeat<D: Disk>(&mut self, log: &mut Log<D>, k: u32, n: u16) -> Result<u16, WorldError>
+    fn repeat<D: Disk>(&mut self, log: &mut Log<D>, out: &mut Outbox, k: u32, n: u16) -> Result<u16, WorldError>
         requires fits { IsTrue D.honest → IsTrue log.old.is_up → Fits self.old (open_records log.old.slots) }
         ensures repeated { IfOk result (λ m. Repeats D.faults k n m self.old log.old self.new log.new) }
         ensures memory { OnErr result (SomeSteps D.faults k self.old log.old self.new log.new) }
@@ -76,7 +76,7 @@ impl TxWorld {
     {
         let mut count = 0;
         while count < n {
-            if !self.step(log, k)? {
+            if !self.step(log, out, k)? {
                 return Ok(count);
             }
             count += 1;
@@ -85,7 +85,7 @@ impl TxWorld {
     }
 
     /// Does what comes right before a call: the steps of a `do`, and an `await` settles. How many steps a `do` did; 0 for any other call.
-    fn prepare<D: Disk>(&mut self, log: &mut Log<D>, c: &Call) -> Result<u16, WorldError>
+    fn prepare<D: Disk>(&mut self, log: &mut Log<D>, out: &mut Outbox, c: &Call) -> Result<u16, WorldError>
         requires fits { IsTrue D.honest → IsTrue log.old.is_up → Fits self.old (open_records log.old.slots) }
         ensures prepared { IfOk result (λ m. Prepares D.faults c.now m self.old log.old self.new log.new) }
         ensures memory { OnErr result (SomeSteps D.faults (place_of c.now) self.old log.old self.new log.new) }
@@ -98,9 +98,9 @@ impl TxWorld {
         ensures still { IsTrue log.new.is_up → IsTrue log.old.is_up }
     {
         match *c {
-            Call::Do(_, k, n) => self.repeat(log, u32::from(k), n),
+            Call::Do(_, k, n) => self.repeat(log, out, u32::from(k), n),
             Call::Await(_) => {
-                self.settle(log)?;
+                self.settle(log, out)?;
                 Ok(0)
             }
             _ => Ok(0),
@@ -115,7 +115,7 @@ impl TxWorld {
     /// [`WorldError::Memory`] where memory ran out; so it would in 2^32 - 1 steps of an `await`. The steps before that were done, and the call wasn't entered.
     pub fn call<D: Disk>(
         &mut self,
-        log: &mut Log<D>,
+        log: &mut Log<D>, out: &mut Outbox,
         actor: ActorNo,
         line: u32,
         c: &Call,
@@ -133,7 +133,7 @@ impl TxWorld {
         ensures unarmed { log.old.armed ≡ None → log.new.armed ≡ None }
         ensures still { IsTrue log.new.is_up → IsTrue log.old.is_up }
     {
-        let done = self.prepare(log, c)?;
-        self.enter(log, actor, line, c, done)
+        let done = self.prepare(log, out, c)?;
+        self.enter(log, out, actor, line, c, done)
     }
 }

@@ -10,6 +10,7 @@ ghost use Rattle.tx_world.specs.Stepping.{DoesKth, Settles, SomeSteps};
 use super::TxWorld;
 use crate::refusal::WorldError;
 use coordinator_log::Log;
+use dtx_values::Outbox;
 use outside::Disk;
 
 impl TxWorld {
@@ -18,7 +19,7 @@ impl TxWorld {
     /// # Errors
     ///
     /// [`WorldError::Memory`] where memory ran out, and then nothing was done.
-    pub fn step<D: Disk>(&mut self, log: &mut Log<D>, k: u32) -> Result<bool, WorldError>
+    pub fn step<D: Disk>(&mut self, log: &mut Log<D>, out: &mut Outbox, k: u32) -> Result<bool, WorldError>
         requires fits { IsTrue D.honest → IsTrue log.old.is_up → Fits self.old (open_records log.old.slots) }
         ensures none { result ≡ Ok false → (kth (pending self.old.world) k ≡ None) × (self.new ≡ self.old) × (log.new ≡ log.old) }
         ensures some { result ≡ Ok true → DoesKth D.faults k self.old log.old self.new log.new }
@@ -31,7 +32,7 @@ impl TxWorld {
         ensures memory { OnErr result ((self.new ≡ self.old) × (log.new ≡ log.old)) }
     {
         self.is_own_run();
-        self.step_kth(log, k)
+        self.step_kth(log, out, k)
     }
 
     /// Does the first pending step until none is left, and says how many it did.
@@ -39,7 +40,7 @@ impl TxWorld {
     /// # Errors
     ///
     /// [`WorldError::Memory`] where memory ran out; so it would in 2^32 - 1 steps. The steps before it were done.
-    pub fn settle<D: Disk>(&mut self, log: &mut Log<D>) -> Result<u32, WorldError>
+    pub fn settle<D: Disk>(&mut self, log: &mut Log<D>, out: &mut Outbox) -> Result<u32, WorldError>
         requires fits { IsTrue D.honest → IsTrue log.old.is_up → Fits self.old (open_records log.old.slots) }
         ensures settled { IfOk result (λ n. Settles D.faults n self.old log.old self.new log.new) }
         ensures memory { OnErr result (SomeSteps D.faults 1 self.old log.old self.new log.new) }
@@ -53,7 +54,7 @@ impl TxWorld {
     {
         let mut count = 0;
         while count < u32::MAX {
-            if !self.step(log, 1)? {
+            if !self.step(log, out, 1)? {
                 return Ok(count);
             }
             count += 1;

@@ -13,7 +13,7 @@ use super::TxWorld;
 use crate::refusal::WorldError;
 use crate::writing::{live, write_near};
 use coordinator_log::Log;
-use dtx_values::{EnlNo, Reply};
+use dtx_values::{EnlNo, Outbox, Reply};
 use outside::Disk;
 
 impl TxWorld {
@@ -22,7 +22,7 @@ impl TxWorld {
     /// # Errors
     ///
     /// [`WorldError::Memory`] where memory ran out, and then nothing was done.
-    pub fn reply<D: Disk>(&mut self, log: &Log<D>, e: EnlNo, r: Reply) -> Result<bool, WorldError>
+    pub fn reply<D: Disk>(&mut self, log: &Log<D>, out: &mut Outbox, e: EnlNo, r: Reply) -> Result<bool, WorldError>
         requires fits { fits_due r (due_of (half self.old.world).seen e.value) ≡ true }
         ensures due { IfOk result (λ b. b ≡ is_some (due_of (half self.old.world).seen e.value)) }
         ensures done { result ≡ Ok true → Does D.faults (Replies e r) self.old log.now self.new log.now }
@@ -31,17 +31,17 @@ impl TxWorld {
         ensures memory { OnErr result (self.new ≡ self.old) }
     {
         self.history.reserve()?;
-        self.out.clear();
-        if !self.half.reply(e, r, &mut self.out) {
+        out.clear();
+        if !self.half.reply(e, r, out) {
             return Ok(false);
         }
-        let begins = write_near(&mut self.history, &mut self.core, self.out.entries(), log);
+        let begins = write_near(&mut self.history, &mut self.core, out.entries(), log);
         live(&mut self.at_log, begins, log.life());
         Ok(true)
     }
 
     /// Does the local act where it is the first pending step and no reply may be due: so most steps are. False where a reply may be due, or no act is pending.
-    pub(super) fn act_first<D: Disk>(&mut self, log: &Log<D>) -> Result<bool, WorldError>
+    pub(super) fn act_first<D: Disk>(&mut self, log: &Log<D>, out: &mut Outbox) -> Result<bool, WorldError>
         ensures first { result ≡ Ok true → kth (pending self.old.world) 1 ≡ Some LocalAct }
         ensures done { result ≡ Ok true → Does D.faults Acts self.old log.now self.new log.now }
         ensures ours { (self.new.ours ≡ self.old.ours) × (self.new.unsure ≡ self.old.unsure) }
@@ -51,11 +51,11 @@ impl TxWorld {
         if self.half.may_be_due() {
             return Ok(false);
         }
-        self.act(log)
+        self.act(log, out)
     }
 
     /// Does the local act; false exactly where none is pending.
-    pub(super) fn act<D: Disk>(&mut self, log: &Log<D>) -> Result<bool, WorldError>
+    pub(super) fn act<D: Disk>(&mut self, log: &Log<D>, out: &mut Outbox) -> Result<bool, WorldError>
         ensures due { IfOk result (λ b. b ≡ not (is_empty (act_entries (half self.old.world)))) }
         ensures done { result ≡ Ok true → Does D.faults Acts self.old log.now self.new log.now }
         ensures ours { (self.new.ours ≡ self.old.ours) × (self.new.unsure ≡ self.old.unsure) }
@@ -63,11 +63,11 @@ impl TxWorld {
         ensures memory { OnErr result (self.new ≡ self.old) }
     {
         self.history.reserve()?;
-        self.out.clear();
-        if !self.half.act(&mut self.out) {
+        out.clear();
+        if !self.half.act(out) {
             return Ok(false);
         }
-        let begins = write_near(&mut self.history, &mut self.core, self.out.entries(), log);
+        let begins = write_near(&mut self.history, &mut self.core, out.entries(), log);
         live(&mut self.at_log, begins, log.life());
         Ok(true)
     }

@@ -5,7 +5,7 @@ ghost use Rattle.tx_world.specs.State.{is_hit_by};
 
 use super::TxWorld;
 use crate::refusal::WorldError;
-use crate::writing::sends_begin;
+use crate::writing::has_begun;
 
 /// Whether a stop of a life of the log hits who began in its own life.
 fn is_hit(begun: bool, stopped: bool, own: u64, life: u64) -> bool
@@ -20,7 +20,7 @@ impl TxWorld {
         ensures { result ≡ is_hit_by life self.now }
     {
         is_hit(
-            sends_begin(self.history.entries()),
+            has_begun(self.history.entries()),
             self.core.is_stopped(),
             self.at_log.life(),
             life,

@@ -11,7 +11,7 @@ use super::TxWorld;
 use crate::pending::{At, PendingStep, act_at, core_at, deliveries_at, replies_at};
 use crate::refusal::WorldError;
 use coordinator_log::Log;
-use dtx_values::{Dir, EnlNo, Note};
+use dtx_values::{Dir, EnlNo, Note, Outbox};
 use outside::Disk;
 
 /// More steps than are ever pending: 48 replies, both acts, and two deliveries on each of 34 connections.
@@ -84,7 +84,7 @@ impl TxWorld {
     }
 
     /// Does the k-th pending step, from 1, as [`TxWorld::step`] does.
-    pub(super) fn step_kth<D: Disk>(&mut self, log: &mut Log<D>, k: u32) -> Result<bool, WorldError>
+    pub(super) fn step_kth<D: Disk>(&mut self, log: &mut Log<D>, out: &mut Outbox, k: u32) -> Result<bool, WorldError>
         requires fits { IsTrue D.honest → IsTrue log.old.is_up → Fits self.old (open_records log.old.slots) }
         ensures none { result ≡ Ok false → (kth (pending self.old.world) k ≡ None) × (self.new ≡ self.old) × (log.new ≡ log.old) }
         ensures some { result ≡ Ok true → DoesKth D.faults k self.old log.old self.new log.new }
@@ -95,15 +95,15 @@ impl TxWorld {
         ensures still { IsTrue log.new.is_up → IsTrue log.old.is_up }
         ensures memory { OnErr result ((self.new ≡ self.old) × (log.new ≡ log.old)) }
     {
-        if k == 1 && self.act_first(log)? {
+        if k == 1 && self.act_first(log, out)? {
             return Ok(true);
         }
         match self.at(k) {
-            Some(PendingStep::Reply(e, _, r)) => self.reply(log, e, r),
-            Some(PendingStep::Act) => self.act(log),
-            Some(PendingStep::Coordinate) => self.act_at_log(log),
-            Some(PendingStep::Deliver(c, Dir::Up)) => self.deliver_up(log, c),
-            Some(PendingStep::Deliver(c, Dir::Down)) => self.deliver_down(log, c),
+            Some(PendingStep::Reply(e, _, r)) => self.reply(log, out, e, r),
+            Some(PendingStep::Act) => self.act(log, out),
+            Some(PendingStep::Coordinate) => self.act_at_log(log, out),
+            Some(PendingStep::Deliver(c, Dir::Up)) => self.deliver_up(log, out, c),
+            Some(PendingStep::Deliver(c, Dir::Down)) => self.deliver_down(log, out, c),
             None => Ok(false),
         }
     }

@@ -1,4 +1,4 @@
-use Rattle.std.proofs.Common.{ap, sym, ◌∙◌}
+use Rattle.std.proofs.Common.{◌<◌, ap, arith, length, sym, ◌∙◌}
 use Rattle.std.proofs.lemmas.List.{take_all}
 use Rattle.dtx_model.specs.TraceText.{lines_from, trace_text}
 use Rattle.dtx_model.specs.Words.{each}
@@ -8,20 +8,20 @@ use Rattle.trace_text.proofs.printer.print_trace.Goals as goal
 
 pub loop-index-preserved : goal.loop-index-preserved
 loop-index-preserved c =
-    let step = lines-step c.entries-entries.result.now c.loop-index.index c.index-entries-index.result c.loop-index-test.true c.index-entries-index.is in
+    let within : c.loop-index.index < length c.args.t.now = omega (arith, c.loop-index-test.true, c.len-index-end.ensures) in
+    let step = lines-step c.args.t.now c.loop-index.index c.at.result within c.at.ensures in
     record {
       text = cc (step, c.in_ok-extend_from_slice.ensures.items, c.as_slice.ensures, c.put_line.ensures.text, c.loop-index.invariant.text);
-      typed = typed-step c.entries-entries.result.now c.loop-index.index c.index-entries-index.result c.loop-index-test.true c.index-entries-index.is c.loop-index.invariant.typed
-          c.put_line.ensures.typed;
+      typed = typed-step c.args.t.now c.loop-index.index c.at.result within c.at.ensures c.loop-index.invariant.typed c.put_line.ensures.typed;
     }
 
 pub returns-clause-text : goal.returns-clause-text
 unfolding trace_text
 returns-clause-text c =
-    let all = take_all c.loop-index.index c.entries-entries.result.now c.loop-index-test.false in
-    c.loop-index.invariant.text ∙ ap (λ xs. lines_from 1 xs) (all ∙ c.entries-entries.ensures)
+    let all = take_all c.loop-index.index c.args.t.now (omega (arith, c.loop-index-test.false, c.len-index-end.ensures)) in
+    c.loop-index.invariant.text ∙ ap (λ xs. lines_from 1 xs) all
 
 pub returns-clause-typed : goal.returns-clause-typed
 returns-clause-typed c =
-    let all = take_all c.loop-index.index c.entries-entries.result.now c.loop-index-test.false in
-    ap (λ xs. each is_typed_at xs) (sym (all ∙ c.entries-entries.ensures)) ∙ c.loop-index.invariant.typed
+    let all = take_all c.loop-index.index c.args.t.now (omega (arith, c.loop-index-test.false, c.len-index-end.ensures)) in
+    ap (λ xs. each is_typed_at xs) (sym all) ∙ c.loop-index.invariant.typed

@@ -6,6 +6,6 @@ use Rattle.trace_text.proofs.printer.print_trace.Given as goal
 
 abbrev pub invariant-loop-index : goal.invariant-loop-index
 invariant-loop-index l = record {
-  text : l.text.items ≡ lines_from 1 (take l.index l.entries);
-  typed : each is_typed_at (take l.index l.entries) ≡ true;
+  text : l.text.items ≡ lines_from 1 (take l.index l.t);
+  typed : each is_typed_at (take l.index l.t) ≡ true;
 }

@@ -18,7 +18,7 @@ append-requires c =
     let few = few_notes _ _ _ _ _ did in
     let many : length c.index_mut-context.result.now.scopes ≡ length c.scopes.result.now = ap length (sym c.scopes.ensures) ∙ length-past c.scopes.result.now in
     let notes : length c.deref.result.now ≡ length c.act.new.entries.items = ap length c.deref.ensures.value in
-    omega (arith, few, many, notes, c.in_ok-reserve-2.ensures.ok, c.push_reserved.ensures.len, c.push_reserved.ensures.capacity)
+    omega (arith, few, many, notes, c.in_ok-reserve-2.ensures.room, c.push_reserved.ensures.room)
 
 pub invariant_of-self-2 : goal.invariant_of-self-2
 invariant_of-self-2 c = (c.self.invariant.0, rw length-set c.self.invariant.1, c.self.invariant.2)

@@ -1,0 +1,101 @@
+//! Entries in few bytes.
+ghost use Rattle.std.specs.Prelude.{◌≡◌, ◌≤◌, ◌<◌, ◌+◌, ◌^◌, List, IfSome, length, slice_index_or, true, vec_capacity, vec_len};
+ghost use Rattle.dtx_values.specs.declared.entry.Entry.{Entry};
+ghost use Rattle.entry_lists.specs.declared.brief.Brief.{Brief};
+ghost use Rattle.entry_lists.specs.Held.{entry_in, is_within};
+
+use dtx_values::{ActorNo, Answer, Ask, Class, EnlNo, Entry, Outcome, Party, Vote};
+
+/// An entry in few bytes. One that has more of them stands whole elsewhere, at a place.
+#[derive(Clone, Copy, PartialEq, Eq, Debug)]
+pub enum Brief {
+    /// A call that was answered `ok`.
+    Called(u32, ActorNo),
+    Began(u32),
+    Enlisted(EnlNo, Class),
+    CommitAsked,
+    RollbackAsked,
+    /// A clock of up to 4,294,967,295 milliseconds.
+    Clock(u32),
+    Asked(EnlNo, Ask),
+    Voted(EnlNo, Vote),
+    Sealed,
+    Decided(Outcome),
+    Told(EnlNo, Outcome),
+    ToldClient(Outcome),
+    /// The place of an entry that stands whole.
+    Whole(u32),
+}
+
+/// The entry in few bytes, where it has no more.
+fn brief_of(e: &Entry) -> Option<Brief>
+    ensures { IfSome result (λ b. (ws : List Entry) → (entry_in ws b ≡ e.now) × (is_within (length ws) b ≡ true)) }
+{
+    match *e {
+        Entry::Called(n, actor, Answer::Fine) => Some(Brief::Called(n, actor)),
+        Entry::Began(n) => Some(Brief::Began(n)),
+        Entry::Enlisted(f, class) => Some(Brief::Enlisted(f, class)),
+        Entry::CommitAsked => Some(Brief::CommitAsked),
+        Entry::RollbackAsked => Some(Brief::RollbackAsked),
+        Entry::Clock(n) if n <= 4_294_967_295 => Some(Brief::Clock(n as u32)),
+        Entry::Asked(f, ask) => Some(Brief::Asked(f, ask)),
+        Entry::Voted(f, vote) => Some(Brief::Voted(f, vote)),
+        Entry::Sealed => Some(Brief::Sealed),
+        Entry::Decided(outcome) => Some(Brief::Decided(outcome)),
+        Entry::Told(Party::Enl(f), outcome) => Some(Brief::Told(f, outcome)),
+        Entry::Told(Party::Client, outcome) => Some(Brief::ToldClient(outcome)),
+        _ => None,
+    }
+}
+
+/// The entry in few bytes, or the place where it stands whole from now on.
+pub(crate) fn keep(wholes: &mut Vec<Entry>, e: Entry) -> Brief
+    requires room { vec_len wholes.old < vec_capacity wholes.old }
+    requires few { vec_len wholes.old < 2 ^ 32 }
+    ensures entry { entry_in wholes.new.items result ≡ e }
+    ensures within { is_within (length wholes.new.items) result ≡ true }
+    ensures others { (b : Brief) → is_within (length wholes.old.items) b ≡ true → (entry_in wholes.new.items b ≡ entry_in wholes.old.items b) × (is_within (length wholes.new.items) b ≡ true) }
+    ensures grows { vec_len wholes.new ≤ vec_len wholes.old + 1 }
+    ensures capacity { vec_capacity wholes.new ≡ vec_capacity wholes.old }
+{
+    match brief_of(&e) {
+        Some(b) => b,
+        None => {
+            let place = wholes.len() as u32;
+            wholes.push_reserved(e);
+            Brief::Whole(place)
+        }
+    }
+}
+
+/// The entry that stands in few bytes, or whole among these.
+pub(crate) fn entry_in(wholes: &[Entry], b: Brief) -> Entry
+    ensures { result ≡ entry_in wholes.now b }
+{
+    match b {
+        Brief::Called(n, actor) => Entry::Called(n, actor, Answer::Fine),
+        Brief::Began(n) => Entry::Began(n),
+        Brief::Enlisted(e, class) => Entry::Enlisted(e, class),
+        Brief::CommitAsked => Entry::CommitAsked,
+        Brief::RollbackAsked => Entry::RollbackAsked,
+        Brief::Clock(n) => Entry::Clock(u64::from(n)),
+        Brief::Asked(e, ask) => Entry::Asked(e, ask),
+        Brief::Voted(e, vote) => Entry::Voted(e, vote),
+        Brief::Sealed => Entry::Sealed,
+        Brief::Decided(outcome) => Entry::Decided(outcome),
+        Brief::Told(e, outcome) => Entry::Told(Party::Enl(e), outcome),
+        Brief::ToldClient(outcome) => Entry::Told(Party::Client, outcome),
+        Brief::Whole(place) => whole(wholes, place as usize),
+    }
+}
+
+/// The entry that stands whole at a place.
+fn whole(wholes: &[Entry], place: usize) -> Entry
+    ensures { result ≡ slice_index_or wholes.now place Entry.Late }
+{
+    if place < wholes.len() {
+        wholes[place]
+    } else {
+        Entry::Late
+    }
+}
