@@ -5,7 +5,7 @@ use Rattle.dtx_values.specs.declared.entry.Entry.{Entry}
 use Rattle.dtx_values.specs.declared.entry.Entry.TheVariants.{Called, Lost}
 use Rattle.dtx_model.specs.Outcome.{is_empty}
 use Rattle.dtx_model.specs.Words.{onto, past_of}
-use Rattle.dtx_model.specs.Steps.{Calls, block_at, entered}
+use Rattle.dtx_model.specs.Steps.{Calls, entered}
 use Rattle.dtx_model.specs.World.{answer_at, open_ones}
 use Rattle.tx_world.specs.Entering.{links_cut}
 use Rattle.tx_world.specs.State.{TxState, may_enter}
@@ -72,11 +72,11 @@ invariant_of-self-2 g c =
     let i = c.self.inside in
     let b = (goal.at.invariant_of-self-2 g c).After-is_stopped in
     let r = ready g b 0 in
-    whole_far i.core i.core [] (silent_kept r.kept r.silent (calls g b 0) (past g c ∙ ap (onto i.history.past) r.block)) c.self.invariant.ours refl (none_followed i.core.state) refl
+    whole_far i.core i.core [] (silent_kept i.transaction (world_of i.calls.items i.history.past) (Calls c.args.line c.args.actor (Gone c.args.e) 0) r.kept r.silent (calls g b 0) (past g c ∙ ap (onto i.history.past) r.block)) c.self.invariant.ours refl (none_followed i.core.state) refl
 
 pub returns-clause-done : goal.returns-clause-done
 returns-clause-done g c m =
     let i = c.self.inside in
     let b = (goal.at.returns-clause-done g c).After-is_stopped in
     let r = ready g b m in
-    silent_done g.D.Disk.faults i.at_log c.args.self.now c.args.log.now r.silent (calls g b m) (past g c ∙ ap (onto i.history.past) r.block) refl c.self.view_is
+    silent_done g.D.Disk.faults i.transaction (world_of i.calls.items i.history.past) (Calls c.args.line c.args.actor (Gone c.args.e) m) i.at_log c.args.self.now c.args.log.now r.silent (calls g b m) (past g c ∙ ap (onto i.history.past) r.block) refl c.self.view_is

@@ -5,7 +5,7 @@ use Rattle.dtx_values.specs.declared.entry.Entry.{Entry}
 use Rattle.dtx_values.specs.declared.entry.Entry.TheVariants.{Called}
 use Rattle.dtx_model.specs.Wires.{is_open_wire}
 use Rattle.dtx_model.specs.Words.{onto, past_of}
-use Rattle.dtx_model.specs.Steps.{Calls, block_at, entered}
+use Rattle.dtx_model.specs.Steps.{Calls, entered}
 use Rattle.dtx_model.specs.World.{answer_at, cut}
 use Rattle.tx_world.specs.Carried.{are_sendable}
 use Rattle.tx_world.specs.State.{TxState, may_enter}
@@ -58,11 +58,11 @@ invariant_of-self-2 g c =
     let i = c.self.inside in
     let b = (goal.at.invariant_of-self-2 g c).After-is_stopped in
     let r = ready g b 0 in
-    whole_far i.core i.core [] (silent_kept r.kept r.silent (calls g b 0) (past g c ∙ ap (onto i.history.past) r.block)) c.self.invariant.ours refl (none_followed i.core.state) refl
+    whole_far i.core i.core [] (silent_kept i.transaction (world_of i.calls.items i.history.past) (Calls c.args.line c.args.actor (Lose c.args.u c.args.c c.args.up c.args.down) 0) r.kept r.silent (calls g b 0) (past g c ∙ ap (onto i.history.past) r.block)) c.self.invariant.ours refl (none_followed i.core.state) refl
 
 pub returns-clause-done : goal.returns-clause-done
 returns-clause-done g c m =
     let i = c.self.inside in
     let b = (goal.at.returns-clause-done g c).After-is_stopped in
     let r = ready g b m in
-    silent_done g.D.Disk.faults i.at_log c.args.self.now c.args.log.now r.silent (calls g b m) (past g c ∙ ap (onto i.history.past) r.block) refl c.self.view_is
+    silent_done g.D.Disk.faults i.transaction (world_of i.calls.items i.history.past) (Calls c.args.line c.args.actor (Lose c.args.u c.args.c c.args.up c.args.down) m) i.at_log c.args.self.now c.args.log.now r.silent (calls g b m) (past g c ∙ ap (onto i.history.past) r.block) refl c.self.view_is

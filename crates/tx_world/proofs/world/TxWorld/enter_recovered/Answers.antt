@@ -4,7 +4,7 @@ use Rattle.dtx_values.specs.declared.entry.Answer.TheVariants.{Fine}
 use Rattle.dtx_values.specs.declared.entry.Entry.{Entry}
 use Rattle.dtx_values.specs.declared.entry.Entry.TheVariants.{Called, Recovered as RecoveredEntry}
 use Rattle.dtx_model.specs.Words.{onto, past_of}
-use Rattle.dtx_model.specs.Steps.{Calls, block_at, entered}
+use Rattle.dtx_model.specs.Steps.{Calls, entered}
 use Rattle.dtx_model.specs.World.{answer_at}
 use Rattle.tx_world.specs.Carried.{are_sendable}
 use Rattle.tx_world.specs.State.{TxState, may_enter}
@@ -13,11 +13,11 @@ use Rattle.tx_world.proofs.Linking.{Linked, recovered, recovery_alone}
 use Rattle.tx_world.proofs.Living.{silent_done, whole_far}
 use Rattle.tx_world.proofs.Written.{silent_kept, stopped_is, world_of}
 use Rattle.tx_world.proofs.world.TxWorld.enter_recovered.Given.{Over}
-use Rattle.tx_world.proofs.world.TxWorld.enter_recovered.Goals.{After-recovery_over, After-write}
+use Rattle.tx_world.proofs.world.TxWorld.enter_recovered.Goals.{After-block-1, After-write}
 use Rattle.tx_world.proofs.world.TxWorld.enter_recovered.Goals as goal
 
 -- the call is ready to be written, whatever number is given with it
-ready : (g : Over) (c : After-recovery_over g) (m : ℕ)
+ready : (g : Over) (c : After-block-1 g) (m : ℕ)
     → Linked c.self.inside.transaction (world_of c.self.inside.calls.items c.self.inside.history.past) (Calls c.args.line c.args.actor (Recovered c.args.u c.args.r) m) c.self.inside.half c.recovery_over.new.self
     (Called c.args.line c.args.actor Fine ∷ RecoveredEntry c.args.r ∷ [])
 ready g c m =
@@ -28,7 +28,7 @@ ready g c m =
     c.recovery_over.ensures.state
 
 -- it is the newest
-calls : (g : Over) (c : After-recovery_over g) (m : ℕ) → past_of c.push_reserved.new.self.items ≡ entered (Calls c.args.line c.args.actor (Recovered c.args.u c.args.r) m) (past_of c.self.inside.calls.items)
+calls : (g : Over) (c : After-block-1 g) (m : ℕ) → past_of c.push_reserved.new.self.items ≡ entered (Calls c.args.line c.args.actor (Recovered c.args.u c.args.r) m) (past_of c.self.inside.calls.items)
 calls g c m =
     with_call c.self.inside.calls.items c.reserve-2.new.self.items c.push_reserved.new.self.items (record { line = c.args.line; actor = c.args.actor; call = Recovered c.args.u c.args.r }) c.push_reserved.ensures.items
     c.in_ok-reserve-2.ensures.items
@@ -49,14 +49,14 @@ write-requires-clause-stopped g c =
 pub invariant_of-self-2 : goal.invariant_of-self-2
 invariant_of-self-2 g c =
     let i = c.self.inside in
-    let b = (goal.at.invariant_of-self-2 g c).After-recovery_over in
+    let b = (goal.at.invariant_of-self-2 g c).After-block-1 in
     let r = ready g b 0 in
-    whole_far i.core c.recovery_over.new.self (RecoveredEntry c.args.r ∷ []) (silent_kept r.kept r.silent (calls g b 0) (past g c ∙ ap (onto i.history.past) r.block)) c.self.invariant.ours
+    whole_far i.core c.recovery_over.new.self (RecoveredEntry c.args.r ∷ []) (silent_kept i.transaction (world_of i.calls.items i.history.past) (Calls c.args.line c.args.actor (Recovered c.args.u c.args.r) 0) r.kept r.silent (calls g b 0) (past g c ∙ ap (onto i.history.past) r.block)) c.self.invariant.ours
     c.recovery_over.ensures.transaction (c.recovery_over.ensures.state ∙ recovery_alone i.core.state c.args.r) refl
 
 pub returns-clause-done : goal.returns-clause-done
 returns-clause-done g c m =
     let i = c.self.inside in
-    let b = (goal.at.returns-clause-done g c).After-recovery_over in
+    let b = (goal.at.returns-clause-done g c).After-block-1 in
     let r = ready g b m in
-    silent_done g.D.Disk.faults i.at_log c.args.self.now c.args.log.now r.silent (calls g b m) (past g c ∙ ap (onto i.history.past) r.block) refl c.self.view_is
+    silent_done g.D.Disk.faults i.transaction (world_of i.calls.items i.history.past) (Calls c.args.line c.args.actor (Recovered c.args.u c.args.r) m) i.at_log c.args.self.now c.args.log.now r.silent (calls g b m) (past g c ∙ ap (onto i.history.past) r.block) refl c.self.view_is
