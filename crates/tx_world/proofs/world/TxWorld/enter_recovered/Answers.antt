@@ -13,11 +13,11 @@ use Rattle.tx_world.proofs.Linking.{Linked, recovered, recovery_alone}
 use Rattle.tx_world.proofs.Living.{silent_done, whole_far}
 use Rattle.tx_world.proofs.Written.{silent_kept, stopped_is, world_of}
 use Rattle.tx_world.proofs.world.TxWorld.enter_recovered.Given.{Over}
-use Rattle.tx_world.proofs.world.TxWorld.enter_recovered.Goals.{After-block-1, After-write}
+use Rattle.tx_world.proofs.world.TxWorld.enter_recovered.Goals.{After-recovery_over, After-write}
 use Rattle.tx_world.proofs.world.TxWorld.enter_recovered.Goals as goal
 
 -- the call is ready to be written, whatever number is given with it
-ready : (g : Over) (c : After-block-1 g) (m : ℕ)
+ready : (g : Over) (c : After-recovery_over g) (m : ℕ)
     → Linked c.self.inside.transaction (world_of c.self.inside.calls.items c.self.inside.history.past) (Calls c.args.line c.args.actor (Recovered c.args.u c.args.r) m) c.self.inside.half c.recovery_over.new.self
     (Called c.args.line c.args.actor Fine ∷ RecoveredEntry c.args.r ∷ [])
 ready g c m =
@@ -28,7 +28,7 @@ ready g c m =
     c.recovery_over.ensures.state
 
 -- it is the newest
-calls : (g : Over) (c : After-block-1 g) (m : ℕ) → past_of c.push_reserved.new.self.items ≡ entered (Calls c.args.line c.args.actor (Recovered c.args.u c.args.r) m) (past_of c.self.inside.calls.items)
+calls : (g : Over) (c : After-recovery_over g) (m : ℕ) → past_of c.push_reserved.new.self.items ≡ entered (Calls c.args.line c.args.actor (Recovered c.args.u c.args.r) m) (past_of c.self.inside.calls.items)
 calls g c m =
     with_call c.self.inside.calls.items c.reserve-2.new.self.items c.push_reserved.new.self.items (record { line = c.args.line; actor = c.args.actor; call = Recovered c.args.u c.args.r }) c.push_reserved.ensures.items
     c.in_ok-reserve-2.ensures.items
@@ -39,7 +39,8 @@ past g c = c.write.ensures.past ∙ ap (λ (h : List Entry). onto h (Called c.ar
 
 pub write-requires-clause-sendable : goal.write-requires-clause-sendable
 write-requires-clause-sendable g c =
-    ap (λ (h : List Entry). are_sendable (onto h (Called c.args.line c.args.actor Fine ∷ RecoveredEntry c.args.r ∷ []))) c.in_ok-reserve.ensures.same ∙ (ready g c 0).sendable
+    ap (λ (h : List Entry). are_sendable (onto h (Called c.args.line c.args.actor Fine ∷ RecoveredEntry c.args.r ∷ []))) c.in_ok-reserve.ensures.same
+    ∙ (ready g (goal.at.write-requires-clause-sendable g c).After-recovery_over 0).sendable
 
 pub write-requires-clause-stopped : goal.write-requires-clause-stopped
 write-requires-clause-stopped g c =
@@ -49,7 +50,7 @@ write-requires-clause-stopped g c =
 pub invariant_of-self-2 : goal.invariant_of-self-2
 invariant_of-self-2 g c =
     let i = c.self.inside in
-    let b = (goal.at.invariant_of-self-2 g c).After-block-1 in
+    let b = (goal.at.invariant_of-self-2 g c).After-recovery_over in
     let r = ready g b 0 in
     whole_far i.core c.recovery_over.new.self (RecoveredEntry c.args.r ∷ []) (silent_kept i.transaction (world_of i.calls.items i.history.past) (Calls c.args.line c.args.actor (Recovered c.args.u c.args.r) 0) r.kept r.silent (calls g b 0) (past g c ∙ ap (onto i.history.past) r.block)) c.self.invariant.ours
     c.recovery_over.ensures.transaction (c.recovery_over.ensures.state ∙ recovery_alone i.core.state c.args.r) refl
@@ -57,6 +58,6 @@ invariant_of-self-2 g c =
 pub returns-clause-done : goal.returns-clause-done
 returns-clause-done g c m =
     let i = c.self.inside in
-    let b = (goal.at.returns-clause-done g c).After-block-1 in
+    let b = (goal.at.returns-clause-done g c).After-recovery_over in
     let r = ready g b m in
     silent_done g.D.Disk.faults i.transaction (world_of i.calls.items i.history.past) (Calls c.args.line c.args.actor (Recovered c.args.u c.args.r) m) i.at_log c.args.self.now c.args.log.now r.silent (calls g b m) (past g c ∙ ap (onto i.history.past) r.block) refl c.self.view_is
