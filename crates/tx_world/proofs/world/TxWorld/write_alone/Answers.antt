@@ -54,7 +54,7 @@ pub invariant_of-self-2 : goal.invariant_of-self-2
 invariant_of-self-2 c =
     let b = (goal.at.invariant_of-self-2 c).After-is_stopped in
     let i = c.self.inside in
-    record { kept = silent_kept i.transaction (world_of i.calls.items i.history.past) (Calls c.args.line c.args.actor c.args.c.now c.args.done) (ready b).kept (ready b).silent (calls b) (c.write.ensures.past ∙ past b); ours = c.self.invariant.ours; }
+    record { kept = silent_kept i.transaction (world_of i.calls.items i.history.past) (Calls c.args.line c.args.actor c.args.c.now c.args.done) (ready b).kept (ready b).silent (calls b) (c.write.ensures.past ∙ past b); ours = c.self.invariant.ours }
 
 pub returns-clause-done : goal.returns-clause-done
 returns-clause-done c =
