@@ -7,7 +7,7 @@ ghost use Rattle.tx_world.specs.AtLog.{Fits};
 
 use coordinator_log::{LOG_BYTES, Log};
 use dtx_values::{
-    ActorNo, Answer, Call, EnlNo, EnlistOption, Entry, Note, Outcome, Place, Reply, RmNo, Status,
+    ActorNo, Answer, Call, Conn, EnlNo, EnlistOption, Entry, Note, Outcome, Place, Reply, RmNo, Status,
     Support, Timeout, Trace, TxNo, Vote,
 };
 use outside::{Image, MemDisk};
@@ -346,5 +346,68 @@ fn the_steps_of_the_caller_are_said(rt: HostRuntime) -> Result<(), Fail> {
     let a1 = ActorNo::new(1).unwrap();
     let did = Entry::Called(3, a1, Answer::Did(1));
     assert_eq!(rt; world.history().last().copied(), Some(did));
+    Ok(())
+}
+
+/// A promotion begins; its connection is lost with BEGIN on it, and then the manager of the owner.
+const LOST: [&str; 21] = [
+    "call 1 a1 ok",
+    "began 60000",
+    "call 2 a1 ok",
+    "enlisted e1 single",
+    "call 3 a1 wait",
+    "promoting marshal",
+    "sent b up begin",
+    "call 4 a1 nosuch",
+    "call 5 a1 ok",
+    "cut b 0 0",
+    "call 6 a1 nosuch",
+    "call 7 a1 ok",
+    "lost e1",
+    "promotionfailed",
+    "decided aborted",
+    "answer 3 ended aborted",
+    "call 8 a1 already",
+    "told client aborted",
+    "down b up",
+    "down b down",
+    "call 9 a1 aborted",
+];
+
+/// Calls that lose connections, which were opened or not, and an enlistment, twice.
+fn loses(rt: &impl Abort, world: &mut TxWorld, log: &mut Log<MemDisk>)
+    requires new { Fits world.old [] }
+    requires empty { open_records log.old.slots ≡ [] }
+{
+    let t = transaction(rt);
+    let e1 = EnlNo::new(1).expect(rt, "no such enlistment");
+    let r1 = RmNo::new(1).expect(rt, "no such manager");
+    let owner = Support::SinglePhase(Some(Vote::Yes), Some(Outcome::Committed));
+    let told = Answer::OutcomeIs(Outcome::Aborted);
+    let calls = [
+        (Call::Begin(t, Timeout::Default), Answer::Fine),
+        (Call::Durable(t, e1, r1, owner), Answer::Fine),
+        (Call::Marshal(t), Answer::Wait),
+        (Call::Lose(t, Conn::Voter, 0, 0), Answer::NoSuch),
+        (Call::Lose(t, Conn::Begin, 0, 0), Answer::Fine),
+        (Call::Lose(t, Conn::Begin, 1, 1), Answer::NoSuch),
+        (Call::Gone(e1), Answer::Fine),
+        (Call::Gone(e1), Answer::Already),
+        (Call::Await(t), told),
+    ];
+    let mut line = 0_u32;
+    for (c, answer) in calls {
+        line = line.saturating_add(1);
+        assert_eq!(rt; call(rt, world, log, line, &c), answer, "at {line}");
+    }
+}
+
+#[test]
+fn a_loss_ends_the_promotion_that_is_under_way(rt: HostRuntime) -> Result<(), Fail> {
+    let alloc = rt.alloc();
+    let mut log = empty_log(&rt, alloc)?;
+    let mut world = world(&rt, alloc);
+    loses(&rt, &mut world, &mut log);
+    shows(&rt, alloc, &world, &[&LOST])?;
     Ok(())
 }
