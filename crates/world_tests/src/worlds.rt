@@ -384,22 +384,20 @@ fn loses(rt: &impl Abort, world: &mut TxWorld, log: &mut Log<MemDisk>)
     let r1 = RmNo::new(1).expect(rt, "no such manager");
     let owner = Support::SinglePhase(Some(Vote::Yes), Some(Outcome::Committed));
     let told = Answer::OutcomeIs(Outcome::Aborted);
-    let calls = [
-        (Call::Begin(t, Timeout::Default), Answer::Fine),
-        (Call::Durable(t, e1, r1, owner), Answer::Fine),
-        (Call::Marshal(t), Answer::Wait),
-        (Call::Lose(t, Conn::Voter, 0, 0), Answer::NoSuch),
-        (Call::Lose(t, Conn::Begin, 0, 0), Answer::Fine),
-        (Call::Lose(t, Conn::Begin, 1, 1), Answer::NoSuch),
-        (Call::Gone(e1), Answer::Fine),
-        (Call::Gone(e1), Answer::Already),
-        (Call::Await(t), told),
-    ];
-    let mut line = 0_u32;
-    for (c, answer) in calls {
-        line = line.saturating_add(1);
-        assert_eq!(rt; call(rt, world, log, line, &c), answer, "at {line}");
-    }
+    let begin = Call::Begin(t, Timeout::Default);
+    let durable = Call::Durable(t, e1, r1, owner);
+    let lose_v = Call::Lose(t, Conn::Voter, 0, 0);
+    let lose_b = Call::Lose(t, Conn::Begin, 0, 0);
+    let lose_again = Call::Lose(t, Conn::Begin, 1, 1);
+    assert_eq!(rt; call(rt, world, log, 1, &begin), Answer::Fine);
+    assert_eq!(rt; call(rt, world, log, 2, &durable), Answer::Fine);
+    assert_eq!(rt; call(rt, world, log, 3, &Call::Marshal(t)), Answer::Wait);
+    assert_eq!(rt; call(rt, world, log, 4, &lose_v), Answer::NoSuch);
+    assert_eq!(rt; call(rt, world, log, 5, &lose_b), Answer::Fine);
+    assert_eq!(rt; call(rt, world, log, 6, &lose_again), Answer::NoSuch);
+    assert_eq!(rt; call(rt, world, log, 7, &Call::Gone(e1)), Answer::Fine);
+    assert_eq!(rt; call(rt, world, log, 8, &Call::Gone(e1)), Answer::Already);
+    assert_eq!(rt; call(rt, world, log, 9, &Call::Await(t)), told);
 }
 
 #[test]
