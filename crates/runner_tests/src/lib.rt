@@ -7,6 +7,8 @@ mod distributed;
 #[cfg(test)]
 mod live;
 #[cfg(test)]
+mod losses;
+#[cfg(test)]
 mod not_built;
 #[cfg(test)]
 mod printed;

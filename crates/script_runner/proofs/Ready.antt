@@ -14,25 +14,25 @@ use Rattle.script_runner.specs.Built.{is_run}
 use Rattle.tx_world.specs.Entering.{is_entered_yet}
 
 -- the call that a line that is run gives by its own words can be entered
-line_enters : (s before : List Line) (b : Body) → is_run before b ≡ true → passes (λ (c : TxNo × Call). is_entered_yet c.1) (call_of s b) ≡ true
-line_enters s before (CompleteLine c) k = step c (transaction_of s c.value)
+line_enters : (s : List Line) (b : Body) → is_run b ≡ true → passes (λ (c : TxNo × Call). is_entered_yet c.1) (call_of s b) ≡ true
+line_enters s (CompleteLine c) k = step c (transaction_of s c.value)
   where
     step : (c : CloneNo) (t : Option TxNo) → passes (λ (d : TxNo × Call). is_entered_yet d.1) (complete_call c t) ≡ true
     step c (Some t) = refl
     step c None = refl
-line_enters s before (GoneLine e) k = step e (transaction_with s e.value)
+line_enters s (GoneLine e) k = step e (transaction_with s e.value)
   where
     step : (e : EnlNo) (t : Option TxNo) → passes (λ (d : TxNo × Call). is_entered_yet d.1) (gone_call e t) ≡ true
     step e (Some t) = refl
     step e None = refl
-line_enters s before (ReenlistLine e) k = absurd (cc)
-line_enters s before _ k = refl
+line_enters s (ReenlistLine e) k = absurd (cc)
+line_enters s _ k = refl
 
-pub line_entered : (s before : List Line) (b : Body) (t : TxNo) (c : Call) → call_of s b ≡ Some (t, c) → is_run before b ≡ true → is_entered_yet c ≡ true
-line_entered s before b t c gives run = ap (λ (d : Option (TxNo × Call)). passes (λ (p : TxNo × Call). is_entered_yet p.1) d) (sym gives) ∙ line_enters s before b run
+pub line_entered : (s : List Line) (b : Body) (t : TxNo) (c : Call) → call_of s b ≡ Some (t, c) → is_run b ≡ true → is_entered_yet c ≡ true
+line_entered s b t c gives run = ap (λ (d : Option (TxNo × Call)). passes (λ (p : TxNo × Call). is_entered_yet p.1) d) (sym gives) ∙ line_enters s b run
 
 -- it is no `stop` and no `restart`
-pub line_off_log : (before : List Line) (b : Body) → is_run before b ≡ true → is_log_line b ≡ false
-line_off_log before (StopLine n i) k = absurd (cc)
-line_off_log before RestartLine k = absurd (cc)
-line_off_log before _ k = refl
+pub line_off_log : (b : Body) → is_run b ≡ true → is_log_line b ≡ false
+line_off_log (StopLine n i) k = absurd (cc)
+line_off_log RestartLine k = absurd (cc)
+line_off_log _ k = refl

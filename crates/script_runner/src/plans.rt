@@ -29,7 +29,7 @@ fn item_at<T: Copy>(items: &[T], place: usize, blank: T) -> T
 }
 
 /// The enlistment that a command makes, and its transaction.
-pub fn made_by(body: Body) -> Option<(EnlNo, TxNo)>
+fn made_by(body: Body) -> Option<(EnlNo, TxNo)>
     ensures some { IfSome result (λ x. (e : ℕ) → enlistment_made e body ≡ (if e == x.0.value then Some x.1 else None)) }
     ensures none { IfNone result ((e : ℕ) → enlistment_made e body ≡ None) }
 {

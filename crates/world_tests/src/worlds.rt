@@ -7,8 +7,8 @@ ghost use Rattle.tx_world.specs.AtLog.{Fits};
 
 use coordinator_log::{LOG_BYTES, Log};
 use dtx_values::{
-    ActorNo, Answer, Call, EnlNo, EnlistOption, Entry, Note, Outbox, Outcome, Place, Reply, RmNo,
-    Status, Support, Timeout, TxNo, Vote,
+    ActorNo, Answer, Call, Conn, EnlNo, EnlistOption, Entry, Note, Outbox, Outcome, Place, Reply,
+    RmNo, Status, Support, Timeout, TxNo, Vote,
 };
 use entry_lists::{PlacedEntries, Trace};
 use outside::{Image, MemDisk};
@@ -355,5 +355,67 @@ fn the_steps_of_the_caller_are_said(rt: HostRuntime) -> Result<(), Fail> {
     let h = world.history();
     assert_eq!(rt; h.len(), 6);
     assert_eq!(rt; h.at(5), did);
+    Ok(())
+}
+
+/// A promotion begins; its connection is lost with BEGIN on it, and then the manager of the owner.
+const LOST: [&str; 21] = [
+    "call 1 a1 ok",
+    "began 60000",
+    "call 2 a1 ok",
+    "enlisted e1 single",
+    "call 3 a1 wait",
+    "promoting marshal",
+    "sent b up begin",
+    "call 4 a1 nosuch",
+    "call 5 a1 ok",
+    "cut b 0 0",
+    "call 6 a1 nosuch",
+    "call 7 a1 ok",
+    "lost e1",
+    "promotionfailed",
+    "decided aborted",
+    "answer 3 ended aborted",
+    "call 8 a1 already",
+    "told client aborted",
+    "down b up",
+    "down b down",
+    "call 9 a1 aborted",
+];
+
+/// Calls that lose connections, which were opened or not, and an enlistment, twice.
+fn loses(rt: &impl Abort, world: &mut TxWorld, log: &mut Log<MemDisk>, out: &mut Outbox)
+    requires new { Fits world.old [] }
+    requires empty { open_records log.old.slots ≡ [] }
+{
+    let t = transaction(rt);
+    let e1 = EnlNo::new(1).expect(rt, "no such enlistment");
+    let r1 = RmNo::new(1).expect(rt, "no such manager");
+    let owner = Support::SinglePhase(Some(Vote::Yes), Some(Outcome::Committed));
+    let told = Answer::OutcomeIs(Outcome::Aborted);
+    let begin = Call::Begin(t, Timeout::Default);
+    let durable = Call::Durable(t, e1, r1, owner);
+    let lose_v = Call::Lose(t, Conn::Voter, 0, 0);
+    let lose_b = Call::Lose(t, Conn::Begin, 0, 0);
+    let lose_again = Call::Lose(t, Conn::Begin, 1, 1);
+    assert_eq!(rt; call(rt, world, log, out, 1, &begin), Answer::Fine);
+    assert_eq!(rt; call(rt, world, log, out, 2, &durable), Answer::Fine);
+    assert_eq!(rt; call(rt, world, log, out, 3, &Call::Marshal(t)), Answer::Wait);
+    assert_eq!(rt; call(rt, world, log, out, 4, &lose_v), Answer::NoSuch);
+    assert_eq!(rt; call(rt, world, log, out, 5, &lose_b), Answer::Fine);
+    assert_eq!(rt; call(rt, world, log, out, 6, &lose_again), Answer::NoSuch);
+    assert_eq!(rt; call(rt, world, log, out, 7, &Call::Gone(e1)), Answer::Fine);
+    assert_eq!(rt; call(rt, world, log, out, 8, &Call::Gone(e1)), Answer::Already);
+    assert_eq!(rt; call(rt, world, log, out, 9, &Call::Await(t)), told);
+}
+
+#[test]
+fn a_loss_ends_the_promotion_that_is_under_way(rt: HostRuntime) -> Result<(), Fail> {
+    let alloc = rt.alloc();
+    let mut log = empty_log(&rt, alloc)?;
+    let mut world = world(&rt, alloc);
+    let mut out = Outbox::with_room(alloc)?;
+    loses(&rt, &mut world, &mut log, &mut out);
+    shows(&rt, alloc, &world, &[&LOST])?;
     Ok(())
 }

@@ -2,15 +2,14 @@ use Rattle.std.proofs.Common.{◌≡◌, true, false, List, [], subst}
 use Rattle.dtx_values.specs.declared.entry.Entry.{Entry}
 use Rattle.dtx_values.specs.declared.number.TxNo.{TxNo}
 use Rattle.dtx_model.specs.Caused.{Caused, FreelyCaused, IsCallOf}
-use Rattle.dtx_model.specs.Tied.{tied}
+use Rattle.dtx_model.specs.Tied.{is_stop, tied}
 use Rattle.dtx_model.proofs.Bools.{or_false}
 use Rattle.outcome_law.specs.Appended.{has_append, stopped_at_append}
 use Rattle.dtx_model.specs.Traces.{history}
 use Rattle.dtx_model.specs.Words.{has, past_of}
-use Rattle.outcome_law.specs.Severed.{is_severing}
+use Rattle.script_runner.proofs.Calmed.{unstopped_stop}
 use Rattle.script_runner.proofs.Quieting.{quiet_faults, quiet_follows, quiet_opens, quiet_stops, unstopped_tied}
 use Rattle.script_runner.proofs.Replayed.{IsQuietReplay, called_at, quiet_replay, to_any_each, unless_rose}
-use Rattle.script_runner.proofs.Unsevered.{unsevered}
 use Rattle.script_runner.proofs.replay.run_replay.Goals as goal
 
 pub returns-in-Ok-clause-recorded : goal.returns-in-Ok-clause-recorded
@@ -64,11 +63,11 @@ returns-in-Ok-clause-complete g c none =
     let r : IsQuietReplay s T = quiet_replay s _ T c.lines.ensures c.in-Ok.ensures.quiet none c.in-Ok.ensures.replayed c.in-Ok.ensures.settled c.in-Ok.ensures.calm in
     let named = c.requires.script.named in
     let caused : (t : TxNo) → Caused s 0 t.value (history t.value T) = c.replay.ensures.caused s T r.replayed r.quiet 0 (to_any_each s T 0 r) in
-    let whole : (t : TxNo) → has is_severing (history t.value T) ≡ false = λ t. unsevered s T named c.requires.run r.replayed r.quiet t.value (r.unstopped t) in
+    let runs : (t : TxNo) → has is_stop (history t.value T) ≡ false = λ t. unstopped_stop (history t.value T) (r.unstopped t) in
     record {
-      told = λ t. c.completeness.ensures.told_local s 0 t.value (history t.value T) named (caused t) (whole t);
+      told = λ t. c.completeness.ensures.told s 0 t.value (history t.value T) named (caused t) (runs t);
       committed = λ t asked. c.completeness.ensures.committed s 0 t.value (history t.value T) named (caused t) (r.settled t) asked;
-      answered = λ t. c.completeness.ensures.answered_local s 0 t.value (history t.value T) named (caused t) (whole t);
+      answered = λ t. c.completeness.ensures.answered s 0 t.value (history t.value T) named (caused t) (runs t);
     }
 
 pub returns-in-Ok-clause-waited : goal.returns-in-Ok-clause-waited
@@ -78,7 +77,7 @@ returns-in-Ok-clause-waited g c none t =
     let r : IsQuietReplay s T = quiet_replay s _ T c.lines.ensures c.in-Ok.ensures.quiet none c.in-Ok.ensures.replayed c.in-Ok.ensures.settled c.in-Ok.ensures.calm in
     let named = c.requires.script.named in
     let caused : Caused s 0 t.value (history t.value T) = c.replay.ensures.caused s T r.replayed r.quiet 0 (to_any_each s T 0 r) t in
-    c.completeness.ensures.waited s 0 t.value (history t.value T) named caused (unsevered s T named c.requires.run r.replayed r.quiet t.value (r.unstopped t))
+    c.completeness.ensures.waited s 0 t.value (history t.value T) named caused (unstopped_stop (history t.value T) (r.unstopped t))
 
 pub returns-in-Ok-clause-rights : goal.returns-in-Ok-clause-rights
 returns-in-Ok-clause-rights g c none =

@@ -47,7 +47,7 @@ line-requires-clause-entered g c =
     let l = c.l-item.result in
     let stands = at g (goal.at.line-requires-clause-entered g c).After-lines-lines i l c.loop-l-test.true c.l-item.is in
     λ t call gives.
-    line_entered s (lines_before s (suc i)) l.body t call (ap (λ (r : List Line). call_of r l.body) (sym c.loop-l.invariant.runs.script) ∙ gives) (run_line s (suc i) l stands c.requires.run)
+    line_entered s l.body t call (ap (λ (r : List Line). call_of r l.body) (sym c.loop-l.invariant.runs.script) ∙ gives) (run_line s (suc i) l stands c.requires.run)
 
 pub line-requires-clause-unopened : goal.line-requires-clause-unopened
 line-requires-clause-unopened g c =
@@ -84,7 +84,7 @@ loop-l-preserved g c =
     let i = c.loop-l.l-index in
     let l = c.l-item.result in
     let stands = at g (goal.at.loop-l-preserved g c).After-lines-lines i l c.loop-l-test.true c.l-item.is in
-    let off = line_off_log (lines_before s (suc i)) l.body (run_line s (suc i) l stands c.requires.run) in
+    let off = line_off_log l.body (run_line s (suc i) l stands c.requires.run) in
     let was = c.loop-l.invariant in
     let did = c.in_ok-line.ensures in
     let faults = g.D.Disk.faults in record {
