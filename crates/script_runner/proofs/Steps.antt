@@ -30,7 +30,7 @@ use Rattle.coordinator_log.specs.State.{LogState}
 use Rattle.tx_world.specs.AtLog.{IsOurs, KeepsLog, id_of}
 use Rattle.tx_world.specs.State.{TxState, life_after, turned}
 use Rattle.tx_world.specs.Stepping.{DoesKth}
-use Rattle.tx_world.specs.Left.{steps_left}
+use Rattle.world_laws.specs.Left.{steps_left}
 use Rattle.script_runner.specs.RunState.{Advances, AreNumbered, HaveSameCalls, Holds, IsQuiet, IsCalm, IsTied, LogGoes, RunState, Runs, is_calm_step, state_of, untouched}
 use Rattle.script_runner.proofs.Calmed.{calm_after, given_same, holds_noted, tied_noted, tied_same}
 use Rattle.script_runner.proofs.Deeds.{calm_block}

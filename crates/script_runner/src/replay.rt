@@ -25,7 +25,7 @@ ghost use Rattle.script_runner.specs.RunState.{Advances, AreBelow, HaveSameCalls
 ghost use Rattle.script_runner.specs.Scoped.{AreOnce, AreOpen, IsUnopened, calls_given, nothing_open, rollbacks, rolled_at, scopes_at};
 ghost use Rattle.script_runner.specs.Waits.{AreWaitsAnswered};
 ghost use Rattle.tx_world.specs.Entering.{is_entered_yet};
-ghost use Rattle.tx_world.specs.Left.{steps_left};
+ghost use Rattle.world_laws.specs.Left.{steps_left};
 
 use crate::contexts::{Gives, act, contexts};
 use crate::plans::Plans;
@@ -37,7 +37,8 @@ use outside::Disk;
 use scope_context::Context;
 use std::alloc::{AllocError, Global};
 use std::marker::Model;
-use tx_world::{TxWorld, WorldError, rights, untried};
+use tx_world::{TxWorld, WorldError};
+use world_laws::{rights, untried};
 
 /// A replay under way: its script's names, its transactions and its actors' contexts by number, and its trace. Contracts see the script,
 /// the transactions, the contexts and the trace.

@@ -21,12 +21,12 @@ use Rattle.coordinator_core.specs.Kept.{Kept as CoreKept}
 use Rattle.coordinator_log.specs.State.{LogState}
 use Rattle.tx_world.specs.State.{TxState, sends_begin}
 use Rattle.tx_world.specs.AtLog.{Acts, IsFit, IsOurs, Keeps, KeepsLog, Kept as LogKept}
-use Rattle.tx_world.specs.Carried.{are_sendable}
-use Rattle.tx_world.specs.Course.{is_far, is_written}
+use Rattle.world_laws.specs.Carried.{are_sendable}
+use Rattle.world_laws.specs.Course.{is_far, is_written}
 use Rattle.tx_world.specs.Kept.{Kept, Whole, stop_if, stopped_if}
 use Rattle.tx_world.specs.Stepping.{Does}
 use Rattle.tx_world.proofs.Begun.{may_write}
-use Rattle.tx_world.proofs.Far.{far_abort, far_commit}
+use Rattle.world_laws.proofs.Far.{far_abort, far_commit}
 use Rattle.tx_world.proofs.Keeping.{runs_still, runs_then}
 use Rattle.tx_world.proofs.Living.{seen_as}
 use Rattle.tx_world.proofs.Onward.{core_is, step_kept}

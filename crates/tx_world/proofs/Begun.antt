@@ -32,15 +32,15 @@ use Rattle.dtx_model.proofs.Heeding.{core_behind}
 use Rattle.dtx_model.proofs.Reading.{has-onto}
 use Rattle.outcome_law.proofs.Crossed.{came, is_sent_on}
 use Rattle.outcome_law.proofs.Scans.{each_more, has_more}
-use Rattle.tx_world.specs.Carried.{are_sendable}
-use Rattle.tx_world.specs.Course.{is_far, is_near}
+use Rattle.world_laws.specs.Carried.{are_sendable}
+use Rattle.world_laws.specs.Course.{is_far, is_near}
 use Rattle.dtx_model.proofs.Writes.{Each, e_cons, e_map, e_none, e_one}
-use Rattle.tx_world.proofs.Far.{far_core_down, far_core_got}
-use Rattle.tx_world.proofs.Near.{near_act, near_facts, near_gone, near_local_down, near_local_got, near_reenlist, near_reply}
+use Rattle.world_laws.proofs.Far.{far_core_down, far_core_got}
+use Rattle.world_laws.proofs.Near.{near_act, near_facts, near_gone, near_local_down, near_local_got, near_reenlist, near_reply}
 use Rattle.tx_world.proofs.Onward.{ran_on}
-use Rattle.tx_world.proofs.Sendable.{id_valid, ran_ends}
-use Rattle.tx_world.proofs.SendingEnds.{Ends}
-use Rattle.tx_world.proofs.SendingOpened.{some_many}
+use Rattle.world_laws.proofs.Sendable.{id_valid, ran_ends}
+use Rattle.world_laws.proofs.SendingEnds.{Ends}
+use Rattle.world_laws.proofs.SendingOpened.{some_many}
 use Rattle.outcome_law.proofs.Messages.{BEGIN}
 
 -- the coordinator decides on the transaction, or has its record, or is stopped

@@ -30,13 +30,13 @@ use Rattle.dtx_model.proofs.Histories.{past_of-snoc}
 use Rattle.outcome_law.proofs.Tests.{eq_self}
 use Rattle.local_half.specs.Half.{Known, after as known_after, is_free, is_its_own, is_wait}
 use Rattle.coordinator_core.specs.Kept.{Kept as CoreKept}
-use Rattle.tx_world.specs.Course.{is_near}
+use Rattle.world_laws.specs.Course.{is_near}
 use Rattle.tx_world.specs.Entering.{called_with, half_answer, half_facts, is_local, is_unlinked, local_call}
 use Rattle.tx_world.specs.Kept.{Kept}
 use Rattle.tx_world.specs.State.{may_enter}
 use Rattle.dtx_model.proofs.Writes.{Each, e_cons, e_none}
 use Rattle.tx_world.proofs.Entering.{free_call, fresh_line, may_be_entered, once_more}
-use Rattle.tx_world.proofs.Near.{near_facts, near_gone}
+use Rattle.world_laws.proofs.Near.{near_facts, near_gone}
 use Rattle.tx_world.proofs.Onward.{half_is, near_kept}
 use Rattle.tx_world.proofs.Written.{Ready, block_of, ready}
 

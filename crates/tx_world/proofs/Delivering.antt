@@ -31,14 +31,14 @@ use Rattle.local_half.specs.Half.{Known, after as known_after}
 use Rattle.coordinator_core.specs.Kept.{Kept as CoreKept, IsFew}
 use Rattle.coordinator_core.proofs.Following.{follow_all-append}
 use Rattle.tx_world.specs.State.{sends_begin}
-use Rattle.tx_world.specs.Carried.{are_sendable}
-use Rattle.tx_world.specs.Course.{Came, is_far, is_near, is_written, noted, rest_down, rest_up}
+use Rattle.world_laws.specs.Carried.{are_sendable}
+use Rattle.world_laws.specs.Course.{Came, is_far, is_near, is_written, noted, rest_down, rest_up}
 use Rattle.tx_world.specs.Kept.{Kept}
 use Rattle.tx_world.proofs.Begun.{may_write}
 use Rattle.dtx_model.proofs.Writes.{Each, e_none}
-use Rattle.tx_world.proofs.Far.{far_core_down, far_core_got}
-use Rattle.tx_world.proofs.Few.{runs_few}
-use Rattle.tx_world.proofs.Near.{near_local_down, near_local_got}
+use Rattle.world_laws.proofs.Far.{far_core_down, far_core_got}
+use Rattle.world_laws.proofs.Few.{runs_few}
+use Rattle.world_laws.proofs.Near.{near_local_down, near_local_got}
 use Rattle.tx_world.proofs.Onward.{core_is, core_transaction, far_heeds_all, near_follow_all, step_kept}
 use Rattle.tx_world.proofs.Written.{Ready, block_of, far_written, near_written, stopped_is}
 use Rattle.dtx_model.proofs.Quiet.{is_lined, sent_has_line}

@@ -39,10 +39,10 @@ use Rattle.outcome_law.proofs.TableRows.{clone_stands, enlisted_in_rows}
 use Rattle.outcome_law.proofs.Tests.{eq_self}
 use Rattle.local_half.specs.Half.{is_free, is_made_by_waiting}
 use Rattle.tx_world.specs.State.{is_maker, is_name, may_enter}
-use Rattle.tx_world.specs.Course.{is_far}
-use Rattle.tx_world.proofs.Bare.{bare_act, bare_facts, bare_gone, bare_local_down, bare_local_got, bare_reenlist, bare_reply, is_bare}
+use Rattle.world_laws.specs.Course.{is_far}
+use Rattle.world_laws.proofs.Bare.{bare_act, bare_facts, bare_gone, bare_local_down, bare_local_got, bare_reenlist, bare_reply, is_bare}
 use Rattle.dtx_model.proofs.Writes.{Each}
-use Rattle.tx_world.proofs.Far.{far_abort, far_commit, far_core_down, far_core_got}
+use Rattle.world_laws.proofs.Far.{far_abort, far_commit, far_core_down, far_core_got}
 
 -- a list of entries that pass has none that passes another test
 has_none : (p q : Entry → Bool) → ((x : Entry) → p x ≡ true → q x ≡ false) → (es : List Entry) → each p es ≡ true → has q es ≡ false

@@ -38,7 +38,7 @@ use Rattle.dtx_model.proofs.Heeding.{heeds_all_same}
 use Rattle.dtx_model.proofs.Quiet.{q_one}
 use Rattle.local_half.specs.Half.{Known, after as known_after, loss}
 use Rattle.coordinator_core.specs.Kept.{Kept as CoreKept}
-use Rattle.tx_world.specs.Carried.{are_sendable}
+use Rattle.world_laws.specs.Carried.{are_sendable}
 use Rattle.tx_world.specs.Kept.{Kept}
 use Rattle.tx_world.specs.State.{may_enter}
 use Rattle.tx_world.proofs.Calling.{call_heeded}

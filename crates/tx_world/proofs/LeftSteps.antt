@@ -19,15 +19,15 @@ use Rattle.dtx_model.specs.World.{World, half, has_left}
 use Rattle.dtx_model.proofs.Bools.{and_right, not_true}
 use Rattle.dtx_model.proofs.Quiet.{wire_run}
 use Rattle.outcome_law.proofs.ReplayRuns.{pending_comes}
-use Rattle.tx_world.specs.Left.{steps_left}
+use Rattle.world_laws.specs.Left.{steps_left}
 use Rattle.tx_world.specs.State.{sends_begin, turned}
-use Rattle.tx_world.proofs.LeftActs.{act_falls, reply_falls}
-use Rattle.tx_world.proofs.LeftCommits.{AreFew, commits_few, ran_few}
-use Rattle.tx_world.proofs.LeftCoordinator.{coordinates_fall}
-use Rattle.tx_world.proofs.LeftGot.{end_up_falls, got_up_falls}
-use Rattle.tx_world.proofs.LeftLocal.{end_down_falls, got_down_falls}
-use Rattle.tx_world.proofs.LeftOpened.{left_opened}
-use Rattle.tx_world.proofs.LeftSpend.{left, spend}
+use Rattle.world_laws.proofs.LeftActs.{act_falls, reply_falls}
+use Rattle.world_laws.proofs.LeftCommits.{AreFew, commits_few, ran_few}
+use Rattle.world_laws.proofs.LeftCoordinator.{coordinates_fall}
+use Rattle.world_laws.proofs.LeftGot.{end_up_falls, got_up_falls}
+use Rattle.world_laws.proofs.LeftLocal.{end_down_falls, got_down_falls}
+use Rattle.world_laws.proofs.LeftOpened.{left_opened}
+use Rattle.world_laws.proofs.LeftSpend.{left, spend}
 
 -- where nothing is on the way, the end is left to be seen
 unseen : (c : Conn) (d : Dir) (w : World) → has_left c d w.past ≡ true → in_transit c d w.past ≡ [] → is_ended c d w.past ≡ false

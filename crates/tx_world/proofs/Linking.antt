@@ -21,7 +21,7 @@ use Rattle.dtx_model.specs.Words.{has, onto}
 use Rattle.dtx_model.specs.World.{World, answer_at, cut, facts_at, half, lose_answer}
 use Rattle.local_half.specs.Half.{Known, after as known_after}
 use Rattle.coordinator_core.specs.Kept.{Kept as CoreKept}
-use Rattle.tx_world.specs.Carried.{are_sendable}
+use Rattle.world_laws.specs.Carried.{are_sendable}
 use Rattle.tx_world.specs.Kept.{Kept}
 use Rattle.tx_world.specs.State.{may_enter, sends_begin}
 use Rattle.tx_world.proofs.Begun.{may_write}

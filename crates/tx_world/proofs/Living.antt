@@ -20,10 +20,10 @@ use Rattle.coordinator_core.specs.Kept.{Kept as CoreKept}
 use Rattle.coordinator_log.specs.State.{LogState}
 use Rattle.tx_world.specs.State.{TxState, sends_begin, turned}
 use Rattle.tx_world.specs.AtLog.{IsOurs, Kept as LogKept}
-use Rattle.tx_world.specs.Course.{is_far, noted, rest_up}
+use Rattle.world_laws.specs.Course.{is_far, noted, rest_up}
 use Rattle.tx_world.specs.Kept.{Kept, Whole, stop_if, stopped_if}
 use Rattle.tx_world.specs.Stepping.{Does, IsAnswered}
-use Rattle.tx_world.proofs.Far.{far_core_down, far_core_got}
+use Rattle.world_laws.proofs.Far.{far_core_down, far_core_got}
 use Rattle.tx_world.proofs.Keeping.{is_elsewhere, ours_stays, ours_stopped}
 use Rattle.tx_world.proofs.Written.{Ready, does_step, world_written, written_kept}
 

@@ -3,7 +3,7 @@ use Rattle.std.proofs.Common.{◌<◌, ℕ, sym, subst}
 use Rattle.dtx_model.specs.World.{World}
 use Rattle.dtx_model.specs.Caused.{IsIn, IsOwnRun}
 use Rattle.coordinator_log.specs.State.{LogState}
-use Rattle.tx_world.specs.Left.{steps_left}
+use Rattle.world_laws.specs.Left.{steps_left}
 use Rattle.tx_world.specs.State.{TxState}
 use Rattle.tx_world.specs.Stepping.{DoesKth}
 use Rattle.tx_world.proofs.LeftSteps.{step_nearer}

@@ -29,9 +29,9 @@ use Rattle.dtx_model.proofs.Reading.{has-onto}
 use Rattle.local_half.specs.Half.{Known, after as known_after}
 use Rattle.coordinator_core.specs.Kept.{Kept as CoreKept}
 use Rattle.tx_world.specs.State.{sends_begin, turned}
-use Rattle.tx_world.specs.Course.{is_far, is_near}
+use Rattle.world_laws.specs.Course.{is_far, is_near}
 use Rattle.tx_world.specs.Kept.{Kept, stop_if, stopped_if}
-use Rattle.tx_world.proofs.Near.{near_act, near_reply}
+use Rattle.world_laws.proofs.Near.{near_act, near_reply}
 
 -- a world to which nothing happened yet
 pub new_kept : (t : TxNo) (ks : List EnteredCall) (past : List Entry) (h : Known) (k : CoreKept) → ks ≡ [] → past ≡ [] → h ≡ record { transaction = t; half = half_of [] [] }

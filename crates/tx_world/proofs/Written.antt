@@ -27,11 +27,11 @@ use Rattle.coordinator_core.specs.Kept.{Kept as CoreKept}
 use Rattle.coordinator_log.specs.State.{LogState}
 use Rattle.tx_world.specs.State.{sends_begin, turned}
 use Rattle.tx_world.specs.Stepping.{Does, IsAnswered}
-use Rattle.tx_world.specs.Carried.{are_sendable}
-use Rattle.tx_world.specs.Course.{is_far, is_near, is_written}
+use Rattle.world_laws.specs.Carried.{are_sendable}
+use Rattle.world_laws.specs.Course.{is_far, is_near, is_written}
 use Rattle.tx_world.specs.Kept.{Kept, stop_if, stopped_if}
 use Rattle.tx_world.proofs.Begun.{MayWrite, may_write}
-use Rattle.tx_world.proofs.Near.{near_act, near_reply}
+use Rattle.world_laws.proofs.Near.{near_act, near_reply}
 use Rattle.tx_world.proofs.Onward.{act_block, act_kept, core_is, half_is, reply_block, reply_kept, turned_kept, turned_past}
 
 -- the world of these calls, in order of their entering, and this history

@@ -1,12 +1,9 @@
 pub mod State
 pub mod AtLog
 pub mod Stepping
-pub mod Carried
-pub mod Course
 pub mod Kept
 pub mod Pending
 pub mod Entering
 pub mod Names
-pub mod Left
 pub mod Managers
 pub mod OwnCalls

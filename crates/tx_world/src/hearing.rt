@@ -9,7 +9,7 @@ ghost use Rattle.dtx_model.specs.Promotes.{identifier_of};
 ghost use Rattle.local_half.specs.Half.{HasRoom as HasRoomBelow, after};
 ghost use Rattle.coordinator_core.specs.Kept.{HasRoom as HasRoomThere, IsFew};
 ghost use Rattle.oletx_session.specs.declared.session.Delivered.{Delivered};
-ghost use Rattle.tx_world.specs.Course.{noted, rest_down, rest_up};
+ghost use Rattle.world_laws.specs.Course.{noted, rest_down, rest_up};
 
 use coordinator_core::Core;
 use dtx_values::{Conn, Outbox};

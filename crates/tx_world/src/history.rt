@@ -12,9 +12,9 @@ ghost use Rattle.dtx_model.specs.Wires.{MayCross, WireRun, is_open_wire, is_stop
 ghost use Rattle.dtx_model.specs.World.{cut, has_left, is_linked, on_the_way};
 ghost use Rattle.oletx_session.specs.declared.session.Delivered.{Delivered};
 ghost use Rattle.oletx_session.specs.Carries.{Carries};
-ghost use Rattle.tx_world.specs.Carried.{are_sendable, is_sendable};
+ghost use Rattle.world_laws.specs.Carried.{are_sendable, is_sendable};
 ghost use Rattle.tx_world.specs.Entering.{cut_if, is_countable, links_cut};
-ghost use Rattle.tx_world.specs.Course.{Came, Course, IsOpened, arrival, is_written};
+ghost use Rattle.world_laws.specs.Course.{Came, Course, IsOpened, arrival, is_written};
 
 use dtx_values::{Conn, Dir, EnlNo, Entry, Message, ROOM, is_opening};
 use entry_lists::Entries;
@@ -36,7 +36,7 @@ impl Model for History {
     ghost use Rattle.dtx_model.specs.Words.{past_of};
     ghost use Rattle.dtx_model.specs.Wires.{WireRun};
     ghost use Rattle.oletx_session.specs.Carries.{Carries};
-    ghost use Rattle.tx_world.specs.Course.{Course};
+    ghost use Rattle.world_laws.specs.Course.{Course};
 
     ghost Value = { Course };
 

@@ -4,7 +4,6 @@
 mod at_log;
 mod hearing;
 mod history;
-mod laws;
 mod local_calls;
 mod managers;
 mod names;
@@ -14,7 +13,6 @@ mod refusal;
 mod world;
 mod writing;
 
-pub use laws::{rights, untried};
 pub use local_half::Right;
 pub use refusal::WorldError;
 pub use world::TxWorld;

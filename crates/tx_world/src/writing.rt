@@ -3,8 +3,8 @@ ghost use Rattle.std.specs.Prelude.{◌≡◌, ◌≤◌, ◌+◌, ◌&&◌, not
 ghost use Rattle.dtx_model.specs.Words.{each, has, onto};
 ghost use Rattle.dtx_model.specs.Wires.{is_stopped};
 ghost use Rattle.dtx_model.specs.Caused.{is_begin_sent};
-ghost use Rattle.tx_world.specs.Carried.{are_sendable};
-ghost use Rattle.tx_world.specs.Course.{is_written};
+ghost use Rattle.world_laws.specs.Carried.{are_sendable};
+ghost use Rattle.world_laws.specs.Course.{is_written};
 ghost use Rattle.tx_world.specs.Kept.{stop_if, stopped_if};
 
 use crate::at_log::AtLog;

@@ -4,7 +4,7 @@ ghost use Rattle.dtx_model.specs.Words.{kth};
 ghost use Rattle.dtx_model.specs.Steps.{pending};
 ghost use Rattle.coordinator_log.specs.Slots.{open_records};
 ghost use Rattle.tx_world.specs.AtLog.{Fits, KeepsLog};
-ghost use Rattle.tx_world.specs.Left.{steps_left};
+ghost use Rattle.world_laws.specs.Left.{steps_left};
 ghost use Rattle.tx_world.specs.Stepping.{DoesKth, Settles, SomeSteps};
 
 use super::TxWorld;

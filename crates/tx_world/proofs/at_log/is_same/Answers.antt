@@ -5,7 +5,7 @@ use Rattle.std.specs.Prelude.{take}
 use Rattle.std.specs.Cmp.Lexicographic.{pointwise}
 use Rattle.dtx_values.specs.declared.number.EnlNo.{EnlNo}
 use Rattle.dtx_values.specs.declared.number.RmNo.{RmNo}
-use Rattle.tx_world.proofs.Found.{same_decided, same_pair}
+use Rattle.world_laws.proofs.Found.{same_decided, same_pair}
 
 -- src/at_log.rt:41:1
 pub returns-then-a-b : goal.returns-then-a-b

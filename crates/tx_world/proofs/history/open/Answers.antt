@@ -1,8 +1,8 @@
 use Rattle.std.proofs.Common.{sym, subst, Bool}
 use Rattle.oletx_session.specs.Traffic.{wire_of}
-use Rattle.tx_world.specs.Course.{IsOpened}
-use Rattle.tx_world.proofs.Carrying.{starts}
-use Rattle.tx_world.proofs.Ended.{is_free}
+use Rattle.world_laws.specs.Course.{IsOpened}
+use Rattle.world_laws.proofs.Carrying.{starts}
+use Rattle.world_laws.proofs.Ended.{is_free}
 use Rattle.tx_world.proofs.history.open.Goals as goal
 
 pub returns-then-stopped-clause-opened : goal.returns-then-stopped-clause-opened

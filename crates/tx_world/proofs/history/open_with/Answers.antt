@@ -7,8 +7,8 @@ use Rattle.dtx_values.specs.declared.message.Message.{Message}
 use Rattle.dtx_model.specs.Wires.{is_stopped, opens}
 use Rattle.oletx_session.specs.Traffic.{Wire, wire_of}
 use Rattle.oletx_session.specs.Carries.{Carries, IsStarted, IsStartedLost}
-use Rattle.tx_world.specs.Course.{IsOpened}
-use Rattle.tx_world.proofs.Carrying.{opener_may, opening_free, sends}
+use Rattle.world_laws.specs.Course.{IsOpened}
+use Rattle.world_laws.proofs.Carrying.{opener_may, opening_free, sends}
 use Rattle.tx_world.proofs.history.open_with.Goals as goal
 
 -- what sending the first message gives, by whether the coordinator stands stopped

@@ -1,5 +1,5 @@
 use Rattle.std.proofs.Common.{◌≡◌, ℕ}
-use Rattle.tx_world.specs.Left.{steps_left}
+use Rattle.world_laws.specs.Left.{steps_left}
 use Rattle.script_runner.specs.RunState.{HaveSameCalls, Holds, IsQuiet, LogGoes, Runs, StepsDone, state_of}
 use Rattle.script_runner.proofs.replay.Run.settle.Given as goal
 

@@ -11,7 +11,7 @@ use Rattle.tx_world.proofs.at_log.AtLog.restarted.Goals as goal
 use Rattle.std.proofs.Common.{◌∙◌, sym, subst, ap}
 use Rattle.dtx_model.specs.Coordinated.{Coordinated}
 use Rattle.dtx_model.specs.Log.{CommitRecord}
-use Rattle.tx_world.proofs.Found.{copied_of, found_is, named_found, some_of}
+use Rattle.world_laws.proofs.Found.{copied_of, found_is, named_found, some_of}
 use Rattle.tx_world.proofs.Keeping.{ours_restarted}
 
 pub restarted-requires-clause-own : goal.restarted-requires-clause-own

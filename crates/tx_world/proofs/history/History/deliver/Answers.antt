@@ -7,9 +7,9 @@ use Rattle.dtx_model.specs.Wires.{MayCross, WireRun}
 use Rattle.dtx_model.specs.World.{has_left}
 use Rattle.dtx_model.proofs.Histories.{past_of-snoc}
 use Rattle.oletx_session.specs.Carries.{Carries}
-use Rattle.tx_world.specs.Course.{Course}
-use Rattle.tx_world.proofs.Arriving.{arrived_came, arrived_kept, same_entry}
-use Rattle.tx_world.proofs.Ended.{left_is}
+use Rattle.world_laws.specs.Course.{Course}
+use Rattle.world_laws.proofs.Arriving.{arrived_came, arrived_kept, same_entry}
+use Rattle.world_laws.proofs.Ended.{left_is}
 use Rattle.tx_world.proofs.history.History.deliver.Goals as goal
 
 pub invariant_of-self : goal.invariant_of-self

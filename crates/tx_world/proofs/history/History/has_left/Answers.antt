@@ -1,8 +1,8 @@
 use Rattle.std.proofs.Common.{◌∙◌, ap}
 use Rattle.dtx_model.specs.World.{has_left}
 use Rattle.dtx_model.specs.Words.{past_of}
-use Rattle.tx_world.specs.Course.{Course}
-use Rattle.tx_world.proofs.Ended.{left_is}
+use Rattle.world_laws.specs.Course.{Course}
+use Rattle.world_laws.proofs.Ended.{left_is}
 use Rattle.tx_world.proofs.history.History.has_left.Goals as goal
 
 pub returns : goal.returns

@@ -3,8 +3,8 @@ use Rattle.dtx_model.specs.World.{has_left, is_linked}
 use Rattle.dtx_values.specs.declared.message.Dir.TheVariants.{Up, Down}
 use Rattle.dtx_model.specs.Wires.{is_open_wire}
 use Rattle.dtx_model.specs.Words.{past_of}
-use Rattle.tx_world.specs.Course.{Course}
-use Rattle.tx_world.proofs.Ended.{linked_is}
+use Rattle.world_laws.specs.Course.{Course}
+use Rattle.world_laws.proofs.Ended.{linked_is}
 use Rattle.tx_world.proofs.history.History.is_linked.Goals as goal
 
 pub returns : goal.returns

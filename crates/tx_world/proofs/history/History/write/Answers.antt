@@ -1,8 +1,8 @@
 use Rattle.std.proofs.Common.{◌≡◌, ◌+◌, List, ◌∷◌, ap, sym, ◌∙◌, subst, drop, true}
 use Rattle.std.proofs.lemmas.List.{drop_more}
 use Rattle.dtx_values.specs.declared.entry.Entry.{Entry}
-use Rattle.tx_world.specs.Carried.{is_sendable}
-use Rattle.tx_world.proofs.Carrying.{next_sendable}
+use Rattle.world_laws.specs.Carried.{is_sendable}
+use Rattle.world_laws.proofs.Carrying.{next_sendable}
 use Rattle.tx_world.proofs.history.History.write.Goals as goal
 
 pub put-requires-clause-sendable : goal.put-requires-clause-sendable

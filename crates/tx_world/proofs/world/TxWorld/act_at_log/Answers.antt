@@ -4,8 +4,8 @@ use Rattle.dtx_values.specs.declared.entry.Entry.TheVariants.{Stopped}
 use Rattle.dtx_model.specs.Coordinated.{Coordinated}
 use Rattle.dtx_model.specs.Words.{each, onto}
 use Rattle.dtx_model.specs.Steps.{coordinates}
-use Rattle.tx_world.specs.Carried.{are_sendable}
-use Rattle.tx_world.specs.Course.{is_written}
+use Rattle.world_laws.specs.Carried.{are_sendable}
+use Rattle.world_laws.specs.Course.{is_written}
 use Rattle.tx_world.proofs.AtTheLog.{Acted, acted, acted_keeps, acted_so, acted_whole, stop_only, written_only}
 use Rattle.tx_world.proofs.Written.{block_of, stopped_is, world_of}
 use Rattle.tx_world.proofs.world.TxWorld.act_at_log.Given.{Over}

@@ -5,7 +5,7 @@ use Rattle.dtx_values.specs.declared.message.Dir.TheVariants.{Down}
 use Rattle.dtx_model.specs.Steps.{Delivers}
 use Rattle.dtx_model.specs.Wires.{MayCross}
 use Rattle.dtx_model.specs.World.{has_left}
-use Rattle.tx_world.specs.Course.{Came}
+use Rattle.world_laws.specs.Course.{Came}
 use Rattle.tx_world.proofs.Delivering.{down_ready, lined, some_left}
 use Rattle.tx_world.proofs.Living.{near_done, near_whole}
 use Rattle.tx_world.proofs.Written.{Ready, world_of}

@@ -6,7 +6,7 @@ use Rattle.dtx_model.specs.Promotes.{identifier_of}
 use Rattle.dtx_model.specs.Steps.{Delivers}
 use Rattle.dtx_model.specs.Wires.{MayCross}
 use Rattle.dtx_model.specs.World.{has_left}
-use Rattle.tx_world.specs.Course.{Came, noted, rest_up}
+use Rattle.world_laws.specs.Course.{Came, noted, rest_up}
 use Rattle.tx_world.proofs.Delivering.{ReadyUp, came_few, lined, some_left, up_ready}
 use Rattle.tx_world.proofs.Living.{silent_done, up_elsewhere, whole_far}
 use Rattle.tx_world.proofs.Written.{silent_kept, world_of}

@@ -7,7 +7,7 @@ use Rattle.dtx_model.specs.Wires.{is_open_wire}
 use Rattle.dtx_model.specs.Words.{onto, past_of}
 use Rattle.dtx_model.specs.Steps.{Calls, entered}
 use Rattle.dtx_model.specs.World.{answer_at, cut}
-use Rattle.tx_world.specs.Carried.{are_sendable}
+use Rattle.world_laws.specs.Carried.{are_sendable}
 use Rattle.tx_world.specs.State.{TxState, may_enter}
 use Rattle.tx_world.proofs.Calling.{with_call}
 use Rattle.tx_world.proofs.Linking.{Linked, after_call, lost, lost_open, lost_past, none_followed}

@@ -6,7 +6,7 @@ use Rattle.dtx_model.specs.Caused.{IsIn}
 use Rattle.local_half.specs.Rights.{right_of, right_seen}
 use Rattle.tx_world.specs.State.{TxState}
 use Rattle.tx_world.proofs.Onward.{half_is}
-use Rattle.tx_world.proofs.Places.{right_placed}
+use Rattle.world_laws.proofs.Places.{right_placed}
 use Rattle.tx_world.proofs.world.TxWorld.right.Goals as goal
 
 pub returns : goal.returns

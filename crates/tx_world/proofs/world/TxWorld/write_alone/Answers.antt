@@ -5,7 +5,7 @@ use Rattle.dtx_model.specs.Words.{onto, past_of}
 use Rattle.dtx_model.specs.Caused.{MayAnswer}
 use Rattle.dtx_model.specs.World.{World, answer_at}
 use Rattle.dtx_model.specs.Steps.{Calls, block_at, entered}
-use Rattle.tx_world.specs.Carried.{are_sendable}
+use Rattle.world_laws.specs.Carried.{are_sendable}
 use Rattle.tx_world.specs.State.{TxState, may_enter}
 use Rattle.tx_world.specs.OwnCalls.{DoesAlone}
 use Rattle.tx_world.proofs.Calling.{with_call}
