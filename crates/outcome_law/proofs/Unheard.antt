@@ -15,7 +15,7 @@ use Rattle.dtx_model.specs.Promotes.{is_promoting}
 use Rattle.dtx_model.specs.Tied.{before_first, before_first_stop, can_log, enlist_got, is_logged, is_marked, is_ready_got, is_stop, is_unmarked, mark_of}
 use Rattle.dtx_model.specs.AtLog.{is_restart}
 use Rattle.outcome_law.specs.Appended.{stopped_at_append}
-use Rattle.outcome_law.specs.Stopped.{is_outcome_said, is_record_unknown, is_silent, restarts_without_evidence}
+use Rattle.outcome_law.specs.Stopped.{is_outcome_said, is_record_unknown, is_outcome_withheld, restarts_without_evidence}
 use Rattle.dtx_model.proofs.Bools.{and_both, and_left, and_right, not_both, not_false, not_true, or_case, or_right, or_second}
 use Rattle.outcome_law.proofs.Scans.{has_more}
 use Rattle.outcome_law.proofs.Rule.{is_decided}
@@ -142,7 +142,7 @@ unknown_more (Decided o) h s u = unknown_under (Decided o ∷ h) h u
 unknown_more (OwnerAnswered e o) h s u = unknown_under (OwnerAnswered e o ∷ h) h u
 unknown_more _ h s u = absurd cc
 
-silent_now : (x : Entry) (h : List Entry) → Keeps (x ∷ h) → is_silent h x ≡ true
+silent_now : (x : Entry) (h : List Entry) → Keeps (x ∷ h) → is_outcome_withheld h x ≡ true
 silent_now x h k =
     not_false (is_record_unknown h && is_outcome_said x) (false_from_ne_true (is_record_unknown h && is_outcome_said x) (λ t.
     let said = and_right (is_record_unknown h) (is_outcome_said x) t in
@@ -151,9 +151,9 @@ silent_now x h k =
     (λ a. abort_unsaid (x ∷ h) k now (or_left (is_final Aborted x) (has (is_final Aborted) h) a)) said))
 
 -- While it isn't known whether the record is there, no entry says committed or aborted.
-pub all_silent : (h : List Entry) → Keeps h → always is_silent h ≡ true
+pub all_silent : (h : List Entry) → Keeps h → always is_outcome_withheld h ≡ true
 all_silent [] k = refl
-all_silent (x ∷ h) k = and_both (is_silent h x) (always is_silent h) (silent_now x h k) (all_silent h (keeps_before x h k))
+all_silent (x ∷ h) k = and_both (is_outcome_withheld h x) (always is_outcome_withheld h) (silent_now x h k) (all_silent h (keeps_before x h k))
 
 -- A restart that finds no record where there was no evidence aborts, since a record would have been evidence.
 restart_aborts : (x : Entry) (h : List Entry) → Keeps h → restarts_without_evidence h x ≡ true → coordinator_aborted (x ∷ h) ≡ true

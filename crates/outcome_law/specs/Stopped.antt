@@ -18,8 +18,8 @@ abbrev pub is_outcome_said : Entry → Bool
 is_outcome_said x = is_final Committed x || is_final Aborted x
 
 -- where it isn't known whether the record is there, the entry says neither committed nor aborted
-abbrev pub is_silent : List Entry → Entry → Bool
-is_silent past x = not (is_record_unknown past && is_outcome_said x)
+abbrev pub is_outcome_withheld : List Entry → Entry → Bool
+is_outcome_withheld past x = not (is_record_unknown past && is_outcome_said x)
 
 -- a restart finds no record, and there was no evidence before it
 abbrev pub restarts_without_evidence : List Entry → Entry → Bool

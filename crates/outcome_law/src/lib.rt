@@ -42,7 +42,7 @@ ghost use Rattle.dtx_model.specs.History.{AreAnswered, CanCommit, IsHistory, IsR
 ghost use Rattle.dtx_model.specs.Grammar.{are_named_well};
 ghost use Rattle.outcome_law.specs.Appended.{backs_append, has_append, is_abort_decision, is_barred, stopped_at_append};
 ghost use Rattle.outcome_law.specs.LogQuiet.{is_log_quiet};
-ghost use Rattle.outcome_law.specs.Stopped.{is_silent, restarts_without_evidence};
+ghost use Rattle.outcome_law.specs.Stopped.{is_outcome_withheld, restarts_without_evidence};
 ghost use Rattle.outcome_law.specs.Waited.{AreCallsAnswered};
 
 /// The law of one outcome: in a history that a script's lines freely cause, what is told is just, and no two are told opposite outcomes, promoted or not.
@@ -78,7 +78,7 @@ pub fn appends()
 /// What stops of the log do to the outcome, whatever was cut, stopped and started again. From a stop where an append may have been tried to the restart after it, nobody is
 /// told committed or aborted, neither is decided, and no owner answers so. And where a restart found no record, and there was no evidence before it, there is never evidence.
 pub fn stops()
-    ensures silent { (s : List Line) (t : ℕ) (h : List Entry) → are_named_well s ≡ true → FreelyCaused (IsCallOf s t) t h → tied h ≡ true → always is_silent h ≡ true }
+    ensures withheld { (s : List Line) (t : ℕ) (h : List Entry) → are_named_well s ≡ true → FreelyCaused (IsCallOf s t) t h → tied h ≡ true → always is_outcome_withheld h ≡ true }
     ensures never { (s : List Line) (t : ℕ) (h : List Entry) → are_named_well s ≡ true → FreelyCaused (IsCallOf s t) t h → tied h ≡ true
         → ever restarts_without_evidence h ≡ true → evidence h ≡ false }
 {}

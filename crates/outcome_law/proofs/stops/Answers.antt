@@ -4,8 +4,8 @@ use Rattle.outcome_law.proofs.Steady.{free_keeps}
 use Rattle.outcome_law.proofs.Unheard.{all_silent, never_evident}
 use Rattle.outcome_law.proofs.stops.Goals as goal
 
-pub returns-clause-silent : goal.returns-clause-silent
-returns-clause-silent c = λ s t h named r d. all_silent h (free_keeps (IsCallOf s t) t h (script_once s t named) r d)
+pub returns-clause-withheld : goal.returns-clause-withheld
+returns-clause-withheld c = λ s t h named r d. all_silent h (free_keeps (IsCallOf s t) t h (script_once s t named) r d)
 
 pub returns-clause-never : goal.returns-clause-never
 returns-clause-never c = λ s t h named r d. never_evident h (free_keeps (IsCallOf s t) t h (script_once s t named) r d)
