@@ -7,8 +7,8 @@ ghost use Rattle.tx_world.specs.AtLog.{Fits};
 
 use coordinator_log::{LOG_BYTES, Log};
 use dtx_values::{
-    ActorNo, Answer, Call, Conn, EnlNo, EnlistOption, Entry, Note, Outcome, Place, Reply, RmNo, Status,
-    Support, Timeout, Trace, TxNo, Vote,
+    ActorNo, Answer, Call, Conn, EnlNo, EnlistOption, Entry, Note, Outcome, Place, Reply, RmNo,
+    Status, Support, Timeout, Trace, TxNo, Vote,
 };
 use outside::{Image, MemDisk};
 use std::alloc::{AllocError, Global};
