@@ -332,7 +332,7 @@ fn calls_come_while_a_promotion_is_under_way(rt: HostRuntime) -> Result<(), Fail
 }
 
 /// The history that a script's one transaction has in the end.
-pub fn history(rt: &impl Abort, alloc: Global, script: &str) -> Result<Vec<Entry>, AllocError> {
+fn history(rt: &impl Abort, alloc: Global, script: &str) -> Result<Vec<Entry>, AllocError> {
     let (sink, _disk) = output(rt, alloc, script, &[])?;
     let Ok(trace) = read_trace(alloc, sink.bytes()) else {
         panic!(rt; "what was printed isn't a trace");

@@ -1,11 +1,11 @@
 //! Losses: of connections, before and after the local side's yes, and of enlistments.
-use crate::live::history;
-use crate::printed::{ALL_ASKED, E1_ASKED, E1_YES, FREED, MARSHALLED, TAKEN, prints};
+use crate::printed::{ALL_ASKED, E1_ASKED, E1_YES, FREED, MARSHALLED, TAKEN, output, prints};
 use dtx_model::{Verdict, judge};
-use dtx_values::{Entry, Outcome, Party};
+use dtx_values::{Entry, Outcome, Party, Place, TxNo};
 use std::alloc::{AllocError, Global};
 use std::process::Abort;
 use std::test::Fail;
+use trace_text::read_trace;
 
 /// BEGIN is lost on its way: the local side and the coordinator see the end of b, and the promotion fails.
 const BEGIN_LOST: [&str; 8] = [
@@ -145,12 +145,7 @@ fn what_is_lost_ends_or_doubts_or_goes_on(rt: HostRuntime) -> Result<(), Fail> {
     Ok(())
 }
 
-/// A client asks for the identifier; a durable comes, and the commit.
-const IDENTIFIES: &str = "a1 begin t1 default\na1 marshal t1\n";
-
-const COMMITS: &str = "a1 await t1\na1 durable t1 e1 r1 two yes\na1 commit t1\n";
-
-/// What the client is told, in a letter: of a commit, an abort or a doubt; nothing, where no connection was cut.
+/// What is told to the client of a history, in a letter: a commit, an abort or a doubt; nothing, where no connection was cut.
 fn letter(h: &[Entry]) -> &'static str {
     if !h.iter().any(|x| matches!(x, Entry::Cut(_, _, _))) {
         ""
@@ -165,22 +160,113 @@ fn letter(h: &[Entry]) -> &'static str {
     }
 }
 
-/// Lines that do so many steps.
-fn steps(alloc: Global, count: u16) -> Result<String, AllocError> {
-    if count == 0 {
-        return String::from_str(alloc, "");
-    }
-    format!(in alloc; "a1 do t1 1 {count}\n")
+/// How many messages are kept upward and downward.
+const KEPT: [&str; 4] = ["0 0", "0 1", "1 0", "1 1"];
+
+/// When connections are lost: after so many steps, before the durable comes or after the commit was asked for.
+#[derive(Clone, Copy)]
+struct Moment {
+    steps: u16,
+    is_after_the_commit: bool,
 }
 
-/// The least and the greatest number of steps before the cut, and what the client is told: for each connection, where so many messages are kept upward and downward,
-/// 0 0, 0 1, 1 0 and 1 1.
+/// The lines of transaction k, whose client asks for the identifier; then a durable comes, and the commit. These connections are lost together.
+fn lines(
+    alloc: Global,
+    k: u16,
+    lost: &[&str],
+    kept: &str,
+    moment: Moment,
+) -> Result<String, AllocError> {
+    let mut lines = format!(in alloc; "a1 begin t{k} default\na1 marshal t{k}\n")?;
+    let commit = format!(in alloc;
+        "a1 await t{k}\na1 durable t{k} e{k} r1 two yes\na1 commit t{k}\n"
+    )?;
+    if moment.is_after_the_commit {
+        lines.push_str(commit.as_str())?;
+    }
+    if moment.steps > 0 {
+        let steps = format!(in alloc; "a1 do t{k} 1 {}\n", moment.steps)?;
+        lines.push_str(steps.as_str())?;
+    }
+    for c in lost {
+        let lose = if *c == "e" {
+            format!(in alloc; "a1 lose t{k} e{k} {kept}\n")?
+        } else {
+            format!(in alloc; "a1 lose t{k} {c} {kept}\n")?
+        };
+        lines.push_str(lose.as_str())?;
+    }
+    if !moment.is_after_the_commit {
+        lines.push_str(commit.as_str())?;
+    }
+    Ok(lines)
+}
+
+/// What the clients are told, in a letter each, where at this moment these connections are lost, in each transaction one list of them with one pair of kept numbers. All
+/// are transactions of one script; each history is as it should be.
+fn told(
+    rt: &impl Abort,
+    alloc: Global,
+    losses: &[&[&str]],
+    moment: Moment,
+) -> Result<String, AllocError> {
+    let mut script = String::from_str(alloc, "")?;
+    let mut last = 0_u16;
+    for lost in losses {
+        for kept in KEPT {
+            last = last.saturating_add(1);
+            script.push_str(lines(alloc, last, lost, kept, moment)?.as_str())?;
+        }
+    }
+    let (sink, _disk) = output(rt, alloc, script.as_str(), &[])?;
+    let Ok(trace) = read_trace(alloc, sink.bytes()) else {
+        panic!(rt; "what was printed isn't a trace");
+    };
+    let mut came = String::from_str(alloc, "")?;
+    for k in 1..=last {
+        let t = TxNo::new(u32::from(k)).expect(rt, "no such transaction");
+        let mut history = Vec::new(alloc);
+        for (place, entry) in trace.entries() {
+            if *place == Place::Transaction(t) {
+                history.push(*entry)?;
+            }
+        }
+        let h = history.as_slice();
+        assert_eq!(rt; judge(h), Verdict::Fine, "transaction {k} of {script}");
+        came.push_str(letter(h))?;
+    }
+    Ok(came)
+}
+
+/// The least and the greatest number of steps before the losses, and what the clients are told: of each loss with 0 0, 0 1, 1 0 and 1 1 kept.
 type Row = (u16, u16, &'static str);
 
-/// While the promotion is under way, its end aborts. The enlistment's connection isn't open yet.
+/// Compares what the clients are told, after each number of steps.
+fn tells(
+    rt: &impl Abort,
+    alloc: Global,
+    losses: &[&[&str]],
+    is_after_the_commit: bool,
+    rows: &[Row],
+) -> Result<(), AllocError> {
+    for (least, greatest, outcomes) in rows {
+        for steps in *least..=*greatest {
+            let moment = Moment {
+                steps,
+                is_after_the_commit,
+            };
+            let came = told(rt, alloc, losses, moment)?;
+            assert_eq!(rt; came.as_str(), *outcomes, "after {steps} steps");
+        }
+    }
+    Ok(())
+}
+
+/// While the promotion is under way, an end aborts.
 const WHILE_PROMOTING: [Row; 2] = [(0, 1, "aaaa"), (2, 4, "aaaaaaaa")];
 
-/// Before the yes each end aborts. After it the end of b is of no account; that of v isn't once YES is there, also by the loss, or that of e1 once PREPARED is.
+/// Before the yes each end aborts. After it that of b is of no account, that of v once YES was got or is kept, and that of the durable once PREPARED was got or is kept.
 const AFTER_THE_COMMIT: [Row; 6] = [
     (0, 4, "aaaaaaaaaaaa"),
     (5, 5, "ccccaaaaaaaa"),
@@ -190,58 +276,7 @@ const AFTER_THE_COMMIT: [Row; 6] = [
     (10, 17, "cccccccccccc"),
 ];
 
-/// How many messages are kept upward and downward.
-const KEPT: [&str; 4] = ["0 0", "0 1", "1 0", "1 1"];
-
-/// What the client of a script is told, whose history is as it should be.
-fn told(rt: &impl Abort, alloc: Global, script: &str) -> Result<&'static str, AllocError> {
-    let history = history(rt, alloc, script)?;
-    let h = history.as_slice();
-    assert_eq!(rt; judge(h), Verdict::Fine, "at {script}");
-    Ok(letter(h))
-}
-
-/// What the clients are told where one of these connections is cut between the lines before and after.
-fn told_each(
-    rt: &impl Abort,
-    alloc: Global,
-    connections: &[&str],
-    before: &str,
-    after: &str,
-) -> Result<String, AllocError> {
-    let mut came = String::from_str(alloc, "")?;
-    for c in connections {
-        for kept in KEPT {
-            let script = format!(in alloc; "{before}a1 lose t1 {c} {kept}\n{after}")?;
-            came.push_str(told(rt, alloc, script.as_str())?)?;
-        }
-    }
-    Ok(came)
-}
-
-#[test]
-fn a_connection_may_be_cut_after_each_step(rt: HostRuntime) -> Result<(), Fail> {
-    let alloc = rt.alloc();
-    for (least, greatest, outcomes) in WHILE_PROMOTING {
-        for count in least..=greatest {
-            let steps = steps(alloc, count)?;
-            let before = format!(in alloc; "{IDENTIFIES}{steps}")?;
-            let came = told_each(&rt, alloc, &["b", "v"], before.as_str(), COMMITS)?;
-            assert_eq!(rt; came.as_str(), outcomes, "after {count} steps");
-        }
-    }
-    for (least, greatest, outcomes) in AFTER_THE_COMMIT {
-        for count in least..=greatest {
-            let steps = steps(alloc, count)?;
-            let before = format!(in alloc; "{IDENTIFIES}{COMMITS}{steps}")?;
-            let came = told_each(&rt, alloc, &["b", "v", "e1"], before.as_str(), "")?;
-            assert_eq!(rt; came.as_str(), outcomes, "after {count} steps");
-        }
-    }
-    Ok(())
-}
-
-/// Both b and v are cut, with so many kept in each direction of each. After the yes nobody can tell the local side, unless an outcome was kept on its way.
+/// Where both b and v are lost after the yes, the client is in doubt, unless an outcome was got or is kept.
 const BOTH: [Row; 4] = [
     (0, 4, "aaaa"),
     (5, 10, "iiii"),
@@ -250,18 +285,21 @@ const BOTH: [Row; 4] = [
 ];
 
 #[test]
-fn both_connections_may_be_cut_after_each_step(rt: HostRuntime) -> Result<(), Fail> {
+fn a_connection_may_be_lost_after_each_step(rt: HostRuntime) -> Result<(), Fail> {
     let alloc = rt.alloc();
-    for (least, greatest, outcomes) in BOTH {
-        for count in least..=greatest {
-            let steps = steps(alloc, count)?;
-            let mut came = String::from_str(alloc, "")?;
-            for kept in KEPT {
-                let script = format!(in alloc; "{IDENTIFIES}{COMMITS}{steps}a1 lose t1 b {kept}\na1 lose t1 v {kept}\n")?;
-                came.push_str(told(&rt, alloc, script.as_str())?)?;
-            }
-            assert_eq!(rt; came.as_str(), outcomes, "after {count} steps");
-        }
-    }
+    tells(&rt, alloc, &[&["b"], &["v"]], false, &WHILE_PROMOTING)?;
+    tells(
+        &rt,
+        alloc,
+        &[&["b"], &["v"], &["e"]],
+        true,
+        &AFTER_THE_COMMIT,
+    )?;
+    Ok(())
+}
+
+#[test]
+fn both_connections_may_be_lost_after_each_step(rt: HostRuntime) -> Result<(), Fail> {
+    tells(&rt, rt.alloc(), &[&["b", "v"]], true, &BOTH)?;
     Ok(())
 }
