@@ -227,9 +227,10 @@ fn told(
     for k in 1..=last {
         let t = TxNo::new(u32::from(k)).expect(rt, "no such transaction");
         let mut history = Vec::new(alloc);
-        for (place, entry) in trace.entries() {
-            if *place == Place::Transaction(t) {
-                history.push(*entry)?;
+        for i in 0..trace.len() {
+            let (place, entry) = trace.at(i);
+            if place == Place::Transaction(t) {
+                history.push(entry)?;
             }
         }
         let h = history.as_slice();
