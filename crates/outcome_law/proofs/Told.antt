@@ -89,7 +89,7 @@ unrestarted (Restarted found ∷ h) k n = absurd (not_both (is_stopped h) (newes
 unrestarted (x ∷ h) k n = unrestarted h (keeps_before x h k) (or_second (is_stop x) (has is_stop h) n)
 
 -- who made an enlistment called
-maker_called : (e : ℕ) (c : Call) → makes_enlistment e c ≡ true → call_makes (OfEnlistment e) c ≡ true
+pub maker_called : (e : ℕ) (c : Call) → makes_enlistment e c ≡ true → call_makes (OfEnlistment e) c ≡ true
 maker_called e (Volatile t f x v) k = k
 maker_called e (Durable t f r s) k = k
 maker_called e (Promotable t f r v x p) k = k

@@ -33,7 +33,7 @@ use Rattle.outcome_law.specs.LineCalls.{AreCalls}
 use Rattle.outcome_law.specs.LogQuiet.{is_log_quiet}
 use Rattle.outcome_law.proofs.Makers.{ran_made}
 use Rattle.outcome_law.proofs.Planned.{plan_same}
-use Rattle.outcome_law.proofs.Promotions.{maker_called}
+use Rattle.outcome_law.proofs.Told.{maker_called}
 use Rattle.outcome_law.proofs.ReplayRuns.{named_same}
 use Rattle.outcome_law.proofs.ReplaySame.{block_same, pending_same}
 use Rattle.outcome_law.proofs.ReplayTurns.{is_stopping, quiet_turn}

@@ -28,7 +28,7 @@ use Rattle.outcome_law.proofs.HalfKnows.{cause_seen}
 use Rattle.outcome_law.proofs.Table.{is_opening_got}
 use Rattle.world_laws.proofs.SendingApt.{can_same, can_send, ended_same}
 use Rattle.world_laws.proofs.SendingBlocks.{Hears, Speaks}
-use Rattle.outcome_law.proofs.Recorded.{not_up}
+use Rattle.outcome_law.proofs.Foregoing.{not_up}
 
 no : false ≡ true → ⊥
 no e = absurd cc
