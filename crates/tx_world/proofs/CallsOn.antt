@@ -12,7 +12,7 @@ use Rattle.dtx_model.specs.Observed.{track}
 use Rattle.dtx_model.specs.Answers.{await_answer, if_begun, local_answer}
 use Rattle.dtx_model.specs.Facts.{facts_if, has_facts}
 use Rattle.dtx_model.specs.Half.{Half, heeds_all}
-use Rattle.dtx_model.specs.World.{World, half, answer_at, facts_at}
+use Rattle.dtx_model.specs.World.{World, answer_at, facts_at}
 use Rattle.dtx_model.specs.Steps.{Calls, block_at, entered}
 use Rattle.dtx_model.specs.Caused.{MayAnswer}
 use Rattle.dtx_model.specs.Coordinated.{follow, follow_all}
