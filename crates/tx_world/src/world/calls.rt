@@ -61,7 +61,8 @@ impl TxWorld {
     /// [`WorldError::Memory`] where memory ran out, and then nothing was done.
     pub fn enter<D: Disk>(
         &mut self,
-        log: &Log<D>, out: &mut Outbox,
+        log: &Log<D>,
+        out: &mut Outbox,
         actor: ActorNo,
         line: u32,
         c: &Call,
@@ -94,7 +95,8 @@ impl TxWorld {
     /// Enters the loss of a connection, that of an enlistment, or that a manager has recovered.
     fn enter_linked<D: Disk>(
         &mut self,
-        log: &Log<D>, out: &mut Outbox,
+        log: &Log<D>,
+        out: &mut Outbox,
         actor: ActorNo,
         line: u32,
         c: &Call,
@@ -172,7 +174,8 @@ impl TxWorld {
     /// Enters a call that the local side answers.
     fn enter_own<D: Disk>(
         &mut self,
-        log: &Log<D>, out: &mut Outbox,
+        log: &Log<D>,
+        out: &mut Outbox,
         actor: ActorNo,
         line: u32,
         c: &Call,
