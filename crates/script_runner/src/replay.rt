@@ -105,12 +105,7 @@ fn append(trace: &mut PlacedEntries, place: Place, entries: &[Entry])
 }
 
 /// Puts at the end of the trace what was written to a transaction's history from this place on.
-fn note(
-    trace: &mut PlacedEntries,
-    t: TxNo,
-    world: &TxWorld,
-    from: usize,
-) -> Result<(), AllocError>
+fn note(trace: &mut PlacedEntries, t: TxNo, world: &TxWorld, from: usize) -> Result<(), AllocError>
     requires { from ≤ length world.now.world.past }
     ensures { OnOk result ((past es : List Entry) → length past ≡ from → world.now.world.past ≡ onto past es → trace.new.items ≡ trace.old.items ++ placed t es) }
 {

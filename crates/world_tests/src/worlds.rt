@@ -35,7 +35,14 @@ fn transaction(rt: &impl Abort) -> TxNo {
 }
 
 /// Enters a call of client 1, and says what it answered.
-fn enter(rt: &impl Abort, world: &mut TxWorld, log: &Log<MemDisk>, out: &mut Outbox, line: u32, c: &Call) -> Answer
+fn enter(
+    rt: &impl Abort,
+    world: &mut TxWorld,
+    log: &Log<MemDisk>,
+    out: &mut Outbox,
+    line: u32,
+    c: &Call,
+) -> Answer
     requires answers { MayAnswer world.old.transaction.value world.old.world c.now 0 }
     requires fits { IsTrue log.now.is_up → Fits world.old (open_records log.now.slots) }
     ensures fits { IsTrue log.now.is_up → Fits world.new (open_records log.now.slots) }
@@ -51,7 +58,13 @@ fn enter(rt: &impl Abort, world: &mut TxWorld, log: &Log<MemDisk>, out: &mut Out
 }
 
 /// Does the first pending step, and then says so by a `do` of client 1.
-fn step_and_say(rt: &impl Abort, world: &mut TxWorld, log: &mut Log<MemDisk>, out: &mut Outbox, line: u32)
+fn step_and_say(
+    rt: &impl Abort,
+    world: &mut TxWorld,
+    log: &mut Log<MemDisk>,
+    out: &mut Outbox,
+    line: u32,
+)
     requires fits { IsTrue log.old.is_up → Fits world.old (open_records log.old.slots) }
 {
     let actor = ActorNo::new(1).expect(rt, "no such client");
@@ -97,7 +110,10 @@ fn run(rt: &impl Abort, world: &mut TxWorld, log: &mut Log<MemDisk>, out: &mut O
     let r1 = RmNo::new(1).expect(rt, "no such manager");
     let begin = Call::Begin(t, Timeout::Default);
     assert_eq!(rt; enter(rt, world, log, out, 1, &begin), Answer::Fine);
-    assert_eq!(rt; enter(rt, world, log, out, 2, &Call::Marshal(t)), Answer::Wait);
+    assert_eq!(rt;
+        enter(rt, world, log, out, 2, &Call::Marshal(t)),
+        Answer::Wait
+    );
     settle(rt, world, log, out);
     assert_eq!(rt;
         enter(rt, world, log, out, 3, &Call::Await(t)),
@@ -105,7 +121,10 @@ fn run(rt: &impl Abort, world: &mut TxWorld, log: &mut Log<MemDisk>, out: &mut O
     );
     let durable = Call::Durable(t, e1, r1, Support::TwoPhase(Some(Vote::Yes)));
     assert_eq!(rt; enter(rt, world, log, out, 4, &durable), Answer::Wait);
-    assert_eq!(rt; enter(rt, world, log, out, 5, &Call::Commit(t)), Answer::Fine);
+    assert_eq!(rt;
+        enter(rt, world, log, out, 5, &Call::Commit(t)),
+        Answer::Fine
+    );
     settle(rt, world, log, out);
 }
 
@@ -168,7 +187,14 @@ const VOTED_NO: [&str; 5] = [
 ];
 
 /// Does a call of client 1, with the steps before it, and says what it answered.
-fn call(rt: &impl Abort, world: &mut TxWorld, log: &mut Log<MemDisk>, out: &mut Outbox, line: u32, c: &Call) -> Answer
+fn call(
+    rt: &impl Abort,
+    world: &mut TxWorld,
+    log: &mut Log<MemDisk>,
+    out: &mut Outbox,
+    line: u32,
+    c: &Call,
+) -> Answer
     requires fits { IsTrue log.old.is_up → Fits world.old (open_records log.old.slots) }
     ensures fits { IsTrue log.new.is_up → Fits world.new (open_records log.new.slots) }
 {
@@ -183,7 +209,13 @@ fn call(rt: &impl Abort, world: &mut TxWorld, log: &mut Log<MemDisk>, out: &mut 
 }
 
 /// Enters a `do` of client 1 for which no step was done, since none is pending.
-fn did_none(rt: &impl Abort, world: &mut TxWorld, log: &mut Log<MemDisk>, out: &mut Outbox, line: u32)
+fn did_none(
+    rt: &impl Abort,
+    world: &mut TxWorld,
+    log: &mut Log<MemDisk>,
+    out: &mut Outbox,
+    line: u32,
+)
     requires fits { IsTrue log.old.is_up → Fits world.old (open_records log.old.slots) }
 {
     let actor = ActorNo::new(1).expect(rt, "no such client");
@@ -209,8 +241,14 @@ fn calls(rt: &impl Abort, world: &mut TxWorld, log: &mut Log<MemDisk>, out: &mut
     let told = Answer::OutcomeIs(Outcome::Committed);
     assert_eq!(rt; call(rt, world, log, out, 1, &begin), Answer::Fine);
     assert_eq!(rt; call(rt, world, log, out, 2, &volatile), Answer::Fine);
-    assert_eq!(rt; call(rt, world, log, out, 3, &Call::Commit(t)), Answer::Fine);
-    assert_eq!(rt; call(rt, world, log, out, 4, &Call::Do(t, 1, 3)), Answer::Did(3));
+    assert_eq!(rt;
+        call(rt, world, log, out, 3, &Call::Commit(t)),
+        Answer::Fine
+    );
+    assert_eq!(rt;
+        call(rt, world, log, out, 4, &Call::Do(t, 1, 3)),
+        Answer::Did(3)
+    );
     assert_eq!(rt; world.status(), Status::Active);
     assert_eq!(rt; call(rt, world, log, out, 5, &Call::Await(t)), told);
     assert_eq!(rt; world.status(), Status::Committed);
@@ -242,7 +280,13 @@ fn nothing_is_pending_in_a_new_world(rt: HostRuntime) -> Result<(), Fail> {
 }
 
 /// Replies so for the enlistment that is asked first, where one is asked to prepare; whether the reply was due.
-fn reply(rt: &impl Abort, world: &mut TxWorld, log: &Log<MemDisk>, out: &mut Outbox, vote: Vote) -> bool
+fn reply(
+    rt: &impl Abort,
+    world: &mut TxWorld,
+    log: &Log<MemDisk>,
+    out: &mut Outbox,
+    vote: Vote,
+) -> bool
     requires fits { IsTrue log.now.is_up → Fits world.old (open_records log.now.slots) }
     ensures fits { IsTrue log.now.is_up → Fits world.new (open_records log.now.slots) }
 {
@@ -267,9 +311,15 @@ fn votes_by_hand(rt: &impl Abort, world: &mut TxWorld, log: &mut Log<MemDisk>, o
     let told = Answer::OutcomeIs(Outcome::Aborted);
     assert_eq!(rt; call(rt, world, log, out, 1, &begin), Answer::Fine);
     assert_eq!(rt; call(rt, world, log, out, 2, &volatile), Answer::Fine);
-    assert_eq!(rt; call(rt, world, log, out, 3, &Call::Commit(t)), Answer::Fine);
+    assert_eq!(rt;
+        call(rt, world, log, out, 3, &Call::Commit(t)),
+        Answer::Fine
+    );
     assert!(rt; !reply(rt, world, log, out, Vote::No));
-    assert_eq!(rt; call(rt, world, log, out, 4, &Call::Do(t, 1, 2)), Answer::Did(2));
+    assert_eq!(rt;
+        call(rt, world, log, out, 4, &Call::Do(t, 1, 2)),
+        Answer::Did(2)
+    );
     assert!(rt; reply(rt, world, log, out, Vote::No));
     assert!(rt; !reply(rt, world, log, out, Vote::No));
     assert_eq!(rt; call(rt, world, log, out, 5, &Call::Await(t)), told);
@@ -296,7 +346,10 @@ fn stopped_at_once(rt: &impl Abort, world: &mut TxWorld, log: &mut Log<MemDisk>,
     assert_eq!(rt; call(rt, world, log, out, 1, &begin), Answer::Fine);
     assert_eq!(rt; world.coordinator_stopped(0), Ok(()));
     assert!(rt; !world.is_stopped());
-    assert_eq!(rt; call(rt, world, log, out, 2, &Call::Marshal(t)), Answer::Wait);
+    assert_eq!(rt;
+        call(rt, world, log, out, 2, &Call::Marshal(t)),
+        Answer::Wait
+    );
     assert_eq!(rt; world.coordinator_stopped(0), Ok(()));
     assert!(rt; world.is_stopped());
     if !log.is_up() {
@@ -344,7 +397,10 @@ fn the_steps_of_the_caller_are_said(rt: HostRuntime) -> Result<(), Fail> {
     let mut out = Outbox::with_room(alloc)?;
     let t = transaction(&rt);
     let begin = Call::Begin(t, Timeout::Default);
-    assert_eq!(rt; call(&rt, &mut world, &mut log, &mut out, 1, &begin), Answer::Fine);
+    assert_eq!(rt;
+        call(&rt, &mut world, &mut log, &mut out, 1, &begin),
+        Answer::Fine
+    );
     assert_eq!(rt;
         call(&rt, &mut world, &mut log, &mut out, 2, &Call::Marshal(t)),
         Answer::Wait

@@ -29,7 +29,11 @@ fn is_reached(begun: bool, own: u64, life: u64) -> bool
 
 impl TxWorld {
     /// Does the coordinator's act at the log; false exactly where none is pending.
-    pub(super) fn act_at_log<D: Disk>(&mut self, log: &mut Log<D>, out: &mut Outbox) -> Result<bool, WorldError>
+    pub(super) fn act_at_log<D: Disk>(
+        &mut self,
+        log: &mut Log<D>,
+        out: &mut Outbox,
+    ) -> Result<bool, WorldError>
         requires fits { IsTrue D.honest → IsTrue log.old.is_up → Fits self.old (open_records log.old.slots) }
         ensures due { IfOk result (λ b. b ≡ (may_log (core self.old.world) || may_free (core self.old.world))) }
         ensures done { result ≡ Ok true → (a : LogAnswer) × (may_coordinate (core self.old.world) a ≡ true) × Does D.faults (Coordinates a) self.old log.old self.new log.new }
@@ -60,11 +64,7 @@ impl TxWorld {
     fn is_reached_by(&self, life: u64) -> bool
         ensures { result ≡ is_reached_by life self.now }
     {
-        is_reached(
-            has_begun(self.history.entries()),
-            self.at_log.life(),
-            life,
-        )
+        is_reached(has_begun(self.history.entries()), self.at_log.life(), life)
     }
 
     /// The log was opened again: where the coordinator lives in an earlier life, it is told whether its record was found.

@@ -49,7 +49,8 @@ impl TxWorld {
     /// [`WorldError::Memory`] where memory ran out, and then nothing was done.
     pub fn enter<D: Disk>(
         &mut self,
-        log: &Log<D>, out: &mut Outbox,
+        log: &Log<D>,
+        out: &mut Outbox,
         actor: ActorNo,
         line: u32,
         c: &Call,
@@ -82,7 +83,8 @@ impl TxWorld {
     /// Enters the loss of a connection, that of an enlistment, or that a manager has recovered.
     fn enter_linked<D: Disk>(
         &mut self,
-        log: &Log<D>, out: &mut Outbox,
+        log: &Log<D>,
+        out: &mut Outbox,
         actor: ActorNo,
         line: u32,
         c: &Call,

@@ -15,7 +15,12 @@ use outside::Disk;
 
 impl TxWorld {
     /// Delivers what comes next upward on a connection; false exactly where nothing is left.
-    pub(super) fn deliver_up<D: Disk>(&mut self, log: &Log<D>, out: &mut Outbox, c: Conn) -> Result<bool, WorldError>
+    pub(super) fn deliver_up<D: Disk>(
+        &mut self,
+        log: &Log<D>,
+        out: &mut Outbox,
+        c: Conn,
+    ) -> Result<bool, WorldError>
         ensures left { IfOk result (λ b. b ≡ has_left c Up self.old.world.past) }
         ensures done { result ≡ Ok true → Does D.faults (Delivers c Up) self.old log.now self.new log.now }
         ensures ours { (self.new.ours ≡ self.old.ours) × (self.new.unsure ≡ self.old.unsure) }
@@ -29,15 +34,15 @@ impl TxWorld {
             return Ok(false);
         };
         hear_up(&mut self.core, c, &came, out);
-        self.history
-            .write(out.entries(), self.core.is_stopped());
+        self.history.write(out.entries(), self.core.is_stopped());
         Ok(true)
     }
 
     /// Delivers what comes next downward on a connection; false exactly where nothing is left.
     pub(super) fn deliver_down<D: Disk>(
         &mut self,
-        log: &Log<D>, out: &mut Outbox,
+        log: &Log<D>,
+        out: &mut Outbox,
         c: Conn,
     ) -> Result<bool, WorldError>
         ensures left { IfOk result (λ b. b ≡ has_left c Down self.old.world.past) }

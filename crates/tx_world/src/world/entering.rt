@@ -23,7 +23,8 @@ impl TxWorld {
     /// Enters a call that the local side answers alone.
     pub(super) fn enter_local<D: Disk>(
         &mut self,
-        log: &Log<D>, out: &mut Outbox,
+        log: &Log<D>,
+        out: &mut Outbox,
         actor: ActorNo,
         line: u32,
         c: &Call,

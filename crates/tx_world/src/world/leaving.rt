@@ -64,7 +64,8 @@ impl TxWorld {
     /// Enters a `gone`.
     pub(super) fn enter_gone<D: Disk>(
         &mut self,
-        log: &Log<D>, out: &mut Outbox,
+        log: &Log<D>,
+        out: &mut Outbox,
         actor: ActorNo,
         line: u32,
         c: &Call,
@@ -95,7 +96,8 @@ impl TxWorld {
     /// there is no memory for it.
     fn enter_cut<D: Disk>(
         &mut self,
-        log: &Log<D>, out: &mut Outbox,
+        log: &Log<D>,
+        out: &mut Outbox,
         actor: ActorNo,
         line: u32,
         e: EnlNo,

@@ -62,7 +62,13 @@ impl TxWorld {
     }
 
     /// Does the k-th pending step, from 1, n times, or until fewer than k are pending; how often it did.
-    fn repeat<D: Disk>(&mut self, log: &mut Log<D>, out: &mut Outbox, k: u32, n: u16) -> Result<u16, WorldError>
+    fn repeat<D: Disk>(
+        &mut self,
+        log: &mut Log<D>,
+        out: &mut Outbox,
+        k: u32,
+        n: u16,
+    ) -> Result<u16, WorldError>
         requires fits { IsTrue D.honest → IsTrue log.old.is_up → Fits self.old (open_records log.old.slots) }
         ensures repeated { IfOk result (λ m. Repeats D.faults k n m self.old log.old self.new log.new) }
         ensures memory { OnErr result (SomeSteps D.faults k self.old log.old self.new log.new) }
@@ -85,7 +91,12 @@ impl TxWorld {
     }
 
     /// Does what comes right before a call: the steps of a `do`, and an `await` settles. How many steps a `do` did; 0 for any other call.
-    fn prepare<D: Disk>(&mut self, log: &mut Log<D>, out: &mut Outbox, c: &Call) -> Result<u16, WorldError>
+    fn prepare<D: Disk>(
+        &mut self,
+        log: &mut Log<D>,
+        out: &mut Outbox,
+        c: &Call,
+    ) -> Result<u16, WorldError>
         requires fits { IsTrue D.honest → IsTrue log.old.is_up → Fits self.old (open_records log.old.slots) }
         ensures prepared { IfOk result (λ m. Prepares D.faults c.now m self.old log.old self.new log.new) }
         ensures memory { OnErr result (SomeSteps D.faults (place_of c.now) self.old log.old self.new log.new) }
@@ -115,7 +126,8 @@ impl TxWorld {
     /// [`WorldError::Memory`] where memory ran out; so it would in 2^32 - 1 steps of an `await`. The steps before that were done, and the call wasn't entered.
     pub fn call<D: Disk>(
         &mut self,
-        log: &mut Log<D>, out: &mut Outbox,
+        log: &mut Log<D>,
+        out: &mut Outbox,
         actor: ActorNo,
         line: u32,
         c: &Call,

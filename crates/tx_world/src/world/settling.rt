@@ -19,7 +19,12 @@ impl TxWorld {
     /// # Errors
     ///
     /// [`WorldError::Memory`] where memory ran out, and then nothing was done.
-    pub fn step<D: Disk>(&mut self, log: &mut Log<D>, out: &mut Outbox, k: u32) -> Result<bool, WorldError>
+    pub fn step<D: Disk>(
+        &mut self,
+        log: &mut Log<D>,
+        out: &mut Outbox,
+        k: u32,
+    ) -> Result<bool, WorldError>
         requires fits { IsTrue D.honest → IsTrue log.old.is_up → Fits self.old (open_records log.old.slots) }
         ensures none { result ≡ Ok false → (kth (pending self.old.world) k ≡ None) × (self.new ≡ self.old) × (log.new ≡ log.old) }
         ensures some { result ≡ Ok true → DoesKth D.faults k self.old log.old self.new log.new }

@@ -22,7 +22,13 @@ impl TxWorld {
     /// # Errors
     ///
     /// [`WorldError::Memory`] where memory ran out, and then nothing was done.
-    pub fn reply<D: Disk>(&mut self, log: &Log<D>, out: &mut Outbox, e: EnlNo, r: Reply) -> Result<bool, WorldError>
+    pub fn reply<D: Disk>(
+        &mut self,
+        log: &Log<D>,
+        out: &mut Outbox,
+        e: EnlNo,
+        r: Reply,
+    ) -> Result<bool, WorldError>
         requires fits { fits_due r (due_of (half self.old.world).seen e.value) ≡ true }
         ensures due { IfOk result (λ b. b ≡ is_some (due_of (half self.old.world).seen e.value)) }
         ensures done { result ≡ Ok true → Does D.faults (Replies e r) self.old log.now self.new log.now }
@@ -41,7 +47,11 @@ impl TxWorld {
     }
 
     /// Does the local act where it is the first pending step and no reply may be due: so most steps are. False where a reply may be due, or no act is pending.
-    pub(super) fn act_first<D: Disk>(&mut self, log: &Log<D>, out: &mut Outbox) -> Result<bool, WorldError>
+    pub(super) fn act_first<D: Disk>(
+        &mut self,
+        log: &Log<D>,
+        out: &mut Outbox,
+    ) -> Result<bool, WorldError>
         ensures first { result ≡ Ok true → kth (pending self.old.world) 1 ≡ Some LocalAct }
         ensures done { result ≡ Ok true → Does D.faults Acts self.old log.now self.new log.now }
         ensures ours { (self.new.ours ≡ self.old.ours) × (self.new.unsure ≡ self.old.unsure) }
@@ -55,7 +65,11 @@ impl TxWorld {
     }
 
     /// Does the local act; false exactly where none is pending.
-    pub(super) fn act<D: Disk>(&mut self, log: &Log<D>, out: &mut Outbox) -> Result<bool, WorldError>
+    pub(super) fn act<D: Disk>(
+        &mut self,
+        log: &Log<D>,
+        out: &mut Outbox,
+    ) -> Result<bool, WorldError>
         ensures due { IfOk result (λ b. b ≡ not (is_empty (act_entries (half self.old.world)))) }
         ensures done { result ≡ Ok true → Does D.faults Acts self.old log.now self.new log.now }
         ensures ours { (self.new.ours ≡ self.old.ours) × (self.new.unsure ≡ self.old.unsure) }

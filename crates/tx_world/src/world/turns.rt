@@ -84,7 +84,12 @@ impl TxWorld {
     }
 
     /// Does the k-th pending step, from 1, as [`TxWorld::step`] does.
-    pub(super) fn step_kth<D: Disk>(&mut self, log: &mut Log<D>, out: &mut Outbox, k: u32) -> Result<bool, WorldError>
+    pub(super) fn step_kth<D: Disk>(
+        &mut self,
+        log: &mut Log<D>,
+        out: &mut Outbox,
+        k: u32,
+    ) -> Result<bool, WorldError>
         requires fits { IsTrue D.honest → IsTrue log.old.is_up → Fits self.old (open_records log.old.slots) }
         ensures none { result ≡ Ok false → (kth (pending self.old.world) k ≡ None) × (self.new ≡ self.old) × (log.new ≡ log.old) }
         ensures some { result ≡ Ok true → DoesKth D.faults k self.old log.old self.new log.new }

@@ -30,9 +30,9 @@ enter-requires-clause-answers g c =
 
 pub note-requires : goal.note-requires
 note-requires g c =
-    let h = c.history-from.result.now.items in
+    let h = c.history.result.now.items in
     past_longer g.D.Disk.faults c.args.log.now (Calls c.args.n c.args.actor c.args.c.now c.args.done) c.index_mut-world.result.now c.enter.new.self c.len-from.result c.in_ok-enter.ensures.done
-    (c.len-from.ensures ∙ (sym (length-past h) ∙ ap length c.history-from.ensures))
+    (c.len-from.ensures ∙ (sym (length-past h) ∙ ap length c.history.ensures))
 
 pub returns : goal.returns
 returns g c =
@@ -42,7 +42,7 @@ returns g c =
     let ws = c.reach.new.worlds.items in
     let x = c.index_mut-world.result.now in
     let y = c.enter.new.self in
-    let h = c.history-from.result.now.items in
+    let h = c.history.result.now.items in
     let step = Calls c.args.n c.args.actor c.args.c.now c.args.done in
     let place : c.index.result ≡ t.value - 1 = omega (arith, c.index.ensures.place) in
     let made = c.in_ok-reach.ensures.reached in
@@ -50,7 +50,7 @@ returns g c =
     let same : (u : TxNo) → state_of u ws ≡ state_of u old.worlds = λ u. c.reach.ensures.same u ∙ ap (λ (r : RunState). state_of u r.worlds) c.self.view_is in
     let numbered : AreNumbered ws = numbered_same c.self.inside.worlds.items ws c.self.invariant.0 (c.reach.ensures.few c.self.invariant.0.few) c.reach.ensures.same in
     let past = past_after g.D.Disk.faults log ws t step x y numbered made here c.in_ok-enter.ensures.done in
-    let many : length x.world.past ≡ c.len-from.result = sym (ap length c.history-from.ensures) ∙ length-past h ∙ sym c.len-from.ensures in
+    let many : length x.world.past ≡ c.len-from.result = sym (ap length c.history.ensures) ∙ length-past h ∙ sym c.len-from.ensures in
     let noted = c.in_ok-note.ensures x.world.past (written log.is_up t.value x.world step) many past in
     let new : RunState = record { script = c.self.inside.plans; worlds = set ws c.index.result y; contexts = c.self.inside.contexts.items; trace = c.note.new.trace.items } in
     let did : Entered g.D.Disk.faults log t c.args.n c.args.actor c.args.c.now c.args.done x y old new =

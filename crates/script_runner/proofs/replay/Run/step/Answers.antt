@@ -85,18 +85,18 @@ calls : (g : Over) (c : After-is_own_run-2 g) → HaveSameCalls c.args.self.now.
 calls g c = subst (λ (r : RunState). HaveSameCalls c.args.self.now.worlds r.worlds) (sym (parts g c [])) (calls_same g.D.Disk.faults g.D.Disk.honest g.D.Disk.image (about g c) (done g c))
 
 -- its history was as long as was asked before
-past : (g : Over) (c : After-is_own_run-2 g) → past_of c.history-from.result.now.items ≡ (was (about g c)).world.past
-past g c = c.history-from.ensures ∙ sym (ap (λ (z : TxState). z.world.past) (was_reached g c))
+past : (g : Over) (c : After-is_own_run-2 g) → past_of c.history.result.now.items ≡ (was (about g c)).world.past
+past g c = c.history.ensures ∙ sym (ap (λ (z : TxState). z.world.past) (was_reached g c))
 
 long : (g : Over) (c : After-is_own_run-2 g) → length (was (about g c)).world.past ≡ c.len-from.result
-long g c = sym (as_long c.history-from.result.now.items (was (about g c)).world.past (past g c)) ∙ sym c.len-from.ensures
+long g c = sym (as_long c.history.result.now.items (was (about g c)).world.past (past g c)) ∙ sym c.len-from.ensures
 
 -- and didn't get shorter
 longer : (g : Over) (c : After-is_own_run-2 g) → c.len-from.result ≤ length c.step.new.self.world.past
 longer g c =
     let wrote = step_past g.D.Disk.faults g.D.Disk.honest g.D.Disk.image (about g c) (done g c) in
     subst (λ (n : ℕ). n ≤ length c.step.new.self.world.past) (sym c.len-from.ensures)
-    (grown c.history-from.result.now.items (was (about g c)).world.past c.step.new.self.world.past wrote.0 (past g c) wrote.1)
+    (grown c.history.result.now.items (was (about g c)).world.past c.step.new.self.world.past wrote.0 (past g c) wrote.1)
 
 pub returns-then-len-index-clause-none : goal.returns-then-len-index-clause-none
 returns-then-len-index-clause-none g c = λ e.

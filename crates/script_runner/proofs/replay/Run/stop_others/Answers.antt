@@ -15,7 +15,7 @@ note-requires c =
     let x = c.index_mut-world.result.now in
     let hit = is_hit_by c.args.life x in
     subst (λ (n : ℕ). n ≤ length c.coordinator_stopped.new.self.world.past) (sym c.len-from.ensures)
-    (grown c.history-from.result.now.items x.world.past c.coordinator_stopped.new.self.world.past (stop_entries hit) c.history-from.ensures
+    (grown c.history.result.now.items x.world.past c.coordinator_stopped.new.self.world.past (stop_entries hit) c.history.ensures
     (ap (λ (w : World). w.past) c.in_ok-coordinator_stopped.ensures.world ∙ hit_past hit x.transaction.value x.world))
 
 -- the transaction stands at the place that the loop has come to
@@ -60,7 +60,7 @@ loop-place-preserved c =
     let hit = is_hit_by c.args.life x in
     let world = c.in_ok-coordinator_stopped.ensures.world in
     let past : y.world.past ≡ onto x.world.past (stop_entries hit) = ap (λ (w : World). w.past) world ∙ hit_past hit x.transaction.value x.world in
-    let noted = c.in_ok-note.ensures x.world.past (stop_entries hit) (sym (as_long c.history-from.result.now.items x.world.past c.history-from.ensures) ∙ sym c.len-from.ensures) past in
+    let noted = c.in_ok-note.ensures x.world.past (stop_entries hit) (sym (as_long c.history.result.now.items x.world.past c.history.ensures) ∙ sym c.len-from.ensures) past in
     record {
       plans = c.loop-place.invariant.plans;
       contexts = c.loop-place.invariant.contexts;
