@@ -409,8 +409,8 @@ fn the_steps_of_the_caller_are_said(rt: HostRuntime) -> Result<(), Fail> {
     let a1 = ActorNo::new(1).unwrap();
     let did = Entry::Called(3, a1, Answer::Did(1));
     let h = world.history();
-    assert_eq!(rt; h.len(), 6);
-    assert_eq!(rt; h.at(5), did);
+    assert_eq!(rt; h.len(), 8);
+    assert_eq!(rt; h.at(7), did);
     Ok(())
 }
 
