@@ -1,4 +1,4 @@
-use Rattle.std.proofs.Common.{length, refl, sym, ◌∙◌}
+use Rattle.std.proofs.Common.{arith, length, refl, sym, ◌∙◌}
 use Rattle.entry_lists.proofs.Keeping.{brief_alike}
 use Rattle.entry_lists.proofs.brief.keep_from.Goals as goal
 
@@ -9,4 +9,6 @@ returns-else-is_whole c =
       entry = alike.0;
       within = alike.1;
       others = λ x h. (refl, h);
+      grows = omega arith;
+      capacity = refl;
     }
