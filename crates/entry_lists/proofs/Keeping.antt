@@ -1,5 +1,5 @@
 -- What is put into a list of entries in few bytes.
-use Rattle.std.proofs.Common.{◌≡◌, ◌<◌, ◌+◌, ℕ, true, Bool, ◌&&◌, List, [], ◌∷◌, ◌++◌, length, map, refl, ap, sym, ◌∙◌, arith}
+use Rattle.std.proofs.Common.{◌≡◌, ◌<◌, ◌+◌, ℕ, true, false, Bool, ◌&&◌, List, [], ◌∷◌, ◌++◌, length, map, refl, ap, sym, ◌∙◌, arith}
 use Rattle.std.proofs.lemmas.List.{get_or_append_left, length-append}
 use Rattle.std.proofs.lemmas.Bool.Decides.{Decides-ltb}
 use Rattle.dtx_model.specs.Words.{each}
@@ -9,7 +9,7 @@ use Rattle.dtx_values.specs.declared.entry.Entry.TheVariants.{Late}
 use Rattle.dtx_values.specs.declared.trace.Place.{Place}
 use Rattle.entry_lists.specs.declared.brief.Brief.{Brief}
 use Rattle.entry_lists.specs.declared.brief.Brief.TheVariants.{Called, Began, Enlisted, CommitAsked, RollbackAsked, Clock, Asked, Voted, Sealed, Decided, Told, ToldClient, Whole}
-use Rattle.entry_lists.specs.Held.{entry_in, is_within, is_placed_within, placed_in}
+use Rattle.entry_lists.specs.Held.{entry_in, is_whole, is_within, is_placed_within, placed_in}
 
 -- Another entry that stands whole changes none of those in few bytes.
 pub more_wholes : (ws : List Entry) (e : Entry) (b : Brief) → is_within (length ws) b ≡ true → (entry_in (ws ++ e ∷ []) b ≡ entry_in ws b) × (is_within (length (ws ++ e ∷ [])) b ≡ true)
@@ -29,6 +29,22 @@ more_wholes ws e (Whole k) h =
     let within : k < length ws = (Decides-ltb k (length ws)).0 h in
     let more : k < length (ws ++ e ∷ []) = omega (arith, length-append ws (e ∷ []), within) in
     (get_or_append_left ws (e ∷ []) Late k within, (Decides-ltb k (length (ws ++ e ∷ []))).1 more)
+
+-- One that doesn't stand whole is the same among any.
+pub brief_alike : (ws vs : List Entry) (n : ℕ) (b : Brief) → is_whole b ≡ false → (entry_in ws b ≡ entry_in vs b) × (is_within n b ≡ true)
+brief_alike ws vs n (Called m a) h = (refl, refl)
+brief_alike ws vs n (Began m) h = (refl, refl)
+brief_alike ws vs n (Enlisted f c) h = (refl, refl)
+brief_alike ws vs n CommitAsked h = (refl, refl)
+brief_alike ws vs n RollbackAsked h = (refl, refl)
+brief_alike ws vs n (Clock m) h = (refl, refl)
+brief_alike ws vs n (Asked f a) h = (refl, refl)
+brief_alike ws vs n (Voted f v) h = (refl, refl)
+brief_alike ws vs n Sealed h = (refl, refl)
+brief_alike ws vs n (Decided o) h = (refl, refl)
+brief_alike ws vs n (Told f o) h = (refl, refl)
+brief_alike ws vs n (ToldClient o) h = (refl, refl)
+brief_alike ws vs n (Whole k) h = absurd cc
 
 -- Each of a list shows the same after a change, and with one more it shows that too.
 pub one_more : {X Y : Type 0} (f g : X → Y) (p q : X → Bool) (xs : List X) (x : X) → ((z : X) → p z ≡ true → (g z ≡ f z) × (q z ≡ true)) → each p xs ≡ true → q x ≡ true

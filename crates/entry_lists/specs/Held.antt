@@ -1,5 +1,5 @@
 -- Entries that take little room.
-use Rattle.std.specs.Prelude.{ℕ, Bool, true, List, nat_lt, slice_index_or}
+use Rattle.std.specs.Prelude.{ℕ, Bool, true, false, List, nat_lt, slice_index_or}
 use Rattle.dtx_values.specs.declared.entry.Entry.{Entry}
 use Rattle.dtx_values.specs.declared.entry.Answer.TheVariants.{Fine}
 use Rattle.dtx_values.specs.declared.entry.Entry.TheVariants.{Called as CalledWith, Began as BeganWith, Enlisted as EnlistedWith, CommitAsked as AskedCommit, RollbackAsked as AskedRollback}
@@ -34,6 +34,11 @@ entry_in ws (Decided o) = DecidedAs o
 entry_in ws (Told e o) = ToldTo (Enl e) o
 entry_in ws (ToldClient o) = ToldTo Client o
 entry_in ws (Whole k) = slice_index_or ws k Late
+
+-- it is the place of an entry that stands whole
+abbrev pub is_whole : Brief → Bool
+is_whole (Whole k) = true
+is_whole _ = false
 
 -- where it stands whole, it is one of so many
 abbrev pub is_within : ℕ → Brief → Bool

@@ -2,7 +2,7 @@
 ghost use Rattle.std.specs.Prelude.{◌≡◌, ◌≤◌, ◌<◌, ◌+◌, ◌^◌, List, IfSome, length, slice_index_or, true, vec_capacity, vec_len};
 ghost use Rattle.dtx_values.specs.declared.entry.Entry.{Entry};
 ghost use Rattle.entry_lists.specs.declared.brief.Brief.{Brief};
-ghost use Rattle.entry_lists.specs.Held.{entry_in, is_within};
+ghost use Rattle.entry_lists.specs.Held.{entry_in, is_whole, is_within};
 
 use dtx_values::{ActorNo, Answer, Ask, Class, EnlNo, Entry, Outcome, Party, Vote};
 
@@ -27,7 +27,15 @@ pub enum Brief {
     Whole(u32),
 }
 
+/// Whether it is the place of an entry that stands whole.
+fn is_whole(b: Brief) -> bool
+    ensures { result ≡ is_whole b }
+{
+    matches!(b, Brief::Whole(_))
+}
+
 /// The entry in few bytes, where it has no more.
+#[inline(always)]
 fn brief_of(e: &Entry) -> Option<Brief>
     ensures { IfSome result (λ b. (ws : List Entry) → (entry_in ws b ≡ e.now) × (is_within (length ws) b ≡ true)) }
 {
@@ -49,6 +57,7 @@ fn brief_of(e: &Entry) -> Option<Brief>
 }
 
 /// The entry in few bytes, or the place where it stands whole from now on.
+#[inline(always)]
 pub(crate) fn keep(wholes: &mut Vec<Entry>, e: Entry) -> Brief
     requires room { vec_len wholes.old < vec_capacity wholes.old }
     requires few { vec_len wholes.old < 2 ^ 32 }
@@ -68,7 +77,26 @@ pub(crate) fn keep(wholes: &mut Vec<Entry>, e: Entry) -> Brief
     }
 }
 
+/// The entry that stands in few bytes, or whole among those of another list: in few bytes, or the place where it stands whole from now on.
+#[inline(always)]
+pub(crate) fn keep_from(wholes: &mut Vec<Entry>, list: &[Entry], b: Brief) -> Brief
+    requires room { vec_len wholes.old < vec_capacity wholes.old }
+    requires few { vec_len wholes.old < 2 ^ 32 }
+    ensures entry { entry_in wholes.new.items result ≡ entry_in list.now b }
+    ensures within { is_within (length wholes.new.items) result ≡ true }
+    ensures others { (x : Brief) → is_within (length wholes.old.items) x ≡ true → (entry_in wholes.new.items x ≡ entry_in wholes.old.items x) × (is_within (length wholes.new.items) x ≡ true) }
+    ensures grows { vec_len wholes.new ≤ vec_len wholes.old + 1 }
+    ensures capacity { vec_capacity wholes.new ≡ vec_capacity wholes.old }
+{
+    if is_whole(b) {
+        keep(wholes, entry_in(list, b))
+    } else {
+        b
+    }
+}
+
 /// The entry that stands in few bytes, or whole among these.
+#[inline(always)]
 pub(crate) fn entry_in(wholes: &[Entry], b: Brief) -> Entry
     ensures { result ≡ entry_in wholes.now b }
 {

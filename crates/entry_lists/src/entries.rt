@@ -1,5 +1,6 @@
 //! Entries of one history.
 ghost use Rattle.std.specs.Prelude.{◌≡◌, ◌≤◌, ◌<◌, ◌+◌, ◌++◌, ◌∷◌, [], IfOk, OnErr, OnOk, length, slice_index_or};
+ghost use Rattle.entry_lists.specs.Held.{entry_in};
 
 use crate::brief::{Brief, entry_in, keep};
 use dtx_values::Entry;
@@ -58,6 +59,7 @@ impl Entries {
     }
 
     /// Puts an entry after the others.
+    #[inline(always)]
     pub fn push_reserved(&mut self, e: Entry)
         requires { 0 < self.old.room }
         ensures items { self.new.items ≡ self.old.items ++ e ∷ [] }
@@ -75,11 +77,22 @@ impl Entries {
         self.briefs.len()
     }
 
+    /// The entries that stand whole, and the i-th entry in few bytes or as its place among them.
+    #[inline(always)]
+    pub(crate) fn kept_at(&self, i: usize) -> (&[Entry], Brief)
+        requires { i < length self.now.items }
+        ensures { let e = entry_in result.0.now result.1 in e ≡ slice_index_or self.now.items i e }
+    {
+        (self.wholes.as_slice(), self.briefs[i])
+    }
+
     /// The entry at a place, from 0.
+    #[inline(always)]
     pub fn at(&self, i: usize) -> Entry
         requires { i < length self.now.items }
         ensures { result ≡ slice_index_or self.now.items i result }
     {
-        entry_in(&self.wholes, self.briefs[i])
+        let (wholes, brief) = self.kept_at(i);
+        entry_in(wholes, brief)
     }
 }

@@ -1,7 +1,8 @@
 //! Entries with their places.
 ghost use Rattle.std.specs.Prelude.{◌≡◌, ◌≤◌, ◌<◌, ◌+◌, ◌^◌, ◌++◌, ◌∷◌, [], IfOk, OnErr, OnOk, drop, length, map, slice_index_or};
+ghost use Rattle.entry_lists.specs.Held.{entry_in};
 
-use crate::brief::{Brief, entry_in, keep};
+use crate::brief::{Brief, entry_in, keep, keep_from};
 use crate::entries::Entries;
 use dtx_values::{Entry, Place};
 use std::alloc::{AllocError, Global};
@@ -89,13 +90,26 @@ impl PlacedEntries {
         Ok(())
     }
 
+    /// Puts after the others an entry that stands in few bytes, or whole among those of another list.
+    #[inline(always)]
+    fn push_kept(&mut self, place: Place, list: &[Entry], b: Brief)
+        requires { 0 < self.old.room }
+        ensures items { self.new.items ≡ self.old.items ++ (place, entry_in list.now b) ∷ [] }
+        ensures room { self.old.room ≡ self.new.room + 1 }
+    {
+        let brief = keep_from(&mut self.wholes, list, b);
+        self.briefs.push_reserved((place, brief));
+        self.room -= 1;
+    }
+
     /// Puts after the others, each at this place, the entries from the place `from` on.
     pub fn push_from(&mut self, place: Place, entries: &Entries, from: usize)
         requires room { length (drop from entries.now.items) ≤ self.old.room }
         ensures items { self.new.items ≡ self.old.items ++ map (λ e. (place, e)) (drop from entries.now.items) }
     {
         for i in from..entries.len() {
-            self.push_reserved((place, entries.at(i)));
+            let (list, brief) = entries.kept_at(i);
+            self.push_kept(place, list, brief);
         }
     }
 
@@ -108,6 +122,7 @@ impl PlacedEntries {
     }
 
     /// The i-th entry with its place, from 0.
+    #[inline(always)]
     pub fn at(&self, i: usize) -> (Place, Entry)
         requires { i < length self.now.items }
         ensures { result ≡ slice_index_or self.now.items i result }

@@ -37,6 +37,7 @@ impl Trace {
     }
 
     /// The i-th entry with its place, from 0.
+    #[inline(always)]
     pub fn at(&self, i: usize) -> (Place, Entry)
         requires { i < length self.now }
         ensures { result ≡ slice_index_or self.now i result }
