@@ -2,6 +2,7 @@
 use Rattle.std.proofs.Common.{◌≡◌, ◌∙◌, ◌<◌, ◌≤◌, ◌+◌, ℕ, Bool, true, false, cond, List, [], ◌∷◌, ◌++◌, drop, filter, get_or, length, map, refl, ap, sym, append_assoc, if◌then◌else◌}
 use Rattle.std.proofs.lemmas.List.{append-nil, at_drop_all, at_drop_more}
 use Rattle.std.specs.List.{flat_map}
+use Rattle.dtx_values.proofs.Writing.{written-none, written-written}
 use Rattle.dtx_values.specs.declared.entry.Entry.{Entry}
 use Rattle.dtx_values.specs.declared.message.Conn.TheVariants.{Enl, Again}
 use Rattle.dtx_values.specs.declared.message.Message.{Message}
@@ -12,7 +13,6 @@ use Rattle.dtx_values.specs.RecoveryInfo.{pair_of}
 use Rattle.dtx_model.specs.declared.desk.Desk.{Desk}
 use Rattle.dtx_model.specs.Coordinated.{Coordinated, is_prepared, to, to_each}
 use Rattle.coordinator_core.specs.Hearing.{hears, told}
-use Rattle.coordinator_core.proofs.Writing.{written-none, written-written}
 
 -- the block to these who came back
 abbrev pub to_these : Coordinated → Message → List EnlNo → List Entry

@@ -1,5 +1,7 @@
--- Where nothing durable or promotable stands.
+-- Where nothing durable or promotable stands, and what a call of volatile enlists.
 use Rattle.std.proofs.Common.{◌≡◌, Bool, true, false, not, List, [], ◌∷◌, Some, None, if◌then◌else◌, refl}
+use Rattle.dtx_values.specs.declared.script.EnlistOption.{EnlistOption}
+use Rattle.dtx_values.specs.declared.script.EnlistOption.TheVariants.{Plain, DuringPrepare}
 use Rattle.dtx_values.specs.declared.words.Cause.TheVariants.{Two, Second, Beside}
 use Rattle.dtx_values.specs.declared.words.Class.{Class}
 use Rattle.dtx_values.specs.declared.words.Class.TheVariants.{Zero, One, DurableTwo, DurableSingle, Promotable}
@@ -7,8 +9,7 @@ use Rattle.dtx_values.specs.Row.{is_lasting}
 use Rattle.dtx_values.specs.Owners.{cause_of}
 use Rattle.dtx_values.specs.Class.{is_volatile, is_durable, is_promotable}
 use Rattle.dtx_values.specs.declared.row.Row.{Row}
-use Rattle.dtx_model.specs.Answers.{wait_for}
-use Rattle.dtx_model.proofs.Narrow.{is_done}
+use Rattle.dtx_model.specs.Answers.{class_of, is_done, wait_for}
 use Rattle.dtx_model.specs.Words.{has}
 use Rattle.dtx_model.proofs.Bools.{or_false, or_first, or_second}
 
@@ -38,3 +39,8 @@ causeless xs single k = step (has (λ x. is_durable x.class) xs) (has (λ x. is_
     step true p s a b k = absurd (cc)
     step false true s a b k = absurd (cc)
     step false false s a b k = none_lasts xs a b
+
+-- what a call of volatile enlists is volatile
+pub volatile_class : (x : EnlistOption) → is_volatile (class_of x) ≡ true
+volatile_class Plain = refl
+volatile_class DuringPrepare = refl

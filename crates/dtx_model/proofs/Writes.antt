@@ -2,7 +2,7 @@
 use Rattle.std.proofs.Common.{◌≡◌, ℕ, Bool, true, false, ◌&&◌, ◌||◌, not, List, [], ◌∷◌, ◌++◌, map, refl, ◌∙◌, if◌then◌else◌}
 use Rattle.std.proofs.lemmas.List.Folds.{list_all-append}
 use Rattle.dtx_values.specs.declared.call.Call.{Call}
-use Rattle.dtx_values.specs.declared.call.Call.TheVariants.{Volatile, Durable, Promotable, Clone, Commit, Rollback, Marshal, Tick, Gone, Reenlist}
+use Rattle.dtx_values.specs.declared.call.Call.TheVariants.{Volatile, Durable, Promotable, Clone, Commit, Rollback, Marshal, Tick, Reenlist}
 use Rattle.dtx_values.specs.declared.entry.Answer.TheVariants.{Fine, Id, Ended as EndedAnswer}
 use Rattle.dtx_values.specs.declared.entry.Ask.TheVariants.{Prepare}
 use Rattle.dtx_values.specs.declared.entry.Entry.{Entry}
@@ -18,6 +18,7 @@ use Rattle.dtx_values.specs.declared.words.Outcome.{Outcome}
 use Rattle.dtx_values.specs.Lines.{has_line, is_opening}
 use Rattle.dtx_values.specs.Class.{is_promotable}
 use Rattle.dtx_model.specs.declared.waiting.Wanted.TheVariants.{Identifier, Place}
+use Rattle.dtx_model.specs.Calls.{is_gone_call}
 use Rattle.dtx_model.specs.Words.{each, has}
 use Rattle.dtx_model.specs.Waiting.{Waiter}
 use Rattle.dtx_model.specs.Half.{Half, is_promoting, fails_if, decide}
@@ -117,10 +118,6 @@ abbrev pub is_tick : Call → Bool
 is_tick (Tick u n) = true
 is_tick _ = false
 
-abbrev pub is_losing : Call → Bool
-is_losing (Gone e) = true
-is_losing _ = false
-
 abbrev pub is_returning : Call → Bool
 is_returning (Reenlist e) = true
 is_returning _ = false
@@ -198,7 +195,7 @@ ticks (ByCall c) = is_tick c
 ticks _ = false
 
 abbrev pub loses : Source → Bool
-loses (ByCall c) = is_losing c
+loses (ByCall c) = is_gone_call c
 loses _ = false
 
 abbrev pub returns : Source → Bool

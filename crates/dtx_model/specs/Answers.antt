@@ -1,5 +1,5 @@
 -- What the calls of the local side answer, and the facts that follow: all calls but lose, gone, reenlist and recovered, which look at connections too.
-use Rattle.std.specs.Prelude.{ℕ, ◌+◌, nat_le, Bool, ◌||◌, not, length, Option, Some, None, if◌then◌else◌, min, ◌==◌}
+use Rattle.std.specs.Prelude.{ℕ, ◌+◌, nat_le, Bool, true, false, ◌||◌, not, length, Option, Some, None, if◌then◌else◌, min, ◌==◌}
 use Rattle.dtx_values.specs.declared.limits.TheConstants.{CALLS, DURABLES, ENLISTMENTS, CLONES}
 use Rattle.dtx_values.specs.declared.call.Call.{Call}
 use Rattle.dtx_values.specs.declared.call.Call.TheVariants.{Volatile, Durable, Promotable, Clone, Complete, Commit, Rollback, Marshal, Status, Await, Tick, Do}
@@ -118,3 +118,14 @@ local_answer t h (Await u) m = if_begun h.seen.limit (await_answer h.seen.told_c
 local_answer t h (Tick u n) m = if_begun h.seen.limit Fine
 local_answer t h (Do u k n) m = if_begun h.seen.limit (Did m)
 local_answer t h _ m = Fine
+
+-- the call was done: its facts follow, and it doesn't wait
+abbrev pub is_done : Answer → Bool
+is_done Fine = true
+is_done True = true
+is_done _ = false
+
+-- the call has to wait
+abbrev pub is_waiting_answer : Answer → Bool
+is_waiting_answer Wait = true
+is_waiting_answer _ = false

@@ -1,5 +1,5 @@
--- Which transaction a line of a script calls by its own words, and which call that is.
-use Rattle.std.specs.Prelude.{ℕ, ◌==◌, List, Option, Some, None, if◌then◌else◌}
+-- Which transaction a line of a script calls by its own words, and which call that is; a test on calls.
+use Rattle.std.specs.Prelude.{ℕ, ◌==◌, Bool, true, false, List, Option, Some, None, if◌then◌else◌}
 use Rattle.dtx_values.specs.declared.call.Call.{Call}
 use Rattle.dtx_values.specs.declared.call.Call.TheVariants.{Begin, Volatile, Durable, Promotable, Clone, Complete, Commit, Rollback, Marshal, Status, Await, Tick, Do, Lose, Gone, Reenlist, Recovered}
 use Rattle.dtx_values.specs.declared.number.CloneNo.{CloneNo}
@@ -61,3 +61,8 @@ call_of s (GoneLine e) = gone_call e (transaction_with s e.value)
 call_of s (ReenlistLine e) = reenlist_call e (transaction_with s e.value)
 call_of s (RecoveredLine t r) = Some (t, Recovered t r)
 call_of s _ = None
+
+-- the call says that an enlistment is lost
+abbrev pub is_gone_call : Call → Bool
+is_gone_call (Gone e) = true
+is_gone_call _ = false

@@ -3,7 +3,7 @@ use Rattle.std.specs.Prelude.{ℕ, Bool, true, false, ◌==◌, ◌&&◌, Option
 use Rattle.dtx_values.specs.declared.number.EnlNo.{EnlNo}
 use Rattle.dtx_values.specs.declared.number.CloneNo.{CloneNo}
 use Rattle.dtx_values.specs.declared.entry.Entry.{Entry}
-use Rattle.dtx_values.specs.declared.entry.Entry.TheVariants.{Began, Called, Cloned, Completed, Enlisted, CommitAsked, Asked, Voted, PromoteReply, Sealed, Handed, OwnerAnswered, Requested, LocalYes, Decided, Told, Promoted, Got, Lost, Logged, Restarted}
+use Rattle.dtx_values.specs.declared.entry.Entry.TheVariants.{Began, Called, Cloned, Completed, Enlisted, CommitAsked, Asked, Voted, PromoteReply, Sealed, Handed, OwnerAnswered, Requested, LocalYes, Decided, Told, Promoted, Sent, Got, Lost, Logged, Restarted, Stopped}
 use Rattle.dtx_values.specs.declared.entry.Ask.TheVariants.{Prepare, Promote, Single}
 use Rattle.dtx_values.specs.declared.entry.Party.TheVariants.{Client, Enl}
 use Rattle.dtx_values.specs.declared.message.Conn.TheVariants.{Begin, Voter, Enl as OnEnl}
@@ -42,6 +42,16 @@ abbrev pub is_record : Entry → Bool
 is_record Logged = true
 is_record (Restarted found) = found
 is_record _ = false
+
+-- the coordinator stopped
+abbrev pub is_stop : Entry → Bool
+is_stop Stopped = true
+is_stop _ = false
+
+-- the coordinator was started again
+abbrev pub is_restart : Entry → Bool
+is_restart (Restarted found) = true
+is_restart _ = false
 
 -- the local side said yes
 abbrev pub is_yes : Entry → Bool
@@ -127,6 +137,11 @@ is_vote e _ = false
 abbrev pub is_good_vote : ℕ → Entry → Bool
 is_good_vote e (Voted f v) = (e == f.value) && is_good v
 is_good_vote e _ = false
+
+-- COMMIT was sent to the coordinator
+abbrev pub is_commit_sent : Entry → Bool
+is_commit_sent (Sent Begin Up BeginCommit) = true
+is_commit_sent _ = false
 
 -- the coordinator got COMMIT
 abbrev pub is_commit_got : Entry → Bool

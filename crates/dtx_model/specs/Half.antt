@@ -14,7 +14,7 @@ use Rattle.dtx_values.specs.declared.number.EnlNo.{EnlNo}
 use Rattle.dtx_values.specs.declared.number.RmNo.{RmNo}
 use Rattle.dtx_values.specs.declared.words.Cause.{Cause}
 use Rattle.dtx_values.specs.declared.words.Outcome.{Outcome}
-use Rattle.dtx_values.specs.declared.words.Outcome.TheVariants.{Aborted}
+use Rattle.dtx_values.specs.declared.words.Outcome.TheVariants.{Aborted, InDoubt}
 use Rattle.dtx_values.specs.Ends.{knows, may_abort_by_begin, may_abort_by_voter}
 use Rattle.dtx_values.specs.Table.{has_row}
 use Rattle.dtx_model.specs.Words.{has}
@@ -150,6 +150,10 @@ is_gone o e = has (λ l. (e == l.enlistment.value) && l.lost) o.listeners
 abbrev pub is_handed : Option EnlNo → ℕ → Bool
 is_handed (Some f) e = e == f.value
 is_handed None e = false
+
+-- how a lost enlistment ends the transaction: in doubt where it was handed the commit, else aborted
+abbrev pub lost_outcome : Bool → Outcome
+lost_outcome handed = if handed then InDoubt else Aborted
 
 -- the enlistment was told the outcome
 abbrev pub was_told : Observed → ℕ → Bool

@@ -18,6 +18,7 @@ use Rattle.dtx_model.specs.Words.{has, each, always, kth}
 use Rattle.dtx_model.specs.Entries.{is_promoted}
 use Rattle.dtx_model.specs.Outcome.{durables, is_veto}
 use Rattle.dtx_model.specs.Observed.{rows}
+pub use Rattle.dtx_model.specs.Observed.{is_promotion_failed as is_failed}
 use Rattle.dtx_values.specs.Support.{is_single}
 use Rattle.dtx_values.specs.Owners.{cause_of}
 
@@ -42,10 +43,6 @@ is_promoting _ = false
 abbrev pub is_promoting_for : Cause → Entry → Bool
 is_promoting_for c (Promoting d) = same_cause c d
 is_promoting_for c _ = false
-
-abbrev pub is_failed : Entry → Bool
-is_failed PromotionFailed = true
-is_failed _ = false
 
 -- promoting: a promotion began, and neither succeeded nor failed
 abbrev pub is_under_way : List Entry → Bool

@@ -23,7 +23,7 @@ use Rattle.dtx_values.specs.declared.words.Vote.TheVariants.{Yes, No, Done}
 use Rattle.dtx_values.specs.Table.{enl_number, insert_by}
 use Rattle.dtx_values.specs.Ends.{knows}
 use Rattle.dtx_values.specs.declared.row.Row.{Row}
-use Rattle.dtx_values.specs.Row.{has_voted, is_marked, is_of}
+use Rattle.dtx_values.specs.Row.{is_of, is_waiting}
 use Rattle.dtx_values.specs.Class.{is_promotable, is_volatile}
 use Rattle.dtx_values.specs.Vote.{is_no}
 use Rattle.dtx_model.specs.Words.{has, or_else}
@@ -38,7 +38,7 @@ may_still_vote o x =
     if is_volatile x.class then not (is_some o.decided) else knows (Enl x.number) o.ends && not (was_told o x.number.value)
 
 abbrev pub owes_vote : Observed → Row → Bool
-owes_vote o x = is_marked x && not (has_voted x) && may_still_vote o x
+owes_vote o x = is_waiting x && may_still_vote o x
 
 abbrev pub owes_promotion : Observed → Row → Bool
 owes_promotion o x = o.promote_asked && not o.promote_replied && is_promotable x.class && not (is_some o.decided)

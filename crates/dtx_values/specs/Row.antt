@@ -1,5 +1,5 @@
 -- The row of an enlistment.
-use Rattle.std.specs.Prelude.{ℕ, ◌==◌, nat_lt, Bool, false, not, Option, Some, None, is_some, if◌then◌else◌}
+use Rattle.std.specs.Prelude.{ℕ, ◌==◌, ◌&&◌, nat_lt, Bool, false, not, Option, Some, None, is_some, if◌then◌else◌}
 use Rattle.dtx_values.specs.declared.number.EnlNo.{EnlNo}
 use Rattle.dtx_values.specs.declared.row.Row.{Row}
 use Rattle.dtx_values.specs.declared.words.Class.{Class}
@@ -25,6 +25,10 @@ is_marked x = is_some x.asked
 -- the enlistment voted
 abbrev pub has_voted : Row → Bool
 has_voted x = is_some x.vote
+
+-- a vote of it is awaited: the enlistment was asked to prepare, and hasn't voted
+abbrev pub is_waiting : Row → Bool
+is_waiting x = is_marked x && not (has_voted x)
 
 -- the enlistment voted no
 abbrev pub voted_no : Row → Bool

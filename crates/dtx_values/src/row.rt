@@ -1,7 +1,7 @@
 //! What the tables of one transaction have of an enlistment and of a dependent clone.
 ghost use Rattle.std.specs.Prelude.{◌≡◌};
 ghost use Rattle.dtx_values.specs.Clones.{is_open_block, is_open_rollback};
-ghost use Rattle.dtx_values.specs.Row.{has_voted, is_lasting, is_marked};
+ghost use Rattle.dtx_values.specs.Row.{has_voted, is_lasting, is_marked, is_waiting};
 
 use crate::number::{CloneNo, EnlNo};
 use crate::order::Numbered;
@@ -41,6 +41,13 @@ impl Row {
         ensures { result ≡ has_voted self.now }
     {
         self.vote.is_some()
+    }
+
+    /// Whether a vote of it is awaited: it was asked to prepare, and hasn't voted.
+    pub fn is_waiting(&self) -> bool
+        ensures { result ≡ is_waiting self.now }
+    {
+        self.is_marked() && !self.has_voted()
     }
 }
 

@@ -6,9 +6,9 @@ use Rattle.std.specs.Bool.{if◌then◌else◌}
 use Rattle.std.specs.List.{list_any}
 use Rattle.dtx_values.specs.declared.row.Row.{Row}
 use Rattle.dtx_values.specs.declared.words.Vote.{Vote}
-use Rattle.dtx_values.specs.Row.{has_voted, is_marked}
+use Rattle.dtx_values.specs.Row.{has_voted, is_marked, is_waiting}
 use Rattle.dtx_values.specs.Table.{how_many, insert_by, marks}
-use Rattle.enlist_table.specs.Waiting.{is_waiting, one_if}
+use Rattle.enlist_table.specs.Count.{one_if}
 
 -- a row's part of the count
 first_counted : {A : Type 0} (p : A → Bool) (x : A) (xs : List A) → how_many p (x ∷ xs) ≡ one_if (p x) + how_many p xs

@@ -1,2 +1,2 @@
 pub mod Refusals
-pub mod Waiting
+pub mod Count

@@ -5,11 +5,11 @@ ghost use Rattle.dtx_values.specs.declared.limits.TheConstants.{ENLISTMENTS};
 ghost use Rattle.dtx_values.specs.declared.row.Row.{Row};
 ghost use Rattle.dtx_values.specs.Class.{is_durable, is_promotable};
 ghost use Rattle.dtx_values.specs.Owners.{owner_of};
-ghost use Rattle.dtx_values.specs.Row.{has_voted, is_asked_before, is_lasting, is_marked, is_of, number_of};
+ghost use Rattle.dtx_values.specs.Row.{has_voted, is_asked_before, is_lasting, is_marked, is_of, is_waiting, number_of};
 ghost use Rattle.dtx_values.specs.Table.{has_row, how_many, insert_by, marks, rises_above, voted, voted_before, was_asked, with_mark, with_row, with_vote};
 ghost use Rattle.dtx_values.specs.Waves.{all_voted, may_be_asked, next_ask, zeros_voted};
 ghost use Rattle.enlist_table.specs.Refusals.{add_refusal, row_refusal};
-ghost use Rattle.enlist_table.specs.Waiting.{is_waiting, one_if};
+ghost use Rattle.enlist_table.specs.Count.{one_if};
 
 use crate::refusal::{AddRefusal, TableRefusal};
 use dtx_values::{Class, DURABLES, ENLISTMENTS, EnlNo, Row, Vote, insert_in_order};
@@ -30,8 +30,8 @@ impl Model for EnlistTable {
     ghost use Rattle.std.specs.Prelude.{List, ◌≡◌, ◌≤◌, true, vec_capacity, length};
     ghost use Rattle.dtx_values.specs.declared.limits.TheConstants.{ENLISTMENTS};
     ghost use Rattle.dtx_values.specs.declared.row.Row.{Row};
+    ghost use Rattle.dtx_values.specs.Row.{is_waiting};
     ghost use Rattle.dtx_values.specs.Table.{how_many, marks, rises_above};
-    ghost use Rattle.enlist_table.specs.Waiting.{is_waiting};
 
     ghost Value = { List Row };
 

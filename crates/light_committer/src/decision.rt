@@ -1,12 +1,13 @@
 //! What is done with the commit.
 ghost use Rattle.std.specs.Prelude.{◌≡◌, ◌≤◌, true, false};
 ghost use Rattle.dtx_values.specs.Table.{how_many};
+ghost use Rattle.dtx_model.specs.Half.{lost_outcome};
 ghost use Rattle.dtx_model.specs.Words.{has};
 ghost use Rattle.dtx_values.specs.Owners.{is_evident};
 ghost use Rattle.dtx_values.specs.Waves.{all_voted};
 ghost use Rattle.dtx_values.specs.Row.{is_lasting, voted_no};
 ghost use Rattle.light_committer.specs.declared.decision.LightAct.TheVariants.{CommitNow};
-ghost use Rattle.light_committer.specs.LightAct.{light_act, lost_outcome};
+ghost use Rattle.light_committer.specs.LightAct.{light_act};
 
 use dtx_values::{EnlNo, Outcome};
 use enlist_table::EnlistTable;

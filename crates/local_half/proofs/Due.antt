@@ -9,7 +9,7 @@ use Rattle.dtx_values.specs.declared.note.Reply.TheVariants.{Vote as VoteReply}
 use Rattle.dtx_values.specs.declared.words.Vote.{Vote}
 use Rattle.dtx_values.specs.declared.number.EnlNo.{EnlNo}
 use Rattle.dtx_values.specs.declared.row.Row.{Row}
-use Rattle.dtx_values.specs.Row.{has_voted, is_marked, is_of, number_of}
+use Rattle.dtx_values.specs.Row.{has_voted, is_marked, is_of, is_waiting, number_of}
 use Rattle.dtx_values.specs.Table.{enl_number, insert_by, rises_above, was_asked}
 use Rattle.dtx_model.specs.declared.branch.Branch.{Branch}
 use Rattle.dtx_model.specs.Observed.{Observed, is_branch}
@@ -17,7 +17,6 @@ use Rattle.dtx_model.specs.Words.{has, kth, or_else}
 use Rattle.dtx_model.specs.Half.{is_gone, is_handed}
 use Rattle.dtx_model.specs.Replies.{all_due, conn_due, due_conn, due_of, fits, may_still_vote, names, note_at, note_of_conn, note_of_row, owes_outcome, owes_promotion, owes_request, row_note, with_name, with_names, with_note}
 use Rattle.dtx_model.proofs.Bools.{and_both, and_left, and_right, or_case, or_first, or_second}
-use Rattle.enlist_table.specs.Waiting.{is_waiting}
 use Rattle.local_half.specs.Half.{first_due, lower, may_owe, owes_ack, owes_more}
 
 -- what is found fails a test that none passes

@@ -6,7 +6,6 @@ use Rattle.dtx_values.specs.declared.call.Call.TheVariants.{Begin, Volatile, Dur
 use Rattle.dtx_values.specs.declared.number.TxNo.{TxNo}
 use Rattle.dtx_values.specs.declared.number.RmNo.{RmNo}
 use Rattle.dtx_values.specs.declared.script.EnlistOption.{EnlistOption}
-use Rattle.dtx_values.specs.declared.script.EnlistOption.TheVariants.{Plain, DuringPrepare}
 use Rattle.dtx_values.specs.declared.script.Support.{Support}
 use Rattle.dtx_values.specs.declared.words.CloneKind.{CloneKind}
 use Rattle.dtx_values.specs.declared.words.Timeout.{Timeout}
@@ -32,11 +31,11 @@ use Rattle.dtx_model.specs.Observed.{Observed}
 use Rattle.dtx_model.specs.Half.{Half}
 use Rattle.dtx_model.specs.Promotes.{identifier_of}
 use Rattle.dtx_model.specs.Waiting.{is_place, is_place_of, wanted_by}
-use Rattle.dtx_model.specs.Answers.{class_of, clone_answer, complete_answer, durable_answer, gone_answer, has_promotion, if_begun, is_crowded, is_full, is_full_of_durables, local_answer, marshal_answer, places, promotable_answer, status_answer, unless_ended, unless_late, unless_over, volatile_answer, wait_for}
+use Rattle.dtx_model.specs.Answers.{clone_answer, complete_answer, durable_answer, gone_answer, has_promotion, if_begun, is_crowded, is_done, is_full, is_full_of_durables, local_answer, marshal_answer, places, promotable_answer, status_answer, unless_ended, unless_late, unless_over, volatile_answer, wait_for}
 use Rattle.dtx_model.specs.Words.{has}
 use Rattle.dtx_model.proofs.Bools.{not_false, not_true, or_false, or_first, or_second}
 use Rattle.dependent_clones.specs.Refusals.{clone_refusal}
-use Rattle.local_half.specs.Half.{Known, is_awaited, is_done, is_its_own}
+use Rattle.local_half.specs.Half.{Known, is_awaited, is_its_own}
 use Rattle.local_half.specs.Taken.{HasPlace, cause_for, with_call}
 use Rattle.local_half.proofs.Lists.{not_counted}
 
@@ -305,10 +304,6 @@ may_clone h c k new =
     step true f k = absurd (cc)
     step false true k = absurd (cc)
     step false false k = (refl, refl)
-
-pub volatile_class : (x : EnlistOption) → is_volatile (class_of x) ≡ true
-volatile_class Plain = refl
-volatile_class DuringPrepare = refl
 
 -- a call that is done and makes no entry of its own
 marshal_undone : (t : ℕ) (h : Half) → is_done (unless_over h.seen (marshal_answer t h)) ≡ true → ⊥

@@ -3,8 +3,6 @@ use Rattle.std.specs.Prelude.{ℕ, ◌+◌, ◌==◌, ◌≡◌, ◌≤◌, ◌&
 use Rattle.std.specs.List.{filter_map}
 use Rattle.dtx_values.specs.declared.call.Call.{Call}
 use Rattle.dtx_values.specs.declared.call.Call.TheVariants.{Volatile, Durable, Promotable, Await, Do, Lose, Gone, Reenlist, Recovered}
-use Rattle.dtx_values.specs.declared.entry.Answer.{Answer}
-use Rattle.dtx_values.specs.declared.entry.Answer.TheVariants.{Fine, True, Wait}
 use Rattle.dtx_values.specs.declared.entry.Entry.{Entry}
 use Rattle.dtx_values.specs.declared.entry.Entry.TheVariants.{Lost}
 use Rattle.dtx_values.specs.declared.note.Note.{Note}
@@ -12,6 +10,7 @@ use Rattle.dtx_values.specs.declared.note.Reply.{Reply}
 use Rattle.dtx_values.specs.declared.number.EnlNo.{EnlNo}
 use Rattle.dtx_values.specs.declared.number.TxNo.{TxNo}
 use Rattle.dtx_values.specs.Outgoing.{Outgoing}
+use Rattle.dtx_values.specs.Row.{is_waiting}
 use Rattle.dtx_model.specs.declared.branch.Branch.{Branch}
 use Rattle.dtx_model.specs.Words.{has, kth}
 use Rattle.dtx_model.specs.Observed.{Observed}
@@ -21,7 +20,6 @@ use Rattle.dtx_model.specs.Half.{Half, heeds_all, at_home}
 use Rattle.dtx_model.specs.Replies.{due_of, fits, with_note}
 use Rattle.dtx_model.specs.World.{World, half as half_at, gone_unlinked}
 use Rattle.dtx_model.specs.Caused.{IsOwnRun, is_new}
-use Rattle.enlist_table.specs.Waiting.{is_waiting}
 
 -- the transaction, and what its local side knows of its calls and its history
 pub record Known : Type 0 where
@@ -60,17 +58,6 @@ is_its_own (Gone e) = false
 is_its_own (Reenlist e) = false
 is_its_own (Recovered t r) = false
 is_its_own _ = true
-
--- the call has to wait
-abbrev pub is_wait : Answer → Bool
-is_wait Wait = true
-is_wait _ = false
-
--- the call was done: its facts follow, and it doesn't wait
-abbrev pub is_done : Answer → Bool
-is_done Fine = true
-is_done True = true
-is_done _ = false
 
 -- a call waits for a place of this enlistment
 abbrev pub is_awaited : List Waiter → ℕ → Bool

@@ -1,5 +1,5 @@
 -- Where the right to commit stands, by the history and by what the local side has seen.
-use Rattle.std.specs.Prelude.{Bool, true, false, ◌&&◌, not, List, is_some, if◌then◌else◌}
+use Rattle.std.specs.Prelude.{Bool, ◌&&◌, not, List, is_some, if◌then◌else◌}
 use Rattle.dtx_values.specs.declared.entry.Entry.{Entry}
 use Rattle.dtx_values.specs.declared.entry.Entry.TheVariants.{Decided, Handed, Promoting, Promoted, PromotionFailed, Sent}
 use Rattle.dtx_values.specs.declared.message.Conn.TheVariants.{Begin}
@@ -7,17 +7,13 @@ use Rattle.dtx_values.specs.declared.message.Dir.TheVariants.{Up}
 use Rattle.dtx_values.specs.declared.message.Message.TheVariants.{BeginCommit}
 use Rattle.dtx_values.specs.Ends.{tag_of, was_sent}
 use Rattle.dtx_model.specs.Words.{has}
-use Rattle.dtx_model.specs.Entries.{is_any_hand, is_decision}
+use Rattle.dtx_model.specs.Entries.{is_any_hand, is_commit_sent, is_decision}
 use Rattle.dtx_model.specs.Observed.{Observed}
 use Rattle.dtx_model.specs.Promotes.{is_under_way}
-use Rattle.promotion.specs.Handover.{Promotion, place_of}
+use Rattle.promotion.specs.Handover.{place_of}
 use Rattle.promotion.specs.declared.handing.Right.{Right}
 use Rattle.promotion.specs.declared.handing.Right.TheVariants.{Local, Owner, InFlight, Coordinator, Spent}
-
--- COMMIT was sent to the coordinator
-abbrev pub is_commit_sent : Entry → Bool
-is_commit_sent (Sent Begin Up BeginCommit) = true
-is_commit_sent _ = false
+use Rattle.local_half.specs.Told.{handover_of}
 
 -- RightOf: spent where it is decided; else with the owner where the commit was handed over; else with the coordinator where COMMIT was sent; else in flight where a
 -- promotion is under way; else at the local side
@@ -40,10 +36,6 @@ right_after x r = r
 abbrev pub is_in_one_place : List Entry → Bool
 is_in_one_place h = not (has is_any_hand h && has is_commit_sent h) && not (has is_any_hand h && is_under_way h) && not (has is_commit_sent h && is_under_way h)
 
--- the handover, as the local side has seen it
-abbrev pub handover_seen : Observed → Promotion
-handover_seen o = record { cause = o.cause; stands = o.handover; over = o.promoted; failed = o.failed }
-
 -- the place of the right by what the local side has seen
 abbrev pub right_seen : Observed → Right
-right_seen o = place_of (is_some o.handed) (was_sent Begin (tag_of BeginCommit) o.ends) (is_some o.decided) (handover_seen o)
+right_seen o = place_of (is_some o.handed) (was_sent Begin (tag_of BeginCommit) o.ends) (is_some o.decided) (handover_of o)

@@ -10,11 +10,11 @@ use Rattle.dtx_values.specs.declared.message.Info.{Info}
 use Rattle.dtx_values.specs.declared.message.Message.TheVariants.{EnlistEnlist, EnlistPrepared, EnlistReadonly}
 use Rattle.dtx_values.specs.declared.words.Outcome.TheVariants.{Aborted}
 use Rattle.dtx_model.specs.Words.{all_of, each, has, latest}
-use Rattle.dtx_model.specs.Entries.{decision_of, is_commit_got, is_decision, is_good_vote, is_record, is_sealed, is_vote, is_vote_got, is_yes, is_yes_got}
+use Rattle.dtx_model.specs.Entries.{decision_of, is_commit_got, is_decision, is_good_vote, is_record, is_sealed, is_stop, is_vote, is_vote_got, is_yes, is_yes_got}
 use Rattle.dtx_model.specs.Outcome.{ready}
 use Rattle.dtx_model.specs.Learned.{coordinator_aborted}
 use Rattle.dtx_model.specs.Coordinated.{coordinate, may_log}
-use Rattle.dtx_model.specs.Tied.{before_first_stop, can_log, enlist_got, has_mark, is_logged, is_ready_got, is_stop}
+use Rattle.dtx_model.specs.Tied.{before_first_stop, can_log, enlist_got, has_mark, is_logged, is_ready_got}
 use Rattle.outcome_law.specs.Appended.{are_votes_got, backs_append, has_append, is_abort_decision, stopped_at_append}
 use Rattle.dtx_model.proofs.Bools.{and_both, and_left, and_right, not_both, not_true, or_case, or_false, or_right}
 use Rattle.outcome_law.proofs.Scans.{each_more, has_less, has_more}

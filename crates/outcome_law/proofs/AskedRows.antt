@@ -34,7 +34,7 @@ use Rattle.outcome_law.proofs.Picks.{found_at, has-at}
 use Rattle.outcome_law.proofs.Owned.{has_rows}
 use Rattle.outcome_law.proofs.Fine.{is_made}
 use Rattle.outcome_law.proofs.CausedRows.{listed_made}
-use Rattle.outcome_law.proofs.QuietBlocks.{ActKind, act_kind, is_quiet, q_called, q_commit_sent, q_coordinates, q_core_got, q_ended_at, q_local_got, q_reply}
+use Rattle.outcome_law.proofs.TrailingBlocks.{ActKind, act_kind, is_trailing, trailing_called, trailing_commit_sent, trailing_coordinates, trailing_core_got, trailing_ended_at, trailing_local_got, trailing_reply}
 
 -- who is asked to promote, or for a single phase, was made promotable
 abbrev pub is_asked_promotable : List Entry → Entry → Bool
@@ -42,16 +42,16 @@ is_asked_promotable h (Asked e Promote) = has (is_made e.value is_promotable) h
 is_asked_promotable h (Asked e Single) = has (is_made e.value is_promotable) h
 is_asked_promotable h x = true
 
-quiet_one : (x : Entry) (h : List Entry) → is_quiet x ≡ true → is_asked_promotable h x ≡ true
-quiet_one (Asked e Promote) h q = absurd cc
-quiet_one (Asked e Single) h q = absurd cc
-quiet_one x h q = refl
+trailing_one : (x : Entry) (h : List Entry) → is_trailing x ≡ true → is_asked_promotable h x ≡ true
+trailing_one (Asked e Promote) h q = absurd cc
+trailing_one (Asked e Single) h q = absurd cc
+trailing_one x h q = refl
 
-quiet_onto : (h es : List Entry) → each is_quiet es ≡ true → always is_asked_promotable h ≡ true → always is_asked_promotable (onto h es) ≡ true
-quiet_onto h [] q a = a
-quiet_onto h (x ∷ es) q a =
-    quiet_onto (x ∷ h) es (and_right (is_quiet x) (each is_quiet es) q)
-    (and_both (is_asked_promotable h x) (always is_asked_promotable h) (quiet_one x h (and_left (is_quiet x) (each is_quiet es) q)) a)
+trailing_onto : (h es : List Entry) → each is_trailing es ≡ true → always is_asked_promotable h ≡ true → always is_asked_promotable (onto h es) ≡ true
+trailing_onto h [] q a = a
+trailing_onto h (x ∷ es) q a =
+    trailing_onto (x ∷ h) es (and_right (is_trailing x) (each is_trailing es) q)
+    (and_both (is_asked_promotable h x) (always is_asked_promotable h) (trailing_one x h (and_left (is_trailing x) (each is_trailing es) q)) a)
 
 -- the promotable of the rows was made so
 promotable_made : (h : List Entry) (e : EnlNo) → promotable_in (rows h) ≡ Some e → has (is_made e.value is_promotable) h ≡ true
@@ -69,7 +69,7 @@ promotable_made h e q = by (find (λ x. is_promotable x.class) (rows h)) refl q
 -- after each step
 act_asks : (w : World) (es : List Entry) → ActKind (half w) es → always is_asked_promotable w.past ≡ true → always is_asked_promotable (onto w.past es) ≡ true
 unfolding observe
-act_asks w es (inl q) a = quiet_onto w.past es q.proof a
+act_asks w es (inl q) a = trailing_onto w.past es q.proof a
 act_asks w es (inr (inl p)) a =
     subst (λ (xs : List Entry). always is_asked_promotable (onto w.past xs) ≡ true) (sym p.block)
     (and_both (has (is_made p.who.value is_promotable) w.past) (always is_asked_promotable w.past) (promotable_made w.past p.who p.stands) a)
@@ -77,12 +77,12 @@ act_asks w es (inr (inr (inl p))) a =
     subst (λ (xs : List Entry). always is_asked_promotable (onto w.past xs) ≡ true) (sym p.block)
     (and_both (has (is_made p.who.value is_promotable) w.past) (always is_asked_promotable w.past) (promotable_made w.past p.who p.stands) a)
 act_asks w es (inr (inr (inr s))) a =
-    subst (λ (xs : List Entry). always is_asked_promotable (onto w.past xs) ≡ true) (sym s.block) (quiet_onto (Sealed ∷ w.past) (commit_sent (half w).seen) (q_commit_sent (half w).seen).proof a)
+    subst (λ (xs : List Entry). always is_asked_promotable (onto w.past xs) ≡ true) (sym s.block) (trailing_onto (Sealed ∷ w.past) (commit_sent (half w).seen) (trailing_commit_sent (half w).seen).proof a)
 
 delivered_asks : (t : ℕ) (w : World) (c : Conn) (d : Dir) (ms : List Message) → always is_asked_promotable w.past ≡ true → always is_asked_promotable (onto w.past (delivered t w c d ms)) ≡ true
-delivered_asks t w c d [] a = quiet_onto (Ended c d ∷ w.past) (ended_at w c d) (q_ended_at w c d).proof a
-delivered_asks t w c Up (m ∷ ms) a = quiet_onto (Got c Up m ∷ w.past) (core_got (identifier_of t) (core w) c m) (q_core_got (identifier_of t) (core w) c m).proof a
-delivered_asks t w c Down (m ∷ ms) a = quiet_onto (Got c Down m ∷ w.past) (local_got t (half w) c m) (q_local_got t (half w) c m).proof a
+delivered_asks t w c d [] a = trailing_onto (Ended c d ∷ w.past) (ended_at w c d) (trailing_ended_at w c d).proof a
+delivered_asks t w c Up (m ∷ ms) a = trailing_onto (Got c Up m ∷ w.past) (core_got (identifier_of t) (core w) c m) (trailing_core_got (identifier_of t) (core w) c m).proof a
+delivered_asks t w c Down (m ∷ ms) a = trailing_onto (Got c Down m ∷ w.past) (local_got t (half w) c m) (trailing_local_got t (half w) c m).proof a
 
 restarted_asks : (h : List Entry) (b found : Bool) → always is_asked_promotable h ≡ true → always is_asked_promotable (onto h (restarted b found)) ≡ true
 restarted_asks h true found a = a
@@ -91,12 +91,12 @@ restarted_asks h false found a = a
 step_asks : (t : ℕ) (w : World) (m : Step) → always is_asked_promotable w.past ≡ true → always is_asked_promotable (after t w m).past ≡ true
 unfolding after block_at
 step_asks t w (Calls n x c m) a =
-    quiet_onto (Called n x (answer_at t w c m) ∷ w.past) (facts_if (has_facts (answer_at t w c m)) (facts_at t w c (answer_at t w c m))) (q_called t w c (answer_at t w c m)).proof a
-step_asks t w (Replies e r) a = quiet_onto w.past (reply_entries (half w) e r) (q_reply (half w) e r).proof a
+    trailing_onto (Called n x (answer_at t w c m) ∷ w.past) (facts_if (has_facts (answer_at t w c m)) (facts_at t w c (answer_at t w c m))) (trailing_called t w c (answer_at t w c m)).proof a
+step_asks t w (Replies e r) a = trailing_onto w.past (reply_entries (half w) e r) (trailing_reply (half w) e r).proof a
 step_asks t w Acts a = act_asks w (act_entries (half w)) (act_kind (half w)) a
-step_asks t w (Coordinates x) a = quiet_onto w.past (coordinates (core w) x) (q_coordinates (core w) x).proof a
+step_asks t w (Coordinates x) a = trailing_onto w.past (coordinates (core w) x) (trailing_coordinates (core w) x).proof a
 step_asks t w (Delivers c d) a = delivered_asks t w c d (in_transit c d w.past) a
-step_asks t w Stops a = quiet_onto w.past (Stopped ∷ []) refl a
+step_asks t w Stops a = trailing_onto w.past (Stopped ∷ []) refl a
 step_asks t w (Restarts found) a = restarted_asks w.past (core w).stopped found a
 
 -- so in each world that steps made

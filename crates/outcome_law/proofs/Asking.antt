@@ -7,7 +7,6 @@ use Rattle.dtx_values.specs.declared.entry.Entry.{Entry}
 use Rattle.dtx_values.specs.declared.entry.Entry.TheVariants.{Called, Down as Ended, Enlisted, Got, Requested, Restarted, Sealed, Sent, Stopped}
 use Rattle.dtx_values.specs.declared.message.Conn.{Conn}
 use Rattle.dtx_values.specs.declared.message.Conn.TheVariants.{Begin, Voter, Enl, Again}
-use Rattle.dtx_values.specs.declared.message.Dir.{Dir}
 use Rattle.dtx_values.specs.declared.message.Dir.TheVariants.{Up, Down}
 use Rattle.dtx_values.specs.declared.message.Message.{Message}
 use Rattle.dtx_values.specs.declared.message.Message.TheVariants.{BeginBegin, BeginCommit, VoterAsk, EnlistAck, EnlistEnlist, EnlistPrepare, ReenlistAck}
@@ -27,7 +26,7 @@ use Rattle.dtx_values.specs.Waves.{name_of}
 use Rattle.dtx_model.specs.declared.desk.Ballot.{Ballot}
 use Rattle.dtx_model.specs.declared.desk.Desk.{Desk}
 use Rattle.dtx_model.specs.Words.{always, each, has, onto}
-use Rattle.dtx_model.specs.Entries.{is_commit_got, is_decision, is_promoted, is_sealed}
+use Rattle.dtx_model.specs.Entries.{is_commit_got, is_commit_sent, is_decision, is_promoted, is_sealed}
 use Rattle.dtx_model.specs.Observed.{Observed, is_request, observe, rows}
 use Rattle.dtx_model.specs.Promotes.{identifier_of, is_promoting}
 use Rattle.dtx_model.specs.Wires.{MayCross, in_transit}
@@ -60,9 +59,14 @@ use Rattle.outcome_law.proofs.Debts.{has_promotable}
 no : false ≡ true → ⊥
 no e = absurd cc
 
--- COMMIT is sent; PREPARE is sent to this enlistment
-abbrev pub is_commit_sent : Entry → Bool
-is_commit_sent x = is_sent_on Begin Up COMMIT x
+-- COMMIT is what is sent upward on the connection of begin
+pub sent_commit : (x : Entry) → is_sent_on Begin Up COMMIT x ≡ is_commit_sent x
+sent_commit (Sent Begin Up BeginCommit) = refl
+sent_commit _ = refl
+
+sent_commits : (h : List Entry) → has (is_sent_on Begin Up COMMIT) h ≡ has is_commit_sent h
+sent_commits [] = refl
+sent_commits (x ∷ h) = ap (λ b. b || has (is_sent_on Begin Up COMMIT) h) (sent_commit x) ∙ ap (λ b. is_commit_sent x || b) (sent_commits h)
 
 -- where COMMIT is sent it was requested, or nothing is promotable
 abbrev pub is_lone : List Entry → Entry → Bool
@@ -76,14 +80,17 @@ pub record IsAsking (h : List Entry) : Type 0 where
   pub asks : (e : EnlNo) → always (is_first_sent (Enl e) Down PREPARE) h ≡ true
 
 -- an entry that sends neither keeps it
-pub bare_uncommit : (x : Entry) → is_bare x ≡ true → is_commit_sent x ≡ false
-bare_uncommit (Sent c Up m) t = ap (λ b. same_connection Begin c && true && b) (not_true (COMMIT m) t) ∙ and_never (same_connection Begin c && true)
-bare_uncommit (Sent c Down m) t = down (same_connection Begin c) (COMMIT m)
+bare_unsent : (x : Entry) → is_bare x ≡ true → is_sent_on Begin Up COMMIT x ≡ false
+bare_unsent (Sent c Up m) t = ap (λ b. same_connection Begin c && true && b) (not_true (COMMIT m) t) ∙ and_never (same_connection Begin c && true)
+bare_unsent (Sent c Down m) t = down (same_connection Begin c) (COMMIT m)
   where
     down : (a b : Bool) → (a && false && b) ≡ false
     down true b = refl
     down false b = refl
-bare_uncommit _ t = refl
+bare_unsent _ t = refl
+
+pub bare_uncommit : (x : Entry) → is_bare x ≡ true → is_commit_sent x ≡ false
+bare_uncommit x t = sym (sent_commit x) ∙ bare_unsent x t
 
 bare_unasked : (e : EnlNo) (x : Entry) → is_bare x ≡ true → is_sent_on (Enl e) Down PREPARE x ≡ false
 bare_unasked e (Sent c Down m) t = ap (λ b. same_connection (Enl e) c && true && b) (not_true (PREPARE m) t) ∙ and_never (same_connection (Enl e) c && true)
@@ -102,7 +109,9 @@ one_more : (x : Entry) (h : List Entry) → (is_commit_sent x ≡ true → (has 
     → ((e : EnlNo) → is_sent_on (Enl e) Down PREPARE x ≡ false) → IsAsking h → IsAsking (x ∷ h)
 one_more x h f g i =
     record {
-      first = and_both (is_first_sent Begin Up COMMIT h x) (always (is_first_sent Begin Up COMMIT) h) (sure (is_commit_sent x) (has is_commit_sent h) (λ t. (f t).0)) i.first;
+      first =
+          and_both (is_first_sent Begin Up COMMIT h x) (always (is_first_sent Begin Up COMMIT) h)
+          (sure (is_sent_on Begin Up COMMIT x) (has (is_sent_on Begin Up COMMIT) h) (λ t. sent_commits h ∙ (f (sym (sent_commit x) ∙ t)).0)) i.first;
       lone = and_both (is_lone h x) (always is_lone h) (owns (is_commit_sent x) (has is_request h || not (has_promotable h)) (λ t. (f t).1)) i.lone;
       asks = λ e. and_both (is_first_sent (Enl e) Down PREPARE h x) (always (is_first_sent (Enl e) Down PREPARE) h) (unless_sent (is_sent_on (Enl e) Down PREPARE x) _ (g e)) (i.asks e);
     }
@@ -125,11 +134,7 @@ bare_onto h (x ∷ es) b i =
 
 -- COMMIT is sent after the seal
 sent_is : (x : Entry) → is_commit_sent x ≡ true → x ≡ Sent Begin Up BeginCommit
-sent_is (Sent c r m) t = by c r m (and_left (same_connection Begin c && same_direction Up r) (COMMIT m) t) (and_right (same_connection Begin c && same_direction Up r) (COMMIT m) t)
-  where
-    by : (c : Conn) (r : Dir) (m : Message) → (same_connection Begin c && same_direction Up r) ≡ true → COMMIT m ≡ true → Sent c r m ≡ Sent Begin Up BeginCommit
-    by Begin Up BeginCommit s t = refl
-    by _ _ _ s t = absurd cc
+sent_is (Sent Begin Up BeginCommit) t = refl
 sent_is _ t = absurd (no t)
 
 commit_row : (h : List Entry) → rule h (Sent Begin Up BeginCommit) ≡ true → has is_sealed h ≡ true
@@ -171,7 +176,7 @@ asked_up : (o : Observed) (h : List Entry) (m : Message) → IsAsking h → (COM
 asked_up o h m i f = by (knows Begin o.ends)
   where
     by : (b : Bool) → IsAsking (onto h (if b then Sent Begin Up m ∷ [] else []))
-    by true = one_more (Sent Begin Up m) h f (λ e. refl) i
+    by true = one_more (Sent Begin Up m) h (λ t. f (sent_commit (Sent Begin Up m) ∙ t)) (λ e. refl) i
     by false = i
 
 seal_asking : (h : List Entry) (v : Half) → v.seen ≡ observe h → Keeps h → Seals v (act_entries v) → IsAsking h → IsAsking (onto h (act_entries v))
@@ -399,7 +404,7 @@ prepare_committed e (Sent c r m) h k q t =
     prepare_row h c m (and_right (same_connection (Enl e) c && same_direction Down r) (PREPARE m) t) (fourth_of_four (has_line c r m) (has is_promoting h) (is_there h c r m) (message_row h c m) q)
 prepare_committed e _ h k q t = absurd (no t)
 
-commit_on : (x : Entry) → is_commit_got x ≡ true → is_got_on Begin Up COMMIT x ≡ true
+pub commit_on : (x : Entry) → is_commit_got x ≡ true → is_got_on Begin Up COMMIT x ≡ true
 commit_on (Got Begin Up BeginCommit) t = refl
 commit_on _ t = absurd (no t)
 
@@ -420,19 +425,15 @@ is_downward (Sent c Down m) = true
 is_downward _ = false
 
 downward_uncommit : (x : Entry) → is_downward x ≡ true → is_commit_sent x ≡ false
-downward_uncommit (Sent c Down m) t = by (same_connection Begin c) (COMMIT m)
-  where
-    by : (a b : Bool) → (a && false && b) ≡ false
-    by true b = refl
-    by false b = refl
-downward_uncommit _ t = absurd (no t)
+downward_uncommit (Sent Begin Up m) t = absurd (no t)
+downward_uncommit _ t = refl
 
 first_onto : (h es : List Entry) → each is_downward es ≡ true → always (is_first_sent Begin Up COMMIT) h ≡ true → always (is_first_sent Begin Up COMMIT) (onto h es) ≡ true
 first_onto h [] d a = a
 first_onto h (x ∷ es) d a =
     first_onto (x ∷ h) es (and_right (is_downward x) (each is_downward es) d)
     (and_both (is_first_sent Begin Up COMMIT h x) (always (is_first_sent Begin Up COMMIT) h)
-    (unless_sent (is_commit_sent x) _ (downward_uncommit x (and_left (is_downward x) (each is_downward es) d))) a)
+    (unless_sent (is_sent_on Begin Up COMMIT x) _ (sent_commit x ∙ downward_uncommit x (and_left (is_downward x) (each is_downward es) d))) a)
 
 lone_onto : (h es : List Entry) → each is_downward es ≡ true → always is_lone h ≡ true → always is_lone (onto h es) ≡ true
 lone_onto h [] d a = a

@@ -15,9 +15,9 @@ use Rattle.dtx_values.specs.declared.words.Vote.TheVariants.{Yes, Done}
 use Rattle.dtx_values.specs.Ends.{same_connection}
 use Rattle.dtx_values.specs.Lines.{has_line, is_opening}
 use Rattle.dtx_model.specs.Words.{always, has, each, all_of}
-use Rattle.dtx_model.specs.Entries.{is_commit_got, is_record, is_asked, is_decision, is_lost, is_promoted, is_sealed, is_vote, is_yes, is_yes_got}
+use Rattle.dtx_model.specs.Entries.{is_commit_got, is_record, is_asked, is_decision, is_lost, is_promoted, is_sealed, is_vote, is_yes, is_yes_got, is_stop}
 use Rattle.dtx_model.specs.Promotes.{is_begun_got, is_promoting, is_created_got, is_under_way}
-use Rattle.dtx_model.specs.Tied.{has_mark, enlist_got, is_logged, is_ready_got, is_stop}
+use Rattle.dtx_model.specs.Tied.{has_mark, enlist_got, is_logged, is_ready_got}
 use Rattle.dtx_model.specs.Wires.{opens}
 use Rattle.dtx_model.proofs.Bools.{and_both, and_left, and_right, not_both, not_true, not_false, or_case, or_right}
 use Rattle.std.proofs.lemmas.Bool.{false_from_ne_true, or_left}

@@ -4,13 +4,14 @@ use Rattle.dtx_values.specs.declared.call.Call.{Call}
 use Rattle.dtx_values.specs.declared.entry.Entry.{Entry}
 use Rattle.dtx_values.specs.declared.number.ActorNo.{ActorNo}
 use Rattle.dtx_values.specs.declared.script.Line.{Line}
+use Rattle.dtx_model.specs.Answers.{is_done}
 use Rattle.dtx_model.specs.Words.{onto}
 use Rattle.dtx_model.specs.Observed.{observe}
 use Rattle.dtx_model.specs.Caused.{IsCallOf, AreMadeOnce, FreelyCaused, IsIn, IsOwnRun, is_unpromoted}
 use Rattle.dtx_model.specs.Grammar.{are_named_well}
 use Rattle.dtx_model.specs.World.{World}
 use Rattle.dtx_model.specs.Steps.{Step, Calls, Replies, Acts}
-use Rattle.dtx_model.proofs.Narrow.{answer, is_done, act_entries, block}
+use Rattle.dtx_model.proofs.Narrow.{answer, act_entries, block}
 use Rattle.outcome_law.proofs.Runs.{MayComeLocal, RanLocal, IsLocalRun, free_run, own_free}
 use Rattle.outcome_law.proofs.Going.{IsKept}
 use Rattle.outcome_law.proofs.Calls.{call_keeps}

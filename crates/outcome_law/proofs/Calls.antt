@@ -11,8 +11,6 @@ use Rattle.dtx_values.specs.declared.entry.Entry.{Entry}
 use Rattle.dtx_values.specs.declared.entry.Entry.TheVariants.{Called, Began, Enlisted, CommitAsked, Clock, Late, Init, Lost}
 use Rattle.dtx_values.specs.declared.limits.TheConstants.{DURABLES, ENLISTMENTS}
 use Rattle.dtx_values.specs.declared.number.EnlNo.{EnlNo}
-use Rattle.dtx_values.specs.declared.script.EnlistOption.{EnlistOption}
-use Rattle.dtx_values.specs.declared.script.EnlistOption.TheVariants.{Plain, DuringPrepare}
 use Rattle.dtx_values.specs.declared.words.Class.TheVariants.{DurableSingle, Promotable as PromotableClass}
 use Rattle.dtx_values.specs.declared.words.Outcome.{Outcome}
 use Rattle.dtx_values.specs.declared.row.Row.{Row}
@@ -25,15 +23,15 @@ use Rattle.dtx_model.specs.Observed.{observe, rows, clone_rows, clock}
 use Rattle.dtx_model.specs.Outcome.{is_empty, ready, by_seal, by_owner, by_log, evidence, is_veto}
 use Rattle.dtx_values.specs.Support.{is_single}
 use Rattle.dtx_values.specs.Row.{is_lasting, is_of}
-use Rattle.dtx_model.specs.Answers.{limit_of, class_of, if_begun, unless_ended, wait_for, clone_answer, complete_answer, gone_answer, unless_late}
+use Rattle.dtx_model.specs.Answers.{limit_of, class_of, if_begun, unless_ended, wait_for, clone_answer, complete_answer, gone_answer, unless_late, is_done}
 use Rattle.dtx_model.specs.Facts.{ticked, reaches, facts_if}
-use Rattle.dtx_model.proofs.Narrow.{volatile_answer, durable_answer, promotable_answer, answer, is_done}
+use Rattle.dtx_model.proofs.Narrow.{volatile_answer, durable_answer, promotable_answer, answer}
 use Rattle.dtx_values.specs.Owners.{is_evident, cause_of, may_own}
-use Rattle.dtx_model.specs.Half.{is_gone, is_handed}
-use Rattle.dtx_model.proofs.Narrow.{veto_if, is_late, time_up, lost_outcome, decided_if, facts}
+use Rattle.dtx_model.specs.Half.{is_gone, is_handed, lost_outcome}
+use Rattle.dtx_model.proofs.Narrow.{veto_if, is_late, time_up, decided_if, facts}
 use Rattle.dtx_model.specs.Caused.{is_new}
 use Rattle.dtx_model.proofs.Bools.{and_both, or_first, or_second, not_false, not_true, or_right}
-use Rattle.dtx_model.proofs.Unowned.{causeless}
+use Rattle.dtx_model.proofs.Unowned.{causeless, volatile_class}
 use Rattle.outcome_law.proofs.Rule.{is_answer, is_enlisted, rule, ruled}
 use Rattle.outcome_law.proofs.TableRows.{none_there, enlisted_in_rows, evident_seen, commit_vetoed, clone_stands}
 use Rattle.outcome_law.proofs.Evidence.{evidence-sealed}
@@ -102,11 +100,6 @@ gone_done None stands lost k = absurd cc
 gone_done (Some n) false lost k = absurd cc
 gone_done (Some n) true true k = absurd cc
 gone_done (Some n) true false k = (refl, refl)
-
--- what a call of volatile enlists is volatile
-pub volatile_class : (x : EnlistOption) → is_volatile (class_of x) ≡ true
-volatile_class Plain = refl
-volatile_class DuringPrepare = refl
 
 -- commit keeps it, whether it is a veto or none
 asked_commit : (h : List Entry) (b : Bool) → IsKept h → has is_decision h ≡ false → has is_commit h ≡ false → is_veto h CommitAsked ≡ b → IsKept (onto h (CommitAsked ∷ veto_if b))

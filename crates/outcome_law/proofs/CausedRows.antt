@@ -19,7 +19,7 @@ use Rattle.dtx_values.specs.declared.words.Outcome.TheVariants.{Committed, Abort
 use Rattle.dtx_values.specs.declared.words.Vote.TheVariants.{Yes, No, Done}
 use Rattle.dtx_values.specs.Class.{is_promotable, is_volatile}
 use Rattle.dtx_model.specs.Words.{has, always, latest}
-use Rattle.dtx_model.specs.Entries.{decision_of, is_decision, is_hand, is_promoted, is_sealed, is_yes, same_outcome}
+use Rattle.dtx_model.specs.Entries.{decision_of, is_decision, is_hand, is_promoted, is_restart, is_sealed, is_yes, same_outcome}
 use Rattle.dtx_model.specs.Learned.{coordinator_aborted}
 use Rattle.dtx_model.specs.Outcome.{can_own, durables, enlisted, evidence, hears_doubt, is_veto}
 use Rattle.dtx_model.specs.Promotes.{ends_refused, ends_told, is_refusal, is_under_way}
@@ -29,7 +29,7 @@ use Rattle.outcome_law.proofs.Scans.{has_more}
 use Rattle.outcome_law.proofs.Owned.{has_filter}
 use Rattle.outcome_law.proofs.Rule.{is_answer, is_certain, is_decided, is_enlisted, is_only}
 use Rattle.outcome_law.proofs.Going.{is_no_vote}
-use Rattle.outcome_law.proofs.Fine.{any_class, blames, ends_aborted, ends_requested, has_cause, is_caused, is_made, is_restart}
+use Rattle.outcome_law.proofs.Fine.{any_class, blames, ends_aborted, ends_requested, has_cause, is_caused, is_made}
 use Rattle.outcome_law.proofs.Table.{brings, but_failed, decision_row, ends_again, ends_called_off, ends_with, hears_decision, hears_here, is_abort_decided, is_abort_request, is_cast, is_lost_there, message_row, rule, stands_promotable}
 use Rattle.outcome_law.proofs.Keeping.{Keeps, keeps_before, newest}
 use Rattle.outcome_law.proofs.Evident.{hand_stands}

@@ -16,7 +16,7 @@ use Rattle.dtx_values.specs.declared.words.Outcome.TheVariants.{Committed}
 use Rattle.dtx_values.specs.declared.words.Vote.{Vote}
 use Rattle.dtx_values.specs.declared.words.Vote.TheVariants.{Yes, No, Done}
 use Rattle.dtx_model.specs.Words.{has, always}
-use Rattle.dtx_model.specs.Entries.{is_asked, is_decision, is_promoted, is_record, is_sealed, is_vote, is_yes}
+use Rattle.dtx_model.specs.Entries.{is_asked, is_decision, is_promoted, is_record, is_restart, is_sealed, is_vote, is_yes}
 use Rattle.dtx_model.specs.Tied.{is_logged}
 use Rattle.dtx_model.specs.Wires.{WireRun}
 use Rattle.dtx_model.specs.Observed.{ends_of}
@@ -26,7 +26,7 @@ use Rattle.dtx_values.specs.Lines.{is_opening}
 use Rattle.dtx_values.specs.Class.{is_promotable}
 use Rattle.dtx_values.specs.Ends.{knows, same_connection, same_direction}
 use Rattle.dtx_model.proofs.Bools.{and_left, and_right, and_both, not_false, not_true, not_both, or_case, or_first, or_second, or_right}
-use Rattle.outcome_law.proofs.Fine.{IsFine, is_bad, is_restart}
+use Rattle.outcome_law.proofs.Fine.{IsFine, is_bad}
 use Rattle.outcome_law.proofs.Messages.{ASK, BEGIN, BEGUN, COMMIT, COMMITTED, CREATED, PREPARE, VOTE, VOTED, YES}
 use Rattle.outcome_law.proofs.Debts.{has_promotable, is_decided_committed, is_volatile_made, knows_there}
 use Rattle.outcome_law.proofs.Knowledge.{got_known, knows_got}

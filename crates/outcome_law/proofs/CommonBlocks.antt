@@ -26,11 +26,12 @@ use Rattle.dtx_model.specs.Coordinated.{Coordinated, core_got}
 use Rattle.dtx_model.specs.Half.{Half, sees, decide, veto, stands, is_gone, was_told}
 use Rattle.dtx_model.specs.Arrivals.{unless_decided, told_abort, arrived, aborted_by, local_got}
 use Rattle.dtx_model.specs.Acts.{tell, is_to_tell, act_by, act_entries}
+use Rattle.dtx_model.specs.Calls.{is_gone_call}
 use Rattle.dtx_model.specs.Replies.{reply_entries}
 use Rattle.dtx_model.specs.Facts.{facts_if, has_facts}
 use Rattle.dtx_model.specs.World.{World, half, core, cut_upward, facts_at, gone_by, gone_decides, answer_at}
 use Rattle.dtx_model.specs.Steps.{LogAnswer, coordinates, ended_at, restarted, Step, Calls, Replies, Acts, Coordinates, Delivers, Stops, Restarts, block_at, delivered}
-use Rattle.dtx_model.proofs.Writes.{Each, e_one, IsClosed, each_closed, Source, ByCall, ByReply, ByMessage, ByAct, is_tick, is_losing, is_returning, is_telling, ticks, loses, returns, tells, sends, writes, is_outcome_message}
+use Rattle.dtx_model.proofs.Writes.{Each, e_one, IsClosed, each_closed, Source, ByCall, ByReply, ByMessage, ByAct, is_tick, is_returning, is_telling, ticks, loses, returns, tells, sends, writes, is_outcome_message}
 use Rattle.dtx_model.proofs.Blocks.{of_core_got, of_core_down, of_coordinates, of_restarted, of_veto, of_unless, of_local_down, of_arrived, of_whole_act, of_reply, of_gone_decides, of_cuts, of_called}
 use Rattle.dtx_model.proofs.Bools.{and_both, and_right, not_both, or_first, or_second}
 use Rattle.dtx_values.specs.Lines.{has_line}
@@ -106,7 +107,7 @@ common_reply h e r = of_reply common h e r (common_entry (ByReply r) refl refl r
 
 -- the call moves the clock, or brings an enlistment back or loses one
 abbrev pub is_marking : Call → Bool
-is_marking c = is_tick c || is_returning c || is_losing c
+is_marking c = is_tick c || is_returning c || is_gone_call c
 
 -- what stands after a loss
 abbrev pub gone_rest : World → EnlNo → List Conn → List Entry
@@ -124,9 +125,9 @@ common_gone w e (c ∷ cs) = of_cuts common [] w (c ∷ cs) (λ d n m. e_one (Cu
 -- what stands after a call that is none of these
 pub common_called : (t : ℕ) (w : World) (c : Call) (a : Answer) → is_marking c ≡ false → Common (facts_if (has_facts a) (facts_at t w c a))
 common_called t w c a g =
-    let early = or_first (is_tick c || is_returning c) (is_losing c) g in
+    let early = or_first (is_tick c || is_returning c) (is_gone_call c) g in
     of_called common t w c a
-    (common_entry (ByCall c) (or_first (is_tick c) (is_returning c) early) refl (or_second (is_tick c || is_returning c) (is_losing c) g) (or_second (is_tick c) (is_returning c) early))
+    (common_entry (ByCall c) (or_first (is_tick c) (is_returning c) early) refl (or_second (is_tick c || is_returning c) (is_gone_call c) g) (or_second (is_tick c) (is_returning c) early))
     (λ d n m. e_one (Cut d n m) refl) (λ r. e_one (RecoveredEntry r) refl)
 
 pub common_coordinates : (k : Coordinated) (a : LogAnswer) → Common (coordinates k a)

@@ -21,11 +21,11 @@ use Rattle.dtx_model.specs.declared.desk.Desk.{Desk}
 use Rattle.dtx_model.specs.declared.desk.Stage.{Stage}
 use Rattle.dtx_model.specs.declared.desk.Stage.TheVariants.{Idle, Active, Aborted, Recorded, Over, Unknown}
 use Rattle.dtx_model.specs.Words.{all_of, each, ever, has}
-use Rattle.dtx_model.specs.Entries.{is_commit_got, is_record, is_vote_got, is_yes_got}
+use Rattle.dtx_model.specs.Entries.{is_commit_got, is_record, is_stop, is_vote_got, is_yes_got}
 use Rattle.dtx_model.specs.Outcome.{is_veto_end}
 use Rattle.dtx_model.specs.Learned.{coordinator_aborted, is_abort, is_first_abort}
 use Rattle.dtx_model.specs.Promotes.{is_begun_got, is_promoting}
-use Rattle.dtx_model.specs.Tied.{can_log, enlist_got, is_logged, is_ready_got, is_stop}
+use Rattle.dtx_model.specs.Tied.{can_log, enlist_got, is_logged, is_ready_got}
 use Rattle.dtx_model.specs.Wires.{WireRun, opens}
 use Rattle.dtx_model.specs.Caused.{is_begin_sent}
 use Rattle.dtx_model.specs.Coordinated.{Coordinated, abort_if, aborts, accepts, ballot_of, begin_if, behind_restart, coordinate, desk_number, desks_after, follow, has_aborted, has_voted, is_active, is_desk_of, is_early, is_ready, is_undecided, may_log, stage_after, with_ack, with_ballot}

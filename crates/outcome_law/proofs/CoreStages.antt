@@ -19,10 +19,10 @@ use Rattle.dtx_model.specs.declared.desk.Desk.{Desk}
 use Rattle.dtx_model.specs.declared.desk.Stage.{Stage}
 use Rattle.dtx_model.specs.declared.desk.Stage.TheVariants.{Idle, Active, Recorded, Over}
 use Rattle.dtx_model.specs.Words.{each, ever, has}
-use Rattle.dtx_model.specs.Entries.{is_commit_got, is_record, is_vote_got, is_yes_got}
+use Rattle.dtx_model.specs.Entries.{is_commit_got, is_record, is_stop, is_vote_got, is_yes_got}
 use Rattle.dtx_model.specs.Outcome.{is_veto_end}
 use Rattle.dtx_model.specs.Learned.{coordinator_aborted, is_abort, is_first_abort}
-use Rattle.dtx_model.specs.Tied.{has_mark, is_ready_got, is_stop}
+use Rattle.dtx_model.specs.Tied.{has_mark, is_ready_got}
 use Rattle.dtx_model.specs.Wires.{is_stopped}
 use Rattle.dtx_model.specs.Coordinated.{Coordinated, abort_if, aborts, accepts, ballot_of, begin_if, behind_restart, coordinate, desk_number, follow, has_voted, is_active, is_desk_of, is_early, is_prepared, is_ready, is_recorded, is_undecided, kept_desks, stage_after, unacked, with_ack, with_ballot, without}
 use Rattle.dtx_model.proofs.Bools.{and_left, and_right, and_both, not_both, not_false, not_true, or_case, or_false, or_right}

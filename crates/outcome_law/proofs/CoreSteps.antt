@@ -18,9 +18,10 @@ use Rattle.dtx_model.specs.Wires.{in_transit, is_ended, is_lost_wire}
 use Rattle.dtx_model.specs.World.{World, has_left}
 use Rattle.dtx_model.specs.Steps.{Step, Calls, Replies, Acts, Coordinates, Delivers, Stops, Restarts, after, block_at, delivered}
 use Rattle.dtx_model.specs.Caused.{MayCome}
+use Rattle.dtx_model.specs.Coordinated.{is_enlisting}
 use Rattle.outcome_law.proofs.Table.{ruled}
 use Rattle.outcome_law.proofs.Keeping.{Keeps}
-use Rattle.outcome_law.proofs.CoreBlocks.{act_ruled, end_ruled, got_ruled, is_enlisting, restart_ruled, stops_ruled}
+use Rattle.outcome_law.proofs.CoreBlocks.{act_ruled, end_ruled, got_ruled, restart_ruled, stops_ruled}
 use Rattle.dtx_model.proofs.Quiet.{is_end, takes_next}
 
 -- the step is of the coordinator's side

@@ -15,6 +15,7 @@ use Rattle.dtx_values.specs.Class.{is_promotable}
 use Rattle.dtx_values.specs.Vote.{is_no}
 use Rattle.dtx_model.specs.Words.{has, always, latest}
 use Rattle.dtx_model.specs.Entries.{decision_of, same_outcome}
+pub use Rattle.dtx_model.specs.Entries.{is_restart}
 use Rattle.dtx_model.specs.History.{is_asked_in_time}
 use Rattle.dtx_model.specs.Learned.{coordinator_aborted}
 use Rattle.dtx_model.specs.Outcome.{can_own, doubt}
@@ -97,10 +98,6 @@ abbrev pub ends_aborted : List Entry → Bool
 ends_aborted (Got (Enl e) Down EnlistAbort ∷ h) = true
 ends_aborted (Got (Again e) Down ReenlistAborted ∷ h) = true
 ends_aborted _ = false
-
-abbrev pub is_restart : Entry → Bool
-is_restart (Restarted found) = true
-is_restart _ = false
 
 -- a message that is sent: an abort or a No of the local side for its cause, and what else is bad where the coordinator has aborted or was started again
 abbrev pub has_cause : List Entry → Message → Bool

@@ -35,7 +35,7 @@ use Rattle.dtx_model.specs.Observed.{handover, observe, rows, track}
 use Rattle.dtx_model.specs.Outcome.{enlisted}
 use Rattle.dtx_model.specs.Promotes.{identifier_of}
 use Rattle.dtx_model.specs.Wires.{in_transit}
-use Rattle.dtx_model.specs.Answers.{class_of}
+use Rattle.dtx_model.specs.Answers.{class_of, is_waiting_answer}
 use Rattle.dtx_model.specs.Waiting.{Waiter, call_at, is_place_of, managed, managed_by}
 use Rattle.dtx_model.specs.Half.{Half, by_manager, enlist_sent, given, is_handed, is_promoting, over, promoted_by, sees}
 use Rattle.dtx_model.specs.Arrivals.{arrived, created, enlisted_at, hand_over, local_got, place_given}
@@ -53,7 +53,7 @@ use Rattle.outcome_law.proofs.TableRows.{each_rows}
 use Rattle.outcome_law.proofs.PlainBlocks.{Plain, is_plain, plain_act, plain_arrived, plain_begin_promotion, plain_called, plain_coordinates, plain_core_got, plain_ended_at, plain_reply, plain_restarted}
 use Rattle.outcome_law.proofs.PaidBlocks.{is_manager_of}
 use Rattle.outcome_law.proofs.Prepared.{has_after}
-use Rattle.outcome_law.proofs.Waiters.{is_waiting_answer, own_call, promotable_gives}
+use Rattle.outcome_law.proofs.Waiters.{own_call, promotable_gives}
 
 -- an enlistment is volatile, or has a manager
 abbrev is_managed : List (EnlNo × RmNo) → EnlNo × Class → Bool

@@ -153,7 +153,7 @@ pub mod AskedWhom
 pub mod NewMade
 pub mod Steady
 pub mod CausedRows
-pub mod QuietBlocks
+pub mod TrailingBlocks
 pub mod MildBlocks
 pub mod Ending
 pub mod Announced

@@ -12,6 +12,7 @@ use Rattle.dtx_values.specs.declared.number.TxNo.{TxNo}
 use Rattle.dtx_values.specs.declared.scope.OpenScope.{OpenScope}
 use Rattle.dtx_values.specs.declared.script.Line.{Line}
 use Rattle.dtx_values.specs.declared.trace.Place.TheVariants.{Transaction}
+use Rattle.dtx_model.specs.Answers.{is_waiting_answer}
 use Rattle.dtx_model.specs.Words.{each, has, kth, onto, past_of}
 use Rattle.dtx_model.specs.Observed.{observe}
 use Rattle.dtx_model.specs.Calls.{call_of}
@@ -26,7 +27,7 @@ use Rattle.dtx_model.proofs.Bools.{and_both, and_left, and_right, not_both, not_
 use Rattle.dtx_model.proofs.Histories.{history-noted, history-other, history-same}
 use Rattle.dtx_model.proofs.Local.{IsNarrow, call_local, step-narrow, waits_promotes}
 use Rattle.dtx_model.proofs.Narrow.{answer, block}
-use Rattle.dtx_model.proofs.NarrowFacts.{call-narrow, is_wait}
+use Rattle.dtx_model.proofs.NarrowFacts.{call-narrow}
 use Rattle.dtx_model.proofs.Reading.{each-onto}
 use Rattle.dtx_model.proofs.Unpromoted.{are_local, is_local}
 use Rattle.outcome_law.proofs.Runs.{MayComeLocal, may_come}
@@ -142,10 +143,10 @@ taken_call s t n a c k T p l =
     let w : World = world_at s t T in
     let es : List Entry = block_in s t (Calls n a c k) T in
     let quiet = block_unpromoted t T es l in
-    let waits : is_wait (answer (observe w.past) c k) ≡ false = by_wait (answer (observe w.past) c k) (λ e. not_both (has is_promoting_entry es) (waits_promotes t.value w n a c k p e) quiet) in
+    let waits : is_waiting_answer (answer (observe w.past) c k) ≡ false = by_wait (answer (observe w.past) c k) (λ e. not_both (has is_promoting_entry es) (waits_promotes t.value w n a c k p e) quiet) in
     taken s t (Calls n a c k) T (call-narrow t.value w n a c k p waits) (call_local (observe w.past) n a c k waits)
   where
-    by_wait : (x : Answer) → (x ≡ Wait → ⊥) → is_wait x ≡ false
+    by_wait : (x : Answer) → (x ≡ Wait → ⊥) → is_waiting_answer x ≡ false
     by_wait Wait f = absurd (f refl)
     by_wait _ f = refl
 

@@ -40,7 +40,7 @@ use Rattle.dtx_model.specs.Wires.{WireRun, in_transit}
 use Rattle.dtx_model.specs.Waiting.{Waiter, call_at, class_by, is_place_of, managed, managed_by, waiter_line, waiting, wanted, wanted_by}
 use Rattle.dtx_model.specs.Half.{Half, by_manager, enlist_sent, given, half_of, info, is_handed, is_promoting, over, promoted_by, sees}
 use Rattle.dtx_model.specs.Arrivals.{arrived, created, enlisted_at, hand_over, local_got, place_given}
-use Rattle.dtx_model.specs.Answers.{class_of}
+use Rattle.dtx_model.specs.Answers.{class_of, is_waiting_answer}
 use Rattle.dtx_model.specs.Acts.{act_entries}
 use Rattle.dtx_model.specs.Replies.{reply_entries}
 use Rattle.dtx_model.specs.Facts.{begin_promotion, durable_facts, facts_if, has_facts}
@@ -60,7 +60,7 @@ use Rattle.outcome_law.proofs.Debts.{is_volatile_made}
 use Rattle.outcome_law.proofs.OnTheWay.{is_unplaced}
 use Rattle.outcome_law.proofs.Openings.{once_sent}
 use Rattle.outcome_law.proofs.PlainBlocks.{Plain, is_plain, plain_act, plain_arrived, plain_begin_promotion, plain_called, plain_coordinates, plain_core_got, plain_ended_at, plain_reply, plain_restarted}
-use Rattle.outcome_law.proofs.Waiters.{is_waiting_answer, own_call, promotable_gives, volatile_gives}
+use Rattle.outcome_law.proofs.Waiters.{own_call, promotable_gives, volatile_gives}
 use Rattle.outcome_law.proofs.Crossed.{is_sent_on, is_got_on}
 
 -- the call makes this enlistment: any, a volatile one, or a durable or promotable one

@@ -14,10 +14,10 @@ use Rattle.dtx_model.specs.Wires.{WireRun, in_transit, is_next}
 use Rattle.dtx_model.specs.World.{World}
 use Rattle.dtx_model.specs.Steps.{Step, Delivers, after, block_at}
 use Rattle.dtx_model.specs.Caused.{Ran}
+use Rattle.dtx_model.specs.Entries.{is_restart}
 use Rattle.dtx_model.proofs.Bools.{and_right, or_second}
 use Rattle.outcome_law.proofs.Whole.{whole}
 use Rattle.outcome_law.proofs.Messages.{ENLIST, ENLISTED}
-use Rattle.outcome_law.proofs.Fine.{is_restart}
 use Rattle.outcome_law.proofs.Rest.{is_after_start, is_sound}
 use Rattle.outcome_law.proofs.Arrived.{before}
 use Rattle.outcome_law.proofs.Openings.{once_sent}

@@ -17,16 +17,17 @@ use Rattle.dtx_values.specs.declared.script.Body.TheVariants.{Volatile as Volati
 use Rattle.dtx_values.specs.declared.script.Line.{Line}
 use Rattle.dtx_values.specs.Row.{is_of}
 use Rattle.dtx_values.specs.Clones.{is_clone, is_open_rollback}
+use Rattle.dtx_model.specs.Answers.{is_done}
 use Rattle.dtx_model.specs.Words.{has, each, always, kth, onto}
 use Rattle.dtx_model.specs.Entries.{is_call}
 use Rattle.dtx_model.specs.Observed.{Observed, observe, rows, clone_rows}
 use Rattle.dtx_model.specs.Contexts.{calls_by, lines_before}
 use Rattle.dtx_values.specs.Table.{voted}
 use Rattle.dtx_model.specs.Calls.{call_of, complete_call, transaction_of, gone_call, reenlist_call, transaction_with}
-use Rattle.dtx_model.specs.Half.{is_handed}
+use Rattle.dtx_model.specs.Half.{is_handed, lost_outcome}
 use Rattle.dtx_model.specs.Facts.{facts_if, reaches, ticked}
 use Rattle.dtx_model.specs.Steps.{Step, Calls, Replies, Acts}
-use Rattle.dtx_model.proofs.Narrow.{answer, is_done, facts, veto_if, time_up, is_late, lost_outcome, decided_if, block}
+use Rattle.dtx_model.proofs.Narrow.{answer, facts, veto_if, time_up, is_late, decided_if, block}
 use Rattle.dtx_model.specs.Caused.{IsCallOf, is_new, AreMadeOnce, made_by}
 use Rattle.dtx_model.specs.Grammar.{Name, OfTransaction, OfEnlistment, OfClone, OfScope, same_name, makes, is_made, is_named_well, are_named_well}
 use Rattle.dtx_model.proofs.Bools.{and_left, and_right, or_right, or_case, not_true, not_false, not_both}

@@ -14,7 +14,8 @@ use Rattle.dtx_values.specs.Table.{how_many}
 use Rattle.dtx_model.specs.Words.{always, has}
 use Rattle.dtx_model.specs.Promotes.{is_begun_got, is_created_got}
 use Rattle.dtx_model.specs.Wires.{in_transit, is_next, opens}
-use Rattle.dtx_model.proofs.Bools.{and_left, and_right, or_first, or_second}
+use Rattle.dtx_model.proofs.Bools.{and_left, and_right}
+use Rattle.dtx_model.proofs.Counts.{counted_there, none_counted}
 use Rattle.outcome_law.proofs.Scans.{has_less}
 use Rattle.outcome_law.proofs.Table.{ends_with, rule}
 use Rattle.outcome_law.proofs.Keeping.{Keeps, keeps_before, newest}
@@ -44,22 +45,6 @@ answers_fewer c p (x ∷ h) a =
     step false true false n m r k = omega (arith, k)
     step false false true n m r k = omega (arith, k)
     step false false false n m r k = omega (arith, k)
-
-none_counted : {A : Type 0} (p : A → Bool) (xs : List A) → has p xs ≡ false → how_many p xs ≡ 0
-none_counted p [] k = refl
-none_counted p (x ∷ xs) k = step (p x) (or_first (p x) (has p xs) k) (none_counted p xs (or_second (p x) (has p xs) k))
-  where
-    step : (b : Bool) → b ≡ false → how_many p xs ≡ 0 → (if b then suc (how_many p xs) else how_many p xs) ≡ 0
-    step true e ih = absurd cc
-    step false e ih = ih
-
-counted_there : {A : Type 0} (p : A → Bool) (xs : List A) → has p xs ≡ true → 1 ≤ how_many p xs
-counted_there p [] k = absurd cc
-counted_there p (x ∷ xs) k = step (p x) k (counted_there p xs)
-  where
-    step : (b : Bool) → (b || has p xs) ≡ true → (has p xs ≡ true → 1 ≤ how_many p xs) → 1 ≤ (if b then suc (how_many p xs) else how_many p xs)
-    step true k f = omega arith
-    step false k f = f k
 
 -- what opens a connection that is opened once is sent once
 opened_once : (c : Conn) → ((x : Entry) (h : List Entry) → rule h x ≡ true → opens c x ≡ true → has (opens c) h ≡ false) → (h : List Entry) → Keeps h

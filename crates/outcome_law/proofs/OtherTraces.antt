@@ -5,12 +5,12 @@ use Rattle.dtx_values.specs.declared.entry.Entry.TheVariants.{Called, Voted, Dec
 use Rattle.dtx_values.specs.declared.entry.Party.TheVariants.{Client, Enl}
 use Rattle.dtx_values.specs.declared.words.Outcome.TheVariants.{Committed, Aborted}
 use Rattle.dtx_values.specs.declared.words.Vote.TheVariants.{Yes, No}
+use Rattle.dtx_model.proofs.Cast.{a1, e1, t1}
 use Rattle.dtx_model.specs.Words.{has}
 use Rattle.dtx_model.specs.AtLog.{is_local_trace}
 use Rattle.dtx_model.specs.Traces.{Placed, placed}
 use Rattle.dtx_model.specs.History.{IsHistory, IsReplay}
 use Rattle.outcome_law.proofs.Determined.{history_same}
-use Rattle.outcome_law.proofs.Examples.{a1, e1, t1}
 use Rattle.outcome_law.proofs.ReplayExample.{did, is_history, is_replay, script, stepped, whole}
 
 -- a replay of the script in which nothing is promoted has that trace and no other

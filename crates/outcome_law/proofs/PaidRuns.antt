@@ -10,7 +10,7 @@ use Rattle.dtx_values.specs.declared.message.Message.TheVariants.{BeginCommitted
 use Rattle.dtx_values.specs.declared.number.ActorNo.{ActorNo}
 use Rattle.dtx_model.specs.declared.waiting.EnteredCall.{EnteredCall}
 use Rattle.dtx_model.specs.Words.{always, has}
-use Rattle.dtx_model.specs.Entries.{is_decision, is_promoted}
+use Rattle.dtx_model.specs.Entries.{is_decision, is_promoted, is_restart}
 use Rattle.dtx_model.specs.Observed.{handover}
 use Rattle.dtx_model.specs.Promotes.{is_failed, is_promoting, is_under_way}
 use Rattle.dtx_model.specs.Wires.{WireRun, in_transit, is_next}
@@ -21,7 +21,6 @@ use Rattle.dtx_model.specs.Steps.{Step, Delivers}
 use Rattle.dtx_model.specs.Caused.{Ran}
 use Rattle.std.specs.Prelude.{Bool, not}
 use Rattle.outcome_law.proofs.Messages.{COMMITTED}
-use Rattle.outcome_law.proofs.Fine.{is_restart}
 use Rattle.outcome_law.proofs.Rest.{is_sound}
 use Rattle.outcome_law.proofs.Committed.{committed_promoted, is_recorded_first}
 use Rattle.outcome_law.proofs.Paid.{IsPaid}

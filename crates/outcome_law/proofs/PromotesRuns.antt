@@ -42,7 +42,7 @@ use Rattle.dtx_model.specs.Promotes.{body_of, cause_by, identifier_of, is_cause,
 use Rattle.dtx_model.specs.declared.waiting.Wanted.TheVariants.{Identifier, Place}
 use Rattle.dtx_model.specs.Waiting.{Waiter, is_place_of}
 use Rattle.dtx_model.specs.Half.{Half, by_manager, enlist_sent, given, is_handed, is_promoting as sees_promoting, over, promoted_by, sees}
-use Rattle.dtx_model.specs.Answers.{has_promotion, if_begun, is_crowded, is_full, is_full_of_durables, local_answer, unless_ended, wait_for}
+use Rattle.dtx_model.specs.Answers.{has_promotion, if_begun, is_crowded, is_full, is_full_of_durables, is_waiting_answer, local_answer, unless_ended, wait_for}
 use Rattle.dtx_model.specs.Arrivals.{arrived, created, enlisted_at, hand_over, local_got, place_given}
 use Rattle.dtx_model.specs.Acts.{act_entries, commit_sent}
 use Rattle.dtx_model.specs.Replies.{reply_entries}
@@ -60,7 +60,7 @@ use Rattle.outcome_law.proofs.Deciding.{stays}
 use Rattle.outcome_law.proofs.HalfKnows.{way_seen}
 use Rattle.outcome_law.proofs.ScopeCalls.{given_call, is_scope_call}
 use Rattle.outcome_law.proofs.ScriptCalls.{own_words}
-use Rattle.outcome_law.proofs.Waiters.{is_waiting_answer, other_gives}
+use Rattle.outcome_law.proofs.Waiters.{other_gives}
 use Rattle.outcome_law.proofs.CalmBlocks.{Calm, Seals, act_kind, calm_arrived, calm_called, calm_commit_sent, calm_coordinates, calm_core_got, calm_ended_at, calm_reply, calm_restarted, is_slow}
 use Rattle.outcome_law.proofs.Ordered.{is_called_for, ruled_ordered}
 use Rattle.outcome_law.proofs.HandedOver.{none_to_hand, over_called, own_cause, own_handed}

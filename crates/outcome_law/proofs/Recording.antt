@@ -14,10 +14,10 @@ use Rattle.dtx_values.specs.declared.number.EnlNo.{EnlNo}
 use Rattle.dtx_values.specs.declared.words.Class.{Class}
 use Rattle.dtx_values.specs.Class.{is_volatile}
 use Rattle.dtx_model.specs.Words.{all_of, each, ever, has, latest, or_else}
-use Rattle.dtx_model.specs.Entries.{clone_of, is_commit, is_commit_got, is_decision, is_good_vote, is_promoted, is_record, is_sealed, is_yes, is_yes_got}
+use Rattle.dtx_model.specs.Entries.{clone_of, is_commit, is_commit_got, is_decision, is_good_vote, is_promoted, is_record, is_sealed, is_stop, is_yes, is_yes_got}
 use Rattle.dtx_model.specs.Outcome.{by_log, by_owner, by_seal, can_own, durables, enlisted, evidence, is_complete, is_empty, ready, volatiles, voters}
 use Rattle.dtx_model.specs.Learned.{coordinator_aborted, is_abort, is_first_abort}
-use Rattle.dtx_model.specs.Tied.{before_first, before_first_stop, can_log, enlist_got, has_mark, is_logged, is_ready_got, is_stop, is_unmarked, mark_of}
+use Rattle.dtx_model.specs.Tied.{before_first, before_first_stop, can_log, enlist_got, has_mark, is_logged, is_ready_got, is_unmarked, mark_of}
 use Rattle.dtx_model.specs.Wires.{is_stopped}
 use Rattle.dtx_model.specs.Promotes.{is_created_got, is_begun_got, is_promoting, is_under_way, is_failed}
 use Rattle.dtx_model.proofs.Bools.{and_left, and_right, and_both, not_both, not_true, or_case, or_false, or_right, or_second, and_never, three_hold}

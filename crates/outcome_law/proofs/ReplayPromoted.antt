@@ -12,6 +12,7 @@ use Rattle.dtx_values.specs.declared.script.Line.{Line}
 use Rattle.dtx_values.specs.declared.words.Cause.TheVariants.{Marshal as MarshalCause}
 use Rattle.dtx_values.specs.declared.words.Timeout.TheVariants.{Milliseconds}
 use Rattle.dtx_values.specs.Owners.{owner_of}
+use Rattle.dtx_model.proofs.Cast.{a1, t1}
 use Rattle.dtx_model.specs.Words.{past_of}
 use Rattle.dtx_model.specs.Observed.{observe, track}
 use Rattle.dtx_model.specs.Coordinated.{coordinate, core_got, follow, may_free, may_log}
@@ -25,7 +26,6 @@ use Rattle.dtx_model.specs.Caused.{Caused, Settled}
 use Rattle.dtx_model.specs.Traces.{history}
 use Rattle.dtx_model.specs.Replay.{HasDoneAt, IsReplayed, LinesRan, RoundsRan, StepsRan}
 use Rattle.outcome_law.specs.LogQuiet.{is_log_quiet}
-use Rattle.outcome_law.proofs.Examples.{a1, t1}
 use Rattle.outcome_law.proofs.ReplayExample.{at_t1, none_passed, planned_at_t1}
 use Rattle.outcome_law.proofs.Replays.{replayed_caused}
 

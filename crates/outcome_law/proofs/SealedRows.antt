@@ -57,7 +57,7 @@ use Rattle.outcome_law.proofs.ByTable.{ruled_later}
 use Rattle.outcome_law.proofs.Coming.{AreComing}
 use Rattle.outcome_law.proofs.ComingRuns.{ran_coming}
 use Rattle.outcome_law.proofs.Upward.{IsComing, none_coming, none_waits, step_coming}
-use Rattle.outcome_law.proofs.QuietBlocks.{ActKind, act_kind, is_quiet, q_called, q_commit_sent, q_coordinates, q_core_got, q_ended_at, q_local_got, q_reply}
+use Rattle.outcome_law.proofs.TrailingBlocks.{ActKind, act_kind, is_trailing, trailing_called, trailing_commit_sent, trailing_coordinates, trailing_core_got, trailing_ended_at, trailing_local_got, trailing_reply}
 use Rattle.dtx_model.proofs.Quiet.{takes_next}
 use Rattle.outcome_law.proofs.Handing.{keeps_within}
 use Rattle.outcome_law.proofs.Recorded.{not_up}
@@ -81,13 +81,13 @@ now_well [] a = λ s. absurd cc
 now_well (x ∷ h) a = a.0
 
 -- One more entry that is neither got nor the seal.
-quiet_ungot : (c : Conn) (d : Dir) (p : Message → Bool) (x : Entry) → is_quiet x ≡ true → is_got_on c d p x ≡ false
-quiet_ungot c d p (Got e r m) q = absurd cc
-quiet_ungot c d p _ q = refl
+trailing_ungot : (c : Conn) (d : Dir) (p : Message → Bool) (x : Entry) → is_trailing x ≡ true → is_got_on c d p x ≡ false
+trailing_ungot c d p (Got e r m) q = absurd cc
+trailing_ungot c d p _ q = refl
 
-quiet_unsealed : (x : Entry) → is_quiet x ≡ true → is_sealed x ≡ false
-quiet_unsealed Sealed q = absurd cc
-quiet_unsealed _ q = refl
+trailing_unsealed : (x : Entry) → is_trailing x ≡ true → is_sealed x ≡ false
+trailing_unsealed Sealed q = absurd cc
+trailing_unsealed _ q = refl
 
 only_rest : (a b : Bool) → a ≡ false → (a || b) ≡ true → b ≡ true
 only_rest a b n k = or_case a b (λ t. absurd (not_both a t n)) (λ t. t) k
@@ -97,11 +97,11 @@ joined_more x h n j = λ d e g.
     or_right (is_enlisted e.value x) (has (is_enlisted e.value) h)
     (j (or_second (is_decision x) (has is_decision h) d) e (only_rest (is_got_on (Enl e) Down ENLISTED x) (has (is_got_on (Enl e) Down ENLISTED) h) (n e) g))
 
-joined_onto : (h es : List Entry) → each is_quiet es ≡ true → IsJoined h → IsJoined (onto h es)
+joined_onto : (h es : List Entry) → each is_trailing es ≡ true → IsJoined h → IsJoined (onto h es)
 joined_onto h [] q j = j
 joined_onto h (x ∷ es) q j =
-    joined_onto (x ∷ h) es (and_right (is_quiet x) (each is_quiet es) q)
-    (joined_more x h (λ e. quiet_ungot (Enl e) Down ENLISTED x (and_left (is_quiet x) (each is_quiet es) q)) j)
+    joined_onto (x ∷ h) es (and_right (is_trailing x) (each is_trailing es) q)
+    (joined_more x h (λ e. trailing_ungot (Enl e) Down ENLISTED x (and_left (is_trailing x) (each is_trailing es) q)) j)
 
 well_more : (x : Entry) (h : List Entry) → is_sealed x ≡ false → ((e : EnlNo) → is_got_on (Enl e) Up ENLIST x ≡ false) → IsSealedWell h → IsSealedWell (x ∷ h)
 well_more x h u n w = λ s e g.
@@ -111,11 +111,11 @@ well_more x h u n w = λ s e g.
 one_well : (x : Entry) (h : List Entry) → is_sealed x ≡ false → ((e : EnlNo) → is_got_on (Enl e) Up ENLIST x ≡ false) → AreSealedWell h → AreSealedWell (x ∷ h)
 one_well x h u n a = (well_more x h u n (now_well h a), a)
 
-well_onto : (h es : List Entry) → each is_quiet es ≡ true → AreSealedWell h → AreSealedWell (onto h es)
+well_onto : (h es : List Entry) → each is_trailing es ≡ true → AreSealedWell h → AreSealedWell (onto h es)
 well_onto h [] q a = a
 well_onto h (x ∷ es) q a =
-    let own = and_left (is_quiet x) (each is_quiet es) q in
-    well_onto (x ∷ h) es (and_right (is_quiet x) (each is_quiet es) q) (one_well x h (quiet_unsealed x own) (λ e. quiet_ungot (Enl e) Up ENLIST x own) a)
+    let own = and_left (is_trailing x) (each is_trailing es) q in
+    well_onto (x ∷ h) es (and_right (is_trailing x) (each is_trailing es) q) (one_well x h (trailing_unsealed x own) (λ e. trailing_ungot (Enl e) Up ENLIST x own) a)
 
 no_enlisted : (e : EnlNo) (c : Conn) (m : Message) → ENLISTED m ≡ false → is_got_on (Enl e) Down ENLISTED (Got c Down m) ≡ false
 no_enlisted e c m n = ap (λ b. same_connection (Enl e) c && true && b) n ∙ and_never (same_connection (Enl e) c && true)
@@ -180,14 +180,14 @@ enlisted_joins t w e k n c j = λ d f g.
     let es = local_got t (half w) (Enl e) EnlistEnlisted in
     let undecided : has is_decision h ≡ false = or_second (has is_decision es) (has is_decision h) (sym (has-onto is_decision (x ∷ h) es) ∙ d) in
     let before : has (is_got_on (Enl f) Down ENLISTED) (x ∷ h) ≡ true =
-    only_rest (has (is_got_on (Enl f) Down ENLISTED) es) (has (is_got_on (Enl f) Down ENLISTED) (x ∷ h)) (none_got f es (q_local_got t (half w) (Enl e) EnlistEnlisted).proof)
+    only_rest (has (is_got_on (Enl f) Down ENLISTED) es) (has (is_got_on (Enl f) Down ENLISTED) (x ∷ h)) (none_got f es (trailing_local_got t (half w) (Enl e) EnlistEnlisted).proof)
     (sym (has-onto (is_got_on (Enl f) Down ENLISTED) (x ∷ h) es) ∙ g) in
     by f undecided (has (is_got_on (Enl f) Down ENLISTED) h) refl before
   where
-    none_got : (f : EnlNo) (es : List Entry) → each is_quiet es ≡ true → has (is_got_on (Enl f) Down ENLISTED) es ≡ false
+    none_got : (f : EnlNo) (es : List Entry) → each is_trailing es ≡ true → has (is_got_on (Enl f) Down ENLISTED) es ≡ false
     none_got f [] q = refl
     none_got f (y ∷ es) q =
-        ap (λ b. b || has (is_got_on (Enl f) Down ENLISTED) es) (quiet_ungot (Enl f) Down ENLISTED y (and_left (is_quiet y) (each is_quiet es) q)) ∙ none_got f es (and_right (is_quiet y) (each is_quiet es) q)
+        ap (λ b. b || has (is_got_on (Enl f) Down ENLISTED) es) (trailing_ungot (Enl f) Down ENLISTED y (and_left (is_trailing y) (each is_trailing es) q)) ∙ none_got f es (and_right (is_trailing y) (each is_trailing es) q)
 
     block : List Entry
     block = local_got t (half w) (Enl e) EnlistEnlisted
@@ -222,20 +222,20 @@ got_joined : (t : ℕ) (w : World) (c : Conn) (m : Message) → Keeps w.past →
     → IsJoined (onto (Got c Down m ∷ w.past) (local_got t (half w) c m))
 got_joined t w (Enl e) EnlistEnlisted k n a j = enlisted_joins t w e k n a j
 got_joined t w (Enl f) m k n a j =
-    joined_onto (Got (Enl f) Down m ∷ w.past) (local_got t (half w) (Enl f) m) (q_local_got t (half w) (Enl f) m).proof (joined_more (Got (Enl f) Down m) w.past (λ e. no_enlisted e (Enl f) m refl) j)
-got_joined t w Begin m k n a j = joined_onto (Got Begin Down m ∷ w.past) (local_got t (half w) Begin m) (q_local_got t (half w) Begin m).proof (joined_more (Got Begin Down m) w.past (λ e. refl) j)
-got_joined t w Voter m k n a j = joined_onto (Got Voter Down m ∷ w.past) (local_got t (half w) Voter m) (q_local_got t (half w) Voter m).proof (joined_more (Got Voter Down m) w.past (λ e. refl) j)
+    joined_onto (Got (Enl f) Down m ∷ w.past) (local_got t (half w) (Enl f) m) (trailing_local_got t (half w) (Enl f) m).proof (joined_more (Got (Enl f) Down m) w.past (λ e. no_enlisted e (Enl f) m refl) j)
+got_joined t w Begin m k n a j = joined_onto (Got Begin Down m ∷ w.past) (local_got t (half w) Begin m) (trailing_local_got t (half w) Begin m).proof (joined_more (Got Begin Down m) w.past (λ e. refl) j)
+got_joined t w Voter m k n a j = joined_onto (Got Voter Down m ∷ w.past) (local_got t (half w) Voter m) (trailing_local_got t (half w) Voter m).proof (joined_more (Got Voter Down m) w.past (λ e. refl) j)
 got_joined t w (Again f) m k n a j =
-    joined_onto (Got (Again f) Down m ∷ w.past) (local_got t (half w) (Again f) m) (q_local_got t (half w) (Again f) m).proof (joined_more (Got (Again f) Down m) w.past (λ e. refl) j)
+    joined_onto (Got (Again f) Down m ∷ w.past) (local_got t (half w) (Again f) m) (trailing_local_got t (half w) (Again f) m).proof (joined_more (Got (Again f) Down m) w.past (λ e. refl) j)
 
 down_joined : (t : ℕ) (w : World) (c : Conn) (ms : List Message) → in_transit c Down w.past ≡ ms → Keeps w.past → AreComing w.calls w.past → IsJoined w.past → IsJoined (onto w.past (delivered t w c Down ms))
-down_joined t w c [] q k a j = joined_onto w.past (Ended c Down ∷ ended_at w c Down) (and_both true (each is_quiet (ended_at w c Down)) refl (q_ended_at w c Down).proof) j
+down_joined t w c [] q k a j = joined_onto w.past (Ended c Down ∷ ended_at w c Down) (and_both true (each is_trailing (ended_at w c Down)) refl (trailing_ended_at w c Down).proof) j
 down_joined t w c (m ∷ ms) q k a j = got_joined t w c m k (takes_next m ms (in_transit c Down w.past) q) a j
 
 up_joined : (t : ℕ) (w : World) (c : Conn) (ms : List Message) → IsJoined w.past → IsJoined (onto w.past (delivered t w c Up ms))
-up_joined t w c [] j = joined_onto w.past (Ended c Up ∷ ended_at w c Up) (and_both true (each is_quiet (ended_at w c Up)) refl (q_ended_at w c Up).proof) j
+up_joined t w c [] j = joined_onto w.past (Ended c Up ∷ ended_at w c Up) (and_both true (each is_trailing (ended_at w c Up)) refl (trailing_ended_at w c Up).proof) j
 up_joined t w c (m ∷ ms) j =
-    joined_onto (Got c Up m ∷ w.past) (core_got (identifier_of t) (core w) c m) (q_core_got (identifier_of t) (core w) c m).proof
+    joined_onto (Got c Up m ∷ w.past) (core_got (identifier_of t) (core w) c m) (trailing_core_got (identifier_of t) (core w) c m).proof
     (joined_more (Got c Up m) w.past (λ e. not_up (same_connection (Enl e) c) (ENLISTED m)) j)
 
 act_joined : (w : World) (es : List Entry) → ActKind (half w) es → IsJoined w.past → IsJoined (onto w.past es)
@@ -244,7 +244,7 @@ act_joined w es (inr (inl p)) j = subst (λ (xs : List Entry). IsJoined (onto w.
 act_joined w es (inr (inr (inl p))) j = subst (λ (xs : List Entry). IsJoined (onto w.past xs)) (sym p.block) (joined_more (Asked p.who Single) w.past (λ e. refl) j)
 act_joined w es (inr (inr (inr s))) j =
     subst (λ (xs : List Entry). IsJoined (onto w.past xs)) (sym s.block)
-    (joined_onto (Sealed ∷ w.past) (commit_sent (half w).seen) (q_commit_sent (half w).seen).proof (joined_more Sealed w.past (λ e. refl) j))
+    (joined_onto (Sealed ∷ w.past) (commit_sent (half w).seen) (trailing_commit_sent (half w).seen).proof (joined_more Sealed w.past (λ e. refl) j))
 
 restarted_joined : (h : List Entry) (b found : Bool) → IsJoined h → IsJoined (onto h (restarted b found))
 restarted_joined h true found j = joined_more (Restarted found) h (λ e. refl) j
@@ -253,11 +253,11 @@ restarted_joined h false found j = joined_more (Restarted found) (Stopped ∷ h)
 step_joined : (t : ℕ) (w : World) (m : Step) → Keeps w.past → AreComing w.calls w.past → IsJoined w.past → IsJoined (after t w m).past
 unfolding after block_at
 step_joined t w (Calls n x c m) k a j =
-    joined_onto (Called n x (answer_at t w c m) ∷ w.past) (facts_if (has_facts (answer_at t w c m)) (facts_at t w c (answer_at t w c m))) (q_called t w c (answer_at t w c m)).proof
+    joined_onto (Called n x (answer_at t w c m) ∷ w.past) (facts_if (has_facts (answer_at t w c m)) (facts_at t w c (answer_at t w c m))) (trailing_called t w c (answer_at t w c m)).proof
     (joined_more (Called n x (answer_at t w c m)) w.past (λ e. refl) j)
-step_joined t w (Replies e r) k a j = joined_onto w.past (reply_entries (half w) e r) (q_reply (half w) e r).proof j
+step_joined t w (Replies e r) k a j = joined_onto w.past (reply_entries (half w) e r) (trailing_reply (half w) e r).proof j
 step_joined t w Acts k a j = act_joined w (act_entries (half w)) (act_kind (half w)) j
-step_joined t w (Coordinates x) k a j = joined_onto w.past (coordinates (core w) x) (q_coordinates (core w) x).proof j
+step_joined t w (Coordinates x) k a j = joined_onto w.past (coordinates (core w) x) (trailing_coordinates (core w) x).proof j
 step_joined t w (Delivers c Up) k a j = up_joined t w c (in_transit c Up w.past) j
 step_joined t w (Delivers c Down) k a j = down_joined t w c (in_transit c Down w.past) refl k a j
 step_joined t w Stops k a j = joined_onto w.past (Stopped ∷ []) refl j
@@ -310,7 +310,7 @@ act_well w es (inr (inr (inl p))) k c j a = subst (λ (xs : List Entry). AreSeal
 act_well w es (inr (inr (inr s))) k c j a =
     let parts = none_waits (waiting w.calls w.past) (sees_promoting (observe w.past)) s.still in
     subst (λ (xs : List Entry). AreSealedWell (onto w.past xs)) (sym s.block)
-    (well_onto (Sealed ∷ w.past) (commit_sent (half w).seen) (q_commit_sent (half w).seen).proof
+    (well_onto (Sealed ∷ w.past) (commit_sent (half w).seen) (trailing_commit_sent (half w).seen).proof
     (seal_well w.calls w.past k s.undecided (parts.0, sym (way_seen w.past) ∙ parts.1) c j, a))
 
 -- ENLIST comes to the coordinator before the seal.
@@ -326,14 +326,14 @@ up_first w Voter m n u a = one_well (Got Voter Up m) w.past refl (λ e. refl) a
 up_first w (Again f) m n u a = one_well (Got (Again f) Up m) w.past refl (λ e. refl) a
 
 up_well : (t : ℕ) (w : World) (c : Conn) (ms : List Message) → in_transit c Up w.past ≡ ms → IsComing w.calls w.past → AreSealedWell w.past → AreSealedWell (onto w.past (delivered t w c Up ms))
-up_well t w c [] q u a = well_onto w.past (Ended c Up ∷ ended_at w c Up) (and_both true (each is_quiet (ended_at w c Up)) refl (q_ended_at w c Up).proof) a
+up_well t w c [] q u a = well_onto w.past (Ended c Up ∷ ended_at w c Up) (and_both true (each is_trailing (ended_at w c Up)) refl (trailing_ended_at w c Up).proof) a
 up_well t w c (m ∷ ms) q u a =
-    well_onto (Got c Up m ∷ w.past) (core_got (identifier_of t) (core w) c m) (q_core_got (identifier_of t) (core w) c m).proof (up_first w c m (takes_next m ms (in_transit c Up w.past) q) u a)
+    well_onto (Got c Up m ∷ w.past) (core_got (identifier_of t) (core w) c m) (trailing_core_got (identifier_of t) (core w) c m).proof (up_first w c m (takes_next m ms (in_transit c Up w.past) q) u a)
 
 down_well : (t : ℕ) (w : World) (c : Conn) (ms : List Message) → AreSealedWell w.past → AreSealedWell (onto w.past (delivered t w c Down ms))
-down_well t w c [] a = well_onto w.past (Ended c Down ∷ ended_at w c Down) (and_both true (each is_quiet (ended_at w c Down)) refl (q_ended_at w c Down).proof) a
+down_well t w c [] a = well_onto w.past (Ended c Down ∷ ended_at w c Down) (and_both true (each is_trailing (ended_at w c Down)) refl (trailing_ended_at w c Down).proof) a
 down_well t w c (m ∷ ms) a =
-    well_onto (Got c Down m ∷ w.past) (local_got t (half w) c m) (q_local_got t (half w) c m).proof (one_well (Got c Down m) w.past refl (λ e. not_up (same_connection (Enl e) c) (ENLIST m)) a)
+    well_onto (Got c Down m ∷ w.past) (local_got t (half w) c m) (trailing_local_got t (half w) c m).proof (one_well (Got c Down m) w.past refl (λ e. not_up (same_connection (Enl e) c) (ENLIST m)) a)
 
 restarted_well : (h : List Entry) (b found : Bool) → AreSealedWell h → AreSealedWell (onto h (restarted b found))
 restarted_well h true found a = one_well (Restarted found) h refl (λ e. refl) a
@@ -342,11 +342,11 @@ restarted_well h false found a = one_well (Restarted found) (Stopped ∷ h) refl
 step_well : (t : ℕ) (w : World) (m : Step) → Keeps w.past → AreComing w.calls w.past → IsComing w.calls w.past → IsJoined w.past → AreSealedWell w.past → AreSealedWell (after t w m).past
 unfolding after block_at
 step_well t w (Calls n x c m) k b u j a =
-    well_onto (Called n x (answer_at t w c m) ∷ w.past) (facts_if (has_facts (answer_at t w c m)) (facts_at t w c (answer_at t w c m))) (q_called t w c (answer_at t w c m)).proof
+    well_onto (Called n x (answer_at t w c m) ∷ w.past) (facts_if (has_facts (answer_at t w c m)) (facts_at t w c (answer_at t w c m))) (trailing_called t w c (answer_at t w c m)).proof
     (one_well (Called n x (answer_at t w c m)) w.past refl (λ e. refl) a)
-step_well t w (Replies e r) k b u j a = well_onto w.past (reply_entries (half w) e r) (q_reply (half w) e r).proof a
+step_well t w (Replies e r) k b u j a = well_onto w.past (reply_entries (half w) e r) (trailing_reply (half w) e r).proof a
 step_well t w Acts k b u j a = act_well w (act_entries (half w)) (act_kind (half w)) k b j a
-step_well t w (Coordinates x) k b u j a = well_onto w.past (coordinates (core w) x) (q_coordinates (core w) x).proof a
+step_well t w (Coordinates x) k b u j a = well_onto w.past (coordinates (core w) x) (trailing_coordinates (core w) x).proof a
 step_well t w (Delivers c Up) k b u j a = up_well t w c (in_transit c Up w.past) refl u a
 step_well t w (Delivers c Down) k b u j a = down_well t w c (in_transit c Down w.past) a
 step_well t w Stops k b u j a = well_onto w.past (Stopped ∷ []) refl a

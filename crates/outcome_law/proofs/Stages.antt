@@ -13,14 +13,14 @@ use Rattle.dtx_values.specs.Lines.{has_line, is_opening}
 use Rattle.dtx_model.specs.declared.desk.Stage.{Stage}
 use Rattle.dtx_model.specs.declared.desk.Stage.TheVariants.{Active, Idle}
 use Rattle.dtx_model.specs.Words.{has, always}
-use Rattle.dtx_model.specs.Entries.{is_record}
+use Rattle.dtx_model.specs.Entries.{is_record, is_restart}
 use Rattle.dtx_model.specs.Tied.{is_logged}
 use Rattle.dtx_model.specs.Wires.{is_next, in_transit}
 use Rattle.dtx_model.specs.Coordinated.{Coordinated, abort_if, aborts, begin_if, coordinate, follow, is_active, is_early}
 use Rattle.dtx_model.proofs.Bools.{and_left, and_right, or_case, or_second, or_right, not_both}
 use Rattle.outcome_law.proofs.Scans.{has_more}
 use Rattle.outcome_law.proofs.Messages.{BEGIN, BEGUN}
-use Rattle.outcome_law.proofs.Fine.{IsFine, is_restart}
+use Rattle.outcome_law.proofs.Fine.{IsFine}
 use Rattle.outcome_law.proofs.Rest.{is_sound, is_ordered, is_begun}
 use Rattle.outcome_law.proofs.Arrived.{newest}
 use Rattle.dtx_model.proofs.Connections.{same_is}

@@ -10,7 +10,7 @@ use Rattle.dtx_values.specs.declared.message.Message.{Message}
 use Rattle.dtx_values.specs.declared.number.ActorNo.{ActorNo}
 use Rattle.dtx_model.specs.Words.{each, has, onto}
 use Rattle.dtx_model.specs.Promotes.{identifier_of}
-use Rattle.dtx_model.specs.Tied.{is_stop, is_tied, tied}
+use Rattle.dtx_model.specs.Tied.{is_tied, tied}
 use Rattle.dtx_model.specs.Wires.{in_transit}
 use Rattle.dtx_model.specs.Arrivals.{local_got}
 use Rattle.dtx_model.specs.Acts.{act_entries, commit_sent}
@@ -20,6 +20,7 @@ use Rattle.dtx_model.specs.Facts.{facts_if, has_facts}
 use Rattle.dtx_model.specs.World.{World, answer_at, core, facts_at, half}
 use Rattle.dtx_model.specs.Steps.{Step, Calls, Replies, Acts, Coordinates, Delivers, Stops, Restarts, after, block_at, coordinates, delivered, ended_at, restarted}
 use Rattle.dtx_model.specs.Caused.{FreelyCaused, Ran}
+use Rattle.dtx_model.specs.Entries.{is_stop}
 use Rattle.dtx_model.specs.History.{is_loss}
 use Rattle.outcome_law.specs.Severed.{is_severing}
 use Rattle.dtx_model.proofs.Bools.{and_both, and_left, and_right, not_both, or_second}
@@ -28,17 +29,17 @@ use Rattle.outcome_law.proofs.Scans.{has_less}
 use Rattle.outcome_law.proofs.Whole.{none_severed}
 use Rattle.outcome_law.proofs.CoreStages.{stopped_same}
 use Rattle.outcome_law.proofs.Recording.{stopped_stop}
-use Rattle.outcome_law.proofs.QuietBlocks.{ActKind, act_kind, is_quiet, q_called, q_commit_sent, q_coordinates, q_core_got, q_ended_at, q_local_got, q_reply}
+use Rattle.outcome_law.proofs.TrailingBlocks.{ActKind, act_kind, is_trailing, trailing_called, trailing_commit_sent, trailing_coordinates, trailing_core_got, trailing_ended_at, trailing_local_got, trailing_reply}
 
 -- a list without a restart
-quiet_tied : (x : Entry) (h : List Entry) → is_quiet x ≡ true → is_tied h x ≡ true
-quiet_tied (Restarted found) h q = absurd cc
-quiet_tied _ h q = refl
+trailing_tied : (x : Entry) (h : List Entry) → is_trailing x ≡ true → is_tied h x ≡ true
+trailing_tied (Restarted found) h q = absurd cc
+trailing_tied _ h q = refl
 
-tied_onto : (h es : List Entry) → each is_quiet es ≡ true → tied h ≡ true → tied (onto h es) ≡ true
+tied_onto : (h es : List Entry) → each is_trailing es ≡ true → tied h ≡ true → tied (onto h es) ≡ true
 tied_onto h [] q d = d
 tied_onto h (x ∷ es) q d =
-    tied_onto (x ∷ h) es (and_right (is_quiet x) (each is_quiet es) q) (and_both (is_tied h x) (tied h) (quiet_tied x h (and_left (is_quiet x) (each is_quiet es) q)) d)
+    tied_onto (x ∷ h) es (and_right (is_trailing x) (each is_trailing es) q) (and_both (is_tied h x) (tied h) (trailing_tied x h (and_left (is_trailing x) (each is_trailing es) q)) d)
 
 -- after each step
 act_tied : (w : World) (es : List Entry) → ActKind (half w) es → tied w.past ≡ true → tied (onto w.past es) ≡ true
@@ -46,12 +47,12 @@ act_tied w es (inl q) d = tied_onto w.past es q.proof d
 act_tied w es (inr (inl p)) d = subst (λ (xs : List Entry). tied (onto w.past xs) ≡ true) (sym p.block) d
 act_tied w es (inr (inr (inl p))) d = subst (λ (xs : List Entry). tied (onto w.past xs) ≡ true) (sym p.block) d
 act_tied w es (inr (inr (inr s))) d =
-    subst (λ (xs : List Entry). tied (onto w.past xs) ≡ true) (sym s.block) (tied_onto (Sealed ∷ w.past) (commit_sent (half w).seen) (q_commit_sent (half w).seen).proof d)
+    subst (λ (xs : List Entry). tied (onto w.past xs) ≡ true) (sym s.block) (tied_onto (Sealed ∷ w.past) (commit_sent (half w).seen) (trailing_commit_sent (half w).seen).proof d)
 
 delivered_tied : (t : ℕ) (w : World) (c : Conn) (d : Dir) (ms : List Message) → tied w.past ≡ true → tied (onto w.past (delivered t w c d ms)) ≡ true
-delivered_tied t w c d [] k = tied_onto (Ended c d ∷ w.past) (ended_at w c d) (q_ended_at w c d).proof k
-delivered_tied t w c Up (m ∷ ms) k = tied_onto (Got c Up m ∷ w.past) (core_got (identifier_of t) (core w) c m) (q_core_got (identifier_of t) (core w) c m).proof k
-delivered_tied t w c Down (m ∷ ms) k = tied_onto (Got c Down m ∷ w.past) (local_got t (half w) c m) (q_local_got t (half w) c m).proof k
+delivered_tied t w c d [] k = tied_onto (Ended c d ∷ w.past) (ended_at w c d) (trailing_ended_at w c d).proof k
+delivered_tied t w c Up (m ∷ ms) k = tied_onto (Got c Up m ∷ w.past) (core_got (identifier_of t) (core w) c m) (trailing_core_got (identifier_of t) (core w) c m).proof k
+delivered_tied t w c Down (m ∷ ms) k = tied_onto (Got c Down m ∷ w.past) (local_got t (half w) c m) (trailing_local_got t (half w) c m).proof k
 
 -- a restart comes after a stop, or brings one
 none_restarts : (w : World) (b found : Bool) → (core w).stopped ≡ b → has is_stop (onto w.past (restarted b found)) ≡ false → ⊥
@@ -61,10 +62,10 @@ none_restarts w false found e n = absurd cc
 step_tied : (t : ℕ) (w : World) (m : Step) → has is_stop (after t w m).past ≡ false → tied w.past ≡ true → tied (after t w m).past ≡ true
 unfolding after block_at
 step_tied t w (Calls n x c m) u d =
-    tied_onto (Called n x (answer_at t w c m) ∷ w.past) (facts_if (has_facts (answer_at t w c m)) (facts_at t w c (answer_at t w c m))) (q_called t w c (answer_at t w c m)).proof d
-step_tied t w (Replies e r) u d = tied_onto w.past (reply_entries (half w) e r) (q_reply (half w) e r).proof d
+    tied_onto (Called n x (answer_at t w c m) ∷ w.past) (facts_if (has_facts (answer_at t w c m)) (facts_at t w c (answer_at t w c m))) (trailing_called t w c (answer_at t w c m)).proof d
+step_tied t w (Replies e r) u d = tied_onto w.past (reply_entries (half w) e r) (trailing_reply (half w) e r).proof d
 step_tied t w Acts u d = act_tied w (act_entries (half w)) (act_kind (half w)) d
-step_tied t w (Coordinates x) u d = tied_onto w.past (coordinates (core w) x) (q_coordinates (core w) x).proof d
+step_tied t w (Coordinates x) u d = tied_onto w.past (coordinates (core w) x) (trailing_coordinates (core w) x).proof d
 step_tied t w (Delivers c r) u d = delivered_tied t w c r (in_transit c r w.past) d
 step_tied t w Stops u d = absurd cc
 step_tied t w (Restarts found) u d = absurd (none_restarts w (core w).stopped found refl u)

@@ -18,11 +18,10 @@ use Rattle.dtx_values.specs.declared.words.Vote.TheVariants.{Yes, No, Done}
 use Rattle.dtx_values.specs.Ends.{same_connection, same_direction}
 use Rattle.dtx_values.specs.Lines.{has_line}
 use Rattle.dtx_model.specs.Words.{ever, has, latest}
-use Rattle.dtx_model.specs.Entries.{decision_of, is_asked, is_decision, is_promoted, is_record, is_sealed, is_vote, is_yes, is_lost}
+use Rattle.dtx_model.specs.Entries.{decision_of, is_asked, is_decision, is_promoted, is_record, is_sealed, is_vote, is_yes, is_lost, is_stop}
 use Rattle.dtx_model.specs.Outcome.{evidence, is_first_veto, is_veto, vetoed}
 use Rattle.dtx_model.specs.Learned.{coordinator_aborted, is_abort, is_first_abort}
 use Rattle.dtx_model.specs.Promotes.{ends_told, is_promoting, is_refusal}
-use Rattle.dtx_model.specs.Tied.{is_stop}
 use Rattle.dtx_model.specs.Wires.{is_stopped}
 use Rattle.dtx_model.specs.Caused.{is_begin_sent}
 use Rattle.dtx_model.proofs.Bools.{and_both, and_left, and_right, not_both, not_false, not_true, or_case, or_right, or_second}

@@ -43,7 +43,7 @@ use Rattle.dtx_model.specs.Half.{Half, by_manager, enlist_sent, given, is_gone, 
 use Rattle.dtx_model.specs.Arrivals.{arrived, created, enlisted_at, hand_over, local_got, place_given}
 use Rattle.dtx_model.specs.Acts.{act_entries}
 use Rattle.dtx_model.specs.Replies.{reply_entries}
-use Rattle.dtx_model.specs.Answers.{await_answer, durable_answer, marshal_answer, has_promotion, promotable_answer, volatile_answer, if_begun, is_crowded, is_full, local_answer, status_answer, unless_ended, unless_late, unless_over}
+use Rattle.dtx_model.specs.Answers.{await_answer, durable_answer, marshal_answer, has_promotion, promotable_answer, volatile_answer, if_begun, is_crowded, is_full, local_answer, status_answer, unless_ended, unless_late, unless_over, is_waiting_answer}
 use Rattle.dtx_model.specs.Facts.{begin_promotion, durable_facts, facts_if, has_facts}
 use Rattle.dtx_model.specs.World.{World, answer_at, branches_by, core, facts_at, half, is_connected, is_finished_there, is_unfinished_link, reenlist_by, unless_connected, unless_stopped}
 use Rattle.dtx_model.specs.Steps.{Step, Calls, Replies, Acts, Coordinates, Delivers, Stops, Restarts, after, block_at, coordinates, delivered, ended_at, got_by, restarted}
@@ -155,10 +155,6 @@ delivered_keeps t w c Up (m ∷ ms) k = still_keeps w.calls w.past (Got c Up m �
 delivered_keeps t w c Down (m ∷ ms) k = got_keeps t w c m k
 
 -- The calls: which wait.
-abbrev pub is_waiting_answer : Answer → Bool
-is_waiting_answer Wait = true
-is_waiting_answer _ = false
-
 abbrev pub is_durable_call : Call → Bool
 is_durable_call (Durable u e r s) = true
 is_durable_call _ = false

@@ -42,13 +42,12 @@ use Rattle.outcome_law.specs.Severed.{is_severing}
 use Rattle.dtx_model.specs.declared.branch.Branch.{Branch}
 use Rattle.dtx_model.specs.Waiting.{Waiter, managed, waiting}
 use Rattle.dtx_model.specs.Half.{decide, enlist_sent, fails_if, info, is_gone, is_handed, sees, veto, veto_if, is_promoting as sees_promoting}
-use Rattle.dtx_model.specs.Answers.{class_of, clone_answer, marshal_answer, promotable_answer, volatile_answer, complete_answer, gone_answer, has_promotion, if_begun, is_crowded, is_full, is_full_of_durables, limit_of, local_answer, unless_ended, unless_late, wait_for}
+use Rattle.dtx_model.specs.Answers.{class_of, clone_answer, marshal_answer, promotable_answer, volatile_answer, complete_answer, gone_answer, has_promotion, if_begun, is_crowded, is_full, is_full_of_durables, limit_of, local_answer, unless_ended, unless_late, wait_for, is_done}
 use Rattle.dtx_model.specs.Facts.{begin_promotion, tick_facts, durable_facts, durable_waits, facts_if, has_facts, is_late, ticked, reaches}
 use Rattle.dtx_model.specs.World.{World, answer_at, branch_answer, core, cut, cut_upward, gone_by, half, has_left, is_connected, is_finished_there, is_linked, open_ones, reenlist_answer, reenlist_by, reenlist_facts, unless_stopped, was_opened}
 use Rattle.dtx_model.specs.Steps.{called}
 use Rattle.dtx_model.proofs.Bools.{and_both, and_left, and_never, and_right, not_both, not_false, not_true, or_case, or_false, or_first, or_right, or_second}
-use Rattle.dtx_model.proofs.Narrow.{is_done}
-use Rattle.dtx_model.proofs.Unowned.{causeless}
+use Rattle.dtx_model.proofs.Unowned.{causeless, volatile_class}
 use Rattle.outcome_law.proofs.Scans.{each_both, has_less, has_more}
 use Rattle.outcome_law.proofs.Rule.{is_answer, is_cloned, is_enlisted}
 use Rattle.outcome_law.proofs.Rules.{undecided}
@@ -69,7 +68,6 @@ use Rattle.outcome_law.proofs.HalfKnows.{way_seen}
 use Rattle.outcome_law.proofs.Deciding.{decide_decides, decide_keeps, decided_there, seen_half}
 use Rattle.outcome_law.proofs.Undecided.{Stands, decided_stand, goes_on, hand_seen, none_began, stand, unowned_evident, unwilling_open, way_unsealed}
 use Rattle.outcome_law.proofs.HalfCalls.{begin_stands, begun_if_promoted, call_alone, cloned_stands, commit_stands, completed_stands, enlist_stands, enlisted_stands, owner_row, rollback_stands, timeout_stands, veto_stands}
-use Rattle.outcome_law.proofs.Calls.{volatile_class}
 
 -- what a call makes stands nowhere yet: the enlistment, or the clone, and no connection was opened for it
 abbrev pub is_unmade : ℕ → EnlNo → List Entry → Bool

@@ -4,10 +4,10 @@ use Rattle.dtx_values.specs.declared.entry.Entry.{Entry}
 use Rattle.dtx_values.specs.declared.entry.Entry.TheVariants.{Decided}
 use Rattle.dtx_values.specs.declared.words.Outcome.TheVariants.{Aborted}
 use Rattle.dtx_model.specs.Words.{all_of, each, has}
-use Rattle.dtx_model.specs.Entries.{is_commit_got, is_vote_got, is_yes_got}
+use Rattle.dtx_model.specs.Entries.{is_commit_got, is_stop, is_vote_got, is_yes_got}
 use Rattle.dtx_model.specs.Outcome.{ready}
 use Rattle.dtx_model.specs.Coordinated.{coordinate, may_log}
-use Rattle.dtx_model.specs.Tied.{before_first_stop, can_log, enlist_got, has_mark, is_logged, is_stop}
+use Rattle.dtx_model.specs.Tied.{before_first_stop, can_log, enlist_got, has_mark, is_logged}
 
 -- the outcome is decided to be aborted
 abbrev pub is_abort_decision : Entry → Bool

@@ -9,12 +9,12 @@ use Rattle.dtx_values.specs.declared.number.ActorNo.{ActorNo}
 use Rattle.dtx_values.specs.declared.number.TxNo.{TxNo}
 use Rattle.dtx_values.specs.declared.script.Line.{Line}
 use Rattle.dtx_model.specs.Words.{always, each, has, onto, past_of}
-use Rattle.dtx_model.specs.Tied.{is_stop}
 use Rattle.dtx_model.specs.Wires.{is_stopped}
 use Rattle.dtx_model.specs.Coordinated.{coordinate}
 use Rattle.dtx_model.specs.World.{World, core}
 use Rattle.dtx_model.specs.Steps.{Step, after, block_at}
 use Rattle.dtx_model.specs.Caused.{IsCallOf, IsIn, is_as_planned, is_begin_sent, plans_of}
+use Rattle.dtx_model.specs.Entries.{is_stop}
 use Rattle.dtx_model.specs.History.{nobody}
 use Rattle.dtx_model.specs.Traces.{Placed, history, placed}
 use Rattle.dtx_model.proofs.Bools.{and_both, and_left, and_right, not_both, or_false}

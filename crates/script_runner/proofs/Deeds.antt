@@ -42,6 +42,7 @@ use Rattle.dtx_values.specs.Class.{is_promotable}
 use Rattle.dtx_values.specs.Support.{is_single}
 use Rattle.dtx_values.specs.Vote.{is_no}
 use Rattle.dtx_values.specs.Table.{voted}
+use Rattle.tx_world.proofs.SendingBlocks.{is_stop_answer}
 use Rattle.dtx_model.specs.declared.branch.Branch.{Branch}
 use Rattle.dtx_model.specs.Observed.{Observed, is_branch}
 use Rattle.dtx_model.specs.Promotes.{identifier_of}
@@ -490,12 +491,6 @@ d_facts_at t w c a = d_facts t (half w) c a
 d_facts_if : (b : Bool) {es : List Entry} → Deeds es → Deeds (facts_if b es)
 d_facts_if true q = q
 d_facts_if false q = d_none
-
--- the log was stopped, by this call or before
-abbrev pub is_stop_answer : LogAnswer → Bool
-is_stop_answer StoppedNow = true
-is_stop_answer StoppedBefore = true
-is_stop_answer _ = false
 
 -- the coordinator's act
 d_appended : (k : Coordinated) (a : LogAnswer) → is_stop_answer a ≡ false → Deeds (appended k a)

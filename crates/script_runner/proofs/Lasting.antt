@@ -26,9 +26,9 @@ use Rattle.dtx_values.specs.Support.{is_single}
 use Rattle.dtx_model.specs.Observed.{Observed, rows}
 use Rattle.dtx_model.specs.Contexts.{calls_by}
 use Rattle.dtx_model.specs.Calls.{call_of, complete_call, transaction_of, gone_call, reenlist_call, transaction_with}
-use Rattle.dtx_model.specs.Half.{is_handed}
+use Rattle.dtx_model.specs.Half.{is_handed, lost_outcome}
 use Rattle.dtx_model.specs.Facts.{facts_if, reaches, ticked}
-use Rattle.dtx_model.proofs.Narrow.{facts, veto_if, time_up, is_late, lost_outcome, decided_if}
+use Rattle.dtx_model.proofs.Narrow.{facts, veto_if, time_up, is_late, decided_if}
 use Rattle.script_runner.specs.Built.{has_lasting, is_lasting_for, may_promote}
 use Rattle.dtx_model.proofs.Bools.{or_case, not_true, not_both}
 use Rattle.outcome_law.proofs.Tests.{eq_self}

@@ -6,8 +6,9 @@ use Rattle.dtx_values.specs.declared.number.TxNo.{TxNo}
 use Rattle.dtx_values.specs.declared.trace.Place.TheVariants.{Context, Log, Transaction}
 use Rattle.dtx_values.specs.Table.{how_many}
 use Rattle.dtx_model.specs.Words.{each, has, latest}
-use Rattle.dtx_model.specs.AtLog.{at_log, faults, follow_log, follows_log, is_met, is_restart, is_stop, open_right, stop_right, transactions}
+use Rattle.dtx_model.specs.AtLog.{at_log, faults, follow_log, follows_log, is_met, open_right, stop_right, transactions}
 use Rattle.dtx_model.specs.Caused.{is_begin_sent}
+use Rattle.dtx_model.specs.Entries.{is_restart, is_stop}
 use Rattle.dtx_model.specs.Tied.{tied}
 use Rattle.dtx_model.specs.Traces.{Placed, history}
 use Rattle.dtx_model.specs.Wires.{holds, is_stopped, stop_of}

@@ -8,13 +8,13 @@ use Rattle.dtx_values.specs.declared.call.Call.{Call}
 use Rattle.dtx_values.specs.declared.script.Line.{Line}
 use Rattle.outside.specs.Faults.{Rose}
 use Rattle.dtx_model.specs.Words.{always, each, has, kth, past_of}
-use Rattle.dtx_model.specs.AtLog.{is_restart, is_stop}
 use Rattle.dtx_model.specs.Log.{is_record_of}
 use Rattle.dtx_model.specs.Promotes.{identifier_of}
 use Rattle.dtx_model.specs.Coordinated.{is_recorded}
 use Rattle.dtx_model.specs.World.{core}
 use Rattle.dtx_model.specs.Steps.{Step, Calls, Coordinates, Stops, Restarts, StoppedBefore, StoppedNow, StepName, pending}
 use Rattle.dtx_model.specs.Caused.{IsCallOf, IsIn, IsNamed, Settled, is_as_planned, is_begin_sent, plans_of}
+use Rattle.dtx_model.specs.Entries.{is_restart, is_stop}
 use Rattle.dtx_model.specs.Traces.{Placed, history}
 use Rattle.dtx_model.specs.Replay.{HasSettled, RoundsRan, after_turn, last_turn, world_at}
 use Rattle.dtx_model.specs.History.{nobody}

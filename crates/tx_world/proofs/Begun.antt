@@ -28,6 +28,7 @@ use Rattle.dtx_model.specs.World.{World, half, core, answer_at, cut, cut_upward,
 use Rattle.dtx_model.specs.Steps.{Step, Calls, Replies, Acts, Coordinates, Delivers, Stops, Restarts, LogAnswer, after, block_at, delivered, entered}
 use Rattle.dtx_model.specs.Caused.{AreMadeOnce, IsIn, IsOwnRun, MayCome, Ran, is_begin_sent, is_full_answer, may_coordinate}
 use Rattle.dtx_model.proofs.Bools.{and_left, and_right, not_both, or_case, or_right}
+use Rattle.dtx_model.proofs.Counts.{counted_there}
 use Rattle.dtx_model.proofs.Heeding.{core_behind}
 use Rattle.dtx_model.proofs.Reading.{has-onto}
 use Rattle.outcome_law.proofs.Crossed.{came, is_sent_on}
@@ -40,7 +41,6 @@ use Rattle.tx_world.proofs.Near.{near_act, near_facts, near_gone, near_local_dow
 use Rattle.tx_world.proofs.Onward.{ran_on}
 use Rattle.tx_world.proofs.Sendable.{id_valid, ran_ends}
 use Rattle.tx_world.proofs.SendingEnds.{Ends}
-use Rattle.tx_world.proofs.SendingOpened.{some_many}
 use Rattle.outcome_law.proofs.Messages.{BEGIN}
 
 -- the coordinator decides on the transaction, or has its record, or is stopped
@@ -237,7 +237,7 @@ may_write t w m r q once =
     by (inr runs) b single = runs
     by (inl stopped) b single =
         let es = block_at t.value w m in
-        let before = some_many (opens Begin) w.past (has_more is_begin_sent (opens Begin) begin_opens w.past (stopped_begun t.value w r stopped)) in
-        let now = some_many (opens Begin) es (has_more is_begin_sent (opens Begin) begin_opens es b) in
+        let before = counted_there (opens Begin) w.past (has_more is_begin_sent (opens Begin) begin_opens w.past (stopped_begun t.value w r stopped)) in
+        let now = counted_there (opens Begin) es (has_more is_begin_sent (opens Begin) begin_opens es b) in
         let sum = many_onto (opens Begin) w.past es in
         absurd (omega (arith, before, now, sum, single))

@@ -1,5 +1,5 @@
 -- How many desks, known connections and enlistments that came back and wait the coordinator has, by who is at the coordinator.
-use Rattle.std.proofs.Common.{◌≡◌, ◌≤◌, ◌+◌, ℕ, zero, suc, ◌==◌, Bool, true, false, ◌&&◌, ◌||◌, List, [], ◌∷◌, ◌++◌, filter, length, map, Option, Some, None, refl, sym, subst, ap, ◌∙◌, arith}
+use Rattle.std.proofs.Common.{◌≡◌, ◌≤◌, ◌+◌, ℕ, zero, suc, ◌==◌, Bool, true, false, ◌&&◌, List, [], ◌∷◌, ◌++◌, filter, length, map, Option, Some, None, refl, sym, subst, ap, ◌∙◌, arith}
 use Rattle.std.specs.Prelude.{not, take, if◌then◌else◌}
 use Rattle.std.proofs.lemmas.Bool.{false_from_ne_true, or_left}
 use Rattle.dtx_values.specs.declared.entry.Entry.{Entry}
@@ -21,7 +21,7 @@ use Rattle.dtx_model.specs.Observed.{branch_number, branches, is_branch}
 use Rattle.dtx_model.specs.Wires.{WireRun, in_transit, is_next, is_open_wire, is_stopped, opened_with, opens, sent_behind, without_first}
 use Rattle.dtx_model.specs.Words.{each, has}
 use Rattle.dtx_model.proofs.Bools.{and_both, and_left, and_right, not_both, or_case, or_right}
-use Rattle.dtx_model.proofs.Counts.{how_many-insert_by, how_many-map}
+use Rattle.dtx_model.proofs.Counts.{counted_there, how_many-insert_by, how_many-map}
 use Rattle.local_half.proofs.Lists.{how_many-all, how_many-filter-le, not_counted, picked, spread}
 use Rattle.dtx_model.proofs.Connections.{same_is}
 use Rattle.outcome_law.proofs.Leading.{opening_was_sent}
@@ -206,14 +206,6 @@ each_by number p (n ∷ ns) f =
     (f (number n) (or_left ((number n).value == (number n).value) (has (λ m. (number n).value == (number m).value) ns) (eq_self (number n).value)))
     (each_by number p ns (λ e k. f e (or_right (e.value == (number n).value) (has (λ m. e.value == (number m).value) ns) k)))
 
-counted_some : {A : Type 0} (p : A → Bool) (xs : List A) → has p xs ≡ true → 1 ≤ how_many p xs
-counted_some p [] k = absurd (no k)
-counted_some p (x ∷ xs) k = step (p x) k (counted_some p xs)
-  where
-    step : (b : Bool) → (b || has p xs) ≡ true → (has p xs ≡ true → 1 ≤ how_many p xs) → 1 ≤ (if b then suc (how_many p xs) else how_many p xs)
-    step true k f = omega arith
-    step false k f = f k
-
 some_counted : {A : Type 0} (p : A → Bool) (xs : List A) → 1 ≤ how_many p xs → has p xs ≡ true
 some_counted p xs k = by (has p xs) refl
   where
@@ -230,6 +222,6 @@ desks_few h w i = within (λ (d : Desk). d.enlistment) (branches h) (coordinate 
 
     there : (e : EnlNo) → has (is_desk_of e.value) (coordinate h).desks ≡ true → has (is_branch e.value) (branches h) ≡ true
     there e k =
-        let a = counted_some (is_desk_of e.value) (coordinate h).desks k in
+        let a = counted_there (is_desk_of e.value) (coordinate h).desks k in
         let b = desk_count e h in
         opened_there e h (opening_was_sent (Enl e) h w (some_counted (is_opening_got (Enl e)) h (omega (arith, a, b))))

@@ -15,12 +15,12 @@ use Rattle.dtx_values.specs.declared.words.Outcome.TheVariants.{Aborted}
 use Rattle.dtx_values.specs.Ends.{same_connection}
 use Rattle.dtx_values.specs.Lines.{has_line, is_opening}
 use Rattle.dtx_model.specs.Words.{has}
-use Rattle.dtx_model.specs.Entries.{is_commit_got, is_decision, is_good_vote, is_hand, is_vote, is_yes, is_yes_got}
+use Rattle.dtx_model.specs.Entries.{is_commit_got, is_decision, is_good_vote, is_hand, is_stop, is_vote, is_yes, is_yes_got}
 use Rattle.dtx_model.specs.Frames.{is_valid}
 use Rattle.dtx_model.specs.Learned.{coordinator_aborted}
 use Rattle.dtx_model.specs.Outcome.{evidence, is_first_veto, is_veto}
 use Rattle.dtx_model.specs.Promotes.{ends_told, is_begun_got, is_promoting, is_refusal, is_told_abort}
-use Rattle.dtx_model.specs.Tied.{before_first_stop, can_log, is_stop}
+use Rattle.dtx_model.specs.Tied.{before_first_stop, can_log}
 use Rattle.dtx_model.specs.Wires.{begins_ended, ended_after, ends, is_ended, lost_since, opens}
 use Rattle.dtx_model.proofs.Bools.{and_left, and_right, not_both, not_true, or_case, or_false, or_right}
 use Rattle.outcome_law.specs.Appended.{is_abort_decision, stopped_at_append}

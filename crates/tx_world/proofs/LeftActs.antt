@@ -25,6 +25,7 @@ use Rattle.dtx_values.specs.Row.{is_marked, is_of}
 use Rattle.dtx_values.specs.Table.{voted_before}
 use Rattle.dtx_values.specs.Vote.{is_no}
 use Rattle.dtx_values.specs.Waves.{all_voted, is_over, may_be_asked, name_of, next_ask}
+use Rattle.local_half.specs.Half.{owes_ack}
 use Rattle.dtx_model.specs.declared.branch.Branch.{Branch}
 use Rattle.dtx_model.specs.declared.listener.Listener.{Listener}
 use Rattle.dtx_model.specs.declared.waiting.EnteredCall.{EnteredCall}
@@ -36,7 +37,7 @@ use Rattle.dtx_model.specs.Replies.{ack_on, conn_due, due_conn, due_of, fits, is
 use Rattle.dtx_model.specs.Words.{has, onto, or_else}
 use Rattle.dtx_model.proofs.Bools.{and_both, and_left, and_right, not_true}
 use Rattle.outcome_law.proofs.Tests.{eq_self, second_of_four, second_of_three}
-use Rattle.tx_world.specs.Left.{unacked, unmarked, untold, unvoted}
+use Rattle.tx_world.specs.Left.{unmarked, untold, unvoted}
 use Rattle.tx_world.proofs.LeftCounts.{find-passes, has-found}
 use Rattle.tx_world.proofs.LeftHalf.{client-half, decided-half, handed-half, promote-half, replied-half, requested-half, sealed-half, single-half, yes-half}
 use Rattle.tx_world.proofs.LeftItems.{acked-less, marked-less, told-less, voted-less}
@@ -52,7 +53,7 @@ Owed o e PrepareNote = has (λ x. is_of e x && unvoted x) o.table ≡ true
 Owed o e PromoteNote = o.promote_replied ≡ false
 Owed o e Hand = is_some o.decided ≡ false
 Owed o e SingleNote = o.requested ≡ false
-Owed o e Commit = has (λ b. is_branch e b && unacked b) o.branches ≡ true
+Owed o e Commit = has (λ b. is_branch e b && owes_ack b) o.branches ≡ true
 Owed o e _ = Unit {0}
 
 owed_row : (o : Observed) (e : ℕ) (x : Row) (n : Note) → find (is_of e) o.table ≡ Some x → row_note o x ≡ Some n → Owed o e n
@@ -77,7 +78,7 @@ owed_conn o e n k = by (find (is_branch e) o.branches) refl n k
       where
         at : (d : Option Conn) → b.due ≡ d → (n : Note) → note_of_conn d ≡ Some n → Owed o e n
         at None q n k = absurd cc
-        at (Some c) q Commit k = has-found (is_branch e) (λ y. is_branch e y && unacked y) b o.branches f (and_both (is_branch e b) (unacked b) (find-passes (is_branch e) b o.branches f) (ap is_some q))
+        at (Some c) q Commit k = has-found (is_branch e) (λ y. is_branch e y && owes_ack y) b o.branches f (and_both (is_branch e b) (owes_ack b) (find-passes (is_branch e) b o.branches f) (ap is_some q))
         at (Some c) q _ k = absurd cc
 
 -- a reply that is due isn't given yet

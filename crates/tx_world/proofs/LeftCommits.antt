@@ -1,5 +1,5 @@
 -- COMMIT is sent at most once after the seal and once on request; so where one is on the way, the coordinator got one at most.
-use Rattle.std.proofs.Common.{◌≡◌, ◌⊎◌, inl, inr, ℕ, suc, ◌+◌, ◌≤◌, Bool, true, false, ◌&&◌, ◌||◌, not, List, [], ◌∷◌, ◌++◌, Some, is_some, if◌then◌else◌, refl, sym, subst, ap, arith}
+use Rattle.std.proofs.Common.{◌≡◌, ◌⊎◌, inl, inr, ℕ, suc, ◌+◌, ◌≤◌, Bool, true, false, ◌&&◌, ◌||◌, not, List, [], ◌∷◌, ◌++◌, Some, is_some, if◌then◌else◌, refl, sym, subst, ap, ◌∙◌, arith}
 use Rattle.dtx_values.specs.declared.call.Call.{Call}
 use Rattle.dtx_values.specs.declared.entry.Entry.{Entry}
 use Rattle.dtx_values.specs.declared.entry.Entry.TheVariants.{Called, Down as Ended, Got, Requested, Sealed, Sent, Stopped}
@@ -17,7 +17,7 @@ use Rattle.dtx_model.specs.declared.desk.Desk.{Desk}
 use Rattle.dtx_model.specs.Acts.{act_entries, promotable_in}
 use Rattle.dtx_model.specs.Caused.{Ran}
 use Rattle.dtx_model.specs.Coordinated.{Coordinated, coordinate, core_got, is_active, may_log, to, to_each}
-use Rattle.dtx_model.specs.Entries.{is_commit_got, is_sealed}
+use Rattle.dtx_model.specs.Entries.{is_commit_got, is_commit_sent, is_sealed}
 use Rattle.dtx_model.specs.Facts.{facts_if, has_facts}
 use Rattle.dtx_model.specs.Half.{Half, to_up}
 use Rattle.dtx_model.specs.Observed.{Observed, is_request, observe}
@@ -29,13 +29,14 @@ use Rattle.dtx_model.specs.Wires.{WireRun, in_transit}
 use Rattle.dtx_model.specs.Words.{each, has, onto}
 use Rattle.dtx_model.specs.World.{World, answer_at, core, facts_at, half}
 use Rattle.dtx_model.proofs.Bools.{and_both, and_left, and_right, not_true}
+use Rattle.dtx_model.proofs.Counts.{how_many-more}
 use Rattle.outcome_law.proofs.BareBlocks.{Bare, Requests, Seals, act_kind, bare_appended, bare_called, bare_cons, bare_core_got, bare_ended_at, bare_freed, bare_if, bare_local_got, bare_one, bare_restarted, is_bare, reply_kind}
 use Rattle.outcome_law.proofs.Messages.{COMMIT}
-use Rattle.outcome_law.proofs.Crossed.{is_got_on}
+use Rattle.outcome_law.proofs.Crossed.{is_got_on, is_sent_on}
 use Rattle.outcome_law.proofs.InTransit.{no_more}
 use Rattle.tx_world.specs.Left.{commits}
 use Rattle.tx_world.proofs.LeftActs.{owed}
-use Rattle.outcome_law.proofs.Asking.{is_commit_sent, bare_uncommit}
+use Rattle.outcome_law.proofs.Asking.{bare_uncommit, commit_on, sent_commit}
 
 no : false ≡ true → ⊥
 no e = absurd cc
@@ -81,7 +82,7 @@ sent_few o m h l = by (knows Begin o.ends)
     one false = omega arith
 
     by : (b : Bool) → AreFew (onto h (if b then Sent Begin Up m ∷ [] else []))
-    by true = record { few = one (COMMIT m) }
+    by true = record { few = one (is_commit_sent (Sent Begin Up m)) }
     by false = record { few = omega arith }
 
 seal_few : (h : List Entry) (es : List Entry) (v : Half) → v.seen ≡ observe h → Seals v es → AreFew h → AreFew (onto h es)
@@ -110,12 +111,12 @@ request_few h es v e q s i =
 down_to : (k : Coordinated) (c : Conn) (m : Message) → each is_uncommit (to k c m) ≡ true
 down_to k c m = by (has (same_connection c) k.known)
   where
-    one : (a b : Bool) → (not (a && false && b) && true) ≡ true
-    one true b = refl
-    one false b = refl
+    one : (c : Conn) → each is_uncommit (Sent c Down m ∷ []) ≡ true
+    one Begin = refl
+    one _ = refl
 
     by : (b : Bool) → each is_uncommit (if b then Sent c Down m ∷ [] else []) ≡ true
-    by true = one (same_connection Begin c) (COMMIT m)
+    by true = one c
     by false = refl
 
 join : (xs ys : List Entry) → each is_uncommit xs ≡ true → each is_uncommit ys ≡ true → each is_uncommit (xs ++ ys) ≡ true
@@ -172,28 +173,14 @@ pub ran_few : (G : ℕ → ActorNo → Call → Type 0) (t : ℕ) (ms : List Ste
 ran_few G t [] w r = subst AreFew (sym r.1) (record { few = omega arith })
 ran_few G t (m ∷ ms) w r = subst (λ (x : World). AreFew x.past) (sym r.3) (step_few t r.0 m (ran_few G t ms r.0 r.1))
 
-got_fewer : (h : List Entry) → commits h ≤ how_many (is_got_on Begin Up COMMIT) h
-got_fewer [] = omega arith
-got_fewer (x ∷ h) = by (is_commit_got x) (is_got_on Begin Up COMMIT x) (same x) (got_fewer h)
-  where
-    same : (x : Entry) → is_commit_got x ≡ true → is_got_on Begin Up COMMIT x ≡ true
-    same (Got Begin Up BeginCommit) t = refl
-    same _ t = absurd (no t)
-
-    by : (a b : Bool) → (a ≡ true → b ≡ true) → commits h ≤ how_many (is_got_on Begin Up COMMIT) h
-        → (if a then suc (commits h) else commits h) ≤ (if b then suc (how_many (is_got_on Begin Up COMMIT) h) else how_many (is_got_on Begin Up COMMIT) h)
-    by true true s i = omega arith
-    by true false s i = absurd (no (s refl))
-    by false true s i = omega arith
-    by false false s i = i
-
 -- where a COMMIT comes, one came before at most
 pub commits_few : (h : List Entry) (ms : List Message) → WireRun h → AreFew h → in_transit Begin Up h ≡ BeginCommit ∷ ms → commits h ≤ 1
 commits_few h ms w i t =
     let a = no_more Begin Up COMMIT h w in
     let b : how_many COMMIT (in_transit Begin Up h) ≡ suc (how_many COMMIT ms) = ap (how_many COMMIT) t in
-    let c = got_fewer h in
+    let c : commits h ≤ how_many (is_got_on Begin Up COMMIT) h = how_many-more is_commit_got (is_got_on Begin Up COMMIT) commit_on h in
     let d = i.few in
+    let e = how_many-more (is_sent_on Begin Up COMMIT) is_commit_sent (λ x k. sym (sent_commit x) ∙ k) h in
     let s = most (has is_sealed h) in
     let r = most (has is_request h) in
     omega arith

@@ -22,6 +22,7 @@ use Rattle.dtx_values.specs.declared.words.Outcome.TheVariants.{Committed, Abort
 use Rattle.dtx_values.specs.declared.words.Vote.{Vote}
 use Rattle.dtx_values.specs.Row.{is_of, mark_in, mark_row, unless_there, vote_in, vote_row}
 use Rattle.dtx_values.specs.Table.{how_many, marks}
+use Rattle.local_half.specs.Half.{owes_ack}
 use Rattle.dtx_model.specs.declared.branch.Branch.{Branch}
 use Rattle.dtx_model.specs.declared.listener.Listener.{Listener}
 use Rattle.dtx_model.specs.Entries.{client_told_of, decision_of, handed_of, is_promoted, is_sealed, is_yes}
@@ -32,7 +33,7 @@ use Rattle.dtx_model.specs.Waiting.{Waiter, is_place, waiting}
 use Rattle.dtx_model.specs.Words.{has, latest}
 use Rattle.dtx_model.proofs.Counts.{how_many-insert_by, how_many-map}
 use Rattle.outcome_law.proofs.TableRows.{there}
-use Rattle.tx_world.specs.Left.{half_left, places_left, unacked, unmarked, untold, unvoted}
+use Rattle.tx_world.specs.Left.{half_left, places_left, unmarked, untold, unvoted}
 use Rattle.tx_world.proofs.LeftSums.{how_many-filter}
 use Rattle.tx_world.proofs.LeftCounts.{how_many-map-le}
 
@@ -80,7 +81,7 @@ hear_keeps e l k = step (e == l.enlistment.value) l.told k
     step false b k = k
 
 -- an acknowledgement makes nothing due
-pub ack_keeps : (e : ℕ) (b : Branch) → unacked (branch_acked e b) ≡ true → unacked b ≡ true
+pub ack_keeps : (e : ℕ) (b : Branch) → owes_ack (branch_acked e b) ≡ true → owes_ack b ≡ true
 ack_keeps e b k = step (is_branch e b) k
   where
     step : (t : Bool) → is_some (due_in t None b.due) ≡ true → is_some b.due ≡ true
@@ -141,8 +142,8 @@ voted-half ks e v h =
     let b = how_many-map-le unvoted (vote_in e.value v) (cast_keeps_unvoted e.value v) (rows h) in omega arith
 
 -- an abort makes nothing due
-pub aborted-acks : (e : ℕ) (bs : List Branch) → how_many unacked (map (branch_aborted e) bs) ≡ how_many unacked bs
-aborted-acks e bs = how_many-map unacked (branch_aborted e) (λ b. refl) bs
+pub aborted-acks : (e : ℕ) (bs : List Branch) → how_many owes_ack (map (branch_aborted e) bs) ≡ how_many owes_ack bs
+aborted-acks e bs = how_many-map owes_ack (branch_aborted e) (λ b. refl) bs
 
 told-half : (ks : List EnteredCall) (p : Party) (x : Outcome) (h : List Entry) → half_left (half_of ks (Told p x ∷ h)) ≤ half_left (half_of ks h)
 unfolding observe
@@ -153,7 +154,7 @@ told-half ks (Member e) InDoubt h = let a = how_many-map-le untold (hear e.value
 
 acked-half : (ks : List EnteredCall) (e : EnlNo) (h : List Entry) → half_left (half_of ks (Acked e ∷ h)) ≤ half_left (half_of ks h)
 unfolding observe
-acked-half ks e h = let a = how_many-map-le unacked (branch_acked e.value) (ack_keeps e.value) (branches h) in omega arith
+acked-half ks e h = let a = how_many-map-le owes_ack (branch_acked e.value) (ack_keeps e.value) (branches h) in omega arith
 
 sent-half : (ks : List EnteredCall) (c : Conn) (d : Dir) (m : Message) (h : List Entry) → half_left (half_of ks (Sent c d m ∷ h)) ≤ half_left (half_of ks h)
 unfolding observe
@@ -162,8 +163,8 @@ sent-half ks Voter d m h = omega arith
 sent-half ks (Again e) d m h = omega arith
 sent-half ks (Enl e) Down m h = omega arith
 sent-half ks (Enl e) Up (EnlistEnlist i) h =
-    let a = how_many-insert_by unacked branch_number (record { enlistment = e; manager = i.rm; enlisted = false; aborted = false; acked = false; due = None }) (filter (λ b. not (is_branch e.value b)) (branches h)) in
-    let b = how_many-filter unacked (λ b. not (is_branch e.value b)) (branches h) in omega arith
+    let a = how_many-insert_by owes_ack branch_number (record { enlistment = e; manager = i.rm; enlisted = false; aborted = false; acked = false; due = None }) (filter (λ b. not (is_branch e.value b)) (branches h)) in
+    let b = how_many-filter owes_ack (λ b. not (is_branch e.value b)) (branches h) in omega arith
 sent-half ks (Enl e) Up m h = omega arith
 
 lost-untold : (e : ℕ) (ls : List Listener) → how_many untold (map (λ l. record { enlistment = l.enlistment; told = l.told; lost = (e == l.enlistment.value) || l.lost }) ls) ≡ how_many untold ls

@@ -20,6 +20,7 @@ use Rattle.dtx_values.specs.declared.words.Outcome.TheVariants.{Committed, Abort
 use Rattle.dtx_values.specs.declared.words.Vote.{Vote}
 use Rattle.dtx_values.specs.Row.{fresh_row, is_of, mark_in, number_of, vote_in}
 use Rattle.dtx_values.specs.Table.{how_many, insert_by, marks}
+use Rattle.local_half.specs.Half.{owes_ack}
 use Rattle.dtx_model.specs.declared.branch.Branch.{Branch}
 use Rattle.dtx_model.specs.declared.listener.Listener.{Listener}
 use Rattle.dtx_model.specs.declared.waiting.EnteredCall.{EnteredCall}
@@ -31,7 +32,7 @@ use Rattle.dtx_model.proofs.Bools.{and_both, and_left, and_right, not_true}
 use Rattle.dtx_model.proofs.Counts.{how_many-insert_by, how_many-map}
 use Rattle.outcome_law.proofs.Scans.{has_more}
 use Rattle.outcome_law.proofs.TableRows.{there}
-use Rattle.tx_world.specs.Left.{half_left, places_left, unacked, unmarked, untold, unvoted}
+use Rattle.tx_world.specs.Left.{half_left, places_left, unmarked, untold, unvoted}
 use Rattle.tx_world.proofs.LeftSums.{how_many-filter, how_many-none}
 use Rattle.tx_world.proofs.LeftCounts.{falls, how_many-map-le, how_many-map-lt}
 use Rattle.tx_world.proofs.LeftHalf.{ack_keeps, aborted-acks, cast_keeps_unmarked, cast_keeps_unvoted, hear_keeps, mark_keeps_unmarked, mark_keeps_unvoted}
@@ -54,10 +55,10 @@ hear_falls e l k =
     let here = and_left (e == l.enlistment.value) (untold l) k in
     rw here (and_both (untold l) true (and_right (e == l.enlistment.value) (untold l) k) refl)
 
-ack_falls : (e : ℕ) (b : Branch) → (is_branch e b && unacked b) ≡ true → falls unacked (branch_acked e) b ≡ true
+ack_falls : (e : ℕ) (b : Branch) → (is_branch e b && owes_ack b) ≡ true → falls owes_ack (branch_acked e) b ≡ true
 ack_falls e b k =
-    let here = and_left (is_branch e b) (unacked b) k in
-    rw here (and_both (unacked b) true (and_right (is_branch e b) (unacked b) k) refl)
+    let here = and_left (is_branch e b) (owes_ack b) k in
+    rw here (and_both (owes_ack b) true (and_right (is_branch e b) (owes_ack b) k) refl)
 
 -- an ask, a vote, a notification and an acknowledgement of one that lacked it
 pub marked-less : (ks : List EnteredCall) (e : EnlNo) (h : List Entry) → has (λ x. is_of e.value x && unmarked x) (rows h) ≡ true → half_left (half_of ks (Asked e Prepare ∷ h)) + 1 ≤ half_left (half_of ks h)
@@ -91,11 +92,11 @@ told-less ks e InDoubt h k =
     let a = how_many-map-lt untold (hear e.value) (hear_keeps e.value) (listeners h) some in omega arith
 
 -- an acknowledgement that is due
-pub acked-less : (ks : List EnteredCall) (e : EnlNo) (h : List Entry) → has (λ b. is_branch e.value b && unacked b) (branches h) ≡ true → half_left (half_of ks (Acked e ∷ h)) + 2 ≤ half_left (half_of ks h)
+pub acked-less : (ks : List EnteredCall) (e : EnlNo) (h : List Entry) → has (λ b. is_branch e.value b && owes_ack b) (branches h) ≡ true → half_left (half_of ks (Acked e ∷ h)) + 2 ≤ half_left (half_of ks h)
 unfolding observe
 acked-less ks e h k =
-    let some = has_more (λ b. is_branch e.value b && unacked b) (falls unacked (branch_acked e.value)) (λ b q. ack_falls e.value b q) (branches h) k in
-    let a = how_many-map-lt unacked (branch_acked e.value) (ack_keeps e.value) (branches h) some in omega arith
+    let some = has_more (λ b. is_branch e.value b && owes_ack b) (falls owes_ack (branch_acked e.value)) (λ b q. ack_falls e.value b q) (branches h) k in
+    let a = how_many-map-lt owes_ack (branch_acked e.value) (ack_keeps e.value) (branches h) some in omega arith
 
 -- a call that waits for a place is answered
 less-place : (n : ℕ) (ws : List Waiter) → has (λ (w : Waiter). (n == w.0) && is_place w) ws ≡ true → how_many is_place (filter (λ (w : Waiter). not (n == w.0)) ws) < how_many is_place ws
@@ -163,13 +164,13 @@ branches-once e (Acked f ∷ h) = let a = how_many-map (is_branch e) (branch_ack
 branches-once e (Reenlisted f ∷ h) = let a = how_many-map (is_branch e) (branch_due f.value None) (λ b. refl) (branches h) in let i = branches-once e h in omega arith
 branches-once e (_ ∷ h) = branches-once e h
 
-due-more : (e : ℕ) (c : Conn) (bs : List Branch) → how_many unacked (map (branch_due e (Some c)) bs) ≤ how_many unacked bs + how_many (is_branch e) bs
+due-more : (e : ℕ) (c : Conn) (bs : List Branch) → how_many owes_ack (map (branch_due e (Some c)) bs) ≤ how_many owes_ack bs + how_many (is_branch e) bs
 due-more e c [] = omega arith
-due-more e c (b ∷ bs) = by (is_branch e b) (unacked b) refl (due-more e c bs)
+due-more e c (b ∷ bs) = by (is_branch e b) (owes_ack b) refl (due-more e c bs)
   where
-    by : (s u : Bool) → unacked b ≡ u → how_many unacked (map (branch_due e (Some c)) bs) ≤ how_many unacked bs + how_many (is_branch e) bs
-        → (if is_some (due_in s (Some c) b.due) then suc (how_many unacked (map (branch_due e (Some c)) bs)) else how_many unacked (map (branch_due e (Some c)) bs))
-        ≤ (if u then suc (how_many unacked bs) else how_many unacked bs) + (if s then suc (how_many (is_branch e) bs) else how_many (is_branch e) bs)
+    by : (s u : Bool) → owes_ack b ≡ u → how_many owes_ack (map (branch_due e (Some c)) bs) ≤ how_many owes_ack bs + how_many (is_branch e) bs
+        → (if is_some (due_in s (Some c) b.due) then suc (how_many owes_ack (map (branch_due e (Some c)) bs)) else how_many owes_ack (map (branch_due e (Some c)) bs))
+        ≤ (if u then suc (how_many owes_ack bs) else how_many owes_ack bs) + (if s then suc (how_many (is_branch e) bs) else how_many (is_branch e) bs)
     by true true q i = omega arith
     by true false q i = omega arith
     by false true q i = rw q (omega arith)
@@ -184,7 +185,7 @@ gain _ _ _ = 0
 -- what is got leaves no more at the local side, but for the acknowledgement
 pub got-half : (ks : List EnteredCall) (c : Conn) (d : Dir) (m : Message) (h : List Entry) → half_left (half_of ks (Got c d m ∷ h)) ≤ half_left (half_of ks h) + gain c d m
 unfolding observe
-got-half ks (Enl e) Down EnlistEnlisted h = let a = how_many-map unacked (branch_enlisted e.value) (λ b. refl) (branches h) in omega arith
+got-half ks (Enl e) Down EnlistEnlisted h = let a = how_many-map owes_ack (branch_enlisted e.value) (λ b. refl) (branches h) in omega arith
 got-half ks (Enl e) Down EnlistCommit h = let a = due-more e.value (Enl e) (branches h) in let b = branches-once e.value h in omega arith
 got-half ks (Again e) Down ReenlistCommitted h = let a = due-more e.value (Again e) (branches h) in let b = branches-once e.value h in omega arith
 got-half ks Begin d m h = omega arith

@@ -17,7 +17,7 @@ use Rattle.dtx_values.specs.Ends.{end_order, is_end_of, is_in, note_end, note_go
 use Rattle.dtx_values.specs.Lines.{has_line, is_opening}
 use Rattle.dtx_values.specs.Table.{how_many}
 use Rattle.dtx_model.specs.Words.{has}
-use Rattle.dtx_model.specs.Entries.{is_any_hand, is_decision, is_promoted, is_sealed}
+use Rattle.dtx_model.specs.Entries.{is_any_hand, is_commit_sent, is_decision, is_promoted, is_sealed}
 use Rattle.dtx_model.specs.Frames.{is_valid}
 use Rattle.dtx_model.specs.Observed.{ends_of, observe}
 use Rattle.dtx_model.specs.Outcome.{durables, ready}
@@ -26,7 +26,7 @@ use Rattle.dtx_model.specs.Steps.{Step}
 use Rattle.dtx_model.specs.Wires.{is_ended, lost_since, opens}
 use Rattle.dtx_model.specs.World.{World, is_linked}
 use Rattle.dtx_model.specs.Caused.{AreMadeOnce, Ran}
-use Rattle.local_half.specs.Rights.{is_commit_sent, is_in_one_place, right_after, right_of, right_seen}
+use Rattle.local_half.specs.Rights.{is_in_one_place, right_after, right_of, right_seen}
 use Rattle.dtx_model.proofs.Bools.{and_both, and_left, and_never, and_right, not_both, not_true, or_case, or_right, three_hold}
 use Rattle.outcome_law.proofs.Tests.{first_of_five, first_of_three, fourth_of_four, second_of_three, third_of_five}
 use Rattle.outcome_law.proofs.Scans.{has_more}
@@ -37,6 +37,7 @@ use Rattle.outcome_law.proofs.Table.{have_come, is_there, message_row, rule}
 use Rattle.outcome_law.proofs.Keeping.{Keeps, before, fifth_of_five, keeps_before, newest, third_of_three}
 use Rattle.outcome_law.proofs.Crossed.{since_opened}
 use Rattle.dtx_model.proofs.Connections.{same_is}
+use Rattle.dtx_model.proofs.Counts.{counted_there}
 use Rattle.outcome_law.proofs.Recording.{promoting_if_promoted}
 use Rattle.outcome_law.proofs.Evident.{sealed_if_handed}
 use Rattle.outcome_law.proofs.Knowledge.{other_stays, with_other, with_own}
@@ -44,7 +45,6 @@ use Rattle.outcome_law.proofs.CoreKnown.{has_made}
 use Rattle.outcome_law.proofs.HalfKnows.{end_same, got_same, one_tag_more, sent_same, unmapped, way_seen}
 use Rattle.tx_world.specs.Carried.{are_sendable, is_sendable}
 use Rattle.tx_world.proofs.SendingApt.{can_send}
-use Rattle.tx_world.proofs.SendingOpened.{some_many}
 use Rattle.tx_world.proofs.Sendable.{id_valid, ran_ends}
 
 -- COMMIT was sent on b by what is known of its end.
@@ -191,7 +191,7 @@ fewer true n k = omega (arith, k)
 fewer false n k = k
 
 none_before : (b : Bool) (h : List Entry) → b ≡ true → (if b then suc (how_many (opens Begin) h) else how_many (opens Begin) h) ≤ 1 → has (opens Begin) h ≡ false
-none_before true h q k = false_from_ne_true (has (opens Begin) h) (λ t. let some = some_many (opens Begin) h t in omega (arith, k, some))
+none_before true h q k = false_from_ne_true (has (opens Begin) h) (λ t. let some = counted_there (opens Begin) h t in omega (arith, k, some))
 none_before false h q k = absurd cc
 
 -- what was sent is seen, where b was opened once

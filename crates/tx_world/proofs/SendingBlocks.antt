@@ -130,24 +130,24 @@ pub apt_core_down : {p : List Entry} (k : Coordinated) (c : Conn) → Speaks p (
 unfolding core_down
 apt_core_down k c s = apt_if (is_early k c && is_undecided k.stage) (apt_abort (follow k (Ended c Up)) s) apt_none
 
--- the coordinator's act; where it is stopped by it, that is the whole block
-abbrev pub is_hit : LogAnswer → Bool
-is_hit StoppedNow = true
-is_hit StoppedBefore = true
-is_hit _ = false
+-- the coordinator's act; where the log was stopped, by it or before, that is the whole block
+abbrev pub is_stop_answer : LogAnswer → Bool
+is_stop_answer StoppedNow = true
+is_stop_answer StoppedBefore = true
+is_stop_answer _ = false
 
 -- the coordinator's act where the log isn't stopped
-pub apt_coordinates : {p : List Entry} (k : Coordinated) (a : LogAnswer) → is_hit a ≡ false → Speaks p k → Apt p (coordinates k a)
+pub apt_coordinates : {p : List Entry} (k : Coordinated) (a : LogAnswer) → is_stop_answer a ≡ false → Speaks p k → Apt p (coordinates k a)
 unfolding follow
 apt_coordinates {p} k a n s = apt_if (may_log k) (appends a n) (frees a n)
   where
-    appends : (a : LogAnswer) → is_hit a ≡ false → Apt p (appended k a)
+    appends : (a : LogAnswer) → is_stop_answer a ≡ false → Apt p (appended k a)
     appends Done n = apt_cons Logged refl refl (apt_commit (follow k Logged) (record { down = s.down }))
     appends Full n = apt_cons LogFull refl refl (apt_abort (follow k LogFull) (record { down = s.down }))
     appends StoppedNow n = absurd cc
     appends StoppedBefore n = absurd cc
 
-    frees : (a : LogAnswer) → is_hit a ≡ false → Apt p (freed a)
+    frees : (a : LogAnswer) → is_stop_answer a ≡ false → Apt p (freed a)
     frees Done n = apt_one Freed refl refl
     frees Full n = apt_none
     frees StoppedNow n = absurd cc

@@ -16,30 +16,20 @@ use Rattle.dtx_model.specs.Wires.{WireRun, in_transit, opens, same_connection}
 use Rattle.dtx_model.specs.Words.{always, has}
 use Rattle.dtx_model.proofs.Bools.{and_both, and_left, and_right, not_both, not_true, or_case}
 use Rattle.dtx_model.proofs.Connections.{same_self, same_is}
+use Rattle.dtx_model.proofs.Counts.{counted_there, how_many-more, none_counted}
 use Rattle.outcome_law.proofs.Crossed.{is_got_on, is_sent_on}
 use Rattle.outcome_law.proofs.InTransit.{no_more}
 use Rattle.outcome_law.proofs.Leading.{sent_opens}
 use Rattle.outcome_law.proofs.StillBlocks.{is_welcome}
 use Rattle.outcome_law.proofs.Table.{ends_with, is_opening_got}
 use Rattle.outcome_law.proofs.Welcomes.{is_direct}
-use Rattle.tx_world.proofs.SendingOpened.{Opened, none_many, some_many}
+use Rattle.tx_world.proofs.SendingOpened.{Opened}
 
 no : false ≡ true → ⊥
 no e = absurd cc
 
--- where each that passes p passes q, no more pass p than q
-how_more : (p q : Entry → Bool) → ((x : Entry) → p x ≡ true → q x ≡ true) → (h : List Entry) → how_many p h ≤ how_many q h
-how_more p q f [] = omega arith
-how_more p q f (x ∷ h) = step (p x) (q x) (how_many p h) (how_many q h) (f x) (how_more p q f h)
-  where
-    step : (a b : Bool) (u v : ℕ) → (a ≡ true → b ≡ true) → u ≤ v → (if a then suc u else u) ≤ (if b then suc v else v)
-    step true true u v f k = omega (arith, k)
-    step true false u v f k = absurd (no (f refl))
-    step false true u v f k = omega (arith, k)
-    step false false u v f k = k
-
 many_none : (p : Entry → Bool) (h : List Entry) → how_many p h ≤ 0 → has p h ≡ false
-many_none p h k = false_from_ne_true (has p h) (λ t. by (how_many p h) (some_many p h t) k)
+many_none p h k = false_from_ne_true (has p h) (λ t. by (how_many p h) (counted_there p h t) k)
   where
     by : (n : ℕ) → 1 ≤ n → n ≤ 0 → ⊥
     by n p q = omega (arith, p, q)
@@ -106,7 +96,7 @@ answers_opened : (c : Conn) (h : List Entry) → WireRun h → always is_direct 
 answers_opened c h w a =
     by (how_many (is_sent_on c Down is_welcome) h) (one_if (ends_with (is_opening_got c) h)) (how_many (is_opening_got c) h) (how_many (is_got_on c Up (is_opening c)) h)
     (how_many (is_opening c) (in_transit c Up h)) (how_many (is_sent_on c Up (is_opening c)) h) (how_many (opens c) h) (answers c h a)
-    (how_more (is_opening_got c) (is_got_on c Up (is_opening c)) (got_opening c) h) (no_more c Up (is_opening c) h w) (how_more (is_sent_on c Up (is_opening c)) (opens c) (sent_opens c) h)
+    (how_many-more (is_opening_got c) (is_got_on c Up (is_opening c)) (got_opening c) h) (no_more c Up (is_opening c) h w) (how_many-more (is_sent_on c Up (is_opening c)) (opens c) (sent_opens c) h)
   where
     by : (a b c d e f g : ℕ) → a + b ≤ c → c ≤ d → d + e ≤ f → f ≤ g → a ≤ g
     by a b c d e f g p q r s = omega (arith, p, q, r, s)
@@ -139,7 +129,7 @@ created_on _ t = absurd (no t)
 pub voter_new : (u : ℕ) (h : List Entry) → WireRun (Got Begin Down (BeginBegun u) ∷ h) → always is_direct h ≡ true → Opened h → has (opens Voter) h ≡ false
 voter_new u h w a i =
     many_none (opens Voter) h
-    (by (how_many (opens Voter) h) (how_many is_begun_got h) (how_many (is_got_on Begin Down is_welcome) h) (how_many (opens Begin) h) i.voter (how_more is_begun_got (is_got_on Begin Down is_welcome) begun_on h)
+    (by (how_many (opens Voter) h) (how_many is_begun_got h) (how_many (is_got_on Begin Down is_welcome) h) (how_many (opens Begin) h) i.voter (how_many-more is_begun_got (is_got_on Begin Down is_welcome) begun_on h)
     (come_opened Begin (BeginBegun u) h refl w a) i.single)
   where
     by : (a b c d : ℕ) → a ≤ b → b ≤ c → suc c ≤ d → d ≤ 1 → a ≤ 0
@@ -150,8 +140,8 @@ pub created_new : (h : List Entry) → WireRun (Got Voter Down VoterCreated ∷ 
 created_new h w a i =
     many_none is_created_got h
     (by (how_many is_created_got h) (how_many (is_got_on Voter Down is_welcome) h) (how_many (opens Voter) h) (how_many is_begun_got h) (how_many (is_got_on Begin Down is_welcome) h)
-    (how_many is_welcome (in_transit Begin Down h)) (how_many (is_sent_on Begin Down is_welcome) h) (how_many (opens Begin) h) (how_more is_created_got (is_got_on Voter Down is_welcome) created_on h)
-    (come_opened Voter VoterCreated h refl w a) i.voter (how_more is_begun_got (is_got_on Begin Down is_welcome) begun_on h) (no_more Begin Down is_welcome h w.1) (answers_opened Begin h w.1 a) i.single)
+    (how_many is_welcome (in_transit Begin Down h)) (how_many (is_sent_on Begin Down is_welcome) h) (how_many (opens Begin) h) (how_many-more is_created_got (is_got_on Voter Down is_welcome) created_on h)
+    (come_opened Voter VoterCreated h refl w a) i.voter (how_many-more is_begun_got (is_got_on Begin Down is_welcome) begun_on h) (no_more Begin Down is_welcome h w.1) (answers_opened Begin h w.1 a) i.single)
   where
     by : (a b c d e f g k : ℕ) → a ≤ b → suc b ≤ c → c ≤ d → d ≤ e → e + f ≤ g → g ≤ k → k ≤ 1 → a ≤ 0
     by a b c d e f g k p q r s t u v = omega (arith, p, q, r, s, t, u, v)
@@ -162,7 +152,7 @@ opened_before c m h k w a = by (has (opens c) h) refl (come_opened c m h k w a)
   where
     by : (b : Bool) → has (opens c) h ≡ b → suc (how_many (is_got_on c Down is_welcome) h) ≤ how_many (opens c) h → b ≡ true
     by true q k = refl
-    by false q k = absurd (less (how_many (is_got_on c Down is_welcome) h) (how_many (opens c) h) k (none_many (opens c) h q))
+    by false q k = absurd (less (how_many (is_got_on c Down is_welcome) h) (how_many (opens c) h) k (none_counted (opens c) h q))
       where
         less : (n m : ℕ) → suc n ≤ m → m ≡ 0 → ⊥
         less n m p e = omega (arith, p, e)

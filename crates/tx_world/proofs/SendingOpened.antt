@@ -31,10 +31,11 @@ use Rattle.dtx_model.specs.Outcome.{enlisted}
 use Rattle.dtx_model.specs.Promotes.{is_begun_got, is_created_got, is_promoting}
 use Rattle.dtx_model.specs.Wires.{opens, same_connection}
 use Rattle.dtx_model.specs.Words.{each, has}
-use Rattle.dtx_model.proofs.Bools.{and_both, and_left, and_never, and_right, not_both, not_true, or_case, or_first, or_right, or_second}
+use Rattle.dtx_model.proofs.Bools.{and_both, and_left, and_never, and_right, not_both, not_true, or_case, or_right, or_second}
 use Rattle.outcome_law.proofs.Owned.{has_filter}
 use Rattle.outcome_law.proofs.Scans.{has_more}
 use Rattle.dtx_model.proofs.Connections.{same_is}
+use Rattle.dtx_model.proofs.Counts.{counted_there, none_counted}
 use Rattle.outcome_law.proofs.Lists.{has-insert, has_kept}
 use Rattle.outcome_law.proofs.Tests.{eq_self}
 use Rattle.outcome_law.proofs.Rule.{is_enlisted}
@@ -240,16 +241,12 @@ calm_opened x h k i = record {
     by u v z w e p q = omega (arith, e, p, q)
 
 -- The entries that open one, begin the promotion or end it well, and a promotable.
-pub none_many : (p : Entry → Bool) (h : List Entry) → has p h ≡ false → how_many p h ≡ 0
-none_many p [] n = refl
-none_many p (x ∷ h) n = same_many p x h (or_first (p x) (has p h) n) ∙ none_many p h (or_second (p x) (has p h) n)
-
 -- BEGIN is sent for the first time
 pub begin_opened : (h : List Entry) → has (opens Begin) h ≡ false → has is_promoting h ≡ true → ((has is_promote_reply h ≡ true) ⊎ (is_unpromotable h ≡ true)) → Opened h
     → Opened (Sent Begin Up BeginBegin ∷ h)
 begin_opened h n s p i = record {
   begun = λ t. s;
-  single = by (how_many (opens Begin) h) (none_many (opens Begin) h n);
+  single = by (how_many (opens Begin) h) (none_counted (opens Begin) h n);
   bare = λ t u. elim p as (λ z. is_unpromotable h ≡ true) [ inl r ↦ absurd (not_both (has is_promote_reply h) r u) | inr q ↦ q ];
   asked = i.asked;
   voter = i.voter;
@@ -266,15 +263,6 @@ begin_opened h n s p i = record {
     by : (k : ℕ) → k ≡ 0 → suc k ≤ 1
     by k e = omega (arith, e)
 
--- one that passes counts
-pub some_many : (p : Entry → Bool) (h : List Entry) → has p h ≡ true → 1 ≤ how_many p h
-some_many p [] k = absurd (no k)
-some_many p (x ∷ h) k = step (p x) (some_many p h) k
-  where
-    step : (b : Bool) → (has p h ≡ true → 1 ≤ how_many p h) → (b || has p h) ≡ true → 1 ≤ (if b then suc (how_many p h) else how_many p h)
-    step true f k = omega arith
-    step false f k = f k
-
 -- VOTER is sent for the first time, after BEGUN
 pub voter_opened : (h : List Entry) (u : ℕ) → has (opens Voter) h ≡ false → has is_begun_got h ≡ true → Opened h → Opened (Sent Voter Up (VoterVoter u) ∷ h)
 voter_opened h u n b i = record {
@@ -282,7 +270,7 @@ voter_opened h u n b i = record {
   single = i.single;
   bare = i.bare;
   asked = i.asked;
-  voter = by (how_many (opens Voter) h) (how_many is_begun_got h) (none_many (opens Voter) h n) (some_many is_begun_got h b);
+  voter = by (how_many (opens Voter) h) (how_many is_begun_got h) (none_counted (opens Voter) h n) (counted_there is_begun_got h b);
   created = i.created;
   started = i.started;
   handed = i.handed;
@@ -320,7 +308,7 @@ enlist_opened h e m new c s o i = record {
     once : (f : EnlNo) (b : Bool) → (f.value == e.value) ≡ b → how_many (opens (Enl f)) h ≤ 1 → (if b && true then suc (how_many (opens (Enl f)) h) else how_many (opens (Enl f)) h) ≤ 1
     once f true q k =
         let P : Conn → Type 0 = λ c. has (opens c) h ≡ false in
-        let none = none_many (opens (Enl f)) h (subst P (sym (same_is (Enl f) (Enl e) q)) new) in omega (arith, none)
+        let none = none_counted (opens (Enl f)) h (subst P (sym (same_is (Enl f) (Enl e) q)) new) in omega (arith, none)
     once f false q k = k
 
 -- the owner has a row

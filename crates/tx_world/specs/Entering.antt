@@ -49,11 +49,6 @@ called_with t h n a c x = Called n a x ∷ facts_if (has_facts x) (half_facts t 
 abbrev pub local_call : ℕ → Half → ℕ → ActorNo → Call → ℕ → List Entry
 local_call t h n a c m = called_with t h n a c (half_answer t h c m)
 
--- the call loses an enlistment
-abbrev pub is_gone_call : Call → Bool
-is_gone_call (Gone e) = true
-is_gone_call _ = false
-
 -- what cuts a connection, where that is wanted and it is open: all its upward messages are kept, and none downward
 abbrev pub cut_if : List Entry → Bool → Conn → List Entry
 cut_if past wanted c = if wanted && is_open_wire c past then cut_upward past c ∷ [] else []

@@ -11,7 +11,7 @@ use Rattle.dtx_values.specs.declared.row.Row.{Row}
 use Rattle.dtx_values.specs.Lines.{is_opening}
 use Rattle.dtx_values.specs.Row.{has_voted, is_marked}
 use Rattle.dtx_values.specs.Table.{how_many}
-use Rattle.dtx_model.specs.declared.branch.Branch.{Branch}
+use Rattle.local_half.specs.Half.{owes_ack}
 use Rattle.dtx_model.specs.declared.desk.Stage.{Stage}
 use Rattle.dtx_model.specs.declared.listener.Listener.{Listener}
 use Rattle.dtx_model.specs.Coordinated.{Coordinated, is_recorded, is_undecided, without}
@@ -33,10 +33,6 @@ unvoted x = not (has_voted x)
 -- it wasn't told the outcome
 abbrev pub untold : Listener → Bool
 untold l = not l.told
-
--- an acknowledgement of it is due
-abbrev pub unacked : Branch → Bool
-unacked b = is_some b.due
 
 -- so much, unless this holds
 abbrev pub unless : Bool → ℕ → ℕ
@@ -115,7 +111,7 @@ places_left promoted n = if promoted then 4 * n else 17 * n
 -- the local side's part: asks, votes, notifications, acknowledgements, and what comes once
 abbrev pub local_left : Observed → ℕ
 local_left o =
-    how_many unmarked o.table + 2 * how_many unvoted o.table + how_many untold o.listeners + 2 * how_many unacked o.branches
+    how_many unmarked o.table + 2 * how_many unvoted o.table + how_many untold o.listeners + 2 * how_many owes_ack o.branches
     + unless o.sealed 2 + unless (is_some o.handed) 1 + unless (is_some o.decided) 1 + unless (is_some o.told_client) 1
     + unless o.promote_asked 1 + unless o.promote_replied 24 + unless o.single_asked 1 + unless o.requested 2 + unless o.yes 2
 

@@ -5,7 +5,7 @@ use Rattle.dtx_values.specs.declared.note.Note.TheVariants.{Promote}
 use Rattle.dtx_values.specs.declared.number.EnlNo.{EnlNo}
 use Rattle.dtx_model.specs.Words.{kth}
 use Rattle.dtx_model.specs.Plans.{plan_of, planned}
-use Rattle.dtx_model.specs.Replies.{due_of}
+use Rattle.dtx_model.specs.Replies.{due_of, with_note}
 use Rattle.dtx_model.specs.World.{World, half}
 use Rattle.dtx_model.specs.Steps.{Step, Replies, Coordinates, StepName, ReplyOf, CoordinatorAct, pending}
 use Rattle.dtx_model.specs.Caused.{IsNamed}
@@ -14,12 +14,8 @@ use Rattle.tx_world.specs.State.{TxState, life_after, turned}
 use Rattle.tx_world.specs.AtLog.{Answered}
 
 -- the enlistment and the note of a pending step that is a reply
-abbrev pub with_due : EnlNo → Option Note → Option (EnlNo × Note)
-with_due e (Some n) = Some (e, n)
-with_due e None = None
-
 abbrev pub reply_in : World → Option StepName → Option (EnlNo × Note)
-reply_in w (Some (ReplyOf e)) = with_due e (due_of (half w).seen e.value)
+reply_in w (Some (ReplyOf e)) = with_note e (due_of (half w).seen e.value)
 reply_in w _ = None
 
 abbrev pub is_to_promote : Option Note → Bool

@@ -136,7 +136,7 @@ fn row_replies_at(half: &LocalHalf, calls: &[EnteredCall], k: usize) -> At
     let all = half.may_owe_more();
     let mut more = k;
     for x in half.rows() {
-        if !all && (!x.is_marked() || x.has_voted()) {
+        if !all && !x.is_waiting() {
             continue;
         }
         match reply_at(calls, x.number, half.due_note(x), more) {

@@ -18,7 +18,7 @@ use crate::stages::{Opening, begun, has_aborted, is_active, is_recorded, opening
 use dtx_model::{Ballot, Desk};
 use dtx_values::{Conn, EnlNo, Info, Message, Outbox};
 
-#[tactic(auto, using(crate::proofs::Writing::outgoing), unfolding(dtx_model::specs::Coordinated::core_got, dtx_model::specs::Coordinated::follow, dtx_model::specs::Coordinated::follow_all))]
+#[tactic(auto, using(dtx_values::proofs::Writing::outgoing), unfolding(dtx_model::specs::Coordinated::core_got, dtx_model::specs::Coordinated::follow, dtx_model::specs::Coordinated::follow_all))]
 impl Core {
     /// BEGIN: the transaction is active, and BEGUN says its identifier.
     fn begin_came(&mut self, id: u128, out: &mut Outbox)

@@ -15,7 +15,7 @@ use crate::writer::send_down;
 use dtx_model::{Desk, Stage};
 use dtx_values::{Conn, EnlNo, Message, Outbox};
 
-#[tactic(auto, using(crate::proofs::Writing::outgoing))]
+#[tactic(auto, using(dtx_values::proofs::Writing::outgoing))]
 impl Core {
     /// Sends a message.
     pub(super) fn send(&self, c: Conn, m: Message, out: &mut Outbox)

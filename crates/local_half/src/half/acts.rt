@@ -35,7 +35,7 @@ pub enum LocalAct {
     SayYes,
 }
 
-#[tactic(auto, using(crate::proofs::Writing::outgoing), unfolding(dtx_model::specs::Half::heeds_all, dtx_model::specs::Acts::act_entries))]
+#[tactic(auto, using(dtx_values::proofs::Writing::outgoing), unfolding(dtx_model::specs::Half::heeds_all, dtx_model::specs::Acts::act_entries))]
 impl LocalHalf {
     /// Whether the commit was handed to the enlistment.
     pub(super) fn is_handed(&self, e: EnlNo) -> bool

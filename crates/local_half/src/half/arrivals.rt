@@ -17,7 +17,7 @@ use dtx_values::{Ask, Conn, Dir, EnlNo, Entry, Message, Outbox, Outcome, Party, 
 use promotion::HandoverAct;
 use tm_proxy::ProxyNews;
 
-#[tactic(auto, using(crate::proofs::Writing::outgoing), unfolding(dtx_model::specs::Observed::track, dtx_model::specs::Half::heeds_all))]
+#[tactic(auto, using(dtx_values::proofs::Writing::outgoing), unfolding(dtx_model::specs::Observed::track, dtx_model::specs::Half::heeds_all))]
 impl LocalHalf {
     /// After BEGUN: VOTER is sent, or an abort where the transaction was decided meanwhile.
     fn begun(&mut self, id: u128, out: &mut Outbox)

@@ -16,7 +16,7 @@ use crate::waits;
 use dtx_model::Wanted;
 use dtx_values::{Answer, Conn, Dir, EnlNo, Entry, Info, Message, Outbox, Outcome, RmNo};
 
-#[tactic(auto, using(crate::proofs::Writing::outgoing), unfolding(dtx_model::specs::Observed::track, dtx_model::specs::Half::heeds_all, dtx_model::specs::Half::veto))]
+#[tactic(auto, using(dtx_values::proofs::Writing::outgoing), unfolding(dtx_model::specs::Observed::track, dtx_model::specs::Half::heeds_all, dtx_model::specs::Half::veto))]
 impl LocalHalf {
     /// The line of the first call that waits.
     fn first_waiting(&self) -> Option<u32>

@@ -8,7 +8,7 @@ ghost use Rattle.dtx_values.specs.declared.entry.Answer.TheVariants.{Fine, Wait}
 ghost use Rattle.dtx_values.specs.declared.entry.Entry.TheVariants.{Enlisted};
 ghost use Rattle.dtx_values.specs.declared.number.ActorNo.{ActorNo};
 ghost use Rattle.dtx_model.specs.Facts.{call_entries, is_late, local_facts, tick_facts};
-ghost use Rattle.dtx_model.specs.Answers.{gone_answer, class_of, local_answer};
+ghost use Rattle.dtx_model.specs.Answers.{gone_answer, class_of, local_answer, is_done};
 ghost use Rattle.dtx_model.specs.Caused.{is_new};
 ghost use Rattle.dtx_model.specs.Entries.{is_call};
 ghost use Rattle.dtx_model.specs.Half.{is_gone, stands};
@@ -16,7 +16,7 @@ ghost use Rattle.dtx_model.specs.Observed.{is_branch, track};
 ghost use Rattle.dtx_model.specs.Steps.{Calls, after as world_after, entered};
 ghost use Rattle.dtx_model.specs.Words.{has};
 ghost use Rattle.dtx_model.specs.World.{World, gone_decides, open_ones, reenlist_facts};
-ghost use Rattle.local_half.specs.Half.{Follows, HasRoom, IsRoom, after, is_done, is_free, is_its_own, is_made_by_waiting, loss};
+ghost use Rattle.local_half.specs.Half.{Follows, HasRoom, IsRoom, after, is_free, is_its_own, is_made_by_waiting, loss};
 ghost use Rattle.local_half.specs.Taken.{HasPlace, begin_sent, cause_for, is_place_awaited, place_sent, with_call, with_waiter};
 
 use super::LocalHalf;
@@ -41,7 +41,7 @@ fn class_of(option: EnlistOption) -> Class
     }
 }
 
-#[tactic(auto, using(crate::proofs::Writing::outgoing), unfolding(dtx_model::specs::Observed::track, dtx_model::specs::Half::heeds_all, dtx_model::specs::Half::veto))]
+#[tactic(auto, using(dtx_values::proofs::Writing::outgoing), unfolding(dtx_model::specs::Observed::track, dtx_model::specs::Half::heeds_all, dtx_model::specs::Half::veto))]
 impl LocalHalf {
     /// Whether a rollback clone isn't complete.
     #[tactic(auto, using(crate::proofs::Notes::some_left))]

@@ -1,6 +1,7 @@
 //! The replies that are due, and what a reply writes.
 ghost use Rattle.std.specs.Prelude.{◌≡◌, [], ◌∷◌, None, Some, false, find, is_some, map, true};
 ghost use Rattle.dtx_values.specs.Outgoing.{written};
+ghost use Rattle.dtx_values.specs.Row.{is_waiting};
 ghost use Rattle.dtx_values.specs.Table.{rises_above, was_asked};
 ghost use Rattle.dtx_values.specs.declared.entry.Entry.TheVariants.{Acked};
 ghost use Rattle.dtx_values.specs.declared.note.Reply.TheVariants.{Vote as VoteReply};
@@ -9,7 +10,6 @@ ghost use Rattle.dtx_model.specs.Steps.{Replies, after as world_after};
 ghost use Rattle.dtx_model.specs.Words.{kth};
 ghost use Rattle.dtx_model.specs.World.{World};
 ghost use Rattle.dtx_values.specs.declared.row.Row.{Row};
-ghost use Rattle.enlist_table.specs.Waiting.{is_waiting};
 ghost use Rattle.local_half.specs.Half.{Follows, HasRoom, IsRoom, after, first_due, fits_due, lower, may_owe, owes_more};
 
 use super::LocalHalf;
@@ -66,7 +66,7 @@ fn lower(x: Option<(EnlNo, Note)>, y: Option<(EnlNo, Note)>) -> Option<(EnlNo, N
     }
 }
 
-#[tactic(auto, using(crate::proofs::Writing::outgoing), unfolding(dtx_model::specs::Observed::track, dtx_model::specs::Half::heeds_all))]
+#[tactic(auto, using(dtx_values::proofs::Writing::outgoing), unfolding(dtx_model::specs::Observed::track, dtx_model::specs::Half::heeds_all))]
 impl LocalHalf {
     /// The connection of the last commit that the enlistment has to acknowledge.
     fn conn_due(&self, e: EnlNo) -> Option<Conn>
@@ -130,7 +130,7 @@ impl LocalHalf {
     fn owes_vote(&self, x: &Row) -> bool
         ensures { result ≡ owes_vote self.now.half.seen x.now }
     {
-        x.is_marked() && !x.has_voted() && self.may_still_vote(x)
+        x.is_waiting() && self.may_still_vote(x)
     }
 
     /// To what a reply of the enlistment with this row is due where it isn't lost, acknowledgements left out.

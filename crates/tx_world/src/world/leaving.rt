@@ -4,12 +4,12 @@ ghost use Rattle.dtx_values.specs.declared.call.Call.TheVariants.{Gone};
 ghost use Rattle.dtx_values.specs.declared.entry.Answer.TheVariants.{Fine};
 ghost use Rattle.dtx_values.specs.Class.{is_promotable};
 ghost use Rattle.dtx_values.specs.Row.{is_of};
+ghost use Rattle.dtx_model.specs.Calls.{is_gone_call};
 ghost use Rattle.dtx_model.specs.Caused.{MayAnswer};
 ghost use Rattle.dtx_model.specs.Outcome.{is_empty};
 ghost use Rattle.dtx_model.specs.Steps.{Calls};
 ghost use Rattle.dtx_model.specs.Words.{has};
 ghost use Rattle.dtx_model.specs.World.{answer_at, open_ones};
-ghost use Rattle.tx_world.specs.Entering.{is_gone_call};
 ghost use Rattle.tx_world.specs.State.{may_enter};
 ghost use Rattle.tx_world.specs.Stepping.{Does};
 

@@ -1,11 +1,12 @@
 use Rattle.std.proofs.Common.{◌≡◌, ◌≢◌, List, ◌∷◌, [], ap, refl, rules, ◌∙◌}
+use Rattle.dtx_values.proofs.Writing.{written-written}
 use Rattle.dtx_values.specs.Outgoing.{Outgoing, written}
 use Rattle.dtx_values.specs.declared.entry.Answer.TheVariants.{Fine}
 use Rattle.dtx_values.specs.declared.entry.Entry.{Entry}
 use Rattle.dtx_values.specs.declared.entry.Entry.TheVariants.{Called}
 use Rattle.dtx_model.specs.Answers.{if_begun}
 use Rattle.dtx_model.specs.World.{gone_unlinked}
-use Rattle.local_half.proofs.Writing.{unsent, written-written}
+use Rattle.local_half.proofs.Writing.{unsent}
 use Rattle.tx_world.proofs.Calling.{gone_fine, gone_known, gone_refused, not_gone_known}
 use Rattle.tx_world.proofs.local_calls.answer_gone.Goals as goal
 

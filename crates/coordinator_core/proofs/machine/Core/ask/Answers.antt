@@ -1,5 +1,6 @@
 use Rattle.std.proofs.Common.{◌∙◌, ◌++◌, List, [], ap, sym}
 use Rattle.std.proofs.lemmas.Bool.{cond-true}
+use Rattle.dtx_values.proofs.Writing.{written-written}
 use Rattle.dtx_values.specs.Outgoing.{Outgoing, written}
 use Rattle.dtx_values.specs.declared.entry.Entry.{Entry}
 use Rattle.dtx_values.specs.declared.message.Conn.TheVariants.{Voter}
@@ -8,7 +9,6 @@ use Rattle.dtx_model.specs.Coordinated.{is_active, to, to_each}
 use Rattle.coordinator_core.specs.Hearing.{told}
 use Rattle.coordinator_core.specs.Kept.{Kept}
 use Rattle.coordinator_core.proofs.Loops.{told_each}
-use Rattle.coordinator_core.proofs.Writing.{written-written}
 use Rattle.coordinator_core.proofs.machine.Core.ask.Goals as goal
 
 pub returns-then-is_active : goal.returns-then-is_active

@@ -1,8 +1,7 @@
 use Rattle.std.proofs.Common.{◌≡◌, ◌∙◌, true, ap, refl, rules, subst, sym}
-use Rattle.dtx_values.specs.Row.{fresh_row, is_marked, number_of}
+use Rattle.dtx_values.specs.Row.{fresh_row, is_marked, is_waiting, number_of}
 use Rattle.dtx_values.specs.declared.row.Row.{Row}
 use Rattle.dtx_values.specs.Table.{how_many, marks, rises_above}
-use Rattle.enlist_table.specs.Waiting.{is_waiting}
 use Rattle.enlist_table.proofs.Rising.{rises-insert}
 use Rattle.enlist_table.proofs.Waiting.{how_many-insert}
 use Rattle.enlist_table.proofs.table.EnlistTable.add.Goals as goal

@@ -3,11 +3,11 @@ use Rattle.std.proofs.lemmas.List.{length-set}
 use Rattle.std.specs.List.{list_any, position}
 use Rattle.dtx_values.specs.declared.row.Row.{Row}
 use Rattle.dtx_values.specs.Table.{has_row, marks, rises_above, with_mark}
-use Rattle.dtx_values.specs.Row.{is_marked, is_of, mark_in}
+use Rattle.dtx_values.specs.Row.{is_marked, is_of, is_waiting, mark_in}
 use Rattle.enlist_table.proofs.Places.{IsPlace, has_row_at, marked_at, no_place, passes_at, place_found}
 use Rattle.enlist_table.proofs.Rising.{map-absent, map-there, mark-kept, mark-other, number-mark, rises-map}
 use Rattle.dtx_values.proofs.Counts.{how_many-le-length}
-use Rattle.enlist_table.specs.Waiting.{is_waiting, one_if}
+use Rattle.enlist_table.specs.Count.{one_if}
 use Rattle.enlist_table.proofs.Waiting.{counted_mark, one_at_most, one_more_mark}
 use Rattle.enlist_table.proofs.table.EnlistTable.set_asked.Goals as goal
 

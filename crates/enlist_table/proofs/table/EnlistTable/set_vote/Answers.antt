@@ -3,10 +3,10 @@ use Rattle.std.proofs.lemmas.List.{length-set}
 use Rattle.std.specs.List.{list_any, position}
 use Rattle.dtx_values.specs.declared.row.Row.{Row}
 use Rattle.dtx_values.specs.Table.{has_row, how_many, rises_above, with_vote}
-use Rattle.dtx_values.specs.Row.{has_voted, is_of, vote_in}
+use Rattle.dtx_values.specs.Row.{has_voted, is_of, is_waiting, vote_in}
 use Rattle.enlist_table.proofs.Places.{IsPlace, has_row_at, voted_at, no_place, passes_at, place_found}
 use Rattle.enlist_table.proofs.Rising.{map-absent, map-there, vote-kept, vote-other, number-vote, rises-map}
-use Rattle.enlist_table.specs.Waiting.{is_waiting, one_if}
+use Rattle.enlist_table.specs.Count.{one_if}
 use Rattle.enlist_table.proofs.Waiting.{counted_vote, same_marks}
 use Rattle.enlist_table.proofs.table.EnlistTable.set_vote.Goals as goal
 

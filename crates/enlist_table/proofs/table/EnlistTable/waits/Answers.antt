@@ -1,6 +1,6 @@
+use Rattle.dtx_values.specs.Row.{is_waiting}
 use Rattle.std.proofs.Common.{◌∙◌, ap, nat_lt}
 use Rattle.std.specs.List.{list_any}
-use Rattle.enlist_table.specs.Waiting.{is_waiting}
 use Rattle.enlist_table.proofs.Waiting.{some_counted}
 use Rattle.enlist_table.proofs.table.EnlistTable.waits.Goals as goal
 

@@ -1,11 +1,11 @@
 use Rattle.std.proofs.Common.{[], List, ap, sym, ◌∙◌}
+use Rattle.dtx_values.proofs.Writing.{written-written}
 use Rattle.dtx_values.specs.declared.entry.Entry.{Entry}
 use Rattle.dtx_values.specs.Outgoing.{Outgoing, written}
 use Rattle.dtx_model.specs.Arrivals.{aborted_by, told_abort}
 use Rattle.dtx_model.specs.Half.{Half}
 use Rattle.local_half.specs.Half.{Known, after}
 use Rattle.local_half.proofs.Deciding.{aborted_after, aborted_there, heeds_all-append}
-use Rattle.local_half.proofs.Writing.{written-written}
 use Rattle.local_half.proofs.half.LocalHalf.aborted_for.Goals as goal
 
 pub returns : goal.returns

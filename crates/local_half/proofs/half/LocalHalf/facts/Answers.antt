@@ -1,17 +1,18 @@
 use Rattle.std.proofs.Common.{◌≡◌, ◌∙◌, [], List, false, is_some, ap, subst, sym}
+use Rattle.dtx_values.proofs.Writing.{written-none}
 use Rattle.dtx_values.specs.declared.entry.Entry.{Entry}
 use Rattle.dtx_values.specs.declared.words.Class.{Class}
 use Rattle.dtx_values.specs.Outgoing.{written}
 use Rattle.dtx_values.specs.Support.{is_single}
 use Rattle.dtx_values.specs.Table.{how_many}
+use Rattle.dtx_model.proofs.Unowned.{volatile_class}
 use Rattle.dtx_model.specs.Answers.{class_of, has_promotion, local_answer}
 use Rattle.dtx_model.specs.Half.{heeds_all}
 use Rattle.dtx_model.specs.Waiting.{Waiter, is_place}
 use Rattle.local_half.specs.Half.{Known, after}
 use Rattle.local_half.specs.Taken.{HasPlace, with_call}
-use Rattle.local_half.proofs.Notes.{idle, may_clone, may_join, may_last, may_promote, unstarted_there, volatile_class}
+use Rattle.local_half.proofs.Notes.{idle, may_clone, may_join, may_last, may_promote, unstarted_there}
 use Rattle.local_half.proofs.Waiting.{never_started}
-use Rattle.local_half.proofs.Writing.{written-none}
 use Rattle.local_half.proofs.half.LocalHalf.facts.Goals as goal
 
 pub write-requires-in-Volatile-clause-taken : goal.write-requires-in-Volatile-clause-taken

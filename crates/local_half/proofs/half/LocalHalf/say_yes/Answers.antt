@@ -1,4 +1,5 @@
 use Rattle.std.proofs.Common.{[], ◌∷◌, ◌∙◌, ap}
+use Rattle.dtx_values.proofs.Writing.{written-written}
 use Rattle.dtx_values.specs.declared.entry.Entry.TheVariants.{LocalYes}
 use Rattle.dtx_values.specs.declared.message.Conn.TheVariants.{Voter}
 use Rattle.dtx_values.specs.declared.message.Message.TheVariants.{VoterYes}
@@ -6,7 +7,6 @@ use Rattle.dtx_values.specs.Outgoing.{Outgoing, written}
 use Rattle.dtx_model.specs.Half.{heeds_all, to_up}
 use Rattle.dtx_model.specs.Observed.{track}
 use Rattle.local_half.specs.Half.{Known, after}
-use Rattle.local_half.proofs.Writing.{written-written}
 use Rattle.local_half.proofs.half.LocalHalf.say_yes.Goals as goal
 
 pub returns-clause-state : goal.returns-clause-state

@@ -1,4 +1,5 @@
 use Rattle.std.proofs.Common.{[], ◌∷◌, ◌≡◌, ◌∙◌, List, ap, refl, sym}
+use Rattle.dtx_values.proofs.Writing.{written-written}
 use Rattle.dtx_values.specs.declared.entry.Entry.{Entry}
 use Rattle.dtx_values.specs.declared.entry.Entry.TheVariants.{Sealed}
 use Rattle.dtx_values.specs.declared.message.Conn.TheVariants.{Begin}
@@ -8,7 +9,6 @@ use Rattle.dtx_model.specs.Acts.{commit_sent}
 use Rattle.dtx_model.specs.Half.{heeds_all, to_up}
 use Rattle.dtx_model.specs.Observed.{track}
 use Rattle.local_half.specs.Half.{Known, after}
-use Rattle.local_half.proofs.Writing.{written-written}
 use Rattle.local_half.proofs.half.LocalHalf.seal.Goals as goal
 
 pub returns-then-commits-clause-state : goal.returns-then-commits-clause-state

@@ -1,11 +1,11 @@
 use Rattle.std.proofs.Common.{[], ◌≡◌, ◌∙◌, List, ap}
+use Rattle.dtx_values.proofs.Writing.{written-written}
 use Rattle.dtx_values.specs.declared.entry.Entry.{Entry}
 use Rattle.dtx_values.specs.declared.words.Outcome.TheVariants.{Aborted}
 use Rattle.dtx_values.specs.Outgoing.{Outgoing, written}
 use Rattle.dtx_model.specs.Half.{Half, decide, veto, veto_message}
 use Rattle.local_half.specs.Half.{Known, after}
 use Rattle.local_half.proofs.Deciding.{ends_decided, heeds_all-append, message_by}
-use Rattle.local_half.proofs.Writing.{written-written}
 use Rattle.local_half.proofs.half.LocalHalf.veto.Goals as goal
 
 pub returns-clause-state : goal.returns-clause-state

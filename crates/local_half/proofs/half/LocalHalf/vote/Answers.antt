@@ -1,10 +1,10 @@
 use Rattle.std.proofs.Common.{[], ◌∷◌, ap, ◌∙◌}
+use Rattle.dtx_values.proofs.Writing.{written-written}
 use Rattle.dtx_values.specs.declared.entry.Entry.TheVariants.{Voted}
 use Rattle.dtx_values.specs.Outgoing.{Outgoing, written}
 use Rattle.dtx_model.specs.Half.{heeds_all, sees}
 use Rattle.dtx_model.specs.Replies.{reply_entries, voted_by}
 use Rattle.local_half.specs.Half.{Known, after}
-use Rattle.local_half.proofs.Writing.{written-written}
 use Rattle.local_half.proofs.half.LocalHalf.vote.Goals as goal
 
 pub returns-clause-state : goal.returns-clause-state

@@ -27,59 +27,59 @@ use Rattle.dtx_model.proofs.Writes.{Each, e_one, IsClosed, each_closed, Source, 
 use Rattle.dtx_model.proofs.Blocks.{of_core_got, of_core_down, of_coordinates, of_local_down, of_arrived, of_commit_sent, of_act, of_reply, of_called}
 use Rattle.dtx_values.specs.Lines.{has_line}
 
--- the entry isn't got, is no restart, doesn't seal, and asks nobody to promote or for a single phase
-abbrev pub is_quiet : Entry → Bool
-is_quiet (Got c d m) = false
-is_quiet (Restarted found) = false
-is_quiet Sealed = false
-is_quiet (Asked e Promote) = false
-is_quiet (Asked e AskSingle) = false
-is_quiet _ = true
+-- it may come after the first entry of a block: it isn't got, is no restart, doesn't seal, and asks nobody to promote or for a single phase
+abbrev pub is_trailing : Entry → Bool
+is_trailing (Got c d m) = false
+is_trailing (Restarted found) = false
+is_trailing Sealed = false
+is_trailing (Asked e Promote) = false
+is_trailing (Asked e AskSingle) = false
+is_trailing _ = true
 
-abbrev pub Quiet : List Entry → Type 0
-Quiet es = Each is_quiet es
+abbrev pub Trailing : List Entry → Type 0
+Trailing es = Each is_trailing es
 
-quiet : IsClosed (λ ws es. Each is_quiet es)
-quiet = each_closed is_quiet refl (λ x. refl) (λ n x. refl) refl refl
+trailing : IsClosed (λ ws es. Each is_trailing es)
+trailing = each_closed is_trailing refl (λ x. refl) (λ n x. refl) refl refl
 
-quiet_entry : (s : Source) (x : Entry) → writes s x ≡ true → is_quiet x ≡ true
-quiet_entry s (Got c d m) t = absurd cc
-quiet_entry s (Restarted found) t = absurd cc
-quiet_entry s Sealed t = absurd cc
-quiet_entry s (Asked e Promote) t = absurd cc
-quiet_entry s (Asked e AskSingle) t = absurd cc
-quiet_entry s _ t = refl
+trailing_entry : (s : Source) (x : Entry) → writes s x ≡ true → is_trailing x ≡ true
+trailing_entry s (Got c d m) t = absurd cc
+trailing_entry s (Restarted found) t = absurd cc
+trailing_entry s Sealed t = absurd cc
+trailing_entry s (Asked e Promote) t = absurd cc
+trailing_entry s (Asked e AskSingle) t = absurd cc
+trailing_entry s _ t = refl
 
-quiet_one : (s : Source) (x : Entry) → writes s x ≡ true → Quiet (x ∷ [])
-quiet_one s x t = e_one x (quiet_entry s x t)
+trailing_one : (s : Source) (x : Entry) → writes s x ≡ true → Trailing (x ∷ [])
+trailing_one s x t = e_one x (trailing_entry s x t)
 
-quiet_sent : (c : Conn) (m : Message) → has_line c Down m ≡ true → is_outcome_message m ≡ true → Quiet (Sent c Down m ∷ [])
-quiet_sent c m l o = e_one (Sent c Down m) refl
+trailing_sent : (c : Conn) (m : Message) → has_line c Down m ≡ true → is_outcome_message m ≡ true → Trailing (Sent c Down m ∷ [])
+trailing_sent c m l o = e_one (Sent c Down m) refl
 
 -- a delivery
-pub q_core_got : (id : ℕ) (k : Coordinated) (c : Conn) (m : Message) → Quiet (core_got id k c m)
-q_core_got id k c m = of_core_got (quiet.lists []) id k c m (λ d n l a. e_one (Sent d Down n) refl)
+pub trailing_core_got : (id : ℕ) (k : Coordinated) (c : Conn) (m : Message) → Trailing (core_got id k c m)
+trailing_core_got id k c m = of_core_got (trailing.lists []) id k c m (λ d n l a. e_one (Sent d Down n) refl)
 
-pub q_local_got : (t : ℕ) (h : Half) (c : Conn) (m : Message) → Quiet (local_got t h c m)
+pub trailing_local_got : (t : ℕ) (h : Half) (c : Conn) (m : Message) → Trailing (local_got t h c m)
 unfolding local_got
-q_local_got t h c m = let g = sees h (Got c Down m) in of_arrived quiet t g c m (quiet_one (ByMessage g.waits c m))
+trailing_local_got t h c m = let g = sees h (Got c Down m) in of_arrived trailing t g c m (trailing_one (ByMessage g.waits c m))
 
-pub q_ended_at : (w : World) (c : Conn) (d : Dir) → Quiet (ended_at w c d)
-q_ended_at w c Up = of_core_down (quiet.lists []) (core w) c quiet_sent
-q_ended_at w c Down = of_local_down quiet (half w) c
+pub trailing_ended_at : (w : World) (c : Conn) (d : Dir) → Trailing (ended_at w c d)
+trailing_ended_at w c Up = of_core_down (trailing.lists []) (core w) c trailing_sent
+trailing_ended_at w c Down = of_local_down trailing (half w) c
 
 -- replies and calls, and the coordinator's act
-pub q_reply : (h : Half) (e : EnlNo) (r : Reply) → Quiet (reply_entries h e r)
-q_reply h e r = of_reply quiet h e r (quiet_one (ByReply r))
+pub trailing_reply : (h : Half) (e : EnlNo) (r : Reply) → Trailing (reply_entries h e r)
+trailing_reply h e r = of_reply trailing h e r (trailing_one (ByReply r))
 
-pub q_called : (t : ℕ) (w : World) (c : Call) (a : Answer) → Quiet (facts_if (has_facts a) (facts_at t w c a))
-q_called t w c a = of_called quiet t w c a (quiet_one (ByCall c)) (λ d n m. e_one (Cut d n m) refl) (λ r. e_one (RecoveredEntry r) refl)
+pub trailing_called : (t : ℕ) (w : World) (c : Call) (a : Answer) → Trailing (facts_if (has_facts a) (facts_at t w c a))
+trailing_called t w c a = of_called trailing t w c a (trailing_one (ByCall c)) (λ d n m. e_one (Cut d n m) refl) (λ r. e_one (RecoveredEntry r) refl)
 
-pub q_coordinates : (k : Coordinated) (a : LogAnswer) → Quiet (coordinates k a)
-q_coordinates k a = of_coordinates (quiet.lists []) k a quiet_sent (e_one Logged refl) (e_one LogFull refl) (e_one Freed refl) (e_one Stopped refl)
+pub trailing_coordinates : (k : Coordinated) (a : LogAnswer) → Trailing (coordinates k a)
+trailing_coordinates k a = of_coordinates (trailing.lists []) k a trailing_sent (e_one Logged refl) (e_one LogFull refl) (e_one Freed refl) (e_one Stopped refl)
 
-pub q_commit_sent : (o : Observed) → Quiet (commit_sent o)
-q_commit_sent o = of_commit_sent quiet [] o (e_one (Sent Begin Up BeginCommit) refl)
+pub trailing_commit_sent : (o : Observed) → Trailing (commit_sent o)
+trailing_commit_sent o = of_commit_sent trailing [] o (e_one (Sent Begin Up BeginCommit) refl)
 
 -- the block asks the promotable to promote
 pub record Promotes (h : Half) (es : List Entry) : Type 0 where
@@ -104,13 +104,13 @@ pub record Seals (h : Half) (es : List Entry) : Type 0 where
   pub still : (under_way h == 0) ≡ true
   pub block : es ≡ (Sealed ∷ commit_sent h.seen)
 
--- the local act is quiet, or has such a first entry
+-- the local act has none of these, or has one as its first entry
 abbrev pub ActKind : Half → List Entry → Type 0
-ActKind h es = Quiet es ⊎ (Promotes h es ⊎ (Singles h es ⊎ Seals h es))
+ActKind h es = Trailing es ⊎ (Promotes h es ⊎ (Singles h es ⊎ Seals h es))
 
 pub act_kind : (h : Half) → ActKind h (act_entries h)
 act_kind h =
-    of_act quiet (λ es. ActKind h es) h (quiet_one (ByAct (is_some h.seen.decided)))
+    of_act trailing (λ es. ActKind h es) h (trailing_one (ByAct (is_some h.seen.decided)))
     (record {
       rest = λ es q. inl q;
       promote = λ e d w s. inr (inl (record { who = e; undecided = d; way = w; stands = s; block = refl }));
