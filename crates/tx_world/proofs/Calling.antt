@@ -21,7 +21,7 @@ use Rattle.dtx_model.specs.Waiting.{managed_by}
 use Rattle.dtx_model.specs.Words.{each, past_of}
 use Rattle.dtx_model.specs.World.{World, half, answer_at, facts_at, gone_by, gone_unlinked, open_ones}
 use Rattle.dtx_model.specs.Steps.{Calls, block_at, entered}
-use Rattle.dtx_model.specs.Caused.{IsIn, MayAnswer, MayCome}
+use Rattle.dtx_model.specs.Caused.{AreMadeOnce, IsIn, MayAnswer, MayCome}
 use Rattle.dtx_values.specs.declared.message.Conn.{Conn}
 use Rattle.dtx_model.specs.Outcome.{is_empty}
 use Rattle.dtx_model.proofs.Heeding.{heeds_all_same}
@@ -178,6 +178,17 @@ answers_itself (Do t j n) k a d g = absurd (d t j n refl)
 answers_itself (Gone e) k a d g = absurd (g e refl)
 answers_itself _ k a d g = k
 
+-- what the half itself answers, the local side answers alone
+pub own_local : (c : Call) → is_its_own c ≡ true → is_local c ≡ true
+own_local (Lose t c u w) k = absurd cc
+own_local (Reenlist e) k = absurd cc
+own_local (Recovered t r) k = absurd cc
+own_local _ k = refl
+
+pub own_unlinked : (w : World) (c : Call) → is_its_own c ≡ true → is_unlinked w c ≡ true
+own_unlinked w (Gone e) k = absurd cc
+own_unlinked w _ k = refl
+
 -- its answer and its block in the world
 pub answer_is : (t : ℕ) (w : World) (c : Call) (m : ℕ) → is_local c ≡ true → half_answer t (half w) c m ≡ answer_at t w c m
 unfolding answer_at
@@ -220,24 +231,27 @@ pub may_come : (t : TxNo) (w : World) (h : Known) (k : CoreKept) (n : ℕ) (a : 
 may_come t w h k n a c m kept may answers =
     (record { place = 1; stands = refl }, fresh_line t.value w n kept.ran (may_be_entered w n c may).0, answers)
 
+pub call_once : (t : TxNo) (w : World) (h : Known) (k : CoreKept) (n : ℕ) (a : ActorNo) (c : Call) (m : ℕ) → Kept t w h k → may_enter w n c ≡ true → AreMadeOnce (IsIn (entered (Calls n a c m) w.calls))
+call_once t w h k n a c m kept may = once_more w.calls n a c kept.once (may_be_entered w n c may).1
+
 -- it is free at the half
 pub free_there : (t : TxNo) (w : World) (h : Known) (k : CoreKept) (n : ℕ) (c : Call) → Kept t w h k → may_enter w n c ≡ true → is_free h.half n c ≡ true
 free_there t w h k n c kept may = ap (λ (x : Half). is_free x n c) (half_is t w h k kept) ∙ free_call t.value w n c kept.ran may
 
 -- and ready to be written
-pub call_ready : (t : TxNo) (w : World) (h g : Known) (k : CoreKept) (n : ℕ) (a : ActorNo) (c : Call) (m : ℕ) (o p : Outgoing) (xs : List Entry) → Kept t w h k → is_local c ≡ true → is_unlinked w c ≡ true → may_enter w n c ≡ true
-    → MayAnswer t.value w c m → g ≡ known_after (entered (Calls n a c m) []) h (local_call h.transaction.value h.half n a c m) → xs ≡ p.entries → p ≡ put_out o (local_call h.transaction.value h.half n a c m) → o ≡ blank
-    → Ready t w (Calls n a c m) g k xs
-call_ready t w h g k n a c m o p xs kept near alone may answers local value wrote clear =
+pub call_ready : (t : TxNo) (w : World) (h g : Known) (k : CoreKept) (n : ℕ) (a : ActorNo) (c : Call) (m : ℕ) (o q : Outgoing) (p xs : List Entry) → Kept t w h k → p ≡ w.past → is_local c ≡ true → is_unlinked w c ≡ true → may_enter w n c ≡ true
+    → MayAnswer t.value w c m → g ≡ known_after (entered (Calls n a c m) []) h (local_call h.transaction.value h.half n a c m) → xs ≡ q.entries → q ≡ put_out o (local_call h.transaction.value h.half n a c m) → o ≡ blank
+    → Ready t w (Calls n a c m) g k p xs
+call_ready t w h g k n a c m o q p xs kept same near alone may answers local value wrote clear =
     let es = local_call h.transaction.value h.half n a c m in
     let block : es ≡ block_at t.value w (Calls n a c m) =
     ap (λ (x : Known). local_call x.transaction.value x.half n a c m) kept.half ∙ call_block t.value w n a c m near alone in
     let come = may_come t w h k n a c m kept may answers in
-    let once = once_more w.calls n a c kept.once (may_be_entered w n c may).1 in
+    let once = call_once t w h k n a c m kept may in
     let calm : each is_near (block_at t.value w (Calls n a c m)) ≡ true = ap (each is_near) (sym block) ∙ (near_call h.transaction.value h.half n a c m).proof in
-    ready t w (Calls n a c m) h g k xs kept come once
+    ready t w (Calls n a c m) h g k p xs kept same come once
     (near_kept t w (Calls n a c m) h g k kept come once (local ∙ ap (known_after (entered (Calls n a c m) []) h) block) calm)
-    (block_of o p xs es value wrote clear ∙ block) calm
+    (block_of o q xs es value wrote clear ∙ block) calm
 
 pub answer_there : (t : TxNo) (w : World) (h : Known) (k : CoreKept) (c : Call) (m : ℕ) → Kept t w h k → is_local c ≡ true → half_answer h.transaction.value h.half c m ≡ answer_at t.value w c m
 answer_there t w h k c m kept near = ap (λ (x : Known). half_answer x.transaction.value x.half c m) kept.half ∙ answer_is t.value w c m near

@@ -40,7 +40,7 @@ use Rattle.tx_world.proofs.Far.{far_core_down, far_core_got}
 use Rattle.tx_world.proofs.Few.{runs_few}
 use Rattle.tx_world.proofs.Near.{near_local_down, near_local_got}
 use Rattle.tx_world.proofs.Onward.{core_is, core_transaction, far_heeds_all, near_follow_all, step_kept}
-use Rattle.tx_world.proofs.Written.{block_of, far_written, near_written, stopped_is}
+use Rattle.tx_world.proofs.Written.{Ready, block_of, far_written, near_written, stopped_is}
 use Rattle.dtx_model.proofs.Quiet.{is_lined, sent_has_line}
 use Rattle.dtx_model.proofs.Connections.{same_is, same_way_is}
 use Rattle.outcome_law.proofs.Crossed.{came}
@@ -228,15 +228,6 @@ up_ready t w h k j c x o p n xs kept left came same state value wrote clear =
     }
 
 -- A delivery downward is ready to be written: the local side took it, and this is what follows of it.
-pub record ReadyDown (t : TxNo) (w : World) (c : Conn) (g : Known) (k : CoreKept) (n xs : List Entry) : Type 0 where
-  pub kept : Kept t (after t.value w (Delivers c Down)) g k
-  pub past : onto n xs ≡ onto w.past (block_at t.value w (Delivers c Down))
-  pub written : each is_written xs ≡ true
-  pub sendable : are_sendable (onto n xs) ≡ true
-  pub stopped : k.state.stopped ≡ is_stopped n
-  pub sends : has is_begin_sent xs ≡ sends_begin t.value w (Delivers c Down)
-  pub runs : has is_begin_sent xs ≡ true → k.state.stopped ≡ false
-
 noted_stopped : (c : Conn) (x : Delivered) (h : List Entry) → is_stopped (onto h (noted c Down x)) ≡ is_stopped h
 noted_stopped c (Msg m) h = refl
 noted_stopped c End h = refl
@@ -244,7 +235,7 @@ noted_stopped c (BadFrame e) h = refl
 
 pub down_ready : (t : TxNo) (w : World) (h g : Known) (k : CoreKept) (c : Conn) (x : Delivered) (o p : Outgoing) (n xs : List Entry) → Kept t w h k → has_left c Down w.past ≡ true → Came c Down x w.past n
     → g ≡ known_after [] h (noted c Down x ++ rest_down h.transaction.value h.half c x)
-    → xs ≡ p.entries → p ≡ put_out o (rest_down h.transaction.value h.half c x) → o ≡ blank → ReadyDown t w c g k n xs
+    → xs ≡ p.entries → p ≡ put_out o (rest_down h.transaction.value h.half c x) → o ≡ blank → Ready t w (Delivers c Down) g k n xs
 down_ready t w h g k c x o p n xs kept left came local value wrote clear =
     let rest = rest_down t.value (half w) c x in
     let is_rest : rest_down h.transaction.value h.half c x ≡ rest = ap (λ (y : Known). rest_down y.transaction.value y.half c x) kept.half in

@@ -166,7 +166,10 @@ three_cut h p q r b e first second third =
     ∙ ap (onto h) (append_assoc (cut_if h b Begin) own again)
 
 -- they are those of the open connections
-pub cuts_are : (h : List Entry) (b : Bool) (e : EnlNo) → links_cut h b e ≡ map (cut_upward h) (filter (λ c. is_open_wire c h) (if b then Begin ∷ Enl e ∷ Again e ∷ [] else Enl e ∷ Again e ∷ []))
+abbrev pub links : List Entry → Bool → EnlNo → List Conn
+links h b e = filter (λ c. is_open_wire c h) (if b then Begin ∷ Enl e ∷ Again e ∷ [] else Enl e ∷ Again e ∷ [])
+
+pub cuts_are : (h : List Entry) (b : Bool) (e : EnlNo) → links_cut h b e ≡ map (cut_upward h) (links h b e)
 cuts_are h true e = by (is_open_wire Begin h) (is_open_wire (Enl e) h) (is_open_wire (Again e) h)
   where
     by : (x y z : Bool) → (if x then cut_upward h Begin ∷ [] else []) ++ ((if y then cut_upward h (Enl e) ∷ [] else []) ++ (if z then cut_upward h (Again e) ∷ [] else [])) ≡ map (cut_upward h) (if x then Begin ∷ (if y then Enl e ∷ (if z then Again e ∷ [] else []) else if z then Again e ∷ [] else []) else if y then Enl e ∷ (if z then Again e ∷ [] else []) else if z then Again e ∷ [] else [])
@@ -217,58 +220,34 @@ gone_same t w e m = refl
 
 -- cuts send nothing, and leave what both halves know
 cuts_silent : (n : ℕ) (a : ActorNo) (h : List Entry) (b : Bool) (e : EnlNo) → has is_begin_sent (Called n a Fine ∷ Lost e ∷ links_cut h b e) ≡ false
-cuts_silent n a h b e = by (b && is_open_wire Begin h) (is_open_wire (Enl e) h) (is_open_wire (Again e) h)
+cuts_silent n a h b e = ap (has is_begin_sent) (cuts_are h b e) ∙ by (links h b e)
   where
-    by : (x y z : Bool) → has is_begin_sent ((if x then cut_upward h Begin ∷ [] else []) ++ ((if y then cut_upward h (Enl e) ∷ [] else []) ++ (if z then cut_upward h (Again e) ∷ [] else []))) ≡ false
-    by true true true = refl
-    by true true false = refl
-    by true false true = refl
-    by true false false = refl
-    by false true true = refl
-    by false true false = refl
-    by false false true = refl
-    by false false false = refl
+    by : (cs : List Conn) → has is_begin_sent (map (cut_upward h) cs) ≡ false
+    by [] = refl
+    by (c ∷ cs) = by cs
 
 cuts_heeded : (ks : List EnteredCall) (g : Half) (h : List Entry) (b : Bool) (e : EnlNo) → heeds_all ks g (links_cut h b e) ≡ g
 unfolding heeds_all track
-cuts_heeded ks g h b e = by (b && is_open_wire Begin h) (is_open_wire (Enl e) h) (is_open_wire (Again e) h)
+cuts_heeded ks g h b e = ap (heeds_all ks g) (cuts_are h b e) ∙ by (links h b e)
   where
-    by : (x y z : Bool) → heeds_all ks g ((if x then cut_upward h Begin ∷ [] else []) ++ ((if y then cut_upward h (Enl e) ∷ [] else []) ++ (if z then cut_upward h (Again e) ∷ [] else []))) ≡ g
-    by true true true = refl
-    by true true false = refl
-    by true false true = refl
-    by true false false = refl
-    by false true true = refl
-    by false true false = refl
-    by false false true = refl
-    by false false false = refl
+    by : (cs : List Conn) → heeds_all ks g (map (cut_upward h) cs) ≡ g
+    by [] = refl
+    by (c ∷ cs) = by cs
 
 cuts_followed : (k : Coordinated) (h : List Entry) (b : Bool) (e : EnlNo) → follow_all k (links_cut h b e) ≡ k
 unfolding follow_all follow
-cuts_followed k h b e = by (b && is_open_wire Begin h) (is_open_wire (Enl e) h) (is_open_wire (Again e) h)
+cuts_followed k h b e = ap (follow_all k) (cuts_are h b e) ∙ by (links h b e)
   where
-    by : (x y z : Bool) → follow_all k ((if x then cut_upward h Begin ∷ [] else []) ++ ((if y then cut_upward h (Enl e) ∷ [] else []) ++ (if z then cut_upward h (Again e) ∷ [] else []))) ≡ k
-    by true true true = refl
-    by true true false = refl
-    by true false true = refl
-    by true false false = refl
-    by false true true = refl
-    by false true false = refl
-    by false false true = refl
-    by false false false = refl
+    by : (cs : List Conn) → follow_all k (map (cut_upward h) cs) ≡ k
+    by [] = refl
+    by (c ∷ cs) = by cs
 
 cuts_sendable : (p h : List Entry) (b : Bool) (e : EnlNo) → are_sendable (onto p (links_cut h b e)) ≡ are_sendable p
-cuts_sendable p h b e = by (b && is_open_wire Begin h) (is_open_wire (Enl e) h) (is_open_wire (Again e) h)
+cuts_sendable p h b e = ap (λ (xs : List Entry). are_sendable (onto p xs)) (cuts_are h b e) ∙ by p (links h b e)
   where
-    by : (x y z : Bool) → are_sendable (onto p ((if x then cut_upward h Begin ∷ [] else []) ++ ((if y then cut_upward h (Enl e) ∷ [] else []) ++ (if z then cut_upward h (Again e) ∷ [] else [])))) ≡ are_sendable p
-    by true true true = refl
-    by true true false = refl
-    by true false true = refl
-    by true false false = refl
-    by false true true = refl
-    by false true false = refl
-    by false false true = refl
-    by false false false = refl
+    by : (q : List Entry) (cs : List Conn) → are_sendable (onto q (map (cut_upward h) cs)) ≡ are_sendable q
+    by q [] = refl
+    by q (c ∷ cs) = by (cut_upward h c ∷ q) cs
 
 left_heeded : (h g : Known) (n : ℕ) (a : ActorNo) (e : EnlNo) (p : List Entry) (b : Bool) → g ≡ known_after [] h (loss true h.half e)
     → g ≡ known_after (record { line = n; actor = a; call = Gone e } ∷ []) h (Called n a Fine ∷ Lost e ∷ links_cut p b e)

@@ -25,8 +25,7 @@ use Rattle.tx_world.specs.Carried.{are_sendable}
 use Rattle.tx_world.specs.Kept.{Kept}
 use Rattle.tx_world.specs.State.{may_enter, sends_begin}
 use Rattle.tx_world.proofs.Begun.{may_write}
-use Rattle.tx_world.proofs.Calling.{call_heeded, may_come}
-use Rattle.tx_world.proofs.Entering.{may_be_entered, once_more}
+use Rattle.tx_world.proofs.Calling.{call_heeded, call_once, may_come}
 use Rattle.tx_world.proofs.Onward.{half_is, step_kept}
 use Rattle.dtx_model.specs.Facts.{has_facts}
 
@@ -47,7 +46,7 @@ pub linked : (t : TxNo) (w : World) (h g : Known) (k j : CoreKept) (n : ℕ) (a 
     → Linked t w (Calls n a c m) g j es
 linked t w h g k j n a c m es kept may answers block silent local far =
     let come = may_come t w h k n a c m kept may answers in
-    let once = once_more w.calls n a c kept.once (may_be_entered w n c may).1 in
+    let once = call_once t w h k n a c m kept may in
     record {
       kept =
           step_kept t w (Calls n a c m) h g k j kept come once (local ∙ ap (known_after (entered (Calls n a c m) []) h) block)

@@ -1,13 +1,15 @@
 -- What is kept of the log stays what the coordinator knows in a step that isn't the coordinator's own at the log: it only begins to live where BEGIN was sent.
-use Rattle.std.proofs.Common.{◌≡◌, ◌++◌, ◌∙◌, ℕ, Bool, true, false, List, None, refl, ap, sym, subst, if◌then◌else◌}
+use Rattle.std.proofs.Common.{◌≡◌, ◌++◌, ◌∙◌, ℕ, Bool, true, false, ◌&&◌, not, List, None, refl, ap, sym, subst, if◌then◌else◌}
 use Rattle.dtx_values.specs.declared.entry.Entry.{Entry}
 use Rattle.dtx_values.specs.declared.entry.Entry.TheVariants.{Freed, Logged, Restarted, Sent, Stopped}
 use Rattle.dtx_values.specs.declared.number.TxNo.{TxNo}
-use Rattle.dtx_model.specs.Words.{each}
+use Rattle.dtx_model.specs.Words.{each, has, onto}
+use Rattle.dtx_model.specs.declared.waiting.EnteredCall.{EnteredCall}
+use Rattle.dtx_model.specs.Caused.{is_begin_sent}
 use Rattle.dtx_model.specs.Coordinated.{Coordinated, core_down, core_got, follow, follow_all, nothing}
 use Rattle.dtx_model.specs.Promotes.{identifier_of}
 use Rattle.dtx_model.specs.World.{World}
-use Rattle.dtx_model.specs.Steps.{Step}
+use Rattle.dtx_model.specs.Steps.{Step, block_at, entered}
 use Rattle.dtx_values.specs.declared.message.Conn.{Conn}
 use Rattle.dtx_values.specs.declared.message.Dir.TheVariants.{Up}
 use Rattle.outcome_law.proofs.Scans.{each_more}
@@ -19,11 +21,11 @@ use Rattle.coordinator_log.specs.State.{LogState}
 use Rattle.tx_world.specs.State.{TxState, sends_begin, turned}
 use Rattle.tx_world.specs.AtLog.{IsOurs, Kept as LogKept}
 use Rattle.tx_world.specs.Course.{is_far, noted, rest_up}
-use Rattle.tx_world.specs.Kept.{Kept, Whole, stopped_if}
+use Rattle.tx_world.specs.Kept.{Kept, Whole, stop_if, stopped_if}
 use Rattle.tx_world.specs.Stepping.{Does, IsAnswered}
 use Rattle.tx_world.proofs.Far.{far_core_down, far_core_got}
 use Rattle.tx_world.proofs.Keeping.{is_elsewhere, ours_stays, ours_stopped}
-use Rattle.tx_world.proofs.Written.{does_step}
+use Rattle.tx_world.proofs.Written.{Ready, does_step, world_written, written_kept}
 
 -- the life is nothing to it
 ours_lives : (id : ℕ) (k : Coordinated) (x : LogKept) (life : ℕ) → IsOurs id k x → IsOurs id k (record { ours = x.ours; unsure = x.unsure; life = life })
@@ -96,3 +98,31 @@ does_near {D} faults m t w v x y log begins sends life same is lives sent now an
     let P : LogKept → Type 0 = λ z. Does faults m (seen_as t w x) log (seen_as t v z) log in
     let lived : (if begins then life else x.life) ≡ (if sends then log.life else x.life) = ap (λ (b : Bool). if b then life else x.life) sent ∙ ap (λ n. if sends then n else x.life) now in
     subst P (sym lives) (does_step faults m t w v x.ours x.unsure x.life (if begins then life else x.life) log sends same is lived answered)
+
+-- A step of the local side was written: these calls and this history are left, the coordinator stops where BEGIN is sent while the log isn't up, and it lives in this life of the
+-- log where BEGIN is sent. Then the world holds.
+pub near_whole : {t : TxNo} {w : World} {m : Step} {g : Known} {k : CoreKept} {h xs : List Entry} (up : Bool) (life : ℕ) {j : CoreKept} {x y : LogKept} {ks : List EnteredCall} {n : List Entry}
+    → Ready t w m g k h xs → IsOurs (identifier_of k.transaction.value) k.state x → ks ≡ entered m w.calls → n ≡ stop_if (has is_begin_sent xs && not up) (onto h xs)
+    → j ≡ stopped_if (has is_begin_sent xs && not up) k → y ≡ record { ours = x.ours; unsure = x.unsure; life = life } → Whole t (record { calls = ks; past = n }) g j y
+near_whole {t} {w} {m} {g} {k} {h} {xs} up life {j} {x} {y} {ks} {n} r ours calls past far lives =
+    let begins = has is_begin_sent xs in
+    whole_near k (begins && not up) life (written_kept t w m up begins g k j ks (onto h xs) n r.kept r.runs calls r.sends r.past past far) ours far lives
+
+-- and the step was done
+pub near_done : {D : Type 0} (faults : D → ℕ) {t : TxNo} {w : World} {m : Step} {g : Known} {k : CoreKept} {h xs : List Entry} (x y : LogKept) (old : TxState) (log : LogState D) (begins : Bool) (life : ℕ)
+    {ks : List EnteredCall} {n : List Entry} → Ready t w m g k h xs → ks ≡ entered m w.calls → n ≡ stop_if (has is_begin_sent xs && not log.is_up) (onto h xs)
+    → y ≡ record { ours = x.ours; unsure = x.unsure; life = (if begins then life else x.life) } → begins ≡ has is_begin_sent xs → life ≡ log.life → IsAnswered faults (seen_as t w x) log log m → seen_as t w x ≡ old
+    → Does faults m old log (seen_as t (record { calls = ks; past = n }) y) log
+near_done {D} faults {t} {w} {m} {g} {k} {h} {xs} x y old log begins life {ks} {n} r calls past lives begun now answered was =
+    let sends = has is_begin_sent xs in
+    let v : World = record { calls = ks; past = n } in
+    subst (λ (z : TxState). Does faults m z log (seen_as t v y) log) was
+    (does_near faults m t w v x y log begins sends life (world_written t.value w m log.is_up sends ks (onto h xs) n calls r.sends r.past past) r.sends lives begun now answered)
+
+-- and so is one that sends no BEGIN
+pub silent_done : {D : Type 0} (faults : D → ℕ) {t : TxNo} {w : World} {m : Step} (x : LogKept) (old : TxState) (log : LogState D) {ks : List EnteredCall} {n : List Entry} → false ≡ sends_begin t.value w m
+    → ks ≡ entered m w.calls → n ≡ onto w.past (block_at t.value w m) → IsAnswered faults (seen_as t w x) log log m → seen_as t w x ≡ old → Does faults m old log (seen_as t (record { calls = ks; past = n }) x) log
+silent_done {D} faults {t} {w} {m} x old log {ks} {n} silent calls past answered was =
+    let v : World = record { calls = ks; past = n } in
+    subst (λ (z : TxState). Does faults m z log (seen_as t v x) log) was
+    (does_step faults m t w v x.ours x.unsure x.life x.life log false (world_written t.value w m log.is_up false ks (onto w.past (block_at t.value w m)) n calls silent refl past) silent refl answered)

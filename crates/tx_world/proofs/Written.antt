@@ -94,38 +94,56 @@ does_step faults m t w v ours unsure life now log begins same sends lives answer
   answered = answered;
 }
 
--- A step of the local side is ready to be written: its half took it, and these entries are its block.
-pub record Ready (t : TxNo) (w : World) (m : Step) (g : Known) (k : CoreKept) (xs : List Entry) : Type 0 where
+-- A step of the local side is ready to be written after h, which is its past with what came: its half took it, and with these entries its block is whole.
+pub record Ready (t : TxNo) (w : World) (m : Step) (g : Known) (k : CoreKept) (h xs : List Entry) : Type 0 where
   pub kept : Kept t (after t.value w m) g k
-  pub block : xs ≡ block_at t.value w m
+  pub past : onto h xs ≡ onto w.past (block_at t.value w m)
   pub written : each is_written xs ≡ true
-  pub may : MayWrite t.value w m
+  pub sendable : are_sendable (onto h xs) ≡ true
+  pub stopped : k.state.stopped ≡ is_stopped h
+  pub sends : has is_begin_sent xs ≡ sends_begin t.value w m
   pub runs : has is_begin_sent xs ≡ true → k.state.stopped ≡ false
 
-pub ready : (t : TxNo) (w : World) (m : Step) (h g : Known) (k : CoreKept) (xs : List Entry) → Kept t w h k → MayCome (IsIn (entered m w.calls)) t.value w m → AreMadeOnce (IsIn (entered m w.calls))
-    → Kept t (after t.value w m) g k → xs ≡ block_at t.value w m → each is_near (block_at t.value w m) ≡ true → Ready t w m g k xs
-ready t w m h g k xs before come once kept block near =
+-- a step to which nothing came
+pub ready : (t : TxNo) (w : World) (m : Step) (h g : Known) (k : CoreKept) (p xs : List Entry) → Kept t w h k → p ≡ w.past → MayCome (IsIn (entered m w.calls)) t.value w m → AreMadeOnce (IsIn (entered m w.calls))
+    → Kept t (after t.value w m) g k → xs ≡ block_at t.value w m → each is_near (block_at t.value w m) ≡ true → Ready t w m g k p xs
+ready t w m h g k p xs before same come once kept block near =
     let may = may_write t w m before.ran come once in
-    record { kept = kept; block = block; written = near_written xs (block_at t.value w m) block near; may = may; runs = begin_runs t w m h k xs before may block }
+    let past = ap (λ (q : List Entry). onto q xs) same ∙ ap (onto w.past) block in
+    record {
+      kept = kept;
+      past = past;
+      written = near_written xs (block_at t.value w m) block near;
+      sendable = ap are_sendable past ∙ may.sendable;
+      stopped = stopped_is t w h k p before same;
+      sends = ap (has is_begin_sent) block;
+      runs = begin_runs t w m h k xs before may block;
+    }
+
+-- a step that sends no BEGIN was written: the world is the one after it, which holds
+pub silent_kept : {t : TxNo} {w : World} {m : Step} {g : Known} {k : CoreKept} {ks : List EnteredCall} {n : List Entry} → Kept t (after t.value w m) g k → false ≡ sends_begin t.value w m → ks ≡ entered m w.calls
+    → n ≡ onto w.past (block_at t.value w m) → Kept t (record { calls = ks; past = n }) g k
+silent_kept {t} {w} {m} {g} {k} {ks} {n} kept silent calls past =
+    written_kept t w m true false g k k ks (onto w.past (block_at t.value w m)) n kept (λ b. absurd cc) calls silent refl past refl
 
 -- the note to which a reply is due
 due_note : (o : Option Note) (r : Reply) → is_some o ≡ true → fits_due r o ≡ true → (n : Note) × (o ≡ Some n) × (fits r n ≡ true)
 due_note (Some n) r s f = (n, refl, f)
 due_note None r s f = absurd (cc)
 
-pub reply_ready : (t : TxNo) (w : World) (h g : Known) (k : CoreKept) (e : EnlNo) (r : Reply) (o n : Outgoing) (xs : List Entry) → Kept t w h k → is_some (due_of h.half.seen e.value) ≡ true
-    → fits_due r (due_of h.half.seen e.value) ≡ true → g ≡ known_after [] h (reply_entries h.half e r) → xs ≡ n.entries → n ≡ put_out o (reply_entries h.half e r) → o ≡ blank → Ready t w (Replies e r) g k xs
+pub reply_ready : (t : TxNo) (w : World) (h g : Known) (k : CoreKept) (e : EnlNo) (r : Reply) (o n : Outgoing) (p xs : List Entry) → Kept t w h k → p ≡ w.past → is_some (due_of h.half.seen e.value) ≡ true
+    → fits_due r (due_of h.half.seen e.value) ≡ true → g ≡ known_after [] h (reply_entries h.half e r) → xs ≡ n.entries → n ≡ put_out o (reply_entries h.half e r) → o ≡ blank → Ready t w (Replies e r) g k p xs
 unfolding block_at
-reply_ready t w h g k e r o n xs kept some fit local value wrote clear =
+reply_ready t w h g k e r o n p xs kept same some fit local value wrote clear =
     let due = due_note (due_of h.half.seen e.value) r some fit in
     let block = block_of o n xs (reply_entries h.half e r) value wrote clear ∙ reply_block t w h k e r kept in
-    ready t w (Replies e r) h g k xs kept (due.0, ap (λ (x : Half). due_of x.seen e.value) (sym (half_is t w h k kept)) ∙ due.1, due.2) kept.once (reply_kept t w h g k e r due.0 kept due.1 due.2 local) block
+    ready t w (Replies e r) h g k p xs kept same (due.0, ap (λ (x : Half). due_of x.seen e.value) (sym (half_is t w h k kept)) ∙ due.1, due.2) kept.once (reply_kept t w h g k e r due.0 kept due.1 due.2 local) block
     (near_reply (half w) e r).proof
 
-pub act_ready : (t : TxNo) (w : World) (h g : Known) (k : CoreKept) (o n : Outgoing) (xs : List Entry) → Kept t w h k → not (is_empty (act_entries h.half)) ≡ true → g ≡ known_after [] h (act_entries h.half)
-    → xs ≡ n.entries → n ≡ put_out o (act_entries h.half) → o ≡ blank → Ready t w Acts g k xs
+pub act_ready : (t : TxNo) (w : World) (h g : Known) (k : CoreKept) (o n : Outgoing) (p xs : List Entry) → Kept t w h k → p ≡ w.past → not (is_empty (act_entries h.half)) ≡ true → g ≡ known_after [] h (act_entries h.half)
+    → xs ≡ n.entries → n ≡ put_out o (act_entries h.half) → o ≡ blank → Ready t w Acts g k p xs
 unfolding block_at
-act_ready t w h g k o n xs kept some local value wrote clear =
+act_ready t w h g k o n p xs kept same some local value wrote clear =
     let block = block_of o n xs (act_entries h.half) value wrote clear ∙ act_block t w h k kept in
     let acts = not_true (is_empty (act_entries h.half)) some in
-    ready t w Acts h g k xs kept (ap (λ (x : Half). is_empty (act_entries x)) (sym (half_is t w h k kept)) ∙ acts) kept.once (act_kept t w h g k kept acts local) block (near_act (half w)).proof
+    ready t w Acts h g k p xs kept same (ap (λ (x : Half). is_empty (act_entries x)) (sym (half_is t w h k kept)) ∙ acts) kept.once (act_kept t w h g k kept acts local) block (near_act (half w)).proof

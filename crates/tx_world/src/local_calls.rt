@@ -7,14 +7,14 @@ ghost use Rattle.dtx_model.specs.Steps.{Calls, entered};
 ghost use Rattle.local_half.specs.Half.{IsRoom, after, is_free};
 ghost use Rattle.tx_world.specs.Entering.{half_answer, is_local, local_call};
 
-use dtx_values::{ActorNo, Answer, Call, EnlNo, Entry, Outbox};
+use dtx_values::{ActorNo, Answer, Call, EnlNo, Entry, Outbox, Outcome};
 use local_half::LocalHalf;
 
-/// What an `await` is answered, once it is begun.
-fn await_answer(half: &LocalHalf) -> Answer
-    ensures { result ≡ await_answer half.now.half.seen.told_client }
+/// What an `await` is answered, once it is begun, where the client was told this.
+pub(crate) fn await_answer(told: Option<Outcome>) -> Answer
+    ensures { result ≡ await_answer told }
 {
-    match half.told_client() {
+    match told {
         Some(o) => Answer::OutcomeIs(o),
         None => Answer::StillOpen,
     }
@@ -59,7 +59,7 @@ pub(crate) fn answer_call(
 {
     let answer = match *c {
         Call::Do(_, _, _) => half.if_begun(Answer::Did(done)),
-        Call::Await(_) => half.if_begun(await_answer(half)),
+        Call::Await(_) => half.if_begun(await_answer(half.told_client())),
         Call::Gone(e) => return answer_gone(half, actor, line, e, out),
         _ => return half.call(actor, line, c, out),
     };

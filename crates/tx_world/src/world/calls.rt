@@ -1,23 +1,21 @@
 //! The calls that a world is given.
 ghost use Rattle.std.specs.Prelude.{◌≡◌, ◌&&◌, not, IfOk, OnOk, OnErr, true, false};
-ghost use Rattle.dtx_model.specs.Answers.{await_answer};
 ghost use Rattle.dtx_model.specs.Facts.{has_facts};
 ghost use Rattle.dtx_model.specs.World.{answer_at};
 ghost use Rattle.dtx_model.specs.Steps.{Calls};
 ghost use Rattle.dtx_model.specs.Caused.{MayAnswer};
-ghost use Rattle.local_half.specs.Half.{is_its_own};
 ghost use Rattle.tx_world.specs.State.{is_linking, may_enter};
 ghost use Rattle.tx_world.specs.Entering.{is_entered_yet};
 ghost use Rattle.tx_world.specs.OwnCalls.{DoesAlone};
 ghost use Rattle.tx_world.specs.Stepping.{Does};
 
 use super::TxWorld;
+use crate::local_calls::await_answer;
 use crate::names::{is_entered, is_made};
 use crate::refusal::WorldError;
-use crate::writing::{live, write_near};
 use coordinator_log::Log;
 use dtx_model::EnteredCall;
-use dtx_values::{ActorNo, Answer, Call, Entry, Outcome};
+use dtx_values::{ActorNo, Answer, Call, Entry};
 use local_half::LocalHalf;
 use outside::Disk;
 
@@ -26,16 +24,6 @@ fn is_neither(a: bool, b: bool) -> bool
     ensures { result ≡ (not a && not b) }
 {
     !a && !b
-}
-
-/// The answer of an await, once the transaction is begun.
-fn await_answer(told: Option<Outcome>) -> Answer
-    ensures { result ≡ await_answer told }
-{
-    match told {
-        Some(o) => Answer::OutcomeIs(o),
-        None => Answer::StillOpen,
-    }
 }
 
 impl TxWorld {
@@ -76,7 +64,7 @@ impl TxWorld {
         ensures memory { OnErr result (self.new ≡ self.old) }
     {
         if LocalHalf::is_its_own(c) {
-            return self.enter_own(log, actor, line, c, done);
+            return self.enter_local(log, actor, line, c, done);
         }
         match *c {
             Call::Await(_) => {
@@ -167,36 +155,5 @@ impl TxWorld {
         let block = [Entry::Called(line, actor, answer)];
         self.history.write(&block, self.core.is_stopped());
         Ok(())
-    }
-
-    /// Enters a call that the local side answers.
-    fn enter_own<D: Disk>(
-        &mut self,
-        log: &Log<D>,
-        actor: ActorNo,
-        line: u32,
-        c: &Call,
-        done: u16,
-    ) -> Result<Answer, WorldError>
-        requires enters { may_enter self.old.world line c.now ≡ true }
-        requires answers { MayAnswer self.old.transaction.value self.old.world c.now done }
-        requires kind { is_its_own c.now ≡ true }
-        ensures answer { IfOk result (λ a. a ≡ answer_at self.old.transaction.value self.old.world c.now done) }
-        ensures done { OnOk result (Does D.faults (Calls line actor c.now done) self.old log.now self.new log.now) }
-        ensures ours { (self.new.ours ≡ self.old.ours) × (self.new.unsure ≡ self.old.unsure) }
-        ensures memory { OnErr result (self.new ≡ self.old) }
-    {
-        self.calls.reserve(1)?;
-        self.history.reserve()?;
-        self.out.clear();
-        let answer = self.half.call(actor, line, c, &mut self.out);
-        self.calls.push_reserved(EnteredCall {
-            line,
-            actor,
-            call: *c,
-        });
-        let begins = write_near(&mut self.history, &mut self.core, self.out.entries(), log);
-        live(&mut self.at_log, begins, log.life());
-        Ok(answer)
     }
 }

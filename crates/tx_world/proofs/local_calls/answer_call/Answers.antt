@@ -3,7 +3,7 @@ use Rattle.dtx_values.specs.Outgoing.{written}
 use Rattle.dtx_values.specs.declared.entry.Answer.{Answer}
 use Rattle.dtx_values.specs.declared.entry.Entry.{Entry}
 use Rattle.dtx_values.specs.declared.entry.Entry.TheVariants.{Called}
-use Rattle.dtx_model.specs.Answers.{if_begun}
+use Rattle.dtx_model.specs.Answers.{await_answer, if_begun}
 use Rattle.dtx_model.specs.Steps.{Calls, entered}
 use Rattle.local_half.proofs.Writing.{unsent}
 use Rattle.local_half.specs.Half.{after}
@@ -37,7 +37,7 @@ returns-clause-answer c =
       | in-Await w ↦
           w.answer-is
           ∙ w.if_begun-answer-in-Await.ensures
-          ∙ ap (if_begun h.half.seen.limit) w.await_answer.ensures
+          ∙ ap (if_begun h.half.seen.limit) (w.await_answer.ensures ∙ ap await_answer w.told_client.ensures)
           ∙ await_answered t h.half c.args.c.now w.in-Await.field-0 c.args.done w.in-Await.is
     ]
 
@@ -56,7 +56,7 @@ returns-clause-out c =
       | in-Await w ↦
           w.answer-is
           ∙ w.if_begun-answer-in-Await.ensures
-          ∙ ap (if_begun h.half.seen.limit) w.await_answer.ensures
+          ∙ ap (if_begun h.half.seen.limit) (w.await_answer.ensures ∙ ap await_answer w.told_client.ensures)
           ∙ await_answered t h.half c.args.c.now w.in-Await.field-0 c.args.done w.in-Await.is
     ] in
     c.put.ensures

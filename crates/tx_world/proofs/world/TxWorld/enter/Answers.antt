@@ -1,10 +1,17 @@
-use Rattle.std.proofs.Common.{◌∙◌, ap}
+use Rattle.std.proofs.Common.{◌∙◌, ap, sym}
 use Rattle.dtx_model.specs.Words.{past_of}
 use Rattle.dtx_model.specs.Answers.{await_answer, if_begun}
 use Rattle.dtx_model.specs.World.{World, answer_at}
 use Rattle.tx_world.specs.State.{TxState}
+use Rattle.tx_world.proofs.Calling.{own_local, own_unlinked}
 use Rattle.tx_world.proofs.CallsOn.{await_is, did_is, is_answered}
 use Rattle.tx_world.proofs.world.TxWorld.enter.Goals as goal
+
+pub enter_local-requires-clause-near : goal.enter_local-requires-clause-near
+enter_local-requires-clause-near g c = own_local c.args.c.now (sym c.is_its_own.ensures ∙ c.if-is_its_own.true)
+
+pub enter_local-requires-clause-unlinked : goal.enter_local-requires-clause-unlinked
+enter_local-requires-clause-unlinked g c = own_unlinked c.args.self.now.world c.args.c.now (sym c.is_its_own.ensures ∙ c.if-is_its_own.true)
 
 pub enter_alone-requires-clause-answer : goal.enter_alone-requires-clause-answer
 enter_alone-requires-clause-answer g c =
