@@ -22,7 +22,7 @@ volatile_else DurableSingle d p = absurd (cc)
 volatile_else Promotable d p = absurd (cc)
 
 -- none lasts where none is durable and none promotable
-none_lasts : (xs : List Row) → has (λ x. is_durable x.class) xs ≡ false → has (λ x. is_promotable x.class) xs ≡ false → has is_lasting xs ≡ false
+pub none_lasts : (xs : List Row) → has (λ x. is_durable x.class) xs ≡ false → has (λ x. is_promotable x.class) xs ≡ false → has is_lasting xs ≡ false
 none_lasts [] d p = refl
 none_lasts (x ∷ xs) d p =
     or_false (is_lasting x) (has is_lasting xs)

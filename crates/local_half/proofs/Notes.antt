@@ -16,7 +16,7 @@ use Rattle.dtx_values.specs.declared.entry.Answer.TheVariants.{Fine, Id, Many, F
 use Rattle.dtx_values.specs.declared.number.CloneNo.{CloneNo}
 use Rattle.dtx_values.specs.declared.number.EnlNo.{EnlNo}
 use Rattle.dtx_values.specs.declared.words.Class.{Class}
-use Rattle.dtx_values.specs.declared.words.Class.TheVariants.{DurableSingle, One, Promotable, Zero}
+use Rattle.dtx_values.specs.declared.words.Class.TheVariants.{DurableSingle, Promotable}
 use Rattle.dtx_values.specs.declared.words.Outcome.{Outcome}
 use Rattle.dtx_values.specs.declared.words.Cause.{Cause}
 use Rattle.dtx_values.specs.declared.words.Cause.TheVariants.{Two, Second, Beside}
@@ -33,7 +33,8 @@ use Rattle.dtx_model.specs.Promotes.{identifier_of}
 use Rattle.dtx_model.specs.Waiting.{is_place, is_place_of, wanted_by}
 use Rattle.dtx_model.specs.Answers.{clone_answer, complete_answer, durable_answer, gone_answer, has_promotion, if_begun, is_crowded, is_done, is_full, is_full_of_durables, local_answer, marshal_answer, places, promotable_answer, status_answer, unless_ended, unless_late, unless_over, volatile_answer, wait_for}
 use Rattle.dtx_model.specs.Words.{has}
-use Rattle.dtx_model.proofs.Bools.{not_false, not_true, or_false, or_first, or_second}
+use Rattle.dtx_model.proofs.Bools.{not_false, not_true}
+use Rattle.dtx_model.proofs.Unowned.{none_lasts}
 use Rattle.dependent_clones.specs.Refusals.{clone_refusal}
 use Rattle.local_half.specs.Half.{Known, is_awaited, is_its_own}
 use Rattle.local_half.specs.Taken.{HasPlace, cause_for, with_call}
@@ -70,19 +71,6 @@ undecided_there o a k = step o.limit o.decided k
     step None d k = absurd (cc)
     step (Some l) (Some x) k = absurd (cc)
     step (Some l) None k = refl
-
--- none lasts where none is durable and none promotable
-volatile_else : (c : Class) → is_durable c ≡ false → is_promotable c ≡ false → not (is_volatile c) ≡ false
-volatile_else Zero d p = refl
-volatile_else One d p = refl
-volatile_else _ d p = absurd (cc)
-
-none_lasts : (xs : List Row) → has (λ x. is_durable x.class) xs ≡ false → has (λ x. is_promotable x.class) xs ≡ false → has is_lasting xs ≡ false
-none_lasts [] d p = refl
-none_lasts (x ∷ xs) d p =
-    or_false (is_lasting x) (has is_lasting xs)
-    (volatile_else x.class (or_first (is_durable x.class) (has (λ y. is_durable y.class) xs) d) (or_first (is_promotable x.class) (has (λ y. is_promotable y.class) xs) p))
-    (none_lasts xs (or_second (is_durable x.class) (has (λ y. is_durable y.class) xs) d) (or_second (is_promotable x.class) (has (λ y. is_promotable y.class) xs) p))
 
 -- a durable call that has no cause to promote comes after nothing durable or promotable
 uncaused : (xs : List Row) (single : Bool) → cause_of xs single ≡ None → has is_lasting xs ≡ false

@@ -19,7 +19,7 @@ use Rattle.dtx_model.specs.Wires.{MayCross, WireRun, in_transit, is_kept, is_nex
 use Rattle.dtx_model.proofs.Bools.{and_left, and_right, and_both, not_both, not_false, not_true, or_case, or_false, or_right}
 use Rattle.outcome_law.proofs.Tests.{third_of_four, fourth_of_four}
 use Rattle.outcome_law.proofs.Lists.{has-behind}
-use Rattle.outcome_law.proofs.Scans.{has_more}
+use Rattle.outcome_law.proofs.Scans.{has_more, taken_none}
 use Rattle.outcome_law.proofs.Table.{is_opening_got, is_there, message_row, rule}
 use Rattle.outcome_law.proofs.Keeping.{Keeps, keeps_before, newest}
 use Rattle.outcome_law.proofs.Crossed.{is_got_on, is_sent_on, was_sent}
@@ -216,15 +216,6 @@ rest_none p (m ∷ ms) e = later (p m) (has p ms) e
     later : (a b : Bool) → (a || b) ≡ false → b ≡ false
     later true b k = absurd cc
     later false b k = k
-
-taken_none : (p : Message → Bool) (n : ℕ) (ms : List Message) → has p ms ≡ false → has p (take n ms) ≡ false
-taken_none p zero ms e = refl
-taken_none p (suc n) [] e = refl
-taken_none p (suc n) (m ∷ ms) e = parts (p m) (has p ms) (has p (take n ms)) (λ k. taken_none p n ms k) e
-  where
-    parts : (a b c : Bool) → (b ≡ false → c ≡ false) → (a || b) ≡ false → (a || c) ≡ false
-    parts true b c f k = absurd cc
-    parts false b c f k = f k
 
 rest_taken : (p : Message → Bool) (n : ℕ) (ms : List Message) → has p (without_first ms) ≡ false → has p (without_first (take n ms)) ≡ false
 rest_taken p zero ms e = refl

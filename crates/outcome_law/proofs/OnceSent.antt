@@ -16,6 +16,7 @@ use Rattle.dtx_model.proofs.Bools.{and_left, and_right, not_both, not_false, not
 use Rattle.outcome_law.proofs.Lists.{has-behind}
 use Rattle.outcome_law.proofs.Crossed.{came, is_got_on, is_sent_on, was_sent}
 use Rattle.outcome_law.proofs.Leading.{opening_of, next_stands}
+use Rattle.outcome_law.proofs.Scans.{taken_none}
 use Rattle.dtx_model.proofs.Connections.{same_is, same_way_is}
 
 -- none that passes was sent there before
@@ -64,15 +65,6 @@ one_new p m (x ∷ ms) e = step (p x) e (one_new p m ms)
     step : (b : Bool) → (b || has p ms) ≡ false → (has p ms ≡ false → is_one p (ms ++ m ∷ []) ≡ true) → (if b then not (has p (ms ++ m ∷ [])) else is_one p (ms ++ m ∷ [])) ≡ true
     step true e g = absurd cc
     step false e g = g e
-
-taken_none : (p : Message → Bool) → (n : ℕ) (ms : List Message) → has p ms ≡ false → has p (take n ms) ≡ false
-taken_none p zero ms e = refl
-taken_none p (suc n) [] e = refl
-taken_none p (suc n) (m ∷ ms) e = parts (p m) (has p ms) (has p (take n ms)) (λ k. taken_none p n ms k) e
-  where
-    parts : (a b c : Bool) → (b ≡ false → c ≡ false) → (a || b) ≡ false → (a || c) ≡ false
-    parts true b c f k = absurd cc
-    parts false b c f k = f k
 
 taken_one : (p : Message → Bool) → (n : ℕ) (ms : List Message) → is_one p ms ≡ true → is_one p (take n ms) ≡ true
 taken_one p zero ms t = refl

@@ -1,6 +1,6 @@
 -- Facts on scans of a list.
 use Rattle.std.proofs.Common.{◌≡◌, ℕ, zero, suc, Bool, true, false, ◌||◌, List, [], ◌∷◌, ◌++◌, Option, Some, None, refl, ◌∙◌}
-use Rattle.std.specs.Prelude.{find, if◌then◌else◌}
+use Rattle.std.specs.Prelude.{find, take, if◌then◌else◌}
 use Rattle.std.specs.List.{slice_get}
 use Rattle.std.proofs.lemmas.List.Folds.{list_all-append}
 use Rattle.std.proofs.lemmas.Bool.{false_from_ne_true, or_left}
@@ -60,3 +60,13 @@ find_none p (x ∷ xs) h = step (p x) x (find p xs) (has p xs) (find_none p xs) 
     step : {A : Type 0} (b : Bool) (x : A) (o : Option A) (rest : Bool) → (o ≡ None → rest ≡ false) → (if b then Some x else o) ≡ None → (b || rest) ≡ false
     step true x o rest ih h = absurd cc
     step false x o rest ih h = ih h
+
+-- where none passes, none of the first passes
+pub taken_none : {A : Type 0} (p : A → Bool) (n : ℕ) (xs : List A) → has p xs ≡ false → has p (take n xs) ≡ false
+taken_none p zero xs e = refl
+taken_none p (suc n) [] e = refl
+taken_none p (suc n) (x ∷ xs) e = parts (p x) (has p xs) (has p (take n xs)) (λ k. taken_none p n xs k) e
+  where
+    parts : (a b c : Bool) → (b ≡ false → c ≡ false) → (a || b) ≡ false → (a || c) ≡ false
+    parts true b c f k = absurd cc
+    parts false b c f k = f k
