@@ -9,21 +9,19 @@ use Rattle.dtx_values.specs.declared.number.ActorNo.{ActorNo}
 use Rattle.dtx_values.specs.declared.number.TxNo.{TxNo}
 use Rattle.dtx_model.specs.declared.waiting.EnteredCall.{EnteredCall}
 use Rattle.dtx_model.specs.Observed.{track}
-use Rattle.dtx_model.specs.Words.{each, has}
 use Rattle.dtx_model.specs.Answers.{await_answer, if_begun, local_answer}
 use Rattle.dtx_model.specs.Facts.{facts_if, has_facts}
 use Rattle.dtx_model.specs.Half.{Half, heeds_all}
 use Rattle.dtx_model.specs.World.{World, half, answer_at, facts_at}
-use Rattle.dtx_model.specs.Steps.{Calls, after, block_at, entered}
-use Rattle.dtx_model.specs.Caused.{MayAnswer, is_begin_sent}
-use Rattle.local_half.specs.Half.{Known, after as known_after}
+use Rattle.dtx_model.specs.Steps.{Calls, block_at, entered}
+use Rattle.dtx_model.specs.Caused.{MayAnswer}
+use Rattle.dtx_model.specs.Coordinated.{follow, follow_all}
+use Rattle.local_half.specs.Half.{Known}
 use Rattle.coordinator_core.specs.Kept.{Kept as CoreKept}
-use Rattle.tx_world.specs.State.{may_enter, sends_begin}
-use Rattle.tx_world.proofs.Begun.{MayWrite, may_write}
-use Rattle.tx_world.specs.Course.{is_near}
+use Rattle.tx_world.specs.State.{may_enter}
 use Rattle.tx_world.specs.Kept.{Kept}
-use Rattle.tx_world.proofs.Onward.{half_is, near_kept}
-use Rattle.tx_world.proofs.Calling.{call_once, may_come}
+use Rattle.tx_world.proofs.Onward.{half_is}
+use Rattle.tx_world.proofs.Linking.{Linked, linked}
 
 -- a call that writes its entry alone changes nothing that is known
 unheard : (ks : List EnteredCall) (h : Half) (n : ℕ) (a : ActorNo) (x : Answer) → has_facts x ≡ false → heeds_all ks h (Called n a x ∷ []) ≡ h
@@ -38,29 +36,16 @@ unfolding block_at
 alone_block t w n a c m x e f =
     ap (λ b. Called n a x ∷ facts_if b (facts_at t w c x)) (sym f) ∙ ap (λ y. Called n a y ∷ facts_if (has_facts y) (facts_at t w c y)) e
 
--- A call that writes its entry alone is ready to be written.
-pub record Alone (t : TxNo) (w : World) (n : ℕ) (a : ActorNo) (c : Call) (m : ℕ) (x : Answer) (h : Known) (k : CoreKept) : Type 0 where
-  pub kept : Kept t (after t.value w (Calls n a c m)) h k
-  pub block : Called n a x ∷ [] ≡ block_at t.value w (Calls n a c m)
-  pub may : MayWrite t.value w (Calls n a c m)
-  pub silent : sends_begin t.value w (Calls n a c m) ≡ false
+alone_followed : (k : CoreKept) (n : ℕ) (a : ActorNo) (x : Answer) → k ≡ record { transaction = k.transaction; state = follow_all k.state (Called n a x ∷ []) }
+unfolding follow_all follow
+alone_followed k n a x = refl
 
+-- so it is ready to be written
 pub alone_ready : (t : TxNo) (w : World) (h : Known) (k : CoreKept) (n : ℕ) (a : ActorNo) (c : Call) (m : ℕ) (x : Answer) → Kept t w h k → may_enter w n c ≡ true → MayAnswer t.value w c m
-    → x ≡ answer_at t.value w c m → has_facts x ≡ false → Alone t w n a c m x h k
+    → x ≡ answer_at t.value w c m → has_facts x ≡ false → Linked t w (Calls n a c m) h k (Called n a x ∷ [])
 alone_ready t w h k n a c m x kept may answers is silent =
-    let block = alone_block t.value w n a c m x is silent in
-    let come = may_come t w h k n a c m kept may answers in
-    let once = call_once t w h k n a c m kept may in
-    let ks = entered (Calls n a c m) [] in
-    let near : each is_near (block_at t.value w (Calls n a c m)) ≡ true = ap (each is_near) (sym block) in
-    record {
-      kept =
-          near_kept t w (Calls n a c m) h h k kept come once
-          (ap (λ (g : Half). record { transaction = h.transaction; half = g }) (sym (unheard ks h.half n a x silent)) ∙ ap (known_after ks h) block) near;
-      block = block;
-      may = may_write t w (Calls n a c m) kept.ran come once;
-      silent = ap (has is_begin_sent) (sym block);
-    }
+    linked t w h h k k n a c m (Called n a x ∷ []) kept may answers (alone_block t.value w n a c m x is silent) refl
+    (ap (λ (g : Half). record { transaction = h.transaction; half = g }) (sym (unheard (entered (Calls n a c m) []) h.half n a x silent))) (alone_followed k n a x)
 
 -- the answers of await and do
 pub await_is : (t : TxNo) (w : World) (h : Known) (k : CoreKept) (c : Call) (u : TxNo) (m : ℕ) (x : Answer) → Kept t w h k → c ≡ Await u → x ≡ if_begun h.half.seen.limit (await_answer h.half.seen.told_client) → x ≡ answer_at t.value w c m

@@ -7,7 +7,7 @@ use Rattle.dtx_values.specs.declared.note.Note.{Note}
 use Rattle.dtx_values.specs.declared.note.Reply.{Reply}
 use Rattle.dtx_values.specs.declared.number.EnlNo.{EnlNo}
 use Rattle.dtx_values.specs.declared.number.TxNo.{TxNo}
-use Rattle.dtx_model.specs.Words.{each, has, onto}
+use Rattle.dtx_model.specs.Words.{each, has, onto, past_of}
 use Rattle.dtx_model.specs.Log.{CommitRecord}
 use Rattle.dtx_model.specs.declared.waiting.EnteredCall.{EnteredCall}
 use Rattle.dtx_model.specs.Coordinated.{Coordinated}
@@ -33,6 +33,10 @@ use Rattle.tx_world.specs.Kept.{Kept, stop_if, stopped_if}
 use Rattle.tx_world.proofs.Begun.{MayWrite, may_write}
 use Rattle.tx_world.proofs.Near.{near_act, near_reply}
 use Rattle.tx_world.proofs.Onward.{act_block, act_kept, core_is, half_is, reply_block, reply_kept, turned_kept, turned_past}
+
+-- the world of these calls, in order of their entering, and this history
+abbrev pub world_of : List EnteredCall → List Entry → World
+world_of calls past = record { calls = past_of calls; past = past }
 
 -- what was put out into a blank outbox
 pub block_of : (o n : Outgoing) (xs es : List Entry) → xs ≡ n.entries → n ≡ put_out o es → o ≡ blank → xs ≡ es

@@ -1,92 +1,47 @@
-use Rattle.std.proofs.Common.{◌&&◌, List, not, refl, ap, sym, ◌∙◌, subst}
-use Rattle.dtx_values.specs.declared.entry.Entry.{Entry}
-use Rattle.dtx_model.specs.Words.{has, onto, past_of}
-use Rattle.dtx_model.specs.Caused.{is_begin_sent}
+use Rattle.std.proofs.Common.{refl, ap, sym, ◌∙◌}
 use Rattle.dtx_model.specs.Half.{Half}
 use Rattle.dtx_model.specs.Replies.{due_of}
-use Rattle.dtx_model.specs.World.{World, half}
 use Rattle.dtx_model.specs.Steps.{Replies}
+use Rattle.dtx_model.specs.World.{half}
 use Rattle.local_half.specs.Half.{fits_due}
 use Rattle.tx_world.specs.State.{TxState}
-use Rattle.tx_world.specs.Stepping.{Does}
+use Rattle.tx_world.proofs.Living.{near_done, near_whole}
 use Rattle.tx_world.proofs.Onward.{half_is}
-use Rattle.tx_world.proofs.Living.{does_near, seen_as, whole_near}
-use Rattle.tx_world.proofs.Written.{Ready, reply_ready, block_sendable, stopped_is, world_written, written_kept}
+use Rattle.tx_world.proofs.Written.{Ready, reply_ready, world_of}
+use Rattle.tx_world.proofs.world.TxWorld.reply.Given.{Over}
+use Rattle.tx_world.proofs.world.TxWorld.reply.Goals.{After-entries}
 use Rattle.tx_world.proofs.world.TxWorld.reply.Goals as goal
 
-pub write_near-begins-requires-clause-written : goal.write_near-begins-requires-clause-written
-write_near-begins-requires-clause-written g c =
+-- what the reply writes is ready
+ready : (g : Over) (c : After-entries g)
+    → Ready c.self.inside.transaction (world_of c.self.inside.calls.items c.self.inside.history.past) (Replies c.args.e c.args.r) c.reply.new.self c.self.inside.core c.reserve.new.self.past c.entries.result.now
+ready g c =
     let i = c.self.inside in
-    let w : World = record { calls = past_of i.calls.items; past = i.history.past } in
-    let xs = c.entries.result.now in
-    let t = i.transaction in
-    let due = c.reply.ensures.due in
-    let fit = ap (λ (x : Half). fits_due c.args.r (due_of x.seen c.args.e.value)) (half_is t w i.half i.core c.self.invariant.kept ∙ ap (λ (x : TxState). half x.world) c.self.view_is) ∙ c.requires.fits in
-    let ready : Ready t w (Replies c.args.e c.args.r) c.reply.new.self i.core xs =
-    reply_ready t w i.half c.reply.new.self i.core c.args.e c.args.r c.clear.new.self c.reply.new.out xs c.self.invariant.kept (sym due ∙ c.if-not-reply.false) fit (c.reply.ensures.state c.if-not-reply.false) c.entries.ensures.value (c.reply.ensures.out c.if-not-reply.false) c.clear.ensures in
-    ready.written
+    let w = world_of i.calls.items i.history.past in
+    let was = c.if-not-reply.false in
+    let fit = ap (λ (x : Half). fits_due c.args.r (due_of x.seen c.args.e.value)) (half_is i.transaction w i.half i.core c.self.invariant.kept ∙ ap (λ (x : TxState). half x.world) c.self.view_is) ∙ c.requires.fits in
+    reply_ready i.transaction w i.half c.reply.new.self i.core c.args.e c.args.r c.clear.new.self c.reply.new.out c.reserve.new.self.past c.entries.result.now c.self.invariant.kept c.in_ok-reserve.ensures.same
+    (sym c.reply.ensures.due ∙ was) fit (c.reply.ensures.state was) c.entries.ensures.value (c.reply.ensures.out was) c.clear.ensures
+
+pub write_near-begins-requires-clause-written : goal.write_near-begins-requires-clause-written
+write_near-begins-requires-clause-written g c = (ready g (goal.at.write_near-begins-requires-clause-written g c).After-entries).written
 
 pub write_near-begins-requires-clause-sendable : goal.write_near-begins-requires-clause-sendable
-write_near-begins-requires-clause-sendable g c =
-    let i = c.self.inside in
-    let w : World = record { calls = past_of i.calls.items; past = i.history.past } in
-    let xs = c.entries.result.now in
-    let t = i.transaction in
-    let due = c.reply.ensures.due in
-    let fit = ap (λ (x : Half). fits_due c.args.r (due_of x.seen c.args.e.value)) (half_is t w i.half i.core c.self.invariant.kept ∙ ap (λ (x : TxState). half x.world) c.self.view_is) ∙ c.requires.fits in
-    let ready : Ready t w (Replies c.args.e c.args.r) c.reply.new.self i.core xs =
-    reply_ready t w i.half c.reply.new.self i.core c.args.e c.args.r c.clear.new.self c.reply.new.out xs c.self.invariant.kept (sym due ∙ c.if-not-reply.false) fit (c.reply.ensures.state c.if-not-reply.false) c.entries.ensures.value (c.reply.ensures.out c.if-not-reply.false) c.clear.ensures in
-    block_sendable t.value w (Replies c.args.e c.args.r) c.reserve.new.self.past xs ready.may c.in_ok-reserve.ensures.same ready.block
+write_near-begins-requires-clause-sendable g c = (ready g (goal.at.write_near-begins-requires-clause-sendable g c).After-entries).sendable
 
 pub write_near-begins-requires-clause-stopped : goal.write_near-begins-requires-clause-stopped
-write_near-begins-requires-clause-stopped g c =
-    let i = c.self.inside in
-    let w : World = record { calls = past_of i.calls.items; past = i.history.past } in
-    stopped_is i.transaction w i.half i.core c.reserve.new.self.past c.self.invariant.kept c.in_ok-reserve.ensures.same
+write_near-begins-requires-clause-stopped g c = (ready g (goal.at.write_near-begins-requires-clause-stopped g c).After-entries).stopped
 
 pub write_near-begins-requires-clause-runs : goal.write_near-begins-requires-clause-runs
-write_near-begins-requires-clause-runs g c =
-    let i = c.self.inside in
-    let w : World = record { calls = past_of i.calls.items; past = i.history.past } in
-    let xs = c.entries.result.now in
-    let t = i.transaction in
-    let due = c.reply.ensures.due in
-    let fit = ap (λ (x : Half). fits_due c.args.r (due_of x.seen c.args.e.value)) (half_is t w i.half i.core c.self.invariant.kept ∙ ap (λ (x : TxState). half x.world) c.self.view_is) ∙ c.requires.fits in
-    let ready : Ready t w (Replies c.args.e c.args.r) c.reply.new.self i.core xs =
-    reply_ready t w i.half c.reply.new.self i.core c.args.e c.args.r c.clear.new.self c.reply.new.out xs c.self.invariant.kept (sym due ∙ c.if-not-reply.false) fit (c.reply.ensures.state c.if-not-reply.false) c.entries.ensures.value (c.reply.ensures.out c.if-not-reply.false) c.clear.ensures in
-    ready.runs
+write_near-begins-requires-clause-runs g c = (ready g (goal.at.write_near-begins-requires-clause-runs g c).After-entries).runs
 
 pub invariant_of-self-2 : goal.invariant_of-self-2
 invariant_of-self-2 g c =
-    let i = c.self.inside in
-    let w : World = record { calls = past_of i.calls.items; past = i.history.past } in
-    let xs = c.entries.result.now in
-    let t = i.transaction in
-    let due = c.reply.ensures.due in
-    let fit = ap (λ (x : Half). fits_due c.args.r (due_of x.seen c.args.e.value)) (half_is t w i.half i.core c.self.invariant.kept ∙ ap (λ (x : TxState). half x.world) c.self.view_is) ∙ c.requires.fits in
-    let ready : Ready t w (Replies c.args.e c.args.r) c.reply.new.self i.core xs =
-    reply_ready t w i.half c.reply.new.self i.core c.args.e c.args.r c.clear.new.self c.reply.new.out xs c.self.invariant.kept (sym due ∙ c.if-not-reply.false) fit (c.reply.ensures.state c.if-not-reply.false) c.entries.ensures.value (c.reply.ensures.out c.if-not-reply.false) c.clear.ensures in
     let e = c.write_near-begins.ensures in
-    let past = ap (λ (h : List Entry). onto h xs) c.in_ok-reserve.ensures.same ∙ ap (onto w.past) ready.block in
-    whole_near i.core (has is_begin_sent xs && not c.args.log.now.is_up) _
-    (written_kept t w (Replies c.args.e c.args.r) c.args.log.now.is_up (has is_begin_sent xs) c.reply.new.self i.core c.write_near-begins.new.core (past_of i.calls.items) (onto c.reserve.new.self.past xs) c.write_near-begins.new.history.past ready.kept
-    ready.runs refl (ap (has is_begin_sent) ready.block) past e.past e.core)
-    c.self.invariant.ours e.core c.live.ensures
+    near_whole c.args.log.now.is_up _ (ready g (goal.at.invariant_of-self-2 g c).After-entries) c.self.invariant.ours refl e.past e.core c.live.ensures
 
 pub returns-clause-done : goal.returns-clause-done
 returns-clause-done g c d =
-    let i = c.self.inside in
-    let w : World = record { calls = past_of i.calls.items; past = i.history.past } in
-    let xs = c.entries.result.now in
-    let t = i.transaction in
-    let due = c.reply.ensures.due in
-    let fit = ap (λ (x : Half). fits_due c.args.r (due_of x.seen c.args.e.value)) (half_is t w i.half i.core c.self.invariant.kept ∙ ap (λ (x : TxState). half x.world) c.self.view_is) ∙ c.requires.fits in
-    let ready : Ready t w (Replies c.args.e c.args.r) c.reply.new.self i.core xs =
-    reply_ready t w i.half c.reply.new.self i.core c.args.e c.args.r c.clear.new.self c.reply.new.out xs c.self.invariant.kept (sym due ∙ c.if-not-reply.false) fit (c.reply.ensures.state c.if-not-reply.false) c.entries.ensures.value (c.reply.ensures.out c.if-not-reply.false) c.clear.ensures in
     let e = c.write_near-begins.ensures in
-    let past = ap (λ (h : List Entry). onto h xs) c.in_ok-reserve.ensures.same ∙ ap (onto w.past) ready.block in
-    let sends = ap (has is_begin_sent) ready.block in
-    let same = world_written t.value w (Replies c.args.e c.args.r) c.args.log.now.is_up (has is_begin_sent xs) (past_of i.calls.items) (onto c.reserve.new.self.past xs) c.write_near-begins.new.history.past refl sends past e.past in
-    let v : World = record { calls = past_of i.calls.items; past = c.write_near-begins.new.history.past } in
-    subst (λ (x : TxState). Does g.D.Disk.faults (Replies c.args.e c.args.r) x c.args.log.now (seen_as i.transaction v c.live.new.at_log) c.args.log.now) c.self.view_is
-    (does_near g.D.Disk.faults (Replies c.args.e c.args.r) i.transaction w v i.at_log c.live.new.at_log c.args.log.now c.write_near-begins.result (has is_begin_sent xs) c.life.result same sends c.live.ensures e.begins c.life.ensures refl)
+    near_done g.D.Disk.faults c.self.inside.at_log c.live.new.at_log c.args.self.now c.args.log.now c.write_near-begins.result c.life.result (ready g (goal.at.returns-clause-done g c).After-entries) refl e.past c.live.ensures
+    e.begins c.life.ensures refl c.self.view_is
