@@ -19,7 +19,7 @@ use Rattle.outcome_law.proofs.Scans.{each_more}
 use Rattle.local_half.specs.Half.{Known}
 use Rattle.coordinator_core.specs.Kept.{Kept as CoreKept}
 use Rattle.coordinator_log.specs.State.{LogState}
-use Rattle.tx_world.specs.State.{sends_begin}
+use Rattle.tx_world.specs.State.{TxState, sends_begin}
 use Rattle.tx_world.specs.AtLog.{Acts, IsFit, IsOurs, Keeps, KeepsLog, Kept as LogKept}
 use Rattle.tx_world.specs.Carried.{are_sendable}
 use Rattle.tx_world.specs.Course.{is_far, is_written}
@@ -204,13 +204,23 @@ acted_does faults t w h k j n x y o p from to acts did past lives =
     unbegun true e = absurd cc
     unbegun false e = refl
 
+-- as its users see the transaction
+pub acted_so : {D : Type 0} (faults : D → ℕ) (t : TxNo) (w : World) (h : Known) (k j : CoreKept) (n : List Entry) (x y : LogKept) (o p : Outgoing) (old : TxState) (from to : LogState D)
+    (acts : Acts faults k.state x.life o from j.state p to) → Acted t w h k j acts.answer → n ≡ onto w.past (coordinates k.state acts.answer) → y.life ≡ x.life → seen_as t w x ≡ old
+    → (a : LogAnswer) × (may_coordinate (core old.world) a ≡ true) × Does faults (Coordinates a) old from (seen_as t (record { calls = w.calls; past = n }) y) to
+acted_so {D} faults t w h k j n x y o p old from to acts did past lives was =
+    let v : World = record { calls = w.calls; past = n } in
+    let P : TxState → Type 0 = λ z. (a : LogAnswer) × (may_coordinate (core z.world) a ≡ true) × Does faults (Coordinates a) z from (seen_as t v y) to in
+    let so : P (seen_as t w x) = (acts.answer, did.may, acted_does faults t w h k j n x y o p from to acts did past lives) in
+    subst P was so
+
 -- what its act keeps of the log the world keeps
-pub acted_keeps : {D : Type 0} (image : D → List ℕ → Type 0) (t : TxNo) (w v : World) (h : Known) (k : CoreKept) (x y : LogKept) (from to : LogState D) → Kept t w h k
+pub acted_keeps : {D : Type 0} (image : D → List ℕ → Type 0) (t : TxNo) (w v : World) (h : Known) (k : CoreKept) (x y : LogKept) (old : TxState) (from to : LogState D) → Kept t w h k
     → Keeps image (identifier_of k.transaction.value) (IsFit (identifier_of k.transaction.value) x.ours x.unsure) (IsFit (identifier_of k.transaction.value) y.ours y.unsure) from to
-    → KeepsLog image (seen_as t w x) from (seen_as t v y) to
-acted_keeps image t w v h k x y from to kept keeps =
+    → seen_as t w x ≡ old → KeepsLog image old from (seen_as t v y) to
+acted_keeps image t w v h k x y old from to kept keeps was =
     let P : ℕ → Type 0 = λ id. Keeps image id (IsFit id x.ours x.unsure) (IsFit id y.ours y.unsure) from to in
-    subst P (ap (λ (j : CoreKept). identifier_of j.transaction.value) kept.core) keeps
+    subst (λ (z : TxState). KeepsLog image z from (seen_as t v y) to) was (subst P (ap (λ (j : CoreKept). identifier_of j.transaction.value) kept.core) keeps)
 
 -- A coordinator that is told what an opening of the log found: where it still runs it stops first.
 told_state : (k : CoreKept) (found : Bool) → follow (stopped_if (not k.state.stopped) k).state (Restarted found) ≡ follow_all k.state (restarted k.state.stopped found)

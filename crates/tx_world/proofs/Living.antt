@@ -120,9 +120,9 @@ near_done {D} faults {t} {w} {m} {g} {k} {h} {xs} x y old log begins life {ks} {
     (does_near faults m t w v x y log begins sends life (world_written t.value w m log.is_up sends ks (onto h xs) n calls r.sends r.past past) r.sends lives begun now answered)
 
 -- and so is one that sends no BEGIN
-pub silent_done : {D : Type 0} (faults : D → ℕ) {t : TxNo} {w : World} {m : Step} (x : LogKept) (old : TxState) (log : LogState D) {ks : List EnteredCall} {n : List Entry} → false ≡ sends_begin t.value w m
+pub silent_done : {D : Type 0} (faults : D → ℕ) (t : TxNo) (w : World) (m : Step) (x : LogKept) (old : TxState) (log : LogState D) {ks : List EnteredCall} {n : List Entry} → false ≡ sends_begin t.value w m
     → ks ≡ entered m w.calls → n ≡ onto w.past (block_at t.value w m) → IsAnswered faults (seen_as t w x) log log m → seen_as t w x ≡ old → Does faults m old log (seen_as t (record { calls = ks; past = n }) x) log
-silent_done {D} faults {t} {w} {m} x old log {ks} {n} silent calls past answered was =
+silent_done {D} faults t w m x old log {ks} {n} silent calls past answered was =
     let v : World = record { calls = ks; past = n } in
     subst (λ (z : TxState). Does faults m z log (seen_as t v x) log) was
     (does_step faults m t w v x.ours x.unsure x.life x.life log false (world_written t.value w m log.is_up false ks (onto w.past (block_at t.value w m)) n calls silent refl past) silent refl answered)

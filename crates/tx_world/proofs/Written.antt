@@ -125,9 +125,9 @@ ready t w m h g k p xs before same come once kept block near =
     }
 
 -- a step that sends no BEGIN was written: the world is the one after it, which holds
-pub silent_kept : {t : TxNo} {w : World} {m : Step} {g : Known} {k : CoreKept} {ks : List EnteredCall} {n : List Entry} → Kept t (after t.value w m) g k → false ≡ sends_begin t.value w m → ks ≡ entered m w.calls
+pub silent_kept : (t : TxNo) (w : World) (m : Step) {g : Known} {k : CoreKept} {ks : List EnteredCall} {n : List Entry} → Kept t (after t.value w m) g k → false ≡ sends_begin t.value w m → ks ≡ entered m w.calls
     → n ≡ onto w.past (block_at t.value w m) → Kept t (record { calls = ks; past = n }) g k
-silent_kept {t} {w} {m} {g} {k} {ks} {n} kept silent calls past =
+silent_kept t w m {g} {k} {ks} {n} kept silent calls past =
     written_kept t w m true false g k k ks (onto w.past (block_at t.value w m)) n kept (λ b. absurd cc) calls silent refl past refl
 
 -- the note to which a reply is due

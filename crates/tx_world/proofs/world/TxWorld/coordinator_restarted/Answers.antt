@@ -3,8 +3,7 @@ use Rattle.dtx_values.specs.declared.entry.Entry.{Entry}
 use Rattle.dtx_values.specs.declared.entry.Entry.TheVariants.{Restarted}
 use Rattle.dtx_model.specs.Log.{CommitRecord, first_of}
 use Rattle.dtx_model.specs.Promotes.{identifier_of}
-use Rattle.dtx_model.specs.Words.{has, past_of}
-use Rattle.dtx_model.specs.World.{World}
+use Rattle.dtx_model.specs.Words.{has}
 use Rattle.dtx_model.specs.Steps.{Restarts, after}
 use Rattle.dtx_model.specs.Caused.{is_begin_sent}
 use Rattle.dtx_model.proofs.Bools.{and_left}
@@ -13,6 +12,9 @@ use Rattle.tx_world.specs.AtLog.{Kept as LogKept, id_of}
 use Rattle.tx_world.specs.Kept.{Whole, stop_if, stopped_if}
 use Rattle.tx_world.specs.State.{TxState, is_reached_by}
 use Rattle.tx_world.proofs.AtTheLog.{told, told_stopped}
+use Rattle.tx_world.proofs.Written.{world_of}
+use Rattle.tx_world.proofs.world.TxWorld.coordinator_restarted.Given.{Over}
+use Rattle.tx_world.proofs.world.TxWorld.coordinator_restarted.Goals.{After-restart}
 use Rattle.tx_world.proofs.world.TxWorld.coordinator_restarted.Goals as goal
 
 pub restarted-requires-clause-stopped : goal.restarted-requires-clause-stopped
@@ -20,10 +22,14 @@ restarted-requires-clause-stopped g c =
     let i = c.self.inside in
     told_stopped i.core c.stop_if.new.core (c.stop_if.ensures.core ∙ ap (λ b. stopped_if (not b) i.core) c.is_stopped-runs.ensures)
 
-pub invariant_of-self-2 : goal.invariant_of-self-2
-invariant_of-self-2 g c =
+-- the coordinator is told whether its record was found: the world holds, and is the one after the restart
+told_it : (g : Over) (c : After-restart g)
+    → Whole c.self.inside.transaction (world_of c.self.inside.calls.items c.restart.new.self.past) c.self.inside.half c.restarted.new.core c.restarted.new.self
+    × (world_of c.self.inside.calls.items c.restart.new.self.past
+    ≡ after c.self.inside.transaction.value (world_of c.self.inside.calls.items c.self.inside.history.past) (Restarts (is_some (first_of c.identifier.result (open_records c.args.log.now.slots)))))
+told_it g c =
     let i = c.self.inside in
-    let w : World = record { calls = past_of i.calls.items; past = i.history.past } in
+    let w = world_of i.calls.items i.history.past in
     let rs = open_records c.args.log.now.slots in
     let found = is_some (first_of c.identifier.result rs) in
     let kept = c.restarted.ensures.kept in
@@ -34,35 +40,24 @@ invariant_of-self-2 g c =
     let past : c.restart.new.self.past ≡ Restarted found ∷ stop_if (not i.core.state.stopped) w.past
     = c.restart.ensures.past ∙ ap (λ b. Restarted b ∷ c.stop_if.new.history.past) here ∙ ap (λ (h : List Entry). Restarted found ∷ h) (c.stop_if.ensures.past
     ∙ ap (λ b. stop_if (not b) c.reserve.new.self.past) c.is_stopped-runs.ensures ∙ ap (stop_if (not i.core.state.stopped)) c.in_ok-reserve.ensures.same) in
-    let v : World = record { calls = past_of i.calls.items; past = c.restart.new.self.past } in
-    let all : Whole i.transaction v i.half c.restarted.new.core c.restarted.new.self × (v ≡ after i.transaction.value w (Restarts found))
-    = told i.transaction w i.half i.core c.stop_if.new.core c.restarted.new.core found c.restart.new.self.past c.restarted.new.self c.self.invariant.kept begun stopped
-    c.restarted.ensures.transaction c.restarted.ensures.state past c.restarted.ensures.ours in
-    all.0
+    told i.transaction w i.half i.core c.stop_if.new.core c.restarted.new.core found c.restart.new.self.past c.restarted.new.self c.self.invariant.kept begun stopped c.restarted.ensures.transaction
+    c.restarted.ensures.state past c.restarted.ensures.ours
+
+pub invariant_of-self-2 : goal.invariant_of-self-2
+invariant_of-self-2 g c = (told_it g c).0
 
 pub returns-clause-reached : goal.returns-clause-reached
 returns-clause-reached g c = λ reached.
     let i = c.self.inside in
-    let w : World = record { calls = past_of i.calls.items; past = i.history.past } in
+    let w = world_of i.calls.items i.history.past in
+    let v = world_of i.calls.items c.restart.new.self.past in
     let rs = open_records c.args.log.now.slots in
-    let found = is_some (first_of c.identifier.result rs) in
     let kept = c.restarted.ensures.kept in
-    let reached_it = ap (is_reached_by c.args.log.now.life) c.self.view_is ∙ ap (λ n. is_reached_by n c.args.self.now) (sym c.life.ensures) ∙ sym c.is_reached_by.ensures ∙ c.if-not-is_reached_by.false in
-    let begun : has is_begin_sent w.past ≡ true = and_left (has is_begin_sent w.past) (not (nat_le c.args.log.now.life i.at_log.life)) reached_it in
-    let stopped : c.stop_if.new.core ≡ stopped_if (not i.core.state.stopped) i.core = c.stop_if.ensures.core ∙ ap (λ b. stopped_if (not b) i.core) c.is_stopped-runs.ensures in
-    let here : c.has_record.result ≡ found = c.has_record.ensures ∙ ap (λ (x : LogKept). is_some x.ours) kept in
-    let past : c.restart.new.self.past ≡ Restarted found ∷ stop_if (not i.core.state.stopped) w.past
-    = c.restart.ensures.past ∙ ap (λ b. Restarted b ∷ c.stop_if.new.history.past) here ∙ ap (λ (h : List Entry). Restarted found ∷ h) (c.stop_if.ensures.past
-    ∙ ap (λ b. stop_if (not b) c.reserve.new.self.past) c.is_stopped-runs.ensures ∙ ap (stop_if (not i.core.state.stopped)) c.in_ok-reserve.ensures.same) in
-    let v : World = record { calls = past_of i.calls.items; past = c.restart.new.self.past } in
-    let all : Whole i.transaction v i.half c.restarted.new.core c.restarted.new.self × (v ≡ after i.transaction.value w (Restarts found))
-    = told i.transaction w i.half i.core c.stop_if.new.core c.restarted.new.core found c.restart.new.self.past c.restarted.new.self c.self.invariant.kept begun stopped
-    c.restarted.ensures.transaction c.restarted.ensures.state past c.restarted.ensures.ours in
     let P : TxState → Type 0 = λ y. (v ≡ after y.transaction.value y.world (Restarts (is_some (first_of (id_of y) rs)))) × (c.restarted.new.self.ours ≡ first_of (id_of y) rs)
     × (c.restarted.new.self.unsure ≡ false) × (c.restarted.new.self.life ≡ c.args.log.now.life) in
     let mine : first_of c.identifier.result rs ≡ first_of (identifier_of i.transaction.value) rs = ap (λ n. first_of n rs) c.identifier.ensures in
     subst P c.self.view_is (
-      all.1 ∙ ap (λ (o : Option CommitRecord). after i.transaction.value w (Restarts (is_some o))) mine,
+      (told_it g c).1 ∙ ap (λ (o : Option CommitRecord). after i.transaction.value w (Restarts (is_some o))) mine,
       ap (λ (x : LogKept). x.ours) kept ∙ mine,
       ap (λ (x : LogKept). x.unsure) kept,
       ap (λ (x : LogKept). x.life) kept,

@@ -3,6 +3,7 @@ use Rattle.dtx_values.specs.declared.entry.Entry.{Entry}
 use Rattle.dtx_values.specs.declared.entry.Entry.TheVariants.{Got}
 use Rattle.dtx_values.specs.declared.message.Dir.TheVariants.{Up}
 use Rattle.dtx_model.specs.Promotes.{identifier_of}
+use Rattle.dtx_model.specs.Steps.{Delivers}
 use Rattle.dtx_model.specs.Wires.{MayCross}
 use Rattle.dtx_model.specs.World.{has_left}
 use Rattle.tx_world.specs.Course.{Came, noted, rest_up}
@@ -51,10 +52,11 @@ invariant_of-self-2 g c =
     let i = c.self.inside in
     let u = ready g (goal.at.invariant_of-self-2 g c).After-entries in
     let id = identifier_of i.core.transaction.value in
-    whole_far i.core c.hear_up.new.core (noted c.args.c Up c.in-Some.came ++ rest_up id i.core.state c.args.c c.in-Some.came) (silent_kept u.kept (sym u.silent) refl (c.write.ensures.past ∙ u.past)) c.self.invariant.ours
+    whole_far i.core c.hear_up.new.core (noted c.args.c Up c.in-Some.came ++ rest_up id i.core.state c.args.c c.in-Some.came) (silent_kept i.transaction (world_of i.calls.items i.history.past) (Delivers c.args.c Up) u.kept (sym u.silent) refl (c.write.ensures.past ∙ u.past)) c.self.invariant.ours
     c.hear_up.ensures.transaction c.hear_up.ensures.state (up_elsewhere id i.core.state c.args.c c.in-Some.came)
 
 pub returns-clause-done : goal.returns-clause-done
 returns-clause-done g c d =
     let u = ready g (goal.at.returns-clause-done g c).After-entries in
-    silent_done g.D.Disk.faults c.self.inside.at_log c.args.self.now c.args.log.now (sym u.silent) refl (c.write.ensures.past ∙ u.past) refl c.self.view_is
+    let i = c.self.inside in
+    silent_done g.D.Disk.faults i.transaction (world_of i.calls.items i.history.past) (Delivers c.args.c Up) i.at_log c.args.self.now c.args.log.now (sym u.silent) refl (c.write.ensures.past ∙ u.past) refl c.self.view_is

@@ -45,16 +45,16 @@ returns-clause-answer g c =
     ∙ ap (λ (x : TxState). answer_at x.transaction.value x.world c.args.c.now c.args.done) c.self.view_is
 
 pub write_near-begins-requires-clause-written : goal.write_near-begins-requires-clause-written
-write_near-begins-requires-clause-written g c = (ready g (goal.at.write_near-begins-requires-clause-written g c).After-entries).written
+write_near-begins-requires-clause-written g c = (ready g c).written
 
 pub write_near-begins-requires-clause-sendable : goal.write_near-begins-requires-clause-sendable
-write_near-begins-requires-clause-sendable g c = (ready g (goal.at.write_near-begins-requires-clause-sendable g c).After-entries).sendable
+write_near-begins-requires-clause-sendable g c = (ready g c).sendable
 
 pub write_near-begins-requires-clause-stopped : goal.write_near-begins-requires-clause-stopped
-write_near-begins-requires-clause-stopped g c = (ready g (goal.at.write_near-begins-requires-clause-stopped g c).After-entries).stopped
+write_near-begins-requires-clause-stopped g c = (ready g c).stopped
 
 pub write_near-begins-requires-clause-runs : goal.write_near-begins-requires-clause-runs
-write_near-begins-requires-clause-runs g c = (ready g (goal.at.write_near-begins-requires-clause-runs g c).After-entries).runs
+write_near-begins-requires-clause-runs g c = (ready g c).runs
 
 pub invariant_of-self-2 : goal.invariant_of-self-2
 invariant_of-self-2 g c =

@@ -1,72 +1,68 @@
-use Rattle.std.proofs.Common.{◌≡◌, List, ◌∷◌, [], false, ap, refl, ◌∙◌, subst}
+use Rattle.std.proofs.Common.{◌≡◌, ℕ, List, ◌∷◌, [], ap, refl, ◌∙◌}
 use Rattle.dtx_values.specs.declared.call.Call.TheVariants.{Lose}
 use Rattle.dtx_values.specs.declared.entry.Answer.TheVariants.{Fine}
 use Rattle.dtx_values.specs.declared.entry.Entry.{Entry}
 use Rattle.dtx_values.specs.declared.entry.Entry.TheVariants.{Called}
 use Rattle.dtx_model.specs.Wires.{is_open_wire}
 use Rattle.dtx_model.specs.Words.{onto, past_of}
-use Rattle.dtx_model.specs.Steps.{Calls}
-use Rattle.dtx_model.specs.World.{World, answer_at, cut}
+use Rattle.dtx_model.specs.Steps.{Calls, entered}
+use Rattle.dtx_model.specs.World.{answer_at, cut}
 use Rattle.tx_world.specs.Carried.{are_sendable}
 use Rattle.tx_world.specs.State.{TxState, may_enter}
-use Rattle.tx_world.specs.Stepping.{Does}
 use Rattle.tx_world.proofs.Calling.{with_call}
 use Rattle.tx_world.proofs.Linking.{Linked, after_call, lost, lost_open, lost_past, none_followed}
-use Rattle.tx_world.proofs.Living.{seen_as, whole_far}
-use Rattle.tx_world.proofs.Written.{does_step, stopped_is, world_written, written_kept}
+use Rattle.tx_world.proofs.Living.{silent_done, whole_far}
+use Rattle.tx_world.proofs.Written.{silent_kept, stopped_is, world_of}
+use Rattle.tx_world.proofs.world.TxWorld.enter_lost.Given.{Over}
+use Rattle.tx_world.proofs.world.TxWorld.enter_lost.Goals.{After-is_stopped, After-lose}
 use Rattle.tx_world.proofs.world.TxWorld.enter_lost.Goals as goal
 
-pub write-requires-clause-sendable : goal.write-requires-clause-sendable
-write-requires-clause-sendable g c =
+-- the loss is ready to be written, whatever number is given with it
+ready : (g : Over) (c : After-is_stopped g) (m : ℕ)
+    → Linked c.self.inside.transaction (world_of c.self.inside.calls.items c.self.inside.history.past) (Calls c.args.line c.args.actor (Lose c.args.u c.args.c c.args.up c.args.down) m) c.self.inside.half
+    c.self.inside.core (Called c.args.line c.args.actor Fine ∷ cut c.self.inside.history.past c.args.c c.args.up c.args.down ∷ [])
+ready g c m =
     let i = c.self.inside in
-    let w : World = record { calls = past_of i.calls.items; past = i.history.past } in
-    let t = i.transaction in
     let may = ap (λ (x : TxState). may_enter x.world c.args.line (Lose c.args.u c.args.c c.args.up c.args.down)) c.self.view_is ∙ c.requires.enters in
     let fine = ap (λ (x : TxState). answer_at x.transaction.value x.world (Lose c.args.u c.args.c c.args.up c.args.down) 0) c.self.view_is ∙ c.requires.fine in
-    let es = Called c.args.line c.args.actor Fine ∷ cut w.past c.args.c c.args.up c.args.down ∷ [] in
-    let linked : Linked t w (Calls c.args.line c.args.actor (Lose c.args.u c.args.c c.args.up c.args.down) 0) i.half i.core es = lost t w i.half i.core c.args.line c.args.actor c.args.u c.args.c c.args.up c.args.down _ c.self.invariant.kept may fine in
-    ap are_sendable c.in_ok-reserve.ensures.same ∙ linked.sendable
+    lost i.transaction (world_of i.calls.items i.history.past) i.half i.core c.args.line c.args.actor c.args.u c.args.c c.args.up c.args.down m c.self.invariant.kept may fine
+
+-- the call is the newest
+calls : (g : Over) (c : After-is_stopped g) (m : ℕ)
+    → past_of c.push_reserved.new.self.items ≡ entered (Calls c.args.line c.args.actor (Lose c.args.u c.args.c c.args.up c.args.down) m) (past_of c.self.inside.calls.items)
+calls g c m =
+    with_call c.self.inside.calls.items c.reserve-2.new.self.items c.push_reserved.new.self.items (record { line = c.args.line; actor = c.args.actor; call = Lose c.args.u c.args.c c.args.up c.args.down })
+    c.push_reserved.ensures.items c.in_ok-reserve-2.ensures.items
+
+-- and its entry and the cut come onto the past
+past : (g : Over) (c : After-lose g) → c.lose.new.self.past ≡ onto c.self.inside.history.past (Called c.args.line c.args.actor Fine ∷ cut c.self.inside.history.past c.args.c c.args.up c.args.down ∷ [])
+past g c =
+    let h = c.self.inside.history.past in
+    let wrote : c.write.new.self.past ≡ Called c.args.line c.args.actor Fine ∷ h = c.write.ensures.past ∙ ap (λ (p : List Entry). Called c.args.line c.args.actor Fine ∷ p) c.in_ok-reserve.ensures.same in
+    let opened =
+    c.lose.ensures.open ∙ ap (is_open_wire c.args.c) wrote ∙ after_call c.args.line c.args.actor Fine c.args.c h
+    ∙ lost_open c.self.inside.transaction.value (world_of c.self.inside.calls.items h) c.args.u c.args.c c.args.up c.args.down 0
+    (ap (λ (x : TxState). answer_at x.transaction.value x.world (Lose c.args.u c.args.c c.args.up c.args.down) 0) c.self.view_is ∙ c.requires.fine) in
+    lost_past c.args.line c.args.actor c.args.c c.args.up c.args.down c.from.result c.from-2.result h c.write.new.self.past c.lose.new.self.past wrote c.from.ensures c.from-2.ensures (c.lose.ensures.cut opened)
+
+pub write-requires-clause-sendable : goal.write-requires-clause-sendable
+write-requires-clause-sendable g c = ap are_sendable c.in_ok-reserve.ensures.same ∙ (ready g c 0).sendable
 
 pub write-requires-clause-stopped : goal.write-requires-clause-stopped
 write-requires-clause-stopped g c =
     let i = c.self.inside in
-    let w : World = record { calls = past_of i.calls.items; past = i.history.past } in
-    c.is_stopped.ensures ∙ stopped_is i.transaction w i.half i.core c.reserve.new.self.past c.self.invariant.kept c.in_ok-reserve.ensures.same
+    c.is_stopped.ensures ∙ stopped_is i.transaction (world_of i.calls.items i.history.past) i.half i.core c.reserve.new.self.past c.self.invariant.kept c.in_ok-reserve.ensures.same
 
 pub invariant_of-self-2 : goal.invariant_of-self-2
 invariant_of-self-2 g c =
     let i = c.self.inside in
-    let w : World = record { calls = past_of i.calls.items; past = i.history.past } in
-    let t = i.transaction in
-    let may = ap (λ (x : TxState). may_enter x.world c.args.line (Lose c.args.u c.args.c c.args.up c.args.down)) c.self.view_is ∙ c.requires.enters in
-    let fine = ap (λ (x : TxState). answer_at x.transaction.value x.world (Lose c.args.u c.args.c c.args.up c.args.down) 0) c.self.view_is ∙ c.requires.fine in
-    let es = Called c.args.line c.args.actor Fine ∷ cut w.past c.args.c c.args.up c.args.down ∷ [] in
-    let linked : Linked t w (Calls c.args.line c.args.actor (Lose c.args.u c.args.c c.args.up c.args.down) 0) i.half i.core es = lost t w i.half i.core c.args.line c.args.actor c.args.u c.args.c c.args.up c.args.down _ c.self.invariant.kept may fine in
-    let wrote : c.write.new.self.past ≡ Called c.args.line c.args.actor Fine ∷ w.past = c.write.ensures.past ∙ ap (λ (h : List Entry). Called c.args.line c.args.actor Fine ∷ h) c.in_ok-reserve.ensures.same in
-    let opened = c.lose.ensures.open ∙ ap (is_open_wire c.args.c) wrote ∙ after_call c.args.line c.args.actor Fine c.args.c w.past ∙ lost_open t.value w c.args.u c.args.c c.args.up c.args.down 0 fine in
-    let past : c.lose.new.self.past ≡ onto w.past es =
-    lost_past c.args.line c.args.actor c.args.c c.args.up c.args.down c.from.result c.from-2.result w.past c.write.new.self.past c.lose.new.self.past wrote c.from.ensures c.from-2.ensures (c.lose.ensures.cut opened) in
-    let calls = with_call i.calls.items c.reserve-2.new.self.items c.push_reserved.new.self.items (record { line = c.args.line; actor = c.args.actor; call = Lose c.args.u c.args.c c.args.up c.args.down }) c.push_reserved.ensures.items c.in_ok-reserve-2.ensures.items in
-    whole_far i.core i.core []
-    (written_kept t w (Calls c.args.line c.args.actor (Lose c.args.u c.args.c c.args.up c.args.down) 0) c.args.log.now.is_up false i.half i.core i.core (past_of c.push_reserved.new.self.items) (onto w.past es) c.lose.new.self.past linked.kept (λ b. absurd cc) calls linked.silent
-    (ap (onto w.past) linked.block) past refl)
-    c.self.invariant.ours refl (none_followed i.core.state) refl
+    let b = (goal.at.invariant_of-self-2 g c).After-is_stopped in
+    let r = ready g b 0 in
+    whole_far i.core i.core [] (silent_kept i.transaction (world_of i.calls.items i.history.past) (Calls c.args.line c.args.actor (Lose c.args.u c.args.c c.args.up c.args.down) 0) r.kept r.silent (calls g b 0) (past g c ∙ ap (onto i.history.past) r.block)) c.self.invariant.ours refl (none_followed i.core.state) refl
 
 pub returns-clause-done : goal.returns-clause-done
 returns-clause-done g c m =
     let i = c.self.inside in
-    let w : World = record { calls = past_of i.calls.items; past = i.history.past } in
-    let t = i.transaction in
-    let may = ap (λ (x : TxState). may_enter x.world c.args.line (Lose c.args.u c.args.c c.args.up c.args.down)) c.self.view_is ∙ c.requires.enters in
-    let fine = ap (λ (x : TxState). answer_at x.transaction.value x.world (Lose c.args.u c.args.c c.args.up c.args.down) 0) c.self.view_is ∙ c.requires.fine in
-    let es = Called c.args.line c.args.actor Fine ∷ cut w.past c.args.c c.args.up c.args.down ∷ [] in
-    let linked : Linked t w (Calls c.args.line c.args.actor (Lose c.args.u c.args.c c.args.up c.args.down) m) i.half i.core es = lost t w i.half i.core c.args.line c.args.actor c.args.u c.args.c c.args.up c.args.down _ c.self.invariant.kept may fine in
-    let wrote : c.write.new.self.past ≡ Called c.args.line c.args.actor Fine ∷ w.past = c.write.ensures.past ∙ ap (λ (h : List Entry). Called c.args.line c.args.actor Fine ∷ h) c.in_ok-reserve.ensures.same in
-    let opened = c.lose.ensures.open ∙ ap (is_open_wire c.args.c) wrote ∙ after_call c.args.line c.args.actor Fine c.args.c w.past ∙ lost_open t.value w c.args.u c.args.c c.args.up c.args.down 0 fine in
-    let past : c.lose.new.self.past ≡ onto w.past es =
-    lost_past c.args.line c.args.actor c.args.c c.args.up c.args.down c.from.result c.from-2.result w.past c.write.new.self.past c.lose.new.self.past wrote c.from.ensures c.from-2.ensures (c.lose.ensures.cut opened) in
-    let calls = with_call i.calls.items c.reserve-2.new.self.items c.push_reserved.new.self.items (record { line = c.args.line; actor = c.args.actor; call = Lose c.args.u c.args.c c.args.up c.args.down }) c.push_reserved.ensures.items c.in_ok-reserve-2.ensures.items in
-    let same = world_written t.value w (Calls c.args.line c.args.actor (Lose c.args.u c.args.c c.args.up c.args.down) m) c.args.log.now.is_up false (past_of c.push_reserved.new.self.items) (onto w.past es) c.lose.new.self.past calls linked.silent (ap (onto w.past) linked.block) past in
-    let v : World = record { calls = past_of c.push_reserved.new.self.items; past = c.lose.new.self.past } in
-    subst (λ (x : TxState). Does g.D.Disk.faults (Calls c.args.line c.args.actor (Lose c.args.u c.args.c c.args.up c.args.down) m) x c.args.log.now (seen_as t v i.at_log) c.args.log.now) c.self.view_is
-    (does_step g.D.Disk.faults (Calls c.args.line c.args.actor (Lose c.args.u c.args.c c.args.up c.args.down) m) t w v i.at_log.ours i.at_log.unsure i.at_log.life i.at_log.life c.args.log.now false same linked.silent refl refl)
+    let b = (goal.at.returns-clause-done g c).After-is_stopped in
+    let r = ready g b m in
+    silent_done g.D.Disk.faults i.transaction (world_of i.calls.items i.history.past) (Calls c.args.line c.args.actor (Lose c.args.u c.args.c c.args.up c.args.down) m) i.at_log c.args.self.now c.args.log.now r.silent (calls g b m) (past g c ∙ ap (onto i.history.past) r.block) refl c.self.view_is

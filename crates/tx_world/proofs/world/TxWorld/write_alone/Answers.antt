@@ -1,84 +1,71 @@
-use Rattle.std.proofs.Common.{◌≡◌, List, true, false, refl, ap, sym, ◌∙◌, ◌∷◌, ◌++◌, [], subst}
+use Rattle.std.proofs.Common.{◌≡◌, List, true, false, refl, ap, sym, ◌∙◌, ◌∷◌, [], subst}
 use Rattle.dtx_values.specs.declared.entry.Entry.{Entry}
 use Rattle.dtx_values.specs.declared.entry.Entry.TheVariants.{Called}
-use Rattle.dtx_model.specs.declared.waiting.EnteredCall.{EnteredCall}
 use Rattle.dtx_model.specs.Words.{onto, past_of}
 use Rattle.dtx_model.specs.Caused.{MayAnswer}
 use Rattle.dtx_model.specs.World.{World, answer_at}
-use Rattle.dtx_model.specs.Steps.{Calls}
-use Rattle.dtx_model.proofs.Histories.{past_of-snoc}
+use Rattle.dtx_model.specs.Steps.{Calls, block_at, entered}
+use Rattle.tx_world.specs.Carried.{are_sendable}
 use Rattle.tx_world.specs.State.{TxState, may_enter}
 use Rattle.tx_world.specs.OwnCalls.{DoesAlone}
-use Rattle.tx_world.proofs.CallsOn.{Alone, alone_ready}
-use Rattle.tx_world.proofs.Written.{block_sendable, stopped_is, world_written, written_kept}
+use Rattle.tx_world.proofs.Calling.{with_call}
+use Rattle.tx_world.proofs.CallsOn.{alone_ready}
+use Rattle.tx_world.proofs.Linking.{Linked}
+use Rattle.tx_world.proofs.Living.{seen_as}
+use Rattle.tx_world.proofs.Written.{silent_kept, stopped_is, world_of, world_written}
 use Rattle.tx_world.proofs.Unlogged.{turned_silent}
+use Rattle.tx_world.proofs.world.TxWorld.write_alone.Goals.{After-is_stopped}
 use Rattle.tx_world.proofs.world.TxWorld.write_alone.Goals as goal
 
-pub write-requires-clause-sendable : goal.write-requires-clause-sendable
-write-requires-clause-sendable c =
+-- the call is ready to be written
+ready : (c : After-is_stopped)
+    → Linked c.self.inside.transaction (world_of c.self.inside.calls.items c.self.inside.history.past) (Calls c.args.line c.args.actor c.args.c.now c.args.done) c.self.inside.half c.self.inside.core
+    (Called c.args.line c.args.actor c.args.answer ∷ [])
+ready c =
     let i = c.self.inside in
-    let w : World = record { calls = past_of i.calls.items; past = i.history.past } in
-    let t = i.transaction in
-    let n = c.args.line in
-    let a = c.args.actor in
     let d = c.args.c.now in
     let x = c.args.answer in
-    let may : may_enter w n d ≡ true = subst (λ (y : TxState). may_enter y.world n d ≡ true) (sym c.self.view_is) c.requires.enters in
+    let may = ap (λ (y : TxState). may_enter y.world c.args.line d) c.self.view_is ∙ c.requires.enters in
     let answers = subst (λ (y : TxState). MayAnswer y.transaction.value y.world d c.args.done) (sym c.self.view_is) c.requires.answers in
-    let is : x ≡ answer_at t.value w d c.args.done = subst (λ (y : TxState). x ≡ answer_at y.transaction.value y.world d c.args.done) (sym c.self.view_is) c.requires.answer in
-    let ready : Alone t w n a d c.args.done x i.half i.core = alone_ready t w i.half i.core n a d c.args.done x c.self.invariant.kept may answers is c.requires.alone in
-    block_sendable t.value w (Calls n a d c.args.done) c.reserve-2.new.self.past (Called n a x ∷ []) ready.may c.in_ok-reserve-2.ensures.same ready.block
+    let is = subst (λ (y : TxState). x ≡ answer_at y.transaction.value y.world d c.args.done) (sym c.self.view_is) c.requires.answer in
+    alone_ready i.transaction (world_of i.calls.items i.history.past) i.half i.core c.args.line c.args.actor d c.args.done x c.self.invariant.kept may answers is c.requires.alone
+
+-- the call is the newest
+calls : (c : After-is_stopped) → past_of c.push_reserved.new.self.items ≡ entered (Calls c.args.line c.args.actor c.args.c.now c.args.done) (past_of c.self.inside.calls.items)
+calls c =
+    with_call c.self.inside.calls.items c.reserve.new.self.items c.push_reserved.new.self.items (record { line = c.args.line; actor = c.args.actor; call = c.args.c.now }) c.push_reserved.ensures.items
+    c.in_ok-reserve.ensures.items
+
+-- and its block comes onto the past
+past : (c : After-is_stopped)
+    → onto c.reserve-2.new.self.past (Called c.args.line c.args.actor c.args.answer ∷ [])
+    ≡ onto c.self.inside.history.past (block_at c.self.inside.transaction.value (world_of c.self.inside.calls.items c.self.inside.history.past) (Calls c.args.line c.args.actor c.args.c.now c.args.done))
+past c = ap (λ (h : List Entry). onto h (Called c.args.line c.args.actor c.args.answer ∷ [])) c.in_ok-reserve-2.ensures.same ∙ ap (onto c.self.inside.history.past) (ready c).block
+
+pub write-requires-clause-sendable : goal.write-requires-clause-sendable
+write-requires-clause-sendable c = ap (λ (h : List Entry). are_sendable (onto h (Called c.args.line c.args.actor c.args.answer ∷ []))) c.in_ok-reserve-2.ensures.same ∙ (ready c).sendable
 
 pub write-requires-clause-stopped : goal.write-requires-clause-stopped
 write-requires-clause-stopped c =
     let i = c.self.inside in
-    let w : World = record { calls = past_of i.calls.items; past = i.history.past } in
-    c.is_stopped.ensures ∙ stopped_is i.transaction w i.half i.core c.reserve-2.new.self.past c.self.invariant.kept c.in_ok-reserve-2.ensures.same
+    c.is_stopped.ensures ∙ stopped_is i.transaction (world_of i.calls.items i.history.past) i.half i.core c.reserve-2.new.self.past c.self.invariant.kept c.in_ok-reserve-2.ensures.same
 
 pub invariant_of-self-2 : goal.invariant_of-self-2
 invariant_of-self-2 c =
+    let b = (goal.at.invariant_of-self-2 c).After-is_stopped in
     let i = c.self.inside in
-    let w : World = record { calls = past_of i.calls.items; past = i.history.past } in
-    let t = i.transaction in
-    let n = c.args.line in
-    let a = c.args.actor in
-    let d = c.args.c.now in
-    let x = c.args.answer in
-    let may : may_enter w n d ≡ true = subst (λ (y : TxState). may_enter y.world n d ≡ true) (sym c.self.view_is) c.requires.enters in
-    let answers = subst (λ (y : TxState). MayAnswer y.transaction.value y.world d c.args.done) (sym c.self.view_is) c.requires.answers in
-    let is : x ≡ answer_at t.value w d c.args.done = subst (λ (y : TxState). x ≡ answer_at y.transaction.value y.world d c.args.done) (sym c.self.view_is) c.requires.answer in
-    let ready : Alone t w n a d c.args.done x i.half i.core = alone_ready t w i.half i.core n a d c.args.done x c.self.invariant.kept may answers is c.requires.alone in
-    let k : EnteredCall = record { line = n; actor = a; call = d } in
-    let calls = ap (λ (ks : List EnteredCall). past_of ks) (c.push_reserved.ensures.items ∙ ap (λ (ks : List EnteredCall). ks ++ k ∷ []) c.in_ok-reserve.ensures.items) ∙ past_of-snoc i.calls.items k in
-    let block : List Entry = Called n a x ∷ [] in
-    let past = ap (λ (h : List Entry). onto h block) c.in_ok-reserve-2.ensures.same ∙ ap (onto w.past) ready.block in
-    record {
-      kept =
-          written_kept t w (Calls n a d c.args.done) true false i.half i.core i.core (past_of c.push_reserved.new.self.items) (onto c.reserve-2.new.self.past block) c.write.new.self.past ready.kept (λ b. absurd (cc)) calls
-          (sym ready.silent) past c.write.ensures.past refl;
-      ours = c.self.invariant.ours;
-    }
+    record { kept = silent_kept i.transaction (world_of i.calls.items i.history.past) (Calls c.args.line c.args.actor c.args.c.now c.args.done) (ready b).kept (ready b).silent (calls b) (c.write.ensures.past ∙ past b); ours = c.self.invariant.ours }
 
 pub returns-clause-done : goal.returns-clause-done
 returns-clause-done c =
+    let b = (goal.at.returns-clause-done c).After-is_stopped in
     let i = c.self.inside in
-    let w : World = record { calls = past_of i.calls.items; past = i.history.past } in
-    let t = i.transaction in
-    let n = c.args.line in
-    let a = c.args.actor in
-    let d = c.args.c.now in
-    let x = c.args.answer in
-    let may : may_enter w n d ≡ true = subst (λ (y : TxState). may_enter y.world n d ≡ true) (sym c.self.view_is) c.requires.enters in
-    let answers = subst (λ (y : TxState). MayAnswer y.transaction.value y.world d c.args.done) (sym c.self.view_is) c.requires.answers in
-    let is : x ≡ answer_at t.value w d c.args.done = subst (λ (y : TxState). x ≡ answer_at y.transaction.value y.world d c.args.done) (sym c.self.view_is) c.requires.answer in
-    let ready : Alone t w n a d c.args.done x i.half i.core = alone_ready t w i.half i.core n a d c.args.done x c.self.invariant.kept may answers is c.requires.alone in
-    let k : EnteredCall = record { line = n; actor = a; call = d } in
-    let calls = ap (λ (ks : List EnteredCall). past_of ks) (c.push_reserved.ensures.items ∙ ap (λ (ks : List EnteredCall). ks ++ k ∷ []) c.in_ok-reserve.ensures.items) ∙ past_of-snoc i.calls.items k in
-    let block : List Entry = Called n a x ∷ [] in
-    let past = ap (λ (h : List Entry). onto h block) c.in_ok-reserve-2.ensures.same ∙ ap (onto w.past) ready.block in
-    let done = world_written t.value w (Calls n a d c.args.done) true false (past_of c.push_reserved.new.self.items) (onto c.reserve-2.new.self.past block) c.write.new.self.past calls (sym ready.silent) past c.write.ensures.past in
+    let m = Calls c.args.line c.args.actor c.args.c.now c.args.done in
+    let w = world_of i.calls.items i.history.past in
     let v : World = record { calls = past_of c.push_reserved.new.self.items; past = c.write.new.self.past } in
-    let new : TxState = record { transaction = t; world = v; ours = i.at_log.ours; unsure = i.at_log.unsure; life = i.at_log.life } in
-    let alone : DoesAlone (Calls n a d c.args.done) (record { transaction = t; world = w; ours = i.at_log.ours; unsure = i.at_log.unsure; life = i.at_log.life }) new =
-    record { transaction = refl; world = done ∙ turned_silent true t.value w (Calls n a d c.args.done) ready.silent; silent = ready.silent; life = refl } in
-    subst (λ (y : TxState). DoesAlone (Calls n a d c.args.done) y new) c.self.view_is alone
+    let silent = (ready b).silent in
+    let done = world_written i.transaction.value w m true false (past_of c.push_reserved.new.self.items) (onto c.reserve-2.new.self.past (Called c.args.line c.args.actor c.args.answer ∷ [])) c.write.new.self.past (calls b) silent
+    (past b) c.write.ensures.past in
+    let alone : DoesAlone m (seen_as i.transaction w i.at_log) (seen_as i.transaction v i.at_log) =
+    record { transaction = refl; world = done ∙ turned_silent true i.transaction.value w m (sym silent); silent = sym silent; life = refl } in
+    subst (λ (y : TxState). DoesAlone m y (seen_as i.transaction v i.at_log)) c.self.view_is alone
