@@ -56,6 +56,6 @@ counted_there p (x ∷ xs) k = step (p x) k (counted_there p xs)
     step false k f = f k
 
 -- where none passes none is counted
-pub none_counted : {A : Type 0} (p : A → Bool) (xs : List A) → has p xs ≡ false → how_many p xs ≡ 0
-none_counted p [] k = refl
-none_counted p (x ∷ xs) k = rw (or_first (p x) (has p xs) k) (none_counted p xs (or_second (p x) (has p xs) k))
+pub not_counted : {A : Type 0} (p : A → Bool) (xs : List A) → has p xs ≡ false → how_many p xs ≡ 0
+not_counted p [] k = refl
+not_counted p (x ∷ xs) k = rw (or_first (p x) (has p xs) k) (not_counted p xs (or_second (p x) (has p xs) k))

@@ -2,7 +2,7 @@
 use Rattle.std.proofs.Common.{◌≡◌, ◌≤◌, ◌+◌, ◌&&◌, ◌||◌, ℕ, suc, Bool, true, false, not, List, [], ◌∷◌, map, filter, length, nat_lt, cond, if◌then◌else◌, refl, ap, ◌∙◌, arith}
 use Rattle.dtx_values.specs.Table.{how_many, insert_by}
 use Rattle.dtx_model.specs.Words.{each, has}
-use Rattle.dtx_model.proofs.Bools.{and_both, and_left, and_right, and_swap, or_first, or_second, or_swap}
+use Rattle.dtx_model.proofs.Bools.{and_both, and_left, and_right, and_swap, or_swap}
 
 -- a change that the test doesn't see
 pub has-map : {A : Type 0} (p : A → Bool) (f : A → A) → ((x : A) → p (f x) ≡ p x) → (xs : List A) → has p (map f xs) ≡ has p xs
@@ -111,11 +111,6 @@ picked b p (n ∷ ns) k none = rw (none n (and_left (p n) (each p ns) k)) (picke
 pub how_many-all : {N : Type 0} (ns : List N) → how_many (λ n. true) ns ≡ length ns
 how_many-all [] = refl
 how_many-all (n ∷ ns) = ap suc (how_many-all ns)
-
--- where none passes, none is counted
-pub not_counted : {A : Type 0} (p : A → Bool) (xs : List A) → has p xs ≡ false → how_many p xs ≡ 0
-not_counted p [] k = refl
-not_counted p (x ∷ xs) k = rw (or_first (p x) (has p xs) k) (not_counted p xs (or_second (p x) (has p xs) k))
 
 -- where none is counted, none passes
 pub none_counted : {A : Type 0} (p : A → Bool) (xs : List A) → how_many p xs ≡ 0 → has p xs ≡ false

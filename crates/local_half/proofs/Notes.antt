@@ -34,11 +34,11 @@ use Rattle.dtx_model.specs.Waiting.{is_place, is_place_of, wanted_by}
 use Rattle.dtx_model.specs.Answers.{clone_answer, complete_answer, durable_answer, gone_answer, has_promotion, if_begun, is_crowded, is_done, is_full, is_full_of_durables, local_answer, marshal_answer, places, promotable_answer, status_answer, unless_ended, unless_late, unless_over, volatile_answer, wait_for}
 use Rattle.dtx_model.specs.Words.{has}
 use Rattle.dtx_model.proofs.Bools.{not_false, not_true}
+use Rattle.dtx_model.proofs.Counts.{not_counted}
 use Rattle.dtx_model.proofs.Unowned.{none_lasts}
 use Rattle.dependent_clones.specs.Refusals.{clone_refusal}
 use Rattle.local_half.specs.Half.{Known, is_awaited, is_its_own}
 use Rattle.local_half.specs.Taken.{HasPlace, cause_for, with_call}
-use Rattle.local_half.proofs.Lists.{not_counted}
 
 -- some pass where their number isn't 0
 pub some_left : {A : Type 0} (p : A → Bool) (xs : List A) → nat_lt 0 (how_many p xs) ≡ has p xs

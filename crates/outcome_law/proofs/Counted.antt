@@ -15,7 +15,7 @@ use Rattle.dtx_model.specs.Words.{always, has}
 use Rattle.dtx_model.specs.Wires.{WireRun, in_transit, is_next, is_open_wire, is_stopped, opened_with, opens, sent_behind, without_first}
 use Rattle.dtx_model.proofs.Bools.{and_left, and_right}
 use Rattle.dtx_model.proofs.Connections.{same_is, same_way_is}
-use Rattle.dtx_model.proofs.Counts.{counted_there, none_counted}
+use Rattle.dtx_model.proofs.Counts.{counted_there, not_counted}
 use Rattle.outcome_law.proofs.Whole.{whole}
 use Rattle.outcome_law.proofs.Arrived.{before, newest, opens_same}
 use Rattle.outcome_law.proofs.Crossed.{is_sent_on, is_got_on}
@@ -100,7 +100,7 @@ once_count q (x ∷ h) r = step (q x) (has q h) refl (and_left (not (q x) || not
   where
     step : (a b : Bool) → has q h ≡ b → (not a || not b) ≡ true → how_many q h ≤ 1 → (if a then suc (how_many q h) else how_many q h) ≤ 1
     step true true e k ih = absurd cc
-    step true false e k ih = let n = none_counted q h e in omega arith
+    step true false e k ih = let n = not_counted q h e in omega arith
     step false b e k ih = ih
 
 pub got_first : (c : Conn) (d : Dir) (m : Message) (p : Message → Bool) (h : List Entry) → whole h ≡ true → WireRun h → is_next m (in_transit c d h) → p m ≡ true → always (is_once (is_sent_on c d p)) h ≡ true

@@ -15,7 +15,7 @@ use Rattle.dtx_model.specs.Words.{always, has}
 use Rattle.dtx_model.specs.Promotes.{is_begun_got, is_created_got}
 use Rattle.dtx_model.specs.Wires.{in_transit, is_next, opens}
 use Rattle.dtx_model.proofs.Bools.{and_left, and_right}
-use Rattle.dtx_model.proofs.Counts.{counted_there, none_counted}
+use Rattle.dtx_model.proofs.Counts.{counted_there, not_counted}
 use Rattle.outcome_law.proofs.Scans.{has_less}
 use Rattle.outcome_law.proofs.Table.{ends_with, rule}
 use Rattle.outcome_law.proofs.Keeping.{Keeps, keeps_before, newest}
@@ -54,7 +54,7 @@ opened_once c f (x ∷ h) k = step (is_sent_on c Up (is_opening c) x) refl (open
   where
     none : is_sent_on c Up (is_opening c) x ≡ true → how_many (is_sent_on c Up (is_opening c)) h ≡ 0
     none t =
-        none_counted (is_sent_on c Up (is_opening c)) h
+        not_counted (is_sent_on c Up (is_opening c)) h
         (has_less (is_sent_on c Up (is_opening c)) (opens c) (opening_sent_on c) h (f x h (newest x h k) (opening_sent_on c x t)))
 
     step : (b : Bool) → is_sent_on c Up (is_opening c) x ≡ b → how_many (is_sent_on c Up (is_opening c)) h ≤ 1

@@ -16,7 +16,7 @@ use Rattle.dtx_model.specs.Wires.{WireRun, in_transit, opens, same_connection}
 use Rattle.dtx_model.specs.Words.{always, has}
 use Rattle.dtx_model.proofs.Bools.{and_both, and_left, and_right, not_both, not_true, or_case}
 use Rattle.dtx_model.proofs.Connections.{same_self, same_is}
-use Rattle.dtx_model.proofs.Counts.{counted_there, how_many-more, none_counted}
+use Rattle.dtx_model.proofs.Counts.{counted_there, how_many-more, not_counted}
 use Rattle.outcome_law.proofs.Crossed.{is_got_on, is_sent_on}
 use Rattle.outcome_law.proofs.InTransit.{no_more}
 use Rattle.outcome_law.proofs.Leading.{sent_opens}
@@ -152,7 +152,7 @@ opened_before c m h k w a = by (has (opens c) h) refl (come_opened c m h k w a)
   where
     by : (b : Bool) → has (opens c) h ≡ b → suc (how_many (is_got_on c Down is_welcome) h) ≤ how_many (opens c) h → b ≡ true
     by true q k = refl
-    by false q k = absurd (less (how_many (is_got_on c Down is_welcome) h) (how_many (opens c) h) k (none_counted (opens c) h q))
+    by false q k = absurd (less (how_many (is_got_on c Down is_welcome) h) (how_many (opens c) h) k (not_counted (opens c) h q))
       where
         less : (n m : ℕ) → suc n ≤ m → m ≡ 0 → ⊥
         less n m p e = omega (arith, p, e)

@@ -35,7 +35,7 @@ use Rattle.dtx_model.proofs.Bools.{and_both, and_left, and_never, and_right, not
 use Rattle.outcome_law.proofs.Owned.{has_filter}
 use Rattle.outcome_law.proofs.Scans.{has_more}
 use Rattle.dtx_model.proofs.Connections.{same_is}
-use Rattle.dtx_model.proofs.Counts.{counted_there, none_counted}
+use Rattle.dtx_model.proofs.Counts.{counted_there, not_counted}
 use Rattle.outcome_law.proofs.Lists.{has-insert, has_kept}
 use Rattle.outcome_law.proofs.Tests.{eq_self}
 use Rattle.outcome_law.proofs.Rule.{is_enlisted}
@@ -246,7 +246,7 @@ pub begin_opened : (h : List Entry) → has (opens Begin) h ≡ false → has is
     → Opened (Sent Begin Up BeginBegin ∷ h)
 begin_opened h n s p i = record {
   begun = λ t. s;
-  single = by (how_many (opens Begin) h) (none_counted (opens Begin) h n);
+  single = by (how_many (opens Begin) h) (not_counted (opens Begin) h n);
   bare = λ t u. elim p as (λ z. is_unpromotable h ≡ true) [ inl r ↦ absurd (not_both (has is_promote_reply h) r u) | inr q ↦ q ];
   asked = i.asked;
   voter = i.voter;
@@ -270,7 +270,7 @@ voter_opened h u n b i = record {
   single = i.single;
   bare = i.bare;
   asked = i.asked;
-  voter = by (how_many (opens Voter) h) (how_many is_begun_got h) (none_counted (opens Voter) h n) (counted_there is_begun_got h b);
+  voter = by (how_many (opens Voter) h) (how_many is_begun_got h) (not_counted (opens Voter) h n) (counted_there is_begun_got h b);
   created = i.created;
   started = i.started;
   handed = i.handed;
@@ -308,7 +308,7 @@ enlist_opened h e m new c s o i = record {
     once : (f : EnlNo) (b : Bool) → (f.value == e.value) ≡ b → how_many (opens (Enl f)) h ≤ 1 → (if b && true then suc (how_many (opens (Enl f)) h) else how_many (opens (Enl f)) h) ≤ 1
     once f true q k =
         let P : Conn → Type 0 = λ c. has (opens c) h ≡ false in
-        let none = none_counted (opens (Enl f)) h (subst P (sym (same_is (Enl f) (Enl e) q)) new) in omega (arith, none)
+        let none = not_counted (opens (Enl f)) h (subst P (sym (same_is (Enl f) (Enl e) q)) new) in omega (arith, none)
     once f false q k = k
 
 -- the owner has a row
