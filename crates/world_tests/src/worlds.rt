@@ -456,12 +456,18 @@ fn loses(rt: &impl Abort, world: &mut TxWorld, log: &mut Log<MemDisk>, out: &mut
     let lose_again = Call::Lose(t, Conn::Begin, 1, 1);
     assert_eq!(rt; call(rt, world, log, out, 1, &begin), Answer::Fine);
     assert_eq!(rt; call(rt, world, log, out, 2, &durable), Answer::Fine);
-    assert_eq!(rt; call(rt, world, log, out, 3, &Call::Marshal(t)), Answer::Wait);
+    assert_eq!(rt;
+        call(rt, world, log, out, 3, &Call::Marshal(t)),
+        Answer::Wait
+    );
     assert_eq!(rt; call(rt, world, log, out, 4, &lose_v), Answer::NoSuch);
     assert_eq!(rt; call(rt, world, log, out, 5, &lose_b), Answer::Fine);
     assert_eq!(rt; call(rt, world, log, out, 6, &lose_again), Answer::NoSuch);
     assert_eq!(rt; call(rt, world, log, out, 7, &Call::Gone(e1)), Answer::Fine);
-    assert_eq!(rt; call(rt, world, log, out, 8, &Call::Gone(e1)), Answer::Already);
+    assert_eq!(rt;
+        call(rt, world, log, out, 8, &Call::Gone(e1)),
+        Answer::Already
+    );
     assert_eq!(rt; call(rt, world, log, out, 9, &Call::Await(t)), told);
 }
 
