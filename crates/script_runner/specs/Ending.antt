@@ -1,30 +1,61 @@
 -- The log at the end of a run.
-use Rattle.std.specs.Prelude.{ℕ, ◌≡◌, List, [], filter, length, if◌then◌else◌}
+use Rattle.std.specs.Prelude.{ℕ, ◌≡◌, ◌≤◌, Bool, true, IsTrue, IsFalse, List, [], filter, length, if◌then◌else◌}
+use Rattle.dtx_values.specs.declared.entry.Entry.TheVariants.{Restarted}
 use Rattle.dtx_values.specs.declared.number.TxNo.{TxNo}
-use Rattle.dtx_model.specs.Log.{CommitRecord, is_record_of}
+use Rattle.dtx_model.specs.AtLog.{is_known, is_log_up}
+use Rattle.dtx_model.specs.Log.{CommitRecord, is_record_of, log_has}
 use Rattle.dtx_model.specs.Promotes.{identifier_of}
-use Rattle.dtx_model.specs.Tied.{has_mark}
+use Rattle.dtx_model.specs.Tied.{has_mark, is_tied}
 use Rattle.dtx_model.specs.Traces.{Placed, history}
-use Rattle.dtx_model.specs.Words.{past_of}
+use Rattle.dtx_model.specs.Words.{has, past_of}
 use Rattle.coordinator_log.specs.Crash.{AllHold}
+use Rattle.coordinator_log.specs.Slots.{open_records}
+use Rattle.coordinator_log.specs.State.{LogState}
+use Rattle.script_runner.specs.LogRun.{AreForeignSame}
+
+-- the records of a transaction of this number
+abbrev pub records_of : ℕ → List CommitRecord → List CommitRecord
+records_of t rs = filter (is_record_of (identifier_of t)) rs
 
 -- no record is one of a script's transactions
 abbrev pub HasNone : List CommitRecord → Type 0
-HasNone rs = (t : TxNo) → filter (is_record_of (identifier_of t.value)) rs ≡ []
+HasNone rs = (t : TxNo) → records_of t.value rs ≡ []
 
--- The records at the end, where T is the trace, newest first: of each transaction there is one where the last of `logged`, `freed`, `restarted found` and
+-- The records of a log that is up, where T is the trace, newest first: of each transaction there is one where the last of `logged`, `freed`, `restarted found` and
 -- `restarted none` is `logged` or `restarted found`, and else none; and those that are no transaction's are as they were before.
 pub record AreRecorded (T : List Placed) (before rs : List CommitRecord) : Type 0 where
-  pub recorded : (t : TxNo) → length (filter (is_record_of (identifier_of t.value)) rs) ≡ (if has_mark (history t.value T) then 1 else 0)
-  pub others : (id : ℕ) → ((t : TxNo) → identifier_of t.value ≡ id → ⊥) → filter (is_record_of id) rs ≡ filter (is_record_of id) before
+  pub recorded : (t : TxNo) → length (records_of t.value rs) ≡ (if has_mark (history t.value T) then 1 else 0)
+  pub others : AreForeignSame before rs
 
--- each image that a crash can leave holds the same records, and they are those of the trace's transactions and no others
-abbrev pub IsLogOf : (List ℕ → Type 0) → List Placed → Type 0
-IsLogOf image T = (rs : List CommitRecord) × AllHold image rs × AreRecorded (past_of T) [] rs
+-- The records of a log that is stopped, in some image that a crash can leave: of each transaction there is one at most, and none of one of which the coordinator doesn't know; a restart that finds them finds in each transaction what may
+-- be found there; and those that are no transaction's are as they were before.
+pub record MayBeRecorded (T : List Placed) (before rs : List CommitRecord) : Type 0 where
+  pub one : (t : TxNo) → length (records_of t.value rs) ≤ 1
+  pub known : (t : TxNo) → is_known T t ≡ false → records_of t.value rs ≡ []
+  pub found : (t : TxNo) → is_tied (history t.value T) (Restarted (has (is_record_of (identifier_of t.value)) rs)) ≡ true
+  pub others : AreForeignSame before rs
+
+-- each image that a crash can leave is a log whose records are so
+abbrev pub EachHolds : (List ℕ → Type 0) → (List CommitRecord → Type 0) → Type 0
+EachHolds image P = (c : List ℕ) → image c → (rs : List CommitRecord) × (log_has c ≡ Ok rs) × P rs
+
+-- The log at the end of a run over an honest disk: where it is up, each image has its records, and they are those of the trace; and where it is stopped, the records of each image are some that may be there.
+pub record EndsAs {D : Type 0} (image : D → List ℕ → Type 0) (before : List CommitRecord) (log : LogState D) (T : List Placed) : Type 0 where
+  pub up : IsTrue log.is_up → AllHold (image log.disk) (open_records log.slots) × AreRecorded T before (open_records log.slots)
+  pub stopped : EachHolds (image log.disk) (MayBeRecorded T before)
+
+-- The log at the end, as its images have it, where it was empty before: where the trace leaves the log up, each image has the same records, those of the trace's transactions and no others; and else the records of each are some that may be there.
+pub record IsLogOf (image : List ℕ → Type 0) (T : List Placed) : Type 0 where
+  pub up : is_log_up (past_of T) ≡ true → (rs : List CommitRecord) × AllHold image rs × AreRecorded (past_of T) [] rs
+  pub stopped : EachHolds image (MayBeRecorded (past_of T) [])
 
 -- each record is one of a script's transactions
 abbrev pub AreOfTransactions : List CommitRecord → Type 0
 AreOfTransactions rs = (id : ℕ) → ((t : TxNo) → identifier_of t.value ≡ id → ⊥) → filter (is_record_of id) rs ≡ []
+
+-- each image that a crash can leave is a log, and each of its records is of a script's transaction
+abbrev pub AreOwnLogs : (List ℕ → Type 0) → Type 0
+AreOwnLogs image = EachHolds image AreOfTransactions
 
 -- each image that a crash can leave holds the same records, each of a script's transactions
 abbrev pub IsLog : (List ℕ → Type 0) → Type 0

@@ -1,31 +1,36 @@
 -- The text of a replay, and why bytes have none.
-use Rattle.std.specs.Prelude.{ℕ, ◌≡◌, Bool, List, IsTrue}
+use Rattle.std.specs.Prelude.{ℕ, ◌≡◌, Bool, ◌&&◌, List, IsTrue}
 use Rattle.dtx_values.specs.declared.script.Line.{Line}
 use Rattle.dtx_model.specs.Faults.{Bad}
-use Rattle.script_runner.specs.Built.{IsNotYet}
-use Rattle.dtx_model.specs.History.{HasOneOutcome, IsComplete, IsHistory, IsReplay}
-use Rattle.dtx_model.specs.Log.{CommitRecord}
+use Rattle.dtx_model.specs.History.{HasOneOutcome, IsComplete}
+use Rattle.dtx_model.specs.Outcome.{is_empty}
+use Rattle.dtx_model.specs.AtLog.{at_log, is_log_up}
 use Rattle.dtx_model.specs.Traces.{Placed}
-use Rattle.dtx_model.specs.Words.{past_of}
+use Rattle.dtx_model.specs.Words.{has, past_of}
 use Rattle.dtx_model.specs.TraceText.{trace_text}
-use Rattle.script_runner.specs.Ending.{AreRecorded}
+use Rattle.coordinator_log.specs.Slots.{open_records}
+use Rattle.coordinator_log.specs.State.{LogState}
+use Rattle.script_runner.specs.Ending.{EndsAs}
+use Rattle.script_runner.specs.LogRun.{is_no_log_answer}
+use Rattle.script_runner.specs.Run.{AreTied, IsRunOf}
 use Rattle.script_runner.specs.Waits.{AreWaitsAnswered}
 use Rattle.script_runner.specs.declared.program.Refusal.{Refusal}
-use Rattle.script_runner.specs.declared.program.Refusal.TheVariants.{Bad as BadBytes, NotYet, Memory}
+use Rattle.script_runner.specs.declared.program.Refusal.TheVariants.{Bad as BadBytes, Memory}
 
 -- the bytes have no replay for this cause; nothing is said of want of memory
 abbrev pub HasNoReplay : List ℕ → Refusal → Type 0
 HasNoReplay b (BadBytes n c) = Bad b n c
-HasNoReplay b (NotYet n) = IsNotYet b n
 HasNoReplay b Memory = Unit {0}
 
--- the text is that of a replay of these lines, over a disk that is honest or not, whose count of faults rose by so many, and these are the log's records after it
-pub record IsReplayText (s : List Line) (rise : ℕ) (honest : Bool) (before rs : List CommitRecord) (text : List ℕ) : Type 0 where
+-- the text is that of a replay of these lines over a log, whose disk is honest or not
+pub record IsReplayText {D : Type 0} (faults : D → ℕ) (honest : Bool) (image : D → List ℕ → Type 0) (s : List Line) (old new : LogState D) (text : List ℕ) : Type 0 where
   pub trace : List Placed
-  pub history : IsHistory s 0 rise trace
-  pub replay : IsReplay s rise honest trace
-  pub outcome : HasOneOutcome trace
-  pub complete : IsComplete s trace
-  pub waited : AreWaitsAnswered s trace
-  pub recorded : IsTrue honest → AreRecorded (past_of trace) before rs
+  pub run : IsRunOf s (faults old.disk) (faults new.disk) (honest && is_empty (open_records old.slots)) trace
+  pub tied : IsTrue honest → AreTied trace
+  pub outcome : AreTied trace → HasOneOutcome trace
+  pub complete : AreTied trace → IsComplete s trace
+  pub waited : AreTied trace → AreWaitsAnswered s trace
+  pub up : new.is_up ≡ is_log_up (past_of trace)
+  pub ended : IsTrue honest → EndsAs image (open_records old.slots) new (past_of trace)
+  pub unlike : IsTrue honest → has is_no_log_answer (at_log (past_of trace)) ≡ false
   pub spelled : text ≡ trace_text trace

@@ -1,7 +1,7 @@
 //! How the top call ends.
 use script_text::BadCause;
 
-/// How the top call ends. The order in which the answers are given is Usage, ReadFault, BadScript, NotYet, LogFault, WriteFault; want of memory may
+/// How the top call ends. The order in which the answers are given is Usage, ReadFault, BadScript, LogFault, WriteFault; want of memory may
 /// come at any point.
 #[derive(Clone, Copy, PartialEq, Eq, Debug)]
 pub enum Exit {
@@ -11,8 +11,6 @@ pub enum Exit {
     Usage,
     /// The first bad line, from 1, and its first cause.
     BadScript(u32, BadCause),
-    /// The bytes are a script; this line, from 1, is the first that isn't run yet.
-    NotYet(u32),
     /// The source met a fault.
     ReadFault,
     /// The disk met a fault while the log was formatted.

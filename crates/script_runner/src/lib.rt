@@ -6,12 +6,10 @@ mod exit;
 mod plans;
 mod program;
 mod replay;
-mod runnable;
 mod transfer;
 
 pub use coordinator_log::LOG_BYTES;
 pub use exit::Exit;
 pub use program::run_program;
 pub use replay::run_replay;
-pub use runnable::is_runnable;
 pub use script_text::BadCause;

@@ -1,11 +1,10 @@
 //! The top call.
-ghost use Rattle.std.specs.Prelude.{◌≡◌, ◌≢◌, ◌⊎◌, ◌↔◌, ◌≤◌, ◌+◌, ◌-◌, ℕ, List, [], None, Ok, Some, drop, map, true, IfErr, IfOk, IsTrue};
+ghost use Rattle.std.specs.Prelude.{◌≡◌, ◌≢◌, ◌⊎◌, ◌↔◌, ◌≤◌, ◌+◌, ◌^◌, ℕ, List, [], None, Ok, Some, drop, false, map, IfErr, IfOk, IsTrue};
 ghost use Rattle.std.specs.Option.{ForSome};
 ghost use Rattle.std.specs.String.{string_bytes};
 ghost use Rattle.outside.specs.Faults.{Rose};
 ghost use Rattle.dtx_values.specs.declared.limits.TheConstants.{SCRIPT_BYTES};
 ghost use Rattle.dtx_values.specs.declared.script.BadCause.{BadCause};
-ghost use Rattle.script_runner.specs.Built.{IsNotYet, are_run};
 ghost use Rattle.dtx_model.specs.Grammar.{IsScript, Reads};
 ghost use Rattle.dtx_model.specs.Traces.{Placed};
 ghost use Rattle.dtx_model.specs.TraceText.{trace_text};
@@ -17,15 +16,14 @@ ghost use Rattle.coordinator_log.specs.Slots.{open_records};
 ghost use Rattle.tx_world.specs.AtLog.{AreLogs};
 ghost use Rattle.coordinator_log.specs.declared.layout.TheConstants.{LOG_BYTES};
 ghost use Rattle.dtx_model.specs.Faults.{Bad};
-ghost use Rattle.script_runner.specs.Program.{AreWords, IsCutShort, IsWritten};
-ghost use Rattle.script_runner.specs.Ending.{HasNone, IsLog};
+ghost use Rattle.script_runner.specs.Program.{AreWords, HasNoLogLine, IsCutShort, IsWritten};
+ghost use Rattle.script_runner.specs.Ending.{AreOwnLogs, HasNone, IsLog};
 ghost use Rattle.script_runner.specs.Judged.{IsJudged};
-ghost use Rattle.script_runner.specs.RunState.{LogGoes, MetNoFault};
+ghost use Rattle.script_runner.specs.LogRun.{LogGoes, LogStays, MetNoFault, has_log_line};
 ghost use Rattle.script_runner.specs.Refusal.{HasNoReplay, IsReplayText};
 
 use crate::exit::Exit;
 use crate::replay::run_replay;
-use crate::runnable::first_to_build;
 use crate::transfer::{ReadError, WriteStop, read_all, write_all};
 use coordinator_log::{Log, LogRefusal};
 use outside::{Disk, Sink, Source};
@@ -47,23 +45,18 @@ fn are_words(words: &[String]) -> bool
 #[derive(Clone, Copy, PartialEq, Eq, Debug)]
 enum Refusal {
     Bad(u32, BadCause),
-    NotYet(u32),
     Memory,
 }
 
-/// The script that these bytes are, where each of its lines is run.
+/// The script that these bytes are.
 fn script_to_run(alloc: Global, bytes: &[u8]) -> Result<Script, Refusal>
-    ensures script { IfOk result (λ s. Reads bytes.now s × (are_run s ≡ true)) }
+    ensures script { IfOk result (λ s. Reads bytes.now s) }
     ensures refused { IfErr result (λ e. HasNoReplay bytes.now e) }
 {
-    let script = match read_script(alloc, bytes) {
-        Ok(script) => script,
-        Err(ScriptError::BadScript(line, cause)) => return Err(Refusal::Bad(line, cause)),
-        Err(ScriptError::Memory) => return Err(Refusal::Memory),
-    };
-    match first_to_build(script.lines()) {
-        Some(place) => Err(Refusal::NotYet(place as u32 + 1)),
-        None => Ok(script),
+    match read_script(alloc, bytes) {
+        Ok(script) => Ok(script),
+        Err(ScriptError::BadScript(line, cause)) => Err(Refusal::Bad(line, cause)),
+        Err(ScriptError::Memory) => Err(Refusal::Memory),
     }
 }
 
@@ -74,12 +67,13 @@ fn replayed<D: Disk>(
     log: &mut Log<D>,
 ) -> Result<Vec<u8>, AllocError>
     requires script { IsScript script.now }
-    requires run { are_run script.now ≡ true }
     requires up { IsTrue log.old.is_up }
     requires unarmed { log.old.armed ≡ None }
+    requires life { log.old.life ≤ 2 ^ 62 }
     requires none { IsTrue D.honest → HasNone (open_records log.old.slots) }
-    ensures text { MetNoFault D.faults log.old.disk log.new.disk → IfOk result (λ text. IsReplayText script.now (D.faults log.new.disk - D.faults log.old.disk) D.honest (open_records log.old.slots) (open_records log.new.slots) text.items) }
+    ensures text { IfOk result (λ text. IsReplayText D.faults D.honest D.image script.now log.old log.new text.items) }
     ensures log { LogGoes D.faults D.honest D.image log.old log.new }
+    ensures stays { has_log_line script.now ≡ false → LogStays D.faults log.old log.new }
 {
     let trace = run_replay(alloc, script, log)?;
     print_trace(alloc, &trace)
@@ -100,6 +94,7 @@ fn formatted<D: Disk>(alloc: Global, disk: D) -> Result<Log<D>, (FormatStop, D)>
     ensures images { IsTrue D.honest → IfOk result (λ log. AllHold (D.image log.disk) []) }
     ensures up { IfOk result (λ log. IsTrue log.is_up) }
     ensures unarmed { IfOk result (λ log. log.armed ≡ None) }
+    ensures life { IfOk result (λ log. log.life ≡ 0) }
     ensures empty { IfOk result (λ log. open_records log.slots ≡ []) }
     ensures smooth { IfOk result (λ log. D.faults log.disk ≡ D.faults disk) }
     ensures fault { IfErr result (λ e. e.0 ≡ FormatStop.Fault → Rose (D.faults disk) (D.faults e.1)) }
@@ -128,21 +123,18 @@ pub fn run_program<S: Source, K: Sink, D: Disk>(
 ) -> (Exit, D)
     requires { LOG_BYTES ≤ D.size disk }
 
-    // The headline, where the disk met no fault; the log at the end is in it, in each image that a crash can leave. A fault after the log was formatted stops the log, and
+    // The headline; the log at the end is in it, in each image that a crash can leave. A fault after the log was formatted stops the log, which the trace says, and
     // is no answer of its own.
-    ensures headline { result.0 ≡ Exit.Fine → MetNoFault D.faults disk result.1 → IsWritten (D.faults result.1 - D.faults disk) D.honest (D.image result.1) (S.left source.old) (K.written sink.old) (K.written sink.new) }
+    ensures headline { result.0 ≡ Exit.Fine → IsWritten (D.faults disk) (D.faults result.1) D.honest (D.image result.1) (S.left source.old) (K.written sink.old) (K.written sink.new) }
     ensures read { result.0 ≡ Exit.Fine → ForSome (S.left source.old) (λ b. S.left source.new ≡ Some []) }
 
     // Usage comes exactly by the words, and then nothing is read.
     ensures usage { (result.0 ≡ Exit.Usage) ↔ (AreWords (map string_bytes words.now) → ⊥) }
     ensures unread { result.0 ≡ Exit.Usage → source.new ≡ source.old }
 
-    // BadScript(n, c) comes exactly where line n is the first bad one and c its first cause, and NotYet(n) exactly where the bytes are a
-    // script and line n is the first that isn't run yet; what else may come there is a fault of the source or want of memory.
+    // BadScript(n, c) comes exactly where line n is the first bad one and c its first cause; what else may come there is a fault of the source or want of memory.
     ensures bad { (n : ℕ) (c : BadCause) → result.0 ≡ Exit.BadScript n c → ForSome (S.left source.old) (λ b. Bad b n c) }
     ensures bad_refused { (n : ℕ) (c : BadCause) → AreWords (map string_bytes words.now) → ForSome (S.left source.old) (λ b. Bad b n c → (result.0 ≡ Exit.BadScript n c) ⊎ ((result.0 ≡ Exit.ReadFault) ⊎ (result.0 ≡ Exit.Memory))) }
-    ensures not_yet { (n : ℕ) → result.0 ≡ Exit.NotYet n → ForSome (S.left source.old) (λ b. IsNotYet b n) }
-    ensures not_yet_refused { (n : ℕ) → AreWords (map string_bytes words.now) → ForSome (S.left source.old) (λ b. IsNotYet b n → (result.0 ≡ Exit.NotYet n) ⊎ ((result.0 ≡ Exit.ReadFault) ⊎ (result.0 ≡ Exit.Memory))) }
     ensures judged { IsJudged result.0 → ForSome (S.left source.old) (λ b. S.left source.new ≡ Some (drop (SCRIPT_BYTES + 1) b)) }
 
     // Faults are those of the source, of the disk while the log was formatted, and of the sink in this call; and each is answered as that fault.
@@ -154,12 +146,13 @@ pub fn run_program<S: Source, K: Sink, D: Disk>(
     ensures write_smooth { result.0 ≢ Exit.WriteFault → K.faults sink.new ≡ K.faults sink.old }
 
     // What was written: the whole text with Fine, above; else a part of it, or nothing. The disk is touched only where the script is run.
-    ensures cut_short { result.0 ≡ Exit.WriteFault → MetNoFault D.faults disk result.1 → IsCutShort (D.faults result.1 - D.faults disk) D.honest (D.image result.1) (S.left source.old) (K.written sink.old) (K.written sink.new) }
-    ensures memory { result.0 ≡ Exit.Memory → MetNoFault D.faults disk result.1 → (sink.new ≡ sink.old) ⊎ IsCutShort (D.faults result.1 - D.faults disk) D.honest (D.image result.1) (S.left source.old) (K.written sink.old) (K.written sink.new) }
+    ensures cut_short { result.0 ≡ Exit.WriteFault → IsCutShort (D.faults disk) (D.faults result.1) D.honest (D.image result.1) (S.left source.old) (K.written sink.old) (K.written sink.new) }
+    ensures memory { result.0 ≡ Exit.Memory → (sink.new ≡ sink.old) ⊎ IsCutShort (D.faults disk) (D.faults result.1) D.honest (D.image result.1) (S.left source.old) (K.written sink.old) (K.written sink.new) }
     ensures unwritten { (result.0 ≡ Exit.Usage) ⊎ ((result.0 ≡ Exit.ReadFault) ⊎ ((result.0 ≡ Exit.LogFault) ⊎ IsJudged result.0)) → sink.new ≡ sink.old }
     ensures room { LOG_BYTES ≤ D.size result.1 }
     ensures logs { IsTrue D.honest → result.0 ≢ Exit.LogFault → (result.1 ≡ disk) ⊎ AreLogs (D.image result.1) }
-    ensures given_up { IsTrue D.honest → result.0 ≡ Exit.Memory → MetNoFault D.faults disk result.1 → (result.1 ≡ disk) ⊎ IsLog (D.image result.1) }
+    ensures given_up { IsTrue D.honest → result.0 ≡ Exit.Memory → (result.1 ≡ disk) ⊎ AreOwnLogs (D.image result.1) }
+    ensures given_up_whole { IsTrue D.honest → result.0 ≡ Exit.Memory → MetNoFault D.faults disk result.1 → HasNoLogLine (S.left source.old) → (result.1 ≡ disk) ⊎ IsLog (D.image result.1) }
     ensures untouched { (result.0 ≡ Exit.Usage) ⊎ ((result.0 ≡ Exit.ReadFault) ⊎ IsJudged result.0) → result.1 ≡ disk }
 {
     // This does nothing when it runs. It brings in that bytes are one script or have one first bad line, and never both, so that the answer which
@@ -178,7 +171,6 @@ pub fn run_program<S: Source, K: Sink, D: Disk>(
     let script = match script_to_run(alloc, &bytes) {
         Ok(script) => script,
         Err(Refusal::Bad(line, cause)) => return (Exit::BadScript(line, cause), disk),
-        Err(Refusal::NotYet(line)) => return (Exit::NotYet(line), disk),
         Err(Refusal::Memory) => return (Exit::Memory, disk),
     };
     // What comes next can use the memory of the bytes.

@@ -1,36 +1,43 @@
 //! A replay: the lines in order, and then the rounds at the end.
-ghost use Rattle.std.specs.Prelude.{ℕ, ◌≡◌, ◌⊎◌, ◌≢◌, ◌≤◌, ◌<◌, ◌+◌, ◌-◌, List, [], ◌∷◌, ◌++◌, IfOk, OnErr, OnOk, IsTrue, None, Ok, Some, true, false, length, map, replicate, slice_get, suc};
+ghost use Rattle.std.specs.Prelude.{ℕ, ◌≡◌, ◌⊎◌, ◌≢◌, ◌≤◌, ◌<◌, ◌+◌, ◌-◌, ◌^◌, ◌&&◌, not, List, [], ◌∷◌, ◌++◌, IfOk, OnErr, OnOk, IsTrue, is_some, None, Ok, Some, true, false, length, map, replicate, slice_get, suc};
 ghost use Rattle.dtx_values.specs.declared.call.Call.{Call};
 ghost use Rattle.dtx_values.specs.declared.entry.Entry.{Entry};
+ghost use Rattle.dtx_values.specs.declared.entry.Answer.TheVariants.{Fine};
+ghost use Rattle.dtx_values.specs.declared.entry.Entry.TheVariants.{Called, LogWord, Restarted, Stopped};
+ghost use Rattle.dtx_values.specs.declared.entry.LogNote.TheVariants.{Armed};
 ghost use Rattle.dtx_values.specs.declared.number.ActorNo.{ActorNo};
 ghost use Rattle.dtx_values.specs.declared.number.TxNo.{TxNo};
 ghost use Rattle.dtx_values.specs.declared.script.Line.{Line};
 ghost use Rattle.outside.specs.Faults.{Rose};
 ghost use Rattle.dtx_model.specs.Words.{has, kth, onto, past_of};
+ghost use Rattle.dtx_model.specs.AtLog.{at_log, hit, is_log_up, known, open_right};
 ghost use Rattle.dtx_model.specs.Calls.{call_of};
-ghost use Rattle.dtx_model.specs.World.{World};
+ghost use Rattle.dtx_model.specs.World.{World, core};
 ghost use Rattle.dtx_model.specs.Steps.{Calls, pending};
-ghost use Rattle.dtx_model.specs.Caused.{HasDone, HasStepped, IsCallOf, MayAnswer, Settled};
+ghost use Rattle.dtx_model.specs.Caused.{Caused, HasDone, HasStepped, IsCallOf, MayAnswer, Settled, is_begin_sent};
 ghost use Rattle.dtx_model.specs.Contexts.{calls_by, lines_before, scope_block, scope_calls};
+ghost use Rattle.dtx_model.specs.Tied.{tied};
 ghost use Rattle.dtx_model.specs.Traces.{Placed, history, noted, placed};
-ghost use Rattle.dtx_model.specs.Replay.{CallRan, HasDoneAt, IsReplayed, LinesRan, after_calls, after_scope, after_turn, world_at};
-ghost use Rattle.dtx_model.specs.History.{HasOneOutcome, IsComplete, IsHistory, IsReplay};
-ghost use Rattle.dtx_model.specs.Grammar.{IsScript, are_named_well};
+ghost use Rattle.dtx_model.specs.Replay.{CallRan, HasDoneAt, IsReplayed, LineRan, LinesRan, Reopening, after_calls, after_restart, after_scope, after_turn, at_the_log, put_at, world_at};
+ghost use Rattle.dtx_model.specs.History.{HasOneOutcome, IsComplete};
+ghost use Rattle.dtx_model.specs.Outcome.{is_empty};
+ghost use Rattle.dtx_model.specs.Grammar.{IsScript, are_named_well, is_in_range};
 ghost use Rattle.coordinator_log.specs.Slots.{open_records};
-ghost use Rattle.outcome_law.specs.LogQuiet.{is_log_quiet};
-ghost use Rattle.script_runner.specs.Built.{are_run};
-ghost use Rattle.script_runner.specs.Ending.{AreRecorded, HasNone};
+ghost use Rattle.coordinator_log.specs.State.{LogState};
+ghost use Rattle.script_runner.specs.Ending.{EndsAs, HasNone};
+ghost use Rattle.script_runner.specs.LogRun.{IsCounted, LogGoes, LogStays, has_log_line, is_log_line, is_no_log_answer, restart_answer};
 ghost use Rattle.script_runner.specs.Rights.{AreAppendsBacked, HasOneRight};
-ghost use Rattle.script_runner.specs.RunState.{Advances, AreBelow, HaveSameCalls, Holds, IsBelow, IsQuiet, IsSettledBelow, IsTied, IsToPlan, LogGoes, MetNoFault, Runs, Settles, is_of_stop, state_of, untouched};
+ghost use Rattle.script_runner.specs.Run.{AreTied, IsRunOf};
+ghost use Rattle.script_runner.specs.RunState.{Advances, AreBelow, AreSettledBelow, HaveSameCalls, Holds, IsBelow, IsRecordKept, IsRoundAt, IsTied, IsToPlan, Settles, Tells, halted, record_in, reopened, state_of, untouched};
 ghost use Rattle.script_runner.specs.Scoped.{AreOnce, AreOpen, IsUnopened, calls_given, nothing_open, rollbacks, rolled_at, scopes_at};
 ghost use Rattle.script_runner.specs.Waits.{AreWaitsAnswered};
-ghost use Rattle.tx_world.specs.Entering.{is_entered_yet};
+ghost use Rattle.tx_world.specs.AtLog.{Fits};
 ghost use Rattle.world_laws.specs.Left.{steps_left};
 
 use crate::contexts::{Gives, act, contexts};
 use crate::plans::Plans;
-use coordinator_log::Log;
-use dtx_values::{ActorNo, Body, Call, Entry, Line, Outbox, Place, Script, TxNo};
+use coordinator_log::{Log, LogRefusal};
+use dtx_values::{ActorNo, Answer, Body, Call, Entry, Image, Line, LogNote, Outbox, Place, Script, TxNo};
 use entry_lists::{PlacedEntries, Trace};
 use outcome_law::{appends, completeness, crossings, lifting, one_outcome, replay};
 use outside::Disk;
@@ -143,17 +150,17 @@ impl<'a> Run<'a> {
         c: &Call,
         done: u16,
     ) -> Result<(), WorldError>
-        requires holds { Holds D.honest log.now self.old }
+        requires holds { Holds D.honest D.image log.now self.old }
         requires given { IsCallOf self.old.script t.value n actor c.now }
         requires below { IsBelow n (state_of t self.old.worlds) }
         requires answers { MayAnswer t.value (state_of t self.old.worlds).world c.now done }
-        requires entered { is_entered_yet c.now ≡ true }
         ensures contexts { self.new.contexts ≡ self.old.contexts }
-        ensures runs { OnOk result (Runs D.faults log.now log.now self.old self.new) }
-        ensures holds { OnOk result (Holds D.honest log.now self.new) }
+        ensures script { self.new.script ≡ self.old.script }
+        ensures holds { OnOk result (Holds D.honest D.image log.now self.new) }
+        ensures tells { OnOk result ((start : LogState D) → Tells D.faults D.honest start log.now (past_of self.old.trace) → Tells D.faults D.honest start log.now (past_of self.new.trace)) }
         ensures others { (u : TxNo) → u ≢ t → state_of u self.new.worlds ≡ state_of u self.old.worlds }
         ensures entered { OnOk result (IsBelow (n + 1) (state_of t self.new.worlds)) }
-        ensures done { OnOk result (IsQuiet self.new → past_of self.new.trace ≡ after_turn self.old.script t (Calls n actor c.now done) (past_of self.old.trace)) }
+        ensures done { OnOk result (past_of self.new.trace ≡ after_turn self.old.script t (Calls n actor c.now done) (past_of self.old.trace)) }
     {
         // What a script's lines make is made once, so that the call may be entered.
         lifting();
@@ -167,41 +174,69 @@ impl<'a> Run<'a> {
         Ok(())
     }
 
-    /// Tells each other transaction, by number, that the log was stopped, and writes what that brings.
-    fn stop_others(&mut self, t: TxNo, life: u64) -> Result<(), WorldError>
+    /// Tells each transaction, by number, that the log was stopped in this life, and writes what that brings.
+    fn stop_all(&mut self, life: u64) -> Result<(), WorldError>
+        requires tied { (t : TxNo) → IsTied self.old.script t (past_of self.old.trace) (state_of t self.old.worlds) }
+        requires lives { (t : TxNo) → has is_begin_sent (state_of t self.old.worlds).world.past ≡ true → (state_of t self.old.worlds).life ≡ life }
         ensures script { self.new.script ≡ self.old.script }
         ensures contexts { self.new.contexts ≡ self.old.contexts }
         ensures calls { HaveSameCalls self.old.worlds self.new.worlds }
-        ensures here { state_of t self.new.worlds ≡ state_of t self.old.worlds }
-        ensures tied { OnOk result (((u : TxNo) → IsTied self.old.script u (past_of self.old.trace) (state_of u self.old.worlds)) → (u : TxNo) → IsTied self.old.script u (past_of self.new.trace) (state_of u self.new.worlds)) }
-        ensures loud { OnOk result ((IsQuiet self.old → ⊥) → IsQuiet self.new → ⊥) }
+        ensures worlds { OnOk result ((t : TxNo) → state_of t self.new.worlds ≡ halted life (state_of t self.old.worlds)) }
+        ensures trace { OnOk result (past_of self.new.trace ≡ put_at (λ t. Stopped) (hit (past_of self.old.trace)) (past_of self.old.trace)) }
+        ensures kept { OnOk result (((t : TxNo) → IsRecordKept (state_of t self.old.worlds)) → (t : TxNo) → IsRecordKept (state_of t self.new.worlds)) }
     {
         for place in 0..self.worlds.len() {
-            if place == t.index() {
-                continue;
-            }
-            let u = TxNo::new(place as u32 + 1).unwrap();
+            let t = TxNo::new(place as u32 + 1).unwrap();
             let world = &mut self.worlds[place];
             let from = world.history().len();
             world.coordinator_stopped(life)?;
-            note(&mut self.trace, u, world, from)?;
+            world.is_own_run();
+            note(&mut self.trace, t, world, from)?;
+        }
+        Ok(())
+    }
+
+    /// Tells each transaction, by number, that the log was opened again, and writes what that brings: whether its record was found.
+    fn restart_all<D: Disk>(&mut self, log: &Log<D>) -> Result<(), WorldError>
+        requires up { IsTrue log.now.is_up }
+        requires tied { (t : TxNo) → IsTied self.old.script t (past_of self.old.trace) (state_of t self.old.worlds) }
+        requires fits { IsTrue D.honest → (t : TxNo) → Fits (state_of t self.old.worlds) (open_records log.now.slots) }
+        requires stopped { (t : TxNo) → has is_begin_sent (state_of t self.old.worlds).world.past ≡ true → (core (state_of t self.old.worlds).world).stopped ≡ true }
+        requires lives { (t : TxNo) → has is_begin_sent (state_of t self.old.worlds).world.past ≡ true → (state_of t self.old.worlds).life < log.now.life }
+        ensures script { self.new.script ≡ self.old.script }
+        ensures contexts { self.new.contexts ≡ self.old.contexts }
+        ensures calls { HaveSameCalls self.old.worlds self.new.worlds }
+        ensures worlds { OnOk result ((t : TxNo) → state_of t self.new.worlds ≡ reopened log.now (state_of t self.old.worlds)) }
+        ensures trace { OnOk result (past_of self.new.trace ≡ put_at (λ t. Restarted (is_some (record_in log.now.slots t.value))) (known (past_of self.old.trace)) (past_of self.old.trace)) }
+        ensures kept { OnOk result (((t : TxNo) → IsRecordKept (state_of t self.old.worlds)) → (t : TxNo) → IsRecordKept (state_of t self.new.worlds)) }
+        ensures sound { OnOk result (IsTrue D.honest → ((t : TxNo) → tied (state_of t self.old.worlds).world.past ≡ true) → (t : TxNo) → tied (state_of t self.new.worlds).world.past ≡ true) }
+    {
+        for place in 0..self.worlds.len() {
+            let t = TxNo::new(place as u32 + 1).unwrap();
+            let world = &mut self.worlds[place];
+            let from = world.history().len();
+            world.coordinator_restarted(log)?;
+            world.is_own_run();
+            note(&mut self.trace, t, world, from)?;
         }
         Ok(())
     }
 
     /// Does the k-th pending step of transaction t; false where fewer than k are pending.
     fn step<D: Disk>(&mut self, log: &mut Log<D>, t: TxNo, k: u8) -> Result<bool, WorldError>
-        requires holds { Holds D.honest log.old self.old }
+        requires holds { Holds D.honest D.image log.old self.old }
         ensures contexts { self.new.contexts ≡ self.old.contexts }
         ensures log { LogGoes D.faults D.honest D.image log.old log.new }
-        ensures runs { OnOk result (Runs D.faults log.old log.new self.old self.new) }
-        ensures holds { OnOk result (Holds D.honest log.new self.new) }
+        ensures stays { LogStays D.faults log.old log.new }
+        ensures script { self.new.script ≡ self.old.script }
+        ensures holds { OnOk result (Holds D.honest D.image log.new self.new) }
+        ensures tells { OnOk result ((start : LogState D) → Tells D.faults D.honest start log.old (past_of self.old.trace) → Tells D.faults D.honest start log.new (past_of self.new.trace)) }
         ensures calls { HaveSameCalls self.old.worlds self.new.worlds }
         ensures stepped { result ≡ Ok true → (m : ℕ) (start : World) → HasStepped t.value k m start (state_of t self.old.worlds).world → HasStepped t.value k (suc m) start (state_of t self.new.worlds).world }
-        ensures some { result ≡ Ok true → IsQuiet self.new → Advances self.old.script t k self.old.trace self.new.trace }
+        ensures some { result ≡ Ok true → Advances self.old.script t k self.old.trace self.new.trace }
         ensures nearer { result ≡ Ok true → steps_left (state_of t self.new.worlds).world < steps_left (state_of t self.old.worlds).world }
         ensures none { result ≡ Ok false → kth (pending (state_of t self.old.worlds).world) k ≡ None }
-        ensures none_here { result ≡ Ok false → IsQuiet self.old → kth (pending (world_at self.old.script t (past_of self.old.trace))) k ≡ None }
+        ensures none_here { result ≡ Ok false → kth (pending (world_at self.old.script t (past_of self.old.trace))) k ≡ None }
         ensures unchanged { result ≡ Ok false → (self.new ≡ self.old) × (log.new ≡ log.old) }
     {
         if self.worlds.len() <= t.index() {
@@ -216,14 +251,15 @@ impl<'a> Run<'a> {
         }
         // What holds of the world after the step: what it keeps of the log is what its coordinator knows.
         world.is_own_run();
-        if was_up && !log.is_up() {
+        let stops = was_up && !log.is_up();
+        if stops {
             self.trace.reserve(1)?;
             self.trace.push_reserved((Place::Log, Entry::Stopped));
-            note(&mut self.trace, t, world, from)?;
-            self.stop_others(t, log.life())?;
-            return Ok(true);
         }
         note(&mut self.trace, t, world, from)?;
+        if stops {
+            self.stop_all(log.life())?;
+        }
         Ok(true)
     }
 
@@ -235,14 +271,16 @@ impl<'a> Run<'a> {
         k: u8,
         n: u16,
     ) -> Result<u16, WorldError>
-        requires holds { Holds D.honest log.old self.old }
+        requires holds { Holds D.honest D.image log.old self.old }
         ensures contexts { self.new.contexts ≡ self.old.contexts }
         ensures log { LogGoes D.faults D.honest D.image log.old log.new }
-        ensures runs { OnOk result (Runs D.faults log.old log.new self.old self.new) }
-        ensures holds { OnOk result (Holds D.honest log.new self.new) }
+        ensures stays { LogStays D.faults log.old log.new }
+        ensures script { self.new.script ≡ self.old.script }
+        ensures holds { OnOk result (Holds D.honest D.image log.new self.new) }
+        ensures tells { OnOk result ((start : LogState D) → Tells D.faults D.honest start log.old (past_of self.old.trace) → Tells D.faults D.honest start log.new (past_of self.new.trace)) }
         ensures calls { HaveSameCalls self.old.worlds self.new.worlds }
         ensures did { IfOk result (λ m. HasDone t.value (state_of t self.new.worlds).world k n m) }
-        ensures done { IfOk result (λ m. IsQuiet self.new → HasDoneAt self.old.script t k n m (past_of self.old.trace) (past_of self.new.trace)) }
+        ensures done { IfOk result (λ m. HasDoneAt self.old.script t k n m (past_of self.old.trace) (past_of self.new.trace)) }
     {
         for m in 0..n {
             if !self.step(log, t, k)? {
@@ -254,14 +292,18 @@ impl<'a> Run<'a> {
 
     /// Does the pending steps of transaction t, each time the first, until none is left.
     fn settle<D: Disk>(&mut self, log: &mut Log<D>, t: TxNo) -> Result<(), WorldError>
-        requires holds { Holds D.honest log.old self.old }
+        requires holds { Holds D.honest D.image log.old self.old }
         ensures contexts { self.new.contexts ≡ self.old.contexts }
         ensures log { LogGoes D.faults D.honest D.image log.old log.new }
-        ensures runs { OnOk result (Runs D.faults log.old log.new self.old self.new) }
-        ensures holds { OnOk result (Holds D.honest log.new self.new) }
+        ensures stays { LogStays D.faults log.old log.new }
+        ensures script { self.new.script ≡ self.old.script }
+        ensures holds { OnOk result (Holds D.honest D.image log.new self.new) }
+        ensures tells { OnOk result ((start : LogState D) → Tells D.faults D.honest start log.old (past_of self.old.trace) → Tells D.faults D.honest start log.new (past_of self.new.trace)) }
         ensures calls { HaveSameCalls self.old.worlds self.new.worlds }
         ensures settled { OnOk result (pending (state_of t self.new.worlds).world ≡ []) }
-        ensures done { OnOk result (IsQuiet self.new → Settles self.old.script t self.old.trace self.new.trace) }
+        ensures done { OnOk result (Settles self.old.script t self.old.trace self.new.trace) }
+        ensures turns { OnOk result ((start : List Placed) → IsRoundAt self.old.script start t.value (past_of self.old.trace) → IsRoundAt self.old.script start (t.value + 1) (past_of self.new.trace)) }
+        ensures below { OnOk result ((log.new.is_up ≡ log.old.is_up) → AreSettledBelow self.old.script t.value (past_of self.old.trace) → AreSettledBelow self.old.script (t.value + 1) (past_of self.new.trace)) }
     {
         loop {
             if !self.step(log, t, 1)? {
@@ -270,13 +312,16 @@ impl<'a> Run<'a> {
         }
     }
 
-    /// Settles t1, t2 and so on in turn. As long as the log isn't stopped, no step of one makes another's pending: so one round leaves nothing.
+    /// Settles t1, t2 and so on in turn. As long as the log isn't stopped, no step of one makes another's pending: so then one round leaves nothing.
     fn settle_round<D: Disk>(&mut self, log: &mut Log<D>) -> Result<(), WorldError>
-        requires holds { Holds D.honest log.old self.old }
+        requires holds { Holds D.honest D.image log.old self.old }
         ensures log { LogGoes D.faults D.honest D.image log.old log.new }
-        ensures runs { OnOk result (Runs D.faults log.old log.new self.old self.new) }
-        ensures holds { OnOk result (Holds D.honest log.new self.new) }
-        ensures settled { OnOk result (IsQuiet self.new → (start : List Placed) → IsSettledBelow self.old.script start 1 (past_of self.old.trace) → IsSettledBelow self.old.script start (TxNo.MAX + 1) (past_of self.new.trace)) }
+        ensures stays { LogStays D.faults log.old log.new }
+        ensures script { self.new.script ≡ self.old.script }
+        ensures holds { OnOk result (Holds D.honest D.image log.new self.new) }
+        ensures tells { OnOk result ((start : LogState D) → Tells D.faults D.honest start log.old (past_of self.old.trace) → Tells D.faults D.honest start log.new (past_of self.new.trace)) }
+        ensures turns { OnOk result ((start : List Placed) → IsRoundAt self.old.script start 1 (past_of self.old.trace) → IsRoundAt self.old.script start 1 (past_of self.new.trace)) }
+        ensures settled { OnOk result (log.new.is_up ≡ log.old.is_up → AreSettledBelow self.old.script (TxNo.MAX + 1) (past_of self.new.trace)) }
     {
         for n in 1..TxNo::MAX + 1 {
             let t = TxNo::new(n).unwrap();
@@ -285,13 +330,16 @@ impl<'a> Run<'a> {
         Ok(())
     }
 
-    /// Settles all, round after round. A fault that stops the log in a round may leave something to do in those before; once it is stopped, it stops no more.
+    /// Settles all, round after round. A stop of the log in a round may leave something to do in those before; once it is stopped, it stops no more.
     fn settle_all<D: Disk>(&mut self, log: &mut Log<D>) -> Result<(), WorldError>
-        requires holds { Holds D.honest log.old self.old }
+        requires holds { Holds D.honest D.image log.old self.old }
         ensures log { LogGoes D.faults D.honest D.image log.old log.new }
-        ensures runs { OnOk result (Runs D.faults log.old log.new self.old self.new) }
-        ensures holds { OnOk result (Holds D.honest log.new self.new) }
-        ensures settled { OnOk result (IsQuiet self.new → (start : List Placed) → IsSettledBelow self.old.script start 1 (past_of self.old.trace) → IsSettledBelow self.old.script start (TxNo.MAX + 1) (past_of self.new.trace)) }
+        ensures stays { LogStays D.faults log.old log.new }
+        ensures script { self.new.script ≡ self.old.script }
+        ensures holds { OnOk result (Holds D.honest D.image log.new self.new) }
+        ensures tells { OnOk result ((start : LogState D) → Tells D.faults D.honest start log.old (past_of self.old.trace) → Tells D.faults D.honest start log.new (past_of self.new.trace)) }
+        ensures turns { OnOk result ((start : List Placed) → IsRoundAt self.old.script start 1 (past_of self.old.trace) → IsRoundAt self.old.script start 1 (past_of self.new.trace)) }
+        ensures settled { OnOk result (AreSettledBelow self.old.script (TxNo.MAX + 1) (past_of self.new.trace)) }
     {
         let was_up = log.is_up();
         self.settle_round(log)?;
@@ -329,15 +377,16 @@ impl<'a> Run<'a> {
 
     /// Does, as line n, a rollback of each transaction that the last nested close at this actor's context is to roll back, in order.
     fn roll_back<D: Disk>(&mut self, log: &Log<D>, n: u32, actor: ActorNo) -> Result<(), WorldError>
-        requires holds { Holds D.honest log.now self.old }
+        requires holds { Holds D.honest D.image log.now self.old }
         requires below { AreBelow n self.old.worlds }
         requires given { (t : TxNo) (c : Call) (i : ℕ) → slice_get (rollbacks (rolled_at actor self.old.contexts)) i ≡ Some (t, c) → IsCallOf self.old.script t.value n actor c }
         requires once { AreOnce (rolled_at actor self.old.contexts) }
         ensures contexts { self.new.contexts ≡ self.old.contexts }
-        ensures runs { OnOk result (Runs D.faults log.now log.now self.old self.new) }
-        ensures holds { OnOk result (Holds D.honest log.now self.new) }
+        ensures script { self.new.script ≡ self.old.script }
+        ensures holds { OnOk result (Holds D.honest D.image log.now self.new) }
+        ensures tells { OnOk result ((start : LogState D) → Tells D.faults D.honest start log.now (past_of self.old.trace) → Tells D.faults D.honest start log.now (past_of self.new.trace)) }
         ensures entered { OnOk result (AreBelow (n + 1) self.new.worlds) }
-        ensures done { OnOk result (IsQuiet self.new → past_of self.new.trace ≡ after_calls self.old.script n actor (rollbacks (rolled_at actor self.old.contexts)) (past_of self.old.trace)) }
+        ensures done { OnOk result (past_of self.new.trace ≡ after_calls self.old.script n actor (rollbacks (rolled_at actor self.old.contexts)) (past_of self.old.trace)) }
     {
         let place = actor.index();
         for i in 0..self.contexts[place].rolled().len() {
@@ -349,16 +398,17 @@ impl<'a> Run<'a> {
 
     /// Does what line n does as a scope line: what it writes at its actor's context, and then the calls that it gives transactions.
     fn scope<D: Disk>(&mut self, log: &Log<D>, n: u32, l: &Line) -> Result<(), WorldError>
-        requires holds { Holds D.honest log.now self.old }
+        requires holds { Holds D.honest D.image log.now self.old }
         requires below { AreBelow n self.old.worlds }
         requires stands { kth self.old.script n ≡ Some l.now }
         requires open { AreOpen self.old.contexts (lines_before self.old.script n) }
         requires unopened { IsUnopened l.now.body (scopes_at l.now.actor self.old.contexts) }
         requires no_call { call_of self.old.script l.now.body ≡ None }
-        ensures runs { OnOk result (Runs D.faults log.now log.now self.old self.new) }
-        ensures holds { OnOk result (Holds D.honest log.now self.new) }
+        ensures script { self.new.script ≡ self.old.script }
+        ensures holds { OnOk result (Holds D.honest D.image log.now self.new) }
+        ensures tells { OnOk result ((start : LogState D) → Tells D.faults D.honest start log.now (past_of self.old.trace) → Tells D.faults D.honest start log.now (past_of self.new.trace)) }
         ensures entered { OnOk result (AreBelow (n + 1) self.new.worlds) }
-        ensures done { OnOk result (IsQuiet self.new → past_of self.new.trace ≡ after_scope self.old.script n l.now (scopes_at l.now.actor self.old.contexts) (past_of self.old.trace)) }
+        ensures done { OnOk result (past_of self.new.trace ≡ after_scope self.old.script n l.now (scopes_at l.now.actor self.old.contexts) (past_of self.old.trace)) }
         ensures scopes { OnOk result ((before : List Line) → AreOpen self.old.contexts before → AreOpen self.new.contexts (l.now ∷ before)) }
     {
         match self.at_context(n, l)? {
@@ -377,16 +427,17 @@ impl<'a> Run<'a> {
         t: TxNo,
         c: &Call,
     ) -> Result<(), WorldError>
-        requires holds { Holds D.honest log.old self.old }
+        requires holds { Holds D.honest D.image log.old self.old }
         requires below { AreBelow n self.old.worlds }
         requires given { IsCallOf self.old.script t.value n actor c.now }
-        requires entered { is_entered_yet c.now ≡ true }
         ensures contexts { self.new.contexts ≡ self.old.contexts }
         ensures log { LogGoes D.faults D.honest D.image log.old log.new }
-        ensures runs { OnOk result (Runs D.faults log.old log.new self.old self.new) }
-        ensures holds { OnOk result (Holds D.honest log.new self.new) }
+        ensures stays { LogStays D.faults log.old log.new }
+        ensures script { self.new.script ≡ self.old.script }
+        ensures holds { OnOk result (Holds D.honest D.image log.new self.new) }
+        ensures tells { OnOk result ((start : LogState D) → Tells D.faults D.honest start log.old (past_of self.old.trace) → Tells D.faults D.honest start log.new (past_of self.new.trace)) }
         ensures entered { OnOk result (AreBelow (n + 1) self.new.worlds) }
-        ensures done { OnOk result (IsQuiet self.new → CallRan self.old.script actor n (Some (t, c.now)) (past_of self.old.trace) (past_of self.new.trace)) }
+        ensures done { OnOk result (CallRan self.old.script actor n (Some (t, c.now)) (past_of self.old.trace) (past_of self.new.trace)) }
     {
         match *c {
             Call::Do(_, k, times) => {
@@ -401,39 +452,111 @@ impl<'a> Run<'a> {
         }
     }
 
-    /// Does what line n does: its own call, or what it does as a scope line.
+    /// Arms a stop at the log, as line n: at its k-th device call from here on, with this wish for the crash.
+    fn arm<D: Disk>(
+        &mut self,
+        log: &mut Log<D>,
+        n: u32,
+        actor: ActorNo,
+        k: u8,
+        image: Image,
+    ) -> Result<(), AllocError>
+        requires first { 1 ≤ k }
+        requires holds { Holds D.honest D.image log.old self.old }
+        ensures worlds { self.new.worlds ≡ self.old.worlds }
+        ensures contexts { self.new.contexts ≡ self.old.contexts }
+        ensures log { LogGoes D.faults D.honest D.image log.old log.new }
+        ensures life { log.new.life ≡ log.old.life }
+        ensures script { self.new.script ≡ self.old.script }
+        ensures holds { OnOk result (Holds D.honest D.image log.new self.new) }
+        ensures tells { OnOk result ((start : LogState D) → Tells D.faults D.honest start log.old (past_of self.old.trace) → Tells D.faults D.honest start log.new (past_of self.new.trace)) }
+        ensures done { OnOk result (past_of self.new.trace ≡ at_the_log (LogWord (Armed k image)) (at_the_log (Called n actor Fine) (past_of self.old.trace))) }
+    {
+        self.trace.reserve(2)?;
+        self.trace
+            .push_reserved((Place::Log, Entry::Called(n, actor, Answer::Fine)));
+        self.trace
+            .push_reserved((Place::Log, Entry::LogWord(LogNote::Armed(k, image))));
+        log.arm(k, image);
+        Ok(())
+    }
+
+    /// Opens the log again, as line n; a log that runs is stopped first. The call's entry has the answer: ok where it was opened, else the fault.
+    fn restart<D: Disk>(&mut self, log: &mut Log<D>, n: u32, actor: ActorNo) -> Result<(), WorldError>
+        requires holds { Holds D.honest D.image log.old self.old }
+        requires life { log.old.life < 2 ^ 64 - 1 }
+        ensures contexts { self.new.contexts ≡ self.old.contexts }
+        ensures log { LogGoes D.faults D.honest D.image log.old log.new }
+        ensures life { log.new.life ≤ log.old.life + 1 }
+        ensures script { self.new.script ≡ self.old.script }
+        ensures holds { OnOk result (Holds D.honest D.image log.new self.new) }
+        ensures tells { OnOk result ((start : LogState D) → Tells D.faults D.honest start log.old (past_of self.old.trace) → Tells D.faults D.honest start log.new (past_of self.new.trace)) }
+        ensures calls { HaveSameCalls self.old.worlds self.new.worlds }
+        ensures done { OnOk result ((x : Reopening) × (past_of self.new.trace ≡ after_restart n actor x (past_of self.old.trace))) }
+    {
+        self.trace.reserve(3)?;
+        let was_up = log.is_up();
+        let life = log.life();
+        log.halt();
+        let reopened = log.reopen();
+        self.trace
+            .push_reserved((Place::Log, Entry::Called(n, actor, restart_answer(&reopened))));
+        if was_up {
+            self.trace.push_reserved((Place::Log, Entry::Stopped));
+            self.stop_all(life)?;
+        }
+        let Ok(records) = reopened else {
+            return Ok(());
+        };
+        self.trace.reserve(1)?;
+        self.trace
+            .push_reserved((Place::Log, Entry::LogWord(LogNote::Opened(records))));
+        self.restart_all(log)
+    }
+
+    /// Does what line n does: what it does at the log, its own call, or what it does as a scope line.
     fn line<D: Disk>(&mut self, log: &mut Log<D>, n: u32, l: &Line) -> Result<(), WorldError>
-        requires holds { Holds D.honest log.old self.old }
+        requires holds { Holds D.honest D.image log.old self.old }
         requires below { AreBelow n self.old.worlds }
         requires stands { kth self.old.script n ≡ Some l.now }
         requires open { AreOpen self.old.contexts (lines_before self.old.script n) }
         requires unopened { IsUnopened l.now.body (scopes_at l.now.actor self.old.contexts) }
-        requires entered { (t : TxNo) (c : Call) → call_of self.old.script l.now.body ≡ Some (t, c) → is_entered_yet c ≡ true }
+        requires range { is_in_range l.now.body ≡ true }
+        requires life { log.old.life < 2 ^ 64 - 1 }
         ensures log { LogGoes D.faults D.honest D.image log.old log.new }
-        ensures runs { OnOk result (Runs D.faults log.old log.new self.old self.new) }
-        ensures holds { OnOk result (Holds D.honest log.new self.new) }
+        ensures stays { is_log_line l.now.body ≡ false → LogStays D.faults log.old log.new }
+        ensures life { log.new.life ≤ log.old.life + 1 }
+        ensures script { self.new.script ≡ self.old.script }
+        ensures holds { OnOk result (Holds D.honest D.image log.new self.new) }
+        ensures tells { OnOk result ((start : LogState D) → Tells D.faults D.honest start log.old (past_of self.old.trace) → Tells D.faults D.honest start log.new (past_of self.new.trace)) }
         ensures entered { OnOk result (AreBelow (n + 1) self.new.worlds) }
-        ensures done { OnOk result (IsQuiet self.new → CallRan self.old.script l.now.actor n (call_of self.old.script l.now.body) (after_scope self.old.script n l.now (scopes_at l.now.actor self.old.contexts) (past_of self.old.trace)) (past_of self.new.trace)) }
+        ensures done { OnOk result ((before : List Line) → length before + 1 ≡ n → before ≡ lines_before self.old.script n → AreOpen self.old.contexts before → LineRan self.old.script before l.now (past_of self.old.trace) (past_of self.new.trace)) }
         ensures scopes { OnOk result ((before : List Line) → AreOpen self.old.contexts before → AreOpen self.new.contexts (l.now ∷ before)) }
     {
-        match call_of(&self.plans, l.body) {
-            Some((t, c)) => self.own_call(log, n, l.actor, t, &c),
-            None => self.scope(log, n, l),
+        match l.body {
+            Body::Stop(k, image) => Ok(self.arm(log, n, l.actor, k, image)?),
+            Body::Restart => self.restart(log, n, l.actor),
+            _ => match call_of(&self.plans, l.body) {
+                Some((t, c)) => self.own_call(log, n, l.actor, t, &c),
+                None => self.scope(log, n, l),
+            },
         }
     }
 
     /// Runs the lines in order.
     fn lines<D: Disk>(&mut self, log: &mut Log<D>) -> Result<(), WorldError>
-        requires holds { Holds D.honest log.old self.old }
+        requires holds { Holds D.honest D.image log.old self.old }
         requires below { AreBelow 1 self.old.worlds }
         requires start { self.old.trace ≡ [] }
         requires contexts { AreOpen self.old.contexts [] }
         requires script { IsScript self.old.script }
-        requires run { are_run self.old.script ≡ true }
+        requires life { log.old.life ≤ 2 ^ 62 }
         ensures log { LogGoes D.faults D.honest D.image log.old log.new }
-        ensures runs { OnOk result (Runs D.faults log.old log.new self.old self.new) }
-        ensures holds { OnOk result (Holds D.honest log.new self.new) }
-        ensures ran { OnOk result (IsQuiet self.new → LinesRan self.old.script (past_of self.old.script) (past_of self.new.trace)) }
+        ensures stays { has_log_line self.old.script ≡ false → LogStays D.faults log.old log.new }
+        ensures script { self.new.script ≡ self.old.script }
+        ensures holds { OnOk result (Holds D.honest D.image log.new self.new) }
+        ensures tells { OnOk result ((start : LogState D) → Tells D.faults D.honest start log.old (past_of self.old.trace) → Tells D.faults D.honest start log.new (past_of self.new.trace)) }
+        ensures ran { OnOk result (LinesRan self.old.script (past_of self.old.script) (past_of self.new.trace)) }
     {
         let lines = self.plans.lines();
         let mut n = 0;
@@ -450,6 +573,17 @@ impl<'a> Run<'a> {
         ensures numbered { (t : TxNo) → (state_of t self.entry.worlds).transaction ≡ t }
     {
         Trace::new(self.trace)
+    }
+}
+
+/// What a `restart` is answered.
+fn restart_answer(reopened: &Result<u16, LogRefusal>) -> Answer
+    ensures { result ≡ restart_answer reopened.now }
+{
+    match reopened {
+        Ok(_) => Answer::Fine,
+        Err(LogRefusal::NotALog(place)) => Answer::NotALog(*place),
+        Err(_) => Answer::Fault,
     }
 }
 
@@ -479,19 +613,24 @@ fn call_of(plans: &Plans, body: Body) -> Option<(TxNo, Call)>
     }
 }
 
-/// The trace of what the lines do in order, and of the rounds after them. Where a fault of the disk stopped the log, nothing is promised of it.
+/// The trace of what the lines do in order, and of the rounds after them.
 fn trace_of<D: Disk>(alloc: Global, lines: &[Line], log: &mut Log<D>) -> Result<Trace, WorldError>
     requires script { IsScript lines.now }
-    requires run { are_run lines.now ≡ true }
     requires up { IsTrue log.old.is_up }
     requires unarmed { log.old.armed ≡ None }
+    requires life { log.old.life ≤ 2 ^ 62 }
     requires none { IsTrue D.honest → HasNone (open_records log.old.slots) }
     ensures log { LogGoes D.faults D.honest D.image log.old log.new }
-    ensures quiet { IfOk result (λ T. (is_log_quiet (past_of T) ≡ true) ⊎ Rose (D.faults log.old.disk) (D.faults log.new.disk)) }
-    ensures replayed { IfOk result (λ T. is_log_quiet (past_of T) ≡ true → IsReplayed lines.now (past_of T)) }
-    ensures settled { IfOk result (λ T. is_log_quiet (past_of T) ≡ true → (t : TxNo) → Settled lines.now (history t.value (past_of T))) }
-    ensures calm { IfOk result (λ T. is_log_quiet (past_of T) ≡ true → (t : TxNo) → IsToPlan lines.now (history t.value (past_of T)) × (has is_of_stop (history t.value (past_of T)) ≡ false)) }
-    ensures recorded { IsTrue D.honest → IfOk result (λ T. is_log_quiet (past_of T) ≡ true → AreRecorded (past_of T) (open_records log.old.slots) (open_records log.new.slots)) }
+    ensures stays { has_log_line lines.now ≡ false → LogStays D.faults log.old log.new }
+    ensures replayed { IfOk result (λ T. IsReplayed lines.now (past_of T)) }
+    ensures settled { IfOk result (λ T. (t : TxNo) → Settled lines.now (history t.value (past_of T))) }
+    ensures planned { IfOk result (λ T. (t : TxNo) → IsToPlan lines.now (history t.value (past_of T))) }
+    ensures counted { IfOk result (λ T. IsCounted (D.faults log.old.disk) (D.faults log.new.disk) log.new.armed (past_of T)) }
+    ensures opens { IsTrue D.honest → open_records log.old.slots ≡ [] → IfOk result (λ T. open_right [] (past_of T) ≡ true) }
+    ensures unlike { IsTrue D.honest → IfOk result (λ T. has is_no_log_answer (at_log (past_of T)) ≡ false) }
+    ensures tied { IsTrue D.honest → IfOk result (λ T. AreTied T) }
+    ensures up { IfOk result (λ T. log.new.is_up ≡ is_log_up (past_of T)) }
+    ensures ends { IsTrue D.honest → IfOk result (λ T. EndsAs D.image (open_records log.old.slots) log.new (past_of T)) }
 {
     let mut run = Run::new(alloc, lines)?;
     run.lines(log)?;
@@ -499,27 +638,35 @@ fn trace_of<D: Disk>(alloc: Global, lines: &[Line], log: &mut Log<D>) -> Result<
     Ok(run.into_trace())
 }
 
-/// Replays a script: runs its lines in order, and settles its transactions, over a log that is up, on which no stop is armed, and that has no record of the
-/// script's transactions. Where a fault of the disk stopped the log, nothing is promised of the trace.
+/// Replays a script: runs its lines in order, and settles its transactions, over a log that is up, on which no stop is armed, that has no record of the script's transactions, and whose life is at
+/// most 2^62. A stop of the log stands in the trace, and so does a fault of the disk, which stops it.
 ///
 /// # Errors
 ///
 /// [`AllocError`] where memory ran out.
 pub fn run_replay<D: Disk>(alloc: Global, s: &Script, log: &mut Log<D>) -> Result<Trace, AllocError>
     requires script { IsScript s.now }
-    requires run { are_run s.now ≡ true }
     requires up { IsTrue log.old.is_up }
     requires unarmed { log.old.armed ≡ None }
+    requires life { log.old.life ≤ 2 ^ 62 }
     requires none { IsTrue D.honest → HasNone (open_records log.old.slots) }
+
+    // The trace: a run of the script in the order of a replay. On an honest disk each restart in it found what may be found; and so is each trace without a restart. Where that is so, it is a settled history,
+    // with one outcome for each transaction, and complete.
+    ensures replay { IfOk result (λ T. IsRunOf s.now (D.faults log.old.disk) (D.faults log.new.disk) (D.honest && is_empty (open_records log.old.slots)) T) }
+    ensures tied { IsTrue D.honest → IfOk result (λ T. AreTied T) }
+    ensures outcome { IfOk result (λ T. AreTied T → HasOneOutcome T) }
+    ensures complete { IfOk result (λ T. AreTied T → IsComplete s.now T) }
+    ensures waited { IfOk result (λ T. AreTied T → AreWaitsAnswered s.now T) }
+    ensures rights { IfOk result (λ T. AreTied T → HasOneRight T) }
+    ensures appends { IfOk result (λ T. AreTied T → AreAppendsBacked T) }
+
+    // The log.
+    ensures up { IfOk result (λ T. log.new.is_up ≡ is_log_up (past_of T)) }
+    ensures recorded { IsTrue D.honest → IfOk result (λ T. EndsAs D.image (open_records log.old.slots) log.new (past_of T)) }
+    ensures unlike { IsTrue D.honest → IfOk result (λ T. has is_no_log_answer (at_log (past_of T)) ≡ false) }
     ensures log { LogGoes D.faults D.honest D.image log.old log.new }
-    ensures recorded { IsTrue D.honest → MetNoFault D.faults log.old.disk log.new.disk → IfOk result (λ T. AreRecorded (past_of T) (open_records log.old.slots) (open_records log.new.slots)) }
-    ensures history { MetNoFault D.faults log.old.disk log.new.disk → IfOk result (λ T. IsHistory s.now 0 (D.faults log.new.disk - D.faults log.old.disk) T) }
-    ensures replay { MetNoFault D.faults log.old.disk log.new.disk → IfOk result (λ T. IsReplay s.now (D.faults log.new.disk - D.faults log.old.disk) D.honest T) }
-    ensures outcome { MetNoFault D.faults log.old.disk log.new.disk → IfOk result (λ T. HasOneOutcome T) }
-    ensures complete { MetNoFault D.faults log.old.disk log.new.disk → IfOk result (λ T. IsComplete s.now T) }
-    ensures waited { MetNoFault D.faults log.old.disk log.new.disk → IfOk result (λ T. AreWaitsAnswered s.now T) }
-    ensures rights { MetNoFault D.faults log.old.disk log.new.disk → IfOk result (λ T. HasOneRight T) }
-    ensures appends { MetNoFault D.faults log.old.disk log.new.disk → IfOk result (λ T. AreAppendsBacked T) }
+    ensures stays { has_log_line s.now ≡ false → LogStays D.faults log.old log.new }
 {
     // These calls do nothing when they run: their bodies are empty. Each brings its law into this proof, from which the clauses follow.
     one_outcome();
