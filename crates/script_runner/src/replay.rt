@@ -157,7 +157,7 @@ impl<'a> Run<'a> {
         ensures contexts { self.new.contexts ≡ self.old.contexts }
         ensures script { self.new.script ≡ self.old.script }
         ensures holds { OnOk result (Holds D.honest D.image log.now self.new) }
-        ensures tells { OnOk result ((start : LogState D) → Tells D.faults D.honest start log.now (past_of self.old.trace) → Tells D.faults D.honest start log.now (past_of self.new.trace)) }
+        ensures tells { OnOk result ((start : LogState D) → Tells D.faults D.honest D.image start log.now (past_of self.old.trace) → Tells D.faults D.honest D.image start log.now (past_of self.new.trace)) }
         ensures others { (u : TxNo) → u ≢ t → state_of u self.new.worlds ≡ state_of u self.old.worlds }
         ensures entered { OnOk result (IsBelow (n + 1) (state_of t self.new.worlds)) }
         ensures done { OnOk result (past_of self.new.trace ≡ after_turn self.old.script t (Calls n actor c.now done) (past_of self.old.trace)) }
@@ -230,7 +230,7 @@ impl<'a> Run<'a> {
         ensures stays { LogStays D.faults log.old log.new }
         ensures script { self.new.script ≡ self.old.script }
         ensures holds { OnOk result (Holds D.honest D.image log.new self.new) }
-        ensures tells { OnOk result ((start : LogState D) → Tells D.faults D.honest start log.old (past_of self.old.trace) → Tells D.faults D.honest start log.new (past_of self.new.trace)) }
+        ensures tells { OnOk result ((start : LogState D) → Tells D.faults D.honest D.image start log.old (past_of self.old.trace) → Tells D.faults D.honest D.image start log.new (past_of self.new.trace)) }
         ensures calls { HaveSameCalls self.old.worlds self.new.worlds }
         ensures stepped { result ≡ Ok true → (m : ℕ) (start : World) → HasStepped t.value k m start (state_of t self.old.worlds).world → HasStepped t.value k (suc m) start (state_of t self.new.worlds).world }
         ensures some { result ≡ Ok true → Advances self.old.script t k self.old.trace self.new.trace }
@@ -277,7 +277,7 @@ impl<'a> Run<'a> {
         ensures stays { LogStays D.faults log.old log.new }
         ensures script { self.new.script ≡ self.old.script }
         ensures holds { OnOk result (Holds D.honest D.image log.new self.new) }
-        ensures tells { OnOk result ((start : LogState D) → Tells D.faults D.honest start log.old (past_of self.old.trace) → Tells D.faults D.honest start log.new (past_of self.new.trace)) }
+        ensures tells { OnOk result ((start : LogState D) → Tells D.faults D.honest D.image start log.old (past_of self.old.trace) → Tells D.faults D.honest D.image start log.new (past_of self.new.trace)) }
         ensures calls { HaveSameCalls self.old.worlds self.new.worlds }
         ensures did { IfOk result (λ m. HasDone t.value (state_of t self.new.worlds).world k n m) }
         ensures done { IfOk result (λ m. HasDoneAt self.old.script t k n m (past_of self.old.trace) (past_of self.new.trace)) }
@@ -298,7 +298,7 @@ impl<'a> Run<'a> {
         ensures stays { LogStays D.faults log.old log.new }
         ensures script { self.new.script ≡ self.old.script }
         ensures holds { OnOk result (Holds D.honest D.image log.new self.new) }
-        ensures tells { OnOk result ((start : LogState D) → Tells D.faults D.honest start log.old (past_of self.old.trace) → Tells D.faults D.honest start log.new (past_of self.new.trace)) }
+        ensures tells { OnOk result ((start : LogState D) → Tells D.faults D.honest D.image start log.old (past_of self.old.trace) → Tells D.faults D.honest D.image start log.new (past_of self.new.trace)) }
         ensures calls { HaveSameCalls self.old.worlds self.new.worlds }
         ensures settled { OnOk result (pending (state_of t self.new.worlds).world ≡ []) }
         ensures done { OnOk result (Settles self.old.script t self.old.trace self.new.trace) }
@@ -319,7 +319,7 @@ impl<'a> Run<'a> {
         ensures stays { LogStays D.faults log.old log.new }
         ensures script { self.new.script ≡ self.old.script }
         ensures holds { OnOk result (Holds D.honest D.image log.new self.new) }
-        ensures tells { OnOk result ((start : LogState D) → Tells D.faults D.honest start log.old (past_of self.old.trace) → Tells D.faults D.honest start log.new (past_of self.new.trace)) }
+        ensures tells { OnOk result ((start : LogState D) → Tells D.faults D.honest D.image start log.old (past_of self.old.trace) → Tells D.faults D.honest D.image start log.new (past_of self.new.trace)) }
         ensures turns { OnOk result ((start : List Placed) → IsRoundAt self.old.script start 1 (past_of self.old.trace) → IsRoundAt self.old.script start 1 (past_of self.new.trace)) }
         ensures settled { OnOk result (log.new.is_up ≡ log.old.is_up → AreSettledBelow self.old.script (TxNo.MAX + 1) (past_of self.new.trace)) }
     {
@@ -337,7 +337,7 @@ impl<'a> Run<'a> {
         ensures stays { LogStays D.faults log.old log.new }
         ensures script { self.new.script ≡ self.old.script }
         ensures holds { OnOk result (Holds D.honest D.image log.new self.new) }
-        ensures tells { OnOk result ((start : LogState D) → Tells D.faults D.honest start log.old (past_of self.old.trace) → Tells D.faults D.honest start log.new (past_of self.new.trace)) }
+        ensures tells { OnOk result ((start : LogState D) → Tells D.faults D.honest D.image start log.old (past_of self.old.trace) → Tells D.faults D.honest D.image start log.new (past_of self.new.trace)) }
         ensures turns { OnOk result ((start : List Placed) → IsRoundAt self.old.script start 1 (past_of self.old.trace) → IsRoundAt self.old.script start 1 (past_of self.new.trace)) }
         ensures settled { OnOk result (AreSettledBelow self.old.script (TxNo.MAX + 1) (past_of self.new.trace)) }
     {
@@ -384,7 +384,7 @@ impl<'a> Run<'a> {
         ensures contexts { self.new.contexts ≡ self.old.contexts }
         ensures script { self.new.script ≡ self.old.script }
         ensures holds { OnOk result (Holds D.honest D.image log.now self.new) }
-        ensures tells { OnOk result ((start : LogState D) → Tells D.faults D.honest start log.now (past_of self.old.trace) → Tells D.faults D.honest start log.now (past_of self.new.trace)) }
+        ensures tells { OnOk result ((start : LogState D) → Tells D.faults D.honest D.image start log.now (past_of self.old.trace) → Tells D.faults D.honest D.image start log.now (past_of self.new.trace)) }
         ensures entered { OnOk result (AreBelow (n + 1) self.new.worlds) }
         ensures done { OnOk result (past_of self.new.trace ≡ after_calls self.old.script n actor (rollbacks (rolled_at actor self.old.contexts)) (past_of self.old.trace)) }
     {
@@ -406,7 +406,7 @@ impl<'a> Run<'a> {
         requires no_call { call_of self.old.script l.now.body ≡ None }
         ensures script { self.new.script ≡ self.old.script }
         ensures holds { OnOk result (Holds D.honest D.image log.now self.new) }
-        ensures tells { OnOk result ((start : LogState D) → Tells D.faults D.honest start log.now (past_of self.old.trace) → Tells D.faults D.honest start log.now (past_of self.new.trace)) }
+        ensures tells { OnOk result ((start : LogState D) → Tells D.faults D.honest D.image start log.now (past_of self.old.trace) → Tells D.faults D.honest D.image start log.now (past_of self.new.trace)) }
         ensures entered { OnOk result (AreBelow (n + 1) self.new.worlds) }
         ensures done { OnOk result (past_of self.new.trace ≡ after_scope self.old.script n l.now (scopes_at l.now.actor self.old.contexts) (past_of self.old.trace)) }
         ensures scopes { OnOk result ((before : List Line) → AreOpen self.old.contexts before → AreOpen self.new.contexts (l.now ∷ before)) }
@@ -435,7 +435,7 @@ impl<'a> Run<'a> {
         ensures stays { LogStays D.faults log.old log.new }
         ensures script { self.new.script ≡ self.old.script }
         ensures holds { OnOk result (Holds D.honest D.image log.new self.new) }
-        ensures tells { OnOk result ((start : LogState D) → Tells D.faults D.honest start log.old (past_of self.old.trace) → Tells D.faults D.honest start log.new (past_of self.new.trace)) }
+        ensures tells { OnOk result ((start : LogState D) → Tells D.faults D.honest D.image start log.old (past_of self.old.trace) → Tells D.faults D.honest D.image start log.new (past_of self.new.trace)) }
         ensures entered { OnOk result (AreBelow (n + 1) self.new.worlds) }
         ensures done { OnOk result (CallRan self.old.script actor n (Some (t, c.now)) (past_of self.old.trace) (past_of self.new.trace)) }
     {
@@ -469,7 +469,7 @@ impl<'a> Run<'a> {
         ensures life { log.new.life ≡ log.old.life }
         ensures script { self.new.script ≡ self.old.script }
         ensures holds { OnOk result (Holds D.honest D.image log.new self.new) }
-        ensures tells { OnOk result ((start : LogState D) → Tells D.faults D.honest start log.old (past_of self.old.trace) → Tells D.faults D.honest start log.new (past_of self.new.trace)) }
+        ensures tells { OnOk result ((start : LogState D) → Tells D.faults D.honest D.image start log.old (past_of self.old.trace) → Tells D.faults D.honest D.image start log.new (past_of self.new.trace)) }
         ensures done { OnOk result (past_of self.new.trace ≡ at_the_log (LogWord (Armed k image)) (at_the_log (Called n actor Fine) (past_of self.old.trace))) }
     {
         self.trace.reserve(2)?;
@@ -490,7 +490,7 @@ impl<'a> Run<'a> {
         ensures life { log.new.life ≤ log.old.life + 1 }
         ensures script { self.new.script ≡ self.old.script }
         ensures holds { OnOk result (Holds D.honest D.image log.new self.new) }
-        ensures tells { OnOk result ((start : LogState D) → Tells D.faults D.honest start log.old (past_of self.old.trace) → Tells D.faults D.honest start log.new (past_of self.new.trace)) }
+        ensures tells { OnOk result ((start : LogState D) → Tells D.faults D.honest D.image start log.old (past_of self.old.trace) → Tells D.faults D.honest D.image start log.new (past_of self.new.trace)) }
         ensures calls { HaveSameCalls self.old.worlds self.new.worlds }
         ensures done { OnOk result ((x : Reopening) × (past_of self.new.trace ≡ after_restart n actor x (past_of self.old.trace))) }
     {
@@ -528,7 +528,7 @@ impl<'a> Run<'a> {
         ensures life { log.new.life ≤ log.old.life + 1 }
         ensures script { self.new.script ≡ self.old.script }
         ensures holds { OnOk result (Holds D.honest D.image log.new self.new) }
-        ensures tells { OnOk result ((start : LogState D) → Tells D.faults D.honest start log.old (past_of self.old.trace) → Tells D.faults D.honest start log.new (past_of self.new.trace)) }
+        ensures tells { OnOk result ((start : LogState D) → Tells D.faults D.honest D.image start log.old (past_of self.old.trace) → Tells D.faults D.honest D.image start log.new (past_of self.new.trace)) }
         ensures entered { OnOk result (AreBelow (n + 1) self.new.worlds) }
         ensures done { OnOk result ((before : List Line) → length before + 1 ≡ n → before ≡ lines_before self.old.script n → AreOpen self.old.contexts before → LineRan self.old.script before l.now (past_of self.old.trace) (past_of self.new.trace)) }
         ensures scopes { OnOk result ((before : List Line) → AreOpen self.old.contexts before → AreOpen self.new.contexts (l.now ∷ before)) }
@@ -555,7 +555,7 @@ impl<'a> Run<'a> {
         ensures stays { has_log_line self.old.script ≡ false → LogStays D.faults log.old log.new }
         ensures script { self.new.script ≡ self.old.script }
         ensures holds { OnOk result (Holds D.honest D.image log.new self.new) }
-        ensures tells { OnOk result ((start : LogState D) → Tells D.faults D.honest start log.old (past_of self.old.trace) → Tells D.faults D.honest start log.new (past_of self.new.trace)) }
+        ensures tells { OnOk result ((start : LogState D) → Tells D.faults D.honest D.image start log.old (past_of self.old.trace) → Tells D.faults D.honest D.image start log.new (past_of self.new.trace)) }
         ensures ran { OnOk result (LinesRan self.old.script (past_of self.old.script) (past_of self.new.trace)) }
     {
         let lines = self.plans.lines();
