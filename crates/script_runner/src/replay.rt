@@ -632,9 +632,12 @@ fn trace_of<D: Disk>(alloc: Global, lines: &[Line], log: &mut Log<D>) -> Result<
     ensures up { IfOk result (λ T. log.new.is_up ≡ is_log_up (past_of T)) }
     ensures ends { IsTrue D.honest → IfOk result (λ T. EndsAs D.image (open_records log.old.slots) log.new (past_of T)) }
 {
+    // A proof sees here, and at the end, that each image has the records of a log that is up.
+    let _ = log.is_up();
     let mut run = Run::new(alloc, lines)?;
     run.lines(log)?;
     run.settle_all(log)?;
+    let _ = log.is_up();
     Ok(run.into_trace())
 }
 
