@@ -234,6 +234,7 @@ impl<'a> Run<'a> {
         ensures calls { HaveSameCalls self.old.worlds self.new.worlds }
         ensures stepped { result ≡ Ok true → (m : ℕ) (start : World) → HasStepped t.value k m start (state_of t self.old.worlds).world → HasStepped t.value k (suc m) start (state_of t self.new.worlds).world }
         ensures some { result ≡ Ok true → Advances self.old.script t k self.old.trace self.new.trace }
+        ensures apart { result ≡ Ok true → log.new.is_up ≡ log.old.is_up → (u : TxNo) → u ≢ t → history u.value (past_of self.new.trace) ≡ history u.value (past_of self.old.trace) }
         ensures nearer { result ≡ Ok true → steps_left (state_of t self.new.worlds).world < steps_left (state_of t self.old.worlds).world }
         ensures none { result ≡ Ok false → kth (pending (state_of t self.old.worlds).world) k ≡ None }
         ensures none_here { result ≡ Ok false → kth (pending (world_at self.old.script t (past_of self.old.trace))) k ≡ None }
