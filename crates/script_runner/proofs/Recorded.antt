@@ -8,13 +8,13 @@ use Rattle.dtx_values.specs.declared.number.TxNo.{TxNo}
 use Rattle.dtx_values.specs.declared.script.Line.{Line}
 use Rattle.dtx_model.specs.Words.{has, kth, latest, past_of}
 use Rattle.dtx_model.specs.AtLog.{is_known}
-use Rattle.dtx_model.specs.Coordinated.{coordinate, is_active, is_recorded}
+use Rattle.dtx_model.specs.Coordinated.{coordinate, is_recorded}
 use Rattle.dtx_model.specs.Log.{CommitRecord, first_of, is_record_of, log_has}
 use Rattle.dtx_model.specs.Promotes.{identifier_of}
 use Rattle.dtx_model.specs.Tied.{before_first_stop, before_last_stop, can_free, can_log, has_mark, is_tied, is_unmarked, mark_of, tied as is_tied_history}
 use Rattle.dtx_model.specs.Traces.{Placed, history}
 use Rattle.dtx_model.specs.World.{World, core}
-use Rattle.dtx_model.specs.Caused.{IsIn, IsOwnRun, is_begin_sent}
+use Rattle.dtx_model.specs.Caused.{is_begin_sent}
 use Rattle.dtx_model.specs.declared.waiting.EnteredCall.{EnteredCall}
 use Rattle.dtx_model.proofs.Bools.{not_both, or_left, or_right}
 use Rattle.coordinator_log.specs.Crash.{AllHold}
@@ -25,7 +25,7 @@ use Rattle.scope_context.specs.Standing.{Standing}
 use Rattle.tx_world.specs.AtLog.{AreLogs, AtMostOne, Fits, IsHad, IsOurs, id_of}
 use Rattle.tx_world.specs.State.{TxState}
 use Rattle.tx_world.specs.Tried.{IsTried}
-use Rattle.tx_world.proofs.Begun.{ran_begun}
+use Rattle.tx_world.proofs.Begun.{recorded_begun}
 use Rattle.tx_world.proofs.Fitting.{none_found, one_found}
 use Rattle.tx_world.proofs.Records.{one_where_none}
 use Rattle.script_runner.specs.Ending.{AreRecorded, EachHolds, EndsAs, HasNone, MayBeRecorded, records_of}
@@ -112,8 +112,7 @@ unknown_none x rs kept runs unbegun fits = none_first (id_of x) rs (none_found (
     none (Some r) e =
         let recorded : is_recorded (core x.world).stage ≡ true = sym (kept.ours.recorded runs) ∙ ap (λ (o : Option CommitRecord). is_some o) e in
         absurd (not_both (has is_begin_sent x.world.past)
-        (ran_begun (IsIn x.world.calls) x.transaction.value kept.own.0 x.world kept.own.1
-        (or_left (is_active (core x.world).stage || is_recorded (core x.world).stage) (core x.world).stopped (or_right (is_active (core x.world).stage) (is_recorded (core x.world).stage) recorded))) unbegun)
+        (recorded_begun x.transaction.value x.world kept.own recorded) unbegun)
 
 -- a coordinator runs while the log is up, and before BEGIN
 runs_up : {D : Type 0} (log : LogState D) (x : TxState) → GoesWith log x → IsTrue log.is_up → (core x.world).stopped ≡ false

@@ -202,6 +202,12 @@ ran_begun G t (m ∷ ms) w r = subst IsBegun (sym r.3) (step_begun G t r.0 m r.2
 pub stopped_begun : (t : ℕ) (w : World) → IsOwnRun t w → (core w).stopped ≡ true → has is_begin_sent w.past ≡ true
 stopped_begun t w r s = ran_begun (IsIn w.calls) t r.0 w r.1 (or_right (is_active (core w).stage || is_recorded (core w).stage) (core w).stopped s)
 
+-- and has a record only there
+pub recorded_begun : (t : ℕ) (w : World) → IsOwnRun t w → is_recorded (core w).stage ≡ true → has is_begin_sent w.past ≡ true
+recorded_begun t w r s =
+    ran_begun (IsIn w.calls) t r.0 w r.1
+    (or_left (is_active (core w).stage || is_recorded (core w).stage) (core w).stopped (or_right (is_active (core w).stage) (is_recorded (core w).stage) s))
+
 -- BEGIN opens b, and b is opened once
 begin_opens : (x : Entry) → is_begin_sent x ≡ true → opens Begin x ≡ true
 begin_opens (Sent Begin Up BeginBegin) s = refl
