@@ -210,4 +210,5 @@ tells_at_start faults honest image log unarmed held =
       };
       foreign = λ h. record { up = λ u id n. refl; imaged = in_each {A = ℕ} {P = AreForeignSame (open_records log.slots)} (image log.disk) (open_records log.slots) (held h) (λ id n. refl) };
       opens = λ h e. refl;
+      unlike = λ h. refl;
     }
