@@ -9,7 +9,7 @@ use Rattle.dtx_model.specs.Words.{each, has, onto}
 use Rattle.dtx_model.specs.Wires.{is_stopped}
 use Rattle.dtx_model.specs.Coordinated.{Coordinated, coordinate, is_active, is_ready, is_recorded, may_free, may_log}
 use Rattle.dtx_model.specs.World.{World, core}
-use Rattle.dtx_model.specs.Steps.{LogAnswer, Done, Full, StoppedNow, StoppedBefore, Step, Calls, Replies, Acts, Coordinates, Delivers, Stops, Restarts, StepName, ReplyOf, LocalAct, CoordinatorAct, Delivery, after, appended, block_at, coordinates, freed}
+use Rattle.dtx_model.specs.Steps.{LogAnswer, Done, Full, StoppedNow, StoppedBefore, Step, Calls, Replies, Acts, Coordinates, Delivers, Stops, Restarts, StepName, ReplyOf, LocalAct, CoordinatorAct, Delivery, after, appended, block_at, coordinates, freed, restarted}
 use Rattle.dtx_model.specs.Caused.{IsNamed, is_begin_sent, is_full_answer, may_coordinate}
 use Rattle.dtx_model.specs.Replay.{is_in_replay}
 use Rattle.dtx_model.proofs.Bools.{and_left, and_right, not_both, or_case}
@@ -42,6 +42,15 @@ steady_core t w m k = stopped_same (onto w.past (block_at t w m)) ∙ (steady_on
 pub stops_core : (t : ℕ) (w : World) → (core (after t w Stops)).stopped ≡ true
 unfolding after block_at
 stops_core t w = stopped_same (Stopped ∷ w.past)
+
+-- and runs after a restart
+pub restarts_core : (t : ℕ) (w : World) (found : Bool) → (core (after t w (Restarts found))).stopped ≡ false
+unfolding after block_at
+restarts_core t w found = by (core w).stopped
+  where
+    by : (b : Bool) → (coordinate (onto w.past (restarted b found))).stopped ≡ false
+    by true = stopped_same (Restarted found ∷ w.past)
+    by false = stopped_same (Restarted found ∷ Stopped ∷ w.past)
 
 -- The act of a coordinator that isn't answered is that of one that isn't stopped.
 not_true : (b : Bool) → not b ≡ true → b ≡ false
