@@ -23,7 +23,7 @@ use Rattle.scope_context.specs.Standing.{Standing}
 use Rattle.tx_world.specs.AtLog.{AreFit, Fits, IsHad, IsOurs, id_of}
 use Rattle.tx_world.specs.State.{TxState, is_hit_by, is_reached_by}
 use Rattle.tx_world.specs.Tried.{IsTried}
-use Rattle.script_runner.specs.LogRun.{IsCounted, IsForeignKept}
+use Rattle.script_runner.specs.LogRun.{IsCounted, IsForeignKept, is_no_log_answer}
 
 -- its script, the transactions by number up to the last that was called, the contexts of its actors, and its trace
 pub record RunState : Type 0 where
@@ -83,12 +83,13 @@ pub record Holds {D : Type 0} (honest : Bool) (image : D → List ℕ → Type 0
   pub fits : IsTrue honest → (t : TxNo) → FitsLog image log (state_of t r.worlds)
   pub sound : IsTrue honest → (t : TxNo) → is_tied_history (state_of t r.worlds).world.past ≡ true
 
--- What the trace T tells of the log, where `start` is the log before the first step: the faults and the armed stop; and where the log is honest the records that are no transaction's stay, and, if it had no record, each opening
--- found as many records as its step says.
+-- What the trace T tells of the log, where `start` is the log before the first step: the faults and the armed stop; and where the log is honest the records that are no transaction's stay, if it had no record, each opening
+-- found as many records as its step says; and each restart found a log.
 pub record Tells {D : Type 0} (faults : D → ℕ) (honest : Bool) (image : D → List ℕ → Type 0) (start log : LogState D) (T : List Placed) : Type 0 where
   pub counted : IsCounted (faults start.disk) (faults log.disk) log.armed T
   pub foreign : IsTrue honest → IsForeignKept image (open_records start.slots) log
   pub opens : IsTrue honest → open_records start.slots ≡ [] → open_right [] T ≡ true
+  pub unlike : IsTrue honest → has is_no_log_answer (at_log T) ≡ false
 
 -- each call that was entered is one of a line before this one
 abbrev pub IsBelow : ℕ → TxState → Type 0
