@@ -63,9 +63,9 @@ pub own_identifier : (u t : TxNo) → u ≢ t → identifier_of u.value ≢ iden
 own_identifier u t n = λ e. n (same_transaction u t (omega (arith, e)))
 
 -- What is so of one result of a log is so of what follows from it.
-pub ok_more : {A E : Type 0} {P Q : A → Type 0} (r : Result A E) → ((x : A) → P x → Q x) → IfOk r P → IfOk r Q
-ok_more (Ok x) f k = f x k
-ok_more (Err e) f k = tt
+pub ok_more : {A E : Type 0} (P Q : A → Type 0) (r : Result A E) → ((x : A) → P x → Q x) → IfOk r P → IfOk r Q
+ok_more P Q (Ok x) f k = f x k
+ok_more P Q (Err e) f k = tt
 
 -- the other transactions have other identifiers
 apart : (ws : List TxState) (t u : TxNo) → AreNumbered ws → u ≢ t → id_of (state_of u ws) ≢ id_of (state_of t ws)
@@ -86,7 +86,7 @@ other_fits {D} image z x y from to apart keeps still quiet f = by (cases_Bool fr
           fits = λ u. same (open_records from.slots) (open_records to.slots) keeps.others here;
           imaged = λ c i. elim (keeps.others_imaged c i) [
             | inl old ↦ f.imaged c old
-            | inr o ↦ ok_more {P = λ rs. of_others (id_of x) rs ≡ of_others (id_of x) (open_records from.slots)} {Q = Fits z} (log_has c) (λ rs e. same (open_records from.slots) rs e here) o
+            | inr o ↦ ok_more (λ rs. of_others (id_of x) rs ≡ of_others (id_of x) (open_records from.slots)) (Fits z) (log_has c) (λ rs e. same (open_records from.slots) rs e here) o
           ];
         }
     by (inr down) = subst (λ (l : LogState D). FitsLog image l z) (sym (quiet down)) f
@@ -132,21 +132,21 @@ pub fits_as : {D : Type 0} (image : D → List ℕ → Type 0) (log : LogState D
 fits_as image log x y number ours unsure f =
     record {
       fits = λ up. fits_by y x (open_records log.slots) number ours unsure (f.fits up);
-      imaged = λ c i. ok_more {P = Fits x} {Q = Fits y} (log_has c) (λ rs. fits_by y x rs number ours unsure) (f.imaged c i);
+      imaged = λ c i. ok_more (Fits x) (Fits y) (log_has c) (λ rs. fits_by y x rs number ours unsure) (f.imaged c i);
     }
 
 pub had_as : {D : Type 0} (log : LogState D) (x y : TxState) → y.transaction ≡ x.transaction → y.ours ≡ x.ours → IsHad x log → IsHad y log
 had_as log x y number ours had = λ up some none. had up (subst (λ (o : Option CommitRecord). is_some o ≡ true) ours some) (subst (λ (v : TxNo). first_of (identifier_of v.value) (open_records log.slots) ≡ None) number none)
 
 -- An opening of the log finds the records of one of the images before it: so they fit each transaction, in memory and in each image.
-found_fit : {P : List CommitRecord → Type 0} (r : Result (List CommitRecord) ℕ) (rs : List CommitRecord) → r ≡ Ok rs → IfOk r P → P rs
-found_fit (Ok qs) rs e k = let same : qs ≡ rs = cc in subst _ same k
-found_fit (Err p) rs e k = absurd cc
+pub found_fit : (P : List CommitRecord → Type 0) (r : Result (List CommitRecord) ℕ) (rs : List CommitRecord) → r ≡ Ok rs → IfOk r P → P rs
+found_fit P (Ok qs) rs e k = let same : qs ≡ rs = cc in subst P same k
+found_fit P (Err p) rs e k = absurd cc
 
 pub fits_opened : {D : Type 0} (image : D → List ℕ → Type 0) (seen : D → List ℕ) (from to : LogState D) (x : TxState) → image from.disk (seen from.disk) → IsOpened seen from.disk to → AreWithin (image from.disk) (image to.disk) → FitsLog image from x
     → FitsLog image to x
 fits_opened image seen from to x among opened within f =
-    record { fits = λ up. found_fit {P = Fits x} (log_has (seen from.disk)) (open_records to.slots) opened (f.imaged (seen from.disk) among); imaged = λ c i. f.imaged c (within c i) }
+    record { fits = λ up. found_fit (Fits x) (log_has (seen from.disk)) (open_records to.slots) opened (f.imaged (seen from.disk) among); imaged = λ c i. f.imaged c (within c i) }
 
 -- What a step leaves of the records that are no transaction's,
 foreign_same : (x : TxState) (before rs qs : List CommitRecord) → of_others (id_of x) qs ≡ of_others (id_of x) rs → AreForeignSame before rs → AreForeignSame before qs
@@ -163,7 +163,7 @@ foreign_turn {D} image x y from to before keeps still quiet f = by (cases_Bool f
           up = λ u. foreign_same x before (open_records from.slots) (open_records to.slots) keeps.others here;
           imaged = λ c i. elim (keeps.others_imaged c i) [
             | inl old ↦ f.imaged c old
-            | inr o ↦ ok_more {P = λ rs. of_others (id_of x) rs ≡ of_others (id_of x) (open_records from.slots)} {Q = AreForeignSame before} (log_has c) (λ rs e. foreign_same x before (open_records from.slots) rs e here) o
+            | inr o ↦ ok_more (λ rs. of_others (id_of x) rs ≡ of_others (id_of x) (open_records from.slots)) (AreForeignSame before) (log_has c) (λ rs e. foreign_same x before (open_records from.slots) rs e here) o
           ];
         }
     by (inr down) = subst (λ (l : LogState D). IsForeignKept image before l) (sym (quiet down)) f
@@ -182,7 +182,7 @@ goes_opened faults honest image seen from to grows within found =
       grows = grows;
       logs = λ h are c i. are c (within h c i);
       foreign = λ h before f. record {
-        up = λ up. let there = found h up in found_fit {P = AreForeignSame before} (log_has (seen from.disk)) (open_records to.slots) there.1 (f.imaged (seen from.disk) there.0);
+        up = λ up. let there = found h up in found_fit (AreForeignSame before) (log_has (seen from.disk)) (open_records to.slots) there.1 (f.imaged (seen from.disk) there.0);
         imaged = λ c i. f.imaged c (within h c i);
       };
     }

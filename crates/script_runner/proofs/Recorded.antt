@@ -1,7 +1,7 @@
 -- The log at the start and at the end of a run: before the first step it fits each transaction, and at the end its records are those that the trace says.
 use Rattle.std.proofs.Common.{◌≡◌, ◌≤◌, ◌∙◌, ℕ, zero, suc, Bool, true, false, ◌&&◌, ◌||◌, not, List, [], ◌∷◌, Option, Some, None, arith, refl, sym, ap, subst, inl, inr}
 use Rattle.std.specs.Prelude.{IsTrue, IfOk, Ok, filter, is_some, length, if◌then◌else◌}
-use Rattle.std.proofs.lemmas.Bool.{cases_Bool, false_from_ne_true}
+use Rattle.std.proofs.lemmas.Bool.{false_from_ne_true, or_left}
 use Rattle.dtx_values.specs.declared.entry.Entry.{Entry}
 use Rattle.dtx_values.specs.declared.entry.Entry.TheVariants.{Restarted}
 use Rattle.dtx_values.specs.declared.number.TxNo.{TxNo}
@@ -16,7 +16,7 @@ use Rattle.dtx_model.specs.Traces.{Placed, history}
 use Rattle.dtx_model.specs.World.{World, core}
 use Rattle.dtx_model.specs.Caused.{is_begin_sent}
 use Rattle.dtx_model.specs.declared.waiting.EnteredCall.{EnteredCall}
-use Rattle.dtx_model.proofs.Bools.{not_both, or_left, or_right}
+use Rattle.dtx_model.proofs.Bools.{not_both}
 use Rattle.coordinator_log.specs.Crash.{AllHold}
 use Rattle.coordinator_log.specs.Slots.{open_records}
 use Rattle.coordinator_log.specs.State.{LogState}
@@ -135,12 +135,12 @@ ends_as {D} faults image start log r T same numbered holds foreign logs held =
         recorded = λ t. let x = state_of t r.worlds in recorded_there t (past_of r.trace) x (open_records log.slots) (numbered t) (holds.tied t).past (holds.kept t) (runs_up log x (holds.goes t) up) ((holds.fits refl t).fits up);
         others = foreign.up up;
       });
-      stopped = λ c i. let l = logs c i in (l.0, (l.1, may_be c i l.0 l.1));
+      stopped = λ c i. let l = logs c i in (l.0, l.1, may_be c i l.0 l.1);
     })
   where
     may_be : (c : List ℕ) → image log.disk c → (rs : List CommitRecord) → log_has c ≡ Ok rs → MayBeRecorded (past_of r.trace) (open_records start.slots) rs
     may_be c i rs e =
-        let fits : (t : TxNo) → Fits (state_of t r.worlds) rs = λ t. found_fit {P = Fits (state_of t r.worlds)} (log_has c) rs e ((holds.fits refl t).imaged c i) in
+        let fits : (t : TxNo) → Fits (state_of t r.worlds) rs = λ t. found_fit (Fits (state_of t r.worlds)) (log_has c) rs e ((holds.fits refl t).imaged c i) in
         let named : (t : TxNo) → id_of (state_of t r.worlds) ≡ identifier_of t.value = λ t. ap (λ (u : TxNo). identifier_of u.value) (numbered t) in
         record {
           one = λ t. subst (λ id. length (filter (is_record_of id) rs) ≤ 1) (named t) (fits t).one;
@@ -150,7 +150,7 @@ ends_as {D} faults image start log r T same numbered holds foreign logs held =
           found = λ t. let x = state_of t r.worlds in
               subst (λ (h : List Entry). is_tied h (Restarted (has (is_record_of (identifier_of t.value)) rs)) ≡ true) (holds.tied t).past
               (subst (λ id. is_tied x.world.past (Restarted (has (is_record_of id) rs)) ≡ true) (named t) (found_tied x rs ((holds.kept t).tried (holds.sound refl t)) (fits t)));
-          others = found_fit {P = AreForeignSame (open_records start.slots)} (log_has c) rs e (foreign.imaged c i);
+          others = found_fit (AreForeignSame (open_records start.slots)) (log_has c) rs e (foreign.imaged c i);
         }
 
 -- Before the first step: nothing is called,
@@ -165,7 +165,7 @@ tied_at_start s t = record { past = refl; given = λ n a c k. absurd (none_in k.
 kept_at_start : (t : TxNo) → IsRecordKept (untouched t)
 kept_at_start t =
     record {
-      own = ([], refl);
+      own = ([], (refl, refl));
       ours = record { sure = λ s. refl; recorded = λ s. sym (recorded_mark []); named = tt };
       tried = λ k. record { tried = λ o. absurd cc; kept = λ m. absurd cc; unsure = λ u. absurd cc };
     }
@@ -180,8 +180,8 @@ fits_at_start t rs k =
     let none : first_of (identifier_of t.value) rs ≡ None = first_none (identifier_of t.value) rs k in
     record { tie = inl none; one = one_where_none (identifier_of t.value) rs none }
 
-in_each : {A : Type 0} {P : List CommitRecord → Type 0} (image : List ℕ → Type 0) (rs : List CommitRecord) → AllHold image rs → P rs → (c : List ℕ) → image c → IfOk (log_has c) P
-in_each {P = P} image rs held p c i = subst (λ r. IfOk r P) (sym (held c i)) p
+in_each : (P : List CommitRecord → Type 0) (image : List ℕ → Type 0) (rs : List CommitRecord) → AllHold image rs → P rs → (c : List ℕ) → image c → IfOk (log_has c) P
+in_each P image rs held p c i = subst (λ r. IfOk r P) (sym (held c i)) p
 
 -- So all holds of a run before its first step,
 pub holds_at_start : {D : Type 0} (honest : Bool) (image : D → List ℕ → Type 0) (log : LogState D) (s : List Line) (cs : List Standing) → IsTrue log.is_up → (IsTrue honest → HasNone (open_records log.slots))
@@ -194,7 +194,7 @@ holds_at_start honest image log s cs up none held =
       had = λ t u o. absurd cc;
       up = up;
       uncalled = λ u. refl;
-      fits = λ h t. let f = fits_at_start t (open_records log.slots) (none h t) in record { fits = λ u. f; imaged = in_each {A = ℕ} {P = Fits (untouched t)} (image log.disk) (open_records log.slots) (held h) f };
+      fits = λ h t. let f = fits_at_start t (open_records log.slots) (none h t) in record { fits = λ u. f; imaged = in_each (Fits (untouched t)) (image log.disk) (open_records log.slots) (held h) f };
       sound = λ h t. refl;
     }
 
@@ -208,7 +208,7 @@ tells_at_start faults honest image log unarmed held =
         stops = λ e less. refl;
         armed = λ e less. rw unarmed refl;
       };
-      foreign = λ h. record { up = λ u id n. refl; imaged = in_each {A = ℕ} {P = AreForeignSame (open_records log.slots)} (image log.disk) (open_records log.slots) (held h) (λ id n. refl) };
+      foreign = λ h. record { up = λ u id n. refl; imaged = in_each (AreForeignSame (open_records log.slots)) (image log.disk) (open_records log.slots) (held h) (λ id n. refl) };
       opens = λ h e. refl;
       unlike = λ h. refl;
     }

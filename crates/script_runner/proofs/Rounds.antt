@@ -58,7 +58,9 @@ turn-more s start t old new b a =
       turns = (t, a.step) ∷ b.turns;
       rounds = (
         past_of old,
-        (b.rounds, (record { name = a.name; others = first.0; first = first.1; named = a.named; in_replay = a.in_replay; passed = b.passed }, a.done)),
+        b.rounds,
+        record { name = a.name; others = first.0; first = first.1; named = a.named; in_replay = a.in_replay; passed = b.passed },
+        a.done,
       );
       passed = λ v p. absurd (none-passed t.value v.value p);
     }
