@@ -184,6 +184,8 @@ pub mod PromotesRuns
 pub mod CommonBlocks
 pub mod TellingRuns
 pub mod CallsAnswered
+pub mod StoppedEnds
+pub mod StopsDecide
 pub mod Appending
 pub mod Barred
 pub mod Unheard

@@ -35,7 +35,7 @@ ghost use Rattle.dtx_model.specs.Contexts.{context};
 ghost use Rattle.dtx_model.specs.declared.waiting.EnteredCall.{EnteredCall};
 ghost use Rattle.dtx_model.specs.World.{World};
 ghost use Rattle.dtx_model.specs.Caused.{IsCallOf, is_new, AreMadeOnce, Caused, FreelyCaused, IsIn, IsOwnRun, Settled, has_object, is_as_planned, is_unpromoted, plans_of};
-ghost use Rattle.dtx_model.specs.AtLog.{is_local_trace};
+ghost use Rattle.dtx_model.specs.AtLog.{is_local_trace, is_restart};
 ghost use Rattle.dtx_model.specs.Traces.{Placed, history, at_context, calls};
 ghost use Rattle.dtx_model.specs.Replay.{IsReplayed, LinesRan, due_calls};
 ghost use Rattle.dtx_model.specs.History.{AreAnswered, CanCommit, IsHistory, IsReplay, IsToldOrWaits};
@@ -77,10 +77,12 @@ pub fn appends()
 
 /// What stops of the log do to the outcome, whatever was cut, stopped and started again. From a stop where an append may have been tried to the restart after it, nobody is
 /// told committed or aborted, neither is decided, and no owner answers so. And where a restart found no record, and there was no evidence before it, there is never evidence.
+/// Where no restart came, there is none that found what may not be found.
 pub fn stops()
     ensures withheld { (s : List Line) (t : ℕ) (h : List Entry) → are_named_well s ≡ true → FreelyCaused (IsCallOf s t) t h → tied h ≡ true → always is_outcome_withheld h ≡ true }
     ensures never { (s : List Line) (t : ℕ) (h : List Entry) → are_named_well s ≡ true → FreelyCaused (IsCallOf s t) t h → tied h ≡ true
         → ever restarts_without_evidence h ≡ true → evidence h ≡ false }
+    ensures unrestarted { (h : List Entry) → has is_restart h ≡ false → tied h ≡ true }
 {}
 
 /// What is caused over calls that were entered is caused over a script whose lines give these calls; and a script in which names are made once gives
@@ -97,15 +99,16 @@ pub fn crossings()
     ensures wires { (s : List Line) (t : ℕ) (h : List Entry) → FreelyCaused (IsCallOf s t) t h → WireRun h }
 {}
 
-/// A settled transaction that can commit is committed, promoted or not: its client was told so. Whatever was lost, enlistments and connections, as long as the
-/// coordinator didn't stop: if commit was asked, the client was told some outcome, or a blocking clone is open, or an enlistment whose reply is needed plans none; each
-/// enlistment that came back was told; and each call that had to wait was answered, or an enlistment that was asked to promote plans no reply to that.
+/// A settled transaction that can commit is committed, promoted or not: its client was told so. Whatever was lost, enlistments and connections, and however often the
+/// coordinator stopped and was started again: if commit was asked, the client was told some outcome, or a blocking clone is open, or an enlistment whose reply is needed plans
+/// none; and each call that had to wait was answered, or an enlistment that was asked to promote plans no reply to that. Where the coordinator didn't stop, each enlistment
+/// that came back was told.
 pub fn completeness()
-    ensures told { (s : List Line) (k t : ℕ) (h : List Entry) → are_named_well s ≡ true → Caused s k t h → has is_stop h ≡ false → IsToldOrWaits s h }
+    ensures told { (s : List Line) (k t : ℕ) (h : List Entry) → are_named_well s ≡ true → Caused s k t h → tied h ≡ true → IsToldOrWaits s h }
     ensures committed { (s : List Line) (k t : ℕ) (h : List Entry) → are_named_well s ≡ true → Caused s k t h → Settled s h → CanCommit s h
         → has (is_client_told Committed) h ≡ true }
     ensures answered { (s : List Line) (k t : ℕ) (h : List Entry) → are_named_well s ≡ true → Caused s k t h → has is_stop h ≡ false → AreAnswered s h }
-    ensures waited { (s : List Line) (k t : ℕ) (h : List Entry) → are_named_well s ≡ true → Caused s k t h → has is_stop h ≡ false → AreCallsAnswered s h }
+    ensures waited { (s : List Line) (k t : ℕ) (h : List Entry) → are_named_well s ≡ true → Caused s k t h → tied h ≡ true → AreCallsAnswered s h }
 {}
 
 /// What a replay does in its order, promoted or not, as long as nothing stands at the log, is caused by its script in each transaction where its replies are
