@@ -170,6 +170,7 @@ pub mod Told
 pub mod Awaiting
 pub mod Managed
 pub mod Finished
+pub mod Desked
 pub mod FreedDesks
 pub mod Back
 pub mod BackBlocks

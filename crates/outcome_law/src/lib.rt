@@ -104,7 +104,7 @@ pub fn completeness()
     ensures told { (s : List Line) (k t : ℕ) (h : List Entry) → are_named_well s ≡ true → Caused s k t h → has is_stop h ≡ false → IsToldOrWaits s h }
     ensures committed { (s : List Line) (k t : ℕ) (h : List Entry) → are_named_well s ≡ true → Caused s k t h → Settled s h → CanCommit s h
         → has (is_client_told Committed) h ≡ true }
-    ensures answered { (s : List Line) (k t : ℕ) (h : List Entry) → are_named_well s ≡ true → Caused s k t h → has is_stop h ≡ false → AreAnswered s h }
+    ensures answered { (s : List Line) (k t : ℕ) (h : List Entry) → are_named_well s ≡ true → Caused s k t h → tied h ≡ true → AreAnswered s h }
     ensures waited { (s : List Line) (k t : ℕ) (h : List Entry) → are_named_well s ≡ true → Caused s k t h → has is_stop h ≡ false → AreCallsAnswered s h }
 {}
 
