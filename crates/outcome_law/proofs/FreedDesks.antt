@@ -1,6 +1,6 @@
 -- Whoever came to the coordinator is done with the record once that is gone, whatever stops and restarts came: it is finished at the local side, or its manager recovered. So it was where the
 -- record was freed, and where a restart found it gone, it had been freed.
-use Rattle.std.proofs.Common.{◌≡◌, ℕ, ◌==◌, Bool, true, false, ◌&&◌, ◌||◌, ◌⊎◌, inl, inr, List, [], ◌∷◌, refl, ◌∙◌, sym, subst, if◌then◌else◌}
+use Rattle.std.proofs.Common.{◌≡◌, ℕ, ◌==◌, Bool, true, false, ◌&&◌, ◌||◌, ◌⊎◌, inl, inr, List, [], ◌∷◌, Option, Some, None, refl, ◌∙◌, sym, subst, if◌then◌else◌}
 use Rattle.std.specs.Prelude.{find, not}
 use Rattle.std.proofs.lemmas.Bool.{eqb-true}
 use Rattle.dtx_values.specs.declared.call.Call.{Call}

@@ -222,15 +222,15 @@ coordinates_answers h Done true l c f k e b =
 coordinates_answers h Full true l c f k e b =
     let sends = abort_sends (follow (coordinate h) LogFull) in
     head_answers e LogFull h sends refl refl (λ y d n q. absurd cc) (lasting_abort e (follow (coordinate h) LogFull)) k (λ u n t. full_reaches e h t) (f e) b
-coordinates_answers h StoppedNow true l c f k = stop_answers h
-coordinates_answers h StoppedBefore true l c f k = stop_answers h
+coordinates_answers h StoppedNow true l c f k e b = stop_answers h e b
+coordinates_answers h StoppedBefore true l c f k e b = stop_answers h e b
 coordinates_answers h Done false l c f k e b =
     head_answers e Freed h [] refl refl (λ y d n q. absurd cc) refl k
     (λ u n t. absurd
     (free_recorded (coordinate h) (or_case (may_log (coordinate h)) (may_free (coordinate h) && true) (λ v. absurd (not_both (may_log (coordinate h)) v l)) (λ v. and_left (may_free (coordinate h)) true v) c) u)) (f e) b
 coordinates_answers h Full false l c f k e b = f e b
-coordinates_answers h StoppedNow false l c f k = stop_answers h
-coordinates_answers h StoppedBefore false l c f k = stop_answers h
+coordinates_answers h StoppedNow false l c f k e b = stop_answers h e b
+coordinates_answers h StoppedBefore false l c f k e b = stop_answers h e b
 
 -- A reply.
 wide_unreturned : (e : EnlNo) → IsWide (λ x. not (is_return e.value x))
