@@ -175,6 +175,7 @@ pub mod FreedDesks
 pub mod Back
 pub mod BackBlocks
 pub mod Returning
+pub mod ReturnsAnswered
 pub mod AskedRows
 pub mod PlacedRows
 pub mod SealedRows

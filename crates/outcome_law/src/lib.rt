@@ -97,9 +97,10 @@ pub fn crossings()
     ensures wires { (s : List Line) (t : ℕ) (h : List Entry) → FreelyCaused (IsCallOf s t) t h → WireRun h }
 {}
 
-/// A settled transaction that can commit is committed, promoted or not: its client was told so. Whatever was lost, enlistments and connections, as long as the
-/// coordinator didn't stop: if commit was asked, the client was told some outcome, or a blocking clone is open, or an enlistment whose reply is needed plans none; each
-/// enlistment that came back was told; and each call that had to wait was answered, or an enlistment that was asked to promote plans no reply to that.
+/// A settled transaction that can commit is committed, promoted or not: its client was told so. Whatever was lost, enlistments, connections and the coordinator, where each
+/// restart found what may be found: each enlistment that came back was told, unless that was broken off, or nothing is decided at the coordinator. And as long as the coordinator
+/// didn't stop: if commit was asked, the client was told some outcome, or a blocking clone is open, or an enlistment whose reply is needed plans none; and each call that
+/// had to wait was answered, or an enlistment that was asked to promote plans no reply to that.
 pub fn completeness()
     ensures told { (s : List Line) (k t : ℕ) (h : List Entry) → are_named_well s ≡ true → Caused s k t h → has is_stop h ≡ false → IsToldOrWaits s h }
     ensures committed { (s : List Line) (k t : ℕ) (h : List Entry) → are_named_well s ≡ true → Caused s k t h → Settled s h → CanCommit s h

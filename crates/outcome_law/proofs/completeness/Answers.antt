@@ -1,6 +1,6 @@
 use Rattle.outcome_law.proofs.CallsAnswered.{calls_answered}
 use Rattle.outcome_law.proofs.Completes.{settled_told}
-use Rattle.outcome_law.proofs.Returning.{answered_returns}
+use Rattle.outcome_law.proofs.ReturnsAnswered.{answered_returns}
 use Rattle.outcome_law.proofs.Told.{told_promoted}
 use Rattle.outcome_law.proofs.completeness.Goals as goal
 

@@ -67,7 +67,7 @@ returns-in-Ok-clause-complete g c none =
     record {
       told = λ t. c.completeness.ensures.told s 0 t.value (history t.value T) named (caused t) (runs t);
       committed = λ t asked. c.completeness.ensures.committed s 0 t.value (history t.value T) named (caused t) (r.settled t) asked;
-      answered = λ t. c.completeness.ensures.answered s 0 t.value (history t.value T) named (caused t) (runs t);
+      answered = λ t. c.completeness.ensures.answered s 0 t.value (history t.value T) named (caused t) (unstopped_tied (history t.value T) (r.unstopped t));
     }
 
 pub returns-in-Ok-clause-waited : goal.returns-in-Ok-clause-waited
