@@ -15,11 +15,11 @@ use Rattle.dtx_model.specs.declared.desk.Ballot.TheVariants.{Prepared, ReadOnly,
 use Rattle.dtx_model.specs.declared.desk.Desk.{Desk}
 use Rattle.dtx_model.specs.declared.desk.Stage.{Stage}
 use Rattle.dtx_model.specs.declared.desk.Stage.TheVariants.{Active, Idle}
-use Rattle.dtx_model.specs.Words.{all_of, each, has, latest}
+use Rattle.dtx_model.specs.Words.{each, has, latest}
 use Rattle.dtx_model.specs.Entries.{is_commit_got, is_record, is_vote_got}
 use Rattle.dtx_model.specs.Learned.{coordinator_aborted}
-use Rattle.dtx_model.specs.Tied.{before_first_stop, can_log, enlist_got, has_mark, is_logged, is_marked, is_ready_got, is_stop, is_unmarked, mark_of}
-use Rattle.dtx_model.specs.Coordinated.{Coordinated, abort_if, accepts, ballot_of, coordinate, desk_number, desks_after, follow, has_aborted, has_voted, is_active, is_desk_of, is_prepared, is_undecided, kept_desks, unacked, with_ack, with_ballot}
+use Rattle.dtx_model.specs.Tied.{before_first_stop, can_log, has_mark, is_logged, is_marked, is_ready_got, is_unmarked, mark_of}
+use Rattle.dtx_model.specs.Coordinated.{abort_if, accepts, ballot_of, coordinate, desk_number, desks_after, follow, has_aborted, has_voted, is_active, is_desk_of, is_prepared, is_undecided, kept_desks, unacked, with_ack, with_ballot}
 use Rattle.dtx_model.proofs.Bools.{and_both, and_left, and_right, not_both, not_false, not_true, or_case, or_right}
 use Rattle.outcome_law.proofs.Scans.{has_more}
 use Rattle.outcome_law.proofs.Lists.{each-insert, has-insert}

@@ -25,7 +25,6 @@ use Rattle.dtx_values.specs.declared.number.ActorNo.{ActorNo}
 use Rattle.dtx_values.specs.declared.number.EnlNo.{EnlNo}
 use Rattle.dtx_values.specs.declared.number.RmNo.{RmNo}
 use Rattle.dtx_values.specs.declared.number.TxNo.{TxNo}
-use Rattle.dtx_values.specs.declared.script.Line.{Line}
 use Rattle.dtx_values.specs.Ends.{is_in, knows, same_connection, same_direction, with_tag}
 use Rattle.dtx_values.specs.Lines.{has_line}
 use Rattle.dtx_values.specs.declared.row.Row.{Row}
@@ -34,16 +33,13 @@ use Rattle.dtx_values.specs.Class.{is_volatile}
 use Rattle.dtx_values.specs.declared.words.Vote.{Vote}
 use Rattle.dtx_values.specs.declared.words.Outcome.{Outcome}
 use Rattle.dtx_values.specs.declared.words.Outcome.TheVariants.{Aborted as AbortedOutcome, Committed}
-use Rattle.std.specs.List.{flat_map}
 use Rattle.dtx_model.specs.declared.branch.Branch.{Branch}
 use Rattle.dtx_model.specs.declared.desk.Stage.{Stage}
 use Rattle.dtx_model.specs.declared.desk.Stage.TheVariants.{Aborted, Active, Idle, Over, Recorded, Unknown}
 use Rattle.dtx_model.specs.Words.{each, has, onto, or_else}
-use Rattle.dtx_model.specs.Entries.{is_record, is_told}
 use Rattle.dtx_model.specs.Observed.{branch_due, branches, due_in, ends_of, is_branch, observe, rows}
 use Rattle.dtx_model.specs.Outcome.{is_empty}
 use Rattle.dtx_model.specs.Promotes.{identifier_of, is_enlisted_got}
-use Rattle.dtx_model.specs.Learned.{are_answered, breaks_off, coordinator_aborted, is_answered, is_decided_there}
 use Rattle.dtx_model.specs.Tied.{tied}
 use Rattle.dtx_model.specs.Wires.{begins_ended, ended_after, ends, in_transit, is_ended, is_stopped, loses, lost_after, lost_since, opened_with, opens}
 use Rattle.dtx_model.specs.Coordinated.{abort_sends, commit_sends, coordinate, core_got, follow, has_aborted, is_recorded, is_undecided, may_free, may_log, to}
@@ -54,11 +50,9 @@ use Rattle.dtx_model.specs.Answers.{if_begun}
 use Rattle.dtx_model.specs.Facts.{facts_if, has_facts}
 use Rattle.dtx_model.specs.Replies.{conn_due, due_conn, due_of, fits, is_volatile_row, may_still_vote, note_of_conn, note_of_row, owes_outcome, owes_promotion, owes_request, owes_vote, reply_entries, row_note}
 use Rattle.dtx_model.specs.World.{World, answer_at, branch_answer, branches_by, core, facts_at, half, has_left, is_connected, is_finished_there, is_linked, is_unfinished_link, recovered_answer, reenlist_answer, reenlist_by, reenlist_facts, unless_connected, unless_stopped, was_opened}
-use Rattle.dtx_model.specs.Steps.{LogAnswer, Done, Full, StoppedBefore, StoppedNow, Step, Calls, Replies, Acts, Coordinates, Delivers, Stops, Restarts, after, appended, block_at, called, deliveries_on, delivered, ended_at, freed, restarted}
-use Rattle.dtx_model.specs.Caused.{AreMadeOnce, Caused, IsCallOf, MayCome, Ran, entered_in, may_coordinate}
-use Rattle.dtx_model.specs.Grammar.{are_named_well}
-use Rattle.dtx_model.specs.History.{AreAnswered}
-use Rattle.dtx_model.proofs.Bools.{and_both, and_left, and_right, not_both, not_false, not_true, or_case, or_false, or_first, or_right}
+use Rattle.dtx_model.specs.Steps.{LogAnswer, Done, Full, StoppedBefore, StoppedNow, Step, Calls, Replies, Acts, Coordinates, Delivers, Stops, Restarts, after, appended, block_at, called, delivered, ended_at, freed, restarted}
+use Rattle.dtx_model.specs.Caused.{AreMadeOnce, MayCome, Ran, may_coordinate}
+use Rattle.dtx_model.proofs.Bools.{and_both, and_left, and_right, not_both, not_false, not_true, or_case, or_first, or_right}
 use Rattle.dtx_model.proofs.Connections.{same_is, same_way_is}
 use Rattle.dtx_model.proofs.SameNumbers.{same_enlistment}
 use Rattle.outcome_law.proofs.Tests.{eq_self}
@@ -69,18 +63,15 @@ use Rattle.outcome_law.proofs.Table.{is_enlist_got, is_opening_got, stands_volat
 use Rattle.outcome_law.proofs.Keeping.{Keeps, before as stands_before, keeps_before}
 use Rattle.outcome_law.proofs.Handing.{keeps_within}
 use Rattle.outcome_law.proofs.Sendings.{got_line}
-use Rattle.outcome_law.proofs.Crossed.{IsStill, down_more, end_still, is_got_on, since_opened, still_more, stopped_down}
-use Rattle.outcome_law.proofs.CoreStages.{has_recorded, open_unaborted, open_unrecorded, recorded_mark, stopped_same}
+use Rattle.outcome_law.proofs.Crossed.{IsStill, down_more, end_still, is_got_on, still_more, stopped_down}
+use Rattle.outcome_law.proofs.CoreStages.{has_recorded, recorded_mark, stopped_same}
 use Rattle.outcome_law.proofs.CoreKnown.{enlist_of, got_there, record_seen}
 use Rattle.outcome_law.proofs.HalfKnows.{one_tag_more}
 use Rattle.outcome_law.proofs.HalfReplies.{owed, volatile_seen}
 use Rattle.outcome_law.proofs.Standing.{unvolatile_if_opened}
 use Rattle.outcome_law.proofs.MildBlocks.{IsWide, is_mild, wide_reply}
-use Rattle.outcome_law.proofs.Names.{script_once}
 use Rattle.outcome_law.proofs.Steady.{run_keeps, run_stands, tied_under}
-use Rattle.outcome_law.proofs.Idle.{idle, none_left, none_pending_on}
 use Rattle.outcome_law.proofs.Announced.{free_recorded}
-use Rattle.outcome_law.proofs.Knowledge.{opened_noted}
 use Rattle.outcome_law.proofs.HalfHeard.{is_return}
 use Rattle.outcome_law.proofs.Marks.{IsMarked, enlisted_on, opened_if_returned, return_row}
 use Rattle.outcome_law.proofs.Reenlisted.{opened_since}

@@ -1,5 +1,5 @@
 -- In a settled history of a script, whatever was lost, stopped and started again, each that came back was told: nothing is on the way to it, so nothing is decided where it wasn't.
-use Rattle.std.proofs.Common.{◌≡◌, ℕ, Bool, true, false, ◌&&◌, ◌||◌, List, [], ◌∷◌, refl, ap}
+use Rattle.std.proofs.Common.{◌≡◌, ℕ, ◌==◌, Bool, true, false, ◌&&◌, ◌||◌, List, [], ◌∷◌, refl, ap}
 use Rattle.std.specs.Prelude.{is_some, not}
 use Rattle.std.specs.List.{flat_map}
 use Rattle.std.proofs.lemmas.Bool.{or_left}
