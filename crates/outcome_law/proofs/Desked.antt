@@ -28,7 +28,7 @@ use Rattle.outcome_law.proofs.Table.{is_enlist_got}
 use Rattle.outcome_law.proofs.Keeping.{Keeps, keeps_before, newest, newest_tied}
 use Rattle.outcome_law.proofs.Sendings.{aborted_more, record_of_mark}
 use Rattle.outcome_law.proofs.Recording.{can_commit, can_live, can_ready, can_unstopped, if_record, live_if_record, named}
-use Rattle.outcome_law.proofs.CoreStages.{active_open, changed, each_if, has_recorded, open_before, restart_open}
+use Rattle.outcome_law.proofs.CoreStages.{abort_decided, active_open, changed, each_if, has_recorded, open_before, restart_open}
 use Rattle.outcome_law.proofs.CoreKnown.{aborted_there, aborts_there, has_if, has_made, record_seen, vote_kept}
 use Rattle.outcome_law.proofs.Unheard.{calm_unmarked, can_unlogged, unmarked_unrecorded}
 use Rattle.outcome_law.proofs.Finished.{desks_done, finished_more, is_done_desk, is_finished, is_read_only, own_finished}
@@ -52,11 +52,6 @@ is_refused _ = false
 abbrev is_unrefused : Desk → Bool
 is_unrefused d = not (is_refused d.ballot)
 
-aborted_closed : (s : Stage) → is_undecided (abort_if true s) ≡ true → ⊥
-aborted_closed Idle u = absurd cc
-aborted_closed Active u = absurd cc
-aborted_closed _ u = absurd cc
-
 unrefused_ballot : (e : ℕ) (o : Option Ballot) → is_refused o ≡ false → (d : Desk) → is_unrefused d ≡ true → is_unrefused (with_ballot e o d) ≡ true
 unrefused_ballot e None n d t = t
 unrefused_ballot e (Some b) n d t = by (is_desk_of e d)
@@ -77,7 +72,7 @@ none_refused (Got (Enl f) Up EnlistAck ∷ h) u =
     changed is_unrefused is_unrefused (with_ack f.value) (λ d t. t) (coordinate h).desks (none_refused h (open_before (coordinate h) (Got (Enl f) Up EnlistAck) u))
 none_refused (Got (Again f) Up ReenlistAck ∷ h) u =
     changed is_unrefused is_unrefused (with_ack f.value) (λ d t. t) (coordinate h).desks (none_refused h (open_before (coordinate h) (Got (Again f) Up ReenlistAck) u))
-none_refused (Got (Enl f) Up EnlistNo ∷ h) u = absurd (aborted_closed (coordinate h).stage u)
+none_refused (Got (Enl f) Up EnlistNo ∷ h) u = absurd (not_both (is_undecided (abort_if true (coordinate h).stage)) u (abort_decided true (coordinate h).stage refl))
 none_refused (Got (Enl f) Up m ∷ h) u =
     let rest = none_refused h (open_before (coordinate h) (Got (Enl f) Up m) u) in
     each_if is_unrefused (is_active (coordinate h).stage) (map (with_ballot f.value (ballot_of m)) (coordinate h).desks) (coordinate h).desks

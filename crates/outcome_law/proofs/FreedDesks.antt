@@ -40,7 +40,7 @@ use Rattle.outcome_law.proofs.Table.{is_enlist_got}
 use Rattle.outcome_law.proofs.Keeping.{Keeps, keeps_before, newest, newest_tied}
 use Rattle.outcome_law.proofs.Crossed.{got_sent, is_sent_on}
 use Rattle.outcome_law.proofs.Sendings.{own_info, record_of_mark}
-use Rattle.outcome_law.proofs.CoreStages.{desks_backed, is_backed}
+use Rattle.outcome_law.proofs.CoreStages.{desks_backed, said_of}
 use Rattle.outcome_law.proofs.CoreBlocks.{commit_if_record}
 use Rattle.outcome_law.proofs.Knowledge.{with_other, with_own}
 use Rattle.outcome_law.proofs.MildBlocks.{IsWide, Mild, is_mild, m_abort, m_act, m_commit, m_core_got, m_ended_at, m_local_got, wide_called, wide_mild, wide_reply}
@@ -160,25 +160,11 @@ prepared_from : (e f : EnlNo) (m : Message) → (e.value == f.value) ≡ true �
 prepared_from e f EnlistPrepared q a = q
 prepared_from e f _ q a = absurd cc
 
-prepared_said : (e : EnlNo) (h : List Entry) (ds : List Desk) → has (is_prepared_desk e.value) ds ≡ true → each (is_backed is_prepared is_prepared_got h) ds ≡ true → has (is_prepared_got e.value) h ≡ true
-prepared_said e h [] t a = absurd cc
-prepared_said e h (d ∷ ds) t a =
-    let backed = is_backed is_prepared is_prepared_got h in
-    or_case (is_prepared_desk e.value d) (has (is_prepared_desk e.value) ds)
-    (λ p. let P : ℕ → Type 0 = λ n. has (is_prepared_got n) h ≡ true in
-    subst P (sym (eqb-true e.value d.enlistment.value (and_left (is_desk_of e.value d) (is_prepared d.ballot) p)))
-    (so (is_prepared d.ballot) (has (is_prepared_got d.enlistment.value) h) (and_right (is_desk_of e.value d) (is_prepared d.ballot) p) (and_left (backed d) (each backed ds) a)))
-    (λ p. prepared_said e h ds p (and_right (backed d) (each backed ds) a)) t
-  where
-    so : (a b : Bool) → a ≡ true → (not a || b) ≡ true → b ≡ true
-    so true b p t = t
-    so false b p t = absurd cc
-
 free_done : (h : List Entry) → Keeps h → can_free h ≡ true → AreDone h
 free_done h k c = λ e t.
     or_case (is_finished_here e.value h) (has (is_prepared_desk e.value) (coordinate h).desks) (λ f. inl f)
     (λ p. by e (named_there e (is_done_there h) h k t (and_right (has_mark h) (each (is_done_there h) (all_of enlist_got h)) c))
-    (prepared_said e h (coordinate h).desks p (desks_backed is_prepared is_prepared_got (record { none = refl; from = prepared_from }) h)))
+    (said_of is_prepared is_prepared_got e.value h (coordinate h).desks (desks_backed is_prepared is_prepared_got (record { none = refl; from = prepared_from }) h) p))
     (placed_there e h k (and_left (has_mark h) (each (is_done_there h) (all_of enlist_got h)) c) t)
   where
     by : (e : EnlNo) → IsAmong e (is_done_there h) h → has (is_prepared_got e.value) h ≡ true → IsDone e h

@@ -72,7 +72,7 @@ none_on_the_way h w e c d = by_opening (has (opens c) h) refl
     of_way Down k = none_left c Down h k.1
 
     by_opening : (b : Bool) → has (opens c) h ≡ b → in_transit c d h ≡ []
-    by_opening true o = of_way d (none_pending_on c h (ends_of h) e (opened_noted c h o))
+    by_opening true o = of_way d (none_pending_on c h (ends_of h) e (opened_noted c h w o))
     by_opening false o = unopened_empty c d h w o
 
 -- Each side saw the end of each connection that was lost.
@@ -103,7 +103,7 @@ end_saw c d (x ∷ h) w k = step (end_saw c d h past) (opens c x) (begins_ended 
         (λ q. or_right (is_end_on c d x) (has (is_end_on c d) h) (ih q)) k
 
 pub ends_seen : (c : Conn) (h : List Entry) → IsWired h → flat_map (deliveries_on h) (ends_of h) ≡ [] → is_plain c ≡ true → is_lost_wire c h ≡ true → (d : Dir) → has (is_end_on c d) h ≡ true
-ends_seen c h w e p l d = end_saw c d h w (seen d (none_pending_on c h (ends_of h) e (opened_noted c h (since_opened c h (some (lost_since c h) l)))))
+ends_seen c h w e p l d = end_saw c d h w (seen d (none_pending_on c h (ends_of h) e (opened_noted c h w (since_opened c h (some (lost_since c h) l)))))
   where
     some : (o : Option Bool) → holds o ≡ true → is_some o ≡ true
     some (Some b) k = refl

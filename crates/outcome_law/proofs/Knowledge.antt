@@ -128,9 +128,9 @@ noted_end : (c e : Conn) (ns : List End) → has (is_end_of c) (map (note_end e)
 noted_end c e ns =
     has_kept (is_end_of c) (note_end e) (λ n. if_kept (is_end_of c) (is_end_of e n) (record { connection = n.connection; sent = n.sent; got = n.got; ended = true }) n refl) ns
 
-pub opened_noted : (c : Conn) (h : List Entry) → has (opens c) h ≡ true → has (is_end_of c) (ends_of h) ≡ true
-opened_noted c [] k = absurd cc
-opened_noted c (Sent e Up m ∷ h) k = step (opened_noted c h) (same_connection c e) (is_opening e m) refl k
+pub opened_noted : (c : Conn) (h : List Entry) → IsWired h → has (opens c) h ≡ true → has (is_end_of c) (ends_of h) ≡ true
+opened_noted c [] w k = absurd cc
+opened_noted c (Sent e Up m ∷ h) w k = step (opened_noted c h (wired_before (Sent e Up m) h w)) (same_connection c e) (is_opening e m) refl k
   where
     opened : same_connection c e ≡ true → has (is_end_of c) (with_opened e (tag_of m) (ends_of h)) ≡ true
     opened s =
@@ -144,13 +144,13 @@ opened_noted c (Sent e Up m ∷ h) k = step (opened_noted c h) (same_connection 
     step ih false true q k = other_stays c e (is_end_of c) (tag_of m) (ends_of h) q (λ n a. a) (ih k)
     step ih true false q k = noted_sent c e (tag_of m) (ends_of h) ∙ ih k
     step ih false false q k = noted_sent c e (tag_of m) (ends_of h) ∙ ih k
-opened_noted c (Got e Down m ∷ h) k = step (opened_noted c h k) (has_line e Down m)
+opened_noted c (Got e Down m ∷ h) w k = step (opened_noted c h (wired_before (Got e Down m) h w) k) (has_line e Down m)
   where
     step : has (is_end_of c) (ends_of h) ≡ true → (l : Bool) → has (is_end_of c) (if l then map (note_got e (tag_of m)) (ends_of h) else map (note_end e) (ends_of h)) ≡ true
     step ih true = noted_got c e (tag_of m) (ends_of h) ∙ ih
     step ih false = noted_end c e (ends_of h) ∙ ih
-opened_noted c (Ended e Down ∷ h) k = noted_end c e (ends_of h) ∙ opened_noted c h k
-opened_noted c (x ∷ h) k = opened_noted c h k
+opened_noted c (Ended e Down ∷ h) w k = noted_end c e (ends_of h) ∙ opened_noted c h (wired_before (Ended e Down) h w) k
+opened_noted c (x ∷ h) w k = opened_noted c h (wired_before x h w) k
 
 -- A message's tag is among those of what was got.
 pub with_own : (tag tags : ℕ) → is_in tag (with_tag tag tags) ≡ true
@@ -222,7 +222,7 @@ ask_heard (Sent e Up m ∷ h) w k = by (ask_heard h past k) (is_opening e m) ref
     by ih false f s q = heard_sent Voter e (tag_of VoterAsk) (tag_of m) (ends_of h) ∙ ih
 ask_heard (Got Voter Down VoterAsk ∷ h) w k =
     heard_own Voter (tag_of VoterAsk) (ends_of h)
-    (opened_noted Voter h (got_opened Voter Down ASK (Got Voter Down VoterAsk ∷ h) w refl))
+    (opened_noted Voter h (wired_before (Got Voter Down VoterAsk) h w) (got_opened Voter Down ASK (Got Voter Down VoterAsk ∷ h) w refl))
 ask_heard (Got e Down m ∷ h) w k = step (ask_heard h (wired_before (Got e Down m) h w) k) (has_line e Down m) (newest (Got e Down m) h w)
   where
     step : was_got Voter (tag_of VoterAsk) (ends_of h) ≡ true → (l : Bool) → l ≡ true

@@ -26,7 +26,7 @@ use Rattle.outcome_law.proofs.Crossed.{since_opened}
 use Rattle.outcome_law.proofs.CoreStages.{open_unaborted, open_unrecorded}
 use Rattle.outcome_law.proofs.Names.{script_once}
 use Rattle.outcome_law.proofs.Idle.{idle, none_left, none_pending_on}
-use Rattle.outcome_law.proofs.Knowledge.{opened_noted}
+use Rattle.outcome_law.proofs.EndsNoted.{noted}
 use Rattle.outcome_law.proofs.HalfHeard.{is_return}
 use Rattle.outcome_law.proofs.Awaiting.{is_back, is_underway}
 use Rattle.outcome_law.proofs.Back.{IsBack}
@@ -35,7 +35,7 @@ use Rattle.outcome_law.proofs.Returning.{IsReturning, ran_returning}
 -- Where nothing is pending, nothing is on the way to it.
 none_underway : (e : EnlNo) (h : List Entry) → has (opens (Again e)) h ≡ true → flat_map (deliveries_on h) (ends_of h) ≡ [] → is_underway e h ≡ false
 none_underway e h o q =
-    let left = none_pending_on (Again e) h (ends_of h) q (opened_noted (Again e) h o) in
+    let left = none_pending_on (Again e) h (ends_of h) q (noted (Again e) h o) in
     rw (none_left (Again e) Up h left.0, none_left (Again e) Down h left.1) refl
 
 -- Where whoever is back at the end is answered by what stands after, each that came back was.
