@@ -42,14 +42,14 @@ none_delivered : (b : Bool) (c : Conn) (d : Dir) → delivery_if b c d ≡ [] �
 none_delivered true c d k = absurd cc
 none_delivered false c d k = refl
 
-none_left : (c : Conn) (d : Dir) (h : List Entry) → has_left c d h ≡ false → in_transit c d h ≡ []
+pub none_left : (c : Conn) (d : Dir) (h : List Entry) → has_left c d h ≡ false → in_transit c d h ≡ []
 none_left c d h k = bare (in_transit c d h) (or_first (not (is_empty (in_transit c d h))) _ k)
   where
     bare : (ms : List Message) → not (is_empty ms) ≡ false → ms ≡ []
     bare [] k = refl
     bare (m ∷ ms) k = absurd cc
 
-none_pending_on : (c : Conn) (h : List Entry) (ns : List End) → flat_map (deliveries_on h) ns ≡ [] → has (is_end_of c) ns ≡ true → (has_left c Up h ≡ false) × (has_left c Down h ≡ false)
+pub none_pending_on : (c : Conn) (h : List Entry) (ns : List End) → flat_map (deliveries_on h) ns ≡ [] → has (is_end_of c) ns ≡ true → (has_left c Up h ≡ false) × (has_left c Down h ≡ false)
 none_pending_on c h [] e k = absurd cc
 none_pending_on c h (n ∷ ns) e k =
     or_case (is_end_of c n) (has (is_end_of c) ns)

@@ -170,10 +170,12 @@ pub mod Told
 pub mod Awaiting
 pub mod Managed
 pub mod Finished
+pub mod Desked
 pub mod FreedDesks
 pub mod Back
 pub mod BackBlocks
 pub mod Returning
+pub mod ReturnsAnswered
 pub mod AskedRows
 pub mod PlacedRows
 pub mod SealedRows

@@ -100,14 +100,14 @@ pub fn crossings()
 {}
 
 /// A settled transaction that can commit is committed, promoted or not: its client was told so. Whatever was lost, enlistments and connections, and however often the
-/// coordinator stopped and was started again: if commit was asked, the client was told some outcome, or a blocking clone is open, or an enlistment whose reply is needed plans
-/// none; and each call that had to wait was answered, or an enlistment that was asked to promote plans no reply to that. Where the coordinator didn't stop, each enlistment
-/// that came back was told.
+/// coordinator stopped and was started again, where each restart found what may be found: if commit was asked, the client was told some outcome, or a blocking clone is
+/// open, or an enlistment whose reply is needed plans none; each enlistment that came back was told, unless that was broken off, or nothing is decided at the coordinator;
+/// and each call that had to wait was answered, or an enlistment that was asked to promote plans no reply to that.
 pub fn completeness()
     ensures told { (s : List Line) (k t : ℕ) (h : List Entry) → are_named_well s ≡ true → Caused s k t h → tied h ≡ true → IsToldOrWaits s h }
     ensures committed { (s : List Line) (k t : ℕ) (h : List Entry) → are_named_well s ≡ true → Caused s k t h → Settled s h → CanCommit s h
         → has (is_client_told Committed) h ≡ true }
-    ensures answered { (s : List Line) (k t : ℕ) (h : List Entry) → are_named_well s ≡ true → Caused s k t h → has is_stop h ≡ false → AreAnswered s h }
+    ensures answered { (s : List Line) (k t : ℕ) (h : List Entry) → are_named_well s ≡ true → Caused s k t h → tied h ≡ true → AreAnswered s h }
     ensures waited { (s : List Line) (k t : ℕ) (h : List Entry) → are_named_well s ≡ true → Caused s k t h → tied h ≡ true → AreCallsAnswered s h }
 {}
 

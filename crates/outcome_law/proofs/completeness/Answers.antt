@@ -1,5 +1,5 @@
 use Rattle.outcome_law.proofs.Completes.{settled_told}
-use Rattle.outcome_law.proofs.Returning.{answered_unstopped}
+use Rattle.outcome_law.proofs.ReturnsAnswered.{answered_returns}
 use Rattle.outcome_law.proofs.StopsDecide.{told_settled, waits_answered}
 use Rattle.outcome_law.proofs.completeness.Goals as goal
 
@@ -10,7 +10,7 @@ pub returns-clause-committed : goal.returns-clause-committed
 returns-clause-committed c = settled_told
 
 pub returns-clause-answered : goal.returns-clause-answered
-returns-clause-answered c = answered_unstopped
+returns-clause-answered c = answered_returns
 
 pub returns-clause-waited : goal.returns-clause-waited
 returns-clause-waited c = waits_answered
