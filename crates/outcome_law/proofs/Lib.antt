@@ -43,6 +43,13 @@ pub mod ReplayTurns
 pub mod ReplayRuns
 pub mod ReplayNew
 pub mod LocalReplays
+pub mod PutAt
+pub mod BeginSent
+pub mod OneBegin
+pub mod SteadyBlocks
+pub mod FollowingLog
+pub mod ReplayedSteps
+pub mod ReplayedCalls
 pub mod Replays
 pub mod Examples
 pub mod ReplayExample

@@ -163,7 +163,7 @@ going_turn s ks t m T g r q k = subst (Turned s ks t m T) (sym (plain_turn s t m
           run = second;
           stops = true;
           may = sent;
-          world = ap (λ past. record { calls = entered m ks; past = past }) last ∙ ap (λ v. after t.value v Stops) reached;
+          world = ◌∙◌ {b = after t.value (world_with (entered m ks) t B) Stops} (ap (λ past. record { calls = entered m ks; past = past }) last) (ap (λ v. after t.value v Stops) reached);
         }
 
     by : (b u : Bool) → has is_begin_sent es ≡ b → is_log_up T ≡ u → Turned s ks t m T (stop_if (b && not u) t B)
