@@ -28,7 +28,7 @@ pub record FollowsAt (up : Bool) (stops opens : ℕ) (h : List Entry) : Type 0 w
   pub fewer_restarts : how_many is_restart h ≤ opens
 
 -- A block without stops and restarts, that sends BEGIN only where the log is up;
-at_block : (up : Bool) (s o : ℕ) (h es : List Entry) → each is_steady es ≡ true → (has is_begin_sent es ≡ true → up ≡ true) → FollowsAt up s o h → FollowsAt up s o (onto h es)
+pub at_block : (up : Bool) (s o : ℕ) (h es : List Entry) → each is_steady es ≡ true → (has is_begin_sent es ≡ true → up ≡ true) → FollowsAt up s o h → FollowsAt up s o (onto h es)
 at_block up s o h es k b f = record {
   unknown =
       λ n. each-onto is_steady h es
@@ -47,7 +47,7 @@ at_block up s o h es k b f = record {
     by false e t = steady_unstopped h (f.unknown e) ∙ ap not (sym (b (last (has is_begin_sent es) (has is_begin_sent h) e t)))
 
 -- one that sends BEGIN while the log isn't up, and a stop right after it;
-at_begun : (up : Bool) (s o : ℕ) (h es : List Entry) → each is_steady es ≡ true → has is_begin_sent es ≡ true → has is_begin_sent h ≡ false → up ≡ false → 1 ≤ s → FollowsAt up s o h
+pub at_begun : (up : Bool) (s o : ℕ) (h es : List Entry) → each is_steady es ≡ true → has is_begin_sent es ≡ true → has is_begin_sent h ≡ false → up ≡ false → 1 ≤ s → FollowsAt up s o h
     → FollowsAt up s o (Stopped ∷ onto h es)
 at_begun up s o h es k b n u one f =
     let all = f.unknown n in
@@ -60,7 +60,7 @@ at_begun up s o h es k b n u one f =
     }
 
 -- a stop of the log, which hits those that are known and not stopped;
-at_stop : (up : Bool) (s o : ℕ) (h : List Entry) → FollowsAt up s o h → FollowsAt false (suc s) o (one_more (has is_begin_sent h && not (is_stopped h)) Stopped h)
+pub at_stop : (up : Bool) (s o : ℕ) (h : List Entry) → FollowsAt up s o h → FollowsAt false (suc s) o (one_more (has is_begin_sent h && not (is_stopped h)) Stopped h)
 at_stop up s o h f = by (has is_begin_sent h) (is_stopped h) refl refl
   where
     by : (b c : Bool) → has is_begin_sent h ≡ b → is_stopped h ≡ c → FollowsAt false (suc s) o (one_more (b && not c) Stopped h)
@@ -69,7 +69,7 @@ at_stop up s o h f = by (has is_begin_sent h) (is_stopped h) refl refl
     by false c e g = let few = f.fewer_stops in record { unknown = f.unknown; halted = λ t. absurd (not_both (has is_begin_sent h) t e); fewer_stops = omega (arith, few); fewer_restarts = f.fewer_restarts }
 
 -- and an opening of one that isn't up, which starts those that are known.
-at_opening : (s o : ℕ) (found : Bool) (h : List Entry) → FollowsAt false s o h → FollowsAt true s (suc o) (one_more (has is_begin_sent h) (Restarted found) h)
+pub at_opening : (s o : ℕ) (found : Bool) (h : List Entry) → FollowsAt false s o h → FollowsAt true s (suc o) (one_more (has is_begin_sent h) (Restarted found) h)
 at_opening s o found h f = by (has is_begin_sent h) refl
   where
     by : (b : Bool) → has is_begin_sent h ≡ b → FollowsAt true s (suc o) (one_more b (Restarted found) h)
@@ -96,7 +96,7 @@ every p f (x ∷ xs) = and_both (p x) (each p xs) (f x) (every p f xs)
 below : (m n : ℕ) → m ≤ n → nat_le m n ≡ true
 below m n k = grind (arith, nat_tests)
 
-follows_one : (T : List Placed) → Follows T → (t : TxNo) → follows_log T t ≡ true
+pub follows_one : (T : List Placed) → Follows T → (t : TxNo) → follows_log T t ≡ true
 follows_one T f t =
     let h = history t.value T in
     let g = f.at t in

@@ -105,7 +105,7 @@ has_there p u (x ∷ T) h = step (is_at u x.0) (has_there p u T) h
     step true ih h = refl
     step false ih h = ih h
 
-known_there : (T : List Placed) (u : TxNo) → is_known T u ≡ true → is_there u.value T ≡ true
+pub known_there : (T : List Placed) (u : TxNo) → is_known T u ≡ true → is_there u.value T ≡ true
 known_there T u k = has_there is_begin_sent u.value T k
 
 many_if : (p c : Bool) (n : ℕ) → n ≡ one_if c 0 → (p ≡ true → c ≡ true) → (if p then n else 0) ≡ one_if p 0

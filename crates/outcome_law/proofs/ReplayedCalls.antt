@@ -98,7 +98,7 @@ quiet_put f (t ∷ ts) T h =
     quiet_join T ((Transaction t, f t) ∷ T) (put_at f ts ((Transaction t, f t) ∷ T)) (quiet_block t (f t ∷ []) T (ap (λ b. b && true) (h t))) (quiet_put f ts ((Transaction t, f t) ∷ T) h)
 
 -- A turn: the block of its step, and stops that are no calls.
-quiet_stop : (t : TxNo) (T : List Placed) → BringsNoCall T (after_stop t T)
+pub quiet_stop : (t : TxNo) (T : List Placed) → BringsNoCall T (after_stop t T)
 quiet_stop t T =
     let there = at_the_log Stopped T in
     let own = onto there (placed t (Stopped ∷ [])) in
@@ -115,11 +115,11 @@ quiet_turn s t (Coordinates StoppedNow) T =
 quiet_turn s t m T = quiet_if (has is_begin_sent (block_in s t m T) && not (is_log_up T)) t (after_block s t m T)
 
 -- a restart adds its call at the log alone
-quiet_halt : (b : Bool) (T : List Placed) → BringsNoCall T (stopped_by_restart b T)
+pub quiet_halt : (b : Bool) (T : List Placed) → BringsNoCall T (stopped_by_restart b T)
 quiet_halt true T = quiet_join T (at_the_log Stopped T) (stopped_by_restart true T) (quiet_there Stopped T refl) (quiet_put (λ u. Stopped) (hit T) (at_the_log Stopped T) (λ u. refl))
 quiet_halt false T = quiet_none T
 
-quiet_opening : (found : ℕ → Bool) (m : ℕ) (T : List Placed) → BringsNoCall T (after_opening found m T)
+pub quiet_opening : (found : ℕ → Bool) (m : ℕ) (T : List Placed) → BringsNoCall T (after_opening found m T)
 quiet_opening found m T =
     let there = at_the_log (LogWord (Opened m)) T in
     quiet_join T there (after_opening found m T) (quiet_there (LogWord (Opened m)) T refl) (quiet_put (λ t. Restarted (found t.value)) (known T) there (λ t. refl))
@@ -194,7 +194,7 @@ pub turn_beside : (s : List Line) (t : TxNo) (m : Step) (T : List Placed) (a : �
 turn_beside s t m T a = (quiet_turn s t m T).beside a ∙ context-placed a t T (block_in s t m T)
 
 -- a turn of a step that has a name adds no call
-quiet_named : (s : List Line) (t : TxNo) (T : List Placed) (n : StepName) (m : Step) → IsNamed (world_at s t T) n m → BringsNoCall T (after_turn s t m T)
+pub quiet_named : (s : List Line) (t : TxNo) (T : List Placed) (n : StepName) (m : Step) → IsNamed (world_at s t T) n m → BringsNoCall T (after_turn s t m T)
 quiet_named s t T n m k =
     quiet_join T (after_block s t m T) (after_turn s t m T) (quiet_block t (block_in s t m T) T (block_not_called t.value (world_at s t T) m (named_no_call (world_at s t T) n m k))) (quiet_turn s t m T)
 

@@ -48,7 +48,7 @@ pub record Turned (s : List Line) (ks : List EnteredCall) (t : TxNo) (m : Step) 
   pub world : world_with (entered m ks) t U ≡ stopped_if stops t.value (after t.value (world_with ks t T) m)
 
 -- what leaves the other transactions' histories as they were, and t's world run, keeps each freely caused
-one_free : (s : List Line) (ks : List EnteredCall) (t : TxNo) (T U : List Placed) → AllFree s T → ((u : TxNo) → (u.value == t.value) ≡ false → history u.value U ≡ history u.value T)
+pub one_free : (s : List Line) (ks : List EnteredCall) (t : TxNo) (T U : List Placed) → AllFree s T → ((u : TxNo) → (u.value == t.value) ≡ false → history u.value U ≡ history u.value T)
     → IsRunWith s ks t U → AllFree s U
 one_free s ks t T U free same r u = by_name (u.value == t.value) refl
   where
@@ -59,14 +59,14 @@ one_free s ks t T U free same r u = by_name (u.value == t.value) refl
     by_name false e = subst (λ h. FreelyCaused (IsCallOf s u.value) u.value h) (sym (same u e)) (free u)
 
 -- A stop hits a transaction: its world is run on by that step.
-stop_run : (s : List Line) (ks : List EnteredCall) (t : TxNo) (T U : List Placed) → is_hit T t ≡ true → history t.value U ≡ Stopped ∷ history t.value T → IsRunWith s ks t T → IsRunWith s ks t U
+pub stop_run : (s : List Line) (ks : List EnteredCall) (t : TxNo) (T U : List Placed) → is_hit T t ≡ true → history t.value U ≡ Stopped ∷ history t.value T → IsRunWith s ks t T → IsRunWith s ks t U
 unfolding after block_at
 stop_run s ks t T U k e r =
     let h = history t.value T in
     let runs : (has is_begin_sent h && not (coordinate h).stopped) ≡ true = ap (λ b. has is_begin_sent h && not b) (stopped_same h) ∙ k in
     (Stops ∷ r.0, (world_with ks t T, r.1, runs, ap (λ past. record { calls = ks; past = past }) e))
 
-restart_run : (s : List Line) (ks : List EnteredCall) (t : TxNo) (T U : List Placed) (found : Bool) → is_known T t ≡ true → is_stopped (history t.value T) ≡ true
+pub restart_run : (s : List Line) (ks : List EnteredCall) (t : TxNo) (T U : List Placed) (found : Bool) → is_known T t ≡ true → is_stopped (history t.value T) ≡ true
     → history t.value U ≡ Restarted found ∷ history t.value T → IsRunWith s ks t T → IsRunWith s ks t U
 unfolding after block_at
 restart_run s ks t T U found k d e r =
@@ -82,7 +82,7 @@ halt_free s T U q free u = by (is_hit T u) refl (q.at u)
     by true k e = let own = free u in (own.0, stop_run s own.0 u T U k e own.1)
     by false k e = subst (λ h. FreelyCaused (IsCallOf s u.value) u.value h) (sym e) (free u)
 
-halt_good : (s : List Line) (T U : List Placed) → IsHalt T U → IsGood s T → IsGood s U
+pub halt_good : (s : List Line) (T U : List Placed) → IsHalt T U → IsGood s T → IsGood s U
 halt_good s T U q g = record { free = halt_free s T U q g.free; follows = halt_follows T U q g.follows }
 
 -- and so does an opening where it isn't up
@@ -95,7 +95,7 @@ opening_free s found n T U q d g u = by (is_known T u) refl (q.at u)
         (own.0, restart_run s own.0 u T U (found u.value) k ((g.follows.at u).halted k ∙ ap not d) e own.1)
     by false k e = subst (λ h. FreelyCaused (IsCallOf s u.value) u.value h) (sym e) (g.free u)
 
-opening_good : (s : List Line) (found : ℕ → Bool) (n : ℕ) (T U : List Placed) → IsOpening found n T U → is_log_up T ≡ false → IsGood s T → IsGood s U
+pub opening_good : (s : List Line) (found : ℕ → Bool) (n : ℕ) (T U : List Placed) → IsOpening found n T U → is_log_up T ≡ false → IsGood s T → IsGood s U
 opening_good s found n T U q d g = record { free = opening_free s found n T U q d g; follows = opening_follows found n T U q d g.follows }
 
 -- what is written at a context changes none of it
@@ -104,7 +104,7 @@ noted_good s a es T g =
     record { free = λ u. subst (λ h. FreelyCaused (IsCallOf s u.value) u.value h) (sym (history-noted u.value a T es)) (g.free u); follows = noted_follows a es T g.follows }
 
 -- The turn of a step that goes on.
-plain_turn : (s : List Line) (t : TxNo) (m : Step) (T : List Placed) → goes_on m ≡ true → after_turn s t m T ≡ stop_if (has is_begin_sent (block_in s t m T) && not (is_log_up T)) t (after_block s t m T)
+pub plain_turn : (s : List Line) (t : TxNo) (m : Step) (T : List Placed) → goes_on m ≡ true → after_turn s t m T ≡ stop_if (has is_begin_sent (block_in s t m T) && not (is_log_up T)) t (after_block s t m T)
 plain_turn s t (Coordinates StoppedNow) T k = absurd cc
 plain_turn s t m T k = refl
 
@@ -172,7 +172,7 @@ going_turn s ks t m T g r q k = subst (Turned s ks t m T) (sym (plain_turn s t m
     by false u b d = alone (λ t. absurd (not_both (has is_begin_sent es) t b))
 
 -- The turn of an act that stops the log.
-stopping_halt : (t : TxNo) (T : List Placed) → is_hit T t ≡ true → IsHalt T (after_stop t T)
+pub stopping_halt : (t : TxNo) (T : List Placed) → is_hit T t ≡ true → IsHalt T (after_stop t T)
 stopping_halt t T k = record { there = log-put (λ u. Stopped) (others t (hit T)) own ∙ log-placed t (Stopped ∷ []) (at_the_log Stopped T); at = λ u. history-others u t (λ v. Stopped) T own ∙ by u (u.value == t.value) refl }
   where
     own : List Placed
@@ -259,10 +259,10 @@ steps_turn s ks t k (suc m) start T g r q =
     (record { good = one.good; run = one.run; stepped = (world_with ks t past, ih.stepped, q.2, q.3, one.there, one.named, one.stops, one.may, one.world) })
 
 -- What a restart does: where the log is up, it stops first; and where it is opened again, that comes to each transaction of which the coordinator knows.
-put_halt : (T : List Placed) → IsHalt T (put_at (λ u. Stopped) (hit T) (at_the_log Stopped T))
+pub put_halt : (T : List Placed) → IsHalt T (put_at (λ u. Stopped) (hit T) (at_the_log Stopped T))
 put_halt T = record { there = log-put (λ u. Stopped) (hit T) (at_the_log Stopped T); at = λ u. history-hit u (λ v. Stopped) T (at_the_log Stopped T) }
 
-put_opening : (found : ℕ → Bool) (n : ℕ) (T : List Placed) → IsOpening found n T (after_opening found n T)
+pub put_opening : (found : ℕ → Bool) (n : ℕ) (T : List Placed) → IsOpening found n T (after_opening found n T)
 put_opening found n T =
     record {
       there = log-put (λ t. Restarted (found t.value)) (known T) (at_the_log (LogWord (Opened n)) T);
@@ -270,7 +270,7 @@ put_opening found n T =
     }
 
 -- so it isn't up after the stop that a restart brings
-halted_there : (b : Bool) (T : List Placed) → is_log_up T ≡ b → is_log_up (stopped_by_restart b T) ≡ false
+pub halted_there : (b : Bool) (T : List Placed) → is_log_up T ≡ b → is_log_up (stopped_by_restart b T) ≡ false
 halted_there true T e = ap (λ l. unless_said (latest up_of l)) (put_halt T).there
 halted_there false T e = e
 

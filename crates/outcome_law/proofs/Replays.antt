@@ -127,7 +127,7 @@ scope_call_of s before l n k t c stands found e =
     given_of s l n (t, c) stands (of-at (IsGiven s n l) (scope_calls l.body (scopes_of l.actor.value before)) k (t, c) (scope_given s before l n found) e)
 
 -- what a scope line writes leaves the trace good, where its calls don't stand yet
-scope_good : (s before : List Line) (l : Line) (n : ℕ) (start : List Placed) → kth s n ≡ Some l → lines_before s n ≡ before → ((u : ℕ) → has (is_call n) (history u start) ≡ false)
+pub scope_good : (s before : List Line) (l : Line) (n : ℕ) (start : List Placed) → kth s n ≡ Some l → lines_before s n ≡ before → ((u : ℕ) → has (is_call n) (history u start) ≡ false)
     → IsGood s start → IsGood s (after_scope s n l (scopes_of l.actor.value before) start)
 scope_good s before l n start stands found new good =
     let xs : List OpenScope = scopes_of l.actor.value before in
@@ -137,13 +137,13 @@ scope_good s before l n start stands found new good =
     (noted_good s l.actor es start good)
 
 -- what a line does after that leaves it good
-words_good : (s : List Line) (l : Line) (n : ℕ) (o : Option (TxNo × Call)) (start T : List Placed) → kth s n ≡ Some l → call_of s l.body ≡ o
+pub words_good : (s : List Line) (l : Line) (n : ℕ) (o : Option (TxNo × Call)) (start T : List Placed) → kth s n ≡ Some l → call_of s l.body ≡ o
     → ((c : TxNo × Call) → o ≡ Some c → has (is_call n) (history c.0.value start) ≡ false) → IsGood s start → CallRan s l.actor n o start T → IsGood s T
 words_good s l n None start T stands e new good r = subst (IsGood s) (sym r) good
 words_good s l n (Some c) start T stands e new good r = call_good s l n c start T stands (own_given s l n c e) (new c refl) good r
 
 -- what a line does leaves it good, where no call of it stands yet
-line_good : (s before : List Line) (a : ActorNo) (b : Body) (start T : List Placed) → kth s (suc (length before)) ≡ Some (record { actor = a; body = b }) → lines_before s (suc (length before)) ≡ before
+pub line_good : (s before : List Line) (a : ActorNo) (b : Body) (start T : List Placed) → kth s (suc (length before)) ≡ Some (record { actor = a; body = b }) → lines_before s (suc (length before)) ≡ before
     → ((u : ℕ) → has (is_call (suc (length before))) (history u start) ≡ false) → IsGood s start → LineRan s before (record { actor = a; body = b }) start T → IsGood s T
 line_good s before a (Stop k i) start T stands found new good r =
     let n : ℕ = suc (length before) in
@@ -188,7 +188,7 @@ before-onto before rest l =
     ap (λ k. past_of (take k (onto (l ∷ rest) before))) none ∙ ap (λ xs. past_of xs) (take-onto before (l ∷ rest) 0) ∙ onto-onto [] before [] ∙ append-nil before
 
 -- what the lines did is a good trace
-lines_good : (s bs rest : List Line) (T : List Placed) → s ≡ onto rest bs → LinesRan s bs T → IsGood s T
+pub lines_good : (s bs rest : List Line) (T : List Placed) → s ≡ onto rest bs → LinesRan s bs T → IsGood s T
 lines_good s [] rest T e r = subst (IsGood s) (sym r) (record { free = λ u. ([], ([], (refl, refl))); follows = none_follows })
 lines_good s (l ∷ before) rest T e r =
     let n = suc (length before) in
@@ -196,7 +196,7 @@ lines_good s (l ∷ before) rest T e r =
     (λ u. lines_uncalled s before r.0 r.1 n (omega arith) u) (lines_good s before (l ∷ rest) r.0 e r.1) r.2
 
 -- and the rounds leave it good
-rounds_good : (s : List Line) (start : List Placed) (turns : List (TxNo × Step)) (T : List Placed) → IsGood s start → RoundsRan s start turns T → IsGood s T
+pub rounds_good : (s : List Line) (start : List Placed) (turns : List (TxNo × Step)) (T : List Placed) → IsGood s start → RoundsRan s start turns T → IsGood s T
 rounds_good s start [] T good r = subst (IsGood s) (sym r) good
 rounds_good s start (x ∷ xs) T good r =
     let ih = rounds_good s start xs r.0 good r.1 in
@@ -204,7 +204,7 @@ rounds_good s start (x ∷ xs) T good r =
     subst (IsGood s) (sym r.3) (step_turn s own.0 x.0 1 r.2.name x.1 r.0 ih own.1 (ap (λ ns. slice_get ns 0) r.2.first) r.2.named r.2.in_replay).good
 
 -- so a replay is good,
-replayed_good : (s : List Line) (T : List Placed) → IsReplayed s T → IsGood s T
+pub replayed_good : (s : List Line) (T : List Placed) → IsReplayed s T → IsGood s T
 replayed_good s T r =
     rounds_good s r.by_lines r.turns T (lines_good s (past_of s) [] r.by_lines (sym (append-nil s) ∙ sym (onto-onto [] s [])) r.lines) r.rounds
 
