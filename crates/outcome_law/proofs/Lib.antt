@@ -195,3 +195,4 @@ pub mod Appending
 pub mod Barred
 pub mod Unheard
 pub mod StopExample
+pub mod RestartExample
