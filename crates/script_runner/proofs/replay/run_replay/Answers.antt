@@ -20,14 +20,14 @@ returns-in-Ok-clause-history g c none =
     let s = c.args.s.now in
     let T = past_of c.in-Ok.trace in
     let r : IsQuietReplay s T = quiet_replay s _ T c.lines.ensures c.in-Ok.ensures.quiet none c.in-Ok.ensures.replayed c.in-Ok.ensures.settled c.in-Ok.ensures.calm in
-    let caused : (t : TxNo) → Caused s 0 t.value (history t.value T) = c.replay.ensures.caused s T r.replayed r.quiet 0 (to_any_each s T 0 r) in
+    let caused : (t : TxNo) → Caused s 0 t.value (history t.value T) = c.replay.ensures.caused s T r.replayed 0 (to_any_each s T 0 r) in
     record {
       caused = caused;
       promotes = λ t. c.crossings.ensures.promotes s t.value (history t.value T) c.requires.script.named (caused t).freely (unstopped_tied (history t.value T) (r.unstopped t));
       wires = λ t. c.crossings.ensures.wires s t.value (history t.value T) (caused t).freely;
       settled = r.settled;
-      contexts = c.replay.ensures.contexts s T r.replayed r.quiet;
-      called = called_at s T (c.replay.ensures.called s T r.replayed r.quiet);
+      contexts = c.replay.ensures.contexts s T r.replayed;
+      called = called_at s T (c.replay.ensures.called s T r.replayed);
       faulted = quiet_faults T _ r.quiet;
       followed = quiet_follows T r.quiet r.unstopped;
     }
@@ -38,7 +38,7 @@ returns-in-Ok-clause-replay g c none =
     let T = past_of c.in-Ok.trace in
     let r : IsQuietReplay s T = quiet_replay s _ T c.lines.ensures c.in-Ok.ensures.quiet none c.in-Ok.ensures.replayed c.in-Ok.ensures.settled c.in-Ok.ensures.calm in
     record {
-      called = c.replay.ensures.called s T r.replayed r.quiet;
+      called = c.replay.ensures.called s T r.replayed;
       replayed = r.replayed;
       stops = λ risen. quiet_stops [] T r.quiet;
       opens = λ honest. quiet_opens [] T r.quiet;
@@ -49,7 +49,7 @@ returns-in-Ok-clause-outcome g c none =
     let s = c.args.s.now in
     let T = past_of c.in-Ok.trace in
     let r : IsQuietReplay s T = quiet_replay s _ T c.lines.ensures c.in-Ok.ensures.quiet none c.in-Ok.ensures.replayed c.in-Ok.ensures.settled c.in-Ok.ensures.calm in
-    let caused : (t : TxNo) → Caused s 0 t.value (history t.value T) = c.replay.ensures.caused s T r.replayed r.quiet 0 (to_any_each s T 0 r) in
+    let caused : (t : TxNo) → Caused s 0 t.value (history t.value T) = c.replay.ensures.caused s T r.replayed 0 (to_any_each s T 0 r) in
     record {
       just = λ t. c.one_outcome.ensures.just s t.value (history t.value T) c.requires.script.named (caused t).freely (unstopped_tied (history t.value T) (r.unstopped t));
       agrees = λ t. c.one_outcome.ensures.agrees s t.value (history t.value T) c.requires.script.named (caused t).freely (unstopped_tied (history t.value T) (r.unstopped t));
@@ -62,7 +62,7 @@ returns-in-Ok-clause-complete g c none =
     let T = past_of c.in-Ok.trace in
     let r : IsQuietReplay s T = quiet_replay s _ T c.lines.ensures c.in-Ok.ensures.quiet none c.in-Ok.ensures.replayed c.in-Ok.ensures.settled c.in-Ok.ensures.calm in
     let named = c.requires.script.named in
-    let caused : (t : TxNo) → Caused s 0 t.value (history t.value T) = c.replay.ensures.caused s T r.replayed r.quiet 0 (to_any_each s T 0 r) in
+    let caused : (t : TxNo) → Caused s 0 t.value (history t.value T) = c.replay.ensures.caused s T r.replayed 0 (to_any_each s T 0 r) in
     let runs : (t : TxNo) → has is_stop (history t.value T) ≡ false = λ t. unstopped_stop (history t.value T) (r.unstopped t) in
     record {
       told = λ t. c.completeness.ensures.told s 0 t.value (history t.value T) named (caused t) (runs t);
@@ -76,7 +76,7 @@ returns-in-Ok-clause-waited g c none t =
     let T = past_of c.in-Ok.trace in
     let r : IsQuietReplay s T = quiet_replay s _ T c.lines.ensures c.in-Ok.ensures.quiet none c.in-Ok.ensures.replayed c.in-Ok.ensures.settled c.in-Ok.ensures.calm in
     let named = c.requires.script.named in
-    let caused : Caused s 0 t.value (history t.value T) = c.replay.ensures.caused s T r.replayed r.quiet 0 (to_any_each s T 0 r) t in
+    let caused : Caused s 0 t.value (history t.value T) = c.replay.ensures.caused s T r.replayed 0 (to_any_each s T 0 r) t in
     c.completeness.ensures.waited s 0 t.value (history t.value T) named caused (unstopped_stop (history t.value T) (r.unstopped t))
 
 pub returns-in-Ok-clause-rights : goal.returns-in-Ok-clause-rights
@@ -85,7 +85,7 @@ returns-in-Ok-clause-rights g c none =
     let T = past_of c.in-Ok.trace in
     let r : IsQuietReplay s T = quiet_replay s _ T c.lines.ensures c.in-Ok.ensures.quiet none c.in-Ok.ensures.replayed c.in-Ok.ensures.settled c.in-Ok.ensures.calm in
     let named = c.requires.script.named in
-    let caused : (t : TxNo) → Caused s 0 t.value (history t.value T) = c.replay.ensures.caused s T r.replayed r.quiet 0 (to_any_each s T 0 r) in
+    let caused : (t : TxNo) → Caused s 0 t.value (history t.value T) = c.replay.ensures.caused s T r.replayed 0 (to_any_each s T 0 r) in
     record {
       one = λ t. c.rights.ensures.one s t.value (history t.value T) named (caused t).freely (unstopped_tied (history t.value T) (r.unstopped t));
       seen = λ t. c.rights.ensures.placed s t (history t.value T) named (caused t).freely;
@@ -100,7 +100,7 @@ returns-in-Ok-clause-appends g c none =
     let T = past_of c.in-Ok.trace in
     let r : IsQuietReplay s T = quiet_replay s _ T c.lines.ensures c.in-Ok.ensures.quiet none c.in-Ok.ensures.replayed c.in-Ok.ensures.settled c.in-Ok.ensures.calm in
     let named = c.requires.script.named in
-    let caused : (t : TxNo) → Caused s 0 t.value (history t.value T) = c.replay.ensures.caused s T r.replayed r.quiet 0 (to_any_each s T 0 r) in
+    let caused : (t : TxNo) → Caused s 0 t.value (history t.value T) = c.replay.ensures.caused s T r.replayed 0 (to_any_each s T 0 r) in
     let sound : (t : TxNo) → tied (history t.value T) ≡ true = λ t. unstopped_tied (history t.value T) (r.unstopped t) in
     record {
       untried = λ t aborted.
