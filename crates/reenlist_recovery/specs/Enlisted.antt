@@ -43,7 +43,7 @@ made_if is_its b = record { unvoted = is_its || b.unvoted; out = b.out }
 
 -- it votes so, where the entry is of it; a vote that is there stays
 abbrev pub voted_if : Bool → Vote → Ballot → Ballot
-voted_if is_its v b = record { unvoted = not is_its && b.unvoted; out = b.out || (is_its && b.unvoted && not (still_hears_by v)) }
+voted_if is_its v b = record { unvoted = not is_its && b.unvoted; out = b.out || ((is_its && not (still_hears_by v)) && b.unvoted) }
 
 -- what becomes of it by an entry
 abbrev pub ballot_after : ℕ → Entry → Ballot → Ballot

@@ -60,7 +60,7 @@ impl Ballot {
     {
         Ballot {
             unvoted: !is_its && self.unvoted,
-            out: self.out || (is_its && self.unvoted && !still_hears_by(v)),
+            out: self.out || (is_its && !still_hears_by(v) && self.unvoted),
         }
     }
 }
