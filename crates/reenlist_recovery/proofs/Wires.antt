@@ -1,5 +1,6 @@
 -- What one more entry makes of what a history says of a connection.
 use Rattle.std.proofs.Common.{◌≡◌, ◌≤◌, ◌+◌, ◌-◌, ◌==◌, ℕ, suc, min, Bool, true, false, ◌&&◌, ◌||◌, not, List, [], ◌∷◌, ◌++◌, length, take, Option, Some, None, is_some, if◌then◌else◌, refl, ap, sym, ◌∙◌, arith, length-append}
+use Rattle.std.proofs.lemmas.Bool.Decides.{nat_tests}
 use Rattle.std.proofs.lemmas.List.{length-take}
 use Rattle.dtx_values.specs.declared.entry.Entry.{Entry}
 use Rattle.dtx_values.specs.declared.entry.Entry.TheVariants.{Sent, Got, Cut, Stopped}
@@ -120,9 +121,12 @@ transit-few c d (x ∷ past) =
     omega arith
 
 -- a connection is linked as its numbers of messages say
+not_none : (n : ℕ) → (suc n == 0) ≡ false
+not_none n = grind (arith, nat_tests)
+
 empty_long : (ms : List Message) → is_empty ms ≡ (length ms == 0)
 empty_long [] = refl
-empty_long (m ∷ ms) = refl
+empty_long (m ∷ ms) = sym (not_none (length ms))
 
 linked_by : (was a b lost p q : Bool) → (was && (not (a && b) || (not p || (lost && not a)) || (not q || (lost && not b)))) ≡ (was && (not (a && b) || not p || not q))
 linked_by false a b lost p q = refl
