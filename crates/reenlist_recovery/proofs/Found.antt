@@ -76,12 +76,12 @@ find_rest true y o e = absurd cc
 find_rest false y o e = (refl, e)
 
 pub find-own : {A : Type 0} (p : A → Bool) (key : A → ℕ) (x : A) (ys : List A) → p x ≡ true → find p ys ≡ None → find p (insert_by key x ys) ≡ Some x
-find-own p key x [] yes none = λ k. if yes k then Some x else None
-find-own p key x (y ∷ ys) yes none = step (nat_lt (key y) (key x)) (find_rest (p y) y (find p ys) none).0 (find-own p key x ys yes (find_rest (p y) y (find p ys) none).1)
+find-own p key x [] passes none = λ k. if passes k then Some x else None
+find-own p key x (y ∷ ys) passes none = step (nat_lt (key y) (key x)) (find_rest (p y) y (find p ys) none).0 (find-own p key x ys passes (find_rest (p y) y (find p ys) none).1)
   where
     step : (b : Bool) → p y ≡ false → find p (insert_by key x ys) ≡ Some x → find p (if b then y ∷ insert_by key x ys else x ∷ y ∷ ys) ≡ Some x
     step true e ih = (λ k. if e k then Some y else find p (insert_by key x ys)) ∙ ih
-    step false e ih = λ k. if yes k then Some x else find p (y ∷ ys)
+    step false e ih = λ k. if passes k then Some x else find p (y ∷ ys)
 
 -- among those that are left
 pub has-left : {A : Type 0} (p q : A → Bool) → ((x : A) → p x ≡ true → q x ≡ true) → (xs : List A) → has p (filter q xs) ≡ has p xs
