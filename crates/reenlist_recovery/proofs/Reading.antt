@@ -1,11 +1,11 @@
 -- Bytes that are refused as recovery information are none, and are refused so alone.
-use Rattle.std.proofs.Common.{◌≡◌, ◌≢◌, ◌↔◌, ◌+◌, ℕ, List, length, take, drop, Option, Some, None, Ok, Err, refl, ap, sym, ◌∙◌}
+use Rattle.std.proofs.Common.{◌≡◌, ◌↔◌, ◌+◌, ℕ, List, length, Option, Some, None, Err, ap, sym, ◌∙◌}
 use Rattle.std.specs.Option.{option_map, option_or}
 use Rattle.std.specs.Result.{result_err}
 use Rattle.dtx_values.specs.declared.info.BadInfo.{BadInfo}
 use Rattle.dtx_values.specs.declared.info.BadInfo.TheVariants.{Length, Value}
 use Rattle.dtx_values.specs.declared.message.Info.{Info}
-use Rattle.dtx_values.specs.RecoveryInfo.{IsInfo, bad_field, identifier_in, pair_in}
+use Rattle.dtx_values.specs.RecoveryInfo.{IsInfo, bad_field}
 use Rattle.dtx_values.proofs.Infos.{info_id, info_long, info_pair}
 use Rattle.dtx_values.specs.declared.entry.Answer.{Answer}
 use Rattle.dtx_values.specs.declared.entry.Answer.TheVariants.{Fine, Finished, Over, Connected, Stopped}
@@ -15,7 +15,7 @@ use Rattle.dtx_model.specs.Words.{past_of}
 use Rattle.reenlist_recovery.specs.declared.refusal.ReenlistRefusal.{ReenlistRefusal}
 use Rattle.reenlist_recovery.specs.declared.refusal.ReenlistRefusal.TheVariants.{BadInfo as Unreadable, WrongTransaction}
 use Rattle.reenlist_recovery.specs.declared.standing.Standing.{Standing}
-use Rattle.reenlist_recovery.specs.Recovery.{IsBad, answered, refusal_of, reenlisted, unless_refused}
+use Rattle.reenlist_recovery.specs.Recovery.{IsBad, answered, refusal_of, unless_refused}
 use Rattle.reenlist_recovery.specs.Standing.{answer_by, standing_of}
 use Rattle.reenlist_recovery.proofs.Standings.{answer-is}
 

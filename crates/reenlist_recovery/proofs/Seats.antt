@@ -1,5 +1,5 @@
 -- What one more entry makes of what the branches say of an enlistment.
-use Rattle.std.proofs.Common.{◌≡◌, ℕ, ◌==◌, Bool, true, false, ◌&&◌, ◌||◌, not, List, [], ◌∷◌, map, filter, find, Option, Some, None, is_some, if◌then◌else◌, refl, sym, ◌∙◌}
+use Rattle.std.proofs.Common.{◌≡◌, ℕ, ◌==◌, Bool, true, false, ◌&&◌, ◌||◌, not, List, map, filter, find, Option, Some, None, is_some, refl, sym, ◌∙◌}
 use Rattle.std.specs.Option.{option_map}
 use Rattle.dtx_values.specs.declared.entry.Entry.{Entry}
 use Rattle.dtx_values.specs.declared.entry.Entry.TheVariants.{Sent, Got, Told, Reenlisted, Acked}
@@ -16,7 +16,7 @@ use Rattle.dtx_model.specs.Observed.{branch_aborted, branch_acked, branch_due, b
 use Rattle.dtx_model.specs.Words.{has}
 use Rattle.dtx_model.proofs.Bools.{and_left, and_never, not_true}
 use Rattle.reenlist_recovery.specs.Enlisted.{accepted_if, is_accepted, is_told, seat_after, seat_of, sent_if, told_if}
-use Rattle.reenlist_recovery.proofs.Found.{find-left, find-map, find-none, find-other, find-own, found, has-found, has-insert_by, has-left, has-map, has-more, has-none, other_number, same_number, third_number}
+use Rattle.reenlist_recovery.proofs.Found.{find-left, find-map, find-none, find-other, find-own, found, has-found, has-insert_by, has-left, has-map, has-more, has-none, same_number, third_number}
 
 -- a branch that was just made
 abbrev pub made : EnlNo → RmNo → Branch

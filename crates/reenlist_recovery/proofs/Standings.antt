@@ -1,30 +1,28 @@
 -- What a history says of an enlistment and of the coordinator, entry by entry, and what a `reenlist` is answered by it.
-use Rattle.std.proofs.Common.{◌≡◌, ◌≤◌, ◌<◌, ◌+◌, ◌^◌, ℕ, Bool, true, ◌||◌, not, List, [], ◌∷◌, find, length, get_or, take, Option, Some, None, if◌then◌else◌, refl, ap, sym, ◌∙◌, arith}
+use Rattle.std.proofs.Common.{◌≡◌, ◌≤◌, ◌<◌, ◌+◌, ◌^◌, ℕ, Bool, ◌||◌, not, List, [], ◌∷◌, find, length, get_or, take, Option, Some, None, if◌then◌else◌, refl, ap, sym, ◌∙◌, arith}
 use Rattle.std.specs.Option.{option_map}
 use Rattle.std.proofs.lemmas.Bool.{eqb-true}
 use Rattle.std.proofs.lemmas.List.{length-take}
-use Rattle.dtx_values.specs.declared.entry.Answer.{Answer}
 use Rattle.dtx_values.specs.declared.entry.Answer.TheVariants.{Fine, NoSuch, Finished, Over, Connected, Stopped as IsStopped}
 use Rattle.dtx_values.specs.declared.entry.Entry.{Entry}
 use Rattle.dtx_values.specs.declared.entry.Entry.TheVariants.{Stopped, Restarted}
 use Rattle.dtx_values.specs.declared.message.Conn.TheVariants.{Enl, Again}
 use Rattle.dtx_values.specs.declared.message.Dir.TheVariants.{Up, Down}
 use Rattle.dtx_values.specs.declared.number.EnlNo.{EnlNo}
-use Rattle.dtx_values.specs.declared.number.RmNo.{RmNo}
 use Rattle.dtx_values.specs.Ends.{is_in}
 use Rattle.dtx_model.specs.declared.branch.Branch.{Branch}
 use Rattle.dtx_model.specs.Coordinated.{coordinate, follow, stopped_after}
 use Rattle.dtx_model.specs.Observed.{branches, is_branch, observe, rows}
 use Rattle.dtx_model.specs.Wires.{holds, is_stopped, stop_of}
-use Rattle.dtx_model.specs.Words.{has, latest, or_else, past_of}
-use Rattle.dtx_model.specs.World.{World, is_connected, is_finished_there, reenlist_answer, reenlist_by}
+use Rattle.dtx_model.specs.Words.{latest, or_else, past_of}
+use Rattle.dtx_model.specs.World.{is_connected, is_finished_there, reenlist_by}
 use Rattle.dtx_model.proofs.Pasts.{length-past}
 use Rattle.dtx_model.proofs.Prefixes.{past-more}
 use Rattle.dtx_model.proofs.SameNumbers.{same_enlistment}
 use Rattle.reenlist_recovery.specs.declared.standing.Standing.{Standing}
 use Rattle.reenlist_recovery.specs.declared.wire.Wire.{Wire}
-use Rattle.reenlist_recovery.specs.Connections.{is_linked_wire, wire_after, wire_of}
-use Rattle.reenlist_recovery.specs.Enlisted.{is_accepted, is_out, is_told}
+use Rattle.reenlist_recovery.specs.Connections.{wire_after, wire_of}
+use Rattle.reenlist_recovery.specs.Enlisted.{is_accepted}
 use Rattle.reenlist_recovery.specs.Recovery.{reenlisted}
 use Rattle.reenlist_recovery.specs.Standing.{HasRoom, answer_by, answer_for, at_first, standing_after, standing_of}
 use Rattle.reenlist_recovery.proofs.Ballots.{ballot-more}
@@ -95,11 +93,11 @@ answer_with e past (Some b) is =
     let s = standing_of e past in
     let same : b.enlistment ≡ e = sym (same_enlistment e b.enlistment (eqb-true e.value b.enlistment.value (found (is_branch e.value) (branches past) b is))) in
     (λ k.
-        if not b.enlisted then NoSuch else if is_finished_there (observe past) (same k).value then Finished else if is_in b.manager.value s.recovered then Over b.manager
-        else if is_connected (same k) past then Connected (same k) else if s.stopped then IsStopped else Fine)
+    if not b.enlisted then NoSuch else if is_finished_there (observe past) (same k).value then Finished else if is_in b.manager.value s.recovered then Over b.manager
+    else if is_connected (same k) past then Connected (same k) else if s.stopped then IsStopped else Fine)
     ∙ (λ k.
-        if not (is_accepted (sym is k)) then NoSuch else if s.seat.told || s.ballot.out then Finished else if is_in b.manager.value s.recovered then Over b.manager
-        else if linked-is (Enl e) past k || linked-is (Again e) past k then Connected e else if s.stopped then IsStopped else Fine)
+    if not (is_accepted (sym is k)) then NoSuch else if s.seat.told || s.ballot.out then Finished else if is_in b.manager.value s.recovered then Over b.manager
+    else if linked-is (Enl e) past k || linked-is (Again e) past k then Connected e else if s.stopped then IsStopped else Fine)
 
 -- what a `reenlist` is answered
 pub answer-is : (e : EnlNo) (xs : List Entry) → reenlisted xs e ≡ answer_by e (standing_of e (past_of xs))

@@ -1,5 +1,4 @@
-use Rattle.std.proofs.Common.{◌≡◌, Ok, None, Some}
-use Rattle.dtx_values.specs.declared.message.Info.{Info}
+use Rattle.std.proofs.Common.{◌≡◌, None, Some}
 use Rattle.reenlist_recovery.specs.Standing.{answer_by}
 use Rattle.reenlist_recovery.proofs.Reading.{answered-is, refused-bad, wrong-bad}
 use Rattle.reenlist_recovery.proofs.checking.check.Goals as goal

@@ -1,4 +1,4 @@
-use Rattle.std.proofs.Common.{◌<◌, ◌^◌, ◌∙◌, length, arith}
+use Rattle.std.proofs.Common.{◌∙◌, arith}
 use Rattle.reenlist_recovery.proofs.Standings.{again-room, first-standing, next-standing, own-room}
 use Rattle.reenlist_recovery.proofs.standing.standing_of.Goals as goal
 
