@@ -65,7 +65,10 @@ fn who_was_lost_comes_back(rt: HostRuntime) -> Result<(), Fail> {
         (&[prepare, Entry::Cut(c, 0, 0), up, down], Ok(info)),
         (&[Entry::Stopped], connected),
         (&[Entry::Stopped, down], stopped),
-        (&[Entry::Stopped, down, back, Entry::Down(x, Dir::Down)], stopped),
+        (
+            &[Entry::Stopped, down, back, Entry::Down(x, Dir::Down)],
+            stopped,
+        ),
         (&[Entry::Stopped, down, Entry::Restarted(true)], Ok(info)),
     ];
     for (then, want) in cases {
@@ -89,10 +92,22 @@ fn who_is_finished_stays_away(rt: HostRuntime) -> Result<(), Fail> {
         (&[Entry::Acked(e), lost, up, down], finished),
         (&[Entry::Told(Party::Enl(e), Outcome::Aborted)], finished),
         (&[made, Entry::Voted(e, Vote::No), lost, up, down], finished),
-        (&[made, Entry::Voted(e, Vote::Done), Entry::Recovered(info.rm)], finished),
-        (&[made, Entry::Voted(e, Vote::Yes), lost, up, down], Ok(info)),
-        (&[Entry::Recovered(info.rm)], Err(ReenlistRefusal::RecoveryOver(info.rm))),
-        (&[lost, up, down, Entry::Recovered(info.rm)], Err(ReenlistRefusal::RecoveryOver(info.rm))),
+        (
+            &[made, Entry::Voted(e, Vote::Done), Entry::Recovered(info.rm)],
+            finished,
+        ),
+        (
+            &[made, Entry::Voted(e, Vote::Yes), lost, up, down],
+            Ok(info),
+        ),
+        (
+            &[Entry::Recovered(info.rm)],
+            Err(ReenlistRefusal::RecoveryOver(info.rm)),
+        ),
+        (
+            &[lost, up, down, Entry::Recovered(info.rm)],
+            Err(ReenlistRefusal::RecoveryOver(info.rm)),
+        ),
         (&[lost, up, down, Entry::Recovered(other)], Ok(info)),
     ];
     for (then, want) in cases {
@@ -107,9 +122,15 @@ fn an_enlistment_that_was_not_accepted_is_none(rt: HostRuntime) -> Result<(), Fa
     let info = information(ID);
     let entries = accepted(info);
     let none = history_of(rt.alloc(), &[], &[])?;
-    assert_eq!(rt; check(&none, ID, &write_info(&info)), Err(ReenlistRefusal::NoSuch));
+    assert_eq!(rt;
+        check(&none, ID, &write_info(&info)),
+        Err(ReenlistRefusal::NoSuch)
+    );
     let waiting = history_of(rt.alloc(), &entries[..3], &[Entry::Stopped])?;
-    assert_eq!(rt; check(&waiting, ID, &write_info(&info)), Err(ReenlistRefusal::NoSuch));
+    assert_eq!(rt;
+        check(&waiting, ID, &write_info(&info)),
+        Err(ReenlistRefusal::NoSuch)
+    );
     Ok(())
 }
 
