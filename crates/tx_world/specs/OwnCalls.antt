@@ -1,9 +1,11 @@
 -- Calls that a world does with the steps before them, a call that needs no log, and the status of a transaction.
-use Rattle.std.specs.Prelude.{ℕ, ◌≡◌, ◌≤◌, ◌<◌, Bool, true, false, Option, Some, None}
+use Rattle.std.specs.Prelude.{ℕ, ◌≡◌, ◌≤◌, ◌<◌, ◌&&◌, not, Bool, true, false, Option, Some, None}
 use Rattle.dtx_values.specs.declared.call.Call.{Call}
 use Rattle.dtx_values.specs.declared.call.Call.TheVariants.{Durable, Marshal, Await, Do}
 use Rattle.dtx_values.specs.declared.entry.Answer.{Answer}
 use Rattle.dtx_values.specs.declared.entry.Answer.TheVariants.{OutcomeIs, StillActive}
+use Rattle.dtx_values.specs.declared.note.Note.{Note}
+use Rattle.dtx_values.specs.declared.note.Reply.{Reply}
 use Rattle.dtx_values.specs.declared.number.ActorNo.{ActorNo}
 use Rattle.dtx_values.specs.declared.words.Outcome.{Outcome}
 use Rattle.dtx_values.specs.declared.words.Outcome.TheVariants.{Committed, Aborted, InDoubt}
@@ -14,8 +16,9 @@ use Rattle.dtx_model.specs.World.{answer_at}
 use Rattle.dtx_model.specs.Steps.{Step, StepName, Calls, after, pending}
 use Rattle.dtx_model.specs.Caused.{IsNamed}
 use Rattle.coordinator_log.specs.State.{LogState}
+use Rattle.local_half.specs.Half.{fits_due}
 use Rattle.tx_world.specs.State.{TxState, sends_begin}
-use Rattle.tx_world.specs.Stepping.{Does, IsToPlan, Settles, Stepped}
+use Rattle.tx_world.specs.Stepping.{Does, IsToPlan, is_to_promote, Settles, Stepped}
 
 -- the status of a transaction that was decided so, or wasn't decided
 abbrev pub status_of : Option Outcome → Status
@@ -54,6 +57,10 @@ pub record DoesAlone (m : Step) (old new : TxState) : Type 0 where
   pub world : new.world ≡ after old.transaction.value old.world m
   pub silent : sends_begin old.transaction.value old.world m ≡ false
   pub life : new.life ≡ old.life
+
+-- the reply fits the note to which one is due, where one is, and that isn't one to promote
+abbrev pub may_reply_alone : Reply → Option Note → Bool
+may_reply_alone r o = fits_due r o && not (is_to_promote o)
 
 -- The k-th pending step was done, whatever the log was; a reply is the planned one.
 pub record DoesKthAlone (k : ℕ) (old new : TxState) : Type 0 where

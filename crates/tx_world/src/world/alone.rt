@@ -1,5 +1,5 @@
 //! Calls, steps and replies that need no log, for a caller that doesn't hold it.
-ghost use Rattle.std.specs.Prelude.{◌≡◌, ◌<◌, Ok, None, IfOk, OnOk, OnErr, true, false, is_some};
+ghost use Rattle.std.specs.Prelude.{◌≡◌, ◌<◌, ◌&&◌, not, Ok, None, IfOk, OnOk, OnErr, true, false, is_some};
 ghost use Rattle.dtx_model.specs.Caused.{MayAnswer};
 ghost use Rattle.dtx_model.specs.Replies.{due_of};
 ghost use Rattle.dtx_model.specs.Steps.{Calls, Replies, pending};
@@ -7,14 +7,21 @@ ghost use Rattle.dtx_model.specs.Words.{kth};
 ghost use Rattle.dtx_model.specs.World.{answer_at, half};
 ghost use Rattle.local_half.specs.Half.{fits_due};
 ghost use Rattle.world_laws.specs.Left.{steps_left};
-ghost use Rattle.tx_world.specs.OwnCalls.{DoesAlone, DoesKthAlone, is_alone};
+ghost use Rattle.tx_world.specs.OwnCalls.{DoesAlone, DoesKthAlone, is_alone, may_reply_alone};
 ghost use Rattle.tx_world.specs.State.{may_enter};
 ghost use Rattle.tx_world.specs.Stepping.{is_to_promote, needs_log};
 
 use super::TxWorld;
 use crate::pending::PendingStep;
 use crate::refusal::WorldError;
-use dtx_values::{ActorNo, Answer, Call, EnlNo, Outbox, Reply};
+use dtx_values::{ActorNo, Answer, Call, EnlNo, Note, Outbox, Reply};
+
+/// Whether a reply that fits this note, where it does, needs no log.
+fn may_reply_alone(fits: bool, due: Option<Note>) -> bool
+    ensures { result ≡ (fits && not (is_to_promote due)) }
+{
+    fits && !matches!(due, Some(Note::Promote))
+}
 
 impl TxWorld {
     /// Whether the call can be done alone, by [`TxWorld::call_alone`]: it is none of durable and marshal, which may begin a promotion, and no `do`.
@@ -50,6 +57,13 @@ impl TxWorld {
     {
         // It sends no BEGIN, so it doesn't matter what is said of the log.
         self.enter_at(true, 0, out, actor, line, c, 0)
+    }
+
+    /// Whether the reply fits the note to which one of the enlistment is due, and that isn't one to promote, so that it needs no log. Where none is due, each fits.
+    pub fn may_reply_alone(&self, e: EnlNo, r: Reply) -> bool
+        ensures { result ≡ may_reply_alone r (due_of (half self.now.world).seen e.value) }
+    {
+        may_reply_alone(self.half.fits(e, r), self.half.due_of(e))
     }
 
     /// Does the reply of an enlistment that isn't asked to promote, as [`TxWorld::reply`] does, whatever the log is; false exactly where none is due.
