@@ -1,1 +1,4 @@
-pub mod Check
+pub mod Connections
+pub mod Enlisted
+pub mod Standing
+pub mod Recovery

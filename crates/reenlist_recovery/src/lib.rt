@@ -1,30 +1,14 @@
-//! What a manager hands in to bring an enlistment back, against the history of its transaction.
+//! Whether an enlistment comes back: what a resource manager hands in after a crash, its recovery information, is checked against the kept history of
+//! one transaction.
 #![tactic(auto)]
-ghost use Rattle.std.specs.Prelude.{◌≡◌};
-ghost use Rattle.dtx_values.specs.declared.message.Info.{Info};
-ghost use Rattle.dtx_values.specs.RecoveryInfo.{IsInfo};
-ghost use Rattle.dtx_model.specs.Words.{past_of};
-ghost use Rattle.reenlist_recovery.specs.Check.{as_refusal, answer_by};
 
-use dtx_values::{BadInfo, EnlNo, Info, RmNo};
-use entry_lists::Entries;
+mod ballot;
+mod checking;
+mod counts;
+mod refusal;
+mod seat;
+mod standing;
+mod wire;
 
-/// Why an enlistment doesn't come back.
-#[derive(Clone, Copy, PartialEq, Eq, Debug)]
-pub enum ReenlistRefusal {
-    BadInfo(BadInfo),
-    WrongTransaction(u128, u128),
-    NoSuch,
-    Finished(EnlNo),
-    RecoveryOver(RmNo),
-    Connected(EnlNo),
-    Stopped,
-}
-
-/// A stub.
-pub fn check(history: &Entries, wanted: u128, info: &[u8]) -> Result<Info, ReenlistRefusal>
-    ensures answered { (i : Info) → IsInfo info.now i → i.id ≡ wanted → result ≡ as_refusal i (answer_by (past_of history.now.items) i.enl) }
-{
-    let _ = (history, wanted, info);
-    Err(ReenlistRefusal::NoSuch)
-}
+pub use checking::check;
+pub use refusal::ReenlistRefusal;

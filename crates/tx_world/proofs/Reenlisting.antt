@@ -24,15 +24,15 @@ use Rattle.dtx_model.specs.Half.{Half, heeds_all}
 use Rattle.dtx_model.specs.Observed.{is_branch}
 use Rattle.dtx_model.specs.Promotes.{identifier_of}
 use Rattle.dtx_model.specs.Steps.{Calls, block_at, entered}
-use Rattle.dtx_model.specs.Words.{each, has, onto}
+use Rattle.dtx_model.specs.Words.{each, has, onto, past_of}
 use Rattle.dtx_model.specs.World.{World, answer_at, branch_answer, core, half, is_connected, is_finished_there, reenlist_answer, reenlist_by, reenlist_facts}
 use Rattle.dtx_model.proofs.Heeding.{heeds_all_same}
 use Rattle.dtx_model.proofs.Quiet.{Quiet}
 use Rattle.dtx_model.proofs.Writes.{Each, e_cons}
 use Rattle.local_half.specs.Half.{Known, after as known_after}
 use Rattle.coordinator_core.specs.Kept.{Kept as CoreKept}
-use Rattle.reenlist_recovery.specs.declared.lib.ReenlistRefusal.{ReenlistRefusal}
-use Rattle.reenlist_recovery.specs.Check.{as_refusal, answer_by}
+use Rattle.reenlist_recovery.specs.declared.refusal.ReenlistRefusal.{ReenlistRefusal}
+use Rattle.reenlist_recovery.specs.Recovery.{answered, refusal_of, unless_refused}
 use Rattle.world_laws.specs.Carried.{are_sendable}
 use Rattle.world_laws.specs.Course.{is_near, is_written}
 use Rattle.world_laws.proofs.Near.{near_reenlist}
@@ -47,12 +47,12 @@ use Rattle.tx_world.proofs.Onward.{half_is, near_follow_all}
 use Rattle.tx_world.proofs.Written.{block_of, near_written}
 
 -- The answer. What a check gives says the answer.
-checked_back : (i : Info) (w : World) (o : Option Branch) → returned (as_refusal i (reenlist_by w o)) ≡ reenlist_by w o
+checked_back : (i : Info) (w : World) (o : Option Branch) → returned (unless_refused i (refusal_of i.enl (reenlist_by w o))) ≡ reenlist_by w o
 checked_back i w None = refl
 checked_back i w (Some b) = by b.enlisted (is_finished_there (half w).seen b.enlistment.value) (is_in b.manager.value (core w).recovered) (is_connected b.enlistment w.past) (core w).stopped
   where
     by : (a f o l s : Bool)
-        → returned (as_refusal i (if not a then NoSuch else if f then Finished else if o then Over b.manager else if l then Connected b.enlistment else if s then Stopped else Fine))
+        → returned (unless_refused i (refusal_of i.enl (if not a then NoSuch else if f then Finished else if o then Over b.manager else if l then Connected b.enlistment else if s then Stopped else Fine)))
         ≡ (if not a then NoSuch else if f then Finished else if o then Over b.manager else if l then Connected b.enlistment else if s then Stopped else Fine)
     by false f o l s = refl
     by true true o l s = refl
@@ -65,12 +65,14 @@ checked_back i w (Some b) = by b.enlisted (is_finished_there (half w).seen b.enl
 pub handed_in : (t : TxNo) (id : ℕ) (r : RmNo) (e : EnlNo) (b : List ℕ) → id ≡ identifier_of t.value → b ≡ info_bytes (record { id = id; rm = r; enl = e }) → IsInfo b (record { id = id; rm = r; enl = e })
 handed_in t id r e b is bytes = record { valid = ap is_id is ∙ id_valid t.value t.in_range.0 t.in_range.1; bytes = bytes }
 
-pub reenlist_is : (t : TxNo) (w : World) (h : Known) (k : CoreKept) (e : EnlNo) (m : ℕ) (i : Info) (past : List Entry) (x : Result Info ReenlistRefusal) (a : Answer) → Kept t w h k
-    → a ≡ if_begun h.half.seen.limit (returned x) → x ≡ as_refusal i (answer_by past e) → past ≡ w.past → a ≡ answer_at t.value w (Reenlist e) m
+pub reenlist_is : (t : TxNo) (w : World) (h : Known) (k : CoreKept) (e : EnlNo) (m id : ℕ) (r : RmNo) (xs : List Entry) (x : Result Info ReenlistRefusal) (a : Answer) → Kept t w h k
+    → a ≡ if_begun h.half.seen.limit (returned x) → x ≡ answered xs (record { id = id; rm = r; enl = e }) → past_of xs ≡ w.past → a ≡ answer_at t.value w (Reenlist e) m
 unfolding answer_at
-reenlist_is t w h k e m i past x a kept answered checked same =
-    answered
-    ∙ ap (λ (y : Result Info ReenlistRefusal). if_begun h.half.seen.limit (returned y)) (checked ∙ ap (λ (p : List Entry). as_refusal i (answer_by p e)) same)
+reenlist_is t w h k e m id r xs x a kept told checked same =
+    let i : Info = record { id = id; rm = r; enl = e } in
+    told
+    ∙ ap (λ (y : Result Info ReenlistRefusal). if_begun h.half.seen.limit (returned y)) checked
+    ∙ ap (λ (p : List Entry). if_begun h.half.seen.limit (returned (unless_refused i (refusal_of e (reenlist_answer (record { calls = []; past = p }) e))))) same
     ∙ ap (if_begun h.half.seen.limit) (checked_back i w (find (is_branch e.value) (half w).seen.branches))
     ∙ ap (λ (g : Half). if_begun g.seen.limit (reenlist_answer w e)) (half_is t w h k kept)
 

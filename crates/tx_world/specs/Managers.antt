@@ -10,8 +10,8 @@ use Rattle.dtx_model.specs.declared.branch.Branch.{Branch}
 use Rattle.dtx_model.specs.Coordinated.{Coordinated}
 use Rattle.dtx_model.specs.Observed.{Observed}
 use Rattle.dtx_model.specs.Words.{has}
-use Rattle.reenlist_recovery.specs.declared.lib.ReenlistRefusal.{ReenlistRefusal}
-use Rattle.reenlist_recovery.specs.declared.lib.ReenlistRefusal.TheVariants.{Finished as FinishedOne, RecoveryOver, Connected as ConnectedOne, Stopped as StoppedOne}
+use Rattle.reenlist_recovery.specs.declared.refusal.ReenlistRefusal.{ReenlistRefusal}
+use Rattle.reenlist_recovery.specs.declared.refusal.ReenlistRefusal.TheVariants.{Finished as FinishedOne, RecoveryOver, Connected as ConnectedOne, Stopped as StoppedOne}
 use Rattle.dtx_model.specs.World.{is_connected, is_finished_there, unless_connected}
 
 -- the branch is of this manager
