@@ -1,9 +1,10 @@
 -- A pending step that needs no log: what of it is done, and that it leaves fewer that can come.
-use Rattle.std.proofs.Common.{◌≡◌, ◌<◌, ◌∙◌, ℕ, true, Some, refl, sym, subst}
+use Rattle.std.proofs.Common.{◌≡◌, ◌<◌, ◌∙◌, ℕ, suc, true, false, Some, refl, sym, subst}
+use Rattle.dtx_values.specs.declared.number.TxNo.{TxNo}
 use Rattle.dtx_model.specs.Words.{kth}
 use Rattle.dtx_model.specs.World.{World}
 use Rattle.dtx_model.specs.Steps.{Acts, Delivers, LocalAct, Delivery, pending}
-use Rattle.dtx_model.specs.Caused.{IsIn, IsOwnRun}
+use Rattle.dtx_model.specs.Caused.{HasStepped, IsIn, IsOwnRun}
 use Rattle.coordinator_log.specs.State.{LogState}
 use Rattle.world_laws.specs.Left.{steps_left}
 use Rattle.tx_world.specs.declared.pending.PendingStep.{PendingStep}
@@ -37,3 +38,9 @@ alone_nearer k old new run did =
     let P : World → Type 0 = λ w. steps_left w < steps_left old.world in
     let same = did.done.world ∙ sym (turned_silent true old.transaction.value old.world did.step did.done.silent) in
     subst P (sym same) (step_nearer (IsIn old.world.calls) true old.transaction.value run.0 old.world did.name did.step k run.1 did.stands did.named)
+
+-- so it is one of the steps that a `do` counts
+pub alone_more : (k m : ℕ) (start : World) (old new : TxState) → HasStepped old.transaction.value k m start old.world → DoesKthAlone k old new → HasStepped new.transaction.value k (suc m) start new.world
+alone_more k m start old new before d =
+    let more : HasStepped old.transaction.value k (suc m) start new.world = (old.world, before, d.name, d.step, d.stands, d.named, false, refl, d.done.world) in
+    subst (λ (t : TxNo). HasStepped t.value k (suc m) start new.world) (sym d.done.transaction) more
