@@ -98,29 +98,28 @@ reenlist_alone t w e m a is other = refused (half w).seen.limit w (find (is_bran
 -- Where it is ok, the coordinator accepted the enlistment.
 accepted_one : (e : ℕ) (bs : List Branch) (b : Branch) → find (is_branch e) bs ≡ Some b → b.enlisted ≡ true → has (λ x. is_branch e x && x.enlisted) bs ≡ true
 accepted_one e [] b f a = absurd cc
-accepted_one e (x ∷ bs) b f a = by (is_branch e x) refl f
+accepted_one e (x ∷ bs) b f a = by (λ g. accepted_one e bs b g a) (is_branch e x) refl f
   where
-    same : Some x ≡ Some b → x ≡ b
-    same p = cc
+    by : (find (is_branch e) bs ≡ Some b → has (λ y. is_branch e y && y.enlisted) bs ≡ true) → (q : Bool) → is_branch e x ≡ q → (if q then Some x else find (is_branch e) bs) ≡ Some b
+        → has (λ y. is_branch e y && y.enlisted) (x ∷ bs) ≡ true
+    by rest true q g =
+        let same : x ≡ b = cc in
+        or_left (is_branch e x && x.enlisted) (has (λ y. is_branch e y && y.enlisted) bs) (ap (λ v. v && x.enlisted) q ∙ ap (λ (y : Branch). y.enlisted) same ∙ a)
+    by rest false q g = ap (λ v. (v && x.enlisted) || has (λ y. is_branch e y && y.enlisted) bs) q ∙ rest g
 
-    by : (q : Bool) → is_branch e x ≡ q → (if q then Some x else find (is_branch e) bs) ≡ Some b → has (λ y. is_branch e y && y.enlisted) (x ∷ bs) ≡ true
-    by true q g = or_left (is_branch e x && x.enlisted) (has (λ y. is_branch e y && y.enlisted) bs) (ap (λ v. v && x.enlisted) q ∙ ap (λ (y : Branch). y.enlisted) (same g) ∙ a)
-    by false q g = ap (λ v. (v && x.enlisted) || has (λ y. is_branch e y && y.enlisted) bs) q ∙ accepted_one e bs b g a
+fine_enlisted : (r : RmNo) (n : EnlNo) (x f o l s : Bool) → (if not x then NoSuch else if f then Finished else if o then Over r else if l then Connected n else if s then Stopped else Fine) ≡ Fine → x ≡ true
+fine_enlisted r n true f o l s e = refl
+fine_enlisted r n false f o l s e = absurd cc
 
 accepted : (e : ℕ) (w : World) (l : Option ℕ) (bs : List Branch) → if_begun l (reenlist_by w (find (is_branch e) bs)) ≡ Fine → has (λ x. is_branch e x && x.enlisted) bs ≡ true
 accepted e w None bs f = absurd cc
 accepted e w (Some d) bs f = by (find (is_branch e) bs) refl f
   where
-    enlisted : (b : Branch) (x f o l s : Bool)
-        → (if not x then NoSuch else if f then Finished else if o then Over b.manager else if l then Connected b.enlistment else if s then Stopped else Fine) ≡ Fine → x ≡ true
-    enlisted b true f o l s e = refl
-    enlisted b false f o l s e = absurd cc
-
     by : (o : Option Branch) → find (is_branch e) bs ≡ o → reenlist_by w o ≡ Fine → has (λ x. is_branch e x && x.enlisted) bs ≡ true
     by None q g = absurd cc
     by (Some b) q g =
         accepted_one e bs b q
-        (enlisted b b.enlisted (is_finished_there (half w).seen b.enlistment.value) (is_in b.manager.value (core w).recovered) (is_connected b.enlistment w.past) (core w).stopped g)
+        (fine_enlisted b.manager b.enlistment b.enlisted (is_finished_there (half w).seen b.enlistment.value) (is_in b.manager.value (core w).recovered) (is_connected b.enlistment w.past) (core w).stopped g)
 
 pub fine_accepted : (t : TxNo) (w : World) (h : Known) (k : CoreKept) (e : EnlNo) (m : ℕ) → Kept t w h k → answer_at t.value w (Reenlist e) m ≡ Fine → has (λ b. is_branch e.value b && b.enlisted) h.half.seen.branches ≡ true
 unfolding answer_at
@@ -156,7 +155,7 @@ reenlist_same t w e m = refl
 
 -- It is ready to be written.
 pub record Returned (t : TxNo) (w : World) (n : ℕ) (a : ActorNo) (e : EnlNo) (m : ℕ) (g : Known) (k : CoreKept) (p xs : List Entry) : Type 0 where
-  pub linked : Linked t w (Calls n a (Reenlist e) m) g k xs
+  pub ready : Linked t w (Calls n a (Reenlist e) m) g k xs
   pub past : onto p xs ≡ onto w.past (block_at t.value w (Calls n a (Reenlist e) m))
   pub written : each is_written xs ≡ true
   pub sendable : are_sendable (onto p xs) ≡ true
@@ -175,7 +174,7 @@ returns_back t w h g k n a e m o q p xs kept same may fine local value wrote cle
     let l = linked t w h g k k n a (Reenlist e) m xs kept may tt block (ap (has is_begin_sent) xs_is ∙ silent_return h.transaction.value n a (find (is_branch e.value) h.half.seen.branches))
     (local ∙ ap (known_after (entered (Calls n a (Reenlist e) m) []) h) (sym xs_is)) (ap (λ (s : Coordinated). record { transaction = k.transaction; state = s }) (sym still)) in
     record {
-      linked = l;
+      ready = l;
       past = ap (λ (y : List Entry). onto y xs) same ∙ ap (onto w.past) block;
       written = near_written xs es xs_is near;
       sendable = ap (λ (y : List Entry). are_sendable (onto y xs)) same ∙ l.sendable;

@@ -19,7 +19,7 @@ use Rattle.dtx_values.specs.declared.number.EnlNo.{EnlNo}
 use Rattle.dtx_model.specs.Acts.{act_entries}
 use Rattle.dtx_model.specs.Arrivals.{local_got}
 use Rattle.dtx_model.specs.Caused.{is_begin_sent}
-use Rattle.dtx_model.specs.Half.{sees}
+use Rattle.dtx_model.specs.Half.{Half, sees}
 use Rattle.dtx_model.specs.Replies.{fits, reply_entries}
 use Rattle.dtx_model.specs.Steps.{Calls, Replies, Acts, Delivers, block_at, delivered}
 use Rattle.dtx_model.specs.Wires.{in_transit}
@@ -67,15 +67,17 @@ act_silent t w =
     (e_one (Sent Begin Up BeginCommit) refl)).proof
 
 -- a delivery downward
+got_silent : (t : ℕ) (h : Half) (c : Conn) (m : Message) → Each is_silent (local_got t h c m)
+unfolding local_got
+got_silent t h c m = let g = sees h (Got c Down m) in of_arrived silent t g c m (silent_entry (ByMessage g.waits c m) refl)
+
 pub down_silent : (t : ℕ) (w : World) (c : Conn) → sends_begin t w (Delivers c Down) ≡ false
-unfolding block_at local_got
+unfolding block_at
 down_silent t w c = by (in_transit c Down w.past)
   where
     by : (ms : List Message) → has is_begin_sent (delivered t w c Down ms) ≡ false
     by [] = none_sent (delivered t w c Down []) (e_cons (Ended c Down) refl (of_local_down silent (half w) c)).proof
-    by (m ∷ ms) =
-        let g = sees (half w) (Got c Down m) in
-        none_sent (delivered t w c Down (m ∷ ms)) (e_cons (Got c Down m) refl (of_arrived silent t g c m (silent_entry (ByMessage g.waits c m) refl))).proof
+    by (m ∷ ms) = none_sent (delivered t w c Down (m ∷ ms)) (e_cons (Got c Down m) refl (got_silent t (half w) c m)).proof
 
 -- a reply that doesn't promote
 reply_silent : (t : ℕ) (w : World) (e : EnlNo) (r : Reply) → promotes r ≡ false → sends_begin t w (Replies e r) ≡ false

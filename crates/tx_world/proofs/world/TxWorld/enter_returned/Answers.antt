@@ -52,7 +52,7 @@ invariant_of-self-2 c =
     let b = (goal.at.invariant_of-self-2 c).After-is_stopped in
     let r = ready b 0 in
     record {
-      kept = silent_kept i.transaction (world_of i.calls.items i.history.past) (Calls c.args.line c.args.actor (Reenlist c.args.e) 0) r.linked.kept r.linked.silent (calls b 0) (c.write.ensures.past ∙ r.past);
+      kept = silent_kept i.transaction (world_of i.calls.items i.history.past) (Calls c.args.line c.args.actor (Reenlist c.args.e) 0) r.ready.kept r.ready.silent (calls b 0) (c.write.ensures.past ∙ r.past);
       ours = c.self.invariant.ours;
     }
 
@@ -61,4 +61,4 @@ returns-clause-done c m =
     let i = c.self.inside in
     let b = (goal.at.returns-clause-done c).After-is_stopped in
     let r = ready b m in
-    alone_done i.transaction (world_of i.calls.items i.history.past) (Calls c.args.line c.args.actor (Reenlist c.args.e) m) i.at_log c.args.self.now r.linked.silent (calls b m) (c.write.ensures.past ∙ r.past) c.self.view_is
+    alone_done i.transaction (world_of i.calls.items i.history.past) (Calls c.args.line c.args.actor (Reenlist c.args.e) m) i.at_log c.args.self.now r.ready.silent (calls b m) (c.write.ensures.past ∙ r.past) c.self.view_is
