@@ -111,3 +111,15 @@ returns-in-Ok-clause-appends g c sound =
       barred = λ t aborted. c.appends.ensures.barred s t.value (history t.value T) named (caused t).freely (sound t) aborted;
       backed = λ t. c.appends.ensures.backed s t.value (history t.value T) named (caused t).freely (sound t);
     }
+
+pub returns-in-Ok-clause-stops : goal.returns-in-Ok-clause-stops
+returns-in-Ok-clause-stops g c sound =
+    let s = c.args.s.now in
+    let T = past_of c.in-Ok.trace in
+    let e = c.in-Ok.ensures in
+    let named = c.requires.script.named in
+    let caused : (t : TxNo) → Caused s 0 t.value (history t.value T) = c.replay.ensures.caused s T e.replayed 0 (λ t. to_any s 0 (history t.value T) (e.planned t)) in
+    record {
+      withheld = λ t. c.stops.ensures.withheld s t.value (history t.value T) named (caused t).freely (sound t);
+      never = λ t. c.stops.ensures.never s t.value (history t.value T) named (caused t).freely (sound t);
+    }
