@@ -1,5 +1,5 @@
 -- Tests on lists whose items change, and what is found in them.
-use Rattle.std.proofs.Common.{◌≡◌, ℕ, ◌==◌, Bool, true, false, ◌&&◌, ◌||◌, not, List, [], ◌∷◌, map, filter, find, Option, Some, None, is_some, nat_lt, if◌then◌else◌, refl, ap, ◌∙◌, arith}
+use Rattle.std.proofs.Common.{◌≡◌, ℕ, ◌==◌, Bool, true, false, ◌&&◌, ◌||◌, List, [], ◌∷◌, map, filter, find, Option, Some, None, is_some, nat_lt, if◌then◌else◌, refl, ap, ◌∙◌, arith}
 use Rattle.std.specs.Option.{option_map}
 use Rattle.std.proofs.lemmas.Bool.Decides.{nat_tests}
 use Rattle.dtx_values.specs.Table.{insert_by}
@@ -63,25 +63,25 @@ has-insert_by p key x (y ∷ ys) = step (nat_lt (key y) (key x)) (has-insert_by 
 
 -- one that the test passes over
 pub find-other : {A : Type 0} (p : A → Bool) (key : A → ℕ) (x : A) (ys : List A) → p x ≡ false → find p (insert_by key x ys) ≡ find p ys
-find-other p key x [] no = λ k. if no k then Some x else None
-find-other p key x (y ∷ ys) no = step (nat_lt (key y) (key x)) (find-other p key x ys no)
+find-other p key x [] passed = λ k. if passed k then Some x else None
+find-other p key x (y ∷ ys) passed = step (nat_lt (key y) (key x)) (find-other p key x ys passed)
   where
     step : (b : Bool) → find p (insert_by key x ys) ≡ find p ys → find p (if b then y ∷ insert_by key x ys else x ∷ y ∷ ys) ≡ find p (y ∷ ys)
     step true ih = λ k. if p y then Some y else ih k
-    step false ih = λ k. if no k then Some x else find p (y ∷ ys)
+    step false ih = λ k. if passed k then Some x else find p (y ∷ ys)
 
 -- one that it finds, where it finds no other
+find_rest : {A : Type 0} (b : Bool) (y : A) (o : Option A) → (if b then Some y else o) ≡ None → (b ≡ false) × (o ≡ None)
+find_rest true y o e = absurd cc
+find_rest false y o e = (refl, e)
+
 pub find-own : {A : Type 0} (p : A → Bool) (key : A → ℕ) (x : A) (ys : List A) → p x ≡ true → find p ys ≡ None → find p (insert_by key x ys) ≡ Some x
-find-own p key x [] yes none = λ k. if yes k then Some x else None
-find-own p key x (y ∷ ys) yes none = step (nat_lt (key y) (key x)) (p y) refl none
+find-own p key x [] passes none = λ k. if passes k then Some x else None
+find-own p key x (y ∷ ys) passes none = step (nat_lt (key y) (key x)) (find_rest (p y) y (find p ys) none).0 (find-own p key x ys passes (find_rest (p y) y (find p ys) none).1)
   where
-    rest : (b : Bool) → (if b then Some y else find p ys) ≡ None → find p ys ≡ None
-    rest true e = absurd cc
-    rest false e = e
-    step : (b c : Bool) → p y ≡ c → (if c then Some y else find p ys) ≡ None → find p (if b then y ∷ insert_by key x ys else x ∷ y ∷ ys) ≡ Some x
-    step false c e none = λ k. if yes k then Some x else find p (y ∷ ys)
-    step true true e none = absurd cc
-    step true false e none = (λ k. if e k then Some y else find p (insert_by key x ys)) ∙ find-own p key x ys yes none
+    step : (b : Bool) → p y ≡ false → find p (insert_by key x ys) ≡ Some x → find p (if b then y ∷ insert_by key x ys else x ∷ y ∷ ys) ≡ Some x
+    step true e ih = (λ k. if e k then Some y else find p (insert_by key x ys)) ∙ ih
+    step false e ih = λ k. if passes k then Some x else find p (y ∷ ys)
 
 -- among those that are left
 pub has-left : {A : Type 0} (p q : A → Bool) → ((x : A) → p x ≡ true → q x ≡ true) → (xs : List A) → has p (filter q xs) ≡ has p xs

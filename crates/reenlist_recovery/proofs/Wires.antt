@@ -1,5 +1,6 @@
 -- What one more entry makes of what a history says of a connection.
-use Rattle.std.proofs.Common.{◌≡◌, ◌≤◌, ◌+◌, ◌-◌, ◌==◌, ℕ, suc, min, Bool, true, false, ◌&&◌, ◌||◌, not, List, [], ◌∷◌, ◌++◌, length, take, Option, Some, None, is_some, if◌then◌else◌, refl, ap, sym, ◌∙◌, arith, length-append}
+use Rattle.std.proofs.Common.{◌≡◌, ◌≤◌, ◌+◌, ◌-◌, ◌==◌, ℕ, suc, min, Bool, true, false, ◌&&◌, ◌||◌, not, List, [], ◌∷◌, length, take, Option, Some, None, is_some, if◌then◌else◌, refl, sym, ◌∙◌, arith, length-append}
+use Rattle.std.proofs.lemmas.Bool.Decides.{nat_tests}
 use Rattle.std.proofs.lemmas.List.{length-take}
 use Rattle.dtx_values.specs.declared.entry.Entry.{Entry}
 use Rattle.dtx_values.specs.declared.entry.Entry.TheVariants.{Sent, Got, Cut, Stopped}
@@ -11,7 +12,6 @@ use Rattle.dtx_values.specs.Lines.{has_line}
 use Rattle.dtx_model.specs.Outcome.{is_empty}
 use Rattle.dtx_model.specs.Wires.{ended_after, ends, holds, in_transit, is_ended, is_open_wire, is_stopped, kept, lost_after, lost_since, opened_with, opens, same_connection, same_direction, sent_behind, transit_after, transit_after_stop, without_first}
 use Rattle.dtx_model.specs.World.{is_linked}
-use Rattle.reenlist_recovery.specs.declared.wire.Wire.{Wire}
 use Rattle.reenlist_recovery.specs.Connections.{count_after, count_got, count_next, count_opened, count_sent, count_stopped, is_linked_wire, lost_next, wire_after, wire_of}
 
 -- whether it is lost
@@ -120,9 +120,12 @@ transit-few c d (x ∷ past) =
     omega arith
 
 -- a connection is linked as its numbers of messages say
+not_none : (n : ℕ) → (suc n == 0) ≡ false
+not_none n = grind (arith, nat_tests)
+
 empty_long : (ms : List Message) → is_empty ms ≡ (length ms == 0)
 empty_long [] = refl
-empty_long (m ∷ ms) = refl
+empty_long (m ∷ ms) = sym (not_none (length ms))
 
 linked_by : (was a b lost p q : Bool) → (was && (not (a && b) || (not p || (lost && not a)) || (not q || (lost && not b)))) ≡ (was && (not (a && b) || not p || not q))
 linked_by false a b lost p q = refl

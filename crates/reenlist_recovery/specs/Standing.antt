@@ -1,5 +1,5 @@
 -- What a history says of one enlistment and of the coordinator, as far as the call `reenlist` asks for it.
-use Rattle.std.specs.Prelude.{◌≡◌, ◌<◌, ◌+◌, ◌^◌, Bool, false, ◌||◌, not, List, [], Option, Some, None, if◌then◌else◌}
+use Rattle.std.specs.Prelude.{◌<◌, ◌+◌, ◌^◌, false, ◌||◌, not, List, Option, Some, None, if◌then◌else◌}
 use Rattle.dtx_values.specs.declared.entry.Answer.{Answer}
 use Rattle.dtx_values.specs.declared.entry.Answer.TheVariants.{Fine, NoSuch, Finished, Over, Connected, Stopped}
 use Rattle.dtx_values.specs.declared.entry.Entry.{Entry}

@@ -117,9 +117,27 @@ pub(crate) fn count_after(c: Conn, d: Dir, stopped: bool, is_open: bool, x: &Ent
         return count_opened(d, stopped);
     }
     match *x {
-        Entry::Sent(e, r, _) => { if is_same(c, e) && d == r { count_sent(is_open, n) } else { n } }
-        Entry::Got(e, r, m) => { if is_same(c, e) { count_got(has_line(e, r, m), d == r, n) } else { n } }
-        Entry::Cut(e, up, down) => { if is_same(c, e) { n.min(kept(d, up, down)) } else { n } }
+        Entry::Sent(e, r, _) => {
+            if is_same(c, e) && d == r {
+                count_sent(is_open, n)
+            } else {
+                n
+            }
+        }
+        Entry::Got(e, r, m) => {
+            if is_same(c, e) {
+                count_got(has_line(e, r, m), d == r, n)
+            } else {
+                n
+            }
+        }
+        Entry::Cut(e, up, down) => {
+            if is_same(c, e) {
+                n.min(kept(d, up, down))
+            } else {
+                n
+            }
+        }
         Entry::Stopped => count_stopped(d, n),
         _ => n,
     }
