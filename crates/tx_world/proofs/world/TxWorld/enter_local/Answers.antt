@@ -60,7 +60,7 @@ pub invariant_of-self-2 : goal.invariant_of-self-2
 invariant_of-self-2 g c =
     let b = (goal.at.invariant_of-self-2 g c).After-entries in
     let e = c.write_near-begins.ensures in
-    near_whole c.args.log.now.is_up _ (ready g b) c.self.invariant.ours (calls g b) e.past e.core c.live.ensures
+    near_whole c.args.log.now.is_up _ (ready g b) c.self.invariant refl (calls g b) e.past e.core c.live.ensures
 
 pub returns-clause-done : goal.returns-clause-done
 returns-clause-done g c =

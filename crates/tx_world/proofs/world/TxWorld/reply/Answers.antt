@@ -38,7 +38,7 @@ write_near-begins-requires-clause-runs g c = (ready g c).runs
 pub invariant_of-self-2 : goal.invariant_of-self-2
 invariant_of-self-2 g c =
     let e = c.write_near-begins.ensures in
-    near_whole c.args.log.now.is_up _ (ready g (goal.at.invariant_of-self-2 g c).After-entries) c.self.invariant.ours refl e.past e.core c.live.ensures
+    near_whole c.args.log.now.is_up _ (ready g (goal.at.invariant_of-self-2 g c).After-entries) c.self.invariant refl refl e.past e.core c.live.ensures
 
 pub returns-clause-done : goal.returns-clause-done
 returns-clause-done g c d =
