@@ -16,7 +16,7 @@ use Rattle.dtx_model.specs.Steps.{LogAnswer, Done, Full, StoppedNow, StoppedBefo
 use Rattle.dtx_model.specs.Caused.{IsIn, is_begin_sent, is_full_answer, may_coordinate}
 use Rattle.dtx_model.specs.Log.{CommitRecord}
 use Rattle.dtx_model.specs.Tied.{tied}
-use Rattle.dtx_model.proofs.Bools.{and_left, and_right, or_case, or_false}
+use Rattle.dtx_model.proofs.Bools.{and_left, and_right, not_true, or_case, or_false}
 use Rattle.outcome_law.proofs.CoreKnown.{may_log_can}
 use Rattle.outcome_law.proofs.CoreStages.{active_open, recorded_mark}
 use Rattle.outcome_law.proofs.Recording.{can_unstopped}
@@ -36,7 +36,7 @@ use Rattle.tx_world.specs.Tried.{IsTried}
 use Rattle.tx_world.proofs.Begun.{may_write}
 use Rattle.world_laws.proofs.Far.{far_abort, far_commit}
 use Rattle.tx_world.proofs.Keeping.{runs_still, runs_then}
-use Rattle.tx_world.proofs.Living.{seen_as}
+use Rattle.tx_world.proofs.Living.{own_ours, seen_as}
 use Rattle.tx_world.proofs.FreedRecords.{may_free_can}
 use Rattle.tx_world.proofs.Onward.{core_is, core_transaction, step_kept}
 use Rattle.tx_world.proofs.Trying.{append_tried, free_tried, sure_of, sure_tried, tied_before, told_tied, unmarked_open}
@@ -338,3 +338,13 @@ told t w h k i j found n x kept begun stopped same state past ours =
     let ours_there : IsOurs (identifier_of t.value) j.state x = subst (λ (u : TxNo). IsOurs (identifier_of u.value) j.state x) (sym same ∙ core_transaction t (record { calls = w.calls; past = n }) h j kept_there) ours in
     let runs : j.state.stopped ≡ false = ap (λ (c : Coordinated). c.stopped) state ∙ restarted_runs i.state found in
     (record { kept = kept_there; ours = subst Q (sym same) ours; tried = λ d. acted_sure t h j (record { calls = w.calls; past = n }) x kept_there ours_there runs }, world)
+
+-- What restarts found stays tied, where what it keeps and what is found tie.
+pub restart_tied : (t : TxNo) (w : World) (h : Known) (k : CoreKept) (x : LogKept) (old : TxState) (found : Option CommitRecord) (n : List Entry) → Whole t w h k x → seen_as t w x ≡ old
+    → Tie old.ours old.unsure found → n ≡ Restarted (is_some found) ∷ stop_if (not k.state.stopped) w.past → tied old.world.past ≡ true → tied n ≡ true
+restart_tied t w h k x old found n was seen tie past d =
+    let P : TxState → Type 0 = λ y. Tie y.ours y.unsure found → tied y.world.past ≡ true → tied n ≡ true in
+    let runs : not k.state.stopped ≡ true → (coordinate w.past).stopped ≡ false = λ r. ap (λ (c : Coordinated). c.stopped) (sym (core_is t w h k was.kept)) ∙ not_true k.state.stopped r in
+    let here : P (seen_as t w x) = λ ties e.
+    subst (λ (p : List Entry). tied p ≡ true) (sym past) (told_tied (identifier_of t.value) w.past x found (not k.state.stopped) (own_ours t w h k x was) was.tried runs ties e) in
+    subst P seen here tie d

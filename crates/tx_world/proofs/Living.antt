@@ -44,7 +44,7 @@ stop_there id h x true o = stopped_there id h x o
 stop_there id h x false o = o
 
 -- what the coordinator of a world keeps, by its history
-own_ours : (t : TxNo) (w : World) (h : Known) (k : CoreKept) (x : LogKept) → Whole t w h k x → IsOurs (identifier_of t.value) (coordinate w.past) x
+pub own_ours : (t : TxNo) (w : World) (h : Known) (k : CoreKept) (x : LogKept) → Whole t w h k x → IsOurs (identifier_of t.value) (coordinate w.past) x
 own_ours t w h k x was = subst (λ (j : CoreKept). IsOurs (identifier_of j.transaction.value) j.state x) was.kept.core was.ours
 
 here_ours : (t : TxNo) (w : World) (h : Known) (k : CoreKept) (x : LogKept) → Kept t w h k → IsOurs (identifier_of t.value) (coordinate w.past) x → IsOurs (identifier_of k.transaction.value) k.state x

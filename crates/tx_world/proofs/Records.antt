@@ -1,6 +1,6 @@
 -- The records of one identifier among those of a log, when one is put in and when the first is taken out.
 use Rattle.std.proofs.Common.{◌≡◌, ◌==◌, ◌≤◌, ℕ, suc, Bool, true, false, List, [], ◌∷◌, ◌++◌, ◌∙◌, refl, arith, ap, sym, subst}
-use Rattle.std.specs.Prelude.{not, filter, length, take, drop, Some, None, if◌then◌else◌}
+use Rattle.std.specs.Prelude.{not, filter, length, take, drop, Option, Some, None, is_some, if◌then◌else◌}
 use Rattle.std.specs.List.{insert}
 use Rattle.std.proofs.lemmas.List.{take-append-drop}
 use Rattle.std.proofs.lemmas.Bool.Decides.{nat_tests}
@@ -65,6 +65,14 @@ found_between id r (x ∷ xs) ys e n = step (is_record_of id x) (found_between i
     step : (b : Bool) → (first_of id (xs ++ r ∷ ys) ≡ None → ⊥) → (if b then Some x else first_of id (xs ++ r ∷ ys)) ≡ None → ⊥
     step true ih n = absurd cc
     step false ih n = ih n
+
+-- what is kept of what was found is there
+pub had_found : (id : ℕ) (o : Option CommitRecord) (rs : List CommitRecord) → o ≡ first_of id rs → is_some o ≡ true → first_of id rs ≡ None → ⊥
+had_found id o rs e s n = never o (e ∙ n) s
+  where
+    never : (p : Option CommitRecord) → p ≡ None → is_some p ≡ true → ⊥
+    never (Some r) e s = absurd cc
+    never None e s = absurd cc
 
 -- A record is put in.
 pub found_insert : (id k : ℕ) (r : CommitRecord) (rs : List CommitRecord) → r.id ≡ id → first_of id (insert rs k r) ≡ None → ⊥
