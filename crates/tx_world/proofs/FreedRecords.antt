@@ -24,17 +24,18 @@ use Rattle.dtx_model.specs.declared.desk.Desk.{Desk}
 use Rattle.dtx_model.specs.declared.desk.Stage.{Stage}
 use Rattle.dtx_model.specs.declared.desk.Stage.TheVariants.{Idle, Active, Aborted, Recorded, Over, Unknown}
 use Rattle.dtx_model.specs.Words.{all_of, each, has, latest}
-use Rattle.dtx_model.specs.Entries.{is_commit_got, is_record, is_vote}
+use Rattle.dtx_model.specs.Entries.{is_asked, is_commit_got, is_decision, is_lost, is_record, is_vote}
 use Rattle.dtx_model.specs.Caused.{same_vote}
 use Rattle.dtx_model.specs.Learned.{coordinator_aborted}
 use Rattle.dtx_model.specs.Tied.{before_first_stop, can_free, can_log, enlist_got, has_mark, is_acked, is_done_there, is_logged, is_prepared_got, is_ready_got, is_recovery, is_stop, is_unmarked, mark_of}
 use Rattle.dtx_model.specs.Coordinated.{Coordinated, accepts, ballot_of, coordinate, desk_number, desks_after, follow, has_aborted, is_active, is_desk_of, is_finished, is_prepared, is_recorded, is_undecided, may_free, stage_after, unacked, with_ack, with_ballot}
-use Rattle.dtx_model.proofs.Bools.{and_left, and_right, and_both, not_both, not_false, not_true, or_case, or_right}
+use Rattle.dtx_model.proofs.Bools.{and_left, and_right, and_both, not_both, not_false, not_true, or_case, or_right, or_second}
 use Rattle.coordinator_core.proofs.Causes.{heard_why}
 use Rattle.outcome_law.proofs.Tests.{eq_self, eq_swap, third_of_five}
 use Rattle.outcome_law.proofs.Scans.{has_more}
 use Rattle.outcome_law.proofs.Lists.{has-insert}
-use Rattle.outcome_law.proofs.Table.{is_cast, is_enlist_got, is_opening_got, message_row, rule}
+use Rattle.outcome_law.proofs.Rule.{is_enlisted}
+use Rattle.outcome_law.proofs.Table.{is_cast, is_enlist_got, is_opening_got, message_row, stands_volatile}
 use Rattle.outcome_law.proofs.Keeping.{Keeps, keeps_before, newest, newest_tied}
 use Rattle.outcome_law.proofs.Crossed.{is_got_on, is_sent_on, was_sent}
 use Rattle.outcome_law.proofs.Sendings.{from_got, own_info, record_of_mark}
@@ -68,7 +69,7 @@ is_other_vote _ = false
 one_vote : (e f : EnlNo) (w : Vote) (p : Entry → Bool) (h : List Entry) → Keeps (Voted f w ∷ h) → (e.value == f.value) ≡ true → ((x : Entry) → p x ≡ true → is_vote e.value x ≡ true) → has p h ≡ true → ⊥
 one_vote e f w p h k q votes t =
     not_both (has (is_vote f.value) h) (subst (λ n. has (is_vote n) h ≡ true) (eqb-true e.value f.value q) (has_more p (is_vote e.value) votes h t))
-    (not_true (has (is_vote f.value) h) (third_of_five _ _ (not (has (is_vote f.value) h)) _ _ (newest (Voted f w) h k)))
+    (not_true (has (is_vote f.value) h) (third_of_five (has (is_enlisted f.value) h) (has (is_asked f.value) h) (not (has (is_vote f.value) h)) (not (has (is_lost f.value) h)) (not (stands_volatile f.value h && has is_decision h)) (newest (Voted f w) h k)))
 
 yes_votes : (e : EnlNo) (x : Entry) → is_cast (Enl e) Yes x ≡ true → is_vote e.value x ≡ true
 yes_votes e (Voted f w) t = and_left (e.value == f.value) (same_vote Yes w) t
@@ -280,11 +281,7 @@ unlogged_unmarked (Logged ∷ h) k l s = absurd cc
 unlogged_unmarked (Freed ∷ h) k l s =
     absurd (unmarked_unrecorded h (unlogged_unmarked h (keeps_before Freed h k) l s) (record_of_mark h (newest Freed h k)))
 unlogged_unmarked (Restarted b ∷ h) k l s = absurd (not_both (has is_stop h) (stopped_stop h (newest (Restarted b) h k)) s)
-unlogged_unmarked (x ∷ h) k l s = unlogged_unmarked h (keeps_before x h k) (rest (is_logged x) l) (rest (is_stop x) s)
-  where
-    rest : {b : Bool} (a : Bool) → (a || b) ≡ false → b ≡ false
-    rest true e = absurd cc
-    rest false e = e
+unlogged_unmarked (x ∷ h) k l s = unlogged_unmarked h (keeps_before x h k) (or_second (is_logged x) (has is_logged h) l) (or_second (is_stop x) (has is_stop h) s)
 
 can_unlogged : (h : List Entry) → can_log h ≡ true → has is_logged h ≡ false
 can_unlogged h t = not_true (has is_logged h) (and_right _ (not (has is_logged h)) (and_left _ (not (has is_stop h)) t))
@@ -342,16 +339,12 @@ ready_said : (e : ℕ) (h : List Entry) → has (is_ready_got e) h ≡ true → 
 ready_said e [] t n = absurd cc
 ready_said e (x ∷ h) t n =
     or_case (is_ready_got e x) (has (is_ready_got e) h)
-    (λ a. or_left (is_unprepared e x) (has (is_unprepared e) h) (second (is_prepared_got e x) (is_unprepared e x) (ready_splits e x a) n))
-    (λ a. or_right (is_unprepared e x) (has (is_unprepared e) h) (ready_said e h a (rest (is_prepared_got e x) (has (is_prepared_got e) h) n))) t
+    (λ a. or_left (is_unprepared e x) (has (is_unprepared e) h) (second (is_prepared_got e x) (is_unprepared e x) (has (is_prepared_got e) h) (ready_splits e x a) n))
+    (λ a. or_right (is_unprepared e x) (has (is_unprepared e) h) (ready_said e h a (or_second (is_prepared_got e x) (has (is_prepared_got e) h) n))) t
   where
-    second : {c : Bool} (a b : Bool) → (a || b) ≡ true → (a || c) ≡ false → b ≡ true
-    second true b t n = absurd cc
-    second false b t n = t
-
-    rest : (a b : Bool) → (a || b) ≡ false → b ≡ false
-    rest true b e = absurd cc
-    rest false b e = e
+    second : (a b c : Bool) → (a || b) ≡ true → (a || c) ≡ false → b ≡ true
+    second true b c t n = absurd cc
+    second false b c t n = t
 
 -- and while there is a record.
 recorded_idle : (s : Stage) → is_recorded s ≡ true → is_active s ≡ true → ⊥

@@ -125,7 +125,7 @@ pub append_tried : (h : List Entry) (x : Kept) → can_log h ≡ true → has is
 append_tried h x can unstopped none =
     record {
       tried = λ t. ap (λ (m : Option Bool). is_marked m || (is_unmarked m && can_log (before_first_stop (Stopped ∷ h)))) none ∙ ap can_log (first_none h h unstopped) ∙ can;
-      kept = λ t. absurd (never false (sym t ∙ ap (λ (m : Option Bool). is_marked m) none) refl);
+      kept = λ t. absurd (never (has_mark h) t (ap (λ (m : Option Bool). is_marked m) none));
       unsure = λ t. ap (λ (m : Option Bool). not (is_marked m) || can_free h) none;
     }
 
