@@ -113,15 +113,6 @@ recovered t w h k j n a u r m kept may fine same state =
     linked t w h h k j n a (Recovered u r) m (Called n a Fine ∷ RecoveredEntry r ∷ []) kept may tt (fine_block t.value w n a (Recovered u r) m (recovered_same t.value w u r m ∙ fine)) refl
     (recovery_heeded h n a u r) (recovery_followed k j n a r same state)
 
--- what the coordinator goes on by
-pub recovery_alone : (s : Coordinated) (r : RmNo) → follow s (RecoveredEntry r) ≡ follow_all s (RecoveredEntry r ∷ [])
-unfolding follow_all
-recovery_alone s r = refl
-
-pub none_followed : (s : Coordinated) → s ≡ follow_all s []
-unfolding follow_all
-none_followed s = refl
-
 -- the history after a loss
 pub lost_past : (n : ℕ) (a : ActorNo) (c : Conn) (x y i j : ℕ) (h p q : List Entry) → p ≡ Called n a Fine ∷ h → i ≡ x → j ≡ y → q ≡ cut p c i j ∷ p → q ≡ cut h c x y ∷ Called n a Fine ∷ h
 lost_past n a c x y i j h p q wrote e f k =

@@ -3,7 +3,7 @@ ghost use Rattle.std.specs.Prelude.{◌≡◌, ◌≤◌, Ok, Some, None, IfOk, 
 ghost use Rattle.dtx_model.specs.Words.{kth};
 ghost use Rattle.dtx_model.specs.Steps.{pending};
 ghost use Rattle.coordinator_log.specs.Slots.{open_records};
-ghost use Rattle.tx_world.specs.AtLog.{Fits, KeepsLog};
+ghost use Rattle.tx_world.specs.AtLog.{Fits, KeepsLog, KeepsSlots};
 ghost use Rattle.tx_world.specs.OwnCalls.{DoesAlone};
 ghost use Rattle.tx_world.specs.Pending.{IsAt, IsDueAt, IsDueIn, is_alone_step, name_of, step_of};
 ghost use Rattle.tx_world.specs.Stepping.{DoesKth, needs_log, reply_in};
@@ -112,6 +112,7 @@ impl TxWorld {
         ensures none { result ≡ Ok false → (kth (pending self.old.world) k ≡ None) × (self.new ≡ self.old) × (log.new ≡ log.old) }
         ensures some { result ≡ Ok true → DoesKth D.faults k self.old log.old self.new log.new }
         ensures kept { IsTrue D.honest → KeepsLog D.image self.old log.old self.new log.new }
+        ensures slots { KeepsSlots self.old log.old self.new log.new }
         ensures life { log.new.life ≡ log.old.life }
         ensures grows { D.faults log.old.disk ≤ D.faults log.new.disk }
         ensures unarmed { log.old.armed ≡ None → log.new.armed ≡ None }

@@ -1,5 +1,6 @@
 use Rattle.std.proofs.Common.{refl, sym, ◌∙◌}
 use Rattle.dtx_model.specs.Steps.{Acts}
+use Rattle.tx_world.proofs.Living.{whole_on}
 use Rattle.tx_world.proofs.Silent.{act_silent}
 use Rattle.tx_world.proofs.Unlogged.{alone_done}
 use Rattle.tx_world.proofs.Written.{Ready, act_ready, silent_kept, world_of}
@@ -27,7 +28,8 @@ invariant_of-self-2 c =
     let i = c.self.inside in
     let w = world_of i.calls.items i.history.past in
     let r = ready (goal.at.invariant_of-self-2 c).After-entries in
-    record { kept = silent_kept i.transaction w Acts r.kept (sym (act_silent i.transaction.value w)) refl (c.write.ensures.past ∙ r.past); ours = c.self.invariant.ours }
+    let wrote = c.write.ensures.past ∙ r.past in
+    whole_on i.transaction w Acts c.self.invariant refl (silent_kept i.transaction w Acts r.kept (sym (act_silent i.transaction.value w)) refl wrote) wrote
 
 pub returns-clause-done : goal.returns-clause-done
 returns-clause-done c d =

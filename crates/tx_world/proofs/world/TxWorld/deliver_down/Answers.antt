@@ -7,6 +7,7 @@ use Rattle.dtx_model.specs.Wires.{MayCross}
 use Rattle.dtx_model.specs.World.{has_left}
 use Rattle.world_laws.specs.Course.{Came}
 use Rattle.tx_world.proofs.Delivering.{down_ready, lined, some_left}
+use Rattle.tx_world.proofs.Living.{whole_on}
 use Rattle.tx_world.proofs.Silent.{down_silent}
 use Rattle.tx_world.proofs.Unlogged.{alone_done}
 use Rattle.tx_world.proofs.Written.{Ready, silent_kept, world_of}
@@ -45,7 +46,8 @@ invariant_of-self-2 c =
     let i = c.self.inside in
     let w = world_of i.calls.items i.history.past in
     let r = ready (goal.at.invariant_of-self-2 c).After-entries in
-    record { kept = silent_kept i.transaction w (Delivers c.args.c Down) r.kept (sym (down_silent i.transaction.value w c.args.c)) refl (c.write.ensures.past ∙ r.past); ours = c.self.invariant.ours }
+    let wrote = c.write.ensures.past ∙ r.past in
+    whole_on i.transaction w (Delivers c.args.c Down) c.self.invariant refl (silent_kept i.transaction w (Delivers c.args.c Down) r.kept (sym (down_silent i.transaction.value w c.args.c)) refl wrote) wrote
 
 pub returns-clause-done : goal.returns-clause-done
 returns-clause-done c d =

@@ -1,14 +1,13 @@
-use Rattle.std.proofs.Common.{◌≡◌, ◌++◌, List, Some, None, ◌↔◌, false, refl, sym, ◌∙◌, subst}
+use Rattle.std.proofs.Common.{◌≡◌, List, Some, None, ◌↔◌, false, refl, sym, ◌∙◌, subst}
 use Rattle.dtx_values.specs.declared.entry.Entry.{Entry}
 use Rattle.dtx_values.specs.declared.entry.Entry.TheVariants.{Got}
 use Rattle.dtx_values.specs.declared.message.Dir.TheVariants.{Up}
-use Rattle.dtx_model.specs.Promotes.{identifier_of}
 use Rattle.dtx_model.specs.Steps.{Delivers}
 use Rattle.dtx_model.specs.Wires.{MayCross}
 use Rattle.dtx_model.specs.World.{has_left}
-use Rattle.world_laws.specs.Course.{Came, noted, rest_up}
+use Rattle.world_laws.specs.Course.{Came}
 use Rattle.tx_world.proofs.Delivering.{ReadyUp, came_few, lined, some_left, up_ready}
-use Rattle.tx_world.proofs.Living.{up_elsewhere, whole_far}
+use Rattle.tx_world.proofs.Living.{whole_on}
 use Rattle.tx_world.proofs.Unlogged.{alone_done}
 use Rattle.tx_world.proofs.Written.{silent_kept, world_of}
 use Rattle.tx_world.proofs.world.TxWorld.deliver_up.Goals.{After-entries}
@@ -51,9 +50,9 @@ pub invariant_of-self-2 : goal.invariant_of-self-2
 invariant_of-self-2 c =
     let i = c.self.inside in
     let u = ready (goal.at.invariant_of-self-2 c).After-entries in
-    let id = identifier_of i.core.transaction.value in
-    whole_far i.core c.hear_up.new.core (noted c.args.c Up c.in-Some.came ++ rest_up id i.core.state c.args.c c.in-Some.came) (silent_kept i.transaction (world_of i.calls.items i.history.past) (Delivers c.args.c Up) u.kept (sym u.silent) refl (c.write.ensures.past ∙ u.past)) c.self.invariant.ours
-    c.hear_up.ensures.transaction c.hear_up.ensures.state (up_elsewhere id i.core.state c.args.c c.in-Some.came)
+    let w = world_of i.calls.items i.history.past in
+    let past = c.write.ensures.past ∙ u.past in
+    whole_on i.transaction w (Delivers c.args.c Up) c.self.invariant refl (silent_kept i.transaction w (Delivers c.args.c Up) u.kept (sym u.silent) refl past) past
 
 pub returns-clause-done : goal.returns-clause-done
 returns-clause-done c d =

@@ -1,4 +1,4 @@
-use Rattle.std.proofs.Common.{◌≡◌, ℕ, List, ◌∷◌, [], ap, refl, sym, ◌∙◌}
+use Rattle.std.proofs.Common.{◌≡◌, ℕ, List, ◌∷◌, ap, refl, sym, ◌∙◌}
 use Rattle.dtx_values.specs.declared.call.Call.TheVariants.{Gone}
 use Rattle.dtx_values.specs.declared.entry.Answer.TheVariants.{Fine}
 use Rattle.dtx_values.specs.declared.entry.Entry.{Entry}
@@ -11,8 +11,8 @@ use Rattle.tx_world.specs.Entering.{links_cut}
 use Rattle.tx_world.specs.State.{TxState, may_enter}
 use Rattle.tx_world.proofs.Calling.{with_call}
 use Rattle.tx_world.proofs.Leaving.{gone_stands, left, left_few, left_past, left_sendable, rows_promotable}
-use Rattle.tx_world.proofs.Linking.{Linked, none_followed}
-use Rattle.tx_world.proofs.Living.{whole_far}
+use Rattle.tx_world.proofs.Linking.{Linked}
+use Rattle.tx_world.proofs.Living.{whole_on}
 use Rattle.tx_world.proofs.Unlogged.{alone_done}
 use Rattle.tx_world.proofs.Written.{silent_kept, stopped_is, world_of}
 use Rattle.tx_world.proofs.world.TxWorld.enter_cut.Goals.{After-is_stopped, After-cut_links}
@@ -72,7 +72,10 @@ invariant_of-self-2 c =
     let i = c.self.inside in
     let b = (goal.at.invariant_of-self-2 c).After-is_stopped in
     let r = ready b 0 in
-    whole_far i.core i.core [] (silent_kept i.transaction (world_of i.calls.items i.history.past) (Calls c.args.line c.args.actor (Gone c.args.e) 0) r.kept r.silent (calls b 0) (past c ∙ ap (onto i.history.past) r.block)) c.self.invariant.ours refl (none_followed i.core.state) refl
+    let w = world_of i.calls.items i.history.past in
+    let m = (Calls c.args.line c.args.actor (Gone c.args.e) 0) in
+    let wrote = past c ∙ ap (onto i.history.past) r.block in
+    whole_on i.transaction w m c.self.invariant refl (silent_kept i.transaction w m r.kept r.silent (calls b 0) wrote) wrote
 
 pub returns-clause-done : goal.returns-clause-done
 returns-clause-done c m =

@@ -59,7 +59,7 @@ pub invariant_of-self-2 : goal.invariant_of-self-2
 invariant_of-self-2 c =
     let b = (goal.at.invariant_of-self-2 c).After-entries in
     let e = c.write_near-begins.ensures in
-    near_whole c.args.up _ (ready b) c.self.invariant.ours (calls b) e.past e.core c.live.ensures
+    near_whole c.args.up _ (ready b) c.self.invariant refl (calls b) e.past e.core c.live.ensures
 
 pub returns-clause-done : goal.returns-clause-done
 returns-clause-done c =

@@ -10,8 +10,8 @@ use Rattle.dtx_model.specs.World.{answer_at, cut}
 use Rattle.world_laws.specs.Carried.{are_sendable}
 use Rattle.tx_world.specs.State.{TxState, may_enter}
 use Rattle.tx_world.proofs.Calling.{with_call}
-use Rattle.tx_world.proofs.Linking.{Linked, after_call, lost, lost_open, lost_past, none_followed}
-use Rattle.tx_world.proofs.Living.{whole_far}
+use Rattle.tx_world.proofs.Linking.{Linked, after_call, lost, lost_open, lost_past}
+use Rattle.tx_world.proofs.Living.{whole_on}
 use Rattle.tx_world.proofs.Unlogged.{alone_done}
 use Rattle.tx_world.proofs.Written.{silent_kept, stopped_is, world_of}
 use Rattle.tx_world.proofs.world.TxWorld.enter_lost.Goals.{After-is_stopped, After-lose}
@@ -58,7 +58,10 @@ invariant_of-self-2 c =
     let i = c.self.inside in
     let b = (goal.at.invariant_of-self-2 c).After-is_stopped in
     let r = ready b 0 in
-    whole_far i.core i.core [] (silent_kept i.transaction (world_of i.calls.items i.history.past) (Calls c.args.line c.args.actor (Lose c.args.u c.args.c c.args.up c.args.down) 0) r.kept r.silent (calls b 0) (past c ∙ ap (onto i.history.past) r.block)) c.self.invariant.ours refl (none_followed i.core.state) refl
+    let w = world_of i.calls.items i.history.past in
+    let m = (Calls c.args.line c.args.actor (Lose c.args.u c.args.c c.args.up c.args.down) 0) in
+    let wrote = past c ∙ ap (onto i.history.past) r.block in
+    whole_on i.transaction w m c.self.invariant refl (silent_kept i.transaction w m r.kept r.silent (calls b 0) wrote) wrote
 
 pub returns-clause-done : goal.returns-clause-done
 returns-clause-done c m =

@@ -9,8 +9,8 @@ use Rattle.dtx_model.specs.World.{answer_at}
 use Rattle.world_laws.specs.Carried.{are_sendable}
 use Rattle.tx_world.specs.State.{TxState, may_enter}
 use Rattle.tx_world.proofs.Calling.{with_call}
-use Rattle.tx_world.proofs.Linking.{Linked, recovered, recovery_alone}
-use Rattle.tx_world.proofs.Living.{whole_far}
+use Rattle.tx_world.proofs.Linking.{Linked, recovered}
+use Rattle.tx_world.proofs.Living.{whole_on}
 use Rattle.tx_world.proofs.Unlogged.{alone_done}
 use Rattle.tx_world.proofs.Written.{silent_kept, stopped_is, world_of}
 use Rattle.tx_world.proofs.world.TxWorld.enter_recovered.Goals.{After-recovery_over, After-write}
@@ -52,8 +52,10 @@ invariant_of-self-2 c =
     let i = c.self.inside in
     let b = (goal.at.invariant_of-self-2 c).After-recovery_over in
     let r = ready b 0 in
-    whole_far i.core c.recovery_over.new.self (RecoveredEntry c.args.r ∷ []) (silent_kept i.transaction (world_of i.calls.items i.history.past) (Calls c.args.line c.args.actor (Recovered c.args.u c.args.r) 0) r.kept r.silent (calls b 0) (past c ∙ ap (onto i.history.past) r.block)) c.self.invariant.ours
-    c.recovery_over.ensures.transaction (c.recovery_over.ensures.state ∙ recovery_alone i.core.state c.args.r) refl
+    let w = world_of i.calls.items i.history.past in
+    let m = (Calls c.args.line c.args.actor (Recovered c.args.u c.args.r) 0) in
+    let wrote = past c ∙ ap (onto i.history.past) r.block in
+    whole_on i.transaction w m c.self.invariant refl (silent_kept i.transaction w m r.kept r.silent (calls b 0) wrote) wrote
 
 pub returns-clause-done : goal.returns-clause-done
 returns-clause-done c m =

@@ -1,10 +1,11 @@
-use Rattle.std.proofs.Common.{◌≡◌, ℕ, ap, refl, sym, ◌∙◌}
+use Rattle.std.proofs.Common.{◌≡◌, ℕ, ap, refl, ◌∙◌}
 use Rattle.dtx_values.specs.declared.call.Call.TheVariants.{Reenlist}
 use Rattle.dtx_model.specs.Words.{past_of}
 use Rattle.dtx_model.specs.Steps.{Calls, entered}
 use Rattle.dtx_model.specs.World.{answer_at}
 use Rattle.tx_world.specs.State.{TxState, may_enter}
 use Rattle.tx_world.proofs.Calling.{with_call}
+use Rattle.tx_world.proofs.Living.{whole_on}
 use Rattle.tx_world.proofs.Reenlisting.{Returned, fine_accepted, returns_back}
 use Rattle.tx_world.proofs.Unlogged.{alone_done}
 use Rattle.tx_world.proofs.Written.{silent_kept, stopped_is, world_of}
@@ -51,10 +52,10 @@ invariant_of-self-2 c =
     let i = c.self.inside in
     let b = (goal.at.invariant_of-self-2 c).After-is_stopped in
     let r = ready b 0 in
-    record {
-      kept = silent_kept i.transaction (world_of i.calls.items i.history.past) (Calls c.args.line c.args.actor (Reenlist c.args.e) 0) r.ready.kept r.ready.silent (calls b 0) (c.write.ensures.past ∙ r.past);
-      ours = c.self.invariant.ours;
-    }
+    let w = world_of i.calls.items i.history.past in
+    let m = Calls c.args.line c.args.actor (Reenlist c.args.e) 0 in
+    let wrote = c.write.ensures.past ∙ r.past in
+    whole_on i.transaction w m c.self.invariant refl (silent_kept i.transaction w m r.ready.kept r.ready.silent (calls b 0) wrote) wrote
 
 pub returns-clause-done : goal.returns-clause-done
 returns-clause-done c m =

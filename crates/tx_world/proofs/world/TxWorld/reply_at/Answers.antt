@@ -37,7 +37,7 @@ write_near-begins-requires-clause-runs c = (ready c).runs
 pub invariant_of-self-2 : goal.invariant_of-self-2
 invariant_of-self-2 c =
     let e = c.write_near-begins.ensures in
-    near_whole c.args.up _ (ready (goal.at.invariant_of-self-2 c).After-entries) c.self.invariant.ours refl e.past e.core c.live.ensures
+    near_whole c.args.up _ (ready (goal.at.invariant_of-self-2 c).After-entries) c.self.invariant refl refl e.past e.core c.live.ensures
 
 pub returns-clause-done : goal.returns-clause-done
 returns-clause-done c d =

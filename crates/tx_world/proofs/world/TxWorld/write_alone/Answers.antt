@@ -10,6 +10,7 @@ use Rattle.tx_world.specs.State.{TxState, may_enter}
 use Rattle.tx_world.proofs.Calling.{with_call}
 use Rattle.tx_world.proofs.CallsOn.{alone_ready}
 use Rattle.tx_world.proofs.Linking.{Linked}
+use Rattle.tx_world.proofs.Living.{whole_on}
 use Rattle.tx_world.proofs.Written.{silent_kept, stopped_is, world_of}
 use Rattle.tx_world.proofs.Unlogged.{alone_done}
 use Rattle.tx_world.proofs.world.TxWorld.write_alone.Goals.{After-is_stopped}
@@ -52,7 +53,10 @@ pub invariant_of-self-2 : goal.invariant_of-self-2
 invariant_of-self-2 c =
     let b = (goal.at.invariant_of-self-2 c).After-is_stopped in
     let i = c.self.inside in
-    record { kept = silent_kept i.transaction (world_of i.calls.items i.history.past) (Calls c.args.line c.args.actor c.args.c.now c.args.done) (ready b).kept (ready b).silent (calls b) (c.write.ensures.past ∙ past b); ours = c.self.invariant.ours }
+    let w = world_of i.calls.items i.history.past in
+    let m = Calls c.args.line c.args.actor c.args.c.now c.args.done in
+    let wrote = c.write.ensures.past ∙ past b in
+    whole_on i.transaction w m c.self.invariant refl (silent_kept i.transaction w m (ready b).kept (ready b).silent (calls b) wrote) wrote
 
 pub returns-clause-done : goal.returns-clause-done
 returns-clause-done c =
