@@ -141,7 +141,7 @@ fn the_bytes_and_the_identifier_come_first(rt: HostRuntime) -> Result<(), Fail> 
     let wrong = ReenlistRefusal::WrongTransaction((1 << 64) + 2, (1 << 64) + 1);
     assert_eq!(rt; check(&none, ID, &bytes), Err(wrong));
     let short = ReenlistRefusal::BadInfo(BadInfo::Length(35));
-    assert_eq!(rt; check(&none, ID, &bytes[..35]), Err(short));
+    assert_eq!(rt; check(&none, ID, &[0; 35]), Err(short));
     let empty = ReenlistRefusal::BadInfo(BadInfo::Value(0));
     assert_eq!(rt; check(&none, ID, &[0; 36]), Err(empty));
     Ok(())

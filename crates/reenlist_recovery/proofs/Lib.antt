@@ -4,3 +4,4 @@ pub mod Wires
 pub mod Seats
 pub mod Standings
 pub mod Reading
+pub mod Worlds

@@ -4,7 +4,7 @@ use Rattle.reenlist_recovery.proofs.Reading.{answered-is, refused-bad, wrong-bad
 use Rattle.reenlist_recovery.proofs.checking.check.Goals as goal
 
 pub returns-then-found-wanted-clause-bad : goal.returns-then-found-wanted-clause-bad
-returns-then-found-wanted-clause-bad c = wrong-bad c.args.info.now c.in-Ok.found c.in-Ok.found.id c.args.wanted c.in-Ok.ensures.info
+returns-then-found-wanted-clause-bad c = wrong-bad c.args.info.now c.in-Ok.found _ _ c.in-Ok.ensures.info
 
 pub returns-in-Some-clause-bad : goal.returns-in-Some-clause-bad
 returns-in-Some-clause-bad c =
