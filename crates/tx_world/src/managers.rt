@@ -141,11 +141,18 @@ fn unless_stopped(stopped: bool) -> Answer
     }
 }
 
+/// The branch of an enlistment at the coordinator.
+fn branch_of(branches: &[Branch], e: EnlNo) -> Option<Branch>
+    ensures { result ≡ find (is_branch e.value) branches.now }
+{
+    branches.iter().copied().find(|b| b.enlistment == e)
+}
+
 /// The manager of an enlistment at the coordinator, and the first of all where it isn't there.
 pub(crate) fn manager_of(branches: &[Branch], e: EnlNo) -> RmNo
     ensures { IfSome (find (is_branch e.value) branches.now) (λ b. result ≡ b.manager) }
 {
-    match branches.iter().copied().find(|b| e == b.enlistment) {
+    match branch_of(branches, e) {
         Some(b) => b.manager,
         None => RmNo::new(1).unwrap(),
     }

@@ -1,4 +1,4 @@
-use Rattle.std.proofs.Common.{◌≡◌, List, ap, sym, ◌∙◌, ◌∷◌, [], subst}
+use Rattle.std.proofs.Common.{◌≡◌, List, ap, refl, sym, ◌∙◌, ◌∷◌, [], subst}
 use Rattle.dtx_values.specs.declared.entry.Entry.{Entry}
 use Rattle.dtx_values.specs.declared.entry.Entry.TheVariants.{Called}
 use Rattle.dtx_model.specs.Words.{onto, past_of}
