@@ -16,10 +16,10 @@ use Rattle.dtx_values.specs.declared.number.EnlNo.{EnlNo}
 use Rattle.dtx_values.specs.declared.words.Vote.{Vote}
 use Rattle.dtx_values.specs.declared.words.Vote.TheVariants.{Yes, No, Done}
 use Rattle.dtx_values.specs.Ends.{is_in, same_connection, same_direction}
-use Rattle.dtx_values.specs.Lines.{has_line, is_opening}
+use Rattle.dtx_values.specs.Lines.{has_line}
 use Rattle.dtx_values.specs.Table.{insert_by}
 use Rattle.dtx_model.specs.declared.desk.Ballot.{Ballot}
-use Rattle.dtx_model.specs.declared.desk.Ballot.TheVariants.{Prepared, Refused, ReadOnly}
+use Rattle.dtx_model.specs.declared.desk.Ballot.TheVariants.{Prepared}
 use Rattle.dtx_model.specs.declared.desk.Desk.{Desk}
 use Rattle.dtx_model.specs.declared.desk.Stage.{Stage}
 use Rattle.dtx_model.specs.declared.desk.Stage.TheVariants.{Idle, Active, Aborted, Recorded, Over, Unknown}
@@ -29,7 +29,7 @@ use Rattle.dtx_model.specs.Caused.{same_vote}
 use Rattle.dtx_model.specs.Learned.{coordinator_aborted}
 use Rattle.dtx_model.specs.Tied.{before_first_stop, can_free, can_log, enlist_got, has_mark, is_acked, is_done_there, is_logged, is_prepared_got, is_ready_got, is_recovery, is_stop, is_unmarked, mark_of}
 use Rattle.dtx_model.specs.Coordinated.{Coordinated, accepts, ballot_of, coordinate, desk_number, desks_after, follow, has_aborted, is_active, is_desk_of, is_finished, is_prepared, is_recorded, is_undecided, may_free, stage_after, unacked, with_ack, with_ballot}
-use Rattle.dtx_model.proofs.Bools.{and_left, and_right, and_both, not_both, not_false, not_true, or_case, or_right, or_second}
+use Rattle.dtx_model.proofs.Bools.{and_left, and_right, and_both, not_both, not_true, or_case, or_right, or_second}
 use Rattle.coordinator_core.proofs.Causes.{heard_why}
 use Rattle.outcome_law.proofs.Tests.{eq_self, eq_swap, third_of_five}
 use Rattle.outcome_law.proofs.Scans.{has_more}
@@ -40,9 +40,8 @@ use Rattle.outcome_law.proofs.Keeping.{Keeps, keeps_before, newest, newest_tied}
 use Rattle.outcome_law.proofs.Crossed.{is_got_on, is_sent_on, was_sent}
 use Rattle.outcome_law.proofs.Sendings.{from_got, own_info, record_of_mark}
 use Rattle.outcome_law.proofs.Recording.{can_commit, can_live, can_ready, can_unstopped, if_record, live_first, stopped_stop}
-use Rattle.outcome_law.proofs.CoreStages.{active_begun, changed, has_recorded, kept_some, open_before, recorded_mark, restart_open}
+use Rattle.outcome_law.proofs.CoreStages.{active_begun, changed, has_recorded, open_before, recorded_mark, restart_open}
 use Rattle.outcome_law.proofs.CoreKnown.{aborted_there, desk_there, enlist_of, has_made, later_opened, record_seen, work_begun}
-use Rattle.outcome_law.proofs.CoreBlocks.{commit_if_record}
 use Rattle.outcome_law.proofs.Recorded.{each_inserted}
 use Rattle.outcome_law.proofs.Managed.{desks_managed, is_enlist_by, is_managed_desk, one_manager}
 use Rattle.outcome_law.proofs.HalfKnows.{one_tag_more}

@@ -1,11 +1,14 @@
 -- A free of the record of an identifier that is given twice.
 use Rattle.std.proofs.Common.{◌≡◌, ℕ, Bool, true, false, List, Option, Some, None, Result, Ok, Err, inl, inr, ap, sym, subst, ◌∙◌}
 use Rattle.std.specs.Prelude.{◌⊎◌, IfErr, is_some}
+use Rattle.dtx_values.specs.declared.entry.Entry.TheVariants.{Freed}
+use Rattle.dtx_model.specs.Coordinated.{Coordinated, follow, may_free}
 use Rattle.dtx_model.specs.Log.{first_of}
 use Rattle.coordinator_log.specs.declared.refusal.LogRefusal.{LogRefusal}
 use Rattle.coordinator_log.specs.declared.refusal.LogRefusal.TheVariants.{Stopped as Refused, StoppedNow as Broken, NoSuch}
 use Rattle.tx_world.specs.AtLog.{IsFit}
 use Rattle.tx_world.proofs.Fitting.{one_found}
+use Rattle.tx_world.proofs.Keeping.{runs_still}
 use Rattle.dtx_model.specs.Log.{CommitRecord, without_first_of}
 use Rattle.coordinator_log.specs.Crash.{AllHoldEither}
 
@@ -26,4 +29,12 @@ never_lost id None u rs s n f g = absurd cc
 never_lost id (Some r) u rs s n f g = clash (sym g ∙ one_found id (Some r) u rs n f)
   where
     clash : None ≡ Some r → ⊥
+    clash e = absurd cc
+
+-- a coordinator whose record was freed runs
+pub freed_runs : (k j : Coordinated) → may_free k ≡ true → j ≡ follow k Freed → j.stopped ≡ true → ⊥
+unfolding follow
+freed_runs k j m e s = clash (sym (runs_still k m) ∙ sym (ap (λ (x : Coordinated). x.stopped) e) ∙ s)
+  where
+    clash : false ≡ true → ⊥
     clash e = absurd cc

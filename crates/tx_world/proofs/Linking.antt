@@ -11,7 +11,7 @@ use Rattle.dtx_values.specs.declared.number.ActorNo.{ActorNo}
 use Rattle.dtx_values.specs.declared.number.RmNo.{RmNo}
 use Rattle.dtx_values.specs.declared.number.TxNo.{TxNo}
 use Rattle.dtx_model.specs.Answers.{if_begun}
-use Rattle.dtx_model.specs.Coordinated.{Coordinated, follow, follow_all}
+use Rattle.dtx_model.specs.Coordinated.{follow, follow_all}
 use Rattle.dtx_model.specs.Half.{Half, heeds_all}
 use Rattle.dtx_model.specs.Observed.{track}
 use Rattle.dtx_model.specs.Steps.{Step, Calls, after, block_at, called, entered}

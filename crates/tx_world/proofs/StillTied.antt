@@ -1,5 +1,5 @@
 -- Which steps write entries of the log: the coordinator's act there, a stop and a restart; and what restarts found stays tied to what was appended in each step but a restart.
-use Rattle.std.proofs.Common.{◌≡◌, ◌∙◌, ℕ, zero, suc, Bool, true, false, ◌&&◌, not, List, [], ◌∷◌, refl, ap, sym, subst, if◌then◌else◌}
+use Rattle.std.proofs.Common.{◌≡◌, ℕ, zero, suc, Bool, true, false, ◌&&◌, not, List, [], ◌∷◌, refl, ap, sym, subst, if◌then◌else◌}
 use Rattle.dtx_values.specs.declared.call.Call.{Call}
 use Rattle.dtx_values.specs.declared.entry.Answer.{Answer}
 use Rattle.dtx_values.specs.declared.entry.Ask.TheVariants.{Promote, Single as AskSingle}
@@ -13,7 +13,6 @@ use Rattle.dtx_values.specs.declared.message.Message.{Message}
 use Rattle.dtx_values.specs.declared.message.Message.TheVariants.{BeginCommit}
 use Rattle.dtx_values.specs.declared.note.Reply.{Reply}
 use Rattle.dtx_values.specs.declared.number.EnlNo.{EnlNo}
-use Rattle.dtx_values.specs.declared.number.TxNo.{TxNo}
 use Rattle.dtx_values.specs.Lines.{has_line}
 use Rattle.dtx_model.specs.Words.{each, onto}
 use Rattle.dtx_model.specs.Tied.{is_tied, tied}

@@ -1,15 +1,13 @@
 -- What a transaction keeps of the log is what its history says: so while its coordinator runs; and so it stays where the coordinator stops, while it is stopped, and when it is
 -- told what a restart found.
-use Rattle.std.proofs.Common.{◌≡◌, ◌∙◌, ◌⊎◌, inl, inr, ℕ, Bool, true, false, ◌&&◌, ◌||◌, not, List, [], ◌∷◌, Option, Some, None, is_some, refl, ap, sym, subst}
+use Rattle.std.proofs.Common.{◌≡◌, ◌∙◌, inl, inr, ℕ, Bool, true, false, ◌&&◌, ◌||◌, not, List, [], ◌∷◌, Option, Some, None, is_some, refl, ap, sym, subst}
 use Rattle.dtx_values.specs.declared.entry.Entry.{Entry}
 use Rattle.dtx_values.specs.declared.entry.Entry.TheVariants.{Freed, Logged, Restarted, Stopped}
-use Rattle.dtx_values.specs.declared.number.TxNo.{TxNo}
 use Rattle.dtx_model.specs.Words.{each, has, latest, onto}
 use Rattle.dtx_model.specs.Log.{CommitRecord}
-use Rattle.dtx_model.specs.Tied.{before_first, before_first_stop, before_last_stop, can_free, can_log, has_mark, is_marked, is_stop, is_tied, is_unmarked, mark_of, tied}
-use Rattle.dtx_model.specs.Coordinated.{Coordinated, coordinate, follow, is_undecided}
-use Rattle.dtx_model.proofs.Bools.{and_both, and_left, and_right, not_both, not_false, or_right}
-use Rattle.dtx_model.proofs.Reading.{has-onto}
+use Rattle.dtx_model.specs.Tied.{before_first_stop, before_last_stop, can_free, can_log, has_mark, is_marked, is_stop, is_tied, is_unmarked, mark_of, tied}
+use Rattle.dtx_model.specs.Coordinated.{coordinate, follow, is_undecided}
+use Rattle.dtx_model.proofs.Bools.{and_both, and_left, and_right, not_both, or_right}
 use Rattle.outcome_law.proofs.CoreStages.{open_before, recorded_mark, restart_open, stopped_same}
 use Rattle.outcome_law.proofs.Recording.{first_none, first_some, stopped_stop}
 use Rattle.outcome_law.proofs.Steady.{tied_under}

@@ -12,7 +12,7 @@ use Rattle.coordinator_log.specs.declared.refusal.LogRefusal.TheVariants.{Stoppe
 use Rattle.tx_world.specs.AtLog.{Kept}
 use Rattle.coordinator_log.specs.Slots.{lowest_closed}
 use Rattle.tx_world.proofs.Answering.{acts_before, acts_now, appending, broken_refused, may_append, never_both, none_refused, refused_unbroken, unchanged_by, was_up}
-use Rattle.tx_world.proofs.Fitting.{keeps_appended, keeps_stopped, none_found, slots_appended, slots_same, slots_stopped}
+use Rattle.tx_world.proofs.Fitting.{keeps_appended, keeps_stopped, none_found, slots_appended, slots_stopped}
 use Rattle.tx_world.proofs.Keeping.{none_kept, ours_full, ours_logged, ours_stopped, runs_then}
 
 -- the identifier, and that nothing is kept and nothing unsure

@@ -8,7 +8,7 @@ use Rattle.tx_world.proofs.at_log.AtLog.free.Goals as goal
 use Rattle.std.proofs.Common.{sym, subst, ap, ◌∙◌, inl, Err, refl}
 use Rattle.std.specs.Prelude.{IfSome}
 use Rattle.coordinator_log.specs.State.{LogState}
-use Rattle.tx_world.proofs.Freeing.{images_of, lost_id, never_lost, records_of}
+use Rattle.tx_world.proofs.Freeing.{freed_runs, images_of, lost_id, never_lost, records_of}
 use Rattle.dtx_model.specs.Coordinated.{Coordinated}
 use Rattle.dtx_model.specs.Steps.{StoppedNow, StoppedBefore}
 use Rattle.coordinator_log.specs.declared.refusal.LogRefusal.{LogRefusal}
@@ -147,3 +147,10 @@ returns-in-Err-StoppedNow-clause-slots g c =
     let broken = c.in-Err-StoppedNow.is ∙ ap (λ (e : LogRefusal). Err e) c.in-Err-StoppedNow.field-0-is in
     slots_stopped (identifier_of c.args.core.now.transaction.value) c.args.self.now.ours (option_map record_of c.self.inside.ours) c.args.log.now c.free.new.self (c.free.ensures.stopped_now broken).1
     (λ u. never_both c.free.new.self.is_up u (c.free.ensures.stopped_now broken).0)
+
+-- a coordinator whose record was freed isn't stopped
+pub returns-in-Ok-clause-had : goal.returns-in-Ok-clause-had
+returns-in-Ok-clause-had g c = λ stops some. absurd (freed_runs c.args.core.now.state c.freed.new.core.state c.requires.finished c.freed.ensures.state stops)
+
+pub returns-in-Err-NoSuch-clause-had : goal.returns-in-Err-NoSuch-clause-had
+returns-in-Err-NoSuch-clause-had g c = λ stops some. absurd (freed_runs c.args.core.now.state c.freed-in-Err-NoSuch.new.core.state c.requires.finished c.freed-in-Err-NoSuch.ensures.state stops)
