@@ -201,6 +201,11 @@ ran_begun G t (m ∷ ms) w r = subst IsBegun (sym r.3) (step_begun G t r.0 m r.2
 pub stopped_begun : (G : ℕ → ActorNo → Call → Type 0) (t : ℕ) (w : World) → IsRun G t w → (core w).stopped ≡ true → has is_begin_sent w.past ≡ true
 stopped_begun G t w r s = ran_begun G t r.0 w r.1 (or_right (is_active (core w).stage || is_recorded (core w).stage) (core w).stopped s)
 
+-- has a record only there,
+pub recorded_begun : (G : ℕ → ActorNo → Call → Type 0) (t : ℕ) (w : World) → IsRun G t w → is_recorded (core w).stage ≡ true → has is_begin_sent w.past ≡ true
+recorded_begun G t w r s =
+    ran_begun G t r.0 w r.1 (or_left (is_active (core w).stage || is_recorded (core w).stage) (core w).stopped (or_right (is_active (core w).stage) (is_recorded (core w).stage) s))
+
 -- and acts only there
 pub acts_begun : (G : ℕ → ActorNo → Call → Type 0) (t : ℕ) (w : World) (a : LogAnswer) → IsRun G t w → may_coordinate (core w) a ≡ true → has is_begin_sent w.past ≡ true
 acts_begun G t w a r m = ran_begun G t r.0 w r.1 (named_knows (core w) a m)

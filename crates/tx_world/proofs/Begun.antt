@@ -13,8 +13,9 @@ use Rattle.dtx_model.specs.Words.{has, onto}
 use Rattle.dtx_model.specs.Wires.{opens}
 use Rattle.dtx_model.specs.World.{World, core}
 use Rattle.dtx_model.specs.Steps.{Step, after, block_at, entered}
+use Rattle.dtx_model.specs.Coordinated.{is_recorded}
 use Rattle.dtx_model.specs.Caused.{AreMadeOnce, IsIn, IsOwnRun, MayCome, is_begin_sent}
-use Rattle.outcome_law.proofs.BeginSent.{stopped_begun as begun_if_stopped}
+use Rattle.outcome_law.proofs.BeginSent.{recorded_begun as begun_if_recorded, stopped_begun as begun_if_stopped}
 use Rattle.outcome_law.proofs.Scans.{has_more}
 use Rattle.world_laws.specs.Carried.{are_sendable}
 use Rattle.tx_world.proofs.Onward.{ran_on}
@@ -28,9 +29,7 @@ stopped_begun t w r s = begun_if_stopped (IsIn w.calls) t w r s
 
 -- and has a record only there
 pub recorded_begun : (t : ℕ) (w : World) → IsOwnRun t w → is_recorded (core w).stage ≡ true → has is_begin_sent w.past ≡ true
-recorded_begun t w r s =
-    ran_begun (IsIn w.calls) t r.0 w r.1
-    (or_left (is_active (core w).stage || is_recorded (core w).stage) (core w).stopped (or_right (is_active (core w).stage) (is_recorded (core w).stage) s))
+recorded_begun t w r s = begun_if_recorded (IsIn w.calls) t w r s
 
 -- BEGIN opens b, and b is opened once
 begin_opens : (x : Entry) → is_begin_sent x ≡ true → opens Begin x ≡ true

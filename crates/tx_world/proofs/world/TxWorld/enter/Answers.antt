@@ -1,8 +1,9 @@
+use Rattle.std.proofs.Common.{refl}
 use Rattle.dtx_model.specs.Steps.{Calls}
 use Rattle.tx_world.proofs.Unlogged.{ok_does_at}
 use Rattle.tx_world.proofs.world.TxWorld.enter.Goals as goal
 
 pub returns-clause-done : goal.returns-clause-done
 returns-clause-done g c =
-    ok_does_at g.D.Disk.faults c.enter_at.result c.is_up.result c.life.result (Calls c.args.line c.args.actor c.args.c.now c.args.done) c.args.self.now c.enter_at.new.self c.args.log.now c.is_up.ensures.up c.life.ensures tt
+    ok_does_at g.D.Disk.faults c.enter_at.result c.is_up.result c.life.result (Calls c.args.line c.args.actor c.args.c.now c.args.done) c.args.self.now c.enter_at.new.self c.args.log.now c.is_up.ensures.up c.life.ensures refl
     c.enter_at.ensures.done

@@ -19,8 +19,8 @@ enter_alone-requires-clause-alone c =
     let w = c.args.self.now in
     gone_alone w.transaction.value w.world c.in-Gone.e c.args.done c.answer_gone-answer.result (c.answer_gone-answer.ensures c.args.done) other
 
-pub returns-then-not-branch-clause-done : goal.returns-then-not-branch-clause-done
-returns-then-not-branch-clause-done c =
+pub returns-then-not-has_open-clause-done : goal.returns-then-not-has_open-clause-done
+returns-then-not-has_open-clause-done c =
     let w = c.args.self.now in
     let silent = ap may_begin c.in-Gone.is in
     ok_alone_at c.enter_local.result true 0 (Calls c.args.line c.args.actor c.args.c.now c.args.done) w c.enter_local.new.self
