@@ -18,7 +18,7 @@ use Rattle.dtx_model.specs.Steps.{Restarts, Stops, after, block_at, restarted}
 use Rattle.dtx_model.specs.Traces.{Placed, history, placed}
 use Rattle.dtx_model.specs.Wires.{is_stopped}
 use Rattle.dtx_model.specs.World.{World, core}
-use Rattle.dtx_model.proofs.Bools.{and_left}
+use Rattle.dtx_model.proofs.Bools.{and_both, and_left, and_never}
 use Rattle.dtx_model.proofs.SameNumbers.{same_transaction}
 use Rattle.outcome_law.proofs.CoreStages.{stopped_same}
 use Rattle.outcome_law.proofs.PutAt.{is_tx, many-hit, many-known}
@@ -147,7 +147,7 @@ is_halted life x y number world ours unsure own = by (is_hit_by life x) world
 
 -- what it writes there,
 pub hit_past : (b : Bool) (t : ℕ) (w : World) → (if b then after t w Stops else w).past ≡ onto w.past (one_where b Stopped)
-unfolding after block_at one_where
+unfolding after block_at
 hit_past true t w = refl
 hit_past false t w = refl
 
@@ -197,7 +197,7 @@ is_reopened {D} log x y number reached unreached = by (is_reached_by log.life x)
 -- what it writes there, where the coordinator stands stopped,
 pub reopened_past : {D : Type 0} (log : LogState D) (x : TxState) → (has is_begin_sent x.world.past ≡ true → (core x.world).stopped ≡ true)
     → (reopened log x).world.past ≡ onto x.world.past (one_where (is_reached_by log.life x) (Restarted (is_some (record_in log.slots x.transaction.value))))
-unfolding after block_at one_where
+unfolding after block_at
 reopened_past {D} log x stopped = by (is_reached_by log.life x) refl
   where
     begun : is_reached_by log.life x ≡ true → has is_begin_sent x.world.past ≡ true
@@ -248,31 +248,51 @@ reopened_trace s log ws vs T U n a all tied lives =
     through_trace (reopened log) (is_reached_by log.life) (λ t. Restarted (is_some (record_in log.slots t.value))) ws vs T U n (is_known T) (known T) a all refl (λ t. refl)
     (λ t. reached_same s log.life t T (state_of t ws) (tied t) (lives t)) (λ u. many-known u T)
 
--- After a stop each goes with a log that is down, where it went with one that was up before, or goes with it already.
-pub goes_halted : {D : Type 0} (log : LogState D) (x : TxState) → log.is_up ≡ false → (has is_begin_sent x.world.past ≡ true → x.life ≡ log.life) → GoesWith log (halted log.life x)
-goes_halted {D} log x down lives = by (is_hit_by log.life x) refl
+-- After a stop each goes with the log, which is down: its coordinator lived in the log's life, and stood stopped only where BEGIN was sent.
+pub goes_halted : {D : Type 0} (log : LogState D) (x : TxState) (c : Bool) → log.is_up ≡ false → (has is_begin_sent x.world.past ≡ true → x.life ≡ log.life)
+    → (core x.world).stopped ≡ (has is_begin_sent x.world.past && c) → GoesWith log (halted log.life x)
+unfolding after block_at
+goes_halted {D} log x c down lives stopped = by (is_hit_by log.life x) refl
   where
-    run : (b : Bool) → (has is_begin_sent x.world.past && not b && nat_le x.life log.life) ≡ false → has is_begin_sent x.world.past ≡ true → b ≡ true
-    run true e k = refl
-    run false e k =
-        let f : nat_le x.life log.life ≡ false = sym (ap (λ (c : Bool). c && true && nat_le x.life log.life) k) ∙ e in
-        elim (leb_tells x.life log.life) [ inl l ↦ let c : true ≡ false = sym l.0 ∙ f in absurd cc | inr l ↦ let high = l.1 in let same = lives k in absurd (omega (arith, high, same)) ]
+    run : (b s : Bool) → (b ≡ true → nat_le x.life log.life ≡ true) → s ≡ (b && c) → (b && not s && nat_le x.life log.life) ≡ false → s ≡ (b && not log.is_up)
+    run true true l k e = sym (ap not down)
+    run true false l k e = let f : true ≡ false = sym (l refl) ∙ e in absurd cc
+    run false s l k e = k
+
+    near : has is_begin_sent x.world.past ≡ true → nat_le x.life log.life ≡ true
+    near k = elim (leb_tells x.life log.life) [ inl l ↦ l.0 | inr l ↦ let high = l.1 in let same = lives k in absurd (omega (arith, high, same)) ]
+
+    begun : is_hit_by log.life x ≡ true → has is_begin_sent x.world.past ≡ true
+    begun e = and_left (has is_begin_sent x.world.past) (not (core x.world).stopped) (and_left (has is_begin_sent x.world.past && not (core x.world).stopped) (nat_le x.life log.life) e)
 
     by : (b : Bool) → is_hit_by log.life x ≡ b
         → GoesWith log (if b then record { transaction = x.transaction; world = after x.transaction.value x.world Stops; ours = x.ours; unsure = x.unsure; life = x.life } else x)
-    by true e = record { life = λ k. lives (begun e); stopped = λ k. stops_core x.transaction.value x.world ∙ sym (ap not down) }
-    by false e = record { life = lives; stopped = λ k. run (core x.world).stopped e k ∙ sym (ap not down) }
-
-    begun : is_hit_by log.life x ≡ true → has is_begin_sent x.world.past ≡ true
-    begun e = and_left (has is_begin_sent x.world.past) (not (core x.world).stopped && nat_le x.life log.life) e
+    by true e =
+        record {
+          life = λ k. lives (begun e);
+          stopped = stops_core x.transaction.value x.world ∙ sym (and_both (has is_begin_sent x.world.past) (not log.is_up) (begun e) (ap not down));
+        }
+    by false e = record { life = lives; stopped = run (has is_begin_sent x.world.past) (core x.world).stopped near stopped e }
 
 -- After an opening each goes with the log, which is up.
-pub goes_reopened : {D : Type 0} (log : LogState D) (x : TxState) → log.is_up ≡ true → (has is_begin_sent x.world.past ≡ true → x.life < log.life) → GoesWith log (reopened log x)
-goes_reopened {D} log x up lives = by (is_reached_by log.life x) refl
+pub goes_reopened : {D : Type 0} (log : LogState D) (x : TxState) (c : Bool) → log.is_up ≡ true → (has is_begin_sent x.world.past ≡ true → x.life < log.life)
+    → (core x.world).stopped ≡ (has is_begin_sent x.world.past && c) → GoesWith log (reopened log x)
+goes_reopened {D} log x c up lives stopped = by (is_reached_by log.life x) refl
   where
+    never : (b : Bool) → false ≡ (b && not log.is_up)
+    never b = sym (ap (λ u. b && not u) up ∙ and_never b)
+
     by : (b : Bool) → is_reached_by log.life x ≡ b
         → GoesWith log (if b then record { transaction = x.transaction; world = after x.transaction.value x.world (Restarts (is_some (record_in log.slots x.transaction.value))); ours = record_in log.slots x.transaction.value; unsure = false; life = log.life } else x)
-    by true e = record { life = λ k. refl; stopped = λ k. restarts_core x.transaction.value x.world (is_some (record_in log.slots x.transaction.value)) ∙ sym (ap not up) }
+    by true e =
+        record {
+          life = λ k. refl;
+          stopped = restarts_core x.transaction.value x.world (is_some (record_in log.slots x.transaction.value))
+              ∙ never (has is_begin_sent (after x.transaction.value x.world (Restarts (is_some (record_in log.slots x.transaction.value)))).past);
+        }
     by false e =
-        let none : has is_begin_sent x.world.past ≡ true → false ≡ true = λ k. sym e ∙ (reached_known log.life x.life (has is_begin_sent x.world.past) lives ∙ k) in
-        record { life = λ k. let c = none k in absurd cc; stopped = λ k. let c = none k in absurd cc }
+        let none : has is_begin_sent x.world.past ≡ false = sym (reached_known log.life x.life (has is_begin_sent x.world.past) lives) ∙ e in
+        record {
+          life = λ k. let f : true ≡ false = sym k ∙ none in absurd cc;
+          stopped = stopped ∙ (ap (λ b. b && c) none ∙ never (has is_begin_sent x.world.past));
+        }
