@@ -164,13 +164,13 @@ stands_steady {D} t x from m steady goes = by (cases_Bool (sends_begin t.value x
         ∙ sym (and_both (has is_begin_sent (turned from.is_up t.value x.world m).past) (not from.is_up) (begun_after from.is_up t.value x.world m k) (ap not down)))
 
 -- A step at a log that was stopped by it, or found so, stops the coordinator.
-stop_written : (t : ℕ) (w : World) (a : LogAnswer) → coordinates (core w) a ≡ Stopped ∷ [] → (up : Bool) → (core (turned up t w (Coordinates a))).stopped ≡ true
+pub stop_written : (t : ℕ) (w : World) (a : LogAnswer) → coordinates (core w) a ≡ Stopped ∷ [] → (up : Bool) → (core (turned up t w (Coordinates a))).stopped ≡ true
 unfolding after block_at
 stop_written t w a e up =
     ap (λ (v : World). (core v).stopped) (unsent (sends_begin t w (Coordinates a)) up (after t (after t w (Coordinates a)) Stops) (after t w (Coordinates a)) (ap (has is_begin_sent) e))
     ∙ (ap (λ (es : List Entry). (coordinate (onto w.past es)).stopped) e ∙ stopped_same (Stopped ∷ w.past))
 
-now_block : (w : World) (b : Bool) → (if b then appended (core w) StoppedNow else freed StoppedNow) ≡ Stopped ∷ []
+pub now_block : (w : World) (b : Bool) → (if b then appended (core w) StoppedNow else freed StoppedNow) ≡ Stopped ∷ []
 now_block w true = refl
 now_block w false = refl
 
@@ -183,6 +183,14 @@ answered_up {D} faults k id life from to a n b e = by (cases_Bool from.is_up) (c
     by (inr k) u = absurd (b (e.before.1 (inl k)))
     by (inl k) (inr u) = absurd (n (e.now.1 (k, u)))
     by (inl k) (inl u) = (k, u)
+
+-- and where it isn't up, no step changes it
+pub answered_down : {D : Type 0} (faults : D → ℕ) (x : TxState) (from to : LogState D) (m : Step) → IsAnswered faults x from to m → IsFalse from.is_up → to ≡ from
+answered_down faults x from to (Coordinates Done) e down = let up = answered_up faults (core x.world) (id_of x) x.life from to Done (λ k. cc) (λ k. cc) e in absurd (not_both from.is_up up.0 down)
+answered_down faults x from to (Coordinates Full) e down = e.unchanged (λ k. cc) (λ k. cc)
+answered_down faults x from to (Coordinates StoppedNow) e down = absurd (not_both from.is_up (e.now.0 refl).0 down)
+answered_down faults x from to (Coordinates StoppedBefore) e down = e.unchanged (λ k. cc) (λ k. cc)
+answered_down faults x from to m e down = e
 
 -- The coordinator of a transaction that goes with the log never finds it stopped, since then it stands stopped itself.
 pub never_before : {D : Type 0} (faults : D → ℕ) (t : TxNo) (x : TxState) (from to : LogState D) → IsOwn t x → may_coordinate (core x.world) StoppedBefore ≡ true → GoesWith from x

@@ -40,7 +40,7 @@ use Rattle.script_runner.specs.LogRun.{LogGoes, LogStays}
 use Rattle.script_runner.specs.RunState.{Advances, AreNumbered, GoesWith, HaveSameCalls, Holds, IsRecordKept, IsTied, RunState, Tells, state_of, untouched}
 use Rattle.script_runner.proofs.Deeds.{is_done, is_restarts, is_to, untelling_block, untelling_commit}
 use Rattle.script_runner.proofs.Fitting.{fits_turn, goes_turn, had_turn}
-use Rattle.script_runner.proofs.Goes.{MayTurn, acts_running, answered_up, goes_step, named_in_replay, named_turn}
+use Rattle.script_runner.proofs.Goes.{MayTurn, acts_running, answered_down, answered_up, goes_step, named_in_replay, named_turn}
 use Rattle.script_runner.proofs.Noting.{history_there, trace_noted}
 use Rattle.script_runner.proofs.Numbered.{is_it, state_here, state_there, state_unreached}
 use Rattle.script_runner.proofs.Telling.{is_untelling, tells_block, tells_done}
@@ -138,7 +138,7 @@ did_step faults honest image a d =
 
 -- What it leaves of the log.
 pub step_log : {D : Type 0} (faults : D → ℕ) (honest : Bool) (image : D → List ℕ → Type 0) (a : StepOf D) → IsStep faults honest image a → LogGoes faults honest image a.from a.to
-step_log faults honest image a d = goes_turn faults honest image (was a) a.y a.from a.to d.grows d.still d.kept
+step_log faults honest image a d = goes_turn faults honest image (was a) a.y a.from a.to d.grows d.still (answered_down faults (was a) a.from a.to d.does.step d.does.done.answered) d.kept
 
 stays_up : {D : Type 0} (faults : D → ℕ) (x : TxState) (from to : LogState D) (m : Step) → IsAnswered faults x from to m → IsTrue from.is_up → from.armed ≡ None
     → IsTrue to.is_up ⊎ Rose (faults from.disk) (faults to.disk)
@@ -211,7 +211,7 @@ step_holds faults honest image a new at d same noted =
       had = had_turn a.run.worlds a.t a.y a.from a.to at.numbered at.made at.slots at.still at.holds.had;
       up = same ∙ (at.holds.up ∙ sym (log_up log));
       uncalled = λ up. ap is_called log ∙ at.holds.uncalled (at.still up);
-      fits = λ h. fits_turn image a.run.worlds a.t a.y a.from a.to at.numbered at.made (at.kept h) at.still (at.holds.fits h);
+      fits = λ h. fits_turn image a.run.worlds a.t a.y a.from a.to at.numbered at.made (at.kept h) at.still (answered_down faults (was a) a.from a.to d.does.step d.does.done.answered) (at.holds.fits h);
       sound = λ h. each_set (λ x. is_tied_history x.world.past ≡ true) a.run.worlds a.t a.y at.made (d.sound h) (at.holds.sound h);
     }
   where
