@@ -197,6 +197,12 @@ same_up true b p q = sym (p refl)
 same_up false true p q = q refl
 same_up false false p q = refl
 
+-- A log that was up at the end as it was at the start was so between, where none that isn't up comes up.
+pub up_between : (a b c : Bool) → (b ≡ true → a ≡ true) → (c ≡ true → b ≡ true) → c ≡ a → b ≡ a
+up_between a b true p q e = q refl ∙ e
+up_between a true false p q e = sym (p refl)
+up_between a false false p q e = e
+
 -- What holds of the run after it is noted,
 step_holds : {D : Type 0} (faults : D → ℕ) (honest : Bool) (image : D → List ℕ → Type 0) (a : StepOf D) (new : List Placed) → IsStep faults honest image a → (d : DidStep faults honest a)
     → a.to.is_up ≡ a.from.is_up → past_of new ≡ onto (past_of a.run.trace) (placed a.t (wrote faults honest a d)) → Holds honest image a.to (run_with a (worlds_after a) new)
@@ -235,7 +241,7 @@ step_advances faults honest image a new at d same noted =
     }
 
 -- and the trace tells as much of the log as before: of an act that was done how many device calls it made,
-written_up : (up : Bool) (t : ℕ) (w : World) (m : Step) → up ≡ true → written up t w m ≡ block_at t w m
+pub written_up : (up : Bool) (t : ℕ) (w : World) (m : Step) → up ≡ true → written up t w m ≡ block_at t w m
 written_up up t w m e = by (sends_begin t w m) up e
   where
     by : (b u : Bool) → u ≡ true → (if b && not u then block_at t w m ++ Stopped ∷ [] else block_at t w m) ≡ block_at t w m
@@ -251,8 +257,8 @@ frees_stage k f = and_right (not k.stopped) (is_recorded k.stage) (and_left (not
 
 free_had : {D : Type 0} (x : TxState) (log : LogState D) → log.is_up ≡ true → may_log (core x.world) ≡ false → may_coordinate (core x.world) Done ≡ true
     → IsOurs (id_of x) (core x.world) (record { ours = x.ours; unsure = x.unsure; life = x.life }) → IsHad x log → first_of (id_of x) (open_records log.slots) ≢ None
-free_had x log up no may ours had =
-    had up (ours.recorded (acts_running (core x.world) Done may) ∙ frees_recorded (core x.world) (may_log (core x.world)) no (may_free (core x.world)) refl may)
+free_had x log up unlogged may ours had =
+    had up (ours.recorded (acts_running (core x.world) Done may) ∙ frees_recorded (core x.world) (may_log (core x.world)) unlogged (may_free (core x.world)) refl may)
   where
     frees_recorded : (k : Coordinated) (b : Bool) → b ≡ false → (c : Bool) → may_free k ≡ c → (b || (c && true)) ≡ true → is_recorded k.stage ≡ true
     frees_recorded k true e c f m = absurd cc
@@ -291,7 +297,7 @@ untelling_stop [] k = refl
 untelling_stop (x ∷ es) k =
     and_both (is_untelling x) (each is_untelling (es ++ Stopped ∷ [])) (and_left (is_untelling x) (each is_untelling es) k) (untelling_stop es (and_right (is_untelling x) (each is_untelling es) k))
 
-untelling_written : (up : Bool) (t : ℕ) (w : World) (m : Step) → is_done m ≡ false → is_restarts m ≡ false → each is_untelling (written up t w m) ≡ true
+pub untelling_written : (up : Bool) (t : ℕ) (w : World) (m : Step) → is_done m ≡ false → is_restarts m ≡ false → each is_untelling (written up t w m) ≡ true
 untelling_written up t w m d r = by (sends_begin t w m && not up)
   where
     by : (b : Bool) → each is_untelling (if b then block_at t w m ++ Stopped ∷ [] else block_at t w m) ≡ true
