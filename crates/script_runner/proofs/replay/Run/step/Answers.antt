@@ -1,0 +1,248 @@
+use Rattle.std.proofs.Common.{◌≡◌, ◌≤◌, ◌<◌, ◌-◌, ◌++◌, ◌∷◌, [], ◌∙◌, ℕ, Bool, true, false, List, None, Ok, Result, ap, arith, length, refl, set, subst, sym}
+use Rattle.std.specs.Prelude.{IsTrue, IsFalse}
+use Rattle.dtx_values.specs.declared.entry.Entry.{Entry}
+use Rattle.dtx_values.specs.declared.entry.Entry.TheVariants.{Stopped}
+use Rattle.dtx_values.specs.declared.number.TxNo.{TxNo}
+use Rattle.dtx_values.specs.declared.trace.Place.TheVariants.{Log}
+use Rattle.dtx_model.specs.Caused.{is_begin_sent}
+use Rattle.dtx_model.specs.Grammar.{are_named_well}
+use Rattle.dtx_model.specs.Words.{has, kth, onto, past_of}
+use Rattle.dtx_model.specs.Steps.{pending}
+use Rattle.dtx_model.specs.Traces.{Placed, placed}
+use Rattle.dtx_model.proofs.Bools.{not_both}
+use Rattle.coordinator_log.specs.Slots.{open_records}
+use Rattle.tx_world.specs.AtLog.{Fits}
+use Rattle.tx_world.specs.State.{TxState}
+use Rattle.tx_world.specs.declared.refusal.WorldError.{WorldError}
+use Rattle.tx_world.specs.Stepping.{DoesKth}
+use Rattle.script_runner.specs.LogRun.{LogGoes, LogStays}
+use Rattle.script_runner.specs.RunState.{AreNumbered, HaveSameCalls, IsRecordKept, IsTied, RunState, halted, state_of}
+use Rattle.script_runner.proofs.Noting.{as_long, grown}
+use Rattle.script_runner.proofs.Numbered.{state_indexed}
+use Rattle.script_runner.proofs.StepStops.{IsStopping, is_stopping_step, step_stopped, stopping_lives, stopping_ties}
+use Rattle.script_runner.proofs.Steps.{IsStep, IsStepAt, IsStepped, StepOf, calls_same, none_beyond, none_pending, run_with, step_done, step_log, step_past, step_stays, was, worlds_after}
+use Rattle.script_runner.proofs.Turns.{own_at}
+use Rattle.script_runner.proofs.replay.Run.step.Given.{Over}
+use Rattle.script_runner.proofs.replay.Run.step.Goals.{After-is_own_run, After-is_own_run-2, else-was_up-via-then-was_up+else-not-is_up, else-was_up-via-else-was_up}
+use Rattle.script_runner.proofs.replay.Run.step.Goals as goal
+
+-- it was done
+abbrev did_nothing : Result Bool WorldError → Type 0
+did_nothing r = r ≡ Ok false
+
+never_false : did_nothing (Ok true) → ⊥
+never_false e = cc
+
+-- the world is the transaction's
+reached : (g : Over) (c : After-is_own_run g) → state_of c.args.t c.args.self.now.worlds ≡ c.index_mut-world.result.now
+reached g c =
+    subst (λ (r : RunState). state_of c.args.t r.worlds ≡ c.index_mut-world.result.now) c.self.view_is
+    (state_indexed c.args.t c.self.inside.worlds.items c.index_mut-world.result.now c.index-2.result (omega (arith, c.index-2.ensures.place))
+    (omega (arith, c.index.ensures.place, c.if-len-index.false, c.len.ensures)) c.index_mut-world.ensures.value)
+
+-- what the step is about
+abbrev about : (g : Over) → After-is_own_run-2 g → StepOf g.row.D.Denot
+about g c = record { run = c.args.self.now; t = c.args.t; k = c.args.k; y = c.step.new.self; from = c.args.log.now; to = c.step.new.log }
+
+-- the world was the transaction's
+was_reached : (g : Over) (c : After-is_own_run-2 g) → was (about g c) ≡ c.index_mut-world.result.now
+was_reached g c =
+    subst (λ (r : RunState). state_of c.args.t r.worlds ≡ c.index_mut-world.result.now) c.self.view_is
+    (state_indexed c.args.t c.self.inside.worlds.items c.index_mut-world.result.now c.index-2.result (omega (arith, c.index-2.ensures.place))
+    (omega (arith, c.index.ensures.place, c.if-len-index.false, c.len.ensures)) c.index_mut-world.ensures.value)
+
+-- it was done
+done : (g : Over) (c : After-is_own_run-2 g) → IsStep g.D.Disk.faults g.D.Disk.honest g.D.Disk.image (about g c)
+done g c =
+    let x = c.index_mut-world.result.now in
+    let y = c.step.new.self in
+    let made : c.args.t.value ≤ length c.self.inside.worlds.items = omega (arith, c.index.ensures.place, c.if-len-index.false, c.len.ensures) in
+    let did = ap (λ (b : Bool). Ok b) c.if-not-branch.false in
+    subst (λ (z : TxState). IsStepAt g.D.Disk.faults g.D.Disk.honest g.D.Disk.image (about g c) z) (sym (was_reached g c))
+    (record {
+      holds = c.requires.holds;
+      numbered = subst (λ (r : RunState). AreNumbered r.worlds) c.self.view_is c.self.invariant.0;
+      names = subst (λ (r : RunState). are_named_well r.script ≡ true) c.self.view_is c.self.invariant.2;
+      made = subst (λ (r : RunState). c.args.t.value ≤ length r.worlds) c.self.view_is made;
+      own = c.is_own_run.ensures.run;
+      does = subst (λ (j : ℕ). DoesKth g.D.Disk.faults j x c.args.log.now y c.step.new.log) c.from.ensures (c.in_ok-step.ensures.some did);
+      nearer = c.in_ok-step.ensures.nearer did;
+      kept = c.step.ensures.kept;
+      slots = c.step.ensures.slots;
+      life = c.step.ensures.life;
+      grows = c.step.ensures.grows;
+      unarmed = c.step.ensures.unarmed;
+      still = c.step.ensures.still;
+      recorded = record { own = c.is_own_run-2.ensures.run; ours = c.is_own_run-2.ensures.ours; tried = c.is_own_run-2.ensures.tried };
+    })
+
+-- what it left of the log
+log_goes : (g : Over) (c : After-is_own_run-2 g) → LogGoes g.D.Disk.faults g.D.Disk.honest g.D.Disk.image c.args.log.now c.step.new.log
+log_goes g c = step_log g.D.Disk.faults g.D.Disk.honest g.D.Disk.image (about g c) (done g c)
+
+log_stays : (g : Over) (c : After-is_own_run-2 g) → LogStays g.D.Disk.faults c.args.log.now c.step.new.log
+log_stays g c = step_stays g.D.Disk.faults g.D.Disk.honest g.D.Disk.image (about g c) (done g c)
+
+-- the run after it, as its parts stand then
+parts : (g : Over) (c : After-is_own_run-2 g) (T : List Placed)
+    → record { script = c.self.inside.plans; worlds = set c.self.inside.worlds.items c.index-2.result c.step.new.self; contexts = c.self.inside.contexts.items; trace = T }
+    ≡ run_with (about g c) (worlds_after (about g c)) T
+parts g c T =
+    let place : c.index-2.result ≡ c.args.t.value - 1 = omega (arith, c.index-2.ensures.place) in
+    ap (λ (r : RunState). record { script = r.script; worlds = set r.worlds c.index-2.result c.step.new.self; contexts = r.contexts; trace = T }) c.self.view_is
+    ∙ ap (λ (i : ℕ). run_with (about g c) (set c.args.self.now.worlds i c.step.new.self) T) place
+
+-- no call was entered
+calls : (g : Over) (c : After-is_own_run-2 g) → HaveSameCalls c.args.self.now.worlds (set c.self.inside.worlds.items c.index-2.result c.step.new.self)
+calls g c = subst (λ (r : RunState). HaveSameCalls c.args.self.now.worlds r.worlds) (sym (parts g c [])) (calls_same g.D.Disk.faults g.D.Disk.honest g.D.Disk.image (about g c) (done g c))
+
+-- its history was as long as was asked before
+past : (g : Over) (c : After-is_own_run-2 g) → past_of c.history.result.now.items ≡ (was (about g c)).world.past
+past g c = c.history.ensures ∙ sym (ap (λ (z : TxState). z.world.past) (was_reached g c))
+
+long : (g : Over) (c : After-is_own_run-2 g) → length (was (about g c)).world.past ≡ c.len-from.result
+long g c = sym (as_long c.history.result.now.items (was (about g c)).world.past (past g c)) ∙ sym c.len-from.ensures
+
+-- and didn't get shorter
+longer : (g : Over) (c : After-is_own_run-2 g) → c.len-from.result ≤ length c.step.new.self.world.past
+longer g c =
+    let wrote = step_past g.D.Disk.faults g.D.Disk.honest g.D.Disk.image (about g c) (done g c) in
+    subst (λ (n : ℕ). n ≤ length c.step.new.self.world.past) (sym c.len-from.ensures)
+    (grown c.history.result.now.items (was (about g c)).world.past c.step.new.self.world.past wrote.0 (past g c) wrote.1)
+
+pub returns-then-len-index-clause-none : goal.returns-then-len-index-clause-none
+returns-then-len-index-clause-none g c = λ e.
+    let more : length c.self.inside.worlds.items < c.args.t.value = omega (arith, c.index.ensures.place, c.if-len-index.true, c.len.ensures) in
+    (none_beyond c.args.self.now c.args.t c.args.k (c.requires.holds.tied c.args.t) (subst (λ (r : RunState). length r.worlds < c.args.t.value) c.self.view_is more)).0
+
+pub returns-then-len-index-clause-none_here : goal.returns-then-len-index-clause-none_here
+returns-then-len-index-clause-none_here g c = λ e.
+    let more : length c.self.inside.worlds.items < c.args.t.value = omega (arith, c.index.ensures.place, c.if-len-index.true, c.len.ensures) in
+    (none_beyond c.args.self.now c.args.t c.args.k (c.requires.holds.tied c.args.t) (subst (λ (r : RunState). length r.worlds < c.args.t.value) c.self.view_is more)).1
+
+pub step-requires : goal.step-requires
+step-requires g c = record {
+  fits = λ h up.
+      subst (λ (z : TxState). Fits z (open_records c.args.log.now.slots)) (reached g (goal.at.step-requires g c).After-is_own_run) ((c.requires.holds.fits h c.args.t).fits up);
+}
+
+pub returns-then-not-branch-clause-none_here : goal.returns-then-not-branch-clause-none_here
+returns-then-not-branch-clause-none_here g c = λ e.
+    let at = reached g (goal.at.returns-then-not-branch-clause-none_here g c).After-is_own_run in
+    let r = c.args.self.now in
+    let x = c.index_mut-world.result.now in
+    let numbered = subst (λ (r : RunState). AreNumbered r.worlds) c.self.view_is c.self.invariant.0 in
+    let none : kth (pending x.world) c.args.k ≡ None =
+    subst (λ (j : ℕ). kth (pending x.world) j ≡ None) c.from.ensures (c.in_ok-step.ensures.none (ap (λ (b : Bool). Ok b) c.if-not-branch.true)).0 in
+    none_pending r.script r.worlds (past_of r.trace) c.args.t c.args.k (c.requires.holds.tied c.args.t) (own_at c.args.t r.worlds x numbered at c.is_own_run.ensures.run)
+    (ap (λ (z : TxState). kth (pending z.world) c.args.k) at ∙ none)
+
+pub returns-in_err-reserve-clause-calls : goal.returns-in_err-reserve-clause-calls
+returns-in_err-reserve-clause-calls g c = calls g (goal.at.returns-in_err-reserve-clause-calls g c).After-is_own_run-2
+
+pub returns-in_err-note-clause-calls : goal.returns-in_err-note-clause-calls
+returns-in_err-note-clause-calls g c = calls g (goal.at.returns-in_err-note-clause-calls g c).After-is_own_run-2
+
+pub returns-in_err-note-2-clause-calls : goal.returns-in_err-note-2-clause-calls
+returns-in_err-note-2-clause-calls g c = calls g (goal.at.returns-in_err-note-2-clause-calls g c).After-is_own_run-2
+
+pub returns-in_err-stop_all-clause-calls : goal.returns-in_err-stop_all-clause-calls
+returns-in_err-stop_all-clause-calls g c = λ v. c.stop_all.ensures.calls v ∙ calls g (goal.at.returns-in_err-stop_all-clause-calls g c).After-is_own_run-2 v
+
+pub note-requires : goal.note-requires
+note-requires g c = longer g (goal.at.note-requires g c).After-is_own_run-2
+
+pub note-requires-2 : goal.note-requires-2
+note-requires-2 g c = longer g (goal.at.note-requires-2 g c).After-is_own_run-2
+
+pub stop_all-requires : goal.stop_all-requires
+stop_all-requires g c =
+    let b = (goal.at.stop_all-requires g c).After-is_own_run-2 in
+    let a = about g b in
+    let mid : List Placed = c.note.new.trace.items in
+    let up : IsTrue a.from.is_up = sym c.is_up-was_up.ensures ∙ c.if-was_up.true in
+    let down : IsFalse a.to.is_up = sym c.is_up.ensures ∙ c.if-not-is_up.true in
+    let noted : (es : List Entry) → a.y.world.past ≡ onto (was a).world.past es → mid ≡ (a.run.trace ++ (Log, Stopped) ∷ []) ++ placed a.t es =
+    λ es wrote.
+    c.in_ok-note.ensures (was a).world.past es (long g b) wrote
+    ∙ ap (λ (T : List Placed). T ++ placed a.t es)
+    (c.push_reserved.ensures.items ∙ ap (λ (T : List Placed). T ++ (Log, Stopped) ∷ []) (c.reserve.ensures.items ∙ ap (λ (r : RunState). r.trace) c.self.view_is)) in
+    let stops = is_stopping_step g.D.Disk.faults g.D.Disk.honest g.D.Disk.image a mid (done g b) up down noted in
+    let now = sym (parts g b mid) in
+    record {
+      tied = subst (λ (r : RunState). (u : TxNo) → IsTied r.script u (past_of r.trace) (state_of u r.worlds)) now (stopping_ties g.D.Disk.faults g.D.Disk.honest g.D.Disk.image a mid (done g b) stops);
+      lives = λ u begun.
+          subst (λ (r : RunState). has is_begin_sent (state_of u r.worlds).world.past ≡ true → (state_of u r.worlds).life ≡ c.step.new.log.life) now
+          (stopping_lives g.D.Disk.faults g.D.Disk.honest g.D.Disk.image a mid (done g b) stops u) begun ∙ sym c.life.ensures;
+    }
+
+pub returns-then-not-is_up : goal.returns-then-not-is_up
+returns-then-not-is_up g c =
+    let b = (goal.at.returns-then-not-is_up g c).After-is_own_run-2 in
+    let a = about g b in
+    let q = c.stop_all.new.self in
+    let mid : List Placed = c.note.new.trace.items in
+    let now = parts g b mid in
+    let up : IsTrue a.from.is_up = sym c.is_up-was_up.ensures ∙ c.if-was_up.true in
+    let down : IsFalse a.to.is_up = sym c.is_up.ensures ∙ c.if-not-is_up.true in
+    let noted : (es : List Entry) → a.y.world.past ≡ onto (was a).world.past es → mid ≡ (a.run.trace ++ (Log, Stopped) ∷ []) ++ placed a.t es =
+    λ es wrote.
+    c.in_ok-note.ensures (was a).world.past es (long g b) wrote
+    ∙ ap (λ (T : List Placed). T ++ placed a.t es)
+    (c.push_reserved.ensures.items ∙ ap (λ (T : List Placed). T ++ (Log, Stopped) ∷ []) (c.reserve.ensures.items ∙ ap (λ (r : RunState). r.trace) c.self.view_is)) in
+    let stops = is_stopping_step g.D.Disk.faults g.D.Disk.honest g.D.Disk.image a mid (done g b) up down noted in
+    let d : IsStepped g.D.Disk.faults g.D.Disk.honest g.D.Disk.image a q =
+    step_stopped g.D.Disk.faults g.D.Disk.honest g.D.Disk.image a mid q (done g b) stops up down (c.stop_all.ensures.script ∙ ap (λ (r : RunState). r.script) c.self.view_is)
+    (subst (λ (r : RunState). HaveSameCalls r.worlds q.worlds) now c.stop_all.ensures.calls)
+    (λ u.
+    subst (λ (r : RunState). state_of u q.worlds ≡ halted c.life.result (state_of u r.worlds)) now (c.in_ok-stop_all.ensures.worlds u)
+    ∙ ap (λ l. halted l (state_of u (worlds_after a))) c.life.ensures)
+    c.in_ok-stop_all.ensures.trace
+    (subst (λ (r : RunState). ((u : TxNo) → IsRecordKept (state_of u r.worlds)) → (u : TxNo) → IsRecordKept (state_of u q.worlds)) now c.in_ok-stop_all.ensures.kept) in
+    record {
+      contexts = c.stop_all.ensures.contexts ∙ ap (λ (r : RunState). r.contexts) c.self.view_is;
+      log = d.log;
+      stays = d.stays;
+      script = c.stop_all.ensures.script ∙ ap (λ (r : RunState). r.script) c.self.view_is;
+      holds = d.holds;
+      tells = d.tells;
+      calls = d.calls;
+      stepped = λ e. d.stepped;
+      some = λ e. d.some;
+      apart = λ e. d.apart;
+      nearer = λ e. d.nearer;
+      none = λ e. absurd (never_false e);
+      none_here = λ e. absurd (never_false e);
+      unchanged = λ e. absurd (never_false e);
+    }
+
+pub returns : goal.returns
+returns g c =
+    let b = (goal.at.returns g c).After-is_own_run-2 in
+    let a = about g b in
+    let new : List Placed = c.note-2.new.trace.items in
+    let stays : IsTrue a.from.is_up → IsTrue a.to.is_up = λ up. elim c.else-was_up.branch [
+      | else-was_up-via-then-was_up+else-not-is_up w ↦ sym w.is_up.ensures ∙ w.if-not-is_up.false
+      | else-was_up-via-else-was_up w ↦ absurd (not_both a.from.is_up up (sym c.is_up-was_up.ensures ∙ w.if-was_up.false))
+    ] in
+    let noted : (es : List Entry) → a.y.world.past ≡ onto (was a).world.past es → new ≡ a.run.trace ++ placed a.t es =
+    λ es wrote. c.in_ok-note-2.ensures (was a).world.past es (long g b) wrote ∙ ap (λ (r : RunState). r.trace ++ placed a.t es) c.self.view_is in
+    let d =
+    subst (λ (q : RunState). IsStepped g.D.Disk.faults g.D.Disk.honest g.D.Disk.image a q) (sym (parts g b new))
+    (step_done g.D.Disk.faults g.D.Disk.honest g.D.Disk.image a new (done g b) stays noted) in
+    record {
+      contexts = ap (λ (r : RunState). r.contexts) c.self.view_is;
+      log = d.log;
+      stays = d.stays;
+      script = ap (λ (r : RunState). r.script) c.self.view_is;
+      holds = d.holds;
+      tells = d.tells;
+      calls = d.calls;
+      stepped = λ e. d.stepped;
+      some = λ e. d.some;
+      apart = λ e. d.apart;
+      nearer = λ e. d.nearer;
+      none = λ e. absurd (never_false e);
+      none_here = λ e. absurd (never_false e);
+      unchanged = λ e. absurd (never_false e);
+    }
