@@ -159,9 +159,9 @@ hit_calls true t w = refl
 hit_calls false t w = refl
 
 -- which is all that changes of it
-pub record IsAsHalted (life : ℕ) (x y : TxState) : Type 0 where
+pub record IsAsHalted (own : ℕ) (x y : TxState) : Type 0 where
   pub transaction : y.transaction ≡ x.transaction
-  pub past : y.world.past ≡ onto x.world.past (one_where (is_hit_by life x) Stopped)
+  pub past : y.world.past ≡ onto x.world.past (one_where (is_hit_by own x) Stopped)
   pub calls : y.world.calls ≡ x.world.calls
   pub ours : y.ours ≡ x.ours
   pub unsure : y.unsure ≡ x.unsure
