@@ -57,8 +57,6 @@ pub enum Fault {
     Usage,
     #[error("dtx: line {0}: {1}")]
     BadScript(u32, Mistake),
-    #[error("dtx: line {0}: not built yet")]
-    NotYet(u32),
     #[error("dtx: read fault")]
     Read,
     #[error("dtx: log fault")]
@@ -78,7 +76,6 @@ impl Fault {
             Exit::Fine => Ok(()),
             Exit::Usage => Err(Fault::Usage),
             Exit::BadScript(line, cause) => Err(Fault::BadScript(line, Mistake::of(cause))),
-            Exit::NotYet(line) => Err(Fault::NotYet(line)),
             Exit::ReadFault => Err(Fault::Read),
             Exit::LogFault => Err(Fault::Log),
             Exit::WriteFault => Err(Fault::Write),
@@ -95,7 +92,6 @@ impl Fault {
             Fault::Write => 6,
             Fault::Log => 7,
             Fault::Memory => 8,
-            Fault::NotYet(_) => 9,
             Fault::NoLog => 11,
         }
     }
@@ -139,9 +135,7 @@ mod tests {
         says(&rt, rt.alloc(), Exit::ReadFault, "dtx: read fault", 5)?;
         says(&rt, rt.alloc(), Exit::WriteFault, "dtx: write fault", 6)?;
         says(&rt, rt.alloc(), Exit::LogFault, "dtx: log fault", 7)?;
-        says(&rt, rt.alloc(), Exit::Memory, "dtx: out of memory", 8)?;
-        let not_yet = "dtx: line 2: not built yet";
-        says(&rt, rt.alloc(), Exit::NotYet(2), not_yet, 9)
+        says(&rt, rt.alloc(), Exit::Memory, "dtx: out of memory", 8)
     }
 
     #[test]

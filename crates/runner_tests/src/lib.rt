@@ -9,10 +9,10 @@ mod live;
 #[cfg(test)]
 mod losses;
 #[cfg(test)]
-mod not_built;
-#[cfg(test)]
 mod printed;
 #[cfg(test)]
 mod runs;
+#[cfg(test)]
+mod stops;
 #[cfg(test)]
 mod transfers;

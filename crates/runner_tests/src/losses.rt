@@ -28,7 +28,7 @@ const IDENTIFIED: [&str; 2] = [
 ];
 
 /// A durable of two phases promotes.
-const TWO_PHASES: [&str; 7] = [
+pub const TWO_PHASES: [&str; 7] = [
     "call 1 a1 ok",
     "began 60000",
     "call 2 a1 wait",
@@ -38,7 +38,8 @@ const TWO_PHASES: [&str; 7] = [
     "commit",
 ];
 
-const E1_ENLISTED: [&str; 8] = [
+/// It is enlisted there.
+pub const E1_ENLISTED: [&str; 8] = [
     "promoted 00000000-0000-0001-0000-000000000001 two",
     "sent e1 up enlist",
     "got e1 up enlist",

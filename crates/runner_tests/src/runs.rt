@@ -6,7 +6,7 @@ ghost use Rattle.dtx_values.specs.RecoveryInfo.{is_id};
 use coordinator_log::{Log, LogRefusal};
 use dtx_values::{EnlNo, LogRecord, RmNo};
 use outside::{Disk, MemDisk, MemSink, MemSource, SureDisk, SureSink, SureSource};
-use script_runner::{BadCause, Exit, LOG_BYTES, is_runnable, run_program, run_replay};
+use script_runner::{BadCause, Exit, LOG_BYTES, run_program, run_replay};
 use script_text::{Script, read_script};
 use std::alloc::{AllocError, Global};
 use std::process::Abort;
@@ -150,17 +150,15 @@ pub fn unwritten(
 
 #[test]
 fn the_first_of_several_causes_is_answered(rt: HostRuntime) -> Result<(), Fail> {
-    let later = "a1 begin t1 0\na1 restart\n";
     let bad = "a1 begin t1 0\na1 restart\na1 commit t2\n";
     let unknown = Exit::BadScript(3, BadCause::NameUnknown);
     // the script has 54 bytes, which come in six pieces; a seventh call finds its end
-    let cases: [(&[&str], &str, &[u64], Exit); 9] = [
+    let cases: [(&[&str], &str, &[u64], Exit); 8] = [
         (&[], bad, &[1], Exit::Usage),
         (&["reply"], bad, &[1], Exit::Usage),
         (&["replay", "now"], bad, &[1], Exit::Usage),
         (&["replay"], bad, &[3], Exit::ReadFault),
         (&["replay"], bad, &[], unknown),
-        (&["replay"], later, &[], Exit::NotYet(2)),
         (&["replay"], SCRIPT, &[1], Exit::ReadFault),
         (&["replay"], SCRIPT, &[7], Exit::ReadFault),
         (&["replay"], SCRIPT, &[8], Exit::LogFault),
@@ -176,7 +174,7 @@ fn the_first_of_several_causes_is_answered(rt: HostRuntime) -> Result<(), Fail> 
 fn tried(alloc: Global, script: &Script, disk: SureDisk) -> Result<Option<usize>, AllocError>
     requires { IsScript script.now }
 {
-    if !is_runnable(script) || disk.len() < LOG_BYTES {
+    if disk.len() < LOG_BYTES {
         return Ok(None);
     }
     match Log::format(alloc, disk) {
@@ -193,12 +191,10 @@ const MARSHALLED: &str = "a1 begin t1 0\na1 marshal t1\na1 await t1\n";
 
 #[test]
 fn what_a_replay_needs_can_be_tested(rt: HostRuntime) -> Result<(), Fail> {
-    let later = "a1 begin t1 0\na1 restart\n";
     let cases = [
         (SCRIPT, LOG_BYTES, Some(12)),
         (MARSHALLED, LOG_BYTES, Some(15)),
         (SCRIPT, LOG_BYTES - 1, None),
-        (later, LOG_BYTES, None),
     ];
     for (text, size, wanted) in cases {
         let Ok(script) = read_script(rt.alloc(), text.as_bytes()) else {

@@ -1,5 +1,5 @@
 -- A replay under way.
-use Rattle.std.specs.Prelude.{ℕ, ◌-◌, ◌<◌, ◌≤◌, ◌≡◌, nat_lt, Bool, true, false, not, List, [], length, Option, None, Some, is_some, IsTrue, slice_index_or, if◌then◌else◌}
+use Rattle.std.specs.Prelude.{ℕ, ◌-◌, ◌<◌, ◌≤◌, ◌≡◌, nat_lt, Bool, true, false, ◌&&◌, not, List, [], length, Option, None, Some, is_some, IsTrue, slice_index_or, if◌then◌else◌}
 use Rattle.dtx_values.specs.declared.entry.Entry.{Entry}
 use Rattle.dtx_values.specs.declared.number.ActorNo.{ActorNo}
 use Rattle.dtx_values.specs.declared.number.TxNo.{TxNo}
@@ -13,7 +13,7 @@ use Rattle.dtx_model.specs.World.{core}
 use Rattle.dtx_model.specs.Log.{CommitRecord, first_of}
 use Rattle.dtx_model.specs.Promotes.{identifier_of}
 use Rattle.dtx_model.specs.Steps.{Step, StepName, Stops, Restarts, after, pending}
-use Rattle.dtx_model.specs.Caused.{IsCallOf, IsIn, IsNamed, Settled, is_as_planned, is_begin_sent, plans_of}
+use Rattle.dtx_model.specs.Caused.{IsCallOf, IsIn, IsNamed, IsOwnRun, Settled, is_as_planned, is_begin_sent, plans_of}
 use Rattle.dtx_model.specs.Traces.{Placed, history}
 use Rattle.dtx_model.specs.Replay.{HasSettled, RoundsRan, StepsRan, after_turn, is_in_replay, is_passed, last_turn, world_at}
 use Rattle.dtx_model.specs.History.{nobody}
@@ -54,15 +54,16 @@ pub record IsTied (s : List Line) (t : TxNo) (T : List Placed) (x : TxState) : T
   pub given : (n : ℕ) (a : ActorNo) (c : Call) → IsIn x.world.calls n a c → IsCallOf s t.value n a c
   pub planned : IsToPlan s x.world.past
 
--- What the coordinator of a transaction keeps of the log is what it knows; and where each restart found what may be found, it is what its history says.
+-- A transaction is what its own calls made; what its coordinator keeps of the log is what it knows; and where each restart found what may be found, it is what its history says.
 pub record IsRecordKept (x : TxState) : Type 0 where
+  pub own : IsOwnRun x.transaction.value x.world
   pub ours : IsOurs (id_of x) (core x.world) (record { ours = x.ours; unsure = x.unsure; life = x.life })
   pub tried : tied x.world.past ≡ true → IsTried x.world.past (record { ours = x.ours; unsure = x.unsure; life = x.life })
 
--- The coordinator goes with the log: from BEGIN on it lives in the log's life, and it stands stopped exactly where the log isn't up.
+-- The coordinator goes with the log: from BEGIN on it lives in the log's life, and it stands stopped exactly from then on, while the log isn't up.
 pub record GoesWith {D : Type 0} (log : LogState D) (x : TxState) : Type 0 where
   pub life : has is_begin_sent x.world.past ≡ true → x.life ≡ log.life
-  pub stopped : has is_begin_sent x.world.past ≡ true → (core x.world).stopped ≡ not log.is_up
+  pub stopped : (core x.world).stopped ≡ (has is_begin_sent x.world.past && not log.is_up)
 
 -- the log's records fit a transaction: those of a log that is up, and those of each image that a crash can leave
 pub record FitsLog {D : Type 0} (image : D → List ℕ → Type 0) (log : LogState D) (x : TxState) : Type 0 where
