@@ -47,7 +47,7 @@ untelling_found t (Restarted b) k = absurd cc
 untelling_found t x k = refl
 
 -- Where the same stands at the log, and as many calls were made, the same is counted.
-counted_same : (b n : ℕ) (stop : Option ArmedStop) (T U : List Placed) → at_log U ≡ at_log T → made U ≡ made T → (stop_right [] T ≡ true → stop_right [] U ≡ true) → IsCounted b n stop T → IsCounted b n stop U
+pub counted_same : (b n : ℕ) (stop : Option ArmedStop) (T U : List Placed) → at_log U ≡ at_log T → made U ≡ made T → (stop_right [] T ≡ true → stop_right [] U ≡ true) → IsCounted b n stop T → IsCounted b n stop U
 counted_same b n stop T U l m s k = record {
   grows = k.grows;
   told = λ less. rw l (k.told less);
@@ -99,7 +99,7 @@ counted_done b n m old new T x l calls s passes left k = record {
 }
 
 -- The calls of the same log with the same count of faults are the same.
-counted_at_log : (b n m : ℕ) (stop : Option ArmedStop) (T : List Placed) → m ≡ n → IsCounted b n stop T → IsCounted b m stop T
+pub counted_at_log : (b n m : ℕ) (stop : Option ArmedStop) (T : List Placed) → m ≡ n → IsCounted b n stop T → IsCounted b m stop T
 counted_at_log b n m stop T e k = subst (λ i. IsCounted b i stop T) (sym e) k
 
 done_entry : {D : Type 0} (faults : D → ℕ) (honest : Bool) (image : D → List ℕ → Type 0) (start from to : LogState D) (T : List Placed) (t : TxNo) (x : Entry) (n : ℕ) → ((x ≡ Logged) × (n ≡ 4)) ⊎ ((x ≡ Freed) × (n ≡ 2))

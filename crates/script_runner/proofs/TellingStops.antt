@@ -54,6 +54,11 @@ stop_more b (y ∷ past) k =
     and_both (stops_right b past y) (stop_right (y ∷ b) past) (stops_more b past y (and_left (stops_right [] past y) (stop_right (y ∷ []) past) k))
     (stop_head y b [] past ∙ and_right (stops_right [] past y) (stop_right (y ∷ []) past) k)
 
+-- where the first holds, either holds
+pub or_left : (a b : Bool) → a ≡ true → (a || b) ≡ true
+or_left true b h = refl
+or_left false b h = absurd cc
+
 -- one entry more
 pub stop_on : (x : Placed) (T : List Placed) → stops_right [] T x ≡ true → stop_right [] T ≡ true → stop_right [] (x ∷ T) ≡ true
 stop_on x T here k = and_both (stops_right [] T x) (stop_right (x ∷ []) T) here (stop_more (x ∷ []) T k)
