@@ -8,7 +8,7 @@ use Rattle.dtx_values.specs.declared.call.Call.{Call}
 use Rattle.dtx_values.specs.declared.script.Line.{Line}
 use Rattle.dtx_model.specs.Words.{always, each, has, kth, past_of}
 use Rattle.dtx_model.specs.AtLog.{at_log, is_called, is_log_up, open_right}
-use Rattle.dtx_model.specs.Tied.{tied}
+use Rattle.dtx_model.specs.Tied.{tied as is_tied_history}
 use Rattle.dtx_model.specs.World.{core}
 use Rattle.dtx_model.specs.Log.{CommitRecord, first_of}
 use Rattle.dtx_model.specs.Promotes.{identifier_of}
@@ -20,9 +20,10 @@ use Rattle.dtx_model.specs.History.{nobody}
 use Rattle.coordinator_log.specs.Slots.{open_records}
 use Rattle.coordinator_log.specs.State.{LogState}
 use Rattle.scope_context.specs.Standing.{Standing}
-use Rattle.tx_world.specs.AtLog.{AreFit, Fits, IsHad, IsOurs, IsTried, id_of}
+use Rattle.tx_world.specs.AtLog.{AreFit, Fits, IsHad, IsOurs, id_of}
 use Rattle.tx_world.specs.State.{TxState, is_hit_by, is_reached_by}
-use Rattle.script_runner.specs.LogRun.{IsCounted, IsForeignKept}
+use Rattle.tx_world.specs.Tried.{IsTried}
+use Rattle.script_runner.specs.LogRun.{IsCounted, IsForeignKept, is_no_log_answer}
 
 -- its script, the transactions by number up to the last that was called, the contexts of its actors, and its trace
 pub record RunState : Type 0 where
@@ -58,7 +59,7 @@ pub record IsTied (s : List Line) (t : TxNo) (T : List Placed) (x : TxState) : T
 pub record IsRecordKept (x : TxState) : Type 0 where
   pub own : IsOwnRun x.transaction.value x.world
   pub ours : IsOurs (id_of x) (core x.world) (record { ours = x.ours; unsure = x.unsure; life = x.life })
-  pub tried : tied x.world.past ≡ true → IsTried x.world.past (record { ours = x.ours; unsure = x.unsure; life = x.life })
+  pub tried : is_tied_history x.world.past ≡ true → IsTried x.world.past (record { ours = x.ours; unsure = x.unsure; life = x.life })
 
 -- The coordinator goes with the log: from BEGIN on it lives in the log's life, and it stands stopped exactly from then on, while the log isn't up.
 pub record GoesWith {D : Type 0} (log : LogState D) (x : TxState) : Type 0 where
@@ -80,14 +81,15 @@ pub record Holds {D : Type 0} (honest : Bool) (image : D → List ℕ → Type 0
   pub up : log.is_up ≡ is_log_up (past_of r.trace)
   pub uncalled : IsTrue log.is_up → is_called (at_log (past_of r.trace)) ≡ false
   pub fits : IsTrue honest → (t : TxNo) → FitsLog image log (state_of t r.worlds)
-  pub sound : IsTrue honest → (t : TxNo) → tied (state_of t r.worlds).world.past ≡ true
+  pub sound : IsTrue honest → (t : TxNo) → is_tied_history (state_of t r.worlds).world.past ≡ true
 
--- What the trace T tells of the log, where `start` is the log before the first step: the faults and the armed stop; and where the log is honest the records that are no transaction's stay, and, if it had no record, each opening
--- found as many records as its step says.
+-- What the trace T tells of the log, where `start` is the log before the first step: the faults and the armed stop; and where the log is honest the records that are no transaction's stay, if it had no record, each opening
+-- found as many records as its step says; and each restart found a log.
 pub record Tells {D : Type 0} (faults : D → ℕ) (honest : Bool) (image : D → List ℕ → Type 0) (start log : LogState D) (T : List Placed) : Type 0 where
   pub counted : IsCounted (faults start.disk) (faults log.disk) log.armed T
   pub foreign : IsTrue honest → IsForeignKept image (open_records start.slots) log
   pub opens : IsTrue honest → open_records start.slots ≡ [] → open_right [] T ≡ true
+  pub unlike : IsTrue honest → has is_no_log_answer (at_log T) ≡ false
 
 -- each call that was entered is one of a line before this one
 abbrev pub IsBelow : ℕ → TxState → Type 0

@@ -234,6 +234,7 @@ impl<'a> Run<'a> {
         ensures calls { HaveSameCalls self.old.worlds self.new.worlds }
         ensures stepped { result ≡ Ok true → (m : ℕ) (start : World) → HasStepped t.value k m start (state_of t self.old.worlds).world → HasStepped t.value k (suc m) start (state_of t self.new.worlds).world }
         ensures some { result ≡ Ok true → Advances self.old.script t k self.old.trace self.new.trace }
+        ensures apart { result ≡ Ok true → log.new.is_up ≡ log.old.is_up → (u : TxNo) → u ≢ t → history u.value (past_of self.new.trace) ≡ history u.value (past_of self.old.trace) }
         ensures nearer { result ≡ Ok true → steps_left (state_of t self.new.worlds).world < steps_left (state_of t self.old.worlds).world }
         ensures none { result ≡ Ok false → kth (pending (state_of t self.old.worlds).world) k ≡ None }
         ensures none_here { result ≡ Ok false → kth (pending (world_at self.old.script t (past_of self.old.trace))) k ≡ None }
@@ -632,9 +633,12 @@ fn trace_of<D: Disk>(alloc: Global, lines: &[Line], log: &mut Log<D>) -> Result<
     ensures up { IfOk result (λ T. log.new.is_up ≡ is_log_up (past_of T)) }
     ensures ends { IsTrue D.honest → IfOk result (λ T. EndsAs D.image (open_records log.old.slots) log.new (past_of T)) }
 {
+    // A proof sees here, and at the end, that each image has the records of a log that is up.
+    let _ = log.is_up();
     let mut run = Run::new(alloc, lines)?;
     run.lines(log)?;
     run.settle_all(log)?;
+    let _ = log.is_up();
     Ok(run.into_trace())
 }
 
