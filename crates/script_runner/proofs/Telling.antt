@@ -11,7 +11,7 @@ use Rattle.dtx_values.specs.declared.entry.LogNote.TheVariants.{Armed}
 use Rattle.dtx_values.specs.declared.number.ActorNo.{ActorNo}
 use Rattle.dtx_values.specs.declared.number.TxNo.{TxNo}
 use Rattle.dtx_values.specs.declared.trace.Place.TheVariants.{Context, Log, Transaction}
-use Rattle.dtx_model.specs.Words.{each, onto}
+use Rattle.dtx_model.specs.Words.{each, has, onto}
 use Rattle.dtx_model.specs.AtLog.{act_calls, armed, at_log, calls_of, faults as faults_told, found_behind, is_called, is_met, is_reached, is_unarmed, made, one_if, open_right, opens_right, stop_right, stops_right}
 use Rattle.dtx_model.specs.Replay.{at_the_log, put_at}
 use Rattle.dtx_model.specs.Traces.{Placed, noted, placed}
@@ -20,7 +20,7 @@ use Rattle.coordinator_log.specs.Slots.{open_records}
 use Rattle.coordinator_log.specs.State.{LogState}
 use Rattle.coordinator_log.specs.Stop.{after_calls, stop_in}
 use Rattle.coordinator_log.specs.declared.stop.ArmedStop.{ArmedStop}
-use Rattle.script_runner.specs.LogRun.{IsCounted, LAST, LogGoes, armed_at, is_left}
+use Rattle.script_runner.specs.LogRun.{IsCounted, LAST, LogGoes, is_left, is_no_log_answer}
 use Rattle.script_runner.specs.RunState.{Tells}
 use Rattle.script_runner.proofs.TellingStops.{counted_at, met, open_on, same_count, still_armed, stop_by, stop_on, unmet}
 
@@ -62,6 +62,7 @@ tells_entry faults honest image start log T x l m s none here k = record {
   counted = counted_same (faults start.disk) (faults log.disk) log.armed T (x ∷ T) l m (stop_on x T s) k.counted;
   foreign = k.foreign;
   opens = λ is empty. open_on x T none here (k.opens is empty);
+  unlike = λ is. ap (has is_no_log_answer) l ∙ k.unlike is;
 }
 
 -- So may a block of a transaction that tells nothing,
@@ -120,6 +121,7 @@ done_entry faults honest image start from to T t x n which goes same passes left
     | inl e ↦ ap (λ y. found_behind ((Transaction t, y) ∷ [])) e.0
     | inr e ↦ ap (λ y. found_behind ((Transaction t, y) ∷ [])) e.0
   ]) refl (k.opens is empty);
+  unlike = k.unlike;
 }
 
 -- an append or a free that was done, with what its transaction writes after it
@@ -179,6 +181,7 @@ tells_stopped faults honest image start from to T t us uncalled goes cause used 
       counted = counted_stopped (faults start.disk) (faults from.disk) (faults to.disk) from.armed to.armed T t uncalled goes.grows cause used unarmed k.counted;
       foreign = λ is. goes.foreign is (open_records start.slots) (k.foreign is);
       opens = λ is empty. open_on (Transaction t, Stopped) ((Log, Stopped) ∷ T) refl refl (open_on (Log, Stopped) T refl refl (k.opens is empty));
+      unlike = k.unlike;
     })
 
 -- where only the log's records and its state changed
@@ -187,6 +190,7 @@ tells_grown faults honest image start from to T goes same left k = record {
   counted = counted_at_log (faults start.disk) (faults from.disk) (faults to.disk) to.armed T same (subst (λ o. IsCounted (faults start.disk) (faults from.disk) o T) (sym left) k.counted);
   foreign = λ is. goes.foreign is (open_records start.slots) (k.foreign is);
   opens = k.opens;
+  unlike = k.unlike;
 }
 
 -- A stop was armed at the log.
@@ -210,4 +214,5 @@ tells_armed faults honest image start from to T n a k i first goes same left c =
       (subst (λ o. IsCounted (faults start.disk) (faults from.disk) o ((Log, LogWord (Armed k i)) ∷ (Log, Called n a Fine) ∷ T)) (sym left) (counted_armed (faults start.disk) (faults from.disk) from.armed T n a k i first c.counted));
   foreign = λ is. goes.foreign is (open_records start.slots) (c.foreign is);
   opens = λ is empty. open_on (Log, LogWord (Armed k i)) ((Log, Called n a Fine) ∷ T) refl refl (open_on (Log, Called n a Fine) T refl refl (c.opens is empty));
+  unlike = c.unlike;
 }

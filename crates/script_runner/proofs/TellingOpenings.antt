@@ -12,14 +12,16 @@ use Rattle.dtx_values.specs.declared.entry.LogNote.TheVariants.{Opened}
 use Rattle.dtx_values.specs.declared.number.ActorNo.{ActorNo}
 use Rattle.dtx_values.specs.declared.number.TxNo.{TxNo}
 use Rattle.dtx_values.specs.declared.trace.Place.TheVariants.{Log, Transaction}
+use Rattle.dtx_model.specs.Words.{has}
 use Rattle.dtx_model.specs.AtLog.{armed, at_log, faults as faults_told, found_behind, hit, is_called, is_fault_answer, is_log_up, known, made, one_if, open_right, stop_right}
 use Rattle.dtx_model.specs.Replay.{Differs, Faults, Opens, Reopening, after_halt, after_opening, after_restart, at_the_log, put_at, stopped_by_restart}
 use Rattle.dtx_model.specs.Traces.{Placed}
-use Rattle.dtx_model.proofs.Bools.{and_both}
+use Rattle.dtx_model.proofs.Bools.{and_both, or_false}
+use Rattle.outcome_law.proofs.PutAt.{log-put}
 use Rattle.coordinator_log.specs.Slots.{open_records}
 use Rattle.coordinator_log.specs.State.{LogState}
 use Rattle.coordinator_log.specs.declared.stop.ArmedStop.{ArmedStop}
-use Rattle.script_runner.specs.LogRun.{IsCounted, LAST, LogGoes, is_left}
+use Rattle.script_runner.specs.LogRun.{IsCounted, LAST, LogGoes, is_left, is_no_log_answer}
 use Rattle.script_runner.specs.RunState.{Tells}
 use Rattle.script_runner.proofs.Telling.{counted_at_log, counted_same, tells_put}
 use Rattle.script_runner.proofs.TellingStops.{open_on, open_same, or_left, stop_on}
@@ -39,11 +41,12 @@ counted_called b m n o T i a x le cause k = record {
 }
 
 tells_called : {D : Type 0} (faults : D → ℕ) (honest : Bool) (image : D → List ℕ → Type 0) (start from to : LogState D) (T : List Placed) (i : ℕ) (a : ActorNo) (x : Answer) → LogGoes faults honest image from to
-    → (is_fault_answer x ≡ true → Rose (faults from.disk) (faults to.disk)) → to.armed ≡ from.armed → Tells faults honest image start from T → Tells faults honest image start to (at_the_log (Called i a x) T)
-tells_called faults honest image start from to T i a x goes cause left k = record {
+    → (is_fault_answer x ≡ true → Rose (faults from.disk) (faults to.disk)) → (IsTrue honest → is_no_log_answer (Called i a x) ≡ false) → to.armed ≡ from.armed → Tells faults honest image start from T → Tells faults honest image start to (at_the_log (Called i a x) T)
+tells_called faults honest image start from to T i a x goes cause like left k = record {
   counted = subst (λ o. IsCounted (faults start.disk) (faults to.disk) o ((Log, Called i a x) ∷ T)) (sym left) (counted_called (faults start.disk) (faults from.disk) (faults to.disk) from.armed T i a x goes.grows cause k.counted);
   foreign = λ is. goes.foreign is (open_records start.slots) (k.foreign is);
   opens = λ is empty. open_on (Log, Called i a x) T refl refl (k.opens is empty);
+  unlike = λ is. or_false (is_no_log_answer (Called i a x)) (has is_no_log_answer (at_log T)) (like is) (k.unlike is);
 }
 
 -- The stop that the call brings
@@ -62,6 +65,7 @@ tells_halted faults honest image start log T us called k =
       counted = counted_halted (faults start.disk) (faults log.disk) log.armed T called k.counted;
       foreign = k.foreign;
       opens = λ is empty. open_on (Log, Stopped) T refl refl (k.opens is empty);
+      unlike = k.unlike;
     })
 
 -- The opening, and what is found in it
@@ -105,27 +109,28 @@ tells_opened faults honest image start log T found n ts count k = record {
   counted = counted_found (faults start.disk) (faults log.disk) log.armed ((Log, LogWord (Opened n)) ∷ T) found ts (counted_opened (faults start.disk) (faults log.disk) log.armed T n k.counted);
   foreign = k.foreign;
   opens = λ is empty. open_found found ts n T (count is empty) (k.opens is empty);
+  unlike = λ is. ap (has is_no_log_answer) (log-put (λ t. Restarted (found t.value)) ts ((Log, LogWord (Opened n)) ∷ T)) ∙ k.unlike is;
 }
 
 -- a restart's call, and the stop that it brings where the log runs
 pub tells_halt : {D : Type 0} (faults : D → ℕ) (honest : Bool) (image : D → List ℕ → Type 0) (start from to : LogState D) (T : List Placed) (i : ℕ) (a : ActorNo) (x : Answer) → LogGoes faults honest image from to
-    → (is_fault_answer x ≡ true → Rose (faults from.disk) (faults to.disk)) → to.armed ≡ from.armed → Tells faults honest image start from T → Tells faults honest image start to (after_halt i a x T)
-tells_halt {D} faults honest image start from to T i a x goes cause left k = by (is_log_up T) (tells_called faults honest image start from to T i a x goes cause left k)
+    → (is_fault_answer x ≡ true → Rose (faults from.disk) (faults to.disk)) → (IsTrue honest → is_no_log_answer (Called i a x) ≡ false) → to.armed ≡ from.armed → Tells faults honest image start from T → Tells faults honest image start to (after_halt i a x T)
+tells_halt {D} faults honest image start from to T i a x goes cause like left k = by (is_log_up T) (tells_called faults honest image start from to T i a x goes cause like left k)
   where
     by : (up : Bool) → Tells faults honest image start to (at_the_log (Called i a x) T) → Tells faults honest image start to (stopped_by_restart up (at_the_log (Called i a x) T))
     by true c = tells_halted faults honest image start to ((Log, Called i a x) ∷ T) (hit ((Log, Called i a x) ∷ T)) refl c
     by false c = c
 
--- what a restart gives, where an opening finds as many as it says, and a fault is the answer only where one came
-abbrev pub IsJust : (open_rose : Type 0) (honest : Type 0) → ActorNo → ℕ → List Placed → Reopening → Type 0
-IsJust rose honest a i T (Opens found n) = honest → n ≡ how_many (λ (t : TxNo). found t.value) (known (after_halt i a Fine T))
-IsJust rose honest a i T Faults = rose
-IsJust rose honest a i T (Differs p) = Unit {0}
+-- What a restart gives is so: it opens the log with as many records as are found; `fault` is its answer where one came, and `notalog` only over a disk that isn't honest.
+abbrev pub IsJust : (honest : Bool) (empty rose : Type 0) → List Placed → Reopening → Type 0
+IsJust honest empty rose T (Opens found n) = IsTrue honest → empty → n ≡ how_many (λ (t : TxNo). found t.value) (known T)
+IsJust honest empty rose T Faults = rose
+IsJust honest empty rose T (Differs p) = IsTrue honest → ⊥
 
 -- a restart
 pub tells_restart : {D : Type 0} (faults : D → ℕ) (honest : Bool) (image : D → List ℕ → Type 0) (start from to : LogState D) (T : List Placed) (i : ℕ) (a : ActorNo) (x : Reopening) → LogGoes faults honest image from to → to.armed ≡ from.armed
-    → IsJust (Rose (faults from.disk) (faults to.disk)) (IsTrue honest × (open_records start.slots ≡ [])) a i T x → Tells faults honest image start from T → Tells faults honest image start to (after_restart i a x T)
+    → IsJust honest (open_records start.slots ≡ []) (Rose (faults from.disk) (faults to.disk)) (after_halt i a Fine T) x → Tells faults honest image start from T → Tells faults honest image start to (after_restart i a x T)
 tells_restart faults honest image start from to T i a (Opens found n) goes left just k =
-    tells_opened faults honest image start to (after_halt i a Fine T) found n (known (after_halt i a Fine T)) (λ is empty. just (is, empty)) (tells_halt faults honest image start from to T i a Fine goes (λ e. absurd cc) left k)
-tells_restart faults honest image start from to T i a Faults goes left just k = tells_halt faults honest image start from to T i a Fault goes (λ e. just) left k
-tells_restart faults honest image start from to T i a (Differs p) goes left just k = tells_halt faults honest image start from to T i a (NotALog p) goes (λ e. absurd cc) left k
+    tells_opened faults honest image start to (after_halt i a Fine T) found n (known (after_halt i a Fine T)) just (tells_halt faults honest image start from to T i a Fine goes (λ e. absurd cc) (λ is. refl) left k)
+tells_restart faults honest image start from to T i a Faults goes left just k = tells_halt faults honest image start from to T i a Fault goes (λ e. just) (λ is. refl) left k
+tells_restart faults honest image start from to T i a (Differs p) goes left just k = tells_halt faults honest image start from to T i a (NotALog p) goes (λ e. absurd cc) (λ is. absurd (just is)) left k
