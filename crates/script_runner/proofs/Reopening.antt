@@ -1,6 +1,6 @@
 -- What holds of a run over a log that a line arms, stops or opens again.
 use Rattle.std.proofs.Common.{◌≡◌, ◌⊎◌, ◌≤◌, ◌<◌, ◌+◌, ◌-◌, ◌==◌, ℕ, suc, Bool, true, false, ◌&&◌, not, nat_le, List, [], ◌∷◌, ◌++◌, filter, length, Option, Some, None, if◌then◌else◌, is_some, refl, sym, ap, subst, ◌∙◌, inl, inr, arith, le_refl}
-use Rattle.std.specs.Prelude.{IsTrue, IfOk, Ok, Err}
+use Rattle.std.specs.Prelude.{IsTrue, IfOk, OnOk, Result, Ok, Err, is_ok}
 use Rattle.std.proofs.lemmas.Bool.{cases_Bool}
 use Rattle.std.proofs.lemmas.Bool.Decides.{leb_tells}
 use Rattle.outside.specs.Disk.{AreWithin}
@@ -21,7 +21,7 @@ use Rattle.dtx_model.specs.AtLog.{at_log, hit, is_called, is_known, is_log_up, k
 use Rattle.dtx_model.specs.Caused.{IsIn, is_begin_sent}
 use Rattle.dtx_model.specs.Log.{CommitRecord, first_of, is_record_of, log_has}
 use Rattle.dtx_model.specs.Promotes.{identifier_of}
-use Rattle.dtx_model.specs.Replay.{Differs, Faults, Reopening, after_halt, after_restart, at_the_log, put_at, stopped_by_restart}
+use Rattle.dtx_model.specs.Replay.{Differs, Faults, Opens, Reopening, after_halt, after_restart, at_the_log, put_at, stopped_by_restart}
 use Rattle.dtx_model.specs.Steps.{Restarts, after}
 use Rattle.dtx_model.specs.Tied.{tied as is_tied_history}
 use Rattle.dtx_model.specs.Traces.{Placed, history}
@@ -38,7 +38,7 @@ use Rattle.tx_world.specs.AtLog.{Fits, IsHad, id_of}
 use Rattle.tx_world.specs.State.{TxState, is_reached_by}
 use Rattle.script_runner.specs.LogRun.{AreForeignSame, LogGoes, restart_answer}
 use Rattle.script_runner.specs.RunState.{FitsLog, GoesWith, HaveSameCalls, Holds, IsRecordKept, IsTied, RunState, Tells, halted, record_in, reopened, state_of}
-use Rattle.script_runner.proofs.Fitting.{fits_as, fits_opened}
+use Rattle.script_runner.proofs.Fitting.{fits_as, fits_opened, goes_opened}
 use Rattle.script_runner.proofs.FoundRecords.{all_found}
 use Rattle.script_runner.proofs.Halting.{IsAsHalted, goes_halted, goes_reopened, halted_as, halted_sound, halted_tied, reopened_tied}
 use Rattle.script_runner.proofs.TellingOpenings.{IsJust}
@@ -49,7 +49,7 @@ pub tied_at_log : (s : List Line) (t : TxNo) (T : List Placed) (e : Entry) (x : 
 tied_at_log s t T e x k = tied_same s t T ((Log, e) ∷ T) x refl k
 
 -- the same of the same
-tied_move : (s r : List Line) (t : TxNo) (T U : List Placed) (x y : TxState) → r ≡ s → U ≡ T → y ≡ x → IsTied s t T x → IsTied r t U y
+pub tied_move : (s r : List Line) (t : TxNo) (T U : List Placed) (x y : TxState) → r ≡ s → U ≡ T → y ≡ x → IsTied s t T x → IsTied r t U y
 tied_move s r t T U x y a b c k = subst (λ (q : List Line). IsTied q t U y) (sym a) (subst (λ (V : List Placed). IsTied s t V y) (sym b) (subst (λ (z : TxState). IsTied s t T z) (sym c) k))
 
 -- a log isn't both up and down
@@ -322,3 +322,33 @@ opened_just {D} faults honest image seen start from mid to r q n a x m T U down 
         (subst (λ (u : TxNo). is_some (first_of (identifier_of u.value) (open_records to.slots)) ≡ true) (sym (halts.numbered t)) found) in
         let here : is_known U t ≡ true = ap (λ V. has is_begin_sent (history t.value V)) (ends ∙ sym halts.trace) ∙ (ap (has is_begin_sent) (sym (h.tied t).past) ∙ begun) in
         many-known t U ∙ ap (λ b. one_if b 0) here
+
+-- The log when it is stopped by a restart
+abbrev pub halted_log : {D : Type 0} → LogState D → LogState D
+halted_log log = record { disk = log.disk; slots = log.slots; is_up = false; life = log.life; armed = log.armed }
+
+-- goes on, where it is opened after that or stays stopped.
+goes_from_halted : {D : Type 0} (faults : D → ℕ) (honest : Bool) (image : D → List ℕ → Type 0) (from to : LogState D) → LogGoes faults honest image (halted_log from) to → LogGoes faults honest image from to
+goes_from_halted faults honest image from to g =
+    record { grows = g.grows; logs = g.logs; foreign = λ is before kept. g.foreign is before (record { up = λ up. never_up false refl up; imaged = kept.imaged }) }
+
+pub goes_restart : {D : Type 0} (faults : D → ℕ) (honest : Bool) (image : D → List ℕ → Type 0) (seen : D → List ℕ) (from mid to : LogState D) → mid ≡ halted_log from → faults mid.disk ≤ faults to.disk
+    → (IsTrue honest → AreWithin (image mid.disk) (image to.disk)) → (IsTrue honest → IsTrue to.is_up → image mid.disk (seen mid.disk) × IsOpened seen mid.disk to) → LogGoes faults honest image from to
+goes_restart faults honest image seen from mid to e grows within found =
+    goes_from_halted faults honest image from to (subst (λ l. LogGoes faults honest image l to) e (goes_opened faults honest image seen mid to grows within found))
+
+-- where both are so of what is Ok
+pub both_ok : {T E : Type 0} (P Q : Type 0) (r : Result T E) → OnOk r P → OnOk r Q → OnOk r (P × Q)
+both_ok P Q (Ok x) p q = (p, q)
+both_ok P Q (Err e) p q = tt
+
+-- a log whose opening failed isn't up
+pub down_err : {A E : Type 0} (up : Bool) (r : Result A E) (e : E) → r ≡ Err e → (up ≡ true → is_ok r ≡ true) → up ≡ false
+down_err true r e is k = let c : true ≡ false = sym (k refl) ∙ ap is_ok is in absurd cc
+down_err false r e is k = refl
+
+-- the trace after an opening
+pub opened_trace : (n : ℕ) (a : ActorNo) (m : ℕ) (found : ℕ → Bool) (x : Answer) (T U V W : List Placed) → W ≡ put_at (λ t. Restarted (found t.value)) (known V) V → V ≡ at_the_log (LogWord (Opened m)) U → U ≡ after_halt n a x T → x ≡ Fine
+    → W ≡ after_restart n a (Opens found m) T
+opened_trace n a m found x T U V W put at halt fine =
+    put ∙ ap (λ P. put_at (λ t. Restarted (found t.value)) (known P) P) (at ∙ ap (λ P. at_the_log (LogWord (Opened m)) P) (halt ∙ ap (λ y. after_halt n a y T) fine))
