@@ -43,6 +43,13 @@ pub mod ReplayTurns
 pub mod ReplayRuns
 pub mod ReplayNew
 pub mod LocalReplays
+pub mod PutAt
+pub mod BeginSent
+pub mod OneBegin
+pub mod SteadyBlocks
+pub mod FollowingLog
+pub mod ReplayedSteps
+pub mod ReplayedCalls
 pub mod Replays
 pub mod Examples
 pub mod ReplayExample
@@ -192,3 +199,4 @@ pub mod Appending
 pub mod Barred
 pub mod Unheard
 pub mod StopExample
+pub mod RestartExample

@@ -2,8 +2,8 @@
 //!
 //! Each law is a public function with an empty body. It does nothing when it runs. A caller calls it for its contract: after the call the
 //! proof of the caller has the law. Where a law is of histories in which each restart found what may be found, its clause says so by `tied`; where it is
-//! of those in which nothing is promoted, by the scan `is_unpromoted`, or `is_local_trace` of a whole trace; and of a trace in which nothing stands at the
-//! log, by `is_log_quiet`.
+//! of those in which nothing is promoted, by the scan `is_unpromoted`, or `is_local_trace` of a whole trace, in which
+//! nothing stands at the log either.
 #![tactic(auto)]
 
 ghost use Rattle.std.specs.Prelude.{◌≡◌, ◌||◌, ℕ, suc, true, false, List, ◌∷◌, ◌++◌, Bool, Some, length, slice_get};
@@ -35,13 +35,12 @@ ghost use Rattle.dtx_model.specs.Contexts.{context};
 ghost use Rattle.dtx_model.specs.declared.waiting.EnteredCall.{EnteredCall};
 ghost use Rattle.dtx_model.specs.World.{World};
 ghost use Rattle.dtx_model.specs.Caused.{IsCallOf, is_new, AreMadeOnce, Caused, FreelyCaused, IsIn, IsOwnRun, Settled, has_object, is_as_planned, is_unpromoted, plans_of};
-ghost use Rattle.dtx_model.specs.AtLog.{is_local_trace, is_restart};
+ghost use Rattle.dtx_model.specs.AtLog.{follow_log, is_local_trace, is_restart};
 ghost use Rattle.dtx_model.specs.Traces.{Placed, history, at_context, calls};
 ghost use Rattle.dtx_model.specs.Replay.{IsReplayed, LinesRan, due_calls};
 ghost use Rattle.dtx_model.specs.History.{AreAnswered, CanCommit, IsHistory, IsReplay, IsToldOrWaits};
 ghost use Rattle.dtx_model.specs.Grammar.{are_named_well};
 ghost use Rattle.outcome_law.specs.Appended.{backs_append, has_append, is_abort_decision, is_barred, stopped_at_append};
-ghost use Rattle.outcome_law.specs.LogQuiet.{is_log_quiet};
 ghost use Rattle.outcome_law.specs.Stopped.{is_outcome_withheld, restarts_without_evidence};
 ghost use Rattle.outcome_law.specs.Waited.{AreCallsAnswered};
 
@@ -111,19 +110,20 @@ pub fn completeness()
     ensures waited { (s : List Line) (k t : ℕ) (h : List Entry) → are_named_well s ≡ true → Caused s k t h → tied h ≡ true → AreCallsAnswered s h }
 {}
 
-/// What a replay does in its order, promoted or not, as long as nothing stands at the log, is caused by its script in each transaction where its replies are
-/// as planned, is at each context what its actor's lines write there, and has each line's call exactly once at each of its places and in order. Where the
-/// lines before it ran, a line was called nowhere, and what its call makes is new. Where nothing is promoted either, a script has one trace. The trace is
-/// read newest first, but for the last clause.
+/// What a replay does in its order, promoted or not, whatever stops of the log and restarts come, is caused by its script in each transaction where its
+/// replies are as planned, is at each context what its actor's lines write there, has each line's call exactly once at each of its places and in order, and
+/// its transactions follow the log. Where the lines before it ran, a line was called nowhere, and what its call makes is new. Where nothing is promoted and
+/// nothing stands at the log, a script has one trace. The trace is read newest first, but for the last clause.
 pub fn replay()
-    ensures caused { (s : List Line) (T : List Placed) → IsReplayed s T → is_log_quiet T ≡ true → (k : ℕ)
+    ensures caused { (s : List Line) (T : List Placed) → IsReplayed s T → (k : ℕ)
         → ((t : TxNo) → always (is_as_planned (plans_of s) (has_object s k)) (history t.value T) ≡ true) → (t : TxNo) → Caused s k t.value (history t.value T) }
-    ensures contexts { (s : List Line) (T : List Placed) → IsReplayed s T → is_log_quiet T ≡ true → (a : ActorNo) → at_context a.value T ≡ context a.value (past_of s) }
-    ensures called { (s : List Line) (T : List Placed) → IsReplayed s T → is_log_quiet T ≡ true → calls T ≡ due_calls s (past_of s) }
-    ensures uncalled { (s xs ys : List Line) (l : Line) (T : List Placed) → s ≡ xs ++ l ∷ ys → LinesRan s (past_of xs) T → is_log_quiet T ≡ true → (t : TxNo)
+    ensures contexts { (s : List Line) (T : List Placed) → IsReplayed s T → (a : ActorNo) → at_context a.value T ≡ context a.value (past_of s) }
+    ensures called { (s : List Line) (T : List Placed) → IsReplayed s T → calls T ≡ due_calls s (past_of s) }
+    ensures followed { (s : List Line) (T : List Placed) → IsReplayed s T → follow_log T ≡ true }
+    ensures uncalled { (s xs ys : List Line) (l : Line) (T : List Placed) → s ≡ xs ++ l ∷ ys → LinesRan s (past_of xs) T → (t : TxNo)
         → has (is_call (suc (length xs))) (history t.value T) ≡ false }
     ensures fresh { (s xs ys : List Line) (l : Line) (T : List Placed) (t : TxNo) (c : Call) → s ≡ xs ++ l ∷ ys → are_named_well s ≡ true → LinesRan s (past_of xs) T
-        → is_log_quiet T ≡ true → call_of s l.body ≡ Some (t, c) → is_new (observe (history t.value T)) c ≡ true }
+        → call_of s l.body ≡ Some (t, c) → is_new (observe (history t.value T)) c ≡ true }
     ensures determined { (s : List Line) (T U : List Placed) (rise : ℕ) (honest : Bool) → IsHistory s 0 rise T → IsReplay s rise honest T
         → IsHistory s 0 rise U → IsReplay s rise honest U → is_local_trace T ≡ true → is_local_trace U ≡ true → T ≡ U }
 {}

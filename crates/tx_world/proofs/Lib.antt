@@ -24,4 +24,7 @@ pub mod Nearer
 pub mod Chained
 pub mod Prepared
 pub mod Unlogged
+pub mod Silent
+pub mod Alone
+pub mod Reenlisting
 pub mod Statuses

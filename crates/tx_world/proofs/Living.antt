@@ -17,12 +17,11 @@ use Rattle.oletx_session.specs.declared.session.Delivered.{Delivered}
 use Rattle.oletx_session.specs.declared.session.Delivered.TheVariants.{Msg, End, BadFrame}
 use Rattle.local_half.specs.Half.{Known}
 use Rattle.coordinator_core.specs.Kept.{Kept as CoreKept}
-use Rattle.coordinator_log.specs.State.{LogState}
 use Rattle.tx_world.specs.State.{TxState, sends_begin, turned}
 use Rattle.tx_world.specs.AtLog.{IsOurs, Kept as LogKept}
 use Rattle.world_laws.specs.Course.{is_far, noted, rest_up}
 use Rattle.tx_world.specs.Kept.{Kept, Whole, stop_if, stopped_if}
-use Rattle.tx_world.specs.Stepping.{Does, IsAnswered}
+use Rattle.tx_world.specs.Stepping.{DoesAt}
 use Rattle.world_laws.proofs.Far.{far_core_down, far_core_got}
 use Rattle.tx_world.proofs.Keeping.{is_elsewhere, ours_stays, ours_stopped}
 use Rattle.tx_world.proofs.Written.{Ready, does_step, world_written, written_kept}
@@ -91,13 +90,12 @@ abbrev pub seen_as : TxNo → World → LogKept → TxState
 seen_as t w x = record { transaction = t; world = w; ours = x.ours; unsure = x.unsure; life = x.life }
 
 -- the step of the local side was done
-pub does_near : {D : Type 0} (faults : D → ℕ) (m : Step) (t : TxNo) (w v : World) (x y : LogKept) (log : LogState D) (begins sends : Bool) (life : ℕ)
-    → v ≡ turned log.is_up t.value w m → sends ≡ sends_begin t.value w m → y ≡ record { ours = x.ours; unsure = x.unsure; life = (if begins then life else x.life) } → begins ≡ sends → life ≡ log.life
-    → IsAnswered faults (seen_as t w x) log log m → Does faults m (seen_as t w x) log (seen_as t v y) log
-does_near {D} faults m t w v x y log begins sends life same is lives sent now answered =
-    let P : LogKept → Type 0 = λ z. Does faults m (seen_as t w x) log (seen_as t v z) log in
-    let lived : (if begins then life else x.life) ≡ (if sends then log.life else x.life) = ap (λ (b : Bool). if b then life else x.life) sent ∙ ap (λ n. if sends then n else x.life) now in
-    subst P (sym lives) (does_step faults m t w v x.ours x.unsure x.life (if begins then life else x.life) log sends same is lived answered)
+does_near : (m : Step) (t : TxNo) (w v : World) (x y : LogKept) (up begins sends : Bool) (life : ℕ) → v ≡ turned up t.value w m → sends ≡ sends_begin t.value w m
+    → y ≡ record { ours = x.ours; unsure = x.unsure; life = (if begins then life else x.life) } → begins ≡ sends → DoesAt up life m (seen_as t w x) (seen_as t v y)
+does_near m t w v x y up begins sends life same is lives sent =
+    let P : LogKept → Type 0 = λ z. DoesAt up life m (seen_as t w x) (seen_as t v z) in
+    let lived : (if begins then life else x.life) ≡ (if sends then life else x.life) = ap (λ (b : Bool). if b then life else x.life) sent in
+    subst P (sym lives) (does_step m t w v x.ours x.unsure x.life (if begins then life else x.life) up life sends same is lived)
 
 -- A step of the local side was written: these calls and this history are left, the coordinator stops where BEGIN is sent while the log isn't up, and it lives in this life of the
 -- log where BEGIN is sent. Then the world holds.
@@ -109,20 +107,12 @@ near_whole {t} {w} {m} {g} {k} {h} {xs} up life {j} {x} {y} {ks} {n} r ours call
     whole_near k (begins && not up) life (written_kept t w m up begins g k j ks (onto h xs) n r.kept r.runs calls r.sends r.past past far) ours far lives
 
 -- and the step was done
-pub near_done : {D : Type 0} (faults : D → ℕ) {t : TxNo} {w : World} {m : Step} {g : Known} {k : CoreKept} {h xs : List Entry} (x y : LogKept) (old : TxState) (log : LogState D) (begins : Bool) (life : ℕ)
-    {ks : List EnteredCall} {n : List Entry} → Ready t w m g k h xs → ks ≡ entered m w.calls → n ≡ stop_if (has is_begin_sent xs && not log.is_up) (onto h xs)
-    → y ≡ record { ours = x.ours; unsure = x.unsure; life = (if begins then life else x.life) } → begins ≡ has is_begin_sent xs → life ≡ log.life → IsAnswered faults (seen_as t w x) log log m → seen_as t w x ≡ old
-    → Does faults m old log (seen_as t (record { calls = ks; past = n }) y) log
-near_done {D} faults {t} {w} {m} {g} {k} {h} {xs} x y old log begins life {ks} {n} r calls past lives begun now answered was =
+pub near_done : {t : TxNo} {w : World} {m : Step} {g : Known} {k : CoreKept} {h xs : List Entry} (x y : LogKept) (old : TxState) (up begins : Bool) (life : ℕ) {ks : List EnteredCall} {n : List Entry}
+    → Ready t w m g k h xs → ks ≡ entered m w.calls → n ≡ stop_if (has is_begin_sent xs && not up) (onto h xs)
+    → y ≡ record { ours = x.ours; unsure = x.unsure; life = (if begins then life else x.life) } → begins ≡ has is_begin_sent xs → seen_as t w x ≡ old
+    → DoesAt up life m old (seen_as t (record { calls = ks; past = n }) y)
+near_done {t} {w} {m} {g} {k} {h} {xs} x y old up begins life {ks} {n} r calls past lives begun was =
     let sends = has is_begin_sent xs in
     let v : World = record { calls = ks; past = n } in
-    subst (λ (z : TxState). Does faults m z log (seen_as t v y) log) was
-    (does_near faults m t w v x y log begins sends life (world_written t.value w m log.is_up sends ks (onto h xs) n calls r.sends r.past past) r.sends lives begun now answered)
-
--- and so is one that sends no BEGIN
-pub silent_done : {D : Type 0} (faults : D → ℕ) (t : TxNo) (w : World) (m : Step) (x : LogKept) (old : TxState) (log : LogState D) {ks : List EnteredCall} {n : List Entry} → false ≡ sends_begin t.value w m
-    → ks ≡ entered m w.calls → n ≡ onto w.past (block_at t.value w m) → IsAnswered faults (seen_as t w x) log log m → seen_as t w x ≡ old → Does faults m old log (seen_as t (record { calls = ks; past = n }) x) log
-silent_done {D} faults t w m x old log {ks} {n} silent calls past answered was =
-    let v : World = record { calls = ks; past = n } in
-    subst (λ (z : TxState). Does faults m z log (seen_as t v x) log) was
-    (does_step faults m t w v x.ours x.unsure x.life x.life log false (world_written t.value w m log.is_up false ks (onto w.past (block_at t.value w m)) n calls silent refl past) silent refl answered)
+    subst (λ (z : TxState). DoesAt up life m z (seen_as t v y)) was
+    (does_near m t w v x y up begins sends life (world_written t.value w m up sends ks (onto h xs) n calls r.sends r.past past) r.sends lives begun)

@@ -41,6 +41,12 @@ abbrev pub IsAnswered : {D : Type 0} → (D → ℕ) → TxState → LogState D 
 IsAnswered faults old from to (Coordinates a) = Answered faults old.life from to a
 IsAnswered faults old from to m = to ≡ from
 
+-- This step was done, where this says whether the log is up, and in which life.
+pub record DoesAt (up : Bool) (log_life : ℕ) (m : Step) (old new : TxState) : Type 0 where
+  pub transaction : new.transaction ≡ old.transaction
+  pub world : new.world ≡ turned up old.transaction.value old.world m
+  pub life : new.life ≡ life_after log_life old.transaction.value old.world m old.life
+
 -- this step was done, while the log went from one state to the other
 pub record Does {D : Type 0} (faults : D → ℕ) (m : Step) (old : TxState) (from : LogState D) (new : TxState) (to : LogState D) : Type 0 where
   pub transaction : new.transaction ≡ old.transaction

@@ -32,12 +32,14 @@ use outside::Disk;
 use std::alloc::Global;
 use std::marker::Model;
 
+mod alone;
 mod at_the_log;
 mod calls;
 mod deliveries;
 mod entering;
 mod leaving;
 mod own_calls;
+mod returning;
 mod settling;
 mod steps;
 mod stops;

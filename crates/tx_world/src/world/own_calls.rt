@@ -10,7 +10,6 @@ ghost use Rattle.dtx_model.specs.Steps.{Calls};
 ghost use Rattle.dtx_model.specs.World.{answer_at, half};
 ghost use Rattle.coordinator_log.specs.Slots.{open_records};
 ghost use Rattle.tx_world.specs.AtLog.{Fits, KeepsLog};
-ghost use Rattle.tx_world.specs.Entering.{is_entered_yet};
 ghost use Rattle.tx_world.specs.OwnCalls.{DoesAlone, DoesCall, Prepares, Repeats, is_do, place_of, said, status_of};
 ghost use Rattle.tx_world.specs.State.{may_enter};
 ghost use Rattle.tx_world.specs.Stepping.{SomeSteps};
@@ -133,7 +132,6 @@ impl TxWorld {
         c: &Call,
     ) -> Result<Answer, WorldError>
         requires enters { may_enter self.old.world line c.now ≡ true }
-        requires entered { is_entered_yet c.now ≡ true }
         requires fits { IsTrue D.honest → IsTrue log.old.is_up → Fits self.old (open_records log.old.slots) }
         ensures done { IfOk result (λ a. DoesCall D.faults line actor c.now a self.old log.old self.new log.new) }
         ensures memory { OnErr result (SomeSteps D.faults (place_of c.now) self.old log.old self.new log.new) }
