@@ -46,14 +46,7 @@ calls_then a b c p q = λ t. q t ∙ p t
 pub below_same : (n : ℕ) (old new : List TxState) → HaveSameCalls old new → AreBelow n old → AreBelow n new
 below_same n old new same below = λ t. subst (λ (ks : List EnteredCall). each (λ k. nat_lt k.line n) ks ≡ true) (sym (same t)) (below t)
 
--- A log that was up before, and after, two parts was so between them: one that is stopped stays so.
-pub up_between : (a b c : Bool) → (c ≡ true → b ≡ true) → (b ≡ true → a ≡ true) → c ≡ a → (b ≡ a) × (c ≡ b)
-up_between true true c later first e = (refl, e)
-up_between true false c later first e = absurd (let k = later e in cc)
-up_between false true c later first e = absurd (let k = first refl in cc)
-up_between false false c later first e = (refl, e)
-
--- one that is stopped before a part is so after it
+-- A log that is stopped before a part is so after it.
 pub down_still : (a b : Bool) → (b ≡ true → a ≡ true) → a ≡ false → b ≡ a
 down_still true b still e = absurd cc
 down_still false true still e = absurd (let k = still refl in cc)

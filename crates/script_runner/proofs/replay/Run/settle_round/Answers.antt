@@ -5,8 +5,9 @@ use Rattle.dtx_values.specs.declared.script.Line.{Line}
 use Rattle.dtx_model.specs.Words.{past_of}
 use Rattle.dtx_model.specs.Traces.{Placed}
 use Rattle.script_runner.specs.RunState.{AreSettledBelow, IsRoundAt}
-use Rattle.script_runner.proofs.Going.{goes_same, goes_then, stays_same, stays_then, up_between}
-use Rattle.script_runner.proofs.Rounds.{below-first}
+use Rattle.script_runner.proofs.Going.{goes_same, goes_then, stays_same, stays_then}
+use Rattle.script_runner.proofs.Rounds.{below-first, turn-round}
+use Rattle.script_runner.proofs.Steps.{up_between}
 use Rattle.script_runner.proofs.replay.Run.settle_round.Goals as goal
 
 pub loop-n-init : goal.loop-n-init
@@ -41,9 +42,9 @@ loop-n-preserved g c =
           subst (λ (r : List Line). IsRoundAt r start t.value (past_of c.loop-n.self.trace) → IsRoundAt r start (t.value + 1) (past_of c.settle.new.self.trace)) was.script (c.in_ok-settle.ensures.turns start) in
           subst (λ (m : ℕ). IsRoundAt s start (m + 1) (past_of c.settle.new.self.trace)) n (next here);
       settled = λ same.
-          let between = up_between c.args.log.now.is_up old.is_up new.is_up c.settle.ensures.stays.still was.stays.still same in
-          let here : AreSettledBelow s t.value (past_of c.loop-n.self.trace) = subst (λ (m : ℕ). AreSettledBelow s m (past_of c.loop-n.self.trace)) (sym n) (was.settled between.0) in
+          let mid : old.is_up ≡ c.args.log.now.is_up = up_between c.args.log.now.is_up old.is_up new.is_up was.stays.still c.settle.ensures.stays.still same in
+          let here : AreSettledBelow s t.value (past_of c.loop-n.self.trace) = subst (λ (m : ℕ). AreSettledBelow s m (past_of c.loop-n.self.trace)) (sym n) (was.settled mid) in
           let next : AreSettledBelow s t.value (past_of c.loop-n.self.trace) → AreSettledBelow s (t.value + 1) (past_of c.settle.new.self.trace) =
-          subst (λ (r : List Line). AreSettledBelow r t.value (past_of c.loop-n.self.trace) → AreSettledBelow r (t.value + 1) (past_of c.settle.new.self.trace)) was.script (c.in_ok-settle.ensures.below between.1) in
+          subst (λ (r : List Line). AreSettledBelow r t.value (past_of c.loop-n.self.trace) → AreSettledBelow r (t.value + 1) (past_of c.settle.new.self.trace)) was.script (c.in_ok-settle.ensures.below (same ∙ sym mid)) in
           subst (λ (m : ℕ). AreSettledBelow s (m + 1) (past_of c.settle.new.self.trace)) n (next here);
     }
