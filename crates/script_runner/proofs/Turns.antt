@@ -141,7 +141,7 @@ has_stepped faults t k m start x y from to at d h =
     (x.world, h, d.name, d.step, d.stands, d.named, s.0, s.1, world)
 
 -- The coordinator acts only where BEGIN was sent: a stop of its act would stop it.
-pub stop_block : (w : World) (b : Bool) → (if b then appended (core w) StoppedBefore else freed StoppedBefore) ≡ Stopped ∷ []
+stop_block : (w : World) (b : Bool) → (if b then appended (core w) StoppedBefore else freed StoppedBefore) ≡ Stopped ∷ []
 stop_block w true = refl
 stop_block w false = refl
 
