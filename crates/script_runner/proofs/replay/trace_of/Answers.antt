@@ -1,4 +1,4 @@
-use Rattle.std.proofs.Common.{◌≡◌, List, [], ap, arith, refl, subst, sym, ◌∙◌}
+use Rattle.std.proofs.Common.{◌≡◌, ℕ, Bool, List, [], None, ap, arith, refl, subst, sym, ◌∙◌}
 use Rattle.std.specs.Prelude.{IsTrue}
 use Rattle.dtx_values.specs.declared.entry.Entry.{Entry}
 use Rattle.dtx_values.specs.declared.script.Line.{Line}
@@ -9,40 +9,24 @@ use Rattle.dtx_model.specs.Replay.{IsReplayed, LinesRan}
 use Rattle.dtx_model.specs.Tied.{tied}
 use Rattle.dtx_model.specs.Traces.{Placed, history}
 use Rattle.dtx_model.specs.Words.{has, past_of}
+use Rattle.coordinator_log.specs.Crash.{AllHold}
+use Rattle.coordinator_log.specs.Slots.{open_records}
 use Rattle.coordinator_log.specs.State.{LogState}
-use Rattle.script_runner.specs.LogRun.{IsCounted, LogStays, has_log_line, is_no_log_answer}
-use Rattle.script_runner.specs.RunState.{AreBelow, AreSettledBelow, Holds, IsRoundAt, IsToPlan, RunState, Tells, state_of}
+use Rattle.scope_context.specs.Standing.{Standing}
+use Rattle.script_runner.specs.LogRun.{IsCounted, has_log_line, is_no_log_answer}
+use Rattle.script_runner.specs.RunState.{AreBelow, AreSettledBelow, Holds, IsRoundAt, IsToPlan, RunState, Tells}
 use Rattle.script_runner.specs.Scoped.{AreOpen}
 use Rattle.script_runner.proofs.Going.{goes_then, stays_then}
 use Rattle.script_runner.proofs.Openings.{open_none}
 use Rattle.script_runner.proofs.Recorded.{ends_as, holds_at_start, tells_at_start}
 use Rattle.script_runner.proofs.Rounds.{is_replayed, turn-first}
-use Rattle.script_runner.proofs.replay.trace_of.Given.{Over}
-use Rattle.script_runner.proofs.replay.trace_of.Goals.{After-into_trace, In_ok-run}
 use Rattle.script_runner.proofs.replay.trace_of.Goals as goal
 
--- the script of the run
-script_at_start : (g : Over) (c : In_ok-run g) → c.in_ok-run.run'.script ≡ c.args.lines.now
-script_at_start g c = ap (λ (r : RunState). r.script) c.in_ok-run.ensures
-
--- at the end it is the same
-script_at_end : (g : Over) (c : After-into_trace g) → c.settle_all.new.self.script ≡ c.args.lines.now
-script_at_end g c = c.settle_all.ensures.script ∙ c.lines.ensures.script ∙ script_at_start g c.In_ok-run
-
--- what the trace tells of the log, from the log before the first step on
-told : (g : Over) (c : After-into_trace g) → Tells g.D.Disk.faults g.D.Disk.honest g.D.Disk.image c.args.log.now c.settle_all.new.log (past_of c.settle_all.new.self.trace)
-told g c =
-    let log = c.args.log.now in
-    let first : past_of c.in_ok-run.run'.trace ≡ [] = ap (λ (r : RunState). past_of r.trace) c.in_ok-run.ensures in
-    c.in_ok-settle_all.ensures.tells log (c.in_ok-lines.ensures.tells log (subst (λ (T : List Placed). Tells g.D.Disk.faults g.D.Disk.honest g.D.Disk.image log log T) (sym first)
-    (tells_at_start g.D.Disk.faults g.D.Disk.honest g.D.Disk.image log c.requires.unarmed (λ h. c.is_up.ensures.images h c.requires.up))))
-
--- the lines, and the rounds after them
-rounds : (g : Over) (c : After-into_trace g) → IsRoundAt c.args.lines.now (past_of c.lines.new.self.trace) 1 (past_of c.settle_all.new.self.trace)
-rounds g c =
-    let lines = past_of c.lines.new.self.trace in
-    let s = c.lines.ensures.script ∙ script_at_start g c.In_ok-run in
-    subst (λ (r : List Line). IsRoundAt r lines 1 (past_of c.settle_all.new.self.trace)) s (c.in_ok-settle_all.ensures.turns lines (turn-first c.lines.new.self.script lines))
+-- before the first step the trace tells of the log
+told_first : {D : Type 0} (faults : D → ℕ) (honest : Bool) (image : D → List ℕ → Type 0) (log : LogState D) (lines : List Line) (contexts : List Standing) (run : RunState)
+    → run ≡ record { script = lines; worlds = []; contexts = contexts; trace = [] } → log.armed ≡ None → (IsTrue honest → AllHold (image log.disk) (open_records log.slots)) → Tells faults honest image log log (past_of run.trace)
+told_first faults honest image log lines contexts run is unarmed held =
+    subst (λ (r : RunState). Tells faults honest image log log (past_of r.trace)) (sym is) (tells_at_start faults honest image log unarmed held)
 
 pub lines-requires-clause-holds : goal.lines-requires-clause-holds
 lines-requires-clause-holds g c =
@@ -56,7 +40,7 @@ pub lines-requires-clause-below : goal.lines-requires-clause-below
 lines-requires-clause-below g c = subst (λ (r : RunState). AreBelow 1 r.worlds) (sym c.in_ok-run.ensures) (λ t. refl)
 
 pub lines-requires-clause-script : goal.lines-requires-clause-script
-lines-requires-clause-script g c = subst IsScript (sym (script_at_start g c)) c.requires.script
+lines-requires-clause-script g c = subst IsScript (sym (ap (λ (r : RunState). r.script) c.in_ok-run.ensures)) c.requires.script
 
 pub returns-clause-log : goal.returns-clause-log
 returns-clause-log g c = goes_then g.D.Disk.faults g.D.Disk.honest g.D.Disk.image _ _ _ c.lines.ensures.log c.settle_all.ensures.log
@@ -68,57 +52,68 @@ returns-clause-stays g c none =
 
 pub returns-clause-replayed : goal.returns-clause-replayed
 returns-clause-replayed g c =
-    let b = (goal.at.returns-clause-replayed g c).After-into_trace in
     let s = c.args.lines.now in
+    let first : c.in_ok-run.run'.script ≡ s = ap (λ (r : RunState). r.script) c.in_ok-run.ensures in
     let lines = c.lines.new.self.trace in
-    let ran : LinesRan s (past_of s) (past_of lines) = subst (λ (r : List Line). LinesRan r (past_of r) (past_of lines)) (script_at_start g b.In_ok-run) c.in_ok-lines.ensures.ran in
-    subst (λ (T : List Placed). IsReplayed s (past_of T)) (sym c.into_trace.ensures.trace) (is_replayed s 1 lines c.settle_all.new.self.trace ran (rounds g b))
+    let end = c.settle_all.new.self.trace in
+    let ran : LinesRan s (past_of s) (past_of lines) = subst (λ (r : List Line). LinesRan r (past_of r) (past_of lines)) first c.in_ok-lines.ensures.ran in
+    let rounds : IsRoundAt s (past_of lines) 1 (past_of end) =
+    subst (λ (r : List Line). IsRoundAt r (past_of lines) 1 (past_of end)) (c.lines.ensures.script ∙ first) (c.in_ok-settle_all.ensures.turns (past_of lines) (turn-first c.lines.new.self.script (past_of lines))) in
+    subst (λ (T : List Placed). IsReplayed s (past_of T)) (sym c.into_trace.ensures.trace) (is_replayed s 1 lines end ran rounds)
 
 pub returns-clause-settled : goal.returns-clause-settled
 returns-clause-settled g c t =
-    let b = (goal.at.returns-clause-settled g c t).After-into_trace in
-    let below : AreSettledBelow c.args.lines.now 257 (past_of c.settle_all.new.self.trace) =
-    subst (λ (r : List Line). AreSettledBelow r 257 (past_of c.settle_all.new.self.trace)) (c.lines.ensures.script ∙ script_at_start g b.In_ok-run) c.in_ok-settle_all.ensures.settled in
-    subst (λ (T : List Placed). Settled c.args.lines.now (history t.value (past_of T))) (sym c.into_trace.ensures.trace) (below t (omega (arith, t.in_range.1)))
+    let s = c.args.lines.now in
+    let first : c.in_ok-run.run'.script ≡ s = ap (λ (r : RunState). r.script) c.in_ok-run.ensures in
+    let below : AreSettledBelow s 257 (past_of c.settle_all.new.self.trace) =
+    subst (λ (r : List Line). AreSettledBelow r 257 (past_of c.settle_all.new.self.trace)) (c.lines.ensures.script ∙ first) c.in_ok-settle_all.ensures.settled in
+    subst (λ (T : List Placed). Settled s (history t.value (past_of T))) (sym c.into_trace.ensures.trace) (below t (omega (arith, t.in_range.1)))
 
 pub returns-clause-planned : goal.returns-clause-planned
 returns-clause-planned g c t =
-    let b = (goal.at.returns-clause-planned g c t).After-into_trace in
+    let s = c.args.lines.now in
+    let first : c.in_ok-run.run'.script ≡ s = ap (λ (r : RunState). r.script) c.in_ok-run.ensures in
     let tied = c.in_ok-settle_all.ensures.holds.tied t in
-    subst (λ (T : List Placed). IsToPlan c.args.lines.now (history t.value (past_of T))) (sym c.into_trace.ensures.trace)
-    (subst (λ (r : List Line). IsToPlan r (history t.value (past_of c.settle_all.new.self.trace))) (script_at_end g b)
+    subst (λ (T : List Placed). IsToPlan s (history t.value (past_of T))) (sym c.into_trace.ensures.trace)
+    (subst (λ (r : List Line). IsToPlan r (history t.value (past_of c.settle_all.new.self.trace))) (c.settle_all.ensures.script ∙ (c.lines.ensures.script ∙ first))
     (subst (λ (h : List Entry). IsToPlan c.settle_all.new.self.script h) tied.past tied.planned))
 
 pub returns-clause-counted : goal.returns-clause-counted
 returns-clause-counted g c =
-    let b = (goal.at.returns-clause-counted g c).After-into_trace in
-    subst (λ (T : List Placed). IsCounted (g.D.Disk.faults c.args.log.now.disk) (g.D.Disk.faults c.settle_all.new.log.disk) c.settle_all.new.log.armed (past_of T)) (sym c.into_trace.ensures.trace) (told g b).counted
+    let log = c.args.log.now in
+    let told = told_first g.D.Disk.faults g.D.Disk.honest g.D.Disk.image log c.args.lines.now _ c.in_ok-run.run' c.in_ok-run.ensures c.requires.unarmed (λ k. c.is_up.ensures.images k c.requires.up) in
+    let end = c.in_ok-settle_all.ensures.tells log (c.in_ok-lines.ensures.tells log told) in
+    subst (λ (T : List Placed). IsCounted (g.D.Disk.faults log.disk) (g.D.Disk.faults c.settle_all.new.log.disk) c.settle_all.new.log.armed (past_of T)) (sym c.into_trace.ensures.trace) end.counted
 
 pub returns-clause-opens : goal.returns-clause-opens
 returns-clause-opens g c h empty =
-    let b = (goal.at.returns-clause-opens g c h empty).After-into_trace in
-    ap (λ (T : List Placed). open_right [] (past_of T)) c.into_trace.ensures.trace ∙ (told g b).opens h empty
+    let log = c.args.log.now in
+    let told = told_first g.D.Disk.faults g.D.Disk.honest g.D.Disk.image log c.args.lines.now _ c.in_ok-run.run' c.in_ok-run.ensures c.requires.unarmed (λ k. c.is_up.ensures.images k c.requires.up) in
+    let end = c.in_ok-settle_all.ensures.tells log (c.in_ok-lines.ensures.tells log told) in
+    ap (λ (T : List Placed). open_right [] (past_of T)) c.into_trace.ensures.trace ∙ end.opens h empty
 
 pub returns-clause-unlike : goal.returns-clause-unlike
 returns-clause-unlike g c h =
-    let b = (goal.at.returns-clause-unlike g c h).After-into_trace in
-    ap (λ (T : List Placed). has is_no_log_answer (at_log (past_of T))) c.into_trace.ensures.trace ∙ (told g b).unlike h
+    let log = c.args.log.now in
+    let told = told_first g.D.Disk.faults g.D.Disk.honest g.D.Disk.image log c.args.lines.now _ c.in_ok-run.run' c.in_ok-run.ensures c.requires.unarmed (λ k. c.is_up.ensures.images k c.requires.up) in
+    let end = c.in_ok-settle_all.ensures.tells log (c.in_ok-lines.ensures.tells log told) in
+    ap (λ (T : List Placed). has is_no_log_answer (at_log (past_of T))) c.into_trace.ensures.trace ∙ end.unlike h
 
 pub returns-clause-tied : goal.returns-clause-tied
 returns-clause-tied g c h t =
     let end = c.in_ok-settle_all.ensures.holds in
-    ap (λ (T : List Placed). tied (history t.value (past_of T))) c.into_trace.ensures.trace ∙ ap tied (sym (end.tied t).past) ∙ end.sound h t
+    ap (λ (T : List Placed). tied (history t.value (past_of T))) c.into_trace.ensures.trace ∙ (ap tied (sym (end.tied t).past) ∙ end.sound h t)
 
 pub returns-clause-up : goal.returns-clause-up
 returns-clause-up g c = c.in_ok-settle_all.ensures.holds.up ∙ ap (λ (T : List Placed). is_log_up (past_of T)) (sym c.into_trace.ensures.trace)
 
 pub returns-clause-ends : goal.returns-clause-ends
 returns-clause-ends g c h =
-    let b = (goal.at.returns-clause-ends g c h).After-into_trace in
     let image = g.D.Disk.image in
-    let start = c.args.log.now in
-    let end = c.settle_all.new.log in
-    let went = goes_then g.D.Disk.faults g.D.Disk.honest image start c.lines.new.log end c.lines.ensures.log c.settle_all.ensures.log in
-    ends_as image start end c.settle_all.new.self c.into_trace.result c.into_trace.ensures.trace c.into_trace.ensures.numbered
-    (subst (λ b. Holds b image end c.settle_all.new.self) h c.in_ok-settle_all.ensures.holds) ((told g b).foreign h)
-    (went.logs h (λ bytes among. (_, c.is_up.ensures.images h c.requires.up bytes among))) (c.is_up-2.ensures.images h)
+    let log = c.args.log.now in
+    let last = c.settle_all.new.log in
+    let told = told_first g.D.Disk.faults g.D.Disk.honest image log c.args.lines.now _ c.in_ok-run.run' c.in_ok-run.ensures c.requires.unarmed (λ k. c.is_up.ensures.images k c.requires.up) in
+    let end = c.in_ok-settle_all.ensures.tells log (c.in_ok-lines.ensures.tells log told) in
+    let went = goes_then g.D.Disk.faults g.D.Disk.honest image log c.lines.new.log last c.lines.ensures.log c.settle_all.ensures.log in
+    ends_as image log last c.settle_all.new.self c.into_trace.result c.into_trace.ensures.trace c.into_trace.ensures.numbered
+    (subst (λ b. Holds b image last c.settle_all.new.self) h c.in_ok-settle_all.ensures.holds) (end.foreign h) (went.logs h (λ bytes among. (_, c.is_up.ensures.images h c.requires.up bytes among))) (c.is_up-2.ensures.images h)
