@@ -1,9 +1,8 @@
-use Rattle.std.proofs.Common.{◌≡◌, ◌+◌, ℕ, List, Option, refl, subst, sym, ◌∙◌}
+use Rattle.std.proofs.Common.{◌≡◌, ◌+◌, ℕ, List, Option, arith, refl, subst, sym, ◌∙◌}
 use Rattle.std.specs.Prelude.{IfSome}
 use Rattle.dtx_values.specs.declared.number.TxNo.{TxNo}
 use Rattle.dtx_values.specs.declared.script.Line.{Line}
 use Rattle.dtx_model.specs.Words.{past_of}
-use Rattle.dtx_model.specs.Traces.{Placed}
 use Rattle.script_runner.specs.RunState.{AreSettledBelow, IsRoundAt}
 use Rattle.script_runner.proofs.Going.{goes_same, goes_then, stays_same, stays_then}
 use Rattle.script_runner.proofs.Rounds.{below-first, turn-round}
@@ -48,3 +47,9 @@ loop-n-preserved g c =
           subst (λ (r : List Line). AreSettledBelow r t.value (past_of c.loop-n.self.trace) → AreSettledBelow r (t.value + 1) (past_of c.settle.new.self.trace)) was.script (c.in_ok-settle.ensures.below (same ∙ sym mid)) in
           subst (λ (m : ℕ). AreSettledBelow s (m + 1) (past_of c.settle.new.self.trace)) n (next here);
     }
+
+pub returns-clause-turns : goal.returns-clause-turns
+returns-clause-turns g c = λ start b. turn-round c.args.self.now.script start (past_of c.loop-n.self.trace) c.loop-n.n c.loop-n-test.false (c.loop-n.invariant.turns start b)
+
+pub returns-clause-settled : goal.returns-clause-settled
+returns-clause-settled g c = λ same v less. c.loop-n.invariant.settled same v (omega (arith, less, c.loop-n-test.false))
