@@ -14,24 +14,23 @@ use Rattle.dtx_values.specs.declared.number.ScopeNo.{ScopeNo}
 use Rattle.dtx_values.specs.declared.number.TxNo.{TxNo}
 use Rattle.dtx_values.specs.declared.scope.OpenScope.{OpenScope}
 use Rattle.dtx_values.specs.declared.script.Body.{Body}
-use Rattle.dtx_values.specs.declared.script.Body.TheVariants.{Open, Finish, Close, Current, Stop, Restart}
+use Rattle.dtx_values.specs.declared.script.Body.TheVariants.{Open, Finish, Close, Current}
 use Rattle.dtx_values.specs.declared.script.Line.{Line}
-use Rattle.dtx_model.specs.Words.{has, each, onto, past_of, put}
+use Rattle.dtx_model.specs.Words.{always, has, each, onto, past_of, put}
 use Rattle.dtx_model.specs.Scopes.{ScopeEntry, Opens, Finishes, Closes, close_answer, closes, finish_answer, enter_answer, entering, finishes, is_scope, open_before, open_scopes, taken_off}
 use Rattle.dtx_model.specs.Contexts.{called_with, entries_if, entries_of, isolation_in, name_in, option_in, scope_answer, scope_block, scope_calls, scope_entries, scopes_of, took_off, is_fine}
 use Rattle.dtx_model.specs.Grammar.{OfScope, are_named_well, is_made, is_named_well, makes, opening_makes, same_name, uses}
 use Rattle.dtx_model.specs.Traces.{Placed, noted}
-use Rattle.dtx_model.specs.Replay.{CallRan, LineRan, LinesRan, after_calls, after_scope, after_turn}
+use Rattle.dtx_model.specs.Replay.{after_calls, after_scope, after_turn}
 use Rattle.dtx_model.specs.Calls.{call_of}
 use Rattle.dtx_model.specs.Steps.{Calls}
 use Rattle.dtx_model.proofs.Bools.{and_left, not_both, not_true, or_case, or_right}
-use Rattle.dtx_model.proofs.Pasts.{length-past}
+use Rattle.dtx_model.proofs.Histories.{onto-append}
+use Rattle.dtx_model.proofs.Pasts.{always-before}
 use Rattle.dtx_model.proofs.Prefixes.{past-more}
 use Rattle.dtx_model.proofs.Reading.{has-onto}
-use Rattle.outcome_law.proofs.ReplayTurns.{is_log_line}
 use Rattle.scope_context.specs.Standing.{Standing}
 use Rattle.script_runner.specs.Scoped.{AreOpen, IsUnopened, context_at, nothing_open, rollbacks, rolled_at, rolled_in, scopes_at, scopes_in}
-use Rattle.script_runner.proofs.RunLines.{always-here}
 use Rattle.script_runner.proofs.Scoping.{no_scope_line}
 
 -- a write leaves the other places alone
@@ -188,6 +187,13 @@ opened_was_made s a (l ∷ before) h = step (a == l.actor.value) h (opened_was_m
         or_case (has (opens s) xs) (has (opens s) es) (λ e. rw (entries_make s l.body (open_scopes es) e) refl) (λ e. or_right _ _ (ih e)) (sym (has-onto (opens s) es xs) ∙ h)
     step false h ih = or_right _ _ (ih h)
 
+-- what holds of each line of a script with those before it holds of one of them
+always-here : (p : List Line → Line → Bool) (s xs ys : List Line) (l : Line) → s ≡ xs ++ l ∷ ys → always p (past_of s) ≡ true → p (past_of xs) l ≡ true
+always-here p s xs ys l split k =
+    let before = past_of xs in
+    let all : always p (onto (l ∷ before) ys) ≡ true = ap (λ (h : List Line). always p h) (sym (ap past_of split ∙ onto-append [] xs (l ∷ ys))) ∙ k in
+    and_left (p before l) (always p before) (always-before p (l ∷ before) ys all)
+
 -- a name that a line of a script makes wasn't made before it
 not_made : (s xs ys : List Line) (l : Line) → s ≡ xs ++ l ∷ ys → are_named_well s ≡ true → each (λ n. not (is_made (past_of xs) n)) (makes l.body) ≡ true
 not_made s xs ys l split named =
@@ -214,24 +220,3 @@ unopened s xs ys l cs split named ties = by_body l.body (scopes_at l.actor cs) (
 -- the lines before, and one more
 pub past_next : (lines : List Line) (i : ℕ) (l : Line) → i < length lines → l ≡ get_or lines i l → past_of (take (i + 1) lines) ≡ l ∷ past_of (take i lines)
 past_next lines i l less here = past-more lines i l less ∙ ap (λ (m : Line). m ∷ past_of (take i lines)) (sym here)
-
--- what a line did that neither stops the log nor opens it again
-line_ran : (s before : List Line) (a : ActorNo) (b : Body) (start T : List Placed) → is_log_line b ≡ false
-    → CallRan s a (suc (length before)) (call_of s b) (after_scope s (suc (length before)) (record { actor = a; body = b }) (scopes_of a.value before) start) T
-    → LineRan s before (record { actor = a; body = b }) start T
-line_ran s before a (Stop k i) start T off did = absurd cc
-line_ran s before a Restart start T off did = absurd cc
-line_ran s before a _ start T off did = did
-
--- one line more was run
-pub lines_more : (s r lines : List Line) (i n : ℕ) (l : Line) (cs : List Standing) (old new : List Placed) → i < length lines → l ≡ get_or lines i l → n ≡ i → r ≡ s
-    → is_log_line l.body ≡ false → AreOpen cs (past_of (take i lines)) → LinesRan s (past_of (take i lines)) old
-    → CallRan r l.actor (n + 1) (call_of r l.body) (after_scope r (n + 1) l (scopes_at l.actor cs) old) new → LinesRan s (past_of (take (i + 1) lines)) new
-lines_more s r lines i n l cs old new less here count same off ties ran did =
-    let before = past_of (take i lines) in
-    let many : length before ≡ min i (length lines) = length-past (take i lines) ∙ length-take i lines in
-    let number : n + 1 ≡ suc (length before) = omega arith in
-    let by_number = subst (λ k. CallRan r l.actor k (call_of r l.body) (after_scope r k l (scopes_at l.actor cs) old) new) number did in
-    let by_scopes = subst (λ (xs : List OpenScope). CallRan r l.actor (suc (length before)) (call_of r l.body) (after_scope r (suc (length before)) l xs old) new) (ties l.actor) by_number in
-    let by_script = subst (λ (t : List Line). CallRan t l.actor (suc (length before)) (call_of t l.body) (after_scope t (suc (length before)) l (scopes_of l.actor.value before) old) new) same by_scopes in
-    subst (λ (b : List Line). LinesRan s b new) (sym (past_next lines i l less here)) (old, ran, line_ran s before l.actor l.body old new off by_script)

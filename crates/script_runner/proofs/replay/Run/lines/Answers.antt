@@ -1,16 +1,16 @@
-use Rattle.std.proofs.Common.{◌≡◌, ◌+◌, ◌-◌, ◌∷◌, ◌++◌, suc, Some, List, ap, arith, drop, get_or, length, ℕ, ◌<◌, refl, subst, sym, take, ◌∙◌}
+use Rattle.std.proofs.Common.{◌≡◌, ◌≤◌, ◌^◌, ◌+◌, ◌-◌, ◌∷◌, ◌++◌, suc, Some, List, ap, arith, drop, false, get_or, length, ℕ, ◌<◌, refl, subst, sym, take, ◌∙◌}
 use Rattle.std.proofs.lemmas.List.{drop_more}
 use Rattle.dtx_values.specs.declared.script.Line.{Line}
-use Rattle.dtx_model.specs.Calls.{call_of}
 use Rattle.dtx_model.specs.Contexts.{lines_before}
+use Rattle.dtx_model.specs.Grammar.{is_in_range}
 use Rattle.dtx_model.specs.Words.{kth, past_of}
+use Rattle.script_runner.specs.LogRun.{is_log_line}
 use Rattle.script_runner.specs.RunState.{RunState}
 use Rattle.script_runner.specs.Scoped.{AreOpen}
-use Rattle.script_runner.proofs.Going.{goes_same, goes_then, runs_same, runs_then}
-use Rattle.script_runner.proofs.Openings.{lines_more, past_next, unopened}
+use Rattle.script_runner.proofs.Going.{goes_same, goes_then, stays_same, stays_then}
+use Rattle.script_runner.proofs.Openings.{past_next, unopened}
 use Rattle.script_runner.proofs.Replayed.{few, line_at, split_at}
-use Rattle.script_runner.proofs.RunLines.{run_line}
-use Rattle.script_runner.proofs.Ready.{line_entered, line_off_log}
+use Rattle.script_runner.proofs.RunningLines.{each_there, lines_more, none_there}
 use Rattle.script_runner.proofs.replay.Run.lines.Given.{Over}
 use Rattle.script_runner.proofs.replay.Run.lines.Goals.{After-lines-lines}
 use Rattle.script_runner.proofs.replay.Run.lines.Goals as goal
@@ -33,21 +33,15 @@ pub loop-l-init : goal.loop-l-init
 loop-l-init g c = record {
   count = refl;
   log = goes_same g.D.Disk.faults g.D.Disk.honest g.D.Disk.image c.args.log.now;
-  runs = runs_same g.D.Disk.faults c.args.log.now c.args.self.now;
+  stays = λ off. stays_same g.D.Disk.faults c.args.log.now;
+  life = omega arith;
+  script = refl;
   holds = c.requires.holds;
+  tells = λ start told. told;
   below = c.requires.below;
   open_at = c.requires.contexts;
-  ran = λ quiet. ap past_of c.requires.start;
+  ran = ap past_of c.requires.start;
 }
-
-pub line-requires-clause-entered : goal.line-requires-clause-entered
-line-requires-clause-entered g c =
-    let s = c.args.self.now.script in
-    let i = c.loop-l.l-index in
-    let l = c.l-item.result in
-    let stands = at g (goal.at.line-requires-clause-entered g c).After-lines-lines i l c.loop-l-test.true c.l-item.is in
-    λ t call gives.
-    line_entered s l.body t call (ap (λ (r : List Line). call_of r l.body) (sym c.loop-l.invariant.runs.script) ∙ gives) (run_line s (suc i) l stands c.requires.run)
 
 pub line-requires-clause-unopened : goal.line-requires-clause-unopened
 line-requires-clause-unopened g c =
@@ -68,14 +62,29 @@ line-requires-clause-open g c =
     let same = own g (goal.at.line-requires-clause-open g c).After-lines-lines in
     let number : i ≡ (c.loop-l.n + 1) - 1 = omega (arith, c.loop-l.invariant.count) in
     let before : past_of (take i lines) ≡ lines_before c.loop-l.self.script (c.loop-l.n + 1) =
-    ap (λ k. past_of (take k lines)) number ∙ ap (λ (r : List Line). past_of (take ((c.loop-l.n + 1) - 1) r)) (same ∙ sym c.loop-l.invariant.runs.script) in
+    ap (λ k. past_of (take k lines)) number ∙ ap (λ (r : List Line). past_of (take ((c.loop-l.n + 1) - 1) r)) (same ∙ sym c.loop-l.invariant.script) in
     subst (λ (b : List Line). AreOpen c.loop-l.self.contexts b) before c.loop-l.invariant.open_at
 
 pub line-requires-clause-stands : goal.line-requires-clause-stands
 line-requires-clause-stands g c =
     let next : suc c.loop-l.l-index ≡ c.loop-l.n + 1 = omega (arith, c.loop-l.invariant.count) in
-    subst (λ (r : List Line). kth r (c.loop-l.n + 1) ≡ Some c.l-item.result) (sym c.loop-l.invariant.runs.script)
+    subst (λ (r : List Line). kth r (c.loop-l.n + 1) ≡ Some c.l-item.result) (sym c.loop-l.invariant.script)
     (ap (kth c.args.self.now.script) (sym next) ∙ at g (goal.at.line-requires-clause-stands g c).After-lines-lines c.loop-l.l-index c.l-item.result c.loop-l-test.true c.l-item.is)
+
+pub line-requires-clause-life : goal.line-requires-clause-life
+line-requires-clause-life g c =
+    let same = ap length (own g (goal.at.line-requires-clause-life g c).After-lines-lines) in
+    let most = few c.args.self.now.script c.requires.script in
+    let so_far = c.loop-l.invariant.life in
+    let less = c.loop-l-test.true in
+    let first = c.requires.life in
+    omega (arith, same, most, so_far, less, first)
+
+pub line-requires-clause-range : goal.line-requires-clause-range
+line-requires-clause-range g c =
+    let l = c.l-item.result in
+    let stands = at g (goal.at.line-requires-clause-range g c).After-lines-lines c.loop-l.l-index l c.loop-l-test.true c.l-item.is in
+    each_there (λ (m : Line). is_in_range m.body) c.args.self.now.script c.loop-l.l-index l c.requires.script.in_range stands
 
 pub loop-l-preserved : goal.loop-l-preserved
 loop-l-preserved g c =
@@ -84,17 +93,24 @@ loop-l-preserved g c =
     let i = c.loop-l.l-index in
     let l = c.l-item.result in
     let stands = at g (goal.at.loop-l-preserved g c).After-lines-lines i l c.loop-l-test.true c.l-item.is in
-    let off = line_off_log l.body (run_line s (suc i) l stands c.requires.run) in
     let was = c.loop-l.invariant in
     let did = c.in_ok-line.ensures in
-    let faults = g.D.Disk.faults in record {
+    let faults = g.D.Disk.faults in
+    let number : i ≡ (c.loop-l.n + 1) - 1 = omega (arith, was.count) in
+    let same = own g (goal.at.loop-l-preserved g c).After-lines-lines in
+    let before : past_of (take i lines) ≡ lines_before c.loop-l.self.script (c.loop-l.n + 1) =
+    ap (λ k. past_of (take k lines)) number ∙ ap (λ (r : List Line). past_of (take ((c.loop-l.n + 1) - 1) r)) (same ∙ sym was.script) in
+    record {
       count = ap (λ n. n + 1) was.count;
       log = goes_then faults g.D.Disk.honest g.D.Disk.image c.args.log.now c.loop-l.log c.line.new.log was.log c.line.ensures.log;
-      runs = runs_then faults c.args.log.now c.loop-l.log c.line.new.log c.args.self.now c.loop-l.self c.line.new.self was.log.grows c.line.ensures.log.grows was.runs did.runs;
+      stays = λ off. stays_then faults c.args.log.now c.loop-l.log c.line.new.log was.log.grows c.line.ensures.log.grows (was.stays off) (c.line.ensures.stays (none_there (λ (m : Line). is_log_line m.body) s i l off stands));
+      life = let so_far = was.life in let next = c.line.ensures.life in omega (arith, so_far, next);
+      script = c.line.ensures.script ∙ was.script;
       holds = did.holds;
+      tells = λ start told. did.tells start (was.tells start told);
       below = did.entered;
-      open_at = subst (λ (before : List Line). AreOpen c.line.new.self.contexts before) (sym (past_next lines i l c.loop-l-test.true c.l-item.is)) (did.scopes (past_of (take i lines)) was.open_at);
-      ran = λ quiet.
-          lines_more s c.loop-l.self.script lines i c.loop-l.n l c.loop-l.self.contexts (past_of c.loop-l.self.trace) (past_of c.line.new.self.trace) c.loop-l-test.true c.l-item.is
-          was.count was.runs.script off was.open_at (was.ran (did.runs.back quiet)) (did.done quiet);
+      open_at = subst (λ (b : List Line). AreOpen c.line.new.self.contexts b) (sym (past_next lines i l c.loop-l-test.true c.l-item.is)) (did.scopes (past_of (take i lines)) was.open_at);
+      ran =
+          lines_more s c.loop-l.self.script lines i c.loop-l.n l (past_of c.loop-l.self.trace) (past_of c.line.new.self.trace) c.loop-l-test.true c.l-item.is was.count was.script
+          (λ count. did.done (past_of (take i lines)) count before was.open_at) was.ran;
     }
