@@ -1,44 +1,34 @@
 -- What is written at an actor's context leaves the transactions and the log alone; and what a scope line does.
-use Rattle.std.proofs.Common.{◌≡◌, ℕ, Bool, true, List, Some, slice_get, ap, inl, refl, sym, subst, ◌∙◌}
+use Rattle.std.proofs.Common.{◌≡◌, ℕ, Bool, true, List, Some, slice_get, ap, refl, sym, subst, ◌∙◌}
 use Rattle.dtx_values.specs.declared.call.Call.{Call}
 use Rattle.dtx_values.specs.declared.entry.Entry.{Entry}
 use Rattle.dtx_values.specs.declared.number.ActorNo.{ActorNo}
 use Rattle.dtx_values.specs.declared.number.TxNo.{TxNo}
 use Rattle.dtx_values.specs.declared.scope.OpenScope.{OpenScope}
 use Rattle.dtx_values.specs.declared.script.Line.{Line}
-use Rattle.dtx_model.specs.Words.{kth, onto, past_of}
+use Rattle.dtx_model.specs.Words.{kth, latest, onto, past_of}
+use Rattle.dtx_model.specs.AtLog.{at_log, is_called, unless_said, up_of}
 use Rattle.dtx_model.specs.Caused.{IsCallOf, IsIn}
 use Rattle.dtx_model.specs.Contexts.{lines_before, scope_block, scope_calls}
 use Rattle.dtx_model.specs.Replay.{after_calls, after_scope}
+use Rattle.dtx_model.specs.Tied.{tied as is_tied_history}
 use Rattle.dtx_model.specs.Traces.{Placed, history, noted}
 use Rattle.dtx_model.proofs.Histories.{history-noted}
-use Rattle.coordinator_log.specs.Slots.{open_records}
 use Rattle.coordinator_log.specs.State.{LogState}
-use Rattle.outcome_law.specs.LogQuiet.{is_log_quiet}
-use Rattle.outcome_law.proofs.ReplayTurns.{noted_quiet, quiet_before}
+use Rattle.outcome_law.proofs.FollowingLog.{log-noted}
 use Rattle.outcome_law.proofs.Replays.{scope_call_of}
 use Rattle.scope_context.specs.Standing.{Standing}
-use Rattle.tx_world.specs.AtLog.{Fits}
+use Rattle.tx_world.specs.AtLog.{IsHad}
 use Rattle.tx_world.specs.State.{TxState}
-use Rattle.script_runner.specs.RunState.{Holds, IsCalm, IsQuiet, IsTied, RunState, Runs, state_of}
+use Rattle.script_runner.specs.RunState.{FitsLog, GoesWith, Holds, IsRecordKept, IsTied, IsToPlan, RunState, Tells, state_of}
 use Rattle.script_runner.specs.Scoped.{AreOpen, scopes_at}
+use Rattle.script_runner.proofs.Telling.{tells_noted}
 
 -- the trace has this block of entries at an actor's context more, and the transactions and the script are the same
 pub record IsNoted (a : ActorNo) (es : List Entry) (old new : RunState) : Type 0 where
   pub script : new.script ≡ old.script
   pub worlds : new.worlds ≡ old.worlds
   pub block : past_of new.trace ≡ onto (past_of old.trace) (noted a es)
-
-noted_back : (a : ActorNo) (es : List Entry) (old new : RunState) → IsNoted a es old new → IsQuiet new → IsQuiet old
-noted_back a es old new n q = quiet_before (past_of old.trace) (noted a es) (subst (λ (T : List Placed). is_log_quiet T ≡ true) n.block q)
-
-pub noted_runs : {D : Type 0} (faults : D → ℕ) (log : LogState D) (a : ActorNo) (es : List Entry) (old new : RunState) → IsNoted a es old new → Runs faults log log old new
-noted_runs faults log a es old new n =
-    record {
-      script = n.script;
-      back = λ q. noted_back a es old new n q;
-      forth = λ q. inl (subst (λ (T : List Placed). is_log_quiet T ≡ true) (sym n.block) (noted_quiet a es (past_of old.trace) q));
-    }
 
 noted_tied : (a : ActorNo) (es : List Entry) (old new : RunState) (t : TxNo) → IsNoted a es old new → IsTied old.script t (past_of old.trace) (state_of t old.worlds)
     → IsTied new.script t (past_of new.trace) (state_of t new.worlds)
@@ -49,20 +39,30 @@ noted_tied a es old new t n k =
     record {
       past = ap (λ (x : TxState). x.world.past) same ∙ k.past ∙ sym here;
       given = λ m b c i. subst (λ (s : List Line). IsCallOf s t.value m b c) (sym n.script) (k.given m b c (subst (λ (x : TxState). IsIn x.world.calls m b c) same i));
+      planned = subst (λ (s : List Line). IsToPlan s (state_of t new.worlds).world.past) (sym n.script) (subst (λ (x : TxState). IsToPlan old.script x.world.past) (sym same) k.planned);
     }
 
-pub noted_holds : {D : Type 0} (honest : Bool) (log : LogState D) (a : ActorNo) (es : List Entry) (old new : RunState) → IsNoted a es old new → Holds honest log old → Holds honest log new
-noted_holds honest log a es old new n h =
+-- so what holds of the run holds still,
+pub noted_holds : {D : Type 0} (honest : Bool) (image : D → List ℕ → Type 0) (log : LogState D) (a : ActorNo) (es : List Entry) (old new : RunState) → IsNoted a es old new → Holds honest image log old → Holds honest image log new
+noted_holds honest image log a es old new n h =
     let same : (t : TxNo) → state_of t old.worlds ≡ state_of t new.worlds = λ t. ap (λ (ws : List TxState). state_of t ws) (sym n.worlds) in
+    let at : at_log (past_of new.trace) ≡ at_log (past_of old.trace) = ap at_log n.block ∙ log-noted a es (past_of old.trace) in
     record {
       tied = λ t. noted_tied a es old new t n (h.tied t);
-      unarmed = h.unarmed;
-      fits = λ hon up t. subst (λ (x : TxState). Fits x (open_records log.slots)) (same t) (h.fits hon up t);
-      up = λ q. h.up (noted_back a es old new n q);
-      calm = λ q t.
-          subst (λ (s : List Line). IsCalm s log.life (state_of t new.worlds)) (sym n.script)
-          (subst (λ (x : TxState). IsCalm old.script log.life x) (same t) (h.calm (noted_back a es old new n q) t));
+      kept = λ t. subst IsRecordKept (same t) (h.kept t);
+      goes = λ t. subst (λ (x : TxState). GoesWith log x) (same t) (h.goes t);
+      had = λ t. subst (λ (x : TxState). IsHad x log) (same t) (h.had t);
+      up = h.up ∙ ap (λ (xs : List Entry). unless_said (latest up_of xs)) (sym at);
+      uncalled = λ up. ap is_called at ∙ h.uncalled up;
+      fits = λ hon t. subst (λ (x : TxState). FitsLog image log x) (same t) (h.fits hon t);
+      sound = λ hon t. subst (λ (x : TxState). is_tied_history x.world.past ≡ true) (same t) (h.sound hon t);
     }
+
+-- and the trace tells the same of the log.
+pub noted_tells : {D : Type 0} (faults : D → ℕ) (honest : Bool) (image : D → List ℕ → Type 0) (start log : LogState D) (a : ActorNo) (es : List Entry) (old new : RunState) → IsNoted a es old new
+    → Tells faults honest image start log (past_of old.trace) → Tells faults honest image start log (past_of new.trace)
+noted_tells faults honest image start log a es old new n k =
+    subst (λ (T : List Placed). Tells faults honest image start log T) (sym n.block) (tells_noted faults honest image start log (past_of old.trace) a es k)
 
 -- So a scope line did what it writes at its context and then these calls.
 pub scope_did : (s : List Line) (n : ℕ) (l : Line) (xs : List OpenScope) (cs : List (TxNo × Call)) (start noted_at end : List Placed) → cs ≡ scope_calls l.body xs

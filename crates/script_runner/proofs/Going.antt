@@ -1,5 +1,5 @@
 -- How the parts of a run follow each other: what two parts in a row keep, they keep together.
-use Rattle.std.proofs.Common.{◌≡◌, ◌≤◌, ◌∙◌, ℕ, Bool, true, List, sym, subst, refl, arith, inl, inr}
+use Rattle.std.proofs.Common.{◌≡◌, ◌≤◌, ◌∙◌, ℕ, Bool, true, false, List, sym, subst, refl, arith, inl, inr}
 use Rattle.std.specs.Prelude.{nat_lt}
 use Rattle.outside.proofs.Rising.{rose_earlier, rose_later}
 use Rattle.dtx_model.specs.declared.waiting.EnteredCall.{EnteredCall}
@@ -45,3 +45,9 @@ calls_then a b c p q = λ t. q t ∙ p t
 -- where no call was entered, the calls are still those of the lines before
 pub below_same : (n : ℕ) (old new : List TxState) → HaveSameCalls old new → AreBelow n old → AreBelow n new
 below_same n old new same below = λ t. subst (λ (ks : List EnteredCall). each (λ k. nat_lt k.line n) ks ≡ true) (sym (same t)) (below t)
+
+-- A log that is stopped before a part is so after it.
+pub down_still : (a b : Bool) → (b ≡ true → a ≡ true) → a ≡ false → b ≡ a
+down_still true b still e = absurd cc
+down_still false true still e = absurd (let k = still refl in cc)
+down_still false false still e = refl

@@ -1,5 +1,5 @@
 -- A line's call by its own words, after the steps of a `do` or an `await`.
-use Rattle.std.proofs.Common.{◌≡◌, ◌∙◌, ℕ, Some, List, [], Result, Ok, Err, OnOk, ap, refl, sym, subst}
+use Rattle.std.proofs.Common.{◌≡◌, ◌∙◌, ℕ, Some, List, [], ap, refl, sym, subst}
 use Rattle.std.specs.Prelude.{is_some}
 use Rattle.dtx_values.specs.declared.call.Call.{Call}
 use Rattle.dtx_values.specs.declared.call.Call.TheVariants.{Await, Do}
@@ -48,8 +48,3 @@ pub plain_ran : (s : List Line) (a : ActorNo) (i : ℕ) (t : TxNo) (c : Call) (s
 plain_ran s a i t (Do u k n) start T d w e = absurd (d u k n refl)
 plain_ran s a i t (Await u) start T d w e = absurd (w u refl)
 plain_ran s a i t _ start T d w e = e
-
--- what two clauses of a call say together
-pub both_ok : {T E P Q R : Type 0} (r : Result T E) → (P → Q → R) → OnOk r P → OnOk r Q → OnOk r R
-both_ok (Ok x) f p q = f p q
-both_ok (Err e) f p q = tt

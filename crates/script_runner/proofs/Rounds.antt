@@ -83,12 +83,12 @@ last-few : (xs : List (TxNo × Step)) → last_turn xs ≤ 256
 last-few [] = omega arith
 last-few (x ∷ xs) = omega (arith, x.0.in_range.1)
 
-passed-round : (u v : ℕ) → u ≤ 256 → 1 ≤ v → v ≤ 256 → is_passed u 1 v ≡ true → is_passed u 257 v ≡ true
-passed-round u v few first last p = grind (arith, nat_tests)
+passed-round : (n u v : ℕ) → 257 ≤ n → u ≤ 256 → 1 ≤ v → v ≤ 256 → is_passed u 1 v ≡ true → is_passed u n v ≡ true
+passed-round n u v past few first last p = grind (arith, nat_tests)
 
-pub turn-round : (s : List Line) (start T : List Placed) → IsRoundAt s start 257 T → IsRoundAt s start 1 T
-turn-round s start T b =
-    record { turns = b.turns; rounds = b.rounds; passed = λ v p. b.passed v (passed-round (last_turn b.turns) v.value (last-few b.turns) v.in_range.0 v.in_range.1 p) }
+pub turn-round : (s : List Line) (start T : List Placed) (n : ℕ) → 257 ≤ n → IsRoundAt s start n T → IsRoundAt s start 1 T
+turn-round s start T n past b =
+    record { turns = b.turns; rounds = b.rounds; passed = λ v p. b.passed v (passed-round n (last_turn b.turns) v.value past (last-few b.turns) v.in_range.0 v.in_range.1 p) }
 
 -- before the first turn it is the first one's
 pub turn-first : (s : List Line) (T : List Placed) → IsRoundAt s T 1 T

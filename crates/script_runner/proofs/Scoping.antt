@@ -33,7 +33,6 @@ use Rattle.scope_context.specs.Refusals.{enter_refusal, if_differing}
 use Rattle.scope_context.specs.Standing.{Standing}
 use Rattle.scope_context.specs.declared.refusal.ScopeRefusal.{ScopeRefusal}
 use Rattle.scope_context.specs.declared.refusal.ScopeRefusal.TheVariants.{TooDeep, IsolationDiffers, NoScope, AlreadyComplete, NestedWrongly}
-use Rattle.tx_world.specs.Entering.{is_entered_yet}
 use Rattle.script_runner.specs.declared.contexts.Acted.{Acted}
 use Rattle.script_runner.specs.declared.contexts.Gives.TheVariants.{Nothing}
 use Rattle.script_runner.specs.Scoped.{DoesScope, calls_given, refused_answer}
@@ -117,13 +116,7 @@ few_notes b old new notes x did =
     let same : length notes ≡ length (scope_entries b old.scopes) = ap length did.noted ∙ length-map (scope_entries b old.scopes) written in
     omega arith
 
--- a call as scope lines give it may be entered, and may answer wherever it comes
-pub scope_call_enters : (c : Call) → is_scope_call c ≡ true → is_entered_yet c ≡ true
-scope_call_enters (Begin t d) k = refl
-scope_call_enters (CommitCall t) k = refl
-scope_call_enters (RollbackCall t) k = refl
-scope_call_enters _ k = absurd (cc)
-
+-- a call as scope lines give it may answer wherever it comes
 pub scope_call_answers : (t : ℕ) (w : World) (c : Call) → is_scope_call c ≡ true → MayAnswer t w c 0
 scope_call_answers t w (Begin u d) k = tt
 scope_call_answers t w (CommitCall u) k = tt

@@ -343,10 +343,13 @@ impl<'a> Run<'a> {
     {
         let was_up = log.is_up();
         self.settle_round(log)?;
-        if was_up && !log.is_up() {
-            self.settle_round(log)?;
+        if !was_up {
+            return Ok(());
         }
-        Ok(())
+        if log.is_up() {
+            return Ok(());
+        }
+        self.settle_round(log)
     }
 
     /// Writes what line n does at its actor's context: its call, and its entries; and which calls it gives transactions. Nothing, where it

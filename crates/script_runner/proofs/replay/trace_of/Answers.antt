@@ -1,22 +1,37 @@
-use Rattle.std.proofs.Common.{◌≡◌, List, [], false, true, ap, arith, refl, subst, sym, ◌∙◌}
+use Rattle.std.proofs.Common.{◌≡◌, ℕ, Bool, List, [], None, ap, arith, refl, subst, sym, ◌∙◌}
+use Rattle.std.specs.Prelude.{IsTrue}
+use Rattle.dtx_values.specs.declared.entry.Entry.{Entry}
 use Rattle.dtx_values.specs.declared.script.Line.{Line}
+use Rattle.dtx_model.specs.AtLog.{at_log, is_log_up, open_right}
 use Rattle.dtx_model.specs.Caused.{Settled}
-use Rattle.dtx_model.specs.Traces.{Placed, history}
+use Rattle.dtx_model.specs.Grammar.{IsScript}
 use Rattle.dtx_model.specs.Replay.{IsReplayed, LinesRan}
+use Rattle.dtx_model.specs.Tied.{tied}
+use Rattle.dtx_model.specs.Traces.{Placed, history}
 use Rattle.dtx_model.specs.Words.{has, past_of}
-use Rattle.outcome_law.specs.LogQuiet.{is_log_quiet}
-use Rattle.script_runner.specs.RunState.{AreBelow, IsQuiet, IsSettledBelow, IsToPlan, RunState, Holds, is_of_stop}
+use Rattle.coordinator_log.specs.Crash.{AllHold}
+use Rattle.coordinator_log.specs.Slots.{open_records}
+use Rattle.coordinator_log.specs.State.{LogState}
+use Rattle.scope_context.specs.Standing.{Standing}
+use Rattle.script_runner.specs.LogRun.{IsCounted, has_log_line, is_no_log_answer}
+use Rattle.script_runner.specs.RunState.{AreBelow, AreSettledBelow, Holds, IsRoundAt, IsToPlan, RunState, Tells}
 use Rattle.script_runner.specs.Scoped.{AreOpen}
-use Rattle.script_runner.proofs.Going.{goes_then, runs_then}
+use Rattle.script_runner.proofs.Going.{goes_then, stays_then}
 use Rattle.script_runner.proofs.Openings.{open_none}
-use Rattle.script_runner.proofs.Recorded.{are_recorded, holds_at_start}
-use Rattle.script_runner.proofs.Replayed.{calm_history, is_replayed, quiet_at_start, settled-none, stays_quiet}
+use Rattle.script_runner.proofs.Recorded.{ends_as, holds_at_start, tells_at_start}
+use Rattle.script_runner.proofs.Rounds.{is_replayed, turn-first}
 use Rattle.script_runner.proofs.replay.trace_of.Goals as goal
+
+-- before the first step the trace tells of the log
+told_first : {D : Type 0} (faults : D → ℕ) (honest : Bool) (image : D → List ℕ → Type 0) (log : LogState D) (lines : List Line) (contexts : List Standing) (run : RunState)
+    → run ≡ record { script = lines; worlds = []; contexts = contexts; trace = [] } → log.armed ≡ None → (IsTrue honest → AllHold (image log.disk) (open_records log.slots)) → Tells faults honest image log log (past_of run.trace)
+told_first faults honest image log lines contexts run is unarmed held =
+    subst (λ (r : RunState). Tells faults honest image log log (past_of r.trace)) (sym is) (tells_at_start faults honest image log unarmed held)
 
 pub lines-requires-clause-holds : goal.lines-requires-clause-holds
 lines-requires-clause-holds g c =
-    subst (λ (r : RunState). Holds g.D.Disk.honest c.args.log.now r) (sym c.in_ok-run.ensures)
-    (holds_at_start g.D.Disk.honest c.args.log.now c.args.lines.now _ c.requires.up c.requires.unarmed c.requires.none)
+    subst (λ (r : RunState). Holds g.D.Disk.honest g.D.Disk.image c.args.log.now r) (sym c.in_ok-run.ensures)
+    (holds_at_start g.D.Disk.honest g.D.Disk.image c.args.log.now c.args.lines.now _ c.requires.up c.requires.none (λ h. c.is_up.ensures.images h c.requires.up))
 
 pub lines-requires-clause-contexts : goal.lines-requires-clause-contexts
 lines-requires-clause-contexts g c = subst (λ (r : RunState). AreOpen r.contexts []) (sym c.in_ok-run.ensures) open_none
@@ -24,49 +39,81 @@ lines-requires-clause-contexts g c = subst (λ (r : RunState). AreOpen r.context
 pub lines-requires-clause-below : goal.lines-requires-clause-below
 lines-requires-clause-below g c = subst (λ (r : RunState). AreBelow 1 r.worlds) (sym c.in_ok-run.ensures) (λ t. refl)
 
+pub lines-requires-clause-script : goal.lines-requires-clause-script
+lines-requires-clause-script g c = subst IsScript (sym (ap (λ (r : RunState). r.script) c.in_ok-run.ensures)) c.requires.script
+
 pub returns-clause-log : goal.returns-clause-log
 returns-clause-log g c = goes_then g.D.Disk.faults g.D.Disk.honest g.D.Disk.image _ _ _ c.lines.ensures.log c.settle_all.ensures.log
 
-pub returns-clause-quiet : goal.returns-clause-quiet
-returns-clause-quiet g c =
-    let start : IsQuiet c.in_ok-run.run' = quiet_at_start c.args.lines.now _ c.in_ok-run.run' c.in_ok-run.ensures in
-    let runs = runs_then g.D.Disk.faults _ _ _ _ _ _ c.lines.ensures.log.grows c.settle_all.ensures.log.grows c.in_ok-lines.ensures.runs c.in_ok-settle_all.ensures.runs in
-    stays_quiet g.D.Disk.faults _ _ c.in_ok-run.run' c.settle_all.new.self start runs _ c.into_trace.ensures.trace
+pub returns-clause-stays : goal.returns-clause-stays
+returns-clause-stays g c none =
+    let first = c.lines.ensures.stays (ap has_log_line (ap (λ (r : RunState). r.script) c.in_ok-run.ensures) ∙ none) in
+    stays_then g.D.Disk.faults c.args.log.now c.lines.new.log c.settle_all.new.log c.lines.ensures.log.grows c.settle_all.ensures.log.grows first c.settle_all.ensures.stays
 
 pub returns-clause-replayed : goal.returns-clause-replayed
-returns-clause-replayed g c q =
+returns-clause-replayed g c =
+    let s = c.args.lines.now in
+    let first : c.in_ok-run.run'.script ≡ s = ap (λ (r : RunState). r.script) c.in_ok-run.ensures in
     let lines = c.lines.new.self.trace in
-    let quiet : IsQuiet c.settle_all.new.self = subst (λ (T : List Placed). is_log_quiet (past_of T) ≡ true) c.into_trace.ensures.trace q in
-    let first : c.in_ok-run.run'.script ≡ c.args.lines.now = ap (λ (r : RunState). r.script) c.in_ok-run.ensures in
-    let ran : LinesRan c.args.lines.now (past_of c.args.lines.now) (past_of lines) =
-    subst (λ (s : List Line). LinesRan s (past_of s) (past_of lines)) first (c.in_ok-lines.ensures.ran (c.in_ok-settle_all.ensures.runs.back quiet)) in
-    let below : IsSettledBelow c.args.lines.now (past_of lines) 257 (past_of c.settle_all.new.self.trace) =
-    subst (λ (s : List Line). IsSettledBelow s (past_of lines) 257 (past_of c.settle_all.new.self.trace)) (c.in_ok-lines.ensures.runs.script ∙ first)
-    (c.in_ok-settle_all.ensures.settled quiet (past_of lines) (settled-none _ (past_of lines))) in
-    subst (λ (T : List Placed). IsReplayed c.args.lines.now (past_of T)) (sym c.into_trace.ensures.trace) (is_replayed c.args.lines.now 257 lines c.settle_all.new.self.trace ran below)
+    let end = c.settle_all.new.self.trace in
+    let ran : LinesRan s (past_of s) (past_of lines) = subst (λ (r : List Line). LinesRan r (past_of r) (past_of lines)) first c.in_ok-lines.ensures.ran in
+    let rounds : IsRoundAt s (past_of lines) 1 (past_of end) =
+    subst (λ (r : List Line). IsRoundAt r (past_of lines) 1 (past_of end)) (c.lines.ensures.script ∙ first) (c.in_ok-settle_all.ensures.turns (past_of lines) (turn-first c.lines.new.self.script (past_of lines))) in
+    subst (λ (T : List Placed). IsReplayed s (past_of T)) (sym c.into_trace.ensures.trace) (is_replayed s 1 lines end ran rounds)
 
 pub returns-clause-settled : goal.returns-clause-settled
-returns-clause-settled g c q t =
-    let lines = c.lines.new.self.trace in
-    let quiet : IsQuiet c.settle_all.new.self = subst (λ (T : List Placed). is_log_quiet (past_of T) ≡ true) c.into_trace.ensures.trace q in
-    let first : c.in_ok-run.run'.script ≡ c.args.lines.now = ap (λ (r : RunState). r.script) c.in_ok-run.ensures in
-    let below : IsSettledBelow c.args.lines.now (past_of lines) 257 (past_of c.settle_all.new.self.trace) =
-    subst (λ (s : List Line). IsSettledBelow s (past_of lines) 257 (past_of c.settle_all.new.self.trace)) (c.in_ok-lines.ensures.runs.script ∙ first)
-    (c.in_ok-settle_all.ensures.settled quiet (past_of lines) (settled-none _ (past_of lines))) in
-    subst (λ (T : List Placed). Settled c.args.lines.now (history t.value (past_of T))) (sym c.into_trace.ensures.trace) (below.below t (omega (arith, t.in_range.1)))
+returns-clause-settled g c t =
+    let s = c.args.lines.now in
+    let first : c.in_ok-run.run'.script ≡ s = ap (λ (r : RunState). r.script) c.in_ok-run.ensures in
+    let below : AreSettledBelow s 257 (past_of c.settle_all.new.self.trace) =
+    subst (λ (r : List Line). AreSettledBelow r 257 (past_of c.settle_all.new.self.trace)) (c.lines.ensures.script ∙ first) c.in_ok-settle_all.ensures.settled in
+    subst (λ (T : List Placed). Settled s (history t.value (past_of T))) (sym c.into_trace.ensures.trace) (below t (omega (arith, t.in_range.1)))
 
-pub returns-clause-calm : goal.returns-clause-calm
-returns-clause-calm g c q t =
-    let quiet : IsQuiet c.settle_all.new.self = subst (λ (T : List Placed). is_log_quiet (past_of T) ≡ true) c.into_trace.ensures.trace q in
-    let first : c.in_ok-run.run'.script ≡ c.args.lines.now = ap (λ (r : RunState). r.script) c.in_ok-run.ensures in
-    let same : c.settle_all.new.self.script ≡ c.args.lines.now = c.in_ok-settle_all.ensures.runs.script ∙ c.in_ok-lines.ensures.runs.script ∙ first in
-    let calm = calm_history g.D.Disk.honest _ c.settle_all.new.self quiet c.in_ok-settle_all.ensures.holds t in (
-      subst (λ (T : List Placed). IsToPlan c.args.lines.now (history t.value (past_of T))) (sym c.into_trace.ensures.trace)
-          (subst (λ (s : List Line). IsToPlan s (history t.value (past_of c.settle_all.new.self.trace))) same calm.0),
-      subst (λ (T : List Placed). has is_of_stop (history t.value (past_of T)) ≡ false) (sym c.into_trace.ensures.trace) calm.1,
-    )
+pub returns-clause-planned : goal.returns-clause-planned
+returns-clause-planned g c t =
+    let s = c.args.lines.now in
+    let first : c.in_ok-run.run'.script ≡ s = ap (λ (r : RunState). r.script) c.in_ok-run.ensures in
+    let tied = c.in_ok-settle_all.ensures.holds.tied t in
+    subst (λ (T : List Placed). IsToPlan s (history t.value (past_of T))) (sym c.into_trace.ensures.trace)
+    (subst (λ (r : List Line). IsToPlan r (history t.value (past_of c.settle_all.new.self.trace))) (c.settle_all.ensures.script ∙ (c.lines.ensures.script ∙ first))
+    (subst (λ (h : List Entry). IsToPlan c.settle_all.new.self.script h) tied.past tied.planned))
 
-pub returns-clause-recorded : goal.returns-clause-recorded
-returns-clause-recorded g c h q =
-    are_recorded g.D.Disk.faults g.D.Disk.honest g.D.Disk.image c.args.log.now c.settle_all.new.log c.settle_all.new.self _ c.into_trace.ensures.trace c.into_trace.ensures.numbered h q c.in_ok-settle_all.ensures.holds
-    (goes_then g.D.Disk.faults g.D.Disk.honest g.D.Disk.image c.args.log.now c.lines.new.log c.settle_all.new.log c.lines.ensures.log c.settle_all.ensures.log)
+pub returns-clause-counted : goal.returns-clause-counted
+returns-clause-counted g c =
+    let log = c.args.log.now in
+    let told = told_first g.D.Disk.faults g.D.Disk.honest g.D.Disk.image log c.args.lines.now _ c.in_ok-run.run' c.in_ok-run.ensures c.requires.unarmed (λ k. c.is_up.ensures.images k c.requires.up) in
+    let end = c.in_ok-settle_all.ensures.tells log (c.in_ok-lines.ensures.tells log told) in
+    subst (λ (T : List Placed). IsCounted (g.D.Disk.faults log.disk) (g.D.Disk.faults c.settle_all.new.log.disk) c.settle_all.new.log.armed (past_of T)) (sym c.into_trace.ensures.trace) end.counted
+
+pub returns-clause-opens : goal.returns-clause-opens
+returns-clause-opens g c h empty =
+    let log = c.args.log.now in
+    let told = told_first g.D.Disk.faults g.D.Disk.honest g.D.Disk.image log c.args.lines.now _ c.in_ok-run.run' c.in_ok-run.ensures c.requires.unarmed (λ k. c.is_up.ensures.images k c.requires.up) in
+    let end = c.in_ok-settle_all.ensures.tells log (c.in_ok-lines.ensures.tells log told) in
+    ap (λ (T : List Placed). open_right [] (past_of T)) c.into_trace.ensures.trace ∙ end.opens h empty
+
+pub returns-clause-unlike : goal.returns-clause-unlike
+returns-clause-unlike g c h =
+    let log = c.args.log.now in
+    let told = told_first g.D.Disk.faults g.D.Disk.honest g.D.Disk.image log c.args.lines.now _ c.in_ok-run.run' c.in_ok-run.ensures c.requires.unarmed (λ k. c.is_up.ensures.images k c.requires.up) in
+    let end = c.in_ok-settle_all.ensures.tells log (c.in_ok-lines.ensures.tells log told) in
+    ap (λ (T : List Placed). has is_no_log_answer (at_log (past_of T))) c.into_trace.ensures.trace ∙ end.unlike h
+
+pub returns-clause-tied : goal.returns-clause-tied
+returns-clause-tied g c h t =
+    let end = c.in_ok-settle_all.ensures.holds in
+    ap (λ (T : List Placed). tied (history t.value (past_of T))) c.into_trace.ensures.trace ∙ (ap tied (sym (end.tied t).past) ∙ end.sound h t)
+
+pub returns-clause-up : goal.returns-clause-up
+returns-clause-up g c = c.in_ok-settle_all.ensures.holds.up ∙ ap (λ (T : List Placed). is_log_up (past_of T)) (sym c.into_trace.ensures.trace)
+
+pub returns-clause-ends : goal.returns-clause-ends
+returns-clause-ends g c h =
+    let image = g.D.Disk.image in
+    let log = c.args.log.now in
+    let last = c.settle_all.new.log in
+    let told = told_first g.D.Disk.faults g.D.Disk.honest image log c.args.lines.now _ c.in_ok-run.run' c.in_ok-run.ensures c.requires.unarmed (λ k. c.is_up.ensures.images k c.requires.up) in
+    let end = c.in_ok-settle_all.ensures.tells log (c.in_ok-lines.ensures.tells log told) in
+    let went = goes_then g.D.Disk.faults g.D.Disk.honest image log c.lines.new.log last c.lines.ensures.log c.settle_all.ensures.log in
+    ends_as image log last c.settle_all.new.self c.into_trace.result c.into_trace.ensures.trace c.into_trace.ensures.numbered
+    (subst (λ b. Holds b image last c.settle_all.new.self) h c.in_ok-settle_all.ensures.holds) (end.foreign h) (went.logs h (λ bytes among. (_, c.is_up.ensures.images h c.requires.up bytes among))) (c.is_up-2.ensures.images h)

@@ -9,7 +9,6 @@ use Rattle.dtx_model.specs.Words.{past_of}
 use Rattle.script_runner.specs.RunState.{RunState}
 use Rattle.script_runner.specs.Scoped.{rollbacks, rolled_at}
 use Rattle.script_runner.proofs.Entering.{all_below, all_below_next}
-use Rattle.script_runner.proofs.Going.{runs_same, runs_then}
 use Rattle.script_runner.proofs.Openings.{rolled_here, rolled_more}
 use Rattle.script_runner.proofs.RollingBack.{IsAt, at_place, rolled_there, still_below}
 use Rattle.script_runner.proofs.replay.Run.roll_back.Given.{Over}
@@ -19,11 +18,12 @@ use Rattle.script_runner.proofs.replay.Run.roll_back.Goals as goal
 pub loop-i-init : goal.loop-i-init
 loop-i-init g c = record {
   contexts = refl;
-  runs = runs_same g.D.Disk.faults c.args.log.now c.args.self.now;
+  script = refl;
   holds = c.requires.holds;
+  tells = λ start k. k;
   entered = all_below_next c.args.n c.args.self.now.worlds c.requires.below;
   still = λ j u less e. c.requires.below u;
-  done = λ quiet. refl;
+  done = refl;
 }
 
 -- the transaction that is read at the place that the loop has come to
@@ -43,7 +43,7 @@ pub call-requires-clause-given : goal.call-requires-clause-given
 call-requires-clause-given g c =
     let t = c.index-rolled-i.result in
     let at = here g (goal.at.call-requires-clause-given g c).After-rolled t c.index-rolled-i.is in
-    subst (λ (s : List Line). IsCallOf s t.value c.args.n c.args.actor (Rollback t)) (sym c.loop-i.invariant.runs.script)
+    subst (λ (s : List Line). IsCallOf s t.value c.args.n c.args.actor (Rollback t)) (sym c.loop-i.invariant.script)
     (c.requires.given t (Rollback t) c.loop-i.i (rolled_there (rolled_at c.args.actor c.args.self.now.contexts) c.loop-i.i t at.slot))
 
 pub call-requires-clause-below : goal.call-requires-clause-below
@@ -60,15 +60,16 @@ loop-i-preserved g c =
     let at = here g (goal.at.loop-i-preserved g c).After-rolled t c.index-rolled-i.is in
     let was = c.loop-i.invariant in
     let did = c.in_ok-call.ensures in
-    let log = c.args.log.now in record {
+    record {
       contexts = c.call.ensures.contexts ∙ was.contexts;
-      runs = runs_then g.D.Disk.faults log log log c.args.self.now c.loop-i.self c.call.new.self (omega arith) (omega arith) was.runs did.runs;
+      script = c.call.ensures.script ∙ was.script;
       holds = did.holds;
+      tells = λ start k. did.tells start (was.tells start k);
       entered = all_below (c.args.n + 1) t c.loop-i.self.worlds c.call.new.self.worlds c.call.ensures.others did.entered was.entered;
       still = still_below c.args.n i ts t c.loop-i.self.worlds c.call.new.self.worlds c.requires.once at.slot c.call.ensures.others was.still;
-      done = λ quiet.
-          rolled_more s c.args.n c.args.actor ts i t (past_of c.args.self.now.trace) (past_of c.loop-i.self.trace) (past_of c.call.new.self.trace) at.less at.is (was.done (did.runs.back quiet))
-          (subst (λ (r : List Line). past_of c.call.new.self.trace ≡ after_turn r t (Calls c.args.n c.args.actor (Rollback t) 0) (past_of c.loop-i.self.trace)) was.runs.script (did.done quiet));
+      done =
+          rolled_more s c.args.n c.args.actor ts i t (past_of c.args.self.now.trace) (past_of c.loop-i.self.trace) (past_of c.call.new.self.trace) at.less at.is was.done
+          (subst (λ (r : List Line). past_of c.call.new.self.trace ≡ after_turn r t (Calls c.args.n c.args.actor (Rollback t) 0) (past_of c.loop-i.self.trace)) was.script did.done);
     }
 
 pub returns-clause-done : goal.returns-clause-done
@@ -78,6 +79,5 @@ returns-clause-done g c =
     rolled_here c.self.inside.contexts.items c.args.self.now.contexts c.args.actor c.index-place.result c.index.result.now c.rolled-i-end.result.now c.self.invariant.1 c.index-place.ensures.place
     c.index.ensures c.rolled-i-end.ensures (ap (λ (r : RunState). r.contexts) c.self.view_is) in
     let all : length ts ≤ c.loop-i.i = subst (λ (us : List TxNo). length us ≤ c.loop-i.i) first c.loop-i-test.false in
-    λ quiet.
     subst (λ (us : List TxNo). past_of c.loop-i.self.trace ≡ after_calls c.args.self.now.script c.args.n c.args.actor (rollbacks us) (past_of c.args.self.now.trace)) (take_all c.loop-i.i ts all)
-    (c.loop-i.invariant.done quiet)
+    c.loop-i.invariant.done

@@ -1,7 +1,8 @@
 use Rattle.std.proofs.Common.{◌≡◌, ◌+◌, take}
 use Rattle.dtx_model.specs.Replay.{after_calls}
 use Rattle.dtx_model.specs.Words.{past_of}
-use Rattle.script_runner.specs.RunState.{AreBelow, Holds, IsQuiet, Runs}
+use Rattle.coordinator_log.specs.State.{LogState}
+use Rattle.script_runner.specs.RunState.{AreBelow, Holds, Tells}
 use Rattle.script_runner.specs.Scoped.{rollbacks, rolled_at}
 use Rattle.script_runner.proofs.RollingBack.{AreStillBelow}
 use Rattle.script_runner.proofs.replay.Run.roll_back.Given as goal
@@ -9,9 +10,10 @@ use Rattle.script_runner.proofs.replay.Run.roll_back.Given as goal
 abbrev pub invariant-loop-i : goal.invariant-loop-i
 invariant-loop-i g l = record {
   contexts : l.self.contexts ≡ l.initial.self.contexts;
-  runs : Runs g.D.Disk.faults l.log l.log l.initial.self l.self;
-  holds : Holds g.D.Disk.honest l.log l.self;
+  script : l.self.script ≡ l.initial.self.script;
+  holds : Holds g.D.Disk.honest g.D.Disk.image l.log l.self;
+  tells : (start : LogState g.row.D.Denot) → Tells g.D.Disk.faults g.D.Disk.honest g.D.Disk.image start l.log (past_of l.initial.self.trace) → Tells g.D.Disk.faults g.D.Disk.honest g.D.Disk.image start l.log (past_of l.self.trace);
   entered : AreBelow (l.n + 1) l.self.worlds;
   still : AreStillBelow l.n l.i (rolled_at l.actor l.initial.self.contexts) l.self.worlds;
-  done : IsQuiet l.self → past_of l.self.trace ≡ after_calls l.initial.self.script l.n l.actor (rollbacks (take l.i (rolled_at l.actor l.initial.self.contexts))) (past_of l.initial.self.trace);
+  done : past_of l.self.trace ≡ after_calls l.initial.self.script l.n l.actor (rollbacks (take l.i (rolled_at l.actor l.initial.self.contexts))) (past_of l.initial.self.trace);
 }

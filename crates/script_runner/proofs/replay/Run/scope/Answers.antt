@@ -1,4 +1,4 @@
-use Rattle.std.proofs.Common.{◌≡◌, ◌∷◌, ◌+◌, [], List, arith, ap, refl, sym, subst, ◌∙◌}
+use Rattle.std.proofs.Common.{◌≡◌, ◌∷◌, ◌+◌, [], List, ap, refl, sym, subst, ◌∙◌}
 use Rattle.std.proofs.lemmas.Result.{on_ok_weaker}
 use Rattle.dtx_values.specs.declared.script.Line.{Line}
 use Rattle.dtx_model.specs.Caused.{IsCallOf}
@@ -6,36 +6,37 @@ use Rattle.dtx_model.specs.Contexts.{scope_block, scope_calls}
 use Rattle.dtx_model.specs.Replay.{after_calls, after_scope}
 use Rattle.dtx_model.specs.Traces.{Placed}
 use Rattle.dtx_model.specs.Words.{past_of}
+use Rattle.coordinator_log.specs.State.{LogState}
 use Rattle.scope_context.specs.Standing.{Standing}
 use Rattle.tx_world.specs.State.{TxState}
 use Rattle.script_runner.specs.declared.contexts.Gives.{Gives}
 use Rattle.script_runner.specs.declared.contexts.Gives.TheVariants.{Call as CallGiven, Nothing, Rollbacks}
-use Rattle.script_runner.specs.RunState.{AreBelow, Holds, Runs, state_of}
+use Rattle.script_runner.specs.RunState.{AreBelow, Holds, Tells, state_of}
 use Rattle.script_runner.specs.Scoped.{AreOpen, calls_given, rollbacks, rolled_at, scopes_at}
-use Rattle.script_runner.proofs.AtContext.{noted_holds, noted_runs, scope_did, scope_gives}
+use Rattle.script_runner.proofs.AtContext.{noted_holds, noted_tells, scope_did, scope_gives}
 use Rattle.script_runner.proofs.Entering.{all_below, all_below_next}
-use Rattle.script_runner.proofs.Going.{runs_then}
 use Rattle.script_runner.proofs.RollingBack.{rolled_once}
-use Rattle.script_runner.proofs.Scoping.{given_plain, scope_call_answers, scope_call_enters}
+use Rattle.script_runner.proofs.Scoping.{given_plain, scope_call_answers}
 use Rattle.script_runner.proofs.replay.Run.scope.Given.{Over}
 use Rattle.script_runner.proofs.replay.Run.scope.Goals.{In_ok-at_context}
 use Rattle.script_runner.proofs.replay.Run.scope.Goals as goal
 
 -- what was done at the context holds of the run,
-held : (g : Over) (c : In_ok-at_context g) → Holds g.D.Disk.honest c.args.log.now c.at_context.new.self
+held : (g : Over) (c : In_ok-at_context g) → Holds g.D.Disk.honest g.D.Disk.image c.args.log.now c.at_context.new.self
 held g c =
     let l = c.args.l.now in
     let es = scope_block c.args.n l.actor l.body (scopes_at l.actor c.args.self.now.contexts) in
-    noted_holds g.D.Disk.honest c.args.log.now l.actor es c.args.self.now c.at_context.new.self
+    noted_holds g.D.Disk.honest g.D.Disk.image c.args.log.now l.actor es c.args.self.now c.at_context.new.self
     (record { script = c.at_context.ensures.script; worlds = c.at_context.ensures.worlds; block = c.in_ok-at_context.ensures.block }) c.requires.holds
 
--- and is a part of it;
-ran : (g : Over) (c : In_ok-at_context g) → Runs g.D.Disk.faults c.args.log.now c.args.log.now c.args.self.now c.at_context.new.self
-ran g c =
+-- and the trace tells the same of the log;
+told : (g : Over) (c : In_ok-at_context g) (start : LogState g.row.D.Denot) → Tells g.D.Disk.faults g.D.Disk.honest g.D.Disk.image start c.args.log.now (past_of c.args.self.now.trace)
+    → Tells g.D.Disk.faults g.D.Disk.honest g.D.Disk.image start c.args.log.now (past_of c.at_context.new.self.trace)
+told g c start k =
     let l = c.args.l.now in
     let es = scope_block c.args.n l.actor l.body (scopes_at l.actor c.args.self.now.contexts) in
-    noted_runs g.D.Disk.faults c.args.log.now l.actor es c.args.self.now c.at_context.new.self
-    (record { script = c.at_context.ensures.script; worlds = c.at_context.ensures.worlds; block = c.in_ok-at_context.ensures.block })
+    noted_tells g.D.Disk.faults g.D.Disk.honest g.D.Disk.image start c.args.log.now l.actor es c.args.self.now c.at_context.new.self
+    (record { script = c.at_context.ensures.script; worlds = c.at_context.ensures.worlds; block = c.in_ok-at_context.ensures.block }) k
 
 -- it entered no call,
 below : (g : Over) (c : In_ok-at_context g) → AreBelow c.args.n c.at_context.new.self.worlds
@@ -82,12 +83,6 @@ call-requires-clause-answers g c =
     let one = given g (goal.at.call-requires-clause-answers g c).In_ok-at_context (CallGiven c.in-Call.t c.in-Call.c) c.in-Call.is in
     scope_call_answers c.in-Call.t.value (state_of c.in-Call.t c.at_context.new.self.worlds).world c.in-Call.c (given_plain l.body (scopes_at l.actor c.args.self.now.contexts) c.in-Call.t c.in-Call.c one)
 
-pub call-requires-clause-entered : goal.call-requires-clause-entered
-call-requires-clause-entered g c =
-    let l = c.args.l.now in
-    let one = given g (goal.at.call-requires-clause-entered g c).In_ok-at_context (CallGiven c.in-Call.t c.in-Call.c) c.in-Call.is in
-    scope_call_enters c.in-Call.c (given_plain l.body (scopes_at l.actor c.args.self.now.contexts) c.in-Call.t c.in-Call.c one)
-
 pub roll_back-requires-clause-holds : goal.roll_back-requires-clause-holds
 roll_back-requires-clause-holds g c = held g (goal.at.roll_back-requires-clause-holds g c).In_ok-at_context
 
@@ -109,8 +104,8 @@ roll_back-requires-clause-once g c =
     rolled_once l.body (scopes_at l.actor c.args.self.now.contexts) (rolled_at l.actor c.at_context.new.self.contexts)
     (given g (goal.at.roll_back-requires-clause-once g c).In_ok-at_context Rollbacks c.in-Rollbacks.is)
 
-pub returns-in-Nothing-clause-runs : goal.returns-in-Nothing-clause-runs
-returns-in-Nothing-clause-runs g c = ran g (goal.at.returns-in-Nothing-clause-runs g c).In_ok-at_context
+pub returns-in-Nothing-clause-tells : goal.returns-in-Nothing-clause-tells
+returns-in-Nothing-clause-tells g c = told g (goal.at.returns-in-Nothing-clause-tells g c).In_ok-at_context
 
 pub returns-in-Nothing-clause-holds : goal.returns-in-Nothing-clause-holds
 returns-in-Nothing-clause-holds g c = held g (goal.at.returns-in-Nothing-clause-holds g c).In_ok-at_context
@@ -119,14 +114,12 @@ pub returns-in-Nothing-clause-entered : goal.returns-in-Nothing-clause-entered
 returns-in-Nothing-clause-entered g c = all_below_next c.args.n c.at_context.new.self.worlds (below g (goal.at.returns-in-Nothing-clause-entered g c).In_ok-at_context)
 
 pub returns-in-Nothing-clause-done : goal.returns-in-Nothing-clause-done
-returns-in-Nothing-clause-done g c = λ quiet. did g (goal.at.returns-in-Nothing-clause-done g c).In_ok-at_context Nothing (past_of c.at_context.new.self.trace) c.in-Nothing.is refl
+returns-in-Nothing-clause-done g c = did g (goal.at.returns-in-Nothing-clause-done g c).In_ok-at_context Nothing (past_of c.at_context.new.self.trace) c.in-Nothing.is refl
 
-pub returns-in-Call-clause-runs : goal.returns-in-Call-clause-runs
-returns-in-Call-clause-runs g c =
-    let b = (goal.at.returns-in-Call-clause-runs g c).In_ok-at_context in
-    let log = c.args.log.now in
-    on_ok_weaker c.call.result
-    (λ runs. runs_then g.D.Disk.faults log log log c.args.self.now c.at_context.new.self c.call.new.self (omega arith) (omega arith) (ran g b) runs) c.call.ensures.runs
+pub returns-in-Call-clause-tells : goal.returns-in-Call-clause-tells
+returns-in-Call-clause-tells g c =
+    let b = (goal.at.returns-in-Call-clause-tells g c).In_ok-at_context in
+    on_ok_weaker c.call.result (λ tells start k. tells start (told g b start k)) c.call.ensures.tells
 
 pub returns-in-Call-clause-entered : goal.returns-in-Call-clause-entered
 returns-in-Call-clause-entered g c =
@@ -137,23 +130,21 @@ returns-in-Call-clause-entered g c =
 pub returns-in-Call-clause-done : goal.returns-in-Call-clause-done
 returns-in-Call-clause-done g c =
     let b = (goal.at.returns-in-Call-clause-done g c).In_ok-at_context in
-    on_ok_weaker c.call.result (λ ran quiet. did g b (CallGiven c.in-Call.t c.in-Call.c) (past_of c.call.new.self.trace) c.in-Call.is (ran quiet)) c.call.ensures.done
+    on_ok_weaker c.call.result (λ ran. did g b (CallGiven c.in-Call.t c.in-Call.c) (past_of c.call.new.self.trace) c.in-Call.is ran) c.call.ensures.done
 
 pub returns-in-Call-clause-scopes : goal.returns-in-Call-clause-scopes
 returns-in-Call-clause-scopes g c =
     on_ok_weaker c.call.result (λ _. kept g (goal.at.returns-in-Call-clause-scopes g c).In_ok-at_context c.call.new.self.contexts c.call.ensures.contexts) c.call.ensures.holds
 
-pub returns-in-Rollbacks-clause-runs : goal.returns-in-Rollbacks-clause-runs
-returns-in-Rollbacks-clause-runs g c =
-    let b = (goal.at.returns-in-Rollbacks-clause-runs g c).In_ok-at_context in
-    let log = c.args.log.now in
-    on_ok_weaker c.roll_back.result
-    (λ runs. runs_then g.D.Disk.faults log log log c.args.self.now c.at_context.new.self c.roll_back.new.self (omega arith) (omega arith) (ran g b) runs) c.roll_back.ensures.runs
+pub returns-in-Rollbacks-clause-tells : goal.returns-in-Rollbacks-clause-tells
+returns-in-Rollbacks-clause-tells g c =
+    let b = (goal.at.returns-in-Rollbacks-clause-tells g c).In_ok-at_context in
+    on_ok_weaker c.roll_back.result (λ tells start k. tells start (told g b start k)) c.roll_back.ensures.tells
 
 pub returns-in-Rollbacks-clause-done : goal.returns-in-Rollbacks-clause-done
 returns-in-Rollbacks-clause-done g c =
     let b = (goal.at.returns-in-Rollbacks-clause-done g c).In_ok-at_context in
-    on_ok_weaker c.roll_back.result (λ ran quiet. did g b Rollbacks (past_of c.roll_back.new.self.trace) c.in-Rollbacks.is (ran quiet)) c.roll_back.ensures.done
+    on_ok_weaker c.roll_back.result (λ ran. did g b Rollbacks (past_of c.roll_back.new.self.trace) c.in-Rollbacks.is ran) c.roll_back.ensures.done
 
 pub returns-in-Rollbacks-clause-scopes : goal.returns-in-Rollbacks-clause-scopes
 returns-in-Rollbacks-clause-scopes g c =

@@ -169,8 +169,8 @@ stop_all-requires g c =
     let b = (goal.at.stop_all-requires g c).After-is_own_run-2 in
     let a = about g b in
     let mid : List Placed = c.note.new.trace.items in
-    let up : IsTrue a.from.is_up = sym c.is_up-was_up.ensures ∙ c.if-was_up.true in
-    let down : IsFalse a.to.is_up = sym c.is_up.ensures ∙ c.if-not-is_up.true in
+    let up : IsTrue a.from.is_up = sym c.is_up-was_up.ensures.up ∙ c.if-was_up.true in
+    let down : IsFalse a.to.is_up = sym c.is_up.ensures.up ∙ c.if-not-is_up.true in
     let noted : (es : List Entry) → a.y.world.past ≡ onto (was a).world.past es → mid ≡ (a.run.trace ++ (Log, Stopped) ∷ []) ++ placed a.t es =
     λ es wrote.
     c.in_ok-note.ensures (was a).world.past es (long g b) wrote

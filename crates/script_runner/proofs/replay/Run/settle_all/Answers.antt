@@ -1,0 +1,44 @@
+use Rattle.std.proofs.Common.{◌≡◌, true, false, List, subst, sym, ◌∙◌}
+use Rattle.std.proofs.lemmas.Result.{on_ok_weaker}
+use Rattle.dtx_values.specs.declared.script.Line.{Line}
+use Rattle.dtx_model.specs.Words.{past_of}
+use Rattle.script_runner.specs.RunState.{AreSettledBelow, IsRoundAt}
+use Rattle.script_runner.proofs.Going.{down_still, goes_then, stays_then}
+use Rattle.script_runner.proofs.replay.Run.settle_all.Goals as goal
+
+pub returns-then-not-was_up-clause-settled : goal.returns-then-not-was_up-clause-settled
+returns-then-not-was_up-clause-settled g c =
+    let down : c.args.log.now.is_up ≡ false = sym c.is_up-was_up.ensures.up ∙ c.if-not-was_up.true in
+    c.in_ok-settle_round.ensures.settled (down_still c.args.log.now.is_up c.settle_round.new.log.is_up c.settle_round.ensures.stays.still down)
+
+pub returns-then-is_up-clause-settled : goal.returns-then-is_up-clause-settled
+returns-then-is_up-clause-settled g c =
+    let was : c.args.log.now.is_up ≡ true = sym c.is_up-was_up.ensures.up ∙ c.if-not-was_up.false in
+    let here : c.settle_round.new.log.is_up ≡ true = sym c.is_up.ensures.up ∙ c.if-is_up.true in
+    c.in_ok-settle_round.ensures.settled (here ∙ sym was)
+
+pub returns-clause-log : goal.returns-clause-log
+returns-clause-log g c = goes_then g.D.Disk.faults g.D.Disk.honest g.D.Disk.image c.args.log.now c.settle_round.new.log c.settle_round-2.new.log c.settle_round.ensures.log c.settle_round-2.ensures.log
+
+pub returns-clause-stays : goal.returns-clause-stays
+returns-clause-stays g c =
+    stays_then g.D.Disk.faults c.args.log.now c.settle_round.new.log c.settle_round-2.new.log c.settle_round.ensures.log.grows c.settle_round-2.ensures.log.grows c.settle_round.ensures.stays c.settle_round-2.ensures.stays
+
+pub returns-clause-tells : goal.returns-clause-tells
+returns-clause-tells g c = on_ok_weaker c.settle_round-2.result (λ tells start k. tells start (c.in_ok-settle_round.ensures.tells start k)) c.settle_round-2.ensures.tells
+
+pub returns-clause-turns : goal.returns-clause-turns
+returns-clause-turns g c =
+    let same = c.settle_round.ensures.script in
+    on_ok_weaker c.settle_round-2.result
+    (λ turns start b. subst (λ (r : List Line). IsRoundAt r start 1 (past_of c.settle_round-2.new.self.trace)) same
+    (turns start (subst (λ (r : List Line). IsRoundAt r start 1 (past_of c.settle_round.new.self.trace)) (sym same) (c.in_ok-settle_round.ensures.turns start b))))
+    c.settle_round-2.ensures.turns
+
+pub returns-clause-settled : goal.returns-clause-settled
+returns-clause-settled g c =
+    let down : c.settle_round.new.log.is_up ≡ false = sym c.is_up.ensures.up ∙ c.if-is_up.false in
+    on_ok_weaker c.settle_round-2.result
+    (λ settled. subst (λ (r : List Line). AreSettledBelow r 257 (past_of c.settle_round-2.new.self.trace)) c.settle_round.ensures.script
+    (settled (down_still c.settle_round.new.log.is_up c.settle_round-2.new.log.is_up c.settle_round-2.ensures.stays.still down)))
+    c.settle_round-2.ensures.settled
