@@ -1,5 +1,5 @@
 -- From what the parts of the top call say to what it promises.
-use Rattle.std.proofs.Common.{◌≡◌, ℕ, Bool, true, ◌&&◌, IsTrue, map, get_or, Global, String, Vec, ◌<◌, ◌≤◌, ◌⊎◌, inl, inr, false, List, [], ◌∷◌, ◌++◌, length, take, drop, filter, Option, Some, None, ap, refl, sym, ◌∙◌, subst, arith}
+use Rattle.std.proofs.Common.{◌≡◌, ℕ, Bool, ◌&&◌, IsTrue, map, get_or, Global, String, Vec, ◌<◌, ◌≤◌, ◌⊎◌, inl, inr, false, List, [], ◌∷◌, ◌++◌, length, take, drop, filter, Option, Some, None, ap, refl, sym, ◌∙◌, subst, arith}
 use Rattle.std.proofs.Math.Bool.{and-true}
 use Rattle.std.proofs.Math.ListN.{drop_of_length-le}
 use Rattle.std.proofs.lemmas.List.{length-take, take_all}
@@ -14,7 +14,7 @@ use Rattle.dtx_values.specs.declared.script.Line.{Line}
 use Rattle.dtx_values.specs.declared.script.BadCause.{BadCause}
 use Rattle.dtx_model.specs.AtLog.{at_log, is_log_up}
 use Rattle.dtx_model.specs.Faults.{Bad}
-use Rattle.dtx_model.specs.Grammar.{IsScript, Reads}
+use Rattle.dtx_model.specs.Grammar.{Reads}
 use Rattle.dtx_model.specs.History.{HasOneOutcome, IsComplete}
 use Rattle.dtx_model.specs.Log.{CommitRecord, is_record_of, log_has}
 use Rattle.dtx_model.specs.Outcome.{is_empty}
@@ -63,6 +63,10 @@ text_of faults honest image s old new T (Err e) run tied outcome complete waited
 -- A log that had no record when a run began has none of a script's transactions.
 pub none_there : (rs : List CommitRecord) → rs ≡ [] → HasNone rs
 none_there rs none t = ap (λ (xs : List CommitRecord). filter (is_record_of (identifier_of t.value)) xs) none
+
+-- a log that was formatted is in its first life
+pub none_below : (n most : ℕ) → n ≡ 0 → n ≤ most
+none_below n most e = omega (arith, e)
 
 -- Each image of a log that was formatted is a log without a record, and no record is no transaction's.
 are_empty : (image : List ℕ → Type 0) → AllHold image [] → AreLogs image

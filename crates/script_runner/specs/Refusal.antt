@@ -1,5 +1,5 @@
 -- The text of a replay, and why bytes have none.
-use Rattle.std.specs.Prelude.{ℕ, ◌≡◌, Bool, ◌&&◌, List, IsTrue}
+use Rattle.std.specs.Prelude.{ℕ, ◌≡◌, Bool, false, ◌&&◌, List, IsTrue}
 use Rattle.dtx_values.specs.declared.script.Line.{Line}
 use Rattle.dtx_model.specs.Faults.{Bad}
 use Rattle.dtx_model.specs.History.{HasOneOutcome, IsComplete}

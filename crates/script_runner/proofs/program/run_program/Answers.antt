@@ -3,7 +3,7 @@ use Rattle.dtx_model.specs.Faults.{Bad}
 use Rattle.script_runner.specs.Refusal.{HasNoReplay}
 use Rattle.script_runner.specs.declared.exit.Exit.TheVariants.{BadScript}
 use Rattle.script_runner.specs.declared.program.Refusal.{Refusal}
-use Rattle.script_runner.proofs.Programs.{are_logs, are_own_logs, has_text, is_cut_short, is_log, is_written, left-none, never_bad, no_log_line, none_there}
+use Rattle.script_runner.proofs.Programs.{are_logs, are_own_logs, has_text, is_cut_short, is_log, is_written, left-none, never_bad, no_log_line, none_below, none_there}
 use Rattle.script_runner.proofs.program.run_program.Goals as goal
 
 pub returns-in-Err-Bad-clause-bad_refused : goal.returns-in-Err-Bad-clause-bad_refused
@@ -58,6 +58,10 @@ returns-in-Err-Fault-default-clause-bad_refused g c n cause words b told bad =
 pub replayed-replayed-requires-clause-none : goal.replayed-replayed-requires-clause-none
 replayed-replayed-requires-clause-none g c honest =
     none_there _ c.in-Ok-formatted.ensures.empty
+
+pub replayed-replayed-requires-clause-life : goal.replayed-replayed-requires-clause-life
+replayed-replayed-requires-clause-life g c =
+    none_below _ _ c.in-Ok-formatted.ensures.life
 
 pub returns-in_default-clause-given_up : goal.returns-in_default-clause-given_up
 returns-in_default-clause-given_up g c honest k =
