@@ -1,5 +1,5 @@
 -- What is written at transactions by number, one after the other: where it is written at each that passes a test, it is put at those of the trace that pass, in their order.
-use Rattle.std.proofs.Common.{◌≡◌, ◌≢◌, ◌⊎◌, ◌≤◌, ◌<◌, ℕ, suc, ◌+◌, ◌==◌, nat_le, nat_lt, Bool, true, false, ◌&&◌, not, List, [], ◌∷◌, ◌++◌, map, filter, inl, inr, refl, ap, sym, subst, ◌∙◌, append-nil, arith, if◌then◌else◌}
+use Rattle.std.proofs.Common.{◌≡◌, ◌≢◌, ◌⊎◌, ◌≤◌, ◌<◌, ℕ, suc, ◌+◌, ◌==◌, nat_le, nat_lt, Bool, true, false, ◌&&◌, not, List, [], ◌∷◌, ◌++◌, filter, inl, inr, refl, ap, sym, subst, ◌∙◌, append-nil, arith, if◌then◌else◌}
 use Rattle.std.proofs.lemmas.Bool.{cases_Bool, cases_lt}
 use Rattle.std.proofs.lemmas.Bool.Decides.{Decides-eqb, Decides-ltb, eqb_tells, leb_tells}
 use Rattle.dtx_values.specs.declared.entry.Entry.{Entry}
@@ -8,7 +8,7 @@ use Rattle.dtx_values.specs.declared.trace.Place.TheVariants.{Context, Log, Tran
 use Rattle.dtx_values.specs.Table.{how_many, insert_by}
 use Rattle.dtx_model.specs.Words.{onto}
 use Rattle.dtx_model.specs.Traces.{Placed, placed}
-use Rattle.dtx_model.specs.AtLog.{one_if, transactions, tx_number, with_tx}
+use Rattle.dtx_model.specs.AtLog.{one_if, transactions, tx_number}
 use Rattle.dtx_model.specs.Replay.{put_at}
 use Rattle.dtx_model.proofs.SameNumbers.{same_transaction}
 use Rattle.outcome_law.proofs.PutAt.{is_tx}

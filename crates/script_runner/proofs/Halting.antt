@@ -1,7 +1,6 @@
 -- A stop and an opening of the log, as each transaction is told of it, by number: what becomes of each, and of the trace.
-use Rattle.std.proofs.Common.{◌≡◌, ◌≢◌, ◌⊎◌, ◌≤◌, ◌<◌, ℕ, ◌+◌, ◌-◌, nat_le, Bool, true, false, ◌&&◌, not, List, [], ◌∷◌, ◌++◌, length, get_or, set, is_some, inl, inr, refl, ap, sym, subst, ◌∙◌, arith, filter, Option, None, if◌then◌else◌, length-set}
-use Rattle.std.specs.Prelude.{IsTrue, IsFalse}
-use Rattle.std.proofs.lemmas.Bool.{cases_Bool, cases_lt}
+use Rattle.std.proofs.Common.{◌≡◌, ◌≢◌, ◌⊎◌, ◌≤◌, ◌<◌, ℕ, ◌+◌, ◌-◌, nat_le, Bool, true, false, ◌&&◌, not, List, [], ◌++◌, length, get_or, set, is_some, inl, inr, refl, ap, sym, subst, ◌∙◌, arith, filter, Option, if◌then◌else◌, length-set}
+use Rattle.std.proofs.lemmas.Bool.{cases_lt}
 use Rattle.std.proofs.lemmas.Bool.Decides.{leb_tells}
 use Rattle.dtx_values.specs.declared.entry.Entry.{Entry}
 use Rattle.dtx_values.specs.declared.entry.Entry.TheVariants.{Restarted, Stopped}
@@ -9,7 +8,6 @@ use Rattle.dtx_values.specs.declared.number.TxNo.{TxNo}
 use Rattle.dtx_values.specs.declared.script.Line.{Line}
 use Rattle.dtx_model.specs.Words.{each, has, onto}
 use Rattle.dtx_model.specs.Log.{CommitRecord, first_of}
-use Rattle.dtx_model.specs.Promotes.{identifier_of}
 use Rattle.dtx_values.specs.Table.{how_many}
 use Rattle.dtx_model.specs.AtLog.{hit, is_hit, is_known, known, one_if, transactions}
 use Rattle.dtx_model.specs.Caused.{is_begin_sent, plans_of}

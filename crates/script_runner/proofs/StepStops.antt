@@ -1,35 +1,32 @@
 -- A step of a run that stopped the log: its stop is noted, and then each other transaction is told of it, by number.
-use Rattle.std.proofs.Common.{◌≡◌, ◌≢◌, ◌⊎◌, ◌≤◌, ◌-◌, ◌<◌, ℕ, suc, ◌==◌, nat_le, Bool, true, false, ◌&&◌, not, List, [], ◌∷◌, ◌++◌, length, set, Option, None, filter, inl, inr, refl, ap, sym, subst, ◌∙◌, if◌then◌else◌}
+use Rattle.std.proofs.Common.{◌≡◌, ◌≢◌, ◌⊎◌, ◌<◌, ℕ, ◌==◌, nat_le, Bool, true, false, ◌&&◌, not, List, [], ◌∷◌, ◌++◌, None, inl, inr, refl, ap, sym, subst, ◌∙◌, if◌then◌else◌}
 use Rattle.std.specs.Prelude.{IsTrue, IsFalse}
 use Rattle.std.proofs.lemmas.Bool.Decides.{Decides-eqb, eqb_tells}
 use Rattle.dtx_values.specs.declared.entry.Entry.{Entry}
 use Rattle.dtx_values.specs.declared.entry.Entry.TheVariants.{Stopped}
 use Rattle.dtx_values.specs.declared.number.TxNo.{TxNo}
 use Rattle.dtx_values.specs.declared.script.Line.{Line}
-use Rattle.dtx_values.specs.declared.trace.Place.TheVariants.{Log, Transaction}
-use Rattle.dtx_values.specs.Table.{how_many}
-use Rattle.outside.specs.Faults.{Rose}
+use Rattle.dtx_values.specs.declared.trace.Place.TheVariants.{Log}
 use Rattle.dtx_model.specs.Words.{has, kth, latest, onto, past_of}
-use Rattle.dtx_model.specs.AtLog.{act_calls as calls_by_trace, at_log, hit, is_called, is_hit, is_known, is_log_up, one_if, transactions, unless_said, up_of}
+use Rattle.dtx_model.specs.AtLog.{act_calls as calls_by_trace, at_log, hit, is_hit, is_known, one_if, transactions, unless_said, up_of}
 use Rattle.dtx_model.specs.Coordinated.{coordinate, may_log}
 use Rattle.dtx_model.specs.Tied.{tied as is_tied_history}
 use Rattle.dtx_model.specs.Wires.{is_stopped}
 use Rattle.dtx_model.specs.World.{World, core}
 use Rattle.dtx_model.specs.Steps.{StoppedNow, Step, Coordinates, Stops, after, appended, block_at, freed}
-use Rattle.dtx_model.specs.Caused.{HasStepped, is_begin_sent}
+use Rattle.dtx_model.specs.Caused.{is_begin_sent}
 use Rattle.dtx_model.specs.Traces.{Placed, history, placed}
 use Rattle.dtx_model.specs.Replay.{after_stop, after_turn, at_the_log, others, put_at}
-use Rattle.dtx_model.proofs.Bools.{and_never, not_both}
+use Rattle.dtx_model.proofs.Bools.{not_both}
 use Rattle.dtx_model.proofs.Histories.{past_of-snoc}
 use Rattle.dtx_model.proofs.SameNumbers.{same_transaction}
-use Rattle.outcome_law.proofs.PutAt.{is_tx, log-put, many-hit, many-others}
+use Rattle.outcome_law.proofs.PutAt.{log-put, many-hit, many-others}
 use Rattle.coordinator_log.specs.State.{LogState}
 use Rattle.coordinator_log.specs.Stop.{stop_in}
 use Rattle.tx_world.specs.AtLog.{Answered, IsHad, act_calls, id_of}
-use Rattle.tx_world.specs.State.{TxState, is_hit_by, sends_begin, turned}
+use Rattle.tx_world.specs.State.{TxState, is_hit_by, turned}
 use Rattle.tx_world.specs.Stepping.{IsAnswered}
 use Rattle.world_laws.specs.Left.{steps_left}
-use Rattle.script_runner.specs.LogRun.{LogGoes}
 use Rattle.script_runner.specs.RunState.{Advances, FitsLog, GoesWith, HaveSameCalls, Holds, IsRecordKept, IsTied, RunState, Tells, halted, state_of}
 use Rattle.script_runner.proofs.ByNumber.{rises-filter, rises-transactions, same_rising}
 use Rattle.script_runner.proofs.Fitting.{fits_as, fits_turn, had_as, had_turn}
@@ -37,7 +34,7 @@ use Rattle.script_runner.proofs.Goes.{answered_down, stop_written, now_block}
 use Rattle.script_runner.proofs.Halting.{goes_halted, halted_as, halted_sound, halted_tied}
 use Rattle.script_runner.proofs.Noting.{history_here, history_there, trace_noted}
 use Rattle.script_runner.proofs.Numbered.{state_here}
-use Rattle.script_runner.proofs.Steps.{DidStep, IsStep, IsStepped, StepOf, did_step, each_set, goes_as, one_more, step_calls, step_log, step_stays, was, worlds_after, wrote}
+use Rattle.script_runner.proofs.Steps.{DidStep, IsStep, IsStepped, StepOf, did_step, each_set, one_more, step_calls, step_log, step_stays, was, worlds_after, wrote}
 use Rattle.script_runner.proofs.Telling.{tells_stopped}
 use Rattle.script_runner.proofs.Turns.{named_here, pending_here, written}
 use Rattle.script_runner.proofs.Tying.{tied_noted, tied_same}

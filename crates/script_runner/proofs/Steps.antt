@@ -1,6 +1,6 @@
 -- A step of a run: what the step of one transaction's world, once it is noted, makes of the run, where the log isn't stopped by it.
-use Rattle.std.proofs.Common.{◌≡◌, ◌≢◌, ◌⊎◌, ◌≤◌, ◌<◌, ◌-◌, ℕ, zero, suc, Bool, true, false, ◌&&◌, ◌||◌, not, List, [], ◌∷◌, ◌++◌, length, set, is_some, Option, None, inl, inr, refl, ap, sym, subst, ◌∙◌, if◌then◌else◌}
-use Rattle.std.specs.Prelude.{IsTrue, IsFalse}
+use Rattle.std.proofs.Common.{◌≡◌, ◌≢◌, ◌⊎◌, ◌≤◌, ◌<◌, ◌-◌, ℕ, zero, suc, Bool, true, false, ◌&&◌, ◌||◌, not, List, [], ◌∷◌, ◌++◌, length, set, None, inl, inr, refl, ap, sym, subst, ◌∙◌, if◌then◌else◌}
+use Rattle.std.specs.Prelude.{IsTrue}
 use Rattle.std.proofs.lemmas.Bool.{cases_Bool}
 use Rattle.dtx_values.specs.declared.call.Call.{Call}
 use Rattle.dtx_values.specs.declared.entry.Entry.{Entry}
@@ -19,10 +19,10 @@ use Rattle.dtx_model.specs.Observed.{observe}
 use Rattle.dtx_model.specs.Replies.{all_due}
 use Rattle.dtx_model.specs.Tied.{tied as is_tied_history}
 use Rattle.dtx_model.specs.World.{World, core}
-use Rattle.dtx_model.specs.Steps.{LogAnswer, Done, Full, StoppedNow, StoppedBefore, Step, Calls, Replies, Acts, Coordinates, Delivers, Stops, Restarts, StepName, after, appended, block_at, coordinates, entered, freed, local_pending, pending}
-use Rattle.dtx_model.specs.Caused.{HasStepped, IsCallOf, IsIn, IsNamed, IsOwnRun, is_begin_sent, is_full_answer, may_coordinate, plans_of, world_of}
+use Rattle.dtx_model.specs.Steps.{Done, Full, StoppedNow, StoppedBefore, Step, Calls, Replies, Acts, Coordinates, Delivers, Stops, Restarts, appended, block_at, entered, freed, local_pending, pending}
+use Rattle.dtx_model.specs.Caused.{HasStepped, IsCallOf, IsIn, IsOwnRun, is_begin_sent, may_coordinate, plans_of, world_of}
 use Rattle.dtx_model.specs.Traces.{Placed, history, placed}
-use Rattle.dtx_model.specs.Replay.{after_turn, is_in_replay, world_at}
+use Rattle.dtx_model.specs.Replay.{is_in_replay, world_at}
 use Rattle.dtx_model.specs.declared.waiting.EnteredCall.{EnteredCall}
 use Rattle.dtx_model.proofs.Bools.{and_both, and_left, and_right, not_both}
 use Rattle.outcome_law.proofs.Pending.{is_no_call}

@@ -1,5 +1,5 @@
-use Rattle.std.proofs.Common.{◌≡◌, ◌≤◌, ◌<◌, ◌+◌, ◌-◌, ◌∙◌, ℕ, Option, ap, arith, get_or, is_some, length, refl, set, subst, sym, true}
-use Rattle.std.specs.Prelude.{IfSome, IsTrue}
+use Rattle.std.proofs.Common.{◌≡◌, ◌≤◌, ◌+◌, ◌-◌, ◌∙◌, ℕ, Option, ap, arith, get_or, is_some, length, refl, set, subst, sym, true}
+use Rattle.std.specs.Prelude.{IfSome}
 use Rattle.dtx_values.specs.declared.entry.Entry.TheVariants.{Restarted}
 use Rattle.dtx_values.specs.declared.number.TxNo.{TxNo}
 use Rattle.dtx_model.specs.Caused.{is_begin_sent}
@@ -10,9 +10,9 @@ use Rattle.dtx_model.specs.World.{core}
 use Rattle.coordinator_log.specs.Slots.{open_records}
 use Rattle.tx_world.specs.AtLog.{Fits}
 use Rattle.tx_world.specs.State.{TxState, is_reached_by}
-use Rattle.script_runner.specs.RunState.{AreNumbered, IsRecordKept, RunState, record_in, reopened, state_of}
+use Rattle.script_runner.specs.RunState.{IsRecordKept, RunState, record_in, reopened, state_of}
 use Rattle.script_runner.proofs.ByNumber.{one_where}
-use Rattle.script_runner.proofs.Halting.{IsThrough, is_reopened, reopened_blank, reopened_calls, reopened_number, reopened_past, reopened_trace, through_all, through_here, through_next, through_none}
+use Rattle.script_runner.proofs.Halting.{IsThrough, is_reopened, reopened_blank, reopened_calls, reopened_past, reopened_trace, through_all, through_here, through_next, through_none}
 use Rattle.script_runner.proofs.Noting.{as_long, grown, trace_noted}
 use Rattle.script_runner.proofs.Numbered.{state_reached}
 use Rattle.script_runner.proofs.Steps.{each_set, step_calls}

@@ -1,12 +1,11 @@
-use Rattle.std.proofs.Common.{◌≡◌, ◌+◌, ℕ, suc, List, [], true, false, Ok, None, refl, ap, subst, sym, ◌∙◌}
+use Rattle.std.proofs.Common.{◌≡◌, ◌+◌, suc, List, [], true, false, Ok, None, refl, ap, subst, sym, ◌∙◌}
 use Rattle.dtx_values.specs.declared.script.Line.{Line}
 use Rattle.dtx_model.specs.Caused.{Settled}
 use Rattle.dtx_model.specs.Replay.{world_at}
 use Rattle.dtx_model.specs.Steps.{pending}
 use Rattle.dtx_model.specs.Traces.{history}
 use Rattle.dtx_model.specs.Words.{kth, past_of}
-use Rattle.coordinator_log.specs.State.{LogState}
-use Rattle.script_runner.specs.RunState.{Advances, AreSettledBelow, IsRoundAt, RunState, Settles, StepsDone, state_of}
+use Rattle.script_runner.specs.RunState.{Advances, AreSettledBelow, IsRoundAt, RunState, Settles, state_of}
 use Rattle.script_runner.proofs.Going.{calls_then, goes_same, goes_then, stays_same, stays_then}
 use Rattle.script_runner.proofs.Rounds.{below-apart, below-next, none-first, settles-here, steps-more, turn-more, turn-next}
 use Rattle.script_runner.proofs.Steps.{up_between}
