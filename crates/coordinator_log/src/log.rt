@@ -235,6 +235,8 @@ impl<D: Disk> Log<D> {
 
     /// Opens the log again: syncs, reads the head and each slot, and raises the life. It gives the number of records. An armed stop stays armed.
     ///
+    /// The records that it finds are those of one of the images that the disk had before it: what a read gave then is one of them.
+    ///
     /// # Errors
     ///
     /// The log is then stopped, and its life stays.
@@ -246,6 +248,7 @@ impl<D: Disk> Log<D> {
         ensures records { IsTrue D.honest → OnOk result (IsOpened D.seen self.old.disk self.new) }
         ensures images { IsTrue D.honest → OnOk result (AllHold (D.image self.new.disk) (open_records self.new.slots)) }
         ensures within { IsTrue D.honest → AreWithin (D.image self.old.disk) (D.image self.new.disk) }
+        ensures among { IsTrue D.honest → D.image self.old.disk (D.seen self.old.disk) }
         ensures count { IfOk result (λ n. n ≡ length (open_records self.new.slots)) }
         ensures up { IsTrue self.new.is_up ↔ IsOk result }
         ensures life { self.new.life ≡ (if is_ok result then self.old.life + 1 else self.old.life) }
@@ -256,6 +259,8 @@ impl<D: Disk> Log<D> {
         ensures smooth { OnOk result (D.faults self.new.disk ≡ D.faults self.old.disk) }
         ensures grows { D.faults self.old.disk ≤ D.faults self.new.disk }
     {
+        // A proof sees here that what a read gives is one of the disk's images.
+        let _ = self.disk.len();
         self.up = false;
         self.disk.sync()?;
         read_all(&mut self.disk, &mut self.slots)?;
@@ -299,9 +304,10 @@ impl<D: Disk> Log<D> {
         self.life
     }
 
-    /// Whether the log is up.
+    /// Whether the log is up. While it is, each image that a crash can leave has its records.
     pub fn is_up(&self) -> bool
-        ensures { result ≡ self.now.is_up }
+        ensures up { result ≡ self.now.is_up }
+        ensures images { IsTrue D.honest → IsTrue self.now.is_up → AllHold (D.image self.now.disk) (open_records self.now.slots) }
     {
         self.up
     }

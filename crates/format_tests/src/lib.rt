@@ -1,4 +1,4 @@
-//! Tests of what is read and written, through public calls alone: scripts, traces, frames and the log. They
+//! Tests of what is read and written, through public calls alone: scripts, traces, frames, the log and recovery information. They
 //! stand apart from the crates that they test, since a crate with tests is proved twice.
 #![tactic(auto)]
 
@@ -8,6 +8,8 @@ mod frames;
 mod log;
 #[cfg(test)]
 mod records;
+#[cfg(test)]
+mod recovery;
 #[cfg(test)]
 mod scripts;
 #[cfg(test)]

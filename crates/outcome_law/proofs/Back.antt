@@ -20,18 +20,15 @@ use Rattle.dtx_model.specs.Words.{each, has, onto}
 use Rattle.dtx_model.specs.Entries.{is_told}
 use Rattle.dtx_model.specs.Observed.{branch_acked, branch_due, branch_number, branches, due_in, is_branch}
 use Rattle.dtx_model.specs.Learned.{breaks_off}
-use Rattle.dtx_model.specs.Tied.{is_stop}
 use Rattle.dtx_model.specs.Wires.{MayCross, ended_after, ends, is_ended, is_stopped, lost_since, opens}
 use Rattle.dtx_model.specs.Coordinated.{Coordinated, coordinate, follow, is_undecided, recovered_after, stage_after}
-use Rattle.dtx_model.proofs.Bools.{and_both, and_left, and_never, and_right, not_both, not_true, or_case, or_false, or_right, or_second}
-use Rattle.dtx_model.proofs.Reading.{has-onto}
+use Rattle.dtx_model.proofs.Bools.{and_both, and_left, and_never, and_right, not_both, not_true, or_case, or_false, or_right}
 use Rattle.dtx_model.proofs.SameNumbers.{same_enlistment}
 use Rattle.outcome_law.proofs.Lists.{each-insert}
 use Rattle.outcome_law.proofs.Keeping.{Keeps}
 use Rattle.outcome_law.proofs.Handing.{keeps_within}
 use Rattle.outcome_law.proofs.Sendings.{got_line}
 use Rattle.outcome_law.proofs.Crossed.{IsStill, is_sent_on, still_more, still_silent}
-use Rattle.outcome_law.proofs.Wired.{unstopped}
 use Rattle.outcome_law.proofs.CoreStages.{changed, kept_some}
 use Rattle.outcome_law.proofs.HalfHeard.{is_return}
 use Rattle.outcome_law.proofs.Marks.{opened_if_returned, unopened_again}
@@ -44,6 +41,8 @@ abbrev pub is_undue : ℕ → Branch → Bool
 is_undue e b = not (is_branch e b) || is_none b.due
 
 pub record IsBack (e : EnlNo) (h : List Entry) : Type 0 where
+  -- the coordinator doesn't stand stopped
+  pub standing : is_stopped h ≡ false
   -- nothing more crosses on its own connection
   pub up : IsStill (Enl e) Up h
   pub down : IsStill (Enl e) Down h
@@ -131,28 +130,35 @@ undue_more e (Acked f) h k w u t = changed (is_undue e.value) (is_undue e.value)
 undue_more e (Reenlisted f) h k w u t = changed (is_undue e.value) (is_undue e.value) (branch_due f.value None) (λ b s. no_due e.value f.value b s) (branches h) t
 undue_more e _ h k w u t = t
 
+-- The coordinator goes on standing, since a stop would have broken it off.
+stands_more : (e : ℕ) (x : Entry) (h : List Entry) → breaks_off e x ≡ false → is_stopped h ≡ false → is_stopped (x ∷ h) ≡ false
+stands_more e Stopped h b s = absurd cc
+stands_more e (Restarted found) h b s = refl
+stands_more e _ h b s = s
+
 -- One more entry, where no manager recovers that is its own.
-pub back_beyond : (e : EnlNo) (x : Entry) (h : List Entry) → Keeps (x ∷ h) → is_stopped h ≡ false → has (opens (Enl e)) h ≡ true → is_unheard e x ≡ true → is_not_own e.value x ≡ true → breaks_off e.value x ≡ false
+pub back_beyond : (e : EnlNo) (x : Entry) (h : List Entry) → Keeps (x ∷ h) → has (opens (Enl e)) h ≡ true → is_unheard e x ≡ true → is_not_own e.value x ≡ true → breaks_off e.value x ≡ false
     → is_told e.value x ≡ false → ((r : ℕ) → has (is_enlist_by e.value r) h ≡ true → is_in r (coordinate (x ∷ h)).recovered ≡ false) → IsBack e h → IsBack e (x ∷ h)
-back_beyond e x h k s o u n b l f w =
+back_beyond e x h k o u n b l f w =
     record {
+      standing = stands_more e.value x h b w.standing;
       up = still_more (Enl e) Up x h (λ m t. absurd (not_both (opens (Enl e) x) t unopened)) (λ t. absurd (not_both (opens (Enl e) x) t unopened)) w.up;
       down = still_more (Enl e) Down x h (λ m t. absurd (not_both (opens (Enl e) x) t unopened)) (λ t. absurd (not_both (opens (Enl e) x) t unopened)) w.down;
       unended = unended_more e x h k w.awaited.opened w.unended;
       unfinished = unfinished_more e.value x h n l w.unfinished;
       undue = undue_more e x h k w.down u w.undue;
       unrecovered = λ r t. f r (or_case (is_enlist_by e.value r x) (has (is_enlist_by e.value r) h) (λ a. absurd (not_both (opens (Enl e) x) (enlist_opens e r x a) unopened)) (λ a. a) t);
-      awaited = awaited_more e x h k s u b w.awaited;
+      awaited = awaited_more e x h k w.standing u b w.awaited;
     }
   where
     unopened : opens (Enl e) x ≡ false
     unopened = unopened_again e x h k o
 
-back_more : (e : EnlNo) (x : Entry) (h : List Entry) → Keeps (x ∷ h) → is_stopped h ≡ false → has (opens (Enl e)) h ≡ true → is_passing e x ≡ true → breaks_off e.value x ≡ false → is_told e.value x ≡ false → IsBack e h
+back_more : (e : EnlNo) (x : Entry) (h : List Entry) → Keeps (x ∷ h) → has (opens (Enl e)) h ≡ true → is_passing e x ≡ true → breaks_off e.value x ≡ false → is_told e.value x ≡ false → IsBack e h
     → IsBack e (x ∷ h)
 unfolding coordinate follow
-back_more e x h k s o p b l w =
-    back_beyond e x h k s o (passing_unheard e x p) (passing_not_own e x p) b l (λ r t. ap (is_in r) (passing_unrecovering e x (coordinate h).recovered p) ∙ w.unrecovered r t) w
+back_more e x h k o p b l w =
+    back_beyond e x h k o (passing_unheard e x p) (passing_not_own e x p) b l (λ r t. ap (is_in r) (passing_unrecovering e x (coordinate h).recovered p) ∙ w.unrecovered r t) w
 
 -- Who is back came back, and wasn't told or broken off.
 pub back_returned : (e : ℕ) (h : List Entry) → is_back e h ≡ true → has (is_return e) h ≡ true
@@ -176,11 +182,11 @@ was_back e x h n t =
       untold = not_true (is_told e x) (and_right (not (breaks_off e x)) (not (is_told e x)) rest);
     }) t
 
-pub back_entry : (e : EnlNo) (x : Entry) (h : List Entry) → Keeps (x ∷ h) → Keeps h → is_stopped h ≡ false → is_passing e x ≡ true → is_return e.value x ≡ false → (is_back e.value h ≡ true → IsBack e h) → is_back e.value (x ∷ h) ≡ true
+pub back_entry : (e : EnlNo) (x : Entry) (h : List Entry) → Keeps (x ∷ h) → Keeps h → is_passing e x ≡ true → is_return e.value x ≡ false → (is_back e.value h ≡ true → IsBack e h) → is_back e.value (x ∷ h) ≡ true
     → IsBack e (x ∷ h)
-back_entry e x h k past s p n f t =
+back_entry e x h k past p n f t =
     let w = was_back e.value x h n t in
-    back_more e x h k s (opened_if_returned e h past (back_returned e.value h w.before)) p w.unbroken w.untold (f w.before)
+    back_more e x h k (opened_if_returned e h past (back_returned e.value h w.before)) p w.unbroken w.untold (f w.before)
 
 -- At the end of a block: where nothing is on the way to or from it, nothing is decided.
 pub record IsAnswering (e : EnlNo) (h : List Entry) : Type 0 where
@@ -234,10 +240,6 @@ sent_there e (Sent c Down m) h o t = sent_goes e c m h o (and_left (same_connect
 sent_there e (Sent c Up m) h o t = absurd (not_both (same_connection (Again e) c && false) (and_left (same_connection (Again e) c && false) true t) (and_never (same_connection (Again e) c)))
 sent_there e _ h o t = absurd cc
 
--- where the coordinator didn't stop, it didn't before a block
-pub unstopped_under : (h es : List Entry) → has is_stop (onto h es) ≡ false → has is_stop h ≡ false
-unstopped_under h es n = or_second (has is_stop es) (has is_stop h) (sym (has-onto is_stop h es) ∙ n)
-
 -- while nothing is on the way, nothing is decided, or these entries send to it
 abbrev pub IsReady : EnlNo → List Entry → List Entry → Type 0
 IsReady e h es = is_underway e h ≡ false → (is_undecided (coordinate h).stage ≡ true) ⊎ (has (is_sent_to e) es ≡ true)
@@ -254,46 +256,44 @@ ready_more e x h es l s o b f u = by (is_underway e h) refl
     by true q = absurd (not_both (is_underway e (x ∷ h)) (underway_more e x h s b (lasting_ungot e x l) q) u)
     by false q = after (f q)
 
-pub block_answers : (e : EnlNo) (h es : List Entry) → each (is_lasting e) es ≡ true → Keeps (onto h es) → has is_stop (onto h es) ≡ false → (is_back e.value h ≡ true → IsBack e h × IsReady e h es) → is_back e.value (onto h es) ≡ true
+pub block_answers : (e : EnlNo) (h es : List Entry) → each (is_lasting e) es ≡ true → Keeps (onto h es) → (is_back e.value h ≡ true → IsBack e h × IsReady e h es) → is_back e.value (onto h es) ≡ true
     → IsAnswering e (onto h es)
-block_answers e h [] l k s f t =
+block_answers e h [] l k f t =
     let w = f t in
     record { back = w.0; heard = λ u. by (w.1 u) }
   where
     by : (is_undecided (coordinate h).stage ≡ true) ⊎ (has (is_sent_to e) [] ≡ true) → is_undecided (coordinate h).stage ≡ true
     by (inl d) = d
     by (inr a) = absurd cc
-block_answers e h (x ∷ es) l k s f t =
+block_answers e h (x ∷ es) l k f t =
     let here = and_left (is_lasting e x) (each (is_lasting e) es) l in
     let now = keeps_within (x ∷ h) es k in
     let before = keeps_within h (x ∷ es) k in
-    let stands = unstopped h (unstopped_under h (x ∷ es) s) in
-    block_answers e (x ∷ h) es (and_right (is_lasting e x) (each (is_lasting e) es) l) k s
+    block_answers e (x ∷ h) es (and_right (is_lasting e x) (each (is_lasting e) es) l) k
     (λ b. let w = was_back e.value x h (lasting_unreturned e x here) b in
     let past = f w.before in
-    (back_entry e x h now before stands (lasting_passing e x here) (lasting_unreturned e x here) (λ q. (f q).0) b, ready_more e x h es here stands past.0.awaited.opened w.unbroken past.1)) t
+    (back_entry e x h now before (lasting_passing e x here) (lasting_unreturned e x here) (λ q. (f q).0) b, ready_more e x h es here past.0.standing past.0.awaited.opened w.unbroken past.1)) t
 
 -- a block of such entries alone
-pub lasting_answers : (e : EnlNo) (h es : List Entry) → each (is_lasting e) es ≡ true → Keeps (onto h es) → has is_stop (onto h es) ≡ false → (is_back e.value h ≡ true → IsAnswering e h) → is_back e.value (onto h es) ≡ true
+pub lasting_answers : (e : EnlNo) (h es : List Entry) → each (is_lasting e) es ≡ true → Keeps (onto h es) → (is_back e.value h ≡ true → IsAnswering e h) → is_back e.value (onto h es) ≡ true
     → IsAnswering e (onto h es)
-lasting_answers e h es l k s f t = block_answers e h es l k s (λ b. let w = f b in (w.back, λ u. inl (w.heard u))) t
+lasting_answers e h es l k f t = block_answers e h es l k (λ b. let w = f b in (w.back, λ u. inl (w.heard u))) t
 
 -- a block whose first entry may decide
 pub head_answers : (e : EnlNo) (x : Entry) (h es : List Entry) → is_passing e x ≡ true → is_return e.value x ≡ false → ((c : Conn) (d : Dir) (m : Message) → x ≡ Got c d m → same_connection (Again e) c ≡ false)
-    → each (is_lasting e) es ≡ true → Keeps (onto (x ∷ h) es) → has is_stop (onto (x ∷ h) es) ≡ false
+    → each (is_lasting e) es ≡ true → Keeps (onto (x ∷ h) es)
     → (is_undecided (coordinate h).stage ≡ true → is_undecided (coordinate (x ∷ h)).stage ≡ false → is_waiting_there e (x ∷ h) ≡ true → has (is_sent_to e) es ≡ true)
     → (is_back e.value h ≡ true → IsAnswering e h) → is_back e.value (onto (x ∷ h) es) ≡ true → IsAnswering e (onto (x ∷ h) es)
-head_answers e x h es p n g l k s d f t =
+head_answers e x h es p n g l k d f t =
     let now = keeps_within (x ∷ h) es k in
     let past = keeps_within h (x ∷ es) k in
-    let stands = unstopped h (unstopped_under h (x ∷ es) s) in
-    block_answers e (x ∷ h) es l k s
+    block_answers e (x ∷ h) es l k
     (λ b. let w = was_back e.value x h n b in
-    let back = back_entry e x h now past stands p n (λ q. (f q).back) b in
-    (back, λ u. ready stands w (f w.before) back u)) t
+    let back = back_entry e x h now past p n (λ q. (f q).back) b in
+    (back, λ u. ready w (f w.before) back u)) t
   where
-    ready : is_stopped h ≡ false → WasBack e.value x h → IsAnswering e h → IsBack e (x ∷ h) → IsReady e (x ∷ h) es
-    ready q w a b u = by (is_underway e h) refl
+    ready : WasBack e.value x h → IsAnswering e h → IsBack e (x ∷ h) → IsReady e (x ∷ h) es
+    ready w a b u = by (is_underway e h) refl
       where
         waits : is_waiting_there e (x ∷ h) ≡ true
         waits = or_case (is_underway e (x ∷ h)) (is_waiting_there e (x ∷ h)) (λ c. absurd (not_both (is_underway e (x ∷ h)) c u)) (λ c. c) b.awaited.way
@@ -303,5 +303,5 @@ head_answers e x h es p n g l k s d f t =
         decided false c v = inr (d v c waits)
 
         by : (c : Bool) → is_underway e h ≡ c → (is_undecided (coordinate (x ∷ h)).stage ≡ true) ⊎ (has (is_sent_to e) es ≡ true)
-        by true c = absurd (not_both (is_underway e (x ∷ h)) (underway_more e x h q w.unbroken g c) u)
+        by true c = absurd (not_both (is_underway e (x ∷ h)) (underway_more e x h a.back.standing w.unbroken g c) u)
         by false c = decided (is_undecided (coordinate (x ∷ h)).stage) refl (a.heard c)

@@ -2,9 +2,11 @@
 use Rattle.std.proofs.Common.{◌≡◌, ℕ, ◌==◌, Bool, true, false, ◌&&◌, ◌||◌, List, [], ◌∷◌, slice_get, Some, refl, ◌∙◌, sym, subst}
 use Rattle.std.specs.Prelude.{filter, not, if◌then◌else◌}
 use Rattle.std.proofs.lemmas.Bool.{eqb-true, false_from_ne_true, or_left}
+use Rattle.dtx_values.specs.declared.call.Call.{Call}
 use Rattle.dtx_values.specs.declared.entry.Answer.TheVariants.{Wait}
 use Rattle.dtx_values.specs.declared.entry.Entry.{Entry}
 use Rattle.dtx_values.specs.declared.entry.Entry.TheVariants.{Answered, Called}
+use Rattle.dtx_values.specs.declared.number.ActorNo.{ActorNo}
 use Rattle.dtx_values.specs.declared.row.Row.{Row}
 use Rattle.dtx_values.specs.declared.script.Line.{Line}
 use Rattle.dtx_values.specs.Class.{is_promotable, is_volatile}
@@ -19,8 +21,10 @@ use Rattle.dtx_model.specs.Promotes.{is_promoting, is_wait}
 use Rattle.dtx_model.specs.Tied.{is_stop}
 use Rattle.dtx_model.specs.Replies.{may_still_vote, owes_vote}
 use Rattle.dtx_model.specs.Waiting.{Waiter, call_at, waiter_line, waiting, wanted}
+use Rattle.dtx_model.specs.Steps.{Step}
+use Rattle.dtx_model.specs.World.{World}
 use Rattle.dtx_model.specs.Grammar.{are_named_well}
-use Rattle.dtx_model.specs.Caused.{Caused, IsCallOf, entered_in, plans_of}
+use Rattle.dtx_model.specs.Caused.{Caused, IsCallOf, Ran, entered_in, plans_of}
 use Rattle.outcome_law.specs.Waited.{AreCallsAnswered, is_answer_of, waiting_line}
 use Rattle.dtx_model.specs.History.{is_silent_to_promote, is_still_lost}
 use Rattle.dtx_model.proofs.Bools.{and_both, and_left, not_both, or_case, or_right}
@@ -90,6 +94,11 @@ all_answered ks h e =
     none : (n : ℕ) → has (λ w. n == w.0) (waiting ks h) ≡ false
     none n = subst (λ (ws : List Waiter). has (λ w. n == w.0) ws ≡ false) (sym e) refl
 
+-- which is so once the outcome is decided
+pub decided_answered : (G : ℕ → ActorNo → Call → Type 0) (t : ℕ) (steps : List Step) (w : World) → Ran G t steps w → has is_decision w.past ≡ true
+    → each (λ n. has (is_answer_of n) w.past) (all_of waiting_line w.past) ≡ true
+decided_answered G t steps w ran d = all_answered w.calls w.past (ran_over G t steps w ran d)
+
 -- and where no call was to wait, there is none of which to say it
 none_called : (h : List Entry) (p : ℕ → Bool) → has is_wait h ≡ false → each p (all_of waiting_line h) ≡ true
 none_called [] p n = refl
@@ -137,7 +146,7 @@ calls_answered s k t h named c running = λ settled. began (settled_run s k t h 
         or_left answered false (all_answered (entered_in s h) h (none_waiting (entered_in s h) h (unmoved s t h r p (λ n. promised s t h r n q)) d))
 
     decided : IsSettledRun s t h → has is_promoting h ≡ true → (b : Bool) → has is_decision h ≡ b → (answered || silent) ≡ true
-    decided r p true d = or_left answered silent (all_answered r.calls h (ran_over (IsCallOf s t) t r.steps (record { calls = r.calls; past = h }) r.ran d))
+    decided r p true d = or_left answered silent (decided_answered (IsCallOf s t) t r.steps (record { calls = r.calls; past = h }) r.ran d)
     decided r p false d = undecided r p d silent refl
 
     began : IsSettledRun s t h → (b : Bool) → has is_promoting h ≡ b → (answered || silent) ≡ true

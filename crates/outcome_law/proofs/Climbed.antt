@@ -348,15 +348,19 @@ told_well (Told Client Aborted ∷ h) n k = absurd cc
 told_well (Told Client InDoubt ∷ h) n k = absurd cc
 told_well (x ∷ h) n k = or_right (is_client_told Committed x) (has (is_client_told Committed) h) (told_well h (or_second (is_bad x) (has is_bad h) n) k)
 
--- and its client was told something
-pub told_at_rest : (ks : List EnteredCall) (h : List Entry) → IsAtRest ks h → is_some (latest client_told_of h) ≡ true
+-- where something is decided and no act of the local side is pending, its client was told something
+pub told_decided : (ks : List EnteredCall) (h : List Entry) → act_entries (half_of ks h) ≡ [] → has is_decision h ≡ true → is_some (latest client_told_of h) ≡ true
 unfolding act_entries observe
-told_at_rest ks h r = by_decision (latest decision_of h) refl
+told_decided ks h act decided = by_decision (latest decision_of h) refl
   where
     by_decision : (d : Option Outcome) → latest decision_of h ≡ d → is_some (latest client_told_of h) ≡ true
     by_decision (Some x) e =
-        told_all x (find (is_to_tell (observe h) x) (observe h).listeners) (latest client_told_of h) (ap (λ d. act_by d (half_of ks h)) (sym e) ∙ r.unmoved.act)
-    by_decision None e = absurd (not_both (has is_decision h) (decided_at_rest ks h r) (undecided h e))
+        told_all x (find (is_to_tell (observe h) x) (observe h).listeners) (latest client_told_of h) (ap (λ d. act_by d (half_of ks h)) (sym e) ∙ act)
+    by_decision None e = absurd (not_both (has is_decision h) decided (undecided h e))
+
+-- so it is at rest
+pub told_at_rest : (ks : List EnteredCall) (h : List Entry) → IsAtRest ks h → is_some (latest client_told_of h) ≡ true
+told_at_rest ks h r = told_decided ks h r.unmoved.act (decided_at_rest ks h r)
 
 -- that it is committed, where nothing bad came
 pub committed_at_rest : (ks : List EnteredCall) (h : List Entry) → IsAtRest ks h → has is_bad h ≡ false → has (is_client_told Committed) h ≡ true

@@ -76,7 +76,7 @@ promoted_begun h s k = earlier is_sound is_promoted (λ h. has (is_got_on Begin 
     at (Promoted u c) h s k = and_left (has (is_got_on Begin Down BEGUN) h) (has (is_got_on Voter Down CREATED) h) (and_left (has (is_got_on Begin Down BEGUN) h && has (is_got_on Voter Down CREATED) h) (not (has is_sealed h)) s)
     at x h s k = absurd cc
 
-promoted_created : (h : List Entry) → always is_sound h ≡ true → has is_promoted h ≡ true → has (is_got_on Voter Down CREATED) h ≡ true
+pub promoted_created : (h : List Entry) → always is_sound h ≡ true → has is_promoted h ≡ true → has (is_got_on Voter Down CREATED) h ≡ true
 promoted_created h s k = earlier is_sound is_promoted (λ h. has (is_got_on Voter Down CREATED) h) (λ x h q. or_right (is_got_on Voter Down CREATED x) (has (is_got_on Voter Down CREATED) h) q) at h s k
   where
     at : (x : Entry) (h : List Entry) → is_sound h x ≡ true → is_promoted x ≡ true → has (is_got_on Voter Down CREATED) h ≡ true

@@ -171,7 +171,7 @@ pub has_made : {A : Type 0} (p q : A → Bool) (f : A → A) → ((x : A) → p 
 has_made p q f sub [] k = absurd cc
 has_made p q f sub (x ∷ xs) k = or_case (p x) (has p xs) (λ a. or_left (q (f x)) (has q (map f xs)) (sub x a)) (λ a. or_right (q (f x)) (has q (map f xs)) (has_made p q f sub xs a)) k
 
-has_if : {A : Type 0} (p : A → Bool) (b : Bool) (xs ys : List A) → has p xs ≡ true → has p ys ≡ true → has p (if b then xs else ys) ≡ true
+pub has_if : {A : Type 0} (p : A → Bool) (b : Bool) (xs ys : List A) → has p xs ≡ true → has p ys ≡ true → has p (if b then xs else ys) ≡ true
 has_if p true xs ys a k = a
 has_if p false xs ys a k = k
 

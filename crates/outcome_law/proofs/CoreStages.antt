@@ -338,14 +338,15 @@ desks_ready h = desks_backed is_ready is_ready_got (record { none = refl; from =
 pub desks_voted : (h : List Entry) → each (is_backed is_some is_vote_got h) (coordinate h).desks ≡ true
 desks_voted h = desks_backed is_some is_vote_got (record { none = refl; from = vote_from }) h
 
-voted_of : (e : ℕ) (h : List Entry) (ds : List Desk) → each (is_backed is_some is_vote_got h) ds ≡ true → has (λ d. is_desk_of e d && has_voted d) ds ≡ true → has (is_vote_got e) h ≡ true
-voted_of e h [] a t = absurd cc
-voted_of e h (d ∷ ds) a t =
-    or_case (is_desk_of e d && has_voted d) (has (λ d. is_desk_of e d && has_voted d) ds)
-    (λ q. let P : ℕ → Type 0 = λ n. has (is_vote_got n) h ≡ true in
-    subst P (sym (eqb-true e d.enlistment.value (and_left (is_desk_of e d) (has_voted d) q)))
-    (backed (has_voted d) (has (is_vote_got d.enlistment.value) h) (and_left (is_backed is_some is_vote_got h d) (each (is_backed is_some is_vote_got h) ds) a) (and_right (is_desk_of e d) (has_voted d) q)))
-    (λ q. voted_of e h ds (and_right (is_backed is_some is_vote_got h d) (each (is_backed is_some is_vote_got h) ds) a) q) t
+-- so an enlistment whose desk passes said so
+pub said_of : (t : Option Ballot → Bool) (p : ℕ → Entry → Bool) (e : ℕ) (h : List Entry) (ds : List Desk) → each (is_backed t p h) ds ≡ true → has (λ d. is_desk_of e d && t d.ballot) ds ≡ true → has (p e) h ≡ true
+said_of t p e h [] a q = absurd cc
+said_of t p e h (d ∷ ds) a q =
+    or_case (is_desk_of e d && t d.ballot) (has (λ d. is_desk_of e d && t d.ballot) ds)
+    (λ r. let P : ℕ → Type 0 = λ n. has (p n) h ≡ true in
+    subst P (sym (eqb-true e d.enlistment.value (and_left (is_desk_of e d) (t d.ballot) r)))
+    (backed (t d.ballot) (has (p d.enlistment.value) h) (and_left (is_backed t p h d) (each (is_backed t p h) ds) a) (and_right (is_desk_of e d) (t d.ballot) r)))
+    (λ r. said_of t p e h ds (and_right (is_backed t p h d) (each (is_backed t p h) ds) a) r) q
   where
     backed : (b r : Bool) → (not b || r) ≡ true → b ≡ true → r ≡ true
     backed true r k q = k
@@ -359,13 +360,13 @@ veto_early h Voter t = not_false (coordinate h).yes (false_from_ne_true (coordin
 veto_early h (Enl e) t =
     let there = has (λ d. is_desk_of e.value d && has_voted d) (coordinate h).desks in
     not_false there
-    (false_from_ne_true there (λ a. not_both (has (is_vote_got e.value) h) (voted_of e.value h (coordinate h).desks (desks_voted h) a) (not_true (has (is_vote_got e.value) h) t)))
+    (false_from_ne_true there (λ a. not_both (has (is_vote_got e.value) h) (said_of is_some is_vote_got e.value h (coordinate h).desks (desks_voted h) a) (not_true (has (is_vote_got e.value) h) t)))
 veto_early h (Again e) t = absurd cc
 
 early_got : (h : List Entry) (c : Conn) (l : Bool) → (not l && is_veto_end h c Up) ≡ true → (not l && is_early (coordinate h) c) ≡ true
 early_got h c l t = and_both (not l) (is_early (coordinate h) c) (and_left (not l) (is_veto_end h c Up) t) (veto_early h c (and_right (not l) (is_veto_end h c Up) t))
 
-abort_decided : (b : Bool) (s : Stage) → b ≡ true → is_undecided (abort_if b s) ≡ false
+pub abort_decided : (b : Bool) (s : Stage) → b ≡ true → is_undecided (abort_if b s) ≡ false
 abort_decided true Idle e = refl
 abort_decided true Active e = refl
 abort_decided true _ e = refl

@@ -218,7 +218,7 @@ shut_stop c h None = refl
 shut_stop c h (Some true) = refl
 shut_stop c h (Some false) = refl
 
-down_more : (c : Conn) (x : Entry) (h : List Entry) → is_stopped h ≡ true → IsDown c h → IsDown c (x ∷ h)
+pub down_more : (c : Conn) (x : Entry) (h : List Entry) → is_stopped h ≡ true → IsDown c h → IsDown c (x ∷ h)
 down_more c x h s w =
     record {
       still = still_more c Up x h (λ m o. up_none m (is_stopped h) s) (λ o. s) w.still;

@@ -35,7 +35,7 @@ last true b k = k
 last false b k = k
 
 -- a connection that was opened is noted
-noted : (c : Conn) (h : List Entry) → has (opens c) h ≡ true → has (is_end_of c) (ends_of h) ≡ true
+pub noted : (c : Conn) (h : List Entry) → has (opens c) h ≡ true → has (is_end_of c) (ends_of h) ≡ true
 noted c [] k = absurd cc
 noted c (Sent e Up m ∷ h) k = step (is_opening e m) (same_connection c e) refl (noted c h) k
   where

@@ -322,11 +322,11 @@ again_last e (Sent c d m) t =
     by (Enl f) d s w l = absurd cc
 again_last e _ t = absurd cc
 
-own_finished : (f : EnlNo) (m : Message) (h : List Entry) → Keeps (Got (Enl f) Up m ∷ h) → is_last m ≡ true → is_finished f.value h ≡ true
+pub own_finished : (f : EnlNo) (m : Message) (h : List Entry) → Keeps (Got (Enl f) Up m ∷ h) → is_last m ≡ true → is_finished f.value h ≡ true
 own_finished f m h k l =
     last_finished f h (keeps_before (Got (Enl f) Up m) h k) (has_more (is_sent_on (Enl f) Up is_last) (is_last_of f.value) (own_last f) h (got_sent (Enl f) Up m is_last h k.wires.0 l))
 
-again_finished : (f : EnlNo) (m : Message) (h : List Entry) → Keeps (Got (Again f) Up m ∷ h) → is_last m ≡ true → is_finished f.value h ≡ true
+pub again_finished : (f : EnlNo) (m : Message) (h : List Entry) → Keeps (Got (Again f) Up m ∷ h) → is_last m ≡ true → is_finished f.value h ≡ true
 again_finished f m h k l =
     last_finished f h (keeps_before (Got (Again f) Up m) h k) (has_more (is_sent_on (Again f) Up is_last) (is_last_of f.value) (again_last f) h (got_sent (Again f) Up m is_last h k.wires.0 l))
 

@@ -42,14 +42,14 @@ none_delivered : (b : Bool) (c : Conn) (d : Dir) → delivery_if b c d ≡ [] �
 none_delivered true c d k = absurd cc
 none_delivered false c d k = refl
 
-none_left : (c : Conn) (d : Dir) (h : List Entry) → has_left c d h ≡ false → in_transit c d h ≡ []
+pub none_left : (c : Conn) (d : Dir) (h : List Entry) → has_left c d h ≡ false → in_transit c d h ≡ []
 none_left c d h k = bare (in_transit c d h) (or_first (not (is_empty (in_transit c d h))) _ k)
   where
     bare : (ms : List Message) → not (is_empty ms) ≡ false → ms ≡ []
     bare [] k = refl
     bare (m ∷ ms) k = absurd cc
 
-none_pending_on : (c : Conn) (h : List Entry) (ns : List End) → flat_map (deliveries_on h) ns ≡ [] → has (is_end_of c) ns ≡ true → (has_left c Up h ≡ false) × (has_left c Down h ≡ false)
+pub none_pending_on : (c : Conn) (h : List Entry) (ns : List End) → flat_map (deliveries_on h) ns ≡ [] → has (is_end_of c) ns ≡ true → (has_left c Up h ≡ false) × (has_left c Down h ≡ false)
 none_pending_on c h [] e k = absurd cc
 none_pending_on c h (n ∷ ns) e k =
     or_case (is_end_of c n) (has (is_end_of c) ns)
@@ -102,13 +102,18 @@ end_saw c d (x ∷ h) w k = step (end_saw c d h past) (opens c x) (begins_ended 
         or_case (ends c d x) (is_ended c d h) (λ q. or_left (is_end_on c d x) (has (is_end_on c d) h) (end_there c d x h w q))
         (λ q. or_right (is_end_on c d x) (has (is_end_on c d) h) (ih q)) k
 
-pub ends_seen : (c : Conn) (h : List Entry) → IsWired h → flat_map (deliveries_on h) (ends_of h) ≡ [] → is_plain c ≡ true → is_lost_wire c h ≡ true → (d : Dir) → has (is_end_on c d) h ≡ true
-ends_seen c h w e p l d = end_saw c d h w (seen d (none_pending_on c h (ends_of h) e (opened_noted c h w (since_opened c h (some (lost_since c h) l)))))
+-- a connection that is lost was opened
+pub opened_if_lost : (c : Conn) (h : List Entry) → is_lost_wire c h ≡ true → has (opens c) h ≡ true
+opened_if_lost c h l = since_opened c h (some (lost_since c h) l)
   where
     some : (o : Option Bool) → holds o ≡ true → is_some o ≡ true
     some (Some b) k = refl
     some None k = absurd cc
 
+-- where it is noted, each side has its end
+pub lost_ended : (c : Conn) (h : List Entry) → has (is_end_of c) (ends_of h) ≡ true → flat_map (deliveries_on h) (ends_of h) ≡ [] → is_lost_wire c h ≡ true → (d : Dir) → is_ended c d h ≡ true
+lost_ended c h n e l d = seen d (none_pending_on c h (ends_of h) e n)
+  where
     ended : (m l n : Bool) → l ≡ true → (m || (l && not n)) ≡ false → n ≡ true
     ended m true true l k = refl
     ended true true false l k = absurd cc
@@ -118,6 +123,9 @@ ends_seen c h w e p l d = end_saw c d h w (seen d (none_pending_on c h (ends_of 
     seen : (d : Dir) → (has_left c Up h ≡ false) × (has_left c Down h ≡ false) → is_ended c d h ≡ true
     seen Up k = ended (not (is_empty (in_transit c Up h))) (is_lost_wire c h) (is_ended c Up h) l k.0
     seen Down k = ended (not (is_empty (in_transit c Down h))) (is_lost_wire c h) (is_ended c Down h) l k.1
+
+pub ends_seen : (c : Conn) (h : List Entry) → IsWired h → flat_map (deliveries_on h) (ends_of h) ≡ [] → is_plain c ≡ true → is_lost_wire c h ≡ true → (d : Dir) → has (is_end_on c d) h ≡ true
+ends_seen c h w e p l d = end_saw c d h w (lost_ended c h (opened_noted c h w (opened_if_lost c h l)) e l d)
 
 -- Neither side has an act.
 none_appended : (k : Coordinated) → core_act k ≡ [] → may_log k ≡ false

@@ -43,6 +43,13 @@ pub mod ReplayTurns
 pub mod ReplayRuns
 pub mod ReplayNew
 pub mod LocalReplays
+pub mod PutAt
+pub mod BeginSent
+pub mod OneBegin
+pub mod SteadyBlocks
+pub mod FollowingLog
+pub mod ReplayedSteps
+pub mod ReplayedCalls
 pub mod Replays
 pub mod Examples
 pub mod ReplayExample
@@ -170,10 +177,12 @@ pub mod Told
 pub mod Awaiting
 pub mod Managed
 pub mod Finished
+pub mod Desked
 pub mod FreedDesks
 pub mod Back
 pub mod BackBlocks
 pub mod Returning
+pub mod ReturnsAnswered
 pub mod AskedRows
 pub mod PlacedRows
 pub mod SealedRows
@@ -184,7 +193,10 @@ pub mod PromotesRuns
 pub mod CommonBlocks
 pub mod TellingRuns
 pub mod CallsAnswered
+pub mod StoppedEnds
+pub mod StopsDecide
 pub mod Appending
 pub mod Barred
 pub mod Unheard
 pub mod StopExample
+pub mod RestartExample

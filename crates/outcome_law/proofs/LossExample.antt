@@ -95,7 +95,7 @@ losing_replayed = record { by_lines = at_t1 losing_whole; lines = losing_run; tu
 
 -- the script causes the history, and no object answers
 pub losing_caused : Caused losing 0 1 (past_of losing_whole)
-losing_caused = replayed_caused losing (at_t1 losing_whole) losing_replayed refl 0 (λ t. planned_at_t1 losing losing_whole refl t (t.value == 1) refl) t1
+losing_caused = replayed_caused losing (at_t1 losing_whole) losing_replayed 0 (λ t. planned_at_t1 losing losing_whole refl t (t.value == 1) refl) t1
 
 -- it is just
 pub losing_is_just : just_in losing_whole ≡ true

@@ -140,11 +140,12 @@ opened_branch e (x ∷ h) t = by (opened_branch e h) (opens (Enl e) x) refl t
 abbrev pub is_managed_desk : List Entry → Desk → Bool
 is_managed_desk h d = has (is_enlist_by d.enlistment.value d.manager.value) h
 
-abbrev names : ℕ → Message → Bool
+-- the message is an ENLIST that names this manager
+abbrev pub names : ℕ → Message → Bool
 names r (EnlistEnlist i) = r == i.rm.value
 names r _ = false
 
-named_sent : (e : EnlNo) (r : ℕ) (x : Entry) → is_sent_on (Enl e) Up (names r) x ≡ true → is_enlist_by e.value r x ≡ true
+pub named_sent : (e : EnlNo) (r : ℕ) (x : Entry) → is_sent_on (Enl e) Up (names r) x ≡ true → is_enlist_by e.value r x ≡ true
 named_sent e r (Sent c d m) t =
     let both = and_left (same_connection (Enl e) c && same_direction Up d) (names r m) t in
     by c d m (and_left (same_connection (Enl e) c) (same_direction Up d) both) (and_right (same_connection (Enl e) c) (same_direction Up d) both) (and_right (same_connection (Enl e) c && same_direction Up d) (names r m) t)

@@ -159,7 +159,7 @@ owned_replayed = record { by_lines = at_t1 owned_whole; lines = owned_run; turns
 
 -- the script causes the history, and no object answers
 pub owned_caused : Caused owned 0 1 (past_of owned_whole)
-owned_caused = replayed_caused owned (at_t1 owned_whole) owned_replayed refl 0 (λ t. planned_at_t1 owned owned_whole refl t (t.value == 1) refl) t1
+owned_caused = replayed_caused owned (at_t1 owned_whole) owned_replayed 0 (λ t. planned_at_t1 owned owned_whole refl t (t.value == 1) refl) t1
 
 -- it is just
 pub owned_is_just : just_in owned_whole ≡ true

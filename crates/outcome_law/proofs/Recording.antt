@@ -233,7 +233,7 @@ named_step : (e f i : ℕ) (P : ℕ → Bool) (rest : Bool) → f ≡ i → P i 
 named_step e f i P rest own here there true q t = let same : e ≡ i = eqb-true e f q ∙ own in subst (λ n. P n ≡ true) (sym same) here
 named_step e f i P rest own here there false q t = there t
 
-named : (e : ℕ) (P : ℕ → Bool) (h : List Entry) → Keeps h → has (is_enlist_got e) h ≡ true → each (λ i. P i.enl.value) (all_of enlist_got h) ≡ true → P e ≡ true
+pub named : (e : ℕ) (P : ℕ → Bool) (h : List Entry) → Keeps h → has (is_enlist_got e) h ≡ true → each (λ i. P i.enl.value) (all_of enlist_got h) ≡ true → P e ≡ true
 named e P [] k s a = absurd cc
 named e P (Got (Enl f) Up (EnlistEnlist i) ∷ h) k s a =
     named_step e f.value i.enl.value P (has (is_enlist_got e) h) (eqb-true f.value i.enl.value (own_info f i h k))

@@ -158,7 +158,7 @@ promoted_none t false e = subst (λ h. promotes script t.value h ≡ true) (sym 
 
 -- each transaction is caused by the script
 all_caused : (t : TxNo) → Caused script 0 t.value (history t.value (at_t1 whole))
-all_caused = replayed_caused script (at_t1 whole) is_replayed refl 0 (λ t. planned_at_t1 script whole refl t (t.value == 1) refl)
+all_caused = replayed_caused script (at_t1 whole) is_replayed 0 (λ t. planned_at_t1 script whole refl t (t.value == 1) refl)
 
 -- the trace is a history of the script
 pub is_history : IsHistory script 0 0 (placed t1 whole)
@@ -168,15 +168,15 @@ is_history =
       promotes = λ t. promoted_none t (t.value == 1) refl;
       wires = λ t. wire_run_of (IsCallOf script t.value) t.value (history t.value (at_t1 whole)) (all_caused t).freely;
       settled = λ t. settled_all t (t.value == 1) refl;
-      contexts = replayed_noted script (at_t1 whole) is_replayed refl;
-      called = λ p n a. ap (how_many (is_call_at p n a)) (replayed_called script (at_t1 whole) is_replayed refl);
+      contexts = replayed_noted script (at_t1 whole) is_replayed;
+      called = λ p n a. ap (how_many (is_call_at p n a)) (replayed_called script (at_t1 whole) is_replayed);
       faulted = lit≤ tt;
       followed = refl;
     }
 
 -- and in the order of a replay
 pub is_replay : IsReplay script 0 true (placed t1 whole)
-is_replay = record { called = replayed_called script (at_t1 whole) is_replayed refl; replayed = is_replayed; stops = λ e. refl; opens = λ e. refl }
+is_replay = record { called = replayed_called script (at_t1 whole) is_replayed; replayed = is_replayed; stops = λ e. refl; opens = λ e. refl }
 
 -- between t1's turn and t1's next no transaction is passed
 pub none_passed : (n : ℕ) → is_passed 1 1 n ≡ true → ⊥
@@ -238,4 +238,4 @@ stopped_is_none r = let none = r.settled t1 in cc
 
 -- a trace without the call of a line is none of the script
 pub uncalled_is_none : IsReplayed script (at_t1 told) → ⊥
-uncalled_is_none r = let same = replayed_called script (at_t1 told) r refl in cc
+uncalled_is_none r = let same = replayed_called script (at_t1 told) r in cc

@@ -98,4 +98,4 @@ promoted_quiet = refl
 
 -- so each transaction is caused by the script
 pub promoted_caused : (t : TxNo) → Caused marshalled 0 t.value (history t.value (at_t1 over))
-promoted_caused = replayed_caused marshalled (at_t1 over) promoted_replayed refl 0 (λ t. planned_at_t1 marshalled over refl t (t.value == 1) refl)
+promoted_caused = replayed_caused marshalled (at_t1 over) promoted_replayed 0 (λ t. planned_at_t1 marshalled over refl t (t.value == 1) refl)

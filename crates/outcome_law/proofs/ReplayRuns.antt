@@ -1,4 +1,4 @@
--- A step of a replay in which nothing stands at the log is one of its transaction's world, of the calls that were entered, those of scope lines too.
+-- A step of a replay is one of its transaction's world, of the calls that were entered, those of scope lines too.
 use Rattle.std.proofs.Common.{◌≡◌, ℕ, zero, suc, Bool, true, false, not, List, [], ◌∷◌, ◌++◌, map, filter, Some, if◌then◌else◌, refl, ap, sym, subst, ◌∙◌}
 use Rattle.std.specs.List.{flat_map}
 use Rattle.dtx_values.specs.declared.call.Call.{Call}
@@ -26,7 +26,7 @@ use Rattle.dtx_model.specs.Wires.{in_transit}
 use Rattle.dtx_model.specs.Traces.{Placed, history}
 use Rattle.dtx_model.specs.World.{World, answer_at, core, facts_at, half, has_left}
 use Rattle.dtx_model.specs.Steps.{Step, Calls, Replies, Acts, Coordinates, Delivers, Stops, Restarts, StepName, ReplyOf, LocalAct, CoordinatorAct, Delivery, after, block_at, coordinates, core_act, delivered, deliveries_on, delivery_if, ended_at, entered, got_by, local_if, local_pending, pending, replies_due, restarted}
-use Rattle.dtx_model.specs.Caused.{IsCallOf, HasStepped, IsNamed, IsRun, MayCome, entered_in}
+use Rattle.dtx_model.specs.Caused.{FreelyCaused, IsCallOf, IsNamed, IsRun, MayCome, entered_in}
 use Rattle.dtx_model.specs.Replay.{block_in, world_at}
 use Rattle.dtx_model.proofs.Bools.{and_both, not_true}
 use Rattle.dtx_model.proofs.Histories.{history-same}
@@ -37,7 +37,7 @@ use Rattle.outcome_law.proofs.Pending.{is_no_call, is_not_called}
 use Rattle.outcome_law.specs.LineCalls.{AreCalls}
 use Rattle.outcome_law.proofs.ScriptCalls.{ran_calls}
 use Rattle.outcome_law.proofs.ReplaySame.{block_same, pending_same}
-use Rattle.outcome_law.proofs.ReplayTurns.{StepsDone, after_block, world_with}
+use Rattle.outcome_law.proofs.ReplayTurns.{after_block, world_with}
 
 -- Blocks of steps that aren't calls have no call.
 quiet_not_called : (es : List Entry) → Quiet es → each is_not_called es ≡ true
@@ -72,7 +72,7 @@ named_no_call w LocalAct m same = ap is_no_call same
 named_no_call w CoordinatorAct m (a, may, same) = ap is_no_call same
 named_no_call w (Delivery c d) m same = ap is_no_call same
 
-no_call_entered : (ks : List EnteredCall) (m : Step) → is_no_call m ≡ true → entered m ks ≡ ks
+pub no_call_entered : (ks : List EnteredCall) (m : Step) → is_no_call m ≡ true → entered m ks ≡ ks
 no_call_entered ks (Calls n a c k) q = absurd cc
 no_call_entered ks _ q = refl
 
@@ -144,7 +144,7 @@ pub pending_script : (s : List Line) (ks : List EnteredCall) (t : TxNo) (T : Lis
 pending_script s ks t T r = pending_same s t.value ks (history t.value T) (run_calls s ks t T r)
 
 -- the world after a step
-after_same : (s : List Line) (ks : List EnteredCall) (t : TxNo) (m : Step) (T : List Placed) → IsRunWith s ks t T → world_with (entered m ks) t (after_block s t m T) ≡ after t.value (world_with ks t T) m
+pub after_same : (s : List Line) (ks : List EnteredCall) (t : TxNo) (m : Step) (T : List Placed) → IsRunWith s ks t T → world_with (entered m ks) t (after_block s t m T) ≡ after t.value (world_with ks t T) m
 unfolding after
 after_same s ks t m T r =
     let h = history t.value T in
@@ -163,28 +163,6 @@ named_same ks js h LocalAct m k = k
 named_same ks js h CoordinatorAct m k = k
 named_same ks js h (Delivery c d) m k = k
 
--- a step that is pending by the script comes in a world that is run
-pub pending_run : (s : List Line) (ks : List EnteredCall) (t : TxNo) (k : ℕ) (n : StepName) (m : Step) (T : List Placed) → IsRunWith s ks t T
-    → kth (pending (world_at s t T)) k ≡ Some n → IsNamed (world_at s t T) n m
-    → IsRunWith s ks t (after_block s t m T) × (kth (pending (world_with ks t T)) k ≡ Some n) × IsNamed (world_with ks t T) n m × (world_with ks t (after_block s t m T) ≡ after t.value (world_with ks t T) m)
-pending_run s ks t k n m T r e named =
-    let h = history t.value T in
-    let there = ap (λ ns. kth ns k) (pending_script s ks t T r) ∙ e in
-    let own = named_same (entered_in s h) ks h n m named in
-    let comes = pending_comes (IsCallOf s t.value) t.value (world_with ks t T) k n m there own in
-    let none = no_call_entered ks m (named_no_call (world_at s t T) n m named) in (
-      subst (λ js. IsRunWith s js t (after_block s t m T)) none (run_step s ks t m T r comes),
-      there,
-      own,
-      subst (λ js. world_with js t (after_block s t m T) ≡ after t.value (world_with ks t T) m) none (after_same s ks t m T r),
-    )
-
--- steps that were pending are run in a world, and were done one after the other
-pub steps_run : (s : List Line) (ks : List EnteredCall) (t : TxNo) (k m : ℕ) (start T : List Placed) → IsRunWith s ks t start → StepsDone s t k m start T
-    → IsRunWith s ks t T × HasStepped t.value k m (world_with ks t start) (world_with ks t T)
-steps_run s ks t k zero start T r q = (subst (IsRunWith s ks t) (sym q) r, ap (world_with ks t) q)
-steps_run s ks t k (suc m) start T r q =
-    let past = q.0 in
-    let ih = steps_run s ks t k m start past r q.1 in
-    let one = pending_run s ks t k q.2 q.3 past ih.0 q.4 q.5 in
-    (subst (IsRunWith s ks t) (sym q.6) one.0, (world_with ks t past, ih.1, q.2, q.3, one.1, one.2, false, refl, ap (world_with ks t) q.6 ∙ one.3))
+-- each transaction's history is freely caused
+abbrev pub AllFree : List Line → List Placed → Type 0
+AllFree s T = (u : TxNo) → FreelyCaused (IsCallOf s u.value) u.value (history u.value T)

@@ -1,14 +1,14 @@
--- In each world that steps made, in which the coordinator didn't stop, connections may have been cut: whoever came back and was neither told nor broken off since has its REENLIST or an
--- answer on the way, or waits where nothing is decided. So in such a history of a script, each that came back was told.
+-- In each world that steps made, connections may have been cut and the coordinator may have stopped and been started again: whoever came back and was neither told nor broken off since has its
+-- REENLIST or an answer on the way, or waits where nothing is decided.
 use Rattle.std.proofs.Common.{◌≡◌, ℕ, ◌==◌, Bool, true, false, ◌&&◌, ◌||◌, ◌⊎◌, inl, inr, List, [], ◌∷◌, Option, Some, None, is_none, is_some, refl, ◌∙◌, ap, sym, subst}
 use Rattle.std.specs.Prelude.{find, map, not, if◌then◌else◌}
 use Rattle.std.proofs.lemmas.Bool.{eqb-true, false_from_ne_true, or_left}
 use Rattle.dtx_values.specs.declared.call.Call.{Call}
 use Rattle.dtx_values.specs.declared.call.Call.TheVariants.{Recovered, Reenlist}
 use Rattle.dtx_values.specs.declared.entry.Answer.{Answer}
-use Rattle.dtx_values.specs.declared.entry.Answer.TheVariants.{Connected, Finished, NoSuch, NotBegun, Over as OverAnswer}
+use Rattle.dtx_values.specs.declared.entry.Answer.TheVariants.{Connected, Fine, Finished, NoSuch, NotBegun, Over as OverAnswer, Stopped as StoppedAnswer}
 use Rattle.dtx_values.specs.declared.entry.Entry.{Entry}
-use Rattle.dtx_values.specs.declared.entry.Entry.TheVariants.{Called, Down as Ended, Freed, Got, LogFull, Logged, Recovered as RecoveredEntry, Reenlisted, Sent, Stopped, Told}
+use Rattle.dtx_values.specs.declared.entry.Entry.TheVariants.{Called, Down as Ended, Freed, Got, LogFull, Logged, Recovered as RecoveredEntry, Reenlisted, Restarted, Sent, Stopped, Told}
 use Rattle.dtx_values.specs.declared.entry.Party.TheVariants.{Enl as Member}
 use Rattle.dtx_values.specs.declared.message.Conn.{Conn}
 use Rattle.dtx_values.specs.declared.message.Conn.TheVariants.{Enl, Again}
@@ -25,7 +25,6 @@ use Rattle.dtx_values.specs.declared.number.ActorNo.{ActorNo}
 use Rattle.dtx_values.specs.declared.number.EnlNo.{EnlNo}
 use Rattle.dtx_values.specs.declared.number.RmNo.{RmNo}
 use Rattle.dtx_values.specs.declared.number.TxNo.{TxNo}
-use Rattle.dtx_values.specs.declared.script.Line.{Line}
 use Rattle.dtx_values.specs.Ends.{is_in, knows, same_connection, same_direction, with_tag}
 use Rattle.dtx_values.specs.Lines.{has_line}
 use Rattle.dtx_values.specs.declared.row.Row.{Row}
@@ -34,17 +33,14 @@ use Rattle.dtx_values.specs.Class.{is_volatile}
 use Rattle.dtx_values.specs.declared.words.Vote.{Vote}
 use Rattle.dtx_values.specs.declared.words.Outcome.{Outcome}
 use Rattle.dtx_values.specs.declared.words.Outcome.TheVariants.{Aborted as AbortedOutcome, Committed}
-use Rattle.std.specs.List.{flat_map}
 use Rattle.dtx_model.specs.declared.branch.Branch.{Branch}
 use Rattle.dtx_model.specs.declared.desk.Stage.{Stage}
 use Rattle.dtx_model.specs.declared.desk.Stage.TheVariants.{Aborted, Active, Idle, Over, Recorded, Unknown}
 use Rattle.dtx_model.specs.Words.{each, has, onto, or_else}
-use Rattle.dtx_model.specs.Entries.{is_record, is_told}
 use Rattle.dtx_model.specs.Observed.{branch_due, branches, due_in, ends_of, is_branch, observe, rows}
 use Rattle.dtx_model.specs.Outcome.{is_empty}
 use Rattle.dtx_model.specs.Promotes.{identifier_of, is_enlisted_got}
-use Rattle.dtx_model.specs.Learned.{are_answered, breaks_off, coordinator_aborted, is_answered, is_decided_there}
-use Rattle.dtx_model.specs.Tied.{is_stop}
+use Rattle.dtx_model.specs.Tied.{tied}
 use Rattle.dtx_model.specs.Wires.{begins_ended, ended_after, ends, in_transit, is_ended, is_stopped, loses, lost_after, lost_since, opened_with, opens}
 use Rattle.dtx_model.specs.Coordinated.{abort_sends, commit_sends, coordinate, core_got, follow, has_aborted, is_recorded, is_undecided, may_free, may_log, to}
 use Rattle.dtx_model.specs.Half.{Half, info, is_gone, was_told}
@@ -54,11 +50,9 @@ use Rattle.dtx_model.specs.Answers.{if_begun}
 use Rattle.dtx_model.specs.Facts.{facts_if, has_facts}
 use Rattle.dtx_model.specs.Replies.{conn_due, due_conn, due_of, fits, is_volatile_row, may_still_vote, note_of_conn, note_of_row, owes_outcome, owes_promotion, owes_request, owes_vote, reply_entries, row_note}
 use Rattle.dtx_model.specs.World.{World, answer_at, branch_answer, branches_by, core, facts_at, half, has_left, is_connected, is_finished_there, is_linked, is_unfinished_link, recovered_answer, reenlist_answer, reenlist_by, reenlist_facts, unless_connected, unless_stopped, was_opened}
-use Rattle.dtx_model.specs.Steps.{LogAnswer, Done, Full, StoppedBefore, StoppedNow, Step, Calls, Replies, Acts, Coordinates, Delivers, Stops, Restarts, after, appended, block_at, called, deliveries_on, delivered, ended_at, freed}
-use Rattle.dtx_model.specs.Caused.{AreMadeOnce, Caused, IsCallOf, MayCome, Ran, entered_in, may_coordinate}
-use Rattle.dtx_model.specs.Grammar.{are_named_well}
-use Rattle.dtx_model.specs.History.{AreAnswered}
-use Rattle.dtx_model.proofs.Bools.{and_both, and_left, and_right, not_both, not_false, not_true, or_case, or_false, or_first, or_right, or_second}
+use Rattle.dtx_model.specs.Steps.{LogAnswer, Done, Full, StoppedBefore, StoppedNow, Step, Calls, Replies, Acts, Coordinates, Delivers, Stops, Restarts, after, appended, block_at, called, delivered, ended_at, freed, restarted}
+use Rattle.dtx_model.specs.Caused.{AreMadeOnce, MayCome, Ran, may_coordinate}
+use Rattle.dtx_model.proofs.Bools.{and_both, and_left, and_right, not_both, not_false, not_true, or_case, or_first, or_right}
 use Rattle.dtx_model.proofs.Connections.{same_is, same_way_is}
 use Rattle.dtx_model.proofs.SameNumbers.{same_enlistment}
 use Rattle.outcome_law.proofs.Tests.{eq_self}
@@ -69,27 +63,23 @@ use Rattle.outcome_law.proofs.Table.{is_enlist_got, is_opening_got, stands_volat
 use Rattle.outcome_law.proofs.Keeping.{Keeps, before as stands_before, keeps_before}
 use Rattle.outcome_law.proofs.Handing.{keeps_within}
 use Rattle.outcome_law.proofs.Sendings.{got_line}
-use Rattle.outcome_law.proofs.Crossed.{IsStill, end_still, is_got_on, still_more}
-use Rattle.outcome_law.proofs.CoreStages.{has_recorded, open_unaborted, open_unrecorded, recorded_mark}
+use Rattle.outcome_law.proofs.Crossed.{IsStill, down_more, end_still, is_got_on, still_more, stopped_down}
+use Rattle.outcome_law.proofs.CoreStages.{has_recorded, recorded_mark, stopped_same}
 use Rattle.outcome_law.proofs.CoreKnown.{enlist_of, got_there, record_seen}
 use Rattle.outcome_law.proofs.HalfKnows.{one_tag_more}
 use Rattle.outcome_law.proofs.HalfReplies.{owed, volatile_seen}
 use Rattle.outcome_law.proofs.Standing.{unvolatile_if_opened}
 use Rattle.outcome_law.proofs.MildBlocks.{IsWide, is_mild, wide_reply}
-use Rattle.outcome_law.proofs.Names.{script_once}
-use Rattle.outcome_law.proofs.Steady.{free_keeps, run_keeps, run_stands}
-use Rattle.outcome_law.proofs.UnstoppedTies.{none_restarts, unstopped_tied}
-use Rattle.outcome_law.proofs.Idle.{idle, none_on_the_way}
-use Rattle.outcome_law.proofs.Announced.{free_recorded, unstopped_wired}
-use Rattle.outcome_law.proofs.Wired.{IsWired, unstopped}
+use Rattle.outcome_law.proofs.Steady.{run_keeps, run_stands, tied_under}
+use Rattle.outcome_law.proofs.Announced.{free_recorded}
 use Rattle.outcome_law.proofs.HalfHeard.{is_return}
 use Rattle.outcome_law.proofs.Marks.{IsMarked, enlisted_on, opened_if_returned, return_row}
 use Rattle.outcome_law.proofs.Reenlisted.{opened_since}
 use Rattle.outcome_law.proofs.Managed.{branches_managed, is_enlist_by, is_managed_branch, one_manager, opened_branch}
 use Rattle.outcome_law.proofs.Finished.{finished_seen, is_finished, unfinished_more}
-use Rattle.outcome_law.proofs.FreedDesks.{IsRecordedWell, never_freed, none_recorded, step_recorded}
+use Rattle.outcome_law.proofs.FreedDesks.{AreFreed, never_freed, none_freed, step_freed}
 use Rattle.outcome_law.proofs.Awaiting.{is_asking_back, is_back, is_number, is_underway, is_waiting_there, next_asks, own_down, own_next}
-use Rattle.outcome_law.proofs.Back.{IsAnswering, IsBack, IsReady, back_beyond, back_entry, back_returned, block_answers, head_answers, is_sent_to, is_undue, lasting_answers, unstopped_under, was_back}
+use Rattle.outcome_law.proofs.Back.{IsAnswering, IsBack, IsReady, back_beyond, back_entry, back_returned, block_answers, head_answers, is_sent_to, is_undue, lasting_answers, was_back}
 use Rattle.outcome_law.proofs.BackBlocks.{again_same, down_same, end_reaches, end_same, full_reaches, got_reaches, is_own_reply, lasting_abort, lasting_act, lasting_called, lasting_commit, lasting_core_got, lasting_ended_at, lasting_local_got, lasting_reply, logged_reaches, to_known}
 use Rattle.outcome_law.proofs.CommonBlocks.{is_reenlist}
 
@@ -118,7 +108,7 @@ known_there e f m n h q t =
     let k = follow (coordinate h) (Got (Again f) Up m) in
     to_known e k f n q (and_right (has (is_number e.value) k.waits) (has (same_connection (Again e)) k.known) t)
 
-reenlist_ready : (e f : EnlNo) (id : ℕ) (i : Info) (h : List Entry) → Keeps h → (e.value == f.value) ≡ true → IsRecordedWell h → is_back e.value h ≡ true → IsBack e h
+reenlist_ready : (e f : EnlNo) (id : ℕ) (i : Info) (h : List Entry) → Keeps h → (e.value == f.value) ≡ true → AreFreed h → is_back e.value h ≡ true → IsBack e h
     → is_waiting_there e (Got (Again f) Up (ReenlistReenlist i) ∷ h) ≡ true
     → (is_undecided (coordinate (Got (Again f) Up (ReenlistReenlist i) ∷ h)).stage ≡ true) ⊎ (has (is_sent_to e) (core_got id (coordinate h) (Again f) (ReenlistReenlist i)) ≡ true)
 unfolding core_got
@@ -131,7 +121,7 @@ reenlist_ready e f id i h k q w b a t = pick (is_recorded (coordinate h).stage) 
     pick false true u x y z = inr (known_there e f (ReenlistReenlist i) ReenlistAborted h q t)
     pick false false true x y z = inl (ap is_undecided (again_same f (ReenlistReenlist i) h) ∙ z)
     pick false false false x y z =
-        absurd (never_freed e h k w (record_seen h k (over_stage (coordinate h).stage x y z)) (sym (recorded_mark h) ∙ x) (enlist_came e h k (back_returned e.value h b)) a.unfinished a.unrecovered)
+        absurd (never_freed e h w (record_seen h k (over_stage (coordinate h).stage x y z)) (sym (recorded_mark h) ∙ x) (enlist_came e h k (back_returned e.value h b)) a.unfinished a.unrecovered)
 
 other_ready : (e f : EnlNo) (m : Message) (h es : List Entry) → Keeps (Got (Again f) Up m ∷ h) → (e.value == f.value) ≡ true → is_reenlist m ≡ false → IsAnswering e h → IsReady e (Got (Again f) Up m ∷ h) es
 other_ready e f m h es k q n a u = by (is_underway e h) refl
@@ -143,7 +133,7 @@ other_ready e f m h es k q n a u = by (is_underway e h) refl
         (λ v. absurd (not_both (is_reenlist m) (next_asks m (in_transit (Again e) Up h) (own_next e f m h k q) v) n))
         (λ v. absurd (not_both (is_underway e (Got (Again f) Up m ∷ h)) (own_down e f m h k v) u)) c
 
-own_ready : (e f : EnlNo) (id : ℕ) (m : Message) (h : List Entry) → Keeps (Got (Again f) Up m ∷ h) → Keeps h → (e.value == f.value) ≡ true → IsRecordedWell h → is_back e.value h ≡ true → IsAnswering e h → IsBack e (Got (Again f) Up m ∷ h)
+own_ready : (e f : EnlNo) (id : ℕ) (m : Message) (h : List Entry) → Keeps (Got (Again f) Up m ∷ h) → Keeps h → (e.value == f.value) ≡ true → AreFreed h → is_back e.value h ≡ true → IsAnswering e h → IsBack e (Got (Again f) Up m ∷ h)
     → IsReady e (Got (Again f) Up m ∷ h) (core_got id (coordinate h) (Again f) m)
 own_ready e f id (ReenlistReenlist i) h k past q w b a now = λ u.
     let x = Got (Again f) Up (ReenlistReenlist i) in
@@ -151,17 +141,17 @@ own_ready e f id (ReenlistReenlist i) h k past q w b a now = λ u.
     (or_case (is_underway e (x ∷ h)) (is_waiting_there e (x ∷ h)) (λ c. absurd (not_both (is_underway e (x ∷ h)) c u)) (λ c. c) now.awaited.way)
 own_ready e f id m h k past q w b a now = other_ready e f m h (core_got id (coordinate h) (Again f) m) k q refl a
 
-own_answers : (e : EnlNo) (id : ℕ) (m : Message) (h : List Entry) → IsRecordedWell h → (is_back e.value h ≡ true → IsAnswering e h) → Keeps (onto (Got (Again e) Up m ∷ h) (core_got id (coordinate h) (Again e) m))
-    → has is_stop (onto (Got (Again e) Up m ∷ h) (core_got id (coordinate h) (Again e) m)) ≡ false → is_back e.value (onto (Got (Again e) Up m ∷ h) (core_got id (coordinate h) (Again e) m)) ≡ true
+own_answers : (e : EnlNo) (id : ℕ) (m : Message) (h : List Entry) → AreFreed h → (is_back e.value h ≡ true → IsAnswering e h) → Keeps (onto (Got (Again e) Up m ∷ h) (core_got id (coordinate h) (Again e) m))
+    → is_back e.value (onto (Got (Again e) Up m ∷ h) (core_got id (coordinate h) (Again e) m)) ≡ true
     → IsAnswering e (onto (Got (Again e) Up m ∷ h) (core_got id (coordinate h) (Again e) m))
-own_answers e id m h w f k s t =
+own_answers e id m h w f k t =
     let x = Got (Again e) Up m in
     let es = core_got id (coordinate h) (Again e) m in
     let now = keeps_within (x ∷ h) es k in
     let past = keeps_within h (x ∷ es) k in
-    block_answers e (x ∷ h) es (lasting_core_got e id (coordinate h) (Again e) m) k s
+    block_answers e (x ∷ h) es (lasting_core_got e id (coordinate h) (Again e) m) k
     (λ b. let was = was_back e.value x h refl b in
-    let back = back_entry e x h now past (unstopped h (unstopped_under h (x ∷ es) s)) refl refl (λ q. (f q).back) b in
+    let back = back_entry e x h now past refl refl (λ q. (f q).back) b in
     (back, own_ready e e id m h now past (eq_self e.value) w was.before (f was.before) back)) t
 
 -- Whoever a message comes down to is told.
@@ -178,28 +168,28 @@ told_off e t v _ h l b = absurd cc
 got_other : (e : EnlNo) (c : Conn) (d r : Dir) (m n : Message) (y : Conn) → same_connection (Again e) c ≡ false → Got c d m ≡ Got y r n → same_connection (Again e) y ≡ false
 got_other e c d r m n y q t = let same : c ≡ y = cc in let P : Conn → Type 0 = λ z. same_connection (Again e) z ≡ false in subst P same q
 
-delivered_answers : (t : ℕ) (w : World) (c : Conn) (d : Dir) (ms : List Message) → IsRecordedWell w.past → AreAnswering w.past → Keeps (onto w.past (delivered t w c d ms)) → has is_stop (onto w.past (delivered t w c d ms)) ≡ false
+delivered_answers : (t : ℕ) (w : World) (c : Conn) (d : Dir) (ms : List Message) → AreFreed w.past → AreAnswering w.past → Keeps (onto w.past (delivered t w c d ms))
     → AreAnswering (onto w.past (delivered t w c d ms))
-delivered_answers t w c Up [] r f k s e b =
-    head_answers e (Ended c Up) w.past (ended_at w c Up) refl refl (λ y x n q. absurd cc) (lasting_ended_at e w c Up) k s (λ u n v. end_reaches e c w.past u n v) (f e) b
-delivered_answers t w c Down [] r f k s e b =
-    head_answers e (Ended c Down) w.past (ended_at w c Down) refl refl (λ y x n q. absurd cc) (lasting_ended_at e w c Down) k s
+delivered_answers t w c Up [] r f k e b =
+    head_answers e (Ended c Up) w.past (ended_at w c Up) refl refl (λ y x n q. absurd cc) (lasting_ended_at e w c Up) k (λ u n v. end_reaches e c w.past u n v) (f e) b
+delivered_answers t w c Down [] r f k e b =
+    head_answers e (Ended c Down) w.past (ended_at w c Down) refl refl (λ y x n q. absurd cc) (lasting_ended_at e w c Down) k
     (λ u n v. absurd (not_both (is_undecided (coordinate w.past).stage) u (sym (ap is_undecided (end_same c w.past)) ∙ n))) (f e) b
-delivered_answers t w c Up (m ∷ ms) r f k s e b = by (same_connection (Again e) c) refl
+delivered_answers t w c Up (m ∷ ms) r f k e b = by (same_connection (Again e) c) refl
   where
     by : (q : Bool) → same_connection (Again e) c ≡ q → IsAnswering e (onto (Got c Up m ∷ w.past) (core_got (identifier_of t) (core w) c m))
     by false q =
-        head_answers e (Got c Up m) w.past (core_got (identifier_of t) (core w) c m) refl refl (λ y x n p. got_other e c Up x m n y q p) (lasting_core_got e (identifier_of t) (core w) c m) k s
+        head_answers e (Got c Up m) w.past (core_got (identifier_of t) (core w) c m) refl refl (λ y x n p. got_other e c Up x m n y q p) (lasting_core_got e (identifier_of t) (core w) c m) k
         (λ u n v. got_reaches e (identifier_of t) c m w.past u n v) (f e) b
     by true q =
-        let P : Conn → Type 0 = λ y. Keeps (onto (Got y Up m ∷ w.past) (core_got (identifier_of t) (core w) y m)) → has is_stop (onto (Got y Up m ∷ w.past) (core_got (identifier_of t) (core w) y m)) ≡ false
+        let P : Conn → Type 0 = λ y. Keeps (onto (Got y Up m ∷ w.past) (core_got (identifier_of t) (core w) y m))
         → is_back e.value (onto (Got y Up m ∷ w.past) (core_got (identifier_of t) (core w) y m)) ≡ true → IsAnswering e (onto (Got y Up m ∷ w.past) (core_got (identifier_of t) (core w) y m)) in
-        subst P (same_is (Again e) c q) (own_answers e (identifier_of t) m w.past r (f e)) k s b
-delivered_answers t w c Down (m ∷ ms) r f k s e b = by (same_connection (Again e) c) refl
+        subst P (same_is (Again e) c q) (own_answers e (identifier_of t) m w.past r (f e)) k b
+delivered_answers t w c Down (m ∷ ms) r f k e b = by (same_connection (Again e) c) refl
   where
     by : (q : Bool) → same_connection (Again e) c ≡ q → IsAnswering e (onto (Got c Down m ∷ w.past) (local_got t (half w) c m))
     by false q =
-        head_answers e (Got c Down m) w.past (local_got t (half w) c m) (not_false (same_connection (Again e) c) q) refl (λ y x n p. got_other e c Down x m n y q p) (lasting_local_got e t (half w) c m) k s
+        head_answers e (Got c Down m) w.past (local_got t (half w) c m) (not_false (same_connection (Again e) c) q) refl (λ y x n p. got_other e c Down x m n y q p) (lasting_local_got e t (half w) c m) k
         (λ u n v. absurd (not_both (is_undecided (coordinate w.past).stage) u (sym (ap is_undecided (down_same c m w.past)) ∙ n))) (f e) b
     by true q =
         let P : Conn → Type 0 = λ y. Keeps (onto (Got y Down m ∷ w.past) (local_got t (half w) y m)) → is_back e.value (onto (Got y Down m ∷ w.past) (local_got t (half w) y m)) ≡ true → ⊥ in
@@ -208,23 +198,30 @@ delivered_answers t w c Down (m ∷ ms) r f k s e b = by (same_connection (Again
         (λ kept back. told_off e t (half w) m w.past (got_line (Again e) Down m w.past (keeps_within (Got (Again e) Down m ∷ w.past) (local_got t (half w) (Again e) m) kept)) back) k b)
 
 -- The log's.
+-- A stop breaks each return off.
+stop_none : {A : Type 0} (e : ℕ) (h : List Entry) → is_back e (Stopped ∷ h) ≡ true → A
+stop_none e h b = let w = was_back e Stopped h refl b in let never : true ≡ false = w.unbroken in absurd cc
+
+stop_answers : (h : List Entry) → AreAnswering (Stopped ∷ h)
+stop_answers h = λ e b. stop_none e.value h b
+
 coordinates_answers : (h : List Entry) (a : LogAnswer) (b : Bool) → may_log (coordinate h) ≡ b → may_coordinate (coordinate h) a ≡ true → AreAnswering h → Keeps (onto h (if b then appended (coordinate h) a else freed a))
-    → has is_stop (onto h (if b then appended (coordinate h) a else freed a)) ≡ false → AreAnswering (onto h (if b then appended (coordinate h) a else freed a))
-coordinates_answers h Done true l c f k s e b =
+    → AreAnswering (onto h (if b then appended (coordinate h) a else freed a))
+coordinates_answers h Done true l c f k e b =
     let sends = commit_sends (follow (coordinate h) Logged) in
-    head_answers e Logged h sends refl refl (λ y d n q. absurd cc) (lasting_commit e (follow (coordinate h) Logged)) k s (λ u n t. logged_reaches e h t) (f e) b
-coordinates_answers h Full true l c f k s e b =
+    head_answers e Logged h sends refl refl (λ y d n q. absurd cc) (lasting_commit e (follow (coordinate h) Logged)) k (λ u n t. logged_reaches e h t) (f e) b
+coordinates_answers h Full true l c f k e b =
     let sends = abort_sends (follow (coordinate h) LogFull) in
-    head_answers e LogFull h sends refl refl (λ y d n q. absurd cc) (lasting_abort e (follow (coordinate h) LogFull)) k s (λ u n t. full_reaches e h t) (f e) b
-coordinates_answers h StoppedNow true l c f k s e b = absurd cc
-coordinates_answers h StoppedBefore true l c f k s e b = absurd cc
-coordinates_answers h Done false l c f k s e b =
-    head_answers e Freed h [] refl refl (λ y d n q. absurd cc) refl k s
+    head_answers e LogFull h sends refl refl (λ y d n q. absurd cc) (lasting_abort e (follow (coordinate h) LogFull)) k (λ u n t. full_reaches e h t) (f e) b
+coordinates_answers h StoppedNow true l c f k e b = stop_answers h e b
+coordinates_answers h StoppedBefore true l c f k e b = stop_answers h e b
+coordinates_answers h Done false l c f k e b =
+    head_answers e Freed h [] refl refl (λ y d n q. absurd cc) refl k
     (λ u n t. absurd
     (free_recorded (coordinate h) (or_case (may_log (coordinate h)) (may_free (coordinate h) && true) (λ v. absurd (not_both (may_log (coordinate h)) v l)) (λ v. and_left (may_free (coordinate h)) true v) c) u)) (f e) b
-coordinates_answers h Full false l c f k s e b = f e b
-coordinates_answers h StoppedNow false l c f k s e b = absurd cc
-coordinates_answers h StoppedBefore false l c f k s e b = absurd cc
+coordinates_answers h Full false l c f k e b = f e b
+coordinates_answers h StoppedNow false l c f k e b = stop_answers h e b
+coordinates_answers h StoppedBefore false l c f k e b = stop_answers h e b
 
 -- A reply.
 wide_unreturned : (e : EnlNo) → IsWide (λ x. not (is_return e.value x))
@@ -302,50 +299,54 @@ own_unfit G e h (Promotes ok) n k m b w o d t = absurd cc
 own_unfit G e h (OwnerReply x) n k m b w o d t = absurd cc
 
 reply_answers : (G : ℕ → ActorNo → Call → Type 0) (w : World) (f : EnlNo) (r : Reply) (n : Note) → due_of (half w).seen f.value ≡ Some n → fits r n ≡ true → Keeps w.past → IsMarked G w.past → AreAnswering w.past
-    → Keeps (onto w.past (reply_entries (half w) f r)) → has is_stop (onto w.past (reply_entries (half w) f r)) ≡ false → AreAnswering (onto w.past (reply_entries (half w) f r))
-reply_answers G w f r n d t past m a k s e b = by ((e.value == f.value) && is_own_reply r) refl
+    → Keeps (onto w.past (reply_entries (half w) f r)) → AreAnswering (onto w.past (reply_entries (half w) f r))
+reply_answers G w f r n d t past m a k e b = by ((e.value == f.value) && is_own_reply r) refl
   where
     before : is_back e.value w.past ≡ true
     before = back_under e w.past (reply_entries (half w) f r) (wide_reply (λ x. not (is_return e.value x)) (wide_unreturned e) (half w) f r) b
 
     by : (q : Bool) → ((e.value == f.value) && is_own_reply r) ≡ q → IsAnswering e (onto w.past (reply_entries (half w) f r))
-    by false q = lasting_answers e w.past (reply_entries (half w) f r) (lasting_reply e f (half w) r q) k s (a e) b
+    by false q = lasting_answers e w.past (reply_entries (half w) f r) (lasting_reply e f (half w) r q) k (a e) b
     by true q =
         let same = same_enlistment e f (eqb-true e.value f.value (and_left (e.value == f.value) (is_own_reply r) q)) in
         let P : EnlNo → Type 0 = λ g. due_of (half w).seen g.value ≡ Some n in
         absurd (own_unfit G e w.past r n past m before (a e before).back (and_right (e.value == f.value) (is_own_reply r) q) (subst P (sym same) d) t)
 
--- One comes back: it isn't finished, its manager hasn't recovered, and it isn't connected.
-branch_free : (a f v c : Bool) (r : RmNo) (e : EnlNo) (x : Answer) → has_facts (if not a then NoSuch else if f then Finished else if v then OverAnswer r else if c then Connected e else x) ≡ true → (f ≡ false) × (v ≡ false) × (c ≡ false)
-branch_free false f v c r e x k = absurd cc
-branch_free true true v c r e x k = absurd cc
-branch_free true false true c r e x k = absurd cc
-branch_free true false false true r e x k = absurd cc
-branch_free true false false false r e x k = (refl, refl, refl)
+-- One comes back: it isn't finished, its manager hasn't recovered, it isn't connected, and the coordinator doesn't stand stopped.
+branch_free : (a f v c p : Bool) (r : RmNo) (e : EnlNo) → has_facts (if not a then NoSuch else if f then Finished else if v then OverAnswer r else if c then Connected e else if p then StoppedAnswer else Fine) ≡ true
+    → (f ≡ false) × (v ≡ false) × (c ≡ false) × (p ≡ false)
+branch_free false f v c p r e k = absurd cc
+branch_free true true v c p r e k = absurd cc
+branch_free true false true c p r e k = absurd cc
+branch_free true false false true p r e k = absurd cc
+branch_free true false false false true r e k = absurd cc
+branch_free true false false false false r e k = (refl, refl, refl, refl)
 
-begins_open : (d : Dir) (h : List Entry) → is_stopped h ≡ false → begins_ended d h ≡ true → ⊥
-begins_open Up h n t = not_both (is_stopped h) t n
-begins_open Down h n t = absurd cc
-
-ended_now : (e : EnlNo) (d : Dir) (x : Entry) (h : List Entry) → Keeps (x ∷ h) → has is_stop (x ∷ h) ≡ false → ends (Enl e) d x ≡ true → IsStill (Enl e) d (x ∷ h)
-ended_now e d (Ended c r) h k n t =
+-- Where this side of its own connection saw the end, nothing is on the way there: an end comes last, and a stop leaves nothing on the way upward.
+ended_now : (e : EnlNo) (d : Dir) (x : Entry) (h : List Entry) → Keeps (x ∷ h) → ends (Enl e) d x ≡ true → IsStill (Enl e) d (x ∷ h)
+ended_now e d (Ended c r) h k t =
     let P : Conn → Type 0 = λ y. IsStill y d (Ended c r ∷ h) in
     let Q : Dir → Type 0 = λ y. IsStill c y (Ended c r ∷ h) in
     subst P (sym (same_is (Enl e) c (and_left (same_connection (Enl e) c) (same_direction d r) t))) (subst Q (sym (same_way_is d r (and_right (same_connection (Enl e) c) (same_direction d r) t))) (end_still c r h k.wires.0))
-ended_now e d (Got c r m) h k n t =
+ended_now e d (Got c r m) h k t =
     absurd (not_both (has_line c r m) (got_line c r m h k) (not_true (has_line c r m) (and_right (same_connection (Enl e) c && same_direction d r) (not (has_line c r m)) t)))
-ended_now e d Stopped h k n t = absurd cc
-ended_now e Up _ h k n t = absurd cc
-ended_now e Down _ h k n t = absurd cc
+ended_now e Up Stopped h k t = (stopped_down (Enl e) (Stopped ∷ h) refl).still
+ended_now e Down Stopped h k t = absurd cc
+ended_now e Up _ h k t = absurd cc
+ended_now e Down _ h k t = absurd cc
 
-ended_quiet : (e : EnlNo) (d : Dir) (h : List Entry) → Keeps h → has is_stop h ≡ false → is_ended (Enl e) d h ≡ true → IsStill (Enl e) d h
-ended_quiet e d [] k n t = absurd cc
-ended_quiet e d (x ∷ h) k n t = step (ended_quiet e d h (keeps_before x h k) (or_second (is_stop x) (has is_stop h) n)) (opens (Enl e) x) refl t
+opened_stopped : (e : EnlNo) (d : Dir) (x : Entry) (h : List Entry) → begins_ended d h ≡ true → IsStill (Enl e) d (x ∷ h)
+opened_stopped e Up x h s = (down_more (Enl e) x h s (stopped_down (Enl e) h s)).still
+opened_stopped e Down x h s = absurd cc
+
+ended_quiet : (e : EnlNo) (d : Dir) (h : List Entry) → Keeps h → is_ended (Enl e) d h ≡ true → IsStill (Enl e) d h
+ended_quiet e d [] k t = absurd cc
+ended_quiet e d (x ∷ h) k t = step (ended_quiet e d h (keeps_before x h k)) (opens (Enl e) x) refl t
   where
     step : (is_ended (Enl e) d h ≡ true → IsStill (Enl e) d h) → (b : Bool) → opens (Enl e) x ≡ b → ended_after b (begins_ended d h) (ends (Enl e) d x || is_ended (Enl e) d h) ≡ true → IsStill (Enl e) d (x ∷ h)
-    step ih true o t = absurd (begins_open d h (unstopped h (or_second (is_stop x) (has is_stop h) n)) t)
+    step ih true o t = opened_stopped e d x h t
     step ih false o t =
-        or_case (ends (Enl e) d x) (is_ended (Enl e) d h) (λ a. ended_now e d x h k n a)
+        or_case (ends (Enl e) d x) (is_ended (Enl e) d h) (λ a. ended_now e d x h k a)
         (λ a. still_more (Enl e) d x h (λ m p. absurd (not_both (opens (Enl e) x) p o)) (λ p. absurd (not_both (opens (Enl e) x) p o)) (ih a)) t
 
 both_ended : (e : EnlNo) (h : List Entry) → has (opens (Enl e)) h ≡ true → is_connected e h ≡ false → (is_ended (Enl e) Up h ≡ true) × (is_ended (Enl e) Down h ≡ true)
@@ -387,7 +388,7 @@ asks_back false stop i ms p q = absurd cc
 abbrev returned : ℕ → ℕ → ActorNo → Answer → Branch → List Entry → List Entry
 returned t n a y b h = Sent (Again b.enlistment) Up (ReenlistReenlist (info t b.enlistment b.manager)) ∷ Reenlisted b.enlistment ∷ Called n a y ∷ h
 
-return_back : (t n : ℕ) (a : ActorNo) (y : Answer) (b : Branch) (h : List Entry) → Keeps (returned t n a y b h) → has is_stop h ≡ false → is_managed_branch h b ≡ true → is_finished b.enlistment.value h ≡ false
+return_back : (t n : ℕ) (a : ActorNo) (y : Answer) (b : Branch) (h : List Entry) → Keeps (returned t n a y b h) → is_stopped h ≡ false → is_managed_branch h b ≡ true → is_finished b.enlistment.value h ≡ false
     → is_in b.manager.value (coordinate h).recovered ≡ false → is_connected b.enlistment h ≡ false → IsAnswering b.enlistment (returned t n a y b h)
 unfolding coordinate follow
 return_back t n a y b h k s g u v c =
@@ -400,21 +401,21 @@ return_back t n a y b h k s g u v c =
     let past = keeps_before (Called n a y) h (keeps_before (Reenlisted e) called kept) in
     let own = both_ended e h (opened_if_returned e back kept (or_left (e.value == e.value) (has (is_return e.value) h) (eq_self e.value))) c in
     let opening : opens (Again e) x ≡ true = and_both (e.value == e.value) true (eq_self e.value) refl in
-    let stands : is_stopped back ≡ false = unstopped h s in
     let way : is_underway e (x ∷ back) ≡ true =
-    or_left (is_asking_back (in_transit (Again e) Up (x ∷ back))) (not (is_empty (in_transit (Again e) Down (x ∷ back)))) (asks_back (opens (Again e) x) (is_stopped back) (info t e b.manager) _ opening stands) in
+    or_left (is_asking_back (in_transit (Again e) Up (x ∷ back))) (not (is_empty (in_transit (Again e) Down (x ∷ back)))) (asks_back (opens (Again e) x) (is_stopped back) (info t e b.manager) _ opening s) in
     record {
       back =
           record {
-            up = ended_quiet e Up (x ∷ back) k s own.0;
-            down = ended_quiet e Down (x ∷ back) k s own.1;
+            standing = s;
+            up = ended_quiet e Up (x ∷ back) k own.0;
+            down = ended_quiet e Down (x ∷ back) k own.1;
             unended = unended_new (opens (Again e) x) _ opening;
             unfinished =
                 unfinished_more e.value x back refl refl
                 (unfinished_more e.value (Reenlisted e) called refl refl (unfinished_more e.value (Called n a y) h refl refl u));
             undue = undue_all e.value (branches h);
             unrecovered = λ r q. let same : r ≡ b.manager.value = one_manager e r b.manager.value h past q g in let P : ℕ → Type 0 = λ z. is_in z (coordinate h).recovered ≡ false in subst P (sym same) v;
-            awaited = record { opened = reopened (Again e) x back opening stands (lost_since (Again e) back); way = or_left (is_underway e (x ∷ back)) (is_waiting_there e (x ∷ back)) way };
+            awaited = record { opened = reopened (Again e) x back opening s (lost_since (Again e) back); way = or_left (is_underway e (x ∷ back)) (is_waiting_there e (x ∷ back)) way };
           };
       heard = λ q. absurd (not_both (is_underway e (x ∷ back)) way q);
     }
@@ -423,36 +424,35 @@ return_back t n a y b h k s g u v c =
     unended_new true w p = refl
     unended_new false w p = absurd cc
 
-return_answers : (t : ℕ) (w : World) (n : ℕ) (a : ActorNo) (f : EnlNo) (l : Option ℕ) → Keeps w.past → has is_stop w.past ≡ false → AreAnswering w.past → Keeps (onto w.past (called t w n a (Reenlist f) (if_begun l (reenlist_answer w f))))
-    → has is_stop (onto w.past (called t w n a (Reenlist f) (if_begun l (reenlist_answer w f)))) ≡ false → AreAnswering (onto w.past (called t w n a (Reenlist f) (if_begun l (reenlist_answer w f))))
+return_answers : (t : ℕ) (w : World) (n : ℕ) (a : ActorNo) (f : EnlNo) (l : Option ℕ) → Keeps w.past → AreAnswering w.past → Keeps (onto w.past (called t w n a (Reenlist f) (if_begun l (reenlist_answer w f))))
+    → AreAnswering (onto w.past (called t w n a (Reenlist f) (if_begun l (reenlist_answer w f))))
 unfolding observe
-return_answers t w n a f None past z g k s e b = lasting_answers e w.past (Called n a NotBegun ∷ []) refl k s (g e) b
-return_answers t w n a f (Some d) past z g k s e b = by (find (is_branch f.value) (branches w.past)) refl k s b
+return_answers t w n a f None past g k e b = lasting_answers e w.past (Called n a NotBegun ∷ []) refl k (g e) b
+return_answers t w n a f (Some d) past g k e b = by (find (is_branch f.value) (branches w.past)) refl k b
   where
     one : (c : Branch) → is_managed_branch w.past c ≡ true → (q : Bool) → has_facts (branch_answer w c) ≡ q → Keeps (onto (Called n a (branch_answer w c) ∷ w.past) (facts_if q (reenlist_facts t (Some c))))
-        → has is_stop (onto (Called n a (branch_answer w c) ∷ w.past) (facts_if q (reenlist_facts t (Some c)))) ≡ false → is_back e.value (onto (Called n a (branch_answer w c) ∷ w.past) (facts_if q (reenlist_facts t (Some c)))) ≡ true
+        → is_back e.value (onto (Called n a (branch_answer w c) ∷ w.past) (facts_if q (reenlist_facts t (Some c)))) ≡ true
         → IsAnswering e (onto (Called n a (branch_answer w c) ∷ w.past) (facts_if q (reenlist_facts t (Some c))))
-    one c i false q k s b = lasting_answers e w.past (Called n a (branch_answer w c) ∷ []) refl k s (g e) b
-    one c i true q k s b = self (e.value == c.enlistment.value) refl
+    one c i false q k b = lasting_answers e w.past (Called n a (branch_answer w c) ∷ []) refl k (g e) b
+    one c i true q k b = self (e.value == c.enlistment.value) refl
       where
         self : (p : Bool) → (e.value == c.enlistment.value) ≡ p → IsAnswering e (returned t n a (branch_answer w c) c w.past)
         self false p =
             lasting_answers e w.past (Called n a (branch_answer w c) ∷ Reenlisted c.enlistment ∷ Sent (Again c.enlistment) Up (ReenlistReenlist (info t c.enlistment c.manager)) ∷ [])
-            (and_both (not (e.value == c.enlistment.value)) true (not_false (e.value == c.enlistment.value) p) refl) k s (g e) b
+            (and_both (not (e.value == c.enlistment.value)) true (not_false (e.value == c.enlistment.value) p) refl) k (g e) b
         self true p =
-            let free = branch_free c.enlisted (is_finished_there (half w).seen c.enlistment.value) (is_in c.manager.value (core w).recovered) (is_connected c.enlistment w.past) c.manager c.enlistment (unless_stopped w) q in
+            let free = branch_free c.enlisted (is_finished_there (half w).seen c.enlistment.value) (is_in c.manager.value (core w).recovered) (is_connected c.enlistment w.past) (core w).stopped c.manager c.enlistment q in
             let P : EnlNo → Type 0 = λ h. IsAnswering h (returned t n a (branch_answer w c) c w.past) in
             subst P (sym (same_enlistment e c.enlistment (eqb-true e.value c.enlistment.value p)))
-            (return_back t n a (branch_answer w c) c w.past k z i (sym (finished_seen c.enlistment.value w.past) ∙ free.0) free.1 free.2)
+            (return_back t n a (branch_answer w c) c w.past k (sym (stopped_same w.past) ∙ free.3) i (sym (finished_seen c.enlistment.value w.past) ∙ free.0) free.1 free.2)
 
     by : (o : Option Branch) → find (is_branch f.value) (branches w.past) ≡ o → Keeps (onto w.past (Called n a (reenlist_by w o) ∷ facts_if (has_facts (reenlist_by w o)) (reenlist_facts t o)))
-        → has is_stop (onto w.past (Called n a (reenlist_by w o) ∷ facts_if (has_facts (reenlist_by w o)) (reenlist_facts t o))) ≡ false
         → is_back e.value (onto w.past (Called n a (reenlist_by w o) ∷ facts_if (has_facts (reenlist_by w o)) (reenlist_facts t o))) ≡ true
         → IsAnswering e (onto w.past (Called n a (reenlist_by w o) ∷ facts_if (has_facts (reenlist_by w o)) (reenlist_facts t o)))
-    by None q k s b = lasting_answers e w.past (Called n a NoSuch ∷ []) refl k s (g e) b
-    by (Some c) q k s b =
+    by None q k b = lasting_answers e w.past (Called n a NoSuch ∷ []) refl k (g e) b
+    by (Some c) q k b =
         let place = found_at (is_branch f.value) (branches w.past) c q in
-        one c (each-at (is_managed_branch w.past) (branches w.past) place.0 c (branches_managed w.past) place.1) (has_facts (branch_answer w c)) refl k s b
+        one c (each-at (is_managed_branch w.past) (branches w.past) place.0 c (branches_managed w.past) place.1) (has_facts (branch_answer w c)) refl k b
 
 -- A manager recovers: not that of one that is back, which is connected and isn't finished.
 connected_back : (e : EnlNo) (h : List Entry) → IsBack e h → is_connected e h ≡ true
@@ -509,119 +509,76 @@ unrecovered_still w e q k i t o r g = false_from_ne_true (is_in r (with_tag q.va
         not_both (has (is_unfinished_link w) (branches_by w q.value))
         (has_filter (is_unfinished_link w) (λ b. q.value == b.manager.value) (branches w.past) ∙ subst P (eqb-true r q.value p) link) (recovers_none w q t)
 
-recovered_back : (w : World) (n : ℕ) (a : ActorNo) (y : Answer) (q : RmNo) (e : EnlNo) → Keeps (RecoveredEntry q ∷ Called n a y ∷ w.past) → has is_stop w.past ≡ false → IsAnswering e w.past → has (opens (Enl e)) w.past ≡ true
+recovered_back : (w : World) (n : ℕ) (a : ActorNo) (y : Answer) (q : RmNo) (e : EnlNo) → Keeps (RecoveredEntry q ∷ Called n a y ∷ w.past) → IsAnswering e w.past → has (opens (Enl e)) w.past ≡ true
     → ((r : ℕ) → has (is_enlist_by e.value r) w.past ≡ true → is_in r (with_tag q.value (coordinate w.past).recovered) ≡ false) → IsAnswering e (RecoveredEntry q ∷ Called n a y ∷ w.past)
 unfolding coordinate follow
-recovered_back w n a y q e k s i o f =
+recovered_back w n a y q e k i o f =
     let called = Called n a y ∷ w.past in
     let kept = keeps_before (RecoveredEntry q) called k in
-    let stands = unstopped w.past s in
-    let first = back_beyond e (Called n a y) w.past kept stands o refl refl refl refl i.back.unrecovered i.back in
-    record { back = back_beyond e (RecoveredEntry q) called k stands o refl refl refl refl f first; heard = λ u. i.heard u }
+    let first = back_beyond e (Called n a y) w.past kept o refl refl refl refl i.back.unrecovered i.back in
+    record { back = back_beyond e (RecoveredEntry q) called k o refl refl refl refl f first; heard = λ u. i.heard u }
 
-recovered_answers : (t : ℕ) (w : World) (n : ℕ) (a : ActorNo) (u : TxNo) (q : RmNo) (l : Option ℕ) → Keeps w.past → has is_stop w.past ≡ false → AreAnswering w.past
-    → Keeps (onto w.past (called t w n a (Recovered u q) (if_begun l (recovered_answer w q)))) → has is_stop (onto w.past (called t w n a (Recovered u q) (if_begun l (recovered_answer w q)))) ≡ false
+recovered_answers : (t : ℕ) (w : World) (n : ℕ) (a : ActorNo) (u : TxNo) (q : RmNo) (l : Option ℕ) → Keeps w.past → AreAnswering w.past
+    → Keeps (onto w.past (called t w n a (Recovered u q) (if_begun l (recovered_answer w q))))
     → AreAnswering (onto w.past (called t w n a (Recovered u q) (if_begun l (recovered_answer w q))))
-recovered_answers t w n a u q None past z g k s e b = lasting_answers e w.past (Called n a NotBegun ∷ []) refl k s (g e) b
-recovered_answers t w n a u q (Some d) past z g k s e b = by (has_facts (recovered_answer w q)) refl k s b
+recovered_answers t w n a u q None past g k e b = lasting_answers e w.past (Called n a NotBegun ∷ []) refl k (g e) b
+recovered_answers t w n a u q (Some d) past g k e b = by (has_facts (recovered_answer w q)) refl k b
   where
-    by : (f : Bool) → has_facts (recovered_answer w q) ≡ f → Keeps (onto (Called n a (recovered_answer w q) ∷ w.past) (facts_if f (RecoveredEntry q ∷ []))) → has is_stop (onto (Called n a (recovered_answer w q) ∷ w.past) (facts_if f (RecoveredEntry q ∷ []))) ≡ false
+    by : (f : Bool) → has_facts (recovered_answer w q) ≡ f → Keeps (onto (Called n a (recovered_answer w q) ∷ w.past) (facts_if f (RecoveredEntry q ∷ [])))
         → is_back e.value (onto (Called n a (recovered_answer w q) ∷ w.past) (facts_if f (RecoveredEntry q ∷ []))) ≡ true → IsAnswering e (onto (Called n a (recovered_answer w q) ∷ w.past) (facts_if f (RecoveredEntry q ∷ [])))
-    by false p k s b = lasting_answers e w.past (Called n a (recovered_answer w q) ∷ []) refl k s (g e) b
-    by true p k s b =
+    by false p k b = lasting_answers e w.past (Called n a (recovered_answer w q) ∷ []) refl k (g e) b
+    by true p k b =
         let before = back_under e w.past (Called n a (recovered_answer w q) ∷ RecoveredEntry q ∷ []) refl b in
         let o = opened_if_returned e w.past past (back_returned e.value w.past before) in
-        recovered_back w n a (recovered_answer w q) q e k z (g e before) o (λ r v. unrecovered_still w e q past (g e before).back p o r v)
+        recovered_back w n a (recovered_answer w q) q e k (g e before) o (λ r v. unrecovered_still w e q past (g e before).back p o r v)
 
-call_answers : (t : ℕ) (w : World) (n : ℕ) (a : ActorNo) (c : Call) (j : ℕ) → Keeps w.past → has is_stop w.past ≡ false → AreAnswering w.past → Keeps (onto w.past (called t w n a c (answer_at t w c j)))
-    → has is_stop (onto w.past (called t w n a c (answer_at t w c j))) ≡ false → AreAnswering (onto w.past (called t w n a c (answer_at t w c j)))
+call_answers : (t : ℕ) (w : World) (n : ℕ) (a : ActorNo) (c : Call) (j : ℕ) → Keeps w.past → AreAnswering w.past → Keeps (onto w.past (called t w n a c (answer_at t w c j)))
+    → AreAnswering (onto w.past (called t w n a c (answer_at t w c j)))
 unfolding answer_at
-call_answers t w n a (Reenlist f) j past z g k s = return_answers t w n a f (half w).seen.limit past z g k s
-call_answers t w n a (Recovered u q) j past z g k s = recovered_answers t w n a u q (half w).seen.limit past z g k s
-call_answers t w n a c j past z g k s = λ e b.
+call_answers t w n a (Reenlist f) j past g k = return_answers t w n a f (half w).seen.limit past g k
+call_answers t w n a (Recovered u q) j past g k = recovered_answers t w n a u q (half w).seen.limit past g k
+call_answers t w n a c j past g k = λ e b.
     let y = answer_at t w c j in
-    lasting_answers e w.past (Called n a y ∷ facts_if (has_facts y) (facts_at t w c y)) (lasting_called e t w c y refl refl) k s (g e) b
+    lasting_answers e w.past (Called n a y ∷ facts_if (has_facts y) (facts_at t w c y)) (lasting_called e t w c y refl refl) k (g e) b
+
+-- A restart comes after a stop, or brings one.
+restarted_answers : (h : List Entry) (b found : Bool) → (coordinate h).stopped ≡ b → AreAnswering h → AreAnswering (onto h (restarted b found))
+restarted_answers h true found s g = λ e b.
+    let w = was_back e.value (Restarted found) h refl b in
+    absurd (not_both (is_stopped h) (sym (stopped_same h) ∙ s) (g e w.before).back.standing)
+restarted_answers h false found s g = λ e b.
+    let w = was_back e.value (Restarted found) (Stopped ∷ h) refl b in
+    stop_none e.value h w.before
 
 -- After each step.
-step_answers : (G : ℕ → ActorNo → Call → Type 0) (t : ℕ) (w : World) (m : Step) → MayCome G t w m → Keeps w.past → has is_stop w.past ≡ false → IsMarked G w.past → IsRecordedWell w.past → Keeps (after t w m).past
-    → has is_stop (after t w m).past ≡ false → AreAnswering w.past → AreAnswering (after t w m).past
+step_answers : (G : ℕ → ActorNo → Call → Type 0) (t : ℕ) (w : World) (m : Step) → MayCome G t w m → Keeps w.past → IsMarked G w.past → AreFreed w.past → Keeps (after t w m).past → AreAnswering w.past
+    → AreAnswering (after t w m).past
 unfolding after block_at
-step_answers G t w (Calls n a c j) q past z i r k s g = call_answers t w n a c j past z g k s
-step_answers G t w (Replies f y) q past z i r k s g = reply_answers G w f y q.0 q.1 q.2 past i g k s
-step_answers G t w Acts q past z i r k s g = λ e b. lasting_answers e w.past (act_entries (half w)) (lasting_act e (half w)) k s (g e) b
-step_answers G t w (Coordinates a) q past z i r k s g = coordinates_answers w.past a (may_log (core w)) refl q g k s
-step_answers G t w (Delivers c d) q past z i r k s g = delivered_answers t w c d (in_transit c d w.past) r g k s
-step_answers G t w Stops q past z i r k s g = absurd cc
-step_answers G t w (Restarts found) q past z i r k s g = absurd (none_restarts w (core w).stopped found refl s)
+step_answers G t w (Calls n a c j) q past i r k g = call_answers t w n a c j past g k
+step_answers G t w (Replies f y) q past i r k g = reply_answers G w f y q.0 q.1 q.2 past i g k
+step_answers G t w Acts q past i r k g = λ e b. lasting_answers e w.past (act_entries (half w)) (lasting_act e (half w)) k (g e) b
+step_answers G t w (Coordinates a) q past i r k g = coordinates_answers w.past a (may_log (core w)) refl q g k
+step_answers G t w (Delivers c d) q past i r k g = delivered_answers t w c d (in_transit c d w.past) r g k
+step_answers G t w Stops q past i r k g = stop_answers w.past
+step_answers G t w (Restarts found) q past i r k g = restarted_answers w.past (core w).stopped found refl g
 
 pub record IsReturning (h : List Entry) : Type 0 where
-  pub recorded : IsRecordedWell h
+  pub freed : AreFreed h
   pub answering : (e : EnlNo) → is_back e.value h ≡ true → IsAnswering e h
 
--- so in each world that steps made, in which the coordinator didn't stop
-pub ran_returning : (G : ℕ → ActorNo → Call → Type 0) (t : ℕ) (ms : List Step) (w : World) → AreMadeOnce G → Ran G t ms w → has is_stop w.past ≡ false → IsReturning w.past
+-- so in each world that steps made, where each restart found what may be found
+pub ran_returning : (G : ℕ → ActorNo → Call → Type 0) (t : ℕ) (ms : List Step) (w : World) → AreMadeOnce G → Ran G t ms w → tied w.past ≡ true → IsReturning w.past
 unfolding after
-ran_returning G t [] w once r n = subst (λ (h : List Entry). IsReturning h) (sym r.1) (record { recorded = none_recorded; answering = λ e b. absurd cc })
-ran_returning G t (m ∷ ms) w once r n =
+ran_returning G t [] w once r d = subst (λ (h : List Entry). IsReturning h) (sym r.1) (record { freed = none_freed; answering = λ e b. absurd cc })
+ran_returning G t (m ∷ ms) w once r d =
     let v = r.0 in
-    let now : has is_stop (after t v m).past ≡ false = subst (λ (x : World). has is_stop x.past ≡ false) r.3 n in
-    let before : has is_stop v.past ≡ false = unstopped_under v.past (block_at t v m) now in
-    let kept = run_keeps G t (m ∷ ms) (after t v m) once (v, r.1, r.2, refl) (unstopped_tied G t (after t v m).past ((after t v m).calls, (m ∷ ms, (v, r.1, r.2, refl))) now) in
-    let stands = run_stands G t ms v once r.1 (unstopped_tied G t v.past (v.calls, (ms, r.1)) before) in
+    let now : tied (after t v m).past ≡ true = subst (λ (x : World). tied x.past ≡ true) r.3 d in
+    let before : tied v.past ≡ true = tied_under v.past (block_at t v m) now in
+    let kept = run_keeps G t (m ∷ ms) (after t v m) once (v, r.1, r.2, refl) now in
+    let stands = run_stands G t ms v once r.1 before in
     let past = ran_returning G t ms v once r.1 before in
     subst (λ (x : World). IsReturning x.past) (sym r.3)
     (record {
-      recorded = step_recorded G t v m r.2 stands.steady.stands.keeps kept now past.recorded;
-      answering = step_answers G t v m r.2 stands.steady.stands.keeps before stands.marked past.recorded kept now past.answering;
+      freed = step_freed G t v m r.2 kept past.freed;
+      answering = step_answers G t v m r.2 stands.steady.stands.keeps stands.marked past.freed kept past.answering;
     })
-
--- Where nothing is pending, nothing is on the way to it.
-none_underway : (e : EnlNo) (h : List Entry) → IsWired h → flat_map (deliveries_on h) (ends_of h) ≡ [] → is_underway e h ≡ false
-none_underway e h w q = rw (none_on_the_way h w q (Again e) Up, none_on_the_way h w q (Again e) Down) refl
-
--- Where whoever is back at the end is answered by what stands after, each that came back was.
-answered_back : (behind h : List Entry) → ((e : EnlNo) → is_back e.value h ≡ true → (has (breaks_off e.value) behind || has (is_told e.value) behind) ≡ true) → are_answered true behind h ≡ true
-answered_back behind [] f = refl
-answered_back behind (x ∷ h) f = and_both (is_answered true behind x) (are_answered true (x ∷ behind) h) (one x f) (answered_back (x ∷ behind) h (λ e b. more e b))
-  where
-    one : (x : Entry) → ((e : EnlNo) → is_back e.value (x ∷ h) ≡ true → (has (breaks_off e.value) behind || has (is_told e.value) behind) ≡ true) → is_answered true behind x ≡ true
-    one (Reenlisted e) g = or_left (has (breaks_off e.value) behind || has (is_told e.value) behind) false (g e (or_left (e.value == e.value) _ (eq_self e.value)))
-    one _ g = refl
-
-    more : (e : EnlNo) → is_back e.value h ≡ true → (has (breaks_off e.value) (x ∷ behind) || has (is_told e.value) (x ∷ behind)) ≡ true
-    more e b = by (breaks_off e.value x) (is_told e.value x) refl refl
-      where
-        by : (p q : Bool) → breaks_off e.value x ≡ p → is_told e.value x ≡ q → ((p || has (breaks_off e.value) behind) || (q || has (is_told e.value) behind)) ≡ true
-        by true q u v = refl
-        by false true u v = or_right (has (breaks_off e.value) behind) true refl
-        by false false u v =
-            f e (or_right (is_return e.value x) (is_back e.value h && (not (breaks_off e.value x) && not (is_told e.value x)))
-            (and_both (is_back e.value h) (not (breaks_off e.value x) && not (is_told e.value x)) b
-            (and_both (not (breaks_off e.value x)) (not (is_told e.value x)) (not_false (breaks_off e.value x) u) (not_false (is_told e.value x) v))))
-
-unasked : (behind h : List Entry) → are_answered false behind h ≡ true
-unasked behind [] = refl
-unasked behind (x ∷ h) = and_both (is_answered false behind x) (are_answered false (x ∷ behind) h) (one x) (unasked (x ∷ behind) h)
-  where
-    one : (x : Entry) → is_answered false behind x ≡ true
-    one (Reenlisted e) = or_right (has (breaks_off e.value) behind || has (is_told e.value) behind) true refl
-    one _ = refl
-
--- in a history of a script in which the coordinator didn't stop, each that came back was told
-pub answered_unstopped : (s : List Line) (k t : ℕ) (h : List Entry) → are_named_well s ≡ true → Caused s k t h → has is_stop h ≡ false → AreAnswered s h
-answered_unstopped s k t h named c n settled =
-    let G = IsCallOf s t in
-    let w : World = record { calls = c.freely.0; past = h } in
-    let all = ran_returning G t c.freely.1.0 w (script_once s t named) c.freely.1.1 n in
-    let keeps = free_keeps G t h (script_once s t named) c.freely (unstopped_tied G t h c.freely n) in
-    by all (unstopped_wired h (record { keeps = keeps; unstopped = n })) (is_decided_there h) refl
-  where
-    open_none : is_undecided (coordinate h).stage ≡ true → is_decided_there h ≡ false
-    open_none u = or_false (has is_record h) (coordinator_aborted h) (open_unrecorded h u) (open_unaborted h u)
-
-    by : IsReturning h → IsWired h → (b : Bool) → is_decided_there h ≡ b → are_answered b [] h ≡ true
-    by all wired false d = unasked [] h
-    by all wired true d =
-        answered_back [] h
-        (λ e b. let a = all.answering e b in
-        absurd (not_both (is_decided_there h) d (open_none (a.heard (none_underway e h wired (idle (entered_in s h) h settled).undelivered)))))

@@ -37,7 +37,6 @@ use Rattle.dtx_model.specs.Contexts.{scope_answer, scope_calls, scopes_of}
 use Rattle.dtx_model.proofs.Bools.{and_left, and_right}
 use Rattle.outcome_law.proofs.Examples.{a1, t1}
 use Rattle.outcome_law.proofs.ReplayExample.{none_passed}
-use Rattle.outcome_law.specs.LogQuiet.{is_log_quiet}
 use Rattle.outcome_law.proofs.Replays.{replayed_called, replayed_caused, replayed_noted}
 
 abbrev t2 : TxNo
@@ -152,7 +151,7 @@ scoped_planned n false false e f = rw (e, f) refl
 
 -- each transaction is caused by the script
 scoped_caused : (t : TxNo) → Caused scoped 0 t.value (history t.value (past_of told_both))
-scoped_caused = replayed_caused scoped (past_of told_both) scoped_replayed refl 0 (λ t. scoped_planned t.value (t.value == 1) (t.value == 2) refl refl)
+scoped_caused = replayed_caused scoped (past_of told_both) scoped_replayed 0 (λ t. scoped_planned t.value (t.value == 1) (t.value == 2) refl refl)
 
 -- the trace is a history of the script
 pub scoped_history : IsHistory scoped 0 0 told_both
@@ -162,15 +161,15 @@ scoped_history =
       promotes = λ t. scoped_unpromoted t.value (t.value == 1) (t.value == 2) refl refl;
       wires = λ t. wire_run_of (IsCallOf scoped t.value) t.value (history t.value (past_of told_both)) (scoped_caused t).freely;
       settled = λ t. scoped_settled t.value (t.value == 1) (t.value == 2) refl refl;
-      contexts = replayed_noted scoped (past_of told_both) scoped_replayed refl;
-      called = λ p n a. ap (how_many (is_call_at p n a)) (replayed_called scoped (past_of told_both) scoped_replayed refl);
+      contexts = replayed_noted scoped (past_of told_both) scoped_replayed;
+      called = λ p n a. ap (how_many (is_call_at p n a)) (replayed_called scoped (past_of told_both) scoped_replayed);
       faulted = lit≤ tt;
       followed = refl;
     }
 
 -- and in the order of a replay
 pub scoped_order : IsReplay scoped 0 true told_both
-scoped_order = record { called = replayed_called scoped (past_of told_both) scoped_replayed refl; replayed = scoped_replayed; stops = λ e. refl; opens = λ e. refl }
+scoped_order = record { called = replayed_called scoped (past_of told_both) scoped_replayed; replayed = scoped_replayed; stops = λ e. refl; opens = λ e. refl }
 
 -- what stands at t1
 pub history_of_t1 : history 1 (past_of told_both) ≡ past_of (Called 1 a1 Fine ∷ Began 60000 ∷ Called 3 a1 Fine ∷ RollbackAsked ∷ Decided Aborted ∷ Told Client Aborted ∷ [])
@@ -203,9 +202,9 @@ pub isolation_differs : scope_answer other_open.body (scopes_of 1 (first_open �
 isolation_differs = refl
 
 -- no replay answers that line ok
-pub differing_is_none : (T : List Placed) → IsReplayed (first_open ∷ other_open ∷ []) T → is_log_quiet T ≡ true
+pub differing_is_none : (T : List Placed) → IsReplayed (first_open ∷ other_open ∷ []) T
     → at_context 1 T ≡ past_of (Called 1 a1 Fine ∷ Scope (Opened s1 (Some t1)) ∷ Called 2 a1 Fine ∷ Scope (Opened s2 (Some t1)) ∷ []) → ⊥
-differing_is_none T r quiet e = let same = replayed_noted (first_open ∷ other_open ∷ []) T r quiet a1 in cc
+differing_is_none T r e = let same = replayed_noted (first_open ∷ other_open ∷ []) T r a1 in cc
 
 -- the close of a scope that isn't complete rolls its transaction back
 pub incomplete_rolls_back : scope_calls close.body (scopes_of 1 (first_open ∷ [])) ≡ (t1, RollbackCall t1) ∷ []

@@ -30,7 +30,7 @@ use Rattle.outcome_law.proofs.Aborting.{IsBarred, aborted_off, decided_off, off_
 use Rattle.outcome_law.proofs.OneOutcome.{answered_handed, final_cause, final_evident, heard_aborted}
 
 -- Where an append may come, nothing was logged.
-can_unlogged : (h : List Entry) → can_log h ≡ true → has is_logged h ≡ false
+pub can_unlogged : (h : List Entry) → can_log h ≡ true → has is_logged h ≡ false
 can_unlogged h t =
     let before_stop = has is_commit_got h && has is_yes_got h && each (λ i. has (is_ready_got i.enl.value) h) (all_of enlist_got h) && not (coordinator_aborted h) in
     not_true (has is_logged h) (and_right before_stop (not (has is_logged h)) (and_left (before_stop && not (has is_logged h)) (not (has is_stop h)) t))
@@ -40,7 +40,7 @@ marked_apart : (o : Option Bool) → is_marked o ≡ true → is_unmarked o ≡ 
 marked_apart (Some b) m u = absurd cc
 marked_apart None m u = absurd cc
 
-calm_unmarked : (h : List Entry) → Keeps h → has is_stop h ≡ false → has is_logged h ≡ false → is_unmarked (latest mark_of h) ≡ true
+pub calm_unmarked : (h : List Entry) → Keeps h → has is_stop h ≡ false → has is_logged h ≡ false → is_unmarked (latest mark_of h) ≡ true
 calm_unmarked [] k s l = refl
 calm_unmarked (Logged ∷ h) k s l = absurd cc
 calm_unmarked (Freed ∷ h) k s l = absurd (marked_apart (latest mark_of h) (newest Freed h k) (calm_unmarked h (keeps_before Freed h k) s l))
@@ -65,7 +65,7 @@ still_unmarked (x ∷ h) k s n u =
     still_unmarked h (keeps_before x h k) s (or_second (is_restart x) (has is_restart h) n) (subst (λ g. is_unmarked (latest mark_of g) ≡ true) (first_some (x ∷ h) h h s) u)
 
 -- so there is no record
-unmarked_unrecorded : (h : List Entry) → is_unmarked (latest mark_of h) ≡ true → has is_record h ≡ false
+pub unmarked_unrecorded : (h : List Entry) → is_unmarked (latest mark_of h) ≡ true → has is_record h ≡ false
 unmarked_unrecorded [] u = refl
 unmarked_unrecorded (Logged ∷ h) u = absurd cc
 unmarked_unrecorded (Freed ∷ h) u = absurd cc

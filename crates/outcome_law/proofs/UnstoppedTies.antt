@@ -1,4 +1,4 @@
--- Where the coordinator never stops no restart comes, so what a restart finds is tied to what was appended, promoted or not.
+-- Where the coordinator never stops no restart comes, and where no restart comes, what a restart finds is tied to what was appended, promoted or not.
 use Rattle.std.proofs.Common.{◌≡◌, ℕ, Bool, true, false, List, [], ◌∷◌, inl, inr, refl, sym, subst, ◌∙◌}
 use Rattle.dtx_values.specs.declared.call.Call.{Call}
 use Rattle.dtx_values.specs.declared.entry.Entry.{Entry}
@@ -9,6 +9,7 @@ use Rattle.dtx_values.specs.declared.message.Dir.TheVariants.{Up, Down}
 use Rattle.dtx_values.specs.declared.message.Message.{Message}
 use Rattle.dtx_values.specs.declared.number.ActorNo.{ActorNo}
 use Rattle.dtx_model.specs.Words.{each, has, onto}
+use Rattle.dtx_model.specs.AtLog.{is_restart}
 use Rattle.dtx_model.specs.Promotes.{identifier_of}
 use Rattle.dtx_model.specs.Tied.{is_stop, is_tied, tied}
 use Rattle.dtx_model.specs.Wires.{in_transit}
@@ -79,6 +80,12 @@ ran_tied G t (m ∷ ms) w r u =
 -- so where it is freely caused
 pub unstopped_tied : (G : ℕ → ActorNo → Call → Type 0) (t : ℕ) (h : List Entry) → FreelyCaused G t h → has is_stop h ≡ false → tied h ≡ true
 unstopped_tied G t h f u = ran_tied G t f.1.0 (record { calls = f.0; past = h }) f.1.1 u
+
+-- so it is of any history in which no restart came
+pub unrestarted_tied : (h : List Entry) → has is_restart h ≡ false → tied h ≡ true
+unrestarted_tied [] u = refl
+unrestarted_tied (Restarted found ∷ h) u = absurd cc
+unrestarted_tied (x ∷ h) u = unrestarted_tied h u
 
 -- where nothing is lost, it never stopped
 stop_loses : (x : Entry) → is_stop x ≡ true → is_loss x ≡ true

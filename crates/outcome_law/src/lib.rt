@@ -2,8 +2,8 @@
 //!
 //! Each law is a public function with an empty body. It does nothing when it runs. A caller calls it for its contract: after the call the
 //! proof of the caller has the law. Where a law is of histories in which each restart found what may be found, its clause says so by `tied`; where it is
-//! of those in which nothing is promoted, by the scan `is_unpromoted`, or `is_local_trace` of a whole trace; and of a trace in which nothing stands at the
-//! log, by `is_log_quiet`.
+//! of those in which nothing is promoted, by the scan `is_unpromoted`, or `is_local_trace` of a whole trace, in which
+//! nothing stands at the log either.
 #![tactic(auto)]
 
 ghost use Rattle.std.specs.Prelude.{◌≡◌, ◌||◌, ℕ, suc, true, false, List, ◌∷◌, ◌++◌, Bool, Some, length, slice_get};
@@ -35,13 +35,12 @@ ghost use Rattle.dtx_model.specs.Contexts.{context};
 ghost use Rattle.dtx_model.specs.declared.waiting.EnteredCall.{EnteredCall};
 ghost use Rattle.dtx_model.specs.World.{World};
 ghost use Rattle.dtx_model.specs.Caused.{IsCallOf, is_new, AreMadeOnce, Caused, FreelyCaused, IsIn, IsOwnRun, Settled, has_object, is_as_planned, is_unpromoted, plans_of};
-ghost use Rattle.dtx_model.specs.AtLog.{is_local_trace};
+ghost use Rattle.dtx_model.specs.AtLog.{follow_log, is_local_trace, is_restart};
 ghost use Rattle.dtx_model.specs.Traces.{Placed, history, at_context, calls};
 ghost use Rattle.dtx_model.specs.Replay.{IsReplayed, LinesRan, due_calls};
 ghost use Rattle.dtx_model.specs.History.{AreAnswered, CanCommit, IsHistory, IsReplay, IsToldOrWaits};
 ghost use Rattle.dtx_model.specs.Grammar.{are_named_well};
 ghost use Rattle.outcome_law.specs.Appended.{backs_append, has_append, is_abort_decision, is_barred, stopped_at_append};
-ghost use Rattle.outcome_law.specs.LogQuiet.{is_log_quiet};
 ghost use Rattle.outcome_law.specs.Stopped.{is_outcome_withheld, restarts_without_evidence};
 ghost use Rattle.outcome_law.specs.Waited.{AreCallsAnswered};
 
@@ -77,10 +76,12 @@ pub fn appends()
 
 /// What stops of the log do to the outcome, whatever was cut, stopped and started again. From a stop where an append may have been tried to the restart after it, nobody is
 /// told committed or aborted, neither is decided, and no owner answers so. And where a restart found no record, and there was no evidence before it, there is never evidence.
+/// Where no restart came, there is none that found what may not be found.
 pub fn stops()
     ensures withheld { (s : List Line) (t : ℕ) (h : List Entry) → are_named_well s ≡ true → FreelyCaused (IsCallOf s t) t h → tied h ≡ true → always is_outcome_withheld h ≡ true }
     ensures never { (s : List Line) (t : ℕ) (h : List Entry) → are_named_well s ≡ true → FreelyCaused (IsCallOf s t) t h → tied h ≡ true
         → ever restarts_without_evidence h ≡ true → evidence h ≡ false }
+    ensures unrestarted { (h : List Entry) → has is_restart h ≡ false → tied h ≡ true }
 {}
 
 /// What is caused over calls that were entered is caused over a script whose lines give these calls; and a script in which names are made once gives
@@ -97,30 +98,32 @@ pub fn crossings()
     ensures wires { (s : List Line) (t : ℕ) (h : List Entry) → FreelyCaused (IsCallOf s t) t h → WireRun h }
 {}
 
-/// A settled transaction that can commit is committed, promoted or not: its client was told so. Whatever was lost, enlistments and connections, as long as the
-/// coordinator didn't stop: if commit was asked, the client was told some outcome, or a blocking clone is open, or an enlistment whose reply is needed plans none; each
-/// enlistment that came back was told; and each call that had to wait was answered, or an enlistment that was asked to promote plans no reply to that.
+/// A settled transaction that can commit is committed, promoted or not: its client was told so. Whatever was lost, enlistments and connections, and however often the
+/// coordinator stopped and was started again, where each restart found what may be found: if commit was asked, the client was told some outcome, or a blocking clone is
+/// open, or an enlistment whose reply is needed plans none; each enlistment that came back was told, unless that was broken off, or nothing is decided at the coordinator;
+/// and each call that had to wait was answered, or an enlistment that was asked to promote plans no reply to that.
 pub fn completeness()
-    ensures told { (s : List Line) (k t : ℕ) (h : List Entry) → are_named_well s ≡ true → Caused s k t h → has is_stop h ≡ false → IsToldOrWaits s h }
+    ensures told { (s : List Line) (k t : ℕ) (h : List Entry) → are_named_well s ≡ true → Caused s k t h → tied h ≡ true → IsToldOrWaits s h }
     ensures committed { (s : List Line) (k t : ℕ) (h : List Entry) → are_named_well s ≡ true → Caused s k t h → Settled s h → CanCommit s h
         → has (is_client_told Committed) h ≡ true }
-    ensures answered { (s : List Line) (k t : ℕ) (h : List Entry) → are_named_well s ≡ true → Caused s k t h → has is_stop h ≡ false → AreAnswered s h }
-    ensures waited { (s : List Line) (k t : ℕ) (h : List Entry) → are_named_well s ≡ true → Caused s k t h → has is_stop h ≡ false → AreCallsAnswered s h }
+    ensures answered { (s : List Line) (k t : ℕ) (h : List Entry) → are_named_well s ≡ true → Caused s k t h → tied h ≡ true → AreAnswered s h }
+    ensures waited { (s : List Line) (k t : ℕ) (h : List Entry) → are_named_well s ≡ true → Caused s k t h → tied h ≡ true → AreCallsAnswered s h }
 {}
 
-/// What a replay does in its order, promoted or not, as long as nothing stands at the log, is caused by its script in each transaction where its replies are
-/// as planned, is at each context what its actor's lines write there, and has each line's call exactly once at each of its places and in order. Where the
-/// lines before it ran, a line was called nowhere, and what its call makes is new. Where nothing is promoted either, a script has one trace. The trace is
-/// read newest first, but for the last clause.
+/// What a replay does in its order, promoted or not, whatever stops of the log and restarts come, is caused by its script in each transaction where its
+/// replies are as planned, is at each context what its actor's lines write there, has each line's call exactly once at each of its places and in order, and
+/// its transactions follow the log. Where the lines before it ran, a line was called nowhere, and what its call makes is new. Where nothing is promoted and
+/// nothing stands at the log, a script has one trace. The trace is read newest first, but for the last clause.
 pub fn replay()
-    ensures caused { (s : List Line) (T : List Placed) → IsReplayed s T → is_log_quiet T ≡ true → (k : ℕ)
+    ensures caused { (s : List Line) (T : List Placed) → IsReplayed s T → (k : ℕ)
         → ((t : TxNo) → always (is_as_planned (plans_of s) (has_object s k)) (history t.value T) ≡ true) → (t : TxNo) → Caused s k t.value (history t.value T) }
-    ensures contexts { (s : List Line) (T : List Placed) → IsReplayed s T → is_log_quiet T ≡ true → (a : ActorNo) → at_context a.value T ≡ context a.value (past_of s) }
-    ensures called { (s : List Line) (T : List Placed) → IsReplayed s T → is_log_quiet T ≡ true → calls T ≡ due_calls s (past_of s) }
-    ensures uncalled { (s xs ys : List Line) (l : Line) (T : List Placed) → s ≡ xs ++ l ∷ ys → LinesRan s (past_of xs) T → is_log_quiet T ≡ true → (t : TxNo)
+    ensures contexts { (s : List Line) (T : List Placed) → IsReplayed s T → (a : ActorNo) → at_context a.value T ≡ context a.value (past_of s) }
+    ensures called { (s : List Line) (T : List Placed) → IsReplayed s T → calls T ≡ due_calls s (past_of s) }
+    ensures followed { (s : List Line) (T : List Placed) → IsReplayed s T → follow_log T ≡ true }
+    ensures uncalled { (s xs ys : List Line) (l : Line) (T : List Placed) → s ≡ xs ++ l ∷ ys → LinesRan s (past_of xs) T → (t : TxNo)
         → has (is_call (suc (length xs))) (history t.value T) ≡ false }
     ensures fresh { (s xs ys : List Line) (l : Line) (T : List Placed) (t : TxNo) (c : Call) → s ≡ xs ++ l ∷ ys → are_named_well s ≡ true → LinesRan s (past_of xs) T
-        → is_log_quiet T ≡ true → call_of s l.body ≡ Some (t, c) → is_new (observe (history t.value T)) c ≡ true }
+        → call_of s l.body ≡ Some (t, c) → is_new (observe (history t.value T)) c ≡ true }
     ensures determined { (s : List Line) (T U : List Placed) (rise : ℕ) (honest : Bool) → IsHistory s 0 rise T → IsReplay s rise honest T
         → IsHistory s 0 rise U → IsReplay s rise honest U → is_local_trace T ≡ true → is_local_trace U ≡ true → T ≡ U }
 {}

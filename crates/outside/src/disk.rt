@@ -33,9 +33,10 @@ pub trait Disk {
     /// How many calls met a fault, where the count stays at the last value of a `u64`.
     ghost faults: { Self → ℕ };
 
-    /// Its length in bytes.
+    /// Its length in bytes. At any moment, after a fault too, what a read gives is one of the images: bytes that a crash now may leave.
     fn len(&self) -> u64
-        ensures { result ≡ size self.now };
+        ensures size { result ≡ size self.now }
+        ensures among { IsTrue honest → image self.now (seen self.now) };
 
     /// Reads the bytes from place `at` on, as many as `into` holds. They lie inside the device.
     ///

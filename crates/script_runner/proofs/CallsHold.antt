@@ -1,34 +1,38 @@
--- A call that was entered at a transaction of a run: what holds of the run holds after it, and as long as nothing stands at the log it is a turn of the trace.
-use Rattle.std.proofs.Common.{◌≡◌, ◌≢◌, ◌≤◌, ◌-◌, ℕ, Bool, true, arith, List, [], ◌∷◌, ◌++◌, length, get_or, set, Option, inl, inr, refl, ap, sym, subst, ◌∙◌}
+-- A call that was entered at a transaction of a run: what holds of the run holds after it, and it is a turn of the trace.
+use Rattle.std.proofs.Common.{◌≡◌, ◌≢◌, ◌≤◌, ◌-◌, ℕ, Bool, true, ◌&&◌, not, arith, List, [], ◌∷◌, ◌++◌, length, get_or, set, inl, inr, refl, ap, sym, subst, ◌∙◌, if◌then◌else◌}
 use Rattle.std.specs.Prelude.{IsTrue}
 use Rattle.dtx_values.specs.declared.call.Call.{Call}
 use Rattle.dtx_values.specs.declared.entry.Entry.{Entry}
+use Rattle.dtx_values.specs.declared.entry.Entry.TheVariants.{Stopped}
 use Rattle.dtx_values.specs.declared.number.ActorNo.{ActorNo}
 use Rattle.dtx_values.specs.declared.number.TxNo.{TxNo}
 use Rattle.dtx_values.specs.declared.script.Line.{Line}
-use Rattle.dtx_model.specs.Words.{onto, past_of}
+use Rattle.dtx_model.specs.Words.{each, latest, onto, past_of}
 use Rattle.dtx_model.specs.declared.waiting.EnteredCall.{EnteredCall}
-use Rattle.dtx_model.specs.Log.{CommitRecord}
-use Rattle.dtx_model.specs.Promotes.{identifier_of}
-use Rattle.dtx_model.specs.World.{World, core}
-use Rattle.dtx_model.specs.Steps.{Step, Calls}
+use Rattle.dtx_model.specs.AtLog.{at_log, is_called, unless_said, up_of}
+use Rattle.dtx_model.specs.Tied.{tied as is_tied_history}
+use Rattle.dtx_model.specs.World.{World}
+use Rattle.dtx_model.specs.Steps.{Step, Calls, block_at}
 use Rattle.dtx_model.specs.Caused.{AreMadeOnce, IsCallOf, IsIn, IsOwnRun, MayAnswer, plans_of}
 use Rattle.dtx_model.specs.Traces.{Placed, history, placed}
 use Rattle.dtx_model.specs.Replay.{after_turn}
-use Rattle.coordinator_log.specs.Slots.{open_records}
+use Rattle.dtx_model.proofs.Bools.{and_both, and_left, and_right}
 use Rattle.coordinator_log.specs.State.{LogState}
-use Rattle.outcome_law.specs.LogQuiet.{is_log_quiet}
-use Rattle.outcome_law.proofs.ReplayTurns.{placed_quiet, quiet_before}
-use Rattle.tx_world.specs.AtLog.{Fits, IsFit, IsOurs, id_of}
-use Rattle.tx_world.specs.State.{TxState, life_after, may_enter, turned}
+use Rattle.outcome_law.proofs.FollowingLog.{log-placed}
+use Rattle.tx_world.specs.AtLog.{IsHad}
+use Rattle.tx_world.specs.State.{TxState, may_enter, sends_begin, turned}
 use Rattle.tx_world.specs.Stepping.{Does}
-use Rattle.script_runner.specs.RunState.{AreNumbered, Holds, IsBelow, IsCalm, IsQuiet, IsTied, RunState, Runs, state_of}
-use Rattle.script_runner.proofs.Calmed.{calm_after}
-use Rattle.script_runner.proofs.Deeds.{calm_block}
+use Rattle.tx_world.proofs.StillTied.{turned_tied}
+use Rattle.script_runner.specs.RunState.{AreNumbered, FitsLog, GoesWith, Holds, IsBelow, IsRecordKept, IsTied, IsToPlan, RunState, Tells, state_of}
+use Rattle.script_runner.proofs.Deeds.{untelling_block}
 use Rattle.script_runner.proofs.Entering.{enters, given_more}
+use Rattle.script_runner.proofs.Fitting.{fits_as, had_as}
+use Rattle.script_runner.proofs.Goes.{goes_step}
 use Rattle.script_runner.proofs.Noting.{history_here, history_there, trace_noted}
 use Rattle.script_runner.proofs.Numbered.{is_it, state_here, state_reached, state_there}
-use Rattle.script_runner.proofs.Turns.{IsOwn, own_at, turn_here, turned_calls, turned_past, turned_up, written, written_up}
+use Rattle.script_runner.proofs.Telling.{is_untelling, tells_block}
+use Rattle.script_runner.proofs.Turns.{IsOwn, own_at, turn_here, turned_calls, turned_past, written}
+use Rattle.script_runner.proofs.Tying.{planned_written, tied_same, to_plan_onto}
 
 -- A call of line n was entered at transaction t, which was x and is y then: what it wrote stands at the end of the trace, and the other transactions are as before.
 pub record Entered {D : Type 0} (faults : D → ℕ) (log : LogState D) (t : TxNo) (n : ℕ) (a : ActorNo) (c : Call) (m : ℕ) (x y : TxState) (old new : RunState) : Type 0 where
@@ -40,28 +44,13 @@ pub record Entered {D : Type 0} (faults : D → ℕ) (log : LogState D) (t : TxN
   pub does : Does faults (Calls n a c m) x log y log
   pub ours : y.ours ≡ x.ours
   pub unsure : y.unsure ≡ x.unsure
-  pub kept : IsOurs (id_of y) (core y.world) (record { ours = y.ours; unsure = y.unsure; life = y.life })
+  pub kept : IsRecordKept y
   pub block : past_of new.trace ≡ onto (past_of old.trace) (placed t (written log.is_up t.value x.world (Calls n a c m)))
 
 -- the world after it
 world_after : {D : Type 0} (faults : D → ℕ) (log : LogState D) (t : TxNo) (n : ℕ) (a : ActorNo) (c : Call) (m : ℕ) (x y : TxState) (old new : RunState)
     → Entered faults log t n a c m x y old new → y.world ≡ turned log.is_up t.value x.world (Calls n a c m)
 world_after faults log t n a c m x y old new e = e.does.world ∙ ap (λ (u : TxNo). turned log.is_up u.value x.world (Calls n a c m)) e.own.transaction
-
--- nothing more stands at the log
-quiet_back : {D : Type 0} (faults : D → ℕ) (log : LogState D) (t : TxNo) (n : ℕ) (a : ActorNo) (c : Call) (m : ℕ) (x y : TxState) (old new : RunState)
-    → Entered faults log t n a c m x y old new → IsQuiet new → IsQuiet old
-quiet_back faults log t n a c m x y old new e q =
-    quiet_before (past_of old.trace) (placed t (written log.is_up t.value x.world (Calls n a c m))) (subst (λ (T : List Placed). is_log_quiet T ≡ true) e.block q)
-
-pub entered_runs : {D : Type 0} (faults : D → ℕ) (log : LogState D) (t : TxNo) (n : ℕ) (a : ActorNo) (c : Call) (m : ℕ) (x y : TxState) (old new : RunState)
-    → Entered faults log t n a c m x y old new → Runs faults log log old new
-entered_runs faults log t n a c m x y old new e =
-    record {
-      script = e.script;
-      back = λ q. quiet_back faults log t n a c m x y old new e q;
-      forth = λ q. inl (subst (λ (T : List Placed). is_log_quiet T ≡ true) (sym e.block) (placed_quiet t (written log.is_up t.value x.world (Calls n a c m)) (past_of old.trace) q));
-    }
 
 -- the transaction stays tied to its history
 tied_here : {D : Type 0} (faults : D → ℕ) (log : LogState D) (t : TxNo) (n : ℕ) (a : ActorNo) (c : Call) (m : ℕ) (x y : TxState) (old new : RunState)
@@ -73,12 +62,13 @@ tied_here faults log t n a c m x y old new e mine tied =
     let k : EnteredCall = record { line = n; actor = a; call = c } in
     let world = world_after faults log t n a c m x y old new e in
     let calls : y.world.calls ≡ k ∷ x.world.calls = ap (λ (w : World). w.calls) world ∙ turned_calls log.is_up t.value x.world step in
+    let past : y.world.past ≡ onto x.world.past es = ap (λ (w : World). w.past) world ∙ turned_past log.is_up t.value x.world step in
     record {
-      past =
-          ap (λ (w : World). w.past) world ∙ turned_past log.is_up t.value x.world step ∙ ap (λ (h : List Entry). onto h es) tied.past
-          ∙ sym (ap (λ (U : List Placed). history t.value U) e.block ∙ history_here t T es);
+      past = past ∙ ap (λ (h : List Entry). onto h es) tied.past ∙ sym (ap (λ (U : List Placed). history t.value U) e.block ∙ history_here t T es);
       given = subst (λ (ks : List EnteredCall). (j : ℕ) (b : ActorNo) (d : Call) → IsIn ks j b d → IsCallOf old.script t.value j b d) (sym calls)
           (given_more old.script t.value k x.world.calls mine tied.given);
+      planned = subst (λ (h : List Entry). IsToPlan old.script h) (sym past)
+          (to_plan_onto old.script x.world.past es tied.planned (planned_written (plans_of old.script) log.is_up t.value x.world step tt));
     }
 
 -- and so do the others
@@ -89,27 +79,27 @@ tied_there faults log t n a c m x y old new e u apart tied =
     let same = sym (e.others u apart) in
     let there : history u.value (past_of new.trace) ≡ history u.value (past_of old.trace) =
     ap (λ (U : List Placed). history u.value U) e.block ∙ history_there u t (past_of old.trace) es apart in
-    subst (λ (z : TxState). IsTied old.script u (past_of new.trace) z) same (record { past = tied.past ∙ sym there; given = tied.given })
+    subst (λ (z : TxState). IsTied old.script u (past_of new.trace) z) same (tied_same old.script u (past_of old.trace) (past_of new.trace) (state_of u old.worlds) there tied)
 
--- as long as no fault stopped the log, the transaction stays calm
-calm_here : {D : Type 0} (faults : D → ℕ) (log : LogState D) (t : TxNo) (n : ℕ) (a : ActorNo) (c : Call) (m : ℕ) (x y : TxState) (old new : RunState)
-    → Entered faults log t n a c m x y old new → IsTrue log.is_up → IsCalm old.script log.life x → IsCalm old.script log.life y
-calm_here faults log t n a c m x y old new e up calm =
-    let step : Step = Calls n a c m in
-    calm_after old.script log.life t.value (id_of y) x y step calm (world_after faults log t n a c m x y old new e ∙ turned_up log.is_up t.value x.world step up)
-    (e.does.life ∙ ap (λ (u : TxNo). life_after log.life u.value x.world step x.life) e.own.transaction) (calm_block (plans_of old.script) t.value x.world step refl tt) e.kept
+-- What holds of each transaction holds still, where it does of the one that was called.
+each_still : {D : Type 0} (faults : D → ℕ) (log : LogState D) (t : TxNo) (n : ℕ) (a : ActorNo) (c : Call) (m : ℕ) (x y : TxState) (old new : RunState) (P : TxState → Type 0)
+    → Entered faults log t n a c m x y old new → (P x → P y) → ((u : TxNo) → P (state_of u old.worlds)) → (u : TxNo) → P (state_of u new.worlds)
+each_still faults log t n a c m x y old new P e here all u = elim (is_it u t) [
+  | inl k ↦ subst (λ (v : TxNo). P (state_of v new.worlds)) (sym k) (subst P (sym e.now) (here (subst P e.was (all t))))
+  | inr k ↦ subst P (sym (e.others u k)) (all u)
+]
 
--- what fits the transaction fits it still
-fits_by : (y x : TxState) (rs : List CommitRecord) → y.transaction ≡ x.transaction → y.ours ≡ x.ours → y.unsure ≡ x.unsure → Fits x rs → Fits y rs
-fits_by y x rs number ours unsure f =
-    subst (λ (u : TxNo). IsFit (identifier_of u.value) y.ours y.unsure rs) (sym number)
-    (subst (λ (o : Option CommitRecord). IsFit (id_of x) o y.unsure rs) (sym ours) (subst (λ b. IsFit (id_of x) x.ours b rs) (sym unsure) f))
+-- Nothing comes to the log.
+log_still : {D : Type 0} (faults : D → ℕ) (log : LogState D) (t : TxNo) (n : ℕ) (a : ActorNo) (c : Call) (m : ℕ) (x y : TxState) (old new : RunState)
+    → Entered faults log t n a c m x y old new → at_log (past_of new.trace) ≡ at_log (past_of old.trace)
+log_still faults log t n a c m x y old new e = ap at_log e.block ∙ log-placed t (written log.is_up t.value x.world (Calls n a c m)) (past_of old.trace)
 
--- So what holds of the run holds still.
-pub entered_holds : {D : Type 0} (faults : D → ℕ) (honest : Bool) (log : LogState D) (t : TxNo) (n : ℕ) (a : ActorNo) (c : Call) (m : ℕ) (x y : TxState) (old new : RunState)
-    → Entered faults log t n a c m x y old new → IsCallOf old.script t.value n a c → Holds honest log old → Holds honest log new
-entered_holds faults honest log t n a c m x y old new e mine h =
+-- So what holds of the run holds still,
+pub entered_holds : {D : Type 0} (faults : D → ℕ) (honest : Bool) (image : D → List ℕ → Type 0) (log : LogState D) (t : TxNo) (n : ℕ) (a : ActorNo) (c : Call) (m : ℕ) (x y : TxState) (old new : RunState)
+    → Entered faults log t n a c m x y old new → IsCallOf old.script t.value n a c → Holds honest image log old → Holds honest image log new
+entered_holds faults honest image log t n a c m x y old new e mine h =
     let s = old.script in
+    let step : Step = Calls n a c m in
     let tied : (u : TxNo) → IsTied s u (past_of new.trace) (state_of u new.worlds) = λ u. elim (is_it u t) [
       | inl k ↦
           subst (λ (v : TxNo). IsTied s v (past_of new.trace) (state_of v new.worlds)) (sym k)
@@ -117,42 +107,49 @@ entered_holds faults honest log t n a c m x y old new e mine h =
           (tied_here faults log t n a c m x y old new e mine (subst (λ (z : TxState). IsTied s t (past_of old.trace) z) e.was (h.tied t))))
       | inr k ↦ tied_there faults log t n a c m x y old new e u k (h.tied u)
     ] in
-    let fit : Fits x (open_records log.slots) → Fits y (open_records log.slots) = fits_by y x (open_records log.slots) e.does.transaction e.ours e.unsure in
-    let back : IsQuiet new → IsQuiet old = λ q. quiet_back faults log t n a c m x y old new e q in
+    let at = log_still faults log t n a c m x y old new e in
     record {
       tied = λ u. subst (λ (r : List Line). IsTied r u (past_of new.trace) (state_of u new.worlds)) (sym e.script) (tied u);
-      unarmed = h.unarmed;
-      fits = λ hon up u. elim (is_it u t) [
-        | inl k ↦
-            subst (λ (v : TxNo). Fits (state_of v new.worlds) (open_records log.slots)) (sym k)
-            (subst (λ (z : TxState). Fits z (open_records log.slots)) (sym e.now) (fit (subst (λ (z : TxState). Fits z (open_records log.slots)) e.was (h.fits hon up t))))
-        | inr k ↦ subst (λ (z : TxState). Fits z (open_records log.slots)) (sym (e.others u k)) (h.fits hon up u)
-      ];
-      up = λ q. h.up (back q);
-      calm = λ q u. subst (λ (r : List Line). IsCalm r log.life (state_of u new.worlds)) (sym e.script) (elim (is_it u t) [
-        | inl k ↦
-            subst (λ (v : TxNo). IsCalm s log.life (state_of v new.worlds)) (sym k)
-            (subst (λ (z : TxState). IsCalm s log.life z) (sym e.now)
-            (calm_here faults log t n a c m x y old new e (h.up (back q)) (subst (λ (z : TxState). IsCalm s log.life z) e.was (h.calm (back q) t))))
-        | inr k ↦ subst (λ (z : TxState). IsCalm s log.life z) (sym (e.others u k)) (h.calm (back q) u)
-      ]);
+      kept = each_still faults log t n a c m x y old new IsRecordKept e (λ k. e.kept) h.kept;
+      goes = each_still faults log t n a c m x y old new (GoesWith log) e (λ k. goes_step faults t x y log log step e.own e.does refl k tt) h.goes;
+      had = each_still faults log t n a c m x y old new (λ z. IsHad z log) e (had_as log x y e.does.transaction e.ours) h.had;
+      up = h.up ∙ ap (λ (es : List Entry). unless_said (latest up_of es)) (sym at);
+      uncalled = λ up. ap is_called at ∙ h.uncalled up;
+      fits = λ hon. each_still faults log t n a c m x y old new (FitsLog image log) e (fits_as image log x y e.does.transaction e.ours e.unsure) (h.fits hon);
+      sound = λ hon. each_still faults log t n a c m x y old new (λ z. is_tied_history z.world.past ≡ true) e
+          (λ k. subst (λ (w : World). is_tied_history w.past ≡ true) (sym (world_after faults log t n a c m x y old new e)) (turned_tied log.is_up t.value x.world step refl k)) (h.sound hon);
     }
 
--- and as long as nothing stands at the log, the call is a turn
-pub entered_turn : {D : Type 0} (faults : D → ℕ) (honest : Bool) (log : LogState D) (t : TxNo) (n : ℕ) (a : ActorNo) (c : Call) (m : ℕ) (x y : TxState) (old new : RunState)
-    → Entered faults log t n a c m x y old new → Holds honest log old → IsQuiet new → past_of new.trace ≡ after_turn old.script t (Calls n a c m) (past_of old.trace)
-entered_turn faults honest log t n a c m x y old new e h q =
+-- the trace tells the same of the log,
+untelling_call : (up : Bool) (t : ℕ) (w : World) (n : ℕ) (a : ActorNo) (c : Call) (m : ℕ) → each is_untelling (written up t w (Calls n a c m)) ≡ true
+untelling_call up t w n a c m = by (sends_begin t w (Calls n a c m) && not up)
+  where
+    with_stop : (es : List Entry) → each is_untelling es ≡ true → each is_untelling (es ++ Stopped ∷ []) ≡ true
+    with_stop [] k = refl
+    with_stop (x ∷ es) k = and_both (is_untelling x) (each is_untelling (es ++ Stopped ∷ [])) (and_left (is_untelling x) (each is_untelling es) k) (with_stop es (and_right (is_untelling x) (each is_untelling es) k))
+
+    by : (b : Bool) → each is_untelling (if b then block_at t w (Calls n a c m) ++ Stopped ∷ [] else block_at t w (Calls n a c m)) ≡ true
+    by true = with_stop (block_at t w (Calls n a c m)) (untelling_block t w (Calls n a c m) refl refl)
+    by false = untelling_block t w (Calls n a c m) refl refl
+
+pub entered_tells : {D : Type 0} (faults : D → ℕ) (honest : Bool) (image : D → List ℕ → Type 0) (start log : LogState D) (t : TxNo) (n : ℕ) (a : ActorNo) (c : Call) (m : ℕ) (x y : TxState) (old new : RunState)
+    → Entered faults log t n a c m x y old new → Tells faults honest image start log (past_of old.trace) → Tells faults honest image start log (past_of new.trace)
+entered_tells faults honest image start log t n a c m x y old new e k =
+    subst (Tells faults honest image start log) (sym e.block)
+    (tells_block faults honest image start log (past_of old.trace) t (written log.is_up t.value x.world (Calls n a c m)) (untelling_call log.is_up t.value x.world n a c m) k)
+
+-- and the call is a turn.
+pub entered_turn : {D : Type 0} (faults : D → ℕ) (honest : Bool) (image : D → List ℕ → Type 0) (log : LogState D) (t : TxNo) (n : ℕ) (a : ActorNo) (c : Call) (m : ℕ) (x y : TxState) (old new : RunState)
+    → Entered faults log t n a c m x y old new → Holds honest image log old → past_of new.trace ≡ after_turn old.script t (Calls n a c m) (past_of old.trace)
+entered_turn faults honest image log t n a c m x y old new e h =
     let T = past_of old.trace in
-    let before = quiet_back faults log t n a c m x y old new e q in
     let tied : IsTied old.script t T x = subst (λ (z : TxState). IsTied old.script t T z) e.was (h.tied t) in
-    e.block ∙ ap (λ (es : List Entry). onto T (placed t es)) (written_up log.is_up t.value x.world (Calls n a c m) (h.up before))
-    ∙ turn_here old.script t T x (Calls n a c m) tied e.own before refl
+    e.block ∙ turn_here old.script t T x (Calls n a c m) log.is_up tied e.own h.up refl
 
 -- The run has entered a call, where its transaction stood at t's place and was put there again.
 pub entered_at_place : {D : Type 0} (faults : D → ℕ) (log : LogState D) (t : TxNo) (n : ℕ) (a : ActorNo) (c : Call) (m : ℕ) (x y : TxState) (old new : RunState) (ws : List TxState) → AreNumbered ws
     → t.value ≤ length ws → x ≡ get_or ws (t.value - 1) x → ((u : TxNo) → state_of u ws ≡ state_of u old.worlds) → new.script ≡ old.script → new.worlds ≡ set ws (t.value - 1) y
-    → IsOwnRun x.transaction.value x.world → Does faults (Calls n a c m) x log y log → (y.ours ≡ x.ours) × (y.unsure ≡ x.unsure)
-    → IsOurs (id_of y) (core y.world) (record { ours = y.ours; unsure = y.unsure; life = y.life }) → new.trace ≡ old.trace ++ placed t (written log.is_up t.value x.world (Calls n a c m))
+    → IsOwnRun x.transaction.value x.world → Does faults (Calls n a c m) x log y log → (y.ours ≡ x.ours) × (y.unsure ≡ x.unsure) → IsRecordKept y → new.trace ≡ old.trace ++ placed t (written log.is_up t.value x.world (Calls n a c m))
     → Entered faults log t n a c m x y old new
 entered_at_place faults log t n a c m x y old new ws numbered made here same script worlds run does ours kept noted =
     let at : state_of t ws ≡ x = state_reached t ws x made here in

@@ -1,56 +1,41 @@
 -- How the parts of a run follow each other: what two parts in a row keep, they keep together.
-use Rattle.std.proofs.Common.{◌≡◌, ◌≤◌, ◌∙◌, ℕ, Bool, true, List, refl, sym, subst, arith, inl, inr}
+use Rattle.std.proofs.Common.{◌≡◌, ◌≤◌, ◌∙◌, ℕ, Bool, true, List, sym, subst, refl, arith, inl, inr}
 use Rattle.std.specs.Prelude.{nat_lt}
 use Rattle.outside.proofs.Rising.{rose_earlier, rose_later}
 use Rattle.dtx_model.specs.declared.waiting.EnteredCall.{EnteredCall}
 use Rattle.dtx_model.specs.Words.{each}
 use Rattle.coordinator_log.specs.State.{LogState}
 use Rattle.tx_world.specs.State.{TxState}
-use Rattle.script_runner.specs.RunState.{AreBelow, HaveSameCalls, LogGoes, RunState, Runs}
+use Rattle.script_runner.specs.LogRun.{LogGoes, LogStays}
+use Rattle.script_runner.specs.RunState.{AreBelow, HaveSameCalls}
 
 -- a log that nothing touched
 pub goes_same : {D : Type 0} (faults : D → ℕ) (honest : Bool) (image : D → List ℕ → Type 0) (log : LogState D) → LogGoes faults honest image log log
-goes_same faults honest image log = record { grows = omega arith; stays = λ up none. inl up; still = λ up. up; unarmed = λ none. none; others = λ h up id out. refl; logs = λ h are. are }
+goes_same faults honest image log = record { grows = omega arith; logs = λ h are. are; foreign = λ h before kept. kept }
+
+pub stays_same : {D : Type 0} (faults : D → ℕ) (log : LogState D) → LogStays faults log log
+stays_same faults log = record { stays = λ up none. inl up; still = λ up. up; unarmed = λ none. none; life = refl }
 
 -- two parts of a run in a row, at the log
 pub goes_then : {D : Type 0} (faults : D → ℕ) (honest : Bool) (image : D → List ℕ → Type 0) (a b c : LogState D) → LogGoes faults honest image a b → LogGoes faults honest image b c
     → LogGoes faults honest image a c
 goes_then faults honest image a b c p q =
+    record { grows = omega (arith, p.grows, q.grows); logs = λ h are. q.logs h (p.logs h are); foreign = λ h before kept. q.foreign h before (p.foreign h before kept) }
+
+pub stays_then : {D : Type 0} (faults : D → ℕ) (a b c : LogState D) → faults a.disk ≤ faults b.disk → faults b.disk ≤ faults c.disk → LogStays faults a b → LogStays faults b c → LogStays faults a c
+stays_then faults a b c first second p q =
     record {
-      grows = omega (arith, p.grows, q.grows);
       stays = λ up none.
           elim (p.stays up none) [
             | inl here ↦ elim (q.stays here (p.unarmed none)) [
-              | inl there ↦ inl there
-              | inr rose ↦ inr (rose_earlier (faults a.disk) (faults b.disk) (faults c.disk) p.grows rose)
-            ]
-            | inr rose ↦ inr (rose_later (faults a.disk) (faults b.disk) (faults c.disk) rose q.grows)
-          ];
-      still = λ up. p.still (q.still up);
-      unarmed = λ none. q.unarmed (p.unarmed none);
-      others = λ h up id out. q.others h up id out ∙ p.others h (q.still up) id out;
-      logs = λ h are. q.logs h (p.logs h are);
-    }
-
--- a run that nothing touched
-pub runs_same : {D : Type 0} (faults : D → ℕ) (log : LogState D) (r : RunState) → Runs faults log log r r
-runs_same faults log r = record { script = refl; back = λ quiet. quiet; forth = λ quiet. inl quiet }
-
--- two parts of a run in a row
-pub runs_then : {D : Type 0} (faults : D → ℕ) (a b c : LogState D) (x y z : RunState) → faults a.disk ≤ faults b.disk → faults b.disk ≤ faults c.disk
-    → Runs faults a b x y → Runs faults b c y z → Runs faults a c x z
-runs_then faults a b c x y z first second p q =
-    record {
-      script = q.script ∙ p.script;
-      back = λ quiet. p.back (q.back quiet);
-      forth = λ quiet.
-          elim (p.forth quiet) [
-            | inl here ↦ elim (q.forth here) [
               | inl there ↦ inl there
               | inr rose ↦ inr (rose_earlier (faults a.disk) (faults b.disk) (faults c.disk) first rose)
             ]
             | inr rose ↦ inr (rose_later (faults a.disk) (faults b.disk) (faults c.disk) rose second)
           ];
+      still = λ up. p.still (q.still up);
+      unarmed = λ none. q.unarmed (p.unarmed none);
+      life = q.life ∙ p.life;
     }
 
 -- no part entered a call

@@ -8,8 +8,6 @@ use Rattle.dtx_model.specs.Traces.{Placed, history, placed}
 use Rattle.dtx_model.proofs.Histories.{history-other, history-same, onto-append}
 use Rattle.dtx_model.proofs.Pasts.{length-past}
 use Rattle.dtx_model.proofs.SameNumbers.{same_transaction}
-use Rattle.outcome_law.specs.LogQuiet.{is_log_quiet}
-use Rattle.outcome_law.proofs.ReplayTurns.{placed_quiet, quiet_before}
 
 -- A history that is turned round twice is itself.
 turned : {E : Type 0} (ys acc xs : List E) → onto ys (onto acc xs) ≡ onto (xs ++ ys) acc
@@ -54,10 +52,3 @@ history_here t T es = history-same t.value t T es ((Decides-eqb t.value t.value)
 
 pub history_there : (u t : TxNo) (T : List Placed) (es : List Entry) → u ≢ t → history u.value (onto T (placed t es)) ≡ history u.value T
 history_there u t T es n = elim (eqb_tells u.value t.value) [ inl k ↦ absurd (n (same_transaction u t k.1)) | inr k ↦ history-other u.value t T es k.0 ]
-
--- nothing stands at the log with the block exactly where nothing did before
-pub quiet_noted : (T U : List Placed) (t : TxNo) (es : List Entry) → U ≡ onto T (placed t es) → is_log_quiet T ≡ true → is_log_quiet U ≡ true
-quiet_noted T U t es e quiet = subst (λ (V : List Placed). is_log_quiet V ≡ true) (sym e) (placed_quiet t es T quiet)
-
-pub quiet_was : (T U : List Placed) (t : TxNo) (es : List Entry) → U ≡ onto T (placed t es) → is_log_quiet U ≡ true → is_log_quiet T ≡ true
-quiet_was T U t es e quiet = quiet_before T (placed t es) (subst (λ (V : List Placed). is_log_quiet V ≡ true) e quiet)

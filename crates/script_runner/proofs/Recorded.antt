@@ -1,25 +1,37 @@
--- The log at the end of a run: its records are those of the transactions that have one by their histories.
-use Rattle.std.proofs.Common.{◌≡◌, ◌≤◌, ◌∙◌, ℕ, zero, suc, Bool, true, false, List, [], ◌∷◌, Option, Some, None, arith, refl, sym, ap, subst, inl}
-use Rattle.std.specs.Prelude.{IsTrue, filter, is_some, length, if◌then◌else◌}
+-- The log at the start and at the end of a run: before the first step it fits each transaction, and at the end its records are those that the trace says.
+use Rattle.std.proofs.Common.{◌≡◌, ◌≤◌, ◌∙◌, ℕ, zero, suc, Bool, true, false, ◌&&◌, ◌||◌, not, List, [], ◌∷◌, Option, Some, None, arith, refl, sym, ap, subst, inl, inr}
+use Rattle.std.specs.Prelude.{IsTrue, IfOk, Ok, filter, is_some, length, if◌then◌else◌}
+use Rattle.std.proofs.lemmas.Bool.{false_from_ne_true, or_left}
+use Rattle.dtx_values.specs.declared.entry.Entry.{Entry}
+use Rattle.dtx_values.specs.declared.entry.Entry.TheVariants.{Restarted}
 use Rattle.dtx_values.specs.declared.number.TxNo.{TxNo}
 use Rattle.dtx_values.specs.declared.script.Line.{Line}
-use Rattle.dtx_model.specs.Words.{kth, past_of}
-use Rattle.dtx_model.specs.Log.{CommitRecord, first_of, is_record_of}
+use Rattle.dtx_model.specs.Words.{has, kth, latest, past_of}
+use Rattle.dtx_model.specs.AtLog.{is_known}
+use Rattle.dtx_model.specs.Coordinated.{coordinate, is_recorded}
+use Rattle.dtx_model.specs.Log.{CommitRecord, first_of, is_record_of, log_has}
 use Rattle.dtx_model.specs.Promotes.{identifier_of}
-use Rattle.dtx_model.specs.Tied.{has_mark}
+use Rattle.dtx_model.specs.Tied.{before_first_stop, before_last_stop, can_free, can_log, has_mark, is_tied, is_unmarked, mark_of, tied as is_tied_history}
 use Rattle.dtx_model.specs.Traces.{Placed, history}
+use Rattle.dtx_model.specs.World.{World, core}
+use Rattle.dtx_model.specs.Caused.{is_begin_sent}
 use Rattle.dtx_model.specs.declared.waiting.EnteredCall.{EnteredCall}
+use Rattle.dtx_model.proofs.Bools.{not_both}
+use Rattle.coordinator_log.specs.Crash.{AllHold}
 use Rattle.coordinator_log.specs.Slots.{open_records}
 use Rattle.coordinator_log.specs.State.{LogState}
-use Rattle.outcome_law.specs.LogQuiet.{is_log_quiet}
 use Rattle.outcome_law.proofs.CoreStages.{recorded_mark}
 use Rattle.scope_context.specs.Standing.{Standing}
-use Rattle.tx_world.specs.AtLog.{AtMostOne, Fits, id_of}
+use Rattle.tx_world.specs.AtLog.{AreLogs, AtMostOne, Fits, IsHad, IsOurs, id_of}
 use Rattle.tx_world.specs.State.{TxState}
-use Rattle.tx_world.proofs.Fitting.{one_found}
+use Rattle.tx_world.specs.Tried.{IsTried}
+use Rattle.tx_world.proofs.Begun.{recorded_begun}
+use Rattle.tx_world.proofs.Fitting.{none_found, one_found}
 use Rattle.tx_world.proofs.Records.{one_where_none}
-use Rattle.script_runner.specs.Ending.{AreRecorded, HasNone}
-use Rattle.script_runner.specs.RunState.{Holds, IsCalm, IsQuiet, IsTied, LogGoes, RunState, state_of, untouched}
+use Rattle.script_runner.specs.Ending.{AreRecorded, EachHolds, EndsAs, HasNone, MayBeRecorded, records_of}
+use Rattle.script_runner.specs.LogRun.{AreForeignSame, IsCounted, IsForeignKept, LogGoes}
+use Rattle.script_runner.specs.RunState.{FitsLog, GoesWith, Holds, IsRecordKept, IsTied, RunState, Tells, state_of, untouched}
+use Rattle.script_runner.proofs.Fitting.{found_fit}
 
 -- where there is at most one record of an identifier, there is one exactly where the first is found
 pub counted : (id : ℕ) (rs : List CommitRecord) → AtMostOne id rs → length (filter (is_record_of id) rs) ≡ (if is_some (first_of id rs) then 1 else 0)
@@ -32,38 +44,17 @@ counted id (r ∷ rs) k = step (is_record_of id r) k (counted id rs)
     step true k ih = omega (arith, k)
     step false k ih = ih k
 
--- So a calm transaction has one exactly where its history's last mark says so.
-pub recorded_there : (s : List Line) (life : ℕ) (t : TxNo) (T : List Placed) (x : TxState) (rs : List CommitRecord) → x.transaction ≡ t → IsTied s t T x → IsCalm s life x → Fits x rs
-    → length (filter (is_record_of (identifier_of t.value)) rs) ≡ (if has_mark (history t.value T) then 1 else 0)
-recorded_there s life t T x rs named tied calm fits =
-    let there : length (filter (is_record_of (id_of x)) rs) ≡ (if is_some (first_of (id_of x) rs) then 1 else 0) = counted (id_of x) rs fits.one in
-    let found : is_some (first_of (id_of x) rs) ≡ has_mark (history t.value T) =
-    ap (λ (o : Option CommitRecord). is_some o) (one_found (id_of x) x.ours x.unsure rs calm.sure fits) ∙ calm.recorded ∙ recorded_mark x.world.past ∙ ap has_mark tied.past in
-    subst (λ (u : TxNo). length (filter (is_record_of (identifier_of u.value)) rs) ≡ (if has_mark (history t.value T) then 1 else 0)) named (there ∙ ap (λ b. if b then 1 else 0) found)
+-- there is one exactly where the first is found,
+pub has_first : (id : ℕ) (rs : List CommitRecord) → has (is_record_of id) rs ≡ is_some (first_of id rs)
+has_first id [] = refl
+has_first id (r ∷ rs) = step (is_record_of id r) (has_first id rs)
+  where
+    step : (b : Bool) → has (is_record_of id) rs ≡ is_some (first_of id rs) → (b || has (is_record_of id) rs) ≡ is_some (if b then Some r else first_of id rs)
+    step true ih = refl
+    step false ih = ih
 
--- and the whole log has those records, where those that are no transaction's stayed
-pub are_recorded : {D : Type 0} (faults : D → ℕ) (honest : Bool) (image : D → List ℕ → Type 0) (from to : LogState D) (r : RunState) (T : List Placed) → T ≡ r.trace → ((t : TxNo) → (state_of t r.worlds).transaction ≡ t) → IsTrue honest
-    → is_log_quiet (past_of T) ≡ true → Holds honest to r → LogGoes faults honest image from to → AreRecorded (past_of T) (open_records from.slots) (open_records to.slots)
-are_recorded faults honest image from to r T same numbered h k holds goes =
-    let quiet : IsQuiet r = subst (λ (U : List Placed). is_log_quiet (past_of U) ≡ true) same k in
-    let there : (t : TxNo) → length (filter (is_record_of (identifier_of t.value)) (open_records to.slots)) ≡ (if has_mark (history t.value (past_of r.trace)) then 1 else 0) =
-    λ t. recorded_there r.script to.life t (past_of r.trace) (state_of t r.worlds) (open_records to.slots) (numbered t) (holds.tied t) (holds.calm quiet t) (holds.fits h (holds.up quiet) t) in
-    subst (λ (U : List Placed). AreRecorded (past_of U) (open_records from.slots) (open_records to.slots)) (sym same) (record { recorded = there; others = goes.others h (holds.up quiet) })
-
--- Before the first step: nothing is called,
-none_in : (k : ℕ) (c : EnteredCall) → kth {A = EnteredCall} [] k ≡ Some c → ⊥
-none_in zero c e = absurd cc
-none_in (suc k) c e = absurd cc
-
-tied_at_start : (s : List Line) (t : TxNo) → IsTied s t [] (untouched t)
-tied_at_start s t = record { past = refl; given = λ n a c k. absurd (none_in k.place (record { line = n; actor = a; call = c }) k.stands) }
-
--- each transaction is calm,
-calm_at_start : (s : List Line) (life : ℕ) (t : TxNo) → IsCalm s life (untouched t)
-calm_at_start s life t = record { planned = refl; unstopped = refl; life = λ k. absurd cc; sure = refl; recorded = sym (recorded_mark []) }
-
--- and where the log has no record of a script's transactions it fits them
-first_none : (id : ℕ) (rs : List CommitRecord) → filter (is_record_of id) rs ≡ [] → first_of id rs ≡ None
+-- and where none is found there is none
+pub first_none : (id : ℕ) (rs : List CommitRecord) → filter (is_record_of id) rs ≡ [] → first_of id rs ≡ None
 first_none id [] k = refl
 first_none id (r ∷ rs) k = step (is_record_of id r) k (first_none id rs)
   where
@@ -72,19 +63,152 @@ first_none id (r ∷ rs) k = step (is_record_of id r) k (first_none id rs)
     step true k ih = absurd cc
     step false k ih = ih k
 
-fits_at_start : (t : TxNo) (rs : List CommitRecord) → filter (is_record_of (identifier_of t.value)) rs ≡ [] → Fits (untouched t) rs
+pub none_first : (id : ℕ) (rs : List CommitRecord) → first_of id rs ≡ None → filter (is_record_of id) rs ≡ []
+none_first id [] k = refl
+none_first id (r ∷ rs) k = step (is_record_of id r) k (none_first id rs)
+  where
+    step : (b : Bool) → (if b then Some r else first_of id rs) ≡ None → (first_of id rs ≡ None → filter (is_record_of id) rs ≡ [])
+        → (if b then r ∷ filter (is_record_of id) rs else filter (is_record_of id) rs) ≡ []
+    step true k ih = absurd cc
+    step false k ih = ih k
+
+-- A transaction keeps a record exactly where its history has one, while its coordinator isn't stopped.
+pub ours_mark : (x : TxState) → IsRecordKept x → (core x.world).stopped ≡ false → is_some x.ours ≡ has_mark x.world.past
+ours_mark x k s = k.ours.recorded s ∙ recorded_mark x.world.past
+
+-- So the log has one of it exactly where its history has one.
+recorded_there : (t : TxNo) (T : List Placed) (x : TxState) (rs : List CommitRecord) → x.transaction ≡ t → x.world.past ≡ history t.value T → IsRecordKept x → (core x.world).stopped ≡ false → Fits x rs
+    → length (records_of t.value rs) ≡ (if has_mark (history t.value T) then 1 else 0)
+recorded_there t T x rs named past kept runs fits =
+    let there : length (filter (is_record_of (id_of x)) rs) ≡ (if is_some (first_of (id_of x) rs) then 1 else 0) = counted (id_of x) rs fits.one in
+    let found : is_some (first_of (id_of x) rs) ≡ has_mark (history t.value T) =
+    ap (λ (o : Option CommitRecord). is_some o) (one_found (id_of x) x.ours x.unsure rs (kept.ours.sure runs) fits) ∙ ours_mark x kept runs ∙ ap has_mark past in
+    subst (λ (u : TxNo). length (filter (is_record_of (identifier_of u.value)) rs) ≡ (if has_mark (history t.value T) then 1 else 0)) named (there ∙ ap (λ b. if b then 1 else 0) found)
+
+-- Whatever records fit a transaction, a restart that finds them finds what may be found there.
+pub found_tied : (x : TxState) (rs : List CommitRecord) → IsTried x.world.past (record { ours = x.ours; unsure = x.unsure; life = x.life }) → Fits x rs → is_tied x.world.past (Restarted (has (is_record_of (id_of x)) rs)) ≡ true
+found_tied x rs tried fits = subst (λ b. is_tied x.world.past (Restarted b) ≡ true) (sym (has_first (id_of x) rs)) (elim fits.tie [ inl e ↦ same (is_some x.ours) refl e | inr e ↦ none e.0 e.1 ])
+  where
+    same : (b : Bool) → is_some x.ours ≡ b → first_of (id_of x) rs ≡ x.ours → is_tied x.world.past (Restarted (is_some (first_of (id_of x) rs))) ≡ true
+    same true s e =
+        let found : is_some (first_of (id_of x) rs) ≡ true = ap (λ (o : Option CommitRecord). is_some o) e ∙ s in
+        subst (λ b. is_tied x.world.past (Restarted b) ≡ true) (sym found) (tried.tried s)
+    same false s e =
+        let found : is_some (first_of (id_of x) rs) ≡ false = ap (λ (o : Option CommitRecord). is_some o) e ∙ s in
+        let unmarked : has_mark x.world.past ≡ false = false_from_ne_true (has_mark x.world.past) (λ m. not_both (is_some x.ours) (tried.kept m) s) in
+        subst (λ b. is_tied x.world.past (Restarted b) ≡ true) (sym found) (or_left (not (has_mark x.world.past)) (can_free (before_last_stop x.world.past)) (ap not unmarked))
+
+    none : first_of (id_of x) rs ≡ None → x.unsure ≡ true → is_tied x.world.past (Restarted (is_some (first_of (id_of x) rs))) ≡ true
+    none e u =
+        let found : is_some (first_of (id_of x) rs) ≡ false = ap (λ (o : Option CommitRecord). is_some o) e in
+        subst (λ b. is_tied x.world.past (Restarted b) ≡ true) (sym found) (tried.unsure u)
+
+-- One of which the coordinator doesn't know has no record.
+pub unknown_none : (x : TxState) (rs : List CommitRecord) → IsRecordKept x → (core x.world).stopped ≡ false → has is_begin_sent x.world.past ≡ false → Fits x rs → filter (is_record_of (id_of x)) rs ≡ []
+unknown_none x rs kept runs unbegun fits = none_first (id_of x) rs (none_found (id_of x) x.ours x.unsure rs (none x.ours refl) (kept.ours.sure runs) fits)
+  where
+    none : (o : Option CommitRecord) → x.ours ≡ o → x.ours ≡ None
+    none None e = e
+    none (Some r) e =
+        let recorded : is_recorded (core x.world).stage ≡ true = sym (kept.ours.recorded runs) ∙ ap (λ (o : Option CommitRecord). is_some o) e in
+        absurd (not_both (has is_begin_sent x.world.past)
+        (recorded_begun x.transaction.value x.world kept.own recorded) unbegun)
+
+-- a coordinator runs while the log is up, and before BEGIN
+runs_up : {D : Type 0} (log : LogState D) (x : TxState) → GoesWith log x → IsTrue log.is_up → (core x.world).stopped ≡ false
+runs_up log x g up = g.stopped ∙ (ap (λ b. has is_begin_sent x.world.past && not b) up ∙ never (has is_begin_sent x.world.past))
+  where
+    never : (b : Bool) → (b && false) ≡ false
+    never true = refl
+    never false = refl
+
+runs_unbegun : {D : Type 0} (log : LogState D) (x : TxState) → GoesWith log x → has is_begin_sent x.world.past ≡ false → (core x.world).stopped ≡ false
+runs_unbegun log x g unbegun = g.stopped ∙ ap (λ b. b && not log.is_up) unbegun
+
+-- So the log at the end of a run is as its trace says.
+pub ends_as : {D : Type 0} (faults : D → ℕ) (image : D → List ℕ → Type 0) (start log : LogState D) (r : RunState) (T : List Placed) → T ≡ r.trace → ((t : TxNo) → (state_of t r.worlds).transaction ≡ t)
+    → Holds true image log r → IsForeignKept image (open_records start.slots) log → AreLogs (image log.disk) → (IsTrue log.is_up → AllHold (image log.disk) (open_records log.slots)) → EndsAs image (open_records start.slots) log (past_of T)
+ends_as {D} faults image start log r T same numbered holds foreign logs held =
+    subst (λ (U : List Placed). EndsAs image (open_records start.slots) log (past_of U)) (sym same)
+    (record {
+      up = λ up. (held up, record {
+        recorded = λ t. let x = state_of t r.worlds in recorded_there t (past_of r.trace) x (open_records log.slots) (numbered t) (holds.tied t).past (holds.kept t) (runs_up log x (holds.goes t) up) ((holds.fits refl t).fits up);
+        others = foreign.up up;
+      });
+      stopped = λ c i. let l = logs c i in (l.0, l.1, may_be c i l.0 l.1);
+    })
+  where
+    may_be : (c : List ℕ) → image log.disk c → (rs : List CommitRecord) → log_has c ≡ Ok rs → MayBeRecorded (past_of r.trace) (open_records start.slots) rs
+    may_be c i rs e =
+        let fits : (t : TxNo) → Fits (state_of t r.worlds) rs = λ t. found_fit (Fits (state_of t r.worlds)) (log_has c) rs e ((holds.fits refl t).imaged c i) in
+        let named : (t : TxNo) → id_of (state_of t r.worlds) ≡ identifier_of t.value = λ t. ap (λ (u : TxNo). identifier_of u.value) (numbered t) in
+        record {
+          one = λ t. subst (λ id. length (filter (is_record_of id) rs) ≤ 1) (named t) (fits t).one;
+          known = λ t k. let x = state_of t r.worlds in
+              let unbegun : has is_begin_sent x.world.past ≡ false = ap (has is_begin_sent) (holds.tied t).past ∙ k in
+              subst (λ id. filter (is_record_of id) rs ≡ []) (named t) (unknown_none x rs (holds.kept t) (runs_unbegun log x (holds.goes t) unbegun) unbegun (fits t));
+          found = λ t. let x = state_of t r.worlds in
+              subst (λ (h : List Entry). is_tied h (Restarted (has (is_record_of (identifier_of t.value)) rs)) ≡ true) (holds.tied t).past
+              (subst (λ id. is_tied x.world.past (Restarted (has (is_record_of id) rs)) ≡ true) (named t) (found_tied x rs ((holds.kept t).tried (holds.sound refl t)) (fits t)));
+          others = found_fit (AreForeignSame (open_records start.slots)) (log_has c) rs e (foreign.imaged c i);
+        }
+
+-- Before the first step: nothing is called,
+none_in : (k : ℕ) (c : EnteredCall) → kth {A = EnteredCall} [] k ≡ Some c → ⊥
+none_in zero c e = absurd cc
+none_in (suc k) c e = absurd cc
+
+tied_at_start : (s : List Line) (t : TxNo) → IsTied s t [] (untouched t)
+tied_at_start s t = record { past = refl; given = λ n a c k. absurd (none_in k.place (record { line = n; actor = a; call = c }) k.stands); planned = refl }
+
+-- each transaction keeps nothing,
+kept_at_start : (t : TxNo) → IsRecordKept (untouched t)
+kept_at_start t =
+    record {
+      own = ([], (refl, refl));
+      ours = record { sure = λ s. refl; recorded = λ s. sym (recorded_mark []); named = tt };
+      tried = λ k. record { tried = λ o. absurd cc; kept = λ m. absurd cc; unsure = λ u. absurd cc };
+    }
+
+goes_at_start : {D : Type 0} (log : LogState D) (t : TxNo) → GoesWith log (untouched t)
+unfolding coordinate
+goes_at_start log t = record { life = λ b. absurd cc; stopped = refl }
+
+-- and where the log has no record of a script's transactions it fits them
+fits_at_start : (t : TxNo) (rs : List CommitRecord) → records_of t.value rs ≡ [] → Fits (untouched t) rs
 fits_at_start t rs k =
     let none : first_of (identifier_of t.value) rs ≡ None = first_none (identifier_of t.value) rs k in
     record { tie = inl none; one = one_where_none (identifier_of t.value) rs none }
 
--- so all holds of a run before its first step
-pub holds_at_start : {D : Type 0} (honest : Bool) (log : LogState D) (s : List Line) (cs : List Standing) → IsTrue log.is_up → log.armed ≡ None → (IsTrue honest → HasNone (open_records log.slots))
-    → Holds honest log (record { script = s; worlds = []; contexts = cs; trace = [] })
-holds_at_start honest log s cs up unarmed none =
+in_each : (P : List CommitRecord → Type 0) (image : List ℕ → Type 0) (rs : List CommitRecord) → AllHold image rs → P rs → (c : List ℕ) → image c → IfOk (log_has c) P
+in_each P image rs held p c i = subst (λ r. IfOk r P) (sym (held c i)) p
+
+-- So all holds of a run before its first step,
+pub holds_at_start : {D : Type 0} (honest : Bool) (image : D → List ℕ → Type 0) (log : LogState D) (s : List Line) (cs : List Standing) → IsTrue log.is_up → (IsTrue honest → HasNone (open_records log.slots))
+    → (IsTrue honest → AllHold (image log.disk) (open_records log.slots)) → Holds honest image log (record { script = s; worlds = []; contexts = cs; trace = [] })
+holds_at_start honest image log s cs up none held =
     record {
       tied = λ t. tied_at_start s t;
-      unarmed = unarmed;
-      fits = λ h u t. fits_at_start t (open_records log.slots) (none h t);
-      up = λ quiet. up;
-      calm = λ quiet t. calm_at_start s log.life t;
+      kept = λ t. kept_at_start t;
+      goes = λ t. goes_at_start log t;
+      had = λ t u o. absurd cc;
+      up = up;
+      uncalled = λ u. refl;
+      fits = λ h t. let f = fits_at_start t (open_records log.slots) (none h t) in record { fits = λ u. f; imaged = in_each (Fits (untouched t)) (image log.disk) (open_records log.slots) (held h) f };
+      sound = λ h t. refl;
+    }
+
+-- and the trace tells of the log.
+pub tells_at_start : {D : Type 0} (faults : D → ℕ) (honest : Bool) (image : D → List ℕ → Type 0) (log : LogState D) → log.armed ≡ None → (IsTrue honest → AllHold (image log.disk) (open_records log.slots)) → Tells faults honest image log log []
+tells_at_start faults honest image log unarmed held =
+    record {
+      counted = record {
+        grows = omega arith;
+        told = λ less. rw unarmed (omega arith);
+        stops = λ e less. refl;
+        armed = λ e less. rw unarmed refl;
+      };
+      foreign = λ h. record { up = λ u id n. refl; imaged = in_each (AreForeignSame (open_records log.slots)) (image log.disk) (open_records log.slots) (held h) (λ id n. refl) };
+      opens = λ h e. refl;
+      unlike = λ h. refl;
     }

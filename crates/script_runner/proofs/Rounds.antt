@@ -1,73 +1,29 @@
 -- The steps of one transaction in a row, and the rounds at the end of a replay.
-use Rattle.std.proofs.Common.{◌≡◌, ℕ, zero, suc, ◌+◌, ◌<◌, ◌≤◌, ◌==◌, Bool, true, false, List, [], ◌∷◌, Some, None, refl, sym, ◌∙◌, subst, arith, inl, inr}
+use Rattle.std.proofs.Common.{◌≡◌, ◌≢◌, ◌⊎◌, ℕ, zero, suc, ◌+◌, ◌<◌, ◌≤◌, ◌==◌, Bool, true, false, List, [], ◌∷◌, Some, None, refl, sym, ◌∙◌, subst, arith, inl, inr}
 use Rattle.std.proofs.lemmas.Bool.Decides.{eqb_tells, nat_tests}
 use Rattle.dtx_values.specs.declared.number.TxNo.{TxNo}
 use Rattle.dtx_values.specs.declared.entry.Entry.{Entry}
-use Rattle.dtx_values.specs.declared.entry.Entry.TheVariants.{Stopped}
 use Rattle.dtx_values.specs.declared.script.Line.{Line}
-use Rattle.dtx_model.specs.Words.{kth, onto, past_of}
-use Rattle.dtx_model.specs.Caused.{HasDone, HasStepped, IsNamed, Settled}
+use Rattle.dtx_model.specs.Words.{kth, past_of}
+use Rattle.dtx_model.specs.Caused.{HasDone, HasStepped, Settled}
 use Rattle.dtx_model.specs.World.{World}
-use Rattle.dtx_model.specs.Traces.{Placed, history, placed}
-use Rattle.dtx_model.specs.Replay.{is_passed, HasDoneAt, StepsRan, after_turn, block_in, is_in_replay, last_turn, stop_if, world_at}
-use Rattle.dtx_model.specs.Steps.{Done, Full, StoppedNow, StoppedBefore, Step, Calls, Replies, Acts, Coordinates, Delivers, Stops, Restarts, StepName, pending}
-use Rattle.dtx_model.proofs.Histories.{history-other}
-use Rattle.script_runner.specs.RunState.{Advances, CalmSteps, IsSettledBelow, Settles, StepsDone, is_calm_step}
-
--- going round from u, what comes before a later t is below it
-pub passed-below : (u t v : ℕ) → u ≤ t → is_passed u t v ≡ true → v < t
-passed-below u t v k p = grind (arith, nat_tests)
-
--- a step at which the log isn't stopped may come in a replay
-calm_in_replay : (m : Step) → is_calm_step m ≡ true → is_in_replay m ≡ true
-calm_in_replay (Calls n a c d) k = refl
-calm_in_replay (Replies e r) k = refl
-calm_in_replay Acts k = refl
-calm_in_replay (Coordinates Done) k = refl
-calm_in_replay (Coordinates Full) k = refl
-calm_in_replay (Coordinates StoppedNow) k = refl
-calm_in_replay (Coordinates StoppedBefore) k = absurd cc
-calm_in_replay (Delivers c d) k = refl
-calm_in_replay Stops k = refl
-calm_in_replay (Restarts found) k = refl
-
--- and it leaves the other transactions alone
-other_stop : (v : ℕ) (t : TxNo) (T : List Placed) (b : Bool) → (v == t.value) ≡ false → history v (stop_if b t T) ≡ history v T
-other_stop v t T true k = history-other v t T (Stopped ∷ []) k
-other_stop v t T false k = refl
-
-other_block : (v : ℕ) (t : TxNo) (T : List Placed) (es : List Entry) (b : Bool) → (v == t.value) ≡ false → history v (stop_if b t (onto T (placed t es))) ≡ history v T
-other_block v t T es b k = other_stop v t (onto T (placed t es)) b k ∙ history-other v t T es k
-
-pub other_turn : (s : List Line) (v : ℕ) (t : TxNo) (m : Step) (T : List Placed) → is_calm_step m ≡ true → (v == t.value) ≡ false → history v (after_turn s t m T) ≡ history v T
-other_turn s v t (Calls n a c d) T o k = absurd cc
-other_turn s v t (Replies e r) T o k = other_block v t T (block_in s t (Replies e r) T) _ k
-other_turn s v t Acts T o k = other_block v t T (block_in s t Acts T) _ k
-other_turn s v t (Coordinates Done) T o k = other_block v t T (block_in s t (Coordinates Done) T) _ k
-other_turn s v t (Coordinates Full) T o k = other_block v t T (block_in s t (Coordinates Full) T) _ k
-other_turn s v t (Coordinates StoppedNow) T o k = absurd cc
-other_turn s v t (Coordinates StoppedBefore) T o k = absurd cc
-other_turn s v t (Delivers c d) T o k = other_block v t T (block_in s t (Delivers c d) T) _ k
-other_turn s v t Stops T o k = absurd cc
-other_turn s v t (Restarts found) T o k = absurd cc
+use Rattle.dtx_model.specs.Traces.{Placed, history}
+use Rattle.dtx_model.specs.Replay.{is_passed, HasDoneAt, IsReplayed, LinesRan, last_turn, world_at}
+use Rattle.dtx_model.specs.Steps.{Step, pending}
+use Rattle.dtx_model.proofs.SameNumbers.{same_transaction}
+use Rattle.script_runner.specs.RunState.{Advances, AreSettledBelow, IsRoundAt, Settles, StepsDone}
 
 -- one step more
 pub steps-more : (s : List Line) (t : TxNo) (k m : ℕ) (start trace new : List Placed) → StepsDone s t k m start trace → Advances s t k trace new → StepsDone s t k (suc m) start new
-steps-more s t k m start trace new ran a = (past_of trace, ran, a.name, a.step, a.stands, a.named, a.calm, a.done)
-
--- these are steps of a replay
-pub calm_ran : (s : List Line) (t : TxNo) (k m : ℕ) (start T : List Placed) → CalmSteps s t k m start T → StepsRan s t k m start T
-calm_ran s t k zero start T ran = ran
-calm_ran s t k (suc m) start T ran = (ran.0, calm_ran s t k m start ran.0 ran.1, ran.2, ran.3, ran.4, ran.5, calm_in_replay ran.3 ran.6, ran.7)
+steps-more s t k m start trace new ran a = (past_of trace, ran, a.name, a.step, a.stands, a.named, a.in_replay, a.done)
 
 -- a `do`: so many steps were done, and fewer than it says only where no k-th was pending
 pub done_some : (s : List Line) (t : TxNo) (k n m : ℕ) (start trace : List Placed) → m < n → StepsDone s t k m start trace → kth (pending (world_at s t (past_of trace))) k ≡ None
     → HasDoneAt s t k n m (past_of start) (past_of trace)
-done_some s t k n m start trace less ran none = record { ran = calm_ran s t k m (past_of start) (past_of trace) ran; most = omega (arith, less); stopped = λ l. none }
+done_some s t k n m start trace less ran none = record { ran = ran; most = omega (arith, less); stopped = λ l. none }
 
 pub done_all : (s : List Line) (t : TxNo) (k n m : ℕ) (start trace : List Placed) → m ≡ n → StepsDone s t k m start trace → HasDoneAt s t k n n (past_of start) (past_of trace)
-done_all s t k n m start trace same ran =
-    record { ran = calm_ran s t k n (past_of start) (past_of trace) (subst (λ i. StepsDone s t k i start trace) same ran); most = omega arith; stopped = λ l. absurd (omega (arith, l)) }
+done_all s t k n m start trace same ran = record { ran = subst (λ i. StepsDone s t k i start trace) same ran; most = omega arith; stopped = λ l. absurd (omega (arith, l)) }
 
 -- and the same of the transaction's world
 pub did_some : (t k n m : ℕ) (start w : World) → m < n → HasStepped t k m start w → kth (pending w) k ≡ None → HasDone t w k n m
@@ -86,59 +42,72 @@ pub others : {A : Type 0} (xs : List A) (x : A) → kth xs 1 ≡ Some x → (ys 
 others [] x e = absurd (cc)
 others (y ∷ ys) x e = (ys, cc)
 
--- a step of t leaves the transactions below it settled
-settled-advanced : (s : List Line) (start : List Placed) (t : TxNo) (T : List Placed) (n : StepName) (m : Step) → IsSettledBelow s start t.value T
-    → kth (pending (world_at s t T)) 1 ≡ Some n → IsNamed (world_at s t T) n m → is_calm_step m ≡ true → IsSettledBelow s start t.value (after_turn s t m T)
-settled-advanced s start t T n m b stands named calm =
-    let other : (v : TxNo) → v.value < t.value → (v.value == t.value) ≡ false = λ v k. elim (eqb_tells v.value t.value) [ inl e ↦ absurd (omega (arith, e.1, k)) | inr e ↦ e.0 ] in
-    let same : (v : TxNo) → v.value < t.value → history v.value (after_turn s t m T) ≡ history v.value T = λ v k. other_turn s v.value t m T calm (other v k) in
-    let first = others (pending (world_at s t T)) n stands in
-    record {
-      turns = (t, m) ∷ b.turns;
-      rounds = (
-        T,
-        b.rounds,
-        record {
-          name = n;
-          others = first.0;
-          first = first.1;
-          named = named;
-          in_replay = calm_in_replay m calm;
-          passed = λ v p. b.below v (passed-below (last_turn b.turns) t.value v.value b.reached p);
-        },
-        refl,
-      );
-      reached = omega arith;
-      below = λ v k. subst (λ (h : List Entry). Settled s h) (sym (same v k)) (b.below v k);
-    }
-
--- and so do steps in a row, each the first that is pending
-settled-steps : (s : List Line) (start : List Placed) (t : TxNo) (m : ℕ) (T after : List Placed) → IsSettledBelow s start t.value T → CalmSteps s t 1 m T after
-    → IsSettledBelow s start t.value after
-settled-steps s start t zero T after b ran = subst (λ (U : List Placed). IsSettledBelow s start t.value U) (sym ran) b
-settled-steps s start t (suc m) T after b ran =
-    subst (λ (U : List Placed). IsSettledBelow s start t.value U) (sym ran.7)
-    (settled-advanced s start t ran.0 ran.2 ran.3 (settled-steps s start t m T ran.0 b ran.1) ran.4 ran.5 ran.6)
-
 -- where nothing is left, the steps that were done settled t
 pub settles-here : (s : List Line) (t : TxNo) (m : ℕ) (old new : List Placed) → StepsDone s t 1 m old new → Settled s (history t.value (past_of new)) → Settles s t old new
-settles-here s t m old new ran none = record { count = m; steps = ran; settled = record { ran = calm_ran s t 1 m (past_of old) (past_of new) ran; settled = none } }
+settles-here s t m old new ran none = record { count = m; settled = record { ran = ran; settled = none } }
 
--- where t is settled too, the next one is next
-settled-next : (s : List Line) (start : List Placed) (t : TxNo) (T : List Placed) → IsSettledBelow s start t.value T → Settled s (history t.value T)
-    → IsSettledBelow s start (t.value + 1) T
-settled-next s start t T b here =
+-- Rounds. Nobody comes before the one whose turn it was.
+none-passed : (t v : ℕ) → is_passed t t v ≡ true → ⊥
+none-passed t v p = grind (arith, nat_tests)
+
+-- a step of t at its turn leaves it its turn
+pub turn-more : (s : List Line) (start : List Placed) (t : TxNo) (old new : List Placed) → IsRoundAt s start t.value (past_of old) → Advances s t 1 old new → IsRoundAt s start t.value (past_of new)
+turn-more s start t old new b a =
+    let first = others (pending (world_at s t (past_of old))) a.name a.stands in
+    record {
+      turns = (t, a.step) ∷ b.turns;
+      rounds = (
+        past_of old,
+        b.rounds,
+        record { name = a.name; others = first.0; first = first.1; named = a.named; in_replay = a.in_replay; passed = b.passed },
+        a.done,
+      );
+      passed = λ v p. absurd (none-passed t.value v.value p);
+    }
+
+-- going round, whoever comes before the next one comes before t, or is t
+passed-next : (u t v : ℕ) → is_passed u (t + 1) v ≡ true → (is_passed u t v ≡ true) ⊎ (v ≡ t)
+passed-next u t v p = elim (eqb_tells v t) [ inl e ↦ inr e.1 | inr e ↦ inl (grind (arith, nat_tests)) ]
+
+-- where t is settled, it is the next one's turn
+pub turn-next : (s : List Line) (start : List Placed) (t : TxNo) (T : List Placed) → IsRoundAt s start t.value T → Settled s (history t.value T) → IsRoundAt s start (t.value + 1) T
+turn-next s start t T b here =
     record {
       turns = b.turns;
       rounds = b.rounds;
-      reached = let k = b.reached in omega arith;
-      below = λ v k. elim (eqb_tells v.value t.value) [
-        | inl e ↦ subst (λ n. Settled s (history n T)) (sym e.1) here
-        | inr e ↦ b.below v (omega (arith, e.1, k))
-      ];
+      passed = λ v p. elim (passed-next (last_turn b.turns) t.value v.value p) [ inl q ↦ b.passed v q | inr e ↦ subst (λ n. Settled s (history n T)) (sym e) here ];
     }
 
--- settling t, where the transactions below it are settled
-pub settles-next : (s : List Line) (start : List Placed) (t : TxNo) (old new : List Placed) → IsSettledBelow s start t.value (past_of old) → Settles s t old new
-    → IsSettledBelow s start (t.value + 1) (past_of new)
-settles-next s start t old new b did = settled-next s start t (past_of new) (settled-steps s start t did.count (past_of old) (past_of new) b did.steps) did.settled.settled
+-- after the last one it is the first one's turn again
+last-few : (xs : List (TxNo × Step)) → last_turn xs ≤ 256
+last-few [] = omega arith
+last-few (x ∷ xs) = omega (arith, x.0.in_range.1)
+
+passed-round : (u v : ℕ) → u ≤ 256 → 1 ≤ v → v ≤ 256 → is_passed u 1 v ≡ true → is_passed u 257 v ≡ true
+passed-round u v few first last p = grind (arith, nat_tests)
+
+pub turn-round : (s : List Line) (start T : List Placed) → IsRoundAt s start 257 T → IsRoundAt s start 1 T
+turn-round s start T b =
+    record { turns = b.turns; rounds = b.rounds; passed = λ v p. b.passed v (passed-round (last_turn b.turns) v.value (last-few b.turns) v.in_range.0 v.in_range.1 p) }
+
+-- before the first turn it is the first one's
+pub turn-first : (s : List Line) (T : List Placed) → IsRoundAt s T 1 T
+turn-first s T = record { turns = []; rounds = refl; passed = λ v p. absurd (none-passed 1 v.value p) }
+
+-- the lines, and then the rounds
+pub is_replayed : (s : List Line) (n : ℕ) (lines trace : List Placed) → LinesRan s (past_of s) (past_of lines) → IsRoundAt s (past_of lines) n (past_of trace) → IsReplayed s (past_of trace)
+is_replayed s n lines trace ran b = record { by_lines = past_of lines; lines = ran; turns = b.turns; rounds = b.rounds }
+
+-- What is settled below t stays so where the other histories do,
+pub below-apart : (s : List Line) (t : TxNo) (T U : List Placed) → ((u : TxNo) → u ≢ t → history u.value U ≡ history u.value T) → AreSettledBelow s t.value T → AreSettledBelow s t.value U
+below-apart s t T U apart b = λ v less.
+    let other : v ≢ t = λ e. let same : v.value ≡ t.value = subst (λ (u : TxNo). v.value ≡ u.value) e refl in omega (arith, less, same) in
+    subst (λ (h : List Entry). Settled s h) (sym (apart v other)) (b v less)
+
+-- and where t is settled too, so is what is below the next
+pub below-next : (s : List Line) (t : TxNo) (T : List Placed) → AreSettledBelow s t.value T → Settled s (history t.value T) → AreSettledBelow s (t.value + 1) T
+below-next s t T b here = λ v less. elim (eqb_tells v.value t.value) [ inl e ↦ subst (λ n. Settled s (history n T)) (sym e.1) here | inr e ↦ b v (omega (arith, e.1, less)) ]
+
+-- nothing is below the first
+pub below-first : (s : List Line) (T : List Placed) → AreSettledBelow s 1 T
+below-first s T = λ v less. absurd (omega (arith, v.in_range.0, less))

@@ -1,4 +1,4 @@
--- A step of a transaction, as its world does it and as the trace has it: as long as nothing stands at the log, a step is a turn of the trace.
+-- A step of a transaction, as its world does it and as the trace has it: a step that doesn't stop the log is a turn of the trace, whether the log is up or not.
 use Rattle.std.proofs.Common.{◌≡◌, ◌≢◌, ◌⊎◌, ℕ, suc, Bool, true, false, ◌&&◌, ◌||◌, not, List, [], ◌∷◌, ◌++◌, find, Option, None, Some, inl, inr, refl, ap, sym, subst, ◌∙◌, if◌then◌else◌}
 use Rattle.std.specs.Prelude.{IsTrue, IsFalse}
 use Rattle.std.proofs.lemmas.Bool.{cases_Bool}
@@ -13,8 +13,8 @@ use Rattle.dtx_values.specs.declared.number.ActorNo.{ActorNo}
 use Rattle.dtx_values.specs.declared.number.TxNo.{TxNo}
 use Rattle.dtx_values.specs.declared.row.Row.{Row}
 use Rattle.dtx_values.specs.declared.script.Line.{Line}
+use Rattle.dtx_values.specs.declared.trace.Place.TheVariants.{Transaction}
 use Rattle.dtx_values.specs.Row.{is_of}
-use Rattle.outside.specs.Faults.{Rose}
 use Rattle.dtx_model.specs.Words.{has, onto, or_else}
 use Rattle.dtx_model.specs.Coordinated.{coordinate, follow, may_log}
 use Rattle.dtx_model.specs.Grammar.{are_named_well}
@@ -26,28 +26,25 @@ use Rattle.dtx_model.specs.World.{World, core, half}
 use Rattle.dtx_model.specs.Steps.{LogAnswer, Done, Full, StoppedNow, StoppedBefore, Step, Calls, Replies, Coordinates, Stops, Restarts, StepName, ReplyOf, LocalAct, CoordinatorAct, Delivery, after, appended, block_at, entered, freed, pending}
 use Rattle.dtx_model.specs.Caused.{HasStepped, IsCallOf, IsIn, IsNamed, IsOwnRun, IsRun, entered_in, is_begin_sent, may_coordinate, may_stop_after, plans_of, stopped_if, world_of}
 use Rattle.dtx_model.specs.Traces.{Placed, placed}
-use Rattle.dtx_model.specs.Replay.{after_turn, block_in, world_at}
+use Rattle.dtx_model.specs.AtLog.{is_log_up}
+use Rattle.dtx_model.specs.Replay.{after_turn, block_in, stop_if, world_at}
 use Rattle.dtx_model.proofs.Histories.{onto-append}
 use Rattle.dtx_model.proofs.Lifting.{lift_ran}
 use Rattle.outcome_law.specs.LineCalls.{AreCalls}
-use Rattle.outcome_law.specs.LogQuiet.{is_log_quiet}
 use Rattle.outcome_law.proofs.Makers.{ran_made}
 use Rattle.outcome_law.proofs.Planned.{plan_same}
 use Rattle.outcome_law.proofs.Told.{maker_called}
 use Rattle.outcome_law.proofs.ReplayRuns.{named_same}
 use Rattle.outcome_law.proofs.ReplaySame.{block_same, pending_same}
-use Rattle.outcome_law.proofs.ReplayTurns.{is_stopping, quiet_turn}
 use Rattle.outcome_law.proofs.Rule.{is_enlisted}
 use Rattle.outcome_law.proofs.ScriptCalls.{plans_same, ran_calls}
 use Rattle.outcome_law.proofs.TableRows.{enlisted_in_rows}
 use Rattle.coordinator_log.specs.State.{LogState}
-use Rattle.coordinator_log.specs.Stop.{stop_in}
-use Rattle.tx_world.specs.AtLog.{Answered}
 use Rattle.tx_world.specs.State.{TxState, sends_begin, turned}
-use Rattle.tx_world.specs.Stepping.{DoesKth, IsAnswered, IsToPlan}
+use Rattle.tx_world.specs.Stepping.{DoesKth, IsToPlan}
 use Rattle.tx_world.proofs.Begun.{stopped_begun}
-use Rattle.script_runner.specs.RunState.{AreNumbered, IsTied, is_calm_step, state_of}
-use Rattle.script_runner.proofs.Deeds.{IsPlannedBy, is_halting}
+use Rattle.script_runner.specs.RunState.{AreNumbered, IsTied, state_of}
+use Rattle.script_runner.proofs.Deeds.{IsPlannedBy}
 
 -- what holds of each world, of that of transaction t
 pub record IsOwn (t : TxNo) (x : TxState) : Type 0 where
@@ -81,21 +78,6 @@ pub named_here : (s : List Line) (t : TxNo) (T : List Placed) (x : TxState) (n :
 named_here s t T x n m tied k =
     subst (λ (h : List Entry). IsNamed (world_of s h) n m) tied.past (named_same x.world.calls (entered_in s x.world.past) x.world.past n m k)
 
--- so where nothing stands at the log, a step that doesn't stop it is a turn
-pub turn_here : (s : List Line) (t : TxNo) (T : List Placed) (x : TxState) (m : Step) → IsTied s t T x → IsOwn t x → is_log_quiet T ≡ true → is_stopping m ≡ false
-    → onto T (placed t (block_at t.value x.world m)) ≡ after_turn s t m T
-turn_here s t T x m tied own quiet k = ap (λ (es : List Entry). onto T (placed t es)) (block_here s t T x m tied own) ∙ sym (quiet_turn s t m T quiet k)
-
--- A step at a log that is up has no stop behind it.
-unturned : (b u : Bool) (x y : World) → u ≡ true → (if b && not u then x else y) ≡ y
-unturned true true x y e = refl
-unturned false true x y e = refl
-unturned true false x y e = absurd cc
-unturned false false x y e = absurd cc
-
-pub turned_up : (up : Bool) (t : ℕ) (w : World) (m : Step) → up ≡ true → turned up t w m ≡ after t w m
-turned_up up t w m e = unturned (sends_begin t w m) up (after t (after t w m) Stops) (after t w m) e
-
 -- What a step writes: where BEGIN is sent while the log isn't up, a stop behind its block.
 abbrev pub written : Bool → ℕ → World → Step → List Entry
 written up t w m = if sends_begin t w m && not up then block_at t w m ++ Stopped ∷ [] else block_at t w m
@@ -116,14 +98,30 @@ turned_calls up t w m = by (sends_begin t w m && not up)
     by true = refl
     by false = refl
 
-pub written_up : (up : Bool) (t : ℕ) (w : World) (m : Step) → up ≡ true → written up t w m ≡ block_at t w m
-written_up up t w m e = by (sends_begin t w m) up e
+-- It is placed at the end of the trace, and so it is a turn, where the step doesn't stop the log and the trace says whether that is up.
+abbrev pub is_stopping : Step → Bool
+is_stopping (Coordinates StoppedNow) = true
+is_stopping _ = false
+
+pub placed_more : (t : TxNo) (T : List Placed) (es fs : List Entry) → onto T (placed t (es ++ fs)) ≡ onto (onto T (placed t es)) (placed t fs)
+placed_more t T [] fs = refl
+placed_more t T (x ∷ es) fs = placed_more t ((Transaction t, x) ∷ T) es fs
+
+block_turn : (s : List Line) (t : TxNo) (m : Step) (T : List Placed) → is_stopping m ≡ false
+    → after_turn s t m T ≡ stop_if (has is_begin_sent (block_in s t m T) && not (is_log_up T)) t (onto T (placed t (block_in s t m T)))
+block_turn s t (Coordinates StoppedNow) T k = absurd cc
+block_turn s t m T k = refl
+
+pub turn_here : (s : List Line) (t : TxNo) (T : List Placed) (x : TxState) (m : Step) (up : Bool) → IsTied s t T x → IsOwn t x → up ≡ is_log_up T → is_stopping m ≡ false
+    → onto T (placed t (written up t.value x.world m)) ≡ after_turn s t m T
+turn_here s t T x m up tied own same k =
+    by (has is_begin_sent (block_at t.value x.world m) && not up) (block_at t.value x.world m)
+    ∙ (ap (λ (es : List Entry). stop_if (has is_begin_sent es && not up) t (onto T (placed t es))) (block_here s t T x m tied own)
+    ∙ (ap (λ (u : Bool). stop_if (has is_begin_sent (block_in s t m T) && not u) t (onto T (placed t (block_in s t m T)))) same ∙ sym (block_turn s t m T k)))
   where
-    by : (b u : Bool) → u ≡ true → (if b && not u then block_at t w m ++ Stopped ∷ [] else block_at t w m) ≡ block_at t w m
-    by true true e = refl
-    by false true e = refl
-    by true false e = absurd cc
-    by false false e = absurd cc
+    by : (b : Bool) (es : List Entry) → onto T (placed t (if b then es ++ Stopped ∷ [] else es)) ≡ stop_if b t (onto T (placed t es))
+    by true es = placed_more t T es (Stopped ∷ [])
+    by false es = refl
 
 -- So it is one more of steps that were done.
 stops_behind : (up : Bool) (t : ℕ) (w : World) (m : Step) → (stops : Bool) × (may_stop_after stops (block_at t w m) ≡ true) × (turned up t w m ≡ stopped_if stops t (after t w m))
@@ -143,7 +141,7 @@ has_stepped faults t k m start x y from to at d h =
     (x.world, h, d.name, d.step, d.stands, d.named, s.0, s.1, world)
 
 -- The coordinator acts only where BEGIN was sent: a stop of its act would stop it.
-stop_block : (w : World) (b : Bool) → (if b then appended (core w) StoppedBefore else freed StoppedBefore) ≡ Stopped ∷ []
+pub stop_block : (w : World) (b : Bool) → (if b then appended (core w) StoppedBefore else freed StoppedBefore) ≡ Stopped ∷ []
 stop_block w true = refl
 stop_block w false = refl
 
@@ -157,51 +155,6 @@ acts_begun t w r may =
 -- A log that is up isn't stopped.
 pub never_both : (b : Bool) → b ≡ true → b ≡ false → ⊥
 never_both b e f = let k : true ≡ false = sym e ∙ f in cc
-
--- A step of the transaction at a log that is up leaves it up, or a fault came.
-pub stays_up : {D : Type 0} (faults : D → ℕ) (x : TxState) (from to : LogState D) (m : Step) → IsAnswered faults x from to m → IsTrue from.is_up → from.armed ≡ None
-    → IsTrue to.is_up ⊎ Rose (faults from.disk) (faults to.disk)
-stays_up {D} faults x from to (Coordinates a) e up none = by (cases_Bool to.is_up)
-  where
-    by : (to.is_up ≡ true) ⊎ (to.is_up ≡ false) → IsTrue to.is_up ⊎ Rose (faults from.disk) (faults to.disk)
-    by (inl k) = inl k
-    by (inr k) = inr (e.cause (e.now.1 (up, k)) (ap (stop_in 4) none))
-stays_up {D} faults x from to m e up none = inl (ap (λ (l : LogState D). l.is_up) e ∙ up)
-
--- A step that has a name, of a transaction that lives in this life of the log from BEGIN on, is calm where the log stays up.
-acts_calm : {D : Type 0} (faults : D → ℕ) (t : TxNo) (x : TxState) (from to : LogState D) (a : LogAnswer) → IsOwn t x → may_coordinate (core x.world) a ≡ true → Answered faults x.life from to a
-    → IsTrue from.is_up → IsTrue to.is_up → (has is_begin_sent x.world.past ≡ true → x.life ≡ from.life) → is_calm_step (Coordinates a) ≡ true
-acts_calm faults t x from to Done own may e up still life = refl
-acts_calm faults t x from to Full own may e up still life = refl
-acts_calm faults t x from to StoppedNow own may e up still life = absurd (never_both to.is_up still (e.now.0 refl).1)
-acts_calm faults t x from to StoppedBefore own may e up still life = absurd (by (e.before.0 refl))
-  where
-    by : IsFalse from.is_up ⊎ (x.life ≢ from.life) → ⊥
-    by (inl k) = never_both from.is_up up k
-    by (inr k) = k (life (acts_begun t.value x.world own.run may))
-
-pub step_calm : {D : Type 0} (faults : D → ℕ) (t : TxNo) (x : TxState) (from to : LogState D) (n : StepName) (m : Step) → IsOwn t x → IsNamed x.world n m → IsAnswered faults x from to m
-    → IsTrue from.is_up → IsTrue to.is_up → (has is_begin_sent x.world.past ≡ true → x.life ≡ from.life) → is_calm_step m ≡ true
-step_calm faults t x from to (ReplyOf e) m own (r, note, due, fit, same) k up still life = ap is_calm_step same
-step_calm faults t x from to LocalAct m own same k up still life = ap is_calm_step same
-step_calm faults t x from to CoordinatorAct m own (a, may, same) k up still life =
-    ap is_calm_step same ∙ acts_calm faults t x from to a own may (subst (λ j. IsAnswered faults x from to j) same k) up still life
-step_calm faults t x from to (Delivery c d) m own same k up still life = ap is_calm_step same
-
--- such a step doesn't stop the log, nor the coordinator
-pub calm_stopping : (m : Step) → is_calm_step m ≡ true → is_stopping m ≡ false
-calm_stopping (Coordinates StoppedNow) k = absurd cc
-calm_stopping _ k = refl
-
-pub calm_halting : (m : Step) → is_calm_step m ≡ true → is_halting m ≡ false
-calm_halting (Calls n a c j) k = absurd cc
-calm_halting (Coordinates StoppedNow) k = absurd cc
-calm_halting (Coordinates StoppedBefore) k = absurd cc
-calm_halting (Coordinates Done) k = refl
-calm_halting (Coordinates Full) k = refl
-calm_halting Stops k = absurd cc
-calm_halting (Restarts found) k = absurd cc
-calm_halting _ k = refl
 
 -- A reply other than an acknowledgement is due of an enlistment that stands.
 found_stands : {A : Type 0} (p : A → Bool) (xs : List A) (x : A) → find p xs ≡ Some x → has p xs ≡ true

@@ -1,11 +1,13 @@
--- What is said of the right to commit, and of appends to the log, in each transaction of a trace.
+-- What is said of the right to commit, of appends to the log, and of stops, in each transaction of a trace.
 use Rattle.std.specs.Prelude.{◌≡◌, true, false, ◌∷◌, ◌||◌, List}
 use Rattle.dtx_values.specs.declared.entry.Entry.{Entry}
 use Rattle.dtx_values.specs.declared.number.TxNo.{TxNo}
 use Rattle.dtx_model.specs.Observed.{observe}
 use Rattle.dtx_model.specs.Traces.{Placed, history}
-use Rattle.dtx_model.specs.Words.{has, onto, past_of}
+use Rattle.dtx_model.specs.Outcome.{evidence}
+use Rattle.dtx_model.specs.Words.{always, ever, has, onto, past_of}
 use Rattle.outcome_law.specs.Appended.{backs_append, has_append, is_abort_decision, is_barred, stopped_at_append}
+use Rattle.outcome_law.specs.Stopped.{is_outcome_withheld, restarts_without_evidence}
 use Rattle.local_half.specs.Rights.{is_in_one_place, right_after, right_of, right_seen}
 
 -- in each transaction the right to commit is in one place, which the local side knows, and each entry moves it as `right_after` says
@@ -20,3 +22,9 @@ pub record AreAppendsBacked (T : List Placed) : Type 0 where
   pub untried : (t : TxNo) → has is_abort_decision (history t.value (past_of T)) ≡ true → (has_append (history t.value (past_of T)) || stopped_at_append (history t.value (past_of T))) ≡ false
   pub barred : (t : TxNo) → has is_abort_decision (history t.value (past_of T)) ≡ true → is_barred (history t.value (past_of T)) ≡ true
   pub backed : (t : TxNo) → (has_append (history t.value (past_of T)) || stopped_at_append (history t.value (past_of T))) ≡ true → backs_append (history t.value (past_of T)) ≡ true
+
+-- in each transaction, from a stop that leaves it unknown whether its record is there to the restart after it, nobody says committed or aborted; and where a restart found no record, and there was no evidence before, there is
+-- never evidence
+pub record AreOutcomesWithheld (T : List Placed) : Type 0 where
+  pub withheld : (t : TxNo) → always is_outcome_withheld (history t.value (past_of T)) ≡ true
+  pub never : (t : TxNo) → ever restarts_without_evidence (history t.value (past_of T)) ≡ true → evidence (history t.value (past_of T)) ≡ false

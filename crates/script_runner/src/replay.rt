@@ -26,7 +26,7 @@ ghost use Rattle.coordinator_log.specs.Slots.{open_records};
 ghost use Rattle.coordinator_log.specs.State.{LogState};
 ghost use Rattle.script_runner.specs.Ending.{EndsAs, HasNone};
 ghost use Rattle.script_runner.specs.LogRun.{IsCounted, LogGoes, LogStays, has_log_line, is_log_line, is_no_log_answer, restart_answer};
-ghost use Rattle.script_runner.specs.Rights.{AreAppendsBacked, HasOneRight};
+ghost use Rattle.script_runner.specs.Rights.{AreAppendsBacked, AreOutcomesWithheld, HasOneRight};
 ghost use Rattle.script_runner.specs.Run.{AreTied, IsRunOf};
 ghost use Rattle.script_runner.specs.RunState.{Advances, AreBelow, AreSettledBelow, HaveSameCalls, Holds, IsBelow, IsRecordKept, IsRoundAt, IsTied, IsToPlan, Settles, Tells, halted, record_in, reopened, state_of, untouched};
 ghost use Rattle.script_runner.specs.Scoped.{AreOnce, AreOpen, IsUnopened, calls_given, nothing_open, rollbacks, rolled_at, scopes_at};
@@ -39,7 +39,7 @@ use crate::plans::Plans;
 use coordinator_log::{Log, LogRefusal};
 use dtx_values::{ActorNo, Answer, Body, Call, Entry, Image, Line, LogNote, Outbox, Place, Script, TxNo};
 use entry_lists::{PlacedEntries, Trace};
-use outcome_law::{appends, completeness, crossings, lifting, one_outcome, replay};
+use outcome_law::{appends, completeness, crossings, lifting, one_outcome, replay, stops};
 use outside::Disk;
 use scope_context::Context;
 use std::alloc::{AllocError, Global};
@@ -664,6 +664,7 @@ pub fn run_replay<D: Disk>(alloc: Global, s: &Script, log: &mut Log<D>) -> Resul
     ensures waited { IfOk result (λ T. AreTied T → AreWaitsAnswered s.now T) }
     ensures rights { IfOk result (λ T. AreTied T → HasOneRight T) }
     ensures appends { IfOk result (λ T. AreTied T → AreAppendsBacked T) }
+    ensures stops { IfOk result (λ T. AreTied T → AreOutcomesWithheld T) }
 
     // The log.
     ensures up { IfOk result (λ T. log.new.is_up ≡ is_log_up (past_of T)) }
@@ -680,6 +681,7 @@ pub fn run_replay<D: Disk>(alloc: Global, s: &Script, log: &mut Log<D>) -> Resul
     rights();
     appends();
     untried();
+    stops();
     match trace_of(alloc, s.lines(), log) {
         Ok(trace) => Ok(trace),
         Err(WorldError::Memory) => Err(AllocError),

@@ -1,18 +1,20 @@
 -- What the log answered to the coordinator's act, and what the coordinator does at it.
-use Rattle.std.proofs.Common.{◌≡◌, ◌⊎◌, ◌∙◌, inl, ℕ, Bool, true, false, List, [], ◌∷◌, refl, sym, ap, subst}
+use Rattle.std.proofs.Common.{◌≡◌, ◌⊎◌, ◌∙◌, inl, inr, ℕ, Bool, true, false, List, [], ◌∷◌, refl, sym, ap, subst}
 use Rattle.std.specs.Prelude.{◌||◌, ◌&&◌, ◌≢◌, not, None, Result, Ok, Err, IfErr, IsTrue, IsFalse, if◌then◌else◌}
 use Rattle.outside.specs.Faults.{Rose}
 use Rattle.dtx_values.specs.Outgoing.{Outgoing, written}
 use Rattle.dtx_values.specs.declared.entry.Entry.{Entry}
-use Rattle.dtx_values.specs.declared.entry.Entry.TheVariants.{Freed, Stopped}
-use Rattle.dtx_model.specs.Coordinated.{Coordinated, follow, follow_all, may_free, may_log}
-use Rattle.dtx_model.specs.Steps.{LogAnswer, Done, StoppedNow, StoppedBefore, appended, coordinates, freed}
+use Rattle.dtx_values.specs.declared.entry.Entry.TheVariants.{Freed, LogFull, Logged, Stopped}
+use Rattle.dtx_model.specs.Coordinated.{Coordinated, abort_sends, commit_sends, follow, follow_all, may_free, may_log}
+use Rattle.dtx_model.specs.Log.{first_of}
+use Rattle.dtx_model.specs.Steps.{LogAnswer, Done, Full, StoppedNow, StoppedBefore, appended, coordinates, freed}
 use Rattle.dtx_model.specs.Caused.{is_full_answer, may_coordinate}
+use Rattle.coordinator_log.specs.Slots.{lowest_closed, open_records}
 use Rattle.coordinator_log.specs.State.{LogState}
-use Rattle.coordinator_log.specs.Stop.{stop_in}
+use Rattle.coordinator_log.specs.Stop.{after_calls, stop_in}
 use Rattle.coordinator_log.specs.declared.refusal.LogRefusal.{LogRefusal}
 use Rattle.coordinator_log.specs.declared.refusal.LogRefusal.TheVariants.{Stopped as Refused, StoppedNow as Broken, NoSuch}
-use Rattle.tx_world.specs.AtLog.{Acts}
+use Rattle.tx_world.specs.AtLog.{Acts, Answered, act_calls}
 
 -- an append may be answered in each way, and a free in each but that the log is full
 pub may_append : (k : Coordinated) (a : LogAnswer) → may_log k ≡ true → may_coordinate k a ≡ true
@@ -44,11 +46,26 @@ pub was_up : (b : Bool) → (b ≡ false → ⊥) → b ≡ true
 was_up true n = refl
 was_up false n = absurd (n refl)
 
+-- how many device calls the act makes
+pub appending : (k : Coordinated) → may_log k ≡ true → act_calls k ≡ 4
+appending k m = ap (λ b. if b then 4 else 2) m
+
+pub freeing : (k : Coordinated) → may_log k ≡ false → act_calls k ≡ 2
+freeing k m = ap (λ b. if b then 4 else 2) m
+
+-- what an armed stop counted, where the act was done
+abbrev pub IsCounted : {D : Type 0} → ℕ → LogState D → LogState D → Type 0
+IsCounted n from to = (stop_in n from.armed ≡ None) × (to.armed ≡ after_calls n from.armed)
+
+up_and_down : (b : Bool) → b ≡ true → b ≡ false → ⊥
+up_and_down true t f = absurd cc
+up_and_down false t f = absurd cc
+
 -- The log was stopped by the act.
-pub acts_now : {D : Type 0} (faults : D → ℕ) (k : Coordinated) (life : ℕ) (out : Outgoing) (from : LogState D) (j : Coordinated) (o : Outgoing) (to : LogState D)
-    → may_coordinate k StoppedNow ≡ true → j ≡ follow k Stopped → o ≡ written out (Stopped ∷ []) → ((IsFalse from.is_up ⊎ (life ≢ from.life)) → ⊥) → IsFalse to.is_up
-    → (stop_in 4 from.armed ≡ None → Rose (faults from.disk) (faults to.disk)) → Acts faults k life out from j o to
-acts_now faults k life out from j o to may state put ran down cause =
+pub acts_now : {D : Type 0} (faults : D → ℕ) (k : Coordinated) (id life : ℕ) (out : Outgoing) (from : LogState D) (j : Coordinated) (o : Outgoing) (to : LogState D) (n : ℕ)
+    → may_coordinate k StoppedNow ≡ true → j ≡ follow k Stopped → o ≡ written out (Stopped ∷ []) → ((IsFalse from.is_up ⊎ (life ≢ from.life)) → ⊥) → IsFalse to.is_up → act_calls k ≡ n
+    → (stop_in n from.armed ≡ None → Rose (faults from.disk) (faults to.disk)) → Rose (faults from.disk) (faults to.disk) ⊎ (to.armed ≡ None) → Acts faults k id life out from j o to
+acts_now faults k id life out from j o to n may state put ran down calls cause used =
     record {
       answer = StoppedNow;
       may = may;
@@ -59,15 +76,18 @@ acts_now faults k life out from j o to may state put ran down cause =
             now = (λ e. (was_up from.is_up (λ d. ran (inl d)), down), λ e. refl);
             before = (λ e. absurd cc, λ x. absurd (ran x));
             full = λ e. absurd cc;
-            cause = λ e. cause;
             smooth = λ n. absurd (n refl);
+            cause = λ e s. cause (ap (λ m. stop_in m from.armed) (sym calls) ∙ s);
+            used = λ e. used;
+            counted = λ e. absurd cc;
+            unchanged = λ d n. absurd (n refl);
           };
     }
 
 -- The log was found stopped, or in another life, and is as it was.
-pub acts_before : {D : Type 0} (faults : D → ℕ) (k : Coordinated) (life : ℕ) (out : Outgoing) (from : LogState D) (j : Coordinated) (o : Outgoing) (to : LogState D)
-    → may_coordinate k StoppedBefore ≡ true → j ≡ follow k Stopped → o ≡ written out (Stopped ∷ []) → (IsFalse from.is_up ⊎ (life ≢ from.life)) → to ≡ from → Acts faults k life out from j o to
-acts_before {D} faults k life out from j o to may state put refused same =
+pub acts_before : {D : Type 0} (faults : D → ℕ) (k : Coordinated) (id life : ℕ) (out : Outgoing) (from : LogState D) (j : Coordinated) (o : Outgoing) (to : LogState D)
+    → may_coordinate k StoppedBefore ≡ true → j ≡ follow k Stopped → o ≡ written out (Stopped ∷ []) → (IsFalse from.is_up ⊎ (life ≢ from.life)) → to ≡ from → Acts faults k id life out from j o to
+acts_before {D} faults k id life out from j o to may state put refused same =
     record {
       answer = StoppedBefore;
       may = may;
@@ -78,39 +98,84 @@ acts_before {D} faults k life out from j o to may state put refused same =
             now = (λ e. absurd cc, λ x. absurd (up_and_down from.is_up x.0 (sym (ap (λ (l : LogState D). l.is_up) same) ∙ x.1)));
             before = (λ e. refused, λ x. refl);
             full = λ e. absurd cc;
-            cause = λ e. absurd cc;
             smooth = λ n. ap (λ (l : LogState D). faults l.disk) same;
+            cause = λ e. absurd cc;
+            used = λ e. absurd cc;
+            counted = λ e. absurd cc;
+            unchanged = λ d n. same;
           };
     }
-  where
-    up_and_down : (b : Bool) → b ≡ true → b ≡ false → ⊥
-    up_and_down true t f = absurd cc
-    up_and_down false t f = absurd cc
+
+-- The act was done.
+done_there : {D : Type 0} (faults : D → ℕ) (k : Coordinated) (id life : ℕ) (from to : LogState D) → ((IsFalse from.is_up ⊎ (life ≢ from.life)) → ⊥) → IsTrue to.is_up → faults to.disk ≡ faults from.disk
+    → ((may_log k ≡ true) ⊎ (first_of id (open_records from.slots) ≢ None) → IsCounted (act_calls k) from to) → Answered faults k id life from to Done
+done_there faults k id life from to ran up smooth counted =
+    record {
+      now = (λ e. absurd cc, λ x. absurd (up_and_down to.is_up up x.1));
+      before = (λ e. absurd cc, λ x. absurd (ran x));
+      full = λ e. absurd cc;
+      smooth = λ n. smooth;
+      cause = λ e. absurd cc;
+      used = λ e. absurd cc;
+      counted = λ e. counted;
+      unchanged = λ n. absurd (n refl);
+    }
+
+-- The record was appended: its entry is written, and then all are told.
+pub acts_logged : {D : Type 0} (faults : D → ℕ) (k : Coordinated) (id life : ℕ) (out : Outgoing) (from : LogState D) (j : Coordinated) (o : Outgoing) (to : LogState D)
+    → may_log k ≡ true → j ≡ follow_all k (Logged ∷ commit_sends (follow k Logged)) → o ≡ written out (Logged ∷ commit_sends (follow k Logged)) → ((IsFalse from.is_up ⊎ (life ≢ from.life)) → ⊥)
+    → IsTrue to.is_up → faults to.disk ≡ faults from.disk → IsCounted 4 from to → Acts faults k id life out from j o to
+acts_logged faults k id life out from j o to votes state put ran up smooth counted =
+    let wrote : coordinates k Done ≡ Logged ∷ commit_sends (follow k Logged) = rw votes refl in
+    record {
+      answer = Done;
+      may = may_append k Done votes;
+      state = state ∙ ap (follow_all k) (sym wrote);
+      written = put ∙ ap (written out) (sym wrote);
+      answered = done_there faults k id life from to ran up smooth (λ c. subst (λ n. IsCounted n from to) (sym (appending k votes)) counted);
+    }
+
+-- No gate is closed: its entry is written, and the coordinator aborts. The log is as it was.
+pub acts_full : {D : Type 0} (faults : D → ℕ) (k : Coordinated) (id life : ℕ) (out : Outgoing) (from : LogState D) (j : Coordinated) (o : Outgoing) (to : LogState D)
+    → may_log k ≡ true → j ≡ follow_all k (LogFull ∷ abort_sends (follow k LogFull)) → o ≡ written out (LogFull ∷ abort_sends (follow k LogFull)) → IsTrue from.is_up → life ≡ from.life
+    → lowest_closed from.slots ≡ 1024 → to ≡ from → Acts faults k id life out from j o to
+acts_full {D} faults k id life out from j o to votes state put up lives closed same =
+    let wrote : coordinates k Full ≡ LogFull ∷ abort_sends (follow k LogFull) = rw votes refl in
+    record {
+      answer = Full;
+      may = may_append k Full votes;
+      state = state ∙ ap (follow_all k) (sym wrote);
+      written = put ∙ ap (written out) (sym wrote);
+      answered =
+          record {
+            now = (λ e. absurd cc, λ x. absurd (up_and_down from.is_up x.0 (sym (ap (λ (l : LogState D). l.is_up) same) ∙ x.1)));
+            before = (λ e. absurd cc, λ x. elim x [ inl d ↦ absurd (up_and_down from.is_up up d) | inr d ↦ absurd (d lives) ]);
+            full = λ e. closed;
+            smooth = λ n. ap (λ (l : LogState D). faults l.disk) same;
+            cause = λ e. absurd cc;
+            used = λ e. absurd cc;
+            counted = λ e. absurd cc;
+            unchanged = λ d n. same;
+          };
+    }
 
 -- The record was freed: nothing else is written.
-pub acts_freed : {D : Type 0} (faults : D → ℕ) (k : Coordinated) (life : ℕ) (out : Outgoing) (from : LogState D) (j : Coordinated) (o : Outgoing) (to : LogState D)
+pub acts_freed : {D : Type 0} (faults : D → ℕ) (k : Coordinated) (id life : ℕ) (out : Outgoing) (from : LogState D) (j : Coordinated) (o : Outgoing) (to : LogState D)
     → may_log k ≡ false → may_free k ≡ true → j ≡ follow k Freed → o ≡ written out (Freed ∷ []) → ((IsFalse from.is_up ⊎ (life ≢ from.life)) → ⊥) → IsTrue to.is_up
-    → faults to.disk ≡ faults from.disk → Acts faults k life out from j o to
+    → faults to.disk ≡ faults from.disk → (first_of id (open_records from.slots) ≢ None → IsCounted 2 from to) → Acts faults k id life out from j o to
 unfolding follow_all
-acts_freed faults k life out from j o to none may state put ran up smooth =
+acts_freed faults k id life out from j o to none may state put ran up smooth counted =
     record {
       answer = Done;
       may = may_release k Done may refl;
       state = state ∙ one_free (coordinates k Done) (written_free (may_log k) none);
       written = put ∙ ap (written out) (sym (written_free (may_log k) none));
-      answered =
-          record {
-            now = (λ e. absurd cc, λ x. absurd (up_and_down to.is_up up x.1));
-            before = (λ e. absurd cc, λ x. absurd (ran x));
-            full = λ e. absurd cc;
-            cause = λ e. absurd cc;
-            smooth = λ n. smooth;
-          };
+      answered = done_there faults k id life from to ran up smooth (λ c. subst (λ n. IsCounted n from to) (sym (freeing k none)) (there c));
     }
   where
-    up_and_down : (b : Bool) → b ≡ true → b ≡ false → ⊥
-    up_and_down true t f = absurd cc
-    up_and_down false t f = absurd cc
+    there : (may_log k ≡ true) ⊎ (first_of id (open_records from.slots) ≢ None) → IsCounted 2 from to
+    there (inl m) = absurd (up_and_down (may_log k) m none)
+    there (inr f) = counted f
 
     written_free : (b : Bool) → b ≡ false → (if b then appended k Done else freed Done) ≡ Freed ∷ []
     written_free true n = absurd cc

@@ -1,5 +1,5 @@
 -- The coordinator's act at the log, and what an opening of the log says to it: what is written then is the block of its step, and the world is the one after it.
-use Rattle.std.proofs.Common.{◌≡◌, ◌⊎◌, ◌&&◌, ◌∙◌, inl, inr, ℕ, Bool, true, false, not, List, [], ◌∷◌, refl, ap, sym, subst, if◌then◌else◌}
+use Rattle.std.proofs.Common.{◌≡◌, ◌⊎◌, ◌&&◌, ◌∙◌, inl, inr, ℕ, Bool, true, false, not, List, [], ◌∷◌, Option, is_some, refl, ap, sym, subst, if◌then◌else◌}
 use Rattle.dtx_values.specs.declared.entry.Entry.{Entry}
 use Rattle.dtx_values.specs.declared.entry.Entry.TheVariants.{Freed, Logged, LogFull, Restarted, Sent, Stopped}
 use Rattle.dtx_values.specs.declared.message.Conn.TheVariants.{Begin, Voter, Enl, Again}
@@ -9,27 +9,37 @@ use Rattle.dtx_values.specs.Outgoing.{Outgoing}
 use Rattle.dtx_model.specs.Words.{each, has, onto}
 use Rattle.dtx_model.specs.Observed.{track}
 use Rattle.dtx_model.specs.Promotes.{identifier_of}
-use Rattle.dtx_model.specs.Coordinated.{Coordinated, abort_sends, commit_sends, follow, follow_all, may_free, may_log, stopped_after}
+use Rattle.dtx_model.specs.Coordinated.{Coordinated, abort_sends, commit_sends, coordinate, follow, follow_all, is_recorded, may_free, may_log, stopped_after}
 use Rattle.dtx_model.specs.Half.{Half, heeds, heeds_all}
 use Rattle.dtx_model.specs.World.{World, core}
 use Rattle.dtx_model.specs.Steps.{LogAnswer, Done, Full, StoppedNow, StoppedBefore, Coordinates, Restarts, Stops, after, appended, block_at, coordinates, freed, restarted}
-use Rattle.dtx_model.specs.Caused.{is_begin_sent, is_full_answer, may_coordinate}
-use Rattle.dtx_model.proofs.Bools.{and_left, and_right, or_case, or_false}
+use Rattle.dtx_model.specs.Caused.{IsIn, is_begin_sent, is_full_answer, may_coordinate}
+use Rattle.dtx_model.specs.Log.{CommitRecord}
+use Rattle.dtx_model.specs.Tied.{tied}
+use Rattle.dtx_model.proofs.Bools.{and_left, and_right, not_true, or_case, or_false}
+use Rattle.outcome_law.proofs.CoreKnown.{may_log_can}
+use Rattle.outcome_law.proofs.CoreStages.{active_open, recorded_mark}
+use Rattle.outcome_law.proofs.Recording.{can_unstopped}
 use Rattle.outcome_law.proofs.Scans.{each_more}
+use Rattle.outcome_law.proofs.Steady.{run_keeps}
 use Rattle.local_half.specs.Half.{Known}
+use Rattle.coordinator_core.proofs.Causes.{active_then, heard_why}
 use Rattle.coordinator_core.specs.Kept.{Kept as CoreKept}
 use Rattle.coordinator_log.specs.State.{LogState}
 use Rattle.tx_world.specs.State.{TxState, sends_begin}
-use Rattle.tx_world.specs.AtLog.{Acts, IsFit, IsOurs, Keeps, KeepsLog, Kept as LogKept}
+use Rattle.tx_world.specs.AtLog.{Acts, Answered, IsFit, IsOurs, Keeps, KeepsLog, KeepsSlots, Kept as LogKept, LeavesSlots, Tie}
 use Rattle.world_laws.specs.Carried.{are_sendable}
 use Rattle.world_laws.specs.Course.{is_far, is_written}
 use Rattle.tx_world.specs.Kept.{Kept, Whole, stop_if, stopped_if}
 use Rattle.tx_world.specs.Stepping.{Does}
+use Rattle.tx_world.specs.Tried.{IsTried}
 use Rattle.tx_world.proofs.Begun.{may_write}
 use Rattle.world_laws.proofs.Far.{far_abort, far_commit}
 use Rattle.tx_world.proofs.Keeping.{runs_still, runs_then}
-use Rattle.tx_world.proofs.Living.{seen_as}
-use Rattle.tx_world.proofs.Onward.{core_is, step_kept}
+use Rattle.tx_world.proofs.Living.{own_ours, seen_as}
+use Rattle.tx_world.proofs.FreedRecords.{may_free_can}
+use Rattle.tx_world.proofs.Onward.{core_is, core_transaction, step_kept}
+use Rattle.tx_world.proofs.Trying.{append_tried, free_tried, sure_of, sure_tried, tied_before, told_tied, unmarked_open}
 
 -- what the coordinator writes of its act where it doesn't stop
 abbrev pub is_said : Entry → Bool
@@ -177,22 +187,22 @@ unfolding after
 acted_world t w h k j a n acts past = λ i. record { calls = w.calls; past = (past ∙ ap (onto w.past) acts.block) i }
 
 pub acted_whole : (t : TxNo) (w : World) (h : Known) (k j : CoreKept) (a : LogAnswer) (n : List Entry) (x : LogKept) → Acted t w h k j a → n ≡ onto w.past (coordinates k.state a)
-    → j.transaction ≡ k.transaction → IsOurs (identifier_of k.transaction.value) j.state x → Whole t (record { calls = w.calls; past = n }) h j x
-acted_whole t w h k j a n x acts past same ours =
+    → j.transaction ≡ k.transaction → IsOurs (identifier_of k.transaction.value) j.state x → (tied n ≡ true → IsTried n x) → Whole t (record { calls = w.calls; past = n }) h j x
+acted_whole t w h k j a n x acts past same ours tried =
     let P : World → Type 0 = λ v. Kept t v h j in
     let Q : TxNo → Type 0 = λ u. IsOurs (identifier_of u.value) j.state x in
-    record { kept = subst P (sym (acted_world t w h k j a n acts past)) acts.kept; ours = subst Q (sym same) ours }
+    record { kept = subst P (sym (acted_world t w h k j a n acts past)) acts.kept; ours = subst Q (sym same) ours; tried = tried }
 
 pub acted_does : {D : Type 0} (faults : D → ℕ) (t : TxNo) (w : World) (h : Known) (k j : CoreKept) (n : List Entry) (x y : LogKept) (o p : Outgoing) (from to : LogState D)
-    (acts : Acts faults k.state x.life o from j.state p to) → Acted t w h k j acts.answer → n ≡ onto w.past (coordinates k.state acts.answer) → y.life ≡ x.life
+    (acts : Acts faults k.state (identifier_of k.transaction.value) x.life o from j.state p to) → Kept t w h k → Acted t w h k j acts.answer → n ≡ onto w.past (coordinates k.state acts.answer) → y.life ≡ x.life
     → Does faults (Coordinates acts.answer) (seen_as t w x) from (seen_as t (record { calls = w.calls; past = n }) y) to
-acted_does faults t w h k j n x y o p from to acts did past lives =
+acted_does {D} faults t w h k j n x y o p from to acts kept did past lives =
     let m = Coordinates acts.answer in
     record {
       transaction = refl;
       world = acted_world t w h k j acts.answer n did past ∙ unturned (sends_begin t.value w m) (not from.is_up) did.silent;
       life = lives ∙ unbegun (sends_begin t.value w m) did.silent;
-      answered = acts.answered;
+      answered = subst (λ (i : CoreKept). Answered faults i.state (identifier_of i.transaction.value) x.life from to acts.answer) kept.core acts.answered;
     }
   where
     unturned : (b u : Bool) → b ≡ false → after t.value w (Coordinates acts.answer)
@@ -206,13 +216,54 @@ acted_does faults t w h k j n x y o p from to acts did past lives =
 
 -- as its users see the transaction
 pub acted_so : {D : Type 0} (faults : D → ℕ) (t : TxNo) (w : World) (h : Known) (k j : CoreKept) (n : List Entry) (x y : LogKept) (o p : Outgoing) (old : TxState) (from to : LogState D)
-    (acts : Acts faults k.state x.life o from j.state p to) → Acted t w h k j acts.answer → n ≡ onto w.past (coordinates k.state acts.answer) → y.life ≡ x.life → seen_as t w x ≡ old
+    (acts : Acts faults k.state (identifier_of k.transaction.value) x.life o from j.state p to) → Kept t w h k → Acted t w h k j acts.answer → n ≡ onto w.past (coordinates k.state acts.answer) → y.life ≡ x.life
+    → seen_as t w x ≡ old
     → (a : LogAnswer) × (may_coordinate (core old.world) a ≡ true) × Does faults (Coordinates a) old from (seen_as t (record { calls = w.calls; past = n }) y) to
-acted_so {D} faults t w h k j n x y o p old from to acts did past lives was =
+acted_so {D} faults t w h k j n x y o p old from to acts kept did past lives was =
     let v : World = record { calls = w.calls; past = n } in
     let P : TxState → Type 0 = λ z. (a : LogAnswer) × (may_coordinate (core z.world) a ≡ true) × Does faults (Coordinates a) z from (seen_as t v y) to in
-    let so : P (seen_as t w x) = (acts.answer, did.may, acted_does faults t w h k j n x y o p from to acts did past lives) in
+    let so : P (seen_as t w x) = (acts.answer, did.may, acted_does faults t w h k j n x y o p from to acts kept did past lives) in
     subst P was so
+
+-- What it keeps of the log is what its history says, where it runs after its act,
+pub acted_sure : (t : TxNo) (h : Known) (j : CoreKept) (w : World) (x : LogKept) → Kept t w h j → IsOurs (identifier_of t.value) j.state x → j.state.stopped ≡ false → IsTried w.past x
+acted_sure t h j w x kept ours runs =
+    let is : j.state ≡ coordinate w.past = core_is t w h j kept in
+    sure_tried w.past x (sure_of (identifier_of t.value) w.past x (subst (λ (c : Coordinated). IsOurs (identifier_of t.value) c x) is ours) (ap (λ (c : Coordinated). c.stopped) (sym is) ∙ runs))
+
+-- and where the act stopped it: then an append was tried that might come, or a free.
+pub acted_stopped : (t : TxNo) (w : World) (h : Known) (k j : CoreKept) (a : LogAnswer) (x y : LogKept) → Whole t w h k x → Acted t w h k j a → (is_some x.ours ≡ true → is_some y.ours ≡ true) → tied w.past ≡ true
+    → IsTried (Stopped ∷ w.past) y
+acted_stopped t w h k j a x y was did had d =
+    or_case (may_log (core w)) (may_free (core w) && not (is_full_answer a)) appends (λ f. frees (and_left (may_free (core w)) (not (is_full_answer a)) f)) did.may
+  where
+    appends : may_log (core w) ≡ true → IsTried (Stopped ∷ w.past) y
+    appends m =
+        let can = may_log_can w.past (run_keeps (IsIn w.calls) t.value was.kept.ran.0 w was.kept.once was.kept.ran.1 d) m in
+        append_tried w.past y can (can_unstopped w.past can) (unmarked_open w.past (active_open (core w).stage (active_then (core w) m)))
+
+    frees : may_free (core w) ≡ true → IsTried (Stopped ∷ w.past) y
+    frees m =
+        let can = may_free_can w.past (run_keeps (IsIn w.calls) t.value was.kept.ran.0 w was.kept.once was.kept.ran.1 d) m in
+        let why = heard_why (core w) m in
+        let there : is_some x.ours ≡ true = was.ours.recorded did.running ∙ ap (λ (s : Coordinated). is_recorded s.stage) (core_is t w h k was.kept) ∙ why.stands in
+        free_tried w.past y can (sym (recorded_mark w.past) ∙ why.stands) (had there)
+
+pub acted_tried : (t : TxNo) (w : World) (h : Known) (k j : CoreKept) (a : LogAnswer) (n : List Entry) (x y : LogKept) → Whole t w h k x → Acted t w h k j a → n ≡ onto w.past (coordinates k.state a)
+    → IsOurs (identifier_of k.transaction.value) j.state y → (j.state.stopped ≡ true → is_some x.ours ≡ true → is_some y.ours ≡ true)
+    → (j.state.stopped ≡ true → coordinates k.state a ≡ Stopped ∷ []) → tied n ≡ true → IsTried n y
+acted_tried t w h k j a n x y was did past ours had only d = by j.state.stopped refl
+  where
+    by : (b : Bool) → j.state.stopped ≡ b → IsTried n y
+    by false runs =
+        let v : World = record { calls = w.calls; past = n } in
+        let kept : Kept t v h j = subst (λ (u : World). Kept t u h j) (sym (acted_world t w h k j a n did past)) did.kept in
+        acted_sure t h j v y kept (subst (λ (u : TxNo). IsOurs (identifier_of u.value) j.state y) (core_transaction t w h k was.kept) ours) runs
+    by true stops =
+        let es = coordinates k.state a in
+        let here : n ≡ Stopped ∷ w.past = past ∙ ap (onto w.past) (only stops) in
+        subst (λ (p : List Entry). IsTried p y) (sym here)
+        (acted_stopped t w h k j a x y was did (had stops) (tied_before w.past es n false past d))
 
 -- what its act keeps of the log the world keeps
 pub acted_keeps : {D : Type 0} (image : D → List ℕ → Type 0) (t : TxNo) (w v : World) (h : Known) (k : CoreKept) (x y : LogKept) (old : TxState) (from to : LogState D) → Kept t w h k
@@ -221,6 +272,13 @@ pub acted_keeps : {D : Type 0} (image : D → List ℕ → Type 0) (t : TxNo) (w
 acted_keeps image t w v h k x y old from to kept keeps was =
     let P : ℕ → Type 0 = λ id. Keeps image id (IsFit id x.ours x.unsure) (IsFit id y.ours y.unsure) from to in
     subst (λ (z : TxState). KeepsLog image z from (seen_as t v y) to) was (subst P (ap (λ (j : CoreKept). identifier_of j.transaction.value) kept.core) keeps)
+
+-- and what it leaves of the records that the log keeps in memory
+pub acted_slots : {D : Type 0} (t : TxNo) (w v : World) (h : Known) (k : CoreKept) (x y : LogKept) (old : TxState) (from to : LogState D) → Kept t w h k
+    → LeavesSlots (identifier_of k.transaction.value) x.ours y.ours from to → seen_as t w x ≡ old → KeepsSlots old from (seen_as t v y) to
+acted_slots t w v h k x y old from to kept leaves was =
+    let at_t : LeavesSlots (identifier_of t.value) x.ours y.ours from to = subst (λ (j : CoreKept). LeavesSlots (identifier_of j.transaction.value) x.ours y.ours from to) kept.core leaves in
+    subst (λ (z : TxState). KeepsSlots z from (seen_as t v y) to) was (record { others = at_t.others; had = at_t.had })
 
 -- A coordinator that is told what an opening of the log found: where it still runs it stops first.
 told_state : (k : CoreKept) (found : Bool) → follow (stopped_if (not k.state.stopped) k).state (Restarted found) ≡ follow_all k.state (restarted k.state.stopped found)
@@ -253,6 +311,11 @@ told_stopped k i e = ap (λ (x : CoreKept). x.state.stopped) e ∙ by k.state.st
     by true s = s
     by false s = refl
 
+-- and runs then
+restarted_runs : (k : Coordinated) (found : Bool) → (follow k (Restarted found)).stopped ≡ false
+unfolding follow
+restarted_runs k found = refl
+
 -- and its world is the one after its step
 pub told : (t : TxNo) (w : World) (h : Known) (k i j : CoreKept) (found : Bool) (n : List Entry) (x : LogKept) → Kept t w h k → has is_begin_sent w.past ≡ true
     → i ≡ stopped_if (not k.state.stopped) k → j.transaction ≡ i.transaction → j.state ≡ follow i.state (Restarted found) → n ≡ Restarted found ∷ stop_if (not k.state.stopped) w.past
@@ -271,4 +334,17 @@ told t w h k i j found n x kept begun stopped same state past ours =
     (λ z. record { transaction = one z; state = went z }) in
     let P : World → Type 0 = λ v. Kept t v h j in
     let Q : TxNo → Type 0 = λ u. IsOurs (identifier_of u.value) j.state x in
-    (record { kept = subst P (sym world) after_it; ours = subst Q (sym same) ours }, world)
+    let kept_there : Kept t (record { calls = w.calls; past = n }) h j = subst P (sym world) after_it in
+    let ours_there : IsOurs (identifier_of t.value) j.state x = subst (λ (u : TxNo). IsOurs (identifier_of u.value) j.state x) (sym same ∙ core_transaction t (record { calls = w.calls; past = n }) h j kept_there) ours in
+    let runs : j.state.stopped ≡ false = ap (λ (c : Coordinated). c.stopped) state ∙ restarted_runs i.state found in
+    (record { kept = kept_there; ours = subst Q (sym same) ours; tried = λ d. acted_sure t h j (record { calls = w.calls; past = n }) x kept_there ours_there runs }, world)
+
+-- What restarts found stays tied, where what it keeps and what is found tie.
+pub restart_tied : (t : TxNo) (w : World) (h : Known) (k : CoreKept) (x : LogKept) (old : TxState) (found : Option CommitRecord) (n : List Entry) → Whole t w h k x → seen_as t w x ≡ old
+    → Tie old.ours old.unsure found → n ≡ Restarted (is_some found) ∷ stop_if (not k.state.stopped) w.past → tied old.world.past ≡ true → tied n ≡ true
+restart_tied t w h k x old found n was seen tie past d =
+    let P : TxState → Type 0 = λ y. Tie y.ours y.unsure found → tied y.world.past ≡ true → tied n ≡ true in
+    let runs : not k.state.stopped ≡ true → (coordinate w.past).stopped ≡ false = λ r. ap (λ (c : Coordinated). c.stopped) (sym (core_is t w h k was.kept)) ∙ not_true k.state.stopped r in
+    let here : P (seen_as t w x) = λ ties e.
+    subst (λ (p : List Entry). tied p ≡ true) (sym past) (told_tied (identifier_of t.value) w.past x found (not k.state.stopped) (own_ours t w h k x was) was.tried runs ties e) in
+    subst P seen here tie d

@@ -6,8 +6,8 @@ use Rattle.dtx_model.specs.Log.{CommitRecord, first_of, log_has, without_first_o
 use Rattle.coordinator_log.specs.Crash.{AllHold, AllHoldEither}
 use Rattle.coordinator_log.specs.Slots.{open_records}
 use Rattle.coordinator_log.specs.State.{LogState}
-use Rattle.tx_world.specs.AtLog.{IsFit, Keeps, of_others}
-use Rattle.tx_world.proofs.Records.{first_insert, first_without, one_insert, one_where_none, others_insert, others_without}
+use Rattle.tx_world.specs.AtLog.{IsFit, Keeps, LeavesSlots, of_others}
+use Rattle.tx_world.proofs.Records.{first_insert, first_without, found_insert, one_insert, one_where_none, others_insert, others_without}
 
 -- where nothing is kept and nothing is unsure, the log has none
 pub none_found : (id : ℕ) (o : Option CommitRecord) (u : Bool) (rs : List CommitRecord) → o ≡ None → u ≡ false → IsFit id o u rs → first_of id rs ≡ None
@@ -108,3 +108,24 @@ pub keeps_same : {D : Type 0} (image : D → List ℕ → Type 0) (id : ℕ) (o 
 keeps_same {D} image id o u from to same f =
     let P : LogState D → Type 0 = λ l. Keeps image id (IsFit id o u) (IsFit id o u) from l in
     subst P (sym same) (record { fits = f; imaged = λ a. a; logs = λ a. a; others = refl; others_imaged = λ c i. inl i })
+
+-- What an act leaves of the records in memory, whatever the disk is: an append that was done,
+pub slots_appended : {D : Type 0} (id k : ℕ) (r : CommitRecord) (o : Option CommitRecord) (from to : LogState D) → r.id ≡ id → open_records to.slots ≡ insert (open_records from.slots) k r
+    → LeavesSlots id o (Some r) from to
+slots_appended id k r o from to e same =
+    record { others = ap (of_others id) same ∙ others_insert id k r (open_records from.slots) e; had = λ h up s n. found_insert id k r (open_records from.slots) e (ap (first_of id) (sym same) ∙ n) }
+
+-- a free that was done,
+pub slots_freed : {D : Type 0} (id : ℕ) (o : Option CommitRecord) (from to : LogState D) → open_records to.slots ≡ without_first_of id (open_records from.slots) → LeavesSlots id o None from to
+slots_freed id o from to same = record { others = ap (of_others id) same ∙ others_without id (open_records from.slots); had = λ h up s. absurd cc }
+
+-- one that was stopped,
+pub slots_stopped : {D : Type 0} (id : ℕ) (o p : Option CommitRecord) (from to : LogState D) → to.slots ≡ from.slots → (IsTrue to.is_up → ⊥) → LeavesSlots id o p from to
+slots_stopped id o p from to same down = record { others = ap (λ (ss : List (Option CommitRecord)). of_others id (open_records ss)) same; had = λ h up. absurd (down up) }
+
+-- and one that left the log as it was.
+pub slots_same : {D : Type 0} (id : ℕ) (o : Option CommitRecord) (from to : LogState D) → to ≡ from → LeavesSlots id o o from to
+slots_same {D} id o from to same = subst (λ (l : LogState D). LeavesSlots id o o from l) (sym same) (record { others = refl; had = λ h. h })
+
+pub slots_lost : {D : Type 0} (id : ℕ) (o : Option CommitRecord) (from to : LogState D) → to ≡ from → LeavesSlots id o None from to
+slots_lost {D} id o from to same = subst (λ (l : LogState D). LeavesSlots id o None from l) (sym same) (record { others = refl; had = λ h up s. absurd cc })

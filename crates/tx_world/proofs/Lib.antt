@@ -8,6 +8,8 @@ pub mod Keeping
 pub mod Fitting
 pub mod Answering
 pub mod Freeing
+pub mod StillTied
+pub mod Trying
 pub mod Living
 pub mod Listing
 pub mod ByRow
@@ -16,6 +18,7 @@ pub mod Calling
 pub mod Linking
 pub mod Leaving
 pub mod Managing
+pub mod FreedRecords
 pub mod AtTheLog
 pub mod CallsOn
 pub mod Settling
@@ -24,4 +27,7 @@ pub mod Nearer
 pub mod Chained
 pub mod Prepared
 pub mod Unlogged
+pub mod Silent
+pub mod Alone
+pub mod Reenlisting
 pub mod Statuses

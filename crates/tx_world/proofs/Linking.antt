@@ -11,7 +11,7 @@ use Rattle.dtx_values.specs.declared.number.ActorNo.{ActorNo}
 use Rattle.dtx_values.specs.declared.number.RmNo.{RmNo}
 use Rattle.dtx_values.specs.declared.number.TxNo.{TxNo}
 use Rattle.dtx_model.specs.Answers.{if_begun}
-use Rattle.dtx_model.specs.Coordinated.{Coordinated, follow, follow_all}
+use Rattle.dtx_model.specs.Coordinated.{follow, follow_all}
 use Rattle.dtx_model.specs.Half.{Half, heeds_all}
 use Rattle.dtx_model.specs.Observed.{track}
 use Rattle.dtx_model.specs.Steps.{Step, Calls, after, block_at, called, entered}
@@ -112,15 +112,6 @@ pub recovered : (t : TxNo) (w : World) (h : Known) (k j : CoreKept) (n : ℕ) (a
 recovered t w h k j n a u r m kept may fine same state =
     linked t w h h k j n a (Recovered u r) m (Called n a Fine ∷ RecoveredEntry r ∷ []) kept may tt (fine_block t.value w n a (Recovered u r) m (recovered_same t.value w u r m ∙ fine)) refl
     (recovery_heeded h n a u r) (recovery_followed k j n a r same state)
-
--- what the coordinator goes on by
-pub recovery_alone : (s : Coordinated) (r : RmNo) → follow s (RecoveredEntry r) ≡ follow_all s (RecoveredEntry r ∷ [])
-unfolding follow_all
-recovery_alone s r = refl
-
-pub none_followed : (s : Coordinated) → s ≡ follow_all s []
-unfolding follow_all
-none_followed s = refl
 
 -- the history after a loss
 pub lost_past : (n : ℕ) (a : ActorNo) (c : Conn) (x y i j : ℕ) (h p q : List Entry) → p ≡ Called n a Fine ∷ h → i ≡ x → j ≡ y → q ≡ cut p c i j ∷ p → q ≡ cut h c x y ∷ Called n a Fine ∷ h

@@ -15,7 +15,7 @@ use Rattle.dtx_model.specs.Steps.{Step, StepName, Calls, pending}
 use Rattle.dtx_model.specs.Caused.{HasDone, MayAnswer, made_by}
 use Rattle.dtx_model.proofs.Bools.{or_right}
 use Rattle.coordinator_log.specs.State.{LogState}
-use Rattle.tx_world.specs.AtLog.{Fits, IsFit, id_of}
+use Rattle.tx_world.specs.AtLog.{Fits, HasKept, IsFit, KeepsSlots, id_of}
 use Rattle.tx_world.specs.State.{TxState, is_maker, may_enter}
 use Rattle.tx_world.specs.Stepping.{Does, Settles, SomeSteps, Stepped}
 use Rattle.tx_world.specs.OwnCalls.{DoesCall, Prepares, Repeats, place_of}
@@ -115,3 +115,12 @@ fits_there P mid new there same p =
     let sure : P (IsFit (id_of mid) mid.ours new.unsure) = subst (λ (u : Bool). P (IsFit (id_of mid) mid.ours u)) (sym same.1) p in
     let ours : P (IsFit (id_of mid) new.ours new.unsure) = subst (λ (o : Option CommitRecord). P (IsFit (id_of mid) o new.unsure)) (sym same.0) sure in
     subst (λ (t : TxNo). P (IsFit (identifier_of t.value) new.ours new.unsure)) (sym there) ours
+
+-- and so is what is left of the records that the log keeps in memory
+pub slots_there : {D : Type 0} (old mid new : TxState) (from to : LogState D) → new.transaction ≡ mid.transaction → (new.ours ≡ mid.ours) × (new.unsure ≡ mid.unsure) → KeepsSlots old from mid to → KeepsSlots old from new to
+slots_there old mid new from to there same k =
+    let H : ℕ → Option CommitRecord → Type 0 = λ id o. HasKept id o to in
+    record {
+      others = k.others;
+      had = λ h. subst (λ (t : TxNo). H (identifier_of t.value) new.ours) (sym there) (subst (H (id_of mid)) (sym same.0) (k.had h));
+    }

@@ -1,6 +1,6 @@
 -- The records of one identifier among those of a log, when one is put in and when the first is taken out.
 use Rattle.std.proofs.Common.{◌≡◌, ◌==◌, ◌≤◌, ℕ, suc, Bool, true, false, List, [], ◌∷◌, ◌++◌, ◌∙◌, refl, arith, ap, sym, subst}
-use Rattle.std.specs.Prelude.{not, filter, length, take, drop, Some, None, if◌then◌else◌}
+use Rattle.std.specs.Prelude.{not, filter, length, take, drop, Option, Some, None, is_some, if◌then◌else◌}
 use Rattle.std.specs.List.{insert}
 use Rattle.std.proofs.lemmas.List.{take-append-drop}
 use Rattle.std.proofs.lemmas.Bool.Decides.{nat_tests}
@@ -53,7 +53,31 @@ one_between id r (x ∷ xs) ys e n = step (is_record_of id x) (one_between id r 
     step true ih n = absurd cc
     step false ih n = ih n
 
+-- one is there then, whatever was there before
+found_between : (id : ℕ) (r : CommitRecord) (xs ys : List CommitRecord) → is_record_of id r ≡ true → first_of id (xs ++ r ∷ ys) ≡ None → ⊥
+found_between id r [] ys e n = none (is_record_of id r) e n
+  where
+    none : (b : Bool) → b ≡ true → (if b then Some r else first_of id ys) ≡ None → ⊥
+    none true e n = absurd cc
+    none false e n = absurd cc
+found_between id r (x ∷ xs) ys e n = step (is_record_of id x) (found_between id r xs ys e) n
+  where
+    step : (b : Bool) → (first_of id (xs ++ r ∷ ys) ≡ None → ⊥) → (if b then Some x else first_of id (xs ++ r ∷ ys)) ≡ None → ⊥
+    step true ih n = absurd cc
+    step false ih n = ih n
+
+-- what is kept of what was found is there
+pub had_found : (id : ℕ) (o : Option CommitRecord) (rs : List CommitRecord) → o ≡ first_of id rs → is_some o ≡ true → first_of id rs ≡ None → ⊥
+had_found id o rs e s n = never o (e ∙ n) s
+  where
+    never : (p : Option CommitRecord) → p ≡ None → is_some p ≡ true → ⊥
+    never (Some r) e s = absurd cc
+    never None e s = absurd cc
+
 -- A record is put in.
+pub found_insert : (id k : ℕ) (r : CommitRecord) (rs : List CommitRecord) → r.id ≡ id → first_of id (insert rs k r) ≡ None → ⊥
+found_insert id k r rs e n = found_between id r (take k rs) (drop k rs) (is_it id r e) n
+
 pub first_insert : (id k : ℕ) (r : CommitRecord) (rs : List CommitRecord) → r.id ≡ id → first_of id rs ≡ None → first_of id (insert rs k r) ≡ Some r
 first_insert id k r rs e n = first_between id r (take k rs) (drop k rs) (is_it id r e) (ap (first_of id) (take-append-drop k rs) ∙ n)
 

@@ -8,7 +8,7 @@ use Rattle.dtx_model.specs.Log.{CommitRecord, log_has}
 use Rattle.dtx_model.specs.Steps.{StepName, pending}
 use Rattle.coordinator_log.specs.Slots.{open_records}
 use Rattle.coordinator_log.specs.State.{LogState}
-use Rattle.tx_world.specs.AtLog.{Fits, Keeps, KeepsLog, id_of, of_others}
+use Rattle.tx_world.specs.AtLog.{Fits, Keeps, KeepsLog, KeepsSlots, id_of, of_others}
 use Rattle.tx_world.specs.State.{TxState}
 use Rattle.tx_world.specs.Stepping.{DoesKth, Settles, SomeSteps, Stepped}
 
@@ -37,6 +37,15 @@ pub keeps_on : {D : Type 0} (image : D → List ℕ → Type 0) (old mid new : T
 keeps_on image old mid new from at_it to same a b =
     let P : ℕ → Type 0 = λ id. Keeps image id (Fits mid) (Fits new) at_it to in
     keeps_both image (id_of old) (Fits old) (Fits mid) (Fits new) from at_it to a (subst P (ap (λ (t : TxNo). identifier_of t.value) same) b)
+
+-- and of the records that the log keeps in memory
+pub slots_on : {D : Type 0} (old mid new : TxState) (from at_it to : LogState D) → mid.transaction ≡ old.transaction → KeepsSlots old from mid at_it → KeepsSlots mid at_it new to → KeepsSlots old from new to
+slots_on old mid new from at_it to same a b =
+    let P : ℕ → Type 0 = λ id. of_others id (open_records to.slots) ≡ of_others id (open_records at_it.slots) in
+    record { others = subst P (ap (λ (t : TxNo). identifier_of t.value) same) b.others ∙ a.others; had = λ h. b.had (a.had h) }
+
+pub slots_still : {D : Type 0} (x : TxState) (l : LogState D) → KeepsSlots x l x l
+slots_still x l = record { others = refl; had = λ h. h }
 
 -- one step more
 pub one_more : {D : Type 0} (faults : D → ℕ) (k count : ℕ) (old : TxState) (from : LogState D) (mid : TxState) (at_it : LogState D) (new : TxState) (to : LogState D)

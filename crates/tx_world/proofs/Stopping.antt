@@ -1,5 +1,5 @@
 -- A stop of the log, where it hits a transaction.
-use Rattle.std.proofs.Common.{◌≡◌, ℕ, Bool, true, ◌&&◌, not, List, ◌∷◌, ap, sym, ◌∙◌, subst, nat_le}
+use Rattle.std.proofs.Common.{◌≡◌, ℕ, Bool, true, false, ◌&&◌, not, List, ◌∷◌, ap, sym, ◌∙◌, subst, nat_le}
 use Rattle.dtx_values.specs.declared.entry.Entry.{Entry}
 use Rattle.dtx_values.specs.declared.entry.Entry.TheVariants.{Stopped}
 use Rattle.dtx_values.specs.declared.number.TxNo.{TxNo}
@@ -22,6 +22,12 @@ pub hit_is : (t : TxNo) (w : World) (h : Known) (k : CoreKept) (xs : List Entry)
 hit_is t w h k xs own life kept past =
     ap (λ b. b && not k.state.stopped && nat_le own life) (sym (has-past is_begin_sent xs) ∙ ap (has is_begin_sent) past)
     ∙ ap (λ (s : Coordinated). has is_begin_sent w.past && not s.stopped && nat_le own life) (core_is t w h k kept)
+
+-- it hits a coordinator that runs
+pub hit_runs : (t : TxNo) (w : World) (h : Known) (k : CoreKept) (own life : ℕ) → Kept t w h k → (has is_begin_sent w.past && not (core w).stopped && nat_le own life) ≡ true → k.state.stopped ≡ false
+hit_runs t w h k own life kept hit =
+    ap (λ (s : Coordinated). s.stopped) (core_is t w h k kept)
+    ∙ not_true (core w).stopped (and_right (has is_begin_sent w.past) (not (core w).stopped) (and_left (has is_begin_sent w.past && not (core w).stopped) (nat_le own life) hit))
 
 -- what a stop leaves, where it hits
 pub hit_kept : (t : TxNo) (w : World) (h : Known) (k j : CoreKept) (calls : List EnteredCall) (n : List Entry) (late : Bool) → Kept t w h k → (has is_begin_sent w.past && not (core w).stopped && late) ≡ true

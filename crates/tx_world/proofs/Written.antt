@@ -24,9 +24,8 @@ use Rattle.outcome_law.proofs.CoreStages.{stopped_same}
 use Rattle.outcome_law.proofs.Scans.{each_more}
 use Rattle.local_half.specs.Half.{Known, after as known_after, fits_due}
 use Rattle.coordinator_core.specs.Kept.{Kept as CoreKept}
-use Rattle.coordinator_log.specs.State.{LogState}
 use Rattle.tx_world.specs.State.{sends_begin, turned}
-use Rattle.tx_world.specs.Stepping.{Does, IsAnswered}
+use Rattle.tx_world.specs.Stepping.{DoesAt}
 use Rattle.world_laws.specs.Carried.{are_sendable}
 use Rattle.world_laws.specs.Course.{is_far, is_near, is_written}
 use Rattle.tx_world.specs.Kept.{Kept, stop_if, stopped_if}
@@ -87,15 +86,13 @@ written_kept t w m up begins g k j calls past n kept runs same sends block wrote
     (turned_kept t w m up g k j kept (λ b. runs (sends ∙ b)) (far ∙ ap (λ b. stopped_if (b && not up) k) sends))
 
 -- the step was done
-pub does_step : {D : Type 0} (faults : D → ℕ) (m : Step) (t : TxNo) (w v : World) (ours : Option CommitRecord) (unsure : Bool) (life now : ℕ) (log : LogState D) (begins : Bool)
-    → v ≡ turned log.is_up t.value w m → begins ≡ sends_begin t.value w m → now ≡ (if begins then log.life else life)
-    → IsAnswered faults (record { transaction = t; world = w; ours = ours; unsure = unsure; life = life }) log log m
-    → Does faults m (record { transaction = t; world = w; ours = ours; unsure = unsure; life = life }) log (record { transaction = t; world = v; ours = ours; unsure = unsure; life = now }) log
-does_step faults m t w v ours unsure life now log begins same sends lives answered = record {
+pub does_step : (m : Step) (t : TxNo) (w v : World) (ours : Option CommitRecord) (unsure : Bool) (life now : ℕ) (up : Bool) (log_life : ℕ) (begins : Bool)
+    → v ≡ turned up t.value w m → begins ≡ sends_begin t.value w m → now ≡ (if begins then log_life else life)
+    → DoesAt up log_life m (record { transaction = t; world = w; ours = ours; unsure = unsure; life = life }) (record { transaction = t; world = v; ours = ours; unsure = unsure; life = now })
+does_step m t w v ours unsure life now up log_life begins same sends lives = record {
   transaction = refl;
   world = same;
-  life = lives ∙ ap (λ b. if b then log.life else life) sends;
-  answered = answered;
+  life = lives ∙ ap (λ b. if b then log_life else life) sends;
 }
 
 -- A step of the local side is ready to be written after h, which is its past with what came: its half took it, and with these entries its block is whole.

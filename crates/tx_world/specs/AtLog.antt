@@ -1,15 +1,15 @@
 -- What the coordinator of one transaction keeps of the log, and what of the log is another's.
-use Rattle.std.specs.Prelude.{ℕ, ◌≡◌, ◌≢◌, ◌⊎◌, ◌↔◌, ◌≤◌, Bool, true, false, not, List, filter, length, Option, None, is_some, IfOk, IfSome, IsTrue, IsFalse, Ok}
+use Rattle.std.specs.Prelude.{ℕ, ◌≡◌, ◌≢◌, ◌⊎◌, ◌↔◌, ◌≤◌, Bool, true, false, not, List, filter, length, Option, None, is_some, IfOk, IfSome, IsTrue, IsFalse, Ok, if◌then◌else◌}
 use Rattle.dtx_values.specs.Outgoing.{Outgoing, written as put_out}
 use Rattle.outside.specs.Faults.{Rose}
 use Rattle.dtx_model.specs.Log.{CommitRecord, first_of, is_record_of, log_has}
 use Rattle.dtx_model.specs.Promotes.{identifier_of}
-use Rattle.dtx_model.specs.Coordinated.{Coordinated, follow_all, is_recorded}
-use Rattle.dtx_model.specs.Steps.{LogAnswer, Full, StoppedNow, StoppedBefore, coordinates}
+use Rattle.dtx_model.specs.Coordinated.{Coordinated, follow_all, is_recorded, may_log}
+use Rattle.dtx_model.specs.Steps.{LogAnswer, Done, Full, StoppedNow, StoppedBefore, coordinates}
 use Rattle.dtx_model.specs.Caused.{may_coordinate}
 use Rattle.coordinator_log.specs.Slots.{lowest_closed, open_records}
 use Rattle.coordinator_log.specs.State.{LogState}
-use Rattle.coordinator_log.specs.Stop.{stop_in}
+use Rattle.coordinator_log.specs.Stop.{after_calls, stop_in}
 use Rattle.tx_world.specs.State.{TxState}
 
 abbrev pub id_of : TxState → ℕ
@@ -55,14 +55,43 @@ pub record Keeps {D : Type 0} (image : D → List ℕ → Type 0) (id : ℕ) (fi
 abbrev pub KeepsLog : {D : Type 0} → (D → List ℕ → Type 0) → TxState → LogState D → TxState → LogState D → Type 0
 KeepsLog image old from new to = Keeps image (id_of old) (Fits old) (Fits new) from to
 
--- What the log answered to the coordinator's act, with its cause: it was stopped by this call exactly where it was up and isn't any more, and by a fault unless a stop was
--- armed; it was found stopped exactly where it wasn't up, or in another life than the coordinator's; and it is full only where no gate is closed.
-pub record Answered {D : Type 0} (faults : D → ℕ) (life : ℕ) (from to : LogState D) (a : LogAnswer) : Type 0 where
+-- the log has a record of this identifier, where it is up and one is kept
+abbrev pub HasKept : {D : Type 0} → ℕ → Option CommitRecord → LogState D → Type 0
+HasKept id ours log = IsTrue log.is_up → is_some ours ≡ true → first_of id (open_records log.slots) ≢ None
+
+-- the log has a record of the transaction, where it is up and the transaction keeps one
+abbrev pub IsHad : {D : Type 0} → TxState → LogState D → Type 0
+IsHad x log = HasKept (id_of x) x.ours log
+
+-- What an act leaves of the records that the log keeps in memory, by the identifier of its transaction and what that keeps before and after it: those of each other
+-- transaction are the same, and its own is there where it was.
+pub record LeavesSlots {D : Type 0} (id : ℕ) (kept_before kept_after : Option CommitRecord) (from to : LogState D) : Type 0 where
+  pub others : of_others id (open_records to.slots) ≡ of_others id (open_records from.slots)
+  pub had : HasKept id kept_before from → HasKept id kept_after to
+
+-- What a call of a transaction leaves of the records that the log keeps in memory, whatever its disk is: those of each other transaction are the same, and its own is
+-- there where it was.
+pub record KeepsSlots {D : Type 0} (old : TxState) (from : LogState D) (new : TxState) (to : LogState D) : Type 0 where
+  pub others : of_others (id_of old) (open_records to.slots) ≡ of_others (id_of old) (open_records from.slots)
+  pub had : IsHad old from → IsHad new to
+
+-- how many device calls the coordinator's act makes at the log: an append writes and syncs twice, a free once
+abbrev pub act_calls : Coordinated → ℕ
+act_calls k = if may_log k then 4 else 2
+
+-- What the log answered to the act of the coordinator k of a transaction, by its identifier, with its cause: it was stopped by this call exactly where it was up and isn't
+-- any more, and by a fault unless a stop was armed, which is armed no more unless a fault came; it was found stopped exactly where it wasn't up, or in another life than the
+-- coordinator's; and it is full only where no gate is closed. Where the act was done, an armed stop counted its device calls; a free of a record that isn't there makes none.
+pub record Answered {D : Type 0} (faults : D → ℕ) (k : Coordinated) (id life : ℕ) (from to : LogState D) (a : LogAnswer) : Type 0 where
   pub now : (a ≡ StoppedNow) ↔ (IsTrue from.is_up × IsFalse to.is_up)
   pub before : (a ≡ StoppedBefore) ↔ (IsFalse from.is_up ⊎ (life ≢ from.life))
   pub full : a ≡ Full → lowest_closed from.slots ≡ 1024
-  pub cause : a ≡ StoppedNow → stop_in 4 from.armed ≡ None → Rose (faults from.disk) (faults to.disk)
   pub smooth : a ≢ StoppedNow → faults to.disk ≡ faults from.disk
+  pub cause : a ≡ StoppedNow → stop_in (act_calls k) from.armed ≡ None → Rose (faults from.disk) (faults to.disk)
+  pub used : a ≡ StoppedNow → Rose (faults from.disk) (faults to.disk) ⊎ (to.armed ≡ None)
+  pub counted : a ≡ Done → (may_log k ≡ true) ⊎ (first_of id (open_records from.slots) ≢ None)
+      → (stop_in (act_calls k) from.armed ≡ None) × (to.armed ≡ after_calls (act_calls k) from.armed)
+  pub unchanged : a ≢ Done → a ≢ StoppedNow → to ≡ from
 
 -- what a coordinator keeps of the log: its record, whether the log was stopped under it, and the life of the log that it lives in
 pub record Kept : Type 0 where
@@ -77,10 +106,10 @@ pub record IsOurs (id : ℕ) (k : Coordinated) (x : Kept) : Type 0 where
   pub recorded : k.stopped ≡ false → is_some x.ours ≡ is_recorded k.stage
   pub named : IfSome x.ours (λ r. r.id ≡ id)
 
--- the coordinator of transaction t did its act at the log, which answered so
-pub record Acts {D : Type 0} (faults : D → ℕ) (k : Coordinated) (life : ℕ) (out : Outgoing) (from : LogState D) (after_it : Coordinated) (out_after : Outgoing) (to : LogState D) : Type 0 where
+-- the coordinator of the transaction with this identifier did its act at the log, which answered so
+pub record Acts {D : Type 0} (faults : D → ℕ) (k : Coordinated) (id life : ℕ) (out : Outgoing) (from : LogState D) (after_it : Coordinated) (out_after : Outgoing) (to : LogState D) : Type 0 where
   pub answer : LogAnswer
   pub may : may_coordinate k answer ≡ true
   pub state : after_it ≡ follow_all k (coordinates k answer)
   pub written : out_after ≡ put_out out (coordinates k answer)
-  pub answered : Answered faults life from to answer
+  pub answered : Answered faults k id life from to answer

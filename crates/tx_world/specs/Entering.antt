@@ -1,8 +1,9 @@
 -- The calls that the local side answers alone, and what such a call writes.
-use Rattle.std.specs.Prelude.{ℕ, Bool, true, false, ◌&&◌, List, [], ◌∷◌, ◌++◌, length, nat_le, if◌then◌else◌}
+use Rattle.std.specs.Prelude.{ℕ, Bool, true, false, ◌&&◌, List, [], ◌∷◌, ◌++◌, length, nat_le, find, if◌then◌else◌}
 use Rattle.dtx_values.specs.declared.call.Call.{Call}
 use Rattle.dtx_values.specs.declared.call.Call.TheVariants.{Lose, Gone, Reenlist, Recovered}
 use Rattle.dtx_values.specs.declared.entry.Answer.{Answer}
+use Rattle.dtx_values.specs.declared.entry.Answer.TheVariants.{Fine}
 use Rattle.dtx_values.specs.declared.entry.Entry.{Entry}
 use Rattle.dtx_values.specs.declared.entry.Entry.TheVariants.{Called}
 use Rattle.dtx_values.specs.declared.message.Conn.{Conn}
@@ -12,9 +13,10 @@ use Rattle.dtx_values.specs.declared.number.EnlNo.{EnlNo}
 use Rattle.dtx_model.specs.Answers.{gone_answer, if_begun, local_answer}
 use Rattle.dtx_model.specs.Facts.{facts_if, has_facts, local_facts}
 use Rattle.dtx_model.specs.Half.{Half, is_gone, stands}
+use Rattle.dtx_model.specs.Observed.{is_branch}
 use Rattle.dtx_model.specs.Outcome.{is_empty}
 use Rattle.dtx_model.specs.Wires.{is_open_wire}
-use Rattle.dtx_model.specs.World.{World, cut_upward, gone_unlinked, open_ones}
+use Rattle.dtx_model.specs.World.{World, cut_upward, gone_unlinked, open_ones, reenlist_facts}
 
 -- the local side answers the call alone, as long as it isn't the loss of an enlistment with an open connection
 abbrev pub is_local : Call → Bool
@@ -49,6 +51,10 @@ called_with t h n a c x = Called n a x ∷ facts_if (has_facts x) (half_facts t 
 abbrev pub local_call : ℕ → Half → ℕ → ActorNo → Call → ℕ → List Entry
 local_call t h n a c m = called_with t h n a c (half_answer t h c m)
 
+-- the block of a `reenlist` that is answered ok
+abbrev pub return_block : ℕ → Half → ℕ → ActorNo → EnlNo → List Entry
+return_block t h n a e = Called n a Fine ∷ reenlist_facts t (find (is_branch e.value) h.seen.branches)
+
 -- what cuts a connection, where that is wanted and it is open: all its upward messages are kept, and none downward
 abbrev pub cut_if : List Entry → Bool → Conn → List Entry
 cut_if past wanted c = if wanted && is_open_wire c past then cut_upward past c ∷ [] else []
@@ -66,7 +72,7 @@ abbrev pub is_recovered : Call → Bool
 is_recovered (Recovered t r) = true
 is_recovered _ = false
 
--- the call can be entered as the program stands: it isn't the one by which an enlistment comes back
-abbrev pub is_entered_yet : Call → Bool
-is_entered_yet (Reenlist e) = false
-is_entered_yet _ = true
+-- the call says that an enlistment comes back
+abbrev pub is_reenlist : Call → Bool
+is_reenlist (Reenlist e) = true
+is_reenlist _ = false

@@ -5,11 +5,13 @@ use Rattle.dtx_values.specs.declared.entry.Entry.TheVariants.{Stopped}
 use Rattle.dtx_values.specs.declared.number.TxNo.{TxNo}
 use Rattle.dtx_model.specs.Coordinated.{follow}
 use Rattle.dtx_model.specs.Promotes.{identifier_of}
+use Rattle.dtx_model.specs.Tied.{tied}
 use Rattle.dtx_model.specs.World.{World, half, core}
 use Rattle.dtx_model.specs.Caused.{AreMadeOnce, IsIn, IsOwnRun}
 use Rattle.local_half.specs.Half.{Known}
 use Rattle.coordinator_core.specs.Kept.{Kept as CoreKept}
 use Rattle.tx_world.specs.AtLog.{IsOurs, Kept as LogKept}
+use Rattle.tx_world.specs.Tried.{IsTried}
 
 -- The world is what its own calls, and the steps after them, made; of these calls no two make the same enlistment or the same clone; and its halves know what its
 -- calls and its history say.
@@ -19,10 +21,11 @@ pub record Kept (t : TxNo) (w : World) (h : Known) (k : CoreKept) : Type 0 where
   pub half : h ≡ record { transaction = t; half = half w }
   pub core : k ≡ record { transaction = t; state = core w }
 
--- This holds of the world, and what is kept of the log is what its coordinator knows.
+-- This holds of the world, and what is kept of the log is what its coordinator knows, and what its history says, where each restart of that found what may be found.
 pub record Whole (t : TxNo) (w : World) (h : Known) (k : CoreKept) (x : LogKept) : Type 0 where
   pub kept : Kept t w h k
   pub ours : IsOurs (identifier_of k.transaction.value) k.state x
+  pub tried : tied w.past ≡ true → IsTried w.past x
 
 -- the coordinator, where it stops
 abbrev pub stopped_if : Bool → CoreKept → CoreKept

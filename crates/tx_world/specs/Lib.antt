@@ -1,5 +1,6 @@
 pub mod State
 pub mod AtLog
+pub mod Tried
 pub mod Stepping
 pub mod Kept
 pub mod Pending

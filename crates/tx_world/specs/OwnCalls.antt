@@ -1,9 +1,11 @@
 -- Calls that a world does with the steps before them, a call that needs no log, and the status of a transaction.
-use Rattle.std.specs.Prelude.{ℕ, ◌≡◌, ◌≤◌, ◌<◌, Bool, true, false, Option, Some, None}
+use Rattle.std.specs.Prelude.{ℕ, ◌≡◌, ◌≤◌, ◌<◌, ◌&&◌, not, Bool, true, false, Option, Some, None}
 use Rattle.dtx_values.specs.declared.call.Call.{Call}
-use Rattle.dtx_values.specs.declared.call.Call.TheVariants.{Await, Do}
+use Rattle.dtx_values.specs.declared.call.Call.TheVariants.{Durable, Marshal, Await, Do}
 use Rattle.dtx_values.specs.declared.entry.Answer.{Answer}
 use Rattle.dtx_values.specs.declared.entry.Answer.TheVariants.{OutcomeIs, StillActive}
+use Rattle.dtx_values.specs.declared.note.Note.{Note}
+use Rattle.dtx_values.specs.declared.note.Reply.{Reply}
 use Rattle.dtx_values.specs.declared.number.ActorNo.{ActorNo}
 use Rattle.dtx_values.specs.declared.words.Outcome.{Outcome}
 use Rattle.dtx_values.specs.declared.words.Outcome.TheVariants.{Committed, Aborted, InDoubt}
@@ -11,10 +13,12 @@ use Rattle.dtx_values.specs.declared.words.Status.{Status}
 use Rattle.dtx_values.specs.declared.words.Status.TheVariants.{Active, Committed as IsCommitted, Aborted as IsAborted, InDoubt as IsInDoubt}
 use Rattle.dtx_model.specs.Words.{kth}
 use Rattle.dtx_model.specs.World.{answer_at}
-use Rattle.dtx_model.specs.Steps.{Step, Calls, after, pending}
+use Rattle.dtx_model.specs.Steps.{Step, StepName, Calls, after, pending}
+use Rattle.dtx_model.specs.Caused.{IsNamed}
 use Rattle.coordinator_log.specs.State.{LogState}
+use Rattle.local_half.specs.Half.{fits_due}
 use Rattle.tx_world.specs.State.{TxState, sends_begin}
-use Rattle.tx_world.specs.Stepping.{Does, Settles, Stepped}
+use Rattle.tx_world.specs.Stepping.{Does, IsToPlan, is_to_promote, Settles, Stepped}
 
 -- the status of a transaction that was decided so, or wasn't decided
 abbrev pub status_of : Option Outcome → Status
@@ -35,6 +39,13 @@ abbrev pub is_do : Call → Bool
 is_do (Do t k n) = true
 is_do _ = false
 
+-- the call can be done without the log: it is none of durable and marshal, which may begin a promotion, and no `do`
+abbrev pub is_alone : Call → Bool
+is_alone (Durable t e r s) = false
+is_alone (Marshal t) = false
+is_alone (Do t k n) = false
+is_alone _ = true
+
 -- which pending step comes before the call: the one that a `do` names, and the first for an `await`
 abbrev pub place_of : Call → ℕ
 place_of (Do t k n) = k
@@ -46,6 +57,19 @@ pub record DoesAlone (m : Step) (old new : TxState) : Type 0 where
   pub world : new.world ≡ after old.transaction.value old.world m
   pub silent : sends_begin old.transaction.value old.world m ≡ false
   pub life : new.life ≡ old.life
+
+-- the reply fits the note to which one is due, where one is, and that isn't one to promote
+abbrev pub may_reply_alone : Reply → Option Note → Bool
+may_reply_alone r o = fits_due r o && not (is_to_promote o)
+
+-- The k-th pending step was done, whatever the log was; a reply is the planned one.
+pub record DoesKthAlone (k : ℕ) (old new : TxState) : Type 0 where
+  pub name : StepName
+  pub step : Step
+  pub stands : kth (pending old.world) k ≡ Some name
+  pub named : IsNamed old.world name step
+  pub planned : IsToPlan old.world step
+  pub done : DoesAlone step old new
 
 -- The k-th pending step was done m times: at most n times, and fewer only where fewer than k are pending now.
 pub record Repeats {D : Type 0} (faults : D → ℕ) (k n m : ℕ) (old : TxState) (from : LogState D) (new : TxState) (to : LogState D) : Type 0 where

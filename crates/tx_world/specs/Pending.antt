@@ -11,7 +11,7 @@ use Rattle.dtx_model.specs.Coordinated.{may_free, may_log}
 use Rattle.dtx_model.specs.Plans.{plan_of, planned}
 use Rattle.dtx_model.specs.World.{World, half, core, has_left}
 use Rattle.dtx_model.specs.Replies.{due_of}
-use Rattle.dtx_model.specs.Steps.{StepName, ReplyOf, LocalAct, CoordinatorAct, Delivery}
+use Rattle.dtx_model.specs.Steps.{Step, Replies, Acts, Coordinates, Delivers, Done, StepName, ReplyOf, LocalAct, CoordinatorAct, Delivery}
 use Rattle.tx_world.specs.declared.pending.PendingStep.{PendingStep}
 use Rattle.tx_world.specs.declared.pending.PendingStep.TheVariants.{Reply as PendingReply, Act, Coordinate, Deliver}
 use Rattle.tx_world.specs.declared.pending.At.{At}
@@ -23,6 +23,19 @@ name_of (PendingReply e n r) = ReplyOf e
 name_of Act = LocalAct
 name_of Coordinate = CoordinatorAct
 name_of (Deliver c d) = Delivery c d
+
+-- it is the local act or a delivery
+abbrev pub is_alone_step : PendingStep → Bool
+is_alone_step Act = true
+is_alone_step (Deliver c d) = true
+is_alone_step _ = false
+
+-- the step that it is; the log answers the coordinator's act, here that it is done
+abbrev pub step_of : PendingStep → Step
+step_of (PendingReply e n r) = Replies e r
+step_of Act = Acts
+step_of Coordinate = Coordinates Done
+step_of (Deliver c d) = Delivers c d
 
 -- its name alone, where it is pending
 abbrev pub step_if : Bool → PendingStep → List StepName

@@ -6,12 +6,12 @@ use Rattle.dtx_values.specs.declared.number.EnlNo.{EnlNo}
 use Rattle.dtx_model.specs.Words.{kth}
 use Rattle.dtx_model.specs.Plans.{plan_of, planned}
 use Rattle.dtx_model.specs.Replies.{due_of, with_note}
-use Rattle.dtx_model.specs.World.{World, half}
+use Rattle.dtx_model.specs.World.{World, core, half}
 use Rattle.dtx_model.specs.Steps.{Step, Replies, Coordinates, StepName, ReplyOf, CoordinatorAct, pending}
 use Rattle.dtx_model.specs.Caused.{IsNamed}
 use Rattle.coordinator_log.specs.State.{LogState}
 use Rattle.tx_world.specs.State.{TxState, life_after, turned}
-use Rattle.tx_world.specs.AtLog.{Answered}
+use Rattle.tx_world.specs.AtLog.{Answered, id_of}
 
 -- the enlistment and the note of a pending step that is a reply
 abbrev pub reply_in : World → Option StepName → Option (EnlNo × Note)
@@ -38,8 +38,14 @@ IsToPlan w _ = Unit {0}
 
 -- the coordinator's act goes by what the log answered
 abbrev pub IsAnswered : {D : Type 0} → (D → ℕ) → TxState → LogState D → LogState D → Step → Type 0
-IsAnswered faults old from to (Coordinates a) = Answered faults old.life from to a
+IsAnswered faults old from to (Coordinates a) = Answered faults (core old.world) (id_of old) old.life from to a
 IsAnswered faults old from to m = to ≡ from
+
+-- This step was done, where this says whether the log is up, and in which life.
+pub record DoesAt (up : Bool) (log_life : ℕ) (m : Step) (old new : TxState) : Type 0 where
+  pub transaction : new.transaction ≡ old.transaction
+  pub world : new.world ≡ turned up old.transaction.value old.world m
+  pub life : new.life ≡ life_after log_life old.transaction.value old.world m old.life
 
 -- this step was done, while the log went from one state to the other
 pub record Does {D : Type 0} (faults : D → ℕ) (m : Step) (old : TxState) (from : LogState D) (new : TxState) (to : LogState D) : Type 0 where

@@ -10,7 +10,7 @@ ghost use Rattle.dtx_model.specs.Log.{first_of, record_of};
 ghost use Rattle.dtx_model.specs.Promotes.{identifier_of};
 ghost use Rattle.coordinator_core.specs.Kept.{HasRoom, HasRoomFor};
 ghost use Rattle.coordinator_log.specs.Slots.{open_records};
-ghost use Rattle.tx_world.specs.AtLog.{Acts, IsFit, IsOurs, Keeps, Tie};
+ghost use Rattle.tx_world.specs.AtLog.{Acts, IsFit, IsOurs, Keeps, LeavesSlots, Tie};
 
 use coordinator_core::{Core, CoreAct};
 use coordinator_log::{Log, LogRefusal};
@@ -115,11 +115,13 @@ impl AtLog {
         requires fits { IsTrue D.honest → IsTrue log.old.is_up → IsFit (identifier_of core.old.transaction.value) self.old.ours self.old.unsure (open_records log.old.slots) }
         requires room { HasRoomFor 41 out.old }
         ensures transaction { core.new.transaction ≡ core.old.transaction }
-        ensures acts { Acts D.faults core.old.state self.old.life out.old log.old core.new.state out.new log.new }
+        ensures acts { Acts D.faults core.old.state (identifier_of core.old.transaction.value) self.old.life out.old log.old core.new.state out.new log.new }
         ensures ours { IsOurs (identifier_of core.old.transaction.value) core.new.state self.new }
         ensures life { (self.new.life ≡ self.old.life) × (log.new.life ≡ log.old.life) }
         ensures kept { IsTrue D.honest → Keeps D.image (identifier_of core.old.transaction.value) (IsFit (identifier_of core.old.transaction.value) self.old.ours self.old.unsure)
             (IsFit (identifier_of core.old.transaction.value) self.new.ours self.new.unsure) log.old log.new }
+        ensures slots { LeavesSlots (identifier_of core.old.transaction.value) self.old.ours self.new.ours log.old log.new }
+        ensures had { core.new.state.stopped ≡ true → is_some self.old.ours ≡ true → is_some self.new.ours ≡ true }
         ensures grows { D.faults log.old.disk ≤ D.faults log.new.disk }
         ensures unarmed { log.old.armed ≡ None → log.new.armed ≡ None }
         ensures still { IsTrue log.new.is_up → IsTrue log.old.is_up }
@@ -173,11 +175,13 @@ impl AtLog {
         requires fits { IsTrue D.honest → IsTrue log.old.is_up → IsFit (identifier_of core.old.transaction.value) self.old.ours self.old.unsure (open_records log.old.slots) }
         requires room { HasRoomFor 41 out.old }
         ensures transaction { core.new.transaction ≡ core.old.transaction }
-        ensures acts { Acts D.faults core.old.state self.old.life out.old log.old core.new.state out.new log.new }
+        ensures acts { Acts D.faults core.old.state (identifier_of core.old.transaction.value) self.old.life out.old log.old core.new.state out.new log.new }
         ensures ours { IsOurs (identifier_of core.old.transaction.value) core.new.state self.new }
         ensures life { (self.new.life ≡ self.old.life) × (log.new.life ≡ log.old.life) }
         ensures kept { IsTrue D.honest → Keeps D.image (identifier_of core.old.transaction.value) (IsFit (identifier_of core.old.transaction.value) self.old.ours self.old.unsure)
             (IsFit (identifier_of core.old.transaction.value) self.new.ours self.new.unsure) log.old log.new }
+        ensures slots { LeavesSlots (identifier_of core.old.transaction.value) self.old.ours self.new.ours log.old log.new }
+        ensures had { core.new.state.stopped ≡ true → is_some self.old.ours ≡ true → is_some self.new.ours ≡ true }
         ensures grows { D.faults log.old.disk ≤ D.faults log.new.disk }
         ensures unarmed { log.old.armed ≡ None → log.new.armed ≡ None }
         ensures still { IsTrue log.new.is_up → IsTrue log.old.is_up }
@@ -208,11 +212,13 @@ impl AtLog {
         requires fits { IsTrue D.honest → IsTrue log.old.is_up → IsFit (identifier_of core.old.transaction.value) self.old.ours self.old.unsure (open_records log.old.slots) }
         requires room { HasRoomFor 41 out.old }
         ensures transaction { core.new.transaction ≡ core.old.transaction }
-        ensures acts { Acts D.faults core.old.state self.old.life out.old log.old core.new.state out.new log.new }
+        ensures acts { Acts D.faults core.old.state (identifier_of core.old.transaction.value) self.old.life out.old log.old core.new.state out.new log.new }
         ensures ours { IsOurs (identifier_of core.old.transaction.value) core.new.state self.new }
         ensures life { (self.new.life ≡ self.old.life) × (log.new.life ≡ log.old.life) }
         ensures kept { IsTrue D.honest → Keeps D.image (identifier_of core.old.transaction.value) (IsFit (identifier_of core.old.transaction.value) self.old.ours self.old.unsure)
             (IsFit (identifier_of core.old.transaction.value) self.new.ours self.new.unsure) log.old log.new }
+        ensures slots { LeavesSlots (identifier_of core.old.transaction.value) self.old.ours self.new.ours log.old log.new }
+        ensures had { core.new.state.stopped ≡ true → is_some self.old.ours ≡ true → is_some self.new.ours ≡ true }
         ensures grows { D.faults log.old.disk ≤ D.faults log.new.disk }
         ensures unarmed { log.old.armed ≡ None → log.new.armed ≡ None }
         ensures still { IsTrue log.new.is_up → IsTrue log.old.is_up }

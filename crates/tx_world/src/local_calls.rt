@@ -1,11 +1,13 @@
 //! What the local side does with a call that it answers alone.
-ghost use Rattle.std.specs.Prelude.{◌≡◌, [], true};
-ghost use Rattle.dtx_values.specs.declared.call.Call.TheVariants.{Gone};
+ghost use Rattle.std.specs.Prelude.{ℕ, ◌≡◌, ◌&&◌, [], true};
+ghost use Rattle.dtx_values.specs.declared.call.Call.TheVariants.{Gone, Reenlist};
 ghost use Rattle.dtx_values.specs.Outgoing.{written};
 ghost use Rattle.dtx_model.specs.Answers.{await_answer};
+ghost use Rattle.dtx_model.specs.Observed.{is_branch};
 ghost use Rattle.dtx_model.specs.Steps.{Calls, entered};
+ghost use Rattle.dtx_model.specs.Words.{has};
 ghost use Rattle.local_half.specs.Half.{IsRoom, after, is_free};
-ghost use Rattle.tx_world.specs.Entering.{half_answer, is_local, local_call};
+ghost use Rattle.tx_world.specs.Entering.{half_answer, is_local, local_call, return_block};
 
 use dtx_values::{ActorNo, Answer, Call, EnlNo, Entry, Outbox, Outcome};
 use local_half::LocalHalf;
@@ -39,6 +41,23 @@ fn answer_gone(
         half.gone(e, false, out);
     }
     answer
+}
+
+/// Writes that an enlistment comes back which the coordinator accepted before: the entry of its `reenlist`, and what follows.
+pub(crate) fn write_return(
+    half: &mut LocalHalf,
+    actor: ActorNo,
+    line: u32,
+    e: EnlNo,
+    out: &mut Outbox,
+)
+    requires accepted { has (λ b. is_branch e.value b && b.enlisted) half.old.half.seen.branches ≡ true }
+    requires room { IsRoom 41 20 out.old }
+    ensures state { (m : ℕ) → half.new ≡ after (entered (Calls line actor (Reenlist e) m) []) half.old (return_block half.old.transaction.value half.old.half line actor e) }
+    ensures out { out.new ≡ written out.old (return_block half.old.transaction.value half.old.half line actor e) }
+{
+    out.put(Entry::Called(line, actor, Answer::Fine));
+    half.reenlist(e, out);
 }
 
 /// Answers a call, for which so many steps were done: writes its entry, and then its facts.

@@ -1,18 +1,19 @@
 //! What is known of the enlistments of managers at the coordinator.
-ghost use Rattle.std.specs.Prelude.{◌≡◌, ◌&&◌, ◌||◌, not, find, if◌then◌else◌};
+ghost use Rattle.std.specs.Prelude.{◌≡◌, ◌&&◌, ◌||◌, not, find, IfSome, if◌then◌else◌};
 ghost use Rattle.dtx_values.specs.Row.{is_of};
 ghost use Rattle.dtx_values.specs.Vote.{still_hears};
 ghost use Rattle.dtx_values.specs.declared.entry.Answer.TheVariants.{Fine, Stopped};
 ghost use Rattle.dtx_model.specs.Observed.{is_branch};
 ghost use Rattle.dtx_model.specs.Words.{has};
 ghost use Rattle.dtx_model.specs.World.{is_connected, is_finished_there};
-ghost use Rattle.tx_world.specs.Managers.{first_link, has_accepted, is_by, is_open_link, recovery_answer};
+ghost use Rattle.tx_world.specs.Managers.{first_link, has_accepted, is_by, is_open_link, recovery_answer, returned};
 
 use crate::history::History;
 use coordinator_core::Core;
 use dtx_model::Branch;
-use dtx_values::{Answer, Conn, EnlNo, RmNo, Row, Vote};
+use dtx_values::{Answer, Conn, EnlNo, Info, RmNo, Row, Vote};
 use local_half::LocalHalf;
+use reenlist_recovery::ReenlistRefusal;
 
 /// Whether an enlistment with this vote still hears.
 fn still_hears(v: Option<Vote>) -> bool
@@ -137,6 +138,41 @@ fn unless_stopped(stopped: bool) -> Answer
         Answer::Stopped
     } else {
         Answer::Fine
+    }
+}
+
+/// The branch of an enlistment at the coordinator.
+fn branch_of(branches: &[Branch], e: EnlNo) -> Option<Branch>
+    ensures { result ≡ find (is_branch e.value) branches.now }
+{
+    branches.iter().copied().find(|b| b.enlistment == e)
+}
+
+/// The manager of an enlistment at the coordinator, and the first of all where it isn't there.
+pub(crate) fn manager_of(branches: &[Branch], e: EnlNo) -> RmNo
+    ensures { IfSome (find (is_branch e.value) branches.now) (λ b. result ≡ b.manager) }
+{
+    match branch_of(branches, e) {
+        Some(b) => b.manager,
+        None => RmNo::new(1).unwrap(),
+    }
+}
+
+/// The answer of a `reenlist` that was checked so, once the transaction is begun. The information is that of the transaction's own enlistment.
+pub(crate) fn returned(checked: Result<Info, ReenlistRefusal>) -> Answer
+    ensures { result ≡ returned checked }
+{
+    match checked {
+        Ok(_) => Answer::Fine,
+        Err(
+            ReenlistRefusal::BadInfo(_)
+            | ReenlistRefusal::WrongTransaction(_, _)
+            | ReenlistRefusal::NoSuch,
+        ) => Answer::NoSuch,
+        Err(ReenlistRefusal::Finished(_)) => Answer::Finished,
+        Err(ReenlistRefusal::RecoveryOver(r)) => Answer::Over(r),
+        Err(ReenlistRefusal::Connected(e)) => Answer::Connected(e),
+        Err(ReenlistRefusal::Stopped) => Answer::Stopped,
     }
 }
 

@@ -3,6 +3,7 @@ ghost use Rattle.std.specs.Prelude.{ℕ, ◌≡◌, ◌≤◌, ◌<◌, ◌+◌,
 ghost use Rattle.dtx_values.specs.declared.call.Call.{Call};
 ghost use Rattle.dtx_values.specs.declared.entry.Answer.{Answer};
 ghost use Rattle.dtx_values.specs.declared.record.Differs.{Differs};
+ghost use Rattle.dtx_model.specs.Tied.{tied};
 ghost use Rattle.dtx_model.specs.Words.{kth, past_of};
 ghost use Rattle.dtx_model.specs.Log.{first_of, record_of};
 ghost use Rattle.std.specs.Option.{option_map};
@@ -18,6 +19,7 @@ ghost use Rattle.local_half.specs.Rights.{right_of};
 ghost use Rattle.tx_world.specs.State.{TxState, is_hit_by, is_reached_by, may_enter};
 ghost use Rattle.tx_world.specs.AtLog.{Fits, IsOurs, KeepsLog, Tie, id_of};
 ghost use Rattle.tx_world.specs.Stepping.{Does, DoesKth, Settles, needs_log, reply_in};
+ghost use Rattle.tx_world.specs.Tried.{IsTried};
 
 use crate::at_log::AtLog;
 use crate::history::History;
@@ -32,12 +34,14 @@ use outside::Disk;
 use std::alloc::Global;
 use std::marker::Model;
 
+mod alone;
 mod at_the_log;
 mod calls;
 mod deliveries;
 mod entering;
 mod leaving;
 mod own_calls;
+mod returning;
 mod settling;
 mod steps;
 mod stops;
@@ -101,12 +105,13 @@ impl TxWorld {
     }
 
     /// What holds of each world: its history is one that its own calls, and the steps after them, made; no two of its calls make the same enlistment or the
-    /// same clone; and while its coordinator isn't stopped, it keeps a record exactly where one was logged and not freed. It does nothing when it runs; a
-    /// caller's proof asks for it.
+    /// same clone; while its coordinator isn't stopped, it keeps a record exactly where one was logged and not freed; and what it keeps of the log is what its
+    /// history says, where each restart of that found what may be found. It does nothing when it runs; a caller's proof asks for it.
     pub fn is_own_run(&self)
         ensures run { IsOwnRun self.now.transaction.value self.now.world }
         ensures once { AreMadeOnce (IsIn self.now.world.calls) }
         ensures ours { IsOurs (id_of self.now) (core self.now.world) (record { ours = self.now.ours; unsure = self.now.unsure; life = self.now.life }) }
+        ensures tried { tied self.now.world.past ≡ true → IsTried self.now.world.past (record { ours = self.now.ours; unsure = self.now.unsure; life = self.now.life }) }
     {
         let _ = &self.calls;
     }

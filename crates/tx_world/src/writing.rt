@@ -10,10 +10,8 @@ ghost use Rattle.tx_world.specs.Kept.{stop_if, stopped_if};
 use crate::at_log::AtLog;
 use crate::history::History;
 use coordinator_core::Core;
-use coordinator_log::Log;
 use dtx_values::{Conn, Dir, Entry, Message};
 use entry_lists::Entries;
-use outside::Disk;
 
 /// Whether the entry sends BEGIN.
 fn is_begin_sent(x: &Entry) -> bool
@@ -55,12 +53,12 @@ pub(crate) fn stop_if(history: &mut History, core: &mut Core, stops: bool)
     }
 }
 
-/// Writes the block of a step of the local side, and says whether it sends BEGIN. Where it does while the log is stopped, the coordinator stops at once.
-pub(crate) fn write_near<D: Disk>(
+/// Writes the block of a step of the local side, and says whether it sends BEGIN. Where it does while the log is stopped, as `up` says, the coordinator stops at once.
+pub(crate) fn write_near(
     history: &mut History,
     core: &mut Core,
     block: &[Entry],
-    log: &Log<D>,
+    up: bool,
 ) -> bool
     requires written { each is_written block.now ≡ true }
     requires sendable { are_sendable (onto history.old.past block.now) ≡ true }
@@ -71,12 +69,12 @@ pub(crate) fn write_near<D: Disk>(
     requires starts { 64 ≤ history.old.start_room }
     requires sends { 64 ≤ history.old.send_room }
     ensures begins { result ≡ has is_begin_sent block.now }
-    ensures past { history.new.past ≡ stop_if (has is_begin_sent block.now && not log.now.is_up) (onto history.old.past block.now) }
-    ensures core { core.new ≡ stopped_if (has is_begin_sent block.now && not log.now.is_up) core.old }
+    ensures past { history.new.past ≡ stop_if (has is_begin_sent block.now && not up) (onto history.old.past block.now) }
+    ensures core { core.new ≡ stopped_if (has is_begin_sent block.now && not up) core.old }
 {
     history.write(block, core.is_stopped());
     let begins = sends_begin(block);
-    stop_if(history, core, begins && !log.is_up());
+    stop_if(history, core, begins && !up);
     begins
 }
 

@@ -30,7 +30,7 @@ fn empty_log(rt: &impl Abort, alloc: Global) -> Result<Log<MemDisk>, AllocError>
 }
 
 /// The transaction.
-fn transaction(rt: &impl Abort) -> TxNo {
+pub(crate) fn transaction(rt: &impl Abort) -> TxNo {
     TxNo::new(1).expect(rt, "no such transaction")
 }
 
@@ -48,7 +48,7 @@ fn enter(
     ensures fits { IsTrue log.now.is_up → Fits world.new (open_records log.now.slots) }
 {
     let actor = ActorNo::new(1).expect(rt, "no such client");
-    if !world.may_enter(line, c) || !TxWorld::is_entered_yet(c) {
+    if !world.may_enter(line, c) {
         panic!(rt; "the call of line {line} may not be entered");
     }
     match world.enter(log, out, actor, line, c, 0) {
@@ -91,7 +91,7 @@ fn settle(rt: &impl Abort, world: &mut TxWorld, log: &mut Log<MemDisk>, out: &mu
 }
 
 /// A world of the transaction, to which nothing happened yet.
-fn world(rt: &impl Abort, alloc: Global) -> TxWorld
+pub(crate) fn world(rt: &impl Abort, alloc: Global) -> TxWorld
     ensures { Fits result [] }
 {
     match TxWorld::new(alloc, transaction(rt)) {
@@ -129,7 +129,7 @@ fn run(rt: &impl Abort, world: &mut TxWorld, log: &mut Log<MemDisk>, out: &mut O
 }
 
 /// Compares the history, as text, with these entries.
-fn shows(
+pub(crate) fn shows(
     rt: &impl Abort,
     alloc: Global,
     world: &TxWorld,
@@ -199,7 +199,7 @@ fn call(
     ensures fits { IsTrue log.new.is_up → Fits world.new (open_records log.new.slots) }
 {
     let actor = ActorNo::new(1).expect(rt, "no such client");
-    if !world.may_enter(line, c) || !TxWorld::is_entered_yet(c) {
+    if !world.may_enter(line, c) {
         panic!(rt; "the call of line {line} may not be entered");
     }
     match world.call(log, out, actor, line, c) {

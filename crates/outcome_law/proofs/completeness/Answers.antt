@@ -1,17 +1,16 @@
-use Rattle.outcome_law.proofs.CallsAnswered.{calls_answered}
 use Rattle.outcome_law.proofs.Completes.{settled_told}
-use Rattle.outcome_law.proofs.Returning.{answered_unstopped}
-use Rattle.outcome_law.proofs.Told.{told_promoted}
+use Rattle.outcome_law.proofs.ReturnsAnswered.{answered_returns}
+use Rattle.outcome_law.proofs.StopsDecide.{told_settled, waits_answered}
 use Rattle.outcome_law.proofs.completeness.Goals as goal
 
 pub returns-clause-told : goal.returns-clause-told
-returns-clause-told c = told_promoted
+returns-clause-told c = told_settled
 
 pub returns-clause-committed : goal.returns-clause-committed
 returns-clause-committed c = settled_told
 
 pub returns-clause-answered : goal.returns-clause-answered
-returns-clause-answered c = answered_unstopped
+returns-clause-answered c = answered_returns
 
 pub returns-clause-waited : goal.returns-clause-waited
-returns-clause-waited c = calls_answered
+returns-clause-waited c = waits_answered

@@ -1,4 +1,4 @@
-use Rattle.outcome_law.proofs.Replays.{line_new, ran_new, replayed_called, replayed_caused, replayed_noted}
+use Rattle.outcome_law.proofs.Replays.{line_new, ran_new, replayed_called, replayed_caused, replayed_followed, replayed_noted}
 use Rattle.outcome_law.proofs.Determined.{history_same}
 use Rattle.outcome_law.proofs.replay.Goals as goal
 
@@ -10,6 +10,9 @@ returns-clause-contexts c = replayed_noted
 
 pub returns-clause-called : goal.returns-clause-called
 returns-clause-called c = replayed_called
+
+pub returns-clause-followed : goal.returns-clause-followed
+returns-clause-followed c = replayed_followed
 
 pub returns-clause-uncalled : goal.returns-clause-uncalled
 returns-clause-uncalled c = line_new

@@ -5,12 +5,13 @@ ghost use Rattle.dtx_values.specs.declared.record.Differs.{Differs};
 ghost use Rattle.dtx_values.specs.declared.record.LogRecord.{LogRecord};
 ghost use Rattle.dtx_model.specs.Coordinated.{may_free, may_log};
 ghost use Rattle.dtx_model.specs.Log.{first_of, record_of};
+ghost use Rattle.dtx_model.specs.Tied.{tied};
 ghost use Rattle.dtx_model.specs.World.{core};
 ghost use Rattle.dtx_model.specs.Steps.{LogAnswer, Coordinates, Restarts, after};
 ghost use Rattle.dtx_model.specs.Caused.{may_coordinate};
 ghost use Rattle.coordinator_log.specs.Slots.{open_records};
 ghost use Rattle.tx_world.specs.State.{is_reached_by};
-ghost use Rattle.tx_world.specs.AtLog.{Fits, KeepsLog, Tie, id_of};
+ghost use Rattle.tx_world.specs.AtLog.{Fits, KeepsLog, IsHad, KeepsSlots, Tie, id_of};
 ghost use Rattle.tx_world.specs.Stepping.{Does};
 
 use super::{TxWorld, identifier};
@@ -38,6 +39,7 @@ impl TxWorld {
         ensures due { IfOk result (λ b. b ≡ (may_log (core self.old.world) || may_free (core self.old.world))) }
         ensures done { result ≡ Ok true → (a : LogAnswer) × (may_coordinate (core self.old.world) a ≡ true) × Does D.faults (Coordinates a) self.old log.old self.new log.new }
         ensures kept { IsTrue D.honest → KeepsLog D.image self.old log.old self.new log.new }
+        ensures slots { KeepsSlots self.old log.old self.new log.new }
         ensures life { log.new.life ≡ log.old.life }
         ensures grows { D.faults log.old.disk ≤ D.faults log.new.disk }
         ensures unarmed { log.old.armed ≡ None → log.new.armed ≡ None }
@@ -81,6 +83,9 @@ impl TxWorld {
             × (self.new.ours ≡ first_of (id_of self.old) (open_records log.now.slots)) × (self.new.unsure ≡ false) × (self.new.life ≡ log.now.life)) }
         ensures unreached { is_reached_by log.now.life self.old ≡ false → self.new ≡ self.old }
         ensures kept { IsTrue D.honest → Fits self.new (open_records log.now.slots) }
+        ensures found { OnOk result (is_reached_by log.now.life self.old ≡ true → IsHad self.new log.now) }
+        ensures had { IsHad self.old log.now → IsHad self.new log.now }
+        ensures tied { IsTrue D.honest → tied self.old.world.past ≡ true → tied self.new.world.past ≡ true }
         ensures memory { OnErr result (self.new ≡ self.old) }
     {
         if !self.is_reached_by(log.life()) {

@@ -5,9 +5,8 @@ ghost use Rattle.dtx_model.specs.World.{answer_at};
 ghost use Rattle.dtx_model.specs.Steps.{Calls};
 ghost use Rattle.dtx_model.specs.Caused.{MayAnswer};
 ghost use Rattle.tx_world.specs.State.{is_linking, may_enter};
-ghost use Rattle.tx_world.specs.Entering.{is_entered_yet};
 ghost use Rattle.tx_world.specs.OwnCalls.{DoesAlone};
-ghost use Rattle.tx_world.specs.Stepping.{Does};
+ghost use Rattle.tx_world.specs.Stepping.{Does, DoesAt};
 
 use super::TxWorld;
 use crate::local_calls::await_answer;
@@ -34,13 +33,6 @@ impl TxWorld {
         is_neither(is_entered(&self.calls, line), is_made(&self.calls, c))
     }
 
-    /// Whether the call can be entered as the program stands: that by which an enlistment comes back can't yet.
-    pub fn is_entered_yet(c: &Call) -> bool
-        ensures { result ≡ is_entered_yet c.now }
-    {
-        !matches!(c, Call::Reenlist(_))
-    }
-
     /// Enters a call, for which so many steps were done right before where it is a `do`; and where it is an `await`, the client was told or nothing is pending. It writes the
     /// entry of the call and its facts.
     ///
@@ -58,32 +50,51 @@ impl TxWorld {
     ) -> Result<Answer, WorldError>
         requires enters { may_enter self.old.world line c.now ≡ true }
         requires answers { MayAnswer self.old.transaction.value self.old.world c.now done }
-        requires entered { is_entered_yet c.now ≡ true }
         ensures answer { IfOk result (λ a. a ≡ answer_at self.old.transaction.value self.old.world c.now done) }
         ensures done { OnOk result (Does D.faults (Calls line actor c.now done) self.old log.now self.new log.now) }
         ensures ours { (self.new.ours ≡ self.old.ours) × (self.new.unsure ≡ self.old.unsure) }
         ensures memory { OnErr result (self.new ≡ self.old) }
     {
+        self.enter_at(log.is_up(), log.life(), out, actor, line, c, done)
+    }
+
+    /// Enters a call, where this says whether the log is up, and in which life.
+    pub(super) fn enter_at(
+        &mut self,
+        up: bool,
+        life: u64,
+        out: &mut Outbox,
+        actor: ActorNo,
+        line: u32,
+        c: &Call,
+        done: u16,
+    ) -> Result<Answer, WorldError>
+        requires enters { may_enter self.old.world line c.now ≡ true }
+        requires answers { MayAnswer self.old.transaction.value self.old.world c.now done }
+        ensures answer { IfOk result (λ a. a ≡ answer_at self.old.transaction.value self.old.world c.now done) }
+        ensures done { OnOk result (DoesAt up life (Calls line actor c.now done) self.old self.new) }
+        ensures ours { (self.new.ours ≡ self.old.ours) × (self.new.unsure ≡ self.old.unsure) }
+        ensures memory { OnErr result (self.new ≡ self.old) }
+    {
         if LocalHalf::is_its_own(c) {
-            return self.enter_local(log, out, actor, line, c, done);
+            return self.enter_local(up, life, out, actor, line, c, done);
         }
         match *c {
             Call::Await(_) => {
                 let answer = self.half.if_begun(await_answer(self.half.told_client()));
-                self.enter_alone(log, actor, line, c, done, answer)
+                self.enter_alone(actor, line, c, done, answer)
             }
             Call::Do(_, _, _) => {
                 let answer = self.half.if_begun(Answer::Did(done));
-                self.enter_alone(log, actor, line, c, done, answer)
+                self.enter_alone(actor, line, c, done, answer)
             }
-            _ => self.enter_linked(log, out, actor, line, c, done),
+            _ => self.enter_linked(out, actor, line, c, done),
         }
     }
 
-    /// Enters the loss of a connection, that of an enlistment, or that a manager has recovered.
-    fn enter_linked<D: Disk>(
+    /// Enters the loss of a connection, that of an enlistment, that one comes back, or that a manager has recovered.
+    fn enter_linked(
         &mut self,
-        log: &Log<D>,
         out: &mut Outbox,
         actor: ActorNo,
         line: u32,
@@ -93,23 +104,22 @@ impl TxWorld {
         requires enters { may_enter self.old.world line c.now ≡ true }
         requires answers { MayAnswer self.old.transaction.value self.old.world c.now done }
         requires kind { is_linking c.now ≡ true }
-        requires entered { is_entered_yet c.now ≡ true }
         ensures answer { IfOk result (λ a. a ≡ answer_at self.old.transaction.value self.old.world c.now done) }
-        ensures done { OnOk result (Does D.faults (Calls line actor c.now done) self.old log.now self.new log.now) }
+        ensures done { OnOk result (DoesAlone (Calls line actor c.now done) self.old self.new) }
         ensures ours { (self.new.ours ≡ self.old.ours) × (self.new.unsure ≡ self.old.unsure) }
         ensures memory { OnErr result (self.new ≡ self.old) }
     {
         match c {
-            Call::Lose(_, _, _, _) => self.enter_lose(log, actor, line, c, done),
-            Call::Gone(_) => self.enter_gone(log, out, actor, line, c, done),
-            _ => self.enter_recovery(log, actor, line, c, done),
+            Call::Lose(_, _, _, _) => self.enter_lose(actor, line, c, done),
+            Call::Gone(_) => self.enter_gone(out, actor, line, c, done),
+            Call::Reenlist(_) => self.enter_return(out, actor, line, c, done),
+            _ => self.enter_recovery(actor, line, c, done),
         }
     }
 
     /// Enters a call that writes its entry alone, with this answer.
-    pub(super) fn enter_alone<D: Disk>(
+    pub(super) fn enter_alone(
         &mut self,
-        log: &Log<D>,
         actor: ActorNo,
         line: u32,
         c: &Call,
@@ -121,11 +131,10 @@ impl TxWorld {
         requires answer { answer ≡ answer_at self.old.transaction.value self.old.world c.now done }
         requires alone { has_facts answer ≡ false }
         ensures answer { IfOk result (λ a. a ≡ answer) }
-        ensures done { OnOk result (Does D.faults (Calls line actor c.now done) self.old log.now self.new log.now) }
+        ensures done { OnOk result (DoesAlone (Calls line actor c.now done) self.old self.new) }
         ensures ours { (self.new.ours ≡ self.old.ours) × (self.new.unsure ≡ self.old.unsure) }
         ensures memory { OnErr result (self.new ≡ self.old) }
     {
-        let _ = log.is_up();
         self.write_alone(actor, line, c, done, answer)?;
         Ok(answer)
     }

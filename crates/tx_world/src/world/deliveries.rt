@@ -3,31 +3,22 @@ ghost use Rattle.std.specs.Prelude.{◌≡◌, ◌↔◌, Ok, IfOk, OnErr, true,
 ghost use Rattle.dtx_values.specs.declared.message.Dir.TheVariants.{Up, Down};
 ghost use Rattle.dtx_model.specs.World.{has_left};
 ghost use Rattle.dtx_model.specs.Steps.{Delivers};
-ghost use Rattle.tx_world.specs.Stepping.{Does};
+ghost use Rattle.tx_world.specs.OwnCalls.{DoesAlone};
 
 use super::TxWorld;
 use crate::hearing::{hear_down, hear_up};
 use crate::refusal::WorldError;
-use crate::writing::{live, write_near};
-use coordinator_log::Log;
 use dtx_values::{Conn, Dir, Outbox};
-use outside::Disk;
 
 impl TxWorld {
     /// Delivers what comes next upward on a connection; false exactly where nothing is left.
-    pub(super) fn deliver_up<D: Disk>(
-        &mut self,
-        log: &Log<D>,
-        out: &mut Outbox,
-        c: Conn,
-    ) -> Result<bool, WorldError>
+    pub(super) fn deliver_up(&mut self, out: &mut Outbox, c: Conn) -> Result<bool, WorldError>
         ensures left { IfOk result (λ b. b ≡ has_left c Up self.old.world.past) }
-        ensures done { result ≡ Ok true → Does D.faults (Delivers c Up) self.old log.now self.new log.now }
+        ensures done { result ≡ Ok true → DoesAlone (Delivers c Up) self.old self.new }
         ensures ours { (self.new.ours ≡ self.old.ours) × (self.new.unsure ≡ self.old.unsure) }
         ensures unchanged { result ≡ Ok false → self.new ≡ self.old }
         ensures memory { OnErr result (self.new ≡ self.old) }
     {
-        let _ = log.is_up();
         self.history.reserve()?;
         out.clear();
         let Some(came) = self.history.deliver(c, Dir::Up) else {
@@ -39,14 +30,9 @@ impl TxWorld {
     }
 
     /// Delivers what comes next downward on a connection; false exactly where nothing is left.
-    pub(super) fn deliver_down<D: Disk>(
-        &mut self,
-        log: &Log<D>,
-        out: &mut Outbox,
-        c: Conn,
-    ) -> Result<bool, WorldError>
+    pub(super) fn deliver_down(&mut self, out: &mut Outbox, c: Conn) -> Result<bool, WorldError>
         ensures left { IfOk result (λ b. b ≡ has_left c Down self.old.world.past) }
-        ensures done { result ≡ Ok true → Does D.faults (Delivers c Down) self.old log.now self.new log.now }
+        ensures done { result ≡ Ok true → DoesAlone (Delivers c Down) self.old self.new }
         ensures ours { (self.new.ours ≡ self.old.ours) × (self.new.unsure ≡ self.old.unsure) }
         ensures unchanged { result ≡ Ok false → self.new ≡ self.old }
         ensures memory { OnErr result (self.new ≡ self.old) }
@@ -57,8 +43,7 @@ impl TxWorld {
             return Ok(false);
         };
         hear_down(&mut self.half, c, &came, out);
-        let begins = write_near(&mut self.history, &mut self.core, out.entries(), log);
-        live(&mut self.at_log, begins, log.life());
+        self.history.write(out.entries(), self.core.is_stopped());
         Ok(true)
     }
 }

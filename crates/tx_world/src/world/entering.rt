@@ -6,24 +6,24 @@ ghost use Rattle.dtx_model.specs.Caused.{MayAnswer};
 ghost use Rattle.dtx_model.specs.Steps.{Calls};
 ghost use Rattle.dtx_model.specs.World.{answer_at};
 ghost use Rattle.tx_world.specs.Entering.{is_local, is_lose, is_recovered, is_unlinked};
+ghost use Rattle.tx_world.specs.OwnCalls.{DoesAlone};
 ghost use Rattle.tx_world.specs.State.{may_enter};
-ghost use Rattle.tx_world.specs.Stepping.{Does};
+ghost use Rattle.tx_world.specs.Stepping.{DoesAt};
 
 use super::TxWorld;
 use crate::local_calls::answer_call;
 use crate::managers::recovery_answer;
 use crate::refusal::WorldError;
 use crate::writing::{live, write_near};
-use coordinator_log::Log;
 use dtx_model::EnteredCall;
 use dtx_values::{ActorNo, Answer, Call, Conn, Entry, Outbox, RmNo, TxNo};
-use outside::Disk;
 
 impl TxWorld {
     /// Enters a call that the local side answers alone.
-    pub(super) fn enter_local<D: Disk>(
+    pub(super) fn enter_local(
         &mut self,
-        log: &Log<D>,
+        up: bool,
+        life: u64,
         out: &mut Outbox,
         actor: ActorNo,
         line: u32,
@@ -35,7 +35,7 @@ impl TxWorld {
         requires enters { may_enter self.old.world line c.now ≡ true }
         requires answers { MayAnswer self.old.transaction.value self.old.world c.now done }
         ensures answer { IfOk result (λ a. a ≡ answer_at self.old.transaction.value self.old.world c.now done) }
-        ensures done { OnOk result (Does D.faults (Calls line actor c.now done) self.old log.now self.new log.now) }
+        ensures done { OnOk result (DoesAt up life (Calls line actor c.now done) self.old self.new) }
         ensures ours { (self.new.ours ≡ self.old.ours) × (self.new.unsure ≡ self.old.unsure) }
         ensures memory { OnErr result (self.new ≡ self.old) }
     {
@@ -48,8 +48,8 @@ impl TxWorld {
             actor,
             call: *c,
         });
-        let begins = write_near(&mut self.history, &mut self.core, out.entries(), log);
-        live(&mut self.at_log, begins, log.life());
+        let begins = write_near(&mut self.history, &mut self.core, out.entries(), up);
+        live(&mut self.at_log, begins, life);
         Ok(answer)
     }
 
@@ -66,9 +66,8 @@ impl TxWorld {
     }
 
     /// Enters a `lose`.
-    pub(super) fn enter_lose<D: Disk>(
+    pub(super) fn enter_lose(
         &mut self,
-        log: &Log<D>,
         actor: ActorNo,
         line: u32,
         c: &Call,
@@ -77,7 +76,7 @@ impl TxWorld {
         requires enters { may_enter self.old.world line c.now ≡ true }
         requires kind { is_lose c.now ≡ true }
         ensures answer { IfOk result (λ a. a ≡ answer_at self.old.transaction.value self.old.world c.now done) }
-        ensures done { OnOk result (Does D.faults (Calls line actor c.now done) self.old log.now self.new log.now) }
+        ensures done { OnOk result (DoesAlone (Calls line actor c.now done) self.old self.new) }
         ensures ours { (self.new.ours ≡ self.old.ours) × (self.new.unsure ≡ self.old.unsure) }
         ensures memory { OnErr result (self.new ≡ self.old) }
     {
@@ -86,16 +85,15 @@ impl TxWorld {
         };
         let answer = self.answer_lose(u, wire, up, down);
         if answer == Answer::Fine {
-            self.enter_lost(log, actor, line, u, wire, up, down)?;
+            self.enter_lost(actor, line, u, wire, up, down)?;
             return Ok(answer);
         }
-        self.enter_alone(log, actor, line, c, done, answer)
+        self.enter_alone(actor, line, c, done, answer)
     }
 
     /// Enters the loss of an open connection.
-    pub(super) fn enter_lost<D: Disk>(
+    pub(super) fn enter_lost(
         &mut self,
-        log: &Log<D>,
         actor: ActorNo,
         line: u32,
         u: TxNo,
@@ -105,11 +103,10 @@ impl TxWorld {
     ) -> Result<(), WorldError>
         requires enters { may_enter self.old.world line (Lose u c up down) ≡ true }
         requires fine { answer_at self.old.transaction.value self.old.world (Lose u c up down) 0 ≡ Fine }
-        ensures done { (m : ℕ) → OnOk result (Does D.faults (Calls line actor (Lose u c up down) m) self.old log.now self.new log.now) }
+        ensures done { (m : ℕ) → OnOk result (DoesAlone (Calls line actor (Lose u c up down) m) self.old self.new) }
         ensures ours { (self.new.ours ≡ self.old.ours) × (self.new.unsure ≡ self.old.unsure) }
         ensures memory { OnErr result (self.new ≡ self.old) }
     {
-        let _ = log.is_up();
         self.history.reserve()?;
         self.calls.reserve(1)?;
         let call = Call::Lose(u, c, up, down);
@@ -130,9 +127,8 @@ impl TxWorld {
     }
 
     /// Enters a `recovered`.
-    pub(super) fn enter_recovery<D: Disk>(
+    pub(super) fn enter_recovery(
         &mut self,
-        log: &Log<D>,
         actor: ActorNo,
         line: u32,
         c: &Call,
@@ -141,7 +137,7 @@ impl TxWorld {
         requires enters { may_enter self.old.world line c.now ≡ true }
         requires kind { is_recovered c.now ≡ true }
         ensures answer { IfOk result (λ a. a ≡ answer_at self.old.transaction.value self.old.world c.now done) }
-        ensures done { OnOk result (Does D.faults (Calls line actor c.now done) self.old log.now self.new log.now) }
+        ensures done { OnOk result (DoesAlone (Calls line actor c.now done) self.old self.new) }
         ensures ours { (self.new.ours ≡ self.old.ours) × (self.new.unsure ≡ self.old.unsure) }
         ensures memory { OnErr result (self.new ≡ self.old) }
     {
@@ -150,16 +146,15 @@ impl TxWorld {
         };
         let answer = self.answer_recovered(u, r);
         if answer == Answer::Fine {
-            self.enter_recovered(log, actor, line, u, r)?;
+            self.enter_recovered(actor, line, u, r)?;
             return Ok(answer);
         }
-        self.enter_alone(log, actor, line, c, done, answer)
+        self.enter_alone(actor, line, c, done, answer)
     }
 
     /// Enters that a manager has recovered.
-    pub(super) fn enter_recovered<D: Disk>(
+    pub(super) fn enter_recovered(
         &mut self,
-        log: &Log<D>,
         actor: ActorNo,
         line: u32,
         u: TxNo,
@@ -167,11 +162,10 @@ impl TxWorld {
     ) -> Result<(), WorldError>
         requires enters { may_enter self.old.world line (Recovered u r) ≡ true }
         requires fine { answer_at self.old.transaction.value self.old.world (Recovered u r) 0 ≡ Fine }
-        ensures done { (m : ℕ) → OnOk result (Does D.faults (Calls line actor (Recovered u r) m) self.old log.now self.new log.now) }
+        ensures done { (m : ℕ) → OnOk result (DoesAlone (Calls line actor (Recovered u r) m) self.old self.new) }
         ensures ours { (self.new.ours ≡ self.old.ours) × (self.new.unsure ≡ self.old.unsure) }
         ensures memory { OnErr result (self.new ≡ self.old) }
     {
-        let _ = log.is_up();
         self.history.reserve()?;
         self.calls.reserve(1)?;
         let call = Call::Recovered(u, r);

@@ -10,15 +10,13 @@ ghost use Rattle.dtx_model.specs.Steps.{Calls};
 ghost use Rattle.dtx_model.specs.Words.{has};
 ghost use Rattle.dtx_model.specs.World.{answer_at, open_ones};
 ghost use Rattle.dtx_model.specs.Calls.{is_gone_call};
+ghost use Rattle.tx_world.specs.OwnCalls.{DoesAlone};
 ghost use Rattle.tx_world.specs.State.{may_enter};
-ghost use Rattle.tx_world.specs.Stepping.{Does};
 
 use super::TxWorld;
 use crate::refusal::WorldError;
-use coordinator_log::Log;
 use dtx_model::EnteredCall;
 use dtx_values::{ActorNo, Answer, Call, Conn, EnlNo, Entry, Outbox, Row};
-use outside::Disk;
 
 /// Whether the row is that of the enlistment, which is a promotable.
 fn is_promotable_one(x: &Row, e: EnlNo) -> bool
@@ -62,9 +60,8 @@ impl TxWorld {
     }
 
     /// Enters a `gone`.
-    pub(super) fn enter_gone<D: Disk>(
+    pub(super) fn enter_gone(
         &mut self,
-        log: &Log<D>,
         out: &mut Outbox,
         actor: ActorNo,
         line: u32,
@@ -74,7 +71,7 @@ impl TxWorld {
         requires enters { may_enter self.old.world line c.now ≡ true }
         requires kind { is_gone_call c.now ≡ true }
         ensures answer { IfOk result (λ a. a ≡ answer_at self.old.transaction.value self.old.world c.now done) }
-        ensures done { OnOk result (Does D.faults (Calls line actor c.now done) self.old log.now self.new log.now) }
+        ensures done { OnOk result (DoesAlone (Calls line actor c.now done) self.old self.new) }
         ensures ours { (self.new.ours ≡ self.old.ours) × (self.new.unsure ≡ self.old.unsure) }
         ensures memory { OnErr result (self.new ≡ self.old) }
     {
@@ -82,21 +79,21 @@ impl TxWorld {
             return Ok(Answer::NoSuch);
         };
         if !self.has_open(e) {
-            return self.enter_local(log, out, actor, line, c, done);
+            // It sends no BEGIN, so it doesn't matter what is said of the log.
+            return self.enter_local(true, 0, out, actor, line, c, done);
         }
         let answer = self.answer_gone(e);
         if answer == Answer::Fine {
-            self.enter_cut(log, out, actor, line, e)?;
+            self.enter_cut(out, actor, line, e)?;
             return Ok(answer);
         }
-        self.enter_alone(log, actor, line, c, done, answer)
+        self.enter_alone(actor, line, c, done, answer)
     }
 
     /// Enters the loss of an enlistment with open connections, which are cut. A cut counts up to 4,294,967,295 messages: where the history has more entries than that,
     /// there is no memory for it.
-    fn enter_cut<D: Disk>(
+    fn enter_cut(
         &mut self,
-        log: &Log<D>,
         out: &mut Outbox,
         actor: ActorNo,
         line: u32,
@@ -105,11 +102,10 @@ impl TxWorld {
         requires enters { may_enter self.old.world line (Gone e) ≡ true }
         requires fine { answer_at self.old.transaction.value self.old.world (Gone e) 0 ≡ Fine }
         requires linked { is_empty (open_ones self.old.world e) ≡ false }
-        ensures done { (m : ℕ) → OnOk result (Does D.faults (Calls line actor (Gone e) m) self.old log.now self.new log.now) }
+        ensures done { (m : ℕ) → OnOk result (DoesAlone (Calls line actor (Gone e) m) self.old self.new) }
         ensures ours { (self.new.ours ≡ self.old.ours) × (self.new.unsure ≡ self.old.unsure) }
         ensures memory { OnErr result (self.new ≡ self.old) }
     {
-        let _ = log.is_up();
         if !self.history.is_countable() {
             return Err(WorldError::Memory);
         }

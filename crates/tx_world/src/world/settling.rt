@@ -3,7 +3,7 @@ ghost use Rattle.std.specs.Prelude.{◌≡◌, ◌≤◌, ◌<◌, Ok, None, IfO
 ghost use Rattle.dtx_model.specs.Words.{kth};
 ghost use Rattle.dtx_model.specs.Steps.{pending};
 ghost use Rattle.coordinator_log.specs.Slots.{open_records};
-ghost use Rattle.tx_world.specs.AtLog.{Fits, KeepsLog};
+ghost use Rattle.tx_world.specs.AtLog.{Fits, KeepsLog, KeepsSlots};
 ghost use Rattle.world_laws.specs.Left.{steps_left};
 ghost use Rattle.tx_world.specs.Stepping.{DoesKth, Settles, SomeSteps};
 
@@ -30,6 +30,7 @@ impl TxWorld {
         ensures some { result ≡ Ok true → DoesKth D.faults k self.old log.old self.new log.new }
         ensures nearer { result ≡ Ok true → steps_left self.new.world < steps_left self.old.world }
         ensures kept { IsTrue D.honest → KeepsLog D.image self.old log.old self.new log.new }
+        ensures slots { KeepsSlots self.old log.old self.new log.new }
         ensures life { log.new.life ≡ log.old.life }
         ensures grows { D.faults log.old.disk ≤ D.faults log.new.disk }
         ensures unarmed { log.old.armed ≡ None → log.new.armed ≡ None }
@@ -52,6 +53,7 @@ impl TxWorld {
         ensures transaction { self.new.transaction ≡ self.old.transaction }
         ensures fits { IsTrue D.honest → IsTrue log.new.is_up → Fits self.new (open_records log.new.slots) }
         ensures kept { IsTrue D.honest → KeepsLog D.image self.old log.old self.new log.new }
+        ensures slots { KeepsSlots self.old log.old self.new log.new }
         ensures life { log.new.life ≡ log.old.life }
         ensures grows { D.faults log.old.disk ≤ D.faults log.new.disk }
         ensures unarmed { log.old.armed ≡ None → log.new.armed ≡ None }

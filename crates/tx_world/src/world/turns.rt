@@ -1,10 +1,11 @@
 //! The pending steps, and doing the k-th.
-ghost use Rattle.std.specs.Prelude.{◌≡◌, ◌≤◌, Ok, Some, None, IfSome, OnErr, IsTrue, true, false, length};
+ghost use Rattle.std.specs.Prelude.{◌≡◌, ◌≤◌, Ok, Some, None, IfOk, IfSome, OnOk, OnErr, IsTrue, true, false, length};
 ghost use Rattle.dtx_model.specs.Words.{kth};
 ghost use Rattle.dtx_model.specs.Steps.{pending};
 ghost use Rattle.coordinator_log.specs.Slots.{open_records};
-ghost use Rattle.tx_world.specs.AtLog.{Fits, KeepsLog};
-ghost use Rattle.tx_world.specs.Pending.{IsAt, IsDueAt, IsDueIn, name_of};
+ghost use Rattle.tx_world.specs.AtLog.{Fits, KeepsLog, KeepsSlots};
+ghost use Rattle.tx_world.specs.OwnCalls.{DoesAlone};
+ghost use Rattle.tx_world.specs.Pending.{IsAt, IsDueAt, IsDueIn, is_alone_step, name_of, step_of};
 ghost use Rattle.tx_world.specs.Stepping.{DoesKth, needs_log, reply_in};
 
 use super::TxWorld;
@@ -39,7 +40,7 @@ impl TxWorld {
     }
 
     /// The k-th pending step, from 1.
-    fn at(&self, k: u32) -> Option<PendingStep>
+    pub(super) fn at(&self, k: u32) -> Option<PendingStep>
         ensures some { IfSome result (λ s. (kth (pending self.now.world) k ≡ Some (name_of s)) × IsDueIn self.now.world s) }
         ensures none { result ≡ None → kth (pending self.now.world) k ≡ None }
     {
@@ -83,6 +84,23 @@ impl TxWorld {
         )
     }
 
+    /// Does a pending step that is the local act or a delivery.
+    pub(super) fn do_alone(&mut self, out: &mut Outbox, s: PendingStep) -> Result<bool, WorldError>
+        requires due { IsDueIn self.old.world s }
+        requires alone { is_alone_step s ≡ true }
+        ensures did { IfOk result (λ b. b ≡ true) }
+        ensures done { OnOk result (DoesAlone (step_of s) self.old self.new) }
+        ensures ours { (self.new.ours ≡ self.old.ours) × (self.new.unsure ≡ self.old.unsure) }
+        ensures memory { OnErr result (self.new ≡ self.old) }
+    {
+        match s {
+            PendingStep::Act => self.act(out),
+            PendingStep::Deliver(c, Dir::Up) => self.deliver_up(out, c),
+            PendingStep::Deliver(c, Dir::Down) => self.deliver_down(out, c),
+            PendingStep::Reply(_, _, _) | PendingStep::Coordinate => unreachable!(),
+        }
+    }
+
     /// Does the k-th pending step, from 1, as [`TxWorld::step`] does.
     pub(super) fn step_kth<D: Disk>(
         &mut self,
@@ -94,21 +112,20 @@ impl TxWorld {
         ensures none { result ≡ Ok false → (kth (pending self.old.world) k ≡ None) × (self.new ≡ self.old) × (log.new ≡ log.old) }
         ensures some { result ≡ Ok true → DoesKth D.faults k self.old log.old self.new log.new }
         ensures kept { IsTrue D.honest → KeepsLog D.image self.old log.old self.new log.new }
+        ensures slots { KeepsSlots self.old log.old self.new log.new }
         ensures life { log.new.life ≡ log.old.life }
         ensures grows { D.faults log.old.disk ≤ D.faults log.new.disk }
         ensures unarmed { log.old.armed ≡ None → log.new.armed ≡ None }
         ensures still { IsTrue log.new.is_up → IsTrue log.old.is_up }
         ensures memory { OnErr result ((self.new ≡ self.old) × (log.new ≡ log.old)) }
     {
-        if k == 1 && self.act_first(log, out)? {
+        if k == 1 && self.act_first(out)? {
             return Ok(true);
         }
         match self.at(k) {
-            Some(PendingStep::Reply(e, _, r)) => self.reply(log, out, e, r),
-            Some(PendingStep::Act) => self.act(log, out),
             Some(PendingStep::Coordinate) => self.act_at_log(log, out),
-            Some(PendingStep::Deliver(c, Dir::Up)) => self.deliver_up(log, out, c),
-            Some(PendingStep::Deliver(c, Dir::Down)) => self.deliver_down(log, out, c),
+            Some(PendingStep::Reply(e, _, r)) => self.reply(log, out, e, r),
+            Some(s) => self.do_alone(out, s),
             None => Ok(false),
         }
     }

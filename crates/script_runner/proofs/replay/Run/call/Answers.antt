@@ -7,7 +7,7 @@ use Rattle.dtx_model.specs.Words.{past_of}
 use Rattle.dtx_model.proofs.Pasts.{length-past}
 use Rattle.tx_world.specs.State.{TxState}
 use Rattle.script_runner.specs.RunState.{AreNumbered, IsBelow, RunState, state_of}
-use Rattle.script_runner.proofs.CallsHold.{Entered, entered_at_place, entered_holds, entered_runs, entered_turn, may_answer_here, may_enter_here, past_after, past_longer}
+use Rattle.script_runner.proofs.CallsHold.{Entered, entered_at_place, entered_holds, entered_tells, entered_turn, may_answer_here, may_enter_here, past_after, past_longer}
 use Rattle.script_runner.proofs.Entering.{below_after}
 use Rattle.script_runner.proofs.Numbered.{numbered_same}
 use Rattle.script_runner.proofs.Turns.{written}
@@ -55,15 +55,17 @@ returns g c =
     let new : RunState = record { script = c.self.inside.plans; worlds = set ws c.index.result y; contexts = c.self.inside.contexts.items; trace = c.note.new.trace.items } in
     let did : Entered g.D.Disk.faults log t c.args.n c.args.actor c.args.c.now c.args.done x y old new =
     entered_at_place g.D.Disk.faults log t c.args.n c.args.actor c.args.c.now c.args.done x y old new ws numbered made here same (ap (λ (r : RunState). r.script) c.self.view_is)
-    (ap (λ k. set ws k y) place) c.is_own_run.ensures.run c.in_ok-enter.ensures.done c.in_ok-enter.ensures.ours c.is_own_run-2.ensures.ours
+    (ap (λ k. set ws k y) place) c.is_own_run.ensures.run c.in_ok-enter.ensures.done c.in_ok-enter.ensures.ours
+    (record { own = c.is_own_run-2.ensures.run; ours = c.is_own_run-2.ensures.ours; tried = c.is_own_run-2.ensures.tried })
     (noted ∙ ap (λ (r : RunState). r.trace ++ placed t (written log.is_up t.value x.world step)) c.self.view_is) in
     record {
       contexts = ap (λ (r : RunState). r.contexts) c.self.view_is;
-      runs = entered_runs g.D.Disk.faults log t c.args.n c.args.actor c.args.c.now c.args.done x y old new did;
-      holds = entered_holds g.D.Disk.faults g.D.Disk.honest log t c.args.n c.args.actor c.args.c.now c.args.done x y old new did c.requires.given c.requires.holds;
+      script = did.script;
+      tells = λ start. entered_tells g.D.Disk.faults g.D.Disk.honest g.D.Disk.image start log t c.args.n c.args.actor c.args.c.now c.args.done x y old new did;
+      holds = entered_holds g.D.Disk.faults g.D.Disk.honest g.D.Disk.image log t c.args.n c.args.actor c.args.c.now c.args.done x y old new did c.requires.given c.requires.holds;
       others = did.others;
       entered =
           subst (λ (z : TxState). IsBelow (c.args.n + 1) z) (sym did.now)
           (below_after c.args.n c.args.actor c.args.c.now c.args.done log.is_up x.transaction.value x y did.does.world (subst (λ (z : TxState). IsBelow c.args.n z) did.was c.requires.below));
-      done = entered_turn g.D.Disk.faults g.D.Disk.honest log t c.args.n c.args.actor c.args.c.now c.args.done x y old new did c.requires.holds;
+      done = entered_turn g.D.Disk.faults g.D.Disk.honest g.D.Disk.image log t c.args.n c.args.actor c.args.c.now c.args.done x y old new did c.requires.holds;
     }

@@ -155,8 +155,8 @@ returns-then-not-is_up g c =
     let q = c.stop_others.new.self in
     let mid : List Placed = c.note.new.trace.items in
     let now = parts g b mid in
-    let up : IsTrue a.from.is_up = sym c.is_up-was_up.ensures ∙ c.if-was_up.true in
-    let down : IsFalse a.to.is_up = sym c.is_up.ensures ∙ c.if-not-is_up.true in
+    let up : IsTrue a.from.is_up = sym c.is_up-was_up.ensures.up ∙ c.if-was_up.true in
+    let down : IsFalse a.to.is_up = sym c.is_up.ensures.up ∙ c.if-not-is_up.true in
     let noted : (es : List Entry) → a.y.world.past ≡ onto (was a).world.past es → mid ≡ (a.run.trace ++ (Log, Stopped) ∷ []) ++ placed a.t es =
     λ es wrote.
     c.in_ok-note.ensures (was a).world.past es (long g b) wrote
@@ -189,8 +189,8 @@ returns g c =
     let a = about g b in
     let new : List Placed = c.note-2.new.trace.items in
     let stays : IsTrue a.from.is_up → IsTrue a.to.is_up = λ up. elim c.else-was_up.branch [
-      | else-was_up-via-then-was_up+else-not-is_up w ↦ sym w.is_up.ensures ∙ w.if-not-is_up.false
-      | else-was_up-via-else-was_up w ↦ absurd (never_both a.from.is_up up (sym c.is_up-was_up.ensures ∙ w.if-was_up.false))
+      | else-was_up-via-then-was_up+else-not-is_up w ↦ sym w.is_up.ensures.up ∙ w.if-not-is_up.false
+      | else-was_up-via-else-was_up w ↦ absurd (never_both a.from.is_up up (sym c.is_up-was_up.ensures.up ∙ w.if-was_up.false))
     ] in
     let noted : (es : List Entry) → a.y.world.past ≡ onto (was a).world.past es → new ≡ a.run.trace ++ placed a.t es =
     λ es wrote. c.in_ok-note-2.ensures (was a).world.past es (long g b) wrote ∙ ap (λ (r : RunState). r.trace ++ placed a.t es) c.self.view_is in

@@ -11,8 +11,8 @@ use Rattle.coordinator_log.specs.declared.refusal.LogRefusal.{LogRefusal}
 use Rattle.coordinator_log.specs.declared.refusal.LogRefusal.TheVariants.{Stopped as Refused}
 use Rattle.tx_world.specs.AtLog.{Kept}
 use Rattle.coordinator_log.specs.Slots.{lowest_closed}
-use Rattle.tx_world.proofs.Answering.{acts_before, acts_now, broken_refused, may_append, never_both, none_refused, refused_unbroken, unchanged_by, was_up}
-use Rattle.tx_world.proofs.Fitting.{keeps_appended, keeps_stopped, none_found}
+use Rattle.tx_world.proofs.Answering.{acts_before, acts_now, appending, broken_refused, may_append, never_both, none_refused, refused_unbroken, unchanged_by, was_up}
+use Rattle.tx_world.proofs.Fitting.{keeps_appended, keeps_stopped, none_found, slots_appended, slots_stopped}
 use Rattle.tx_world.proofs.Keeping.{none_kept, ours_full, ours_logged, ours_stopped, runs_then}
 
 -- the identifier, and that nothing is kept and nothing unsure
@@ -47,10 +47,11 @@ returns-in-Err-Full-clause-ours g c =
 pub returns-in-Err-StoppedNow-clause-acts : goal.returns-in-Err-StoppedNow-clause-acts
 returns-in-Err-StoppedNow-clause-acts g c =
     let broken = c.in-Err-StoppedNow.is ∙ ap (λ (e : LogRefusal). Err e) c.in-Err-StoppedNow.field-0-is in
-    let P : Kept → Type 0 = λ x. Acts g.D.Disk.faults c.args.core.now.state x.life c.args.out.now c.args.log.now c.stop.new.core.state c.stop.new.out c.append.new.self in
-    subst P c.self.view_is (acts_now g.D.Disk.faults c.args.core.now.state c.self.inside.life c.args.out.now c.args.log.now c.stop.new.core.state c.stop.new.out c.append.new.self
+    let P : Kept → Type 0 = λ x. Acts g.D.Disk.faults c.args.core.now.state (identifier_of c.args.core.now.transaction.value) x.life c.args.out.now c.args.log.now c.stop.new.core.state c.stop.new.out c.append.new.self in
+    subst P c.self.view_is (acts_now g.D.Disk.faults c.args.core.now.state (identifier_of c.args.core.now.transaction.value) c.self.inside.life c.args.out.now c.args.log.now c.stop.new.core.state c.stop.new.out c.append.new.self 4
     (may_append c.args.core.now.state StoppedNow c.requires.votes) c.stop.ensures.state c.stop.ensures.out
-    (λ x. broken_refused c.append.result broken (c.append.ensures.stopped.1 x)) (c.append.ensures.stopped_now broken).0 (c.append.ensures.cause broken))
+    (λ x. broken_refused c.append.result broken (c.append.ensures.stopped.1 x)) (c.append.ensures.stopped_now broken).0 (appending c.args.core.now.state c.requires.votes)
+    (c.append.ensures.cause broken) (c.append.ensures.used broken))
 
 pub returns-in-Err-StoppedNow-clause-ours : goal.returns-in-Err-StoppedNow-clause-ours
 returns-in-Err-StoppedNow-clause-ours g c =
@@ -72,8 +73,8 @@ returns-in-Err-StoppedNow-clause-kept g c = λ honest.
 pub returns-in-Err-Stopped-clause-acts : goal.returns-in-Err-Stopped-clause-acts
 returns-in-Err-Stopped-clause-acts g c =
     let refused = c.in-Err-Stopped.is ∙ ap (λ (e : LogRefusal). Err e) c.in-Err-Stopped.field-0-is in
-    let P : Kept → Type 0 = λ x. Acts g.D.Disk.faults c.args.core.now.state x.life c.args.out.now c.args.log.now c.stop-in-Err-Stopped.new.core.state c.stop-in-Err-Stopped.new.out c.append.new.self in
-    subst P c.self.view_is (acts_before g.D.Disk.faults c.args.core.now.state c.self.inside.life c.args.out.now c.args.log.now c.stop-in-Err-Stopped.new.core.state c.stop-in-Err-Stopped.new.out c.append.new.self
+    let P : Kept → Type 0 = λ x. Acts g.D.Disk.faults c.args.core.now.state (identifier_of c.args.core.now.transaction.value) x.life c.args.out.now c.args.log.now c.stop-in-Err-Stopped.new.core.state c.stop-in-Err-Stopped.new.out c.append.new.self in
+    subst P c.self.view_is (acts_before g.D.Disk.faults c.args.core.now.state (identifier_of c.args.core.now.transaction.value) c.self.inside.life c.args.out.now c.args.log.now c.stop-in-Err-Stopped.new.core.state c.stop-in-Err-Stopped.new.out c.append.new.self
     (may_append c.args.core.now.state StoppedBefore c.requires.votes) c.stop-in-Err-Stopped.ensures.state c.stop-in-Err-Stopped.ensures.out (c.append.ensures.stopped.0 refused)
     (unchanged_by c.append.result Refused refused_unbroken refused c.append.ensures.unchanged))
 
@@ -82,3 +83,14 @@ returns-in-Err-Stopped-clause-ours g c =
     let id = identifier_of c.args.core.now.transaction.value in
     let P : Coordinated → Type 0 = λ j. IsOurs id j c.args.self.now in
     subst P (sym c.stop-in-Err-Stopped.ensures.state) (ours_stopped id c.args.core.now.state c.args.self.now c.requires.ours.named)
+
+-- what is left of the records in memory
+pub returns-in-Ok-clause-slots : goal.returns-in-Ok-clause-slots
+returns-in-Ok-clause-slots g c =
+    slots_appended (identifier_of c.args.core.now.transaction.value) c.in-Ok.field-0 (record_of c.args.kept) c.args.self.now.ours c.args.log.now c.append.new.self c.requires.own c.in-Ok.ensures.records
+
+pub returns-in-Err-StoppedNow-clause-slots : goal.returns-in-Err-StoppedNow-clause-slots
+returns-in-Err-StoppedNow-clause-slots g c =
+    let broken = c.in-Err-StoppedNow.is ∙ ap (λ (e : LogRefusal). Err e) c.in-Err-StoppedNow.field-0-is in
+    slots_stopped (identifier_of c.args.core.now.transaction.value) c.args.self.now.ours (Some (record_of c.args.kept)) c.args.log.now c.append.new.self (c.append.ensures.stopped_now broken).1
+    (λ u. never_both c.append.new.self.is_up u (c.append.ensures.stopped_now broken).0)

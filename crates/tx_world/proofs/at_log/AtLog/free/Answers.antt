@@ -3,19 +3,19 @@ use Rattle.std.specs.Option.{option_map}
 use Rattle.dtx_model.specs.Log.{first_of, record_of}
 use Rattle.dtx_model.specs.Promotes.{identifier_of}
 use Rattle.coordinator_log.specs.Slots.{open_records}
-use Rattle.tx_world.specs.AtLog.{Acts, IsFit, IsOurs, Keeps}
+use Rattle.tx_world.specs.AtLog.{Acts, IsFit, IsOurs, Keeps, LeavesSlots}
 use Rattle.tx_world.proofs.at_log.AtLog.free.Goals as goal
 use Rattle.std.proofs.Common.{sym, subst, ap, ◌∙◌, inl, Err, refl}
 use Rattle.std.specs.Prelude.{IfSome}
 use Rattle.coordinator_log.specs.State.{LogState}
-use Rattle.tx_world.proofs.Freeing.{fewer, images_of, lost_id, never_lost, records_of}
+use Rattle.tx_world.proofs.Freeing.{freed_runs, images_of, lost_id, never_lost, records_of}
 use Rattle.dtx_model.specs.Coordinated.{Coordinated}
 use Rattle.dtx_model.specs.Steps.{StoppedNow, StoppedBefore}
 use Rattle.coordinator_log.specs.declared.refusal.LogRefusal.{LogRefusal}
 use Rattle.coordinator_log.specs.declared.refusal.LogRefusal.TheVariants.{Stopped as Refused, NoSuch}
 use Rattle.tx_world.specs.AtLog.{Kept}
-use Rattle.tx_world.proofs.Answering.{acts_before, acts_freed, acts_now, broken_refused, lost_refused, lost_unbroken, may_release, never_both, none_refused, refused_unbroken, unchanged_by, was_up}
-use Rattle.tx_world.proofs.Fitting.{keeps_freed, keeps_unfreed}
+use Rattle.tx_world.proofs.Answering.{acts_before, acts_freed, acts_now, broken_refused, freeing, lost_refused, lost_unbroken, may_release, never_both, none_refused, refused_unbroken, unchanged_by, was_up}
+use Rattle.tx_world.proofs.Fitting.{keeps_freed, keeps_unfreed, slots_freed, slots_lost, slots_stopped}
 use Rattle.tx_world.proofs.Keeping.{one_kept, ours_freed, ours_stopped, runs_still}
 
 pub stop-requires-clause-up : goal.stop-requires-clause-up
@@ -27,10 +27,10 @@ stop-requires-in-Err-Stopped-clause-up g c = runs_still c.args.core.now.state c.
 -- the record was freed
 pub returns-in-Ok-clause-acts : goal.returns-in-Ok-clause-acts
 returns-in-Ok-clause-acts g c =
-    let P : Kept → Type 0 = λ x. Acts g.D.Disk.faults c.args.core.now.state x.life c.args.out.now c.args.log.now c.freed.new.core.state c.freed.new.out c.free.new.self in
-    subst P c.self.view_is (acts_freed g.D.Disk.faults c.args.core.now.state c.self.inside.life c.args.out.now c.args.log.now c.freed.new.core.state c.freed.new.out c.free.new.self
+    let P : Kept → Type 0 = λ x. Acts g.D.Disk.faults c.args.core.now.state (identifier_of c.args.core.now.transaction.value) x.life c.args.out.now c.args.log.now c.freed.new.core.state c.freed.new.out c.free.new.self in
+    subst P c.self.view_is (acts_freed g.D.Disk.faults c.args.core.now.state (identifier_of c.args.core.now.transaction.value) c.self.inside.life c.args.out.now c.args.log.now c.freed.new.core.state c.freed.new.out c.free.new.self
     c.requires.votes c.requires.finished c.freed.ensures.state c.freed.ensures.out (λ x. none_refused c.free.result c.in-Ok.field-0 c.in-Ok.is (c.free.ensures.stopped.1 x))
-    c.in-Ok.ensures.up c.in-Ok.ensures.smooth)
+    c.in-Ok.ensures.up c.in-Ok.ensures.smooth (λ f. c.in-Ok.ensures.counted))
 
 pub returns-in-Ok-clause-ours : goal.returns-in-Ok-clause-ours
 returns-in-Ok-clause-ours g c =
@@ -55,10 +55,11 @@ pub returns-in-Err-NoSuch-clause-acts : goal.returns-in-Err-NoSuch-clause-acts
 returns-in-Err-NoSuch-clause-acts g c =
     let lost = lost_id c.free.result c.args.id c.in-Err-NoSuch.field-0-0 (c.in-Err-NoSuch.is ∙ ap (λ (e : LogRefusal). Err e) c.in-Err-NoSuch.field-0-is) c.free.ensures.only in
     let same : c.free.new.self ≡ c.args.log.now = unchanged_by c.free.result (NoSuch c.args.id) (lost_unbroken c.args.id) lost c.free.ensures.unchanged in
-    let P : Kept → Type 0 = λ x. Acts g.D.Disk.faults c.args.core.now.state x.life c.args.out.now c.args.log.now c.freed-in-Err-NoSuch.new.core.state c.freed-in-Err-NoSuch.new.out c.free.new.self in
-    subst P c.self.view_is (acts_freed g.D.Disk.faults c.args.core.now.state c.self.inside.life c.args.out.now c.args.log.now c.freed-in-Err-NoSuch.new.core.state c.freed-in-Err-NoSuch.new.out c.free.new.self
+    let P : Kept → Type 0 = λ x. Acts g.D.Disk.faults c.args.core.now.state (identifier_of c.args.core.now.transaction.value) x.life c.args.out.now c.args.log.now c.freed-in-Err-NoSuch.new.core.state c.freed-in-Err-NoSuch.new.out c.free.new.self in
+    subst P c.self.view_is (acts_freed g.D.Disk.faults c.args.core.now.state (identifier_of c.args.core.now.transaction.value) c.self.inside.life c.args.out.now c.args.log.now c.freed-in-Err-NoSuch.new.core.state c.freed-in-Err-NoSuch.new.out c.free.new.self
     c.requires.votes c.requires.finished c.freed-in-Err-NoSuch.ensures.state c.freed-in-Err-NoSuch.ensures.out (λ x. lost_refused c.free.result c.args.id lost (c.free.ensures.stopped.1 x))
-    (ap (λ (l : LogState g.row.D.Denot). l.is_up) same ∙ (c.free.ensures.none.0 lost).0) (ap (λ (l : LogState g.row.D.Denot). g.D.Disk.faults l.disk) same))
+    (ap (λ (l : LogState g.row.D.Denot). l.is_up) same ∙ (c.free.ensures.none.0 lost).0) (ap (λ (l : LogState g.row.D.Denot). g.D.Disk.faults l.disk) same)
+    (λ f. absurd (f (ap (λ n. first_of n (open_records c.args.log.now.slots)) (sym c.requires.own) ∙ (c.free.ensures.none.0 lost).2))))
 
 pub returns-in-Err-NoSuch-clause-ours : goal.returns-in-Err-NoSuch-clause-ours
 returns-in-Err-NoSuch-clause-ours g c =
@@ -82,10 +83,11 @@ returns-in-Err-NoSuch-clause-kept g c = λ honest.
 pub returns-in-Err-StoppedNow-clause-acts : goal.returns-in-Err-StoppedNow-clause-acts
 returns-in-Err-StoppedNow-clause-acts g c =
     let broken = c.in-Err-StoppedNow.is ∙ ap (λ (e : LogRefusal). Err e) c.in-Err-StoppedNow.field-0-is in
-    let P : Kept → Type 0 = λ x. Acts g.D.Disk.faults c.args.core.now.state x.life c.args.out.now c.args.log.now c.stop.new.core.state c.stop.new.out c.free.new.self in
-    subst P c.self.view_is (acts_now g.D.Disk.faults c.args.core.now.state c.self.inside.life c.args.out.now c.args.log.now c.stop.new.core.state c.stop.new.out c.free.new.self
+    let P : Kept → Type 0 = λ x. Acts g.D.Disk.faults c.args.core.now.state (identifier_of c.args.core.now.transaction.value) x.life c.args.out.now c.args.log.now c.stop.new.core.state c.stop.new.out c.free.new.self in
+    subst P c.self.view_is (acts_now g.D.Disk.faults c.args.core.now.state (identifier_of c.args.core.now.transaction.value) c.self.inside.life c.args.out.now c.args.log.now c.stop.new.core.state c.stop.new.out c.free.new.self 2
     (may_release c.args.core.now.state StoppedNow c.requires.finished refl) c.stop.ensures.state c.stop.ensures.out
-    (λ x. broken_refused c.free.result broken (c.free.ensures.stopped.1 x)) (c.free.ensures.stopped_now broken).0 (λ n. c.free.ensures.cause broken (fewer c.args.log.now.armed n)))
+    (λ x. broken_refused c.free.result broken (c.free.ensures.stopped.1 x)) (c.free.ensures.stopped_now broken).0 (freeing c.args.core.now.state c.requires.votes)
+    (c.free.ensures.cause broken) (c.free.ensures.used broken))
 
 pub returns-in-Err-StoppedNow-clause-ours : goal.returns-in-Err-StoppedNow-clause-ours
 returns-in-Err-StoppedNow-clause-ours g c =
@@ -111,8 +113,8 @@ returns-in-Err-StoppedNow-clause-kept g c = λ honest.
 pub returns-in-Err-Stopped-clause-acts : goal.returns-in-Err-Stopped-clause-acts
 returns-in-Err-Stopped-clause-acts g c =
     let refused = c.in-Err-Stopped.is ∙ ap (λ (e : LogRefusal). Err e) c.in-Err-Stopped.field-0-is in
-    let P : Kept → Type 0 = λ x. Acts g.D.Disk.faults c.args.core.now.state x.life c.args.out.now c.args.log.now c.stop-in-Err-Stopped.new.core.state c.stop-in-Err-Stopped.new.out c.free.new.self in
-    subst P c.self.view_is (acts_before g.D.Disk.faults c.args.core.now.state c.self.inside.life c.args.out.now c.args.log.now c.stop-in-Err-Stopped.new.core.state c.stop-in-Err-Stopped.new.out c.free.new.self
+    let P : Kept → Type 0 = λ x. Acts g.D.Disk.faults c.args.core.now.state (identifier_of c.args.core.now.transaction.value) x.life c.args.out.now c.args.log.now c.stop-in-Err-Stopped.new.core.state c.stop-in-Err-Stopped.new.out c.free.new.self in
+    subst P c.self.view_is (acts_before g.D.Disk.faults c.args.core.now.state (identifier_of c.args.core.now.transaction.value) c.self.inside.life c.args.out.now c.args.log.now c.stop-in-Err-Stopped.new.core.state c.stop-in-Err-Stopped.new.out c.free.new.self
     (may_release c.args.core.now.state StoppedBefore c.requires.finished refl) c.stop-in-Err-Stopped.ensures.state c.stop-in-Err-Stopped.ensures.out (c.free.ensures.stopped.0 refused)
     (unchanged_by c.free.result Refused refused_unbroken refused c.free.ensures.unchanged))
 
@@ -121,3 +123,34 @@ returns-in-Err-Stopped-clause-ours g c =
     let id = identifier_of c.args.core.now.transaction.value in
     let P : Coordinated → Type 0 = λ j. IsOurs id j c.args.self.now in
     subst P (sym c.stop-in-Err-Stopped.ensures.state) (ours_stopped id c.args.core.now.state c.args.self.now c.requires.ours.named)
+
+-- what is left of the records in memory
+pub returns-in-Ok-clause-slots : goal.returns-in-Ok-clause-slots
+returns-in-Ok-clause-slots g c =
+    let id = identifier_of c.args.core.now.transaction.value in
+    let from : LogState g.row.D.Denot = c.args.log.now in
+    let Q : Kept → Type 0 = λ x. LeavesSlots id c.args.self.now.ours x.ours from c.free.new.self in
+    subst Q (sym c.freed.ensures.kept)
+    (slots_freed id c.args.self.now.ours from c.free.new.self (records_of id c.args.id (open_records c.free.new.self.slots) (open_records from.slots) c.requires.own c.in-Ok.ensures.records))
+
+pub returns-in-Err-NoSuch-clause-slots : goal.returns-in-Err-NoSuch-clause-slots
+returns-in-Err-NoSuch-clause-slots g c =
+    let id = identifier_of c.args.core.now.transaction.value in
+    let lost = lost_id c.free.result c.args.id c.in-Err-NoSuch.field-0-0 (c.in-Err-NoSuch.is ∙ ap (λ (e : LogRefusal). Err e) c.in-Err-NoSuch.field-0-is) c.free.ensures.only in
+    let same : c.free.new.self ≡ c.args.log.now = unchanged_by c.free.result (NoSuch c.args.id) (lost_unbroken c.args.id) lost c.free.ensures.unchanged in
+    let from : LogState g.row.D.Denot = c.args.log.now in
+    let Q : Kept → Type 0 = λ x. LeavesSlots id c.args.self.now.ours x.ours from c.free.new.self in
+    subst Q (sym c.freed-in-Err-NoSuch.ensures.kept) (slots_lost id c.args.self.now.ours from c.free.new.self same)
+
+pub returns-in-Err-StoppedNow-clause-slots : goal.returns-in-Err-StoppedNow-clause-slots
+returns-in-Err-StoppedNow-clause-slots g c =
+    let broken = c.in-Err-StoppedNow.is ∙ ap (λ (e : LogRefusal). Err e) c.in-Err-StoppedNow.field-0-is in
+    slots_stopped (identifier_of c.args.core.now.transaction.value) c.args.self.now.ours (option_map record_of c.self.inside.ours) c.args.log.now c.free.new.self (c.free.ensures.stopped_now broken).1
+    (λ u. never_both c.free.new.self.is_up u (c.free.ensures.stopped_now broken).0)
+
+-- a coordinator whose record was freed isn't stopped
+pub returns-in-Ok-clause-had : goal.returns-in-Ok-clause-had
+returns-in-Ok-clause-had g c = λ stops some. absurd (freed_runs c.args.core.now.state c.freed.new.core.state c.requires.finished c.freed.ensures.state stops)
+
+pub returns-in-Err-NoSuch-clause-had : goal.returns-in-Err-NoSuch-clause-had
+returns-in-Err-NoSuch-clause-had g c = λ stops some. absurd (freed_runs c.args.core.now.state c.freed-in-Err-NoSuch.new.core.state c.requires.finished c.freed-in-Err-NoSuch.ensures.state stops)

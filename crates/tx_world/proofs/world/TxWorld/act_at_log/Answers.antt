@@ -1,12 +1,14 @@
-use Rattle.std.proofs.Common.{◌≡◌, ◌∷◌, ◌∙◌, List, ap, sym}
+use Rattle.std.proofs.Common.{◌≡◌, ◌∷◌, ◌∙◌, List, true, ap, sym}
 use Rattle.dtx_values.specs.declared.entry.Entry.{Entry}
 use Rattle.dtx_values.specs.declared.entry.Entry.TheVariants.{Stopped}
 use Rattle.dtx_model.specs.Coordinated.{Coordinated}
 use Rattle.dtx_model.specs.Words.{each, onto}
 use Rattle.dtx_model.specs.Steps.{coordinates}
+use Rattle.dtx_model.specs.Tied.{tied}
 use Rattle.world_laws.specs.Carried.{are_sendable}
 use Rattle.world_laws.specs.Course.{is_written}
-use Rattle.tx_world.proofs.AtTheLog.{Acted, acted, acted_keeps, acted_so, acted_whole, stop_only, written_only}
+use Rattle.tx_world.specs.Tried.{IsTried}
+use Rattle.tx_world.proofs.AtTheLog.{Acted, acted, acted_keeps, acted_slots, acted_so, acted_tried, acted_whole, stop_only, written_only}
 use Rattle.tx_world.proofs.Written.{block_of, stopped_is, world_of}
 use Rattle.tx_world.proofs.world.TxWorld.act_at_log.Given.{Over}
 use Rattle.tx_world.proofs.world.TxWorld.act_at_log.Goals.{After-act, After-entries, After-stop, After-write}
@@ -18,6 +20,15 @@ did g c =
     let i = c.self.inside in
     let acts = c.act.ensures.acts in
     acted i.transaction (world_of i.calls.items i.history.past) i.half i.core c.act.new.core acts.answer c.self.invariant.kept acts.may c.act.ensures.transaction acts.state
+
+-- and what is kept then is what the history says
+tried : (g : Over) (c : After-act g) (n : List Entry) → n ≡ onto c.self.inside.history.past (coordinates c.self.inside.core.state c.act.ensures.acts.answer) → tied n ≡ true → IsTried n c.act.new.self
+tried g c n past =
+    let i = c.self.inside in
+    let acts = c.act.ensures.acts in
+    let d = did g c in
+    acted_tried i.transaction (world_of i.calls.items i.history.past) i.half i.core c.act.new.core acts.answer n i.at_log c.act.new.self c.self.invariant d past c.act.ensures.ours c.act.ensures.had
+    (λ stops. stop_only i.core.state acts.answer d.running (ap (λ (s : Coordinated). s.stopped) (sym acts.state) ∙ stops))
 
 -- where that stopped it, the stop alone comes onto the past
 stop_past : (g : Over) (c : After-stop g) → Acted c.self.inside.transaction (world_of c.self.inside.calls.items c.self.inside.history.past) c.self.inside.half c.self.inside.core c.act.new.core c.act.ensures.acts.answer
@@ -42,6 +53,7 @@ invariant_of-self-then-is_stopped g c =
     let i = c.self.inside in
     let d = did g (goal.at.invariant_of-self-then-is_stopped g c).After-act in
     acted_whole i.transaction (world_of i.calls.items i.history.past) i.half i.core c.act.new.core c.act.ensures.acts.answer c.stop.new.self.past c.act.new.self d (stop_past g c d) c.act.ensures.transaction c.act.ensures.ours
+    (tried g (goal.at.invariant_of-self-then-is_stopped g c).After-act c.stop.new.self.past (stop_past g c d))
 
 pub write-requires-clause-written : goal.write-requires-clause-written
 write-requires-clause-written g c =
@@ -64,21 +76,21 @@ invariant_of-self-else-is_stopped g c =
     let i = c.self.inside in
     let at = goal.at.invariant_of-self-else-is_stopped g c in
     acted_whole i.transaction (world_of i.calls.items i.history.past) i.half i.core c.act.new.core c.act.ensures.acts.answer c.write.new.self.past c.act.new.self (did g at.After-act) (write_past g c (block g at.After-entries))
-    c.act.ensures.transaction c.act.ensures.ours
+    c.act.ensures.transaction c.act.ensures.ours (tried g at.After-act c.write.new.self.past (write_past g c (block g at.After-entries)))
 
 pub returns-then-is_stopped-clause-done : goal.returns-then-is_stopped-clause-done
 returns-then-is_stopped-clause-done g c = λ ok.
     let i = c.self.inside in
     let d = did g (goal.at.returns-then-is_stopped-clause-done g c).After-act in
     acted_so g.D.Disk.faults i.transaction (world_of i.calls.items i.history.past) i.half i.core c.act.new.core c.stop.new.self.past i.at_log c.act.new.self c.clear.new.self c.act.new.out c.args.self.now c.args.log.now
-    c.act.new.log c.act.ensures.acts d (stop_past g c d) c.act.ensures.life.0 c.self.view_is
+    c.act.new.log c.act.ensures.acts c.self.invariant.kept d (stop_past g c d) c.act.ensures.life.0 c.self.view_is
 
 pub returns-else-is_stopped-clause-done : goal.returns-else-is_stopped-clause-done
 returns-else-is_stopped-clause-done g c = λ ok.
     let i = c.self.inside in
     let at = goal.at.returns-else-is_stopped-clause-done g c in
     acted_so g.D.Disk.faults i.transaction (world_of i.calls.items i.history.past) i.half i.core c.act.new.core c.write.new.self.past i.at_log c.act.new.self c.clear.new.self c.act.new.out c.args.self.now c.args.log.now
-    c.act.new.log c.act.ensures.acts (did g at.After-act) (write_past g c (block g at.After-entries)) c.act.ensures.life.0 c.self.view_is
+    c.act.new.log c.act.ensures.acts c.self.invariant.kept (did g at.After-act) (write_past g c (block g at.After-entries)) c.act.ensures.life.0 c.self.view_is
 
 pub returns-then-is_stopped-clause-kept : goal.returns-then-is_stopped-clause-kept
 returns-then-is_stopped-clause-kept g c = λ honest.
@@ -91,3 +103,15 @@ returns-else-is_stopped-clause-kept g c = λ honest.
     let i = c.self.inside in
     acted_keeps g.D.Disk.image i.transaction (world_of i.calls.items i.history.past) (world_of i.calls.items c.write.new.self.past) i.half i.core i.at_log c.act.new.self c.args.self.now c.args.log.now c.act.new.log
     c.self.invariant.kept (c.act.ensures.kept honest) c.self.view_is
+
+pub returns-then-is_stopped-clause-slots : goal.returns-then-is_stopped-clause-slots
+returns-then-is_stopped-clause-slots g c =
+    let i = c.self.inside in
+    acted_slots i.transaction (world_of i.calls.items i.history.past) (world_of i.calls.items c.stop.new.self.past) i.half i.core i.at_log c.act.new.self c.args.self.now c.args.log.now c.act.new.log
+    c.self.invariant.kept c.act.ensures.slots c.self.view_is
+
+pub returns-else-is_stopped-clause-slots : goal.returns-else-is_stopped-clause-slots
+returns-else-is_stopped-clause-slots g c =
+    let i = c.self.inside in
+    acted_slots i.transaction (world_of i.calls.items i.history.past) (world_of i.calls.items c.write.new.self.past) i.half i.core i.at_log c.act.new.self c.args.self.now c.args.log.now c.act.new.log
+    c.self.invariant.kept c.act.ensures.slots c.self.view_is

@@ -10,7 +10,7 @@ use Rattle.tx_world.proofs.Listing.{act_is_first}
 use Rattle.tx_world.proofs.world.TxWorld.act_first.Goals as goal
 
 pub returns-clause-first : goal.returns-clause-first
-returns-clause-first g c done =
+returns-clause-first c done =
     let i = c.self.inside in
     let w : World = record { calls = past_of i.calls.items; past = i.history.past } in
     let due = subst (λ r. IfOk r (λ b. b ≡ not (is_empty (act_entries (half c.args.self.now.world))))) done c.act.ensures.due in

@@ -3,7 +3,7 @@ use Rattle.dtx_model.specs.Log.{CommitRecord}
 use Rattle.dtx_model.specs.Steps.{Calls}
 use Rattle.coordinator_log.specs.Slots.{open_records}
 use Rattle.tx_world.specs.AtLog.{Fits, Keeps, id_of}
-use Rattle.tx_world.proofs.Prepared.{call_done, call_fails, entered_there, fits_there, prepared_enters, prepared_may}
+use Rattle.tx_world.proofs.Prepared.{call_done, call_fails, entered_there, fits_there, prepared_enters, prepared_may, slots_there}
 use Rattle.tx_world.proofs.world.TxWorld.call.Goals as goal
 
 pub enter-requires-clause-enters : goal.enter-requires-clause-enters
@@ -37,3 +37,8 @@ returns-clause-kept g c = λ honest.
 pub returns-clause-memory : goal.returns-clause-memory
 returns-clause-memory g c =
     call_fails g.D.Disk.faults c.args.c.now c.in_ok-done.done c.args.self.now c.args.log.now c.prepare.new.self c.enter.new.self c.prepare.new.log c.enter.result c.in_ok-done.ensures.prepared c.enter.ensures.memory
+
+pub returns-clause-slots : goal.returns-clause-slots
+returns-clause-slots g c =
+    let there = entered_there g.D.Disk.faults (Calls c.args.line c.args.actor c.args.c.now c.in_ok-done.done) c.prepare.new.self c.enter.new.self c.prepare.new.log c.enter.result c.enter.ensures.done c.enter.ensures.memory in
+    slots_there c.args.self.now c.prepare.new.self c.enter.new.self c.args.log.now c.prepare.new.log there c.enter.ensures.ours c.prepare.ensures.slots

@@ -7,7 +7,7 @@ use Rattle.dtx_model.specs.Steps.{Stops, after}
 use Rattle.dtx_model.specs.World.{World}
 use Rattle.tx_world.specs.State.{TxState, is_hit_by}
 use Rattle.tx_world.proofs.Living.{whole_stopped}
-use Rattle.tx_world.proofs.Stopping.{hit_kept}
+use Rattle.tx_world.proofs.Stopping.{hit_kept, hit_runs}
 use Rattle.tx_world.proofs.world.TxWorld.coordinator_stopped.Goals as goal
 
 pub invariant_of-self-2 : goal.invariant_of-self-2
@@ -16,9 +16,9 @@ invariant_of-self-2 c =
     let w : World = record { calls = past_of i.calls.items; past = i.history.past } in
     let hit = ap (is_hit_by c.args.life) c.self.view_is ∙ sym c.is_hit_by.ensures ∙ c.if-not-is_hit_by.false in
     let past = c.stop.ensures.past ∙ ap (λ (h : List Entry). Stopped ∷ h) c.in_ok-reserve.ensures.same in
-    whole_stopped i.core c.stopped.new.self
-    (hit_kept i.transaction w i.half i.core c.stopped.new.self (past_of i.calls.items) c.stop.new.self.past (nat_le i.at_log.life c.args.life) c.self.invariant.kept hit refl past c.stopped.ensures.transaction c.stopped.ensures.state).0
-    c.self.invariant.ours c.stopped.ensures.transaction c.stopped.ensures.state
+    let kept =
+    (hit_kept i.transaction w i.half i.core c.stopped.new.self (past_of i.calls.items) c.stop.new.self.past (nat_le i.at_log.life c.args.life) c.self.invariant.kept hit refl past c.stopped.ensures.transaction c.stopped.ensures.state).0 in
+    whole_stopped w i.half i.core c.stopped.new.self c.self.invariant kept (hit_runs i.transaction w i.half i.core i.at_log.life c.args.life c.self.invariant.kept hit) past
 
 pub returns-clause-world : goal.returns-clause-world
 returns-clause-world c =

@@ -1,22 +1,21 @@
-use Rattle.std.proofs.Common.{◌≡◌, ◌++◌, List, Some, None, ◌↔◌, false, refl, sym, ◌∙◌, subst}
+use Rattle.std.proofs.Common.{◌≡◌, List, Some, None, ◌↔◌, false, refl, sym, ◌∙◌, subst}
 use Rattle.dtx_values.specs.declared.entry.Entry.{Entry}
 use Rattle.dtx_values.specs.declared.entry.Entry.TheVariants.{Got}
 use Rattle.dtx_values.specs.declared.message.Dir.TheVariants.{Up}
-use Rattle.dtx_model.specs.Promotes.{identifier_of}
 use Rattle.dtx_model.specs.Steps.{Delivers}
 use Rattle.dtx_model.specs.Wires.{MayCross}
 use Rattle.dtx_model.specs.World.{has_left}
-use Rattle.world_laws.specs.Course.{Came, noted, rest_up}
+use Rattle.world_laws.specs.Course.{Came}
 use Rattle.tx_world.proofs.Delivering.{ReadyUp, came_few, lined, some_left, up_ready}
-use Rattle.tx_world.proofs.Living.{silent_done, up_elsewhere, whole_far}
+use Rattle.tx_world.proofs.Living.{whole_on}
+use Rattle.tx_world.proofs.Unlogged.{alone_done}
 use Rattle.tx_world.proofs.Written.{silent_kept, world_of}
-use Rattle.tx_world.proofs.world.TxWorld.deliver_up.Given.{Over}
 use Rattle.tx_world.proofs.world.TxWorld.deliver_up.Goals.{After-entries}
 use Rattle.tx_world.proofs.world.TxWorld.deliver_up.Goals as goal
 
 -- what the coordinator makes of it is ready to be written
-ready : (g : Over) (c : After-entries g) → ReadyUp c.self.inside.transaction (world_of c.self.inside.calls.items c.self.inside.history.past) c.args.c c.self.inside.half c.hear_up.new.core c.deliver.new.self.past c.entries.result.now
-ready g c =
+ready : (c : After-entries) → ReadyUp c.self.inside.transaction (world_of c.self.inside.calls.items c.self.inside.history.past) c.args.c c.self.inside.half c.hear_up.new.core c.deliver.new.self.past c.entries.result.now
+ready c =
     let i = c.self.inside in
     let w = world_of i.calls.items i.history.past in
     let same = c.in_ok-reserve.ensures.same in
@@ -27,36 +26,36 @@ ready g c =
     c.hear_up.ensures.state c.entries.ensures.value c.hear_up.ensures.out c.clear.ensures
 
 pub deliver-requires-clause-lined : goal.deliver-requires-clause-lined
-deliver-requires-clause-lined g c m k =
+deliver-requires-clause-lined c m k =
     let i = c.self.inside in
     lined i.transaction.value (world_of i.calls.items i.history.past) c.args.c Up m c.self.invariant.kept.ran (subst (λ (h : List Entry). MayCross h (Got c.args.c Up m)) c.in_ok-reserve.ensures.same k)
 
 pub hear_up-requires-clause-few : goal.hear_up-requires-clause-few
-hear_up-requires-clause-few g c =
+hear_up-requires-clause-few c =
     let i = c.self.inside in
     let n = c.deliver.new.self.past in
     let came = subst (λ (h : List Entry). Came c.args.c Up c.in-Some.came h n) c.in_ok-reserve.ensures.same c.in-Some.ensures.came in
     came_few i.transaction (world_of i.calls.items i.history.past) i.half i.core c.args.c c.in-Some.came n c.self.invariant.kept came
 
 pub write-requires-clause-written : goal.write-requires-clause-written
-write-requires-clause-written g c = (ready g (goal.at.write-requires-clause-written g c).After-entries).written
+write-requires-clause-written c = (ready (goal.at.write-requires-clause-written c).After-entries).written
 
 pub write-requires-clause-sendable : goal.write-requires-clause-sendable
-write-requires-clause-sendable g c = (ready g (goal.at.write-requires-clause-sendable g c).After-entries).sendable
+write-requires-clause-sendable c = (ready (goal.at.write-requires-clause-sendable c).After-entries).sendable
 
 pub write-requires-clause-stopped : goal.write-requires-clause-stopped
-write-requires-clause-stopped g c = c.is_stopped.ensures ∙ (ready g (goal.at.write-requires-clause-stopped g c).After-entries).stopped
+write-requires-clause-stopped c = c.is_stopped.ensures ∙ (ready (goal.at.write-requires-clause-stopped c).After-entries).stopped
 
 pub invariant_of-self-2 : goal.invariant_of-self-2
-invariant_of-self-2 g c =
+invariant_of-self-2 c =
     let i = c.self.inside in
-    let u = ready g (goal.at.invariant_of-self-2 g c).After-entries in
-    let id = identifier_of i.core.transaction.value in
-    whole_far i.core c.hear_up.new.core (noted c.args.c Up c.in-Some.came ++ rest_up id i.core.state c.args.c c.in-Some.came) (silent_kept i.transaction (world_of i.calls.items i.history.past) (Delivers c.args.c Up) u.kept (sym u.silent) refl (c.write.ensures.past ∙ u.past)) c.self.invariant.ours
-    c.hear_up.ensures.transaction c.hear_up.ensures.state (up_elsewhere id i.core.state c.args.c c.in-Some.came)
+    let u = ready (goal.at.invariant_of-self-2 c).After-entries in
+    let w = world_of i.calls.items i.history.past in
+    let past = c.write.ensures.past ∙ u.past in
+    whole_on i.transaction w (Delivers c.args.c Up) c.self.invariant refl (silent_kept i.transaction w (Delivers c.args.c Up) u.kept (sym u.silent) refl past) past
 
 pub returns-clause-done : goal.returns-clause-done
-returns-clause-done g c d =
-    let u = ready g (goal.at.returns-clause-done g c).After-entries in
+returns-clause-done c d =
+    let u = ready (goal.at.returns-clause-done c).After-entries in
     let i = c.self.inside in
-    silent_done g.D.Disk.faults i.transaction (world_of i.calls.items i.history.past) (Delivers c.args.c Up) i.at_log c.args.self.now c.args.log.now (sym u.silent) refl (c.write.ensures.past ∙ u.past) refl c.self.view_is
+    alone_done i.transaction (world_of i.calls.items i.history.past) (Delivers c.args.c Up) i.at_log c.args.self.now (sym u.silent) refl (c.write.ensures.past ∙ u.past) c.self.view_is

@@ -1,4 +1,4 @@
-use Rattle.std.proofs.Common.{◌≡◌, ℕ, List, ◌∷◌, [], ap, refl, sym, ◌∙◌}
+use Rattle.std.proofs.Common.{◌≡◌, ℕ, List, ◌∷◌, ap, refl, sym, ◌∙◌}
 use Rattle.dtx_values.specs.declared.call.Call.TheVariants.{Gone}
 use Rattle.dtx_values.specs.declared.entry.Answer.TheVariants.{Fine}
 use Rattle.dtx_values.specs.declared.entry.Entry.{Entry}
@@ -11,18 +11,18 @@ use Rattle.tx_world.specs.Entering.{links_cut}
 use Rattle.tx_world.specs.State.{TxState, may_enter}
 use Rattle.tx_world.proofs.Calling.{with_call}
 use Rattle.tx_world.proofs.Leaving.{gone_stands, left, left_few, left_past, left_sendable, rows_promotable}
-use Rattle.tx_world.proofs.Linking.{Linked, none_followed}
-use Rattle.tx_world.proofs.Living.{silent_done, whole_far}
+use Rattle.tx_world.proofs.Linking.{Linked}
+use Rattle.tx_world.proofs.Living.{whole_on}
+use Rattle.tx_world.proofs.Unlogged.{alone_done}
 use Rattle.tx_world.proofs.Written.{silent_kept, stopped_is, world_of}
-use Rattle.tx_world.proofs.world.TxWorld.enter_cut.Given.{Over}
 use Rattle.tx_world.proofs.world.TxWorld.enter_cut.Goals.{After-is_stopped, After-cut_links}
 use Rattle.tx_world.proofs.world.TxWorld.enter_cut.Goals as goal
 
 -- the loss is ready to be written, whatever number is given with it
-ready : (g : Over) (c : After-is_stopped g) (m : ℕ)
+ready : (c : After-is_stopped) (m : ℕ)
     → Linked c.self.inside.transaction (world_of c.self.inside.calls.items c.self.inside.history.past) (Calls c.args.line c.args.actor (Gone c.args.e) m) c.gone.new.self c.self.inside.core
     (Called c.args.line c.args.actor Fine ∷ Lost c.args.e ∷ links_cut c.self.inside.history.past c.is_promotable_row-promotes.result c.args.e)
-ready g c m =
+ready c m =
     let i = c.self.inside in
     let w = world_of i.calls.items i.history.past in
     let may = ap (λ (x : TxState). may_enter x.world c.args.line (Gone c.args.e)) c.self.view_is ∙ c.requires.enters in
@@ -33,50 +33,53 @@ ready g c m =
     left i.transaction w i.half c.gone.new.self i.core c.args.line c.args.actor c.args.e b m c.self.invariant.kept may fine some row c.gone.ensures.state
 
 -- the call is the newest
-calls : (g : Over) (c : After-is_stopped g) (m : ℕ) → past_of c.push_reserved.new.self.items ≡ entered (Calls c.args.line c.args.actor (Gone c.args.e) m) (past_of c.self.inside.calls.items)
-calls g c m =
+calls : (c : After-is_stopped) (m : ℕ) → past_of c.push_reserved.new.self.items ≡ entered (Calls c.args.line c.args.actor (Gone c.args.e) m) (past_of c.self.inside.calls.items)
+calls c m =
     with_call c.self.inside.calls.items c.reserve-2.new.self.items c.push_reserved.new.self.items (record { line = c.args.line; actor = c.args.actor; call = Gone c.args.e }) c.push_reserved.ensures.items
     c.in_ok-reserve-2.ensures.items
 
 -- and its entries and the cuts come onto the past
-past : (g : Over) (c : After-cut_links g)
+past : (c : After-cut_links)
     → c.cut_links.new.self.past ≡ onto c.self.inside.history.past (Called c.args.line c.args.actor Fine ∷ Lost c.args.e ∷ links_cut c.self.inside.history.past c.is_promotable_row-promotes.result c.args.e)
-past g c =
+past c =
     let h = c.self.inside.history.past in
     left_past c.args.line c.args.actor c.args.e c.is_promotable_row-promotes.result h c.write.new.self.past c.cut_links.new.self.past
     (c.write.ensures.past ∙ ap (λ (p : List Entry). Lost c.args.e ∷ Called c.args.line c.args.actor Fine ∷ p) c.in_ok-reserve.ensures.same) c.cut_links.ensures.past
 
 pub gone-requires-clause-stands : goal.gone-requires-clause-stands
-gone-requires-clause-stands g c =
+gone-requires-clause-stands c =
     let i = c.self.inside in
     let fine = ap (λ (x : TxState). answer_at x.transaction.value x.world (Gone c.args.e) 0) c.self.view_is ∙ c.requires.fine in
     gone_stands i.transaction (world_of i.calls.items i.history.past) i.half i.core c.args.e c.self.invariant.kept fine
 
 pub write-requires-clause-sendable : goal.write-requires-clause-sendable
-write-requires-clause-sendable g c =
-    left_sendable c.args.line c.args.actor c.args.e c.is_promotable_row-promotes.result c.self.inside.history.past c.reserve.new.self.past c.in_ok-reserve.ensures.same (ready g c 0).sendable
+write-requires-clause-sendable c =
+    left_sendable c.args.line c.args.actor c.args.e c.is_promotable_row-promotes.result c.self.inside.history.past c.reserve.new.self.past c.in_ok-reserve.ensures.same (ready c 0).sendable
 
 pub write-requires-clause-stopped : goal.write-requires-clause-stopped
-write-requires-clause-stopped g c =
+write-requires-clause-stopped c =
     let i = c.self.inside in
     c.is_stopped.ensures ∙ stopped_is i.transaction (world_of i.calls.items i.history.past) i.half i.core c.reserve.new.self.past c.self.invariant.kept c.in_ok-reserve.ensures.same
 
 pub cut_links-requires-clause-few : goal.cut_links-requires-clause-few
-cut_links-requires-clause-few g c =
+cut_links-requires-clause-few c =
     let h = c.self.inside.history.past in
     left_few c.args.line c.args.actor c.args.e h c.write.new.self.past
     (c.write.ensures.past ∙ ap (λ (p : List Entry). Lost c.args.e ∷ Called c.args.line c.args.actor Fine ∷ p) c.in_ok-reserve.ensures.same) (sym c.if-not-is_countable.ensures)
 
 pub invariant_of-self-2 : goal.invariant_of-self-2
-invariant_of-self-2 g c =
+invariant_of-self-2 c =
     let i = c.self.inside in
-    let b = (goal.at.invariant_of-self-2 g c).After-is_stopped in
-    let r = ready g b 0 in
-    whole_far i.core i.core [] (silent_kept i.transaction (world_of i.calls.items i.history.past) (Calls c.args.line c.args.actor (Gone c.args.e) 0) r.kept r.silent (calls g b 0) (past g c ∙ ap (onto i.history.past) r.block)) c.self.invariant.ours refl (none_followed i.core.state) refl
+    let b = (goal.at.invariant_of-self-2 c).After-is_stopped in
+    let r = ready b 0 in
+    let w = world_of i.calls.items i.history.past in
+    let m = (Calls c.args.line c.args.actor (Gone c.args.e) 0) in
+    let wrote = past c ∙ ap (onto i.history.past) r.block in
+    whole_on i.transaction w m c.self.invariant refl (silent_kept i.transaction w m r.kept r.silent (calls b 0) wrote) wrote
 
 pub returns-clause-done : goal.returns-clause-done
-returns-clause-done g c m =
+returns-clause-done c m =
     let i = c.self.inside in
-    let b = (goal.at.returns-clause-done g c).After-is_stopped in
-    let r = ready g b m in
-    silent_done g.D.Disk.faults i.transaction (world_of i.calls.items i.history.past) (Calls c.args.line c.args.actor (Gone c.args.e) m) i.at_log c.args.self.now c.args.log.now r.silent (calls g b m) (past g c ∙ ap (onto i.history.past) r.block) refl c.self.view_is
+    let b = (goal.at.returns-clause-done c).After-is_stopped in
+    let r = ready b m in
+    alone_done i.transaction (world_of i.calls.items i.history.past) (Calls c.args.line c.args.actor (Gone c.args.e) m) i.at_log c.args.self.now r.silent (calls b m) (past c ∙ ap (onto i.history.past) r.block) c.self.view_is

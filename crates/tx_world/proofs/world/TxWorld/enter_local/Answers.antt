@@ -8,15 +8,14 @@ use Rattle.tx_world.specs.State.{TxState, may_enter}
 use Rattle.tx_world.proofs.Calling.{answer_there, call_ready, free_there, with_call}
 use Rattle.tx_world.proofs.Living.{near_done, near_whole}
 use Rattle.tx_world.proofs.Written.{Ready, world_of}
-use Rattle.tx_world.proofs.world.TxWorld.enter_local.Given.{Over}
 use Rattle.tx_world.proofs.world.TxWorld.enter_local.Goals.{After-entries}
 use Rattle.tx_world.proofs.world.TxWorld.enter_local.Goals as goal
 
 -- what the call writes is ready
-ready : (g : Over) (c : After-entries g)
+ready : (c : After-entries)
     → Ready c.self.inside.transaction (world_of c.self.inside.calls.items c.self.inside.history.past) (Calls c.args.line c.args.actor c.args.c.now c.args.done) c.answer_call-answer.new.half c.self.inside.core
     c.reserve.new.self.past c.entries.result.now
-ready g c =
+ready c =
     let i = c.self.inside in
     let may = ap (λ (x : TxState). may_enter x.world c.args.line c.args.c.now) c.self.view_is ∙ c.requires.enters in
     let answers = subst (λ (x : TxState). MayAnswer x.transaction.value x.world c.args.c.now c.args.done) (sym c.self.view_is) c.requires.answers in
@@ -26,45 +25,45 @@ ready g c =
     c.reserve.new.self.past c.entries.result.now c.self.invariant.kept c.in_ok-reserve.ensures.same c.requires.near alone may answers told.state c.entries.ensures.value told.out c.clear.ensures
 
 -- the call is the newest
-calls : (g : Over) (c : After-entries g) → past_of c.push_reserved.new.self.items ≡ entered (Calls c.args.line c.args.actor c.args.c.now c.args.done) (past_of c.self.inside.calls.items)
-calls g c =
+calls : (c : After-entries) → past_of c.push_reserved.new.self.items ≡ entered (Calls c.args.line c.args.actor c.args.c.now c.args.done) (past_of c.self.inside.calls.items)
+calls c =
     with_call c.self.inside.calls.items c.reserve-2.new.self.items c.push_reserved.new.self.items (record { line = c.args.line; actor = c.args.actor; call = c.args.c.now }) c.push_reserved.ensures.items
     c.in_ok-reserve-2.ensures.items
 
 pub answer_call-answer-requires-clause-new : goal.answer_call-answer-requires-clause-new
-answer_call-answer-requires-clause-new g c =
+answer_call-answer-requires-clause-new c =
     let i = c.self.inside in
     free_there i.transaction (world_of i.calls.items i.history.past) i.half i.core c.args.line c.args.c.now c.self.invariant.kept
     (ap (λ (x : TxState). may_enter x.world c.args.line c.args.c.now) c.self.view_is ∙ c.requires.enters)
 
 pub returns-clause-answer : goal.returns-clause-answer
-returns-clause-answer g c =
+returns-clause-answer c =
     let i = c.self.inside in
     c.answer_call-answer.ensures.answer
     ∙ answer_there i.transaction (world_of i.calls.items i.history.past) i.half i.core c.args.c.now c.args.done c.self.invariant.kept c.requires.near
     ∙ ap (λ (x : TxState). answer_at x.transaction.value x.world c.args.c.now c.args.done) c.self.view_is
 
 pub write_near-begins-requires-clause-written : goal.write_near-begins-requires-clause-written
-write_near-begins-requires-clause-written g c = (ready g c).written
+write_near-begins-requires-clause-written c = (ready c).written
 
 pub write_near-begins-requires-clause-sendable : goal.write_near-begins-requires-clause-sendable
-write_near-begins-requires-clause-sendable g c = (ready g c).sendable
+write_near-begins-requires-clause-sendable c = (ready c).sendable
 
 pub write_near-begins-requires-clause-stopped : goal.write_near-begins-requires-clause-stopped
-write_near-begins-requires-clause-stopped g c = (ready g c).stopped
+write_near-begins-requires-clause-stopped c = (ready c).stopped
 
 pub write_near-begins-requires-clause-runs : goal.write_near-begins-requires-clause-runs
-write_near-begins-requires-clause-runs g c = (ready g c).runs
+write_near-begins-requires-clause-runs c = (ready c).runs
 
 pub invariant_of-self-2 : goal.invariant_of-self-2
-invariant_of-self-2 g c =
-    let b = (goal.at.invariant_of-self-2 g c).After-entries in
+invariant_of-self-2 c =
+    let b = (goal.at.invariant_of-self-2 c).After-entries in
     let e = c.write_near-begins.ensures in
-    near_whole c.args.log.now.is_up _ (ready g b) c.self.invariant.ours (calls g b) e.past e.core c.live.ensures
+    near_whole c.args.up _ (ready b) c.self.invariant refl (calls b) e.past e.core c.live.ensures
 
 pub returns-clause-done : goal.returns-clause-done
-returns-clause-done g c =
-    let b = (goal.at.returns-clause-done g c).After-entries in
+returns-clause-done c =
+    let b = (goal.at.returns-clause-done c).After-entries in
     let e = c.write_near-begins.ensures in
-    near_done g.D.Disk.faults c.self.inside.at_log c.live.new.at_log c.args.self.now c.args.log.now c.write_near-begins.result c.life.result (ready g b) (calls g b) e.past c.live.ensures
-    e.begins c.life.ensures refl c.self.view_is
+    near_done c.self.inside.at_log c.live.new.at_log c.args.self.now c.args.up c.write_near-begins.result c.args.life (ready b) (calls b) e.past c.live.ensures
+    e.begins c.self.view_is

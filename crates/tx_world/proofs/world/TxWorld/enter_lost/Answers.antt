@@ -10,33 +10,33 @@ use Rattle.dtx_model.specs.World.{answer_at, cut}
 use Rattle.world_laws.specs.Carried.{are_sendable}
 use Rattle.tx_world.specs.State.{TxState, may_enter}
 use Rattle.tx_world.proofs.Calling.{with_call}
-use Rattle.tx_world.proofs.Linking.{Linked, after_call, lost, lost_open, lost_past, none_followed}
-use Rattle.tx_world.proofs.Living.{silent_done, whole_far}
+use Rattle.tx_world.proofs.Linking.{Linked, after_call, lost, lost_open, lost_past}
+use Rattle.tx_world.proofs.Living.{whole_on}
+use Rattle.tx_world.proofs.Unlogged.{alone_done}
 use Rattle.tx_world.proofs.Written.{silent_kept, stopped_is, world_of}
-use Rattle.tx_world.proofs.world.TxWorld.enter_lost.Given.{Over}
 use Rattle.tx_world.proofs.world.TxWorld.enter_lost.Goals.{After-is_stopped, After-lose}
 use Rattle.tx_world.proofs.world.TxWorld.enter_lost.Goals as goal
 
 -- the loss is ready to be written, whatever number is given with it
-ready : (g : Over) (c : After-is_stopped g) (m : ℕ)
+ready : (c : After-is_stopped) (m : ℕ)
     → Linked c.self.inside.transaction (world_of c.self.inside.calls.items c.self.inside.history.past) (Calls c.args.line c.args.actor (Lose c.args.u c.args.c c.args.up c.args.down) m) c.self.inside.half
     c.self.inside.core (Called c.args.line c.args.actor Fine ∷ cut c.self.inside.history.past c.args.c c.args.up c.args.down ∷ [])
-ready g c m =
+ready c m =
     let i = c.self.inside in
     let may = ap (λ (x : TxState). may_enter x.world c.args.line (Lose c.args.u c.args.c c.args.up c.args.down)) c.self.view_is ∙ c.requires.enters in
     let fine = ap (λ (x : TxState). answer_at x.transaction.value x.world (Lose c.args.u c.args.c c.args.up c.args.down) 0) c.self.view_is ∙ c.requires.fine in
     lost i.transaction (world_of i.calls.items i.history.past) i.half i.core c.args.line c.args.actor c.args.u c.args.c c.args.up c.args.down m c.self.invariant.kept may fine
 
 -- the call is the newest
-calls : (g : Over) (c : After-is_stopped g) (m : ℕ)
+calls : (c : After-is_stopped) (m : ℕ)
     → past_of c.push_reserved.new.self.items ≡ entered (Calls c.args.line c.args.actor (Lose c.args.u c.args.c c.args.up c.args.down) m) (past_of c.self.inside.calls.items)
-calls g c m =
+calls c m =
     with_call c.self.inside.calls.items c.reserve-2.new.self.items c.push_reserved.new.self.items (record { line = c.args.line; actor = c.args.actor; call = Lose c.args.u c.args.c c.args.up c.args.down })
     c.push_reserved.ensures.items c.in_ok-reserve-2.ensures.items
 
 -- and its entry and the cut come onto the past
-past : (g : Over) (c : After-lose g) → c.lose.new.self.past ≡ onto c.self.inside.history.past (Called c.args.line c.args.actor Fine ∷ cut c.self.inside.history.past c.args.c c.args.up c.args.down ∷ [])
-past g c =
+past : (c : After-lose) → c.lose.new.self.past ≡ onto c.self.inside.history.past (Called c.args.line c.args.actor Fine ∷ cut c.self.inside.history.past c.args.c c.args.up c.args.down ∷ [])
+past c =
     let h = c.self.inside.history.past in
     let wrote : c.write.new.self.past ≡ Called c.args.line c.args.actor Fine ∷ h = c.write.ensures.past ∙ ap (λ (p : List Entry). Called c.args.line c.args.actor Fine ∷ p) c.in_ok-reserve.ensures.same in
     let opened =
@@ -46,23 +46,26 @@ past g c =
     lost_past c.args.line c.args.actor c.args.c c.args.up c.args.down c.from.result c.from-2.result h c.write.new.self.past c.lose.new.self.past wrote c.from.ensures c.from-2.ensures (c.lose.ensures.cut opened)
 
 pub write-requires-clause-sendable : goal.write-requires-clause-sendable
-write-requires-clause-sendable g c = ap are_sendable c.in_ok-reserve.ensures.same ∙ (ready g c 0).sendable
+write-requires-clause-sendable c = ap are_sendable c.in_ok-reserve.ensures.same ∙ (ready c 0).sendable
 
 pub write-requires-clause-stopped : goal.write-requires-clause-stopped
-write-requires-clause-stopped g c =
+write-requires-clause-stopped c =
     let i = c.self.inside in
     c.is_stopped.ensures ∙ stopped_is i.transaction (world_of i.calls.items i.history.past) i.half i.core c.reserve.new.self.past c.self.invariant.kept c.in_ok-reserve.ensures.same
 
 pub invariant_of-self-2 : goal.invariant_of-self-2
-invariant_of-self-2 g c =
+invariant_of-self-2 c =
     let i = c.self.inside in
-    let b = (goal.at.invariant_of-self-2 g c).After-is_stopped in
-    let r = ready g b 0 in
-    whole_far i.core i.core [] (silent_kept i.transaction (world_of i.calls.items i.history.past) (Calls c.args.line c.args.actor (Lose c.args.u c.args.c c.args.up c.args.down) 0) r.kept r.silent (calls g b 0) (past g c ∙ ap (onto i.history.past) r.block)) c.self.invariant.ours refl (none_followed i.core.state) refl
+    let b = (goal.at.invariant_of-self-2 c).After-is_stopped in
+    let r = ready b 0 in
+    let w = world_of i.calls.items i.history.past in
+    let m = (Calls c.args.line c.args.actor (Lose c.args.u c.args.c c.args.up c.args.down) 0) in
+    let wrote = past c ∙ ap (onto i.history.past) r.block in
+    whole_on i.transaction w m c.self.invariant refl (silent_kept i.transaction w m r.kept r.silent (calls b 0) wrote) wrote
 
 pub returns-clause-done : goal.returns-clause-done
-returns-clause-done g c m =
+returns-clause-done c m =
     let i = c.self.inside in
-    let b = (goal.at.returns-clause-done g c).After-is_stopped in
-    let r = ready g b m in
-    silent_done g.D.Disk.faults i.transaction (world_of i.calls.items i.history.past) (Calls c.args.line c.args.actor (Lose c.args.u c.args.c c.args.up c.args.down) m) i.at_log c.args.self.now c.args.log.now r.silent (calls g b m) (past g c ∙ ap (onto i.history.past) r.block) refl c.self.view_is
+    let b = (goal.at.returns-clause-done c).After-is_stopped in
+    let r = ready b m in
+    alone_done i.transaction (world_of i.calls.items i.history.past) (Calls c.args.line c.args.actor (Lose c.args.u c.args.c c.args.up c.args.down) m) i.at_log c.args.self.now r.silent (calls b m) (past c ∙ ap (onto i.history.past) r.block) c.self.view_is

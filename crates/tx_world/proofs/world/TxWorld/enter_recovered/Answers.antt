@@ -9,18 +9,18 @@ use Rattle.dtx_model.specs.World.{answer_at}
 use Rattle.world_laws.specs.Carried.{are_sendable}
 use Rattle.tx_world.specs.State.{TxState, may_enter}
 use Rattle.tx_world.proofs.Calling.{with_call}
-use Rattle.tx_world.proofs.Linking.{Linked, recovered, recovery_alone}
-use Rattle.tx_world.proofs.Living.{silent_done, whole_far}
+use Rattle.tx_world.proofs.Linking.{Linked, recovered}
+use Rattle.tx_world.proofs.Living.{whole_on}
+use Rattle.tx_world.proofs.Unlogged.{alone_done}
 use Rattle.tx_world.proofs.Written.{silent_kept, stopped_is, world_of}
-use Rattle.tx_world.proofs.world.TxWorld.enter_recovered.Given.{Over}
 use Rattle.tx_world.proofs.world.TxWorld.enter_recovered.Goals.{After-recovery_over, After-write}
 use Rattle.tx_world.proofs.world.TxWorld.enter_recovered.Goals as goal
 
 -- the call is ready to be written, whatever number is given with it
-ready : (g : Over) (c : After-recovery_over g) (m : ℕ)
+ready : (c : After-recovery_over) (m : ℕ)
     → Linked c.self.inside.transaction (world_of c.self.inside.calls.items c.self.inside.history.past) (Calls c.args.line c.args.actor (Recovered c.args.u c.args.r) m) c.self.inside.half c.recovery_over.new.self
     (Called c.args.line c.args.actor Fine ∷ RecoveredEntry c.args.r ∷ [])
-ready g c m =
+ready c m =
     let i = c.self.inside in
     let may = ap (λ (x : TxState). may_enter x.world c.args.line (Recovered c.args.u c.args.r)) c.self.view_is ∙ c.requires.enters in
     let fine = ap (λ (x : TxState). answer_at x.transaction.value x.world (Recovered c.args.u c.args.r) 0) c.self.view_is ∙ c.requires.fine in
@@ -28,36 +28,38 @@ ready g c m =
     c.recovery_over.ensures.state
 
 -- it is the newest
-calls : (g : Over) (c : After-recovery_over g) (m : ℕ) → past_of c.push_reserved.new.self.items ≡ entered (Calls c.args.line c.args.actor (Recovered c.args.u c.args.r) m) (past_of c.self.inside.calls.items)
-calls g c m =
+calls : (c : After-recovery_over) (m : ℕ) → past_of c.push_reserved.new.self.items ≡ entered (Calls c.args.line c.args.actor (Recovered c.args.u c.args.r) m) (past_of c.self.inside.calls.items)
+calls c m =
     with_call c.self.inside.calls.items c.reserve-2.new.self.items c.push_reserved.new.self.items (record { line = c.args.line; actor = c.args.actor; call = Recovered c.args.u c.args.r }) c.push_reserved.ensures.items
     c.in_ok-reserve-2.ensures.items
 
 -- and its block comes onto the past
-past : (g : Over) (c : After-write g) → c.write.new.self.past ≡ onto c.self.inside.history.past (Called c.args.line c.args.actor Fine ∷ RecoveredEntry c.args.r ∷ [])
-past g c = c.write.ensures.past ∙ ap (λ (h : List Entry). onto h (Called c.args.line c.args.actor Fine ∷ RecoveredEntry c.args.r ∷ [])) c.in_ok-reserve.ensures.same
+past : (c : After-write) → c.write.new.self.past ≡ onto c.self.inside.history.past (Called c.args.line c.args.actor Fine ∷ RecoveredEntry c.args.r ∷ [])
+past c = c.write.ensures.past ∙ ap (λ (h : List Entry). onto h (Called c.args.line c.args.actor Fine ∷ RecoveredEntry c.args.r ∷ [])) c.in_ok-reserve.ensures.same
 
 pub write-requires-clause-sendable : goal.write-requires-clause-sendable
-write-requires-clause-sendable g c =
+write-requires-clause-sendable c =
     ap (λ (h : List Entry). are_sendable (onto h (Called c.args.line c.args.actor Fine ∷ RecoveredEntry c.args.r ∷ []))) c.in_ok-reserve.ensures.same
-    ∙ (ready g (goal.at.write-requires-clause-sendable g c).After-recovery_over 0).sendable
+    ∙ (ready (goal.at.write-requires-clause-sendable c).After-recovery_over 0).sendable
 
 pub write-requires-clause-stopped : goal.write-requires-clause-stopped
-write-requires-clause-stopped g c =
+write-requires-clause-stopped c =
     let i = c.self.inside in
     c.is_stopped-stopped.ensures ∙ stopped_is i.transaction (world_of i.calls.items i.history.past) i.half i.core c.reserve.new.self.past c.self.invariant.kept c.in_ok-reserve.ensures.same
 
 pub invariant_of-self-2 : goal.invariant_of-self-2
-invariant_of-self-2 g c =
+invariant_of-self-2 c =
     let i = c.self.inside in
-    let b = (goal.at.invariant_of-self-2 g c).After-recovery_over in
-    let r = ready g b 0 in
-    whole_far i.core c.recovery_over.new.self (RecoveredEntry c.args.r ∷ []) (silent_kept i.transaction (world_of i.calls.items i.history.past) (Calls c.args.line c.args.actor (Recovered c.args.u c.args.r) 0) r.kept r.silent (calls g b 0) (past g c ∙ ap (onto i.history.past) r.block)) c.self.invariant.ours
-    c.recovery_over.ensures.transaction (c.recovery_over.ensures.state ∙ recovery_alone i.core.state c.args.r) refl
+    let b = (goal.at.invariant_of-self-2 c).After-recovery_over in
+    let r = ready b 0 in
+    let w = world_of i.calls.items i.history.past in
+    let m = (Calls c.args.line c.args.actor (Recovered c.args.u c.args.r) 0) in
+    let wrote = past c ∙ ap (onto i.history.past) r.block in
+    whole_on i.transaction w m c.self.invariant refl (silent_kept i.transaction w m r.kept r.silent (calls b 0) wrote) wrote
 
 pub returns-clause-done : goal.returns-clause-done
-returns-clause-done g c m =
+returns-clause-done c m =
     let i = c.self.inside in
-    let b = (goal.at.returns-clause-done g c).After-recovery_over in
-    let r = ready g b m in
-    silent_done g.D.Disk.faults i.transaction (world_of i.calls.items i.history.past) (Calls c.args.line c.args.actor (Recovered c.args.u c.args.r) m) i.at_log c.args.self.now c.args.log.now r.silent (calls g b m) (past g c ∙ ap (onto i.history.past) r.block) refl c.self.view_is
+    let b = (goal.at.returns-clause-done c).After-recovery_over in
+    let r = ready b m in
+    alone_done i.transaction (world_of i.calls.items i.history.past) (Calls c.args.line c.args.actor (Recovered c.args.u c.args.r) m) i.at_log c.args.self.now r.silent (calls b m) (past c ∙ ap (onto i.history.past) r.block) c.self.view_is

@@ -1,5 +1,5 @@
 use Rattle.std.proofs.Common.{◌≡◌, ◌∙◌, Ok, true, false, arith}
-use Rattle.tx_world.proofs.Settling.{keeps_on, one_more, settled_here}
+use Rattle.tx_world.proofs.Settling.{keeps_on, slots_on, one_more, settled_here}
 use Rattle.tx_world.proofs.world.TxWorld.settle.Goals as goal
 
 pub returns-then-not-branch-clause-settled : goal.returns-then-not-branch-clause-settled
@@ -20,4 +20,5 @@ loop-count-preserved g c =
       omega (arith, was.4, c.step.ensures.grows),
       λ none. c.step.ensures.unarmed (was.5 none),
       λ up. was.6 (c.step.ensures.still up),
+      slots_on c.args.self.now c.loop-count.self c.step.new.self c.args.log.now c.loop-count.log c.step.new.log was.2 was.7 c.step.ensures.slots,
     )

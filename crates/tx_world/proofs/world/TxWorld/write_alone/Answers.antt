@@ -1,19 +1,18 @@
-use Rattle.std.proofs.Common.{◌≡◌, List, true, false, refl, ap, sym, ◌∙◌, ◌∷◌, [], subst}
+use Rattle.std.proofs.Common.{◌≡◌, List, ap, refl, sym, ◌∙◌, ◌∷◌, [], subst}
 use Rattle.dtx_values.specs.declared.entry.Entry.{Entry}
 use Rattle.dtx_values.specs.declared.entry.Entry.TheVariants.{Called}
 use Rattle.dtx_model.specs.Words.{onto, past_of}
 use Rattle.dtx_model.specs.Caused.{MayAnswer}
-use Rattle.dtx_model.specs.World.{World, answer_at}
+use Rattle.dtx_model.specs.World.{answer_at}
 use Rattle.dtx_model.specs.Steps.{Calls, block_at, entered}
 use Rattle.world_laws.specs.Carried.{are_sendable}
 use Rattle.tx_world.specs.State.{TxState, may_enter}
-use Rattle.tx_world.specs.OwnCalls.{DoesAlone}
 use Rattle.tx_world.proofs.Calling.{with_call}
 use Rattle.tx_world.proofs.CallsOn.{alone_ready}
 use Rattle.tx_world.proofs.Linking.{Linked}
-use Rattle.tx_world.proofs.Living.{seen_as}
-use Rattle.tx_world.proofs.Written.{silent_kept, stopped_is, world_of, world_written}
-use Rattle.tx_world.proofs.Unlogged.{turned_silent}
+use Rattle.tx_world.proofs.Living.{whole_on}
+use Rattle.tx_world.proofs.Written.{silent_kept, stopped_is, world_of}
+use Rattle.tx_world.proofs.Unlogged.{alone_done}
 use Rattle.tx_world.proofs.world.TxWorld.write_alone.Goals.{After-is_stopped}
 use Rattle.tx_world.proofs.world.TxWorld.write_alone.Goals as goal
 
@@ -54,18 +53,14 @@ pub invariant_of-self-2 : goal.invariant_of-self-2
 invariant_of-self-2 c =
     let b = (goal.at.invariant_of-self-2 c).After-is_stopped in
     let i = c.self.inside in
-    record { kept = silent_kept i.transaction (world_of i.calls.items i.history.past) (Calls c.args.line c.args.actor c.args.c.now c.args.done) (ready b).kept (ready b).silent (calls b) (c.write.ensures.past ∙ past b); ours = c.self.invariant.ours }
+    let w = world_of i.calls.items i.history.past in
+    let m = Calls c.args.line c.args.actor c.args.c.now c.args.done in
+    let wrote = c.write.ensures.past ∙ past b in
+    whole_on i.transaction w m c.self.invariant refl (silent_kept i.transaction w m (ready b).kept (ready b).silent (calls b) wrote) wrote
 
 pub returns-clause-done : goal.returns-clause-done
 returns-clause-done c =
     let b = (goal.at.returns-clause-done c).After-is_stopped in
     let i = c.self.inside in
     let m = Calls c.args.line c.args.actor c.args.c.now c.args.done in
-    let w = world_of i.calls.items i.history.past in
-    let v : World = record { calls = past_of c.push_reserved.new.self.items; past = c.write.new.self.past } in
-    let silent = (ready b).silent in
-    let done = world_written i.transaction.value w m true false (past_of c.push_reserved.new.self.items) (onto c.reserve-2.new.self.past (Called c.args.line c.args.actor c.args.answer ∷ [])) c.write.new.self.past (calls b) silent
-    (past b) c.write.ensures.past in
-    let alone : DoesAlone m (seen_as i.transaction w i.at_log) (seen_as i.transaction v i.at_log) =
-    record { transaction = refl; world = done ∙ turned_silent true i.transaction.value w m (sym silent); silent = sym silent; life = refl } in
-    subst (λ (y : TxState). DoesAlone m y (seen_as i.transaction v i.at_log)) c.self.view_is alone
+    alone_done i.transaction (world_of i.calls.items i.history.past) m i.at_log c.args.self.now (ready b).silent (calls b) (c.write.ensures.past ∙ past b) c.self.view_is

@@ -1,0 +1,4 @@
+pub mod Connections
+pub mod Enlisted
+pub mod Standing
+pub mod Recovery

@@ -1,0 +1,46 @@
+-- A pending step that needs no log: what of it is done, and that it leaves fewer that can come.
+use Rattle.std.proofs.Common.{◌≡◌, ◌<◌, ◌∙◌, ℕ, suc, true, false, Some, refl, sym, subst}
+use Rattle.dtx_values.specs.declared.number.TxNo.{TxNo}
+use Rattle.dtx_model.specs.Words.{kth}
+use Rattle.dtx_model.specs.World.{World}
+use Rattle.dtx_model.specs.Steps.{Acts, Delivers, LocalAct, Delivery, pending}
+use Rattle.dtx_model.specs.Caused.{HasStepped, IsIn, IsOwnRun}
+use Rattle.coordinator_log.specs.State.{LogState}
+use Rattle.world_laws.specs.Left.{steps_left}
+use Rattle.tx_world.specs.declared.pending.PendingStep.{PendingStep}
+use Rattle.tx_world.specs.declared.pending.PendingStep.TheVariants.{Reply, Act, Coordinate, Deliver}
+use Rattle.tx_world.specs.OwnCalls.{DoesAlone, DoesKthAlone}
+use Rattle.tx_world.specs.Pending.{is_alone_step, name_of, step_of}
+use Rattle.tx_world.specs.State.{TxState}
+use Rattle.tx_world.specs.Stepping.{DoesKth}
+use Rattle.tx_world.proofs.LeftSteps.{step_nearer}
+use Rattle.tx_world.proofs.Unlogged.{does_alone, turned_silent}
+
+-- the local act or a delivery, where it is the k-th
+pub kth_alone : (k : ℕ) (s : PendingStep) (old new : TxState) → is_alone_step s ≡ true → kth (pending old.world) k ≡ Some (name_of s) → DoesAlone (step_of s) old new → DoesKthAlone k old new
+kth_alone k (Reply e n r) old new a at d = absurd cc
+kth_alone k Act old new a at d = record { name = LocalAct; step = Acts; stands = at; named = refl; planned = tt; done = d }
+kth_alone k Coordinate old new a at d = absurd cc
+kth_alone k (Deliver c e) old new a at d = record { name = Delivery c e; step = Delivers c e; stands = at; named = refl; planned = tt; done = d }
+
+-- and with any log
+pub kth_beside : {D : Type 0} (faults : D → ℕ) (k : ℕ) (s : PendingStep) (old new : TxState) (log : LogState D) → is_alone_step s ≡ true → kth (pending old.world) k ≡ Some (name_of s)
+    → DoesAlone (step_of s) old new → DoesKth faults k old log new log
+kth_beside faults k (Reply e n r) old new log a at d = absurd cc
+kth_beside faults k Act old new log a at d = record { name = LocalAct; step = Acts; stands = at; named = refl; planned = tt; done = does_alone faults Acts old new log refl d }
+kth_beside faults k Coordinate old new log a at d = absurd cc
+kth_beside faults k (Deliver c e) old new log a at d =
+    record { name = Delivery c e; step = Delivers c e; stands = at; named = refl; planned = tt; done = does_alone faults (Delivers c e) old new log refl d }
+
+-- the k-th pending step leaves fewer steps
+pub alone_nearer : (k : ℕ) (old new : TxState) → IsOwnRun old.transaction.value old.world → DoesKthAlone k old new → steps_left new.world < steps_left old.world
+alone_nearer k old new run did =
+    let P : World → Type 0 = λ w. steps_left w < steps_left old.world in
+    let same = did.done.world ∙ sym (turned_silent true old.transaction.value old.world did.step did.done.silent) in
+    subst P (sym same) (step_nearer (IsIn old.world.calls) true old.transaction.value run.0 old.world did.name did.step k run.1 did.stands did.named)
+
+-- so it is one of the steps that a `do` counts
+pub alone_more : (k m : ℕ) (start : World) (old new : TxState) → HasStepped old.transaction.value k m start old.world → DoesKthAlone k old new → HasStepped new.transaction.value k (suc m) start new.world
+alone_more k m start old new before d =
+    let more : HasStepped old.transaction.value k (suc m) start new.world = (old.world, before, d.name, d.step, d.stands, d.named, false, refl, d.done.world) in
+    subst (λ (t : TxNo). HasStepped t.value k (suc m) start new.world) (sym d.done.transaction) more

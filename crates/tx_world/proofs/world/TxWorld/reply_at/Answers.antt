@@ -1,0 +1,46 @@
+use Rattle.std.proofs.Common.{refl, ap, sym, ◌∙◌}
+use Rattle.dtx_model.specs.Half.{Half}
+use Rattle.dtx_model.specs.Replies.{due_of}
+use Rattle.dtx_model.specs.Steps.{Replies}
+use Rattle.dtx_model.specs.World.{half}
+use Rattle.local_half.specs.Half.{fits_due}
+use Rattle.tx_world.specs.State.{TxState}
+use Rattle.tx_world.proofs.Living.{near_done, near_whole}
+use Rattle.tx_world.proofs.Onward.{half_is}
+use Rattle.tx_world.proofs.Written.{Ready, reply_ready, world_of}
+use Rattle.tx_world.proofs.world.TxWorld.reply_at.Goals.{After-entries}
+use Rattle.tx_world.proofs.world.TxWorld.reply_at.Goals as goal
+
+-- what the reply writes is ready
+ready : (c : After-entries)
+    → Ready c.self.inside.transaction (world_of c.self.inside.calls.items c.self.inside.history.past) (Replies c.args.e c.args.r) c.reply.new.self c.self.inside.core c.reserve.new.self.past c.entries.result.now
+ready c =
+    let i = c.self.inside in
+    let w = world_of i.calls.items i.history.past in
+    let was = c.if-not-reply.false in
+    let fit = ap (λ (x : Half). fits_due c.args.r (due_of x.seen c.args.e.value)) (half_is i.transaction w i.half i.core c.self.invariant.kept ∙ ap (λ (x : TxState). half x.world) c.self.view_is) ∙ c.requires.fits in
+    reply_ready i.transaction w i.half c.reply.new.self i.core c.args.e c.args.r c.clear.new.self c.reply.new.out c.reserve.new.self.past c.entries.result.now c.self.invariant.kept c.in_ok-reserve.ensures.same
+    (sym c.reply.ensures.due ∙ was) fit (c.reply.ensures.state was) c.entries.ensures.value (c.reply.ensures.out was) c.clear.ensures
+
+pub write_near-begins-requires-clause-written : goal.write_near-begins-requires-clause-written
+write_near-begins-requires-clause-written c = (ready c).written
+
+pub write_near-begins-requires-clause-sendable : goal.write_near-begins-requires-clause-sendable
+write_near-begins-requires-clause-sendable c = (ready c).sendable
+
+pub write_near-begins-requires-clause-stopped : goal.write_near-begins-requires-clause-stopped
+write_near-begins-requires-clause-stopped c = (ready c).stopped
+
+pub write_near-begins-requires-clause-runs : goal.write_near-begins-requires-clause-runs
+write_near-begins-requires-clause-runs c = (ready c).runs
+
+pub invariant_of-self-2 : goal.invariant_of-self-2
+invariant_of-self-2 c =
+    let e = c.write_near-begins.ensures in
+    near_whole c.args.up _ (ready (goal.at.invariant_of-self-2 c).After-entries) c.self.invariant refl refl e.past e.core c.live.ensures
+
+pub returns-clause-done : goal.returns-clause-done
+returns-clause-done c d =
+    let e = c.write_near-begins.ensures in
+    near_done c.self.inside.at_log c.live.new.at_log c.args.self.now c.args.up c.write_near-begins.result c.args.life (ready (goal.at.returns-clause-done c).After-entries) refl e.past c.live.ensures
+    e.begins c.self.view_is

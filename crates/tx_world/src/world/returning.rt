@@ -1,0 +1,84 @@
+//! That an enlistment comes back.
+ghost use Rattle.std.specs.Prelude.{ℕ, ◌≡◌, IfOk, OnOk, OnErr, true};
+ghost use Rattle.dtx_values.specs.declared.call.Call.TheVariants.{Reenlist};
+ghost use Rattle.dtx_values.specs.declared.entry.Answer.TheVariants.{Fine};
+ghost use Rattle.dtx_model.specs.Steps.{Calls};
+ghost use Rattle.dtx_model.specs.World.{answer_at};
+ghost use Rattle.tx_world.specs.Entering.{is_reenlist};
+ghost use Rattle.tx_world.specs.OwnCalls.{DoesAlone};
+ghost use Rattle.tx_world.specs.State.{may_enter};
+
+use super::{TxWorld, identifier};
+use crate::local_calls::write_return;
+use crate::managers::{manager_of, returned};
+use crate::refusal::WorldError;
+use dtx_model::EnteredCall;
+use dtx_values::{ActorNo, Answer, Call, EnlNo, Info, Outbox, write_info};
+use reenlist_recovery::check;
+
+impl TxWorld {
+    /// What a `reenlist` is answered: the manager hands in the information that it has of its enlistment, and that is checked against the history.
+    fn answer_reenlist(&self, e: EnlNo) -> Answer
+        ensures { (m : ℕ) → result ≡ answer_at self.now.transaction.value self.now.world (Reenlist e) m }
+    {
+        let wanted = identifier(self.transaction);
+        let info = write_info(&Info {
+            id: wanted,
+            rm: manager_of(self.half.branches(), e),
+            enl: e,
+        });
+        self.half
+            .if_begun(returned(check(self.history.entries(), wanted, &info)))
+    }
+
+    /// Enters a `reenlist`.
+    pub(super) fn enter_return(
+        &mut self,
+        out: &mut Outbox,
+        actor: ActorNo,
+        line: u32,
+        c: &Call,
+        done: u16,
+    ) -> Result<Answer, WorldError>
+        requires enters { may_enter self.old.world line c.now ≡ true }
+        requires kind { is_reenlist c.now ≡ true }
+        ensures answer { IfOk result (λ a. a ≡ answer_at self.old.transaction.value self.old.world c.now done) }
+        ensures done { OnOk result (DoesAlone (Calls line actor c.now done) self.old self.new) }
+        ensures ours { (self.new.ours ≡ self.old.ours) × (self.new.unsure ≡ self.old.unsure) }
+        ensures memory { OnErr result (self.new ≡ self.old) }
+    {
+        let Call::Reenlist(e) = *c else {
+            return Ok(Answer::NoSuch);
+        };
+        let answer = self.answer_reenlist(e);
+        if answer == Answer::Fine {
+            self.enter_returned(out, actor, line, e)?;
+            return Ok(answer);
+        }
+        self.enter_alone(actor, line, c, done, answer)
+    }
+
+    /// Enters that an enlistment comes back.
+    fn enter_returned(
+        &mut self,
+        out: &mut Outbox,
+        actor: ActorNo,
+        line: u32,
+        e: EnlNo,
+    ) -> Result<(), WorldError>
+        requires enters { may_enter self.old.world line (Reenlist e) ≡ true }
+        requires fine { answer_at self.old.transaction.value self.old.world (Reenlist e) 0 ≡ Fine }
+        ensures done { (m : ℕ) → OnOk result (DoesAlone (Calls line actor (Reenlist e) m) self.old self.new) }
+        ensures ours { (self.new.ours ≡ self.old.ours) × (self.new.unsure ≡ self.old.unsure) }
+        ensures memory { OnErr result (self.new ≡ self.old) }
+    {
+        self.history.reserve()?;
+        self.calls.reserve(1)?;
+        out.clear();
+        write_return(&mut self.half, actor, line, e, out);
+        let call = Call::Reenlist(e);
+        self.calls.push_reserved(EnteredCall { line, actor, call });
+        self.history.write(out.entries(), self.core.is_stopped());
+        Ok(())
+    }
+}

@@ -1,0 +1,129 @@
+//! Calls, steps and replies of a world without a log.
+ghost use Rattle.dtx_model.specs.Caused.{MayAnswer};
+
+use crate::worlds::{shows, transaction, world};
+use dtx_values::{
+    ActorNo, Answer, Call, EnlNo, EnlistOption, Note, Outbox, Reply, Timeout, Vote,
+};
+use std::process::Abort;
+use std::test::Fail;
+use tx_world::TxWorld;
+
+/// Does a call of client 1, and says what it answered.
+fn call(rt: &impl Abort, world: &mut TxWorld, out: &mut Outbox, line: u32, c: &Call) -> Answer
+    requires answers { MayAnswer world.old.transaction.value world.old.world c.now 0 }
+{
+    let actor = ActorNo::new(1).expect(rt, "no such client");
+    if !world.may_enter(line, c) || !TxWorld::is_alone(c) {
+        panic!(rt; "the call of line {line} may not be done alone");
+    }
+    match world.call_alone(out, actor, line, c) {
+        Ok(answer) => answer,
+        Err(error) => panic!(rt; "{error}"),
+    }
+}
+
+/// Does the first pending step, where one is pending.
+fn step(rt: &impl Abort, world: &mut TxWorld, out: &mut Outbox) -> bool {
+    if world.needs_log(1) {
+        panic!(rt; "the step needs the log");
+    }
+    match world.step_alone(out, 1) {
+        Ok(was_pending) => was_pending,
+        Err(error) => panic!(rt; "{error}"),
+    }
+}
+
+/// Does a reply of the enlistment; whether one was due.
+fn reply(rt: &impl Abort, world: &mut TxWorld, out: &mut Outbox, e: EnlNo, r: Reply) -> bool {
+    if !world.may_reply_alone(e, r) {
+        panic!(rt; "the reply doesn't fit, or needs the log");
+    }
+    match world.reply_alone(out, e, r) {
+        Ok(was_due) => was_due,
+        Err(error) => panic!(rt; "{error}"),
+    }
+}
+
+/// The history of a transaction whose volatile votes yes.
+const COMMITTED: [&str; 12] = [
+    "call 1 a1 ok",
+    "began 600000",
+    "call 2 a1 ok",
+    "enlisted e1 one",
+    "call 3 a1 ok",
+    "commit",
+    "sealed",
+    "ask e1 prepare",
+    "vote e1 yes",
+    "decided committed",
+    "told e1 committed",
+    "told client committed",
+];
+
+#[test]
+fn a_transaction_commits_without_a_log(rt: HostRuntime) -> Result<(), Fail> {
+    let alloc = rt.alloc();
+    let mut world = world(&rt, alloc);
+    let mut out = Outbox::with_room(alloc)?;
+    let t = transaction(&rt);
+    let e1 = EnlNo::new(1).expect(&rt, "no such enlistment");
+    let begin = Call::Begin(t, Timeout::Milliseconds(0));
+    let volatile = Call::Volatile(t, e1, EnlistOption::Plain, Some(Vote::Yes));
+    for (line, c) in [(1, begin), (2, volatile), (3, Call::Commit(t))] {
+        assert_eq!(rt; call(&rt, &mut world, &mut out, line, &c), Answer::Fine);
+    }
+    assert!(rt; step(&rt, &mut world, &mut out));
+    assert!(rt; step(&rt, &mut world, &mut out));
+    assert_eq!(rt; world.due_at(1), Some((e1, Note::Prepare)));
+    assert!(rt; reply(&rt, &mut world, &mut out, e1, Reply::Vote(Vote::Yes)));
+    for _ in 0..3 {
+        assert!(rt; step(&rt, &mut world, &mut out));
+    }
+    assert!(rt; !step(&rt, &mut world, &mut out));
+    assert!(rt; !reply(&rt, &mut world, &mut out, e1, Reply::Ack));
+    assert_eq!(rt; world.coordinator_stopped(0), Ok(()));
+    shows(&rt, alloc, &world, &[&COMMITTED])?;
+    Ok(())
+}
+
+/// The history of a transaction whose caller did a step itself.
+const COUNTED: [&str; 6] = [
+    "call 1 a1 ok",
+    "began 60000",
+    "call 2 a1 ok",
+    "commit",
+    "sealed",
+    "call 3 a1 did 1",
+];
+
+/// Does the first pending step, and then says so by a `do` of client 1.
+fn step_and_say(rt: &impl Abort, world: &mut TxWorld, out: &mut Outbox, line: u32) {
+    let actor = ActorNo::new(1).expect(rt, "no such client");
+    let c = Call::Do(transaction(rt), 1, 1);
+    if world.needs_log(1) {
+        panic!(rt; "the step needs the log");
+    }
+    let Ok(true) = world.step_alone(out, 1) else {
+        panic!(rt; "nothing is pending");
+    };
+    if !world.may_enter(line, &c) {
+        panic!(rt; "the call of line {line} may not be entered");
+    }
+    assert!(rt; world.did(actor, line, &c, 1).is_ok());
+}
+
+#[test]
+fn a_step_without_the_log_is_said(rt: HostRuntime) -> Result<(), Fail> {
+    let alloc = rt.alloc();
+    let mut world = world(&rt, alloc);
+    let mut out = Outbox::with_room(alloc)?;
+    let t = transaction(&rt);
+    let begin = Call::Begin(t, Timeout::Default);
+    for (line, c) in [(1, begin), (2, Call::Commit(t))] {
+        assert_eq!(rt; call(&rt, &mut world, &mut out, line, &c), Answer::Fine);
+    }
+    step_and_say(&rt, &mut world, &mut out, 3);
+    shows(&rt, alloc, &world, &[&COUNTED])?;
+    Ok(())
+}
