@@ -1,5 +1,5 @@
 -- What is written at transactions by number, one after the other: where it is written at each that passes a test, it is put at those of the trace that pass, in their order.
-use Rattle.std.proofs.Common.{◌≡◌, ◌≢◌, ◌⊎◌, ◌≤◌, ◌<◌, ℕ, suc, ◌+◌, ◌==◌, nat_le, nat_lt, Bool, true, false, ◌&&◌, not, List, [], ◌∷◌, ◌++◌, map, filter, inl, inr, refl, ap, sym, subst, ◌∙◌, arith, if◌then◌else◌}
+use Rattle.std.proofs.Common.{◌≡◌, ◌≢◌, ◌⊎◌, ◌≤◌, ◌<◌, ℕ, suc, ◌+◌, ◌==◌, nat_le, nat_lt, Bool, true, false, ◌&&◌, not, List, [], ◌∷◌, ◌++◌, filter, inl, inr, refl, ap, sym, subst, ◌∙◌, append-nil, arith, if◌then◌else◌}
 use Rattle.std.proofs.lemmas.Bool.{cases_Bool, cases_lt}
 use Rattle.std.proofs.lemmas.Bool.Decides.{Decides-eqb, Decides-ltb, eqb_tells, leb_tells}
 use Rattle.dtx_values.specs.declared.entry.Entry.{Entry}
@@ -8,7 +8,7 @@ use Rattle.dtx_values.specs.declared.trace.Place.TheVariants.{Context, Log, Tran
 use Rattle.dtx_values.specs.Table.{how_many, insert_by}
 use Rattle.dtx_model.specs.Words.{onto}
 use Rattle.dtx_model.specs.Traces.{Placed, placed}
-use Rattle.dtx_model.specs.AtLog.{one_if, transactions, tx_number, with_tx}
+use Rattle.dtx_model.specs.AtLog.{one_if, transactions, tx_number}
 use Rattle.dtx_model.specs.Replay.{put_at}
 use Rattle.dtx_model.proofs.SameNumbers.{same_transaction}
 use Rattle.outcome_law.proofs.PutAt.{is_tx}
@@ -89,14 +89,14 @@ lt_tells a b = by (cases_Bool (nat_lt a b)) (cases_lt a b)
     by (inr e) (inr k) = inr (e, k)
     by (inr e) (inl k) = let f : true ≡ false = sym ((Decides-ltb a b).1 k) ∙ e in absurd cc
 
+rest_of : (b : Bool) (m : ℕ) → (if b then suc m else m) ≡ 0 → (b ≡ false) × (m ≡ 0)
+rest_of true m e = absurd (omega (arith, e))
+rest_of false m e = (refl, e)
+
 rises-insert : (n : ℕ) (t : TxNo) (ts : List TxNo) → n < t.value → how_many (is_tx t.value) ts ≡ 0 → Rises n ts → Rises n (insert_by tx_number t ts)
 rises-insert n t [] k none r = (k, tt)
-rises-insert n t (x ∷ ts) k none r = elim (lt_tells x.value t.value) [ inl e ↦ after e.0 e.1 | inr e ↦ before e.0 e.1 ]
+rises-insert n t (x ∷ ts) k none r = elim (lt_tells x.value t.value) [ inl e ↦ after (λ less out. rises-insert x.value t ts less out r.1) e.0 e.1 | inr e ↦ before e.0 e.1 ]
   where
-    rest : (b : Bool) (m : ℕ) → (if b then suc m else m) ≡ 0 → (b ≡ false) × (m ≡ 0)
-    rest true m e = absurd (omega (arith, e))
-    rest false m e = (refl, e)
-
     chosen : (b : Bool) → b ≡ true → Rises n (x ∷ insert_by tx_number t ts) → Rises n (if b then x ∷ insert_by tx_number t ts else t ∷ x ∷ ts)
     chosen true e q = q
     chosen false e q = absurd cc
@@ -105,12 +105,13 @@ rises-insert n t (x ∷ ts) k none r = elim (lt_tells x.value t.value) [ inl e �
     first true e q = absurd cc
     first false e q = q
 
-    after : nat_lt x.value t.value ≡ true → x.value < t.value → Rises n (if nat_lt x.value t.value then x ∷ insert_by tx_number t ts else t ∷ x ∷ ts)
-    after e less = chosen (nat_lt x.value t.value) e (r.0, rises-insert x.value t ts less (rest (t.value == x.value) (how_many (is_tx t.value) ts) none).1 r.1)
+    after : (x.value < t.value → how_many (is_tx t.value) ts ≡ 0 → Rises x.value (insert_by tx_number t ts)) → nat_lt x.value t.value ≡ true → x.value < t.value
+        → Rises n (if nat_lt x.value t.value then x ∷ insert_by tx_number t ts else t ∷ x ∷ ts)
+    after ih e less = chosen (nat_lt x.value t.value) e (r.0, ih less (rest_of (t.value == x.value) (how_many (is_tx t.value) ts) none).1)
 
     before : nat_lt x.value t.value ≡ false → t.value ≤ x.value → Rises n (if nat_lt x.value t.value then x ∷ insert_by tx_number t ts else t ∷ x ∷ ts)
     before e more = elim (eqb_tells t.value x.value) [
-      | inl s ↦ let apart : true ≡ false = sym s.0 ∙ (rest (t.value == x.value) (how_many (is_tx t.value) ts) none).0 in absurd cc
+      | inl s ↦ let apart : true ≡ false = sym s.0 ∙ (rest_of (t.value == x.value) (how_many (is_tx t.value) ts) none).0 in absurd cc
       | inr s ↦ let other = s.1 in first (nat_lt x.value t.value) e (k, (omega (arith, other, more), r.1))
     ]
 
@@ -118,9 +119,6 @@ taken_out : (t : TxNo) (ts : List TxNo) → how_many (is_tx t.value) (filter (λ
 taken_out t [] = refl
 taken_out t (x ∷ ts) = step (t.value == x.value) refl (taken_out t ts)
   where
-    rest : List TxNo
-    rest = filter (λ (u : TxNo). not (t.value == u.value)) ts
-
     none : (b : Bool) (m : ℕ) → b ≡ false → m ≡ 0 → (if b then suc m else m) ≡ 0
     none true m e q = absurd cc
     none false m e q = q
@@ -154,7 +152,7 @@ up_to_none p = record { rises = tt; passed = λ u. none u (nat_le u.value 0) ref
     none u false e = refl
 
 -- The next one comes to them where it passes.
-pub one_where : {A : Type 0} → Bool → A → List A
+abbrev pub one_where : {A : Type 0} → Bool → A → List A
 one_where true x = x ∷ []
 one_where false x = []
 
@@ -210,7 +208,6 @@ pub le_yet : (u : TxNo) (n : ℕ) → u.value ≡ n + 1 → nat_le u.value n ≡
 le_yet u n e = (le_here u n e).0
 
 pub up_to_next : (p : TxNo → Bool) (n : ℕ) (ts : List TxNo) (t : TxNo) → t.value ≡ n + 1 → AreUpTo p n ts → AreUpTo p (n + 1) (ts ++ one_where (p t) t)
-unfolding one_where
 up_to_next p n ts t next a = by (p t) refl
   where
     passed_on : (b : Bool) (us : List TxNo) → p t ≡ b → ((u : TxNo) → u ≢ t → how_many (is_tx u.value) us ≡ how_many (is_tx u.value) ts) → how_many (is_tx t.value) us ≡ one_if b 0 → (u : TxNo)
@@ -246,12 +243,8 @@ up_to_next p n ts t next a = by (p t) refl
         }
     by false e =
         let none = above_none p n ts a t (omega (arith, next)) in
-        let same : ts ++ [] ≡ ts = empty ts in
+        let same : ts ++ [] ≡ ts = append-nil ts in
         subst (λ (us : List TxNo). AreUpTo p (n + 1) us) (sym same) (record { rises = a.rises; passed = passed_on false ts e (λ u k. refl) none })
-
-    empty : (us : List TxNo) → us ++ [] ≡ us
-    empty [] = refl
-    empty (u ∷ us) = ap (λ vs. u ∷ vs) (empty us)
 
 -- At the end they are those of the trace that pass, where no other does.
 pub up_to_all : (p q : TxNo → Bool) (n : ℕ) (ts us : List TxNo) → AreUpTo p n ts → Rises 0 us → ((u : TxNo) → how_many (is_tx u.value) us ≡ one_if (q u) 0) → ((u : TxNo) → p u ≡ q u)
@@ -275,7 +268,6 @@ up_to_all p q n ts us a rises many same none = same_rising 0 ts us a.rises rises
 
 -- What is put at one more stands after the others.
 pub put_next : (f : TxNo → Entry) (ts : List TxNo) (b : Bool) (t : TxNo) (T : List Placed) → put_at f (ts ++ one_where b t) T ≡ onto (put_at f ts T) (placed t (one_where b (f t)))
-unfolding one_where
 put_next f [] true t T = refl
 put_next f [] false t T = refl
 put_next f (x ∷ ts) b t T = put_next f ts b t ((Transaction x, f x) ∷ T)

@@ -1,7 +1,7 @@
 -- A transaction goes with the log: from BEGIN on its coordinator lives in the log's life, and stands stopped exactly where the log isn't up. So it does after each of its steps.
-use Rattle.std.proofs.Common.{◌≡◌, ◌≢◌, ◌⊎◌, ℕ, Bool, true, false, ◌&&◌, ◌||◌, not, List, [], ◌∷◌, inl, inr, refl, ap, sym, subst, ◌∙◌, if◌then◌else◌}
-use Rattle.std.specs.Prelude.{IsTrue, IsFalse}
-use Rattle.std.proofs.lemmas.Bool.{cases_Bool}
+use Rattle.std.proofs.Common.{◌≡◌, ◌≢◌, ◌⊎◌, ℕ, Bool, true, false, ◌&&◌, ◌||◌, not, List, [], ◌∷◌, ◌++◌, inl, inr, refl, ap, sym, subst, ◌∙◌, if◌then◌else◌}
+use Rattle.std.specs.Prelude.{IsFalse}
+use Rattle.std.proofs.lemmas.Bool.{cases_Bool, or_left}
 use Rattle.dtx_values.specs.declared.entry.Entry.{Entry}
 use Rattle.dtx_values.specs.declared.entry.Entry.TheVariants.{Restarted, Stopped}
 use Rattle.dtx_values.specs.declared.number.TxNo.{TxNo}
@@ -12,17 +12,16 @@ use Rattle.dtx_model.specs.World.{World, core}
 use Rattle.dtx_model.specs.Steps.{LogAnswer, Done, Full, StoppedNow, StoppedBefore, Step, Calls, Replies, Acts, Coordinates, Delivers, Stops, Restarts, StepName, ReplyOf, LocalAct, CoordinatorAct, Delivery, after, appended, block_at, coordinates, freed, restarted}
 use Rattle.dtx_model.specs.Caused.{IsNamed, is_begin_sent, is_full_answer, may_coordinate}
 use Rattle.dtx_model.specs.Replay.{is_in_replay}
-use Rattle.dtx_model.proofs.Bools.{and_left, and_right, not_both, or_case}
+use Rattle.dtx_model.proofs.Bools.{and_both, and_left, and_never, and_right, not_both, or_case, or_right}
 use Rattle.dtx_model.proofs.Reading.{has-onto}
 use Rattle.outcome_law.proofs.CoreStages.{stopped_same}
 use Rattle.coordinator_log.specs.State.{LogState}
 use Rattle.tx_world.specs.AtLog.{Answered, id_of}
 use Rattle.tx_world.specs.State.{TxState, life_after, sends_begin, turned}
 use Rattle.tx_world.specs.Stepping.{Does, IsAnswered}
-use Rattle.tx_world.proofs.Begun.{stopped_begun}
 use Rattle.script_runner.specs.RunState.{GoesWith}
 use Rattle.script_runner.proofs.Deeds.{is_halting, is_steady, steady_block}
-use Rattle.script_runner.proofs.Turns.{IsOwn, acts_begun, stop_block}
+use Rattle.script_runner.proofs.Turns.{IsOwn, acts_begun, turned_past, written}
 
 -- A coordinator stands stopped after a block as before it, where that has neither a stop nor a restart,
 steady_one : (h : List Entry) (x : Entry) → is_steady x ≡ true → is_stopped (x ∷ h) ≡ is_stopped h
@@ -130,37 +129,48 @@ lives {D} up t x y from to m world own life before begun = by (cases_Bool (sends
         own ∙ (left (sends_begin t x.world m) from.life x.life k
         ∙ (before (sym (begun_before up t x.world m k) ∙ (ap (λ (w : World). has is_begin_sent w.past) (sym world) ∙ begun)) ∙ sym life))
 
--- where the log stays as it is, the step isn't a stop: it stands stopped where the log isn't up
-stands_steady : {D : Type 0} (t : TxNo) (x : TxState) (from : LogState D) (m : Step) → IsOwn t x → is_halting m ≡ false → GoesWith from x
-    → has is_begin_sent (turned from.is_up t.value x.world m).past ≡ true → (core (turned from.is_up t.value x.world m)).stopped ≡ not from.is_up
-stands_steady {D} t x from m own steady goes begun = by (cases_Bool (sends_begin t.value x.world m)) (cases_Bool from.is_up)
+begun_after : (up : Bool) (t : ℕ) (w : World) (m : Step) → sends_begin t w m ≡ true → has is_begin_sent (turned up t w m).past ≡ true
+begun_after up t w m e = ap (has is_begin_sent) (turned_past up t w m) ∙ (has-onto is_begin_sent w.past (written up t w m) ∙ or_left (has is_begin_sent (written up t w m)) (has is_begin_sent w.past) (wrote (sends_begin t w m && not up)))
   where
-    runs : from.is_up ≡ true → (core x.world).stopped ≡ false
-    runs up = elim (cases_Bool (core x.world).stopped) [
-      | inl s ↦ absurd (not_both (core x.world).stopped s (goes.stopped (stopped_begun t.value x.world own.run s) ∙ ap not up))
-      | inr s ↦ s
-    ]
+    in_front : (es fs : List Entry) → has is_begin_sent es ≡ true → has is_begin_sent (es ++ fs) ≡ true
+    in_front [] fs k = absurd cc
+    in_front (x ∷ es) fs k =
+        or_case (is_begin_sent x) (has is_begin_sent es) (λ h. or_left (is_begin_sent x) (has is_begin_sent (es ++ fs)) h)
+        (λ h. or_right (is_begin_sent x) (has is_begin_sent (es ++ fs)) (in_front es fs h)) k
 
+    wrote : (c : Bool) → has is_begin_sent (if c then block_at t w m ++ Stopped ∷ [] else block_at t w m) ≡ true
+    wrote true = in_front (block_at t w m) (Stopped ∷ []) e
+    wrote false = e
+
+-- where the log stays as it is, the step isn't a stop: it stands stopped where the log isn't up
+stands_steady : {D : Type 0} (t : TxNo) (x : TxState) (from : LogState D) (m : Step) → is_halting m ≡ false → GoesWith from x
+    → (core (turned from.is_up t.value x.world m)).stopped ≡ (has is_begin_sent (turned from.is_up t.value x.world m).past && not from.is_up)
+stands_steady {D} t x from m steady goes = by (cases_Bool (sends_begin t.value x.world m)) (cases_Bool from.is_up)
+  where
     by : ((sends_begin t.value x.world m ≡ true) ⊎ (sends_begin t.value x.world m ≡ false)) → ((from.is_up ≡ true) ⊎ (from.is_up ≡ false))
-        → (core (turned from.is_up t.value x.world m)).stopped ≡ not from.is_up
+        → (core (turned from.is_up t.value x.world m)).stopped ≡ (has is_begin_sent (turned from.is_up t.value x.world m).past && not from.is_up)
     by (inr k) u =
         ap (λ (w : World). (core w).stopped) (unsent (sends_begin t.value x.world m) from.is_up (after t.value (after t.value x.world m) Stops) (after t.value x.world m) k)
-        ∙ (steady_core t.value x.world m steady ∙ goes.stopped (sym (begun_before from.is_up t.value x.world m k) ∙ begun))
+        ∙ (steady_core t.value x.world m steady ∙ (goes.stopped ∙ ap (λ b. b && not from.is_up) (sym (begun_before from.is_up t.value x.world m k))))
     by (inl k) (inl up) =
         ap (λ (w : World). (core w).stopped) (none_follows (sends_begin t.value x.world m) from.is_up (after t.value (after t.value x.world m) Stops) (after t.value x.world m) up)
-        ∙ (steady_core t.value x.world m steady ∙ (runs up ∙ sym (ap not up)))
+        ∙ (steady_core t.value x.world m steady
+        ∙ (goes.stopped ∙ (ap (λ u. has is_begin_sent x.world.past && not u) up
+        ∙ (and_never (has is_begin_sent x.world.past) ∙ (sym (and_never (has is_begin_sent (turned from.is_up t.value x.world m).past))
+        ∙ ap (λ u. has is_begin_sent (turned from.is_up t.value x.world m).past && not u) (sym up))))))
     by (inl k) (inr down) =
         ap (λ (w : World). (core w).stopped) (stop_follows (sends_begin t.value x.world m) from.is_up (after t.value (after t.value x.world m) Stops) (after t.value x.world m) k down)
-        ∙ (stops_core t.value (after t.value x.world m) ∙ sym (ap not down))
+        ∙ (stops_core t.value (after t.value x.world m)
+        ∙ sym (and_both (has is_begin_sent (turned from.is_up t.value x.world m).past) (not from.is_up) (begun_after from.is_up t.value x.world m k) (ap not down)))
 
 -- A step at a log that was stopped by it, or found so, stops the coordinator.
-stop_written : (t : ℕ) (w : World) (a : LogAnswer) → coordinates (core w) a ≡ Stopped ∷ [] → (up : Bool) → (core (turned up t w (Coordinates a))).stopped ≡ true
+pub stop_written : (t : ℕ) (w : World) (a : LogAnswer) → coordinates (core w) a ≡ Stopped ∷ [] → (up : Bool) → (core (turned up t w (Coordinates a))).stopped ≡ true
 unfolding after block_at
 stop_written t w a e up =
     ap (λ (v : World). (core v).stopped) (unsent (sends_begin t w (Coordinates a)) up (after t (after t w (Coordinates a)) Stops) (after t w (Coordinates a)) (ap (has is_begin_sent) e))
     ∙ (ap (λ (es : List Entry). (coordinate (onto w.past es)).stopped) e ∙ stopped_same (Stopped ∷ w.past))
 
-now_block : (w : World) (b : Bool) → (if b then appended (core w) StoppedNow else freed StoppedNow) ≡ Stopped ∷ []
+pub now_block : (w : World) (b : Bool) → (if b then appended (core w) StoppedNow else freed StoppedNow) ≡ Stopped ∷ []
 now_block w true = refl
 now_block w false = refl
 
@@ -174,6 +184,14 @@ answered_up {D} faults k id life from to a n b e = by (cases_Bool from.is_up) (c
     by (inl k) (inr u) = absurd (n (e.now.1 (k, u)))
     by (inl k) (inl u) = (k, u)
 
+-- and where it isn't up, no step changes it
+pub answered_down : {D : Type 0} (faults : D → ℕ) (x : TxState) (from to : LogState D) (m : Step) → IsAnswered faults x from to m → IsFalse from.is_up → to ≡ from
+answered_down faults x from to (Coordinates Done) e down = let up = answered_up faults (core x.world) (id_of x) x.life from to Done (λ k. cc) (λ k. cc) e in absurd (not_both from.is_up up.0 down)
+answered_down faults x from to (Coordinates Full) e down = e.unchanged (λ k. cc) (λ k. cc)
+answered_down faults x from to (Coordinates StoppedNow) e down = absurd (not_both from.is_up (e.now.0 refl).0 down)
+answered_down faults x from to (Coordinates StoppedBefore) e down = e.unchanged (λ k. cc) (λ k. cc)
+answered_down faults x from to m e down = e
+
 -- The coordinator of a transaction that goes with the log never finds it stopped, since then it stands stopped itself.
 pub never_before : {D : Type 0} (faults : D → ℕ) (t : TxNo) (x : TxState) (from to : LogState D) → IsOwn t x → may_coordinate (core x.world) StoppedBefore ≡ true → GoesWith from x
     → Answered faults (core x.world) (id_of x) x.life from to StoppedBefore → ⊥
@@ -181,7 +199,8 @@ never_before faults t x from to own may goes e = by (e.before.0 refl)
   where
     by : IsFalse from.is_up ⊎ (x.life ≢ from.life) → ⊥
     by (inl k) =
-        not_both (core x.world).stopped (goes.stopped (acts_begun t.value x.world own.run may) ∙ ap not k) (acts_running (core x.world) StoppedBefore may)
+        not_both (core x.world).stopped (goes.stopped ∙ and_both (has is_begin_sent x.world.past) (not from.is_up) (acts_begun t.value x.world own.run may) (ap not k))
+        (acts_running (core x.world) StoppedBefore may)
     by (inr k) = k (goes.life (acts_begun t.value x.world own.run may))
 
 -- so each step that has a name may come in a replay
@@ -199,24 +218,36 @@ named_in_replay {D} faults t x from to CoordinatorAct m own (a, may, same) k goe
 named_in_replay {D} faults t x from to (Delivery c d) m own same k goes = ap is_in_replay same
 
 -- it stands stopped exactly where the log isn't up
+halted_begun : (t : ℕ) (w : World) (a : LogAnswer) → coordinates (core w) a ≡ Stopped ∷ [] → (up : Bool) → has is_begin_sent w.past ≡ true → has is_begin_sent (turned up t w (Coordinates a)).past ≡ true
+unfolding after block_at
+halted_begun t w a e up k =
+    ap (λ (v : World). has is_begin_sent v.past) (unsent (sends_begin t w (Coordinates a)) up (after t (after t w (Coordinates a)) Stops) (after t w (Coordinates a)) (ap (has is_begin_sent) e))
+    ∙ (ap (λ (es : List Entry). has is_begin_sent (onto w.past es)) e ∙ k)
+
 stands : {D : Type 0} (faults : D → ℕ) (t : TxNo) (x : TxState) (from to : LogState D) (m : Step) → IsOwn t x → MayTurn x.world m → IsAnswered faults x from to m → GoesWith from x
-    → has is_begin_sent (turned from.is_up t.value x.world m).past ≡ true → (core (turned from.is_up t.value x.world m)).stopped ≡ not to.is_up
-unfolding block_at
-stands {D} faults t x from to (Coordinates Done) own may e goes begun =
-    let up = answered_up faults (core x.world) (id_of x) x.life from to Done (λ k. cc) (λ k. cc) e in
-    stands_steady t x from (Coordinates Done) own refl goes begun ∙ ap not (up.0 ∙ sym up.1)
-stands {D} faults t x from to (Coordinates Full) own may e goes begun =
-    let up = answered_up faults (core x.world) (id_of x) x.life from to Full (λ k. cc) (λ k. cc) e in
-    stands_steady t x from (Coordinates Full) own refl goes begun ∙ ap not (up.0 ∙ sym up.1)
-stands {D} faults t x from to (Coordinates StoppedNow) own may e goes begun =
-    stop_written t.value x.world StoppedNow (now_block x.world (may_log (core x.world))) from.is_up ∙ sym (ap not (e.now.0 refl).1)
-stands {D} faults t x from to (Coordinates StoppedBefore) own may e goes begun = absurd (never_before faults t x from to own may goes e)
-stands {D} faults t x from to (Calls n a c k) own may e goes begun = stands_steady t x from (Calls n a c k) own refl goes begun ∙ ap (λ (l : LogState D). not l.is_up) (sym e)
-stands {D} faults t x from to (Replies n r) own may e goes begun = stands_steady t x from (Replies n r) own refl goes begun ∙ ap (λ (l : LogState D). not l.is_up) (sym e)
-stands {D} faults t x from to Acts own may e goes begun = stands_steady t x from Acts own refl goes begun ∙ ap (λ (l : LogState D). not l.is_up) (sym e)
-stands {D} faults t x from to (Delivers c d) own may e goes begun = stands_steady t x from (Delivers c d) own refl goes begun ∙ ap (λ (l : LogState D). not l.is_up) (sym e)
-stands {D} faults t x from to Stops own may e goes begun = absurd may
-stands {D} faults t x from to (Restarts found) own may e goes begun = absurd may
+    → (core (turned from.is_up t.value x.world m)).stopped ≡ (has is_begin_sent (turned from.is_up t.value x.world m).past && not to.is_up)
+stands {D} faults t x from to m own may e goes = by m may e
+  where
+    as_before : (j : Step) → is_halting j ≡ false → from.is_up ≡ to.is_up
+        → (core (turned from.is_up t.value x.world j)).stopped ≡ (has is_begin_sent (turned from.is_up t.value x.world j).past && not to.is_up)
+    as_before j k up = stands_steady t x from j k goes ∙ ap (λ u. has is_begin_sent (turned from.is_up t.value x.world j).past && not u) up
+
+    by : (j : Step) → MayTurn x.world j → IsAnswered faults x from to j
+        → (core (turned from.is_up t.value x.world j)).stopped ≡ (has is_begin_sent (turned from.is_up t.value x.world j).past && not to.is_up)
+    by (Coordinates Done) q e = let up = answered_up faults (core x.world) (id_of x) x.life from to Done (λ k. cc) (λ k. cc) e in as_before (Coordinates Done) refl (up.0 ∙ sym up.1)
+    by (Coordinates Full) q e = let up = answered_up faults (core x.world) (id_of x) x.life from to Full (λ k. cc) (λ k. cc) e in as_before (Coordinates Full) refl (up.0 ∙ sym up.1)
+    by (Coordinates StoppedNow) q e =
+        let block = now_block x.world (may_log (core x.world)) in
+        stop_written t.value x.world StoppedNow block from.is_up
+        ∙ sym (and_both (has is_begin_sent (turned from.is_up t.value x.world (Coordinates StoppedNow)).past) (not to.is_up)
+        (halted_begun t.value x.world StoppedNow block from.is_up (acts_begun t.value x.world own.run q)) (ap not (e.now.0 refl).1))
+    by (Coordinates StoppedBefore) q e = absurd (never_before faults t x from to own q goes e)
+    by (Calls n a c k) q e = as_before (Calls n a c k) refl (ap (λ (l : LogState D). l.is_up) (sym e))
+    by (Replies n r) q e = as_before (Replies n r) refl (ap (λ (l : LogState D). l.is_up) (sym e))
+    by Acts q e = as_before Acts refl (ap (λ (l : LogState D). l.is_up) (sym e))
+    by (Delivers c d) q e = as_before (Delivers c d) refl (ap (λ (l : LogState D). l.is_up) (sym e))
+    by Stops q e = absurd q
+    by (Restarts found) q e = absurd q
 
 -- So a transaction that goes with the log goes with it after a step of its own: one that has a name, or a call.
 pub goes_step : {D : Type 0} (faults : D → ℕ) (t : TxNo) (x y : TxState) (from to : LogState D) (m : Step) → IsOwn t x → Does faults m x from y to → to.life ≡ from.life → GoesWith from x
@@ -226,9 +257,7 @@ goes_step {D} faults t x y from to m own did life goes may =
     let own_life : y.life ≡ life_after from.life t.value x.world m x.life = did.life ∙ ap (λ (u : TxNo). life_after from.life u.value x.world m x.life) own.transaction in
     record {
       life = lives from.is_up t.value x y from to m world own_life life goes.life;
-      stopped = λ begun.
-          ap (λ (w : World). (core w).stopped) world
-          ∙ stands faults t x from to m own may did.answered goes (ap (λ (w : World). has is_begin_sent w.past) (sym world) ∙ begun);
+      stopped = subst (λ (w : World). (core w).stopped ≡ (has is_begin_sent w.past && not to.is_up)) (sym world) (stands faults t x from to m own may did.answered goes);
     }
 
 -- One to which nothing came goes with each log.
@@ -236,5 +265,5 @@ pub goes_blank : {D : Type 0} (log : LogState D) (x : TxState) → x.world.past 
 goes_blank log x none =
     record {
       life = λ begun. let k : false ≡ true = sym (ap (has is_begin_sent) none) ∙ begun in absurd cc;
-      stopped = λ begun. let k : false ≡ true = sym (ap (has is_begin_sent) none) ∙ begun in absurd cc;
+      stopped = ap (λ (h : List Entry). (coordinate h).stopped) none ∙ (stopped_same [] ∙ ap (λ (h : List Entry). has is_begin_sent h && not log.is_up) (sym none));
     }

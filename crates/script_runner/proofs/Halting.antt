@@ -1,36 +1,36 @@
 -- A stop and an opening of the log, as each transaction is told of it, by number: what becomes of each, and of the trace.
-use Rattle.std.proofs.Common.{◌≡◌, ◌≢◌, ◌⊎◌, ◌≤◌, ◌<◌, ℕ, ◌+◌, ◌-◌, nat_le, Bool, true, false, ◌&&◌, not, List, [], ◌∷◌, ◌++◌, length, get_or, set, is_some, inl, inr, refl, ap, sym, subst, ◌∙◌, arith, filter, Option, None, if◌then◌else◌, length-set}
-use Rattle.std.specs.Prelude.{IsTrue, IsFalse}
-use Rattle.std.proofs.lemmas.Bool.{cases_Bool, cases_lt}
+use Rattle.std.proofs.Common.{◌≡◌, ◌≢◌, ◌⊎◌, ◌≤◌, ◌<◌, ℕ, ◌+◌, ◌-◌, nat_le, Bool, true, false, ◌&&◌, not, List, [], ◌++◌, length, get_or, set, is_some, inl, inr, refl, ap, sym, subst, ◌∙◌, arith, filter, Option, if◌then◌else◌, length-set}
+use Rattle.std.proofs.lemmas.Bool.{cases_lt}
 use Rattle.std.proofs.lemmas.Bool.Decides.{leb_tells}
 use Rattle.dtx_values.specs.declared.entry.Entry.{Entry}
 use Rattle.dtx_values.specs.declared.entry.Entry.TheVariants.{Restarted, Stopped}
 use Rattle.dtx_values.specs.declared.number.TxNo.{TxNo}
 use Rattle.dtx_values.specs.declared.script.Line.{Line}
-use Rattle.dtx_model.specs.Words.{has, onto, past_of}
+use Rattle.dtx_model.specs.Words.{each, has, onto}
 use Rattle.dtx_model.specs.Log.{CommitRecord, first_of}
-use Rattle.dtx_model.specs.Promotes.{identifier_of}
 use Rattle.dtx_values.specs.Table.{how_many}
 use Rattle.dtx_model.specs.AtLog.{hit, is_hit, is_known, known, one_if, transactions}
-use Rattle.dtx_model.specs.Caused.{is_begin_sent}
+use Rattle.dtx_model.specs.Caused.{is_begin_sent, plans_of}
 use Rattle.dtx_model.specs.Replay.{put_at}
 use Rattle.dtx_model.specs.Steps.{Restarts, Stops, after, block_at, restarted}
+use Rattle.dtx_model.specs.Tied.{tied as is_tied_history}
 use Rattle.dtx_model.specs.Traces.{Placed, history, placed}
 use Rattle.dtx_model.specs.Wires.{is_stopped}
 use Rattle.dtx_model.specs.World.{World, core}
-use Rattle.dtx_model.proofs.Bools.{and_left}
+use Rattle.dtx_model.proofs.Bools.{and_both, and_left, and_never}
 use Rattle.dtx_model.proofs.SameNumbers.{same_transaction}
 use Rattle.outcome_law.proofs.CoreStages.{stopped_same}
-use Rattle.outcome_law.proofs.PutAt.{is_tx, many-hit, many-known}
+use Rattle.outcome_law.proofs.PutAt.{history-hit, history-known, is_tx, many-hit, many-known, one_more}
 use Rattle.coordinator_log.specs.Slots.{open_records}
 use Rattle.coordinator_log.specs.State.{LogState}
 use Rattle.tx_world.specs.AtLog.{id_of}
 use Rattle.tx_world.specs.State.{TxState, is_hit_by, is_reached_by}
-use Rattle.script_runner.specs.RunState.{AreNumbered, GoesWith, HaveSameCalls, IsTied, halted, record_in, reopened, state_of, untouched}
+use Rattle.script_runner.specs.RunState.{AreNumbered, GoesWith, HaveSameCalls, IsTied, IsToPlan, halted, record_in, reopened, state_of, untouched}
 use Rattle.script_runner.proofs.ByNumber.{AreUpTo, Rises, le_last, le_other, le_yet, one_where, put_next, rises-filter, rises-transactions, up_to_all, up_to_next, up_to_none}
+use Rattle.script_runner.proofs.Deeds.{is_to}
 use Rattle.script_runner.proofs.Goes.{restarts_core, stops_core}
-use Rattle.script_runner.proofs.Noting.{trace_noted}
 use Rattle.script_runner.proofs.Numbered.{is_it, numbered_set, state_here, state_reached, state_there, state_unreached}
+use Rattle.script_runner.proofs.Tying.{given_same, to_plan_onto}
 
 -- What is done at each transaction up to number n: each of them becomes what g makes of it, and an entry is written at those that pass p.
 pub record IsThrough (g : TxState → TxState) (p : TxState → Bool) (f : TxNo → Entry) (ws : List TxState) (T : List Placed) (n : ℕ) (vs : List TxState) (U : List Placed) : Type 0 where
@@ -147,7 +147,7 @@ is_halted life x y number world ours unsure own = by (is_hit_by life x) world
 
 -- what it writes there,
 pub hit_past : (b : Bool) (t : ℕ) (w : World) → (if b then after t w Stops else w).past ≡ onto w.past (one_where b Stopped)
-unfolding after block_at one_where
+unfolding after block_at
 hit_past true t w = refl
 hit_past false t w = refl
 
@@ -155,6 +155,31 @@ pub hit_calls : (b : Bool) (t : ℕ) (w : World) → (if b then after t w Stops 
 unfolding after
 hit_calls true t w = refl
 hit_calls false t w = refl
+
+-- which is all that changes of it
+pub record IsAsHalted (own : ℕ) (x y : TxState) : Type 0 where
+  pub transaction : y.transaction ≡ x.transaction
+  pub past : y.world.past ≡ onto x.world.past (one_where (is_hit_by own x) Stopped)
+  pub calls : y.world.calls ≡ x.world.calls
+  pub ours : y.ours ≡ x.ours
+  pub unsure : y.unsure ≡ x.unsure
+  pub life : y.life ≡ x.life
+
+pub halted_as : (life : ℕ) (x : TxState) → IsAsHalted life x (halted life x)
+halted_as life x = by (is_hit_by life x) refl
+  where
+    by : (b : Bool) → is_hit_by life x ≡ b
+        → IsAsHalted life x (if b then record { transaction = x.transaction; world = after x.transaction.value x.world Stops; ours = x.ours; unsure = x.unsure; life = x.life } else x)
+    by true e =
+        record {
+          transaction = refl;
+          past = hit_past true x.transaction.value x.world ∙ ap (λ b. onto x.world.past (one_where b Stopped)) (sym e);
+          calls = hit_calls true x.transaction.value x.world;
+          ours = refl;
+          unsure = refl;
+          life = refl;
+        }
+    by false e = record { transaction = refl; past = ap (λ b. onto x.world.past (one_where b Stopped)) (sym e); calls = refl; ours = refl; unsure = refl; life = refl }
 
 pub halted_blank : (life : ℕ) (t : TxNo) → halted life (untouched t) ≡ untouched t
 halted_blank life t = refl
@@ -178,6 +203,37 @@ pub halted_trace : (s : List Line) (life : ℕ) (ws vs : List TxState) (T U : Li
 halted_trace s life ws vs T U n a all tied lives =
     through_trace (halted life) (is_hit_by life) (λ t. Stopped) ws vs T U n (is_hit T) (hit T) a all refl (λ t. refl) (λ t. hit_same s life t T (state_of t ws) (tied t) (lives t)) (λ u. many-hit u T)
 
+-- each is tied to the trace with it,
+one_more_where : (b : Bool) (x : Entry) (h : List Entry) → onto h (one_where b x) ≡ one_more b x h
+one_more_where true x h = refl
+one_more_where false x h = refl
+
+pub halted_tied : (s : List Line) (life : ℕ) (t : TxNo) (T : List Placed) (x : TxState) → IsTied s t T x → (has is_begin_sent x.world.past ≡ true → x.life ≡ life)
+    → IsTied s t (put_at (λ u. Stopped) (hit T) T) (halted life x)
+halted_tied s life t T x tied lives =
+    let alike = halted_as life x in
+    record {
+      past =
+          alike.past
+          ∙ (one_more_where (is_hit_by life x) Stopped x.world.past
+          ∙ (ap (λ b. one_more b Stopped x.world.past) (hit_same s life t T x tied lives)
+          ∙ (ap (λ h. one_more (is_hit T t) Stopped h) tied.past ∙ sym (history-hit t (λ u. Stopped) T T))));
+      given = given_same s t.value x.world (halted life x).world alike.calls tied.given;
+      planned = subst (λ (h : List Entry). IsToPlan s h) (sym alike.past) (to_plan_onto s x.world.past (one_where (is_hit_by life x) Stopped) tied.planned (as_planned (is_hit_by life x)));
+    }
+  where
+    as_planned : (b : Bool) → each (is_to (plans_of s)) (one_where b Stopped) ≡ true
+    as_planned true = refl
+    as_planned false = refl
+
+-- and each restart found what may be found, as before
+pub halted_sound : (life : ℕ) (x : TxState) → is_tied_history x.world.past ≡ true → is_tied_history (halted life x).world.past ≡ true
+halted_sound life x sound = ap is_tied_history (halted_as life x).past ∙ by (is_hit_by life x)
+  where
+    by : (b : Bool) → is_tied_history (onto x.world.past (one_where b Stopped)) ≡ true
+    by true = sound
+    by false = sound
+
 -- An opening: what it makes of a transaction,
 pub is_reopened : {D : Type 0} (log : LogState D) (x y : TxState) → y.transaction ≡ x.transaction
     → (is_reached_by log.life x ≡ true → (y.world ≡ after x.transaction.value x.world (Restarts (is_some (first_of (id_of x) (open_records log.slots)))))
@@ -197,7 +253,7 @@ is_reopened {D} log x y number reached unreached = by (is_reached_by log.life x)
 -- what it writes there, where the coordinator stands stopped,
 pub reopened_past : {D : Type 0} (log : LogState D) (x : TxState) → (has is_begin_sent x.world.past ≡ true → (core x.world).stopped ≡ true)
     → (reopened log x).world.past ≡ onto x.world.past (one_where (is_reached_by log.life x) (Restarted (is_some (record_in log.slots x.transaction.value))))
-unfolding after block_at one_where
+unfolding after block_at
 reopened_past {D} log x stopped = by (is_reached_by log.life x) refl
   where
     begun : is_reached_by log.life x ≡ true → has is_begin_sent x.world.past ≡ true
@@ -248,31 +304,74 @@ reopened_trace s log ws vs T U n a all tied lives =
     through_trace (reopened log) (is_reached_by log.life) (λ t. Restarted (is_some (record_in log.slots t.value))) ws vs T U n (is_known T) (known T) a all refl (λ t. refl)
     (λ t. reached_same s log.life t T (state_of t ws) (tied t) (lives t)) (λ u. many-known u T)
 
--- After a stop each goes with a log that is down, where it went with one that was up before, or goes with it already.
-pub goes_halted : {D : Type 0} (log : LogState D) (x : TxState) → log.is_up ≡ false → (has is_begin_sent x.world.past ≡ true → x.life ≡ log.life) → GoesWith log (halted log.life x)
-goes_halted {D} log x down lives = by (is_hit_by log.life x) refl
+-- each is tied to the trace with it
+pub reopened_tied : {D : Type 0} (s : List Line) (log : LogState D) (t : TxNo) (T : List Placed) (x : TxState) → x.transaction ≡ t → IsTied s t T x
+    → (has is_begin_sent x.world.past ≡ true → (core x.world).stopped ≡ true) → (has is_begin_sent x.world.past ≡ true → x.life < log.life)
+    → IsTied s t (put_at (λ u. Restarted (is_some (record_in log.slots u.value))) (known T) T) (reopened log x)
+reopened_tied {D} s log t T x number tied stopped lives =
+    let found = Restarted (is_some (record_in log.slots x.transaction.value)) in
+    let past = reopened_past log x stopped in
+    record {
+      past =
+          past
+          ∙ (one_more_where (is_reached_by log.life x) found x.world.past
+          ∙ (ap (λ b. one_more b found x.world.past) (reached_same s log.life t T x tied lives)
+          ∙ (ap (λ h. one_more (is_known T t) found h) tied.past
+          ∙ (ap (λ (u : TxNo). one_more (is_known T t) (Restarted (is_some (record_in log.slots u.value))) (history t.value T)) number
+          ∙ sym (history-known t (λ u. Restarted (is_some (record_in log.slots u.value))) T T)))));
+      given = given_same s t.value x.world (reopened log x).world (reopened_calls log x) tied.given;
+      planned = subst (λ (h : List Entry). IsToPlan s h) (sym past) (to_plan_onto s x.world.past (one_where (is_reached_by log.life x) found) tied.planned (as_planned (is_reached_by log.life x)));
+    }
   where
-    run : (b : Bool) → (has is_begin_sent x.world.past && not b && nat_le x.life log.life) ≡ false → has is_begin_sent x.world.past ≡ true → b ≡ true
-    run true e k = refl
-    run false e k =
-        let f : nat_le x.life log.life ≡ false = sym (ap (λ (c : Bool). c && true && nat_le x.life log.life) k) ∙ e in
-        elim (leb_tells x.life log.life) [ inl l ↦ let c : true ≡ false = sym l.0 ∙ f in absurd cc | inr l ↦ let high = l.1 in let same = lives k in absurd (omega (arith, high, same)) ]
+    as_planned : (b : Bool) → each (is_to (plans_of s)) (one_where b (Restarted (is_some (record_in log.slots x.transaction.value)))) ≡ true
+    as_planned true = refl
+    as_planned false = refl
+
+-- After a stop each goes with the log, which is down: its coordinator lived in the log's life, and stood stopped only where BEGIN was sent.
+pub goes_halted : {D : Type 0} (log : LogState D) (x : TxState) (c : Bool) → log.is_up ≡ false → (has is_begin_sent x.world.past ≡ true → x.life ≡ log.life)
+    → (core x.world).stopped ≡ (has is_begin_sent x.world.past && c) → GoesWith log (halted log.life x)
+unfolding after block_at
+goes_halted {D} log x c down lives stopped = by (is_hit_by log.life x) refl
+  where
+    run : (b s : Bool) → (b ≡ true → nat_le x.life log.life ≡ true) → s ≡ (b && c) → (b && not s && nat_le x.life log.life) ≡ false → s ≡ (b && not log.is_up)
+    run true true l k e = sym (ap not down)
+    run true false l k e = let f : true ≡ false = sym (l refl) ∙ e in absurd cc
+    run false s l k e = k
+
+    near : has is_begin_sent x.world.past ≡ true → nat_le x.life log.life ≡ true
+    near k = elim (leb_tells x.life log.life) [ inl l ↦ l.0 | inr l ↦ let high = l.1 in let same = lives k in absurd (omega (arith, high, same)) ]
+
+    begun : is_hit_by log.life x ≡ true → has is_begin_sent x.world.past ≡ true
+    begun e = and_left (has is_begin_sent x.world.past) (not (core x.world).stopped) (and_left (has is_begin_sent x.world.past && not (core x.world).stopped) (nat_le x.life log.life) e)
 
     by : (b : Bool) → is_hit_by log.life x ≡ b
         → GoesWith log (if b then record { transaction = x.transaction; world = after x.transaction.value x.world Stops; ours = x.ours; unsure = x.unsure; life = x.life } else x)
-    by true e = record { life = λ k. lives (begun e); stopped = λ k. stops_core x.transaction.value x.world ∙ sym (ap not down) }
-    by false e = record { life = lives; stopped = λ k. run (core x.world).stopped e k ∙ sym (ap not down) }
-
-    begun : is_hit_by log.life x ≡ true → has is_begin_sent x.world.past ≡ true
-    begun e = and_left (has is_begin_sent x.world.past) (not (core x.world).stopped && nat_le x.life log.life) e
+    by true e =
+        record {
+          life = λ k. lives (begun e);
+          stopped = stops_core x.transaction.value x.world ∙ sym (and_both (has is_begin_sent x.world.past) (not log.is_up) (begun e) (ap not down));
+        }
+    by false e = record { life = lives; stopped = run (has is_begin_sent x.world.past) (core x.world).stopped near stopped e }
 
 -- After an opening each goes with the log, which is up.
-pub goes_reopened : {D : Type 0} (log : LogState D) (x : TxState) → log.is_up ≡ true → (has is_begin_sent x.world.past ≡ true → x.life < log.life) → GoesWith log (reopened log x)
-goes_reopened {D} log x up lives = by (is_reached_by log.life x) refl
+pub goes_reopened : {D : Type 0} (log : LogState D) (x : TxState) (c : Bool) → log.is_up ≡ true → (has is_begin_sent x.world.past ≡ true → x.life < log.life)
+    → (core x.world).stopped ≡ (has is_begin_sent x.world.past && c) → GoesWith log (reopened log x)
+goes_reopened {D} log x c up lives stopped = by (is_reached_by log.life x) refl
   where
+    never : (b : Bool) → false ≡ (b && not log.is_up)
+    never b = sym (ap (λ u. b && not u) up ∙ and_never b)
+
     by : (b : Bool) → is_reached_by log.life x ≡ b
         → GoesWith log (if b then record { transaction = x.transaction; world = after x.transaction.value x.world (Restarts (is_some (record_in log.slots x.transaction.value))); ours = record_in log.slots x.transaction.value; unsure = false; life = log.life } else x)
-    by true e = record { life = λ k. refl; stopped = λ k. restarts_core x.transaction.value x.world (is_some (record_in log.slots x.transaction.value)) ∙ sym (ap not up) }
+    by true e =
+        record {
+          life = λ k. refl;
+          stopped = restarts_core x.transaction.value x.world (is_some (record_in log.slots x.transaction.value))
+              ∙ never (has is_begin_sent (after x.transaction.value x.world (Restarts (is_some (record_in log.slots x.transaction.value)))).past);
+        }
     by false e =
-        let none : has is_begin_sent x.world.past ≡ true → false ≡ true = λ k. sym e ∙ (reached_known log.life x.life (has is_begin_sent x.world.past) lives ∙ k) in
-        record { life = λ k. let c = none k in absurd cc; stopped = λ k. let c = none k in absurd cc }
+        let none : has is_begin_sent x.world.past ≡ false = sym (reached_known log.life x.life (has is_begin_sent x.world.past) lives) ∙ e in
+        record {
+          life = λ k. let f : true ≡ false = sym k ∙ none in absurd cc;
+          stopped = stopped ∙ (ap (λ b. b && c) none ∙ never (has is_begin_sent x.world.past));
+        }

@@ -1,5 +1,5 @@
 -- What is noted at the end of a trace.
-use Rattle.std.proofs.Common.{◌≡◌, ◌≢◌, ◌≤◌, ℕ, true, List, [], ◌∷◌, ◌++◌, drop, length, inl, inr, refl, ap, sym, subst, ◌∙◌, append-nil, arith, le_refl, le_trans}
+use Rattle.std.proofs.Common.{◌≡◌, ◌≢◌, ◌≤◌, ℕ, List, [], ◌∷◌, ◌++◌, drop, length, inl, inr, refl, ap, sym, subst, ◌∙◌, append-nil, arith, le_refl, le_trans}
 use Rattle.std.proofs.lemmas.Bool.Decides.{Decides-eqb, eqb_tells}
 use Rattle.dtx_values.specs.declared.entry.Entry.{Entry}
 use Rattle.dtx_values.specs.declared.number.TxNo.{TxNo}

@@ -1,7 +1,5 @@
 -- A step of a transaction, as its world does it and as the trace has it: a step that doesn't stop the log is a turn of the trace, whether the log is up or not.
-use Rattle.std.proofs.Common.{◌≡◌, ◌≢◌, ◌⊎◌, ℕ, suc, Bool, true, false, ◌&&◌, ◌||◌, not, List, [], ◌∷◌, ◌++◌, find, Option, None, Some, inl, inr, refl, ap, sym, subst, ◌∙◌, if◌then◌else◌}
-use Rattle.std.specs.Prelude.{IsTrue, IsFalse}
-use Rattle.std.proofs.lemmas.Bool.{cases_Bool}
+use Rattle.std.proofs.Common.{◌≡◌, ◌⊎◌, ℕ, suc, Bool, true, false, ◌&&◌, ◌||◌, not, List, [], ◌∷◌, ◌++◌, find, Option, None, Some, inl, inr, refl, ap, sym, subst, ◌∙◌, if◌then◌else◌}
 use Rattle.dtx_values.specs.declared.call.Call.{Call}
 use Rattle.dtx_values.specs.declared.entry.Entry.{Entry}
 use Rattle.dtx_values.specs.declared.entry.Entry.TheVariants.{Stopped}
@@ -23,7 +21,7 @@ use Rattle.dtx_model.specs.Plans.{plan_of, planned as reply_planned}
 use Rattle.dtx_model.specs.Replies.{conn_due, due_of, note_of_conn, note_of_row}
 use Rattle.dtx_model.specs.Half.{is_gone}
 use Rattle.dtx_model.specs.World.{World, core, half}
-use Rattle.dtx_model.specs.Steps.{LogAnswer, Done, Full, StoppedNow, StoppedBefore, Step, Calls, Replies, Coordinates, Stops, Restarts, StepName, ReplyOf, LocalAct, CoordinatorAct, Delivery, after, appended, block_at, entered, freed, pending}
+use Rattle.dtx_model.specs.Steps.{StoppedNow, StoppedBefore, Step, Replies, Coordinates, Stops, StepName, after, appended, block_at, entered, freed, pending}
 use Rattle.dtx_model.specs.Caused.{HasStepped, IsCallOf, IsIn, IsNamed, IsOwnRun, IsRun, entered_in, is_begin_sent, may_coordinate, may_stop_after, plans_of, stopped_if, world_of}
 use Rattle.dtx_model.specs.Traces.{Placed, placed}
 use Rattle.dtx_model.specs.AtLog.{is_log_up}
@@ -141,7 +139,7 @@ has_stepped faults t k m start x y from to at d h =
     (x.world, h, d.name, d.step, d.stands, d.named, s.0, s.1, world)
 
 -- The coordinator acts only where BEGIN was sent: a stop of its act would stop it.
-pub stop_block : (w : World) (b : Bool) → (if b then appended (core w) StoppedBefore else freed StoppedBefore) ≡ Stopped ∷ []
+stop_block : (w : World) (b : Bool) → (if b then appended (core w) StoppedBefore else freed StoppedBefore) ≡ Stopped ∷ []
 stop_block w true = refl
 stop_block w false = refl
 

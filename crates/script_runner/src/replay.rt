@@ -252,15 +252,14 @@ impl<'a> Run<'a> {
         }
         // What holds of the world after the step: what it keeps of the log is what its coordinator knows.
         world.is_own_run();
-        let stops = was_up && !log.is_up();
-        if stops {
+        if was_up && !log.is_up() {
             self.trace.reserve(1)?;
             self.trace.push_reserved((Place::Log, Entry::Stopped));
+            note(&mut self.trace, t, world, from)?;
+            self.stop_all(log.life())?;
+            return Ok(true);
         }
         note(&mut self.trace, t, world, from)?;
-        if stops {
-            self.stop_all(log.life())?;
-        }
         Ok(true)
     }
 

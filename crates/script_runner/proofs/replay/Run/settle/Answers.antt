@@ -1,22 +1,29 @@
-use Rattle.std.proofs.Common.{◌≡◌, ℕ, suc, List, [], true, false, Ok, None, refl, subst, sym, ◌∙◌}
+use Rattle.std.proofs.Common.{◌≡◌, ◌+◌, suc, List, [], true, false, Ok, None, refl, ap, subst, sym, ◌∙◌}
 use Rattle.dtx_values.specs.declared.script.Line.{Line}
+use Rattle.dtx_model.specs.Caused.{Settled}
 use Rattle.dtx_model.specs.Replay.{world_at}
 use Rattle.dtx_model.specs.Steps.{pending}
+use Rattle.dtx_model.specs.Traces.{history}
 use Rattle.dtx_model.specs.Words.{kth, past_of}
-use Rattle.script_runner.specs.RunState.{Advances, IsQuiet, RunState, Settles, StepsDone, state_of}
-use Rattle.script_runner.proofs.Going.{calls_then, goes_same, goes_then, runs_same, runs_then}
-use Rattle.script_runner.proofs.Rounds.{none-first, settles-here, steps-more}
+use Rattle.script_runner.specs.RunState.{Advances, AreSettledBelow, IsRoundAt, RunState, Settles, state_of}
+use Rattle.script_runner.proofs.Going.{calls_then, goes_same, goes_then, stays_same, stays_then}
+use Rattle.script_runner.proofs.Rounds.{below-apart, below-next, none-first, settles-here, steps-more, turn-more, turn-next}
+use Rattle.script_runner.proofs.Steps.{up_between}
 use Rattle.script_runner.proofs.replay.Run.settle.Goals as goal
 
 pub loop-init : goal.loop-init
 loop-init g c =
     record {
       contexts = refl;
+      script = refl;
       log = goes_same g.D.Disk.faults g.D.Disk.honest g.D.Disk.image c.args.log.now;
-      runs = runs_same g.D.Disk.faults c.args.log.now c.args.self.now;
+      stays = stays_same g.D.Disk.faults c.args.log.now;
       holds = c.requires.holds;
+      tells = λ start tells. tells;
       calls = λ t. refl;
-      done = λ quiet. (0, refl);
+      done = (0, refl);
+      turns = λ start turn. turn;
+      below = λ up below. below;
     }
 
 pub loop-preserved : goal.loop-preserved
@@ -24,18 +31,26 @@ loop-preserved g c =
     let some : c.step.result ≡ Ok true = cc in
     let was = c.loop.invariant in
     let start = c.args.self.now in
+    let s = start.script in
+    let one : Advances s c.args.t 1 c.loop.self.trace c.step.new.self.trace =
+    subst (λ (r : List Line). Advances r c.args.t 1 c.loop.self.trace c.step.new.self.trace) was.script (c.step.ensures.some some) in
     record {
       contexts = c.step.ensures.contexts ∙ was.contexts;
+      script = c.step.ensures.script ∙ was.script;
       log = goes_then g.D.Disk.faults g.D.Disk.honest g.D.Disk.image c.args.log.now c.loop.log c.step.new.log was.log c.step.ensures.log;
-      runs = runs_then g.D.Disk.faults c.args.log.now c.loop.log c.step.new.log start c.loop.self c.step.new.self was.log.grows c.step.ensures.log.grows was.runs c.in_ok-step.ensures.runs;
+      stays = stays_then g.D.Disk.faults c.args.log.now c.loop.log c.step.new.log was.log.grows c.step.ensures.log.grows was.stays c.step.ensures.stays;
       holds = c.in_ok-step.ensures.holds;
+      tells = λ l tells. c.in_ok-step.ensures.tells l (was.tells l tells);
       calls = calls_then start.worlds c.loop.self.worlds c.step.new.self.worlds was.calls c.step.ensures.calls;
-      done = λ quiet.
-          let before : IsQuiet c.loop.self = c.in_ok-step.ensures.runs.back quiet in
-          let did : (m : ℕ) × StepsDone start.script c.args.t 1 m start.trace c.loop.self.trace = was.done before in
-          let one = subst (λ (s : List Line). Advances s c.args.t 1 c.loop.self.trace c.step.new.self.trace) was.runs.script (c.step.ensures.some some quiet) in
-          (suc did.0, steps-more start.script c.args.t 1 did.0 start.trace c.loop.self.trace c.step.new.self.trace did.1 one);
+      done = (suc was.done.0, steps-more s c.args.t 1 was.done.0 start.trace c.loop.self.trace c.step.new.self.trace was.done.1 one);
+      turns = λ first turn. turn-more s first c.args.t c.loop.self.trace c.step.new.self.trace (was.turns first turn) one;
+      below = λ up below.
+          let mid = up_between c.args.log.now.is_up c.loop.log.is_up c.step.new.log.is_up was.stays.still c.step.ensures.stays.still up in
+          below-apart s c.args.t (past_of c.loop.self.trace) (past_of c.step.new.self.trace) (c.step.ensures.apart some (up ∙ sym mid)) (was.below mid below);
     }
+
+pub returns-in_err-step-clause-log : goal.returns-in_err-step-clause-log
+returns-in_err-step-clause-log g c = goes_then g.D.Disk.faults g.D.Disk.honest g.D.Disk.image c.args.log.now c.loop.log c.step.new.log c.loop.invariant.log c.step.ensures.log
 
 pub returns-then-not-branch-clause-settled : goal.returns-then-not-branch-clause-settled
 returns-then-not-branch-clause-settled g c =
@@ -44,12 +59,34 @@ returns-then-not-branch-clause-settled g c =
     subst (λ (r : RunState). pending (state_of t r.worlds).world ≡ []) (sym (c.step.ensures.unchanged done).0) (none-first (pending (state_of t c.loop.self.worlds).world) (c.step.ensures.none done))
 
 pub returns-then-not-branch-clause-done : goal.returns-then-not-branch-clause-done
-returns-then-not-branch-clause-done g c quiet =
+returns-then-not-branch-clause-done g c =
     let done : c.step.result ≡ Ok false = cc in
     let start = c.args.self.now in
-    let before : IsQuiet c.loop.self = c.in_ok-step.ensures.runs.back quiet in
-    let did : (m : ℕ) × StepsDone start.script c.args.t 1 m start.trace c.loop.self.trace = c.loop.invariant.done before in
+    let did = c.loop.invariant.done in
     let none : kth (pending (world_at start.script c.args.t (past_of c.loop.self.trace))) 1 ≡ None =
-    subst (λ (s : List Line). kth (pending (world_at s c.args.t (past_of c.loop.self.trace))) 1 ≡ None) c.loop.invariant.runs.script (c.step.ensures.none_here done before) in
+    subst (λ (s : List Line). kth (pending (world_at s c.args.t (past_of c.loop.self.trace))) 1 ≡ None) c.loop.invariant.script (c.step.ensures.none_here done) in
     subst (λ (r : RunState). Settles start.script c.args.t start.trace r.trace) (sym (c.step.ensures.unchanged done).0)
     (settles-here start.script c.args.t did.0 start.trace c.loop.self.trace did.1 (none-first (pending (world_at start.script c.args.t (past_of c.loop.self.trace))) none))
+
+pub returns-then-not-branch-clause-turns : goal.returns-then-not-branch-clause-turns
+returns-then-not-branch-clause-turns g c =
+    let done : c.step.result ≡ Ok false = cc in
+    let s = c.args.self.now.script in
+    let none : kth (pending (world_at s c.args.t (past_of c.loop.self.trace))) 1 ≡ None =
+    subst (λ (r : List Line). kth (pending (world_at r c.args.t (past_of c.loop.self.trace))) 1 ≡ None) c.loop.invariant.script (c.step.ensures.none_here done) in
+    let settled : Settled s (history c.args.t.value (past_of c.loop.self.trace)) = none-first (pending (world_at s c.args.t (past_of c.loop.self.trace))) none in
+    λ first turn.
+    subst (λ (r : RunState). IsRoundAt s first (c.args.t.value + 1) (past_of r.trace)) (sym (c.step.ensures.unchanged done).0)
+    (turn-next s first c.args.t (past_of c.loop.self.trace) (c.loop.invariant.turns first turn) settled)
+
+pub returns-then-not-branch-clause-below : goal.returns-then-not-branch-clause-below
+returns-then-not-branch-clause-below g c =
+    let done : c.step.result ≡ Ok false = cc in
+    let s = c.args.self.now.script in
+    let none : kth (pending (world_at s c.args.t (past_of c.loop.self.trace))) 1 ≡ None =
+    subst (λ (r : List Line). kth (pending (world_at r c.args.t (past_of c.loop.self.trace))) 1 ≡ None) c.loop.invariant.script (c.step.ensures.none_here done) in
+    let settled : Settled s (history c.args.t.value (past_of c.loop.self.trace)) = none-first (pending (world_at s c.args.t (past_of c.loop.self.trace))) none in
+    let same = c.step.ensures.unchanged done in
+    λ up below.
+    subst (λ (r : RunState). AreSettledBelow s (c.args.t.value + 1) (past_of r.trace)) (sym same.0)
+    (below-next s c.args.t (past_of c.loop.self.trace) (c.loop.invariant.below (sym (ap (λ l. l.is_up) same.1) ∙ up) below) settled)

@@ -1,16 +1,24 @@
-use Rattle.std.proofs.Common.{◌≡◌, ℕ}
+use Rattle.std.proofs.Common.{◌≡◌, ℕ, List}
+use Rattle.dtx_model.specs.Traces.{Placed}
+use Rattle.dtx_model.specs.Words.{past_of}
 use Rattle.world_laws.specs.Left.{steps_left}
-use Rattle.script_runner.specs.RunState.{HaveSameCalls, Holds, IsQuiet, LogGoes, Runs, StepsDone, state_of}
+use Rattle.coordinator_log.specs.State.{LogState}
+use Rattle.script_runner.specs.LogRun.{LogGoes, LogStays}
+use Rattle.script_runner.specs.RunState.{AreSettledBelow, HaveSameCalls, Holds, IsRoundAt, StepsDone, Tells, state_of}
 use Rattle.script_runner.proofs.replay.Run.settle.Given as goal
 
 abbrev pub invariant-loop : goal.invariant-loop
 invariant-loop g l = record {
   contexts : l.self.contexts ≡ l.initial.self.contexts;
+  script : l.self.script ≡ l.initial.self.script;
   log : LogGoes g.D.Disk.faults g.D.Disk.honest g.D.Disk.image l.initial.log l.log;
-  runs : Runs g.D.Disk.faults l.initial.log l.log l.initial.self l.self;
-  holds : Holds g.D.Disk.honest l.log l.self;
+  stays : LogStays g.D.Disk.faults l.initial.log l.log;
+  holds : Holds g.D.Disk.honest g.D.Disk.image l.log l.self;
+  tells : (start : LogState g.row.D.Denot) → Tells g.D.Disk.faults g.D.Disk.honest g.D.Disk.image start l.initial.log (past_of l.initial.self.trace) → Tells g.D.Disk.faults g.D.Disk.honest g.D.Disk.image start l.log (past_of l.self.trace);
   calls : HaveSameCalls l.initial.self.worlds l.self.worlds;
-  done : IsQuiet l.self → (m : ℕ) × StepsDone l.initial.self.script l.t 1 m l.initial.self.trace l.self.trace;
+  done : (m : ℕ) × StepsDone l.initial.self.script l.t 1 m l.initial.self.trace l.self.trace;
+  turns : (start : List Placed) → IsRoundAt l.initial.self.script start l.t.value (past_of l.initial.self.trace) → IsRoundAt l.initial.self.script start l.t.value (past_of l.self.trace);
+  below : l.log.is_up ≡ l.initial.log.is_up → AreSettledBelow l.initial.self.script l.t.value (past_of l.initial.self.trace) → AreSettledBelow l.initial.self.script l.t.value (past_of l.self.trace);
 }
 
 abbrev pub decreases-loop : goal.decreases-loop

@@ -4,20 +4,24 @@ use Rattle.dtx_values.specs.declared.entry.Entry.{Entry}
 use Rattle.dtx_values.specs.declared.entry.Entry.TheVariants.{Stopped}
 use Rattle.dtx_values.specs.declared.number.TxNo.{TxNo}
 use Rattle.dtx_values.specs.declared.trace.Place.TheVariants.{Log}
+use Rattle.dtx_model.specs.Caused.{is_begin_sent}
 use Rattle.dtx_model.specs.Grammar.{are_named_well}
-use Rattle.dtx_model.specs.Words.{kth, onto, past_of}
+use Rattle.dtx_model.specs.Words.{has, kth, onto, past_of}
 use Rattle.dtx_model.specs.Steps.{pending}
 use Rattle.dtx_model.specs.Traces.{Placed, placed}
+use Rattle.dtx_model.proofs.Bools.{not_both}
 use Rattle.coordinator_log.specs.Slots.{open_records}
 use Rattle.tx_world.specs.AtLog.{Fits}
 use Rattle.tx_world.specs.State.{TxState}
 use Rattle.tx_world.specs.declared.refusal.WorldError.{WorldError}
 use Rattle.tx_world.specs.Stepping.{DoesKth}
-use Rattle.script_runner.specs.RunState.{AreNumbered, HaveSameCalls, IsTied, RunState, state_of}
+use Rattle.script_runner.specs.LogRun.{LogGoes}
+use Rattle.script_runner.specs.RunState.{AreNumbered, HaveSameCalls, IsRecordKept, IsTied, RunState, halted, state_of}
 use Rattle.script_runner.proofs.Noting.{as_long, grown}
 use Rattle.script_runner.proofs.Numbered.{state_indexed}
-use Rattle.script_runner.proofs.Steps.{IsStep, IsStepAt, IsStepped, StepOf, calls_same, none_beyond, none_pending, run_with, step_done, step_log, step_past, step_stopped, was, worlds_after}
-use Rattle.script_runner.proofs.Turns.{never_both, own_at}
+use Rattle.script_runner.proofs.StepStops.{is_stopping_step, step_stopped, stopping_lives, stopping_ties}
+use Rattle.script_runner.proofs.Steps.{IsStep, IsStepAt, IsStepped, StepOf, calls_same, none_beyond, none_pending, run_with, step_done, step_log, step_past, was, worlds_after}
+use Rattle.script_runner.proofs.Turns.{own_at}
 use Rattle.script_runner.proofs.replay.Run.step.Given.{Over}
 use Rattle.script_runner.proofs.replay.Run.step.Goals.{After-is_own_run, After-is_own_run-2, else-was_up-via-then-was_up+else-not-is_up, else-was_up-via-else-was_up}
 use Rattle.script_runner.proofs.replay.Run.step.Goals as goal
@@ -64,12 +68,17 @@ done g c =
       does = subst (λ (j : ℕ). DoesKth g.D.Disk.faults j x c.args.log.now y c.step.new.log) c.from.ensures (c.in_ok-step.ensures.some did);
       nearer = c.in_ok-step.ensures.nearer did;
       kept = c.step.ensures.kept;
+      slots = c.step.ensures.slots;
       life = c.step.ensures.life;
       grows = c.step.ensures.grows;
       unarmed = c.step.ensures.unarmed;
       still = c.step.ensures.still;
-      ours = c.is_own_run-2.ensures.ours;
+      recorded = record { own = c.is_own_run-2.ensures.run; ours = c.is_own_run-2.ensures.ours; tried = c.is_own_run-2.ensures.tried };
     })
+
+-- what it left of the log
+log_goes : (g : Over) (c : After-is_own_run-2 g) → LogGoes g.D.Disk.faults g.D.Disk.honest g.D.Disk.image c.args.log.now c.step.new.log
+log_goes g c = step_log g.D.Disk.faults g.D.Disk.honest g.D.Disk.image (about g c) (done g c)
 
 -- the run after it, as its parts stand then
 parts : (g : Over) (c : After-is_own_run-2 g) (T : List Placed)
@@ -104,18 +113,18 @@ returns-then-len-index-clause-none g c = λ e.
     (none_beyond c.args.self.now c.args.t c.args.k (c.requires.holds.tied c.args.t) (subst (λ (r : RunState). length r.worlds < c.args.t.value) c.self.view_is more)).0
 
 pub returns-then-len-index-clause-none_here : goal.returns-then-len-index-clause-none_here
-returns-then-len-index-clause-none_here g c = λ e quiet.
+returns-then-len-index-clause-none_here g c = λ e.
     let more : length c.self.inside.worlds.items < c.args.t.value = omega (arith, c.index.ensures.place, c.if-len-index.true, c.len.ensures) in
     (none_beyond c.args.self.now c.args.t c.args.k (c.requires.holds.tied c.args.t) (subst (λ (r : RunState). length r.worlds < c.args.t.value) c.self.view_is more)).1
 
 pub step-requires : goal.step-requires
 step-requires g c = record {
   fits = λ h up.
-      subst (λ (z : TxState). Fits z (open_records c.args.log.now.slots)) (reached g (goal.at.step-requires g c).After-is_own_run) (c.requires.holds.fits h up c.args.t);
+      subst (λ (z : TxState). Fits z (open_records c.args.log.now.slots)) (reached g (goal.at.step-requires g c).After-is_own_run) ((c.requires.holds.fits h c.args.t).fits up);
 }
 
 pub returns-then-not-branch-clause-none_here : goal.returns-then-not-branch-clause-none_here
-returns-then-not-branch-clause-none_here g c = λ e quiet.
+returns-then-not-branch-clause-none_here g c = λ e.
     let at = reached g (goal.at.returns-then-not-branch-clause-none_here g c).After-is_own_run in
     let r = c.args.self.now in
     let x = c.index_mut-world.result.now in
@@ -134,13 +143,20 @@ returns-in_err-note-clause-calls g c = calls g (goal.at.returns-in_err-note-clau
 pub returns-in_err-note-2-clause-calls : goal.returns-in_err-note-2-clause-calls
 returns-in_err-note-2-clause-calls g c = calls g (goal.at.returns-in_err-note-2-clause-calls g c).After-is_own_run-2
 
-pub returns-in_err-stop_others-clause-calls : goal.returns-in_err-stop_others-clause-calls
-returns-in_err-stop_others-clause-calls g c = λ v. c.stop_others.ensures.calls v ∙ calls g (goal.at.returns-in_err-stop_others-clause-calls g c).After-is_own_run-2 v
+pub returns-in_err-stop_all-clause-calls : goal.returns-in_err-stop_all-clause-calls
+returns-in_err-stop_all-clause-calls g c = λ v. c.stop_all.ensures.calls v ∙ calls g (goal.at.returns-in_err-stop_all-clause-calls g c).After-is_own_run-2 v
+
+pub returns-in_err-reserve-clause-log : goal.returns-in_err-reserve-clause-log
+returns-in_err-reserve-clause-log g c = log_goes g (goal.at.returns-in_err-reserve-clause-log g c).After-is_own_run-2
+
+pub returns-in_err-note-clause-log : goal.returns-in_err-note-clause-log
+returns-in_err-note-clause-log g c = log_goes g (goal.at.returns-in_err-note-clause-log g c).After-is_own_run-2
 
 pub returns-in_err-note-2-clause-log : goal.returns-in_err-note-2-clause-log
-returns-in_err-note-2-clause-log g c =
-    let b = (goal.at.returns-in_err-note-2-clause-log g c).After-is_own_run-2 in
-    step_log g.D.Disk.faults g.D.Disk.honest g.D.Disk.image (about g b) (done g b)
+returns-in_err-note-2-clause-log g c = log_goes g (goal.at.returns-in_err-note-2-clause-log g c).After-is_own_run-2
+
+pub returns-in_err-stop_all-clause-log : goal.returns-in_err-stop_all-clause-log
+returns-in_err-stop_all-clause-log g c = log_goes g (goal.at.returns-in_err-stop_all-clause-log g c).After-is_own_run-2
 
 pub note-requires : goal.note-requires
 note-requires g c = longer g (goal.at.note-requires g c).After-is_own_run-2
@@ -148,11 +164,32 @@ note-requires g c = longer g (goal.at.note-requires g c).After-is_own_run-2
 pub note-requires-2 : goal.note-requires-2
 note-requires-2 g c = longer g (goal.at.note-requires-2 g c).After-is_own_run-2
 
+pub stop_all-requires : goal.stop_all-requires
+stop_all-requires g c =
+    let b = (goal.at.stop_all-requires g c).After-is_own_run-2 in
+    let a = about g b in
+    let mid : List Placed = c.note.new.trace.items in
+    let up : IsTrue a.from.is_up = sym c.is_up-was_up.ensures.up ∙ c.if-was_up.true in
+    let down : IsFalse a.to.is_up = sym c.is_up.ensures.up ∙ c.if-not-is_up.true in
+    let noted : (es : List Entry) → a.y.world.past ≡ onto (was a).world.past es → mid ≡ (a.run.trace ++ (Log, Stopped) ∷ []) ++ placed a.t es =
+    λ es wrote.
+    c.in_ok-note.ensures (was a).world.past es (long g b) wrote
+    ∙ ap (λ (T : List Placed). T ++ placed a.t es)
+    (c.push_reserved.ensures.items ∙ ap (λ (T : List Placed). T ++ (Log, Stopped) ∷ []) (c.reserve.ensures.items ∙ ap (λ (r : RunState). r.trace) c.self.view_is)) in
+    let stops = is_stopping_step g.D.Disk.faults g.D.Disk.honest g.D.Disk.image a mid (done g b) up down noted in
+    let now = sym (parts g b mid) in
+    record {
+      tied = subst (λ (r : RunState). (u : TxNo) → IsTied r.script u (past_of r.trace) (state_of u r.worlds)) now (stopping_ties g.D.Disk.faults g.D.Disk.honest g.D.Disk.image a mid (done g b) stops);
+      lives = λ u begun.
+          subst (λ (r : RunState). has is_begin_sent (state_of u r.worlds).world.past ≡ true → (state_of u r.worlds).life ≡ c.step.new.log.life) now
+          (stopping_lives g.D.Disk.faults g.D.Disk.honest g.D.Disk.image a mid (done g b) stops u) begun ∙ sym c.life.ensures;
+    }
+
 pub returns-then-not-is_up : goal.returns-then-not-is_up
 returns-then-not-is_up g c =
     let b = (goal.at.returns-then-not-is_up g c).After-is_own_run-2 in
     let a = about g b in
-    let q = c.stop_others.new.self in
+    let q = c.stop_all.new.self in
     let mid : List Placed = c.note.new.trace.items in
     let now = parts g b mid in
     let up : IsTrue a.from.is_up = sym c.is_up-was_up.ensures.up ∙ c.if-was_up.true in
@@ -162,21 +199,26 @@ returns-then-not-is_up g c =
     c.in_ok-note.ensures (was a).world.past es (long g b) wrote
     ∙ ap (λ (T : List Placed). T ++ placed a.t es)
     (c.push_reserved.ensures.items ∙ ap (λ (T : List Placed). T ++ (Log, Stopped) ∷ []) (c.reserve.ensures.items ∙ ap (λ (r : RunState). r.trace) c.self.view_is)) in
-    let d : IsStepped g.D.Disk.faults g.D.Disk.honest a q =
-    step_stopped g.D.Disk.faults g.D.Disk.honest g.D.Disk.image a mid q (done g b) up down noted (c.stop_others.ensures.script ∙ ap (λ (r : RunState). r.script) c.self.view_is)
-    (subst (λ (r : RunState). HaveSameCalls r.worlds q.worlds) now c.stop_others.ensures.calls)
-    (subst (λ (r : RunState). state_of a.t q.worlds ≡ state_of a.t r.worlds) now c.stop_others.ensures.here)
-    (subst (λ (r : RunState). ((u : TxNo) → IsTied r.script u (past_of r.trace) (state_of u r.worlds)) → (u : TxNo) → IsTied r.script u (past_of q.trace) (state_of u q.worlds)) now
-    c.in_ok-stop_others.ensures.tied)
-    c.in_ok-stop_others.ensures.loud in
+    let stops = is_stopping_step g.D.Disk.faults g.D.Disk.honest g.D.Disk.image a mid (done g b) up down noted in
+    let d : IsStepped g.D.Disk.faults g.D.Disk.honest g.D.Disk.image a q =
+    step_stopped g.D.Disk.faults g.D.Disk.honest g.D.Disk.image a mid q (done g b) stops up down (c.stop_all.ensures.script ∙ ap (λ (r : RunState). r.script) c.self.view_is)
+    (subst (λ (r : RunState). HaveSameCalls r.worlds q.worlds) now c.stop_all.ensures.calls)
+    (λ u.
+    subst (λ (r : RunState). state_of u q.worlds ≡ halted c.life.result (state_of u r.worlds)) now (c.in_ok-stop_all.ensures.worlds u)
+    ∙ ap (λ l. halted l (state_of u (worlds_after a))) c.life.ensures)
+    c.in_ok-stop_all.ensures.trace
+    (subst (λ (r : RunState). ((u : TxNo) → IsRecordKept (state_of u r.worlds)) → (u : TxNo) → IsRecordKept (state_of u q.worlds)) now c.in_ok-stop_all.ensures.kept) in
     record {
-      contexts = c.stop_others.ensures.contexts ∙ ap (λ (r : RunState). r.contexts) c.self.view_is;
-      log = step_log g.D.Disk.faults g.D.Disk.honest g.D.Disk.image a (done g b);
-      runs = d.runs;
+      contexts = c.stop_all.ensures.contexts ∙ ap (λ (r : RunState). r.contexts) c.self.view_is;
+      log = d.log;
+      stays = d.stays;
+      script = c.stop_all.ensures.script ∙ ap (λ (r : RunState). r.script) c.self.view_is;
       holds = d.holds;
+      tells = d.tells;
       calls = d.calls;
       stepped = λ e. d.stepped;
       some = λ e. d.some;
+      apart = λ e. d.apart;
       nearer = λ e. d.nearer;
       none = λ e. absurd (never_false e);
       none_here = λ e. absurd (never_false e);
@@ -190,21 +232,24 @@ returns g c =
     let new : List Placed = c.note-2.new.trace.items in
     let stays : IsTrue a.from.is_up → IsTrue a.to.is_up = λ up. elim c.else-was_up.branch [
       | else-was_up-via-then-was_up+else-not-is_up w ↦ sym w.is_up.ensures.up ∙ w.if-not-is_up.false
-      | else-was_up-via-else-was_up w ↦ absurd (never_both a.from.is_up up (sym c.is_up-was_up.ensures.up ∙ w.if-was_up.false))
+      | else-was_up-via-else-was_up w ↦ absurd (not_both a.from.is_up up (sym c.is_up-was_up.ensures.up ∙ w.if-was_up.false))
     ] in
     let noted : (es : List Entry) → a.y.world.past ≡ onto (was a).world.past es → new ≡ a.run.trace ++ placed a.t es =
     λ es wrote. c.in_ok-note-2.ensures (was a).world.past es (long g b) wrote ∙ ap (λ (r : RunState). r.trace ++ placed a.t es) c.self.view_is in
     let d =
-    subst (λ (q : RunState). IsStepped g.D.Disk.faults g.D.Disk.honest a q) (sym (parts g b new))
+    subst (λ (q : RunState). IsStepped g.D.Disk.faults g.D.Disk.honest g.D.Disk.image a q) (sym (parts g b new))
     (step_done g.D.Disk.faults g.D.Disk.honest g.D.Disk.image a new (done g b) stays noted) in
     record {
       contexts = ap (λ (r : RunState). r.contexts) c.self.view_is;
-      log = step_log g.D.Disk.faults g.D.Disk.honest g.D.Disk.image a (done g b);
-      runs = d.runs;
+      log = d.log;
+      stays = d.stays;
+      script = ap (λ (r : RunState). r.script) c.self.view_is;
       holds = d.holds;
+      tells = d.tells;
       calls = d.calls;
       stepped = λ e. d.stepped;
       some = λ e. d.some;
+      apart = λ e. d.apart;
       nearer = λ e. d.nearer;
       none = λ e. absurd (never_false e);
       none_here = λ e. absurd (never_false e);

@@ -1,15 +1,20 @@
 use Rattle.std.proofs.Common.{◌≡◌}
 use Rattle.dtx_model.specs.Caused.{HasStepped}
-use Rattle.script_runner.specs.RunState.{HaveSameCalls, Holds, IsQuiet, LogGoes, Runs, StepsDone, state_of}
+use Rattle.dtx_model.specs.Words.{past_of}
+use Rattle.coordinator_log.specs.State.{LogState}
+use Rattle.script_runner.specs.LogRun.{LogGoes, LogStays}
+use Rattle.script_runner.specs.RunState.{HaveSameCalls, Holds, StepsDone, Tells, state_of}
 use Rattle.script_runner.proofs.replay.Run.steps.Given as goal
 
 abbrev pub invariant-loop-m : goal.invariant-loop-m
 invariant-loop-m g l = record {
   contexts : l.self.contexts ≡ l.initial.self.contexts;
+  script : l.self.script ≡ l.initial.self.script;
   log : LogGoes g.D.Disk.faults g.D.Disk.honest g.D.Disk.image l.initial.log l.log;
-  runs : Runs g.D.Disk.faults l.initial.log l.log l.initial.self l.self;
-  holds : Holds g.D.Disk.honest l.log l.self;
+  stays : LogStays g.D.Disk.faults l.initial.log l.log;
+  holds : Holds g.D.Disk.honest g.D.Disk.image l.log l.self;
+  tells : (start : LogState g.row.D.Denot) → Tells g.D.Disk.faults g.D.Disk.honest g.D.Disk.image start l.initial.log (past_of l.initial.self.trace) → Tells g.D.Disk.faults g.D.Disk.honest g.D.Disk.image start l.log (past_of l.self.trace);
   calls : HaveSameCalls l.initial.self.worlds l.self.worlds;
   did : HasStepped l.t.value l.k l.m (state_of l.t l.initial.self.worlds).world (state_of l.t l.self.worlds).world;
-  done : IsQuiet l.self → StepsDone l.initial.self.script l.t l.k l.m l.initial.self.trace l.self.trace;
+  done : StepsDone l.initial.self.script l.t l.k l.m l.initial.self.trace l.self.trace;
 }
