@@ -79,7 +79,7 @@ first_is t r rs e none v = elim (eqb_tells t.value v.value) [
       let here : (r.id == identifier_of v.value) ≡ true = (Decides-eqb r.id (identifier_of v.value)).1 (omega (arith, e, k.1)) in
       inl (rw here refl, subst (λ n. is_some (first_of (identifier_of n) rs) ≡ false) k.1 none, k.0)
   | inr k ↦
-      let there : (r.id == identifier_of v.value) ≡ false = elim (eqb_tells r.id (identifier_of v.value)) [ | inl f ↦ absurd (k.1 (omega (arith, e, f.1))) | inr f ↦ f.0 ] in
+      let there : (r.id == identifier_of v.value) ≡ false = elim (eqb_tells r.id (identifier_of v.value)) [ inl f ↦ absurd (k.1 (omega (arith, e, f.1))) | inr f ↦ f.0 ] in
       inr (rw there refl, k.0)
 ]
 

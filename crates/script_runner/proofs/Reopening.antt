@@ -177,7 +177,7 @@ had_reopened {D} log x kept lives stopped = by (is_reached_by log.life x) refl
     unknown : is_reached_by log.life x ≡ false → has is_begin_sent x.world.past ≡ false
     unknown e = elim (cases_Bool (has is_begin_sent x.world.past)) [
       | inl k ↦
-          let later : nat_le log.life x.life ≡ false = elim (leb_tells log.life x.life) [ | inl l ↦ let high = l.1 in let low = lives k in absurd (omega (arith, high, low)) | inr l ↦ l.0 ] in
+          let later : nat_le log.life x.life ≡ false = elim (leb_tells log.life x.life) [ inl l ↦ let high = l.1 in let low = lives k in absurd (omega (arith, high, low)) | inr l ↦ l.0 ] in
           let c : true ≡ false = sym (ap (λ b. b && not (nat_le log.life x.life)) k ∙ ap not later) ∙ e in absurd cc
       | inr k ↦ k
     ]

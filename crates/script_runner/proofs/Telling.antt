@@ -168,7 +168,7 @@ counted_stopped b m n old new T t uncalled le cause used unarmed k = record {
       stop_by (Transaction t, Stopped) (Log, Stopped) T refl (or_right (is_called (at_log T)) (is_met T calls) reached) (k.stops flat (omega arith));
   armed = λ same less.
       let calm : Rose m n → ⊥ = λ rose. omega (arith, k.grows) in
-      let none : new ≡ None = elim used [ | inl rose ↦ absurd (calm rose) | inr e ↦ e ] in
+      let none : new ≡ None = elim used [ inl rose ↦ absurd (calm rose) | inr e ↦ e ] in
       rw uncalled (sym (ap (λ o. counted_at (made ((Transaction t, Stopped) ∷ (Log, Stopped) ∷ T)) o) none));
 }
 

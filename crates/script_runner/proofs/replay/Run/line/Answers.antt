@@ -57,8 +57,8 @@ pub returns-in-Restart-clause-scopes : goal.returns-in-Restart-clause-scopes
 returns-in-Restart-clause-scopes g c =
     on_ok_weaker c.restart.result
     (λ held before ties.
-        subst (λ (cs : List Standing). AreOpen cs (c.args.l.now ∷ before)) (sym c.restart.ensures.contexts)
-        (open_same c.args.self.now.contexts before c.args.l.now (λ xs. log_no_scope c.args.l.now.body xs (ap is_log_line c.in-Restart.is)) ties))
+    subst (λ (cs : List Standing). AreOpen cs (c.args.l.now ∷ before)) (sym c.restart.ensures.contexts)
+    (open_same c.args.self.now.contexts before c.args.l.now (λ xs. log_no_scope c.args.l.now.body xs (ap is_log_line c.in-Restart.is)) ties))
     c.restart.ensures.holds
 
 pub returns-in-Some-clause-life : goal.returns-in-Some-clause-life
@@ -95,5 +95,5 @@ returns-in-None-clause-done g c =
     let none : call_of s l.body ≡ None = ap (λ (r : RunState). call_of r.script l.body) (sym c.self.view_is) ∙ sym c.call_of.ensures ∙ c.in-None.is in
     on_ok_weaker c.scope.result
     (λ did before number is ties.
-        scope_line s l before c.args.n c.args.self.now.contexts (past_of c.args.self.now.trace) (past_of c.scope.new.self.trace) (other_off l.body c.in_default.not-Stop c.in_default.not-Restart) none number ties did)
+    scope_line s l before c.args.n c.args.self.now.contexts (past_of c.args.self.now.trace) (past_of c.scope.new.self.trace) (other_off l.body c.in_default.not-Stop c.in_default.not-Restart) none number ties did)
     c.scope.ensures.done

@@ -114,3 +114,16 @@ loop-l-preserved g c =
           lines_more s c.loop-l.self.script lines i c.loop-l.n l (past_of c.loop-l.self.trace) (past_of c.line.new.self.trace) c.loop-l-test.true c.l-item.is was.count was.script
           (λ count. did.done (past_of (take i lines)) count before was.open_at) was.ran;
     }
+
+pub returns-in_err-line-clause-log : goal.returns-in_err-line-clause-log
+returns-in_err-line-clause-log g c =
+    goes_then g.D.Disk.faults g.D.Disk.honest g.D.Disk.image c.args.log.now c.loop-l.log c.line.new.log c.loop-l.invariant.log c.line.ensures.log
+
+pub returns-in_err-line-clause-stays : goal.returns-in_err-line-clause-stays
+returns-in_err-line-clause-stays g c = λ off.
+    let i = c.loop-l.l-index in
+    let l = c.l-item.result in
+    let stands = at g (goal.at.returns-in_err-line-clause-stays g c).After-lines-lines i l c.loop-l-test.true c.l-item.is in
+    let was = c.loop-l.invariant in
+    stays_then g.D.Disk.faults c.args.log.now c.loop-l.log c.line.new.log was.log.grows c.line.ensures.log.grows (was.stays off)
+    (c.line.ensures.stays (none_there (λ (m : Line). is_log_line m.body) c.args.self.now.script i l off stands))

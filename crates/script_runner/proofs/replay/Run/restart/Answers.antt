@@ -43,30 +43,30 @@ stop_all-requires-clause-tied g c = λ t.
 -- Where the log wasn't opened, it is down.
 unopened : (g : Over) (c : In_default g) → IsHalted g.D.Disk.honest g.D.Disk.image c.args.log.now c.args.n c.args.actor c.restart_answer.result c.args.self.now c.if-was_up.self
 unopened g c =
-  elim c.if-was_up.branch [
-    | then-was_up+in_ok-stop_all w ↦
-        subst (λ (q : RunState). IsHalted g.D.Disk.honest g.D.Disk.image c.args.log.now c.args.n c.args.actor c.restart_answer.result c.args.self.now q) (sym w.self-is)
-        (halted_up g.D.Disk.honest g.D.Disk.image c.args.log.now c.args.n c.args.actor c.restart_answer.result c.args.self.now w.stop_all.new.self (sym c.is_up-was_up.ensures.up ∙ w.if-was_up.true)
-        (w.stop_all.ensures.script ∙ ap (λ (r : RunState). r.script) c.self.view_is) (w.stop_all.ensures.contexts ∙ ap (λ (r : RunState). r.contexts) c.self.view_is)
-        (λ t. w.stop_all.ensures.calls t ∙ ap (λ (r : RunState). (state_of t r.worlds).world.calls) c.self.view_is)
-        (λ t.
-            w.in_ok-stop_all.ensures.worlds t
-            ∙ (ap (λ (l : ℕ). halted l (state_of t c.self.inside.worlds.items)) c.life-life.ensures ∙ ap (λ (r : RunState). halted c.args.log.now.life (state_of t r.worlds)) c.self.view_is))
-        (w.in_ok-stop_all.ensures.trace
-        ∙ ap (λ (T : List Placed). put_at (λ u. Stopped) (hit T) T)
-        (two_written c.args.self.now.trace c.reserve.new.self.items c.push_reserved.new.self.items w.push_reserved-then-was_up.new.self.items (Called c.args.n c.args.actor c.restart_answer.result) Stopped
-        (c.in_ok-reserve.ensures.items ∙ ap (λ (r : RunState). r.trace) c.self.view_is) c.push_reserved.ensures.items w.push_reserved-then-was_up.ensures.items))
-        (w.in_ok-stop_all.ensures.kept (λ t. subst (λ (r : RunState). IsRecordKept (state_of t r.worlds)) (sym c.self.view_is) (c.requires.holds.kept t)))
-        (λ t. ap (λ (r : RunState). (state_of t r.worlds).transaction) (sym c.self.view_is) ∙ c.self.invariant.0.numbered t) c.requires.holds)
-    | else-was_up w ↦
-        halted_down g.D.Disk.honest g.D.Disk.image c.args.log.now c.args.n c.args.actor c.restart_answer.result c.args.self.now c.if-was_up.self (sym c.is_up-was_up.ensures.up ∙ w.if-was_up.false)
-        (ap (λ (r : RunState). r.script) w.self-is ∙ ap (λ (r : RunState). r.script) c.self.view_is) (ap (λ (r : RunState). r.contexts) w.self-is ∙ ap (λ (r : RunState). r.contexts) c.self.view_is)
-        (ap (λ (r : RunState). r.worlds) w.self-is ∙ ap (λ (r : RunState). r.worlds) c.self.view_is)
-        (ap (λ (r : RunState). past_of r.trace) w.self-is
-        ∙ one_written c.args.self.now.trace c.reserve.new.self.items c.push_reserved.new.self.items (Called c.args.n c.args.actor c.restart_answer.result)
-        (c.in_ok-reserve.ensures.items ∙ ap (λ (r : RunState). r.trace) c.self.view_is) c.push_reserved.ensures.items)
-        (λ t. ap (λ (r : RunState). (state_of t r.worlds).transaction) (sym c.self.view_is) ∙ c.self.invariant.0.numbered t) c.requires.holds
-  ]
+    elim c.if-was_up.branch [
+      | then-was_up+in_ok-stop_all w ↦
+          subst (λ (q : RunState). IsHalted g.D.Disk.honest g.D.Disk.image c.args.log.now c.args.n c.args.actor c.restart_answer.result c.args.self.now q) (sym w.self-is)
+          (halted_up g.D.Disk.honest g.D.Disk.image c.args.log.now c.args.n c.args.actor c.restart_answer.result c.args.self.now w.stop_all.new.self (sym c.is_up-was_up.ensures.up ∙ w.if-was_up.true)
+          (w.stop_all.ensures.script ∙ ap (λ (r : RunState). r.script) c.self.view_is) (w.stop_all.ensures.contexts ∙ ap (λ (r : RunState). r.contexts) c.self.view_is)
+          (λ t. w.stop_all.ensures.calls t ∙ ap (λ (r : RunState). (state_of t r.worlds).world.calls) c.self.view_is)
+          (λ t.
+          w.in_ok-stop_all.ensures.worlds t
+          ∙ (ap (λ (l : ℕ). halted l (state_of t c.self.inside.worlds.items)) c.life-life.ensures ∙ ap (λ (r : RunState). halted c.args.log.now.life (state_of t r.worlds)) c.self.view_is))
+          (w.in_ok-stop_all.ensures.trace
+          ∙ ap (λ (T : List Placed). put_at (λ u. Stopped) (hit T) T)
+          (two_written c.args.self.now.trace c.reserve.new.self.items c.push_reserved.new.self.items w.push_reserved-then-was_up.new.self.items (Called c.args.n c.args.actor c.restart_answer.result) Stopped
+          (c.in_ok-reserve.ensures.items ∙ ap (λ (r : RunState). r.trace) c.self.view_is) c.push_reserved.ensures.items w.push_reserved-then-was_up.ensures.items))
+          (w.in_ok-stop_all.ensures.kept (λ t. subst (λ (r : RunState). IsRecordKept (state_of t r.worlds)) (sym c.self.view_is) (c.requires.holds.kept t)))
+          (λ t. ap (λ (r : RunState). (state_of t r.worlds).transaction) (sym c.self.view_is) ∙ c.self.invariant.0.numbered t) c.requires.holds)
+      | else-was_up w ↦
+          halted_down g.D.Disk.honest g.D.Disk.image c.args.log.now c.args.n c.args.actor c.restart_answer.result c.args.self.now c.if-was_up.self (sym c.is_up-was_up.ensures.up ∙ w.if-was_up.false)
+          (ap (λ (r : RunState). r.script) w.self-is ∙ ap (λ (r : RunState). r.script) c.self.view_is) (ap (λ (r : RunState). r.contexts) w.self-is ∙ ap (λ (r : RunState). r.contexts) c.self.view_is)
+          (ap (λ (r : RunState). r.worlds) w.self-is ∙ ap (λ (r : RunState). r.worlds) c.self.view_is)
+          (ap (λ (r : RunState). past_of r.trace) w.self-is
+          ∙ one_written c.args.self.now.trace c.reserve.new.self.items c.push_reserved.new.self.items (Called c.args.n c.args.actor c.restart_answer.result)
+          (c.in_ok-reserve.ensures.items ∙ ap (λ (r : RunState). r.trace) c.self.view_is) c.push_reserved.ensures.items)
+          (λ t. ap (λ (r : RunState). (state_of t r.worlds).transaction) (sym c.self.view_is) ∙ c.self.invariant.0.numbered t) c.requires.holds
+    ]
 
 same_disk : (g : Over) (c : In_default g) → c.halt.new.self.disk ≡ c.args.log.now.disk
 same_disk g c = ap (λ (l : LogState g.row.D.Denot). l.disk) c.halt.ensures
@@ -119,30 +119,30 @@ returns-in_default-clause-done g c = (unopened_by c.in_default.field-0, ended g 
 -- Where it was, the transactions are told what was found.
 opened : (g : Over) (c : After-restart_all-arg-1 g) → IsHalted g.D.Disk.honest g.D.Disk.image c.args.log.now c.args.n c.args.actor c.restart_answer.result c.args.self.now c.if-was_up.self
 opened g c =
-  elim c.if-was_up.branch [
-    | then-was_up+in_ok-stop_all w ↦
-        subst (λ (q : RunState). IsHalted g.D.Disk.honest g.D.Disk.image c.args.log.now c.args.n c.args.actor c.restart_answer.result c.args.self.now q) (sym w.self-is)
-        (halted_up g.D.Disk.honest g.D.Disk.image c.args.log.now c.args.n c.args.actor c.restart_answer.result c.args.self.now w.stop_all.new.self (sym c.is_up-was_up.ensures.up ∙ w.if-was_up.true)
-        (w.stop_all.ensures.script ∙ ap (λ (r : RunState). r.script) c.self.view_is) (w.stop_all.ensures.contexts ∙ ap (λ (r : RunState). r.contexts) c.self.view_is)
-        (λ t. w.stop_all.ensures.calls t ∙ ap (λ (r : RunState). (state_of t r.worlds).world.calls) c.self.view_is)
-        (λ t.
-            w.in_ok-stop_all.ensures.worlds t
-            ∙ (ap (λ (l : ℕ). halted l (state_of t c.self.inside.worlds.items)) c.life-life.ensures ∙ ap (λ (r : RunState). halted c.args.log.now.life (state_of t r.worlds)) c.self.view_is))
-        (w.in_ok-stop_all.ensures.trace
-        ∙ ap (λ (T : List Placed). put_at (λ u. Stopped) (hit T) T)
-        (two_written c.args.self.now.trace c.reserve.new.self.items c.push_reserved.new.self.items w.push_reserved-then-was_up.new.self.items (Called c.args.n c.args.actor c.restart_answer.result) Stopped
-        (c.in_ok-reserve.ensures.items ∙ ap (λ (r : RunState). r.trace) c.self.view_is) c.push_reserved.ensures.items w.push_reserved-then-was_up.ensures.items))
-        (w.in_ok-stop_all.ensures.kept (λ t. subst (λ (r : RunState). IsRecordKept (state_of t r.worlds)) (sym c.self.view_is) (c.requires.holds.kept t)))
-        (λ t. ap (λ (r : RunState). (state_of t r.worlds).transaction) (sym c.self.view_is) ∙ c.self.invariant.0.numbered t) c.requires.holds)
-    | else-was_up w ↦
-        halted_down g.D.Disk.honest g.D.Disk.image c.args.log.now c.args.n c.args.actor c.restart_answer.result c.args.self.now c.if-was_up.self (sym c.is_up-was_up.ensures.up ∙ w.if-was_up.false)
-        (ap (λ (r : RunState). r.script) w.self-is ∙ ap (λ (r : RunState). r.script) c.self.view_is) (ap (λ (r : RunState). r.contexts) w.self-is ∙ ap (λ (r : RunState). r.contexts) c.self.view_is)
-        (ap (λ (r : RunState). r.worlds) w.self-is ∙ ap (λ (r : RunState). r.worlds) c.self.view_is)
-        (ap (λ (r : RunState). past_of r.trace) w.self-is
-        ∙ one_written c.args.self.now.trace c.reserve.new.self.items c.push_reserved.new.self.items (Called c.args.n c.args.actor c.restart_answer.result)
-        (c.in_ok-reserve.ensures.items ∙ ap (λ (r : RunState). r.trace) c.self.view_is) c.push_reserved.ensures.items)
-        (λ t. ap (λ (r : RunState). (state_of t r.worlds).transaction) (sym c.self.view_is) ∙ c.self.invariant.0.numbered t) c.requires.holds
-  ]
+    elim c.if-was_up.branch [
+      | then-was_up+in_ok-stop_all w ↦
+          subst (λ (q : RunState). IsHalted g.D.Disk.honest g.D.Disk.image c.args.log.now c.args.n c.args.actor c.restart_answer.result c.args.self.now q) (sym w.self-is)
+          (halted_up g.D.Disk.honest g.D.Disk.image c.args.log.now c.args.n c.args.actor c.restart_answer.result c.args.self.now w.stop_all.new.self (sym c.is_up-was_up.ensures.up ∙ w.if-was_up.true)
+          (w.stop_all.ensures.script ∙ ap (λ (r : RunState). r.script) c.self.view_is) (w.stop_all.ensures.contexts ∙ ap (λ (r : RunState). r.contexts) c.self.view_is)
+          (λ t. w.stop_all.ensures.calls t ∙ ap (λ (r : RunState). (state_of t r.worlds).world.calls) c.self.view_is)
+          (λ t.
+          w.in_ok-stop_all.ensures.worlds t
+          ∙ (ap (λ (l : ℕ). halted l (state_of t c.self.inside.worlds.items)) c.life-life.ensures ∙ ap (λ (r : RunState). halted c.args.log.now.life (state_of t r.worlds)) c.self.view_is))
+          (w.in_ok-stop_all.ensures.trace
+          ∙ ap (λ (T : List Placed). put_at (λ u. Stopped) (hit T) T)
+          (two_written c.args.self.now.trace c.reserve.new.self.items c.push_reserved.new.self.items w.push_reserved-then-was_up.new.self.items (Called c.args.n c.args.actor c.restart_answer.result) Stopped
+          (c.in_ok-reserve.ensures.items ∙ ap (λ (r : RunState). r.trace) c.self.view_is) c.push_reserved.ensures.items w.push_reserved-then-was_up.ensures.items))
+          (w.in_ok-stop_all.ensures.kept (λ t. subst (λ (r : RunState). IsRecordKept (state_of t r.worlds)) (sym c.self.view_is) (c.requires.holds.kept t)))
+          (λ t. ap (λ (r : RunState). (state_of t r.worlds).transaction) (sym c.self.view_is) ∙ c.self.invariant.0.numbered t) c.requires.holds)
+      | else-was_up w ↦
+          halted_down g.D.Disk.honest g.D.Disk.image c.args.log.now c.args.n c.args.actor c.restart_answer.result c.args.self.now c.if-was_up.self (sym c.is_up-was_up.ensures.up ∙ w.if-was_up.false)
+          (ap (λ (r : RunState). r.script) w.self-is ∙ ap (λ (r : RunState). r.script) c.self.view_is) (ap (λ (r : RunState). r.contexts) w.self-is ∙ ap (λ (r : RunState). r.contexts) c.self.view_is)
+          (ap (λ (r : RunState). r.worlds) w.self-is ∙ ap (λ (r : RunState). r.worlds) c.self.view_is)
+          (ap (λ (r : RunState). past_of r.trace) w.self-is
+          ∙ one_written c.args.self.now.trace c.reserve.new.self.items c.push_reserved.new.self.items (Called c.args.n c.args.actor c.restart_answer.result)
+          (c.in_ok-reserve.ensures.items ∙ ap (λ (r : RunState). r.trace) c.self.view_is) c.push_reserved.ensures.items)
+          (λ t. ap (λ (r : RunState). (state_of t r.worlds).transaction) (sym c.self.view_is) ∙ c.self.invariant.0.numbered t) c.requires.holds
+    ]
 
 halted_down_there : (g : Over) (c : After-restart_all-arg-1 g) → c.halt.new.self.is_up ≡ false
 halted_down_there g c = ap (λ (l : LogState g.row.D.Denot). l.is_up) c.halt.ensures
@@ -211,12 +211,12 @@ returns-clause-holds g c =
     let found = λ (t : TxNo). Restarted (is_some (record_in to.slots t.value)) in
     on_ok_weaker c.restart_all.result
     (λ done.
-        holds_opened g.D.Disk.honest g.D.Disk.image g.D.Disk.seen c.halt.new.self to q c.restart_all.new.self c.in-Ok.records (halted_down_there g b) (is_there g b) (life_there g b) (among g b)
-        (λ is. IfOk-at_ok _ c.in-Ok.is (c.reopen-reopened.ensures.records is)) c.reopen-reopened.ensures.within (λ is. IfOk-at_ok _ c.in-Ok.is (c.reopen-reopened.ensures.images is)) (opened g b).numbered
-        (c.restart_all.ensures.script ∙ ap (λ (r : RunState). r.script) c.self-2.view_is) (λ t. done.0.0 t ∙ ap (λ (r : RunState). reopened to (state_of t r.worlds)) c.self-2.view_is)
-        (done.0.1 ∙ ap (λ (T : List Placed). put_at found (known T) T) (pushed g b))
-        (done.1.0 (λ t. subst (λ (r : RunState). IsRecordKept (state_of t r.worlds)) (sym c.self-2.view_is) ((held g b).kept t)))
-        (λ is. done.1.1 is (λ t. subst (λ (r : RunState). tied (state_of t r.worlds).world.past ≡ true) (sym c.self-2.view_is) ((held g b).sound is t))) (held g b))
+    holds_opened g.D.Disk.honest g.D.Disk.image g.D.Disk.seen c.halt.new.self to q c.restart_all.new.self c.in-Ok.records (halted_down_there g b) (is_there g b) (life_there g b) (among g b)
+    (λ is. IfOk-at_ok _ c.in-Ok.is (c.reopen-reopened.ensures.records is)) c.reopen-reopened.ensures.within (λ is. IfOk-at_ok _ c.in-Ok.is (c.reopen-reopened.ensures.images is)) (opened g b).numbered
+    (c.restart_all.ensures.script ∙ ap (λ (r : RunState). r.script) c.self-2.view_is) (λ t. done.0.0 t ∙ ap (λ (r : RunState). reopened to (state_of t r.worlds)) c.self-2.view_is)
+    (done.0.1 ∙ ap (λ (T : List Placed). put_at found (known T) T) (pushed g b))
+    (done.1.0 (λ t. subst (λ (r : RunState). IsRecordKept (state_of t r.worlds)) (sym c.self-2.view_is) ((held g b).kept t)))
+    (λ is. done.1.1 is (λ t. subst (λ (r : RunState). tied (state_of t r.worlds).world.past ≡ true) (sym c.self-2.view_is) ((held g b).sound is t))) (held g b))
     (both_ok _ _ c.restart_all.result (both_ok _ _ c.restart_all.result c.restart_all.ensures.worlds c.restart_all.ensures.trace) (both_ok _ _ c.restart_all.result c.restart_all.ensures.kept c.restart_all.ensures.sound))
 
 fine : (g : Over) (c : After-restart_all-arg-1 g) → c.restart_answer.result ≡ Fine
@@ -235,14 +235,14 @@ returns-clause-tells g c =
     let armed : to.armed ≡ from.armed = c.reopen-reopened.ensures.armed ∙ ap (λ (l : LogState g.row.D.Denot). l.armed) c.halt.ensures in
     on_ok_weaker c.restart_all.result
     (λ put start told.
-        subst (λ (U : List Placed). Tells g.D.Disk.faults g.D.Disk.honest g.D.Disk.image start to U)
-        (sym (opened_trace n a m found c.restart_answer.result T (past_of c.if-was_up.self.trace) (past_of c.push_reserved-2.new.self.items) (past_of c.restart_all.new.self.trace) put (pushed g b) (opened g b).trace (fine g b)))
-        (tells_restart g.D.Disk.faults g.D.Disk.honest g.D.Disk.image start from to T n a (Opens found m) (went g b) armed
-        (λ is empty.
-            opened_just g.D.Disk.faults g.D.Disk.honest g.D.Disk.image g.D.Disk.seen start from c.halt.new.self to c.args.self.now c.if-was_up.self n a c.restart_answer.result m T (after_halt n a Fine T) (halted_down_there g b)
-            (ap (λ (l : LogState g.row.D.Denot). l.life) c.halt.ensures) (disk_there g b) (is_there g b) (among g b) (λ h. IfOk-at_ok _ c.in-Ok.is (c.reopen-reopened.ensures.records h)) c.reopen-reopened.ensures.within
-            (IfOk-at_ok _ c.in-Ok.is c.reopen-reopened.ensures.count) (went g b) (opened g b) (ap (λ (x : Answer). after_halt n a x T) (sym (fine g b))) told is empty)
-        told))
+    subst (λ (U : List Placed). Tells g.D.Disk.faults g.D.Disk.honest g.D.Disk.image start to U)
+    (sym (opened_trace n a m found c.restart_answer.result T (past_of c.if-was_up.self.trace) (past_of c.push_reserved-2.new.self.items) (past_of c.restart_all.new.self.trace) put (pushed g b) (opened g b).trace (fine g b)))
+    (tells_restart g.D.Disk.faults g.D.Disk.honest g.D.Disk.image start from to T n a (Opens found m) (went g b) armed
+    (λ is empty.
+    opened_just g.D.Disk.faults g.D.Disk.honest g.D.Disk.image g.D.Disk.seen start from c.halt.new.self to c.args.self.now c.if-was_up.self n a c.restart_answer.result m T (after_halt n a Fine T) (halted_down_there g b)
+    (ap (λ (l : LogState g.row.D.Denot). l.life) c.halt.ensures) (disk_there g b) (is_there g b) (among g b) (λ h. IfOk-at_ok _ c.in-Ok.is (c.reopen-reopened.ensures.records h)) c.reopen-reopened.ensures.within
+    (IfOk-at_ok _ c.in-Ok.is c.reopen-reopened.ensures.count) (went g b) (opened g b) (ap (λ (x : Answer). after_halt n a x T) (sym (fine g b))) told is empty)
+    told))
     c.restart_all.ensures.trace
 
 pub returns-clause-calls : goal.returns-clause-calls
@@ -256,8 +256,9 @@ returns-clause-done g c =
     let to = c.reopen-reopened.new.self in
     let found = λ (k : ℕ). is_some (record_in to.slots k) in
     on_ok_weaker c.restart_all.result
-    (λ put.
-        (Opens found c.in-Ok.records,
-        opened_trace c.args.n c.args.actor c.in-Ok.records found c.restart_answer.result (past_of c.args.self.now.trace) (past_of c.if-was_up.self.trace) (past_of c.push_reserved-2.new.self.items) (past_of c.restart_all.new.self.trace) put
-        (pushed g b) (opened g b).trace (fine g b)))
+    (λ put. (
+      Opens found c.in-Ok.records,
+      opened_trace c.args.n c.args.actor c.in-Ok.records found c.restart_answer.result (past_of c.args.self.now.trace) (past_of c.if-was_up.self.trace) (past_of c.push_reserved-2.new.self.items) (past_of c.restart_all.new.self.trace) put
+          (pushed g b) (opened g b).trace (fine g b),
+    ))
     c.restart_all.ensures.trace
