@@ -159,9 +159,9 @@ hit_calls true t w = refl
 hit_calls false t w = refl
 
 -- which is all that changes of it
-pub record IsAsHalted (life : ℕ) (x y : TxState) : Type 0 where
+pub record IsAsHalted (own : ℕ) (x y : TxState) : Type 0 where
   pub transaction : y.transaction ≡ x.transaction
-  pub past : y.world.past ≡ onto x.world.past (one_where (is_hit_by life x) Stopped)
+  pub past : y.world.past ≡ onto x.world.past (one_where (is_hit_by own x) Stopped)
   pub calls : y.world.calls ≡ x.world.calls
   pub ours : y.ours ≡ x.ours
   pub unsure : y.unsure ≡ x.unsure
@@ -213,15 +213,15 @@ one_more_where false x h = refl
 pub halted_tied : (s : List Line) (life : ℕ) (t : TxNo) (T : List Placed) (x : TxState) → IsTied s t T x → (has is_begin_sent x.world.past ≡ true → x.life ≡ life)
     → IsTied s t (put_at (λ u. Stopped) (hit T) T) (halted life x)
 halted_tied s life t T x tied lives =
-    let as = halted_as life x in
+    let alike = halted_as life x in
     record {
       past =
-          as.past
+          alike.past
           ∙ (one_more_where (is_hit_by life x) Stopped x.world.past
           ∙ (ap (λ b. one_more b Stopped x.world.past) (hit_same s life t T x tied lives)
           ∙ (ap (λ h. one_more (is_hit T t) Stopped h) tied.past ∙ sym (history-hit t (λ u. Stopped) T T))));
-      given = given_same s t.value x.world (halted life x).world as.calls tied.given;
-      planned = subst (λ (h : List Entry). IsToPlan s h) (sym as.past) (to_plan_onto s x.world.past (one_where (is_hit_by life x) Stopped) tied.planned (as_planned (is_hit_by life x)));
+      given = given_same s t.value x.world (halted life x).world alike.calls tied.given;
+      planned = subst (λ (h : List Entry). IsToPlan s h) (sym alike.past) (to_plan_onto s x.world.past (one_where (is_hit_by life x) Stopped) tied.planned (as_planned (is_hit_by life x)));
     }
   where
     as_planned : (b : Bool) → each (is_to (plans_of s)) (one_where b Stopped) ≡ true

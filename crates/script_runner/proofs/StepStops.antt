@@ -179,12 +179,12 @@ stopped_holds {D} faults honest image a mid q at d down script worlds told kept 
           (halted_tied a.run.script life u (past_of mid) (state_of u ws) (ties u) (lives u))));
       kept = kept (each_set IsRecordKept a.run.worlds a.t a.y at.made at.recorded at.holds.kept);
       goes = λ u. subst (GoesWith a.to) (sym (worlds u)) (goes_halted a.to (state_of u ws) (stands u).0 down (lives u) (stands u).1);
-      had = λ u. let as = halted_as life (state_of u ws) in subst (λ (x : TxState). IsHad x a.to) (sym (worlds u)) (had_as a.to (state_of u ws) (halted life (state_of u ws)) as.transaction as.ours (had u));
+      had = λ u. let alike = halted_as life (state_of u ws) in subst (λ (x : TxState). IsHad x a.to) (sym (worlds u)) (had_as a.to (state_of u ws) (halted life (state_of u ws)) alike.transaction alike.ours (had u));
       up = down ∙ sym (ap (λ (es : List Entry). unless_said (latest up_of es)) log);
       uncalled = λ up. absurd (not_both a.to.is_up up down);
       fits = λ h u.
-          let as = halted_as life (state_of u ws) in
-          subst (FitsLog image a.to) (sym (worlds u)) (fits_as image a.to (state_of u ws) (halted life (state_of u ws)) as.transaction as.ours as.unsure (fits h u));
+          let alike = halted_as life (state_of u ws) in
+          subst (FitsLog image a.to) (sym (worlds u)) (fits_as image a.to (state_of u ws) (halted life (state_of u ws)) alike.transaction alike.ours alike.unsure (fits h u));
       sound = λ h u.
           subst (λ (x : TxState). is_tied_history x.world.past ≡ true) (sym (worlds u))
           (halted_sound life (state_of u ws) (each_set (λ x. is_tied_history x.world.past ≡ true) a.run.worlds a.t a.y at.made (d.did.sound h) (at.holds.sound h) u));

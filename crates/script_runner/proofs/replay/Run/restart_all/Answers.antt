@@ -31,6 +31,22 @@ loop-place-init g c =
       sound = λ h sound. sound;
     }
 
+pub coordinator_restarted-requires-clause-fits : goal.coordinator_restarted-requires-clause-fits
+coordinator_restarted-requires-clause-fits g c = λ h.
+    let log = c.args.log.now in
+    let vs = c.loop-place.self-inside.worlds.items in
+    let u = c.unwrap-t.result in
+    let x = c.index_mut-world.result.now in
+    let value : u.value ≡ c.loop-place.place + 1 = subst (λ (o : Option TxNo). IfSome o (λ z. z.value ≡ c.loop-place.place + 1)) c.unwrap-t.ensures c.new.ensures.value in
+    let here : u.value - 1 ≡ c.loop-place.place = omega (arith, value) in
+    let within : u.value ≤ length vs = omega (arith, value, c.loop-place-test.true, c.len-place-end.ensures, c.loop-place.invariant.through.long) in
+    let at : state_of u vs ≡ x = state_reached u vs x within (subst (λ (i : ℕ). x ≡ get_or vs i x) (sym here) c.index_mut-world.ensures.value) in
+    let before : state_of u c.args.self.now.worlds ≡ x =
+    subst (λ (r : RunState). state_of u r.worlds ≡ x) c.self.view_is
+    (sym (through_here (reopened log) (is_reached_by log.life) (λ t. Restarted (is_some (record_in log.slots t.value))) c.self.inside.worlds.items vs (past_of c.self.inside.trace.items)
+    (past_of c.loop-place.self-inside.trace.items) c.loop-place.place u value c.loop-place.invariant.through) ∙ at) in
+    subst (λ (z : TxState). Fits z (open_records log.slots)) before (c.requires.fits h u)
+
 -- the transaction stands at the place that the loop has come to
 number : (g : Over) (c : In_ok-coordinator_restarted g) → c.unwrap-t.result.value ≡ c.loop-place.place + 1
 number g c = subst (λ (o : Option TxNo). IfSome o (λ x. x.value ≡ c.loop-place.place + 1)) c.unwrap-t.ensures c.new.ensures.value

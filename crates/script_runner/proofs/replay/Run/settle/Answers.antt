@@ -1,4 +1,4 @@
-use Rattle.std.proofs.Common.{◌≡◌, ℕ, suc, List, [], true, false, Ok, None, refl, ap, subst, sym, ◌∙◌}
+use Rattle.std.proofs.Common.{◌≡◌, ◌+◌, ℕ, suc, List, [], true, false, Ok, None, refl, ap, subst, sym, ◌∙◌}
 use Rattle.dtx_values.specs.declared.script.Line.{Line}
 use Rattle.dtx_model.specs.Caused.{Settled}
 use Rattle.dtx_model.specs.Replay.{world_at}
@@ -49,6 +49,9 @@ loop-preserved g c =
           let mid = up_between c.args.log.now.is_up c.loop.log.is_up c.step.new.log.is_up was.stays.still c.step.ensures.stays.still up in
           below-apart s c.args.t (past_of c.loop.self.trace) (past_of c.step.new.self.trace) (c.step.ensures.apart some (up ∙ sym mid)) (was.below mid below);
     }
+
+pub returns-in_err-step-clause-log : goal.returns-in_err-step-clause-log
+returns-in_err-step-clause-log g c = goes_then g.D.Disk.faults g.D.Disk.honest g.D.Disk.image c.args.log.now c.loop.log c.step.new.log c.loop.invariant.log c.step.ensures.log
 
 pub returns-then-not-branch-clause-settled : goal.returns-then-not-branch-clause-settled
 returns-then-not-branch-clause-settled g c =

@@ -15,12 +15,12 @@ use Rattle.tx_world.specs.AtLog.{Fits}
 use Rattle.tx_world.specs.State.{TxState}
 use Rattle.tx_world.specs.declared.refusal.WorldError.{WorldError}
 use Rattle.tx_world.specs.Stepping.{DoesKth}
-use Rattle.script_runner.specs.LogRun.{LogGoes, LogStays}
+use Rattle.script_runner.specs.LogRun.{LogGoes}
 use Rattle.script_runner.specs.RunState.{AreNumbered, HaveSameCalls, IsRecordKept, IsTied, RunState, halted, state_of}
 use Rattle.script_runner.proofs.Noting.{as_long, grown}
 use Rattle.script_runner.proofs.Numbered.{state_indexed}
-use Rattle.script_runner.proofs.StepStops.{IsStopping, is_stopping_step, step_stopped, stopping_lives, stopping_ties}
-use Rattle.script_runner.proofs.Steps.{IsStep, IsStepAt, IsStepped, StepOf, calls_same, none_beyond, none_pending, run_with, step_done, step_log, step_past, step_stays, was, worlds_after}
+use Rattle.script_runner.proofs.StepStops.{is_stopping_step, step_stopped, stopping_lives, stopping_ties}
+use Rattle.script_runner.proofs.Steps.{IsStep, IsStepAt, IsStepped, StepOf, calls_same, none_beyond, none_pending, run_with, step_done, step_log, step_past, was, worlds_after}
 use Rattle.script_runner.proofs.Turns.{own_at}
 use Rattle.script_runner.proofs.replay.Run.step.Given.{Over}
 use Rattle.script_runner.proofs.replay.Run.step.Goals.{After-is_own_run, After-is_own_run-2, else-was_up-via-then-was_up+else-not-is_up, else-was_up-via-else-was_up}
@@ -79,9 +79,6 @@ done g c =
 -- what it left of the log
 log_goes : (g : Over) (c : After-is_own_run-2 g) → LogGoes g.D.Disk.faults g.D.Disk.honest g.D.Disk.image c.args.log.now c.step.new.log
 log_goes g c = step_log g.D.Disk.faults g.D.Disk.honest g.D.Disk.image (about g c) (done g c)
-
-log_stays : (g : Over) (c : After-is_own_run-2 g) → LogStays g.D.Disk.faults c.args.log.now c.step.new.log
-log_stays g c = step_stays g.D.Disk.faults g.D.Disk.honest g.D.Disk.image (about g c) (done g c)
 
 -- the run after it, as its parts stand then
 parts : (g : Over) (c : After-is_own_run-2 g) (T : List Placed)
@@ -148,6 +145,18 @@ returns-in_err-note-2-clause-calls g c = calls g (goal.at.returns-in_err-note-2-
 
 pub returns-in_err-stop_all-clause-calls : goal.returns-in_err-stop_all-clause-calls
 returns-in_err-stop_all-clause-calls g c = λ v. c.stop_all.ensures.calls v ∙ calls g (goal.at.returns-in_err-stop_all-clause-calls g c).After-is_own_run-2 v
+
+pub returns-in_err-reserve-clause-log : goal.returns-in_err-reserve-clause-log
+returns-in_err-reserve-clause-log g c = log_goes g (goal.at.returns-in_err-reserve-clause-log g c).After-is_own_run-2
+
+pub returns-in_err-note-clause-log : goal.returns-in_err-note-clause-log
+returns-in_err-note-clause-log g c = log_goes g (goal.at.returns-in_err-note-clause-log g c).After-is_own_run-2
+
+pub returns-in_err-note-2-clause-log : goal.returns-in_err-note-2-clause-log
+returns-in_err-note-2-clause-log g c = log_goes g (goal.at.returns-in_err-note-2-clause-log g c).After-is_own_run-2
+
+pub returns-in_err-stop_all-clause-log : goal.returns-in_err-stop_all-clause-log
+returns-in_err-stop_all-clause-log g c = log_goes g (goal.at.returns-in_err-stop_all-clause-log g c).After-is_own_run-2
 
 pub note-requires : goal.note-requires
 note-requires g c = longer g (goal.at.note-requires g c).After-is_own_run-2

@@ -45,6 +45,9 @@ loop-m-preserved g c =
           (steps-more start.script c.args.t c.args.k m start.trace c.loop-m.self.trace c.step.new.self.trace was.done one);
     }
 
+pub returns-in_err-step-clause-log : goal.returns-in_err-step-clause-log
+returns-in_err-step-clause-log g c = goes_then g.D.Disk.faults g.D.Disk.honest g.D.Disk.image c.args.log.now c.loop-m.log c.step.new.log c.loop-m.invariant.log c.step.ensures.log
+
 pub returns-then-not-branch-clause-did : goal.returns-then-not-branch-clause-did
 returns-then-not-branch-clause-did g c =
     let done : c.step.result ≡ Ok false = cc in
