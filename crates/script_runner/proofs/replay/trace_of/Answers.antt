@@ -42,6 +42,17 @@ lines-requires-clause-below g c = subst (λ (r : RunState). AreBelow 1 r.worlds)
 pub lines-requires-clause-script : goal.lines-requires-clause-script
 lines-requires-clause-script g c = subst IsScript (sym (ap (λ (r : RunState). r.script) c.in_ok-run.ensures)) c.requires.script
 
+pub returns-in_err-lines-clause-stays : goal.returns-in_err-lines-clause-stays
+returns-in_err-lines-clause-stays g c none = c.lines.ensures.stays (ap has_log_line (ap (λ (r : RunState). r.script) c.in_ok-run.ensures) ∙ none)
+
+pub returns-in_err-settle_all-clause-log : goal.returns-in_err-settle_all-clause-log
+returns-in_err-settle_all-clause-log g c = goes_then g.D.Disk.faults g.D.Disk.honest g.D.Disk.image c.args.log.now c.lines.new.log c.settle_all.new.log c.lines.ensures.log c.settle_all.ensures.log
+
+pub returns-in_err-settle_all-clause-stays : goal.returns-in_err-settle_all-clause-stays
+returns-in_err-settle_all-clause-stays g c none =
+    let first = c.lines.ensures.stays (ap has_log_line (ap (λ (r : RunState). r.script) c.in_ok-run.ensures) ∙ none) in
+    stays_then g.D.Disk.faults c.args.log.now c.lines.new.log c.settle_all.new.log c.lines.ensures.log.grows c.settle_all.ensures.log.grows first c.settle_all.ensures.stays
+
 pub returns-clause-log : goal.returns-clause-log
 returns-clause-log g c = goes_then g.D.Disk.faults g.D.Disk.honest g.D.Disk.image _ _ _ c.lines.ensures.log c.settle_all.ensures.log
 

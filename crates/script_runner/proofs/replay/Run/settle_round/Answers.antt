@@ -48,6 +48,9 @@ loop-n-preserved g c =
           subst (λ (m : ℕ). AreSettledBelow s (m + 1) (past_of c.settle.new.self.trace)) n (next here);
     }
 
+pub returns-in_err-settle-clause-log : goal.returns-in_err-settle-clause-log
+returns-in_err-settle-clause-log g c = goes_then g.D.Disk.faults g.D.Disk.honest g.D.Disk.image c.args.log.now c.loop-n.log c.settle.new.log c.loop-n.invariant.log c.settle.ensures.log
+
 pub returns-clause-turns : goal.returns-clause-turns
 returns-clause-turns g c = λ start b. turn-round c.args.self.now.script start (past_of c.loop-n.self.trace) c.loop-n.n c.loop-n-test.false (c.loop-n.invariant.turns start b)
 
