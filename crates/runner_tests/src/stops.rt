@@ -63,9 +63,14 @@ const HEARS_COMMITTED: [&str; 6] = [
 ];
 
 /// It hears that it aborted.
-const HEARS_ABORTED: [&str; 3] = ["sent x1 down aborted", "got x1 down aborted", "told e1 aborted"];
+const HEARS_ABORTED: [&str; 3] = [
+    "sent x1 down aborted",
+    "got x1 down aborted",
+    "told e1 aborted",
+];
 
 const FOUND: [&str; 1] = ["restarted found"];
+
 const NONE: [&str; 1] = ["restarted none"];
 
 /// The log, and the transaction, where the record is found.
@@ -86,18 +91,66 @@ type Case = (&'static str, Part, &'static [Part; 2]);
 /// An append writes the record, syncs, opens the gate and syncs. With `lose` the call isn't done, with `keep` it is, and with `torn` it is where it is a write; what wasn't synced then is lost or torn. So the record is there
 /// only where the write of its gate was kept.
 const CASES: [Case; 12] = [
-    ("1 lose", ("log", &[&["call 4 a1 ok", "armed 1 lose"]]), &LEARNS_ABORT),
-    ("1 keep", ("log", &[&["call 4 a1 ok", "armed 1 keep"]]), &LEARNS_ABORT),
-    ("1 torn", ("log", &[&["call 4 a1 ok", "armed 1 torn"]]), &LEARNS_ABORT),
-    ("2 lose", ("log", &[&["call 4 a1 ok", "armed 2 lose"]]), &LEARNS_ABORT),
-    ("2 keep", ("log", &[&["call 4 a1 ok", "armed 2 keep"]]), &LEARNS_ABORT),
-    ("2 torn", ("log", &[&["call 4 a1 ok", "armed 2 torn"]]), &LEARNS_ABORT),
-    ("3 lose", ("log", &[&["call 4 a1 ok", "armed 3 lose"]]), &LEARNS_ABORT),
-    ("3 keep", ("log", &[&["call 4 a1 ok", "armed 3 keep"]]), &LEARNS_COMMIT),
-    ("3 torn", ("log", &[&["call 4 a1 ok", "armed 3 torn"]]), &LEARNS_ABORT),
-    ("4 lose", ("log", &[&["call 4 a1 ok", "armed 4 lose"]]), &LEARNS_ABORT),
-    ("4 keep", ("log", &[&["call 4 a1 ok", "armed 4 keep"]]), &LEARNS_COMMIT),
-    ("4 torn", ("log", &[&["call 4 a1 ok", "armed 4 torn"]]), &LEARNS_ABORT),
+    (
+        "1 lose",
+        ("log", &[&["call 4 a1 ok", "armed 1 lose"]]),
+        &LEARNS_ABORT,
+    ),
+    (
+        "1 keep",
+        ("log", &[&["call 4 a1 ok", "armed 1 keep"]]),
+        &LEARNS_ABORT,
+    ),
+    (
+        "1 torn",
+        ("log", &[&["call 4 a1 ok", "armed 1 torn"]]),
+        &LEARNS_ABORT,
+    ),
+    (
+        "2 lose",
+        ("log", &[&["call 4 a1 ok", "armed 2 lose"]]),
+        &LEARNS_ABORT,
+    ),
+    (
+        "2 keep",
+        ("log", &[&["call 4 a1 ok", "armed 2 keep"]]),
+        &LEARNS_ABORT,
+    ),
+    (
+        "2 torn",
+        ("log", &[&["call 4 a1 ok", "armed 2 torn"]]),
+        &LEARNS_ABORT,
+    ),
+    (
+        "3 lose",
+        ("log", &[&["call 4 a1 ok", "armed 3 lose"]]),
+        &LEARNS_ABORT,
+    ),
+    (
+        "3 keep",
+        ("log", &[&["call 4 a1 ok", "armed 3 keep"]]),
+        &LEARNS_COMMIT,
+    ),
+    (
+        "3 torn",
+        ("log", &[&["call 4 a1 ok", "armed 3 torn"]]),
+        &LEARNS_ABORT,
+    ),
+    (
+        "4 lose",
+        ("log", &[&["call 4 a1 ok", "armed 4 lose"]]),
+        &LEARNS_ABORT,
+    ),
+    (
+        "4 keep",
+        ("log", &[&["call 4 a1 ok", "armed 4 keep"]]),
+        &LEARNS_COMMIT,
+    ),
+    (
+        "4 torn",
+        ("log", &[&["call 4 a1 ok", "armed 4 torn"]]),
+        &LEARNS_ABORT,
+    ),
 ];
 
 #[test]
@@ -143,10 +196,15 @@ fn who_is_finished_cannot_come_back(rt: HostRuntime) -> Result<(), Fail> {
         ("log", &[&STOPPED]),
         ("t1", &[&IN_DOUBT]),
         ("log", &[&HAS_IT]),
-        ("t1", &[&FOUND, &COMES_BACK, &HEARS_COMMITTED, &FREED, &FINISHED]),
+        (
+            "t1",
+            &[&FOUND, &COMES_BACK, &HEARS_COMMITTED, &FREED, &FINISHED],
+        ),
     ];
     assert_eq!(rt; prints(&rt, alloc, script.as_str(), &[], &parts)?, Ok(0));
-    let script = format!(in alloc; "{BEFORE}a1 stop 3 keep\na1 await t1\na1 restart\na1 recovered t1 r1\na1 reenlist e1\n")?;
+    let script = format!(in alloc;
+        "{BEFORE}a1 stop 3 keep\na1 await t1\na1 restart\na1 recovered t1 r1\na1 reenlist e1\n"
+    )?;
     let parts: [Part; 7] = [
         ("t1", &[&TWO_PHASES]),
         CASES[7].1,
@@ -188,7 +246,14 @@ fn restarted(
 fn a_fault_at_each_call_of_the_disk_stops_the_log(rt: HostRuntime) -> Result<(), Fail> {
     // The log is formatted by calls 1 to 4, the record is appended by calls 5 to 8 and freed by calls 9 and 10. A call that fails does nothing, so that the record is there
     // where only the last sync of the append failed, or the write that frees it.
-    let cases = [(5, false), (6, false), (7, false), (8, true), (9, true), (10, false)];
+    let cases = [
+        (5, false),
+        (6, false),
+        (7, false),
+        (8, true),
+        (9, true),
+        (10, false),
+    ];
     let script = format!(in rt.alloc(); "{BEFORE}{AFTER}")?;
     for (call, wanted) in cases {
         let (sink, disk) = output(&rt, rt.alloc(), script.as_str(), &[call])?;

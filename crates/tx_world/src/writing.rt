@@ -54,12 +54,7 @@ pub(crate) fn stop_if(history: &mut History, core: &mut Core, stops: bool)
 }
 
 /// Writes the block of a step of the local side, and says whether it sends BEGIN. Where it does while the log is stopped, as `up` says, the coordinator stops at once.
-pub(crate) fn write_near(
-    history: &mut History,
-    core: &mut Core,
-    block: &[Entry],
-    up: bool,
-) -> bool
+pub(crate) fn write_near(history: &mut History, core: &mut Core, block: &[Entry], up: bool) -> bool
     requires written { each is_written block.now ≡ true }
     requires sendable { are_sendable (onto history.old.past block.now) ≡ true }
     requires stopped { core.old.state.stopped ≡ is_stopped history.old.past }

@@ -2,9 +2,7 @@
 ghost use Rattle.dtx_model.specs.Caused.{MayAnswer};
 
 use crate::worlds::{shows, transaction, world};
-use dtx_values::{
-    ActorNo, Answer, Call, EnlNo, EnlistOption, Note, Outbox, Reply, Timeout, Vote,
-};
+use dtx_values::{ActorNo, Answer, Call, EnlNo, EnlistOption, Note, Outbox, Reply, Timeout, Vote};
 use std::process::Abort;
 use std::test::Fail;
 use tx_world::TxWorld;
