@@ -10,14 +10,15 @@ use Rattle.dtx_model.specs.Words.{always, kth, past_of}
 use Rattle.dtx_values.specs.declared.entry.Entry.{Entry}
 use Rattle.dtx_values.specs.declared.entry.Entry.TheVariants.{OwnerAnswered, PromoteReply, Requested, Voted}
 use Rattle.dtx_values.specs.declared.note.Plan.{Plan}
+use Rattle.dtx_values.specs.declared.number.TxNo.{TxNo}
 use Rattle.dtx_values.specs.declared.trace.Place.{Place}
 use Rattle.dtx_values.specs.Table.{how_many}
 use Rattle.dtx_model.specs.AtLog.{armed, at_log, faults as faults_told, one_if, stop_right}
-use Rattle.dtx_model.specs.Caused.{has_object, is_as_planned, plans_of}
+use Rattle.dtx_model.specs.Caused.{Settled, has_object, is_as_planned, plans_of}
 use Rattle.dtx_model.specs.History.{is_call_at, nobody}
 use Rattle.dtx_model.specs.Outcome.{is_empty}
-use Rattle.dtx_model.specs.Traces.{Placed, calls}
-use Rattle.dtx_model.specs.Replay.{due_calls}
+use Rattle.dtx_model.specs.Traces.{Placed, calls, history}
+use Rattle.dtx_model.specs.Replay.{IsReplayed, due_calls}
 use Rattle.dtx_model.proofs.Bools.{and_both, and_left, and_right, or_right}
 use Rattle.dtx_model.specs.Grammar.{IsScript}
 use Rattle.coordinator_log.specs.declared.stop.ArmedStop.{ArmedStop}
@@ -56,6 +57,15 @@ to_any s k (x ∷ h) p =
     let first : is_as_planned (plans_of s) nobody h x ≡ true = and_left (is_as_planned (plans_of s) nobody h x) (always (is_as_planned (plans_of s) nobody) h) p in
     and_both (is_as_planned (plans_of s) (has_object s k) h x) (always (is_as_planned (plans_of s) (has_object s k)) h) (any_object (plans_of s) (has_object s k) h x first)
     (to_any s k h (and_right (is_as_planned (plans_of s) nobody h x) (always (is_as_planned (plans_of s) nobody) h) p))
+
+-- What a run of lines gives is a run of the script that has these lines.
+pub record IsOfScript (s : List Line) (T : List Placed) : Type 0 where
+  pub replayed : IsReplayed s T
+  pub settled : (t : TxNo) → Settled s (history t.value T)
+  pub planned : (t : TxNo) → IsToPlan s (history t.value T)
+
+pub of_script : (s r : List Line) (T : List Placed) → r ≡ s → IsReplayed r T → ((t : TxNo) → Settled r (history t.value T)) → ((t : TxNo) → IsToPlan r (history t.value T)) → IsOfScript s T
+of_script s r T same replayed settled planned = subst (λ (x : List Line). IsOfScript x T) same (record { replayed = replayed; settled = settled; planned = planned })
 
 -- By how much a count of faults rose, where nobody knows it at its last value: as much as the trace tells of, and more.
 abbrev pub rise_of : ℕ → ℕ → ℕ → ℕ

@@ -112,3 +112,7 @@ returns-in-Err-Fault-write_all-clause-logs g c honest k =
     inr
     (are_logs g.D.Disk.faults g.D.Disk.honest g.D.Disk.image c.into_disk-disk.result c.in-Ok-formatted.log c.replayed-replayed.new.log c.into_disk-disk.ensures.disk c.in-Ok-formatted.ensures.images
     c.replayed-replayed.ensures.log honest)
+
+pub returns-in-Err-Memory-default-clause-given_up_whole : goal.returns-in-Err-Memory-default-clause-given_up_whole
+returns-in-Err-Memory-default-clause-given_up_whole g c honest k calm none =
+    inl (c.in-Err-Memory-default.ensures.memory c.in-Err-Memory-default.field-0-0-is)

@@ -11,14 +11,14 @@ use Rattle.outcome_law.specs.Appended.{has_append, stopped_at_append}
 use Rattle.dtx_model.specs.Traces.{history}
 use Rattle.dtx_model.specs.Words.{has, past_of}
 use Rattle.coordinator_log.specs.Slots.{open_records}
-use Rattle.script_runner.proofs.Replayed.{called_at, empty_is, rise_known, rise_none, rise_of, rise_told, to_any}
+use Rattle.script_runner.proofs.Replayed.{IsOfScript, called_at, empty_is, of_script, rise_known, rise_none, rise_of, rise_told, to_any}
 use Rattle.script_runner.proofs.replay.run_replay.Goals as goal
 
 pub returns-in-Ok-clause-replay : goal.returns-in-Ok-clause-replay
 returns-in-Ok-clause-replay g c =
     let s = c.args.s.now in
     let T = past_of c.in-Ok.trace in
-    let e = c.in-Ok.ensures in
+    let e : IsOfScript s T = of_script s _ T c.lines.ensures c.in-Ok.ensures.replayed c.in-Ok.ensures.settled c.in-Ok.ensures.planned in
     let named = c.requires.script.named in
     let before : ℕ = g.D.Disk.faults c.args.log.now.disk in
     let now : ℕ = g.D.Disk.faults c.trace_of.new.log.disk in
@@ -30,9 +30,9 @@ returns-in-Ok-clause-replay g c =
       replay = record {
         called = c.replay.ensures.called s T e.replayed;
         replayed = e.replayed;
-        stops = λ none. let k = rise_none before now told e.counted.grows none in e.counted.stops k.0 k.1;
+        stops = λ none. let k = rise_none before now told c.in-Ok.ensures.counted.grows none in c.in-Ok.ensures.counted.stops k.0 k.1;
         opens = λ h.
-            e.opens (and_left g.D.Disk.honest (is_empty (open_records c.args.log.now.slots)) h)
+            c.in-Ok.ensures.opens (and_left g.D.Disk.honest (is_empty (open_records c.args.log.now.slots)) h)
             (empty_is (open_records c.args.log.now.slots) (and_right g.D.Disk.honest (is_empty (open_records c.args.log.now.slots)) h));
       };
       caused = caused;
@@ -43,7 +43,7 @@ returns-in-Ok-clause-replay g c =
         settled = e.settled;
         contexts = c.replay.ensures.contexts s T e.replayed;
         called = called_at s T (c.replay.ensures.called s T e.replayed);
-        faulted = rise_told before now c.trace_of.new.log.armed T e.counted;
+        faulted = rise_told before now c.trace_of.new.log.armed T c.in-Ok.ensures.counted;
         followed = c.replay.ensures.followed s T e.replayed;
       };
     }
@@ -52,7 +52,7 @@ pub returns-in-Ok-clause-outcome : goal.returns-in-Ok-clause-outcome
 returns-in-Ok-clause-outcome g c sound =
     let s = c.args.s.now in
     let T = past_of c.in-Ok.trace in
-    let e = c.in-Ok.ensures in
+    let e : IsOfScript s T = of_script s _ T c.lines.ensures c.in-Ok.ensures.replayed c.in-Ok.ensures.settled c.in-Ok.ensures.planned in
     let named = c.requires.script.named in
     let caused : (t : TxNo) → Caused s 0 t.value (history t.value T) = c.replay.ensures.caused s T e.replayed 0 (λ t. to_any s 0 (history t.value T) (e.planned t)) in
     record {
@@ -65,7 +65,7 @@ pub returns-in-Ok-clause-complete : goal.returns-in-Ok-clause-complete
 returns-in-Ok-clause-complete g c sound =
     let s = c.args.s.now in
     let T = past_of c.in-Ok.trace in
-    let e = c.in-Ok.ensures in
+    let e : IsOfScript s T = of_script s _ T c.lines.ensures c.in-Ok.ensures.replayed c.in-Ok.ensures.settled c.in-Ok.ensures.planned in
     let named = c.requires.script.named in
     let caused : (t : TxNo) → Caused s 0 t.value (history t.value T) = c.replay.ensures.caused s T e.replayed 0 (λ t. to_any s 0 (history t.value T) (e.planned t)) in
     record {
@@ -78,7 +78,7 @@ pub returns-in-Ok-clause-waited : goal.returns-in-Ok-clause-waited
 returns-in-Ok-clause-waited g c sound t =
     let s = c.args.s.now in
     let T = past_of c.in-Ok.trace in
-    let e = c.in-Ok.ensures in
+    let e : IsOfScript s T = of_script s _ T c.lines.ensures c.in-Ok.ensures.replayed c.in-Ok.ensures.settled c.in-Ok.ensures.planned in
     let named = c.requires.script.named in
     let caused : Caused s 0 t.value (history t.value T) = c.replay.ensures.caused s T e.replayed 0 (λ u. to_any s 0 (history u.value T) (e.planned u)) t in
     c.completeness.ensures.waited s 0 t.value (history t.value T) named caused (sound t)
@@ -87,7 +87,7 @@ pub returns-in-Ok-clause-rights : goal.returns-in-Ok-clause-rights
 returns-in-Ok-clause-rights g c sound =
     let s = c.args.s.now in
     let T = past_of c.in-Ok.trace in
-    let e = c.in-Ok.ensures in
+    let e : IsOfScript s T = of_script s _ T c.lines.ensures c.in-Ok.ensures.replayed c.in-Ok.ensures.settled c.in-Ok.ensures.planned in
     let named = c.requires.script.named in
     let caused : (t : TxNo) → Caused s 0 t.value (history t.value T) = c.replay.ensures.caused s T e.replayed 0 (λ t. to_any s 0 (history t.value T) (e.planned t)) in
     record {
@@ -101,7 +101,7 @@ pub returns-in-Ok-clause-appends : goal.returns-in-Ok-clause-appends
 returns-in-Ok-clause-appends g c sound =
     let s = c.args.s.now in
     let T = past_of c.in-Ok.trace in
-    let e = c.in-Ok.ensures in
+    let e : IsOfScript s T = of_script s _ T c.lines.ensures c.in-Ok.ensures.replayed c.in-Ok.ensures.settled c.in-Ok.ensures.planned in
     let named = c.requires.script.named in
     let caused : (t : TxNo) → Caused s 0 t.value (history t.value T) = c.replay.ensures.caused s T e.replayed 0 (λ t. to_any s 0 (history t.value T) (e.planned t)) in
     record {
@@ -116,7 +116,7 @@ pub returns-in-Ok-clause-stops : goal.returns-in-Ok-clause-stops
 returns-in-Ok-clause-stops g c sound =
     let s = c.args.s.now in
     let T = past_of c.in-Ok.trace in
-    let e = c.in-Ok.ensures in
+    let e : IsOfScript s T = of_script s _ T c.lines.ensures c.in-Ok.ensures.replayed c.in-Ok.ensures.settled c.in-Ok.ensures.planned in
     let named = c.requires.script.named in
     let caused : (t : TxNo) → Caused s 0 t.value (history t.value T) = c.replay.ensures.caused s T e.replayed 0 (λ t. to_any s 0 (history t.value T) (e.planned t)) in
     record {

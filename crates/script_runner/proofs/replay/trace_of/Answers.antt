@@ -126,5 +126,5 @@ returns-clause-ends g c h =
     let told = told_first g.D.Disk.faults g.D.Disk.honest image log c.args.lines.now _ c.in_ok-run.run' c.in_ok-run.ensures c.requires.unarmed (λ k. c.is_up.ensures.images k c.requires.up) in
     let end = c.in_ok-settle_all.ensures.tells log (c.in_ok-lines.ensures.tells log told) in
     let went = goes_then g.D.Disk.faults g.D.Disk.honest image log c.lines.new.log last c.lines.ensures.log c.settle_all.ensures.log in
-    ends_as image log last c.settle_all.new.self c.into_trace.result c.into_trace.ensures.trace c.into_trace.ensures.numbered
+    ends_as g.D.Disk.faults image log last c.settle_all.new.self c.into_trace.result c.into_trace.ensures.trace c.into_trace.ensures.numbered
     (subst (λ b. Holds b image last c.settle_all.new.self) h c.in_ok-settle_all.ensures.holds) (end.foreign h) (went.logs h (λ bytes among. (_, c.is_up.ensures.images h c.requires.up bytes among))) (c.is_up-2.ensures.images h)
