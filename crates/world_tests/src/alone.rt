@@ -68,9 +68,12 @@ fn a_transaction_commits_without_a_log(rt: HostRuntime) -> Result<(), Fail> {
     let e1 = EnlNo::new(1).expect(&rt, "no such enlistment");
     let begin = Call::Begin(t, Timeout::Milliseconds(0));
     let volatile = Call::Volatile(t, e1, EnlistOption::Plain, Some(Vote::Yes));
-    for (line, c) in [(1, begin), (2, volatile), (3, Call::Commit(t))] {
-        assert_eq!(rt; call(&rt, &mut world, &mut out, line, &c), Answer::Fine);
-    }
+    assert_eq!(rt; call(&rt, &mut world, &mut out, 1, &begin), Answer::Fine);
+    assert_eq!(rt; call(&rt, &mut world, &mut out, 2, &volatile), Answer::Fine);
+    assert_eq!(rt;
+        call(&rt, &mut world, &mut out, 3, &Call::Commit(t)),
+        Answer::Fine
+    );
     assert!(rt; step(&rt, &mut world, &mut out));
     assert!(rt; step(&rt, &mut world, &mut out));
     assert_eq!(rt; world.due_at(1), Some((e1, Note::Prepare)));
@@ -118,9 +121,11 @@ fn a_step_without_the_log_is_said(rt: HostRuntime) -> Result<(), Fail> {
     let mut out = Outbox::with_room(alloc)?;
     let t = transaction(&rt);
     let begin = Call::Begin(t, Timeout::Default);
-    for (line, c) in [(1, begin), (2, Call::Commit(t))] {
-        assert_eq!(rt; call(&rt, &mut world, &mut out, line, &c), Answer::Fine);
-    }
+    assert_eq!(rt; call(&rt, &mut world, &mut out, 1, &begin), Answer::Fine);
+    assert_eq!(rt;
+        call(&rt, &mut world, &mut out, 2, &Call::Commit(t)),
+        Answer::Fine
+    );
     step_and_say(&rt, &mut world, &mut out, 3);
     shows(&rt, alloc, &world, &[&COUNTED])?;
     Ok(())
