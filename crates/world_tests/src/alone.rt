@@ -59,30 +59,41 @@ const COMMITTED: [&str; 12] = [
     "told client committed",
 ];
 
+/// Begins the transaction, enlists a volatile that is to vote yes, and asks for the commit.
+fn asks_to_commit(rt: &impl Abort, world: &mut TxWorld, out: &mut Outbox, e: EnlNo) {
+    let t = transaction(rt);
+    let begin = Call::Begin(t, Timeout::Milliseconds(0));
+    assert_eq!(rt; call(rt, world, out, 1, &begin), Answer::Fine);
+    let volatile = Call::Volatile(t, e, EnlistOption::Plain, Some(Vote::Yes));
+    assert_eq!(rt; call(rt, world, out, 2, &volatile), Answer::Fine);
+    assert_eq!(rt; call(rt, world, out, 3, &Call::Commit(t)), Answer::Fine);
+}
+
+/// Does the first pending step, so many times.
+fn steps(rt: &impl Abort, world: &mut TxWorld, out: &mut Outbox, n: u32) {
+    for _ in 0..n {
+        assert!(rt; step(rt, world, out));
+    }
+}
+
+/// Does the steps of a commit, with the volatile's vote given by hand. Nothing is pending then, and no reply is due.
+fn commits(rt: &impl Abort, world: &mut TxWorld, out: &mut Outbox, e: EnlNo) {
+    steps(rt, world, out, 2);
+    assert_eq!(rt; world.due_at(1), Some((e, Note::Prepare)));
+    assert!(rt; reply(rt, world, out, e, Reply::Vote(Vote::Yes)));
+    steps(rt, world, out, 3);
+    assert!(rt; !step(rt, world, out));
+    assert!(rt; !reply(rt, world, out, e, Reply::Ack));
+}
+
 #[test]
 fn a_transaction_commits_without_a_log(rt: HostRuntime) -> Result<(), Fail> {
     let alloc = rt.alloc();
     let mut world = world(&rt, alloc);
     let mut out = Outbox::with_room(alloc)?;
-    let t = transaction(&rt);
     let e1 = EnlNo::new(1).expect(&rt, "no such enlistment");
-    let begin = Call::Begin(t, Timeout::Milliseconds(0));
-    let volatile = Call::Volatile(t, e1, EnlistOption::Plain, Some(Vote::Yes));
-    assert_eq!(rt; call(&rt, &mut world, &mut out, 1, &begin), Answer::Fine);
-    assert_eq!(rt; call(&rt, &mut world, &mut out, 2, &volatile), Answer::Fine);
-    assert_eq!(rt;
-        call(&rt, &mut world, &mut out, 3, &Call::Commit(t)),
-        Answer::Fine
-    );
-    assert!(rt; step(&rt, &mut world, &mut out));
-    assert!(rt; step(&rt, &mut world, &mut out));
-    assert_eq!(rt; world.due_at(1), Some((e1, Note::Prepare)));
-    assert!(rt; reply(&rt, &mut world, &mut out, e1, Reply::Vote(Vote::Yes)));
-    for _ in 0..3 {
-        assert!(rt; step(&rt, &mut world, &mut out));
-    }
-    assert!(rt; !step(&rt, &mut world, &mut out));
-    assert!(rt; !reply(&rt, &mut world, &mut out, e1, Reply::Ack));
+    asks_to_commit(&rt, &mut world, &mut out, e1);
+    commits(&rt, &mut world, &mut out, e1);
     assert_eq!(rt; world.coordinator_stopped(0), Ok(()));
     shows(&rt, alloc, &world, &[&COMMITTED])?;
     Ok(())
