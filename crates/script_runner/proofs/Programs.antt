@@ -137,7 +137,7 @@ is_log_of image before to T none up ended =
 is_run_of : (s : List Line) (a b from to : ℕ) (honest : Bool) (rs : List CommitRecord) (T : List Placed) → from ≡ a → to ≡ b → rs ≡ [] → IsRunOf s from to (honest && is_empty rs) T → IsRunOf s a b honest T
 is_run_of s a b from to honest rs T e f none run =
     let blank : IsRunOf s from to honest T =
-            subst (λ (h : Bool). IsRunOf s from to h T) (ap (λ (xs : List CommitRecord). honest && is_empty xs) none ∙ and-true honest) run in
+    subst (λ (h : Bool). IsRunOf s from to h T) (ap (λ (xs : List CommitRecord). honest && is_empty xs) none ∙ and-true honest) run in
     subst (λ (n : ℕ). IsRunOf s n b honest T) e (subst (λ (n : ℕ). IsRunOf s from n honest T) f blank)
 
 -- What the top call knows when the text is to be written: a replay of the script that the source gave, whose text it is.

@@ -131,10 +131,13 @@ pub ends_as : {D : Type 0} (faults : D → ℕ) (image : D → List ℕ → Type
 ends_as {D} faults image start log r T same numbered holds foreign logs held =
     subst (λ (U : List Placed). EndsAs image (open_records start.slots) log (past_of U)) (sym same)
     (record {
-      up = λ up. (held up, record {
-        recorded = λ t. let x = state_of t r.worlds in recorded_there t (past_of r.trace) x (open_records log.slots) (numbered t) (holds.tied t).past (holds.kept t) (runs_up log x (holds.goes t) up) ((holds.fits refl t).fits up);
-        others = foreign.up up;
-      });
+      up = λ up. (
+        held up,
+        record {
+          recorded = λ t. let x = state_of t r.worlds in recorded_there t (past_of r.trace) x (open_records log.slots) (numbered t) (holds.tied t).past (holds.kept t) (runs_up log x (holds.goes t) up) ((holds.fits refl t).fits up);
+          others = foreign.up up;
+        },
+      );
       stopped = λ c i. let l = logs c i in (l.0, l.1, may_be c i l.0 l.1);
     })
   where

@@ -37,7 +37,9 @@ ghost use Rattle.world_laws.specs.Left.{steps_left};
 use crate::contexts::{Gives, act, contexts};
 use crate::plans::Plans;
 use coordinator_log::{Log, LogRefusal};
-use dtx_values::{ActorNo, Answer, Body, Call, Entry, Image, Line, LogNote, Outbox, Place, Script, TxNo};
+use dtx_values::{
+    ActorNo, Answer, Body, Call, Entry, Image, Line, LogNote, Outbox, Place, Script, TxNo,
+};
 use entry_lists::{PlacedEntries, Trace};
 use outcome_law::{appends, completeness, crossings, lifting, one_outcome, replay, stops};
 use outside::Disk;
@@ -485,7 +487,12 @@ impl<'a> Run<'a> {
     }
 
     /// Opens the log again, as line n; a log that runs is stopped first. The call's entry has the answer: ok where it was opened, else the fault.
-    fn restart<D: Disk>(&mut self, log: &mut Log<D>, n: u32, actor: ActorNo) -> Result<(), WorldError>
+    fn restart<D: Disk>(
+        &mut self,
+        log: &mut Log<D>,
+        n: u32,
+        actor: ActorNo,
+    ) -> Result<(), WorldError>
         requires holds { Holds D.honest D.image log.old self.old }
         requires life { log.old.life < 2 ^ 64 - 1 }
         ensures contexts { self.new.contexts ≡ self.old.contexts }
@@ -502,8 +509,10 @@ impl<'a> Run<'a> {
         let life = log.life();
         log.halt();
         let reopened = log.reopen();
-        self.trace
-            .push_reserved((Place::Log, Entry::Called(n, actor, restart_answer(&reopened))));
+        self.trace.push_reserved((
+            Place::Log,
+            Entry::Called(n, actor, restart_answer(&reopened)),
+        ));
         if was_up {
             self.trace.push_reserved((Place::Log, Entry::Stopped));
             self.stop_all(life)?;
