@@ -20,12 +20,16 @@
 //! - [`FileDisk`] is a file of the system. It isn't honest: it tells nothing of its content. One program has
 //!   it at a time, and after a sync that failed it answers nothing more.
 //!
+//! A [`Gate`] is a place that each reply on threads goes by, where a test may hold it. [`OpenGate`] holds
+//! nothing.
+//!
 //! All rules here are definitions of this project.
 #![tactic(auto)]
 
 mod disk;
 mod failure;
 mod file_disk;
+mod gate;
 mod mem_disk;
 mod memory;
 mod plan;
@@ -43,6 +47,7 @@ pub use disk::Disk;
 pub use dtx_values::Image;
 pub use failure::{Failed, WriteError};
 pub use file_disk::FileDisk;
+pub use gate::{Gate, OpenGate};
 pub use mem_disk::MemDisk;
 pub use memory::{MemSink, MemSource};
 pub use sink::Sink;
