@@ -1,4 +1,4 @@
-use Rattle.std.proofs.Common.{◌≡◌, ◌∷◌, ◌++◌, [], List, length, map, true, ap, arith, ◌∙◌}
+use Rattle.std.proofs.Common.{◌∷◌, ◌++◌, [], List, length, map, ap, arith, ◌∙◌}
 use Rattle.dtx_model.specs.Words.{each}
 use Rattle.dtx_values.specs.declared.entry.Entry.{Entry}
 use Rattle.entry_lists.specs.declared.brief.Brief.{Brief}
