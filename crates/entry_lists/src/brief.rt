@@ -63,20 +63,20 @@ fn brief_of(e: &Entry) -> Option<Brief>
 
 /// The entry in few bytes, or the place where it stands whole from now on.
 #[inline(always)]
-pub(crate) fn keep(wholes: &mut Vec<Entry>, e: Entry) -> Brief
+pub(crate) fn keep(wholes: &mut Vec<Entry>, e: &Entry) -> Brief
     requires room { vec_len wholes.old < vec_capacity wholes.old }
     requires few { vec_len wholes.old < 2 ^ 32 }
-    ensures entry { entry_in wholes.new.items result ≡ e }
+    ensures entry { entry_in wholes.new.items result ≡ e.now }
     ensures within { is_within (length wholes.new.items) result ≡ true }
     ensures others { (b : Brief) → is_within (length wholes.old.items) b ≡ true → (entry_in wholes.new.items b ≡ entry_in wholes.old.items b) × (is_within (length wholes.new.items) b ≡ true) }
     ensures grows { vec_len wholes.new ≤ vec_len wholes.old + 1 }
     ensures capacity { vec_capacity wholes.new ≡ vec_capacity wholes.old }
 {
-    match brief_of(&e) {
+    match brief_of(e) {
         Some(b) => b,
         None => {
             let place = wholes.len() as u32;
-            wholes.push_reserved(e);
+            wholes.push_reserved(*e);
             Brief::Whole(place)
         }
     }
@@ -94,7 +94,7 @@ pub(crate) fn keep_from(wholes: &mut Vec<Entry>, list: &[Entry], b: Brief) -> Br
     ensures capacity { vec_capacity wholes.new ≡ vec_capacity wholes.old }
 {
     if is_whole(&b) {
-        keep(wholes, entry_in(list, b))
+        keep(wholes, &entry_in(list, b))
     } else {
         b
     }

@@ -78,7 +78,7 @@ impl PlacedEntries {
         ensures items { self.new.items ≡ self.old.items ++ x ∷ [] }
         ensures room { self.old.room ≡ self.new.room + 1 }
     {
-        let brief = keep(&mut self.wholes, x.1);
+        let brief = keep(&mut self.wholes, &x.1);
         self.briefs.push_reserved((short_place(x.0), brief));
         self.room -= 1;
     }
