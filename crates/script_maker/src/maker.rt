@@ -27,7 +27,8 @@ fn push_work(lines: &mut Vec<Line>, k: u32) -> Result<(), AllocError>
         }
         _ => lines.push(rollback_clone(k))?,
     }
-    lines.push(commit(k))
+    lines.push(commit(k))?;
+    Ok(())
 }
 
 /// The lines of the made script of n transactions.
