@@ -4,3 +4,4 @@ pub mod Names
 pub mod Stages
 pub mod Works
 pub mod Made
+pub mod Pushes
