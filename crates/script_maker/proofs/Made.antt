@@ -28,12 +28,12 @@ begun (suc t) h =
 -- what is enlisted or cloned, whatever the tests say
 enlisted : (t k n : ℕ) (x : List ℕ) (s : List Line) → Stage t (2 * k) k true n x s → n ≤ 1990 → suc k ≤ t → t ≤ 256 → (a b c d : Bool)
     → Lines t (2 * suc k) (suc k) true (n + 2)
-        (x
-            ++ (if a then volatile_line (codes "yes") (suc k)
-                else if b then volatile_line (codes "no") (suc k)
-                else if c then owner_line (suc k)
-                else if d then first_durable_line (suc k) ++ second_durable_line (suc k)
-                else clone_line (suc k)))
+    (x
+    ++ (if a then volatile_line (codes "yes") (suc k)
+    else if b then volatile_line (codes "no") (suc k)
+    else if c then owner_line (suc k)
+    else if d then first_durable_line (suc k) ++ second_durable_line (suc k)
+    else clone_line (suc k)))
 enlisted t k n x s h few begun high true b c d =
     let r = volatile_next t (2 * k) k k n Yes x s h (omega arith) begun high (omega arith) (omega arith) in
     (s ++ r.0 ∷ [], stage_more t (first_of (suc k)) k (n + 1) (2 * suc k) (suc k) (n + 2) true (x ++ volatile_line (codes "yes") (suc k)) (s ++ r.0 ∷ []) r.1 (omega arith) (omega arith) (omega arith))
@@ -47,10 +47,10 @@ enlisted t k n x s h few begun high false false false true =
     let q = first_durable_next t (2 * k) k k n x s h (omega arith) begun high (omega arith) in
     let r = second_durable_next t (first_of (suc k)) k k (n + 1) (x ++ first_durable_line (suc k)) (s ++ q.0 ∷ []) q.1 (omega arith) begun high (omega arith) in
     let two : Stage t (2 * suc k) (suc k) true (n + 2) ((x ++ first_durable_line (suc k)) ++ second_durable_line (suc k)) ((s ++ q.0 ∷ []) ++ r.0 ∷ []) =
-        stage_more t (second_of (suc k)) k (n + 1 + 1) (2 * suc k) (suc k) (n + 2) true ((x ++ first_durable_line (suc k)) ++ second_durable_line (suc k)) ((s ++ q.0 ∷ []) ++ r.0 ∷ []) r.1
-            (omega arith) (omega arith) (omega arith) in
+    stage_more t (second_of (suc k)) k (n + 1 + 1) (2 * suc k) (suc k) (n + 2) true ((x ++ first_durable_line (suc k)) ++ second_durable_line (suc k)) ((s ++ q.0 ∷ []) ++ r.0 ∷ []) r.1
+    (omega arith) (omega arith) (omega arith) in
     same_text t (2 * suc k) (suc k) (n + 2) true ((x ++ first_durable_line (suc k)) ++ second_durable_line (suc k)) (x ++ (first_durable_line (suc k) ++ second_durable_line (suc k)))
-        (append_assoc x (first_durable_line (suc k)) (second_durable_line (suc k))) ((s ++ q.0 ∷ []) ++ r.0 ∷ [], two)
+    (append_assoc x (first_durable_line (suc k)) (second_durable_line (suc k))) ((s ++ q.0 ∷ []) ++ r.0 ∷ [], two)
 enlisted t k n x s h few begun high false false false false =
     let r = clone_next t (2 * k) k k n x s h (omega arith) begun high (omega arith) in
     (s ++ r.0 ∷ [], stage_more t (2 * k) (suc k) (n + 1) (2 * suc k) (suc k) (n + 2) true (x ++ clone_line (suc k)) (s ++ r.0 ∷ []) r.1 (omega arith) (omega arith) (omega arith))
@@ -61,9 +61,9 @@ work t k n x h few begun high =
     let q : Lines t (2 * suc k) (suc k) true (n + 2) (x ++ enlisted_lines (suc k)) = enlisted t k n x h.0 h.1 few begun high (suc k % 5 == 0) (suc k % 5 == 1) (suc k % 5 == 2) (suc k % 5 == 3) in
     let r = commit_next t (2 * suc k) (suc k) k (n + 2) (x ++ enlisted_lines (suc k)) q.0 q.1 (omega arith) begun high in
     let all : Stage t (2 * suc k) (suc k) true (n + 3) ((x ++ enlisted_lines (suc k)) ++ commit_line (suc k)) (q.0 ++ r.0 ∷ []) =
-        stage_more t (2 * suc k) (suc k) (n + 2 + 1) (2 * suc k) (suc k) (n + 3) true ((x ++ enlisted_lines (suc k)) ++ commit_line (suc k)) (q.0 ++ r.0 ∷ []) r.1 (omega arith) (omega arith) (omega arith) in
+    stage_more t (2 * suc k) (suc k) (n + 2 + 1) (2 * suc k) (suc k) (n + 3) true ((x ++ enlisted_lines (suc k)) ++ commit_line (suc k)) (q.0 ++ r.0 ∷ []) r.1 (omega arith) (omega arith) (omega arith) in
     same_text t (2 * suc k) (suc k) (n + 3) true ((x ++ enlisted_lines (suc k)) ++ commit_line (suc k)) (x ++ work_lines (suc k)) (append_assoc x (enlisted_lines (suc k)) (commit_line (suc k)))
-        (q.0 ++ r.0 ∷ [], all)
+    (q.0 ++ r.0 ∷ [], all)
 
 -- all up to k are
 worked : (t k : ℕ) (x : List ℕ) → Lines t 0 0 true (t + 1) x → k ≤ t → t ≤ 256 → Lines t (2 * k) k true (t + 1 + 3 * k) (x ++ up_to work_lines k)
@@ -73,12 +73,11 @@ worked t zero x h begun high =
 worked t (suc k) x h begun high =
     let s = worked t k x h (omega arith) high in
     let r = work t k (t + 1 + 3 * k) (x ++ up_to work_lines k) s (omega arith) begun high in
-    same_text t (2 * suc k) (suc k) (t + 1 + 3 * suc k) true ((x ++ up_to work_lines k) ++ work_lines (suc k)) (x ++ up_to work_lines (suc k)) (append_assoc x (up_to work_lines k) (work_lines (suc k)))
-        (
-          r.0,
-          stage_more t (2 * suc k) (suc k) (t + 1 + 3 * k + 3) (2 * suc k) (suc k) (t + 1 + 3 * suc k) true ((x ++ up_to work_lines k) ++ work_lines (suc k)) r.0 r.1 (omega arith) (omega arith)
-              (omega arith),
-        )
+    same_text t (2 * suc k) (suc k) (t + 1 + 3 * suc k) true ((x ++ up_to work_lines k) ++ work_lines (suc k)) (x ++ up_to work_lines (suc k)) (append_assoc x (up_to work_lines k) (work_lines (suc k))) (
+      r.0,
+      stage_more t (2 * suc k) (suc k) (t + 1 + 3 * k + 3) (2 * suc k) (suc k) (t + 1 + 3 * suc k) true ((x ++ up_to work_lines k) ++ work_lines (suc k)) r.0 r.1 (omega arith) (omega arith)
+          (omega arith),
+    )
 
 -- so the whole text is read as a script
 pub made_reads : (n : ℕ) → n ≤ 256 → (s : List Line) × Reads (gen n) s

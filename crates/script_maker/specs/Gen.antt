@@ -39,7 +39,7 @@ volatile_line vote k = made_line (actor_of k) (codes "volatile" ∷ transaction_
 abbrev pub owner_line : ℕ → List ℕ
 owner_line k =
     made_line (actor_of k)
-        (codes "durable" ∷ transaction_name k ∷ enlistment_name (first_of k) ∷ manager_name 1 ∷ codes "single" ∷ codes "yes" ∷ codes "committed" ∷ [])
+    (codes "durable" ∷ transaction_name k ∷ enlistment_name (first_of k) ∷ manager_name 1 ∷ codes "single" ∷ codes "yes" ∷ codes "committed" ∷ [])
 
 -- a durable of two phases, and one of the next actor
 abbrev pub first_durable_line : ℕ → List ℕ

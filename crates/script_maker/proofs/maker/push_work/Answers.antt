@@ -10,7 +10,7 @@ returns c =
     let old = c.args.lines.now.items in
     let k = c.args.k in
     let enlisted : script_text c.match-k-rem5.lines.items ≡ script_text old ++ enlisted_lines k = elim c.match-k-rem5.branch [
-      in-0+in_ok-push-in-0 w ↦ ap (λ v. script_text v.items) w.lines-is ∙ text_push _ _ _ _ _ w.in_ok-push-in-0.ensures.items refl w.volatile.ensures ∙ ap (λ y. script_text old ++ y) (kind_yes k w.in-0.is)
+      | in-0+in_ok-push-in-0 w ↦ ap (λ v. script_text v.items) w.lines-is ∙ text_push _ _ _ _ _ w.in_ok-push-in-0.ensures.items refl w.volatile.ensures ∙ ap (λ y. script_text old ++ y) (kind_yes k w.in-0.is)
       | in-1+in_ok-push-in-1 w ↦ ap (λ v. script_text v.items) w.lines-is ∙ text_push _ _ _ _ _ w.in_ok-push-in-1.ensures.items refl w.volatile-in-1.ensures ∙ ap (λ y. script_text old ++ y) (kind_no k w.in-1.is)
       | in-2+in_ok-push-in-2 w ↦ ap (λ v. script_text v.items) w.lines-is ∙ text_push _ _ _ _ _ w.in_ok-push-in-2.ensures.items refl w.owner.ensures ∙ ap (λ y. script_text old ++ y) (kind_owner k w.in-2.is)
       | in-3+in_ok-push-in-3+in_ok-push-in-3-2 w ↦ ap (λ v. script_text v.items) w.lines-is
