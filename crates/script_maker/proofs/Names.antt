@@ -1,11 +1,10 @@
 -- Which names the lines so far make: transactions up to t, and no enlistment above e, no clone above c; and whether the threads began.
-use Rattle.std.proofs.Common.{◌≡◌, ℕ, suc, ◌+◌, ◌<◌, ◌≤◌, ◌≢◌, ◌==◌, ◌||◌, Bool, true, false, List, [], ◌∷◌, refl, arith}
+use Rattle.std.proofs.Common.{◌≡◌, ℕ, suc, ◌<◌, ◌≤◌, ◌≢◌, ◌==◌, ◌||◌, Bool, true, false, List, [], ◌∷◌, refl, arith}
 use Rattle.std.proofs.lemmas.Bool.Decides.{nat_tests}
 use Rattle.dtx_values.specs.declared.script.Line.{Line}
 use Rattle.dtx_model.specs.Words.{has}
-use Rattle.dtx_model.specs.Grammar.{Name, is_made, is_par, makes, same_name}
+use Rattle.dtx_model.specs.Grammar.{is_made, is_par, makes}
 use Rattle.dtx_model.specs.Grammar.Name.{OfTransaction, OfEnlistment, OfClone}
-use Rattle.dtx_model.proofs.Bools.{or_right}
 
 -- the names of these lines, newest first
 pub record Named (t e c : ℕ) (p : Bool) (past : List Line) : Type 0 where

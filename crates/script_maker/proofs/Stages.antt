@@ -3,10 +3,10 @@ use Rattle.std.proofs.Common.{◌≡◌, ℕ, ◌+◌, ◌*◌, ◌≤◌, Bool,
 use Rattle.std.specs.Prelude.{nat_le, not}
 use Rattle.std.proofs.lemmas.Bool.Decides.{nat_tests}
 use Rattle.std.proofs.lemmas.List.{append-nil}
-use Rattle.dtx_values.specs.declared.limits.TheConstants.{LINE_BYTES, SCRIPT_BYTES}
+use Rattle.dtx_values.specs.declared.limits.TheConstants.{LINE_BYTES}
 use Rattle.dtx_values.specs.declared.script.Line.{Line}
 use Rattle.dtx_model.specs.Words.{each, past_of}
-use Rattle.dtx_model.specs.Grammar.{IsScript, is_in_range, is_made, is_of_kind, is_par_once, is_short, line_text, makes, script_text, uses}
+use Rattle.dtx_model.specs.Grammar.{IsScript, is_in_range, is_made, is_of_kind, is_par_once, line_text, makes, script_text, uses}
 use Rattle.dtx_model.proofs.Histories.{past_of-snoc}
 use Rattle.script_text.proofs.Scripts.{IsGood, script_more, script_none, script_text-append}
 use Rattle.script_maker.proofs.Names.{Named, named_more, named_none}

@@ -1,5 +1,5 @@
 -- The lines of a made script, each after those before it.
-use Rattle.std.proofs.Common.{◌≡◌, ℕ, suc, ◌+◌, ◌*◌, ◌<◌, ◌≤◌, Bool, true, false, List, [], ◌∷◌, ◌++◌, length, refl, arith, codes, Some}
+use Rattle.std.proofs.Common.{◌≡◌, ℕ, suc, ◌+◌, ◌<◌, ◌≤◌, Bool, true, false, List, [], ◌∷◌, ◌++◌, length, refl, arith, Some}
 use Rattle.dtx_values.specs.declared.number.ActorNo.{ActorNo}
 use Rattle.dtx_values.specs.declared.number.TxNo.{TxNo}
 use Rattle.dtx_values.specs.declared.number.EnlNo.{EnlNo}
@@ -15,7 +15,7 @@ use Rattle.dtx_values.specs.declared.words.Timeout.TheVariants.{Default}
 use Rattle.dtx_values.specs.declared.words.Vote.{Vote}
 use Rattle.dtx_values.specs.declared.words.Vote.TheVariants.{Yes}
 use Rattle.dtx_model.specs.Words.{past_of}
-use Rattle.dtx_model.specs.Grammar.{OfTransaction, OfEnlistment, OfClone, command_words, is_par, line_text, makes, uses, vote_word}
+use Rattle.dtx_model.specs.Grammar.{OfTransaction, OfEnlistment, command_words, is_par, line_text, makes, uses, vote_word}
 use Rattle.script_maker.specs.Gen.{actor_of, begin_line, clone_line, commit_line, first_durable_line, first_of, next_actor_of, owner_line, par_line, second_durable_line, second_of, volatile_line}
 use Rattle.script_maker.proofs.Lengths.{length_line, room_of, short_number}
 use Rattle.script_maker.proofs.Names.{named_begin, named_clone, named_enlist, named_same}
