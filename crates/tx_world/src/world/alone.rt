@@ -58,7 +58,10 @@ impl TxWorld {
         ensures memory { OnErr result (self.new ≡ self.old) }
     {
         // It sends no BEGIN, so it doesn't matter what is said of the log.
-        self.enter_at(true, 0, out, actor, line, c, 0)
+        self.is_own_run();
+        let answered = self.enter_at(true, 0, out, actor, line, c, 0);
+        self.is_own_run();
+        answered
     }
 
     /// Whether the reply fits the note to which one of the enlistment is due, and that isn't one to promote, so that it needs no log. Where none is due, each fits.

@@ -57,7 +57,10 @@ impl TxWorld {
         ensures named { NamesPrepared self.old → NamesPrepared self.new }
         ensures memory { OnErr result (self.new ≡ self.old) }
     {
-        self.enter_at(log.is_up(), log.life(), out, actor, line, c, done)
+        self.is_own_run();
+        let answered = self.enter_at(log.is_up(), log.life(), out, actor, line, c, done);
+        self.is_own_run();
+        answered
     }
 
     /// Enters a call, where this says whether the log is up, and in which life.

@@ -59,7 +59,10 @@ impl TxWorld {
         ensures memory { OnErr result (self.new ≡ self.old) }
     {
         let answer = self.half.if_begun(Answer::Did(m));
-        self.write_alone(actor, line, c, m, answer)
+        self.is_own_run();
+        let entered = self.write_alone(actor, line, c, m, answer);
+        self.is_own_run();
+        entered
     }
 
     /// Does the k-th pending step, from 1, n times, or until fewer than k are pending; how often it did.
