@@ -206,3 +206,29 @@ named_found t o (Some r) u k tie n = λ s. elim tie [ inl e ↦ e ∙ n (ap (λ 
   where
     none : Some r ≡ None → ⊥
     none e = absurd cc
+
+-- So a stop of the log leaves it,
+stopped_names : (t : ℕ) (o : Option CommitRecord) (h : List Entry) → Names t o (coordinate h) → Names t o (coordinate (Stopped ∷ h))
+unfolding coordinate
+stopped_names t o h n = named_stopped t o (coordinate h) n
+
+pub named_halt : (t : TxNo) (w v : World) (x : LogKept) (old : TxState) → v.past ≡ Stopped ∷ w.past → seen_as t w x ≡ old → NamesPrepared old → NamesPrepared (seen_as t v x)
+named_halt t w v x old past seen n =
+    let P : TxState → Type 0 = λ z. NamesPrepared z → NamesPrepared (seen_as t v x) in
+    let here : P (seen_as t w x) = λ m. subst (λ (h : List Entry). Names t.value x.ours (coordinate h)) (sym past) (stopped_names t.value x.ours w.past m) in
+    subst P seen here n
+
+-- and so does an opening, where what it found ties with what was kept.
+found_names : (t : ℕ) (o found : Option CommitRecord) (u b : Bool) (h : List Entry) → Tie o u found → Names t o (coordinate h) → Names t found (coordinate (Restarted (is_some found) ∷ stop_if b h))
+unfolding coordinate
+found_names t o found u true h tie n = named_found t o found u (coordinate (Stopped ∷ h)) tie (stopped_names t o h n)
+found_names t o found u false h tie n = named_found t o found u (coordinate h) tie n
+
+pub named_told : (t : TxNo) (w v : World) (x y : LogKept) (old : TxState) (b : Bool) (found : Option CommitRecord) → v.past ≡ Restarted (is_some found) ∷ stop_if b w.past → seen_as t w x ≡ old
+    → Tie old.ours old.unsure found → y.ours ≡ found → NamesPrepared old → NamesPrepared (seen_as t v y)
+named_told t w v x y old b found past seen tie kept n =
+    let P : TxState → Type 0 = λ z. Tie z.ours z.unsure found → NamesPrepared z → NamesPrepared (seen_as t v y) in
+    let here : P (seen_as t w x) = λ ties m.
+    subst (λ (o : Option CommitRecord). Names t.value o (core v)) (sym kept)
+    (subst (λ (h : List Entry). Names t.value found (coordinate h)) (sym past) (found_names t.value x.ours found x.unsure b w.past ties m)) in
+    subst P seen here tie n
