@@ -9,15 +9,15 @@ use Rattle.dtx_model.specs.Steps.{Calls}
 use Rattle.tx_world.proofs.Unlogged.{ok_at_alone}
 use Rattle.tx_world.proofs.world.TxWorld.did.Goals as goal
 
-pub write_alone-requires-clause-answer : goal.write_alone-requires-clause-answer
-write_alone-requires-clause-answer c =
+pub write_alone-entered-requires-clause-answer : goal.write_alone-entered-requires-clause-answer
+write_alone-entered-requires-clause-answer c =
     let i = c.self.inside in
     let w : World = record { calls = past_of i.calls.items; past = i.history.past } in
     did_answer i.transaction w i.half i.core c.args.c.now c.args.m c.if_begun-answer.result c.self.invariant.kept c.requires.kind c.if_begun-answer.ensures
     ∙ ap (λ (y : TxState). answer_at y.transaction.value y.world c.args.c.now c.args.m) c.self.view_is
 
-pub write_alone-requires-clause-alone : goal.write_alone-requires-clause-alone
-write_alone-requires-clause-alone c = did_silent c.self.inside.half.half.seen.limit c.args.m c.if_begun-answer.result c.if_begun-answer.ensures
+pub write_alone-entered-requires-clause-alone : goal.write_alone-entered-requires-clause-alone
+write_alone-entered-requires-clause-alone c = did_silent c.self.inside.half.half.seen.limit c.args.m c.if_begun-answer.result c.if_begun-answer.ensures
 
 pub returns-clause-wrote : goal.returns-clause-wrote
 returns-clause-wrote c = λ begun.
