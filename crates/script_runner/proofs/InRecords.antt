@@ -26,9 +26,9 @@ use Rattle.outcome_law.proofs.Scans.{each_more}
 use Rattle.outcome_law.proofs.Steady.{run_keeps}
 use Rattle.outcome_law.proofs.Tests.{eq_self}
 use Rattle.std.proofs.lemmas.Bool.{eqb-true}
-use Rattle.coordinator_core.specs.Acting.{record_for}
 use Rattle.tx_world.specs.AtLog.{AtMostOne, Fits, id_of}
 use Rattle.tx_world.specs.Prepared.{NamesPrepared}
+use Rattle.tx_world.specs.Recorded.{record_after}
 use Rattle.tx_world.specs.State.{TxState}
 use Rattle.tx_world.proofs.Fitting.{one_found}
 use Rattle.tx_world.proofs.FreedRecords.{each_info, enlist_by, is_desk_for, noted_recorded}
@@ -66,16 +66,16 @@ pair_there h k i sent (d ∷ ds) m t =
     there false s = s
 
 -- So the record that the coordinator writes has each enlistment that said PREPARED.
-record_names : (t : ℕ) (h : List Entry) → Keeps h → has_mark h ≡ true → are_named h (record_for t (coordinate h) ∷ []) ≡ true
+record_names : (t : ℕ) (h : List Entry) → Keeps h → has_mark h ≡ true → are_named h (record_after t h ∷ []) ≡ true
 record_names t h k marked =
-    each_info (λ i. is_done_there h i || has (names i) (record_for t (coordinate h) ∷ [])) h k (λ i s. by i (enlist_by i.enl i.rm.value h k s) (has (is_prepared_got i.enl.value) h) refl)
+    each_info (λ i. is_done_there h i || has (names i) (record_after t h ∷ [])) h k (λ i s. by i (enlist_by i.enl i.rm.value h k s) (has (is_prepared_got i.enl.value) h) refl)
   where
     by : (i : Info) → has (is_enlist_by i.enl.value i.rm.value) h ≡ true → (b : Bool) → has (is_prepared_got i.enl.value) h ≡ b
-        → ((not b || is_acked i.enl.value h || has (is_recovery i.rm.value) h) || has (names i) (record_for t (coordinate h) ∷ [])) ≡ true
+        → ((not b || is_acked i.enl.value h || has (is_recovery i.rm.value) h) || has (names i) (record_after t h ∷ [])) ≡ true
     by i sent false q = refl
     by i sent true q =
-        or_right (not true || is_acked i.enl.value h || has (is_recovery i.rm.value) h) (has (names i) (record_for t (coordinate h) ∷ []))
-        (or_left (names i (record_for t (coordinate h))) false (pair_there h k i sent (coordinate h).desks (desks_managed h k) (noted_recorded i.enl h k marked q)))
+        or_right (not true || is_acked i.enl.value h || has (is_recovery i.rm.value) h) (has (names i) (record_after t h ∷ []))
+        (or_left (names i (record_after t h)) false (pair_there h k i sent (coordinate h).desks (desks_managed h k) (noted_recorded i.enl h k marked q)))
 
 -- Who was finished before the last stop is finished as long as the coordinator stands stopped.
 still_recovered : (h : List Entry) (x : Entry) (i : Info) → (not (has (is_prepared_got i.enl.value) h) || is_acked i.enl.value h || has (is_recovery i.rm.value) h) ≡ true
@@ -126,25 +126,25 @@ history_keeps : (x : TxState) → IsRecordKept x → tied x.world.past ≡ true 
 history_keeps x kept sound = run_keeps (IsIn x.world.calls) x.transaction.value kept.own.0 x.world kept.once kept.own.1 sound
 
 -- its record, where that is the one that is found
-own_record : (x : TxState) (rs : List CommitRecord) → NamesPrepared x → Fits x rs → first_of (id_of x) rs ≡ x.ours → is_some x.ours ≡ true → filter (is_record_of (id_of x)) rs ≡ record_for x.transaction.value (core x.world) ∷ []
-own_record x rs named fits found some = only_found (id_of x) rs (record_for x.transaction.value (core x.world)) fits.one (found ∙ named some)
+own_record : (x : TxState) (rs : List CommitRecord) → NamesPrepared x → Fits x rs → first_of (id_of x) rs ≡ x.ours → is_some x.ours ≡ true → filter (is_record_of (id_of x)) rs ≡ record_after x.transaction.value x.world.past ∷ []
+own_record x rs named fits found some = only_found (id_of x) rs (record_after x.transaction.value x.world.past) fits.one (found ∙ named some)
 
 -- The log is up: where there is a record by the history, it is the one that the coordinator writes.
 pub written_up : (x : TxState) (rs : List CommitRecord) → IsRecordKept x → NamesPrepared x → (core x.world).stopped ≡ false → Fits x rs → has_mark x.world.past ≡ true → is_some x.ours ≡ has_mark x.world.past
-    → filter (is_record_of (id_of x)) rs ≡ record_for x.transaction.value (core x.world) ∷ []
+    → filter (is_record_of (id_of x)) rs ≡ record_after x.transaction.value x.world.past ∷ []
 written_up x rs kept named runs fits marked there = own_record x rs named fits (one_found (id_of x) x.ours x.unsure rs (kept.ours.sure runs) fits) (there ∙ marked)
 
 pub named_up : (x : TxState) (rs : List CommitRecord) → IsRecordKept x → tied x.world.past ≡ true → has_mark x.world.past ≡ true
-    → filter (is_record_of (id_of x)) rs ≡ record_for x.transaction.value (core x.world) ∷ [] → are_named x.world.past (filter (is_record_of (id_of x)) rs) ≡ true
+    → filter (is_record_of (id_of x)) rs ≡ record_after x.transaction.value x.world.past ∷ [] → are_named x.world.past (filter (is_record_of (id_of x)) rs) ≡ true
 named_up x rs kept sound marked is =
     subst (λ (qs : List CommitRecord). are_named x.world.past qs ≡ true) (sym is) (record_names x.transaction.value x.world.past (history_keeps x kept sound) marked)
 
 -- Whatever records fit a transaction: none of its identifier is there, or the one that the coordinator writes,
 pub written_there : (x : TxState) (rs : List CommitRecord) → NamesPrepared x → Fits x rs → (first_of (id_of x) rs ≡ None → filter (is_record_of (id_of x)) rs ≡ [])
-    → (filter (is_record_of (id_of x)) rs ≡ []) ⊎ (filter (is_record_of (id_of x)) rs ≡ record_for x.transaction.value (core x.world) ∷ [])
+    → (filter (is_record_of (id_of x)) rs ≡ []) ⊎ (filter (is_record_of (id_of x)) rs ≡ record_after x.transaction.value x.world.past ∷ [])
 written_there x rs named fits none = elim fits.tie [ inl e ↦ by x.ours refl e | inr e ↦ inl (none e.0) ]
   where
-    by : (o : Option CommitRecord) → x.ours ≡ o → first_of (id_of x) rs ≡ x.ours → (filter (is_record_of (id_of x)) rs ≡ []) ⊎ (filter (is_record_of (id_of x)) rs ≡ record_for x.transaction.value (core x.world) ∷ [])
+    by : (o : Option CommitRecord) → x.ours ≡ o → first_of (id_of x) rs ≡ x.ours → (filter (is_record_of (id_of x)) rs ≡ []) ⊎ (filter (is_record_of (id_of x)) rs ≡ record_after x.transaction.value x.world.past ∷ [])
     by None q e = inl (none (e ∙ q))
     by (Some r) q e = inr (own_record x rs named fits e (ap (λ (o : Option CommitRecord). is_some o) q))
 

@@ -17,7 +17,6 @@ use Rattle.dtx_model.specs.World.{World, core}
 use Rattle.dtx_model.specs.Caused.{is_begin_sent}
 use Rattle.dtx_model.specs.declared.waiting.EnteredCall.{EnteredCall}
 use Rattle.dtx_model.proofs.Bools.{not_both}
-use Rattle.coordinator_core.specs.Acting.{record_for}
 use Rattle.coordinator_log.specs.Crash.{AllHold}
 use Rattle.coordinator_log.specs.Slots.{open_records}
 use Rattle.coordinator_log.specs.State.{LogState}
@@ -25,11 +24,12 @@ use Rattle.outcome_law.proofs.CoreStages.{recorded_mark}
 use Rattle.scope_context.specs.Standing.{Standing}
 use Rattle.tx_world.specs.AtLog.{AreLogs, AtMostOne, Fits, IsHad, IsOurs, id_of}
 use Rattle.tx_world.specs.State.{TxState}
+use Rattle.tx_world.specs.Recorded.{record_after}
 use Rattle.tx_world.specs.Tried.{IsTried}
 use Rattle.tx_world.proofs.Begun.{recorded_begun}
 use Rattle.tx_world.proofs.Fitting.{none_found, one_found}
 use Rattle.tx_world.proofs.Records.{one_where_none}
-use Rattle.script_runner.specs.Ending.{AreRecorded, EachHolds, EndsAs, HasNone, MayBeRecorded, are_named, record_after, records_of}
+use Rattle.script_runner.specs.Ending.{AreRecorded, EachHolds, EndsAs, HasNone, MayBeRecorded, are_named, records_of}
 use Rattle.script_runner.specs.LogRun.{AreForeignSame, IsCounted, IsForeignKept, LogGoes}
 use Rattle.script_runner.specs.RunState.{FitsLog, GoesWith, Holds, IsRecordKept, IsTied, RunState, Tells, state_of, untouched}
 use Rattle.script_runner.proofs.Fitting.{found_fit}
@@ -151,7 +151,7 @@ ends_as {D} faults image start log r T same numbered holds foreign logs held =
     })
   where
     own_up : (t : TxNo) → IsTrue log.is_up → has_mark (state_of t r.worlds).world.past ≡ true
-        → filter (is_record_of (id_of (state_of t r.worlds))) (open_records log.slots) ≡ record_for (state_of t r.worlds).transaction.value (core (state_of t r.worlds).world) ∷ []
+        → filter (is_record_of (id_of (state_of t r.worlds))) (open_records log.slots) ≡ record_after (state_of t r.worlds).transaction.value (state_of t r.worlds).world.past ∷ []
     own_up t up marked =
         let x = state_of t r.worlds in
         let runs = runs_up log x (holds.goes t) up in
@@ -162,7 +162,7 @@ ends_as {D} faults image start log r T same numbered holds foreign logs held =
         let x = state_of t r.worlds in
         let here = (holds.tied t).past in
         subst (λ (u : TxNo). records_of u.value (open_records log.slots) ≡ record_after u.value (history t.value (past_of r.trace)) ∷ []) (numbered t)
-        (subst (λ (h : List Entry). filter (is_record_of (id_of x)) (open_records log.slots) ≡ record_for x.transaction.value (coordinate h) ∷ []) here (own_up t up (ap has_mark here ∙ marked)))
+        (subst (λ (h : List Entry). filter (is_record_of (id_of x)) (open_records log.slots) ≡ record_after x.transaction.value h ∷ []) here (own_up t up (ap has_mark here ∙ marked)))
 
     may_be : (c : List ℕ) → image log.disk c → (rs : List CommitRecord) → log_has c ≡ Ok rs → MayBeRecorded (past_of r.trace) (open_records start.slots) rs
     may_be c i rs e =
@@ -172,7 +172,7 @@ ends_as {D} faults image start log r T same numbered holds foreign logs held =
           one = λ t. subst (λ id. length (filter (is_record_of id) rs) ≤ 1) (named t) (fits t).one;
           written = λ t. let x = state_of t r.worlds in
               subst (λ (u : TxNo). (records_of u.value rs ≡ []) ⊎ (records_of u.value rs ≡ record_after u.value (history t.value (past_of r.trace)) ∷ [])) (numbered t)
-              (subst (λ (h : List Entry). (filter (is_record_of (id_of x)) rs ≡ []) ⊎ (filter (is_record_of (id_of x)) rs ≡ record_for x.transaction.value (coordinate h) ∷ [])) (holds.tied t).past
+              (subst (λ (h : List Entry). (filter (is_record_of (id_of x)) rs ≡ []) ⊎ (filter (is_record_of (id_of x)) rs ≡ record_after x.transaction.value h ∷ [])) (holds.tied t).past
               (written_there x rs (holds.named refl t) (fits t) (none_first (id_of x) rs)));
           named = λ t marked. let x = state_of t r.worlds in
               let here = (holds.tied t).past in

@@ -7,14 +7,13 @@ use Rattle.dtx_values.specs.declared.number.TxNo.{TxNo}
 use Rattle.dtx_model.specs.AtLog.{is_known, is_log_up}
 use Rattle.dtx_model.specs.Log.{CommitRecord, is_record_of, log_has}
 use Rattle.dtx_model.specs.Promotes.{identifier_of}
-use Rattle.dtx_model.specs.Coordinated.{coordinate}
 use Rattle.dtx_model.specs.Tied.{enlist_got, has_mark, is_done_there, is_tied}
 use Rattle.dtx_model.specs.Traces.{Placed, history}
 use Rattle.dtx_model.specs.Words.{all_of, each, has, past_of}
-use Rattle.coordinator_core.specs.Acting.{record_for}
 use Rattle.coordinator_log.specs.Crash.{AllHold}
 use Rattle.coordinator_log.specs.Slots.{open_records}
 use Rattle.coordinator_log.specs.State.{LogState}
+use Rattle.tx_world.specs.Recorded.{record_after}
 use Rattle.script_runner.specs.LogRun.{AreForeignSame}
 
 -- the records of a transaction of this number
@@ -33,10 +32,6 @@ names i r = has (λ p. (i.rm.value == p.0) && (i.enl.value == p.1)) r.enlistment
 -- hasn't recovered.
 abbrev pub are_named : List Entry → List CommitRecord → Bool
 are_named h rs = each (λ i. is_done_there h i || has (names i) rs) (all_of enlist_got h)
-
--- the record of transaction t that its coordinator writes after this history: it names the enlistments that said PREPARED, in order of their numbers
-abbrev pub record_after : ℕ → List Entry → CommitRecord
-record_after t h = record_for t (coordinate h)
 
 -- The records of a log that is up, where T is the trace, newest first: of each transaction there is one where the last of `logged`, `freed`, `restarted found` and `restarted none` is `logged` or `restarted found`, and else
 -- none; it is the one that its coordinator writes, and names who said PREPARED and isn't finished; and those that are no transaction's are as they were before.
