@@ -7,6 +7,9 @@ use Rattle.dtx_values.specs.declared.number.TxNo.{TxNo}
 use Rattle.dtx_model.specs.AtLog.{is_known, is_log_up}
 use Rattle.dtx_model.specs.Log.{CommitRecord, is_record_of, log_has}
 use Rattle.dtx_model.specs.Promotes.{identifier_of}
+use Rattle.dtx_model.specs.Entries.{is_record}
+use Rattle.dtx_model.specs.Observed.{observe}
+use Rattle.dtx_model.specs.World.{is_finished_there}
 use Rattle.dtx_model.specs.Tied.{enlist_got, has_mark, is_done_there, is_tied}
 use Rattle.dtx_model.specs.Traces.{Placed, history}
 use Rattle.dtx_model.specs.Words.{all_of, each, has, past_of}
@@ -33,20 +36,26 @@ names i r = has (λ p. (i.rm.value == p.0) && (i.enl.value == p.1)) r.enlistment
 abbrev pub are_named : List Entry → List CommitRecord → Bool
 are_named h rs = each (λ i. is_done_there h i || has (names i) rs) (all_of enlist_got h)
 
+-- The same of each that isn't finished at the local side either, where it is once it acknowledged.
+abbrev pub are_ever_named : List Entry → List CommitRecord → Bool
+are_ever_named h rs = each (λ i. is_done_there h i || is_finished_there (observe h) i.enl.value || has (names i) rs) (all_of enlist_got h)
+
 -- The records of a log that is up, where T is the trace, newest first: of each transaction there is one where the last of `logged`, `freed`, `restarted found` and `restarted none` is `logged` or `restarted found`, and else
--- none; it is the one that its coordinator writes, and names who said PREPARED and isn't finished; and those that are no transaction's are as they were before.
+-- none; it is the one that its coordinator writes, and names who said PREPARED and isn't finished; so does the log where `logged` or `restarted found` ever came; and those that are no transaction's are as they were before.
 pub record AreRecorded (T : List Placed) (before rs : List CommitRecord) : Type 0 where
   pub recorded : (t : TxNo) → length (records_of t.value rs) ≡ (if has_mark (history t.value T) then 1 else 0)
   pub written : (t : TxNo) → has_mark (history t.value T) ≡ true → records_of t.value rs ≡ record_after t.value (history t.value T) ∷ []
   pub named : (t : TxNo) → has_mark (history t.value T) ≡ true → are_named (history t.value T) (records_of t.value rs) ≡ true
+  pub ever : (t : TxNo) → has is_record (history t.value T) ≡ true → are_ever_named (history t.value T) (records_of t.value rs) ≡ true
   pub others : AreForeignSame before rs
 
 -- The records of a log that is stopped, in some image that a crash can leave: of each transaction there is one at most, and none of one of which the coordinator doesn't know; a restart that finds them finds in each transaction what may
--- be found there; it is the one that its coordinator writes; where the history has a record, each that said PREPARED and isn't finished is named; and those that are no transaction's are as they were before.
+-- be found there; it is the one that its coordinator writes; where the history has a record, or ever had one, each that said PREPARED and isn't finished is named; and those that are no transaction's are as they were before.
 pub record MayBeRecorded (T : List Placed) (before rs : List CommitRecord) : Type 0 where
   pub one : (t : TxNo) → length (records_of t.value rs) ≤ 1
   pub written : (t : TxNo) → (records_of t.value rs ≡ []) ⊎ (records_of t.value rs ≡ record_after t.value (history t.value T) ∷ [])
   pub named : (t : TxNo) → has_mark (history t.value T) ≡ true → are_named (history t.value T) (records_of t.value rs) ≡ true
+  pub ever : (t : TxNo) → has is_record (history t.value T) ≡ true → are_ever_named (history t.value T) (records_of t.value rs) ≡ true
   pub known : (t : TxNo) → is_known T t ≡ false → records_of t.value rs ≡ []
   pub found : (t : TxNo) → is_tied (history t.value T) (Restarted (has (is_record_of (identifier_of t.value)) rs)) ≡ true
   pub others : AreForeignSame before rs
