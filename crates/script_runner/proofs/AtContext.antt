@@ -19,6 +19,7 @@ use Rattle.outcome_law.proofs.FollowingLog.{log-noted}
 use Rattle.outcome_law.proofs.Replays.{scope_call_of}
 use Rattle.scope_context.specs.Standing.{Standing}
 use Rattle.tx_world.specs.AtLog.{IsHad}
+use Rattle.tx_world.specs.Prepared.{NamesPrepared}
 use Rattle.tx_world.specs.State.{TxState}
 use Rattle.script_runner.specs.RunState.{FitsLog, GoesWith, Holds, IsRecordKept, IsTied, IsToPlan, RunState, Tells, state_of}
 use Rattle.script_runner.specs.Scoped.{AreOpen, scopes_at}
@@ -56,6 +57,7 @@ noted_holds honest image log a es old new n h =
       uncalled = λ up. ap is_called at ∙ h.uncalled up;
       fits = λ hon t. subst (λ (x : TxState). FitsLog image log x) (same t) (h.fits hon t);
       sound = λ hon t. subst (λ (x : TxState). is_tied_history x.world.past ≡ true) (same t) (h.sound hon t);
+      named = λ hon t. subst (λ (x : TxState). NamesPrepared x) (same t) (h.named hon t);
     }
 
 -- and the trace tells the same of the log.

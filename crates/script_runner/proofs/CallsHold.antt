@@ -20,8 +20,10 @@ use Rattle.dtx_model.proofs.Bools.{and_both, and_left, and_right}
 use Rattle.coordinator_log.specs.State.{LogState}
 use Rattle.outcome_law.proofs.FollowingLog.{log-placed}
 use Rattle.tx_world.specs.AtLog.{IsHad}
+use Rattle.tx_world.specs.Prepared.{NamesPrepared}
 use Rattle.tx_world.specs.State.{TxState, may_enter, sends_begin, turned}
 use Rattle.tx_world.specs.Stepping.{Does}
+use Rattle.tx_world.proofs.Naming.{named_does}
 use Rattle.tx_world.proofs.StillTied.{turned_tied}
 use Rattle.script_runner.specs.RunState.{AreNumbered, FitsLog, GoesWith, Holds, IsBelow, IsRecordKept, IsTied, IsToPlan, RunState, Tells, state_of}
 use Rattle.script_runner.proofs.Deeds.{untelling_block}
@@ -94,6 +96,12 @@ log_still : {D : Type 0} (faults : D → ℕ) (log : LogState D) (t : TxNo) (n :
     → Entered faults log t n a c m x y old new → at_log (past_of new.trace) ≡ at_log (past_of old.trace)
 log_still faults log t n a c m x y old new e = ap at_log e.block ∙ log-placed t (written log.is_up t.value x.world (Calls n a c m)) (past_of old.trace)
 
+-- The record that it keeps still names who said PREPARED.
+called_named : {D : Type 0} (faults : D → ℕ) (log : LogState D) (t : TxNo) (n : ℕ) (a : ActorNo) (c : Call) (m : ℕ) (x y : TxState) (old new : RunState) → Entered faults log t n a c m x y old new
+    → IsRecordKept x → NamesPrepared x → NamesPrepared y
+called_named faults log t n a c m x y old new e kept named =
+    named_does log.is_up log.life (Calls n a c m) x y refl kept.ours e.kept.own e.ours (record { transaction = e.does.transaction; world = e.does.world; life = e.does.life }) named
+
 -- So what holds of the run holds still,
 pub entered_holds : {D : Type 0} (faults : D → ℕ) (honest : Bool) (image : D → List ℕ → Type 0) (log : LogState D) (t : TxNo) (n : ℕ) (a : ActorNo) (c : Call) (m : ℕ) (x y : TxState) (old new : RunState)
     → Entered faults log t n a c m x y old new → IsCallOf old.script t.value n a c → Holds honest image log old → Holds honest image log new
@@ -118,6 +126,7 @@ entered_holds faults honest image log t n a c m x y old new e mine h =
       fits = λ hon. each_still faults log t n a c m x y old new (FitsLog image log) e (fits_as image log x y e.does.transaction e.ours e.unsure) (h.fits hon);
       sound = λ hon. each_still faults log t n a c m x y old new (λ z. is_tied_history z.world.past ≡ true) e
           (λ k. subst (λ (w : World). is_tied_history w.past ≡ true) (sym (world_after faults log t n a c m x y old new e)) (turned_tied log.is_up t.value x.world step refl k)) (h.sound hon);
+      named = λ hon. each_still faults log t n a c m x y old new NamesPrepared e (called_named faults log t n a c m x y old new e (subst IsRecordKept e.was (h.kept t))) (h.named hon);
     }
 
 -- the trace tells the same of the log,

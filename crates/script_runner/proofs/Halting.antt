@@ -1,5 +1,5 @@
 -- A stop and an opening of the log, as each transaction is told of it, by number: what becomes of each, and of the trace.
-use Rattle.std.proofs.Common.{◌≡◌, ◌≢◌, ◌⊎◌, ◌≤◌, ◌<◌, ℕ, ◌+◌, ◌-◌, nat_le, Bool, true, false, ◌&&◌, not, List, [], ◌++◌, length, get_or, set, is_some, inl, inr, refl, ap, sym, subst, ◌∙◌, arith, filter, Option, if◌then◌else◌, length-set}
+use Rattle.std.proofs.Common.{◌≡◌, ◌≢◌, ◌⊎◌, ◌≤◌, ◌<◌, ℕ, ◌+◌, ◌-◌, nat_le, Bool, true, false, ◌&&◌, not, List, [], ◌∷◌, ◌++◌, length, get_or, set, is_some, inl, inr, refl, ap, sym, subst, ◌∙◌, arith, filter, Option, if◌then◌else◌, length-set}
 use Rattle.std.proofs.lemmas.Bool.{cases_lt}
 use Rattle.std.proofs.lemmas.Bool.Decides.{leb_tells}
 use Rattle.dtx_values.specs.declared.entry.Entry.{Entry}
@@ -23,8 +23,11 @@ use Rattle.outcome_law.proofs.CoreStages.{stopped_same}
 use Rattle.outcome_law.proofs.PutAt.{history-hit, history-known, is_tx, many-hit, many-known, one_more}
 use Rattle.coordinator_log.specs.Slots.{open_records}
 use Rattle.coordinator_log.specs.State.{LogState}
-use Rattle.tx_world.specs.AtLog.{id_of}
+use Rattle.tx_world.specs.AtLog.{Fits, id_of}
+use Rattle.tx_world.specs.Kept.{stop_if}
+use Rattle.tx_world.specs.Prepared.{NamesPrepared}
 use Rattle.tx_world.specs.State.{TxState, is_hit_by, is_reached_by}
+use Rattle.tx_world.proofs.Naming.{named_halt, named_told}
 use Rattle.script_runner.specs.RunState.{AreNumbered, GoesWith, HaveSameCalls, IsTied, IsToPlan, halted, record_in, reopened, state_of, untouched}
 use Rattle.script_runner.proofs.ByNumber.{AreUpTo, Rises, le_last, le_other, le_yet, one_where, put_next, rises-filter, rises-transactions, up_to_all, up_to_next, up_to_none}
 use Rattle.script_runner.proofs.Deeds.{is_to}
@@ -234,7 +237,34 @@ halted_sound life x sound = ap is_tied_history (halted_as life x).past ∙ by (i
     by true = sound
     by false = sound
 
--- An opening: what it makes of a transaction,
+-- and the record that is kept names who said PREPARED
+pub halted_named : (life : ℕ) (x : TxState) → NamesPrepared x → NamesPrepared (halted life x)
+unfolding after block_at
+halted_named life x named = by (is_hit_by life x)
+  where
+    by : (b : Bool) → NamesPrepared (if b then record { transaction = x.transaction; world = after x.transaction.value x.world Stops; ours = x.ours; unsure = x.unsure; life = x.life } else x)
+    by true = named_halt x.transaction x.world (after x.transaction.value x.world Stops) (record { ours = x.ours; unsure = x.unsure; life = x.life }) x refl refl named
+    by false = named
+
+-- An opening: the record that is kept names who said PREPARED, where those of the log fit what was kept;
+pub reopened_named : {D : Type 0} (log : LogState D) (x : TxState) → Fits x (open_records log.slots) → NamesPrepared x → NamesPrepared (reopened log x)
+unfolding after block_at
+reopened_named {D} log x fits named = by (is_reached_by log.life x)
+  where
+    found : Option CommitRecord
+    found = record_in log.slots x.transaction.value
+
+    told : (b : Bool) → (core x.world).stopped ≡ b → (after x.transaction.value x.world (Restarts (is_some found))).past ≡ Restarted (is_some found) ∷ stop_if (not b) x.world.past
+    told true s = ap (λ (c : Bool). onto x.world.past (restarted c (is_some found))) s
+    told false s = ap (λ (c : Bool). onto x.world.past (restarted c (is_some found))) s
+
+    by : (b : Bool) → NamesPrepared (if b then record { transaction = x.transaction; world = after x.transaction.value x.world (Restarts (is_some found)); ours = found; unsure = false; life = log.life } else x)
+    by true =
+        named_told x.transaction x.world (after x.transaction.value x.world (Restarts (is_some found))) (record { ours = x.ours; unsure = x.unsure; life = x.life }) (record { ours = found; unsure = false; life = log.life }) x
+        (not (core x.world).stopped) found (told (core x.world).stopped refl) refl fits.tie refl named
+    by false = named
+
+-- and what it makes of a transaction,
 pub is_reopened : {D : Type 0} (log : LogState D) (x y : TxState) → y.transaction ≡ x.transaction
     → (is_reached_by log.life x ≡ true → (y.world ≡ after x.transaction.value x.world (Restarts (is_some (first_of (id_of x) (open_records log.slots)))))
     × (y.ours ≡ first_of (id_of x) (open_records log.slots)) × (y.unsure ≡ false) × (y.life ≡ log.life))

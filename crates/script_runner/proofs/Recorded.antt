@@ -1,5 +1,5 @@
 -- The log at the start and at the end of a run: before the first step it fits each transaction, and at the end its records are those that the trace says.
-use Rattle.std.proofs.Common.{◌≡◌, ◌≤◌, ◌∙◌, ℕ, zero, suc, Bool, true, false, ◌&&◌, ◌||◌, not, List, [], ◌∷◌, Option, Some, None, arith, refl, sym, ap, subst, inl, inr}
+use Rattle.std.proofs.Common.{◌≡◌, ◌⊎◌, ◌≤◌, ◌∙◌, ℕ, zero, suc, Bool, true, false, ◌&&◌, ◌||◌, not, List, [], ◌∷◌, Option, Some, None, arith, refl, sym, ap, subst, inl, inr}
 use Rattle.std.specs.Prelude.{IsTrue, IfOk, Ok, filter, is_some, length, if◌then◌else◌}
 use Rattle.std.proofs.lemmas.Bool.{false_from_ne_true, or_left}
 use Rattle.dtx_values.specs.declared.entry.Entry.{Entry}
@@ -9,6 +9,7 @@ use Rattle.dtx_values.specs.declared.script.Line.{Line}
 use Rattle.dtx_model.specs.Words.{has, kth, latest, past_of}
 use Rattle.dtx_model.specs.AtLog.{is_known}
 use Rattle.dtx_model.specs.Coordinated.{coordinate, is_recorded}
+use Rattle.dtx_model.specs.Entries.{is_record}
 use Rattle.dtx_model.specs.Log.{CommitRecord, first_of, is_record_of, log_has}
 use Rattle.dtx_model.specs.Promotes.{identifier_of}
 use Rattle.dtx_model.specs.Tied.{before_first_stop, before_last_stop, can_free, can_log, has_mark, is_tied, is_unmarked, mark_of, tied as is_tied_history}
@@ -24,14 +25,16 @@ use Rattle.outcome_law.proofs.CoreStages.{recorded_mark}
 use Rattle.scope_context.specs.Standing.{Standing}
 use Rattle.tx_world.specs.AtLog.{AreLogs, AtMostOne, Fits, IsHad, IsOurs, id_of}
 use Rattle.tx_world.specs.State.{TxState}
+use Rattle.tx_world.specs.Recorded.{record_after}
 use Rattle.tx_world.specs.Tried.{IsTried}
 use Rattle.tx_world.proofs.Begun.{recorded_begun}
 use Rattle.tx_world.proofs.Fitting.{none_found, one_found}
 use Rattle.tx_world.proofs.Records.{one_where_none}
-use Rattle.script_runner.specs.Ending.{AreRecorded, EachHolds, EndsAs, HasNone, MayBeRecorded, records_of}
+use Rattle.script_runner.specs.Ending.{AreRecorded, EachHolds, EndsAs, HasNone, MayBeRecorded, are_ever_named, are_named, records_of}
 use Rattle.script_runner.specs.LogRun.{AreForeignSame, IsCounted, IsForeignKept, LogGoes}
 use Rattle.script_runner.specs.RunState.{FitsLog, GoesWith, Holds, IsRecordKept, IsTied, RunState, Tells, state_of, untouched}
 use Rattle.script_runner.proofs.Fitting.{found_fit}
+use Rattle.script_runner.proofs.InRecords.{ever_there, named_there, named_up, written_there, written_up}
 
 -- where there is at most one record of an identifier, there is one exactly where the first is found
 pub counted : (id : ℕ) (rs : List CommitRecord) → AtMostOne id rs → length (filter (is_record_of id) rs) ≡ (if is_some (first_of id rs) then 1 else 0)
@@ -135,18 +138,62 @@ ends_as {D} faults image start log r T same numbered holds foreign logs held =
         held up,
         record {
           recorded = λ t. let x = state_of t r.worlds in recorded_there t (past_of r.trace) x (open_records log.slots) (numbered t) (holds.tied t).past (holds.kept t) (runs_up log x (holds.goes t) up) ((holds.fits refl t).fits up);
+          written = λ t marked. written t up marked;
+          named = λ t marked. named_now t up marked;
+          ever = λ t ever. let x = state_of t r.worlds in
+              let here = (holds.tied t).past in
+              subst (λ (h : List Entry). are_ever_named h (records_of t.value (open_records log.slots)) ≡ true) here
+              (ever_there x (records_of t.value (open_records log.slots)) (holds.kept t) (holds.sound refl t)
+              (λ m. subst (λ (h : List Entry). are_named h (records_of t.value (open_records log.slots)) ≡ true) (sym here) (named_now t up (sym (ap has_mark here) ∙ m))) (ap (has is_record) here ∙ ever));
           others = foreign.up up;
         },
       );
       stopped = λ c i. let l = logs c i in (l.0, l.1, may_be c i l.0 l.1);
     })
   where
+    own_up : (t : TxNo) → IsTrue log.is_up → has_mark (state_of t r.worlds).world.past ≡ true
+        → filter (is_record_of (id_of (state_of t r.worlds))) (open_records log.slots) ≡ record_after (state_of t r.worlds).transaction.value (state_of t r.worlds).world.past ∷ []
+    own_up t up marked =
+        let x = state_of t r.worlds in
+        let runs = runs_up log x (holds.goes t) up in
+        written_up x (open_records log.slots) (holds.kept t) (holds.named refl t) runs ((holds.fits refl t).fits up) marked (ours_mark x (holds.kept t) runs)
+
+    written : (t : TxNo) → IsTrue log.is_up → has_mark (history t.value (past_of r.trace)) ≡ true → records_of t.value (open_records log.slots) ≡ record_after t.value (history t.value (past_of r.trace)) ∷ []
+    written t up marked =
+        let x = state_of t r.worlds in
+        let here = (holds.tied t).past in
+        subst (λ (u : TxNo). records_of u.value (open_records log.slots) ≡ record_after u.value (history t.value (past_of r.trace)) ∷ []) (numbered t)
+        (subst (λ (h : List Entry). filter (is_record_of (id_of x)) (open_records log.slots) ≡ record_after x.transaction.value h ∷ []) here (own_up t up (ap has_mark here ∙ marked)))
+
+    named_now : (t : TxNo) → IsTrue log.is_up → has_mark (history t.value (past_of r.trace)) ≡ true → are_named (history t.value (past_of r.trace)) (records_of t.value (open_records log.slots)) ≡ true
+    named_now t up marked =
+        let x = state_of t r.worlds in
+        let here = (holds.tied t).past in
+        let there : has_mark x.world.past ≡ true = ap has_mark here ∙ marked in
+        subst (λ (u : TxNo). are_named (history t.value (past_of r.trace)) (records_of u.value (open_records log.slots)) ≡ true) (numbered t)
+        (subst (λ (h : List Entry). are_named h (filter (is_record_of (id_of x)) (open_records log.slots)) ≡ true) here
+        (named_up x (open_records log.slots) (holds.kept t) (holds.sound refl t) there (own_up t up there)))
+
     may_be : (c : List ℕ) → image log.disk c → (rs : List CommitRecord) → log_has c ≡ Ok rs → MayBeRecorded (past_of r.trace) (open_records start.slots) rs
     may_be c i rs e =
         let fits : (t : TxNo) → Fits (state_of t r.worlds) rs = λ t. found_fit (Fits (state_of t r.worlds)) (log_has c) rs e ((holds.fits refl t).imaged c i) in
         let named : (t : TxNo) → id_of (state_of t r.worlds) ≡ identifier_of t.value = λ t. ap (λ (u : TxNo). identifier_of u.value) (numbered t) in
         record {
           one = λ t. subst (λ id. length (filter (is_record_of id) rs) ≤ 1) (named t) (fits t).one;
+          written = λ t. let x = state_of t r.worlds in
+              subst (λ (u : TxNo). (records_of u.value rs ≡ []) ⊎ (records_of u.value rs ≡ record_after u.value (history t.value (past_of r.trace)) ∷ [])) (numbered t)
+              (subst (λ (h : List Entry). (filter (is_record_of (id_of x)) rs ≡ []) ⊎ (filter (is_record_of (id_of x)) rs ≡ record_after x.transaction.value h ∷ [])) (holds.tied t).past
+              (written_there x rs (holds.named refl t) (fits t) (none_first (id_of x) rs)));
+          named = λ t marked. let x = state_of t r.worlds in
+              let here = (holds.tied t).past in
+              subst (λ (u : TxNo). are_named (history t.value (past_of r.trace)) (records_of u.value rs) ≡ true) (numbered t)
+              (subst (λ (h : List Entry). are_named h (filter (is_record_of (id_of x)) rs) ≡ true) here
+              (named_there x rs (holds.kept t) (holds.named refl t) (holds.sound refl t) (fits t) (ap has_mark here ∙ marked)));
+          ever = λ t ever. let x = state_of t r.worlds in
+              let here = (holds.tied t).past in
+              subst (λ (u : TxNo). are_ever_named (history t.value (past_of r.trace)) (records_of u.value rs) ≡ true) (numbered t)
+              (subst (λ (h : List Entry). are_ever_named h (filter (is_record_of (id_of x)) rs) ≡ true) here
+              (ever_there x (filter (is_record_of (id_of x)) rs) (holds.kept t) (holds.sound refl t) (λ m. named_there x rs (holds.kept t) (holds.named refl t) (holds.sound refl t) (fits t) m) (ap (has is_record) here ∙ ever)));
           known = λ t k. let x = state_of t r.worlds in
               let unbegun : has is_begin_sent x.world.past ≡ false = ap (has is_begin_sent) (holds.tied t).past ∙ k in
               subst (λ id. filter (is_record_of id) rs ≡ []) (named t) (unknown_none x rs (holds.kept t) (runs_unbegun log x (holds.goes t) unbegun) unbegun (fits t));
@@ -169,6 +216,7 @@ kept_at_start : (t : TxNo) → IsRecordKept (untouched t)
 kept_at_start t =
     record {
       own = ([], (refl, refl));
+      once = λ n m a b c d x i j. absurd (none_in i.place (record { line = n; actor = a; call = c }) i.stands);
       ours = record { sure = λ s. refl; recorded = λ s. sym (recorded_mark []); named = tt };
       tried = λ k. record { tried = λ o. absurd cc; kept = λ m. absurd cc; unsure = λ u. absurd cc };
     }
@@ -199,6 +247,7 @@ holds_at_start honest image log s cs up none held =
       uncalled = λ u. refl;
       fits = λ h t. let f = fits_at_start t (open_records log.slots) (none h t) in record { fits = λ u. f; imaged = in_each (Fits (untouched t)) (image log.disk) (open_records log.slots) (held h) f };
       sound = λ h t. refl;
+      named = λ h t s. absurd cc;
     }
 
 -- and the trace tells of the log.

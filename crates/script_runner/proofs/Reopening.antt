@@ -35,12 +35,13 @@ use Rattle.coordinator_log.specs.State.{LogState}
 use Rattle.coordinator_log.specs.declared.refusal.LogRefusal.{LogRefusal}
 use Rattle.coordinator_log.specs.declared.refusal.LogRefusal.TheVariants as Refusal
 use Rattle.tx_world.specs.AtLog.{Fits, IsHad, id_of}
+use Rattle.tx_world.specs.Prepared.{NamesPrepared}
 use Rattle.tx_world.specs.State.{TxState, is_reached_by}
 use Rattle.script_runner.specs.LogRun.{AreForeignSame, LogGoes, restart_answer}
 use Rattle.script_runner.specs.RunState.{FitsLog, GoesWith, HaveSameCalls, Holds, IsRecordKept, IsTied, RunState, Tells, halted, record_in, reopened, state_of}
 use Rattle.script_runner.proofs.Fitting.{fits_as, fits_opened, goes_opened}
 use Rattle.script_runner.proofs.FoundRecords.{all_found}
-use Rattle.script_runner.proofs.Halting.{IsAsHalted, goes_halted, goes_reopened, halted_as, halted_sound, halted_tied, reopened_tied}
+use Rattle.script_runner.proofs.Halting.{IsAsHalted, goes_halted, goes_reopened, halted_as, halted_named, halted_sound, halted_tied, reopened_named, reopened_tied}
 use Rattle.script_runner.proofs.TellingOpenings.{IsJust}
 use Rattle.script_runner.proofs.Tying.{tied_same}
 
@@ -94,6 +95,7 @@ holds_with_stop {D} honest image from r q n a k i script worlds trace h =
       uncalled = λ up. ap (λ U. is_called (at_log U)) trace;
       fits = λ is t. subst (λ ws. FitsLog image (with_stop from k i) (state_of t ws)) (sym worlds) (record { fits = (h.fits is t).fits; imaged = (h.fits is t).imaged });
       sound = λ is t. subst (λ ws. is_tied_history (state_of t ws).world.past ≡ true) (sym worlds) (h.sound is t);
+      named = λ is t. subst (λ ws. NamesPrepared (state_of t ws)) (sym worlds) (h.named is t);
     }
 
 pub holds_armed : {D : Type 0} (honest : Bool) (image : D → List ℕ → Type 0) (from to : LogState D) (r q : RunState) (n : ℕ) (a : ActorNo) (k : ℕ) (i : Image) → to ≡ with_stop from k i → q.script ≡ r.script → q.worlds ≡ r.worlds
@@ -115,6 +117,7 @@ holds_called {D} honest image from to r q n a x was down life within script worl
       uncalled = λ up. never_up to.is_up down up;
       fits = λ is t. subst (λ ws. FitsLog image to (state_of t ws)) (sym worlds) (fits_down image from to (state_of t r.worlds) down (within is) (h.fits is t));
       sound = λ is t. subst (λ ws. is_tied_history (state_of t ws).world.past ≡ true) (sym worlds) (h.sound is t);
+      named = λ is t. subst (λ ws. NamesPrepared (state_of t ws)) (sym worlds) (h.named is t);
     }
 
 -- the log isn't up after a stop with what it brings to the transactions, and is after an opening
@@ -144,6 +147,7 @@ holds_halted {D} honest image from to r q n a x down life within script worlds t
       uncalled = λ up. never_up to.is_up down up;
       fits = λ is t. subst (FitsLog image to) (sym (worlds t)) (fits (state_of t r.worlds) (fits_down image from to (state_of t r.worlds) down (within is) (h.fits is t)));
       sound = λ is t. subst (λ z. is_tied_history z.world.past ≡ true) (sym (worlds t)) (halted_sound from.life (state_of t r.worlds) (h.sound is t));
+      named = λ is t. subst (λ z. NamesPrepared z) (sym (worlds t)) (halted_named from.life (state_of t r.worlds) (h.named is t));
     }
   where
     fits : (y : TxState) → FitsLog image to y → FitsLog image to (halted from.life y)
@@ -230,6 +234,7 @@ holds_opened {D} honest image seen from to r q n was up life among opened within
           subst (FitsLog image to) (sym (worlds t))
           (fits_reopened image to (state_of t r.worlds) (hold is) ((fits_opened image seen from to (state_of t r.worlds) (among is) (opened is) (within is) (h.fits is t)).fits up));
       sound = sound;
+      named = λ is t. subst (λ z. NamesPrepared z) (sym (worlds t)) (reopened_named to (state_of t r.worlds) ((fits_opened image seen from to (state_of t r.worlds) (among is) (opened is) (within is) (h.fits is t)).fits up) (h.named is t));
     }
   where
     lives : (x : TxState) → GoesWith from x → has is_begin_sent x.world.past ≡ true → x.life < to.life

@@ -24,6 +24,7 @@ use Rattle.outcome_law.proofs.PutAt.{log-put, many-hit, many-others}
 use Rattle.coordinator_log.specs.State.{LogState}
 use Rattle.coordinator_log.specs.Stop.{stop_in}
 use Rattle.tx_world.specs.AtLog.{Answered, IsHad, act_calls, id_of}
+use Rattle.tx_world.specs.Prepared.{NamesPrepared}
 use Rattle.tx_world.specs.State.{TxState, is_hit_by, turned}
 use Rattle.tx_world.specs.Stepping.{IsAnswered}
 use Rattle.world_laws.specs.Left.{steps_left}
@@ -31,7 +32,7 @@ use Rattle.script_runner.specs.RunState.{Advances, FitsLog, GoesWith, HaveSameCa
 use Rattle.script_runner.proofs.ByNumber.{rises-filter, rises-transactions, same_rising}
 use Rattle.script_runner.proofs.Fitting.{fits_as, fits_turn, had_as, had_turn}
 use Rattle.script_runner.proofs.Goes.{answered_down, stop_written, now_block}
-use Rattle.script_runner.proofs.Halting.{goes_halted, halted_as, halted_sound, halted_tied}
+use Rattle.script_runner.proofs.Halting.{goes_halted, halted_as, halted_named, halted_sound, halted_tied}
 use Rattle.script_runner.proofs.Noting.{history_here, history_there, trace_noted}
 use Rattle.script_runner.proofs.Numbered.{state_here}
 use Rattle.script_runner.proofs.Steps.{DidStep, IsStep, IsStepped, StepOf, did_step, each_set, one_more, step_calls, step_log, step_stays, was, worlds_after, wrote}
@@ -185,6 +186,7 @@ stopped_holds {D} faults honest image a mid q at d down script worlds told kept 
       sound = λ h u.
           subst (λ (x : TxState). is_tied_history x.world.past ≡ true) (sym (worlds u))
           (halted_sound life (state_of u ws) (each_set (λ x. is_tied_history x.world.past ≡ true) a.run.worlds a.t a.y at.made (d.did.sound h) (at.holds.sound h) u));
+      named = λ h u. subst (λ (x : TxState). NamesPrepared x) (sym (worlds u)) (halted_named life (state_of u ws) (each_set NamesPrepared a.run.worlds a.t a.y at.made (at.named (at.holds.named h a.t)) (at.holds.named h) u));
     }
   where
     stands : (u : TxNo) → (c : Bool) × ((core (state_of u (worlds_after a)).world).stopped ≡ (has is_begin_sent (state_of u (worlds_after a)).world.past && c))

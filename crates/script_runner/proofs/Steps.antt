@@ -31,6 +31,7 @@ use Rattle.coordinator_log.specs.Slots.{open_records}
 use Rattle.coordinator_log.specs.State.{LogState}
 use Rattle.coordinator_log.specs.Stop.{after_calls, stop_in}
 use Rattle.tx_world.specs.AtLog.{Answered, IsHad, IsOurs, KeepsLog, KeepsSlots, act_calls, id_of}
+use Rattle.tx_world.specs.Prepared.{NamesPrepared}
 use Rattle.tx_world.specs.State.{TxState, sends_begin, turned}
 use Rattle.tx_world.specs.Stepping.{DoesKth, IsAnswered}
 use Rattle.tx_world.proofs.StillTied.{kth_tied}
@@ -84,6 +85,7 @@ pub record IsStepAt {D : Type 0} (faults : D → ℕ) (honest : Bool) (image : D
   pub unarmed : a.from.armed ≡ None → a.to.armed ≡ None
   pub still : IsTrue a.to.is_up → IsTrue a.from.is_up
   pub recorded : IsRecordKept a.y
+  pub named : NamesPrepared x → NamesPrepared a.y
 
 -- It was done.
 abbrev pub IsStep : {D : Type 0} → (D → ℕ) → Bool → (D → List ℕ → Type 0) → StepOf D → Type 0
@@ -219,6 +221,7 @@ step_holds faults honest image a new at d same noted =
       uncalled = λ up. ap is_called log ∙ at.holds.uncalled (at.still up);
       fits = λ h. fits_turn image a.run.worlds a.t a.y a.from a.to at.numbered at.made (at.kept h) at.still (answered_down faults (was a) a.from a.to d.does.step d.does.done.answered) (at.holds.fits h);
       sound = λ h. each_set (λ x. is_tied_history x.world.past ≡ true) a.run.worlds a.t a.y at.made (d.sound h) (at.holds.sound h);
+      named = λ h. each_set NamesPrepared a.run.worlds a.t a.y at.made (at.named (at.holds.named h a.t)) (at.holds.named h);
     }
   where
     log_up : at_log (past_of new) ≡ at_log (past_of a.run.trace) → is_log_up (past_of new) ≡ is_log_up (past_of a.run.trace)

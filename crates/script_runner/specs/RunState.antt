@@ -13,7 +13,7 @@ use Rattle.dtx_model.specs.World.{core}
 use Rattle.dtx_model.specs.Log.{CommitRecord, first_of}
 use Rattle.dtx_model.specs.Promotes.{identifier_of}
 use Rattle.dtx_model.specs.Steps.{Step, StepName, Stops, Restarts, after, pending}
-use Rattle.dtx_model.specs.Caused.{IsCallOf, IsIn, IsNamed, IsOwnRun, Settled, is_as_planned, is_begin_sent, plans_of}
+use Rattle.dtx_model.specs.Caused.{AreMadeOnce, IsCallOf, IsIn, IsNamed, IsOwnRun, Settled, is_as_planned, is_begin_sent, plans_of}
 use Rattle.dtx_model.specs.Traces.{Placed, history}
 use Rattle.dtx_model.specs.Replay.{HasSettled, RoundsRan, StepsRan, after_turn, is_in_replay, is_passed, last_turn, world_at}
 use Rattle.dtx_model.specs.History.{nobody}
@@ -21,6 +21,7 @@ use Rattle.coordinator_log.specs.Slots.{open_records}
 use Rattle.coordinator_log.specs.State.{LogState}
 use Rattle.scope_context.specs.Standing.{Standing}
 use Rattle.tx_world.specs.AtLog.{AreFit, Fits, IsHad, IsOurs, id_of}
+use Rattle.tx_world.specs.Prepared.{NamesPrepared}
 use Rattle.tx_world.specs.State.{TxState, is_hit_by, is_reached_by}
 use Rattle.tx_world.specs.Tried.{IsTried}
 use Rattle.script_runner.specs.LogRun.{IsCounted, IsForeignKept, is_no_log_answer}
@@ -55,9 +56,10 @@ pub record IsTied (s : List Line) (t : TxNo) (T : List Placed) (x : TxState) : T
   pub given : (n : ℕ) (a : ActorNo) (c : Call) → IsIn x.world.calls n a c → IsCallOf s t.value n a c
   pub planned : IsToPlan s x.world.past
 
--- A transaction is what its own calls made; what its coordinator keeps of the log is what it knows; and where each restart found what may be found, it is what its history says.
+-- A transaction is what its own calls made; what its coordinator keeps of the log is what it knows; and where each restart found what may be found, it is what its history says. No two of its calls make the same enlistment or the same clone.
 pub record IsRecordKept (x : TxState) : Type 0 where
   pub own : IsOwnRun x.transaction.value x.world
+  pub once : AreMadeOnce (IsIn x.world.calls)
   pub ours : IsOurs (id_of x) (core x.world) (record { ours = x.ours; unsure = x.unsure; life = x.life })
   pub tried : is_tied_history x.world.past ≡ true → IsTried x.world.past (record { ours = x.ours; unsure = x.unsure; life = x.life })
 
@@ -72,7 +74,7 @@ pub record FitsLog {D : Type 0} (image : D → List ℕ → Type 0) (log : LogSt
   pub imaged : AreFit (image log.disk) (Fits x)
 
 -- What holds of a run over a log: each transaction is tied to its history in the trace, goes with the log, and has its record there; the log is up exactly where the trace says so, and then it isn't the call of a
--- restart that stands last at the log; and where the log is honest its records fit each transaction, and each restart found what may be found.
+-- restart that stands last at the log; and where the log is honest its records fit each transaction, each restart found what may be found, and the record that a transaction keeps names who said PREPARED.
 pub record Holds {D : Type 0} (honest : Bool) (image : D → List ℕ → Type 0) (log : LogState D) (r : RunState) : Type 0 where
   pub tied : (t : TxNo) → IsTied r.script t (past_of r.trace) (state_of t r.worlds)
   pub kept : (t : TxNo) → IsRecordKept (state_of t r.worlds)
@@ -82,6 +84,7 @@ pub record Holds {D : Type 0} (honest : Bool) (image : D → List ℕ → Type 0
   pub uncalled : IsTrue log.is_up → is_called (at_log (past_of r.trace)) ≡ false
   pub fits : IsTrue honest → (t : TxNo) → FitsLog image log (state_of t r.worlds)
   pub sound : IsTrue honest → (t : TxNo) → is_tied_history (state_of t r.worlds).world.past ≡ true
+  pub named : IsTrue honest → (t : TxNo) → NamesPrepared (state_of t r.worlds)
 
 -- What the trace T tells of the log, where `start` is the log before the first step: the faults and the armed stop; and where the log is honest the records that are no transaction's stay, if it had no record, each opening
 -- found as many records as its step says; and each restart found a log.

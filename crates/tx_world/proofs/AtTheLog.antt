@@ -32,6 +32,7 @@ use Rattle.world_laws.specs.Carried.{are_sendable}
 use Rattle.world_laws.specs.Course.{is_far, is_written}
 use Rattle.tx_world.specs.Kept.{Kept, Whole, stop_if, stopped_if}
 use Rattle.tx_world.specs.Stepping.{Does}
+use Rattle.tx_world.specs.Prepared.{Names, NamesPrepared}
 use Rattle.tx_world.specs.Tried.{IsTried}
 use Rattle.tx_world.proofs.Begun.{may_write}
 use Rattle.world_laws.proofs.Far.{far_abort, far_commit}
@@ -279,6 +280,17 @@ pub acted_slots : {D : Type 0} (t : TxNo) (w v : World) (h : Known) (k : CoreKep
 acted_slots t w v h k x y old from to kept leaves was =
     let at_t : LeavesSlots (identifier_of t.value) x.ours y.ours from to = subst (λ (j : CoreKept). LeavesSlots (identifier_of j.transaction.value) x.ours y.ours from to) kept.core leaves in
     subst (λ (z : TxState). KeepsSlots z from (seen_as t v y) to) was (record { others = at_t.others; had = at_t.had })
+
+-- and the record that it keeps names who said PREPARED
+pub acted_named : (t : TxNo) (w : World) (h : Known) (k j : CoreKept) (a : LogAnswer) (n : List Entry) (x y : LogKept) (old : TxState) → Kept t w h k → Acted t w h k j a → n ≡ onto w.past (coordinates k.state a)
+    → (Names k.transaction.value x.ours k.state → Names k.transaction.value y.ours j.state) → seen_as t w x ≡ old → NamesPrepared old → NamesPrepared (seen_as t (record { calls = w.calls; past = n }) y)
+acted_named t w h k j a n x y old kept did past named was old_named =
+    let v : World = record { calls = w.calls; past = n } in
+    let after_it : Kept t v h j = subst (λ (u : World). Kept t u h j) (sym (acted_world t w h k j a n did past)) did.kept in
+    let before : Names t.value x.ours (core w) = subst (λ (z : TxState). NamesPrepared z) (sym was) old_named in
+    let here : Names k.transaction.value x.ours k.state = subst (λ (i : CoreKept). Names i.transaction.value x.ours i.state) (sym kept.core) before in
+    let there : Names k.transaction.value y.ours (core v) = subst (λ (c : Coordinated). Names k.transaction.value y.ours c) (core_is t v h j after_it) (named here) in
+    subst (λ (u : TxNo). Names u.value y.ours (core v)) (core_transaction t w h k kept) there
 
 -- A coordinator that is told what an opening of the log found: where it still runs it stops first.
 told_state : (k : CoreKept) (found : Bool) → follow (stopped_if (not k.state.stopped) k).state (Restarted found) ≡ follow_all k.state (restarted k.state.stopped found)

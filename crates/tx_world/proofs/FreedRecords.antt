@@ -144,7 +144,7 @@ came_before : (e f : EnlNo) (h : List Entry) → (e.value == f.value) ≡ true �
 came_before e f h q k = has_more (is_opening_got (Enl f)) (is_enlist_got e.value) (enlist_of e.value f q) h (later_opened (Enl f) EnlistPrepared h k refl)
 
 -- The desk of an enlistment that said PREPARED: no message but another vote of it undoes that.
-abbrev is_desk_for : ℕ → Desk → Bool
+abbrev pub is_desk_for : ℕ → Desk → Bool
 is_desk_for e d = is_desk_of e d && is_prepared d.ballot
 
 for_ballot : (e f : ℕ) (o : Option Ballot) (d : Desk) → (is_prepared o ≡ true) ⊎ ((o ≡ None) ⊎ ((e == f) ≡ false)) → is_desk_for e d ≡ true → is_desk_for e (with_ballot f o d) ≡ true
@@ -366,7 +366,7 @@ still_noted e x h k n m ih t =
         absurd (votes_agree e (x ∷ h) k t (or_right (is_unprepared e.value x) (has (is_unprepared e.value) h) said)))
         (λ a. a) t
 
-noted_recorded : (e : EnlNo) (h : List Entry) → Keeps h → has_mark h ≡ true → has (is_prepared_got e.value) h ≡ true → has (is_desk_for e.value) (coordinate h).desks ≡ true
+pub noted_recorded : (e : EnlNo) (h : List Entry) → Keeps h → has_mark h ≡ true → has (is_prepared_got e.value) h ≡ true → has (is_desk_for e.value) (coordinate h).desks ≡ true
 unfolding coordinate follow
 noted_recorded e [] k m t = absurd cc
 noted_recorded e (Logged ∷ h) k m t = noted_open e h (keeps_before Logged h k) (can_open h (keeps_before Logged h k) (newest Logged h k)) t
@@ -434,7 +434,7 @@ none_recovered r t = never (subst (λ n. (n == 1) ≡ true) (bit_at-zero r) t)
     never : (0 == 1) ≡ true → ⊥
     never e = absurd cc
 
-recovered_seen : (r : ℕ) (h : List Entry) → is_in r (coordinate h).recovered ≡ true → has (is_recovery r) h ≡ true
+pub recovered_seen : (r : ℕ) (h : List Entry) → is_in r (coordinate h).recovered ≡ true → has (is_recovery r) h ≡ true
 unfolding coordinate follow
 recovered_seen r [] t = absurd (none_recovered r t)
 recovered_seen r (Recovered q ∷ h) t = by (recovered_seen r h) (r == q.value) refl
@@ -445,7 +445,7 @@ recovered_seen r (Recovered q ∷ h) t = by (recovered_seen r h) (r == q.value) 
 recovered_seen r (x ∷ h) t = or_right (is_recovery r x) (has (is_recovery r) h) (recovered_seen r h t)
 
 -- The ENLIST that was got names the manager of the desk.
-abbrev is_enlist_as : ℕ → ℕ → Entry → Bool
+abbrev pub is_enlist_as : ℕ → ℕ → Entry → Bool
 is_enlist_as e r (Got (Enl f) Up (EnlistEnlist i)) = (e == f.value) && (r == i.rm.value)
 is_enlist_as e r _ = false
 
@@ -472,7 +472,7 @@ as_sent e r (Sent c d m) t =
     by (Again f) d m s w n = absurd cc
 as_sent e r _ t = absurd cc
 
-enlist_by : (e : EnlNo) (r : ℕ) (h : List Entry) → Keeps h → has (is_enlist_as e.value r) h ≡ true → has (is_enlist_by e.value r) h ≡ true
+pub enlist_by : (e : EnlNo) (r : ℕ) (h : List Entry) → Keeps h → has (is_enlist_as e.value r) h ≡ true → has (is_enlist_by e.value r) h ≡ true
 enlist_by e r h k t =
     has_more (is_sent_on (Enl e) Up (is_named r)) (is_enlist_by e.value r) (as_sent e r) h (was_sent (Enl e) Up (is_named r) h k.wires (has_more (is_enlist_as e.value r) (is_got_on (Enl e) Up (is_named r)) (as_got e r) h t))
 
@@ -498,7 +498,7 @@ finished_at h k e r by (d ∷ ds) f a m t =
         (and_left (not (is_prepared d.ballot) || is_finished (coordinate h).recovered d) (each (λ d. not (is_prepared d.ballot) || is_finished (coordinate h).recovered d) ds) f))
 
 -- what holds of each whose ENLIST was got, by its number and its manager, holds of what the ENLISTs name
-each_info : (P : Info → Bool) (h : List Entry) → Keeps h → ((i : Info) → has (is_enlist_as i.enl.value i.rm.value) h ≡ true → P i ≡ true) → each P (all_of enlist_got h) ≡ true
+pub each_info : (P : Info → Bool) (h : List Entry) → Keeps h → ((i : Info) → has (is_enlist_as i.enl.value i.rm.value) h ≡ true → P i ≡ true) → each P (all_of enlist_got h) ≡ true
 each_info P [] k f = refl
 each_info P (Got (Enl e) Up (EnlistEnlist i) ∷ h) k f =
     and_both (P i) (each P (all_of enlist_got h))

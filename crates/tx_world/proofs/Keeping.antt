@@ -26,7 +26,7 @@ is_elsewhere Stopped = false
 is_elsewhere (Restarted found) = false
 is_elsewhere _ = true
 
-stage_same : (k : Coordinated) (x : Entry) → is_elsewhere x ≡ true → is_recorded (follow k x).stage ≡ is_recorded k.stage
+pub stage_same : (k : Coordinated) (x : Entry) → is_elsewhere x ≡ true → is_recorded (follow k x).stage ≡ is_recorded k.stage
 unfolding follow
 stage_same k (Got Begin Up BeginBegin) e = begin_recorded k.stage
 stage_same k Logged e = absurd cc
@@ -35,7 +35,7 @@ stage_same k Stopped e = absurd cc
 stage_same k (Restarted found) e = absurd cc
 stage_same k x e = abort_recorded (aborts k x) k.stage
 
-stopped_same : (k : Coordinated) (x : Entry) → is_elsewhere x ≡ true → (follow k x).stopped ≡ k.stopped
+pub stopped_same : (k : Coordinated) (x : Entry) → is_elsewhere x ≡ true → (follow k x).stopped ≡ k.stopped
 unfolding follow
 stopped_same k Logged e = absurd cc
 stopped_same k Freed e = absurd cc

@@ -11,6 +11,7 @@ pub mod Freeing
 pub mod StillTied
 pub mod Trying
 pub mod Living
+pub mod Naming
 pub mod Listing
 pub mod ByRow
 pub mod Entering

@@ -8,3 +8,5 @@ pub mod Entering
 pub mod Names
 pub mod Managers
 pub mod OwnCalls
+pub mod Prepared
+pub mod Recorded

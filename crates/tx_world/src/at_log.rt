@@ -8,9 +8,11 @@ ghost use Rattle.dtx_values.specs.declared.record.LogRecord.{LogRecord};
 ghost use Rattle.dtx_model.specs.Coordinated.{follow, may_free, may_log};
 ghost use Rattle.dtx_model.specs.Log.{first_of, record_of};
 ghost use Rattle.dtx_model.specs.Promotes.{identifier_of};
+ghost use Rattle.coordinator_core.specs.Acting.{record_for};
 ghost use Rattle.coordinator_core.specs.Kept.{HasRoom, HasRoomFor};
 ghost use Rattle.coordinator_log.specs.Slots.{open_records};
 ghost use Rattle.tx_world.specs.AtLog.{Acts, IsFit, IsOurs, Keeps, LeavesSlots, Tie};
+ghost use Rattle.tx_world.specs.Prepared.{Names};
 
 use coordinator_core::{Core, CoreAct};
 use coordinator_log::{Log, LogRefusal};
@@ -111,6 +113,7 @@ impl AtLog {
     )
         requires votes { may_log core.old.state ≡ true }
         requires own { kept.id ≡ identifier_of core.old.transaction.value }
+        requires written { record_of kept ≡ record_for core.old.transaction.value core.old.state }
         requires ours { IsOurs (identifier_of core.old.transaction.value) core.old.state self.old }
         requires fits { IsTrue D.honest → IsTrue log.old.is_up → IsFit (identifier_of core.old.transaction.value) self.old.ours self.old.unsure (open_records log.old.slots) }
         requires room { HasRoomFor 41 out.old }
@@ -121,6 +124,7 @@ impl AtLog {
         ensures kept { IsTrue D.honest → Keeps D.image (identifier_of core.old.transaction.value) (IsFit (identifier_of core.old.transaction.value) self.old.ours self.old.unsure)
             (IsFit (identifier_of core.old.transaction.value) self.new.ours self.new.unsure) log.old log.new }
         ensures slots { LeavesSlots (identifier_of core.old.transaction.value) self.old.ours self.new.ours log.old log.new }
+        ensures named { Names core.old.transaction.value self.old.ours core.old.state → Names core.old.transaction.value self.new.ours core.new.state }
         ensures had { core.new.state.stopped ≡ true → is_some self.old.ours ≡ true → is_some self.new.ours ≡ true }
         ensures grows { D.faults log.old.disk ≤ D.faults log.new.disk }
         ensures unarmed { log.old.armed ≡ None → log.new.armed ≡ None }
@@ -181,6 +185,7 @@ impl AtLog {
         ensures kept { IsTrue D.honest → Keeps D.image (identifier_of core.old.transaction.value) (IsFit (identifier_of core.old.transaction.value) self.old.ours self.old.unsure)
             (IsFit (identifier_of core.old.transaction.value) self.new.ours self.new.unsure) log.old log.new }
         ensures slots { LeavesSlots (identifier_of core.old.transaction.value) self.old.ours self.new.ours log.old log.new }
+        ensures named { Names core.old.transaction.value self.old.ours core.old.state → Names core.old.transaction.value self.new.ours core.new.state }
         ensures had { core.new.state.stopped ≡ true → is_some self.old.ours ≡ true → is_some self.new.ours ≡ true }
         ensures grows { D.faults log.old.disk ≤ D.faults log.new.disk }
         ensures unarmed { log.old.armed ≡ None → log.new.armed ≡ None }
@@ -218,6 +223,7 @@ impl AtLog {
         ensures kept { IsTrue D.honest → Keeps D.image (identifier_of core.old.transaction.value) (IsFit (identifier_of core.old.transaction.value) self.old.ours self.old.unsure)
             (IsFit (identifier_of core.old.transaction.value) self.new.ours self.new.unsure) log.old log.new }
         ensures slots { LeavesSlots (identifier_of core.old.transaction.value) self.old.ours self.new.ours log.old log.new }
+        ensures named { Names core.old.transaction.value self.old.ours core.old.state → Names core.old.transaction.value self.new.ours core.new.state }
         ensures had { core.new.state.stopped ≡ true → is_some self.old.ours ≡ true → is_some self.new.ours ≡ true }
         ensures grows { D.faults log.old.disk ≤ D.faults log.new.disk }
         ensures unarmed { log.old.armed ≡ None → log.new.armed ≡ None }

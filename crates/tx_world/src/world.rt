@@ -20,6 +20,7 @@ ghost use Rattle.tx_world.specs.State.{TxState, is_hit_by, is_reached_by, may_en
 ghost use Rattle.tx_world.specs.AtLog.{Fits, IsOurs, KeepsLog, Tie, id_of};
 ghost use Rattle.tx_world.specs.Stepping.{Does, DoesKth, Settles, needs_log, reply_in};
 ghost use Rattle.tx_world.specs.Tried.{IsTried};
+ghost use Rattle.tx_world.specs.Prepared.{NamesPrepared};
 
 use crate::at_log::AtLog;
 use crate::history::History;
@@ -93,6 +94,7 @@ impl TxWorld {
     pub fn new(alloc: Global, t: TxNo) -> Result<TxWorld, WorldError>
         ensures blank { IfOk result (λ w. w ≡ record { transaction = t; world = record { calls = []; past = [] }; ours = None; unsure = false; life = 0 }) }
         ensures fits { IfOk result (λ w. Fits w []) }
+        ensures named { IfOk result NamesPrepared }
     {
         Ok(TxWorld {
             transaction: t,

@@ -10,6 +10,7 @@ ghost use Rattle.world_laws.specs.Left.{steps_left};
 ghost use Rattle.tx_world.specs.OwnCalls.{DoesAlone, DoesKthAlone, is_alone, may_reply_alone};
 ghost use Rattle.tx_world.specs.State.{may_enter};
 ghost use Rattle.tx_world.specs.Stepping.{is_to_promote, needs_log};
+ghost use Rattle.tx_world.specs.Prepared.{NamesPrepared};
 
 use super::TxWorld;
 use crate::pending::PendingStep;
@@ -53,10 +54,14 @@ impl TxWorld {
         ensures answer { IfOk result (λ a. a ≡ answer_at self.old.transaction.value self.old.world c.now 0) }
         ensures done { OnOk result (DoesAlone (Calls line actor c.now 0) self.old self.new) }
         ensures ours { (self.new.ours ≡ self.old.ours) × (self.new.unsure ≡ self.old.unsure) }
+        ensures named { NamesPrepared self.old → NamesPrepared self.new }
         ensures memory { OnErr result (self.new ≡ self.old) }
     {
         // It sends no BEGIN, so it doesn't matter what is said of the log.
-        self.enter_at(true, 0, out, actor, line, c, 0)
+        self.is_own_run();
+        let answered = self.enter_at(true, 0, out, actor, line, c, 0);
+        self.is_own_run();
+        answered
     }
 
     /// Whether the reply fits the note to which one of the enlistment is due, and that isn't one to promote, so that it needs no log. Where none is due, each fits.
@@ -77,6 +82,7 @@ impl TxWorld {
         ensures due { IfOk result (λ b. b ≡ is_some (due_of (half self.old.world).seen e.value)) }
         ensures done { result ≡ Ok true → DoesAlone (Replies e r) self.old self.new }
         ensures ours { (self.new.ours ≡ self.old.ours) × (self.new.unsure ≡ self.old.unsure) }
+        ensures named { NamesPrepared self.old → NamesPrepared self.new }
         ensures unchanged { result ≡ Ok false → self.new ≡ self.old }
         ensures memory { OnErr result (self.new ≡ self.old) }
     {
@@ -95,6 +101,7 @@ impl TxWorld {
         ensures some { result ≡ Ok true → DoesKthAlone k self.old self.new }
         ensures nearer { result ≡ Ok true → steps_left self.new.world < steps_left self.old.world }
         ensures ours { (self.new.ours ≡ self.old.ours) × (self.new.unsure ≡ self.old.unsure) }
+        ensures named { NamesPrepared self.old → NamesPrepared self.new }
         ensures memory { OnErr result (self.new ≡ self.old) }
     {
         self.is_own_run();
@@ -107,6 +114,7 @@ impl TxWorld {
         ensures none { result ≡ Ok false → (kth (pending self.old.world) k ≡ None) × (self.new ≡ self.old) }
         ensures some { result ≡ Ok true → DoesKthAlone k self.old self.new }
         ensures ours { (self.new.ours ≡ self.old.ours) × (self.new.unsure ≡ self.old.unsure) }
+        ensures named { NamesPrepared self.old → NamesPrepared self.new }
         ensures memory { OnErr result (self.new ≡ self.old) }
     {
         if k == 1 && self.act_first(out)? {

@@ -13,6 +13,7 @@ ghost use Rattle.coordinator_log.specs.Slots.{open_records};
 ghost use Rattle.tx_world.specs.State.{is_reached_by};
 ghost use Rattle.tx_world.specs.AtLog.{Fits, KeepsLog, IsHad, KeepsSlots, Tie, id_of};
 ghost use Rattle.tx_world.specs.Stepping.{Does};
+ghost use Rattle.tx_world.specs.Prepared.{NamesPrepared};
 
 use super::{TxWorld, identifier};
 use crate::refusal::WorldError;
@@ -40,6 +41,7 @@ impl TxWorld {
         ensures done { result ≡ Ok true → (a : LogAnswer) × (may_coordinate (core self.old.world) a ≡ true) × Does D.faults (Coordinates a) self.old log.old self.new log.new }
         ensures kept { IsTrue D.honest → KeepsLog D.image self.old log.old self.new log.new }
         ensures slots { KeepsSlots self.old log.old self.new log.new }
+        ensures named { NamesPrepared self.old → NamesPrepared self.new }
         ensures life { log.new.life ≡ log.old.life }
         ensures grows { D.faults log.old.disk ≤ D.faults log.new.disk }
         ensures unarmed { log.old.armed ≡ None → log.new.armed ≡ None }
@@ -86,6 +88,7 @@ impl TxWorld {
         ensures found { OnOk result (is_reached_by log.now.life self.old ≡ true → IsHad self.new log.now) }
         ensures had { IsHad self.old log.now → IsHad self.new log.now }
         ensures tied { IsTrue D.honest → tied self.old.world.past ≡ true → tied self.new.world.past ≡ true }
+        ensures named { IsTrue D.honest → NamesPrepared self.old → NamesPrepared self.new }
         ensures memory { OnErr result (self.new ≡ self.old) }
     {
         if !self.is_reached_by(log.life()) {

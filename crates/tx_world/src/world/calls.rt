@@ -7,6 +7,7 @@ ghost use Rattle.dtx_model.specs.Caused.{MayAnswer};
 ghost use Rattle.tx_world.specs.State.{is_linking, may_enter};
 ghost use Rattle.tx_world.specs.OwnCalls.{DoesAlone};
 ghost use Rattle.tx_world.specs.Stepping.{Does, DoesAt};
+ghost use Rattle.tx_world.specs.Prepared.{NamesPrepared};
 
 use super::TxWorld;
 use crate::local_calls::await_answer;
@@ -53,9 +54,13 @@ impl TxWorld {
         ensures answer { IfOk result (λ a. a ≡ answer_at self.old.transaction.value self.old.world c.now done) }
         ensures done { OnOk result (Does D.faults (Calls line actor c.now done) self.old log.now self.new log.now) }
         ensures ours { (self.new.ours ≡ self.old.ours) × (self.new.unsure ≡ self.old.unsure) }
+        ensures named { NamesPrepared self.old → NamesPrepared self.new }
         ensures memory { OnErr result (self.new ≡ self.old) }
     {
-        self.enter_at(log.is_up(), log.life(), out, actor, line, c, done)
+        self.is_own_run();
+        let answered = self.enter_at(log.is_up(), log.life(), out, actor, line, c, done);
+        self.is_own_run();
+        answered
     }
 
     /// Enters a call, where this says whether the log is up, and in which life.

@@ -4,6 +4,7 @@ ghost use Rattle.dtx_values.specs.declared.message.Dir.TheVariants.{Up, Down};
 ghost use Rattle.dtx_model.specs.World.{has_left};
 ghost use Rattle.dtx_model.specs.Steps.{Delivers};
 ghost use Rattle.tx_world.specs.OwnCalls.{DoesAlone};
+ghost use Rattle.tx_world.specs.Prepared.{NamesPrepared};
 
 use super::TxWorld;
 use crate::hearing::{hear_down, hear_up};
@@ -16,6 +17,7 @@ impl TxWorld {
         ensures left { IfOk result (λ b. b ≡ has_left c Up self.old.world.past) }
         ensures done { result ≡ Ok true → DoesAlone (Delivers c Up) self.old self.new }
         ensures ours { (self.new.ours ≡ self.old.ours) × (self.new.unsure ≡ self.old.unsure) }
+        ensures named { NamesPrepared self.old → NamesPrepared self.new }
         ensures unchanged { result ≡ Ok false → self.new ≡ self.old }
         ensures memory { OnErr result (self.new ≡ self.old) }
     {
@@ -34,6 +36,7 @@ impl TxWorld {
         ensures left { IfOk result (λ b. b ≡ has_left c Down self.old.world.past) }
         ensures done { result ≡ Ok true → DoesAlone (Delivers c Down) self.old self.new }
         ensures ours { (self.new.ours ≡ self.old.ours) × (self.new.unsure ≡ self.old.unsure) }
+        ensures named { NamesPrepared self.old → NamesPrepared self.new }
         ensures unchanged { result ≡ Ok false → self.new ≡ self.old }
         ensures memory { OnErr result (self.new ≡ self.old) }
     {

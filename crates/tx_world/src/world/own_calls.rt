@@ -13,6 +13,7 @@ ghost use Rattle.tx_world.specs.AtLog.{Fits, KeepsLog, KeepsSlots};
 ghost use Rattle.tx_world.specs.OwnCalls.{DoesAlone, DoesCall, Prepares, Repeats, is_do, place_of, said, status_of};
 ghost use Rattle.tx_world.specs.State.{may_enter};
 ghost use Rattle.tx_world.specs.Stepping.{SomeSteps};
+ghost use Rattle.tx_world.specs.Prepared.{NamesPrepared};
 
 use super::TxWorld;
 use crate::refusal::WorldError;
@@ -54,10 +55,14 @@ impl TxWorld {
         ensures done { OnOk result (DoesAlone (Calls line actor c.now m) self.old self.new) }
         ensures wrote { is_some (half self.old.world).seen.limit ≡ true → OnOk result (self.new.world.past ≡ Called line actor (Did m) ∷ self.old.world.past) }
         ensures ours { (self.new.ours ≡ self.old.ours) × (self.new.unsure ≡ self.old.unsure) }
+        ensures named { NamesPrepared self.old → NamesPrepared self.new }
         ensures memory { OnErr result (self.new ≡ self.old) }
     {
         let answer = self.half.if_begun(Answer::Did(m));
-        self.write_alone(actor, line, c, m, answer)
+        self.is_own_run();
+        let entered = self.write_alone(actor, line, c, m, answer);
+        self.is_own_run();
+        entered
     }
 
     /// Does the k-th pending step, from 1, n times, or until fewer than k are pending; how often it did.
@@ -75,6 +80,7 @@ impl TxWorld {
         ensures fits { IsTrue D.honest → IsTrue log.new.is_up → Fits self.new (open_records log.new.slots) }
         ensures kept { IsTrue D.honest → KeepsLog D.image self.old log.old self.new log.new }
         ensures slots { KeepsSlots self.old log.old self.new log.new }
+        ensures named { NamesPrepared self.old → NamesPrepared self.new }
         ensures life { log.new.life ≡ log.old.life }
         ensures grows { D.faults log.old.disk ≤ D.faults log.new.disk }
         ensures unarmed { log.old.armed ≡ None → log.new.armed ≡ None }
@@ -104,6 +110,7 @@ impl TxWorld {
         ensures fits { IsTrue D.honest → IsTrue log.new.is_up → Fits self.new (open_records log.new.slots) }
         ensures kept { IsTrue D.honest → KeepsLog D.image self.old log.old self.new log.new }
         ensures slots { KeepsSlots self.old log.old self.new log.new }
+        ensures named { NamesPrepared self.old → NamesPrepared self.new }
         ensures life { log.new.life ≡ log.old.life }
         ensures grows { D.faults log.old.disk ≤ D.faults log.new.disk }
         ensures unarmed { log.old.armed ≡ None → log.new.armed ≡ None }
@@ -141,6 +148,7 @@ impl TxWorld {
         ensures fits { IsTrue D.honest → IsTrue log.new.is_up → Fits self.new (open_records log.new.slots) }
         ensures kept { IsTrue D.honest → KeepsLog D.image self.old log.old self.new log.new }
         ensures slots { KeepsSlots self.old log.old self.new log.new }
+        ensures named { NamesPrepared self.old → NamesPrepared self.new }
         ensures life { log.new.life ≡ log.old.life }
         ensures grows { D.faults log.old.disk ≤ D.faults log.new.disk }
         ensures unarmed { log.old.armed ≡ None → log.new.armed ≡ None }

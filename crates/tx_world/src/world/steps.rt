@@ -9,6 +9,7 @@ ghost use Rattle.dtx_model.specs.Steps.{Acts, LocalAct, Replies, pending};
 ghost use Rattle.local_half.specs.Half.{fits_due};
 ghost use Rattle.tx_world.specs.OwnCalls.{DoesAlone};
 ghost use Rattle.tx_world.specs.Stepping.{Does, DoesAt};
+ghost use Rattle.tx_world.specs.Prepared.{NamesPrepared};
 
 use super::TxWorld;
 use crate::refusal::WorldError;
@@ -34,6 +35,7 @@ impl TxWorld {
         ensures due { IfOk result (λ b. b ≡ is_some (due_of (half self.old.world).seen e.value)) }
         ensures done { result ≡ Ok true → Does D.faults (Replies e r) self.old log.now self.new log.now }
         ensures ours { (self.new.ours ≡ self.old.ours) × (self.new.unsure ≡ self.old.unsure) }
+        ensures named { NamesPrepared self.old → NamesPrepared self.new }
         ensures unchanged { result ≡ Ok false → self.new ≡ self.old }
         ensures memory { OnErr result (self.new ≡ self.old) }
     {
@@ -53,6 +55,7 @@ impl TxWorld {
         ensures due { IfOk result (λ b. b ≡ is_some (due_of (half self.old.world).seen e.value)) }
         ensures done { result ≡ Ok true → DoesAt up life (Replies e r) self.old self.new }
         ensures ours { (self.new.ours ≡ self.old.ours) × (self.new.unsure ≡ self.old.unsure) }
+        ensures named { NamesPrepared self.old → NamesPrepared self.new }
         ensures unchanged { result ≡ Ok false → self.new ≡ self.old }
         ensures memory { OnErr result (self.new ≡ self.old) }
     {
@@ -71,6 +74,7 @@ impl TxWorld {
         ensures first { result ≡ Ok true → kth (pending self.old.world) 1 ≡ Some LocalAct }
         ensures done { result ≡ Ok true → DoesAlone Acts self.old self.new }
         ensures ours { (self.new.ours ≡ self.old.ours) × (self.new.unsure ≡ self.old.unsure) }
+        ensures named { NamesPrepared self.old → NamesPrepared self.new }
         ensures unchanged { result ≡ Ok false → self.new ≡ self.old }
         ensures memory { OnErr result (self.new ≡ self.old) }
     {
@@ -85,6 +89,7 @@ impl TxWorld {
         ensures due { IfOk result (λ b. b ≡ not (is_empty (act_entries (half self.old.world)))) }
         ensures done { result ≡ Ok true → DoesAlone Acts self.old self.new }
         ensures ours { (self.new.ours ≡ self.old.ours) × (self.new.unsure ≡ self.old.unsure) }
+        ensures named { NamesPrepared self.old → NamesPrepared self.new }
         ensures unchanged { result ≡ Ok false → self.new ≡ self.old }
         ensures memory { OnErr result (self.new ≡ self.old) }
     {

@@ -2,6 +2,7 @@
 ghost use Rattle.std.specs.Prelude.{◌≡◌, ◌&&◌, not, nat_le, OnOk, OnErr, true, if◌then◌else◌};
 ghost use Rattle.dtx_model.specs.Steps.{Stops, after};
 ghost use Rattle.tx_world.specs.State.{is_hit_by};
+ghost use Rattle.tx_world.specs.Prepared.{NamesPrepared};
 
 use super::TxWorld;
 use crate::refusal::WorldError;
@@ -36,6 +37,7 @@ impl TxWorld {
         ensures transaction { self.new.transaction ≡ self.old.transaction }
         ensures world { OnOk result (self.new.world ≡ (if is_hit_by life self.old then after self.old.transaction.value self.old.world Stops else self.old.world)) }
         ensures kept { (self.new.ours ≡ self.old.ours) × (self.new.unsure ≡ self.old.unsure) × (self.new.life ≡ self.old.life) }
+        ensures named { NamesPrepared self.old → NamesPrepared self.new }
         ensures memory { OnErr result (self.new ≡ self.old) }
     {
         if !self.is_hit_by(life) {

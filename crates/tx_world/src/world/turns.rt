@@ -7,6 +7,7 @@ ghost use Rattle.tx_world.specs.AtLog.{Fits, KeepsLog, KeepsSlots};
 ghost use Rattle.tx_world.specs.OwnCalls.{DoesAlone};
 ghost use Rattle.tx_world.specs.Pending.{IsAt, IsDueAt, IsDueIn, is_alone_step, name_of, step_of};
 ghost use Rattle.tx_world.specs.Stepping.{DoesKth, needs_log, reply_in};
+ghost use Rattle.tx_world.specs.Prepared.{NamesPrepared};
 
 use super::TxWorld;
 use crate::pending::{At, PendingStep, act_at, core_at, deliveries_at, replies_at};
@@ -91,6 +92,7 @@ impl TxWorld {
         ensures did { IfOk result (λ b. b ≡ true) }
         ensures done { OnOk result (DoesAlone (step_of s) self.old self.new) }
         ensures ours { (self.new.ours ≡ self.old.ours) × (self.new.unsure ≡ self.old.unsure) }
+        ensures named { NamesPrepared self.old → NamesPrepared self.new }
         ensures memory { OnErr result (self.new ≡ self.old) }
     {
         match s {
@@ -113,6 +115,7 @@ impl TxWorld {
         ensures some { result ≡ Ok true → DoesKth D.faults k self.old log.old self.new log.new }
         ensures kept { IsTrue D.honest → KeepsLog D.image self.old log.old self.new log.new }
         ensures slots { KeepsSlots self.old log.old self.new log.new }
+        ensures named { NamesPrepared self.old → NamesPrepared self.new }
         ensures life { log.new.life ≡ log.old.life }
         ensures grows { D.faults log.old.disk ≤ D.faults log.new.disk }
         ensures unarmed { log.old.armed ≡ None → log.new.armed ≡ None }

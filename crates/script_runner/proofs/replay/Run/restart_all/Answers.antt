@@ -123,7 +123,7 @@ loop-place-preserved g c =
     let es = one_where (is_reached_by log.life x) found in
     let noted = c.in_ok-note.ensures x.world.past es (sym (as_long c.history.result.now.items x.world.past c.history.ensures) ∙ sym c.len-from.ensures) (past g b) in
     let written : past_of c.note.new.trace.items ≡ onto (past_of before) (placed u es) = ap past_of noted ∙ trace_noted before u es in
-    let record_kept : IsRecordKept y = record { own = c.is_own_run.ensures.run; ours = c.is_own_run.ensures.ours; tried = c.is_own_run.ensures.tried } in
+    let record_kept : IsRecordKept y = record { own = c.is_own_run.ensures.run; once = c.is_own_run.ensures.once; ours = c.is_own_run.ensures.ours; tried = c.is_own_run.ensures.tried } in
     record {
       plans = c.loop-place.invariant.plans;
       contexts = c.loop-place.invariant.contexts;

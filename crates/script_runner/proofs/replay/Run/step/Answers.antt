@@ -73,7 +73,8 @@ done g c =
       grows = c.step.ensures.grows;
       unarmed = c.step.ensures.unarmed;
       still = c.step.ensures.still;
-      recorded = record { own = c.is_own_run-2.ensures.run; ours = c.is_own_run-2.ensures.ours; tried = c.is_own_run-2.ensures.tried };
+      recorded = record { own = c.is_own_run-2.ensures.run; once = c.is_own_run-2.ensures.once; ours = c.is_own_run-2.ensures.ours; tried = c.is_own_run-2.ensures.tried };
+      named = c.step.ensures.named;
     })
 
 -- what it left of the log

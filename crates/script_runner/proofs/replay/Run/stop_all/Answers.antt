@@ -79,7 +79,7 @@ loop-place-preserved c =
     let past : y.world.past ≡ onto x.world.past (one_where hit Stopped) = ap (λ (w : World). w.past) world ∙ hit_past hit x.transaction.value x.world in
     let noted = c.in_ok-note.ensures x.world.past (one_where hit Stopped) (sym (as_long c.history.result.now.items x.world.past c.history.ensures) ∙ sym c.len-from.ensures) past in
     let written : past_of c.note.new.trace.items ≡ onto (past_of before) (placed u (one_where hit Stopped)) = ap past_of noted ∙ trace_noted before u (one_where hit Stopped) in
-    let record_kept : IsRecordKept y = record { own = c.is_own_run.ensures.run; ours = c.is_own_run.ensures.ours; tried = c.is_own_run.ensures.tried } in
+    let record_kept : IsRecordKept y = record { own = c.is_own_run.ensures.run; once = c.is_own_run.ensures.once; ours = c.is_own_run.ensures.ours; tried = c.is_own_run.ensures.tried } in
     record {
       plans = c.loop-place.invariant.plans;
       contexts = c.loop-place.invariant.contexts;

@@ -14,6 +14,8 @@ use Rattle.coordinator_log.specs.Slots.{lowest_closed}
 use Rattle.tx_world.proofs.Answering.{acts_before, acts_now, appending, broken_refused, may_append, never_both, none_refused, refused_unbroken, unchanged_by, was_up}
 use Rattle.tx_world.proofs.Fitting.{keeps_appended, keeps_stopped, none_found, slots_appended, slots_stopped}
 use Rattle.tx_world.proofs.Keeping.{none_kept, ours_full, ours_logged, ours_stopped, runs_then}
+use Rattle.tx_world.specs.Prepared.{Names}
+use Rattle.tx_world.proofs.Naming.{named_logged, named_stopped, named_tried, names_none}
 
 -- the identifier, and that nothing is kept and nothing unsure
 -- src/at_log.rt
@@ -94,3 +96,26 @@ returns-in-Err-StoppedNow-clause-slots g c =
     let broken = c.in-Err-StoppedNow.is ∙ ap (λ (e : LogRefusal). Err e) c.in-Err-StoppedNow.field-0-is in
     slots_stopped (identifier_of c.args.core.now.transaction.value) c.args.self.now.ours (Some (record_of c.args.kept)) c.args.log.now c.append.new.self (c.append.ensures.stopped_now broken).1
     (λ u. never_both c.append.new.self.is_up u (c.append.ensures.stopped_now broken).0)
+
+-- the record that is kept names who said PREPARED
+pub returns-in-Ok-clause-named : goal.returns-in-Ok-clause-named
+returns-in-Ok-clause-named g c = λ was.
+    let t = c.args.core.now.transaction.value in
+    let P : Coordinated → Type 0 = λ j. Names t (Some (record_of c.args.kept)) j in
+    subst P (sym c.logged.ensures.state) (named_logged t c.args.core.now.state (record_of c.args.kept) c.requires.written)
+
+pub returns-in-Err-Full-clause-named : goal.returns-in-Err-Full-clause-named
+returns-in-Err-Full-clause-named g c = λ was.
+    names_none c.args.core.now.transaction.value c.args.self.now.ours c.log_full.new.self.state
+    (none_kept (identifier_of c.args.core.now.transaction.value) c.args.core.now.state c.args.self.now c.requires.votes c.requires.ours).0
+
+pub returns-in-Err-StoppedNow-clause-named : goal.returns-in-Err-StoppedNow-clause-named
+returns-in-Err-StoppedNow-clause-named g c = λ was.
+    let t = c.args.core.now.transaction.value in
+    let P : Coordinated → Type 0 = λ j. Names t (Some (record_of c.args.kept)) j in
+    subst P (sym c.stop.ensures.state) (named_tried t c.args.core.now.state (record_of c.args.kept) c.requires.written)
+
+pub returns-in-Err-Stopped-clause-named : goal.returns-in-Err-Stopped-clause-named
+returns-in-Err-Stopped-clause-named g c = λ was.
+    let P : Coordinated → Type 0 = λ j. Names c.args.core.now.transaction.value c.args.self.now.ours j in
+    subst P (sym c.stop-in-Err-Stopped.ensures.state) (named_stopped c.args.core.now.transaction.value c.args.self.now.ours c.args.core.now.state was)

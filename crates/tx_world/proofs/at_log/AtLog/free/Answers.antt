@@ -17,6 +17,8 @@ use Rattle.tx_world.specs.AtLog.{Kept}
 use Rattle.tx_world.proofs.Answering.{acts_before, acts_freed, acts_now, broken_refused, freeing, lost_refused, lost_unbroken, may_release, never_both, none_refused, refused_unbroken, unchanged_by, was_up}
 use Rattle.tx_world.proofs.Fitting.{keeps_freed, keeps_unfreed, slots_freed, slots_lost, slots_stopped}
 use Rattle.tx_world.proofs.Keeping.{one_kept, ours_freed, ours_stopped, runs_still}
+use Rattle.tx_world.specs.Prepared.{Names}
+use Rattle.tx_world.proofs.Naming.{named_stopped}
 
 pub stop-requires-clause-up : goal.stop-requires-clause-up
 stop-requires-clause-up g c = runs_still c.args.core.now.state c.requires.finished
@@ -154,3 +156,16 @@ returns-in-Ok-clause-had g c = λ stops some. absurd (freed_runs c.args.core.now
 
 pub returns-in-Err-NoSuch-clause-had : goal.returns-in-Err-NoSuch-clause-had
 returns-in-Err-NoSuch-clause-had g c = λ stops some. absurd (freed_runs c.args.core.now.state c.freed-in-Err-NoSuch.new.core.state c.requires.finished c.freed-in-Err-NoSuch.ensures.state stops)
+
+-- the record that is kept names who said PREPARED
+pub returns-in-Err-StoppedNow-clause-named : goal.returns-in-Err-StoppedNow-clause-named
+returns-in-Err-StoppedNow-clause-named g c = λ was.
+    let t = c.args.core.now.transaction.value in
+    let P : Coordinated → Type 0 = λ j. Names t (option_map record_of c.self.inside.ours) j in
+    let Q : Kept → Type 0 = λ x. Names t x.ours c.args.core.now.state in
+    subst P (sym c.stop.ensures.state) (named_stopped t (option_map record_of c.self.inside.ours) c.args.core.now.state (subst Q (sym c.self.view_is) was))
+
+pub returns-in-Err-Stopped-clause-named : goal.returns-in-Err-Stopped-clause-named
+returns-in-Err-Stopped-clause-named g c = λ was.
+    let P : Coordinated → Type 0 = λ j. Names c.args.core.now.transaction.value c.args.self.now.ours j in
+    subst P (sym c.stop-in-Err-Stopped.ensures.state) (named_stopped c.args.core.now.transaction.value c.args.self.now.ours c.args.core.now.state was)

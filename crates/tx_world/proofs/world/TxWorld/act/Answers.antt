@@ -4,6 +4,7 @@ use Rattle.tx_world.proofs.Living.{whole_on}
 use Rattle.tx_world.proofs.Silent.{act_silent}
 use Rattle.tx_world.proofs.Unlogged.{alone_done}
 use Rattle.tx_world.proofs.Written.{Ready, act_ready, silent_kept, world_of}
+use Rattle.tx_world.proofs.Naming.{named_alone}
 use Rattle.tx_world.proofs.world.TxWorld.act.Goals.{After-entries}
 use Rattle.tx_world.proofs.world.TxWorld.act.Goals as goal
 
@@ -37,3 +38,13 @@ returns-clause-done c d =
     let w = world_of i.calls.items i.history.past in
     let r = ready (goal.at.returns-clause-done c).After-entries in
     alone_done i.transaction w Acts i.at_log c.args.self.now (sym (act_silent i.transaction.value w)) refl (c.write.ensures.past ∙ r.past) c.self.view_is
+
+-- the record that is kept names who said PREPARED
+pub returns-clause-named : goal.returns-clause-named
+returns-clause-named c = λ n.
+    let i = c.self.inside in
+    let w = world_of i.calls.items i.history.past in
+    let r = ready (goal.at.returns-clause-named c).After-entries in
+    let wrote = c.write.ensures.past ∙ r.past in
+    let whole = whole_on i.transaction w Acts c.self.invariant refl (silent_kept i.transaction w Acts r.kept (sym (act_silent i.transaction.value w)) refl wrote) wrote in
+    named_alone Acts i.at_log c.args.self.now c.self.invariant whole refl c.self.view_is (alone_done i.transaction w Acts i.at_log c.args.self.now (sym (act_silent i.transaction.value w)) refl wrote c.self.view_is) n

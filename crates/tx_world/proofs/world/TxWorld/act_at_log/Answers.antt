@@ -8,7 +8,7 @@ use Rattle.dtx_model.specs.Tied.{tied}
 use Rattle.world_laws.specs.Carried.{are_sendable}
 use Rattle.world_laws.specs.Course.{is_written}
 use Rattle.tx_world.specs.Tried.{IsTried}
-use Rattle.tx_world.proofs.AtTheLog.{Acted, acted, acted_keeps, acted_slots, acted_so, acted_tried, acted_whole, stop_only, written_only}
+use Rattle.tx_world.proofs.AtTheLog.{Acted, acted, acted_keeps, acted_named, acted_slots, acted_so, acted_tried, acted_whole, stop_only, written_only}
 use Rattle.tx_world.proofs.Written.{block_of, stopped_is, world_of}
 use Rattle.tx_world.proofs.world.TxWorld.act_at_log.Given.{Over}
 use Rattle.tx_world.proofs.world.TxWorld.act_at_log.Goals.{After-act, After-entries, After-stop, After-write}
@@ -115,3 +115,18 @@ returns-else-is_stopped-clause-slots g c =
     let i = c.self.inside in
     acted_slots i.transaction (world_of i.calls.items i.history.past) (world_of i.calls.items c.write.new.self.past) i.half i.core i.at_log c.act.new.self c.args.self.now c.args.log.now c.act.new.log
     c.self.invariant.kept c.act.ensures.slots c.self.view_is
+
+-- the record that is kept names who said PREPARED
+pub returns-then-is_stopped-clause-named : goal.returns-then-is_stopped-clause-named
+returns-then-is_stopped-clause-named g c =
+    let i = c.self.inside in
+    let d = did g (goal.at.returns-then-is_stopped-clause-named g c).After-act in
+    acted_named i.transaction (world_of i.calls.items i.history.past) i.half i.core c.act.new.core c.act.ensures.acts.answer c.stop.new.self.past i.at_log c.act.new.self c.args.self.now c.self.invariant.kept d (stop_past g c d)
+    c.act.ensures.named c.self.view_is
+
+pub returns-else-is_stopped-clause-named : goal.returns-else-is_stopped-clause-named
+returns-else-is_stopped-clause-named g c =
+    let i = c.self.inside in
+    let at = goal.at.returns-else-is_stopped-clause-named g c in
+    acted_named i.transaction (world_of i.calls.items i.history.past) i.half i.core c.act.new.core c.act.ensures.acts.answer c.write.new.self.past i.at_log c.act.new.self c.args.self.now c.self.invariant.kept (did g at.After-act)
+    (write_past g c (block g at.After-entries)) c.act.ensures.named c.self.view_is

@@ -2,10 +2,18 @@ use Rattle.std.proofs.Common.{true}
 use Rattle.dtx_model.specs.Steps.{Calls}
 use Rattle.tx_world.proofs.Silent.{alone_silent, call_silent}
 use Rattle.tx_world.proofs.Unlogged.{ok_alone_at}
+use Rattle.tx_world.proofs.Naming.{named_ok}
+use Rattle.std.proofs.Common.{refl}
 use Rattle.tx_world.proofs.world.TxWorld.call_alone.Goals as goal
 
 pub returns-clause-done : goal.returns-clause-done
 returns-clause-done c =
     let x = c.args.self.now in
-    ok_alone_at c.enter_at.result true 0 (Calls c.args.line c.args.actor c.args.c.now 0) x c.enter_at.new.self
-    (call_silent x.transaction.value x.world c.args.line c.args.actor c.args.c.now 0 (alone_silent c.args.c.now c.requires.alone)) c.enter_at.ensures.done
+    ok_alone_at c.enter_at-answered.result true 0 (Calls c.args.line c.args.actor c.args.c.now 0) x c.enter_at-answered.new.self
+    (call_silent x.transaction.value x.world c.args.line c.args.actor c.args.c.now 0 (alone_silent c.args.c.now c.requires.alone)) c.enter_at-answered.ensures.done
+
+-- the record that is kept names who said PREPARED
+pub returns-clause-named : goal.returns-clause-named
+returns-clause-named c =
+    named_ok c.enter_at-answered.result true 0 (Calls c.args.line c.args.actor c.args.c.now 0) c.args.self.now c.enter_at-answered.new.self refl c.is_own_run.ensures.ours c.is_own_run-2.ensures.run
+    c.enter_at-answered.ensures.ours.0 c.enter_at-answered.ensures.done c.enter_at-answered.ensures.memory

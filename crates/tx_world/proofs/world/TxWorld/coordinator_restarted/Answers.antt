@@ -14,6 +14,7 @@ use Rattle.tx_world.specs.State.{TxState, is_reached_by}
 use Rattle.tx_world.proofs.AtTheLog.{restart_tied, told, told_stopped}
 use Rattle.tx_world.proofs.Records.{had_found}
 use Rattle.tx_world.proofs.Written.{world_of}
+use Rattle.tx_world.proofs.Naming.{named_told}
 use Rattle.tx_world.proofs.world.TxWorld.coordinator_restarted.Given.{Over}
 use Rattle.tx_world.proofs.world.TxWorld.coordinator_restarted.Goals.{After-restart}
 use Rattle.tx_world.proofs.world.TxWorld.coordinator_restarted.Goals as goal
@@ -89,3 +90,13 @@ returns-clause-tied g c = λ honest d.
     let tie = subst (λ n. Tie c.args.self.now.ours c.args.self.now.unsure (first_of n rs)) (sym mine) (c.requires.fits honest).tie in
     restart_tied i.transaction (world_of i.calls.items i.history.past) i.half i.core i.at_log c.args.self.now (first_of c.identifier.result rs) c.restart.new.self.past c.self.invariant c.self.view_is tie
     (wrote g (goal.at.returns-clause-tied g c).After-restart) d
+
+-- the record that is kept then names who said PREPARED
+pub returns-clause-named : goal.returns-clause-named
+returns-clause-named g c = λ honest n.
+    let i = c.self.inside in
+    let rs = open_records c.args.log.now.slots in
+    let mine : c.identifier.result ≡ id_of c.args.self.now = c.identifier.ensures ∙ ap (λ (y : TxState). id_of y) c.self.view_is in
+    let tie = subst (λ n. Tie c.args.self.now.ours c.args.self.now.unsure (first_of n rs)) (sym mine) (c.requires.fits honest).tie in
+    named_told i.transaction (world_of i.calls.items i.history.past) (world_of i.calls.items c.restart.new.self.past) i.at_log c.restarted.new.self c.args.self.now (not i.core.state.stopped) (first_of c.identifier.result rs)
+    (wrote g (goal.at.returns-clause-named g c).After-restart) c.self.view_is tie (ap (λ (x : LogKept). x.ours) c.restarted.ensures.kept) n

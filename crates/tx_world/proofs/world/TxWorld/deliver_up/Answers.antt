@@ -10,6 +10,7 @@ use Rattle.tx_world.proofs.Delivering.{ReadyUp, came_few, lined, some_left, up_r
 use Rattle.tx_world.proofs.Living.{whole_on}
 use Rattle.tx_world.proofs.Unlogged.{alone_done}
 use Rattle.tx_world.proofs.Written.{silent_kept, world_of}
+use Rattle.tx_world.proofs.Naming.{named_alone}
 use Rattle.tx_world.proofs.world.TxWorld.deliver_up.Goals.{After-entries}
 use Rattle.tx_world.proofs.world.TxWorld.deliver_up.Goals as goal
 
@@ -59,3 +60,13 @@ returns-clause-done c d =
     let u = ready (goal.at.returns-clause-done c).After-entries in
     let i = c.self.inside in
     alone_done i.transaction (world_of i.calls.items i.history.past) (Delivers c.args.c Up) i.at_log c.args.self.now (sym u.silent) refl (c.write.ensures.past ∙ u.past) c.self.view_is
+
+-- the record that is kept names who said PREPARED
+pub returns-clause-named : goal.returns-clause-named
+returns-clause-named c = λ n.
+    let i = c.self.inside in
+    let w = world_of i.calls.items i.history.past in
+    let r = ready (goal.at.returns-clause-named c).After-entries in
+    let wrote = c.write.ensures.past ∙ r.past in
+    let whole = whole_on i.transaction w (Delivers c.args.c Up) c.self.invariant refl (silent_kept i.transaction w (Delivers c.args.c Up) r.kept (sym r.silent) refl wrote) wrote in
+    named_alone (Delivers c.args.c Up) i.at_log c.args.self.now c.self.invariant whole refl c.self.view_is (alone_done i.transaction w (Delivers c.args.c Up) i.at_log c.args.self.now (sym r.silent) refl wrote c.self.view_is) n

@@ -29,4 +29,5 @@ loop-count-preserved g c =
       λ up. was.6 (c.step.ensures.still up),
       slots_on c.args.self.now c.loop-count.self c.step.new.self c.args.log.now c.loop-count.log c.step.new.log was.2 was.7 c.step.ensures.slots,
       omega arith,
+      λ named. c.step.ensures.named (was.9 named),
     )

@@ -1,5 +1,6 @@
 use Rattle.std.proofs.Common.{◌-◌, ◌≡◌, ◌≤◌, IsTrue, None}
 use Rattle.tx_world.specs.AtLog.{KeepsLog, KeepsSlots}
+use Rattle.tx_world.specs.Prepared.{NamesPrepared}
 use Rattle.tx_world.specs.Stepping.{Stepped}
 use Rattle.tx_world.proofs.world.TxWorld.repeat.Given as goal
 
@@ -14,6 +15,7 @@ invariant-loop-count g l =
     × (IsTrue l.log.is_up → IsTrue l.initial.log.is_up)
     × KeepsSlots l.initial.self l.initial.log l.self l.log
     × (l.count ≤ l.initial.n)
+    × (NamesPrepared l.initial.self → NamesPrepared l.self)
 
 abbrev pub decreases-loop-count : goal.decreases-loop-count
 decreases-loop-count g l = l.initial.n - l.count

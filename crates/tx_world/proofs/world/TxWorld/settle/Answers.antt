@@ -21,4 +21,5 @@ loop-count-preserved g c =
       λ none. c.step.ensures.unarmed (was.5 none),
       λ up. was.6 (c.step.ensures.still up),
       slots_on c.args.self.now c.loop-count.self c.step.new.self c.args.log.now c.loop-count.log c.step.new.log was.2 was.7 c.step.ensures.slots,
+      λ named. c.step.ensures.named (was.8 named),
     )

@@ -1,5 +1,6 @@
 use Rattle.std.proofs.Common.{◌-◌, ◌≡◌, ◌≤◌, IsTrue, None}
 use Rattle.tx_world.specs.AtLog.{KeepsLog, KeepsSlots}
+use Rattle.tx_world.specs.Prepared.{NamesPrepared}
 use Rattle.tx_world.specs.Stepping.{Stepped}
 use Rattle.tx_world.proofs.world.TxWorld.settle.Given as goal
 
@@ -13,6 +14,7 @@ invariant-loop-count g l =
     × (l.initial.log.armed ≡ None → l.log.armed ≡ None)
     × (IsTrue l.log.is_up → IsTrue l.initial.log.is_up)
     × KeepsSlots l.initial.self l.initial.log l.self l.log
+    × (NamesPrepared l.initial.self → NamesPrepared l.self)
 
 abbrev pub decreases-loop-count : goal.decreases-loop-count
 decreases-loop-count g l = 4294967295 - l.count
