@@ -166,10 +166,6 @@ pub named_ok : {A E : Type 0} (r : Result A E) (up : Bool) (life : ℕ) (m : Ste
 named_ok (Ok a) up life m old new apart o ran same d e n = named_does up life m old new apart o ran same d n
 named_ok (Err f) up life m old new apart o ran same d e n = subst (λ (x : TxState). NamesPrepared x) (sym e) n
 
--- where nothing was done
-pub named_still : (old new : TxState) → new ≡ old → NamesPrepared old → NamesPrepared new
-named_still old new e n = subst (λ (x : TxState). NamesPrepared x) (sym e) n
-
 -- and of a step that was written
 pub named_near : {t : TxNo} {w v : World} {f g : Known} {k j : CoreKept} (up : Bool) (life : ℕ) (m : Step) (x y : LogKept) (old : TxState) → Whole t w f k x → Whole t v g j y → is_apart m ≡ true → seen_as t w x ≡ old
     → y.ours ≡ x.ours → DoesAt up life m old (seen_as t v y) → NamesPrepared old → NamesPrepared (seen_as t v y)
