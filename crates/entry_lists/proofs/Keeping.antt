@@ -1,19 +1,19 @@
 -- What is put into a list of entries in few bytes.
-use Rattle.std.proofs.Common.{◌≡◌, ◌<◌, ◌+◌, ℕ, true, false, Bool, ◌&&◌, List, [], ◌∷◌, ◌++◌, length, map, refl, ap, sym, ◌∙◌, arith}
+use Rattle.std.proofs.Common.{◌≡◌, ◌<◌, ℕ, true, false, Bool, List, [], ◌∷◌, ◌++◌, length, map, refl, ap, arith}
 use Rattle.std.proofs.lemmas.List.{get_or_append_left, length-append}
 use Rattle.std.proofs.lemmas.Bool.Decides.{Decides-ltb}
 use Rattle.dtx_model.specs.Words.{each}
 use Rattle.dtx_model.proofs.Bools.{and_both, and_left, and_right}
 use Rattle.dtx_values.specs.declared.entry.Entry.{Entry}
 use Rattle.dtx_values.specs.declared.entry.Entry.TheVariants.{Late}
-use Rattle.dtx_values.specs.declared.trace.Place.{Place}
 use Rattle.entry_lists.specs.declared.brief.Brief.{Brief}
 use Rattle.entry_lists.specs.declared.brief.Brief.TheVariants.{Called, Began, Enlisted, CommitAsked, RollbackAsked, Clock, Asked, Voted, Sealed, Decided, Told, ToldClient, Whole}
-use Rattle.entry_lists.specs.Held.{entry_in, is_whole, is_within, is_placed_within, placed_in}
+use Rattle.entry_lists.specs.declared.short.ShortPlace.{ShortPlace}
+use Rattle.entry_lists.specs.Held.{entry_in, is_whole, is_within, is_placed_within, place_of, placed_in}
 
 -- Another entry that stands whole changes none of those in few bytes.
 pub more_wholes : (ws : List Entry) (e : Entry) (b : Brief) → is_within (length ws) b ≡ true → (entry_in (ws ++ e ∷ []) b ≡ entry_in ws b) × (is_within (length (ws ++ e ∷ [])) b ≡ true)
-more_wholes ws e (Called n a) h = (refl, refl)
+more_wholes ws e (Called a n) h = (refl, refl)
 more_wholes ws e (Began n) h = (refl, refl)
 more_wholes ws e (Enlisted f c) h = (refl, refl)
 more_wholes ws e CommitAsked h = (refl, refl)
@@ -32,7 +32,7 @@ more_wholes ws e (Whole k) h =
 
 -- One that doesn't stand whole is the same among any.
 pub brief_alike : (ws vs : List Entry) (n : ℕ) (b : Brief) → is_whole b ≡ false → (entry_in ws b ≡ entry_in vs b) × (is_within n b ≡ true)
-brief_alike ws vs n (Called m a) h = (refl, refl)
+brief_alike ws vs n (Called a m) h = (refl, refl)
 brief_alike ws vs n (Began m) h = (refl, refl)
 brief_alike ws vs n (Enlisted f c) h = (refl, refl)
 brief_alike ws vs n CommitAsked h = (refl, refl)
@@ -57,5 +57,5 @@ one_more f g p q (y ∷ ys) x stay h k =
 
 -- the same of an entry with its place
 pub placed_stays : (old new : List Entry) → ((b : Brief) → is_within (length old) b ≡ true → (entry_in new b ≡ entry_in old b) × (is_within (length new) b ≡ true))
-    → (x : Place × Brief) → is_placed_within (length old) x ≡ true → (placed_in new x ≡ placed_in old x) × (is_placed_within (length new) x ≡ true)
-placed_stays old new stay x h = let here = stay x.1 h in (ap (λ (e : Entry). (x.0, e)) here.0, here.1)
+    → (x : ShortPlace × Brief) → is_placed_within (length old) x ≡ true → (placed_in new x ≡ placed_in old x) × (is_placed_within (length new) x ≡ true)
+placed_stays old new stay x h = let here = stay x.1 h in (ap (λ (e : Entry). (place_of x.0, e)) here.0, here.1)

@@ -6,8 +6,11 @@ use Rattle.dtx_values.specs.declared.entry.Entry.TheVariants.{Called as CalledWi
 use Rattle.dtx_values.specs.declared.entry.Entry.TheVariants.{Clock as ClockAt, Asked as AskedOf, Voted as VotedOf, Sealed as SealedNow, Decided as DecidedAs, Told as ToldTo, Late}
 use Rattle.dtx_values.specs.declared.entry.Party.TheVariants.{Client, Enl}
 use Rattle.dtx_values.specs.declared.trace.Place.{Place}
+use Rattle.dtx_values.specs.declared.trace.Place.TheVariants.{Context, Transaction, Log}
 use Rattle.entry_lists.specs.declared.brief.Brief.{Brief}
 use Rattle.entry_lists.specs.declared.brief.Brief.TheVariants.{Called, Began, Enlisted, CommitAsked, RollbackAsked, Clock, Asked, Voted, Sealed, Decided, Told, ToldClient, Whole}
+use Rattle.entry_lists.specs.declared.short.ShortPlace.{ShortPlace}
+use Rattle.entry_lists.specs.declared.short.ShortPlace.TheVariants.{Context as ShortContext, Transaction as ShortTransaction, Log as ShortLog}
 
 -- entries, and for how many more there is room
 pub record Held : Type 0 where
@@ -21,7 +24,7 @@ pub record HeldPlaced : Type 0 where
 
 -- the entry that stands in few bytes, or whole among these
 abbrev pub entry_in : List Entry → Brief → Entry
-entry_in ws (Called n a) = CalledWith n a Fine
+entry_in ws (Called a n) = CalledWith n a Fine
 entry_in ws (Began n) = BeganWith n
 entry_in ws (Enlisted e c) = EnlistedWith e c
 entry_in ws CommitAsked = AskedCommit
@@ -45,9 +48,15 @@ abbrev pub is_within : ℕ → Brief → Bool
 is_within n (Whole k) = nat_lt k n
 is_within n _ = true
 
--- the same of an entry with its place
-abbrev pub placed_in : List Entry → (Place × Brief) → Place × Entry
-placed_in ws x = (x.0, entry_in ws x.1)
+-- the place that stands in few bytes
+abbrev pub place_of : ShortPlace → Place
+place_of (ShortContext a) = Context a
+place_of (ShortTransaction t) = Transaction t
+place_of ShortLog = Log
 
-abbrev pub is_placed_within : ℕ → (Place × Brief) → Bool
+-- the same of an entry with its place
+abbrev pub placed_in : List Entry → (ShortPlace × Brief) → Place × Entry
+placed_in ws x = (place_of x.0, entry_in ws x.1)
+
+abbrev pub is_placed_within : ℕ → (ShortPlace × Brief) → Bool
 is_placed_within n x = is_within n x.1

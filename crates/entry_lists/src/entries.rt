@@ -60,9 +60,9 @@ impl Entries {
 
     /// Puts an entry after the others.
     #[inline(always)]
-    pub fn push_reserved(&mut self, e: Entry)
+    pub fn push_reserved(&mut self, e: &Entry)
         requires { 0 < self.old.room }
-        ensures items { self.new.items ≡ self.old.items ++ e ∷ [] }
+        ensures items { self.new.items ≡ self.old.items ++ e.now ∷ [] }
         ensures room { self.old.room ≡ self.new.room + 1 }
     {
         let brief = keep(&mut self.wholes, e);

@@ -4,6 +4,7 @@
 mod brief;
 mod entries;
 mod placed;
+mod short;
 mod trace;
 
 pub use entries::Entries;

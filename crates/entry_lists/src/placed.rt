@@ -4,14 +4,17 @@ ghost use Rattle.entry_lists.specs.Held.{entry_in};
 
 use crate::brief::{Brief, entry_in, keep, keep_from};
 use crate::entries::Entries;
+use crate::short::{ShortPlace, place_of, short_place};
 use dtx_values::{Entry, Place};
 use std::alloc::{AllocError, Global};
 use std::marker::Model;
 
+const _: () = prove!(std::mem::size_of::<(ShortPlace, Brief)>() == 12);
+
 /// A list of entries with their places that takes little room. Contracts see the entries with their places, and for how many more there is room.
 #[derive(Drop)]
 pub struct PlacedEntries {
-    briefs: Vec<(Place, Brief)>,
+    briefs: Vec<(ShortPlace, Brief)>,
     wholes: Vec<Entry>,
     room: usize,
 }
@@ -75,8 +78,8 @@ impl PlacedEntries {
         ensures items { self.new.items ≡ self.old.items ++ x ∷ [] }
         ensures room { self.old.room ≡ self.new.room + 1 }
     {
-        let brief = keep(&mut self.wholes, x.1);
-        self.briefs.push_reserved((x.0, brief));
+        let brief = keep(&mut self.wholes, &x.1);
+        self.briefs.push_reserved((short_place(x.0), brief));
         self.room -= 1;
     }
 
@@ -98,7 +101,7 @@ impl PlacedEntries {
         ensures room { self.old.room ≡ self.new.room + 1 }
     {
         let brief = keep_from(&mut self.wholes, list, b);
-        self.briefs.push_reserved((place, brief));
+        self.briefs.push_reserved((short_place(place), brief));
         self.room -= 1;
     }
 
@@ -128,6 +131,6 @@ impl PlacedEntries {
         ensures { result ≡ slice_index_or self.now.items i result }
     {
         let (place, brief) = self.briefs[i];
-        (place, entry_in(&self.wholes, brief))
+        (place_of(place), entry_in(&self.wholes, brief))
     }
 }

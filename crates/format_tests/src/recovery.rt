@@ -15,11 +15,11 @@ fn history_of(alloc: Global, first: &[Entry], then: &[Entry]) -> Result<Entries,
     let mut history = Entries::with_capacity(alloc, 16)?;
     for x in first {
         history.reserve(1)?;
-        history.push_reserved(*x);
+        history.push_reserved(x);
     }
     for x in then {
         history.reserve(1)?;
-        history.push_reserved(*x);
+        history.push_reserved(x);
     }
     Ok(history)
 }

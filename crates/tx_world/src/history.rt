@@ -198,7 +198,7 @@ impl History {
         ensures send_room { self.old.send_room ≤ self.new.send_room + 1 }
     {
         carry(&mut self.session, stopped, x);
-        self.entries.push_reserved(*x);
+        self.entries.push_reserved(x);
     }
 
     /// Writes entries, in order. `stopped` says whether the coordinator stands stopped.
@@ -230,7 +230,7 @@ impl History {
     {
         let came = self.session.deliver(c, d);
         if let Some(x) = arrival(c, d, &came) {
-            self.entries.push_reserved(x);
+            self.entries.push_reserved(&x);
         }
         came
     }
@@ -248,7 +248,7 @@ impl History {
         let Some((up, down)) = self.session.lose(c, up, down) else {
             return false;
         };
-        self.entries.push_reserved(Entry::Cut(c, up, down));
+        self.entries.push_reserved(&Entry::Cut(c, up, down));
         true
     }
 
@@ -290,7 +290,7 @@ impl History {
         ensures room { self.old.room ≤ self.new.room + 1 }
     {
         self.session.stop();
-        self.entries.push_reserved(Entry::Stopped);
+        self.entries.push_reserved(&Entry::Stopped);
     }
 
     /// Writes that the coordinator is told what an opening of the log found. Each connection stands as it did.
@@ -298,6 +298,6 @@ impl History {
         requires room { 0 < self.old.room }
         ensures past { self.new.past ≡ Restarted found ∷ self.old.past }
     {
-        self.entries.push_reserved(Entry::Restarted(found));
+        self.entries.push_reserved(&Entry::Restarted(found));
     }
 }

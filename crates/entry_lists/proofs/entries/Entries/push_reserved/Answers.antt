@@ -1,4 +1,4 @@
-use Rattle.std.proofs.Common.{◌≡◌, ◌∷◌, ◌++◌, [], List, length, map, true, ap, arith, ◌∙◌}
+use Rattle.std.proofs.Common.{◌∷◌, ◌++◌, [], List, length, map, ap, arith, ◌∙◌}
 use Rattle.dtx_model.specs.Words.{each}
 use Rattle.dtx_values.specs.declared.entry.Entry.{Entry}
 use Rattle.entry_lists.specs.declared.brief.Brief.{Brief}
@@ -22,4 +22,4 @@ returns-clause-items c =
     let k = c.keep-brief.ensures in
     let put = one_more (entry_in old) (entry_in new) (is_within (length old)) (is_within (length new)) c.self.inside.briefs.items c.keep-brief.result k.others c.self.invariant.0 k.within in
     ap (λ (bs : List Brief). map (entry_in new) bs) c.push_reserved.ensures.items ∙ put.0
-    ∙ ap (λ (e : Entry). map (entry_in old) c.self.inside.briefs.items ++ e ∷ []) k.entry ∙ ap (λ (h : Held). h.items ++ c.args.e ∷ []) c.self.view_is
+    ∙ ap (λ (e : Entry). map (entry_in old) c.self.inside.briefs.items ++ e ∷ []) k.entry ∙ ap (λ (h : Held). h.items ++ c.args.e.now ∷ []) c.self.view_is
