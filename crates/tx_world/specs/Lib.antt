@@ -9,3 +9,4 @@ pub mod Names
 pub mod Managers
 pub mod OwnCalls
 pub mod Prepared
+pub mod Sending

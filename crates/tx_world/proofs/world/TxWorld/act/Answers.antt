@@ -9,10 +9,10 @@ use Rattle.tx_world.proofs.world.TxWorld.act.Goals.{After-entries}
 use Rattle.tx_world.proofs.world.TxWorld.act.Goals as goal
 
 -- what the act writes is ready
-ready : (c : After-entries) → Ready c.self.inside.transaction (world_of c.self.inside.calls.items c.self.inside.history.past) Acts c.act.new.self c.self.inside.core c.reserve.new.self.past c.entries.result.now
+ready : (c : After-entries) → Ready c.self.inside.transaction (world_of c.self.inside.calls.items c.self.inside.history.past) Acts c.act.new.self c.self.inside.core c.reserve_for.new.self.past c.entries.result.now
 ready c =
     let i = c.self.inside in
-    act_ready i.transaction (world_of i.calls.items i.history.past) i.half c.act.new.self i.core c.clear.new.self c.act.new.out c.reserve.new.self.past c.entries.result.now c.self.invariant.kept c.in_ok-reserve.ensures.same
+    act_ready i.transaction (world_of i.calls.items i.history.past) i.half c.act.new.self i.core c.clear.new.self c.act.new.out c.reserve_for.new.self.past c.entries.result.now c.self.invariant.kept c.in_ok-reserve_for.ensures.same
     (sym c.act.ensures.acted ∙ c.if-not-act.false) c.act.ensures.state c.entries.ensures.value c.act.ensures.out c.clear.ensures
 
 pub write-requires-clause-written : goal.write-requires-clause-written

@@ -14,7 +14,7 @@ use Rattle.tx_world.proofs.world.TxWorld.enter_local.Goals as goal
 -- what the call writes is ready
 ready : (c : After-entries)
     → Ready c.self.inside.transaction (world_of c.self.inside.calls.items c.self.inside.history.past) (Calls c.args.line c.args.actor c.args.c.now c.args.done) c.answer_call-answer.new.half c.self.inside.core
-    c.reserve.new.self.past c.entries.result.now
+    c.reserve_for.new.self.past c.entries.result.now
 ready c =
     let i = c.self.inside in
     let may = ap (λ (x : TxState). may_enter x.world c.args.line c.args.c.now) c.self.view_is ∙ c.requires.enters in
@@ -22,13 +22,13 @@ ready c =
     let alone = ap (λ (x : TxState). is_unlinked x.world c.args.c.now) c.self.view_is ∙ c.requires.unlinked in
     let told = c.answer_call-answer.ensures in
     call_ready i.transaction (world_of i.calls.items i.history.past) i.half c.answer_call-answer.new.half i.core c.args.line c.args.actor c.args.c.now c.args.done c.clear.new.self c.answer_call-answer.new.out
-    c.reserve.new.self.past c.entries.result.now c.self.invariant.kept c.in_ok-reserve.ensures.same c.requires.near alone may answers told.state c.entries.ensures.value told.out c.clear.ensures
+    c.reserve_for.new.self.past c.entries.result.now c.self.invariant.kept c.in_ok-reserve_for.ensures.same c.requires.near alone may answers told.state c.entries.ensures.value told.out c.clear.ensures
 
 -- the call is the newest
 calls : (c : After-entries) → past_of c.push_reserved.new.self.items ≡ entered (Calls c.args.line c.args.actor c.args.c.now c.args.done) (past_of c.self.inside.calls.items)
 calls c =
-    with_call c.self.inside.calls.items c.reserve-2.new.self.items c.push_reserved.new.self.items (record { line = c.args.line; actor = c.args.actor; call = c.args.c.now }) c.push_reserved.ensures.items
-    c.in_ok-reserve-2.ensures.items
+    with_call c.self.inside.calls.items c.reserve.new.self.items c.push_reserved.new.self.items (record { line = c.args.line; actor = c.args.actor; call = c.args.c.now }) c.push_reserved.ensures.items
+    c.in_ok-reserve.ensures.items
 
 pub answer_call-answer-requires-clause-new : goal.answer_call-answer-requires-clause-new
 answer_call-answer-requires-clause-new c =

@@ -15,13 +15,13 @@ use Rattle.tx_world.proofs.world.TxWorld.reply_at.Goals as goal
 
 -- what the reply writes is ready
 ready : (c : After-entries)
-    → Ready c.self.inside.transaction (world_of c.self.inside.calls.items c.self.inside.history.past) (Replies c.args.e c.args.r) c.reply.new.self c.self.inside.core c.reserve.new.self.past c.entries.result.now
+    → Ready c.self.inside.transaction (world_of c.self.inside.calls.items c.self.inside.history.past) (Replies c.args.e c.args.r) c.reply.new.self c.self.inside.core c.reserve_for.new.self.past c.entries.result.now
 ready c =
     let i = c.self.inside in
     let w = world_of i.calls.items i.history.past in
     let was = c.if-not-reply.false in
     let fit = ap (λ (x : Half). fits_due c.args.r (due_of x.seen c.args.e.value)) (half_is i.transaction w i.half i.core c.self.invariant.kept ∙ ap (λ (x : TxState). half x.world) c.self.view_is) ∙ c.requires.fits in
-    reply_ready i.transaction w i.half c.reply.new.self i.core c.args.e c.args.r c.clear.new.self c.reply.new.out c.reserve.new.self.past c.entries.result.now c.self.invariant.kept c.in_ok-reserve.ensures.same
+    reply_ready i.transaction w i.half c.reply.new.self i.core c.args.e c.args.r c.clear.new.self c.reply.new.out c.reserve_for.new.self.past c.entries.result.now c.self.invariant.kept c.in_ok-reserve_for.ensures.same
     (sym c.reply.ensures.due ∙ was) fit (c.reply.ensures.state was) c.entries.ensures.value (c.reply.ensures.out was) c.clear.ensures
 
 pub write_near-begins-requires-clause-written : goal.write_near-begins-requires-clause-written

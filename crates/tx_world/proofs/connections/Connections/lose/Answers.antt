@@ -1,0 +1,11 @@
+use Rattle.std.proofs.Common.{◌∷◌, ◌∙◌, IfSome, ap, sym, subst}
+use Rattle.dtx_values.specs.declared.entry.Entry.TheVariants.{Cut}
+use Rattle.oletx_session.specs.Carries.{Carries}
+use Rattle.oletx_session.specs.Traffic.{Traffic}
+use Rattle.tx_world.specs.Sending.{traffic_of}
+use Rattle.tx_world.proofs.connections.Connections.lose.Goals as goal
+
+pub returns-clause-cut : goal.returns-clause-cut
+returns-clause-cut c h =
+    let same = ap traffic_of (sym c.in-Some.is) ∙ c.self.view_is in
+    subst (λ (x : Traffic). IfSome c.lose.result (λ k. Carries x.wires h → Carries c.lose.new.self.wires (Cut c.args.c k.0 k.1 ∷ h))) same (c.lose.ensures.cut h)
