@@ -1,6 +1,5 @@
 -- A step of the local side that can't begin a promotion sends nothing, where none began.
-use Rattle.std.proofs.Common.{◌≡◌, ◌≤◌, ℕ, Bool, true, false, ◌||◌, not, List, [], ◌∷◌, length, is_some, refl, ap, sym, subst, ◌∙◌, drop, ◌+◌, add-one, zero, suc}
-use Rattle.std.proofs.lemmas.Bool.{or_left}
+use Rattle.std.proofs.Common.{◌≡◌, ◌≤◌, ℕ, Bool, true, false, ◌||◌, not, List, [], ◌∷◌, is_some, refl, ap, sym, subst, ◌∙◌}
 use Rattle.dtx_values.specs.declared.call.Call.{Call}
 use Rattle.dtx_values.specs.declared.entry.Ask.TheVariants.{Promote, Single as AskSingle}
 use Rattle.dtx_values.specs.declared.entry.Entry.{Entry}
@@ -13,12 +12,11 @@ use Rattle.dtx_values.specs.declared.number.ActorNo.{ActorNo}
 use Rattle.dtx_values.specs.declared.number.EnlNo.{EnlNo}
 use Rattle.dtx_values.specs.declared.number.TxNo.{TxNo}
 use Rattle.dtx_model.specs.Words.{each, has, onto}
-use Rattle.dtx_model.specs.Facts.{facts_if, has_facts}
-use Rattle.dtx_model.specs.World.{World, answer_at, facts_at, half}
+use Rattle.dtx_model.specs.World.{World, answer_at, half}
 use Rattle.dtx_model.specs.Steps.{Step, Acts, Calls, Replies, after, block_at}
 use Rattle.dtx_model.specs.Caused.{IsIn, IsOwnRun, is_promoting_entry, is_unpromoted}
 use Rattle.dtx_model.proofs.Blocks.{of_called, of_reply, of_whole_act}
-use Rattle.dtx_model.proofs.Bools.{not_both, not_false, not_true, or_first, or_right}
+use Rattle.dtx_model.proofs.Bools.{not_both, not_false, not_true, or_first}
 use Rattle.dtx_model.proofs.Local.{free-local, has-onto}
 use Rattle.dtx_model.proofs.Unpromoted.{is_local}
 use Rattle.dtx_model.proofs.Writes.{ByAct, ByCall, ByReply, Each, IsClosed, Source, begins, e_one, each_closed, may_begin, writes}
@@ -79,28 +77,31 @@ local_unsent (Sent c d m) k = absurd cc
 local_unsent _ k = refl
 
 -- A step that is ready, where no promotion began, and it begins none, sends nothing.
-pub ready_unsent : {t : TxNo} {w : World} {m : Step} {g : Known} {k : CoreKept} {h xs : List Entry} → Ready t w m g k h xs → has is_promoting_entry (block_at t.value w m) ≡ false → is_unpromoted w.past ≡ true
+ready_unsent : {t : TxNo} {w : World} {m : Step} {g : Known} {k : CoreKept} {p xs : List Entry} → Ready t w m g k p xs → has is_promoting_entry (block_at t.value w m) ≡ false → is_unpromoted w.past ≡ true
     → has is_sent xs ≡ false
 unfolding after
-ready_unsent {t} {w} {m} {g} {k} {h} {xs} r calm_block u =
+ready_unsent {t} {w} {m} {g} {k} {p} {xs} r calm_block u =
     let v = after t.value w m in
     let block = block_at t.value w m in
     let none : has is_promoting_entry v.past ≡ false = has-onto is_promoting_entry w.past block ∙ ap (λ b. b || has is_promoting_entry w.past) calm_block ∙ not_true (has is_promoting_entry w.past) u in
     let local = free-local (IsIn v.calls) t.value v.past (v.calls, r.kept.ran) (not_false (has is_promoting_entry v.past) none) in
     let unsent = has_none is_local is_sent local_unsent v.past local in
-    or_first (has is_sent xs) (has is_sent h) (sym (has-onto is_sent h xs) ∙ ap (has is_sent) r.past ∙ unsent)
+    or_first (has is_sent xs) (has is_sent p) (sym (has-onto is_sent p xs) ∙ ap (has is_sent) r.past ∙ unsent)
 
 -- what the local side knows of its world, it follows
-pub follows_kept : (t : TxNo) (w : World) (h : Known) (k : CoreKept) → Kept t w h k → Follows h.transaction.value w h.half
+follows_kept : (t : TxNo) (w : World) (h : Known) (k : CoreKept) → Kept t w h k → Follows h.transaction.value w h.half
 follows_kept t w h k kept = record { ran = subst (λ (x : Known). IsOwnRun x.transaction.value w) (sym kept.half) kept.ran; knows = sym (half_is t w h k kept) }
 
--- there is room for what is sent, where room was made unless nothing is
-pub room_where_sent : (u sent : Bool) (n room : ℕ) → (u ≡ true → sent ≡ false) → (not u ≡ true → n ≤ room) → sent ≡ true → n ≤ room
-room_where_sent true sent n room none made s = absurd (not_both sent s (none refl))
-room_where_sent false sent n room none made s = made refl
+-- so the local side knows that it sends nothing
+pub unsent_there : {t : TxNo} {w : World} {m : Step} {h g : Known} {j k : CoreKept} {p xs : List Entry} (u : Bool) → Kept t w h j → Ready t w m g k p xs → has is_promoting_entry (block_at t.value w m) ≡ false
+    → ((v : World) → Follows h.transaction.value v h.half → u ≡ is_unpromoted v.past) → not u ≡ false → has is_sent xs ≡ false
+unsent_there {t} {w} {m} {h} {g} {j} {k} {p} {xs} u kept r calm_block says n = ready_unsent r calm_block (sym (says w (follows_kept t w h j kept)) ∙ is_true u n)
+  where
+    is_true : (u : Bool) → not u ≡ false → u ≡ true
+    is_true true n = refl
+    is_true false n = absurd cc
 
--- a list has what passes, where an item of it does
-pub has-item : {A : Type 0} (p : A → Bool) (xs : List A) (i : ℕ) (x : A) → drop i xs ≡ x ∷ drop (i + 1) xs → p x ≡ true → has p xs ≡ true
-has-item p [] i x e k = absurd cc
-has-item p (y ∷ ys) zero x e k = let same : y ≡ x = cc in or_left (p y) (has p ys) (ap p same ∙ k)
-has-item p (y ∷ ys) (suc i) x e k = or_right (p y) (has p ys) (has-item p ys i x (e ∙ ap (λ j. x ∷ drop j (y ∷ ys)) (add-one (suc i)) ∙ ap (λ j. x ∷ drop j ys) (sym (add-one i))) k)
+-- there is room for what is sent, where it was made unless nothing is
+pub room_where_sent : (made sent : Bool) (n room : ℕ) → (made ≡ false → sent ≡ false) → (made ≡ true → n ≤ room) → sent ≡ true → n ≤ room
+room_where_sent true sent n room none has_room s = has_room refl
+room_where_sent false sent n room none has_room s = absurd (not_both sent s (none refl))

@@ -1,4 +1,4 @@
-use Rattle.std.proofs.Common.{◌≡◌, refl, ap, sym, ◌∙◌, subst}
+use Rattle.std.proofs.Common.{◌≡◌, false, not, refl, ap, sym, ◌∙◌, subst}
 use Rattle.dtx_model.specs.Caused.{MayAnswer}
 use Rattle.dtx_model.specs.Steps.{Calls, entered}
 use Rattle.dtx_model.specs.Words.{past_of}
@@ -8,6 +8,11 @@ use Rattle.tx_world.specs.State.{TxState, may_enter}
 use Rattle.tx_world.proofs.Calling.{answer_there, call_ready, free_there, with_call}
 use Rattle.tx_world.proofs.Living.{near_done, near_whole}
 use Rattle.tx_world.proofs.Written.{Ready, world_of}
+use Rattle.tx_world.specs.Sending.{is_sent}
+use Rattle.dtx_model.specs.Words.{has}
+use Rattle.tx_world.specs.Sending.{may_promote}
+use Rattle.dtx_model.proofs.Bools.{or_first, or_second}
+use Rattle.tx_world.proofs.Sending.{call_calm, room_where_sent, unsent_there}
 use Rattle.tx_world.proofs.world.TxWorld.enter_local.Goals.{After-entries}
 use Rattle.tx_world.proofs.world.TxWorld.enter_local.Goals as goal
 
@@ -42,6 +47,24 @@ returns-clause-answer c =
     c.answer_call-answer.ensures.answer
     ∙ answer_there i.transaction (world_of i.calls.items i.history.past) i.half i.core c.args.c.now c.args.done c.self.invariant.kept c.requires.near
     ∙ ap (λ (x : TxState). answer_at x.transaction.value x.world c.args.c.now c.args.done) c.self.view_is
+
+-- it sends nothing where it may not begin a promotion, and none began
+unsent : (c : After-entries) → c.may_send-sends.result ≡ false → has is_sent c.entries.result.now ≡ false
+unsent c n =
+    let i = c.self.inside in
+    let w = world_of i.calls.items i.history.past in
+    let none = sym c.may_send-sends.ensures ∙ n in
+    let u = c.is_unpromoted.result in
+    let may = may_promote c.args.c.now in
+    unsent_there u c.self.invariant.kept (ready c) (call_calm i.transaction.value w c.args.line c.args.actor c.args.c.now c.args.done (or_first may (not u) none)) c.is_unpromoted.ensures (or_second may (not u) none)
+
+pub write_near-begins-requires-clause-starts : goal.write_near-begins-requires-clause-starts
+write_near-begins-requires-clause-starts c =
+    room_where_sent c.may_send-sends.result (has is_sent c.entries.result.now) 64 c.reserve_for.new.self.start_room (unsent c) (λ n. (c.in_ok-reserve_for.ensures.sends n).0)
+
+pub write_near-begins-requires-clause-sends : goal.write_near-begins-requires-clause-sends
+write_near-begins-requires-clause-sends c =
+    room_where_sent c.may_send-sends.result (has is_sent c.entries.result.now) 64 c.reserve_for.new.self.send_room (unsent c) (λ n. (c.in_ok-reserve_for.ensures.sends n).1)
 
 pub write_near-begins-requires-clause-written : goal.write_near-begins-requires-clause-written
 write_near-begins-requires-clause-written c = (ready c).written
