@@ -45,7 +45,7 @@ use Rattle.dtx_model.proofs.Writes.{Each}
 use Rattle.world_laws.proofs.Far.{far_abort, far_commit, far_core_down, far_core_got}
 
 -- a list of entries that pass has none that passes another test
-has_none : (p q : Entry → Bool) → ((x : Entry) → p x ≡ true → q x ≡ false) → (es : List Entry) → each p es ≡ true → has q es ≡ false
+pub has_none : (p q : Entry → Bool) → ((x : Entry) → p x ≡ true → q x ≡ false) → (es : List Entry) → each p es ≡ true → has q es ≡ false
 has_none p q f [] e = refl
 has_none p q f (x ∷ es) e = by (q x) (has q es) (f x (and_left (p x) (each p es) e)) (has_none p q f es (and_right (p x) (each p es) e))
   where

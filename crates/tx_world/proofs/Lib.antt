@@ -32,3 +32,4 @@ pub mod Silent
 pub mod Alone
 pub mod Reenlisting
 pub mod Statuses
+pub mod Sending

@@ -10,3 +10,4 @@ pub mod Managers
 pub mod OwnCalls
 pub mod Prepared
 pub mod Recorded
+pub mod Sending

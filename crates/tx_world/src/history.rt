@@ -7,18 +7,20 @@ ghost use Rattle.dtx_values.specs.declared.message.Conn.{Conn};
 ghost use Rattle.dtx_values.specs.declared.message.Message.{Message};
 ghost use Rattle.dtx_values.specs.Lines.{has_line};
 ghost use Rattle.dtx_model.specs.Frames.{is_valid};
-ghost use Rattle.dtx_model.specs.Words.{each, onto, past_of};
+ghost use Rattle.dtx_model.specs.Words.{each, has, onto, past_of};
 ghost use Rattle.dtx_model.specs.Wires.{MayCross, WireRun, is_open_wire, is_stopped, opens};
 ghost use Rattle.dtx_model.specs.World.{cut, has_left, is_linked, on_the_way};
 ghost use Rattle.oletx_session.specs.declared.session.Delivered.{Delivered};
 ghost use Rattle.oletx_session.specs.Carries.{Carries};
 ghost use Rattle.world_laws.specs.Carried.{are_sendable, is_sendable};
 ghost use Rattle.tx_world.specs.Entering.{cut_if, is_countable, links_cut};
+ghost use Rattle.tx_world.specs.Sending.{is_sent};
 ghost use Rattle.world_laws.specs.Course.{Came, Course, IsOpened, arrival, is_written};
 
+use crate::connections::Connections;
 use dtx_values::{Conn, Dir, EnlNo, Entry, Message, ROOM, is_opening};
 use entry_lists::Entries;
-use oletx_session::{Delivered, Session};
+use oletx_session::Delivered;
 use std::alloc::{AllocError, Global};
 use std::marker::Model;
 
@@ -29,7 +31,7 @@ const FIRST_ROOM: usize = 4 * (ROOM + 2);
 #[derive(Drop)]
 pub(crate) struct History {
     entries: Entries,
-    session: Session,
+    session: Connections,
 }
 
 impl Model for History {
@@ -51,7 +53,7 @@ impl Model for History {
 }
 
 /// Starts a connection where nothing is left of an earlier opening. It is lost at once while the coordinator stands stopped.
-fn open(session: &mut Session, stopped: bool, c: Conn)
+fn open(session: &mut Connections, stopped: bool, c: Conn)
     requires { 0 < session.old.start_room }
     ensures opened { (h : List Entry) → Carries session.old.wires h → WireRun h → is_linked c h ≡ false → IsOpened stopped c session.new.wires h }
     ensures start_room { session.old.start_room ≤ session.new.start_room + 1 }
@@ -66,7 +68,7 @@ fn open(session: &mut Session, stopped: bool, c: Conn)
 }
 
 /// Opens a connection with its first message.
-fn open_with(session: &mut Session, stopped: bool, c: Conn, d: Dir, m: &Message)
+fn open_with(session: &mut Connections, stopped: bool, c: Conn, d: Dir, m: &Message)
     requires valid { is_valid m.now ≡ true }
     requires starts { 0 < session.old.start_room }
     requires sends { 0 < session.old.send_room }
@@ -80,7 +82,7 @@ fn open_with(session: &mut Session, stopped: bool, c: Conn, d: Dir, m: &Message)
 }
 
 /// Sends a message that may be sent.
-fn send(session: &mut Session, stopped: bool, c: Conn, d: Dir, m: &Message)
+fn send(session: &mut Connections, stopped: bool, c: Conn, d: Dir, m: &Message)
     requires valid { is_valid m.now ≡ true }
     requires starts { 0 < session.old.start_room }
     requires sends { 0 < session.old.send_room }
@@ -98,11 +100,11 @@ fn send(session: &mut Session, stopped: bool, c: Conn, d: Dir, m: &Message)
 }
 
 /// Lets the connections do what an entry says.
-fn carry(session: &mut Session, stopped: bool, x: &Entry)
+fn carry(session: &mut Connections, stopped: bool, x: &Entry)
     requires written { is_written x.now ≡ true }
     requires valid { (h : List Entry) × (is_sendable h x.now ≡ true) }
-    requires starts { 0 < session.old.start_room }
-    requires sends { 0 < session.old.send_room }
+    requires starts { is_sent x.now ≡ true → 0 < session.old.start_room }
+    requires sends { is_sent x.now ≡ true → 0 < session.old.send_room }
     ensures carries { (h : List Entry) → Carries session.old.wires h → WireRun h → is_sendable h x.now ≡ true → stopped ≡ is_stopped h → Carries session.new.wires (x.now ∷ h) }
     ensures start_room { session.old.start_room ≤ session.new.start_room + 1 }
     ensures send_room { session.old.send_room ≤ session.new.send_room + 1 }
@@ -137,7 +139,7 @@ impl History {
     {
         Ok(History {
             entries: Entries::with_capacity(alloc, FIRST_ROOM)?,
-            session: Session::new(alloc)?,
+            session: Connections::new(alloc),
         })
     }
 
@@ -148,6 +150,18 @@ impl History {
     {
         self.entries.reserve(ROOM + 2)?;
         self.session.reserve()
+    }
+
+    /// Makes room for a step: as [`History::reserve`] does where it may send, and else for its entries alone.
+    pub(crate) fn reserve_for(&mut self, sends: bool) -> Result<(), AllocError>
+        ensures same { self.new.past ≡ self.old.past }
+        ensures room { OnOk result (66 ≤ self.new.room) }
+        ensures sends { OnOk result (sends ≡ true → (64 ≤ self.new.start_room) × (64 ≤ self.new.send_room)) }
+    {
+        if sends {
+            return self.reserve();
+        }
+        self.entries.reserve(ROOM + 2)
     }
 
     /// The entries, oldest first.
@@ -190,8 +204,8 @@ impl History {
         requires sendable { is_sendable self.old.past x.now ≡ true }
         requires stopped { stopped ≡ is_stopped self.old.past }
         requires room { 0 < self.old.room }
-        requires starts { 0 < self.old.start_room }
-        requires sends { 0 < self.old.send_room }
+        requires starts { is_sent x.now ≡ true → 0 < self.old.start_room }
+        requires sends { is_sent x.now ≡ true → 0 < self.old.send_room }
         ensures past { self.new.past ≡ x.now ∷ self.old.past }
         ensures room { self.old.room ≤ self.new.room + 1 }
         ensures start_room { self.old.start_room ≤ self.new.start_room + 1 }
@@ -207,8 +221,8 @@ impl History {
         requires sendable { are_sendable (onto self.old.past xs.now) ≡ true }
         requires stopped { stopped ≡ is_stopped self.old.past }
         requires room { length xs.now ≤ self.old.room }
-        requires starts { length xs.now ≤ self.old.start_room }
-        requires sends { length xs.now ≤ self.old.send_room }
+        requires starts { has is_sent xs.now ≡ true → length xs.now ≤ self.old.start_room }
+        requires sends { has is_sent xs.now ≡ true → length xs.now ≤ self.old.send_room }
         ensures past { self.new.past ≡ onto self.old.past xs.now }
         ensures room { self.old.room ≤ self.new.room + length xs.now }
     {

@@ -2,6 +2,7 @@
 #![tactic(auto)]
 
 mod at_log;
+mod connections;
 mod hearing;
 mod history;
 mod local_calls;

@@ -6,6 +6,7 @@ ghost use Rattle.dtx_model.specs.Caused.{is_begin_sent};
 ghost use Rattle.world_laws.specs.Carried.{are_sendable};
 ghost use Rattle.world_laws.specs.Course.{is_written};
 ghost use Rattle.tx_world.specs.Kept.{stop_if, stopped_if};
+ghost use Rattle.tx_world.specs.Sending.{is_sent};
 
 use crate::at_log::AtLog;
 use crate::history::History;
@@ -61,8 +62,8 @@ pub(crate) fn write_near(history: &mut History, core: &mut Core, block: &[Entry]
     requires runs { has is_begin_sent block.now ≡ true → core.old.state.stopped ≡ false }
     requires few { length block.now ≤ 64 }
     requires room { 65 ≤ history.old.room }
-    requires starts { 64 ≤ history.old.start_room }
-    requires sends { 64 ≤ history.old.send_room }
+    requires starts { has is_sent block.now ≡ true → 64 ≤ history.old.start_room }
+    requires sends { has is_sent block.now ≡ true → 64 ≤ history.old.send_room }
     ensures begins { result ≡ has is_begin_sent block.now }
     ensures past { history.new.past ≡ stop_if (has is_begin_sent block.now && not up) (onto history.old.past block.now) }
     ensures core { core.new ≡ stopped_if (has is_begin_sent block.now && not up) core.old }

@@ -162,7 +162,7 @@ impl TxWorld {
         ensures memory { OnErr result (self.new ≡ self.old) }
     {
         self.calls.reserve(1)?;
-        self.history.reserve()?;
+        self.history.reserve_for(false)?;
         self.calls.push_reserved(EnteredCall {
             line,
             actor,

@@ -1,5 +1,5 @@
 //! The calls.
-ghost use Rattle.std.specs.Prelude.{ℕ, ◌≡◌, IfOk, OnOk, OnErr, true};
+ghost use Rattle.std.specs.Prelude.{ℕ, ◌≡◌, ◌||◌, not, IfOk, OnOk, OnErr, true};
 ghost use Rattle.dtx_values.specs.declared.call.Call.TheVariants.{Lose, Recovered};
 ghost use Rattle.dtx_values.specs.declared.entry.Answer.TheVariants.{Fine};
 ghost use Rattle.dtx_model.specs.Caused.{MayAnswer};
@@ -7,6 +7,7 @@ ghost use Rattle.dtx_model.specs.Steps.{Calls};
 ghost use Rattle.dtx_model.specs.World.{answer_at};
 ghost use Rattle.tx_world.specs.Entering.{is_local, is_lose, is_recovered, is_unlinked};
 ghost use Rattle.tx_world.specs.OwnCalls.{DoesAlone};
+ghost use Rattle.tx_world.specs.Sending.{may_promote};
 ghost use Rattle.tx_world.specs.State.{may_enter};
 ghost use Rattle.tx_world.specs.Stepping.{DoesAt};
 
@@ -17,6 +18,13 @@ use crate::refusal::WorldError;
 use crate::writing::{live, write_near};
 use dtx_model::EnteredCall;
 use dtx_values::{ActorNo, Answer, Call, Conn, Entry, Outbox, RmNo, TxNo};
+
+/// Whether the call may send, where this says whether no promotion began: then only where it may begin one.
+fn may_send(c: &Call, unpromoted: bool) -> bool
+    ensures { result ≡ (may_promote c.now || not unpromoted) }
+{
+    matches!(c, Call::Durable(_, _, _, _) | Call::Marshal(_)) || !unpromoted
+}
 
 impl TxWorld {
     /// Enters a call that the local side answers alone.
@@ -39,7 +47,8 @@ impl TxWorld {
         ensures ours { (self.new.ours ≡ self.old.ours) × (self.new.unsure ≡ self.old.unsure) }
         ensures memory { OnErr result (self.new ≡ self.old) }
     {
-        self.history.reserve()?;
+        let sends = may_send(c, self.half.is_unpromoted());
+        self.history.reserve_for(sends)?;
         self.calls.reserve(1)?;
         out.clear();
         let answer = answer_call(&mut self.half, actor, line, c, done, out);

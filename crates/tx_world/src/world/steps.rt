@@ -59,7 +59,8 @@ impl TxWorld {
         ensures unchanged { result ≡ Ok false → self.new ≡ self.old }
         ensures memory { OnErr result (self.new ≡ self.old) }
     {
-        self.history.reserve()?;
+        let sends = !self.half.is_unpromoted();
+        self.history.reserve_for(sends)?;
         out.clear();
         if !self.half.reply(e, r, out) {
             return Ok(false);
@@ -93,7 +94,8 @@ impl TxWorld {
         ensures unchanged { result ≡ Ok false → self.new ≡ self.old }
         ensures memory { OnErr result (self.new ≡ self.old) }
     {
-        self.history.reserve()?;
+        let sends = !self.half.is_unpromoted();
+        self.history.reserve_for(sends)?;
         out.clear();
         if !self.half.act(out) {
             return Ok(false);

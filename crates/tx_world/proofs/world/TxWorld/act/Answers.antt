@@ -1,19 +1,38 @@
-use Rattle.std.proofs.Common.{refl, sym, ◌∙◌}
+use Rattle.std.proofs.Common.{◌≡◌, ◌≤◌, arith, false, length, not, refl, sym, ◌∙◌}
 use Rattle.dtx_model.specs.Steps.{Acts}
 use Rattle.tx_world.proofs.Living.{whole_on}
 use Rattle.tx_world.proofs.Silent.{act_silent}
 use Rattle.tx_world.proofs.Unlogged.{alone_done}
 use Rattle.tx_world.proofs.Written.{Ready, act_ready, silent_kept, world_of}
 use Rattle.tx_world.proofs.Naming.{named_alone}
+use Rattle.tx_world.specs.Sending.{is_sent}
+use Rattle.dtx_model.specs.Words.{has}
+use Rattle.tx_world.proofs.Sending.{act_calm, room_where_sent, unsent_there}
 use Rattle.tx_world.proofs.world.TxWorld.act.Goals.{After-entries}
 use Rattle.tx_world.proofs.world.TxWorld.act.Goals as goal
 
 -- what the act writes is ready
-ready : (c : After-entries) → Ready c.self.inside.transaction (world_of c.self.inside.calls.items c.self.inside.history.past) Acts c.act.new.self c.self.inside.core c.reserve.new.self.past c.entries.result.now
+ready : (c : After-entries) → Ready c.self.inside.transaction (world_of c.self.inside.calls.items c.self.inside.history.past) Acts c.act.new.self c.self.inside.core c.reserve_for.new.self.past c.entries.result.now
 ready c =
     let i = c.self.inside in
-    act_ready i.transaction (world_of i.calls.items i.history.past) i.half c.act.new.self i.core c.clear.new.self c.act.new.out c.reserve.new.self.past c.entries.result.now c.self.invariant.kept c.in_ok-reserve.ensures.same
+    act_ready i.transaction (world_of i.calls.items i.history.past) i.half c.act.new.self i.core c.clear.new.self c.act.new.out c.reserve_for.new.self.past c.entries.result.now c.self.invariant.kept c.in_ok-reserve_for.ensures.same
     (sym c.act.ensures.acted ∙ c.if-not-act.false) c.act.ensures.state c.entries.ensures.value c.act.ensures.out c.clear.ensures
+
+-- it sends nothing where no promotion began
+unsent : (c : After-entries) → not c.is_unpromoted-sends.result ≡ false → has is_sent c.entries.result.now ≡ false
+unsent c =
+    let i = c.self.inside in
+    unsent_there c.is_unpromoted-sends.result c.self.invariant.kept (ready c) (act_calm i.transaction.value (world_of i.calls.items i.history.past)) c.is_unpromoted-sends.ensures
+
+pub write-requires-clause-starts : goal.write-requires-clause-starts
+write-requires-clause-starts c =
+    room_where_sent (not c.is_unpromoted-sends.result) (has is_sent c.entries.result.now) (length c.entries.result.now) c.reserve_for.new.self.start_room
+    (unsent (goal.at.write-requires-clause-starts c).After-entries) (λ n. omega (arith, c.entries.ensures.few, (c.in_ok-reserve_for.ensures.sends n).0))
+
+pub write-requires-clause-sends : goal.write-requires-clause-sends
+write-requires-clause-sends c =
+    room_where_sent (not c.is_unpromoted-sends.result) (has is_sent c.entries.result.now) (length c.entries.result.now) c.reserve_for.new.self.send_room
+    (unsent (goal.at.write-requires-clause-sends c).After-entries) (λ n. omega (arith, c.entries.ensures.few, (c.in_ok-reserve_for.ensures.sends n).1))
 
 pub write-requires-clause-written : goal.write-requires-clause-written
 write-requires-clause-written c = (ready (goal.at.write-requires-clause-written c).After-entries).written

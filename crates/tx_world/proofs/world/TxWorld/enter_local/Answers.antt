@@ -1,4 +1,4 @@
-use Rattle.std.proofs.Common.{◌≡◌, refl, ap, sym, ◌∙◌, subst}
+use Rattle.std.proofs.Common.{◌≡◌, false, not, refl, ap, sym, ◌∙◌, subst}
 use Rattle.dtx_model.specs.Caused.{MayAnswer}
 use Rattle.dtx_model.specs.Steps.{Calls, entered}
 use Rattle.dtx_model.specs.Words.{past_of}
@@ -8,13 +8,18 @@ use Rattle.tx_world.specs.State.{TxState, may_enter}
 use Rattle.tx_world.proofs.Calling.{answer_there, call_ready, free_there, with_call}
 use Rattle.tx_world.proofs.Living.{near_done, near_whole}
 use Rattle.tx_world.proofs.Written.{Ready, world_of}
+use Rattle.tx_world.specs.Sending.{is_sent}
+use Rattle.dtx_model.specs.Words.{has}
+use Rattle.tx_world.specs.Sending.{may_promote}
+use Rattle.dtx_model.proofs.Bools.{or_first, or_second}
+use Rattle.tx_world.proofs.Sending.{call_calm, room_where_sent, unsent_there}
 use Rattle.tx_world.proofs.world.TxWorld.enter_local.Goals.{After-entries}
 use Rattle.tx_world.proofs.world.TxWorld.enter_local.Goals as goal
 
 -- what the call writes is ready
 ready : (c : After-entries)
     → Ready c.self.inside.transaction (world_of c.self.inside.calls.items c.self.inside.history.past) (Calls c.args.line c.args.actor c.args.c.now c.args.done) c.answer_call-answer.new.half c.self.inside.core
-    c.reserve.new.self.past c.entries.result.now
+    c.reserve_for.new.self.past c.entries.result.now
 ready c =
     let i = c.self.inside in
     let may = ap (λ (x : TxState). may_enter x.world c.args.line c.args.c.now) c.self.view_is ∙ c.requires.enters in
@@ -22,13 +27,13 @@ ready c =
     let alone = ap (λ (x : TxState). is_unlinked x.world c.args.c.now) c.self.view_is ∙ c.requires.unlinked in
     let told = c.answer_call-answer.ensures in
     call_ready i.transaction (world_of i.calls.items i.history.past) i.half c.answer_call-answer.new.half i.core c.args.line c.args.actor c.args.c.now c.args.done c.clear.new.self c.answer_call-answer.new.out
-    c.reserve.new.self.past c.entries.result.now c.self.invariant.kept c.in_ok-reserve.ensures.same c.requires.near alone may answers told.state c.entries.ensures.value told.out c.clear.ensures
+    c.reserve_for.new.self.past c.entries.result.now c.self.invariant.kept c.in_ok-reserve_for.ensures.same c.requires.near alone may answers told.state c.entries.ensures.value told.out c.clear.ensures
 
 -- the call is the newest
 calls : (c : After-entries) → past_of c.push_reserved.new.self.items ≡ entered (Calls c.args.line c.args.actor c.args.c.now c.args.done) (past_of c.self.inside.calls.items)
 calls c =
-    with_call c.self.inside.calls.items c.reserve-2.new.self.items c.push_reserved.new.self.items (record { line = c.args.line; actor = c.args.actor; call = c.args.c.now }) c.push_reserved.ensures.items
-    c.in_ok-reserve-2.ensures.items
+    with_call c.self.inside.calls.items c.reserve.new.self.items c.push_reserved.new.self.items (record { line = c.args.line; actor = c.args.actor; call = c.args.c.now }) c.push_reserved.ensures.items
+    c.in_ok-reserve.ensures.items
 
 pub answer_call-answer-requires-clause-new : goal.answer_call-answer-requires-clause-new
 answer_call-answer-requires-clause-new c =
@@ -42,6 +47,24 @@ returns-clause-answer c =
     c.answer_call-answer.ensures.answer
     ∙ answer_there i.transaction (world_of i.calls.items i.history.past) i.half i.core c.args.c.now c.args.done c.self.invariant.kept c.requires.near
     ∙ ap (λ (x : TxState). answer_at x.transaction.value x.world c.args.c.now c.args.done) c.self.view_is
+
+-- it sends nothing where it may not begin a promotion, and none began
+unsent : (c : After-entries) → c.may_send-sends.result ≡ false → has is_sent c.entries.result.now ≡ false
+unsent c n =
+    let i = c.self.inside in
+    let w = world_of i.calls.items i.history.past in
+    let none = sym c.may_send-sends.ensures ∙ n in
+    let u = c.is_unpromoted.result in
+    let may = may_promote c.args.c.now in
+    unsent_there u c.self.invariant.kept (ready c) (call_calm i.transaction.value w c.args.line c.args.actor c.args.c.now c.args.done (or_first may (not u) none)) c.is_unpromoted.ensures (or_second may (not u) none)
+
+pub write_near-begins-requires-clause-starts : goal.write_near-begins-requires-clause-starts
+write_near-begins-requires-clause-starts c =
+    room_where_sent c.may_send-sends.result (has is_sent c.entries.result.now) 64 c.reserve_for.new.self.start_room (unsent c) (λ n. (c.in_ok-reserve_for.ensures.sends n).0)
+
+pub write_near-begins-requires-clause-sends : goal.write_near-begins-requires-clause-sends
+write_near-begins-requires-clause-sends c =
+    room_where_sent c.may_send-sends.result (has is_sent c.entries.result.now) 64 c.reserve_for.new.self.send_room (unsent c) (λ n. (c.in_ok-reserve_for.ensures.sends n).1)
 
 pub write_near-begins-requires-clause-written : goal.write_near-begins-requires-clause-written
 write_near-begins-requires-clause-written c = (ready c).written

@@ -1,4 +1,4 @@
-use Rattle.std.proofs.Common.{refl, ap, sym, ◌∙◌}
+use Rattle.std.proofs.Common.{◌≡◌, false, not, refl, ap, sym, ◌∙◌}
 use Rattle.dtx_model.specs.Half.{Half}
 use Rattle.dtx_model.specs.Replies.{due_of}
 use Rattle.dtx_model.specs.Steps.{Replies}
@@ -10,19 +10,36 @@ use Rattle.tx_world.proofs.Onward.{half_is}
 use Rattle.tx_world.proofs.Written.{Ready, reply_ready, world_of}
 use Rattle.tx_world.proofs.Naming.{named_near}
 use Rattle.tx_world.specs.AtLog.{Kept as LogKept}
+use Rattle.tx_world.specs.Sending.{is_sent}
+use Rattle.dtx_model.specs.Words.{has}
+use Rattle.tx_world.proofs.Sending.{reply_calm, room_where_sent, unsent_there}
 use Rattle.tx_world.proofs.world.TxWorld.reply_at.Goals.{After-entries}
 use Rattle.tx_world.proofs.world.TxWorld.reply_at.Goals as goal
 
 -- what the reply writes is ready
 ready : (c : After-entries)
-    → Ready c.self.inside.transaction (world_of c.self.inside.calls.items c.self.inside.history.past) (Replies c.args.e c.args.r) c.reply.new.self c.self.inside.core c.reserve.new.self.past c.entries.result.now
+    → Ready c.self.inside.transaction (world_of c.self.inside.calls.items c.self.inside.history.past) (Replies c.args.e c.args.r) c.reply.new.self c.self.inside.core c.reserve_for.new.self.past c.entries.result.now
 ready c =
     let i = c.self.inside in
     let w = world_of i.calls.items i.history.past in
     let was = c.if-not-reply.false in
     let fit = ap (λ (x : Half). fits_due c.args.r (due_of x.seen c.args.e.value)) (half_is i.transaction w i.half i.core c.self.invariant.kept ∙ ap (λ (x : TxState). half x.world) c.self.view_is) ∙ c.requires.fits in
-    reply_ready i.transaction w i.half c.reply.new.self i.core c.args.e c.args.r c.clear.new.self c.reply.new.out c.reserve.new.self.past c.entries.result.now c.self.invariant.kept c.in_ok-reserve.ensures.same
+    reply_ready i.transaction w i.half c.reply.new.self i.core c.args.e c.args.r c.clear.new.self c.reply.new.out c.reserve_for.new.self.past c.entries.result.now c.self.invariant.kept c.in_ok-reserve_for.ensures.same
     (sym c.reply.ensures.due ∙ was) fit (c.reply.ensures.state was) c.entries.ensures.value (c.reply.ensures.out was) c.clear.ensures
+
+-- it sends nothing where no promotion began
+unsent : (c : After-entries) → not c.is_unpromoted-sends.result ≡ false → has is_sent c.entries.result.now ≡ false
+unsent c =
+    let i = c.self.inside in
+    unsent_there c.is_unpromoted-sends.result c.self.invariant.kept (ready c) (reply_calm i.transaction.value (world_of i.calls.items i.history.past) c.args.e c.args.r) c.is_unpromoted-sends.ensures
+
+pub write_near-begins-requires-clause-starts : goal.write_near-begins-requires-clause-starts
+write_near-begins-requires-clause-starts c =
+    room_where_sent (not c.is_unpromoted-sends.result) (has is_sent c.entries.result.now) 64 c.reserve_for.new.self.start_room (unsent c) (λ n. (c.in_ok-reserve_for.ensures.sends n).0)
+
+pub write_near-begins-requires-clause-sends : goal.write_near-begins-requires-clause-sends
+write_near-begins-requires-clause-sends c =
+    room_where_sent (not c.is_unpromoted-sends.result) (has is_sent c.entries.result.now) 64 c.reserve_for.new.self.send_room (unsent c) (λ n. (c.in_ok-reserve_for.ensures.sends n).1)
 
 pub write_near-begins-requires-clause-written : goal.write_near-begins-requires-clause-written
 write_near-begins-requires-clause-written c = (ready c).written

@@ -37,17 +37,17 @@ calls c =
 
 -- and its block comes onto the past
 past : (c : After-is_stopped)
-    → onto c.reserve-2.new.self.past (Called c.args.line c.args.actor c.args.answer ∷ [])
+    → onto c.reserve_for.new.self.past (Called c.args.line c.args.actor c.args.answer ∷ [])
     ≡ onto c.self.inside.history.past (block_at c.self.inside.transaction.value (world_of c.self.inside.calls.items c.self.inside.history.past) (Calls c.args.line c.args.actor c.args.c.now c.args.done))
-past c = ap (λ (h : List Entry). onto h (Called c.args.line c.args.actor c.args.answer ∷ [])) c.in_ok-reserve-2.ensures.same ∙ ap (onto c.self.inside.history.past) (ready c).block
+past c = ap (λ (h : List Entry). onto h (Called c.args.line c.args.actor c.args.answer ∷ [])) c.in_ok-reserve_for.ensures.same ∙ ap (onto c.self.inside.history.past) (ready c).block
 
 pub write-requires-clause-sendable : goal.write-requires-clause-sendable
-write-requires-clause-sendable c = ap (λ (h : List Entry). are_sendable (onto h (Called c.args.line c.args.actor c.args.answer ∷ []))) c.in_ok-reserve-2.ensures.same ∙ (ready c).sendable
+write-requires-clause-sendable c = ap (λ (h : List Entry). are_sendable (onto h (Called c.args.line c.args.actor c.args.answer ∷ []))) c.in_ok-reserve_for.ensures.same ∙ (ready c).sendable
 
 pub write-requires-clause-stopped : goal.write-requires-clause-stopped
 write-requires-clause-stopped c =
     let i = c.self.inside in
-    c.is_stopped.ensures ∙ stopped_is i.transaction (world_of i.calls.items i.history.past) i.half i.core c.reserve-2.new.self.past c.self.invariant.kept c.in_ok-reserve-2.ensures.same
+    c.is_stopped.ensures ∙ stopped_is i.transaction (world_of i.calls.items i.history.past) i.half i.core c.reserve_for.new.self.past c.self.invariant.kept c.in_ok-reserve_for.ensures.same
 
 pub invariant_of-self-2 : goal.invariant_of-self-2
 invariant_of-self-2 c =
