@@ -1,6 +1,5 @@
 //! The calls that a script's lines give each transaction and the log, actor by actor.
-ghost use Rattle.std.specs.Prelude.{ℕ, ◌≡◌, ◌==◌, ◌≤◌, List, [], ◌∷◌, length, IfOk, OnOk, Some, None, if◌then◌else◌};
-ghost use Rattle.dtx_values.specs.declared.call.Call.{Call};
+ghost use Rattle.std.specs.Prelude.{◌≡◌, ◌==◌, List, [], ◌∷◌, length, replicate, IfOk, OnOk, if◌then◌else◌};
 ghost use Rattle.dtx_values.specs.declared.number.ActorNo.{ActorNo};
 ghost use Rattle.dtx_values.specs.declared.number.TxNo.{TxNo};
 ghost use Rattle.dtx_values.specs.declared.script.Line.{Line};
@@ -117,8 +116,7 @@ fn add_given(
 
 /// Rows with no call for each transaction that a script can name.
 fn empty_rows(alloc: Global) -> Result<Vec<Rows<Call>>, AllocError>
-    ensures many { IfOk result (λ v. length v.items ≡ TxNo.MAX) }
-    ensures none { IfOk result (λ v. (t : TxNo) (a : ActorNo) → row_at a (rows_of t v.items) ≡ no_calls) }
+    ensures { IfOk result (λ v. v.items ≡ replicate TxNo.MAX (replicate ActorNo.MAX no_calls)) }
 {
     let transactions = TxNo::MAX as usize;
     let mut rows = Vec::with_capacity(alloc, transactions)?;
@@ -142,8 +140,9 @@ pub fn transaction_rows(alloc: Global, plans: &Plans) -> Result<Vec<Rows<Call>>,
     let mut rows = empty_rows(alloc)?;
     let mut contexts = contexts(alloc)?;
     let mut entries = Vec::new(alloc);
+    let lines = plans.lines();
     let mut n = 0;
-    for l in plans.lines() {
+    for l in lines {
         n += 1;
         let gives = given(plans, &mut contexts, &mut entries, l)?;
         let rolled = contexts[l.actor.index()].rolled();

@@ -1,5 +1,5 @@
 //! The calls of each actor at one place, and how many of them were entered.
-ghost use Rattle.std.specs.Prelude.{◌≡◌, ◌≢◌, [], ◌∷◌, IfOk, IsSome, OnErr, OnOk};
+ghost use Rattle.std.specs.Prelude.{◌≡◌, ◌≢◌, [], ◌∷◌, replicate, IfOk, IsSome, OnErr, OnOk};
 ghost use Rattle.dtx_values.specs.declared.number.ActorNo.{ActorNo};
 ghost use Rattle.script_calls.specs.Rows.{are_entered, further, is_entered, next_in, no_calls, row_at, with_calls};
 
@@ -97,7 +97,7 @@ impl<C: Copy + Drop> Row<C> {
 impl<C: Copy + Drop> Rows<C> {
     /// Rows with no call.
     pub(crate) fn new(alloc: Global) -> Result<Self, AllocError>
-        ensures { IfOk result (λ r. (a : ActorNo) → row_at a r ≡ no_calls) }
+        ensures { IfOk result (λ r. r ≡ replicate ActorNo.MAX no_calls) }
     {
         let actors = ActorNo::MAX as usize;
         let mut rows = Vec::with_capacity(alloc, actors)?;
