@@ -1,4 +1,5 @@
 pub mod Closing
+pub mod Filling
 pub mod Openings
 pub mod PlanTable
 pub mod Scoping
