@@ -9,7 +9,7 @@ ghost use Rattle.dtx_model.specs.Words.{all_of, put};
 ghost use Rattle.script_calls.specs.Due.{calls_at, due_at, log_call, log_calls_at, log_due};
 ghost use Rattle.script_calls.specs.Rows.{no_calls, row_at, unentered, with_calls};
 ghost use Rattle.script_calls.specs.RowsOf.{rows_of};
-ghost use Rattle.script_calls.specs.Scoped.{AreOpen, IsUnopened, calls_given, rolled_at, scopes_at};
+ghost use Rattle.script_calls.specs.Scoped.{AreOpen, IsUnopened, calls_given, nothing_open, rolled_at, scopes_at};
 
 use crate::scope_lines::{Gives, act, contexts};
 use crate::plans::{Plans, call_of};
@@ -126,6 +126,30 @@ fn empty_rows(alloc: Global) -> Result<Vec<Rows<Call>>, AllocError>
     Ok(rows)
 }
 
+/// Puts what the lines give transactions into rows that have no call yet, by contexts in which no scope is open yet.
+fn fill(
+    alloc: Global,
+    plans: &Plans,
+    contexts: &mut [Context],
+    rows: &mut [Rows<Call>],
+) -> Result<(), AllocError>
+    requires script { IsScript plans.now }
+    requires contexts { contexts.old ≡ replicate ActorNo.MAX nothing_open }
+    requires rows { rows.old ≡ replicate TxNo.MAX (replicate ActorNo.MAX no_calls) }
+    ensures { OnOk result ((t : TxNo) (a : ActorNo) → row_at a (rows_of t rows.new) ≡ unentered (calls_at plans.now a.value t.value)) }
+{
+    let lines = plans.lines();
+    let mut entries = Vec::new(alloc);
+    let mut n = 0;
+    for l in lines {
+        n += 1;
+        let gives = given(plans, contexts, &mut entries, l)?;
+        let rolled = contexts[l.actor.index()].rolled();
+        add_given(rows, n, l.actor, gives, rolled)?;
+    }
+    Ok(())
+}
+
 /// The calls of each actor at each transaction that a script can name, by its number, none of them entered. One pass over the
 /// script makes them all.
 ///
@@ -139,15 +163,7 @@ pub fn transaction_rows(alloc: Global, plans: &Plans) -> Result<Vec<Rows<Call>>,
 {
     let mut rows = empty_rows(alloc)?;
     let mut contexts = contexts(alloc)?;
-    let mut entries = Vec::new(alloc);
-    let lines = plans.lines();
-    let mut n = 0;
-    for l in lines {
-        n += 1;
-        let gives = given(plans, &mut contexts, &mut entries, l)?;
-        let rolled = contexts[l.actor.index()].rolled();
-        add_given(&mut rows, n, l.actor, gives, rolled)?;
-    }
+    fill(alloc, plans, &mut contexts, &mut rows)?;
     Ok(rows)
 }
 

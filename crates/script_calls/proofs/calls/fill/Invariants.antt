@@ -1,4 +1,4 @@
-use Rattle.std.proofs.Common.{◌≡◌, length, take}
+use Rattle.std.proofs.Common.{◌≡◌, take}
 use Rattle.dtx_values.specs.declared.number.ActorNo.{ActorNo}
 use Rattle.dtx_values.specs.declared.number.TxNo.{TxNo}
 use Rattle.dtx_model.specs.Words.{past_of}
@@ -6,13 +6,11 @@ use Rattle.script_calls.specs.Due.{calls_until}
 use Rattle.script_calls.specs.Rows.{row_at, unentered}
 use Rattle.script_calls.specs.RowsOf.{rows_of}
 use Rattle.script_calls.specs.Scoped.{AreOpen}
-use Rattle.script_calls.proofs.calls.transaction_rows.Given as goal
+use Rattle.script_calls.proofs.calls.fill.Given as goal
 
 abbrev pub invariant-loop-l : goal.invariant-loop-l
 invariant-loop-l l = record {
   count : l.n ≡ l.l-index;
-  contexts : length l.contexts.items ≡ 16;
-  rows : length l.rows.items ≡ 256;
-  open_at : AreOpen l.contexts.items (past_of (take l.l-index l.lines));
-  calls : (t : TxNo) (a : ActorNo) → row_at a (rows_of t l.rows.items) ≡ unentered (calls_until l.plans a.value t.value (past_of (take l.l-index l.lines)));
+  open_at : AreOpen l.contexts (past_of (take l.l-index l.lines));
+  calls : (t : TxNo) (a : ActorNo) → row_at a (rows_of t l.rows) ≡ unentered (calls_until l.plans a.value t.value (past_of (take l.l-index l.lines)));
 }
