@@ -1,4 +1,6 @@
+pub mod Ascending
 pub mod Closing
+pub mod Entered
 pub mod Filling
 pub mod Openings
 pub mod PlanTable
