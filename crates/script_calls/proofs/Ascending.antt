@@ -135,16 +135,18 @@ next_due s a t k l less is stands = by (a == l.actor.value) refl
         let number : d.line ≡ k + 1 = ap (λ (y : Due Call). y.line) found.0 ∙ number_after s k less in
         let after : d.line ≡ suc k = omega (arith, number) in
         let back : k ≡ d.line - 1 = omega (arith, number) in
-        let call : d.call ≡ x.1 = ap (λ (y : Due Call). y.call) found.0 in
-        (record {
-          line = l;
-          stands = ap (kth s) after ∙ stands;
-          by_actor = sym mine;
-          name = x.0;
-          place = p;
-          gives = ap (λ (ls : List Line). slice_get (calls_by s ls l) p) (ap (λ m. past_of (take m s)) (sym back)) ∙ at ∙ ap (λ (c : Call). Some (x.0, c)) (sym call);
-          at_t = found.1;
-        }, number))
+        let call : d.call ≡ x.1 = ap (λ (y : Due Call). y.call) found.0 in (
+          record {
+            line = l;
+            stands = ap (kth s) after ∙ stands;
+            by_actor = sym mine;
+            name = x.0;
+            place = p;
+            gives = ap (λ (ls : List Line). slice_get (calls_by s ls l) p) (ap (λ m. past_of (take m s)) (sym back)) ∙ at ∙ ap (λ (c : Call). Some (x.0, c)) (sym call);
+            at_t = found.1;
+          },
+          number,
+        ))
 
     by : (b : Bool) → (a == l.actor.value) ≡ b → OfEach (λ d. IsDueTo s a t d × (d.line ≡ k + 1)) (if b then all_of (due_at t (suc (length (past_of (take k s))))) (calls_by s (past_of (take k s)) l) else [])
     by true e = given (eqb-true a l.actor.value e)

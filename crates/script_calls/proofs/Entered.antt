@@ -97,8 +97,8 @@ pub next_apart : (s : List Line) (t : ℕ) (rows : List (SeenRow Call)) (ks : Li
 next_apart s t rows ks a d p e =
     of-more (λ k. IsDueTo s k.actor.value t (due_of k) × (k.actor.value ≡ a.value → k.line < d.line)) (λ k. IsCallOf s t k.line k.actor k.call × (k.line ≢ d.line))
     (λ k h.
-      let given = is_call_of s k.actor t (due_of k) h.0 in
-      (given, λ same. let less = h.1 (one_actor s t d.line k.line a k.actor d.call k.call (next_given s t rows ks a d p e) given same) in omega (arith, less, same)))
+    let given = is_call_of s k.actor t (due_of k) h.0 in
+    (given, λ same. let less = h.1 (one_actor s t d.line k.line a k.actor d.call k.call (next_given s t rows ks a d p e) given same) in omega (arith, less, same)))
     ks (of_each_own (λ b x. IsDueTo s b t x × (b ≡ a.value → x.line < d.line)) ks own)
   where
     lines : (b : ActorNo) → OfEach (λ x. b.value ≡ a.value → x.line < d.line) (entered_by b.value ks)

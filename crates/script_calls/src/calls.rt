@@ -11,9 +11,9 @@ ghost use Rattle.script_calls.specs.Rows.{no_calls, row_at, unentered, with_call
 ghost use Rattle.script_calls.specs.RowsOf.{rows_of};
 ghost use Rattle.script_calls.specs.Scoped.{AreOpen, IsUnopened, calls_given, nothing_open, rolled_at, scopes_at};
 
-use crate::scope_lines::{Gives, act, contexts};
 use crate::plans::{Plans, call_of};
 use crate::rows::{Due, Rows};
+use crate::scope_lines::{Gives, act, contexts};
 use dtx_values::{ActorNo, Body, Call, Entry, Image, Line, TxNo};
 use scope_context::Context;
 use std::alloc::{AllocError, Global};
@@ -64,13 +64,7 @@ fn given(
 }
 
 /// Puts a call of line n at the end of its actor's row at its transaction.
-fn add(
-    rows: &mut [Rows<Call>],
-    n: u32,
-    a: ActorNo,
-    t: TxNo,
-    c: Call,
-) -> Result<(), AllocError>
+fn add(rows: &mut [Rows<Call>], n: u32, a: ActorNo, t: TxNo, c: Call) -> Result<(), AllocError>
     requires { length rows.old ≡ TxNo.MAX }
     ensures { OnOk result ((u : TxNo) (b : ActorNo) → row_at b (rows_of u rows.new)
         ≡ with_calls (if b.value == a.value then put (due_at u.value n (t, c)) [] else []) (row_at b (rows_of u rows.old))) }
