@@ -16,8 +16,9 @@ use Rattle.dtx_model.proofs.SameNumbers.{same_actor}
 use Rattle.outcome_law.proofs.Lists.{OfEach, of-at, of-more}
 use Rattle.outcome_law.proofs.ScopeCalls.{AreApart, IsBeside, own_line, scope_calls_apart}
 use Rattle.outcome_law.proofs.Tests.{eq_self}
+use Rattle.script_calls.specs.declared.calls.LogCall.{LogCall}
 use Rattle.script_calls.specs.declared.rows.Due.{Due}
-use Rattle.script_calls.specs.Due.{calls_at, calls_until, due_at, due_by_line}
+use Rattle.script_calls.specs.Due.{calls_at, due_at, due_by_line, given_by, log_call, log_calls_at, log_due, log_due_by_line}
 use Rattle.script_calls.proofs.Filling.{number_after}
 use Rattle.script_calls.proofs.Openings.{past_next}
 
@@ -118,16 +119,55 @@ ascending_one [] h = tt
 ascending_one (d ∷ []) h = (tt, tt)
 ascending_one (d ∷ e ∷ ds) h = absurd (omega (arith, h))
 
--- The calls of some first lines: due, up to their number, and going up.
-record AreDue (s : List Line) (a t k : ℕ) (ds : List (Due Call)) : Type 0 where
-  due : OfEach (IsDueTo s a t) ds
+-- What some first lines give: P holds of it, its lines go up, and they are no further than that.
+record AreDue {C : Type 0} (P : Due C → Type 0) (k : ℕ) (ds : List (Due C)) : Type 0 where
+  due : OfEach P ds
   low : OfEach (λ d. d.line ≤ k) ds
   ascending : AreAscending ds
 
+-- an item stands at each place
+item_there : {A : Type 0} (xs : List A) (k : ℕ) → k < length xs → (x : A) × (slice_get xs k ≡ Some x) × (x ≡ get_or xs k x)
+item_there [] k less = absurd (omega (arith, less))
+item_there (x ∷ xs) zero less = (x, refl, refl)
+item_there (x ∷ xs) (suc k) less = item_there xs k (omega (arith, less))
+
+-- what the first k lines give, where each gives one at most, of which P holds and which has its number
+given_until : {C : Type 0} (P : Due C → Type 0) (f : List Line → Line → List (Due C)) (s : List Line) → ((before : List Line) (l : Line) → length (f before l) ≤ 1)
+    → ((k : ℕ) (l : Line) → k < length s → slice_get s k ≡ Some l → OfEach (λ d. P d × (d.line ≡ k + 1)) (f (past_of (take k s)) l))
+    → (k : ℕ) → k ≤ length s → AreDue P k (given_by f (past_of (take k s)))
+given_until P f s once each zero most = record { due = tt; low = tt; ascending = tt }
+given_until {C = C} P f s once each (suc k) most =
+    let less : k < length s = omega (arith, most) in
+    let item = item_there s k less in
+    let l = item.0 in
+    let before = past_of (take k s) in
+    let ih = given_until P f s once each k (omega (arith, most)) in
+    let next = each k l less item.1 in
+    let Q : Due C → Type 0 = λ d. P d × (d.line ≡ k + 1) in
+    let xs = given_by f before in
+    let ys = f before l in
+    let step : suc k ≡ k + 1 = omega arith in
+    subst (λ (ls : List Line). AreDue P (suc k) (given_by f ls)) (sym (ap (λ m. past_of (take m s)) step ∙ past_next s k l less item.2))
+    (record {
+      due = of-append P xs ys ih.due (of-more Q P (λ d h. h.0) ys next);
+      low = of-append (λ d. d.line ≤ suc k) xs ys (of-more (λ d. d.line ≤ k) (λ d. d.line ≤ suc k) (λ d h. omega (arith, h)) xs ih.low)
+          (of-more Q (λ d. d.line ≤ suc k) (λ d h. let e = h.1 in omega (arith, e)) ys next);
+      ascending = ascending_append k xs ys ih.ascending (ascending_one ys (once before l)) ih.low (of-more Q (λ d. k < d.line) (λ d h. let e = h.1 in omega (arith, e)) ys next);
+    })
+
+-- and what all of them give
+given_by_all : {C : Type 0} (P : Due C → Type 0) (f : List Line → Line → List (Due C)) (s : List Line) → ((before : List Line) (l : Line) → length (f before l) ≤ 1)
+    → ((k : ℕ) (l : Line) → k < length s → slice_get s k ≡ Some l → OfEach (λ d. P d × (d.line ≡ k + 1)) (f (past_of (take k s)) l))
+    → OfEach P (given_by f (past_of s)) × AreAscending (given_by f (past_of s))
+given_by_all P f s once each =
+    let all = given_until P f s once each (length s) (omega arith) in
+    let whole : take (length s) s ≡ s = take_all (length s) s (omega arith) in
+    (subst (λ (ls : List Line). OfEach P (given_by f (past_of ls))) whole all.due, subst (λ (ls : List Line). AreAscending (given_by f (past_of ls))) whole all.ascending)
+
 -- what line k + 1 gives
-next_due : (s : List Line) (a t k : ℕ) (l : Line) → k < length s → l ≡ get_or s k l → slice_get s k ≡ Some l
+next_due : (s : List Line) (a t k : ℕ) (l : Line) → k < length s → slice_get s k ≡ Some l
     → OfEach (λ d. IsDueTo s a t d × (d.line ≡ k + 1)) (due_by_line s a t (past_of (take k s)) l)
-next_due s a t k l less is stands = by (a == l.actor.value) refl
+next_due s a t k l less stands = by (a == l.actor.value) refl
   where
     given : (a ≡ l.actor.value) → OfEach (λ d. IsDueTo s a t d × (d.line ≡ k + 1)) (all_of (due_at t (suc (length (past_of (take k s))))) (calls_by s (past_of (take k s)) l))
     given mine = of-all_of (due_at t (suc (length (past_of (take k s))))) (λ d. IsDueTo s a t d × (d.line ≡ k + 1)) (calls_by s (past_of (take k s)) l) (λ p x d at e.
@@ -152,37 +192,38 @@ next_due s a t k l less is stands = by (a == l.actor.value) refl
     by true e = given (eqb-true a l.actor.value e)
     by false e = tt
 
--- an item stands at each place
-item_there : {A : Type 0} (xs : List A) (k : ℕ) → k < length xs → (x : A) × (slice_get xs k ≡ Some x) × (x ≡ get_or xs k x)
-item_there [] k less = absurd (omega (arith, less))
-item_there (x ∷ xs) zero less = (x, refl, refl)
-item_there (x ∷ xs) (suc k) less = item_there xs k (omega (arith, less))
-
--- the calls of the first k lines
-due_until : (s : List Line) (a t k : ℕ) → k ≤ length s → AreDue s a t k (calls_until s a t (past_of (take k s)))
-due_until s a t zero most = record { due = tt; low = tt; ascending = tt }
-due_until s a t (suc k) most =
-    let less : k < length s = omega (arith, most) in
-    let item = item_there s k less in
-    let l = item.0 in
-    let before = past_of (take k s) in
-    let ih = due_until s a t k (omega (arith, most)) in
-    let next = next_due s a t k l less item.2 item.1 in
-    let P : Due Call → Type 0 = λ d. IsDueTo s a t d × (d.line ≡ k + 1) in
-    let xs = calls_until s a t before in
-    let ys = due_by_line s a t before l in
-    let step : ℕ → suc k ≡ k + 1 = λ m. omega arith in
-    subst (λ (ls : List Line). AreDue s a t (suc k) (calls_until s a t ls)) (sym (ap (λ m. past_of (take m s)) (step 0) ∙ past_next s k l less item.2))
-    (record {
-      due = of-append (IsDueTo s a t) xs ys ih.due (of-more P (IsDueTo s a t) (λ d h. h.0) ys next);
-      low = of-append (λ d. d.line ≤ suc k) xs ys (of-more (λ d. d.line ≤ k) (λ d. d.line ≤ suc k) (λ d h. omega (arith, h)) xs ih.low)
-          (of-more P (λ d. d.line ≤ suc k) (λ d h. let e = h.1 in omega (arith, e)) ys next);
-      ascending = ascending_append k xs ys ih.ascending (ascending_one ys (line_once s a t before l)) ih.low (of-more P (λ d. k < d.line) (λ d h. let e = h.1 in omega (arith, e)) ys next);
-    })
-
 -- So each call of an actor at a transaction is due there, and their lines go up.
 pub calls_due : (s : List Line) (a t : ℕ) → OfEach (IsDueTo s a t) (calls_at s a t) × AreAscending (calls_at s a t)
-calls_due s a t =
-    let all = due_until s a t (length s) (omega arith) in
-    let whole : take (length s) s ≡ s = take_all (length s) s (omega arith) in
-    (subst (λ (ls : List Line). OfEach (IsDueTo s a t) (calls_until s a t (past_of ls))) whole all.due, subst (λ (ls : List Line). AreAscending (calls_until s a t (past_of ls))) whole all.ascending)
+calls_due s a t = given_by_all (IsDueTo s a t) (due_by_line s a t) s (line_once s a t) (next_due s a t)
+
+-- A call that is due to actor a at the log is that of a line of a.
+pub record IsLogDueTo (s : List Line) (a : ℕ) (d : Due LogCall) : Type 0 where
+  pub line : Line
+  pub stands : kth s d.line ≡ Some line
+  pub by_actor : line.actor.value ≡ a
+  pub gives : log_call line.body ≡ Some d.call
+
+-- what line k + 1 gives the log
+next_log_due : (s : List Line) (a k : ℕ) (l : Line) → k < length s → slice_get s k ≡ Some l → OfEach (λ d. IsLogDueTo s a d × (d.line ≡ k + 1)) (log_due_by_line a (past_of (take k s)) l)
+next_log_due s a k l less stands = by (a == l.actor.value) refl (log_call l.body) refl
+  where
+    by : (b : Bool) → (a == l.actor.value) ≡ b → (o : Option LogCall) → log_call l.body ≡ o
+        → OfEach (λ d. IsLogDueTo s a d × (d.line ≡ k + 1)) (if b then put (log_due (suc (length (past_of (take k s)))) o) [] else [])
+    by true e (Some c) g =
+        let number : suc (length (past_of (take k s))) ≡ k + 1 = number_after s k less in
+        let after : suc (length (past_of (take k s))) ≡ suc k = omega (arith, number) in
+        ((record { line = l; stands = ap (kth s) after ∙ stands; by_actor = sym (eqb-true a l.actor.value e); gives = g }, number), tt)
+    by true e None g = tt
+    by false e o g = tt
+
+log_line_once : (a : ℕ) (before : List Line) (l : Line) → length (log_due_by_line a before l) ≤ 1
+log_line_once a before l = by (a == l.actor.value) (log_call l.body)
+  where
+    by : (b : Bool) (o : Option LogCall) → length (if b then put (log_due (suc (length before)) o) [] else []) ≤ 1
+    by true (Some c) = omega arith
+    by true None = omega arith
+    by false o = omega arith
+
+-- So it is with the calls at the log.
+pub log_calls_due : (s : List Line) (a : ℕ) → OfEach (IsLogDueTo s a) (log_calls_at s a) × AreAscending (log_calls_at s a)
+log_calls_due s a = given_by_all (IsLogDueTo s a) (log_due_by_line a) s (log_line_once a) (next_log_due s a)

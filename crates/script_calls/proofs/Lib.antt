@@ -1,4 +1,6 @@
 pub mod Ascending
+pub mod AtLog
+pub mod CallsExample
 pub mod Closing
 pub mod Entered
 pub mod Filling

@@ -19,10 +19,13 @@ due_at t n x = if t == x.0.value then Some (record { line = n; call = x.1 }) els
 abbrev pub due_by_line : List Line → ℕ → ℕ → List Line → Line → List (Due Call)
 due_by_line s a t before l = if a == l.actor.value then all_of (due_at t (suc (length before))) (calls_by s before l) else []
 
--- the calls that these lines, newest first, give t by actor a, in order of lines
+-- what lines give, in order of lines: they stand newest first, and each gives so much after the lines before it
+abbrev pub given_by : {D : Type 0} → (List Line → Line → List D) → List Line → List D
+given_by f [] = []
+given_by f (l ∷ before) = given_by f before ++ f before l
+
 abbrev pub calls_until : List Line → ℕ → ℕ → List Line → List (Due Call)
-calls_until s a t [] = []
-calls_until s a t (l ∷ before) = calls_until s a t before ++ due_by_line s a t before l
+calls_until s a t ls = given_by (due_by_line s a t) ls
 
 -- Calls: the calls of actor a at transaction t, in order of lines. They are those of a's lines, scope lines aside, that name t, or an enlistment or a clone
 -- of t; and the begin, commit or rollback that a scope line of a gives t.
@@ -43,8 +46,7 @@ abbrev pub log_due_by_line : ℕ → List Line → Line → List (Due LogCall)
 log_due_by_line a before l = if a == l.actor.value then put (log_due (suc (length before)) (log_call l.body)) [] else []
 
 abbrev pub log_calls_until : ℕ → List Line → List (Due LogCall)
-log_calls_until a [] = []
-log_calls_until a (l ∷ before) = log_calls_until a before ++ log_due_by_line a before l
+log_calls_until a ls = given_by (log_due_by_line a) ls
 
 -- Calls, at the log: actor a's lines `stop` and `restart`, in order
 abbrev pub log_calls_at : List Line → ℕ → List (Due LogCall)
