@@ -119,6 +119,23 @@ ascending_one [] h = tt
 ascending_one (d ∷ []) h = (tt, tt)
 ascending_one (d ∷ e ∷ ds) h = absurd (omega (arith, h))
 
+-- what is so of each is so of each of the first ones,
+pub of-take : {A : Type 0} (P : A → Type 0) (n : ℕ) (xs : List A) → OfEach P xs → OfEach P (take n xs)
+of-take P zero xs h = tt
+of-take P (suc n) [] h = tt
+of-take P (suc n) (x ∷ xs) h = (h.0, of-take P n xs h.1)
+
+-- and in the other order
+pub of-onto : {A : Type 0} (P : A → Type 0) (h xs : List A) → OfEach P h → OfEach P xs → OfEach P (onto h xs)
+of-onto P h [] p q = p
+of-onto P h (x ∷ xs) p q = of-onto P (x ∷ h) xs (q.0, p) q.1
+
+-- of calls that go up, those before one are of lines before its line
+pub before_it : {C : Type 0} (ds : List (Due C)) (n : ℕ) (d : Due C) → AreAscending ds → slice_get ds n ≡ Some d → OfEach (λ e. e.line < d.line) (take n ds)
+before_it [] n d up e = absurd cc
+before_it (x ∷ ds) zero d up e = tt
+before_it (x ∷ ds) (suc n) d up e = (of-at (λ y. x.line < y.line) ds n d up.0 e, before_it ds n d up.1 e)
+
 -- What some first lines give: P holds of it, its lines go up, and they are no further than that.
 record AreDue {C : Type 0} (P : Due C → Type 0) (k : ℕ) (ds : List (Due C)) : Type 0 where
   due : OfEach P ds

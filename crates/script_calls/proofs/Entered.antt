@@ -23,28 +23,11 @@ use Rattle.script_calls.specs.Due.{calls_at}
 use Rattle.script_calls.specs.Prefix.{IsInOrder, IsPrefix, entered_by, own_call}
 use Rattle.script_calls.specs.Rows.{are_entered, further, is_entered, next_in, no_calls, row_at, unentered}
 use Rattle.script_calls.specs.SeenRow.{SeenRow}
-use Rattle.script_calls.proofs.Ascending.{AreAscending, IsDueTo, calls_due, is_call_of}
+use Rattle.script_calls.proofs.Ascending.{AreAscending, IsDueTo, before_it, calls_due, is_call_of, of-onto, of-take}
 
 -- a call that was entered, as it was due
 abbrev due_of : EnteredCall → Due Call
 due_of k = record { line = k.line; call = k.call }
-
--- what is so of each is so of each of the first ones,
-of-take : {A : Type 0} (P : A → Type 0) (n : ℕ) (xs : List A) → OfEach P xs → OfEach P (take n xs)
-of-take P zero xs h = tt
-of-take P (suc n) [] h = tt
-of-take P (suc n) (x ∷ xs) h = (h.0, of-take P n xs h.1)
-
--- and in the other order
-of-onto : {A : Type 0} (P : A → Type 0) (h xs : List A) → OfEach P h → OfEach P xs → OfEach P (onto h xs)
-of-onto P h [] p q = p
-of-onto P h (x ∷ xs) p q = of-onto P (x ∷ h) xs (q.0, p) q.1
-
--- of calls that go up, those before one are of lines before its line
-before_it : {C : Type 0} (ds : List (Due C)) (n : ℕ) (d : Due C) → AreAscending ds → slice_get ds n ≡ Some d → OfEach (λ e. e.line < d.line) (take n ds)
-before_it [] n d up e = absurd cc
-before_it (x ∷ ds) zero d up e = tt
-before_it (x ∷ ds) (suc n) d up e = (of-at (λ y. x.line < y.line) ds n d up.0 e, before_it ds n d up.1 e)
 
 -- what is so of each actor's calls among those that were entered is so of each of these
 of_each_own : (P : ℕ → Due Call → Type 0) (ks : List EnteredCall) → ((a : ActorNo) → OfEach (P a.value) (entered_by a.value ks)) → OfEach (λ k. P k.actor.value (due_of k)) ks
