@@ -1,0 +1,9 @@
+pub mod Ascending
+pub mod AtLog
+pub mod CallsExample
+pub mod Closing
+pub mod Entered
+pub mod Filling
+pub mod Openings
+pub mod PlanTable
+pub mod Scoping
