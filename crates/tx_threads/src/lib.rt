@@ -1,12 +1,16 @@
 //! The threads of one run: what lies under each transaction's lock, and what the run's threads do with it.
 #![tactic(auto)]
 
+mod board;
 mod cell;
+mod cells;
 mod error;
 mod run;
 mod turns;
 
+pub use board::{BoardNote, Posted};
 pub use cell::CellState;
+pub use cells::{Cells, TxCell, peek_outcome};
 pub use error::TurnError;
 pub use run::Run;
 pub use turns::{Turn, Turned};
