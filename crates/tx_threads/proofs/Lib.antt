@@ -1,1 +1,3 @@
+pub mod LogKept
+pub mod LogOrder
 pub mod Numbers

@@ -37,5 +37,5 @@ board_of [] t = None
 board_of (c ∷ cs) t = if c.transaction.value == t then Some c.board else board_of cs t
 
 -- the numbers of the transactions that the script names, in order: those that a line of it makes
-abbrev pub transactions_of : List Line → List ℕ
+unfoldable pub transactions_of : List Line → List ℕ
 transactions_of s = filter (λ n. is_made s (OfTransaction n)) (range_with_len 1 256)

@@ -192,6 +192,7 @@ fn find<N: Run>(cells: &[TxCell<N>], t: TxNo) -> Option<&TxCell<N>>
 }
 
 /// A cell for each transaction that the script names, by number, where these are the rows of all transactions, and no call was entered.
+#[tactic(auto, unfolding(crate::specs::Board::transactions_of))]
 fn cells_of<N: Run>(
     alloc: Global,
     s: &[Line],

@@ -6,6 +6,7 @@ mod cell;
 mod cells;
 mod error;
 mod run;
+mod shared_log;
 mod turns;
 
 pub use board::{BoardNote, Posted};
@@ -13,4 +14,5 @@ pub use cell::CellState;
 pub use cells::{Cells, TxCell, peek_outcome};
 pub use error::TurnError;
 pub use run::Run;
+pub use shared_log::{LogState, SharedLog};
 pub use turns::{Turn, Turned};
