@@ -1,8 +1,8 @@
 use Rattle.std.proofs.Common.{◌≡◌, ◌+◌, ◌++◌, drop, length, take, vec_capacity, vec_len}
 use Rattle.dtx_model.specs.Scopes.{taken_off}
 use Rattle.dtx_model.specs.Words.{past_of}
-use Rattle.script_runner.proofs.Closing.{closed_notes}
-use Rattle.script_runner.proofs.contexts.put_closed.Given as goal
+use Rattle.script_calls.proofs.Closing.{closed_notes}
+use Rattle.script_calls.proofs.scope_lines.put_closed.Given as goal
 
 abbrev pub invariant-loop-x : goal.invariant-loop-x
 invariant-loop-x l =

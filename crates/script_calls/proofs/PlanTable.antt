@@ -14,7 +14,7 @@ use Rattle.dtx_values.specs.declared.script.Line.{Line}
 use Rattle.dtx_model.specs.Words.{latest, or_else}
 use Rattle.dtx_model.specs.Calls.{clone_made, enlistment_made, transaction_of, transaction_with}
 use Rattle.dtx_model.proofs.Histories.{past_of-snoc}
-use Rattle.script_runner.specs.Plans.{ArePlanned}
+use Rattle.script_calls.specs.Plans.{ArePlanned}
 
 -- the enlistment that one more line makes
 transaction_with-snoc : (s : List Line) (l : Line) (e : ℕ) → transaction_with (s ++ l ∷ []) e ≡ or_else (enlistment_made e l.body) (transaction_with s e)

@@ -1,6 +1,6 @@
 use Rattle.std.proofs.Common.{◌≡◌, ◌==◌, ℕ, None, Some, get_or, if◌then◌else◌}
-use Rattle.script_runner.proofs.PlanTable.{on_ok, planned_put}
-use Rattle.script_runner.proofs.plans.enlist.Goals as goal
+use Rattle.script_calls.proofs.PlanTable.{on_ok, planned_put}
+use Rattle.script_calls.proofs.plans.enlist.Goals as goal
 
 pub returns : goal.returns
 returns c =

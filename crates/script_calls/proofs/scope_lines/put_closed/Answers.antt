@@ -5,8 +5,8 @@ use Rattle.std.proofs.lemmas.List.{length_push}
 use Rattle.dtx_values.specs.declared.scope.OpenScope.{OpenScope}
 use Rattle.dtx_model.specs.Words.{past_of}
 use Rattle.dtx_model.proofs.Pasts.{past-reverse}
-use Rattle.script_runner.proofs.Closing.{closed_notes, noted_more, taken_last, taken_more}
-use Rattle.script_runner.proofs.contexts.put_closed.Goals as goal
+use Rattle.script_calls.proofs.Closing.{closed_notes, noted_more, taken_last, taken_more}
+use Rattle.script_calls.proofs.scope_lines.put_closed.Goals as goal
 
 pub loop-x-preserved : goal.loop-x-preserved
 loop-x-preserved c =

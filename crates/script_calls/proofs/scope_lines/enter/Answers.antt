@@ -1,5 +1,5 @@
-use Rattle.script_runner.proofs.Scoping.{refuses_open}
-use Rattle.script_runner.proofs.contexts.enter.Goals as goal
+use Rattle.script_calls.proofs.Scoping.{refuses_open}
+use Rattle.script_calls.proofs.scope_lines.enter.Goals as goal
 
 pub returns-in-Err : goal.returns-in-Err
 returns-in-Err c =

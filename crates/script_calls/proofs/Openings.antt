@@ -30,8 +30,8 @@ use Rattle.dtx_model.proofs.Pasts.{always-before}
 use Rattle.dtx_model.proofs.Prefixes.{past-more}
 use Rattle.dtx_model.proofs.Reading.{has-onto}
 use Rattle.scope_context.specs.Standing.{Standing}
-use Rattle.script_runner.specs.Scoped.{AreOpen, IsUnopened, context_at, nothing_open, rollbacks, rolled_at, rolled_in, scopes_at, scopes_in}
-use Rattle.script_runner.proofs.Scoping.{no_scope_line}
+use Rattle.script_calls.specs.Scoped.{AreOpen, IsUnopened, context_at, nothing_open, rollbacks, rolled_at, rolled_in, scopes_at, scopes_in}
+use Rattle.script_calls.proofs.Scoping.{no_scope_line}
 
 -- a write leaves the other places alone
 slice_get-set_other : {X : Type 0} (xs : List X) (i j : ℕ) (x : X) → j ≢ i → slice_get (set xs i x) j ≡ slice_get xs j

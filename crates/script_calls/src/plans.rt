@@ -1,11 +1,11 @@
-//! Whose each enlistment and each clone of a script is.
+//! Whose each enlistment and each clone of a script is, and which call each line gives by its own words.
 ghost use Rattle.std.specs.Prelude.{◌≡◌, ◌<◌, ◌==◌, ◌-◌, ℕ, length, IfNone, IfOk, IfSome, None, OnOk, Some, slice_index_or, if◌then◌else◌};
 ghost use Rattle.dtx_values.specs.declared.number.CloneNo.{CloneNo};
 ghost use Rattle.dtx_values.specs.declared.number.EnlNo.{EnlNo};
-ghost use Rattle.dtx_model.specs.Calls.{clone_made, enlistment_made, transaction_of, transaction_with};
+ghost use Rattle.dtx_model.specs.Calls.{call_of, clone_made, enlistment_made, transaction_of, transaction_with};
 ghost use Rattle.dtx_model.specs.Words.{or_else};
 
-use dtx_values::{Body, CloneNo, EnlNo, Line, TxNo};
+use dtx_values::{Body, Call, CloneNo, EnlNo, Line, TxNo};
 use std::alloc::{AllocError, Global};
 use std::marker::Model;
 
@@ -89,7 +89,7 @@ fn own(clones: &mut Vec<Option<TxNo>>, body: Body) -> Result<(), AllocError>
 impl<'a> Model for Plans<'a> {
     ghost use Rattle.std.specs.Prelude.{List};
     ghost use Rattle.dtx_values.specs.declared.script.Line.{Line};
-    ghost use Rattle.script_runner.specs.Plans.{ArePlanned};
+    ghost use Rattle.script_calls.specs.Plans.{ArePlanned};
 
     ghost Value = { List Line };
 
@@ -135,5 +135,31 @@ impl<'a> Plans<'a> {
         ensures { result.now ≡ self.now }
     {
         self.lines
+    }
+}
+
+/// The transaction that a line calls by its own words, and the call; `None` where it calls none so.
+pub fn call_of(plans: &Plans, body: Body) -> Option<(TxNo, Call)>
+    ensures { result ≡ call_of plans.now body }
+{
+    match body {
+        Body::Begin(t, d) => Some((t, Call::Begin(t, d))),
+        Body::Volatile(t, e, o, v) => Some((t, Call::Volatile(t, e, o, v))),
+        Body::Durable(t, e, r, support) => Some((t, Call::Durable(t, e, r, support))),
+        Body::Promotable(t, e, r, v, o, p) => Some((t, Call::Promotable(t, e, r, v, o, p))),
+        Body::Clone(t, c, k) => Some((t, Call::Clone(t, c, k))),
+        Body::Complete(c) => Some((plans.transaction_of(c)?, Call::Complete(c))),
+        Body::Commit(t) => Some((t, Call::Commit(t))),
+        Body::Rollback(t) => Some((t, Call::Rollback(t))),
+        Body::Status(t) => Some((t, Call::Status(t))),
+        Body::Await(t) => Some((t, Call::Await(t))),
+        Body::Tick(t, n) => Some((t, Call::Tick(t, n))),
+        Body::Do(t, k, n) => Some((t, Call::Do(t, k, n))),
+        Body::Marshal(t) => Some((t, Call::Marshal(t))),
+        Body::Lose(t, c, n, m) => Some((t, Call::Lose(t, c, n, m))),
+        Body::Gone(e) => Some((plans.transaction_with(e)?, Call::Gone(e))),
+        Body::Reenlist(e) => Some((plans.transaction_with(e)?, Call::Reenlist(e))),
+        Body::Recovered(t, r) => Some((t, Call::Recovered(t, r))),
+        _ => None,
     }
 }

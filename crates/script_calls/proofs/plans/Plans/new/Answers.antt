@@ -1,8 +1,8 @@
 use Rattle.std.proofs.Common.{◌≡◌, ◌+◌, ◌∷◌, [], ◌++◌, take, sym, ◌∙◌, ap}
 use Rattle.std.proofs.lemmas.List.{take_more}
 use Rattle.dtx_values.specs.declared.script.Line.{Line}
-use Rattle.script_runner.proofs.PlanTable.{planned-none, planned-snoc}
-use Rattle.script_runner.proofs.plans.Plans.new.Goals as goal
+use Rattle.script_calls.proofs.PlanTable.{planned-none, planned-snoc}
+use Rattle.script_calls.proofs.plans.Plans.new.Goals as goal
 
 pub loop-line-init : goal.loop-line-init
 loop-line-init c = rw (c.new-enlistments.ensures.items, c.new-clones.ensures.items) planned-none

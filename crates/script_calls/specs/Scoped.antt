@@ -17,9 +17,9 @@ use Rattle.dtx_model.specs.Contexts.{scope_answer, scope_calls, scope_entries, s
 use Rattle.scope_context.specs.Standing.{Standing}
 use Rattle.scope_context.specs.declared.refusal.ScopeRefusal.{ScopeRefusal}
 use Rattle.scope_context.specs.declared.refusal.ScopeRefusal.TheVariants.{TooDeep, IsolationDiffers, NoScope, AlreadyComplete, NestedWrongly}
-use Rattle.script_runner.specs.declared.contexts.Acted.{Acted}
-use Rattle.script_runner.specs.declared.contexts.Gives.{Gives}
-use Rattle.script_runner.specs.declared.contexts.Gives.TheVariants.{Nothing, Call as CallGiven, Rollbacks}
+use Rattle.script_calls.specs.declared.scope_lines.Acted.{Acted}
+use Rattle.script_calls.specs.declared.scope_lines.Gives.{Gives}
+use Rattle.script_calls.specs.declared.scope_lines.Gives.TheVariants.{Nothing, Call as CallGiven, Rollbacks}
 
 -- a context before its first line
 abbrev pub nothing_open : Standing

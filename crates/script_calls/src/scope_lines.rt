@@ -8,7 +8,7 @@ ghost use Rattle.dtx_values.specs.declared.script.Opening.{Opening};
 ghost use Rattle.dtx_model.specs.Words.{has, past_of};
 ghost use Rattle.dtx_model.specs.Scopes.{Closes, is_scope, taken_off};
 ghost use Rattle.dtx_model.specs.Contexts.{asked_by, begin_calls, ending_calls, isolation_in, name_in, option_in, scope_answer, timeout_in, written};
-ghost use Rattle.script_runner.specs.Scoped.{DoesScope, IsUnopened, calls_given, nothing_open, refused_answer};
+ghost use Rattle.script_calls.specs.Scoped.{DoesScope, IsUnopened, calls_given, nothing_open, refused_answer};
 
 use dtx_values::{
     ActorNo, Answer, Body, Call, Closed, Entered, Entry, Iso, IsoWord, OpenScope, Opening, ScopeNo,

@@ -1,0 +1,4 @@
+pub mod Closing
+pub mod Openings
+pub mod PlanTable
+pub mod Scoping
