@@ -1,1 +1,4 @@
 pub mod Cell
+pub mod Entering
+pub mod Turns
+pub mod Ties
