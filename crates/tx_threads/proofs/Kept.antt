@@ -23,6 +23,7 @@ use Rattle.script_calls.specs.SeenRow.{SeenRow}
 use Rattle.outcome_law.proofs.ScopeCalls.{given_call, is_scope_call}
 use Rattle.outcome_law.proofs.Tests.{eq_self}
 use Rattle.tx_world.specs.State.{TxState, may_enter, sends_begin, turned}
+use Rattle.tx_world.specs.OwnCalls.{is_do}
 use Rattle.tx_threads.specs.Cell.{IsKept, IsThreadable, is_do_line, untouched}
 use Rattle.tx_threads.specs.Entering.{later_if, must_wait, put_off}
 use Rattle.tx_threads.specs.declared.turns.Turned.TheVariants.{NotNext}
@@ -119,29 +120,33 @@ no_do_line (x ∷ s) (suc (suc k)) l f e = no_do_line s (suc k) l (rest (is_do_l
     rest false b k = k
 
 -- a line that gives a `do` is one
-do_of : (s : List Line) (b : Body) (t u : TxNo) (k n : ℕ) → call_of s b ≡ Some (t, Do u k n) → is_do_line b ≡ true
-do_of s (DoLine v i j) t u k n e = refl
-do_of s (CompleteLine c) t u k n e = by (transaction_of s c.value) e
+abbrev gives_do : Option (TxNo × Call) → Bool
+gives_do (Some x) = is_do x.1
+gives_do None = false
+
+do_line : (s : List Line) (b : Body) → gives_do (call_of s b) ≡ true → is_do_line b ≡ true
+do_line s (DoLine v i j) e = refl
+do_line s (CompleteLine c) e = by (transaction_of s c.value) e
   where
-    by : (o : Option TxNo) → complete_call c o ≡ Some (t, Do u k n) → false ≡ true
-    by (Some v) f = absurd cc
-    by None f = absurd cc
-do_of s (GoneLine x) t u k n e = by (transaction_with s x.value) e
+    by : (o : Option TxNo) → gives_do (complete_call c o) ≡ true → false ≡ true
+    by (Some v) f = f
+    by None f = f
+do_line s (GoneLine x) e = by (transaction_with s x.value) e
   where
-    by : (o : Option TxNo) → gone_call x o ≡ Some (t, Do u k n) → false ≡ true
-    by (Some v) f = absurd cc
-    by None f = absurd cc
-do_of s (ReenlistLine x) t u k n e = by (transaction_with s x.value) e
+    by : (o : Option TxNo) → gives_do (gone_call x o) ≡ true → false ≡ true
+    by (Some v) f = f
+    by None f = f
+do_line s (ReenlistLine x) e = by (transaction_with s x.value) e
   where
-    by : (o : Option TxNo) → reenlist_call x o ≡ Some (t, Do u k n) → false ≡ true
-    by (Some v) f = absurd cc
-    by None f = absurd cc
-do_of s _ t u k n e = absurd cc
+    by : (o : Option TxNo) → gives_do (reenlist_call x o) ≡ true → false ≡ true
+    by (Some v) f = f
+    by None f = f
+do_line s _ e = e
 
 never_do : (s : List Line) (t n : ℕ) (a : ActorNo) (u : TxNo) (k m : ℕ) → IsThreadable s → IsCallOf s t n a (Do u k m) → ⊥
 never_do s t n a u k m script g =
     elim (given_call s (lines_before s n) g.line g.place (g.name, Do u k m) g.gives) [
-      | inl own ↦ let yes = do_of s g.line.body g.name u k m own in let no = no_do_line s n g.line script.free_of_do g.stands in cc
+      | inl own ↦ let yes = do_line s g.line.body (ap gives_do own) in let no = no_do_line s n g.line script.free_of_do g.stands in cc
       | inr scope ↦ cc
     ]
 

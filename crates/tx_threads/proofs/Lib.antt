@@ -1,6 +1,9 @@
+pub mod Asked
 pub mod Blocks
 pub mod Entered
 pub mod FromCalls
 pub mod Given
 pub mod Kept
 pub mod Replies
+pub mod Stepped
+pub mod Turning

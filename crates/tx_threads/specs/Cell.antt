@@ -1,7 +1,8 @@
 -- What lies under a transaction's lock, and what its type keeps.
-use Rattle.std.specs.Prelude.{ℕ, ◌≡◌, Bool, true, false, List, [], None}
+use Rattle.std.specs.Prelude.{ℕ, ◌≡◌, ◌⊎◌, Bool, true, false, List, [], Some, None}
 use Rattle.dtx_values.specs.declared.call.Call.{Call}
 use Rattle.dtx_values.specs.declared.note.Note.{Note}
+use Rattle.dtx_values.specs.declared.note.Reply.{Reply}
 use Rattle.dtx_values.specs.declared.number.ActorNo.{ActorNo}
 use Rattle.dtx_values.specs.declared.number.EnlNo.{EnlNo}
 use Rattle.dtx_values.specs.declared.number.TxNo.{TxNo}
@@ -10,6 +11,8 @@ use Rattle.dtx_values.specs.declared.script.Body.TheVariants.{Do as DoLine}
 use Rattle.dtx_values.specs.declared.script.Line.{Line}
 use Rattle.dtx_model.specs.Words.{always, has}
 use Rattle.dtx_model.specs.Grammar.{IsScript}
+use Rattle.dtx_model.specs.Plans.{planned}
+use Rattle.dtx_model.specs.Replies.{fits}
 use Rattle.dtx_model.specs.Caused.{IsCallOf, IsIn, has_object, is_as_planned, plans_of}
 use Rattle.script_calls.specs.Prefix.{IsPrefix}
 use Rattle.script_calls.specs.SeenRow.{SeenRow}
@@ -42,3 +45,8 @@ pub record IsKept (s : List Line) (k : ℕ) (x : TxState) (rows : List (SeenRow 
   pub given : (n : ℕ) (a : ActorNo) (c : Call) → IsIn x.world.calls n a c → IsCallOf s x.transaction.value n a c
   pub in_order : IsPrefix s x.transaction.value rows x.world.calls
   pub planned : always (is_as_planned (plans_of s) (has_object s k)) x.world.past ≡ true
+
+-- The enlistment may reply so to the note: the reply fits it, and is the planned one unless its manager has an object.
+pub record MayReply (s : List Line) (k : ℕ) (e : EnlNo) (n : Note) (r : Reply) : Type 0 where
+  pub fitting : fits r n ≡ true
+  pub right : (has_object s k e.value ≡ true) ⊎ (planned (plans_of s e.value) n ≡ Some r)

@@ -6,6 +6,7 @@ use Rattle.dtx_values.specs.declared.number.EnlNo.{EnlNo}
 use Rattle.dtx_model.specs.Words.{has}
 use Rattle.dtx_model.specs.World.{World}
 use Rattle.dtx_model.specs.Steps.{StepName, pending}
+use Rattle.tx_world.specs.State.{TxState}
 use Rattle.tx_world.specs.Stepping.{reply_in}
 use Rattle.tx_threads.specs.Cell.{Cell}
 use Rattle.tx_threads.specs.declared.turns.Turn.{Turn}
@@ -60,3 +61,11 @@ is_that x None = false
 -- a reply of the enlistment to this note is due, and its plan isn't silent: it is a pending step
 abbrev pub is_due : World → EnlNo × Note → Bool
 is_due w x = has (λ m. is_that x (reply_in w (Some m))) (pending w)
+
+-- The cell with another world of its transaction; the calls of its actors and the replies that are out are the same.
+abbrev pub with_tx : TxState → Cell → Cell
+with_tx x c = record { tx = x; rows = c.rows; out = c.out }
+
+-- the cell in which the reply of this enlistment to this note isn't out any more
+abbrev pub unmarked : EnlNo × Note → Cell → Cell
+unmarked x c = record { tx = c.tx; rows = c.rows; out = taken_off x c.out }

@@ -22,7 +22,9 @@ use std::alloc::Global;
 use std::marker::{Model, PhantomData};
 use tx_world::TxWorld;
 
+mod asking;
 mod entering;
+mod stepping;
 
 /// What lies under a transaction's lock: the transaction, the calls of each actor there, and the replies that are out.
 #[derive(Drop)]
