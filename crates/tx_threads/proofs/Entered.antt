@@ -10,13 +10,14 @@ use Rattle.dtx_values.specs.declared.script.Line.{Line}
 use Rattle.dtx_model.specs.World.{World, answer_at}
 use Rattle.dtx_model.specs.Steps.{Step, Calls, after}
 use Rattle.dtx_model.specs.Caused.{MayAnswer}
+use Rattle.script_calls.proofs.Entered.{next_entered, next_given}
+use Rattle.script_calls.specs.declared.rows.Due.{Due}
 use Rattle.script_calls.specs.Rows.{further, next_in, row_at}
 use Rattle.script_calls.specs.SeenRow.{SeenRow}
 use Rattle.tx_world.specs.State.{TxState, may_enter, turned}
 use Rattle.tx_threads.specs.Cell.{Cell, IsKept}
 use Rattle.tx_threads.specs.Entering.{Enters, next_of, put_off}
 use Rattle.tx_threads.specs.declared.turns.Turned.TheVariants.{Did}
-use Rattle.tx_threads.proofs.FromCalls.{next_is_call, next_prefix}
 use Rattle.tx_threads.proofs.Kept.{kept_call, may_answer, next_may, unput}
 
 -- What a cell was before it: its fields, which are seen so, and the call of line n that is next in actor a's row.
@@ -36,7 +37,7 @@ may_be_entered s k x rows out seen a n c b = next_may s k x rows a n c b.kept (n
 pub may_be_answered : (s : List Line) (k : ℕ) (x : TxState) (rows : List (SeenRow Call)) (out : List (EnlNo × Note)) (seen : Cell) (a : ActorNo) (n : ℕ) (c : Call) → IsBefore s k x rows out seen a n c
     → MayAnswer x.transaction.value x.world c 0
 may_be_answered s k x rows out seen a n c b =
-    let given = next_is_call s x.transaction.value rows x.world.calls a n c b.kept.in_order (next_here s k x rows out seen a n c b) in
+    let given = next_given s x.transaction.value rows x.world.calls a (record { line = n; call = c }) b.kept.in_order (next_here s k x rows out seen a n c b) in
     let due : put_off x.world n (Some (record { line = n; call = c })) ≡ None =
     subst (λ (w : World). put_off w n (Some (record { line = n; call = c })) ≡ None) (ap (λ (z : Cell). z.tx.world) (sym b.view)) (ap (put_off seen.tx.world n) (sym b.next) ∙ b.due) in
     may_answer s x.transaction.value n a c x.transaction.value x.world b.kept.script given (unput x.world n c due)
@@ -45,8 +46,8 @@ pub still_kept : (s : List Line) (k : ℕ) (x : TxState) (rows : List (SeenRow C
     → y.transaction ≡ x.transaction → y.world ≡ turned up x.transaction.value x.world (Calls n a c 0) → row_at a qs ≡ further (row_at a rows) → ((b : ActorNo) → b ≢ a → row_at b qs ≡ row_at b rows) → IsKept s k y qs
 still_kept s k x rows out seen a n c up y qs b t w row others =
     let next = next_here s k x rows out seen a n c b in
-    kept_call s k up x y rows qs n a c 0 (next_is_call s x.transaction.value rows x.world.calls a n c b.kept.in_order next)
-    (next_prefix s x.transaction.value rows qs x.world.calls a n c b.kept.in_order next row others) t w b.kept
+    kept_call s k up x y rows qs n a c 0 (next_given s x.transaction.value rows x.world.calls a (record { line = n; call = c }) b.kept.in_order next)
+    (next_entered s x.transaction.value rows qs x.world.calls a (record { line = n; call = c }) b.kept.in_order next row others) t w b.kept
 
 pub enters_here : (does : Step → TxState → TxState → Type 0) (s : List Line) (k : ℕ) (x : TxState) (rows : List (SeenRow Call)) (out : List (EnlNo × Note)) (seen : Cell) (a : ActorNo) (n : ℕ) (c : Call) (y : TxState) (qs : List (SeenRow Call)) (r : Answer)
     → IsBefore s k x rows out seen a n c → r ≡ answer_at x.transaction.value x.world c 0 → does (Calls n a c 0) x y → (y.ours ≡ x.ours) × (y.unsure ≡ x.unsure) → row_at a qs ≡ further (row_at a rows)

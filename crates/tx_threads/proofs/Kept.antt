@@ -1,5 +1,6 @@
 -- What a cell keeps, at its start, after a step, and after a call.
 use Rattle.std.proofs.Common.{◌≡◌, ◌≢◌, ℕ, zero, suc, ◌==◌, Bool, true, false, ◌&&◌, ◌||◌, not, List, [], ◌∷◌, Option, Some, None, is_some, slice_get, refl, ap, sym, subst, ◌∙◌, inl, inr, if◌then◌else◌}
+use Rattle.std.proofs.lemmas.Bool.{eqb-true}
 use Rattle.dtx_values.specs.declared.call.Call.{Call}
 use Rattle.dtx_values.specs.declared.call.Call.TheVariants.{Await, Do}
 use Rattle.dtx_values.specs.declared.entry.Entry.TheVariants.{Stopped}
@@ -9,25 +10,26 @@ use Rattle.dtx_values.specs.declared.script.Body.{Body}
 use Rattle.dtx_values.specs.declared.script.Body.TheVariants.{Complete as CompleteLine, Do as DoLine, Gone as GoneLine, Reenlist as ReenlistLine}
 use Rattle.dtx_values.specs.declared.script.Line.{Line}
 use Rattle.dtx_model.specs.Words.{always, has, kth, onto}
+use Rattle.dtx_model.specs.Grammar.{Name, OfTransaction, OfEnlistment, OfClone, OfScope}
 use Rattle.dtx_model.specs.Calls.{call_of, complete_call, gone_call, reenlist_call, transaction_of, transaction_with}
 use Rattle.dtx_model.specs.Contexts.{lines_before}
 use Rattle.dtx_model.specs.Outcome.{is_empty}
 use Rattle.dtx_model.specs.declared.waiting.EnteredCall.{EnteredCall}
 use Rattle.dtx_model.specs.World.{World, half}
 use Rattle.dtx_model.specs.Steps.{Step, Calls, Stops, after, block_at, entered, pending}
-use Rattle.dtx_model.specs.Caused.{IsCallOf, IsIn, MayAnswer, has_object, is_as_planned, plans_of}
+use Rattle.dtx_model.specs.Caused.{IsCallOf, IsIn, MayAnswer, has_object, is_as_planned, made_by, plans_of}
 use Rattle.script_calls.specs.declared.rows.Due.{Due}
 use Rattle.script_calls.specs.Prefix.{IsPrefix}
 use Rattle.script_calls.specs.Rows.{further, next_in, row_at}
 use Rattle.script_calls.specs.SeenRow.{SeenRow}
+use Rattle.script_calls.proofs.Entered.{next_line_new, next_name_new}
 use Rattle.outcome_law.proofs.ScopeCalls.{given_call, is_scope_call}
 use Rattle.outcome_law.proofs.Tests.{eq_self}
-use Rattle.tx_world.specs.State.{TxState, may_enter, sends_begin, turned}
+use Rattle.tx_world.specs.State.{TxState, is_maker, is_name, may_enter, sends_begin, turned}
 use Rattle.tx_world.specs.OwnCalls.{is_do}
 use Rattle.tx_threads.specs.Cell.{IsKept, IsThreadable, is_do_line, untouched}
 use Rattle.tx_threads.specs.Entering.{later_if, must_wait, put_off}
 use Rattle.tx_threads.specs.declared.turns.Turned.TheVariants.{NotNext}
-use Rattle.tx_threads.proofs.FromCalls.{next_no_line, next_no_maker}
 use Rattle.tx_threads.proofs.Replies.{IsReplyRight, right_step, right_stop}
 
 -- at the start: no call was entered, and no entry is there
@@ -168,10 +170,31 @@ unput w n c e = by (n == n) (eq_self n) (must_wait w c) e
     by true k false f = refl
     by false k q f = absurd cc
 
+-- a call that makes a name makes this one
+name_here : (x : Name) (o : Option Name) → is_name x o ≡ true → o ≡ Some x
+name_here (OfEnlistment e) (Some (OfEnlistment f)) k = ap (λ j. Some (OfEnlistment j)) (sym (eqb-true e f k))
+name_here (OfEnlistment e) (Some (OfClone f)) k = absurd cc
+name_here (OfEnlistment e) (Some (OfTransaction f)) k = absurd cc
+name_here (OfEnlistment e) (Some (OfScope f)) k = absurd cc
+name_here (OfEnlistment e) None k = absurd cc
+name_here (OfClone e) (Some (OfClone f)) k = ap (λ j. Some (OfClone j)) (sym (eqb-true e f k))
+name_here (OfClone e) (Some (OfEnlistment f)) k = absurd cc
+name_here (OfClone e) (Some (OfTransaction f)) k = absurd cc
+name_here (OfClone e) (Some (OfScope f)) k = absurd cc
+name_here (OfClone e) None k = absurd cc
+name_here (OfTransaction e) o k = absurd cc
+name_here (OfScope e) o k = absurd cc
+
+-- so both make the same
+same_made : (o : Option Name) (d : Call) → is_maker o d ≡ true → (x : Name) × (o ≡ Some x) × (made_by d ≡ Some x)
+same_made (Some x) d k = (x, refl, name_here x (made_by d) k)
+same_made None d k = absurd cc
+
 -- the call that isn't put off is next, and may be entered
 pub next_may : (s : List Line) (k : ℕ) (x : TxState) (rows : List (SeenRow Call)) (a : ActorNo) (n : ℕ) (c : Call) → IsKept s k x rows → next_in (row_at a rows) ≡ Some (record { line = n; call = c })
     → may_enter x.world n c ≡ true
 next_may s k x rows a n c kept next =
-    let no_line = next_no_line s x.transaction.value rows x.world.calls a n c kept.script.script kept.given kept.in_order next in
-    let no_maker = next_no_maker s x.transaction.value rows x.world.calls a n c kept.script.script kept.given kept.in_order next in
+    let d : Due Call = record { line = n; call = c } in
+    let no_line = next_line_new s x.transaction.value rows x.world.calls a d kept.in_order next in
+    let no_maker = next_name_new s x.transaction.value rows x.world.calls a d (is_maker (made_by c)) kept.script.script.named kept.in_order next (same_made (made_by c)) in
     rw (no_line, no_maker) refl

@@ -1,7 +1,6 @@
 pub mod Asked
 pub mod Blocks
 pub mod Entered
-pub mod FromCalls
 pub mod Given
 pub mod Kept
 pub mod Replies
