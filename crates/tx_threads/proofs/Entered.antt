@@ -15,10 +15,11 @@ use Rattle.script_calls.specs.declared.rows.Due.{Due}
 use Rattle.script_calls.specs.Rows.{further, next_in, row_at}
 use Rattle.script_calls.specs.SeenRow.{SeenRow}
 use Rattle.tx_world.specs.State.{TxState, may_enter, turned}
+use Rattle.tx_world.specs.OwnCalls.{is_alone}
 use Rattle.tx_threads.specs.Cell.{Cell, IsKept}
-use Rattle.tx_threads.specs.Entering.{Enters, next_of, put_off}
+use Rattle.tx_threads.specs.Entering.{Enters, may_promote_at, next_of, put_off}
 use Rattle.tx_threads.specs.declared.turns.Turned.TheVariants.{Did}
-use Rattle.tx_threads.proofs.Kept.{kept_call, may_answer, next_may, unput}
+use Rattle.tx_threads.proofs.Kept.{alone_given, kept_call, may_answer, next_may, unput}
 
 -- What a cell was before it: its fields, which are seen so, and the call of line n that is next in actor a's row.
 pub record IsBefore (s : List Line) (k : ℕ) (x : TxState) (rows : List (SeenRow Call)) (out : List (EnlNo × Note)) (seen : Cell) (a : ActorNo) (n : ℕ) (c : Call) : Type 0 where
@@ -33,6 +34,10 @@ next_here s k x rows out seen a n c b = subst (λ (z : Cell). next_of a z ≡ So
 
 pub may_be_entered : (s : List Line) (k : ℕ) (x : TxState) (rows : List (SeenRow Call)) (out : List (EnlNo × Note)) (seen : Cell) (a : ActorNo) (n : ℕ) (c : Call) → IsBefore s k x rows out seen a n c → may_enter x.world n c ≡ true
 may_be_entered s k x rows out seen a n c b = next_may s k x rows a n c b.kept (next_here s k x rows out seen a n c b)
+
+pub needs_no_log : (s : List Line) (k : ℕ) (x : TxState) (rows : List (SeenRow Call)) (out : List (EnlNo × Note)) (seen : Cell) (a : ActorNo) (n : ℕ) (c : Call) → IsBefore s k x rows out seen a n c → may_promote_at s n ≡ false → is_alone c ≡ true
+needs_no_log s k x rows out seen a n c b f =
+    alone_given s x.transaction.value n a c b.kept.script (next_given s x.transaction.value rows x.world.calls a (record { line = n; call = c }) b.kept.in_order (next_here s k x rows out seen a n c b)) f
 
 pub may_be_answered : (s : List Line) (k : ℕ) (x : TxState) (rows : List (SeenRow Call)) (out : List (EnlNo × Note)) (seen : Cell) (a : ActorNo) (n : ℕ) (c : Call) → IsBefore s k x rows out seen a n c
     → MayAnswer x.transaction.value x.world c 0

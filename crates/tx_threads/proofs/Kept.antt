@@ -2,12 +2,12 @@
 use Rattle.std.proofs.Common.{◌≡◌, ◌≢◌, ℕ, zero, suc, ◌==◌, Bool, true, false, ◌&&◌, ◌||◌, not, List, [], ◌∷◌, Option, Some, None, is_some, slice_get, refl, ap, sym, subst, ◌∙◌, inl, inr, if◌then◌else◌}
 use Rattle.std.proofs.lemmas.Bool.{eqb-true}
 use Rattle.dtx_values.specs.declared.call.Call.{Call}
-use Rattle.dtx_values.specs.declared.call.Call.TheVariants.{Await, Do}
+use Rattle.dtx_values.specs.declared.call.Call.TheVariants.{Await, Do, Durable, Marshal}
 use Rattle.dtx_values.specs.declared.entry.Entry.TheVariants.{Stopped}
 use Rattle.dtx_values.specs.declared.number.ActorNo.{ActorNo}
 use Rattle.dtx_values.specs.declared.number.TxNo.{TxNo}
 use Rattle.dtx_values.specs.declared.script.Body.{Body}
-use Rattle.dtx_values.specs.declared.script.Body.TheVariants.{Complete as CompleteLine, Do as DoLine, Gone as GoneLine, Reenlist as ReenlistLine}
+use Rattle.dtx_values.specs.declared.script.Body.TheVariants.{Complete as CompleteLine, Do as DoLine, Durable as DurableLine, Gone as GoneLine, Marshal as MarshalLine, Reenlist as ReenlistLine}
 use Rattle.dtx_values.specs.declared.script.Line.{Line}
 use Rattle.dtx_model.specs.Words.{always, has, kth, onto}
 use Rattle.dtx_model.specs.Grammar.{Name, OfTransaction, OfEnlistment, OfClone, OfScope}
@@ -26,9 +26,9 @@ use Rattle.script_calls.proofs.Entered.{next_line_new, next_name_new}
 use Rattle.outcome_law.proofs.ScopeCalls.{given_call, is_scope_call}
 use Rattle.outcome_law.proofs.Tests.{eq_self}
 use Rattle.tx_world.specs.State.{TxState, is_maker, is_name, may_enter, sends_begin, turned}
-use Rattle.tx_world.specs.OwnCalls.{is_do}
+use Rattle.tx_world.specs.OwnCalls.{is_alone, is_do}
 use Rattle.tx_threads.specs.Cell.{IsKept, IsThreadable, is_do_line, untouched}
-use Rattle.tx_threads.specs.Entering.{later_if, must_wait, put_off}
+use Rattle.tx_threads.specs.Entering.{is_promoting, is_promoting_line, later_if, may_promote_at, must_wait, put_off}
 use Rattle.tx_threads.specs.declared.turns.Turned.TheVariants.{NotNext}
 use Rattle.tx_threads.proofs.Replies.{IsReplyRight, right_step, right_stop}
 
@@ -150,6 +150,47 @@ never_do s t n a u k m script g =
     elim (given_call s (lines_before s n) g.line g.place (g.name, Do u k m) g.gives) [
       | inl own ↦ let yes = do_line s g.line.body (ap gives_do own) in let no = no_do_line s n g.line script.free_of_do g.stands in cc
       | inr scope ↦ cc
+    ]
+
+-- A line that is neither a durable nor a marshal gives a call that needs no log.
+abbrev gives_alone : Option (TxNo × Call) → Bool
+gives_alone (Some x) = is_alone x.1
+gives_alone None = true
+
+alone_line : (s : List Line) (b : Body) → is_promoting_line b ≡ false → is_do_line b ≡ false → gives_alone (call_of s b) ≡ true
+alone_line s (DoLine v i j) p q = absurd cc
+alone_line s (DurableLine t e r x) p q = absurd cc
+alone_line s (MarshalLine t) p q = absurd cc
+alone_line s (CompleteLine c) p q = by (transaction_of s c.value)
+  where
+    by : (o : Option TxNo) → gives_alone (complete_call c o) ≡ true
+    by (Some v) = refl
+    by None = refl
+alone_line s (GoneLine x) p q = by (transaction_with s x.value)
+  where
+    by : (o : Option TxNo) → gives_alone (gone_call x o) ≡ true
+    by (Some v) = refl
+    by None = refl
+alone_line s (ReenlistLine x) p q = by (transaction_with s x.value)
+  where
+    by : (o : Option TxNo) → gives_alone (reenlist_call x o) ≡ true
+    by (Some v) = refl
+    by None = refl
+alone_line s b p q = refl
+
+alone_scope : (c : Call) → is_scope_call c ≡ true → is_alone c ≡ true
+alone_scope (Durable t e r x) k = absurd cc
+alone_scope (Marshal t) k = absurd cc
+alone_scope (Do t k n) q = absurd cc
+alone_scope c k = refl
+
+pub alone_given : (s : List Line) (t n : ℕ) (a : ActorNo) (c : Call) → IsThreadable s → IsCallOf s t n a c → may_promote_at s n ≡ false → is_alone c ≡ true
+alone_given s t n a c script g f =
+    elim (given_call s (lines_before s n) g.line g.place (g.name, c) g.gives) [
+      | inl own ↦
+          ap gives_alone (sym own)
+          ∙ alone_line s g.line.body (ap is_promoting (sym g.stands) ∙ f) (no_do_line s n g.line script.free_of_do g.stands)
+      | inr scope ↦ alone_scope c scope
     ]
 
 pub may_answer : (s : List Line) (t n : ℕ) (a : ActorNo) (c : Call) (v : ℕ) (w : World) → IsThreadable s → IsCallOf s t n a c → must_wait w c ≡ false → MayAnswer v w c 0

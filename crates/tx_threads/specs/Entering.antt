@@ -1,8 +1,12 @@
 -- The next call of an actor at a transaction.
-use Rattle.std.specs.Prelude.{ℕ, ◌≡◌, ◌≢◌, ◌==◌, ◌||◌, not, Bool, true, false, Option, Some, None, is_some, if◌then◌else◌}
+use Rattle.std.specs.Prelude.{ℕ, ◌≡◌, ◌≢◌, ◌==◌, ◌||◌, not, Bool, true, false, List, Option, Some, None, is_some, if◌then◌else◌}
 use Rattle.dtx_values.specs.declared.call.Call.{Call}
 use Rattle.dtx_values.specs.declared.call.Call.TheVariants.{Await}
 use Rattle.dtx_values.specs.declared.number.ActorNo.{ActorNo}
+use Rattle.dtx_values.specs.declared.script.Body.{Body}
+use Rattle.dtx_values.specs.declared.script.Body.TheVariants.{Durable, Marshal}
+use Rattle.dtx_values.specs.declared.script.Line.{Line}
+use Rattle.dtx_model.specs.Words.{kth}
 use Rattle.dtx_model.specs.Outcome.{is_empty}
 use Rattle.dtx_model.specs.World.{World, answer_at, half}
 use Rattle.dtx_model.specs.Steps.{Step, Calls, pending}
@@ -10,7 +14,6 @@ use Rattle.script_calls.specs.declared.rows.Due.{Due}
 use Rattle.script_calls.specs.Rows.{further, next_in, row_at}
 use Rattle.tx_world.specs.State.{TxState}
 use Rattle.tx_world.specs.Stepping.{DoesAt}
-use Rattle.tx_world.specs.OwnCalls.{is_alone}
 use Rattle.tx_threads.specs.Cell.{Cell}
 use Rattle.tx_threads.specs.declared.turns.Turned.{Turned}
 use Rattle.tx_threads.specs.declared.turns.Turned.TheVariants.{Did, NotNext, Later}
@@ -33,10 +36,18 @@ abbrev pub put_off : World → ℕ → Option (Due Call) → Option Turned
 put_off w n (Some d) = if d.line == n then later_if (must_wait w d.call) else Some (NotNext d.line)
 put_off w n None = Some (NotNext 0)
 
--- the next call, where it is of line n, needs no log
-abbrev pub IsAloneAt : ℕ → Option (Due Call) → Type 0
-IsAloneAt n (Some d) = d.line ≡ n → is_alone d.call ≡ true
-IsAloneAt n None = Unit {0}
+-- the line may begin a promotion, and so needs the log: it is a durable or a marshal
+abbrev pub is_promoting_line : Body → Bool
+is_promoting_line (Durable t e r s) = true
+is_promoting_line (Marshal t) = true
+is_promoting_line _ = false
+
+abbrev pub is_promoting : Option Line → Bool
+is_promoting (Some l) = is_promoting_line l.body
+is_promoting None = false
+
+abbrev pub may_promote_at : List Line → ℕ → Bool
+may_promote_at s n = is_promoting (kth s n)
 
 -- The actor's next call here, that of line n, was entered: this was done of that step. It was answered so.
 pub record Enters (does : Step → TxState → TxState → Type 0) (a : ActorNo) (n : ℕ) (answer : Turned) (old new : Cell) : Type 0 where

@@ -1,7 +1,6 @@
 //! Entering the next call of an actor.
-ghost use Rattle.std.specs.Prelude.{◌≡◌, Some, None, IfErr, IfOk, OnErr, true};
-ghost use Rattle.dtx_model.specs.Outcome.{is_empty};
-ghost use Rattle.tx_threads.specs.Entering.{Enters, IsAloneAt, must_wait, next_of, put_off};
+ghost use Rattle.std.specs.Prelude.{◌≡◌, Some, None, IfErr, IfOk, false};
+ghost use Rattle.tx_threads.specs.Entering.{Enters, may_promote_at, must_wait, next_of, put_off};
 ghost use Rattle.tx_threads.specs.Ties.{IsCause, TiesWith};
 ghost use Rattle.tx_threads.specs.declared.turns.Turned.{Turned};
 ghost use Rattle.tx_world.specs.OwnCalls.{DoesAlone};
@@ -45,13 +44,13 @@ impl<N: Run> CellState<N> {
         Ok(due.call)
     }
 
-    /// Enters the actor's next call here, where it is of this line, and needs no log. Where it isn't, or waits, nothing is done.
+    /// Enters the actor's next call here, where it is of this line, which is neither a durable nor a marshal and so needs no log. Where it isn't, or waits, nothing is done.
     ///
     /// # Errors
     ///
     /// [`TurnError::Memory`] where memory ran out, and then nothing was done.
     pub fn enter_alone(&mut self, a: ActorNo, line: u32) -> Result<Turned, TurnError>
-        requires alone { IsAloneAt line (next_of a self.old) }
+        requires alone { may_promote_at N.script line ≡ false }
         ensures entered { put_off self.old.tx.world line (next_of a self.old) ≡ None → IfOk result (λ r. Enters DoesAlone a line r self.old self.new) }
         ensures put_off { (x : Turned) → put_off self.old.tx.world line (next_of a self.old) ≡ Some x → IfOk result (λ r. (r ≡ x) × (self.new ≡ self.old)) }
         ensures memory { IfErr result (λ e. (e ≡ TurnError.Memory) × (self.new ≡ self.old)) }
