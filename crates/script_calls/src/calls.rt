@@ -1,6 +1,5 @@
 //! The calls that a script's lines give each transaction and the log, actor by actor.
-ghost use Rattle.std.specs.Prelude.{ℕ, ◌≡◌, ◌==◌, ◌≤◌, List, [], ◌∷◌, length, IfOk, OnOk, Some, None, if◌then◌else◌};
-ghost use Rattle.dtx_values.specs.declared.call.Call.{Call};
+ghost use Rattle.std.specs.Prelude.{◌≡◌, ◌==◌, List, [], ◌∷◌, length, replicate, IfOk, OnOk, if◌then◌else◌};
 ghost use Rattle.dtx_values.specs.declared.number.ActorNo.{ActorNo};
 ghost use Rattle.dtx_values.specs.declared.number.TxNo.{TxNo};
 ghost use Rattle.dtx_values.specs.declared.script.Line.{Line};
@@ -10,11 +9,11 @@ ghost use Rattle.dtx_model.specs.Words.{all_of, put};
 ghost use Rattle.script_calls.specs.Due.{calls_at, due_at, log_call, log_calls_at, log_due};
 ghost use Rattle.script_calls.specs.Rows.{no_calls, row_at, unentered, with_calls};
 ghost use Rattle.script_calls.specs.RowsOf.{rows_of};
-ghost use Rattle.script_calls.specs.Scoped.{AreOpen, IsUnopened, calls_given, rolled_at, scopes_at};
+ghost use Rattle.script_calls.specs.Scoped.{AreOpen, IsUnopened, calls_given, nothing_open, rolled_at, scopes_at};
 
-use crate::scope_lines::{Gives, act, contexts};
 use crate::plans::{Plans, call_of};
 use crate::rows::{Due, Rows};
+use crate::scope_lines::{Gives, act, contexts};
 use dtx_values::{ActorNo, Body, Call, Entry, Image, Line, TxNo};
 use scope_context::Context;
 use std::alloc::{AllocError, Global};
@@ -65,13 +64,7 @@ fn given(
 }
 
 /// Puts a call of line n at the end of its actor's row at its transaction.
-fn add(
-    rows: &mut [Rows<Call>],
-    n: u32,
-    a: ActorNo,
-    t: TxNo,
-    c: Call,
-) -> Result<(), AllocError>
+fn add(rows: &mut [Rows<Call>], n: u32, a: ActorNo, t: TxNo, c: Call) -> Result<(), AllocError>
     requires { length rows.old ≡ TxNo.MAX }
     ensures { OnOk result ((u : TxNo) (b : ActorNo) → row_at b (rows_of u rows.new)
         ≡ with_calls (if b.value == a.value then put (due_at u.value n (t, c)) [] else []) (row_at b (rows_of u rows.old))) }
@@ -117,8 +110,7 @@ fn add_given(
 
 /// Rows with no call for each transaction that a script can name.
 fn empty_rows(alloc: Global) -> Result<Vec<Rows<Call>>, AllocError>
-    ensures many { IfOk result (λ v. length v.items ≡ TxNo.MAX) }
-    ensures none { IfOk result (λ v. (t : TxNo) (a : ActorNo) → row_at a (rows_of t v.items) ≡ no_calls) }
+    ensures { IfOk result (λ v. v.items ≡ replicate TxNo.MAX (replicate ActorNo.MAX no_calls)) }
 {
     let transactions = TxNo::MAX as usize;
     let mut rows = Vec::with_capacity(alloc, transactions)?;
@@ -126,6 +118,30 @@ fn empty_rows(alloc: Global) -> Result<Vec<Rows<Call>>, AllocError>
         rows.push_reserved(Rows::new(alloc)?);
     }
     Ok(rows)
+}
+
+/// Puts what the lines give transactions into rows that have no call yet, by contexts in which no scope is open yet.
+fn fill(
+    alloc: Global,
+    plans: &Plans,
+    contexts: &mut [Context],
+    rows: &mut [Rows<Call>],
+) -> Result<(), AllocError>
+    requires script { IsScript plans.now }
+    requires contexts { contexts.old ≡ replicate ActorNo.MAX nothing_open }
+    requires rows { rows.old ≡ replicate TxNo.MAX (replicate ActorNo.MAX no_calls) }
+    ensures { OnOk result ((t : TxNo) (a : ActorNo) → row_at a (rows_of t rows.new) ≡ unentered (calls_at plans.now a.value t.value)) }
+{
+    let lines = plans.lines();
+    let mut entries = Vec::new(alloc);
+    let mut n = 0;
+    for l in lines {
+        n += 1;
+        let gives = given(plans, contexts, &mut entries, l)?;
+        let rolled = contexts[l.actor.index()].rolled();
+        add_given(rows, n, l.actor, gives, rolled)?;
+    }
+    Ok(())
 }
 
 /// The calls of each actor at each transaction that a script can name, by its number, none of them entered. One pass over the
@@ -141,14 +157,7 @@ pub fn transaction_rows(alloc: Global, plans: &Plans) -> Result<Vec<Rows<Call>>,
 {
     let mut rows = empty_rows(alloc)?;
     let mut contexts = contexts(alloc)?;
-    let mut entries = Vec::new(alloc);
-    let mut n = 0;
-    for l in plans.lines() {
-        n += 1;
-        let gives = given(plans, &mut contexts, &mut entries, l)?;
-        let rolled = contexts[l.actor.index()].rolled();
-        add_given(&mut rows, n, l.actor, gives, rolled)?;
-    }
+    fill(alloc, plans, &mut contexts, &mut rows)?;
     Ok(rows)
 }
 

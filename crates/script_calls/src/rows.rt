@@ -1,7 +1,7 @@
 //! The calls of each actor at one place, and how many of them were entered.
-ghost use Rattle.std.specs.Prelude.{◌≡◌, ◌≢◌, ◌↔◌, [], None, Some, IfOk, IsSome, IsTrue, OnErr, OnOk};
+ghost use Rattle.std.specs.Prelude.{◌≡◌, ◌≢◌, [], ◌∷◌, replicate, IfOk, IsSome, OnErr, OnOk};
 ghost use Rattle.dtx_values.specs.declared.number.ActorNo.{ActorNo};
-ghost use Rattle.script_calls.specs.Rows.{are_entered, further, next_in, no_calls, row_at, with_calls};
+ghost use Rattle.script_calls.specs.Rows.{are_entered, further, is_entered, next_in, no_calls, row_at, with_calls};
 
 use dtx_values::ActorNo;
 use std::alloc::{AllocError, Global};
@@ -97,7 +97,7 @@ impl<C: Copy + Drop> Row<C> {
 impl<C: Copy + Drop> Rows<C> {
     /// Rows with no call.
     pub(crate) fn new(alloc: Global) -> Result<Self, AllocError>
-        ensures { IfOk result (λ r. (a : ActorNo) → row_at a r ≡ no_calls) }
+        ensures { IfOk result (λ r. r ≡ replicate ActorNo.MAX no_calls) }
     {
         let actors = ActorNo::MAX as usize;
         let mut rows = Vec::with_capacity(alloc, actors)?;
