@@ -21,7 +21,7 @@ use Rattle.scope_context.specs.Standing.{Standing}
 use Rattle.tx_world.specs.AtLog.{IsHad}
 use Rattle.tx_world.specs.State.{TxState}
 use Rattle.script_runner.specs.RunState.{FitsLog, GoesWith, Holds, IsRecordKept, IsTied, IsToPlan, RunState, Tells, state_of}
-use Rattle.script_runner.specs.Scoped.{AreOpen, scopes_at}
+use Rattle.script_calls.specs.Scoped.{AreOpen, scopes_at}
 use Rattle.script_runner.proofs.Telling.{tells_noted}
 
 -- the trace has this block of entries at an actor's context more, and the transactions and the script are the same

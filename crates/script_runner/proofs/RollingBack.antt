@@ -13,7 +13,7 @@ use Rattle.outcome_law.proofs.ScopeCalls.{AreApart, IsBeside, scope_calls_apart}
 use Rattle.outcome_law.proofs.Tests.{eq_self}
 use Rattle.tx_world.specs.State.{TxState}
 use Rattle.script_runner.specs.RunState.{IsBelow, state_of}
-use Rattle.script_runner.specs.Scoped.{AreOnce, rollbacks}
+use Rattle.script_calls.specs.Scoped.{AreOnce, rollbacks}
 
 -- the rollback of the transaction at a place
 pub rolled_there : (ts : List TxNo) (i : ℕ) (t : TxNo) → slice_get ts i ≡ Some t → slice_get (rollbacks ts) i ≡ Some (t, RollbackCall t)

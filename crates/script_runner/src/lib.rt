@@ -1,9 +1,7 @@
 //! Runs scripts: the top call of the program.
 #![tactic(auto)]
 
-mod contexts;
 mod exit;
-mod plans;
 mod program;
 mod replay;
 mod transfer;

@@ -29,13 +29,11 @@ ghost use Rattle.script_runner.specs.LogRun.{IsCounted, LogGoes, LogStays, has_l
 ghost use Rattle.script_runner.specs.Rights.{AreAppendsBacked, AreOutcomesWithheld, HasOneRight};
 ghost use Rattle.script_runner.specs.Run.{AreTied, IsRunOf};
 ghost use Rattle.script_runner.specs.RunState.{Advances, AreBelow, AreSettledBelow, HaveSameCalls, Holds, IsBelow, IsRecordKept, IsRoundAt, IsTied, IsToPlan, Settles, Tells, halted, record_in, reopened, state_of, untouched};
-ghost use Rattle.script_runner.specs.Scoped.{AreOnce, AreOpen, IsUnopened, calls_given, nothing_open, rollbacks, rolled_at, scopes_at};
+ghost use Rattle.script_calls.specs.Scoped.{AreOnce, AreOpen, IsUnopened, calls_given, nothing_open, rollbacks, rolled_at, scopes_at};
 ghost use Rattle.script_runner.specs.Waits.{AreWaitsAnswered};
 ghost use Rattle.tx_world.specs.AtLog.{Fits};
 ghost use Rattle.world_laws.specs.Left.{steps_left};
 
-use crate::contexts::{Gives, act, contexts};
-use crate::plans::Plans;
 use coordinator_log::{Log, LogRefusal};
 use dtx_values::{
     ActorNo, Answer, Body, Call, Entry, Image, Line, LogNote, Outbox, Place, Script, TxNo,
@@ -44,6 +42,7 @@ use entry_lists::{PlacedEntries, Trace};
 use outcome_law::{appends, completeness, crossings, lifting, one_outcome, replay, stops};
 use outside::Disk;
 use scope_context::Context;
+use script_calls::{Gives, Plans, act, call_of, contexts};
 use std::alloc::{AllocError, Global};
 use std::marker::Model;
 use tx_world::{TxWorld, WorldError};
@@ -596,32 +595,6 @@ fn restart_answer(reopened: &Result<u16, LogRefusal>) -> Answer
         Ok(_) => Answer::Fine,
         Err(LogRefusal::NotALog(place)) => Answer::NotALog(*place),
         Err(_) => Answer::Fault,
-    }
-}
-
-/// The transaction that a line calls, and the call.
-fn call_of(plans: &Plans, body: Body) -> Option<(TxNo, Call)>
-    ensures { result ≡ call_of plans.now body }
-{
-    match body {
-        Body::Begin(t, d) => Some((t, Call::Begin(t, d))),
-        Body::Volatile(t, e, o, v) => Some((t, Call::Volatile(t, e, o, v))),
-        Body::Durable(t, e, r, support) => Some((t, Call::Durable(t, e, r, support))),
-        Body::Promotable(t, e, r, v, o, p) => Some((t, Call::Promotable(t, e, r, v, o, p))),
-        Body::Clone(t, c, k) => Some((t, Call::Clone(t, c, k))),
-        Body::Complete(c) => Some((plans.transaction_of(c)?, Call::Complete(c))),
-        Body::Commit(t) => Some((t, Call::Commit(t))),
-        Body::Rollback(t) => Some((t, Call::Rollback(t))),
-        Body::Status(t) => Some((t, Call::Status(t))),
-        Body::Await(t) => Some((t, Call::Await(t))),
-        Body::Tick(t, n) => Some((t, Call::Tick(t, n))),
-        Body::Do(t, k, n) => Some((t, Call::Do(t, k, n))),
-        Body::Marshal(t) => Some((t, Call::Marshal(t))),
-        Body::Lose(t, c, n, m) => Some((t, Call::Lose(t, c, n, m))),
-        Body::Gone(e) => Some((plans.transaction_with(e)?, Call::Gone(e))),
-        Body::Reenlist(e) => Some((plans.transaction_with(e)?, Call::Reenlist(e))),
-        Body::Recovered(t, r) => Some((t, Call::Recovered(t, r))),
-        _ => None,
     }
 }
 

@@ -1,3 +1,11 @@
+pub mod Asked
+pub mod Blocks
+pub mod Entered
+pub mod Given
+pub mod Kept
 pub mod LogKept
 pub mod LogOrder
 pub mod Numbers
+pub mod Replies
+pub mod Stepped
+pub mod Turning

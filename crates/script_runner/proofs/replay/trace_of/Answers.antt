@@ -15,9 +15,9 @@ use Rattle.coordinator_log.specs.State.{LogState}
 use Rattle.scope_context.specs.Standing.{Standing}
 use Rattle.script_runner.specs.LogRun.{IsCounted, has_log_line, is_no_log_answer}
 use Rattle.script_runner.specs.RunState.{AreBelow, AreSettledBelow, Holds, IsRoundAt, IsToPlan, RunState, Tells}
-use Rattle.script_runner.specs.Scoped.{AreOpen}
+use Rattle.script_calls.specs.Scoped.{AreOpen}
 use Rattle.script_runner.proofs.Going.{goes_then, stays_then}
-use Rattle.script_runner.proofs.Openings.{open_none}
+use Rattle.script_calls.proofs.Openings.{open_none}
 use Rattle.script_runner.proofs.Recorded.{ends_as, holds_at_start, tells_at_start}
 use Rattle.script_runner.proofs.Rounds.{is_replayed, turn-first}
 use Rattle.script_runner.proofs.replay.trace_of.Goals as goal

@@ -6,10 +6,10 @@ use Rattle.dtx_model.specs.Scopes.{ScopeEntry, open_scopes}
 use Rattle.dtx_model.specs.Traces.{noted}
 use Rattle.dtx_model.specs.Words.{onto, past_of}
 use Rattle.script_runner.specs.RunState.{RunState}
-use Rattle.script_runner.specs.Scoped.{AreOpen, DoesScope, calls_given, rolled_in, scopes_at, scopes_in}
+use Rattle.script_calls.specs.Scoped.{AreOpen, DoesScope, calls_given, rolled_in, scopes_at, scopes_in}
 use Rattle.dtx_model.proofs.Pasts.{length-past}
-use Rattle.script_runner.proofs.Openings.{context_here, context_put, open_after}
-use Rattle.script_runner.proofs.Scoping.{few_notes, noted_block}
+use Rattle.script_calls.proofs.Openings.{context_here, context_put, open_after}
+use Rattle.script_calls.proofs.Scoping.{few_notes, noted_block}
 use Rattle.script_runner.proofs.replay.Run.at_context.Goals as goal
 
 pub append-requires : goal.append-requires

@@ -11,10 +11,10 @@ use Rattle.outcome_law.proofs.Replays.{own_call_of}
 use Rattle.scope_context.specs.Standing.{Standing}
 use Rattle.script_runner.specs.LogRun.{is_log_line}
 use Rattle.script_runner.specs.RunState.{IsBelow, RunState, state_of}
-use Rattle.script_runner.specs.Scoped.{AreOpen, scopes_at}
+use Rattle.script_calls.specs.Scoped.{AreOpen, scopes_at}
 use Rattle.script_runner.proofs.Entering.{below_next}
 use Rattle.script_runner.proofs.Going.{below_same, goes_same, stays_same}
-use Rattle.script_runner.proofs.Openings.{no_scope_call, open_same}
+use Rattle.script_calls.proofs.Openings.{no_scope_call, open_same}
 use Rattle.script_runner.proofs.RunningLines.{log_no_scope, other_off, own_line, restart_line, scope_line, stop_line}
 use Rattle.script_runner.proofs.replay.Run.line.Goals as goal
 

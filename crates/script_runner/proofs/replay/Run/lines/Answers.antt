@@ -6,9 +6,9 @@ use Rattle.dtx_model.specs.Grammar.{is_in_range}
 use Rattle.dtx_model.specs.Words.{kth, past_of}
 use Rattle.script_runner.specs.LogRun.{is_log_line}
 use Rattle.script_runner.specs.RunState.{RunState}
-use Rattle.script_runner.specs.Scoped.{AreOpen}
+use Rattle.script_calls.specs.Scoped.{AreOpen}
 use Rattle.script_runner.proofs.Going.{goes_same, goes_then, stays_same, stays_then}
-use Rattle.script_runner.proofs.Openings.{past_next, unopened}
+use Rattle.script_calls.proofs.Openings.{past_next, unopened}
 use Rattle.script_runner.proofs.Replayed.{few, line_at, split_at}
 use Rattle.script_runner.proofs.RunningLines.{each_there, lines_more, none_there}
 use Rattle.script_runner.proofs.replay.Run.lines.Given.{Over}

@@ -4,7 +4,7 @@ use Rattle.dtx_model.specs.Words.{past_of}
 use Rattle.coordinator_log.specs.State.{LogState}
 use Rattle.script_runner.specs.LogRun.{LogGoes, LogStays, has_log_line}
 use Rattle.script_runner.specs.RunState.{AreBelow, Holds, Tells}
-use Rattle.script_runner.specs.Scoped.{AreOpen}
+use Rattle.script_calls.specs.Scoped.{AreOpen}
 use Rattle.script_runner.proofs.replay.Run.lines.Given as goal
 
 abbrev pub invariant-loop-l : goal.invariant-loop-l

@@ -5,7 +5,7 @@ use Rattle.dtx_model.specs.Grammar.{are_named_well}
 use Rattle.scope_context.specs.Standing.{Standing}
 use Rattle.tx_world.specs.State.{TxState}
 use Rattle.script_runner.specs.RunState.{AreNumbered}
-use Rattle.script_runner.specs.Scoped.{nothing_open}
+use Rattle.script_calls.specs.Scoped.{nothing_open}
 use Rattle.script_runner.proofs.Numbered.{numbered_none}
 use Rattle.script_runner.proofs.replay.Run.new.Goals as goal
 

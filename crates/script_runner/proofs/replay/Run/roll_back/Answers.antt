@@ -7,9 +7,9 @@ use Rattle.dtx_model.specs.Replay.{after_calls, after_turn}
 use Rattle.dtx_model.specs.Steps.{Calls}
 use Rattle.dtx_model.specs.Words.{past_of}
 use Rattle.script_runner.specs.RunState.{RunState}
-use Rattle.script_runner.specs.Scoped.{rollbacks, rolled_at}
+use Rattle.script_calls.specs.Scoped.{rollbacks, rolled_at}
 use Rattle.script_runner.proofs.Entering.{all_below, all_below_next}
-use Rattle.script_runner.proofs.Openings.{rolled_here, rolled_more}
+use Rattle.script_calls.proofs.Openings.{rolled_here, rolled_more}
 use Rattle.script_runner.proofs.RollingBack.{IsAt, at_place, rolled_there, still_below}
 use Rattle.script_runner.proofs.replay.Run.roll_back.Given.{Over}
 use Rattle.script_runner.proofs.replay.Run.roll_back.Goals.{After-rolled}

@@ -3,7 +3,7 @@ use Rattle.dtx_model.specs.Replay.{after_calls}
 use Rattle.dtx_model.specs.Words.{past_of}
 use Rattle.coordinator_log.specs.State.{LogState}
 use Rattle.script_runner.specs.RunState.{AreBelow, Holds, Tells}
-use Rattle.script_runner.specs.Scoped.{rollbacks, rolled_at}
+use Rattle.script_calls.specs.Scoped.{rollbacks, rolled_at}
 use Rattle.script_runner.proofs.RollingBack.{AreStillBelow}
 use Rattle.script_runner.proofs.replay.Run.roll_back.Given as goal
 

@@ -9,10 +9,10 @@ use Rattle.dtx_model.specs.Words.{past_of}
 use Rattle.coordinator_log.specs.State.{LogState}
 use Rattle.scope_context.specs.Standing.{Standing}
 use Rattle.tx_world.specs.State.{TxState}
-use Rattle.script_runner.specs.declared.contexts.Gives.{Gives}
-use Rattle.script_runner.specs.declared.contexts.Gives.TheVariants.{Call as CallGiven, Nothing, Rollbacks}
+use Rattle.script_calls.specs.declared.scope_lines.Gives.{Gives}
+use Rattle.script_calls.specs.declared.scope_lines.Gives.TheVariants.{Call as CallGiven, Nothing, Rollbacks}
 use Rattle.script_runner.specs.RunState.{AreBelow, Holds, Tells, state_of}
-use Rattle.script_runner.specs.Scoped.{AreOpen, calls_given, rollbacks, rolled_at, scopes_at}
+use Rattle.script_calls.specs.Scoped.{AreOpen, calls_given, rollbacks, rolled_at, scopes_at}
 use Rattle.script_runner.proofs.AtContext.{noted_holds, noted_tells, scope_did, scope_gives}
 use Rattle.script_runner.proofs.Entering.{all_below, all_below_next}
 use Rattle.script_runner.proofs.RollingBack.{rolled_once}

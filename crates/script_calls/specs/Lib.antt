@@ -1,0 +1,7 @@
+pub mod Due
+pub mod Plans
+pub mod Prefix
+pub mod Rows
+pub mod RowsOf
+pub mod Scoped
+pub mod SeenRow

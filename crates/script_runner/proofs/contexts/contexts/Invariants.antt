@@ -1,6 +1,0 @@
-use Rattle.std.proofs.Common.{◌≡◌, replicate, vec_capacity, vec_len}
-use Rattle.script_runner.specs.Scoped.{nothing_open}
-use Rattle.script_runner.proofs.contexts.contexts.Given as goal
-
-abbrev pub invariant-loop-a : goal.invariant-loop-a
-invariant-loop-a l = (l.contexts.items ≡ replicate l._a nothing_open) × (vec_len l.contexts ≡ l._a) × (vec_capacity l.contexts ≡ 16)

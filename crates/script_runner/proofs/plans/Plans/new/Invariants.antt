@@ -1,6 +1,0 @@
-use Rattle.std.proofs.Common.{take}
-use Rattle.script_runner.specs.Plans.{ArePlanned}
-use Rattle.script_runner.proofs.plans.Plans.new.Given as goal
-
-abbrev pub invariant-loop-line : goal.invariant-loop-line
-invariant-loop-line l = ArePlanned (take l.line-index l.lines) l.enlistments.items l.clones.items
