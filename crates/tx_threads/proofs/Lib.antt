@@ -5,6 +5,7 @@ pub mod Given
 pub mod Kept
 pub mod LogKept
 pub mod LogOrder
+pub mod LogStep
 pub mod Numbers
 pub mod Replies
 pub mod Stepped

@@ -43,6 +43,11 @@ opened_where (Err r) past = past
 abbrev pub restarted : ℕ → ActorNo → Bool → Result ℕ LogRefusal → List Entry → List Entry
 restarted n a was_up r past = opened_where r (stopped_where was_up (Called n a (restart_answer r) ∷ past))
 
+-- a step that stopped the log, which was up before and isn't any more, writes `stopped` there
+abbrev pub stop_noted : Bool → Bool → List Entry → List Entry
+stop_noted true false past = Stopped ∷ past
+stop_noted _ _ past = past
+
 -- a stop at the k-th device call is armed by line n
 abbrev pub stop_armed : ℕ → ActorNo → ℕ → Image → List Entry → List Entry
 stop_armed n a k i past = LogWord (Armed k i) ∷ Called n a Fine ∷ past

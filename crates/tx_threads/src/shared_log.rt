@@ -1,16 +1,22 @@
 //! What lies under the log's lock.
-ghost use Rattle.std.specs.Prelude.{ℕ, ◌≡◌, ◌≢◌, ◌≤◌, ◌<◌, ◌+◌, ◌-◌, ◌^◌, ◌⊎◌, List, [], None, Some, IfErr, IfOk, IsTrue, OnErr, vec_capacity, vec_len};
+ghost use Rattle.std.specs.Prelude.{ℕ, ◌≡◌, ◌≢◌, ◌≤◌, ◌<◌, ◌+◌, ◌-◌, ◌^◌, ◌⊎◌, List, [], None, Some, Ok, IfErr, IfOk, IsTrue, OnErr, false, true, vec_capacity, vec_len};
 ghost use Rattle.outside.specs.Disk.{AreWithin};
-ghost use Rattle.dtx_model.specs.Words.{past_of};
+ghost use Rattle.dtx_model.specs.Grammar.{OfTransaction, is_made};
+ghost use Rattle.dtx_model.specs.Steps.{pending};
+ghost use Rattle.dtx_model.specs.Words.{kth, past_of};
 ghost use Rattle.coordinator_log.specs.Slots.{open_records};
 ghost use Rattle.script_calls.specs.SeenRow.{SeenRow};
 ghost use Rattle.script_calls.specs.declared.calls.LogCall.{LogCall};
 ghost use Rattle.tx_threads.specs.Cell.{IsThreadable};
-ghost use Rattle.tx_threads.specs.LogAnswers.{opened_where, put_off_at_log, restart_answer, restarted, stopped_where};
+ghost use Rattle.tx_threads.specs.LogAnswers.{opened_where, put_off_at_log, restart_answer, restarted, stop_noted, stopped_where};
 ghost use Rattle.tx_threads.specs.LogCell.{IsLogKept};
 ghost use Rattle.tx_threads.specs.LogEntering.{EntersLog, IsReopened, next_at_log};
+ghost use Rattle.tx_threads.specs.Ties.{IsCause, TiesWith};
+ghost use Rattle.tx_threads.specs.Turns.{with_tx};
 ghost use Rattle.tx_threads.specs.declared.turns.Turned.{Turned};
+ghost use Rattle.tx_world.specs.Stepping.{DoesKth};
 
+use crate::cell::CellState;
 use crate::error::TurnError;
 use crate::run::Run;
 use crate::turns::Turned;
@@ -111,6 +117,32 @@ impl<D: Disk, N: Run> LogState<D, N> {
             LogCall::Stop(k, image) => Ok(self.enter_stop(a, line, k, image)?),
             LogCall::Restart => Ok(self.enter_restart(a, line)?),
         }
+    }
+
+    /// Does the k-th pending step of a transaction of the run over the log, from 1; false exactly where fewer than k are pending, or k is 0. Where an append or a free in it stopped the log, `stopped` is
+    /// written at the log too.
+    ///
+    /// # Errors
+    ///
+    /// [`TurnError::Differs`] where the log is up and doesn't tie with the transaction, and [`TurnError::Memory`] where memory ran out; nothing was done then.
+    pub(crate) fn step(&mut self, cell: &mut CellState<N>, k: u32) -> Result<bool, TurnError>
+        requires { is_made N.script (OfTransaction cell.old.tx.transaction.value) ≡ true }
+        ensures tied { IfOk result (λ b. TiesWith cell.old.tx self.old.log) }
+        ensures none { result ≡ Ok false → (kth (pending cell.old.tx.world) k ≡ None) × (cell.new ≡ cell.old) × (self.new ≡ self.old) }
+        ensures some { result ≡ Ok true → DoesKth D.faults k cell.old.tx self.old.log cell.new.tx self.new.log }
+        ensures same { cell.new ≡ with_tx cell.new.tx cell.old }
+        ensures rows { self.new.rows ≡ self.old.rows }
+        ensures past { self.new.past ≡ stop_noted self.old.log.is_up self.new.log.is_up self.old.past }
+        ensures cause { IfErr result (λ e. ((e ≡ TurnError.Memory) ⊎ IsCause cell.old.tx self.old.log e) × (cell.new ≡ cell.old) × (self.new ≡ self.old)) }
+    {
+        self.entries.reserve(1)?;
+        let was_up = self.log.is_up();
+        if !cell.do_step_over(&mut self.log, k)? {
+            return Ok(false);
+        }
+        let is_up = self.log.is_up();
+        write_stop(&mut self.entries, was_up, is_up);
+        Ok(true)
     }
 
     /// Enters the actor's next call, which arms a stop.
@@ -234,6 +266,16 @@ fn write_restart(
     entries.push_reserved(Entry::Called(line, a, restart_answer(found)));
     write_stopped(entries, was_up);
     write_opened(entries, found);
+}
+
+/// Writes `stopped` where the log was up and isn't any more.
+fn write_stop(entries: &mut Vec<Entry>, was_up: bool, is_up: bool)
+    requires { vec_len entries.old + 1 ≤ vec_capacity entries.old }
+    ensures { past_of entries.new.items ≡ stop_noted was_up is_up (past_of entries.old.items) }
+{
+    if was_up && !is_up {
+        entries.push_reserved(Entry::Stopped);
+    }
 }
 
 /// Writes `stopped` where the log was up.
