@@ -144,11 +144,12 @@ impl<N: Run> CellState<N> {
         ensures ours { (self.new.tx.ours ≡ self.old.tx.ours) × (self.new.tx.unsure ≡ self.old.tx.unsure) }
         ensures cause { IfErr result (λ x. IsCause self.old.tx log.now x × (self.new.tx ≡ self.old.tx)) }
     {
-        take_off(&mut self.out, (e, n));
+        let asked = (e, n);
+        take_off(&mut self.out, asked);
         if let Err(differs) = self.world.ties(log) {
             return Err(TurnError::Differs(differs));
         }
-        if !is_due(&self.world, (e, n)) {
+        if !is_due(&self.world, asked) {
             return Ok(false);
         }
         self.world.is_own_run();

@@ -87,9 +87,7 @@ impl<N: Run> CellState<N> {
             Ok(call) => call,
             Err(x) => return Ok(x),
         };
-        let answer = self
-            .world
-            .enter(log, &mut self.outbox, a, line, &call, 0)?;
+        let answer = self.world.enter(log, &mut self.outbox, a, line, &call, 0)?;
         self.rows.advance(a);
         Ok(Turned::Did(answer))
     }

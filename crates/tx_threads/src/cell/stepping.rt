@@ -41,7 +41,11 @@ impl<N: Run> CellState<N> {
     /// # Errors
     ///
     /// [`TurnError::Differs`] where the log is up and doesn't tie with the transaction, and [`TurnError::Memory`] where memory ran out; nothing was done then.
-    pub(crate) fn do_step_over<D: Disk>(&mut self, log: &mut Log<D>, k: u32) -> Result<bool, TurnError>
+    pub(crate) fn do_step_over<D: Disk>(
+        &mut self,
+        log: &mut Log<D>,
+        k: u32,
+    ) -> Result<bool, TurnError>
         requires one { IsTrue D.honest → IsTrue log.old.is_up → AtMostOne (id_of self.old.tx) (open_records log.old.slots) }
         ensures tied { IfOk result (λ b. TiesWith self.old.tx log.old) }
         ensures none { result ≡ Ok false → (kth (pending self.old.tx.world) k ≡ None) × (self.new ≡ self.old) × (log.new ≡ log.old) }

@@ -31,7 +31,7 @@ invariant_of-self-2 g c =
     let does = c.in_ok-answer.ensures.done in (
       c.self.invariant.0 ∙ sym does.transaction,
       still_kept g.N.Run.script g.N.Run.objects c.self.inside.world c.self.inside.rows c.self.inside.out.items c.args.self.now c.args.a c.args.line c.in-Ok.call true c.call_alone.new.self c.advance.new.self b does.transaction
-      (does.world ∙ turned_silent x.transaction.value x.world (Calls c.args.line c.args.a c.in-Ok.call 0)) c.advance.ensures.here c.advance.ensures.others,
+          (does.world ∙ turned_silent x.transaction.value x.world (Calls c.args.line c.args.a c.in-Ok.call 0)) c.advance.ensures.here c.advance.ensures.others,
     )
 
 pub returns-clause-entered : goal.returns-clause-entered

@@ -24,7 +24,7 @@ invariant_of-self-2 g c =
     let x = c.self.inside.world in (
       c.self.invariant.0 ∙ sym does.transaction,
       kept_reply g.N.Run.script g.N.Run.objects true x c.reply_alone.new.self c.self.inside.rows c.args.e c.args.n c.args.r c.self.invariant.1 c.is_own_run.ensures.run due c.requires.right does.transaction
-      (does.world ∙ turned_silent x.transaction.value x.world (Replies c.args.e c.args.r)),
+          (does.world ∙ turned_silent x.transaction.value x.world (Replies c.args.e c.args.r)),
     )
 
 pub returns-clause-done : goal.returns-clause-done
