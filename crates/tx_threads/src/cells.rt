@@ -157,7 +157,11 @@ impl<N: Run> Cells<N> {
         let Cells { cells } = self;
         let mut states = Vec::with_capacity(alloc, cells.len())?;
         for cell in cells {
-            let TxCell { t: _, lock, board: _ } = cell;
+            let TxCell {
+                t: _,
+                lock,
+                board: _,
+            } = cell;
             states.push(lock.into_inner())?;
         }
         Ok(states)
