@@ -26,8 +26,8 @@ invariant_of-self-2 g c =
     let cell : List Entry → LogCell g.row.D.Denot = λ h. record { log = c.reopened-found.new.log; rows = c.advance.new.self; past = h } in
     let P : List Entry → Type 0 = λ h. IsLogKept g.D.Disk.faults g.D.Disk.honest g.D.Disk.image g.N.Run.script g.N.Run.honest g.N.Run.faults (cell h) in
     subst P (sym written) (
-      kept_restarted g.D.Disk.faults g.D.Disk.honest g.D.Disk.image g.D.Disk.seen g.N.Run.script g.N.Run.honest g.N.Run.faults (record { log = c.self.inside.log; rows = c.self.inside.rows; past = past }) c.reopened-found.new.log c.advance.new.self
-      c.args.line c.args.a found c.reopened-found.ensures.reopened c.reopened-found.ensures.only c.reopened-found.ensures.grows c.reopened-found.ensures.among c.reopened-found.ensures.within
-      (prefix_next g.N.Run.script c.self.inside.rows c.advance.new.self past (restarted c.args.line c.args.a up found past) c.args.a c.args.line Restart (restart_answer found) next c.advance.ensures.here c.advance.ensures.others
-      (λ b. lines_restarted b c.args.line c.args.a up found past) c.self.invariant.in_order) c.self.invariant
+    kept_restarted g.D.Disk.faults g.D.Disk.honest g.D.Disk.image g.D.Disk.seen g.N.Run.script g.N.Run.honest g.N.Run.faults (record { log = c.self.inside.log; rows = c.self.inside.rows; past = past }) c.reopened-found.new.log c.advance.new.self
+    c.args.line c.args.a found c.reopened-found.ensures.reopened c.reopened-found.ensures.only c.reopened-found.ensures.grows c.reopened-found.ensures.among c.reopened-found.ensures.within
+    (prefix_next g.N.Run.script c.self.inside.rows c.advance.new.self past (restarted c.args.line c.args.a up found past) c.args.a c.args.line Restart (restart_answer found) next c.advance.ensures.here c.advance.ensures.others
+    (λ b. lines_restarted b c.args.line c.args.a up found past) c.self.invariant.in_order) c.self.invariant
     )

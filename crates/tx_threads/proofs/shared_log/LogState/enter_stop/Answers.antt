@@ -32,8 +32,8 @@ invariant_of-self-2 g c =
     let cell : List Entry → LogCell g.row.D.Denot = λ h. record { log = c.arm.new.self; rows = c.advance.new.self; past = h } in
     let P : List Entry → Type 0 = λ h. IsLogKept g.D.Disk.faults g.D.Disk.honest g.D.Disk.image g.N.Run.script g.N.Run.honest g.N.Run.faults (cell h) in
     subst P (sym written) (
-      kept_armed g.D.Disk.faults g.D.Disk.honest g.D.Disk.image g.N.Run.script g.N.Run.honest g.N.Run.faults (record { log = c.self.inside.log; rows = c.self.inside.rows; past = past }) c.arm.new.self c.advance.new.self c.args.line c.args.a
-      c.args.k c.args.image (record { passes = c.args.k - 1; image = c.args.image }) c.arm.ensures
-      (prefix_next g.N.Run.script c.self.inside.rows c.advance.new.self past (stop_armed c.args.line c.args.a c.args.k c.args.image past) c.args.a c.args.line (Stop c.args.k c.args.image) Fine next c.advance.ensures.here c.advance.ensures.others (λ b. refl)
-      c.self.invariant.in_order) c.self.invariant
+    kept_armed g.D.Disk.faults g.D.Disk.honest g.D.Disk.image g.N.Run.script g.N.Run.honest g.N.Run.faults (record { log = c.self.inside.log; rows = c.self.inside.rows; past = past }) c.arm.new.self c.advance.new.self c.args.line c.args.a
+    c.args.k c.args.image (record { passes = c.args.k - 1; image = c.args.image }) c.arm.ensures
+    (prefix_next g.N.Run.script c.self.inside.rows c.advance.new.self past (stop_armed c.args.line c.args.a c.args.k c.args.image past) c.args.a c.args.line (Stop c.args.k c.args.image) Fine next c.advance.ensures.here c.advance.ensures.others (λ b. refl)
+    c.self.invariant.in_order) c.self.invariant
     )
