@@ -10,7 +10,7 @@ use Rattle.dtx_values.specs.declared.script.Body.{Body}
 use Rattle.dtx_values.specs.declared.script.Body.TheVariants.{Complete as CompleteLine, Do as DoLine, Durable as DurableLine, Gone as GoneLine, Marshal as MarshalLine, Reenlist as ReenlistLine}
 use Rattle.dtx_values.specs.declared.script.Line.{Line}
 use Rattle.dtx_model.specs.Words.{always, has, kth, onto}
-use Rattle.dtx_model.specs.Grammar.{Name, OfTransaction, OfEnlistment, OfClone, OfScope}
+use Rattle.dtx_model.specs.Grammar.{Name, OfTransaction, OfEnlistment, OfClone, OfScope, is_made}
 use Rattle.dtx_model.specs.Calls.{call_of, complete_call, gone_call, reenlist_call, transaction_of, transaction_with}
 use Rattle.dtx_model.specs.Contexts.{lines_before}
 use Rattle.dtx_model.specs.Outcome.{is_empty}
@@ -40,8 +40,8 @@ none_in n a c i = by i.place i.stands
     by zero e = cc
     by (suc k) e = cc
 
-pub kept_new : (s : List Line) (k : ℕ) (t : TxNo) (rows : List (SeenRow Call)) → IsThreadable s → IsPrefix s t.value rows [] → IsKept s k (untouched t) rows
-kept_new s k t rows script prefix = record { script = script; given = λ n a c i. absurd (none_in n a c i); in_order = prefix; planned = refl }
+pub kept_new : (s : List Line) (k : ℕ) (t : TxNo) (rows : List (SeenRow Call)) → IsThreadable s → is_made s (OfTransaction t.value) ≡ true → IsPrefix s t.value rows [] → IsKept s k (untouched t) rows
+kept_new s k t rows script named prefix = record { script = script; named = named; given = λ n a c i. absurd (none_in n a c i); in_order = prefix; planned = refl }
 
 -- the calls, and the replies, after a step, with the stop that may follow it
 turned_calls : (up : Bool) (t : ℕ) (w : World) (m : Step) → (turned up t w m).calls ≡ entered m w.calls
@@ -68,6 +68,7 @@ kept_step s k up x y rows m none q t w kept =
     let calls : y.world.calls ≡ x.world.calls = ap (λ (v : World). v.calls) w ∙ (turned_calls up x.transaction.value x.world m ∙ none) in
     record {
       script = kept.script;
+      named = subst (λ (u : TxNo). is_made s (OfTransaction u.value) ≡ true) (sym t) kept.named;
       given = λ n a c i. subst (λ (u : TxNo). IsCallOf s u.value n a c) (sym t) (kept.given n a c (subst (λ ks. IsIn ks n a c) calls i));
       in_order = subst (λ (u : TxNo). IsPrefix s u.value rows y.world.calls) (sym t) (subst (IsPrefix s x.transaction.value rows) (sym calls) kept.in_order);
       planned = subst (λ (v : World). always (is_as_planned (plans_of s) (has_object s k)) v.past ≡ true) (sym w) (turned_right s k up x.transaction.value x.world m q kept.planned);
@@ -92,6 +93,7 @@ kept_call s k up x y rows rows' n a c m mine prefix t w kept =
     let calls : y.world.calls ≡ here ∷ x.world.calls = ap (λ (v : World). v.calls) w ∙ turned_calls up x.transaction.value x.world (Calls n a c m) in
     record {
       script = kept.script;
+      named = subst (λ (u : TxNo). is_made s (OfTransaction u.value) ≡ true) (sym t) kept.named;
       given = λ j b d i. subst (λ (u : TxNo). IsCallOf s u.value j b d) (sym t)
           (given_more s x.transaction.value here x.world.calls mine kept.given j b d (subst (λ ks. IsIn ks j b d) calls i));
       in_order = subst (λ (u : TxNo). IsPrefix s u.value rows' y.world.calls) (sym t) (subst (IsPrefix s x.transaction.value rows') (sym calls) prefix);

@@ -10,7 +10,7 @@ use Rattle.dtx_values.specs.declared.script.Body.{Body}
 use Rattle.dtx_values.specs.declared.script.Body.TheVariants.{Do as DoLine}
 use Rattle.dtx_values.specs.declared.script.Line.{Line}
 use Rattle.dtx_model.specs.Words.{always, has}
-use Rattle.dtx_model.specs.Grammar.{IsScript}
+use Rattle.dtx_model.specs.Grammar.{IsScript, OfTransaction, is_made}
 use Rattle.dtx_model.specs.Plans.{planned}
 use Rattle.dtx_model.specs.Replies.{fits}
 use Rattle.dtx_model.specs.Caused.{IsCallOf, IsIn, has_object, is_as_planned, plans_of}
@@ -38,10 +38,11 @@ pub record IsThreadable (s : List Line) : Type 0 where
   pub script : IsScript s
   pub free_of_do : has (λ l. is_do_line l.body) s ≡ false
 
--- What a cell keeps in a run of the script s in which the first k managers have an object: each call that was entered is one that its line gives the transaction, of each actor's calls there those
+-- What a cell keeps in a run of the script s in which the first k managers have an object: the script names the transaction, each call that was entered is one that its line gives the transaction, of each actor's calls there those
 -- that were entered are the first ones, in order, and each reply is the planned one, or that of an enlistment whose manager has an object.
 pub record IsKept (s : List Line) (k : ℕ) (x : TxState) (rows : List (SeenRow Call)) : Type 0 where
   pub script : IsThreadable s
+  pub named : is_made s (OfTransaction x.transaction.value) ≡ true
   pub given : (n : ℕ) (a : ActorNo) (c : Call) → IsIn x.world.calls n a c → IsCallOf s x.transaction.value n a c
   pub in_order : IsPrefix s x.transaction.value rows x.world.calls
   pub planned : always (is_as_planned (plans_of s) (has_object s k)) x.world.past ≡ true

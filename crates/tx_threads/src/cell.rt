@@ -2,6 +2,7 @@
 ghost use Rattle.std.specs.Prelude.{◌≡◌, [], true, IfErr, IfOk};
 ghost use Rattle.dtx_values.specs.declared.call.Call.{Call};
 ghost use Rattle.dtx_model.specs.Caused.{Caused};
+ghost use Rattle.dtx_model.specs.Grammar.{OfTransaction, is_made};
 ghost use Rattle.dtx_model.specs.Learned.{Learned};
 ghost use Rattle.dtx_model.specs.Outcome.{agree, justified};
 ghost use Rattle.dtx_model.specs.Promotes.{promotes};
@@ -57,6 +58,7 @@ impl<N: Run> CellState<N> {
     /// [`TurnError::Memory`] where memory ran out.
     pub fn new(alloc: Global, t: TxNo, rows: Rows<Call>) -> Result<Self, TurnError>
         requires script { IsThreadable N.script }
+        requires named { is_made N.script (OfTransaction t.value) ≡ true }
         requires rows { IsPrefix N.script t.value rows [] }
         ensures blank { IfOk result (λ c. c ≡ record { tx = untouched t; rows = rows; out = [] }) }
         ensures memory { IfErr result (λ e. e ≡ TurnError.Memory) }
@@ -87,6 +89,13 @@ impl<N: Run> CellState<N> {
         lifting();
         one_outcome();
         crossings();
+    }
+
+    /// The script names the transaction. It does nothing when it runs; a caller's proof asks for it.
+    pub fn is_named(&self)
+        ensures { is_made N.script (OfTransaction self.now.tx.transaction.value) ≡ true }
+    {
+        let _ = &self.world;
     }
 
     /// The transaction.

@@ -1,5 +1,5 @@
 //! The cells of a run: the lock and the board of each transaction.
-ghost use Rattle.std.specs.Prelude.{◌≡◌, ◌==◌, [], IfOk, IsSome, MatchOption, None, Some, length, map};
+ghost use Rattle.std.specs.Prelude.{◌≡◌, ◌==◌, [], IfOk, IsSome, MatchOption, None, Some, length, map, true};
 ghost use Rattle.dtx_model.specs.Grammar.{OfTransaction, is_made, makes, same_name};
 ghost use Rattle.dtx_model.specs.Words.{has};
 ghost use Rattle.once_cell.specs.Once.{Agrees, cell_name};
@@ -42,6 +42,7 @@ impl<N: Run> TxCell<N> {
     /// The cell of this transaction, to which nothing came yet, with the calls of each actor there. Its board is empty.
     fn new(alloc: Global, t: TxNo, rows: Rows<Call>) -> Result<Self, AllocError>
         requires script { IsThreadable N.script }
+        requires named { is_made N.script (OfTransaction t.value) ≡ true }
         requires rows { IsPrefix N.script t.value rows [] }
         ensures { IfOk result (λ c. c.transaction ≡ t) }
     {
@@ -202,6 +203,7 @@ fn cells_of<N: Run>(
     s: &[Line],
     all: Vec<Rows<Call>>,
 ) -> Result<Vec<TxCell<N>>, AllocError>
+    requires named { s.now ≡ N.script }
     requires script { IsThreadable N.script }
     requires many { length all.items ≡ TxNo.MAX }
     requires rows { (t : TxNo) → IsPrefix N.script t.value (rows_of t all.items) [] }

@@ -5,6 +5,8 @@ mod board;
 mod cell;
 mod cells;
 mod error;
+mod lent;
+mod posting;
 mod run;
 mod shared_log;
 mod turns;

@@ -1,7 +1,6 @@
 //! What lies under the log's lock.
 ghost use Rattle.std.specs.Prelude.{ℕ, ◌≡◌, ◌≢◌, ◌≤◌, ◌<◌, ◌+◌, ◌-◌, ◌^◌, ◌⊎◌, List, [], None, Some, Ok, IfErr, IfOk, IsTrue, OnErr, false, true, vec_capacity, vec_len};
 ghost use Rattle.outside.specs.Disk.{AreWithin};
-ghost use Rattle.dtx_model.specs.Grammar.{OfTransaction, is_made};
 ghost use Rattle.dtx_model.specs.Steps.{pending};
 ghost use Rattle.dtx_model.specs.Words.{kth, past_of};
 ghost use Rattle.coordinator_log.specs.Slots.{open_records};
@@ -126,7 +125,6 @@ impl<D: Disk, N: Run> LogState<D, N> {
     ///
     /// [`TurnError::Differs`] where the log is up and doesn't tie with the transaction, and [`TurnError::Memory`] where memory ran out; nothing was done then.
     pub(crate) fn step(&mut self, cell: &mut CellState<N>, k: u32) -> Result<bool, TurnError>
-        requires { is_made N.script (OfTransaction cell.old.tx.transaction.value) ≡ true }
         ensures tied { IfOk result (λ b. TiesWith cell.old.tx self.old.log) }
         ensures none { result ≡ Ok false → (kth (pending cell.old.tx.world) k ≡ None) × (cell.new ≡ cell.old) × (self.new ≡ self.old) }
         ensures some { result ≡ Ok true → DoesKth D.faults k cell.old.tx self.old.log cell.new.tx self.new.log }
@@ -135,6 +133,7 @@ impl<D: Disk, N: Run> LogState<D, N> {
         ensures past { self.new.past ≡ stop_noted self.old.log.is_up self.new.log.is_up self.old.past }
         ensures cause { IfErr result (λ e. ((e ≡ TurnError.Memory) ⊎ IsCause cell.old.tx self.old.log e) × (cell.new ≡ cell.old) × (self.new ≡ self.old)) }
     {
+        cell.is_named();
         self.entries.reserve(1)?;
         let was_up = self.log.is_up();
         if !cell.do_step_over(&mut self.log, k)? {
