@@ -1,0 +1,12 @@
+pub mod Asked
+pub mod Blocks
+pub mod Entered
+pub mod Given
+pub mod Kept
+pub mod LogKept
+pub mod LogOrder
+pub mod LogStep
+pub mod Numbers
+pub mod Replies
+pub mod Stepped
+pub mod Turning

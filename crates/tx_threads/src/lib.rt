@@ -1,0 +1,20 @@
+//! The threads of one run: what lies under each transaction's lock, and what the run's threads do with it.
+#![tactic(auto)]
+
+mod board;
+mod cell;
+mod cells;
+mod error;
+mod lent;
+mod posting;
+mod run;
+mod shared_log;
+mod turns;
+
+pub use board::{BoardNote, Posted};
+pub use cell::CellState;
+pub use cells::{Cells, TxCell, peek_outcome};
+pub use error::TurnError;
+pub use run::Run;
+pub use shared_log::{LogState, SharedLog};
+pub use turns::{Turn, Turned};
