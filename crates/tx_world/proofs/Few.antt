@@ -1,5 +1,5 @@
 -- A step of the local side writes few entries, where no promotion began and it begins none.
-use Rattle.std.proofs.Common.{◌≡◌, ◌≤◌, ◌+◌, ℕ, Bool, true, false, ◌&&◌, not, List, [], ◌∷◌, length, Option, Some, None, find, is_some, refl, ap, sym, subst, ◌∙◌, ◌⊎◌, inl, inr, arith, lit≤, if◌then◌else◌}
+use Rattle.std.proofs.Common.{◌≡◌, ◌≤◌, ◌+◌, Bool, true, false, ◌&&◌, not, List, [], ◌∷◌, length, Option, Some, None, find, is_some, ap, sym, subst, ◌⊎◌, inl, inr, arith, lit≤, if◌then◌else◌}
 use Rattle.dtx_values.specs.Clones.{is_open_rollback}
 use Rattle.dtx_values.specs.Owners.{owner_of}
 use Rattle.dtx_values.specs.Table.{voted}

@@ -11,7 +11,7 @@ use Rattle.dtx_values.specs.declared.note.Reply.{Reply}
 use Rattle.dtx_values.specs.declared.number.ActorNo.{ActorNo}
 use Rattle.dtx_values.specs.declared.number.EnlNo.{EnlNo}
 use Rattle.dtx_values.specs.declared.number.TxNo.{TxNo}
-use Rattle.dtx_model.specs.Words.{each, has, onto}
+use Rattle.dtx_model.specs.Words.{has}
 use Rattle.dtx_model.specs.World.{World, answer_at, half}
 use Rattle.dtx_model.specs.Steps.{Step, Acts, Calls, Replies, after, block_at}
 use Rattle.dtx_model.specs.Caused.{IsIn, IsOwnRun, is_promoting_entry, is_unpromoted}
@@ -19,7 +19,7 @@ use Rattle.dtx_model.proofs.Blocks.{of_called, of_reply, of_whole_act}
 use Rattle.dtx_model.proofs.Bools.{not_both, not_false, not_true, or_first}
 use Rattle.dtx_model.proofs.Local.{free-local, has-onto}
 use Rattle.dtx_model.proofs.Unpromoted.{is_local}
-use Rattle.dtx_model.proofs.Writes.{ByAct, ByCall, ByReply, Each, IsClosed, Source, begins, e_one, each_closed, may_begin, writes}
+use Rattle.dtx_model.proofs.Writes.{ByAct, ByCall, ByReply, Each, IsClosed, Source, begins, e_one, each_closed, writes}
 use Rattle.local_half.specs.Half.{Follows, Known}
 use Rattle.coordinator_core.specs.Kept.{Kept as CoreKept}
 use Rattle.tx_world.specs.Kept.{Kept}
