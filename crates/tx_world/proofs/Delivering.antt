@@ -249,6 +249,7 @@ down_ready t w h g k c x o p n xs kept left came local value wrote clear =
     ap (follow_all k.state) (sym block) ∙ follow_all-append k.state (noted c Down x) rest ∙ ap (λ (s : Coordinated). follow_all s rest) (down_followed k.state c x) ∙ near_follow_all k.state rest near in
     let sends : has is_begin_sent xs ≡ sends_begin t.value w (Delivers c Down) = ap (has is_begin_sent) xs_is ∙ sym (noted_begin c Down x rest) ∙ ap (has is_begin_sent) block in
     record {
+      came = left;
       kept =
           step_kept t w (Delivers c Down) h g k k kept left kept.once (local ∙ ap (λ es. known_after [] h (noted c Down x ++ es)) is_rest ∙ ap (known_after [] h) block)
           (ap (λ (s : Coordinated). record { transaction = k.transaction; state = s }) (sym still));

@@ -33,3 +33,4 @@ pub mod Alone
 pub mod Reenlisting
 pub mod Statuses
 pub mod Sending
+pub mod Few

@@ -1,5 +1,5 @@
 -- A step of the local side that can't begin a promotion sends nothing, where none began.
-use Rattle.std.proofs.Common.{◌≡◌, ◌≤◌, ℕ, Bool, true, false, ◌||◌, not, List, [], ◌∷◌, is_some, refl, ap, sym, subst, ◌∙◌}
+use Rattle.std.proofs.Common.{◌≡◌, ◌≤◌, ℕ, Bool, true, false, ◌||◌, not, List, [], ◌∷◌, is_some, refl, ap, sym, subst, ◌∙◌, arith}
 use Rattle.dtx_values.specs.declared.call.Call.{Call}
 use Rattle.dtx_values.specs.declared.entry.Ask.TheVariants.{Promote, Single as AskSingle}
 use Rattle.dtx_values.specs.declared.entry.Entry.{Entry}
@@ -11,7 +11,7 @@ use Rattle.dtx_values.specs.declared.note.Reply.{Reply}
 use Rattle.dtx_values.specs.declared.number.ActorNo.{ActorNo}
 use Rattle.dtx_values.specs.declared.number.EnlNo.{EnlNo}
 use Rattle.dtx_values.specs.declared.number.TxNo.{TxNo}
-use Rattle.dtx_model.specs.Words.{each, has, onto}
+use Rattle.dtx_model.specs.Words.{has}
 use Rattle.dtx_model.specs.World.{World, answer_at, half}
 use Rattle.dtx_model.specs.Steps.{Step, Acts, Calls, Replies, after, block_at}
 use Rattle.dtx_model.specs.Caused.{IsIn, IsOwnRun, is_promoting_entry, is_unpromoted}
@@ -19,7 +19,7 @@ use Rattle.dtx_model.proofs.Blocks.{of_called, of_reply, of_whole_act}
 use Rattle.dtx_model.proofs.Bools.{not_both, not_false, not_true, or_first}
 use Rattle.dtx_model.proofs.Local.{free-local, has-onto}
 use Rattle.dtx_model.proofs.Unpromoted.{is_local}
-use Rattle.dtx_model.proofs.Writes.{ByAct, ByCall, ByReply, Each, IsClosed, Source, begins, e_one, each_closed, may_begin, writes}
+use Rattle.dtx_model.proofs.Writes.{ByAct, ByCall, ByReply, Each, IsClosed, Source, begins, e_one, each_closed, writes}
 use Rattle.local_half.specs.Half.{Follows, Known}
 use Rattle.coordinator_core.specs.Kept.{Kept as CoreKept}
 use Rattle.tx_world.specs.Kept.{Kept}
@@ -92,16 +92,26 @@ ready_unsent {t} {w} {m} {g} {k} {p} {xs} r calm_block u =
 follows_kept : (t : TxNo) (w : World) (h : Known) (k : CoreKept) → Kept t w h k → Follows h.transaction.value w h.half
 follows_kept t w h k kept = record { ran = subst (λ (x : Known). IsOwnRun x.transaction.value w) (sym kept.half) kept.ran; knows = sym (half_is t w h k kept) }
 
--- so the local side knows that it sends nothing
-pub unsent_there : {t : TxNo} {w : World} {m : Step} {h g : Known} {j k : CoreKept} {p xs : List Entry} (u : Bool) → Kept t w h j → Ready t w m g k p xs → has is_promoting_entry (block_at t.value w m) ≡ false
-    → ((v : World) → Follows h.transaction.value v h.half → u ≡ is_unpromoted v.past) → not u ≡ false → has is_sent xs ≡ false
-unsent_there {t} {w} {m} {h} {g} {j} {k} {p} {xs} u kept r calm_block says n = ready_unsent r calm_block (sym (says w (follows_kept t w h j kept)) ∙ is_true u n)
+-- so it knows that no promotion began
+pub unpromoted_there : {t : TxNo} {w : World} {h : Known} {j : CoreKept} (u : Bool) → Kept t w h j → ((v : World) → Follows h.transaction.value v h.half → u ≡ is_unpromoted v.past) → not u ≡ false
+    → is_unpromoted w.past ≡ true
+unpromoted_there {t} {w} {h} {j} u kept says n = sym (says w (follows_kept t w h j kept)) ∙ is_true u n
   where
     is_true : (u : Bool) → not u ≡ false → u ≡ true
     is_true true n = refl
     is_true false n = absurd cc
 
+-- and then that it sends nothing
+pub unsent_there : {t : TxNo} {w : World} {m : Step} {h g : Known} {j k : CoreKept} {p xs : List Entry} (u : Bool) → Kept t w h j → Ready t w m g k p xs → has is_promoting_entry (block_at t.value w m) ≡ false
+    → ((v : World) → Follows h.transaction.value v h.half → u ≡ is_unpromoted v.past) → not u ≡ false → has is_sent xs ≡ false
+unsent_there u kept r calm_block says n = ready_unsent r calm_block (unpromoted_there u kept says n)
+
 -- there is room for what is sent, where it was made unless nothing is
 pub room_where_sent : (made sent : Bool) (n room : ℕ) → (made ≡ false → sent ≡ false) → (made ≡ true → n ≤ room) → sent ≡ true → n ≤ room
 room_where_sent true sent n room none has_room s = has_room refl
 room_where_sent false sent n room none has_room s = absurd (not_both sent s (none refl))
+
+-- there is room for few entries, or for many
+pub room_where_few : (made : Bool) (n few many room : ℕ) → (made ≡ false → n ≤ few) → n ≤ many → (made ≡ true → many ≤ room) → few ≤ room → n ≤ room
+room_where_few true n few many room is_few is_many has_many has_few = omega (arith, has_many refl)
+room_where_few false n few many room is_few is_many has_many has_few = omega (arith, is_few refl)

@@ -97,6 +97,7 @@ does_step m t w v ours unsure life now up log_life begins same sends lives = rec
 
 -- A step of the local side is ready to be written after h, which is its past with what came: its half took it, and with these entries its block is whole.
 pub record Ready (t : TxNo) (w : World) (m : Step) (g : Known) (k : CoreKept) (h xs : List Entry) : Type 0 where
+  pub came : MayCome (IsIn (entered m w.calls)) t.value w m
   pub kept : Kept t (after t.value w m) g k
   pub past : onto h xs ≡ onto w.past (block_at t.value w m)
   pub written : each is_written xs ≡ true
@@ -112,6 +113,7 @@ ready t w m h g k p xs before same come once kept block near =
     let may = may_write t w m before.ran come once in
     let past = ap (λ (q : List Entry). onto q xs) same ∙ ap (onto w.past) block in
     record {
+      came = come;
       kept = kept;
       past = past;
       written = near_written xs (block_at t.value w m) block near;

@@ -27,6 +27,9 @@ use std::marker::Model;
 /// The first room of a history, in entries. Most histories are shorter, with the room for their next step, so they are never copied.
 const FIRST_ROOM: usize = 4 * (ROOM + 2);
 
+/// The room for a step that sends nothing, in entries: it writes at most four, and a stop after them.
+const FEW_ENTRIES: usize = 6;
+
 /// The history of one transaction, and its connections. What is on the way there is what the history says.
 #[derive(Drop)]
 pub(crate) struct History {
@@ -152,16 +155,16 @@ impl History {
         self.session.reserve()
     }
 
-    /// Makes room for a step: as [`History::reserve`] does where it may send, and else for its entries alone.
+    /// Makes room for a step: as [`History::reserve`] does where it may send, and else for a few entries (6) alone.
     pub(crate) fn reserve_for(&mut self, sends: bool) -> Result<(), AllocError>
         ensures same { self.new.past ≡ self.old.past }
-        ensures room { OnOk result (66 ≤ self.new.room) }
+        ensures room { OnOk result ((sends ≡ true → 66 ≤ self.new.room) × (6 ≤ self.new.room)) }
         ensures sends { OnOk result (sends ≡ true → (64 ≤ self.new.start_room) × (64 ≤ self.new.send_room)) }
     {
         if sends {
             return self.reserve();
         }
-        self.entries.reserve(ROOM + 2)
+        self.entries.reserve(FEW_ENTRIES)
     }
 
     /// The entries, oldest first.

@@ -61,7 +61,7 @@ pub(crate) fn write_near(history: &mut History, core: &mut Core, block: &[Entry]
     requires stopped { core.old.state.stopped ≡ is_stopped history.old.past }
     requires runs { has is_begin_sent block.now ≡ true → core.old.state.stopped ≡ false }
     requires few { length block.now ≤ 64 }
-    requires room { 65 ≤ history.old.room }
+    requires room { length block.now + 1 ≤ history.old.room }
     requires starts { has is_sent block.now ≡ true → 64 ≤ history.old.start_room }
     requires sends { has is_sent block.now ≡ true → 64 ≤ history.old.send_room }
     ensures begins { result ≡ has is_begin_sent block.now }

@@ -7,7 +7,8 @@ use Rattle.tx_world.proofs.Written.{Ready, act_ready, silent_kept, world_of}
 use Rattle.tx_world.proofs.Naming.{named_alone}
 use Rattle.tx_world.specs.Sending.{is_sent}
 use Rattle.dtx_model.specs.Words.{has}
-use Rattle.tx_world.proofs.Sending.{act_calm, room_where_sent, unsent_there}
+use Rattle.tx_world.proofs.Sending.{act_calm, room_where_few, room_where_sent, unsent_there}
+use Rattle.tx_world.proofs.Few.{few_there}
 use Rattle.tx_world.proofs.world.TxWorld.act.Goals.{After-entries}
 use Rattle.tx_world.proofs.world.TxWorld.act.Goals as goal
 
@@ -33,6 +34,17 @@ pub write-requires-clause-sends : goal.write-requires-clause-sends
 write-requires-clause-sends c =
     room_where_sent (not c.is_unpromoted-sends.result) (has is_sent c.entries.result.now) (length c.entries.result.now) c.reserve_for.new.self.send_room
     (unsent (goal.at.write-requires-clause-sends c).After-entries) (λ n. omega (arith, c.entries.ensures.few, (c.in_ok-reserve_for.ensures.sends n).1))
+
+-- and writes few entries then
+few : (c : After-entries) → not c.is_unpromoted-sends.result ≡ false → length c.entries.result.now ≤ 4
+few c =
+    let i = c.self.inside in
+    few_there c.is_unpromoted-sends.result c.self.invariant.kept (ready c) c.in_ok-reserve_for.ensures.same (act_calm i.transaction.value (world_of i.calls.items i.history.past)) c.is_unpromoted-sends.ensures
+
+pub write-requires-clause-room : goal.write-requires-clause-room
+write-requires-clause-room c =
+    room_where_few (not c.is_unpromoted-sends.result) (length c.entries.result.now) 4 64 c.reserve_for.new.self.room (few (goal.at.write-requires-clause-room c).After-entries) (omega (arith, c.entries.ensures.few))
+    (λ n. omega (arith, c.in_ok-reserve_for.ensures.room.0 n)) (omega (arith, c.in_ok-reserve_for.ensures.room.1))
 
 pub write-requires-clause-written : goal.write-requires-clause-written
 write-requires-clause-written c = (ready (goal.at.write-requires-clause-written c).After-entries).written

@@ -1,4 +1,4 @@
-use Rattle.std.proofs.Common.{◌≡◌, false, not, refl, ap, sym, ◌∙◌}
+use Rattle.std.proofs.Common.{◌≡◌, ◌≤◌, ◌+◌, arith, length, false, not, refl, ap, sym, ◌∙◌}
 use Rattle.dtx_model.specs.Half.{Half}
 use Rattle.dtx_model.specs.Replies.{due_of}
 use Rattle.dtx_model.specs.Steps.{Replies}
@@ -12,7 +12,8 @@ use Rattle.tx_world.proofs.Naming.{named_near}
 use Rattle.tx_world.specs.AtLog.{Kept as LogKept}
 use Rattle.tx_world.specs.Sending.{is_sent}
 use Rattle.dtx_model.specs.Words.{has}
-use Rattle.tx_world.proofs.Sending.{reply_calm, room_where_sent, unsent_there}
+use Rattle.tx_world.proofs.Sending.{reply_calm, room_where_few, room_where_sent, unsent_there}
+use Rattle.tx_world.proofs.Few.{few_there}
 use Rattle.tx_world.proofs.world.TxWorld.reply_at.Goals.{After-entries}
 use Rattle.tx_world.proofs.world.TxWorld.reply_at.Goals as goal
 
@@ -40,6 +41,20 @@ write_near-begins-requires-clause-starts c =
 pub write_near-begins-requires-clause-sends : goal.write_near-begins-requires-clause-sends
 write_near-begins-requires-clause-sends c =
     room_where_sent (not c.is_unpromoted-sends.result) (has is_sent c.entries.result.now) 64 c.reserve_for.new.self.send_room (unsent c) (λ n. (c.in_ok-reserve_for.ensures.sends n).1)
+
+-- and writes few entries then
+few : (c : After-entries) → not c.is_unpromoted-sends.result ≡ false → length c.entries.result.now + 1 ≤ 5
+few c n =
+    let i = c.self.inside in
+    let w = world_of i.calls.items i.history.past in
+    let four : length c.entries.result.now ≤ 4 =
+    few_there c.is_unpromoted-sends.result c.self.invariant.kept (ready c) c.in_ok-reserve_for.ensures.same (reply_calm i.transaction.value w c.args.e c.args.r) c.is_unpromoted-sends.ensures n in
+    omega (arith, four)
+
+pub write_near-begins-requires-clause-room : goal.write_near-begins-requires-clause-room
+write_near-begins-requires-clause-room c =
+    room_where_few (not c.is_unpromoted-sends.result) (length c.entries.result.now + 1) 5 65 c.reserve_for.new.self.room (few c) (omega (arith, c.entries.ensures.few))
+    (λ n. omega (arith, c.in_ok-reserve_for.ensures.room.0 n)) (omega (arith, c.in_ok-reserve_for.ensures.room.1))
 
 pub write_near-begins-requires-clause-written : goal.write_near-begins-requires-clause-written
 write_near-begins-requires-clause-written c = (ready c).written
