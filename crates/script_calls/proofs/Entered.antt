@@ -1,5 +1,5 @@
 -- The next call of an actor at a transaction may be entered there, and the calls that were entered are a prefix then too.
-use Rattle.std.proofs.Common.{◌≡◌, ◌≢◌, ℕ, zero, suc, ◌+◌, ◌-◌, ◌<◌, ◌==◌, Bool, true, false, List, [], ◌∷◌, Option, Some, None, get_or, length, slice_get, take, inl, inr, refl, ap, subst, sym, ◌∙◌, arith}
+use Rattle.std.proofs.Common.{◌≡◌, ◌≢◌, ℕ, zero, suc, ◌-◌, ◌<◌, ◌==◌, Bool, true, false, List, [], ◌∷◌, Option, Some, None, get_or, length, take, inl, inr, refl, ap, subst, sym, ◌∙◌, arith}
 use Rattle.std.specs.Prelude.{if◌then◌else◌}
 use Rattle.std.proofs.lemmas.Bool.{leb-true}
 use Rattle.std.proofs.lemmas.Bool.Decides.{eqb_tells}
@@ -8,9 +8,9 @@ use Rattle.std.proofs.lemmas.Option.{slice_get-get_or, slice_get_within}
 use Rattle.dtx_values.specs.declared.call.Call.{Call}
 use Rattle.dtx_values.specs.declared.number.ActorNo.{ActorNo}
 use Rattle.dtx_values.specs.declared.script.Line.{Line}
-use Rattle.dtx_model.specs.Words.{each, has, kth, onto, past_of, put}
+use Rattle.dtx_model.specs.Words.{each, has, kth, past_of, put}
 use Rattle.dtx_model.specs.declared.waiting.EnteredCall.{EnteredCall}
-use Rattle.dtx_model.specs.Caused.{AreMadeOnce, IsCallOf, IsIn, made_by}
+use Rattle.dtx_model.specs.Caused.{IsCallOf, IsIn, made_by}
 use Rattle.dtx_model.specs.Grammar.{Name, are_named_well}
 use Rattle.dtx_model.proofs.Bools.{and_left, and_right, or_false}
 use Rattle.dtx_model.proofs.Prefixes.{past-more}

@@ -1,5 +1,5 @@
 -- The calls of each actor that were entered at a place are the first ones of those that its lines give it there.
-use Rattle.std.specs.Prelude.{ℕ, ◌≡◌, ◌==◌, List, [], map, take, Option, Some, None, if◌then◌else◌}
+use Rattle.std.specs.Prelude.{ℕ, ◌≡◌, ◌==◌, List, map, take, Option, Some, None, if◌then◌else◌}
 use Rattle.dtx_values.specs.declared.call.Call.{Call}
 use Rattle.dtx_values.specs.declared.entry.Entry.{Entry}
 use Rattle.dtx_values.specs.declared.entry.Entry.TheVariants.{Called}

@@ -1,5 +1,5 @@
 -- The rows of a place: for each actor its calls there, and how many of them were entered.
-use Rattle.std.specs.Prelude.{ℕ, ◌+◌, ◌-◌, nat_le, Bool, List, [], ◌++◌, length, Option, slice_get, slice_index_or}
+use Rattle.std.specs.Prelude.{◌+◌, ◌-◌, nat_le, Bool, List, [], ◌++◌, length, Option, slice_get, slice_index_or}
 use Rattle.dtx_values.specs.declared.number.ActorNo.{ActorNo}
 use Rattle.dtx_model.specs.Words.{each}
 use Rattle.script_calls.specs.declared.rows.Due.{Due}

@@ -1,9 +1,9 @@
-use Rattle.std.proofs.Common.{◌≡◌, ◌+◌, ap, arith, sym, ◌∙◌}
+use Rattle.std.proofs.Common.{◌+◌, ap, arith, sym, ◌∙◌}
 use Rattle.dtx_values.specs.declared.number.ActorNo.{ActorNo}
 use Rattle.script_text.proofs.Scripts.{length_script}
 use Rattle.script_calls.specs.Due.{log_call}
 use Rattle.script_calls.specs.Rows.{row_at}
-use Rattle.script_calls.proofs.Filling.{log_calls_next, log_row_more, log_row_same, none_due_at_log}
+use Rattle.script_calls.proofs.Filling.{log_calls_next, log_row_more, log_row_same}
 use Rattle.script_calls.proofs.calls.log_rows.Goals.{in-Some+in_ok-add, in_default}
 use Rattle.script_calls.proofs.calls.log_rows.Goals as goal
 
