@@ -17,7 +17,7 @@ use Rattle.dtx_model.specs.Tied.{before_last_stop, can_free, enlist_got, has_mar
 use Rattle.dtx_model.specs.Wires.{WireRun, is_stopped}
 use Rattle.dtx_model.specs.Entries.{is_record}
 use Rattle.dtx_model.specs.Observed.{observe}
-use Rattle.dtx_model.specs.World.{World, core, is_finished_there}
+use Rattle.dtx_model.specs.World.{core, is_finished_there}
 use Rattle.dtx_model.specs.Caused.{IsIn}
 use Rattle.dtx_model.proofs.Bools.{and_both, and_left, and_right, not_both, or_case, or_right}
 use Rattle.dtx_model.proofs.Quiet.{wire_run}

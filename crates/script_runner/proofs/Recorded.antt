@@ -6,15 +6,14 @@ use Rattle.dtx_values.specs.declared.entry.Entry.{Entry}
 use Rattle.dtx_values.specs.declared.entry.Entry.TheVariants.{Restarted}
 use Rattle.dtx_values.specs.declared.number.TxNo.{TxNo}
 use Rattle.dtx_values.specs.declared.script.Line.{Line}
-use Rattle.dtx_model.specs.Words.{has, kth, latest, past_of}
-use Rattle.dtx_model.specs.AtLog.{is_known}
+use Rattle.dtx_model.specs.Words.{has, kth, past_of}
 use Rattle.dtx_model.specs.Coordinated.{coordinate, is_recorded}
 use Rattle.dtx_model.specs.Entries.{is_record}
 use Rattle.dtx_model.specs.Log.{CommitRecord, first_of, is_record_of, log_has}
 use Rattle.dtx_model.specs.Promotes.{identifier_of}
-use Rattle.dtx_model.specs.Tied.{before_first_stop, before_last_stop, can_free, can_log, has_mark, is_tied, is_unmarked, mark_of, tied as is_tied_history}
+use Rattle.dtx_model.specs.Tied.{before_last_stop, can_free, has_mark, is_tied}
 use Rattle.dtx_model.specs.Traces.{Placed, history}
-use Rattle.dtx_model.specs.World.{World, core}
+use Rattle.dtx_model.specs.World.{core}
 use Rattle.dtx_model.specs.Caused.{is_begin_sent}
 use Rattle.dtx_model.specs.declared.waiting.EnteredCall.{EnteredCall}
 use Rattle.dtx_model.proofs.Bools.{not_both}
@@ -23,16 +22,16 @@ use Rattle.coordinator_log.specs.Slots.{open_records}
 use Rattle.coordinator_log.specs.State.{LogState}
 use Rattle.outcome_law.proofs.CoreStages.{recorded_mark}
 use Rattle.scope_context.specs.Standing.{Standing}
-use Rattle.tx_world.specs.AtLog.{AreLogs, AtMostOne, Fits, IsHad, IsOurs, id_of}
+use Rattle.tx_world.specs.AtLog.{AreLogs, AtMostOne, Fits, id_of}
 use Rattle.tx_world.specs.State.{TxState}
 use Rattle.tx_world.specs.Recorded.{record_after}
 use Rattle.tx_world.specs.Tried.{IsTried}
 use Rattle.tx_world.proofs.Begun.{recorded_begun}
 use Rattle.tx_world.proofs.Fitting.{none_found, one_found}
 use Rattle.tx_world.proofs.Records.{one_where_none}
-use Rattle.script_runner.specs.Ending.{AreRecorded, EachHolds, EndsAs, HasNone, MayBeRecorded, are_ever_named, are_named, records_of}
-use Rattle.script_runner.specs.LogRun.{AreForeignSame, IsCounted, IsForeignKept, LogGoes}
-use Rattle.script_runner.specs.RunState.{FitsLog, GoesWith, Holds, IsRecordKept, IsTied, RunState, Tells, state_of, untouched}
+use Rattle.script_runner.specs.Ending.{EndsAs, HasNone, MayBeRecorded, are_ever_named, are_named, records_of}
+use Rattle.script_runner.specs.LogRun.{AreForeignSame, IsForeignKept}
+use Rattle.script_runner.specs.RunState.{GoesWith, Holds, IsRecordKept, IsTied, RunState, Tells, state_of, untouched}
 use Rattle.script_runner.proofs.Fitting.{found_fit}
 use Rattle.script_runner.proofs.InRecords.{ever_there, named_there, named_up, written_there, written_up}
 
