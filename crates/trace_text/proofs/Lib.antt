@@ -1,4 +1,5 @@
 pub mod Identifier
+pub mod Arrays
 pub mod OneTrace
 pub mod Printing
 pub mod ReadInfo

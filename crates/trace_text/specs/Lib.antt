@@ -1,4 +1,6 @@
+pub mod Forms
 pub mod OneTrace
 pub mod Printed
 pub mod ReadGroups
 pub mod ReadTrace
+pub mod Summary
