@@ -1,7 +1,7 @@
 -- TraceText in the forms wire and JSON.
 use Rattle.std.specs.Prelude.{ℕ, suc, List, [], ◌∷◌, ◌++◌, codes, decimal}
 use Rattle.hex.specs.Hex.{encode_lower}
-use Rattle.serde_json.specs.Data.{Data, Items, Members, array, item, member, no_items, no_members, number, object, string, unsigned}
+use Rattle.serde_json.specs.Data.{Data, Items, array, item, member, no_items, no_members, number, object, string, unsigned}
 use Rattle.serde_json.specs.Written.{compact_text}
 use Rattle.dtx_values.specs.declared.entry.Entry.{Entry}
 use Rattle.dtx_values.specs.declared.entry.Entry.TheVariants.{Sent}
@@ -22,7 +22,7 @@ line_words n x = decimal n ++ codes " " ++ place_text x.0 ++ codes " " ++ entry_
 abbrev pub wire_line : ℕ → Placed → List ℕ
 wire_line n x = line_words n x ++ frame_text x.1 ++ 10 ∷ []
 
--- the lines of these entries, numbered from n
+-- the lines of these entries in the form wire, numbered from n
 abbrev pub wire_lines_from : ℕ → List Placed → List ℕ
 wire_lines_from n [] = []
 wire_lines_from n (x ∷ xs) = wire_line n x ++ wire_lines_from (suc n) xs

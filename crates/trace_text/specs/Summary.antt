@@ -27,7 +27,7 @@ abbrev pub is_open : List Entry → Bool
 is_open h = has is_began h && not (has is_told h)
 
 -- the numbers of the transactions: t1 to t256
-abbrev pub transactions : List ℕ
+unfoldable pub transactions : List ℕ
 transactions = range_with_len 1 256
 
 -- how many transactions of the trace have a history that passes
