@@ -4,7 +4,8 @@ use Rattle.std.proofs.lemmas.List.{append-nil}
 use Rattle.serde_json.specs.Data.{array}
 use Rattle.serde_json.specs.Written.{comma_if, compact_text, items_text}
 use Rattle.dtx_model.specs.Traces.{Placed}
-use Rattle.trace_text.specs.Forms.{object_of, objects_from}
+use Rattle.trace_text.specs.Forms.{object_of, object_text, objects_from}
+use Rattle.trace_text.proofs.Plain.{object-written}
 
 -- the objects of these entries, numbered from n, with a comma before each but the first of all
 abbrev pub objects_text : Bool → ℕ → List Placed → List ℕ
@@ -27,13 +28,14 @@ more n (y ∷ xs) (suc k) m x h number e =
     ∙ ap (λ (t : List ℕ). 44 ∷ t) (sym (append_assoc (compact_text (object_of n y)) (objects_text true (suc n) (take k xs)) (comma_if true ++ compact_text (object_of m x))))
 
 -- a loop's step at the first entry
-pub first-step : (xs : List Placed) (x : Placed) → 0 < length xs → x ≡ get_or xs 0 x → array_so_far (take (0 + 1) xs) ≡ array_so_far (take 0 xs) ++ compact_text (object_of 1 x)
-first-step [] x h e = absurd (omega arith)
-first-step (y ∷ xs) x h e = ap (λ (t : List ℕ). 91 ∷ t) (append-nil (compact_text (object_of 1 y)) ∙ ap (λ (z : Placed). compact_text (object_of 1 z)) (sym e))
+pub first-step : (xs : List Placed) (k : ℕ) (x : Placed) → k ≡ 0 → k < length xs → x ≡ get_or xs k x → array_so_far (take (k + 1) xs) ≡ array_so_far (take k xs) ++ object_text (k + 1) x
+first-step xs (suc k) x none h e = absurd (omega arith)
+first-step [] zero x none h e = absurd (omega arith)
+first-step (y ∷ xs) zero x none h e = ap (λ (t : List ℕ). 91 ∷ t) (append-nil (compact_text (object_of 1 y)) ∙ ap (λ (z : Placed). compact_text (object_of 1 z)) (sym e) ∙ object-written 1 x)
 
 -- and at each later one
 pub later-step : (xs : List Placed) (k : ℕ) (x : Placed) → 0 < k → k < length xs → x ≡ get_or xs k x
-    → array_so_far (take (k + 1) xs) ≡ (array_so_far (take k xs) ++ 44 ∷ []) ++ compact_text (object_of (k + 1) x)
+    → array_so_far (take (k + 1) xs) ≡ (array_so_far (take k xs) ++ 44 ∷ []) ++ object_text (k + 1) x
 later-step xs zero x low h e = absurd (omega arith)
 later-step [] (suc k) x low h e = absurd (omega arith)
 later-step (y ∷ xs) (suc k) x low h e =
@@ -41,6 +43,7 @@ later-step (y ∷ xs) (suc k) x low h e =
       ap (λ (t : List ℕ). 91 ∷ (compact_text (object_of 1 y) ++ t)) (more 2 xs k (suc (suc k)) x (omega arith) (omega arith) (sym e))
       ∙ ap (λ (t : List ℕ). 91 ∷ t) (sym (append_assoc (compact_text (object_of 1 y)) (objects_text true 2 (take k xs)) (44 ∷ compact_text (object_of (suc (suc k)) x))))
       ∙ ap (λ (t : List ℕ). 91 ∷ t) (sym (append_assoc (compact_text (object_of 1 y) ++ objects_text true 2 (take k xs)) (44 ∷ []) (compact_text (object_of (suc (suc k)) x))))
+      ∙ ap (λ (t : List ℕ). (array_so_far (take (suc k) (y ∷ xs)) ++ 44 ∷ []) ++ t) (object-written (suc (suc k)) x)
     )
 
 closed : (later : Bool) (n : ℕ) (xs : List Placed) → items_text later (objects_from n xs) ≡ objects_text later n xs ++ 93 ∷ []

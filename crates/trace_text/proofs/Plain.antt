@@ -1,10 +1,12 @@
 -- The texts of places and entries have no character that JSON escapes.
-use Rattle.std.proofs.Common.{◌≡◌, refl, ℕ, zero, suc, ◌+◌, ◌-◌, ◌/◌, ◌%◌, ◌<◌, ◌==◌, nat_le, nat_lt, Bool, true, false, ◌&&◌, ◌||◌, if◌then◌else◌, List, [], ◌∷◌, ◌++◌, ap, ◌∙◌, arith, add-one, codes, decimal, Option, Some, None}
+use Rattle.std.proofs.Common.{◌≡◌, refl, ℕ, zero, suc, ◌+◌, ◌-◌, ◌/◌, ◌%◌, ◌<◌, ◌==◌, nat_le, nat_lt, Bool, true, false, ◌&&◌, ◌||◌, if◌then◌else◌, List, [], ◌∷◌, ◌++◌, ap, append_assoc, ◌∙◌, arith, add-one, codes, decimal, Option, Some, None}
 use Rattle.std.specs.Fmt.{digit_glyph, digits, digits_onto}
 use Rattle.std.specs.Int.{w128, to_be_bytes}
 use Rattle.std.proofs.lemmas.Bool.Decides.{nat_tests}
+use Rattle.std.proofs.lemmas.List.Concat.{flat_map-cons}
 use Rattle.std.proofs.lemmas.List.Folds.{list_all-append}
 use Rattle.json.specs.Print.{escape, escape_byte, escape_letter}
+use Rattle.serde_json.specs.Written.{compact_text}
 use Rattle.uuid.specs.Text.{by_index, digit_place, hex_digit, hyphen, is_hyphen_place, lower, nibble}
 use Rattle.uuid.proofs.TextLemmas.{nibble_small}
 use Rattle.dtx_values.specs.declared.entry.Answer.{Answer}
@@ -46,10 +48,12 @@ use Rattle.dtx_values.specs.declared.words.Outcome.{Outcome}
 use Rattle.dtx_values.specs.declared.words.Outcome.TheVariants.{Committed, Aborted, InDoubt}
 use Rattle.dtx_values.specs.declared.words.Vote.{Vote}
 use Rattle.dtx_values.specs.declared.words.Vote.TheVariants.{Yes, No, Done}
-use Rattle.dtx_model.specs.Grammar.{connection_word, image_word, iso_word, kind_word}
+use Rattle.dtx_model.specs.Grammar.{actor_name, clone_name, connection_word, enlistment_name, image_word, iso_word, kind_word, scope_name}
 use Rattle.dtx_model.specs.TraceText.{ambient_text, answer_text, ask_text, cast_vote_text, cause_text, class_text, direction_text, entry_text, found_text, id_text, log_text, message_text, outcome_text, party_text, place_text, promote_text, request_text, scope_text, sent_text}
+use Rattle.dtx_model.specs.Traces.{Placed}
 use Rattle.dtx_model.specs.Words.{each}
 use Rattle.dtx_model.proofs.Bools.{and_both, and_left, and_right}
+use Rattle.trace_text.specs.Forms.{object_of, object_text}
 
 -- a space, a hyphen, a digit or a lower-case letter
 abbrev pub is_plain : ℕ → Bool
@@ -195,7 +199,7 @@ answer (Over r) = number r.value
 answer (Connected e) = number e.value
 answer Stopped = refl
 answer Deep = refl
-answer (Isolation asked around) = both _ _ (both _ _ (isolation asked) refl) (isolation around)
+answer (Isolation asked around) = both (iso_word asked ++ codes " ") (iso_word around) (both (iso_word asked) (codes " ") (isolation asked) refl) (isolation around)
 answer NoScope = refl
 answer (Nested s) = number s.value
 answer (Ambient t) = ambient t
@@ -233,47 +237,47 @@ message ReenlistCommitted = refl
 message ReenlistAborted = refl
 
 sent : (c : Conn) (d : Dir) (m : Message) → are_plain (sent_text c d m) ≡ true
-sent c d m = both _ _ (both _ _ (both _ _ (both _ _ (connection c) refl) (direction d)) refl) (message m)
+sent c d m = both (connection_word c ++ codes " " ++ direction_text d ++ codes " ") (message_text m) (both (connection_word c ++ codes " " ++ direction_text d) (codes " ") (both (connection_word c ++ codes " ") (direction_text d) (both (connection_word c) (codes " ") (connection c) refl) (direction d)) refl) (message m)
 
 scope : (x : ScopeNote) → are_plain (scope_text x) ≡ true
-scope (Opened s t) = both _ _ (both _ _ (number s.value) refl) (ambient t)
+scope (Opened s t) = both (scope_name s.value ++ codes " ") (ambient_text t) (both (scope_name s.value) (codes " ") (number s.value) refl) (ambient t)
 scope (ScopeFinished s) = number s.value
 scope (Closed s) = number s.value
 
 log : (x : LogNote) → are_plain (log_text x) ≡ true
-log (Armed n i) = both _ _ (both _ _ (number n) refl) (image i)
+log (Armed n i) = both (decimal n ++ codes " ") (image_word i) (both (decimal n) (codes " ") (number n) refl) (image i)
 log (LogOpened n) = number n
 
 entry : (x : Entry) → are_plain (entry_text x) ≡ true
-entry (Called n a x) = both _ _ (both _ _ (both _ _ (both _ _ (number n) refl) (number a.value)) refl) (answer x)
-entry (Answered n x) = both _ _ (both _ _ (number n) refl) (answer x)
+entry (Called n a x) = both (decimal n ++ codes " " ++ actor_name a.value ++ codes " ") (answer_text x) (both (decimal n ++ codes " " ++ actor_name a.value) (codes " ") (both (decimal n ++ codes " ") (actor_name a.value) (both (decimal n) (codes " ") (number n) refl) (number a.value)) refl) (answer x)
+entry (Answered n x) = both (decimal n ++ codes " ") (answer_text x) (both (decimal n) (codes " ") (number n) refl) (answer x)
 entry (Began n) = number n
-entry (Cloned c k) = both _ _ (both _ _ (number c.value) refl) (kind k)
+entry (Cloned c k) = both (clone_name c.value ++ codes " ") (kind_word k) (both (clone_name c.value) (codes " ") (number c.value) refl) (kind k)
 entry (Completed c) = number c.value
-entry (Enlisted e c) = both _ _ (both _ _ (number e.value) refl) (class c)
+entry (Enlisted e c) = both (enlistment_name e.value ++ codes " ") (class_text c) (both (enlistment_name e.value) (codes " ") (number e.value) refl) (class c)
 entry (Init e) = number e.value
 entry CommitAsked = refl
 entry RollbackAsked = refl
 entry (Clock n) = number n
 entry TimedOut = refl
 entry Late = refl
-entry (Asked e a) = both _ _ (both _ _ (number e.value) refl) (ask a)
-entry (Voted e v) = both _ _ (both _ _ (number e.value) refl) (vote v)
-entry (PromoteReply e ok) = both _ _ (both _ _ (number e.value) refl) (promote ok)
-entry (Requested e r) = both _ _ (both _ _ (number e.value) refl) (request r)
+entry (Asked e a) = both (enlistment_name e.value ++ codes " ") (ask_text a) (both (enlistment_name e.value) (codes " ") (number e.value) refl) (ask a)
+entry (Voted e v) = both (enlistment_name e.value ++ codes " ") (cast_vote_text v) (both (enlistment_name e.value) (codes " ") (number e.value) refl) (vote v)
+entry (PromoteReply e ok) = both (enlistment_name e.value ++ codes " ") (promote_text ok) (both (enlistment_name e.value) (codes " ") (number e.value) refl) (promote ok)
+entry (Requested e r) = both (enlistment_name e.value ++ codes " ") (request_text r) (both (enlistment_name e.value) (codes " ") (number e.value) refl) (request r)
 entry Sealed = refl
 entry (Handed e) = number e.value
-entry (OwnerAnswered e x) = both _ _ (both _ _ (number e.value) refl) (outcome x)
+entry (OwnerAnswered e x) = both (enlistment_name e.value ++ codes " ") (outcome_text x) (both (enlistment_name e.value) (codes " ") (number e.value) refl) (outcome x)
 entry LocalYes = refl
 entry (Decided x) = outcome x
-entry (Told p x) = both _ _ (both _ _ (party p) refl) (outcome x)
+entry (Told p x) = both (party_text p ++ codes " ") (outcome_text x) (both (party_text p) (codes " ") (party p) refl) (outcome x)
 entry (Promoting c) = cause c
-entry (Promoted u c) = both _ _ (both _ _ (identifier u) refl) (cause c)
+entry (Promoted u c) = both (id_text u ++ codes " ") (cause_text c) (both (id_text u) (codes " ") (identifier u) refl) (cause c)
 entry PromotionFailed = refl
 entry (Sent c d m) = sent c d m
 entry (Got c d m) = sent c d m
-entry (Cut c up down) = both _ _ (both _ _ (both _ _ (both _ _ (connection c) refl) (number up)) refl) (number down)
-entry (Down c d) = both _ _ (both _ _ (connection c) refl) (direction d)
+entry (Cut c up down) = both (connection_word c ++ codes " " ++ decimal up ++ codes " ") (decimal down) (both (connection_word c ++ codes " " ++ decimal up) (codes " ") (both (connection_word c ++ codes " ") (decimal up) (both (connection_word c) (codes " ") (connection c) refl) (number up)) refl) (number down)
+entry (Down c d) = both (connection_word c ++ codes " ") (direction_text d) (both (connection_word c) (codes " ") (connection c) refl) (direction d)
 entry (Lost e) = number e.value
 entry Logged = refl
 entry LogFull = refl
@@ -307,12 +311,24 @@ byte_same c h =
 -- a plain text stands in JSON as it is
 same : (s : List ℕ) → are_plain s ≡ true → escape s ≡ s
 same [] h = refl
-same (c ∷ s) h = rw byte_same c (and_left (is_plain c) (are_plain s) h) (ap (λ (t : List ℕ). c ∷ t) (same s (and_right (is_plain c) (are_plain s) h)))
+same (c ∷ s) h =
+    flat_map-cons escape_byte c s ∙ ap (λ (t : List ℕ). t ++ escape s) (byte_same c (and_left (is_plain c) (are_plain s) h)) ∙ ap (λ (t : List ℕ). c ∷ t) (same s (and_right (is_plain c) (are_plain s) h))
 
 -- the text of a place stands in JSON as it is
-pub place_same : (p : Place) → escape (place_text p) ≡ place_text p
+place_same : (p : Place) → escape (place_text p) ≡ place_text p
 place_same p = same (place_text p) (place p)
 
 -- and so does that of an entry
-pub entry_same : (x : Entry) → escape (entry_text x) ≡ entry_text x
+entry_same : (x : Entry) → escape (entry_text x) ≡ entry_text x
 entry_same x = same (entry_text x) (entry x)
+
+-- an object as its parts are written
+abbrev object_with : ℕ → List ℕ → List ℕ → List ℕ
+object_with n p e = 123 ∷ 34 ∷ 97 ∷ 116 ∷ 34 ∷ 58 ∷ 34 ∷ ((p ++ 34 ∷ []) ++ 44 ∷ 34 ∷ 110 ∷ 34 ∷ 58 ∷ (decimal n ++ 44 ∷ 34 ∷ 116 ∷ 101 ∷ 120 ∷ 116 ∷ 34 ∷ 58 ∷ 34 ∷ ((e ++ 34 ∷ []) ++ 125 ∷ [])))
+
+-- an entry's object in JSON's compact form
+pub object-written : (n : ℕ) (x : Placed) → compact_text (object_of n x) ≡ object_text n x
+unfolding escape_byte
+object-written n x =
+    let plain : object_with n (place_text x.0) (entry_text x.1) ≡ object_text n x = simp append_assoc in
+    ap (λ (s : List ℕ). object_with n s (escape (entry_text x.1))) (place_same x.0) ∙ ap (λ (s : List ℕ). object_with n (place_text x.0) s) (entry_same x.1) ∙ plain

@@ -35,6 +35,10 @@ wire_text T = wire_lines_from 1 T
 abbrev pub object_of : ℕ → Placed → Data
 object_of n x = object (member (codes "at") (string (place_text x.0)) (member (codes "n") (number (unsigned n)) (member (codes "text") (string (entry_text x.1)) no_members)))
 
+-- the bytes of that object in JSON's compact form, written out: no character of a place or an entry is one that JSON escapes
+abbrev pub object_text : ℕ → Placed → List ℕ
+object_text n x = 123 ∷ 34 ∷ codes "at" ++ 34 ∷ 58 ∷ 34 ∷ place_text x.0 ++ 34 ∷ 44 ∷ 34 ∷ codes "n" ++ 34 ∷ 58 ∷ decimal n ++ 44 ∷ 34 ∷ codes "text" ++ 34 ∷ 58 ∷ 34 ∷ entry_text x.1 ++ 34 ∷ 125 ∷ []
+
 -- the objects of these entries, numbered from n
 abbrev pub objects_from : ℕ → List Placed → Items
 objects_from n [] = no_items

@@ -1,7 +1,6 @@
 //! Prints traces as JSON: one array with an object for each entry.
-ghost use Rattle.std.specs.Prelude.{◌≡◌, ◌<◌, ◌++◌, [], IfOk, nat_lt};
-ghost use Rattle.serde_json.specs.Written.{comma_if, compact_text};
-ghost use Rattle.trace_text.specs.Forms.{json_text, object_of};
+ghost use Rattle.std.specs.Prelude.{◌≡◌, [], IfOk};
+ghost use Rattle.trace_text.specs.Forms.{json_text, object_text};
 
 use crate::entries::put_entry;
 use crate::names::put_place;
@@ -13,10 +12,10 @@ use std::alloc::{AllocError, Global};
 /// The bytes that are set aside for each object: a little more than the mean.
 const MEAN_OBJECT: usize = 56;
 
-/// Makes the object of an entry. Its texts have no character that JSON escapes.
+/// Makes the object of an entry.
 fn put_object(tail: &mut Tail, number: usize, x: (Place, Entry))
     requires { tail.old ≡ [] }
-    ensures { tail.new ≡ compact_text (object_of number x) }
+    ensures { tail.new ≡ object_text number x }
 {
     tail.put(b"\"}");
     put_entry(tail, x.1);
