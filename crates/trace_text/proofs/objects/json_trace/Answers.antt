@@ -10,8 +10,12 @@ loop-index-preserved c =
     let within : c.loop-index.index < length c.args.t.now = omega (arith, c.loop-index-test.true, c.len-index-end.ensures) in
     let object : c.as_slice.result.now ≡ object_text (c.loop-index.index + 1) c.at.result = c.as_slice.ensures ∙ c.put_object.ensures in
     elim c.if-index-gt0.branch [
-      | then-index-gt0+in_ok-push-2 w ↦ cc (later-step c.args.t.now c.loop-index.index c.at.result w.if-index-gt0.true within c.at.ensures, c.in_ok-extend_from_slice.ensures.items, w.in_ok-push-2.ensures.items, object, c.loop-index.invariant, w.text-is)
-      | else-index-gt0 w ↦ cc (first-step c.args.t.now c.loop-index.index c.at.result (omega (arith, w.if-index-gt0.false)) within c.at.ensures, c.in_ok-extend_from_slice.ensures.items, object, c.loop-index.invariant, w.text-is)
+      | then-index-gt0+in_ok-push-2 w ↦
+          let apart = (λ i. (w.text-is i).items) ∙ w.in_ok-push-2.ensures.items ∙ ap (λ (t : List ℕ). t ++ 44 ∷ []) c.loop-index.invariant in
+          c.in_ok-extend_from_slice.ensures.items ∙ (λ i. apart i ++ object i) ∙ sym (later-step c.args.t.now c.loop-index.index c.at.result w.if-index-gt0.true within c.at.ensures)
+      | else-index-gt0 w ↦
+          let first = (λ i. (w.text-is i).items) ∙ c.loop-index.invariant in
+          c.in_ok-extend_from_slice.ensures.items ∙ (λ i. first i ++ object i) ∙ sym (first-step c.args.t.now c.loop-index.index c.at.result (omega (arith, w.if-index-gt0.false)) within c.at.ensures)
     ]
 
 pub returns : goal.returns
