@@ -1,6 +1,7 @@
 //! Sums traces up.
-ghost use Rattle.std.specs.Prelude.{◌≡◌, ◌≤◌, ◌∷◌, ◌++◌, IfOk, List, OnOk, length};
+ghost use Rattle.std.specs.Prelude.{◌≡◌, ◌∷◌, ◌++◌, count_by, IfOk, List, OnOk};
 ghost use Rattle.dtx_values.specs.declared.entry.Entry.{Entry};
+ghost use Rattle.trace_text.specs.Headings.{heading_word, is_counted};
 ghost use Rattle.trace_text.specs.Summary.{all_seen, count_line, seen_of, summary_text};
 
 use dtx_values::{Entry, Outcome, Party, Place};
@@ -62,6 +63,55 @@ impl Seen {
     }
 }
 
+/// What a line of the summary counts: transactions.
+#[derive(Clone, Copy, PartialEq, Eq, Debug)]
+enum Heading {
+    /// All that were begun.
+    Transactions,
+    Committed,
+    Aborted,
+    InDoubt,
+    /// Those that were begun, and whose client wasn't told.
+    Open,
+    Promoted,
+    Logged,
+    Freed,
+}
+
+impl Heading {
+    /// The word of its line.
+    fn word(self) -> &'static [u8]
+        ensures { result.now ≡ heading_word self }
+    {
+        match self {
+            Heading::Transactions => b"transactions",
+            Heading::Committed => b"committed",
+            Heading::Aborted => b"aborted",
+            Heading::InDoubt => b"indoubt",
+            Heading::Open => b"open",
+            Heading::Promoted => b"promoted",
+            Heading::Logged => b"logged",
+            Heading::Freed => b"freed",
+        }
+    }
+
+    /// Whether a transaction counts, by what stands in its history.
+    fn counts(self, seen: &Seen) -> bool
+        ensures { result ≡ is_counted self seen.now }
+    {
+        match self {
+            Heading::Transactions => seen.begun,
+            Heading::Committed => seen.committed,
+            Heading::Aborted => seen.aborted,
+            Heading::InDoubt => seen.in_doubt,
+            Heading::Open => seen.begun && !seen.told,
+            Heading::Promoted => seen.promoted,
+            Heading::Logged => seen.logged,
+            Heading::Freed => seen.freed,
+        }
+    }
+}
+
 /// What stands in the history of each transaction, from t1 to t256.
 fn seen_in(t: &Trace) -> [Seen; 256]
     ensures { result ≡ all_seen t.now }
@@ -76,15 +126,16 @@ fn seen_in(t: &Trace) -> [Seen; 256]
     seen
 }
 
-/// Appends a line with a word and a number.
-fn push_count(text: &mut Vec<u8>, word: &[u8], n: usize) -> Result<(), AllocError>
-    ensures { OnOk result (text.new.items ≡ text.old.items ++ count_line word.now n) }
+/// Appends the line that says how many transactions count under a heading.
+fn push_count(text: &mut Vec<u8>, heading: Heading, seen: &[Seen]) -> Result<(), AllocError>
+    ensures { OnOk result (text.new.items ≡ text.old.items ++ count_line (heading_word heading) (count_by (is_counted heading) seen.now)) }
 {
+    let count = seen.iter().filter(|s| heading.counts(s)).count();
     let mut tail = Tail::new();
     tail.put(b"\n");
-    tail.put_number(n as u64);
+    tail.put_number(count as u64);
     tail.put(b" ");
-    text.extend_from_slice(word)?;
+    text.extend_from_slice(heading.word())?;
     text.extend_from_slice(tail.as_slice())
 }
 
@@ -100,13 +151,13 @@ pub fn summary(alloc: Global, t: &Trace) -> Result<Vec<u8>, AllocError>
 {
     let seen = seen_in(t);
     let mut text = Vec::new(alloc);
-    push_count(&mut text, b"transactions", seen.iter().filter(|s| s.begun).count())?;
-    push_count(&mut text, b"committed", seen.iter().filter(|s| s.committed).count())?;
-    push_count(&mut text, b"aborted", seen.iter().filter(|s| s.aborted).count())?;
-    push_count(&mut text, b"indoubt", seen.iter().filter(|s| s.in_doubt).count())?;
-    push_count(&mut text, b"open", seen.iter().filter(|s| s.begun && !s.told).count())?;
-    push_count(&mut text, b"promoted", seen.iter().filter(|s| s.promoted).count())?;
-    push_count(&mut text, b"logged", seen.iter().filter(|s| s.logged).count())?;
-    push_count(&mut text, b"freed", seen.iter().filter(|s| s.freed).count())?;
+    push_count(&mut text, Heading::Transactions, &seen)?;
+    push_count(&mut text, Heading::Committed, &seen)?;
+    push_count(&mut text, Heading::Aborted, &seen)?;
+    push_count(&mut text, Heading::InDoubt, &seen)?;
+    push_count(&mut text, Heading::Open, &seen)?;
+    push_count(&mut text, Heading::Promoted, &seen)?;
+    push_count(&mut text, Heading::Logged, &seen)?;
+    push_count(&mut text, Heading::Freed, &seen)?;
     Ok(text)
 }
