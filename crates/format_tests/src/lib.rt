@@ -7,6 +7,8 @@ mod frames;
 #[cfg(test)]
 mod log;
 #[cfg(test)]
+mod made_scripts;
+#[cfg(test)]
 mod records;
 #[cfg(test)]
 mod recovery;
