@@ -1,13 +1,13 @@
 -- The texts of places and entries have no character that JSON escapes.
-use Rattle.std.proofs.Common.{◌≡◌, refl, ℕ, zero, suc, ◌+◌, ◌-◌, ◌/◌, ◌%◌, ◌<◌, ◌==◌, nat_le, nat_lt, Bool, true, false, ◌&&◌, ◌||◌, if◌then◌else◌, List, [], ◌∷◌, ◌++◌, ap, append_assoc, ◌∙◌, arith, add-one, codes, decimal, Option, Some, None}
+use Rattle.std.proofs.Common.{◌≡◌, refl, ℕ, zero, suc, ◌/◌, ◌%◌, ◌<◌, ◌==◌, nat_le, nat_lt, Bool, true, false, ◌&&◌, ◌||◌, if◌then◌else◌, List, [], ◌∷◌, ◌++◌, ap, append_assoc, ◌∙◌, arith, codes, decimal, Option, Some, None}
 use Rattle.std.specs.Fmt.{digit_glyph, digits, digits_onto}
 use Rattle.std.specs.Int.{w128, to_be_bytes}
 use Rattle.std.proofs.lemmas.Bool.Decides.{nat_tests}
 use Rattle.std.proofs.lemmas.List.Concat.{flat_map-cons}
 use Rattle.std.proofs.lemmas.List.Folds.{list_all-append}
-use Rattle.json.specs.Print.{escape, escape_byte, escape_letter}
+use Rattle.json.specs.Print.{escape, escape_byte}
 use Rattle.serde_json.specs.Written.{compact_text}
-use Rattle.uuid.specs.Text.{by_index, digit_place, hex_digit, hyphen, is_hyphen_place, lower, nibble}
+use Rattle.uuid.specs.Text.{by_index, digit_place, hex_digit, hyphen, is_hyphen_place, lower}
 use Rattle.uuid.proofs.TextLemmas.{nibble_small}
 use Rattle.dtx_values.specs.declared.entry.Answer.{Answer}
 use Rattle.dtx_values.specs.declared.entry.Answer.TheVariants.{Fine, True, False, Wait, Id, StillActive, OutcomeIs, StillOpen, Did, NotBegun, Ended, TooLate, Many, NoSuch, Already, Finished, Over, Connected, Stopped, Deep, Isolation, NoScope, Nested, Ambient, Fault, NotALog}

@@ -1,5 +1,5 @@
 -- What stands in each history of a trace, an entry at a time.
-use Rattle.std.proofs.Common.{◌≡◌, ◌≢◌, refl, ℕ, zero, suc, ◌+◌, ◌<◌, ◌≤◌, ◌==◌, Bool, true, false, cond, List, [], ◌∷◌, ◌++◌, length, take, get_or, set, ap, arith, sym, ◌∙◌, length-set, inl, inr, replicate, eq-eqb, add-one}
+use Rattle.std.proofs.Common.{◌≡◌, refl, ℕ, ◌+◌, ◌<◌, ◌==◌, Bool, false, cond, List, [], ◌∷◌, ◌++◌, length, take, get_or, set, ap, arith, sym, ◌∙◌, length-set, inl, inr, replicate, eq-eqb, add-one}
 use Rattle.std.specs.Prelude.{count_by, map}
 use Rattle.std.specs.List.{fold}
 use Rattle.std.proofs.lemmas.Bool.{cases_eq}

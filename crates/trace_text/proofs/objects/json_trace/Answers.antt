@@ -1,4 +1,4 @@
-use Rattle.std.proofs.Common.{◌≡◌, ◌+◌, ◌<◌, List, ◌∷◌, [], ◌++◌, ℕ, ap, arith, length, sym, take, ◌∙◌}
+use Rattle.std.proofs.Common.{◌≡◌, ◌+◌, ◌<◌, List, ◌∷◌, [], ◌++◌, ℕ, ap, arith, length, sym, ◌∙◌}
 use Rattle.std.proofs.lemmas.List.{take_all}
 use Rattle.trace_text.specs.Forms.{json_text, object_text}
 use Rattle.trace_text.proofs.Arrays.{array_so_far, first-step, later-step, whole}

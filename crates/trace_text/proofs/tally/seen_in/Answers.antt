@@ -1,9 +1,8 @@
-use Rattle.std.proofs.Common.{◌≡◌, ◌+◌, ◌<◌, ℕ, List, ◌∷◌, refl, ap, sym, ◌∙◌, arith, length, get_or, set, take}
-use Rattle.dtx_values.specs.declared.entry.Entry.{Entry}
+use Rattle.std.proofs.Common.{◌≡◌, ◌+◌, ◌<◌, ℕ, List, refl, ap, sym, ◌∙◌, arith, length, get_or, set, take}
 use Rattle.dtx_values.specs.declared.trace.Place.TheVariants.{Transaction}
 use Rattle.dtx_model.specs.Traces.{Placed, history}
 use Rattle.dtx_model.specs.Words.{past_of}
-use Rattle.trace_text.specs.Summary.{all_seen, seen_of}
+use Rattle.trace_text.specs.Summary.{seen_of}
 use Rattle.trace_text.specs.declared.tally.Seen.{Seen}
 use Rattle.trace_text.proofs.Summaries.{none-seen, seen-at, step-noted, step-other}
 use Rattle.trace_text.proofs.tally.seen_in.Goals as goal
