@@ -76,7 +76,7 @@ fn replayed<D: Disk>(
     ensures stays { has_log_line script.now ≡ false → LogStays D.faults log.old log.new }
 {
     let trace = run_replay(alloc, script, log)?;
-    print_trace(alloc, &trace)
+    print_trace(alloc, &trace, false)
 }
 
 /// Why the log wasn't formatted.
