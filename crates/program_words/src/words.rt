@@ -2,6 +2,7 @@
 ghost use Rattle.std.specs.Prelude.{◌≡◌, ◌≢◌, ◌≤◌, ℕ, List, [], ◌∷◌, decimal, false, map, true, IfNone, IfSome};
 ghost use Rattle.std.specs.String.{string_bytes};
 ghost use Rattle.program_words.specs.Commands.{Asks, AsksNothing, form_words, is_count};
+ghost use Rattle.program_words.specs.declared.command.Command.{Command};
 ghost use Rattle.program_words.specs.declared.command.Form.{Form};
 
 use crate::command::{Command, Form};
@@ -65,9 +66,11 @@ fn pair_of(first: &[u8], second: &[u8]) -> Option<Command>
     }
 }
 
-/// The command that these words ask for; `None` exactly where they ask for none.
+/// The command that these words ask for; `None` exactly where they ask for none. They ask for one command at most.
+#[tactic(auto, using(crate::proofs::Injective::one_command))]
 pub fn command_of(words: &[String]) -> Option<Command>
     ensures some { IfSome result (λ c. Asks (map string_bytes words.now) c) }
+    ensures one { (c d : Command) → Asks (map string_bytes words.now) c → Asks (map string_bytes words.now) d → c ≡ d }
     ensures none { IfNone result (AsksNothing (map string_bytes words.now)) }
 {
     match words {
