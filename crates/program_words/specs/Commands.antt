@@ -1,5 +1,5 @@
 -- The words of each command, and no others.
-use Rattle.std.specs.Prelude.{ℕ, ◌≡◌, ◌≤◌, Bool, true, nat_le, ◌&&◌, List, [], ◌∷◌, codes, decimal}
+use Rattle.std.specs.Prelude.{ℕ, ◌≡◌, Bool, true, nat_le, ◌&&◌, List, [], ◌∷◌, codes, decimal}
 use Rattle.program_words.specs.declared.command.Form.{Form}
 use Rattle.program_words.specs.declared.command.Form.TheVariants.{Plain, Wire, Json, Summary}
 use Rattle.program_words.specs.declared.command.Command.{Command}

@@ -4,10 +4,10 @@ use Rattle.script_runner.specs.Refusal.{HasNoReplay}
 use Rattle.script_runner.specs.declared.exit.Exit.TheVariants.{BadScript}
 use Rattle.script_runner.specs.declared.program.Refusal.{Refusal}
 use Rattle.script_runner.proofs.Programs.{are_logs, are_own_logs, has_text, is_cut_short, is_log, is_written, left-none, never_bad, no_log_line, none_below, none_there}
-use Rattle.script_runner.proofs.program.run_program.Goals as goal
+use Rattle.script_runner.proofs.program.replay_in.Goals as goal
 
 pub returns-in-Err-Bad-clause-bad_refused : goal.returns-in-Err-Bad-clause-bad_refused
-returns-in-Err-Bad-clause-bad_refused g c n cause words b told bad =
+returns-in-Err-Bad-clause-bad_refused g c n cause b told bad =
     let read = c.deref.ensures.value ∙ c.in-Ok.ensures.read b told in
     let found : Bad c.deref.result.now c.in-Err-Bad.line c.in-Err-Bad.cause = subst (λ (e : Refusal). HasNoReplay c.deref.result.now e) c.in-Err-Bad.field-0-is c.in-Err-Bad.ensures.refused in
     let here = c.reads_exactly.ensures.longer b c.in-Err-Bad.line c.in-Err-Bad.cause (subst (λ (x : List ℕ). Bad x c.in-Err-Bad.line c.in-Err-Bad.cause) read found) in
@@ -16,8 +16,8 @@ returns-in-Err-Bad-clause-bad_refused g c n cause words b told bad =
 
 pub returns-in-Ok-write_all-clause-headline : goal.returns-in-Ok-write_all-clause-headline
 returns-in-Ok-write_all-clause-headline g c k =
-    is_written _ _ g.D.Disk.honest _ _ _ _ c.in-Ok-replayed.text.items c.deref-2.result.now
-    (has_text g.D.Disk.faults g.D.Disk.honest g.D.Disk.image c.args.disk c.into_disk-disk.result c.in-Ok-formatted.log c.replayed-replayed.new.log _ c.deref.result.now c.in-Ok-script_to_run.script c.in-Ok-replayed.text.items
+    is_written c.args.form _ _ g.D.Disk.honest _ _ _ _ c.in-Ok-replayed.text.items c.deref-2.result.now
+    (has_text g.D.Disk.faults g.D.Disk.honest g.D.Disk.image c.args.form c.args.disk c.into_disk-disk.result c.in-Ok-formatted.log c.replayed-replayed.new.log _ c.deref.result.now c.in-Ok-script_to_run.script c.in-Ok-replayed.text.items
     c.in-Ok-formatted.ensures.smooth c.into_disk-disk.ensures.disk c.in-Ok-formatted.ensures.empty (λ b told. c.deref.ensures.value ∙ c.in-Ok.ensures.read b told) c.in-Ok-script_to_run.ensures.script
     c.in-Ok-replayed.ensures.text)
     c.deref-2.ensures.value c.in-Ok-write_all.ensures.all
@@ -28,8 +28,8 @@ returns-in-Ok-write_all-clause-read g c k =
 
 pub returns-in-Err-Fault-write_all-clause-cut_short : goal.returns-in-Err-Fault-write_all-clause-cut_short
 returns-in-Err-Fault-write_all-clause-cut_short g c k =
-    is_cut_short _ _ g.D.Disk.honest _ _ _ _ c.in-Ok-replayed.text.items c.deref-2.result.now
-    (has_text g.D.Disk.faults g.D.Disk.honest g.D.Disk.image c.args.disk c.into_disk-disk.result c.in-Ok-formatted.log c.replayed-replayed.new.log _ c.deref.result.now c.in-Ok-script_to_run.script c.in-Ok-replayed.text.items
+    is_cut_short c.args.form _ _ g.D.Disk.honest _ _ _ _ c.in-Ok-replayed.text.items c.deref-2.result.now
+    (has_text g.D.Disk.faults g.D.Disk.honest g.D.Disk.image c.args.form c.args.disk c.into_disk-disk.result c.in-Ok-formatted.log c.replayed-replayed.new.log _ c.deref.result.now c.in-Ok-script_to_run.script c.in-Ok-replayed.text.items
     c.in-Ok-formatted.ensures.smooth c.into_disk-disk.ensures.disk c.in-Ok-formatted.ensures.empty (λ b told. c.deref.ensures.value ∙ c.in-Ok.ensures.read b told) c.in-Ok-script_to_run.ensures.script
     c.in-Ok-replayed.ensures.text)
     c.deref-2.ensures.value c.in-Err-Fault-write_all.ensures.part
@@ -37,22 +37,22 @@ returns-in-Err-Fault-write_all-clause-cut_short g c k =
 pub returns-clause-memory : goal.returns-clause-memory
 returns-clause-memory g c k =
     inr
-    (is_cut_short _ _ g.D.Disk.honest _ _ _ _ c.in-Ok-replayed.text.items c.deref-2.result.now
-    (has_text g.D.Disk.faults g.D.Disk.honest g.D.Disk.image c.args.disk c.into_disk-disk.result c.in-Ok-formatted.log c.replayed-replayed.new.log _ c.deref.result.now c.in-Ok-script_to_run.script c.in-Ok-replayed.text.items
+    (is_cut_short c.args.form _ _ g.D.Disk.honest _ _ _ _ c.in-Ok-replayed.text.items c.deref-2.result.now
+    (has_text g.D.Disk.faults g.D.Disk.honest g.D.Disk.image c.args.form c.args.disk c.into_disk-disk.result c.in-Ok-formatted.log c.replayed-replayed.new.log _ c.deref.result.now c.in-Ok-script_to_run.script c.in-Ok-replayed.text.items
     c.in-Ok-formatted.ensures.smooth c.into_disk-disk.ensures.disk c.in-Ok-formatted.ensures.empty (λ b told. c.deref.ensures.value ∙ c.in-Ok.ensures.read b told) c.in-Ok-script_to_run.ensures.script
     c.in-Ok-replayed.ensures.text)
     c.deref-2.ensures.value c.in-Err-Memory-write_all.ensures.part)
 
 pub returns-in-Ok-write_all-clause-bad_refused : goal.returns-in-Ok-write_all-clause-bad_refused
-returns-in-Ok-write_all-clause-bad_refused g c n cause words b told bad =
+returns-in-Ok-write_all-clause-bad_refused g c n cause b told bad =
     absurd (never_bad c.reads_exactly.ensures.either _ c.deref.result.now c.in-Ok-script_to_run.script (λ b told. c.deref.ensures.value ∙ c.in-Ok.ensures.read b told) c.in-Ok-script_to_run.ensures.script n cause b told bad)
 
 pub returns-in-Err-Fault-write_all-clause-bad_refused : goal.returns-in-Err-Fault-write_all-clause-bad_refused
-returns-in-Err-Fault-write_all-clause-bad_refused g c n cause words b told bad =
+returns-in-Err-Fault-write_all-clause-bad_refused g c n cause b told bad =
     absurd (never_bad c.reads_exactly.ensures.either _ c.deref.result.now c.in-Ok-script_to_run.script (λ b told. c.deref.ensures.value ∙ c.in-Ok.ensures.read b told) c.in-Ok-script_to_run.ensures.script n cause b told bad)
 
 pub returns-in-Err-Fault-default-clause-bad_refused : goal.returns-in-Err-Fault-default-clause-bad_refused
-returns-in-Err-Fault-default-clause-bad_refused g c n cause words b told bad =
+returns-in-Err-Fault-default-clause-bad_refused g c n cause b told bad =
     absurd (never_bad c.reads_exactly.ensures.either _ c.deref.result.now c.in-Ok-script_to_run.script (λ b told. c.deref.ensures.value ∙ c.in-Ok.ensures.read b told) c.in-Ok-script_to_run.ensures.script n cause b told bad)
 
 pub replayed-replayed-requires-clause-none : goal.replayed-replayed-requires-clause-none
