@@ -24,7 +24,11 @@ use Rattle.dtx_model.specs.Words.{has, past_of}
 use Rattle.coordinator_log.specs.Crash.{AllHold}
 use Rattle.coordinator_log.specs.Slots.{open_records}
 use Rattle.coordinator_log.specs.State.{LogState}
+use Rattle.program_words.specs.declared.command.Command.TheVariants.{Replay, Make, Demo}
 use Rattle.program_words.specs.declared.command.Form.{Form}
+use Rattle.script_runner.specs.Judged.{IsJudged}
+use Rattle.script_runner.specs.declared.exit.Exit.{Exit}
+use Rattle.script_runner.specs.declared.exit.Exit.TheVariants.{BadScript, Fine, Memory, WriteFault}
 use Rattle.tx_world.specs.AtLog.{AreLogs}
 use Rattle.script_runner.specs.Ending.{AreOfTransactions, AreOwnLogs, AreRecorded, EachHolds, EndsAs, HasNone, IsLog, IsLogOf, MayBeRecorded}
 use Rattle.script_runner.specs.LogRun.{AreForeignSame, IsForeignKept, LogGoes, LogStays, MetNoFault, has_log_line, is_no_log_answer}
@@ -207,3 +211,22 @@ NeverBoth = (b : List ℕ) (s : List Line) (n : ℕ) (c : BadCause) → Reads b 
 
 pub never_bad : NeverBoth → (given : Option (List ℕ)) (bytes : List ℕ) (s : List Line) → IsFront given bytes → Reads bytes s → (n : ℕ) (c : BadCause) → ForSome given (λ b. Bad b n c → ⊥)
 never_bad either given bytes s front reads n c b told bad = either b s n c (reads-front given bytes s front reads b told) bad
+
+-- Two commands that are one are of one form, or of one number.
+pub form_same : (f g : Form) → Replay f ≡ Replay g → f ≡ g
+form_same f g e = cc
+
+pub made_same : (n m : ℕ) → Make n ≡ Make m → n ≡ m
+made_same n m e = cc
+
+pub demo_same : (n m : ℕ) → Demo n ≡ Demo m → n ≡ m
+demo_same n m e = cc
+
+-- an answer that names no bad line judges nothing
+pub never_judged : (x : Exit) → ((n : ℕ) (c : BadCause) → x ≡ BadScript n c → ⊥) → IsJudged x → ⊥
+never_judged x none (n, c, e) = none n c e
+
+pub not_judged : (x : Exit) → (x ≡ Fine) ⊎ ((x ≡ WriteFault) ⊎ (x ≡ Memory)) → (n : ℕ) (c : BadCause) → x ≡ BadScript n c → ⊥
+not_judged x (inl a) n c e = cc
+not_judged x (inr (inl a)) n c e = cc
+not_judged x (inr (inr a)) n c e = cc
