@@ -57,4 +57,3 @@ same (Demo n) (Demo m) h k e = ap Demo (number n m h k (first _ _ (behind _ _ _ 
 
 pub one_command : (ws : List (List ℕ)) (c d : Command) → Asks ws c → Asks ws d → c ≡ d
 one_command ws c d a b = same c d a.within b.within (sym a.words ∙ b.words)
-

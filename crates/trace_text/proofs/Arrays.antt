@@ -40,10 +40,10 @@ later-step xs zero x low h e = absurd (omega arith)
 later-step [] (suc k) x low h e = absurd (omega arith)
 later-step (y ∷ xs) (suc k) x low h e =
     rw add-one (
-      ap (λ (t : List ℕ). 91 ∷ (compact_text (object_of 1 y) ++ t)) (more 2 xs k (suc (suc k)) x (omega arith) (omega arith) (sym e))
-      ∙ ap (λ (t : List ℕ). 91 ∷ t) (sym (append_assoc (compact_text (object_of 1 y)) (objects_text true 2 (take k xs)) (44 ∷ compact_text (object_of (suc (suc k)) x))))
-      ∙ ap (λ (t : List ℕ). 91 ∷ t) (sym (append_assoc (compact_text (object_of 1 y) ++ objects_text true 2 (take k xs)) (44 ∷ []) (compact_text (object_of (suc (suc k)) x))))
-      ∙ ap (λ (t : List ℕ). (array_so_far (take (suc k) (y ∷ xs)) ++ 44 ∷ []) ++ t) (object-written (suc (suc k)) x)
+    ap (λ (t : List ℕ). 91 ∷ (compact_text (object_of 1 y) ++ t)) (more 2 xs k (suc (suc k)) x (omega arith) (omega arith) (sym e))
+    ∙ ap (λ (t : List ℕ). 91 ∷ t) (sym (append_assoc (compact_text (object_of 1 y)) (objects_text true 2 (take k xs)) (44 ∷ compact_text (object_of (suc (suc k)) x))))
+    ∙ ap (λ (t : List ℕ). 91 ∷ t) (sym (append_assoc (compact_text (object_of 1 y) ++ objects_text true 2 (take k xs)) (44 ∷ []) (compact_text (object_of (suc (suc k)) x))))
+    ∙ ap (λ (t : List ℕ). (array_so_far (take (suc k) (y ∷ xs)) ++ 44 ∷ []) ++ t) (object-written (suc (suc k)) x)
     )
 
 closed : (later : Bool) (n : ℕ) (xs : List Placed) → items_text later (objects_from n xs) ≡ objects_text later n xs ++ 93 ∷ []

@@ -51,18 +51,18 @@ noted past t x i s number within e =
     let size : length (map (of past) transactions) ≡ 256 = long (of past) in
     same_lists (set (map (of past) transactions) i s) (map (of ((Transaction t, x) ∷ past)) transactions) (length-set (map (of past) transactions) i s ∙ size ∙ sym (long (of ((Transaction t, x) ∷ past))))
     (λ k d h.
-      let low : k < 256 = omega (arith, length-set (map (of past) transactions) i s, size, h) in
-      elim (cases_eq k i) [
-        | inl same ↦
-            let is : 1 + k ≡ t.value = omega arith in
-            let there : i < length (map (of past) transactions) = omega arith in
-            let put : get_or (set (map (of past) transactions) i s) k d ≡ s = rw same (get_or-set_same (map (of past) transactions) i s d there) in
-            let now : history (1 + k) ((Transaction t, x) ∷ past) ≡ x ∷ history t.value past = history-same (1 + k) t past (x ∷ []) (eq-eqb (1 + k) t.value is) ∙ ap (λ (n : ℕ). x ∷ history n past) is in
-            put ∙ e ∙ ap seen_of (sym now) ∙ sym (at (of ((Transaction t, x) ∷ past)) k d low)
-        | inr other ↦
-            let differ : (1 + k == t.value) ≡ false = grind (arith, nat_tests) in
-            get_or-set_other (map (of past) transactions) i k s d other ∙ at (of past) k d low ∙ ap seen_of (sym (history-other (1 + k) t past (x ∷ []) differ)) ∙ sym (at (of ((Transaction t, x) ∷ past)) k d low)
-      ])
+    let low : k < 256 = omega (arith, length-set (map (of past) transactions) i s, size, h) in
+    elim (cases_eq k i) [
+      | inl same ↦
+          let is : 1 + k ≡ t.value = omega arith in
+          let there : i < length (map (of past) transactions) = omega arith in
+          let put : get_or (set (map (of past) transactions) i s) k d ≡ s = rw same (get_or-set_same (map (of past) transactions) i s d there) in
+          let now : history (1 + k) ((Transaction t, x) ∷ past) ≡ x ∷ history t.value past = history-same (1 + k) t past (x ∷ []) (eq-eqb (1 + k) t.value is) ∙ ap (λ (n : ℕ). x ∷ history n past) is in
+          put ∙ e ∙ ap seen_of (sym now) ∙ sym (at (of ((Transaction t, x) ∷ past)) k d low)
+      | inr other ↦
+          let differ : (1 + k == t.value) ≡ false = grind (arith, nat_tests) in
+          get_or-set_other (map (of past) transactions) i k s d other ∙ at (of past) k d low ∙ ap seen_of (sym (history-other (1 + k) t past (x ∷ []) differ)) ∙ sym (at (of ((Transaction t, x) ∷ past)) k d low)
+    ])
 
 -- one at another place changes nothing
 unmoved : (past : List Placed) (p : Place) (x : Entry) → ((t : TxNo) → p ≡ Transaction t → ⊥) → map (of past) transactions ≡ map (of ((p, x) ∷ past)) transactions
@@ -91,8 +91,8 @@ unfolding all_seen
 none-seen s e =
     same_lists (replicate 256 s) (map (of []) transactions) (length-replicate 256 s ∙ sym (long (of [])))
     (λ k d h.
-      let low : k < 256 = omega (arith, length-replicate 256 s, h) in
-      get_or-replicate 256 k s d low ∙ e ∙ sym (at (of []) k d low))
+    let low : k < 256 = omega (arith, length-replicate 256 s, h) in
+    get_or-replicate 256 k s d low ∙ e ∙ sym (at (of []) k d low))
 
 -- what stands in the history of the transaction at place i
 pub seen-at : (xs : List Placed) (i : ℕ) (d : Seen) → i < 256 → get_or (all_seen xs) i d ≡ seen_of (history (1 + i) (past_of xs))
