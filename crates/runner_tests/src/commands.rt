@@ -26,10 +26,12 @@ fn each_word_writes_its_form(rt: HostRuntime) -> Result<(), Fail> {
     let none = written(&rt, rt.alloc(), &["replay", "--json"], "")?;
     assert_eq!(rt; none.bytes(), b"[]\n".as_slice());
     let one = written(&rt, rt.alloc(), &["replay", "--json"], "a1 begin t1 0\n")?;
-    let objects = b"[{\"at\":\"t1\",\"n\":1,\"text\":\"call 1 a1 ok\"},{\"at\":\"t1\",\"n\":2,\"text\":\"began 600000\"}]\n";
+    let objects =
+        b"[{\"at\":\"t1\",\"n\":1,\"text\":\"call 1 a1 ok\"},{\"at\":\"t1\",\"n\":2,\"text\":\"began 600000\"}]\n";
     assert_eq!(rt; one.bytes(), objects.as_slice());
     let many = written(&rt, rt.alloc(), &["demo", "200"], "not read")?;
-    let counts = b"transactions 200\ncommitted 120\naborted 80\nindoubt 0\nopen 0\npromoted 40\nlogged 40\nfreed 40\n";
+    let counts =
+        b"transactions 200\ncommitted 120\naborted 80\nindoubt 0\nopen 0\npromoted 40\nlogged 40\nfreed 40\n";
     assert_eq!(rt; many.bytes(), counts.as_slice());
     let made = written(&rt, rt.alloc(), &["make", "1"], "not read")?;
     let lines = b"a1 begin t1 default\na1 par\na1 volatile t1 e1 none no\na1 commit t1\n";
