@@ -337,7 +337,7 @@ fn reads_each_message(rt: HostRuntime) -> Result<(), Fail> {
 fn printed(alloc: Global, x: Entry) -> Result<Vec<u8>, AllocError> {
     let mut entries = PlacedEntries::new(alloc);
     entries.push((Place::Log, x))?;
-    print_trace(alloc, &Trace::new(entries))
+    print_trace(alloc, &Trace::new(entries), false)
 }
 
 /// What is wanted of it: these words, and others before them.
@@ -369,7 +369,7 @@ fn numbers_lines(rt: HostRuntime) -> Result<(), Fail> {
     for x in entries {
         list.push(x)?;
     }
-    let text = print_trace(rt.alloc(), &Trace::new(list))?;
+    let text = print_trace(rt.alloc(), &Trace::new(list), false)?;
     let expected = "1 t1 commit\n2 a3 sealed\n3 log freed\n4 t1 late\n5 t1 late\n6 t1 late\n\
         7 t1 late\n8 t1 late\n9 t1 late\n10 t1 clock 0\n";
     assert_eq!(rt; text.as_slice(), expected.as_bytes());

@@ -20,15 +20,19 @@ use Rattle.dtx_model.specs.Log.{CommitRecord, is_record_of, log_has}
 use Rattle.dtx_model.specs.Outcome.{is_empty}
 use Rattle.dtx_model.specs.Promotes.{identifier_of}
 use Rattle.dtx_model.specs.Traces.{Placed}
-use Rattle.dtx_model.specs.TraceText.{trace_text}
 use Rattle.dtx_model.specs.Words.{has, past_of}
 use Rattle.coordinator_log.specs.Crash.{AllHold}
 use Rattle.coordinator_log.specs.Slots.{open_records}
 use Rattle.coordinator_log.specs.State.{LogState}
+use Rattle.program_words.specs.declared.command.Command.TheVariants.{Replay, Make, Demo}
+use Rattle.program_words.specs.declared.command.Form.{Form}
+use Rattle.script_runner.specs.Judged.{IsJudged}
+use Rattle.script_runner.specs.declared.exit.Exit.{Exit}
+use Rattle.script_runner.specs.declared.exit.Exit.TheVariants.{BadScript, Fine, Memory, WriteFault}
 use Rattle.tx_world.specs.AtLog.{AreLogs}
 use Rattle.script_runner.specs.Ending.{AreOfTransactions, AreOwnLogs, AreRecorded, EachHolds, EndsAs, HasNone, IsLog, IsLogOf, MayBeRecorded}
 use Rattle.script_runner.specs.LogRun.{AreForeignSame, IsForeignKept, LogGoes, LogStays, MetNoFault, has_log_line, is_no_log_answer}
-use Rattle.script_runner.specs.Program.{HasNoLogLine, IsCutShort, IsReplayOf, IsWritten}
+use Rattle.script_runner.specs.Program.{HasNoLogLine, IsCutShort, IsReplayOf, IsWritten, form_text}
 use Rattle.script_runner.specs.Refusal.{IsReplayText}
 use Rattle.script_runner.specs.Run.{AreTied, IsRunOf}
 use Rattle.script_runner.specs.Transfer.{IsPartWritten}
@@ -52,13 +56,13 @@ pub reads-front : (given : Option (List ℕ)) (bytes : List ℕ) (s : List Line)
 reads-front given bytes s front reads b told = reads-all b s (subst (λ (x : List ℕ). Reads x s) (front b told) reads)
 
 -- the text of a replay's trace is that of a replay
-pub text_of : {D E : Type 0} (faults : D → ℕ) (honest : Bool) (image : D → List ℕ → Type 0) (s : List Line) (old new : LogState D) (T : List Placed) (r : Result (Vec ℕ Global) E)
+pub text_of : {D E : Type 0} (faults : D → ℕ) (honest : Bool) (image : D → List ℕ → Type 0) (f : Form) (s : List Line) (old new : LogState D) (T : List Placed) (r : Result (Vec ℕ Global) E)
     → IsRunOf s (faults old.disk) (faults new.disk) (honest && is_empty (open_records old.slots)) T → (IsTrue honest → AreTied T) → (AreTied T → HasOneOutcome T) → (AreTied T → IsComplete s T)
     → (AreTied T → AreWaitsAnswered s T) → new.is_up ≡ is_log_up (past_of T) → (IsTrue honest → EndsAs image (open_records old.slots) new (past_of T))
-    → (IsTrue honest → has is_no_log_answer (at_log (past_of T)) ≡ false) → IfOk r (λ v. v.items ≡ trace_text T) → IfOk r (λ v. IsReplayText faults honest image s old new v.items)
-text_of faults honest image s old new T (Ok v) run tied outcome complete waited up ended unlike k =
+    → (IsTrue honest → has is_no_log_answer (at_log (past_of T)) ≡ false) → IfOk r (λ v. v.items ≡ form_text f T) → IfOk r (λ v. IsReplayText faults honest image f s old new v.items)
+text_of faults honest image f s old new T (Ok v) run tied outcome complete waited up ended unlike k =
     record { trace = T; run = run; tied = tied; outcome = outcome; complete = complete; waited = waited; up = up; ended = ended; unlike = unlike; spelled = k }
-text_of faults honest image s old new T (Err e) run tied outcome complete waited up ended unlike k = k
+text_of faults honest image f s old new T (Err e) run tied outcome complete waited up ended unlike k = k
 
 -- A log that had no record when a run began has none of a script's transactions.
 pub none_there : (rs : List CommitRecord) → rs ≡ [] → HasNone rs
@@ -141,17 +145,17 @@ is_run_of s a b from to honest rs T e f none run =
     subst (λ (n : ℕ). IsRunOf s n b honest T) e (subst (λ (n : ℕ). IsRunOf s from n honest T) f blank)
 
 -- What the top call knows when the text is to be written: a replay of the script that the source gave, whose text it is.
-pub record HasText (from to : ℕ) (honest : Bool) (image : List ℕ → Type 0) (given : Option (List ℕ)) (text : List ℕ) : Type 0 where
+pub record HasText (f : Form) (from to : ℕ) (honest : Bool) (image : List ℕ → Type 0) (given : Option (List ℕ)) (text : List ℕ) : Type 0 where
   pub lines : List Line
   pub trace : List Placed
   pub replay : IsReplayOf given from to honest image lines trace
-  pub spelled : text ≡ trace_text trace
+  pub spelled : text ≡ form_text f trace
 
 -- That is so after a replay over a log that was made of a disk without a fault.
-pub has_text : {D : Type 0} (faults : D → ℕ) (honest : Bool) (image : D → List ℕ → Type 0) (start end : D) (from to : LogState D) (given : Option (List ℕ)) (bytes : List ℕ) (s : List Line) (text : List ℕ)
-    → faults from.disk ≡ faults start → end ≡ to.disk → open_records from.slots ≡ [] → IsFront given bytes → Reads bytes s → IsReplayText faults honest image s from to text
-    → HasText (faults start) (faults end) honest (image end) given text
-has_text faults honest image start end from to given bytes s text smooth same empty front reads t =
+pub has_text : {D : Type 0} (faults : D → ℕ) (honest : Bool) (image : D → List ℕ → Type 0) (f : Form) (start end : D) (from to : LogState D) (given : Option (List ℕ)) (bytes : List ℕ) (s : List Line) (text : List ℕ)
+    → faults from.disk ≡ faults start → end ≡ to.disk → open_records from.slots ≡ [] → IsFront given bytes → Reads bytes s → IsReplayText faults honest image f s from to text
+    → HasText f (faults start) (faults end) honest (image end) given text
+has_text faults honest image f start end from to given bytes s text smooth same empty front reads t =
     record {
       lines = s;
       trace = t.trace;
@@ -173,9 +177,9 @@ has_text faults honest image start end from to given bytes s text smooth same em
     }
 
 -- the text was written whole
-pub is_written : (from to : ℕ) (honest : Bool) (image : List ℕ → Type 0) (given before after : Option (List ℕ)) (text out : List ℕ) → HasText from to honest image given text → out ≡ text
-    → ForSome before (λ w. after ≡ Some (w ++ out)) → IsWritten from to honest image given before after
-is_written from to honest image given before after text out x same gained =
+pub is_written : (f : Form) (from to : ℕ) (honest : Bool) (image : List ℕ → Type 0) (given before after : Option (List ℕ)) (text out : List ℕ) → HasText f from to honest image given text → out ≡ text
+    → ForSome before (λ w. after ≡ Some (w ++ out)) → IsWritten f from to honest image given before after
+is_written f from to honest image given before after text out x same gained =
     record {
       lines = x.lines;
       trace = x.trace;
@@ -184,9 +188,9 @@ is_written from to honest image given before after text out x same gained =
     }
 
 -- a part of the text was written
-pub is_cut_short : (from to : ℕ) (honest : Bool) (image : List ℕ → Type 0) (given before after : Option (List ℕ)) (text out : List ℕ) → HasText from to honest image given text → out ≡ text
-    → ForSome before (λ w. IsPartWritten w out after) → IsCutShort from to honest image given before after
-is_cut_short from to honest image given before after text out x same gained =
+pub is_cut_short : (f : Form) (from to : ℕ) (honest : Bool) (image : List ℕ → Type 0) (given before after : Option (List ℕ)) (text out : List ℕ) → HasText f from to honest image given text → out ≡ text
+    → ForSome before (λ w. IsPartWritten w out after) → IsCutShort f from to honest image given before after
+is_cut_short f from to honest image given before after text out x same gained =
     record {
       lines = x.lines;
       trace = x.trace;
@@ -208,14 +212,21 @@ NeverBoth = (b : List ℕ) (s : List Line) (n : ℕ) (c : BadCause) → Reads b 
 pub never_bad : NeverBoth → (given : Option (List ℕ)) (bytes : List ℕ) (s : List Line) → IsFront given bytes → Reads bytes s → (n : ℕ) (c : BadCause) → ForSome given (λ b. Bad b n c → ⊥)
 never_bad either given bytes s front reads n c b told bad = either b s n c (reads-front given bytes s front reads b told) bad
 
--- a list of one text, and whether that text is t
-pub one_word : (ws : List (String Global)) (w : String Global) (t : List ℕ) (b : Bool) → 1 ≤ length ws → length ws < 2 → w ≡ get_or ws 0 w → b ≡ pointwise eqb (string_bytes w) t
-    → (IsTrue b → map string_bytes ws ≡ t ∷ []) × (map string_bytes ws ≡ t ∷ [] → IsTrue b)
-one_word [] w t b low high here e = absurd (omega arith)
-one_word (v ∷ []) w t b low high here e =
-    let d = bytes_decides (string_bytes w) t in
-    (λ k. ap (λ (x : String Global). string_bytes x ∷ []) (sym here) ∙ ap (λ (x : List ℕ). x ∷ []) (d.0 (sym e ∙ k)), λ k. e ∙ d.1 (ap string_bytes here ∙ first k))
-  where
-    first : {x y : List ℕ} → ◌≡◌ {A = List (List ℕ)} (x ∷ []) (y ∷ []) → x ≡ y
-    first k = cc
-one_word (v ∷ u ∷ us) w t b low high here e = absurd (omega arith)
+-- Two commands that are one are of one form, or of one number.
+pub form_same : (f g : Form) → Replay f ≡ Replay g → f ≡ g
+form_same f g e = cc
+
+pub made_same : (n m : ℕ) → Make n ≡ Make m → n ≡ m
+made_same n m e = cc
+
+pub demo_same : (n m : ℕ) → Demo n ≡ Demo m → n ≡ m
+demo_same n m e = cc
+
+-- an answer that names no bad line judges nothing
+pub never_judged : (x : Exit) → ((n : ℕ) (c : BadCause) → x ≡ BadScript n c → ⊥) → IsJudged x → ⊥
+never_judged x none (n, c, e) = none n c e
+
+pub not_judged : (x : Exit) → (x ≡ Fine) ⊎ ((x ≡ WriteFault) ⊎ (x ≡ Memory)) → (n : ℕ) (c : BadCause) → x ≡ BadScript n c → ⊥
+not_judged x (inl a) n c e = cc
+not_judged x (inr (inl a)) n c e = cc
+not_judged x (inr (inr a)) n c e = cc

@@ -1,5 +1,5 @@
 -- What the top call promises.
-use Rattle.std.specs.Prelude.{ℕ, ◌≡◌, Bool, false, List, [], ◌∷◌, ◌++◌, codes, Option, Some, IsTrue}
+use Rattle.std.specs.Prelude.{ℕ, ◌≡◌, Bool, false, List, [], ◌++◌, Option, Some, IsTrue}
 use Rattle.std.specs.Option.{ForSome}
 use Rattle.dtx_values.specs.declared.script.Line.{Line}
 use Rattle.dtx_model.specs.AtLog.{at_log}
@@ -8,15 +8,28 @@ use Rattle.dtx_model.specs.History.{HasOneOutcome, IsComplete}
 use Rattle.dtx_model.specs.Traces.{Placed}
 use Rattle.dtx_model.specs.TraceText.{trace_text}
 use Rattle.dtx_model.specs.Words.{has, past_of}
+use Rattle.program_words.specs.Commands.{Asks}
+use Rattle.program_words.specs.declared.command.Command.TheVariants.{Replay}
+use Rattle.program_words.specs.declared.command.Form.{Form}
+use Rattle.program_words.specs.declared.command.Form.TheVariants.{Plain, Wire, Json, Summary}
+use Rattle.trace_text.specs.Forms.{json_text, wire_text}
+use Rattle.trace_text.specs.Summary.{summary_text}
 use Rattle.script_runner.specs.Ending.{IsLogOf}
 use Rattle.script_runner.specs.LogRun.{has_log_line, is_no_log_answer}
 use Rattle.script_runner.specs.Run.{AreTied, IsRunOf}
 use Rattle.script_runner.specs.Transfer.{IsPartWritten}
 use Rattle.script_runner.specs.Waits.{AreWaitsAnswered}
 
--- the program's words: the one word `replay`
-abbrev pub AreWords : List (List ℕ) → Type 0
-AreWords ws = ws ≡ codes "replay" ∷ []
+-- the words ask for a replay
+abbrev pub AsksReplay : List (List ℕ) → Type 0
+AsksReplay ws = (f : Form) × Asks ws (Replay f)
+
+-- the text of a trace in a form
+abbrev pub form_text : Form → List Placed → List ℕ
+form_text Plain T = trace_text T
+form_text Wire T = wire_text T
+form_text Json T = json_text T
+form_text Summary T = summary_text T
 
 -- T is a run of the script s that the source gave, in the order of a replay, over a disk that is honest or not, whose count of faults was `from` before and is `to` now. Where each restart found what may be found, as on an honest disk and in each run without a restart, it is a
 -- settled history of the script; what is told is just, nobody is told the opposite of what another is told, and who comes back learns the logged outcome; each transaction that can commit is committed; where commit was asked, the client was told an outcome, or
@@ -34,19 +47,19 @@ pub record IsReplayOf (given : Option (List ℕ)) (from to : ℕ) (honest : Bool
   pub unlike : IsTrue honest → has is_no_log_answer (at_log (past_of T)) ≡ false
 
 -- the headline: there is a trace, a history of the script with one outcome for each transaction, and the sink, where it tells what was
--- written, gained exactly its text
-pub record IsWritten (from to : ℕ) (honest : Bool) (image : List ℕ → Type 0) (given before after : Option (List ℕ)) : Type 0 where
+-- written, gained exactly its text in this form
+pub record IsWritten (f : Form) (from to : ℕ) (honest : Bool) (image : List ℕ → Type 0) (given before after : Option (List ℕ)) : Type 0 where
   pub lines : List Line
   pub trace : List Placed
   pub replay : IsReplayOf given from to honest image lines trace
-  pub gained : ForSome before (λ w. after ≡ Some (w ++ trace_text trace))
+  pub gained : ForSome before (λ w. after ≡ Some (w ++ form_text f trace))
 
 -- the same, but the sink gained a part of the text and not all of it
-pub record IsCutShort (from to : ℕ) (honest : Bool) (image : List ℕ → Type 0) (given before after : Option (List ℕ)) : Type 0 where
+pub record IsCutShort (f : Form) (from to : ℕ) (honest : Bool) (image : List ℕ → Type 0) (given before after : Option (List ℕ)) : Type 0 where
   pub lines : List Line
   pub trace : List Placed
   pub replay : IsReplayOf given from to honest image lines trace
-  pub gained : ForSome before (λ w. IsPartWritten w (trace_text trace) after)
+  pub gained : ForSome before (λ w. IsPartWritten w (form_text f trace) after)
 
 -- each script that the input may be has no line that stops the log or opens it again
 abbrev pub HasNoLogLine : Option (List ℕ) → Type 0

@@ -1,4 +1,7 @@
+pub mod Forms
+pub mod Headings
 pub mod OneTrace
 pub mod Printed
 pub mod ReadGroups
 pub mod ReadTrace
+pub mod Summary

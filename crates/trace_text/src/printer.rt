@@ -1,18 +1,33 @@
 //! Prints traces in the plain form: a line for each entry, with its number, its place and its words.
-ghost use Rattle.std.specs.Prelude.{◌≡◌, [], true, IfOk};
+ghost use Rattle.std.specs.Prelude.{◌≡◌, ◌≤◌, ◌++◌, [], false, true, IfOk, length};
 ghost use Rattle.dtx_model.specs.TraceText.{trace_line, trace_text};
 ghost use Rattle.dtx_model.specs.Words.{each};
+ghost use Rattle.trace_text.specs.Forms.{line_words, wire_text};
 ghost use Rattle.trace_text.specs.OneTrace.{is_typed_at};
 
 use crate::entries::put_entry;
 use crate::names::put_place;
+use crate::wire::wire_trace;
 use dtx_values::{Entry, Place};
 use entry_lists::Trace;
 use line_tail::Tail;
 use std::alloc::{AllocError, Global};
 
 /// The bytes that are set aside for each line of a trace: a little more than the mean.
-const MEAN_LINE: usize = 32;
+pub(crate) const MEAN_LINE: usize = 32;
+
+/// Puts the number of a line, its place and its entry.
+pub fn put_words(tail: &mut Tail, number: usize, x: (Place, Entry))
+    requires { length tail.old ≤ 1 }
+    ensures text { tail.new ≡ line_words number x ++ tail.old }
+    ensures typed { is_typed_at x ≡ true }
+{
+    put_entry(tail, x.1);
+    tail.put(b" ");
+    put_place(tail, x.0);
+    tail.put(b" ");
+    tail.put_number(number as u64);
+}
 
 /// Makes the line of an entry.
 pub fn put_line(tail: &mut Tail, number: usize, x: (Place, Entry))
@@ -21,19 +36,29 @@ pub fn put_line(tail: &mut Tail, number: usize, x: (Place, Entry))
     ensures typed { is_typed_at x ≡ true }
 {
     tail.put(b"\n");
-    put_entry(tail, x.1);
-    tail.put(b" ");
-    put_place(tail, x.0);
-    tail.put(b" ");
-    tail.put_number(number as u64);
+    put_words(tail, number, x);
 }
 
-/// The text of a trace in the plain form.
+/// The text of a trace in the plain form, or in the form wire: there the line of each message that is sent ends with its frame, in lower-case
+/// hexadecimal.
 ///
 /// # Errors
 ///
 /// [`AllocError`] where memory ran out.
-pub fn print_trace(alloc: Global, t: &Trace) -> Result<Vec<u8>, AllocError>
+pub fn print_trace(alloc: Global, t: &Trace, wire: bool) -> Result<Vec<u8>, AllocError>
+    ensures plain { wire ≡ false → IfOk result (λ v. v.items ≡ trace_text t.now) }
+    ensures wire { wire ≡ true → IfOk result (λ v. v.items ≡ wire_text t.now) }
+    ensures typed { IfOk result (λ v. each is_typed_at t.now ≡ true) }
+{
+    if wire {
+        wire_trace(alloc, t)
+    } else {
+        plain_trace(alloc, t)
+    }
+}
+
+/// The text of a trace in the plain form.
+fn plain_trace(alloc: Global, t: &Trace) -> Result<Vec<u8>, AllocError>
     ensures text { IfOk result (λ v. v.items ≡ trace_text t.now) }
     ensures typed { IfOk result (λ v. each is_typed_at t.now ≡ true) }
 {

@@ -140,7 +140,7 @@ pub(crate) fn shows(
     let history = world.history();
     entries.reserve(history.len())?;
     entries.push_from(place, history, 0);
-    let found = print_trace(alloc, &Trace::new(entries))?;
+    let found = print_trace(alloc, &Trace::new(entries), false)?;
     let mut wanted = Vec::new(alloc);
     let mut number = 0_u32;
     for part in parts {

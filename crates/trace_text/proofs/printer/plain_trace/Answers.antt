@@ -4,7 +4,7 @@ use Rattle.dtx_model.specs.TraceText.{lines_from, trace_text}
 use Rattle.dtx_model.specs.Words.{each}
 use Rattle.trace_text.specs.OneTrace.{is_typed_at}
 use Rattle.trace_text.proofs.Printing.{lines-step, typed-step}
-use Rattle.trace_text.proofs.printer.print_trace.Goals as goal
+use Rattle.trace_text.proofs.printer.plain_trace.Goals as goal
 
 pub loop-index-preserved : goal.loop-index-preserved
 loop-index-preserved c =

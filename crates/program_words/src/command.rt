@@ -1,0 +1,25 @@
+//! What the program can do.
+
+/// A form of a trace.
+#[derive(Clone, Copy, PartialEq, Eq, Debug)]
+pub enum Form {
+    /// A line for each entry.
+    Plain,
+    /// The same, with its frame after each message that is sent.
+    Wire,
+    /// One array of objects.
+    Json,
+    /// Eight lines with numbers.
+    Summary,
+}
+
+/// What the words ask for.
+#[derive(Clone, Copy, PartialEq, Eq, Debug)]
+pub enum Command {
+    /// Replay the script that is read, and write the trace in this form.
+    Replay(Form),
+    /// Write the made script of so many transactions, from 1 to 256.
+    Make(u16),
+    /// Replay that script, and write the summary.
+    Demo(u16),
+}

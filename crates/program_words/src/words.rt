@@ -1,0 +1,81 @@
+//! Reads the words.
+ghost use Rattle.std.specs.Prelude.{◌≡◌, ◌≢◌, ◌≤◌, ℕ, List, [], ◌∷◌, decimal, false, map, true, IfNone, IfSome};
+ghost use Rattle.std.specs.String.{string_bytes};
+ghost use Rattle.program_words.specs.Commands.{Asks, AsksNothing, form_words, is_count};
+ghost use Rattle.program_words.specs.declared.command.Command.{Command};
+ghost use Rattle.program_words.specs.declared.command.Form.{Form};
+
+use crate::command::{Command, Form};
+use line_tail::Tail;
+use trace_words::number16;
+
+/// The number from 1 to 256 that this word is, in decimal without sign or leading zero.
+fn count_of(word: &[u8]) -> Option<u16>
+    ensures some { IfSome result (λ n. (word.now ≡ decimal n) × (is_count n ≡ true)) }
+    ensures none { IfNone result ((n : ℕ) → is_count n ≡ true → word.now ≢ decimal n) }
+{
+    let n = number16(word);
+    let mut digits = Tail::new();
+    digits.put_number(u64::from(n));
+    if 1 <= n && n <= 256 && digits.as_slice() == word {
+        Some(n)
+    } else {
+        None
+    }
+}
+
+/// The form that this word asks for.
+fn form_of(word: &[u8]) -> Option<Form>
+    ensures some { IfSome result (λ f. form_words f ≡ word.now ∷ []) }
+    ensures none { IfNone result ((f : Form) → form_words f ≢ word.now ∷ []) }
+{
+    if word == b"--wire".as_slice() {
+        return Some(Form::Wire);
+    }
+    if word == b"--json".as_slice() {
+        return Some(Form::Json);
+    }
+    if word == b"--summary".as_slice() {
+        return Some(Form::Summary);
+    }
+    None
+}
+
+/// The command of one word.
+fn single_of(word: &[u8]) -> Option<Command>
+    ensures some { IfSome result (λ c. Asks (word.now ∷ []) c) }
+    ensures none { IfNone result (AsksNothing (word.now ∷ [])) }
+{
+    if word == b"replay".as_slice() {
+        Some(Command::Replay(Form::Plain))
+    } else {
+        None
+    }
+}
+
+/// The command of two words.
+fn pair_of(first: &[u8], second: &[u8]) -> Option<Command>
+    ensures some { IfSome result (λ c. Asks (first.now ∷ second.now ∷ []) c) }
+    ensures none { IfNone result (AsksNothing (first.now ∷ second.now ∷ [])) }
+{
+    match first {
+        b"replay" => form_of(second).map(Command::Replay),
+        b"make" => count_of(second).map(Command::Make),
+        b"demo" => count_of(second).map(Command::Demo),
+        _ => None,
+    }
+}
+
+/// The command that these words ask for; `None` exactly where they ask for none. They ask for one command at most.
+#[tactic(auto, using(crate::proofs::Injective::one_command))]
+pub fn command_of(words: &[String]) -> Option<Command>
+    ensures some { IfSome result (λ c. Asks (map string_bytes words.now) c) }
+    ensures one { (c d : Command) → Asks (map string_bytes words.now) c → Asks (map string_bytes words.now) d → c ≡ d }
+    ensures none { IfNone result (AsksNothing (map string_bytes words.now)) }
+{
+    match words {
+        [word] => single_of(word.as_bytes()),
+        [first, second] => pair_of(first.as_bytes(), second.as_bytes()),
+        _ => None,
+    }
+}
