@@ -1,5 +1,5 @@
 -- A reply that is pending is due, and its plan isn't silent.
-use Rattle.std.proofs.Common.{◌≡◌, ℕ, zero, suc, ◌+◌, ◌==◌, Bool, true, false, ◌&&◌, ◌||◌, List, [], ◌∷◌, ◌++◌, map, filter, Option, Some, None, is_some, refl, ap, sym, subst, ◌∙◌, if◌then◌else◌}
+use Rattle.std.proofs.Common.{◌≡◌, ℕ, ◌==◌, Bool, true, false, ◌||◌, List, [], ◌∷◌, ◌++◌, map, filter, Option, Some, None, is_some, refl, ap, sym, ◌∙◌, if◌then◌else◌}
 use Rattle.std.specs.List.{cons_option, filter_map, flat_map}
 use Rattle.std.proofs.lemmas.Bool.{eqb-true}
 use Rattle.dtx_values.specs.declared.end.End.{End}
@@ -17,11 +17,11 @@ use Rattle.dtx_model.specs.Coordinated.{may_free, may_log}
 use Rattle.dtx_model.specs.Plans.{plan_of, planned}
 use Rattle.dtx_model.specs.Replies.{all_due, due_of, is_answered, names, with_note}
 use Rattle.dtx_model.specs.World.{World, core, half, has_left}
-use Rattle.dtx_model.specs.Steps.{StepName, ReplyOf, LocalAct, CoordinatorAct, Delivery, core_act, deliveries_on, delivery_if, local_if, local_pending, pending, replies_due}
-use Rattle.dtx_model.proofs.Bools.{and_both, and_left, and_right, or_case}
+use Rattle.dtx_model.specs.Steps.{StepName, ReplyOf, CoordinatorAct, core_act, deliveries_on, delivery_if, local_if, local_pending, pending, replies_due}
+use Rattle.dtx_model.proofs.Bools.{and_both, and_left, and_right}
 use Rattle.outcome_law.proofs.Scans.{each-append}
 use Rattle.tx_world.specs.Stepping.{reply_in}
-use Rattle.tx_threads.specs.Turns.{is_due, is_that, is_to, same_note}
+use Rattle.tx_threads.specs.Turns.{is_due, is_that, same_note}
 
 abbrev asked : (ℕ → Plan) → Option (EnlNo × Note) → Bool
 asked p (Some x) = is_answered p x

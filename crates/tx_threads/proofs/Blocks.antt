@@ -1,6 +1,6 @@
 -- Which entries the block of a step has: an append or a free that was done is in that of the coordinator's act alone, a stop of it there and in that of a stop or a restart, and the entry of a
 -- reply, as its first, in that of a reply.
-use Rattle.std.proofs.Common.{◌≡◌, ℕ, Bool, true, false, List, [], ◌∷◌, Option, Some, None, is_some, refl, ap, sym, subst, ◌∙◌}
+use Rattle.std.proofs.Common.{◌≡◌, ℕ, Bool, true, false, List, [], ◌∷◌, Option, Some, None, is_some, refl}
 use Rattle.dtx_values.specs.declared.call.Call.{Call}
 use Rattle.dtx_values.specs.declared.entry.Answer.{Answer}
 use Rattle.dtx_values.specs.declared.entry.Ask.TheVariants.{Promote, Single as AskSingle}
@@ -13,18 +13,14 @@ use Rattle.dtx_values.specs.declared.message.Dir.TheVariants.{Up, Down}
 use Rattle.dtx_values.specs.declared.message.Message.{Message}
 use Rattle.dtx_values.specs.declared.message.Message.TheVariants.{BeginBegin, BeginCommit, EnlistAck, ReenlistAck}
 use Rattle.dtx_values.specs.declared.note.Note.{Note}
-use Rattle.dtx_values.specs.declared.note.Note.TheVariants.{Prepare as PrepareNote, Promote as PromoteNote, Hand, Single, Commit as CommitNote}
-use Rattle.dtx_values.specs.declared.note.Plan.{Plan}
+use Rattle.dtx_values.specs.declared.note.Note.TheVariants.{Single}
 use Rattle.dtx_values.specs.declared.note.Reply.{Reply}
 use Rattle.dtx_values.specs.declared.note.Reply.TheVariants.{Vote as VoteReply, Promote as Promotes, Owner as OwnerReply, Ack}
 use Rattle.dtx_values.specs.declared.number.EnlNo.{EnlNo}
 use Rattle.dtx_values.specs.declared.words.Outcome.{Outcome}
-use Rattle.dtx_values.specs.declared.words.Outcome.TheVariants.{Committed, Aborted, InDoubt}
 use Rattle.dtx_values.specs.declared.words.Vote.{Vote}
-use Rattle.dtx_values.specs.declared.words.Vote.TheVariants.{Yes, No, Done as VoteDone}
 use Rattle.dtx_values.specs.Ends.{knows}
 use Rattle.dtx_values.specs.Vote.{is_no}
-use Rattle.dtx_model.specs.Words.{each}
 use Rattle.dtx_model.specs.Observed.{Observed}
 use Rattle.dtx_model.specs.Promotes.{identifier_of}
 use Rattle.dtx_model.specs.Coordinated.{Coordinated, commit_sends, core_got, follow, may_log}
@@ -36,9 +32,6 @@ use Rattle.dtx_model.specs.Facts.{facts_if, has_facts}
 use Rattle.dtx_model.specs.World.{World, half, core, answer_at, facts_at}
 use Rattle.dtx_model.specs.Steps.{LogAnswer, Done, Full, StoppedNow, StoppedBefore, Step, Calls, Replies, Acts, Coordinates, Delivers, Stops, Restarts, appended, block_at, delivered, ended_at, freed, got_by, restarted}
 use Rattle.dtx_model.specs.Wires.{in_transit}
-use Rattle.dtx_model.specs.Plans.{owner_reply, planned as reply_planned, promote_reply, vote_reply}
-use Rattle.dtx_model.specs.Caused.{is_as_planned, is_outcome_planned, is_promotion_planned, is_request_planned, is_vote_planned, same_promotion, same_vote}
-use Rattle.dtx_model.specs.Entries.{same_outcome}
 use Rattle.dtx_model.proofs.Blocks.{of_arrived, of_called, of_commit_sends, of_abort_sends, of_core_down, of_core_got, of_local_down, of_veto, of_veto_if, of_whole_act}
 use Rattle.dtx_model.proofs.Writes.{ByAct, ByCall, ByMessage, ByReply, Each, IsClosed, Source, e_cons, e_if, e_none, e_one, each_closed, promises, replies, writes}
 use Rattle.outcome_law.proofs.Scans.{each_more}

@@ -1,17 +1,15 @@
 -- A cell after the next call of an actor was entered there.
-use Rattle.std.proofs.Common.{◌≡◌, ◌≢◌, ℕ, Bool, true, false, List, ◌∷◌, Option, Some, None, refl, ap, sym, subst, ◌∙◌}
+use Rattle.std.proofs.Common.{◌≡◌, ◌≢◌, ℕ, Bool, true, false, List, Some, None, refl, ap, sym, subst, ◌∙◌}
 use Rattle.dtx_values.specs.declared.call.Call.{Call}
 use Rattle.dtx_values.specs.declared.entry.Answer.{Answer}
 use Rattle.dtx_values.specs.declared.note.Note.{Note}
 use Rattle.dtx_values.specs.declared.number.ActorNo.{ActorNo}
 use Rattle.dtx_values.specs.declared.number.EnlNo.{EnlNo}
-use Rattle.dtx_values.specs.declared.number.TxNo.{TxNo}
 use Rattle.dtx_values.specs.declared.script.Line.{Line}
 use Rattle.dtx_model.specs.World.{World, answer_at}
-use Rattle.dtx_model.specs.Steps.{Step, Calls, after}
+use Rattle.dtx_model.specs.Steps.{Step, Calls}
 use Rattle.dtx_model.specs.Caused.{MayAnswer}
 use Rattle.script_calls.proofs.Entered.{next_entered, next_given}
-use Rattle.script_calls.specs.declared.rows.Due.{Due}
 use Rattle.script_calls.specs.Rows.{further, next_in, row_at}
 use Rattle.script_calls.specs.SeenRow.{SeenRow}
 use Rattle.tx_world.specs.State.{TxState, may_enter, turned}

@@ -1,15 +1,14 @@
 -- What a cell keeps, at its start, after a step, and after a call.
-use Rattle.std.proofs.Common.{◌≡◌, ◌≢◌, ℕ, zero, suc, ◌==◌, Bool, true, false, ◌&&◌, ◌||◌, not, List, [], ◌∷◌, Option, Some, None, is_some, slice_get, refl, ap, sym, subst, ◌∙◌, inl, inr, if◌then◌else◌}
+use Rattle.std.proofs.Common.{◌≡◌, ℕ, zero, suc, ◌==◌, Bool, true, false, ◌&&◌, ◌||◌, not, List, [], ◌∷◌, Option, Some, None, is_some, refl, ap, sym, subst, ◌∙◌, inl, inr, if◌then◌else◌}
 use Rattle.std.proofs.lemmas.Bool.{eqb-true}
 use Rattle.dtx_values.specs.declared.call.Call.{Call}
 use Rattle.dtx_values.specs.declared.call.Call.TheVariants.{Await, Do, Durable, Marshal}
-use Rattle.dtx_values.specs.declared.entry.Entry.TheVariants.{Stopped}
 use Rattle.dtx_values.specs.declared.number.ActorNo.{ActorNo}
 use Rattle.dtx_values.specs.declared.number.TxNo.{TxNo}
 use Rattle.dtx_values.specs.declared.script.Body.{Body}
 use Rattle.dtx_values.specs.declared.script.Body.TheVariants.{Complete as CompleteLine, Do as DoLine, Durable as DurableLine, Gone as GoneLine, Marshal as MarshalLine, Reenlist as ReenlistLine}
 use Rattle.dtx_values.specs.declared.script.Line.{Line}
-use Rattle.dtx_model.specs.Words.{always, has, kth, onto}
+use Rattle.dtx_model.specs.Words.{always, has, kth}
 use Rattle.dtx_model.specs.Grammar.{Name, OfTransaction, OfEnlistment, OfClone, OfScope, is_made}
 use Rattle.dtx_model.specs.Calls.{call_of, complete_call, gone_call, reenlist_call, transaction_of, transaction_with}
 use Rattle.dtx_model.specs.Contexts.{lines_before}
@@ -20,7 +19,7 @@ use Rattle.dtx_model.specs.Steps.{Step, Calls, Stops, after, block_at, entered, 
 use Rattle.dtx_model.specs.Caused.{IsCallOf, IsIn, MayAnswer, has_object, is_as_planned, made_by, plans_of}
 use Rattle.script_calls.specs.declared.rows.Due.{Due}
 use Rattle.script_calls.specs.Prefix.{IsPrefix}
-use Rattle.script_calls.specs.Rows.{further, next_in, row_at}
+use Rattle.script_calls.specs.Rows.{next_in, row_at}
 use Rattle.script_calls.specs.SeenRow.{SeenRow}
 use Rattle.script_calls.proofs.Entered.{next_line_new, next_name_new}
 use Rattle.outcome_law.proofs.ScopeCalls.{given_call, is_scope_call}

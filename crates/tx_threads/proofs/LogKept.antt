@@ -1,36 +1,24 @@
 -- What the entries of the log tell, as they come to it.
-use Rattle.std.proofs.Common.{◌≡◌, ◌≢◌, ◌⊎◌, ◌≤◌, ◌<◌, ◌+◌, ◌-◌, ◌^◌, ◌==◌, ◌&&◌, ◌||◌, ℕ, zero, suc, Bool, true, false, List, [], ◌∷◌, ◌++◌, length, map, take, Option, Some, None, Result, Ok, Err, refl, sym, ap, subst, ◌∙◌, inl, inr, arith, le_trans, slice_get, if◌then◌else◌}
+use Rattle.std.proofs.Common.{◌≡◌, ◌≢◌, ◌⊎◌, ◌≤◌, ◌<◌, ◌+◌, ◌^◌, ◌||◌, ℕ, suc, Bool, true, false, List, ◌∷◌, length, Option, Some, Result, Ok, Err, refl, sym, ap, subst, ◌∙◌, inl, inr, arith, le_trans, if◌then◌else◌}
 use Rattle.std.specs.Prelude.{IsTrue, IfErr, IfOk, OnOk, is_ok}
-use Rattle.std.proofs.lemmas.Bool.{cases_Bool}
-use Rattle.std.proofs.lemmas.Bool.Decides.{nat_tests}
-use Rattle.std.proofs.lemmas.List.{map-append, take_more}
-use Rattle.std.proofs.lemmas.Option.{slice_get-get_or, slice_get_within}
 use Rattle.outside.specs.Disk.{AreWithin}
 use Rattle.outside.specs.Faults.{Rose}
 use Rattle.dtx_values.specs.declared.Image.{Image}
-use Rattle.dtx_values.specs.declared.entry.Answer.{Answer}
-use Rattle.dtx_values.specs.declared.entry.Answer.TheVariants.{Fine, Fault, NotALog}
 use Rattle.dtx_values.specs.declared.entry.Entry.{Entry}
 use Rattle.dtx_values.specs.declared.entry.Entry.TheVariants.{Called}
 use Rattle.dtx_values.specs.declared.number.ActorNo.{ActorNo}
 use Rattle.dtx_values.specs.declared.script.Line.{Line}
 use Rattle.dtx_model.specs.AtLog.{armed, faults as faults_told, is_called, one_if}
-use Rattle.dtx_model.specs.Log.{CommitRecord, log_has}
-use Rattle.dtx_model.specs.Words.{all_of, has, past_of}
-use Rattle.dtx_model.proofs.Histories.{past_of-snoc}
-use Rattle.dtx_model.proofs.SameNumbers.{same_actor}
-use Rattle.coordinator_log.specs.Crash.{AllHold}
+use Rattle.dtx_model.specs.Log.{log_has}
+use Rattle.dtx_model.specs.Words.{has}
 use Rattle.coordinator_log.specs.Slots.{open_records}
 use Rattle.coordinator_log.specs.State.{LogState}
 use Rattle.coordinator_log.specs.declared.refusal.LogRefusal.{LogRefusal}
 use Rattle.coordinator_log.specs.declared.refusal.LogRefusal.TheVariants as Refusal
 use Rattle.coordinator_log.specs.declared.stop.ArmedStop.{ArmedStop}
 use Rattle.script_calls.specs.Prefix.{IsLogPrefix, lines_by}
-use Rattle.script_calls.specs.Rows.{further, next_in, row_at}
 use Rattle.script_calls.specs.SeenRow.{SeenRow}
 use Rattle.script_calls.specs.declared.calls.LogCall.{LogCall}
-use Rattle.script_calls.specs.declared.rows.Due.{Due}
-use Rattle.tx_world.specs.AtLog.{AreFit}
 use Rattle.tx_threads.specs.LogAnswers.{is_no_log_answer, restart_answer, restarted, stop_armed}
 use Rattle.tx_threads.specs.LogCell.{AreCounted, AreOwn, IsLogKept, LAST, LogCell, is_left, is_up_by}
 use Rattle.tx_threads.specs.LogEntering.{IsReopened}

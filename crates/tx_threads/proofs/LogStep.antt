@@ -1,6 +1,6 @@
 -- A step of a transaction over the log.
-use Rattle.std.proofs.Common.{◌≡◌, ◌≢◌, ◌⊎◌, ◌≤◌, ◌<◌, ◌+◌, ◌-◌, ◌^◌, ◌==◌, ◌&&◌, ◌||◌, not, ℕ, suc, Bool, true, false, List, [], ◌∷◌, length, filter, Option, Some, None, Ok, Err, Result, refl, sym, ap, subst, ◌∙◌, inl, inr, arith, le_trans, le_refl, if◌then◌else◌, zero}
-use Rattle.std.specs.Prelude.{IsTrue, IsFalse, IfOk}
+use Rattle.std.proofs.Common.{◌≡◌, ◌⊎◌, ◌≤◌, ◌<◌, ◌+◌, ◌==◌, not, ℕ, suc, Bool, true, false, List, [], ◌∷◌, length, filter, Option, Some, None, Ok, Err, Result, refl, sym, ap, subst, ◌∙◌, inl, inr, arith, le_trans, le_refl, if◌then◌else◌, zero}
+use Rattle.std.specs.Prelude.{IsTrue, IfOk}
 use Rattle.std.specs.List.{range_with_len}
 use Rattle.std.proofs.lemmas.Bool.{cases_Bool}
 use Rattle.std.proofs.lemmas.Bool.Decides.{nat_tests}
@@ -13,7 +13,7 @@ use Rattle.dtx_model.specs.AtLog.{armed, faults as faults_told, is_called, is_un
 use Rattle.dtx_model.specs.Grammar.{OfTransaction, is_made}
 use Rattle.dtx_model.specs.Log.{CommitRecord, first_of, is_record_of, log_has}
 use Rattle.dtx_model.specs.Promotes.{identifier_of}
-use Rattle.dtx_model.specs.Steps.{Done, Full, LogAnswer, StoppedBefore, StoppedNow, Step, Coordinates}
+use Rattle.dtx_model.specs.Steps.{Done, StoppedBefore, StoppedNow, Step, Coordinates}
 use Rattle.dtx_model.specs.Words.{each, has}
 use Rattle.dtx_model.specs.World.{core}
 use Rattle.dtx_model.proofs.Bools.{and_both, and_left, and_right, not_both, or_right}
@@ -22,8 +22,8 @@ use Rattle.coordinator_log.specs.Slots.{open_records}
 use Rattle.coordinator_log.specs.State.{LogState}
 use Rattle.coordinator_log.specs.Stop.{stop_in}
 use Rattle.coordinator_log.specs.declared.stop.ArmedStop.{ArmedStop}
-use Rattle.script_calls.specs.Prefix.{IsLogPrefix, lines_by}
-use Rattle.tx_world.specs.AtLog.{Answered, AreFit, AtMostOne, Fits, KeepsLog, Tie, act_calls, id_of, of_others}
+use Rattle.script_calls.specs.Prefix.{lines_by}
+use Rattle.tx_world.specs.AtLog.{AreFit, AtMostOne, Fits, KeepsLog, Tie, act_calls, id_of, of_others}
 use Rattle.tx_world.specs.State.{TxState}
 use Rattle.tx_world.specs.Stepping.{IsAnswered}
 use Rattle.tx_threads.specs.Board.{transactions_of}

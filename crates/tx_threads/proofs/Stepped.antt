@@ -7,20 +7,18 @@ use Rattle.dtx_values.specs.declared.note.Note.{Note}
 use Rattle.dtx_values.specs.declared.note.Note.TheVariants.{Commit as CommitNote, Promote}
 use Rattle.dtx_values.specs.declared.note.Plan.{Plan}
 use Rattle.dtx_values.specs.declared.note.Reply.{Reply}
-use Rattle.dtx_values.specs.declared.number.ActorNo.{ActorNo}
 use Rattle.dtx_values.specs.declared.number.EnlNo.{EnlNo}
 use Rattle.dtx_values.specs.declared.row.Row.{Row}
 use Rattle.dtx_values.specs.declared.script.Line.{Line}
 use Rattle.dtx_values.specs.Row.{is_of}
 use Rattle.dtx_model.specs.Words.{has, or_else}
-use Rattle.dtx_model.specs.Grammar.{are_named_well}
 use Rattle.dtx_model.specs.Observed.{Observed, observe}
 use Rattle.dtx_model.specs.Plans.{plan_of, planned as reply_planned}
 use Rattle.dtx_model.specs.Replies.{conn_due, due_of, fits, note_of_conn, note_of_row}
 use Rattle.dtx_model.specs.Half.{is_gone}
 use Rattle.dtx_model.specs.World.{World, half}
-use Rattle.dtx_model.specs.Steps.{Step, Replies, StepName}
-use Rattle.dtx_model.specs.Caused.{IsCallOf, IsIn, IsOwnRun, IsRun, has_object, plans_of}
+use Rattle.dtx_model.specs.Steps.{Step, Replies}
+use Rattle.dtx_model.specs.Caused.{IsCallOf, IsIn, IsOwnRun, has_object, plans_of}
 use Rattle.dtx_model.proofs.Lifting.{lift_ran}
 use Rattle.outcome_law.proofs.Makers.{ran_made}
 use Rattle.outcome_law.proofs.Planned.{plan_same}

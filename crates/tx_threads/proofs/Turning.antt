@@ -1,5 +1,5 @@
 -- Going through the pending steps, one place after the other.
-use Rattle.std.proofs.Common.{◌≡◌, ℕ, suc, ◌+◌, ◌<◌, Bool, true, false, ◌||◌, List, [], ◌∷◌, length, drop, get_or, Option, Some, None, slice_get, refl, ap, sym, subst, ◌∙◌, add-one, if◌then◌else◌}
+use Rattle.std.proofs.Common.{◌≡◌, ℕ, ◌+◌, ◌<◌, Bool, true, false, ◌||◌, List, ◌∷◌, length, drop, get_or, Option, Some, None, refl, ap, sym, subst, ◌∙◌, add-one, if◌then◌else◌}
 use Rattle.std.proofs.Math.Seq.{drop-cons}
 use Rattle.std.proofs.lemmas.Option.{slice_get-get_or}
 use Rattle.dtx_values.specs.declared.call.Call.{Call}
@@ -12,7 +12,7 @@ use Rattle.script_calls.specs.SeenRow.{SeenRow}
 use Rattle.tx_world.specs.State.{TxState}
 use Rattle.tx_world.specs.Stepping.{reply_in}
 use Rattle.tx_threads.specs.Cell.{Cell}
-use Rattle.tx_threads.specs.Turns.{first_turn, is_due, is_out, is_that, is_to, turn_of, turn_or}
+use Rattle.tx_threads.specs.Turns.{first_turn, is_due, is_out, is_that, turn_of, turn_or}
 use Rattle.tx_threads.specs.declared.turns.Turn.{Turn}
 use Rattle.tx_threads.specs.declared.turns.Turn.TheVariants.{Step, Ask}
 

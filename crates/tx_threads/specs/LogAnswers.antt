@@ -1,5 +1,5 @@
 -- What a call at the log is answered, and what it writes there.
-use Rattle.std.specs.Prelude.{ℕ, ◌+◌, ◌-◌, ◌≡◌, ◌≢◌, ◌==◌, Bool, true, false, List, ◌∷◌, length, Option, Some, None, Result, Ok, Err, IfOk, IsTrue, OnOk, is_ok, if◌then◌else◌}
+use Rattle.std.specs.Prelude.{ℕ, ◌==◌, Bool, true, false, List, ◌∷◌, Option, Some, None, Result, Ok, Err, if◌then◌else◌}
 use Rattle.dtx_values.specs.declared.Image.{Image}
 use Rattle.dtx_values.specs.declared.entry.Answer.{Answer}
 use Rattle.dtx_values.specs.declared.entry.Answer.TheVariants.{Fine, Fault, NotALog}
@@ -10,7 +10,6 @@ use Rattle.dtx_values.specs.declared.number.ActorNo.{ActorNo}
 use Rattle.coordinator_log.specs.declared.refusal.LogRefusal.{LogRefusal}
 use Rattle.coordinator_log.specs.declared.refusal.LogRefusal.TheVariants as Refusal
 use Rattle.script_calls.specs.declared.calls.LogCall.{LogCall}
-use Rattle.script_calls.specs.declared.calls.LogCall.TheVariants.{Stop, Restart}
 use Rattle.script_calls.specs.declared.rows.Due.{Due}
 use Rattle.tx_threads.specs.declared.turns.Turned.{Turned}
 use Rattle.tx_threads.specs.declared.turns.Turned.TheVariants.{NotNext}

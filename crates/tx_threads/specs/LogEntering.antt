@@ -1,5 +1,5 @@
 -- A call that is entered at the log.
-use Rattle.std.specs.Prelude.{ℕ, ◌+◌, ◌-◌, ◌≡◌, ◌≢◌, Bool, List, length, Option, Some, None, Result, Ok, Err, IfOk, IsTrue, OnOk, is_ok, if◌then◌else◌}
+use Rattle.std.specs.Prelude.{ℕ, ◌+◌, ◌-◌, ◌≡◌, ◌≢◌, Bool, List, length, Option, Some, Result, Err, IfOk, IsTrue, OnOk, is_ok, if◌then◌else◌}
 use Rattle.outside.specs.Faults.{Rose}
 use Rattle.dtx_values.specs.declared.entry.Answer.TheVariants.{Fine}
 use Rattle.dtx_values.specs.declared.number.ActorNo.{ActorNo}

@@ -1,4 +1,4 @@
-use Rattle.std.proofs.Common.{sym, ap, ◌∙◌, true}
+use Rattle.std.proofs.Common.{sym, ◌∙◌, true}
 use Rattle.dtx_model.specs.Steps.{Calls}
 use Rattle.tx_world.specs.OwnCalls.{DoesAlone}
 use Rattle.tx_threads.proofs.Entered.{IsBefore, enters_here, may_be_answered, may_be_entered, needs_no_log, still_kept}

@@ -1,10 +1,8 @@
-use Rattle.std.proofs.Common.{◌≡◌, Bool, List, Option, Some, ap, subst, sym, ◌∙◌}
+use Rattle.std.proofs.Common.{◌≡◌, Bool, List, Some, ap, subst, sym, ◌∙◌}
 use Rattle.dtx_values.specs.declared.entry.Entry.{Entry}
 use Rattle.dtx_model.specs.Words.{past_of}
 use Rattle.script_calls.specs.Rows.{next_in, row_at}
-use Rattle.script_calls.specs.declared.calls.LogCall.{LogCall}
 use Rattle.script_calls.specs.declared.calls.LogCall.TheVariants.{Restart}
-use Rattle.script_calls.specs.declared.rows.Due.{Due}
 use Rattle.tx_threads.specs.LogAnswers.{restart_answer, restarted}
 use Rattle.tx_threads.specs.LogCell.{IsLogKept, LogCell}
 use Rattle.tx_threads.specs.LogEntering.{next_at_log}

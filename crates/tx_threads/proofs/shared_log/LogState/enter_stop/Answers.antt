@@ -1,13 +1,11 @@
-use Rattle.std.proofs.Common.{◌≡◌, ◌-◌, List, Option, Some, refl, subst, sym}
+use Rattle.std.proofs.Common.{◌≡◌, ◌-◌, List, Some, refl, subst, sym}
 use Rattle.dtx_values.specs.declared.entry.Answer.TheVariants.{Fine}
 use Rattle.dtx_values.specs.declared.entry.Entry.{Entry}
 use Rattle.dtx_values.specs.declared.entry.Entry.TheVariants.{Called, LogWord}
 use Rattle.dtx_values.specs.declared.entry.LogNote.TheVariants.{Armed}
 use Rattle.dtx_model.specs.Words.{past_of}
 use Rattle.script_calls.specs.Rows.{next_in, row_at}
-use Rattle.script_calls.specs.declared.calls.LogCall.{LogCall}
 use Rattle.script_calls.specs.declared.calls.LogCall.TheVariants.{Stop}
-use Rattle.script_calls.specs.declared.rows.Due.{Due}
 use Rattle.tx_threads.specs.LogAnswers.{stop_armed}
 use Rattle.tx_threads.specs.LogCell.{IsLogKept, LogCell}
 use Rattle.tx_threads.specs.LogEntering.{next_at_log}

@@ -1,4 +1,4 @@
-use Rattle.std.proofs.Common.{◌≡◌, Bool, true, false, not, List, Ok, ap, rules, ◌∙◌}
+use Rattle.std.proofs.Common.{◌≡◌, Bool, true, List, Ok, ap, rules, ◌∙◌}
 use Rattle.dtx_values.specs.declared.entry.Entry.{Entry}
 use Rattle.dtx_model.specs.Words.{past_of}
 use Rattle.tx_threads.specs.LogAnswers.{stop_noted}
