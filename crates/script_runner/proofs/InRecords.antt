@@ -8,31 +8,39 @@ use Rattle.dtx_values.specs.declared.entry.Entry.TheVariants.{Got, Recovered, Re
 use Rattle.dtx_values.specs.declared.message.Conn.TheVariants.{Begin, Voter, Enl, Again}
 use Rattle.dtx_values.specs.declared.message.Dir.TheVariants.{Up, Down}
 use Rattle.dtx_values.specs.declared.message.Info.{Info}
+use Rattle.dtx_values.specs.declared.message.Message.TheVariants.{EnlistEnlist}
 use Rattle.dtx_model.specs.declared.desk.Desk.{Desk}
 use Rattle.dtx_model.specs.Words.{all_of, each, has}
 use Rattle.dtx_model.specs.Log.{CommitRecord, first_of, is_record_of}
 use Rattle.dtx_model.specs.Coordinated.{coordinate, is_desk_of, is_prepared}
 use Rattle.dtx_model.specs.Tied.{before_last_stop, can_free, enlist_got, has_mark, is_acked, is_done_there, is_prepared_got, is_recovery, tied}
 use Rattle.dtx_model.specs.Wires.{WireRun, is_stopped}
-use Rattle.dtx_model.specs.World.{World, core}
+use Rattle.dtx_model.specs.Entries.{is_record}
+use Rattle.dtx_model.specs.Observed.{observe}
+use Rattle.dtx_model.specs.World.{core, is_finished_there}
 use Rattle.dtx_model.specs.Caused.{IsIn}
 use Rattle.dtx_model.proofs.Bools.{and_both, and_left, and_right, not_both, or_case, or_right}
 use Rattle.dtx_model.proofs.Quiet.{wire_run}
 use Rattle.outcome_law.proofs.CoreStages.{stopped_same}
 use Rattle.outcome_law.proofs.Crossed.{nothing_up}
+use Rattle.outcome_law.proofs.Finished.{finished_seen}
+use Rattle.outcome_law.proofs.FreedDesks.{AreFreed, IsDone}
 use Rattle.outcome_law.proofs.Keeping.{Keeps}
 use Rattle.outcome_law.proofs.Managed.{desks_managed, is_enlist_by, is_managed_desk, one_manager}
-use Rattle.outcome_law.proofs.Scans.{each_more}
+use Rattle.outcome_law.proofs.Returning.{ran_returning}
+use Rattle.outcome_law.proofs.Scans.{each_more, has_more}
 use Rattle.outcome_law.proofs.Steady.{run_keeps}
+use Rattle.outcome_law.proofs.Table.{is_enlist_got}
 use Rattle.outcome_law.proofs.Tests.{eq_self}
 use Rattle.std.proofs.lemmas.Bool.{eqb-true}
-use Rattle.coordinator_core.specs.Acting.{record_for}
 use Rattle.tx_world.specs.AtLog.{AtMostOne, Fits, id_of}
 use Rattle.tx_world.specs.Prepared.{NamesPrepared}
+use Rattle.tx_world.specs.Recorded.{record_after}
 use Rattle.tx_world.specs.State.{TxState}
+use Rattle.tx_world.specs.Tried.{IsTried}
 use Rattle.tx_world.proofs.Fitting.{one_found}
-use Rattle.tx_world.proofs.FreedRecords.{each_info, enlist_by, is_desk_for, noted_recorded}
-use Rattle.script_runner.specs.Ending.{are_named, names}
+use Rattle.tx_world.proofs.FreedRecords.{each_info, enlist_by, is_desk_for, is_enlist_as, noted_recorded, recovered_seen}
+use Rattle.script_runner.specs.Ending.{are_ever_named, are_named, names}
 use Rattle.script_runner.specs.RunState.{IsRecordKept}
 
 -- A desk that said PREPARED is in the record.
@@ -66,16 +74,16 @@ pair_there h k i sent (d ∷ ds) m t =
     there false s = s
 
 -- So the record that the coordinator writes has each enlistment that said PREPARED.
-record_names : (t : ℕ) (h : List Entry) → Keeps h → has_mark h ≡ true → are_named h (record_for t (coordinate h) ∷ []) ≡ true
+record_names : (t : ℕ) (h : List Entry) → Keeps h → has_mark h ≡ true → are_named h (record_after t h ∷ []) ≡ true
 record_names t h k marked =
-    each_info (λ i. is_done_there h i || has (names i) (record_for t (coordinate h) ∷ [])) h k (λ i s. by i (enlist_by i.enl i.rm.value h k s) (has (is_prepared_got i.enl.value) h) refl)
+    each_info (λ i. is_done_there h i || has (names i) (record_after t h ∷ [])) h k (λ i s. by i (enlist_by i.enl i.rm.value h k s) (has (is_prepared_got i.enl.value) h) refl)
   where
     by : (i : Info) → has (is_enlist_by i.enl.value i.rm.value) h ≡ true → (b : Bool) → has (is_prepared_got i.enl.value) h ≡ b
-        → ((not b || is_acked i.enl.value h || has (is_recovery i.rm.value) h) || has (names i) (record_for t (coordinate h) ∷ [])) ≡ true
+        → ((not b || is_acked i.enl.value h || has (is_recovery i.rm.value) h) || has (names i) (record_after t h ∷ [])) ≡ true
     by i sent false q = refl
     by i sent true q =
-        or_right (not true || is_acked i.enl.value h || has (is_recovery i.rm.value) h) (has (names i) (record_for t (coordinate h) ∷ []))
-        (or_left (names i (record_for t (coordinate h))) false (pair_there h k i sent (coordinate h).desks (desks_managed h k) (noted_recorded i.enl h k marked q)))
+        or_right (not true || is_acked i.enl.value h || has (is_recovery i.rm.value) h) (has (names i) (record_after t h ∷ []))
+        (or_left (names i (record_after t h)) false (pair_there h k i sent (coordinate h).desks (desks_managed h k) (noted_recorded i.enl h k marked q)))
 
 -- Who was finished before the last stop is finished as long as the coordinator stands stopped.
 still_recovered : (h : List Entry) (x : Entry) (i : Info) → (not (has (is_prepared_got i.enl.value) h) || is_acked i.enl.value h || has (is_recovery i.rm.value) h) ≡ true
@@ -126,25 +134,25 @@ history_keeps : (x : TxState) → IsRecordKept x → tied x.world.past ≡ true 
 history_keeps x kept sound = run_keeps (IsIn x.world.calls) x.transaction.value kept.own.0 x.world kept.once kept.own.1 sound
 
 -- its record, where that is the one that is found
-own_record : (x : TxState) (rs : List CommitRecord) → NamesPrepared x → Fits x rs → first_of (id_of x) rs ≡ x.ours → is_some x.ours ≡ true → filter (is_record_of (id_of x)) rs ≡ record_for x.transaction.value (core x.world) ∷ []
-own_record x rs named fits found some = only_found (id_of x) rs (record_for x.transaction.value (core x.world)) fits.one (found ∙ named some)
+own_record : (x : TxState) (rs : List CommitRecord) → NamesPrepared x → Fits x rs → first_of (id_of x) rs ≡ x.ours → is_some x.ours ≡ true → filter (is_record_of (id_of x)) rs ≡ record_after x.transaction.value x.world.past ∷ []
+own_record x rs named fits found some = only_found (id_of x) rs (record_after x.transaction.value x.world.past) fits.one (found ∙ named some)
 
 -- The log is up: where there is a record by the history, it is the one that the coordinator writes.
 pub written_up : (x : TxState) (rs : List CommitRecord) → IsRecordKept x → NamesPrepared x → (core x.world).stopped ≡ false → Fits x rs → has_mark x.world.past ≡ true → is_some x.ours ≡ has_mark x.world.past
-    → filter (is_record_of (id_of x)) rs ≡ record_for x.transaction.value (core x.world) ∷ []
+    → filter (is_record_of (id_of x)) rs ≡ record_after x.transaction.value x.world.past ∷ []
 written_up x rs kept named runs fits marked there = own_record x rs named fits (one_found (id_of x) x.ours x.unsure rs (kept.ours.sure runs) fits) (there ∙ marked)
 
 pub named_up : (x : TxState) (rs : List CommitRecord) → IsRecordKept x → tied x.world.past ≡ true → has_mark x.world.past ≡ true
-    → filter (is_record_of (id_of x)) rs ≡ record_for x.transaction.value (core x.world) ∷ [] → are_named x.world.past (filter (is_record_of (id_of x)) rs) ≡ true
+    → filter (is_record_of (id_of x)) rs ≡ record_after x.transaction.value x.world.past ∷ [] → are_named x.world.past (filter (is_record_of (id_of x)) rs) ≡ true
 named_up x rs kept sound marked is =
     subst (λ (qs : List CommitRecord). are_named x.world.past qs ≡ true) (sym is) (record_names x.transaction.value x.world.past (history_keeps x kept sound) marked)
 
 -- Whatever records fit a transaction: none of its identifier is there, or the one that the coordinator writes,
 pub written_there : (x : TxState) (rs : List CommitRecord) → NamesPrepared x → Fits x rs → (first_of (id_of x) rs ≡ None → filter (is_record_of (id_of x)) rs ≡ [])
-    → (filter (is_record_of (id_of x)) rs ≡ []) ⊎ (filter (is_record_of (id_of x)) rs ≡ record_for x.transaction.value (core x.world) ∷ [])
+    → (filter (is_record_of (id_of x)) rs ≡ []) ⊎ (filter (is_record_of (id_of x)) rs ≡ record_after x.transaction.value x.world.past ∷ [])
 written_there x rs named fits none = elim fits.tie [ inl e ↦ by x.ours refl e | inr e ↦ inl (none e.0) ]
   where
-    by : (o : Option CommitRecord) → x.ours ≡ o → first_of (id_of x) rs ≡ x.ours → (filter (is_record_of (id_of x)) rs ≡ []) ⊎ (filter (is_record_of (id_of x)) rs ≡ record_for x.transaction.value (core x.world) ∷ [])
+    by : (o : Option CommitRecord) → x.ours ≡ o → first_of (id_of x) rs ≡ x.ours → (filter (is_record_of (id_of x)) rs ≡ []) ⊎ (filter (is_record_of (id_of x)) rs ≡ record_after x.transaction.value x.world.past ∷ [])
     by None q e = inl (none (e ∙ q))
     by (Some r) q e = inr (own_record x rs named fits e (ap (λ (o : Option CommitRecord). is_some o) q))
 
@@ -152,6 +160,7 @@ written_there x rs named fits none = elim fits.tie [ inl e ↦ by x.ours refl e 
 pub named_there : (x : TxState) (rs : List CommitRecord) → IsRecordKept x → NamesPrepared x → tied x.world.past ≡ true → Fits x rs → has_mark x.world.past ≡ true → are_named x.world.past (filter (is_record_of (id_of x)) rs) ≡ true
 named_there x rs kept named sound fits marked = elim fits.tie [ inl e ↦ named_up x rs kept sound marked (own_record x rs named fits e (tried.kept marked)) | inr e ↦ freed e.1 ]
   where
+    tried : IsTried x.world.past (record { ours = x.ours; unsure = x.unsure; life = x.life })
     tried = kept.tried sound
 
     stopped : x.unsure ≡ true → (b : Bool) → (core x.world).stopped ≡ b → (core x.world).stopped ≡ true
@@ -165,3 +174,35 @@ named_there x rs kept named sound fits marked = elim fits.tie [ inl e ↦ named_
         let done = and_right (has_mark (before_last_stop h)) (each (is_done_there (before_last_stop h)) (all_of enlist_got (before_last_stop h))) can in
         done_named h (filter (is_record_of (id_of x)) rs)
         (done_still h (wire_run (IsIn x.world.calls) x.transaction.value kept.own.0 x.world kept.own.1) (sym (stopped_same h) ∙ stopped u (core x.world).stopped refl) done)
+
+-- A record that is gone was freed, and then all were finished. So where there ever was one, each that isn't finished is named.
+as_enlist : (i : Info) (x : Entry) → is_enlist_as i.enl.value i.rm.value x ≡ true → is_enlist_got i.enl.value x ≡ true
+as_enlist i (Got (Enl f) Up (EnlistEnlist j)) t = and_left (i.enl.value == f.value) (i.rm.value == j.rm.value) t
+as_enlist i _ t = absurd cc
+
+ever_named : (h : List Entry) (rs : List CommitRecord) → Keeps h → AreFreed h → (has_mark h ≡ true → are_named h rs ≡ true) → has is_record h ≡ true → are_ever_named h rs ≡ true
+ever_named h rs k freed named r = by (has_mark h) refl
+  where
+    wider : (a b c : Bool) → (a || c) ≡ true → (a || b || c) ≡ true
+    wider true b c t = refl
+    wider false b c t = or_right b c t
+
+    gone : (i : Info) → has (is_enlist_by i.enl.value i.rm.value) h ≡ true → IsDone i.enl h → (is_done_there h i || is_finished_there (observe h) i.enl.value) ≡ true
+    gone i sent (inl f) = or_right (is_done_there h i) (is_finished_there (observe h) i.enl.value) (finished_seen i.enl.value h ∙ f)
+    gone i sent (inr w) =
+        let manager : i.rm.value ≡ w.0 = one_manager i.enl i.rm.value w.0 h k sent w.1 in
+        or_left (is_done_there h i) (is_finished_there (observe h) i.enl.value)
+        (or_right (not (has (is_prepared_got i.enl.value) h) || is_acked i.enl.value h) (has (is_recovery i.rm.value) h) (subst (λ n. has (is_recovery n) h ≡ true) (sym manager) (recovered_seen w.0 h w.2)))
+
+    by : (b : Bool) → has_mark h ≡ b → are_ever_named h rs ≡ true
+    by true m =
+        each_more (λ i. is_done_there h i || has (names i) rs) (λ i. is_done_there h i || is_finished_there (observe h) i.enl.value || has (names i) rs)
+        (λ i t. wider (is_done_there h i) (is_finished_there (observe h) i.enl.value) (has (names i) rs) t) (all_of enlist_got h) (named m)
+    by false m =
+        each_info (λ i. is_done_there h i || is_finished_there (observe h) i.enl.value || has (names i) rs) h k
+        (λ i s. or_left (is_done_there h i || is_finished_there (observe h) i.enl.value) (has (names i) rs)
+        (gone i (enlist_by i.enl i.rm.value h k s) (freed r m i.enl (has_more (is_enlist_as i.enl.value i.rm.value) (is_enlist_got i.enl.value) (as_enlist i) h s))))
+
+pub ever_there : (x : TxState) (rs : List CommitRecord) → IsRecordKept x → tied x.world.past ≡ true → (has_mark x.world.past ≡ true → are_named x.world.past rs ≡ true) → has is_record x.world.past ≡ true → are_ever_named x.world.past rs ≡ true
+ever_there x rs kept sound named r =
+    ever_named x.world.past rs (history_keeps x kept sound) (ran_returning (IsIn x.world.calls) x.transaction.value kept.own.0 x.world kept.once kept.own.1 sound).freed named r

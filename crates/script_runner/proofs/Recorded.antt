@@ -6,34 +6,34 @@ use Rattle.dtx_values.specs.declared.entry.Entry.{Entry}
 use Rattle.dtx_values.specs.declared.entry.Entry.TheVariants.{Restarted}
 use Rattle.dtx_values.specs.declared.number.TxNo.{TxNo}
 use Rattle.dtx_values.specs.declared.script.Line.{Line}
-use Rattle.dtx_model.specs.Words.{has, kth, latest, past_of}
-use Rattle.dtx_model.specs.AtLog.{is_known}
+use Rattle.dtx_model.specs.Words.{has, kth, past_of}
 use Rattle.dtx_model.specs.Coordinated.{coordinate, is_recorded}
+use Rattle.dtx_model.specs.Entries.{is_record}
 use Rattle.dtx_model.specs.Log.{CommitRecord, first_of, is_record_of, log_has}
 use Rattle.dtx_model.specs.Promotes.{identifier_of}
-use Rattle.dtx_model.specs.Tied.{before_first_stop, before_last_stop, can_free, can_log, has_mark, is_tied, is_unmarked, mark_of, tied as is_tied_history}
+use Rattle.dtx_model.specs.Tied.{before_last_stop, can_free, has_mark, is_tied}
 use Rattle.dtx_model.specs.Traces.{Placed, history}
-use Rattle.dtx_model.specs.World.{World, core}
+use Rattle.dtx_model.specs.World.{core}
 use Rattle.dtx_model.specs.Caused.{is_begin_sent}
 use Rattle.dtx_model.specs.declared.waiting.EnteredCall.{EnteredCall}
 use Rattle.dtx_model.proofs.Bools.{not_both}
-use Rattle.coordinator_core.specs.Acting.{record_for}
 use Rattle.coordinator_log.specs.Crash.{AllHold}
 use Rattle.coordinator_log.specs.Slots.{open_records}
 use Rattle.coordinator_log.specs.State.{LogState}
 use Rattle.outcome_law.proofs.CoreStages.{recorded_mark}
 use Rattle.scope_context.specs.Standing.{Standing}
-use Rattle.tx_world.specs.AtLog.{AreLogs, AtMostOne, Fits, IsHad, IsOurs, id_of}
+use Rattle.tx_world.specs.AtLog.{AreLogs, AtMostOne, Fits, id_of}
 use Rattle.tx_world.specs.State.{TxState}
+use Rattle.tx_world.specs.Recorded.{record_after}
 use Rattle.tx_world.specs.Tried.{IsTried}
 use Rattle.tx_world.proofs.Begun.{recorded_begun}
 use Rattle.tx_world.proofs.Fitting.{none_found, one_found}
 use Rattle.tx_world.proofs.Records.{one_where_none}
-use Rattle.script_runner.specs.Ending.{AreRecorded, EachHolds, EndsAs, HasNone, MayBeRecorded, are_named, record_after, records_of}
-use Rattle.script_runner.specs.LogRun.{AreForeignSame, IsCounted, IsForeignKept, LogGoes}
-use Rattle.script_runner.specs.RunState.{FitsLog, GoesWith, Holds, IsRecordKept, IsTied, RunState, Tells, state_of, untouched}
+use Rattle.script_runner.specs.Ending.{EndsAs, HasNone, MayBeRecorded, are_ever_named, are_named, records_of}
+use Rattle.script_runner.specs.LogRun.{AreForeignSame, IsForeignKept}
+use Rattle.script_runner.specs.RunState.{GoesWith, Holds, IsRecordKept, IsTied, RunState, Tells, state_of, untouched}
 use Rattle.script_runner.proofs.Fitting.{found_fit}
-use Rattle.script_runner.proofs.InRecords.{named_there, named_up, written_there, written_up}
+use Rattle.script_runner.proofs.InRecords.{ever_there, named_there, named_up, written_there, written_up}
 
 -- where there is at most one record of an identifier, there is one exactly where the first is found
 pub counted : (id : ℕ) (rs : List CommitRecord) → AtMostOne id rs → length (filter (is_record_of id) rs) ≡ (if is_some (first_of id rs) then 1 else 0)
@@ -138,12 +138,12 @@ ends_as {D} faults image start log r T same numbered holds foreign logs held =
         record {
           recorded = λ t. let x = state_of t r.worlds in recorded_there t (past_of r.trace) x (open_records log.slots) (numbered t) (holds.tied t).past (holds.kept t) (runs_up log x (holds.goes t) up) ((holds.fits refl t).fits up);
           written = λ t marked. written t up marked;
-          named = λ t marked. let x = state_of t r.worlds in
+          named = λ t marked. named_now t up marked;
+          ever = λ t ever. let x = state_of t r.worlds in
               let here = (holds.tied t).past in
-              let there : has_mark x.world.past ≡ true = ap has_mark here ∙ marked in
-              subst (λ (u : TxNo). are_named (history t.value (past_of r.trace)) (records_of u.value (open_records log.slots)) ≡ true) (numbered t)
-              (subst (λ (h : List Entry). are_named h (filter (is_record_of (id_of x)) (open_records log.slots)) ≡ true) here
-              (named_up x (open_records log.slots) (holds.kept t) (holds.sound refl t) there (own_up t up there)));
+              subst (λ (h : List Entry). are_ever_named h (records_of t.value (open_records log.slots)) ≡ true) here
+              (ever_there x (records_of t.value (open_records log.slots)) (holds.kept t) (holds.sound refl t)
+              (λ m. subst (λ (h : List Entry). are_named h (records_of t.value (open_records log.slots)) ≡ true) (sym here) (named_now t up (sym (ap has_mark here) ∙ m))) (ap (has is_record) here ∙ ever));
           others = foreign.up up;
         },
       );
@@ -151,7 +151,7 @@ ends_as {D} faults image start log r T same numbered holds foreign logs held =
     })
   where
     own_up : (t : TxNo) → IsTrue log.is_up → has_mark (state_of t r.worlds).world.past ≡ true
-        → filter (is_record_of (id_of (state_of t r.worlds))) (open_records log.slots) ≡ record_for (state_of t r.worlds).transaction.value (core (state_of t r.worlds).world) ∷ []
+        → filter (is_record_of (id_of (state_of t r.worlds))) (open_records log.slots) ≡ record_after (state_of t r.worlds).transaction.value (state_of t r.worlds).world.past ∷ []
     own_up t up marked =
         let x = state_of t r.worlds in
         let runs = runs_up log x (holds.goes t) up in
@@ -162,7 +162,16 @@ ends_as {D} faults image start log r T same numbered holds foreign logs held =
         let x = state_of t r.worlds in
         let here = (holds.tied t).past in
         subst (λ (u : TxNo). records_of u.value (open_records log.slots) ≡ record_after u.value (history t.value (past_of r.trace)) ∷ []) (numbered t)
-        (subst (λ (h : List Entry). filter (is_record_of (id_of x)) (open_records log.slots) ≡ record_for x.transaction.value (coordinate h) ∷ []) here (own_up t up (ap has_mark here ∙ marked)))
+        (subst (λ (h : List Entry). filter (is_record_of (id_of x)) (open_records log.slots) ≡ record_after x.transaction.value h ∷ []) here (own_up t up (ap has_mark here ∙ marked)))
+
+    named_now : (t : TxNo) → IsTrue log.is_up → has_mark (history t.value (past_of r.trace)) ≡ true → are_named (history t.value (past_of r.trace)) (records_of t.value (open_records log.slots)) ≡ true
+    named_now t up marked =
+        let x = state_of t r.worlds in
+        let here = (holds.tied t).past in
+        let there : has_mark x.world.past ≡ true = ap has_mark here ∙ marked in
+        subst (λ (u : TxNo). are_named (history t.value (past_of r.trace)) (records_of u.value (open_records log.slots)) ≡ true) (numbered t)
+        (subst (λ (h : List Entry). are_named h (filter (is_record_of (id_of x)) (open_records log.slots)) ≡ true) here
+        (named_up x (open_records log.slots) (holds.kept t) (holds.sound refl t) there (own_up t up there)))
 
     may_be : (c : List ℕ) → image log.disk c → (rs : List CommitRecord) → log_has c ≡ Ok rs → MayBeRecorded (past_of r.trace) (open_records start.slots) rs
     may_be c i rs e =
@@ -172,13 +181,18 @@ ends_as {D} faults image start log r T same numbered holds foreign logs held =
           one = λ t. subst (λ id. length (filter (is_record_of id) rs) ≤ 1) (named t) (fits t).one;
           written = λ t. let x = state_of t r.worlds in
               subst (λ (u : TxNo). (records_of u.value rs ≡ []) ⊎ (records_of u.value rs ≡ record_after u.value (history t.value (past_of r.trace)) ∷ [])) (numbered t)
-              (subst (λ (h : List Entry). (filter (is_record_of (id_of x)) rs ≡ []) ⊎ (filter (is_record_of (id_of x)) rs ≡ record_for x.transaction.value (coordinate h) ∷ [])) (holds.tied t).past
+              (subst (λ (h : List Entry). (filter (is_record_of (id_of x)) rs ≡ []) ⊎ (filter (is_record_of (id_of x)) rs ≡ record_after x.transaction.value h ∷ [])) (holds.tied t).past
               (written_there x rs (holds.named refl t) (fits t) (none_first (id_of x) rs)));
           named = λ t marked. let x = state_of t r.worlds in
               let here = (holds.tied t).past in
               subst (λ (u : TxNo). are_named (history t.value (past_of r.trace)) (records_of u.value rs) ≡ true) (numbered t)
               (subst (λ (h : List Entry). are_named h (filter (is_record_of (id_of x)) rs) ≡ true) here
               (named_there x rs (holds.kept t) (holds.named refl t) (holds.sound refl t) (fits t) (ap has_mark here ∙ marked)));
+          ever = λ t ever. let x = state_of t r.worlds in
+              let here = (holds.tied t).past in
+              subst (λ (u : TxNo). are_ever_named (history t.value (past_of r.trace)) (records_of u.value rs) ≡ true) (numbered t)
+              (subst (λ (h : List Entry). are_ever_named h (filter (is_record_of (id_of x)) rs) ≡ true) here
+              (ever_there x (filter (is_record_of (id_of x)) rs) (holds.kept t) (holds.sound refl t) (λ m. named_there x rs (holds.kept t) (holds.named refl t) (holds.sound refl t) (fits t) m) (ap (has is_record) here ∙ ever)));
           known = λ t k. let x = state_of t r.worlds in
               let unbegun : has is_begin_sent x.world.past ≡ false = ap (has is_begin_sent) (holds.tied t).past ∙ k in
               subst (λ id. filter (is_record_of id) rs ≡ []) (named t) (unknown_none x rs (holds.kept t) (runs_unbegun log x (holds.goes t) unbegun) unbegun (fits t));

@@ -1,5 +1,5 @@
 -- What holds of a run over a log that a line arms, stops or opens again.
-use Rattle.std.proofs.Common.{◌≡◌, ◌⊎◌, ◌≤◌, ◌<◌, ◌+◌, ◌-◌, ◌==◌, ℕ, suc, Bool, true, false, ◌&&◌, not, nat_le, List, [], ◌∷◌, ◌++◌, filter, length, Option, Some, None, if◌then◌else◌, is_some, refl, sym, ap, subst, ◌∙◌, inl, inr, arith, le_refl}
+use Rattle.std.proofs.Common.{◌≡◌, ◌⊎◌, ◌≤◌, ◌<◌, ◌+◌, ◌-◌, ◌==◌, ℕ, Bool, true, false, ◌&&◌, not, nat_le, List, [], ◌∷◌, ◌++◌, filter, length, Option, Some, None, if◌then◌else◌, is_some, refl, sym, ap, subst, ◌∙◌, inl, inr, arith, le_refl}
 use Rattle.std.specs.Prelude.{IsTrue, IfOk, OnOk, Result, Ok, Err, is_ok}
 use Rattle.std.proofs.lemmas.Bool.{cases_Bool}
 use Rattle.std.proofs.lemmas.Bool.Decides.{leb_tells}
@@ -9,7 +9,6 @@ use Rattle.dtx_values.specs.declared.entry.Answer.{Answer}
 use Rattle.dtx_values.specs.declared.entry.Answer.TheVariants.{Fine}
 use Rattle.dtx_values.specs.declared.entry.Entry.{Entry}
 use Rattle.dtx_values.specs.declared.entry.Entry.TheVariants.{Called, LogWord, Restarted, Stopped}
-use Rattle.dtx_values.specs.declared.entry.LogNote.{LogNote}
 use Rattle.dtx_values.specs.declared.entry.LogNote.TheVariants.{Armed, Opened}
 use Rattle.dtx_values.specs.declared.number.ActorNo.{ActorNo}
 use Rattle.dtx_values.specs.declared.number.TxNo.{TxNo}
@@ -19,13 +18,13 @@ use Rattle.dtx_values.specs.Table.{how_many}
 use Rattle.dtx_model.specs.Words.{has, latest, past_of}
 use Rattle.dtx_model.specs.AtLog.{at_log, hit, is_called, is_known, is_log_up, known, one_if, unless_said, up_of}
 use Rattle.dtx_model.specs.Caused.{IsIn, is_begin_sent}
-use Rattle.dtx_model.specs.Log.{CommitRecord, first_of, is_record_of, log_has}
+use Rattle.dtx_model.specs.Log.{CommitRecord, first_of, is_record_of}
 use Rattle.dtx_model.specs.Promotes.{identifier_of}
 use Rattle.dtx_model.specs.Replay.{Differs, Faults, Opens, Reopening, after_halt, after_restart, at_the_log, put_at, stopped_by_restart}
 use Rattle.dtx_model.specs.Steps.{Restarts, after}
 use Rattle.dtx_model.specs.Tied.{tied as is_tied_history}
 use Rattle.dtx_model.specs.Traces.{Placed, history}
-use Rattle.dtx_model.specs.World.{World, core}
+use Rattle.dtx_model.specs.World.{core}
 use Rattle.dtx_model.proofs.Histories.{past_of-snoc}
 use Rattle.outcome_law.proofs.PutAt.{log-put, many-known}
 use Rattle.outcome_law.proofs.BeginSent.{recorded_begun}
@@ -41,7 +40,7 @@ use Rattle.script_runner.specs.LogRun.{AreForeignSame, LogGoes, restart_answer}
 use Rattle.script_runner.specs.RunState.{FitsLog, GoesWith, HaveSameCalls, Holds, IsRecordKept, IsTied, RunState, Tells, halted, record_in, reopened, state_of}
 use Rattle.script_runner.proofs.Fitting.{fits_as, fits_opened, goes_opened}
 use Rattle.script_runner.proofs.FoundRecords.{all_found}
-use Rattle.script_runner.proofs.Halting.{IsAsHalted, goes_halted, goes_reopened, halted_as, halted_named, halted_sound, halted_tied, reopened_named, reopened_tied}
+use Rattle.script_runner.proofs.Halting.{goes_halted, goes_reopened, halted_as, halted_named, halted_sound, halted_tied, reopened_named, reopened_tied}
 use Rattle.script_runner.proofs.TellingOpenings.{IsJust}
 use Rattle.script_runner.proofs.Tying.{tied_same}
 

@@ -7,14 +7,16 @@ use Rattle.dtx_values.specs.declared.number.TxNo.{TxNo}
 use Rattle.dtx_model.specs.AtLog.{is_known, is_log_up}
 use Rattle.dtx_model.specs.Log.{CommitRecord, is_record_of, log_has}
 use Rattle.dtx_model.specs.Promotes.{identifier_of}
-use Rattle.dtx_model.specs.Coordinated.{coordinate}
+use Rattle.dtx_model.specs.Entries.{is_record}
+use Rattle.dtx_model.specs.Observed.{observe}
+use Rattle.dtx_model.specs.World.{is_finished_there}
 use Rattle.dtx_model.specs.Tied.{enlist_got, has_mark, is_done_there, is_tied}
 use Rattle.dtx_model.specs.Traces.{Placed, history}
 use Rattle.dtx_model.specs.Words.{all_of, each, has, past_of}
-use Rattle.coordinator_core.specs.Acting.{record_for}
 use Rattle.coordinator_log.specs.Crash.{AllHold}
 use Rattle.coordinator_log.specs.Slots.{open_records}
 use Rattle.coordinator_log.specs.State.{LogState}
+use Rattle.tx_world.specs.Recorded.{record_after}
 use Rattle.script_runner.specs.LogRun.{AreForeignSame}
 
 -- the records of a transaction of this number
@@ -29,29 +31,33 @@ HasNone rs = (t : TxNo) → records_of t.value rs ≡ []
 abbrev pub names : Info → CommitRecord → Bool
 names i r = has (λ p. (i.rm.value == p.0) && (i.enl.value == p.1)) r.enlistments
 
--- In this history each enlistment whose ENLIST the coordinator got is finished, or one of these records names it: so each that said PREPARED is named, as long as it hasn't acknowledged since the last restart and its manager
--- hasn't recovered.
+-- Each enlistment whose ENLIST the coordinator got in this history is done with the record there, or one of these records names it. So one that said PREPARED is named, as long as no acknowledgement of it came since the last
+-- restart and its manager hasn't recovered.
 abbrev pub are_named : List Entry → List CommitRecord → Bool
 are_named h rs = each (λ i. is_done_there h i || has (names i) rs) (all_of enlist_got h)
 
--- the record of transaction t that its coordinator writes after this history: it names the enlistments that said PREPARED, in order of their numbers
-abbrev pub record_after : ℕ → List Entry → CommitRecord
-record_after t h = record_for t (coordinate h)
+-- The same, but one that is finished at its own side, since it acknowledged, need not be named.
+abbrev pub are_ever_named : List Entry → List CommitRecord → Bool
+are_ever_named h rs = each (λ i. is_done_there h i || is_finished_there (observe h) i.enl.value || has (names i) rs) (all_of enlist_got h)
 
 -- The records of a log that is up, where T is the trace, newest first: of each transaction there is one where the last of `logged`, `freed`, `restarted found` and `restarted none` is `logged` or `restarted found`, and else
--- none; it is the one that its coordinator writes, and names who said PREPARED and isn't finished; and those that are no transaction's are as they were before.
+-- none; it is the one that its coordinator writes, and names each that said PREPARED and isn't done with it; where `logged` or `restarted found` ever came, each that said PREPARED, isn't done with it and isn't finished at its
+-- own side is named; and those that are no transaction's are as they were before.
 pub record AreRecorded (T : List Placed) (before rs : List CommitRecord) : Type 0 where
   pub recorded : (t : TxNo) → length (records_of t.value rs) ≡ (if has_mark (history t.value T) then 1 else 0)
   pub written : (t : TxNo) → has_mark (history t.value T) ≡ true → records_of t.value rs ≡ record_after t.value (history t.value T) ∷ []
   pub named : (t : TxNo) → has_mark (history t.value T) ≡ true → are_named (history t.value T) (records_of t.value rs) ≡ true
+  pub ever : (t : TxNo) → has is_record (history t.value T) ≡ true → are_ever_named (history t.value T) (records_of t.value rs) ≡ true
   pub others : AreForeignSame before rs
 
 -- The records of a log that is stopped, in some image that a crash can leave: of each transaction there is one at most, and none of one of which the coordinator doesn't know; a restart that finds them finds in each transaction what may
--- be found there; it is the one that its coordinator writes; where the history has a record, each that said PREPARED and isn't finished is named; and those that are no transaction's are as they were before.
+-- be found there; it is the one that its coordinator writes; where there is a record by the history, or ever was one, those that said PREPARED are named as in a log that is up; and those that are no transaction's are as they
+-- were before.
 pub record MayBeRecorded (T : List Placed) (before rs : List CommitRecord) : Type 0 where
   pub one : (t : TxNo) → length (records_of t.value rs) ≤ 1
   pub written : (t : TxNo) → (records_of t.value rs ≡ []) ⊎ (records_of t.value rs ≡ record_after t.value (history t.value T) ∷ [])
   pub named : (t : TxNo) → has_mark (history t.value T) ≡ true → are_named (history t.value T) (records_of t.value rs) ≡ true
+  pub ever : (t : TxNo) → has is_record (history t.value T) ≡ true → are_ever_named (history t.value T) (records_of t.value rs) ≡ true
   pub known : (t : TxNo) → is_known T t ≡ false → records_of t.value rs ≡ []
   pub found : (t : TxNo) → is_tied (history t.value T) (Restarted (has (is_record_of (identifier_of t.value)) rs)) ≡ true
   pub others : AreForeignSame before rs

@@ -434,7 +434,7 @@ none_recovered r t = never (subst (λ n. (n == 1) ≡ true) (bit_at-zero r) t)
     never : (0 == 1) ≡ true → ⊥
     never e = absurd cc
 
-recovered_seen : (r : ℕ) (h : List Entry) → is_in r (coordinate h).recovered ≡ true → has (is_recovery r) h ≡ true
+pub recovered_seen : (r : ℕ) (h : List Entry) → is_in r (coordinate h).recovered ≡ true → has (is_recovery r) h ≡ true
 unfolding coordinate follow
 recovered_seen r [] t = absurd (none_recovered r t)
 recovered_seen r (Recovered q ∷ h) t = by (recovered_seen r h) (r == q.value) refl

@@ -7,7 +7,7 @@ use Rattle.dtx_values.specs.declared.message.Conn.{Conn}
 use Rattle.dtx_values.specs.declared.message.Conn.TheVariants.{Enl, Again}
 use Rattle.dtx_values.specs.declared.message.Dir.TheVariants.{Up}
 use Rattle.dtx_values.specs.declared.message.Message.{Message}
-use Rattle.dtx_values.specs.declared.message.Message.TheVariants.{EnlistAck, EnlistEnlist, ReenlistAck, ReenlistAborted, ReenlistCommitted}
+use Rattle.dtx_values.specs.declared.message.Message.TheVariants.{EnlistAck, EnlistEnlist, ReenlistAck, ReenlistCommitted}
 use Rattle.dtx_values.specs.declared.number.TxNo.{TxNo}
 use Rattle.dtx_values.specs.Table.{insert_by}
 use Rattle.dtx_model.specs.declared.desk.Desk.{Desk}
@@ -30,14 +30,14 @@ use Rattle.coordinator_core.specs.Acting.{record_for}
 use Rattle.coordinator_core.specs.Kept.{Kept as CoreKept}
 use Rattle.coordinator_core.proofs.Following.{after_commit, after_waiting}
 use Rattle.tx_world.specs.AtLog.{IsOurs, Kept as LogKept, Tie, id_of}
-use Rattle.tx_world.specs.Kept.{Kept, Whole, stop_if}
+use Rattle.tx_world.specs.Kept.{Whole, stop_if}
 use Rattle.tx_world.specs.OwnCalls.{DoesAlone}
 use Rattle.tx_world.specs.Prepared.{Names, NamesPrepared}
-use Rattle.tx_world.specs.State.{TxState, sends_begin, turned}
+use Rattle.tx_world.specs.State.{TxState, sends_begin}
 use Rattle.tx_world.specs.Stepping.{DoesAt}
 use Rattle.tx_world.proofs.Keeping.{is_elsewhere, stage_same, stopped_same as stop_same}
 use Rattle.tx_world.proofs.Living.{own_ours, seen_as}
-use Rattle.tx_world.proofs.Onward.{core_is, turned_past}
+use Rattle.tx_world.proofs.Onward.{turned_past}
 use Rattle.tx_world.proofs.StillTied.{block_elsewhere, is_apart}
 use Rattle.tx_world.proofs.Unlogged.{at_alone}
 
@@ -165,10 +165,6 @@ pub named_ok : {A E : Type 0} (r : Result A E) (up : Bool) (life : ℕ) (m : Ste
     → IsOwnRun new.transaction.value new.world → new.ours ≡ old.ours → OnOk r (DoesAt up life m old new) → OnErr r (new ≡ old) → NamesPrepared old → NamesPrepared new
 named_ok (Ok a) up life m old new apart o ran same d e n = named_does up life m old new apart o ran same d n
 named_ok (Err f) up life m old new apart o ran same d e n = subst (λ (x : TxState). NamesPrepared x) (sym e) n
-
--- where nothing was done
-pub named_still : (old new : TxState) → new ≡ old → NamesPrepared old → NamesPrepared new
-named_still old new e n = subst (λ (x : TxState). NamesPrepared x) (sym e) n
 
 -- and of a step that was written
 pub named_near : {t : TxNo} {w v : World} {f g : Known} {k j : CoreKept} (up : Bool) (life : ℕ) (m : Step) (x y : LogKept) (old : TxState) → Whole t w f k x → Whole t v g j y → is_apart m ≡ true → seen_as t w x ≡ old

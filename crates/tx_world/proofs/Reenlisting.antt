@@ -1,5 +1,5 @@
 -- An enlistment comes back: what its call is answered, and what it writes and leaves where it is done.
-use Rattle.std.proofs.Common.{◌≡◌, ◌≢◌, ◌∙◌, ℕ, Bool, true, false, not, ◌&&◌, ◌||◌, List, [], ◌∷◌, find, Option, Some, None, Result, refl, ap, sym, subst, if◌then◌else◌}
+use Rattle.std.proofs.Common.{◌≡◌, ◌≢◌, ◌∙◌, ℕ, Bool, true, false, not, ◌&&◌, ◌||◌, List, [], ◌∷◌, find, Option, Some, None, Result, refl, ap, sym, if◌then◌else◌}
 use Rattle.std.proofs.lemmas.Bool.{or_left}
 use Rattle.dtx_values.specs.Ends.{is_in}
 use Rattle.dtx_values.specs.Outgoing.{Outgoing, blank, written as put_out}
@@ -25,7 +25,7 @@ use Rattle.dtx_model.specs.Observed.{is_branch}
 use Rattle.dtx_model.specs.Promotes.{identifier_of}
 use Rattle.dtx_model.specs.Steps.{Calls, block_at, entered}
 use Rattle.dtx_model.specs.Words.{each, has, onto, past_of}
-use Rattle.dtx_model.specs.World.{World, answer_at, branch_answer, core, half, is_connected, is_finished_there, reenlist_answer, reenlist_by, reenlist_facts}
+use Rattle.dtx_model.specs.World.{World, answer_at, core, half, is_connected, is_finished_there, reenlist_answer, reenlist_by, reenlist_facts}
 use Rattle.dtx_model.proofs.Heeding.{heeds_all_same}
 use Rattle.dtx_model.proofs.Quiet.{Quiet}
 use Rattle.dtx_model.proofs.Writes.{Each, e_cons}

@@ -1,5 +1,5 @@
 -- BEGIN is sent by a durable or marshal call and by a reply to promote, and by no other step.
-use Rattle.std.proofs.Common.{◌≡◌, ℕ, Bool, true, false, ◌||◌, not, List, [], ◌∷◌, Option, Some, None, is_some, refl, ap, sym, ◌∙◌, find}
+use Rattle.std.proofs.Common.{◌≡◌, ℕ, Bool, true, false, ◌||◌, not, List, [], ◌∷◌, Option, Some, None, is_some, refl}
 use Rattle.dtx_values.specs.declared.call.Call.{Call}
 use Rattle.dtx_values.specs.declared.call.Call.TheVariants.{Durable, Marshal, Do}
 use Rattle.dtx_values.specs.declared.entry.Ask.TheVariants.{Promote as AskPromote, Single as AskSingle}
@@ -20,7 +20,7 @@ use Rattle.dtx_model.specs.Acts.{act_entries}
 use Rattle.dtx_model.specs.Arrivals.{local_got}
 use Rattle.dtx_model.specs.Caused.{is_begin_sent}
 use Rattle.dtx_model.specs.Half.{Half, sees}
-use Rattle.dtx_model.specs.Replies.{fits, reply_entries}
+use Rattle.dtx_model.specs.Replies.{reply_entries}
 use Rattle.dtx_model.specs.Steps.{Calls, Replies, Acts, Delivers, block_at, delivered}
 use Rattle.dtx_model.specs.Wires.{in_transit}
 use Rattle.dtx_model.specs.Words.{each, has}

@@ -10,3 +10,4 @@ pub mod Managers
 pub mod OwnCalls
 pub mod Prepared
 pub mod Sending
+pub mod Recorded

@@ -1,5 +1,4 @@
 use Rattle.std.proofs.Common.{◌≡◌, ◌∙◌, Option, Some, None, IfSome, refl, subst, sym}
-use Rattle.dtx_model.specs.declared.branch.Branch.{Branch}
 use Rattle.tx_world.proofs.managers.manager_of.Goals as goal
 
 -- what holds of each that is there holds where none is
