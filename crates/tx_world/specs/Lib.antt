@@ -11,3 +11,5 @@ pub mod OwnCalls
 pub mod Prepared
 pub mod Recorded
 pub mod Sending
+pub mod Sending
+pub mod Recorded
