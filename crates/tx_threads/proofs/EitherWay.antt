@@ -1,5 +1,6 @@
 -- What was done with the log, and what was done without it, was done at a log in some state.
-use Rattle.std.proofs.Common.{◌≡◌, ℕ, Bool, true, false, refl, ap, sym, ◌∙◌, if◌then◌else◌}
+use Rattle.std.proofs.Common.{◌≡◌, ℕ, true, ap, sym, ◌∙◌, if◌then◌else◌}
+use Rattle.std.specs.Prelude.{Result, Ok, Err, IfOk}
 use Rattle.dtx_values.specs.declared.number.ActorNo.{ActorNo}
 use Rattle.dtx_model.specs.Steps.{Step}
 use Rattle.coordinator_log.specs.State.{LogState}
@@ -30,3 +31,8 @@ enters_alone a n r old new e = more DoesAlone IsDone done_alone a n r old new e
 
 pub enters_over : {D : Type 0} (faults : D → ℕ) (log : LogState D) (a : ActorNo) (n : ℕ) (r : Turned) (old new : Cell) → Enters (λ m x y. Does faults m x log y log) a n r old new → Enters IsDone a n r old new
 enters_over faults log a n r old new e = more (λ (m : Step) (x y : TxState). Does faults m x log y log) IsDone (done_over faults log log) a n r old new e
+
+pub ok_over : {D E : Type 0} (faults : D → ℕ) (log : LogState D) (a : ActorNo) (n : ℕ) (result : Result Turned E) (old new : Cell) → IfOk result (λ r. Enters (λ m x y. Does faults m x log y log) a n r old new)
+    → IfOk result (λ r. Enters IsDone a n r old new)
+ok_over faults log a n (Ok r) old new e = enters_over faults log a n r old new e
+ok_over faults log a n (Err f) old new e = tt
