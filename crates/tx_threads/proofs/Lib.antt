@@ -1,5 +1,6 @@
 pub mod Asked
 pub mod Blocks
+pub mod EitherWay
 pub mod Entered
 pub mod Given
 pub mod Kept

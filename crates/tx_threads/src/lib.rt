@@ -4,6 +4,7 @@
 mod board;
 mod cell;
 mod cells;
+mod choosing;
 mod error;
 mod lent;
 mod posting;

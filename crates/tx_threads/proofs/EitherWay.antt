@@ -1,0 +1,38 @@
+-- What was done with the log, and what was done without it, was done at a log in some state.
+use Rattle.std.proofs.Common.{◌≡◌, ℕ, true, ap, sym, ◌∙◌, if◌then◌else◌}
+use Rattle.std.specs.Prelude.{Result, Ok, Err, IfOk}
+use Rattle.dtx_values.specs.declared.number.ActorNo.{ActorNo}
+use Rattle.dtx_model.specs.Steps.{Step}
+use Rattle.coordinator_log.specs.State.{LogState}
+use Rattle.tx_world.specs.State.{TxState}
+use Rattle.tx_world.specs.OwnCalls.{DoesAlone}
+use Rattle.tx_world.specs.Stepping.{Does}
+use Rattle.tx_threads.specs.Cell.{Cell}
+use Rattle.tx_threads.specs.Entering.{Enters, IsDone}
+use Rattle.tx_threads.specs.declared.turns.Turned.{Turned}
+use Rattle.tx_threads.proofs.Kept.{turned_silent}
+
+pub done_alone : (m : Step) (x y : TxState) → DoesAlone m x y → IsDone m x y
+done_alone m x y d = (
+  true,
+  0,
+  record { transaction = d.transaction; world = d.world ∙ turned_silent x.transaction.value x.world m; life = d.life ∙ sym (ap (λ b. if b then 0 else x.life) d.silent) },
+)
+
+pub done_over : {D : Type 0} (faults : D → ℕ) (from to : LogState D) (m : Step) (x y : TxState) → Does faults m x from y to → IsDone m x y
+done_over faults from to m x y d = (from.is_up, from.life, record { transaction = d.transaction; world = d.world; life = d.life })
+
+more : (P Q : Step → TxState → TxState → Type 0) → ((m : Step) (x y : TxState) → P m x y → Q m x y) → (a : ActorNo) (n : ℕ) (r : Turned) (old new : Cell) → Enters P a n r old new → Enters Q a n r old new
+more P Q f a n r old new e =
+    record { call = e.call; next = e.next; answered = e.answered; done = f _ old.tx new.tx e.done; ours = e.ours; unsure = e.unsure; row = e.row; others = e.others; out = e.out }
+
+pub enters_alone : (a : ActorNo) (n : ℕ) (r : Turned) (old new : Cell) → Enters DoesAlone a n r old new → Enters IsDone a n r old new
+enters_alone a n r old new e = more DoesAlone IsDone done_alone a n r old new e
+
+pub enters_over : {D : Type 0} (faults : D → ℕ) (log : LogState D) (a : ActorNo) (n : ℕ) (r : Turned) (old new : Cell) → Enters (λ m x y. Does faults m x log y log) a n r old new → Enters IsDone a n r old new
+enters_over faults log a n r old new e = more (λ (m : Step) (x y : TxState). Does faults m x log y log) IsDone (done_over faults log log) a n r old new e
+
+pub ok_over : {D E : Type 0} (faults : D → ℕ) (log : LogState D) (a : ActorNo) (n : ℕ) (result : Result Turned E) (old new : Cell) → IfOk result (λ r. Enters (λ m x y. Does faults m x log y log) a n r old new)
+    → IfOk result (λ r. Enters IsDone a n r old new)
+ok_over faults log a n (Ok r) old new e = enters_over faults log a n r old new e
+ok_over faults log a n (Err f) old new e = tt
