@@ -11,5 +11,3 @@ pub mod OwnCalls
 pub mod Prepared
 pub mod Recorded
 pub mod Sending
-pub mod Sending
-pub mod Recorded
