@@ -90,7 +90,7 @@ fn copied(alloc: Global, from: &Entries) -> Result<Entries, AllocError>
     let mut to = Entries::with_capacity(alloc, n)?;
     to.reserve(n)?;
     for i in 0..n {
-        to.push_reserved(from.at(i));
+        to.push_reserved(&from.at(i));
     }
     Ok(to)
 }
