@@ -19,10 +19,7 @@ fn keep(managers: &mut Vec<Option<RmNo>>, body: Body)
 }
 
 /// The manager of each enlistment that the lines make, at the place of its number.
-pub(crate) fn managers_of(
-    alloc: Global,
-    lines: &[Line],
-) -> Result<Vec<Option<RmNo>>, AllocError>
+pub(crate) fn managers_of(alloc: Global, lines: &[Line]) -> Result<Vec<Option<RmNo>>, AllocError>
     ensures full { IfOk result (λ v. length v.items ≡ EnlNo.MAX) }
     ensures managers { IfOk result (λ v. AreManagers lines.now lines.now v.items) }
 {
