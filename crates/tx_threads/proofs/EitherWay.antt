@@ -1,5 +1,5 @@
 -- What was done with the log, and what was done without it, was done at a log in some state.
-use Rattle.std.proofs.Common.{◌≡◌, ℕ, true, ap, sym, ◌∙◌, if◌then◌else◌}
+use Rattle.std.proofs.Common.{ℕ, true, ap, sym, ◌∙◌, if◌then◌else◌}
 use Rattle.std.specs.Prelude.{Result, Ok, Err, IfOk}
 use Rattle.dtx_values.specs.declared.number.ActorNo.{ActorNo}
 use Rattle.dtx_model.specs.Steps.{Step}

@@ -1,11 +1,11 @@
 -- What a cell keeps after it heard of a stop or an opening of the log.
-use Rattle.std.proofs.Common.{◌≡◌, ℕ, Bool, true, false, List, refl, ap, sym, subst, ◌∙◌, if◌then◌else◌}
+use Rattle.std.proofs.Common.{◌≡◌, ℕ, Bool, true, false, List, refl, sym, subst, ◌∙◌, if◌then◌else◌}
 use Rattle.dtx_values.specs.declared.call.Call.{Call}
 use Rattle.dtx_values.specs.declared.number.TxNo.{TxNo}
 use Rattle.dtx_values.specs.declared.script.Line.{Line}
 use Rattle.dtx_model.specs.Caused.{IsCallOf, IsIn, has_object, is_as_planned, plans_of}
 use Rattle.dtx_model.specs.Grammar.{OfTransaction, is_made}
-use Rattle.dtx_model.specs.Steps.{Restarts, Step, Stops, after}
+use Rattle.dtx_model.specs.Steps.{Restarts, Stops, after}
 use Rattle.dtx_model.specs.Words.{always}
 use Rattle.dtx_model.specs.World.{World}
 use Rattle.script_calls.specs.Prefix.{IsPrefix}
