@@ -5,10 +5,10 @@ use Rattle.dtx_values.specs.declared.number.ActorNo.{ActorNo}
 use Rattle.dtx_model.specs.Steps.{Step}
 use Rattle.coordinator_log.specs.State.{LogState}
 use Rattle.tx_world.specs.State.{TxState}
-use Rattle.tx_world.specs.OwnCalls.{DoesAlone}
-use Rattle.tx_world.specs.Stepping.{Does}
+use Rattle.tx_world.specs.OwnCalls.{DoesAlone, DoesKthAlone}
+use Rattle.tx_world.specs.Stepping.{Does, DoesKth}
 use Rattle.tx_threads.specs.Cell.{Cell}
-use Rattle.tx_threads.specs.Entering.{Enters, IsDone}
+use Rattle.tx_threads.specs.Entering.{Enters, IsDone, IsKthDone}
 use Rattle.tx_threads.specs.declared.turns.Turned.{Turned}
 use Rattle.tx_threads.proofs.Kept.{turned_silent}
 
@@ -36,3 +36,9 @@ pub ok_over : {D E : Type 0} (faults : D → ℕ) (log : LogState D) (a : ActorN
     → IfOk result (λ r. Enters IsDone a n r old new)
 ok_over faults log a n (Ok r) old new e = enters_over faults log a n r old new e
 ok_over faults log a n (Err f) old new e = tt
+
+pub kth_alone : (k : ℕ) (x y : TxState) → DoesKthAlone k x y → IsKthDone k x y
+kth_alone k x y d = record { name = d.name; step = d.step; stands = d.stands; named = d.named; planned = d.planned; done = done_alone d.step x y d.done }
+
+pub kth_over : {D : Type 0} (faults : D → ℕ) (from to : LogState D) (k : ℕ) (x y : TxState) → DoesKth faults k x from y to → IsKthDone k x y
+kth_over faults from to k x y d = record { name = d.name; step = d.step; stands = d.stands; named = d.named; planned = d.planned; done = done_over faults from to d.step x y d.done }

@@ -25,7 +25,9 @@ use tx_world::TxWorld;
 
 mod asking;
 mod entering;
+mod following;
 mod stepping;
+mod tying;
 
 /// What lies under a transaction's lock: the transaction, the calls of each actor there, and the replies that are out.
 #[derive(Drop)]

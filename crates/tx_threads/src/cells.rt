@@ -1,7 +1,9 @@
 //! The cells of a run: the lock and the board of each transaction.
 ghost use Rattle.std.specs.Prelude.{◌≡◌, ◌==◌, [], IfOk, IsSome, MatchOption, None, Some, length, map, true};
 ghost use Rattle.dtx_model.specs.Grammar.{OfTransaction, is_made, makes, same_name};
-ghost use Rattle.dtx_model.specs.Words.{has};
+ghost use Rattle.dtx_model.specs.Caused.{calls_in};
+ghost use Rattle.dtx_model.specs.Plans.{manager_of};
+ghost use Rattle.dtx_model.specs.Words.{has, past_of};
 ghost use Rattle.once_cell.specs.Once.{Agrees, cell_name};
 ghost use Rattle.script_calls.specs.Prefix.{IsPrefix};
 ghost use Rattle.script_calls.specs.RowsOf.{rows_of};
@@ -10,8 +12,9 @@ ghost use Rattle.tx_threads.specs.Cell.{IsThreadable};
 
 use crate::board::{BoardNote, Posted};
 use crate::cell::CellState;
+use crate::managers::managers_of;
 use crate::run::Run;
-use dtx_values::{Body, Call, Line, Opening, Script, TxNo};
+use dtx_values::{Body, Call, EnlNo, Line, Opening, RmNo, Script, TxNo};
 use once_cell::race::OnceBox;
 use script_calls::{Plans, Rows, transaction_rows};
 use std::alloc::{AllocError, Global};
@@ -97,15 +100,21 @@ impl<N: Run> TxCell<N> {
 #[derive(Drop)]
 pub struct Cells<N: Run> {
     cells: Vec<TxCell<N>>,
+    /// The manager of each enlistment of the script, at the place of its number.
+    managers: Vec<Option<RmNo>>,
 }
 
 impl<N: Run> Model for Cells<N> {
-    ghost use Rattle.std.specs.Prelude.{List};
+    ghost use Rattle.std.specs.Prelude.{◌≡◌, List, length};
+    ghost use Rattle.dtx_values.specs.declared.number.TheConstants.EnlNo.{MAX};
     ghost use Rattle.tx_threads.specs.Board.{Named};
+    ghost use Rattle.tx_threads.specs.Managers.{AreManagers};
 
     ghost Value = { List Named };
 
     ghost view = { λ c. c.cells.items };
+
+    ghost invariant = { λ c. (length c.managers.items ≡ MAX) × AreManagers N.script N.script c.managers.items };
 }
 
 impl<N: Run> Cells<N> {
@@ -123,6 +132,7 @@ impl<N: Run> Cells<N> {
         let all = transaction_rows(alloc, &plans)?;
         Ok(Cells {
             cells: cells_of(alloc, s.lines(), all)?,
+            managers: managers_of(alloc, s.lines())?,
         })
     }
 
@@ -136,6 +146,13 @@ impl<N: Run> Cells<N> {
             Some(cell) => cell,
             None => unreachable!(),
         }
+    }
+
+    /// The manager at which the script enlists; `None` for a volatile, and where no line makes the enlistment.
+    pub fn manager(&self, e: EnlNo) -> Option<RmNo>
+        ensures { result ≡ manager_of (calls_in N.script (past_of N.script)) e.value }
+    {
+        self.managers[e.index()]
     }
 
     /// A note of the board of a transaction of the run. It knows nothing yet.
@@ -155,7 +172,7 @@ impl<N: Run> Cells<N> {
     pub fn into_states(self, alloc: Global) -> Result<Vec<CellState<N>>, AllocError>
         ensures { IfOk result (λ v. length v.items ≡ length self) }
     {
-        let Cells { cells } = self;
+        let Cells { cells, managers: _ } = self;
         let mut states = Vec::with_capacity(alloc, cells.len())?;
         for cell in cells {
             let TxCell {

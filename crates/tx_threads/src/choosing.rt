@@ -1,12 +1,14 @@
 //! The calls of a transaction's state that may be lent the log's.
-ghost use Rattle.std.specs.Prelude.{◌≡◌, IfErr, IfNone, IfOk, MatchOption, None, Ok, Some, false, true};
+ghost use Rattle.std.specs.Prelude.{◌≡◌, ◌⊎◌, IfErr, IfNone, IfOk, MatchOption, None, Ok, Some, false, true};
 ghost use Rattle.dtx_values.specs.declared.note.Note.{Note};
-ghost use Rattle.dtx_model.specs.Steps.{Replies};
+ghost use Rattle.dtx_model.specs.Steps.{Replies, pending};
+ghost use Rattle.dtx_model.specs.Words.{kth};
 ghost use Rattle.tx_threads.specs.Cell.{MayReply};
-ghost use Rattle.tx_threads.specs.Entering.{Enters, IsDone, may_promote_at, next_of, put_off};
+ghost use Rattle.tx_threads.specs.Entering.{Enters, IsDone, IsKthDone, may_promote_at, next_of, put_off};
 ghost use Rattle.tx_threads.specs.Ties.{IsCause};
 ghost use Rattle.tx_threads.specs.Turns.{is_due, same_note, unmarked, with_tx};
 ghost use Rattle.tx_threads.specs.declared.turns.Turned.{Turned};
+ghost use Rattle.tx_world.specs.Stepping.{needs_log};
 
 use crate::cell::CellState;
 use crate::error::TurnError;
@@ -16,7 +18,7 @@ use crate::turns::Turned;
 use dtx_values::{ActorNo, EnlNo, Note, Reply};
 use outside::Disk;
 
-#[tactic(auto, using(crate::proofs::EitherWay::done_alone, crate::proofs::EitherWay::done_over, crate::proofs::EitherWay::enters_alone, crate::proofs::EitherWay::enters_over))]
+#[tactic(auto, using(crate::proofs::EitherWay::done_alone, crate::proofs::EitherWay::done_over, crate::proofs::EitherWay::enters_alone, crate::proofs::EitherWay::enters_over, crate::proofs::EitherWay::kth_alone, crate::proofs::EitherWay::kth_over))]
 impl<N: Run> CellState<N> {
     /// Enters the actor's next call here, where it is of this line. Where it isn't, or waits, nothing is done. The log is lent where the line is a durable or a marshal.
     ///
@@ -37,6 +39,29 @@ impl<N: Run> CellState<N> {
         match log {
             Some(log) => self.enter_with(log, a, line),
             None => self.enter_alone(a, line),
+        }
+    }
+
+    /// Does the k-th pending step, from 1; false exactly where fewer than k are pending, or k is 0. A reply is the planned one. The log is lent where the step needs it: it is the coordinator's act, or a reply to
+    /// promote. Where an append or a free in it stopped the log, `stopped` is written at the log too.
+    ///
+    /// # Errors
+    ///
+    /// [`TurnError::Differs`] where a log is lent that is up and doesn't tie with the transaction, and [`TurnError::Memory`] where memory ran out; nothing was done then.
+    pub fn do_step<D: Disk>(
+        &mut self,
+        log: Option<&mut LogState<D, N>>,
+        k: u32,
+    ) -> Result<bool, TurnError>
+        requires lent { IfNone log (needs_log self.old.tx.world k ≡ false) }
+        ensures none { result ≡ Ok false → (kth (pending self.old.tx.world) k ≡ None) × (self.new ≡ self.old) }
+        ensures some { result ≡ Ok true → IsKthDone k self.old.tx self.new.tx }
+        ensures same { self.new ≡ with_tx self.new.tx self.old }
+        ensures cause { IfErr result (λ e. (self.new ≡ self.old) × MatchOption log.entry (e ≡ TurnError.Memory) (λ l. (e ≡ TurnError.Memory) ⊎ IsCause self.old.tx l.now.log e)) }
+    {
+        match log {
+            Some(log) => self.do_step_with(log, k),
+            None => self.do_step_alone(k),
         }
     }
 

@@ -13,6 +13,7 @@ ghost use Rattle.tx_threads.specs.LogEntering.{EntersLog, IsReopened, next_at_lo
 ghost use Rattle.tx_threads.specs.Ties.{IsCause, TiesWith};
 ghost use Rattle.tx_threads.specs.Turns.{with_tx};
 ghost use Rattle.tx_threads.specs.declared.turns.Turned.{Turned};
+ghost use Rattle.tx_world.specs.AtLog.{AtMostOne};
 ghost use Rattle.tx_world.specs.Stepping.{DoesKth};
 
 use crate::cell::CellState;
@@ -90,7 +91,8 @@ impl<D: Disk, N: Run> LogState<D, N> {
 
     /// The log.
     pub(crate) fn log(&self) -> &Log<D>
-        ensures { result.now ≡ self.now.log }
+        ensures same { result.now ≡ self.now.log }
+        ensures once { (id : ℕ) → IsTrue D.honest → IsTrue self.now.log.is_up → AtMostOne id (open_records self.now.log.slots) }
     {
         &self.log
     }

@@ -1,12 +1,13 @@
 //! What is to be done next, and replies that are out.
-ghost use Rattle.std.specs.Prelude.{◌≡◌, ◌++◌, ◌∷◌, [], Ok, IfErr, IfOk, OnOk, true, false};
+ghost use Rattle.std.specs.Prelude.{◌≡◌, ◌++◌, ◌∷◌, [], Ok, IfErr, IfOk, IfSome, OnOk, is_some, true, false};
 ghost use Rattle.dtx_values.specs.declared.note.Note.{Note};
-ghost use Rattle.dtx_model.specs.Steps.{Replies};
+ghost use Rattle.dtx_model.specs.Steps.{Replies, pending};
+ghost use Rattle.dtx_model.specs.Words.{kth};
 ghost use Rattle.tx_threads.specs.Cell.{MayReply};
 ghost use Rattle.tx_threads.specs.Ties.{IsCause, TiesWith};
 ghost use Rattle.tx_threads.specs.Turns.{is_due, is_out, is_that, is_to, same_note, taken_off, turn_of, unmarked, with_tx};
 ghost use Rattle.tx_world.specs.OwnCalls.{DoesAlone};
-ghost use Rattle.tx_world.specs.Stepping.{Does, is_to_promote};
+ghost use Rattle.tx_world.specs.Stepping.{Does, is_to_promote, reply_in};
 
 use super::CellState;
 use crate::error::TurnError;
@@ -55,17 +56,25 @@ fn take_off(out: &mut Vec<(EnlNo, Note)>, x: (EnlNo, Note))
     out.retain(|y| !is_to(x, *y));
 }
 
-/// Whether a reply of the enlistment to this note is pending.
-fn is_due(world: &TxWorld, x: (EnlNo, Note)) -> bool
-    ensures { result ≡ is_due world.now.world x }
+/// The place of the pending reply of the enlistment to this note, from 1; `None` where none is pending.
+fn place_of(world: &TxWorld, x: (EnlNo, Note)) -> Option<u32>
+    ensures due { is_some result ≡ is_due world.now.world x }
+    ensures place { IfSome result (λ k. is_that x (reply_in world.now.world (kth (pending world.now.world) k)) ≡ true) }
 {
     let count = world.pending();
     for k in 0..count {
         if is_that(x, world.due_at(k + 1)) {
-            return true;
+            return Some(k + 1);
         }
     }
-    false
+    None
+}
+
+/// Whether a reply of the enlistment to this note is pending.
+fn is_due(world: &TxWorld, x: (EnlNo, Note)) -> bool
+    ensures { result ≡ is_due world.now.world x }
+{
+    place_of(world, x).is_some()
 }
 
 impl<N: Run> CellState<N> {
@@ -97,6 +106,17 @@ impl<N: Run> CellState<N> {
         self.out.reserve(1)?;
         self.out.push_reserved((e, n));
         Ok(())
+    }
+
+    /// Takes the mark off that the reply of the enlistment to this note is out. The place of that reply among the pending steps, from 1; `None` where it isn't pending any more.
+    pub fn unmark(&mut self, e: EnlNo, n: Note) -> Option<u32>
+        ensures unmarked { self.new ≡ unmarked (e, n) self.old }
+        ensures due { is_some result ≡ is_due self.old.tx.world (e, n) }
+        ensures place { IfSome result (λ k. is_that (e, n) (reply_in self.old.tx.world (kth (pending self.old.tx.world) k)) ≡ true) }
+    {
+        let asked = (e, n);
+        take_off(&mut self.out, asked);
+        place_of(&self.world, asked)
     }
 
     /// Takes the mark off, and enters the reply of the enlistment to this note, which isn't one to promote. False exactly where no reply of it to this note is pending, and then only the mark goes.

@@ -16,6 +16,13 @@ use coordinator_log::Log;
 use outside::Disk;
 
 impl<N: Run> CellState<N> {
+    /// Whether the k-th pending step, from 1, needs the log: it is the coordinator's act, or a reply to promote.
+    pub fn needs_log(&self, k: u32) -> bool
+        ensures { result ≡ needs_log self.now.tx.world k }
+    {
+        self.world.needs_log(k)
+    }
+
     /// Does the k-th pending step, from 1, where it needs no log; false exactly where fewer than k are pending, or k is 0. A reply is the planned one.
     ///
     /// # Errors
