@@ -3,20 +3,15 @@ ghost use Rattle.std.specs.Prelude.{◌≡◌, ◌≢◌, IfErr, IfSome, IsSome,
 ghost use Rattle.dtx_model.specs.Replies.{fits};
 ghost use Rattle.dtx_model.specs.Steps.{pending};
 ghost use Rattle.dtx_model.specs.Words.{kth};
-ghost use Rattle.tx_threads.specs.Board.{board_of};
-ghost use Rattle.tx_threads.specs.Cell.{MayReply};
-ghost use Rattle.tx_threads.specs.Entering.{IsKthDone};
-ghost use Rattle.tx_threads.specs.Turns.{with_tx};
+ghost use Rattle.tx_cells.specs.Board.{board_of};
+ghost use Rattle.tx_cells.specs.Cell.{MayReply};
+ghost use Rattle.tx_cells.specs.Entering.{IsKthDone};
+ghost use Rattle.tx_cells.specs.Turns.{with_tx};
 
-use crate::cell::CellState;
-use crate::cells::Cells;
-use crate::error::TurnError;
-use crate::run::Run;
-use crate::shared_log::SharedLog;
-use crate::turns::Turn;
 use dtx_values::{Differs, EnlNo, Note, Reply, Resource, TxNo};
 use outside::{Disk, Gate};
 use std::sync::{Mutex, Wait};
+use tx_cells::{CellState, Cells, Run, SharedLog, Turn, TurnError};
 
 /// Whether the reply fits the note.
 fn fits(r: Reply, n: Note) -> bool
@@ -62,7 +57,7 @@ fn is_of<N: Run>(state: &CellState<N>, t: TxNo) -> Result<(), TurnError>
 }
 
 /// Does the k-th pending step, from 1, inside the lock of its transaction. A step that needs the log takes the lock of the log for as long.
-#[tactic(auto, using(crate::proofs::EitherWay::kth_alone, crate::proofs::EitherWay::kth_over))]
+#[tactic(auto, using(tx_cells::proofs::EitherWay::kth_alone, tx_cells::proofs::EitherWay::kth_over))]
 fn do_turn<D: Disk, N: Run, R: Wait>(
     rt: &R,
     state: &mut CellState<N>,
@@ -76,7 +71,7 @@ fn do_turn<D: Disk, N: Run, R: Wait>(
     if !state.needs_log(k) {
         return state.do_step_alone(k);
     }
-    let mut held = log.lock.lock(rt);
+    let mut held = log.state().lock(rt);
     state.do_step_with(&mut held, k)
 }
 
@@ -101,7 +96,7 @@ fn take_reply<D: Disk, N: Run, R: Wait>(
     if n != Note::Promote {
         return state.take_back_alone(e, n, r);
     }
-    let held = log.lock.lock(rt);
+    let held = log.state().lock(rt);
     state.take_back_with(&held, e, n, r)
 }
 
@@ -123,7 +118,7 @@ pub fn help_one<D: Disk, G: Gate, N: Run, R: Wait>(
     requires resources { length resources.now ≡ N.objects }
 {
     let cell = cells.cell(t);
-    let mut state = cell.lock.lock(rt);
+    let mut state = cell.state().lock(rt);
     is_of(&state, t)?;
     let (e, n) = match state.next_turn() {
         Turn::Nothing => return Ok(false),
@@ -134,7 +129,7 @@ pub fn help_one<D: Disk, G: Gate, N: Run, R: Wait>(
     drop(state);
     let reply = ask(rt, cells, resources, t, e, n);
     gate.at(t.get() as u16, e.get() as u16);
-    let mut state = cell.lock.lock(rt);
+    let mut state = cell.state().lock(rt);
     is_of(&state, t)?;
     take_reply(rt, &mut state, log, e, n, reply)?;
     Ok(true)

@@ -1,0 +1,242 @@
+-- What a cell keeps, at its start, after a step, and after a call.
+use Rattle.std.proofs.Common.{◌≡◌, ℕ, zero, suc, ◌==◌, Bool, true, false, ◌&&◌, ◌||◌, not, List, [], ◌∷◌, Option, Some, None, is_some, refl, ap, sym, subst, ◌∙◌, inl, inr, if◌then◌else◌}
+use Rattle.std.proofs.lemmas.Bool.{eqb-true}
+use Rattle.dtx_values.specs.declared.call.Call.{Call}
+use Rattle.dtx_values.specs.declared.call.Call.TheVariants.{Await, Do, Durable, Marshal}
+use Rattle.dtx_values.specs.declared.number.ActorNo.{ActorNo}
+use Rattle.dtx_values.specs.declared.number.TxNo.{TxNo}
+use Rattle.dtx_values.specs.declared.script.Body.{Body}
+use Rattle.dtx_values.specs.declared.script.Body.TheVariants.{Complete as CompleteLine, Do as DoLine, Durable as DurableLine, Gone as GoneLine, Marshal as MarshalLine, Reenlist as ReenlistLine}
+use Rattle.dtx_values.specs.declared.script.Line.{Line}
+use Rattle.dtx_model.specs.Words.{always, has, kth}
+use Rattle.dtx_model.specs.Grammar.{Name, OfTransaction, OfEnlistment, OfClone, OfScope, is_made}
+use Rattle.dtx_model.specs.Calls.{call_of, complete_call, gone_call, reenlist_call, transaction_of, transaction_with}
+use Rattle.dtx_model.specs.Contexts.{lines_before}
+use Rattle.dtx_model.specs.Outcome.{is_empty}
+use Rattle.dtx_model.specs.declared.waiting.EnteredCall.{EnteredCall}
+use Rattle.dtx_model.specs.World.{World, half}
+use Rattle.dtx_model.specs.Steps.{Step, Calls, Stops, after, block_at, entered, pending}
+use Rattle.dtx_model.specs.Caused.{IsCallOf, IsIn, MayAnswer, has_object, is_as_planned, made_by, plans_of}
+use Rattle.script_calls.specs.declared.rows.Due.{Due}
+use Rattle.script_calls.specs.Prefix.{IsPrefix}
+use Rattle.script_calls.specs.Rows.{next_in, row_at}
+use Rattle.script_calls.specs.SeenRow.{SeenRow}
+use Rattle.script_calls.proofs.Entered.{next_line_new, next_name_new}
+use Rattle.outcome_law.proofs.ScopeCalls.{given_call, is_scope_call}
+use Rattle.outcome_law.proofs.Tests.{eq_self}
+use Rattle.tx_world.specs.State.{TxState, is_maker, is_name, may_enter, sends_begin, turned}
+use Rattle.tx_world.specs.OwnCalls.{is_alone, is_do}
+use Rattle.tx_cells.specs.Cell.{IsKept, IsThreadable, is_do_line, untouched}
+use Rattle.tx_cells.specs.Entering.{is_promoting, is_promoting_line, later_if, may_promote_at, must_wait, put_off}
+use Rattle.tx_cells.specs.declared.turns.Turned.TheVariants.{NotNext}
+use Rattle.tx_cells.proofs.Replies.{IsReplyRight, right_step, right_stop}
+
+-- at the start: no call was entered, and no entry is there
+none_in : (n : ℕ) (a : ActorNo) (c : Call) → IsIn [] n a c → ⊥
+none_in n a c i = by i.place i.stands
+  where
+    by : (k : ℕ) → kth {A = EnteredCall} [] k ≡ Some (record { line = n; actor = a; call = c }) → ⊥
+    by zero e = cc
+    by (suc k) e = cc
+
+pub kept_new : (s : List Line) (k : ℕ) (t : TxNo) (rows : List (SeenRow Call)) → IsThreadable s → is_made s (OfTransaction t.value) ≡ true → IsPrefix s t.value rows [] → IsKept s k (untouched t) rows
+kept_new s k t rows script named prefix = record { script = script; named = named; given = λ n a c i. absurd (none_in n a c i); in_order = prefix; planned = refl }
+
+-- the calls, and the replies, after a step, with the stop that may follow it
+turned_calls : (up : Bool) (t : ℕ) (w : World) (m : Step) → (turned up t w m).calls ≡ entered m w.calls
+unfolding after
+turned_calls up t w m = by (sends_begin t w m && not up)
+  where
+    by : (c : Bool) → (if c then after t (after t w m) Stops else after t w m).calls ≡ entered m w.calls
+    by true = refl
+    by false = refl
+
+turned_right : (s : List Line) (k : ℕ) (up : Bool) (t : ℕ) (w : World) (m : Step) → IsReplyRight (plans_of s) (has_object s k) m → always (is_as_planned (plans_of s) (has_object s k)) w.past ≡ true
+    → always (is_as_planned (plans_of s) (has_object s k)) (turned up t w m).past ≡ true
+unfolding after block_at
+turned_right s k up t w m q p = by (sends_begin t w m && not up)
+  where
+    by : (c : Bool) → always (is_as_planned (plans_of s) (has_object s k)) (if c then after t (after t w m) Stops else after t w m).past ≡ true
+    by true = right_stop (plans_of s) (has_object s k) (after t w m).past (right_step (plans_of s) (has_object s k) t w m q p)
+    by false = right_step (plans_of s) (has_object s k) t w m q p
+
+-- So after a step that enters no call,
+pub kept_step : (s : List Line) (k : ℕ) (up : Bool) (x y : TxState) (rows : List (SeenRow Call)) (m : Step) → entered m x.world.calls ≡ x.world.calls → IsReplyRight (plans_of s) (has_object s k) m
+    → y.transaction ≡ x.transaction → y.world ≡ turned up x.transaction.value x.world m → IsKept s k x rows → IsKept s k y rows
+kept_step s k up x y rows m none q t w kept =
+    let calls : y.world.calls ≡ x.world.calls = ap (λ (v : World). v.calls) w ∙ (turned_calls up x.transaction.value x.world m ∙ none) in
+    record {
+      script = kept.script;
+      named = subst (λ (u : TxNo). is_made s (OfTransaction u.value) ≡ true) (sym t) kept.named;
+      given = λ n a c i. subst (λ (u : TxNo). IsCallOf s u.value n a c) (sym t) (kept.given n a c (subst (λ ks. IsIn ks n a c) calls i));
+      in_order = subst (λ (u : TxNo). IsPrefix s u.value rows y.world.calls) (sym t) (subst (IsPrefix s x.transaction.value rows) (sym calls) kept.in_order);
+      planned = subst (λ (v : World). always (is_as_planned (plans_of s) (has_object s k)) v.past ≡ true) (sym w) (turned_right s k up x.transaction.value x.world m q kept.planned);
+    }
+
+-- and after a call that the script gives, with its row one further.
+given_more : (s : List Line) (t : ℕ) (k : EnteredCall) (ks : List EnteredCall) → IsCallOf s t k.line k.actor k.call → ((n : ℕ) (a : ActorNo) (c : Call) → IsIn ks n a c → IsCallOf s t n a c)
+    → (n : ℕ) (a : ActorNo) (c : Call) → IsIn (k ∷ ks) n a c → IsCallOf s t n a c
+given_more s t k ks mine given n a c i = by i.place i.stands
+  where
+    by : (j : ℕ) → kth (k ∷ ks) j ≡ Some (record { line = n; actor = a; call = c }) → IsCallOf s t n a c
+    by zero e = absurd cc
+    by (suc zero) e =
+        let same : k ≡ record { line = n; actor = a; call = c } = cc in
+        subst (λ (j : EnteredCall). IsCallOf s t j.line j.actor j.call) same mine
+    by (suc (suc j)) e = given n a c (record { place = suc j; stands = e })
+
+pub kept_call : (s : List Line) (k : ℕ) (up : Bool) (x y : TxState) (rows rows' : List (SeenRow Call)) (n : ℕ) (a : ActorNo) (c : Call) (m : ℕ) → IsCallOf s x.transaction.value n a c
+    → IsPrefix s x.transaction.value rows' (record { line = n; actor = a; call = c } ∷ x.world.calls) → y.transaction ≡ x.transaction → y.world ≡ turned up x.transaction.value x.world (Calls n a c m) → IsKept s k x rows → IsKept s k y rows'
+kept_call s k up x y rows rows' n a c m mine prefix t w kept =
+    let here : EnteredCall = record { line = n; actor = a; call = c } in
+    let calls : y.world.calls ≡ here ∷ x.world.calls = ap (λ (v : World). v.calls) w ∙ turned_calls up x.transaction.value x.world (Calls n a c m) in
+    record {
+      script = kept.script;
+      named = subst (λ (u : TxNo). is_made s (OfTransaction u.value) ≡ true) (sym t) kept.named;
+      given = λ j b d i. subst (λ (u : TxNo). IsCallOf s u.value j b d) (sym t)
+          (given_more s x.transaction.value here x.world.calls mine kept.given j b d (subst (λ ks. IsIn ks j b d) calls i));
+      in_order = subst (λ (u : TxNo). IsPrefix s u.value rows' y.world.calls) (sym t) (subst (IsPrefix s x.transaction.value rows') (sym calls) prefix);
+      planned = subst (λ (v : World). always (is_as_planned (plans_of s) (has_object s k)) v.past ≡ true) (sym w) (turned_right s k up x.transaction.value x.world (Calls n a c m) tt kept.planned);
+    }
+
+-- A step that sends no BEGIN is done in the same way whether the log is up or not.
+pub turned_silent : (t : ℕ) (w : World) (m : Step) → after t w m ≡ turned true t w m
+turned_silent t w m = by (sends_begin t w m)
+  where
+    by : (b : Bool) → after t w m ≡ (if b && not true then after t (after t w m) Stops else after t w m)
+    by true = refl
+    by false = refl
+
+-- A script without `do` lines gives no `do`: so a call that doesn't wait may answer.
+no_do_line : (s : List Line) (n : ℕ) (l : Line) → has (λ (x : Line). is_do_line x.body) s ≡ false → kth s n ≡ Some l → is_do_line l.body ≡ false
+no_do_line s zero l f e = absurd cc
+no_do_line [] (suc k) l f e = absurd cc
+no_do_line (x ∷ s) (suc zero) l f e = let same : x ≡ l = cc in subst (λ (y : Line). is_do_line y.body ≡ false) same (first (is_do_line x.body) (has (λ (y : Line). is_do_line y.body) s) f)
+  where
+    first : (a b : Bool) → (a || b) ≡ false → a ≡ false
+    first true b k = absurd cc
+    first false b k = refl
+no_do_line (x ∷ s) (suc (suc k)) l f e = no_do_line s (suc k) l (rest (is_do_line x.body) (has (λ (y : Line). is_do_line y.body) s) f) e
+  where
+    rest : (a b : Bool) → (a || b) ≡ false → b ≡ false
+    rest true b k = absurd cc
+    rest false b k = k
+
+-- a line that gives a `do` is one
+abbrev gives_do : Option (TxNo × Call) → Bool
+gives_do (Some x) = is_do x.1
+gives_do None = false
+
+do_line : (s : List Line) (b : Body) → gives_do (call_of s b) ≡ true → is_do_line b ≡ true
+do_line s (DoLine v i j) e = refl
+do_line s (CompleteLine c) e = by (transaction_of s c.value) e
+  where
+    by : (o : Option TxNo) → gives_do (complete_call c o) ≡ true → false ≡ true
+    by (Some v) f = f
+    by None f = f
+do_line s (GoneLine x) e = by (transaction_with s x.value) e
+  where
+    by : (o : Option TxNo) → gives_do (gone_call x o) ≡ true → false ≡ true
+    by (Some v) f = f
+    by None f = f
+do_line s (ReenlistLine x) e = by (transaction_with s x.value) e
+  where
+    by : (o : Option TxNo) → gives_do (reenlist_call x o) ≡ true → false ≡ true
+    by (Some v) f = f
+    by None f = f
+do_line s _ e = e
+
+never_do : (s : List Line) (t n : ℕ) (a : ActorNo) (u : TxNo) (k m : ℕ) → IsThreadable s → IsCallOf s t n a (Do u k m) → ⊥
+never_do s t n a u k m script g =
+    elim (given_call s (lines_before s n) g.line g.place (g.name, Do u k m) g.gives) [
+      | inl own ↦ let yes = do_line s g.line.body (ap gives_do own) in let no = no_do_line s n g.line script.free_of_do g.stands in cc
+      | inr scope ↦ cc
+    ]
+
+-- A line that is neither a durable nor a marshal gives a call that needs no log.
+abbrev gives_alone : Option (TxNo × Call) → Bool
+gives_alone (Some x) = is_alone x.1
+gives_alone None = true
+
+alone_line : (s : List Line) (b : Body) → is_promoting_line b ≡ false → is_do_line b ≡ false → gives_alone (call_of s b) ≡ true
+alone_line s (DoLine v i j) p q = absurd cc
+alone_line s (DurableLine t e r x) p q = absurd cc
+alone_line s (MarshalLine t) p q = absurd cc
+alone_line s (CompleteLine c) p q = by (transaction_of s c.value)
+  where
+    by : (o : Option TxNo) → gives_alone (complete_call c o) ≡ true
+    by (Some v) = refl
+    by None = refl
+alone_line s (GoneLine x) p q = by (transaction_with s x.value)
+  where
+    by : (o : Option TxNo) → gives_alone (gone_call x o) ≡ true
+    by (Some v) = refl
+    by None = refl
+alone_line s (ReenlistLine x) p q = by (transaction_with s x.value)
+  where
+    by : (o : Option TxNo) → gives_alone (reenlist_call x o) ≡ true
+    by (Some v) = refl
+    by None = refl
+alone_line s b p q = refl
+
+alone_scope : (c : Call) → is_scope_call c ≡ true → is_alone c ≡ true
+alone_scope (Durable t e r x) k = absurd cc
+alone_scope (Marshal t) k = absurd cc
+alone_scope (Do t k n) q = absurd cc
+alone_scope c k = refl
+
+pub alone_given : (s : List Line) (t n : ℕ) (a : ActorNo) (c : Call) → IsThreadable s → IsCallOf s t n a c → may_promote_at s n ≡ false → is_alone c ≡ true
+alone_given s t n a c script g f =
+    elim (given_call s (lines_before s n) g.line g.place (g.name, c) g.gives) [
+      | inl own ↦
+          ap gives_alone (sym own)
+          ∙ alone_line s g.line.body (ap is_promoting (sym g.stands) ∙ f) (no_do_line s n g.line script.free_of_do g.stands)
+      | inr scope ↦ alone_scope c scope
+    ]
+
+pub may_answer : (s : List Line) (t n : ℕ) (a : ActorNo) (c : Call) (v : ℕ) (w : World) → IsThreadable s → IsCallOf s t n a c → must_wait w c ≡ false → MayAnswer v w c 0
+may_answer s t n a (Do u k m) v w script g q = absurd (never_do s t n a u k m script g)
+may_answer s t n a (Await u) v w script g q = by (is_some (half w).seen.told_client || is_empty (pending w)) q
+  where
+    by : (b : Bool) → not b ≡ false → b ≡ true
+    by true k = refl
+    by false k = absurd cc
+may_answer s t n a c v w script g q = tt
+
+-- what isn't put off, doesn't wait
+pub unput : (w : World) (n : ℕ) (c : Call) → put_off w n (Some (record { line = n; call = c })) ≡ None → must_wait w c ≡ false
+unput w n c e = by (n == n) (eq_self n) (must_wait w c) e
+  where
+    by : (b : Bool) → b ≡ true → (q : Bool) → (if b then later_if q else Some (NotNext n)) ≡ None → q ≡ false
+    by true k true f = absurd cc
+    by true k false f = refl
+    by false k q f = absurd cc
+
+-- a call that makes a name makes this one
+name_here : (x : Name) (o : Option Name) → is_name x o ≡ true → o ≡ Some x
+name_here (OfEnlistment e) (Some (OfEnlistment f)) k = ap (λ j. Some (OfEnlistment j)) (sym (eqb-true e f k))
+name_here (OfEnlistment e) (Some (OfClone f)) k = absurd cc
+name_here (OfEnlistment e) (Some (OfTransaction f)) k = absurd cc
+name_here (OfEnlistment e) (Some (OfScope f)) k = absurd cc
+name_here (OfEnlistment e) None k = absurd cc
+name_here (OfClone e) (Some (OfClone f)) k = ap (λ j. Some (OfClone j)) (sym (eqb-true e f k))
+name_here (OfClone e) (Some (OfEnlistment f)) k = absurd cc
+name_here (OfClone e) (Some (OfTransaction f)) k = absurd cc
+name_here (OfClone e) (Some (OfScope f)) k = absurd cc
+name_here (OfClone e) None k = absurd cc
+name_here (OfTransaction e) o k = absurd cc
+name_here (OfScope e) o k = absurd cc
+
+-- so both make the same
+same_made : (o : Option Name) (d : Call) → is_maker o d ≡ true → (x : Name) × (o ≡ Some x) × (made_by d ≡ Some x)
+same_made (Some x) d k = (x, refl, name_here x (made_by d) k)
+same_made None d k = absurd cc
+
+-- the call that isn't put off is next, and may be entered
+pub next_may : (s : List Line) (k : ℕ) (x : TxState) (rows : List (SeenRow Call)) (a : ActorNo) (n : ℕ) (c : Call) → IsKept s k x rows → next_in (row_at a rows) ≡ Some (record { line = n; call = c })
+    → may_enter x.world n c ≡ true
+next_may s k x rows a n c kept next =
+    let d : Due Call = record { line = n; call = c } in
+    let no_line = next_line_new s x.transaction.value rows x.world.calls a d kept.in_order next in
+    let no_maker = next_name_new s x.transaction.value rows x.world.calls a d (is_maker (made_by c)) kept.script.script.named kept.in_order next (same_made (made_by c)) in
+    rw (no_line, no_maker) refl

@@ -1,0 +1,15 @@
+pub mod Asked
+pub mod Blocks
+pub mod EitherWay
+pub mod Following
+pub mod Entered
+pub mod Given
+pub mod Kept
+pub mod LogKept
+pub mod LogOrder
+pub mod LogStep
+pub mod Managing
+pub mod Numbers
+pub mod Replies
+pub mod Stepped
+pub mod Turning

@@ -1,0 +1,127 @@
+-- What a cell keeps after a pending step: a reply that its own calls plan is the one that the script plans.
+use Rattle.std.proofs.Common.{◌≡◌, ◌⊎◌, ℕ, Bool, true, false, List, [], ◌∷◌, find, Option, Some, None, inl, inr, refl, ap, sym, subst, ◌∙◌, if◌then◌else◌, ◌||◌, is_some}
+use Rattle.std.specs.Prelude.{Result, Ok}
+use Rattle.dtx_values.specs.declared.call.Call.{Call}
+use Rattle.dtx_values.specs.declared.message.Conn.{Conn}
+use Rattle.dtx_values.specs.declared.note.Note.{Note}
+use Rattle.dtx_values.specs.declared.note.Note.TheVariants.{Commit as CommitNote, Promote}
+use Rattle.dtx_values.specs.declared.note.Plan.{Plan}
+use Rattle.dtx_values.specs.declared.note.Reply.{Reply}
+use Rattle.dtx_values.specs.declared.number.EnlNo.{EnlNo}
+use Rattle.dtx_values.specs.declared.row.Row.{Row}
+use Rattle.dtx_values.specs.declared.script.Line.{Line}
+use Rattle.dtx_values.specs.Row.{is_of}
+use Rattle.dtx_model.specs.Words.{has, or_else}
+use Rattle.dtx_model.specs.Observed.{Observed, observe}
+use Rattle.dtx_model.specs.Plans.{plan_of, planned as reply_planned}
+use Rattle.dtx_model.specs.Replies.{conn_due, due_of, fits, note_of_conn, note_of_row}
+use Rattle.dtx_model.specs.Half.{is_gone}
+use Rattle.dtx_model.specs.World.{World, half}
+use Rattle.dtx_model.specs.Steps.{Step, Replies}
+use Rattle.dtx_model.specs.Caused.{IsCallOf, IsIn, IsOwnRun, has_object, plans_of}
+use Rattle.dtx_model.proofs.Lifting.{lift_ran}
+use Rattle.outcome_law.proofs.Makers.{ran_made}
+use Rattle.outcome_law.proofs.Planned.{plan_same}
+use Rattle.outcome_law.proofs.ReplayRuns.{named_no_call, no_call_entered}
+use Rattle.outcome_law.proofs.Rule.{is_enlisted}
+use Rattle.outcome_law.proofs.ScriptCalls.{plans_same, ran_calls}
+use Rattle.outcome_law.proofs.TableRows.{enlisted_in_rows}
+use Rattle.outcome_law.proofs.Told.{maker_called}
+use Rattle.script_calls.specs.SeenRow.{SeenRow}
+use Rattle.coordinator_log.specs.State.{LogState}
+use Rattle.local_half.specs.Half.{fits_due}
+use Rattle.tx_world.specs.State.{TxState, turned}
+use Rattle.tx_world.specs.OwnCalls.{DoesKthAlone}
+use Rattle.tx_world.specs.Stepping.{DoesKth, IsToPlan, is_to_promote}
+use Rattle.tx_cells.specs.Cell.{IsKept, MayReply}
+use Rattle.tx_cells.specs.Turns.{same_note}
+use Rattle.tx_cells.proofs.Asked.{IsOwed}
+use Rattle.tx_cells.proofs.Kept.{kept_step, turned_silent}
+use Rattle.tx_cells.proofs.Replies.{IsReplyRight, free_to, reply_to}
+
+-- A reply other than an acknowledgement is due of an enlistment that stands.
+found_stands : {A : Type 0} (p : A → Bool) (xs : List A) (x : A) → find p xs ≡ Some x → has p xs ≡ true
+found_stands p [] x e = absurd cc
+found_stands {A = A} p (y ∷ ys) x e = step (p y) y (find p ys) (has p ys) (found_stands p ys x) e
+  where
+    step : (b : Bool) (y : A) (o : Option A) (rest : Bool) → (o ≡ Some x → rest ≡ true) → (if b then Some y else o) ≡ Some x → (b || rest) ≡ true
+    step true y o rest ih h = refl
+    step false y o rest ih h = ih h
+
+due_stands : (o : Observed) (e : ℕ) (n : Note) → due_of o e ≡ Some n → (n ≡ CommitNote) ⊎ (has (is_of e) o.table ≡ true)
+unfolding due_of
+due_stands o e n d = by (is_gone o e) (find (is_of e) o.table) refl d
+  where
+    on_conn : (c : Option Conn) → note_of_conn c ≡ Some n → n ≡ CommitNote
+    on_conn (Some c) k = cc
+    on_conn None k = absurd cc
+
+    by : (b : Bool) (x : Option Row) → find (is_of e) o.table ≡ x → (if b then None else or_else (note_of_row o x) (note_of_conn (conn_due o e))) ≡ Some n
+        → (n ≡ CommitNote) ⊎ (has (is_of e) o.table ≡ true)
+    by true x f k = absurd cc
+    by false None f k = inl (on_conn (conn_due o e) k)
+    by false (Some x) f k = inr (found_stands (is_of e) o.table x f)
+
+-- The plan of an enlistment that stands is the script's.
+plan_here : (s : List Line) (k : ℕ) (x : TxState) (rows : List (SeenRow Call)) (e : ℕ) → IsKept s k x rows → IsOwnRun x.transaction.value x.world → has (is_enlisted e) x.world.past ≡ true → plan_of x.world.calls e ≡ plans_of s e
+plan_here s k x rows e kept own stands =
+    let w = x.world in
+    let t = x.transaction.value in
+    let ran = lift_ran (IsIn w.calls) (IsCallOf s t) kept.given t own.0 w own.1 in
+    let m = ((ran_made (IsCallOf s t) t own.0 w ran).enlisted e stands).0 in
+    ap (λ (p : ℕ → Plan). p e) (plans_same s t w.calls w.past (ran_calls s t own.0 w ran))
+    ∙ plan_same s t e w.past kept.script.script.named (record { number = m.number; actor = m.actor; call = m.call; given = m.may; passes = maker_called e m.call m.passes; called = m.called })
+
+-- So what it plans to a note to which a reply of it is due is the same by its calls as by the script.
+pub planned_here : (s : List Line) (k : ℕ) (x : TxState) (rows : List (SeenRow Call)) (e : ℕ) (n : Note) → IsKept s k x rows → IsOwnRun x.transaction.value x.world → due_of (half x.world).seen e ≡ Some n
+    → reply_planned (plan_of x.world.calls e) n ≡ reply_planned (plans_of s e) n
+unfolding observe
+planned_here s k x rows e n kept own due = elim (due_stands (half x.world).seen e n due) [
+  | inl is ↦ subst (λ (o : Note). reply_planned (plan_of x.world.calls e) o ≡ reply_planned (plans_of s e) o) (sym is) refl
+  | inr stands ↦
+      let enlisted : has (is_enlisted e) x.world.past ≡ true = sym (enlisted_in_rows e x.world.past) ∙ stands in
+      ap (λ (p : Plan). reply_planned p n) (plan_here s k x rows e kept own enlisted)
+]
+
+to_plan : (s : List Line) (k : ℕ) (x : TxState) (rows : List (SeenRow Call)) (m : Step) → IsKept s k x rows → IsOwnRun x.transaction.value x.world → IsToPlan x.world m → IsReplyRight (plans_of s) (has_object s k) m
+to_plan s k x rows (Replies e r) kept own (n, due, plan) = reply_to (plans_of s) (has_object s k) e n r (sym (planned_here s k x rows e.value n kept own due) ∙ plan)
+to_plan s k x rows m kept own q = tt
+
+-- So the cell keeps what it kept, after a pending step without the log, and after one with it.
+pub kept_alone : (s : List Line) (k : ℕ) (x y : TxState) (rows : List (SeenRow Call)) (place : ℕ) → IsKept s k x rows → IsOwnRun x.transaction.value x.world → DoesKthAlone place x y → IsKept s k y rows
+kept_alone s k x y rows place kept own d =
+    kept_step s k true x y rows d.step (no_call_entered x.world.calls d.step (named_no_call x.world d.name d.step d.named)) (to_plan s k x rows d.step kept own d.planned) d.done.transaction
+    (d.done.world ∙ turned_silent x.transaction.value x.world d.step) kept
+
+pub kept_over : {D : Type 0} (faults : D → ℕ) (from to : LogState D) (s : List Line) (k : ℕ) (x y : TxState) (rows : List (SeenRow Call)) (place : ℕ) → IsKept s k x rows → IsOwnRun x.transaction.value x.world → DoesKth faults place x from y to → IsKept s k y rows
+kept_over faults from to s k x y rows place kept own d =
+    kept_step s k from.is_up x y rows d.step (no_call_entered x.world.calls d.step (named_no_call x.world d.name d.step d.named)) (to_plan s k x rows d.step kept own d.planned) d.done.transaction d.done.world kept
+
+-- A reply that may come is right: it is planned, or free; where it is owed.
+reply_right : (s : List Line) (k : ℕ) (x : TxState) (rows : List (SeenRow Call)) (e : EnlNo) (n : Note) (r : Reply) → IsKept s k x rows → IsOwnRun x.transaction.value x.world → IsOwed x.world e n → MayReply s k e n r
+    → IsReplyRight (plans_of s) (has_object s k) (Replies e r)
+reply_right s k x rows e n r kept own owed may = elim may.right [
+  | inl free ↦
+      let unsilent : is_some (reply_planned (plans_of s e.value) n) ≡ true = ap is_some (sym (planned_here s k x rows e.value n kept own owed.due)) ∙ owed.unsilent in
+      free_to (plans_of s) (has_object s k) e n r free may.fitting unsilent
+  | inr plan ↦ reply_to (plans_of s) (has_object s k) e n r plan
+]
+
+pub kept_reply : (s : List Line) (k : ℕ) (up : Bool) (x y : TxState) (rows : List (SeenRow Call)) (e : EnlNo) (n : Note) (r : Reply) → IsKept s k x rows → IsOwnRun x.transaction.value x.world → IsOwed x.world e n → MayReply s k e n r
+    → y.transaction ≡ x.transaction → y.world ≡ turned up x.transaction.value x.world (Replies e r) → IsKept s k y rows
+kept_reply s k up x y rows e n r kept own owed may t w = kept_step s k up x y rows (Replies e r) refl (reply_right s k x rows e n r kept own owed may) t w kept
+
+-- What a reply that is owed needs of the note.
+pub fits_owed : (w : World) (e : EnlNo) (n : Note) (r : Reply) → IsOwed w e n → fits r n ≡ true → fits_due r (due_of (half w).seen e.value) ≡ true
+fits_owed w e n r owed fit = ap (fits_due r) owed.due ∙ fit
+
+not_to_promote : (n : Note) → same_note n Promote ≡ false → is_to_promote (Some n) ≡ false
+not_to_promote Promote k = absurd cc
+not_to_promote n k = refl
+
+pub alone_owed : (w : World) (e : EnlNo) (n : Note) → IsOwed w e n → same_note n Promote ≡ false → is_to_promote (due_of (half w).seen e.value) ≡ false
+alone_owed w e n owed k = ap is_to_promote owed.due ∙ not_to_promote n k
+
+-- It was done.
+pub reply_done : {E : Type 0} (w : World) (e : EnlNo) (n : Note) (b : Bool) (result : Result Bool E) → IsOwed w e n → result ≡ Ok b → b ≡ is_some (due_of (half w).seen e.value) → result ≡ Ok true
+reply_done w e n b result owed is due = is ∙ ap Ok (due ∙ ap is_some owed.due)

@@ -1,0 +1,70 @@
+use Rattle.std.proofs.Common.{◌≡◌, true, subst}
+use Rattle.dtx_model.specs.Caused.{Caused, IsCallOf, FreelyCaused}
+use Rattle.dtx_model.specs.Learned.{Learned}
+use Rattle.dtx_model.specs.Outcome.{agree, justified}
+use Rattle.dtx_model.specs.Promotes.{promotes}
+use Rattle.dtx_model.specs.Tied.{tied}
+use Rattle.dtx_model.specs.Wires.{WireRun}
+use Rattle.script_calls.specs.Prefix.{IsInOrder}
+use Rattle.tx_cells.specs.Cell.{Cell}
+use Rattle.tx_cells.proofs.Given.{in_order_of}
+use Rattle.tx_cells.proofs.cell.CellState.is_caused.Goals as goal
+
+pub returns-clause-caused : goal.returns-clause-caused
+returns-clause-caused g c =
+    let s = g.N.Run.script in
+    let x = c.self.inside.world in
+    let t = x.transaction.value in
+    let h = x.world.past in
+    let free : FreelyCaused (IsCallOf s t) t h = c.lifting.ensures.lifted s t x.world.calls h c.self.invariant.1.given (x.world.calls, c.is_own_run.ensures.run) in
+    subst (λ (z : Cell). Caused s g.N.Run.objects z.tx.transaction.value z.tx.world.past) c.self.view_is (record { freely = free; planned = c.self.invariant.1.planned })
+
+pub returns-clause-in_order : goal.returns-clause-in_order
+returns-clause-in_order g c =
+    let x = c.self.inside.world in
+    subst (λ (z : Cell). IsInOrder g.N.Run.script z.tx.transaction.value z.tx.world.calls) c.self.view_is (in_order_of g.N.Run.script x.transaction.value c.self.inside.rows x.world.calls c.self.invariant.1.in_order)
+
+pub returns-clause-wires : goal.returns-clause-wires
+returns-clause-wires g c =
+    let s = g.N.Run.script in
+    let x = c.self.inside.world in
+    let t = x.transaction.value in
+    let h = x.world.past in
+    let free : FreelyCaused (IsCallOf s t) t h = c.lifting.ensures.lifted s t x.world.calls h c.self.invariant.1.given (x.world.calls, c.is_own_run.ensures.run) in
+    subst (λ (z : Cell). WireRun z.tx.world.past) c.self.view_is (c.crossings.ensures.wires s t h free)
+
+pub returns-clause-promotes : goal.returns-clause-promotes
+returns-clause-promotes g c =
+    let s = g.N.Run.script in
+    let x = c.self.inside.world in
+    let t = x.transaction.value in
+    let h = x.world.past in
+    let free : FreelyCaused (IsCallOf s t) t h = c.lifting.ensures.lifted s t x.world.calls h c.self.invariant.1.given (x.world.calls, c.is_own_run.ensures.run) in
+    subst (λ (z : Cell). tied z.tx.world.past ≡ true → promotes s z.tx.transaction.value z.tx.world.past ≡ true) c.self.view_is (c.crossings.ensures.promotes s t h c.self.invariant.1.script.script.named free)
+
+pub returns-clause-just : goal.returns-clause-just
+returns-clause-just g c =
+    let s = g.N.Run.script in
+    let x = c.self.inside.world in
+    let t = x.transaction.value in
+    let h = x.world.past in
+    let free : FreelyCaused (IsCallOf s t) t h = c.lifting.ensures.lifted s t x.world.calls h c.self.invariant.1.given (x.world.calls, c.is_own_run.ensures.run) in
+    subst (λ (z : Cell). tied z.tx.world.past ≡ true → justified z.tx.world.past ≡ true) c.self.view_is (c.one_outcome.ensures.just s t h c.self.invariant.1.script.script.named free)
+
+pub returns-clause-agrees : goal.returns-clause-agrees
+returns-clause-agrees g c =
+    let s = g.N.Run.script in
+    let x = c.self.inside.world in
+    let t = x.transaction.value in
+    let h = x.world.past in
+    let free : FreelyCaused (IsCallOf s t) t h = c.lifting.ensures.lifted s t x.world.calls h c.self.invariant.1.given (x.world.calls, c.is_own_run.ensures.run) in
+    subst (λ (z : Cell). tied z.tx.world.past ≡ true → agree z.tx.world.past ≡ true) c.self.view_is (c.one_outcome.ensures.agrees s t h c.self.invariant.1.script.script.named free)
+
+pub returns-clause-learned : goal.returns-clause-learned
+returns-clause-learned g c =
+    let s = g.N.Run.script in
+    let x = c.self.inside.world in
+    let t = x.transaction.value in
+    let h = x.world.past in
+    let free : FreelyCaused (IsCallOf s t) t h = c.lifting.ensures.lifted s t x.world.calls h c.self.invariant.1.given (x.world.calls, c.is_own_run.ensures.run) in
+    subst (λ (z : Cell). tied z.tx.world.past ≡ true → Learned z.tx.world.past) c.self.view_is (c.one_outcome.ensures.learned s t h c.self.invariant.1.script.script.named free)

@@ -1,0 +1,34 @@
+use Rattle.std.proofs.Common.{true, subst, sym, ◌∙◌}
+use Rattle.dtx_model.specs.Steps.{Replies}
+use Rattle.tx_world.specs.OwnCalls.{DoesAlone}
+use Rattle.tx_cells.specs.Cell.{Cell}
+use Rattle.tx_cells.proofs.Asked.{owed}
+use Rattle.tx_cells.proofs.Kept.{turned_silent}
+use Rattle.tx_cells.proofs.Stepped.{alone_owed, fits_owed, kept_reply, reply_done}
+use Rattle.tx_cells.proofs.cell.CellState.take_back_alone.Goals as goal
+
+pub reply_alone-requires-clause-fits : goal.reply_alone-requires-clause-fits
+reply_alone-requires-clause-fits g c =
+    let due = owed c.self.inside.world.world (c.args.e, c.args.n) (sym c.is_due.ensures ∙ c.if-not-is_due.false) in
+    fits_owed c.self.inside.world.world c.args.e c.args.n c.args.r due c.requires.right.fitting
+
+pub reply_alone-requires-clause-alone : goal.reply_alone-requires-clause-alone
+reply_alone-requires-clause-alone g c =
+    let due = owed c.self.inside.world.world (c.args.e, c.args.n) (sym c.is_due.ensures ∙ c.if-not-is_due.false) in
+    alone_owed c.self.inside.world.world c.args.e c.args.n due c.requires.alone
+
+pub invariant_of-self-2 : goal.invariant_of-self-2
+invariant_of-self-2 g c =
+    let due = owed c.self.inside.world.world (c.args.e, c.args.n) (sym c.is_due.ensures ∙ c.if-not-is_due.false) in
+    let does = c.reply_alone.ensures.done (reply_done c.self.inside.world.world c.args.e c.args.n c.in_ok-reply_alone.field-0 c.reply_alone.result due c.in_ok-reply_alone.was c.in_ok-reply_alone.ensures.due) in
+    let x = c.self.inside.world in (
+      c.self.invariant.0 ∙ sym does.transaction,
+      kept_reply g.N.Run.script g.N.Run.objects true x c.reply_alone.new.self c.self.inside.rows c.args.e c.args.n c.args.r c.self.invariant.1 c.is_own_run.ensures.run due c.requires.right does.transaction
+          (does.world ∙ turned_silent x.transaction.value x.world (Replies c.args.e c.args.r)),
+    )
+
+pub returns-clause-done : goal.returns-clause-done
+returns-clause-done g c = λ yes.
+    let due = owed c.self.inside.world.world (c.args.e, c.args.n) (sym c.is_due.ensures ∙ c.if-not-is_due.false) in
+    let does = c.reply_alone.ensures.done (reply_done c.self.inside.world.world c.args.e c.args.n c.in_ok-reply_alone.field-0 c.reply_alone.result due c.in_ok-reply_alone.was c.in_ok-reply_alone.ensures.due) in
+    subst (λ (z : Cell). DoesAlone (Replies c.args.e c.args.r) z.tx c.reply_alone.new.self) c.self.view_is does

@@ -1,0 +1,76 @@
+-- The next call of an actor at a transaction.
+use Rattle.std.specs.Prelude.{ℕ, ◌≡◌, ◌≢◌, ◌==◌, ◌||◌, not, Bool, true, false, List, Option, Some, None, is_some, if◌then◌else◌}
+use Rattle.dtx_values.specs.declared.call.Call.{Call}
+use Rattle.dtx_values.specs.declared.call.Call.TheVariants.{Await}
+use Rattle.dtx_values.specs.declared.number.ActorNo.{ActorNo}
+use Rattle.dtx_values.specs.declared.script.Body.{Body}
+use Rattle.dtx_values.specs.declared.script.Body.TheVariants.{Durable, Marshal}
+use Rattle.dtx_values.specs.declared.script.Line.{Line}
+use Rattle.dtx_model.specs.Words.{kth}
+use Rattle.dtx_model.specs.Outcome.{is_empty}
+use Rattle.dtx_model.specs.World.{World, answer_at, half}
+use Rattle.dtx_model.specs.Steps.{Step, StepName, Calls, pending}
+use Rattle.dtx_model.specs.Caused.{IsNamed}
+use Rattle.script_calls.specs.declared.rows.Due.{Due}
+use Rattle.script_calls.specs.Rows.{further, next_in, row_at}
+use Rattle.tx_world.specs.State.{TxState}
+use Rattle.tx_world.specs.Stepping.{DoesAt, IsToPlan}
+use Rattle.tx_cells.specs.Cell.{Cell}
+use Rattle.tx_cells.specs.declared.turns.Turned.{Turned}
+use Rattle.tx_cells.specs.declared.turns.Turned.TheVariants.{Did, NotNext, Later}
+
+-- the actor's next call here
+abbrev pub next_of : ActorNo → Cell → Option (Due Call)
+next_of a c = next_in (row_at a c.rows)
+
+-- the call waits: it is an await, the client wasn't told, and a step is pending
+abbrev pub must_wait : World → Call → Bool
+must_wait w (Await t) = not (is_some (half w).seen.told_client || is_empty (pending w))
+must_wait w c = false
+
+abbrev pub later_if : Bool → Option Turned
+later_if true = Some Later
+later_if false = None
+
+-- what is said to line n instead of entering it, where this is the actor's next call here: that the next is another line's, or none is left; or that it waits. None where it is entered.
+abbrev pub put_off : World → ℕ → Option (Due Call) → Option Turned
+put_off w n (Some d) = if d.line == n then later_if (must_wait w d.call) else Some (NotNext d.line)
+put_off w n None = Some (NotNext 0)
+
+-- the line may begin a promotion, and so needs the log: it is a durable or a marshal
+abbrev pub is_promoting_line : Body → Bool
+is_promoting_line (Durable t e r s) = true
+is_promoting_line (Marshal t) = true
+is_promoting_line _ = false
+
+abbrev pub is_promoting : Option Line → Bool
+is_promoting (Some l) = is_promoting_line l.body
+is_promoting None = false
+
+abbrev pub may_promote_at : List Line → ℕ → Bool
+may_promote_at s n = is_promoting (kth s n)
+
+-- The actor's next call here, that of line n, was entered: this was done of that step. It was answered so.
+pub record Enters (does : Step → TxState → TxState → Type 0) (a : ActorNo) (n : ℕ) (answer : Turned) (old new : Cell) : Type 0 where
+  pub call : Call
+  pub next : next_of a old ≡ Some (record { line = n; call = call })
+  pub answered : answer ≡ Did (answer_at old.tx.transaction.value old.tx.world call 0)
+  pub done : does (Calls n a call 0) old.tx new.tx
+  pub ours : new.tx.ours ≡ old.tx.ours
+  pub unsure : new.tx.unsure ≡ old.tx.unsure
+  pub row : row_at a new.rows ≡ further (row_at a old.rows)
+  pub others : (b : ActorNo) → b ≢ a → row_at b new.rows ≡ row_at b old.rows
+  pub out : new.out ≡ old.out
+
+-- the step was done, at a log in some state
+abbrev pub IsDone : Step → TxState → TxState → Type 0
+IsDone m old new = (up : Bool) × (life : ℕ) × DoesAt up life m old new
+
+-- the k-th pending step was done, at a log in some state; a reply is the planned one
+pub record IsKthDone (k : ℕ) (old new : TxState) : Type 0 where
+  pub name : StepName
+  pub step : Step
+  pub stands : kth (pending old.world) k ≡ Some name
+  pub named : IsNamed old.world name step
+  pub planned : IsToPlan old.world step
+  pub done : IsDone step old new

@@ -1,0 +1,10 @@
+pub mod Board
+pub mod Cell
+pub mod Entering
+pub mod Following
+pub mod LogAnswers
+pub mod LogCell
+pub mod LogEntering
+pub mod Managers
+pub mod Ties
+pub mod Turns

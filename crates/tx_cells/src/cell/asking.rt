@@ -1,0 +1,179 @@
+//! What is to be done next, and replies that are out.
+ghost use Rattle.std.specs.Prelude.{◌≡◌, ◌++◌, ◌∷◌, [], Ok, IfErr, IfOk, IfSome, OnOk, is_some, true, false};
+ghost use Rattle.dtx_values.specs.declared.note.Note.{Note};
+ghost use Rattle.dtx_model.specs.Steps.{Replies, pending};
+ghost use Rattle.dtx_model.specs.Words.{kth};
+ghost use Rattle.tx_cells.specs.Cell.{MayReply};
+ghost use Rattle.tx_cells.specs.Ties.{IsCause, TiesWith};
+ghost use Rattle.tx_cells.specs.Turns.{is_due, is_out, is_that, is_to, same_note, taken_off, turn_of, unmarked, with_tx};
+ghost use Rattle.tx_world.specs.OwnCalls.{DoesAlone};
+ghost use Rattle.tx_world.specs.Stepping.{Does, is_to_promote, reply_in};
+
+use super::CellState;
+use crate::error::TurnError;
+use crate::run::Run;
+use crate::turns::Turn;
+use coordinator_log::Log;
+use dtx_values::{EnlNo, Note, Reply};
+use outside::Disk;
+use tx_world::TxWorld;
+
+/// Whether both are the same note.
+fn same_note(a: Note, b: Note) -> bool
+    ensures { result ≡ same_note a b }
+{
+    a == b
+}
+
+/// Whether it is a reply of this enlistment to this note.
+fn is_to(x: (EnlNo, Note), y: (EnlNo, Note)) -> bool
+    ensures { result ≡ is_to x y }
+{
+    x.0 == y.0 && same_note(x.1, y.1)
+}
+
+/// Whether it is a reply of this enlistment to this note, where there is one.
+fn is_that(x: (EnlNo, Note), y: Option<(EnlNo, Note)>) -> bool
+    ensures { result ≡ is_that x y }
+{
+    match y {
+        Some(y) => is_to(x, y),
+        None => false,
+    }
+}
+
+/// Whether the reply is out.
+fn is_out(out: &[(EnlNo, Note)], x: (EnlNo, Note)) -> bool
+    ensures { result ≡ is_out out.now x }
+{
+    out.iter().any(|y| is_to(x, *y))
+}
+
+/// Takes the mark of a reply off.
+fn take_off(out: &mut Vec<(EnlNo, Note)>, x: (EnlNo, Note))
+    ensures { out.new.items ≡ taken_off x out.old.items }
+{
+    out.retain(|y| !is_to(x, *y));
+}
+
+/// The place of the pending reply of the enlistment to this note, from 1; `None` where none is pending.
+fn place_of(world: &TxWorld, x: (EnlNo, Note)) -> Option<u32>
+    ensures due { is_some result ≡ is_due world.now.world x }
+    ensures place { IfSome result (λ k. is_that x (reply_in world.now.world (kth (pending world.now.world) k)) ≡ true) }
+{
+    let count = world.pending();
+    for k in 0..count {
+        if is_that(x, world.due_at(k + 1)) {
+            return Some(k + 1);
+        }
+    }
+    None
+}
+
+/// Whether a reply of the enlistment to this note is pending.
+fn is_due(world: &TxWorld, x: (EnlNo, Note)) -> bool
+    ensures { result ≡ is_due world.now.world x }
+{
+    place_of(world, x).is_some()
+}
+
+impl<N: Run> CellState<N> {
+    /// What is to be done next: the first pending step that isn't a reply that is out.
+    pub fn next_turn(&self) -> Turn
+        ensures { result ≡ turn_of self.now }
+    {
+        let count = self.world.pending();
+        for k in 0..count {
+            let Some(x) = self.world.due_at(k + 1) else {
+                return Turn::Step(k + 1);
+            };
+            if !is_out(self.out.as_slice(), x) {
+                return Turn::Ask(x.0, x.1);
+            }
+        }
+        Turn::Nothing
+    }
+
+    /// Marks the reply of the enlistment to this note as out.
+    ///
+    /// # Errors
+    ///
+    /// [`TurnError::Memory`] where memory ran out, and then nothing was done.
+    pub fn mark_out(&mut self, e: EnlNo, n: Note) -> Result<(), TurnError>
+        ensures marked { OnOk result (self.new ≡ record { tx = self.old.tx; rows = self.old.rows; out = self.old.out ++ (e, n) ∷ [] }) }
+        ensures memory { IfErr result (λ x. (x ≡ TurnError.Memory) × (self.new ≡ self.old)) }
+    {
+        self.out.reserve(1)?;
+        self.out.push_reserved((e, n));
+        Ok(())
+    }
+
+    /// Takes the mark off that the reply of the enlistment to this note is out. The place of that reply among the pending steps, from 1; `None` where it isn't pending any more.
+    pub fn unmark(&mut self, e: EnlNo, n: Note) -> Option<u32>
+        ensures unmarked { self.new ≡ unmarked (e, n) self.old }
+        ensures due { is_some result ≡ is_due self.old.tx.world (e, n) }
+        ensures place { IfSome result (λ k. is_that (e, n) (reply_in self.old.tx.world (kth (pending self.old.tx.world) k)) ≡ true) }
+    {
+        let asked = (e, n);
+        take_off(&mut self.out, asked);
+        place_of(&self.world, asked)
+    }
+
+    /// Takes the mark off, and enters the reply of the enlistment to this note, which isn't one to promote. False exactly where no reply of it to this note is pending, and then only the mark goes.
+    ///
+    /// # Errors
+    ///
+    /// [`TurnError::Memory`] where memory ran out, and then only the mark went.
+    pub fn take_back_alone(&mut self, e: EnlNo, n: Note, r: Reply) -> Result<bool, TurnError>
+        requires right { MayReply N.script N.objects e n r }
+        requires alone { same_note n Note.Promote ≡ false }
+        ensures due { IfOk result (λ b. b ≡ is_due self.old.tx.world (e, n)) }
+        ensures done { result ≡ Ok true → DoesAlone (Replies e r) self.old.tx self.new.tx }
+        ensures unmarked { self.new ≡ with_tx self.new.tx (unmarked (e, n) self.old) }
+        ensures late { result ≡ Ok false → self.new.tx ≡ self.old.tx }
+        ensures ours { (self.new.tx.ours ≡ self.old.tx.ours) × (self.new.tx.unsure ≡ self.old.tx.unsure) }
+        ensures memory { IfErr result (λ x. (x ≡ TurnError.Memory) × (self.new.tx ≡ self.old.tx)) }
+    {
+        take_off(&mut self.out, (e, n));
+        if !is_due(&self.world, (e, n)) {
+            return Ok(false);
+        }
+        self.world.is_own_run();
+        self.world.reply_alone(&mut self.outbox, e, r)?;
+        Ok(true)
+    }
+
+    /// Takes the mark off, and enters the reply of the enlistment to this note over this log. False exactly where no reply of it to this note is pending, and then only the mark goes.
+    ///
+    /// # Errors
+    ///
+    /// [`TurnError::Differs`] where the log is up and doesn't tie with the transaction, and [`TurnError::Memory`] where memory ran out; only the mark went then.
+    pub(crate) fn take_back_over<D: Disk>(
+        &mut self,
+        log: &Log<D>,
+        e: EnlNo,
+        n: Note,
+        r: Reply,
+    ) -> Result<bool, TurnError>
+        requires right { MayReply N.script N.objects e n r }
+        ensures tied { IfOk result (λ b. TiesWith self.old.tx log.now) }
+        ensures due { IfOk result (λ b. b ≡ is_due self.old.tx.world (e, n)) }
+        ensures done { result ≡ Ok true → Does D.faults (Replies e r) self.old.tx log.now self.new.tx log.now }
+        ensures unmarked { self.new ≡ with_tx self.new.tx (unmarked (e, n) self.old) }
+        ensures late { result ≡ Ok false → self.new.tx ≡ self.old.tx }
+        ensures ours { (self.new.tx.ours ≡ self.old.tx.ours) × (self.new.tx.unsure ≡ self.old.tx.unsure) }
+        ensures cause { IfErr result (λ x. IsCause self.old.tx log.now x × (self.new.tx ≡ self.old.tx)) }
+    {
+        let asked = (e, n);
+        take_off(&mut self.out, asked);
+        if let Err(differs) = self.world.ties(log) {
+            return Err(TurnError::Differs(differs));
+        }
+        if !is_due(&self.world, asked) {
+            return Ok(false);
+        }
+        self.world.is_own_run();
+        self.world.reply(log, &mut self.outbox, e, r)?;
+        Ok(true)
+    }
+}

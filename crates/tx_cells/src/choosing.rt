@@ -1,0 +1,94 @@
+//! The calls of a transaction's state that may be lent the log's.
+ghost use Rattle.std.specs.Prelude.{◌≡◌, ◌⊎◌, IfErr, IfNone, IfOk, MatchOption, None, Ok, Some, false, true};
+ghost use Rattle.dtx_values.specs.declared.note.Note.{Note};
+ghost use Rattle.dtx_model.specs.Steps.{Replies, pending};
+ghost use Rattle.dtx_model.specs.Words.{kth};
+ghost use Rattle.tx_cells.specs.Cell.{MayReply};
+ghost use Rattle.tx_cells.specs.Entering.{Enters, IsDone, IsKthDone, may_promote_at, next_of, put_off};
+ghost use Rattle.tx_cells.specs.Ties.{IsCause};
+ghost use Rattle.tx_cells.specs.Turns.{is_due, same_note, unmarked, with_tx};
+ghost use Rattle.tx_cells.specs.declared.turns.Turned.{Turned};
+ghost use Rattle.tx_world.specs.Stepping.{needs_log};
+
+use crate::cell::CellState;
+use crate::error::TurnError;
+use crate::run::Run;
+use crate::shared_log::LogState;
+use crate::turns::Turned;
+use dtx_values::{ActorNo, EnlNo, Note, Reply};
+use outside::Disk;
+
+#[tactic(auto, using(crate::proofs::EitherWay::done_alone, crate::proofs::EitherWay::done_over, crate::proofs::EitherWay::enters_alone, crate::proofs::EitherWay::enters_over, crate::proofs::EitherWay::kth_alone, crate::proofs::EitherWay::kth_over))]
+impl<N: Run> CellState<N> {
+    /// Enters the actor's next call here, where it is of this line. Where it isn't, or waits, nothing is done. The log is lent where the line is a durable or a marshal.
+    ///
+    /// # Errors
+    ///
+    /// [`TurnError::Differs`] where a log is lent that is up and doesn't tie with the transaction, and [`TurnError::Memory`] where memory ran out; nothing was done then.
+    pub fn enter<D: Disk>(
+        &mut self,
+        log: Option<&LogState<D, N>>,
+        a: ActorNo,
+        line: u32,
+    ) -> Result<Turned, TurnError>
+        requires lent { IfNone log (may_promote_at N.script line ≡ false) }
+        ensures entered { put_off self.old.tx.world line (next_of a self.old) ≡ None → IfOk result (λ r. Enters IsDone a line r self.old self.new) }
+        ensures put_off { (x : Turned) → put_off self.old.tx.world line (next_of a self.old) ≡ Some x → IfOk result (λ r. (r ≡ x) × (self.new ≡ self.old)) }
+        ensures cause { IfErr result (λ e. (self.new ≡ self.old) × MatchOption log.entry (e ≡ TurnError.Memory) (λ l. IsCause self.old.tx l.now.log e)) }
+    {
+        match log {
+            Some(log) => self.enter_with(log, a, line),
+            None => self.enter_alone(a, line),
+        }
+    }
+
+    /// Does the k-th pending step, from 1; false exactly where fewer than k are pending, or k is 0. A reply is the planned one. The log is lent where the step needs it: it is the coordinator's act, or a reply to
+    /// promote. Where an append or a free in it stopped the log, `stopped` is written at the log too.
+    ///
+    /// # Errors
+    ///
+    /// [`TurnError::Differs`] where a log is lent that is up and doesn't tie with the transaction, and [`TurnError::Memory`] where memory ran out; nothing was done then.
+    pub fn do_step<D: Disk>(
+        &mut self,
+        log: Option<&mut LogState<D, N>>,
+        k: u32,
+    ) -> Result<bool, TurnError>
+        requires lent { IfNone log (needs_log self.old.tx.world k ≡ false) }
+        ensures none { result ≡ Ok false → (kth (pending self.old.tx.world) k ≡ None) × (self.new ≡ self.old) }
+        ensures some { result ≡ Ok true → IsKthDone k self.old.tx self.new.tx }
+        ensures same { self.new ≡ with_tx self.new.tx self.old }
+        ensures cause { IfErr result (λ e. (self.new ≡ self.old) × MatchOption log.entry (e ≡ TurnError.Memory) (λ l. (e ≡ TurnError.Memory) ⊎ IsCause self.old.tx l.now.log e)) }
+    {
+        match log {
+            Some(log) => self.do_step_with(log, k),
+            None => self.do_step_alone(k),
+        }
+    }
+
+    /// Takes the mark off, and enters the reply of the enlistment to this note. False exactly where no reply of it to this note is pending, and then only the mark goes. The log is lent where the note is
+    /// Promote.
+    ///
+    /// # Errors
+    ///
+    /// [`TurnError::Differs`] where a log is lent that is up and doesn't tie with the transaction, and [`TurnError::Memory`] where memory ran out; only the mark went then.
+    pub fn take_back<D: Disk>(
+        &mut self,
+        log: Option<&LogState<D, N>>,
+        e: EnlNo,
+        n: Note,
+        r: Reply,
+    ) -> Result<bool, TurnError>
+        requires right { MayReply N.script N.objects e n r }
+        requires lent { IfNone log (same_note n Note.Promote ≡ false) }
+        ensures due { IfOk result (λ b. b ≡ is_due self.old.tx.world (e, n)) }
+        ensures done { result ≡ Ok true → IsDone (Replies e r) self.old.tx self.new.tx }
+        ensures unmarked { self.new ≡ with_tx self.new.tx (unmarked (e, n) self.old) }
+        ensures late { result ≡ Ok false → self.new.tx ≡ self.old.tx }
+        ensures cause { IfErr result (λ x. (self.new.tx ≡ self.old.tx) × MatchOption log.entry (x ≡ TurnError.Memory) (λ l. IsCause self.old.tx l.now.log x)) }
+    {
+        match log {
+            Some(log) => self.take_back_with(log, e, n, r),
+            None => self.take_back_alone(e, n, r),
+        }
+    }
+}

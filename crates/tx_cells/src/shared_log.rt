@@ -1,0 +1,307 @@
+//! What lies under the log's lock.
+ghost use Rattle.std.specs.Prelude.{ℕ, ◌≡◌, ◌≢◌, ◌≤◌, ◌<◌, ◌+◌, ◌-◌, ◌^◌, ◌⊎◌, List, [], None, Some, Ok, IfErr, IfOk, IsTrue, OnErr, false, true, vec_capacity, vec_len};
+ghost use Rattle.outside.specs.Disk.{AreWithin};
+ghost use Rattle.dtx_model.specs.Steps.{pending};
+ghost use Rattle.dtx_model.specs.Words.{kth, past_of};
+ghost use Rattle.coordinator_log.specs.Slots.{open_records};
+ghost use Rattle.script_calls.specs.SeenRow.{SeenRow};
+ghost use Rattle.script_calls.specs.declared.calls.LogCall.{LogCall};
+ghost use Rattle.tx_cells.specs.Cell.{IsThreadable};
+ghost use Rattle.tx_cells.specs.LogAnswers.{opened_where, put_off_at_log, restart_answer, restarted, stop_noted, stopped_where};
+ghost use Rattle.tx_cells.specs.LogCell.{IsLogKept};
+ghost use Rattle.tx_cells.specs.LogEntering.{EntersLog, IsReopened, next_at_log};
+ghost use Rattle.tx_cells.specs.Ties.{IsCause, TiesWith};
+ghost use Rattle.tx_cells.specs.Turns.{with_tx};
+ghost use Rattle.tx_cells.specs.declared.turns.Turned.{Turned};
+ghost use Rattle.tx_world.specs.AtLog.{AtMostOne};
+ghost use Rattle.tx_world.specs.Stepping.{DoesKth};
+
+use crate::cell::CellState;
+use crate::error::TurnError;
+use crate::run::Run;
+use crate::turns::Turned;
+use coordinator_log::{Log, LogRefusal};
+use dtx_values::{ActorNo, Answer, Entry, Image, LogNote, Script};
+use outside::Disk;
+use script_calls::{LogCall, Rows, log_rows};
+use std::alloc::{AllocError, Global};
+use std::marker::{Model, PhantomData};
+use std::sync::Mutex;
+
+/// What lies under the log's lock: the log, the calls of each actor there, and the entries at the log.
+#[derive(Drop)]
+pub struct LogState<D: Disk, N: Run> {
+    log: Log<D>,
+    rows: Rows<LogCall>,
+    /// Oldest first.
+    entries: Vec<Entry>,
+    of: PhantomData<N>,
+}
+
+impl<D: Disk, N: Run> Model for LogState<D, N> {
+    ghost use Rattle.dtx_model.specs.Words.{past_of};
+    ghost use Rattle.tx_cells.specs.LogCell.{IsLogKept, LogCell};
+
+    ghost Value = { LogCell D };
+
+    ghost view = { λ l. record { log = l.log; rows = l.rows; past = past_of l.entries.items } };
+
+    ghost invariant = { λ l. IsLogKept D.faults D.honest D.image N.script N.honest N.faults (record { log = l.log; rows = l.rows; past = past_of l.entries.items }) };
+}
+
+impl<D: Disk, N: Run> LogState<D, N> {
+    /// The state over this log, at which nothing came yet, with the calls of each actor there.
+    ///
+    /// # Errors
+    ///
+    /// The log is handed back where memory ran out.
+    fn over(alloc: Global, log: Log<D>, s: &Script) -> Result<Self, (AllocError, Log<D>)>
+        requires named { s.now ≡ N.script }
+        requires script { IsThreadable s.now }
+        requires up { IsTrue log.is_up }
+        requires empty { open_records log.slots ≡ [] }
+        requires unarmed { log.armed ≡ None }
+        requires life { log.life ≤ 2 ^ 62 }
+        requires honest { D.honest ≡ N.honest }
+        requires faults { N.faults ≤ D.faults log.disk }
+        ensures log { IfOk result (λ c. c.log ≡ log) }
+        ensures blank { IfOk result (λ c. c.past ≡ []) }
+        ensures back { IfErr result (λ e. e.1 ≡ log) }
+    {
+        let rows = match log_rows(alloc, s.lines()) {
+            Ok(rows) => rows,
+            Err(e) => return Err((e, log)),
+        };
+        // A proof sees here what the images of the disk have.
+        let _ = log.is_up();
+        Ok(LogState {
+            log,
+            rows,
+            entries: Vec::new(alloc),
+            of: PhantomData,
+        })
+    }
+
+    /// The entries at the log, oldest first.
+    pub fn entries(&self) -> &[Entry]
+        ensures { past_of result.now ≡ self.now.past }
+    {
+        self.entries.as_slice()
+    }
+
+    /// The log.
+    pub(crate) fn log(&self) -> &Log<D>
+        ensures same { result.now ≡ self.now.log }
+        ensures once { (id : ℕ) → IsTrue D.honest → IsTrue self.now.log.is_up → AtMostOne id (open_records self.now.log.slots) }
+    {
+        &self.log
+    }
+
+    /// Enters the actor's next call at the log, where it is of this line: a `stop`, or a `restart`, which writes its call, `stopped` where the log was up, and `opened` where it was opened. Where it isn't
+    /// of this line, nothing is done.
+    ///
+    /// # Errors
+    ///
+    /// [`TurnError::Memory`] where memory ran out, and then nothing was done.
+    pub fn enter(&mut self, a: ActorNo, line: u32) -> Result<Turned, TurnError>
+        ensures entered { put_off_at_log line (next_at_log a self.old) ≡ None → IfOk result (λ r. EntersLog D.faults D.honest D.seen a line r self.old self.new) }
+        ensures put_off { (x : Turned) → put_off_at_log line (next_at_log a self.old) ≡ Some x → IfOk result (λ r. (r ≡ x) × (self.new ≡ self.old)) }
+        ensures memory { IfErr result (λ e. (e ≡ TurnError.Memory) × (self.new ≡ self.old)) }
+    {
+        let Some(due) = self.rows.next(a) else {
+            return Ok(Turned::NotNext(0));
+        };
+        if due.line != line {
+            return Ok(Turned::NotNext(due.line));
+        }
+        match due.call {
+            LogCall::Stop(k, image) => Ok(self.enter_stop(a, line, k, image)?),
+            LogCall::Restart => Ok(self.enter_restart(a, line)?),
+        }
+    }
+
+    /// Does the k-th pending step of a transaction of the run over the log, from 1; false exactly where fewer than k are pending, or k is 0. Where an append or a free in it stopped the log, `stopped` is
+    /// written at the log too.
+    ///
+    /// # Errors
+    ///
+    /// [`TurnError::Differs`] where the log is up and doesn't tie with the transaction, and [`TurnError::Memory`] where memory ran out; nothing was done then.
+    pub(crate) fn step(&mut self, cell: &mut CellState<N>, k: u32) -> Result<bool, TurnError>
+        ensures tied { IfOk result (λ b. TiesWith cell.old.tx self.old.log) }
+        ensures none { result ≡ Ok false → (kth (pending cell.old.tx.world) k ≡ None) × (cell.new ≡ cell.old) × (self.new ≡ self.old) }
+        ensures some { result ≡ Ok true → DoesKth D.faults k cell.old.tx self.old.log cell.new.tx self.new.log }
+        ensures same { cell.new ≡ with_tx cell.new.tx cell.old }
+        ensures rows { self.new.rows ≡ self.old.rows }
+        ensures past { self.new.past ≡ stop_noted self.old.log.is_up self.new.log.is_up self.old.past }
+        ensures cause { IfErr result (λ e. ((e ≡ TurnError.Memory) ⊎ IsCause cell.old.tx self.old.log e) × (cell.new ≡ cell.old) × (self.new ≡ self.old)) }
+    {
+        cell.is_named();
+        self.entries.reserve(1)?;
+        let was_up = self.log.is_up();
+        if !cell.do_step_over(&mut self.log, k)? {
+            return Ok(false);
+        }
+        let is_up = self.log.is_up();
+        write_stop(&mut self.entries, was_up, is_up);
+        Ok(true)
+    }
+
+    /// Enters the actor's next call, which arms a stop.
+    fn enter_stop(
+        &mut self,
+        a: ActorNo,
+        line: u32,
+        k: u8,
+        image: Image,
+    ) -> Result<Turned, AllocError>
+        requires { next_at_log a self.old ≡ Some (record { line = line; call = LogCall.Stop k image }) }
+        ensures entered { IfOk result (λ r. EntersLog D.faults D.honest D.seen a line r self.old self.new) }
+        ensures memory { OnErr result (self.new ≡ self.old) }
+    {
+        self.entries.reserve(2)?;
+        self.log.arm(k, image);
+        self.entries
+            .push_reserved(Entry::Called(line, a, Answer::Fine));
+        self.entries
+            .push_reserved(Entry::LogWord(LogNote::Armed(k, image)));
+        self.rows.advance(a);
+        Ok(Turned::Did(Answer::Fine))
+    }
+
+    /// Enters the actor's next call, which stops the log and opens it again.
+    fn enter_restart(&mut self, a: ActorNo, line: u32) -> Result<Turned, AllocError>
+        requires { next_at_log a self.old ≡ Some (record { line = line; call = LogCall.Restart }) }
+        ensures entered { IfOk result (λ r. EntersLog D.faults D.honest D.seen a line r self.old self.new) }
+        ensures memory { OnErr result (self.new ≡ self.old) }
+    {
+        self.entries.reserve(3)?;
+        let was_up = self.log.is_up();
+        let found = reopened(&mut self.log);
+        write_restart(&mut self.entries, line, a, was_up, &found);
+        self.rows.advance(a);
+        Ok(Turned::Did(restart_answer(&found)))
+    }
+}
+
+/// The log's lock, with the log, the calls of each actor there, and the entries at the log.
+#[derive(Drop)]
+pub struct SharedLog<D: Disk, N: Run> {
+    lock: Mutex<LogState<D, N>>,
+}
+
+impl<D: Disk, N: Run> SharedLog<D, N> {
+    /// The lock of a log at which nothing came yet.
+    ///
+    /// # Errors
+    ///
+    /// The log is handed back where memory ran out.
+    pub fn over(alloc: Global, log: Log<D>, s: &Script) -> Result<Self, (AllocError, Log<D>)>
+        requires named { s.now ≡ N.script }
+        requires script { IsThreadable s.now }
+        requires up { IsTrue log.is_up }
+        requires empty { open_records log.slots ≡ [] }
+        requires unarmed { log.armed ≡ None }
+        requires life { log.life ≤ 2 ^ 62 }
+        requires honest { D.honest ≡ N.honest }
+        requires faults { N.faults ≤ D.faults log.disk }
+        ensures { IfErr result (λ e. e.1 ≡ log) }
+    {
+        match LogState::over(alloc, log, s) {
+            Ok(state) => Ok(SharedLog {
+                lock: Mutex::new(state),
+            }),
+            Err(back) => Err(back),
+        }
+    }
+
+    /// The lock.
+    pub fn state(&self) -> &Mutex<LogState<D, N>> {
+        &self.lock
+    }
+
+    /// The log, and the entries at it, oldest first. They are what the type of its state keeps.
+    pub fn into_parts(self) -> (Log<D>, Vec<Entry>)
+        ensures { (rows : List (SeenRow LogCall)) × IsLogKept D.faults D.honest D.image N.script N.honest N.faults (record { log = result.0; rows = rows; past = past_of result.1.items }) }
+    {
+        let SharedLog { lock } = self;
+        let LogState {
+            log,
+            rows: _,
+            entries,
+            of: _,
+        } = lock.into_inner();
+        (log, entries)
+    }
+}
+
+/// Stops the log and opens it again.
+fn reopened<D: Disk>(log: &mut Log<D>) -> Result<u16, LogRefusal>
+    requires { log.old.life < 2 ^ 64 - 1 }
+    ensures reopened { IsReopened D.faults D.honest D.seen result log.old log.new }
+    ensures only { IfErr result (λ e. (e ≡ LogRefusal.Fault) ⊎ ((p : ℕ) × (e ≡ LogRefusal.NotALog p))) }
+    ensures grows { D.faults log.old.disk ≤ D.faults log.new.disk }
+    ensures among { IsTrue D.honest → D.image log.old.disk (D.seen log.old.disk) }
+    ensures within { IsTrue D.honest → AreWithin (D.image log.old.disk) (D.image log.new.disk) }
+{
+    log.halt();
+    log.reopen()
+}
+
+/// What a restart is answered.
+fn restart_answer(found: &Result<u16, LogRefusal>) -> Answer
+    ensures { result ≡ restart_answer found.now }
+{
+    match found {
+        Ok(_) => Answer::Fine,
+        Err(LogRefusal::NotALog(place)) => Answer::NotALog(*place),
+        Err(_) => Answer::Fault,
+    }
+}
+
+/// Writes what a restart by a line wrote at the log.
+fn write_restart(
+    entries: &mut Vec<Entry>,
+    line: u32,
+    a: ActorNo,
+    was_up: bool,
+    found: &Result<u16, LogRefusal>,
+)
+    requires { vec_len entries.old + 3 ≤ vec_capacity entries.old }
+    ensures { past_of entries.new.items ≡ restarted line a was_up found.now (past_of entries.old.items) }
+{
+    entries.push_reserved(Entry::Called(line, a, restart_answer(found)));
+    write_stopped(entries, was_up);
+    write_opened(entries, found);
+}
+
+/// Writes `stopped` where the log was up and isn't any more.
+fn write_stop(entries: &mut Vec<Entry>, was_up: bool, is_up: bool)
+    requires { vec_len entries.old + 1 ≤ vec_capacity entries.old }
+    ensures { past_of entries.new.items ≡ stop_noted was_up is_up (past_of entries.old.items) }
+{
+    if was_up && !is_up {
+        entries.push_reserved(Entry::Stopped);
+    }
+}
+
+/// Writes `stopped` where the log was up.
+fn write_stopped(entries: &mut Vec<Entry>, was_up: bool)
+    requires { vec_len entries.old + 1 ≤ vec_capacity entries.old }
+    ensures past { past_of entries.new.items ≡ stopped_where was_up (past_of entries.old.items) }
+    ensures room { vec_len entries.new ≤ vec_len entries.old + 1 }
+    ensures capacity { vec_capacity entries.new ≡ vec_capacity entries.old }
+{
+    if was_up {
+        entries.push_reserved(Entry::Stopped);
+    }
+}
+
+/// Writes `opened` where the log was opened.
+fn write_opened(entries: &mut Vec<Entry>, found: &Result<u16, LogRefusal>)
+    requires { vec_len entries.old + 1 ≤ vec_capacity entries.old }
+    ensures { past_of entries.new.items ≡ opened_where found.now (past_of entries.old.items) }
+{
+    if let Ok(records) = found {
+        entries.push_reserved(Entry::LogWord(LogNote::Opened(*records)));
+    }
+}

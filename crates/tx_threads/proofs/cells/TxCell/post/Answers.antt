@@ -1,4 +1,0 @@
-use Rattle.tx_threads.proofs.cells.TxCell.post.Goals as goal
-
-pub returns-clause-known : goal.returns-clause-known
-returns-clause-known g c = rw (← c.note.view_is) c.set_as.ensures.known
