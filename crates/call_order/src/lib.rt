@@ -1,0 +1,2 @@
+//! The laws of the order of calls in a trace.
+#![tactic(auto)]

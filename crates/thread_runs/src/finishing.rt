@@ -1,0 +1,1 @@
+//! What the caller does after the threads of a run ended.

@@ -1,0 +1,1 @@
+//! The trace of a run on threads: the contexts by actor, the transactions by number, then the log.

@@ -1,0 +1,11 @@
+//! Runs a script on threads: the lines before its `par` by the caller, then each actor on a thread of its own, with helpers, and what the caller does after they ended.
+#![tactic(auto)]
+
+mod contexts;
+mod finishing;
+mod gathering;
+mod running;
+mod stop;
+
+pub use running::run_on_threads;
+pub use stop::RunStop;
