@@ -4,7 +4,7 @@ ghost use Rattle.dtx_model.specs.Grammar.{IsScript};
 ghost use Rattle.dtx_values.specs.RecoveryInfo.{is_id};
 
 use coordinator_log::{Log, LogRefusal};
-use dtx_values::{EnlNo, LogRecord, RmNo};
+use dtx_values::{EnlNo, LogRecord, Resource, RmNo};
 use outside::{Disk, MemDisk, MemSink, MemSource, SureDisk, SureSink, SureSource};
 use script_runner::{BadCause, Exit, LOG_BYTES, run_program, run_replay};
 use script_text::{Script, read_script};
@@ -179,7 +179,8 @@ fn tried(alloc: Global, script: &Script, disk: SureDisk) -> Result<Option<usize>
     }
     match Log::format(alloc, disk) {
         Ok(mut log) => {
-            let trace = run_replay(alloc, script, &mut log)?;
+            let mut none: Vec<Box<dyn Resource + Send>> = Vec::new(alloc);
+            let trace = run_replay(alloc, script, &mut log, none.as_mut_slice())?;
             Ok(Some(trace.len()))
         }
         Err(_) => Err(AllocError),

@@ -4,6 +4,7 @@ pub mod CallsExample
 pub mod Closing
 pub mod Entered
 pub mod Filling
+pub mod Managing
 pub mod Openings
 pub mod PlanTable
 pub mod Scoping

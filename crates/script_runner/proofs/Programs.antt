@@ -57,7 +57,7 @@ reads-front given bytes s front reads b told = reads-all b s (subst (λ (x : Lis
 
 -- the text of a replay's trace is that of a replay
 pub text_of : {D E : Type 0} (faults : D → ℕ) (honest : Bool) (image : D → List ℕ → Type 0) (f : Form) (s : List Line) (old new : LogState D) (T : List Placed) (r : Result (Vec ℕ Global) E)
-    → IsRunOf s (faults old.disk) (faults new.disk) (honest && is_empty (open_records old.slots)) T → (IsTrue honest → AreTied T) → (AreTied T → HasOneOutcome T) → (AreTied T → IsComplete s T)
+    → IsRunOf s 0 (faults old.disk) (faults new.disk) (honest && is_empty (open_records old.slots)) T → (IsTrue honest → AreTied T) → (AreTied T → HasOneOutcome T) → (AreTied T → IsComplete s T)
     → (AreTied T → AreWaitsAnswered s T) → new.is_up ≡ is_log_up (past_of T) → (IsTrue honest → EndsAs image (open_records old.slots) new (past_of T))
     → (IsTrue honest → has is_no_log_answer (at_log (past_of T)) ≡ false) → IfOk r (λ v. v.items ≡ form_text f T) → IfOk r (λ v. IsReplayText faults honest image f s old new v.items)
 text_of faults honest image f s old new T (Ok v) run tied outcome complete waited up ended unlike k =
@@ -138,11 +138,11 @@ is_log_of image before to T none up ended =
     }
 
 -- the run is one from and to the counts that the disk had before it was a log and after it
-is_run_of : (s : List Line) (a b from to : ℕ) (honest : Bool) (rs : List CommitRecord) (T : List Placed) → from ≡ a → to ≡ b → rs ≡ [] → IsRunOf s from to (honest && is_empty rs) T → IsRunOf s a b honest T
+is_run_of : (s : List Line) (a b from to : ℕ) (honest : Bool) (rs : List CommitRecord) (T : List Placed) → from ≡ a → to ≡ b → rs ≡ [] → IsRunOf s 0 from to (honest && is_empty rs) T → IsRunOf s 0 a b honest T
 is_run_of s a b from to honest rs T e f none run =
-    let blank : IsRunOf s from to honest T =
-    subst (λ (h : Bool). IsRunOf s from to h T) (ap (λ (xs : List CommitRecord). honest && is_empty xs) none ∙ and-true honest) run in
-    subst (λ (n : ℕ). IsRunOf s n b honest T) e (subst (λ (n : ℕ). IsRunOf s from n honest T) f blank)
+    let blank : IsRunOf s 0 from to honest T =
+    subst (λ (h : Bool). IsRunOf s 0 from to h T) (ap (λ (xs : List CommitRecord). honest && is_empty xs) none ∙ and-true honest) run in
+    subst (λ (n : ℕ). IsRunOf s 0 n b honest T) e (subst (λ (n : ℕ). IsRunOf s 0 from n honest T) f blank)
 
 -- What the top call knows when the text is to be written: a replay of the script that the source gave, whose text it is.
 pub record HasText (f : Form) (from to : ℕ) (honest : Bool) (image : List ℕ → Type 0) (given : Option (List ℕ)) (text : List ℕ) : Type 0 where

@@ -38,7 +38,7 @@ form_text Summary T = summary_text T
 pub record IsReplayOf (given : Option (List ℕ)) (from to : ℕ) (honest : Bool) (image : List ℕ → Type 0) (s : List Line) (T : List Placed) : Type 0 where
   pub read : ForSome given (λ b. Reads b s)
   pub script : IsScript s
-  pub run : IsRunOf s from to honest T
+  pub run : IsRunOf s 0 from to honest T
   pub tied : IsTrue honest → AreTied T
   pub outcome : AreTied T → HasOneOutcome T
   pub complete : AreTied T → IsComplete s T

@@ -26,7 +26,7 @@ HasNoReplay b Memory = Unit {0}
 -- the text, in this form, is that of a replay of these lines over a log, whose disk is honest or not
 pub record IsReplayText {D : Type 0} (faults : D → ℕ) (honest : Bool) (image : D → List ℕ → Type 0) (f : Form) (s : List Line) (old new : LogState D) (text : List ℕ) : Type 0 where
   pub trace : List Placed
-  pub run : IsRunOf s (faults old.disk) (faults new.disk) (honest && is_empty (open_records old.slots)) trace
+  pub run : IsRunOf s 0 (faults old.disk) (faults new.disk) (honest && is_empty (open_records old.slots)) trace
   pub tied : IsTrue honest → AreTied trace
   pub outcome : AreTied trace → HasOneOutcome trace
   pub complete : AreTied trace → IsComplete s trace

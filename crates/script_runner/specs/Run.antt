@@ -19,10 +19,10 @@ abbrev pub IsRise : ℕ → ℕ → ℕ → Type 0
 IsRise from to rise = to < LAST → rise ≡ to - from
 
 -- T is a run of the script in the order of a replay, over a disk that is honest and whose log had no record, or not, and whose count of faults was `from` before and is `to` now: each transaction's history is one that the script's
--- lines cause; and where each restart found what may be found, it is a settled history of the script.
-pub record IsRunOf (s : List Line) (from to : ℕ) (is_honest : Bool) (T : List Placed) : Type 0 where
+-- lines cause where the first k managers have objects; and where each restart found what may be found, it is a settled history of the script.
+pub record IsRunOf (s : List Line) (k from to : ℕ) (is_honest : Bool) (T : List Placed) : Type 0 where
   pub rise : ℕ
   pub risen : IsRise from to rise
   pub replay : IsReplay s rise is_honest T
-  pub caused : (t : TxNo) → Caused s 0 t.value (history t.value (past_of T))
-  pub history : AreTied T → IsHistory s 0 rise T
+  pub caused : (t : TxNo) → Caused s k t.value (history t.value (past_of T))
+  pub history : AreTied T → IsHistory s k rise T

@@ -13,10 +13,9 @@ use Rattle.dtx_model.specs.World.{core}
 use Rattle.dtx_model.specs.Log.{CommitRecord, first_of}
 use Rattle.dtx_model.specs.Promotes.{identifier_of}
 use Rattle.dtx_model.specs.Steps.{Step, StepName, Stops, Restarts, after, pending}
-use Rattle.dtx_model.specs.Caused.{AreMadeOnce, IsCallOf, IsIn, IsNamed, IsOwnRun, Settled, is_as_planned, is_begin_sent, plans_of}
+use Rattle.dtx_model.specs.Caused.{AreMadeOnce, IsCallOf, IsIn, IsNamed, IsOwnRun, Settled, has_object, is_as_planned, is_begin_sent, plans_of}
 use Rattle.dtx_model.specs.Traces.{Placed, history}
 use Rattle.dtx_model.specs.Replay.{HasSettled, RoundsRan, StepsRan, after_turn, is_in_replay, is_passed, last_turn, world_at}
-use Rattle.dtx_model.specs.History.{nobody}
 use Rattle.coordinator_log.specs.Slots.{open_records}
 use Rattle.coordinator_log.specs.State.{LogState}
 use Rattle.scope_context.specs.Standing.{Standing}
@@ -26,9 +25,10 @@ use Rattle.tx_world.specs.State.{TxState, is_hit_by, is_reached_by}
 use Rattle.tx_world.specs.Tried.{IsTried}
 use Rattle.script_runner.specs.LogRun.{IsCounted, IsForeignKept, is_no_log_answer}
 
--- its script, the transactions by number up to the last that was called, the contexts of its actors, and its trace
+-- its script, how many managers have an object, the transactions by number up to the last that was called, the contexts of its actors, and its trace
 pub record RunState : Type 0 where
   pub script : List Line
+  pub objects : ℕ
   pub worlds : List TxState
   pub contexts : List Standing
   pub trace : List Placed
@@ -46,15 +46,15 @@ pub record AreNumbered (ws : List TxState) : Type 0 where
   pub few : length ws ≤ MAX
   pub numbered : (t : TxNo) → (state_of t ws).transaction ≡ t
 
--- each reply in the history is the planned one
-abbrev pub IsToPlan : List Line → List Entry → Type 0
-IsToPlan s h = always (is_as_planned (plans_of s) nobody) h ≡ true
+-- each reply in the history is the planned one, or that of an enlistment whose manager has an object, as the first k have
+abbrev pub IsToPlan : List Line → ℕ → List Entry → Type 0
+IsToPlan s k h = always (is_as_planned (plans_of s) (has_object s k)) h ≡ true
 
--- A transaction is that of its history in the trace T, newest first: each call that was entered is one that the script gives it, and each reply is the planned one.
-pub record IsTied (s : List Line) (t : TxNo) (T : List Placed) (x : TxState) : Type 0 where
+-- A transaction is that of its history in the trace T, newest first: each call that was entered is one that the script gives it, and each reply that no object gave is the planned one.
+pub record IsTied (s : List Line) (k : ℕ) (t : TxNo) (T : List Placed) (x : TxState) : Type 0 where
   pub past : x.world.past ≡ history t.value T
   pub given : (n : ℕ) (a : ActorNo) (c : Call) → IsIn x.world.calls n a c → IsCallOf s t.value n a c
-  pub planned : IsToPlan s x.world.past
+  pub planned : IsToPlan s k x.world.past
 
 -- A transaction is what its own calls made; what its coordinator keeps of the log is what it knows; and where each restart found what may be found, it is what its history says. No two of its calls make the same enlistment or the same clone.
 pub record IsRecordKept (x : TxState) : Type 0 where
@@ -76,7 +76,7 @@ pub record FitsLog {D : Type 0} (image : D → List ℕ → Type 0) (log : LogSt
 -- What holds of a run over a log: each transaction is tied to its history in the trace, goes with the log, and has its record there; the log is up exactly where the trace says so, and then it isn't the call of a
 -- restart that stands last at the log; and where the log is honest its records fit each transaction, each restart found what may be found, and the record that a transaction keeps names who said PREPARED.
 pub record Holds {D : Type 0} (honest : Bool) (image : D → List ℕ → Type 0) (log : LogState D) (r : RunState) : Type 0 where
-  pub tied : (t : TxNo) → IsTied r.script t (past_of r.trace) (state_of t r.worlds)
+  pub tied : (t : TxNo) → IsTied r.script r.objects t (past_of r.trace) (state_of t r.worlds)
   pub kept : (t : TxNo) → IsRecordKept (state_of t r.worlds)
   pub goes : (t : TxNo) → GoesWith log (state_of t r.worlds)
   pub had : (t : TxNo) → IsHad (state_of t r.worlds) log

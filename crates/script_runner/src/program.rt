@@ -29,6 +29,7 @@ use crate::exit::Exit;
 use crate::replay::run_replay;
 use crate::transfer::{ReadError, WriteStop, read_all, write_all};
 use coordinator_log::{Log, LogRefusal};
+use dtx_values::Resource;
 use outside::{Disk, Sink, Source, SureSource};
 use program_words::{Command, Form, command_of};
 use script_maker::make_script;
@@ -83,7 +84,8 @@ fn replayed<D: Disk>(
     ensures log { LogGoes D.faults D.honest D.image log.old log.new }
     ensures stays { has_log_line script.now ≡ false → LogStays D.faults log.old log.new }
 {
-    let trace = run_replay(alloc, script, log)?;
+    let mut none: Vec<Box<dyn Resource + Send>> = Vec::new(alloc);
+    let trace = run_replay(alloc, script, log, none.as_mut_slice())?;
     text_in(alloc, form, &trace)
 }
 

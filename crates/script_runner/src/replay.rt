@@ -36,7 +36,7 @@ ghost use Rattle.world_laws.specs.Left.{steps_left};
 
 use coordinator_log::{Log, LogRefusal};
 use dtx_values::{
-    ActorNo, Answer, Body, Call, Entry, Image, Line, LogNote, Outbox, Place, Script, TxNo,
+    ActorNo, Answer, Body, Call, Entry, Image, Line, LogNote, Outbox, Place, Resource, Script, TxNo,
 };
 use entry_lists::{PlacedEntries, Trace};
 use outcome_law::{appends, completeness, crossings, lifting, one_outcome, replay, stops};
@@ -54,6 +54,8 @@ use world_laws::{rights, untried};
 pub struct Run<'a> {
     alloc: Global,
     plans: Plans<'a>,
+    /// Those of the first managers, in order.
+    resources: &'a mut [Box<dyn Resource + Send>],
     /// The transactions by number, up to the last that was called.
     worlds: Vec<TxWorld>,
     contexts: Vec<Context>,
@@ -72,7 +74,7 @@ impl<'a> Model for Run<'a> {
 
     ghost Value = { RunState };
 
-    ghost view = { λ r. record { script = r.plans; worlds = r.worlds.items; contexts = r.contexts.items; trace = r.trace.items } };
+    ghost view = { λ r. record { script = r.plans; objects = length r.resources.now; worlds = r.worlds.items; contexts = r.contexts.items; trace = r.trace.items } };
 
     ghost invariant = { λ r. AreNumbered r.worlds.items × (length r.contexts.items ≡ MAX) × (are_named_well r.plans ≡ true) };
 }
@@ -126,13 +128,18 @@ fn note(trace: &mut PlacedEntries, t: TxNo, world: &TxWorld, from: usize) -> Res
 impl<'a> Run<'a> {
     /// A replay of these lines, before its first step. It has room for every transaction, and for an entry of each line: memory that is never written costs
     /// nothing, and what grows step by step is copied.
-    pub fn new(alloc: Global, lines: &'a [Line]) -> Result<Self, AllocError>
+    pub fn new(
+        alloc: Global,
+        lines: &'a [Line],
+        resources: &'a mut [Box<dyn Resource + Send>],
+    ) -> Result<Self, AllocError>
         requires { are_named_well lines.now ≡ true }
-        ensures { IfOk result (λ r. r ≡ record { script = lines.entry.now; worlds = []; contexts = replicate ActorNo.MAX nothing_open; trace = [] }) }
+        ensures { IfOk result (λ r. r ≡ record { script = lines.entry.now; objects = length resources.old; worlds = []; contexts = replicate ActorNo.MAX nothing_open; trace = [] }) }
     {
         Ok(Run {
             alloc,
             plans: Plans::new(alloc, lines)?,
+            resources,
             worlds: Vec::with_capacity(alloc, TxNo::MAX as usize)?,
             contexts: contexts(alloc)?,
             entries: Vec::new(alloc),
@@ -157,6 +164,7 @@ impl<'a> Run<'a> {
         requires answers { MayAnswer t.value (state_of t self.old.worlds).world c.now done }
         ensures contexts { self.new.contexts ≡ self.old.contexts }
         ensures script { self.new.script ≡ self.old.script }
+        ensures objects { self.new.objects ≡ self.old.objects }
         ensures holds { OnOk result (Holds D.honest D.image log.now self.new) }
         ensures tells { OnOk result ((start : LogState D) → Tells D.faults D.honest D.image start log.now (past_of self.old.trace) → Tells D.faults D.honest D.image start log.now (past_of self.new.trace)) }
         ensures others { (u : TxNo) → u ≢ t → state_of u self.new.worlds ≡ state_of u self.old.worlds }
@@ -177,9 +185,10 @@ impl<'a> Run<'a> {
 
     /// Tells each transaction, by number, that the log was stopped in this life, and writes what that brings.
     fn stop_all(&mut self, life: u64) -> Result<(), WorldError>
-        requires tied { (t : TxNo) → IsTied self.old.script t (past_of self.old.trace) (state_of t self.old.worlds) }
+        requires tied { (t : TxNo) → IsTied self.old.script self.old.objects t (past_of self.old.trace) (state_of t self.old.worlds) }
         requires lives { (t : TxNo) → has is_begin_sent (state_of t self.old.worlds).world.past ≡ true → (state_of t self.old.worlds).life ≡ life }
         ensures script { self.new.script ≡ self.old.script }
+        ensures objects { self.new.objects ≡ self.old.objects }
         ensures contexts { self.new.contexts ≡ self.old.contexts }
         ensures calls { HaveSameCalls self.old.worlds self.new.worlds }
         ensures worlds { OnOk result ((t : TxNo) → state_of t self.new.worlds ≡ halted life (state_of t self.old.worlds)) }
@@ -200,11 +209,12 @@ impl<'a> Run<'a> {
     /// Tells each transaction, by number, that the log was opened again, and writes what that brings: whether its record was found.
     fn restart_all<D: Disk>(&mut self, log: &Log<D>) -> Result<(), WorldError>
         requires up { IsTrue log.now.is_up }
-        requires tied { (t : TxNo) → IsTied self.old.script t (past_of self.old.trace) (state_of t self.old.worlds) }
+        requires tied { (t : TxNo) → IsTied self.old.script self.old.objects t (past_of self.old.trace) (state_of t self.old.worlds) }
         requires fits { IsTrue D.honest → (t : TxNo) → Fits (state_of t self.old.worlds) (open_records log.now.slots) }
         requires stopped { (t : TxNo) → has is_begin_sent (state_of t self.old.worlds).world.past ≡ true → (core (state_of t self.old.worlds).world).stopped ≡ true }
         requires lives { (t : TxNo) → has is_begin_sent (state_of t self.old.worlds).world.past ≡ true → (state_of t self.old.worlds).life < log.now.life }
         ensures script { self.new.script ≡ self.old.script }
+        ensures objects { self.new.objects ≡ self.old.objects }
         ensures contexts { self.new.contexts ≡ self.old.contexts }
         ensures calls { HaveSameCalls self.old.worlds self.new.worlds }
         ensures worlds { OnOk result ((t : TxNo) → state_of t self.new.worlds ≡ reopened log.now (state_of t self.old.worlds)) }
@@ -230,6 +240,7 @@ impl<'a> Run<'a> {
         ensures log { LogGoes D.faults D.honest D.image log.old log.new }
         ensures stays { LogStays D.faults log.old log.new }
         ensures script { self.new.script ≡ self.old.script }
+        ensures objects { self.new.objects ≡ self.old.objects }
         ensures holds { OnOk result (Holds D.honest D.image log.new self.new) }
         ensures tells { OnOk result ((start : LogState D) → Tells D.faults D.honest D.image start log.old (past_of self.old.trace) → Tells D.faults D.honest D.image start log.new (past_of self.new.trace)) }
         ensures calls { HaveSameCalls self.old.worlds self.new.worlds }
@@ -277,6 +288,7 @@ impl<'a> Run<'a> {
         ensures log { LogGoes D.faults D.honest D.image log.old log.new }
         ensures stays { LogStays D.faults log.old log.new }
         ensures script { self.new.script ≡ self.old.script }
+        ensures objects { self.new.objects ≡ self.old.objects }
         ensures holds { OnOk result (Holds D.honest D.image log.new self.new) }
         ensures tells { OnOk result ((start : LogState D) → Tells D.faults D.honest D.image start log.old (past_of self.old.trace) → Tells D.faults D.honest D.image start log.new (past_of self.new.trace)) }
         ensures calls { HaveSameCalls self.old.worlds self.new.worlds }
@@ -298,6 +310,7 @@ impl<'a> Run<'a> {
         ensures log { LogGoes D.faults D.honest D.image log.old log.new }
         ensures stays { LogStays D.faults log.old log.new }
         ensures script { self.new.script ≡ self.old.script }
+        ensures objects { self.new.objects ≡ self.old.objects }
         ensures holds { OnOk result (Holds D.honest D.image log.new self.new) }
         ensures tells { OnOk result ((start : LogState D) → Tells D.faults D.honest D.image start log.old (past_of self.old.trace) → Tells D.faults D.honest D.image start log.new (past_of self.new.trace)) }
         ensures calls { HaveSameCalls self.old.worlds self.new.worlds }
@@ -319,6 +332,7 @@ impl<'a> Run<'a> {
         ensures log { LogGoes D.faults D.honest D.image log.old log.new }
         ensures stays { LogStays D.faults log.old log.new }
         ensures script { self.new.script ≡ self.old.script }
+        ensures objects { self.new.objects ≡ self.old.objects }
         ensures holds { OnOk result (Holds D.honest D.image log.new self.new) }
         ensures tells { OnOk result ((start : LogState D) → Tells D.faults D.honest D.image start log.old (past_of self.old.trace) → Tells D.faults D.honest D.image start log.new (past_of self.new.trace)) }
         ensures turns { OnOk result ((start : List Placed) → IsRoundAt self.old.script start 1 (past_of self.old.trace) → IsRoundAt self.old.script start 1 (past_of self.new.trace)) }
@@ -337,6 +351,7 @@ impl<'a> Run<'a> {
         ensures log { LogGoes D.faults D.honest D.image log.old log.new }
         ensures stays { LogStays D.faults log.old log.new }
         ensures script { self.new.script ≡ self.old.script }
+        ensures objects { self.new.objects ≡ self.old.objects }
         ensures holds { OnOk result (Holds D.honest D.image log.new self.new) }
         ensures tells { OnOk result ((start : LogState D) → Tells D.faults D.honest D.image start log.old (past_of self.old.trace) → Tells D.faults D.honest D.image start log.new (past_of self.new.trace)) }
         ensures turns { OnOk result ((start : List Placed) → IsRoundAt self.old.script start 1 (past_of self.old.trace) → IsRoundAt self.old.script start 1 (past_of self.new.trace)) }
@@ -358,6 +373,7 @@ impl<'a> Run<'a> {
     fn at_context(&mut self, n: u32, l: &Line) -> Result<Gives, AllocError>
         requires { IsUnopened l.now.body (scopes_at l.now.actor self.old.contexts) }
         ensures script { self.new.script ≡ self.old.script }
+        ensures objects { self.new.objects ≡ self.old.objects }
         ensures worlds { self.new.worlds ≡ self.old.worlds }
         ensures block { OnOk result (past_of self.new.trace ≡ onto (past_of self.old.trace) (noted l.now.actor (scope_block n l.now.actor l.now.body (scopes_at l.now.actor self.old.contexts)))) }
         ensures calls { IfOk result (λ g. calls_given g (rolled_at l.now.actor self.new.contexts) ≡ scope_calls l.now.body (scopes_at l.now.actor self.old.contexts)) }
@@ -387,6 +403,7 @@ impl<'a> Run<'a> {
         requires once { AreOnce (rolled_at actor self.old.contexts) }
         ensures contexts { self.new.contexts ≡ self.old.contexts }
         ensures script { self.new.script ≡ self.old.script }
+        ensures objects { self.new.objects ≡ self.old.objects }
         ensures holds { OnOk result (Holds D.honest D.image log.now self.new) }
         ensures tells { OnOk result ((start : LogState D) → Tells D.faults D.honest D.image start log.now (past_of self.old.trace) → Tells D.faults D.honest D.image start log.now (past_of self.new.trace)) }
         ensures entered { OnOk result (AreBelow (n + 1) self.new.worlds) }
@@ -409,6 +426,7 @@ impl<'a> Run<'a> {
         requires unopened { IsUnopened l.now.body (scopes_at l.now.actor self.old.contexts) }
         requires no_call { call_of self.old.script l.now.body ≡ None }
         ensures script { self.new.script ≡ self.old.script }
+        ensures objects { self.new.objects ≡ self.old.objects }
         ensures holds { OnOk result (Holds D.honest D.image log.now self.new) }
         ensures tells { OnOk result ((start : LogState D) → Tells D.faults D.honest D.image start log.now (past_of self.old.trace) → Tells D.faults D.honest D.image start log.now (past_of self.new.trace)) }
         ensures entered { OnOk result (AreBelow (n + 1) self.new.worlds) }
@@ -438,6 +456,7 @@ impl<'a> Run<'a> {
         ensures log { LogGoes D.faults D.honest D.image log.old log.new }
         ensures stays { LogStays D.faults log.old log.new }
         ensures script { self.new.script ≡ self.old.script }
+        ensures objects { self.new.objects ≡ self.old.objects }
         ensures holds { OnOk result (Holds D.honest D.image log.new self.new) }
         ensures tells { OnOk result ((start : LogState D) → Tells D.faults D.honest D.image start log.old (past_of self.old.trace) → Tells D.faults D.honest D.image start log.new (past_of self.new.trace)) }
         ensures entered { OnOk result (AreBelow (n + 1) self.new.worlds) }
@@ -472,6 +491,7 @@ impl<'a> Run<'a> {
         ensures log { LogGoes D.faults D.honest D.image log.old log.new }
         ensures life { log.new.life ≡ log.old.life }
         ensures script { self.new.script ≡ self.old.script }
+        ensures objects { self.new.objects ≡ self.old.objects }
         ensures holds { OnOk result (Holds D.honest D.image log.new self.new) }
         ensures tells { OnOk result ((start : LogState D) → Tells D.faults D.honest D.image start log.old (past_of self.old.trace) → Tells D.faults D.honest D.image start log.new (past_of self.new.trace)) }
         ensures done { OnOk result (past_of self.new.trace ≡ at_the_log (LogWord (Armed k image)) (at_the_log (Called n actor Fine) (past_of self.old.trace))) }
@@ -498,6 +518,7 @@ impl<'a> Run<'a> {
         ensures log { LogGoes D.faults D.honest D.image log.old log.new }
         ensures life { log.new.life ≤ log.old.life + 1 }
         ensures script { self.new.script ≡ self.old.script }
+        ensures objects { self.new.objects ≡ self.old.objects }
         ensures holds { OnOk result (Holds D.honest D.image log.new self.new) }
         ensures tells { OnOk result ((start : LogState D) → Tells D.faults D.honest D.image start log.old (past_of self.old.trace) → Tells D.faults D.honest D.image start log.new (past_of self.new.trace)) }
         ensures calls { HaveSameCalls self.old.worlds self.new.worlds }
@@ -538,6 +559,7 @@ impl<'a> Run<'a> {
         ensures stays { is_log_line l.now.body ≡ false → LogStays D.faults log.old log.new }
         ensures life { log.new.life ≤ log.old.life + 1 }
         ensures script { self.new.script ≡ self.old.script }
+        ensures objects { self.new.objects ≡ self.old.objects }
         ensures holds { OnOk result (Holds D.honest D.image log.new self.new) }
         ensures tells { OnOk result ((start : LogState D) → Tells D.faults D.honest D.image start log.old (past_of self.old.trace) → Tells D.faults D.honest D.image start log.new (past_of self.new.trace)) }
         ensures entered { OnOk result (AreBelow (n + 1) self.new.worlds) }
@@ -565,6 +587,7 @@ impl<'a> Run<'a> {
         ensures log { LogGoes D.faults D.honest D.image log.old log.new }
         ensures stays { has_log_line self.old.script ≡ false → LogStays D.faults log.old log.new }
         ensures script { self.new.script ≡ self.old.script }
+        ensures objects { self.new.objects ≡ self.old.objects }
         ensures holds { OnOk result (Holds D.honest D.image log.new self.new) }
         ensures tells { OnOk result ((start : LogState D) → Tells D.faults D.honest D.image start log.old (past_of self.old.trace) → Tells D.faults D.honest D.image start log.new (past_of self.new.trace)) }
         ensures ran { OnOk result (LinesRan self.old.script (past_of self.old.script) (past_of self.new.trace)) }
@@ -599,7 +622,12 @@ fn restart_answer(reopened: &Result<u16, LogRefusal>) -> Answer
 }
 
 /// The trace of what the lines do in order, and of the rounds after them.
-fn trace_of<D: Disk>(alloc: Global, lines: &[Line], log: &mut Log<D>) -> Result<Trace, WorldError>
+fn trace_of<D: Disk>(
+    alloc: Global,
+    lines: &[Line],
+    log: &mut Log<D>,
+    resources: &mut [Box<dyn Resource + Send>],
+) -> Result<Trace, WorldError>
     requires script { IsScript lines.now }
     requires up { IsTrue log.old.is_up }
     requires unarmed { log.old.armed ≡ None }
@@ -609,7 +637,7 @@ fn trace_of<D: Disk>(alloc: Global, lines: &[Line], log: &mut Log<D>) -> Result<
     ensures stays { has_log_line lines.now ≡ false → LogStays D.faults log.old log.new }
     ensures replayed { IfOk result (λ T. IsReplayed lines.now (past_of T)) }
     ensures settled { IfOk result (λ T. (t : TxNo) → Settled lines.now (history t.value (past_of T))) }
-    ensures planned { IfOk result (λ T. (t : TxNo) → IsToPlan lines.now (history t.value (past_of T))) }
+    ensures planned { IfOk result (λ T. (t : TxNo) → IsToPlan lines.now (length resources.old) (history t.value (past_of T))) }
     ensures counted { IfOk result (λ T. IsCounted (D.faults log.old.disk) (D.faults log.new.disk) log.new.armed (past_of T)) }
     ensures opens { IsTrue D.honest → open_records log.old.slots ≡ [] → IfOk result (λ T. open_right [] (past_of T) ≡ true) }
     ensures unlike { IsTrue D.honest → IfOk result (λ T. has is_no_log_answer (at_log (past_of T)) ≡ false) }
@@ -619,7 +647,7 @@ fn trace_of<D: Disk>(alloc: Global, lines: &[Line], log: &mut Log<D>) -> Result<
 {
     // A proof sees here, and at the end, that each image has the records of a log that is up.
     let _ = log.is_up();
-    let mut run = Run::new(alloc, lines)?;
+    let mut run = Run::new(alloc, lines, resources)?;
     run.lines(log)?;
     run.settle_all(log)?;
     let _ = log.is_up();
@@ -629,10 +657,19 @@ fn trace_of<D: Disk>(alloc: Global, lines: &[Line], log: &mut Log<D>) -> Result<
 /// Replays a script: runs its lines in order, and settles its transactions, over a log that is up, on which no stop is armed, that has no record of the script's transactions, and whose life is at
 /// most 2^62. A stop of the log stands in the trace, and so does a fault of the disk, which stops it.
 ///
+/// The object at place k of `resources`, from 0, is that of manager r(k + 1). It hears each note to which a reply of one of its manager's enlistments is due, and its answer is the reply. The planned
+/// reply is taken where there is no object, as for volatiles, and where it gives no answer or one that doesn't fit the note. An enlistment that plans no reply to a note stays silent, whatever its
+/// object would say.
+///
 /// # Errors
 ///
 /// [`AllocError`] where memory ran out.
-pub fn run_replay<D: Disk>(alloc: Global, s: &Script, log: &mut Log<D>) -> Result<Trace, AllocError>
+pub fn run_replay<D: Disk>(
+    alloc: Global,
+    s: &Script,
+    log: &mut Log<D>,
+    resources: &mut [Box<dyn Resource + Send>],
+) -> Result<Trace, AllocError>
     requires script { IsScript s.now }
     requires up { IsTrue log.old.is_up }
     requires unarmed { log.old.armed ≡ None }
@@ -641,7 +678,7 @@ pub fn run_replay<D: Disk>(alloc: Global, s: &Script, log: &mut Log<D>) -> Resul
 
     // The trace: a run of the script in the order of a replay. On an honest disk each restart in it found what may be found; and so is each trace without a restart. Where that is so, it is a settled history,
     // with one outcome for each transaction, and complete.
-    ensures replay { IfOk result (λ T. IsRunOf s.now (D.faults log.old.disk) (D.faults log.new.disk) (D.honest && is_empty (open_records log.old.slots)) T) }
+    ensures replay { IfOk result (λ T. IsRunOf s.now (length resources.old) (D.faults log.old.disk) (D.faults log.new.disk) (D.honest && is_empty (open_records log.old.slots)) T) }
     ensures tied { IsTrue D.honest → IfOk result (λ T. AreTied T) }
     ensures outcome { IfOk result (λ T. AreTied T → HasOneOutcome T) }
     ensures complete { IfOk result (λ T. AreTied T → IsComplete s.now T) }
@@ -666,7 +703,7 @@ pub fn run_replay<D: Disk>(alloc: Global, s: &Script, log: &mut Log<D>) -> Resul
     appends();
     untried();
     stops();
-    match trace_of(alloc, s.lines(), log) {
+    match trace_of(alloc, s.lines(), log, resources) {
         Ok(trace) => Ok(trace),
         Err(WorldError::Memory) => Err(AllocError),
     }
