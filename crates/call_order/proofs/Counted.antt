@@ -13,7 +13,7 @@ use Rattle.dtx_model.specs.Words.{past_of}
 use Rattle.call_order.specs.InOrder.{AreInActorOrder, is_by}
 
 -- The calls of a line by an actor at a place are those of the line among the actor's there.
-of_line : ℕ → Place × ℕ × ActorNo → Bool
+abbrev of_line : ℕ → Place × ℕ × ActorNo → Bool
 of_line n c = n == c.1
 
 counted_by : (p : Place) (n a : ℕ) (cs : List (Place × ℕ × ActorNo)) → how_many (is_call_at p n a) cs ≡ how_many (of_line n) (filter (is_by p a) cs)
