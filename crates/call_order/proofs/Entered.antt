@@ -11,7 +11,7 @@ use Rattle.dtx_values.specs.declared.script.Line.{Line}
 use Rattle.dtx_model.specs.Caused.{IsOwnRun, Ran}
 use Rattle.dtx_model.specs.Facts.{facts_if, has_facts}
 use Rattle.dtx_model.specs.Steps.{Step, Calls, after, block_at}
-use Rattle.dtx_model.specs.Words.{each, onto, past_of, put}
+use Rattle.dtx_model.specs.Words.{each, onto, put}
 use Rattle.dtx_model.specs.World.{World, answer_at, facts_at}
 use Rattle.dtx_model.proofs.Bools.{and_left, and_right}
 use Rattle.outcome_law.proofs.Pending.{is_not_called}

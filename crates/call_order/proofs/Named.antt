@@ -1,5 +1,5 @@
 -- A script calls only transactions that it makes.
-use Rattle.std.proofs.Common.{◌≡◌, ℕ, suc, ◌==◌, Bool, true, false, ◌&&◌, ◌||◌, List, [], ◌∷◌, ◌++◌, Option, Some, None, length, map, inl, inr, refl, ap, sym, subst, ◌∙◌}
+use Rattle.std.proofs.Common.{◌≡◌, ℕ, suc, ◌==◌, Bool, true, false, ◌||◌, List, [], ◌∷◌, ◌++◌, Option, Some, None, length, map, inl, inr, refl, ap, sym, ◌∙◌}
 use Rattle.std.specs.Prelude.{if◌then◌else◌, not}
 use Rattle.std.proofs.lemmas.Bool.Decides.{eqb_tells}
 use Rattle.dtx_values.specs.Entered.{transaction_in}
@@ -9,26 +9,24 @@ use Rattle.dtx_values.specs.declared.entry.Answer.{Answer}
 use Rattle.dtx_values.specs.declared.entry.Answer.TheVariants.{Fine, Nested}
 use Rattle.dtx_values.specs.declared.number.TxNo.{TxNo}
 use Rattle.dtx_values.specs.declared.scope.Closed.{Closed}
-use Rattle.dtx_values.specs.declared.scope.Closed.TheVariants.{Commit as CommitAtClose, Rollback as RollbackAtClose, Nothing}
 use Rattle.dtx_values.specs.declared.scope.Entered.{Entered}
 use Rattle.dtx_values.specs.declared.scope.Entered.TheVariants.{Made, Joined, NoTx}
 use Rattle.dtx_values.specs.declared.scope.OpenScope.{OpenScope}
 use Rattle.dtx_values.specs.declared.script.Body.{Body}
 use Rattle.dtx_values.specs.declared.script.Body.TheVariants.{Begin, Open, Finish, Close, Volatile, Durable, Promotable, Clone, Complete, Commit, Rollback, Marshal, Status, Await, Tick, Do, Lose, Gone, Reenlist, Recovered}
 use Rattle.dtx_values.specs.declared.script.Line.{Line}
-use Rattle.dtx_values.specs.declared.script.Opening.{Opening}
 use Rattle.dtx_values.specs.declared.script.Opening.TheVariants.{Required, RequiresNew, Suppress}
 use Rattle.dtx_values.specs.declared.words.ScopeOption.{ScopeOption}
 use Rattle.dtx_values.specs.declared.words.ScopeOption.TheVariants.{Required as RequiredOption, RequiresNew as RequiresNewOption, Suppress as SuppressOption}
 use Rattle.dtx_values.specs.declared.words.Timeout.{Timeout}
 use Rattle.dtx_model.specs.Calls.{call_of, clone_made, complete_call, enlistment_made, gone_call, reenlist_call, transaction_of, transaction_with}
 use Rattle.dtx_model.specs.Contexts.{calls_by, closing_calls, ending_calls, entries_if, entries_of, is_fine, isolation_in, name_in, opening_calls, option_in, scope_calls, scope_entries, scopes_of, timeout_in, took_off}
-use Rattle.dtx_model.specs.Grammar.{IsScript, Name, OfTransaction, are_named_well, connection_uses, is_made, is_named_well, makes, opening_makes, same_name, uses}
-use Rattle.dtx_model.specs.Scopes.{ScopeEntry, Opens, Finishes, Closes, ambient, close_answer, closes, closing, closing_with, enter_answer, entering, finish_answer, finishes, is_scope, joins_or_makes, makes_it, once, open_before, open_scopes, rolled_back, scope_transaction, taken_off}
+use Rattle.dtx_model.specs.Grammar.{IsScript, Name, OfTransaction, connection_uses, is_made, is_named_well, makes, same_name, uses}
+use Rattle.dtx_model.specs.Scopes.{ScopeEntry, Opens, Finishes, Closes, ambient, close_answer, closes, closing, closing_with, enter_answer, entering, finish_answer, finishes, is_scope, joins_or_makes, once, open_before, open_scopes, rolled_back, scope_transaction, taken_off}
 use Rattle.dtx_model.specs.Words.{all_of, always, each, has, latest, onto, or_else, past_of, put}
 use Rattle.dtx_model.proofs.Bools.{and_left, and_right, not_both, or_right}
 use Rattle.dtx_model.proofs.Reading.{has-past}
-use Rattle.outcome_law.proofs.Lists.{OfEach, of-map, of-more}
+use Rattle.outcome_law.proofs.Lists.{OfEach, of-map}
 use Rattle.outcome_law.proofs.Tests.{eq_self}
 use Rattle.script_calls.specs.declared.rows.Due.{Due}
 use Rattle.script_calls.specs.Due.{calls_at, due_at, due_by_line, given_by}

@@ -1,8 +1,8 @@
 -- Where each place has of each actor the calls that its lines make there, in order, the trace is in the order on threads.
-use Rattle.std.proofs.Common.{◌≡◌, ℕ, suc, ◌==◌, Bool, true, false, ◌&&◌, cond, List, [], ◌∷◌, ◌++◌, Option, Some, None, filter, length, map, inl, inr, refl, ap, sym, subst, ◌∙◌}
+use Rattle.std.proofs.Common.{◌≡◌, ℕ, suc, ◌==◌, Bool, true, false, ◌&&◌, cond, List, [], ◌∷◌, ◌++◌, Option, Some, None, filter, length, map, refl, ap, sym, ◌∙◌}
 use Rattle.std.specs.Prelude.{if◌then◌else◌}
+use Rattle.std.proofs.Math.Bool.{and-true}
 use Rattle.std.proofs.lemmas.Bool.{eqb-true}
-use Rattle.std.proofs.lemmas.Bool.Decides.{eqb_tells}
 use Rattle.std.proofs.lemmas.List.{append-nil, map-append}
 use Rattle.std.proofs.lemmas.List.Elements.{filter-append}
 use Rattle.dtx_values.specs.declared.call.Call.{Call}
@@ -21,8 +21,9 @@ use Rattle.dtx_model.specs.Contexts.{called_with, calls_by, context, scope_answe
 use Rattle.dtx_model.specs.History.{same_place}
 use Rattle.dtx_model.specs.Replay.{at_its_context, at_log_line, due_by_line, due_calls}
 use Rattle.dtx_model.specs.Scopes.{ScopeEntry, Opens, Finishes, Closes}
-use Rattle.dtx_model.specs.Traces.{Placed, at_context, calls, called_of, entries_at, history, is_at, is_context}
+use Rattle.dtx_model.specs.Traces.{Placed, at_context, calls, entries_at, history, is_at, is_context}
 use Rattle.dtx_model.specs.Words.{all_of, each, onto, past_of, put}
+use Rattle.dtx_model.proofs.Bools.{and_never}
 use Rattle.dtx_model.proofs.Histories.{onto-append}
 use Rattle.dtx_model.proofs.SameNumbers.{same_actor, same_transaction}
 use Rattle.outcome_law.proofs.Pending.{is_not_called}
@@ -30,7 +31,7 @@ use Rattle.outcome_law.proofs.Tests.{eq_self}
 use Rattle.script_calls.specs.declared.calls.LogCall.{LogCall}
 use Rattle.script_calls.specs.declared.rows.Due.{Due}
 use Rattle.script_calls.specs.Due.{calls_at, calls_until, due_at, due_by_line as own_due, log_call, log_calls_at, log_calls_until, log_due, log_due_by_line}
-use Rattle.script_calls.specs.Prefix.{lines_by, own_line}
+use Rattle.script_calls.specs.Prefix.{lines_by}
 use Rattle.call_order.specs.InOrder.{AreInActorOrder, is_by, lines_of}
 use Rattle.call_order.proofs.Entered.{no_more_lines}
 use Rattle.call_order.proofs.Lists.{filter-none, filter-onto, map-past}
@@ -115,26 +116,18 @@ at_transaction t a n b cs = by_actor (a.value == b.value) refl
         ∙ ap (λ (d : ActorNo). called_by (Transaction t) d n ∷ rest) i ∙ ap (λ (cs : List Counted). called_by (Transaction t) a n ∷ cs) ih
     one c false e i cs rest ih = ih
 
-    and_true : (x : Bool) → (x && true) ≡ x
-    and_true true = refl
-    and_true false = refl
-
     mine : (a.value == b.value) ≡ true → (cs : List (TxNo × Call)) → filter (is_by (Transaction t) a.value) (map (called_there n b) cs) ≡ counted (Transaction t) a (all_of (due_at t.value n) cs)
     mine e [] = refl
     mine e (c ∷ cs) =
         let rest = filter (is_by (Transaction t) a.value) (map (called_there n b) cs) in
         ap (λ (x : Bool). cond ((t.value == c.0.value) && x) (called_there n b c ∷ rest) rest) e
-        ∙ ap (λ (x : Bool). cond x (called_there n b c ∷ rest) rest) (and_true (t.value == c.0.value))
+        ∙ ap (λ (x : Bool). cond x (called_there n b c ∷ rest) rest) (and-true (t.value == c.0.value))
         ∙ one c (t.value == c.0.value) refl (sym (same_actor a b (eqb-true a.value b.value e))) cs rest (mine e cs)
-
-    and_false : (x y : Bool) → y ≡ false → (x && y) ≡ false
-    and_false true y e = e
-    and_false false y e = refl
 
     by_actor : (x : Bool) → (a.value == b.value) ≡ x
         → filter (is_by (Transaction t) a.value) (map (called_there n b) cs) ≡ counted (Transaction t) a (if x then all_of (due_at t.value n) cs else [])
     by_actor true e = mine e cs
-    by_actor false e = filter-none (is_by (Transaction t) a.value) (called_there n b) (λ c. and_false (t.value == c.0.value) (a.value == b.value) e) cs
+    by_actor false e = filter-none (is_by (Transaction t) a.value) (called_there n b) (λ c. ap (λ (y : Bool). (t.value == c.0.value) && y) e ∙ and_never (t.value == c.0.value)) cs
 
 due_there : (s : List Line) (t : TxNo) (a : ActorNo) (ls : List Line)
     → filter (is_by (Transaction t) a.value) (due_calls s ls) ≡ past_of (counted (Transaction t) a (calls_until s a.value t.value ls))
