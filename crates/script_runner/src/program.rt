@@ -1,5 +1,5 @@
 //! The top call.
-ghost use Rattle.std.specs.Prelude.{◌≡◌, ◌≢◌, ◌⊎◌, ◌↔◌, ◌≤◌, ◌+◌, ◌++◌, ℕ, List, [], Some, drop, map, vec_len, IsTrue};
+ghost use Rattle.std.specs.Prelude.{◌≡◌, ◌≢◌, ◌⊎◌, ◌↔◌, ◌≤◌, ◌+◌, ◌++◌, ℕ, List, [], Some, drop, map, true, vec_len, IsTrue};
 ghost use Rattle.std.specs.Option.{ForSome};
 ghost use Rattle.std.specs.String.{string_bytes};
 ghost use Rattle.outside.specs.Faults.{Rose};
@@ -107,9 +107,10 @@ fn run_in<S: Source, K: Sink, D: Disk + Send, G: Gate + Sync, R: Threads + Wait 
         Ok(script) => script,
         Err(exit) => return (exit, disk),
     };
-    match text_of_run(rt, alloc, way, form, &script, disk, gate, resources) {
-        (Ok(text), disk) => (written(sink, &text), disk),
-        (Err(exit), disk) => (exit, disk),
+    let (text, disk) = text_of_run(rt, alloc, way, form, &script, disk, gate, resources);
+    match text {
+        Ok(text) => (written(sink, &text), disk),
+        Err(exit) => (exit, disk),
     }
 }
 

@@ -59,10 +59,13 @@ fn traced<D: Disk + Send, G: Gate + Sync, R: Threads + Wait + Sync>(
     ensures room { LOG_BYTES ≤ D.size result.1 }
 {
     match way {
-        Way::Replay => match replayed_over(alloc, script, log, resources.as_mut_slice()) {
-            (Ok(trace), disk) => (Ok(trace), disk),
-            (Err(AllocError), disk) => (Err(ThreadsError::Memory), disk),
-        },
+        Way::Replay => {
+            let (replayed, disk) = replayed_over(alloc, script, log, resources.as_mut_slice());
+            match replayed {
+                Ok(trace) => (Ok(trace), disk),
+                Err(_) => (Err(ThreadsError::Memory), disk),
+            }
+        }
         Way::Threads(helpers) => run_threads(rt, alloc, script, helpers, log, gate, resources),
     }
 }
@@ -93,12 +96,13 @@ pub fn text_of_run<D: Disk + Send, G: Gate + Sync, R: Threads + Wait + Sync>(
         Err((FormatStop::Fault, disk)) => return (Err(Exit::LogFault), disk),
         Err((FormatStop::Memory, disk)) => return (Err(Exit::Memory), disk),
     };
-    match traced(rt, alloc, way, script, log, gate, resources) {
-        (Ok(trace), disk) => match text_in(alloc, form, &trace) {
+    let (traced, disk) = traced(rt, alloc, way, script, log, gate, resources);
+    match traced {
+        Ok(trace) => match text_in(alloc, form, &trace) {
             Ok(text) => (Ok(text), disk),
-            Err(AllocError) => (Err(Exit::Memory), disk),
+            Err(_) => (Err(Exit::Memory), disk),
         },
-        (Err(ThreadsError::Fault), disk) => (Err(Exit::LogFault), disk),
-        (Err(ThreadsError::Memory), disk) => (Err(Exit::Memory), disk),
+        Err(ThreadsError::Fault) => (Err(Exit::LogFault), disk),
+        Err(ThreadsError::Memory) => (Err(Exit::Memory), disk),
     }
 }

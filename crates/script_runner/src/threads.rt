@@ -80,9 +80,10 @@ fn replayed_anew<D: Disk>(
         Err((FormatStop::Memory, disk)) => return (Err(ThreadsError::Memory), disk),
     };
     let mut none: Vec<Box<dyn Resource + Send>> = Vec::new(alloc);
-    match replayed_over(alloc, script, log, none.as_mut_slice()) {
-        (Ok(trace), disk) => (Ok(trace), disk),
-        (Err(AllocError), disk) => (Err(ThreadsError::Memory), disk),
+    let (replayed, disk) = replayed_over(alloc, script, log, none.as_mut_slice());
+    match replayed {
+        Ok(trace) => (Ok(trace), disk),
+        Err(_) => (Err(ThreadsError::Memory), disk),
     }
 }
 
