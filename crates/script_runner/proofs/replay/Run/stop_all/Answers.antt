@@ -19,6 +19,7 @@ pub loop-place-init : goal.loop-place-init
 loop-place-init c =
     record {
       plans = refl;
+      objects = refl;
       contexts = refl;
       through = through_none (halted c.args.life) (is_hit_by c.args.life) (λ t. Stopped) c.self.inside.worlds.items (past_of c.self.inside.trace.items) c.self.invariant.0;
       kept = λ kept. kept;
@@ -82,6 +83,7 @@ loop-place-preserved c =
     let record_kept : IsRecordKept y = record { own = c.is_own_run.ensures.run; once = c.is_own_run.ensures.once; ours = c.is_own_run.ensures.ours; tried = c.is_own_run.ensures.tried } in
     record {
       plans = c.loop-place.invariant.plans;
+      objects = c.loop-place.invariant.objects;
       contexts = c.loop-place.invariant.contexts;
       through =
           subst (λ (i : ℕ). IsThrough (halted life) (is_hit_by life) (λ t. Stopped) ws start (c.loop-place.place + 1) (set vs i y) (past_of c.note.new.trace.items)) (place b)
@@ -110,7 +112,7 @@ returns-clause-trace c =
     let r = c.args.self.now in
     let through = subst (λ (q : RunState). IsThrough (halted life) (is_hit_by life) (λ t. Stopped) q.worlds (past_of q.trace) n vs new) c.self.view_is c.loop-place.invariant.through in
     let all = subst (λ (q : RunState). length q.worlds ≤ n) c.self.view_is (omega (arith, c.loop-place-test.false, c.len-place-end.ensures)) in
-    halted_trace r.script life r.worlds vs (past_of r.trace) new n through all c.requires.tied c.requires.lives
+    halted_trace r.script r.objects life r.worlds vs (past_of r.trace) new n through all c.requires.tied c.requires.lives
 
 pub returns-clause-kept : goal.returns-clause-kept
 returns-clause-kept c =
