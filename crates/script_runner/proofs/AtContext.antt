@@ -41,7 +41,9 @@ noted_tied a es old new t n k =
     record {
       past = ap (λ (x : TxState). x.world.past) same ∙ k.past ∙ sym here;
       given = λ m b c i. subst (λ (s : List Line). IsCallOf s t.value m b c) (sym n.script) (k.given m b c (subst (λ (x : TxState). IsIn x.world.calls m b c) same i));
-XX
+      planned =
+          subst (λ (s : List Line). IsToPlan s new.objects (state_of t new.worlds).world.past) (sym n.script)
+          (subst (λ (o : ℕ). IsToPlan old.script o (state_of t new.worlds).world.past) (sym n.objects) (subst (λ (x : TxState). IsToPlan old.script old.objects x.world.past) (sym same) k.planned));
     }
 
 -- so what holds of the run holds still,

@@ -132,7 +132,7 @@ pub holds_halted : {D : Type 0} (honest : Bool) (image : D → List ℕ → Type
     → (IsTrue honest → AreWithin (image from.disk) (image to.disk)) → q.script ≡ r.script → q.objects ≡ r.objects → ((t : TxNo) → state_of t q.worlds ≡ halted from.life (state_of t r.worlds))
     → past_of q.trace ≡ put_at (λ u. Stopped) (hit (at_the_log Stopped (at_the_log (Called n a x) (past_of r.trace)))) (at_the_log Stopped (at_the_log (Called n a x) (past_of r.trace)))
     → ((t : TxNo) → IsRecordKept (state_of t q.worlds)) → Holds honest image from r → Holds honest image to q
-holds_halted {D} honest image from to r q n a x down life within script worlds trace kept h =
+holds_halted {D} honest image from to r q n a x down life within script objects worlds trace kept h =
     let T : List Placed = (Log, Stopped) ∷ (Log, Called n a x) ∷ past_of r.trace in record {
       tied = λ t.
           tied_move r.script q.script r.objects q.objects t (put_at (λ u. Stopped) (hit T) T) (past_of q.trace) (halted from.life (state_of t r.worlds)) (state_of t q.worlds) script objects trace (worlds t)

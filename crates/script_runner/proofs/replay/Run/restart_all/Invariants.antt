@@ -1,4 +1,4 @@
-use Rattle.std.proofs.Common.{◌≡◌, is_some, true}
+use Rattle.std.proofs.Common.{◌≡◌, is_some, length, true}
 use Rattle.std.specs.Prelude.{IsTrue}
 use Rattle.dtx_values.specs.declared.entry.Entry.TheVariants.{Restarted}
 use Rattle.dtx_values.specs.declared.number.TxNo.{TxNo}

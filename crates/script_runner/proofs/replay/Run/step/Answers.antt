@@ -42,7 +42,7 @@ reached g c =
 
 -- what the step is about
 abbrev about : (g : Over) → After-is_own_run-2 g → StepOf g.row.D.Denot
-about g c = record { run = c.args.self.now; t = c.args.t; k = c.args.k; given = c.asked.result; y = c.do_kth.new.world; from = c.args.log.now; to = c.do_kth.new.log }
+about g c = record { run = c.args.self.now; t = c.args.t; k = c.args.k; given = c.asked-reply.result; y = c.do_kth.new.world; from = c.args.log.now; to = c.do_kth.new.log }
 
 -- the world was the transaction's
 was_reached : (g : Over) (c : After-is_own_run-2 g) → was (about g c) ≡ c.index_mut-world.result.now
@@ -52,17 +52,17 @@ was_reached g c =
     (omega (arith, c.index.ensures.place, c.if-len-index.false, c.len.ensures)) c.index_mut-world.ensures.value)
 
 -- a reply that is given is one that an object may give
-may_give : (g : Over) (c : After-is_own_run-2 g) → MayGive c.args.self.now.script c.args.self.now.objects c.index_mut-world.result.now.world c.args.k c.asked.result
+may_give : (g : Over) (c : After-is_own_run-2 g) → MayGive c.args.self.now.script c.args.self.now.objects c.index_mut-world.result.now.world c.args.k c.asked-reply.result
 may_give g c =
     let inside = c.self.inside in
     let w = c.index_mut-world.result.now.world in
-    let due = subst (λ (j : ℕ). IfSome c.asked.result (λ x. MayReply w j x.0 x.1)) c.from.ensures c.asked.ensures.due in
-    subst (λ (r : RunState). MayGive r.script r.objects w c.args.k c.asked.result) c.self.view_is
-    (given_by inside.plans (length inside.resources.now) inside.managers.items w c.args.k c.asked.result c.self.invariant.4 due c.asked.ensures.object)
+    let due = subst (λ (j : ℕ). IfSome c.asked-reply.result (λ x. MayReply w j x.0 x.1)) c.from.ensures c.asked-reply.ensures.due in
+    subst (λ (r : RunState). MayGive r.script r.objects w c.args.k c.asked-reply.result) c.self.view_is
+    (given_by inside.plans (length inside.resources.now) inside.managers.items w c.args.k c.asked-reply.result c.self.invariant.4 due c.asked-reply.ensures.object)
 
 -- and none is lost
-objects : (g : Over) (c : After-is_own_run-2 g) → length c.asked.new.resources ≡ c.args.self.now.objects
-objects g c = c.asked.ensures.same ∙ ap (λ (r : RunState). r.objects) c.self.view_is
+objects : (g : Over) (c : After-is_own_run-2 g) → length c.asked-reply.new.resources ≡ c.args.self.now.objects
+objects g c = c.asked-reply.ensures.same ∙ ap (λ (r : RunState). r.objects) c.self.view_is
 
 -- it was done
 done : (g : Over) (c : After-is_own_run-2 g) → IsStep g.D.Disk.faults g.D.Disk.honest g.D.Disk.image (about g c)
@@ -79,7 +79,7 @@ done g c =
       made = subst (λ (r : RunState). c.args.t.value ≤ length r.worlds) c.self.view_is made;
       own = c.is_own_run.ensures.run;
       may = may_give g c;
-      does = subst (λ (j : ℕ). DoesGiven g.D.Disk.faults c.asked.result j x c.args.log.now y c.do_kth.new.log) c.from-2.ensures (c.in_ok-do_kth.ensures.some did);
+      does = subst (λ (j : ℕ). DoesGiven g.D.Disk.faults c.asked-reply.result j x c.args.log.now y c.do_kth.new.log) c.from-2.ensures (c.in_ok-do_kth.ensures.some did);
       nearer = c.in_ok-do_kth.ensures.nearer did;
       kept = c.do_kth.ensures.kept;
       slots = c.do_kth.ensures.slots;
@@ -97,11 +97,11 @@ log_goes g c = step_log g.D.Disk.faults g.D.Disk.honest g.D.Disk.image (about g 
 
 -- the run after it, as its parts stand then
 parts : (g : Over) (c : After-is_own_run-2 g) (T : List Placed)
-    → record { script = c.self.inside.plans; objects = length c.asked.new.resources; worlds = set c.self.inside.worlds.items c.index-2.result c.do_kth.new.world; contexts = c.self.inside.contexts.items; trace = T }
+    → record { script = c.self.inside.plans; objects = length c.asked-reply.new.resources; worlds = set c.self.inside.worlds.items c.index-2.result c.do_kth.new.world; contexts = c.self.inside.contexts.items; trace = T }
     ≡ run_with (about g c) (worlds_after (about g c)) T
 parts g c T =
     let place : c.index-2.result ≡ c.args.t.value - 1 = omega (arith, c.index-2.ensures.place) in
-    ap (λ (o : ℕ). record { script = c.self.inside.plans; objects = o; worlds = set c.self.inside.worlds.items c.index-2.result c.do_kth.new.world; contexts = c.self.inside.contexts.items; trace = T }) c.asked.ensures.same
+    ap (λ (o : ℕ). record { script = c.self.inside.plans; objects = o; worlds = set c.self.inside.worlds.items c.index-2.result c.do_kth.new.world; contexts = c.self.inside.contexts.items; trace = T }) c.asked-reply.ensures.same
     ∙ ap (λ (r : RunState). record { script = r.script; objects = r.objects; worlds = set r.worlds c.index-2.result c.do_kth.new.world; contexts = r.contexts; trace = T }) c.self.view_is
     ∙ ap (λ (i : ℕ). run_with (about g c) (set c.args.self.now.worlds i c.do_kth.new.world) T) place
 

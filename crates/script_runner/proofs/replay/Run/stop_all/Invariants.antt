@@ -1,4 +1,4 @@
-use Rattle.std.proofs.Common.{◌≡◌}
+use Rattle.std.proofs.Common.{length, ◌≡◌}
 use Rattle.dtx_values.specs.declared.entry.Entry.TheVariants.{Stopped}
 use Rattle.dtx_values.specs.declared.number.TxNo.{TxNo}
 use Rattle.dtx_model.specs.Words.{past_of}
@@ -8,7 +8,7 @@ use Rattle.script_runner.proofs.Halting.{IsThrough}
 use Rattle.script_runner.proofs.replay.Run.stop_all.Given as goal
 
 abbrev pub invariant-loop-place : goal.invariant-loop-place
-invariant-loop-place l = record {
+invariant-loop-place g l = record {
   plans : l.self-inside.plans ≡ l.initial.self-inside.plans;
   objects : length l.self-inside.resources.now ≡ length l.initial.self-inside.resources.now;
   contexts : l.self-inside.contexts.items ≡ l.initial.self-inside.contexts.items;
