@@ -1,5 +1,5 @@
 -- A step of a transaction, as its world does it and as the trace has it: a step that doesn't stop the log is a turn of the trace, whether the log is up or not.
-use Rattle.std.proofs.Common.{◌≡◌, ◌⊎◌, ◌-◌, ℕ, suc, Bool, true, false, ◌&&◌, ◌||◌, not, List, [], ◌∷◌, ◌++◌, find, Option, None, Some, is_some, inl, inr, refl, ap, sym, subst, ◌∙◌, if◌then◌else◌}
+use Rattle.std.proofs.Common.{◌≡◌, ◌⊎◌, ◌-◌, ◌<◌, ℕ, suc, Bool, true, false, ◌&&◌, ◌||◌, not, List, [], ◌∷◌, ◌++◌, find, Option, None, Some, is_some, inl, inr, refl, ap, sym, subst, ◌∙◌, if◌then◌else◌}
 use Rattle.std.specs.Prelude.{IfSome, slice_index_or}
 use Rattle.dtx_values.specs.declared.call.Call.{Call}
 use Rattle.dtx_values.specs.declared.entry.Entry.{Entry}
@@ -46,8 +46,10 @@ use Rattle.script_calls.proofs.RightReplies.{IsReplyRight, free_to, reply_to}
 use Rattle.script_calls.proofs.Unsilent.{unsilent}
 use Rattle.coordinator_log.specs.State.{LogState}
 use Rattle.tx_world.specs.State.{TxState, sends_begin, turned}
-use Rattle.tx_world.specs.Stepping.{IsToPlan, reply_in}
+use Rattle.tx_world.specs.Stepping.{Does, IsToPlan, reply_in}
 use Rattle.tx_world.proofs.Begun.{stopped_begun}
+use Rattle.tx_world.proofs.LeftSteps.{step_nearer}
+use Rattle.world_laws.specs.Left.{steps_left}
 use Rattle.script_runner.specs.Objects.{DoesGiven, MayReply}
 use Rattle.script_runner.specs.RunState.{AreNumbered, IsTied, state_of}
 
@@ -233,7 +235,15 @@ reply_pending w e n None k = absurd cc
 pub given_named : (w : World) (k : ℕ) (e : EnlNo) (r : Reply) → MayReply w k e r → (kth (pending w) k ≡ Some (ReplyOf e)) × IsNamed w (ReplyOf e) (Replies e r)
 given_named w k e r may = let there = reply_pending w e may.note (kth (pending w) k) may.due in (there.0, (r, may.note, there.1, may.fitting, refl))
 
--- So a reply that is planned or given is right: it is the one that the script plans, or that of an enlistment whose manager has an object, which isn't silent.
+-- It leaves fewer steps,
+pub reply_nearer : {D : Type 0} (faults : D → ℕ) (k : ℕ) (e : EnlNo) (r : Reply) (x : TxState) (from : LogState D) (y : TxState) (to : LogState D) → IsOwnRun x.transaction.value x.world → MayReply x.world k e r
+    → Does faults (Replies e r) x from y to → steps_left y.world < steps_left x.world
+reply_nearer faults k e r x from y to run may did =
+    let there = given_named x.world k e r may in
+    let P : World → Type 0 = λ w. steps_left w < steps_left x.world in
+    subst P (sym did.world) (step_nearer (IsIn x.world.calls) from.is_up x.transaction.value run.0 x.world (ReplyOf e) (Replies e r) k run.1 there.0 there.1)
+
+-- and a reply that is planned or given is right: it is the one that the script plans, or that of an enlistment whose manager has an object, which isn't silent.
 pub right_here : {D : Type 0} (faults : D → ℕ) (s : List Line) (o : ℕ) (t : TxNo) (T : List Placed) (x : TxState) (given : Option (EnlNo × Reply)) (k : ℕ) (from : LogState D) (y : TxState) (to : LogState D) → are_named_well s ≡ true
     → IsTied s o t T x → IsOwn t x → MayGive s o x.world k given → (d : DoesGiven faults given k x from y to) → IsReplyRight (plans_of s) (has_object s o) d.step
 right_here faults s o t T x (Some (e, r)) k from y to named tied own (may, object) d =

@@ -21,7 +21,7 @@ append-requires g c =
     omega (arith, few, many, notes, c.in_ok-reserve-2.ensures.room, c.push_reserved.ensures.room)
 
 pub invariant_of-self-2 : goal.invariant_of-self-2
-invariant_of-self-2 g c = (c.self.invariant.0, rw length-set c.self.invariant.1, c.self.invariant.2)
+invariant_of-self-2 g c = (c.self.invariant.0, rw length-set c.self.invariant.1, c.self.invariant.2, c.self.invariant.3, c.self.invariant.4)
 
 pub returns-clause-block : goal.returns-clause-block
 returns-clause-block g c =

@@ -16,5 +16,5 @@ invariant_of-result g c = (
   ap length c.in_ok-contexts.ensures ∙ length-replicate {A = Standing} 16 nothing_open,
   subst (λ (ls : List Line). are_named_well ls ≡ true) (sym c.in_ok-new.ensures) c.requires,
   c.in_ok-managers_of.ensures.full,
-  subst (λ (ls : List Line). AreManagers ls ls c.in_ok-managers_of.managers_of'.items) (sym c.in_ok-new.ensures) c.in_ok-managers_of.ensures.managers,
+  subst (λ (ls : List Line). AreManagers ls ls c.in_ok-managers_of.field-0.items) (sym c.in_ok-new.ensures) c.in_ok-managers_of.ensures.managers,
 )

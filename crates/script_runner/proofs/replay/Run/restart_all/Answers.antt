@@ -25,6 +25,7 @@ loop-place-init g c =
     let log = c.args.log.now in
     record {
       plans = refl;
+      managers = refl;
       objects = refl;
       contexts = refl;
       through = through_none (reopened log) (is_reached_by log.life) (λ t. Restarted (is_some (record_in log.slots t.value))) c.self.inside.worlds.items (past_of c.self.inside.trace.items) c.self.invariant.0;
@@ -127,6 +128,7 @@ loop-place-preserved g c =
     let record_kept : IsRecordKept y = record { own = c.is_own_run.ensures.run; once = c.is_own_run.ensures.once; ours = c.is_own_run.ensures.ours; tried = c.is_own_run.ensures.tried } in
     record {
       plans = c.loop-place.invariant.plans;
+      managers = c.loop-place.invariant.managers;
       objects = c.loop-place.invariant.objects;
       contexts = c.loop-place.invariant.contexts;
       through =

@@ -1,10 +1,11 @@
-use Rattle.std.proofs.Common.{◌≡◌, ◌≤◌, ◌<◌, ◌-◌, ◌++◌, ◌∷◌, [], ◌∙◌, ℕ, Bool, true, false, List, None, Ok, Result, ap, arith, length, set, subst, sym}
-use Rattle.std.specs.Prelude.{IfSome, IsTrue, IsFalse}
+use Rattle.std.proofs.Common.{◌≡◌, ◌≤◌, ◌<◌, ◌-◌, ◌++◌, ◌∷◌, [], ◌∙◌, ℕ, Bool, true, false, List, Option, None, Ok, Result, ap, arith, length, set, subst, sym}
+use Rattle.std.specs.Prelude.{IfSome, IsTrue, IsFalse, slice_index_or}
 use Rattle.dtx_values.specs.declared.entry.Entry.{Entry}
 use Rattle.dtx_values.specs.declared.entry.Entry.TheVariants.{Stopped}
+use Rattle.dtx_values.specs.declared.number.RmNo.{RmNo}
 use Rattle.dtx_values.specs.declared.number.TxNo.{TxNo}
 use Rattle.dtx_values.specs.declared.trace.Place.TheVariants.{Log}
-use Rattle.dtx_model.specs.Caused.{is_begin_sent}
+use Rattle.dtx_model.specs.Caused.{is_begin_sent, is_up_to}
 use Rattle.dtx_model.specs.Grammar.{are_named_well}
 use Rattle.dtx_model.specs.Words.{has, kth, onto, past_of}
 use Rattle.dtx_model.specs.Steps.{pending}
@@ -57,8 +58,10 @@ may_give g c =
     let inside = c.self.inside in
     let w = c.index_mut-world.result.now.world in
     let due = subst (λ (j : ℕ). IfSome c.asked-reply.result (λ x. MayReply w j x.0 x.1)) c.from.ensures c.asked-reply.ensures.due in
+    let object =
+    subst (λ (ms : List (Option RmNo)). IfSome c.asked-reply.result (λ x. is_up_to (length inside.resources.now) (slice_index_or ms (x.0.value - 1) None) ≡ true)) c.deref.ensures.value c.asked-reply.ensures.object in
     subst (λ (r : RunState). MayGive r.script r.objects w c.args.k c.asked-reply.result) c.self.view_is
-    (given_by inside.plans (length inside.resources.now) inside.managers.items w c.args.k c.asked-reply.result c.self.invariant.4 due c.asked-reply.ensures.object)
+    (given_by inside.plans (length inside.resources.now) inside.managers.items w c.args.k c.asked-reply.result c.self.invariant.4 due object)
 
 -- and none is lost
 objects : (g : Over) (c : After-is_own_run-2 g) → length c.asked-reply.new.resources ≡ c.args.self.now.objects
@@ -137,6 +140,8 @@ pub do_kth-requires : goal.do_kth-requires
 do_kth-requires g c = record {
   fits = λ h up.
       subst (λ (z : TxState). Fits z (open_records c.args.log.now.slots)) (reached g (goal.at.do_kth-requires g c).After-is_own_run) ((c.requires.holds.fits h c.args.t).fits up);
+  due =
+      subst (λ (j : ℕ). IfSome c.asked-reply.result (λ x. MayReply c.index_mut-world.result.now.world j x.0 x.1)) (c.from.ensures ∙ sym c.from-2.ensures) c.asked-reply.ensures.due;
 }
 
 pub returns-then-not-branch-clause-none_here : goal.returns-then-not-branch-clause-none_here
@@ -146,7 +151,7 @@ returns-then-not-branch-clause-none_here g c = λ e.
     let x = c.index_mut-world.result.now in
     let numbered = subst (λ (r : RunState). AreNumbered r.worlds) c.self.view_is c.self.invariant.0 in
     let none : kth (pending x.world) c.args.k ≡ None =
-    subst (λ (j : ℕ). kth (pending x.world) j ≡ None) c.from.ensures (c.in_ok-do_kth.ensures.none (ap (λ (b : Bool). Ok b) c.if-not-branch.true)).0 in
+    subst (λ (j : ℕ). kth (pending x.world) j ≡ None) c.from-2.ensures (c.in_ok-do_kth.ensures.none (ap (λ (b : Bool). Ok b) c.if-not-branch.true)).0 in
     none_pending r.script r.objects r.worlds (past_of r.trace) c.args.t c.args.k (c.requires.holds.tied c.args.t) (own_at c.args.t r.worlds x numbered at c.is_own_run.ensures.run)
     (ap (λ (z : TxState). kth (pending z.world) c.args.k) at ∙ none)
 

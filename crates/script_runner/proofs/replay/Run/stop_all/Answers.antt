@@ -20,6 +20,7 @@ pub loop-place-init : goal.loop-place-init
 loop-place-init g c =
     record {
       plans = refl;
+      managers = refl;
       objects = refl;
       contexts = refl;
       through = through_none (halted c.args.life) (is_hit_by c.args.life) (λ t. Stopped) c.self.inside.worlds.items (past_of c.self.inside.trace.items) c.self.invariant.0;
@@ -84,6 +85,7 @@ loop-place-preserved g c =
     let record_kept : IsRecordKept y = record { own = c.is_own_run.ensures.run; once = c.is_own_run.ensures.once; ours = c.is_own_run.ensures.ours; tried = c.is_own_run.ensures.tried } in
     record {
       plans = c.loop-place.invariant.plans;
+      managers = c.loop-place.invariant.managers;
       objects = c.loop-place.invariant.objects;
       contexts = c.loop-place.invariant.contexts;
       through =

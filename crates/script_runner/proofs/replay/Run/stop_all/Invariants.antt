@@ -10,6 +10,7 @@ use Rattle.script_runner.proofs.replay.Run.stop_all.Given as goal
 abbrev pub invariant-loop-place : goal.invariant-loop-place
 invariant-loop-place g l = record {
   plans : l.self-inside.plans ≡ l.initial.self-inside.plans;
+  managers : l.self-inside.managers.items ≡ l.initial.self-inside.managers.items;
   objects : length l.self-inside.resources.now ≡ length l.initial.self-inside.resources.now;
   contexts : l.self-inside.contexts.items ≡ l.initial.self-inside.contexts.items;
   through : IsThrough (halted l.life) (is_hit_by l.life) (λ t. Stopped) l.initial.self-inside.worlds.items (past_of l.initial.self-inside.trace.items) l.place l.self-inside.worlds.items (past_of l.self-inside.trace.items);
