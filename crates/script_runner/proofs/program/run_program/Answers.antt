@@ -1,5 +1,6 @@
-use Rattle.std.proofs.Common.{◌≡◌, ◌∙◌, inl, inr}
+use Rattle.std.proofs.Common.{◌≡◌, ◌∙◌, ℕ, inl, inr}
 use Rattle.program_words.specs.declared.command.Command.TheVariants.{Replay, Make, Demo}
+use Rattle.program_words.specs.declared.command.Form.{Form}
 use Rattle.script_runner.proofs.Programs.{demo_same, form_same, made_same, never_judged, not_judged}
 use Rattle.script_runner.proofs.program.run_program.Goals as goal
 
