@@ -53,7 +53,7 @@ fn traced<D: Disk + Send, G: Gate + Sync, R: Threads + Wait + Sync>(
     requires life { log.life ≤ 2 ^ 62 }
     ensures run { IfOk result.0 (λ T. IsRunBy way (vec_len resources) (D.faults log.disk) (D.faults result.1) D.honest (D.image result.1) script.now T) }
     ensures fault { IfErr result.0 (λ e. e ≡ ThreadsError.Fault → Rose (D.faults log.disk) (D.faults result.1)) }
-    ensures grows { D.faults log.disk ≤ D.faults result.1 }
+    ensures grows { (IsErrOf result.0 ThreadsError.Fault → ⊥) → D.faults log.disk ≤ D.faults result.1 }
     ensures logs { IsTrue D.honest → (IsErrOf result.0 ThreadsError.Fault → ⊥) → AreOwnLogs (D.image result.1) }
     ensures whole { way ≡ Way.Replay → IsTrue D.honest → MetNoFault D.faults log.disk result.1 → has_log_line script.now ≡ false → IsLog (D.image result.1) }
     ensures room { LOG_BYTES ≤ D.size result.1 }

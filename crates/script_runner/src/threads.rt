@@ -1,5 +1,5 @@
 //! A run on threads, and the replay that stands in its place where the run doesn't hold together.
-ghost use Rattle.std.specs.Prelude.{◌≡◌, ◌≤◌, ◌&&◌, ◌^◌, ℕ, [], None, false, length, vec_len, IfErr, IfOk, IsErrOf, IsTrue};
+ghost use Rattle.std.specs.Prelude.{◌≡◌, ◌⊎◌, ◌≤◌, ◌&&◌, ◌^◌, ℕ, [], None, false, length, vec_len, IfErr, IfOk, IsErrOf, IsTrue};
 ghost use Rattle.outside.specs.Faults.{Rose};
 ghost use Rattle.dtx_model.specs.AtLog.{at_log};
 ghost use Rattle.dtx_model.specs.Grammar.{IsScript};
@@ -71,7 +71,8 @@ fn replayed_anew<D: Disk>(
     requires room { LOG_BYTES ≤ D.size disk }
     ensures replay { IfOk result.0 (λ T. IsReplayOf 0 (D.faults disk) (D.faults result.1) D.honest (D.image result.1) script.now T) }
     ensures fault { IfErr result.0 (λ e. e ≡ ThreadsError.Fault → Rose (D.faults disk) (D.faults result.1)) }
-    ensures grows { D.faults disk ≤ D.faults result.1 }
+    ensures grows { (IsErrOf result.0 ThreadsError.Fault → ⊥) → D.faults disk ≤ D.faults result.1 }
+    ensures logs { IsTrue D.honest → (IsErrOf result.0 ThreadsError.Fault → ⊥) → (result.1 ≡ disk) ⊎ AreOwnLogs (D.image result.1) }
     ensures room { LOG_BYTES ≤ D.size result.1 }
 {
     let log = match formatted(alloc, disk) {
@@ -125,7 +126,7 @@ pub fn run_threads<D: Disk + Send, G: Gate + Sync, R: Threads + Wait + Sync>(
     ensures ended { IsTrue D.honest → IfOk result.0 (λ T. EndsOnThreads s.now (D.image result.1) T) }
     ensures unlike { IsTrue D.honest → IfOk result.0 (λ T. has is_no_log_answer (at_log (past_of T)) ≡ false) }
     ensures fault { IfErr result.0 (λ e. e ≡ ThreadsError.Fault → Rose (D.faults log.disk) (D.faults result.1)) }
-    ensures grows { D.faults log.disk ≤ D.faults result.1 }
+    ensures grows { (IsErrOf result.0 ThreadsError.Fault → ⊥) → D.faults log.disk ≤ D.faults result.1 }
     ensures logs { IsTrue D.honest → (IsErrOf result.0 ThreadsError.Fault → ⊥) → AreOwnLogs (D.image result.1) }
     ensures room { LOG_BYTES ≤ D.size result.1 }
 {
