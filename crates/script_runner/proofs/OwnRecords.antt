@@ -1,13 +1,15 @@
 -- The records of the log after a replay are those of the script's transactions.
 use Rattle.std.proofs.Common.{◌≡◌, ℕ, zero, suc, ◌+◌, ◌-◌, ◌<◌, ◌≤◌, ◌⊎◌, inl, inr, Bool, true, false, ◌&&◌, ◌||◌, IsTrue, List, [], ◌∷◌, ◌++◌, filter, length, take, Option, Some, None, arith, cond, refl, ap, sym, ◌∙◌, subst}
 use Rattle.std.specs.List.{range_with_len}
-use Rattle.std.specs.Prelude.{◌==◌, slice_get, Ok}
+use Rattle.std.specs.Prelude.{◌==◌, slice_get, Ok, if◌then◌else◌}
 use Rattle.std.proofs.lemmas.Bool.{or_right}
 use Rattle.std.proofs.lemmas.Bool.Decides.{nat_tests}
 use Rattle.dtx_values.specs.declared.call.Call.{Call}
+use Rattle.dtx_values.specs.declared.entry.Entry.{Entry}
 use Rattle.dtx_values.specs.declared.number.ActorNo.{ActorNo}
 use Rattle.dtx_values.specs.declared.number.TxNo.{TxNo}
 use Rattle.dtx_values.specs.declared.script.Line.{Line}
+use Rattle.dtx_model.specs.declared.waiting.EnteredCall.{EnteredCall}
 use Rattle.dtx_model.specs.AtLog.{is_known, is_log_up}
 use Rattle.dtx_model.specs.Caused.{FreelyCaused, IsCallOf, MayCome, Ran, is_begin_sent}
 use Rattle.dtx_model.specs.Contexts.{calls_by, lines_before}
@@ -28,41 +30,42 @@ use Rattle.thread_runs.specs.Run.{EachHolds, EndsOnThreads}
 use Rattle.script_runner.specs.Ending.{AreOfTransactions, AreOwnLogs, IsLogOf, MayBeRecorded}
 
 -- Records of a run's transactions are of a script's transactions: a number among those that pass lies in the range.
-among : (p q : ℕ → Bool) (n a : ℕ) → has p (filter q (range_with_len a n)) ≡ true → (t : ℕ) × (a ≤ t) × (t < a + n) × (p t ≡ true)
+abbrev InRange : (p : ℕ → Bool) (n a : ℕ) → Type 0
+InRange p n a = (t : ℕ) × (a ≤ t) × (t < a + n) × (p t ≡ true)
+
+within : (p : ℕ → Bool) (n a : ℕ) → InRange p n (a + 1) → InRange p (suc n) a
+within p n a (t, low, high, is) = (t, omega (arith, low), omega (arith, high), is)
+
+among : (p q : ℕ → Bool) (n a : ℕ) → has p (filter q (range_with_len a n)) ≡ true → InRange p n a
 among p q zero a h = absurd cc
-among p q (suc n) a h = by (q a) h
+among p q (suc n) a h = by (λ k. within p n a (among p q n (a + 1) k)) (q a) h
   where
-    later : (t : ℕ) × (a + 1 ≤ t) × (t < a + 1 + n) × (p t ≡ true) → (t : ℕ) × (a ≤ t) × (t < a + suc n) × (p t ≡ true)
-    later k = (k.0, omega (arith, k.1.0), omega (arith, k.1.1.0), k.1.1.1)
+    first : (has p (filter q (range_with_len (a + 1) n)) ≡ true → InRange p (suc n) a) → (b : Bool) → p a ≡ b → (b || has p (filter q (range_with_len (a + 1) n))) ≡ true → InRange p (suc n) a
+    first later true e k = (a, omega arith, omega arith, e)
+    first later false e k = later k
 
-    first : (b : Bool) → p a ≡ b → (b || has p (filter q (range_with_len (a + 1) n))) ≡ true → (t : ℕ) × (a ≤ t) × (t < a + suc n) × (p t ≡ true)
-    first true e k = (a, omega arith, omega arith, e)
-    first false e k = later (among p q n (a + 1) k)
+    by : (has p (filter q (range_with_len (a + 1) n)) ≡ true → InRange p (suc n) a) → (b : Bool) → has p (if b then a ∷ filter q (range_with_len (a + 1) n) else filter q (range_with_len (a + 1) n)) ≡ true → InRange p (suc n) a
+    by later true k = first later (p a) refl k
+    by later false k = later k
 
-    by : (b : Bool) → has p (if b then a ∷ filter q (range_with_len (a + 1) n) else filter q (range_with_len (a + 1) n)) ≡ true → (t : ℕ) × (a ≤ t) × (t < a + suc n) × (p t ≡ true)
-    by true k = first (p a) refl k
-    by false k = later (among p q n (a + 1) k)
+owner_in : (s : List Line) (r : CommitRecord) → InRange (λ t. r.id == identifier_of t) 256 1 → (t : TxNo) × (identifier_of t.value ≡ r.id)
+owner_in s r (t, low, high, is) = (record { value = t; in_range = (low, omega (arith, high)) }, grind (arith, nat_tests))
 
 owner_of : (s : List Line) (r : CommitRecord) → is_own s r ≡ true → (t : TxNo) × (identifier_of t.value ≡ r.id)
 unfolding transactions_of
-owner_of s r own =
-    let k = among (λ t. r.id == identifier_of t) (λ n. is_made s (OfTransaction n)) 256 1 own in
-    (record { value = k.0; in_range = (k.1.0, omega (arith, k.1.1.0)) }, grind (arith, nat_tests))
+owner_of s r own = owner_in s r (among (λ t. r.id == identifier_of t) (λ n. is_made s (OfTransaction n)) 256 1 own)
 
 none_foreign : (s : List Line) (id : ℕ) → ((t : TxNo) → identifier_of t.value ≡ id → ⊥) → (rs : List CommitRecord) → each (is_own s) rs ≡ true → filter (is_record_of id) rs ≡ []
 none_foreign s id out [] k = refl
-none_foreign s id out (r ∷ rs) k = by (is_record_of id r) refl
+none_foreign s id out (r ∷ rs) k = by (none_foreign s id out rs (and_right (is_own s r) (each (is_own s) rs) k)) (is_record_of id r) refl
   where
-    rest : filter (is_record_of id) rs ≡ []
-    rest = none_foreign s id out rs (and_right (is_own s r) (each (is_own s) rs) k)
-
-    by : (b : Bool) → is_record_of id r ≡ b → (if b then r ∷ filter (is_record_of id) rs else filter (is_record_of id) rs) ≡ []
-    by true e = let x = owner_of s r (and_left (is_own s r) (each (is_own s) rs) k) in let same : r.id ≡ id = grind (arith, nat_tests) in absurd (out x.0 (x.1 ∙ same))
-    by false e = rest
+    by : filter (is_record_of id) rs ≡ [] → (b : Bool) → is_record_of id r ≡ b → (if b then r ∷ filter (is_record_of id) rs else filter (is_record_of id) rs) ≡ []
+    by rest true e = let x = owner_of s r (and_left (is_own s r) (each (is_own s) rs) k) in let same : r.id ≡ id = grind (arith, nat_tests) in absurd (out x.0 (x.1 ∙ same))
+    by rest false e = rest
 
 -- So a log that has only the run's transactions has only a script's.
 pub own_logs_of : (s : List Line) (image : List ℕ → Type 0) → EachHolds image (AreOwn s) → AreOwnLogs image
-own_logs_of s image h c i = let k = h c i in (k.0, k.1.0, λ id out. none_foreign s id out k.0 k.1.1.own)
+own_logs_of s image h c i = let k = h c i in (k.0, k.1, λ id out. none_foreign s id out k.0 k.2.own)
 
 -- A transaction of which the coordinator knows has a call, and a line makes it.
 append_left : {A : Type 0} (xs ys : List A) → xs ++ ys ≡ [] → xs ≡ []
@@ -94,11 +97,18 @@ some_due t m (x ∷ cs) zero u c at e none = by (t == x.0.value) here none
     by : (b : Bool) → b ≡ true → put (if b then Some (record { line = m; call = x.1 }) else None) (all_of (due_at t m) cs) ≡ [] → ⊥
     by true is none = cc
     by false is none = cc
-some_due t m (x ∷ cs) (suc p) u c at e none = by (due_at t m x) none
+some_due t m (x ∷ cs) (suc p) u c at e none = by (some_due t m cs p u c at e) (due_at t m x) none
   where
-    by : (o : Option (Due Call)) → put o (all_of (due_at t m) cs) ≡ [] → ⊥
-    by (Some d) none = cc
-    by None none = some_due t m cs p u c at e none
+    by : (all_of (due_at t m) cs ≡ [] → ⊥) → (o : Option (Due Call)) → put o (all_of (due_at t m) cs) ≡ [] → ⊥
+    by later (Some d) none = cc
+    by later None none = later none
+
+by_its_actor : (s : List Line) (t : ℕ) (before : List Line) (l : Line) → due_by_line s l.actor.value t before l ≡ [] → all_of (due_at t (suc (length before))) (calls_by s before l) ≡ []
+by_its_actor s t before l e = mine (l.actor.value == l.actor.value) (eq_self l.actor.value) e
+  where
+    mine : (b : Bool) → b ≡ true → (if b then all_of (due_at t (suc (length before))) (calls_by s before l) else []) ≡ [] → all_of (due_at t (suc (length before))) (calls_by s before l) ≡ []
+    mine true is h = h
+    mine false is h = absurd cc
 
 uncalled : (s : List Line) (t : ℕ) → ((a : ℕ) → calls_at s a t ≡ []) → (n : ℕ) (a : ActorNo) (c : Call) → IsCallOf s t n a c → ⊥
 uncalled s t none n a c k = by n k.stands k.gives
@@ -108,35 +118,37 @@ uncalled s t none n a c k = by n k.stands k.gives
     by (suc m) at gives =
         let before : suc m - 1 ≡ m = omega arith in
         let given : slice_get (calls_by s (past_of (take m s)) k.line) k.place ≡ Some (k.name, c) = subst (λ (j : ℕ). slice_get (calls_by s (past_of (take j s)) k.line) k.place ≡ Some (k.name, c)) before gives in
-        let nothing = none_by_line (due_by_line s k.line.actor.value t) [] s (none k.line.actor.value) m k.line at in
-        some_due t (suc (length (past_of (take m s)))) (calls_by s (past_of (take m s)) k.line) k.place k.name c given k.at_t (mine (k.line.actor.value == k.line.actor.value) (eq_self k.line.actor.value) nothing)
-      where
-        mine : (b : Bool) → b ≡ true → (if b then all_of (due_at t (suc (length (past_of (take m s))))) (calls_by s (past_of (take m s)) k.line) else []) ≡ [] → all_of (due_at t (suc (length (past_of (take m s))))) (calls_by s (past_of (take m s)) k.line) ≡ []
-        mine true e h = h
-        mine false e h = absurd cc
+        let nothing = by_its_actor s t (past_of (take m s)) k.line (none_by_line (due_by_line s k.line.actor.value t) [] s (none k.line.actor.value) m k.line at) in
+        some_due t (suc (length (past_of (take m s)))) (calls_by s (past_of (take m s)) k.line) k.place k.name c given k.at_t nothing
 
 -- a transaction without a call has no history
-empty_world : World
+abbrev empty_world : World
 empty_world = record { calls = []; past = [] }
 
 never : (G : ℕ → ActorNo → Call → Type 0) (t : ℕ) → ((n : ℕ) (a : ActorNo) (c : Call) → G n a c → ⊥) → (m : Step) → MayCome G t empty_world m → ⊥
 never G t none (Calls n a c k) may = none n a c may.0
-never G t none (Replies e r) may = let k = may.1.0 in cc
+never G t none (Replies e r) (n, due, fits) = cc
 never G t none Acts may = cc
 never G t none (Coordinates a) may = cc
 never G t none (Delivers c d) may = cc
 never G t none Stops may = cc
 never G t none (Restarts found) may = cc
 
+of_parts : (cs : List EnteredCall) (h : List Entry) → cs ≡ [] → h ≡ [] → ◌≡◌ {A = World} (record { calls = cs; past = h }) empty_world
+of_parts cs h e f = rw (e, f) refl
+
 nothing_ran : (G : ℕ → ActorNo → Call → Type 0) (t : ℕ) → ((n : ℕ) (a : ActorNo) (c : Call) → G n a c → ⊥) → (ms : List Step) (w : World) → Ran G t ms w → w ≡ empty_world
-nothing_ran G t none [] w r = let a = r.0 in let b = r.1 in cc
-nothing_ran G t none (m ∷ ms) w r =
-    let blank = nothing_ran G t none ms r.0 r.1.0 in
-    absurd (never G t none m (subst (λ (v : World). MayCome G t v m) blank r.1.1.0))
+nothing_ran G t none [] w (a, b) = of_parts w.calls w.past a b
+nothing_ran G t none (m ∷ ms) w (v, ran, may, is) =
+    let blank = nothing_ran G t none ms v ran in
+    absurd (never G t none m (subst (λ (u : World). MayCome G t u m) blank may))
 
 -- a script calls only transactions that it makes
 abbrev pub CallsMade : Type 0
 CallsMade = (s : List Line) (t : ℕ) → IsScript s → is_made s (OfTransaction t) ≡ false → (a : ℕ) → calls_at s a t ≡ []
+
+no_history : (s : List Line) (t : ℕ) (h : List Entry) → ((n : ℕ) (a : ActorNo) (c : Call) → IsCallOf s t n a c → ⊥) → FreelyCaused (IsCallOf s t) t h → h ≡ []
+no_history s t h none (calls, steps, ran) = ap (λ (w : World). w.past) (nothing_ran (IsCallOf s t) t none steps (record { calls = calls; past = h }) ran)
 
 pub known_made : CallsMade → (s : List Line) (t : TxNo) (T : List Placed) → IsScript s → FreelyCaused (IsCallOf s t.value) t.value (history t.value T) → is_known T t ≡ true → is_made s (OfTransaction t.value) ≡ true
 known_made law s t T script free known = by (is_made s (OfTransaction t.value)) refl
@@ -144,28 +156,27 @@ known_made law s t T script free known = by (is_made s (OfTransaction t.value)) 
     by : (b : Bool) → is_made s (OfTransaction t.value) ≡ b → b ≡ true
     by true e = refl
     by false e =
-        let blank = nothing_ran (IsCallOf s t.value) t.value (uncalled s t.value (law s t.value script e)) free.1.0 (record { calls = free.0; past = history t.value T }) free.1.1 in
-        let none : history t.value T ≡ [] = ap (λ (w : World). w.past) blank in
-        absurd (let k : has is_begin_sent (history t.value T) ≡ false = ap (has is_begin_sent) none in let both : false ≡ true = sym k ∙ known in cc)
+        let none : history t.value T ≡ [] = no_history s t.value (history t.value T) (uncalled s t.value (law s t.value script e)) free in
+        ap (has is_begin_sent) (sym none) ∙ known
 
 -- the number of a transaction that the script makes is among them
 in_range : (p q : ℕ → Bool) (n a t : ℕ) → a ≤ t → t < a + n → q t ≡ true → p t ≡ true → has p (filter q (range_with_len a n)) ≡ true
 in_range p q zero a t low high qt pt = absurd (omega arith)
-in_range p q (suc n) a t low high qt pt = by (a == t) refl
+in_range p q (suc n) a t low high qt pt = by (λ apart. in_range p q n (a + 1) t (grind (arith, nat_tests)) (omega (arith, high)) qt pt) (a == t) refl
   where
     step : (b : Bool) → has p (filter q (range_with_len (a + 1) n)) ≡ true → has p (if b then a ∷ filter q (range_with_len (a + 1) n) else filter q (range_with_len (a + 1) n)) ≡ true
     step true h = or_right (p a) (has p (filter q (range_with_len (a + 1) n))) h
     step false h = h
 
-    by : (b : Bool) → (a == t) ≡ b → has p (filter q (range_with_len a (suc n))) ≡ true
-    by true e =
+    by : ((a == t) ≡ false → has p (filter q (range_with_len (a + 1) n)) ≡ true) → (b : Bool) → (a == t) ≡ b → has p (filter q (range_with_len a (suc n))) ≡ true
+    by later true e =
         let same : t ≡ a = grind (arith, nat_tests) in
         let qa : q a ≡ true = subst (λ (k : ℕ). q k ≡ true) same qt in
         let pa : p a ≡ true = subst (λ (k : ℕ). p k ≡ true) same pt in
         rw (qa, pa) refl
-    by false e = step (q a) (in_range p q n (a + 1) t (grind (arith, nat_tests)) (omega (arith, high)) qt pt)
+    by later false e = step (q a) (later e)
 
-own_number : List Line → ℕ → Bool
+abbrev own_number : List Line → ℕ → Bool
 own_number s id = has (λ t. id == identifier_of t) (transactions_of s)
 
 made_own : (s : List Line) (t : TxNo) → is_made s (OfTransaction t.value) ≡ true → own_number s (identifier_of t.value) ≡ true
@@ -231,10 +242,10 @@ at_most_one T rs may id = by (filter (is_record_of id) rs) refl
 -- So the log at the end of a replay is that of a run on threads.
 pub ends_on_threads : CallsMade → (s : List Line) (image : List ℕ → Type 0) (T : List Placed) → IsScript s → ((t : TxNo) → FreelyCaused (IsCallOf s t.value) t.value (history t.value (past_of T))) → IsLogOf image T → EndsOnThreads s image T
 ends_on_threads law s image T script free log = record {
-  up = λ e. let k = log.up e in (k.0, k.1.0, k.1.1.recorded);
+  up = λ e. let k = log.up e in (k.0, k.1, k.2.recorded);
   own = λ c i. let k = log.stopped c i in
-      (k.0, k.1.0, record {
-        own = each_own s k.0 (found_own s (past_of T) k.0 (λ t known. known_made law s t (past_of T) script (free t) known) k.1.1);
-        once = at_most_one (past_of T) k.0 k.1.1;
+      (k.0, k.1, record {
+        own = each_own s k.0 (found_own s (past_of T) k.0 (λ t known. known_made law s t (past_of T) script (free t) known) k.2);
+        once = at_most_one (past_of T) k.0 k.2;
       });
 }

@@ -9,7 +9,7 @@ use Rattle.dtx_values.specs.declared.number.RmNo.{RmNo}
 use Rattle.dtx_values.specs.declared.number.TxNo.{TxNo}
 use Rattle.dtx_values.specs.declared.script.Line.{Line}
 use Rattle.dtx_model.specs.AtLog.{at_log}
-use Rattle.dtx_model.specs.Caused.{Caused, has_object, is_as_planned, is_up_to, plans_of, is_vote_planned, is_promotion_planned, is_outcome_planned, is_request_planned}
+use Rattle.dtx_model.specs.Caused.{Caused, calls_in, has_object, is_as_planned, is_up_to, plans_of, is_vote_planned, is_promotion_planned, is_outcome_planned, is_request_planned}
 use Rattle.dtx_model.specs.History.{HasOneOutcome, IsComplete, IsHistory}
 use Rattle.dtx_model.specs.Plans.{manager_of}
 use Rattle.dtx_model.specs.Replay.{due_calls}
@@ -61,7 +61,7 @@ all_planned p few more f (x ∷ past) k =
 pub caused_more : (s : List Line) (k t : ℕ) (h : List Entry) → Caused s 0 t h → Caused s k t h
 caused_more s k t h c = record {
   freely = c.freely;
-  planned = all_planned (plans_of s) (has_object s 0) (has_object s k) (λ e. objects_more k (manager_of _ e)) h c.planned;
+  planned = all_planned (plans_of s) (has_object s 0) (has_object s k) (λ e. objects_more k (manager_of (calls_in s (past_of s)) e)) h c.planned;
 }
 
 -- a replay has the order of threads

@@ -17,4 +17,4 @@ returns-in-Ok-script_to_run-clause-left g c =
 pub returns-in-Err-HasDo-clause-refused : goal.returns-in-Err-HasDo-clause-refused
 returns-in-Err-HasDo-clause-refused g c =
     let found : HasNoRun c.args.way c.deref.result.now (HasDo c.in-Err-HasDo.line) = subst (λ (e : Refusal). HasNoRun c.args.way c.deref.result.now e) c.in-Err-HasDo.field-0-is c.in-Err-HasDo.ensures.refused in
-    (found.0, λ b told. (found.1.0, reads-front _ c.deref.result.now found.1.0 (λ b told. c.deref.ensures.value ∙ c.in-Ok.ensures.read b told) found.1.1.0 b told, found.1.1.1))
+    (found.0, λ b told. (found.1, reads-front _ c.deref.result.now found.1 (λ b told. c.deref.ensures.value ∙ c.in-Ok.ensures.read b told) found.2 b told, found.3))

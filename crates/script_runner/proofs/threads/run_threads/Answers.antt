@@ -1,5 +1,5 @@
 use Rattle.std.proofs.Common.{◌≡◌, ◌≤◌, ◌∙◌, ap, inl, inr, subst, sym}
-use Rattle.std.specs.Prelude.{IsTrue}
+use Rattle.std.specs.Prelude.{IsTrue, vec_len}
 use Rattle.dtx_values.specs.declared.number.TxNo.{TxNo}
 use Rattle.dtx_model.specs.Traces.{Placed, history}
 use Rattle.dtx_model.specs.Words.{past_of}
@@ -13,7 +13,7 @@ use Rattle.script_runner.proofs.threads.run_threads.Goals.{After-into_disk-disk,
 use Rattle.script_runner.proofs.threads.run_threads.Goals as goal
 
 -- the run on threads
-ran : (g : Over) (c : In-Ok g) → IsRunOnThreads c.args.s.now _ (g.D.Disk.faults c.args.log.disk) (g.D.Disk.faults c.run_on_threads-run.result.1.disk) c.in-Ok.trace
+ran : (g : Over) (c : In-Ok g) → IsRunOnThreads c.args.s.now (vec_len c.args.resources) (g.D.Disk.faults c.args.log.disk) (g.D.Disk.faults c.run_on_threads-run.result.1.disk) c.in-Ok.trace
 ran g c = of_ok c.run_on_threads-run.result.0 c.in-Ok.trace _ c.in-Ok.is c.run_on_threads-run.ensures.run
 
 pub returns-in-Ok-clause-tied : goal.returns-in-Ok-clause-tied
