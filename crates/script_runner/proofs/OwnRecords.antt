@@ -6,6 +6,7 @@ use Rattle.std.proofs.lemmas.Bool.{or_right}
 use Rattle.std.proofs.lemmas.Bool.Decides.{nat_tests}
 use Rattle.dtx_values.specs.declared.call.Call.{Call}
 use Rattle.dtx_values.specs.declared.entry.Entry.{Entry}
+use Rattle.dtx_values.specs.declared.note.Note.{Note}
 use Rattle.dtx_values.specs.declared.number.ActorNo.{ActorNo}
 use Rattle.dtx_values.specs.declared.number.TxNo.{TxNo}
 use Rattle.dtx_values.specs.declared.script.Line.{Line}
@@ -19,7 +20,8 @@ use Rattle.dtx_model.specs.Promotes.{identifier_of}
 use Rattle.dtx_model.specs.Steps.{Step, Acts, Calls, Coordinates, Delivers, Replies, Restarts, Stops, after}
 use Rattle.dtx_model.specs.Traces.{Placed, history}
 use Rattle.dtx_model.specs.Words.{all_of, each, has, kth, onto, past_of, put}
-use Rattle.dtx_model.specs.World.{World}
+use Rattle.dtx_model.specs.Replies.{due_of}
+use Rattle.dtx_model.specs.World.{World, half}
 use Rattle.dtx_model.proofs.Bools.{and_both, and_left, and_right}
 use Rattle.outcome_law.proofs.Tests.{eq_self}
 use Rattle.script_calls.specs.Due.{calls_at, due_at, due_by_line, given_by}
@@ -125,9 +127,13 @@ uncalled s t none n a c k = by n k.stands k.gives
 abbrev empty_world : World
 empty_world = record { calls = []; past = [] }
 
+never_due : (e : ℕ) (n : Note) → due_of (half empty_world).seen e ≡ Some n → ⊥
+unfolding due_of
+never_due e n due = cc
+
 never : (G : ℕ → ActorNo → Call → Type 0) (t : ℕ) → ((n : ℕ) (a : ActorNo) (c : Call) → G n a c → ⊥) → (m : Step) → MayCome G t empty_world m → ⊥
 never G t none (Calls n a c k) may = none n a c may.0
-never G t none (Replies e r) (n, due, fits) = cc
+never G t none (Replies e r) (n, due, fits) = never_due e.value n due
 never G t none Acts may = cc
 never G t none (Coordinates a) may = cc
 never G t none (Delivers c d) may = cc
@@ -148,7 +154,7 @@ abbrev pub CallsMade : Type 0
 CallsMade = (s : List Line) (t : ℕ) → IsScript s → is_made s (OfTransaction t) ≡ false → (a : ℕ) → calls_at s a t ≡ []
 
 no_history : (s : List Line) (t : ℕ) (h : List Entry) → ((n : ℕ) (a : ActorNo) (c : Call) → IsCallOf s t n a c → ⊥) → FreelyCaused (IsCallOf s t) t h → h ≡ []
-no_history s t h none (calls, steps, ran) = ap (λ (w : World). w.past) (nothing_ran (IsCallOf s t) t none steps (record { calls = calls; past = h }) ran)
+no_history s t h none (calls, (steps, ran)) = ap (λ (w : World). w.past) (nothing_ran (IsCallOf s t) t none steps (record { calls = calls; past = h }) ran)
 
 pub known_made : CallsMade → (s : List Line) (t : TxNo) (T : List Placed) → IsScript s → FreelyCaused (IsCallOf s t.value) t.value (history t.value T) → is_known T t ≡ true → is_made s (OfTransaction t.value) ≡ true
 known_made law s t T script free known = by (is_made s (OfTransaction t.value)) refl

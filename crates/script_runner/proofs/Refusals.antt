@@ -1,0 +1,83 @@
+-- The answer where no script to be run came of the source is the only one that fits.
+use Rattle.std.proofs.Common.{◌≡◌, ℕ, ◌⊎◌, inl, inr, List, Option, Some, ap, refl, sym, ◌∙◌, subst}
+use Rattle.std.specs.Option.{ForSome}
+use Rattle.dtx_values.specs.declared.script.BadCause.{BadCause}
+use Rattle.dtx_values.specs.declared.script.Line.{Line}
+use Rattle.dtx_model.specs.Faults.{Bad}
+use Rattle.dtx_model.specs.Grammar.{Reads}
+use Rattle.tx_cells.specs.Cell.{IsThreadable}
+use Rattle.script_runner.specs.Judged.{HasDoAt, first_do}
+use Rattle.script_runner.specs.Refusal.{IsGoodFor, IsOnThreads, IsRunnable, Refuses}
+use Rattle.script_runner.specs.declared.exit.Exit.{Exit}
+use Rattle.script_runner.specs.declared.exit.Exit.TheVariants.{BadScript, Fine, LogFault, Memory, NotThreadable, ReadFault, Usage, WriteFault}
+use Rattle.script_runner.specs.declared.way.Way.{Way}
+use Rattle.script_runner.specs.declared.way.Way.TheVariants.{Threads}
+use Rattle.script_runner.proofs.Programs.{NeverBoth}
+use Rattle.script_runner.proofs.Threadable.{some_do}
+
+-- bytes are one script, and have one first bad line and one first cause, by the law of readings
+abbrev pub OneScript : Type 0
+OneScript = (b : List ℕ) (s r : List Line) → Reads b s → Reads b r → s ≡ r
+
+abbrev pub OneCause : Type 0
+OneCause = (b : List ℕ) (n m : ℕ) (c d : BadCause) → Bad b n c → Bad b m d → (n ≡ m) × (c ≡ d)
+
+-- a script that can run on threads has no `do`
+threadable : (w : Way) (s : List Line) → IsOnThreads w → IsRunnable w s → IsThreadable s
+threadable w s (h, is) k = subst (λ (v : Way). IsRunnable v s) is k
+
+never_do : OneScript → (w : Way) (s : List Line) (b : List ℕ) (n : ℕ) → IsOnThreads w → IsRunnable w s → Reads b s → HasDoAt b n → ⊥
+never_do one w s b n on k read (r, reads, at) =
+    let same : r ≡ s = one b r s reads read in
+    some_do 1 n s (subst (λ (x : List Line). first_do x ≡ Some n) same at) (threadable w s on k).free_of_do
+
+never_good : NeverBoth → (b : List ℕ) (n m : ℕ) (c : BadCause) → HasDoAt b m → Bad b n c → ⊥
+never_good either b n m c (s, reads, at) bad = either b s n c reads bad
+
+same_bad : (n m : ℕ) (c d : BadCause) → (n ≡ m) × (c ≡ d) → BadScript n c ≡ BadScript m d
+same_bad n m c d (e, f) = cc
+
+same_do : OneScript → (b : List ℕ) (n m : ℕ) → HasDoAt b n → HasDoAt b m → NotThreadable n ≡ NotThreadable m
+same_do one b n m (s, reads, at) (r, reads', at') =
+    let same : r ≡ s = one b r s reads' reads in
+    let both : first_do s ≡ Some m = subst (λ (x : List Line). first_do x ≡ Some m) same at' in
+    let line : ◌≡◌ {A = Option ℕ} (Some n) (Some m) = sym at ∙ both in
+    cc
+
+pub bad_answer : NeverBoth → OneCause → (w : Way) (given : Option (List ℕ)) (x : Exit) → Refuses w given x → (n : ℕ) (c : BadCause) → ForSome given (λ b. Bad b n c → (x ≡ BadScript n c) ⊎ ((x ≡ ReadFault) ⊎ (x ≡ Memory)))
+bad_answer either cause w given (BadScript m d) h n c b told bad = inl (same_bad m n d c (cause b m n d c (h b told) bad))
+bad_answer either cause w given (NotThreadable m) (on, h) n c b told bad = absurd (never_good either b n m c (h b told) bad)
+bad_answer either cause w given ReadFault h n c b told bad = inr (inl refl)
+bad_answer either cause w given Memory h n c b told bad = inr (inr refl)
+bad_answer either cause w given Fine h n c b told bad = absurd h
+bad_answer either cause w given Usage h n c b told bad = absurd h
+bad_answer either cause w given LogFault h n c b told bad = absurd h
+bad_answer either cause w given WriteFault h n c b told bad = absurd h
+
+pub do_answer : NeverBoth → OneScript → (w : Way) (given : Option (List ℕ)) (x : Exit) → Refuses w given x → (n : ℕ) → ForSome given (λ b. HasDoAt b n → (x ≡ NotThreadable n) ⊎ ((x ≡ ReadFault) ⊎ (x ≡ Memory)))
+do_answer either one w given (BadScript m d) h n b told at = absurd (never_good either b m n d at (h b told))
+do_answer either one w given (NotThreadable m) (on, h) n b told at = inl (same_do one b m n (h b told) at)
+do_answer either one w given ReadFault h n b told at = inr (inl refl)
+do_answer either one w given Memory h n b told at = inr (inr refl)
+do_answer either one w given Fine h n b told at = absurd h
+do_answer either one w given Usage h n b told at = absurd h
+do_answer either one w given LogFault h n b told at = absurd h
+do_answer either one w given WriteFault h n b told at = absurd h
+
+-- of an input that is good only a fault of the source, or want of memory
+pub good_answer : NeverBoth → OneScript → (w : Way) (given : Option (List ℕ)) (x : Exit) → Refuses w given x → IsGoodFor w given → (x ≡ ReadFault → ⊥) → (x ≡ Fine) ⊎ (x ≡ Memory)
+good_answer either one w given (BadScript m d) h (b, s, told, reads, k) calm = absurd (either b s m d reads (h b told))
+good_answer either one w given (NotThreadable m) (on, h) (b, s, told, reads, k) calm = absurd (never_do one w s b m on k reads (h b told))
+good_answer either one w given ReadFault h good calm = absurd (calm refl)
+good_answer either one w given Memory h good calm = inr refl
+good_answer either one w given Fine h good calm = absurd h
+good_answer either one w given Usage h good calm = absurd h
+good_answer either one w given LogFault h good calm = absurd h
+good_answer either one w given WriteFault h good calm = absurd h
+
+-- where a script came, none of both
+pub bad_never : NeverBoth → (given : Option (List ℕ)) (s : List Line) → ForSome given (λ b. Reads b s) → (n : ℕ) (c : BadCause) → ForSome given (λ b. Bad b n c → ⊥)
+bad_never either given s read n c b told bad = either b s n c (read b told) bad
+
+pub do_never : OneScript → (w : Way) (given : Option (List ℕ)) (s : List Line) → ForSome given (λ b. Reads b s) → IsRunnable w s → (n : ℕ) → IsOnThreads w → ForSome given (λ b. HasDoAt b n → ⊥)
+do_never one w given s read k n on b told at = never_do one w s b n on k (read b told) at
