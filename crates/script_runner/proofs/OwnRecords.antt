@@ -11,11 +11,14 @@ use Rattle.dtx_values.specs.declared.number.ActorNo.{ActorNo}
 use Rattle.dtx_values.specs.declared.number.TxNo.{TxNo}
 use Rattle.dtx_values.specs.declared.script.Line.{Line}
 use Rattle.dtx_model.specs.declared.waiting.EnteredCall.{EnteredCall}
+use Rattle.dtx_model.specs.Acts.{act_entries}
 use Rattle.dtx_model.specs.AtLog.{is_known, is_log_up}
 use Rattle.dtx_model.specs.Caused.{FreelyCaused, IsCallOf, MayCome, Ran, is_begin_sent}
 use Rattle.dtx_model.specs.Contexts.{calls_by, lines_before}
+use Rattle.dtx_model.specs.Coordinated.{coordinate, may_free, may_log}
 use Rattle.dtx_model.specs.Grammar.{IsScript, OfTransaction, is_made}
 use Rattle.dtx_model.specs.Log.{CommitRecord, is_record_of, log_has}
+use Rattle.dtx_model.specs.Observed.{observe}
 use Rattle.dtx_model.specs.Promotes.{identifier_of}
 use Rattle.dtx_model.specs.Steps.{Step, Acts, Calls, Coordinates, Delivers, Replies, Restarts, Stops, after}
 use Rattle.dtx_model.specs.Traces.{Placed, history}
@@ -128,10 +131,11 @@ abbrev empty_world : World
 empty_world = record { calls = []; past = [] }
 
 never_due : (e : ℕ) (n : Note) → due_of (half empty_world).seen e ≡ Some n → ⊥
-unfolding due_of
+unfolding due_of observe
 never_due e n due = cc
 
 never : (G : ℕ → ActorNo → Call → Type 0) (t : ℕ) → ((n : ℕ) (a : ActorNo) (c : Call) → G n a c → ⊥) → (m : Step) → MayCome G t empty_world m → ⊥
+unfolding act_entries observe coordinate may_log may_free
 never G t none (Calls n a c k) may = none n a c may.0
 never G t none (Replies e r) (n, due, fits) = never_due e.value n due
 never G t none Acts may = cc

@@ -3,6 +3,7 @@ use Rattle.script_runner.specs.Refusal.{HasNoRun}
 use Rattle.script_runner.specs.declared.judging.Refusal.{Refusal}
 use Rattle.script_runner.specs.declared.judging.Refusal.TheVariants.{HasDo}
 use Rattle.script_runner.proofs.Programs.{left-none, reads-front}
+use Rattle.script_runner.proofs.Threadable.{refused_do}
 use Rattle.script_runner.proofs.judging.script_from.Goals as goal
 
 pub returns-in-Ok-script_to_run-clause-script : goal.returns-in-Ok-script_to_run-clause-script
@@ -17,4 +18,4 @@ returns-in-Ok-script_to_run-clause-left g c =
 pub returns-in-Err-HasDo-clause-refused : goal.returns-in-Err-HasDo-clause-refused
 returns-in-Err-HasDo-clause-refused g c =
     let found : HasNoRun c.args.way c.deref.result.now (HasDo c.in-Err-HasDo.line) = subst (λ (e : Refusal). HasNoRun c.args.way c.deref.result.now e) c.in-Err-HasDo.field-0-is c.in-Err-HasDo.ensures.refused in
-    (found.0, λ b told. (found.1, reads-front _ c.deref.result.now found.1 (λ b told. c.deref.ensures.value ∙ c.in-Ok.ensures.read b told) found.2 b told, found.3))
+    refused_do c.args.way _ c.deref.result.now c.in-Err-HasDo.line (λ b told. c.deref.ensures.value ∙ c.in-Ok.ensures.read b told) found

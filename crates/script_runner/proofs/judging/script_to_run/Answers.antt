@@ -6,10 +6,10 @@ use Rattle.script_runner.proofs.judging.script_to_run.Goals as goal
 
 pub first_do-requires : goal.first_do-requires
 first_do-requires c =
-    let same = ap length (c.lines.ensures ∙ c.script.view_is) in
+    let same = ap length c.lines.ensures in
     let most = few c.in-Ok.script c.in-Ok.ensures.read.script in
     omega (arith, same, most)
 
 pub returns-in-None-clause-script : goal.returns-in-None-clause-script
 returns-in-None-clause-script c =
-    rw c.in-Threads.is (c.in-Ok.ensures.read, record { script = c.in-Ok.ensures.read.script; free_of_do = no_do 1 c.in-Ok.script (ap (λ s. first_do s) (sym (c.lines.ensures ∙ c.script.view_is)) ∙ (sym c.first_do.ensures ∙ c.in-None.is)) })
+    rw c.in-Threads.is (c.in-Ok.ensures.read, record { script = c.in-Ok.ensures.read.script; free_of_do = no_do 1 c.in-Ok.script (ap (λ s. first_do s) (sym c.lines.ensures) ∙ (sym c.first_do.ensures ∙ c.in-None.is)) })
