@@ -6,12 +6,17 @@ use Rattle.dtx_values.specs.declared.script.Line.{Line}
 use Rattle.dtx_model.specs.Faults.{Bad}
 use Rattle.dtx_model.specs.Grammar.{Reads}
 use Rattle.tx_cells.specs.Cell.{IsThreadable}
-use Rattle.script_runner.specs.Judged.{HasDoAt, first_do}
+use Rattle.program_words.specs.Commands.{Asks}
+use Rattle.program_words.specs.declared.command.Command.{Command}
+use Rattle.program_words.specs.declared.command.Command.TheVariants.{Replay as AskReplay, Threads as AskThreads}
+use Rattle.program_words.specs.declared.command.Form.{Form}
+use Rattle.script_runner.specs.Judged.{HasDoAt, IsJudged, first_do}
+use Rattle.script_runner.specs.Program.{AsksReplay, AsksRun, AsksThreads, CanBeDone, IsInputFor}
 use Rattle.script_runner.specs.Refusal.{IsGoodFor, IsOnThreads, IsRunnable, Refuses}
 use Rattle.script_runner.specs.declared.exit.Exit.{Exit}
 use Rattle.script_runner.specs.declared.exit.Exit.TheVariants.{BadScript, Fine, LogFault, Memory, NotThreadable, ReadFault, Usage, WriteFault}
 use Rattle.script_runner.specs.declared.way.Way.{Way}
-use Rattle.script_runner.specs.declared.way.Way.TheVariants.{Threads}
+use Rattle.script_runner.specs.declared.way.Way.TheVariants.{Replay, Threads}
 use Rattle.script_runner.proofs.Programs.{NeverBoth}
 use Rattle.script_runner.proofs.Threadable.{some_do}
 
@@ -81,3 +86,82 @@ bad_never either given s read n c b told bad = either b s n c (read b told) bad
 
 pub do_never : OneScript → (w : Way) (given : Option (List ℕ)) (s : List Line) → ForSome given (λ b. Reads b s) → IsRunnable w s → (n : ℕ) → IsOnThreads w → ForSome given (λ b. HasDoAt b n → ⊥)
 do_never one w given s read k n on b told at = never_do one w s b n on k (read b told) at
+
+-- The answers of a run whose script is good: none of the words, of the bytes, or of the source.
+pub sure_answer : (x : Exit) → (x ≡ Usage → ⊥) → ((n : ℕ) (c : BadCause) → x ≡ BadScript n c → ⊥) → ((n : ℕ) → x ≡ NotThreadable n → ⊥) → (x ≡ ReadFault → ⊥)
+    → (x ≡ Fine) ⊎ ((x ≡ LogFault) ⊎ ((x ≡ WriteFault) ⊎ (x ≡ Memory)))
+sure_answer Fine usage bad undone read = inl refl
+sure_answer Usage usage bad undone read = absurd (usage refl)
+sure_answer (BadScript n c) usage bad undone read = absurd (bad n c refl)
+sure_answer (NotThreadable n) usage bad undone read = absurd (undone n refl)
+sure_answer ReadFault usage bad undone read = absurd (read refl)
+sure_answer LogFault usage bad undone read = inr (inl refl)
+sure_answer WriteFault usage bad undone read = inr (inr (inl refl))
+sure_answer Memory usage bad undone read = inr (inr (inr refl))
+
+-- a replay isn't on threads
+pub not_on_threads : IsOnThreads Replay → ⊥
+not_on_threads (h, e) = cc
+
+-- where no fault came, all was done but for want of memory
+pub sure_done : (x : Exit) → (x ≡ Fine) ⊎ ((x ≡ LogFault) ⊎ ((x ≡ WriteFault) ⊎ (x ≡ Memory))) → (x ≡ LogFault → ⊥) → (x ≡ WriteFault → ⊥) → (x ≡ Fine) ⊎ (x ≡ Memory)
+sure_done x (inl e) log write = inl e
+sure_done x (inr (inl e)) log write = absurd (log e)
+sure_done x (inr (inr (inl e))) log write = absurd (write e)
+sure_done x (inr (inr (inr e))) log write = inr e
+
+pub made_done : (x : Exit) → (x ≡ Fine) ⊎ ((x ≡ WriteFault) ⊎ (x ≡ Memory)) → (x ≡ WriteFault → ⊥) → (x ≡ Fine) ⊎ (x ≡ Memory)
+made_done x (inl e) write = inl e
+made_done x (inr (inl e)) write = absurd (write e)
+made_done x (inr (inr e)) write = inr e
+
+-- the input of a command is good for the way that it is run
+pub good_replay : (ws : List (List ℕ)) (f : Form) (given : Option (List ℕ)) → ((c : Command) → Asks ws c → c ≡ AskReplay f) → CanBeDone ws given → IsGoodFor Replay given
+good_replay ws f given one (c, (asks, input)) = of_input (subst (λ (d : Command). IsInputFor d given) (one c asks) input)
+  where
+    of_input : IsInputFor (AskReplay f) given → IsGoodFor Replay given
+    of_input (b, s, told, reads) = (b, s, told, reads, reads.script)
+
+pub good_threads : (ws : List (List ℕ)) (h : ℕ) (f : Form) (given : Option (List ℕ)) → ((c : Command) → Asks ws c → c ≡ AskThreads h f) → CanBeDone ws given → IsGoodFor (Threads h) given
+good_threads ws h f given one (c, (asks, input)) = of_input (subst (λ (d : Command). IsInputFor d given) (one c asks) input)
+  where
+    of_input : IsInputFor (AskThreads h f) given → IsGoodFor (Threads h) given
+    of_input (b, s, told, reads, k) = (b, s, told, reads, k)
+
+-- words that ask for one command ask for no other
+pub no_replay : (ws : List (List ℕ)) (d : Command) → ((f : Form) → AskReplay f ≡ d → ⊥) → ((c : Command) → Asks ws c → c ≡ d) → AsksReplay ws → ⊥
+no_replay ws d apart one (f, asks) = apart f (one (AskReplay f) asks)
+
+pub no_threads : (ws : List (List ℕ)) (d : Command) → ((h : ℕ) (f : Form) → AskThreads h f ≡ d → ⊥) → ((c : Command) → Asks ws c → c ≡ d) → AsksThreads ws → ⊥
+no_threads ws d apart one (h, (f, asks)) = apart h f (one (AskThreads h f) asks)
+
+pub no_run : (ws : List (List ℕ)) → (AsksReplay ws → ⊥) → (AsksThreads ws → ⊥) → AsksRun ws → ⊥
+no_run ws replay threads (inl a) = replay a
+no_run ws replay threads (inr b) = threads b
+
+-- where a script is made, or its replay is shown, no line is judged
+pub not_judged : (x : Exit) → ((n : ℕ) (c : BadCause) → x ≡ BadScript n c → ⊥) → ((n : ℕ) → x ≡ NotThreadable n → ⊥) → IsJudged x → ⊥
+not_judged x bad undone (inl (n, (c, e))) = bad n c e
+not_judged x bad undone (inr (n, e)) = undone n e
+
+pub made_bad : (x : Exit) → (x ≡ Fine) ⊎ ((x ≡ WriteFault) ⊎ (x ≡ Memory)) → (n : ℕ) (c : BadCause) → x ≡ BadScript n c → ⊥
+made_bad x (inl a) n c e = cc
+made_bad x (inr (inl a)) n c e = cc
+made_bad x (inr (inr a)) n c e = cc
+
+pub made_do : (x : Exit) → (x ≡ Fine) ⊎ ((x ≡ WriteFault) ⊎ (x ≡ Memory)) → (n : ℕ) → x ≡ NotThreadable n → ⊥
+made_do x (inl a) n e = cc
+made_do x (inr (inl a)) n e = cc
+made_do x (inr (inr a)) n e = cc
+
+pub sure_bad : (x : Exit) → (x ≡ Fine) ⊎ ((x ≡ LogFault) ⊎ ((x ≡ WriteFault) ⊎ (x ≡ Memory))) → (n : ℕ) (c : BadCause) → x ≡ BadScript n c → ⊥
+sure_bad x (inl a) n c e = cc
+sure_bad x (inr (inl a)) n c e = cc
+sure_bad x (inr (inr (inl a))) n c e = cc
+sure_bad x (inr (inr (inr a))) n c e = cc
+
+pub sure_do : (x : Exit) → (x ≡ Fine) ⊎ ((x ≡ LogFault) ⊎ ((x ≡ WriteFault) ⊎ (x ≡ Memory))) → (n : ℕ) → x ≡ NotThreadable n → ⊥
+sure_do x (inl a) n e = cc
+sure_do x (inr (inl a)) n e = cc
+sure_do x (inr (inr (inl a))) n e = cc
+sure_do x (inr (inr (inr a))) n e = cc
