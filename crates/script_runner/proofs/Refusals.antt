@@ -117,13 +117,13 @@ made_done x (inr (inr e)) write = inr e
 
 -- the input of a command is good for the way that it is run
 pub good_replay : (ws : List (List ℕ)) (f : Form) (given : Option (List ℕ)) → ((c : Command) → Asks ws c → c ≡ AskReplay f) → CanBeDone ws given → IsGoodFor Replay given
-good_replay ws f given one (c, (asks, input)) = of_input (subst (λ (d : Command). IsInputFor d given) (one c asks) input)
+good_replay ws f given one (c, asks, input) = of_input (subst (λ (d : Command). IsInputFor d given) (one c asks) input)
   where
     of_input : IsInputFor (AskReplay f) given → IsGoodFor Replay given
     of_input (b, s, told, reads) = (b, s, told, reads, reads.script)
 
 pub good_threads : (ws : List (List ℕ)) (h : ℕ) (f : Form) (given : Option (List ℕ)) → ((c : Command) → Asks ws c → c ≡ AskThreads h f) → CanBeDone ws given → IsGoodFor (Threads h) given
-good_threads ws h f given one (c, (asks, input)) = of_input (subst (λ (d : Command). IsInputFor d given) (one c asks) input)
+good_threads ws h f given one (c, asks, input) = of_input (subst (λ (d : Command). IsInputFor d given) (one c asks) input)
   where
     of_input : IsInputFor (AskThreads h f) given → IsGoodFor (Threads h) given
     of_input (b, s, told, reads, k) = (b, s, told, reads, k)
@@ -133,7 +133,7 @@ pub no_replay : (ws : List (List ℕ)) (d : Command) → ((f : Form) → AskRepl
 no_replay ws d apart one (f, asks) = apart f (one (AskReplay f) asks)
 
 pub no_threads : (ws : List (List ℕ)) (d : Command) → ((h : ℕ) (f : Form) → AskThreads h f ≡ d → ⊥) → ((c : Command) → Asks ws c → c ≡ d) → AsksThreads ws → ⊥
-no_threads ws d apart one (h, (f, asks)) = apart h f (one (AskThreads h f) asks)
+no_threads ws d apart one (h, f, asks) = apart h f (one (AskThreads h f) asks)
 
 pub no_run : (ws : List (List ℕ)) → (AsksReplay ws → ⊥) → (AsksThreads ws → ⊥) → AsksRun ws → ⊥
 no_run ws replay threads (inl a) = replay a
@@ -141,7 +141,7 @@ no_run ws replay threads (inr b) = threads b
 
 -- where a script is made, or its replay is shown, no line is judged
 pub not_judged : (x : Exit) → ((n : ℕ) (c : BadCause) → x ≡ BadScript n c → ⊥) → ((n : ℕ) → x ≡ NotThreadable n → ⊥) → IsJudged x → ⊥
-not_judged x bad undone (inl (n, (c, e))) = bad n c e
+not_judged x bad undone (inl (n, c, e)) = bad n c e
 not_judged x bad undone (inr (n, e)) = undone n e
 
 pub made_bad : (x : Exit) → (x ≡ Fine) ⊎ ((x ≡ WriteFault) ⊎ (x ≡ Memory)) → (n : ℕ) (c : BadCause) → x ≡ BadScript n c → ⊥
