@@ -12,17 +12,17 @@ use Rattle.script_runner.proofs.program.run_program.Goals as goal
 
 pub returns-in-Some-Replay-clause-headline : goal.returns-in-Some-Replay-clause-headline
 returns-in-Some-Replay-clause-headline g c f asks fine =
-    let same : f ≡ c.in-Some-Replay.form = form_same f c.in-Some-Replay.form ((λ x given. c.in-Some-Replay.ensures.one x _ given c.in-Some-Replay.ensures.some ∙ c.in-Some-Replay.field-0-is) (Replay f) asks) in
+    let same : f ≡ c.in-Some-Replay.form = form_same f c.in-Some-Replay.form (c.in-Some-Replay.ensures.one (Replay f) _ asks c.in-Some-Replay.ensures.some ∙ c.in-Some-Replay.field-0-is) in
     rw same (c.run_in.ensures.headline fine)
 
 pub returns-in-Some-Replay-clause-cut_short : goal.returns-in-Some-Replay-clause-cut_short
 returns-in-Some-Replay-clause-cut_short g c f asks k =
-    let same : f ≡ c.in-Some-Replay.form = form_same f c.in-Some-Replay.form ((λ x given. c.in-Some-Replay.ensures.one x _ given c.in-Some-Replay.ensures.some ∙ c.in-Some-Replay.field-0-is) (Replay f) asks) in
+    let same : f ≡ c.in-Some-Replay.form = form_same f c.in-Some-Replay.form (c.in-Some-Replay.ensures.one (Replay f) _ asks c.in-Some-Replay.ensures.some ∙ c.in-Some-Replay.field-0-is) in
     rw same (c.run_in.ensures.cut_short k)
 
 pub returns-in-Some-Replay-clause-memory : goal.returns-in-Some-Replay-clause-memory
 returns-in-Some-Replay-clause-memory g c f asks k =
-    let same : f ≡ c.in-Some-Replay.form = form_same f c.in-Some-Replay.form ((λ x given. c.in-Some-Replay.ensures.one x _ given c.in-Some-Replay.ensures.some ∙ c.in-Some-Replay.field-0-is) (Replay f) asks) in
+    let same : f ≡ c.in-Some-Replay.form = form_same f c.in-Some-Replay.form (c.in-Some-Replay.ensures.one (Replay f) _ asks c.in-Some-Replay.ensures.some ∙ c.in-Some-Replay.field-0-is) in
     rw same (c.run_in.ensures.memory k)
 
 pub returns-in-Some-Replay-clause-read : goal.returns-in-Some-Replay-clause-read
@@ -51,22 +51,22 @@ returns-in-Some-Replay-clause-done g c can a b d =
 
 pub returns-in-Some-Threads-clause-threads : goal.returns-in-Some-Threads-clause-threads
 returns-in-Some-Threads-clause-threads g c h f asks fine =
-    let same : f ≡ c.in-Some-Threads.form = threads_same h c.in-Some-Threads.helpers f c.in-Some-Threads.form ((λ x given. c.in-Some-Threads.ensures.one x _ given c.in-Some-Threads.ensures.some ∙ c.in-Some-Threads.field-0-is) (Threads h f) asks) in
-    rw same (c.run_in.ensures.headline fine)
+    let same : f ≡ c.in-Some-Threads.form = threads_same h c.in-Some-Threads.helpers f c.in-Some-Threads.form (c.in-Some-Threads.ensures.one (Threads h f) _ asks c.in-Some-Threads.ensures.some ∙ c.in-Some-Threads.field-0-is) in
+    rw same (c.run_in-in-Some-Threads.ensures.headline fine)
 
 pub returns-in-Some-Threads-clause-threads_cut_short : goal.returns-in-Some-Threads-clause-threads_cut_short
 returns-in-Some-Threads-clause-threads_cut_short g c h f asks k =
-    let same : f ≡ c.in-Some-Threads.form = threads_same h c.in-Some-Threads.helpers f c.in-Some-Threads.form ((λ x given. c.in-Some-Threads.ensures.one x _ given c.in-Some-Threads.ensures.some ∙ c.in-Some-Threads.field-0-is) (Threads h f) asks) in
-    rw same (c.run_in.ensures.cut_short k)
+    let same : f ≡ c.in-Some-Threads.form = threads_same h c.in-Some-Threads.helpers f c.in-Some-Threads.form (c.in-Some-Threads.ensures.one (Threads h f) _ asks c.in-Some-Threads.ensures.some ∙ c.in-Some-Threads.field-0-is) in
+    rw same (c.run_in-in-Some-Threads.ensures.cut_short k)
 
 pub returns-in-Some-Threads-clause-threads_memory : goal.returns-in-Some-Threads-clause-threads_memory
 returns-in-Some-Threads-clause-threads_memory g c h f asks k =
-    let same : f ≡ c.in-Some-Threads.form = threads_same h c.in-Some-Threads.helpers f c.in-Some-Threads.form ((λ x given. c.in-Some-Threads.ensures.one x _ given c.in-Some-Threads.ensures.some ∙ c.in-Some-Threads.field-0-is) (Threads h f) asks) in
-    rw same (c.run_in.ensures.memory k)
+    let same : f ≡ c.in-Some-Threads.form = threads_same h c.in-Some-Threads.helpers f c.in-Some-Threads.form (c.in-Some-Threads.ensures.one (Threads h f) _ asks c.in-Some-Threads.ensures.some ∙ c.in-Some-Threads.field-0-is) in
+    rw same (c.run_in-in-Some-Threads.ensures.memory k)
 
 pub returns-in-Some-Threads-clause-read : goal.returns-in-Some-Threads-clause-read
 returns-in-Some-Threads-clause-read g c asks fine =
-    c.run_in.ensures.read fine
+    c.run_in-in-Some-Threads.ensures.read fine
 
 pub returns-in-Some-Threads-clause-unread : goal.returns-in-Some-Threads-clause-unread
 returns-in-Some-Threads-clause-unread g c none =
@@ -74,19 +74,19 @@ returns-in-Some-Threads-clause-unread g c none =
 
 pub returns-in-Some-Threads-clause-bad_refused : goal.returns-in-Some-Threads-clause-bad_refused
 returns-in-Some-Threads-clause-bad_refused g c n cause asks b told bad =
-    c.run_in.ensures.bad_refused n cause b told bad
+    c.run_in-in-Some-Threads.ensures.bad_refused n cause b told bad
 
 pub returns-in-Some-Threads-clause-not_threadable : goal.returns-in-Some-Threads-clause-not_threadable
 returns-in-Some-Threads-clause-not_threadable g c n e =
-    ((c.in-Some-Threads.helpers, c.in-Some-Threads.form, subst (λ d. Asks (map string_bytes c.args.words.now) d) c.in-Some-Threads.field-0-is c.in-Some-Threads.ensures.some), (c.run_in.ensures.not_threadable n e).1)
+    ((c.in-Some-Threads.helpers, c.in-Some-Threads.form, subst (λ d. Asks (map string_bytes c.args.words.now) d) c.in-Some-Threads.field-0-is c.in-Some-Threads.ensures.some), (c.run_in-in-Some-Threads.ensures.not_threadable n e).1)
 
 pub returns-in-Some-Threads-clause-do_refused : goal.returns-in-Some-Threads-clause-do_refused
 returns-in-Some-Threads-clause-do_refused g c n asks b told at =
-    c.run_in.ensures.do_refused n (c.in-Some-Threads.helpers, refl) b told at
+    c.run_in-in-Some-Threads.ensures.do_refused n (c.in-Some-Threads.helpers, refl) b told at
 
 pub returns-in-Some-Threads-clause-done : goal.returns-in-Some-Threads-clause-done
 returns-in-Some-Threads-clause-done g c can a b d =
-    c.run_in.ensures.done (good_threads _ c.in-Some-Threads.helpers c.in-Some-Threads.form _ (λ x given. c.in-Some-Threads.ensures.one x _ given c.in-Some-Threads.ensures.some ∙ c.in-Some-Threads.field-0-is) can) a b d
+    c.run_in-in-Some-Threads.ensures.done (good_threads _ c.in-Some-Threads.helpers c.in-Some-Threads.form _ (λ x given. c.in-Some-Threads.ensures.one x _ given c.in-Some-Threads.ensures.some ∙ c.in-Some-Threads.field-0-is) can) a b d
 
 pub returns-in-Some-Threads-clause-given_up_whole : goal.returns-in-Some-Threads-clause-given_up_whole
 returns-in-Some-Threads-clause-given_up_whole g c asks =
@@ -94,12 +94,12 @@ returns-in-Some-Threads-clause-given_up_whole g c asks =
 
 pub returns-in-Some-Make-clause-made : goal.returns-in-Some-Make-clause-made
 returns-in-Some-Make-clause-made g c n asks fine w told =
-    let same : n ≡ c.in-Some-Make.n = made_same n c.in-Some-Make.n ((λ x given. c.in-Some-Make.ensures.one x _ given c.in-Some-Make.ensures.some ∙ c.in-Some-Make.field-0-is) (Make n) asks) in
+    let same : n ≡ c.in-Some-Make.n = made_same n c.in-Some-Make.n (c.in-Some-Make.ensures.one (Make n) _ asks c.in-Some-Make.ensures.some ∙ c.in-Some-Make.field-0-is) in
     rw same (c.make_in.ensures.made fine w told)
 
 pub returns-in-Some-Make-clause-made_short : goal.returns-in-Some-Make-clause-made_short
 returns-in-Some-Make-clause-made_short g c n asks k =
-    let same : n ≡ c.in-Some-Make.n = made_same n c.in-Some-Make.n ((λ x given. c.in-Some-Make.ensures.one x _ given c.in-Some-Make.ensures.some ∙ c.in-Some-Make.field-0-is) (Make n) asks) in
+    let same : n ≡ c.in-Some-Make.n = made_same n c.in-Some-Make.n (c.in-Some-Make.ensures.one (Make n) _ asks c.in-Some-Make.ensures.some ∙ c.in-Some-Make.field-0-is) in
     rw same (elim k [ inl fault ↦ inr (c.make_in.ensures.cut_short fault) | inr memory ↦ c.make_in.ensures.memory memory ])
 
 pub returns-in-Some-Make-clause-made_answers : goal.returns-in-Some-Make-clause-made_answers
@@ -140,12 +140,12 @@ returns-in-Some-Make-clause-given_up_whole g c asks =
 
 pub returns-in-Some-Demo-clause-demo : goal.returns-in-Some-Demo-clause-demo
 returns-in-Some-Demo-clause-demo g c n asks fine =
-    let same : n ≡ c.in-Some-Demo.n = demo_same n c.in-Some-Demo.n ((λ x given. c.in-Some-Demo.ensures.one x _ given c.in-Some-Demo.ensures.some ∙ c.in-Some-Demo.field-0-is) (Demo n) asks) in
+    let same : n ≡ c.in-Some-Demo.n = demo_same n c.in-Some-Demo.n (c.in-Some-Demo.ensures.one (Demo n) _ asks c.in-Some-Demo.ensures.some ∙ c.in-Some-Demo.field-0-is) in
     rw same (c.demo_in.ensures.headline fine)
 
 pub returns-in-Some-Demo-clause-demo_short : goal.returns-in-Some-Demo-clause-demo_short
 returns-in-Some-Demo-clause-demo_short g c n asks k =
-    let same : n ≡ c.in-Some-Demo.n = demo_same n c.in-Some-Demo.n ((λ x given. c.in-Some-Demo.ensures.one x _ given c.in-Some-Demo.ensures.some ∙ c.in-Some-Demo.field-0-is) (Demo n) asks) in
+    let same : n ≡ c.in-Some-Demo.n = demo_same n c.in-Some-Demo.n (c.in-Some-Demo.ensures.one (Demo n) _ asks c.in-Some-Demo.ensures.some ∙ c.in-Some-Demo.field-0-is) in
     rw same (elim k [ inl fault ↦ inr (c.demo_in.ensures.cut_short fault) | inr memory ↦ c.demo_in.ensures.memory memory ])
 
 pub returns-in-Some-Demo-clause-demo_answers : goal.returns-in-Some-Demo-clause-demo_answers
@@ -154,7 +154,7 @@ returns-in-Some-Demo-clause-demo_answers g c n asks =
 
 pub returns-in-Some-Demo-clause-demo_whole : goal.returns-in-Some-Demo-clause-demo_whole
 returns-in-Some-Demo-clause-demo_whole g c n asks h memory calm none =
-    let same : n ≡ c.in-Some-Demo.n = demo_same n c.in-Some-Demo.n ((λ x given. c.in-Some-Demo.ensures.one x _ given c.in-Some-Demo.ensures.some ∙ c.in-Some-Demo.field-0-is) (Demo n) asks) in
+    let same : n ≡ c.in-Some-Demo.n = demo_same n c.in-Some-Demo.n (c.in-Some-Demo.ensures.one (Demo n) _ asks c.in-Some-Demo.ensures.some ∙ c.in-Some-Demo.field-0-is) in
     c.demo_in.ensures.given_up_whole h memory calm (subst (λ (m : ℕ). HasNoLogLine (Some (gen m))) same none)
 
 pub returns-in-Some-Demo-clause-read : goal.returns-in-Some-Demo-clause-read
