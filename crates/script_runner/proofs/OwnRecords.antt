@@ -245,17 +245,20 @@ at_most_one T rs may id = by (filter (is_record_of id) rs) refl
     by (x ∷ []) e = omega arith
     by (x ∷ (y ∷ zs)) e =
         let out : (t : TxNo) → identifier_of t.value ≡ id → ⊥ = λ t is.
-            let one : length (filter (is_record_of id) rs) ≤ 1 = subst (λ (i : ℕ). length (filter (is_record_of i) rs) ≤ 1) is (may.one t) in
-            let two : length (x ∷ y ∷ zs) ≤ 1 = subst (λ (q : List CommitRecord). length q ≤ 1) e one in omega (arith, two) in
+        let one : length (filter (is_record_of id) rs) ≤ 1 = subst (λ (i : ℕ). length (filter (is_record_of i) rs) ≤ 1) is (may.one t) in
+        let two : length (x ∷ y ∷ zs) ≤ 1 = subst (λ (q : List CommitRecord). length q ≤ 1) e one in omega (arith, two) in
         absurd (let k : x ∷ y ∷ zs ≡ [] = sym e ∙ may.others id out in cc)
 
 -- So the log at the end of a replay is that of a run on threads.
 pub ends_on_threads : CallsMade → (s : List Line) (image : List ℕ → Type 0) (T : List Placed) → IsScript s → ((t : TxNo) → FreelyCaused (IsCallOf s t.value) t.value (history t.value (past_of T))) → IsLogOf image T → EndsOnThreads s image T
 ends_on_threads law s image T script free log = record {
   up = λ e. let k = log.up e in (k.0, k.1, k.2.recorded);
-  own = λ c i. let k = log.stopped c i in
-      (k.0, k.1, record {
-        own = each_own s k.0 (found_own s (past_of T) k.0 (λ t known. known_made law s t (past_of T) script (free t) known) k.2);
-        once = at_most_one (past_of T) k.0 k.2;
-      });
+  own = λ c i. let k = log.stopped c i in (
+    k.0,
+    k.1,
+    record {
+      own = each_own s k.0 (found_own s (past_of T) k.0 (λ t known. known_made law s t (past_of T) script (free t) known) k.2);
+      once = at_most_one (past_of T) k.0 k.2;
+    },
+  );
 }

@@ -208,3 +208,9 @@ returns-in-None-clause-do_refused g c n asks =
 pub returns-in-None-clause-done : goal.returns-in-None-clause-done
 returns-in-None-clause-done g c can a b d =
     absurd (c.in-None.ensures.none can.0 can.1)
+
+pub returns-in-None-clause-made_answers : goal.returns-in-None-clause-made_answers
+returns-in-None-clause-made_answers g c n asks = absurd (c.in-None.ensures.none _ asks)
+
+pub returns-in-None-clause-demo_answers : goal.returns-in-None-clause-demo_answers
+returns-in-None-clause-demo_answers g c n asks = absurd (c.in-None.ensures.none _ asks)
