@@ -1,5 +1,5 @@
 //! A call that waits for the outcome.
-ghost use Rattle.std.specs.Prelude.{◌≡◌, ◌×◌, ◌&&◌, IsSome, None, Ok, Some, length, true};
+ghost use Rattle.std.specs.Prelude.{◌≡◌, ◌&&◌, IsSome, None, Ok, Some, length, true};
 ghost use Rattle.dtx_values.specs.declared.entry.Answer.{Answer};
 ghost use Rattle.dtx_values.specs.declared.words.Outcome.{Outcome};
 ghost use Rattle.dtx_model.specs.Entries.{client_told_of};
@@ -7,7 +7,7 @@ ghost use Rattle.dtx_model.specs.Outcome.{is_empty};
 ghost use Rattle.dtx_model.specs.Steps.{pending};
 ghost use Rattle.dtx_model.specs.Words.{latest};
 ghost use Rattle.tx_cells.specs.Board.{Post, board_of};
-ghost use Rattle.tx_cells.specs.Entering.{is_await_at};
+ghost use Rattle.tx_threads.specs.Turning.{is_await_at};
 ghost use Rattle.tx_cells.specs.declared.turns.Turned.{Turned};
 
 use crate::holds::{is_of, tell};

@@ -1,5 +1,5 @@
 //! A call of an actor at a transaction, and at the log.
-ghost use Rattle.std.specs.Prelude.{◌≡◌, ◌×◌, ◌&&◌, ◌==◌, not, IfOk, IsSome, None, OnErr, Ok, Some, length};
+ghost use Rattle.std.specs.Prelude.{◌≡◌, ◌&&◌, ◌==◌, not, IfOk, IsSome, None, OnErr, Ok, Some, length};
 ghost use Rattle.tx_cells.specs.Board.{board_of};
 ghost use Rattle.tx_cells.specs.Entering.{Enters, IsDone, next_of, put_off};
 ghost use Rattle.tx_cells.specs.declared.turns.Turned.{Turned};

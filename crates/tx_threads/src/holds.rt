@@ -1,5 +1,5 @@
 //! What a thread does with the state of a transaction that it is lent, inside its lock.
-ghost use Rattle.std.specs.Prelude.{◌≡◌, ◌≢◌, ◌×◌, ◌++◌, ◌∷◌, [], IfErr, IfSome, IsSome, IsTrue, None, Ok, OnOk, Some, false, true};
+ghost use Rattle.std.specs.Prelude.{◌≡◌, ◌≢◌, ◌++◌, ◌∷◌, [], IfErr, IfSome, IsSome, IsTrue, None, Ok, OnOk, Some, false, true};
 ghost use Rattle.dtx_model.specs.Entries.{client_told_of};
 ghost use Rattle.dtx_model.specs.Steps.{pending};
 ghost use Rattle.dtx_model.specs.Words.{kth, latest};

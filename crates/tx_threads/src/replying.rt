@@ -1,5 +1,5 @@
 //! A reply that is asked for while no lock is held, and brought back.
-ghost use Rattle.std.specs.Prelude.{◌≡◌, ◌≢◌, ◌×◌, ◌⊎◌, ℕ, IfOk, IfSome, IsSome, None, Ok, OnErr, Some, false, length, true};
+ghost use Rattle.std.specs.Prelude.{◌≡◌, ◌≢◌, ◌⊎◌, ℕ, IfOk, IfSome, IsSome, None, Ok, OnErr, Some, false, length, true};
 ghost use Rattle.dtx_model.specs.Steps.{Replies, pending};
 ghost use Rattle.dtx_model.specs.Words.{kth};
 ghost use Rattle.tx_cells.specs.Board.{board_of};
