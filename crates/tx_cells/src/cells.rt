@@ -113,7 +113,7 @@ impl<N: Run> Model for Cells<N> {
     ghost use Rattle.std.specs.Prelude.{◌≡◌, List, length};
     ghost use Rattle.dtx_values.specs.declared.number.TheConstants.EnlNo.{MAX};
     ghost use Rattle.tx_cells.specs.Board.{Named};
-    ghost use Rattle.script_calls.specs.Managers.{AreManagers};
+    ghost use Rattle.tx_cells.specs.Managers.{AreManagers};
 
     ghost Value = { List Named };
 

@@ -2,7 +2,7 @@
 ghost use Rattle.std.specs.Prelude.{◌-◌, ◌≡◌, IfOk, None, length, slice_index_or};
 ghost use Rattle.dtx_values.specs.declared.number.EnlNo.{EnlNo};
 ghost use Rattle.dtx_model.specs.Words.{or_else};
-ghost use Rattle.script_calls.specs.Managers.{AreManagers, manager_in};
+ghost use Rattle.tx_cells.specs.Managers.{AreManagers, manager_in};
 
 use dtx_values::{Body, EnlNo, Line, RmNo};
 use std::alloc::{AllocError, Global};
