@@ -8,6 +8,16 @@ use dtx_values::{Resource, RmNo, Script};
 use outside::Disk;
 use tx_cells::{CellState, LogState, Run};
 
+mod entering;
+mod following;
+mod settling;
+mod testing;
+
+use entering::enter_all;
+use following::follow_all;
+use settling::settle_all;
+use testing::test_all;
+
 /// Does the rest of a run after its threads ended, alone: each transaction hears of the log's state, each call that isn't entered yet is entered, each transaction is settled, and then each is tested.
 ///
 /// `managers` has the manager of each enlistment, and `resources` the objects of the first managers: each is asked for the replies of its enlistments. The states are those of the script's transactions, by number.
@@ -28,5 +38,8 @@ pub fn finish<D: Disk, N: Run>(
     ensures finished { OnOk result (AreFinished N.script states.new log.new) }
     ensures objects { length resources.new ≡ length resources.old }
 {
-    Ok(())
+    follow_all(states, log)?;
+    enter_all(managers, resources, states, log)?;
+    settle_all(managers, resources, states, log)?;
+    test_all(s, states, log)
 }
