@@ -5,7 +5,7 @@ ghost use Rattle.dtx_values.specs.declared.number.ActorNo.{ActorNo};
 ghost use Rattle.dtx_model.specs.Words.{each};
 ghost use Rattle.script_calls.specs.Managers.{AreManagers};
 ghost use Rattle.script_calls.specs.Rows.{are_entered, further, row_at};
-ghost use Rattle.thread_runs.specs.Finishing.{AreOfSame, left_of};
+ghost use Rattle.thread_runs.specs.Finishing.{left_among, left_of};
 ghost use Rattle.tx_cells.specs.Cell.{Cell};
 ghost use Rattle.tx_cells.specs.Entering.{next_of};
 ghost use Rattle.tx_cells.specs.LogEntering.{next_at_log};
@@ -178,5 +178,34 @@ fn enter_actors<D: Disk, N: Run>(
         let a = ActorNo::new(n).unwrap();
         enter_actor(managers, resources, states, log, a)?;
     }
+    Ok(())
+}
+
+/// That each call of the transactions was entered, where no actor has one left. It does nothing when it runs; a proof asks for it.
+fn each_is_entered<N: Run>(states: &[CellState<N>])
+    requires { (a : ActorNo) → left_among a states.now ≡ 0 }
+    ensures { each (λ c. are_entered c.rows) states.now ≡ true }
+{
+    for state in states {
+        prove!(state.are_entered());
+    }
+}
+
+/// Enters each call that isn't entered yet, actor by actor and in order of lines. Before an await its transaction is settled.
+pub(super) fn enter_all<D: Disk, N: Run>(
+    managers: &[Option<RmNo>],
+    resources: &mut [Box<dyn Resource + Send>],
+    states: &mut [CellState<N>],
+    log: &mut LogState<D, N>,
+) -> Result<(), RunStop>
+    requires objects { length resources.old ≡ N.objects }
+    requires managers { AreManagers N.script N.script managers.now }
+    ensures entered { OnOk result (each (λ c. are_entered c.rows) states.new ≡ true) }
+    ensures at_log { OnOk result (are_entered log.new.rows ≡ true) }
+    ensures objects { length resources.new ≡ length resources.old }
+{
+    enter_actors(managers, resources, states, log)?;
+    each_is_entered(states);
+    prove!(log.are_entered());
     Ok(())
 }
