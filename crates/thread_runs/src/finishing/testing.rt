@@ -1,5 +1,5 @@
 //! What is tested of the states at the end.
-ghost use Rattle.std.specs.Prelude.{◌≡◌, ◌×◌, ◌↔◌, IsTrue, OnOk, map, true};
+ghost use Rattle.std.specs.Prelude.{◌≡◌, ◌↔◌, IsTrue, OnOk, map, true};
 ghost use Rattle.std.specs.List.{All};
 ghost use Rattle.dtx_values.specs.Table.{how_many};
 ghost use Rattle.dtx_model.specs.AtLog.{is_opened, is_restart, is_stop, up_of};
