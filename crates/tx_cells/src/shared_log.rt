@@ -6,6 +6,7 @@ ghost use Rattle.dtx_model.specs.Words.{kth, past_of};
 ghost use Rattle.coordinator_log.specs.Slots.{open_records};
 ghost use Rattle.script_calls.specs.Rows.{are_entered};
 ghost use Rattle.script_calls.specs.SeenRow.{SeenRow};
+ghost use Rattle.dtx_values.specs.declared.number.ActorNo.{ActorNo};
 ghost use Rattle.script_calls.specs.declared.calls.LogCall.{LogCall};
 ghost use Rattle.tx_cells.specs.Cell.{IsThreadable};
 ghost use Rattle.tx_cells.specs.LogAnswers.{put_off_at_log};
@@ -102,7 +103,8 @@ impl<D: Disk, N: Run> LogState<D, N> {
 
     /// Whether each call at the log was entered.
     pub fn are_entered(&self) -> bool
-        ensures { result ≡ are_entered self.now.rows }
+        ensures value { result ≡ are_entered self.now.rows }
+        ensures none { ((a : ActorNo) → next_at_log a self.now ≡ None) → are_entered self.now.rows ≡ true }
     {
         self.rows.are_all_entered()
     }
