@@ -33,8 +33,8 @@ returns-clause-wires g c =
     let free : FreelyCaused (IsCallOf s t) t h = c.lifting.ensures.lifted s t x.world.calls h c.self.invariant.1.given (x.world.calls, c.is_own_run.ensures.run) in
     subst (λ (z : Cell). WireRun z.tx.world.past) c.self.view_is (c.crossings.ensures.wires s t h free)
 
-pub returns-clause-promotes : goal.returns-clause-promotes
-returns-clause-promotes g c =
+pub returns-clause-tied_promotes : goal.returns-clause-tied_promotes
+returns-clause-tied_promotes g c =
     let s = g.N.Run.script in
     let x = c.self.inside.world in
     let t = x.transaction.value in
@@ -42,8 +42,8 @@ returns-clause-promotes g c =
     let free : FreelyCaused (IsCallOf s t) t h = c.lifting.ensures.lifted s t x.world.calls h c.self.invariant.1.given (x.world.calls, c.is_own_run.ensures.run) in
     subst (λ (z : Cell). tied z.tx.world.past ≡ true → promotes s z.tx.transaction.value z.tx.world.past ≡ true) c.self.view_is (c.crossings.ensures.promotes s t h c.self.invariant.1.script.script.named free)
 
-pub returns-clause-just : goal.returns-clause-just
-returns-clause-just g c =
+pub returns-clause-tied_just : goal.returns-clause-tied_just
+returns-clause-tied_just g c =
     let s = g.N.Run.script in
     let x = c.self.inside.world in
     let t = x.transaction.value in
@@ -51,8 +51,8 @@ returns-clause-just g c =
     let free : FreelyCaused (IsCallOf s t) t h = c.lifting.ensures.lifted s t x.world.calls h c.self.invariant.1.given (x.world.calls, c.is_own_run.ensures.run) in
     subst (λ (z : Cell). tied z.tx.world.past ≡ true → justified z.tx.world.past ≡ true) c.self.view_is (c.one_outcome.ensures.just s t h c.self.invariant.1.script.script.named free)
 
-pub returns-clause-agrees : goal.returns-clause-agrees
-returns-clause-agrees g c =
+pub returns-clause-tied_agrees : goal.returns-clause-tied_agrees
+returns-clause-tied_agrees g c =
     let s = g.N.Run.script in
     let x = c.self.inside.world in
     let t = x.transaction.value in
@@ -60,8 +60,8 @@ returns-clause-agrees g c =
     let free : FreelyCaused (IsCallOf s t) t h = c.lifting.ensures.lifted s t x.world.calls h c.self.invariant.1.given (x.world.calls, c.is_own_run.ensures.run) in
     subst (λ (z : Cell). tied z.tx.world.past ≡ true → agree z.tx.world.past ≡ true) c.self.view_is (c.one_outcome.ensures.agrees s t h c.self.invariant.1.script.script.named free)
 
-pub returns-clause-learned : goal.returns-clause-learned
-returns-clause-learned g c =
+pub returns-clause-tied_learned : goal.returns-clause-tied_learned
+returns-clause-tied_learned g c =
     let s = g.N.Run.script in
     let x = c.self.inside.world in
     let t = x.transaction.value in
