@@ -30,6 +30,8 @@ use std::alloc::{AllocError, Global};
 use std::marker::{Model, PhantomData};
 use std::sync::Mutex;
 
+mod kept;
+
 /// What lies under the log's lock: the log, the calls of each actor there, and the entries at the log.
 #[derive(Drop)]
 pub struct LogState<D: Disk, N: Run> {
