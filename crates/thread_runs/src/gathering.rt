@@ -1,17 +1,19 @@
 //! The trace of a run on threads: the contexts by actor, the transactions by number, then the log.
 ghost use Rattle.std.specs.Prelude.{ℕ, ◌≡◌, ◌++◌, ◌<◌, [], IfOk, IsTrue, OnOk, false, map};
+ghost use Rattle.std.specs.List.{All};
 ghost use Rattle.dtx_model.specs.AtLog.{at_log, is_log_up};
 ghost use Rattle.dtx_model.specs.Traces.{noted, placed};
 ghost use Rattle.dtx_model.specs.Words.{has, past_of};
 ghost use Rattle.tx_cells.specs.LogAnswers.{is_no_log_answer};
 ghost use Rattle.thread_runs.specs.Contexts.{AreContexts, entries_of};
 ghost use Rattle.thread_runs.specs.Finished.{AreFinished};
-ghost use Rattle.thread_runs.specs.Gathering.{HasContexts, with_histories, with_log};
+ghost use Rattle.thread_runs.specs.Gathering.{HasContexts, IsCellOf, with_histories, with_log};
 ghost use Rattle.thread_runs.specs.Run.{AreTied, EndsOnThreads, IsRunOnThreads};
 
 use call_order::{call_order, entered_calls};
 use dtx_values::{ActorNo, Entry, Place};
 use entry_lists::{Entries, PlacedEntries, Trace};
+use outcome_law::crossings;
 use outside::Disk;
 use std::alloc::{AllocError, Global};
 use tx_cells::{CellState, LogState, Run};
@@ -38,11 +40,25 @@ pub fn gathered<D: Disk, N: Run>(
     // These calls do nothing when they run. Each brings its law into this proof, from which the clauses follow.
     entered_calls();
     call_order();
+    crossings();
+    are_kept(states);
+    log.is_kept();
+    let _ = log.log().is_up();
     let mut trace = PlacedEntries::new(alloc);
     write_contexts(&mut trace, contexts)?;
     write_histories(&mut trace, states)?;
     write_log(&mut trace, log.entries())?;
     Ok(Trace::new(trace))
+}
+
+/// What each of these locks gave, as its type knows it. It does nothing when it runs; a caller's proof asks for it.
+fn are_kept<N: Run>(states: &[CellState<N>])
+    ensures { All (IsCellOf N.script N.objects N.honest) states.now }
+{
+    for state in states {
+        state.is_caused();
+        state.is_kept();
+    }
 }
 
 /// Puts into an empty trace what stands at the contexts, by actor.
