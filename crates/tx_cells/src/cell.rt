@@ -30,6 +30,7 @@ use tx_world::TxWorld;
 mod asking;
 mod entering;
 mod following;
+mod kept;
 mod stepping;
 mod tying;
 
