@@ -1,6 +1,5 @@
 //! What lies under the log's lock.
-ghost use Rattle.std.specs.Prelude.{ℕ, ◌≡◌, ◌≢◌, ◌≤◌, ◌<◌, ◌+◌, ◌-◌, ◌^◌, ◌⊎◌, List, [], None, Some, Ok, IfErr, IfOk, IsTrue, OnErr, false, true, vec_capacity, vec_len};
-ghost use Rattle.outside.specs.Disk.{AreWithin};
+ghost use Rattle.std.specs.Prelude.{ℕ, ◌≡◌, ◌≤◌, ◌<◌, ◌-◌, ◌^◌, ◌⊎◌, List, [], None, Some, Ok, IfErr, IfOk, IsTrue, OnErr, false, true};
 ghost use Rattle.dtx_model.specs.Steps.{pending};
 ghost use Rattle.dtx_model.specs.Words.{kth, past_of};
 ghost use Rattle.coordinator_log.specs.Slots.{open_records};
@@ -18,7 +17,7 @@ ghost use Rattle.tx_cells.specs.declared.turns.Turned.{Turned};
 ghost use Rattle.tx_world.specs.AtLog.{AtMostOne};
 ghost use Rattle.tx_world.specs.Stepping.{DoesKth};
 ghost use Rattle.world_laws.specs.Left.{steps_left};
-ghost use Rattle.turn_parts.specs.Reopening.{IsReopened, opened_where, restart_answer, restarted, stop_noted, stopped_where};
+ghost use Rattle.turn_parts.specs.Reopening.{restart_answer, stop_noted};
 
 use crate::cell::CellState;
 use crate::error::TurnError;
