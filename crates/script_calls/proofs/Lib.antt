@@ -7,4 +7,7 @@ pub mod Filling
 pub mod Managing
 pub mod Openings
 pub mod PlanTable
+pub mod RightReplies
 pub mod Scoping
+pub mod StepBlocks
+pub mod Unsilent
