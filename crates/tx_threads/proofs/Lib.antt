@@ -1,0 +1,2 @@
+pub mod AwaitAnswers
+pub mod Standing

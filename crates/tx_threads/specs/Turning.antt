@@ -1,5 +1,7 @@
 -- What a turn came to, and the words for a call that waits.
-use Rattle.std.specs.Prelude.{ℕ, ◌==◌, ◌&&◌, Bool, true, false, List, Option, Some, None}
+use Rattle.std.specs.Prelude.{ℕ, ◌≡◌, ◌==◌, ◌&&◌, Bool, true, false, List, [], ◌++◌, ◌∷◌, Option, Some, None}
+use Rattle.dtx_values.specs.declared.note.Note.{Note}
+use Rattle.dtx_values.specs.declared.number.EnlNo.{EnlNo}
 use Rattle.dtx_values.specs.declared.entry.Entry.{Entry}
 use Rattle.dtx_values.specs.declared.entry.Entry.TheVariants.{Answered}
 use Rattle.dtx_values.specs.declared.script.Body.{Body}
@@ -9,6 +11,9 @@ use Rattle.dtx_model.specs.Outcome.{is_empty}
 use Rattle.dtx_model.specs.Steps.{pending}
 use Rattle.dtx_model.specs.Words.{kth}
 use Rattle.tx_cells.specs.Cell.{Cell}
+use Rattle.tx_cells.specs.Entering.{IsKthDone}
+use Rattle.tx_cells.specs.Turns.{turn_of, with_tx}
+use Rattle.tx_cells.specs.declared.turns.Turn.TheVariants.{Step}
 use Rattle.tx_threads.specs.declared.holds.Came.{Came}
 use Rattle.tx_threads.specs.declared.holds.Came.TheVariants.{Nothing}
 
@@ -16,6 +21,17 @@ use Rattle.tx_threads.specs.declared.holds.Came.TheVariants.{Nothing}
 abbrev pub is_turned : Came → Bool
 is_turned Nothing = false
 is_turned _ = true
+
+-- the first pending step was done that isn't a reply that is out, and it was no reply
+pub record HasStepped (old new : Cell) : Type 0 where
+  pub place : ℕ
+  pub first : turn_of old ≡ Step place
+  pub done : IsKthDone place old.tx new.tx
+  pub same : new ≡ with_tx new.tx old
+
+-- the cell in which the reply of this enlistment to this note is out too
+abbrev pub marked : EnlNo × Note → Cell → Cell
+marked x c = record { tx = c.tx; rows = c.rows; out = c.out ++ x ∷ [] }
 
 -- the entry answers the call of line n
 abbrev pub is_answer_to : ℕ → Entry → Bool

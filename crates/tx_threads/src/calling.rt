@@ -1,8 +1,10 @@
 //! A call of an actor at a transaction, and at the log.
-ghost use Rattle.std.specs.Prelude.{◌≡◌, ◌&&◌, ◌==◌, not, IfOk, IsSome, None, OnErr, Ok, Some, length};
+ghost use Rattle.std.specs.Prelude.{◌≡◌, IfOk, IsSome, None, OnErr, Some, length};
+ghost use Rattle.dtx_model.specs.Words.{has};
 ghost use Rattle.tx_cells.specs.Board.{board_of};
 ghost use Rattle.tx_cells.specs.Entering.{Enters, IsDone, next_of, put_off};
 ghost use Rattle.tx_cells.specs.declared.turns.Turned.{Turned};
+ghost use Rattle.tx_threads.specs.Turning.{is_answer_to};
 
 use crate::hearing::go_round;
 use crate::holds::{Came, is_of, tell};
@@ -16,6 +18,7 @@ use std::thread;
 use tx_cells::{CellState, Cells, LogState, Run, SharedLog, TurnError, Turned};
 
 /// Enters the actor's next call inside the lock of its transaction, where it is of this line. Where it isn't, or waits, nothing is done. A line that may begin a promotion takes the lock of the log for as long.
+#[tactic(auto, using(tx_cells::proofs::EitherWay::enters_alone, tx_cells::proofs::EitherWay::enters_over))]
 fn enter<D: Disk, N: Run, R: Wait>(
     rt: &R,
     cells: &Cells<N>,
@@ -39,7 +42,10 @@ fn enter<D: Disk, N: Run, R: Wait>(
 fn is_answer_to(e: &Entry, line: u32) -> bool
     ensures { result ≡ is_answer_to line e.now }
 {
-    matches!(e, Entry::Answered(n, _) if *n == line)
+    match e {
+        Entry::Answered(n, _) => *n == line,
+        _ => false,
+    }
 }
 
 /// Whether the history answers the call of this line.

@@ -1,5 +1,5 @@
 //! What a thread does with the state of a transaction that it is lent, inside its lock.
-ghost use Rattle.std.specs.Prelude.{◌≡◌, ◌≢◌, ◌++◌, ◌∷◌, [], IfErr, IfSome, IsSome, IsTrue, None, Ok, OnOk, Some, false, true};
+ghost use Rattle.std.specs.Prelude.{◌≡◌, ◌≢◌, ◌++◌, ◌∷◌, [], IfErr, IfSome, IsSome, IsTrue, None, Ok, OnErr, OnOk, Some, false, true};
 ghost use Rattle.dtx_model.specs.Entries.{client_told_of};
 ghost use Rattle.dtx_model.specs.Steps.{pending};
 ghost use Rattle.dtx_model.specs.Words.{kth, latest};
@@ -53,7 +53,7 @@ pub(crate) fn tell<N: Run>(
     ensures known { OnOk result (IsSome (latest client_told_of state.now.tx.world.past) → (x : Post) × (note.new.known ≡ Some x)) }
     ensures kept { (x : Post) → note.old.known ≡ Some x → note.new.known ≡ Some x }
 {
-    if peek_outcome(cells, t, note).is_some() {
+    if let Some(_) = peek_outcome(cells, t, note) {
         return Ok(());
     }
     if let Some(posted) = state.post(alloc)? {
@@ -74,6 +74,7 @@ fn do_over<D: Disk, N: Run>(
     ensures stopped { result ≡ Ok Came.Stopped → IsKthDone k state.old.tx state.new.tx × IsTrue log.old.log.is_up × (log.new.log.is_up ≡ false) }
     ensures never { (e : EnlNo) (n : Note) → result ≢ Ok (Came.Out e n) }
     ensures same { state.new ≡ with_tx state.new.tx state.old }
+    ensures failed { OnErr result (state.new ≡ state.old) }
 {
     let was_up = log.is_up();
     if !state.do_step_with(log, k)? {
@@ -99,6 +100,7 @@ pub(crate) fn do_turn<D: Disk, N: Run, R: Wait>(
     ensures stopped { result ≡ Ok Came.Stopped → IsKthDone k state.old.tx state.new.tx }
     ensures never { (e : EnlNo) (n : Note) → result ≢ Ok (Came.Out e n) }
     ensures same { state.new ≡ with_tx state.new.tx state.old }
+    ensures failed { OnErr result (state.new ≡ state.old) }
 {
     if !state.needs_log(k) {
         let is_done = state.do_step_alone(k)?;
