@@ -1,5 +1,6 @@
 -- What a turn came to, and the words for a call that waits.
 use Rattle.std.specs.Prelude.{ℕ, ◌≡◌, ◌==◌, ◌&&◌, Bool, true, false, List, [], ◌++◌, ◌∷◌, Option, Some, None}
+use Rattle.dtx_values.specs.declared.call.Call.{Call}
 use Rattle.dtx_values.specs.declared.note.Note.{Note}
 use Rattle.dtx_values.specs.declared.number.EnlNo.{EnlNo}
 use Rattle.dtx_values.specs.declared.entry.Entry.{Entry}
@@ -10,6 +11,7 @@ use Rattle.dtx_values.specs.declared.script.Line.{Line}
 use Rattle.dtx_model.specs.Outcome.{is_empty}
 use Rattle.dtx_model.specs.Steps.{pending}
 use Rattle.dtx_model.specs.Words.{kth}
+use Rattle.script_calls.specs.declared.rows.Due.{Due}
 use Rattle.tx_cells.specs.Cell.{Cell}
 use Rattle.tx_cells.specs.Entering.{IsKthDone}
 use Rattle.tx_cells.specs.Turns.{turn_of, with_tx}
@@ -53,3 +55,8 @@ is_await None = false
 
 abbrev pub is_await_at : List Line → ℕ → Bool
 is_await_at s n = is_await (kth s n)
+
+-- the next call is that of line n
+abbrev pub is_of_line : ℕ → Option (Due Call) → Bool
+is_of_line n (Some d) = d.line == n
+is_of_line n None = false

@@ -7,13 +7,14 @@ ghost use Rattle.dtx_model.specs.Words.{latest};
 ghost use Rattle.tx_cells.specs.Board.{Post, board_of};
 ghost use Rattle.tx_cells.specs.Entering.{Enters};
 ghost use Rattle.tx_cells.specs.declared.turns.Turned.{Turned};
-ghost use Rattle.tx_threads.specs.Turning.{is_await_at, is_quiet};
+ghost use Rattle.tx_threads.specs.Turning.{is_await_at, is_of_line, is_quiet};
 ghost use Rattle.tx_world.specs.OwnCalls.{DoesAlone};
 
 use crate::holds::{is_of, tell};
 use crate::turning::{begin_turn, end_turn};
-use dtx_values::{ActorNo, Resource, TxNo};
+use dtx_values::{ActorNo, Call, Resource, TxNo};
 use outside::{Disk, Gate};
+use script_calls::Due;
 use std::alloc::Global;
 use std::sync::{Mutex, Wait};
 use std::thread;
@@ -25,6 +26,16 @@ fn goes_on<N: Run>(state: &CellState<N>) -> bool
     ensures { result ≡ (not (is_some (latest client_told_of state.now.tx.world.past)) && not (is_quiet state.now)) }
 {
     state.told().is_none() && !state.is_quiet()
+}
+
+/// Whether the next call is that of this line.
+fn is_of_line(next: &Option<Due<Call>>, line: u32) -> bool
+    ensures { result ≡ is_of_line line next.now }
+{
+    match next {
+        Some(due) => due.line == line,
+        None => false,
+    }
 }
 
 /// Enters the actor's await inside the lock of its transaction, unless that goes on: the client wasn't told, and a step is pending or a reply is out. Where the client was told, the board has that then, and the note knows it.
@@ -49,7 +60,7 @@ fn enter_await<N: Run>(
 {
     tell(alloc, cells, t, state, note)?;
     let next = state.next(a);
-    if goes_on(state) && next.is_some_and(|due| due.line == line) {
+    if goes_on(state) && is_of_line(&next, line) {
         return Ok(Turned::Later);
     }
     state.enter_alone(a, line)
