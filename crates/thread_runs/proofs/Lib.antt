@@ -1,0 +1,5 @@
+pub mod ByCell
+pub mod Gathered
+pub mod Marked
+pub mod Placing
+pub mod Standing

@@ -1,0 +1,24 @@
+-- What the caller's steps keep after the threads of a run ended, and how many calls are left to be entered.
+use Rattle.std.specs.Prelude.{ℕ, ◌+◌, ◌-◌, ◌≡◌, List, length, map}
+use Rattle.std.specs.List.{sum_by}
+use Rattle.dtx_values.specs.declared.number.ActorNo.{ActorNo}
+use Rattle.script_calls.specs.Rows.{row_at}
+use Rattle.script_calls.specs.SeenRow.{SeenRow}
+use Rattle.tx_cells.specs.Cell.{Cell}
+use Rattle.tx_cells.specs.LogCell.{LogCell}
+
+-- In each of the cells the same calls were entered.
+abbrev pub HaveSameCalls : List Cell → List Cell → Type 0
+HaveSameCalls old new = map (λ c. c.rows) new ≡ map (λ c. c.rows) old
+
+-- how many calls of a row weren't entered
+abbrev pub left_in : {C : Type 0} → SeenRow C → ℕ
+left_in r = length r.calls - r.entered
+
+-- how many calls of actor a weren't entered, at these transactions
+abbrev pub left_among : ActorNo → List Cell → ℕ
+left_among a cells = sum_by (λ c. left_in (row_at a c.rows)) cells
+
+-- and at the log too
+abbrev pub left_of : {D : Type 0} → ActorNo → List Cell → LogCell D → ℕ
+left_of a cells log = left_among a cells + left_in (row_at a log.rows)
