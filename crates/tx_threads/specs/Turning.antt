@@ -1,5 +1,5 @@
 -- What a turn came to, and the words for a call that waits.
-use Rattle.std.specs.Prelude.{ℕ, ◌≡◌, ◌==◌, ◌&&◌, Bool, true, false, List, [], ◌++◌, ◌∷◌, Option, Some, None}
+use Rattle.std.specs.Prelude.{ℕ, ◌≡◌, ◌⊎◌, ◌==◌, ◌&&◌, ◌||◌, not, Bool, true, false, List, [], ◌++◌, ◌∷◌, Option, Some, None}
 use Rattle.dtx_values.specs.declared.call.Call.{Call}
 use Rattle.dtx_values.specs.declared.note.Note.{Note}
 use Rattle.dtx_values.specs.declared.number.EnlNo.{EnlNo}
@@ -11,10 +11,15 @@ use Rattle.dtx_values.specs.declared.script.Line.{Line}
 use Rattle.dtx_model.specs.Outcome.{is_empty}
 use Rattle.dtx_model.specs.Steps.{pending}
 use Rattle.dtx_model.specs.Words.{kth}
+use Rattle.coordinator_log.specs.State.{LogState}
 use Rattle.script_calls.specs.declared.rows.Due.{Due}
+use Rattle.tx_world.specs.State.{TxState}
 use Rattle.tx_cells.specs.Cell.{Cell}
 use Rattle.tx_cells.specs.Entering.{IsKthDone}
+use Rattle.tx_cells.specs.Ties.{IsCause}
 use Rattle.tx_cells.specs.Turns.{turn_of, with_tx}
+use Rattle.tx_cells.specs.declared.error.TurnError.{TurnError}
+use Rattle.tx_cells.specs.declared.error.TurnError.TheVariants.{Memory}
 use Rattle.tx_cells.specs.declared.turns.Turn.TheVariants.{Step}
 use Rattle.tx_threads.specs.declared.holds.Came.{Came}
 use Rattle.tx_threads.specs.declared.holds.Came.TheVariants.{Nothing}
@@ -30,6 +35,18 @@ pub record HasStepped (old new : Cell) : Type 0 where
   pub first : turn_of old ≡ Step place
   pub done : IsKthDone place old.tx new.tx
   pub same : new ≡ with_tx new.tx old
+
+-- Why a turn in the transaction isn't done that may take the log's lock: memory ran out, or there is a log with which the transaction doesn't tie, and the two are named.
+abbrev pub MayFail : (D : Type 0) → TxState → TurnError → Type 0
+MayFail D x e = (e ≡ Memory) ⊎ (log : LogState D) × IsCause x log e
+
+-- the log was stopped or opened between the two
+abbrev pub is_other : Bool → Bool → Bool
+is_other true b = not b
+is_other false b = b
+
+abbrev pub is_moved : {D : Type 0} → LogState D → LogState D → Bool
+is_moved x y = is_other x.is_up y.is_up || not (x.life == y.life)
 
 -- the cell in which the reply of this enlistment to this note is out too
 abbrev pub marked : EnlNo × Note → Cell → Cell

@@ -1,5 +1,5 @@
 //! A call that waits for the outcome.
-ghost use Rattle.std.specs.Prelude.{◌≡◌, ◌&&◌, IsSome, None, Ok, OnErr, Some, false, is_some, length, not, true};
+ghost use Rattle.std.specs.Prelude.{◌≡◌, ◌&&◌, IfErr, IsSome, None, Ok, Some, false, is_some, length, not, true};
 ghost use Rattle.dtx_values.specs.declared.entry.Answer.{Answer};
 ghost use Rattle.dtx_values.specs.declared.words.Outcome.{Outcome};
 ghost use Rattle.dtx_model.specs.Entries.{client_told_of};
@@ -56,7 +56,7 @@ fn enter_await<N: Run>(
     ensures entered { (x : Answer) → result ≡ Ok (Turned.Did x) → Enters DoesAlone a line (Turned.Did x) state.old state.new }
     ensures open { result ≡ Ok (Turned.Did Answer.StillOpen) → (latest client_told_of state.old.tx.world.past ≡ None) × (is_quiet state.old ≡ true) }
     ensures later { result ≡ Ok Turned.Later → (latest client_told_of state.old.tx.world.past ≡ None) × (is_quiet state.old ≡ false) × (state.new ≡ state.old) }
-    ensures failed { OnErr result (state.new ≡ state.old) }
+    ensures memory { IfErr result (λ e. (e ≡ TurnError.Memory) × (state.new ≡ state.old)) }
 {
     tell(alloc, cells, t, state, note)?;
     let next = state.next(a);

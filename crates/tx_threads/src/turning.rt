@@ -1,11 +1,11 @@
 //! One turn of a thread: what is to be done next in a transaction.
-ghost use Rattle.std.specs.Prelude.{◌≡◌, IfOk, IsSome, Ok, OnErr, OnOk, Some, length};
+ghost use Rattle.std.specs.Prelude.{◌≡◌, IfErr, IfOk, IsSome, Ok, OnOk, Some, length};
 ghost use Rattle.dtx_model.specs.Entries.{client_told_of};
 ghost use Rattle.dtx_model.specs.Words.{latest};
 ghost use Rattle.tx_cells.specs.Board.{Post, board_of};
 ghost use Rattle.tx_cells.specs.Turns.{turn_of};
 ghost use Rattle.tx_cells.specs.declared.turns.Turn.{Turn};
-ghost use Rattle.tx_threads.specs.Turning.{HasStepped, is_turned, marked};
+ghost use Rattle.tx_threads.specs.Turning.{HasStepped, MayFail, is_turned, marked};
 
 use crate::hearing::go_round;
 use crate::holds::{Came, do_turn, is_of, tell};
@@ -27,7 +27,7 @@ fn do_next<D: Disk, N: Run, R: Wait>(
     ensures done { result ≡ Ok Came.Done → HasStepped state.old state.new }
     ensures stopped { result ≡ Ok Came.Stopped → HasStepped state.old state.new }
     ensures out { (e : EnlNo) (n : Note) → result ≡ Ok (Came.Out e n) → (turn_of state.old ≡ Turn.Ask e n) × (state.new ≡ marked (e, n) state.old) }
-    ensures failed { OnErr result (state.new ≡ state.old) }
+    ensures cause { IfErr result (λ e. MayFail D state.old.tx e × (state.new ≡ state.old)) }
 {
     match state.next_turn() {
         Turn::Nothing => Ok(Came::Nothing),
@@ -58,6 +58,7 @@ pub(crate) fn begin_turn<D: Disk, N: Run, R: Wait>(
     ensures cell { note.new.cell ≡ note.old.cell }
     ensures known { OnOk result (IsSome (latest client_told_of state.new.tx.world.past) → (x : Post) × (note.new.known ≡ Some x)) }
     ensures kept { (x : Post) → note.old.known ≡ Some x → note.new.known ≡ Some x }
+    ensures cause { IfErr result (MayFail D state.old.tx) }
 {
     let came = do_next(rt, log, state)?;
     tell(alloc, cells, t, state, note)?;
