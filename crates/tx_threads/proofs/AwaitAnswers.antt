@@ -1,5 +1,5 @@
 -- What an await is answered.
-use Rattle.std.proofs.Common.{◌≡◌, ℕ, zero, suc, Bool, true, false, List, [], ◌∷◌, Option, Some, None, slice_get, refl, ap, sym, subst, ◌∙◌, if◌then◌else◌, ◌==◌}
+use Rattle.std.proofs.Common.{◌≡◌, ℕ, zero, suc, Bool, true, false, List, Option, Some, None, slice_get, refl, ap, sym, subst, ◌∙◌, if◌then◌else◌, ◌==◌}
 use Rattle.std.specs.Prelude.{◌&&◌, ◌||◌, not, is_some, IfOk, IsSome, Ok, Result}
 use Rattle.dtx_values.specs.declared.call.Call.{Call}
 use Rattle.dtx_values.specs.declared.call.Call.TheVariants.{Await}
@@ -20,7 +20,7 @@ use Rattle.dtx_model.specs.Entries.{client_told_of}
 use Rattle.dtx_model.specs.Observed.{observe}
 use Rattle.dtx_model.specs.Outcome.{is_empty}
 use Rattle.dtx_model.specs.Steps.{pending}
-use Rattle.dtx_model.specs.Words.{kth, latest, put}
+use Rattle.dtx_model.specs.Words.{latest, put}
 use Rattle.dtx_model.specs.World.{World, answer_at, half}
 use Rattle.outcome_law.proofs.Tests.{eq_self}
 use Rattle.script_calls.specs.declared.rows.Due.{Due}

@@ -1,5 +1,5 @@
 -- The first pending step that isn't a reply that is out stands at its place.
-use Rattle.std.proofs.Common.{◌≡◌, ◌⊎◌, inl, inr, ℕ, zero, suc, ◌+◌, Bool, true, false, List, [], ◌∷◌, Option, Some, None, slice_get, refl, ap, sym, subst, ◌∙◌, arith, add-one, if◌then◌else◌}
+use Rattle.std.proofs.Common.{◌≡◌, ◌⊎◌, inl, inr, ℕ, suc, ◌+◌, Bool, true, false, List, [], ◌∷◌, Option, Some, None, slice_get, refl, sym, subst, ◌∙◌, arith, if◌then◌else◌}
 use Rattle.dtx_values.specs.declared.note.Note.{Note}
 use Rattle.dtx_values.specs.declared.number.EnlNo.{EnlNo}
 use Rattle.dtx_model.specs.Words.{kth}
@@ -9,7 +9,7 @@ use Rattle.tx_world.specs.Stepping.{reply_in}
 use Rattle.tx_cells.specs.Cell.{Cell}
 use Rattle.tx_cells.specs.Turns.{first_turn, is_out, turn_of, turn_or}
 use Rattle.tx_cells.specs.declared.turns.Turn.{Turn}
-use Rattle.tx_cells.specs.declared.turns.Turn.TheVariants.{Step, Ask, Nothing}
+use Rattle.tx_cells.specs.declared.turns.Turn.TheVariants.{Step, Ask}
 
 -- the turn is this step, or one of the later ones
 here_or_later : (out : List (EnlNo × Note)) (i k : ℕ) (o : Option (EnlNo × Note)) (rest : Turn) → turn_or out i o rest ≡ Step k → (i ≡ k) ⊎ (rest ≡ Step k)
