@@ -1,5 +1,6 @@
 -- Steps whose reply the object of a manager may give.
-use Rattle.std.specs.Prelude.{ℕ, ◌≡◌, true, Option, Some, None}
+use Rattle.std.specs.Prelude.{ℕ, ◌≡◌, true, Option, Some, None, if◌then◌else◌}
+use Rattle.std.specs.Option.{option_map}
 use Rattle.dtx_values.specs.declared.note.Note.{Note}
 use Rattle.dtx_values.specs.declared.note.Reply.{Reply}
 use Rattle.dtx_values.specs.declared.number.EnlNo.{EnlNo}
@@ -11,6 +12,15 @@ use Rattle.dtx_model.specs.Caused.{IsNamed}
 use Rattle.coordinator_log.specs.State.{LogState}
 use Rattle.tx_world.specs.State.{TxState}
 use Rattle.tx_world.specs.Stepping.{Does, IsToPlan, reply_in}
+
+-- an answer, where there is one and it fits the note
+abbrev pub fitting : Note → Option Reply → Option Reply
+fitting n (Some r) = if fits r n then Some r else None
+fitting n None = None
+
+-- this answer, as the reply of an enlistment
+abbrev pub reply_by : EnlNo → Option Reply → Option (EnlNo × Reply)
+reply_by e a = option_map (λ r. (e, r)) a
 
 -- the k-th pending step is a reply of this enlistment, and this one fits the note to which it is due
 pub record MayReply (w : World) (k : ℕ) (e : EnlNo) (r : Reply) : Type 0 where

@@ -1,6 +1,9 @@
 //! Steps whose reply the object of a manager may give.
-ghost use Rattle.std.specs.Prelude.{◌-◌, ◌≡◌, ◌≤◌, ◌<◌, IfSome, IsTrue, None, OnErr, Ok, false, length, slice_index_or, true};
+ghost use Rattle.std.specs.Prelude.{◌-◌, ◌≡◌, ◌≤◌, ◌<◌, IfSome, IsTrue, None, OnErr, Option, Ok, Some, false, length, slice_get, slice_index_or, true};
+ghost use Rattle.dtx_values.specs.declared.note.Note.{Note};
+ghost use Rattle.dtx_values.specs.declared.note.Reply.{Reply};
 ghost use Rattle.dtx_values.specs.declared.number.EnlNo.{EnlNo};
+ghost use Rattle.dtx_values.specs.declared.number.RmNo.{RmNo};
 ghost use Rattle.dtx_model.specs.Caused.{is_up_to};
 ghost use Rattle.dtx_model.specs.Replies.{fits};
 ghost use Rattle.dtx_model.specs.Steps.{pending};
@@ -8,8 +11,9 @@ ghost use Rattle.dtx_model.specs.Words.{kth};
 ghost use Rattle.coordinator_log.specs.Slots.{open_records};
 ghost use Rattle.tx_world.specs.AtLog.{Fits, KeepsLog, KeepsSlots};
 ghost use Rattle.tx_world.specs.Prepared.{NamesPrepared};
+ghost use Rattle.tx_world.specs.Stepping.{reply_in};
 ghost use Rattle.world_laws.specs.Left.{steps_left};
-ghost use Rattle.script_runner.specs.Objects.{DoesGiven, MayReply};
+ghost use Rattle.script_runner.specs.Objects.{DoesGiven, MayReply, fitting, reply_by};
 
 use coordinator_log::Log;
 use dtx_values::{EnlNo, Note, Outbox, Reply, Resource, RmNo, TxNo};
@@ -19,12 +23,13 @@ use tx_world::{TxWorld, WorldError};
 
 /// What the object replies to the note; `None` where it gives no answer that fits it.
 fn answer(
-    object: &mut Box<dyn Resource + Send>,
+    object: &mut dyn Resource,
     t: TxNo,
     e: EnlNo,
     n: Note,
 ) -> Option<Reply>
-    ensures { IfSome result (λ r. fits r n ≡ true) }
+    ensures fits { IfSome result (λ r. fits r n ≡ true) }
+    ensures answer { (a : Option Reply) × (after : _) × gives object.old t e n a after × (result ≡ fitting n a) }
 {
     let r = object.on(t, e, n)?;
     if fits(r, n) { Some(r) } else { None }
@@ -42,12 +47,14 @@ pub fn asked(
     requires { length managers.now ≡ EnlNo.MAX }
     ensures due { IfSome result (λ x. MayReply world.now.world k x.0 x.1) }
     ensures object { IfSome result (λ x. is_up_to (length resources.old) (slice_index_or managers.now (x.0.value - 1) None) ≡ true) }
+    ensures answer { (e : EnlNo) (n : Note) (rm : RmNo) (object : _) → reply_in world.now.world (kth (pending world.now.world) k) ≡ Some (e, n) → slice_index_or managers.now (e.value - 1) None ≡ Some rm
+        → slice_get resources.old (rm.value - 1) ≡ Some object → (a : Option Reply) × (after : _) × gives object t e n a after × (result ≡ reply_by e (fitting n a)) }
     ensures same { length resources.new ≡ length resources.old }
 {
     let (e, n) = world.due_at(k)?;
     let rm = managers[e.index()]?;
     let object = resources.get_mut(rm.index())?;
-    let r = answer(object, t, e, n)?;
+    let r = answer(&mut **object, t, e, n)?;
     Some((e, r))
 }
 
