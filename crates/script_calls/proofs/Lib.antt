@@ -8,4 +8,7 @@ pub mod Managing
 pub mod NoneLeft
 pub mod Openings
 pub mod PlanTable
+pub mod RightReplies
 pub mod Scoping
+pub mod StepBlocks
+pub mod Unsilent

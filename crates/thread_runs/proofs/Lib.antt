@@ -1,1 +1,6 @@
+pub mod ByCell
 pub mod ByNumber
+pub mod Gathered
+pub mod Marked
+pub mod Placing
+pub mod Standing

@@ -1,4 +1,5 @@
 pub mod Contexts
 pub mod Finished
 pub mod Finishing
+pub mod Gathering
 pub mod Run
