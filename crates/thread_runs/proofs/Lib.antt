@@ -1,6 +1,7 @@
 pub mod ByCell
 pub mod ByNumber
 pub mod Gathered
+pub mod Left
 pub mod Marked
 pub mod Placing
 pub mod Standing
