@@ -4,4 +4,5 @@ pub mod Gathered
 pub mod Left
 pub mod Marked
 pub mod Placing
+pub mod Settling
 pub mod Standing
