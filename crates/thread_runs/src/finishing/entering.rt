@@ -29,7 +29,9 @@ fn is_lower(line: u32, least: Option<u32>) -> bool
 }
 
 /// The line of a place, where there is one.
-fn line_of(place: Option<(usize, u32)>) -> Option<u32> {
+fn line_of(place: Option<(usize, u32)>) -> Option<u32>
+    ensures { MatchOption place (result ≡ None) (λ x. result ≡ Some x.1) }
+{
     let (_, line) = place?;
     Some(line)
 }
