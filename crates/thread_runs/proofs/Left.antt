@@ -1,15 +1,16 @@
 -- How many calls are left to be entered, as the caller enters them.
-use Rattle.std.proofs.Common.{◌≡◌, ◌⊎◌, ℕ, ◌+◌, ◌-◌, ◌<◌, ◌≤◌, Bool, true, false, List, [], ◌∷◌, Option, Some, None, Result, Ok, Err, get_or, length, map, nat_lt, set, take, inl, inr, refl, ap, subst, sym, ◌∙◌, arith}
+use Rattle.std.proofs.Common.{◌≡◌, ◌⊎◌, ℕ, ◌+◌, ◌-◌, ◌<◌, ◌≤◌, Bool, true, false, ◌&&◌, List, [], ◌∷◌, Option, Some, None, Result, Ok, Err, get_or, length, map, nat_lt, set, take, inl, inr, refl, ap, subst, sym, ◌∙◌, arith}
 use Rattle.std.specs.Prelude.{IfNone, IfSome, IsSome, MatchOption, OnOk, is_some, if◌then◌else◌}
 use Rattle.std.specs.List.{sum_by}
 use Rattle.std.proofs.lemmas.List.Sums.{get_or-le-sum_by, sum_by-cons, sum_by-set, sum_by_more}
 use Rattle.std.proofs.lemmas.Option.{slice_get_cases, slice_get_read}
 use Rattle.dtx_values.specs.declared.call.Call.{Call}
 use Rattle.dtx_values.specs.declared.number.ActorNo.{ActorNo}
+use Rattle.dtx_model.specs.Words.{each}
 use Rattle.outcome_law.proofs.Tests.{eq_self}
 use Rattle.script_calls.specs.declared.calls.LogCall.{LogCall}
 use Rattle.script_calls.specs.declared.rows.Due.{Due}
-use Rattle.script_calls.specs.Rows.{further, next_in, row_at}
+use Rattle.script_calls.specs.Rows.{are_entered, further, next_in, row_at}
 use Rattle.script_calls.specs.SeenRow.{SeenRow}
 use Rattle.tx_cells.specs.Cell.{Cell}
 use Rattle.tx_cells.specs.Entering.{next_of}
@@ -123,3 +124,19 @@ same_left a (x ∷ xs) (y ∷ ys) e =
     let same : f y ≡ f x = ap (λ rs. left_in (row_at a rs)) here in
     let more = same_left a xs ys rest in
     sum_by-cons f y ys ∙ (ap (λ n. n + left_among a ys) same ∙ (ap (λ n. f x + n) more ∙ sym (sum_by-cons f x xs)))
+
+-- a test of what is kept of each item
+each_map : {A B : Type 0} (f : A → B) (p : B → Bool) (xs : List A) → each (λ x. p (f x)) xs ≡ each p (map f xs)
+each_map f p [] = refl
+each_map f p (x ∷ xs) = ap (λ b. p (f x) && b) (each_map f p xs)
+
+-- where each call was entered, and the same are still, each is
+pub still_entered : (old new : List Cell) → HaveSameCalls old new → each (λ c. are_entered c.rows) old ≡ true → each (λ c. are_entered c.rows) new ≡ true
+still_entered old new same all =
+    let rows : Cell → List (SeenRow Call) = λ c. c.rows in
+    each_map rows are_entered new ∙ (ap (each are_entered) same ∙ (sym (each_map rows are_entered old) ∙ all))
+
+-- what follows from three facts where there is no error
+pub all_ok : {A E P Q R S : Type 0} (r : Result A E) → (P → Q → R → S) → OnOk r P → OnOk r Q → OnOk r R → OnOk r S
+all_ok (Ok x) f p q r = f p q r
+all_ok (Err e) f p q r = p
