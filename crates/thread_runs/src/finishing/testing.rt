@@ -73,9 +73,7 @@ fn stops_at(at_log: &[Entry]) -> usize
 {
     let mut n = 0;
     for e in at_log {
-        if is_stop(e) {
-            n += 1;
-        }
+        n += usize::from(is_stop(e));
     }
     n
 }
@@ -86,9 +84,7 @@ fn openings_at(at_log: &[Entry]) -> usize
 {
     let mut n = 0;
     for e in at_log {
-        if is_opened(e) {
-            n += 1;
-        }
+        n += usize::from(is_opened(e));
     }
     n
 }
@@ -99,9 +95,7 @@ fn is_up_by(at_log: &[Entry]) -> bool
 {
     let mut up = true;
     for e in at_log {
-        if let Some(now) = up_of(e) {
-            up = now;
-        }
+        up = up_of(e).unwrap_or(up);
     }
     up
 }
@@ -112,9 +106,7 @@ fn stops_in(h: &Entries) -> usize
 {
     let mut n = 0;
     for i in 0..h.len() {
-        if is_stop(&h.at(i)) {
-            n += 1;
-        }
+        n += usize::from(is_stop(&h.at(i)));
     }
     n
 }
@@ -125,9 +117,7 @@ fn restarts_in(h: &Entries) -> usize
 {
     let mut n = 0;
     for i in 0..h.len() {
-        if is_restart(&h.at(i)) {
-            n += 1;
-        }
+        n += usize::from(is_restart(&h.at(i)));
     }
     n
 }
@@ -138,9 +128,7 @@ fn has_begun(h: &Entries) -> bool
 {
     let mut begun = false;
     for i in 0..h.len() {
-        if is_begin_sent(&h.at(i)) {
-            begun = true;
-        }
+        begun |= is_begin_sent(&h.at(i));
     }
     begun
 }
@@ -151,9 +139,7 @@ fn is_stopped(h: &Entries) -> bool
 {
     let mut stopped = false;
     for i in 0..h.len() {
-        if let Some(now) = stop_of(&h.at(i)) {
-            stopped = now;
-        }
+        stopped = stop_of(&h.at(i)).unwrap_or(stopped);
     }
     stopped
 }
