@@ -1,5 +1,6 @@
 pub mod ByCell
-pub mod Gathered
+pub mod Ended
 pub mod Marked
 pub mod Placing
 pub mod Standing
+pub mod Writing
